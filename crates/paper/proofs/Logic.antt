@@ -1,0 +1,51 @@
+-- Small laws of tests and choices. Assumes nothing.
+use mathlib.Core.Path.{_≡_, refl, sym}
+use mathlib.Core.Logic.{_⊎_, inl, inr}
+use mathlib.Core.Bool.{Bool, true, false, not, _&&_}
+use Prim.Native.Nat.{ℕ, _≤_, _<_}
+use native.Mathlib.Decide.{decLe}
+use native.Mathlib.Omega.{arith}
+use Rattle.paper.specs.Lists.{pick}
+
+pub clash : (b : Bool) → b ≡ true → b ≡ false → ⊥
+clash b p q = let z : _≡_ {A = ℕ} 0 1 = cc in omega arith
+
+pub and-left : (a b : Bool) → (a && b) ≡ true → a ≡ true
+and-left true b e = refl
+and-left false b e = e
+
+pub and-right : (a b : Bool) → (a && b) ≡ true → b ≡ true
+and-right true b e = e
+and-right false b e = absurd (clash false e refl)
+
+pub and-both : (a b : Bool) → a ≡ true → b ≡ true → (a && b) ≡ true
+and-both true b p q = q
+and-both false b p q = p
+
+pub and-false : (a b : Bool) → (a && b) ≡ false → a ≡ true → b ≡ false
+and-false true b e p = e
+and-false false b e p = absurd (clash false p refl)
+
+pub not-true : (a : Bool) → not a ≡ true → a ≡ false
+not-true true e = sym e
+not-true false e = refl
+
+pub not-false : (a : Bool) → not a ≡ false → a ≡ true
+not-false true e = refl
+not-false false e = sym e
+
+pub pick-true : {A : Type 0} (b : Bool) (x y : A) → b ≡ true → pick b x y ≡ x
+pick-true true x y e = refl
+pick-true false x y e = absurd (clash false e refl)
+
+pub pick-false : {A : Type 0} (b : Bool) (x y : A) → b ≡ false → pick b x y ≡ y
+pick-false true x y e = absurd (clash true refl e)
+pick-false false x y e = refl
+
+-- every two numbers are in order
+pub le-or-lt : (a b : ℕ) → (a ≤ b) ⊎ (b < a)
+le-or-lt a b = go (decLe a b)
+  where
+    go : Dec (a ≤ b) → (a ≤ b) ⊎ (b < a)
+    go (yes h) = inl h
+    go (no h) = inr (omega arith)

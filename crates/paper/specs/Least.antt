@@ -1,0 +1,25 @@
+-- "The least ..": the least number that passes a test, found by trying one number after the other. Assumes nothing.
+use mathlib.Core.Bool.{Bool, true, false}
+use Prim.Native.Nat.{ℕ, zero, suc, _*_}
+use lib.Dec.{leb}
+
+-- the first of x, x + 1, .. that passes, among d numbers; x + d where none of them does
+unfoldable pub first : ℕ → ℕ → (ℕ → Bool) → ℕ
+first zero x p = x
+first (suc d) x p = elim (p x) [ true ↦ x | false ↦ first d (suc x) p ]
+
+-- the least number below the bound that passes; the bound where none does
+unfoldable pub least : ℕ → (ℕ → Bool) → ℕ
+least bound p = first bound 0 p
+
+-- the least whole x with w·x² ≥ n; where w is above 0, n itself is such an x
+unfoldable pub leastRoot : ℕ → ℕ → ℕ
+leastRoot w n = least n (λ x. leb n (w * (x * x)))
+
+-- the least whole y with y·q ≥ n; where q is above 0, n itself is such a y
+unfoldable pub leastTimes : ℕ → ℕ → ℕ
+leastTimes q n = least n (λ y. leb n (y * q))
+
+-- the least multiple of h that passes, among the first bound multiples; bound·h where none of them does
+unfoldable pub leastMultiple : ℕ → ℕ → (ℕ → Bool) → ℕ
+leastMultiple h bound p = least bound (λ j. p (j * h)) * h

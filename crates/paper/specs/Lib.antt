@@ -1,0 +1,13 @@
+pub mod Lists
+pub mod Numbers
+pub mod Roundings
+pub mod Least
+pub mod Ranges
+pub mod Evaluation
+pub mod Rates
+pub mod Limits
+pub mod Alerts
+pub mod Verdicts
+pub mod Desk
+pub mod Gateway
+pub mod Exact

@@ -1,0 +1,31 @@
+-- A choice by a test, a figure for each of three, and tests over a list. Assumes nothing.
+use mathlib.Core.Bool.{Bool, true, false, _&&_}
+use mathlib.Core.List.{List, [], _∷_}
+use Prim.Native.Nat.{ℕ}
+
+-- a where the test passes, else b
+abbrev pub pick {ℓ} : {A : Type ℓ} → Bool → A → A → A
+pick true a b = a
+pick false a b = b
+
+-- a figure for each of three places: the three terms are 0, 1, 2
+abbrev pub three {ℓ} : {A : Type ℓ} → (ℕ → A) → List A
+three f = f 0 ∷ f 1 ∷ f 2 ∷ []
+
+-- a figure for each of the levels 1, 2, 3
+abbrev pub forLevels {ℓ} : {A : Type ℓ} → (ℕ → A) → List A
+forLevels f = f 1 ∷ f 2 ∷ f 3 ∷ []
+
+-- whether all three pass
+abbrev pub allThree : (ℕ → Bool) → Bool
+allThree p = p 0 && p 1 && p 2
+
+-- whether all pass
+unfoldable pub every {ℓ} : {A : Type ℓ} → (A → Bool) → List A → Bool
+every p [] = true
+every p (x ∷ xs) = p x && every p xs
+
+-- those that pass
+unfoldable pub those {ℓ} : {A : Type ℓ} → (A → Bool) → List A → List A
+those p [] = []
+those p (x ∷ xs) = pick (p x) (x ∷ those p xs) (those p xs)

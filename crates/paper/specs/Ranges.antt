@@ -1,0 +1,308 @@
+-- Document 01, "Units and ranges": what is in range and on the grid, and what a sound record is. Assumes nothing.
+use mathlib.Core.Bool.{Bool, true, false, _&&_, _||_}
+use mathlib.Core.List.{List, [], _∷_}
+use Prim.Native.Nat.{ℕ, zero, suc, _+_, _/_, _%_}
+use lib.Dec.{leb, eqb}
+use lib.IntN.{ℤ, pos, negsuc}
+use lib.ListN.{length, getD}
+use lib.Signed.{leZ}
+use Rattle.paper.specs.declared.Price.{Price}
+use Rattle.paper.specs.declared.MadePrice.{MadePrice}
+use Rattle.paper.specs.declared.MadePrice.the-variants as made-price
+use Rattle.paper.specs.declared.Rate.{Rate}
+use Rattle.paper.specs.declared.MadeRate.{MadeRate}
+use Rattle.paper.specs.declared.MadeRate.the-variants as made-rate
+use Rattle.paper.specs.declared.Statics.{Statics}
+use Rattle.paper.specs.declared.Given.{Given}
+use Rattle.paper.specs.declared.Standing.{Standing}
+use Rattle.paper.specs.declared.Standing.the-variants.{Admitted, Live}
+use Rattle.paper.specs.declared.Side.{Side}
+use Rattle.paper.specs.declared.Side.the-variants.{Upper, Lower}
+use Rattle.paper.specs.declared.Near.{Near}
+use Rattle.paper.specs.declared.Near.the-variants.{Not, Since}
+use Rattle.paper.specs.declared.NearSeconds.{NearSeconds}
+use Rattle.paper.specs.declared.Limits.{Limits}
+use Rattle.paper.specs.declared.Term.{Term}
+use Rattle.paper.specs.declared.Record.{Record}
+use Rattle.paper.specs.declared.Admission.{Admission}
+use Rattle.paper.specs.declared.Day.{Day}
+use Rattle.paper.specs.declared.Row.{Row}
+use Rattle.paper.specs.declared.Quote.{Quote}
+use Rattle.paper.specs.Lists.{pick, allThree, every}
+use Rattle.paper.specs.Numbers.{priceLeast, priceMost, rateMost, volatilityMost, lotMost, stepMost, multiplierLeast, multiplierMost, weightMost, waitMost, firstDaysMost, daysMost, liquidityMost, divisorLeast, divisorMost, shiftMost, nearnessMost, secondsMost, idMost, dayMost, ageMost, limitMost, movesMost, secondLast, slotsMost, behindMost, aheadMost, termDaysMost, repoLeast, repoMost, rowNumbers, allNumbersMost, rowTermMost, centralMost, volumeMost, termLast, quoteMost, pastEvery}
+
+-- "low..high"
+abbrev pub within : ℕ → ℕ → ℕ → Bool
+within low high x = leb low x && leb x high
+
+abbrev pub withinZ : ℤ → ℤ → ℤ → Bool
+withinZ low high x = leZ low x && leZ x high
+
+-- a signed number where the paper's range begins at 0 or above: one below zero is out of every range, and so is read as a number that no
+-- range holds
+unfoldable pub natural : ℤ → ℕ
+natural (pos n) = n
+natural (negsuc n) = pastEvery
+
+-- ---- prices and rates
+
+-- "Price: ten-thousandth of a rouble, 1 to 10^10"
+unfoldable pub isPrice : ℕ → Bool
+isPrice p = within priceLeast priceMost p
+
+unfoldable pub priceMade : ℕ → MadePrice
+priceMade units = pick (isPrice units) (made-price.Made (record { units = units })) made-price.OutOfRange
+
+-- "Rate: basis point (bp), 10,000 = 100 per cent"
+unfoldable pub isRate : ℕ → Bool
+isRate bp = leb bp rateMost
+
+unfoldable pub rateMade : ℕ → MadeRate
+rateMade bp = pick (isRate bp) (made-rate.Made (record { bp = bp })) made-rate.OutOfRange
+
+-- "Grid (10.1): ceiling(log10 lot) + 2 decimals. So g = 100 units for lot 1, 10 for 2..10, 1 for 11..100."
+unfoldable pub gridOf : ℕ → ℕ
+gridOf lot = pick (leb lot 1) 100 (pick (leb lot 10) 10 1)
+
+-- "on the grid, in range"
+unfoldable pub isGridPrice : ℕ → ℕ → Bool
+isGridPrice g p = isPrice p && eqb (p % g) 0
+
+-- ---- statics
+
+-- the table of statics, in its order; yes and no need no range
+unfoldable pub validStatics : Statics → Bool
+validStatics st =
+    within 1 lotMost (st .lot)
+    && within 1 stepMost (st .h)
+    && within multiplierLeast multiplierMost (st .q)
+    && leb (st .aup) weightMost
+    && leb (st .adown) weightMost
+    && within 1 waitMost (st .wait)
+    && within 1 firstDaysMost (st .rh1)
+    && leb (st .rh1) (st .rh2)
+    && leb (st .rh2) (st .rh3)
+    && leb (st .rh3) daysMost
+    && leb (st .liq) liquidityMost
+    && leb (st .min1) (st .min2)
+    && leb (st .min2) (st .min3)
+    && leb (st .min3) (st .smax)
+    && leb (st .smax) rateMost
+    && eqb (st .min1 % st .h) 0
+    && eqb (st .min2 % st .h) 0
+    && eqb (st .min3 % st .h) 0
+    && eqb (st .smax % st .h) 0
+    && within divisorLeast divisorMost (st .xpr)
+    && within 1 shiftMost (st .shift)
+    && leb (st .pchmax) rateMost
+    && leb (st .pclmax) rateMost
+    && leb (st .w) nearnessMost
+    && within 1 secondsMost (st .u)
+
+-- the statics that are given as numbers: "yes 1, no 0"
+unfoldable pub staticsOf : Given → Statics
+staticsOf g =
+    record {
+      lot = g .lot;
+      h = g .h;
+      q = g .q;
+      aup = g .aup;
+      adown = g .adown;
+      wait = g .wait;
+      rh1 = g .rh1;
+      rh2 = g .rh2;
+      rh3 = g .rh3;
+      liq = g .liq;
+      min1 = g .min1;
+      min2 = g .min2;
+      min3 = g .min3;
+      smax = g .smax;
+      xpr = g .xpr;
+      shift = g .shift;
+      pchmax = g .pchmax;
+      pclmax = g .pclmax;
+      w = g .w;
+      u = g .u;
+      monitoring = eqb (g .monitoring) 1;
+      ewma = eqb (g .ewma) 1;
+    }
+
+unfoldable pub validGiven : Given → Bool
+validGiven g = validStatics (staticsOf g) && leb (g .monitoring) 1 && leb (g .ewma) 1
+
+-- "the tentative rate (0..S_max, a multiple of h)"
+unfoldable pub validTentative : Statics → ℕ → Bool
+validTentative st tentative = leb tentative (st .smax) && eqb (tentative % st .h) 0
+
+-- ---- an admission
+
+-- "Admission also gives id (1..10^9), last day number (0..10^6), the two latest evaluations (on the grid, in range), s, and the tentative
+-- rate"
+unfoldable pub validAdmission : Admission → Bool
+validAdmission a =
+    within 1 idMost (a .id)
+    && validGiven (a .given)
+    && leb (a .day) dayMost
+    && isGridPrice (gridOf (a .given .lot)) (a .p1)
+    && isGridPrice (gridOf (a .given .lot)) (a .p2)
+    && leb (a .s) volatilityMost
+    && validTentative (staticsOf (a .given)) (a .tentative)
+
+-- ---- a day
+
+-- "rows of seven numbers in a lent slice of signed 64-bit numbers": a row as it is lent
+pub record LentRow : Type 0 where
+  pub t : ℤ
+  pub central : ℤ
+  pub repo : ℤ
+  pub close : ℤ
+  pub bid : ℤ
+  pub ask : ℤ
+  pub volume : ℤ
+
+unfoldable pub rowAt : List ℤ → ℕ → LentRow
+rowAt numbers at =
+    record {
+      t = getD numbers at (pos 0);
+      central = getD numbers (at + 1) (pos 0);
+      repo = getD numbers (at + 2) (pos 0);
+      close = getD numbers (at + 3) (pos 0);
+      bid = getD numbers (at + 4) (pos 0);
+      ask = getD numbers (at + 5) (pos 0);
+      volume = getD numbers (at + 6) (pos 0);
+    }
+
+unfoldable pub rowsFrom : List ℤ → ℕ → ℕ → List LentRow
+rowsFrom numbers at zero = []
+rowsFrom numbers at (suc more) = rowAt numbers at ∷ rowsFrom numbers (at + rowNumbers) more
+
+unfoldable pub rowsOf : List ℤ → List LentRow
+rowsOf numbers = rowsFrom numbers 0 (length numbers / rowNumbers)
+
+-- "slice length not a multiple of 7 or over 112" is refused
+unfoldable pub wholeRows : List ℤ → Bool
+wholeRows numbers = eqb (length numbers % rowNumbers) 0 && leb (length numbers) allNumbersMost
+
+-- "Volume above 0 with close 0 is out of range."
+abbrev pub closeForVolume : ℤ → ℤ → Bool
+closeForVolume volume close = leZ volume (pos 0) || leZ (pos 1) close
+
+-- "A row: T 0..30; central rate 1..10^7 ten-thousandths; repo rate -9,999..9,999 bp; close, bid, ask 0..10^10; volume 0..10^8 thousands."
+unfoldable pub validRow : LentRow → Bool
+validRow w =
+    withinZ (pos 0) (pos rowTermMost) (w .t)
+    && withinZ (pos 1) (pos centralMost) (w .central)
+    && withinZ repoLeast repoMost (w .repo)
+    && withinZ (pos 0) (pos priceMost) (w .close)
+    && withinZ (pos 0) (pos priceMost) (w .bid)
+    && withinZ (pos 0) (pos priceMost) (w .ask)
+    && withinZ (pos 0) (pos volumeMost) (w .volume)
+    && closeForVolume (w .volume) (w .close)
+
+unfoldable pub validRows : List ℤ → Bool
+validRows numbers = wholeRows numbers && every validRow (rowsOf numbers)
+
+-- the row that seven numbers in range are
+unfoldable pub rowOf : LentRow → Row
+rowOf w =
+    record {
+      t = natural (w .t);
+      central = natural (w .central);
+      repo = w .repo;
+      close = natural (w .close);
+      bid = natural (w .bid);
+      ask = natural (w .ask);
+      volume = natural (w .volume);
+    }
+
+-- "days k 0..30 and repo band RRcL ≤ RRcH, -9,999..9,999 bp"
+unfoldable pub validTerm : Term → Bool
+validTerm x = leb (x .k) termDaysMost && leZ repoLeast (x .low) && leZ (x .low) (x .high) && leZ (x .high) repoMost
+
+abbrev pub noTerm : Term
+noTerm = record { k = 0; low = pos 0; high = pos 0 }
+
+-- the term at a place
+abbrev pub termAt : List Term → ℕ → Term
+termAt terms k = getD terms k noTerm
+
+-- "A day gives a day number; rows; b 0..30; m 0..10; and three terms"
+unfoldable pub validDay : Day → List ℤ → Bool
+validDay d rows =
+    leb (d .day) dayMost
+    && leb (d .b) behindMost
+    && leb (d .m) aheadMost
+    && allThree (λ k. validTerm (termAt (d .terms) k))
+    && validRows rows
+
+-- ---- a quote and a move
+
+-- "A quote has second 0..86,399, term 0..2, bid and ask 0..10^11 (0 missing)."
+unfoldable pub validQuote : Quote → Bool
+validQuote q = leb (q .second) secondLast && leb (q .term) termLast && leb (q .bid) quoteMost && leb (q .ask) quoteMost
+
+-- "A move names a side, 0 upper or 1 lower."
+unfoldable pub validSide : ℕ → Bool
+validSide side = leb side 1
+
+unfoldable pub sideOf : ℕ → Side
+sideOf side = pick (eqb side 0) Upper Lower
+
+-- ---- a record
+
+unfoldable pub isLive : Standing → Bool
+isLive (Admitted day) = false
+isLive (Live day) = true
+
+-- "live with its day number, which is then the last day"; of an admitted-only record the last day is the one given at admission
+unfoldable pub lastDay : Standing → ℕ
+lastDay (Admitted day) = day
+lastDay (Live day) = day
+
+abbrev pub noRate : Rate
+noRate = record { bp = 0 }
+
+abbrev pub noLimits : Limits
+noLimits = record { lower = 0; upper = 0 }
+
+abbrev pub notNear : NearSeconds
+notNear = record { top = Not; bottom = Not }
+
+-- "limits on the grid 0..2·10^12 + 2·10^10"
+unfoldable pub isLimit : ℕ → ℕ → Bool
+isLimit g x = leb x limitMost && eqb (x % g) 0
+
+unfoldable pub validLimits : ℕ → Limits → Bool
+validLimits g x = isLimit g (x .lower) && isLimit g (x .upper)
+
+unfoldable pub validNear : Near → Bool
+validNear Not = true
+validNear (Since second) = leb second secondLast
+
+unfoldable pub validNearSeconds : NearSeconds → Bool
+validNearSeconds n = validNear (n .top) && validNear (n .bottom)
+
+-- "A record with a field outside the ranges, orders, multiples of h or grid that this paper gives as input ranges (and rates 0..10,000,
+-- limits on the grid 0..2·10^12 + 2·10^10, move counts 0..50, age 0..250, seconds 0..86,399) counts as no such id": it is sound otherwise
+unfoldable pub sound : Record → Bool
+sound r =
+    within 1 idMost (r .id)
+    && validStatics (r .statics)
+    && leb (lastDay (r .standing)) dayMost
+    && isGridPrice (gridOf (r .statics .lot)) (r .p1 .units)
+    && isGridPrice (gridOf (r .statics .lot)) (r .p2 .units)
+    && leb (r .s) volatilityMost
+    && validTentative (r .statics) (r .tentative .bp)
+    && leb (r .tentative .age) ageMost
+    && allThree (λ i. isRate (getD (r .rates) i noRate .bp))
+    && allThree (λ i. validLimits (gridOf (r .statics .lot)) (getD (r .ranges) i noLimits))
+    && allThree (λ k. validTerm (termAt (r .terms) k))
+    && allThree (λ k. validLimits (gridOf (r .statics .lot)) (getD (r .bands) k noLimits))
+    && leb (r .moves .upper) movesMost
+    && leb (r .moves .lower) movesMost
+    && allThree (λ k. validNearSeconds (getD (r .near) k notNear))
+    && leb (r .second) secondLast
+
+-- "1 to 512 slots"
+unfoldable pub validSlots : ℕ → Bool
+validSlots count = within 1 slotsMost count

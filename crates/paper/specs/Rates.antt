@@ -1,0 +1,110 @@
+-- Document 01, "The rates (7.1)". Assumes nothing.
+use mathlib.Core.Bool.{Bool, true, false, _&&_}
+use mathlib.Core.List.{List}
+use Prim.Native.Nat.{ℕ, zero, suc, _+_, _-_, _*_, _/_, min, max}
+use lib.Dec.{leb, ltb, eqb}
+use lib.IntN.{ℤ, pos, subℕ, _*ℤ_}
+use lib.Signed.{leZ}
+use Rattle.paper.specs.declared.Rate.{Rate}
+use Rattle.paper.specs.declared.Tentative.{Tentative}
+use Rattle.paper.specs.declared.Statics.{Statics}
+use Rattle.paper.specs.Lists.{pick, forLevels}
+use Rattle.paper.specs.Numbers.{whole, million, hundred, volatilityMost, ageMost}
+use Rattle.paper.specs.Roundings.{up, apart}
+use Rattle.paper.specs.Least.{leastRoot, leastTimes, leastMultiple}
+
+-- ---- the move and the volatility
+
+-- |P - P1|/P1, rounded by (e) up to a millionth
+unfoldable pub moveFrom : ℕ → ℕ → ℕ
+moveFrom earlier p = up (apart p earlier * million) earlier
+
+-- "r is the greater of |P - P1|/P1 and |P - P2|/P2 over the two earlier evaluations, rounded by (e)."
+unfoldable pub moveOf : ℕ → ℕ → ℕ → ℕ
+moveOf p1 p2 p = max (moveFrom p1 p) (moveFrom p2 p)
+
+-- "a is 0 when b > 1; else a_up when r > s, a_down otherwise."
+unfoldable pub weightOf : Statics → ℕ → ℕ → ℕ → ℕ
+weightOf st b r s = pick (ltb 1 b) 0 (pick (ltb s r) (st .aup) (st .adown))
+
+-- "New s is the least whole x with 10,000·x² ≥ (10,000 - a)·s² + a·r²."
+unfoldable pub weighted : ℕ → ℕ → ℕ → ℕ
+weighted a s r = leastRoot whole ((whole - a) * (s * s) + a * (r * r))
+
+-- "the least y with y·q ≥ 100·r"
+unfoldable pub replacement : ℕ → ℕ → ℕ
+replacement q r = leastTimes q (hundred * r)
+
+-- "When b ≤ 1 and r > 100·S_1 (last rate), also take the least y ..; s is the greater, and on a tie x is the one chosen."
+unfoldable pub replaces : Statics → ℕ → ℕ → ℕ → ℕ → Bool
+replaces st b s1 r x = leb b 1 && ltb (hundred * s1) r && ltb x (replacement (st .q) r)
+
+unfoldable pub volatilityOf : Statics → ℕ → ℕ → ℕ → ℕ → ℕ
+volatilityOf st b s1 r s =
+    let x : ℕ = weighted (weightOf st b r s) s r in
+    pick (replaces st b s1 r x) (replacement (st .q) r) x
+
+-- ---- the tentative rate
+
+-- "t is the least multiple of h with 10,000·t ≥ q·s, held at S_max."
+unfoldable pub wanted : Statics → ℕ → ℕ
+wanted st s = min (st .smax) (leastMultiple (st .h) (st .q * s) (λ t. leb (st .q * s) (whole * t)))
+
+-- "If t ≥ tentative + h, tentative becomes t. Else if t ≤ tentative - h and age + 1 ≥ n, it falls by one h. Else it stays. Age becomes 0 on a
+-- change, else one more, held at 250."
+unfoldable pub tentativeAfter : ℕ → ℕ → ℕ → Tentative → Tentative
+tentativeAfter h wait t old =
+    pick (leb (old .bp + h) t) (record { bp = t; age = 0 })
+    (pick (leb (t + h) (old .bp) && leb wait (old .age + 1)) (record { bp = old .bp - h; age = 0 })
+    (record { bp = old .bp; age = min ageMost (old .age + 1) }))
+
+-- ---- the rate of a level
+
+-- "v ≥ sqrt(rh_L/rh_1)·(tentative·sqrt((rh_1 + m)/rh_1) + liq)": with A = v²·rh_1² - rh_L·tentative²·(rh_1 + m) - rh_L·rh_1·liq², "it holds
+-- when A ≥ 0 and A² ≥ 4·rh_L²·tentative²·liq²·rh_1·(rh_1 + m)"
+unfoldable pub meets : ℕ → ℕ → ℕ → ℕ → ℕ → ℕ → Bool
+meets rh1 rh liq m tentative v =
+    let A : ℤ = subℕ (v * v * (rh1 * rh1)) (rh * (tentative * tentative) * (rh1 + m) + rh * rh1 * (liq * liq)) in
+    leZ (pos 0) A && leZ (pos (4 * (rh * rh) * (tentative * tentative) * (liq * liq) * rh1 * (rh1 + m))) (A *ℤ A)
+
+-- rh_L and S_L_min of the levels 1, 2, 3
+unfoldable pub daysOf : Statics → ℕ → ℕ
+daysOf st level = pick (eqb level 1) (st .rh1) (pick (eqb level 2) (st .rh2) (st .rh3))
+
+unfoldable pub minimumOf : Statics → ℕ → ℕ
+minimumOf st level = pick (eqb level 1) (st .min1) (pick (eqb level 2) (st .min2) (st .min3))
+
+-- whether a rate v covers the requirement of a level
+unfoldable pub covers : Statics → ℕ → ℕ → ℕ → ℕ → Bool
+covers st level m tentative v = meets (st .rh1) (daysOf st level) (st .liq) m tentative v
+
+-- "Rate of level L is S_max if the requirement exceeds it, else the least multiple v of h, v ≥ S_L_min, with v ≥ .." the requirement
+unfoldable pub levelRate : Statics → ℕ → ℕ → ℕ → ℕ
+levelRate st level m tentative =
+    pick (covers st level m tentative (st .smax))
+    (leastMultiple (st .h) (st .smax / st .h) (λ v. leb (minimumOf st level) v && covers st level m tentative v))
+    (st .smax)
+
+-- ---- by isEWMA
+
+-- what an evaluation gives: "With isEWMA no, the three rates are the minima and s, tentative and age stay."
+pub record Figures : Type 0 where
+  pub s : ℕ
+  pub tentative : Tentative
+  pub rates : List Rate
+
+unfoldable pub modelled : Statics → (b m s1 r s : ℕ) → Tentative → Figures
+modelled st b m s1 r s old =
+    let s′ : ℕ = volatilityOf st b s1 r s in
+    let t : Tentative = tentativeAfter (st .h) (st .wait) (wanted st s′) old in
+    record { s = s′; tentative = t; rates = forLevels (λ l. record { bp = levelRate st l m (t .bp) }) }
+
+unfoldable pub unmodelled : Statics → (s : ℕ) → Tentative → Figures
+unmodelled st s old = record { s = s; tentative = old; rates = forLevels (λ l. record { bp = minimumOf st l }) }
+
+unfoldable pub figuresOf : Statics → (b m s1 r s : ℕ) → Tentative → Figures
+figuresOf st b m s1 r s old = pick (st .ewma) (modelled st b m s1 r s old) (unmodelled st s old)
+
+-- 8: "isEWMA yes and r above 1,000,000"
+unfoldable pub moveTooLarge : Statics → ℕ → Bool
+moveTooLarge st r = st .ewma && ltb volatilityMost r

@@ -1,0 +1,39 @@
+-- Document 01, "Places of rounding". A quotient n/d is kept as n and d until one of these places. Assumes nothing.
+use mathlib.Core.Bool.{Bool}
+use Prim.Native.Nat.{ℕ, suc, _+_, _-_, _*_, _/_}
+use lib.Dec.{leb}
+use lib.IntN.{ℤ, pos, negsuc}
+use Rattle.paper.specs.Lists.{pick}
+
+-- a quotient that is not rounded yet
+pub record Quotient : Type 0 where
+  pub num : ℕ
+  pub den : ℕ
+
+-- (e), (f) "up": n/d rounded up
+unfoldable pub up : ℕ → ℕ → ℕ
+up n d = (n + (d - 1)) / d
+
+-- (a), (b), (c) "Half up is to nearest, ties up"
+unfoldable pub halfUp : ℕ → ℕ → ℕ
+halfUp n d = (2 * n + d) / (2 * d)
+
+-- (d), (g) "half up to the grid": n/d to the nearest multiple of g, ties up
+unfoldable pub toGrid : ℕ → ℕ → ℕ → ℕ
+toGrid g n d = halfUp n (d * g) * g
+
+-- the lesser and the greater of two quotients, exactly
+unfoldable pub lesserOf : Quotient → Quotient → Quotient
+lesserOf x y = pick (leb (x .num * y .den) (y .num * x .den)) x y
+
+unfoldable pub greaterOf : Quotient → Quotient → Quotient
+greaterOf x y = pick (leb (x .num * y .den) (y .num * x .den)) y x
+
+-- base + k·rate for a rate of either sign; the paper's ranges keep it above 0
+unfoldable pub grown : ℕ → ℕ → ℤ → ℕ
+grown base k (pos r) = base + k * r
+grown base k (negsuc r) = base - k * suc r
+
+-- how far apart two numbers are: |a - b|
+unfoldable pub apart : ℕ → ℕ → ℕ
+apart a b = (a - b) + (b - a)

@@ -1,0 +1,350 @@
+// The values that document 01 speaks of, in the forms that it names. What is right is said over them in specs/, a file a clause, and what
+// is proved of that stands in proofs/. Every number of the paper has one name here and one in specs/Numbers.antt.
+ghost use mathlib.Core.Path.{_≡_};
+ghost use Rattle.paper.specs.Ranges.{priceMade, rateMade};
+ghost use Rattle.paper.specs.Verdicts.{numberOf};
+
+// A price, in ten-thousandths of a rouble.
+pub struct Price {
+    pub units: u64,
+}
+
+pub enum MadePrice {
+    Made(Price),
+    OutOfRange,
+}
+
+impl Price {
+    pub const LEAST: u64 = 1;
+
+    pub const MOST: u64 = 10_000_000_000;
+
+    pub fn new(units: u64) -> MadePrice
+        ensures { λ r. ⌜ r ≡ priceMade units ⌝ }
+    {
+        if (Price::LEAST <= units) & (units <= Price::MOST) {
+            MadePrice::Made(Price { units })
+        } else {
+            MadePrice::OutOfRange
+        }
+    }
+}
+
+// A rate, in basis points: 10,000 is 100 per cent.
+pub struct Rate {
+    pub bp: u64,
+}
+
+pub enum MadeRate {
+    Made(Rate),
+    OutOfRange,
+}
+
+impl Rate {
+    pub const MOST: u64 = 10_000;
+
+    pub fn new(bp: u64) -> MadeRate
+        ensures { λ r. ⌜ r ≡ rateMade bp ⌝ }
+    {
+        if bp <= Rate::MOST {
+            MadeRate::Made(Rate { bp })
+        } else {
+            MadeRate::OutOfRange
+        }
+    }
+}
+
+// The tentative rate (7.1), in basis points, and the days since it changed. It is no `Rate`: nothing but the desk's maximum holds it.
+pub struct Tentative {
+    pub bp: u64,
+    pub age: u64,
+}
+
+// What a security is admitted with, by the names of document 01's table.
+pub struct Statics {
+    pub lot: u64,
+    pub h: u64,
+    pub q: u64,
+    pub aup: u64,
+    pub adown: u64,
+    pub wait: u64,
+    pub rh1: u64,
+    pub rh2: u64,
+    pub rh3: u64,
+    pub liq: u64,
+    pub min1: u64,
+    pub min2: u64,
+    pub min3: u64,
+    pub smax: u64,
+    pub xpr: u64,
+    pub shift: u64,
+    pub pchmax: u64,
+    pub pclmax: u64,
+    pub w: u64,
+    pub u: u64,
+    pub monitoring: bool,
+    pub ewma: bool,
+}
+
+impl Statics {
+    pub const LOT_MOST: u64 = 100;
+
+    pub const STEP_MOST: u64 = 1_000;
+
+    pub const MULTIPLIER_LEAST: u64 = 100;
+
+    pub const MULTIPLIER_MOST: u64 = 1_000;
+
+    pub const WEIGHT_MOST: u64 = 10_000;
+
+    pub const WAIT_MOST: u64 = 250;
+
+    pub const FIRST_DAYS_MOST: u64 = 5;
+
+    pub const DAYS_MOST: u64 = 30;
+
+    pub const LIQUIDITY_MOST: u64 = 500;
+
+    pub const DIVISOR_LEAST: u64 = 50;
+
+    pub const DIVISOR_MOST: u64 = 1_000;
+
+    pub const SHIFT_MOST: u64 = 100;
+
+    pub const NEARNESS_MOST: u64 = 5_000;
+
+    pub const SECONDS_MOST: u64 = 3_600;
+}
+
+// The statics as they are given: the same numbers, with yes as 1 and no as 0.
+pub struct Given {
+    pub lot: u64,
+    pub h: u64,
+    pub q: u64,
+    pub aup: u64,
+    pub adown: u64,
+    pub wait: u64,
+    pub rh1: u64,
+    pub rh2: u64,
+    pub rh3: u64,
+    pub liq: u64,
+    pub min1: u64,
+    pub min2: u64,
+    pub min3: u64,
+    pub smax: u64,
+    pub xpr: u64,
+    pub shift: u64,
+    pub pchmax: u64,
+    pub pclmax: u64,
+    pub w: u64,
+    pub u: u64,
+    pub monitoring: u64,
+    pub ewma: u64,
+}
+
+// "A record has a standing: admitted only, or live with its day number." Either holds the last day.
+pub enum Standing {
+    Admitted(u64),
+    Live(u64),
+}
+
+// A lower and an upper limit, in units: a level's range, or a term's band.
+pub struct Limits {
+    pub lower: u64,
+    pub upper: u64,
+}
+
+pub enum Side {
+    Upper,
+    Lower,
+}
+
+// A side is near since a second, or not near.
+pub enum Near {
+    Not,
+    Since(u64),
+}
+
+// The near seconds of one term.
+pub struct NearSeconds {
+    pub top: Near,
+    pub bottom: Near,
+}
+
+// The moves of each side since the evaluation: the c of document 01.
+pub struct Moves {
+    pub upper: u64,
+    pub lower: u64,
+}
+
+// A term's days k and its repo band RRcL ≤ RRcH, in basis points.
+pub struct Term {
+    pub k: u64,
+    pub low: i64,
+    pub high: i64,
+}
+
+impl Term {
+    pub const DAYS_MOST: u64 = 30;
+
+    pub const REPO_LEAST: i64 = -9_999;
+
+    pub const REPO_MOST: i64 = 9_999;
+}
+
+// One security. The slot is empty where id is 0. Of the two latest evaluations p1 is the later.
+pub struct Record {
+    pub id: u64,
+    pub statics: Statics,
+    pub standing: Standing,
+    pub p1: Price,
+    pub p2: Price,
+    pub s: u64,
+    pub tentative: Tentative,
+    pub rates: [Rate; 3],
+    pub ranges: [Limits; 3],
+    pub terms: [Term; 3],
+    pub bands: [Limits; 3],
+    pub moves: Moves,
+    pub near: [NearSeconds; 3],
+    pub second: u64,
+}
+
+impl Record {
+    pub const ID_MOST: u64 = 1_000_000_000;
+
+    pub const DAY_MOST: u64 = 1_000_000;
+
+    pub const VOLATILITY_MOST: u64 = 1_000_000;
+
+    pub const AGE_MOST: u64 = 250;
+
+    pub const LIMIT_MOST: u64 = 2_020_000_000_000;
+
+    pub const MOVES_MOST: u64 = 50;
+
+    pub const SECOND_LAST: u64 = 86_399;
+
+    pub const SLOTS_MOST: usize = 512;
+}
+
+// What an admission gives.
+pub struct Admission {
+    pub id: u64,
+    pub day: u64,
+    pub p1: u64,
+    pub p2: u64,
+    pub s: u64,
+    pub tentative: u64,
+    pub given: Given,
+}
+
+// What a day gives beside its rows.
+pub struct Day {
+    pub day: u64,
+    pub b: u64,
+    pub m: u64,
+    pub terms: [Term; 3],
+}
+
+impl Day {
+    pub const BEHIND_MOST: u64 = 30;
+
+    pub const AHEAD_MOST: u64 = 10;
+}
+
+// A row of the day, its numbers in range; only the repo rate may be negative. Close, bid or ask 0 is missing, volume 0 is no trade.
+pub struct Row {
+    pub t: u64,
+    pub central: u64,
+    pub repo: i64,
+    pub close: u64,
+    pub bid: u64,
+    pub ask: u64,
+    pub volume: u64,
+}
+
+impl Row {
+    pub const NUMBERS: usize = 7;
+
+    pub const ALL_NUMBERS_MOST: usize = 112;
+
+    pub const TERM_MOST: i64 = 30;
+
+    pub const CENTRAL_MOST: i64 = 10_000_000;
+
+    pub const VOLUME_MOST: u64 = 100_000_000;
+
+    pub const ROUBLE: u64 = 10_000;
+}
+
+// A row after places (a) and (b): its prices in roubles today, and its weight.
+pub struct Roubles {
+    pub weight: u64,
+    pub close: u64,
+    pub bid: u64,
+    pub ask: u64,
+}
+
+pub struct Quote {
+    pub second: u64,
+    pub term: u64,
+    pub bid: u64,
+    pub ask: u64,
+}
+
+impl Quote {
+    pub const TERM_LAST: u64 = 2;
+
+    pub const PRICE_MOST: u64 = 100_000_000_000;
+}
+
+// "Numbers a member may see", by name; `number` gives document 01's number.
+pub enum Verdict {
+    Done,
+    NoSuchId,
+    AlreadyAdmitted,
+    NoEmptySlot,
+    AdmissionOutOfRange,
+    DayNotAfter,
+    OutOfRange,
+    PriceOutOfRange,
+    MoveTooLarge,
+    BandCrossed,
+    NotLive,
+    NotMonitored,
+    MovesUsedUp,
+    SecondEarlier,
+}
+
+impl Verdict {
+    pub fn number(self) -> u64
+        ensures { λ r. ⌜ r ≡ numberOf self ⌝ }
+    {
+        let verdict = self;
+        match verdict {
+            Verdict::Done => 0,
+            Verdict::NoSuchId => 1,
+            Verdict::AlreadyAdmitted => 2,
+            Verdict::NoEmptySlot => 3,
+            Verdict::AdmissionOutOfRange => 4,
+            Verdict::DayNotAfter => 5,
+            Verdict::OutOfRange => 6,
+            Verdict::PriceOutOfRange => 7,
+            Verdict::MoveTooLarge => 8,
+            Verdict::BandCrossed => 9,
+            Verdict::NotLive => 10,
+            Verdict::NotMonitored => 11,
+            Verdict::MovesUsedUp => 12,
+            Verdict::SecondEarlier => 13,
+        }
+    }
+}
+
+// What a call answers. A refusal has its verdict and every figure 0, flags no, nothing near, admitted only.
+pub struct Answer {
+    pub verdict: Verdict,
+    pub rec: Record,
+    pub top: bool,
+    pub bottom: bool,
+}
