@@ -1,3 +1,10 @@
 pub mod Logic
 pub mod Search
 pub mod Roundings
+pub mod Cases
+pub mod Slots
+pub mod Refusals
+pub mod Drift
+pub mod Volatility
+pub mod Carried
+pub mod Others

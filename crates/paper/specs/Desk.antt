@@ -234,6 +234,14 @@ pub data Call : Type 0 where
   move : (id : ℕ) → (side : ℕ) → Call
   read : (id : ℕ) → Call
 
+-- the id that a call is about
+abbrev pub idOf : Call → ℕ
+idOf (admit a) = a .id
+idOf (evaluate id d rows) = id
+idOf (quote id q) = id
+idOf (move id side) = id
+idOf (read id) = id
+
 -- "admit 4, 2, 3"
 unfoldable pub admitChecks : List Record → Admission → List Check
 admitChecks t a =

@@ -100,9 +100,15 @@ unfoldable pub history : ℕ → List Call → List Record → History → Histo
 history id [] t h = h
 history id (c ∷ cs) t h = history id cs (step c t .table) (noted id c t h)
 
--- ---- the promise, "in whole numbers": s²·D ≥ N, and s ≤ n or (s - n - 1)²·D < N, D above 0
+-- ---- the promise
 
+-- "never below the exact one .. and less than n + 1 millionths above it", "in whole numbers": "s²·D ≥ N, and s ≤ n or (s - n - 1)²·D < N", D above 0
 pub record NearExact (n s : ℕ) (square : Quotient) : Type 0 where
   pub above : square .num ≤ s * s * square .den
   pub close : (s ≤ n) ⊎ ((s - n - 1) * (s - n - 1) * square .den < square .num)
   pub positive : 0 < square .den
+
+-- the whole of demand 3: also "at n 0, s²·D = N"
+pub record Demand3 (n s : ℕ) (square : Quotient) : Type 0 where
+  pub near : NearExact n s square
+  pub exact : n ≡ 0 → s * s * square .den ≡ square .num

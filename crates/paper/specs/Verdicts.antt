@@ -1,4 +1,5 @@
 -- Document 01, "Numbers a member may see". Assumes nothing.
+use mathlib.Core.Path.{_≡_}
 use mathlib.Core.Bool.{Bool, true, false}
 use mathlib.Core.List.{List, [], _∷_}
 use Prim.Native.Nat.{ℕ}
@@ -36,3 +37,13 @@ pub record Check : Type 0 where
 unfoldable pub firstOf : List Check → Verdict
 firstOf [] = Done
 firstOf (c ∷ cs) = pick (c .applies) (c .verdict) (firstOf cs)
+
+-- v is the number of the first check that applies: it applies, and no earlier one does
+pub data FirstAt (v : Verdict) : List Check → Type 0 where
+  here : {c : Check} {cs : List Check} → c .verdict ≡ v → c .applies ≡ true → FirstAt v (c ∷ cs)
+  later : {c : Check} {cs : List Check} → c .applies ≡ false → FirstAt v cs → FirstAt v (c ∷ cs)
+
+-- no check applies
+pub data NoneApplies : List Check → Type 0 where
+  none : NoneApplies []
+  also : {c : Check} {cs : List Check} → c .applies ≡ false → NoneApplies cs → NoneApplies (c ∷ cs)

@@ -1,0 +1,167 @@
+-- Document 01, "Both sides of each line": the starred cases, computed from the definitions, a line to a case. Assumes nothing.
+use mathlib.Core.Path.{_≡_, refl}
+use mathlib.Core.Bool.{Bool, true, false}
+use mathlib.Core.List.{List, [], _∷_, map}
+use Prim.Native.Nat.{ℕ, _+_, _*_}
+use lib.IntN.{ℤ, pos, negsuc}
+use lib.ListN.{getD}
+use Rattle.paper.specs.declared.Rate.{Rate}
+use Rattle.paper.specs.declared.Statics.{Statics}
+use Rattle.paper.specs.declared.Given.{Given}
+use Rattle.paper.specs.declared.Side.the-variants.{Upper, Lower}
+use Rattle.paper.specs.declared.Limits.{Limits}
+use Rattle.paper.specs.declared.Term.{Term}
+use Rattle.paper.specs.declared.Roubles.{Roubles}
+use Rattle.paper.specs.declared.Record.{Record}
+use Rattle.paper.specs.declared.Admission.{Admission}
+use Rattle.paper.specs.declared.Day.{Day}
+use Rattle.paper.specs.Lists.{pick, three, those}
+use Rattle.paper.specs.Roundings.{up, halfUp, toGrid, lesserOf, greaterOf, grown, apart}
+use Rattle.paper.specs.Least.{first, least, leastRoot, leastTimes, leastMultiple}
+use Rattle.paper.specs.Ranges.{gridOf, staticsOf, rowAt, rowsFrom, rowsOf, rowOf, natural, noTerm, noLimits}
+use Rattle.paper.specs.Evaluation.{rowPrice, rowWeight, roublesOf, traded, weights, worth, mean, closeOf, bestBid, lesserAsk, bestAsk, median, between, evaluationOf, dayRows}
+use Rattle.paper.specs.Rates.{moveFrom, moveOf, weightOf, weighted, replacement, replaces, volatilityOf, wanted, tentativeAfter, meets, daysOf, minimumOf, covers, levelRate, modelled, unmodelled, figuresOf}
+use Rattle.paper.specs.Limits.{limitOf, shifted, rangeLimit, rangeOf, farthest, spread, monitored, narrower, bandLimit, bandOf, deltaOf, oneMore, rangeMoved, bandMoved}
+use Rattle.paper.specs.Alerts.{distance, isNear, nearCleared}
+use Rattle.paper.specs.Desk.{admitted, priceOn, moveOn, figuresOn, evaluated, moved}
+
+-- "Statics Z"
+unfoldable pub givenZ : Given
+givenZ =
+    record {
+      lot = 10;
+      h = 100;
+      q = 300;
+      aup = 1000;
+      adown = 500;
+      wait = 5;
+      rh1 = 2;
+      rh2 = 5;
+      rh3 = 8;
+      liq = 50;
+      min1 = 500;
+      min2 = 700;
+      min3 = 900;
+      smax = 4000;
+      xpr = 200;
+      shift = 25;
+      pchmax = 2000;
+      pclmax = 2000;
+      w = 1000;
+      u = 60;
+      monitoring = 1;
+      ewma = 1;
+    }
+
+unfoldable pub Z : Statics
+unfolding givenZ staticsOf
+Z = staticsOf givenZ
+
+-- "Earlier prices 1,000,000 unless given; s 20,000"; tentative 600
+unfoldable pub admissionZ : Admission
+admissionZ = record { id = 7; day = 3; p1 = 1000000; p2 = 1000000; s = 20000; tentative = 600; given = givenZ }
+
+-- a row in roubles today, before other rows
+pub roublesRow : (close bid ask volume : ℕ) → List ℤ → List ℤ
+roublesRow close bid ask volume rest = pos 0 ∷ pos 10000 ∷ pos 0 ∷ pos close ∷ pos bid ∷ pos ask ∷ pos volume ∷ rest
+
+-- "repo bands 0; b, m 0", but for the m and the terms given
+pub dayWith : (m : ℕ) → Term → Day
+dayWith m x = record { day = 4; b = 0; m = m; terms = three (λ k. x) }
+
+-- cases 1 to 6: the record after an evaluation at 1,030,000
+unfoldable pub after : (m : ℕ) → Term → Record
+unfolding admissionZ givenZ roublesRow dayWith staticsOf admitted minimumOf evaluated figuresOn figuresOf modelled unmodelled moveOn priceOn moveOf moveFrom up apart volatilityOf weightOf weighted replaces replacement wanted tentativeAfter levelRate covers meets daysOf least first leastRoot leastTimes leastMultiple evaluationOf dayRows rowsOf rowsFrom rowAt rowOf natural roublesOf rowPrice rowWeight halfUp toGrid grown closeOf mean traded those weights worth bestBid bestAsk lesserAsk between median gridOf rangeOf rangeLimit limitOf shifted bandOf bandLimit farthest narrower lesserOf greaterOf monitored spread
+after m x = evaluated (admitted admissionZ) (dayWith m x) (roublesRow 1030000 0 0 5 [])
+
+rateAt : Record → ℕ → ℕ
+rateAt r i = getD (r .rates) i (record { bp = 0 }) .bp
+
+upperAt : Record → ℕ → ℕ
+upperAt r i = getD (r .ranges) i noLimits .upper
+
+lowerAt : Record → ℕ → ℕ
+lowerAt r i = getD (r .ranges) i noLimits .lower
+
+bandAt : Record → ℕ → Limits
+bandAt r k = getD (r .bands) k noLimits
+
+yesNo : Bool → ℕ
+yesNo true = 1
+yesNo false = 0
+
+-- case 10's rows: "roubles, close 1,000,000 volume 300, and a currency at 12.5000 with close 81,000 volume 8"
+rows10 : List ℤ
+rows10 = roublesRow 1000000 0 0 300 (pos 0 ∷ pos 125000 ∷ pos 0 ∷ pos 81000 ∷ pos 0 ∷ pos 0 ∷ pos 8 ∷ [])
+
+-- what the definitions give
+pub results : List (List ℕ)
+unfolding after Z rateAt upperAt lowerAt bandAt yesNo rows10 moved oneMore deltaOf rangeMoved bandMoved nearCleared isNear distance
+results =
+    -- 1: r, s, tentative, the three rates
+    (moveOn (admitted admissionZ) (roublesRow 1030000 0 0 5 [])
+    ∷ after 0 noTerm .s
+    ∷ after 0 noTerm .tentative .bp
+    ∷ rateAt (after 0 noTerm) 0
+    ∷ rateAt (after 0 noTerm) 1
+    ∷ rateAt (after 0 noTerm) 2
+    ∷ [])
+    -- 2: level 1 with m 6 and with m 1
+    ∷ (rateAt (after 6 noTerm) 0 ∷ rateAt (after 1 noTerm) 0 ∷ [])
+    -- 3: the ranges, upper and lower
+    ∷ (upperAt (after 0 noTerm) 0
+    ∷ upperAt (after 0 noTerm) 1
+    ∷ upperAt (after 0 noTerm) 2
+    ∷ lowerAt (after 0 noTerm) 0
+    ∷ lowerAt (after 0 noTerm) 1
+    ∷ lowerAt (after 0 noTerm) 2
+    ∷ [])
+    -- 4: the band, and the band with k 2, RRcL -730, RRcH 1,460
+    ∷ (bandAt (after 0 noTerm) 0 .lower
+    ∷ bandAt (after 0 noTerm) 0 .upper
+    ∷ bandAt (after 0 (record { k = 2; low = negsuc 729; high = pos 1460 })) 1 .lower
+    ∷ bandAt (after 0 (record { k = 2; low = negsuc 729; high = pos 1460 })) 1 .upper
+    ∷ [])
+    -- 5: one upper move: the band's top and the range tops
+    ∷ (bandAt (moved (after 0 noTerm) Upper) 0 .upper
+    ∷ upperAt (moved (after 0 noTerm) Upper) 0
+    ∷ upperAt (moved (after 0 noTerm) Upper) 1
+    ∷ upperAt (moved (after 0 noTerm) Upper) 2
+    ∷ [])
+    -- 6: whether the bids are near the top
+    ∷ (yesNo (isNear Upper (Z .w) (bandAt (after 0 noTerm) 0) 1062960)
+    ∷ yesNo (isNear Upper (Z .w) (bandAt (after 0 noTerm) 0) 1062970)
+    ∷ [])
+    -- 7: r, and the weight
+    ∷ (moveOf 300000000 300000000 306000100 ∷ weightOf Z 0 (moveOf 300000000 300000000 306000100) 20000 ∷ [])
+    -- 8: s after r 200,000 with S_1 700, and with b 2
+    ∷ (volatilityOf Z 0 700 200000 20000 ∷ volatilityOf Z 2 700 200000 20000 ∷ [])
+    -- 9: t, and the tentative rate at age 3 and at age 4
+    ∷ (wanted Z 3333
+    ∷ tentativeAfter (Z .h) (Z .wait) (wanted Z 3333) (record { bp = 700; age = 3 }) .bp
+    ∷ tentativeAfter (Z .h) (Z .wait) (wanted Z 3333) (record { bp = 700; age = 4 }) .bp
+    ∷ [])
+    -- 10: the close and the evaluation
+    ∷ (closeOf 1000000 (map roublesOf (dayRows rows10)) ∷ evaluationOf (gridOf (Z .lot)) 1000000 (dayRows rows10) ∷ [])
+    -- 11: BID 1,010,000, ASK 1,000,000, with the close 1,005,000 and with 990,000
+    ∷ (evaluationOf (gridOf (Z .lot)) 1000000 (dayRows (roublesRow 1005000 1010000 1000000 1 []))
+    ∷ evaluationOf (gridOf (Z .lot)) 1000000 (dayRows (roublesRow 990000 1010000 1000000 1 []))
+    ∷ [])
+    ∷ []
+
+-- what document 01 says
+pub starred : results
+    ≡ (30000 ∷ 21214 ∷ 700 ∷ 800 ∷ 1200 ∷ 1500 ∷ [])
+    ∷ (1500 ∷ 1000 ∷ [])
+    ∷ (1112400 ∷ 1153600 ∷ 1184500 ∷ 947600 ∷ 906400 ∷ 875500 ∷ [])
+    ∷ (988800 ∷ 1071200 ∷ 988400 ∷ 1072060 ∷ [])
+    ∷ (1091800 ∷ 1133000 ∷ 1174200 ∷ 1205100 ∷ [])
+    ∷ (0 ∷ 1 ∷ [])
+    ∷ (20001 ∷ 1000 ∷ [])
+    ∷ (66667 ∷ 20000 ∷ [])
+    ∷ (100 ∷ 700 ∷ 600 ∷ [])
+    ∷ (1003125 ∷ 1003130 ∷ [])
+    ∷ (1005000 ∷ 1000000 ∷ [])
+    ∷ []
+unfolding results
+starred = refl

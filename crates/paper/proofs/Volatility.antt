@@ -1,0 +1,125 @@
+-- One evaluation with the model on: the new volatility stays near the exact one. Assumes nothing.
+use mathlib.Core.Path.{_≡_, refl, sym, _∙_, ap}
+use mathlib.Core.Logic.{_⊎_, inl, inr}
+use mathlib.Core.Bool.{Bool, true, false, _&&_}
+use Prim.Native.Nat.{ℕ, zero, suc, _+_, _-_, _*_, _/_, _≤_, _<_, max}
+use native.Mathlib.Nat.{le-trans, mul-le-mul-right, le-of-mul-le-mul-left, max-comm}
+use native.Mathlib.Omega.{arith}
+use lib.Dec.{leb, ltb}
+use borrow.Author.Tests.{leb-true, leb-false}
+use Rattle.paper.specs.declared.Statics.{Statics}
+use Rattle.paper.specs.Lists.{pick}
+use Rattle.paper.specs.Numbers.{whole, hundred, million}
+use Rattle.paper.specs.Roundings.{Quotient, up, greaterOf, apart}
+use Rattle.paper.specs.Ranges.{validStatics}
+use Rattle.paper.specs.Rates.{moveFrom, moveOf, weightOf, weighted, replacement, replaces, volatilityOf}
+use Rattle.paper.specs.Exact.{Choice, byWeight, replaced, exactMove, nextSquare, choiceOf, NearExact}
+use Rattle.paper.proofs.Logic.{and-left, and-right, le-or-lt}
+use Rattle.paper.proofs.Search.{root-covers, root-least, times-covers, times-least}
+use Rattle.paper.proofs.Roundings.{up-covers, quotient-low}
+use Rattle.paper.proofs.Drift.{RoundedUp, weight-near, replace-near}
+
+-- what the argument asks of the statics
+pub record Weighing (st : Statics) : Type 0 where
+  pub q : hundred ≤ st .q
+  pub aup : st .aup ≤ whole
+  pub adown : st .adown ≤ whole
+
+pub weighing : (st : Statics) → validStatics st ≡ true → Weighing st
+unfolding validStatics
+weighing st v =
+    record {
+      q = leb-true _ _ (search (v, and-left, and-right) depth 40);
+      aup = leb-true _ _ (search (v, and-left, and-right) depth 40);
+      adown = leb-true _ _ (search (v, and-left, and-right) depth 40);
+    }
+
+-- ---- the move
+
+up-rounded : (n d : ℕ) → 0 < d → RoundedUp (up n d) (record { num = n; den = d })
+unfolding up
+up-rounded n d h =
+    record {
+      covers = up-covers n d h;
+      least = lower ((n + (d - 1)) / d) (omega (arith, quotient-low (n + (d - 1)) d h));
+      positive = h;
+    }
+  where
+    lower : (x : ℕ) → x * d < n + d → (x - 1) * d ≤ n
+    lower zero l = omega arith
+    lower (suc x) l = let e : suc x - 1 ≡ x = omega arith in rw e (omega arith)
+
+-- the greater of two rounded figures is the greater fraction, rounded
+rounded-max : (r1 r2 : ℕ) (x y : Quotient) → RoundedUp r1 x → RoundedUp r2 y → y .num * x .den ≤ x .num * y .den → RoundedUp (max r1 r2) x
+rounded-max r1 r2 x y u v l =
+    record {
+      covers = le-trans (u .covers) (mul-le-mul-right (x .den) (omega arith));
+      least = go (le-or-lt r2 r1);
+      positive = u .positive;
+    }
+  where
+    go : (r2 ≤ r1) ⊎ (r1 < r2) → (max r1 r2 - 1) * x .den ≤ x .num
+    go (inl h) = let e : max r1 r2 ≡ r1 = omega arith in rw e (u .least)
+    go (inr h) =
+        let e : max r1 r2 ≡ r2 = omega arith in
+        let k : y .den * ((r2 - 1) * x .den) ≤ y .den * x .num = omega (arith, mul-le-mul-right (x .den) (v .least)) in
+        rw e (le-of-mul-le-mul-left k (v .positive))
+
+-- (e): the move r is the exact one, rounded up
+pub move-rounded : (p1 p2 p : ℕ) → 0 < p1 → 0 < p2 → RoundedUp (moveOf p1 p2 p) (exactMove p1 p2 p)
+unfolding moveOf moveFrom exactMove greaterOf
+move-rounded p1 p2 p h1 h2 = go (leb (y .num * x .den) (x .num * y .den)) refl
+  where
+    x : Quotient
+    x = record { num = apart p p1 * million; den = p1 }
+
+    y : Quotient
+    y = record { num = apart p p2 * million; den = p2 }
+
+    go : (t : Bool) → leb (y .num * x .den) (x .num * y .den) ≡ t → RoundedUp (max (up (x .num) (x .den)) (up (y .num) (y .den))) (pick t x y)
+    go true e =
+        rounded-max (up (x .num) (x .den)) (up (y .num) (y .den)) x y (up-rounded (x .num) p1 h1) (up-rounded (y .num) p2 h2) (leb-true _ _ e)
+    go false e =
+        rw (max-comm (up (x .num) (x .den)) (up (y .num) (y .den)))
+        (rounded-max (up (y .num) (y .den)) (up (x .num) (x .den)) y x (up-rounded (y .num) p2 h2) (up-rounded (x .num) p1 h1)
+        (omega (arith, leb-false (y .num * x .den) (x .num * y .den) e)))
+
+-- ---- the volatility
+
+weight-most : (st : Statics) (b r s : ℕ) → Weighing st → weightOf st b r s ≤ whole
+unfolding weightOf
+weight-most st b r s h = go (ltb 1 b) (ltb s r)
+  where
+    go : (x y : Bool) → pick x 0 (pick y (st .aup) (st .adown)) ≤ whole
+    go true y = omega arith
+    go false true = h .aup
+    go false false = h .adown
+
+-- the mean by a weight
+weighted-near : (a n s r q : ℕ) (old move : Quotient) → a ≤ whole → NearExact n s old → RoundedUp r move
+    → NearExact (n + 1) (weighted a s r) (nextSquare q old move (byWeight a))
+unfolding weighted nextSquare
+weighted-near a n s r q old move ha near rounded =
+    let e : whole - a + a ≡ whole = omega arith in
+    rw e at (weight-near (whole - a) a n s r (weighted a s r) old move near rounded
+    (rw e (root-covers whole ((whole - a) * (s * s) + a * (r * r)) (omega arith)))
+    (λ z k. root-least whole ((whole - a) * (s * s) + a * (r * r)) z (rw e at k)) (omega arith))
+
+replacement-near : (n r q : ℕ) (old move : Quotient) → hundred ≤ q → RoundedUp r move
+    → NearExact (n + 1) (replacement q r) (nextSquare q old move replaced)
+unfolding replacement nextSquare
+replacement-near n r q old move hq rounded =
+    replace-near hundred n q r (replacement q r) move rounded (omega arith) hq
+    (times-covers q (hundred * r) (omega arith)) (times-least q (hundred * r))
+
+-- the rule takes one of the two, and the exact square is worked out by the same choice
+pub volatility-near : (st : Statics) (b s1 r s n : ℕ) (old move : Quotient) → Weighing st → NearExact n s old → RoundedUp r move
+    → NearExact (n + 1) (volatilityOf st b s1 r s) (nextSquare (st .q) old move (choiceOf st b s1 r s))
+unfolding volatilityOf choiceOf
+volatility-near st b s1 r s n old move h near rounded =
+    go (replaces st b s1 r (weighted (weightOf st b r s) s r)) (weightOf st b r s) (weight-most st b r s h)
+  where
+    go : (t : Bool) (a : ℕ) → a ≤ whole
+        → NearExact (n + 1) (pick t (replacement (st .q) r) (weighted a s r)) (nextSquare (st .q) old move (pick t replaced (byWeight a)))
+    go true a ha = replacement-near n r (st .q) old move (h .q) rounded
+    go false a ha = weighted-near a n s r (st .q) old move ha near rounded
