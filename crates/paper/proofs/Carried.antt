@@ -130,15 +130,16 @@ record Same (r x : Record) : Type 0 where
 
 holds-same : (h : History) (r x : Record) → Same r x → Holds h true r → Holds h true x
 holds-same unknown r x m k = k
-holds-same (since a es) r x m (w, f) =
-    (w,
-    record {
-      statics = m .statics ∙ f .statics;
-      p1 = ap (λ (p : Price). p .units) (m .p1) ∙ f .p1;
-      p2 = ap (λ (p : Price). p .units) (m .p2) ∙ f .p2;
-      near = λ e. rw (m .s) (f .near e);
-      start = λ e. rw (m .s) (f .start e);
-    })
+holds-same (since a es) r x m (w, f) = (
+  w,
+  record {
+    statics = m .statics ∙ f .statics;
+    p1 = ap (λ (p : Price). p .units) (m .p1) ∙ f .p1;
+    p2 = ap (λ (p : Price). p .units) (m .p2) ∙ f .p2;
+    near = λ e. rw (m .s) (f .near e);
+    start = λ e. rw (m .s) (f .start e);
+  },
+)
 
 same-quoted : (r : Record) (q : Quote) → Same r (quoted r q)
 unfolding quoted
@@ -287,9 +288,12 @@ demand-3 id cs t n f there on = go (history id cs t unknown) refl (run-holds id 
         × Demand3 (length es) (found (run cs t) id .s) (exactOf a es .square)
     go unknown w k = absurd (clash (stands (run cs t) id) there k)
     go (since a es) w (_, k) =
-        let e : staticsOf (a .given) .ewma ≡ true = ap (λ (st : Statics). st .ewma) (sym (k .statics)) ∙ on in
-        (a, es, w,
-        record { near = k .near e; exact = λ z. k .start (nothing-yet es z) })
+        let e : staticsOf (a .given) .ewma ≡ true = ap (λ (st : Statics). st .ewma) (sym (k .statics)) ∙ on in (
+          a,
+          es,
+          w,
+          record { near = k .near e; exact = λ z. k .start (nothing-yet es z) },
+        )
 
 -- and what was admitted stands in the table
 pub admitted-stands : (id : ℕ) (cs : List Call) (t : List Record) → id ≢ 0 → fresh t ≡ true → (a : Admission) (es : List Entry)

@@ -1,10 +1,12 @@
 pub mod Logic
 pub mod Search
 pub mod Roundings
-pub mod Cases
+pub mod Units
 pub mod Slots
 pub mod Refusals
+pub mod Others
 pub mod Drift
 pub mod Volatility
 pub mod Carried
-pub mod Others
+pub mod Roots
+pub mod Level

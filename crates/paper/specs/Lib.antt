@@ -11,3 +11,4 @@ pub mod Verdicts
 pub mod Desk
 pub mod Gateway
 pub mod Exact
+pub mod Cases

@@ -1,7 +1,9 @@
 -- Document 01, "The rates (7.1)". Assumes nothing.
+use mathlib.Core.Path.{_≡_}
+use mathlib.Core.Logic.{_⊎_}
 use mathlib.Core.Bool.{Bool, true, false, _&&_}
 use mathlib.Core.List.{List}
-use Prim.Native.Nat.{ℕ, zero, suc, _+_, _-_, _*_, _/_, min, max}
+use Prim.Native.Nat.{ℕ, zero, suc, _+_, _-_, _*_, _/_, _%_, _≤_, _<_, min, max}
 use lib.Dec.{leb, ltb, eqb}
 use lib.IntN.{ℤ, pos, subℕ, _*ℤ_}
 use lib.Signed.{leZ}
@@ -10,7 +12,7 @@ use Rattle.paper.specs.declared.Tentative.{Tentative}
 use Rattle.paper.specs.declared.Statics.{Statics}
 use Rattle.paper.specs.Lists.{pick, forLevels}
 use Rattle.paper.specs.Numbers.{whole, million, hundred, volatilityMost, ageMost}
-use Rattle.paper.specs.Roundings.{up, apart}
+use Rattle.paper.specs.Roundings.{Quotient, up, apart}
 use Rattle.paper.specs.Least.{leastRoot, leastTimes, leastMultiple}
 
 -- ---- the move and the volatility
@@ -108,3 +110,25 @@ figuresOf st b m s1 r s old = pick (st .ewma) (modelled st b m s1 r s old) (unmo
 -- 8: "isEWMA yes and r above 1,000,000"
 unfoldable pub moveTooLarge : Statics → ℕ → Bool
 moveTooLarge st r = st .ewma && ltb volatilityMost r
+
+-- ---- what the rate of a level is, in demand 2's words
+
+-- v is at least the sum of the roots of two quotients, as real numbers are: every fraction a/d whose square is at most x, and every b/d whose square is at
+-- most y, have (a + b)/d ≤ v
+pub record AtLeastRoots (v : ℕ) (x y : Quotient) : Type 0 where
+  pub bounds : (a b d : ℕ) → 0 < d → a * a * x .den ≤ x .num * (d * d) → b * b * y .den ≤ y .num * (d * d) → a + b ≤ v * d
+
+-- the squares of sqrt(rh_L/rh_1)·tentative·sqrt((rh_1 + m)/rh_1) and of sqrt(rh_L/rh_1)·liq
+abbrev pub volatilePart : (rh1 rh m tentative : ℕ) → Quotient
+volatilePart rh1 rh m tentative = record { num = rh * (tentative * tentative) * (rh1 + m); den = rh1 * rh1 }
+
+abbrev pub liquidPart : (rh1 rh liq : ℕ) → Quotient
+liquidPart rh1 rh liq = record { num = rh * (liq * liq); den = rh1 }
+
+-- "the least multiple of the step that covers the requirement and the minimum, held at the maximum"
+pub record HeldLeast (h minimum maximum : ℕ) (enough : ℕ → Bool) (v : ℕ) : Type 0 where
+  pub multiple : v % h ≡ 0
+  pub low : minimum ≤ v
+  pub held : v ≤ maximum
+  pub enough-or-held : (enough v ≡ true) ⊎ ((v ≡ maximum) × (enough maximum ≡ false))
+  pub least : (j : ℕ) → minimum ≤ j * h → enough (j * h) ≡ true → v ≤ j * h

@@ -4,7 +4,7 @@ use mathlib.Core.Bool.{Bool, true, false}
 use mathlib.Core.List.{List, [], _∷_, map}
 use Prim.Native.Nat.{ℕ, _+_, _*_}
 use lib.IntN.{ℤ, pos, negsuc}
-use lib.ListN.{getD}
+use lib.ListN.{getD, replicate}
 use Rattle.paper.specs.declared.Rate.{Rate}
 use Rattle.paper.specs.declared.Statics.{Statics}
 use Rattle.paper.specs.declared.Given.{Given}
@@ -18,12 +18,13 @@ use Rattle.paper.specs.declared.Day.{Day}
 use Rattle.paper.specs.Lists.{pick, three, those}
 use Rattle.paper.specs.Roundings.{up, halfUp, toGrid, lesserOf, greaterOf, grown, apart}
 use Rattle.paper.specs.Least.{first, least, leastRoot, leastTimes, leastMultiple}
-use Rattle.paper.specs.Ranges.{gridOf, staticsOf, rowAt, rowsFrom, rowsOf, rowOf, natural, noTerm, noLimits}
+use Rattle.paper.specs.Ranges.{isPrice, isGridPrice, validStatics, validGiven, validTentative, validAdmission, validSlots, gridOf, staticsOf, rowAt, rowsFrom, rowsOf, rowOf, natural, noTerm, noLimits}
 use Rattle.paper.specs.Evaluation.{rowPrice, rowWeight, roublesOf, traded, weights, worth, mean, closeOf, bestBid, lesserAsk, bestAsk, median, between, evaluationOf, dayRows}
 use Rattle.paper.specs.Rates.{moveFrom, moveOf, weightOf, weighted, replacement, replaces, volatilityOf, wanted, tentativeAfter, meets, daysOf, minimumOf, covers, levelRate, modelled, unmodelled, figuresOf}
 use Rattle.paper.specs.Limits.{limitOf, shifted, rangeLimit, rangeOf, farthest, spread, monitored, narrower, bandLimit, bandOf, deltaOf, oneMore, rangeMoved, bandMoved}
 use Rattle.paper.specs.Alerts.{distance, isNear, nearCleared}
-use Rattle.paper.specs.Desk.{admitted, priceOn, moveOn, figuresOn, evaluated, moved}
+use Rattle.paper.specs.Verdicts.{numberOf, isDone, firstOf}
+use Rattle.paper.specs.Desk.{blank, saying, admitted, priceOn, moveOn, figuresOn, evaluated, moved, place, stands, found, quoted, admit, quote, admitChecks, checksOf, judged, acceptedOf, step}
 
 -- "Statics Z"
 unfoldable pub givenZ : Given
@@ -165,3 +166,65 @@ pub starred : results
     ∷ []
 unfolding results
 starred = refl
+
+-- ---- "Errors that look reasonable", and the empty versions: more figures, on which each of them would differ
+
+-- a statics with the finest grid
+fine : Statics
+fine = staticsOf (record {
+  lot = 11;
+  h = 100;
+  q = 300;
+  aup = 1000;
+  adown = 500;
+  wait = 5;
+  rh1 = 2;
+  rh2 = 5;
+  rh3 = 8;
+  liq = 50;
+  min1 = 500;
+  min2 = 700;
+  min3 = 900;
+  smax = 4000;
+  xpr = 200;
+  shift = 25;
+  pchmax = 2000;
+  pclmax = 2000;
+  w = 1000;
+  u = 60;
+  monitoring = 1;
+  ewma = 1;
+})
+
+-- the number that an admission gets from a fresh table of so many slots
+admitAnswer : ℕ → ℕ
+admitAnswer slots = numberOf (step (admit admissionZ) (replicate slots blank) .answer .verdict)
+
+-- case 1's security on a second day, back at 1,000,000
+second : Record
+second = evaluated (after 0 noTerm) (record { day = 5; b = 0; m = 0; terms = three (λ k. noTerm) }) (roublesRow 1000000 0 0 5 [])
+
+pub straddles : List (List ℕ)
+unfolding results fine admitAnswer second quoted found step judged firstOf checksOf admitChecks acceptedOf saying validSlots validAdmission validGiven validStatics isGridPrice isPrice validTentative stands place isDone blank
+straddles =
+    -- a band limit is rounded once: with each factor rounded it would be 1,052,490
+    (bandLimit fine Upper 1000010 800 0 30 (pos 1460) ∷ [])
+    -- the second day is evaluated as the first was: the two evaluations, s, tentative and age
+    ∷ (second .p1 .units ∷ second .p2 .units ∷ second .s ∷ second .tentative .bp ∷ second .tentative .age ∷ [])
+    -- a quote leaves the volatility
+    ∷ (getD (acceptedOf (quote 7 (record { second = 1; term = 0; bid = 1062970; ask = 0 })) (after 0 noTerm ∷ []) .table) 0 blank .s ∷ [])
+    -- "A table of no slots, or over 512, is refused 4 by admit"
+    ∷ (admitAnswer 0 ∷ admitAnswer 1 ∷ admitAnswer 512 ∷ admitAnswer 513 ∷ [])
+    -- "Where an id stands in several slots the first alone counts"
+    ∷ (place (blank ∷ admitted admissionZ ∷ admitted admissionZ ∷ []) 7 ∷ [])
+    ∷ []
+
+pub straddled : straddles
+    ≡ (1052491 ∷ [])
+    ∷ (1000000 ∷ 1030000 ∷ 22133 ∷ 700 ∷ 1 ∷ [])
+    ∷ (21214 ∷ [])
+    ∷ (4 ∷ 0 ∷ 0 ∷ 4 ∷ [])
+    ∷ (1 ∷ [])
+    ∷ []
+unfolding straddles
+straddled = refl
