@@ -177,7 +177,7 @@ unfolding validStatics
 step-positive st v = leb-true 1 (st .h) (search (v, and-left, and-right) depth 40)
 
 -- a multiple of h is its quotient times h
-whole-times : (x h : ℕ) → x % h ≡ 0 → x / h * h ≡ x
+pub whole-times : (x h : ℕ) → x % h ≡ 0 → x / h * h ≡ x
 whole-times x h e = omega (arith, div-add-mod' x h)
 
 -- With the model on, the rate of a level is the least multiple of the step that covers the requirement and the minimum, held at the maximum

@@ -4,6 +4,18 @@ ghost use mathlib.Core.Path.{_≡_};
 ghost use Rattle.paper.specs.Ranges.{priceMade, rateMade};
 ghost use Rattle.paper.specs.Verdicts.{numberOf};
 
+// "10,000 = 100 per cent": the basis points, and the ten-thousandths, of the whole.
+pub const WHOLE: u64 = 10_000;
+
+// The millionths of the whole.
+pub const MILLION: u64 = 1_000_000;
+
+// The hundredths of the whole; also the millionths of a basis point.
+pub const HUNDRED: u64 = 100;
+
+// A year's days, times the whole in basis points.
+pub const YEAR: u64 = 3_650_000;
+
 // A price, in ten-thousandths of a rouble.
 pub struct Price {
     pub units: u64,

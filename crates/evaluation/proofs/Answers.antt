@@ -1,0 +1,85 @@
+-- The answer by cases, from what the code has in hand at each of its returns. Assumes nothing.
+use mathlib.Core.Path.{_≡_, refl, ap, _∙_}
+use mathlib.Core.Bool.{Bool, true, false, _&&_}
+use mathlib.Core.List.{List, map}
+use Prim.Native.Nat.{ℕ, zero, suc, _*_, _≤_, max}
+use native.Mathlib.Nat.{pos-of-ne-zero, max-le, le-trans, min-le-left, min-le-right}
+use native.Mathlib.Omega.{arith}
+use lib.Dec.{eqb}
+use borrow.Author.Tests.{eqb-false}
+use Rattle.paper.specs.declared.Price.{Price}
+use Rattle.paper.specs.declared.MadePrice.the-variants as made
+use Rattle.paper.specs.declared.Row.{Row}
+use Rattle.paper.specs.declared.Roubles.{Roubles}
+use Rattle.paper.specs.Lists.{pick, every}
+use Rattle.paper.specs.Roundings.{halfUp, toGrid}
+use Rattle.paper.specs.Ranges.{isPrice, priceMade}
+use Rattle.paper.specs.Evaluation.{bestBid, bestAsk, roublesOf, rowFits, median, between, evaluationOf, evaluationFits}
+use Rattle.paper.proofs.Roundings.{half-le}
+use Rattle.evaluation.specs.declared.Book.{Book}
+use Rattle.evaluation.specs.declared.Gathered.the-variants as gathered
+use Rattle.evaluation.specs.declared.Evaluation.the-variants.{Evaluated, Beyond}
+use Rattle.evaluation.specs.Evaluation.{evaluationFrom, evaluationMade}
+use Rattle.evaluation.specs.Book.{bookOf, closeIn, gatheredOf}
+use Rattle.evaluation.proofs.Books.{close-of-book}
+
+module _ (g previous : ℕ) (rows : List Row) where
+  -- the evaluation from the book
+  of-book : (b : Book) → b ≡ bookOf (map roublesOf rows) → toGrid g (between (b .bid) (closeIn previous b) (b .ask)) 1 ≡ evaluationOf g previous rows
+  unfolding evaluationOf bookOf
+  of-book b p =
+      let rs : List Roubles = map roublesOf rows in
+      (λ i. toGrid g (between (p i .bid) (closeIn previous (p i)) (p i .ask)) 1) ∙ ap (λ (z : ℕ). toGrid g (between (bestBid rs) z (bestAsk rs)) 1) (close-of-book previous rs)
+
+  -- 7 for a row
+  pub made-beyond : gathered.Beyond ≡ gatheredOf rows → Beyond ≡ evaluationMade g previous rows
+  unfolding evaluationMade evaluationFits gatheredOf
+  made-beyond k = step (every rowFits rows) k
+    where
+      step : (t : Bool) → gathered.Beyond ≡ pick t (gathered.Whole (bookOf (map roublesOf rows))) gathered.Beyond → Beyond ≡ pick (t && isPrice (evaluationOf g previous rows)) (Evaluated (record { units = evaluationOf g previous rows })) Beyond
+      step true p = absurd (let z : _≡_ {A = ℕ} 0 1 = cc in omega arith)
+      step false p = refl
+
+  -- the evaluation, or 7 for it
+  pub made-book : (b : Book) → gathered.Whole b ≡ gatheredOf rows → evaluationFrom (toGrid g (between (b .bid) (closeIn previous b) (b .ask)) 1) ≡ evaluationMade g previous rows
+  unfolding evaluationMade evaluationFits evaluationFrom gatheredOf
+  made-book b k = step (every rowFits rows) k
+    where
+      step : (t : Bool) → gathered.Whole b ≡ pick t (gathered.Whole (bookOf (map roublesOf rows))) gathered.Beyond → evaluationFrom (toGrid g (between (b .bid) (closeIn previous b) (b .ask)) 1) ≡ pick (t && isPrice (evaluationOf g previous rows)) (Evaluated (record { units = evaluationOf g previous rows })) Beyond
+      step true p = ap evaluationFrom (of-book b (cc))
+      step false p = absurd (let z : _≡_ {A = ℕ} 0 1 = cc in omega arith)
+
+-- the evaluation as the price's constructor has it
+pub from-made : (units : ℕ) (p : Price) → made.Made p ≡ priceMade units → Evaluated p ≡ evaluationFrom units
+unfolding priceMade evaluationFrom
+from-made units p k = step (isPrice units) k
+  where
+    step : (t : Bool) → made.Made p ≡ pick t (made.Made (record { units = units })) made.OutOfRange → Evaluated p ≡ pick t (Evaluated (record { units = units })) Beyond
+    step true q = cc
+    step false q = absurd (let z : _≡_ {A = ℕ} 0 1 = cc in omega arith)
+
+pub from-out : (units : ℕ) → made.OutOfRange ≡ priceMade units → Beyond ≡ evaluationFrom units
+unfolding priceMade evaluationFrom
+from-out units k = step (isPrice units) k
+  where
+    step : (t : Bool) → made.OutOfRange ≡ pick t (made.Made (record { units = units })) made.OutOfRange → Beyond ≡ pick t (Evaluated (record { units = units })) Beyond
+    step true q = absurd (let z : _≡_ {A = ℕ} 0 1 = cc in omega arith)
+    step false q = refl
+
+-- ---- sizes
+
+pub close-le : (previous n : ℕ) (b : Book) → previous ≤ n → b .worth ≤ n * b .weight → closeIn previous b ≤ n
+unfolding closeIn
+close-le previous n b p q = step (eqb (b .weight) 0) refl
+  where
+    step : (t : Bool) → eqb (b .weight) 0 ≡ t → pick t previous (halfUp (b .worth) (b .weight)) ≤ n
+    step true e = p
+    step false e = half-le (b .worth) (b .weight) n (pos-of-ne-zero (eqb-false (b .weight) 0 e)) q
+
+pub between-le : (bid close ask n : ℕ) → bid ≤ n → close ≤ n → ask ≤ n → between bid close ask ≤ n
+unfolding between median
+between-le zero close zero n p q r = q
+between-le zero close (suc ask) n p q r = omega arith
+between-le (suc bid) close zero n p q r = omega arith
+between-le (suc bid) close (suc ask) n p q r =
+    max-le (le-trans (min-le-left (suc bid) close) p) (le-trans (min-le-right (max (suc bid) close) (suc ask)) r)

@@ -1,0 +1,5 @@
+pub mod Prices
+pub mod Sides
+pub mod Books
+pub mod Gathering
+pub mod Answers

@@ -1,0 +1,26 @@
+-- What an evaluation (6.1) answers: the paper's figure, or that 7 refuses it. Assumes nothing.
+use mathlib.Core.List.{List}
+use Prim.Native.Nat.{ℕ, _+_, _-_, _*_, _≤_}
+use Rattle.paper.specs.declared.Row.{Row}
+use Rattle.paper.specs.Lists.{pick}
+use Rattle.paper.specs.Numbers.{year, priceMost, centralMost}
+use Rattle.paper.specs.Ranges.{isPrice}
+use Rattle.paper.specs.Evaluation.{evaluationOf, evaluationFits}
+use Rattle.exact.specs.SignedLaws.{growthMost}
+use Rattle.evaluation.specs.declared.Evaluation.{Evaluation}
+use Rattle.evaluation.specs.declared.Evaluation.the-variants.{Evaluated, Beyond}
+
+-- 7: "a rounded row price, or the evaluation, is 0 or above 10^10; a rounded row volume is above 10^8"; else the evaluation
+unfoldable pub evaluationMade : ℕ → ℕ → List Row → Evaluation
+evaluationMade g previous rows =
+    pick (evaluationFits g previous rows) (Evaluated (record { units = evaluationOf g previous rows })) Beyond
+
+-- the same of the evaluation alone, where every row's figures are in range
+unfoldable pub evaluationFrom : ℕ → Evaluation
+evaluationFrom units = pick (isPrice units) (Evaluated (record { units = units })) Beyond
+
+-- the ranges of a price times its central rate, and of a year's days with the repo rate of T of them
+pub record Discounts (x days : ℕ) : Type 0 where
+  pub product : x ≤ priceMost * centralMost
+  pub low : year - growthMost ≤ days
+  pub high : days ≤ year + growthMost

@@ -1,0 +1,60 @@
+-- What an answer says of the paper's figures, for those who call: the evaluation is the paper's, on the grid and in range, or 7 refuses. Assumes
+-- nothing.
+use mathlib.Core.Path.{_≡_, refl}
+use mathlib.Core.Bool.{Bool, true, false}
+use mathlib.Core.List.{List}
+use Prim.Native.Nat.{ℕ, _%_}
+use native.Mathlib.Nat.{mul-mod-left}
+use native.Mathlib.Omega.{arith}
+use lib.Dec.{eqb}
+use borrow.Author.Tests.{eq-eqb}
+use Rattle.paper.specs.declared.Price.{Price}
+use Rattle.paper.specs.declared.Row.{Row}
+use Rattle.paper.specs.Lists.{pick, every}
+use Rattle.paper.specs.Roundings.{toGrid}
+use Rattle.paper.specs.Ranges.{isPrice, isGridPrice}
+use Rattle.paper.specs.Evaluation.{rowFits, evaluationOf, evaluationFits}
+use Rattle.paper.proofs.Logic.{and-right, and-both}
+use Rattle.evaluation.specs.declared.Evaluation.the-variants.{Evaluated, Beyond}
+use Rattle.evaluation.specs.Evaluation.{evaluationMade}
+
+-- the evaluation as a price
+abbrev pub priceOf : ℕ → ℕ → List Row → Price
+priceOf g previous rows = record { units = evaluationOf g previous rows }
+
+module _ (g previous : ℕ) (rows : List Row) where
+  pub evaluated-fits : (p : Price) → Evaluated p ≡ evaluationMade g previous rows → evaluationFits g previous rows ≡ true
+  unfolding evaluationMade
+  evaluated-fits p e = step (evaluationFits g previous rows) e
+    where
+      step : (t : Bool) → Evaluated p ≡ pick t (Evaluated (priceOf g previous rows)) Beyond → t ≡ true
+      step true q = refl
+      step false q = absurd (let z : _≡_ {A = ℕ} 0 1 = cc in omega arith)
+
+  pub evaluated-is : (p : Price) → Evaluated p ≡ evaluationMade g previous rows → p ≡ priceOf g previous rows
+  unfolding evaluationMade
+  evaluated-is p e = step (evaluationFits g previous rows) e
+    where
+      step : (t : Bool) → Evaluated p ≡ pick t (Evaluated (priceOf g previous rows)) Beyond → p ≡ priceOf g previous rows
+      step true q = cc
+      step false q = absurd (let z : _≡_ {A = ℕ} 0 1 = cc in omega arith)
+
+  pub beyond-refused : Beyond ≡ evaluationMade g previous rows → evaluationFits g previous rows ≡ false
+  unfolding evaluationMade
+  beyond-refused e = step (evaluationFits g previous rows) e
+    where
+      step : (t : Bool) → Beyond ≡ pick t (Evaluated (priceOf g previous rows)) Beyond → t ≡ false
+      step true q = absurd (let z : _≡_ {A = ℕ} 0 1 = cc in omega arith)
+      step false q = refl
+
+  whole : evaluationOf g previous rows % g ≡ 0
+  unfolding evaluationOf toGrid
+  whole = mul-mod-left _ g
+
+  -- an evaluation that is not refused can stand in a record
+  pub evaluation-sound : evaluationFits g previous rows ≡ true → isGridPrice g (evaluationOf g previous rows) ≡ true
+  unfolding evaluationFits isGridPrice
+  evaluation-sound e =
+      and-both (isPrice (evaluationOf g previous rows)) (eqb (evaluationOf g previous rows % g) 0)
+      (and-right (every rowFits rows) (isPrice (evaluationOf g previous rows)) e)
+      (eq-eqb (evaluationOf g previous rows % g) 0 whole)

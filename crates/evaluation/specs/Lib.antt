@@ -1,0 +1,3 @@
+pub mod Evaluation
+pub mod Book
+pub mod EvaluationLaws

@@ -1,0 +1,204 @@
+// The evaluation of a day from its rows (6.1), with the roundings (a) to (d).
+ghost use mathlib.Core.Path.{_≡_};
+ghost use mathlib.Core.Bool.{true};
+ghost use Prim.Native.Nat.{_*_, _≤_};
+ghost use Rattle.paper.specs.Numbers.{hundred, rouble, year, priceMost};
+ghost use Rattle.paper.specs.Roundings.{halfUp, toGrid};
+ghost use Rattle.paper.specs.Ranges.{isPrice, validRows};
+ghost use Rattle.paper.specs.Evaluation.{rowPrice, roublesOf, lesserAsk, median, between, dayRows, rowFits};
+ghost use Rattle.rows.specs.RowLaws.{InRange};
+ghost use Rattle.evaluation.specs.Evaluation.{Discounts, evaluationFrom, evaluationMade};
+ghost use Rattle.evaluation.specs.Book.{Room, added, closeIn, Gathers};
+use inputs::is_price;
+use paper::MadePrice;
+use paper::Price;
+use paper::Roubles;
+use paper::Row;
+use paper::YEAR;
+
+// The days of a year: 3,650,000/10^4 of place (a).
+const YEAR_DAYS: u64 = YEAR / Row::ROUBLE;
+// The greatest number of which 365 times fits 64 bits.
+const NARROW_MOST: u64 = u64::MAX / YEAR_DAYS;
+
+// What the rows come to: their weights, their closes times their weights, the greatest bid and the least ask.
+struct Book {
+    weight: u64,
+    worth: u64,
+    bid: u64,
+    ask: u64,
+}
+
+// The book of all rows, or that a row's rounded price or volume is beyond its range.
+enum Gathered {
+    Whole(Book),
+    Beyond,
+}
+
+// The day's evaluation, or that a figure is beyond its range: refusal 7.
+pub enum Evaluation {
+    Evaluated(Price),
+    Beyond,
+}
+
+// x·3,650,000/(10^4·days), rounded once: a price times its central rate, discounted. It is x·365/days, and nearly always that fits 64 bits.
+fn discounted(x: u64, days: u64) -> u64
+    requires { ⌜ Discounts x days ⌝ }
+    ensures { λ r. ⌜ r ≡ halfUp (x * year) (rouble * days) ⌝ }
+{
+    if x <= NARROW_MOST {
+        exact::half_up(x * YEAR_DAYS, days)
+    } else {
+        exact::half_up_wide(x, YEAR, Row::ROUBLE * days)
+    }
+}
+
+// A price of a row in roubles today: place (a). A missing price, 0, stays missing.
+fn row_price(w: Row, price: u64) -> u64
+    requires { ⌜ InRange w ⌝ }
+    requires { ⌜ price ≤ priceMost ⌝ }
+    ensures { λ r. ⌜ r ≡ rowPrice w price ⌝ }
+{
+    if price == 0 {
+        return 0;
+    }
+    discounted(price * w.central, exact::grow(YEAR, w.t, w.repo))
+}
+
+// A row after places (a) and (b).
+fn in_roubles(w: Row) -> Roubles
+    requires { ⌜ InRange w ⌝ }
+    ensures { λ r. ⌜ r ≡ roublesOf w ⌝ }
+{
+    Roubles {
+        weight: exact::half_up(w.volume * w.central, Row::ROUBLE),
+        close: row_price(w, w.close),
+        bid: row_price(w, w.bid),
+        ask: row_price(w, w.ask),
+    }
+}
+
+// Whether no rounded figure of a row is refused 7.
+fn row_fits(w: Row, r: Roubles) -> bool
+    requires { ⌜ r ≡ roublesOf w ⌝ }
+    ensures { λ b. ⌜ b ≡ rowFits w ⌝ }
+{
+    ((w.close == 0) | is_price(r.close))
+        & ((w.bid == 0) | is_price(r.bid))
+        & ((w.ask == 0) | is_price(r.ask))
+        & (r.weight <= Row::VOLUME_MOST)
+}
+
+// The lesser of two asks, of which 0 is missing.
+fn lesser_ask(a: u64, b: u64) -> u64
+    ensures { λ r. ⌜ r ≡ lesserAsk a b ⌝ }
+{
+    if a == 0 {
+        return b;
+    }
+    if b == 0 {
+        return a;
+    }
+    exact::lesser(a, b)
+}
+
+// The book with one row more. A row of weight 0 adds nothing to the close.
+fn add(book: Book, r: Roubles) -> Book
+    requires { ⌜ Room book r ⌝ }
+    ensures { λ b. ⌜ b ≡ added book r ⌝ }
+{
+    Book {
+        weight: book.weight + r.weight,
+        worth: book.worth + r.weight * r.close,
+        bid: exact::greater(book.bid, r.bid),
+        ask: lesser_ask(book.ask, r.ask),
+    }
+}
+
+// The rows' book, unless a row's figure is beyond its range.
+fn gather(rows: &[i64]) -> Gathered
+    requires { ⌜ validRows (now rows) ≡ true ⌝ }
+    ensures { λ r. ⌜ Gathers (dayRows (now (rows .entry))) r ⌝ }
+{
+    let mut book = Book {
+        weight: 0,
+        worth: 0,
+        bid: 0,
+        ask: 0,
+    };
+    let mut at = 0;
+    while at < rows.len() {
+        let w = rows::row_at(rows, at);
+        let r = in_roubles(w);
+        if !row_fits(w, r) {
+            return Gathered::Beyond;
+        }
+        book = add(book, r);
+        at += Row::NUMBERS;
+    }
+    Gathered::Whole(book)
+}
+
+// The weighted close, place (c), or with no weight the previous evaluation.
+fn close_of(book: Book, previous: u64) -> u64
+    ensures { λ r. ⌜ r ≡ closeIn previous book ⌝ }
+{
+    if book.weight == 0 {
+        previous
+    } else {
+        exact::half_up(book.worth, book.weight)
+    }
+}
+
+fn median(a: u64, b: u64, c: u64) -> u64
+    ensures { λ r. ⌜ r ≡ median a b c ⌝ }
+{
+    exact::greater(exact::lesser(a, b), exact::lesser(exact::greater(a, b), c))
+}
+
+// The close between the sides that are present.
+fn between(bid: u64, close: u64, ask: u64) -> u64
+    ensures { λ r. ⌜ r ≡ between bid close ask ⌝ }
+{
+    if bid == 0 {
+        if ask == 0 {
+            close
+        } else {
+            exact::lesser(close, ask)
+        }
+    } else {
+        if ask == 0 {
+            exact::greater(close, bid)
+        } else {
+            median(bid, close, ask)
+        }
+    }
+}
+
+// The evaluation on the grid, place (d), unless it is beyond its range.
+fn on_grid(g: u64, p: u64) -> Evaluation
+    requires { ⌜ (1 ≤ g) × (g ≤ hundred) × (p ≤ priceMost) ⌝ }
+    ensures { λ r. ⌜ r ≡ evaluationFrom (toGrid g p 1) ⌝ }
+{
+    let made = Price::new(exact::to_grid(g, p, 1));
+    match made {
+        MadePrice::Made(price) => Evaluation::Evaluated(price),
+        MadePrice::OutOfRange => Evaluation::Beyond,
+    }
+}
+
+// The evaluation of rows that are in range.
+pub fn evaluate(rows: &[i64], previous: u64, g: u64) -> Evaluation
+    requires { ⌜ validRows (now rows) ≡ true ⌝ }
+    requires { ⌜ (previous ≤ priceMost) × (1 ≤ g) × (g ≤ hundred) ⌝ }
+    ensures { λ r. ⌜ r ≡ evaluationMade g previous (dayRows (now (rows .entry))) ⌝ }
+{
+    let gathered = gather(rows);
+    match gathered {
+        Gathered::Beyond => Evaluation::Beyond,
+        Gathered::Whole(book) => {
+            let close = close_of(book, previous);
+            on_grid(g, between(book.bid, close, book.ask))
+        }
+    }
+}

@@ -1,0 +1,4 @@
+pub mod Quotients
+pub mod Long
+pub mod Turn
+pub mod Sign

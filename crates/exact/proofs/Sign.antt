@@ -1,0 +1,63 @@
+-- The sign test decides which case of a definition a signed number is. Assumes nothing.
+use mathlib.Core.Path.{_≡_, refl, ap, subst}
+use mathlib.Core.Bool.{true, false}
+use Prim.Native.Nat.{ℕ, suc, _+_, _-_, _*_, _<_}
+use native.Mathlib.Numerals.{add-one}
+use native.Mathlib.Omega.{arith}
+use lib.Dec.{T}
+use lib.IntN.{ℤ, pos, negsuc, natAbs, _-ℤ_}
+use lib.Signed.{mag, ltZ, nonNeg}
+use borrow.Author.Tests.{ltb-true, le-ltb}
+use mir.Syntax.{w64}
+use mir.Val.{Fits, SFits}
+use Rattle.paper.specs.Numbers.{pastEvery}
+use Rattle.paper.specs.Roundings.{grown}
+use Rattle.paper.specs.Ranges.{natural}
+
+-- no natural number is below 0
+none : (n : ℕ) → ltZ (pos n) (pos 0) ≡ true → ⊥
+none n e = let h : n < 0 = ltb-true n 0 e in omega arith
+
+some : (n : ℕ) → ltZ (negsuc n) (pos 0) ≡ false → ⊥
+some n e = subst T e tt
+
+-- ---- the size: what an arm asks and gives, where z is the number that it casts
+
+pub record Arm (z x : ℤ) : Type 0 where
+  pub signed : SFits w64 z
+  pub cast : T (nonNeg z) × Fits w64 (natAbs z)
+  pub is : natAbs z ≡ mag x
+
+-- -1 - x for x = -(n + 1)
+flipped : (n : ℕ) → negsuc 0 -ℤ negsuc n ≡ pos n
+flipped n = rw (le-ltb (suc n) 1 (omega arith)) (ap pos (omega arith))
+
+pub size-below : (x : ℤ) → SFits w64 x → ltZ x (pos 0) ≡ true → Arm (negsuc 0 -ℤ x) x
+size-below (pos n) f e = absurd (none n e)
+size-below (negsuc n) f e = rw (flipped n) (record { signed = record { sfits = f .sfits }; cast = (tt, omega (arith, f .sfits)); is = refl })
+
+pub size-above : (x : ℤ) → SFits w64 x → ltZ x (pos 0) ≡ false → Arm x x
+size-above (pos n) f e = record { signed = f; cast = (tt, omega (arith, f .sfits)); is = refl }
+size-above (negsuc n) f e = absurd (some n e)
+
+-- ---- the definitions by the test
+
+pub natural-below : (x : ℤ) → ltZ x (pos 0) ≡ true → natural x ≡ pastEvery
+unfolding natural
+natural-below (pos n) e = absurd (none n e)
+natural-below (negsuc n) e = refl
+
+pub natural-above : (x : ℤ) → ltZ x (pos 0) ≡ false → natural x ≡ mag x
+unfolding natural
+natural-above (pos n) e = refl
+natural-above (negsuc n) e = absurd (some n e)
+
+pub grown-below : (base k : ℕ) (x : ℤ) → ltZ x (pos 0) ≡ true → grown base k x ≡ base - k * (mag x + 1)
+unfolding grown
+grown-below base k (pos n) e = absurd (none n e)
+grown-below base k (negsuc n) e = rw (add-one n)
+
+pub grown-above : (base k : ℕ) (x : ℤ) → ltZ x (pos 0) ≡ false → grown base k x ≡ base + k * mag x
+unfolding grown
+grown-above base k (pos n) e = refl
+grown-above base k (negsuc n) e = absurd (some n e)

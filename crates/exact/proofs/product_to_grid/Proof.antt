@@ -1,0 +1,55 @@
+-- `product_to_grid` meets its contract: the ranges keep p·a and d·g within 64 bits and the figure too; the rest is `half_up_wide`'s. Assumes nothing.
+use Prim.Native.Nat.{ℕ, _*_, _^_, _≤_, _<_}
+use native.Mathlib.Nat.{mul-le-mul, lt-of-mul-lt-mul-right}
+use native.Mathlib.Omega.{arith}
+use Rattle.paper.specs.Numbers.{hundred, priceMost}
+use Rattle.paper.specs.Roundings.{halfUp, toGrid}
+use Rattle.exact.specs.Wide.{spreadMost, yearMost, scaleLeast, scaleMost}
+use Rattle.exact.proofs.Quotients.{grid-low}
+use Rattle.exact.proofs.product_to_grid.Statement.{statement}
+use Rattle.exact.proofs.product_to_grid.Tie as tie
+
+-- the bounds of the products, from the ranges
+record Bounds (g p a b d : ℕ) : Type 0 where
+  pa : p * a ≤ priceMost * spreadMost
+  pab : p * a * b ≤ priceMost * spreadMost * yearMost
+  dg : d * g ≤ scaleMost * hundred
+  dg-low : scaleLeast * 1 ≤ d * g
+
+bounds : (c : tie.Start) → Bounds (c .args .g) (c .args .p) (c .args .a) (c .args .b) (c .args .d)
+bounds c =
+    let r = c .pre in
+    record {
+      pa = mul-le-mul (r .price) (r .first);
+      pab = mul-le-mul (mul-le-mul (r .price) (r .first)) (r .second);
+      dg = mul-le-mul (r .high) (r .coarse);
+      dg-low = mul-le-mul (r .low) (r .grid);
+    }
+
+mul-half-up-wide : tie.Need-mul-half-up-wide
+mul-half-up-wide c = omega (arith, bounds c)
+
+mul-half-up-wide-2 : tie.Need-mul-half-up-wide-2
+mul-half-up-wide-2 c = omega (arith, bounds c)
+
+half-up-wide-requires : tie.Need-half-up-wide-requires
+half-up-wide-requires c κs = omega (arith, bounds c)
+
+mul-result : tie.Need-mul-result
+mul-result c =
+    let s = c .before in
+    let g = s .args .g in
+    let n : ℕ = s .args .p * s .args .a * s .args .b in
+    let d = s .args .d in
+    let low = grid-low g n d (s .pre .grid) (omega (arith, s .pre .low)) in
+    let small : halfUp n (d * g) * g < 2 ^ 63 = lt-of-mul-lt-mul-right d {m = halfUp n (d * g) * g} {n = 2 ^ 63} (omega (arith, bounds s)) in
+    rw (c .half-up-wide .ensures) (omega arith)
+
+returns : tie.Need-returns
+unfolding toGrid
+returns c = rw (c .half-up-wide .ensures)
+
+pub product-to-grid-spec : {M : Type 1} → statement M
+product-to-grid-spec =
+    tie.close
+    (tie.spec mul-half-up-wide mul-half-up-wide-2 half-up-wide-requires mul-result returns)

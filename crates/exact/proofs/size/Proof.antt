@@ -1,0 +1,30 @@
+-- `size` meets its contract: by the sign, -1 - x or x is a natural number that fits, and it is the size. Assumes nothing.
+use lib.IntN.{negsuc, _-ℤ_}
+use mir.Facts.{toZ-ofZ}
+use Rattle.exact.proofs.Sign.{Arm, size-below, size-above}
+use Rattle.exact.proofs.size.Statement.{statement}
+use Rattle.exact.proofs.size.Tie as tie
+
+below : (c : tie.Then1) → Arm (negsuc 0 -ℤ c .before .args .x) (c .before .args .x)
+below c = size-below _ (c .before .fits .x) (rw (toZ-ofZ (c .before .fits .x)) at (c .if1 .taken))
+
+above : (c : tie.Else1) → Arm (c .before .args .x) (c .before .args .x)
+above c = size-above _ (c .before .fits .x) (rw (toZ-ofZ (c .before .fits .x)) at (c .if1 .left))
+
+sub-result : tie.Need-sub-result
+sub-result c = rw (toZ-ofZ (c .before .fits .x)) (below c .signed)
+
+cast-result : tie.Need-cast-result
+cast-result c = rw (toZ-ofZ (c .before .fits .x), toZ-ofZ (below c .signed)) (below c .cast)
+
+cast-result-2 : tie.Need-cast-result-2
+cast-result-2 c = rw (toZ-ofZ (c .before .fits .x)) (above c .cast)
+
+returns : tie.Need-returns
+returns c = rw (toZ-ofZ (c .before .fits .x), toZ-ofZ (below c .signed)) (below c .is)
+
+returns-2 : tie.Need-returns-2
+returns-2 c = rw (toZ-ofZ (c .before .fits .x)) (above c .is)
+
+pub size-spec : {M : Type 1} → statement M
+size-spec = tie.close (tie.spec sub-result cast-result cast-result-2 returns returns-2)

@@ -1,0 +1,50 @@
+-- Laws of signed numbers for those who read a day: their order, and how far a term's repo rate moves a base. Assumes
+-- nothing.
+use mathlib.Core.Path.{_≡_, refl}
+use mathlib.Core.Bool.{Bool, true, false}
+use Prim.Native.Nat.{ℕ, suc, _+_, _*_, _^_, _≤_, _<_}
+use native.Mathlib.Nat.{mul-le-mul, le-trans}
+use native.Mathlib.Omega.{arith}
+use lib.IntN.{ℤ, pos, negsuc}
+use lib.Signed.{mag, leZ}
+use borrow.Author.Tests.{leb-true, le-leb}
+use Rattle.paper.specs.Numbers.{whole, termDaysMost, repoLeast, repoMost}
+use Rattle.paper.specs.Roundings.{grown}
+use Rattle.paper.proofs.Logic.{clash}
+
+-- ---- order
+
+pub order-trans : (a b c : ℤ) → leZ a b ≡ true → leZ b c ≡ true → leZ a c ≡ true
+order-trans (pos a) (pos b) (pos c) p q = le-leb a c (le-trans (leb-true a b p) (leb-true b c q))
+order-trans (pos a) (pos b) (negsuc c) p q = q
+order-trans (pos a) (negsuc b) c p q = absurd (clash false p refl)
+order-trans (negsuc a) b (pos c) p q = refl
+order-trans (negsuc a) (pos b) (negsuc c) p q = absurd (clash false q refl)
+order-trans (negsuc a) (negsuc b) (negsuc c) p q = le-leb c a (le-trans (leb-true c b q) (leb-true b a p))
+
+-- "-9,999..9,999 bp"
+pub repo-size : (x : ℤ) → leZ repoLeast x ≡ true → leZ x repoMost ≡ true → mag x ≤ mag repoMost
+repo-size (pos n) low high = leb-true n 9999 high
+repo-size (negsuc n) low high = let l : n ≤ 9998 = leb-true n 9998 low in omega arith
+
+-- ---- base + k·rate
+
+-- a term's days at less than the whole each: 300,000
+abbrev pub growthMost : ℕ
+growthMost = termDaysMost * whole
+
+-- base + k·rate stays above 0 and fits 64 bits
+pub record Grows (base k : ℕ) (rate : ℤ) : Type 0 where
+  pub days : k ≤ termDaysMost
+  pub size : mag rate ≤ mag repoMost
+  pub least : growthMost ≤ base
+  pub most : base ≤ 2 ^ 62
+
+-- k·rate moves base by at most 300,000 either way
+pub grown-range : (base k : ℕ) (x : ℤ) → k ≤ termDaysMost → mag x ≤ mag repoMost
+    → (grown base k x ≤ base + growthMost) × (base ≤ grown base k x + growthMost)
+unfolding grown
+grown-range base k (pos n) hk h = omega (arith, mul-le-mul hk h)
+grown-range base k (negsuc n) hk h =
+    let more : suc n ≤ whole = omega arith in
+    omega (arith, mul-le-mul hk more)

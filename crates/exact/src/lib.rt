@@ -1,0 +1,178 @@
+// Whole-number arithmetic that loses nothing: the roundings of document 01, "Places of rounding", the least root of clause 7.1, and signed
+// numbers. Every result is a definition of `paper`, for every input that its callers can have.
+ghost use mathlib.Core.Path.{_≡_};
+ghost use Prim.Native.Nat.{_+_, _*_, _/_, _%_, _^_, _≤_, _<_, min, max};
+ghost use lib.Signed.{mag};
+ghost use Rattle.paper.specs.Numbers.{whole};
+ghost use Rattle.paper.specs.Roundings.{up, halfUp, toGrid, grown};
+ghost use Rattle.paper.specs.Least.{leastRoot};
+ghost use Rattle.paper.specs.Ranges.{withinZ, natural};
+ghost use Rattle.exact.specs.Wide.{Divides, LimitRange};
+ghost use Rattle.exact.specs.SignedLaws.{Grows};
+
+// ---- the roundings
+
+// n/d rounded up, as at places (e) and (f). Nothing is added to n, so that every n can be rounded.
+pub fn up(n: u64, d: u64) -> u64
+    requires { ⌜ 0 < d ⌝ }
+    ensures { λ r. ⌜ r ≡ up n d ⌝ }
+{
+    let q = n / d;
+    if n % d == 0 { q } else { q + 1 }
+}
+
+// n/d to the nearest whole number, a tie up, as at places (a), (b) and (c). Nothing is doubled: the sums of place (c) reach 1.6·10^19.
+pub fn half_up(n: u64, d: u64) -> u64
+    requires { ⌜ 0 < d ⌝ }
+    ensures { λ r. ⌜ r ≡ halfUp n d ⌝ }
+{
+    let q = n / d;
+    let r = n % d;
+    if r < d - r { q } else { q + 1 }
+}
+
+// n/d to the nearest multiple of g, a tie up, as at places (d) and (g).
+pub fn to_grid(g: u64, n: u64, d: u64) -> u64
+    requires { ⌜ (0 < g) × (0 < d) × (n + d * g < 2 ^ 64) ⌝ }
+    ensures { λ r. ⌜ r ≡ toGrid g n d ⌝ }
+{
+    half_up(n, d * g) * g
+}
+
+// ---- products that do not fit 64 bits
+
+// A quotient and its remainder.
+struct Division {
+    quot: u64,
+    rest: u64,
+}
+
+// A factor is taken in two digits of 11 bits.
+const DIGIT: u64 = 2_048;
+
+// x·n divided by e. With x = q·e + r the product is q·n·e + r·n, and r·n is divided by the digits of n.
+fn divide_product(x: u64, n: u64, e: u64) -> Division
+    requires { ⌜ Divides x n e ⌝ }
+    ensures { λ s. ⌜ (s .quot ≡ x * n / e) × (s .rest ≡ x * n % e) ⌝ }
+{
+    let q = x / e;
+    let r = x % e;
+    let high = r * (n / DIGIT);
+    let low = high % e * DIGIT + r * (n % DIGIT);
+    Division {
+        quot: q * n + high / e * DIGIT + low / e,
+        rest: low % e,
+    }
+}
+
+// x·n/e to the nearest whole number, a tie up: the row price of place (a).
+pub fn half_up_wide(x: u64, n: u64, e: u64) -> u64
+    requires { ⌜ Divides x n e ⌝ }
+    ensures { λ r. ⌜ r ≡ halfUp (x * n) e ⌝ }
+{
+    let s = divide_product(x, n, e);
+    if s.rest < e - s.rest {
+        s.quot
+    } else {
+        s.quot + 1
+    }
+}
+
+// p·a·b/d to the nearest multiple of g, a tie up, rounded once: the monitored band limit of place (g).
+pub fn product_to_grid(g: u64, p: u64, a: u64, b: u64, d: u64) -> u64
+    requires { ⌜ LimitRange g p a b d ⌝ }
+    ensures { λ r. ⌜ r ≡ toGrid g (p * a * b) d ⌝ }
+{
+    half_up_wide(p * a, b, d * g) * g
+}
+
+// ---- the least root
+
+// The bits of a root: 2^20 is above every volatility.
+const ROOT_BITS: u64 = 20;
+
+// x·2^k, by a shift.
+fn shl(x: u64, k: u64) -> u64
+    requires { ⌜ (k < 64) × (x * 2 ^ k < 2 ^ 64) ⌝ }
+    ensures { λ r. ⌜ r ≡ x * 2 ^ k ⌝ }
+{
+    x << k
+}
+
+// The least x with w·x² >= n (7.1). The bits of the greatest x with w·x² < n are found from the top, in at most 20 turns without a product:
+// x is what is found so far, wx and sq are w·x and w·x².
+pub fn least_root(w: u64, n: u64) -> u64
+    requires { ⌜ (0 < w) × (w ≤ whole) × (n ≤ w * 2 ^ 40) ⌝ }
+    ensures { λ r. ⌜ r ≡ leastRoot w n ⌝ }
+{
+    if n == 0 {
+        return 0;
+    }
+    let mut x: u64 = 0;
+    let mut wx: u64 = 0;
+    let mut sq: u64 = 0;
+    let mut k: u64 = ROOT_BITS;
+    while 0 < k {
+        k -= 1;
+        let next = sq + shl(wx, k + 1) + shl(w, k + k);
+        if next < n {
+            sq = next;
+            wx += shl(w, k);
+            x += shl(1, k);
+        }
+    }
+    x + 1
+}
+
+// ---- signed numbers
+
+// The number that no range of the paper holds.
+const PAST_EVERY: u64 = 18_446_744_073_709_551_615;
+
+// Whether low <= x <= high.
+pub fn is_within(low: i64, high: i64, x: i64) -> bool
+    ensures { λ r. ⌜ r ≡ withinZ low high x ⌝ }
+{
+    low <= x && x <= high
+}
+
+// n where x is n or -(n + 1). Every other function leaves the sign to this one.
+pub fn size(x: i64) -> u64
+    ensures { λ r. ⌜ r ≡ mag x ⌝ }
+{
+    if x < 0 { (-1 - x) as u64 } else { x as u64 }
+}
+
+// A number of a range that begins at 0 or above; one below zero is out of every such range.
+pub fn natural(x: i64) -> u64
+    ensures { λ r. ⌜ r ≡ natural x ⌝ }
+{
+    if x < 0 { PAST_EVERY } else { size(x) }
+}
+
+// base + k·rate for a rate of either sign: a year's days with the repo rate of k of them, at places (a) and (g).
+pub fn grow(base: u64, k: u64, rate: i64) -> u64
+    requires { ⌜ Grows base k rate ⌝ }
+    ensures { λ r. ⌜ r ≡ grown base k rate ⌝ }
+{
+    let n = size(rate);
+    if rate < 0 {
+        base - k * (n + 1)
+    } else {
+        base + k * n
+    }
+}
+
+// ---- the lesser and the greater
+
+pub fn lesser(a: u64, b: u64) -> u64
+    ensures { λ r. ⌜ r ≡ min a b ⌝ }
+{
+    if a < b { a } else { b }
+}
+
+pub fn greater(a: u64, b: u64) -> u64
+    ensures { λ r. ⌜ r ≡ max a b ⌝ }
+{
+    if a < b { b } else { a }
+}

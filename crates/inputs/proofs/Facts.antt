@@ -1,0 +1,250 @@
+-- What the range tests say in plain numbers: of each test of the paper that passed, a record of the facts that a rule may use. Assumes
+-- nothing.
+use mathlib.Core.Path.{_≡_}
+use mathlib.Core.Bool.{true, _&&_}
+use mathlib.Core.List.{List}
+use Prim.Native.Nat.{ℕ, _%_, _≤_, _<_}
+use native.Mathlib.Omega.{arith}
+use lib.Dec.{leb, eqb}
+use lib.IntN.{ℤ, pos, negsuc, natAbs}
+use lib.Signed.{leZ, mag}
+use borrow.Author.Tests.{leb-true, eqb-true}
+use Rattle.paper.specs.declared.Statics.{Statics}
+use Rattle.paper.specs.declared.Given.{Given}
+use Rattle.paper.specs.declared.Term.{Term}
+use Rattle.paper.specs.declared.Admission.{Admission}
+use Rattle.paper.specs.declared.Day.{Day}
+use Rattle.paper.specs.declared.Quote.{Quote}
+use Rattle.paper.specs.Lists.{allThree}
+use Rattle.paper.specs.Numbers.{priceLeast, priceMost, rateMost, volatilityMost, lotMost, stepMost, multiplierLeast, multiplierMost, weightMost, waitMost, firstDaysMost, daysMost, liquidityMost, divisorLeast, divisorMost, shiftMost, nearnessMost, secondsMost, idMost, dayMost, secondLast, behindMost, aheadMost, termDaysMost, repoLeast, repoMost, termLast, quoteMost}
+use Rattle.paper.specs.Ranges.{within, isPrice, isRate, gridOf, isGridPrice, validStatics, staticsOf, validGiven, validTentative, validAdmission, validTerm, termAt, validQuote, validSide}
+use Rattle.paper.proofs.Logic.{and-left, and-right}
+use Rattle.inputs.specs.Parts.{validDayNumbers}
+use Rattle.inputs.proofs.Tests.{each-of-three, leZ-trans}
+
+-- ---- ranges and multiples
+
+-- "low..high"
+pub record Within (low high x : ℕ) : Type 0 where
+  pub least : low ≤ x
+  pub most : x ≤ high
+
+pub within-facts : (low high x : ℕ) → within low high x ≡ true → Within low high x
+within-facts low high x v =
+    record {
+      least = leb-true _ _ (and-left (leb low x) (leb x high) v);
+      most = leb-true _ _ (and-right (leb low x) (leb x high) v);
+    }
+
+-- a multiple of a step, up to a most
+pub record MultipleTo (high step x : ℕ) : Type 0 where
+  pub most : x ≤ high
+  pub multiple : x % step ≡ 0
+
+pub multiple-facts : (high step x : ℕ) → (leb x high && eqb (x % step) 0) ≡ true → MultipleTo high step x
+multiple-facts high step x v =
+    record {
+      most = leb-true _ _ (and-left (leb x high) (eqb (x % step) 0) v);
+      multiple = eqb-true _ _ (and-right (leb x high) (eqb (x % step) 0) v);
+    }
+
+-- ---- prices and rates
+
+pub price-facts : (p : ℕ) → isPrice p ≡ true → Within priceLeast priceMost p
+unfolding isPrice
+price-facts p v = within-facts _ _ p v
+
+pub record GridPrice (g p : ℕ) : Type 0 where
+  pub price : Within priceLeast priceMost p
+  pub multiple : p % g ≡ 0
+
+pub grid-price-facts : (g p : ℕ) → isGridPrice g p ≡ true → GridPrice g p
+unfolding isGridPrice
+grid-price-facts g p v =
+    record {
+      price = price-facts p (and-left _ (eqb (p % g) 0) v);
+      multiple = eqb-true _ _ (and-right (isPrice p) _ v);
+    }
+
+pub rate-most : (bp : ℕ) → isRate bp ≡ true → bp ≤ rateMost
+unfolding isRate
+rate-most bp v = leb-true _ _ v
+
+-- ---- statics
+
+-- the table of statics
+pub record StaticsFacts (st : Statics) : Type 0 where
+  pub lot : Within 1 lotMost (st .lot)
+  pub h : Within 1 stepMost (st .h)
+  pub q : Within multiplierLeast multiplierMost (st .q)
+  pub aup : st .aup ≤ weightMost
+  pub adown : st .adown ≤ weightMost
+  pub wait : Within 1 waitMost (st .wait)
+  pub rh1 : Within 1 firstDaysMost (st .rh1)
+  pub rh1-rh2 : st .rh1 ≤ st .rh2
+  pub rh2-rh3 : st .rh2 ≤ st .rh3
+  pub rh3 : st .rh3 ≤ daysMost
+  pub liq : st .liq ≤ liquidityMost
+  pub min1-min2 : st .min1 ≤ st .min2
+  pub min2-min3 : st .min2 ≤ st .min3
+  pub min3-smax : st .min3 ≤ st .smax
+  pub smax : st .smax ≤ rateMost
+  pub min1-multiple : st .min1 % st .h ≡ 0
+  pub min2-multiple : st .min2 % st .h ≡ 0
+  pub min3-multiple : st .min3 % st .h ≡ 0
+  pub smax-multiple : st .smax % st .h ≡ 0
+  pub xpr : Within divisorLeast divisorMost (st .xpr)
+  pub shift : Within 1 shiftMost (st .shift)
+  pub pchmax : st .pchmax ≤ rateMost
+  pub pclmax : st .pclmax ≤ rateMost
+  pub w : st .w ≤ nearnessMost
+  pub u : Within 1 secondsMost (st .u)
+
+pub statics-facts : (st : Statics) → validStatics st ≡ true → StaticsFacts st
+unfolding validStatics
+statics-facts st v =
+    record {
+      lot = within-facts _ _ _ (search (v, and-left, and-right) depth 40);
+      h = within-facts _ _ _ (search (v, and-left, and-right) depth 40);
+      q = within-facts _ _ _ (search (v, and-left, and-right) depth 40);
+      aup = leb-true _ _ (search (v, and-left, and-right) depth 40);
+      adown = leb-true _ _ (search (v, and-left, and-right) depth 40);
+      wait = within-facts _ _ _ (search (v, and-left, and-right) depth 40);
+      rh1 = within-facts _ _ _ (search (v, and-left, and-right) depth 40);
+      rh1-rh2 = leb-true _ _ (search (v, and-left, and-right) depth 40);
+      rh2-rh3 = leb-true _ _ (search (v, and-left, and-right) depth 40);
+      rh3 = leb-true _ _ (search (v, and-left, and-right) depth 40);
+      liq = leb-true _ _ (search (v, and-left, and-right) depth 40);
+      min1-min2 = leb-true _ _ (search (v, and-left, and-right) depth 40);
+      min2-min3 = leb-true _ _ (search (v, and-left, and-right) depth 40);
+      min3-smax = leb-true _ _ (search (v, and-left, and-right) depth 40);
+      smax = leb-true _ _ (search (v, and-left, and-right) depth 40);
+      min1-multiple = eqb-true _ _ (search (v, and-left, and-right) depth 40);
+      min2-multiple = eqb-true _ _ (search (v, and-left, and-right) depth 40);
+      min3-multiple = eqb-true _ _ (search (v, and-left, and-right) depth 40);
+      smax-multiple = eqb-true _ _ (search (v, and-left, and-right) depth 40);
+      xpr = within-facts _ _ _ (search (v, and-left, and-right) depth 40);
+      shift = within-facts _ _ _ (search (v, and-left, and-right) depth 40);
+      pchmax = leb-true _ _ (search (v, and-left, and-right) depth 40);
+      pclmax = leb-true _ _ (search (v, and-left, and-right) depth 40);
+      w = leb-true _ _ (search (v, and-left, and-right) depth 40);
+      u = within-facts _ _ _ (search (v, and-left, and-right) depth 40);
+    }
+
+pub statics-step : (st : Statics) → validStatics st ≡ true → 0 < st .h
+statics-step st v = statics-facts st v .h .least
+
+pub given-statics : (g : Given) → validGiven g ≡ true → validStatics (staticsOf g) ≡ true
+unfolding validGiven
+given-statics g v = and-left _ _ (and-left _ _ v)
+
+pub tentative-facts : (st : Statics) (tentative : ℕ) → validTentative st tentative ≡ true → MultipleTo (st .smax) (st .h) tentative
+unfolding validTentative
+tentative-facts st tentative v = multiple-facts _ _ tentative v
+
+-- ---- an admission
+
+-- of the figures that an admission gives and a record keeps
+pub record FiguresFacts (st : Statics) (day p1 p2 s tentative : ℕ) : Type 0 where
+  pub day-most : day ≤ dayMost
+  pub later : GridPrice (gridOf (st .lot)) p1
+  pub earlier : GridPrice (gridOf (st .lot)) p2
+  pub s-most : s ≤ volatilityMost
+  pub held : MultipleTo (st .smax) (st .h) tentative
+
+pub record AdmissionFacts (a : Admission) : Type 0 where
+  pub id : Within 1 idMost (a .id)
+  pub valid : validStatics (staticsOf (a .given)) ≡ true
+  pub statics : StaticsFacts (staticsOf (a .given))
+  pub figures : FiguresFacts (staticsOf (a .given)) (a .day) (a .p1) (a .p2) (a .s) (a .tentative)
+
+pub admission-facts : (a : Admission) → validAdmission a ≡ true → AdmissionFacts a
+unfolding validAdmission staticsOf
+admission-facts a v =
+    let valid = given-statics (a .given) (search (v, and-left, and-right) depth 40) in
+    record {
+      id = within-facts _ _ _ (search (v, and-left, and-right) depth 40);
+      valid = valid;
+      statics = statics-facts _ valid;
+      figures =
+          record {
+            day-most = leb-true _ _ (search (v, and-left, and-right) depth 40);
+            later = grid-price-facts _ _ (search (v, and-left, and-right) depth 40);
+            earlier = grid-price-facts _ _ (search (v, and-left, and-right) depth 40);
+            s-most = leb-true _ _ (search (v, and-left, and-right) depth 40);
+            held = tentative-facts (staticsOf (a .given)) _ (search (v, and-left, and-right) depth 40);
+          };
+    }
+
+-- ---- a day
+
+-- how far from 0 a repo rate in range lies: at most 9,999
+pub record RepoFacts (x : ℤ) : Type 0 where
+  pub size : natAbs x ≤ natAbs repoMost
+  pub mag-most : mag x ≤ natAbs repoMost
+
+pub repo-facts : (x : ℤ) → leZ repoLeast x ≡ true → leZ x repoMost ≡ true → RepoFacts x
+repo-facts (pos n) l h = record { size = leb-true n 9999 h; mag-most = leb-true n 9999 h }
+repo-facts (negsuc n) l h =
+    record { size = omega (arith, leb-true n 9998 l); mag-most = omega (arith, leb-true n 9998 l) }
+
+pub record TermFacts (x : Term) : Type 0 where
+  pub k-most : x .k ≤ termDaysMost
+  pub low : RepoFacts (x .low)
+  pub high : RepoFacts (x .high)
+  pub ordered : leZ (x .low) (x .high) ≡ true
+
+pub term-facts : (x : Term) → validTerm x ≡ true → TermFacts x
+unfolding validTerm
+term-facts x v =
+    let least : leZ repoLeast (x .low) ≡ true = search (v, and-left, and-right) depth 40 in
+    let ordered : leZ (x .low) (x .high) ≡ true = search (v, and-left, and-right) depth 40 in
+    let most : leZ (x .high) repoMost ≡ true = search (v, and-left, and-right) depth 40 in
+    record {
+      k-most = leb-true _ _ (search (v, and-left, and-right) depth 40);
+      low = repo-facts (x .low) least (leZ-trans (x .low) (x .high) repoMost ordered most);
+      high = repo-facts (x .high) (leZ-trans repoLeast (x .low) (x .high) least ordered) most;
+      ordered = ordered;
+    }
+
+-- of each of three terms
+pub terms-facts : (terms : List Term) → allThree (λ k. validTerm (termAt terms k)) ≡ true → (k : ℕ) → k < 3 → TermFacts (termAt terms k)
+terms-facts terms v k l = term-facts _ (each-of-three (λ k. validTerm (termAt terms k)) v k l)
+
+pub record DayFacts (d : Day) : Type 0 where
+  pub day-most : d .day ≤ dayMost
+  pub b-most : d .b ≤ behindMost
+  pub m-most : d .m ≤ aheadMost
+  pub terms : (k : ℕ) → k < 3 → TermFacts (termAt (d .terms) k)
+
+pub day-facts : (d : Day) → validDayNumbers d ≡ true → DayFacts d
+unfolding validDayNumbers
+day-facts d v =
+    record {
+      day-most = leb-true _ _ (search (v, and-left, and-right) depth 40);
+      b-most = leb-true _ _ (search (v, and-left, and-right) depth 40);
+      m-most = leb-true _ _ (search (v, and-left, and-right) depth 40);
+      terms = terms-facts (d .terms) (and-right (leb (d .day) dayMost && leb (d .b) behindMost && leb (d .m) aheadMost) _ v);
+    }
+
+-- ---- a quote and a move
+
+pub record QuoteFacts (q : Quote) : Type 0 where
+  pub second-last : q .second ≤ secondLast
+  pub term-last : q .term ≤ termLast
+  pub bid-most : q .bid ≤ quoteMost
+  pub ask-most : q .ask ≤ quoteMost
+
+pub quote-facts : (q : Quote) → validQuote q ≡ true → QuoteFacts q
+unfolding validQuote
+quote-facts q v =
+    record {
+      second-last = leb-true _ _ (search (v, and-left, and-right) depth 40);
+      term-last = leb-true _ _ (search (v, and-left, and-right) depth 40);
+      bid-most = leb-true _ _ (search (v, and-left, and-right) depth 40);
+      ask-most = leb-true _ _ (search (v, and-left, and-right) depth 40);
+    }
+
+pub side-most : (side : ℕ) → validSide side ≡ true → side ≤ 1
+unfolding validSide
+side-most side v = leb-true _ _ v

@@ -1,0 +1,18 @@
+-- `inputs::valid_given` meets its contract: the statics are made by `statics_of` and judged by `valid_statics`. Assumes nothing.
+use borrow.Author.Needs.{needs}
+use Rattle.paper.specs.Ranges.{validGiven}
+use Rattle.inputs.proofs.statics.valid_given.Statement.{statement}
+use Rattle.inputs.proofs.statics.valid_given.Tie as tie
+
+statics-of-requires : tie.Need-statics-of-requires
+statics-of-requires c κs = search needs
+
+valid-statics-requires : tie.Need-valid-statics-requires
+valid-statics-requires c κs = search needs
+
+returns : tie.Need-returns
+unfolding validGiven
+returns c = rw (c .before .before .valid-statics .ensures, c .before .before .before .statics-of .ensures)
+
+pub valid-given-spec : {M : Type 1} → statement M
+valid-given-spec = tie.close (tie.spec statics-of-requires valid-statics-requires returns)

@@ -1,0 +1,61 @@
+-- `limits::band_limit` meets its contract: the narrower of the two rounded is the narrower rounded. Assumes nothing.
+use mathlib.Core.Path.{_≡_, sym, ap, _∙_}
+use Prim.Native.Nat.{ℕ}
+use mir.Facts.{toZ-ofZ}
+use borrow.Author.Needs.{needs}
+use Rattle.paper.specs.Limits.{rangeLimit}
+use Rattle.limits.specs.Sides.{farthestRate}
+use Rattle.limits.specs.LimitRanges.{limit-statics}
+use Rattle.limits.specs.LimitLaws.{farthest-high, band-monitored, band-unmonitored}
+use Rattle.limits.proofs.band_limit.Statement.{statement}
+use Rattle.limits.proofs.band_limit.Tie as tie
+
+farthest-rate-requires : tie.Need-farthest-rate-requires
+farthest-rate-requires c κs = search needs
+
+range-limit-requires : tie.Need-range-limit-requires
+range-limit-requires c κs =
+    let s = c .before in
+    let v = limit-statics (s .args .st) (s .pre .0) in
+    rw (c .farthest-rate .ensures)
+    (record { price = s .pre .1 .price; rate-high = farthest-high (s .args .st) (s .args .side) v })
+
+monitored-limit-requires : tie.Need-monitored-limit-requires
+monitored-limit-requires c κs = search needs
+
+narrower-requires : tie.Need-narrower-requires
+narrower-requires c κs = search needs
+
+-- the farthest limit
+abbrev Far : tie.Start → ℕ
+Far s = rangeLimit (s .args .st) (s .args .side) (s .args .p) (farthestRate (s .args .st) (s .args .side))
+
+far : (c : tie.After-range-limit) → c .range-limit .result ≡ Far (c .before .before)
+far c =
+    let a = c .before .before .args in
+    c .range-limit .ensures ∙ ap (rangeLimit (a .st) (a .side) (a .p)) (c .before .farthest-rate .ensures)
+
+returns : tie.Need-returns
+returns c =
+    let m = c .before in
+    let s = m .before .before .before .before in
+    let a = s .args in
+    let v = limit-statics (a .st) (s .pre .0) in
+    rw (c .narrower .ensures, far (m .before .before), m .monitored-limit .ensures, toZ-ofZ (s .fits .repo))
+    (sym (band-monitored (a .st) (a .side) (a .p) (a .s1) (a .c) (a .k) (a .repo) v (m .before .if1 .taken)))
+
+returns-2 : tie.Need-returns-2
+returns-2 c =
+    let a = c .before .before .before .args in
+    far (c .before) ∙ sym (band-unmonitored (a .st) (a .side) (a .p) (a .s1) (a .c) (a .k) (a .repo) (c .if1 .left))
+
+pub band-limit-spec : {M : Type 1} → statement M
+band-limit-spec =
+    tie.close
+    (tie.spec
+    farthest-rate-requires
+    range-limit-requires
+    monitored-limit-requires
+    narrower-requires
+    returns
+    returns-2)

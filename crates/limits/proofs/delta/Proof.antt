@@ -1,0 +1,51 @@
+-- `limits::delta` meets its contract: the quotient of the definition, rounded once. The products fit by the ranges. Assumes nothing.
+use native.Mathlib.Omega.{arith}
+use borrow.Author.Needs.{needs}
+use Rattle.paper.specs.Limits.{deltaOf, limitOf}
+use Rattle.limits.specs.LimitRanges.{LimitStatics, limit-statics}
+use Rattle.limits.specs.LimitLaws.{grid-range}
+use Rattle.limits.specs.LimitBounds.{DeltaSizes, delta-sizes}
+use Rattle.limits.proofs.delta.Statement.{statement}
+use Rattle.limits.proofs.delta.Tie as tie
+
+statics : (c : tie.Start) → LimitStatics (c .args .st)
+statics c = limit-statics (c .args .st) (c .pre .0)
+
+sizes : (c : tie.Start) → DeltaSizes (c .args .st) (c .args .p) (c .args .s1)
+sizes c = delta-sizes (c .args .st) (c .args .p) (c .args .s1) (statics c) (c .pre .1)
+
+grid-of-requires : tie.Need-grid-of-requires
+grid-of-requires c κs = search needs
+
+mul-to-grid : tie.Need-mul-to-grid
+mul-to-grid c = omega (arith, sizes (c .before .before) .shift)
+
+mul-to-grid-2 : tie.Need-mul-to-grid-2
+mul-to-grid-2 c = omega (arith, sizes (c .before .before) .rates)
+
+mul-to-grid-3 : tie.Need-mul-to-grid-3
+mul-to-grid-3 c = omega (arith, sizes (c .before .before) .num)
+
+mul-to-grid-4 : tie.Need-mul-to-grid-4
+mul-to-grid-4 c = omega (arith, statics (c .before .before .before) .divisor-high)
+
+to-grid-requires : tie.Need-to-grid-requires
+to-grid-requires c κs =
+    let s = c .before .before .before in
+    rw (c .before .before .grid-of .ensures) (omega (arith, grid-range (s .args .st .lot), statics s, sizes s))
+
+returns : tie.Need-returns
+unfolding deltaOf limitOf
+returns c = rw (c .to-grid .ensures, c .before .before .before .grid-of .ensures)
+
+pub delta-spec : {M : Type 1} → statement M
+delta-spec =
+    tie.close
+    (tie.spec
+    grid-of-requires
+    mul-to-grid
+    mul-to-grid-2
+    mul-to-grid-3
+    mul-to-grid-4
+    to-grid-requires
+    returns)

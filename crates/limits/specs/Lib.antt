@@ -1,0 +1,4 @@
+pub mod Sides
+pub mod LimitRanges
+pub mod LimitLaws
+pub mod LimitBounds

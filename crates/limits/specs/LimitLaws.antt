@@ -1,0 +1,108 @@
+-- Laws of the limits: how far their parts reach, and that the narrower of two limits can be taken after they are rounded. Assumes nothing.
+use mathlib.Core.Path.{_≡_, refl, sym, ap, _∙_}
+use mathlib.Core.Bool.{Bool, true, false}
+use Prim.Native.Nat.{ℕ, _+_, _-_, _*_, _≤_, _<_}
+use native.Mathlib.Nat.{mul-le-mul}
+use native.Mathlib.Omega.{arith}
+use lib.Dec.{leb}
+use lib.IntN.{ℤ}
+use Rattle.paper.specs.declared.Statics.{Statics}
+use Rattle.paper.specs.declared.Side.{Side}
+use Rattle.paper.specs.declared.Side.the-variants.{Upper, Lower}
+use Rattle.paper.specs.Lists.{pick}
+use Rattle.paper.specs.Numbers.{whole, hundred, priceMost, rateMost, shiftMost, movesMost}
+use Rattle.paper.specs.Roundings.{Quotient}
+use Rattle.paper.specs.Ranges.{gridOf}
+use Rattle.paper.specs.Limits.{limitOf, shifted, rangeLimit, farthest, spread, monitored, narrower, bandLimit}
+use Rattle.paper.proofs.Logic.{pick-true, pick-false}
+use Rattle.paper.proofs.Roundings.{lesser-rounded, greater-rounded}
+use Rattle.exact.specs.Wide.{spreadMost}
+use Rattle.limits.specs.Sides.{farthestRate, narrowerOf}
+use Rattle.limits.specs.LimitRanges.{LimitStatics, RangeInputs}
+
+-- ---- the grid
+
+-- g is 1, 10 or 100
+pub grid-range : (lot : ℕ) → (0 < gridOf lot) × (gridOf lot ≤ hundred)
+unfolding gridOf
+grid-range lot = go (leb lot 1) (leb lot 10)
+  where
+    go : (a b : Bool) → (0 < pick a 100 (pick b 10 1)) × (pick a 100 (pick b 10 1) ≤ hundred)
+    go true b = omega arith
+    go false true = omega arith
+    go false false = omega arith
+
+-- ---- quotients
+
+pub shifted-den : (side : Side) (p rate : ℕ) → shifted side p rate .den ≡ whole
+unfolding shifted
+shifted-den Upper p rate = refl
+shifted-den Lower p rate = refl
+
+pub shifted-high : (side : Side) (p rate : ℕ) → RangeInputs p rate → shifted side p rate .num ≤ priceMost * (whole + rateMost)
+unfolding shifted
+shifted-high Upper p rate r = let h : whole + rate ≤ whole + rateMost = omega (arith, r .rate-high) in mul-le-mul (r .price) h
+shifted-high Lower p rate r = let h : whole - rate ≤ whole + rateMost = omega arith in mul-le-mul (r .price) h
+
+pub farthest-high : (st : Statics) (side : Side) → LimitStatics st → farthestRate st side ≤ rateMost
+farthest-high st Upper s = s .upper-high
+farthest-high st Lower s = s .lower-high
+
+-- the farthest band limit is the range limit at that rate
+pub farthest-limit : (st : Statics) (side : Side) (p : ℕ) → rangeLimit st side p (farthestRate st side) ≡ limitOf st (farthest st side p)
+unfolding rangeLimit farthest
+farthest-limit st Upper p = refl
+farthest-limit st Lower p = refl
+
+-- ---- the spread
+
+-- e·S_1 of the ranges, in millionths
+pub away-high : (st : Statics) (s1 c : ℕ) → LimitStatics st → s1 ≤ rateMost → c ≤ movesMost
+    → (hundred + 2 * c * st .shift) * s1 ≤ (hundred + 2 * movesMost * shiftMost) * rateMost
+away-high st s1 c s r m =
+    let most : hundred + 2 * c * st .shift ≤ hundred + 2 * movesMost * shiftMost = omega (arith, mul-le-mul m (s .shift-high)) in
+    mul-le-mul most r
+
+pub spread-high : (st : Statics) (side : Side) (s1 c : ℕ) → LimitStatics st → s1 ≤ rateMost → c ≤ movesMost
+    → spread st side s1 c ≤ spreadMost
+unfolding spread
+spread-high st Upper s1 c s r m = omega (arith, s .divisor-high, away-high st s1 c s r m)
+spread-high st Lower s1 c s r m = omega (arith, s .divisor-high)
+
+-- ---- the narrower of two, rounded once, is the narrower of the two rounded
+
+pub narrower-rounded : (st : Statics) (side : Side) (x y : Quotient) → 0 < x .den → 0 < y .den
+    → limitOf st (narrower side x y) ≡ narrowerOf side (limitOf st x) (limitOf st y)
+unfolding limitOf narrower
+narrower-rounded st Upper x y p q = lesser-rounded (gridOf (st .lot)) x y (grid-range (st .lot) .0) p q
+narrower-rounded st Lower x y p q = greater-rounded (gridOf (st .lot)) x y (grid-range (st .lot) .0) p q
+
+-- ---- so a band limit is the narrower of the farthest limit and the monitored one; without monitoring it is the farthest
+
+farthest-positive : (st : Statics) (side : Side) (p : ℕ) → 0 < farthest st side p .den
+unfolding farthest shifted
+farthest-positive st Upper p = omega arith
+farthest-positive st Lower p = omega arith
+
+monitored-positive : (st : Statics) (side : Side) (p s1 c k : ℕ) (repo : ℤ) → LimitStatics st → 0 < monitored st side p s1 c k repo .den
+unfolding monitored
+monitored-positive st side p s1 c k repo s = omega (arith, s .divisor-low)
+
+pub band-monitored : (st : Statics) (side : Side) (p s1 c k : ℕ) (repo : ℤ) → LimitStatics st → st .monitoring ≡ true
+    → bandLimit st side p s1 c k repo
+    ≡ narrowerOf side (rangeLimit st side p (farthestRate st side)) (limitOf st (monitored st side p s1 c k repo))
+unfolding bandLimit
+band-monitored st side p s1 c k repo s e =
+    let x : Quotient = farthest st side p in
+    let y : Quotient = monitored st side p s1 c k repo in
+    ap (limitOf st) (pick-true (st .monitoring) (narrower side x y) x e)
+    ∙ narrower-rounded st side x y (farthest-positive st side p) (monitored-positive st side p s1 c k repo s)
+    ∙ ap (λ (z : ℕ). narrowerOf side z (limitOf st y)) (sym (farthest-limit st side p))
+
+pub band-unmonitored : (st : Statics) (side : Side) (p s1 c k : ℕ) (repo : ℤ) → st .monitoring ≡ false
+    → bandLimit st side p s1 c k repo ≡ rangeLimit st side p (farthestRate st side)
+unfolding bandLimit
+band-unmonitored st side p s1 c k repo e =
+    let x : Quotient = farthest st side p in
+    ap (limitOf st) (pick-false (st .monitoring) (narrower side x (monitored st side p s1 c k repo)) x e)
+    ∙ sym (farthest-limit st side p)

@@ -1,0 +1,122 @@
+-- What a limit is worked out in: the ranges of document 01 that the limit rules ask for. Each follows from a test of the paper. Assumes nothing.
+use mathlib.Core.Path.{_≡_}
+use mathlib.Core.Bool.{true}
+use Prim.Native.Nat.{ℕ, _≤_, _<_}
+use native.Mathlib.Omega.{arith}
+use lib.IntN.{ℤ}
+use lib.Signed.{mag}
+use borrow.Author.Tests.{leb-true}
+use Rattle.paper.specs.declared.Statics.{Statics}
+use Rattle.paper.specs.declared.Side.{Side}
+use Rattle.paper.specs.declared.Side.the-variants.{Upper, Lower}
+use Rattle.paper.specs.declared.Moves.{Moves}
+use Rattle.paper.specs.declared.Term.{Term}
+use Rattle.paper.specs.Numbers.{priceMost, rateMost, divisorLeast, divisorMost, shiftMost, movesMost, termDaysMost, repoLeast, repoMost}
+use Rattle.paper.specs.Ranges.{validStatics, validTerm, isPrice, isGridPrice, isRate}
+use Rattle.paper.specs.Limits.{countOf, oneMore}
+use Rattle.paper.specs.Gateway.{rangeInRange, bandInRange}
+use Rattle.paper.proofs.Logic.{and-left, and-right}
+use Rattle.exact.specs.SignedLaws.{order-trans, repo-size}
+use Rattle.limits.specs.Sides.{repoOf}
+
+-- ---- the ranges
+
+-- of the statics
+pub record LimitStatics (st : Statics) : Type 0 where
+  pub divisor-low : divisorLeast ≤ st .xpr
+  pub divisor-high : st .xpr ≤ divisorMost
+  pub shift-high : st .shift ≤ shiftMost
+  pub upper-high : st .pchmax ≤ rateMost
+  pub lower-high : st .pclmax ≤ rateMost
+
+pub limit-statics : (st : Statics) → validStatics st ≡ true → LimitStatics st
+unfolding validStatics
+limit-statics st v =
+    record {
+      divisor-low = leb-true _ _ (search (v, and-left, and-right) depth 40);
+      divisor-high = leb-true _ _ (search (v, and-left, and-right) depth 40);
+      shift-high = leb-true _ _ (search (v, and-left, and-right) depth 40);
+      upper-high = leb-true _ _ (search (v, and-left, and-right) depth 40);
+      lower-high = leb-true _ _ (search (v, and-left, and-right) depth 40);
+    }
+
+-- of a range limit, and of delta: the evaluation P and a rate
+pub record RangeInputs (p rate : ℕ) : Type 0 where
+  pub price : p ≤ priceMost
+  pub rate-high : rate ≤ rateMost
+
+-- of a band limit: the evaluation P, S_1, the moves c, the days k and that side's repo rate
+pub record BandInputs (p s1 c k : ℕ) (repo : ℤ) : Type 0 where
+  pub price : p ≤ priceMost
+  pub rate-high : s1 ≤ rateMost
+  pub moves-high : c ≤ movesMost
+  pub days : k ≤ termDaysMost
+  pub repo-high : mag repo ≤ mag repoMost
+
+-- of a term's band
+pub record TermInputs (p s1 : ℕ) (c : Moves) (x : Term) : Type 0 where
+  pub price : p ≤ priceMost
+  pub rate-high : s1 ≤ rateMost
+  pub upper-moves : c .upper ≤ movesMost
+  pub lower-moves : c .lower ≤ movesMost
+  pub term : validTerm x ≡ true
+
+-- ---- each side of a term's band is a band limit in range
+
+pub term-repo : (side : Side) (x : Term) → validTerm x ≡ true → mag (repoOf side x) ≤ mag repoMost
+unfolding validTerm
+term-repo Upper x v =
+    repo-size (x .high)
+    (order-trans repoLeast (x .low) (x .high) (search (v, and-left, and-right)) (search (v, and-left, and-right)))
+    (search (v, and-left, and-right))
+term-repo Lower x v =
+    repo-size (x .low) (search (v, and-left, and-right))
+    (order-trans (x .low) (x .high) repoMost (search (v, and-left, and-right)) (search (v, and-left, and-right)))
+
+pub term-days : (x : Term) → validTerm x ≡ true → x .k ≤ termDaysMost
+unfolding validTerm
+term-days x v = leb-true _ _ (search (v, and-left, and-right))
+
+moves-high : (p s1 : ℕ) (side : Side) (c : Moves) (x : Term) → TermInputs p s1 c x → countOf side c ≤ movesMost
+moves-high p s1 Upper c x r = r .upper-moves
+moves-high p s1 Lower c x r = r .lower-moves
+
+pub side-inputs : (p s1 : ℕ) (side : Side) (c : Moves) (x : Term) → TermInputs p s1 c x
+    → BandInputs p s1 (countOf side c) (x .k) (repoOf side x)
+side-inputs p s1 side c x r =
+    record {
+      price = r .price;
+      rate-high = r .rate-high;
+      moves-high = moves-high p s1 side c x r;
+      days = term-days x (r .term);
+      repo-high = term-repo side x (r .term);
+    }
+
+-- ---- a move below the fiftieth leaves both counts in range
+
+pub one-more-high : (side : Side) (c : Moves) → c .upper ≤ movesMost → c .lower ≤ movesMost → countOf side c < movesMost
+    → (oneMore side c .upper ≤ movesMost) × (oneMore side c .lower ≤ movesMost)
+unfolding oneMore
+one-more-high Upper c u l h = (omega arith, l)
+one-more-high Lower c u l h = (u, omega arith)
+
+-- ---- what the gateway tests is what its limits ask
+
+pub range-inputs : (st : Statics) (p rate side : ℕ) → rangeInRange st p rate side ≡ true → RangeInputs p rate
+unfolding rangeInRange isGridPrice isPrice isRate
+range-inputs st p rate side v =
+    record {
+      price = leb-true p priceMost (search (v, and-left, and-right));
+      rate-high = leb-true rate rateMost (search (v, and-left, and-right));
+    }
+
+pub band-inputs : (st : Statics) (p s1 k : ℕ) (repo : ℤ) (c side : ℕ) → bandInRange st p s1 k repo c side ≡ true → BandInputs p s1 c k repo
+unfolding bandInRange isGridPrice isPrice isRate
+band-inputs st p s1 k repo c side v =
+    record {
+      price = leb-true p priceMost (search (v, and-left, and-right) depth 10);
+      rate-high = leb-true s1 rateMost (search (v, and-left, and-right));
+      moves-high = leb-true c movesMost (search (v, and-left, and-right));
+      days = leb-true k termDaysMost (search (v, and-left, and-right));
+      repo-high = repo-size repo (search (v, and-left, and-right)) (search (v, and-left, and-right));
+    }

@@ -1,0 +1,213 @@
+// Document 01, "Ranges, bands, alerts, moves" (10.1, 11.2, 17.8, 18): the limits by value, each rounded once by (g), and what a move makes of
+// them.
+use inputs::grid_of;
+use paper::HUNDRED;
+use paper::Limits;
+use paper::Moves;
+use paper::Side;
+use paper::Statics;
+use paper::Term;
+use paper::WHOLE;
+use paper::YEAR;
+ghost use mathlib.Core.Path.{_≡_};
+ghost use mathlib.Core.Bool.{true};
+ghost use Prim.Native.Nat.{_-_, _≤_};
+ghost use Rattle.paper.specs.Numbers.{rateMost, limitMost, movesMost};
+ghost use Rattle.paper.specs.Ranges.{validStatics};
+ghost use Rattle.paper.specs.Limits.{limitOf, shifted, rangeLimit, rangeOf, spread, monitored, bandLimit, bandOf, crossed, deltaOf, oneMore, countOf, rangeMoved, bandMoved};
+ghost use Rattle.limits.specs.Sides.{farthestRate, narrowerOf};
+ghost use Rattle.limits.specs.LimitRanges.{RangeInputs, BandInputs, TermInputs};
+ghost use Rattle.limits.specs.LimitBounds.{deltaMost};
+
+// a - b, stopping at 0.
+fn less(a: u64, b: u64) -> u64
+    ensures { λ r. ⌜ r ≡ a - b ⌝ }
+{
+    if b < a { a - b } else { 0 }
+}
+
+// ---- ranges
+
+// P·(1 ± rate) over the whole.
+fn shifted(side: Side, p: u64, rate: u64) -> u64
+    requires { ⌜ RangeInputs p rate ⌝ }
+    ensures { λ r. ⌜ r ≡ shifted side p rate .num ⌝ }
+{
+    match side {
+        Side::Upper => p * (WHOLE + rate),
+        Side::Lower => p * (WHOLE - rate),
+    }
+}
+
+// "Range of level L: P·(1 ± S_L)."
+pub fn range_limit(st: Statics, side: Side, p: u64, rate: u64) -> u64
+    requires { ⌜ RangeInputs p rate ⌝ }
+    ensures { λ r. ⌜ r ≡ rangeLimit st side p rate ⌝ }
+{
+    exact::to_grid(grid_of(st.lot), shifted(side, p, rate), WHOLE)
+}
+
+pub fn range_of(st: Statics, p: u64, rate: u64) -> Limits
+    requires { ⌜ RangeInputs p rate ⌝ }
+    ensures { λ r. ⌜ r ≡ rangeOf st p rate ⌝ }
+{
+    Limits {
+        lower: range_limit(st, Side::Lower, p, rate),
+        upper: range_limit(st, Side::Upper, p, rate),
+    }
+}
+
+// ---- bands
+
+// PcH_max above, PcL_max below.
+fn farthest_rate(st: Statics, side: Side) -> u64
+    ensures { λ r. ⌜ r ≡ farthestRate st side ⌝ }
+{
+    match side {
+        Side::Upper => st.pchmax,
+        Side::Lower => st.pclmax,
+    }
+}
+
+// x_pr ± e·S_1 in millionths, with e = 1 + 2·c·shift; below, "max(0, ..)".
+fn spread(st: Statics, side: Side, s1: u64, c: u64) -> u64
+    requires { ⌜ validStatics st ≡ true ⌝ }
+    requires { ⌜ (s1 ≤ rateMost) × (c ≤ movesMost) ⌝ }
+    ensures { λ r. ⌜ r ≡ spread st side s1 c ⌝ }
+{
+    let middle = WHOLE * st.xpr;
+    let away = (HUNDRED + 2 * c * st.shift) * s1;
+    match side {
+        Side::Upper => middle + away,
+        Side::Lower => less(middle, away),
+    }
+}
+
+// "P·(1 + e·S_1/x_pr)·(1 + RRcH·k/36500)" above, "P·max(0, 1 - e·S_1/x_pr)·(1 + RRcL·k/36500)" below, rounded once.
+fn monitored_limit(st: Statics, side: Side, p: u64, s1: u64, c: u64, k: u64, repo: i64) -> u64
+    requires { ⌜ validStatics st ≡ true ⌝ }
+    requires { ⌜ BandInputs p s1 c k repo ⌝ }
+    ensures { λ r. ⌜ r ≡ limitOf st (monitored st side p s1 c k repo) ⌝ }
+{
+    let days = exact::grow(YEAR, k, repo);
+    exact::product_to_grid(
+        grid_of(st.lot),
+        p,
+        spread(st, side, s1, c),
+        days,
+        WHOLE * st.xpr * YEAR,
+    )
+}
+
+// The lesser of two upper limits, the greater of two lower ones.
+fn narrower(side: Side, x: u64, y: u64) -> u64
+    ensures { λ r. ⌜ r ≡ narrowerOf side x y ⌝ }
+{
+    match side {
+        Side::Upper => exact::lesser(x, y),
+        Side::Lower => exact::greater(x, y),
+    }
+}
+
+// Each of the two is rounded and then one is taken: a rounding keeps order, so that this is the one that the paper takes, rounded once.
+pub fn band_limit(st: Statics, side: Side, p: u64, s1: u64, c: u64, k: u64, repo: i64) -> u64
+    requires { ⌜ validStatics st ≡ true ⌝ }
+    requires { ⌜ BandInputs p s1 c k repo ⌝ }
+    ensures { λ r. ⌜ r ≡ bandLimit st side p s1 c k repo ⌝ }
+{
+    let farthest = range_limit(st, side, p, farthest_rate(st, side));
+    if st.monitoring {
+        narrower(side, farthest, monitored_limit(st, side, p, s1, c, k, repo))
+    } else {
+        farthest
+    }
+}
+
+// A term's band: "c the moves of that side since the evaluation".
+pub fn band_of(st: Statics, p: u64, s1: u64, c: Moves, x: Term) -> Limits
+    requires { ⌜ validStatics st ≡ true ⌝ }
+    requires { ⌜ TermInputs p s1 c x ⌝ }
+    ensures { λ r. ⌜ r ≡ bandOf st p s1 c x ⌝ }
+{
+    Limits {
+        lower: band_limit(st, Side::Lower, p, s1, c.lower, x.k, x.low),
+        upper: band_limit(st, Side::Upper, p, s1, c.upper, x.k, x.high),
+    }
+}
+
+// 9: "a rounded lower band limit above its upper one".
+pub fn is_crossed(x: Limits) -> bool
+    ensures { λ r. ⌜ r ≡ crossed x ⌝ }
+{
+    x.upper < x.lower
+}
+
+// ---- moves
+
+// "delta = 2·shift·S_1·P/x_pr"
+pub fn delta(st: Statics, p: u64, s1: u64) -> u64
+    requires { ⌜ validStatics st ≡ true ⌝ }
+    requires { ⌜ RangeInputs p s1 ⌝ }
+    ensures { λ r. ⌜ r ≡ deltaOf st p s1 ⌝ }
+{
+    exact::to_grid(grid_of(st.lot), 2 * st.shift * s1 * p, WHOLE * st.xpr)
+}
+
+// "It adds one to c".
+pub fn one_more(side: Side, c: Moves) -> Moves
+    requires { ⌜ countOf side c ≤ movesMost ⌝ }
+    ensures { λ r. ⌜ r ≡ oneMore side c ⌝ }
+{
+    match side {
+        Side::Upper => Moves {
+            upper: c.upper + 1,
+            lower: c.lower,
+        },
+        Side::Lower => Moves {
+            upper: c.upper,
+            lower: c.lower + 1,
+        },
+    }
+}
+
+pub fn count_of(side: Side, c: Moves) -> u64
+    ensures { λ r. ⌜ r ≡ countOf side c ⌝ }
+{
+    match side {
+        Side::Upper => c.upper,
+        Side::Lower => c.lower,
+    }
+}
+
+// "shifts its three range limits by delta, lower ones stopping at 0 (18.4)": one of them.
+pub fn range_moved(side: Side, delta: u64, x: Limits) -> Limits
+    requires { ⌜ (delta ≤ deltaMost) × (x .upper ≤ limitMost) ⌝ }
+    ensures { λ r. ⌜ r ≡ rangeMoved side delta x ⌝ }
+{
+    match side {
+        Side::Upper => Limits {
+            lower: x.lower,
+            upper: x.upper + delta,
+        },
+        Side::Lower => Limits {
+            lower: less(x.lower, delta),
+            upper: x.upper,
+        },
+    }
+}
+
+// "remakes that side's three band limits": that side of one anew, the other as it stands.
+pub fn band_moved(side: Side, fresh: Limits, x: Limits) -> Limits
+    ensures { λ r. ⌜ r ≡ bandMoved side fresh x ⌝ }
+{
+    match side {
+        Side::Upper => Limits {
+            lower: x.lower,
+            upper: fresh.upper,
+        },
+        Side::Lower => Limits {
+            lower: fresh.lower,
+            upper: x.upper,
+        },
+    }
+}

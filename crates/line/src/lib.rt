@@ -1,0 +1,40 @@
+// A line of the evening's text, once it is read: which call it is, and the numbers that the call takes.
+use paper::Admission;
+use paper::Day;
+use paper::Quote;
+
+// The row figures that a line keeps: one more than a day may have, so that too many are told from enough.
+pub const KEPT: usize = 113;
+
+// The row figures of a line, in their order. A count above KEPT stands for KEPT.
+pub struct Rows {
+    pub count: usize,
+    pub numbers: [i64; 113],
+}
+
+// The numbers of every call stand side by side; `kind` says which of them count.
+pub struct Line {
+    pub kind: u64,
+    pub id: u64,
+    pub admission: Admission,
+    pub day: Day,
+    pub rows: Rows,
+    pub quote: Quote,
+    pub side: u64,
+}
+
+impl Line {
+    pub const ADMIT: u64 = 1;
+
+    pub const EVALUATE: u64 = 2;
+
+    pub const QUOTE: u64 = 3;
+
+    pub const MOVE: u64 = 4;
+
+    pub const READ: u64 = 5;
+    // No call: a line with no word, and one that is no call. Both carry id 0 and are performed as a read of it, which stores nothing.
+    pub const BLANK: u64 = 6;
+
+    pub const BAD: u64 = 7;
+}

@@ -1,0 +1,4 @@
+pub mod Statics
+pub mod Volatilities
+pub mod Steps
+pub mod Reach

@@ -1,0 +1,177 @@
+-- Laws of the least rate that reaches a level's requirement. Assumes nothing.
+use mathlib.Core.Path.{_≡_, refl, ap, sym, subst, _∙_}
+use mathlib.Core.Logic.{_⊎_, inl, inr}
+use mathlib.Core.Bool.{Bool, true, false, _&&_}
+use Prim.Native.Nat.{ℕ, _+_, _-_, _*_, _/_, _%_, _≤_, _<_}
+use native.Mathlib.Nat.{mul-le-mul, mul-le-mul-right, le-trans, le-dest, le-of-lt, le-antisymm, mul-lt-mul-of-pos-right, le-div-iff-mul-le}
+use native.Mathlib.Omega.{arith}
+use lib.Dec.{leb}
+use borrow.Author.Tests.{leb-true, leb-false, le-leb, lt-leb}
+use Rattle.paper.specs.declared.Statics.{Statics}
+use Rattle.paper.specs.Lists.{pick}
+use Rattle.paper.specs.Least.{least, leastMultiple}
+use Rattle.paper.specs.Rates.{meets, daysOf, minimumOf, covers, levelRate}
+use Rattle.paper.proofs.Logic.{clash, and-left, and-right, and-both, pick-true, pick-false, le-or-lt}
+use Rattle.paper.proofs.Level.{meets-roots, within-more, covers-more, whole-times}
+use Rattle.paper.proofs.Search.{Mono, Between, between-hit, between-miss, between-one, least-monotone, multiple-cases, multiple-bound}
+use Rattle.rates.specs.Asked.{RateStatics}
+use Rattle.rates.proofs.Statics.{level-statics}
+use Rattle.rates.specs.Level.{tentativeSquare, liquiditySquare, reaches, reachMost, leastReach}
+
+-- ---- the comparison
+
+-- four times a product is at most the square of the sum
+pub four-products : (a b : ℕ) → 4 * (a * b) ≤ (a + b) * (a + b)
+four-products a b = either (le-or-lt a b)
+  where
+    apart-by : (x d : ℕ) → 4 * (x * (x + d)) ≤ (x + (x + d)) * (x + (x + d))
+    apart-by x d = omega arith
+
+    ordered : (x y : ℕ) → x ≤ y → 4 * (x * y) ≤ (x + y) * (x + y)
+    ordered x y h = subst (λ (z : ℕ). 4 * (x * z) ≤ (x + z) * (x + z)) (le-dest h .1) (apart-by x (le-dest h .0))
+
+    either : (a ≤ b) ⊎ (b < a) → 4 * (a * b) ≤ (a + b) * (a + b)
+    either (inl h) = ordered a b h
+    either (inr h) = omega (arith, ordered b a (le-of-lt h))
+
+-- a rate meets the requirement exactly where, times rh_1, it reaches the two roots
+pub meets-reaches : (rh1 rh liq m tentative v : ℕ)
+    → reaches (v * rh1) (tentativeSquare rh1 rh m tentative) (liquiditySquare rh1 rh liq) ≡ meets rh1 rh liq m tentative v
+unfolding reaches
+meets-reaches rh1 rh liq m tentative v =
+    let same : v * rh1 * (v * rh1) ≡ v * v * (rh1 * rh1) = omega arith in
+    rw same (sym (meets-roots rh1 rh liq m tentative v))
+
+-- more reaches too
+pub reaches-monotone : (x y a b : ℕ) → x ≤ y → reaches x a b ≡ true → reaches y a b ≡ true
+unfolding reaches
+reaches-monotone x y a b h e = within-more (x * x) (y * y) a b (mul-le-mul h h) e
+
+-- ---- the search
+
+-- the test of the search, once passed, stays passed
+reach-monotone : (low step a b : ℕ) → Mono (λ k. leb low k && reaches (k * step) a b)
+reach-monotone low step a b x y h e =
+    let from : low ≤ x = leb-true _ _ (and-left (leb low x) _ e) in
+    and-both _ _ (le-leb low y (omega arith))
+    (reaches-monotone (x * step) (y * step) a b (mul-le-mul-right step h) (and-right (leb low x) _ e))
+
+-- what a search by halves keeps: the number is from `from` to `to`
+pub record Halved (low high step a b from to : ℕ) : Type 0 where
+  pub above : low ≤ from
+  pub between : Between (λ k. leb low k && reaches (k * step) a b) high from to
+
+pub halved-start : (low high step a b : ℕ) → low ≤ high → Halved low high step a b low high
+halved-start low high step a b h =
+    record {
+      above = omega arith;
+      between =
+          record { order = h; inside = omega arith; before = λ z l. rw (lt-leb low z l); here = λ l. absurd (omega arith) };
+    }
+
+-- a test between the two takes one of them to its place
+module _ (low high step a b from to k : ℕ) (h : Halved low high step a b from to) (u : from ≤ k) (v : k < to) where
+  tested : (t : Bool) → reaches (k * step) a b ≡ t → (leb low k && reaches (k * step) a b) ≡ t
+  tested t e = let l : low ≤ k = omega arith in rw (le-leb low k l) e
+
+  pub halved-hit : reaches (k * step) a b ≡ true → Halved low high step a b from k
+  halved-hit e =
+      record { above = h .above; between = between-hit _ high from to k (h .between) u v (tested true e) }
+
+  pub halved-miss : reaches (k * step) a b ≡ false → Halved low high step a b (k + 1) to
+  halved-miss e =
+      record {
+        above = omega arith;
+        between = between-miss _ high from to k (reach-monotone low step a b) (h .between) v (tested false e);
+      }
+
+pub halved-one : (low high step a b from to : ℕ) → Halved low high step a b from to → to ≤ from → from ≡ leastReach low high step a b
+unfolding leastReach
+halved-one low high step a b from to h e = sym (between-one _ high from to (h .between) e)
+
+-- ---- what it finds is the rate of the level
+
+-- tests that agree find the same number
+least-same : (bound : ℕ) (p q : ℕ → Bool) → ((z : ℕ) → p z ≡ q z) → least bound p ≡ least bound q
+least-same bound p q f =
+    le-antisymm (least-monotone bound p q (λ z e. f z ∙ e)) (least-monotone bound q p (λ z e. sym (f z) ∙ e))
+
+-- where S_max does not cover, no multiple below it does: the search alone gives the rate
+rate-multiple : (st : Statics) (level m tentative : ℕ) → st .smax % st .h ≡ 0
+    → leastMultiple (st .h) (st .smax / st .h) (λ v. leb (minimumOf st level) v && covers st level m tentative v) ≡ levelRate st level m tentative
+unfolding levelRate
+rate-multiple st level m tentative e = go (covers st level m tentative (st .smax)) refl
+  where
+    passes : ℕ → Bool
+    passes v = leb (minimumOf st level) v && covers st level m tentative v
+
+    rate : ℕ
+    rate = leastMultiple (st .h) (st .smax / st .h) passes
+
+    go : (t : Bool) → covers st level m tentative (st .smax) ≡ t → rate ≡ pick (covers st level m tentative (st .smax)) rate (st .smax)
+    go true p = sym (pick-true (covers st level m tentative (st .smax)) rate (st .smax) p)
+    go false p = none (multiple-cases (st .h) (st .smax / st .h) passes) ∙ sym (pick-false (covers st level m tentative (st .smax)) rate (st .smax) p)
+      where
+        most : st .smax / st .h * st .h ≡ st .smax
+        most = whole-times (st .smax) (st .h) e
+
+        below : rate ≤ st .smax
+        below = omega (arith, most, multiple-bound (st .h) (st .smax / st .h) passes)
+
+        none : (rate ≡ st .smax / st .h * st .h) ⊎ (passes rate ≡ true) → rate ≡ st .smax
+        none (inl q) = q ∙ most
+        none (inr q) =
+            absurd (clash (covers st level m tentative (st .smax))
+            (covers-more st level m tentative rate (st .smax) below (and-right (leb (minimumOf st level) rate) _ q)) p)
+
+-- a number of steps is at least the minimum's where it is, in steps, at least the minimum
+steps-from : (x h k : ℕ) → 0 < h → x % h ≡ 0 → leb (x / h) k ≡ leb x (k * h)
+steps-from x h k p e = go (le-or-lt (x / h) k)
+  where
+    exact : x / h * h ≡ x
+    exact = whole-times x h e
+
+    go : (x / h ≤ k) ⊎ (k < x / h) → leb (x / h) k ≡ leb x (k * h)
+    go (inl l) = le-leb (x / h) k l ∙ sym (le-leb x (k * h) (omega (arith, exact, mul-le-mul-right h l)))
+    go (inr l) = lt-leb (x / h) k l ∙ sym (lt-leb x (k * h) (omega (arith, exact, mul-lt-mul-of-pos-right l p)))
+
+pub reach-rate : (st : Statics) (level m tentative : ℕ) → RateStatics st
+    → leastReach (minimumOf st level / st .h) (st .smax / st .h) (st .h * st .rh1)
+    (tentativeSquare (st .rh1) (daysOf st level) m tentative) (liquiditySquare (st .rh1) (daysOf st level) (st .liq)) * st .h
+    ≡ levelRate st level m tentative
+unfolding leastReach leastMultiple covers
+reach-rate st level m tentative r =
+    ap (λ (k : ℕ). k * st .h) (least-same (st .smax / st .h) _ _ same) ∙ rate-multiple st level m tentative (r .most-multiple)
+  where
+    rh : ℕ
+    rh = daysOf st level
+
+    same : (k : ℕ)
+        → (leb (minimumOf st level / st .h) k
+        && reaches (k * (st .h * st .rh1)) (tentativeSquare (st .rh1) rh m tentative) (liquiditySquare (st .rh1) rh (st .liq)))
+        ≡ (leb (minimumOf st level) (k * st .h) && covers st level m tentative (k * st .h))
+    same k =
+        let step : k * (st .h * st .rh1) ≡ k * st .h * st .rh1 = omega arith in
+        rw (step, steps-from (minimumOf st level) (st .h) k (r .step-low) (level-statics st level r .2), meets-reaches (st .rh1) rh (st .liq) m tentative (k * st .h))
+
+-- the numbers of steps that the search is given are in order, and reach no further than a rate may
+pub steps-held : (st : Statics) (level : ℕ) → RateStatics st
+    → (minimumOf st level / st .h ≤ st .smax / st .h) × (st .smax / st .h * (st .h * st .rh1) ≤ reachMost)
+steps-held st level r =
+    let own = level-statics st level r in
+    let most = whole-times (st .smax) (st .h) (r .most-multiple) in
+    let low = whole-times (minimumOf st level) (st .h) (own .2) in
+    let same : st .smax / st .h * (st .h * st .rh1) ≡ st .smax / st .h * st .h * st .rh1 = omega arith in (
+      le-div-iff-mul-le {k = st .h} {x = minimumOf st level / st .h} {y = st .smax} (r .step-low) .1 (omega (arith, low, own .1)),
+      rw (same, most) (mul-le-mul (r .most-high) (r .first-high)),
+    )
+
+-- "S_max if the requirement exceeds it": no rate is above it
+pub rate-held : (st : Statics) (level m tentative : ℕ) → RateStatics st → levelRate st level m tentative ≤ st .smax
+rate-held st level m tentative r =
+    rw (← rate-multiple st level m tentative (r .most-multiple))
+    (omega (
+      arith,
+      whole-times (st .smax) (st .h) (r .most-multiple),
+      multiple-bound (st .h) (st .smax / st .h) (λ v. leb (minimumOf st level) v && covers st level m tentative v),
+    ))

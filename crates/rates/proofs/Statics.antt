@@ -1,0 +1,69 @@
+-- What valid statics, and a sound record, are to the rate rules. Assumes nothing.
+use mathlib.Core.Path.{_≡_}
+use mathlib.Core.Bool.{Bool, true, false, _&&_}
+use Prim.Native.Nat.{ℕ, _%_, _≤_}
+use native.Mathlib.Omega.{arith}
+use lib.Dec.{leb, eqb}
+use lib.ListN.{getD}
+use borrow.Author.Tests.{leb-true, eqb-true}
+use Rattle.paper.specs.declared.Statics.{Statics}
+use Rattle.paper.specs.declared.Record.{Record}
+use Rattle.paper.specs.Numbers.{daysMost, aheadMost}
+use Rattle.paper.specs.Lists.{pick}
+use Rattle.paper.specs.Ranges.{validStatics, validTentative, isRate, noRate, sound}
+use Rattle.paper.specs.Rates.{daysOf, minimumOf}
+use Rattle.paper.proofs.Logic.{and-left, and-right}
+use Rattle.rates.specs.Asked.{RateStatics, FigureRanges}
+
+pub valid-rates : (st : Statics) → validStatics st ≡ true → RateStatics st
+unfolding validStatics
+valid-rates st v =
+    record {
+      step-low = leb-true _ _ (search (v, and-left, and-right) depth 40);
+      step-high = leb-true _ _ (search (v, and-left, and-right) depth 40);
+      multiplier-low = leb-true _ _ (search (v, and-left, and-right) depth 40);
+      multiplier-high = leb-true _ _ (search (v, and-left, and-right) depth 40);
+      up-high = leb-true _ _ (search (v, and-left, and-right) depth 40);
+      down-high = leb-true _ _ (search (v, and-left, and-right) depth 40);
+      first-high = leb-true _ _ (search (v, and-left, and-right) depth 40);
+      second-days = leb-true _ _ (search (v, and-left, and-right) depth 40);
+      third-high = leb-true _ _ (search (v, and-left, and-right) depth 40);
+      liquidity-high = leb-true _ _ (search (v, and-left, and-right) depth 40);
+      first-minimum = leb-true _ _ (search (v, and-left, and-right) depth 40);
+      second-minimum = leb-true _ _ (search (v, and-left, and-right) depth 40);
+      third-minimum = leb-true _ _ (search (v, and-left, and-right) depth 40);
+      most-high = leb-true _ _ (search (v, and-left, and-right) depth 40);
+      first-multiple = eqb-true _ _ (search (v, and-left, and-right) depth 40);
+      second-multiple = eqb-true _ _ (search (v, and-left, and-right) depth 40);
+      third-multiple = eqb-true _ _ (search (v, and-left, and-right) depth 40);
+      most-multiple = eqb-true _ _ (search (v, and-left, and-right) depth 40);
+    }
+
+-- what the rules ask of a level's own statics
+abbrev pub LevelStatics : Statics → (days minimum : ℕ) → Type 0
+LevelStatics st days minimum = (days ≤ daysMost) × (minimum ≤ st .smax) × (minimum % st .h ≡ 0)
+
+pub level-statics : (st : Statics) (level : ℕ) → RateStatics st → LevelStatics st (daysOf st level) (minimumOf st level)
+unfolding daysOf minimumOf
+level-statics st level r = go (eqb level 1) (eqb level 2)
+  where
+    go : (x y : Bool) → LevelStatics st (pick x (st .rh1) (pick y (st .rh2) (st .rh3))) (pick x (st .min1) (pick y (st .min2) (st .min3)))
+    go true y = (omega arith, omega arith, r .first-multiple)
+    go false true = (omega arith, omega arith, r .second-multiple)
+    go false false = (omega arith, omega arith, r .third-multiple)
+
+-- a sound record's figures are in the ranges of an evaluation
+pub sound-ranges : (r : Record) (m : ℕ) → sound r ≡ true → m ≤ aheadMost
+    → FigureRanges (r .statics) m (getD (r .rates) 0 noRate .bp) (r .s) (r .tentative)
+unfolding sound validTentative isRate
+sound-ranges r m v h =
+    let statics : RateStatics (r .statics) = valid-rates (r .statics) (search (v, and-left, and-right) depth 40) in
+    let held : r .tentative .bp ≤ r .statics .smax = leb-true _ _ (search (v, and-left, and-right) depth 40) in
+    record {
+      statics = statics;
+      ahead = h;
+      last-rate = leb-true _ _ (search (v, and-left, and-right) depth 40);
+      volatility = leb-true _ _ (search (v, and-left, and-right) depth 40);
+      tentative = omega (arith, statics .most-high);
+      age = leb-true _ _ (search (v, and-left, and-right) depth 40);
+    }

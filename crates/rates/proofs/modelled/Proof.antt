@@ -1,0 +1,46 @@
+-- `modelled` meets its contract: each figure is made of those before it, and what is made stays in the ranges of the next rule. Assumes nothing.
+use Prim.Native.Nat.{_≤_}
+use native.Mathlib.Omega.{arith}
+use borrow.Author.Needs.{needs}
+use Rattle.paper.specs.Rates.{modelled}
+use Rattle.rates.specs.Asked.{tentativeMost}
+use Rattle.rates.proofs.Volatilities.{volatility-high}
+use Rattle.rates.proofs.Steps.{wanted-held, tentative-held}
+use Rattle.rates.proofs.modelled.Statement.{statement}
+use Rattle.rates.proofs.modelled.Tie as tie
+
+volatility-of-requires : tie.Need-volatility-of-requires
+volatility-of-requires c κs = search needs
+
+wanted-requires : tie.Need-wanted-requires
+wanted-requires c κs =
+    let given = c .before .pre .0 in
+    (given .statics, rw (c .volatility-of .ensures) (volatility-high _ _ _ _ _ _ (given .statics) (given .volatility) (c .before .pre .1)))
+
+-- t is at most S_max
+t-held : (c : tie.After-wanted) → c .wanted .result ≤ c .before .before .args .st .smax
+t-held c = rw (c .wanted .ensures) (wanted-held _ _)
+
+tentative-after-requires : tie.Need-tentative-after-requires
+tentative-after-requires c κs = omega (arith, t-held c, c .before .before .pre .0, c .before .before .pre .0 .statics)
+
+rates-of-requires : tie.Need-rates-of-requires
+rates-of-requires c κs =
+    let given = c .before .before .before .pre .0 in
+    let t-high : c .before .wanted .result ≤ tentativeMost = omega (arith, t-held (c .before), given .statics .most-high) in
+    (given .statics, (given .ahead, rw (c .tentative-after .ensures) (tentative-held _ _ _ _ _ t-high (given .tentative))))
+
+returns : tie.Need-returns
+unfolding modelled
+returns c =
+    rw (
+      c .rates-of .ensures,
+      c .before .tentative-after .ensures,
+      c .before .before .wanted .ensures,
+      c .before .before .before .volatility-of .ensures,
+    )
+
+pub modelled-spec : {M : Type 1} → statement M
+modelled-spec =
+    tie.close
+    (tie.spec volatility-of-requires wanted-requires tentative-after-requires rates-of-requires returns)

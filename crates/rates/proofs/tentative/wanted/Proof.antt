@@ -1,0 +1,24 @@
+-- `tentative::wanted` meets its contract: the least multiple, held at S_max. Assumes nothing.
+use native.Mathlib.Nat.{mul-le-mul}
+use native.Mathlib.Omega.{arith}
+use borrow.Author.Needs.{needs}
+use Rattle.paper.specs.Rates.{wanted}
+use Rattle.rates.proofs.tentative.wanted.Statement.{statement}
+use Rattle.rates.proofs.tentative.wanted.Tie as tie
+
+mul-least-step : tie.Need-mul-least-step
+mul-least-step c = omega (arith, mul-le-mul (c .before .pre .0 .multiplier-high) (c .before .pre .1))
+
+least-step-requires : tie.Need-least-step-requires
+least-step-requires c κs =
+    omega (arith, c .before .pre .0, mul-le-mul (c .before .pre .0 .multiplier-high) (c .before .pre .1))
+
+lesser-requires : tie.Need-lesser-requires
+lesser-requires c κs = search needs
+
+returns : tie.Need-returns
+unfolding wanted
+returns c = rw (c .lesser .ensures, c .before .least-step .ensures)
+
+pub wanted-spec : {M : Type 1} → statement M
+wanted-spec = tie.close (tie.spec mul-least-step least-step-requires lesser-requires returns)

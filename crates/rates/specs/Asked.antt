@@ -1,0 +1,40 @@
+-- What the rate rules ask of the numbers that they are given: no more than "Units and ranges" allows. Assumes nothing.
+use mathlib.Core.Path.{_≡_}
+use Prim.Native.Nat.{ℕ, _+_, _*_, _/_, _%_, _≤_}
+use Rattle.paper.specs.declared.Statics.{Statics}
+use Rattle.paper.specs.declared.Tentative.{Tentative}
+use Rattle.paper.specs.Numbers.{whole, rateMost, volatilityMost, ageMost, aheadMost, stepMost, multiplierLeast, multiplierMost, weightMost, firstDaysMost, daysMost, liquidityMost}
+
+-- the statics of 7.1
+pub record RateStatics (st : Statics) : Type 0 where
+  pub step-low : 1 ≤ st .h
+  pub step-high : st .h ≤ stepMost
+  pub multiplier-low : multiplierLeast ≤ st .q
+  pub multiplier-high : st .q ≤ multiplierMost
+  pub up-high : st .aup ≤ weightMost
+  pub down-high : st .adown ≤ weightMost
+  pub first-high : st .rh1 ≤ firstDaysMost
+  pub second-days : st .rh2 ≤ st .rh3
+  pub third-high : st .rh3 ≤ daysMost
+  pub liquidity-high : st .liq ≤ liquidityMost
+  pub first-minimum : st .min1 ≤ st .min2
+  pub second-minimum : st .min2 ≤ st .min3
+  pub third-minimum : st .min3 ≤ st .smax
+  pub most-high : st .smax ≤ rateMost
+  pub first-multiple : st .min1 % st .h ≡ 0
+  pub second-multiple : st .min2 % st .h ≡ 0
+  pub third-multiple : st .min3 % st .h ≡ 0
+  pub most-multiple : st .smax % st .h ≡ 0
+
+-- no tentative rate passes it, held at S_max or not: q·s/10,000 at its most, and a step
+abbrev pub tentativeMost : ℕ
+tentativeMost = multiplierMost * volatilityMost / whole + stepMost
+
+-- the figures that an evaluation carries on, and the days ahead
+pub record FigureRanges (st : Statics) (m s1 s : ℕ) (old : Tentative) : Type 0 where
+  pub statics : RateStatics st
+  pub ahead : m ≤ aheadMost
+  pub last-rate : s1 ≤ rateMost
+  pub volatility : s ≤ volatilityMost
+  pub tentative : old .bp ≤ tentativeMost
+  pub age : old .age ≤ ageMost

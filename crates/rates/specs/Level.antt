@@ -1,0 +1,38 @@
+-- The rate of a level (7.1), as the code finds it: with both sides times rh_1, v ≥ sqrt(rh_L/rh_1)·(tentative·sqrt((rh_1 + m)/rh_1) + liq) says that
+-- v·rh_1 is at least the sum of the roots of two whole numbers. Assumes nothing.
+use mathlib.Core.Bool.{Bool, _&&_}
+use Prim.Native.Nat.{ℕ, _+_, _*_, _^_}
+use lib.Dec.{leb}
+use Rattle.paper.specs.declared.Statics.{Statics}
+use Rattle.paper.specs.Least.{least}
+use Rattle.paper.specs.Numbers.{rateMost, firstDaysMost}
+use Rattle.paper.specs.Rates.{daysOf, minimumOf}
+use Rattle.paper.proofs.Level.{rootsWithin}
+use Rattle.rates.specs.declared.level.Level.{Level}
+
+-- rh_L and S_L_min of a level
+abbrev pub levelOf : Statics → ℕ → Level
+levelOf st level = record { days = daysOf st level; minimum = minimumOf st level }
+
+-- the two numbers under the roots
+abbrev pub tentativeSquare : (rh1 rh m tentative : ℕ) → ℕ
+tentativeSquare rh1 rh m tentative = rh * (tentative * tentative) * (rh1 + m)
+
+abbrev pub liquiditySquare : (rh1 rh liq : ℕ) → ℕ
+liquiditySquare rh1 rh liq = rh * rh1 * (liq * liq)
+
+-- a bound for each, however wide the tentative rate: two of them add up within 64 bits
+abbrev pub squareMost : ℕ
+squareMost = 2 ^ 62
+
+-- x ≥ sqrt(a) + sqrt(b), on whole numbers
+unfoldable pub reaches : (x a b : ℕ) → Bool
+reaches x a b = rootsWithin (x * x) a b
+
+-- v·rh_1 at its most
+abbrev pub reachMost : ℕ
+reachMost = rateMost * firstDaysMost
+
+-- the least k from low on with k·step ≥ sqrt(a) + sqrt(b); high where none below it is
+unfoldable pub leastReach : (low high step a b : ℕ) → ℕ
+leastReach low high step a b = least high (λ k. leb low k && reaches (k * step) a b)

@@ -1,0 +1,4 @@
+pub mod Asked
+pub mod Level
+pub mod Tentative
+pub mod Figures

@@ -1,0 +1,125 @@
+// The rate of a level (7.1).
+ghost use mathlib.Core.Path.{_≡_};
+ghost use Prim.Native.Nat.{_*_, _≤_, _<_};
+ghost use Rattle.paper.specs.Lists.{forLevels};
+ghost use Rattle.paper.specs.Numbers.{aheadMost, firstDaysMost, daysMost, liquidityMost};
+ghost use Rattle.paper.specs.Rates.{minimumOf, levelRate};
+ghost use Rattle.rates.specs.Asked.{RateStatics, tentativeMost};
+ghost use Rattle.rates.specs.Level.{levelOf, tentativeSquare, liquiditySquare, squareMost, reaches, reachMost, leastReach};
+use paper::Rate;
+use paper::Statics;
+
+// A level's own statics: rh_L and S_L_min.
+pub struct Level {
+    pub days: u64,
+    pub minimum: u64,
+}
+
+pub fn level_of(st: Statics, level: u64) -> Level
+    ensures { λ r. ⌜ r ≡ levelOf st level ⌝ }
+{
+    if level == 1 {
+        Level {
+            days: st.rh1,
+            minimum: st.min1,
+        }
+    } else if level == 2 {
+        Level {
+            days: st.rh2,
+            minimum: st.min2,
+        }
+    } else {
+        Level {
+            days: st.rh3,
+            minimum: st.min3,
+        }
+    }
+}
+
+fn tentative_square(rh1: u64, rh: u64, m: u64, tentative: u64) -> u64
+    requires { ⌜ (rh1 ≤ firstDaysMost) × (rh ≤ daysMost) × (m ≤ aheadMost) × (tentative ≤ tentativeMost) ⌝ }
+    ensures { λ r. ⌜ (r ≡ tentativeSquare rh1 rh m tentative) × (r ≤ squareMost) ⌝ }
+{
+    rh * (tentative * tentative) * (rh1 + m)
+}
+
+fn liquidity_square(rh1: u64, rh: u64, liq: u64) -> u64
+    requires { ⌜ (rh1 ≤ firstDaysMost) × (rh ≤ daysMost) × (liq ≤ liquidityMost) ⌝ }
+    ensures { λ r. ⌜ (r ≡ liquiditySquare rh1 rh liq) × (r ≤ squareMost) ⌝ }
+{
+    rh * rh1 * (liq * liq)
+}
+
+// Whether x ≥ sqrt(a) + sqrt(b). The products are formed only where a + b is at most x², so that they fit however large a is.
+fn reaches(x: u64, a: u64, b: u64) -> bool
+    requires { ⌜ (x ≤ reachMost) × (a ≤ squareMost) × (b ≤ squareMost) ⌝ }
+    ensures { λ r. ⌜ r ≡ reaches x a b ⌝ }
+{
+    let square = x * x;
+    if square < a + b {
+        return false;
+    }
+    let rest = square - (a + b);
+    4 * a * b <= rest * rest
+}
+
+// By halves: at most 14 comparisons between 0 and S_max.
+fn least_reach(low: u64, high: u64, step: u64, a: u64, b: u64) -> u64
+    requires { ⌜ (low ≤ high) × (high * step ≤ reachMost) × (a ≤ squareMost) × (b ≤ squareMost) ⌝ }
+    ensures { λ r. ⌜ r ≡ leastReach low high step a b ⌝ }
+{
+    let mut from = low;
+    let mut to = high;
+    while from < to {
+        let middle = from + (to - from) / 2;
+        if reaches(middle * step, a, b) {
+            to = middle;
+        } else {
+            from = middle + 1;
+        }
+    }
+    from
+}
+
+// S_max where the requirement exceeds it, else the least multiple of h from S_L_min on that covers it, found by its number of steps.
+pub fn level_rate(st: Statics, level: u64, m: u64, tentative: u64) -> u64
+    requires { ⌜ RateStatics st ⌝ }
+    requires { ⌜ (m ≤ aheadMost) × (tentative ≤ tentativeMost) ⌝ }
+    ensures { λ r. ⌜ r ≡ levelRate st level m tentative ⌝ }
+{
+    let own = level_of(st, level);
+    let a = tentative_square(st.rh1, own.days, m, tentative);
+    let b = liquidity_square(st.rh1, own.days, st.liq);
+    let steps = least_reach(own.minimum / st.h, st.smax / st.h, st.h * st.rh1, a, b);
+    steps * st.h
+}
+
+// The three rates.
+pub fn rates_of(st: Statics, m: u64, tentative: u64) -> [Rate; 3]
+    requires { ⌜ RateStatics st ⌝ }
+    requires { ⌜ (m ≤ aheadMost) × (tentative ≤ tentativeMost) ⌝ }
+    ensures { λ r. ⌜ r ≡ forLevels (λ l. record { bp = levelRate st l m tentative }) ⌝ }
+{
+    [
+        Rate {
+            bp: level_rate(st, 1, m, tentative),
+        },
+        Rate {
+            bp: level_rate(st, 2, m, tentative),
+        },
+        Rate {
+            bp: level_rate(st, 3, m, tentative),
+        },
+    ]
+}
+
+// The three minima, as rates.
+pub fn minima(st: Statics) -> [Rate; 3]
+    ensures { λ r. ⌜ r ≡ forLevels (λ l. record { bp = minimumOf st l }) ⌝ }
+{
+    [
+        Rate { bp: st.min1 },
+        Rate { bp: st.min2 },
+        Rate { bp: st.min3 },
+    ]
+}

@@ -1,0 +1,71 @@
+// The rates (7.1): from the move of a day to its volatility, the tentative rate, and a rate for each level. The rules take statics and figures,
+// and no security.
+pub mod level; // the rate of a level
+pub mod tentative; // the tentative rate
+pub mod volatility; // the move and the volatility
+
+ghost use mathlib.Core.Path.{_≡_};
+ghost use mathlib.Core.Bool.{false};
+ghost use Prim.Native.Nat.{_≤_};
+ghost use Rattle.paper.specs.Numbers.{volatilityMost};
+ghost use Rattle.paper.specs.Rates.{modelled, unmodelled, figuresOf, moveTooLarge};
+ghost use Rattle.rates.specs.Asked.{FigureRanges};
+ghost use Rattle.rates.specs.Figures.{handed};
+use paper::Rate;
+use paper::Record;
+use paper::Statics;
+use paper::Tentative;
+
+// What an evaluation gives.
+pub struct Figures {
+    pub s: u64,
+    pub tentative: Tentative,
+    pub rates: [Rate; 3],
+}
+
+// Refusal 8.
+pub fn move_too_large(st: Statics, r: u64) -> bool
+    ensures { λ t. ⌜ t ≡ moveTooLarge st r ⌝ }
+{
+    st.ewma & (r > Record::VOLATILITY_MOST)
+}
+
+fn modelled(st: Statics, b: u64, m: u64, s1: u64, r: u64, s: u64, old: Tentative) -> Figures
+    requires { ⌜ FigureRanges st m s1 s old ⌝ }
+    requires { ⌜ r ≤ volatilityMost ⌝ }
+    ensures { λ f. ⌜ f ≡ handed (modelled st b m s1 r s old) ⌝ }
+{
+    let carried = volatility::volatility_of(st, b, s1, r, s);
+    let t = tentative::wanted(st, carried);
+    let tentative = tentative::tentative_after(st.h, st.wait, t, old);
+    let rates = level::rates_of(st, m, tentative.bp);
+    Figures {
+        s: carried,
+        tentative,
+        rates,
+    }
+}
+
+fn unmodelled(st: Statics, s: u64, old: Tentative) -> Figures
+    ensures { λ f. ⌜ f ≡ handed (unmodelled st s old) ⌝ }
+{
+    let rates = level::minima(st);
+    Figures {
+        s,
+        tentative: old,
+        rates,
+    }
+}
+
+// The figures of an evaluation whose move is not too large.
+pub fn figures_of(st: Statics, b: u64, m: u64, s1: u64, r: u64, s: u64, old: Tentative) -> Figures
+    requires { ⌜ FigureRanges st m s1 s old ⌝ }
+    requires { ⌜ moveTooLarge st r ≡ false ⌝ }
+    ensures { λ f. ⌜ f ≡ handed (figuresOf st b m s1 r s old) ⌝ }
+{
+    if st.ewma {
+        modelled(st, b, m, s1, r, s, old)
+    } else {
+        unmodelled(st, s, old)
+    }
+}

@@ -1,0 +1,46 @@
+// The tentative rate (7.1).
+ghost use mathlib.Core.Path.{_≡_};
+ghost use Prim.Native.Nat.{_+_, _*_, _^_, _≤_, _<_};
+ghost use Rattle.paper.specs.Numbers.{volatilityMost};
+ghost use Rattle.paper.specs.Rates.{wanted, tentativeAfter};
+ghost use Rattle.rates.specs.Asked.{RateStatics};
+ghost use Rattle.rates.specs.Tentative.{leastStep};
+use paper::Record;
+use paper::Statics;
+use paper::Tentative;
+use paper::WHOLE;
+
+// The least multiple of h with w·t ≥ n: so many steps that each makes w·h.
+fn least_step(h: u64, w: u64, n: u64) -> u64
+    requires { ⌜ (0 < h) × (0 < w) × (n + w * h < 2 ^ 64) ⌝ }
+    ensures { λ r. ⌜ r ≡ leastStep h w n ⌝ }
+{
+    exact::up(n, w * h) * h
+}
+
+// The t of the paper.
+pub fn wanted(st: Statics, s: u64) -> u64
+    requires { ⌜ RateStatics st ⌝ }
+    requires { ⌜ s ≤ volatilityMost ⌝ }
+    ensures { λ r. ⌜ r ≡ wanted st s ⌝ }
+{
+    exact::lesser(st.smax, least_step(st.h, WHOLE, st.q * s))
+}
+
+// Up to t at once, down by one step where it has waited, else it stays.
+pub fn tentative_after(h: u64, wait: u64, t: u64, old: Tentative) -> Tentative
+    requires { ⌜ (old .bp + h < 2 ^ 64) × (t + h < 2 ^ 64) × (old .age + 1 < 2 ^ 64) ⌝ }
+    ensures { λ r. ⌜ r ≡ tentativeAfter h wait t old ⌝ }
+{
+    if old.bp + h <= t {
+        Tentative { bp: t, age: 0 }
+    } else if (t + h <= old.bp) & (wait <= old.age + 1) {
+        let fallen = old.bp - h;
+        Tentative { bp: fallen, age: 0 }
+    } else {
+        Tentative {
+            bp: old.bp,
+            age: exact::lesser(Record::AGE_MOST, old.age + 1),
+        }
+    }
+}

@@ -1,0 +1,87 @@
+// The move and the volatility (7.1).
+ghost use mathlib.Core.Path.{_≡_};
+ghost use mathlib.Core.Bool.{true};
+ghost use Prim.Native.Nat.{_*_, _^_, _≤_, _<_};
+ghost use Rattle.paper.specs.Numbers.{whole, rateMost, volatilityMost, multiplierLeast};
+ghost use Rattle.paper.specs.Ranges.{isPrice};
+ghost use Rattle.paper.specs.Roundings.{apart};
+ghost use Rattle.paper.specs.Rates.{moveFrom, moveOf, weightOf, weighted, replacement, replaces, volatilityOf};
+ghost use Rattle.rates.specs.Asked.{RateStatics};
+use paper::HUNDRED;
+use paper::MILLION;
+use paper::Statics;
+use paper::WHOLE;
+
+// |a - b|
+fn apart(a: u64, b: u64) -> u64
+    ensures { λ r. ⌜ r ≡ apart a b ⌝ }
+{
+    if a < b { b - a } else { a - b }
+}
+
+// Place (e).
+fn move_from(earlier: u64, p: u64) -> u64
+    requires { ⌜ (isPrice earlier ≡ true) × (isPrice p ≡ true) ⌝ }
+    ensures { λ r. ⌜ r ≡ moveFrom earlier p ⌝ }
+{
+    exact::up(apart(p, earlier) * MILLION, earlier)
+}
+
+// The r of the paper, in millionths.
+pub fn move_of(p1: u64, p2: u64, p: u64) -> u64
+    requires { ⌜ (isPrice p1 ≡ true) × (isPrice p2 ≡ true) × (isPrice p ≡ true) ⌝ }
+    ensures { λ r. ⌜ r ≡ moveOf p1 p2 p ⌝ }
+{
+    exact::greater(move_from(p1, p), move_from(p2, p))
+}
+
+// The a of the paper, in ten-thousandths.
+pub fn weight_of(st: Statics, b: u64, r: u64, s: u64) -> u64
+    ensures { λ a. ⌜ a ≡ weightOf st b r s ⌝ }
+{
+    if b > 1 {
+        0
+    } else if r > s {
+        st.aup
+    } else {
+        st.adown
+    }
+}
+
+// Place (f): the x of the paper.
+pub fn weighted(a: u64, s: u64, r: u64) -> u64
+    requires { ⌜ (a ≤ whole) × (s ≤ 2 ^ 20) × (r ≤ 2 ^ 20) ⌝ }
+    ensures { λ x. ⌜ x ≡ weighted a s r ⌝ }
+{
+    exact::least_root(WHOLE, (WHOLE - a) * (s * s) + a * (r * r))
+}
+
+// The y of the paper.
+pub fn replacement(q: u64, r: u64) -> u64
+    requires { ⌜ (0 < q) × (r ≤ volatilityMost) ⌝ }
+    ensures { λ y. ⌜ y ≡ replacement q r ⌝ }
+{
+    exact::up(HUNDRED * r, q)
+}
+
+// Whether y is chosen over x.
+pub fn replaces(st: Statics, b: u64, s1: u64, r: u64, x: u64) -> bool
+    requires { ⌜ (0 < st .q) × (s1 ≤ rateMost) × (r ≤ volatilityMost) ⌝ }
+    ensures { λ y. ⌜ y ≡ replaces st b s1 r x ⌝ }
+{
+    (b <= 1) & (r > HUNDRED * s1) & (x < replacement(st.q, r))
+}
+
+// New s.
+pub fn volatility_of(st: Statics, b: u64, s1: u64, r: u64, s: u64) -> u64
+    requires { ⌜ RateStatics st ⌝ }
+    requires { ⌜ (s1 ≤ rateMost) × (r ≤ volatilityMost) × (s ≤ volatilityMost) ⌝ }
+    ensures { λ x. ⌜ x ≡ volatilityOf st b s1 r s ⌝ }
+{
+    let x = weighted(weight_of(st, b, r, s), s, r);
+    if replaces(st, b, s1, r, x) {
+        replacement(st.q, r)
+    } else {
+        x
+    }
+}

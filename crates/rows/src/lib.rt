@@ -1,0 +1,105 @@
+// The day's rows (document 01, "Units and ranges"): seven signed numbers each, lent in one slice, checked and read.
+ghost use mathlib.Core.Path.{_≡_};
+ghost use Prim.Native.Nat.{_+_, _%_, _≤_, _<_};
+ghost use lib.ListN.{length, getD};
+ghost use lib.IntN.{pos};
+ghost use Rattle.paper.specs.Lists.{every};
+ghost use Rattle.paper.specs.Numbers.{rowNumbers};
+ghost use Rattle.paper.specs.Ranges.{withinZ, natural, rowAt, rowsOf, wholeRows, closeForVolume, validRow, validRows, rowOf};
+use paper::Price;
+use paper::Row;
+use paper::Term;
+
+// The ends of ranges of which paper's code has the unsigned number: what is lent is signed.
+const PRICE_MOST: i64 = Price::MOST as i64;
+
+const VOLUME_MOST: i64 = Row::VOLUME_MOST as i64;
+
+// The number at i; one below zero is read as a number that no range holds.
+fn natural_at(rows: &[i64], i: usize) -> u64
+    requires { ⌜ i < length (now rows) ⌝ }
+    ensures { λ r. ⌜ r ≡ natural (getD (now (rows .entry)) i (pos 0)) ⌝ }
+{
+    exact::natural(rows[i])
+}
+
+// Whether the number at i is from low to high.
+fn within_at(rows: &[i64], i: usize, low: i64, high: i64) -> bool
+    requires { ⌜ i < length (now rows) ⌝ }
+    ensures { λ r. ⌜ r ≡ withinZ low high (getD (now (rows .entry)) i (pos 0)) ⌝ }
+{
+    exact::is_within(low, high, rows[i])
+}
+
+// "Volume above 0 with close 0 is out of range": whether there is no volume at v, or a close at c.
+fn close_for_volume(rows: &[i64], v: usize, c: usize) -> bool
+    requires { ⌜ (v < length (now rows)) × (c < length (now rows)) ⌝ }
+    ensures { λ r. ⌜ r ≡ closeForVolume (getD (now (rows .entry)) v (pos 0)) (getD (now (rows .entry)) c (pos 0)) ⌝ }
+{
+    let volume = rows[v];
+    let close = rows[c];
+    (volume <= 0) | (1 <= close)
+}
+
+// The tests are joined without branches: a row of a day is nearly always in range.
+fn row_valid(rows: &[i64], at: usize) -> bool
+    requires { ⌜ at + rowNumbers ≤ length (now rows) ⌝ }
+    ensures { λ r. ⌜ r ≡ validRow (rowAt (now (rows .entry)) at) ⌝ }
+{
+    within_at(rows, at, 0, Row::TERM_MOST)
+        & within_at(rows, at + 1, 1, Row::CENTRAL_MOST)
+        & within_at(rows, at + 2, Term::REPO_LEAST, Term::REPO_MOST)
+        & within_at(rows, at + 3, 0, PRICE_MOST)
+        & within_at(rows, at + 4, 0, PRICE_MOST)
+        & within_at(rows, at + 5, 0, PRICE_MOST)
+        & within_at(rows, at + 6, 0, VOLUME_MOST)
+        & close_for_volume(rows, at + 6, at + 3)
+}
+
+// The row that begins at a place. Its numbers are the paper's where the row is in range.
+pub fn row_at(rows: &[i64], at: usize) -> Row
+    requires { ⌜ at + rowNumbers ≤ length (now rows) ⌝ }
+    ensures { λ r. ⌜ r ≡ rowOf (rowAt (now (rows .entry)) at) ⌝ }
+{
+    Row {
+        t: natural_at(rows, at),
+        central: natural_at(rows, at + 1),
+        repo: rows[at + 2],
+        close: natural_at(rows, at + 3),
+        bid: natural_at(rows, at + 4),
+        ask: natural_at(rows, at + 5),
+        volume: natural_at(rows, at + 6),
+    }
+}
+
+// Whether every number of every row is in its range.
+fn every_row_valid(rows: &[i64]) -> bool
+    requires { ⌜ length (now rows) % rowNumbers ≡ 0 ⌝ }
+    ensures { λ r. ⌜ r ≡ every validRow (rowsOf (now (rows .entry))) ⌝ }
+{
+    let mut at = 0;
+    while at < rows.len() {
+        if !row_valid(rows, at) {
+            return false;
+        }
+        at += Row::NUMBERS;
+    }
+    true
+}
+
+// "slice length not a multiple of 7 or over 112" is refused.
+fn whole_rows(rows: &[i64]) -> bool
+    ensures { λ r. ⌜ r ≡ wholeRows (now (rows .entry)) ⌝ }
+{
+    (rows.len() % Row::NUMBERS == 0) & (rows.len() <= Row::ALL_NUMBERS_MOST)
+}
+
+// Whether the numbers are 0 to 16 whole rows, each number in its range: else the day is refused 6.
+pub fn rows_valid(rows: &[i64]) -> bool
+    ensures { λ r. ⌜ r ≡ validRows (now (rows .entry)) ⌝ }
+{
+    if !whole_rows(rows) {
+        return false;
+    }
+    every_row_valid(rows)
+}
