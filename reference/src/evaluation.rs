@@ -1,0 +1,182 @@
+//! A day's rows and the evaluation they give (document 01, "The evaluation
+//! (6.1)").
+
+use crate::exact::{narrow, wide, Quotient};
+use crate::units::{
+    CENTRAL_RATE, DAYS_AHEAD, ONE_IN_TEN_THOUSANDTHS, PRICE, REPO_RATE, ROW_PRICE, ROW_VOLUME,
+    YEAR_IN_DAY_BP,
+};
+
+/// Numbers in a row.
+pub const ROW: usize = 7;
+/// Numbers in the most rows a day may give.
+pub const ROWS_MAX: usize = 16 * ROW;
+/// A price or a side that a row does not have.
+const MISSING: i64 = 0;
+
+/// One row of the day: T, central rate, repo rate, close, bid, ask, volume.
+struct Row {
+    days: i64,
+    central_rate: i64,
+    repo_rate: i64,
+    close: i64,
+    bid: i64,
+    ask: i64,
+    volume: i64,
+}
+
+impl Row {
+    fn from_numbers(numbers: &[i64]) -> Row {
+        Row {
+            days: numbers[0],
+            central_rate: numbers[1],
+            repo_rate: numbers[2],
+            close: numbers[3],
+            bid: numbers[4],
+            ask: numbers[5],
+            volume: numbers[6],
+        }
+    }
+
+    /// Every value in its range; a traded row needs a close.
+    fn is_in_range(&self) -> bool {
+        DAYS_AHEAD.contains(&self.days)
+            && CENTRAL_RATE.contains(&self.central_rate)
+            && REPO_RATE.contains(&self.repo_rate)
+            && ROW_PRICE.contains(&self.close)
+            && ROW_PRICE.contains(&self.bid)
+            && ROW_PRICE.contains(&self.ask)
+            && ROW_VOLUME.contains(&self.volume)
+            && (self.volume == 0 || self.close != MISSING)
+    }
+
+    /// Place (a): a present price in roubles today, half up to a unit. The
+    /// outer none is a result that is no price; the inner a missing price.
+    fn in_roubles(&self, price: i64) -> Option<Option<i64>> {
+        if price == MISSING {
+            return Some(None);
+        }
+        let today = Quotient {
+            numerator: wide(price) * wide(self.central_rate) * YEAR_IN_DAY_BP,
+            denominator: ONE_IN_TEN_THOUSANDTHS
+                * (YEAR_IN_DAY_BP + wide(self.days) * wide(self.repo_rate)),
+        };
+        let price = narrow(today.half_up());
+        PRICE.contains(&price).then_some(Some(price))
+    }
+
+    /// Place (b): the volume in roubles, half up to a thousand.
+    fn weight(&self) -> Option<i64> {
+        let roubles = Quotient {
+            numerator: wide(self.volume) * wide(self.central_rate),
+            denominator: ONE_IN_TEN_THOUSANDTHS,
+        };
+        let weight = narrow(roubles.half_up());
+        ROW_VOLUME.contains(&weight).then_some(weight)
+    }
+}
+
+/// What the rows together say.
+#[derive(Default)]
+struct Market {
+    /// The sum of close times weight, over rows with weight.
+    turnover: i128,
+    weight: i128,
+    /// BID, the greatest row bid.
+    bid: Option<i64>,
+    /// ASK, the least row ask.
+    ask: Option<i64>,
+}
+
+impl Market {
+    /// Takes one row in; none where a rounded figure is out of range.
+    fn take(&mut self, row: &Row) -> Option<()> {
+        let close = row.in_roubles(row.close)?;
+        let bid = row.in_roubles(row.bid)?;
+        let ask = row.in_roubles(row.ask)?;
+        let weight = row.weight()?;
+        if let Some(close) = close {
+            self.turnover += wide(close) * wide(weight);
+            self.weight += wide(weight);
+        }
+        self.bid = self.bid.max(bid);
+        self.ask = match (self.ask, ask) {
+            (Some(least), Some(ask)) => Some(least.min(ask)),
+            (least, ask) => least.or(ask),
+        };
+        Some(())
+    }
+
+    /// Place (c): the weighted close, or the previous evaluation.
+    fn close(&self, previous: i64) -> i64 {
+        if self.weight == 0 {
+            return previous;
+        }
+        let mean = Quotient {
+            numerator: self.turnover,
+            denominator: self.weight,
+        };
+        narrow(mean.half_up())
+    }
+
+    /// The close against BID and ASK: the median where both are present, also
+    /// when BID > ASK.
+    fn settled(&self, close: i64) -> i64 {
+        match (self.bid, self.ask) {
+            (Some(bid), Some(ask)) => median(bid, close, ask),
+            (Some(bid), None) => close.max(bid),
+            (None, Some(ask)) => close.min(ask),
+            (None, None) => close,
+        }
+    }
+}
+
+fn median(a: i64, b: i64, c: i64) -> i64 {
+    a.max(b).min(a.min(b).max(c))
+}
+
+/// Whether a day's rows have a permitted length and every value in range.
+pub fn rows_are_in_range(rows: &[i64]) -> bool {
+    rows.len() <= ROWS_MAX
+        && rows.len().is_multiple_of(ROW)
+        && rows
+            .chunks_exact(ROW)
+            .all(|row| Row::from_numbers(row).is_in_range())
+}
+
+/// The day's evaluation from rows in range, place (d): half up to the grid.
+/// None where a rounded row price, the evaluation or a rounded row volume
+/// falls outside its range (number 7).
+pub fn evaluation(rows: &[i64], previous: i64, grid: i64) -> Option<i64> {
+    let mut market = Market::default();
+    for row in rows.chunks_exact(ROW) {
+        market.take(&Row::from_numbers(row))?;
+    }
+    let settled = Quotient {
+        numerator: wide(market.settled(market.close(previous))),
+        denominator: 1,
+    };
+    let price = settled.half_up_to(grid);
+    PRICE.contains(&price).then_some(price)
+}
+
+#[cfg(test)]
+mod tests {
+    use super::*;
+
+    #[test]
+    fn the_median_is_the_middle_one_in_every_order() {
+        for [a, b, c] in [
+            [1, 2, 3],
+            [1, 3, 2],
+            [2, 1, 3],
+            [2, 3, 1],
+            [3, 1, 2],
+            [3, 2, 1],
+        ] {
+            assert_eq!(median(a, b, c), 2);
+        }
+        assert_eq!(median(2, 2, 1), 2);
+        assert_eq!(median(1, 2, 1), 1);
+    }
+}

@@ -1,0 +1,124 @@
+//! The paper's ways of rounding (document 01, "Places of rounding").
+
+/// A 64-bit number in the width of the arithmetic.
+pub fn wide(x: i64) -> i128 {
+    i128::from(x)
+}
+
+/// A result of the arithmetic that the ranges keep within 64 bits.
+pub fn narrow(x: i128) -> i64 {
+    i64::try_from(x).expect("the paper's ranges keep every figure within 64 bits")
+}
+
+/// An exact quotient, never negative, its denominator above 0.
+#[derive(Clone, Copy, Debug)]
+pub struct Quotient {
+    pub numerator: i128,
+    pub denominator: i128,
+}
+
+impl Quotient {
+    /// The least whole number not below the quotient.
+    pub fn up(self) -> i128 {
+        (self.numerator + self.denominator - 1) / self.denominator
+    }
+
+    /// "Half up": the nearest whole number, ties up.
+    pub fn half_up(self) -> i128 {
+        (2 * self.numerator + self.denominator) / (2 * self.denominator)
+    }
+
+    /// Half up to a multiple of the grid.
+    pub fn half_up_to(self, grid: i64) -> i64 {
+        let steps = Quotient {
+            numerator: self.numerator,
+            denominator: self.denominator * wide(grid),
+        };
+        narrow(steps.half_up() * wide(grid))
+    }
+
+    /// The lesser of two quotients, compared exactly.
+    pub fn lesser(self, other: Quotient) -> Quotient {
+        if other.is_below(self) {
+            other
+        } else {
+            self
+        }
+    }
+
+    /// The greater of two quotients, compared exactly.
+    pub fn greater(self, other: Quotient) -> Quotient {
+        if self.is_below(other) {
+            other
+        } else {
+            self
+        }
+    }
+
+    fn is_below(self, other: Quotient) -> bool {
+        self.numerator * other.denominator < other.numerator * self.denominator
+    }
+}
+
+/// The least whole number from `low` to `high` that holds, where `high` holds
+/// and every number above one that holds does too.
+pub fn least(low: i128, high: i128, holds: impl Fn(i128) -> bool) -> i128 {
+    let (mut low, mut high) = (low, high);
+    while low < high {
+        let middle = low + (high - low) / 2;
+        if holds(middle) {
+            high = middle;
+        } else {
+            low = middle + 1;
+        }
+    }
+    high
+}
+
+#[cfg(test)]
+mod tests {
+    use super::*;
+
+    fn quotient(numerator: i128, denominator: i128) -> Quotient {
+        Quotient {
+            numerator,
+            denominator,
+        }
+    }
+
+    #[test]
+    fn up_adds_nothing_to_a_whole_number() {
+        assert_eq!(quotient(0, 7).up(), 0);
+        assert_eq!(quotient(1, 7).up(), 1);
+        assert_eq!(quotient(7, 7).up(), 1);
+        assert_eq!(quotient(8, 7).up(), 2);
+    }
+
+    #[test]
+    fn ties_go_up() {
+        assert_eq!(quotient(49, 100).half_up(), 0);
+        assert_eq!(quotient(50, 100).half_up(), 1);
+        assert_eq!(quotient(149, 100).half_up(), 1);
+        assert_eq!(quotient(150, 100).half_up(), 2);
+        assert_eq!(quotient(1_003_125, 1).half_up_to(10), 1_003_130);
+        assert_eq!(quotient(1_003_124, 1).half_up_to(10), 1_003_120);
+        assert_eq!(quotient(1_003_150, 1).half_up_to(100), 1_003_200);
+        assert_eq!(quotient(1_003_149, 1).half_up_to(100), 1_003_100);
+    }
+
+    #[test]
+    fn lesser_and_greater_are_exact() {
+        let third = quotient(1, 3);
+        let near = quotient(333_333_333, 1_000_000_000);
+        assert_eq!(third.lesser(near).denominator, 1_000_000_000);
+        assert_eq!(third.greater(near).denominator, 3);
+    }
+
+    #[test]
+    fn least_finds_the_first_that_holds() {
+        assert_eq!(least(0, 10, |x| x * x >= 17), 5);
+        assert_eq!(least(0, 10, |x| x * x >= 16), 4);
+        assert_eq!(least(0, 10, |_| true), 0);
+        assert_eq!(least(3, 3, |_| true), 3);
+    }
+}

@@ -1,0 +1,23 @@
+//! The independent second opinion on document 01: the parameter desk's rules
+//! in exact 128-bit integers, written from the paper alone.
+//!
+//! A quotient stays a numerator and a denominator until one of the paper's
+//! places of rounding (a) to (g).
+
+pub mod compare;
+pub mod count;
+pub mod desk;
+pub mod evaluation;
+pub mod exact;
+pub mod gateway;
+pub mod limits;
+pub mod protocol;
+pub mod random;
+pub mod rates;
+pub mod record;
+pub mod refusal;
+pub mod script;
+pub mod security;
+pub mod statics;
+pub mod units;
+pub mod words;

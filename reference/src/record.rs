@@ -1,0 +1,211 @@
+//! A security's record (document 01, "What the desk covers").
+
+use crate::statics::Statics;
+use crate::units::{
+    AGE, DAYS_AHEAD, DAY_NUMBER, ID, LIMIT, MOVE_COUNT, PRICE, RATE, REPO_RATE, SECOND, VOLATILITY,
+};
+
+/// How many figures a record shows.
+pub const FIGURES: usize = 41;
+
+/// How a near second is shown where there is none.
+const NOT_NEAR: i64 = -1;
+
+/// The two sides of ranges and bands.
+#[derive(Clone, Copy, Debug, PartialEq, Eq)]
+pub enum Side {
+    Upper,
+    Lower,
+}
+
+impl Side {
+    /// Side 0 is the upper one, 1 the lower.
+    pub fn from_number(number: i64) -> Option<Side> {
+        match number {
+            0 => Some(Side::Upper),
+            1 => Some(Side::Lower),
+            _ => None,
+        }
+    }
+}
+
+/// A record's standing, with its last day number.
+#[derive(Clone, Copy, Debug, PartialEq, Eq)]
+pub enum Standing {
+    Admitted(i64),
+    Live(i64),
+}
+
+/// A term: its days, its repo band and its band limits, and the seconds at
+/// which the top and the bottom became near.
+#[derive(Clone, Copy, Debug, PartialEq, Eq)]
+pub struct Term {
+    /// Days k.
+    pub days: i64,
+    pub rrcl: i64,
+    pub rrch: i64,
+    /// The lower band limit, PcL.
+    pub lower: i64,
+    /// The upper band limit, PcH.
+    pub upper: i64,
+    pub near_top: Option<i64>,
+    pub near_bottom: Option<i64>,
+}
+
+/// One security of the table; id 0 marks an empty slot.
+#[derive(Clone, Copy, Debug, PartialEq, Eq)]
+pub struct Record {
+    pub id: i64,
+    pub statics: Statics,
+    pub standing: Standing,
+    /// The latest evaluation, P1.
+    pub p1: i64,
+    /// The evaluation before it, P2.
+    pub p2: i64,
+    /// Volatility.
+    pub s: i64,
+    pub tentative: i64,
+    pub age: i64,
+    /// S_1, S_2, S_3.
+    pub rates: [i64; 3],
+    /// The upper range limits of the three levels.
+    pub upper: [i64; 3],
+    /// The lower range limits of the three levels.
+    pub lower: [i64; 3],
+    pub terms: [Term; 3],
+    pub moves_upper: i64,
+    pub moves_lower: i64,
+    pub last_second: i64,
+}
+
+impl Record {
+    /// An empty slot.
+    pub const EMPTY: Record = Record {
+        id: 0,
+        statics: Statics::EMPTY,
+        standing: Standing::Admitted(0),
+        p1: 0,
+        p2: 0,
+        s: 0,
+        tentative: 0,
+        age: 0,
+        rates: [0; 3],
+        upper: [0; 3],
+        lower: [0; 3],
+        terms: [Term::EMPTY; 3],
+        moves_upper: 0,
+        moves_lower: 0,
+        last_second: 0,
+    };
+
+    pub fn is_live(&self) -> bool {
+        matches!(self.standing, Standing::Live(_))
+    }
+
+    /// The last day: of the admission, or of the latest evaluation.
+    pub fn last_day(&self) -> i64 {
+        match self.standing {
+            Standing::Admitted(day) | Standing::Live(day) => day,
+        }
+    }
+
+    /// Whether every field is within the ranges, orders, multiples of h and
+    /// grid of the paper; a record that is not counts as no such id.
+    pub fn is_sound(&self) -> bool {
+        ID.contains(&self.id)
+            && self.statics.is_sound()
+            && DAY_NUMBER.contains(&self.last_day())
+            && is_price(&self.statics, self.p1)
+            && is_price(&self.statics, self.p2)
+            && VOLATILITY.contains(&self.s)
+            && is_tentative(&self.statics, self.tentative)
+            && AGE.contains(&self.age)
+            && self.rates.iter().all(|rate| RATE.contains(rate))
+            && self.upper.iter().all(|limit| self.is_limit(*limit))
+            && self.lower.iter().all(|limit| self.is_limit(*limit))
+            && self.terms.iter().all(|term| self.is_term(term))
+            && MOVE_COUNT.contains(&self.moves_upper)
+            && MOVE_COUNT.contains(&self.moves_lower)
+            && SECOND.contains(&self.last_second)
+    }
+
+    fn is_limit(&self, limit: i64) -> bool {
+        LIMIT.contains(&limit) && self.statics.is_on_grid(limit)
+    }
+
+    fn is_term(&self, term: &Term) -> bool {
+        is_repo_term(term.days, term.rrcl, term.rrch)
+            && self.is_limit(term.lower)
+            && self.is_limit(term.upper)
+            && term.near_top.is_none_or(|second| SECOND.contains(&second))
+            && term
+                .near_bottom
+                .is_none_or(|second| SECOND.contains(&second))
+    }
+
+    /// The record's figures in the order of the text protocol.
+    pub fn figures(&self) -> [i64; FIGURES] {
+        let mut figures = [0; FIGURES];
+        figures[..8].copy_from_slice(&[
+            self.id,
+            i64::from(self.is_live()),
+            self.last_day(),
+            self.p1,
+            self.p2,
+            self.s,
+            self.tentative,
+            self.age,
+        ]);
+        figures[8..11].copy_from_slice(&self.rates);
+        figures[11..14].copy_from_slice(&self.upper);
+        figures[14..17].copy_from_slice(&self.lower);
+        for (place, term) in figures[17..38].chunks_exact_mut(7).zip(&self.terms) {
+            place.copy_from_slice(&term.figures());
+        }
+        figures[38..].copy_from_slice(&[self.moves_upper, self.moves_lower, self.last_second]);
+        figures
+    }
+}
+
+impl Term {
+    /// A term that no evaluation has made.
+    const EMPTY: Term = Term {
+        days: 0,
+        rrcl: 0,
+        rrch: 0,
+        lower: 0,
+        upper: 0,
+        near_top: None,
+        near_bottom: None,
+    };
+
+    fn figures(&self) -> [i64; 7] {
+        [
+            self.days,
+            self.rrcl,
+            self.rrch,
+            self.lower,
+            self.upper,
+            self.near_top.unwrap_or(NOT_NEAR),
+            self.near_bottom.unwrap_or(NOT_NEAR),
+        ]
+    }
+}
+
+/// An evaluation in range and on the grid.
+pub fn is_price(statics: &Statics, price: i64) -> bool {
+    PRICE.contains(&price) && statics.is_on_grid(price)
+}
+
+/// A tentative rate: 0..S_max, a multiple of h.
+pub fn is_tentative(statics: &Statics, tentative: i64) -> bool {
+    (0..=statics.s_max).contains(&tentative) && statics.is_multiple_of_step(tentative)
+}
+
+/// A term's days and repo band, RRcL ≤ RRcH.
+pub fn is_repo_term(days: i64, rrcl: i64, rrch: i64) -> bool {
+    DAYS_AHEAD.contains(&days)
+        && REPO_RATE.contains(&rrcl)
+        && REPO_RATE.contains(&rrch)
+        && rrcl <= rrch
+}

@@ -1,0 +1,29 @@
+//! The refusals (document 01, "Numbers a member may see").
+
+/// Why a call is refused; each carries the paper's number.
+#[derive(Clone, Copy, Debug, PartialEq, Eq)]
+pub enum Refusal {
+    NoSuchId = 1,
+    AlreadyAdmitted = 2,
+    NoEmptySlot = 3,
+    AdmissionOutOfRange = 4,
+    DayNotAfterLast = 5,
+    ValueOutOfRange = 6,
+    EvaluationOutOfRange = 7,
+    MoveTooGreat = 8,
+    BandCrossed = 9,
+    NotLive = 10,
+    NotMonitored = 11,
+    MovesExhausted = 12,
+    EarlierSecond = 13,
+}
+
+impl Refusal {
+    /// The greatest number a member may see.
+    pub const LAST: i64 = Refusal::EarlierSecond.number();
+
+    /// The number a member sees.
+    pub const fn number(self) -> i64 {
+        self as i64
+    }
+}

@@ -1,0 +1,492 @@
+//! Random evenings. The author keeps a desk of its own while it writes, so
+//! that most calls are about admitted securities and meet their edges.
+
+use crate::desk::{fresh_table, SLOTS_MAX};
+use crate::protocol::perform;
+use crate::random::Random;
+use crate::record::Record;
+use crate::units::{Range, ID, MOVE_COUNT};
+use crate::words::hear;
+
+use super::edges::{edge, neighbours, unsettled_count, Ends};
+use super::{day, edges, quote, share, spelling};
+
+/// Securities that the author works on at a time.
+const FOCUS: usize = 24;
+/// It turns to others about once in so many draws.
+const FOCUS_DRAWS: usize = 900;
+/// A shorter script does not fill the table.
+const FILLING_LINES: usize = 2_000;
+/// A shorter script has no long spells of one security.
+const SPELL_LINES: usize = 10_000;
+/// Days of a quiet spell: the longest wait and a little more.
+const QUIET_DAYS: i64 = 254;
+/// After how many of a hundred lines the table is filled.
+const FILL_AT: usize = 25;
+/// After how many of a hundred lines each spell comes.
+const SPELLS: [(usize, Spell); 3] = [(8, Spell::Falls), (14, Spell::Stays), (20, Spell::Widest)];
+
+/// A long spell of one security.
+#[derive(Clone, Copy, Debug, PartialEq, Eq)]
+enum Spell {
+    /// Its volatility stays, and the tentative rate falls after the longest
+    /// wait.
+    Falls,
+    /// Nothing changes while its age climbs to the end.
+    Stays,
+    /// Its limits move to the greatest a record may hold.
+    Widest,
+}
+
+/// A script of so many lines. Scripts of odd seeds lack the last line's end.
+pub fn script(seed: u64, lines: usize) -> Vec<u8> {
+    let mut author = Author::new(seed, lines);
+    author.write();
+    if seed % 2 == 1 {
+        author.text.pop();
+    }
+    author.text
+}
+
+struct Author {
+    random: Random,
+    table: Vec<Record>,
+    admitted: usize,
+    focus: Vec<usize>,
+    text: Vec<u8>,
+    heard: Vec<i64>,
+    lines: usize,
+    written: usize,
+}
+
+impl Author {
+    fn new(seed: u64, lines: usize) -> Author {
+        Author {
+            random: Random::new(seed),
+            table: fresh_table(SLOTS_MAX),
+            admitted: 0,
+            focus: Vec::new(),
+            text: Vec::new(),
+            heard: Vec::new(),
+            lines,
+            written: 0,
+        }
+    }
+
+    fn write(&mut self) {
+        let mut spells = SPELLS.iter();
+        let mut spell = spells.next();
+        while !self.is_done() {
+            if self.admitted < FOCUS / 2 {
+                self.admission();
+            } else if self.lines >= FILLING_LINES && self.is_past(FILL_AT) && !self.is_full() {
+                self.fill();
+            } else if let Some((_, kind)) =
+                spell.filter(|(percent, _)| self.lines >= SPELL_LINES && self.is_past(*percent))
+            {
+                self.spell(*kind);
+                spell = spells.next();
+            } else {
+                self.turn();
+            }
+        }
+    }
+
+    /// Whether so many of a hundred lines are written.
+    fn is_past(&self, percent: usize) -> bool {
+        100 * self.written >= percent * self.lines
+    }
+
+    fn is_done(&self) -> bool {
+        self.written >= self.lines
+    }
+
+    fn is_full(&self) -> bool {
+        self.admitted == self.table.len()
+    }
+
+    /// Writes one line and performs it, unless the script is done.
+    fn say_line(&mut self, line: &[u8]) {
+        if self.is_done() {
+            return;
+        }
+        self.text.extend(line);
+        self.text.push(b'\n');
+        self.written += 1;
+        let table = &mut self.table;
+        hear(line, &mut self.heard, |verb, numbers| {
+            perform(table, verb, numbers)
+        });
+        self.admitted = self.table.partition_point(|record| record.id != 0);
+    }
+
+    fn say(&mut self, verb: &str, numbers: &[i64]) {
+        let line = spelling::spelled(&mut self.random, verb, numbers);
+        self.say_line(&line);
+    }
+
+    /// One thing an evening has, by its weight among a thousand.
+    fn turn(&mut self) {
+        match self.random.below(1_000) {
+            0..=329 => self.day(),
+            330..=459 => self.day_at_an_edge(),
+            460..=539 => self.unsettled_day(),
+            540..=679 => self.quote(),
+            680..=709 => self.unsettled_quote(),
+            710..=729 => self.alerts(),
+            730..=809 => self.move_side(),
+            810..=819 => self.unsettled_move(),
+            820..=849 => self.read(),
+            850..=875 => self.admission(),
+            876..=905 => self.unsettled_admission(),
+            906..=915 => self.second_admission(),
+            916..=929 => self.stranger(),
+            930..=964 => self.damage(),
+            965..=979 => self.blank(),
+            980..=981 => self.long_line(),
+            982..=984 => self.all_moves(),
+            _ => self.days(),
+        }
+    }
+
+    /// A slot that the author works on; now and then any admitted one.
+    fn slot(&mut self) -> usize {
+        let stale = self.focus.is_empty() || self.random.below(FOCUS_DRAWS) == 0;
+        if stale {
+            let (random, admitted) = (&mut self.random, self.admitted);
+            self.focus = (0..FOCUS).map(|_| random.below(admitted)).collect();
+        }
+        if self.random.chance(85) {
+            self.random.pick(&self.focus)
+        } else {
+            self.random.below(self.admitted)
+        }
+    }
+
+    fn record(&mut self) -> Record {
+        let slot = self.slot();
+        self.table[slot]
+    }
+
+    /// A record that is live and monitored, if a few draws find one; now and
+    /// then any.
+    fn live_record(&mut self) -> Record {
+        let mut record = self.record();
+        if self.random.chance(15) {
+            return record;
+        }
+        for _ in 0..8 {
+            if record.is_live() && record.statics.monitoring {
+                break;
+            }
+            record = self.record();
+        }
+        record
+    }
+
+    fn new_id(&mut self) -> i64 {
+        loop {
+            let id = match self.random.below(30) {
+                0 => *ID.start(),
+                1 => *ID.end(),
+                _ => self.random.any_size(*ID.end()).max(*ID.start()),
+            };
+            if self.table.iter().all(|record| record.id != id) {
+                return id;
+            }
+        }
+    }
+
+    fn admission(&mut self) {
+        let id = self.new_id();
+        let numbers = share::admission(&mut self.random, id);
+        self.say("admit", &numbers);
+    }
+
+    fn unsettled_admission(&mut self) {
+        let id = if self.random.chance(20) {
+            self.record().id
+        } else {
+            self.new_id()
+        };
+        let numbers = if self.random.chance(40) {
+            share::missed_admission(&mut self.random, id)
+        } else {
+            self.edged_admission(id)
+        };
+        self.say("admit", &numbers);
+    }
+
+    /// An admission with a few values at or past their ends.
+    fn edged_admission(&mut self, id: i64) -> Vec<i64> {
+        let random = &mut self.random;
+        let mut numbers = share::admission(random, id);
+        for _ in 0..unsettled_count(random) {
+            let among = random.pick(&[edges::ADMISSION.len(), numbers.len()]);
+            let word = random.below(among);
+            let ends = match word.checked_sub(edges::ADMISSION.len()) {
+                None => edges::ADMISSION[word],
+                Some(word) => edges::STATICS[word],
+            };
+            numbers[word] = edge(random, ends, numbers[word]);
+        }
+        numbers
+    }
+
+    /// An id that is admitted already.
+    fn second_admission(&mut self) {
+        let id = self.record().id;
+        let numbers = share::admission(&mut self.random, id);
+        self.say("admit", &numbers);
+    }
+
+    /// Admissions until no slot is empty, a few of them out of range.
+    fn fill(&mut self) {
+        while !self.is_full() && !self.is_done() {
+            if self.random.chance(95) {
+                self.admission();
+            } else {
+                self.unsettled_admission();
+            }
+        }
+        for _ in 0..5 {
+            self.admission();
+        }
+    }
+
+    fn day(&mut self) {
+        let record = self.record();
+        let numbers = day::numbers(&mut self.random, &record);
+        self.say("evaluate", &numbers);
+    }
+
+    /// Many days of one security.
+    fn days(&mut self) {
+        let slot = self.slot();
+        for _ in 0..self.random.between(5, 20) {
+            let record = self.table[slot];
+            let numbers = if self.random.chance(50) {
+                day::bare(record.id, record.last_day() + 1)
+            } else {
+                day::numbers(&mut self.random, &record)
+            };
+            self.say("evaluate", &numbers);
+        }
+    }
+
+    /// A long spell of one security that is made for it.
+    fn spell(&mut self, kind: Spell) {
+        let id = self.new_id();
+        let admission = match kind {
+            Spell::Falls => share::quiet_admission(id, true),
+            Spell::Stays => share::quiet_admission(id, false),
+            Spell::Widest => share::widest_admission(&mut self.random, id),
+        };
+        self.say("admit", &admission);
+        if kind == Spell::Widest {
+            self.quiet_days(id, 1..=1);
+            self.every_move(id, 0);
+            self.every_move(id, 1);
+            self.quiet_days(id, 2..=2);
+            let heaviest = [day::bare(id, 3), day::heaviest_rows()].concat();
+            self.say("evaluate", &heaviest);
+        } else {
+            self.quiet_days(id, 1..=QUIET_DAYS);
+        }
+    }
+
+    fn quiet_days(&mut self, id: i64, numbers: Range) {
+        for number in numbers {
+            self.say("evaluate", &day::bare(id, number));
+        }
+    }
+
+    /// A day beside the place where a watched figure changes with one of its
+    /// numbers: the refused side first, else one side only, as the record
+    /// then moves on.
+    fn day_at_an_edge(&mut self) {
+        let record = self.record();
+        let numbers = day::numbers(&mut self.random, &record);
+        let word = 1 + self.random.below(numbers.len() - 1);
+        let (low, high) = day_ends(word);
+        let other = self.random.between(low, high);
+        let figure = self.random.pick(&WATCHED);
+        let with = |value: i64| {
+            let mut tried = numbers.clone();
+            tried[word] = value;
+            tried
+        };
+        let figure_at = |value: i64, figure: usize| {
+            let answer = perform(&mut [record], b"evaluate", &with(value))?;
+            answer.figures().get(figure).copied()
+        };
+        let is_refused = |value: i64| figure_at(value, 0) != Some(0);
+        let found = neighbours(numbers[word], other, |value| figure_at(value, figure));
+        let Some((low, high)) = found else {
+            self.say("evaluate", &numbers);
+            return;
+        };
+        if is_refused(low) || is_refused(high) {
+            let (refused, other) = if is_refused(low) {
+                (low, high)
+            } else {
+                (high, low)
+            };
+            self.say("evaluate", &with(refused));
+            self.say("evaluate", &with(other));
+        } else {
+            let side = self.random.pick(&[low, high]);
+            self.say("evaluate", &with(side));
+        }
+    }
+
+    fn unsettled_day(&mut self) {
+        let record = self.record();
+        let mut numbers = day::numbers(&mut self.random, &record);
+        for _ in 0..unsettled_count(&mut self.random) {
+            let word = 1 + self.random.below(numbers.len() - 1);
+            numbers[word] = edge(&mut self.random, day_ends(word), numbers[word]);
+        }
+        self.say("evaluate", &numbers);
+    }
+
+    fn quote(&mut self) {
+        let record = self.live_record();
+        let numbers = quote::numbers(&mut self.random, &record);
+        self.say("quote", &numbers);
+    }
+
+    fn unsettled_quote(&mut self) {
+        let record = self.record();
+        let mut numbers = quote::numbers(&mut self.random, &record);
+        for _ in 0..unsettled_count(&mut self.random) {
+            let word = 1 + self.random.below(numbers.len() - 1);
+            numbers[word] = edge(&mut self.random, edges::QUOTE[word], numbers[word]);
+        }
+        self.say("quote", &numbers);
+    }
+
+    /// Near quotes one second short of u, at u, and beyond; then not near.
+    fn alerts(&mut self) {
+        let record = self.live_record();
+        let term = self.random.below(record.terms.len());
+        let bid = quote::near_bid(&record, term) + self.random.between(-1, 0);
+        let ask = quote::near_ask(&record, term) + self.random.between(0, 1);
+        let sides = self.random.pick(&[(1, 1), (1, 0), (0, 1)]);
+        let start = record.last_second + self.random.between(0, 5);
+        let wait = record.statics.near_seconds;
+        for after in [0, wait - 1, wait, wait, wait + 1] {
+            let numbers = [
+                record.id,
+                start + after,
+                term as i64,
+                (bid * sides.0).max(0),
+                (ask * sides.1).max(0),
+            ];
+            self.say("quote", &numbers);
+        }
+        let cleared = [record.id, start + wait + 1, term as i64, 0, 0];
+        self.say("quote", &cleared);
+    }
+
+    fn move_side(&mut self) {
+        let record = self.live_record();
+        let side = self.random.between(0, 1);
+        self.say("move", &[record.id, side]);
+    }
+
+    fn unsettled_move(&mut self) {
+        let record = self.record();
+        let side = edge(&mut self.random, edges::MOVE[1], 0);
+        self.say("move", &[record.id, side]);
+    }
+
+    fn all_moves(&mut self) {
+        let id = self.live_record().id;
+        let side = self.random.between(0, 1);
+        self.every_move(id, side);
+        self.say("move", &[id, 1 - side]);
+    }
+
+    /// Every move a side has, and some it has not, with quotes between.
+    fn every_move(&mut self, id: i64, side: i64) {
+        for _ in 0..=*MOVE_COUNT.end() + 3 {
+            self.say("move", &[id, side]);
+            if self.random.chance(10) {
+                self.quote();
+            }
+        }
+        self.say("read", &[id]);
+    }
+
+    fn read(&mut self) {
+        let id = self.record().id;
+        self.say("read", &[id]);
+    }
+
+    /// A call about an id that is not admitted.
+    fn stranger(&mut self) {
+        let id = match self.random.below(3) {
+            0 => self.new_id(),
+            1 => self
+                .random
+                .pick(&[0, -1, i64::MIN, i64::MAX, *ID.end() + 1]),
+            _ => -self.record().id,
+        };
+        let (verb, mut numbers) = self.any_call();
+        numbers[0] = id;
+        self.say(verb, &numbers);
+    }
+
+    fn any_call(&mut self) -> (&'static str, Vec<i64>) {
+        let record = self.record();
+        let random = &mut self.random;
+        match random.below(5) {
+            0 => ("admit", share::admission(random, record.id)),
+            1 => ("evaluate", day::numbers(random, &record)),
+            2 => ("quote", quote::numbers(random, &record).to_vec()),
+            3 => ("move", vec![record.id, random.between(0, 1)]),
+            _ => ("read", vec![record.id]),
+        }
+    }
+
+    fn damage(&mut self) {
+        let (verb, numbers) = self.any_call();
+        let line = spelling::damaged(&mut self.random, verb, &numbers);
+        self.say_line(&line);
+    }
+
+    fn blank(&mut self) {
+        let line = spelling::blank(&mut self.random);
+        self.say_line(&line);
+    }
+
+    /// An evaluation with far too many figures, or a call with far too many
+    /// blanks.
+    fn long_line(&mut self) {
+        let record = self.record();
+        let mut numbers = day::bare(record.id, record.last_day() + 1);
+        if self.random.chance(50) {
+            numbers.resize(130 + self.random.below(2_900), 1);
+            self.say("evaluate", &numbers);
+        } else {
+            let mut line = vec![b' '; 1 + self.random.below(9_000)];
+            line.extend(spelling::spelled(&mut self.random, "evaluate", &numbers));
+            self.say_line(&line);
+        }
+    }
+}
+
+/// The figures of an answer whose change is looked for: the number, the
+/// evaluation, s, tentative, age, rates, range limits and band limits.
+const WATCHED: [usize; 24] = [
+    0, 0, 0, 0, 4, 6, 7, 7, 8, 9, 9, 10, 11, 12, 13, 14, 15, 16, 17, 21, 22, 28, 29, 36,
+];
+
+/// The ends of the n-th number of a day.
+fn day_ends(word: usize) -> Ends {
+    match word.checked_sub(edges::DAY.len()) {
+        None => edges::DAY[word],
+        Some(figure) => edges::ROW[figure % edges::ROW.len()],
+    }
+}

@@ -1,0 +1,9 @@
+//! Seeded random scripts that crowd both sides of every edge.
+
+mod day;
+mod edges;
+pub mod evening;
+pub mod gateway;
+mod quote;
+mod share;
+mod spelling;

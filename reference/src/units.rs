@@ -1,0 +1,55 @@
+//! Units and their ranges (document 01, "Units and ranges").
+
+use std::ops::RangeInclusive;
+
+/// A range of the paper, both ends inside.
+pub type Range = RangeInclusive<i64>;
+
+/// A price, in ten-thousandths of a rouble.
+pub const PRICE: Range = 1..=10_000_000_000;
+/// A rate, in basis points.
+pub const RATE: Range = 0..=10_000;
+/// The volatility s, in millionths.
+pub const VOLATILITY: Range = 0..=1_000_000;
+/// A repo rate, in basis points.
+pub const REPO_RATE: Range = -9_999..=9_999;
+/// An id.
+pub const ID: Range = 1..=1_000_000_000;
+/// A day number.
+pub const DAY_NUMBER: Range = 0..=1_000_000;
+/// A second of the session.
+pub const SECOND: Range = 0..=86_399;
+/// The moves of one side since the evaluation, c.
+pub const MOVE_COUNT: Range = 0..=50;
+/// Trading days since the tentative rate last changed.
+pub const AGE: Range = 0..=250;
+/// Days of a term, k, and days of a row, T.
+pub const DAYS_AHEAD: Range = 0..=30;
+/// Non-trading days between days i-2 and i, b.
+pub const DAYS_BETWEEN: Range = 0..=30;
+/// Non-trading days ahead, m.
+pub const DAYS_CLOSED: Range = 0..=10;
+/// A central rate, in ten-thousandths (the rouble is 10,000).
+pub const CENTRAL_RATE: Range = 1..=10_000_000;
+/// A row's close, bid or ask; 0 means missing.
+pub const ROW_PRICE: Range = 0..=10_000_000_000;
+/// A row's volume in thousands; 0 means no trade.
+pub const ROW_VOLUME: Range = 0..=100_000_000;
+/// A quote's bid or ask; 0 means missing.
+pub const QUOTE_PRICE: Range = 0..=100_000_000_000;
+/// A range or band limit that a record may hold.
+pub const LIMIT: Range = 0..=2_020_000_000_000;
+
+/// 100 per cent in basis points.
+pub const ONE_IN_BP: i128 = 10_000;
+/// One in ten-thousandths.
+pub const ONE_IN_TEN_THOUSANDTHS: i128 = 10_000;
+/// One in hundredths.
+pub const ONE_IN_HUNDREDTHS: i128 = 100;
+/// One in millionths.
+pub const ONE_IN_MILLIONTHS: i128 = 1_000_000;
+/// Millionths in a basis point.
+pub const MILLIONTHS_IN_BP: i64 = 100;
+/// A year of 365 days at 100 per cent, in days times basis points: the
+/// 36,500 of a rate in per cent.
+pub const YEAR_IN_DAY_BP: i128 = 3_650_000;

@@ -1,0 +1,74 @@
+//! What the tests share: the paper's statics Z, and securities with them.
+
+#![allow(dead_code)]
+
+use reference::record::Record;
+use reference::security::{admitted, Admission, Day, Quote, RepoTerm};
+
+/// Statics Z of document 01, in the order of its table.
+pub const Z: [i64; 22] = [
+    10, 100, 300, 1000, 500, 5, 2, 5, 8, 50, 500, 700, 900, 4000, 200, 25, 2000, 2000, 1000, 60, 1,
+    1,
+];
+
+/// Places of the statics in Z.
+pub const LOT: usize = 0;
+pub const PCL_MAX: usize = 17;
+pub const MONITORING: usize = 20;
+pub const IS_EWMA: usize = 21;
+
+/// A repo band of 0.
+pub const NO_REPO: RepoTerm = RepoTerm {
+    days: 0,
+    rrcl: 0,
+    rrch: 0,
+};
+
+pub fn z_with(changes: &[(usize, i64)]) -> [i64; 22] {
+    let mut statics = Z;
+    for (place, value) in changes {
+        statics[*place] = *value;
+    }
+    statics
+}
+
+/// The admission of the paper's cases: id 7, day 0, s 20,000.
+pub fn admission(earlier: i64, tentative: i64) -> Admission {
+    Admission {
+        id: 7,
+        day: 0,
+        p1: earlier,
+        p2: earlier,
+        s: 20_000,
+        tentative,
+        statics: Z,
+    }
+}
+
+pub fn security(earlier: i64, tentative: i64) -> Record {
+    admitted(&admission(earlier, tentative)).expect("the paper's case is in range")
+}
+
+/// A rouble row that trades at a price.
+pub fn traded(price: i64) -> [i64; 7] {
+    [0, 10_000, 0, price, 0, 0, 1]
+}
+
+pub fn day(number: i64, rows: &[i64]) -> Day<'_> {
+    Day {
+        number,
+        days_between: 0,
+        days_closed: 0,
+        terms: [NO_REPO; 3],
+        rows,
+    }
+}
+
+pub fn quote(second: i64, bid: i64, ask: i64) -> Quote {
+    Quote {
+        second,
+        term: 0,
+        bid,
+        ask,
+    }
+}

@@ -1,0 +1,62 @@
+//! The scripts are the same for a seed, as long as asked, and meet every
+//! number.
+
+use reference::count::{count, Answers};
+use reference::gateway::gateway;
+use reference::protocol::evening;
+use reference::script;
+
+fn lines(text: &[u8]) -> usize {
+    text.split_inclusive(|byte| *byte == b'\n').count()
+}
+
+#[test]
+fn scripts_have_the_lines_asked_for() {
+    for asked in [0, 1, 10, 100] {
+        for seed in [1, 2] {
+            // A last blank line without its end is no line at all.
+            let evening = lines(&script::evening::script(seed, asked));
+            assert!(asked - evening <= 1);
+            let gateway = lines(&script::gateway::script(seed, asked));
+            assert!(asked - gateway <= 1);
+        }
+    }
+}
+
+#[test]
+fn a_seed_gives_one_script() {
+    assert_eq!(
+        script::evening::script(5, 500),
+        script::evening::script(5, 500)
+    );
+    assert_ne!(
+        script::evening::script(5, 500),
+        script::evening::script(6, 500)
+    );
+    assert_eq!(
+        script::gateway::script(5, 500),
+        script::gateway::script(5, 500)
+    );
+    assert_ne!(
+        script::gateway::script(5, 500),
+        script::gateway::script(6, 500)
+    );
+}
+
+#[test]
+fn an_evening_meets_every_number() {
+    let script = script::evening::script(1, 20_000);
+    let mut answers = Vec::new();
+    evening(&script[..], &mut answers).unwrap();
+    let counted = count(&answers[..], Answers::Evening).unwrap();
+    assert!(counted.missing.is_empty(), "{counted:?}");
+}
+
+#[test]
+fn the_gateway_meets_every_answer() {
+    let script = script::gateway::script(1, 5_000);
+    let mut answers = Vec::new();
+    gateway(&script[..], &mut answers).unwrap();
+    let counted = count(&answers[..], Answers::Gateway).unwrap();
+    assert!(counted.missing.is_empty(), "{counted:?}");
+}
