@@ -4,7 +4,7 @@ ghost use mathlib.Core.Bool.{true};
 ghost use Prim.Native.Nat.{_*_, _≤_};
 ghost use Rattle.paper.specs.Numbers.{hundred, rouble, year, priceMost};
 ghost use Rattle.paper.specs.Roundings.{halfUp, toGrid};
-ghost use Rattle.paper.specs.Ranges.{isPrice, validRows};
+ghost use Rattle.paper.specs.Ranges.{validRows};
 ghost use Rattle.paper.specs.Evaluation.{rowPrice, roublesOf, lesserAsk, median, between, dayRows, rowFits};
 ghost use Rattle.rows.specs.RowLaws.{InRange};
 ghost use Rattle.evaluation.specs.Evaluation.{Discounts, evaluationFrom, evaluationMade};

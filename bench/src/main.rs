@@ -1,0 +1,164 @@
+//! Evaluates a sheet of securities with 16 rows each by the proved rules (the archive of the crate `sheet`) and by the reference, in one process, and
+//! prints the time of each, the ratio, the spread over repeats, how the cost grows with the securities, and the share of each part.
+
+use std::hint::black_box;
+use std::time::Instant;
+
+use reference::record::Record;
+use reference::security::{admitted, evaluated, Admission, Day, RepoTerm};
+
+extern "C" {
+    fn nedrubal_days(x: *const [i64; 28], y: *const [i64; 6], rows: *const i64, rows_len: usize, days: u64) -> u64;
+    fn nedrubal_reads(x: *const [i64; 28], times: u64) -> u64;
+    fn nedrubal_root(n: u64) -> u64;
+}
+
+const SECURITIES: usize = 512;
+const ROWS: usize = 16;
+const DAYS: u64 = 40;
+const REPEATS: usize = 15;
+const MONITORING: usize = 26;
+const IS_EWMA: usize = 27;
+
+/// The numbers of one security: `admit`'s 28, a day's DAY B M K RRCL RRCH, and the rows.
+#[derive(Clone)]
+struct Security {
+    admit: [i64; 28],
+    day: [i64; 6],
+    rows: Vec<i64>,
+}
+
+/// A small generator, so that both sides and every run have the same inputs.
+struct Random(u64);
+
+impl Random {
+    fn below(&mut self, n: u64) -> i64 {
+        self.0 ^= self.0 << 13;
+        self.0 ^= self.0 >> 7;
+        self.0 ^= self.0 << 17;
+        (self.0 % n) as i64
+    }
+}
+
+fn security(id: i64, random: &mut Random) -> Security {
+    let p1 = 10 * (50_000 + random.below(500_000));
+    let mut admit = [0; 28];
+    admit[..6].copy_from_slice(&[id, 3, p1, p1 + 10 * random.below(2_000), 20_000 + random.below(10_000), 600]);
+    admit[6..].copy_from_slice(&[
+        10, 100, 300, 1000, 500, 5, 2, 5, 8, 50, 500, 700, 900, 4000, 200, 25, 2000, 2000, 1000, 60, 1, 1,
+    ]);
+    let mut rows = Vec::new();
+    for row in 0..ROWS {
+        let close = p1 + random.below(30_000) - 15_000;
+        // Half of the rows are roubles today, the others a currency on a later day.
+        let (term, central, repo) = if row % 2 == 0 { (0, 10_000, 0) } else { (random.below(30), 125_000, random.below(3_000) - 500) };
+        let price = close * 10_000 / central;
+        rows.extend_from_slice(&[term, central, repo, price, price - price / 50, price + price / 50, 1 + random.below(1_000)]);
+    }
+    Security { admit, day: [4, 0, random.below(3), 2, -730, 1_460], rows }
+}
+
+fn sheet(securities: usize) -> Vec<Security> {
+    let mut random = Random(0x9E37_79B9_7F4A_7C15);
+    (1..=securities as i64).map(|id| security(id, &mut random)).collect()
+}
+
+fn ours(security: &Security, days: u64) -> u64 {
+    unsafe { nedrubal_days(&security.admit, &security.day, security.rows.as_ptr(), security.rows.len(), days) }
+}
+
+fn figure(record: &Record) -> u64 {
+    (record.p1 as u64).wrapping_add(record.s as u64).wrapping_add(record.terms[2].upper as u64)
+}
+
+fn theirs(security: &Security, days: u64) -> u64 {
+    let [id, day, p1, p2, s, tentative, ..] = security.admit;
+    let mut statics = [0; 22];
+    statics.copy_from_slice(&security.admit[6..]);
+    let mut record = admitted(&Admission { id, day, p1, p2, s, tentative, statics }).expect("the admission is in range");
+    let [first, days_between, days_closed, k, rrcl, rrch] = security.day;
+    let terms = [RepoTerm { days: k, rrcl, rrch }; 3];
+    let mut sum = 0u64;
+    for later in 0..days as i64 {
+        let day = Day { number: first + later, days_between, days_closed, terms, rows: &security.rows };
+        // What finding the record in a table tests, as the proved rule does.
+        assert!(record.is_sound());
+        record = evaluated(&record, &day).expect("the day is accepted");
+        sum = sum.wrapping_add(figure(&record));
+    }
+    sum
+}
+
+/// Nanoseconds for one evaluation: the least, the median and the greatest of the repeats.
+struct Spread {
+    least: f64,
+    median: f64,
+    most: f64,
+}
+
+fn spread(count: f64, mut run: impl FnMut() -> u64) -> Spread {
+    black_box(run());
+    let mut times: Vec<f64> = (0..REPEATS)
+        .map(|_| {
+            let start = Instant::now();
+            black_box(run());
+            start.elapsed().as_nanos() as f64 / count
+        })
+        .collect();
+    times.sort_by(|a, b| a.total_cmp(b));
+    Spread { least: times[0], median: times[REPEATS / 2], most: times[REPEATS - 1] }
+}
+
+fn total(sheet: &[Security], days: u64, one: fn(&Security, u64) -> u64) -> u64 {
+    sheet.iter().fold(0, |sum, security| sum.wrapping_add(one(security, days)))
+}
+
+fn evaluations(sheet: &[Security]) -> f64 {
+    (sheet.len() as u64 * DAYS) as f64
+}
+
+fn line(name: &str, spread: &Spread) {
+    println!("{name:<44} {:>8.0} ns  ({:.0} to {:.0})", spread.median, spread.least, spread.most);
+}
+
+fn compare(securities: usize) {
+    let sheet = sheet(securities);
+    assert_eq!(total(&sheet, DAYS, ours), total(&sheet, DAYS, theirs), "the two sides differ");
+    let rattle = spread(evaluations(&sheet), || total(&sheet, DAYS, ours));
+    let rust = spread(evaluations(&sheet), || total(&sheet, DAYS, theirs));
+    println!("{securities} securities, {ROWS} rows each, {DAYS} days, {REPEATS} repeats; for one evaluation:");
+    line("  the proved rules (Rattle)", &rattle);
+    line("  the reference (Rust, 128-bit integers)", &rust);
+    println!("  ratio {:.2}; the whole sheet: {:.0} µs beside {:.0} µs", rattle.median / rust.median, rattle.median * securities as f64 / 1e3, rust.median * securities as f64 / 1e3);
+}
+
+/// The sheet with something changed in every security, by the proved rules.
+fn changed(change: impl Fn(&mut Security)) -> f64 {
+    let mut sheet = sheet(SECURITIES);
+    sheet.iter_mut().for_each(change);
+    spread(evaluations(&sheet), || total(&sheet, DAYS, ours)).median
+}
+
+fn parts() {
+    let whole = changed(|_| {});
+    let no_rows = changed(|security| security.rows.clear());
+    let no_model = changed(|security| security.admit[IS_EWMA] = 0);
+    let no_monitoring = changed(|security| security.admit[MONITORING] = 0);
+    let one = &sheet(1)[0];
+    let read = spread(1e6, || unsafe { nedrubal_reads(&one.admit, 1_000_000) }).median;
+    let root = spread(1e6, || (0..1_000_000u64).fold(0, |sum, i| sum ^ unsafe { nedrubal_root(black_box(4_500_000_000_000 + i)) })).median;
+    println!("parts of {whole:.0} ns, by leaving one out (rows, model, monitoring) or alone (root, record):");
+    let share = |name: &str, ns: f64| println!("  {name:<42} {ns:>8.0} ns  {:>3.0} %", 100.0 * ns / whole);
+    share("rows: 16 judged, converted, weighed", whole - no_rows);
+    share("rates: move, volatility, tentative, levels", whole - no_model);
+    share("  of which the root", root);
+    share("limits: the six monitored band limits", whole - no_monitoring);
+    share("record: judged sound, and its copies", read);
+}
+
+fn main() {
+    for securities in [64, 128, 256, SECURITIES] {
+        compare(securities);
+    }
+    parts();
+}

@@ -1,0 +1,7 @@
+pub mod Places
+pub mod Steps
+pub mod Row
+pub mod Asks
+pub mod Calls
+pub mod Shape
+pub mod Determined

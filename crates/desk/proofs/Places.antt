@@ -1,0 +1,65 @@
+-- Laws of the first slot with an id. `Passed t id i`: the slots before i have another id, so that the search may go on at i.
+-- Assumes nothing.
+use mathlib.Core.Path.{_≡_, refl, sym, _∙_, ap}
+use mathlib.Core.Bool.{Bool, true, false, not}
+use mathlib.Core.List.{List, _∷_}
+use Prim.Native.Nat.{ℕ, suc, _+_, _<_}
+use native.Mathlib.Nat.{add-zero, zero-add, le-refl}
+use native.Mathlib.Numerals.{add-one}
+use native.Mathlib.Omega.{arith}
+use lib.Dec.{T, eqb}
+use lib.ListN.{length, getD, drop, List·getD-eq-default}
+use lib.Seq.{drop-cons, drop-length}
+use Rattle.paper.specs.declared.Record.{Record}
+use Rattle.paper.specs.Lists.{pick}
+use Rattle.paper.specs.Desk.{blank, place, found}
+use Rattle.security.specs.declared.Slot.{Slot}
+use Rattle.security.specs.Turns.{slotOf}
+
+abbrev pub Passed : List Record → ℕ → ℕ → Type 0
+Passed t id i = place t id ≡ i + place (drop i t) id
+
+pub passed-none : (t : List Record) (id : ℕ) → Passed t id 0
+passed-none t id = sym (zero-add (place t id))
+
+place-first : (r : Record) (t : List Record) (id : ℕ) → T (eqb (r .id) id) → place (r ∷ t) id ≡ 0
+unfolding place
+place-first r t id h = go (eqb (r .id) id) h
+  where
+    go : (b : Bool) → T b → pick b 0 (suc (place t id)) ≡ 0
+    go true h = refl
+    go false h = absurd h
+
+place-later : (r : Record) (t : List Record) (id : ℕ) → T (not (eqb (r .id) id)) → place (r ∷ t) id ≡ suc (place t id)
+unfolding place
+place-later r t id h = go (eqb (r .id) id) h
+  where
+    go : (b : Bool) → T (not b) → pick b 0 (suc (place t id)) ≡ suc (place t id)
+    go true h = absurd h
+    go false h = refl
+
+module _ (t : List Record) (id i : ℕ) (p : Passed t id i) (l : i < length t) where
+  from-here : place t id ≡ i + place (getD t i blank ∷ drop (suc i) t) id
+  from-here = p ∙ ap (λ (u : List Record). i + place u id) (drop-cons t i blank l)
+
+  found-here : T (eqb (getD t i blank .id) id) → i ≡ place t id
+  found-here h = omega (arith, from-here, place-first (getD t i blank) (drop (suc i) t) id h)
+
+  pub passed-more : T (not (eqb (getD t i blank .id) id)) → Passed t id (i + 1)
+  passed-more h = rw add-one (omega (arith, from-here, place-later (getD t i blank) (drop (suc i) t) id h))
+
+  -- the slot that is handed out where the id is found
+  pub slot-here : T (eqb (getD t i blank .id) id) → record { count = length t; at = i; rec = getD t i blank } ≡ slotOf t id
+  unfolding slotOf found
+  slot-here h = ap (λ (k : ℕ). record { count = length t; at = k; rec = getD t k blank }) (found-here h)
+
+-- what is handed out where none of n slots has the id
+abbrev pub absentOf : ℕ → Slot
+absentOf n = record { count = n; at = n; rec = blank }
+
+pub slot-absent : (t : List Record) (id : ℕ) → Passed t id (length t) → absentOf (length t) ≡ slotOf t id
+unfolding place slotOf found
+slot-absent t id p =
+    ap (λ (r : Record). record { count = length t; at = length t; rec = r }) (sym (List·getD-eq-default t blank (le-refl (length t))))
+    ∙ ap (λ (k : ℕ). record { count = length t; at = k; rec = getD t k blank }) (sym (p ∙ ap (λ (u : List Record). length t + place u id)
+    (drop-length t) ∙ add-zero (length t)))

@@ -1,0 +1,90 @@
+// The five calls over the table, a lent row of records. Only `take` and `put` touch the row. Each call takes the slot, asks its rule by value
+// and stores what the rule says, with no branch of its own: a refusal is stored past the end, where nothing is.
+use paper::Admission;
+use paper::Answer;
+use paper::Day;
+use paper::Quote;
+use paper::Record;
+use security::Slot;
+ghost use mathlib.Core.Path.{_≡_};
+ghost use lib.ListN.{set};
+ghost use Rattle.paper.specs.Desk.{Call, step};
+ghost use Rattle.security.specs.Turns.{slotOf};
+ghost use Rattle.desk.specs.Promises.{Promised};
+
+// "id 0 marks an empty slot"
+const EMPTY: u64 = 0;
+
+// The first slot with an id: "Where an id stands in several slots the first alone counts".
+pub fn take(t: &[Record], id: u64) -> Slot
+    ensures { λ r. ⌜ r ≡ slotOf (now (t .entry)) id ⌝ }
+{
+    let mut i = 0;
+    while i < t.len() {
+        if t[i].id == id {
+            return Slot {
+                count: t.len(),
+                at: i,
+                rec: t[i],
+            };
+        }
+        i = i + 1;
+    }
+    security::absent(i)
+}
+
+// The record is stored at a place. Past the end nothing is.
+pub fn put(t: &mut [Record], i: usize, r: Record)
+    ensures { λ _. ⌜ now (t .exit) ≡ set (now (t .entry)) i r ⌝ }
+{
+    if i < t.len() {
+        t[i] = r;
+    }
+}
+
+// "Admission takes the first empty slot."
+pub fn admit(t: &mut [Record], a: Admission) -> Answer
+    ensures { λ r. ⌜ Promised (Call.admit a) (now (t .entry)) r (now (t .exit)) ⌝ }
+{
+    let s = take(t, a.id);
+    let e = take(t, EMPTY);
+    let o = security::admitted(s, e, a);
+    put(t, o.at, o.rec);
+    o.answer
+}
+
+pub fn evaluate(t: &mut [Record], id: u64, d: Day, rows: &[i64]) -> Answer
+    ensures { λ r. ⌜ Promised (Call.evaluate id d (now (rows .entry))) (now (t .entry)) r (now (t .exit)) ⌝ }
+{
+    let s = take(t, id);
+    let o = security::evaluated(s, d, rows);
+    put(t, o.at, o.rec);
+    o.answer
+}
+
+pub fn quote(t: &mut [Record], id: u64, q: Quote) -> Answer
+    ensures { λ r. ⌜ Promised (Call.quote id q) (now (t .entry)) r (now (t .exit)) ⌝ }
+{
+    let s = take(t, id);
+    let o = security::quoted(s, q);
+    put(t, o.at, o.rec);
+    o.answer
+}
+
+// The call `move`, which is a word of the language.
+pub fn moved(t: &mut [Record], id: u64, side: u64) -> Answer
+    ensures { λ r. ⌜ Promised (Call.move id side) (now (t .entry)) r (now (t .exit)) ⌝ }
+{
+    let s = take(t, id);
+    let o = security::moved(s, side);
+    put(t, o.at, o.rec);
+    o.answer
+}
+
+// A read leaves the table: it is lent as `&`.
+pub fn read(t: &[Record], id: u64) -> Answer
+    ensures { λ r. ⌜ r ≡ step (Call.read id) (now (t .entry)) .answer ⌝ }
+{
+    let s = take(t, id);
+    security::read(s)
+}

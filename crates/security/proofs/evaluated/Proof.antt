@@ -1,0 +1,136 @@
+-- `security::evaluated` meets its contract: each return is the first check that applies, 1, 6, 5 or 7; after them the price is all that the rest takes. Assumes nothing.
+use mathlib.Core.Path.{_≡_, refl, sym, ap, _∙_}
+use mathlib.Core.Bool.{true, false, not}
+use lib.Dec.{leb}
+use borrow.Author.Tests.{le-leb, lt-leb}
+use Rattle.paper.specs.Ranges.{gridOf, lastDay, validDay}
+use Rattle.paper.specs.Evaluation.{dayRows}
+use Rattle.paper.specs.Verdicts.{isDone, here, later}
+use Rattle.paper.specs.Desk.{priceOn, evaluateChecks}
+use Rattle.paper.proofs.Logic.{not-false}
+use Rattle.inputs.proofs.Tests.{grid-range}
+use Rattle.soundness.proofs.Facts.{sound-facts}
+use Rattle.security.specs.Turns.{isKnown, evaluateTurn}
+use Rattle.security.proofs.Judging.{turn-refused, known-sound, day-valid, beyond, Made, made}
+use borrow.Author.Needs.{needs}
+use Rattle.security.proofs.evaluated.Statement.{statement}
+use Rattle.security.proofs.evaluated.Tie as tie
+
+known : (c : tie.Else1) → isKnown (c .before .before .before .args .s) ≡ true
+known c = sym (c .before .is-known .ensures) ∙ not-false _ (c .if1 .left)
+
+valid : (c : tie.Else2) → validDay (c .before .before .before .before .before .args .d) (c .before .before .before .before .before .args .rows .now) ≡ true
+valid c = sym (c .before .valid-day .ensures) ∙ not-false _ (c .if2 .left)
+
+after : (c : tie.Else3) → leb (c .before .before .before .before .before .before .before .before .args .d .day) (lastDay (c .before .before .before .before .before .before .before .before .args .s .rec .standing)) ≡ false
+after c = lt-leb _ _ (rw (c .before .before .last-day .ensures) at (c .if3 .left))
+
+-- the evaluation is that of the record's grid
+price : (c : tie.After-evaluation)
+    → Made (gridOf (c .before .before .before .before .before .before .before .before .before .before .before .before .args .s .rec .statics .lot)) (c .before .before .before .before .before .before .before .before .before .before .before .before .args .s .rec .p1 .units) (dayRows (c .before .before .before .before .before .before .before .before .before .before .before .before .args .rows .now)) (c .evaluation .given .0 .0)
+price c =
+    made _ _ _ _ (rw (c .evaluation .given .1, c .before .before .before .grid-of .ensures) at (sym (c .before .before .evaluate .ensures)))
+
+is-known-requires : tie.Need-is-known-requires
+is-known-requires c κs = search needs
+
+refused-requires : tie.Need-refused-requires
+refused-requires c κs = search needs
+
+returns : tie.Need-returns
+unfolding evaluateTurn evaluateChecks isDone
+returns c =
+    let test = rw (c .before .before .is-known .ensures) at (c .before .if1 .taken) in
+    c .refused .ensures ∙ turn-refused _ _ _ _ refl (here refl test)
+
+valid-day-requires : tie.Need-valid-day-requires
+valid-day-requires c κs = search needs
+
+refused-requires-2 : tie.Need-refused-requires-2
+refused-requires-2 c κs = search needs
+
+returns-2 : tie.Need-returns-2
+unfolding evaluateTurn evaluateChecks isDone
+returns-2 c =
+    let test = rw (c .before .before .valid-day .ensures) at (c .before .if2 .taken) in
+    c .refused2 .ensures ∙ turn-refused _ _ _ _ refl (later (ap not (known (c .before .before .before))) (here refl test))
+
+last-day-requires : tie.Need-last-day-requires
+last-day-requires c κs = search needs
+
+refused-requires-3 : tie.Need-refused-requires-3
+refused-requires-3 c κs = search needs
+
+returns-3 : tie.Need-returns-3
+unfolding evaluateTurn evaluateChecks isDone
+returns-3 c =
+    let test = le-leb _ _ (rw (c .before .before .before .last-day .ensures) at (c .before .if3 .taken)) in
+    let e = c .before .before .before .before in
+    c .refused3 .ensures ∙ turn-refused _ _ _ _ refl (later (ap not (known (e .before .before))) (later (ap not (valid e)) (here refl test)))
+
+grid-of-requires : tie.Need-grid-of-requires
+grid-of-requires c κs = search needs
+
+evaluate-requires : tie.Need-evaluate-requires
+evaluate-requires c κs =
+    let e = c .before in
+    let s = e .before .before .before .before .before .before .before .before in
+    let day = day-valid _ _ (valid (e .before .before .before)) in
+    let sound = sound-facts _ (known-sound _ (known (e .before .before .before .before .before))) in
+    (day .1, (sound .figures .later .price .most, rw (c .grid-of .ensures) (grid-range _ .0), rw (c .grid-of .ensures) (grid-range _ .1)))
+
+enum-told : tie.Need-enum-told
+enum-told c = search needs
+
+refused-requires-4 : tie.Need-refused-requires-4
+refused-requires-4 c κs = search needs
+
+enum-known-evaluation : tie.Need-enum-known-evaluation
+enum-known-evaluation c = search needs
+
+evaluated-at-requires : tie.Need-evaluated-at-requires
+evaluated-at-requires c κs =
+    let e = c .before .before .before .before .before in
+    let day = day-valid _ _ (valid (e .before .before .before)) in
+    (known-sound _ (known (e .before .before .before .before .before)), (day .0, price (c .before) .price))
+
+returns-4 : tie.Need-returns-4
+unfolding evaluateTurn evaluateChecks isDone
+returns-4 c =
+    let e = c .before .before .before .before .before in
+    let made-of = rw (c .before .enum-told .given .1, c .before .before .before .before .grid-of .ensures) at (sym (c .before .before .before .evaluate .ensures)) in
+    c .refused4 .ensures
+    ∙ turn-refused _ _ _ _ refl
+    (later (ap not (known (e .before .before .before .before .before)))
+    (later (ap not (valid (e .before .before .before))) (later (after e) (here refl (ap not (beyond _ _ _ made-of))))))
+
+returns-5 : tie.Need-returns-5
+unfolding priceOn
+returns-5 c =
+    let e = c .before .before .before .before .before .before in
+    let p = price (c .before .before) in
+    c .evaluated-at .ensures _
+    (record { known = known (e .before .before .before .before .before); valid = valid (e .before .before .before); later = after e; fits = p .fits })
+    (p .is)
+
+pub evaluated-spec : {M : Type 1} → statement M
+evaluated-spec =
+    tie.close
+    (tie.spec
+    is-known-requires
+    refused-requires
+    returns
+    valid-day-requires
+    refused-requires-2
+    returns-2
+    last-day-requires
+    refused-requires-3
+    returns-3
+    grid-of-requires
+    evaluate-requires
+    enum-told
+    refused-requires-4
+    enum-known-evaluation
+    evaluated-at-requires
+    returns-4
+    returns-5)

@@ -1,0 +1,110 @@
+-- `security::evaluated_at` meets its contract: where 1, 6, 5 and 7 do not apply, each return is the first check that applies, 8 or 9, or none. Assumes nothing.
+use mathlib.Core.Path.{_≡_, refl, sym, ap, _∙_}
+use mathlib.Core.Bool.{true, not}
+use mathlib.Core.List.{List}
+use lib.IntN.{ℤ}
+use Rattle.paper.specs.Rates.{moveTooLarge}
+use Rattle.paper.specs.Verdicts.{isDone, here, later, none, also}
+use Rattle.paper.specs.Desk.{priceOn, moveOn, evaluated, evaluateChecks}
+use Rattle.inputs.proofs.Facts.{day-facts}
+use Rattle.rates.proofs.Statics.{sound-ranges}
+use Rattle.writing.specs.Evaluates.{moveTo, figuresAt}
+use Rattle.security.specs.Turns.{evaluateTurn}
+use Rattle.security.proofs.Judging.{turn-refused, turn-accepted, sound-prices}
+use borrow.Author.Needs.{needs}
+use Rattle.security.proofs.evaluated_at.Statement.{statement}
+use Rattle.security.proofs.evaluated_at.Tie as tie
+
+-- the move that is tested is that of any rows with this price
+move-tested : (c : tie.After-move-too-large) (rows : List ℤ) → priceOn (c .before .before .before .before .before .before .args .s .rec) rows ≡ c .before .before .before .before .before .before .args .p .units
+    → c .move-too-large .result ≡ moveTooLarge (c .before .before .before .before .before .before .args .s .rec .statics) (moveOn (c .before .before .before .before .before .before .args .s .rec) rows)
+unfolding moveOn
+move-tested c rows e = rw (e, ← c .before .move-of .ensures) (c .move-too-large .ensures)
+
+move-of-requires : tie.Need-move-of-requires
+move-of-requires c κs =
+    let s = c .before .before .before .before in
+    let both = sound-prices _ (s .pre .0) in
+    (both .0, both .1, s .pre .1 .1)
+
+move-too-large-requires : tie.Need-move-too-large-requires
+move-too-large-requires c κs = search needs
+
+refused-requires : tie.Need-refused-requires
+refused-requires c κs = search needs
+
+returns : tie.Need-returns
+unfolding evaluateTurn evaluateChecks isDone
+returns c rows k e =
+    let test = sym (move-tested (c .before .before) rows e) ∙ c .before .if1 .taken in
+    c .refused .ensures
+    ∙ turn-refused _ _ _ _ refl
+    (later (ap not (k .known)) (later (ap not (k .valid)) (later (k .later) (later (ap not (k .fits)) (here refl test)))))
+
+element-copy-out-figures-of : tie.Need-element-copy-out-figures-of
+element-copy-out-figures-of c = search needs
+
+figures-of-requires : tie.Need-figures-of-requires
+figures-of-requires c κs =
+    let s = c .before .before .before .before .before .before .before in
+    (sound-ranges _ _ (s .pre .0) (day-facts _ (s .pre .1 .0) .m-most), sym (c .before .move-too-large .ensures) ∙ c .if1 .left)
+
+evaluated-requires : tie.Need-evaluated-requires
+unfolding figuresAt moveTo
+evaluated-requires c κs =
+    let s = c .before .before .before .before .before .before .before .before in
+    record {
+      sound-record = s .pre .0;
+      day = s .pre .1 .0;
+      price = s .pre .1 .1;
+      figures = rw (← c .before .before .before .move-of .ensures) (c .figures-of .ensures);
+    }
+
+in-order-requires : tie.Need-in-order-requires
+in-order-requires c κs = search needs
+
+refused-requires-2 : tie.Need-refused-requires-2
+refused-requires-2 c κs = search needs
+
+returns-2 : tie.Need-returns-2
+unfolding evaluateTurn evaluateChecks isDone
+returns-2 c rows k e =
+    let m = c .before .before .before .before .before .before in
+    let held = sym (move-tested (m .before) rows e) ∙ m .if1 .left in
+    let test = rw (c .before .before .in-order .ensures, c .before .before .before .before .evaluated .ensures rows e) at (c .before .if2 .taken) in
+    c .refused2 .ensures
+    ∙ turn-refused _ _ _ _ refl
+    (later (ap not (k .known))
+    (later (ap not (k .valid)) (later (k .later) (later (ap not (k .fits)) (later held (here refl test))))))
+
+written-requires : tie.Need-written-requires
+written-requires c κs = search needs
+
+returns-3 : tie.Need-returns-3
+unfolding evaluateTurn evaluateChecks
+returns-3 c rows k e =
+    let m = c .before .before .before .before .before .before in
+    let held = sym (move-tested (m .before) rows e) ∙ m .if1 .left in
+    let made = c .before .before .before .before .evaluated .ensures rows e in
+    let ordered = rw (c .before .before .in-order .ensures, made) at (c .before .if2 .left) in
+    rw (c .written .ensures, made)
+    (turn-accepted _ _ _
+    (also (ap not (k .known))
+    (also (ap not (k .valid)) (also (k .later) (also (ap not (k .fits)) (also held (also ordered none)))))))
+
+pub evaluated-at-spec : {M : Type 1} → statement M
+evaluated-at-spec =
+    tie.close
+    (tie.spec
+    move-of-requires
+    move-too-large-requires
+    refused-requires
+    returns
+    element-copy-out-figures-of
+    figures-of-requires
+    evaluated-requires
+    in-order-requires
+    refused-requires-2
+    returns-2
+    written-requires
+    returns-3)

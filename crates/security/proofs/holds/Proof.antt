@@ -1,0 +1,12 @@
+-- `security::holds` meets its contract: it is the definition's test. Assumes nothing.
+use mathlib.Core.Path.{refl}
+use Rattle.security.specs.Turns.{holds}
+use Rattle.security.proofs.holds.Statement.{statement}
+use Rattle.security.proofs.holds.Tie as tie
+
+returns : tie.Need-returns
+unfolding holds
+returns c = refl
+
+pub holds-spec : {M : Type 1} → statement M
+holds-spec = tie.close (tie.spec returns)

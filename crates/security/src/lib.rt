@@ -1,0 +1,349 @@
+// One rule for each call, by value: the slot found and the inputs in, a turn out. Each judges the refusals in the paper's order.
+ghost use mathlib.Core.Path.{_≡_};
+ghost use mathlib.Core.Bool.{true, not};
+ghost use lib.ListN.{getD};
+ghost use Rattle.paper.specs.Lists.{allThree};
+ghost use Rattle.paper.specs.Ranges.{isPrice, validDay, noLimits, sound};
+ghost use Rattle.paper.specs.Limits.{crossed};
+ghost use Rattle.paper.specs.Desk.{blank, saying, showing, nearOn, alertsOn};
+ghost use Rattle.inputs.specs.Parts.{validDayNumbers};
+ghost use Rattle.security.specs.Turns.{holds, isKnown, refusedTurn, admitTurn, evaluateTurn, quoteTurn, moveTurn, readAnswer};
+ghost use Rattle.security.specs.Prices.{Prices};
+use evaluation::Evaluation;
+use paper::Admission;
+use paper::Answer;
+use paper::Day;
+use paper::Limits;
+use paper::Moves;
+use paper::Near;
+use paper::NearSeconds;
+use paper::Price;
+use paper::Quote;
+use paper::Rate;
+use paper::Record;
+use paper::Standing;
+use paper::Statics;
+use paper::Tentative;
+use paper::Term;
+use paper::Verdict;
+
+// What is found of an id in a table: how many slots there are, the place of the first with the id, or their number, and its record, or a blank.
+pub struct Slot {
+    pub count: usize,
+    pub at: usize,
+    pub rec: Record,
+}
+
+// Where to store, what, and what to answer. A refusal stores past the end.
+pub struct Turn {
+    pub at: usize,
+    pub rec: Record,
+    pub answer: Answer,
+}
+
+// "all figures 0 (flags no, nothing near, admitted only)"
+pub fn blank() -> Record
+    ensures { λ r. ⌜ r ≡ blank ⌝ }
+{
+    let price = Price { units: 0 };
+    let none = Limits { lower: 0, upper: 0 };
+    Record {
+        id: 0,
+        statics: Statics {
+            lot: 0,
+            h: 0,
+            q: 0,
+            aup: 0,
+            adown: 0,
+            wait: 0,
+            rh1: 0,
+            rh2: 0,
+            rh3: 0,
+            liq: 0,
+            min1: 0,
+            min2: 0,
+            min3: 0,
+            smax: 0,
+            xpr: 0,
+            shift: 0,
+            pchmax: 0,
+            pclmax: 0,
+            w: 0,
+            u: 0,
+            monitoring: false,
+            ewma: false,
+        },
+        standing: Standing::Admitted(0),
+        p1: price,
+        p2: price,
+        s: 0,
+        tentative: Tentative { bp: 0, age: 0 },
+        rates: [Rate { bp: 0 }; 3],
+        ranges: [none; 3],
+        terms: [Term {
+            k: 0,
+            low: 0,
+            high: 0,
+        }; 3],
+        bands: [none; 3],
+        moves: Moves { upper: 0, lower: 0 },
+        near: [NearSeconds {
+            top: Near::Not,
+            bottom: Near::Not,
+        }; 3],
+        second: 0,
+    }
+}
+
+// What is found of an id that no slot has.
+pub fn absent(n: usize) -> Slot
+    ensures { λ r. ⌜ r ≡ record { count = n; at = n; rec = blank } ⌝ }
+{
+    let rec = blank();
+    Slot {
+        count: n,
+        at: n,
+        rec,
+    }
+}
+
+// ---- answers and turns
+
+// "A refusal returns its number with all figures 0"; "an admission the number 0 alone".
+fn saying(v: Verdict) -> Answer
+    ensures { λ a. ⌜ a ≡ saying v ⌝ }
+{
+    let rec = blank();
+    Answer {
+        verdict: v,
+        rec,
+        top: false,
+        bottom: false,
+    }
+}
+
+// "Accepted evaluations, moves and reads return the record as it then stands".
+fn showing(r: Record) -> Answer
+    ensures { λ a. ⌜ a ≡ showing r ⌝ }
+{
+    Answer {
+        verdict: Verdict::Done,
+        rec: r,
+        top: false,
+        bottom: false,
+    }
+}
+
+// "a quote its two alerts": of the near seconds after it.
+fn alerts_on(r: Record, q: Quote, n: NearSeconds) -> Answer
+    requires { ⌜ n ≡ nearOn r q ⌝ }
+    ensures { λ a. ⌜ a ≡ alertsOn r q ⌝ }
+{
+    let rec = blank();
+    let top = n.top;
+    let bottom = n.bottom;
+    Answer {
+        verdict: Verdict::Done,
+        rec,
+        top: alerts::alert(r.statics.u, top, q.second),
+        bottom: alerts::alert(r.statics.u, bottom, q.second),
+    }
+}
+
+fn refused(count: usize, v: Verdict) -> Turn
+    ensures { λ o. ⌜ o ≡ refusedTurn count v ⌝ }
+{
+    let rec = blank();
+    let answer = saying(v);
+    Turn {
+        at: count,
+        rec,
+        answer,
+    }
+}
+
+// A record that is stored, and answered as it then stands.
+fn written(at: usize, r: Record) -> Turn
+    ensures { λ o. ⌜ o ≡ record { at = at; rec = r; answer = showing r } ⌝ }
+{
+    let answer = showing(r);
+    Turn {
+        at,
+        rec: r,
+        answer,
+    }
+}
+
+// ---- what is found
+
+fn holds(s: Slot) -> bool
+    ensures { λ t. ⌜ t ≡ holds s ⌝ }
+{
+    s.at < s.count
+}
+
+// 1: a table of no slots or over 512, an id that no slot has, a damaged record.
+fn is_known(s: Slot) -> bool
+    ensures { λ t. ⌜ t ≡ isKnown s ⌝ }
+{
+    let r = s.rec;
+    soundness::valid_slots(s.count) & holds(s) & soundness::sound(r)
+}
+
+// ---- the calls
+
+// "admit 4, 2, 3": s is the slot with the id, e the first empty one.
+pub fn admitted(s: Slot, e: Slot, a: Admission) -> Turn
+    ensures { λ o. ⌜ o ≡ admitTurn s e a ⌝ }
+{
+    let count = s.count;
+    if !(soundness::valid_slots(count) & inputs::valid_admission(a)) {
+        return refused(count, Verdict::AdmissionOutOfRange);
+    }
+    if holds(s) {
+        return refused(count, Verdict::AlreadyAdmitted);
+    }
+    if !holds(e) {
+        return refused(count, Verdict::NoEmptySlot);
+    }
+    let rec = writing::admitted(a);
+    let answer = saying(Verdict::Done);
+    Turn {
+        at: e.at,
+        rec,
+        answer,
+    }
+}
+
+// 6 of a day: its numbers and its rows.
+fn valid_day(d: Day, rows: &[i64]) -> bool
+    ensures { λ t. ⌜ t ≡ validDay d (now (rows .entry)) ⌝ }
+{
+    inputs::valid_day_numbers(d) & rows::rows_valid(rows)
+}
+
+// Whether no band is crossed (9).
+fn in_order(bands: [Limits; 3]) -> bool
+    ensures { λ t. ⌜ t ≡ allThree (λ k. not (crossed (getD bands k noLimits))) ⌝ }
+{
+    !limits::is_crossed(bands[0]) & !limits::is_crossed(bands[1]) & !limits::is_crossed(bands[2])
+}
+
+// 8, 9 and what is written, at the evaluation P of a day that is not refused before.
+fn evaluated_at(s: Slot, d: Day, p: Price) -> Turn
+    requires { ⌜ sound (s .rec) ≡ true ⌝ }
+    requires { ⌜ validDayNumbers d ≡ true ⌝ }
+    requires { ⌜ isPrice (p .units) ≡ true ⌝ }
+    ensures { λ o. ⌜ Prices s d (p .units) o ⌝ }
+{
+    let count = s.count;
+    let r = s.rec;
+    let st = r.statics;
+    let rates = r.rates;
+    let tentative = r.tentative;
+    let change = rates::volatility::move_of(r.p1.units, r.p2.units, p.units);
+    if rates::move_too_large(st, change) {
+        return refused(count, Verdict::MoveTooLarge);
+    }
+    let figures = rates::figures_of(st, d.b, d.m, rates[0].bp, change, r.s, tentative);
+    let new = writing::evaluated(r, d, p, figures);
+    let bands = new.bands;
+    if !in_order(bands) {
+        return refused(count, Verdict::BandCrossed);
+    }
+    written(s.at, new)
+}
+
+// "evaluate 1, 6, 5, 7, 8, 9".
+pub fn evaluated(s: Slot, d: Day, rows: &[i64]) -> Turn
+    ensures { λ o. ⌜ o ≡ evaluateTurn s d (now (rows .entry)) ⌝ }
+{
+    let count = s.count;
+    let r = s.rec;
+    let standing = r.standing;
+    if !is_known(s) {
+        return refused(count, Verdict::NoSuchId);
+    }
+    if !valid_day(d, rows) {
+        return refused(count, Verdict::OutOfRange);
+    }
+    if d.day <= soundness::last_day(standing) {
+        return refused(count, Verdict::DayNotAfter);
+    }
+    let g = inputs::grid_of(r.statics.lot);
+    let evaluation = evaluation::evaluate(rows, r.p1.units, g);
+    match evaluation {
+        Evaluation::Beyond => refused(count, Verdict::PriceOutOfRange),
+        Evaluation::Evaluated(p) => evaluated_at(s, d, p),
+    }
+}
+
+// "quote 1, 6, 10, 11, 13".
+pub fn quoted(s: Slot, q: Quote) -> Turn
+    ensures { λ o. ⌜ o ≡ quoteTurn s q ⌝ }
+{
+    let count = s.count;
+    let r = s.rec;
+    let standing = r.standing;
+    if !is_known(s) {
+        return refused(count, Verdict::NoSuchId);
+    }
+    if !inputs::valid_quote(q) {
+        return refused(count, Verdict::OutOfRange);
+    }
+    if !soundness::is_live(standing) {
+        return refused(count, Verdict::NotLive);
+    }
+    if !r.statics.monitoring {
+        return refused(count, Verdict::NotMonitored);
+    }
+    if q.second < r.second {
+        return refused(count, Verdict::SecondEarlier);
+    }
+    let n = writing::near_on(r, q);
+    let rec = writing::quoted(r, q, n);
+    let answer = alerts_on(r, q, n);
+    Turn {
+        at: s.at,
+        rec,
+        answer,
+    }
+}
+
+// "move 1, 6, 10, 11, 12".
+pub fn moved(s: Slot, side: u64) -> Turn
+    ensures { λ o. ⌜ o ≡ moveTurn s side ⌝ }
+{
+    let count = s.count;
+    let r = s.rec;
+    let standing = r.standing;
+    let moves = r.moves;
+    if !is_known(s) {
+        return refused(count, Verdict::NoSuchId);
+    }
+    if !inputs::valid_side(side) {
+        return refused(count, Verdict::OutOfRange);
+    }
+    if !soundness::is_live(standing) {
+        return refused(count, Verdict::NotLive);
+    }
+    if !r.statics.monitoring {
+        return refused(count, Verdict::NotMonitored);
+    }
+    let to = inputs::side_of(side);
+    if limits::count_of(to, moves) == Record::MOVES_MOST {
+        return refused(count, Verdict::MovesUsedUp);
+    }
+    written(s.at, writing::moved(r, to))
+}
+
+// "read 1".
+pub fn read(s: Slot) -> Answer
+    ensures { λ a. ⌜ a ≡ readAnswer s ⌝ }
+{
+    let r = s.rec;
+    if !is_known(s) {
+        return saying(Verdict::NoSuchId);
+    }
+    showing(r)
+}

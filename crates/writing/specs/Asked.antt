@@ -1,0 +1,32 @@
+-- What the makers of three limits ask of their numbers: no more than a sound record and an evaluation in range give. Assumes nothing.
+use mathlib.Core.List.{List}
+use Prim.Native.Nat.{ℕ, _≤_, _<_}
+use native.Mathlib.Omega.{arith}
+use lib.ListN.{getD}
+use Rattle.paper.specs.declared.Rate.{Rate}
+use Rattle.paper.specs.declared.Term.{Term}
+use Rattle.paper.specs.declared.Limits.{Limits}
+use Rattle.paper.specs.declared.Moves.{Moves}
+use Rattle.paper.specs.Numbers.{limitMost}
+use Rattle.paper.specs.Ranges.{noRate, noLimits, termAt}
+use Rattle.limits.specs.LimitRanges.{RangeInputs, TermInputs}
+use Rattle.limits.specs.LimitBounds.{deltaMost}
+
+-- a fact of each of three places
+abbrev pub EachOfThree : (ℕ → Type 0) → Type 0
+EachOfThree P = P 0 × P 1 × P 2
+
+pub at-three : (P : ℕ → Type 0) → ((i : ℕ) → i < 3 → P i) → EachOfThree P
+at-three P f = (f 0 (omega arith), f 1 (omega arith), f 2 (omega arith))
+
+-- of three ranges: the evaluation P and each rate
+abbrev pub RangesAsked : ℕ → List Rate → Type 0
+RangesAsked p rates = EachOfThree (λ i. RangeInputs p (getD rates i noRate .bp))
+
+-- of three bands: the evaluation P, S_1, the moves and each term
+abbrev pub BandsAsked : (p s1 : ℕ) → Moves → List Term → Type 0
+BandsAsked p s1 c terms = EachOfThree (λ k. TermInputs p s1 c (termAt terms k))
+
+-- of three ranges that are shifted: delta and each upper limit
+abbrev pub ShiftsAsked : ℕ → List Limits → Type 0
+ShiftsAsked delta ranges = EachOfThree (λ i. (delta ≤ deltaMost) × (getD ranges i noLimits .upper ≤ limitMost))

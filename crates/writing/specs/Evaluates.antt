@@ -1,0 +1,34 @@
+-- What an evaluation writes, by its price: the paper works from the day's rows, of which the price is all that a record takes. Assumes nothing.
+use mathlib.Core.Path.{_≡_}
+use mathlib.Core.Bool.{true}
+use mathlib.Core.List.{List}
+use Prim.Native.Nat.{ℕ}
+use lib.IntN.{ℤ}
+use lib.ListN.{getD}
+use Rattle.paper.specs.declared.Record.{Record}
+use Rattle.paper.specs.declared.Day.{Day}
+use Rattle.paper.specs.declared.Price.{Price}
+use Rattle.paper.specs.Ranges.{isPrice, sound, noRate}
+use Rattle.paper.specs.Rates.{moveOf, figuresOf}
+use Rattle.paper.specs.Desk.{priceOn, evaluated}
+use Rattle.inputs.specs.Parts.{validDayNumbers}
+use Rattle.rates.specs.declared.Figures.{Figures}
+use Rattle.rates.specs.Figures.{handed}
+
+-- the move to P and the figures of 7.1 at P
+unfoldable pub moveTo : Record → ℕ → ℕ
+moveTo r p = moveOf (r .p1 .units) (r .p2 .units) p
+
+unfoldable pub figuresAt : Record → Day → ℕ → Figures
+figuresAt r d p = handed (figuresOf (r .statics) (d .b) (d .m) (getD (r .rates) 0 noRate .bp) (moveTo r p) (r .s) (r .tentative))
+
+-- what is known when a record is written: 1, 6 and 7 do not apply, and the figures are those at P
+pub record Evaluating (r : Record) (d : Day) (p : Price) (f : Figures) : Type 0 where
+  pub sound-record : sound r ≡ true
+  pub day : validDayNumbers d ≡ true
+  pub price : isPrice (p .units) ≡ true
+  pub figures : f ≡ figuresAt r d (p .units)
+
+-- o is the record after a day of any rows whose evaluation is p
+abbrev pub Evaluates : Record → Day → ℕ → Record → Type 0
+Evaluates r d p o = (rows : List ℤ) → priceOn r rows ≡ p → o ≡ evaluated r d rows
