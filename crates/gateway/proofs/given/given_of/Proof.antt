@@ -1,0 +1,84 @@
+-- `given::given_of` meets its contract: each number is read back from its bits and made unsigned, field by field. Assumes nothing.
+use Rattle.paper.specs.Gateway.{givenOf}
+use Rattle.gateway.proofs.Handed.{read}
+use Rattle.gateway.proofs.given.given_of.Statement.{statement}
+use Rattle.gateway.proofs.given.given_of.Tie as tie
+
+returns : tie.Need-returns
+unfolding givenOf
+returns c =
+    let c22 = c in
+    let c21 = c22 .before in
+    let c20 = c21 .before in
+    let c19 = c20 .before in
+    let c18 = c19 .before in
+    let c17 = c18 .before in
+    let c16 = c17 .before in
+    let c15 = c16 .before in
+    let c14 = c15 .before in
+    let c13 = c14 .before in
+    let c12 = c13 .before in
+    let c11 = c12 .before in
+    let c10 = c11 .before in
+    let c9 = c10 .before in
+    let c8 = c9 .before in
+    let c7 = c8 .before in
+    let c6 = c7 .before in
+    let c5 = c6 .before in
+    let c4 = c5 .before in
+    let c3 = c4 .before in
+    let c2 = c3 .before in
+    let c1 = c2 .before in
+    let f = c1 .before .fits in
+    λ i. record {
+      lot = read (f .lot) (c1 .natural .ensures) i;
+      h = read (f .h) (c2 .natural2 .ensures) i;
+      q = read (f .q) (c3 .natural3 .ensures) i;
+      aup = read (f .aup) (c4 .natural4 .ensures) i;
+      adown = read (f .adown) (c5 .natural5 .ensures) i;
+      wait = read (f .wait) (c6 .natural6 .ensures) i;
+      rh1 = read (f .rh1) (c7 .natural7 .ensures) i;
+      rh2 = read (f .rh2) (c8 .natural8 .ensures) i;
+      rh3 = read (f .rh3) (c9 .natural9 .ensures) i;
+      liq = read (f .liq) (c10 .natural10 .ensures) i;
+      min1 = read (f .min1) (c11 .natural11 .ensures) i;
+      min2 = read (f .min2) (c12 .natural12 .ensures) i;
+      min3 = read (f .min3) (c13 .natural13 .ensures) i;
+      smax = read (f .smax) (c14 .natural14 .ensures) i;
+      xpr = read (f .xpr) (c15 .natural15 .ensures) i;
+      shift = read (f .shift) (c16 .natural16 .ensures) i;
+      pchmax = read (f .pchmax) (c17 .natural17 .ensures) i;
+      pclmax = read (f .pclmax) (c18 .natural18 .ensures) i;
+      w = read (f .w) (c19 .natural19 .ensures) i;
+      u = read (f .u) (c20 .natural20 .ensures) i;
+      monitoring = read (f .monitoring) (c21 .natural21 .ensures) i;
+      ewma = read (f .ewma) (c22 .natural22 .ensures) i;
+    }
+
+pub given-of-spec : {M : Type 1} → statement M
+given-of-spec =
+    tie.close
+    (tie.spec
+    (λ c κs. tt)
+    (λ c κs. tt)
+    (λ c κs. tt)
+    (λ c κs. tt)
+    (λ c κs. tt)
+    (λ c κs. tt)
+    (λ c κs. tt)
+    (λ c κs. tt)
+    (λ c κs. tt)
+    (λ c κs. tt)
+    (λ c κs. tt)
+    (λ c κs. tt)
+    (λ c κs. tt)
+    (λ c κs. tt)
+    (λ c κs. tt)
+    (λ c κs. tt)
+    (λ c κs. tt)
+    (λ c κs. tt)
+    (λ c κs. tt)
+    (λ c κs. tt)
+    (λ c κs. tt)
+    (λ c κs. tt)
+    returns)

@@ -1,0 +1,12 @@
+// Document 01, "What the desk covers": "The C gateway reaches the rate rules and the limit rules with plain numbers .. Each such call gives one
+// figure, or minus the refusal number." Each call is the definition of the paper for every input, and asks nothing of its caller.
+mod answer; // the figure, or minus the refusal number
+mod band; // a band limit
+mod given; // the statics
+mod level; // a level's rate
+mod range; // a range limit
+
+pub use band::band_answer;
+pub use given::given_of;
+pub use level::level_answer;
+pub use range::range_answer;

@@ -1,0 +1,201 @@
+// What C links: document 01, "What the desk covers", "The C gateway reaches the rate rules and the limit rules with plain numbers". Each function
+// takes its own numbers and then the 22 statics in the order of document 01's table, all signed, of any value, and answers one figure, or minus
+// the refusal number. It only makes the numbers unsigned and hands them on; `gateway` has the calls.
+ghost use mathlib.Core.Path.{_≡_};
+ghost use Rattle.paper.specs.Ranges.{natural};
+ghost use Rattle.paper.specs.Gateway.{givenOf, levelCall, rangeCall, bandCall};
+
+// "a level's rate from tentative, m and level".
+#[no_mangle]
+pub extern "C" fn nedrubal_level_rate(
+    tentative: i64,
+    m: i64,
+    level: i64,
+    lot: i64,
+    h: i64,
+    q: i64,
+    aup: i64,
+    adown: i64,
+    wait: i64,
+    rh1: i64,
+    rh2: i64,
+    rh3: i64,
+    liq: i64,
+    min1: i64,
+    min2: i64,
+    min3: i64,
+    smax: i64,
+    xpr: i64,
+    shift: i64,
+    pchmax: i64,
+    pclmax: i64,
+    w: i64,
+    u: i64,
+    monitoring: i64,
+    ewma: i64,
+) -> i64
+    ensures { λ r. ⌜ r ≡ levelCall (givenOf (record { lot = lot; h = h; q = q; aup = aup; adown = adown; wait = wait; rh1 = rh1; rh2 = rh2; rh3 = rh3; liq = liq; min1 = min1; min2 = min2; min3 = min3; smax = smax; xpr = xpr; shift = shift; pchmax = pchmax; pclmax = pclmax; w = w; u = u; monitoring = monitoring; ewma = ewma })) (natural tentative) (natural m) (natural level) ⌝ }
+{
+    let given = gateway::given_of(
+        lot,
+        h,
+        q,
+        aup,
+        adown,
+        wait,
+        rh1,
+        rh2,
+        rh3,
+        liq,
+        min1,
+        min2,
+        min3,
+        smax,
+        xpr,
+        shift,
+        pchmax,
+        pclmax,
+        w,
+        u,
+        monitoring,
+        ewma,
+    );
+    gateway::level_answer(
+        given,
+        exact::natural(tentative),
+        exact::natural(m),
+        exact::natural(level),
+    )
+}
+
+// "a fresh range limit from P, rate and side".
+#[no_mangle]
+pub extern "C" fn nedrubal_range_limit(
+    p: i64,
+    rate: i64,
+    side: i64,
+    lot: i64,
+    h: i64,
+    q: i64,
+    aup: i64,
+    adown: i64,
+    wait: i64,
+    rh1: i64,
+    rh2: i64,
+    rh3: i64,
+    liq: i64,
+    min1: i64,
+    min2: i64,
+    min3: i64,
+    smax: i64,
+    xpr: i64,
+    shift: i64,
+    pchmax: i64,
+    pclmax: i64,
+    w: i64,
+    u: i64,
+    monitoring: i64,
+    ewma: i64,
+) -> i64
+    ensures { λ r. ⌜ r ≡ rangeCall (givenOf (record { lot = lot; h = h; q = q; aup = aup; adown = adown; wait = wait; rh1 = rh1; rh2 = rh2; rh3 = rh3; liq = liq; min1 = min1; min2 = min2; min3 = min3; smax = smax; xpr = xpr; shift = shift; pchmax = pchmax; pclmax = pclmax; w = w; u = u; monitoring = monitoring; ewma = ewma })) (natural p) (natural rate) (natural side) ⌝ }
+{
+    let given = gateway::given_of(
+        lot,
+        h,
+        q,
+        aup,
+        adown,
+        wait,
+        rh1,
+        rh2,
+        rh3,
+        liq,
+        min1,
+        min2,
+        min3,
+        smax,
+        xpr,
+        shift,
+        pchmax,
+        pclmax,
+        w,
+        u,
+        monitoring,
+        ewma,
+    );
+    gateway::range_answer(
+        given,
+        exact::natural(p),
+        exact::natural(rate),
+        exact::natural(side),
+    )
+}
+
+// "a band limit from P, S_1, k, that side's repo rate, c and side"; the repo rate keeps its sign.
+#[no_mangle]
+pub extern "C" fn nedrubal_band_limit(
+    p: i64,
+    s1: i64,
+    k: i64,
+    repo: i64,
+    c: i64,
+    side: i64,
+    lot: i64,
+    h: i64,
+    q: i64,
+    aup: i64,
+    adown: i64,
+    wait: i64,
+    rh1: i64,
+    rh2: i64,
+    rh3: i64,
+    liq: i64,
+    min1: i64,
+    min2: i64,
+    min3: i64,
+    smax: i64,
+    xpr: i64,
+    shift: i64,
+    pchmax: i64,
+    pclmax: i64,
+    w: i64,
+    u: i64,
+    monitoring: i64,
+    ewma: i64,
+) -> i64
+    ensures { λ r. ⌜ r ≡ bandCall (givenOf (record { lot = lot; h = h; q = q; aup = aup; adown = adown; wait = wait; rh1 = rh1; rh2 = rh2; rh3 = rh3; liq = liq; min1 = min1; min2 = min2; min3 = min3; smax = smax; xpr = xpr; shift = shift; pchmax = pchmax; pclmax = pclmax; w = w; u = u; monitoring = monitoring; ewma = ewma })) (natural p) (natural s1) (natural k) repo (natural c) (natural side) ⌝ }
+{
+    let given = gateway::given_of(
+        lot,
+        h,
+        q,
+        aup,
+        adown,
+        wait,
+        rh1,
+        rh2,
+        rh3,
+        liq,
+        min1,
+        min2,
+        min3,
+        smax,
+        xpr,
+        shift,
+        pchmax,
+        pclmax,
+        w,
+        u,
+        monitoring,
+        ewma,
+    );
+    gateway::band_answer(
+        given,
+        exact::natural(p),
+        exact::natural(s1),
+        exact::natural(k),
+        repo,
+        exact::natural(c),
+        exact::natural(side),
+    )
+}

@@ -1,0 +1,104 @@
+// What the benchmark measures, for Rust to link: one security admitted and evaluated day after day by the rules of `security`, and parts of that. The table
+// is not part of it, since its records cannot cross to C; the benchmark runs the whole programs besides.
+ghost use Prim.Native.Nat.{_≤_};
+use exact::natural;
+use paper::Admission;
+use paper::Day;
+use paper::Record;
+use paper::Term;
+use security::Slot;
+
+// The slots of the table that the security would stand in.
+const SLOTS: usize = 512;
+
+// The numbers of one security, in the order of the evening's `admit`.
+fn admission_of(x: &[i64; 28]) -> Admission {
+    let given = gateway::given_of(
+        x[6], x[7], x[8], x[9], x[10], x[11], x[12], x[13], x[14], x[15], x[16], x[17], x[18],
+        x[19], x[20], x[21], x[22], x[23], x[24], x[25], x[26], x[27],
+    );
+    Admission {
+        id: natural(x[0]),
+        day: natural(x[1]),
+        p1: natural(x[2]),
+        p2: natural(x[3]),
+        s: natural(x[4]),
+        tentative: natural(x[5]),
+        given,
+    }
+}
+
+// A day with three terms alike: DAY B M K RRCL RRCH.
+fn day_of(y: &[i64; 6], later: u64) -> Day {
+    let term = Term {
+        k: natural(y[3]),
+        low: y[4],
+        high: y[5],
+    };
+    Day {
+        day: std::num::wrapping_add_u64(natural(y[0]), later),
+        b: natural(y[1]),
+        m: natural(y[2]),
+        terms: [term; 3],
+    }
+}
+
+fn first(r: Record) -> Slot {
+    Slot {
+        count: SLOTS,
+        at: 0,
+        rec: r,
+    }
+}
+
+fn admitted(x: &[i64; 28]) -> Record {
+    let a = admission_of(x);
+    let empty = first(security::blank());
+    let turn = security::admitted(security::absent(SLOTS), empty, a);
+    turn.rec
+}
+
+// What is added up, so that no figure can be left out: the evaluation, the volatility, and a limit.
+fn figure(r: Record) -> u64 {
+    let bands = r.bands;
+    std::num::wrapping_add_u64(r.p1.units, std::num::wrapping_add_u64(r.s, bands[2].upper))
+}
+
+// One security evaluated on so many days.
+#[no_mangle]
+pub extern "C" fn nedrubal_days(x: &[i64; 28], y: &[i64; 6], rows: &[i64], days: u64) -> u64 {
+    let mut r = admitted(x);
+    let mut sum: u64 = 0;
+    let mut i: u64 = 0;
+    while i < days {
+        let turn = security::evaluated(first(r), day_of(y, i), rows);
+        r = turn.rec;
+        sum = std::num::wrapping_add_u64(sum, figure(r));
+        i += 1;
+    }
+    sum
+}
+
+// The record's soundness judged and the record copied, so many times.
+#[no_mangle]
+pub extern "C" fn nedrubal_reads(x: &[i64; 28], times: u64) -> u64 {
+    let mut r = admitted(x);
+    let mut sum: u64 = 0;
+    let mut i: u64 = 0;
+    while i < times {
+        let answer = security::read(first(r));
+        r = answer.rec;
+        sum = std::num::wrapping_add_u64(sum, figure(r));
+        i += 1;
+    }
+    sum
+}
+
+// The least root of a mean of squares of two volatilities.
+#[no_mangle]
+pub extern "C" fn nedrubal_root(n: u64) -> u64 {
+    if n <= 10_000_000_000_000_000 {
+        return exact::least_root(10_000, n);
+    }
+    0
+}
