@@ -13,6 +13,7 @@ pub fn figure(n: u64) -> i64
 }
 
 pub fn refusal(v: Verdict) -> i64
+    requires { ⌜ numberOf v < 2 ^ 63 ⌝ }
     ensures { λ r. ⌜ r ≡ negℤ (pos (numberOf v)) ⌝ }
 {
     0 - v.number() as i64

@@ -167,11 +167,7 @@ fn written(at: usize, r: Record) -> Turn
     ensures { λ o. ⌜ o ≡ record { at = at; rec = r; answer = showing r } ⌝ }
 {
     let answer = showing(r);
-    Turn {
-        at,
-        rec: r,
-        answer,
-    }
+    Turn { at, rec: r, answer }
 }
 
 // ---- what is found

@@ -14,8 +14,28 @@ const SLOTS: usize = 512;
 // The numbers of one security, in the order of the evening's `admit`.
 fn admission_of(x: &[i64; 28]) -> Admission {
     let given = gateway::given_of(
-        x[6], x[7], x[8], x[9], x[10], x[11], x[12], x[13], x[14], x[15], x[16], x[17], x[18],
-        x[19], x[20], x[21], x[22], x[23], x[24], x[25], x[26], x[27],
+        x[6],
+        x[7],
+        x[8],
+        x[9],
+        x[10],
+        x[11],
+        x[12],
+        x[13],
+        x[14],
+        x[15],
+        x[16],
+        x[17],
+        x[18],
+        x[19],
+        x[20],
+        x[21],
+        x[22],
+        x[23],
+        x[24],
+        x[25],
+        x[26],
+        x[27],
     );
     Admission {
         id: natural(x[0]),

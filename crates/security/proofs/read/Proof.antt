@@ -17,7 +17,7 @@ saying-requires c κs = search needs
 
 returns : tie.Need-returns
 unfolding readAnswer readChecks firstOf isDone
-returns c = 
+returns c =
     let unknown : isKnown (c .before .before .before .before .args .s) ≡ false = sym (c .before .before .is-known .ensures) ∙ not-true _ (c .before .if1 .taken) in
     rw (c .saying .ensures, unknown)
 
@@ -26,7 +26,7 @@ showing-requires c κs = search needs
 
 returns-2 : tie.Need-returns-2
 unfolding readAnswer readChecks firstOf isDone
-returns-2 c = 
+returns-2 c =
     let known : isKnown (c .before .before .before .before .args .s) ≡ true = sym (c .before .before .is-known .ensures) ∙ not-false _ (c .before .if1 .left) in
     rw (c .showing .ensures, known)
 

@@ -35,9 +35,10 @@ element-copy-out-bands-of c = search needs
 
 bands-of-requires : tie.Need-bands-of-requires
 bands-of-requires c κs =
-    let s = c .before .before .before .before .before .before in
-    (sound-facts _ (s .pre .sound-record) .valid,
-    bands-asked _ _ _ (s .args .d .terms) (rated (c .before) 0 (omega arith)) (omega arith, omega arith) (day-terms _ (s .pre .day)))
+    let s = c .before .before .before .before .before .before in (
+      sound-facts _ (s .pre .sound-record) .valid,
+      bands-asked _ _ _ (s .args .d .terms) (rated (c .before) 0 (omega arith)) (omega arith, omega arith) (day-terms _ (s .pre .day)),
+    )
 
 returns : tie.Need-returns
 unfolding evaluated figuresOn moveOn figuresAt moveTo

@@ -1,6 +1,6 @@
--- `answer::refusal` meets its contract: every number of a refusal is at most 13, so 0 less it fits, and is its negative. Assumes nothing.
-use mathlib.Core.Path.{_≡_, _∙_, refl}
-use Prim.Native.Nat.{ℕ, zero, suc, _<_, _≤_, _^_}
+-- `answer::refusal` meets its contract: the refusal's number fits, so 0 less it fits too, and is its negative. Assumes nothing.
+use mathlib.Core.Path.{_≡_, refl}
+use Prim.Native.Nat.{ℕ, zero, suc, _<_, _^_}
 use native.Mathlib.Omega.{arith}
 use lib.Dec.{lit<}
 use lib.IntN.{pos, negsuc, negℤ, _-ℤ_, +ℤ-idl}
@@ -9,7 +9,6 @@ use mir.Val.{SFits}
 use mir.Facts.{toZ-ofZ}
 use mir.ValLaws.{toZ-pos}
 use borrow.Author.Needs.{needs}
-use Rattle.gateway.specs.GatewayLaws.{number-most}
 use Rattle.gateway.proofs.answer.refusal.Statement.{statement}
 use Rattle.gateway.proofs.answer.refusal.Tie as tie
 
@@ -23,7 +22,7 @@ less-fits zero h = record { sfits = lit< tt }
 less-fits (suc n) h = record { sfits = omega arith }
 
 small : (c : tie.After-number) → c .number .result < 2 ^ 63
-small c = omega (arith, c .number .ensures, number-most (c .before .args .v))
+small c = omega (arith, c .number .ensures)
 
 number-requires : tie.Need-number-requires
 number-requires c κs = search needs

@@ -1,5 +1,5 @@
 -- `level::level_figure` meets its contract: with isEWMA yes it is the level's rate, with isEWMA no the level's minimum. Assumes nothing.
-use mathlib.Core.Path.{sym, ap, _∙_}
+use mathlib.Core.Path.{sym, _∙_}
 use native.Mathlib.Omega.{arith}
 use borrow.Author.Needs.{needs}
 use Rattle.paper.specs.Gateway.{levelFigure}
