@@ -8,7 +8,13 @@ use reference::record::Record;
 use reference::security::{admitted, evaluated, Admission, Day, RepoTerm};
 
 extern "C" {
-    fn nedrubal_days(x: *const [i64; 28], y: *const [i64; 6], rows: *const i64, rows_len: usize, days: u64) -> u64;
+    fn nedrubal_days(
+        x: *const [i64; 28],
+        y: *const [i64; 6],
+        rows: *const i64,
+        rows_len: usize,
+        days: u64,
+    ) -> u64;
     fn nedrubal_reads(x: *const [i64; 28], times: u64) -> u64;
     fn nedrubal_root(n: u64) -> u64;
 }
@@ -43,44 +49,99 @@ impl Random {
 fn security(id: i64, random: &mut Random) -> Security {
     let p1 = 10 * (50_000 + random.below(500_000));
     let mut admit = [0; 28];
-    admit[..6].copy_from_slice(&[id, 3, p1, p1 + 10 * random.below(2_000), 20_000 + random.below(10_000), 600]);
+    admit[..6].copy_from_slice(&[
+        id,
+        3,
+        p1,
+        p1 + 10 * random.below(2_000),
+        20_000 + random.below(10_000),
+        600,
+    ]);
     admit[6..].copy_from_slice(&[
-        10, 100, 300, 1000, 500, 5, 2, 5, 8, 50, 500, 700, 900, 4000, 200, 25, 2000, 2000, 1000, 60, 1, 1,
+        10, 100, 300, 1000, 500, 5, 2, 5, 8, 50, 500, 700, 900, 4000, 200, 25, 2000, 2000, 1000,
+        60, 1, 1,
     ]);
     let mut rows = Vec::new();
     for row in 0..ROWS {
         let close = p1 + random.below(30_000) - 15_000;
         // Half of the rows are roubles today, the others a currency on a later day.
-        let (term, central, repo) = if row % 2 == 0 { (0, 10_000, 0) } else { (random.below(30), 125_000, random.below(3_000) - 500) };
+        let (term, central, repo) = if row % 2 == 0 {
+            (0, 10_000, 0)
+        } else {
+            (random.below(30), 125_000, random.below(3_000) - 500)
+        };
         let price = close * 10_000 / central;
-        rows.extend_from_slice(&[term, central, repo, price, price - price / 50, price + price / 50, 1 + random.below(1_000)]);
+        rows.extend_from_slice(&[
+            term,
+            central,
+            repo,
+            price,
+            price - price / 50,
+            price + price / 50,
+            1 + random.below(1_000),
+        ]);
     }
-    Security { admit, day: [4, 0, random.below(3), 2, -730, 1_460], rows }
+    Security {
+        admit,
+        day: [4, 0, random.below(3), 2, -730, 1_460],
+        rows,
+    }
 }
 
 fn sheet(securities: usize) -> Vec<Security> {
     let mut random = Random(0x9E37_79B9_7F4A_7C15);
-    (1..=securities as i64).map(|id| security(id, &mut random)).collect()
+    (1..=securities as i64)
+        .map(|id| security(id, &mut random))
+        .collect()
 }
 
 fn ours(security: &Security, days: u64) -> u64 {
-    unsafe { nedrubal_days(&security.admit, &security.day, security.rows.as_ptr(), security.rows.len(), days) }
+    unsafe {
+        nedrubal_days(
+            &security.admit,
+            &security.day,
+            security.rows.as_ptr(),
+            security.rows.len(),
+            days,
+        )
+    }
 }
 
 fn figure(record: &Record) -> u64 {
-    (record.p1 as u64).wrapping_add(record.s as u64).wrapping_add(record.terms[2].upper as u64)
+    (record.p1 as u64)
+        .wrapping_add(record.s as u64)
+        .wrapping_add(record.terms[2].upper as u64)
 }
 
 fn theirs(security: &Security, days: u64) -> u64 {
     let [id, day, p1, p2, s, tentative, ..] = security.admit;
     let mut statics = [0; 22];
     statics.copy_from_slice(&security.admit[6..]);
-    let mut record = admitted(&Admission { id, day, p1, p2, s, tentative, statics }).expect("the admission is in range");
+    let mut record = admitted(&Admission {
+        id,
+        day,
+        p1,
+        p2,
+        s,
+        tentative,
+        statics,
+    })
+    .expect("the admission is in range");
     let [first, days_between, days_closed, k, rrcl, rrch] = security.day;
-    let terms = [RepoTerm { days: k, rrcl, rrch }; 3];
+    let terms = [RepoTerm {
+        days: k,
+        rrcl,
+        rrch,
+    }; 3];
     let mut sum = 0u64;
     for later in 0..days as i64 {
-        let day = Day { number: first + later, days_between, days_closed, terms, rows: &security.rows };
+        let day = Day {
+            number: first + later,
+            days_between,
+            days_closed,
+            terms,
+            rows: &security.rows,
+        };
         // What finding the record in a table tests, as the proved rule does.
         assert!(record.is_sound());
         record = evaluated(&record, &day).expect("the day is accepted");
@@ -96,21 +157,47 @@ struct Spread {
     most: f64,
 }
 
-fn spread(count: f64, mut run: impl FnMut() -> u64) -> Spread {
-    black_box(run());
-    let mut times: Vec<f64> = (0..REPEATS)
-        .map(|_| {
-            let start = Instant::now();
-            black_box(run());
-            start.elapsed().as_nanos() as f64 / count
-        })
-        .collect();
+fn spread(mut times: Vec<f64>) -> Spread {
     times.sort_by(|a, b| a.total_cmp(b));
-    Spread { least: times[0], median: times[REPEATS / 2], most: times[REPEATS - 1] }
+    Spread {
+        least: times[0],
+        median: times[times.len() / 2],
+        most: times[times.len() - 1],
+    }
+}
+
+fn once(count: f64, run: &mut dyn FnMut() -> u64) -> f64 {
+    let start = Instant::now();
+    black_box(run());
+    start.elapsed().as_nanos() as f64 / count
+}
+
+/// Both sides by turns, so that whatever else the machine does falls on both.
+fn by_turns(
+    count: f64,
+    mut one: impl FnMut() -> u64,
+    mut other: impl FnMut() -> u64,
+) -> (Spread, Spread) {
+    let (mut ones, mut others) = (Vec::new(), Vec::new());
+    for _ in 0..=REPEATS {
+        ones.push(once(count, &mut one));
+        others.push(once(count, &mut other));
+    }
+    // The first turn warms the caches.
+    (spread(ones.split_off(1)), spread(others.split_off(1)))
+}
+
+/// The least of the repeats.
+fn least(count: f64, mut run: impl FnMut() -> u64) -> f64 {
+    (0..REPEATS)
+        .map(|_| once(count, &mut run))
+        .fold(f64::INFINITY, f64::min)
 }
 
 fn total(sheet: &[Security], days: u64, one: fn(&Security, u64) -> u64) -> u64 {
-    sheet.iter().fold(0, |sum, security| sum.wrapping_add(one(security, days)))
+    sheet
+        .iter()
+        .fold(0, |sum, security| sum.wrapping_add(one(security, days)))
 }
 
 fn evaluations(sheet: &[Security]) -> f64 {
@@ -118,25 +205,45 @@ fn evaluations(sheet: &[Security]) -> f64 {
 }
 
 fn line(name: &str, spread: &Spread) {
-    println!("{name:<44} {:>8.0} ns  ({:.0} to {:.0})", spread.median, spread.least, spread.most);
+    println!(
+        "{name:<44} {:>8.0} ns  ({:.0} to {:.0})",
+        spread.median, spread.least, spread.most
+    );
 }
 
 fn compare(securities: usize) {
     let sheet = sheet(securities);
-    assert_eq!(total(&sheet, DAYS, ours), total(&sheet, DAYS, theirs), "the two sides differ");
-    let rattle = spread(evaluations(&sheet), || total(&sheet, DAYS, ours));
-    let rust = spread(evaluations(&sheet), || total(&sheet, DAYS, theirs));
+    assert_eq!(
+        total(&sheet, DAYS, ours),
+        total(&sheet, DAYS, theirs),
+        "the two sides differ"
+    );
+    let (rattle, rust) = by_turns(
+        evaluations(&sheet),
+        || total(&sheet, DAYS, ours),
+        || total(&sheet, DAYS, theirs),
+    );
     println!("{securities} securities, {ROWS} rows each, {DAYS} days, {REPEATS} repeats; for one evaluation:");
     line("  the proved rules (Rattle)", &rattle);
     line("  the reference (Rust, 128-bit integers)", &rust);
-    println!("  ratio {:.2}; the whole sheet: {:.0} µs beside {:.0} µs", rattle.median / rust.median, rattle.median * securities as f64 / 1e3, rust.median * securities as f64 / 1e3);
+    println!(
+        "  ratio {:.2} of the medians, {:.2} of the least",
+        rattle.median / rust.median,
+        rattle.least / rust.least
+    );
+    let sheet_us = |ns: f64| ns * securities as f64 / 1e3;
+    println!(
+        "  the whole sheet: {:.0} µs beside {:.0} µs",
+        sheet_us(rattle.median),
+        sheet_us(rust.median)
+    );
 }
 
 /// The sheet with something changed in every security, by the proved rules.
 fn changed(change: impl Fn(&mut Security)) -> f64 {
     let mut sheet = sheet(SECURITIES);
     sheet.iter_mut().for_each(change);
-    spread(evaluations(&sheet), || total(&sheet, DAYS, ours)).median
+    least(evaluations(&sheet), || total(&sheet, DAYS, ours))
 }
 
 fn parts() {
@@ -145,14 +252,25 @@ fn parts() {
     let no_model = changed(|security| security.admit[IS_EWMA] = 0);
     let no_monitoring = changed(|security| security.admit[MONITORING] = 0);
     let one = &sheet(1)[0];
-    let read = spread(1e6, || unsafe { nedrubal_reads(&one.admit, 1_000_000) }).median;
-    let root = spread(1e6, || (0..1_000_000u64).fold(0, |sum, i| sum ^ unsafe { nedrubal_root(black_box(4_500_000_000_000 + i)) })).median;
-    println!("parts of {whole:.0} ns, by leaving one out (rows, model, monitoring) or alone (root, record):");
-    let share = |name: &str, ns: f64| println!("  {name:<42} {ns:>8.0} ns  {:>3.0} %", 100.0 * ns / whole);
+    let read = least(1e6, || unsafe { nedrubal_reads(&one.admit, 1_000_000) });
+    let root = least(1e6, || {
+        (0..1_000_000u64).fold(0, |sum, i| {
+            sum ^ unsafe { nedrubal_root(black_box(4_500_000_000_000 + i)) }
+        })
+    });
+    println!("parts of {whole:.0} ns (least of the repeats), by leaving one out (rows, model, monitoring) or alone (root, record):");
+    let share =
+        |name: &str, ns: f64| println!("  {name:<42} {ns:>8.0} ns  {:>3.0} %", 100.0 * ns / whole);
     share("rows: 16 judged, converted, weighed", whole - no_rows);
-    share("rates: move, volatility, tentative, levels", whole - no_model);
+    share(
+        "rates: move, volatility, tentative, levels",
+        whole - no_model,
+    );
     share("  of which the root", root);
-    share("limits: the six monitored band limits", whole - no_monitoring);
+    share(
+        "limits: the six monitored band limits",
+        whole - no_monitoring,
+    );
     share("record: judged sound, and its copies", read);
 }
 

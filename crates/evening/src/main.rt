@@ -1,8 +1,4 @@
-// The desk's calculator for an evening: a table of 512 slots, lent once to the lines of standard input.
-use serve::fresh;
-use serve::serve;
-
+// The desk's calculator for an evening: a fresh table of 512 slots, served with the lines of standard input.
 fn main() {
-    let mut t = fresh();
-    serve(&mut t);
+    sitting::on(serve::fresh());
 }

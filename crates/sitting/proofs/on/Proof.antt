@@ -1,5 +1,5 @@
--- `evening::main` meets its contract: a walk of its MIR, by hand. The table is a local array that is lent once as a `&mut [Record]`, and comes back when
--- the input has ended.
+-- `sitting::on` meets its contract: a walk of its MIR, by hand. The table comes by value and is moved to a local array, which is lent once as a
+-- `&mut [Record]` and comes back when the input has ended.
 -- Assumes nothing.
 use mathlib.Core.Path.{_≡_, refl, sym, _∙_, subst}
 use Prim.Native.Nat.{ℕ}
@@ -19,14 +19,14 @@ use prog.Wp.{Heap, Calls, Loops, WpFn, Tables}
 use ghost.Atoms.{Atoms, sem}
 use contract.Monad.{Fun}
 use contract.Running.{givenOf, tables, tablesOf}
-use types.Kit.{Given, Goal, Item, Sq, ‵, raw, _⊛_, some, later, _$_, _∵_, !, qed, by, move, keep, drop, use0, use1, use3, split, join, pick, rewrite, fsplit, fjoin, fpick, fpack, feqI, suffices, frame, await, done}
+use types.Kit.{Given, Goal, Item, Sq, ‵, _⊛_, some, later, _$_, _∵_, !, qed, by, move, keep, drop, use1, use3, split, join, pick, rewrite, fsplit, fjoin, fpick, fpack, feqI, suffices, frame, await, done}
 use types.Part.{agg}
-use types.Run.{look, init, forget, stop, from, load, lit, unit-lit, addr, of-opd, and-then, no-more, assigns, land, returns, enter, alloc1, alloc0, params1, pass0}
+use types.Run.{look, init, forget, stop, from, load, lit, unit-lit, addr, of-opd, and-then, no-more, assigns, land, returns, enter, alloc1, alloc0, params1, pass1, pass0}
 use types.Tokens.{lft-new, lft-end}
 use types.SemTy.{cells, Arr}
 use types.Share.{arr-parts}
 use sound.WpLaws.{FmC, fmOf, WpFn-mono}
-use denote.RattleType.{RattleType}
+use denote.RattleType.{RattleType, owns}
 use denote.Array.{Array, array-vals, array-tells, array-lawful, array-makes}
 use denote.ArrayMemory.{array-apart, array-whole}
 use denote.Memory.{cellAt, mem, shares, partAt, partOf}
@@ -39,12 +39,11 @@ use denote.Index.{row, whole-in, whole-out}
 use denote.Steps.{only, owned, facts, nothing}
 use denote.Struct.Laws as LL
 use denote.Triple.Statement.{Contract, Triple}
-use denote.Triple.Call.{calls-at}
-use denote.Triple.Entry.{onEntry}
+use denote.Triple.Entry.{Vals, onEntry}
 use denote.Triple.Spec.{Meets, tripleOf}
 use denote.Triple.Table.{entered, cited}
-use denote.Triple.Clauses.{ensured}
-use denote.Triple.Walked.{Stays, onExit, walkOf, Walks, ends-at, walked, walk-meets}
+use denote.Triple.Walked.{Stays, stay-none, onExit, walkOf, goes-none, Walks, ends-at, walked, walk-meets}
+use denote.Exit.{yes}
 use Rattle.paper.specs.declared.Record.{Record}
 use Rattle.paper.specs.Desk.{Call, run}
 use Rattle.paper.proofs.Record as S
@@ -52,16 +51,13 @@ use Rattle.paper.proofs.Record.Laws as T′
 use Rattle.desk.proofs.Row.{R, vals, tells, makes, env-of}
 use Rattle.desk.proofs.Calls.{wref, ref, machine, Owned}
 use Rattle.perform.proofs.Gives.{gives-up, freed}
-use Rattle.serve.proofs.fresh as fresh
-use Rattle.serve.proofs.fresh.Symbol as fresh-def
-use Rattle.serve.proofs.fresh.Met as fresh-thm
 use Rattle.serve.proofs.serve as serve
 use Rattle.serve.proofs.serve.Symbol as serve-def
 use Rattle.serve.proofs.serve.Met as serve-thm
-use Rattle.evening.proofs.main as f
-use Rattle.evening.proofs.main.Key as key
-use Rattle.evening.proofs.main.Statement as stated
-use Rattle.evening.proofs.main.Code as code
+use Rattle.sitting.proofs.on as f
+use Rattle.sitting.proofs.on.Key as key
+use Rattle.sitting.proofs.on.Statement as stated
+use Rattle.sitting.proofs.on.Code as code
 
 -- the table's type
 abbrev slots : ℕ
@@ -92,12 +88,9 @@ roomN : (ts : List Record) → length ts ≡ slots → Room R (length ts)
 roomN ts e = subst (λ (n : ℕ). Room R n) (sym e) (lit< tt, lit< tt)
 
 abbrev stayed : Stays (f.ended .signature .params) (f.ended .kept)
-stayed = tt
+stayed = (stay-none (λ _. RN) yes, tt)
 
 module _ {M : Type 1} (𝓤 : URA M) (H : Heap 𝓤) (A : Atoms 𝓤) (mem′ : Memory → SProp 𝓤) (run′ : Routine → Fun 𝓤) where
-  abbrev Fresh : Contract 𝓤
-  Fresh = tripleOf 𝓤 H A fresh.signature (fresh.spec 𝓤 H A mem′ run′)
-
   abbrev Serve : Contract 𝓤
   Serve = tripleOf 𝓤 H A serve.signature (serve.spec 𝓤 H A mem′ run′)
 
@@ -125,85 +118,81 @@ module _ {M : Type 1} (𝓤 : URA M) (H : Heap 𝓤) (A : Atoms 𝓤) (W : Given
       rewrite ! 0 (λ (us : List Val). ‵ (cellAt fullShare (RN .mir) us b 0)) (tellsN l vs p) refl $
       use1 W (‵ (fat fullShare τN b 0 (valN l))) (W .laws .raw-at fullShare τN b 0 (valN l)) $ k (subst (Is RN l) (tellsN l vs p) p)))
 
-  module _ (mem′ : Memory → SProp 𝓤) (run′ : Routine → Fun 𝓤) where
-    abbrev Post : Val → SProp 𝓤
-    Post = walkOf 𝓤 H A f.ended stayed (f.clauses 𝓤 H A mem′ run′) .post ((tt, tt, tt, tt, tt), tt)
+  module _ (mem′ : Memory → SProp 𝓤) (run′ : Routine → Fun 𝓤) (ts : List Record) (w : Val) (is : Is RN ts (w ∷ [])) where
+    abbrev x : List Record × Unit {0}
+    x = (ts, tt)
 
-    -- `main` has no `ensures`, so that what it ends with is `sep .. emp`
+    abbrev at : Vals f.signature tt
+    at = (w ∷ [], tt)
+
+    abbrev Post : Val → SProp 𝓤
+    Post = walkOf 𝓤 H A f.ended stayed (f.clauses 𝓤 H A mem′ run′) .post ((tt, tt, tt, x, at), tt)
+
+    -- `on` has no `ensures`, so that what it ends with is `sep .. emp`
     abbrev Ends : SProp 𝓤
-    Ends = onExit 𝓤 H A f.ended stayed tt tt tt vunit tt tt tt
+    Ends = onExit 𝓤 H A f.ended stayed tt tt at vunit tt x (tt, tt)
 
     exits : ent 𝓤 (emp 𝓤) (Post vunit)
     exits =
-        qed W [] ∵ suffices ! _ (ends-at 𝓤 H A f.ended stayed (f.clauses 𝓤 H A mem′ run′) W ((tt, tt, tt, tt, tt), tt) vunit tt tt tt) $
+        qed W [] ∵ suffices ! _ (ends-at 𝓤 H A f.ended stayed (f.clauses 𝓤 H A mem′ run′) W ((tt, tt, tt, x, at), tt) vunit tt (tt, tt) (tt, tt)) $
         suffices ! Ends (via 𝓤 (sep 𝓤 (emp 𝓤) Ends) (emp∗ 𝓤 Ends) (comm∗ 𝓤 (emp 𝓤) Ends)) $
-        feqI ! (List Val) (vunit ∷ []) (vunit ∷ []) refl $ nothing ! $ nothing ! $ done !
+        feqI ! (List Val) (vunit ∷ []) (vunit ∷ []) refl $ nothing ! $ owned ! RN (Is RN) (array-makes 𝓤 H A W R (makes 𝓤 H A) slots) ts (w ∷ []) is $
+        fjoin ! $ nothing ! $ done !
 
-    abbrev to-fresh : Fresh 𝓤 H A mem′ run′ .Ghost
-    to-fresh = ((tt, tt, tt, tt, tt), tt)
+    abbrev to-serve : Lft → ℕ → GName → Serve 𝓤 H A mem′ run′ .Ghost
+    to-serve κ b γ = (((κ, tt), (fullShare, tt), tt, (ref b 0 γ ts, tt), (machine b 0 ts ∷ [], tt)), tt)
 
-    goes-fresh : ent 𝓤 (emp 𝓤) (Fresh 𝓤 H A mem′ run′ .pre to-fresh)
-    goes-fresh = qed W [] ∵ nothing ! $ nothing ! $ join ! $ frame ! $ done !
-
-    abbrev to-serve : List Record → Lft → ℕ → GName → Serve 𝓤 H A mem′ run′ .Ghost
-    to-serve ts κ b γ = (((κ, tt), (fullShare, tt), tt, (ref b 0 γ ts, tt), (machine b 0 ts ∷ [], tt)), tt)
-
-    goes-serve : (ts : List Record) (κ : Lft) (b : ℕ) (γ : GName)
-        → ent 𝓤 (sep 𝓤 (sem 𝓤 H A (Owned κ b 0 γ ts)) (A .lft κ fullShare)) (Serve 𝓤 H A mem′ run′ .pre (to-serve ts κ b γ))
-    goes-serve ts κ b γ =
+    goes-serve : (κ : Lft) (b : ℕ) (γ : GName)
+        → ent 𝓤 (sep 𝓤 (sem 𝓤 H A (Owned κ b 0 γ ts)) (A .lft κ fullShare)) (Serve 𝓤 H A mem′ run′ .pre (to-serve κ b γ))
+    goes-serve κ b γ =
         qed W (‵ (Owned κ b 0 γ ts) ∷ ‵ (flft κ fullShare) ∷ []) ∵ nothing ! $ move ! (2 ∷ 0 ∷ []) $ join ! $ move ! (1 ∷ 0 ∷ []) $
         nothing ! $ move ! (1 ∷ 0 ∷ []) $ fjoin ! $ move ! (1 ∷ 0 ∷ []) $ join ! $ frame ! $ done !
 
-    module _ (C : Calls 𝓤 H) (Λ : Loops 𝓤 H) (fm : FmC 𝓤 H (W .laws) C) (known-fresh : Triple 𝓤 (C fresh-def.name) (Fresh 𝓤 H A mem′ run′))
-        (known-serve : Triple 𝓤 (C serve-def.name) (Serve 𝓤 H A mem′ run′)) where
-      walk : ent 𝓤 (onEntry 𝓤 H A f.signature tt tt tt tt) (WpFn 𝓤 H C Λ code.function [] Post)
+    module _ (C : Calls 𝓤 H) (Λ : Loops 𝓤 H) (fm : FmC 𝓤 H (W .laws) C) (known : Triple 𝓤 (C serve-def.name) (Serve 𝓤 H A mem′ run′)) where
+      walk : ent 𝓤 (onEntry 𝓤 H A f.signature tt tt x at) (WpFn 𝓤 H C Λ code.function (w ∷ []) Post)
       walk =
-          qed W (‵ ftrue ∷ ‵ ftrue ∷ []) ∵ enter ! C Λ code.function [] _ $
-          alloc1 ! (λ l₀. alloc1 ! (λ l₁. alloc1 ! (λ l₂. alloc1 ! (λ l₃. alloc1 ! (λ l₄. alloc1 ! (λ l₅. alloc0 ! $ params1 ! $ pass0 ! $
-          use0 W (raw (Fresh 𝓤 H A mem′ run′ .pre to-fresh)) goes-fresh $
-          calls-at ! fm (Fresh 𝓤 H A mem′ run′) known-fresh to-fresh (no-more !) (λ w.
-          use1 W (later (some (λ (ts : List Record). (‵ ftrue ⊛ ‵ (RN .own ts (w ∷ []))) ⊛ raw (ensured 𝓤 H A fresh.ended (fresh.clauses 𝓤 H A mem′ run′) tt tt tt ts))))
-          (id⊢ 𝓤 _) $ await ! tt $ pick ! (λ ts.
-          split ! $ move ! (1 ∷ []) $ drop ! $ split ! $ drop ! $ facts ! RN (Is RN) (shows 𝓤 H A RN) ts (w ∷ []) (λ is.
-          land ! (from ! (stop !)) (init ! 6 refl (typedN ts w is)) $
-          assigns ! (of-opd ! (load ! (from ! (stop !)) (look ! 6 refl))) (from ! (stop !)) (init ! 8 refl (typedN ts w is)) $
+          qed W (‵ ftrue ∷ ‵ (owns (RN ∷ []) x at) ∷ []) ∵ enter ! C Λ code.function (w ∷ []) _ $
+          alloc1 ! (λ l₀. alloc1 ! (λ l₁. alloc1 ! (λ l₂. alloc1 ! (λ l₃. alloc1 ! (λ l₄. alloc1 ! (λ l₅. alloc0 ! $ params1 ! $
+          pass1 ! (init ! 8 refl (typedN ts w is)) $ pass0 ! $
+          assigns ! (of-opd ! (load ! (from ! (stop !)) (look ! 8 refl))) (from ! (stop !)) (init ! 6 refl (typedN ts w is)) $
           assigns ! (addr ! (from ! (stop !))) (from ! (stop !)) (init ! 2 refl (tt, tt)) $
           assigns ! (agg ! (and-then ! (load ! (from ! (stop !)) (look ! 2 refl)) (and-then ! (lit ! tt) (no-more !)))) (from ! (stop !))
           (init ! 0 refl (tt, (tt, (record { fits = lit< tt }, tt)))) $
-          rewrite ! 0 (λ (m : ℕ). ‵ (fat fullShare slice l₅ 0 (sliceVal (l₁, 0) m))) (sym (full ts w is)) refl $
-          move ! (8 ∷ []) $ use1 W (‵ (cells (mem R) ts l₁ 0)) (apart ts w l₁ is) $ lft-new ! tt (λ α. move ! (1 ∷ []) $
-          use1 W (later (some (λ (γ : GName). ‵ (Owned (α ∷ []) l₁ 0 γ ts) ⊛ ‵ (flent (α ∷ []) (Held R (length ts) l₁ 0 γ)))))
-          (lends-slice 𝓤 H A W R (named 0) (α ∷ []) ts l₁ 0 (roomN ts (full ts w is))) $ await ! tt $ pick ! (λ γ. split ! $ move ! (0 ∷ 2 ∷ []) $
-          -- [the `&mut`; the token; what is lent; _5; …; _4; …; _3; …; _2; …; …; _0; …]
-          gives-up 𝓤 H A W (α ∷ []) fullShare γ ts unit 0 (λ r zs. (cs : List Call) × (zs ≡ run cs ts)) l₁ 0 fm (Serve 𝓤 H A mem′ run′) known-serve
-          (to-serve ts (α ∷ []) l₁ γ) (goes-serve ts (α ∷ []) l₁ γ) (λ u. id⊢ 𝓤 _) (and-then ! (load ! (from ! (stop !)) (look ! 2 refl)) (no-more !))
+          rewrite ! 0 (λ (m : ℕ). ‵ (fat fullShare slice l₅ 0 (sliceVal (l₂, 0) m))) (sym (full ts w is)) refl $
+          move ! (6 ∷ []) $ use1 W (‵ (cells (mem R) ts l₂ 0)) (apart ts w l₂ is) $ lft-new ! tt (λ α. move ! (1 ∷ []) $
+          use1 W (later (some (λ (γ : GName). ‵ (Owned (α ∷ []) l₂ 0 γ ts) ⊛ ‵ (flent (α ∷ []) (Held R (length ts) l₂ 0 γ)))))
+          (lends-slice 𝓤 H A W R (named 0) (α ∷ []) ts l₂ 0 (roomN ts (full ts w is))) $ await ! tt $ pick ! (λ γ. split ! $ move ! (0 ∷ 2 ∷ []) $
+          -- [the `&mut`; the token; what is lent; _5; …; _4; …; _3; …; …; _1; …; _0; …]
+          gives-up 𝓤 H A W (α ∷ []) fullShare γ ts unit 0 (λ r zs. (cs : List Call) × (zs ≡ run cs ts)) l₂ 0 fm (Serve 𝓤 H A mem′ run′) known
+          (to-serve (α ∷ []) l₂ γ) (goes-serve (α ∷ []) l₂ γ) (λ u. id⊢ 𝓤 _) (and-then ! (load ! (from ! (stop !)) (look ! 2 refl)) (no-more !))
           (λ zs r u l e iu.
           -- [the last list; the token; what is lent; _5; …]
           move ! (1 ∷ []) $ lft-end ! tt $ move ! (0 ∷ 2 ∷ 1 ∷ []) $
-          use3 W (later (‵ (Arr (mem R) (length ts) .lies zs l₁ 0))) (slice-back 𝓤 H A W R (α ∷ []) γ zs (length ts) l₁ 0) $ await ! tt $ fsplit ! $ drop ! $
-          back zs l₁ (l ∙ full ts w is) (λ iz.
-          -- [_1; _5; …; _4; …; _3; …; _2; …; …; _0; …]
+          use3 W (later (‵ (Arr (mem R) (length ts) .lies zs l₂ 0))) (slice-back 𝓤 H A W R (α ∷ []) γ zs (length ts) l₂ 0) $ await ! tt $ fsplit ! $ drop ! $
+          back zs l₂ (l ∙ full ts w is) (λ iz.
+          -- [_2; _5; …; _4; …; _3; …; …; _1; …; _0; …]
           land ! (from ! (stop !)) (init ! 5 refl (nothing-lawful 𝓤 H A W .typed tt (u ∷ []) iu .0)) $
           assigns ! (of-opd ! (unit-lit !)) (from ! (stop !)) (init ! 10 refl (tt, tt)) $
-          returns ! (look ! 10 refl) $ forget ! 0 refl $ forget ! 1 refl $ forget ! 3 refl $ forget ! 5 refl $ forget ! 7 refl $ forget ! 10 refl $
-          keep ! (1 ∷ 2 ∷ 3 ∷ 4 ∷ 5 ∷ 6 ∷ 7 ∷ 8 ∷ 0 ∷ 9 ∷ 10 ∷ 11 ∷ []) $
-          freed 𝓤 H A W (env-of (code.function .locals) (l₀ ∷ l₁ ∷ l₂ ∷ l₃ ∷ l₄ ∷ l₅ ∷ [])) [] (by ! exits))))))))))))))
+          returns ! (look ! 10 refl) $ forget ! 0 refl $ forget ! 1 refl $ forget ! 3 refl $ forget ! 5 refl $ forget ! 8 refl $ forget ! 10 refl $
+          keep ! (1 ∷ 2 ∷ 3 ∷ 4 ∷ 5 ∷ 6 ∷ 0 ∷ 7 ∷ 8 ∷ 9 ∷ 10 ∷ 11 ∷ []) $
+          freed 𝓤 H A W (env-of (code.function .locals) (l₀ ∷ l₁ ∷ l₂ ∷ l₃ ∷ l₄ ∷ l₅ ∷ [])) [] (by ! exits)))))))))))
 
 module _ {M : Type 1} (𝓤 : URA M) (H : Heap 𝓤) (A : Atoms 𝓤) (W : Given 𝓤 H A) (mem′ : Memory → SProp 𝓤) (run′ : Routine → Fun 𝓤) (𝓣 : Tables 𝓤 H)
-    (known-fresh : Triple 𝓤 (𝓣 .C fresh-def.name) (Fresh 𝓤 H A mem′ run′)) (known-serve : Triple 𝓤 (𝓣 .C serve-def.name) (Serve 𝓤 H A mem′ run′)) where
+    (known : Triple 𝓤 (𝓣 .C serve-def.name) (Serve 𝓤 H A mem′ run′)) where
   walks : Walks 𝓤 H A f.ended stayed (WpFn 𝓤 H (𝓣 .C) (𝓣 .Λ) code.function) (f.clauses 𝓤 H A mem′ run′)
-  walks = walked 𝓤 H A f.ended stayed (f.clauses 𝓤 H A mem′ run′) (WpFn 𝓤 H (𝓣 .C) (𝓣 .Λ) code.function) (λ κs. tt) (λ κs. tt)
-      (λ κs qs bounds a g are. via 𝓤 _ (fst∗ 𝓤 _ (emp 𝓤)) (walk 𝓤 H A W mem′ run′ (𝓣 .C) (𝓣 .Λ) (fmOf 𝓤 H (W .laws) 𝓣) known-fresh known-serve))
+  walks = walked 𝓤 H A f.ended stayed (f.clauses 𝓤 H A mem′ run′) (WpFn 𝓤 H (𝓣 .C) (𝓣 .Λ) code.function) (λ κs. (valsN, tt)) (λ κs. (tellsN, tt))
+      (λ κs qs bounds a g are.
+      via 𝓤 _ (fst∗ 𝓤 _ (emp 𝓤)) (walk 𝓤 H A W mem′ run′ (a .0) (valN (a .0)) (are .0) (𝓣 .C) (𝓣 .Λ) (fmOf 𝓤 H (W .laws) 𝓣) known))
 
   meets : Meets 𝓤 H A f.signature (WpFn 𝓤 H (𝓣 .C) (𝓣 .Λ) code.function) (f.spec 𝓤 H A mem′ run′)
   meets =
-      walk-meets 𝓤 H A f.ended stayed W tt (f.clauses 𝓤 H A mem′ run′) (WpFn 𝓤 H (𝓣 .C) (𝓣 .Λ) code.function) (WpFn-mono 𝓤 H (W .laws) 𝓣 code.function) walks
+      walk-meets 𝓤 H A f.ended stayed W (goes-none 𝓤 H A W 0 (λ _. RN) yes (λ κs x f. refl), tt) (f.clauses 𝓤 H A mem′ run′)
+      (WpFn 𝓤 H (𝓣 .C) (𝓣 .Λ) code.function) (WpFn-mono 𝓤 H (W .laws) 𝓣 code.function) walks
 
-pub main-spec : {M : Type 1} → stated.statement M
+pub on-spec : {M : Type 1} → stated.statement M
 unfolding code.routine tablesOf
-main-spec 𝓤 H 𝓜 𝓖 𝓡 =
+on-spec 𝓤 H 𝓜 𝓖 𝓡 =
     entered 𝓤 H (tripleOf 𝓤 H (𝓖 .A) f.signature (f.spec 𝓤 H (𝓖 .A) (𝓜 .mem) (𝓡 .run)))
     (tables 𝓤 H 𝓜 𝓡 code.env .C) (tables 𝓤 H 𝓜 𝓡 code.env .Λ) key.name code.function (code.unfolded 𝓤 H 𝓜 𝓡)
     (meets 𝓤 H (𝓖 .A) (givenOf 𝓤 H 𝓜 𝓖) (𝓜 .mem) (𝓡 .run) (tablesOf 𝓤 H 𝓜 (tables 𝓤 H 𝓜 𝓡 code.env))
-    (cited 𝓤 H (Fresh 𝓤 H (𝓖 .A) (𝓜 .mem) (𝓡 .run)) 𝓜 𝓡 code.env fresh-def.name fresh-def.routine code.calls-serve·fresh (fresh-thm.met 𝓤 H 𝓜 𝓖 𝓡))
     (cited 𝓤 H (Serve 𝓤 H (𝓖 .A) (𝓜 .mem) (𝓡 .run)) 𝓜 𝓡 code.env serve-def.name serve-def.routine code.calls-serve·serve (serve-thm.met 𝓤 H 𝓜 𝓖 𝓡)))
