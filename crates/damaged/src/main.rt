@@ -87,91 +87,113 @@ fn with_statics(slot: usize, r: Record) -> Record {
     o
 }
 
-// One figure out of its range, its step or the grid.
-fn with_figure(slot: usize, r: Record) -> Record {
+fn with_prices(r: Record, p1: u64, p2: u64) -> Record {
+    let later = Price { units: p1 };
+    let earlier = Price { units: p2 };
     let mut o = r;
-    match slot {
-        6 => o.p1 = Price { units: 0 },
-        7 => o.p1 = Price { units: 1_030_005 },
-        8 => o.p2 = Price {
-            units: Price::MOST + 10,
-        },
-        9 => o.s = Record::VOLATILITY_MOST + 1,
-        10 => o.tentative = Tentative { bp: 4_100, age: 0 },
-        11 => o.tentative = Tentative { bp: 650, age: 0 },
-        12 => o.tentative = Tentative {
-            bp: 700,
-            age: Record::AGE_MOST + 1,
-        },
-        13 => o.moves = Moves {
-            upper: 0,
-            lower: Record::MOVES_MOST + 1,
-        },
-        _ => o.second = Record::SECOND_LAST + 1,
-    }
+    o.p1 = later;
+    o.p2 = earlier;
     o
 }
 
-fn rates_beyond() -> [Rate; 3] {
-    [
-        Rate { bp: 800 },
-        Rate { bp: 1_200 },
-        Rate { bp: Rate::MOST + 1 },
-    ]
+fn with_tentative(r: Record, bp: u64, age: u64) -> Record {
+    let tentative = Tentative { bp, age };
+    let mut o = r;
+    o.tentative = tentative;
+    o
+}
+
+fn with_moves(r: Record, upper: u64, lower: u64) -> Record {
+    let moves = Moves { upper, lower };
+    let mut o = r;
+    o.moves = moves;
+    o
+}
+
+fn with_volatility(r: Record, s: u64) -> Record {
+    let mut o = r;
+    o.s = s;
+    o
+}
+
+fn with_second(r: Record, second: u64) -> Record {
+    let mut o = r;
+    o.second = second;
+    o
+}
+
+// One figure out of its range, its step or the grid.
+fn with_figure(slot: usize, r: Record) -> Record {
+    match slot {
+        6 => with_prices(r, 0, 1_000_000),
+        7 => with_prices(r, 1_030_005, 1_000_000),
+        8 => with_prices(r, 1_030_000, Price::MOST + 10),
+        9 => with_volatility(r, Record::VOLATILITY_MOST + 1),
+        10 => with_tentative(r, 4_100, 0),
+        11 => with_tentative(r, 650, 0),
+        12 => with_tentative(r, 700, Record::AGE_MOST + 1),
+        13 => with_moves(r, 0, Record::MOVES_MOST + 1),
+        _ => with_second(r, Record::SECOND_LAST + 1),
+    }
+}
+
+fn with_rate(r: Record, bp: u64) -> Record {
+    let rates = [Rate { bp: 800 }, Rate { bp: 1_200 }, Rate { bp }];
+    let mut o = r;
+    o.rates = rates;
+    o
+}
+
+fn with_ranges(r: Record, lower: u64, upper: u64) -> Record {
+    let ranges = [Limits { lower, upper }; 3];
+    let mut o = r;
+    o.ranges = ranges;
+    o
+}
+
+fn with_terms(r: Record, k: u64, low: i64) -> Record {
+    let terms = [Term { k, low, high: 0 }; 3];
+    let mut o = r;
+    o.terms = terms;
+    o
+}
+
+fn with_bands(r: Record, lower: u64, upper: u64) -> Record {
+    let bands = [Limits { lower, upper }; 3];
+    let mut o = r;
+    o.bands = bands;
+    o
+}
+
+fn with_near(r: Record, second: u64) -> Record {
+    let near = [NearSeconds {
+        top: Near::Not,
+        bottom: Near::Since(second),
+    }; 3];
+    let mut o = r;
+    o.near = near;
+    o
 }
 
 // One of the three rates, ranges, terms, bands or near seconds.
 fn with_three(slot: usize, r: Record) -> Record {
-    let mut o = r;
     match slot {
-        15 => o.rates = rates_beyond(),
-        16 => o.ranges = [Limits {
-            lower: 947_605,
-            upper: 1_112_400,
-        }; 3],
-        17 => o.ranges = [Limits {
-            lower: 947_600,
-            upper: Record::LIMIT_MOST + 10,
-        }; 3],
-        18 => o.terms = [Term {
-            k: Term::DAYS_MOST + 1,
-            low: 0,
-            high: 0,
-        }; 3],
-        19 => o.terms = [Term {
-            k: 0,
-            low: 1,
-            high: 0,
-        }; 3],
-        20 => o.bands = [Limits {
-            lower: 988_800,
-            upper: 1_071_205,
-        }; 3],
-        _ => o.near = [NearSeconds {
-            top: Near::Not,
-            bottom: Near::Since(86_400),
-        }; 3],
+        15 => with_rate(r, Rate::MOST + 1),
+        16 => with_ranges(r, 947_605, 1_112_400),
+        17 => with_ranges(r, 947_600, Record::LIMIT_MOST + 10),
+        18 => with_terms(r, Term::DAYS_MOST + 1, 0),
+        19 => with_terms(r, 0, 1),
+        20 => with_bands(r, 988_800, 1_071_205),
+        _ => with_near(r, Record::SECOND_LAST + 1),
     }
-    o
 }
 
-// A sound record at the ends of its ranges: what lies one past each of them stands in the slots before.
+// A sound record at the ends of its ranges, its bands crossed: what lies one past each of them stands in the slots before.
 fn at_the_ends(id: u64) -> Record {
-    let mut o = sound(id);
-    o.tentative = Tentative {
-        bp: 4_000,
-        age: Record::AGE_MOST,
-    };
-    o.moves = Moves {
-        upper: Record::MOVES_MOST,
-        lower: Record::MOVES_MOST,
-    };
-    o.bands = [Limits {
-        lower: Record::LIMIT_MOST,
-        upper: 0,
-    }; 3];
-    o.second = Record::SECOND_LAST;
-    o
+    let r = with_tentative(sound(id), 4_000, Record::AGE_MOST);
+    let r = with_moves(r, Record::MOVES_MOST, Record::MOVES_MOST);
+    let r = with_bands(r, Record::LIMIT_MOST, 0);
+    with_second(r, Record::SECOND_LAST)
 }
 
 // Slots 0 to 21 hold one damage each, under the ids 100 to 121; then duplicates of 700 and 701, an id past its range, and the ends.
@@ -189,19 +211,12 @@ fn record_of(slot: usize) -> Record {
     }
 }
 
-fn with_slot(t: [Record; 512], slot: usize) -> [Record; 512] {
-    let mut u = t;
-    if slot < 512 {
-        u[slot] = record_of(slot);
-    }
-    u
-}
-
 fn table() -> [Record; 512] {
     let mut t = serve::fresh();
     let mut slot: usize = 0;
     while slot < 28 {
-        t = with_slot(t, slot);
+        let r = record_of(slot);
+        t[slot] = r;
         slot += 1;
     }
     t
