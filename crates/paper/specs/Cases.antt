@@ -26,11 +26,11 @@ use Rattle.paper.specs.Alerts.{distance, isNear, nearCleared}
 use Rattle.paper.specs.Verdicts.{numberOf, isDone, firstOf}
 use Rattle.paper.specs.Desk.{blank, saying, admitted, priceOn, moveOn, figuresOn, evaluated, moved, place, stands, found, quoted, admit, quote, admitChecks, checksOf, judged, acceptedOf, step}
 
--- "Statics Z"
-unfoldable pub givenZ : Given
-givenZ =
+-- "Statics Z", but for the lot
+unfoldable pub givenWith : (lot : ℕ) → Given
+givenWith lot =
     record {
-      lot = 10;
+      lot = lot;
       h = 100;
       q = 300;
       aup = 1000;
@@ -55,12 +55,12 @@ givenZ =
     }
 
 unfoldable pub Z : Statics
-unfolding givenZ staticsOf
-Z = staticsOf givenZ
+unfolding givenWith staticsOf
+Z = staticsOf (givenWith 10)
 
 -- "Earlier prices 1,000,000 unless given; s 20,000"; tentative 600
 unfoldable pub admissionZ : Admission
-admissionZ = record { id = 7; day = 3; p1 = 1000000; p2 = 1000000; s = 20000; tentative = 600; given = givenZ }
+admissionZ = record { id = 7; day = 3; p1 = 1000000; p2 = 1000000; s = 20000; tentative = 600; given = givenWith 10 }
 
 -- a row in roubles today, before other rows
 pub roublesRow : (close bid ask volume : ℕ) → List ℤ → List ℤ
@@ -72,7 +72,7 @@ dayWith m x = record { day = 4; b = 0; m = m; terms = three (λ k. x) }
 
 -- cases 1 to 6: the record after an evaluation at 1,030,000
 unfoldable pub after : (m : ℕ) → Term → Record
-unfolding admissionZ givenZ roublesRow dayWith staticsOf admitted minimumOf evaluated figuresOn figuresOf modelled unmodelled moveOn priceOn moveOf moveFrom up apart volatilityOf weightOf weighted replaces replacement wanted tentativeAfter levelRate covers meets daysOf least first leastRoot leastTimes leastMultiple evaluationOf dayRows rowsOf rowsFrom rowAt rowOf natural roublesOf rowPrice rowWeight halfUp toGrid grown closeOf mean traded those weights worth bestBid bestAsk lesserAsk between median gridOf rangeOf rangeLimit limitOf shifted bandOf bandLimit farthest narrower lesserOf greaterOf monitored spread
+unfolding admissionZ givenWith roublesRow dayWith staticsOf admitted minimumOf evaluated figuresOn figuresOf modelled unmodelled moveOn priceOn moveOf moveFrom up apart volatilityOf weightOf weighted replaces replacement wanted tentativeAfter levelRate covers meets daysOf least first leastRoot leastTimes leastMultiple evaluationOf dayRows rowsOf rowsFrom rowAt rowOf natural roublesOf rowPrice rowWeight halfUp toGrid grown closeOf mean traded those weights worth bestBid bestAsk lesserAsk between median gridOf rangeOf rangeLimit limitOf shifted bandOf bandLimit farthest narrower lesserOf greaterOf monitored spread
 after m x = evaluated (admitted admissionZ) (dayWith m x) (roublesRow 1030000 0 0 5 [])
 
 rateAt : Record → ℕ → ℕ
@@ -169,32 +169,9 @@ starred = refl
 
 -- ---- "Errors that look reasonable", and the empty versions: more figures, on which each of them would differ
 
--- a statics with the finest grid
+-- statics Z with the finest grid
 fine : Statics
-fine = staticsOf (record {
-  lot = 11;
-  h = 100;
-  q = 300;
-  aup = 1000;
-  adown = 500;
-  wait = 5;
-  rh1 = 2;
-  rh2 = 5;
-  rh3 = 8;
-  liq = 50;
-  min1 = 500;
-  min2 = 700;
-  min3 = 900;
-  smax = 4000;
-  xpr = 200;
-  shift = 25;
-  pchmax = 2000;
-  pclmax = 2000;
-  w = 1000;
-  u = 60;
-  monitoring = 1;
-  ewma = 1;
-})
+fine = staticsOf (givenWith 11)
 
 -- the number that an admission gets from a fresh table of so many slots
 admitAnswer : ℕ → ℕ
