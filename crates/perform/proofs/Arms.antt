@@ -74,7 +74,8 @@ module _ (P : Plain) (K : ℕ → P .D → Call) where
         owned ! u64 (Is u64) (uint-makes 𝓤 H A W w64) id _ (refl, gi) $ fjoin ! $ move ! (1 ∷ 0 ∷ []) $ fjoin ! $ move ! (1 ∷ 0 ∷ []) $ join ! $ frame ! $
         done !
 
-    module _ {Γ : List (Item 𝓤)} {E : Env 𝓤 H} {C : Calls 𝓤 H} {Λ : Loops 𝓤 H} {post : Post 𝓤 H} {#f : Name} {xs : List Operand} {at : Place} {rest : Body} where
+    module _ {Γ : List (Item 𝓤)} {E : Env 𝓤 H} {C : Calls 𝓤 H} {Λ : Loops 𝓤 H} {post : Post 𝓤 H} {#f : Name} {xs : List Operand}
+        {at : Place} {rest : Body} where
       pub asks : FmC 𝓤 H (W .laws) C → Triple 𝓤 (C #f) (Ask 𝓤 H A) → (id : ℕ) (d : P .D) (v : Val) → id < 2 ^ 64 → Is (row P) d (v ∷ [])
           → Opds (Go {0}) W (raw (Ask 𝓤 H A .pre (to-ask id d v)) ∷ Γ) E xs (machine b o ys ∷ vint w64 id ∷ v ∷ [])
           → ((zs : List Record) (r : Answer) (w : Val) → length zs ≡ length ys → Promised (K id d) ys r zs → Is N.the-row r (w ∷ [])

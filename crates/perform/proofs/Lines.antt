@@ -29,19 +29,34 @@ abbrev pub listed : Plain
 listed = of-row E.the-row E′.mir
 
 pub listed-laws : PlainLaws listed
-listed-laws = record { val = LL.val E.the-type E′.the-laws; tells = LL.tells E.the-type E′.the-laws; lawful = λ 𝓤 H A W. LL.lawful E.the-type E′.the-laws 𝓤 H A W; makes = λ 𝓤 H A W. LL.makes E.the-type E′.the-plain 𝓤 H A }
+listed-laws = record {
+  val = LL.val E.the-type E′.the-laws;
+  tells = LL.tells E.the-type E′.the-laws;
+  lawful = λ 𝓤 H A W. LL.lawful E.the-type E′.the-laws 𝓤 H A W;
+  makes = λ 𝓤 H A W. LL.makes E.the-type E′.the-plain 𝓤 H A;
+}
 
 abbrev pub quoted : Plain
 quoted = of-row Q.the-row Q′.mir
 
 pub quoted-laws : PlainLaws quoted
-quoted-laws = record { val = LL.val Q.the-type Q′.the-laws; tells = LL.tells Q.the-type Q′.the-laws; lawful = λ 𝓤 H A W. LL.lawful Q.the-type Q′.the-laws 𝓤 H A W; makes = λ 𝓤 H A W. LL.makes Q.the-type Q′.the-plain 𝓤 H A }
+quoted-laws = record {
+  val = LL.val Q.the-type Q′.the-laws;
+  tells = LL.tells Q.the-type Q′.the-laws;
+  lawful = λ 𝓤 H A W. LL.lawful Q.the-type Q′.the-laws 𝓤 H A W;
+  makes = λ 𝓤 H A W. LL.makes Q.the-type Q′.the-plain 𝓤 H A;
+}
 
 abbrev pub numbered : Plain
 numbered = of-row u64 (tyInt w64)
 
 pub numbered-laws : PlainLaws numbered
-numbered-laws = record { val = vint w64; tells = uint-tells w64; lawful = λ 𝓤 H A W. uint-lawful 𝓤 H A W w64; makes = λ 𝓤 H A W. uint-makes 𝓤 H A W w64 }
+numbered-laws = record {
+  val = vint w64;
+  tells = uint-tells w64;
+  lawful = λ 𝓤 H A W. uint-lawful 𝓤 H A W w64;
+  makes = λ 𝓤 H A W. uint-makes 𝓤 H A W w64;
+}
 
 -- ---- an evaluation with its rows by value
 

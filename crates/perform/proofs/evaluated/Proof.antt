@@ -24,5 +24,6 @@ evaluated-spec 𝓤 H 𝓜 𝓖 𝓡 =
     (meets listed listed-laws listedTurn evaluation listed-steps rule-def.name 𝓤 H (𝓖 .A) (givenOf 𝓤 H 𝓜 𝓖) (𝓜 .mem) (𝓡 .run)
     (tablesOf 𝓤 H 𝓜 (tables 𝓤 H 𝓜 𝓡 code.env))
     (cited 𝓤 H (Take 𝓤 H (𝓖 .A) (𝓜 .mem) (𝓡 .run)) 𝓜 𝓡 code.env take-def.name take-def.routine code.calls-desk·take (take-thm.met 𝓤 H 𝓜 𝓖 𝓡))
-    (cited 𝓤 H (Rule listed listed-laws listedTurn evaluation listed-steps rule-def.name 𝓤 H (𝓖 .A)) 𝓜 𝓡 code.env rule-def.name rule-def.routine code.calls-perform·by-rows (rule-thm.met 𝓤 H 𝓜 𝓖 𝓡))
+    (cited 𝓤 H (Rule listed listed-laws listedTurn evaluation listed-steps rule-def.name 𝓤 H (𝓖 .A)) 𝓜 𝓡 code.env rule-def.name rule-def.routine
+    code.calls-perform·by-rows (rule-thm.met 𝓤 H 𝓜 𝓖 𝓡))
     (cited 𝓤 H (Put 𝓤 H (𝓖 .A) (𝓜 .mem) (𝓡 .run)) 𝓜 𝓡 code.env put-def.name put-def.routine code.calls-desk·put (put-thm.met 𝓤 H 𝓜 𝓖 𝓡)))

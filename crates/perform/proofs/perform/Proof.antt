@@ -173,7 +173,8 @@ module _ {M : Type 1} (𝓤 : URA M) (H : Heap 𝓤) (A : Atoms 𝓤) (W : Given
     walk =
         qed W ((‵ (flft κ q) ⊛ ‵ ftrue) ∷ ‵ (owns (MutSlice (named 0) κ R ∷ B.the-row ∷ []) x at) ∷ []) ∵ enter ! C Λ function (machine b o ys
         ∷ value l ∷ []) _ $
-        alloc1 ! (λ l₀. alloc1 ! (λ l₁. alloc1 ! (λ l₂. alloc1 ! (λ l₃. alloc1 ! (λ l₄. alloc1 ! (λ l₅. alloc1 ! (λ l₆. alloc1 ! (λ l₇. alloc1 ! (λ l₈. alloc1 ! (λ l₉. alloc1 ! (λ l₁₀. alloc1 ! (λ l₁₁. alloc1 ! (λ l₁₂. alloc1 ! (λ l₁₃. alloc1 ! (λ l₁₄. alloc0 ! $ params1 ! $
+        alloc1 ! (λ l₀. alloc1 ! (λ l₁. alloc1 ! (λ l₂. alloc1 ! (λ l₃. alloc1 ! (λ l₄. alloc1 ! (λ l₅. alloc1 ! (λ l₆. alloc1 ! (λ l₇.
+        alloc1 ! (λ l₈. alloc1 ! (λ l₉. alloc1 ! (λ l₁₀. alloc1 ! (λ l₁₁. alloc1 ! (λ l₁₂. alloc1 ! (λ l₁₃. alloc1 ! (λ l₁₄. alloc0 ! $ params1 ! $
         pass1 ! (init ! 26 refl (tt, (tt, (record { fits = room .0 }, tt)))) $
         pass1 ! (init ! 24 refl (LL.lawful B.the-type B′.the-laws 𝓤 H A W .typed l (value l ∷ []) gl .0)) $ pass0 ! $
         -- [_14; …; _0; …; the token; what the parameters own]
@@ -192,7 +193,8 @@ module _ {M : Type 1} (𝓤 : URA M) (H : Heap 𝓤) (A : Atoms 𝓤) (W : Given
         returns-within ! Post refl (look ! 30 refl) $ forget ! 20 refl $ forget ! 22 refl $ forget ! 24 refl $ forget ! 26 refl $ forget ! 28 refl $
         forget ! 30 refl $
         over l₀ l₁ l₂ l₃ l₄ l₅ l₆ l₇ l₈ l₉ l₁₀ l₁₁ l₁₂ l₁₃ l₁₄ _ (Dispatch.admits l (eqb→eq (l .kind) _ h₁)) zs r w e kept is))
-        (λ n₁. skips ! $ exec ! C Λ (En l₀ l₁ l₂ l₃ l₄ l₅ l₆ l₇ l₈ l₉ l₁₀ l₁₁ l₁₂ l₁₃ l₁₄) past-admit (atRet (En l₀ l₁ l₂ l₃ l₄ l₅ l₆ l₇ l₈ l₉ l₁₀ l₁₁ l₁₂ l₁₃ l₁₄) Post) $
+        (λ n₁. skips ! $ exec ! C Λ (En l₀ l₁ l₂ l₃ l₄ l₅ l₆ l₇ l₈ l₉ l₁₀ l₁₁ l₁₂ l₁₃ l₁₄) past-admit
+        (atRet (En l₀ l₁ l₂ l₃ l₄ l₅ l₆ l₇ l₈ l₉ l₁₀ l₁₁ l₁₂ l₁₃ l₁₄) Post) $
         assigns ! (bin ! (load ! (from ! (fld ! refl (stop !))) (look-in ! 26 (sub ! 0 refl (whole !)))) (lit ! tt) tt) (from ! (stop !))
         (store ! 24 refl (tt, tt)) $
         first ! $ branches ! (load ! (from ! (stop !)) (look ! 24 refl))
@@ -209,7 +211,8 @@ module _ {M : Type 1} (𝓤 : URA M) (H : Heap 𝓤) (A : Atoms 𝓤) (W : Given
         returns-within ! Post refl (look ! 30 refl) $ forget ! 14 refl $ forget ! 16 refl $ forget ! 18 refl $ forget ! 24 refl $ forget ! 26 refl $
         forget ! 28 refl $ forget ! 30 refl $
         over l₀ l₁ l₂ l₃ l₄ l₅ l₆ l₇ l₈ l₉ l₁₀ l₁₁ l₁₂ l₁₃ l₁₄ _ (Dispatch.evaluates l (eqb→eq (l .kind) _ h₂)) zs r w e kept is))
-        (λ n₂. skips ! $ exec ! C Λ (En l₀ l₁ l₂ l₃ l₄ l₅ l₆ l₇ l₈ l₉ l₁₀ l₁₁ l₁₂ l₁₃ l₁₄) past-evaluate (atRet (En l₀ l₁ l₂ l₃ l₄ l₅ l₆ l₇ l₈ l₉ l₁₀ l₁₁ l₁₂ l₁₃ l₁₄) Post) $
+        (λ n₂. skips ! $ exec ! C Λ (En l₀ l₁ l₂ l₃ l₄ l₅ l₆ l₇ l₈ l₉ l₁₀ l₁₁ l₁₂ l₁₃ l₁₄) past-evaluate
+        (atRet (En l₀ l₁ l₂ l₃ l₄ l₅ l₆ l₇ l₈ l₉ l₁₀ l₁₁ l₁₂ l₁₃ l₁₄) Post) $
         assigns ! (bin ! (load ! (from ! (fld ! refl (stop !))) (look-in ! 26 (sub ! 0 refl (whole !)))) (lit ! tt) tt) (from ! (stop !))
         (store ! 24 refl (tt, tt)) $
         first ! $ branches ! (load ! (from ! (stop !)) (look ! 24 refl))
@@ -223,7 +226,8 @@ module _ {M : Type 1} (𝓤 : URA M) (H : Heap 𝓤) (A : Atoms 𝓤) (W : Given
         returns-within ! Post refl (look ! 30 refl) $ forget ! 10 refl $ forget ! 12 refl $ forget ! 24 refl $ forget ! 26 refl $ forget ! 28 refl $
         forget ! 30 refl $
         over l₀ l₁ l₂ l₃ l₄ l₅ l₆ l₇ l₈ l₉ l₁₀ l₁₁ l₁₂ l₁₃ l₁₄ _ (Dispatch.quotes l (eqb→eq (l .kind) _ h₃)) zs r w e kept is))
-        (λ n₃. skips ! $ exec ! C Λ (En l₀ l₁ l₂ l₃ l₄ l₅ l₆ l₇ l₈ l₉ l₁₀ l₁₁ l₁₂ l₁₃ l₁₄) past-quote (atRet (En l₀ l₁ l₂ l₃ l₄ l₅ l₆ l₇ l₈ l₉ l₁₀ l₁₁ l₁₂ l₁₃ l₁₄) Post) $
+        (λ n₃. skips ! $ exec ! C Λ (En l₀ l₁ l₂ l₃ l₄ l₅ l₆ l₇ l₈ l₉ l₁₀ l₁₁ l₁₂ l₁₃ l₁₄) past-quote
+        (atRet (En l₀ l₁ l₂ l₃ l₄ l₅ l₆ l₇ l₈ l₉ l₁₀ l₁₁ l₁₂ l₁₃ l₁₄) Post) $
         assigns ! (bin ! (load ! (from ! (fld ! refl (stop !))) (look-in ! 26 (sub ! 0 refl (whole !)))) (lit ! tt) tt) (from ! (stop !))
         (store ! 24 refl (tt, tt)) $
         first ! $ branches ! (load ! (from ! (stop !)) (look ! 24 refl))
@@ -237,7 +241,8 @@ module _ {M : Type 1} (𝓤 : URA M) (H : Heap 𝓤) (A : Atoms 𝓤) (W : Given
         returns-within ! Post refl (look ! 30 refl) $ forget ! 6 refl $ forget ! 8 refl $ forget ! 24 refl $ forget ! 26 refl $ forget ! 28 refl $
         forget ! 30 refl $
         over l₀ l₁ l₂ l₃ l₄ l₅ l₆ l₇ l₈ l₉ l₁₀ l₁₁ l₁₂ l₁₃ l₁₄ _ (Dispatch.moves l (eqb→eq (l .kind) _ h₄)) zs r w e kept is))
-        (λ n₄. skips ! $ exec ! C Λ (En l₀ l₁ l₂ l₃ l₄ l₅ l₆ l₇ l₈ l₉ l₁₀ l₁₁ l₁₂ l₁₃ l₁₄) past-move (atRet (En l₀ l₁ l₂ l₃ l₄ l₅ l₆ l₇ l₈ l₉ l₁₀ l₁₁ l₁₂ l₁₃ l₁₄) Post) $
+        (λ n₄. skips ! $ exec ! C Λ (En l₀ l₁ l₂ l₃ l₄ l₅ l₆ l₇ l₈ l₉ l₁₀ l₁₁ l₁₂ l₁₃ l₁₄) past-move
+        (atRet (En l₀ l₁ l₂ l₃ l₄ l₅ l₆ l₇ l₈ l₉ l₁₀ l₁₁ l₁₂ l₁₃ l₁₄) Post) $
         assigns ! (addr ! (from ! (fld ! refl (hop ! (look-in ! 28 (sub ! 0 refl (whole !))) (stop !))))) (from ! (stop !)) (init ! 4 refl (tt, tt)) $
         assigns ! (agg ! (and-then ! (load ! (from ! (stop !)) (look ! 4 refl)) (and-then ! (load ! (from ! (fld ! refl (stop !)))
         (look-in ! 28 (sub ! 1 refl (whole !)))) (no-more !)))) (from ! (stop !)) (init ! 2 refl (tt, (tt, (record { fits = room .0 }, tt)))) $
@@ -272,7 +277,8 @@ perform-spec 𝓤 H 𝓜 𝓖 𝓡 =
     (tables 𝓤 H 𝓜 𝓡 code.env .C) (tables 𝓤 H 𝓜 𝓡 code.env .Λ) key.name code.function (code.unfolded 𝓤 H 𝓜 𝓡)
     (meets 𝓤 H (𝓖 .A) (givenOf 𝓤 H 𝓜 𝓖) (𝓜 .mem) (𝓡 .run) (tablesOf 𝓤 H 𝓜 (tables 𝓤 H 𝓜 𝓡 code.env))
     (cited 𝓤 H (Admit 𝓤 H (𝓖 .A) (𝓜 .mem) (𝓡 .run)) 𝓜 𝓡 code.env admit-def.name admit-def.routine code.calls-desk·admit (admit-thm.met 𝓤 H 𝓜 𝓖 𝓡))
-    (cited 𝓤 H (Ask listed evaluation 𝓤 H (𝓖 .A)) 𝓜 𝓡 code.env evaluated-def.name evaluated-def.routine code.calls-perform·evaluated (evaluated-thm.met 𝓤 H 𝓜 𝓖 𝓡))
+    (cited 𝓤 H (Ask listed evaluation 𝓤 H (𝓖 .A)) 𝓜 𝓡 code.env evaluated-def.name evaluated-def.routine code.calls-perform·evaluated
+    (evaluated-thm.met 𝓤 H 𝓜 𝓖 𝓡))
     (cited 𝓤 H (Ask quoted quote 𝓤 H (𝓖 .A)) 𝓜 𝓡 code.env quote-def.name quote-def.routine code.calls-desk·quote (quote-thm.met 𝓤 H 𝓜 𝓖 𝓡))
     (cited 𝓤 H (Ask numbered moving 𝓤 H (𝓖 .A)) 𝓜 𝓡 code.env moved-def.name moved-def.routine code.calls-desk·moved (moved-thm.met 𝓤 H 𝓜 𝓖 𝓡))
     (cited 𝓤 H (Read 𝓤 H (𝓖 .A) (𝓜 .mem) (𝓡 .run)) 𝓜 𝓡 code.env read-def.name read-def.routine code.calls-desk·read (read-thm.met 𝓤 H 𝓜 𝓖 𝓡)))
