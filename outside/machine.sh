@@ -4,23 +4,27 @@ case $(uname -m) in
 x86_64)
     cc=${CC:-cc}
     emulator=''
-    needed='gcc'
+    needed='gcc libc6-dev make'
     ;;
 *)
     cc=x86_64-linux-gnu-gcc
     emulator=qemu-x86_64
-    needed='gcc-x86-64-linux-gnu libc6-dev-amd64-cross qemu-user'
+    needed='gcc-x86-64-linux-gnu libc6-dev-amd64-cross qemu-user make'
     ;;
 esac
 
+has() {
+    command -v "$1" >/dev/null 2>&1
+}
+
 # Installs what is missing of the C side.
 prepare_c() {
-    command -v "$cc" >/dev/null 2>&1 && { [ -z "$emulator" ] || command -v "$emulator" >/dev/null 2>&1; } && return 0
+    has "$cc" && has make && { [ -z "$emulator" ] || has "$emulator"; } && return 0
     apt-get update -qq && DEBIAN_FRONTEND=noninteractive apt-get install -y -qq $needed
 }
 
 # Installs what is missing of the Rust side.
 prepare_rust() {
-    command -v cargo >/dev/null 2>&1 && return 0
+    has cargo && return 0
     apt-get update -qq && DEBIAN_FRONTEND=noninteractive apt-get install -y -qq cargo
 }
