@@ -1,92 +1,186 @@
 -- How a rule judges: the first check that applies refuses, and where none applies the call is accepted. Assumes nothing.
 use mathlib.Core.Path.{_≡_, refl, sym, ap, _∙_}
 use mathlib.Core.Bool.{Bool, true, false, not, _&&_}
-use mathlib.Core.List.{List}
-use Prim.Native.Nat.{ℕ, _≤_, _<_}
+use mathlib.Core.List.{List, [], _∷_, _++_}
+use Prim.Native.Nat.{ℕ, _<_}
 use native.Mathlib.Omega.{arith}
+use lib.Dec.{leb, ltb, eqb}
 use lib.IntN.{ℤ}
-use Rattle.paper.specs.declared.Price.{Price}
-use Rattle.paper.specs.declared.Moves.{Moves}
+use lib.ListN.{getD}
+use Rattle.paper.specs.declared.Admission.{Admission}
+use Rattle.paper.specs.declared.Day.{Day}
+use Rattle.paper.specs.declared.Quote.{Quote}
+use Rattle.paper.specs.declared.Record.{Record}
 use Rattle.paper.specs.declared.Side.{Side}
 use Rattle.paper.specs.declared.Side.the-variants.{Upper, Lower}
-use Rattle.paper.specs.declared.Day.{Day}
-use Rattle.paper.specs.declared.Row.{Row}
-use Rattle.paper.specs.declared.Record.{Record}
 use Rattle.paper.specs.declared.Verdict.{Verdict}
-use Rattle.paper.specs.Lists.{pick, every}
+use Rattle.paper.specs.declared.Verdict.the-variants.{Done, NoSuchId, AlreadyAdmitted, NoEmptySlot, AdmissionOutOfRange, DayNotAfter, OutOfRange, PriceOutOfRange, MoveTooLarge, BandCrossed, MovesUsedUp, SecondEarlier}
+use Rattle.paper.specs.Lists.{pick, every, allThree}
 use Rattle.paper.specs.Numbers.{movesMost}
-use Rattle.paper.specs.Ranges.{isPrice, isGridPrice, validDay, validRows, validSlots, sound}
-use Rattle.paper.specs.Evaluation.{evaluationOf, rowFits, evaluationFits}
-use Rattle.paper.specs.Limits.{countOf}
-use Rattle.paper.specs.Verdicts.{isDone, Check, firstOf, FirstAt, NoneApplies}
-use Rattle.paper.proofs.Logic.{and-left, and-right, pick-false}
-use Rattle.paper.proofs.Refusals.{is-first, none-done}
-use Rattle.inputs.specs.Parts.{validDayNumbers}
-use Rattle.inputs.proofs.Tests.{day-in-parts}
+use Rattle.paper.specs.Ranges.{gridOf, validSlots, validAdmission, validDay, validQuote, validSide, sideOf, isLive, lastDay, sound, noLimits}
+use Rattle.paper.specs.Evaluation.{dayRows, evaluationFits}
+use Rattle.paper.specs.Rates.{moveTooLarge}
+use Rattle.paper.specs.Limits.{crossed, countOf}
+use Rattle.paper.specs.Verdicts.{isDone, Check, firstOf, NoneApplies, none, also}
+use Rattle.paper.specs.Desk.{saying, showing, admitted, moveOn, evaluated, quoted, alertsOn, moved, evaluateChecks, quoteChecks, moveChecks}
+use Rattle.paper.proofs.Logic.{clash, and-right, not-true, not-false, pick-false}
+use Rattle.paper.proofs.Refusals.{refusals, done-none}
 use Rattle.soundness.proofs.Facts.{sound-facts}
-use Rattle.evaluation.specs.declared.Evaluation.{Evaluation}
-use Rattle.evaluation.specs.declared.Evaluation.the-variants.{Evaluated, Beyond}
-use Rattle.evaluation.specs.Evaluation.{evaluationMade}
 use Rattle.security.specs.declared.Slot.{Slot}
 use Rattle.security.specs.declared.Turn.{Turn}
-use Rattle.security.specs.Turns.{holds, isKnown, refusedTurn, judgedTurn}
+use Rattle.security.specs.Turns.{holds, isKnown, refusedTurn, judgedTurn, admitChecksOf, admitTurn, evaluateTurn, quoteTurn, moveTurn}
+use Rattle.security.specs.Openings.{openingChecks}
+use Rattle.security.specs.Prices.{Priced}
 
--- ---- the turn
+-- ---- what a test of the code says of its definition
 
-pub turn-refused : (count : ℕ) (cs : List Check) (accepted : Turn) (v : Verdict) → isDone v ≡ false → FirstAt v cs
-    → refusedTurn count v ≡ judgedTurn count (firstOf cs) accepted
-unfolding judgedTurn
-turn-refused count cs accepted v n f =
-    rw (is-first cs v f) (sym (pick-false (isDone v) accepted (refusedTurn count v) n))
+pub passed : {test : Bool} (is : Bool) → test ≡ is → not test ≡ false → is ≡ true
+passed is e h = sym e ∙ not-false _ h
 
-pub turn-accepted : (count : ℕ) (cs : List Check) (accepted : Turn) → NoneApplies cs → accepted ≡ judgedTurn count (firstOf cs) accepted
-unfolding judgedTurn isDone
-turn-accepted count cs accepted n = rw (none-done cs n)
-
--- ---- what a test that passed says
+pub failed : {test : Bool} (is : Bool) → test ≡ is → not test ≡ true → is ≡ false
+failed is e h = sym e ∙ not-true _ h
 
 pub known-sound : (s : Slot) → isKnown s ≡ true → sound (s .rec) ≡ true
 unfolding isKnown
 known-sound s e = and-right (validSlots (s .count) && holds s) (sound (s .rec)) e
 
-pub sound-prices : (r : Record) → sound r ≡ true → (isPrice (r .p1 .units) ≡ true) × (isPrice (r .p2 .units) ≡ true)
-unfolding sound isGridPrice
-sound-prices r v = (search (v, and-left, and-right) depth 40, search (v, and-left, and-right) depth 40)
+-- ---- admit 4, 2, 3
 
-pub day-valid : (d : Day) (rows : List ℤ) → validDay d rows ≡ true → (validDayNumbers d ≡ true) × (validRows rows ≡ true)
-day-valid d rows v =
-    let both = sym (day-in-parts d rows) ∙ v in
-    (and-left (validDayNumbers d) (validRows rows) both, and-right (validDayNumbers d) (validRows rows) both)
+module _ (s e : Slot) (a : Admission) where
+  pub admission-out : (validSlots (s .count) && validAdmission a) ≡ false → refusedTurn (s .count) AdmissionOutOfRange ≡ admitTurn s e a
+  unfolding admitTurn admitChecksOf judgedTurn firstOf isDone
+  admission-out t = rw t
+
+  module _ (valid : (validSlots (s .count) && validAdmission a) ≡ true) where
+    pub admission-again : holds s ≡ true → refusedTurn (s .count) AlreadyAdmitted ≡ admitTurn s e a
+    unfolding admitTurn admitChecksOf judgedTurn firstOf isDone
+    admission-again t = rw (valid, t)
+
+    pub admission-full : holds s ≡ false → holds e ≡ false → refusedTurn (s .count) NoEmptySlot ≡ admitTurn s e a
+    unfolding admitTurn admitChecksOf judgedTurn firstOf isDone
+    admission-full new t = rw (valid, new, t)
+
+    pub admission-accepted : holds s ≡ false → holds e ≡ true → record { at = e .at; rec = admitted a; answer = saying Done } ≡ admitTurn s e a
+    unfolding admitTurn admitChecksOf judgedTurn firstOf isDone
+    admission-accepted new t = rw (valid, new, t)
+
+-- ---- evaluate 1, 6, 5, 7, 8, 9
+
+module _ (s : Slot) (d : Day) (rows : List ℤ) where
+  pub day-unknown : isKnown s ≡ false → refusedTurn (s .count) NoSuchId ≡ evaluateTurn s d rows
+  unfolding evaluateTurn evaluateChecks judgedTurn firstOf isDone
+  day-unknown t = rw t
+
+  pub day-out : isKnown s ≡ true → validDay d rows ≡ false → refusedTurn (s .count) OutOfRange ≡ evaluateTurn s d rows
+  unfolding evaluateTurn evaluateChecks judgedTurn firstOf isDone
+  day-out known t = rw (known, t)
+
+  pub day-not-after : isKnown s ≡ true → validDay d rows ≡ true → leb (d .day) (lastDay (s .rec .standing)) ≡ true
+      → refusedTurn (s .count) DayNotAfter ≡ evaluateTurn s d rows
+  unfolding evaluateTurn evaluateChecks judgedTurn firstOf isDone
+  day-not-after known valid t = rw (known, valid, t)
+
+  pub day-beyond : isKnown s ≡ true → validDay d rows ≡ true → leb (d .day) (lastDay (s .rec .standing)) ≡ false
+      → evaluationFits (gridOf (s .rec .statics .lot)) (s .rec .p1 .units) (dayRows rows) ≡ false
+      → refusedTurn (s .count) PriceOutOfRange ≡ evaluateTurn s d rows
+  unfolding evaluateTurn evaluateChecks judgedTurn firstOf isDone
+  day-beyond known valid after t = rw (known, valid, after, t)
+
+  module _ (p : Priced s d rows) where
+    pub day-moved-far : moveTooLarge (s .rec .statics) (moveOn (s .rec) rows) ≡ true → refusedTurn (s .count) MoveTooLarge ≡ evaluateTurn s d rows
+    unfolding evaluateTurn evaluateChecks judgedTurn firstOf isDone
+    day-moved-far t = rw (p .known, p .valid, p .later, p .fits, t)
+
+    module _ {new : Record} {ordered : Bool}
+        (near : moveTooLarge (s .rec .statics) (moveOn (s .rec) rows) ≡ false)
+        (is : new ≡ evaluated (s .rec) d rows)
+        (tested : ordered ≡ allThree (λ k. not (crossed (getD (new .bands) k noLimits)))) where
+      bands : ordered ≡ allThree (λ k. not (crossed (getD (evaluated (s .rec) d rows .bands) k noLimits)))
+      bands = rw is at tested
+
+      pub day-crossed : not ordered ≡ true → refusedTurn (s .count) BandCrossed ≡ evaluateTurn s d rows
+      unfolding evaluateTurn evaluateChecks judgedTurn firstOf isDone
+      day-crossed t = rw (p .known, p .valid, p .later, p .fits, near, failed _ bands t)
+
+      pub day-accepted : not ordered ≡ false → record { at = s .at; rec = new; answer = showing new } ≡ evaluateTurn s d rows
+      unfolding evaluateTurn evaluateChecks judgedTurn firstOf isDone
+      day-accepted t = rw (is, p .known, p .valid, p .later, p .fits, near, passed _ bands t)
+
+-- ---- quote 1, 6, 10, 11, 13; move 1, 6, 10, 11, 12
+
+-- a refusal of the first checks is that of all
+first-stays : (cs more : List Check) → isDone (firstOf cs) ≡ false → firstOf (cs ++ more) ≡ firstOf cs
+unfolding firstOf isDone
+first-stays [] more n = absurd (clash true refl n)
+first-stays (c ∷ cs) more n = go (c .applies) n (first-stays cs more)
+  where
+    go : (b : Bool) → isDone (pick b (c .verdict) (firstOf cs)) ≡ false → (isDone (firstOf cs) ≡ false → firstOf (cs ++ more) ≡ firstOf cs)
+        → pick b (c .verdict) (firstOf (cs ++ more)) ≡ pick b (c .verdict) (firstOf cs)
+    go true m rest = refl
+    go false m rest = rest m
+
+turn-stays : (count : ℕ) (cs more : List Check) (accepted : Turn) → isDone (firstOf cs) ≡ false
+    → refusedTurn count (firstOf cs) ≡ judgedTurn count (firstOf (cs ++ more)) accepted
+unfolding judgedTurn
+turn-stays count cs more accepted n =
+    rw (first-stays cs more n) (sym (pick-false (isDone (firstOf cs)) accepted (refusedTurn count (firstOf cs)) n))
+
+-- 1, 6, 10 and 11 do not apply
+pub record Opened (there inRange : Bool) (r : Record) : Type 0 where
+  pub known : there ≡ true
+  pub valid : inRange ≡ true
+  pub live : isLive (r .standing) ≡ true
+  pub monitored : r .statics .monitoring ≡ true
+
+pub opened : (there inRange : Bool) (r : Record) → isDone (firstOf (openingChecks there inRange r)) ≡ true → Opened there inRange r
+unfolding openingChecks refusals every isDone
+opened there inRange r e = go (done-none (openingChecks there inRange r) refl e)
+  where
+    go : NoneApplies (openingChecks there inRange r) → Opened there inRange r
+    go (also a (also b (also c (also d none)))) =
+        record { known = not-false _ a; valid = not-false _ b; live = not-false _ c; monitored = not-false _ d }
+
+module _ (s : Slot) (q : Quote) where
+  pub quote-stopped : isDone (firstOf (openingChecks (isKnown s) (validQuote q) (s .rec))) ≡ false
+      → refusedTurn (s .count) (firstOf (openingChecks (isKnown s) (validQuote q) (s .rec))) ≡ quoteTurn s q
+  unfolding quoteTurn quoteChecks openingChecks
+  quote-stopped n =
+      turn-stays (s .count) (openingChecks (isKnown s) (validQuote q) (s .rec))
+      (record { verdict = SecondEarlier; applies = ltb (q .second) (s .rec .second) } ∷ [])
+      (record { at = s .at; rec = quoted (s .rec) q; answer = alertsOn (s .rec) q })
+      n
+
+  module _ (o : Opened (isKnown s) (validQuote q) (s .rec)) where
+    pub quote-earlier : ltb (q .second) (s .rec .second) ≡ true → refusedTurn (s .count) SecondEarlier ≡ quoteTurn s q
+    unfolding quoteTurn quoteChecks judgedTurn firstOf isDone
+    quote-earlier t = rw (o .known, o .valid, o .live, o .monitored, t)
+
+    pub quote-accepted : ltb (q .second) (s .rec .second) ≡ false
+        → record { at = s .at; rec = quoted (s .rec) q; answer = alertsOn (s .rec) q } ≡ quoteTurn s q
+    unfolding quoteTurn quoteChecks judgedTurn firstOf isDone
+    quote-accepted t = rw (o .known, o .valid, o .live, o .monitored, t)
+
+module _ (s : Slot) (side : ℕ) where
+  pub move-stopped : isDone (firstOf (openingChecks (isKnown s) (validSide side) (s .rec))) ≡ false
+      → refusedTurn (s .count) (firstOf (openingChecks (isKnown s) (validSide side) (s .rec))) ≡ moveTurn s side
+  unfolding moveTurn moveChecks openingChecks
+  move-stopped n =
+      turn-stays (s .count) (openingChecks (isKnown s) (validSide side) (s .rec))
+      (record { verdict = MovesUsedUp; applies = eqb (countOf (sideOf side) (s .rec .moves)) movesMost } ∷ [])
+      (record { at = s .at; rec = moved (s .rec) (sideOf side); answer = showing (moved (s .rec) (sideOf side)) })
+      n
+
+  module _ (o : Opened (isKnown s) (validSide side) (s .rec)) where
+    pub move-used-up : eqb (countOf (sideOf side) (s .rec .moves)) movesMost ≡ true → refusedTurn (s .count) MovesUsedUp ≡ moveTurn s side
+    unfolding moveTurn moveChecks judgedTurn firstOf isDone
+    move-used-up t = rw (o .known, o .valid, o .live, o .monitored, t)
+
+    pub move-accepted : eqb (countOf (sideOf side) (s .rec .moves)) movesMost ≡ false
+        → record { at = s .at; rec = moved (s .rec) (sideOf side); answer = showing (moved (s .rec) (sideOf side)) } ≡ moveTurn s side
+    unfolding moveTurn moveChecks judgedTurn firstOf isDone
+    move-accepted t = rw (o .known, o .valid, o .live, o .monitored, t)
 
 -- c is not 50, so a move is left
 pub move-left : (r : Record) (side : Side) → sound r ≡ true → (countOf side (r .moves) ≡ movesMost → ⊥) → countOf side (r .moves) < movesMost
 move-left r Upper v n = omega (arith, sound-facts r v .moves-upper)
 move-left r Lower v n = omega (arith, sound-facts r v .moves-lower)
-
--- ---- what an evaluation says of 7
-
-pub beyond : (g previous : ℕ) (rows : List Row) → evaluationMade g previous rows ≡ Beyond → evaluationFits g previous rows ≡ false
-unfolding evaluationMade
-beyond g previous rows e = go (evaluationFits g previous rows) e
-  where
-    go : (b : Bool) → pick b (Evaluated (record { units = evaluationOf g previous rows })) Beyond ≡ Beyond → b ≡ false
-    go true q = let z : _≡_ {A = ℕ} 0 1 = cc in absurd (omega arith)
-    go false q = refl
-
--- a price that was made is the evaluation, and fits
-pub record Made (g previous : ℕ) (rows : List Row) (p : Price) : Type 0 where
-  pub fits : evaluationFits g previous rows ≡ true
-  pub is : evaluationOf g previous rows ≡ p .units
-  pub price : isPrice (p .units) ≡ true
-
-pub made : (g previous : ℕ) (rows : List Row) (p : Price) → evaluationMade g previous rows ≡ Evaluated p → Made g previous rows p
-unfolding evaluationMade evaluationFits
-made g previous rows p e = go (evaluationFits g previous rows) refl e
-  where
-    go : (b : Bool) → evaluationFits g previous rows ≡ b
-        → pick b (Evaluated (record { units = evaluationOf g previous rows })) Beyond ≡ Evaluated p → Made g previous rows p
-    go true f q =
-        let same : _≡_ {A = Price} (record { units = evaluationOf g previous rows }) p = cc in
-        let is : evaluationOf g previous rows ≡ p .units = ap (λ (z : Price). z .units) same in
-        record { fits = f; is = is; price = rw is at (and-right (every rowFits rows) (isPrice (evaluationOf g previous rows)) f) }
-    go false f q = let z : _≡_ {A = ℕ} 0 1 = cc in absurd (omega arith)

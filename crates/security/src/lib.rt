@@ -5,9 +5,11 @@ ghost use lib.ListN.{getD};
 ghost use Rattle.paper.specs.Lists.{allThree};
 ghost use Rattle.paper.specs.Ranges.{isPrice, validDay, noLimits, sound};
 ghost use Rattle.paper.specs.Limits.{crossed};
+ghost use Rattle.paper.specs.Verdicts.{isDone, firstOf};
 ghost use Rattle.paper.specs.Desk.{blank, saying, showing, nearOn, alertsOn};
 ghost use Rattle.inputs.specs.Parts.{validDayNumbers};
 ghost use Rattle.security.specs.Turns.{holds, isKnown, refusedTurn, admitTurn, evaluateTurn, quoteTurn, moveTurn, readAnswer};
+ghost use Rattle.security.specs.Openings.{openingChecks};
 ghost use Rattle.security.specs.Prices.{Prices};
 use evaluation::Evaluation;
 use paper::Admission;
@@ -170,6 +172,12 @@ fn written(at: usize, r: Record) -> Turn
     Turn { at, rec: r, answer }
 }
 
+fn is_done(v: Verdict) -> bool
+    ensures { λ t. ⌜ t ≡ isDone v ⌝ }
+{
+    v.number() == 0
+}
+
 // ---- what is found
 
 fn holds(s: Slot) -> bool
@@ -274,24 +282,36 @@ pub fn evaluated(s: Slot, d: Day, rows: &[i64]) -> Turn
     }
 }
 
+// 1, 6, 10 and 11, which a quote and a move have in this order: the first that applies, or done.
+fn opening(s: Slot, in_range: bool) -> Verdict
+    ensures { λ v. ⌜ v ≡ firstOf (openingChecks (isKnown s) «in_range» (s .rec)) ⌝ }
+{
+    let r = s.rec;
+    let standing = r.standing;
+    if !is_known(s) {
+        return Verdict::NoSuchId;
+    }
+    if !in_range {
+        return Verdict::OutOfRange;
+    }
+    if !soundness::is_live(standing) {
+        return Verdict::NotLive;
+    }
+    if !r.statics.monitoring {
+        return Verdict::NotMonitored;
+    }
+    Verdict::Done
+}
+
 // "quote 1, 6, 10, 11, 13".
 pub fn quoted(s: Slot, q: Quote) -> Turn
     ensures { λ o. ⌜ o ≡ quoteTurn s q ⌝ }
 {
     let count = s.count;
     let r = s.rec;
-    let standing = r.standing;
-    if !is_known(s) {
-        return refused(count, Verdict::NoSuchId);
-    }
-    if !inputs::valid_quote(q) {
-        return refused(count, Verdict::OutOfRange);
-    }
-    if !soundness::is_live(standing) {
-        return refused(count, Verdict::NotLive);
-    }
-    if !r.statics.monitoring {
-        return refused(count, Verdict::NotMonitored);
+    let v = opening(s, inputs::valid_quote(q));
+    if !is_done(v) {
+        return refused(count, v);
     }
     if q.second < r.second {
         return refused(count, Verdict::SecondEarlier);
@@ -312,25 +332,16 @@ pub fn moved(s: Slot, side: u64) -> Turn
 {
     let count = s.count;
     let r = s.rec;
-    let standing = r.standing;
     let moves = r.moves;
-    if !is_known(s) {
-        return refused(count, Verdict::NoSuchId);
+    let v = opening(s, inputs::valid_side(side));
+    if !is_done(v) {
+        return refused(count, v);
     }
-    if !inputs::valid_side(side) {
-        return refused(count, Verdict::OutOfRange);
-    }
-    if !soundness::is_live(standing) {
-        return refused(count, Verdict::NotLive);
-    }
-    if !r.statics.monitoring {
-        return refused(count, Verdict::NotMonitored);
-    }
-    let to = inputs::side_of(side);
-    if limits::count_of(to, moves) == Record::MOVES_MOST {
+    let named = inputs::side_of(side);
+    if limits::count_of(named, moves) == Record::MOVES_MOST {
         return refused(count, Verdict::MovesUsedUp);
     }
-    written(s.at, writing::moved(r, to))
+    written(s.at, writing::moved(r, named))
 }
 
 // "read 1".

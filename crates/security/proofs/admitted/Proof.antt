@@ -1,22 +1,23 @@
 -- `security::admitted` meets its contract: each return is the first check that applies, in the order 4, 2, 3, or none. Assumes nothing.
-use mathlib.Core.Path.{_≡_, refl, sym, _∙_}
-use mathlib.Core.Bool.{false, not, _&&_}
+use mathlib.Core.Path.{_≡_, sym, _∙_}
+use mathlib.Core.Bool.{true, false, _&&_}
 use Rattle.paper.specs.Ranges.{validSlots, validAdmission}
-use Rattle.paper.specs.Verdicts.{isDone, here, later, none, also}
-use Rattle.security.specs.Turns.{holds, admitChecksOf, admitTurn}
-use Rattle.security.proofs.Judging.{turn-refused, turn-accepted}
+use Rattle.security.specs.Turns.{holds}
+use Rattle.security.proofs.Judging.{passed, failed, admission-out, admission-again, admission-full, admission-accepted}
 use borrow.Author.Needs.{needs}
 use Rattle.security.proofs.admitted.Statement.{statement}
 use Rattle.security.proofs.admitted.Tie as tie
 
-in-range : (c : tie.Else1) → not (validSlots (c .before .before .before .args .s .count) && validAdmission (c .before .before .before .args .a)) ≡ false
-in-range c = rw (c .before .before .valid-slots .ensures, c .before .valid-admission .ensures) at (c .if1 .left)
+-- both tests of 4 are the definition's
+tested : (c : tie.After-valid-admission)
+    → (c .before .valid-slots .result && c .valid-admission .result) ≡ (validSlots (c .before .before .args .s .count) && validAdmission (c .before .before .args .a))
+tested c = rw (c .before .valid-slots .ensures, c .valid-admission .ensures)
+
+valid : (c : tie.Else1) → (validSlots (c .before .before .before .args .s .count) && validAdmission (c .before .before .before .args .a)) ≡ true
+valid c = passed _ (tested (c .before)) (c .if1 .left)
 
 new : (c : tie.Else2) → holds (c .before .before .before .before .before .args .s) ≡ false
 new c = sym (c .before .holds .ensures) ∙ c .if2 .left
-
-room : (c : tie.Else3) → not (holds (c .before .before .before .before .before .before .before .args .e)) ≡ false
-room c = rw (c .before .holds2 .ensures) at (c .if3 .left)
 
 valid-slots-requires : tie.Need-valid-slots-requires
 valid-slots-requires c κs = search needs
@@ -28,10 +29,7 @@ refused-requires : tie.Need-refused-requires
 refused-requires c κs = search needs
 
 returns : tie.Need-returns
-unfolding admitTurn admitChecksOf isDone
-returns c =
-    let test = rw (c .before .before .before .valid-slots .ensures, c .before .before .valid-admission .ensures) at (c .before .if1 .taken) in
-    c .refused .ensures ∙ turn-refused _ _ _ _ refl (here refl test)
+returns c = c .refused .ensures ∙ admission-out _ _ _ (failed _ (tested (c .before .before)) (c .before .if1 .taken))
 
 holds-requires : tie.Need-holds-requires
 holds-requires c κs = search needs
@@ -40,10 +38,8 @@ refused-requires-2 : tie.Need-refused-requires-2
 refused-requires-2 c κs = search needs
 
 returns-2 : tie.Need-returns-2
-unfolding admitTurn admitChecksOf isDone
 returns-2 c =
-    let test = sym (c .before .before .holds .ensures) ∙ c .before .if2 .taken in
-    c .refused2 .ensures ∙ turn-refused _ _ _ _ refl (later (in-range (c .before .before .before)) (here refl test))
+    c .refused2 .ensures ∙ admission-again _ _ _ (valid (c .before .before .before)) (sym (c .before .before .holds .ensures) ∙ c .before .if2 .taken)
 
 holds-requires-2 : tie.Need-holds-requires-2
 holds-requires-2 c κs = search needs
@@ -52,10 +48,10 @@ refused-requires-3 : tie.Need-refused-requires-3
 refused-requires-3 c κs = search needs
 
 returns-3 : tie.Need-returns-3
-unfolding admitTurn admitChecksOf isDone
 returns-3 c =
-    let test = rw (c .before .before .holds2 .ensures) at (c .before .if3 .taken) in
-    c .refused3 .ensures ∙ turn-refused _ _ _ _ refl (later (in-range (c .before .before .before .before .before)) (later (new (c .before .before .before)) (here refl test)))
+    let e = c .before .before .before in
+    let test = failed _ (c .before .before .holds2 .ensures) (c .before .if3 .taken) in
+    c .refused3 .ensures ∙ admission-full _ _ _ (valid (e .before .before)) (new e) test
 
 admitted-requires : tie.Need-admitted-requires
 admitted-requires c κs = search needs
@@ -64,11 +60,11 @@ saying-requires : tie.Need-saying-requires
 saying-requires c κs = search needs
 
 returns-4 : tie.Need-returns-4
-unfolding admitTurn admitChecksOf
 returns-4 c =
-    let e = c .before .before in
-    rw (c .saying .ensures, c .before .admitted .ensures)
-    (turn-accepted _ _ _ (also (in-range (e .before .before .before .before)) (also (new (e .before .before)) (also (room e) none))))
+    let f = c .before .before in
+    let e = f .before .before in
+    let test = passed _ (f .before .holds2 .ensures) (f .if3 .left) in
+    rw (c .saying .ensures, c .before .admitted .ensures) (admission-accepted _ _ _ (valid (e .before .before)) (new e) test)
 
 pub admitted-spec : {M : Type 1} → statement M
 admitted-spec =

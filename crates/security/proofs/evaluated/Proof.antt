@@ -1,35 +1,38 @@
 -- `security::evaluated` meets its contract: each return is the first check that applies, 1, 6, 5 or 7; after them the price is all that the rest takes. Assumes nothing.
-use mathlib.Core.Path.{_≡_, refl, sym, ap, _∙_}
-use mathlib.Core.Bool.{true, false, not}
+use mathlib.Core.Path.{_≡_, sym, ap, _∙_}
+use mathlib.Core.Bool.{true, false}
 use lib.Dec.{leb}
 use borrow.Author.Tests.{le-leb, lt-leb}
 use Rattle.paper.specs.Ranges.{gridOf, lastDay, validDay}
 use Rattle.paper.specs.Evaluation.{dayRows}
-use Rattle.paper.specs.Verdicts.{isDone, here, later}
-use Rattle.paper.specs.Desk.{priceOn, evaluateChecks}
-use Rattle.paper.proofs.Logic.{not-false}
+use Rattle.paper.specs.Desk.{priceOn}
 use Rattle.inputs.proofs.Tests.{grid-range}
 use Rattle.soundness.proofs.Facts.{sound-facts}
-use Rattle.security.specs.Turns.{isKnown, evaluateTurn}
-use Rattle.security.proofs.Judging.{turn-refused, known-sound, day-valid, beyond, Made, made}
+use Rattle.evaluation.specs.Evaluation.{evaluationMade}
+use Rattle.security.specs.Turns.{isKnown}
+use Rattle.security.proofs.Judging.{passed, failed, known-sound, day-unknown, day-out, day-not-after, day-beyond}
+use Rattle.security.proofs.Evaluations.{day-valid, beyond, Made, made}
 use borrow.Author.Needs.{needs}
 use Rattle.security.proofs.evaluated.Statement.{statement}
 use Rattle.security.proofs.evaluated.Tie as tie
 
 known : (c : tie.Else1) → isKnown (c .before .before .before .args .s) ≡ true
-known c = sym (c .before .is-known .ensures) ∙ not-false _ (c .if1 .left)
+known c = passed _ (c .before .is-known .ensures) (c .if1 .left)
 
 valid : (c : tie.Else2) → validDay (c .before .before .before .before .before .args .d) (c .before .before .before .before .before .args .rows .now) ≡ true
-valid c = sym (c .before .valid-day .ensures) ∙ not-false _ (c .if2 .left)
+valid c = passed _ (c .before .valid-day .ensures) (c .if2 .left)
 
 after : (c : tie.Else3) → leb (c .before .before .before .before .before .before .before .before .args .d .day) (lastDay (c .before .before .before .before .before .before .before .before .args .s .rec .standing)) ≡ false
 after c = lt-leb _ _ (rw (c .before .before .last-day .ensures) at (c .if3 .left))
 
 -- the evaluation is that of the record's grid
+evaluation : (c : tie.After-evaluate)
+    → evaluationMade (gridOf (c .before .before .before .before .before .before .before .before .before .before .args .s .rec .statics .lot)) (c .before .before .before .before .before .before .before .before .before .before .args .s .rec .p1 .units) (dayRows (c .before .before .before .before .before .before .before .before .before .before .args .rows .now)) ≡ c .evaluate .result
+evaluation c = rw (← c .before .grid-of .ensures) (sym (c .evaluate .ensures))
+
 price : (c : tie.After-evaluation)
     → Made (gridOf (c .before .before .before .before .before .before .before .before .before .before .before .before .args .s .rec .statics .lot)) (c .before .before .before .before .before .before .before .before .before .before .before .before .args .s .rec .p1 .units) (dayRows (c .before .before .before .before .before .before .before .before .before .before .before .before .args .rows .now)) (c .evaluation .given .0 .0)
-price c =
-    made _ _ _ _ (rw (c .evaluation .given .1, c .before .before .before .grid-of .ensures) at (sym (c .before .before .evaluate .ensures)))
+price c = made _ _ _ _ (evaluation (c .before .before) ∙ c .evaluation .given .1)
 
 is-known-requires : tie.Need-is-known-requires
 is-known-requires c κs = search needs
@@ -38,10 +41,7 @@ refused-requires : tie.Need-refused-requires
 refused-requires c κs = search needs
 
 returns : tie.Need-returns
-unfolding evaluateTurn evaluateChecks isDone
-returns c =
-    let test = rw (c .before .before .is-known .ensures) at (c .before .if1 .taken) in
-    c .refused .ensures ∙ turn-refused _ _ _ _ refl (here refl test)
+returns c = c .refused .ensures ∙ day-unknown _ _ _ (failed _ (c .before .before .is-known .ensures) (c .before .if1 .taken))
 
 valid-day-requires : tie.Need-valid-day-requires
 valid-day-requires c κs = search needs
@@ -50,10 +50,8 @@ refused-requires-2 : tie.Need-refused-requires-2
 refused-requires-2 c κs = search needs
 
 returns-2 : tie.Need-returns-2
-unfolding evaluateTurn evaluateChecks isDone
 returns-2 c =
-    let test = rw (c .before .before .valid-day .ensures) at (c .before .if2 .taken) in
-    c .refused2 .ensures ∙ turn-refused _ _ _ _ refl (later (ap not (known (c .before .before .before))) (here refl test))
+    c .refused2 .ensures ∙ day-out _ _ _ (known (c .before .before .before)) (failed _ (c .before .before .valid-day .ensures) (c .before .if2 .taken))
 
 last-day-requires : tie.Need-last-day-requires
 last-day-requires c κs = search needs
@@ -62,11 +60,10 @@ refused-requires-3 : tie.Need-refused-requires-3
 refused-requires-3 c κs = search needs
 
 returns-3 : tie.Need-returns-3
-unfolding evaluateTurn evaluateChecks isDone
 returns-3 c =
-    let test = le-leb _ _ (rw (c .before .before .before .last-day .ensures) at (c .before .if3 .taken)) in
     let e = c .before .before .before .before in
-    c .refused3 .ensures ∙ turn-refused _ _ _ _ refl (later (ap not (known (e .before .before))) (later (ap not (valid e)) (here refl test)))
+    let test = le-leb _ _ (rw (c .before .before .before .last-day .ensures) at (c .before .if3 .taken)) in
+    c .refused3 .ensures ∙ day-not-after _ _ _ (known (e .before .before)) (valid e) test
 
 grid-of-requires : tie.Need-grid-of-requires
 grid-of-requires c κs = search needs
@@ -95,14 +92,10 @@ evaluated-at-requires c κs =
     (known-sound _ (known (e .before .before .before .before .before)), (day .0, price (c .before) .price))
 
 returns-4 : tie.Need-returns-4
-unfolding evaluateTurn evaluateChecks isDone
 returns-4 c =
     let e = c .before .before .before .before .before in
-    let made-of = rw (c .before .enum-told .given .1, c .before .before .before .before .grid-of .ensures) at (sym (c .before .before .before .evaluate .ensures)) in
-    c .refused4 .ensures
-    ∙ turn-refused _ _ _ _ refl
-    (later (ap not (known (e .before .before .before .before .before)))
-    (later (ap not (valid (e .before .before .before))) (later (after e) (here refl (ap not (beyond _ _ _ made-of))))))
+    let test = beyond _ _ _ (evaluation (c .before .before .before) ∙ c .before .enum-told .given .1) in
+    c .refused4 .ensures ∙ day-beyond _ _ _ (known (e .before .before .before .before .before)) (valid (e .before .before .before)) (after e) test
 
 returns-5 : tie.Need-returns-5
 unfolding priceOn

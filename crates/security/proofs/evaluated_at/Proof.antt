@@ -1,16 +1,14 @@
 -- `security::evaluated_at` meets its contract: where 1, 6, 5 and 7 do not apply, each return is the first check that applies, 8 or 9, or none. Assumes nothing.
-use mathlib.Core.Path.{_≡_, refl, sym, ap, _∙_}
-use mathlib.Core.Bool.{true, not}
+use mathlib.Core.Path.{_≡_, sym, _∙_}
 use mathlib.Core.List.{List}
 use lib.IntN.{ℤ}
 use Rattle.paper.specs.Rates.{moveTooLarge}
-use Rattle.paper.specs.Verdicts.{isDone, here, later, none, also}
-use Rattle.paper.specs.Desk.{priceOn, moveOn, evaluated, evaluateChecks}
+use Rattle.paper.specs.Desk.{priceOn, moveOn}
 use Rattle.inputs.proofs.Facts.{day-facts}
 use Rattle.rates.proofs.Statics.{sound-ranges}
 use Rattle.writing.specs.Evaluates.{moveTo, figuresAt}
-use Rattle.security.specs.Turns.{evaluateTurn}
-use Rattle.security.proofs.Judging.{turn-refused, turn-accepted, sound-prices}
+use Rattle.security.proofs.Judging.{day-moved-far, day-crossed, day-accepted}
+use Rattle.security.proofs.Evaluations.{sound-prices}
 use borrow.Author.Needs.{needs}
 use Rattle.security.proofs.evaluated_at.Statement.{statement}
 use Rattle.security.proofs.evaluated_at.Tie as tie
@@ -34,12 +32,8 @@ refused-requires : tie.Need-refused-requires
 refused-requires c κs = search needs
 
 returns : tie.Need-returns
-unfolding evaluateTurn evaluateChecks isDone
 returns c rows k e =
-    let test = sym (move-tested (c .before .before) rows e) ∙ c .before .if1 .taken in
-    c .refused .ensures
-    ∙ turn-refused _ _ _ _ refl
-    (later (ap not (k .known)) (later (ap not (k .valid)) (later (k .later) (later (ap not (k .fits)) (here refl test)))))
+    c .refused .ensures ∙ day-moved-far _ _ rows k (sym (move-tested (c .before .before) rows e) ∙ c .before .if1 .taken)
 
 element-copy-out-figures-of : tie.Need-element-copy-out-figures-of
 element-copy-out-figures-of c = search needs
@@ -67,30 +61,21 @@ refused-requires-2 : tie.Need-refused-requires-2
 refused-requires-2 c κs = search needs
 
 returns-2 : tie.Need-returns-2
-unfolding evaluateTurn evaluateChecks isDone
 returns-2 c rows k e =
     let m = c .before .before .before .before .before .before in
     let held = sym (move-tested (m .before) rows e) ∙ m .if1 .left in
-    let test = rw (c .before .before .in-order .ensures, c .before .before .before .before .evaluated .ensures rows e) at (c .before .if2 .taken) in
-    c .refused2 .ensures
-    ∙ turn-refused _ _ _ _ refl
-    (later (ap not (k .known))
-    (later (ap not (k .valid)) (later (k .later) (later (ap not (k .fits)) (later held (here refl test))))))
+    let made = c .before .before .before .before .evaluated .ensures rows e in
+    c .refused2 .ensures ∙ day-crossed _ _ rows k held made (c .before .before .in-order .ensures) (c .before .if2 .taken)
 
 written-requires : tie.Need-written-requires
 written-requires c κs = search needs
 
 returns-3 : tie.Need-returns-3
-unfolding evaluateTurn evaluateChecks
 returns-3 c rows k e =
     let m = c .before .before .before .before .before .before in
     let held = sym (move-tested (m .before) rows e) ∙ m .if1 .left in
     let made = c .before .before .before .before .evaluated .ensures rows e in
-    let ordered = rw (c .before .before .in-order .ensures, made) at (c .before .if2 .left) in
-    rw (c .written .ensures, made)
-    (turn-accepted _ _ _
-    (also (ap not (k .known))
-    (also (ap not (k .valid)) (also (k .later) (also (ap not (k .fits)) (also held (also ordered none)))))))
+    c .written .ensures ∙ day-accepted _ _ rows k held made (c .before .before .in-order .ensures) (c .before .if2 .left)
 
 pub evaluated-at-spec : {M : Type 1} → statement M
 evaluated-at-spec =

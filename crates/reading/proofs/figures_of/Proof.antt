@@ -1,10 +1,10 @@
--- `hearing::figures_of` meets its contract. Assumes nothing.
+-- `reading::figures_of` meets its contract: every figure is copied from its place past the first thirteen numbers. Assumes nothing.
 use Prim.Native.Nat.{_≤_, _-_}
 use mathlib.Core.Path.{_≡_}
 use lib.ListN.{length}
 use borrow.Author.Needs.{needs}
-use Rattle.hearing.proofs.figures_of.Statement.{statement}
-use Rattle.hearing.proofs.figures_of.Tie as tie
+use Rattle.reading.proofs.figures_of.Statement.{statement}
+use Rattle.reading.proofs.figures_of.Tie as tie
 
 abbrev Inv-loop : tie.InvT-loop
 Inv-loop x f₀ i₀ f i = (i ≤ 113) × (length f ≡ 113)

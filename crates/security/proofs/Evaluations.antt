@@ -1,0 +1,54 @@
+-- What an evaluation in hand says of 7, and what a day and a record in range are to it. Assumes nothing.
+use mathlib.Core.Path.{_≡_, refl, sym, ap, _∙_}
+use mathlib.Core.Bool.{Bool, true, false, _&&_}
+use mathlib.Core.List.{List}
+use Prim.Native.Nat.{ℕ}
+use native.Mathlib.Omega.{arith}
+use lib.IntN.{ℤ}
+use Rattle.paper.specs.declared.Price.{Price}
+use Rattle.paper.specs.declared.Day.{Day}
+use Rattle.paper.specs.declared.Row.{Row}
+use Rattle.paper.specs.declared.Record.{Record}
+use Rattle.paper.specs.Lists.{pick, every}
+use Rattle.paper.specs.Ranges.{isPrice, isGridPrice, validDay, validRows, sound}
+use Rattle.paper.specs.Evaluation.{evaluationOf, rowFits, evaluationFits}
+use Rattle.paper.proofs.Logic.{and-left, and-right}
+use Rattle.inputs.specs.Parts.{validDayNumbers}
+use Rattle.inputs.proofs.Tests.{day-in-parts}
+use Rattle.evaluation.specs.declared.Evaluation.the-variants.{Evaluated, Beyond}
+use Rattle.evaluation.specs.Evaluation.{evaluationMade}
+
+pub sound-prices : (r : Record) → sound r ≡ true → (isPrice (r .p1 .units) ≡ true) × (isPrice (r .p2 .units) ≡ true)
+unfolding sound isGridPrice
+sound-prices r v = (search (v, and-left, and-right) depth 40, search (v, and-left, and-right) depth 40)
+
+pub day-valid : (d : Day) (rows : List ℤ) → validDay d rows ≡ true → (validDayNumbers d ≡ true) × (validRows rows ≡ true)
+day-valid d rows v =
+    let both = sym (day-in-parts d rows) ∙ v in
+    (and-left (validDayNumbers d) (validRows rows) both, and-right (validDayNumbers d) (validRows rows) both)
+
+pub beyond : (g previous : ℕ) (rows : List Row) → evaluationMade g previous rows ≡ Beyond → evaluationFits g previous rows ≡ false
+unfolding evaluationMade
+beyond g previous rows e = go (evaluationFits g previous rows) e
+  where
+    go : (b : Bool) → pick b (Evaluated (record { units = evaluationOf g previous rows })) Beyond ≡ Beyond → b ≡ false
+    go true q = let z : _≡_ {A = ℕ} 0 1 = cc in absurd (omega arith)
+    go false q = refl
+
+-- a price that was made is the evaluation, and fits
+pub record Made (g previous : ℕ) (rows : List Row) (p : Price) : Type 0 where
+  pub fits : evaluationFits g previous rows ≡ true
+  pub is : evaluationOf g previous rows ≡ p .units
+  pub price : isPrice (p .units) ≡ true
+
+pub made : (g previous : ℕ) (rows : List Row) (p : Price) → evaluationMade g previous rows ≡ Evaluated p → Made g previous rows p
+unfolding evaluationMade evaluationFits
+made g previous rows p e = go (evaluationFits g previous rows) refl e
+  where
+    go : (b : Bool) → evaluationFits g previous rows ≡ b
+        → pick b (Evaluated (record { units = evaluationOf g previous rows })) Beyond ≡ Evaluated p → Made g previous rows p
+    go true f q =
+        let same : _≡_ {A = Price} (record { units = evaluationOf g previous rows }) p = cc in
+        let is : evaluationOf g previous rows ≡ p .units = ap (λ (z : Price). z .units) same in
+        record { fits = f; is = is; price = rw is at (and-right (every rowFits rows) (isPrice (evaluationOf g previous rows)) f) }
+    go false f q = let z : _≡_ {A = ℕ} 0 1 = cc in absurd (omega arith)
