@@ -1,2 +1,1 @@
 pub mod Nearness
-pub mod Differences

@@ -20,10 +20,10 @@ use Rattle.paper.specs.declared.Side.{Side}
 use Rattle.paper.specs.declared.Answer.{Answer}
 use Rattle.paper.specs.declared.Verdict.{Verdict}
 use Rattle.paper.specs.Lists.{pick}
-use Rattle.paper.specs.Numbers.{priceLeast, priceMost}
+use Rattle.paper.specs.Numbers.{hundred, priceLeast, priceMost}
 use Rattle.paper.specs.Roundings.{Quotient}
 use Rattle.paper.specs.Ranges.{within, isPrice, isGridPrice, gridOf, staticsOf, validStatics, sound, validSlots, validAdmission, noRate, sideOf}
-use Rattle.paper.specs.Rates.{Figures, figuresOf, modelled, unmodelled, volatilityOf}
+use Rattle.paper.specs.Rates.{modelOf, Figures, figuresOf, modelled, unmodelled, volatilityOf}
 use Rattle.paper.specs.Verdicts.{isDone, firstOf, NoneApplies, none, also}
 use Rattle.paper.specs.Desk.{Call, admit, evaluate, quote, move, read, Outcome, blank, admitted, priceOn, moveOn, figuresOn, evaluated, quoted, moved, place, stands, found, known, checksOf, admitChecks, evaluateChecks, quoteChecks, moveChecks, acceptedOf, step, run, fresh}
 use Rattle.paper.specs.Exact.{Choice, Entry, History, unknown, since, Exact, exactMove, nextSquare, exactOf, choiceOf, entryOf, longer, noted, history, NearExact, Demand3}
@@ -49,7 +49,7 @@ Holds (since a es) there r = (there ≡ true) × Follows a es r
 -- ---- what a sound record gives
 
 record Start (r : Record) : Type 0 where
-  weighs : Weighing (r .statics)
+  weighs : Weighing (modelOf (r .statics))
   p1 : 0 < r .p1 .units
   p2 : 0 < r .p2 .units
 
@@ -69,7 +69,7 @@ started r v =
 -- ---- an evaluation
 
 model-on : (r : Record) (d : Day) (rows : List ℤ) → r .statics .ewma ≡ true
-    → figuresOn r d rows .s ≡ volatilityOf (r .statics) (d .b) (getD (r .rates) 0 noRate .bp) (moveOn r rows) (r .s)
+    → figuresOn r d rows .s ≡ volatilityOf (modelOf (r .statics)) (d .b) (hundred * getD (r .rates) 0 noRate .bp) (moveOn r rows) (r .s)
 unfolding figuresOn figuresOf modelled unmodelled
 model-on r d rows e =
     ap (λ (f : Figures). f .s)
@@ -93,7 +93,7 @@ near-evaluated a es r d rows ok f w =
     ≡ exactOf a (entryOf r d rows ∷ es) .square =
     (λ i. nextSquare (q i) (exactOf a es .square) (v i) (entryOf r d rows .choice)) ∙ sym (next-square a (entryOf r d rows) es) in
     rw (model-on r d rows on, ← add-one (length es), ← same)
-    (volatility-near (r .statics) (d .b) (getD (r .rates) 0 noRate .bp) (moveOn r rows) (r .s) (length es) (exactOf a es .square)
+    (volatility-near (modelOf (r .statics)) (d .b) (hundred * getD (r .rates) 0 noRate .bp) (moveOn r rows) (r .s) (length es) (exactOf a es .square)
     (exactMove (r .p1 .units) (r .p2 .units) (priceOn r rows)) (ok .weighs) (f .near w)
     (move-rounded (r .p1 .units) (r .p2 .units) (priceOn r rows) (ok .p1) (ok .p2)))
 

@@ -16,7 +16,7 @@ use Rattle.paper.specs.Numbers.{whole}
 use Rattle.paper.specs.Roundings.{Quotient}
 use Rattle.paper.specs.Least.{leastMultiple}
 use Rattle.paper.specs.Ranges.{validStatics}
-use Rattle.paper.specs.Rates.{wanted, meets, daysOf, minimumOf, covers, levelRate, AtLeastRoots, volatilePart, liquidPart, HeldLeast}
+use Rattle.paper.specs.Rates.{leastStep, wanted, meets, daysOf, minimumOf, covers, levelRate, AtLeastRoots, volatilePart, liquidPart, HeldLeast}
 use Rattle.paper.proofs.Logic.{clash, and-left, and-right, and-both, le-or-lt, pick-true, pick-false}
 use Rattle.paper.proofs.Search.{Mono, multiple-holds, multiple-least, multiple-bound, multiple-is}
 use Rattle.paper.proofs.Roots.{roots-covered, Floor, floor-root, short-one, short-two}
@@ -229,7 +229,7 @@ level-rate-is st level m tentative v = go (covers st level m tentative (st .smax
 
 -- t is the least multiple of h with 10,000·t ≥ q·s, held at S_max
 pub wanted-is : (st : Statics) (s : ℕ) → validStatics st ≡ true → HeldLeast (st .h) 0 (st .smax) (λ t. leb (st .q * s) (whole * t)) (wanted st s)
-unfolding wanted
+unfolding wanted leastStep leastMultiple
 wanted-is st s v = go (le-or-lt searched (st .smax))
   where
     enough : ℕ → Bool

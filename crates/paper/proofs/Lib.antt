@@ -1,4 +1,5 @@
 pub mod Logic
+pub mod Differences
 pub mod Search
 pub mod Roundings
 pub mod Units

@@ -7,25 +7,26 @@ use native.Mathlib.Nat.{le-trans, mul-le-mul-right, le-of-mul-le-mul-left, max-c
 use native.Mathlib.Omega.{arith}
 use lib.Dec.{leb, ltb}
 use borrow.Author.Tests.{leb-true, leb-false}
+use Rattle.paper.specs.declared.Model.{Model}
 use Rattle.paper.specs.declared.Statics.{Statics}
 use Rattle.paper.specs.Lists.{pick}
 use Rattle.paper.specs.Numbers.{whole, hundred, million}
 use Rattle.paper.specs.Roundings.{Quotient, up, greaterOf, apart}
 use Rattle.paper.specs.Ranges.{validStatics}
-use Rattle.paper.specs.Rates.{moveFrom, moveOf, weightOf, weighted, replacement, replaces, volatilityOf}
+use Rattle.paper.specs.Rates.{modelOf, moveFrom, moveOf, weightOf, weighted, replacement, replaces, volatilityOf}
 use Rattle.paper.specs.Exact.{Choice, byWeight, replaced, exactMove, nextSquare, choiceOf, NearExact}
 use Rattle.paper.proofs.Logic.{and-left, and-right, le-or-lt}
 use Rattle.paper.proofs.Search.{root-covers, root-least, times-covers, times-least}
 use Rattle.paper.proofs.Roundings.{up-covers, quotient-low}
 use Rattle.paper.proofs.Drift.{RoundedUp, weight-near, replace-near}
 
--- what the argument asks of the statics
-pub record Weighing (st : Statics) : Type 0 where
-  pub q : hundred ≤ st .q
-  pub aup : st .aup ≤ whole
-  pub adown : st .adown ≤ whole
+-- what the argument asks of the weights and the multiplier
+pub record Weighing (m : Model) : Type 0 where
+  pub q : hundred ≤ m .q
+  pub aup : m .aup ≤ whole
+  pub adown : m .adown ≤ whole
 
-pub weighing : (st : Statics) → validStatics st ≡ true → Weighing st
+pub weighing : (st : Statics) → validStatics st ≡ true → Weighing (modelOf st)
 unfolding validStatics
 weighing st v =
     record {
@@ -86,11 +87,11 @@ move-rounded p1 p2 p h1 h2 = go (leb (y .num * x .den) (x .num * y .den)) refl
 
 -- ---- the volatility
 
-weight-most : (st : Statics) (b r s : ℕ) → Weighing st → weightOf st b r s ≤ whole
+pub weight-most : (m : Model) (b r s : ℕ) → Weighing m → weightOf m b r s ≤ whole
 unfolding weightOf
-weight-most st b r s h = go (ltb 1 b) (ltb s r)
+weight-most m b r s h = go (ltb 1 b) (ltb s r)
   where
-    go : (x y : Bool) → pick x 0 (pick y (st .aup) (st .adown)) ≤ whole
+    go : (x y : Bool) → pick x 0 (pick y (m .aup) (m .adown)) ≤ whole
     go true y = omega arith
     go false true = h .aup
     go false false = h .adown
@@ -113,13 +114,13 @@ replacement-near n r q old move hq rounded =
     (times-covers q (hundred * r) (omega arith)) (times-least q (hundred * r))
 
 -- the rule takes one of the two, and the exact square is worked out by the same choice
-pub volatility-near : (st : Statics) (b s1 r s n : ℕ) (old move : Quotient) → Weighing st → NearExact n s old → RoundedUp r move
-    → NearExact (n + 1) (volatilityOf st b s1 r s) (nextSquare (st .q) old move (choiceOf st b s1 r s))
+pub volatility-near : (m : Model) (b last r s n : ℕ) (old move : Quotient) → Weighing m → NearExact n s old → RoundedUp r move
+    → NearExact (n + 1) (volatilityOf m b last r s) (nextSquare (m .q) old move (choiceOf m b last r s))
 unfolding volatilityOf choiceOf
-volatility-near st b s1 r s n old move h near rounded =
-    go (replaces st b s1 r (weighted (weightOf st b r s) s r)) (weightOf st b r s) (weight-most st b r s h)
+volatility-near m b last r s n old move h near rounded =
+    go (replaces m b last r (weighted (weightOf m b r s) s r)) (weightOf m b r s) (weight-most m b r s h)
   where
     go : (t : Bool) (a : ℕ) → a ≤ whole
-        → NearExact (n + 1) (pick t (replacement (st .q) r) (weighted a s r)) (nextSquare (st .q) old move (pick t replaced (byWeight a)))
-    go true a ha = replacement-near n r (st .q) old move (h .q) rounded
-    go false a ha = weighted-near a n s r (st .q) old move ha near rounded
+        → NearExact (n + 1) (pick t (replacement (m .q) r) (weighted a s r)) (nextSquare (m .q) old move (pick t replaced (byWeight a)))
+    go true a ha = replacement-near n r (m .q) old move (h .q) rounded
+    go false a ha = weighted-near a n s r (m .q) old move ha near rounded

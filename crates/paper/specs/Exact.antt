@@ -7,7 +7,7 @@ use Prim.Native.Nat.{ℕ, zero, suc, _+_, _-_, _*_, _≤_, _<_}
 use lib.Dec.{leb, eqb}
 use lib.ListN.{length, getD}
 use lib.IntN.{ℤ}
-use Rattle.paper.specs.declared.Statics.{Statics}
+use Rattle.paper.specs.declared.Model.{Model}
 use Rattle.paper.specs.declared.Record.{Record}
 use Rattle.paper.specs.declared.Admission.{Admission}
 use Rattle.paper.specs.declared.Day.{Day}
@@ -15,7 +15,7 @@ use Rattle.paper.specs.Lists.{pick}
 use Rattle.paper.specs.Numbers.{whole, million, hundred}
 use Rattle.paper.specs.Roundings.{Quotient, greaterOf, apart}
 use Rattle.paper.specs.Ranges.{noRate, staticsOf}
-use Rattle.paper.specs.Rates.{weightOf, weighted, replaces}
+use Rattle.paper.specs.Rates.{modelOf, weightOf, weighted, replaces}
 use Rattle.paper.specs.Verdicts.{isDone}
 use Rattle.paper.specs.Desk.{Call, admit, evaluate, quote, move, read, found, step, priceOn, moveOn}
 
@@ -70,16 +70,16 @@ exactOf a (e ∷ es) =
 -- ---- the history of a security
 
 -- the choice that the volatility's rule makes in an evaluation
-unfoldable pub choiceOf : Statics → ℕ → ℕ → ℕ → ℕ → Choice
-choiceOf st b s1 r s =
-    let a : ℕ = weightOf st b r s in
-    pick (replaces st b s1 r (weighted a s r)) replaced (byWeight a)
+unfoldable pub choiceOf : Model → (b last r s : ℕ) → Choice
+choiceOf m b last r s =
+    let a : ℕ = weightOf m b r s in
+    pick (replaces m b last r (weighted a s r)) replaced (byWeight a)
 
 unfoldable pub entryOf : Record → Day → List ℤ → Entry
 entryOf r d rows =
     record {
       price = priceOn r rows;
-      choice = choiceOf (r .statics) (d .b) (getD (r .rates) 0 noRate .bp) (moveOn r rows) (r .s);
+      choice = choiceOf (modelOf (r .statics)) (d .b) (hundred * getD (r .rates) 0 noRate .bp) (moveOn r rows) (r .s);
     }
 
 unfoldable pub longer : History → Entry → History

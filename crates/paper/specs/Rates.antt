@@ -9,6 +9,7 @@ use lib.IntN.{ℤ, pos, subℕ, _*ℤ_}
 use lib.Signed.{leZ}
 use Rattle.paper.specs.declared.Rate.{Rate}
 use Rattle.paper.specs.declared.Tentative.{Tentative}
+use Rattle.paper.specs.declared.Model.{Model}
 use Rattle.paper.specs.declared.Statics.{Statics}
 use Rattle.paper.specs.Lists.{pick, forLevels}
 use Rattle.paper.specs.Numbers.{whole, million, hundred, volatilityMost, ageMost}
@@ -25,9 +26,13 @@ moveFrom earlier p = up (apart p earlier * million) earlier
 unfoldable pub moveOf : ℕ → ℕ → ℕ → ℕ
 moveOf p1 p2 p = max (moveFrom p1 p) (moveFrom p2 p)
 
+-- the weights and the multiplier of a share
+abbrev pub modelOf : Statics → Model
+modelOf st = record { aup = st .aup; adown = st .adown; q = st .q }
+
 -- "a is 0 when b > 1; else a_up when r > s, a_down otherwise."
-unfoldable pub weightOf : Statics → ℕ → ℕ → ℕ → ℕ
-weightOf st b r s = pick (ltb 1 b) 0 (pick (ltb s r) (st .aup) (st .adown))
+unfoldable pub weightOf : Model → ℕ → ℕ → ℕ → ℕ
+weightOf m b r s = pick (ltb 1 b) 0 (pick (ltb s r) (m .aup) (m .adown))
 
 -- "New s is the least whole x with 10,000·x² ≥ (10,000 - a)·s² + a·r²."
 unfoldable pub weighted : ℕ → ℕ → ℕ → ℕ
@@ -37,20 +42,25 @@ weighted a s r = leastRoot whole ((whole - a) * (s * s) + a * (r * r))
 unfoldable pub replacement : ℕ → ℕ → ℕ
 replacement q r = leastTimes q (hundred * r)
 
--- "When b ≤ 1 and r > 100·S_1 (last rate), also take the least y ..; s is the greater, and on a tie x is the one chosen."
-unfoldable pub replaces : Statics → ℕ → ℕ → ℕ → ℕ → Bool
-replaces st b s1 r x = leb b 1 && ltb (hundred * s1) r && ltb x (replacement (st .q) r)
+-- "When b ≤ 1 and r > 100·S_1 (last rate), also take the least y ..; s is the greater, and on a tie x is the one chosen." The last rate is in the
+-- unit of the move
+unfoldable pub replaces : Model → (b last r x : ℕ) → Bool
+replaces m b last r x = leb b 1 && ltb last r && ltb x (replacement (m .q) r)
 
-unfoldable pub volatilityOf : Statics → ℕ → ℕ → ℕ → ℕ → ℕ
-volatilityOf st b s1 r s =
-    let x : ℕ = weighted (weightOf st b r s) s r in
-    pick (replaces st b s1 r x) (replacement (st .q) r) x
+unfoldable pub volatilityOf : Model → (b last r s : ℕ) → ℕ
+volatilityOf m b last r s =
+    let x : ℕ = weighted (weightOf m b r s) s r in
+    pick (replaces m b last r x) (replacement (m .q) r) x
 
 -- ---- the tentative rate
 
+-- "the least multiple of h with" w·t ≥ n
+unfoldable pub leastStep : (h w n : ℕ) → ℕ
+leastStep h w n = leastMultiple h n (λ t. leb n (w * t))
+
 -- "t is the least multiple of h with 10,000·t ≥ q·s, held at S_max."
 unfoldable pub wanted : Statics → ℕ → ℕ
-wanted st s = min (st .smax) (leastMultiple (st .h) (st .q * s) (λ t. leb (st .q * s) (whole * t)))
+wanted st s = min (st .smax) (leastStep (st .h) whole (st .q * s))
 
 -- "If t ≥ tentative + h, tentative becomes t. Else if t ≤ tentative - h and age + 1 ≥ n, it falls by one h. Else it stays. Age becomes 0 on a
 -- change, else one more, held at 250."
@@ -97,7 +107,7 @@ pub record Figures : Type 0 where
 
 unfoldable pub modelled : Statics → (b m s1 r s : ℕ) → Tentative → Figures
 modelled st b m s1 r s old =
-    let s′ : ℕ = volatilityOf st b s1 r s in
+    let s′ : ℕ = volatilityOf (modelOf st) b (hundred * s1) r s in
     let t : Tentative = tentativeAfter (st .h) (st .wait) (wanted st s′) old in
     record { s = s′; tentative = t; rates = forLevels (λ l. record { bp = levelRate st l m (t .bp) }) }
 

@@ -72,6 +72,14 @@ pub struct Tentative {
     pub age: u64,
 }
 
+// What the volatility's rule takes, for shares and for interest alike: the weight where the move is above the volatility, the weight where it is not, and
+// the multiplier.
+pub struct Model {
+    pub aup: u64,
+    pub adown: u64,
+    pub q: u64,
+}
+
 // What a security is admitted with, by the names of document 01's table.
 pub struct Statics {
     pub lot: u64,

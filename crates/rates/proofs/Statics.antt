@@ -11,8 +11,9 @@ use Rattle.paper.specs.declared.Record.{Record}
 use Rattle.paper.specs.Numbers.{daysMost, aheadMost}
 use Rattle.paper.specs.Lists.{pick}
 use Rattle.paper.specs.Ranges.{validStatics, validTentative, isRate, noRate, sound}
-use Rattle.paper.specs.Rates.{daysOf, minimumOf}
+use Rattle.paper.specs.Rates.{modelOf, daysOf, minimumOf}
 use Rattle.paper.proofs.Logic.{and-left, and-right}
+use Rattle.paper.proofs.Volatility.{Weighing}
 use Rattle.rates.specs.Asked.{RateStatics, FigureRanges}
 
 pub valid-rates : (st : Statics) → validStatics st ≡ true → RateStatics st
@@ -38,6 +39,9 @@ valid-rates st v =
       third-multiple = eqb-true _ _ (search (v, and-left, and-right) depth 40);
       most-multiple = eqb-true _ _ (search (v, and-left, and-right) depth 40);
     }
+
+pub rates-weighing : (st : Statics) → RateStatics st → Weighing (modelOf st)
+rates-weighing st r = record { q = r .multiplier-low; aup = r .up-high; adown = r .down-high }
 
 -- what the rules ask of a level's own statics
 abbrev pub LevelStatics : Statics → (days minimum : ℕ) → Type 0

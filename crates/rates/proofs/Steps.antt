@@ -13,15 +13,14 @@ use Rattle.paper.specs.Lists.{pick}
 use Rattle.paper.specs.Numbers.{ageMost}
 use Rattle.paper.specs.Least.{leastMultiple}
 use Rattle.paper.specs.Roundings.{up}
-use Rattle.paper.specs.Rates.{wanted, tentativeAfter}
+use Rattle.paper.specs.Rates.{leastStep, wanted, tentativeAfter}
 use Rattle.paper.proofs.Logic.{le-or-lt}
 use Rattle.paper.proofs.Search.{least-unique}
 use Rattle.paper.proofs.Roundings.{up-covers, up-least, quotient-low}
-use Rattle.rates.specs.Tentative.{leastStep}
 
 -- so many steps of w·h as n/(w·h) rounded up
 pub step-up : (h w n : ℕ) → 0 < h → 0 < w → up n (w * h) * h ≡ leastStep h w n
-unfolding leastMultiple
+unfolding leastStep leastMultiple
 step-up h w n p q = ap (λ (k : ℕ). k * h) (sym (least-unique n covers steps few (λ _. enough) fewer))
   where
     each : 0 < w * h

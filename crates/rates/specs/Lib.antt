@@ -1,4 +1,3 @@
 pub mod Asked
 pub mod Level
-pub mod Tentative
 pub mod Figures

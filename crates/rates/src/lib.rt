@@ -11,6 +11,7 @@ ghost use Rattle.paper.specs.Numbers.{volatilityMost};
 ghost use Rattle.paper.specs.Rates.{modelled, unmodelled, figuresOf, moveTooLarge};
 ghost use Rattle.rates.specs.Asked.{FigureRanges};
 ghost use Rattle.rates.specs.Figures.{handed};
+use paper::HUNDRED;
 use paper::Rate;
 use paper::Record;
 use paper::Statics;
@@ -35,7 +36,8 @@ fn modelled(st: Statics, b: u64, m: u64, s1: u64, r: u64, s: u64, old: Tentative
     requires { ⌜ r ≤ volatilityMost ⌝ }
     ensures { λ f. ⌜ f ≡ handed (modelled st b m s1 r s old) ⌝ }
 {
-    let carried = volatility::volatility_of(st, b, s1, r, s);
+    let model = volatility::model_of(st);
+    let carried = volatility::volatility_of(model, b, HUNDRED * s1, r, s);
     let t = tentative::wanted(st, carried);
     let tentative = tentative::tentative_after(st.h, st.wait, t, old);
     let rates = level::rates_of(st, m, tentative.bp);

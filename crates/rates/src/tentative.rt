@@ -2,16 +2,15 @@
 ghost use mathlib.Core.Path.{_≡_};
 ghost use Prim.Native.Nat.{_+_, _*_, _^_, _≤_, _<_};
 ghost use Rattle.paper.specs.Numbers.{volatilityMost};
-ghost use Rattle.paper.specs.Rates.{wanted, tentativeAfter};
+ghost use Rattle.paper.specs.Rates.{leastStep, wanted, tentativeAfter};
 ghost use Rattle.rates.specs.Asked.{RateStatics};
-ghost use Rattle.rates.specs.Tentative.{leastStep};
 use paper::Record;
 use paper::Statics;
 use paper::Tentative;
 use paper::WHOLE;
 
 // The least multiple of h with w·t ≥ n: so many steps that each makes w·h.
-fn least_step(h: u64, w: u64, n: u64) -> u64
+pub fn least_step(h: u64, w: u64, n: u64) -> u64
     requires { ⌜ (0 < h) × (0 < w) × (n + w * h < 2 ^ 64) ⌝ }
     ensures { λ r. ⌜ r ≡ leastStep h w n ⌝ }
 {

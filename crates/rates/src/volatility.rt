@@ -2,13 +2,14 @@
 ghost use mathlib.Core.Path.{_≡_};
 ghost use mathlib.Core.Bool.{true};
 ghost use Prim.Native.Nat.{_*_, _^_, _≤_, _<_};
-ghost use Rattle.paper.specs.Numbers.{whole, rateMost, volatilityMost, multiplierLeast};
+ghost use Rattle.paper.specs.Numbers.{whole, volatilityMost};
 ghost use Rattle.paper.specs.Ranges.{isPrice};
 ghost use Rattle.paper.specs.Roundings.{apart};
-ghost use Rattle.paper.specs.Rates.{moveFrom, moveOf, weightOf, weighted, replacement, replaces, volatilityOf};
-ghost use Rattle.rates.specs.Asked.{RateStatics};
+ghost use Rattle.paper.specs.Rates.{modelOf, moveFrom, moveOf, weightOf, weighted, replacement, replaces, volatilityOf};
+ghost use Rattle.paper.proofs.Volatility.{Weighing};
 use paper::HUNDRED;
 use paper::MILLION;
+use paper::Model;
 use paper::Statics;
 use paper::WHOLE;
 
@@ -35,16 +36,27 @@ pub fn move_of(p1: u64, p2: u64, p: u64) -> u64
     exact::greater(move_from(p1, p), move_from(p2, p))
 }
 
+// The weights and the multiplier of a share.
+pub fn model_of(st: Statics) -> Model
+    ensures { λ m. ⌜ m ≡ modelOf st ⌝ }
+{
+    Model {
+        aup: st.aup,
+        adown: st.adown,
+        q: st.q,
+    }
+}
+
 // The a of the paper, in ten-thousandths.
-pub fn weight_of(st: Statics, b: u64, r: u64, s: u64) -> u64
-    ensures { λ a. ⌜ a ≡ weightOf st b r s ⌝ }
+pub fn weight_of(m: Model, b: u64, r: u64, s: u64) -> u64
+    ensures { λ a. ⌜ a ≡ weightOf m b r s ⌝ }
 {
     if b > 1 {
         0
     } else if r > s {
-        st.aup
+        m.aup
     } else {
-        st.adown
+        m.adown
     }
 }
 
@@ -64,23 +76,23 @@ pub fn replacement(q: u64, r: u64) -> u64
     exact::up(HUNDRED * r, q)
 }
 
-// Whether y is chosen over x.
-pub fn replaces(st: Statics, b: u64, s1: u64, r: u64, x: u64) -> bool
-    requires { ⌜ (0 < st .q) × (s1 ≤ rateMost) × (r ≤ volatilityMost) ⌝ }
-    ensures { λ y. ⌜ y ≡ replaces st b s1 r x ⌝ }
+// Whether y is chosen over x. The last rate is in the unit of the move.
+pub fn replaces(m: Model, b: u64, last: u64, r: u64, x: u64) -> bool
+    requires { ⌜ (0 < m .q) × (r ≤ volatilityMost) ⌝ }
+    ensures { λ y. ⌜ y ≡ replaces m b last r x ⌝ }
 {
-    (b <= 1) & (r > HUNDRED * s1) & (x < replacement(st.q, r))
+    (b <= 1) & (r > last) & (x < replacement(m.q, r))
 }
 
 // New s.
-pub fn volatility_of(st: Statics, b: u64, s1: u64, r: u64, s: u64) -> u64
-    requires { ⌜ RateStatics st ⌝ }
-    requires { ⌜ (s1 ≤ rateMost) × (r ≤ volatilityMost) × (s ≤ volatilityMost) ⌝ }
-    ensures { λ x. ⌜ x ≡ volatilityOf st b s1 r s ⌝ }
+pub fn volatility_of(m: Model, b: u64, last: u64, r: u64, s: u64) -> u64
+    requires { ⌜ Weighing m ⌝ }
+    requires { ⌜ (r ≤ volatilityMost) × (s ≤ volatilityMost) ⌝ }
+    ensures { λ x. ⌜ x ≡ volatilityOf m b last r s ⌝ }
 {
-    let x = weighted(weight_of(st, b, r, s), s, r);
-    if replaces(st, b, s1, r, x) {
-        replacement(st.q, r)
+    let x = weighted(weight_of(m, b, r, s), s, r);
+    if replaces(m, b, last, r, x) {
+        replacement(m.q, r)
     } else {
         x
     }

@@ -8,7 +8,7 @@ use borrow.Author.Needs.{needs}
 use Rattle.paper.specs.declared.Limits.{Limits}
 use Rattle.paper.specs.Numbers.{whole, limitMost, nearnessMost}
 use Rattle.alerts.specs.Nearness.{closer}
-use Rattle.alerts.specs.Differences.{share-order}
+use Rattle.paper.proofs.Differences.{share-order}
 use Rattle.alerts.proofs.is_closer.Statement.{statement}
 use Rattle.alerts.proofs.is_closer.Tie as tie
 

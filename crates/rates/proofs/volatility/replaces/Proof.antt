@@ -4,9 +4,6 @@ use Rattle.paper.specs.Rates.{replaces}
 use Rattle.rates.proofs.volatility.replaces.Statement.{statement}
 use Rattle.rates.proofs.volatility.replaces.Tie as tie
 
-mul-result : tie.Need-mul-result
-mul-result c = search needs
-
 replacement-requires : tie.Need-replacement-requires
 replacement-requires c κs = search needs
 
@@ -15,4 +12,4 @@ unfolding replaces
 returns c = rw (c .replacement .ensures)
 
 pub replaces-spec : {M : Type 1} → statement M
-replaces-spec = tie.close (tie.spec mul-result replacement-requires returns)
+replaces-spec = tie.close (tie.spec replacement-requires returns)

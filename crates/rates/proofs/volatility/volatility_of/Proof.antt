@@ -4,7 +4,8 @@ use Prim.Native.Nat.{ℕ, _≤_}
 use native.Mathlib.Omega.{arith}
 use borrow.Author.Needs.{needs}
 use Rattle.paper.specs.Rates.{weightOf, weighted}
-use Rattle.rates.proofs.Volatilities.{weight-high, replaced, not-replaced}
+use Rattle.paper.proofs.Volatility.{weight-most}
+use Rattle.rates.proofs.Volatilities.{replaced, not-replaced}
 use Rattle.rates.proofs.volatility.volatility_of.Statement.{statement}
 use Rattle.rates.proofs.volatility.volatility_of.Tie as tie
 
@@ -14,14 +15,14 @@ weight-of-requires c κs = search needs
 weighted-requires : tie.Need-weighted-requires
 weighted-requires c κs =
     let start = c .before in
-    let high = weight-high (start .args .st) (start .args .b) (start .args .r) (start .args .s) (start .pre .0) in
+    let high = weight-most (start .args .m) (start .args .b) (start .args .r) (start .args .s) (start .pre .0) in
     omega (arith, c .weight-of .ensures, high)
 
 -- the x of the paper
 mean : (c : tie.After-weighted)
     → c .weighted .result
     ≡ weighted
-    (weightOf (c .before .before .args .st) (c .before .before .args .b) (c .before .before .args .r) (c .before .before .args .s))
+    (weightOf (c .before .before .args .m) (c .before .before .args .b) (c .before .before .args .r) (c .before .before .args .s))
     (c .before .before .args .s)
     (c .before .before .args .r)
 mean c = rw (c .weighted .ensures, c .before .weight-of .ensures)
@@ -39,7 +40,7 @@ returns c =
 
 returns-2 : tie.Need-returns-2
 returns-2 c =
-    not-replaced _ (c .before .before .before .before .args .b) (c .before .before .before .before .args .s1) _ _ _ (mean (c .before .before)) (sym (c .before .replaces .ensures) ∙ c .if1 .left)
+    not-replaced _ (c .before .before .before .before .args .b) (c .before .before .before .before .args .last) _ _ _ (mean (c .before .before)) (sym (c .before .replaces .ensures) ∙ c .if1 .left)
 
 pub volatility-of-spec : {M : Type 1} → statement M
 volatility-of-spec =
