@@ -10,7 +10,19 @@ pub fn narrow(x: i128) -> i64 {
     i64::try_from(x).expect("the paper's ranges keep every figure within 64 bits")
 }
 
-/// An exact quotient, never negative, its denominator above 0.
+/// The greatest whole number not above a quotient, its denominator above 0. It
+/// divides once: 128-bit divisions are most of an evaluation's time, and the
+/// benchmark shall not find the reference slower than it need be.
+fn floor(numerator: i128, denominator: i128) -> i128 {
+    if numerator < 0 {
+        // A division goes towards 0, which is up here.
+        (numerator - (denominator - 1)) / denominator
+    } else {
+        numerator / denominator
+    }
+}
+
+/// An exact quotient, its denominator above 0.
 #[derive(Clone, Copy, Debug)]
 pub struct Quotient {
     pub numerator: i128,
@@ -20,21 +32,29 @@ pub struct Quotient {
 impl Quotient {
     /// The least whole number not below the quotient.
     pub fn up(self) -> i128 {
-        (self.numerator + self.denominator - 1) / self.denominator
+        floor(self.numerator + self.denominator - 1, self.denominator)
     }
 
-    /// "Half up": the nearest whole number, ties up.
+    /// The least multiple of the step not below the quotient.
+    pub fn up_to(self, step: i64) -> i64 {
+        narrow(self.in_steps(step).up() * wide(step))
+    }
+
+    /// "Half up": the nearest whole number, ties up, also below 0.
     pub fn half_up(self) -> i128 {
-        (2 * self.numerator + self.denominator) / (2 * self.denominator)
+        floor(2 * self.numerator + self.denominator, 2 * self.denominator)
     }
 
     /// Half up to a multiple of the grid.
     pub fn half_up_to(self, grid: i64) -> i64 {
-        let steps = Quotient {
+        narrow(self.in_steps(grid).half_up() * wide(grid))
+    }
+
+    fn in_steps(self, step: i64) -> Quotient {
+        Quotient {
             numerator: self.numerator,
-            denominator: self.denominator * wide(grid),
-        };
-        narrow(steps.half_up() * wide(grid))
+            denominator: self.denominator * wide(step),
+        }
     }
 
     /// The lesser of two quotients, compared exactly.
@@ -104,6 +124,26 @@ mod tests {
         assert_eq!(quotient(1_003_124, 1).half_up_to(10), 1_003_120);
         assert_eq!(quotient(1_003_150, 1).half_up_to(100), 1_003_200);
         assert_eq!(quotient(1_003_149, 1).half_up_to(100), 1_003_100);
+    }
+
+    #[test]
+    fn ties_go_up_below_0_too() {
+        // -1/2 lies between -1 and 0, and 0 is up; -3/2 between -2 and -1.
+        assert_eq!(quotient(-1, 2).half_up(), 0);
+        assert_eq!(quotient(-3, 2).half_up(), -1);
+        assert_eq!(quotient(-51, 100).half_up(), -1);
+        assert_eq!(quotient(-49, 100).half_up(), 0);
+        assert_eq!(quotient(-150, 100).half_up(), -1);
+        assert_eq!(quotient(-151, 100).half_up(), -2);
+        assert_eq!(quotient(-8, 7).up(), -1);
+        assert_eq!(quotient(-7, 7).up(), -1);
+    }
+
+    #[test]
+    fn up_to_a_step_adds_nothing_to_a_multiple() {
+        assert_eq!(quotient(0, 1).up_to(25), 0);
+        assert_eq!(quotient(100, 4).up_to(25), 25);
+        assert_eq!(quotient(101, 4).up_to(25), 50);
     }
 
     #[test]

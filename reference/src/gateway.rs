@@ -9,7 +9,7 @@ use crate::record::{is_price, is_tentative, Side};
 use crate::refusal::Refusal;
 use crate::statics::{Statics, STATICS};
 use crate::units::{DAYS_AHEAD, DAYS_CLOSED, MOVE_COUNT, RATE, REPO_RATE};
-use crate::words::serve;
+use crate::words::{number, serve};
 
 /// A static out of range, judged before every other value.
 fn statics(numbers: &[i64; STATICS]) -> Result<Statics, Refusal> {
@@ -99,5 +99,5 @@ pub fn perform(verb: &[u8], numbers: &[i64]) -> Option<i64> {
 
 /// Answers every line of the input.
 pub fn gateway(input: impl BufRead, output: impl Write) -> io::Result<()> {
-    serve(input, output, perform)
+    serve(input, output, number, perform)
 }

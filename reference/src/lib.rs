@@ -1,15 +1,20 @@
-//! The independent second opinion on document 01: the parameter desk's rules
-//! in exact 128-bit integers, written from the paper alone.
+//! The independent second opinion on document 01 and on W-201 of document 02:
+//! the parameter desk's rules in exact 128-bit integers, written from the
+//! papers alone.
 //!
 //! A quotient stays a numerator and a denominator until one of the paper's
-//! places of rounding (a) to (g).
+//! places of rounding (a) to (g), or W-201's own.
 
 pub mod compare;
 pub mod count;
+pub mod count_interest;
 pub mod desk;
 pub mod evaluation;
+pub mod ewma;
 pub mod exact;
 pub mod gateway;
+pub mod interest;
+pub mod kept;
 pub mod limits;
 pub mod protocol;
 pub mod random;

@@ -3,10 +3,10 @@
 use std::io::{self, Write};
 use std::process::ExitCode;
 
-use reference::{compare, count, gateway, protocol, script};
+use reference::{compare, count, count_interest, gateway, protocol, script};
 
 const USAGE: &str = "usage: reference evening | gateway | script-evening SEED LINES | \
-script-gateway SEED LINES | count [gateway] | compare FILE_A FILE_B SCRIPT";
+script-gateway SEED LINES | count [gateway | interest] | compare FILE_A FILE_B SCRIPT";
 /// The exit code of a comparison that fails or a count with a gap.
 const DIFFERENT: u8 = 1;
 /// The exit code of a command that cannot be run.
@@ -40,6 +40,7 @@ fn run(words: &[&str]) -> io::Result<ExitCode> {
         }
         ["count"] => return told(&count::count(input, count::Answers::Evening)?),
         ["count", "gateway"] => return told(&count::count(input, count::Answers::Gateway)?),
+        ["count", "interest"] => return told(&count_interest::count_interest(input)?),
         ["compare", first, second, script] => return compared(first, second, script),
         _ => return Err(io::Error::other(USAGE)),
     }

@@ -4,24 +4,40 @@ use std::fmt;
 use std::io::{self, BufRead, Write};
 
 use crate::desk;
-use crate::record::{Record, FIGURES};
+use crate::interest::{self, RepoBand, Sheet, Worked};
+use crate::kept::Kept;
+use crate::record::{self, Record};
 use crate::refusal::Refusal;
 use crate::security::{Admission, Alerts, Day, Quote, RepoTerm};
-use crate::words::serve;
+use crate::words::{number_or_pair, serve, Word};
 
 /// The number of a call that is done.
 const DONE: i64 = 0;
 
+/// The most figures that follow an answer's number.
+const FIGURES_MAX: usize = if record::FIGURES > interest::FIGURES_MAX {
+    record::FIGURES
+} else {
+    interest::FIGURES_MAX
+};
+
+/// The band of a pair that is not kept: no range holds it, so the day is out of
+/// range in the usual place.
+const NOT_KEPT: RepoBand = RepoBand {
+    rrcl: i64::MAX,
+    rrch: i64::MIN,
+};
+
 /// The figures of one answer: the number, then what the call gives.
 #[derive(Clone, Copy, Debug)]
 pub struct Answer {
-    figures: [i64; 1 + FIGURES],
+    figures: [i64; 1 + FIGURES_MAX],
     count: usize,
 }
 
 impl Answer {
     fn new(number: i64, rest: &[i64]) -> Answer {
-        let mut figures = [0; 1 + FIGURES];
+        let mut figures = [0; 1 + FIGURES_MAX];
         figures[0] = number;
         figures[1..=rest.len()].copy_from_slice(rest);
         Answer {
@@ -73,17 +89,31 @@ impl From<&Record> for Answer {
     }
 }
 
+impl From<Worked> for Answer {
+    fn from(worked: Worked) -> Answer {
+        Answer::new(DONE, &worked.numbers())
+    }
+}
+
 /// A call's result, done or refused, as an answer.
 fn answered<T: Into<Answer>>(result: Result<T, Refusal>) -> Answer {
     result.map_or_else(Answer::from, T::into)
 }
 
-/// Performs the call that a word and its numbers name; none where they name
+/// Performs the call that a word and those after it name; none where they name
 /// no call.
-pub fn perform(table: &mut [Record], verb: &[u8], numbers: &[i64]) -> Option<Answer> {
-    match (verb, numbers) {
-        (b"admit", _) => Some(answered(desk::admit(table, &admission(numbers)?))),
-        (b"evaluate", [id, ..]) => Some(answered(desk::evaluate(table, *id, &day(numbers)?))),
+pub fn perform(
+    table: &mut [Record],
+    kept: &mut Kept,
+    verb: &[u8],
+    words: &[Word],
+) -> Option<Answer> {
+    if verb == b"evaluate" {
+        return evaluate(table, kept, words);
+    }
+    let numbers = numbers(words)?;
+    match (verb, &numbers[..]) {
+        (b"admit", numbers) => Some(answered(desk::admit(table, &admission(numbers)?))),
         (b"quote", &[id, second, term, bid, ask]) => {
             let quote = Quote {
                 second,
@@ -95,8 +125,28 @@ pub fn perform(table: &mut [Record], verb: &[u8], numbers: &[i64]) -> Option<Ans
         }
         (b"move", &[id, side]) => Some(answered(desk::move_side(table, id, side))),
         (b"read", &[id]) => Some(answered(desk::read(table, id))),
+        (b"interest", numbers) => {
+            let (values, maturities) = numbers.split_first_chunk()?;
+            Some(answered(work(
+                kept,
+                Sheet::from_numbers(values, maturities),
+            )))
+        }
         _ => None,
     }
+}
+
+/// Words that are all numbers.
+fn numbers(words: &[Word]) -> Option<Vec<i64>> {
+    words.iter().map(|word| word.number()).collect()
+}
+
+/// Works a sheet out and keeps its band; a refused one changes nothing.
+fn work(kept: &mut Kept, sheet: Result<Sheet, Refusal>) -> Result<Worked, Refusal> {
+    let sheet = sheet?;
+    let worked = sheet.worked();
+    kept.keep(sheet.pair, worked.band);
+    Ok(worked)
 }
 
 /// `ID DAY P1 P2 S TENTATIVE` and the statics.
@@ -113,24 +163,46 @@ fn admission(numbers: &[i64]) -> Option<Admission> {
     })
 }
 
-/// `ID DAY B M`, `K RRCL RRCH` for each term, and the row figures.
-fn day(numbers: &[i64]) -> Option<Day<'_>> {
-    let (&[_, number, days_between, days_closed], rest) = numbers.split_first_chunk()?;
-    let (&[k0, l0, h0, k1, l1, h1, k2, l2, h2], rows) = rest.split_first_chunk()?;
-    let term = |days, rrcl, rrch| RepoTerm { days, rrcl, rrch };
-    Some(Day {
+/// `ID DAY B M`, the three terms, and the row figures.
+fn evaluate(table: &mut [Record], kept: &Kept, words: &[Word]) -> Option<Answer> {
+    let (head, rest) = words.split_first_chunk::<4>()?;
+    let &[id, number, days_between, days_closed] = &numbers(head)?[..] else {
+        return None;
+    };
+    let (first, rest) = term(kept, rest)?;
+    let (second, rest) = term(kept, rest)?;
+    let (third, rest) = term(kept, rest)?;
+    let day = Day {
         number,
         days_between,
         days_closed,
-        terms: [term(k0, l0, h0), term(k1, l1, h1), term(k2, l2, h2)],
-        rows,
-    })
+        terms: [first, second, third],
+        rows: &numbers(rest)?,
+    };
+    Some(answered(desk::evaluate(table, id, &day)))
 }
 
-/// The whole evening: a fresh table of 512 slots, answers to every line.
+/// A term, `K RRCL RRCH` or `K YM/YN`, and the words after it.
+fn term<'w>(kept: &Kept, words: &'w [Word]) -> Option<(RepoTerm, &'w [Word])> {
+    let (days, band, rest) = match *words {
+        [Word::Number(days), Word::Pair(pair), ref rest @ ..] => {
+            (days, kept.band(pair).unwrap_or(NOT_KEPT), rest)
+        }
+        [Word::Number(days), Word::Number(rrcl), Word::Number(rrch), ref rest @ ..] => {
+            (days, RepoBand { rrcl, rrch }, rest)
+        }
+        _ => return None,
+    };
+    let RepoBand { rrcl, rrch } = band;
+    Some((RepoTerm { days, rrcl, rrch }, rest))
+}
+
+/// The whole evening: a fresh table of 512 slots, no band kept, answers to
+/// every line.
 pub fn evening(input: impl BufRead, output: impl Write) -> io::Result<()> {
     let mut table = desk::fresh_table(desk::SLOTS_MAX);
-    serve(input, output, |verb, numbers| {
-        perform(&mut table, verb, numbers)
+    let mut kept = Kept::default();
+    serve(input, output, number_or_pair, |verb, words| {
+        perform(&mut table, &mut kept, verb, words)
     })
 }

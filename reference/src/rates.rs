@@ -1,25 +1,11 @@
 //! Move, volatility, tentative rate and level rates (document 01, "The rates
 //! (7.1)").
 
+use crate::ewma::{self, Volatility};
 use crate::exact::{least, narrow, wide, Quotient};
 use crate::refusal::Refusal;
 use crate::statics::Statics;
-use crate::units::{
-    AGE, MILLIONTHS_IN_BP, ONE_IN_HUNDREDTHS, ONE_IN_MILLIONTHS, ONE_IN_TEN_THOUSANDTHS, VOLATILITY,
-};
-
-/// Non-trading days above which a move is not weighed ("at most one").
-const HOLIDAYS_MAX: i64 = 1;
-/// q is in hundredths, s in millionths and t in basis points: 10,000·t ≥ q·s.
-const BP_OF_MULTIPLIED: i128 = 10_000;
-
-/// The figures that an evaluation carries on from the day before.
-#[derive(Clone, Copy, Debug, PartialEq, Eq)]
-pub struct Volatility {
-    pub s: i64,
-    pub tentative: i64,
-    pub age: i64,
-}
+use crate::units::{MILLIONTHS_IN_BP, ONE_IN_MILLIONTHS, VOLATILITY};
 
 /// What a day says to the rates: the evaluation, the two earlier ones, the
 /// last S_1 and the holidays behind.
@@ -45,75 +31,8 @@ pub fn price_move(p: i64, p1: i64, p2: i64) -> i64 {
     from(p1).max(from(p2))
 }
 
-/// The weight a, in ten-thousandths.
-fn weight(statics: &Statics, r: i64, s: i64, days_between: i64) -> i64 {
-    if days_between > HOLIDAYS_MAX {
-        0
-    } else if r > s {
-        statics.a_up
-    } else {
-        statics.a_down
-    }
-}
-
-/// Place (f): the least x with 10,000·x² ≥ (10,000 - a)·s² + a·r².
-fn weighed(a: i64, r: i64, s: i64) -> i64 {
-    let (a, r, s) = (wide(a), wide(r), wide(s));
-    let square = (ONE_IN_TEN_THOUSANDTHS - a) * s * s + a * r * r;
-    narrow(least(s.min(r), s.max(r), |x| {
-        ONE_IN_TEN_THOUSANDTHS * x * x >= square
-    }))
-}
-
-/// The least y with y·q ≥ 100·r.
-fn replacement(statics: &Statics, r: i64) -> i64 {
-    let needed = Quotient {
-        numerator: ONE_IN_HUNDREDTHS * wide(r),
-        denominator: wide(statics.multiplier),
-    };
-    narrow(needed.up())
-}
-
-/// New s: the weighed volatility, and the replacement where the move passed
-/// the last rate.
-fn volatility(statics: &Statics, r: i64, s: i64, day: &DayMove) -> i64 {
-    let x = weighed(weight(statics, r, s, day.days_between), r, s);
-    let passed = day.days_between <= HOLIDAYS_MAX && r > MILLIONTHS_IN_BP * day.last_s_1;
-    if passed {
-        x.max(replacement(statics, r))
-    } else {
-        x
-    }
-}
-
-/// t: the least multiple of h with 10,000·t ≥ q·s, held at S_max.
-fn target(statics: &Statics, s: i64) -> i64 {
-    let steps = Quotient {
-        numerator: wide(statics.multiplier) * wide(s),
-        denominator: BP_OF_MULTIPLIED * wide(statics.step),
-    };
-    narrow(steps.up() * wide(statics.step)).min(statics.s_max)
-}
-
-/// The tentative rate and its age after volatility s.
-fn stepped(statics: &Statics, s: i64, before: &Volatility) -> Volatility {
-    let t = target(statics, s);
-    let tentative = if t >= before.tentative + statics.step {
-        t
-    } else if t <= before.tentative - statics.step && before.age + 1 >= statics.wait {
-        before.tentative - statics.step
-    } else {
-        before.tentative
-    };
-    let age = if tentative == before.tentative {
-        (before.age + 1).min(*AGE.end())
-    } else {
-        0
-    };
-    Volatility { s, tentative, age }
-}
-
-/// Volatility, tentative rate and age after a day. With isEWMA no they stay.
+/// Volatility, tentative rate and age after a day, t held at S_max. With
+/// isEWMA no they stay.
 pub fn after_day(
     statics: &Statics,
     before: &Volatility,
@@ -126,8 +45,11 @@ pub fn after_day(
     if !VOLATILITY.contains(&r) {
         return Err(Refusal::MoveTooGreat);
     }
-    let s = volatility(statics, r, before.s, day);
-    Ok(stepped(statics, s, before))
+    let model = statics.model();
+    let last_rate = MILLIONTHS_IN_BP * day.last_s_1;
+    let s = ewma::volatility(&model, before.s, r, last_rate, day.days_between);
+    let t = ewma::target(&model, s, MILLIONTHS_IN_BP).min(statics.s_max);
+    Ok(ewma::stepped(&model, s, t, before))
 }
 
 /// What a level's rate has to cover.

@@ -1,4 +1,4 @@
-//! The refusals (document 01, "Numbers a member may see").
+//! The refusals (document 01, "Numbers a member may see"; 14 is W-201's).
 
 /// Why a call is refused; each carries the paper's number.
 #[derive(Clone, Copy, Debug, PartialEq, Eq)]
@@ -16,11 +16,12 @@ pub enum Refusal {
     NotMonitored = 11,
     MovesExhausted = 12,
     EarlierSecond = 13,
+    TermsNotAscending = 14,
 }
 
 impl Refusal {
     /// The greatest number a member may see.
-    pub const LAST: i64 = Refusal::EarlierSecond.number();
+    pub const LAST: i64 = Refusal::TermsNotAscending.number();
 
     /// The number a member sees.
     pub const fn number(self) -> i64 {

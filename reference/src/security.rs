@@ -2,9 +2,10 @@
 //! in, the record after out.
 
 use crate::evaluation::{evaluation, rows_are_in_range};
+use crate::ewma::Volatility;
 use crate::exact::wide;
 use crate::limits::{band_limit, delta, range_limit, BandInputs};
-use crate::rates::{after_day, level_rates, DayMove, Volatility};
+use crate::rates::{after_day, level_rates, DayMove};
 use crate::record::{is_price, is_repo_term, is_tentative, Record, Side, Standing, Term};
 use crate::refusal::Refusal;
 use crate::statics::{Statics, STATICS};

@@ -1,5 +1,6 @@
 //! A security's statics and their ranges (document 01, "Units and ranges").
 
+use crate::ewma::Model;
 use crate::units::{Range, RATE};
 
 /// How many statics there are.
@@ -167,6 +168,17 @@ impl Statics {
             && rates
                 .iter()
                 .all(|rate| RATE.contains(rate) && self.is_multiple_of_step(*rate))
+    }
+
+    /// The statics of the volatility model.
+    pub fn model(&self) -> Model {
+        Model {
+            a_up: self.a_up,
+            a_down: self.a_down,
+            multiplier: self.multiplier,
+            step: self.step,
+            wait: self.wait,
+        }
     }
 
     /// Whether a rate is a multiple of h.

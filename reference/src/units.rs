@@ -37,6 +37,15 @@ pub const ROW_PRICE: Range = 0..=10_000_000_000;
 pub const ROW_VOLUME: Range = 0..=100_000_000;
 /// A quote's bid or ask; 0 means missing.
 pub const QUOTE_PRICE: Range = 0..=100_000_000_000;
+/// Days of a key maturity or of a pair's term.
+pub const MATURITY_DAYS: Range = 0..=365;
+/// MMΔ, SECΔ and the liquidity of repo, in basis points.
+pub const INTEREST_MINIMUM: Range = 0..=9_999;
+/// The volatility of a repo rate, in basis points: twice the greatest rate.
+pub const INTEREST_VOLATILITY: Range = 0..=19_998;
+/// The tentative interest rate, in basis points: the greatest multiplier of the
+/// greatest volatility, up to the greatest step.
+pub const INTEREST_TENTATIVE: Range = 0..=200_979;
 /// A range or band limit that a record may hold.
 pub const LIMIT: Range = 0..=2_020_000_000_000;
 

@@ -3,6 +3,8 @@
 use std::fmt::Display;
 use std::io::{self, BufRead, Write};
 
+use crate::interest::Pair;
+
 /// Whether a byte parts words; a carriage return does too.
 fn is_blank(byte: u8) -> bool {
     matches!(byte, b' ' | b'\t' | b'\r' | b'\n')
@@ -29,16 +31,64 @@ pub fn number(word: &[u8]) -> Option<i64> {
     })
 }
 
-/// Reads every word as a number into `numbers`; none where one is not.
-fn read_numbers<'a>(
-    words: impl Iterator<Item = &'a [u8]>,
-    numbers: &mut Vec<i64>,
-) -> Option<&[i64]> {
-    numbers.clear();
-    for word in words {
-        numbers.push(number(word)?);
+/// A word of an evening's call: a number, or two with a slash between them.
+#[derive(Clone, Copy, Debug, PartialEq, Eq)]
+pub enum Word {
+    Number(i64),
+    Pair(Pair),
+}
+
+impl Word {
+    /// The number, where it is one.
+    pub fn number(self) -> Option<i64> {
+        match self {
+            Word::Number(number) => Some(number),
+            Word::Pair(_) => None,
+        }
     }
-    Some(numbers)
+
+    /// The pair, where it is one.
+    pub fn pair(self) -> Option<Pair> {
+        match self {
+            Word::Number(_) => None,
+            Word::Pair(pair) => Some(pair),
+        }
+    }
+}
+
+impl From<i64> for Word {
+    fn from(number: i64) -> Word {
+        Word::Number(number)
+    }
+}
+
+/// A number or a pair.
+pub fn number_or_pair(word: &[u8]) -> Option<Word> {
+    number(word)
+        .map(Word::Number)
+        .or_else(|| pair(word).map(Word::Pair))
+}
+
+/// Two numbers with a slash between them.
+fn pair(word: &[u8]) -> Option<Pair> {
+    let slash = word.iter().position(|byte| *byte == b'/')?;
+    Some(Pair {
+        ym: number(&word[..slash])?,
+        yn: number(&word[slash + 1..])?,
+    })
+}
+
+/// Reads every word into `heard`; none where one cannot be read.
+fn read_words<'a, W>(
+    words: impl Iterator<Item = &'a [u8]>,
+    heard: &mut Vec<W>,
+    read: impl Fn(&[u8]) -> Option<W>,
+) -> Option<&[W]> {
+    heard.clear();
+    for word in words {
+        heard.push(read(word)?);
+    }
+    Some(heard)
 }
 
 /// What a line says.
@@ -51,34 +101,36 @@ pub enum Heard<A> {
     Answer(A),
 }
 
-/// Hears one line: its first word and numbers go to `answer`, which gives none
-/// where they are no call.
-pub fn hear<A>(
+/// Hears one line: its first word and the others as `read` takes them go to
+/// `answer`, which gives none where they are no call.
+pub fn hear<W, A>(
     line: &[u8],
-    numbers: &mut Vec<i64>,
-    answer: impl FnOnce(&[u8], &[i64]) -> Option<A>,
+    heard: &mut Vec<W>,
+    read: impl Fn(&[u8]) -> Option<W>,
+    answer: impl FnOnce(&[u8], &[W]) -> Option<A>,
 ) -> Heard<A> {
     let mut words = words(line);
     let Some(verb) = words.next() else {
         return Heard::Blank;
     };
-    let said = read_numbers(words, numbers).and_then(|numbers| answer(verb, numbers));
+    let said = read_words(words, heard, read).and_then(|words| answer(verb, words));
     said.map_or(Heard::Bad, Heard::Answer)
 }
 
 /// Answers every line of the input: one line a call, `bad LINE` for what is
 /// no call, nothing for a blank line. Lines are counted from 1.
-pub fn serve<A: Display>(
+pub fn serve<W, A: Display>(
     mut input: impl BufRead,
     mut output: impl Write,
-    mut answer: impl FnMut(&[u8], &[i64]) -> Option<A>,
+    read: impl Fn(&[u8]) -> Option<W>,
+    mut answer: impl FnMut(&[u8], &[W]) -> Option<A>,
 ) -> io::Result<()> {
     let mut line = Vec::new();
-    let mut numbers = Vec::new();
+    let mut heard = Vec::new();
     let mut count = 0_u64;
     while input.read_until(b'\n', &mut line)? > 0 {
         count += 1;
-        match hear(&line, &mut numbers, &mut answer) {
+        match hear(&line, &mut heard, &read, &mut answer) {
             Heard::Blank => {}
             Heard::Bad => writeln!(output, "bad {count}")?,
             Heard::Answer(said) => writeln!(output, "{said}")?,
@@ -123,6 +175,33 @@ mod tests {
         }
         assert_eq!(number(b"\xff"), None);
         assert_eq!(number(b"1\0"), None);
+    }
+
+    #[test]
+    fn a_slash_makes_a_pair() {
+        let pair = |ym, yn| Some(Word::Pair(Pair { ym, yn }));
+        assert_eq!(number_or_pair(b"7"), Some(Word::Number(7)));
+        assert_eq!(number_or_pair(b"0/1"), pair(0, 1));
+        assert_eq!(number_or_pair(b"-0/001"), pair(0, 1));
+        assert_eq!(number_or_pair(b"-2/-1"), pair(-2, -1));
+        assert_eq!(
+            number_or_pair(b"9223372036854775807/-9223372036854775808"),
+            pair(i64::MAX, i64::MIN)
+        );
+        for word in [
+            "/",
+            "0/",
+            "/1",
+            "0/1/2",
+            "0//1",
+            "0/-",
+            "-/1",
+            "0/+1",
+            "0\\1",
+            "0/9223372036854775808",
+        ] {
+            assert_eq!(number_or_pair(word.as_bytes()), None, "{word}");
+        }
     }
 
     #[test]

@@ -112,6 +112,141 @@ fn odd_spellings_are_calls() {
     assert_eq!(said(ADMIT.replace("admit 7", "admit -7")), ["4"]);
 }
 
+/// Pair 0/1, q 1, h 1, x_IR 1, no liquidity: 87 to 113 before it is held.
+const INTEREST: &str =
+    "interest 0 0 1 1000 500 100 1 5 0 0 0 100 9999 -9999 1 100 100 100 100 13 13 0";
+const NO_ROWS: &str = "evaluate 7 1 0 0 0 0 0 0 0 0 0 0 0";
+
+#[test]
+fn an_interest_line() {
+    // Change 0, volatility and tentative rate 13 stay, a day older.
+    assert_eq!(said(INTEREST), ["0 87 113 0 13 13 1 13 13"]);
+    let two = format!("{INTEREST} 3 100 98 100 100 0 13 250");
+    // Change 2 above 0: 1,000·4/10,000 = 0.4, so volatility 1; t 1 is below 13
+    // and the wait is over.
+    assert_eq!(said(two), ["0 87 113 0 13 13 1 13 13 2 1 12 0 12 12"]);
+    assert_eq!(said(INTEREST.replace("t 0 0 1", "t 0 1 1")), ["14"]);
+    assert_eq!(said(INTEREST.replace("t 0 0 1", "t 31 1 1")), ["6"]);
+    assert_eq!(said(format!("{INTEREST} 9")), ["6"]);
+    let values = INTEREST.trim_end_matches(" 1 100 100 100 100 13 13 0");
+    assert_eq!(said(values), ["6"]);
+    assert_eq!(said(values.trim_end_matches(" -9999")), ["bad 1"]);
+    assert_eq!(said("interest"), ["bad 1"]);
+}
+
+#[test]
+fn an_evaluation_takes_worked_bands() {
+    let day = |number: i64, terms: &str| format!("evaluate 7 {number} 0 0 {terms}");
+    let script = [
+        ADMIT.to_string(),
+        day(1, "0 0/1 0 0 0 0 0 0"),
+        INTEREST.to_string(),
+        INTEREST.replace("t 0 0 1", "t 0 0 0"),
+        day(1, "2 0/1 0 0 0 0 0/1"),
+        day(2, "0 0 0 1 0/1 30 -00/01"),
+        day(2, "0 0 0 0 0/2 0 0 0"),
+        day(3, "0 0/1 0 1/0 0 0 0"),
+    ];
+    let answers = said(script.join("\n"));
+    let terms = |answer: &String| -> Vec<String> {
+        let figures: Vec<&str> = answer.split(' ').collect();
+        figures[18..39]
+            .chunks(7)
+            .map(|term| term[..3].join(" "))
+            .collect()
+    };
+    assert_eq!(answers[..2], ["0", "6"]);
+    assert_eq!(answers[3], "14");
+    assert_eq!(terms(&answers[4]), ["2 87 113", "0 0 0", "0 87 113"]);
+    assert_eq!(terms(&answers[5]), ["0 0 0", "1 87 113", "30 87 113"]);
+    assert_eq!(answers[6..], ["6", "6"]);
+}
+
+#[test]
+fn worked_limits_are_judged_as_given_ones() {
+    // Pair 0/2 with the rate and MM or SEC: 9,000 + MM and -9,000 - SEC.
+    let interest = |rate: i64, mm: i64, sec: i64| {
+        format!(
+            "interest 0 0 2 0 0 100 1 5 0 {mm} {sec} 100 0 0 1 {rate} {rate} {rate} {rate} 0 0 0"
+        )
+    };
+    let crossed = INTEREST.replace("9999 -9999", "99 100");
+    let touching = INTEREST.replace("9999 -9999", "100 100");
+    for (line, pair, number) in [
+        (interest(9_000, 999, 0), "0/2", "0"),
+        (interest(9_000, 1_000, 0), "0/2", "6"),
+        (interest(-9_000, 0, 999), "0/2", "0"),
+        (interest(-9_000, 0, 1_000), "0/2", "6"),
+        (touching, "0/1", "0"),
+        (crossed, "0/1", "6"),
+    ] {
+        let day = format!("evaluate 7 1 0 0 0 0 0 0 0 0 0 {pair}");
+        let answers = said([ADMIT, &line, &day].join("\n"));
+        assert!(answers[1].starts_with("0 "), "{line}");
+        let first = answers[2].split(' ').next();
+        assert_eq!(first, Some(number), "{line}");
+    }
+}
+
+#[test]
+fn a_pair_that_is_not_kept_is_refused_after_1_and_before_5() {
+    let script = [
+        ADMIT,
+        "evaluate 8 1 0 0 0 0/1 0 0 0 0 0 0",
+        "evaluate 7 0 0 0 0 0/1 0 0 0 0 0 0",
+        INTEREST,
+        "evaluate 7 0 0 0 0 0/1 0 0 0 0 0 0",
+    ];
+    let answers = said(script.join("\n"));
+    assert_eq!(answers[1..3], ["1", "6"]);
+    assert_eq!(answers[4], "5");
+}
+
+#[test]
+fn pairs_that_are_no_pairs_are_bad() {
+    for term in [
+        "0 0/",
+        "0 /1",
+        "0 /",
+        "0 0/1/2",
+        "0 0//1",
+        "0 0 /1",
+        "0 0/ 1",
+        "0 0 / 1",
+        "0 0/+1",
+        "0 +0/1",
+        "0 0/-",
+        "0 0/1x",
+        "0/1 0 0",
+        "0 0 0/1",
+        "0/1",
+        "0 0/9223372036854775808",
+    ] {
+        let line = format!("evaluate 7 1 0 0 {term} 0 0 0 0 0 0");
+        assert_eq!(said(line), ["bad 1"], "{term}");
+    }
+    for line in [
+        "read 0/1",
+        "move 1 0/1",
+        "quote 1 2 0/1 4 5",
+        "evaluate 0/1 1 0 0 0 0 0 0 0 0 0 0 0",
+        "evaluate 7 1 0/1 0 0 0 0 0 0 0 0 0 0",
+        "evaluate 7 1 0 0 0 0/1 0 0/1 0",
+        "evaluate 7 1 0 0 0 0/1 0 0/1 0 0/1 0/1",
+        "evaluate 7 1 0 0 0 0/1 0 0/1 0 0/1 0 1 2 3 4 5 0/1",
+    ] {
+        assert_eq!(said(line), ["bad 1"], "{line}");
+    }
+    assert_eq!(said(format!("{INTEREST} 0/1")), ["bad 1"]);
+    assert_eq!(said(INTEREST.replace("t 0 0 1", "t 0 0/1")), ["bad 1"]);
+    assert_eq!(said(ADMIT.replace("admit 7 0", "admit 7 0/1")), ["bad 1"]);
+    assert_eq!(said(NO_ROWS), ["1"]);
+    for pair in ["0/1", "-0/01", "-5/-9223372036854775808"] {
+        let line = format!("evaluate 7 1 0 0 0 {pair} 0 {pair} 0 {pair}\t\r");
+        assert_eq!(said(line), ["1"], "{pair}");
+    }
+}
+
 #[test]
 fn rows_of_any_count_are_heard() {
     let many = format!(

@@ -1,7 +1,8 @@
 //! The scripts are the same for a seed, as long as asked, and meet every
-//! number.
+//! number and every edge of the interest side.
 
 use reference::count::{count, Answers};
+use reference::count_interest::count_interest;
 use reference::gateway::gateway;
 use reference::protocol::evening;
 use reference::script;
@@ -50,6 +51,19 @@ fn an_evening_meets_every_number() {
     evening(&script[..], &mut answers).unwrap();
     let counted = count(&answers[..], Answers::Evening).unwrap();
     assert!(counted.missing.is_empty(), "{counted:?}");
+}
+
+#[test]
+fn an_evening_meets_every_edge_of_the_interest_side() {
+    let script = script::evening::script(1, 20_000);
+    let counted = count_interest(&script[..]).unwrap();
+    assert!(counted.missing.is_empty(), "{:?}", counted.missing);
+}
+
+#[test]
+fn an_evening_without_interest_lines_meets_no_edge() {
+    let counted = count_interest(&b"read 1\nread 2"[..]).unwrap();
+    assert_eq!(counted.missing.len(), counted.line.lines().count());
 }
 
 #[test]

@@ -21,6 +21,7 @@ use Rattle.paper.specs.Desk.{Call}
 use Rattle.desk.specs.Promises.{Promised}
 use Rattle.desk.proofs.admit as admit
 use Rattle.desk.proofs.evaluate as evaluate
+use Rattle.desk.proofs.evaluate_asked as evaluate-asked
 use Rattle.desk.proofs.quote as quote
 use Rattle.desk.proofs.moved as moved
 use Rattle.desk.proofs.read as read
@@ -47,6 +48,9 @@ module _ {M : Type 1} (𝓤 : URA M) where
 
     pub evaluate-determined : Determined evaluate.ended (evaluate.clauses 𝓤 H A mem run) (λ κs e. now (e .0))
     evaluate-determined κs a g r r′ e e′ = together _ _ _ (promised-same _ _ r r′ (now (e .0)) (now (e′ .0)))
+
+    pub evaluate-asked-determined : Determined evaluate-asked.ended (evaluate-asked.clauses 𝓤 H A mem run) (λ κs e. now (e .0))
+    evaluate-asked-determined κs a g r r′ e e′ = together _ _ _ (promised-same _ _ r r′ (now (e .0)) (now (e′ .0)))
 
     pub quote-determined : Determined quote.ended (quote.clauses 𝓤 H A mem run) (λ κs e. now (e .0))
     quote-determined κs a g r r′ e e′ = together _ _ _ (promised-same _ _ r r′ (now (e .0)) (now (e′ .0)))

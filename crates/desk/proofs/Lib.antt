@@ -4,4 +4,5 @@ pub mod Row
 pub mod Asks
 pub mod Calls
 pub mod Shape
+pub mod ShapeWithRows
 pub mod Determined

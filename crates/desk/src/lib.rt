@@ -1,15 +1,18 @@
-// The five calls over the table, a lent row of records. Only `take` and `put` touch the row. Each call takes the slot, asks its rule by value
+// The calls over the table, a lent row of records. Only `take` and `put` touch the row. Each call takes the slot, asks its rule by value
 // and stores what the rule says, with no branch of its own: a refusal is stored past the end, where nothing is.
 use paper::Admission;
 use paper::Answer;
+use paper::AskedDay;
 use paper::Day;
 use paper::Quote;
 use paper::Record;
 use security::Slot;
+use security::Turn;
 ghost use mathlib.Core.Path.{_≡_};
 ghost use lib.ListN.{set};
 ghost use Rattle.paper.specs.Desk.{Call, step};
-ghost use Rattle.security.specs.Turns.{slotOf};
+ghost use Rattle.paper.specs.Terms.{dayOf};
+ghost use Rattle.security.specs.Turns.{slotOf, evaluateTurn};
 ghost use Rattle.desk.specs.Promises.{Promised};
 
 // "id 0 marks an empty slot"
@@ -58,6 +61,24 @@ pub fn evaluate(t: &mut [Record], id: u64, d: Day, rows: &[i64]) -> Answer
 {
     let s = take(t, id);
     let o = security::evaluated(s, d, rows);
+    put(t, o.at, o.rec);
+    o.answer
+}
+
+// The rule of an evaluation, on the day that is asked for.
+fn asked(s: Slot, a: AskedDay, rows: &[i64]) -> Turn
+    ensures { λ o. ⌜ o ≡ evaluateTurn s (dayOf a) (now (rows .entry)) ⌝ }
+{
+    let d = terms::day_of(a);
+    security::evaluated(s, d, rows)
+}
+
+// W-201: "The security's evaluation may take these limits or given ones."
+pub fn evaluate_asked(t: &mut [Record], id: u64, a: AskedDay, rows: &[i64]) -> Answer
+    ensures { λ r. ⌜ Promised (Call.evaluate id (dayOf a) (now (rows .entry))) (now (t .entry)) r (now (t .exit)) ⌝ }
+{
+    let s = take(t, id);
+    let o = asked(s, a, rows);
     put(t, o.at, o.rec);
     o.answer
 }

@@ -12,7 +12,9 @@ use Rattle.paper.specs.Numbers.{rowNumbers}
 use Rattle.paper.specs.Ranges.{LentRow, rowAt, rowsOf, validRow, rowOf}
 use Rattle.paper.specs.Evaluation.{roublesOf, dayRows, rowFits}
 use Rattle.paper.proofs.Logic.{and-left, and-right}
-use Rattle.rows.specs.RowLaws.{Place, restOf, place-first, place-next, rest-first, rest-here, rest-end, every-first, InRange, in-range}
+use Rattle.exact.specs.EveryLaws.{every-cons}
+use Rattle.exact.specs.LentLaws.{Place, place-first, place-next, left-here, left-end}
+use Rattle.rows.specs.RowLaws.{restOf, rest-first, InRange, in-range}
 use Rattle.evaluation.specs.declared.Book.{Book}
 use Rattle.evaluation.specs.declared.Gathered.the-variants.{Whole, Beyond}
 use Rattle.evaluation.specs.Book.{added, bookOf, gatheredOf, Gathers}
@@ -24,7 +26,7 @@ unfoldable pub rowsLeft : List ℤ → ℕ → List Row
 rowsLeft numbers at = map rowOf (restOf numbers at)
 
 pub record Gathering (numbers : List ℤ) (at : ℕ) (b : Book) : Type 0 where
-  pub place : Place numbers at
+  pub place : Place rowNumbers numbers at
   pub range : every validRow (restOf numbers at) ≡ true
   pub fit : every rowFits (rowsLeft numbers at) ≡ every rowFits (dayRows numbers)
   pub book : joined b (map roublesOf (rowsLeft numbers at)) ≡ bookOf (map roublesOf (dayRows numbers))
@@ -37,7 +39,7 @@ left-first numbers = ap (map rowOf) (rest-first numbers)
 pub gathering-first : (numbers : List ℤ) → every validRow (rowsOf numbers) ≡ true → Gathering numbers 0 empty
 gathering-first numbers e =
     record {
-      place = place-first numbers;
+      place = place-first rowNumbers numbers;
       range = ap (every validRow) (rest-first numbers) ∙ e;
       fit = ap (every rowFits) (left-first numbers);
       book = joined-first _ ∙ ap (λ (ws : List Row). bookOf (map roublesOf ws)) (left-first numbers);
@@ -45,12 +47,15 @@ gathering-first numbers e =
     }
 
 module _ (numbers : List ℤ) (at : ℕ) (b : Book) (room : at + rowNumbers ≤ length numbers) (g : Gathering numbers at b) where
+  here : restOf numbers at ≡ rowAt numbers at ∷ restOf numbers (at + rowNumbers)
+  here = left-here rowAt rowNumbers numbers at (omega arith) room
+
   both : (validRow (rowAt numbers at) && every validRow (restOf numbers (at + rowNumbers))) ≡ true
-  both = sym (every-first numbers at room) ∙ g .range
+  both = sym (every-cons validRow here) ∙ g .range
 
   left : rowsLeft numbers at ≡ rowOf (rowAt numbers at) ∷ rowsLeft numbers (at + rowNumbers)
   unfolding rowsLeft rowOf
-  left = ap (map rowOf) (rest-here numbers at room)
+  left = ap (map rowOf) here
 
   -- the row at hand is in range
   pub gathering-range : InRange (rowOf (rowAt numbers at))
@@ -66,7 +71,7 @@ module _ (numbers : List ℤ) (at : ℕ) (b : Book) (room : at + rowNumbers ≤ 
     unfolding roublesOf
     gathering-next e =
         record {
-          place = place-next numbers at (g .place) room;
+          place = place-next rowNumbers numbers at (g .place) room;
           range = and-right (validRow (rowAt numbers at)) (every validRow (restOf numbers (at + rowNumbers))) both;
           fit = sym (split ∙ ap (λ (t : Bool). t && every rowFits (rowsLeft numbers (at + rowNumbers))) e) ∙ g .fit;
           book = rw is
@@ -87,7 +92,7 @@ module _ (numbers : List ℤ) (at : ℕ) (b : Book) (room : at + rowNumbers ≤ 
 pub gathering-end : (numbers : List ℤ) (at : ℕ) (b : Book) → length numbers ≤ at → Gathering numbers at b → Gathers (dayRows numbers) (Whole b)
 unfolding gatheredOf rowsLeft rowOf roublesOf every rowFits
 gathering-end numbers at b h g =
-    let none = rest-end numbers at h in
+    let none = left-end rowAt rowNumbers numbers at (omega arith) h in
     let yes : every rowFits (dayRows numbers) ≡ true = sym (g .fit) ∙ ap (λ (ws : List LentRow). every rowFits (map rowOf ws)) none in
     let same : b ≡ bookOf (map roublesOf (dayRows numbers)) = sym (joined-none b) ∙ sym (ap (λ (ws : List LentRow). joined b (map roublesOf (map rowOf ws))) none) ∙ g .book in
     record {

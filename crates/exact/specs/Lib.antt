@@ -1,2 +1,4 @@
+pub mod EveryLaws
+pub mod LentLaws
 pub mod SignedLaws
 pub mod Wide

@@ -1,16 +1,19 @@
--- Laws of signed numbers for those who read a day: their order, and how far a term's repo rate moves a base. Assumes
+-- Laws of signed numbers for those who read a day: their order, what a range gives, and how far a term's repo rate moves a base. Assumes
 -- nothing.
-use mathlib.Core.Path.{_≡_, refl}
-use mathlib.Core.Bool.{Bool, true, false}
+use mathlib.Core.Path.{_≡_, refl, _∙_}
+use mathlib.Core.Bool.{true, false}
 use Prim.Native.Nat.{ℕ, suc, _+_, _*_, _^_, _≤_, _<_}
 use native.Mathlib.Nat.{mul-le-mul, le-trans}
 use native.Mathlib.Omega.{arith}
+use lib.Dec.{leb}
 use lib.IntN.{ℤ, pos, negsuc}
 use lib.Signed.{mag, leZ}
 use borrow.Author.Tests.{leb-true, le-leb}
-use Rattle.paper.specs.Numbers.{whole, termDaysMost, repoLeast, repoMost}
+use Rattle.paper.specs.Numbers.{whole, termDaysMost, repoLeast, repoMost, pastEvery}
+use Rattle.paper.specs.Ranges.{withinZ, natural}
 use Rattle.paper.specs.Roundings.{grown}
-use Rattle.paper.proofs.Logic.{clash}
+use Rattle.paper.proofs.Logic.{clash, and-left, and-right}
+use Rattle.paper.proofs.Units.{natural-within}
 
 -- ---- order
 
@@ -26,6 +29,13 @@ order-trans (negsuc a) (negsuc b) (negsuc c) p q = le-leb c a (le-trans (leb-tru
 pub repo-size : (x : ℤ) → leZ repoLeast x ≡ true → leZ x repoMost ≡ true → mag x ≤ mag repoMost
 repo-size (pos n) low high = leb-true n 9999 high
 repo-size (negsuc n) low high = let l : n ≤ 9998 = leb-true n 9998 low in omega arith
+
+pub repo-le : (x : ℤ) → withinZ repoLeast repoMost x ≡ true → mag x ≤ mag repoMost
+repo-le x e = repo-size x (and-left (leZ repoLeast x) (leZ x repoMost) e) (and-right (leZ repoLeast x) (leZ x repoMost) e)
+
+-- a number of a range that begins at 0 or above is at most the range's end
+pub natural-le : (low most : ℕ) (x : ℤ) → most < pastEvery → withinZ (pos low) (pos most) x ≡ true → natural x ≤ most
+natural-le low most x h e = leb-true (natural x) most (and-right (leb low (natural x)) (leb (natural x) most) (natural-within low most x h ∙ e))
 
 -- ---- base + k·rate
 

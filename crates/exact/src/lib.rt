@@ -1,10 +1,12 @@
 // Whole-number arithmetic that loses nothing: the roundings of document 01, "Places of rounding", the least root of clause 7.1, and signed
-// numbers. Every result is a definition of `paper`, for every input that its callers can have.
+// numbers, given or lent. Every result is a definition of `paper`, for every input that its callers can have.
 ghost use mathlib.Core.Path.{_≡_};
 ghost use Prim.Native.Nat.{_+_, _*_, _/_, _%_, _^_, _≤_, _<_, min, max};
+ghost use lib.IntN.{pos};
+ghost use lib.ListN.{length, getD};
 ghost use lib.Signed.{mag};
 ghost use Rattle.paper.specs.Numbers.{whole};
-ghost use Rattle.paper.specs.Roundings.{up, halfUp, toGrid, grown};
+ghost use Rattle.paper.specs.Roundings.{up, halfUp, toGrid, grown, apart};
 ghost use Rattle.paper.specs.Least.{leastRoot};
 ghost use Rattle.paper.specs.Ranges.{withinZ, natural};
 ghost use Rattle.exact.specs.Wide.{Divides, LimitRange};
@@ -163,6 +165,24 @@ pub fn grow(base: u64, k: u64, rate: i64) -> u64
     }
 }
 
+// ---- a number of a lent slice
+
+// The number at i; one below zero is read as a number that no range holds.
+pub fn natural_at(numbers: &[i64], i: usize) -> u64
+    requires { ⌜ i < length (now numbers) ⌝ }
+    ensures { λ r. ⌜ r ≡ natural (getD (now (numbers .entry)) i (pos 0)) ⌝ }
+{
+    natural(numbers[i])
+}
+
+// Whether the number at i is from low to high.
+pub fn within_at(numbers: &[i64], i: usize, low: i64, high: i64) -> bool
+    requires { ⌜ i < length (now numbers) ⌝ }
+    ensures { λ r. ⌜ r ≡ withinZ low high (getD (now (numbers .entry)) i (pos 0)) ⌝ }
+{
+    is_within(low, high, numbers[i])
+}
+
 // ---- the lesser and the greater
 
 pub fn lesser(a: u64, b: u64) -> u64
@@ -175,4 +195,13 @@ pub fn greater(a: u64, b: u64) -> u64
     ensures { λ r. ⌜ r ≡ max a b ⌝ }
 {
     if a < b { b } else { a }
+}
+
+// ---- how far apart two numbers are
+
+// |a - b|
+pub fn apart(a: u64, b: u64) -> u64
+    ensures { λ r. ⌜ r ≡ apart a b ⌝ }
+{
+    if a < b { b - a } else { a - b }
 }

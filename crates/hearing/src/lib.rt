@@ -3,15 +3,18 @@ ghost use Prim.Native.Nat.{_≤_, _-_};
 ghost use mathlib.Core.Path.{_≡_};
 use libc::STDIN_FILENO;
 use line::Line;
+use pairs::Kept;
 use reading::line_of;
 
-// The bytes that were read, those before `at` used; the line's number, counted from 1; how many lines more may be read, 0 at the end of the input.
+// The bytes that were read, those before `at` used; the line's number, counted from 1; how many lines more may be read, 0 at the end of the input; and what
+// is kept of the interest lines, from line to line.
 pub struct State {
     pub buf: [u8; 2048],
     pub at: usize,
     pub len: usize,
     pub number: u64,
     pub left: u64,
+    pub kept: Kept,
 }
 
 pub struct Heard {
@@ -26,6 +29,7 @@ pub fn start() -> State {
         len: 0,
         number: 0,
         left: u64::MAX,
+        kept: pairs::none(),
     }
 }
 
@@ -38,7 +42,15 @@ fn fill(buf: &mut [u8; 2048]) -> usize {
     io::count(got, buf)
 }
 
-fn with_line(buf: [u8; 2048], at: usize, len: usize, number: u64, left: u64, line: Line) -> Heard
+fn with_line(
+    buf: [u8; 2048],
+    at: usize,
+    len: usize,
+    number: u64,
+    left: u64,
+    kept: Kept,
+    line: Line,
+) -> Heard
     ensures { λ r. ⌜ r .state .left ≡ left ⌝ }
 {
     let state = State {
@@ -47,6 +59,7 @@ fn with_line(buf: [u8; 2048], at: usize, len: usize, number: u64, left: u64, lin
         len,
         number,
         left,
+        kept,
     };
     Heard { state, line }
 }
@@ -75,6 +88,7 @@ pub fn hear(s: State) -> Heard
     let mut at = s.at;
     let mut len = s.len;
     let number = one_more(s.number);
+    let kept = s.kept;
     let mut numbers = [0i64; 126];
     let mut c = scan::start();
     let mut turns = u64::MAX;
@@ -85,10 +99,10 @@ pub fn hear(s: State) -> Heard
         }
         if len <= at {
             c = scan::blank(&mut numbers, c);
-            return with_line(buf, 0, 0, number, 0, line_of(&numbers, c));
+            return with_line(buf, 0, 0, number, 0, kept, line_of(&numbers, c));
         }
         if 2048 <= at {
-            return with_line(buf, 0, 0, number, 0, line_of(&numbers, c));
+            return with_line(buf, 0, 0, number, 0, kept, line_of(&numbers, c));
         }
         let b = buf[at];
         at += 1;
@@ -96,10 +110,10 @@ pub fn hear(s: State) -> Heard
             c = scan::blank(&mut numbers, c);
             let line = line_of(&numbers, c);
             let left = one_less(s.left);
-            return with_line(buf, at, len, number, left, line);
+            return with_line(buf, at, len, number, left, kept, line);
         }
         c = scan::byte(&mut numbers, c, b);
         turns -= 1;
     }
-    with_line(buf, 0, 0, number, 0, line_of(&numbers, c))
+    with_line(buf, 0, 0, number, 0, kept, line_of(&numbers, c))
 }

@@ -33,6 +33,10 @@ blank-reads l e z = rw e (ap read z)
 pub bad-reads : (l : Line) → l .kind ≡ 7 → l .id ≡ 0 → callOf l ≡ read 0
 bad-reads l e z = rw e (ap read z)
 
+-- an interest line, of id 0: it has no security
+pub interest-reads : (l : Line) → l .kind ≡ 8 → l .id ≡ 0 → callOf l ≡ read 0
+interest-reads l e z = rw e (ap read z)
+
 pub read-leaves : (id : ℕ) (t : List Record) → step (read id) t .table ≡ t
 unfolding step judged acceptedOf
 read-leaves id t = go (isDone (firstOf (checksOf (read id) t)))

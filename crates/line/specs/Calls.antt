@@ -22,10 +22,13 @@ quoteKind = 3
 abbrev pub moveKind : ℕ
 moveKind = 4
 
+abbrev pub interestKind : ℕ
+interestKind = 8
+
 abbrev pub keptMost : ℕ
 keptMost = 113
 
--- the row figures that a line has
+-- the row figures that a line has, or the numbers of its key maturities
 abbrev pub figures : Rows → List ℤ
 figures r = pick (leb (r .count) keptMost) (take (r .count) (r .numbers)) (r .numbers)
 

@@ -1,15 +1,13 @@
 -- Demand 3: the carried volatility against the exact one, over every sequence of calls on a fresh table. Assumes nothing.
 use mathlib.Core.Path.{_≡_, refl, sym, _∙_, ap, subst}
-use mathlib.Core.Logic.{_⊎_, inl, inr, _≢_}
-use mathlib.Core.Bool.{Bool, true, false, not, _&&_}
+use mathlib.Core.Logic.{_≢_}
+use mathlib.Core.Bool.{Bool, true, false}
 use mathlib.Core.List.{List, [], _∷_}
-use Prim.Native.Nat.{ℕ, zero, suc, _+_, _-_, _*_, _%_, _≤_, _<_}
-use native.Mathlib.Numerals.{add-one}
-use native.Mathlib.Omega.{arith}
-use lib.Dec.{leb, ltb, eqb}
+use Prim.Native.Nat.{ℕ, suc, _*_, _%_, _<_}
+use lib.Dec.{leb, eqb}
 use lib.IntN.{ℤ}
 use lib.ListN.{length, getD, set}
-use borrow.Author.Tests.{eqb-true, eqb-false, eq-eqb, ne-eqb, leb-true}
+use borrow.Author.Tests.{eqb-true, eqb-false, leb-true}
 use Rattle.paper.specs.declared.Statics.{Statics}
 use Rattle.paper.specs.declared.Price.{Price}
 use Rattle.paper.specs.declared.Record.{Record}
@@ -17,29 +15,25 @@ use Rattle.paper.specs.declared.Admission.{Admission}
 use Rattle.paper.specs.declared.Day.{Day}
 use Rattle.paper.specs.declared.Quote.{Quote}
 use Rattle.paper.specs.declared.Side.{Side}
-use Rattle.paper.specs.declared.Answer.{Answer}
-use Rattle.paper.specs.declared.Verdict.{Verdict}
 use Rattle.paper.specs.Lists.{pick}
-use Rattle.paper.specs.Numbers.{hundred, priceLeast, priceMost}
-use Rattle.paper.specs.Roundings.{Quotient}
-use Rattle.paper.specs.Ranges.{within, isPrice, isGridPrice, gridOf, staticsOf, validStatics, sound, validSlots, validAdmission, noRate, sideOf}
+use Rattle.paper.specs.Numbers.{hundred, priceMost}
+use Rattle.paper.specs.Ranges.{isPrice, isGridPrice, gridOf, staticsOf, sound, noRate, sideOf}
 use Rattle.paper.specs.Rates.{modelOf, Figures, figuresOf, modelled, unmodelled, volatilityOf}
 use Rattle.paper.specs.Verdicts.{isDone, firstOf, NoneApplies, none, also}
-use Rattle.paper.specs.Desk.{Call, admit, evaluate, quote, move, read, Outcome, blank, admitted, priceOn, moveOn, figuresOn, evaluated, quoted, moved, place, stands, found, known, checksOf, admitChecks, evaluateChecks, quoteChecks, moveChecks, acceptedOf, step, run, fresh}
-use Rattle.paper.specs.Exact.{Choice, Entry, History, unknown, since, Exact, exactMove, nextSquare, exactOf, choiceOf, entryOf, longer, noted, history, NearExact, Demand3}
+use Rattle.paper.specs.Desk.{Call, admit, evaluate, quote, move, read, Outcome, admitted, priceOn, moveOn, figuresOn, evaluated, quoted, moved, place, stands, found, known, checksOf, admitChecks, evaluateChecks, quoteChecks, moveChecks, acceptedOf, step, run, fresh}
+use Rattle.paper.specs.Exact.{Entry, History, unknown, since, exactMove, nextSquare, exactOf, entryOf, longer, noted, history, Demand3}
 use Rattle.paper.proofs.Logic.{clash, and-left, and-right, not-false, pick-true}
 use Rattle.paper.proofs.Slots.{found-id, found-other, stands-other, found-written, stands-written, fresh-empty, known-stands, known-sound}
 use Rattle.paper.proofs.Refusals.{verdict-first, accepted-step, accepted-only, refused-leaves}
-use Rattle.paper.proofs.Drift.{near-start}
-use Rattle.paper.proofs.Volatility.{Weighing, weighing, move-rounded, volatility-near}
+use Rattle.paper.proofs.Volatility.{Weighing, weighing, move-rounded}
+use Rattle.paper.proofs.CarriedOn.{CarriedOn, begun, once-more, carried-demand}
 
--- a record follows its history: the same statics and prices, and a volatility near the exact one
+-- a record follows its history: the same statics and prices, and a volatility carried on by each of its evaluations
 pub record Follows (a : Admission) (es : List Entry) (r : Record) : Type 0 where
   pub statics : r .statics ≡ staticsOf (a .given)
   pub p1 : r .p1 .units ≡ exactOf a es .p1
   pub p2 : r .p2 .units ≡ exactOf a es .p2
-  pub near : staticsOf (a .given) .ewma ≡ true → NearExact (length es) (r .s) (exactOf a es .square)
-  pub start : es ≡ [] → r .s * r .s * exactOf a es .square .den ≡ exactOf a es .square .num
+  pub carried : staticsOf (a .given) .ewma ≡ true → CarriedOn (length es) (r .s) (exactOf a es .square)
 
 -- what a history says of the first slot with the id
 abbrev pub Holds : History → Bool → Record → Type 0
@@ -82,32 +76,25 @@ next-square : (a : Admission) (e : Entry) (es : List Entry)
 unfolding exactOf
 next-square a e es = refl
 
-near-evaluated : (a : Admission) (es : List Entry) (r : Record) (d : Day) (rows : List ℤ) → Start r → Follows a es r → staticsOf (a .given) .ewma ≡ true
-    → NearExact (suc (length es)) (figuresOn r d rows .s) (exactOf a (entryOf r d rows ∷ es) .square)
+carried-evaluated : (a : Admission) (es : List Entry) (r : Record) (d : Day) (rows : List ℤ) → Start r → Follows a es r → staticsOf (a .given) .ewma ≡ true
+    → CarriedOn (suc (length es)) (figuresOn r d rows .s) (exactOf a (entryOf r d rows ∷ es) .square)
 unfolding entryOf moveOn staticsOf
-near-evaluated a es r d rows ok f w =
+carried-evaluated a es r d rows ok f w =
     let on : r .statics .ewma ≡ true = ap (λ (st : Statics). st .ewma) (f .statics) ∙ w in
     let q : r .statics .q ≡ a .given .q = ap (λ (st : Statics). st .q) (f .statics) in
     let v : exactMove (r .p1 .units) (r .p2 .units) (priceOn r rows) ≡ exactMove (exactOf a es .p1) (exactOf a es .p2) (priceOn r rows) = cc (f .p1, f .p2) in
     let same : nextSquare (r .statics .q) (exactOf a es .square) (exactMove (r .p1 .units) (r .p2 .units) (priceOn r rows)) (entryOf r d rows .choice)
     ≡ exactOf a (entryOf r d rows ∷ es) .square =
     (λ i. nextSquare (q i) (exactOf a es .square) (v i) (entryOf r d rows .choice)) ∙ sym (next-square a (entryOf r d rows) es) in
-    rw (model-on r d rows on, ← add-one (length es), ← same)
-    (volatility-near (modelOf (r .statics)) (d .b) (hundred * getD (r .rates) 0 noRate .bp) (moveOn r rows) (r .s) (length es) (exactOf a es .square)
-    (exactMove (r .p1 .units) (r .p2 .units) (priceOn r rows)) (ok .weighs) (f .near w)
+    rw (model-on r d rows on, ← same)
+    (once-more (f .carried w) (modelOf (r .statics)) (d .b) (hundred * getD (r .rates) 0 noRate .bp) (moveOn r rows)
+    (exactMove (r .p1 .units) (r .p2 .units) (priceOn r rows)) (ok .weighs)
     (move-rounded (r .p1 .units) (r .p2 .units) (priceOn r rows) (ok .p1) (ok .p2)))
 
 follows-evaluated : (a : Admission) (es : List Entry) (r : Record) (d : Day) (rows : List ℤ) → Start r → Follows a es r
     → Follows a (entryOf r d rows ∷ es) (evaluated r d rows)
 unfolding evaluated exactOf entryOf
-follows-evaluated a es r d rows ok f =
-    record {
-      statics = f .statics;
-      p1 = refl;
-      p2 = f .p1;
-      near = near-evaluated a es r d rows ok f;
-      start = λ w. absurd (let z : _≡_ {A = ℕ} 0 1 = cc in omega arith);
-    }
+follows-evaluated a es r d rows ok f = record { statics = f .statics; p1 = refl; p2 = f .p1; carried = carried-evaluated a es r d rows ok f }
 
 longer-holds : (h : History) (r : Record) (d : Day) (rows : List ℤ) → Start r → Holds h true r → Holds (longer h (entryOf r d rows)) true (evaluated r d rows)
 unfolding longer
@@ -118,7 +105,7 @@ longer-holds (since a es) r d rows ok (w, f) = (refl, follows-evaluated a es r d
 
 follows-start : (a : Admission) → Follows a [] (admitted a)
 unfolding exactOf admitted
-follows-start a = record { statics = refl; p1 = refl; p2 = refl; near = λ w. near-start (a .s); start = λ w. omega arith }
+follows-start a = record { statics = refl; p1 = refl; p2 = refl; carried = λ w. begun (a .s) }
 
 -- ---- quotes and moves touch none of it
 
@@ -136,8 +123,7 @@ holds-same (since a es) r x m (w, f) = (
     statics = m .statics ∙ f .statics;
     p1 = ap (λ (p : Price). p .units) (m .p1) ∙ f .p1;
     p2 = ap (λ (p : Price). p .units) (m .p2) ∙ f .p2;
-    near = λ e. rw (m .s) (f .near e);
-    start = λ e. rw (m .s) (f .start e);
+    carried = λ e. rw (m .s) (f .carried e);
   },
 )
 
@@ -279,21 +265,13 @@ pub demand-3 : (id : ℕ) (cs : List Call) (t : List Record) → id ≢ 0 → fr
     × Demand3 (length es) (found (run cs t) id .s) (exactOf a es .square)
 demand-3 id cs t n f there on = go (history id cs t unknown) refl (run-holds id cs t unknown n (fresh-empty t id n f))
   where
-    nothing-yet : (es : List Entry) → length es ≡ 0 → es ≡ []
-    nothing-yet [] z = refl
-    nothing-yet (x ∷ es) z = absurd (omega arith)
-
     go : (h : History) → history id cs t unknown ≡ h → Holds h (stands (run cs t) id) (found (run cs t) id)
         → (a : Admission) × (es : List Entry) × (history id cs t unknown ≡ since a es)
         × Demand3 (length es) (found (run cs t) id .s) (exactOf a es .square)
     go unknown w k = absurd (clash (stands (run cs t) id) there k)
     go (since a es) w (_, k) =
-        let e : staticsOf (a .given) .ewma ≡ true = ap (λ (st : Statics). st .ewma) (sym (k .statics)) ∙ on in (
-          a,
-          es,
-          w,
-          record { near = k .near e; exact = λ z. k .start (nothing-yet es z) },
-        )
+        let e : staticsOf (a .given) .ewma ≡ true = ap (λ (st : Statics). st .ewma) (sym (k .statics)) ∙ on in
+        (a, es, w, carried-demand (k .carried e))
 
 -- and what was admitted stands in the table
 pub admitted-stands : (id : ℕ) (cs : List Call) (t : List Record) → id ≢ 0 → fresh t ≡ true → (a : Admission) (es : List Entry)

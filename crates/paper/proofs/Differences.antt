@@ -4,9 +4,10 @@ use mathlib.Core.Logic.{_⊎_, inl, inr}
 use Prim.Native.Nat.{ℕ, zero, suc, _+_, _-_, _*_, _≤_, _<_}
 use native.Mathlib.Omega.{arith}
 use lib.Dec.{ltb}
-use lib.IntN.{ℤ, pos, negsuc, negℤ, subℕ, _*ℤ_}
+use lib.IntN.{ℤ, pos, negsuc, negℤ, natAbs, subℕ, _+ℤ_, _-ℤ_, _*ℤ_}
 use lib.Signed.{ltZ}
 use borrow.Author.Tests.{lt-ltb, le-ltb}
+use Rattle.paper.specs.Roundings.{apart}
 use Rattle.paper.proofs.Logic.{le-or-lt}
 
 -- a - b where b is no more than a, and where it is more
@@ -16,7 +17,7 @@ difference-up a b h = rw (le-ltb a b h)
 pub difference-down : (a b : ℕ) → a < b → subℕ a b ≡ negsuc (b - suc a)
 difference-down a b h = rw (lt-ltb a b h)
 
-negated : (n : ℕ) → negℤ (pos n) ≡ subℕ 0 n
+pub negated : (n : ℕ) → negℤ (pos n) ≡ subℕ 0 n
 negated zero = refl
 negated (suc n) =
     let same : n ≡ suc n - 1 = omega arith in
@@ -68,3 +69,68 @@ pub share-order : (m w a b c d : ℕ) → ltZ (pos m *ℤ subℕ a b) (pos w *�
 share-order m w a b c d =
     rw (difference-times m a b, difference-times w c d)
     (difference-order (m * a) (m * b) (w * c) (w * d) ∙ ap (λ (z : ℕ). ltb (m * a + w * d) z) (omega arith))
+
+-- -(a - b) is b - a
+pub difference-turned : (a b : ℕ) → negℤ (subℕ a b) ≡ subℕ b a
+difference-turned a b = go (le-or-lt b a)
+  where
+    go : (b ≤ a) ⊎ (a < b) → negℤ (subℕ a b) ≡ subℕ b a
+    go (inl h) = ap negℤ (difference-up a b h) ∙ negated (a - b) ∙ difference-same 0 (a - b) b a (omega arith)
+    go (inr h) =
+        let same : suc (b - suc a) ≡ b - a = omega arith in
+        ap negℤ (difference-down a b h) ∙ ap pos same ∙ sym (difference-up b a (omega arith))
+
+-- (a - b) + (c - d) is (a + c) - (b + d)
+pub difference-plus : (a b c d : ℕ) → subℕ a b +ℤ subℕ c d ≡ subℕ (a + c) (b + d)
+difference-plus a b c d = go (le-or-lt b a) (le-or-lt d c)
+  where
+    go : (b ≤ a) ⊎ (a < b) → (d ≤ c) ⊎ (c < d) → subℕ a b +ℤ subℕ c d ≡ subℕ (a + c) (b + d)
+    go (inl h) (inl k) =
+        let same : a - b + (c - d) ≡ a + c - (b + d) = omega arith in
+        rw (difference-up a b h, difference-up c d k) (ap pos same ∙ sym (difference-up (a + c) (b + d) (omega arith)))
+    go (inl h) (inr k) =
+        rw (difference-up a b h, difference-down c d k) (difference-same (a - b) (suc (d - suc c)) (a + c) (b + d) (omega arith))
+    go (inr h) (inl k) =
+        rw (difference-down a b h, difference-up c d k) (difference-same (c - d) (suc (b - suc a)) (a + c) (b + d) (omega arith))
+    go (inr h) (inr k) =
+        let same : suc (b - suc a + (d - suc c)) ≡ b + d - suc (a + c) = omega arith in
+        rw (difference-down a b h, difference-down c d k) (ap negsuc same ∙ sym (difference-down (a + c) (b + d) (omega arith)))
+
+-- (a - b) - (c - d) is (a + d) - (b + c)
+pub difference-minus : (a b c d : ℕ) → subℕ a b -ℤ subℕ c d ≡ subℕ (a + d) (b + c)
+difference-minus a b c d = ap (λ (z : ℤ). subℕ a b +ℤ z) (difference-turned c d) ∙ difference-plus a b d c
+
+-- |a - b|
+pub difference-size : (a b : ℕ) → natAbs (subℕ a b) ≡ apart a b
+unfolding apart
+difference-size a b = go (le-or-lt b a)
+  where
+    go : (b ≤ a) ⊎ (a < b) → natAbs (subℕ a b) ≡ a - b + (b - a)
+    go (inl h) = ap natAbs (difference-up a b h) ∙ omega arith
+    go (inr h) = ap natAbs (difference-down a b h) ∙ omega arith
+
+-- a natural number is a difference
+pub difference-whole : (n : ℕ) → pos n ≡ subℕ n 0
+difference-whole n = let same : n ≡ n - 0 = omega arith in ap pos same ∙ sym (difference-up n 0 (omega arith))
+
+-- ---- sizes
+
+-- a - b is no further from 0 than a and b together
+difference-within : (a b : ℕ) → natAbs (subℕ a b) ≤ a + b
+unfolding apart
+difference-within a b = omega (arith, difference-size a b)
+
+-- neither is a sum or a difference of two numbers of either sign
+pub sum-size : (x y : ℤ) → natAbs (x +ℤ y) ≤ natAbs x + natAbs y
+sum-size (pos a) (pos b) = omega arith
+sum-size (pos a) (negsuc b) = difference-within a (suc b)
+sum-size (negsuc a) (pos b) = omega (arith, difference-within b (suc a))
+sum-size (negsuc a) (negsuc b) = omega arith
+
+pub minus-size : (x y : ℤ) → natAbs (x -ℤ y) ≤ natAbs x + natAbs y
+minus-size x y = rw (← negated-size y) (sum-size x (negℤ y))
+  where
+    negated-size : (y : ℤ) → natAbs (negℤ y) ≡ natAbs y
+    negated-size (pos zero) = refl
+    negated-size (pos (suc n)) = refl
+    negated-size (negsuc n) = refl

@@ -16,9 +16,9 @@ use Rattle.paper.specs.Numbers.{whole}
 use Rattle.paper.specs.Roundings.{Quotient}
 use Rattle.paper.specs.Least.{leastMultiple}
 use Rattle.paper.specs.Ranges.{validStatics}
-use Rattle.paper.specs.Rates.{leastStep, wanted, meets, daysOf, minimumOf, covers, levelRate, AtLeastRoots, volatilePart, liquidPart, HeldLeast}
+use Rattle.paper.specs.Rates.{leastStep, wanted, meets, daysOf, minimumOf, covers, levelRate, AtLeastRoots, volatilePart, liquidPart, IsLeastStep, HeldLeast}
 use Rattle.paper.proofs.Logic.{clash, and-left, and-right, and-both, le-or-lt, pick-true, pick-false}
-use Rattle.paper.proofs.Search.{Mono, multiple-holds, multiple-least, multiple-bound, multiple-is}
+use Rattle.paper.proofs.Search.{Mono, multiple-holds, multiple-least, multiple-bound, multiple-is, step-is}
 use Rattle.paper.proofs.Roots.{roots-covered, Floor, floor-root, short-one, short-two}
 
 -- ---- the comparison, without signs
@@ -229,37 +229,31 @@ level-rate-is st level m tentative v = go (covers st level m tentative (st .smax
 
 -- t is the least multiple of h with 10,000·t ≥ q·s, held at S_max
 pub wanted-is : (st : Statics) (s : ℕ) → validStatics st ≡ true → HeldLeast (st .h) 0 (st .smax) (λ t. leb (st .q * s) (whole * t)) (wanted st s)
-unfolding wanted leastStep leastMultiple
+unfolding wanted
 wanted-is st s v = go (le-or-lt searched (st .smax))
   where
     enough : ℕ → Bool
     enough t = leb (st .q * s) (whole * t)
 
     searched : ℕ
-    searched = leastMultiple (st .h) (st .q * s) enough
+    searched = leastStep (st .h) whole (st .q * s)
 
-    step : 0 < st .h
-    step = step-positive st v
+    is : IsLeastStep (st .h) whole (st .q * s) searched
+    is = step-is (st .h) whole (st .q * s) (step-positive st v) (omega arith)
 
-    -- the last multiple tried is enough, since h is at least 1
-    found : enough searched ≡ true
-    found =
-        multiple-holds (st .h) (st .q * s) enough
-        (le-leb (st .q * s) (whole * (st .q * s * st .h)) (omega (arith, mul-le-mul-left (st .q * s) step)))
-
-    is : (j : ℕ) × (searched ≡ j * st .h)
-    is = multiple-is (st .h) (st .q * s) enough
+    below : (j : ℕ) → enough (j * st .h) ≡ true → searched ≤ j * st .h
+    below j c = is .least j (leb-true (st .q * s) (whole * (j * st .h)) c)
 
     go : (searched ≤ st .smax) ⊎ (st .smax < searched) → HeldLeast (st .h) 0 (st .smax) enough (min (st .smax) searched)
     go (inl l) =
         let e : min (st .smax) searched ≡ searched = omega arith in
         rw e
         (record {
-          multiple = rw (is .1) (mul-mod-left (is .0) (st .h));
+          multiple = is .multiple;
           low = omega arith;
           held = l;
-          enough-or-held = inl found;
-          least = λ j _ c. multiple-least (st .h) (st .q * s) enough j c;
+          enough-or-held = inl (le-leb (st .q * s) (whole * searched) (is .enough));
+          least = λ j _ c. below j c;
         })
     go (inr l) =
         let e : min (st .smax) searched ≡ st .smax = omega arith in
@@ -270,7 +264,7 @@ wanted-is st s v = go (le-or-lt searched (st .smax))
           low = omega arith;
           held = omega arith;
           enough-or-held = held (enough (st .smax)) refl;
-          least = λ j _ c. le-trans (omega arith) (multiple-least (st .h) (st .q * s) enough j c);
+          least = λ j _ c. le-trans (omega arith) (below j c);
         })
       where
         held : (b : Bool) → enough (st .smax) ≡ b → (enough (st .smax) ≡ true) ⊎ ((st .smax ≡ st .smax) × (enough (st .smax) ≡ false))

@@ -19,7 +19,7 @@ use Rattle.paper.specs.Lists.{pick, three, those}
 use Rattle.paper.specs.Numbers.{hundred}
 use Rattle.paper.specs.Roundings.{up, halfUp, toGrid, lesserOf, greaterOf, grown, apart}
 use Rattle.paper.specs.Least.{first, least, leastRoot, leastTimes, leastMultiple}
-use Rattle.paper.specs.Ranges.{isPrice, isGridPrice, validStatics, validGiven, validTentative, validAdmission, validSlots, gridOf, staticsOf, rowAt, rowsFrom, rowsOf, rowOf, natural, noTerm, noLimits}
+use Rattle.paper.specs.Ranges.{isPrice, isGridPrice, validStatics, validGiven, validTentative, validAdmission, validSlots, gridOf, staticsOf, rowAt, partsFrom, rowsOf, rowOf, natural, noTerm, noLimits}
 use Rattle.paper.specs.Evaluation.{rowPrice, rowWeight, roublesOf, traded, weights, worth, mean, closeOf, bestBid, lesserAsk, bestAsk, median, between, evaluationOf, dayRows}
 use Rattle.paper.specs.Rates.{modelOf, moveFrom, moveOf, weightOf, weighted, replacement, replaces, volatilityOf, leastStep, wanted, tentativeAfter, meets, daysOf, minimumOf, covers, levelRate, modelled, unmodelled, figuresOf}
 use Rattle.paper.specs.Limits.{limitOf, shifted, rangeLimit, rangeOf, farthest, spread, monitored, narrower, bandLimit, bandOf, deltaOf, oneMore, rangeMoved, bandMoved}
@@ -73,7 +73,7 @@ dayWith m x = record { day = 4; b = 0; m = m; terms = three (λ k. x) }
 
 -- cases 1 to 6: the record after an evaluation at 1,030,000
 unfoldable pub after : (m : ℕ) → Term → Record
-unfolding admissionZ givenWith roublesRow dayWith staticsOf admitted minimumOf evaluated figuresOn figuresOf modelled unmodelled moveOn priceOn moveOf moveFrom up apart volatilityOf weightOf weighted replaces replacement leastStep wanted tentativeAfter levelRate covers meets daysOf least first leastRoot leastTimes leastMultiple evaluationOf dayRows rowsOf rowsFrom rowAt rowOf natural roublesOf rowPrice rowWeight halfUp toGrid grown closeOf mean traded those weights worth bestBid bestAsk lesserAsk between median gridOf rangeOf rangeLimit limitOf shifted bandOf bandLimit farthest narrower lesserOf greaterOf monitored spread
+unfolding admissionZ givenWith roublesRow dayWith staticsOf admitted minimumOf evaluated figuresOn figuresOf modelled unmodelled moveOn priceOn moveOf moveFrom up apart volatilityOf weightOf weighted replaces replacement leastStep wanted tentativeAfter levelRate covers meets daysOf least first leastRoot leastTimes leastMultiple evaluationOf dayRows rowsOf partsFrom rowAt rowOf natural roublesOf rowPrice rowWeight halfUp toGrid grown closeOf mean traded those weights worth bestBid bestAsk lesserAsk between median gridOf rangeOf rangeLimit limitOf shifted bandOf bandLimit farthest narrower lesserOf greaterOf monitored spread
 after m x = evaluated (admitted admissionZ) (dayWith m x) (roublesRow 1030000 0 0 5 [])
 
 rateAt : Record → ℕ → ℕ

@@ -12,3 +12,7 @@ pub mod Desk
 pub mod Gateway
 pub mod Exact
 pub mod Cases
+pub mod Interest
+pub mod InterestExact
+pub mod InterestCases
+pub mod Terms

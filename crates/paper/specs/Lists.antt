@@ -12,6 +12,10 @@ pick false a b = b
 abbrev pub three {ℓ} : {A : Type ℓ} → (ℕ → A) → List A
 three f = f 0 ∷ f 1 ∷ f 2 ∷ []
 
+-- a figure for each of eight places
+abbrev pub eight {ℓ} : {A : Type ℓ} → (ℕ → A) → List A
+eight f = f 0 ∷ f 1 ∷ f 2 ∷ f 3 ∷ f 4 ∷ f 5 ∷ f 6 ∷ f 7 ∷ []
+
 -- a figure for each of the levels 1, 2, 3
 abbrev pub forLevels {ℓ} : {A : Type ℓ} → (ℕ → A) → List A
 forLevels f = f 1 ∷ f 2 ∷ f 3 ∷ []

@@ -146,6 +146,26 @@ termLast = 2
 abbrev pub quoteMost : ℕ
 quoteMost = 100000000000
 
+-- ---- the interest side (W-201)
+
+abbrev pub keyNumbers : ℕ
+keyNumbers = 8
+
+abbrev pub allKeyNumbersMost : ℕ
+allKeyNumbersMost = 64
+
+abbrev pub maturityMost : ℕ
+maturityMost = 365
+
+abbrev pub minimumMost : ℕ
+minimumMost = 9999
+
+abbrev pub repoVolatilityMost : ℕ
+repoVolatilityMost = 19998
+
+abbrev pub repoTentativeMost : ℕ
+repoTentativeMost = 200979
+
 -- ---- 64-bit numbers
 
 -- the greatest 64-bit number: no range of the paper holds it

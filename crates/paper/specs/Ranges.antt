@@ -150,6 +150,11 @@ validAdmission a =
 
 -- ---- a day
 
+-- so many parts of a lent slice from a place on, each of the same width and read off where it begins
+unfoldable pub partsFrom : {A : Type 0} → (read : List ℤ → ℕ → A) → (width : ℕ) → List ℤ → (at count : ℕ) → List A
+partsFrom read width numbers at zero = []
+partsFrom read width numbers at (suc more) = read numbers at ∷ partsFrom read width numbers (at + width) more
+
 -- "rows of seven numbers in a lent slice of signed 64-bit numbers": a row as it is lent
 pub record LentRow : Type 0 where
   pub t : ℤ
@@ -172,12 +177,8 @@ rowAt numbers at =
       volume = getD numbers (at + 6) (pos 0);
     }
 
-unfoldable pub rowsFrom : List ℤ → ℕ → ℕ → List LentRow
-rowsFrom numbers at zero = []
-rowsFrom numbers at (suc more) = rowAt numbers at ∷ rowsFrom numbers (at + rowNumbers) more
-
 unfoldable pub rowsOf : List ℤ → List LentRow
-rowsOf numbers = rowsFrom numbers 0 (length numbers / rowNumbers)
+rowsOf numbers = partsFrom rowAt rowNumbers numbers 0 (length numbers / rowNumbers)
 
 -- "slice length not a multiple of 7 or over 112" is refused
 unfoldable pub wholeRows : List ℤ → Bool

@@ -135,6 +135,12 @@ volatilePart rh1 rh m tentative = record { num = rh * (tentative * tentative) * 
 abbrev pub liquidPart : (rh1 rh liq : ℕ) → Quotient
 liquidPart rh1 rh liq = record { num = rh * (liq * liq); den = rh1 }
 
+-- v is the least multiple of h with w·v ≥ n
+pub record IsLeastStep (h w n v : ℕ) : Type 0 where
+  pub multiple : v % h ≡ 0
+  pub enough : n ≤ w * v
+  pub least : (j : ℕ) → n ≤ w * (j * h) → v ≤ j * h
+
 -- "the least multiple of the step that covers the requirement and the minimum, held at the maximum"
 pub record HeldLeast (h minimum maximum : ℕ) (enough : ℕ → Bool) (v : ℕ) : Type 0 where
   pub multiple : v % h ≡ 0

@@ -2,7 +2,7 @@
 use mathlib.Core.Bool.{Bool}
 use Prim.Native.Nat.{ℕ, suc, _+_, _-_, _*_, _/_}
 use lib.Dec.{leb}
-use lib.IntN.{ℤ, pos, negsuc}
+use lib.IntN.{ℤ, pos, negsuc, negℤ}
 use Rattle.paper.specs.Lists.{pick}
 
 -- a quotient that is not rounded yet
@@ -17,6 +17,15 @@ up n d = (n + (d - 1)) / d
 -- (a), (b), (c) "Half up is to nearest, ties up"
 unfoldable pub halfUp : ℕ → ℕ → ℕ
 halfUp n d = (2 * n + d) / (2 * d)
+
+-- to nearest, ties down: how the size of a number below zero is rounded where the number is rounded half up
+unfoldable pub halfDown : ℕ → ℕ → ℕ
+halfDown n d = (2 * n + (d - 1)) / (2 * d)
+
+-- W-201, "half up to a bp": to nearest, ties up, also below zero
+unfoldable pub halfUpZ : ℤ → ℕ → ℤ
+halfUpZ (pos n) d = pos (halfUp n d)
+halfUpZ (negsuc n) d = negℤ (pos (halfDown (suc n) d))
 
 -- (d), (g) "half up to the grid": n/d to the nearest multiple of g, ties up
 unfoldable pub toGrid : ℕ → ℕ → ℕ → ℕ

@@ -335,6 +335,7 @@ pub enum Verdict {
     NotMonitored,
     MovesUsedUp,
     SecondEarlier,
+    NotAscending,
 }
 
 impl Verdict {
@@ -357,6 +358,7 @@ impl Verdict {
             Verdict::NotMonitored => 11,
             Verdict::MovesUsedUp => 12,
             Verdict::SecondEarlier => 13,
+            Verdict::NotAscending => 14,
         }
     }
 }
@@ -367,4 +369,101 @@ pub struct Answer {
     pub rec: Record,
     pub top: bool,
     pub bottom: bool,
+}
+
+// ---- the interest side (W-201)
+
+// A key maturity as an evening gives it: its days, the repo rate of this evening and of the two before, the repo index, and the volatility and the tentative
+// rate of the evening before. Rates and volatility are in basis points.
+pub struct Maturity {
+    pub t: u64,
+    pub r: i64,
+    pub r1: i64,
+    pub r2: i64,
+    pub index: i64,
+    pub volatility: u64,
+    pub tentative: Tentative,
+}
+
+impl Maturity {
+    pub const NUMBERS: usize = 8;
+
+    pub const ALL_NUMBERS_MOST: usize = 64;
+
+    pub const DAYS_MOST: u64 = 365;
+
+    pub const VOLATILITY_MOST: u64 = 19_998;
+
+    pub const TENTATIVE_MOST: u64 = 200_979;
+}
+
+// What an evening gives beside its key maturities: the holidays b, the pair of terms Ym/Yn, the statics, and the rollover rates of money and of the security.
+pub struct Interest {
+    pub b: u64,
+    pub ym: u64,
+    pub yn: u64,
+    pub model: Model,
+    pub h: u64,
+    pub wait: u64,
+    pub liq: u64,
+    pub mm: u64,
+    pub sec: u64,
+    pub xir: u64,
+    pub money: i64,
+    pub secrate: i64,
+}
+
+impl Interest {
+    pub const MINIMUM_MOST: u64 = 9_999;
+}
+
+// The figures of a key maturity: the change of its rate, the volatility, the tentative rate, and the upward and the downward estimate.
+pub struct MaturityFigures {
+    pub change: u64,
+    pub volatility: u64,
+    pub tentative: Tentative,
+    pub up: u64,
+    pub down: u64,
+}
+
+// A pair of terms worked out: the limits of its repo band, where the verdict is done.
+pub struct Worked {
+    pub verdict: Verdict,
+    pub lower: i64,
+    pub upper: i64,
+}
+
+// What the interest side answers: the pair, how many key maturities there are, and the figures of each; zeros past the last. A refusal has its verdict
+// and every figure 0.
+pub struct InterestAnswer {
+    pub pair: Worked,
+    pub count: u64,
+    pub figures: [MaturityFigures; 8],
+}
+
+// A repo band as two numbers give it.
+pub struct Repo {
+    pub low: i64,
+    pub high: i64,
+}
+
+// Where a term's repo band comes from: it is given, or a pair of terms was worked out.
+pub enum Band {
+    Given(Repo),
+    Worked(Worked),
+}
+
+pub struct AskedTerm {
+    pub k: u64,
+    pub band: Band,
+}
+
+// A day as it is asked for, with either kind of band in each of its terms.
+pub struct AskedDay {
+    pub day: u64,
+    pub b: u64,
+    pub m: u64,
+    pub first: AskedTerm,
+    pub second: AskedTerm,
+    pub third: AskedTerm,
 }

@@ -52,7 +52,7 @@ pub fn evaluated(t: &mut [Record], id: u64, e: Listed) -> Answer
     o.answer
 }
 
-// Whatever is none of the first four kinds is a read; a blank line and a bad one are reads of id 0, which stores nothing.
+// Whatever is none of the first four kinds is a read; a blank line, a bad one and an interest line are reads of id 0, which stores nothing.
 pub fn perform(t: &mut [Record], l: Line) -> Answer
     ensures { λ r. ⌜ Promised (callOf l) (now (t .entry)) r (now (t .exit)) ⌝ }
 {

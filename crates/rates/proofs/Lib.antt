@@ -1,4 +1,3 @@
 pub mod Statics
 pub mod Volatilities
-pub mod Steps
 pub mod Reach

@@ -4,7 +4,6 @@ ghost use mathlib.Core.Bool.{true};
 ghost use Prim.Native.Nat.{_*_, _^_, _≤_, _<_};
 ghost use Rattle.paper.specs.Numbers.{whole, volatilityMost};
 ghost use Rattle.paper.specs.Ranges.{isPrice};
-ghost use Rattle.paper.specs.Roundings.{apart};
 ghost use Rattle.paper.specs.Rates.{modelOf, moveFrom, moveOf, weightOf, weighted, replacement, replaces, volatilityOf};
 ghost use Rattle.paper.proofs.Volatility.{Weighing};
 use paper::HUNDRED;
@@ -13,19 +12,12 @@ use paper::Model;
 use paper::Statics;
 use paper::WHOLE;
 
-// |a - b|
-fn apart(a: u64, b: u64) -> u64
-    ensures { λ r. ⌜ r ≡ apart a b ⌝ }
-{
-    if a < b { b - a } else { a - b }
-}
-
 // Place (e).
 fn move_from(earlier: u64, p: u64) -> u64
     requires { ⌜ (isPrice earlier ≡ true) × (isPrice p ≡ true) ⌝ }
     ensures { λ r. ⌜ r ≡ moveFrom earlier p ⌝ }
 {
-    exact::up(apart(p, earlier) * MILLION, earlier)
+    exact::up(exact::apart(p, earlier) * MILLION, earlier)
 }
 
 // The r of the paper, in millionths.

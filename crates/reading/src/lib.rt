@@ -5,13 +5,16 @@ use line::Rows;
 use paper::Admission;
 use paper::Day;
 use paper::Given;
+use paper::Interest;
+use paper::Model;
 use paper::Quote;
 use paper::Term;
 use scan::Scan;
+ghost use Prim.Native.Nat.{_≤_};
 
 // ---- which call a line is
 
-// The words of the five calls in base 27, a letter a digit.
+// The words of the six calls in base 27, a letter a digit.
 const ADMIT: u64 = (((1 * 27 + 4) * 27 + 13) * 27 + 9) * 27 + 20;
 
 const EVALUATE: u64 = ((((((5 * 27 + 22) * 27 + 1) * 27 + 12) * 27 + 21) * 27 + 1) * 27 + 20) * 27
@@ -23,7 +26,10 @@ const MOVE: u64 = ((13 * 27 + 15) * 27 + 22) * 27 + 5;
 
 const READ: u64 = ((18 * 27 + 5) * 27 + 1) * 27 + 4;
 
-// How many numbers follow each word; `evaluate` may have row figures besides.
+const INTEREST: u64 = ((((((9 * 27 + 14) * 27 + 20) * 27 + 5) * 27 + 18) * 27 + 5) * 27 + 19) * 27
+    + 20;
+
+// How many numbers follow each word; `evaluate` may have row figures besides, and `interest` key maturities.
 const ADMIT_NUMBERS: usize = 28;
 
 const EVALUATE_NUMBERS: usize = 13;
@@ -33,6 +39,8 @@ const QUOTE_NUMBERS: usize = 5;
 const MOVE_NUMBERS: usize = 2;
 
 const READ_NUMBERS: usize = 1;
+
+const INTEREST_NUMBERS: usize = 14;
 
 fn kind_of_word(word: u64, n: usize) -> u64 {
     if (word == ADMIT) & (n == ADMIT_NUMBERS) {
@@ -50,6 +58,17 @@ fn kind_of_word(word: u64, n: usize) -> u64 {
     if (word == READ) & (n == READ_NUMBERS) {
         return Line::READ;
     }
+    if (word == INTEREST) & (INTEREST_NUMBERS <= n) {
+        return Line::INTEREST;
+    }
+    Line::BAD
+}
+
+// A pair of terms stands in an evaluation alone.
+fn with_pairs(kind: u64, pairs: u64) -> u64 {
+    if (pairs == 0) | (kind == Line::EVALUATE) {
+        return kind;
+    }
     Line::BAD
 }
 
@@ -62,7 +81,7 @@ fn kind_of(s: Scan) -> u64 {
     if (word == 0) & (n == 0) {
         return Line::BLANK;
     }
-    kind_of_word(word, n)
+    with_pairs(kind_of_word(word, n), s.pairs)
 }
 
 // ---- the numbers of each call, in the protocol's order
@@ -131,26 +150,38 @@ fn day_of(x: &[i64; 126]) -> Day {
     }
 }
 
-// The numbers after the first thirteen.
-fn figures_of(x: &[i64; 126]) -> [i64; 113] {
+// The numbers from a place on, and zeros after the last.
+fn figures_of(x: &[i64; 126], from: usize) -> [i64; 113]
+    requires { ⌜ (13 ≤ from) × (from ≤ 14) ⌝ }
+{
     let mut f = [0i64; 113];
     let mut i: usize = 0;
-    while i < line::KEPT {
-        f[i] = x[i + EVALUATE_NUMBERS];
+    while i + from < scan::KEPT {
+        f[i] = x[i + from];
         i += 1;
     }
     f
 }
 
-fn rows_of(x: &[i64; 126], n: usize) -> Rows {
-    let numbers = figures_of(x);
-    if n < EVALUATE_NUMBERS {
+fn rows_from(x: &[i64; 126], from: usize, n: usize) -> Rows
+    requires { ⌜ (13 ≤ from) × (from ≤ 14) ⌝ }
+{
+    let numbers = figures_of(x, from);
+    if n < from {
         return Rows { count: 0, numbers };
     }
     Rows {
-        count: n - EVALUATE_NUMBERS,
+        count: n - from,
         numbers,
     }
+}
+
+// The row figures of an evaluation, or the key maturities of an interest line.
+fn rows_of(x: &[i64; 126], kind: u64, n: usize) -> Rows {
+    if kind == Line::INTEREST {
+        return rows_from(x, INTEREST_NUMBERS, n);
+    }
+    rows_from(x, EVALUATE_NUMBERS, n)
 }
 
 fn quote_of(x: &[i64; 126]) -> Quote {
@@ -162,12 +193,42 @@ fn quote_of(x: &[i64; 126]) -> Quote {
     }
 }
 
-// A line that is no call carries id 0, whatever numbers it had.
+fn interest_of(x: &[i64; 126]) -> Interest {
+    Interest {
+        b: natural(x[0]),
+        ym: natural(x[1]),
+        yn: natural(x[2]),
+        model: Model {
+            aup: natural(x[3]),
+            adown: natural(x[4]),
+            q: natural(x[5]),
+        },
+        h: natural(x[6]),
+        wait: natural(x[7]),
+        liq: natural(x[8]),
+        mm: natural(x[9]),
+        sec: natural(x[10]),
+        xir: natural(x[11]),
+        money: x[12],
+        secrate: x[13],
+    }
+}
+
+// A line that is no call, or a call of no security, carries id 0, whatever numbers it had.
 fn id_of(x: &[i64; 126], kind: u64) -> u64 {
-    if (kind == Line::BLANK) | (kind == Line::BAD) {
+    if (kind == Line::BLANK) | (kind == Line::BAD) | (kind == Line::INTEREST) {
         return 0;
     }
     natural(x[0])
+}
+
+// Which of the three terms have a pair.
+fn pairs_of(pairs: u64) -> [bool; 3] {
+    [
+        pairs & Scan::FIRST_PAIR != 0,
+        pairs & Scan::SECOND_PAIR != 0,
+        pairs & Scan::THIRD_PAIR != 0,
+    ]
 }
 
 // The line that was scanned, with the numbers of every call side by side.
@@ -179,8 +240,10 @@ pub fn line_of(x: &[i64; 126], s: Scan) -> Line {
         id: id_of(x, kind),
         admission: admission_of(x),
         day: day_of(x),
-        rows: rows_of(x, n),
+        rows: rows_of(x, kind, n),
         quote: quote_of(x),
         side: natural(x[1]),
+        interest: interest_of(x),
+        pairs: pairs_of(s.pairs),
     }
 }

@@ -5,7 +5,7 @@ ghost use lib.ListN.{length, getD};
 ghost use lib.IntN.{pos};
 ghost use Rattle.paper.specs.Lists.{every};
 ghost use Rattle.paper.specs.Numbers.{rowNumbers};
-ghost use Rattle.paper.specs.Ranges.{withinZ, natural, rowAt, rowsOf, wholeRows, closeForVolume, validRow, validRows, rowOf};
+ghost use Rattle.paper.specs.Ranges.{rowAt, rowsOf, wholeRows, closeForVolume, validRow, validRows, rowOf};
 use paper::Price;
 use paper::Row;
 use paper::Term;
@@ -14,22 +14,6 @@ use paper::Term;
 const PRICE_MOST: i64 = Price::MOST as i64;
 
 const VOLUME_MOST: i64 = Row::VOLUME_MOST as i64;
-
-// The number at i; one below zero is read as a number that no range holds.
-fn natural_at(rows: &[i64], i: usize) -> u64
-    requires { ⌜ i < length (now rows) ⌝ }
-    ensures { λ r. ⌜ r ≡ natural (getD (now (rows .entry)) i (pos 0)) ⌝ }
-{
-    exact::natural(rows[i])
-}
-
-// Whether the number at i is from low to high.
-fn within_at(rows: &[i64], i: usize, low: i64, high: i64) -> bool
-    requires { ⌜ i < length (now rows) ⌝ }
-    ensures { λ r. ⌜ r ≡ withinZ low high (getD (now (rows .entry)) i (pos 0)) ⌝ }
-{
-    exact::is_within(low, high, rows[i])
-}
 
 // "Volume above 0 with close 0 is out of range": whether there is no volume at v, or a close at c.
 fn close_for_volume(rows: &[i64], v: usize, c: usize) -> bool
@@ -46,13 +30,13 @@ fn row_valid(rows: &[i64], at: usize) -> bool
     requires { ⌜ at + rowNumbers ≤ length (now rows) ⌝ }
     ensures { λ r. ⌜ r ≡ validRow (rowAt (now (rows .entry)) at) ⌝ }
 {
-    within_at(rows, at, 0, Row::TERM_MOST)
-        & within_at(rows, at + 1, 1, Row::CENTRAL_MOST)
-        & within_at(rows, at + 2, Term::REPO_LEAST, Term::REPO_MOST)
-        & within_at(rows, at + 3, 0, PRICE_MOST)
-        & within_at(rows, at + 4, 0, PRICE_MOST)
-        & within_at(rows, at + 5, 0, PRICE_MOST)
-        & within_at(rows, at + 6, 0, VOLUME_MOST)
+    exact::within_at(rows, at, 0, Row::TERM_MOST)
+        & exact::within_at(rows, at + 1, 1, Row::CENTRAL_MOST)
+        & exact::within_at(rows, at + 2, Term::REPO_LEAST, Term::REPO_MOST)
+        & exact::within_at(rows, at + 3, 0, PRICE_MOST)
+        & exact::within_at(rows, at + 4, 0, PRICE_MOST)
+        & exact::within_at(rows, at + 5, 0, PRICE_MOST)
+        & exact::within_at(rows, at + 6, 0, VOLUME_MOST)
         & close_for_volume(rows, at + 6, at + 3)
 }
 
@@ -62,13 +46,13 @@ pub fn row_at(rows: &[i64], at: usize) -> Row
     ensures { λ r. ⌜ r ≡ rowOf (rowAt (now (rows .entry)) at) ⌝ }
 {
     Row {
-        t: natural_at(rows, at),
-        central: natural_at(rows, at + 1),
+        t: exact::natural_at(rows, at),
+        central: exact::natural_at(rows, at + 1),
         repo: rows[at + 2],
-        close: natural_at(rows, at + 3),
-        bid: natural_at(rows, at + 4),
-        ask: natural_at(rows, at + 5),
-        volume: natural_at(rows, at + 6),
+        close: exact::natural_at(rows, at + 3),
+        bid: exact::natural_at(rows, at + 4),
+        ask: exact::natural_at(rows, at + 5),
+        volume: exact::natural_at(rows, at + 6),
     }
 }
 

@@ -1,4 +1,5 @@
-// A line of the evening's text, a byte at a time: a word of small letters, then signed decimal numbers, split by blanks.
+// A line of the evening's text, a byte at a time: a word of small letters, then signed decimal numbers, split by blanks. A slash in place of a blank makes
+// two numbers a pair of terms Ym/Yn.
 ghost use mathlib.Core.Path.{_≡_};
 ghost use Prim.Native.Nat.{_+_, _*_, _<_, _≤_, _^_};
 ghost use Rattle.scan.specs.Number.{signedOf};
@@ -17,23 +18,42 @@ const LEAST: u64 = 9_223_372_036_854_775_808;
 // A word of more letters than any call's is no call's.
 const LONGEST: u64 = 1_000_000_000_000_000;
 
+// The places of the three numbers LOW of `evaluate`, counted from 0. No other number may be the first of a pair.
+const FIRST_LOW: usize = 5;
+
+const SECOND_LOW: usize = 8;
+
+const THIRD_LOW: usize = 11;
+
 // What the byte before belongs to.
 pub enum Within {
     Blank,
     Word,
     Minus,
     Number,
+    Slash,
     Bad,
 }
 
-// What is read of a line so far: the word in base 27, how many numbers are closed (one more than KEPT stands for any more), and the size and sign of the
-// number that is open.
+// What is read of a line so far: the word in base 27, how many numbers are closed (one more than KEPT stands for any more), the size and sign of the
+// number that is open and whether it is the second of a pair, and which of the three terms have a pair.
 pub struct Scan {
     pub within: Within,
     pub word: u64,
     pub n: usize,
     pub size: u64,
     pub neg: bool,
+    pub second: bool,
+    pub pairs: u64,
+}
+
+impl Scan {
+    // The bits of `pairs`, one to a term: a number stays in a register from byte to byte, and three flags in a row do not.
+    pub const FIRST_PAIR: u64 = 1;
+
+    pub const SECOND_PAIR: u64 = 2;
+
+    pub const THIRD_PAIR: u64 = 4;
 }
 
 pub fn start() -> Scan {
@@ -43,6 +63,8 @@ pub fn start() -> Scan {
         n: 0,
         size: 0,
         neg: false,
+        second: false,
+        pairs: 0,
     }
 }
 
@@ -55,14 +77,21 @@ pub fn is_bad(s: Scan) -> bool {
     }
 }
 
-fn bad(s: Scan) -> Scan {
+// No number is closed: a sign, a digit or a bad byte.
+fn going_on(s: Scan, within: Within, size: u64, neg: bool) -> Scan {
     Scan {
-        within: Within::Bad,
+        within,
         word: s.word,
         n: s.n,
-        size: 0,
-        neg: false,
+        size,
+        neg,
+        second: s.second,
+        pairs: s.pairs,
     }
+}
+
+fn bad(s: Scan) -> Scan {
+    going_on(s, Within::Bad, 0, false)
 }
 
 // A number of a size and a sign. The least signed number has a size that no positive one has, so one is taken off before the sign is turned.
@@ -88,13 +117,7 @@ fn digit(s: Scan, d: u64) -> Scan
             if ROOM < s.size {
                 bad(s)
             } else {
-                Scan {
-                    within: Within::Number,
-                    word: s.word,
-                    n: s.n,
-                    size: s.size * 10 + d,
-                    neg: s.neg,
-                }
+                going_on(s, Within::Number, s.size * 10 + d, s.neg)
             }
         }
     }
@@ -134,6 +157,8 @@ fn worded(s: Scan, word: u64) -> Scan {
         n: s.n,
         size: 0,
         neg: false,
+        second: false,
+        pairs: s.pairs,
     }
 }
 
@@ -141,13 +166,7 @@ fn worded(s: Scan, word: u64) -> Scan {
 fn minus(s: Scan) -> Scan {
     let within = s.within;
     match within {
-        Within::Blank => Scan {
-            within: Within::Minus,
-            word: s.word,
-            n: s.n,
-            size: 0,
-            neg: true,
-        },
+        Within::Blank | Within::Slash => going_on(s, Within::Minus, 0, true),
         _ => bad(s),
     }
 }
@@ -159,6 +178,8 @@ fn between(s: Scan, n: usize) -> Scan {
         n,
         size: 0,
         neg: false,
+        second: false,
+        pairs: s.pairs,
     }
 }
 
@@ -195,9 +216,55 @@ pub fn blank(numbers: &mut [i64; 126], s: Scan) -> Scan {
     let within = s.within;
     match within {
         Within::Number => close(numbers, s),
-        Within::Minus => bad(s),
+        Within::Minus | Within::Slash => bad(s),
         Within::Bad => s,
         _ => between(s, s.n),
+    }
+}
+
+// The number that was closed is the first of a term's pair, whose second comes next.
+fn with_pair(s: Scan, pair: u64) -> Scan {
+    Scan {
+        within: Within::Slash,
+        word: s.word,
+        n: s.n,
+        size: 0,
+        neg: false,
+        second: true,
+        pairs: s.pairs | pair,
+    }
+}
+
+// The number at a place was closed by a slash.
+fn paired(s: Scan, at: usize) -> Scan {
+    if is_bad(s) {
+        return s;
+    }
+    if at == FIRST_LOW {
+        return with_pair(s, Scan::FIRST_PAIR);
+    }
+    if at == SECOND_LOW {
+        return with_pair(s, Scan::SECOND_PAIR);
+    }
+    if at == THIRD_LOW {
+        return with_pair(s, Scan::THIRD_PAIR);
+    }
+    bad(s)
+}
+
+// A slash stands right after the first number of a pair, and closes it.
+fn slash(numbers: &mut [i64; 126], s: Scan) -> Scan {
+    let within = s.within;
+    match within {
+        Within::Number => {
+            if s.second {
+                bad(s)
+            } else {
+                let at = s.n;
+                paired(close(numbers, s), at)
+            }
+        }
+        _ => bad(s),
     }
 }
 
@@ -206,6 +273,7 @@ pub fn byte(numbers: &mut [i64; 126], s: Scan, b: u8) -> Scan {
     match b {
         b' ' | b'\t' | b'\r' => blank(numbers, s),
         b'-' => minus(s),
+        b'/' => slash(numbers, s),
         b'0'..=b'9' => digit(s, (b - b'0') as u64),
         b'a'..=b'z' => letter(s, (b - b'a') as u64),
         _ => bad(s),

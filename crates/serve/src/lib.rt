@@ -2,6 +2,8 @@
 use hearing::State;
 use hearing::hear;
 use hearing::start;
+use pairs::answered;
+use pairs::resolved;
 use paper::Record;
 use perform::perform;
 use telling::tell;
@@ -24,8 +26,10 @@ pub fn step(t: &mut [Record], s: State) -> State
     ensures { λ r. ⌜ (r .left ≤ s .left - 1) × ((c : Call) × (now (t .exit) ≡ step c (now (t .entry)) .table)) ⌝ }
 {
     let h = hear(s);
-    let a = perform(t, h.line);
-    tell(h, a)
+    let l = resolved(h.state.kept, h.line);
+    let a = perform(t, l);
+    let i = answered(l);
+    tell(h, a, i)
 }
 
 // Every line. The table at the end is the table after some sequence of calls of the paper.

@@ -1,12 +1,16 @@
 // Standard output: one line for each call, by the protocol of the evening.
 ghost use mathlib.Core.Path.{_≡_};
+ghost use Rattle.telling.specs.Told.{toldState};
 use exact::size;
 use hearing::Heard;
 use hearing::State;
 use libc::STDOUT_FILENO;
 use line::Line;
+use pairs::kept_after;
 use paper::Answer;
+use paper::InterestAnswer;
 use paper::Limits;
+use paper::MaturityFigures;
 use paper::Near;
 use paper::NearSeconds;
 use paper::Rate;
@@ -15,7 +19,8 @@ use paper::Standing;
 use paper::Term;
 use paper::Verdict;
 
-// A line that is being made. The longest, a record's, has 41 numbers of at most 13 digits, each with a blank, and a few signs.
+// A line that is being made. The longest, a record's, has 41 numbers of at most 13 digits, each with a blank, and a few signs; an interest line's answer has
+// 51 numbers, of at most 6 digits but for the two limits.
 struct Text {
     bytes: [u8; 1024],
     len: usize,
@@ -153,6 +158,37 @@ fn next_record(t: Text, r: Record) -> Text {
     next(t, r.second)
 }
 
+// CHANGE VOLATILITY TENTATIVE AGE UP DOWN
+fn next_maturity(t: Text, f: MaturityFigures) -> Text {
+    let t = next(t, f.change);
+    let t = next(t, f.volatility);
+    let t = next(t, f.tentative.bp);
+    let t = next(t, f.tentative.age);
+    let t = next(t, f.up);
+    next(t, f.down)
+}
+
+fn next_maturities(t: Text, figures: [MaturityFigures; 8], count: u64) -> Text {
+    let mut made = t;
+    let mut i: usize = 0;
+    while i < 8 {
+        if count <= i as u64 {
+            return made;
+        }
+        made = next_maturity(made, figures[i]);
+        i += 1;
+    }
+    made
+}
+
+// LOWER UPPER, and the figures of each key maturity
+fn next_interest(t: Text, a: InterestAnswer) -> Text {
+    let t = next_signed(t, a.pair.lower);
+    let t = next_signed(t, a.pair.upper);
+    let figures = a.figures;
+    next_maturities(t, figures, a.count)
+}
+
 // One write a line.
 fn write_bytes(bytes: [u8; 1024], n: usize) {
     if n <= 1024 {
@@ -194,7 +230,19 @@ fn say_answer(kind: u64, a: Answer) {
     }
 }
 
-fn say(number: u64, kind: u64, a: Answer) {
+fn say_interest(a: InterestAnswer) {
+    let pair = a.pair;
+    let verdict = pair.verdict;
+    let no = verdict.number();
+    let t = with_number(empty(), no);
+    if no == 0 {
+        write_line(next_interest(t, a));
+    } else {
+        write_line(t);
+    }
+}
+
+fn say(number: u64, kind: u64, a: Answer, i: InterestAnswer) {
     if kind == Line::BLANK {
         return;
     }
@@ -202,15 +250,23 @@ fn say(number: u64, kind: u64, a: Answer) {
         say_bad(number);
         return;
     }
+    if kind == Line::INTEREST {
+        say_interest(i);
+        return;
+    }
     say_answer(kind, a);
 }
 
-// The answer of the line that was heard is written, and what is left of the input handed back.
-pub fn tell(h: Heard, a: Answer) -> State
-    ensures { λ r. ⌜ r ≡ h .state ⌝ }
+// The answer of the line that was heard is written: the desk's, or the interest side's, which is kept where it is accepted. What is left of the input is
+// handed back.
+pub fn tell(h: Heard, a: Answer, i: InterestAnswer) -> State
+    ensures { λ r. ⌜ r ≡ toldState (h .state) (h .line) i ⌝ }
 {
-    let s = h.state;
+    let mut s = h.state;
     let l = h.line;
-    say(s.number, l.kind, a);
+    say(s.number, l.kind, a, i);
+    let kept = s.kept;
+    let interest = l.interest;
+    s.kept = kept_after(kept, interest, i);
     s
 }

@@ -10,7 +10,7 @@ use crate::units as u;
 /// The two ends of a range.
 pub type Ends = (i64, i64);
 
-const fn ends(range: &RangeInclusive<i64>) -> Ends {
+pub const fn ends(range: &RangeInclusive<i64>) -> Ends {
     (*range.start(), *range.end())
 }
 

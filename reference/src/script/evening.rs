@@ -1,12 +1,16 @@
 //! Random evenings. The author keeps a desk of its own while it writes, so
 //! that most calls are about admitted securities and meet their edges.
 
+mod sheets;
+
 use crate::desk::{fresh_table, SLOTS_MAX};
+use crate::interest::{Pair, Sheet, Worked};
+use crate::kept::Kept;
 use crate::protocol::perform;
 use crate::random::Random;
 use crate::record::Record;
 use crate::units::{Range, ID, MOVE_COUNT};
-use crate::words::hear;
+use crate::words::{hear, number_or_pair, Word};
 
 use super::edges::{edge, neighbours, unsettled_count, Ends};
 use super::{day, edges, quote, share, spelling};
@@ -17,6 +21,8 @@ const FOCUS: usize = 24;
 const FOCUS_DRAWS: usize = 900;
 /// A shorter script does not fill the table.
 const FILLING_LINES: usize = 2_000;
+/// In how many of a hundred turns the interest side has its turn.
+const INTEREST_PERCENT: usize = 31;
 /// A shorter script has no long spells of one security.
 const SPELL_LINES: usize = 10_000;
 /// Days of a quiet spell: the longest wait and a little more.
@@ -51,10 +57,17 @@ pub fn script(seed: u64, lines: usize) -> Vec<u8> {
 struct Author {
     random: Random,
     table: Vec<Record>,
+    kept: Kept,
     admitted: usize,
     focus: Vec<usize>,
+    /// Accepted sheets and what they gave.
+    sheets: Vec<(Sheet, Worked)>,
+    /// The pairs of the latest interest lines.
+    pairs: Vec<Pair>,
+    /// How many ends of the interest side's ranges have had their turn.
+    ends: usize,
     text: Vec<u8>,
-    heard: Vec<i64>,
+    heard: Vec<Word>,
     lines: usize,
     written: usize,
 }
@@ -64,8 +77,12 @@ impl Author {
         Author {
             random: Random::new(seed),
             table: fresh_table(SLOTS_MAX),
+            kept: Kept::default(),
             admitted: 0,
             focus: Vec::new(),
+            sheets: Vec::new(),
+            pairs: Vec::new(),
+            ends: 0,
             text: Vec::new(),
             heard: Vec::new(),
             lines,
@@ -113,20 +130,29 @@ impl Author {
         self.text.extend(line);
         self.text.push(b'\n');
         self.written += 1;
-        let table = &mut self.table;
-        hear(line, &mut self.heard, |verb, numbers| {
-            perform(table, verb, numbers)
+        let (table, kept) = (&mut self.table, &mut self.kept);
+        hear(line, &mut self.heard, number_or_pair, |verb, words| {
+            perform(table, kept, verb, words)
         });
         self.admitted = self.table.partition_point(|record| record.id != 0);
     }
 
-    fn say(&mut self, verb: &str, numbers: &[i64]) {
-        let line = spelling::spelled(&mut self.random, verb, numbers);
+    fn say<W: Copy + Into<Word>>(&mut self, verb: &str, words: &[W]) {
+        let line = spelling::spelled(&mut self.random, verb, words);
         self.say_line(&line);
     }
 
-    /// One thing an evening has, by its weight among a thousand.
+    /// One thing an evening has.
     fn turn(&mut self) {
+        if self.random.chance(INTEREST_PERCENT) {
+            self.interest_turn();
+        } else {
+            self.desk_turn();
+        }
+    }
+
+    /// One thing of the desk, by its weight among a thousand.
+    fn desk_turn(&mut self) {
         match self.random.below(1_000) {
             0..=329 => self.day(),
             330..=459 => self.day_at_an_edge(),
@@ -137,7 +163,8 @@ impl Author {
             730..=809 => self.move_side(),
             810..=819 => self.unsettled_move(),
             820..=849 => self.read(),
-            850..=875 => self.admission(),
+            850..=869 => self.admission(),
+            870..=875 => self.wrong_pair(),
             876..=905 => self.unsettled_admission(),
             906..=915 => self.second_admission(),
             916..=929 => self.stranger(),
@@ -257,7 +284,7 @@ impl Author {
     fn day(&mut self) {
         let record = self.record();
         let numbers = day::numbers(&mut self.random, &record);
-        self.say("evaluate", &numbers);
+        self.say_day(&numbers);
     }
 
     /// Many days of one security.
@@ -270,7 +297,7 @@ impl Author {
             } else {
                 day::numbers(&mut self.random, &record)
             };
-            self.say("evaluate", &numbers);
+            self.say_day(&numbers);
         }
     }
 
@@ -317,7 +344,9 @@ impl Author {
             tried
         };
         let figure_at = |value: i64, figure: usize| {
-            let answer = perform(&mut [record], b"evaluate", &with(value))?;
+            let words: Vec<Word> = with(value).into_iter().map(Word::from).collect();
+            let kept = &mut Kept::default();
+            let answer = perform(&mut [record], kept, b"evaluate", &words)?;
             answer.figures().get(figure).copied()
         };
         let is_refused = |value: i64| figure_at(value, 0) != Some(0);
@@ -347,7 +376,7 @@ impl Author {
             let word = 1 + self.random.below(numbers.len() - 1);
             numbers[word] = edge(&mut self.random, day_ends(word), numbers[word]);
         }
-        self.say("evaluate", &numbers);
+        self.say_day(&numbers);
     }
 
     fn quote(&mut self) {
@@ -433,12 +462,24 @@ impl Author {
                 .pick(&[0, -1, i64::MIN, i64::MAX, *ID.end() + 1]),
             _ => -self.record().id,
         };
-        let (verb, mut numbers) = self.any_call();
+        let (verb, mut numbers) = self.any_desk_call();
         numbers[0] = id;
-        self.say(verb, &numbers);
+        if verb == "evaluate" {
+            self.say_day(&numbers);
+        } else {
+            self.say(verb, &numbers);
+        }
     }
 
     fn any_call(&mut self) -> (&'static str, Vec<i64>) {
+        if self.random.chance(INTEREST_PERCENT) {
+            ("interest", self.sheet().numbers())
+        } else {
+            self.any_desk_call()
+        }
+    }
+
+    fn any_desk_call(&mut self) -> (&'static str, Vec<i64>) {
         let record = self.record();
         let random = &mut self.random;
         match random.below(5) {

@@ -4,6 +4,7 @@ mod day;
 mod edges;
 pub mod evening;
 pub mod gateway;
+mod interest;
 mod quote;
 mod share;
 mod spelling;

@@ -1,5 +1,6 @@
 //! Random securities that admission takes, many at the edges of its rules.
 
+use crate::ewma::Model;
 use crate::random::Random;
 use crate::statics::{Statics, SHIFT, STATICS, STEP, X_PR};
 use crate::units::{DAY_NUMBER, ONE_IN_TEN_THOUSANDTHS, PRICE, RATE, VOLATILITY};
@@ -55,23 +56,21 @@ pub fn statics(random: &mut Random) -> Statics {
             ..Z
         };
     }
-    let step = match random.below(3) {
-        0 => random.between(1, 1_000),
-        _ => random.pick(&[1, 10, 25, 50, 100, 100, 250, 999, 1_000]),
-    };
+    let model = model(random);
+    let step = model.step;
     let [first, second, third, s_max] = rate_ladder(random, step);
     Statics {
         lot: random.pick(&[1, 1, 2, 10, 10, 11, 99, 100]),
         step,
-        multiplier: either(random, &[100, 101, 300, 300, 999, 1_000], (100, 1_000)),
-        a_up: either(random, &WEIGHTS, (0, 10_000)),
-        a_down: either(random, &WEIGHTS, (0, 10_000)),
-        wait: either(random, &[1, 1, 2, 3, 5, 249, 250], (1, 10)),
+        multiplier: model.multiplier,
+        a_up: model.a_up,
+        a_down: model.a_down,
+        wait: model.wait,
         horizons: horizons(random),
         liq: either(random, &[0, 50, 50, 499, 500], (0, 500)),
         minima: [first, second, third],
         s_max,
-        x_pr: either(random, &[50, 51, 100, 200, 999, 1_000], (50, 1_000)),
+        x_pr: x_pr(random),
         shift: either(random, &[1, 2, 25, 50, 99, 100], (1, 100)),
         pch_max: band_maximum(random),
         pcl_max: band_maximum(random),
@@ -80,6 +79,25 @@ pub fn statics(random: &mut Random) -> Statics {
         monitoring: random.chance(85),
         is_ewma: random.chance(85),
     }
+}
+
+/// The statics of the volatility model.
+pub fn model(random: &mut Random) -> Model {
+    Model {
+        step: match random.below(3) {
+            0 => random.between(1, 1_000),
+            _ => random.pick(&[1, 10, 25, 50, 100, 100, 250, 999, 1_000]),
+        },
+        multiplier: either(random, &[100, 101, 300, 300, 999, 1_000], (100, 1_000)),
+        a_up: either(random, &WEIGHTS, (0, 10_000)),
+        a_down: either(random, &WEIGHTS, (0, 10_000)),
+        wait: either(random, &[1, 1, 2, 3, 5, 249, 250], (1, 10)),
+    }
+}
+
+/// x_pr, or x_IR.
+pub fn x_pr(random: &mut Random) -> i64 {
+    either(random, &[50, 51, 100, 200, 999, 1_000], (50, 1_000))
 }
 
 /// Statics of which one relation or multiple fails by the least there is.
@@ -119,7 +137,7 @@ pub fn tiny(random: &mut Random) -> (Statics, i64) {
 }
 
 /// One of the listed values, or any from a range.
-fn either(random: &mut Random, listed: &[i64], (low, high): (i64, i64)) -> i64 {
+pub fn either(random: &mut Random, listed: &[i64], (low, high): (i64, i64)) -> i64 {
     if random.chance(65) {
         random.pick(listed)
     } else {

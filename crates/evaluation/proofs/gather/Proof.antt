@@ -7,7 +7,8 @@ use borrow.Author.Tests.{not-true, not-false}
 use lib.ListN.{length}
 use Rattle.paper.specs.Numbers.{rowNumbers}
 use Rattle.paper.specs.Evaluation.{rowFits}
-use Rattle.rows.specs.RowLaws.{place-room, valid-sevens, valid-short, valid-whole, valid-every, InRange}
+use Rattle.exact.specs.LentLaws.{place-room}
+use Rattle.rows.specs.RowLaws.{valid-sevens, valid-short, valid-whole, valid-every, InRange}
 use Rattle.evaluation.proofs.Prices.{fitting}
 use Rattle.evaluation.proofs.Books.{filled-room}
 use Rattle.evaluation.proofs.Gathering.{Gathering, gathering-first, gathering-range, gathering-next, gathering-beyond, gathering-end}
@@ -24,7 +25,7 @@ loop-holds : tie.Need-loop-holds Inv-loop μ-loop
 loop-holds c = gathering-first _ (valid-every _ (c .pre))
 
 room : (c : tie.In-loop Inv-loop μ-loop) → c .before .loop .at + rowNumbers ≤ length (c .before .before .args .rows .now)
-room c = place-room _ _ (valid-sevens _ (valid-whole _ (c .before .before .pre))) (c .before .loop .inv .place) (c .loop-test .taken)
+room c = place-room _ _ _ (valid-sevens _ (valid-whole _ (c .before .before .pre))) (c .before .loop .inv .place) (c .loop-test .taken)
 
 row-at-requires : tie.Need-row-at-requires Inv-loop μ-loop
 row-at-requires c κs = room c

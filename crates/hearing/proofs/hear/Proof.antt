@@ -5,10 +5,10 @@ use Rattle.hearing.proofs.hear.Statement.{statement}
 use Rattle.hearing.proofs.hear.Tie as tie
 
 abbrev Inv-loop : tie.InvT-loop
-Inv-loop s buf₀ at₀ len₀ number numbers₀ c₀ turns₀ buf at len numbers c turns = Unit {0}
+Inv-loop s buf₀ at₀ len₀ number kept numbers₀ c₀ turns₀ buf at len numbers c turns = Unit {0}
 
 abbrev μ-loop : tie.MeasureT-loop
-μ-loop s buf₀ at₀ len₀ number numbers₀ c₀ turns₀ buf at len numbers c turns = turns
+μ-loop s buf₀ at₀ len₀ number kept numbers₀ c₀ turns₀ buf at len numbers c turns = turns
 
 one-more-requires : tie.Need-one-more-requires Inv-loop μ-loop
 one-more-requires c κs = search needs

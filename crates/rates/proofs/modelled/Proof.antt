@@ -4,10 +4,9 @@ use native.Mathlib.Omega.{arith}
 use borrow.Author.Needs.{needs}
 use Rattle.paper.specs.Rates.{modelled}
 use Rattle.paper.proofs.Volatility.{Weighing}
+use Rattle.paper.proofs.Bounds.{volatility-high, wanted-held, tentative-held}
 use Rattle.rates.specs.Asked.{tentativeMost}
 use Rattle.rates.proofs.Statics.{rates-weighing}
-use Rattle.rates.proofs.Volatilities.{volatility-high}
-use Rattle.rates.proofs.Steps.{wanted-held, tentative-held}
 use Rattle.rates.proofs.modelled.Statement.{statement}
 use Rattle.rates.proofs.modelled.Tie as tie
 

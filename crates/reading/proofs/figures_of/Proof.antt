@@ -1,4 +1,5 @@
--- `reading::figures_of` meets its contract: every figure is copied from its place past the first thirteen numbers. Assumes nothing.
+-- `reading::figures_of` meets its contract: every figure is copied from its place, and there is room for all of them past the first thirteen numbers.
+-- Assumes nothing.
 use Prim.Native.Nat.{_≤_, _-_}
 use mathlib.Core.Path.{_≡_}
 use lib.ListN.{length}
@@ -7,13 +8,16 @@ use Rattle.reading.proofs.figures_of.Statement.{statement}
 use Rattle.reading.proofs.figures_of.Tie as tie
 
 abbrev Inv-loop : tie.InvT-loop
-Inv-loop x f₀ i₀ f i = (i ≤ 113) × (length f ≡ 113)
+Inv-loop x from f₀ i₀ f i = (i ≤ 113) × (length f ≡ 113)
 
 abbrev μ-loop : tie.MeasureT-loop
-μ-loop x f₀ i₀ f i = 113 - i
+μ-loop x from f₀ i₀ f i = 126 - i
 
 loop-holds : tie.Need-loop-holds Inv-loop μ-loop
 loop-holds c = search needs
+
+add-loop : tie.Need-add-loop Inv-loop μ-loop
+add-loop c = search needs
 
 add-f : tie.Need-add-f Inv-loop μ-loop
 add-f c = search needs
@@ -49,6 +53,7 @@ figures-of-spec =
     Inv-loop
     μ-loop
     loop-holds
+    add-loop
     add-f
     mul-f
     element-copy-out-f

@@ -1,29 +1,29 @@
 -- `rows::every_row_valid` meets its contract: whether the rows from the place on are in range is always whether all rows are, as each row passed was.
 -- Assumes nothing.
-use mathlib.Core.Path.{_≡_, sym, ap, _∙_}
+use mathlib.Core.Path.{sym, _∙_}
 use Prim.Native.Nat.{_+_, _-_, _≤_}
 use native.Mathlib.Omega.{arith}
 use borrow.Author.Tests.{not-true, not-false}
 use lib.ListN.{length}
-use Rattle.paper.specs.Lists.{every}
 use Rattle.paper.specs.Numbers.{rowNumbers}
-use Rattle.paper.specs.Ranges.{rowsOf, validRow}
-use Rattle.rows.specs.RowLaws.{Place, restOf, place-first, place-room, place-next, rest-first, every-in, every-out, every-end}
+use Rattle.paper.specs.Ranges.{rowAt, rowsOf, validRow}
+use Rattle.exact.specs.LentLaws.{Judging, place-room, judging-first, judging-next, judging-out, judging-end}
+use Rattle.rows.specs.RowLaws.{rest-first}
 use Rattle.rows.proofs.every_row_valid.Statement.{statement}
 use Rattle.rows.proofs.every_row_valid.Tie as tie
 
 abbrev Inv-loop : tie.InvT-loop
-Inv-loop rows at₀ at = Place rows at × (every validRow (restOf rows at) ≡ every validRow (rowsOf rows))
+Inv-loop rows at₀ at = Judging validRow rowAt rowNumbers rows (rowsOf rows) at
 
 abbrev μ-loop : tie.MeasureT-loop
 μ-loop rows at₀ at = length rows - at
 
 loop-holds : tie.Need-loop-holds Inv-loop μ-loop
-loop-holds c = (place-first _, ap (every validRow) (rest-first _))
+loop-holds c = judging-first _ _ _ _ _ (rest-first _)
 
 -- where the row at hand stands
 room : (c : tie.In-loop Inv-loop μ-loop) → c .before .loop .at + rowNumbers ≤ length (c .before .before .args .rows .now)
-room c = place-room _ _ (c .before .before .pre) (c .before .loop .inv .0) (c .loop-test .taken)
+room c = place-room _ _ _ (c .before .before .pre) (c .before .loop .inv .place) (c .loop-test .taken)
 
 row-valid-requires : tie.Need-row-valid-requires Inv-loop μ-loop
 row-valid-requires c κs = room c
@@ -31,7 +31,7 @@ row-valid-requires c κs = room c
 returns : tie.Need-returns Inv-loop μ-loop
 returns c =
     let l = c .before .before in
-    sym (every-out _ _ (room l) (sym (c .before .row-valid .ensures) ∙ not-true _ (c .if1 .taken))) ∙ l .before .loop .inv .1
+    judging-out _ _ _ _ _ _ (omega arith) (l .before .loop .inv) (room l) (sym (c .before .row-valid .ensures) ∙ not-true _ (c .if1 .taken))
 
 add-at : tie.Need-add-at Inv-loop μ-loop
 add-at c = omega (arith, room (c .before .before))
@@ -41,13 +41,11 @@ loop-less c = omega (arith, room (c .before .before))
 
 loop-again : tie.Need-loop-again Inv-loop μ-loop
 loop-again c =
-    let l = c .before .before in (
-      place-next _ _ (l .before .loop .inv .0) (room l),
-      sym (every-in _ _ (room l) (sym (c .before .row-valid .ensures) ∙ not-false _ (c .if1 .left))) ∙ l .before .loop .inv .1,
-    )
+    let l = c .before .before in
+    judging-next _ _ _ _ _ _ (omega arith) (l .before .loop .inv) (room l) (sym (c .before .row-valid .ensures) ∙ not-false _ (c .if1 .left))
 
 returns-2 : tie.Need-returns-2 Inv-loop μ-loop
-returns-2 c = sym (every-end _ _ (c .loop-test .left)) ∙ c .before .loop .inv .1
+returns-2 c = judging-end _ _ _ _ _ _ (omega arith) (c .before .loop .inv) (c .loop-test .left)
 
 pub every-row-valid-spec : {M : Type 1} → statement M
 every-row-valid-spec =

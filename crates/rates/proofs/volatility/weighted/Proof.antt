@@ -5,7 +5,7 @@ use native.Mathlib.Omega.{arith}
 use borrow.Author.Needs.{needs}
 use Rattle.paper.specs.Numbers.{whole}
 use Rattle.paper.specs.Rates.{weighted}
-use Rattle.rates.proofs.Volatilities.{mean-high}
+use Rattle.paper.proofs.Bounds.{mean-high}
 use Rattle.rates.proofs.volatility.weighted.Statement.{statement}
 use Rattle.rates.proofs.volatility.weighted.Tie as tie
 

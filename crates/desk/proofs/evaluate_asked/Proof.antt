@@ -1,0 +1,58 @@
+-- `desk::evaluate_asked` meets its contract: it has the shape that `ShapeWithRows` proves once, at its rule. Assumes nothing.
+use mathlib.Core.Path.{_≡_}
+use mathlib.Core.List.{List}
+use Prim.Native.Nat.{ℕ}
+use lib.IntN.{ℤ}
+use contract.Running.{givenOf, tables, tablesOf}
+use denote.Triple.Spec.{tripleOf}
+use denote.Triple.Table.{entered, cited}
+use denote.Struct.Laws as LL
+use Rattle.paper.specs.declared.AskedDay.{AskedDay}
+use Rattle.paper.specs.declared.Record.{Record}
+use Rattle.paper.specs.Desk.{Call, evaluate, step}
+use Rattle.paper.specs.Terms.{dayOf}
+use Rattle.paper.proofs.AskedDay as D
+use Rattle.paper.proofs.AskedDay.Laws as D′
+use Rattle.security.specs.declared.Slot.{Slot}
+use Rattle.security.specs.declared.Turn.{Turn}
+use Rattle.security.specs.Turns.{slotOf, evaluateTurn, doneBy}
+use Rattle.desk.proofs.Calls.{Take, Put}
+use Rattle.desk.proofs.Shape.{Plain, PlainLaws, of-row}
+use Rattle.desk.proofs.ShapeWithRows.{Rule, meets}
+use Rattle.desk.proofs.Steps.{evaluate-steps}
+use Rattle.desk.proofs.take.Symbol as take-def
+use Rattle.desk.proofs.take.Met as take-thm
+use Rattle.desk.proofs.put.Symbol as put-def
+use Rattle.desk.proofs.put.Met as put-thm
+use Rattle.desk.proofs.asked.Symbol as rule-def
+use Rattle.desk.proofs.asked.Met as rule-thm
+use Rattle.desk.proofs.evaluate_asked as f
+use Rattle.desk.proofs.evaluate_asked.Key as key
+use Rattle.desk.proofs.evaluate_asked.Statement as stated
+use Rattle.desk.proofs.evaluate_asked.Code as code
+
+abbrev P : Plain
+P = of-row D.the-row D′.mir
+
+L : PlainLaws P
+L = record { val = LL.val D.the-type D′.the-laws; tells = LL.tells D.the-type D′.the-laws; lawful = λ 𝓤 H A W. LL.lawful D.the-type D′.the-laws 𝓤 H A W; makes = λ 𝓤 H A W. LL.makes D.the-type D′.the-plain 𝓤 H A }
+
+-- an evaluation of the day that is asked for
+abbrev askedTurn : Slot → AskedDay → List ℤ → Turn
+askedTurn s a rows = evaluateTurn s (dayOf a) rows
+
+abbrev evaluation : ℕ → AskedDay → List ℤ → Call
+evaluation id a rows = evaluate id (dayOf a) rows
+
+asked-steps : (t : List Record) (id : ℕ) (a : AskedDay) (rows : List ℤ) → doneBy t (askedTurn (slotOf t id) a rows) ≡ step (evaluation id a rows) t
+asked-steps t id a rows = evaluate-steps t id (dayOf a) rows
+
+pub evaluate-asked-spec : {M : Type 1} → stated.statement M
+unfolding code.routine tablesOf
+evaluate-asked-spec 𝓤 H 𝓜 𝓖 𝓡 =
+    entered 𝓤 H (tripleOf 𝓤 H (𝓖 .A) f.signature (f.spec 𝓤 H (𝓖 .A) (𝓜 .mem) (𝓡 .run)))
+    (tables 𝓤 H 𝓜 𝓡 code.env .C) (tables 𝓤 H 𝓜 𝓡 code.env .Λ) key.name code.function (code.unfolded 𝓤 H 𝓜 𝓡)
+    (meets P L askedTurn evaluation asked-steps rule-def.name 𝓤 H (𝓖 .A) (givenOf 𝓤 H 𝓜 𝓖) (𝓜 .mem) (𝓡 .run) (tablesOf 𝓤 H 𝓜 (tables 𝓤 H 𝓜 𝓡 code.env))
+    (cited 𝓤 H (Take 𝓤 H (𝓖 .A) (𝓜 .mem) (𝓡 .run)) 𝓜 𝓡 code.env take-def.name take-def.routine code.calls-desk·take (take-thm.met 𝓤 H 𝓜 𝓖 𝓡))
+    (cited 𝓤 H (Rule P L askedTurn evaluation asked-steps rule-def.name 𝓤 H (𝓖 .A)) 𝓜 𝓡 code.env rule-def.name rule-def.routine code.calls-desk·asked (rule-thm.met 𝓤 H 𝓜 𝓖 𝓡))
+    (cited 𝓤 H (Put 𝓤 H (𝓖 .A) (𝓜 .mem) (𝓡 .run)) 𝓜 𝓡 code.env put-def.name put-def.routine code.calls-desk·put (put-thm.met 𝓤 H 𝓜 𝓖 𝓡)))

@@ -1,0 +1,40 @@
+-- The answer by what is refused: 6, then 14, else the figures, for which nothing more is asked. Assumes nothing.
+use mathlib.Core.Path.{_≡_}
+use mathlib.Core.Bool.{true, false, _&&_}
+use mathlib.Core.List.{List}
+use lib.Dec.{ltb}
+use lib.IntN.{ℤ}
+use borrow.Author.Tests.{ltb-true}
+use Rattle.paper.specs.declared.Interest.{Interest}
+use Rattle.paper.specs.declared.Verdict.the-variants.{OutOfRange, NotAscending}
+use Rattle.paper.specs.Interest.{validInterest, validKeys, maturitiesOf, ascending, interestChecks, refusedInterest, acceptedInterest, interestAnswer}
+use Rattle.paper.specs.Verdicts.{isDone, firstOf}
+use Rattle.paper.proofs.Logic.{and-left, and-right}
+use Rattle.paper.proofs.InterestRanges.{interest-range}
+use Rattle.forward.specs.Pair.{PairRange}
+
+module _ (i : Interest) (numbers : List ℤ) where
+  -- what is not refused gives the ranges that the rules ask for
+  pub answer-keys : (validInterest i && validKeys numbers) ≡ true → validKeys numbers ≡ true
+  answer-keys e = and-right (validInterest i) (validKeys numbers) e
+
+  pub answer-pair : (validInterest i && validKeys numbers) ≡ true → (ascending (maturitiesOf numbers) && ltb (i .ym) (i .yn)) ≡ true → PairRange i
+  answer-pair e o =
+      record {
+        given = interest-range i (and-left (validInterest i) (validKeys numbers) e);
+        order = ltb-true (i .ym) (i .yn) (and-right (ascending (maturitiesOf numbers)) (ltb (i .ym) (i .yn)) o);
+      }
+
+  pub answer-range : (validInterest i && validKeys numbers) ≡ false → refusedInterest OutOfRange ≡ interestAnswer i numbers
+  unfolding interestAnswer interestChecks firstOf isDone
+  answer-range e = rw e
+
+  pub answer-order : (validInterest i && validKeys numbers) ≡ true → (ascending (maturitiesOf numbers) && ltb (i .ym) (i .yn)) ≡ false
+      → refusedInterest NotAscending ≡ interestAnswer i numbers
+  unfolding interestAnswer interestChecks firstOf isDone
+  answer-order e o = rw (e, o)
+
+  pub answer-figures : (validInterest i && validKeys numbers) ≡ true → (ascending (maturitiesOf numbers) && ltb (i .ym) (i .yn)) ≡ true
+      → acceptedInterest i (maturitiesOf numbers) ≡ interestAnswer i numbers
+  unfolding interestAnswer interestChecks firstOf isDone
+  answer-figures e o = rw (e, o)

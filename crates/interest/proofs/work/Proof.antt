@@ -1,0 +1,66 @@
+-- `interest::work` meets its contract: 6, then 14, else the figures. Assumes nothing.
+use mathlib.Core.Path.{_≡_, sym, _∙_}
+use mathlib.Core.Bool.{true, _&&_}
+use lib.Dec.{ltb}
+use borrow.Author.Needs.{needs}
+use Rattle.paper.specs.Interest.{validInterest, validKeys, maturitiesOf, ascending}
+use Rattle.paper.proofs.Logic.{not-true, not-false}
+use Rattle.maturities.specs.KeyLaws.{valid-whole, valid-eights}
+use Rattle.interest.proofs.Answers.{answer-keys, answer-pair, answer-range, answer-order, answer-figures}
+use Rattle.interest.proofs.work.Statement.{statement}
+use Rattle.interest.proofs.work.Tie as tie
+
+-- the test of 6, and that it passed; the test of 14 passed
+rule : (c : tie.After-keys-valid)
+    → (c .before .interest-valid .result && c .keys-valid .result) ≡ (validInterest (c .before .before .args .i) && validKeys (c .before .before .args .numbers .now))
+rule c = rw (c .before .interest-valid .ensures, c .keys-valid .ensures)
+
+ruled : (c : tie.Else1) → (validInterest (c .before .before .before .args .i) && validKeys (c .before .before .before .args .numbers .now)) ≡ true
+ruled c = sym (rule (c .before)) ∙ not-false _ (c .if1 .left)
+
+ordered : (c : tie.Else2)
+    → (ascending (maturitiesOf (c .before .before .before .before .before .args .numbers .now))
+    && ltb (c .before .before .before .before .before .args .i .ym) (c .before .before .before .before .before .args .i .yn)) ≡ true
+ordered c = sym (c .before .in-order .ensures) ∙ not-false _ (c .if2 .left)
+
+interest-valid-requires : tie.Need-interest-valid-requires
+interest-valid-requires c κs = search needs
+
+keys-valid-requires : tie.Need-keys-valid-requires
+keys-valid-requires c κs = search needs
+
+refused-requires : tie.Need-refused-requires
+refused-requires c κs = search needs
+
+returns : tie.Need-returns
+returns c = c .refused .ensures ∙ answer-range _ _ (not-true _ (rw (rule (c .before .before)) at (c .before .if1 .taken)))
+
+in-order-requires : tie.Need-in-order-requires
+in-order-requires c κs = let keys = answer-keys _ _ (ruled c) in valid-eights _ (valid-whole _ keys)
+
+refused-requires-2 : tie.Need-refused-requires-2
+refused-requires-2 c κs = search needs
+
+returns-2 : tie.Need-returns-2
+returns-2 c = c .refused2 .ensures ∙ answer-order _ _ (ruled (c .before .before .before)) (not-true _ (rw (c .before .before .in-order .ensures) at (c .before .if2 .taken)))
+
+accepted-requires : tie.Need-accepted-requires
+accepted-requires c κs =
+    let valid = ruled (c .before .before) in (answer-pair _ _ valid (ordered c), answer-keys _ _ valid)
+
+returns-3 : tie.Need-returns-3
+returns-3 c = c .accepted .ensures ∙ answer-figures _ _ (ruled (c .before .before .before)) (ordered (c .before))
+
+pub work-spec : {M : Type 1} → statement M
+work-spec =
+    tie.close
+    (tie.spec
+    interest-valid-requires
+    keys-valid-requires
+    refused-requires
+    returns
+    in-order-requires
+    refused-requires-2
+    returns-2
+    accepted-requires
+    returns-3)

@@ -1,0 +1,64 @@
+-- What the figures of a key maturity are, in W-201's words: each the least that is asked for, with no maximum. Assumes nothing.
+use mathlib.Core.Path.{_≡_, refl}
+use mathlib.Core.Bool.{Bool, true, false}
+use mathlib.Core.List.{List, _∷_}
+use Prim.Native.Nat.{ℕ, _+_, _*_, _%_, _≤_, max}
+use native.Mathlib.Nat.{le-trans}
+use native.Mathlib.Omega.{arith}
+use lib.IntN.{ℤ, pos, negsuc}
+use lib.Signed.{leZ}
+use borrow.Author.Tests.{leb-true, le-leb}
+use Rattle.paper.specs.declared.Tentative.{Tentative}
+use Rattle.paper.specs.declared.Maturity.{Maturity}
+use Rattle.paper.specs.declared.Interest.{Interest}
+use Rattle.paper.specs.declared.MaturityFigures.{MaturityFigures}
+use Rattle.paper.specs.Numbers.{hundred}
+use Rattle.paper.specs.Rates.{leastStep, IsLeastStep}
+use Rattle.paper.specs.Interest.{repoVolatility, repoWanted, repoTentative, atLeastZero, estimate, maturityFigures}
+use Rattle.paper.specs.InterestExact.{Evening, Carried, keyGiven, carriedAfter}
+use Rattle.paper.proofs.Search.{step-is}
+
+-- t is the least multiple of h with 100·t ≥ q·σ
+pub repo-wanted-is : (i : Interest) (k : Maturity) → 1 ≤ i .h → IsLeastStep (i .h) hundred (i .model .q * repoVolatility i k) (repoWanted i k)
+unfolding repoWanted
+repo-wanted-is i k h = step-is (i .h) hundred (i .model .q * repoVolatility i k) h (omega arith)
+
+-- an estimate is the least multiple of h at or above both tentative + liquidity and its minimum, of either sign
+pub record IsEstimate (h sum : ℕ) (minimum : ℤ) (v : ℕ) : Type 0 where
+  pub multiple : v % h ≡ 0
+  pub over-sum : sum ≤ v
+  pub over-minimum : leZ minimum (pos v) ≡ true
+  pub least : (j : ℕ) → sum ≤ j * h → leZ minimum (pos (j * h)) ≡ true → v ≤ j * h
+
+pub estimate-is : (i : Interest) (k : Maturity) (minimum : ℤ) → 1 ≤ i .h
+    → IsEstimate (i .h) (repoTentative i k .bp + i .liq) minimum (estimate i k minimum)
+unfolding estimate
+estimate-is i k minimum h =
+    record {
+      multiple = is .multiple;
+      over-sum = omega (arith, is .enough);
+      over-minimum = covered minimum _ (omega (arith, is .enough));
+      least = λ j s m. is .least j (omega (arith, s, covering minimum (j * i .h) m));
+    }
+  where
+    sum : ℕ
+    sum = repoTentative i k .bp + i .liq
+
+    is : IsLeastStep (i .h) 1 (max sum (atLeastZero minimum)) (leastStep (i .h) 1 (max sum (atLeastZero minimum)))
+    is = step-is (i .h) 1 (max sum (atLeastZero minimum)) h (omega arith)
+
+    -- a number is at or above a minimum of either sign exactly where it is at or above it counted from 0
+    covered : (z : ℤ) (n : ℕ) → atLeastZero z ≤ n → leZ z (pos n) ≡ true
+    covered (pos m) n l = le-leb m n l
+    covered (negsuc m) n l = refl
+
+    covering : (z : ℤ) (n : ℕ) → leZ z (pos n) ≡ true → atLeastZero z ≤ n
+    covering (pos m) n e = leb-true m n e
+    covering (negsuc m) n e = omega arith
+
+-- what is carried from evening to evening (demand 3) is what each evening answers
+pub carried-answered : (first : Carried) (e : Evening) (es : List Evening)
+    → (maturityFigures (e .given) (keyGiven (carriedAfter first es) (e .key)) .volatility ≡ carriedAfter first (e ∷ es) .volatility)
+    × (maturityFigures (e .given) (keyGiven (carriedAfter first es) (e .key)) .tentative ≡ carriedAfter first (e ∷ es) .tentative)
+unfolding maturityFigures carriedAfter
+carried-answered first e es = (refl, refl)

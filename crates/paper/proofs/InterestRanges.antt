@@ -1,0 +1,243 @@
+-- The interest side's figures stay in range: those of an accepted evening are in the ranges of the next (W-201). Assumes nothing.
+use mathlib.Core.Path.{_≡_, refl}
+use mathlib.Core.Bool.{Bool, true, false, _&&_}
+use mathlib.Core.List.{List, [], _∷_, map}
+use Prim.Native.Nat.{ℕ, zero, suc, _+_, _*_, _≤_, _<_, max}
+use native.Mathlib.Nat.{mul-le-mul}
+use native.Mathlib.Omega.{arith}
+use lib.Dec.{leb}
+use lib.IntN.{ℤ, pos, negsuc, natAbs, _+ℤ_, _-ℤ_}
+use lib.ListN.{getD}
+use borrow.Author.Tests.{leb-true, le-leb}
+use Rattle.paper.specs.declared.Interest.{Interest}
+use Rattle.paper.specs.declared.Maturity.{Maturity}
+use Rattle.paper.specs.declared.MaturityFigures.{MaturityFigures}
+use Rattle.paper.specs.Lists.{every}
+use Rattle.paper.specs.Numbers.{hundred, stepMost, multiplierMost, divisorLeast, divisorMost, minimumMost, maturityMost, ageMost, repoLeast, repoMost, repoVolatilityMost, repoTentativeMost}
+use Rattle.paper.specs.Ranges.{withinZ, natural}
+use Rattle.paper.specs.Interest.{LentKey, validKey, maturityOf, validInterest, apartZ, changeOf, repoVolatility, repoWanted, repoTentative, atLeastZero, estimate, upward, downward, maturityFigures, wholeKeys, validKeys, keysOf, maturitiesOf, noFigures}
+use Rattle.paper.proofs.Logic.{clash, and-left, and-right, and-both}
+use Rattle.paper.proofs.Differences.{sum-size, minus-size}
+use Rattle.paper.proofs.Volatility.{Weighing}
+use Rattle.paper.proofs.Bounds.{volatility-high, step-short, tentative-held, age-held}
+
+-- an estimate is less than a step, of at most 1,000, above the greatest tentative rate with the greatest liquidity
+abbrev pub estimateMost : ℕ
+estimateMost = 211977
+
+-- ---- each figure
+
+-- two rates in range are at most 19,998 apart
+pub change-high : (k : Maturity) → natAbs (k .r) ≤ natAbs repoMost → natAbs (k .r1) ≤ natAbs repoMost → natAbs (k .r2) ≤ natAbs repoMost
+    → changeOf k ≤ repoVolatilityMost
+unfolding changeOf apartZ
+change-high k r r1 r2 = omega (arith, minus-size (k .r) (k .r1), minus-size (k .r) (k .r2))
+
+pub repo-volatility-high : (i : Interest) (k : Maturity) → Weighing (i .model) → k .volatility ≤ repoVolatilityMost → changeOf k ≤ repoVolatilityMost
+    → repoVolatility i k ≤ repoVolatilityMost
+unfolding repoVolatility
+repo-volatility-high i k w s r =
+    volatility-high (i .model) (i .b) (k .tentative .bp) (changeOf k) (k .volatility) repoVolatilityMost w s r
+
+pub repo-wanted-high : (i : Interest) (k : Maturity) → 0 < i .h → i .h ≤ stepMost → i .model .q ≤ multiplierMost → repoVolatility i k ≤ repoVolatilityMost
+    → repoWanted i k ≤ repoTentativeMost
+unfolding repoWanted
+repo-wanted-high i k p h q s =
+    omega (arith, step-short (i .h) hundred (i .model .q * repoVolatility i k) p (omega arith), mul-le-mul q s)
+
+pub repo-tentative-high : (i : Interest) (k : Maturity) → repoWanted i k ≤ repoTentativeMost → k .tentative .bp ≤ repoTentativeMost
+    → repoTentative i k .bp ≤ repoTentativeMost
+unfolding repoTentative
+repo-tentative-high i k t old = tentative-held (i .h) (i .wait) (repoWanted i k) (k .tentative) repoTentativeMost t old
+
+pub repo-age-high : (i : Interest) (k : Maturity) → repoTentative i k .age ≤ ageMost
+unfolding repoTentative
+repo-age-high i k = age-held (i .h) (i .wait) (repoWanted i k) (k .tentative)
+
+-- a minimum of either sign is no greater than the greatest tentative rate with the greatest liquidity
+pub estimate-high : (i : Interest) (k : Maturity) (minimum : ℤ) → 0 < i .h → i .h ≤ stepMost → repoTentative i k .bp ≤ repoTentativeMost
+    → i .liq ≤ minimumMost → natAbs minimum ≤ repoTentativeMost + minimumMost → estimate i k minimum ≤ estimateMost
+unfolding estimate
+estimate-high i k minimum p h t liq m =
+    omega (arith, step-short (i .h) 1 (max (repoTentative i k .bp + i .liq) (atLeastZero minimum)) p (omega arith), size minimum)
+  where
+    size : (z : ℤ) → atLeastZero z ≤ natAbs z
+    size (pos n) = omega arith
+    size (negsuc n) = omega arith
+
+pub upward-high : (i : Interest) (k : Maturity) → 0 < i .h → i .h ≤ stepMost → repoTentative i k .bp ≤ repoTentativeMost → i .liq ≤ minimumMost
+    → i .mm ≤ minimumMost → upward i k ≤ estimateMost
+unfolding upward
+upward-high i k p h t liq m = estimate-high i k (pos (i .mm)) p h t liq (omega arith)
+
+pub downward-high : (i : Interest) (k : Maturity) → 0 < i .h → i .h ≤ stepMost → repoTentative i k .bp ≤ repoTentativeMost → i .liq ≤ minimumMost
+    → i .sec ≤ minimumMost → natAbs (k .index) ≤ natAbs repoMost → natAbs (k .r) ≤ natAbs repoMost → downward i k ≤ estimateMost
+unfolding downward
+downward-high i k p h t liq m x r =
+    estimate-high i k ((k .index -ℤ k .r) +ℤ pos (i .sec)) p h t liq
+    (omega (arith, sum-size (k .index -ℤ k .r) (pos (i .sec)), minus-size (k .index) (k .r)))
+
+-- ---- what is in range
+
+-- a rate in range lies at most 9,999 from 0
+pub repo-size : (x : ℤ) → withinZ repoLeast repoMost x ≡ true → natAbs x ≤ natAbs repoMost
+repo-size (pos n) v = leb-true n 9999 v
+repo-size (negsuc n) v = omega (arith, leb-true n 9998 (and-left (leb n 9998) true v))
+
+-- a number in a range from 0 is read as it is
+pub natural-high : (x : ℤ) (most : ℕ) → withinZ (pos 0) (pos most) x ≡ true → natural x ≤ most
+unfolding natural
+natural-high (pos n) most v = leb-true n most (and-right (leb 0 n) _ v)
+natural-high (negsuc n) most v = absurd (clash false v refl)
+
+natural-within : (n most : ℕ) → n ≤ most → withinZ (pos 0) (pos most) (pos n) ≡ true
+natural-within n most h = and-both _ _ (le-leb 0 n (omega arith)) (le-leb n most h)
+
+-- what an evening in range gives beside its key maturities
+pub record InterestRange (i : Interest) : Type 0 where
+  pub ym : i .ym ≤ maturityMost
+  pub yn : i .yn ≤ maturityMost
+  pub weighs : Weighing (i .model)
+  pub multiplier : i .model .q ≤ multiplierMost
+  pub step-low : 1 ≤ i .h
+  pub step-high : i .h ≤ stepMost
+  pub liq : i .liq ≤ minimumMost
+  pub mm : i .mm ≤ minimumMost
+  pub sec : i .sec ≤ minimumMost
+  pub divisor-low : divisorLeast ≤ i .xir
+  pub divisor-high : i .xir ≤ divisorMost
+  pub money : natAbs (i .money) ≤ natAbs repoMost
+  pub secrate : natAbs (i .secrate) ≤ natAbs repoMost
+
+pub interest-range : (i : Interest) → validInterest i ≡ true → InterestRange i
+unfolding validInterest
+interest-range i v =
+    record {
+      ym = leb-true _ _ (search (v, and-left, and-right) depth 40);
+      yn = leb-true _ _ (search (v, and-left, and-right) depth 40);
+      weighs =
+          record {
+            q = leb-true _ _ (search (v, and-left, and-right) depth 40);
+            aup = leb-true _ _ (search (v, and-left, and-right) depth 40);
+            adown = leb-true _ _ (search (v, and-left, and-right) depth 40);
+          };
+      multiplier = leb-true _ _ (search (v, and-left, and-right) depth 40);
+      step-low = leb-true _ _ (search (v, and-left, and-right) depth 40);
+      step-high = leb-true _ _ (search (v, and-left, and-right) depth 40);
+      liq = leb-true _ _ (search (v, and-left, and-right) depth 40);
+      mm = leb-true _ _ (search (v, and-left, and-right) depth 40);
+      sec = leb-true _ _ (search (v, and-left, and-right) depth 40);
+      divisor-low = leb-true _ _ (search (v, and-left, and-right) depth 40);
+      divisor-high = leb-true _ _ (search (v, and-left, and-right) depth 40);
+      money = repo-size (i .money) (search (v, and-left, and-right) depth 40);
+      secrate = repo-size (i .secrate) (search (v, and-left, and-right) depth 40);
+    }
+
+-- a key maturity in range
+pub record KeyRange (k : Maturity) : Type 0 where
+  pub t : k .t ≤ maturityMost
+  pub r : natAbs (k .r) ≤ natAbs repoMost
+  pub r1 : natAbs (k .r1) ≤ natAbs repoMost
+  pub r2 : natAbs (k .r2) ≤ natAbs repoMost
+  pub index : natAbs (k .index) ≤ natAbs repoMost
+  pub volatility : k .volatility ≤ repoVolatilityMost
+  pub tentative : k .tentative .bp ≤ repoTentativeMost
+  pub age : k .tentative .age ≤ ageMost
+
+pub key-range : (k : LentKey) → validKey k ≡ true → KeyRange (maturityOf k)
+unfolding validKey maturityOf
+key-range k v =
+    record {
+      t = natural-high (k .t) maturityMost (search (v, and-left, and-right) depth 40);
+      r = repo-size (k .r) (search (v, and-left, and-right) depth 40);
+      r1 = repo-size (k .r1) (search (v, and-left, and-right) depth 40);
+      r2 = repo-size (k .r2) (search (v, and-left, and-right) depth 40);
+      index = repo-size (k .index) (search (v, and-left, and-right) depth 40);
+      volatility = natural-high (k .volatility) repoVolatilityMost (search (v, and-left, and-right) depth 40);
+      tentative = natural-high (k .tentative) repoTentativeMost (search (v, and-left, and-right) depth 40);
+      age = natural-high (k .age) ageMost (search (v, and-left, and-right) depth 40);
+    }
+
+-- ---- all figures of an evening
+
+pub record FiguresHeld (f : MaturityFigures) : Type 0 where
+  pub change : f .change ≤ repoVolatilityMost
+  pub volatility : f .volatility ≤ repoVolatilityMost
+  pub tentative : f .tentative .bp ≤ repoTentativeMost
+  pub age : f .tentative .age ≤ ageMost
+  pub up : f .up ≤ estimateMost
+  pub down : f .down ≤ estimateMost
+
+module _ (i : Interest) (k : Maturity) (g : InterestRange i) (h : KeyRange k) where
+  pub change-held : changeOf k ≤ repoVolatilityMost
+  change-held = change-high k (h .r) (h .r1) (h .r2)
+
+  pub volatility-held : repoVolatility i k ≤ repoVolatilityMost
+  volatility-held = repo-volatility-high i k (g .weighs) (h .volatility) change-held
+
+  pub wanted-held : repoWanted i k ≤ repoTentativeMost
+  wanted-held = repo-wanted-high i k (g .step-low) (g .step-high) (g .multiplier) volatility-held
+
+  pub repo-tentative-held : repoTentative i k .bp ≤ repoTentativeMost
+  repo-tentative-held = repo-tentative-high i k wanted-held (h .tentative)
+
+  pub figures-held : FiguresHeld (maturityFigures i k)
+  unfolding maturityFigures
+  figures-held =
+      record {
+        change = change-held;
+        volatility = volatility-held;
+        tentative = repo-tentative-held;
+        age = repo-age-high i k;
+        up = upward-high i k (g .step-low) (g .step-high) repo-tentative-held (g .liq) (g .mm);
+        down = downward-high i k (g .step-low) (g .step-high) repo-tentative-held (g .liq) (g .sec) (h .index) (h .r);
+      }
+
+-- of eight numbers in range
+pub accepted-held : (i : Interest) (k : LentKey) → validInterest i ≡ true → validKey k ≡ true → FiguresHeld (maturityFigures i (maturityOf k))
+accepted-held i k v w = figures-held i (maturityOf k) (interest-range i v) (key-range k w)
+
+-- of every key maturity of an evening, and of the zeros past the last
+pub all-held : (i : Interest) (numbers : List ℤ) → validInterest i ≡ true → validKeys numbers ≡ true
+    → (n : ℕ) → FiguresHeld (getD (map (maturityFigures i) (maturitiesOf numbers)) n noFigures)
+unfolding validKeys maturitiesOf every
+all-held i numbers v w n = each (keysOf numbers) (and-right (wholeKeys numbers) (every validKey (keysOf numbers)) w) n
+  where
+    each : (ks : List LentKey) → every validKey ks ≡ true → (n : ℕ) → FiguresHeld (getD (map (maturityFigures i) (map maturityOf ks)) n noFigures)
+    each [] e n =
+        record { change = omega arith; volatility = omega arith; tentative = omega arith; age = omega arith; up = omega arith; down = omega arith }
+    each (k ∷ ks) e zero = accepted-held i k v (and-left (validKey k) (every validKey ks) e)
+    each (k ∷ ks) e (suc n) = each ks (and-right (validKey k) (every validKey ks) e) n
+
+-- the next evening's numbers, with the last one's figures
+unfoldable pub nextKey : MaturityFigures → LentKey → LentKey
+nextKey f k =
+    record {
+      t = k .t;
+      r = k .r;
+      r1 = k .r1;
+      r2 = k .r2;
+      index = k .index;
+      volatility = pos (f .volatility);
+      tentative = pos (f .tentative .bp);
+      age = pos (f .tentative .age);
+    }
+
+-- the next evening does not refuse the figures of an accepted one
+pub next-valid : (i : Interest) (k next : LentKey) → validInterest i ≡ true → validKey k ≡ true → validKey next ≡ true
+    → validKey (nextKey (maturityFigures i (maturityOf k)) next) ≡ true
+unfolding validKey nextKey
+next-valid i k next v w n =
+    let held : FiguresHeld (maturityFigures i (maturityOf k)) = accepted-held i k v w in
+    let given : rates ≡ true = search (n, and-left, and-right) depth 40 in
+    and-both _ _ (and-both _ _ (and-both rates _ given (natural-within _ _ (held .volatility))) (natural-within _ _ (held .tentative)))
+    (natural-within _ _ (held .age))
+  where
+    -- what the next evening gives of its own
+    rates : Bool
+    rates =
+        withinZ (pos 0) (pos maturityMost) (next .t)
+        && withinZ repoLeast repoMost (next .r)
+        && withinZ repoLeast repoMost (next .r1)
+        && withinZ repoLeast repoMost (next .r2)
+        && withinZ repoLeast repoMost (next .index)

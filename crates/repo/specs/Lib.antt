@@ -1,0 +1,2 @@
+pub mod Lift
+pub mod Estimates

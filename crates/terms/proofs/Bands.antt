@@ -1,0 +1,91 @@
+-- W-201, "The security's evaluation may take these limits or given ones": what the band of a term is where a pair was worked out, and that a pair that was
+-- refused makes its day out of range (6). Assumes nothing.
+use mathlib.Core.Path.{_≡_, refl}
+use mathlib.Core.Bool.{Bool, true, false, not, _&&_, _||_}
+use mathlib.Core.List.{List}
+use Prim.Native.Nat.{ℕ}
+use lib.Dec.{leb}
+use lib.IntN.{ℤ}
+use Rattle.paper.specs.declared.AskedDay.{AskedDay}
+use Rattle.paper.specs.declared.AskedTerm.{AskedTerm}
+use Rattle.paper.specs.declared.Band.{Band}
+use Rattle.paper.specs.declared.Band.the-variants as band
+use Rattle.paper.specs.declared.Interest.{Interest}
+use Rattle.paper.specs.declared.Verdict.the-variants.{Done}
+use Rattle.paper.specs.declared.Worked.{Worked}
+use Rattle.paper.specs.Numbers.{dayMost, behindMost, aheadMost, termDaysMost}
+use Rattle.paper.specs.Interest.{maturitiesOf, lowerLimit, upperLimit, interestChecks, acceptedInterest, refusedInterest, interestAnswer}
+use Rattle.paper.specs.Ranges.{validTerm, validRows, validDay}
+use Rattle.paper.specs.Terms.{workedRepo, repoOf, termOf, dayOf}
+use Rattle.paper.specs.Verdicts.{isDone, firstOf}
+use Rattle.paper.proofs.Logic.{clash, not-true}
+
+-- a term with a pair that was worked out
+abbrev pub withPair : ℕ → Worked → AskedTerm
+withPair k w = record { k = k; band = band.Worked w }
+
+-- ---- a pair that was accepted
+
+-- its limits are judged as given ones are: they make the same term
+pub worked-as-given : (k : ℕ) (w : Worked) → w .verdict ≡ Done
+    → termOf (withPair k w) ≡ termOf (record { k = k; band = band.Given (record { low = w .lower; high = w .upper }) })
+unfolding termOf repoOf workedRepo isDone
+worked-as-given k w e = rw e
+
+-- what the interest side accepts has exactly the limits of clause 16.2
+pub accepted-limits : (k : ℕ) (i : Interest) (numbers : List ℤ) → firstOf (interestChecks i numbers) ≡ Done
+    → termOf (withPair k (interestAnswer i numbers .pair))
+    ≡ record { k = k; low = lowerLimit i (maturitiesOf numbers); high = upperLimit i (maturitiesOf numbers) }
+unfolding termOf repoOf workedRepo isDone interestAnswer acceptedInterest
+accepted-limits k i numbers e = rw e
+
+-- ---- a pair that was refused
+
+-- whether a band is a pair that was refused
+abbrev pub isRefused : Band → Bool
+isRefused (band.Given x) = false
+isRefused (band.Worked w) = not (isDone (w .verdict))
+
+-- where one test fails, all of them do
+one-fails : (p q : Bool) → (p && false && q) ≡ false
+one-fails true q = refl
+one-fails false q = refl
+
+-- it has no band, whatever the term's days
+pub refused-out : (x : AskedTerm) → isRefused (x .band) ≡ true → validTerm (termOf x) ≡ false
+unfolding termOf repoOf workedRepo validTerm
+refused-out x e = go (x .band) e
+  where
+    go : (b : Band) → isRefused b ≡ true → validTerm (record { k = x .k; low = repoOf b .low; high = repoOf b .high }) ≡ false
+    go (band.Given r) e = absurd (clash false e refl)
+    go (band.Worked w) e = rw (not-true (isDone (w .verdict)) e) (one-fails (leb (x .k) termDaysMost && true) true)
+
+-- the pair that the interest side refuses is such a band
+pub refused-pair : (i : Interest) (numbers : List ℤ) → isDone (firstOf (interestChecks i numbers)) ≡ false
+    → isRefused (band.Worked (interestAnswer i numbers .pair)) ≡ true
+unfolding interestAnswer refusedInterest
+refused-pair i numbers e = rw (e, e)
+
+pub refused-pair-out : (k : ℕ) (i : Interest) (numbers : List ℤ) → isDone (firstOf (interestChecks i numbers)) ≡ false
+    → validTerm (termOf (withPair k (interestAnswer i numbers .pair))) ≡ false
+refused-pair-out k i numbers e = refused-out (withPair k (interestAnswer i numbers .pair)) (refused-pair i numbers e)
+
+-- any one of them makes the day out of range
+pub refused-day : (a : AskedDay) (rows : List ℤ)
+    → (isRefused (a .first .band) || isRefused (a .second .band) || isRefused (a .third .band)) ≡ true → validDay (dayOf a) rows ≡ false
+unfolding dayOf validDay
+refused-day a rows e =
+    rw (any (isRefused (a .first .band)) (isRefused (a .second .band)) (isRefused (a .third .band)) e (refused-out (a .first)) (refused-out (a .second))
+    (refused-out (a .third)))
+    (one-fails (leb (a .day) dayMost && leb (a .b) behindMost && leb (a .m) aheadMost) (validRows rows))
+  where
+    last-fails : (p : Bool) → (p && false) ≡ false
+    last-fails true = refl
+    last-fails false = refl
+
+    any : (x y z : Bool) {p q r : Bool} → (x || y || z) ≡ true → (x ≡ true → p ≡ false) → (y ≡ true → q ≡ false) → (z ≡ true → r ≡ false)
+        → (p && q && r) ≡ false
+    any true y z {p} {q} {r} e f g h = rw (f refl) refl
+    any false true z {p} {q} {r} e f g h = rw (g refl) (one-fails p r)
+    any false false true {p} {q} {r} e f g h = rw (h refl) (last-fails (p && q))
+    any false false false e f g h = absurd (clash false e refl)
