@@ -37,7 +37,7 @@ fn kinds(answers: Answers) -> Vec<String> {
 /// The kind of one answer by its first word.
 fn kind(answers: Answers, line: &[u8]) -> String {
     let word = crate::words::words(line).next().unwrap_or_default();
-    let figure = crate::words::number(word).is_some_and(|number| number >= 0);
+    let figure = matches!(crate::words::number(word), Some(0..));
     if answers == Answers::Gateway && figure {
         "figures".to_string()
     } else {

@@ -138,7 +138,7 @@ fn median(a: i64, b: i64, c: i64) -> i64 {
 /// Whether a day's rows have a permitted length and every value in range.
 pub fn rows_are_in_range(rows: &[i64]) -> bool {
     rows.len() <= ROWS_MAX
-        && rows.len().is_multiple_of(ROW)
+        && rows.len() % ROW == 0
         && rows
             .chunks_exact(ROW)
             .all(|row| Row::from_numbers(row).is_in_range())

@@ -7,6 +7,7 @@ use crate::limits::{band_limit, range_limit, BandInputs};
 use crate::rates;
 use crate::record::{is_price, is_tentative, Side};
 use crate::refusal::Refusal;
+use crate::slices::split_last;
 use crate::statics::{Statics, STATICS};
 use crate::units::{DAYS_AHEAD, DAYS_CLOSED, MOVE_COUNT, RATE, REPO_RATE};
 use crate::words::{number, serve};
@@ -78,7 +79,7 @@ pub fn plain_band_limit(
 /// The figure of a call, or minus the refusal number; none where a word and
 /// its numbers name no call.
 pub fn perform(verb: &[u8], numbers: &[i64]) -> Option<i64> {
-    let (values, statics) = numbers.split_last_chunk::<STATICS>()?;
+    let (values, statics) = split_last::<STATICS, _>(numbers)?;
     let result = match (verb, values) {
         (b"rate", &[tentative, m, level]) => level_rate(tentative, m, level, statics),
         (b"range", &[p, rate, side]) => fresh_range_limit(p, rate, side, statics),

@@ -176,7 +176,7 @@ fn are_in_range(numbers: &[i64], ranges: &[Range]) -> bool {
 fn maturities_are_in_range(maturities: &[i64]) -> bool {
     !maturities.is_empty()
         && maturities.len() <= MATURITIES_MAX
-        && maturities.len().is_multiple_of(MATURITY)
+        && maturities.len() % MATURITY == 0
         && maturities
             .chunks_exact(MATURITY)
             .all(|maturity| are_in_range(maturity, &MATURITY_RANGES))
@@ -242,7 +242,8 @@ impl Sheet {
 
     /// Key maturities strictly ascending, Yn after Ym.
     fn is_ascending(&self) -> bool {
-        self.keys.is_sorted_by(|one, next| one.days < next.days) && self.pair.ym < self.pair.yn
+        let ascends = |two: &[Key]| two[0].days < two[1].days;
+        self.keys.windows(2).all(ascends) && self.pair.ym < self.pair.yn
     }
 
     /// The figures of a key maturity (14.4).
@@ -287,12 +288,15 @@ impl Sheet {
     pub fn at(&self, term: i64, figures: &[i64]) -> Quotient {
         let next = self.keys.partition_point(|key| key.days < term);
         let beside = next.checked_sub(1).zip(self.keys.get(next));
-        let Some((last, key)) = beside else {
-            let nearest = next.min(figures.len() - 1);
-            return Quotient {
-                numerator: wide(figures[nearest]),
-                denominator: 1,
-            };
+        let (last, key) = match beside {
+            Some(beside) => beside,
+            None => {
+                let nearest = next.min(figures.len() - 1);
+                return Quotient {
+                    numerator: wide(figures[nearest]),
+                    denominator: 1,
+                };
+            }
         };
         let since = wide(term - self.keys[last].days);
         let until = wide(key.days - term);

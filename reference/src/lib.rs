@@ -23,6 +23,7 @@ pub mod record;
 pub mod refusal;
 pub mod script;
 pub mod security;
+pub mod slices;
 pub mod statics;
 pub mod units;
 pub mod words;

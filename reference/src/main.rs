@@ -42,13 +42,18 @@ fn run(words: &[&str]) -> io::Result<ExitCode> {
         ["count", "gateway"] => return told(&count::count(input, count::Answers::Gateway)?),
         ["count", "interest"] => return told(&count_interest::count_interest(input)?),
         ["compare", first, second, script] => return compared(first, second, script),
-        _ => return Err(io::Error::other(USAGE)),
+        _ => return Err(unusable(USAGE)),
     }
     Ok(ExitCode::SUCCESS)
 }
 
+/// Why a command cannot be run.
+fn unusable(why: &str) -> io::Error {
+    io::Error::new(io::ErrorKind::Other, why)
+}
+
 fn parsed<T: std::str::FromStr>(word: &str) -> io::Result<T> {
-    word.parse().map_err(|_| io::Error::other(USAGE))
+    word.parse().map_err(|_| unusable(USAGE))
 }
 
 fn told(count: &count::Count) -> io::Result<ExitCode> {
@@ -61,9 +66,8 @@ fn told(count: &count::Count) -> io::Result<ExitCode> {
 }
 
 fn compared(first: &str, second: &str, script: &str) -> io::Result<ExitCode> {
-    let read = |path: &str| {
-        std::fs::read(path).map_err(|error| io::Error::other(format!("{path}: {error}")))
-    };
+    let read =
+        |path: &str| std::fs::read(path).map_err(|error| unusable(&format!("{path}: {error}")));
     let difference = compare::compare(&read(first)?, &read(second)?, &read(script)?);
     Ok(match difference {
         None => ExitCode::SUCCESS,

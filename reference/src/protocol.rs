@@ -9,6 +9,7 @@ use crate::kept::Kept;
 use crate::record::{self, Record};
 use crate::refusal::Refusal;
 use crate::security::{Admission, Alerts, Day, Quote, RepoTerm};
+use crate::slices::split_first;
 use crate::words::{number_or_pair, serve, Word};
 
 /// The number of a call that is done.
@@ -126,7 +127,7 @@ pub fn perform(
         (b"move", &[id, side]) => Some(answered(desk::move_side(table, id, side))),
         (b"read", &[id]) => Some(answered(desk::read(table, id))),
         (b"interest", numbers) => {
-            let (values, maturities) = numbers.split_first_chunk()?;
+            let (values, maturities) = split_first(numbers)?;
             Some(answered(work(
                 kept,
                 Sheet::from_numbers(values, maturities),
@@ -151,7 +152,7 @@ fn work(kept: &mut Kept, sheet: Result<Sheet, Refusal>) -> Result<Worked, Refusa
 
 /// `ID DAY P1 P2 S TENTATIVE` and the statics.
 fn admission(numbers: &[i64]) -> Option<Admission> {
-    let (&[id, day, p1, p2, s, tentative], statics) = numbers.split_first_chunk()?;
+    let (&[id, day, p1, p2, s, tentative], statics) = split_first(numbers)?;
     Some(Admission {
         id,
         day,
@@ -165,10 +166,8 @@ fn admission(numbers: &[i64]) -> Option<Admission> {
 
 /// `ID DAY B M`, the three terms, and the row figures.
 fn evaluate(table: &mut [Record], kept: &Kept, words: &[Word]) -> Option<Answer> {
-    let (head, rest) = words.split_first_chunk::<4>()?;
-    let &[id, number, days_between, days_closed] = &numbers(head)?[..] else {
-        return None;
-    };
+    let (head, rest) = split_first::<4, _>(words)?;
+    let (&[id, number, days_between, days_closed], _) = split_first(&numbers(head)?)?;
     let (first, rest) = term(kept, rest)?;
     let (second, rest) = term(kept, rest)?;
     let (third, rest) = term(kept, rest)?;

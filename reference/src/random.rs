@@ -45,9 +45,9 @@ impl Random {
     /// A number with any count of digits up to that of `high`, so small ones
     /// come as often as great ones.
     pub fn any_size(&mut self, high: i64) -> i64 {
-        let digits = high.max(1).ilog10();
+        let digits = high.max(1).to_string().len();
         let top = 10_i64
-            .checked_pow(self.below(digits as usize + 2) as u32)
+            .checked_pow(self.below(digits + 1) as u32)
             .unwrap_or(high);
         self.between(0, top.min(high))
     }

@@ -137,10 +137,8 @@ impl Record {
         is_repo_term(term.days, term.rrcl, term.rrch)
             && self.is_limit(term.lower)
             && self.is_limit(term.upper)
-            && term.near_top.is_none_or(|second| SECOND.contains(&second))
-            && term
-                .near_bottom
-                .is_none_or(|second| SECOND.contains(&second))
+            && is_near_second(term.near_top)
+            && is_near_second(term.near_bottom)
     }
 
     /// The record's figures in the order of the text protocol.
@@ -200,6 +198,11 @@ pub fn is_price(statics: &Statics, price: i64) -> bool {
 /// A tentative rate: 0..S_max, a multiple of h.
 pub fn is_tentative(statics: &Statics, tentative: i64) -> bool {
     (0..=statics.s_max).contains(&tentative) && statics.is_multiple_of_step(tentative)
+}
+
+/// A near second: none, or a second of the day.
+fn is_near_second(since: Option<i64>) -> bool {
+    since.map_or(true, |second| SECOND.contains(&second))
 }
 
 /// A term's days and repo band, RRcL ≤ RRcH.

@@ -246,7 +246,7 @@ fn near_since(since: Option<i64>, near: bool, quote: &Quote) -> Option<i64> {
 
 /// Near, and at least u seconds since that second.
 fn is_alert(since: Option<i64>, quote: &Quote, near_seconds: i64) -> bool {
-    since.is_some_and(|since| quote.second - since >= near_seconds)
+    since.map_or(false, |since| quote.second - since >= near_seconds)
 }
 
 /// The record after a move of one side: refused 6, 10, 11, 12, the first that

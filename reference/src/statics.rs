@@ -164,7 +164,7 @@ impl Statics {
     fn rates_are_sound(&self) -> bool {
         let [first, second, third] = self.minima;
         let rates = [first, second, third, self.s_max];
-        rates.is_sorted()
+        rates.windows(2).all(|two| two[0] <= two[1])
             && rates
                 .iter()
                 .all(|rate| RATE.contains(rate) && self.is_multiple_of_step(*rate))

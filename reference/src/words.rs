@@ -110,8 +110,9 @@ pub fn hear<W, A>(
     answer: impl FnOnce(&[u8], &[W]) -> Option<A>,
 ) -> Heard<A> {
     let mut words = words(line);
-    let Some(verb) = words.next() else {
-        return Heard::Blank;
+    let verb = match words.next() {
+        Some(verb) => verb,
+        None => return Heard::Blank,
     };
     let said = read_words(words, heard, read).and_then(|words| answer(verb, words));
     said.map_or(Heard::Bad, Heard::Answer)

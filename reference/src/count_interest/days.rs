@@ -26,7 +26,7 @@ impl SeenDay<'_> {
     fn has_band(&self, is: impl Fn(&RepoBand) -> bool) -> bool {
         self.pairs
             .iter()
-            .any(|pair| self.kept.band(*pair).is_some_and(|band| is(&band)))
+            .any(|pair| self.kept.band(*pair).map_or(false, |band| is(&band)))
     }
 
     /// How many of the kept bands are of a pair.
@@ -38,12 +38,12 @@ impl SeenDay<'_> {
         self.kept
             .bands()
             .next()
-            .is_some_and(|(kept, _)| kept == *pair)
+            .map_or(false, |(kept, _)| kept == *pair)
     }
 
     fn is_oldest_alone(&self, pair: &Pair) -> bool {
         let oldest = self.kept.bands().nth(2);
-        oldest.is_some_and(|(kept, _)| kept == *pair) && self.times(pair) == 1
+        oldest.map_or(false, |(kept, _)| kept == *pair) && self.times(pair) == 1
     }
 }
 

@@ -15,6 +15,7 @@ use crate::interest::{Figures, Key, Pair, Sheet, Worked};
 use crate::kept::Kept;
 use crate::protocol::perform;
 use crate::record::Record;
+use crate::slices::split_first;
 use crate::words::{hear, number_or_pair, words, Heard, Word};
 
 use days::SeenDay;
@@ -72,7 +73,7 @@ impl Reader {
 
     fn read_interest(&mut self, heard: &[Word], number: i64) {
         let numbers: Vec<i64> = heard.iter().filter_map(|word| word.number()).collect();
-        let (values, maturities) = numbers.split_first_chunk().expect("the line was heard");
+        let (values, maturities) = split_first(&numbers).expect("the line was heard");
         let line = SeenLine {
             values,
             maturities,
@@ -129,7 +130,7 @@ impl Reader {
             pairs,
             kept: &self.kept,
             refused_pairs: &self.refused_pairs,
-            is_late: record.is_some_and(|record| given(1) <= Some(record.last_day())),
+            is_late: record.map_or(false, |record| given(1) <= Some(record.last_day())),
             number,
         };
         self.tally.look(&days::edges(), &day);

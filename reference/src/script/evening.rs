@@ -351,9 +351,12 @@ impl Author {
         };
         let is_refused = |value: i64| figure_at(value, 0) != Some(0);
         let found = neighbours(numbers[word], other, |value| figure_at(value, figure));
-        let Some((low, high)) = found else {
-            self.say("evaluate", &numbers);
-            return;
+        let (low, high) = match found {
+            Some(neighbours) => neighbours,
+            None => {
+                self.say("evaluate", &numbers);
+                return;
+            }
         };
         if is_refused(low) || is_refused(high) {
             let (refused, other) = if is_refused(low) {

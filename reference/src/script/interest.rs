@@ -401,7 +401,7 @@ pub fn lengthen(random: &mut Random, sheet: &Sheet) -> Vec<i64> {
     while numbers.len() < length {
         numbers.push(numbers[numbers.len() - MATURITY]);
         let place = numbers.len() - 1;
-        let is_days = (place - VALUES).is_multiple_of(MATURITY);
+        let is_days = (place - VALUES) % MATURITY == 0;
         if is_days {
             numbers[place] = held(numbers[place] + 1, &MATURITY_DAYS);
         }

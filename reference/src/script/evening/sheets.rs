@@ -5,6 +5,7 @@ use crate::interest::{Pair, Sheet, MATURITY, VALUES};
 use crate::record::is_repo_term;
 use crate::script::edges::{edge, neighbours, unsettled_count};
 use crate::script::{day, edges, interest, spelling};
+use crate::slices::split_first;
 use crate::words::Word;
 
 use super::Author;
@@ -67,7 +68,7 @@ impl Author {
         let kept: Vec<Pair> = self.kept.bands().map(|(pair, _)| pair).collect();
         let is_taken = |pair: &Pair| {
             let band = self.kept.band(*pair);
-            band.is_some_and(|band| is_repo_term(0, band.rrcl, band.rrch))
+            band.map_or(false, |band| is_repo_term(0, band.rrcl, band.rrch))
         };
         let taken: Vec<Pair> = kept.iter().copied().filter(is_taken).collect();
         match self.random.below(20) {
@@ -169,7 +170,7 @@ impl Author {
         };
         let figure_at = |value: i64| {
             let tried = with(value);
-            let (values, maturities) = tried.split_first_chunk::<VALUES>()?;
+            let (values, maturities) = split_first::<VALUES, _>(&tried)?;
             let worked = Sheet::from_numbers(values, maturities).ok()?.worked();
             worked.numbers().get(figure).copied()
         };
