@@ -1,30 +1,201 @@
-# Sourced by the outside checks: which C compiler builds for x86-64 here, and what runs such a program. The proved programs and archives are x86-64
-# whatever the machine; elsewhere they run under an emulator.
-case $(uname -m) in
-x86_64)
-    cc=${CC:-cc}
-    emulator=''
-    needed='gcc libc6-dev make'
-    ;;
-*)
-    cc=x86_64-linux-gnu-gcc
-    emulator=qemu-x86_64
-    needed='gcc-x86-64-linux-gnu libc6-dev-amd64-cross qemu-user make'
-    ;;
-esac
+# Sourced by the scripts from the top of the repository: what they share. It defines functions and changes nothing.
+#
+# The proved programs and archives are for x86-64 Linux, whatever the machine. The kit that `rt` belongs to has the
+# loader and the C library that they run with and, for a machine of another kind, an emulator: `outside/runner` runs a
+# program by them.
+
+# ---- what a script says
+
+# The answer to -h: the comment at the head of the script.
+usage() {
+    sed -n '2,${/^#/!q;s/^# \{0,1\}//p;}' "$0"
+}
+
+# Status 1 says that a check failed, status 2 that a script could not do its work.
+fail() {
+    echo "${0##*/}: $*" >&2
+    exit 1
+}
+
+cannot() {
+    echo "${0##*/}: $*" >&2
+    exit 2
+}
+
+# Takes apart the words of a script that has options or none: -h is answered, and too many words are refused.
+take_words() { # MOST WORD...
+    most=$1
+    shift
+    case ${1:-} in
+    -h | --help)
+        usage
+        exit 0
+        ;;
+    -?*) cannot "there is no option $1; see ${0##*/} -h" ;;
+    esac
+    [ $# -le "$most" ] || cannot "it takes $most words at most, and here are $#; see ${0##*/} -h"
+}
+
+# A whole number that a 64-bit program reads.
+is_number() {
+    case $1 in
+    '' | *[!0-9]*) return 1 ;;
+    esac
+    [ ${#1} -le 18 ]
+}
+
+# ---- the kit
 
 has() {
     command -v "$1" >/dev/null 2>&1
 }
 
-# Installs what is missing of the C side.
-prepare_c() {
-    has "$cc" && has make && { [ -z "$emulator" ] || has "$emulator"; } && return 0
-    apt-get update -qq && DEBIAN_FRONTEND=noninteractive apt-get install -y -qq $needed
+# The folder that the kit's toolchain for this machine has; `rt` itself looks in the same place.
+toolchain() {
+    has rt || cannot "there is no rt: install the Rattle kit, and put its rt on PATH"
+    kit=${RATTLE_HOME:-$(dirname "$(dirname "$(readlink -f "$(command -v rt)")")")}
+    [ -d "$kit/on/$(uname -m)/toolchain" ] || cannot "the kit at $kit has no toolchain for this machine, $(uname -m)"
+    echo "$kit/on/$(uname -m)/toolchain"
 }
 
-# Installs what is missing of the Rust side.
-prepare_rust() {
-    has cargo && return 0
-    apt-get update -qq && DEBIAN_FRONTEND=noninteractive apt-get install -y -qq cargo
+# ---- what else is needed: a C compiler for x86-64, make, and cargo
+
+case $(uname -m) in
+x86_64)
+    cc=${CC:-cc}
+    c_packages='gcc libc6-dev make'
+    ;;
+*)
+    cc=x86_64-linux-gnu-gcc
+    c_packages='gcc-x86-64-linux-gnu libc6-dev-amd64-cross make'
+    ;;
+esac
+
+# Installs Debian's packages, and says so before.
+install_packages() { # WHY PACKAGE...
+    why=$1
+    shift
+    has apt-get || cannot "$why, and there is no apt-get to install it by; Debian has it in: $*"
+    echo "${0##*/}: $why; installing $* with apt-get" >&2
+    { apt-get update -qq && DEBIAN_FRONTEND=noninteractive apt-get install -y -qq "$@"; } >&2 </dev/null ||
+        cannot "apt-get could not install $*"
+}
+
+# A compiler without the static C library is none for us.
+c_links() {
+    has "$cc" && has make && echo 'int main(void) { return 0; }' | "$cc" -static -x c -o /dev/null - 2>/dev/null
+}
+
+need_c() {
+    c_links && return
+    # shellcheck disable=SC2086
+    install_packages "$cc with a static C library, or make, is missing" $c_packages
+    c_links || cannot "$cc does not link a static program for x86-64"
+}
+
+# The benchmark links for this machine's own processor.
+need_native_c() {
+    has cc && return
+    install_packages "cc is missing" gcc libc6-dev
+}
+
+need_rust() {
+    has cargo && return
+    install_packages "cargo is missing" cargo
+    has cargo || cannot "there is still no cargo"
+}
+
+# ---- what is built: from the present sources or not at all
+
+# One number for all that a program or an archive is built from: the crates, their list and the kit.
+sources() {
+    { rt version && find crates crates.txt -type f -exec sha256sum {} + | sort; } | sha256sum | cut -d' ' -f1
+}
+
+# Whether a file was built from the present sources. The gate and `rt ci` remove target/, and the notes on it with it.
+is_built() { # FILE
+    [ -f "$1" ] && [ "$(cat "target/built/${1##*/}" 2>/dev/null)" = "$(sources)" ]
+}
+
+# Runs the command that builds a file, and notes what the sources were before it began: if somebody changes a source
+# meanwhile, the file is built again the next time.
+build() { # FILE COMMAND...
+    file=$1
+    shift
+    mkdir -p target/built || cannot "target/ cannot be written"
+    rm -f "target/built/${file##*/}"
+    before=$(sources)
+    "$@" || return
+    echo "$before" >"target/built/${file##*/}"
+}
+
+# How many crates a program stands on, with its own.
+crates_below() { # NAME
+    awk -v name="$1" '
+        { sub(/#.*/, "") }
+        split($0, part, ":") == 2 { gsub(/[ \t]/, "", part[1]); below[part[1]] = part[2] }
+        function visit(crate, list, n, k) {
+            if (!(crate in below) || crate in seen) return
+            seen[crate] = 1
+            count++
+            n = split(below[crate], list, " ")
+            for (k = 1; k <= n; k++) visit(list[k])
+        }
+        END { visit(name); print count }' crates.txt
+}
+
+# Keeps the lines of `rt` in a log and counts the crates that are proved, on one line where standard error is a
+# terminal.
+count_proved() { # NAME LOG
+    of=$(crates_below "$1")
+    proved=0
+    : >"$2"
+    while IFS= read -r line; do
+        printf '%s\n' "$line" >>"$2"
+        case $line in
+        'rt: '*' proved ('*) proved=$((proved + 1)) ;;
+        *) continue ;;
+        esac
+        if [ -t 2 ]; then
+            printf '\r%s: proved %d of %d' "$1" "$proved" "$of" >&2
+        else
+            echo "$1: proved $proved of $of" >&2
+        fi
+    done
+    if [ -t 2 ] && [ "$proved" -gt 0 ]; then echo >&2; fi
+}
+
+# `rt` knows which crates have changed, and proves those alone.
+prove_program() { # NAME
+    mkdir -p target/log
+    { rt check "$1" 2>&1 </dev/null || echo "rt: status $?"; } | count_proved "$1" "target/log/$1.check"
+    ! grep -q '^rt: status ' "target/log/$1.check"
+}
+
+# The proved program, at target/bin/NAME.
+need_program() { # NAME
+    is_built "target/bin/$1" && return
+    echo "$1: proving what has changed and building it; all of it takes some minutes" >&2
+    build "target/bin/$1" prove_program "$1" && return
+    cat "target/log/$1.check" >&2
+    cannot "$1 is not proved; see target/log/$1.check"
+}
+
+# The proved archive, at target/staticlib/libNAME.a.
+need_archive() { # NAME
+    is_built "target/staticlib/lib$1.a" && return
+    mkdir -p target/log
+    build "target/staticlib/lib$1.a" rt staticlib "$1" >"target/log/$1.archive" 2>&1 </dev/null && return
+    cat "target/log/$1.archive" >&2
+    cannot "there is no archive of $1; see target/log/$1.archive"
+}
+
+# The independent program. cargo itself sees what has changed.
+cargo_target=${CARGO_TARGET_DIR:-target/cargo}
+reference=$cargo_target/release/reference
+
+need_reference() {
+    need_rust
+    CARGO_TARGET_DIR=$cargo_target cargo build --release --offline --quiet --manifest-path reference/Cargo.toml ||
+        cannot "the reference does not build"
 }
