@@ -30,6 +30,11 @@ pub repo-size : (x : ℤ) → leZ repoLeast x ≡ true → leZ x repoMost ≡ tr
 repo-size (pos n) low high = leb-true n 9999 high
 repo-size (negsuc n) low high = let l : n ≤ 9998 = leb-true n 9998 low in omega arith
 
+-- and the other way round, of its end
+pub size-repo : (x : ℤ) → mag x ≤ mag repoMost → leZ x repoMost ≡ true
+size-repo (pos n) h = le-leb n 9999 h
+size-repo (negsuc n) h = refl
+
 pub repo-le : (x : ℤ) → withinZ repoLeast repoMost x ≡ true → mag x ≤ mag repoMost
 repo-le x e = repo-size x (and-left (leZ repoLeast x) (leZ x repoMost) e) (and-right (leZ repoLeast x) (leZ x repoMost) e)
 

@@ -1,36 +1,23 @@
 -- Laws of the limits: how far their parts reach, and that the narrower of two limits can be taken after they are rounded. Assumes nothing.
 use mathlib.Core.Path.{_≡_, refl, sym, ap, _∙_}
-use mathlib.Core.Bool.{Bool, true, false}
+use mathlib.Core.Bool.{true, false}
 use Prim.Native.Nat.{ℕ, _+_, _-_, _*_, _≤_, _<_}
 use native.Mathlib.Nat.{mul-le-mul}
 use native.Mathlib.Omega.{arith}
-use lib.Dec.{leb}
 use lib.IntN.{ℤ}
 use Rattle.paper.specs.declared.Statics.{Statics}
 use Rattle.paper.specs.declared.Side.{Side}
 use Rattle.paper.specs.declared.Side.the-variants.{Upper, Lower}
-use Rattle.paper.specs.Lists.{pick}
 use Rattle.paper.specs.Numbers.{whole, hundred, priceMost, rateMost, shiftMost, movesMost}
 use Rattle.paper.specs.Roundings.{Quotient}
 use Rattle.paper.specs.Ranges.{gridOf}
 use Rattle.paper.specs.Limits.{limitOf, shifted, rangeLimit, farthest, spread, monitored, narrower, bandLimit}
 use Rattle.paper.proofs.Logic.{pick-true, pick-false}
+pub use Rattle.paper.proofs.LimitSizes.{grid-range}
 use Rattle.paper.proofs.Roundings.{lesser-rounded, greater-rounded}
 use Rattle.exact.specs.Wide.{spreadMost}
 use Rattle.limits.specs.Sides.{farthestRate, narrowerOf}
 use Rattle.limits.specs.LimitRanges.{LimitStatics, RangeInputs}
-
--- ---- the grid
-
--- g is 1, 10 or 100
-pub grid-range : (lot : ℕ) → (0 < gridOf lot) × (gridOf lot ≤ hundred)
-unfolding gridOf
-grid-range lot = go (leb lot 1) (leb lot 10)
-  where
-    go : (a b : Bool) → (0 < pick a 100 (pick b 10 1)) × (pick a 100 (pick b 10 1) ≤ hundred)
-    go true b = omega arith
-    go false true = omega arith
-    go false false = omega arith
 
 -- ---- quotients
 

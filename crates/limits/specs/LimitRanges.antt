@@ -11,34 +11,16 @@ use Rattle.paper.specs.declared.Side.{Side}
 use Rattle.paper.specs.declared.Side.the-variants.{Upper, Lower}
 use Rattle.paper.specs.declared.Moves.{Moves}
 use Rattle.paper.specs.declared.Term.{Term}
-use Rattle.paper.specs.Numbers.{priceMost, rateMost, divisorLeast, divisorMost, shiftMost, movesMost, termDaysMost, repoLeast, repoMost}
-use Rattle.paper.specs.Ranges.{validStatics, validTerm, isPrice, isGridPrice, isRate}
+use Rattle.paper.specs.Numbers.{priceMost, rateMost, movesMost, termDaysMost, repoLeast, repoMost}
+use Rattle.paper.specs.Ranges.{validTerm, isPrice, isGridPrice, isRate}
 use Rattle.paper.specs.Limits.{countOf, oneMore}
 use Rattle.paper.specs.Gateway.{rangeInRange, bandInRange}
 use Rattle.paper.proofs.Logic.{and-left, and-right}
+pub use Rattle.paper.proofs.LimitSizes.{LimitStatics, limit-statics}
 use Rattle.exact.specs.SignedLaws.{order-trans, repo-size}
 use Rattle.limits.specs.Sides.{repoOf}
 
 -- ---- the ranges
-
--- of the statics
-pub record LimitStatics (st : Statics) : Type 0 where
-  pub divisor-low : divisorLeast ≤ st .xpr
-  pub divisor-high : st .xpr ≤ divisorMost
-  pub shift-high : st .shift ≤ shiftMost
-  pub upper-high : st .pchmax ≤ rateMost
-  pub lower-high : st .pclmax ≤ rateMost
-
-pub limit-statics : (st : Statics) → validStatics st ≡ true → LimitStatics st
-unfolding validStatics
-limit-statics st v =
-    record {
-      divisor-low = leb-true _ _ (search (v, and-left, and-right) depth 40);
-      divisor-high = leb-true _ _ (search (v, and-left, and-right) depth 40);
-      shift-high = leb-true _ _ (search (v, and-left, and-right) depth 40);
-      upper-high = leb-true _ _ (search (v, and-left, and-right) depth 40);
-      lower-high = leb-true _ _ (search (v, and-left, and-right) depth 40);
-    }
 
 -- of a range limit, and of delta: the evaluation P and a rate
 pub record RangeInputs (p rate : ℕ) : Type 0 where

@@ -12,7 +12,7 @@ use Rattle.paper.specs.declared.Verdict.the-variants.{Done, OutOfRange, 
 use Rattle.paper.specs.Lists.{pick, every}
 use Rattle.paper.specs.Verdicts.{numberOf, isDone, firstOf, FirstAt, here, later, NoneApplies, none, also}
 use Rattle.paper.specs.Interest.{validInterest, validKeys, maturitiesOf, ascending, interestChecks, refusedInterest, acceptedInterest, interestAnswer}
-use Rattle.paper.proofs.Logic.{not-true, not-false, pick-true, pick-false}
+use Rattle.paper.proofs.Logic.{Exactly, not-true, not-false, pick-true, pick-false}
 use Rattle.paper.proofs.Refusals.{done-is, first-is, is-first, refusals, done-none, none-done}
 
 -- every number that is given is in range
@@ -22,10 +22,6 @@ inRange i numbers = validInterest i && validKeys numbers
 -- the key maturities ascend strictly, and so do the two terms
 abbrev pub inOrder : Interest → List ℤ → Bool
 inOrder i numbers = ascending (maturitiesOf numbers) && ltb (i .ym) (i .yn)
-
--- one holds where the other does, and nowhere else
-abbrev pub Exactly : Type 0 → Type 0 → Type 0
-Exactly a b = (a → b) × (b → a)
 
 module _ (i : Interest) (numbers : List ℤ) where
   -- what is answered carries the first number that applies

@@ -23,7 +23,7 @@ writtenAt (move id side) t = place t id
 writtenAt (read id) t = place t id
 
 -- what holds of the table before, and after whatever the call would write, holds after the call
-either : (P : List Record → Type 0) (c : Call) (t : List Record) → P t
+pub either : (P : List Record → Type 0) (c : Call) (t : List Record) → P t
     → (isDone (step c t .answer .verdict) ≡ true → NoneApplies (checksOf c t) → P (acceptedOf c t .table)) → P (step c t .table)
 either P c t p q = go (isDone (step c t .answer .verdict)) refl
   where

@@ -1,11 +1,9 @@
 -- Demand 3: the volatility worked out again as an exact fraction under the root. Assumes nothing.
 use mathlib.Core.Path.{_≡_}
 use mathlib.Core.Logic.{_⊎_}
-use mathlib.Core.Bool.{Bool, true, false, _&&_}
 use mathlib.Core.List.{List, [], _∷_}
-use Prim.Native.Nat.{ℕ, zero, suc, _+_, _-_, _*_, _≤_, _<_}
-use lib.Dec.{leb, eqb}
-use lib.ListN.{length, getD}
+use Prim.Native.Nat.{ℕ, _+_, _-_, _*_, _≤_, _<_}
+use lib.ListN.{getD}
 use lib.IntN.{ℤ}
 use Rattle.paper.specs.declared.Model.{Model}
 use Rattle.paper.specs.declared.Record.{Record}
@@ -14,10 +12,10 @@ use Rattle.paper.specs.declared.Day.{Day}
 use Rattle.paper.specs.Lists.{pick}
 use Rattle.paper.specs.Numbers.{whole, million, hundred}
 use Rattle.paper.specs.Roundings.{Quotient, greaterOf, apart}
-use Rattle.paper.specs.Ranges.{noRate, staticsOf}
+use Rattle.paper.specs.Ranges.{noRate}
 use Rattle.paper.specs.Rates.{modelOf, weightOf, weighted, replaces}
-use Rattle.paper.specs.Verdicts.{isDone}
-use Rattle.paper.specs.Desk.{Call, admit, evaluate, quote, move, read, found, step, priceOn, moveOn}
+use Rattle.paper.specs.Desk.{priceOn, moveOn}
+use Rattle.paper.specs.History.{Event, evaluatedOn, quotedAt, movedBy, recordOf}
 
 -- which figure the carried volatility chose: the mean by a weight, or the replacement
 pub data Choice : Type 0 where
@@ -28,11 +26,6 @@ pub data Choice : Type 0 where
 pub record Entry : Type 0 where
   pub price : ℕ
   pub choice : Choice
-
--- what happened to one security: not admitted, or admitted so, with its accepted evaluations, the latest first
-pub data History : Type 0 where
-  unknown : History
-  since : Admission → List Entry → History
 
 -- ---- the exact square
 
@@ -67,7 +60,7 @@ exactOf a (e ∷ es) =
       square = nextSquare (a .given .q) (x .square) (exactMove (x .p1) (x .p2) (e .price)) (e .choice);
     }
 
--- ---- the history of a security
+-- ---- the accepted evaluations of a security
 
 -- the choice that the volatility's rule makes in an evaluation
 unfoldable pub choiceOf : Model → (b last r s : ℕ) → Choice
@@ -82,23 +75,12 @@ entryOf r d rows =
       choice = choiceOf (modelOf (r .statics)) (d .b) (hundred * getD (r .rates) 0 noRate .bp) (moveOn r rows) (r .s);
     }
 
-unfoldable pub longer : History → Entry → History
-longer unknown e = unknown
-longer (since a es) e = since a (e ∷ es)
-
--- the history of one id after one more call on a table: accepted admissions and evaluations of that id are noted
-unfoldable pub noted : ℕ → Call → List Record → History → History
-noted id (admit a) t h = pick (isDone (step (admit a) t .answer .verdict) && eqb (a .id) id) (since a []) h
-noted id (evaluate i d rows) t h =
-    pick (isDone (step (evaluate i d rows) t .answer .verdict) && eqb i id) (longer h (entryOf (found t i) d rows)) h
-noted id (quote i q) t h = h
-noted id (move i side) t h = h
-noted id (read i) t h = h
-
--- the history of one id after a sequence of calls
-unfoldable pub history : ℕ → List Call → List Record → History → History
-history id [] t h = h
-history id (c ∷ cs) t h = history id cs (step c t .table) (noted id c t h)
+-- the accepted evaluations of a history, the latest first; the choices are those of the record that the history gives
+unfoldable pub entriesOf : Admission → List Event → List Entry
+entriesOf a [] = []
+entriesOf a (evaluatedOn d rows ∷ es) = entryOf (recordOf a es) d rows ∷ entriesOf a es
+entriesOf a (quotedAt q ∷ es) = entriesOf a es
+entriesOf a (movedBy side ∷ es) = entriesOf a es
 
 -- ---- the promise
 

@@ -10,7 +10,10 @@ pub mod Alerts
 pub mod Verdicts
 pub mod Desk
 pub mod Gateway
+pub mod History
 pub mod Exact
+pub mod Sequences
+pub mod Kept
 pub mod Cases
 pub mod Interest
 pub mod InterestExact
