@@ -3,14 +3,14 @@ use Prim.Native.Nat.{ℕ, suc, _*_}
 use native.Mathlib.Numerals.{add-one}
 use native.Mathlib.Omega.{arith}
 use Rattle.paper.specs.declared.Model.{Model}
-use Rattle.paper.specs.Roundings.{Quotient}
+use Rattle.paper.specs.Roundings.{Quotient, RoundedUp}
 use Rattle.paper.specs.Rates.{volatilityOf}
 use Rattle.paper.specs.Exact.{nextSquare, choiceOf, Demand3}
-use Rattle.paper.proofs.Drift.{RoundedUp, near-start}
+use Rattle.paper.proofs.Drift.{near-start}
 use Rattle.paper.proofs.Volatility.{Weighing, volatility-near}
 
 -- s was carried on n times by the volatility's rule, and x is the exact square by the same choices. Each time has its own weights and multiplier, its
--- own last rate and a move that may be rounded up
+-- own last rate and a move that is rounded up
 pub data CarriedOn : (n s : ℕ) → Quotient → Type 0 where
   begun : (s : ℕ) → CarriedOn 0 s (record { num = s * s; den = 1 })
   once-more : {n s : ℕ} {x : Quotient} → CarriedOn n s x → (m : Model) (b last r : ℕ) (move : Quotient) → Weighing m → RoundedUp r move

@@ -4,9 +4,10 @@ use mathlib.Core.Logic.{_⊎_, inl, inr}
 use Prim.Native.Nat.{ℕ, zero, suc, _+_, _-_, _*_, _≤_, _<_}
 use native.Mathlib.Nat.{mul-le-mul, mul-le-mul-left, mul-le-mul-right, le-of-mul-le-mul-left, mul-pos, le-trans}
 use native.Mathlib.Omega.{arith}
-use Rattle.paper.specs.Roundings.{Quotient}
+use Rattle.paper.specs.Roundings.{Quotient, RoundedUp}
 use Rattle.paper.specs.Exact.{NearExact}
 use Rattle.paper.proofs.Logic.{le-or-lt}
+use Rattle.paper.proofs.Roundings.{rounded-below}
 
 -- a square is not above another: neither is its side
 pub side-le : (x y : ℕ) → x * x ≤ y * y → x ≤ y
@@ -31,12 +32,6 @@ cauchy b a x y = go (le-or-lt x y)
         let e : y + (x - y) ≡ x = omega arith in
         let c : (a * y + b * x) * (a * y + b * x) ≤ (a + b) * (a * (y * y) + b * (x * x)) = rw e at (cauchy-up a b y (x - y)) in
         omega arith
-
--- a whole figure r is the fraction A/B, rounded up
-pub record RoundedUp (r : ℕ) (x : Quotient) : Type 0 where
-  pub covers : x .num ≤ r * x .den
-  pub least : (r - 1) * x .den ≤ x .num
-  pub positive : 0 < x .den
 
 -- at the start the carried figure is exact
 pub near-start : (s : ℕ) → NearExact 0 s (record { num = s * s; den = 1 })
@@ -105,7 +100,7 @@ module _ (b a n s r x : ℕ) (old : Quotient) (move : Quotient) (near : NearExac
           let m : b * ((s - (n + 1)) * (s - (n + 1))) + a * ((r - 1) * (r - 1)) ≤ (b + a) * (u * u) =
           mean-below b a (b + a) ((s - (n + 1)) * (s - (n + 1))) ((r - 1) * (r - 1)) (u * u) (old .num) (old .den) (move .num * move .num) (move .den * move .den)
           (near .positive) (mul-pos (rounded .positive) (rounded .positive)) (near-below n s old near)
-          (le-trans (square-out (r - 1) (move .den)) (mul-le-mul (rounded .least) (rounded .least))) e in
+          (le-trans (square-out (r - 1) (move .den)) (mul-le-mul (rounded-below r move rounded) (rounded-below r move rounded))) e in
           let z : x ≤ u + (n + 1) =
           least (u + (n + 1)) (mean-shift b a (n + 1) (s - (n + 1)) (r - 1) u s r (omega arith) (omega arith) m) in
           absurd (omega arith)
@@ -157,7 +152,7 @@ replace-near k n q r x move rounded hq kq covers least =
         go (inr l) (inr e) = inr e
         go (inr l) (inl e) =
             let d : k * move .num ≤ u * (move .den * q) = side-le (k * move .num) (u * (move .den * q)) (le-trans e (omega arith)) in
-            let f : move .den * (k * (r - 1)) ≤ move .den * (u * q) = omega (arith, mul-le-mul-left k (rounded .least)) in
+            let f : move .den * (k * (r - 1)) ≤ move .den * (u * q) = omega (arith, mul-le-mul-left k (rounded-below r move rounded)) in
             let g : k * (r - 1) ≤ u * q = le-of-mul-le-mul-left f (rounded .positive) in
             let z : x ≤ u + 1 = least (u + 1) (one-more g) in
             absurd (omega arith)

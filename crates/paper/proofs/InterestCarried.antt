@@ -6,18 +6,18 @@ use native.Mathlib.Omega.{arith}
 use lib.ListN.{length}
 use Rattle.paper.specs.declared.Maturity.{Maturity}
 use Rattle.paper.specs.Lists.{every}
+use Rattle.paper.specs.Roundings.{RoundedUp}
 use Rattle.paper.specs.Interest.{validInterest, changeOf, repoVolatility}
 use Rattle.paper.specs.Exact.{Demand3}
 use Rattle.paper.specs.InterestExact.{Evening, Carried, keyGiven, carriedAfter, repoChoice, exactChange, exactRepoSquare}
 use Rattle.paper.proofs.Logic.{and-left, and-right}
-use Rattle.paper.proofs.Drift.{RoundedUp}
 use Rattle.paper.proofs.CarriedOn.{CarriedOn, begun, once-more, carried-demand}
 use Rattle.paper.proofs.InterestRanges.{interest-range}
 
 -- a whole change is rounded already
 change-rounded : (k : Maturity) → RoundedUp (changeOf k) (exactChange k)
 unfolding exactChange
-change-rounded k = record { covers = omega arith; least = omega arith; positive = omega arith }
+change-rounded k = record { covers = omega arith; least = λ z l. omega arith; positive = omega arith }
 
 -- whether every evening is in range
 abbrev pub allValid : List Evening → Bool

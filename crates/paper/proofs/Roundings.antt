@@ -9,7 +9,7 @@ use lib.Dec.{leb}
 use borrow.Author.Tests.{le-leb, lt-leb}
 use Rattle.paper.specs.Lists.{pick}
 use Rattle.paper.specs.Least.{leastTimes}
-use Rattle.paper.specs.Roundings.{Quotient, up, halfUp, toGrid, lesserOf, greaterOf}
+use Rattle.paper.specs.Roundings.{Quotient, up, RoundedUp, halfUp, toGrid, lesserOf, greaterOf}
 use Rattle.paper.proofs.Logic.{le-or-lt}
 use Rattle.paper.proofs.Search.{times-unique}
 
@@ -48,6 +48,35 @@ up-monotone n d m e p q l =
     let covers : m * d ≤ up m e * e * d = mul-le-mul-right d (up-covers m e q) in
     let fits : e * n ≤ e * (up m e * d) = omega arith in
     up-least n d (up m e) p (le-of-mul-le-mul-left fits q)
+
+-- so it is the rounding up, and the only one
+pub up-rounded : (n d : ℕ) → 0 < d → RoundedUp (up n d) (record { num = n; den = d })
+up-rounded n d h = record { covers = up-covers n d h; least = λ z k. up-least n d z h k; positive = h }
+
+pub rounded-unique : (q r : ℕ) (x : Quotient) → RoundedUp q x → RoundedUp r x → q ≡ r
+rounded-unique q r x u v = omega (arith, u .least r (v .covers), v .least q (u .covers))
+
+-- a unit less is no longer above the quotient
+pub rounded-below : (r : ℕ) (x : Quotient) → RoundedUp r x → (r - 1) * x .den ≤ x .num
+rounded-below r x u = go (le-or-lt ((r - 1) * x .den) (x .num))
+  where
+    go : ((r - 1) * x .den ≤ x .num) ⊎ (x .num < (r - 1) * x .den) → (r - 1) * x .den ≤ x .num
+    go (inl l) = l
+    go (inr l) = let none : r - 1 ≡ 0 = omega (arith, u .least (r - 1) (omega arith)) in rw none (omega arith)
+
+-- the greater of two numbers rounded up is the greater quotient rounded up
+pub rounded-max : (q r : ℕ) (x y : Quotient) → RoundedUp q x → RoundedUp r y → y .num * x .den ≤ x .num * y .den → RoundedUp (max q r) x
+rounded-max q r x y u v l =
+    record {
+      covers = le-trans (u .covers) (mul-le-mul-right (x .den) (omega arith));
+      least = λ z k. omega (arith, u .least z k, v .least z (covered z k));
+      positive = u .positive;
+    }
+  where
+    covered : (z : ℕ) → x .num ≤ z * x .den → y .num ≤ z * y .den
+    covered z k =
+        let fits : x .den * y .num ≤ x .den * (z * y .den) = omega (arith, mul-le-mul-right (y .den) k) in
+        le-of-mul-le-mul-left fits (u .positive)
 
 -- from the quotient and the remainder
 pub up-exact : (n d : ℕ) → 0 < d → n % d ≡ 0 → n / d ≡ up n d

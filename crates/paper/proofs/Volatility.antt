@@ -11,14 +11,14 @@ use Rattle.paper.specs.declared.Model.{Model}
 use Rattle.paper.specs.declared.Statics.{Statics}
 use Rattle.paper.specs.Lists.{pick}
 use Rattle.paper.specs.Numbers.{whole, hundred, million}
-use Rattle.paper.specs.Roundings.{Quotient, up, greaterOf, apart}
+use Rattle.paper.specs.Roundings.{Quotient, up, RoundedUp, greaterOf, apart}
 use Rattle.paper.specs.Ranges.{validStatics}
 use Rattle.paper.specs.Rates.{modelOf, moveFrom, moveOf, weightOf, weighted, replacement, replaces, volatilityOf}
 use Rattle.paper.specs.Exact.{Choice, byWeight, replaced, exactMove, nextSquare, choiceOf, NearExact}
 use Rattle.paper.proofs.Logic.{and-left, and-right, le-or-lt}
 use Rattle.paper.proofs.Search.{root-covers, root-least, times-covers, times-least}
-use Rattle.paper.proofs.Roundings.{up-covers, quotient-low}
-use Rattle.paper.proofs.Drift.{RoundedUp, weight-near, replace-near}
+use Rattle.paper.proofs.Roundings.{up-rounded, rounded-max}
+use Rattle.paper.proofs.Drift.{weight-near, replace-near}
 
 -- what the argument asks of the weights and the multiplier
 pub record Weighing (m : Model) : Type 0 where
@@ -36,35 +36,6 @@ weighing st v =
     }
 
 -- ---- the move
-
-up-rounded : (n d : ℕ) → 0 < d → RoundedUp (up n d) (record { num = n; den = d })
-unfolding up
-up-rounded n d h =
-    record {
-      covers = up-covers n d h;
-      least = lower ((n + (d - 1)) / d) (omega (arith, quotient-low (n + (d - 1)) d h));
-      positive = h;
-    }
-  where
-    lower : (x : ℕ) → x * d < n + d → (x - 1) * d ≤ n
-    lower zero l = omega arith
-    lower (suc x) l = let e : suc x - 1 ≡ x = omega arith in rw e (omega arith)
-
--- the greater of two rounded figures is the greater fraction, rounded
-rounded-max : (r1 r2 : ℕ) (x y : Quotient) → RoundedUp r1 x → RoundedUp r2 y → y .num * x .den ≤ x .num * y .den → RoundedUp (max r1 r2) x
-rounded-max r1 r2 x y u v l =
-    record {
-      covers = le-trans (u .covers) (mul-le-mul-right (x .den) (omega arith));
-      least = go (le-or-lt r2 r1);
-      positive = u .positive;
-    }
-  where
-    go : (r2 ≤ r1) ⊎ (r1 < r2) → (max r1 r2 - 1) * x .den ≤ x .num
-    go (inl h) = let e : max r1 r2 ≡ r1 = omega arith in rw e (u .least)
-    go (inr h) =
-        let e : max r1 r2 ≡ r2 = omega arith in
-        let k : y .den * ((r2 - 1) * x .den) ≤ y .den * x .num = omega (arith, mul-le-mul-right (x .den) (v .least)) in
-        rw e (le-of-mul-le-mul-left k (v .positive))
 
 -- (e): the move r is the exact one, rounded up
 pub move-rounded : (p1 p2 p : ℕ) → 0 < p1 → 0 < p2 → RoundedUp (moveOf p1 p2 p) (exactMove p1 p2 p)

@@ -1,6 +1,6 @@
 -- Document 01, "Places of rounding". A quotient n/d is kept as n and d until one of these places. Assumes nothing.
 use mathlib.Core.Bool.{Bool}
-use Prim.Native.Nat.{ℕ, suc, _+_, _-_, _*_, _/_}
+use Prim.Native.Nat.{ℕ, suc, _+_, _-_, _*_, _/_, _≤_, _<_}
 use lib.Dec.{leb}
 use lib.IntN.{ℤ, pos, negsuc, negℤ}
 use Rattle.paper.specs.Lists.{pick}
@@ -13,6 +13,12 @@ pub record Quotient : Type 0 where
 -- (e), (f) "up": n/d rounded up
 unfoldable pub up : ℕ → ℕ → ℕ
 up n d = (n + (d - 1)) / d
+
+-- what that is: r is the least whole number that is not below the quotient
+pub record RoundedUp (r : ℕ) (x : Quotient) : Type 0 where
+  pub covers : x .num ≤ r * x .den
+  pub least : (z : ℕ) → x .num ≤ z * x .den → r ≤ z
+  pub positive : 0 < x .den
 
 -- (a), (b), (c) "Half up is to nearest, ties up"
 unfoldable pub halfUp : ℕ → ℕ → ℕ
