@@ -8,7 +8,7 @@ use Rattle.paper.specs.declared.Statics.{Statics}
 use Rattle.paper.specs.Lists.{pick}
 use Rattle.paper.specs.Numbers.{aheadMost}
 use Rattle.paper.specs.Ranges.{validStatics, validTentative}
-use Rattle.paper.specs.Rates.{minimumOf, covers, levelRate, HeldLeast}
+use Rattle.paper.specs.Rates.{minimumOf, levelRate, AtLeastRequired, HeldLeast}
 use Rattle.paper.specs.Gateway.{levelInRange, levelFigure}
 use Rattle.paper.proofs.Logic.{and-left, and-right}
 use Rattle.paper.proofs.Level.{level-rate-is}
@@ -18,7 +18,7 @@ pub figure-high : (st : Statics) (tentative m level : ℕ) → validStatics st �
 unfolding levelFigure
 figure-high st tentative m level v = go (st .ewma)
   where
-    is : HeldLeast (st .h) (minimumOf st level) (st .smax) (covers st level m tentative) (levelRate st level m tentative)
+    is : HeldLeast (st .h) (minimumOf st level) (st .smax) (AtLeastRequired st level m tentative) (levelRate st level m tentative)
     is = level-rate-is st level m tentative v
 
     go : (b : Bool) → pick b (levelRate st level m tentative) (minimumOf st level) ≤ st .smax

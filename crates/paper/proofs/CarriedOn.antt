@@ -5,7 +5,7 @@ use native.Mathlib.Omega.{arith}
 use Rattle.paper.specs.declared.Model.{Model}
 use Rattle.paper.specs.Roundings.{Quotient, RoundedUp}
 use Rattle.paper.specs.Rates.{volatilityOf}
-use Rattle.paper.specs.Exact.{nextSquare, choiceOf, Demand3}
+use Rattle.paper.specs.Exact.{nextSquare, choiceOf, NearExact}
 use Rattle.paper.proofs.Drift.{near-start}
 use Rattle.paper.proofs.Volatility.{Weighing, volatility-near}
 
@@ -16,10 +16,7 @@ pub data CarriedOn : (n s : ℕ) → Quotient → Type 0 where
   once-more : {n s : ℕ} {x : Quotient} → CarriedOn n s x → (m : Model) (b last r : ℕ) (move : Quotient) → Weighing m → RoundedUp r move
       → CarriedOn (suc n) (volatilityOf m b last r s) (nextSquare (m .q) x move (choiceOf m b last r s))
 
-pub carried-demand : {n s : ℕ} {x : Quotient} → CarriedOn n s x → Demand3 n s x
-carried-demand (begun s) = record { near = near-start s; exact = λ z. omega arith }
-carried-demand (once-more {n} {s} {x} c m b last r move w u) =
-    record {
-      near = rw (← add-one n) (volatility-near m b last r s n x move w (carried-demand c .near) u);
-      exact = λ z. absurd (omega arith);
-    }
+pub carried-near : {n s : ℕ} {x : Quotient} → CarriedOn n s x → NearExact n s x
+carried-near (begun s) = near-start s
+carried-near (once-more {n} {s} {x} c m b last r move w u) =
+    rw (← add-one n) (volatility-near m b last r s n x move w (carried-near c) u)

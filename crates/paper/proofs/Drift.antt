@@ -35,7 +35,7 @@ cauchy b a x y = go (le-or-lt x y)
 
 -- at the start the carried figure is exact
 pub near-start : (s : ℕ) → NearExact 0 s (record { num = s * s; den = 1 })
-near-start s = record { above = omega arith; close = go s; positive = omega arith }
+near-start s = record { above = omega arith; close = go s; exact = λ _. omega arith; positive = omega arith }
   where
     go : (s : ℕ) → (s ≤ 0) ⊎ ((s - 0 - 1) * (s - 0 - 1) * 1 < s * s)
     go zero = inl (omega arith)
@@ -116,6 +116,7 @@ module _ (b a n s r x : ℕ) (old : Quotient) (move : Quotient) (near : NearExac
             mean-above b a (b + a) (s * s) (r * r) (x * x) (old .num) (old .den) (move .num * move .num) (move .den * move .den) (near .above)
             (le-trans (mul-le-mul (rounded .covers) (rounded .covers)) (omega arith)) covers;
         close = weight-close;
+        exact = λ z. absurd (omega arith);
         positive = mul-pos (mul-pos w (near .positive)) (mul-pos (rounded .positive) (rounded .positive));
       }
 
@@ -126,6 +127,7 @@ replace-near k n q r x move rounded hq kq covers least =
     record {
       above = le-trans (mul-le-mul h h) (omega arith);
       close = close;
+      exact = λ z. absurd (omega arith);
       positive = mul-pos (mul-pos (rounded .positive) hq) (mul-pos (rounded .positive) hq);
     }
   where

@@ -1,21 +1,17 @@
 -- What the figures of a key maturity are, in W-201's words: each the least that is asked for, with no maximum. Assumes nothing.
 use mathlib.Core.Path.{_≡_, refl}
 use mathlib.Core.Bool.{Bool, true, false}
-use mathlib.Core.List.{List, _∷_}
 use Prim.Native.Nat.{ℕ, _+_, _*_, _%_, _≤_, max}
 use native.Mathlib.Nat.{le-trans}
 use native.Mathlib.Omega.{arith}
 use lib.IntN.{ℤ, pos, negsuc}
 use lib.Signed.{leZ}
 use borrow.Author.Tests.{leb-true, le-leb}
-use Rattle.paper.specs.declared.Tentative.{Tentative}
 use Rattle.paper.specs.declared.Maturity.{Maturity}
 use Rattle.paper.specs.declared.Interest.{Interest}
-use Rattle.paper.specs.declared.MaturityFigures.{MaturityFigures}
 use Rattle.paper.specs.Numbers.{hundred}
 use Rattle.paper.specs.Rates.{leastStep, IsLeastStep}
-use Rattle.paper.specs.Interest.{repoVolatility, repoWanted, repoTentative, atLeastZero, estimate, maturityFigures}
-use Rattle.paper.specs.InterestExact.{Evening, Carried, keyGiven, carriedAfter}
+use Rattle.paper.specs.Interest.{repoVolatility, repoWanted, repoTentative, atLeastZero, estimate}
 use Rattle.paper.proofs.Search.{step-is}
 
 -- t is the least multiple of h with 100·t ≥ q·σ
@@ -55,10 +51,3 @@ estimate-is i k minimum h =
     covering : (z : ℤ) (n : ℕ) → leZ z (pos n) ≡ true → atLeastZero z ≤ n
     covering (pos m) n e = leb-true m n e
     covering (negsuc m) n e = omega arith
-
--- what is carried from evening to evening (demand 3) is what each evening answers
-pub carried-answered : (first : Carried) (e : Evening) (es : List Evening)
-    → (maturityFigures (e .given) (keyGiven (carriedAfter first es) (e .key)) .volatility ≡ carriedAfter first (e ∷ es) .volatility)
-    × (maturityFigures (e .given) (keyGiven (carriedAfter first es) (e .key)) .tentative ≡ carriedAfter first (e ∷ es) .tentative)
-unfolding maturityFigures carriedAfter
-carried-answered first e es = (refl, refl)

@@ -16,6 +16,7 @@ use Rattle.paper.specs.Lists.{every}
 use Rattle.paper.specs.Numbers.{hundred, stepMost, multiplierMost, divisorLeast, divisorMost, minimumMost, maturityMost, ageMost, repoLeast, repoMost, repoVolatilityMost, repoTentativeMost}
 use Rattle.paper.specs.Ranges.{withinZ, natural}
 use Rattle.paper.specs.Interest.{LentKey, validKey, maturityOf, validInterest, apartZ, changeOf, repoVolatility, repoWanted, repoTentative, atLeastZero, estimate, upward, downward, maturityFigures, wholeKeys, validKeys, keysOf, maturitiesOf, noFigures}
+use Rattle.paper.specs.InterestExact.{carriedFrom, keyGiven}
 use Rattle.paper.proofs.Logic.{clash, and-left, and-right, and-both}
 use Rattle.paper.proofs.Differences.{sum-size, minus-size}
 use Rattle.paper.proofs.Volatility.{Weighing}
@@ -209,24 +210,10 @@ all-held i numbers v w n = each (keysOf numbers) (and-right (wholeKeys numbers) 
     each (k ∷ ks) e zero = accepted-held i k v (and-left (validKey k) (every validKey ks) e)
     each (k ∷ ks) e (suc n) = each ks (and-right (validKey k) (every validKey ks) e) n
 
--- the next evening's numbers, with the last one's figures
-unfoldable pub nextKey : MaturityFigures → LentKey → LentKey
-nextKey f k =
-    record {
-      t = k .t;
-      r = k .r;
-      r1 = k .r1;
-      r2 = k .r2;
-      index = k .index;
-      volatility = pos (f .volatility);
-      tentative = pos (f .tentative .bp);
-      age = pos (f .tentative .age);
-    }
-
 -- the next evening does not refuse the figures of an accepted one
 pub next-valid : (i : Interest) (k next : LentKey) → validInterest i ≡ true → validKey k ≡ true → validKey next ≡ true
-    → validKey (nextKey (maturityFigures i (maturityOf k)) next) ≡ true
-unfolding validKey nextKey
+    → validKey (keyGiven (carriedFrom (maturityFigures i (maturityOf k))) next) ≡ true
+unfolding validKey keyGiven
 next-valid i k next v w n =
     let held : FiguresHeld (maturityFigures i (maturityOf k)) = accepted-held i k v w in
     let given : rates ≡ true = search (n, and-left, and-right) depth 40 in

@@ -10,9 +10,9 @@ use Rattle.paper.specs.declared.Interest.{Interest}
 use Rattle.paper.specs.declared.Verdict.{Verdict}
 use Rattle.paper.specs.declared.Verdict.the-variants.{Done, OutOfRange, NotAscending}
 use Rattle.paper.specs.Lists.{pick, every}
-use Rattle.paper.specs.Verdicts.{numberOf, isDone, firstOf, FirstAt, here, later, NoneApplies, none, also}
+use Rattle.paper.specs.Verdicts.{numberOf, isDone, firstOf, FirstAt, here, later, NoneApplies, none, also, Exactly}
 use Rattle.paper.specs.Interest.{validInterest, validKeys, maturitiesOf, ascending, interestChecks, refusedInterest, acceptedInterest, interestAnswer}
-use Rattle.paper.proofs.Logic.{Exactly, not-true, not-false, pick-true, pick-false}
+use Rattle.paper.proofs.Logic.{not-true, not-false, pick-true, pick-false}
 use Rattle.paper.proofs.Refusals.{done-is, first-is, is-first, refusals, done-none, none-done}
 
 -- every number that is given is in range

@@ -16,7 +16,7 @@ use Rattle.paper.specs.Numbers.{whole}
 use Rattle.paper.specs.Roundings.{Quotient}
 use Rattle.paper.specs.Least.{leastMultiple}
 use Rattle.paper.specs.Ranges.{validStatics}
-use Rattle.paper.specs.Rates.{leastStep, wanted, meets, daysOf, minimumOf, covers, levelRate, AtLeastRoots, volatilePart, liquidPart, IsLeastStep, HeldLeast}
+use Rattle.paper.specs.Rates.{leastStep, wanted, meets, daysOf, minimumOf, covers, levelRate, AtLeastRoots, volatilePart, liquidPart, AtLeastRequired, IsLeastStep, HeldLeast}
 use Rattle.paper.proofs.Logic.{clash, and-left, and-right, and-both, le-or-lt, pick-true, pick-false}
 use Rattle.paper.proofs.Search.{Mono, multiple-holds, multiple-least, multiple-bound, multiple-is, step-is}
 use Rattle.paper.proofs.Roots.{roots-covered, Floor, floor-root, short-one, short-two}
@@ -180,11 +180,11 @@ step-positive st v = leb-true 1 (st .h) (search (v, and-left, and-right) depth 4
 pub whole-times : (x h : ℕ) → x % h ≡ 0 → x / h * h ≡ x
 whole-times x h e = omega (arith, div-add-mod' x h)
 
--- With the model on, the rate of a level is the least multiple of the step that covers the requirement and the minimum, held at the maximum
-pub level-rate-is : (st : Statics) (level m tentative : ℕ) → validStatics st ≡ true
-    → HeldLeast (st .h) (minimumOf st level) (st .smax) (covers st level m tentative) (levelRate st level m tentative)
+-- the rate of a level by the exact comparison
+level-rate-compared : (st : Statics) (level m tentative : ℕ) → validStatics st ≡ true
+    → HeldLeast (st .h) (minimumOf st level) (st .smax) (λ w. covers st level m tentative w ≡ true) (levelRate st level m tentative)
 unfolding levelRate
-level-rate-is st level m tentative v = go (covers st level m tentative (st .smax)) refl
+level-rate-compared st level m tentative v = go (covers st level m tentative (st .smax)) refl
   where
     k : Stepping st level
     k = stepping st level v
@@ -199,7 +199,7 @@ level-rate-is st level m tentative v = go (covers st level m tentative (st .smax
     most = whole-times (st .smax) (st .h) (k .multiple)
 
     go : (b : Bool) → covers st level m tentative (st .smax) ≡ b
-        → HeldLeast (st .h) (minimumOf st level) (st .smax) (covers st level m tentative) (pick b searched (st .smax))
+        → HeldLeast (st .h) (minimumOf st level) (st .smax) (λ w. covers st level m tentative w ≡ true) (pick b searched (st .smax))
     go true e =
         let at-most : enough (st .smax / st .h * st .h) ≡ true = rw most (and-both _ _ (le-leb (minimumOf st level) (st .smax) (k .low)) e) in
         let holds : enough searched ≡ true = multiple-holds (st .h) (st .smax / st .h) enough at-most in
@@ -208,7 +208,7 @@ level-rate-is st level m tentative v = go (covers st level m tentative (st .smax
           multiple = rw (is .1) (mul-mod-left (is .0) (st .h));
           low = leb-true (minimumOf st level) searched (and-left (leb (minimumOf st level) searched) _ holds);
           held = omega (arith, multiple-bound (st .h) (st .smax / st .h) enough, most);
-          enough-or-held = inl (and-right (leb (minimumOf st level) searched) _ holds);
+          covers-or-held = inl (and-right (leb (minimumOf st level) searched) _ holds);
           least = λ j l c. multiple-least (st .h) (st .smax / st .h) enough j (and-both _ _ (le-leb (minimumOf st level) (j * st .h) l) c);
         }
     go false e =
@@ -216,7 +216,7 @@ level-rate-is st level m tentative v = go (covers st level m tentative (st .smax
           multiple = k .multiple;
           low = k .low;
           held = omega arith;
-          enough-or-held = inr (refl, e);
+          covers-or-held = inr (refl, λ c. clash (covers st level m tentative (st .smax)) c e);
           least = λ j l c. over j c (le-or-lt (st .smax) (j * st .h));
         }
       where
@@ -225,26 +225,54 @@ level-rate-is st level m tentative v = go (covers st level m tentative (st .smax
         over j c (inr l) =
             absurd (clash (covers st level m tentative (st .smax)) (covers-more st level m tentative (j * st .h) (st .smax) (omega arith) c) e)
 
+-- what is covered exactly where something else is may stand for it
+held-by : {h minimum maximum v : ℕ} {P Q : ℕ → Type 0} → ((w : ℕ) → P w → Q w) → ((w : ℕ) → Q w → P w)
+    → HeldLeast h minimum maximum P v → HeldLeast h minimum maximum Q v
+held-by {h} {minimum} {maximum} {v} {P} {Q} to from k =
+    record {
+      multiple = k .multiple;
+      low = k .low;
+      held = k .held;
+      covers-or-held = either (k .covers-or-held);
+      least = λ j l c. k .least j l (from (j * h) c);
+    }
+  where
+    either : P v ⊎ ((v ≡ maximum) × (P maximum → ⊥)) → Q v ⊎ ((v ≡ maximum) × (Q maximum → ⊥))
+    either (inl c) = inl (to v c)
+    either (inr (e, f)) = inr (e, λ c. f (from maximum c))
+
+days-positive : (st : Statics) → validStatics st ≡ true → 0 < st .rh1
+unfolding validStatics
+days-positive st v = leb-true 1 (st .rh1) (search (v, and-left, and-right) depth 40)
+
+-- With the model on, the rate of a level is the least multiple of the step that covers the requirement and the minimum, held at the maximum
+pub level-rate-is : (st : Statics) (level m tentative : ℕ) → validStatics st ≡ true
+    → HeldLeast (st .h) (minimumOf st level) (st .smax) (AtLeastRequired st level m tentative) (levelRate st level m tentative)
+unfolding covers
+level-rate-is st level m tentative v =
+    held-by (λ w e. meets-real (st .rh1) (daysOf st level) (st .liq) m tentative w (days-positive st v) e)
+    (λ w c. real-meets (st .rh1) (daysOf st level) (st .liq) m tentative w (days-positive st v) c)
+    (level-rate-compared st level m tentative v)
+
 -- ---- the rate that the volatility asks for
 
 -- t is the least multiple of h with 10,000·t ≥ q·s, held at S_max
-pub wanted-is : (st : Statics) (s : ℕ) → validStatics st ≡ true → HeldLeast (st .h) 0 (st .smax) (λ t. leb (st .q * s) (whole * t)) (wanted st s)
+pub wanted-is : (st : Statics) (s : ℕ) → validStatics st ≡ true
+    → HeldLeast (st .h) 0 (st .smax) (λ t. st .q * s ≤ whole * t) (wanted st s)
 unfolding wanted
 wanted-is st s v = go (le-or-lt searched (st .smax))
   where
-    enough : ℕ → Bool
-    enough t = leb (st .q * s) (whole * t)
-
     searched : ℕ
     searched = leastStep (st .h) whole (st .q * s)
 
     is : IsLeastStep (st .h) whole (st .q * s) searched
     is = step-is (st .h) whole (st .q * s) (step-positive st v) (omega arith)
 
-    below : (j : ℕ) → enough (j * st .h) ≡ true → searched ≤ j * st .h
-    below j c = is .least j (leb-true (st .q * s) (whole * (j * st .h)) c)
+    most : st .smax / st .h * st .h ≡ st .smax
+    most = whole-times (st .smax) (st .h) (stepping st 1 v .multiple)
 
-    go : (searched ≤ st .smax) ⊎ (st .smax < searched) → HeldLeast (st .h) 0 (st .smax) enough (min (st .smax) searched)
+    go : (searched ≤ st .smax) ⊎ (st .smax < searched)
+        → HeldLeast (st .h) 0 (st .smax) (λ t. st .q * s ≤ whole * t) (min (st .smax) searched)
     go (inl l) =
         let e : min (st .smax) searched ≡ searched = omega arith in
         rw e
@@ -252,21 +280,16 @@ wanted-is st s v = go (le-or-lt searched (st .smax))
           multiple = is .multiple;
           low = omega arith;
           held = l;
-          enough-or-held = inl (le-leb (st .q * s) (whole * searched) (is .enough));
-          least = λ j _ c. below j c;
+          covers-or-held = inl (is .enough);
+          least = λ j _ c. is .least j c;
         })
     go (inr l) =
         let e : min (st .smax) searched ≡ st .smax = omega arith in
-        let whole-step = stepping st 1 v in
         rw e
         (record {
-          multiple = whole-step .multiple;
+          multiple = stepping st 1 v .multiple;
           low = omega arith;
           held = omega arith;
-          enough-or-held = held (enough (st .smax)) refl;
-          least = λ j _ c. le-trans (omega arith) (below j c);
+          covers-or-held = inr (refl, λ c. absurd (omega (arith, most, is .least (st .smax / st .h) (rw most c))));
+          least = λ j _ c. le-trans (omega arith) (is .least j c);
         })
-      where
-        held : (b : Bool) → enough (st .smax) ≡ b → (enough (st .smax) ≡ true) ⊎ ((st .smax ≡ st .smax) × (enough (st .smax) ≡ false))
-        held true q = inl q
-        held false q = inr (refl, q)

@@ -13,14 +13,15 @@ pub mod Bounds
 pub mod LimitSizes
 pub mod CarriedOn
 pub mod InterestRanges
-pub mod InterestCarried
 pub mod InterestFigures
 pub mod InterestRefusals
+pub mod InterestCarried
 pub mod Roots
 pub mod Level
 pub mod Sound
 pub mod Kept
 pub mod Histories
 pub mod Known
-pub mod Carried
 pub mod Sequences
+pub mod Carried
+pub mod Demands

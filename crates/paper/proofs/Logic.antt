@@ -7,10 +7,6 @@ use native.Mathlib.Decide.{decLe}
 use native.Mathlib.Omega.{arith}
 use Rattle.paper.specs.Lists.{pick}
 
--- one holds where the other does, and nowhere else
-abbrev pub Exactly : Type 0 → Type 0 → Type 0
-Exactly a b = (a → b) × (b → a)
-
 pub clash : (b : Bool) → b ≡ true → b ≡ false → ⊥
 clash b p q = let z : _≡_ {A = ℕ} 0 1 = cc in omega arith
 

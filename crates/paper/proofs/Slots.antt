@@ -1,5 +1,5 @@
 -- Laws of the table: the first slot with an id, and what a store there leaves alone. Assumes nothing.
-use mathlib.Core.Path.{_≡_, refl, sym, _∙_, ap}
+use mathlib.Core.Path.{_≡_, refl, sym, _∙_, ap, subst}
 use mathlib.Core.Logic.{_≢_}
 use mathlib.Core.Bool.{Bool, true, false, _&&_}
 use mathlib.Core.List.{List, [], _∷_}
@@ -97,6 +97,12 @@ module _ (i : ℕ) (x : Record) where
   pub stands-written : (t : List Record) → stands t i ≡ true → ((x .id ≡ i → ⊥) → stands t (x .id) ≡ false) → stands (set t (place t i) x) (x .id) ≡ true
   unfolding stands
   stands-written t e f = rw (place-written t e f, length-set t (place t i) x) e
+
+-- a record stored in the slot of its own id is then found there
+pub found-stored : (t : List Record) (i : ℕ) (x : Record) → stands t i ≡ true → x .id ≡ found t i .id → found (set t (place t i) x) i ≡ x
+found-stored t i x there same =
+    let mine : x .id ≡ i = same ∙ found-id t i there in
+    subst (λ (j : ℕ). found (set t (place t i) x) j ≡ x) mine (found-written i x t there (λ other. absurd (other mine)))
 
 -- a fresh table has no id but 0
 pub fresh-empty : (t : List Record) (id : ℕ) → id ≢ 0 → fresh t ≡ true → stands t id ≡ false

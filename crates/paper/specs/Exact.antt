@@ -3,37 +3,22 @@ use mathlib.Core.Path.{_≡_}
 use mathlib.Core.Logic.{_⊎_}
 use mathlib.Core.List.{List, [], _∷_}
 use Prim.Native.Nat.{ℕ, _+_, _-_, _*_, _≤_, _<_}
-use lib.ListN.{getD}
-use lib.IntN.{ℤ}
 use Rattle.paper.specs.declared.Model.{Model}
-use Rattle.paper.specs.declared.Record.{Record}
 use Rattle.paper.specs.declared.Admission.{Admission}
-use Rattle.paper.specs.declared.Day.{Day}
 use Rattle.paper.specs.Lists.{pick}
 use Rattle.paper.specs.Numbers.{whole, million, hundred}
 use Rattle.paper.specs.Roundings.{Quotient, greaterOf, apart}
-use Rattle.paper.specs.Ranges.{noRate}
-use Rattle.paper.specs.Rates.{modelOf, weightOf, weighted, replaces}
-use Rattle.paper.specs.Desk.{priceOn, moveOn}
-use Rattle.paper.specs.History.{Event, evaluatedOn, quotedAt, movedBy, recordOf}
+use Rattle.paper.specs.Ranges.{staticsOf}
+use Rattle.paper.specs.Rates.{modelOf, moveOf, weightOf, weighted, replaces}
+use Rattle.paper.specs.History.{Event, evaluatedOn, quotedAt, movedBy}
+use Rattle.paper.specs.Sequences.{Carries, carries, rateAt}
 
 -- which figure the carried volatility chose: the mean by a weight, or the replacement
 pub data Choice : Type 0 where
   byWeight : ℕ → Choice
   replaced : Choice
 
--- an accepted evaluation: its price, and the choice
-pub record Entry : Type 0 where
-  pub price : ℕ
-  pub choice : Choice
-
 -- ---- the exact square
-
--- the exact square as a fraction in square millionths, with the two latest evaluations
-pub record Exact : Type 0 where
-  pub p1 : ℕ
-  pub p2 : ℕ
-  pub square : Quotient
 
 -- the greater of |P - P1|/P1 and |P - P2|/P2 in millionths, not rounded
 unfoldable pub exactMove : ℕ → ℕ → ℕ → Quotient
@@ -49,48 +34,30 @@ nextSquare q x r (byWeight a) =
     }
 nextSquare q x r replaced = record { num = hundred * r .num * (hundred * r .num); den = r .den * q * (r .den * q) }
 
--- from the values of the admission, by the evaluated prices and the choices of the carried figure
-unfoldable pub exactOf : Admission → List Entry → Exact
-exactOf a [] = record { p1 = a .p1; p2 = a .p2; square = record { num = a .s * a .s; den = 1 } }
-exactOf a (e ∷ es) =
-    let x : Exact = exactOf a es in
-    record {
-      p1 = e .price;
-      p2 = x .p1;
-      square = nextSquare (a .given .q) (x .square) (exactMove (x .p1) (x .p2) (e .price)) (e .choice);
-    }
-
--- ---- the accepted evaluations of a security
-
 -- the choice that the volatility's rule makes in an evaluation
 unfoldable pub choiceOf : Model → (b last r s : ℕ) → Choice
 choiceOf m b last r s =
     let a : ℕ = weightOf m b r s in
     pick (replaces m b last r (weighted a s r)) replaced (byWeight a)
 
-unfoldable pub entryOf : Record → Day → List ℤ → Entry
-entryOf r d rows =
-    record {
-      price = priceOn r rows;
-      choice = choiceOf (modelOf (r .statics)) (d .b) (hundred * getD (r .rates) 0 noRate .bp) (moveOn r rows) (r .s);
-    }
-
--- the accepted evaluations of a history, the latest first; the choices are those of the record that the history gives
-unfoldable pub entriesOf : Admission → List Event → List Entry
-entriesOf a [] = []
-entriesOf a (evaluatedOn d rows ∷ es) = entryOf (recordOf a es) d rows ∷ entriesOf a es
-entriesOf a (quotedAt q ∷ es) = entriesOf a es
-entriesOf a (movedBy side ∷ es) = entriesOf a es
+-- the exact square in square millionths: from the s of the admission, by the move of each accepted evaluation as it is, not rounded, and by the choice
+-- that the carried figure made in it. Quotes and moves carry nothing on
+unfoldable pub exactSquare : Admission → List Event → Quotient
+exactSquare a [] = record { num = a .s * a .s; den = 1 }
+exactSquare a (evaluatedOn d rows ∷ es) =
+    let x : Carries = carries a es in
+    let p : ℕ = carries a (evaluatedOn d rows ∷ es) .p1 in
+    nextSquare (a .given .q) (exactSquare a es) (exactMove (x .p1) (x .p2) p)
+    (choiceOf (modelOf (staticsOf (a .given))) (d .b) (hundred * rateAt (x .rates) 0) (moveOf (x .p1) (x .p2) p) (x .s))
+exactSquare a (quotedAt q ∷ es) = exactSquare a es
+exactSquare a (movedBy side ∷ es) = exactSquare a es
 
 -- ---- the promise
 
--- "never below the exact one .. and less than n + 1 millionths above it", "in whole numbers": "s²·D ≥ N, and s ≤ n or (s - n - 1)²·D < N", D above 0
+-- demand 3 "in whole numbers, with n the accepted evaluations and the exact square kept as N/D .., D above 0": "s²·D ≥ N, and s ≤ n or (s - n - 1)²·D < N;
+-- at n 0, s²·D = N"
 pub record NearExact (n s : ℕ) (square : Quotient) : Type 0 where
   pub above : square .num ≤ s * s * square .den
   pub close : (s ≤ n) ⊎ ((s - n - 1) * (s - n - 1) * square .den < square .num)
-  pub positive : 0 < square .den
-
--- the whole of demand 3: also "at n 0, s²·D = N"
-pub record Demand3 (n s : ℕ) (square : Quotient) : Type 0 where
-  pub near : NearExact n s square
   pub exact : n ≡ 0 → s * s * square .den ≡ square .num
+  pub positive : 0 < square .den

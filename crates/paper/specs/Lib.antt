@@ -11,11 +11,12 @@ pub mod Verdicts
 pub mod Desk
 pub mod Gateway
 pub mod History
-pub mod Exact
 pub mod Sequences
+pub mod Exact
 pub mod Kept
 pub mod Cases
 pub mod Interest
 pub mod InterestExact
+pub mod Demands
 pub mod InterestCases
 pub mod Terms

@@ -29,6 +29,10 @@ numberOf NotAscending = 14
 unfoldable pub isDone : Verdict → Bool
 isDone v = eqb (numberOf v) 0
 
+-- one holds where the other does, and nowhere else
+abbrev pub Exactly : Type 0 → Type 0 → Type 0
+Exactly a b = (a → b) × (b → a)
+
 -- a number, and when it applies
 pub record Check : Type 0 where
   pub verdict : Verdict
