@@ -18,7 +18,8 @@ pub figure-high : (st : Statics) (tentative m level : ℕ) → validStatics st �
 unfolding levelFigure
 figure-high st tentative m level v = go (st .ewma)
   where
-    is : HeldLeast (st .h) (minimumOf st level) (st .smax) (AtLeastRequired st level m tentative) (levelRate st level m tentative)
+    is : HeldLeast (st .h) (minimumOf st level) (st .smax) (AtLeastRequired st level m tentative)
+        (levelRate st level m tentative)
     is = level-rate-is st level m tentative v
 
     go : (b : Bool) → pick b (levelRate st level m tentative) (minimumOf st level) ≤ st .smax

@@ -1,4 +1,5 @@
--- How large a limit and delta can be: the paper's laws, in the ranges that the limit rules ask for; and the products of delta. Assumes nothing.
+-- How large a limit and delta can be: the paper's laws, in the ranges that the limit rules ask for; and the products of
+-- delta. Assumes nothing.
 use Prim.Native.Nat.{ℕ, _*_, _≤_}
 use native.Mathlib.Nat.{mul-le-mul}
 use lib.IntN.{ℤ}
@@ -18,7 +19,8 @@ range-high st side p rate r = sizes.range-high st side p rate (r .price) (r .rat
 
 pub band-high : (st : Statics) (side : Side) (p s1 c k : ℕ) (repo : ℤ) → LimitStatics st → BandInputs p s1 c k repo
     → bandLimit st side p s1 c k repo ≤ freshMost
-band-high st side p s1 c k repo s r = sizes.band-high st side p s1 c k repo s (r .price) (r .days) (size-repo repo (r .repo-high))
+band-high st side p s1 c k repo s r =
+    sizes.band-high st side p s1 c k repo s (r .price) (r .days) (size-repo repo (r .repo-high))
 
 -- ---- delta
 

@@ -1,5 +1,5 @@
--- Demand 3 of shares: what the accepted evaluations carry on is a volatility carried on by the rule, each time by a move rounded up, from the admission's; so
--- it is near the exact one. Assumes nothing.
+-- Demand 3 of shares: what the accepted evaluations carry on is a volatility carried on by the rule, each time by a
+-- move rounded up, from the admission's; so it is near the exact one. Assumes nothing.
 use mathlib.Core.Path.{_≡_, refl, sym, ap}
 use mathlib.Core.Bool.{Bool, true}
 use mathlib.Core.List.{List, [], _∷_}
@@ -71,7 +71,8 @@ carried a (evaluatedOn d rows ∷ es) (l, n) on =
     let positive : PricesPositive x = prices-positive a es l in
     rw (volatility-modelled st (d .b) (d .m) (rateAt (x .rates) 0) (moveOf (x .p1) (x .p2) p) (x .s) (x .tentative) on)
     (once-more (carried a es l on) (modelOf st) (d .b) (hundred * rateAt (x .rates) 0) (moveOf (x .p1) (x .p2) p)
-    (exactMove (x .p1) (x .p2) p) (weighing st (lawful-statics a es l)) (move-rounded (x .p1) (x .p2) p (positive .p1) (positive .p2)))
+    (exactMove (x .p1) (x .p2) p) (weighing st (lawful-statics a es l))
+    (move-rounded (x .p1) (x .p2) p (positive .p1) (positive .p2)))
 carried a (quotedAt q ∷ es) (l, n) on = carried a es l on
 carried a (movedBy side ∷ es) (l, n) on = carried a es l on
 

@@ -22,7 +22,8 @@ use Rattle.paper.proofs.Sequences.{quote-term, alerts-noted, lawful-fig
 use Rattle.paper.proofs.Carried.{lawful-near}
 use Rattle.paper.proofs.InterestCarried.{evenings-near}
 
--- After every sequence of calls on a fresh table every slot is empty or sound, and an id is known exactly if it was admitted
+-- After every sequence of calls on a fresh table every slot is empty or sound, and an id is known exactly if it was
+-- admitted
 pub table-kept : (cs : List Call) (t : List Record) → FreshTable t → TableKept cs t
 table-kept cs t f =
     record {
@@ -52,11 +53,14 @@ demand-1 c t =
           refused-step c t (ap isDone (sym (verdict-first c t)) ∙ e)
           ∙ ap (λ (v : Verdict). record { answer = saying v; table = t }) (sym (verdict-first c t));
       no-such-id = λ n cs empty f made.
-          subst (λ (u : List Record). Exactly (answered c u ≡ NoSuchId) (historyOf (idOf c) cs empty ≡ unknown)) (sym made)
+          subst (λ (u : List Record). Exactly (answered c u ≡ NoSuchId) (historyOf (idOf c) cs empty ≡ unknown))
+          (sym made)
           (no-such-id cs empty (f .slots) (f .empty) c n);
       already = λ a same v cs empty f made.
-          subst (λ (u : List Record). Exactly (answered c u ≡ AlreadyAdmitted) (wasAdmitted (historyOf (a .id) cs empty) ≡ true)) (sym made)
-          (subst (λ (x : Call). Exactly (answered x (run cs empty) ≡ AlreadyAdmitted) (wasAdmitted (historyOf (a .id) cs empty) ≡ true)) (sym same)
+          subst (λ (u : List Record). Exactly (answered c u ≡ AlreadyAdmitted)
+          (wasAdmitted (historyOf (a .id) cs empty) ≡ true)) (sym made)
+          (subst (λ (x : Call). Exactly (answered x (run cs empty) ≡ AlreadyAdmitted)
+          (wasAdmitted (historyOf (a .id) cs empty) ≡ true)) (sym same)
           (already-admitted cs empty (f .slots) (f .empty) a v));
     }
 

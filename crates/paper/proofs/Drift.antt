@@ -100,7 +100,8 @@ module _ (b a n s r x : ℕ) (old : Quotient) (move : Quotient) (near : NearExac
           let m : b * ((s - (n + 1)) * (s - (n + 1))) + a * ((r - 1) * (r - 1)) ≤ (b + a) * (u * u) =
           mean-below b a (b + a) ((s - (n + 1)) * (s - (n + 1))) ((r - 1) * (r - 1)) (u * u) (old .num) (old .den) (move .num * move .num) (move .den * move .den)
           (near .positive) (mul-pos (rounded .positive) (rounded .positive)) (near-below n s old near)
-          (le-trans (square-out (r - 1) (move .den)) (mul-le-mul (rounded-below r move rounded) (rounded-below r move rounded))) e in
+          (le-trans (square-out (r - 1) (move .den))
+          (mul-le-mul (rounded-below r move rounded) (rounded-below r move rounded))) e in
           let z : x ≤ u + (n + 1) =
           least (u + (n + 1)) (mean-shift b a (n + 1) (s - (n + 1)) (r - 1) u s r (omega arith) (omega arith) m) in
           absurd (omega arith)
@@ -154,7 +155,8 @@ replace-near k n q r x move rounded hq kq covers least =
         go (inr l) (inr e) = inr e
         go (inr l) (inl e) =
             let d : k * move .num ≤ u * (move .den * q) = side-le (k * move .num) (u * (move .den * q)) (le-trans e (omega arith)) in
-            let f : move .den * (k * (r - 1)) ≤ move .den * (u * q) = omega (arith, mul-le-mul-left k (rounded-below r move rounded)) in
+            let f : move .den * (k * (r - 1)) ≤ move .den * (u * q) =
+            omega (arith, mul-le-mul-left k (rounded-below r move rounded)) in
             let g : k * (r - 1) ≤ u * q = le-of-mul-le-mul-left f (rounded .positive) in
             let z : x ≤ u + 1 = least (u + 1) (one-more g) in
             absurd (omega arith)

@@ -1,5 +1,6 @@
--- Demand 3 on the interest side: over any number of evenings that follow each other, the volatility that the last call answers is near the exact one. Each
--- call answers, for the key maturity that we follow, the volatility's rule of what it was given; so the shares' induction serves. Assumes nothing.
+-- Demand 3 on the interest side: over any number of evenings that follow each other, the volatility that the last call
+-- answers is near the exact one. Each call answers, for the key maturity that we follow, the volatility's rule of what
+-- it was given; so the shares' induction serves. Assumes nothing.
 use mathlib.Core.Path.{_≡_, refl, sym, _∙_, ap}
 use mathlib.Core.Bool.{true}
 use mathlib.Core.List.{List, [], _∷_, map}
@@ -44,7 +45,8 @@ eight-at f d (suc (suc (suc (suc (suc (suc zero)))))) l = refl
 eight-at f d (suc (suc (suc (suc (suc (suc (suc zero))))))) l = refl
 eight-at f d (suc (suc (suc (suc (suc (suc (suc (suc n)))))))) l = absurd (omega arith)
 
-map-at : {A B : Type 0} (f : A → B) (d : A) (e : B) (xs : List A) (n : ℕ) → n < length xs → getD (map f xs) n e ≡ f (getD xs n d)
+map-at : {A B : Type 0} (f : A → B) (d : A) (e : B) (xs : List A) (n : ℕ) → n < length xs
+    → getD (map f xs) n e ≡ f (getD xs n d)
 map-at f d e [] n l = absurd (omega arith)
 map-at f d e (x ∷ xs) zero l = refl
 map-at f d e (x ∷ xs) (suc n) l = map-at f d e xs n (omega arith)
@@ -64,7 +66,8 @@ keys-most : (numbers : List ℤ) → validKeys numbers ≡ true → length (keys
 unfolding validKeys wholeKeys keysOf
 keys-most numbers v =
     let most : length numbers ≤ allKeyNumbersMost = leb-true _ _ (search (v, and-left, and-right)) in
-    let few : length numbers / keyNumbers < 9 = div-lt-iff-lt-mul {k = keyNumbers} {x = length numbers} {y = 9} (omega arith) .1 (omega arith) in
+    let few : length numbers / keyNumbers < 9 =
+    div-lt-iff-lt-mul {k = keyNumbers} {x = length numbers} {y = 9} (omega arith) .1 (omega arith) in
     rw (parts-length keyAt keyNumbers numbers 0 (length numbers / keyNumbers)) (omega arith)
 
 module _ (e : Evening) (done : interestAnswer (e .given) (e .numbers) .pair .verdict ≡ Done)
@@ -87,11 +90,14 @@ module _ (e : Evening) (done : interestAnswer (e .given) (e .numbers) .pair .ver
       ≡ maturityFigures (e .given) (maturityOf (keyIn e))
   unfolding acceptedInterest maturitiesOf keyIn
   figures-answered =
-      let few : e .place < 8 = omega (arith, among-keys, keys-most (e .numbers) (and-right (validInterest (e .given)) _ in-range)) in
+      let few : e .place < 8 =
+      omega (arith, among-keys, keys-most (e .numbers) (and-right (validInterest (e .given)) _ in-range)) in
       ap (λ (x : InterestAnswer). getD (x .figures) (e .place) noFigures) answers
-      ∙ eight-at (λ n. getD (map (maturityFigures (e .given)) (maturitiesOf (e .numbers))) n noFigures) noFigures (e .place) few
+      ∙ eight-at (λ n. getD (map (maturityFigures (e .given)) (maturitiesOf (e .numbers))) n noFigures) noFigures
+      (e .place) few
       ∙ map-at (maturityFigures (e .given)) (maturityOf noKey) noFigures (maturitiesOf (e .numbers)) (e .place) among
-      ∙ ap (maturityFigures (e .given)) (map-at maturityOf noKey (maturityOf noKey) (keysOf (e .numbers)) (e .place) among-keys)
+      ∙ ap (maturityFigures (e .given))
+      (map-at maturityOf noKey (maturityOf noKey) (keysOf (e .numbers)) (e .place) among-keys)
 
   -- the volatility's rule of what the call was given
   volatility-answered : answeredIn e .volatility ≡ repoVolatility (e .given) (maturityOf (keyIn e))
@@ -114,7 +120,8 @@ interest-carried {first} (next {e} {es} f done there given) =
     rw (given-volatility (carriedAfter first es) (keyIn e) given) (interest-carried f) in
     let ok : validInterest (e .given) ≡ true = and-left _ (validKeys (e .numbers)) (in-range e done there) in
     rw (volatility-answered e done there)
-    (once-more before (e .given .model) (e .given .b) (k .tentative .bp) (changeOf k) (exactChange k) (interest-range (e .given) ok .weighs) (change-rounded k))
+    (once-more before (e .given .model) (e .given .b) (k .tentative .bp) (changeOf k) (exactChange k)
+    (interest-range (e .given) ok .weighs) (change-rounded k))
 
 -- Demand 3 in bp
 pub evenings-near : (first : Carried) (es : List Evening) → Follow first es

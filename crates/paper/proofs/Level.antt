@@ -182,7 +182,8 @@ whole-times x h e = omega (arith, div-add-mod' x h)
 
 -- the rate of a level by the exact comparison
 level-rate-compared : (st : Statics) (level m tentative : ℕ) → validStatics st ≡ true
-    → HeldLeast (st .h) (minimumOf st level) (st .smax) (λ w. covers st level m tentative w ≡ true) (levelRate st level m tentative)
+    → HeldLeast (st .h) (minimumOf st level) (st .smax) (λ w. covers st level m tentative w ≡ true)
+    (levelRate st level m tentative)
 unfolding levelRate
 level-rate-compared st level m tentative v = go (covers st level m tentative (st .smax)) refl
   where
@@ -199,7 +200,8 @@ level-rate-compared st level m tentative v = go (covers st level m tentative (st
     most = whole-times (st .smax) (st .h) (k .multiple)
 
     go : (b : Bool) → covers st level m tentative (st .smax) ≡ b
-        → HeldLeast (st .h) (minimumOf st level) (st .smax) (λ w. covers st level m tentative w ≡ true) (pick b searched (st .smax))
+        → HeldLeast (st .h) (minimumOf st level) (st .smax) (λ w. covers st level m tentative w ≡ true)
+        (pick b searched (st .smax))
     go true e =
         let at-most : enough (st .smax / st .h * st .h) ≡ true = rw most (and-both _ _ (le-leb (minimumOf st level) (st .smax) (k .low)) e) in
         let holds : enough searched ≡ true = multiple-holds (st .h) (st .smax / st .h) enough at-most in
@@ -245,9 +247,11 @@ days-positive : (st : Statics) → validStatics st ≡ true → 0 < st .rh1
 unfolding validStatics
 days-positive st v = leb-true 1 (st .rh1) (search (v, and-left, and-right) depth 40)
 
--- With the model on, the rate of a level is the least multiple of the step that covers the requirement and the minimum, held at the maximum
+-- With the model on, the rate of a level is the least multiple of the step that covers the requirement and the minimum,
+-- held at the maximum
 pub level-rate-is : (st : Statics) (level m tentative : ℕ) → validStatics st ≡ true
-    → HeldLeast (st .h) (minimumOf st level) (st .smax) (AtLeastRequired st level m tentative) (levelRate st level m tentative)
+    → HeldLeast (st .h) (minimumOf st level) (st .smax) (AtLeastRequired st level m tentative)
+    (levelRate st level m tentative)
 unfolding covers
 level-rate-is st level m tentative v =
     held-by (λ w e. meets-real (st .rh1) (daysOf st level) (st .liq) m tentative w (days-positive st v) e)

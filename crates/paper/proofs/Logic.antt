@@ -22,6 +22,11 @@ pub and-both : (a b : Bool) → a ≡ true → b ≡ true → (a && b) ≡ true
 and-both true b p q = q
 and-both false b p q = p
 
+-- one after the other
+infixl 30 _&_
+pub _&_ : {a b : Bool} → a ≡ true → b ≡ true → (a && b) ≡ true
+_&_ {a} {b} p q = and-both a b p q
+
 pub and-false : (a b : Bool) → (a && b) ≡ false → a ≡ true → b ≡ false
 and-false true b e p = e
 and-false false b e p = absurd (clash false p refl)

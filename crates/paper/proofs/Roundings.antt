@@ -65,7 +65,8 @@ rounded-below r x u = go (le-or-lt ((r - 1) * x .den) (x .num))
     go (inr l) = let none : r - 1 ≡ 0 = omega (arith, u .least (r - 1) (omega arith)) in rw none (omega arith)
 
 -- the greater of two numbers rounded up is the greater quotient rounded up
-pub rounded-max : (q r : ℕ) (x y : Quotient) → RoundedUp q x → RoundedUp r y → y .num * x .den ≤ x .num * y .den → RoundedUp (max q r) x
+pub rounded-max : (q r : ℕ) (x y : Quotient) → RoundedUp q x → RoundedUp r y → y .num * x .den ≤ x .num * y .den
+    → RoundedUp (max q r) x
 rounded-max q r x y u v l =
     record {
       covers = le-trans (u .covers) (mul-le-mul-right (x .den) (omega arith));

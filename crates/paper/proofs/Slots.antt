@@ -99,7 +99,8 @@ module _ (i : ℕ) (x : Record) where
   stands-written t e f = rw (place-written t e f, length-set t (place t i) x) e
 
 -- a record stored in the slot of its own id is then found there
-pub found-stored : (t : List Record) (i : ℕ) (x : Record) → stands t i ≡ true → x .id ≡ found t i .id → found (set t (place t i) x) i ≡ x
+pub found-stored : (t : List Record) (i : ℕ) (x : Record) → stands t i ≡ true → x .id ≡ found t i .id
+    → found (set t (place t i) x) i ≡ x
 found-stored t i x there same =
     let mine : x .id ≡ i = same ∙ found-id t i there in
     subst (λ (j : ℕ). found (set t (place t i) x) j ≡ x) mine (found-written i x t there (λ other. absurd (other mine)))

@@ -1,4 +1,5 @@
--- The customer's demands, a record each. proofs/Demands.antt proves them, a theorem each, for every sequence of calls on every fresh table. Assumes nothing.
+-- The customer's demands, a record each. proofs/Demands.antt proves them, a theorem each, for every sequence of calls
+-- on every fresh table. Assumes nothing.
 use mathlib.Core.Path.{_≡_}
 use mathlib.Core.Bool.{Bool, true, false}
 use mathlib.Core.List.{List, [], _∷_, _++_, map}
@@ -38,8 +39,9 @@ orderOf (quote id q) = 1 ∷ 6 ∷ 10 ∷ 11 ∷ 13 ∷ []
 orderOf (move id side) = 1 ∷ 6 ∷ 10 ∷ 11 ∷ 12 ∷ []
 orderOf (read id) = 1 ∷ []
 
--- "Any input gets an answer. Every call refuses by a number from document 01's list, exactly when the list says so; a refused call leaves the table as it
--- found it." Of any call, with any values, on any table at all: of no slots or of 513, with damaged records, or made by calls
+-- "Any input gets an answer. Every call refuses by a number from document 01's list, exactly when the list says so; a
+-- refused call leaves the table as it found it." Of any call, with any values, on any table at all: of no slots or of
+-- 513, with damaged records, or made by calls
 pub record Demand1 (c : Call) (t : List Record) : Type 0 where
   -- the numbers by which the call may refuse, in the paper's order; Desk's `checksOf` has the condition of each
   pub order : map (λ (x : Check). numberOf (x .verdict)) (checksOf c t) ≡ orderOf c
@@ -59,18 +61,21 @@ pub record Demand1 (c : Call) (t : List Record) : Type 0 where
 
 -- ---- Demand 2
 
--- every figure of the record r of a security that a admitted, with its accepted calls es since, is the one that document 01 defines from them
+-- every figure of the record r of a security that a admitted, with its accepted calls es since, is the one that
+-- document 01 defines from them
 pub record FiguresHold (a : Admission) (es : List Event) (r : Record) : Type 0 where
   pub id : r .id ≡ a .id
   pub statics : r .statics ≡ staticsOf (a .given)
   pub standing : r .standing ≡ standingNow a (lastEvaluated es)
-  -- the two latest evaluations, s, the tentative rate with its age, and the three rates, carried on by the accepted evaluations
+  -- the two latest evaluations, s, the tentative rate with its age, and the three rates, carried on by the accepted
+  -- evaluations
   pub p1 : r .p1 .units ≡ carries a es .p1
   pub p2 : r .p2 .units ≡ carries a es .p2
   pub s : r .s ≡ carries a es .s
   pub tentative : r .tentative ≡ carries a es .tentative
   pub rates : r .rates ≡ carries a es .rates
-  -- "c the moves of that side since the evaluation"; the terms of the last evaluation, and the ranges and bands of it and of those moves
+  -- "c the moves of that side since the evaluation"; the terms of the last evaluation, and the ranges and bands of it
+  -- and of those moves
   pub moves : r .moves ≡ movesOf es
   pub ranges : (i : ℕ) → i < 3 → getD (r .ranges) i noLimits ≡ rangeNow a es (lastEvaluated es) i
   pub terms : (k : ℕ) → k < 3 → termAt (r .terms) k ≡ termNow (lastEvaluated es) k
@@ -79,15 +84,17 @@ pub record FiguresHold (a : Admission) (es : List Event) (r : Record) : Type 0 w
   pub near : (k : ℕ) → k < 3 → getD (r .near) k notNear ≡ nearNow a es k
   pub second : r .second ≡ lastSecond es
 
--- "A rate set with the model on is the least multiple of the step that covers the requirement and the minimum, held at the maximum": with m non-trading days
--- ahead, each level's; covering the requirement is the inequality of real numbers. "With isEWMA no, the three rates are the minima"
+-- "A rate set with the model on is the least multiple of the step that covers the requirement and the minimum, held at
+-- the maximum": with m non-trading days ahead, each level's; covering the requirement is the inequality of real
+-- numbers. "With isEWMA no, the three rates are the minima"
 pub record RatesHold (st : Statics) (m : ℕ) (r : Record) : Type 0 where
   pub modelled : st .ewma ≡ true → (i : ℕ) → i < 3
-      → HeldLeast (st .h) (minimumOf st (i + 1)) (st .smax) (AtLeastRequired st (i + 1) m (r .tentative .bp)) (rateAt (r .rates) i)
+      → HeldLeast (st .h) (minimumOf st (i + 1)) (st .smax) (AtLeastRequired st (i + 1) m (r .tentative .bp))
+      (rateAt (r .rates) i)
   pub minima : st .ewma ≡ false → (i : ℕ) → i < 3 → rateAt (r .rates) i ≡ minimumOf st (i + 1)
 
--- "Accepted evaluations, moves and reads return the record as it then stands, a quote its two alerts, an admission the number 0 alone": t is the table then.
--- An alert is "near, and at least u seconds since that second"
+-- "Accepted evaluations, moves and reads return the record as it then stands, a quote its two alerts, an admission the
+-- number 0 alone": t is the table then. An alert is "near, and at least u seconds since that second"
 abbrev pub answerThen : Admission → List Event → Call → List Record → Answer
 answerThen a es (admit b) t = saying Done
 answerThen a es (evaluate id d rows) t = showing (found t id)
@@ -97,8 +104,9 @@ answerThen a es (quote id q) t =
 answerThen a es (move id side) t = showing (found t id)
 answerThen a es (read id) t = showing (found t id)
 
--- "Each evaluation, rate, range and band is the one document 01 defines. .. For every sequence of admissions, evaluations, quotes and moves." Of a security
--- whose history in the calls that made the table t is its admission a and its accepted calls es
+-- "Each evaluation, rate, range and band is the one document 01 defines. .. For every sequence of admissions,
+-- evaluations, quotes and moves." Of a security whose history in the calls that made the table t is its admission a and
+-- its accepted calls es
 pub record Demand2 (id : ℕ) (a : Admission) (es : List Event) (t : List Record) : Type 0 where
   pub is-known : known t id ≡ true
   pub figures : FiguresHold a es (found t id)
@@ -109,14 +117,15 @@ pub record Demand2 (id : ℕ) (a : Admission) (es : List Event) (t : List Record
 
 -- ---- Demand 3
 
--- "After n accepted evaluations with the model on, the carried volatility is never below the exact one and less than n+1 millionths above it; at n = 0 they
--- are equal."
+-- "After n accepted evaluations with the model on, the carried volatility is never below the exact one and less than
+-- n+1 millionths above it; at n = 0 they are equal."
 pub record Demand3 : Type 0 where
   -- of a security with the model on, in millionths: n is its accepted evaluations
   pub share : (id : ℕ) (cs : List Call) (t : List Record) → FreshTable t → (a : Admission) (es : List Event)
       → historyOf id cs t ≡ since a es → staticsOf (a .given) .ewma ≡ true
       → NearExact (evaluations es) (found (run cs t) id .s) (exactSquare a es)
-  -- of a key maturity of the interest side, in bp: n is the accepted evenings, "each evening given the last one's figures"
+  -- of a key maturity of the interest side, in bp: n is the accepted evenings, "each evening given the last one's
+  -- figures"
   pub interest : (first : Carried) (es : List Evening) → Follow first es
       → NearExact (length es) (carriedAfter first es .volatility) (exactRepoSquare first es)
 

@@ -40,8 +40,8 @@ choiceOf m b last r s =
     let a : ℕ = weightOf m b r s in
     pick (replaces m b last r (weighted a s r)) replaced (byWeight a)
 
--- the exact square in square millionths: from the s of the admission, by the move of each accepted evaluation as it is, not rounded, and by the choice
--- that the carried figure made in it. Quotes and moves carry nothing on
+-- the exact square in square millionths: from the s of the admission, by the move of each accepted evaluation as it is,
+-- not rounded, and by the choice that the carried figure made in it. Quotes and moves carry nothing on
 unfoldable pub exactSquare : Admission → List Event → Quotient
 exactSquare a [] = record { num = a .s * a .s; den = 1 }
 exactSquare a (evaluatedOn d rows ∷ es) =
@@ -54,8 +54,8 @@ exactSquare a (movedBy side ∷ es) = exactSquare a es
 
 -- ---- the promise
 
--- demand 3 "in whole numbers, with n the accepted evaluations and the exact square kept as N/D .., D above 0": "s²·D ≥ N, and s ≤ n or (s - n - 1)²·D < N;
--- at n 0, s²·D = N"
+-- demand 3 "in whole numbers, with n the accepted evaluations and the exact square kept as N/D .., D above 0": "s²·D ≥
+-- N, and s ≤ n or (s - n - 1)²·D < N; at n 0, s²·D = N"
 pub record NearExact (n s : ℕ) (square : Quotient) : Type 0 where
   pub above : square .num ≤ s * s * square .den
   pub close : (s ≤ n) ⊎ ((s - n - 1) * (s - n - 1) * square .den < square .num)

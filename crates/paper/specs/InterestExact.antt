@@ -1,5 +1,6 @@
--- Demand 3 on the interest side (document 02, W-201): it "reads for the interest volatility too, in bp, each evening given the last one's figures; the exact
--- one is worked out from the first volatility given and the whole rates that each change is taken from". Assumes nothing.
+-- Demand 3 on the interest side (document 02, W-201): it "reads for the interest volatility too, in bp, each evening
+-- given the last one's figures; the exact one is worked out from the first volatility given and the whole rates that
+-- each change is taken from". Assumes nothing.
 use mathlib.Core.Path.{_≡_}
 use mathlib.Core.List.{List, [], _∷_}
 use Prim.Native.Nat.{ℕ, _*_, _<_}
@@ -24,7 +25,16 @@ pub record Evening : Type 0 where
 
 abbrev pub noKey : LentKey
 noKey =
-    record { t = pos 0; r = pos 0; r1 = pos 0; r2 = pos 0; index = pos 0; volatility = pos 0; tentative = pos 0; age = pos 0 }
+    record {
+      t = pos 0;
+      r = pos 0;
+      r1 = pos 0;
+      r2 = pos 0;
+      index = pos 0;
+      volatility = pos 0;
+      tentative = pos 0;
+      age = pos 0;
+    }
 
 -- what the call lends of that key maturity
 unfoldable pub keyIn : Evening → LentKey
@@ -61,10 +71,12 @@ keyGiven last k =
       age = pos (last .tentative .age);
     }
 
--- Evenings that follow each other, the latest first: each call was accepted, has the key maturity that we follow, and was given the last one's figures
+-- Evenings that follow each other, the latest first: each call was accepted, has the key maturity that we follow, and
+-- was given the last one's figures
 pub data Follow (first : Carried) : List Evening → Type 0 where
   start : Follow first []
-  next : {e : Evening} {es : List Evening} → Follow first es → interestAnswer (e .given) (e .numbers) .pair .verdict ≡ Done
+  next : {e : Evening} {es : List Evening} → Follow first es
+      → interestAnswer (e .given) (e .numbers) .pair .verdict ≡ Done
       → e .place < interestAnswer (e .given) (e .numbers) .count → keyIn e ≡ keyGiven (carriedAfter first es) (keyIn e)
       → Follow first (e ∷ es)
 

@@ -141,12 +141,15 @@ pub record IsLeastStep (h w n v : ℕ) : Type 0 where
   pub enough : n ≤ w * v
   pub least : (j : ℕ) → n ≤ w * (j * h) → v ≤ j * h
 
--- v is at least the requirement of a level, as real numbers are: "v ≥ sqrt(rh_L/rh_1)·(tentative·sqrt((rh_1 + m)/rh_1) + liq)"
+-- v is at least the requirement of a level, as real numbers are: "v ≥ sqrt(rh_L/rh_1)·(tentative·sqrt((rh_1 + m)/rh_1)
+-- + liq)"
 abbrev pub AtLeastRequired : Statics → (level m tentative v : ℕ) → Type 0
 AtLeastRequired st level m tentative v =
-    AtLeastRoots v (volatilePart (st .rh1) (daysOf st level) m tentative) (liquidPart (st .rh1) (daysOf st level) (st .liq))
+    AtLeastRoots v (volatilePart (st .rh1) (daysOf st level) m tentative)
+    (liquidPart (st .rh1) (daysOf st level) (st .liq))
 
--- "the least multiple of the step that covers the requirement and the minimum, held at the maximum", whatever it is that a rate has to cover
+-- "the least multiple of the step that covers the requirement and the minimum, held at the maximum", whatever it is
+-- that a rate has to cover
 pub record HeldLeast (h minimum maximum : ℕ) (Covers : ℕ → Type 0) (v : ℕ) : Type 0 where
   pub multiple : v % h ≡ 0
   pub low : minimum ≤ v
