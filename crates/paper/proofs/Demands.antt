@@ -17,7 +17,7 @@ use Rattle.paper.proofs.Slots.{found-stored, known-stands}
 use Rattle.paper.proofs.Refusals.{verdict-first, refused-step, accepted-step, refused-only, refused-always, accepted-only, accepted-always}
 use Rattle.paper.proofs.Kept.{run-sound, evaluate-knows, quote-knows, move-knows}
 use Rattle.paper.proofs.Histories.{recordOf, Lawful}
-use Rattle.paper.proofs.Known.{history-since, known-admitted, no-such-id, already-admitted, stays-known}
+use Rattle.paper.proofs.Known.{one-unknown, bad-table, history-since, known-admitted, no-such-id, already-admitted, stays-known}
 use Rattle.paper.proofs.Sequences.{quote-term, alerts-noted, lawful-figures, lawful-statics, rates-hold}
 use Rattle.paper.proofs.Carried.{lawful-near}
 use Rattle.paper.proofs.InterestCarried.{evenings-near}
@@ -52,6 +52,8 @@ demand-1 c t =
       left = λ e.
           refused-step c t (ap isDone (sym (verdict-first c t)) ∙ e)
           ∙ ap (λ (v : Verdict). record { answer = saying v; table = t }) (sym (verdict-first c t));
+      not-known = one-unknown c t;
+      bad-table = bad-table c t;
       no-such-id = λ n cs empty f made.
           subst (λ (u : List Record). Exactly (answered c u ≡ NoSuchId) (historyOf (idOf c) cs empty ≡ unknown))
           (sym made)

@@ -14,7 +14,8 @@ use Rattle.paper.specs.declared.Quote.{Quote}
 use Rattle.paper.specs.declared.Answer.{Answer}
 use Rattle.paper.specs.declared.Verdict.{Verdict}
 use Rattle.paper.specs.declared.Verdict.the-variants.{Done, NoSuchId, AlreadyAdmitted}
-use Rattle.paper.specs.Ranges.{staticsOf, validAdmission, sound, noLimits, notNear, termAt}
+use Rattle.paper.specs.Lists.{pick}
+use Rattle.paper.specs.Ranges.{staticsOf, validAdmission, validSlots, sound, noLimits, notNear, termAt}
 use Rattle.paper.specs.Rates.{minimumOf, AtLeastRequired, HeldLeast}
 use Rattle.paper.specs.Alerts.{alert}
 use Rattle.paper.specs.Verdicts.{numberOf, isDone, Check, FirstAt, NoneApplies, Exactly}
@@ -51,6 +52,10 @@ pub record Demand1 (c : Call) (t : List Record) : Type 0 where
   pub accepted : Exactly (answered c t ≡ Done) (NoneApplies (checksOf c t))
   -- "A refusal returns its number with all figures 0 .. and writes nothing."
   pub left : isDone (answered c t) ≡ false → step c t ≡ record { answer = saying (answered c t); table = t }
+  -- it answers 1 exactly where the id is not known: "no such id (0 included)", or the first slot with it is damaged
+  pub not-known : isAdmission c ≡ false → Exactly (answered c t ≡ NoSuchId) (known t (idOf c) ≡ false)
+  -- "A table of no slots, or over 512, is refused 4 by admit and 1 by the rest."
+  pub bad-table : validSlots (length t) ≡ false → numberOf (answered c t) ≡ pick (isAdmission c) 4 1
   -- on a table that calls made of a fresh one, 1 is for ids that were never admitted, 0 and ids out of range among them
   pub no-such-id : isAdmission c ≡ false → (cs : List Call) (empty : List Record) → FreshTable empty → t ≡ run cs empty
       → Exactly (answered c t ≡ NoSuchId) (historyOf (idOf c) cs empty ≡ unknown)

@@ -1,9 +1,10 @@
 -- Document 02, W-201: evenings worked out from the definitions, on both sides of each line. Assumes nothing.
 use mathlib.Core.Path.{_≡_, refl}
 use mathlib.Core.List.{List, [], _∷_, map}
-use Prim.Native.Nat.{ℕ}
+use Prim.Native.Nat.{ℕ, _<_}
 use lib.IntN.{ℤ, pos, negsuc}
 use lib.ListN.{getD}
+use native.Mathlib.Omega.{arith}
 use Rattle.paper.specs.declared.Interest.{Interest}
 use Rattle.paper.specs.declared.MaturityFigures.{MaturityFigures}
 use Rattle.paper.specs.declared.Worked.{Worked}
@@ -15,6 +16,7 @@ use Rattle.paper.specs.Ranges.{natural, partsFrom}
 use Rattle.paper.specs.Rates.{weightOf, weighted, replacement, replaces, volatilityOf, leastStep, tentativeAfter}
 use Rattle.paper.specs.Verdicts.{numberOf, isDone, firstOf}
 use Rattle.paper.specs.Interest.{keyAt, keysOf, wholeKeys, validKey, validKeys, maturityOf, maturitiesOf, validInterest, apartZ, changeOf, repoVolatility, repoWanted, repoTentative, estimate, upward, downward, maturityFigures, interpolated, figureAfter, figureAt, forward, margin, limitFrom, upperWorked, lowerWorked, isHeld, upperLimit, lowerLimit, ascendingFrom, ascending, interestChecks, noFigures, refusedInterest, acceptedInterest, interestAnswer}
+use Rattle.paper.specs.InterestExact.{Evening, Carried, keyIn, answeredIn, carriedAfter, keyGiven, Follow, start, next}
 
 -- the statics of every case, with a pair of terms and the two rollover rates
 given : (ym yn : ℕ) → (money secrate : ℤ) → Interest
@@ -128,3 +130,24 @@ pub worked-limits : workedLimits
     ∷ []
 unfolding workedLimits
 worked-limits = refl
+
+-- the second evening follows the first, at either key maturity: demand 3 reads for them
+evening : (money secrate : ℤ) → List ℤ → (place : ℕ) → Evening
+evening money secrate numbers place = record { given = given 0 1 money secrate; numbers = numbers; place = place }
+
+pub twoEvenings : (place : ℕ) → List Evening
+twoEvenings place =
+    evening (pos 2000) (negsuc 1999) secondEvening place ∷ evening (pos 940) (pos 710) firstEvening place ∷ []
+
+-- what is given at first, at both key maturities
+abbrev pub atFirst : Carried
+atFirst = record { volatility = 40; tentative = record { bp = 150; age = 1 } }
+
+pub second-follows-first : Follow atFirst (twoEvenings 0) × Follow atFirst (twoEvenings 1)
+unfolding workedFigures twoEvenings evening keyIn keyGiven carriedAfter answeredIn
+second-follows-first =
+    let first-of-two : 0 < 2 = omega arith in
+    let second-of-two : 1 < 2 = omega arith in
+    let at-first : Follow atFirst (twoEvenings 0) =
+    next (next start refl first-of-two refl) refl first-of-two refl in
+    (at-first, next (next start refl second-of-two refl) refl second-of-two refl)
