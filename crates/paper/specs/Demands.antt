@@ -117,7 +117,7 @@ pub record Demand2 (id : ℕ) (a : Admission) (es : List Event) (t : List Record
   pub figures : FiguresHold a es (found t id)
   -- of the last accepted evaluation, with its m
   pub rates : (d : Day) → lastEvaluated es ≡ onDay d → RatesHold (staticsOf (a .given)) (d .m) (found t id)
-  -- of the next call about the security, if it is accepted; what then stands is the record of the sequence with that call
+  -- of the next call about the security, if it is accepted; the record that then stands is that of the longer sequence
   pub answers : (c : Call) → idOf c ≡ id → answered c t ≡ Done → step c t .answer ≡ answerThen a es c (step c t .table)
 
 -- ---- Demand 3

@@ -16,7 +16,7 @@ use Rattle.paper.specs.Ranges.{natural, partsFrom}
 use Rattle.paper.specs.Rates.{weightOf, weighted, replacement, replaces, volatilityOf, leastStep, tentativeAfter}
 use Rattle.paper.specs.Verdicts.{numberOf, isDone, firstOf}
 use Rattle.paper.specs.Interest.{keyAt, keysOf, wholeKeys, validKey, validKeys, maturityOf, maturitiesOf, validInterest, apartZ, changeOf, repoVolatility, repoWanted, repoTentative, estimate, upward, downward, maturityFigures, interpolated, figureAfter, figureAt, forward, margin, limitFrom, upperWorked, lowerWorked, isHeld, upperLimit, lowerLimit, ascendingFrom, ascending, interestChecks, noFigures, refusedInterest, acceptedInterest, interestAnswer}
-use Rattle.paper.specs.InterestExact.{Evening, Carried, keyIn, answeredIn, carriedAfter, keyGiven, Follow, start, next}
+use Rattle.paper.specs.InterestExact.{Evening, keyIn, answeredIn, carriedAfter, keyGiven, Follow, start, next}
 
 -- the statics of every case, with a pair of terms and the two rollover rates
 given : (ym yn : ℕ) → (money secrate : ℤ) → Interest
@@ -131,23 +131,15 @@ pub worked-limits : workedLimits
 unfolding workedLimits
 worked-limits = refl
 
--- the second evening follows the first, at either key maturity: demand 3 reads for them
-evening : (money secrate : ℤ) → List ℤ → (place : ℕ) → Evening
-evening money secrate numbers place = record { given = given 0 1 money secrate; numbers = numbers; place = place }
+-- the second evening follows the first, at their second key maturity: demand 3 reads for them
+evening : (money secrate : ℤ) → List ℤ → Evening
+evening money secrate numbers = record { given = given 0 1 money secrate; numbers = numbers; place = 1 }
 
-pub twoEvenings : (place : ℕ) → List Evening
-twoEvenings place =
-    evening (pos 2000) (negsuc 1999) secondEvening place ∷ evening (pos 940) (pos 710) firstEvening place ∷ []
+pub twoEvenings : List Evening
+twoEvenings = evening (pos 2000) (negsuc 1999) secondEvening ∷ evening (pos 940) (pos 710) firstEvening ∷ []
 
--- what is given at first, at both key maturities
-abbrev pub atFirst : Carried
-atFirst = record { volatility = 40; tentative = record { bp = 150; age = 1 } }
-
-pub second-follows-first : Follow atFirst (twoEvenings 0) × Follow atFirst (twoEvenings 1)
+pub second-follows-first : Follow (record { volatility = 40; tentative = record { bp = 150; age = 1 } }) twoEvenings
 unfolding workedFigures twoEvenings evening keyIn keyGiven carriedAfter answeredIn
 second-follows-first =
-    let first-of-two : 0 < 2 = omega arith in
-    let second-of-two : 1 < 2 = omega arith in
-    let at-first : Follow atFirst (twoEvenings 0) =
-    next (next start refl first-of-two refl) refl first-of-two refl in
-    (at-first, next (next start refl second-of-two refl) refl second-of-two refl)
+    let there : 1 < 2 = omega arith in
+    next (next start refl there refl) refl there refl
