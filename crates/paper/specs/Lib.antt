@@ -20,3 +20,5 @@ pub mod InterestExact
 pub mod Demands
 pub mod InterestCases
 pub mod Terms
+pub mod PinnedValues
+pub mod PinnedSequence

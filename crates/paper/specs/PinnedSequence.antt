@@ -1,0 +1,189 @@
+-- Document 01 from a fresh table on: its cases 1, 5 and 13, a second day and a read as calls, each accepted with the
+-- document's figures; and one list of calls that is answered every number 0 to 13. So the definitions are not empty.
+-- It may use every definition of document 01, and the values of PinnedValues. Assumes nothing.
+use mathlib.Core.Path.{_≡_, refl}
+use mathlib.Core.Bool.{Bool, true, false, not, _&&_, _||_}
+use mathlib.Core.List.{List, [], _∷_, _++_, map}
+use Prim.Native.Nat.{ℕ, _+_, _*_}
+use lib.IntN.{ℤ, pos, negsuc}
+use lib.ListN.{getD, replicate}
+use Rattle.paper.specs.declared.Record.{Record}
+use Rattle.paper.specs.declared.Rate.{Rate}
+use Rattle.paper.specs.declared.Limits.{Limits}
+use Rattle.paper.specs.declared.Answer.{Answer}
+use Rattle.paper.specs.declared.Verdict.the-variants.{NoSuchId}
+use Rattle.paper.specs.Lists.{every, those}
+use Rattle.paper.specs.Roundings.{up, halfUp, toGrid, lesserOf, greaterOf, grown, apart}
+use Rattle.paper.specs.Least.{first, least, leastRoot, leastTimes, leastMultiple}
+use Rattle.paper.specs.Ranges.{natural, isPrice, isRate, gridOf, isGridPrice, validStatics, staticsOf, validGiven, validTentative, validAdmission, partsFrom, rowAt, rowsOf, wholeRows, validRow, validRows, rowOf, validTerm, validDay, validQuote, validSide, sideOf, isLive, lastDay, noRate, noLimits, isLimit, validLimits, validNear, validNearSeconds, sound, validSlots}
+use Rattle.paper.specs.Evaluation.{rowPrice, rowWeight, roublesOf, traded, weights, worth, mean, closeOf, bestBid, lesserAsk, bestAsk, median, between, evaluationOf, dayRows, rowFits, evaluationFits}
+use Rattle.paper.specs.Rates.{moveFrom, moveOf, weightOf, weighted, replacement, replaces, volatilityOf, leastStep, wanted, tentativeAfter, meets, daysOf, minimumOf, covers, levelRate, modelled, unmodelled, figuresOf, moveTooLarge}
+use Rattle.paper.specs.Limits.{limitOf, shifted, rangeLimit, rangeOf, farthest, spread, monitored, narrower, bandLimit, bandOf, crossed, deltaOf, oneMore, rangeMoved, bandMoved}
+use Rattle.paper.specs.Alerts.{distance, isNear, keptSince, nearAfter, alert, nearCleared}
+use Rattle.paper.specs.Verdicts.{numberOf, isDone, firstOf}
+use Rattle.paper.specs.Desk.{blank, saying, showing, alerting, admitted, priceOn, moveOn, figuresOn, evaluated, nearOn, quoted, alertsOn, moved, place, stands, found, known, Call, admit, evaluate, quote, move, read, admitChecks, evaluateChecks, quoteChecks, moveChecks, readChecks, checksOf, Outcome, judged, acceptedOf, step, run, fresh}
+use Rattle.paper.specs.PinnedValues.{_but_, pchmaxAt, monitoringAt, ewmaAt, idAt, sAt, tentativeAt, liqAt, aupAt, adownAt, admissionFrom, dayFrom, quoteFrom, closedAt, zNumbers}
+
+-- what the calls of a list answer, each on the table that those before it leave
+unfoldable pub answers : List Call → List Record → List Answer
+unfolding natural isPrice isRate gridOf isGridPrice validStatics staticsOf validGiven validTentative validAdmission
+    partsFrom rowAt rowsOf wholeRows validRow validRows rowOf validTerm validDay validQuote validSide sideOf isLive
+    lastDay isLimit validLimits validNear validNearSeconds sound validSlots rowPrice rowWeight roublesOf traded
+    weights worth mean closeOf bestBid lesserAsk bestAsk median between evaluationOf dayRows rowFits evaluationFits
+    moveFrom moveOf weightOf weighted replacement replaces volatilityOf leastStep wanted tentativeAfter meets daysOf
+    minimumOf covers levelRate modelled unmodelled figuresOf moveTooLarge limitOf shifted rangeLimit rangeOf farthest
+    spread monitored narrower bandLimit bandOf crossed deltaOf oneMore rangeMoved bandMoved distance isNear keptSince
+    nearAfter alert nearCleared isDone firstOf blank saying showing alerting admitted priceOn moveOn figuresOn
+    evaluated nearOn quoted alertsOn moved place stands found known admitChecks evaluateChecks quoteChecks moveChecks
+    readChecks checksOf judged acceptedOf step run every those up halfUp toGrid lesserOf greaterOf grown apart first
+    least leastRoot leastTimes leastMultiple
+answers [] t = []
+answers (c ∷ cs) t =
+    let o : Outcome = step c t in
+    o .answer ∷ answers cs (o .table)
+
+-- the numbers that they answer
+unfoldable pub numbers : List Call → List Record → List ℕ
+unfolding answers
+numbers cs t = map (λ (a : Answer). numberOf (a .verdict)) (answers cs t)
+
+-- a fresh table of so many slots
+unfoldable pub slots : ℕ → List Record
+slots count = replicate count blank
+
+pub slots-fresh : fresh (slots 4) ≡ true
+unfolding fresh every slots blank
+slots-fresh = refl
+
+-- ---- document 01's cases, a call after the other
+
+-- the evaluation of a day on which the security closes at a price
+unfoldable pub dayAt : (id day close : ℕ) → Call
+unfolding dayFrom natural closedAt
+dayAt id day close = evaluate id (dayFrom (pos day ∷ [])) (closedAt close)
+
+-- a quote of a bid alone in term 0
+unfoldable pub bidAt : (id second bid : ℕ) → Call
+unfolding quoteFrom natural
+bidAt id second bid = quote id (quoteFrom (pos second ∷ pos 0 ∷ pos bid ∷ []))
+
+-- cases 1 and 5, and a second day, back at 1,000,000
+cases : List Call
+unfolding dayAt admissionFrom zNumbers
+cases = admit (admissionFrom zNumbers) ∷ dayAt 7 4 1030000 ∷ move 7 0 ∷ dayAt 7 5 1000000 ∷ []
+
+-- case 13, on a security whose s is 0, and a read
+waits : List Call
+unfolding dayAt bidAt admissionFrom zNumbers
+waits =
+    admit (admissionFrom (zNumbers but (sAt, pos 0)))
+    ∷ dayAt 7 4 1000000
+    ∷ bidAt 7 1000 1030000
+    ∷ bidAt 7 1059 1030000
+    ∷ bidAt 7 1060 1030000
+    ∷ read 7
+    ∷ []
+
+-- the answer to a call of a list, by its place
+answerTo : List Call → ℕ → Answer
+unfolding answers slots
+answerTo cs call = getD (answers cs (slots 4)) call (saying NoSuchId)
+
+yesNo : Bool → ℕ
+yesNo true = 1
+yesNo false = 0
+
+-- what the definitions answer, from a fresh table on
+pub shown : List (List ℕ)
+unfolding numbers cases waits answerTo yesNo
+shown =
+    -- each call's number
+    numbers cases (slots 4)
+    ∷ numbers waits (slots 4)
+    -- 1: s, tentative, the three rates
+    ∷ (answerTo cases 1 .rec .s
+    ∷ answerTo cases 1 .rec .tentative .bp
+    ∷ map (λ (x : Rate). x .bp) (answerTo cases 1 .rec .rates))
+    -- 5: the band's top and the range tops
+    ∷ (getD (answerTo cases 2 .rec .bands) 0 noLimits .upper
+    ∷ map (λ (x : Limits). x .upper) (answerTo cases 2 .rec .ranges))
+    -- the second day: s, tentative and age
+    ∷ (answerTo cases 3 .rec .s ∷ answerTo cases 3 .rec .tentative .bp ∷ answerTo cases 3 .rec .tentative .age ∷ [])
+    -- 13: the alerts at the top and at the bottom when the bid becomes near, 59 seconds on, and 60 seconds on
+    ∷ (yesNo (answerTo waits 2 .top) ∷ yesNo (answerTo waits 2 .bottom) ∷ [])
+    ∷ (yesNo (answerTo waits 3 .top) ∷ yesNo (answerTo waits 3 .bottom) ∷ [])
+    ∷ (yesNo (answerTo waits 4 .top) ∷ yesNo (answerTo waits 4 .bottom) ∷ [])
+    -- the read: the id, the two evaluations, the last quote's second, the rates, the band, the range tops
+    ∷ (answerTo waits 5 .rec .id
+    ∷ answerTo waits 5 .rec .p1 .units
+    ∷ answerTo waits 5 .rec .p2 .units
+    ∷ answerTo waits 5 .rec .second
+    ∷ map (λ (x : Rate). x .bp) (answerTo waits 5 .rec .rates))
+    ∷ (getD (answerTo waits 5 .rec .bands) 0 noLimits .lower
+    ∷ getD (answerTo waits 5 .rec .bands) 0 noLimits .upper
+    ∷ map (λ (x : Limits). x .upper) (answerTo waits 5 .rec .ranges))
+    ∷ []
+
+-- what document 01 says
+pub shown-are : shown
+    ≡ (0 ∷ 0 ∷ 0 ∷ 0 ∷ [])
+    ∷ (0 ∷ 0 ∷ 0 ∷ 0 ∷ 0 ∷ 0 ∷ [])
+    ∷ (21214 ∷ 700 ∷ 800 ∷ 1200 ∷ 1500 ∷ [])
+    ∷ (1091800 ∷ 1133000 ∷ 1174200 ∷ 1205100 ∷ [])
+    ∷ (22133 ∷ 700 ∷ 1 ∷ [])
+    ∷ (0 ∷ 0 ∷ [])
+    ∷ (0 ∷ 0 ∷ [])
+    ∷ (1 ∷ 0 ∷ [])
+    ∷ (7 ∷ 1000000 ∷ 1000000 ∷ 1060 ∷ 700 ∷ 1100 ∷ 1300 ∷ [])
+    ∷ (965000 ∷ 1035000 ∷ 1070000 ∷ 1110000 ∷ 1130000 ∷ [])
+    ∷ []
+unfolding shown
+shown-are = refl
+
+-- ---- "Numbers a member may see": every number, from a fresh table of three slots on
+
+-- a security with isEWMA no; one with Monitoring no, s and the weights 0; and others like the first
+unfoldable pub quiet : (id : ℕ) → Call
+unfolding admissionFrom zNumbers
+quiet id = admit (admissionFrom (zNumbers but (ewmaAt, pos 0) but (pchmaxAt, pos 0) but (idAt, pos id)))
+
+unfoldable pub still : (id : ℕ) → Call
+unfolding admissionFrom zNumbers
+still id =
+    admit
+    (admissionFrom
+    (zNumbers but (monitoringAt, pos 0) but (sAt, pos 0) but (aupAt, pos 0) but (adownAt, pos 0) but (idAt, pos id)))
+
+-- terms of 30 days with the repo band at its end: with PcH_max 0 their lower band limit is above the upper one
+unfoldable pub crossing : List ℤ
+crossing = pos 30 ∷ pos 9999 ∷ pos 9999 ∷ []
+
+unfoldable pub numbered : List Call
+unfolding quiet still crossing dayAt bidAt
+numbered =
+    read 7
+    ∷ quiet 0
+    ∷ quiet 7
+    ∷ quiet 7
+    ∷ bidAt 7 100 990000
+    ∷ dayAt 7 3 1000000
+    ∷ dayAt 7 4 0
+    ∷ dayAt 7 4 1
+    ∷ evaluate 7 (dayFrom (pos 4 ∷ pos 0 ∷ pos 0 ∷ crossing)) []
+    ∷ dayAt 7 4 1000000
+    ∷ bidAt 7 100 990000
+    ∷ bidAt 7 99 990000
+    ∷ (replicate 50 (move 7 0)
+    ++ (move 7 0
+    ∷ still 8
+    ∷ dayAt 8 4 2000010
+    ∷ dayAt 8 4 1000000
+    ∷ bidAt 8 100 990000
+    ∷ quiet 9
+    ∷ quiet 10
+    ∷ []))
+
+pub every-number : numbers numbered (slots 3)
+    ≡ 1 ∷ 4 ∷ 0 ∷ 2 ∷ 10 ∷ 5 ∷ 6 ∷ 7 ∷ 9 ∷ 0 ∷ 0 ∷ 13 ∷ (replicate 50 0 ++ (12 ∷ 0 ∷ 8 ∷ 0 ∷ 11 ∷ 0 ∷ 3 ∷ []))
+unfolding numbers numbered slots
+every-number = refl

@@ -1,0 +1,239 @@
+-- Values for the tables that pin the definitions (PinnedSequence, PinnedRanges, Pinned): each is spelled as a row of
+-- numbers, so that a line of a table changes one of them. A place that a row does not have counts as 0.
+-- It may use the kinds of src/lib.rt, and of Ranges how a number is read. Assumes nothing.
+use mathlib.Core.Path.{_≡_, refl}
+use mathlib.Core.Bool.{Bool, true, false}
+use mathlib.Core.List.{List, [], _∷_}
+use Prim.Native.Nat.{ℕ, zero, suc, _+_, _*_}
+use lib.Dec.{eqb}
+use lib.IntN.{ℤ, pos, negsuc}
+use lib.ListN.{getD, set, replicate}
+use Rattle.paper.specs.declared.Price.{Price}
+use Rattle.paper.specs.declared.Rate.{Rate}
+use Rattle.paper.specs.declared.Given.{Given}
+use Rattle.paper.specs.declared.Standing.{Standing}
+use Rattle.paper.specs.declared.Standing.the-variants.{Admitted, Live}
+use Rattle.paper.specs.declared.Near.{Near}
+use Rattle.paper.specs.declared.Near.the-variants.{Not, Since}
+use Rattle.paper.specs.declared.NearSeconds.{NearSeconds}
+use Rattle.paper.specs.declared.Limits.{Limits}
+use Rattle.paper.specs.declared.Term.{Term}
+use Rattle.paper.specs.declared.Record.{Record}
+use Rattle.paper.specs.declared.Admission.{Admission}
+use Rattle.paper.specs.declared.Day.{Day}
+use Rattle.paper.specs.declared.Quote.{Quote}
+use Rattle.paper.specs.Lists.{pick, three}
+use Rattle.paper.specs.Numbers.{rouble}
+use Rattle.paper.specs.Ranges.{natural, staticsOf}
+use Rattle.paper.specs.Desk.{blank}
+use Rattle.paper.specs.Cases.{givenWith, admissionZ}
+
+-- ---- a row of numbers, and a change of one of them
+
+infixl 30 _but_
+-- the row with another number at one place
+abbrev pub _but_ : List ℤ → ℕ × ℤ → List ℤ
+xs but change = set xs (change .0) (change .1)
+
+abbrev signed : List ℤ → ℕ → ℤ
+signed xs place = getD xs place (pos 0)
+
+abbrev plain : List ℤ → ℕ → ℕ
+plain xs place = natural (signed xs place)
+
+-- ---- the places: the statics in the order of the table, then an admission's numbers, then a record's
+
+abbrev pub aupAt : ℕ
+aupAt = 3
+
+abbrev pub adownAt : ℕ
+adownAt = 4
+
+abbrev pub liqAt : ℕ
+liqAt = 9
+
+abbrev pub pchmaxAt : ℕ
+pchmaxAt = 16
+
+abbrev pub pclmaxAt : ℕ
+pclmaxAt = 17
+
+abbrev pub monitoringAt : ℕ
+monitoringAt = 20
+
+abbrev pub ewmaAt : ℕ
+ewmaAt = 21
+
+abbrev pub idAt : ℕ
+idAt = 22
+
+abbrev pub dayAt : ℕ
+dayAt = 23
+
+abbrev pub p1At : ℕ
+p1At = 24
+
+abbrev pub sAt : ℕ
+sAt = 26
+
+abbrev pub tentativeAt : ℕ
+tentativeAt = 27
+
+-- 0 admitted only, 1 live
+abbrev pub liveAt : ℕ
+liveAt = 28
+
+abbrev pub ageAt : ℕ
+ageAt = 29
+
+-- three rates, then the lower and the upper limit of three ranges
+abbrev pub ratesAt : ℕ
+ratesAt = 30
+
+abbrev pub rangesAt : ℕ
+rangesAt = 33
+
+-- k, RRcL and RRcH of three terms, then the lower and the upper limit of their bands
+abbrev pub termsAt : ℕ
+termsAt = 39
+
+abbrev pub bandsAt : ℕ
+bandsAt = 48
+
+abbrev pub upperMovesAt : ℕ
+upperMovesAt = 54
+
+abbrev pub lowerMovesAt : ℕ
+lowerMovesAt = 55
+
+-- top and bottom of three terms: 0 not near, one more than the second otherwise
+abbrev pub nearAt : ℕ
+nearAt = 56
+
+abbrev pub secondAt : ℕ
+secondAt = 62
+
+-- ---- what the numbers spell
+
+unfoldable pub givenFrom : List ℤ → Given
+unfolding natural
+givenFrom xs =
+    record {
+      lot = plain xs 0;
+      h = plain xs 1;
+      q = plain xs 2;
+      aup = plain xs aupAt;
+      adown = plain xs adownAt;
+      wait = plain xs 5;
+      rh1 = plain xs 6;
+      rh2 = plain xs 7;
+      rh3 = plain xs 8;
+      liq = plain xs liqAt;
+      min1 = plain xs 10;
+      min2 = plain xs 11;
+      min3 = plain xs 12;
+      smax = plain xs 13;
+      xpr = plain xs 14;
+      shift = plain xs 15;
+      pchmax = plain xs pchmaxAt;
+      pclmax = plain xs pclmaxAt;
+      w = plain xs 18;
+      u = plain xs 19;
+      monitoring = plain xs monitoringAt;
+      ewma = plain xs ewmaAt;
+    }
+
+unfoldable pub admissionFrom : List ℤ → Admission
+unfolding givenFrom
+admissionFrom xs =
+    record {
+      id = plain xs idAt;
+      day = plain xs dayAt;
+      p1 = plain xs p1At;
+      p2 = plain xs (p1At + 1);
+      s = plain xs sAt;
+      tentative = plain xs tentativeAt;
+      given = givenFrom xs;
+    }
+
+unfoldable pub standingFrom : ℕ → ℕ → Standing
+standingFrom live day = pick (eqb live 1) (Live day) (Admitted day)
+
+unfoldable pub nearFrom : ℕ → Near
+nearFrom zero = Not
+nearFrom (suc second) = Since second
+
+unfoldable pub limitsFrom : List ℤ → ℕ → Limits
+unfolding natural
+limitsFrom xs place = record { lower = plain xs place; upper = plain xs (place + 1) }
+
+unfoldable pub termFrom : List ℤ → ℕ → Term
+unfolding natural
+termFrom xs place = record { k = plain xs place; low = signed xs (place + 1); high = signed xs (place + 2) }
+
+unfoldable pub recordFrom : List ℤ → Record
+unfolding givenFrom staticsOf standingFrom nearFrom limitsFrom termFrom
+recordFrom xs =
+    record {
+      id = plain xs idAt;
+      statics = staticsOf (givenFrom xs);
+      standing = standingFrom (plain xs liveAt) (plain xs dayAt);
+      p1 = record { units = plain xs p1At };
+      p2 = record { units = plain xs (p1At + 1) };
+      s = plain xs sAt;
+      tentative = record { bp = plain xs tentativeAt; age = plain xs ageAt };
+      rates = three (λ i. record { bp = plain xs (ratesAt + i) });
+      ranges = three (λ i. limitsFrom xs (rangesAt + 2 * i));
+      terms = three (λ k. termFrom xs (termsAt + 3 * k));
+      bands = three (λ k. limitsFrom xs (bandsAt + 2 * k));
+      moves = record { upper = plain xs upperMovesAt; lower = plain xs lowerMovesAt };
+      near =
+          three
+          (λ k. record {
+            top = nearFrom (plain xs (nearAt + 2 * k));
+            bottom = nearFrom (plain xs (nearAt + 2 * k + 1));
+          });
+      second = plain xs secondAt;
+    }
+
+-- a day number, b, m, and three terms
+unfoldable pub dayFrom : List ℤ → Day
+unfolding termFrom
+dayFrom xs =
+    record { day = plain xs 0; b = plain xs 1; m = plain xs 2; terms = three (λ k. termFrom xs (3 + 3 * k)) }
+
+unfoldable pub quoteFrom : List ℤ → Quote
+unfolding natural
+quoteFrom xs = record { second = plain xs 0; term = plain xs 1; bid = plain xs 2; ask = plain xs 3 }
+
+-- a row in roubles today that closes at a price, with no bid and no ask
+unfoldable pub closedAt : ℕ → List ℤ
+closedAt close = pos 0 ∷ pos rouble ∷ pos 0 ∷ pos close ∷ pos 0 ∷ pos 0 ∷ pos 5 ∷ []
+
+-- ---- "Statics Z", "Earlier prices 1,000,000 unless given; s 20,000", tentative 600, id 7, last day 3
+
+unfoldable pub zNumbers : List ℤ
+zNumbers =
+    -- lot, h, q, a_up, a_down, n
+    pos 10 ∷ pos 100 ∷ pos 300 ∷ pos 1000 ∷ pos 500 ∷ pos 5
+    -- rh, liq
+    ∷ pos 2 ∷ pos 5 ∷ pos 8 ∷ pos 50
+    -- minima, S_max
+    ∷ pos 500 ∷ pos 700 ∷ pos 900 ∷ pos 4000
+    -- x_pr, shift, PcH_max, PcL_max, w, u
+    ∷ pos 200 ∷ pos 25 ∷ pos 2000 ∷ pos 2000 ∷ pos 1000 ∷ pos 60
+    -- Monitoring, isEWMA
+    ∷ pos 1 ∷ pos 1
+    -- id, day, p1, p2, s, tentative
+    ∷ pos 7 ∷ pos 3 ∷ pos 1000000 ∷ pos 1000000 ∷ pos 20000 ∷ pos 600
+    ∷ []
+
+-- the numbers spell the admission of the starred cases
+pub z-is-Z : admissionFrom zNumbers ≡ admissionZ
+unfolding zNumbers admissionFrom admissionZ givenWith
+z-is-Z = refl
+
+-- "all figures 0 (flags no, nothing near, admitted only)": no number at all
+pub blank-is-zero : blank ≡ recordFrom []
+unfolding blank recordFrom
+blank-is-zero = refl
