@@ -22,3 +22,4 @@ pub mod InterestCases
 pub mod Terms
 pub mod PinnedValues
 pub mod PinnedSequence
+pub mod PinnedRanges
