@@ -23,3 +23,4 @@ pub mod Terms
 pub mod PinnedValues
 pub mod PinnedSequence
 pub mod PinnedRanges
+pub mod PinnedOrders

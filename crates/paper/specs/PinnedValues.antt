@@ -3,7 +3,7 @@
 -- It may use the kinds of src/lib.rt, and of Ranges how a number is read. Assumes nothing.
 use mathlib.Core.Path.{_≡_, refl}
 use mathlib.Core.Bool.{Bool, true, false}
-use mathlib.Core.List.{List, [], _∷_}
+use mathlib.Core.List.{List, [], _∷_, _++_}
 use Prim.Native.Nat.{ℕ, zero, suc, _+_, _*_}
 use lib.Dec.{eqb}
 use lib.IntN.{ℤ, pos, negsuc}
@@ -227,6 +227,11 @@ zNumbers =
     -- id, day, p1, p2, s, tentative
     ∷ pos 7 ∷ pos 3 ∷ pos 1000000 ∷ pos 1000000 ∷ pos 20000 ∷ pos 600
     ∷ []
+
+-- the record of Z once it is admitted, but for its rates, which are 0 here
+unfoldable pub zRecord : List ℤ
+unfolding zNumbers
+zRecord = zNumbers ++ replicate 35 (pos 0)
 
 -- the numbers spell the admission of the starred cases
 pub z-is-Z : admissionFrom zNumbers ≡ admissionZ
