@@ -24,3 +24,4 @@ pub mod PinnedValues
 pub mod PinnedSequence
 pub mod PinnedRanges
 pub mod PinnedOrders
+pub mod PinnedSession
