@@ -25,3 +25,4 @@ pub mod PinnedSequence
 pub mod PinnedRanges
 pub mod PinnedOrders
 pub mod PinnedSession
+pub mod PinnedEvaluation

@@ -2,7 +2,6 @@
 -- condition, on tables that a line spells out. Each answer is the first of all the numbers that apply.
 -- It may use every definition of document 01, and the values of PinnedValues. Assumes nothing.
 use mathlib.Core.Path.{_≡_, refl}
-use mathlib.Core.Bool.{Bool, true, false}
 use mathlib.Core.List.{List, [], _∷_, _++_, map}
 use Prim.Native.Nat.{ℕ, _+_}
 use lib.IntN.{ℤ, pos}
@@ -11,8 +10,8 @@ use Rattle.paper.specs.declared.Limits.{Limits}
 use Rattle.paper.specs.Lists.{those}
 use Rattle.paper.specs.Limits.{crossed}
 use Rattle.paper.specs.Verdicts.{numberOf, Check}
-use Rattle.paper.specs.Desk.{blank, found, Call, admit, evaluate, quote, move, read, checksOf, run}
-use Rattle.paper.specs.PinnedValues.{_but_, aupAt, adownAt, liqAt, pchmaxAt, monitoringAt, ewmaAt, idAt, dayAt, sAt, tentativeAt, liveAt, ageAt, upperMovesAt, lowerMovesAt, secondAt, admissionFrom, recordFrom, dayFrom, quoteFrom, closedAt, zNumbers, zRecord}
+use Rattle.paper.specs.Desk.{blank, Call, admit, evaluate, quote, move, read, checksOf, run}
+use Rattle.paper.specs.PinnedValues.{_but_, aupAt, adownAt, liqAt, pchmaxAt, monitoringAt, ewmaAt, idAt, dayAt, sAt, tentativeAt, liveAt, ageAt, upperMovesAt, lowerMovesAt, secondAt, admissionFrom, recordFrom, dayFrom, quoteFrom, closedAt, zNumbers, zRecord, yesNo}
 use Rattle.paper.specs.PinnedSequence.{numbers}
 
 -- ---- "First that applies"
@@ -56,9 +55,14 @@ rowTooHigh : List ℤ
 unfolding closedAt
 rowTooHigh = closedAt 10000000000 but (1, pos 20000)
 
+-- a quote of neither bid nor ask at a second, in a term
+quoteAt : (second term : ℕ) → Call
+unfolding quoteFrom
+quoteAt second term = quote 7 (quoteFrom (pos second ∷ pos term ∷ []))
+
 -- in each call a line takes away the first number that applies in the line before it
 pub orders : List (List ℕ)
-unfolding judgement calm idle damaged holding crossingDay rowTooHigh dayFrom quoteFrom admissionFrom
+unfolding judgement calm idle damaged holding crossingDay rowTooHigh dayFrom quoteAt admissionFrom
 orders =
     -- "evaluate 1, 6, 5, 7, 8, 9"
     judgement (evaluate 7 (dayFrom (crossingDay 3 11)) rowTooHigh) (holding (damaged calm))
@@ -69,12 +73,12 @@ orders =
     ∷ judgement (evaluate 7 (dayFrom (crossingDay 4 10)) (closedAt 2000000)) (holding calm)
     ∷ judgement (evaluate 7 (dayFrom (pos 4 ∷ pos 2 ∷ [])) (closedAt 2000000)) (holding calm)
     -- "quote 1, 6, 10, 11, 13"
-    ∷ judgement (quote 7 (quoteFrom (pos 99 ∷ pos 3 ∷ []))) (holding (damaged idle))
-    ∷ judgement (quote 7 (quoteFrom (pos 99 ∷ pos 3 ∷ []))) (holding idle)
-    ∷ judgement (quote 7 (quoteFrom (pos 99 ∷ pos 2 ∷ []))) (holding idle)
-    ∷ judgement (quote 7 (quoteFrom (pos 99 ∷ pos 2 ∷ []))) (holding (idle but (liveAt, pos 1)))
-    ∷ judgement (quote 7 (quoteFrom (pos 99 ∷ pos 2 ∷ []))) (holding (idle but (liveAt, pos 1) but (monitoringAt, pos 1)))
-    ∷ judgement (quote 7 (quoteFrom (pos 100 ∷ pos 2 ∷ []))) (holding (idle but (liveAt, pos 1) but (monitoringAt, pos 1)))
+    ∷ judgement (quoteAt 99 3) (holding (damaged idle))
+    ∷ judgement (quoteAt 99 3) (holding idle)
+    ∷ judgement (quoteAt 99 2) (holding idle)
+    ∷ judgement (quoteAt 99 2) (holding (idle but (liveAt, pos 1)))
+    ∷ judgement (quoteAt 99 2) (holding (idle but (liveAt, pos 1) but (monitoringAt, pos 1)))
+    ∷ judgement (quoteAt 100 2) (holding (idle but (liveAt, pos 1) but (monitoringAt, pos 1)))
     -- "move 1, 6, 10, 11, 12"
     ∷ judgement (move 7 2) (holding (damaged idle))
     ∷ judgement (move 7 2) (holding idle)
@@ -140,14 +144,6 @@ unfolding numbers holding dayFrom
 termAnswer row k repo =
     numbers (evaluate 7 (dayFrom (pos 4 ∷ pos 0 ∷ pos 0 ∷ pos k ∷ pos repo ∷ pos repo ∷ [])) [] ∷ []) (holding row)
 
--- quotes of nothing at a second, in a term
-quoteAt : (second term : ℕ) → Call
-unfolding quoteFrom
-quoteAt second term = quote 7 (quoteFrom (pos second ∷ pos term ∷ []))
-
-yesNo : Bool → ℕ
-yesNo b = elim b [ true ↦ 1 | false ↦ 0 ]
-
 pub conditions : List (List ℕ)
 unfolding rowAnswer termAnswer quoteAt plainZ calm holding damaged closedAt admissionFrom yesNo
 conditions =
@@ -164,8 +160,8 @@ conditions =
     ∷ evaluate 7 (dayFrom (pos 5 ∷ [])) []
     ∷ [])
     (holding plainZ)
-    -- 7 "a rounded row price .. is 0 or above 10^10": a close in roubles of 10^10 and of 1.0001·10^10; a bid of 0.49 and of
-    -- 0.5 units; an ask of 0.49
+    -- 7 "a rounded row price .. is 0 or above 10^10": a close in roubles of 10^10 and of 1.0001·10^10; a bid of 0.49
+    -- and of 0.5 units; an ask of 0.49
     ∷ (rowAnswer plainZ (closedAt 10000000000 but (1, pos 10000))
     ++ rowAnswer plainZ (closedAt 10000000000 but (1, pos 10001))
     ++ rowAnswer plainZ (pos 0 ∷ pos 4900 ∷ pos 0 ∷ pos 0 ∷ pos 1 ∷ pos 0 ∷ pos 0 ∷ [])
@@ -191,8 +187,8 @@ conditions =
     -- 12 "c is 50": of the side that moves, 49 and 50; 50 of the other side
     ∷ (numbers (move 7 0 ∷ move 7 0 ∷ []) (holding (plainZ but (upperMovesAt, pos 49) but (lowerMovesAt, pos 50)))
     ++ numbers (move 7 1 ∷ move 7 1 ∷ []) (holding (plainZ but (lowerMovesAt, pos 49) but (upperMovesAt, pos 50))))
-    -- 13 "second earlier than the security's last accepted quote, in any term": term 0 at 100; terms 1 and 0 at 99; terms
-    -- 2 and 0 at 100; term 1 at 101; term 2 at 100
+    -- 13 "second earlier than the security's last accepted quote, in any term": term 0 at 100; terms 1 and 0 at 99;
+    -- terms 2 and 0 at 100; term 1 at 101; term 2 at 100
     ∷ numbers
     (quoteAt 100 0
     ∷ quoteAt 99 1
@@ -239,7 +235,8 @@ duplicates =
     -- of two sound ones a move is counted in the first alone
     ∷ map (λ (r : Record). r .moves .upper) (run (move 7 0 ∷ []) (recordFrom plainZ ∷ recordFrom plainZ ∷ []))
     -- "Admission takes the first empty slot."
-    ∷ map (λ (r : Record). r .id) (run (admit (admissionFrom zNumbers) ∷ []) (recordFrom (plainZ but (idAt, pos 8)) ∷ blank ∷ blank ∷ []))
+    ∷ map (λ (r : Record). r .id)
+    (run (admit (admissionFrom zNumbers) ∷ []) (recordFrom (plainZ but (idAt, pos 8)) ∷ blank ∷ blank ∷ []))
     ∷ []
 
 pub duplicates-are : duplicates

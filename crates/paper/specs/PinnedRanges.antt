@@ -1,16 +1,15 @@
--- Document 01's ranges, both sides of each end: a value with every number in range is valid; with one number at either
--- end of its range it is valid still, and with that number one past either end it is not. And grids, multiples, lengths.
+-- Document 01's ranges, both sides of each end: a value with one number at either end of its range is valid, and with
+-- that number one past either end it is not. Then grids, multiples of h, lengths of slices.
 -- It may use the tests of Ranges, and the values of PinnedValues. Assumes nothing.
 use mathlib.Core.Path.{_≡_, refl}
-use mathlib.Core.Bool.{Bool, true, false, _&&_, _||_}
+use mathlib.Core.Bool.{Bool, true, false}
 use mathlib.Core.List.{List, [], _∷_, _++_, map}
 use Prim.Native.Nat.{ℕ, zero, suc, _+_}
 use lib.IntN.{ℤ, pos, negsuc, sucℤ, predℤ}
-use lib.ListN.{length, replicate}
-use Rattle.paper.specs.declared.Side.{Side}
+use lib.ListN.{replicate}
 use Rattle.paper.specs.declared.Side.the-variants.{Upper, Lower}
 use Rattle.paper.specs.Lists.{every}
-use Rattle.paper.specs.Ranges.{natural, isPrice, isRate, gridOf, isGridPrice, validStatics, staticsOf, validGiven, validTentative, validAdmission, partsFrom, rowAt, rowsOf, wholeRows, validRow, validRows, validTerm, validDay, validQuote, validSide, sideOf, lastDay, isLimit, validLimits, validNear, validNearSeconds, sound, validSlots}
+use Rattle.paper.specs.Ranges.{isPrice, isRate, gridOf, isGridPrice, validStatics, staticsOf, validGiven, validTentative, validAdmission, partsFrom, rowAt, rowsOf, wholeRows, validRow, validRows, validTerm, validDay, validQuote, validSide, sideOf, lastDay, isLimit, validLimits, validNear, validNearSeconds, sound, validSlots}
 use Rattle.paper.specs.PinnedValues.{_but_, idAt, p1At, tentativeAt, ageAt, rangesAt, bandsAt, admissionFrom, recordFrom, dayFrom, quoteFrom}
 
 -- ---- a row of numbers with their ranges
@@ -81,7 +80,7 @@ flagRanges : List Ranged
 flagRanges = range 1 0 1 ∷ range 1 0 1 ∷ []
 
 -- "id (1..10^9), last day number (0..10^6, as every day number), the two latest evaluations (on the grid, in range), s,
--- and the tentative rate (0..S_max, a multiple of h)"; "Price: .. 1 to 10^10"; "Volatility s: millionths, 0 to 1,000,000"
+-- and the tentative rate (0..S_max, a multiple of h)"; "Price: .. 1 to 10^10"; "Volatility s: .. 0 to 1,000,000"
 admissionRanges : List Ranged
 admissionRanges =
     range 7 1 1000000000
@@ -260,7 +259,7 @@ others =
     -- "slice length not a multiple of 7 or over 112": 0, 6, 7, 8, 112, 113, 119 numbers
     map (λ (count : ℕ). validDayRow (replicate count (pos 1)) (valuesOf dayRanges))
     (0 ∷ 6 ∷ 7 ∷ 8 ∷ 112 ∷ 113 ∷ 119 ∷ [])
-    -- "Volume above 0 with close 0 is out of range.": volume 1 with close 0, volume 1 with close 1, volume 0 with close 0
+    -- "Volume above 0 with close 0 is out of range.": volume 1 with close 0, 1 with close 1, 0 with close 0
     ∷ map (λ (row : List ℤ). validDayRow row (valuesOf dayRanges))
     ((pos 0 ∷ pos 1 ∷ pos 0 ∷ pos 0 ∷ pos 0 ∷ pos 0 ∷ pos 1 ∷ [])
     ∷ (pos 0 ∷ pos 1 ∷ pos 0 ∷ pos 1 ∷ pos 0 ∷ pos 0 ∷ pos 1 ∷ [])

@@ -2,10 +2,10 @@
 -- document's figures; and one list of calls that is answered every number 0 to 13. So the definitions are not empty.
 -- It may use every definition of document 01, and the values of PinnedValues. Assumes nothing.
 use mathlib.Core.Path.{_≡_, refl}
-use mathlib.Core.Bool.{Bool, true, false, not, _&&_, _||_}
+use mathlib.Core.Bool.{true}
 use mathlib.Core.List.{List, [], _∷_, _++_, map}
-use Prim.Native.Nat.{ℕ, _+_, _*_}
-use lib.IntN.{ℤ, pos, negsuc}
+use Prim.Native.Nat.{ℕ, _+_}
+use lib.IntN.{ℤ, pos}
 use lib.ListN.{getD, replicate}
 use Rattle.paper.specs.declared.Record.{Record}
 use Rattle.paper.specs.declared.Rate.{Rate}
@@ -15,14 +15,14 @@ use Rattle.paper.specs.declared.Verdict.the-variants.{NoSuchId}
 use Rattle.paper.specs.Lists.{every, those}
 use Rattle.paper.specs.Roundings.{up, halfUp, toGrid, lesserOf, greaterOf, grown, apart}
 use Rattle.paper.specs.Least.{first, least, leastRoot, leastTimes, leastMultiple}
-use Rattle.paper.specs.Ranges.{natural, isPrice, isRate, gridOf, isGridPrice, validStatics, staticsOf, validGiven, validTentative, validAdmission, partsFrom, rowAt, rowsOf, wholeRows, validRow, validRows, rowOf, validTerm, validDay, validQuote, validSide, sideOf, isLive, lastDay, noRate, noLimits, isLimit, validLimits, validNear, validNearSeconds, sound, validSlots}
+use Rattle.paper.specs.Ranges.{natural, isPrice, isRate, gridOf, isGridPrice, validStatics, staticsOf, validGiven, validTentative, validAdmission, partsFrom, rowAt, rowsOf, wholeRows, validRow, validRows, rowOf, validTerm, validDay, validQuote, validSide, sideOf, isLive, lastDay, noLimits, isLimit, validLimits, validNear, validNearSeconds, sound, validSlots}
 use Rattle.paper.specs.Evaluation.{rowPrice, rowWeight, roublesOf, traded, weights, worth, mean, closeOf, bestBid, lesserAsk, bestAsk, median, between, evaluationOf, dayRows, rowFits, evaluationFits}
 use Rattle.paper.specs.Rates.{moveFrom, moveOf, weightOf, weighted, replacement, replaces, volatilityOf, leastStep, wanted, tentativeAfter, meets, daysOf, minimumOf, covers, levelRate, modelled, unmodelled, figuresOf, moveTooLarge}
 use Rattle.paper.specs.Limits.{limitOf, shifted, rangeLimit, rangeOf, farthest, spread, monitored, narrower, bandLimit, bandOf, crossed, deltaOf, oneMore, rangeMoved, bandMoved}
 use Rattle.paper.specs.Alerts.{distance, isNear, keptSince, nearAfter, alert, nearCleared}
 use Rattle.paper.specs.Verdicts.{numberOf, isDone, firstOf}
 use Rattle.paper.specs.Desk.{blank, saying, showing, alerting, admitted, priceOn, moveOn, figuresOn, evaluated, nearOn, quoted, alertsOn, moved, place, stands, found, known, Call, admit, evaluate, quote, move, read, admitChecks, evaluateChecks, quoteChecks, moveChecks, readChecks, checksOf, Outcome, judged, acceptedOf, step, run, fresh}
-use Rattle.paper.specs.PinnedValues.{_but_, pchmaxAt, monitoringAt, ewmaAt, idAt, sAt, tentativeAt, liqAt, aupAt, adownAt, admissionFrom, dayFrom, quoteFrom, closedAt, zNumbers}
+use Rattle.paper.specs.PinnedValues.{_but_, pchmaxAt, monitoringAt, ewmaAt, idAt, sAt, aupAt, adownAt, admissionFrom, dayFrom, quoteFrom, closedAt, zNumbers, yesNo}
 
 -- what the calls of a list answer, each on the table that those before it leave
 unfoldable pub answers : List Call → List Record → List Answer
@@ -88,10 +88,6 @@ waits =
 answerTo : List Call → ℕ → Answer
 unfolding answers slots
 answerTo cs call = getD (answers cs (slots 4)) call (saying NoSuchId)
-
-yesNo : Bool → ℕ
-yesNo true = 1
-yesNo false = 0
 
 -- what the definitions answer, from a fresh table on
 pub shown : List (List ℕ)

@@ -1,8 +1,7 @@
--- Document 01, "Ranges, bands, alerts, moves", within a day: near sides and alerts on both sides of their lines, and what
--- a move and an evaluation leave, on case 1's security. The general sentences are laws (proofs/PinnedLaws).
+-- Document 01, "Ranges, bands, alerts, moves", within a day: near sides and alerts on both sides of their lines, and
+-- what a move and an evaluation leave, on case 1's security. The general sentences are laws (proofs/PinnedLaws).
 -- It may use every definition of document 01, and the values of PinnedValues. Assumes nothing.
 use mathlib.Core.Path.{_≡_, refl}
-use mathlib.Core.Bool.{Bool, true, false}
 use mathlib.Core.List.{List, [], _∷_, _++_, map}
 use Prim.Native.Nat.{ℕ, suc, _+_}
 use lib.IntN.{ℤ, pos}
@@ -15,16 +14,10 @@ use Rattle.paper.specs.declared.Near.the-variants.{Not, Since}
 use Rattle.paper.specs.declared.NearSeconds.{NearSeconds}
 use Rattle.paper.specs.declared.Record.{Record}
 use Rattle.paper.specs.declared.Answer.{Answer}
-use Rattle.paper.specs.Ranges.{isLive, lastDay}
-use Rattle.paper.specs.Limits.{bandLimit, rangeMoved}
-use Rattle.paper.specs.Alerts.{isNear, alert, nearAfter}
-use Rattle.paper.specs.Desk.{blank, Call, evaluate, quote, move, read, run}
-use Rattle.paper.specs.PinnedValues.{_but_, pclmaxAt, ewmaAt, p1At, liveAt, rangesAt, upperMovesAt, lowerMovesAt, secondAt, nearAt, recordFrom, dayFrom, quoteFrom, zNumbers}
+use Rattle.paper.specs.Alerts.{isNear}
+use Rattle.paper.specs.Desk.{blank, Call, evaluate, quote, move, run}
+use Rattle.paper.specs.PinnedValues.{_but_, ewmaAt, p1At, upperMovesAt, lowerMovesAt, secondAt, nearAt, recordFrom, dayFrom, quoteFrom, zNumbers, yesNo}
 use Rattle.paper.specs.PinnedSequence.{answers}
-
-yesNo : Bool → ℕ
-yesNo true = 1
-yesNo false = 0
 
 -- case 1's security after its evaluation, with isEWMA no from then on
 evening : List ℤ
@@ -69,8 +62,20 @@ alerts =
     ∷ tops (quoteAt 100 0 0 997030 ∷ quoteAt 160 0 0 997030 ∷ [])
     ∷ bottoms (quoteAt 100 0 1062970 0 ∷ quoteAt 160 0 1062970 0 ∷ [])
     -- "a quote that isn't near clears it": at 130 it is not near by one unit of the grid, so that it is near since 140
-    ∷ tops (quoteAt 100 0 1062970 0 ∷ quoteAt 130 0 1062960 0 ∷ quoteAt 140 0 1062970 0 ∷ quoteAt 199 0 1062970 0 ∷ quoteAt 200 0 1062970 0 ∷ [])
-    ∷ bottoms (quoteAt 100 0 0 997030 ∷ quoteAt 130 0 0 997040 ∷ quoteAt 140 0 0 997030 ∷ quoteAt 199 0 0 997030 ∷ quoteAt 200 0 0 997030 ∷ [])
+    ∷ tops
+    (quoteAt 100 0 1062970 0
+    ∷ quoteAt 130 0 1062960 0
+    ∷ quoteAt 140 0 1062970 0
+    ∷ quoteAt 199 0 1062970 0
+    ∷ quoteAt 200 0 1062970 0
+    ∷ [])
+    ∷ bottoms
+    (quoteAt 100 0 0 997030
+    ∷ quoteAt 130 0 0 997040
+    ∷ quoteAt 140 0 0 997030
+    ∷ quoteAt 199 0 0 997030
+    ∷ quoteAt 200 0 0 997030
+    ∷ [])
     -- a missing bid and a missing ask clear it too
     ∷ tops (quoteAt 100 0 1062970 0 ∷ quoteAt 130 0 0 997030 ∷ quoteAt 160 0 1062970 0 ∷ [])
     ∷ bottoms (quoteAt 100 0 0 997030 ∷ quoteAt 130 0 1062970 0 ∷ quoteAt 160 0 0 997030 ∷ [])
@@ -135,8 +140,8 @@ nearNumber : Near → ℕ
 nearNumber Not = 0
 nearNumber (Since second) = suc second
 
--- the upper and the lower limits of the bands and of the ranges; the moves of each side; the near seconds at the top and
--- at the bottom; the last quote second
+-- the upper and the lower limits of the bands and of the ranges; the moves of each side; the near seconds at the top
+-- and at the bottom; the last quote second
 limitsOf : Record → List (List ℕ)
 unfolding nearNumber
 limitsOf r =
@@ -166,7 +171,8 @@ counted =
 pub moves : List (List (List ℕ))
 unfolding limitsOf left counted dayFrom
 moves =
-    -- "It adds one to c, remakes that side's three band limits, and shifts its three range limits by delta": upper, lower
+    -- "It adds one to c, remakes that side's three band limits, and shifts its three range limits by delta": an upper
+    -- move, and a lower one
     limitsOf (left (move 7 0 ∷ []) counted)
     ∷ limitsOf (left (move 7 1 ∷ []) counted)
     -- "An evaluation clears both counts, all near seconds and the last quote second (to 0)."

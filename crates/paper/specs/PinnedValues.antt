@@ -1,4 +1,4 @@
--- Values for the tables that pin the definitions (PinnedSequence, PinnedRanges, Pinned): each is spelled as a row of
+-- Values for the tables that pin the definitions (the files Pinned..): each is spelled as a row of
 -- numbers, so that a line of a table changes one of them. A place that a row does not have counts as 0.
 -- It may use the kinds of src/lib.rt, and of Ranges how a number is read. Assumes nothing.
 use mathlib.Core.Path.{_≡_, refl}
@@ -6,16 +6,13 @@ use mathlib.Core.Bool.{Bool, true, false}
 use mathlib.Core.List.{List, [], _∷_, _++_}
 use Prim.Native.Nat.{ℕ, zero, suc, _+_, _*_}
 use lib.Dec.{eqb}
-use lib.IntN.{ℤ, pos, negsuc}
+use lib.IntN.{ℤ, pos}
 use lib.ListN.{getD, set, replicate}
-use Rattle.paper.specs.declared.Price.{Price}
-use Rattle.paper.specs.declared.Rate.{Rate}
 use Rattle.paper.specs.declared.Given.{Given}
 use Rattle.paper.specs.declared.Standing.{Standing}
 use Rattle.paper.specs.declared.Standing.the-variants.{Admitted, Live}
 use Rattle.paper.specs.declared.Near.{Near}
 use Rattle.paper.specs.declared.Near.the-variants.{Not, Since}
-use Rattle.paper.specs.declared.NearSeconds.{NearSeconds}
 use Rattle.paper.specs.declared.Limits.{Limits}
 use Rattle.paper.specs.declared.Term.{Term}
 use Rattle.paper.specs.declared.Record.{Record}
@@ -205,6 +202,11 @@ dayFrom xs =
 unfoldable pub quoteFrom : List ℤ → Quote
 unfolding natural
 quoteFrom xs = record { second = plain xs 0; term = plain xs 1; bid = plain xs 2; ask = plain xs 3 }
+
+-- yes 1, no 0
+unfoldable pub yesNo : Bool → ℕ
+yesNo true = 1
+yesNo false = 0
 
 -- a row in roubles today that closes at a price, with no bid and no ask
 unfoldable pub closedAt : ℕ → List ℤ

@@ -1,0 +1,220 @@
+-- Document 01, "The evaluation (6.1)", "The rates (7.1)" and the limits made from them, on both sides of their lines
+-- where the starred cases (Cases) have none.
+-- It may use every definition of document 01, and the values of PinnedValues. Assumes nothing.
+use mathlib.Core.Path.{_≡_, refl}
+use mathlib.Core.List.{List, [], _∷_, _++_, map}
+use Prim.Native.Nat.{ℕ, _+_}
+use lib.IntN.{ℤ, pos, negsuc}
+use lib.ListN.{getD}
+use Rattle.paper.specs.declared.Rate.{Rate}
+use Rattle.paper.specs.declared.Tentative.{Tentative}
+use Rattle.paper.specs.declared.Statics.{Statics}
+use Rattle.paper.specs.declared.Side.the-variants.{Upper, Lower}
+use Rattle.paper.specs.declared.Row.{Row}
+use Rattle.paper.specs.declared.Record.{Record}
+use Rattle.paper.specs.Ranges.{staticsOf, noLimits}
+use Rattle.paper.specs.Evaluation.{rowPrice, rowWeight, evaluationOf, dayRows}
+use Rattle.paper.specs.Rates.{modelOf, weightOf, replaces, volatilityOf, wanted, tentativeAfter, levelRate}
+use Rattle.paper.specs.Limits.{rangeLimit, bandLimit}
+use Rattle.paper.specs.Desk.{blank, evaluate, admitted, run}
+use Rattle.paper.specs.PinnedValues.{_but_, pchmaxAt, pclmaxAt, monitoringAt, ewmaAt, ageAt, givenFrom, admissionFrom, recordFrom, dayFrom, closedAt, zNumbers, zRecord, yesNo}
+use Rattle.paper.specs.PinnedSequence.{numbers}
+
+-- ---- the evaluation
+
+-- the evaluation to a unit after 700, of rows of seven numbers
+evaluationAt : List ℤ → ℕ
+unfolding numbers
+evaluationAt rows = evaluationOf 1 700 (dayRows rows)
+
+-- a row in roubles today
+row : (close bid ask volume : ℕ) → List ℤ
+row close bid ask volume = pos 0 ∷ pos 10000 ∷ pos 0 ∷ pos close ∷ pos bid ∷ pos ask ∷ pos volume ∷ []
+
+-- a row with a price of a currency at a central rate, T and a repo rate
+currency : (t central : ℕ) → ℤ → Row
+currency t central repo = record { t = t; central = central; repo = repo; close = 0; bid = 0; ask = 0; volume = 1 }
+
+pub evaluations : List (List ℕ)
+unfolding evaluationAt row currency
+evaluations =
+    -- (a) "price·Rc/10^4 · 3,650,000/(3,650,000 + T·rate), rounded once, half up": case 12; a rate below zero; a half;
+    -- less than a half
+    (rowPrice (currency 1 10000 (pos 1825)) 1000000
+    ∷ rowPrice (currency 30 10000 (negsuc 9998)) 1000000
+    ∷ rowPrice (currency 0 5000 (pos 0)) 1
+    ∷ rowPrice (currency 0 4999 (pos 0)) 1
+    ∷ [])
+    -- (b) "Row volume in roubles, half up to a thousand"
+    ∷ map (λ (central : ℕ). rowWeight (currency 0 central (pos 0))) (5000 ∷ 4999 ∷ 14999 ∷ [])
+    -- (c) "The weighted close, half up to a unit": a half; a third; by weight
+    ∷ (evaluationAt (row 10 0 0 1 ++ row 11 0 0 1)
+    ∷ evaluationAt (row 10 0 0 1 ++ row 10 0 0 1 ++ row 11 0 0 1)
+    ∷ evaluationAt (row 10 0 0 1 ++ row 20 0 0 9)
+    ∷ [])
+    -- "rows whose weight (b) is above 0": no trade does not count, and neither does a weight that is rounded to 0
+    ∷ (evaluationAt (row 10 0 0 1 ++ row 20 0 0 0)
+    ∷ evaluationAt (row 10 0 0 1 ++ (row 20 0 0 1 but (1, pos 4999)))
+    ∷ evaluationAt (row 20 0 0 1 but (1, pos 5000))
+    ∷ [])
+    -- "With no such row it is the previous evaluation."
+    ∷ (evaluationAt [] ∷ evaluationAt (row 20 0 0 0) ∷ evaluationAt (row 20 0 0 1 but (1, pos 4999)) ∷ [])
+    -- "BID is the greatest row bid, ASK the least row ask": a missing one does not count
+    ∷ (evaluationAt (row 10 20 0 1 ++ row 10 30 0 1) ∷ evaluationAt (row 10 0 8 1 ++ row 10 0 0 1 ++ row 10 0 9 1) ∷ [])
+    -- "One side: min(close, ASK) or max(close, BID). None: the close.": on both sides of the close
+    ∷ (evaluationAt (row 10 0 9 1)
+    ∷ evaluationAt (row 10 0 11 1)
+    ∷ evaluationAt (row 10 9 0 1)
+    ∷ evaluationAt (row 10 11 0 1)
+    ∷ evaluationAt (row 10 0 0 1)
+    ∷ [])
+    -- "Both present: the median of BID, close, ASK": the close between, below and above
+    ∷ (evaluationAt (row 10 9 11 1) ∷ evaluationAt (row 10 11 12 1) ∷ evaluationAt (row 10 8 9 1) ∷ [])
+    -- (d) "The evaluation, half up to the grid": the grid 10, a half and less
+    ∷ (evaluationOf 10 1005 [] ∷ evaluationOf 10 1004 [] ∷ [])
+    ∷ []
+
+pub evaluations-are : evaluations
+    ≡ (999500 ∷ 1089542 ∷ 1 ∷ 0 ∷ [])
+    ∷ (1 ∷ 0 ∷ 1 ∷ [])
+    ∷ (11 ∷ 10 ∷ 19 ∷ [])
+    ∷ (10 ∷ 10 ∷ 10 ∷ [])
+    ∷ (700 ∷ 700 ∷ 700 ∷ [])
+    ∷ (30 ∷ 8 ∷ [])
+    ∷ (9 ∷ 10 ∷ 10 ∷ 11 ∷ 10 ∷ [])
+    ∷ (10 ∷ 11 ∷ 9 ∷ [])
+    ∷ (1010 ∷ 1000 ∷ [])
+    ∷ []
+unfolding evaluations
+evaluations-are = refl
+
+-- ---- the rates
+
+-- Z's statics with changes
+staticsBut : List ℤ → Statics
+unfolding staticsOf givenFrom
+staticsBut numbersOfZ = staticsOf (givenFrom numbersOfZ)
+
+-- the tentative rate 600 of Z at an age, and its age, after an evaluation that wants t
+tentativeAt : (age t : ℕ) → List ℕ
+unfolding numbers staticsBut zNumbers
+tentativeAt age t =
+    let after : Tentative = tentativeAfter 100 5 t (record { bp = 600; age = age }) in
+    after .bp ∷ after .age ∷ []
+
+pub rates : List (List ℕ)
+unfolding tentativeAt staticsBut yesNo
+rates =
+    -- "a is 0 when b > 1; else a_up when r > s, a_down otherwise.": b 0, 1 and 2 with r above s; r = s
+    (weightOf (modelOf (staticsBut zNumbers)) 0 11 10
+    ∷ weightOf (modelOf (staticsBut zNumbers)) 1 11 10
+    ∷ weightOf (modelOf (staticsBut zNumbers)) 2 11 10
+    ∷ weightOf (modelOf (staticsBut zNumbers)) 1 10 10
+    ∷ [])
+    -- "When b ≤ 1 and r > 100·S_1 (last rate), also take the least y with y·q ≥ 100·r; s is the greater": b 1 and b 2
+    ∷ (volatilityOf (modelOf (staticsBut zNumbers)) 1 900 1000 100
+    ∷ volatilityOf (modelOf (staticsBut zNumbers)) 2 900 1000 100
+    -- r one above 100·S_1, and at it
+    ∷ volatilityOf (modelOf (staticsBut zNumbers)) 1 999 1000 100
+    ∷ volatilityOf (modelOf (staticsBut zNumbers)) 1 1000 1000 100
+    ∷ [])
+    -- "and on a tie x is the one chosen": y is 334
+    ∷ (yesNo (replaces (modelOf (staticsBut zNumbers)) 0 900 1000 333)
+    ∷ yesNo (replaces (modelOf (staticsBut zNumbers)) 0 900 1000 334)
+    ∷ [])
+    -- "t is the least multiple of h with 10,000·t ≥ q·s, held at S_max.": exactly 100, just above; S_max
+    ∷ (wanted (staticsBut (zNumbers but (2, pos 100))) 10000
+    ∷ wanted (staticsBut (zNumbers but (2, pos 100))) 10001
+    ∷ wanted (staticsBut zNumbers) 140000
+    ∷ [])
+    -- "If t ≥ tentative + h, tentative becomes t.": at 700, one below, and far above
+    ∷ tentativeAt 0 700
+    ∷ tentativeAt 0 699
+    ∷ tentativeAt 0 1200
+    -- "Else if t ≤ tentative - h and age + 1 ≥ n, it falls by one h.": at 500, one above; a day too early; far below
+    ∷ tentativeAt 4 500
+    ∷ tentativeAt 4 501
+    ∷ tentativeAt 3 500
+    ∷ tentativeAt 4 0
+    -- "Age becomes 0 on a change, else one more, held at 250."
+    ∷ tentativeAt 248 600
+    ∷ tentativeAt 249 600
+    ∷ tentativeAt 250 600
+    -- the minimum and S_max of a level
+    ∷ (levelRate (staticsBut zNumbers) 1 0 0 ∷ levelRate (staticsBut zNumbers) 3 0 4000 ∷ [])
+    ∷ []
+
+pub rates-are : rates
+    ≡ (1000 ∷ 1000 ∷ 0 ∷ 500 ∷ [])
+    ∷ (334 ∷ 100 ∷ 334 ∷ 331 ∷ [])
+    ∷ (1 ∷ 0 ∷ [])
+    ∷ (100 ∷ 200 ∷ 4000 ∷ [])
+    ∷ (700 ∷ 0 ∷ [])
+    ∷ (600 ∷ 1 ∷ [])
+    ∷ (1200 ∷ 0 ∷ [])
+    ∷ (500 ∷ 0 ∷ [])
+    ∷ (600 ∷ 5 ∷ [])
+    ∷ (600 ∷ 4 ∷ [])
+    ∷ (500 ∷ 0 ∷ [])
+    ∷ (600 ∷ 249 ∷ [])
+    ∷ (600 ∷ 250 ∷ [])
+    ∷ (600 ∷ 250 ∷ [])
+    ∷ (500 ∷ 4000 ∷ [])
+    ∷ []
+unfolding rates
+rates-are = refl
+
+-- ---- records
+
+-- "The three rates start at their minima; age, limits, counts, terms and the last quote second at 0, with no near
+-- seconds."
+pub admitted-starts : admitted (admissionFrom zNumbers)
+    ≡ recordFrom (zNumbers ++ (pos 0 ∷ pos 0 ∷ pos 500 ∷ pos 700 ∷ pos 900 ∷ []))
+unfolding numbers admissionFrom recordFrom zNumbers
+admitted-starts = refl
+
+-- the record that an evaluation of day 4 at a price leaves
+evaluatedAt : List ℤ → ℕ → Record
+unfolding numbers recordFrom dayFrom closedAt zRecord
+evaluatedAt numbersOfZ price =
+    getD (run (evaluate 7 (dayFrom (pos 4 ∷ [])) (closedAt price) ∷ []) (recordFrom numbersOfZ ∷ [])) 0 blank
+
+-- s, the tentative rate, its age, the three rates
+ratesOf : Record → List ℕ
+ratesOf r = r .s ∷ r .tentative .bp ∷ r .tentative .age ∷ map (λ (x : Rate). x .bp) (r .rates)
+
+bandOf0 : Record → List ℕ
+bandOf0 r = getD (r .bands) 0 noLimits .lower ∷ getD (r .bands) 0 noLimits .upper ∷ []
+
+pub evaluated-records : List (List ℕ)
+unfolding evaluatedAt ratesOf bandOf0 staticsBut
+evaluated-records =
+    -- "With isEWMA no, the three rates are the minima and s, tentative and age stay.": s 20,000, tentative 600, age 3
+    ratesOf (evaluatedAt (zRecord but (ewmaAt, pos 0) but (ageAt, pos 3)) 1030000)
+    -- "Monitoring no: P·(1 + PcH_max) and P·(1 - PcL_max).": 20 and 10 per cent
+    ∷ bandOf0 (evaluatedAt (zRecord but (ewmaAt, pos 0) but (monitoringAt, pos 0) but (pclmaxAt, pos 1000)) 1000000)
+    -- "Monitoring yes: the upper is the lesser of that ..; the lower the greater": S_1 within the maxima, and past them
+    ∷ bandOf0 (evaluatedAt (zRecord but (ewmaAt, pos 0)) 1000000)
+    ∷ bandOf0 (evaluatedAt (zRecord but (ewmaAt, pos 0) but (pchmaxAt, pos 100) but (pclmaxAt, pos 200)) 1000000)
+    -- "P·max(0, 1 - e·S_1/x_pr)": with c 50 nothing is left but P·(1 - PcL_max); with PcL_max the whole, 0
+    ∷ (bandLimit (staticsBut zNumbers) Lower 1000000 800 50 0 (pos 0)
+    ∷ bandLimit (staticsBut (zNumbers but (pclmaxAt, pos 10000))) Lower 1000000 800 50 0 (pos 0)
+    ∷ [])
+    -- "Range of level L: P·(1 ± S_L).", S_L the whole; half up to the grid
+    ∷ (rangeLimit (staticsBut zNumbers) Lower 1000000 10000
+    ∷ rangeLimit (staticsBut zNumbers) Upper 1000000 10000
+    ∷ rangeLimit (staticsBut zNumbers) Upper 1050 100
+    ∷ rangeLimit (staticsBut zNumbers) Lower 1050 100
+    ∷ [])
+    ∷ []
+
+pub evaluated-records-are : evaluated-records
+    ≡ (20000 ∷ 600 ∷ 3 ∷ 500 ∷ 700 ∷ 900 ∷ [])
+    ∷ (900000 ∷ 1200000 ∷ [])
+    ∷ (975000 ∷ 1025000 ∷ [])
+    ∷ (980000 ∷ 1010000 ∷ [])
+    ∷ (800000 ∷ 0 ∷ [])
+    ∷ (0 ∷ 2000000 ∷ 1060 ∷ 1040 ∷ [])
+    ∷ []
+unfolding evaluated-records
+evaluated-records-are = refl
