@@ -25,3 +25,4 @@ pub mod Known
 pub mod Sequences
 pub mod Carried
 pub mod Demands
+pub mod PinnedLaws

@@ -20,6 +20,7 @@ pub mod InterestExact
 pub mod Demands
 pub mod InterestCases
 pub mod Terms
+pub mod Sides
 pub mod PinnedValues
 pub mod PinnedSequence
 pub mod PinnedRanges

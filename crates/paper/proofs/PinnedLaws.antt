@@ -1,0 +1,246 @@
+-- General sentences of document 01, as laws of the definitions: what a quote, a move and an evaluation change and what they
+-- leave, what a refusal and a read answer, who is refused with 1. Their figures stand in the tables of specs/Pinned...
+-- It may use every definition of document 01, and the laws of Slots and Refusals. Assumes nothing.
+use mathlib.Core.Path.{_≡_, refl, sym, _∙_, ap}
+use mathlib.Core.Logic.{_≢_, _⊎_, inl, inr}
+use mathlib.Core.Bool.{Bool, true, false, not, _&&_}
+use mathlib.Core.List.{List, [], _∷_}
+use Prim.Native.Nat.{ℕ, zero, suc, _+_, _-_, _≤_, _<_, min}
+use native.Mathlib.Nat.{min-le-left}
+use native.Mathlib.Omega.{arith}
+use lib.Dec.{leb, ltb}
+use lib.IntN.{ℤ}
+use lib.ListN.{length, getD, set}
+use lib.Seq.{getD-set-other}
+use borrow.Author.Tests.{le-leb, lt-leb}
+use Rattle.paper.specs.declared.Tentative.{Tentative}
+use Rattle.paper.specs.declared.Standing.the-variants.{Live}
+use Rattle.paper.specs.declared.Side.{Side}
+use Rattle.paper.specs.declared.Side.the-variants.{Upper, Lower}
+use Rattle.paper.specs.declared.Limits.{Limits}
+use Rattle.paper.specs.declared.Near.{Near}
+use Rattle.paper.specs.declared.Near.the-variants.{Not, Since}
+use Rattle.paper.specs.declared.Admission.{Admission}
+use Rattle.paper.specs.declared.Day.{Day}
+use Rattle.paper.specs.declared.Quote.{Quote}
+use Rattle.paper.specs.declared.Record.{Record}
+use Rattle.paper.specs.declared.Answer.{Answer}
+use Rattle.paper.specs.declared.Verdict.{Verdict}
+use Rattle.paper.specs.declared.Verdict.the-variants.{Done, NoSuchId, AdmissionOutOfRange}
+use Rattle.paper.specs.Lists.{pick, three}
+use Rattle.paper.specs.Ranges.{noRate, noLimits, notNear, termAt, sideOf, validSlots, validAdmission, sound}
+use Rattle.paper.specs.Rates.{tentativeAfter}
+use Rattle.paper.specs.Limits.{bandLimit, bandOf, deltaOf, oneMore, countOf, rangeMoved, bandMoved}
+use Rattle.paper.specs.Alerts.{isNear, keptSince, nearAfter, alert, nearCleared}
+use Rattle.paper.specs.Verdicts.{isDone, firstOf, FirstAt, here}
+use Rattle.paper.specs.Desk.{blank, saying, showing, alerting, alertsOn, evaluated, priceOn, quoted, moved, place, stands, found, known, Call, admit, evaluate, quote, move, read, idOf, checksOf, admitChecks, evaluateChecks, quoteChecks, moveChecks, readChecks, Outcome, judged, acceptedOf, step}
+use Rattle.paper.specs.PinnedValues.{recordFrom, blank-is-zero}
+use Rattle.paper.specs.Sides.{other, limitOn, nearSecondOn, repoOn, deltaFor, looksUp, shows}
+use Rattle.paper.proofs.Logic.{and-both}
+use Rattle.paper.proofs.Slots.{found-id, found-written, known-stands}
+use Rattle.paper.proofs.Refusals.{verdict-first, refused-always, refused-leaves, accepted-step, accepted-only}
+
+-- each of three is what is made for its place
+three-at : {A : Type 0} (f : ℕ → A) (default : A) (i : ℕ) → i < 3 → getD (three f) i default ≡ f i
+three-at f default zero l = refl
+three-at f default (suc zero) l = refl
+three-at f default (suc (suc zero)) l = refl
+three-at f default (suc (suc (suc i))) l = absurd (omega arith)
+
+-- ---- near sides and alerts
+
+-- "bid present", "likewise" the ask
+pub missing-not-near : (side : Side) (w : ℕ) (x : Limits) → isNear side w x 0 ≡ false
+unfolding isNear
+missing-not-near side w x = refl
+
+-- "A near side keeps the second at which it became near"
+pub near-begins : (second : ℕ) → nearAfter true Not second ≡ Since second
+unfolding nearAfter keptSince
+near-begins second = refl
+
+pub near-kept : (earlier second : ℕ) → nearAfter true (Since earlier) second ≡ Since earlier
+unfolding nearAfter keptSince
+near-kept earlier second = refl
+
+-- "a quote that isn't near clears it"
+pub near-cleared : (old : Near) (second : ℕ) → nearAfter false old second ≡ Not
+unfolding nearAfter
+near-cleared old second = refl
+
+-- "near, and at least u seconds since that second"
+pub alert-from-u : (u since second : ℕ) → since + u ≤ second → alert u (Since since) second ≡ true
+unfolding alert
+alert-from-u u since second l = le-leb (since + u) second l
+
+pub no-alert-before-u : (u since second : ℕ) → second < since + u → alert u (Since since) second ≡ false
+unfolding alert
+no-alert-before-u u since second l = lt-leb (since + u) second l
+
+pub no-alert-unless-near : (u second : ℕ) → alert u Not second ≡ false
+unfolding alert
+no-alert-unless-near u second = refl
+
+-- "One quote touches one term only."
+pub one-quote-one-term : (r : Record) (q : Quote) (k : ℕ) → k ≢ q .term
+    → getD (quoted r q .near) k notNear ≡ getD (r .near) k notNear
+unfolding quoted
+one-quote-one-term r q k n = getD-set-other (r .near) (q .term) k _ notNear n
+
+-- a quote leaves the limits, the counts and the standing, and its second is the last
+pub quote-leaves : (r : Record) (q : Quote)
+    → (quoted r q .ranges ≡ r .ranges)
+    × (quoted r q .terms ≡ r .terms)
+    × (quoted r q .bands ≡ r .bands)
+    × (quoted r q .moves ≡ r .moves)
+    × (quoted r q .standing ≡ r .standing)
+    × (quoted r q .second ≡ q .second)
+unfolding quoted
+quote-leaves r q = (refl, refl, refl, refl, refl, refl)
+
+-- ---- moves
+
+-- "It adds one to c", "c the moves of that side"
+pub move-counts : (r : Record) (side : Side) → countOf side (moved r side .moves) ≡ countOf side (r .moves) + 1
+unfolding moved oneMore
+move-counts r Upper = refl
+move-counts r Lower = refl
+
+pub move-leaves-count : (r : Record) (side : Side)
+    → countOf (other side) (moved r side .moves) ≡ countOf (other side) (r .moves)
+unfolding moved oneMore
+move-leaves-count r Upper = refl
+move-leaves-count r Lower = refl
+
+-- a level's range, a term's band and its near seconds after a move
+range-after : (r : Record) (side : Side) (i : ℕ) → i < 3
+    → getD (moved r side .ranges) i noLimits ≡ rangeMoved side (deltaFor r) (getD (r .ranges) i noLimits)
+unfolding moved
+range-after r side i l = three-at (λ i. rangeMoved side (deltaFor r) (getD (r .ranges) i noLimits)) noLimits i l
+
+band-after : (r : Record) (side : Side) (k : ℕ) → k < 3
+    → getD (moved r side .bands) k noLimits
+    ≡ bandMoved side
+    (bandOf (r .statics) (r .p1 .units) (getD (r .rates) 0 noRate .bp) (moved r side .moves) (termAt (r .terms) k))
+    (getD (r .bands) k noLimits)
+unfolding moved
+band-after r side k l =
+    three-at
+    (λ k. bandMoved side
+    (bandOf (r .statics) (r .p1 .units) (getD (r .rates) 0 noRate .bp) (oneMore side (r .moves)) (termAt (r .terms) k))
+    (getD (r .bands) k noLimits))
+    noLimits k l
+
+near-after : (r : Record) (side : Side) (k : ℕ) → k < 3
+    → getD (moved r side .near) k notNear ≡ nearCleared side (getD (r .near) k notNear)
+unfolding moved
+near-after r side k l = three-at (λ k. nearCleared side (getD (r .near) k notNear)) notNear k l
+
+-- "remakes that side's three band limits": by one move more of that side
+pub move-remakes : (r : Record) (side : Side) (k : ℕ) → k < 3
+    → limitOn side (getD (moved r side .bands) k noLimits)
+    ≡ bandLimit (r .statics) side (r .p1 .units) (getD (r .rates) 0 noRate .bp) (countOf side (r .moves) + 1)
+    (termAt (r .terms) k .k) (repoOn side (termAt (r .terms) k))
+unfolding moved bandMoved bandOf oneMore
+move-remakes r Upper k l = ap (limitOn Upper) (band-after r Upper k l)
+move-remakes r Lower k l = ap (limitOn Lower) (band-after r Lower k l)
+
+pub move-leaves-band : (r : Record) (side : Side) (k : ℕ) → k < 3
+    → limitOn (other side) (getD (moved r side .bands) k noLimits) ≡ limitOn (other side) (getD (r .bands) k noLimits)
+unfolding bandMoved
+move-leaves-band r Upper k l = ap (limitOn Lower) (band-after r Upper k l)
+move-leaves-band r Lower k l = ap (limitOn Upper) (band-after r Lower k l)
+
+-- "shifts its three range limits by delta": the upper ones up
+pub upper-moves-up : (r : Record) (i : ℕ) → i < 3
+    → getD (moved r Upper .ranges) i noLimits .upper ≡ getD (r .ranges) i noLimits .upper + deltaFor r
+unfolding rangeMoved
+upper-moves-up r i l = ap (limitOn Upper) (range-after r Upper i l)
+
+-- the lower ones down, "lower ones stopping at 0 (18.4)"
+pub lower-moves-down : (r : Record) (i : ℕ) → i < 3 → deltaFor r ≤ getD (r .ranges) i noLimits .lower
+    → getD (moved r Lower .ranges) i noLimits .lower + deltaFor r ≡ getD (r .ranges) i noLimits .lower
+unfolding rangeMoved
+lower-moves-down r i l enough = omega (arith, ap (limitOn Lower) (range-after r Lower i l))
+
+pub lower-stops-at-zero : (r : Record) (i : ℕ) → i < 3 → getD (r .ranges) i noLimits .lower ≤ deltaFor r
+    → getD (moved r Lower .ranges) i noLimits .lower ≡ 0
+unfolding rangeMoved
+lower-stops-at-zero r i l short = omega (arith, ap (limitOn Lower) (range-after r Lower i l))
+
+pub move-leaves-range : (r : Record) (side : Side) (i : ℕ) → i < 3
+    → limitOn (other side) (getD (moved r side .ranges) i noLimits) ≡ limitOn (other side) (getD (r .ranges) i noLimits)
+unfolding rangeMoved
+move-leaves-range r Upper i l = ap (limitOn Lower) (range-after r Upper i l)
+move-leaves-range r Lower i l = ap (limitOn Upper) (range-after r Lower i l)
+
+-- "It clears that side's near seconds in all terms."
+pub move-clears : (r : Record) (side : Side) (k : ℕ) → k < 3
+    → nearSecondOn side (getD (moved r side .near) k notNear) ≡ Not
+unfolding nearCleared
+move-clears r Upper k l = ap (nearSecondOn Upper) (near-after r Upper k l)
+move-clears r Lower k l = ap (nearSecondOn Lower) (near-after r Lower k l)
+
+pub move-leaves-near : (r : Record) (side : Side) (k : ℕ) → k < 3
+    → nearSecondOn (other side) (getD (moved r side .near) k notNear)
+    ≡ nearSecondOn (other side) (getD (r .near) k notNear)
+unfolding nearCleared
+move-leaves-near r Upper k l = ap (nearSecondOn Lower) (near-after r Upper k l)
+move-leaves-near r Lower k l = ap (nearSecondOn Upper) (near-after r Lower k l)
+
+-- a move leaves the evaluation, the rates, the terms, the standing and the last quote second
+pub move-leaves : (r : Record) (side : Side)
+    → (moved r side .p1 ≡ r .p1)
+    × (moved r side .rates ≡ r .rates)
+    × (moved r side .terms ≡ r .terms)
+    × (moved r side .standing ≡ r .standing)
+    × (moved r side .second ≡ r .second)
+unfolding moved
+move-leaves r side = (refl, refl, refl, refl, refl)
+
+-- ---- evaluations
+
+-- "An evaluation clears both counts, all near seconds and the last quote second (to 0)."
+pub evaluation-clears : (r : Record) (d : Day) (rows : List ℤ)
+    → (evaluated r d rows .moves .upper ≡ 0)
+    × (evaluated r d rows .moves .lower ≡ 0)
+    × (evaluated r d rows .near ≡ three (λ k. notNear))
+    × (evaluated r d rows .second ≡ 0)
+unfolding evaluated
+evaluation-clears r d rows = (refl, refl, refl, refl)
+
+-- "live with its day number", and "the two latest evaluations" are then this one and the one before it
+pub evaluation-is-latest : (r : Record) (d : Day) (rows : List ℤ)
+    → (evaluated r d rows .standing ≡ Live (d .day))
+    × (evaluated r d rows .p1 .units ≡ priceOn r rows)
+    × (evaluated r d rows .p2 ≡ r .p1)
+unfolding evaluated
+evaluation-is-latest r d rows = (refl, refl, refl)
+
+-- "Age becomes 0 on a change, else one more, held at 250."
+pub age-held : (h wait t : ℕ) (old : Tentative) → tentativeAfter h wait t old .age ≤ 250
+unfolding tentativeAfter
+age-held h wait t old = go (leb (old .bp + h) t) (leb (t + h) (old .bp) && leb wait (old .age + 1))
+  where
+    go : (rises falls : Bool)
+        → pick {A = Tentative} rises (record { bp = t; age = 0 })
+        (pick falls (record { bp = old .bp - h; age = 0 }) (record { bp = old .bp; age = min 250 (old .age + 1) })) .age
+        ≤ 250
+    go true falls = omega arith
+    go false true = omega arith
+    go false false = min-le-left 250 (old .age + 1)
+
+-- ---- who is refused with 1, and the tables that every call refuses
+
+-- a security that is not known is refused with 1 whatever else holds
+pub unknown-refused : (c : Call) (t : List Record) → looksUp c ≡ true → known t (idOf c) ≡ false
+    → step c t .answer .verdict ≡ NoSuchId
+unfolding checksOf evaluateChecks quoteChecks moveChecks readChecks
+unknown-refused c t looks e = refused-always c t NoSuchId (first c looks e)
+  where
+    first : (c : Call) → looksUp c ≡ true → known t (idOf c) ≡ false → FirstAt NoSuchId (checksOf c t)
+    first (admit a) looks e = absurd (let z : _≡_ {A = ℕ} 0 1 = cc in omega arith)
+    first (evaluate id d rows) looks e = here refl (ap not e)
+    first (quote id q) looks e = here refl (ap not e)
+    first (move id side) looks e = here refl (ap not e)
+    first (read id) looks e = here refl (ap not e)
