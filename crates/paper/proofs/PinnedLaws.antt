@@ -1,5 +1,5 @@
--- General sentences of document 01, as laws of the definitions: what a quote, a move and an evaluation change and what they
--- leave, what a refusal and a read answer, who is refused with 1. Their figures stand in the tables of specs/Pinned...
+-- General sentences of document 01, as laws of the definitions: what a quote, a move and an evaluation change and leave,
+-- what a refusal and a read answer, who is refused with 1. Their figures stand in the tables of specs/Pinned...
 -- It may use every definition of document 01, and the laws of Slots and Refusals. Assumes nothing.
 use mathlib.Core.Path.{_≡_, refl, sym, _∙_, ap}
 use mathlib.Core.Logic.{_≢_, _⊎_, inl, inr}
@@ -8,11 +8,11 @@ use mathlib.Core.List.{List, [], _∷_}
 use Prim.Native.Nat.{ℕ, zero, suc, _+_, _-_, _≤_, _<_, min}
 use native.Mathlib.Nat.{min-le-left}
 use native.Mathlib.Omega.{arith}
-use lib.Dec.{leb, ltb}
+use lib.Dec.{leb, eqb}
 use lib.IntN.{ℤ}
 use lib.ListN.{length, getD, set}
 use lib.Seq.{getD-set-other}
-use borrow.Author.Tests.{le-leb, lt-leb}
+use borrow.Author.Tests.{eqb-false, le-leb, lt-leb}
 use Rattle.paper.specs.declared.Tentative.{Tentative}
 use Rattle.paper.specs.declared.Standing.the-variants.{Live}
 use Rattle.paper.specs.declared.Side.{Side}
@@ -26,19 +26,23 @@ use Rattle.paper.specs.declared.Quote.{Quote}
 use Rattle.paper.specs.declared.Record.{Record}
 use Rattle.paper.specs.declared.Answer.{Answer}
 use Rattle.paper.specs.declared.Verdict.{Verdict}
-use Rattle.paper.specs.declared.Verdict.the-variants.{Done, NoSuchId, AdmissionOutOfRange}
+use Rattle.paper.specs.declared.Verdict.the-variants.{NoSuchId, AdmissionOutOfRange}
 use Rattle.paper.specs.Lists.{pick, three}
-use Rattle.paper.specs.Ranges.{noRate, noLimits, notNear, termAt, sideOf, validSlots, validAdmission, sound}
+use Rattle.paper.specs.Ranges.{noRate, noLimits, notNear, termAt, sideOf, validSlots, sound}
 use Rattle.paper.specs.Rates.{tentativeAfter}
-use Rattle.paper.specs.Limits.{bandLimit, bandOf, deltaOf, oneMore, countOf, rangeMoved, bandMoved}
+use Rattle.paper.specs.Limits.{bandLimit, bandOf, oneMore, countOf, rangeMoved, bandMoved}
 use Rattle.paper.specs.Alerts.{isNear, keptSince, nearAfter, alert, nearCleared}
-use Rattle.paper.specs.Verdicts.{isDone, firstOf, FirstAt, here}
+use Rattle.paper.specs.Verdicts.{numberOf, isDone, firstOf, FirstAt, here, NoneApplies, also}
 use Rattle.paper.specs.Desk.{blank, saying, showing, alerting, alertsOn, evaluated, priceOn, quoted, moved, place, stands, found, known, Call, admit, evaluate, quote, move, read, idOf, checksOf, admitChecks, evaluateChecks, quoteChecks, moveChecks, readChecks, Outcome, judged, acceptedOf, step}
 use Rattle.paper.specs.PinnedValues.{recordFrom, blank-is-zero}
 use Rattle.paper.specs.Sides.{other, limitOn, nearSecondOn, repoOn, deltaFor, looksUp, shows}
-use Rattle.paper.proofs.Logic.{and-both}
+use Rattle.paper.proofs.Logic.{not-false}
 use Rattle.paper.proofs.Slots.{found-id, found-written, known-stands}
 use Rattle.paper.proofs.Refusals.{verdict-first, refused-always, refused-leaves, accepted-step, accepted-only}
+
+and-no : (a : Bool) → (a && false) ≡ false
+and-no true = refl
+and-no false = refl
 
 -- each of three is what is made for its place
 three-at : {A : Type 0} (f : ℕ → A) (default : A) (i : ℕ) → i < 3 → getD (three f) i default ≡ f i
@@ -244,3 +248,112 @@ unknown-refused c t looks e = refused-always c t NoSuchId (first c looks e)
     first (quote id q) looks e = here refl (ap not e)
     first (move id side) looks e = here refl (ap not e)
     first (read id) looks e = here refl (ap not e)
+
+-- "Where an id stands in several slots the first alone counts": no slot before it has the id
+pub first-counts : (t : List Record) (id i : ℕ) → i < place t id → getD t i blank .id ≡ id → ⊥
+unfolding place
+first-counts [] id i l e = omega arith
+first-counts (r ∷ t) id i l e = go (eqb (r .id) id) refl i l e (λ i. first-counts t id i)
+  where
+    go : (b : Bool) → eqb (r .id) id ≡ b → (i : ℕ) → i < pick b 0 (suc (place t id)) → getD (r ∷ t) i blank .id ≡ id
+        → ((i : ℕ) → i < place t id → getD t i blank .id ≡ id → ⊥) → ⊥
+    go true q i l e rest = omega arith
+    go false q zero l e rest = eqb-false (r .id) id q e
+    go false q (suc i) l e rest = rest i (omega arith) e
+
+-- "even if it is damaged": it is found, and refused with 1, whatever stands behind it
+pub damaged-refused : (c : Call) (t : List Record) → looksUp c ≡ true → sound (found t (idOf c)) ≡ false
+    → step c t .answer .verdict ≡ NoSuchId
+unfolding known
+damaged-refused c t looks e = unknown-refused c t looks (rw e (and-no (validSlots (length t) && stands t (idOf c))))
+
+-- "A table of no slots, or over 512, is refused 4 by admit and 1 by the rest."
+no-such-table : (t : List Record) → (length t ≡ 0) ⊎ (512 < length t) → validSlots (length t) ≡ false
+unfolding validSlots
+no-such-table t (inl e) = rw e
+no-such-table t (inr l) = rw (lt-leb (length t) 512 l) (and-no (leb 1 (length t)))
+
+pub table-refused-by-admit : (a : Admission) (t : List Record) → (length t ≡ 0) ⊎ (512 < length t)
+    → numberOf (step (admit a) t .answer .verdict) ≡ 4
+unfolding checksOf admitChecks
+table-refused-by-admit a t e =
+    ap numberOf (refused-always (admit a) t AdmissionOutOfRange (here refl (rw (no-such-table t e))))
+
+pub table-refused-by-the-rest : (c : Call) (t : List Record) → looksUp c ≡ true → (length t ≡ 0) ⊎ (512 < length t)
+    → numberOf (step c t .answer .verdict) ≡ 1
+unfolding known
+table-refused-by-the-rest c t looks e = ap numberOf (unknown-refused c t looks (rw (no-such-table t e)))
+
+-- ---- what is written and what is answered
+
+-- "An accepted call writes one record, except a read, which writes none."
+pub read-writes-nothing : (id : ℕ) (t : List Record) → step (read id) t .table ≡ t
+unfolding step judged acceptedOf
+read-writes-nothing id t = go (isDone (firstOf (checksOf (read id) t)))
+  where
+    go : (b : Bool)
+        → pick {A = Outcome} b (record { answer = showing (found t id); table = t })
+        (record { answer = saying (firstOf (checksOf (read id) t)); table = t }) .table
+        ≡ t
+    go true = refl
+    go false = refl
+
+-- "A refusal returns its number with all figures 0 (flags no, nothing near, admitted only)": no number but 0
+pub refused-zero : (c : Call) (t : List Record) → isDone (step c t .answer .verdict) ≡ false
+    → (step c t .answer .rec ≡ recordFrom []) × (step c t .answer .top ≡ false) × (step c t .answer .bottom ≡ false)
+unfolding saying
+refused-zero c t e =
+    let zeros : step c t .answer ≡ saying (step c t .answer .verdict) = refused-leaves c t e .1 in
+    let shown : step c t .answer .rec ≡ blank = ap (λ (a : Answer). a .rec) zeros in
+    (shown ∙ blank-is-zero, ap (λ (a : Answer). a .top) zeros, ap (λ (a : Answer). a .bottom) zeros)
+
+-- "Accepted evaluations, moves and reads return the record as it then stands"
+pub shown-stands : (c : Call) (t : List Record) → shows c ≡ true → isDone (step c t .answer .verdict) ≡ true
+    → found (step c t .table) (idOf c) ≡ step c t .answer .rec
+unfolding acceptedOf showing checksOf evaluateChecks moveChecks evaluated moved
+shown-stands c t s e =
+    let done : isDone (firstOf (checksOf c t)) ≡ true = ap isDone (sym (verdict-first c t)) ∙ e in
+    rw (accepted-step c t done) (accepted c s (accepted-only c t e))
+  where
+    -- the record stored in the id's slot, with the id that it had, is the one found
+    stored : (id : ℕ) (x : Record) → known t id ≡ true → x .id ≡ found t id .id → found (set t (place t id) x) id ≡ x
+    stored id x k m =
+        let mine : x .id ≡ id = m ∙ found-id t id (known-stands t id k) in
+        ap (found (set t (place t id) x)) (sym mine)
+        ∙ found-written id x t (known-stands t id k) (λ n. absurd (n mine))
+
+    accepted : (c : Call) → shows c ≡ true → NoneApplies (checksOf c t)
+        → found (acceptedOf c t .table) (idOf c) ≡ acceptedOf c t .answer .rec
+    accepted (admit a) s w = absurd (let z : _≡_ {A = ℕ} 0 1 = cc in omega arith)
+    accepted (evaluate id d rows) s (also q w) =
+        stored id (evaluated (found t id) d rows) (not-false (known t id) q) refl
+    accepted (quote id q) s w = absurd (let z : _≡_ {A = ℕ} 0 1 = cc in omega arith)
+    accepted (move id side) s (also q w) = stored id (moved (found t id) (sideOf side)) (not-false (known t id) q) refl
+    accepted (read id) s w = refl
+
+-- "a quote its two alerts, an admission the number 0 alone": neither shows a record
+pub no-record-shown : (c : Call) (t : List Record) → shows c ≡ false → step c t .answer .rec ≡ recordFrom []
+unfolding step judged acceptedOf saying alertsOn alerting
+no-record-shown c t s = go c s (firstOf (checksOf c t)) (isDone (firstOf (checksOf c t))) ∙ blank-is-zero
+  where
+    go : (c : Call) → shows c ≡ false → (v : Verdict) (b : Bool)
+        → pick b (acceptedOf c t) (record { answer = saying v; table = t }) .answer .rec ≡ blank
+    go (admit a) s v true = refl
+    go (admit a) s v false = refl
+    go (evaluate id d rows) s v b = absurd (let z : _≡_ {A = ℕ} 0 1 = cc in omega arith)
+    go (quote id q) s v true = refl
+    go (quote id q) s v false = refl
+    go (move id side) s v b = absurd (let z : _≡_ {A = ℕ} 0 1 = cc in omega arith)
+    go (read id) s v b = absurd (let z : _≡_ {A = ℕ} 0 1 = cc in omega arith)
+
+-- an admission gives no alert either
+pub admission-number-alone : (a : Admission) (t : List Record)
+    → step (admit a) t .answer ≡ saying (step (admit a) t .answer .verdict)
+unfolding step judged acceptedOf saying
+admission-number-alone a t = go (firstOf (checksOf (admit a) t)) (isDone (firstOf (checksOf (admit a) t)))
+  where
+    go : (v : Verdict) (b : Bool)
+        → pick b (acceptedOf (admit a) t) (record { answer = saying v; table = t }) .answer
+        ≡ saying (pick b (acceptedOf (admit a) t) (record { answer = saying v; table = t }) .answer .verdict)
+    go v true = refl
+    go v false = refl
