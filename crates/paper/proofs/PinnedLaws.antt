@@ -5,15 +5,13 @@ use mathlib.Core.Path.{_≡_, refl, sym, _∙_, ap}
 use mathlib.Core.Logic.{_≢_, _⊎_, inl, inr}
 use mathlib.Core.Bool.{Bool, true, false, not, _&&_}
 use mathlib.Core.List.{List, [], _∷_}
-use Prim.Native.Nat.{ℕ, zero, suc, _+_, _-_, _≤_, _<_, min}
-use native.Mathlib.Nat.{min-le-left}
+use Prim.Native.Nat.{ℕ, zero, suc, _+_, _-_, _≤_, _<_}
 use native.Mathlib.Omega.{arith}
 use lib.Dec.{leb, eqb}
 use lib.IntN.{ℤ}
 use lib.ListN.{length, getD, set}
 use lib.Seq.{getD-set-other}
 use borrow.Author.Tests.{eqb-false, le-leb, lt-leb}
-use Rattle.paper.specs.declared.Tentative.{Tentative}
 use Rattle.paper.specs.declared.Standing.the-variants.{Live}
 use Rattle.paper.specs.declared.Side.{Side}
 use Rattle.paper.specs.declared.Side.the-variants.{Upper, Lower}
@@ -29,7 +27,6 @@ use Rattle.paper.specs.declared.Verdict.{Verdict}
 use Rattle.paper.specs.declared.Verdict.the-variants.{NoSuchId, AdmissionOutOfRange}
 use Rattle.paper.specs.Lists.{pick, three}
 use Rattle.paper.specs.Ranges.{noRate, noLimits, notNear, termAt, sideOf, validSlots, sound}
-use Rattle.paper.specs.Rates.{tentativeAfter}
 use Rattle.paper.specs.Limits.{bandLimit, bandOf, oneMore, countOf, rangeMoved, bandMoved}
 use Rattle.paper.specs.Alerts.{isNear, keptSince, nearAfter, alert, nearCleared}
 use Rattle.paper.specs.Verdicts.{numberOf, isDone, firstOf, FirstAt, here, NoneApplies, also}
@@ -220,19 +217,6 @@ pub evaluation-is-latest : (r : Record) (d : Day) (rows : List ℤ)
     × (evaluated r d rows .p2 ≡ r .p1)
 unfolding evaluated
 evaluation-is-latest r d rows = (refl, refl, refl)
-
--- "Age becomes 0 on a change, else one more, held at 250."
-pub age-held : (h wait t : ℕ) (old : Tentative) → tentativeAfter h wait t old .age ≤ 250
-unfolding tentativeAfter
-age-held h wait t old = go (leb (old .bp + h) t) (leb (t + h) (old .bp) && leb wait (old .age + 1))
-  where
-    go : (rises falls : Bool)
-        → pick {A = Tentative} rises (record { bp = t; age = 0 })
-        (pick falls (record { bp = old .bp - h; age = 0 }) (record { bp = old .bp; age = min 250 (old .age + 1) })) .age
-        ≤ 250
-    go true falls = omega arith
-    go false true = omega arith
-    go false false = min-le-left 250 (old .age + 1)
 
 -- ---- who is refused with 1, and the tables that every call refuses
 
