@@ -26,3 +26,4 @@ pub mod Sequences
 pub mod Carried
 pub mod Demands
 pub mod PinnedLaws
+pub mod Admissions

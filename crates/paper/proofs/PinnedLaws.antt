@@ -1,5 +1,5 @@
--- General sentences of document 01, as laws of the definitions: what a quote, a move and an evaluation change and leave,
--- what a refusal and a read answer, who is refused with 1. Their figures stand in the tables of specs/Pinned...
+-- General sentences of document 01, as laws of the definitions: what a quote, a move and an evaluation change and
+-- leave, what a refusal and a read answer, who is refused with 1. Their figures stand in the tables of specs/Pinned...
 -- It may use every definition of document 01, and the laws of Slots and Refusals. Assumes nothing.
 use mathlib.Core.Path.{_≡_, refl, sym, _∙_, ap}
 use mathlib.Core.Logic.{_≢_, _⊎_, inl, inr}

@@ -4,7 +4,7 @@
 use mathlib.Core.Path.{_≡_, refl}
 use mathlib.Core.Bool.{true}
 use mathlib.Core.List.{List, [], _∷_, _++_, map}
-use Prim.Native.Nat.{ℕ, _+_}
+use Prim.Native.Nat.{ℕ, zero, suc, _+_}
 use lib.IntN.{ℤ, pos}
 use lib.ListN.{getD, replicate}
 use Rattle.paper.specs.declared.Record.{Record}
@@ -24,7 +24,8 @@ use Rattle.paper.specs.Verdicts.{numberOf, isDone, firstOf}
 use Rattle.paper.specs.Desk.{blank, saying, showing, alerting, admitted, priceOn, moveOn, figuresOn, evaluated, nearOn, quoted, alertsOn, moved, place, stands, found, known, Call, admit, evaluate, quote, move, read, admitChecks, evaluateChecks, quoteChecks, moveChecks, readChecks, checksOf, Outcome, judged, acceptedOf, step, run, fresh}
 use Rattle.paper.specs.PinnedValues.{_but_, pchmaxAt, monitoringAt, ewmaAt, idAt, sAt, aupAt, adownAt, admissionFrom, dayFrom, quoteFrom, closedAt, zNumbers, yesNo}
 
--- what the calls of a list answer, each on the table that those before it leave
+-- what the calls of a list answer, each on the table that those before it leave. It opens every definition that a call
+-- computes with, so that a table opens this one alone
 unfoldable pub answers : List Call → List Record → List Answer
 unfolding natural isPrice isRate gridOf isGridPrice validStatics staticsOf validGiven validTentative validAdmission
     partsFrom rowAt rowsOf wholeRows validRow validRows rowOf validTerm validDay validQuote validSide sideOf isLive
@@ -51,9 +52,10 @@ numbers cs t = map (λ (a : Answer). numberOf (a .verdict)) (answers cs t)
 unfoldable pub slots : ℕ → List Record
 slots count = replicate count blank
 
-pub slots-fresh : fresh (slots 4) ≡ true
+pub slots-fresh : (count : ℕ) → fresh (slots count) ≡ true
 unfolding fresh every slots blank
-slots-fresh = refl
+slots-fresh zero = refl
+slots-fresh (suc count) = slots-fresh count
 
 -- ---- document 01's cases, a call after the other
 
@@ -138,11 +140,12 @@ shown-are = refl
 
 -- ---- "Numbers a member may see": every number, from a fresh table of three slots on
 
--- a security with isEWMA no; one with Monitoring no, s and the weights 0; and others like the first
+-- the admission of a security with isEWMA no and PcH_max 0
 unfoldable pub quiet : (id : ℕ) → Call
 unfolding admissionFrom zNumbers
 quiet id = admit (admissionFrom (zNumbers but (ewmaAt, pos 0) but (pchmaxAt, pos 0) but (idAt, pos id)))
 
+-- of one with Monitoring no, s and the weights 0
 unfoldable pub still : (id : ℕ) → Call
 unfolding admissionFrom zNumbers
 still id =
@@ -157,24 +160,29 @@ crossing = pos 30 ∷ pos 9999 ∷ pos 9999 ∷ []
 unfoldable pub numbered : List Call
 unfolding quiet still crossing dayAt bidAt
 numbered =
+    -- 1 no such id; 4 id 0; 0 done; 2 already admitted; 10 not live
     read 7
     ∷ quiet 0
     ∷ quiet 7
     ∷ quiet 7
     ∷ bidAt 7 100 990000
+    -- 5 the last day; 6 volume without a close; 7 an evaluation of 0; 9 bands that cross; 0 done
     ∷ dayAt 7 3 1000000
     ∷ dayAt 7 4 0
     ∷ dayAt 7 4 1
     ∷ evaluate 7 (dayFrom (pos 4 ∷ pos 0 ∷ pos 0 ∷ crossing)) []
     ∷ dayAt 7 4 1000000
+    -- 0 done; 13 a second earlier; fifty moves, and 12
     ∷ bidAt 7 100 990000
     ∷ bidAt 7 99 990000
     ∷ (replicate 50 (move 7 0)
     ++ (move 7 0
+    -- 0 done; 8 r of 1,000,010; 0 done; 11 Monitoring no
     ∷ still 8
     ∷ dayAt 8 4 2000010
     ∷ dayAt 8 4 1000000
     ∷ bidAt 8 100 990000
+    -- 0 the third slot; 3 no empty slot
     ∷ quiet 9
     ∷ quiet 10
     ∷ []))

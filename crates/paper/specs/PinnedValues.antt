@@ -1,5 +1,5 @@
--- Values for the tables that pin the definitions (the files Pinned..): each is spelled as a row of
--- numbers, so that a line of a table changes one of them. A place that a row does not have counts as 0.
+-- Values for the tables that pin the definitions (PinnedSequence, PinnedRanges, PinnedOrders, PinnedSession,
+-- PinnedEvaluation), each spelled as a row of numbers, so that a line changes one; a number left out counts as 0.
 -- It may use the kinds of src/lib.rt, and of Ranges how a number is read. Assumes nothing.
 use mathlib.Core.Path.{_≡_, refl}
 use mathlib.Core.Bool.{Bool, true, false}
