@@ -17,7 +17,7 @@ use Rattle.paper.specs.Evaluation.{rowPrice, rowWeight, evaluationOf, da
 use Rattle.paper.specs.Rates.{modelOf, weightOf, replaces, volatilityOf, wanted, tentativeAfter, levelRate}
 use Rattle.paper.specs.Limits.{rangeLimit, bandLimit}
 use Rattle.paper.specs.Desk.{blank, evaluate, admitted, run}
-use Rattle.paper.specs.PinnedValues.{_but_, pchmaxAt, pclmaxAt, monitoringAt, ewmaAt, ageAt, givenFrom, admissionFrom, recordFrom, dayFrom, closedAt, zNumbers, zRecord, yesNo}
+use Rattle.paper.specs.PinnedValues.{_but_, qAt, centralAt, pchmaxAt, pclmaxAt, monitoringAt, ewmaAt, ageAt, givenFrom, admissionFrom, recordFrom, dayFrom, closedAt, zNumbers, zRecord, yesNo}
 use Rattle.paper.specs.PinnedSequence.{numbers}
 
 -- ---- the evaluation
@@ -54,11 +54,11 @@ evaluations =
     ∷ [])
     -- "rows whose weight (b) is above 0": no trade does not count, and neither does a weight that is rounded to 0
     ∷ (evaluationAt (row 10 0 0 1 ++ row 20 0 0 0)
-    ∷ evaluationAt (row 10 0 0 1 ++ (row 20 0 0 1 but (1, pos 4999)))
-    ∷ evaluationAt (row 20 0 0 1 but (1, pos 5000))
+    ∷ evaluationAt (row 10 0 0 1 ++ (row 20 0 0 1 but (centralAt, pos 4999)))
+    ∷ evaluationAt (row 20 0 0 1 but (centralAt, pos 5000))
     ∷ [])
     -- "With no such row it is the previous evaluation."
-    ∷ (evaluationAt [] ∷ evaluationAt (row 20 0 0 0) ∷ evaluationAt (row 20 0 0 1 but (1, pos 4999)) ∷ [])
+    ∷ (evaluationAt [] ∷ evaluationAt (row 20 0 0 0) ∷ evaluationAt (row 20 0 0 1 but (centralAt, pos 4999)) ∷ [])
     -- "BID is the greatest row bid, ASK the least row ask": a missing one does not count
     ∷ (evaluationAt (row 10 20 0 1 ++ row 10 30 0 1) ∷ evaluationAt (row 10 0 8 1 ++ row 10 0 0 1 ++ row 10 0 9 1) ∷ [])
     -- "One side: min(close, ASK) or max(close, BID). None: the close.": on both sides of the close
@@ -123,8 +123,8 @@ rates =
     ∷ yesNo (replaces (modelOf (staticsBut zNumbers)) 0 900 1000 334)
     ∷ [])
     -- "t is the least multiple of h with 10,000·t ≥ q·s, held at S_max.": exactly 100, just above; S_max
-    ∷ (wanted (staticsBut (zNumbers but (2, pos 100))) 10000
-    ∷ wanted (staticsBut (zNumbers but (2, pos 100))) 10001
+    ∷ (wanted (staticsBut (zNumbers but (qAt, pos 100))) 10000
+    ∷ wanted (staticsBut (zNumbers but (qAt, pos 100))) 10001
     ∷ wanted (staticsBut zNumbers) 140000
     ∷ [])
     -- "If t ≥ tentative + h, tentative becomes t.": at 700, one below, and far above

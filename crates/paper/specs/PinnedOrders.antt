@@ -11,7 +11,7 @@ use Rattle.paper.specs.Lists.{those}
 use Rattle.paper.specs.Limits.{crossed}
 use Rattle.paper.specs.Verdicts.{numberOf, Check}
 use Rattle.paper.specs.Desk.{blank, Call, admit, evaluate, quote, move, read, checksOf, run}
-use Rattle.paper.specs.PinnedValues.{_but_, aupAt, adownAt, liqAt, pchmaxAt, monitoringAt, ewmaAt, idAt, dayAt, sAt, tentativeAt, liveAt, ageAt, upperMovesAt, lowerMovesAt, secondAt, admissionFrom, recordFrom, dayFrom, quoteFrom, closedAt, zNumbers, zRecord, yesNo}
+use Rattle.paper.specs.PinnedValues.{_but_, minimaAt, centralAt, volumeAt, aupAt, adownAt, liqAt, pchmaxAt, monitoringAt, ewmaAt, idAt, dayAt, sAt, tentativeAt, liveAt, ageAt, upperMovesAt, lowerMovesAt, secondAt, admissionFrom, recordFrom, dayFrom, quoteFrom, closedAt, zNumbers, zRecord, yesNo}
 use Rattle.paper.specs.PinnedSequence.{numbers}
 
 -- ---- "First that applies"
@@ -53,7 +53,7 @@ crossingDay day m = pos day ∷ pos 2 ∷ pos m ∷ pos 30 ∷ pos 9999 ∷ pos 
 -- a row whose price in roubles is 2·10^10
 rowTooHigh : List ℤ
 unfolding closedAt
-rowTooHigh = closedAt 10000000000 but (1, pos 20000)
+rowTooHigh = closedAt 10000000000 but (centralAt, pos 20000)
 
 -- a quote of neither bid nor ask at a second, in a term
 quoteAt : (second term : ℕ) → Call
@@ -162,8 +162,8 @@ conditions =
     (holding plainZ)
     -- 7 "a rounded row price .. is 0 or above 10^10": a close in roubles of 10^10 and of 1.0001·10^10; a bid of 0.49
     -- and of 0.5 units; an ask of 0.49
-    ∷ (rowAnswer plainZ (closedAt 10000000000 but (1, pos 10000))
-    ++ rowAnswer plainZ (closedAt 10000000000 but (1, pos 10001))
+    ∷ (rowAnswer plainZ (closedAt 10000000000 but (centralAt, pos 10000))
+    ++ rowAnswer plainZ (closedAt 10000000000 but (centralAt, pos 10001))
     ++ rowAnswer plainZ (pos 0 ∷ pos 4900 ∷ pos 0 ∷ pos 0 ∷ pos 1 ∷ pos 0 ∷ pos 0 ∷ [])
     ++ rowAnswer plainZ (pos 0 ∷ pos 5000 ∷ pos 0 ∷ pos 0 ∷ pos 1 ∷ pos 0 ∷ pos 0 ∷ [])
     ++ rowAnswer plainZ (pos 0 ∷ pos 4900 ∷ pos 0 ∷ pos 0 ∷ pos 0 ∷ pos 1 ∷ pos 0 ∷ []))
@@ -171,8 +171,8 @@ conditions =
     ∷ (rowAnswer plainZ (closedAt 4)
     ++ rowAnswer plainZ (closedAt 5))
     -- 7 "a rounded row volume is above 10^8": 10^8 roubles, and 10^8 of a currency at 1.0001
-    ∷ (rowAnswer plainZ (closedAt 1000000 but (6, pos 100000000))
-    ++ rowAnswer plainZ (closedAt 990000 but (6, pos 100000000) but (1, pos 10001)))
+    ∷ (rowAnswer plainZ (closedAt 1000000 but (volumeAt, pos 100000000))
+    ++ rowAnswer plainZ (closedAt 990000 but (volumeAt, pos 100000000) but (centralAt, pos 10001)))
     -- 8 "isEWMA yes and r above 1,000,000": r 1,000,000 and r 1,000,010; isEWMA no and r 1,000,010
     ∷ (rowAnswer calm (closedAt 2000000)
     ++ rowAnswer calm (closedAt 2000010)
@@ -181,9 +181,9 @@ conditions =
     ∷ map (λ (x : Limits). yesNo (crossed x))
     (record { lower = 9; upper = 10 } ∷ record { lower = 10; upper = 10 } ∷ record { lower = 11; upper = 10 } ∷ [])
     -- of an evaluation with S_1 0 and PcH_max 0: the limits touch; touch once rounded; cross
-    ∷ (termAnswer (plainZ but (10, pos 0) but (pchmaxAt, pos 0)) 0 0
-    ++ termAnswer (plainZ but (10, pos 0) but (pchmaxAt, pos 0)) 1 18
-    ++ termAnswer (plainZ but (10, pos 0) but (pchmaxAt, pos 0)) 1 19)
+    ∷ (termAnswer (plainZ but (minimaAt, pos 0) but (pchmaxAt, pos 0)) 0 0
+    ++ termAnswer (plainZ but (minimaAt, pos 0) but (pchmaxAt, pos 0)) 1 18
+    ++ termAnswer (plainZ but (minimaAt, pos 0) but (pchmaxAt, pos 0)) 1 19)
     -- 12 "c is 50": of the side that moves, 49 and 50; 50 of the other side
     ∷ (numbers (move 7 0 ∷ move 7 0 ∷ []) (holding (plainZ but (upperMovesAt, pos 49) but (lowerMovesAt, pos 50)))
     ++ numbers (move 7 1 ∷ move 7 1 ∷ []) (holding (plainZ but (lowerMovesAt, pos 49) but (upperMovesAt, pos 50))))

@@ -10,7 +10,7 @@ use lib.ListN.{replicate}
 use Rattle.paper.specs.declared.Side.the-variants.{Upper, Lower}
 use Rattle.paper.specs.Lists.{every}
 use Rattle.paper.specs.Ranges.{isPrice, isRate, gridOf, isGridPrice, validStatics, staticsOf, validGiven, validTentative, validAdmission, partsFrom, rowAt, rowsOf, wholeRows, validRow, validRows, validTerm, validDay, validQuote, validSide, sideOf, lastDay, isLimit, validLimits, validNear, validNearSeconds, sound, validSlots}
-use Rattle.paper.specs.PinnedValues.{_but_, idAt, p1At, tentativeAt, ageAt, rangesAt, bandsAt, admissionFrom, recordFrom, dayFrom, quoteFrom}
+use Rattle.paper.specs.PinnedValues.{_but_, lotAt, hAt, minimaAt, idAt, p1At, tentativeAt, ageAt, rangesAt, bandsAt, admissionFrom, recordFrom, dayFrom, quoteFrom}
 
 -- ---- a row of numbers with their ranges
 
@@ -156,14 +156,14 @@ record-ends-are = refl
 -- with h 1,000: S_1_min, S_2_min, S_3_min, S_max, the tentative rate, each one off a multiple and at a multiple
 steps : List (ℕ × ℤ)
 steps =
-    (10, pos 3001)
-    ∷ (10, pos 3000)
-    ∷ (11, pos 3001)
-    ∷ (11, pos 3000)
-    ∷ (12, pos 7001)
-    ∷ (12, pos 7000)
-    ∷ (13, pos 7001)
-    ∷ (13, pos 7000)
+    (minimaAt, pos 3001)
+    ∷ (minimaAt, pos 3000)
+    ∷ (minimaAt + 1, pos 3001)
+    ∷ (minimaAt + 1, pos 3000)
+    ∷ (minimaAt + 2, pos 7001)
+    ∷ (minimaAt + 2, pos 7000)
+    ∷ (minimaAt + 3, pos 7001)
+    ∷ (minimaAt + 3, pos 7000)
     ∷ (tentativeAt, pos 3001)
     ∷ (tentativeAt, pos 3000)
     ∷ []
@@ -188,10 +188,10 @@ limitsOnGrid =
 pub multiples : List (List Bool)
 unfolding tried steps onGrid limitsOnGrid validAdmissionRow soundRow recordRow
 multiples =
-    tried validAdmissionRow (admissionRow but (1, pos 1000)) steps
-    ∷ tried soundRow (recordRow but (1, pos 1000)) steps
-    ∷ tried validAdmissionRow (admissionRow but (0, pos 10)) onGrid
-    ∷ tried soundRow (recordRow but (0, pos 10)) (onGrid ++ limitsOnGrid)
+    tried validAdmissionRow (admissionRow but (hAt, pos 1000)) steps
+    ∷ tried soundRow (recordRow but (hAt, pos 1000)) steps
+    ∷ tried validAdmissionRow (admissionRow but (lotAt, pos 10)) onGrid
+    ∷ tried soundRow (recordRow but (lotAt, pos 10)) (onGrid ++ limitsOnGrid)
     ∷ []
 
 -- no, yes, so many times

@@ -40,6 +40,15 @@ plain xs place = natural (signed xs place)
 
 -- ---- the places: the statics in the order of the table, then an admission's numbers, then a record's
 
+abbrev pub lotAt : ℕ
+lotAt = 0
+
+abbrev pub hAt : ℕ
+hAt = 1
+
+abbrev pub qAt : ℕ
+qAt = 2
+
 abbrev pub aupAt : ℕ
 aupAt = 3
 
@@ -48,6 +57,10 @@ adownAt = 4
 
 abbrev pub liqAt : ℕ
 liqAt = 9
+
+-- three minima, then S_max
+abbrev pub minimaAt : ℕ
+minimaAt = 10
 
 abbrev pub pchmaxAt : ℕ
 pchmaxAt = 16
@@ -116,9 +129,9 @@ unfoldable pub givenFrom : List ℤ → Given
 unfolding natural
 givenFrom xs =
     record {
-      lot = plain xs 0;
-      h = plain xs 1;
-      q = plain xs 2;
+      lot = plain xs lotAt;
+      h = plain xs hAt;
+      q = plain xs qAt;
       aup = plain xs aupAt;
       adown = plain xs adownAt;
       wait = plain xs 5;
@@ -126,10 +139,10 @@ givenFrom xs =
       rh2 = plain xs 7;
       rh3 = plain xs 8;
       liq = plain xs liqAt;
-      min1 = plain xs 10;
-      min2 = plain xs 11;
-      min3 = plain xs 12;
-      smax = plain xs 13;
+      min1 = plain xs minimaAt;
+      min2 = plain xs (minimaAt + 1);
+      min3 = plain xs (minimaAt + 2);
+      smax = plain xs (minimaAt + 3);
       xpr = plain xs 14;
       shift = plain xs 15;
       pchmax = plain xs pchmaxAt;
@@ -207,6 +220,13 @@ quoteFrom xs = record { second = plain xs 0; term = plain xs 1; bid = plain xs 2
 unfoldable pub yesNo : Bool → ℕ
 yesNo true = 1
 yesNo false = 0
+
+-- of a day's row the places of the central rate and of the volume
+abbrev pub centralAt : ℕ
+centralAt = 1
+
+abbrev pub volumeAt : ℕ
+volumeAt = 6
 
 -- a row in roubles today that closes at a price, with no bid and no ask
 unfoldable pub closedAt : ℕ → List ℤ
