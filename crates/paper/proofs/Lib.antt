@@ -15,15 +15,7 @@ pub mod CarriedOn
 pub mod InterestRanges
 pub mod InterestFigures
 pub mod InterestRefusals
-pub mod InterestCarried
 pub mod Roots
 pub mod Level
-pub mod Sound
-pub mod Kept
-pub mod Histories
-pub mod Known
-pub mod Sequences
-pub mod Carried
-pub mod Demands
 pub mod PinnedLaws
 pub mod Admissions

@@ -17,7 +17,6 @@ pub mod Kept
 pub mod Cases
 pub mod Interest
 pub mod InterestExact
-pub mod Demands
 pub mod InterestCases
 pub mod Terms
 pub mod Sides

@@ -4,23 +4,23 @@ use mathlib.Core.Bool.{true, false}
 use mathlib.Core.List.{List, [], _∷_, map}
 use Prim.Native.Nat.{ℕ}
 use lib.ListN.{set}
 use Rattle.paper.specs.declared.Record.{Record}
 use Rattle.paper.specs.declared.Admission.{Admission}
 use Rattle.paper.specs.declared.Verdict.{Verdict}
 use Rattle.paper.specs.declared.Verdict.the-variants.{Done, NoSuchId, AlreadyAdmitted}
 use Rattle.paper.specs.Ranges.{sideOf, validAdmission}
 use Rattle.paper.specs.Verdicts.{numberOf, isDone, Check, firstOf, NoneApplies, Exactly}
 use Rattle.paper.specs.Desk.{Call, admit, evaluate, quote, move, read, idOf, Outcome, saying, showing, evaluated, moved, place, stands, found, known, checksOf, admitChecks, evaluateChecks, quoteChecks, moveChecks, readChecks, acceptedOf, step, run}
 use Rattle.paper.specs.History.{FreshTable, Event, unknown, since, historyOf, wasAdmitted, isAdmission}
-use Rattle.paper.specs.Demands.{answered, orderOf, Demand1, FiguresHold, answerThen, Demand2, Demand3, TableKept}
+use Rattle.demands.specs.Demands.{answered, orderOf, Demand1, FiguresHold, answerThen, Demand2, Demand3, TableKept}
 use Rattle.paper.proofs.Slots.{found-stored, known-stands}
 use Rattle.paper.proofs.Refusals.{verdict-first, refused-step, accepted-step, refused-only, refused-always, accepted-only, accepted-always}
-use Rattle.paper.proofs.Kept.{run-sound, evaluate-knows, quote-knows, move-knows}
-use Rattle.paper.proofs.Histories.{recordOf, Lawful}
-use Rattle.paper.proofs.Known.{one-unknown, bad-table, history-since, known-admitted, no-such-id, already-admitted, stays-known}
-use Rattle.paper.proofs.Sequences.{quote-term, alerts-noted, lawful-figures, lawful-statics, rates-hold}
-use Rattle.paper.proofs.Carried.{lawful-near}
-use Rattle.paper.proofs.InterestCarried.{evenings-near}
+use Rattle.demands.proofs.Kept.{run-sound, evaluate-knows, quote-knows, move-knows}
+use Rattle.demands.proofs.Histories.{recordOf, Lawful}
+use Rattle.demands.proofs.Known.{one-unknown, bad-table, history-since, known-admitted, no-such-id, already-admitted, stays-known}
+use Rattle.demands.proofs.Sequences.{quote-term, alerts-noted, lawful-figures, lawful-statics, rates-hold}
+use Rattle.demands.proofs.Carried.{lawful-near}
+use Rattle.demands.proofs.InterestCarried.{evenings-near}
 
 -- After every sequence of calls on a fresh table every slot is empty or sound, and an id is known exactly if it was
 -- admitted

@@ -7,26 +7,26 @@ use Prim.Native.Nat.{ℕ, suc, _*_, _<_}
 use lib.Dec.{leb, eqb}
 use lib.IntN.{ℤ}
 use borrow.Author.Tests.{leb-true}
 use Rattle.paper.specs.declared.Statics.{Statics}
 use Rattle.paper.specs.declared.Tentative.{Tentative}
 use Rattle.paper.specs.declared.Record.{Record}
 use Rattle.paper.specs.declared.Admission.{Admission}
 use Rattle.paper.specs.declared.Day.{Day}
 use Rattle.paper.specs.Numbers.{hundred, priceMost}
 use Rattle.paper.specs.Ranges.{isPrice, isGridPrice, gridOf, staticsOf, sound}
 use Rattle.paper.specs.Rates.{modelOf, moveOf, Figures, figuresOf, modelled, unmodelled, volatilityOf}
 use Rattle.paper.specs.History.{Event, evaluatedOn, quotedAt, movedBy, evaluations}
 use Rattle.paper.specs.Sequences.{Carries, rateAt, carriesFirst, carriesNext, carries}
 use Rattle.paper.specs.Exact.{exactMove, exactSquare, NearExact}
-use Rattle.paper.specs.Demands.{FiguresHold}
+use Rattle.demands.specs.Demands.{FiguresHold}
 use Rattle.paper.proofs.Logic.{and-left, pick-true}
 use Rattle.paper.proofs.Volatility.{weighing, move-rounded}
 use Rattle.paper.proofs.CarriedOn.{CarriedOn, begun, once-more, carried-near}
-use Rattle.paper.proofs.Sound.{Parts, parts-of}
-use Rattle.paper.proofs.Kept.{good-sound}
-use Rattle.paper.proofs.Histories.{recordOf, Lawful}
-use Rattle.paper.proofs.Known.{lawful-good}
-use Rattle.paper.proofs.Sequences.{lawful-figures, lawful-statics}
+use Rattle.demands.proofs.Sound.{Parts, parts-of}
+use Rattle.demands.proofs.Kept.{good-sound}
+use Rattle.demands.proofs.Histories.{recordOf, Lawful}
+use Rattle.demands.proofs.Known.{lawful-good}
+use Rattle.demands.proofs.Sequences.{lawful-figures, lawful-statics}
 
 -- the two latest evaluations are prices
 record PricesPositive (x : Carries) : Type 0 where
