@@ -17,7 +17,8 @@ use Rattle.paper.proofs.Slots.{found-stored, known-stands}
 use Rattle.paper.proofs.Refusals.{verdict-first, refused-step, accepted-step, refused-only, refused-always, accepted-only, accepted-always}
 use Rattle.demands.proofs.Kept.{run-sound, evaluate-knows, quote-knows, move-knows}
 use Rattle.demands.proofs.Histories.{recordOf, Lawful}
-use Rattle.demands.proofs.Known.{one-unknown, bad-table, history-since, known-admitted, no-such-id, already-admitted, stays-known}
+use Rattle.demands.proofs.Known.{one-unknown, history-since, known-admitted, no-such-id, already-admitted, stays-known}
+use Rattle.paper.proofs.PinnedLaws.{bad-table}
 use Rattle.demands.proofs.Sequences.{quote-term, alerts-noted, lawful-figures, lawful-statics, rates-hold}
 use Rattle.demands.proofs.Carried.{lawful-near}
 use Rattle.demands.proofs.InterestCarried.{evenings-near}

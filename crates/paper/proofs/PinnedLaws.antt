@@ -32,9 +32,10 @@ use Rattle.paper.specs.Alerts.{isNear, keptSince, nearAfter, alert, near
 use Rattle.paper.specs.Verdicts.{numberOf, isDone, firstOf, FirstAt, here, NoneApplies, also}
 use Rattle.paper.specs.Desk.{blank, saying, showing, alerting, alertsOn, evaluated, priceOn, quoted, moved, place, stands, found, known, Call, admit, evaluate, quote, move, read, idOf, checksOf, admitChecks, evaluateChecks, quoteChecks, moveChecks, readChecks, Outcome, judged, acceptedOf, step}
 use Rattle.paper.specs.PinnedValues.{recordFrom, blank-is-zero}
-use Rattle.paper.specs.Sides.{other, limitOn, nearSecondOn, repoOn, deltaFor, looksUp, shows}
+use Rattle.paper.specs.History.{isAdmission}
+use Rattle.paper.specs.Sides.{other, limitOn, nearSecondOn, repoOn, deltaFor, shows}
 use Rattle.paper.proofs.Logic.{not-false}
-use Rattle.paper.proofs.Slots.{found-id, found-written, known-stands}
+use Rattle.paper.proofs.Slots.{found-stored, known-stands}
 use Rattle.paper.proofs.Refusals.{verdict-first, refused-always, refused-leaves, accepted-step, accepted-only}
 
 and-no : (a : Bool) → (a && false) ≡ false
@@ -221,12 +222,12 @@ evaluation-is-latest r d rows = (refl, refl, refl)
 -- ---- who is refused with 1, and the tables that every call refuses
 
 -- a security that is not known is refused with 1 whatever else holds
-pub unknown-refused : (c : Call) (t : List Record) → looksUp c ≡ true → known t (idOf c) ≡ false
+pub unknown-refused : (c : Call) (t : List Record) → isAdmission c ≡ false → known t (idOf c) ≡ false
     → step c t .answer .verdict ≡ NoSuchId
 unfolding checksOf evaluateChecks quoteChecks moveChecks readChecks
 unknown-refused c t looks e = refused-always c t NoSuchId (first c looks e)
   where
-    first : (c : Call) → looksUp c ≡ true → known t (idOf c) ≡ false → FirstAt NoSuchId (checksOf c t)
+    first : (c : Call) → isAdmission c ≡ false → known t (idOf c) ≡ false → FirstAt NoSuchId (checksOf c t)
     first (admit a) looks e = absurd (let z : _≡_ {A = ℕ} 0 1 = cc in omega arith)
     first (evaluate id d rows) looks e = here refl (ap not e)
     first (quote id q) looks e = here refl (ap not e)
@@ -246,27 +247,34 @@ first-counts (r ∷ t) id i l e = go (eqb (r .id) id) refl i l e (λ i. first-co
     go false q (suc i) l e rest = rest i (omega arith) e
 
 -- "even if it is damaged": it is found, and refused with 1, whatever stands behind it
-pub damaged-refused : (c : Call) (t : List Record) → looksUp c ≡ true → sound (found t (idOf c)) ≡ false
+pub damaged-refused : (c : Call) (t : List Record) → isAdmission c ≡ false → sound (found t (idOf c)) ≡ false
     → step c t .answer .verdict ≡ NoSuchId
 unfolding known
 damaged-refused c t looks e = unknown-refused c t looks (rw e (and-no (validSlots (length t) && stands t (idOf c))))
 
 -- "A table of no slots, or over 512, is refused 4 by admit and 1 by the rest."
-no-such-table : (t : List Record) → (length t ≡ 0) ⊎ (512 < length t) → validSlots (length t) ≡ false
+pub bad-table : (c : Call) (t : List Record) → validSlots (length t) ≡ false
+    → numberOf (step c t .answer .verdict) ≡ pick (isAdmission c) 4 1
+unfolding checksOf admitChecks known
+bad-table c t s = go c
+  where
+    unknown : (id : ℕ) → known t id ≡ false
+    unknown id = rw s
+
+    go : (c : Call) → numberOf (step c t .answer .verdict) ≡ pick (isAdmission c) 4 1
+    go (admit a) = ap numberOf (refused-always (admit a) t AdmissionOutOfRange (here refl (rw s)))
+    go (evaluate id d rows) = ap numberOf (unknown-refused (evaluate id d rows) t refl (unknown id))
+    go (quote id q) = ap numberOf (unknown-refused (quote id q) t refl (unknown id))
+    go (move id side) = ap numberOf (unknown-refused (move id side) t refl (unknown id))
+    go (read id) = ap numberOf (unknown-refused (read id) t refl (unknown id))
+
+pub no-slots : (t : List Record) → length t ≡ 0 → validSlots (length t) ≡ false
 unfolding validSlots
-no-such-table t (inl e) = rw e
-no-such-table t (inr l) = rw (lt-leb (length t) 512 l) (and-no (leb 1 (length t)))
+no-slots t e = rw e
 
-pub table-refused-by-admit : (a : Admission) (t : List Record) → (length t ≡ 0) ⊎ (512 < length t)
-    → numberOf (step (admit a) t .answer .verdict) ≡ 4
-unfolding checksOf admitChecks
-table-refused-by-admit a t e =
-    ap numberOf (refused-always (admit a) t AdmissionOutOfRange (here refl (rw (no-such-table t e))))
-
-pub table-refused-by-the-rest : (c : Call) (t : List Record) → looksUp c ≡ true → (length t ≡ 0) ⊎ (512 < length t)
-    → numberOf (step c t .answer .verdict) ≡ 1
-unfolding known
-table-refused-by-the-rest c t looks e = ap numberOf (unknown-refused c t looks (rw (no-such-table t e)))
+pub slots-over-512 : (t : List Record) → 512 < length t → validSlots (length t) ≡ false
+unfolding validSlots
+slots-over-512 t l = rw (lt-leb (length t) 512 l) (and-no (leb 1 (length t)))
 
 -- ---- what is written and what is answered
 
@@ -299,20 +307,13 @@ shown-stands c t s e =
     let done : isDone (firstOf (checksOf c t)) ≡ true = ap isDone (sym (verdict-first c t)) ∙ e in
     rw (accepted-step c t done) (accepted c s (accepted-only c t e))
   where
-    -- the record stored in the id's slot, with the id that it had, is the one found
-    stored : (id : ℕ) (x : Record) → known t id ≡ true → x .id ≡ found t id .id → found (set t (place t id) x) id ≡ x
-    stored id x k m =
-        let mine : x .id ≡ id = m ∙ found-id t id (known-stands t id k) in
-        ap (found (set t (place t id) x)) (sym mine)
-        ∙ found-written id x t (known-stands t id k) (λ n. absurd (n mine))
-
     accepted : (c : Call) → shows c ≡ true → NoneApplies (checksOf c t)
         → found (acceptedOf c t .table) (idOf c) ≡ acceptedOf c t .answer .rec
     accepted (admit a) s w = absurd (let z : _≡_ {A = ℕ} 0 1 = cc in omega arith)
     accepted (evaluate id d rows) s (also q w) =
-        stored id (evaluated (found t id) d rows) (not-false (known t id) q) refl
+        found-stored t id (evaluated (found t id) d rows) (known-stands t id (not-false (known t id) q)) refl
     accepted (quote id q) s w = absurd (let z : _≡_ {A = ℕ} 0 1 = cc in omega arith)
-    accepted (move id side) s (also q w) = stored id (moved (found t id) (sideOf side)) (not-false (known t id) q) refl
+    accepted (move id side) s (also q w) = found-stored t id (moved (found t id) (sideOf side)) (known-stands t id (not-false (known t id) q)) refl
     accepted (read id) s w = refl
 
 -- "a quote its two alerts, an admission the number 0 alone": neither shows a record

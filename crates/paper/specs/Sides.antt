@@ -1,5 +1,5 @@
--- What belongs to one side: its limit, its near second, its repo rate; and the other side. Which calls look an id up,
--- and which answer a record. The laws of proofs/PinnedLaws speak of them.
+-- What belongs to one side: its limit, its near second, its repo rate; and the other side. Which calls answer a
+-- record. The laws of proofs/PinnedLaws speak of them.
 -- It may use the kinds of src/lib.rt, delta and the calls of Desk. Assumes nothing.
 use mathlib.Core.Bool.{Bool, true, false}
 use Prim.Native.Nat.{ℕ}
@@ -37,14 +37,6 @@ repoOn Lower x = x .low
 -- the delta of a move: by the record's own P and S_1
 abbrev pub deltaFor : Record → ℕ
 deltaFor r = deltaOf (r .statics) (r .p1 .units) (getD (r .rates) 0 noRate .bp)
-
--- whether a call is about a security that is in the table already
-abbrev pub looksUp : Call → Bool
-looksUp (admit a) = false
-looksUp (evaluate id d rows) = true
-looksUp (quote id q) = true
-looksUp (move id side) = true
-looksUp (read id) = true
 
 -- "Accepted evaluations, moves and reads return the record as it then stands, a quote its two alerts, an admission the
 -- number 0 alone."
