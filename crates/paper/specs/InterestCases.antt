@@ -16,7 +16,7 @@ use Rattle.paper.specs.Ranges.{natural, partsFrom}
 use Rattle.paper.specs.Rates.{weightOf, weighted, replacement, replaces, volatilityOf, leastStep, tentativeAfter}
 use Rattle.paper.specs.Verdicts.{numberOf, isDone, firstOf}
 use Rattle.paper.specs.Interest.{keyAt, keysOf, wholeKeys, validKey, validKeys, maturityOf, maturitiesOf, validInterest, apartZ, changeOf, repoVolatility, repoWanted, repoTentative, estimate, upward, downward, maturityFigures, interpolated, figureAfter, figureAt, forward, margin, limitFrom, upperWorked, lowerWorked, isHeld, upperLimit, lowerLimit, ascendingFrom, ascending, interestChecks, noFigures, refusedInterest, acceptedInterest, interestAnswer}
-use Rattle.paper.specs.InterestExact.{Evening, keyIn, answeredIn, carriedAfter, keyGiven, Follow, start, next}
+use Rattle.paper.specs.InterestExact.{Evening, Carried, keyIn, answeredIn, carriedAfter, keyGiven, Follow, start, next}
 
 -- the statics of every case, with a pair of terms and the two rollover rates
 given : (ym yn : ℕ) → (money secrate : ℤ) → Interest
@@ -58,6 +58,12 @@ quietEvening =
 wildEvening : List ℤ
 wildEvening = pos 1 ∷ pos 9999 ∷ negsuc 9998 ∷ pos 0 ∷ pos 0 ∷ pos 0 ∷ pos 0 ∷ pos 0 ∷ []
 
+-- a calm evening after the first: each rate has its greater distance from the evening before the last (R2), 100 bp
+calmEvening : List ℤ
+calmEvening =
+    pos 1 ∷ pos 750 ∷ pos 800 ∷ pos 650 ∷ pos 750 ∷ pos 61 ∷ pos 150 ∷ pos 2
+    ∷ pos 3 ∷ pos 752 ∷ pos 803 ∷ pos 652 ∷ pos 752 ∷ pos 76 ∷ pos 200 ∷ pos 0 ∷ []
+
 -- the verdict, the two limits, and the six figures of a key maturity
 limits : InterestAnswer → List ℤ
 limits a = pos (numberOf (a .pair .verdict)) ∷ a .pair .lower ∷ a .pair .upper ∷ []
@@ -69,7 +75,7 @@ figures a n =
 
 -- what the definitions give for each key maturity
 pub workedFigures : List (List ℕ)
-unfolding given firstEvening secondEvening quietEvening wildEvening figures halfUp halfDown halfUpZ first least leastRoot leastTimes leastMultiple natural weightOf weighted replacement replaces volatilityOf leastStep tentativeAfter isDone firstOf every keyAt partsFrom keysOf wholeKeys validKey validKeys maturityOf maturitiesOf validInterest apartZ changeOf repoVolatility repoWanted repoTentative estimate upward downward maturityFigures interpolated figureAfter figureAt forward margin limitFrom upperWorked lowerWorked isHeld upperLimit lowerLimit ascendingFrom ascending interestChecks refusedInterest acceptedInterest interestAnswer
+unfolding given firstEvening secondEvening quietEvening wildEvening calmEvening figures halfUp halfDown halfUpZ first least leastRoot leastTimes leastMultiple natural weightOf weighted replacement replaces volatilityOf leastStep tentativeAfter isDone firstOf every keyAt partsFrom keysOf wholeKeys validKey validKeys maturityOf maturitiesOf validInterest apartZ changeOf repoVolatility repoWanted repoTentative estimate upward downward maturityFigures interpolated figureAfter figureAt forward margin limitFrom upperWorked lowerWorked isHeld upperLimit lowerLimit ascendingFrom ascending interestChecks refusedInterest acceptedInterest interestAnswer
 workedFigures =
     figures (interestAnswer (given 0 1 (pos 940) (pos 710)) firstEvening) 0
     ∷ figures (interestAnswer (given 0 1 (pos 940) (pos 710)) firstEvening) 1
@@ -79,6 +85,8 @@ workedFigures =
     ∷ figures (interestAnswer (given 0 1 (pos 2000) (negsuc 1999)) quietEvening) 0
     ∷ figures (interestAnswer (given 0 1 (pos 2000) (negsuc 1999)) quietEvening) 1
     ∷ figures (interestAnswer (given 0 1 (pos 2000) (negsuc 1999)) wildEvening) 0
+    ∷ figures (interestAnswer (given 0 1 (pos 940) (pos 710)) calmEvening) 0
+    ∷ figures (interestAnswer (given 0 1 (pos 940) (pos 710)) calmEvening) 1
     ∷ []
 
 pub worked-figures : workedFigures
@@ -93,6 +101,9 @@ pub worked-figures : workedFigures
     ∷ (3 ∷ 20 ∷ 400 ∷ 1 ∷ 450 ∷ 450 ∷ [])
     -- no maximum holds the tentative rate
     ∷ (19998 ∷ 9999 ∷ 20000 ∷ 0 ∷ 20050 ∷ 20050 ∷ [])
+    -- R2 decides: 0.9·61² + 0.1·100² is 4,348.9, and 66² = 4,356; 0.9·76² + 0.1·100² is 6,198.4, and 79² = 6,241
+    ∷ (100 ∷ 66 ∷ 150 ∷ 3 ∷ 300 ∷ 200 ∷ [])
+    ∷ (100 ∷ 79 ∷ 200 ∷ 1 ∷ 300 ∷ 250 ∷ [])
     ∷ []
 unfolding workedFigures
 worked-figures = refl
@@ -131,15 +142,30 @@ pub worked-limits : workedLimits
 unfolding workedLimits
 worked-limits = refl
 
+-- an evening on which we follow one of its two key maturities
+evening : (place : ℕ) → (money secrate : ℤ) → List ℤ → Evening
+evening place money secrate numbers = record { given = given 0 1 money secrate; numbers = numbers; place = place }
+
+-- the first evening, and after it the second or the calm one
+unfoldable pub oneEvening : (place : ℕ) → List Evening
+unfolding workedFigures evening
+oneEvening place = evening place (pos 940) (pos 710) firstEvening ∷ []
+
+unfoldable pub twoEvenings : (place : ℕ) → List Evening
+unfolding oneEvening
+twoEvenings place = evening place (pos 2000) (negsuc 1999) secondEvening ∷ oneEvening place
+
+unfoldable pub calmEvenings : (place : ℕ) → List Evening
+unfolding oneEvening
+calmEvenings place = evening place (pos 940) (pos 710) calmEvening ∷ oneEvening place
+
+-- what the first evening is given at both key maturities
+unfoldable pub firstGiven : Carried
+firstGiven = record { volatility = 40; tentative = record { bp = 150; age = 1 } }
+
 -- the second evening follows the first, at their second key maturity: demand 3 reads for them
-evening : (money secrate : ℤ) → List ℤ → Evening
-evening money secrate numbers = record { given = given 0 1 money secrate; numbers = numbers; place = 1 }
-
-pub twoEvenings : List Evening
-twoEvenings = evening (pos 2000) (negsuc 1999) secondEvening ∷ evening (pos 940) (pos 710) firstEvening ∷ []
-
-pub second-follows-first : Follow (record { volatility = 40; tentative = record { bp = 150; age = 1 } }) twoEvenings
-unfolding workedFigures twoEvenings evening keyIn keyGiven carriedAfter answeredIn
+pub second-follows-first : Follow firstGiven (twoEvenings 1)
+unfolding twoEvenings firstGiven keyIn keyGiven carriedAfter answeredIn
 second-follows-first =
     let there : 1 < 2 = omega arith in
     next (next start refl there refl) refl there refl

@@ -26,3 +26,4 @@ pub mod PinnedRanges
 pub mod PinnedOrders
 pub mod PinnedSession
 pub mod PinnedEvaluation
+pub mod PinnedExact
