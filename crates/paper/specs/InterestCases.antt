@@ -64,29 +64,40 @@ calmEvening =
     pos 1 ∷ pos 750 ∷ pos 800 ∷ pos 650 ∷ pos 750 ∷ pos 61 ∷ pos 150 ∷ pos 2
     ∷ pos 3 ∷ pos 752 ∷ pos 803 ∷ pos 652 ∷ pos 752 ∷ pos 76 ∷ pos 200 ∷ pos 0 ∷ []
 
+-- what the interest side answers. It opens every definition that the call computes with, so that a table opens this one
+-- alone
+unfoldable pub answered : Interest → List ℤ → InterestAnswer
+unfolding halfUp halfDown halfUpZ first least leastRoot leastTimes leastMultiple natural weightOf weighted replacement
+    replaces volatilityOf leastStep tentativeAfter isDone firstOf every keyAt partsFrom keysOf wholeKeys
+    validKey validKeys maturityOf maturitiesOf validInterest apartZ changeOf repoVolatility repoWanted
+    repoTentative estimate upward downward maturityFigures interpolated figureAfter figureAt forward margin
+    limitFrom upperWorked lowerWorked isHeld upperLimit lowerLimit ascendingFrom ascending interestChecks
+    refusedInterest acceptedInterest interestAnswer
+answered i numbers = interestAnswer i numbers
+
 -- the verdict, the two limits, and the six figures of a key maturity
-limits : InterestAnswer → List ℤ
+unfoldable pub limits : InterestAnswer → List ℤ
 limits a = pos (numberOf (a .pair .verdict)) ∷ a .pair .lower ∷ a .pair .upper ∷ []
 
-figures : InterestAnswer → ℕ → List ℕ
+unfoldable pub figures : InterestAnswer → ℕ → List ℕ
 figures a n =
     let f : MaturityFigures = getD (a .figures) n noFigures in
     f .change ∷ f .volatility ∷ f .tentative .bp ∷ f .tentative .age ∷ f .up ∷ f .down ∷ []
 
 -- what the definitions give for each key maturity
 pub workedFigures : List (List ℕ)
-unfolding given firstEvening secondEvening quietEvening wildEvening calmEvening figures halfUp halfDown halfUpZ first least leastRoot leastTimes leastMultiple natural weightOf weighted replacement replaces volatilityOf leastStep tentativeAfter isDone firstOf every keyAt partsFrom keysOf wholeKeys validKey validKeys maturityOf maturitiesOf validInterest apartZ changeOf repoVolatility repoWanted repoTentative estimate upward downward maturityFigures interpolated figureAfter figureAt forward margin limitFrom upperWorked lowerWorked isHeld upperLimit lowerLimit ascendingFrom ascending interestChecks refusedInterest acceptedInterest interestAnswer
+unfolding given firstEvening secondEvening quietEvening wildEvening calmEvening figures answered
 workedFigures =
-    figures (interestAnswer (given 0 1 (pos 940) (pos 710)) firstEvening) 0
-    ∷ figures (interestAnswer (given 0 1 (pos 940) (pos 710)) firstEvening) 1
-    ∷ figures (interestAnswer (given 0 1 (pos 940) (pos 710)) firstEvening) 2
-    ∷ figures (interestAnswer (given 0 1 (pos 2000) (negsuc 1999)) secondEvening) 0
-    ∷ figures (interestAnswer (given 0 1 (pos 2000) (negsuc 1999)) secondEvening) 1
-    ∷ figures (interestAnswer (given 0 1 (pos 2000) (negsuc 1999)) quietEvening) 0
-    ∷ figures (interestAnswer (given 0 1 (pos 2000) (negsuc 1999)) quietEvening) 1
-    ∷ figures (interestAnswer (given 0 1 (pos 2000) (negsuc 1999)) wildEvening) 0
-    ∷ figures (interestAnswer (given 0 1 (pos 940) (pos 710)) calmEvening) 0
-    ∷ figures (interestAnswer (given 0 1 (pos 940) (pos 710)) calmEvening) 1
+    figures (answered (given 0 1 (pos 940) (pos 710)) firstEvening) 0
+    ∷ figures (answered (given 0 1 (pos 940) (pos 710)) firstEvening) 1
+    ∷ figures (answered (given 0 1 (pos 940) (pos 710)) firstEvening) 2
+    ∷ figures (answered (given 0 1 (pos 2000) (negsuc 1999)) secondEvening) 0
+    ∷ figures (answered (given 0 1 (pos 2000) (negsuc 1999)) secondEvening) 1
+    ∷ figures (answered (given 0 1 (pos 2000) (negsuc 1999)) quietEvening) 0
+    ∷ figures (answered (given 0 1 (pos 2000) (negsuc 1999)) quietEvening) 1
+    ∷ figures (answered (given 0 1 (pos 2000) (negsuc 1999)) wildEvening) 0
+    ∷ figures (answered (given 0 1 (pos 940) (pos 710)) calmEvening) 0
+    ∷ figures (answered (given 0 1 (pos 940) (pos 710)) calmEvening) 1
     ∷ []
 
 pub worked-figures : workedFigures
@@ -112,15 +123,15 @@ worked-figures = refl
 pub workedLimits : List (List ℤ)
 unfolding workedFigures limits
 workedLimits =
-    limits (interestAnswer (given 0 1 (pos 940) (pos 710)) firstEvening)
-    ∷ limits (interestAnswer (given 0 1 (pos 950) (pos 700)) firstEvening)
-    ∷ limits (interestAnswer (given 0 1 (pos 951) (pos 699)) firstEvening)
-    ∷ limits (interestAnswer (given 0 2 (pos 940) (pos 710)) firstEvening)
-    ∷ limits (interestAnswer (given 0 1 (pos 2000) (negsuc 1999)) secondEvening)
-    ∷ limits (interestAnswer (given 0 2 (negsuc 899) (negsuc 799)) secondEvening)
-    ∷ limits (interestAnswer (given 1 2 (negsuc 899) (negsuc 799)) quietEvening)
-    ∷ limits (interestAnswer (given 2 2 (pos 940) (pos 710)) firstEvening)
-    ∷ limits (interestAnswer (given 0 366 (pos 940) (pos 710)) firstEvening)
+    limits (answered (given 0 1 (pos 940) (pos 710)) firstEvening)
+    ∷ limits (answered (given 0 1 (pos 950) (pos 700)) firstEvening)
+    ∷ limits (answered (given 0 1 (pos 951) (pos 699)) firstEvening)
+    ∷ limits (answered (given 0 2 (pos 940) (pos 710)) firstEvening)
+    ∷ limits (answered (given 0 1 (pos 2000) (negsuc 1999)) secondEvening)
+    ∷ limits (answered (given 0 2 (negsuc 899) (negsuc 799)) secondEvening)
+    ∷ limits (answered (given 1 2 (negsuc 899) (negsuc 799)) quietEvening)
+    ∷ limits (answered (given 2 2 (pos 940) (pos 710)) firstEvening)
+    ∷ limits (answered (given 0 366 (pos 940) (pos 710)) firstEvening)
     ∷ []
 
 pub worked-limits : workedLimits

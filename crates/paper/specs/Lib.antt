@@ -27,3 +27,5 @@ pub mod PinnedOrders
 pub mod PinnedSession
 pub mod PinnedEvaluation
 pub mod PinnedExact
+pub mod PinnedGateway
+pub mod PinnedInterest

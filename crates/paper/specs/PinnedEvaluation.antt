@@ -14,10 +14,10 @@ use Rattle.paper.specs.declared.Row.{Row}
 use Rattle.paper.specs.declared.Record.{Record}
 use Rattle.paper.specs.Ranges.{staticsOf, noLimits}
 use Rattle.paper.specs.Evaluation.{rowPrice, rowWeight, evaluationOf, dayRows}
-use Rattle.paper.specs.Rates.{modelOf, weightOf, replaces, volatilityOf, wanted, tentativeAfter, levelRate}
-use Rattle.paper.specs.Limits.{rangeLimit, bandLimit}
+use Rattle.paper.specs.Rates.{modelOf, moveOf, weightOf, replaces, volatilityOf, wanted, tentativeAfter, levelRate}
+use Rattle.paper.specs.Limits.{rangeLimit, bandLimit, deltaOf}
 use Rattle.paper.specs.Desk.{blank, evaluate, admitted, run}
-use Rattle.paper.specs.PinnedValues.{_but_, qAt, centralAt, pchmaxAt, pclmaxAt, monitoringAt, ewmaAt, ageAt, givenFrom, admissionFrom, recordFrom, dayFrom, closedAt, zNumbers, zRecord, yesNo}
+use Rattle.paper.specs.PinnedValues.{_but_, lotAt, qAt, centralAt, pchmaxAt, pclmaxAt, monitoringAt, ewmaAt, p1At, sAt, ageAt, ratesAt, givenFrom, admissionFrom, recordFrom, dayFrom, closedAt, zNumbers, zRecord, yesNo}
 use Rattle.paper.specs.PinnedSequence.{numbers}
 
 -- ---- the evaluation
@@ -142,6 +142,8 @@ rates =
     ∷ tentativeAt 250 600
     -- the minimum and S_max of a level
     ∷ (levelRate (staticsBut zNumbers) 1 0 0 ∷ levelRate (staticsBut zNumbers) 3 0 4000 ∷ [])
+    -- "r is the greater of |P - P1|/P1 and |P - P2|/P2": P2 decides, P1 decides, and P2 where P is below both
+    ∷ (moveOf 1010000 1000000 1020000 ∷ moveOf 1000000 1010000 1020000 ∷ moveOf 1000000 1010000 990000 ∷ [])
     ∷ []
 
 pub rates-are : rates
@@ -160,6 +162,8 @@ pub rates-are : rates
     ∷ (600 ∷ 250 ∷ [])
     ∷ (600 ∷ 250 ∷ [])
     ∷ (500 ∷ 4000 ∷ [])
+    -- 20,000/1,010,000 is 19,801.98 millionths
+    ∷ (20000 ∷ 20000 ∷ 19802 ∷ [])
     ∷ []
 unfolding rates
 rates-are = refl
@@ -183,11 +187,16 @@ evaluatedAt numbersOfZ price =
 ratesOf : Record → List ℕ
 ratesOf r = r .s ∷ r .tentative .bp ∷ r .tentative .age ∷ map (λ (x : Rate). x .bp) (r .rates)
 
+-- delta for S_1 100 bp and a lot: with Z's shift 25 and x_pr 200 it is P/400 before it is rounded
+deltaAt : (lot p : ℕ) → ℕ
+unfolding numbers staticsBut zNumbers
+deltaAt lot p = deltaOf (staticsBut (zNumbers but (lotAt, pos lot))) p 100
+
 bandOf0 : Record → List ℕ
 bandOf0 r = getD (r .bands) 0 noLimits .lower ∷ getD (r .bands) 0 noLimits .upper ∷ []
 
 pub evaluated-records : List (List ℕ)
-unfolding evaluatedAt ratesOf bandOf0 staticsBut
+unfolding evaluatedAt ratesOf bandOf0 deltaAt staticsBut
 evaluated-records =
     -- "With isEWMA no, the three rates are the minima and s, tentative and age stay.": s 20,000, tentative 600, age 3
     ratesOf (evaluatedAt (zRecord but (ewmaAt, pos 0) but (ageAt, pos 3)) 1030000)
@@ -206,6 +215,11 @@ evaluated-records =
     ∷ rangeLimit (staticsBut zNumbers) Upper 1050 100
     ∷ rangeLimit (staticsBut zNumbers) Lower 1050 100
     ∷ [])
+    -- r by P2: P1 is 1,000,010, P2 1,000,000, s 0 and S_1 500
+    ∷ ratesOf (evaluatedAt (zRecord but (p1At, pos 1000010) but (sAt, pos 0) but (ratesAt, pos 500)) 1000020)
+    -- (g) "delta, .. half up to the grid": just below half a step and at it, on the grids 10, 100 and 1
+    ∷ (deltaAt 10 1990 ∷ deltaAt 10 2000 ∷ deltaAt 10 5990 ∷ deltaAt 10 6000 ∷ [])
+    ∷ (deltaAt 1 19900 ∷ deltaAt 1 20000 ∷ deltaAt 11 199 ∷ deltaAt 11 200 ∷ [])
     ∷ []
 
 pub evaluated-records-are : evaluated-records
@@ -215,6 +229,11 @@ pub evaluated-records-are : evaluated-records
     ∷ (980000 ∷ 1010000 ∷ [])
     ∷ (800000 ∷ 0 ∷ [])
     ∷ (0 ∷ 2000000 ∷ 1060 ∷ 1040 ∷ [])
+    -- r is 20: 0.1·20² is 40, and 7² covers it (by P1 r would be 10, and s 4)
+    ∷ (7 ∷ 600 ∷ 1 ∷ 700 ∷ 1100 ∷ 1300 ∷ [])
+    -- 4.975, 5, 14.975, 15; 49.75, 50; 0.4975, 0.5
+    ∷ (0 ∷ 10 ∷ 10 ∷ 20 ∷ [])
+    ∷ (0 ∷ 100 ∷ 0 ∷ 1 ∷ [])
     ∷ []
 unfolding evaluated-records
 evaluated-records-are = refl

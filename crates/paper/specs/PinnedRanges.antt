@@ -18,14 +18,14 @@ use Rattle.paper.specs.PinnedValues.{_but_, lotAt, hAt, minimaAt, idAt, 
 abbrev pub Ranged : Type 0
 Ranged = ℤ × ℤ × ℤ
 
-abbrev range : (value low high : ℕ) → Ranged
+abbrev pub range : (value low high : ℕ) → Ranged
 range value low high = (pos value, pos low, pos high)
 
-valuesOf : List Ranged → List ℤ
+unfoldable pub valuesOf : List Ranged → List ℤ
 valuesOf rs = map (λ (r : Ranged). r .0) rs
 
 -- of each number, from a place of the row on: one below its range, at either end, one above
-straddles : (valid : List ℤ → Bool) → (row : List ℤ) → (place : ℕ) → List Ranged → List (List Bool)
+unfoldable pub straddles : (valid : List ℤ → Bool) → (row : List ℤ) → (place : ℕ) → List Ranged → List (List Bool)
 straddles valid row place [] = []
 straddles valid row place (r ∷ rs) =
     (valid (row but (place, predℤ (r .1)))

@@ -1,5 +1,5 @@
--- Values for the tables that pin the definitions (PinnedSequence, PinnedRanges, PinnedOrders, PinnedSession,
--- PinnedEvaluation), each spelled as a row of numbers, so that a line changes one; a number left out counts as 0.
+-- Values for the tables that pin the definitions (the other files named Pinned), each spelled as a row of numbers, so
+-- that a line changes one; a number left out counts as 0.
 -- It may use the kinds of src/lib.rt, and of Ranges how a number is read. Assumes nothing.
 use mathlib.Core.Path.{_≡_, refl}
 use mathlib.Core.Bool.{Bool, true, false}
@@ -32,10 +32,11 @@ infixl 30 _but_
 abbrev pub _but_ : List ℤ → ℕ × ℤ → List ℤ
 xs but change = set xs (change .0) (change .1)
 
-abbrev signed : List ℤ → ℕ → ℤ
+-- the number at a place, and the number without a sign that it is read as
+abbrev pub signed : List ℤ → ℕ → ℤ
 signed xs place = getD xs place (pos 0)
 
-abbrev plain : List ℤ → ℕ → ℕ
+abbrev pub plain : List ℤ → ℕ → ℕ
 plain xs place = natural (signed xs place)
 
 -- ---- the places: the statics in the order of the table, then an admission's numbers, then a record's
