@@ -1,5 +1,5 @@
--- Document 01's C gateway in plain numbers: the answers of its three calls for Z, at both ends of each range and one past,
--- and "4 (a static out of range)" before "6 (another value out of range or off the grid)".
+-- Document 01's C gateway in plain numbers: the answers of its three calls for Z, at both ends of each range and one
+-- past, and "4 (a static out of range)" before "6 (another value out of range or off the grid)".
 -- It may use Gateway, and the values of PinnedValues. Assumes nothing.
 use mathlib.Core.Path.{_≡_, refl}
 use mathlib.Core.List.{List, [], _∷_, map}
@@ -174,7 +174,8 @@ bands =
     ∷ band zNumbers (case1Band but (cAt, pos 1))
     ∷ [])
     -- the repo rate with k 30, above: one past either end, and at it
-    ∷ triedAt (band zNumbers) (roundBand but (kAt, pos 30)) repoAt (negsuc 9999 ∷ negsuc 9998 ∷ pos 9999 ∷ pos 10000 ∷ [])
+    ∷ triedAt (band zNumbers) (roundBand but (kAt, pos 30)) repoAt
+    (negsuc 9999 ∷ negsuc 9998 ∷ pos 9999 ∷ pos 10000 ∷ [])
     -- k with the repo rate 3,650: below 0, 0, the most, one more
     ∷ triedAt (band zNumbers) (roundBand but (repoAt, pos 3650)) kAt (negsuc 0 ∷ pos 0 ∷ pos 30 ∷ pos 31 ∷ [])
     -- c with S_1 100: below 0, 0, the most, one more

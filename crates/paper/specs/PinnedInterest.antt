@@ -67,8 +67,8 @@ callRanges =
     ∷ (pos 710, negsuc 9998, pos 9999)
     ∷ []
 
--- "key maturities in 0..365 days", the rates R, R1, R2 and the index, "old volatility in 0..19,998, old tentative rate in
--- 0..200,979", the age as for shares
+-- "key maturities in 0..365 days", the rates R, R1, R2 and the index, "old volatility in 0..19,998, old tentative rate
+-- in 0..200,979", the age as for shares
 keyRanges : List Ranged
 keyRanges =
     range 5 0 365
@@ -121,7 +121,8 @@ refusals =
     ∷ map (λ (days : ℕ). numberTo callRow (keyAfter 5 ++ keyAfter days)) (6 ∷ 5 ∷ 4 ∷ [])
     ∷ map (λ (days : ℕ). numberTo callRow (keyAfter 5 ++ (keyAfter 7 ++ keyAfter days))) (8 ∷ 7 ∷ 6 ∷ [])
     -- "or the pair's second term not after its first": the pairs 0/1, 0/0, 2/1
-    ∷ (numberTo callRow keyRow ∷ numberTo (callRow but (2, pos 0)) keyRow ∷ numberTo (callRow but (1, pos 2)) keyRow ∷ [])
+    ∷ map (λ (pair : ℕ × ℕ). numberTo (callRow but (1, pos (pair .0)) but (2, pos (pair .1))) keyRow)
+    ((0, 1) ∷ (0, 0) ∷ (2, 1) ∷ [])
     -- ".. after 6": both apply, by a key maturity and by the call
     ∷ (numberTo (callRow but (2, pos 0)) (keyAfter 366)
     ∷ numberTo (callRow but (0, pos 31)) (keyAfter 5 ++ keyAfter 5)
