@@ -18,11 +18,11 @@ use Rattle.paper.specs.Verdicts.{numberOf, isDone, firstOf}
 use Rattle.paper.specs.Interest.{keyAt, keysOf, wholeKeys, validKey, validKeys, maturityOf, maturitiesOf, validInterest, apartZ, changeOf, repoVolatility, repoWanted, repoTentative, estimate, upward, downward, maturityFigures, interpolated, figureAfter, figureAt, forward, margin, limitFrom, upperWorked, lowerWorked, isHeld, upperLimit, lowerLimit, ascendingFrom, ascending, interestChecks, noFigures, refusedInterest, acceptedInterest, interestAnswer}
 use Rattle.paper.specs.InterestExact.{Evening, Carried, keyIn, answeredIn, carriedAfter, keyGiven, Follow, start, next}
 
--- the statics of every case, with a pair of terms and the two rollover rates
-given : (ym yn : ℕ) → (money secrate : ℤ) → Interest
-given ym yn money secrate =
+-- the statics of every case, with b, a pair of terms and the two rollover rates
+givenAfter : (b ym yn : ℕ) → (money secrate : ℤ) → Interest
+givenAfter b ym yn money secrate =
     record {
-      b = 0;
+      b = b;
       ym = ym;
       yn = yn;
       model = record { aup = 1000; adown = 500; q = 200 };
@@ -35,6 +35,11 @@ given ym yn money secrate =
       money = money;
       secrate = secrate;
     }
+
+-- with b 0
+given : (ym yn : ℕ) → (money secrate : ℤ) → Interest
+unfolding givenAfter
+given ym yn money secrate = givenAfter 0 ym yn money secrate
 
 -- the first evening: of two key maturities one changes by its old tentative rate of 150, and one by 151
 firstEvening : List ℤ
@@ -153,22 +158,23 @@ pub worked-limits : workedLimits
 unfolding workedLimits
 worked-limits = refl
 
--- an evening on which we follow one of its two key maturities
-evening : (place : ℕ) → (money secrate : ℤ) → List ℤ → Evening
-evening place money secrate numbers = record { given = given 0 1 money secrate; numbers = numbers; place = place }
+-- an evening after b non-trading days, on which we follow one of its two key maturities
+evening : (b place : ℕ) → (money secrate : ℤ) → List ℤ → Evening
+evening b place money secrate numbers =
+    record { given = givenAfter b 0 1 money secrate; numbers = numbers; place = place }
 
 -- the first evening, and after it the second or the calm one
 unfoldable pub oneEvening : (place : ℕ) → List Evening
-unfolding workedFigures evening
-oneEvening place = evening place (pos 940) (pos 710) firstEvening ∷ []
+unfolding workedFigures givenAfter evening
+oneEvening place = evening 0 place (pos 940) (pos 710) firstEvening ∷ []
 
 unfoldable pub twoEvenings : (place : ℕ) → List Evening
 unfolding oneEvening
-twoEvenings place = evening place (pos 2000) (negsuc 1999) secondEvening ∷ oneEvening place
+twoEvenings place = evening 0 place (pos 2000) (negsuc 1999) secondEvening ∷ oneEvening place
 
-unfoldable pub calmEvenings : (place : ℕ) → List Evening
+unfoldable pub calmEvenings : (b place : ℕ) → List Evening
 unfolding oneEvening
-calmEvenings place = evening place (pos 940) (pos 710) calmEvening ∷ oneEvening place
+calmEvenings b place = evening b place (pos 940) (pos 710) calmEvening ∷ oneEvening place
 
 -- what the first evening is given at both key maturities
 unfoldable pub firstGiven : Carried

@@ -23,13 +23,14 @@ partsOf d x = x .num * d / x .den ∷ x .num * d % x .den ∷ []
 
 -- ---- shares
 
--- Z with h and the minima 1, liq 0, both earlier evaluations 3,000,000, s 4 and the tentative rate 1: so 100·S_1 is 100
+-- Z with h 1, the minima 1, 2 and 3, liq 0, both earlier evaluations 3,000,000, s 4 and the tentative rate 1: so
+-- 100·S_1 is 100
 security : Admission
 unfolding zNumbers admissionFrom
 security =
     admissionFrom
-    (zNumbers but (hAt, pos 1) but (liqAt, pos 0) but (minimaAt, pos 1) but (minimaAt + 1, pos 1)
-    but (minimaAt + 2, pos 1) but (p1At, pos 3000000) but (p1At + 1, pos 3000000) but (sAt, pos 4)
+    (zNumbers but (hAt, pos 1) but (liqAt, pos 0) but (minimaAt, pos 1) but (minimaAt + 1, pos 2)
+    but (minimaAt + 2, pos 3) but (p1At, pos 3000000) but (p1At + 1, pos 3000000) but (sAt, pos 4)
     but (tentativeAt, pos 1))
 
 -- the evaluation of a day, after b non-trading days, on which the security closes at a price
@@ -50,7 +51,11 @@ threeDays : List Event
 unfolding twoDays
 threeDays = closing 6 2 3000020 ∷ twoDays
 
--- a day on which the replacement is the greater, and the day after
+-- a day on which r is 100·S_1; one on which the replacement is taken, and the day after
+dayAtLine : List Event
+unfolding closing
+dayAtLine = closing 4 0 3000300 ∷ []
+
 replacedDay : List Event
 unfolding closing
 replacedDay = closing 4 0 3000400 ∷ []
@@ -60,7 +65,7 @@ unfolding replacedDay
 dayAfter = closing 5 0 3000400 ∷ replacedDay
 
 pub exact-squares : List (List ℕ)
-unfolding numbers security oneDay twoDays threeDays replacedDay dayAfter partsOf exactMove nextSquare choiceOf
+unfolding numbers security oneDay twoDays threeDays dayAtLine replacedDay dayAfter partsOf exactMove nextSquare choiceOf
     exactSquare carries carriesFirst carriesNext
 exact-squares =
     -- the move as it is, up and down; by P2 and by P1: in thirds of a millionth
@@ -74,12 +79,13 @@ exact-squares =
     ∷ partsOf 45 (exactSquare security oneDay)
     ∷ partsOf 450 (exactSquare security twoDays)
     ∷ partsOf 450 (exactSquare security threeDays)
-    -- the replacement, and an evaluation that starts from it
+    -- no replacement yet; the replacement, and an evaluation that starts from it
+    ∷ partsOf 5 (exactSquare security dayAtLine)
     ∷ partsOf 81 (exactSquare security replacedDay)
     ∷ partsOf 9 (exactSquare security dayAfter)
     -- the carried s of each
     ∷ map (λ (es : List Event). carries security es .s)
-    ([] ∷ oneDay ∷ twoDays ∷ threeDays ∷ replacedDay ∷ dayAfter ∷ [])
+    ([] ∷ oneDay ∷ twoDays ∷ threeDays ∷ dayAtLine ∷ replacedDay ∷ dayAfter ∷ [])
     ∷ []
 
 pub exact-squares-are : exact-squares
@@ -95,12 +101,14 @@ pub exact-squares-are : exact-squares
     -- r is 7, by P2: 0.9·709/45 + 0.1·(20/3)² = 709/50 + 40/9 = 8,381/450, and 0.9·4² + 0.1·7² = 19.3 makes s 5
     ∷ (8381 ∷ 0 ∷ [])
     ∷ (8381 ∷ 0 ∷ [])
+    -- r is 100, and so is 100·S_1: 0.9·16 + 0.1·100² = 5,072/5 makes s 32, although y is 34
+    ∷ (5072 ∷ 0 ∷ [])
     -- r is 134: y is 45 and x 43; (100·(400/3)/300)² = (400/9)²
     ∷ (160000 ∷ 0 ∷ [])
     -- r is 134 and 100·S_1 is 200: 0.9·160,000/81 + 0.1·(400/3)² = 16,000/9 + 16,000/9
     ∷ (32000 ∷ 0 ∷ [])
     -- 0.9·45² + 0.1·134² = 3,618.1 makes the last one 61
-    ∷ (4 ∷ 4 ∷ 5 ∷ 5 ∷ 45 ∷ 61 ∷ [])
+    ∷ (4 ∷ 4 ∷ 5 ∷ 5 ∷ 32 ∷ 45 ∷ 61 ∷ [])
     ∷ []
 unfolding exact-squares
 exact-squares-are = refl
@@ -111,13 +119,14 @@ pub exact-repo-squares : List (List ℕ)
 unfolding oneEvening twoEvenings calmEvenings firstGiven partsOf keyIn repoChoice exactChange nextSquare
     choiceOf exactRepoSquare
 exact-repo-squares =
-    -- the first key maturity: no evening, one, and two by weight
+    -- the first key maturity: no evening, one, and two by weight, of which b 2 makes the second 0
     partsOf 1 (exactRepoSquare firstGiven [])
     ∷ partsOf 1 (exactRepoSquare firstGiven (oneEvening 0))
-    ∷ partsOf 1 (exactRepoSquare firstGiven (calmEvenings 0))
+    ∷ partsOf 1 (exactRepoSquare firstGiven (calmEvenings 1 0))
+    ∷ partsOf 1 (exactRepoSquare firstGiven (calmEvenings 2 0))
     -- the second: the replacement; from it by weight; from it by another replacement
     ∷ partsOf 4 (exactRepoSquare firstGiven (oneEvening 1))
-    ∷ partsOf 40 (exactRepoSquare firstGiven (calmEvenings 1))
+    ∷ partsOf 40 (exactRepoSquare firstGiven (calmEvenings 0 1))
     ∷ partsOf 1 (exactRepoSquare firstGiven (twoEvenings 1))
     ∷ []
 
@@ -126,6 +135,7 @@ pub exact-repo-squares-are : exact-repo-squares
     ≡ (1600 ∷ 0 ∷ [])
     ∷ (3690 ∷ 0 ∷ [])
     ∷ (4321 ∷ 0 ∷ [])
+    ∷ (3690 ∷ 0 ∷ [])
     -- (100·151/200)² = 22,801/4; 0.9·22,801/4 + 0.1·100² = 205,209/40 + 1,000; (100·1,606/200)² = 803²
     ∷ (22801 ∷ 0 ∷ [])
     ∷ (245209 ∷ 0 ∷ [])
