@@ -1,0 +1,7 @@
+pub mod Decimals
+pub mod Words
+pub mod Spelling
+pub mod Filling
+pub mod Reading
+pub mod NoCall
+pub mod RoundTrip

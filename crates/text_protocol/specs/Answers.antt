@@ -1,0 +1,158 @@
+-- docs/EVENING.md, "The answers": the numbers of each answer, in their order, and the bytes of an answer.
+-- Assumes nothing.
+use mathlib.Core.Bool.{Bool, true, false}
+use mathlib.Core.List.{List, [], _∷_, _++_}
+use Prim.Native.Nat.{ℕ, zero, suc}
+use lib.IntN.{ℤ, pos, negsuc}
+use lib.ListN.{getD}
+use Rattle.paper.specs.declared.Standing.{Standing}
+use Rattle.paper.specs.declared.Rate.{Rate}
+use Rattle.paper.specs.declared.Limits.{Limits}
+use Rattle.paper.specs.declared.Near.{Near}
+use Rattle.paper.specs.declared.Near.the-variants as near
+use Rattle.paper.specs.declared.NearSeconds.{NearSeconds}
+use Rattle.paper.specs.declared.Term.{Term}
+use Rattle.paper.specs.declared.Record.{Record}
+use Rattle.paper.specs.declared.Answer.{Answer}
+use Rattle.paper.specs.declared.MaturityFigures.{MaturityFigures}
+use Rattle.paper.specs.declared.InterestAnswer.{InterestAnswer}
+use Rattle.paper.specs.Lists.{pick}
+use Rattle.paper.specs.Ranges.{isLive, lastDay, noRate, noLimits, notNear, termAt}
+use Rattle.paper.specs.Verdicts.{numberOf, isDone}
+use Rattle.paper.specs.Desk.{Call, admit, evaluate, quote, move, read}
+use Rattle.text_protocol.specs.Bytes.{space, lineFeed}
+use Rattle.text_protocol.specs.Numbers.{decimal, signed}
+
+-- ---- numbers as text
+
+-- a blank, and the number
+unfoldable pub next : ℤ → List ℕ
+next z = space ∷ signed z
+
+-- a blank before each number
+unfoldable pub spaced : List ℤ → List ℕ
+spaced [] = []
+spaced (z ∷ zs) = next z ++ spaced zs
+
+-- the numbers of an answer, the verdict's first
+abbrev pub numbersOf : ℕ → List ℤ → List ℤ
+numbersOf v zs = pos v ∷ zs
+
+-- THE BYTES OF AN ANSWER: the number of the verdict, the figures behind it, the end of the line
+unfoldable pub answerText : ℕ → List ℤ → List ℕ
+answerText v zs = decimal v ++ spaced zs ++ (lineFeed ∷ [])
+
+-- "bad" and the line's number: the answer to a line that is no call
+unfoldable pub badText : ℕ → List ℕ
+badText n = (98 ∷ 97 ∷ 100 ∷ []) ++ next (pos n) ++ (lineFeed ∷ [])
+
+-- ---- a record's numbers
+
+-- yes is 1, no is 0
+unfoldable pub flag : Bool → ℤ
+flag true = pos 1
+flag false = pos 0
+
+-- near: the second, or -1
+unfoldable pub nearNumber : Near → ℤ
+nearNumber (near.Since second) = pos second
+nearNumber near.Not = negsuc 0
+
+-- LIVE DAY
+unfoldable pub standingNumbers : Standing → List ℤ
+standingNumbers x = flag (isLive x) ∷ pos (lastDay x) ∷ []
+
+-- ID LIVE DAY P1 P2 S TENTATIVE AGE
+unfoldable pub figureNumbers : Record → List ℤ
+figureNumbers r =
+    pos (r .id)
+    ∷ flag (isLive (r .standing))
+    ∷ pos (lastDay (r .standing))
+    ∷ pos (r .p1 .units)
+    ∷ pos (r .p2 .units)
+    ∷ pos (r .s)
+    ∷ pos (r .tentative .bp)
+    ∷ pos (r .tentative .age)
+    ∷ []
+
+-- S1 S2 S3
+unfoldable pub ratesNumbers : List Rate → List ℤ
+ratesNumbers rates = pos (getD rates 0 noRate .bp) ∷ pos (getD rates 1 noRate .bp) ∷ pos (getD rates 2 noRate .bp) ∷ []
+
+-- UPPER1 UPPER2 UPPER3 LOWER1 LOWER2 LOWER3
+unfoldable pub rangesNumbers : List Limits → List ℤ
+rangesNumbers ranges =
+    pos (getD ranges 0 noLimits .upper)
+    ∷ pos (getD ranges 1 noLimits .upper)
+    ∷ pos (getD ranges 2 noLimits .upper)
+    ∷ pos (getD ranges 0 noLimits .lower)
+    ∷ pos (getD ranges 1 noLimits .lower)
+    ∷ pos (getD ranges 2 noLimits .lower)
+    ∷ []
+
+-- K RRCL RRCH BANDLOWER BANDUPPER NEARTOP NEARBOTTOM
+unfoldable pub termNumbers : Term → Limits → NearSeconds → List ℤ
+termNumbers x band n =
+    pos (x .k)
+    ∷ x .low
+    ∷ x .high
+    ∷ pos (band .lower)
+    ∷ pos (band .upper)
+    ∷ nearNumber (n .top)
+    ∷ nearNumber (n .bottom)
+    ∷ []
+
+-- of the term k of a record
+abbrev pub termNumbersAt : Record → ℕ → List ℤ
+termNumbersAt r k = termNumbers (termAt (r .terms) k) (getD (r .bands) k noLimits) (getD (r .near) k notNear)
+
+-- MOVESUPPER MOVESLOWER LASTSECOND
+unfoldable pub lastNumbers : Record → List ℤ
+lastNumbers r = pos (r .moves .upper) ∷ pos (r .moves .lower) ∷ pos (r .second) ∷ []
+
+-- a record
+unfoldable pub recordNumbers : Record → List ℤ
+recordNumbers r =
+    figureNumbers r ++ ratesNumbers (r .rates) ++ rangesNumbers (r .ranges)
+    ++ termNumbersAt r 0 ++ termNumbersAt r 1 ++ termNumbersAt r 2 ++ lastNumbers r
+
+-- ---- what a call answers
+
+-- the figures of an accepted call: an admission none, a quote its two alerts, the others the record
+unfoldable pub figuresOf : Call → Answer → List ℤ
+figuresOf (admit g) a = []
+figuresOf (evaluate id d rows) a = recordNumbers (a .rec)
+figuresOf (quote id q) a = flag (a .top) ∷ flag (a .bottom) ∷ []
+figuresOf (move id side) a = recordNumbers (a .rec)
+figuresOf (read id) a = recordNumbers (a .rec)
+
+-- a refusal's number stands alone
+unfoldable pub callText : Call → Answer → List ℕ
+callText c a = answerText (numberOf (a .verdict)) (pick (isDone (a .verdict)) (figuresOf c a) [])
+
+-- ---- what an interest line answers
+
+-- CHANGE VOLATILITY TENTATIVE AGE UP DOWN
+unfoldable pub maturityNumbers : MaturityFigures → List ℤ
+maturityNumbers f =
+    pos (f .change)
+    ∷ pos (f .volatility)
+    ∷ pos (f .tentative .bp)
+    ∷ pos (f .tentative .age)
+    ∷ pos (f .up)
+    ∷ pos (f .down)
+    ∷ []
+
+-- of each of the first n key maturities
+unfoldable pub maturitiesNumbers : ℕ → List MaturityFigures → List ℤ
+maturitiesNumbers zero fs = []
+maturitiesNumbers (suc n) [] = []
+maturitiesNumbers (suc n) (f ∷ fs) = maturityNumbers f ++ maturitiesNumbers n fs
+
+-- LOWER UPPER, and the figures of each key maturity
+unfoldable pub interestNumbers : InterestAnswer → List ℤ
+interestNumbers a = a .pair .lower ∷ a .pair .upper ∷ maturitiesNumbers (a .count) (a .figures)
+
+unfoldable pub interestText : InterestAnswer → List ℕ
+interestText a =
+    answerText (numberOf (a .pair .verdict)) (pick (isDone (a .pair .verdict)) (interestNumbers a) [])

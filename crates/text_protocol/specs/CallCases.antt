@@ -1,0 +1,107 @@
+-- docs/EVENING.md, "The calls", by examples: of each call a line whose numbers count up, beside the call that it asks
+-- for, so that each number is seen at the place that its name has. `asked` computes them all. Assumes nothing.
+use mathlib.Core.Path.{_≡_, refl}
+use mathlib.Core.List.{[], _∷_}
+use Prim.Native.String.{String}
+use lib.IntN.{pos}
+use Rattle.paper.specs.declared.Verdict.the-variants.{Done}
+use Rattle.paper.specs.Verdicts.{isDone}
+use Rattle.paper.specs.Ranges.{natural}
+use Rattle.paper.specs.Terms.{workedRepo, repoOf, dayOf}
+use Rattle.paper.specs.Terms.{termOf as dayTerm}
+use Rattle.paper.specs.Desk.{admit, evaluate, quote, move, read}
+use Rattle.text_protocol.specs.declared.Kept.{Kept}
+use Rattle.text_protocol.specs.Bytes.{isBlank, isNot, run, grow, pieces, full, words, same}
+use Rattle.text_protocol.specs.Numbers.{isDigit, sizeFrom, sizeOf, upTo, above, numberOf, slashAt}
+use Rattle.text_protocol.specs.Names.{code, admitNames, evaluateNames, quoteNames, moveNames, readNames, interestNames, forms, kindFrom, kindOf, countFits, takesIn, takes, placeOf, the}
+use Rattle.text_protocol.specs.Line.{oneOf, twoOf, itemOf, pairFits, withPair, more, taking, onWith, finished, fill, called, meaning}
+use Rattle.text_protocol.specs.LineCases.{bytes, naturals}
+use Rattle.text_protocol.specs.Kept.{noPair, foundIn}
+use Rattle.text_protocol.specs.Calls.{Deed, call, interest, givenOf, admissionOf, quoteOf, interestOf, bandOf, termOf, askedOf, figuresOf, callOf, deedOf}
+
+-- of the pair 6/7 the limits 60 and 70 are kept, of no other pair any
+unfoldable pub keptLimits : Kept
+keptLimits =
+    record {
+      newest = record { ym = 6; yn = 7; worked = record { verdict = Done; lower = pos 60; upper = pos 70 } };
+      middle = noPair;
+      oldest = noPair;
+    }
+
+unfoldable pub deedBy : String → Deed
+deedBy text = deedOf keptLimits (meaning (bytes text))
+
+-- EACH NUMBER OF A LINE IS THE ONE OF ITS NAME; a pair of terms that is kept is its limits
+pub asked : (deedBy "admit 1 2 3 4 5 6 7 8 9 10 11 12 13 14 15 16 17 18 19 20 21 22 23 24 25 26 27 28"
+    ≡ call (admit (record {
+      id = 1;
+      day = 2;
+      p1 = 3;
+      p2 = 4;
+      s = 5;
+      tentative = 6;
+      given = record {
+        lot = 7;
+        h = 8;
+        q = 9;
+        aup = 10;
+        adown = 11;
+        wait = 12;
+        rh1 = 13;
+        rh2 = 14;
+        rh3 = 15;
+        liq = 16;
+        min1 = 17;
+        min2 = 18;
+        min3 = 19;
+        smax = 20;
+        xpr = 21;
+        shift = 22;
+        pchmax = 23;
+        pclmax = 24;
+        w = 25;
+        u = 26;
+        monitoring = 27;
+        ewma = 28;
+      };
+    })))
+    × (deedBy "evaluate 1 2 3 4 5 6 7 8 9 10 11 12 13 14 15"
+    ≡ call (evaluate 1 (record {
+      day = 2;
+      b = 3;
+      m = 4;
+      terms = record { k = 5; low = pos 6; high = pos 7 } ∷ record { k = 8; low = pos 9; high = pos 10 }
+          ∷ record { k = 11; low = pos 12; high = pos 13 } ∷ [];
+    }) (naturals (14 ∷ 15 ∷ []))))
+    × (deedBy "evaluate 1 2 3 4 5 6/7 8 9 10 11 12 13"
+    ≡ call (evaluate 1 (record {
+      day = 2;
+      b = 3;
+      m = 4;
+      terms = record { k = 5; low = pos 60; high = pos 70 } ∷ record { k = 8; low = pos 9; high = pos 10 }
+          ∷ record { k = 11; low = pos 12; high = pos 13 } ∷ [];
+    }) []))
+    × (deedBy "quote 1 2 3 4 5" ≡ call (quote 1 (record { second = 2; term = 3; bid = 4; ask = 5 })))
+    × (deedBy "move 1 2" ≡ call (move 1 2))
+    × (deedBy "read 1" ≡ call (read 1))
+    × (deedBy "interest 1 2 3 4 5 6 7 8 9 10 11 12 13 14 15 16"
+    ≡ interest (record {
+      b = 1;
+      ym = 2;
+      yn = 3;
+      model = record { aup = 4; adown = 5; q = 6 };
+      h = 7;
+      wait = 8;
+      liq = 9;
+      mm = 10;
+      sec = 11;
+      xir = 12;
+      money = pos 13;
+      secrate = pos 14;
+    }) (naturals (15 ∷ 16 ∷ [])))
+unfolding deedBy keptLimits bytes isDone natural workedRepo repoOf dayOf dayTerm isBlank isNot run grow
+    pieces full words same isDigit sizeFrom sizeOf upTo above numberOf slashAt code admitNames evaluateNames quoteNames
+    moveNames readNames interestNames forms kindFrom kindOf countFits takesIn takes placeOf the oneOf twoOf itemOf
+    pairFits withPair more taking onWith finished fill called meaning foundIn givenOf admissionOf quoteOf interestOf
+    bandOf termOf askedOf figuresOf callOf deedOf
+asked = (refl, refl, refl, refl, refl, refl, refl)

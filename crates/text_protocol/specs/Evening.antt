@@ -1,0 +1,83 @@
+-- docs/EVENING.md, "An evening": what lines do, one after the other, to the table and to what is kept, and what
+-- is answered to them. Assumes nothing.
+use mathlib.Core.List.{List, [], _∷_, _++_}
+use Prim.Native.Nat.{ℕ, _+_}
+use lib.Dec.{ltb}
+use Rattle.paper.specs.declared.Record.{Record}
+use Rattle.paper.specs.Lists.{pick}
+use Rattle.paper.specs.Interest.{interestAnswer}
+use Rattle.paper.specs.Desk.{step}
+use Rattle.text_protocol.specs.declared.Kept.{Kept}
+use Rattle.text_protocol.specs.Kept.{keptAfter}
+use Rattle.text_protocol.specs.Line.{meaning}
+use Rattle.text_protocol.specs.Calls.{Deed, nothing, noCall, call, interest, deedOf}
+use Rattle.text_protocol.specs.Answers.{badText, callText, interestText}
+
+-- the number of the line that comes next, what is kept of the interest lines, and the table
+pub record Evening : Type 0 where
+  pub number : ℕ
+  pub kept : Kept
+  pub table : List Record
+
+-- ---- one line
+
+-- only a call of document 01 changes the table
+unfoldable pub tableAfter : Deed → List Record → List Record
+tableAfter nothing t = t
+tableAfter noCall t = t
+tableAfter (call c) t = step c t .table
+tableAfter (interest i keys) t = t
+
+-- only an interest line changes what is kept
+unfoldable pub keptBy : Deed → Kept → Kept
+keptBy nothing k = k
+keptBy noCall k = k
+keptBy (call c) k = k
+keptBy (interest i keys) k = keptAfter k i (interestAnswer i keys)
+
+-- the answer to the n-th line; a blank line has none
+unfoldable pub textOf : ℕ → Deed → List Record → List ℕ
+textOf n nothing t = []
+textOf n noCall t = badText n
+textOf n (call c) t = callText c (step c t .answer)
+textOf n (interest i keys) t = interestText (interestAnswer i keys)
+
+-- lines are counted from 1, blank ones too, up to the greatest number of 64 bits
+abbrev pub lastNumber : ℕ
+lastNumber = 18446744073709551615
+
+unfoldable pub numberAfter : ℕ → ℕ
+numberAfter n = pick (ltb n lastNumber) (n + 1) n
+
+-- what the line l asks for on an evening
+abbrev pub askedBy : List ℕ → Evening → Deed
+askedBy l e = deedOf (e .kept) (meaning l)
+
+-- THE EVENING AFTER A LINE
+unfoldable pub after : List ℕ → Evening → Evening
+after l e =
+    record {
+      number = numberAfter (e .number);
+      kept = keptBy (askedBy l e) (e .kept);
+      table = tableAfter (askedBy l e) (e .table);
+    }
+
+-- THE ANSWER TO A LINE
+unfoldable pub answer : List ℕ → Evening → List ℕ
+answer l e = textOf (e .number) (askedBy l e) (e .table)
+
+-- the evening after a line that asks for nothing, or is no call: only the number of the line goes on
+abbrev pub passedOver : Evening → Evening
+passedOver e = record { number = numberAfter (e .number); kept = e .kept; table = e .table }
+
+-- ---- lines
+
+-- THE EVENING AFTER LINES
+unfoldable pub afterAll : List (List ℕ) → Evening → Evening
+afterAll [] e = e
+afterAll (l ∷ ls) e = afterAll ls (after l e)
+
+-- THE ANSWERS TO LINES
+unfoldable pub answers : List (List ℕ) → Evening → List ℕ
+answers [] e = []
+answers (l ∷ ls) e = answer l e ++ answers ls (after l e)

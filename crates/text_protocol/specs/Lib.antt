@@ -1,0 +1,11 @@
+pub mod Bytes
+pub mod Numbers
+pub mod Names
+pub mod Line
+pub mod Written
+pub mod LineCases
+pub mod Kept
+pub mod Calls
+pub mod CallCases
+pub mod Answers
+pub mod Evening

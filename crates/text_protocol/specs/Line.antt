@@ -1,0 +1,103 @@
+-- docs/EVENING.md, "Which line is which call": what a line of the evening's text says. Assumes nothing.
+use mathlib.Core.Bool.{Bool, false, _&&_, _||_}
+use mathlib.Core.List.{List, [], _∷_, _++_}
+use Prim.Native.Nat.{ℕ, suc}
+use lib.Dec.{leb, ltb, eqb}
+use lib.IntN.{ℤ}
+use lib.ListN.{length, take, drop}
+use Rattle.paper.specs.Lists.{pick}
+use Rattle.text_protocol.specs.declared.Number.{Number}
+use Rattle.text_protocol.specs.declared.Number.the-variants as number
+use Rattle.text_protocol.specs.declared.Item.{Item}
+use Rattle.text_protocol.specs.declared.Item.the-variants as item
+use Rattle.text_protocol.specs.declared.Pairs.{Pairs}
+use Rattle.text_protocol.specs.Bytes.{words}
+use Rattle.text_protocol.specs.Numbers.{numberOf, slashAt}
+use Rattle.text_protocol.specs.Names.{evaluateKind, evaluateNames, placeOf, RRCL0, RRCL1, RRCL2, kindOf, takes}
+
+unfoldable pub oneOf : Number → Item
+oneOf (number.Is z) = item.One z
+oneOf number.Bad = item.Neither
+
+unfoldable pub twoOf : Number → Number → Item
+twoOf (number.Is m) (number.Is n) = item.Two m n
+twoOf (number.Is m) number.Bad = item.Neither
+twoOf number.Bad n = item.Neither
+
+-- two numbers with a slash and no blank between them, or one number
+unfoldable pub itemOf : List ℕ → Item
+itemOf w =
+    pick (ltb (slashAt w) (length w))
+    (twoOf (numberOf (take (slashAt w) w)) (numberOf (drop (suc (slashAt w)) w)))
+    (oneOf (numberOf w))
+
+-- what a line says: nothing, no call, or a call of a kind, with its numbers and the terms in which a pair stands for
+-- two of them
+pub data Said : Type 0 where
+  Nothing : Said
+  NoCall : Said
+  Call : (kind : ℕ) → (numbers : List ℤ) → Pairs → Said
+
+abbrev pub noPairs : Pairs
+noPairs = record { first = false; second = false; third = false }
+
+-- a pair stands in an evaluation alone, in place of a term's RRCL RRCH
+unfoldable pub pairFits : (kind place : ℕ) → Bool
+pairFits k n =
+    eqb k evaluateKind
+    && (eqb n (placeOf evaluateNames RRCL0)
+    || (eqb n (placeOf evaluateNames RRCL1) || eqb n (placeOf evaluateNames RRCL2)))
+
+-- a pair more, at a place
+unfoldable pub withPair : (place : ℕ) → Pairs → Pairs
+withPair n p =
+    record {
+      first = p .first || eqb n (placeOf evaluateNames RRCL0);
+      second = p .second || eqb n (placeOf evaluateNames RRCL1);
+      third = p .third || eqb n (placeOf evaluateNames RRCL2);
+    }
+
+-- A line keeps the thirteen numbers of an evaluation and 113 figures, one more than a day may have: with so many it is
+-- out of range, whatever follows. What follows has to be numbers, and is dropped
+abbrev pub keptMost : ℕ
+keptMost = 126
+
+-- a number more
+unfoldable pub more : List ℤ → ℤ → List ℤ
+more zs z = take keptMost (zs ++ z ∷ [])
+
+-- what is read of a call: its numbers so far and their pairs; or something that is in no call
+pub data Reading : Type 0 where
+  read : List ℤ → Pairs → Reading
+  spoilt : Reading
+
+-- what is read with a word more
+unfoldable pub taking : (kind : ℕ) → List ℤ → Pairs → Item → Reading
+taking k zs p (item.One z) = read (more zs z) p
+taking k zs p (item.Two m n) = pick (pairFits k (length zs)) (read (more (more zs m) n) (withPair (length zs) p)) spoilt
+taking k zs p item.Neither = spoilt
+
+unfoldable pub onWith : Reading → (List ℤ → Pairs → Said) → Said
+onWith (read zs p) f = f zs p
+onWith spoilt f = NoCall
+
+-- a call has as many numbers as it takes
+unfoldable pub finished : (kind : ℕ) → List ℤ → Pairs → Said
+finished k zs p = pick (takes k (length zs)) (Call k zs p) NoCall
+
+-- the words behind the call's, where zs and p are read
+unfoldable pub fill : (kind : ℕ) → List ℤ → Pairs → List (List ℕ) → Said
+fill k zs p [] = finished k zs p
+fill k zs p (w ∷ ws) = onWith (taking k zs p (itemOf w)) (λ zs p. fill k zs p ws)
+
+unfoldable pub called : List (List ℕ) → Said
+called [] = Nothing
+called (w ∷ ws) = pick (eqb (kindOf w) 0) NoCall (fill (kindOf w) [] noPairs ws)
+
+-- a line of more bytes is no call
+abbrev pub longest : ℕ
+longest = 65535
+
+-- THE MEANING OF A LINE
+unfoldable pub meaning : List ℕ → Said
+meaning l = pick (leb (length l) longest) (called (words l)) NoCall

@@ -1,0 +1,122 @@
+-- docs/EVENING.md, by examples: lines of examples/evening.txt, those of it that are no call, and both sides of each
+-- rule, each beside its meaning. `meanings` computes them all. Assumes nothing.
+use mathlib.Core.Path.{_≡_, refl}
+use mathlib.Core.Bool.{true, false}
+use mathlib.Core.List.{List, [], _∷_, _++_, map}
+use Prim.Native.Nat.{ℕ, zero, suc}
+use Prim.Native.Char.{code}
+use Prim.Native.String.{String}
+use Prim.Native.String.{[] as noText, _∷_ as letter}
+use lib.IntN.{ℤ, pos, negsuc}
+use lib.ListN.{replicate}
+use Rattle.text_protocol.specs.Bytes.{isBlank, isLineFeed, isNot, run, grow, pieces, full, ended, words, lines, same}
+use Rattle.text_protocol.specs.Numbers.{isDigit, sizeFrom, sizeOf, upTo, above, below, numberOf, slashAt}
+use Rattle.text_protocol.specs.Names.{admitKind, evaluateKind, quoteKind, moveKind, readKind, interestKind, admitNames, evaluateNames, quoteNames, moveNames, readNames, interestNames, forms, kindFrom, kindOf, countFits, takesIn, takes, placeOf}
+use Rattle.text_protocol.specs.Names.{code as codeOf}
+use Rattle.text_protocol.specs.Line.{Said, Nothing, NoCall, Call, oneOf, twoOf, itemOf, noPairs, keptMost, pairFits, withPair, more, taking, onWith, finished, fill, called, meaning}
+
+-- the bytes of a text whose characters are one byte each
+unfoldable pub bytes : String → List ℕ
+bytes noText = []
+bytes (letter c s) = code c ∷ bytes s
+
+abbrev pub naturals : List ℕ → List ℤ
+naturals ns = map pos ns
+
+-- a line, and what it means
+pub data LineCase : Type 0 where
+  line : String → Said → LineCase
+
+unfoldable pub heard : LineCase → Said
+heard (line text said) = meaning (bytes text)
+
+unfoldable pub meant : LineCase → Said
+meant (line text said) = said
+
+unfoldable pub lineCases : List LineCase
+lineCases =
+    -- lines of examples/evening.txt: a line of each call, numbers below zero, pairs of terms
+    line
+    "admit 7 3 1000000 1000000 20000 600 10 100 300 1000 500 5 2 5 8 50 500 700 900 4000 200 25 2000 2000 1000 60 1 1"
+    (Call admitKind (naturals (7 ∷ 3 ∷ 1000000 ∷ 1000000 ∷ 20000 ∷ 600 ∷ 10 ∷ 100 ∷ 300 ∷ 1000 ∷ 500 ∷ 5 ∷ 2
+    ∷ 5 ∷ 8 ∷ 50 ∷ 500 ∷ 700 ∷ 900 ∷ 4000 ∷ 200 ∷ 25 ∷ 2000 ∷ 2000 ∷ 1000 ∷ 60 ∷ 1 ∷ 1 ∷ [])) noPairs)
+    ∷ line "evaluate 7 4 0 0 0 0 0 0 0 0 0 0 0 0 10000 0 1030000 0 0 5"
+    (Call evaluateKind (naturals (7 ∷ 4 ∷ 0 ∷ 0 ∷ 0 ∷ 0 ∷ 0 ∷ 0 ∷ 0 ∷ 0 ∷ 0 ∷ 0 ∷ 0 ∷ 0 ∷ 10000 ∷ 0 ∷ 1030000
+    ∷ 0 ∷ 0 ∷ 5 ∷ [])) noPairs)
+    ∷ line "evaluate 7 5 0 0 2 -730 1460 2 -730 1460 2 -730 1460 0 10000 0 1000000 0 0 300 0 125000 0 81000 0 0 8"
+    (Call evaluateKind (pos 7 ∷ pos 5 ∷ pos 0 ∷ pos 0 ∷ pos 2 ∷ negsuc 729 ∷ pos 1460 ∷ pos 2 ∷ negsuc 729
+    ∷ pos 1460 ∷ pos 2 ∷ negsuc 729 ∷ pos 1460 ∷ pos 0 ∷ pos 10000 ∷ pos 0 ∷ pos 1000000 ∷ pos 0 ∷ pos 0
+    ∷ pos 300 ∷ pos 0 ∷ pos 125000 ∷ pos 0 ∷ pos 81000 ∷ pos 0 ∷ pos 0 ∷ pos 8 ∷ []) noPairs)
+    ∷ line "quote 7 36000 0 1062960 0" (Call quoteKind (naturals (7 ∷ 36000 ∷ 0 ∷ 1062960 ∷ 0 ∷ [])) noPairs)
+    ∷ line "move 7 0" (Call moveKind (naturals (7 ∷ 0 ∷ [])) noPairs)
+    ∷ line "read 9" (Call readKind (naturals (9 ∷ [])) noPairs)
+    ∷ line "evaluate 7 7 0 0 1 0/1 2 0/2 0 0 0 0 10000 0 1010000 0 0 5"
+    (Call evaluateKind (naturals (7 ∷ 7 ∷ 0 ∷ 0 ∷ 1 ∷ 0 ∷ 1 ∷ 2 ∷ 0 ∷ 2 ∷ 0 ∷ 0 ∷ 0 ∷ 0 ∷ 10000 ∷ 0 ∷ 1010000
+    ∷ 0 ∷ 0 ∷ 5 ∷ [])) (record { first = true; second = true; third = false }))
+    ∷ line "evaluate 7 10 0 0 1 -1/3 0 0 0 0 0 0"
+    (Call evaluateKind (pos 7 ∷ pos 10 ∷ pos 0 ∷ pos 0 ∷ pos 1 ∷ negsuc 0 ∷ pos 3 ∷ pos 0 ∷ pos 0 ∷ pos 0
+    ∷ pos 0 ∷ pos 0 ∷ pos 0 ∷ []) (record { first = true; second = false; third = false }))
+    ∷ line "interest 0 0 1 1000 500 200 50 2 20 300 100 200 940 710"
+    (Call interestKind (naturals (0 ∷ 0 ∷ 1 ∷ 1000 ∷ 500 ∷ 200 ∷ 50 ∷ 2 ∷ 20 ∷ 300 ∷ 100 ∷ 200 ∷ 940 ∷ 710
+    ∷ [])) noPairs)
+    -- those of it that are no call: no word of a call; half a pair, three of a pair, blanks in a pair; a pair where
+    -- none may stand; a number too few
+    ∷ line "hello" NoCall
+    ∷ line "evaluate 7 10 0 0 1 0/ 2 0/1 0 0 0 0" NoCall
+    ∷ line "evaluate 7 10 0 0 1 /1 2 0/1 0 0 0 0" NoCall
+    ∷ line "evaluate 7 10 0 0 1 0/1/2 2 0/1 0 0 0" NoCall
+    ∷ line "evaluate 7 10 0 0 1 0 /1 2 0/1 0 0 0" NoCall
+    ∷ line "evaluate 7 10 0 0 1 -/1 2 0/1 0 0 0" NoCall
+    ∷ line "evaluate 7 10 0 0 1/0 1 2 0/1 0 0 0" NoCall
+    ∷ line "evaluate 7 10 0 0 1 0/1 2 0/1 0 0 0 0/10000 0 1010000 0 0 5" NoCall
+    ∷ line "quote 7 36000 0 1000000/0" NoCall
+    ∷ line
+    "interest 0 0 1 1000 500 200/50 2 20 300 100 200 940 710 1 800 650 700 810 40 150 1 3 803 652 700 1150 40 150 1"
+    NoCall
+    ∷ line "interest 0 0 1 1000 500 200 50 2 20 300 100 200 940" NoCall
+    -- a line says nothing where it is empty or blanks alone
+    ∷ line "" Nothing
+    ∷ line " \t \r" Nothing
+    -- blanks, tabs and carriage returns part words, at both ends too
+    ∷ line "  move\t7  0 \r" (Call moveKind (naturals (7 ∷ 0 ∷ [])) noPairs)
+    -- zeros may lead, and minus zero is zero
+    ∷ line "read 007" (Call readKind (naturals (7 ∷ [])) noPairs)
+    ∷ line "move 7 -0" (Call moveKind (naturals (7 ∷ 0 ∷ [])) noPairs)
+    -- the greatest and the least number of 64 bits, and one past each
+    ∷ line "read 9223372036854775807" (Call readKind (naturals (9223372036854775807 ∷ [])) noPairs)
+    ∷ line "read -9223372036854775808" (Call readKind (negsuc 9223372036854775807 ∷ []) noPairs)
+    ∷ line "read 9223372036854775808" NoCall
+    ∷ line "read -9223372036854775809" NoCall
+    ∷ line "read 18446744073709551623" NoCall
+    -- no number
+    ∷ line "read -" NoCall
+    ∷ line "read +7" NoCall
+    ∷ line "read 7.0" NoCall
+    ∷ line "read 7;" NoCall
+    ∷ line "move 7 0;read 9" NoCall
+    -- too few numbers and too many
+    ∷ line "read" NoCall
+    ∷ line "move 7" NoCall
+    ∷ line "move 7 0 0" NoCall
+    -- a word in other letters, and a word's part
+    ∷ line "Read 7" NoCall
+    ∷ line "reads 7" NoCall
+    ∷ line "rea 7" NoCall
+    ∷ []
+
+-- " 1" so many times
+unfoldable pub ones : ℕ → List ℕ
+ones zero = []
+ones (suc n) = bytes " 1" ++ ones n
+
+-- EACH LINE MEANS WHAT STANDS BESIDE IT; of a line's numbers the first 126 are kept; a line feed ends a line, and what
+-- is behind the last one is a line too, unless it is empty
+pub meanings : (map heard lineCases ≡ map meant lineCases)
+    × (meaning (bytes "evaluate" ++ ones 140) ≡ Call evaluateKind (replicate keptMost (pos 1)) noPairs)
+    × (lines (bytes "move 7 0\n\nread 9") ≡ bytes "move 7 0" ∷ [] ∷ bytes "read 9" ∷ [])
+    × (lines (bytes "move 7 0\nread 9\n") ≡ bytes "move 7 0" ∷ bytes "read 9" ∷ [])
+unfolding lineCases heard meant bytes ones isBlank isLineFeed isNot run grow pieces full ended words lines same isDigit
+    sizeFrom sizeOf upTo above below numberOf slashAt admitNames evaluateNames quoteNames moveNames readNames
+    interestNames forms kindFrom kindOf countFits takesIn takes placeOf codeOf oneOf twoOf itemOf pairFits withPair more
+    taking onWith finished fill called meaning
+meanings = (refl, refl, refl, refl)

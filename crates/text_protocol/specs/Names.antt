@@ -1,0 +1,227 @@
+-- docs/EVENING.md, "The calls": the word of each call, and the names of the numbers that follow it, in their order. A
+-- call more is a line more of `forms`. Assumes nothing.
+use mathlib.Core.Bool.{Bool, true, false}
+use mathlib.Core.List.{List, [], _∷_}
+use Prim.Native.Nat.{ℕ, zero, suc}
+use lib.Dec.{leb, eqb}
+use lib.IntN.{ℤ, pos}
+use lib.ListN.{length, getD}
+use Rattle.paper.specs.Lists.{pick}
+use Rattle.text_protocol.specs.Bytes.{same}
+
+pub data Name : Type 0 where
+  ID : Name
+  DAY : Name
+  P1 : Name
+  P2 : Name
+  S : Name
+  TENTATIVE : Name
+  LOT : Name
+  H : Name
+  Q : Name
+  A-UP : Name
+  A-DOWN : Name
+  WAIT : Name
+  RH1 : Name
+  RH2 : Name
+  RH3 : Name
+  LIQ : Name
+  MIN1 : Name
+  MIN2 : Name
+  MIN3 : Name
+  SMAX : Name
+  XPR : Name
+  SHIFT : Name
+  PCHMAX : Name
+  PCLMAX : Name
+  W : Name
+  U : Name
+  MONITORING : Name
+  ISEWMA : Name
+  B : Name
+  M : Name
+  K0 : Name
+  RRCL0 : Name
+  RRCH0 : Name
+  K1 : Name
+  RRCL1 : Name
+  RRCH1 : Name
+  K2 : Name
+  RRCL2 : Name
+  RRCH2 : Name
+  SECOND : Name
+  TERM : Name
+  BID : Name
+  ASK : Name
+  SIDE : Name
+  YM : Name
+  YN : Name
+  MM : Name
+  SEC : Name
+  XIR : Name
+  MONEY : Name
+  SECRATE : Name
+
+-- a number for each name, by which names are told apart
+unfoldable pub code : Name → ℕ
+code ID = 0
+code DAY = 1
+code P1 = 2
+code P2 = 3
+code S = 4
+code TENTATIVE = 5
+code LOT = 6
+code H = 7
+code Q = 8
+code A-UP = 9
+code A-DOWN = 10
+code WAIT = 11
+code RH1 = 12
+code RH2 = 13
+code RH3 = 14
+code LIQ = 15
+code MIN1 = 16
+code MIN2 = 17
+code MIN3 = 18
+code SMAX = 19
+code XPR = 20
+code SHIFT = 21
+code PCHMAX = 22
+code PCLMAX = 23
+code W = 24
+code U = 25
+code MONITORING = 26
+code ISEWMA = 27
+code B = 28
+code M = 29
+code K0 = 30
+code RRCL0 = 31
+code RRCH0 = 32
+code K1 = 33
+code RRCL1 = 34
+code RRCH1 = 35
+code K2 = 36
+code RRCL2 = 37
+code RRCH2 = 38
+code SECOND = 39
+code TERM = 40
+code BID = 41
+code ASK = 42
+code SIDE = 43
+code YM = 44
+code YN = 45
+code MM = 46
+code SEC = 47
+code XIR = 48
+code MONEY = 49
+code SECRATE = 50
+
+-- ---- the calls
+
+-- the word, the names of the numbers behind it, and whether more numbers may follow: an evaluation's rows, an
+-- evening's key maturities
+pub record Form : Type 0 where
+  pub word : List ℕ
+  pub names : List Name
+  pub more : Bool
+
+unfoldable pub admitNames : List Name
+admitNames =
+    ID ∷ DAY ∷ P1 ∷ P2 ∷ S ∷ TENTATIVE ∷ LOT ∷ H ∷ Q ∷ A-UP ∷ A-DOWN ∷ WAIT ∷ RH1 ∷ RH2 ∷ RH3 ∷ LIQ ∷ MIN1 ∷ MIN2 ∷ MIN3
+    ∷ SMAX ∷ XPR ∷ SHIFT ∷ PCHMAX ∷ PCLMAX ∷ W ∷ U ∷ MONITORING ∷ ISEWMA ∷ []
+
+-- a pair of terms stands for two numbers: in place of each RRCL RRCH a pair YM/YN may stand
+unfoldable pub evaluateNames : List Name
+evaluateNames = ID ∷ DAY ∷ B ∷ M ∷ K0 ∷ RRCL0 ∷ RRCH0 ∷ K1 ∷ RRCL1 ∷ RRCH1 ∷ K2 ∷ RRCL2 ∷ RRCH2 ∷ []
+
+unfoldable pub quoteNames : List Name
+quoteNames = ID ∷ SECOND ∷ TERM ∷ BID ∷ ASK ∷ []
+
+unfoldable pub moveNames : List Name
+moveNames = ID ∷ SIDE ∷ []
+
+unfoldable pub readNames : List Name
+readNames = ID ∷ []
+
+unfoldable pub interestNames : List Name
+interestNames = B ∷ YM ∷ YN ∷ A-UP ∷ A-DOWN ∷ Q ∷ H ∷ WAIT ∷ LIQ ∷ MM ∷ SEC ∷ XIR ∷ MONEY ∷ SECRATE ∷ []
+
+-- the words, as bytes
+abbrev pub admitWord : List ℕ
+admitWord = 97 ∷ 100 ∷ 109 ∷ 105 ∷ 116 ∷ []  -- "admit"
+
+abbrev pub evaluateWord : List ℕ
+evaluateWord = 101 ∷ 118 ∷ 97 ∷ 108 ∷ 117 ∷ 97 ∷ 116 ∷ 101 ∷ []  -- "evaluate"
+
+abbrev pub quoteWord : List ℕ
+quoteWord = 113 ∷ 117 ∷ 111 ∷ 116 ∷ 101 ∷ []  -- "quote"
+
+abbrev pub moveWord : List ℕ
+moveWord = 109 ∷ 111 ∷ 118 ∷ 101 ∷ []  -- "move"
+
+abbrev pub readWord : List ℕ
+readWord = 114 ∷ 101 ∷ 97 ∷ 100 ∷ []  -- "read"
+
+abbrev pub interestWord : List ℕ
+interestWord = 105 ∷ 110 ∷ 116 ∷ 101 ∷ 114 ∷ 101 ∷ 115 ∷ 116 ∷ []  -- "interest"
+
+-- THE CALLS: the kind of a call is its place in this list, counted from 1
+unfoldable pub forms : List Form
+forms =
+    record { word = admitWord; names = admitNames; more = false }
+    ∷ record { word = evaluateWord; names = evaluateNames; more = true }
+    ∷ record { word = quoteWord; names = quoteNames; more = false }
+    ∷ record { word = moveWord; names = moveNames; more = false }
+    ∷ record { word = readWord; names = readNames; more = false }
+    ∷ record { word = interestWord; names = interestNames; more = true }
+    ∷ []
+
+abbrev pub admitKind : ℕ
+admitKind = 1
+
+abbrev pub evaluateKind : ℕ
+evaluateKind = 2
+
+abbrev pub quoteKind : ℕ
+quoteKind = 3
+
+abbrev pub moveKind : ℕ
+moveKind = 4
+
+abbrev pub readKind : ℕ
+readKind = 5
+
+abbrev pub interestKind : ℕ
+interestKind = 6
+
+-- ---- a word's call, and a name's number
+
+unfoldable pub kindFrom : ℕ → List Form → List ℕ → ℕ
+kindFrom k [] w = 0
+kindFrom k (f ∷ fs) w = pick (same w (f .word)) k (kindFrom (suc k) fs w)
+
+-- the kind of the call whose word this is, 0 where it is no call's word
+unfoldable pub kindOf : List ℕ → ℕ
+kindOf w = kindFrom 1 forms w
+
+unfoldable pub countFits : Form → ℕ → Bool
+countFits f n = pick (f .more) (leb (length (f .names)) n) (eqb n (length (f .names)))
+
+unfoldable pub takesIn : List Form → (place count : ℕ) → Bool
+takesIn [] k n = false
+takesIn (f ∷ fs) zero n = countFits f n
+takesIn (f ∷ fs) (suc k) n = takesIn fs k n
+
+-- whether a call of the kind has so many numbers
+unfoldable pub takes : (kind count : ℕ) → Bool
+takes zero n = false
+takes (suc k) n = takesIn forms k n
+
+-- how many names stand before a name
+unfoldable pub placeOf : List Name → Name → ℕ
+placeOf [] x = 0
+placeOf (y ∷ ys) x = pick (eqb (code y) (code x)) 0 (suc (placeOf ys x))
+
+-- the number of a name: the one that stands at its place
+unfoldable pub the : List Name → List ℤ → Name → ℤ
+the names zs x = getD zs (placeOf names x) (pos 0)

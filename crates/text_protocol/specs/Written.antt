@@ -1,0 +1,66 @@
+-- docs/EVENING.md, "Which line is which call", as a relation: which bytes are a call, said by how they are put
+-- together and not by how they are read. `says-reads` and `reads-says` (proofs/Reading.antt) prove that it and
+-- `meaning` agree. Assumes nothing.
+use mathlib.Core.Path.{_≡_}
+use mathlib.Core.Bool.{true}
+use mathlib.Core.List.{List, [], _∷_, _++_}
+use Prim.Native.Nat.{ℕ, zero, suc, _+_, _-_, _*_, _≤_, _<_}
+use lib.IntN.{ℤ, pos, negsuc}
+use lib.ListN.{length}
+use Rattle.text_protocol.specs.declared.Pairs.{Pairs}
+use Rattle.text_protocol.specs.Bytes.{isBlank, minusSign, slash, digitZero, digitNine}
+use Rattle.text_protocol.specs.Numbers.{greatest, least}
+use Rattle.text_protocol.specs.Names.{admitWord, evaluateWord, quoteWord, moveWord, readWord, interestWord, admitKind, evaluateKind, quoteKind, moveKind, readKind, interestKind, takes}
+use Rattle.text_protocol.specs.Line.{noPairs, pairFits, withPair, more, longest}
+
+pub data Blanks : List ℕ → Type 0 where
+  no-blank : Blanks []
+  blank : {b : ℕ} {t : List ℕ} → isBlank b ≡ true → Blanks t → Blanks (b ∷ t)
+
+-- ---- a number
+
+pub data Digits : List ℕ → Type 0 where
+  no-digit : Digits []
+  digit : {b : ℕ} {t : List ℕ} → digitZero ≤ b → b ≤ digitNine → Digits t → Digits (b ∷ t)
+
+-- the number that digits spell behind those of n
+unfoldable pub value : ℕ → List ℕ → ℕ
+value n [] = n
+value n (b ∷ t) = value (10 * n + (b - digitZero)) t
+
+unfoldable pub negated : ℕ → ℤ
+negated zero = pos 0
+negated (suc n) = negsuc n
+
+-- digits, any zeros in front, behind a minus or none, within 64 bits
+pub data Spells : List ℕ → ℤ → Type 0 where
+  plain : {t : List ℕ} → Digits t → 0 < length t → value 0 t ≤ greatest → Spells t (pos (value 0 t))
+  minus : {t : List ℕ} → Digits t → 0 < length t → value 0 t ≤ least → Spells (minusSign ∷ t) (negated (value 0 t))
+
+-- ---- a line
+
+pub data CallWord : List ℕ → ℕ → Type 0 where
+  admit : CallWord admitWord admitKind
+  evaluate : CallWord evaluateWord evaluateKind
+  quote : CallWord quoteWord quoteKind
+  move : CallWord moveWord moveKind
+  read : CallWord readWord readKind
+  interest : CallWord interestWord interestKind
+
+-- Behind the word of a call of kind k, where the numbers ys are read with the pairs q: each number or pair stands
+-- behind a blank or more, blanks may end the line, and then zs are read with the pairs p
+pub data Numbers (k : ℕ) : List ℤ → Pairs → List ℕ → List ℤ → Pairs → Type 0 where
+  done : {ys : List ℤ} {q : Pairs} {t : List ℕ} → Blanks t → Numbers k ys q t ys q
+  one : {ys : List ℤ} {q : Pairs} {b : ℕ} {t w rest : List ℕ} {z : ℤ} {zs : List ℤ} {p : Pairs} → isBlank b ≡ true
+      → Blanks t → Spells w z → Numbers k (more ys z) q rest zs p
+      → Numbers k ys q (b ∷ (t ++ (w ++ rest))) zs p
+  two : {ys : List ℤ} {q : Pairs} {b : ℕ} {t v w rest : List ℕ} {m n : ℤ} {zs : List ℤ} {p : Pairs} → isBlank b ≡ true
+      → Blanks t → Spells v m → Spells w n → pairFits k (length ys) ≡ true
+      → Numbers k (more (more ys m) n) (withPair (length ys) q) rest zs p
+      → Numbers k ys q (b ∷ (t ++ ((v ++ slash ∷ w) ++ rest))) zs p
+
+-- A LINE THAT IS A CALL of kind k with the numbers zs, and with pairs in the terms p
+pub data Says : List ℕ → ℕ → List ℤ → Pairs → Type 0 where
+  says : {t w rest : List ℕ} {k : ℕ} {zs : List ℤ} {p : Pairs} → Blanks t → CallWord w k
+      → Numbers k [] noPairs rest zs p
+      → takes k (length zs) ≡ true → length (t ++ (w ++ rest)) ≤ longest → Says (t ++ (w ++ rest)) k zs p
