@@ -1,0 +1,94 @@
+use Rattle.text_protocol.specs.Answers.{recordNumbers}
+use Rattle.text_answer.specs.Told.{both}
+use borrow.Author.Needs.{needs}
+use Rattle.text_answer.proofs.put_record.Statement.{statement}
+use Rattle.text_answer.proofs.put_record.Tie as tie
+use Rattle.text_answer.proofs.put_record.Reads as reads
+use Rattle.text_answer.proofs.put_record.Lts as lts
+use Rattle.text_answer.proofs.put_figures.Reads as put-figures-reads
+use Rattle.text_answer.proofs.put_last.Reads as put-last-reads
+use Rattle.text_answer.proofs.put_ranges.Reads as put-ranges-reads
+use Rattle.text_answer.proofs.put_rates.Reads as put-rates-reads
+use Rattle.text_answer.proofs.put_term.Reads as put-term-reads
+
+put-figures-requires : tie.Need-put-figures-requires
+put-figures-requires c κs = search needs
+
+put-rates-requires : tie.Need-put-rates-requires
+put-rates-requires c κs = search needs
+
+put-ranges-requires : tie.Need-put-ranges-requires
+put-ranges-requires c κs = search needs
+
+array-copy-out-put-term : tie.Need-array-copy-out-put-term
+array-copy-out-put-term c = search needs
+
+array-copy-out-put-term-2 : tie.Need-array-copy-out-put-term-2
+array-copy-out-put-term-2 c = search needs
+
+array-copy-out-put-term-3 : tie.Need-array-copy-out-put-term-3
+array-copy-out-put-term-3 c = search needs
+
+put-term-requires : tie.Need-put-term-requires
+put-term-requires c κs = search needs
+
+array-copy-out-put-term-4 : tie.Need-array-copy-out-put-term-4
+array-copy-out-put-term-4 c = search needs
+
+array-copy-out-put-term-5 : tie.Need-array-copy-out-put-term-5
+array-copy-out-put-term-5 c = search needs
+
+array-copy-out-put-term-6 : tie.Need-array-copy-out-put-term-6
+array-copy-out-put-term-6 c = search needs
+
+put-term-requires-2 : tie.Need-put-term-requires-2
+put-term-requires-2 c κs = search needs
+
+array-copy-out-put-term-7 : tie.Need-array-copy-out-put-term-7
+array-copy-out-put-term-7 c = search needs
+
+array-copy-out-put-term-8 : tie.Need-array-copy-out-put-term-8
+array-copy-out-put-term-8 c = search needs
+
+array-copy-out-put-term-9 : tie.Need-array-copy-out-put-term-9
+array-copy-out-put-term-9 c = search needs
+
+put-term-requires-3 : tie.Need-put-term-requires-3
+put-term-requires-3 c κs = search needs
+
+put-last-requires : tie.Need-put-last-requires
+put-last-requires c κs = search needs
+
+returns : tie.Need-returns
+unfolding recordNumbers
+returns c =
+    let c2 = c .before .before in
+    let c7 = c2 .before .before .before .before .before in
+    let c12 = c7 .before .before .before .before .before in
+    let c17 = c12 .before .before .before .before .before in
+    let c19 = c17 .before .before in
+    let c21 = c19 .before .before in
+    both (both (both (both (both (both (c21 .put-figures .ensures) (c19 .put-rates .ensures)) (c17 .put-ranges
+    .ensures)) (c12 .put-term .ensures)) (c7 .put-term2 .ensures)) (c2 .put-term3 .ensures)) (c .put-last .ensures)
+
+pub put-record-spec : {M : Type 1} → statement M
+put-record-spec =
+    tie.close
+    (tie.spec
+    put-figures-requires
+    put-rates-requires
+    put-ranges-requires
+    array-copy-out-put-term
+    array-copy-out-put-term-2
+    array-copy-out-put-term-3
+    put-term-requires
+    array-copy-out-put-term-4
+    array-copy-out-put-term-5
+    array-copy-out-put-term-6
+    put-term-requires-2
+    array-copy-out-put-term-7
+    array-copy-out-put-term-8
+    array-copy-out-put-term-9
+    put-term-requires-3
+    put-last-requires
+    returns)

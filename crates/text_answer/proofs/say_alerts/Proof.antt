@@ -1,0 +1,31 @@
+use Rattle.text_answer.specs.Told.{both, answered}
+use native.Mathlib.Omega.{arith}
+use borrow.Author.Needs.{needs}
+use Rattle.text_answer.proofs.say_alerts.Statement.{statement}
+use Rattle.text_answer.proofs.say_alerts.Tie as tie
+use Rattle.text_answer.proofs.say_alerts.Reads as reads
+use Rattle.text_answer.proofs.say_alerts.Lts as lts
+use Rattle.text_answer.proofs.put_flag.Reads as put-flag-reads
+use Rattle.text_out.proofs.put_byte.Reads as put-byte-reads
+use Rattle.text_out.proofs.put_number.Reads as put-number-reads
+
+put-number-requires : tie.Need-put-number-requires
+put-number-requires c κs = search needs
+
+put-flag-requires : tie.Need-put-flag-requires
+put-flag-requires c κs = search needs
+
+put-flag-requires-2 : tie.Need-put-flag-requires-2
+put-flag-requires-2 c κs = search needs
+
+put-byte-requires : tie.Need-put-byte-requires
+put-byte-requires c κs = search needs
+
+returns : tie.Need-returns
+returns c = answered _ (omega arith) (c .before .before .before .before .before .before .put-number .ensures) (both (c
+    .before .before .before .before .put-flag .ensures) (c .before .before .put-flag2 .ensures)) (c .put-byte .ensures)
+
+pub say-alerts-spec : {M : Type 1} → statement M
+say-alerts-spec =
+    tie.close
+    (tie.spec put-number-requires put-flag-requires put-flag-requires-2 put-byte-requires returns)

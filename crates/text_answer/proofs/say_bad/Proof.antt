@@ -1,0 +1,44 @@
+use Rattle.text_answer.specs.Told.{wrote-one}
+use Rattle.text_out.specs.Wrote.{then, wider}
+use Rattle.text_protocol.specs.Answers.{badText}
+use native.Mathlib.Omega.{arith}
+use borrow.Author.Needs.{needs}
+use Rattle.text_answer.proofs.say_bad.Statement.{statement}
+use Rattle.text_answer.proofs.say_bad.Tie as tie
+use Rattle.text_answer.proofs.say_bad.Reads as reads
+use Rattle.text_answer.proofs.say_bad.Lts as lts
+use Rattle.text_answer.proofs.put_next.Reads as put-next-reads
+use Rattle.text_out.proofs.put_byte.Reads as put-byte-reads
+
+put-byte-requires : tie.Need-put-byte-requires
+put-byte-requires c κs = search needs
+
+put-byte-requires-2 : tie.Need-put-byte-requires-2
+put-byte-requires-2 c κs = search needs
+
+put-byte-requires-3 : tie.Need-put-byte-requires-3
+put-byte-requires-3 c κs = search needs
+
+put-next-requires : tie.Need-put-next-requires
+put-next-requires c κs = search needs
+
+put-byte-requires-4 : tie.Need-put-byte-requires-4
+put-byte-requires-4 c κs = search needs
+
+returns : tie.Need-returns
+unfolding badText
+returns c = wider (then (then (then (then (c .before .before .before .before .before .before .before .before .put-byte
+    .ensures) (c .before .before .before .before .before .before .put-byte2 .ensures)) (c .before .before .before
+    .before .put-byte3 .ensures)) (wrote-one (c .before .before .put-next .ensures))) (c .put-byte4 .ensures)) (omega
+    arith)
+
+pub say-bad-spec : {M : Type 1} → statement M
+say-bad-spec =
+    tie.close
+    (tie.spec
+    put-byte-requires
+    put-byte-requires-2
+    put-byte-requires-3
+    put-next-requires
+    put-byte-requires-4
+    returns)

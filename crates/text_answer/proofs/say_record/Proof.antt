@@ -1,0 +1,27 @@
+use Rattle.text_answer.specs.Told.{answered}
+use native.Mathlib.Omega.{arith}
+use borrow.Author.Needs.{needs}
+use Rattle.text_answer.proofs.say_record.Statement.{statement}
+use Rattle.text_answer.proofs.say_record.Tie as tie
+use Rattle.text_answer.proofs.say_record.Reads as reads
+use Rattle.text_answer.proofs.say_record.Lts as lts
+use Rattle.text_answer.proofs.put_record.Reads as put-record-reads
+use Rattle.text_out.proofs.put_byte.Reads as put-byte-reads
+use Rattle.text_out.proofs.put_number.Reads as put-number-reads
+
+put-number-requires : tie.Need-put-number-requires
+put-number-requires c κs = search needs
+
+put-record-requires : tie.Need-put-record-requires
+put-record-requires c κs = search needs
+
+put-byte-requires : tie.Need-put-byte-requires
+put-byte-requires c κs = search needs
+
+returns : tie.Need-returns
+returns c = answered _ (omega arith) (c .before .before .before .before .put-number .ensures) (c .before .before
+    .put-record .ensures) (c .put-byte .ensures)
+
+pub say-record-spec : {M : Type 1} → statement M
+say-record-spec =
+    tie.close (tie.spec put-number-requires put-record-requires put-byte-requires returns)

@@ -1,0 +1,301 @@
+// The answers of the evening's text, appended to a lent buffer. Each contract is a list of numbers, and each proof the
+// one law `both`.
+ghost use mathlib.Core.Path.{_≡_};
+ghost use mathlib.Core.List.{[], _∷_};
+ghost use Prim.Native.Nat.{_+_, _*_, _≤_};
+ghost use lib.IntN.{pos, negsuc};
+ghost use lib.ListN.{getD};
+ghost use Rattle.paper.specs.Verdicts.{numberOf};
+ghost use Rattle.text_protocol.specs.Answers.{next, answerText, badText, flag, standingNumbers, nearNumber, figureNumbers, ratesNumbers, rangesNumbers, termNumbers, lastNumbers, recordNumbers, maturityNumbers, maturitiesNumbers, interestNumbers, interestText};
+ghost use Rattle.text_out.specs.Wrote.{Wrote};
+ghost use Rattle.text_answer.specs.Told.{Told};
+ghost use Rattle.text_answer.specs.Kinds.{textOfKind};
+use paper::Answer;
+use paper::InterestAnswer;
+use paper::Limits;
+use paper::MaturityFigures;
+use paper::Near;
+use paper::NearSeconds;
+use paper::Rate;
+use paper::Record;
+use paper::Standing;
+use paper::Term;
+use text_out::put_byte;
+use text_out::put_number;
+use text_out::put_signed;
+
+// The numbers of the calls whose answers are not the record (text_protocol/specs/Names.antt).
+const ADMIT: u64 = 1;
+
+const QUOTE: u64 = 3;
+
+// ---- numbers
+
+// A blank, and a number.
+fn put_next(out: &mut [u8; 65536], len: usize, x: u64) -> usize
+    requires { ⌜ len + 21 ≤ 65536 ⌝ }
+    ensures { λ r. ⌜ Told (now (out .entry)) len (now (out .exit)) r (pos x ∷ []) 21 ⌝ }
+{
+    let n = put_byte(out, len, b' ');
+    put_number(out, n, x)
+}
+
+// A blank, and a signed number.
+fn put_next_signed(out: &mut [u8; 65536], len: usize, x: i64) -> usize
+    requires { ⌜ len + 22 ≤ 65536 ⌝ }
+    ensures { λ r. ⌜ Told (now (out .entry)) len (now (out .exit)) r (x ∷ []) 22 ⌝ }
+{
+    let n = put_byte(out, len, b' ');
+    put_signed(out, n, x)
+}
+
+fn put_flag(out: &mut [u8; 65536], len: usize, yes: bool) -> usize
+    requires { ⌜ len + 21 ≤ 65536 ⌝ }
+    ensures { λ r. ⌜ Told (now (out .entry)) len (now (out .exit)) r (flag yes ∷ []) 21 ⌝ }
+{
+    if yes {
+        return put_next(out, len, 1);
+    }
+    put_next(out, len, 0)
+}
+
+// "near: the second, or -1"
+fn put_near(out: &mut [u8; 65536], len: usize, near: Near) -> usize
+    requires { ⌜ len + 22 ≤ 65536 ⌝ }
+    ensures { λ r. ⌜ Told (now (out .entry)) len (now (out .exit)) r (nearNumber near ∷ []) 22 ⌝ }
+{
+    match near {
+        Near::Since(second) => put_next(out, len, second),
+        Near::Not => put_next_signed(out, len, -1),
+    }
+}
+
+// ---- a record
+
+// LIVE DAY
+fn put_standing(out: &mut [u8; 65536], len: usize, standing: Standing) -> usize
+    requires { ⌜ len + 42 ≤ 65536 ⌝ }
+    ensures { λ r. ⌜ Told (now (out .entry)) len (now (out .exit)) r (standingNumbers standing) 42 ⌝ }
+{
+    match standing {
+        Standing::Admitted(day) => {
+            let n = put_next(out, len, 0);
+            put_next(out, n, day)
+        }
+        Standing::Live(day) => {
+            let n = put_next(out, len, 1);
+            put_next(out, n, day)
+        }
+    }
+}
+
+// ID LIVE DAY P1 P2 S TENTATIVE AGE
+fn put_figures(out: &mut [u8; 65536], len: usize, r: Record) -> usize
+    requires { ⌜ len + 168 ≤ 65536 ⌝ }
+    ensures { λ n. ⌜ Told (now (out .entry)) len (now (out .exit)) n (figureNumbers r) 168 ⌝ }
+{
+    let standing = r.standing;
+    let n = put_next(out, len, r.id);
+    let n = put_standing(out, n, standing);
+    let n = put_next(out, n, r.p1.units);
+    let n = put_next(out, n, r.p2.units);
+    let n = put_next(out, n, r.s);
+    let n = put_next(out, n, r.tentative.bp);
+    put_next(out, n, r.tentative.age)
+}
+
+// S1 S2 S3
+fn put_rates(out: &mut [u8; 65536], len: usize, rates: [Rate; 3]) -> usize
+    requires { ⌜ len + 63 ≤ 65536 ⌝ }
+    ensures { λ r. ⌜ Told (now (out .entry)) len (now (out .exit)) r (ratesNumbers rates) 63 ⌝ }
+{
+    let n = put_next(out, len, rates[0].bp);
+    let n = put_next(out, n, rates[1].bp);
+    put_next(out, n, rates[2].bp)
+}
+
+// UPPER1 UPPER2 UPPER3 LOWER1 LOWER2 LOWER3
+fn put_ranges(out: &mut [u8; 65536], len: usize, ranges: [Limits; 3]) -> usize
+    requires { ⌜ len + 126 ≤ 65536 ⌝ }
+    ensures { λ r. ⌜ Told (now (out .entry)) len (now (out .exit)) r (rangesNumbers ranges) 126 ⌝ }
+{
+    let n = put_next(out, len, ranges[0].upper);
+    let n = put_next(out, n, ranges[1].upper);
+    let n = put_next(out, n, ranges[2].upper);
+    let n = put_next(out, n, ranges[0].lower);
+    let n = put_next(out, n, ranges[1].lower);
+    put_next(out, n, ranges[2].lower)
+}
+
+// K RRCL RRCH BANDLOWER BANDUPPER NEARTOP NEARBOTTOM
+fn put_term(out: &mut [u8; 65536], len: usize, term: Term, band: Limits, near: NearSeconds) -> usize
+    requires { ⌜ len + 151 ≤ 65536 ⌝ }
+    ensures { λ r. ⌜ Told (now (out .entry)) len (now (out .exit)) r (termNumbers term band near) 151 ⌝ }
+{
+    let top = near.top;
+    let bottom = near.bottom;
+    let n = put_next(out, len, term.k);
+    let n = put_next_signed(out, n, term.low);
+    let n = put_next_signed(out, n, term.high);
+    let n = put_next(out, n, band.lower);
+    let n = put_next(out, n, band.upper);
+    let n = put_near(out, n, top);
+    put_near(out, n, bottom)
+}
+
+// MOVESUPPER MOVESLOWER LASTSECOND
+fn put_last(out: &mut [u8; 65536], len: usize, r: Record) -> usize
+    requires { ⌜ len + 63 ≤ 65536 ⌝ }
+    ensures { λ n. ⌜ Told (now (out .entry)) len (now (out .exit)) n (lastNumbers r) 63 ⌝ }
+{
+    let n = put_next(out, len, r.moves.upper);
+    let n = put_next(out, n, r.moves.lower);
+    put_next(out, n, r.second)
+}
+
+fn put_record(out: &mut [u8; 65536], len: usize, r: Record) -> usize
+    requires { ⌜ len + 873 ≤ 65536 ⌝ }
+    ensures { λ n. ⌜ Told (now (out .entry)) len (now (out .exit)) n (recordNumbers r) 873 ⌝ }
+{
+    let rates = r.rates;
+    let ranges = r.ranges;
+    let terms = r.terms;
+    let bands = r.bands;
+    let near = r.near;
+    let n = put_figures(out, len, r);
+    let n = put_rates(out, n, rates);
+    let n = put_ranges(out, n, ranges);
+    let n = put_term(out, n, terms[0], bands[0], near[0]);
+    let n = put_term(out, n, terms[1], bands[1], near[1]);
+    let n = put_term(out, n, terms[2], bands[2], near[2]);
+    put_last(out, n, r)
+}
+
+// ---- an interest line's answer
+
+// CHANGE VOLATILITY TENTATIVE AGE UP DOWN
+fn put_maturity(out: &mut [u8; 65536], len: usize, f: MaturityFigures) -> usize
+    requires { ⌜ len + 126 ≤ 65536 ⌝ }
+    ensures { λ r. ⌜ Told (now (out .entry)) len (now (out .exit)) r (maturityNumbers f) 126 ⌝ }
+{
+    let n = put_next(out, len, f.change);
+    let n = put_next(out, n, f.volatility);
+    let n = put_next(out, n, f.tentative.bp);
+    let n = put_next(out, n, f.tentative.age);
+    let n = put_next(out, n, f.up);
+    put_next(out, n, f.down)
+}
+
+// Of each of the first `count` key maturities.
+fn put_maturities(
+    out: &mut [u8; 65536],
+    len: usize,
+    figures: [MaturityFigures; 8],
+    count: u64,
+) -> usize
+    requires { ⌜ len + 1008 ≤ 65536 ⌝ }
+    ensures { λ r. ⌜ Told (now (out .entry)) len (now (out .exit)) r (maturitiesNumbers count figures) 1008 ⌝ }
+{
+    let mut n = len;
+    let mut i: usize = 0;
+    while i < 8 {
+        if count <= i as u64 {
+            return n;
+        }
+        let f = figures[i];
+        n = put_maturity(out, n, f);
+        i += 1;
+    }
+    n
+}
+
+// ---- the answers
+
+// A refusal's number, or an admission's 0, stands alone.
+pub fn say_number(out: &mut [u8; 65536], len: usize, no: u64) -> usize
+    requires { ⌜ len + 1200 ≤ 65536 ⌝ }
+    ensures { λ r. ⌜ Wrote (now (out .entry)) len (now (out .exit)) r (answerText no []) 1200 ⌝ }
+{
+    let n = put_number(out, len, no);
+    put_byte(out, n, b'\n')
+}
+
+// A quote's two alerts.
+pub fn say_alerts(out: &mut [u8; 65536], len: usize, top: bool, bottom: bool) -> usize
+    requires { ⌜ len + 1200 ≤ 65536 ⌝ }
+    ensures { λ r. ⌜ Wrote (now (out .entry)) len (now (out .exit)) r (answerText 0 (flag top ∷ flag bottom ∷ []))
+        1200 ⌝ }
+{
+    let n = put_number(out, len, 0);
+    let n = put_flag(out, n, top);
+    let n = put_flag(out, n, bottom);
+    put_byte(out, n, b'\n')
+}
+
+pub fn say_record(out: &mut [u8; 65536], len: usize, r: Record) -> usize
+    requires { ⌜ len + 1200 ≤ 65536 ⌝ }
+    ensures { λ n. ⌜ Wrote (now (out .entry)) len (now (out .exit)) n (answerText 0 (recordNumbers r)) 1200 ⌝ }
+{
+    let n = put_number(out, len, 0);
+    let n = put_record(out, n, r);
+    put_byte(out, n, b'\n')
+}
+
+// LOWER UPPER, and the figures of each key maturity.
+fn say_worked(out: &mut [u8; 65536], len: usize, a: InterestAnswer) -> usize
+    requires { ⌜ len + 1200 ≤ 65536 ⌝ }
+    ensures { λ r. ⌜ Wrote (now (out .entry)) len (now (out .exit)) r (answerText 0 (interestNumbers a)) 1200 ⌝ }
+{
+    let figures = a.figures;
+    let pair = a.pair;
+    let n = put_number(out, len, 0);
+    let n = put_next_signed(out, n, pair.lower);
+    let n = put_next_signed(out, n, pair.upper);
+    let n = put_maturities(out, n, figures, a.count);
+    put_byte(out, n, b'\n')
+}
+
+pub fn say_interest(out: &mut [u8; 65536], len: usize, a: InterestAnswer) -> usize
+    requires { ⌜ len + 1200 ≤ 65536 ⌝ }
+    ensures { λ r. ⌜ Wrote (now (out .entry)) len (now (out .exit)) r (interestText a) 1200 ⌝ }
+{
+    let pair = a.pair;
+    let verdict = pair.verdict;
+    let no = verdict.number();
+    if no == 0 {
+        return say_worked(out, len, a);
+    }
+    say_number(out, len, no)
+}
+
+// What a call of a kind answers.
+pub fn say_answer(out: &mut [u8; 65536], len: usize, kind: u64, a: Answer) -> usize
+    requires { ⌜ len + 1200 ≤ 65536 ⌝ }
+    ensures { λ r. ⌜ Wrote (now (out .entry)) len (now (out .exit)) r (textOfKind kind a) 1200 ⌝ }
+{
+    let verdict = a.verdict;
+    let no = verdict.number();
+    if no != 0 {
+        return say_number(out, len, no);
+    }
+    if kind == ADMIT {
+        return say_number(out, len, 0);
+    }
+    if kind == QUOTE {
+        return say_alerts(out, len, a.top, a.bottom);
+    }
+    let r = a.rec;
+    say_record(out, len, r)
+}
+
+// "bad" and the line's number: the answer to a line that is no call.
+pub fn say_bad(out: &mut [u8; 65536], len: usize, number: u64) -> usize
+    requires { ⌜ len + 1200 ≤ 65536 ⌝ }
+    ensures { λ r. ⌜ Wrote (now (out .entry)) len (now (out .exit)) r (badText number) 1200 ⌝ }
+{
+    let n = put_byte(out, len, b'b');
+    let n = put_byte(out, n, b'a');
+    let n = put_byte(out, n, b'd');
+    let n = put_next(out, n, number);
+    put_byte(out, n, b'\n')
+}

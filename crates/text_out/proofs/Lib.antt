@@ -1,0 +1,3 @@
+mod Digits
+mod Sign
+mod Turns

@@ -1,0 +1,44 @@
+-- The sign test decides which case of a definition a signed number is. Assumes nothing.
+use mathlib.Core.Path.{_≡_, refl, ap, subst, _∙_}
+use mathlib.Core.List.{List, [], _∷_, _++_}
+use Rattle.text_protocol.specs.Numbers.{decimal, signed}
+use Rattle.text_out.specs.Wrote.{Wrote, then}
+use mathlib.Core.Bool.{true, false}
+use Prim.Native.Nat.{ℕ, suc, _+_, _-_, _*_, _<_}
+use native.Mathlib.Numerals.{add-one}
+use native.Mathlib.Omega.{arith}
+use lib.Dec.{T}
+use lib.IntN.{ℤ, pos, negsuc}
+use lib.Signed.{mag, ltZ}
+use borrow.Author.Tests.{ltb-true}
+
+-- no natural number is below 0
+none : (n : ℕ) → ltZ (pos n) (pos 0) ≡ true → ⊥
+none n e = let h : n < 0 = ltb-true n 0 e in omega arith
+
+some : (n : ℕ) → ltZ (negsuc n) (pos 0) ≡ false → ⊥
+some n e = subst T e tt
+
+-- ---- the text of a signed number, by the test
+
+below-text : (x : ℤ) (m : ℕ) → m ≡ mag x → ltZ x (pos 0) ≡ true → 45 ∷ decimal (m + 1) ≡ signed x
+unfolding signed
+below-text (pos k) m i e = absurd (none k e)
+below-text (negsuc k) m i e = rw (i, add-one k)
+
+above-text : (x : ℤ) (m : ℕ) → m ≡ mag x → ltZ x (pos 0) ≡ false → decimal m ≡ signed x
+unfolding signed
+above-text (pos k) m i e = rw i
+above-text (negsuc k) m i e = absurd (some k e)
+
+module _ {b : List ℕ} {n : ℕ} {b' : List ℕ} {n' : ℕ} (x : ℤ) (m : ℕ) (is : m ≡ mag x) where
+  pub below-wrote : {b'' : List ℕ} {n'' : ℕ} → ltZ x (pos 0) ≡ true → Wrote b n b' n' (45 ∷ []) 1 → Wrote b' n' b'' n''
+      (decimal (m + 1)) 20 → Wrote b n b'' n'' (signed x) 21
+  below-wrote e p q = rw (below-text x m is e) at (then p q)
+
+  pub above-wrote : ltZ x (pos 0) ≡ false → Wrote b n b' n' (decimal m) 20 → Wrote b n b' n' (signed x) 21
+  above-wrote e p = record {
+    bytes = p .bytes ∙ rw (above-text x m is e);
+    long = p .long ∙ rw (above-text x m is e);
+    most = omega (arith, p .most);
+  }

@@ -1,0 +1,61 @@
+use mathlib.Core.Path.{_≡_}
+use native.Mathlib.Omega.{arith}
+use lib.Signed.{mag}
+use mir.Facts.{toZ-ofZ}
+use Rattle.text_out.proofs.Sign.{below-wrote, above-wrote}
+use borrow.Author.Needs.{needs}
+use Rattle.text_out.proofs.put_signed.Statement.{statement}
+use Rattle.text_out.proofs.put_signed.Tie as tie
+use Rattle.text_out.proofs.put_signed.Reads as reads
+use Rattle.text_out.proofs.put_signed.Lts as lts
+use Rattle.text_out.proofs.put_byte.Reads as put-byte-reads
+use Rattle.text_out.proofs.put_number.Reads as put-number-reads
+
+put-byte-requires : tie.Need-put-byte-requires
+put-byte-requires c κs = search needs
+
+size-requires : tie.Need-size-requires
+size-requires c κs = search needs
+
+add-put-number : tie.Need-add-put-number
+add-put-number c =
+    let f = c .before .before .before .before .before .fits .x in
+    let e : c .size .result ≡ mag (c .before .before .before .before .before .args .x) = rw (toZ-ofZ f) at (c .size
+    .ensures) in
+    omega (arith, f .sfits)
+
+put-number-requires : tie.Need-put-number-requires
+put-number-requires c κs = search needs
+
+returns : tie.Need-returns
+returns c =
+    let s = c .before .before .before .before .before .before in
+    let f = s .fits .x in
+    below-wrote (s .args .x) _ (rw (toZ-ofZ f) at (c .before .size .ensures)) (rw (toZ-ofZ f) at (c .before .before
+    .before .before .before .if1 .taken)) (c .before .before .before .put-byte .ensures) (c .put-number .ensures)
+
+size-requires-2 : tie.Need-size-requires-2
+size-requires-2 c κs = search needs
+
+put-number-requires-2 : tie.Need-put-number-requires-2
+put-number-requires-2 c κs = search needs
+
+returns-2 : tie.Need-returns-2
+returns-2 c =
+    let s = c .before .before .before .before in
+    let f = s .fits .x in
+    above-wrote (s .args .x) _ (rw (toZ-ofZ f) at (c .before .size2 .ensures)) (rw (toZ-ofZ f) at (c .before .before
+    .before .if1 .left)) (c .put-number2 .ensures)
+
+pub put-signed-spec : {M : Type 1} → statement M
+put-signed-spec =
+    tie.close
+    (tie.spec
+    put-byte-requires
+    size-requires
+    add-put-number
+    put-number-requires
+    returns
+    size-requires-2
+    put-number-requires-2
+    returns-2)

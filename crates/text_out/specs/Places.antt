@@ -1,0 +1,13 @@
+-- What the code counts with where it spells a number: its last digits, and how many digits it has. Assumes nothing.
+use mathlib.Core.List.{List, [], _∷_, _++_}
+use Prim.Native.Nat.{ℕ, zero, suc, _+_, _-_, _/_, _%_, _^_, _≤_, _<_}
+use Rattle.text_protocol.specs.Bytes.{digitZero}
+
+-- the last k digits of n
+unfoldable pub last : ℕ → ℕ → List ℕ
+last zero n = []
+last (suc k) n = last k (n / 10) ++ ((digitZero + n % 10) ∷ [])
+
+-- k digits hold x, and no fewer do; 0 has one
+abbrev pub Places : ℕ → ℕ → Type 0
+Places x k = (0 < k) × (k ≤ 20) × (x < 10 ^ k) × (10 ^ (k - 1) ≤ x + (1 - x))

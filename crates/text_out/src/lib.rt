@@ -1,0 +1,111 @@
+// Text appended to a lent buffer: a byte, a number, a signed number. Nothing is copied: each function stores its bytes
+// in place and answers where they end.
+ghost use mathlib.Core.Path.{_≡_};
+ghost use mathlib.Core.List.{[], _∷_, _++_};
+ghost use Prim.Native.Nat.{_+_, _-_, _≤_, _<_, _^_};
+ghost use Rattle.text_protocol.specs.Numbers.{decimal, signed};
+ghost use Rattle.text_out.specs.Places.{Places};
+ghost use Rattle.text_out.specs.Wrote.{Wrote};
+use exact::size;
+
+// How many decimal digits x has.
+fn places(x: u64) -> usize
+    ensures { λ r. ⌜ Places x r ⌝ }
+{
+    if x < 10 {
+        return 1;
+    }
+    if x < 100 {
+        return 2;
+    }
+    if x < 1_000 {
+        return 3;
+    }
+    if x < 10_000 {
+        return 4;
+    }
+    if x < 100_000 {
+        return 5;
+    }
+    if x < 1_000_000 {
+        return 6;
+    }
+    if x < 10_000_000 {
+        return 7;
+    }
+    if x < 100_000_000 {
+        return 8;
+    }
+    if x < 1_000_000_000 {
+        return 9;
+    }
+    if x < 10_000_000_000 {
+        return 10;
+    }
+    if x < 100_000_000_000 {
+        return 11;
+    }
+    if x < 1_000_000_000_000 {
+        return 12;
+    }
+    if x < 10_000_000_000_000 {
+        return 13;
+    }
+    if x < 100_000_000_000_000 {
+        return 14;
+    }
+    if x < 1_000_000_000_000_000 {
+        return 15;
+    }
+    if x < 10_000_000_000_000_000 {
+        return 16;
+    }
+    if x < 100_000_000_000_000_000 {
+        return 17;
+    }
+    if x < 1_000_000_000_000_000_000 {
+        return 18;
+    }
+    if x < 10_000_000_000_000_000_000 {
+        return 19;
+    }
+    20
+}
+
+// One byte.
+pub fn put_byte(out: &mut [u8; 65536], len: usize, b: u8) -> usize
+    requires { ⌜ len + 1 ≤ 65536 ⌝ }
+    ensures { λ r. ⌜ Wrote (now (out .entry)) len (now (out .exit)) r (b ∷ []) 1 ⌝ }
+{
+    out[len] = b;
+    len + 1
+}
+
+// The decimal digits of x, the most significant first.
+pub fn put_number(out: &mut [u8; 65536], len: usize, x: u64) -> usize
+    requires { ⌜ len + 20 ≤ 65536 ⌝ }
+    ensures { λ r. ⌜ Wrote (now (out .entry)) len (now (out .exit)) r (decimal x) 20 ⌝ }
+{
+    let k = places(x);
+    let end = len + k;
+    let mut i = end;
+    let mut rest = x;
+    while len < i {
+        i -= 1;
+        out[i] = (48 + rest % 10) as u8;
+        rest = rest / 10;
+    }
+    end
+}
+
+// A minus where x is below 0, and its size in decimal.
+pub fn put_signed(out: &mut [u8; 65536], len: usize, x: i64) -> usize
+    requires { ⌜ len + 21 ≤ 65536 ⌝ }
+    ensures { λ r. ⌜ Wrote (now (out .entry)) len (now (out .exit)) r (signed x) 21 ⌝ }
+{
+    if x < 0 {
+        let n = put_byte(out, len, b'-');
+        return put_number(out, n, size(x) + 1);
+    }
+    put_number(out, len, size(x))
+}
