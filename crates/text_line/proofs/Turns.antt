@@ -1,0 +1,222 @@
+-- One turn of the loop over a line's words, on plain values: what is left of the words leads to the same meaning.
+-- Assumes nothing.
+use mathlib.Core.Path.{_≡_, refl, sym, ap, _∙_}
+use mathlib.Core.Bool.{Bool, true, false}
+use mathlib.Core.List.{List, [], _∷_, _++_}
+use Prim.Native.Nat.{ℕ, zero, suc, _+_, _-_, _≤_, _<_}
+use native.Mathlib.Omega.{arith}
+use lib.Dec.{leb, eqb}
+use lib.IntN.{ℤ}
+use lib.ListN.{length, take, drop, set, length-set, length-append}
+use lib.Seq.{take-all, take-take, take-append-le, length-take-le, take-suc-set}
+use borrow.Author.Tests.{le-leb, lt-leb, eq-eqb, ne-eqb}
+use Rattle.paper.specs.Lists.{pick}
+use Rattle.text_protocol.specs.declared.Item.{Item}
+use Rattle.text_protocol.specs.declared.Item.the-variants as item
+use Rattle.text_protocol.specs.declared.Pairs.{Pairs}
+use Rattle.text_protocol.specs.Bytes.{isBlank, run, words}
+use Rattle.text_protocol.specs.Names.{kindOf, takes, takesIn, forms}
+use Rattle.text_protocol.specs.Line.{Said, Nothing, NoCall, Call, noPairs, pairFits, withPair, more, Reading, read, spoilt, taking, onWith, finished, itemOf, fill, called, meaning}
+use Rattle.text_word.specs.Parts.{isSolid}
+use Rattle.text_word.proofs.Words.{words-part, words-end}
+use Rattle.text_line.specs.declared.Line.{Line}
+use Rattle.text_line.specs.declared.Taken.{Taken}
+use Rattle.text_line.specs.Heard.{blankLine, badLine, said, Heard, lineOf, Keeps, readingOf, Takes}
+
+-- ---- one number more
+
+pub keeps-room : (xs : List ℤ) (n : ℕ) (z : ℤ) → length xs ≡ 126 → n < 126 → Keeps xs n z (set xs n z) (n + 1)
+unfolding more
+keeps-room xs n z l h =
+    let f : n + 1 ≡ suc n = omega arith in
+    let i : n < length xs = omega arith in
+    let t : length (take n xs) ≡ n = length-take-le n xs (omega arith) in
+    let m : length (take n xs ++ (z ∷ [])) ≤ 126 = rw (length-append (take n xs) (z ∷ []), t) (omega arith) in
+    record {
+      are = rw (f, take-suc-set xs n z i, take-all 126 (take n xs ++ (z ∷ [])) m);
+      long = length-set xs n z ∙ l;
+      most = omega arith;
+    }
+
+pub keeps-full : (xs : List ℤ) (n : ℕ) (z : ℤ) → length xs ≡ 126 → n ≤ 126 → 126 ≤ n → Keeps xs n z xs n
+unfolding more
+keeps-full xs n z l m h =
+    let e : n ≡ 126 = omega arith in
+    let t : length (take n xs) ≡ n = length-take-le n xs (omega arith) in
+    let a : 126 ≤ length (take n xs) = omega arith in
+    record { are = sym (rw (take-append-le 126 (take n xs) (z ∷ []) a, take-take 126 n xs h, e)); long = l; most = m }
+
+-- ---- one word more
+
+module _ (k : ℕ) (xs : List ℤ) (n : ℕ) (p : Pairs) (w : Item) where
+  pub takes-one : (z : ℤ) (xs' : List ℤ) (n' : ℕ) → w ≡ item.One z → Keeps xs n z xs' n'
+      → Takes (taking k (take n xs) p w) (record { ok = true; count = n'; pairs = p }) xs'
+  unfolding taking readingOf
+  takes-one z xs' n' e q = record { are = rw (e, q .are); long = q .long; most = q .most }
+
+  pub takes-two : (ym yn : ℤ) (xs₁ : List ℤ) (n₁ : ℕ) (xs' : List ℤ) (n' : ℕ) (ps : Pairs) (fits : Bool) → w ≡ item.Two
+      ym yn → n ≤ length xs
+      → fits ≡ pairFits k n → fits ≡ true → ps ≡ withPair n p → Keeps xs n ym xs₁ n₁ → Keeps xs₁ n₁ yn xs' n'
+      → Takes (taking k (take n xs) p w) (record { ok = true; count = n'; pairs = ps }) xs'
+  unfolding taking readingOf
+  takes-two ym yn xs₁ n₁ xs' n' ps fits e l f t s q r =
+      record { are = rw (e, length-take-le n xs l, ← f, t, r .are, q .are, s); long = r .long; most = r .most }
+
+  module _ (r : Taken) (is : r ≡ record { ok = false; count = n; pairs = p }) (l : length xs ≡ 126) (m : n ≤ 126) where
+    spoils : taking k (take n xs) p w ≡ spoilt → Takes (taking k (take n xs) p w) r xs
+    unfolding readingOf
+    spoils e = rw (is, e) (record { are = refl; long = l; most = m })
+
+    pub takes-unfit : (ym yn : ℤ) (fits : Bool) → w ≡ item.Two ym yn → fits ≡ pairFits k n → fits ≡ false → Takes
+        (taking k (take n xs) p w) r xs
+    unfolding taking
+    takes-unfit ym yn fits e f t =
+        let o : n ≤ length xs = omega arith in
+        spoils (rw (e, length-take-le n xs o, ← f, t))
+
+    pub takes-neither : w ≡ item.Neither → Takes (taking k (take n xs) p w) r xs
+    unfolding taking
+    takes-neither e = spoils (rw e)
+
+-- ---- the words behind the call's
+
+pub record Filling (l : List ℕ) (k : ℕ) (goal : Said) (xs : List ℤ) (s n : ℕ) (p : Pairs) : Type 0 where
+  pub in-l : s ≤ length l
+  pub in-xs : n ≤ 126
+  pub long : length xs ≡ 126
+  pub rest : fill k (take n xs) p (words (drop s l)) ≡ goal
+
+pub filling-none : (l : List ℕ) (k : ℕ) (xs : List ℤ) (from : ℕ) (p : Pairs) → from ≤ length l → length xs ≡ 126 → p ≡
+    noPairs
+    → Filling l k (fill k [] noPairs (words (drop from l))) xs from 0 p
+filling-none l k xs from p h e q = record { in-l = h; in-xs = omega arith; long = e; rest = rw q }
+
+-- a kind of the table is none behind it
+takes-call : (k n : ℕ) → takes k n ≡ true → (0 < k) × (k ≤ 6)
+unfolding takes takesIn forms
+takes-call zero n e = let z : _≡_ {A = ℕ} 0 1 = cc in let y : ⊥ = omega arith in absurd y
+takes-call (suc zero) n e = (omega arith, omega arith)
+takes-call (suc (suc zero)) n e = (omega arith, omega arith)
+takes-call (suc (suc (suc zero))) n e = (omega arith, omega arith)
+takes-call (suc (suc (suc (suc zero)))) n e = (omega arith, omega arith)
+takes-call (suc (suc (suc (suc (suc zero))))) n e = (omega arith, omega arith)
+takes-call (suc (suc (suc (suc (suc (suc zero)))))) n e = (omega arith, omega arith)
+takes-call (suc (suc (suc (suc (suc (suc (suc k))))))) n e = let z : _≡_ {A = ℕ} 0 1 = cc in let y : ⊥ = omega arith in
+    absurd y
+
+apart : (k c : ℕ) → k ≤ 6 → 6 < c → k ≡ c → ⊥
+apart k c h g e = omega arith
+
+bad-says : (xs : List ℤ) → said badLine xs ≡ NoCall
+unfolding said
+bad-says xs = refl
+
+blank-says : (xs : List ℤ) → said blankLine xs ≡ Nothing
+unfolding said
+blank-says xs = refl
+
+module _ (l : List ℕ) (k : ℕ) (goal : Said) (xs : List ℤ) (s n : ℕ) (p : Pairs) (f : Filling l k goal xs s n p) (a : ℕ)
+    (skip : a ≡ s + run isBlank (drop s l)) where
+  pub filling-end : (r : Line) → length l ≤ a → r ≡ lineOf k n p → Heard goal r xs
+  unfolding fill finished said lineOf
+  filling-end r h e = rw e (by (takes k n) refl)
+    where
+      m : length (take n xs) ≡ n
+      m = length-take-le n xs (omega (arith, f .long, f .in-xs))
+
+      g : pick (takes k n) (Call k (take n xs) p) NoCall ≡ goal
+      g = rw m at (rw (words-end l s a skip h) at (f .rest))
+
+      by : (x : Bool) → takes k n ≡ x → Heard goal (pick x (record { kind = k; count = n; pairs = p }) badLine) xs
+      by true t =
+          let o = takes-call k n t in
+          let seven : k ≡ 7 → ⊥ = λ e. apart k 7 (o .1) (omega arith) e in
+          let eight : k ≡ 8 → ⊥ = λ e. apart k 8 (o .1) (omega arith) e in
+          record {
+            says = rw (ne-eqb k 7 seven, ne-eqb k 8 eight) (rw t at g);
+            long = f .long;
+            most = f .in-xs;
+            low = o .0;
+            high = omega (arith, o .1);
+          }
+      by false t = record {
+        says = rw t at g;
+        long = f .long;
+        most = omega arith;
+        low = omega arith;
+        high = omega arith;
+      }
+
+  module _ (e : ℕ) (h : a < length l) (word : e ≡ a + run isSolid (drop a l)) (xs' : List ℤ) (w : Item) (t : Taken)
+      (is : w ≡ itemOf (take (e - a) (drop a l))) (q : Takes (taking k (take n xs) p w) t xs') where
+    first : onWith (readingOf t xs') (λ zs ps. fill k zs ps (words (drop e l))) ≡ goal
+    unfolding fill
+    first = rw (q .are, is) (rw (words-part l s a skip e h word) at (f .rest))
+
+    pub filling-bad : (r : Line) → r ≡ badLine → t .ok ≡ false → Heard goal r xs'
+    unfolding readingOf onWith
+    filling-bad r b o = rw b (record {
+      says = bad-says xs' ∙ (rw o at first);
+      long = q .long;
+      most = omega arith;
+      low =
+          omega arith;
+      high = omega arith;
+    })
+
+    pub filling-more : e ≤ length l → t .ok ≡ true → Filling l k goal xs' e (t .count) (t .pairs)
+    unfolding readingOf onWith
+    filling-more i o = record { in-l = i; in-xs = q .most; long = q .long; rest = rw o at first }
+
+-- ---- the line
+
+pub long-line : (l : List ℕ) (r : Line) (xs : List ℤ) → length xs ≡ 126 → 65535 < length l → r ≡ badLine → Heard
+    (meaning l) r xs
+unfolding meaning
+long-line l r xs e h b = rw (b, lt-leb (length l) 65535 h) (record {
+  says = bad-says xs;
+  long = e;
+  most = omega arith;
+  low = omega arith;
+  high = omega arith;
+})
+
+module _ (l : List ℕ) (short : length l ≤ 65535) (a : ℕ) (skip : a ≡ 0 + run isBlank (drop 0 l)) where
+  pub blank-line : (r : Line) (xs : List ℤ) → length xs ≡ 126 → length l ≤ a → r ≡ blankLine → Heard (meaning l) r xs
+  unfolding meaning called
+  blank-line r xs e h b =
+      rw (b, le-leb (length l) 65535 short, words-end l 0 a skip h) (record {
+        says = blank-says xs;
+        long = e;
+        most =
+            omega arith;
+        low = omega arith;
+        high = omega arith;
+      })
+
+  module _ (e k : ℕ) (h : a < length l) (word : e ≡ a + run isSolid (drop a l)) (kind : k ≡ kindOf (take (e - a) (drop
+      a l))) where
+    meant : meaning l ≡ pick (eqb k 0) NoCall (fill k [] noPairs (words (drop e l)))
+    unfolding meaning called
+    meant = rw (le-leb (length l) 65535 short, words-part l 0 a skip e h word, ← kind)
+
+    pub no-call : (r : Line) (xs : List ℤ) → length xs ≡ 126 → k ≡ 0 → r ≡ badLine → Heard (meaning l) r xs
+    no-call r xs x z b = rw (b, meant, eq-eqb k 0 z) (record {
+      says = bad-says xs;
+      long = x;
+      most = omega arith;
+      low =
+          omega arith;
+      high = omega arith;
+    })
+
+    pub some-call : (r : Line) (xs : List ℤ) → (k ≡ 0 → ⊥) → Heard (fill k [] noPairs (words (drop e l))) r xs → Heard
+        (meaning l) r xs
+    some-call r xs z q = record {
+      says = q .says ∙ sym (meant ∙ rw (ne-eqb k 0 z));
+      long = q .long;
+      most = q .most;
+      low
+          = q .low;
+      high = q .high;
+    }

@@ -1,0 +1,86 @@
+use Rattle.text_line.proofs.Turns.{long-line, blank-line, no-call, some-call}
+use native.Mathlib.Omega.{arith}
+use mathlib.Core.Path.{_≡_, refl, sym, ap, _∙_}
+use borrow.Author.Needs.{needs}
+use Rattle.text_line.proofs.read_line.Statement.{statement}
+use Rattle.text_line.proofs.read_line.Tie as tie
+use Rattle.text_line.proofs.read_line.Reads as reads
+use Rattle.text_line.proofs.read_line.Lts as lts
+use Rattle.text_line.proofs.bad.Reads as bad-reads
+use Rattle.text_line.proofs.blank.Reads as blank-reads
+use Rattle.text_line.proofs.kind_of.Reads as kind-of-reads
+use Rattle.text_line.proofs.numbers.Reads as numbers-reads
+use Rattle.text_word.proofs.past_blanks.Reads as past-blanks-reads
+use Rattle.text_word.proofs.past_word.Reads as past-word-reads
+
+bad-requires : tie.Need-bad-requires
+bad-requires c κs = search needs
+
+returns : tie.Need-returns
+returns c = long-line _ _ _ (c .before .before .before .pre) (c .before .if1 .taken) (c .bad .ensures)
+
+past-blanks-requires : tie.Need-past-blanks-requires
+past-blanks-requires c κs = search needs
+
+blank-requires : tie.Need-blank-requires
+blank-requires c κs = search needs
+
+returns-2 : tie.Need-returns-2
+returns-2 c = blank-line _ (c .before .before .before .if1 .left) _ (c .before .before .past-blanks .ensures .0) _ _ (c
+    .before .before .before .before .before .pre) (omega (arith, c .before .if2 .taken)) (c .blank .ensures)
+
+past-word-requires : tie.Need-past-word-requires
+past-word-requires c κs = search needs
+
+sub-kind-of : tie.Need-sub-kind-of
+sub-kind-of c = search needs
+
+part-kind-of-start : tie.Need-part-kind-of-start
+part-kind-of-start c = search needs
+
+part-kind-of-end : tie.Need-part-kind-of-end
+part-kind-of-end c = search needs
+
+kind-of-requires : tie.Need-kind-of-requires
+kind-of-requires c κs = search needs
+
+bad-requires-2 : tie.Need-bad-requires-2
+bad-requires-2 c κs = search needs
+
+returns-3 : tie.Need-returns-3
+returns-3 c = no-call _ (c .before .before .before .before .before .before .before .if1 .left) _ (c .before .before
+    .before .before .before .before .past-blanks .ensures .0) _ _ (omega arith) (c .before .before .before .before
+    .past-word .ensures .0) (c .before .before .kind-of .ensures) _ _ (c .before .before .before .before .before
+    .before .before .before .before .pre) (c .before .if3 .taken) (c .bad2 .ensures)
+
+numbers-requires : tie.Need-numbers-requires
+numbers-requires c κs = search needs
+
+same-length : tie.Need-same-length
+same-length c = search needs
+
+returns-4 : tie.Need-returns-4
+returns-4 c = some-call _ (c .before .before .before .before .before .before .before .before .before .if1 .left) _ (c
+    .before .before .before .before .before .before .before .before .past-blanks .ensures .0) _ _ (omega arith) (c
+    .before .before .before .before .before .before .past-word .ensures .0) (c .before .before .before .before .kind-of
+    .ensures) _ _ (c .before .before .before .if3 .left) (c .before .numbers .ensures)
+
+pub read-line-spec : {M : Type 1} → statement M
+read-line-spec =
+    tie.close
+    (tie.spec
+    bad-requires
+    returns
+    past-blanks-requires
+    blank-requires
+    returns-2
+    past-word-requires
+    sub-kind-of
+    part-kind-of-start
+    part-kind-of-end
+    kind-of-requires
+    bad-requires-2
+    returns-3
+    numbers-requires
+    same-length
+    returns-4)

@@ -1,0 +1,39 @@
+use Rattle.text_line.proofs.Table.{takes-none}
+use Rattle.text_protocol.specs.Names.{takes, takesIn, countFits, forms, admitNames, evaluateNames, quoteNames, moveNames, readNames, interestNames}
+use mathlib.Core.Path.{_≡_, refl, sym, ap, _∙_}
+use Rattle.text_line.proofs.takes.Statement.{statement}
+use Rattle.text_line.proofs.takes.Tie as tie
+use Rattle.text_line.proofs.takes.Reads as reads
+use Rattle.text_line.proofs.takes.Lts as lts
+
+returns : tie.Need-returns
+unfolding takes takesIn countFits forms admitNames evaluateNames quoteNames moveNames readNames interestNames
+returns c = rw (c .match .keys1)
+
+returns-2 : tie.Need-returns-2
+unfolding takes takesIn countFits forms admitNames evaluateNames quoteNames moveNames readNames interestNames
+returns-2 c = rw (c .match .keys2)
+
+returns-3 : tie.Need-returns-3
+unfolding takes takesIn countFits forms admitNames evaluateNames quoteNames moveNames readNames interestNames
+returns-3 c = rw (c .match .keys3)
+
+returns-4 : tie.Need-returns-4
+unfolding takes takesIn countFits forms admitNames evaluateNames quoteNames moveNames readNames interestNames
+returns-4 c = rw (c .match .keys4)
+
+returns-5 : tie.Need-returns-5
+unfolding takes takesIn countFits forms admitNames evaluateNames quoteNames moveNames readNames interestNames
+returns-5 c = rw (c .match .keys5)
+
+returns-6 : tie.Need-returns-6
+unfolding takes takesIn countFits forms admitNames evaluateNames quoteNames moveNames readNames interestNames
+returns-6 c = rw (c .match .keys6)
+
+returns-7 : tie.Need-returns-7
+returns-7 c = let r = c .match .rest in takes-none _ _ (r .0 .0 .0 .0 .0 .1) (r .0 .0 .0 .0 .1) (r .0 .0 .0 .1) (r .0
+    .0 .1) (r .0 .1) (r .1)
+
+pub takes-spec : {M : Type 1} → statement M
+takes-spec =
+    tie.close (tie.spec returns returns-2 returns-3 returns-4 returns-5 returns-6 returns-7)

@@ -1,0 +1,60 @@
+-- What the code's answer and the lent numbers say of a line. Assumes nothing.
+use mathlib.Core.Path.{_≡_}
+use mathlib.Core.Bool.{Bool, true, false}
+use mathlib.Core.List.{List, [], _∷_, _++_}
+use Prim.Native.Nat.{ℕ, _≤_, _<_}
+use lib.Dec.{eqb}
+use lib.IntN.{ℤ}
+use lib.ListN.{length, take}
+use Rattle.paper.specs.Lists.{pick}
+use Rattle.text_protocol.specs.declared.Pairs.{Pairs}
+use Rattle.text_protocol.specs.Names.{takes}
+use Rattle.text_protocol.specs.Line.{Said, Nothing, NoCall, Call, Reading, read, spoilt, noPairs, more}
+use Rattle.text_line.specs.declared.Line.{Line}
+use Rattle.text_line.specs.declared.Taken.{Taken}
+
+-- the kinds behind those of the calls
+abbrev pub blankKind : ℕ
+blankKind = 7
+
+abbrev pub badKind : ℕ
+badKind = 8
+
+abbrev pub blankLine : Line
+blankLine = record { kind = blankKind; count = 0; pairs = noPairs }
+
+abbrev pub badLine : Line
+badLine = record { kind = badKind; count = 0; pairs = noPairs }
+
+unfoldable pub said : Line → List ℤ → Said
+said l xs =
+    pick (eqb (l .kind) blankKind) Nothing
+    (pick (eqb (l .kind) badKind) NoCall (Call (l .kind) (take (l .count) xs) (l .pairs)))
+
+-- the reader's promise: the line says s, its numbers are the first of xs, xs is as long as it was, and the kind is one
+-- of the eight
+pub record Heard (s : Said) (l : Line) (xs : List ℤ) : Type 0 where
+  pub says : said l xs ≡ s
+  pub long : length xs ≡ 126
+  pub most : l .count ≤ 126
+  pub low : 0 < l .kind
+  pub high : l .kind ≤ badKind
+
+-- a call of so many numbers, where it takes so many
+unfoldable pub lineOf : (kind count : ℕ) → Pairs → Line
+lineOf k n p = pick (takes k n) (record { kind = k; count = n; pairs = p }) badLine
+
+-- one number more among those that are kept
+pub record Keeps (xs : List ℤ) (n : ℕ) (z : ℤ) (xs' : List ℤ) (n' : ℕ) : Type 0 where
+  pub are : take n' xs' ≡ more (take n xs) z
+  pub long : length xs' ≡ 126
+  pub most : n' ≤ 126
+
+-- what is read with a word more
+unfoldable pub readingOf : Taken → List ℤ → Reading
+readingOf r xs = pick (r .ok) (read (take (r .count) xs) (r .pairs)) spoilt
+
+pub record Takes (goal : Reading) (r : Taken) (xs : List ℤ) : Type 0 where
+  pub are : readingOf r xs ≡ goal
+  pub long : length xs ≡ 126
+  pub most : r .count ≤ 126

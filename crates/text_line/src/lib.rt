@@ -1,0 +1,268 @@
+// What a line of the evening's text says: its call, with the numbers in a lent array.
+ghost use mathlib.Core.Path.{_≡_};
+ghost use mathlib.Core.Bool.{false};
+ghost use mathlib.Core.List.{[]};
+ghost use Prim.Native.Nat.{_≤_};
+ghost use lib.ListN.{length, take, drop};
+ghost use Rattle.text_protocol.specs.Bytes.{words};
+ghost use Rattle.text_protocol.specs.Names.{kindOf, takes};
+ghost use Rattle.text_protocol.specs.Line.{noPairs, pairFits, withPair, taking, fill, meaning};
+ghost use Rattle.text_line.specs.Heard.{blankLine, badLine, Heard, lineOf, Keeps, Takes};
+use text_protocol::Item;
+use text_protocol::Pairs;
+use text_word::item_of;
+use text_word::past_blanks;
+use text_word::past_word;
+use text_word::same_bytes;
+
+// The numbers that a line keeps: the thirteen of `evaluate` and its row figures, with one figure more than a day may
+// have.
+pub const KEPT: usize = 126;
+
+// A line of more bytes is no call.
+pub const LONGEST: usize = 65_535;
+
+// The places of the three numbers RRCL of `evaluate`, where a pair may stand.
+const FIRST_LOW: usize = 5;
+
+const SECOND_LOW: usize = 8;
+
+const THIRD_LOW: usize = 11;
+
+// What a line says. A call's numbers are the first `count` of the lent array.
+pub struct Line {
+    pub kind: u64,
+    pub count: usize,
+    pub pairs: Pairs,
+}
+
+impl Line {
+    pub const ADMIT: u64 = 1;
+
+    pub const EVALUATE: u64 = 2;
+
+    pub const QUOTE: u64 = 3;
+
+    pub const MOVE: u64 = 4;
+
+    pub const READ: u64 = 5;
+
+    pub const INTEREST: u64 = 6;
+
+    // No call: a line with no word, and one that says no call.
+    pub const BLANK: u64 = 7;
+
+    pub const BAD: u64 = 8;
+}
+
+// ---- the kinds of lines
+
+fn no_pairs() -> Pairs
+    ensures { λ r. ⌜ r ≡ noPairs ⌝ }
+{
+    Pairs {
+        first: false,
+        second: false,
+        third: false,
+    }
+}
+
+fn blank() -> Line
+    ensures { λ r. ⌜ r ≡ blankLine ⌝ }
+{
+    Line {
+        kind: Line::BLANK,
+        count: 0,
+        pairs: no_pairs(),
+    }
+}
+
+pub fn bad() -> Line
+    ensures { λ r. ⌜ r ≡ badLine ⌝ }
+{
+    Line {
+        kind: Line::BAD,
+        count: 0,
+        pairs: no_pairs(),
+    }
+}
+
+// Which call a word is, 0 where it is no call's.
+fn kind_of(p: &[u8]) -> u64
+    ensures { λ r. ⌜ r ≡ kindOf (now (p .entry)) ⌝ }
+{
+    if same_bytes(p, b"admit") {
+        return Line::ADMIT;
+    }
+    if same_bytes(p, b"evaluate") {
+        return Line::EVALUATE;
+    }
+    if same_bytes(p, b"quote") {
+        return Line::QUOTE;
+    }
+    if same_bytes(p, b"move") {
+        return Line::MOVE;
+    }
+    if same_bytes(p, b"read") {
+        return Line::READ;
+    }
+    if same_bytes(p, b"interest") {
+        return Line::INTEREST;
+    }
+    0
+}
+
+// Whether a call of the kind has so many numbers: `evaluate` may have row figures besides, and `interest` key
+// maturities.
+fn takes(kind: u64, count: usize) -> bool
+    ensures { λ r. ⌜ r ≡ takes kind count ⌝ }
+{
+    match kind {
+        1 => count == 28,
+        2 => 13 <= count,
+        3 => count == 5,
+        4 => count == 2,
+        5 => count == 1,
+        6 => 14 <= count,
+        _ => false,
+    }
+}
+
+fn finish(kind: u64, count: usize, pairs: Pairs) -> Line
+    ensures { λ r. ⌜ r ≡ lineOf kind count pairs ⌝ }
+{
+    if takes(kind, count) {
+        return Line { kind, count, pairs };
+    }
+    bad()
+}
+
+// ---- the numbers of a call
+
+// A pair stands in an evaluation alone, in place of a term's RRCL RRCH.
+fn pair_fits(kind: u64, n: usize) -> bool
+    ensures { λ r. ⌜ r ≡ pairFits kind n ⌝ }
+{
+    if kind != Line::EVALUATE {
+        return false;
+    }
+    if n == FIRST_LOW {
+        return true;
+    }
+    if n == SECOND_LOW {
+        return true;
+    }
+    n == THIRD_LOW
+}
+
+fn with_pair(n: usize, p: Pairs) -> Pairs
+    ensures { λ r. ⌜ r ≡ withPair n p ⌝ }
+{
+    Pairs {
+        first: p.first | (n == FIRST_LOW),
+        second: p.second | (n == SECOND_LOW),
+        third: p.third | (n == THIRD_LOW),
+    }
+}
+
+// A number more, kept where there is room for it.
+fn keep(xs: &mut [i64], n: usize, z: i64) -> usize
+    requires { ⌜ (length (now xs) ≡ 126) × (n ≤ 126) ⌝ }
+    ensures { λ r. ⌜ Keeps (now (xs .entry)) n z (now (xs .exit)) r ⌝ }
+{
+    if n < KEPT {
+        xs[n] = z;
+        return n + 1;
+    }
+    n
+}
+
+// What is read of a call's numbers: how many, and which of them are pairs; or that something is in no call.
+pub struct Taken {
+    pub ok: bool,
+    pub count: usize,
+    pub pairs: Pairs,
+}
+
+fn spoilt(count: usize, pairs: Pairs) -> Taken
+    ensures { λ r. ⌜ r ≡ record { ok = false; count = count; pairs = pairs } ⌝ }
+{
+    Taken {
+        ok: false,
+        count,
+        pairs,
+    }
+}
+
+// A word more.
+fn take_word(xs: &mut [i64], kind: u64, n: usize, pairs: Pairs, w: Item) -> Taken
+    requires { ⌜ (length (now xs) ≡ 126) × (n ≤ 126) ⌝ }
+    ensures { λ r. ⌜ Takes (taking kind (take n (now (xs .entry))) pairs w) r (now (xs .exit)) ⌝ }
+{
+    match w {
+        Item::One(z) => Taken {
+            ok: true,
+            count: keep(xs, n, z),
+            pairs,
+        },
+        Item::Two(ym, yn) => {
+            if pair_fits(kind, n) {
+                let half = keep(xs, n, ym);
+                let count = keep(xs, half, yn);
+                return Taken {
+                    ok: true,
+                    count,
+                    pairs: with_pair(n, pairs),
+                };
+            }
+            spoilt(n, pairs)
+        }
+        Item::Neither => spoilt(n, pairs),
+    }
+}
+
+// The words from `from` on, behind the call's.
+fn numbers(l: &[u8], from: usize, kind: u64, xs: &mut [i64]) -> Line
+    requires { ⌜ (from ≤ length (now l)) × (length (now xs) ≡ 126) ⌝ }
+    ensures { λ r. ⌜ Heard (fill kind [] noPairs (words (drop from (now (l .entry))))) r (now (xs .exit)) ⌝ }
+{
+    let mut s = from;
+    let mut n: usize = 0;
+    let mut pairs = no_pairs();
+    loop {
+        let a = past_blanks(l, s);
+        if a == l.len() {
+            return finish(kind, n, pairs);
+        }
+        let e = past_word(l, a);
+        let t = take_word(xs, kind, n, pairs, item_of(&l[a..e]));
+        let ok = t.ok;
+        if !ok {
+            return bad();
+        }
+        n = t.count;
+        let p = t.pairs;
+        pairs = p;
+        s = e;
+    }
+}
+
+// What a line says.
+pub fn read_line(l: &[u8], xs: &mut [i64]) -> Line
+    requires { ⌜ length (now xs) ≡ 126 ⌝ }
+    ensures { λ r. ⌜ Heard (meaning (now (l .entry))) r (now (xs .exit)) ⌝ }
+{
+    if LONGEST < l.len() {
+        return bad();
+    }
+    let a = past_blanks(l, 0);
+    if a == l.len() {
+        return blank();
+    }
+    let e = past_word(l, a);
+    let kind = kind_of(&l[a..e]);
+    if kind == 0 {
+        return bad();
+    }
+    numbers(l, e, kind, xs)
+}

@@ -1,0 +1,145 @@
+-- What a word behind the call's is, on plain values. A word that spells a number has no slash. Assumes nothing.
+use mathlib.Core.Path.{_≡_, refl, sym, ap, _∙_}
+use mathlib.Core.Bool.{Bool, true, false, _&&_, not}
+use mathlib.Core.List.{List, [], _∷_}
+use Prim.Native.Nat.{ℕ, zero, suc, _+_, _-_, _*_, _≤_, _<_}
+use native.Mathlib.Omega.{arith}
+use lib.Dec.{leb, ltb, eqb}
+use lib.IntN.{ℤ}
+use lib.ListN.{length, take, drop, length-drop}
+use lib.Seq.{take-all}
+use borrow.Author.Tests.{leb-true, lt-ltb, le-ltb, eqb-true, ne-eqb}
+use Rattle.paper.specs.Lists.{pick}
+use Rattle.text_protocol.specs.declared.Number.{Number}
+use Rattle.text_protocol.specs.declared.Number.the-variants as number
+use Rattle.text_protocol.specs.declared.Size.{Size}
+use Rattle.text_protocol.specs.declared.Size.the-variants as size
+use Rattle.text_protocol.specs.declared.Item.{Item}
+use Rattle.text_protocol.specs.declared.Item.the-variants as item
+use Rattle.text_protocol.specs.Bytes.{isNot, run}
+use Rattle.text_protocol.specs.Numbers.{isDigit, sizeFrom, sizeOf, upTo, above, below, numberOf, slashAt}
+use Rattle.text_protocol.specs.Line.{oneOf, twoOf, itemOf}
+
+-- ---- a number has no slash
+
+digit-no-slash : (b : ℕ) → isDigit b ≡ true → isNot 47 b ≡ true
+unfolding isDigit isNot
+digit-no-slash b e = ap not (ne-eqb b 47 (λ q. apart (leb-true 48 b (first (leb 48 b) (leb b 57) e)) q))
+  where
+    first : (x y : Bool) → (x && y) ≡ true → x ≡ true
+    first true y h = refl
+    first false y h = h
+
+    apart : 48 ≤ b → b ≡ 47 → ⊥
+    apart h q = omega arith
+
+size-no-slash : (n : ℕ) (t : List ℕ) (m : ℕ) → sizeFrom n t ≡ size.Is m → run (isNot 47) t ≡ length t
+unfolding sizeFrom run
+size-no-slash n [] m e = refl
+size-no-slash n (b ∷ t) m e = go (isDigit b) refl e (λ h. size-no-slash (10 * n + (b - 48)) t m h)
+  where
+    go : (x : Bool) → isDigit b ≡ x → pick x (sizeFrom (10 * n + (b - 48)) t) size.Bad ≡ size.Is m
+        → (sizeFrom (10 * n + (b - 48)) t ≡ size.Is m → run (isNot 47) t ≡ length t)
+        → pick (isNot 47 b) (suc (run (isNot 47) t)) 0 ≡ suc (length t)
+    go true d h f = rw (digit-no-slash b d) (ap suc (f h))
+    go false d h f = let z : _≡_ {A = ℕ} 0 1 = cc in let y : ⊥ = omega arith in absurd y
+
+upTo-is : (most : ℕ) (s : Size) (m : ℕ) → upTo most s ≡ size.Is m → s ≡ size.Is m
+unfolding upTo
+upTo-is most size.Bad m e = e
+upTo-is most (size.Is n) m e = go (leb n most) e
+  where
+    go : (x : Bool) → pick x (size.Is n) size.Bad ≡ size.Is m → size.Is n ≡ size.Is m
+    go true h = h
+    go false h = let z : _≡_ {A = ℕ} 0 1 = cc in let y : ⊥ = omega arith in absurd y
+
+-- what is a number has a size
+pub record Sized (s : Size) : Type 0 where
+  pub count : ℕ
+  pub is : s ≡ size.Is count
+
+above-sized : (s : Size) (z : ℤ) → above s ≡ number.Is z → Sized s
+unfolding above
+above-sized (size.Is n) z e = record { count = n; is = refl }
+above-sized size.Bad z e = let q : _≡_ {A = ℕ} 0 1 = cc in let y : ⊥ = omega arith in absurd y
+
+below-sized : (s : Size) (z : ℤ) → below s ≡ number.Is z → Sized s
+unfolding below
+below-sized (size.Is zero) z e = record { count = 0; is = refl }
+below-sized (size.Is (suc n)) z e = record { count = suc n; is = refl }
+below-sized size.Bad z e = let q : _≡_ {A = ℕ} 0 1 = cc in let y : ⊥ = omega arith in absurd y
+
+sized-no-slash : (most : ℕ) (t : List ℕ) → Sized (upTo most (sizeOf t)) → run (isNot 47) t ≡ length t
+unfolding sizeOf run
+sized-no-slash most [] s = refl
+sized-no-slash most (b ∷ t) s = size-no-slash 0 (b ∷ t) (s .count) (upTo-is most (sizeFrom 0 (b ∷ t)) (s .count) (s
+    .is))
+
+minus-no-slash : (b : ℕ) → eqb b 45 ≡ true → isNot 47 b ≡ true
+unfolding isNot
+minus-no-slash b e = ap not (ne-eqb b 47 (apart (eqb-true b 45 e)))
+  where
+    apart : b ≡ 45 → b ≡ 47 → ⊥
+    apart p q = omega arith
+
+minus-first : (b : ℕ) (t : List ℕ) → eqb b 45 ≡ true → run (isNot 47) t ≡ length t → run (isNot 47) (b ∷ t) ≡ suc
+    (length t)
+unfolding run
+minus-first b t d h = rw (minus-no-slash b d) (ap suc h)
+
+number-no-slash : (w : List ℕ) (z : ℤ) → numberOf w ≡ number.Is z → slashAt w ≡ length w
+unfolding numberOf slashAt
+number-no-slash [] z e = let q : _≡_ {A = ℕ} 0 1 = cc in let y : ⊥ = omega arith in absurd y
+number-no-slash (b ∷ t) z e = go (eqb b 45) refl e
+  where
+    go : (x : Bool) → eqb b 45 ≡ x → pick x (below (upTo 9223372036854775808 (sizeOf t))) (above (upTo
+        9223372036854775807 (sizeOf (b ∷ t)))) ≡ number.Is z
+        → run (isNot 47) (b ∷ t) ≡ suc (length t)
+    go true d h = minus-first b t d (sized-no-slash 9223372036854775808 t (below-sized (upTo 9223372036854775808
+        (sizeOf t)) z h))
+    go false d h = sized-no-slash 9223372036854775807 (b ∷ t) (above-sized (upTo 9223372036854775807 (sizeOf (b ∷ t)))
+        z h)
+
+-- ---- the pair
+
+pub first-bad : (x y : Number) → x ≡ number.Bad → item.Neither ≡ twoOf x y
+unfolding twoOf
+first-bad x y e = rw e
+
+module _ (x y : Number) (m : ℤ) (e : x ≡ number.Is m) where
+  pub second-bad : y ≡ number.Bad → item.Neither ≡ twoOf x y
+  unfolding twoOf
+  second-bad f = rw (e, f)
+
+  pub two-numbers : (n : ℤ) → y ≡ number.Is n → item.Two m n ≡ twoOf x y
+  unfolding twoOf
+  two-numbers n f = rw (e, f)
+
+-- what stands behind the slash
+pub behind : (p : List ℕ) (from : ℕ) → take (length p - from) (drop from p) ≡ drop from p
+behind p from = take-all (length p - from) (drop from p) (rw (length-drop from p) (omega arith))
+
+-- ---- the word
+
+module _ (w : List ℕ) where
+  pub item-one : (z : ℤ) → numberOf w ≡ number.Is z → item.One z ≡ itemOf w
+  unfolding itemOf oneOf
+  item-one z e =
+      let s : slashAt w ≡ length w = number-no-slash w z e in
+      let h : length w ≤ slashAt w = omega arith in
+      rw (le-ltb (slashAt w) (length w) h, e)
+
+  module _ (at : ℕ) (is : at ≡ 0 + run (isNot 47) (drop 0 w)) where
+    found : at ≡ slashAt w
+    unfolding slashAt
+    found = omega (arith, is)
+
+    pub item-two : at < length w → itemOf w ≡ twoOf (numberOf (take at w)) (numberOf (drop (at + 1) w))
+    unfolding itemOf
+    item-two h =
+        let f : at + 1 ≡ suc at = omega arith in
+        rw (← found, lt-ltb at (length w) h, f)
+
+    pub item-neither : numberOf w ≡ number.Bad → length w ≤ at → item.Neither ≡ itemOf w
+    unfolding itemOf oneOf
+    item-neither e h = rw (← found, le-ltb at (length w) h, e)

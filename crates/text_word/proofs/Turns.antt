@@ -1,0 +1,249 @@
+-- One turn of each loop over a line, on plain values. Assumes nothing.
+use mathlib.Core.Path.{_≡_, refl, sym, ap, _∙_}
+use mathlib.Core.Bool.{Bool, true, false, _&&_, _||_, not}
+use mathlib.Core.List.{List, [], _∷_, _++_}
+use Prim.Native.Nat.{ℕ, zero, suc, _+_, _-_, _*_, _^_, _≤_, _<_}
+use native.Mathlib.Omega.{arith}
+use lib.Dec.{leb, eqb}
+use lib.ListN.{length, take, drop, getD, set, length-set, length-append, drop-of-length-le}
+use lib.Seq.{drop-cons, length-take-le, take-suc-set}
+use lib.IntN.{ℤ, pos, negsuc, _-ℤ_}
+use mir.Syntax.{w64}
+use mir.Val.{SFits, toZ, ofZ}
+use mir.ValLaws.{toZ-pos}
+use mir.Facts.{toZ-ofZ}
+use borrow.Author.Tests.{leb-true, le-leb, lt-leb, eq-eqb, ne-eqb}
+use Rattle.paper.specs.Lists.{pick}
+use Rattle.text_protocol.specs.declared.Number.{Number}
+use Rattle.text_protocol.specs.declared.Number.the-variants as number
+use Rattle.text_protocol.specs.declared.Size.{Size}
+use Rattle.text_protocol.specs.declared.Size.the-variants as size
+use Rattle.text_protocol.specs.Bytes.{run, same}
+use Rattle.text_protocol.specs.Numbers.{isDigit, sizeFrom, sizeOf, upTo, above, below, numberOf}
+use Rattle.text_word.specs.Parts.{Capped}
+
+-- ---- a run of bytes that pass a test
+
+pub record Running (q : ℕ → Bool) (t : List ℕ) (from i : ℕ) : Type 0 where
+  pub in-t : i ≤ length t
+  pub rest : i + run q (drop i t) ≡ from + run q (drop from t)
+
+pub running-none : (q : ℕ → Bool) (t : List ℕ) (from : ℕ) → from ≤ length t → Running q t from from
+running-none q t from h = record { in-t = h; rest = refl }
+
+module _ (q : ℕ → Bool) (t : List ℕ) (from i : ℕ) (p : Running q t from i) where
+  pub running-more : i < length t → q (getD t i 0) ≡ true → Running q t from (i + 1)
+  unfolding run
+  running-more h e =
+      let f : i + 1 ≡ suc i = omega arith in
+      let r : i + suc (run q (drop (suc i) t)) ≡ from + run q (drop from t) = rw (drop-cons t i 0 h, e) at (p .rest) in
+      record { in-t = omega arith; rest = rw f (omega (arith, r)) }
+
+  pub running-stop : i < length t → q (getD t i 0) ≡ false → (i ≡ from + run q (drop from t)) × (i ≤ length t)
+  unfolding run
+  running-stop h e =
+      let r : i + 0 ≡ from + run q (drop from t) = rw (drop-cons t i 0 h, e) at (p .rest) in
+      (omega (arith, r), p .in-t)
+
+  pub running-all : length t ≤ i → (i ≡ from + run q (drop from t)) × (i ≤ length t)
+  unfolding run
+  running-all h =
+      let r : i + 0 ≡ from + run q (drop from t) = rw (drop-of-length-le t h) at (p .rest) in
+      (omega (arith, r), p .in-t)
+
+-- ---- digits
+
+yes-digit : (b : ℕ) → 48 ≤ b → b ≤ 57 → isDigit b ≡ true
+unfolding isDigit
+yes-digit b h k = rw (le-leb 48 b h, le-leb b 57 k)
+
+low-digit : (b : ℕ) → b < 48 → isDigit b ≡ false
+unfolding isDigit
+low-digit b h = rw (lt-leb 48 b h)
+
+high-digit : (b : ℕ) → 57 < b → isDigit b ≡ false
+unfolding isDigit
+high-digit b h = let k : 48 ≤ b = omega arith in rw (le-leb 48 b k, lt-leb b 57 h)
+
+-- above hi the reading ends in Bad, whatever follows
+number-over : (hi n : ℕ) (t : List ℕ) → hi < n → upTo hi (sizeFrom n t) ≡ size.Bad
+unfolding sizeFrom upTo
+number-over hi n [] h = rw (lt-leb n hi h)
+number-over hi n (b ∷ t) h = go (isDigit b) (number-over hi (10 * n + (b - 48)) t (omega arith))
+  where
+    go : (x : Bool) → upTo hi (sizeFrom (10 * n + (b - 48)) t) ≡ size.Bad → upTo hi (pick x (sizeFrom (10 * n + (b -
+        48)) t) size.Bad) ≡ size.Bad
+    go true e = e
+    go false e = refl
+
+pub record Counting (t : List ℕ) (hi : ℕ) (goal : Size) (i x : ℕ) : Type 0 where
+  pub in-t : i ≤ length t
+  pub below : x ≤ hi
+  pub rest : upTo hi (sizeFrom x (drop i t)) ≡ goal
+
+pub counting-none : (t : List ℕ) (from hi : ℕ) → from ≤ length t → Counting t hi (upTo hi (sizeFrom 0 (drop from t)))
+    from 0
+counting-none t from hi h = record { in-t = h; below = omega arith; rest = refl }
+
+module _ (t : List ℕ) (hi : ℕ) (goal : Size) (i x : ℕ) (p : Counting t hi goal i x) (h : i < length t) (b : ℕ) (e : b ≡
+    getD t i 0) where
+  here : upTo hi (pick (isDigit b) (sizeFrom (10 * x + (b - 48)) (drop (suc i) t)) size.Bad) ≡ goal
+  unfolding sizeFrom
+  here = rw e (rw (drop-cons t i 0 h) at (p .rest))
+
+  pub counting-low : b < 48 → size.Bad ≡ goal
+  unfolding upTo
+  counting-low q = rw (low-digit b q) at here
+
+  pub counting-high : 57 < b → size.Bad ≡ goal
+  unfolding upTo
+  counting-high q = rw (high-digit b q) at here
+
+  pub counting-over : 48 ≤ b → b ≤ 57 → hi < 10 * x + (b - 48) → size.Bad ≡ goal
+  counting-over lo up o = sym (number-over hi (10 * x + (b - 48)) (drop (suc i) t) o) ∙ (rw (yes-digit b lo up) at here)
+
+  pub counting-more : 48 ≤ b → b ≤ 57 → 10 * x + (b - 48) ≤ hi → Counting t hi goal (i + 1) (10 * x + (b - 48))
+  counting-more lo up o =
+      let f : i + 1 ≡ suc i = omega arith in
+      record { in-t = omega arith; below = o; rest = rw f (rw (yes-digit b lo up) at here) }
+
+pub counting-all : (t : List ℕ) (hi : ℕ) (goal : Size) (i x : ℕ) → Counting t hi goal i x → length t ≤ i → size.Is x ≡
+    goal
+unfolding sizeFrom upTo
+counting-all t hi goal i x p h = rw (le-leb x hi (p .below)) at (rw (drop-of-length-le t h) at (p .rest))
+
+-- ---- signs
+
+turned : (n : ℕ) → negsuc 0 -ℤ pos n ≡ negsuc n
+turned zero = refl
+turned (suc n) = ap negsuc (omega arith)
+
+turned-fits : (n : ℕ) → n < 2 ^ 63 → SFits w64 (negsuc 0 -ℤ pos n)
+turned-fits n h = rw (turned n) (record { sfits = omega arith })
+
+module _ (v : ℕ) (n : Size) (e : n ≡ size.Is v) where
+  pub capped-is : (hi : ℕ) → Capped hi n → v ≤ hi
+  unfolding Capped
+  capped-is hi h = rw e at h
+
+  pub plus-fits : Capped 9223372036854775807 n → SFits w64 (pos v)
+  plus-fits h = record { sfits = omega (arith, capped-is 9223372036854775807 h) }
+
+  pub plus-is : Capped 9223372036854775807 n → number.Is (toZ w64 v) ≡ above n
+  unfolding above
+  plus-is h = rw (e, toZ-pos w64 v (omega (arith, capped-is 9223372036854775807 h)))
+
+  pub minus-zero : v ≡ 0 → number.Is (pos 0) ≡ below n
+  unfolding below
+  minus-zero z = rw (e, z)
+
+  pub less-fits : Capped 9223372036854775808 n → 0 < v → SFits w64 (pos (v - 1))
+  less-fits h z = record { sfits = omega (arith, capped-is 9223372036854775808 h) }
+
+  pub turned-of : Capped 9223372036854775808 n → 0 < v → SFits w64 (negsuc 0 -ℤ toZ w64 (v - 1))
+  turned-of h z =
+      let l : v - 1 < 2 ^ 63 = omega (arith, capped-is 9223372036854775808 h) in
+      rw (toZ-pos w64 (v - 1) l) (turned-fits (v - 1) l)
+
+  pub minus-is : Capped 9223372036854775808 n → 0 < v → number.Is (toZ w64 (ofZ w64 (negsuc 0 -ℤ toZ w64 (v - 1)))) ≡
+      below n
+  unfolding below
+  minus-is h z =
+      let l : v - 1 < 2 ^ 63 = omega (arith, capped-is 9223372036854775808 h) in
+      let o : v ≡ suc (v - 1) = omega arith in
+      rw (toZ-pos w64 (v - 1) l, toZ-ofZ (turned-fits (v - 1) l), turned (v - 1), e) (by (v - 1) o)
+    where
+      by : (m : ℕ) → v ≡ suc m → number.Is (negsuc m) ≡ below (size.Is v)
+      by m o = rw o
+
+pub bad-plus : (n : Size) → n ≡ size.Bad → number.Bad ≡ above n
+unfolding above
+bad-plus n e = rw e
+
+pub bad-minus : (n : Size) → n ≡ size.Bad → number.Bad ≡ below n
+unfolding below
+bad-minus n e = rw e
+
+pub capped : (hi : ℕ) (x n : Size) → n ≡ upTo hi x → Capped hi n
+unfolding Capped upTo
+capped hi size.Bad n e = rw e tt
+capped hi (size.Is v) n e = rw e (go (leb v hi) refl)
+  where
+    go : (b : Bool) → leb v hi ≡ b → Capped hi (pick b (size.Is v) size.Bad)
+    go true q = leb-true v hi q
+    go false q = tt
+
+-- ---- a word that is a sizeFrom
+
+pub signed-none : (t : List ℕ) → length t ≡ 0 → number.Bad ≡ numberOf t
+unfolding numberOf
+signed-none [] h = refl
+signed-none (b ∷ t) h = let z : ⊥ = omega arith in absurd z
+
+pub signed-bare : (t : List ℕ) → getD t 0 0 ≡ 45 → length t ≡ 1 → number.Bad ≡ numberOf t
+unfolding numberOf sizeOf upTo below
+signed-bare [] e h = refl
+signed-bare (b ∷ []) e h = rw (eq-eqb b 45 e)
+signed-bare (b ∷ d ∷ t) e h = let z : ⊥ = omega arith in absurd z
+
+pub signed-minus : (t : List ℕ) (r : Number) (n : Size) → getD t 0 0 ≡ 45 → (length t ≡ 0 → ⊥) → (length t ≡ 1 → ⊥) → n
+    ≡ upTo 9223372036854775808 (sizeFrom 0 (drop 1 t)) → r ≡ below n → r ≡ numberOf t
+unfolding numberOf sizeOf
+signed-minus [] r n e o h q s = absurd (o refl)
+signed-minus (b ∷ []) r n e o h q s = absurd (h refl)
+signed-minus (b ∷ d ∷ t) r n e o h q s = rw (eq-eqb b 45 e, ← q) s
+
+pub signed-plus : (t : List ℕ) (r : Number) (n : Size) → (getD t 0 0 ≡ 45 → ⊥) → (length t ≡ 0 → ⊥) → n ≡ upTo
+    9223372036854775807 (sizeFrom 0 (drop 0 t)) → r ≡ above n → r ≡ numberOf t
+unfolding numberOf sizeOf
+signed-plus [] r n e o q s = absurd (o refl)
+signed-plus (b ∷ t) r n e o q s = rw (ne-eqb b 45 e, ← q) s
+
+-- ---- two words
+
+pub record Matching (p w : List ℕ) (i : ℕ) : Type 0 where
+  pub in-p : i ≤ length p
+  pub long : length p ≡ length w
+  pub rest : same (drop i p) (drop i w) ≡ same p w
+
+pub same-long : (p w : List ℕ) → (length p ≡ length w → ⊥) → false ≡ same p w
+unfolding same
+same-long [] [] n = absurd (n refl)
+same-long [] (c ∷ w) n = refl
+same-long (b ∷ p) [] n = refl
+same-long (b ∷ p) (c ∷ w) n = go (eqb b c) (same-long p w (λ e. n (ap suc e)))
+  where
+    go : (x : Bool) → false ≡ same p w → false ≡ pick x (same p w) false
+    go true e = e
+    go false e = refl
+
+module _ (p w : List ℕ) (i : ℕ) (m : Matching p w i) where
+  pub matching-not : i < length p → (getD p i 0 ≡ getD w i 0 → ⊥) → false ≡ same p w
+  unfolding same
+  matching-not h n =
+      let k : i < length w = omega (arith, m .long) in
+      rw (drop-cons p i 0 h, drop-cons w i 0 k, ne-eqb (getD p i 0) (getD w i 0) n) at (m .rest)
+
+  pub matching-more : i < length p → getD p i 0 ≡ getD w i 0 → Matching p w (i + 1)
+  unfolding same
+  matching-more h e =
+      let k : i < length w = omega (arith, m .long) in
+      let f : i + 1 ≡ suc i = omega arith in
+      record {
+        in-p = omega arith;
+        long = m .long;
+        rest = rw f (rw (
+          drop-cons p i 0 h,
+          drop-cons w i 0 k,
+          eq-eqb (getD
+              p i 0) (getD w i 0) e,
+        ) at (m .rest));
+      }
+
+  pub matching-all : length p ≤ i → true ≡ same p w
+  unfolding same
+  matching-all h = let k : length w ≤ i = omega (arith, m .long) in rw (drop-of-length-le p h, drop-of-length-le w k)
+      at (m .rest)
+
+pub matching-none : (p w : List ℕ) → length p ≡ length w → Matching p w 0
+matching-none p w e = record { in-p = omega arith; long = e; rest = refl }

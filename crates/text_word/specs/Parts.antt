@@ -1,0 +1,15 @@
+-- What the code finds its way with in a line. Assumes nothing.
+use mathlib.Core.Bool.{Bool, not}
+use Prim.Native.Nat.{ℕ, _≤_}
+use Rattle.text_protocol.specs.declared.Size.{Size}
+use Rattle.text_protocol.specs.declared.Size.the-variants as size
+use Rattle.text_protocol.specs.Bytes.{isBlank}
+
+-- a byte of a word
+unfoldable pub isSolid : ℕ → Bool
+isSolid b = not (isBlank b)
+
+-- a size that is at most `most`
+unfoldable pub Capped : ℕ → Size → Type 0
+Capped most (size.Is n) = n ≤ most
+Capped most size.Bad = Unit {0}

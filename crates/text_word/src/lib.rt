@@ -1,0 +1,207 @@
+// The words of a line, lent: where they begin and end, and which number a word spells.
+ghost use mathlib.Core.Path.{_≡_};
+ghost use Prim.Native.Nat.{_+_, _≤_, _<_, _^_};
+ghost use lib.ListN.{length, take, drop};
+ghost use Rattle.text_protocol.specs.Bytes.{isBlank, isNot, run, same};
+ghost use Rattle.text_protocol.specs.Numbers.{sizeFrom, upTo, above, below, numberOf};
+ghost use Rattle.text_protocol.specs.Line.{twoOf, itemOf};
+ghost use Rattle.text_word.specs.Parts.{isSolid, Capped};
+use text_protocol::Item;
+use text_protocol::Number;
+use text_protocol::Size;
+
+// The sizes of the greatest and of the least number of 64 bits with a sign.
+const GREATEST: u64 = 9_223_372_036_854_775_807;
+
+const LEAST: u64 = 9_223_372_036_854_775_808;
+
+// The greatest number that takes one digit more and may still be within them.
+const ROOM: u64 = 922_337_203_685_477_580;
+
+// ---- where words begin and end
+
+// A space, a tab and a carriage return part words.
+fn is_blank(b: u8) -> bool
+    ensures { λ r. ⌜ r ≡ isBlank b ⌝ }
+{
+    if b == b' ' {
+        return true;
+    }
+    if b == b'\t' {
+        return true;
+    }
+    b == b'\r'
+}
+
+// The end of the blanks from `from` on.
+pub fn past_blanks(l: &[u8], from: usize) -> usize
+    requires { ⌜ from ≤ length (now l) ⌝ }
+    ensures { λ r. ⌜ (r ≡ from + run isBlank (drop from (now (l .entry)))) × (r ≤ length (now (l .entry))) ⌝ }
+{
+    let mut i = from;
+    while i < l.len() {
+        if !is_blank(l[i]) {
+            return i;
+        }
+        i += 1;
+    }
+    i
+}
+
+// The end of the word from `from` on.
+pub fn past_word(l: &[u8], from: usize) -> usize
+    requires { ⌜ from ≤ length (now l) ⌝ }
+    ensures { λ r. ⌜ (r ≡ from + run isSolid (drop from (now (l .entry)))) × (r ≤ length (now (l .entry))) ⌝ }
+{
+    let mut i = from;
+    while i < l.len() {
+        if is_blank(l[i]) {
+            return i;
+        }
+        i += 1;
+    }
+    i
+}
+
+// Where the first byte b stands from `from` on, or the end.
+pub fn find(l: &[u8], from: usize, b: u8) -> usize
+    requires { ⌜ from ≤ length (now l) ⌝ }
+    ensures { λ r. ⌜ (r ≡ from + run (isNot b) (drop from (now (l .entry)))) × (r ≤ length (now (l .entry))) ⌝ }
+{
+    let mut i = from;
+    while i < l.len() {
+        if l[i] == b {
+            return i;
+        }
+        i += 1;
+    }
+    i
+}
+
+// Whether two words are the same, byte by byte.
+pub fn same_bytes(p: &[u8], w: &[u8]) -> bool
+    ensures { λ r. ⌜ r ≡ same (now (p .entry)) (now (w .entry)) ⌝ }
+{
+    if p.len() != w.len() {
+        return false;
+    }
+    let mut i = 0;
+    while i < p.len() {
+        if p[i] != w[i] {
+            return false;
+        }
+        i += 1;
+    }
+    true
+}
+
+// ---- numbers
+
+fn wide(b: u8) -> u64
+    ensures { λ r. ⌜ r ≡ b ⌝ }
+{
+    b as u64
+}
+
+// The size that the bytes from `from` on spell, unless it is above `most`.
+fn number_from(p: &[u8], from: usize, most: u64) -> Size
+    requires { ⌜ (from ≤ length (now p)) × (most < 2 ^ 63 + 1) ⌝ }
+    ensures { λ r. ⌜ r ≡ upTo most (sizeFrom 0 (drop from (now (p .entry)))) ⌝ }
+{
+    let mut i = from;
+    let mut x: u64 = 0;
+    while i < p.len() {
+        let b = wide(p[i]);
+        if b < 48 {
+            return Size::Bad;
+        }
+        if 57 < b {
+            return Size::Bad;
+        }
+        if ROOM < x {
+            return Size::Bad;
+        }
+        let y = 10 * x + (b - 48);
+        if most < y {
+            return Size::Bad;
+        }
+        x = y;
+        i += 1;
+    }
+    Size::Is(x)
+}
+
+// A size below zero.
+fn below(n: Size) -> Number
+    requires { ⌜ Capped 9223372036854775808 n ⌝ }
+    ensures { λ r. ⌜ r ≡ below n ⌝ }
+{
+    match n {
+        Size::Is(x) => {
+            if x == 0 {
+                return Number::Is(0);
+            }
+            let y = (x - 1) as i64;
+            Number::Is(-1 - y)
+        }
+        Size::Bad => Number::Bad,
+    }
+}
+
+fn above(n: Size) -> Number
+    requires { ⌜ Capped 9223372036854775807 n ⌝ }
+    ensures { λ r. ⌜ r ≡ above n ⌝ }
+{
+    match n {
+        Size::Is(x) => Number::Is(x as i64),
+        Size::Bad => Number::Bad,
+    }
+}
+
+// The number that a word spells: digits, behind a minus or none.
+pub fn number_of(p: &[u8]) -> Number
+    ensures { λ r. ⌜ r ≡ numberOf (now (p .entry)) ⌝ }
+{
+    if p.len() == 0 {
+        return Number::Bad;
+    }
+    if p[0] == b'-' {
+        if p.len() == 1 {
+            return Number::Bad;
+        }
+        return below(number_from(p, 1, LEAST));
+    }
+    above(number_from(p, 0, GREATEST))
+}
+
+// The two numbers of a pair Ym/Yn, whose slash stands at `at`.
+fn pair_at(p: &[u8], at: usize) -> Item
+    requires { ⌜ at < length (now p) ⌝ }
+    ensures { λ r. ⌜ r ≡ twoOf (numberOf (take at (now (p .entry)))) (numberOf (drop (at + 1) (now (p .entry)))) ⌝ }
+{
+    let first = number_of(&p[..at]);
+    let Number::Is(m) = first else {
+        return Item::Neither;
+    };
+    let from = at + 1;
+    let second = number_of(&p[from..]);
+    let Number::Is(n) = second else {
+        return Item::Neither;
+    };
+    Item::Two(m, n)
+}
+
+// What a word behind the call's is. A word that is a number has no slash, so the slash is looked for where it is none.
+pub fn item_of(p: &[u8]) -> Item
+    ensures { λ r. ⌜ r ≡ itemOf (now (p .entry)) ⌝ }
+{
+    let whole = number_of(p);
+    if let Number::Is(z) = whole {
+        return Item::One(z);
+    }
+    let at = find(p, 0, b'/');
+    if at < p.len() {
+        return pair_at(p, at);
+    }
+    Item::Neither
+}
