@@ -1,0 +1,36 @@
+use Rattle.paper.specs.Ranges.{natural}
+use Rattle.paper.specs.declared.Band.the-variants as band
+use Rattle.text_protocol.specs.Calls.{bandOf}
+use mir.Facts.{toZ-ofZ}
+use mir.Syntax.{w64}
+use mathlib.Core.Path.{_≡_, refl, sym, ap, _∙_}
+use borrow.Author.Needs.{needs}
+use Rattle.text_call.proofs.band_of.Statement.{statement}
+use Rattle.text_call.proofs.band_of.Tie as tie
+use Rattle.text_call.proofs.band_of.Reads as reads
+use Rattle.text_call.proofs.band_of.Lts as lts
+use Rattle.exact.proofs.natural.Reads as natural-reads
+use Rattle.text_kept.proofs.found.Reads as found-reads
+
+natural-requires : tie.Need-natural-requires
+natural-requires c κs = search needs
+
+natural-requires-2 : tie.Need-natural-requires-2
+natural-requires-2 c κs = search needs
+
+found-requires : tie.Need-found-requires
+found-requires c κs = search needs
+
+returns : tie.Need-returns
+unfolding bandOf
+returns c = let low = rw (toZ-ofZ (c .before .before .before .before .fits .low)) at (c .before .before .natural
+    .ensures) in let high = rw (toZ-ofZ (c .before .before .before .before .fits .high)) at (c .before .natural2
+    .ensures) in rw (c .before .before .before .if1 .taken, c .found .ensures, low, high)
+
+returns-2 : tie.Need-returns-2
+unfolding bandOf
+returns-2 c = rw (c .if1 .left, toZ-ofZ (c .before .fits .low), toZ-ofZ (c .before .fits .high))
+
+pub band-of-spec : {M : Type 1} → statement M
+band-of-spec =
+    tie.close (tie.spec natural-requires natural-requires-2 found-requires returns returns-2)

@@ -1,0 +1,111 @@
+use mir.Syntax.{w64}
+use mir.Facts.{toZ-ofZ}
+use Rattle.text_protocol.specs.Names.{the, placeOf, interestNames, code}
+use Rattle.text_protocol.specs.Calls.{interestOf}
+use mathlib.Core.Path.{_≡_}
+use borrow.Author.Needs.{needs}
+use Rattle.text_call.proofs.interest_of.Statement.{statement}
+use Rattle.text_call.proofs.interest_of.Tie as tie
+use Rattle.text_call.proofs.interest_of.Reads as reads
+use Rattle.text_call.proofs.interest_of.Lts as lts
+use Rattle.text_call.proofs.natural_at.Reads as natural-at-reads
+use Rattle.text_call.proofs.number_at.Reads as number-at-reads
+
+natural-at-requires : tie.Need-natural-at-requires
+natural-at-requires c κs = search needs
+
+natural-at-requires-2 : tie.Need-natural-at-requires-2
+natural-at-requires-2 c κs = search needs
+
+natural-at-requires-3 : tie.Need-natural-at-requires-3
+natural-at-requires-3 c κs = search needs
+
+natural-at-requires-4 : tie.Need-natural-at-requires-4
+natural-at-requires-4 c κs = search needs
+
+natural-at-requires-5 : tie.Need-natural-at-requires-5
+natural-at-requires-5 c κs = search needs
+
+natural-at-requires-6 : tie.Need-natural-at-requires-6
+natural-at-requires-6 c κs = search needs
+
+natural-at-requires-7 : tie.Need-natural-at-requires-7
+natural-at-requires-7 c κs = search needs
+
+natural-at-requires-8 : tie.Need-natural-at-requires-8
+natural-at-requires-8 c κs = search needs
+
+natural-at-requires-9 : tie.Need-natural-at-requires-9
+natural-at-requires-9 c κs = search needs
+
+natural-at-requires-10 : tie.Need-natural-at-requires-10
+natural-at-requires-10 c κs = search needs
+
+natural-at-requires-11 : tie.Need-natural-at-requires-11
+natural-at-requires-11 c κs = search needs
+
+natural-at-requires-12 : tie.Need-natural-at-requires-12
+natural-at-requires-12 c κs = search needs
+
+number-at-requires : tie.Need-number-at-requires
+number-at-requires c κs = search needs
+
+number-at-requires-2 : tie.Need-number-at-requires-2
+number-at-requires-2 c κs = search needs
+
+returns : tie.Need-returns
+unfolding interestOf the placeOf interestNames code
+returns c =
+    let c1 = c .before in
+    let c2 = c1 .before in
+    let c3 = c2 .before in
+    let c4 = c3 .before in
+    let c5 = c4 .before in
+    let c6 = c5 .before in
+    let c7 = c6 .before in
+    let c8 = c7 .before in
+    let c9 = c8 .before in
+    let c10 = c9 .before in
+    let c11 = c10 .before in
+    let c12 = c11 .before in
+    let c13 = c12 .before in
+    let money = toZ-ofZ {w = w64} {z = c1 .number-at .result} (search needs) in
+    let secrate = toZ-ofZ {w = w64} {z = c .number-at2 .result} (search needs) in
+    rw (
+      money,
+      secrate,
+      c13 .natural-at .ensures,
+      c12 .natural-at2 .ensures,
+      c11 .natural-at3 .ensures,
+      c10 .natural-at4 .ensures,
+      c9 .natural-at5 .ensures,
+      c8 .natural-at6 .ensures,
+      c7 .natural-at7 .ensures,
+      c6 .natural-at8 .ensures,
+      c5 .natural-at9 .ensures,
+      c4 .natural-at10 .ensures,
+      c3 .natural-at11 .ensures,
+      c2 .natural-at12 .ensures,
+      c1 .number-at .ensures,
+      c .number-at2 .ensures,
+    )
+
+pub interest-of-spec : {M : Type 1} → statement M
+interest-of-spec =
+    tie.close
+    (tie.spec
+    natural-at-requires
+    natural-at-requires-2
+    natural-at-requires-3
+    natural-at-requires-4
+    natural-at-requires-5
+    natural-at-requires-6
+    natural-at-requires-7
+    natural-at-requires-8
+    natural-at-requires-9
+    natural-at-requires-10
+    natural-at-requires-11
+    natural-at-requires-12
+    number-at-requires
+    number-at-requires-2
+    returns)

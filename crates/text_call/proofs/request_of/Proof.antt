@@ -1,0 +1,125 @@
+use Rattle.text_call.proofs.LineCalls.{admit-line, evaluate-line, quote-line, move-line, read-line, other-line}
+use borrow.Author.Needs.{needs}
+use Rattle.text_call.proofs.request_of.Statement.{statement}
+use Rattle.text_call.proofs.request_of.Tie as tie
+use Rattle.text_call.proofs.request_of.Reads as reads
+use Rattle.text_call.proofs.request_of.Lts as lts
+use Rattle.text_call.proofs.admission_of.Reads as admission-of-reads
+use Rattle.text_call.proofs.asked_of.Reads as asked-of-reads
+use Rattle.text_call.proofs.natural_at.Reads as natural-at-reads
+use Rattle.text_call.proofs.no_admission.Reads as no-admission-reads
+use Rattle.text_call.proofs.no_day.Reads as no-day-reads
+use Rattle.text_call.proofs.no_quote.Reads as no-quote-reads
+use Rattle.text_call.proofs.of_id.Reads as of-id-reads
+use Rattle.text_call.proofs.quote_of.Reads as quote-of-reads
+
+admission-of-requires : tie.Need-admission-of-requires
+admission-of-requires c κs = search needs
+
+no-day-requires : tie.Need-no-day-requires
+no-day-requires c κs = search needs
+
+no-quote-requires : tie.Need-no-quote-requires
+no-quote-requires c κs = search needs
+
+returns : tie.Need-returns
+returns c = admit-line _ _ _ _ _ _ _ (c .before .before .before .if1 .taken) (c .before .before .admission-of .ensures)
+
+natural-at-requires : tie.Need-natural-at-requires
+natural-at-requires c κs = search needs
+
+no-admission-requires : tie.Need-no-admission-requires
+no-admission-requires c κs = search needs
+
+asked-of-requires : tie.Need-asked-of-requires
+asked-of-requires c κs = search needs
+
+no-quote-requires-2 : tie.Need-no-quote-requires-2
+no-quote-requires-2 c κs = search needs
+
+returns-2 : tie.Need-returns-2
+returns-2 c = evaluate-line _ _ _ _ _ _ _ _ (c .before .before .before .before .if2 .taken) (c .before .before .before
+    .natural-at .ensures) (c .before .asked-of .ensures)
+
+natural-at-requires-2 : tie.Need-natural-at-requires-2
+natural-at-requires-2 c κs = search needs
+
+quote-of-requires : tie.Need-quote-of-requires
+quote-of-requires c κs = search needs
+
+of-id-requires : tie.Need-of-id-requires
+of-id-requires c κs = search needs
+
+returns-3 : tie.Need-returns-3
+returns-3 c = quote-line _ _ _ _ _ _ _ _ (c .of-id .ensures) (c .before .before .before .if3 .taken) (c .before .before
+    .natural-at2 .ensures) (c .before .quote-of .ensures)
+
+natural-at-requires-3 : tie.Need-natural-at-requires-3
+natural-at-requires-3 c κs = search needs
+
+no-quote-requires-3 : tie.Need-no-quote-requires-3
+no-quote-requires-3 c κs = search needs
+
+natural-at-requires-4 : tie.Need-natural-at-requires-4
+natural-at-requires-4 c κs = search needs
+
+of-id-requires-2 : tie.Need-of-id-requires-2
+of-id-requires-2 c κs = search needs
+
+returns-4 : tie.Need-returns-4
+returns-4 c = move-line _ _ _ _ _ _ _ _ (c .of-id2 .ensures) (c .before .before .before .before .if4 .taken) (c .before
+    .before .before .natural-at3 .ensures) (c .before .natural-at4 .ensures)
+
+natural-at-requires-5 : tie.Need-natural-at-requires-5
+natural-at-requires-5 c κs = search needs
+
+no-quote-requires-4 : tie.Need-no-quote-requires-4
+no-quote-requires-4 c κs = search needs
+
+of-id-requires-3 : tie.Need-of-id-requires-3
+of-id-requires-3 c κs = search needs
+
+returns-5 : tie.Need-returns-5
+returns-5 c = read-line _ _ _ _ _ _ _ _ (c .of-id3 .ensures) (c .before .before .before .if5 .taken) (c .before .before
+    .natural-at5 .ensures)
+
+no-quote-requires-5 : tie.Need-no-quote-requires-5
+no-quote-requires-5 c κs = search needs
+
+of-id-requires-4 : tie.Need-of-id-requires-4
+of-id-requires-4 c κs = search needs
+
+returns-6 : tie.Need-returns-6
+returns-6 c = other-line _ _ _ _ _ _ (c .of-id4 .ensures) (c .before .before .before .before .before .before .if1
+    .left) (c .before .before .before .before .before .if2 .left) (c .before .before .before .before .if3 .left) (c
+    .before .before .before .if4 .left) (c .before .before .if5 .left)
+
+pub request-of-spec : {M : Type 1} → statement M
+request-of-spec =
+    tie.close
+    (tie.spec
+    admission-of-requires
+    no-day-requires
+    no-quote-requires
+    returns
+    natural-at-requires
+    no-admission-requires
+    asked-of-requires
+    no-quote-requires-2
+    returns-2
+    natural-at-requires-2
+    quote-of-requires
+    of-id-requires
+    returns-3
+    natural-at-requires-3
+    no-quote-requires-3
+    natural-at-requires-4
+    of-id-requires-2
+    returns-4
+    natural-at-requires-5
+    no-quote-requires-4
+    of-id-requires-3
+    returns-5
+    no-quote-requires-5
+    of-id-requires-4
+    returns-6)

@@ -1,0 +1,50 @@
+use mir.Facts.{toZ-ofZ}
+use mir.Syntax.{w64}
+use mathlib.Core.Path.{_≡_, refl, sym, ap, _∙_}
+use borrow.Author.Needs.{needs}
+use Rattle.text_call.proofs.term_of.Statement.{statement}
+use Rattle.text_call.proofs.term_of.Tie as tie
+use Rattle.text_call.proofs.term_of.Reads as reads
+use Rattle.text_call.proofs.term_of.Lts as lts
+use Rattle.text_call.proofs.band_of.Reads as band-of-reads
+use Rattle.text_call.proofs.natural_at.Reads as natural-at-reads
+use Rattle.text_call.proofs.number_at.Reads as number-at-reads
+
+natural-at-requires : tie.Need-natural-at-requires
+natural-at-requires c κs = search needs
+
+add-number-at : tie.Need-add-number-at
+add-number-at c = search needs
+
+number-at-requires : tie.Need-number-at-requires
+number-at-requires c κs = search needs
+
+add-number-at-2 : tie.Need-add-number-at-2
+add-number-at-2 c = search needs
+
+number-at-requires-2 : tie.Need-number-at-requires-2
+number-at-requires-2 c κs = search needs
+
+band-of-requires : tie.Need-band-of-requires
+band-of-requires c κs = search needs
+
+returns : tie.Need-returns
+returns c = let low = toZ-ofZ {w = w64} {z = c .before .before .number-at .result} (search needs) in let high = toZ-ofZ
+    {w = w64} {z = c .before .number-at2 .result} (search needs) in rw (
+      c .before .before .before .natural-at .ensures,
+      (rw (low, high) at (c .band-of .ensures)),
+      c .before .before .number-at .ensures,
+      c .before .number-at2 .ensures,
+    )
+
+pub term-of-spec : {M : Type 1} → statement M
+term-of-spec =
+    tie.close
+    (tie.spec
+    natural-at-requires
+    add-number-at
+    number-at-requires
+    add-number-at-2
+    number-at-requires-2
+    band-of-requires
+    returns)

@@ -1,0 +1,84 @@
+-- The call of document 01 that a request is. Assumes nothing.
+use mathlib.Core.List.{List}
+use lib.Dec.{eqb}
+use lib.IntN.{ℤ, pos}
+use Prim.Native.Nat.{ℕ}
+use Rattle.paper.specs.declared.Admission.{Admission}
+use Rattle.paper.specs.declared.Quote.{Quote}
+use Rattle.paper.specs.declared.Band.the-variants as band
+use Rattle.paper.specs.declared.AskedTerm.{AskedTerm}
+use Rattle.paper.specs.declared.AskedDay.{AskedDay}
+use Rattle.paper.specs.Lists.{pick}
+use Rattle.paper.specs.Terms.{dayOf}
+use Rattle.paper.specs.Desk.{Call, admit, evaluate, quote, move, read}
+use Rattle.text_protocol.specs.declared.Kept.{Kept}
+use Rattle.text_protocol.specs.declared.Pairs.{Pairs}
+use Rattle.text_protocol.specs.Names.{ID, SIDE, evaluateNames, quoteNames, moveNames, readNames, admitKind, evaluateKind, quoteKind, moveKind, readKind}
+use Rattle.text_protocol.specs.Calls.{naturalOf, admissionOf, quoteOf, askedOf, figuresOf}
+use Rattle.text_call.specs.declared.Request.{Request}
+
+abbrev pub requestCall : Request → List ℤ → Call
+requestCall c rows =
+    pick (eqb (c .kind) admitKind) (admit (c .admission))
+    (pick (eqb (c .kind) evaluateKind) (evaluate (c .id) (dayOf (c .day)) rows)
+    (pick (eqb (c .kind) quoteKind) (quote (c .id) (c .quote))
+    (pick (eqb (c .kind) moveKind) (move (c .id) (c .side)) (read (c .id)))))
+
+-- ---- what a request leaves empty
+
+abbrev pub noAdmission : Admission
+noAdmission =
+    record {
+      id = 0;
+      day = 0;
+      p1 = 0;
+      p2 = 0;
+      s = 0;
+      tentative = 0;
+      given =
+          record {
+            lot = 0;
+            h = 0;
+            q = 0;
+            aup = 0;
+            adown = 0;
+            wait = 0;
+            rh1 = 0;
+            rh2 = 0;
+            rh3 = 0;
+            liq = 0;
+            min1 = 0;
+            min2 = 0;
+            min3 = 0;
+            smax = 0;
+            xpr = 0;
+            shift = 0;
+            pchmax = 0;
+            pclmax = 0;
+            w = 0;
+            u = 0;
+            monitoring = 0;
+            ewma = 0;
+          };
+    }
+
+abbrev pub noTerm : AskedTerm
+noTerm = record { k = 0; band = band.Given (record { low = pos 0; high = pos 0 }) }
+
+abbrev pub noDay : AskedDay
+noDay = record { day = 0; b = 0; m = 0; first = noTerm; second = noTerm; third = noTerm }
+
+abbrev pub noQuote : Quote
+noQuote = record { second = 0; term = 0; bid = 0; ask = 0 }
+
+-- ---- the call of a line of a kind, of the numbers zs and the pairs p: a line that is no call of the desk is a read
+-- of id 0
+
+unfoldable pub lineCall : Kept → (kind : ℕ) → List ℤ → Pairs → Call
+lineCall k kind zs p =
+    pick (eqb kind admitKind) (admit (admissionOf zs))
+    (pick (eqb kind evaluateKind) (evaluate (naturalOf evaluateNames zs ID) (dayOf (askedOf k zs p)) (figuresOf
+    evaluateNames zs))
+    (pick (eqb kind quoteKind) (quote (naturalOf quoteNames zs ID) (quoteOf zs))
+    (pick (eqb kind moveKind) (move (naturalOf moveNames zs ID) (naturalOf moveNames zs SIDE))
+    (pick (eqb kind readKind) (read (naturalOf readNames zs ID)) (read 0)))))

@@ -1,0 +1,63 @@
+-- `text_kept::found` meets its contract: the first of the three tests that passes. Assumes nothing.
+use mathlib.Core.Path.{sym, _∙_}
+use Rattle.text_protocol.specs.Kept.{foundIn}
+use borrow.Author.Needs.{needs}
+use Rattle.text_kept.proofs.found.Statement.{statement}
+use Rattle.text_kept.proofs.found.Tie as tie
+
+is-of-requires : tie.Need-is-of-requires
+is-of-requires c κs = search needs
+
+returns : tie.Need-returns
+unfolding foundIn
+returns c = rw (sym (c .before .before .is-of .ensures) ∙ c .before .if1 .taken)
+
+is-of-requires-2 : tie.Need-is-of-requires-2
+is-of-requires-2 c κs = search needs
+
+returns-2 : tie.Need-returns-2
+unfolding foundIn
+returns-2 c =
+    rw (
+      sym (c .before .before .before .before .before .is-of .ensures) ∙ c .before .before .before .before .if1 .left,
+      sym (c .before .before .is-of2 .ensures) ∙ c .before .if2 .taken,
+    )
+
+is-of-requires-3 : tie.Need-is-of-requires-3
+is-of-requires-3 c κs = search needs
+
+returns-3 : tie.Need-returns-3
+unfolding foundIn
+returns-3 c =
+    rw (
+      sym (c .before .before .before .before .before .before .before .before .is-of .ensures)
+          ∙ c .before .before .before .before .before .before .before .if1 .left,
+      sym (c .before .before .before .before .before .is-of2 .ensures) ∙ c .before .before .before .before .if2 .left,
+      sym (c .before .before .is-of3 .ensures) ∙ c .before .if3 .taken,
+    )
+
+unknown-requires : tie.Need-unknown-requires
+unknown-requires c κs = search needs
+
+returns-4 : tie.Need-returns-4
+unfolding foundIn
+returns-4 c =
+    rw (
+      sym (c .before .before .before .before .before .before .before .before .is-of .ensures)
+          ∙ c .before .before .before .before .before .before .before .if1 .left,
+      sym (c .before .before .before .before .before .is-of2 .ensures) ∙ c .before .before .before .before .if2 .left,
+      sym (c .before .before .is-of3 .ensures) ∙ c .before .if3 .left,
+    ) (c .unknown .ensures)
+
+pub found-spec : {M : Type 1} → statement M
+found-spec =
+    tie.close
+    (tie.spec
+    is-of-requires
+    returns
+    is-of-requires-2
+    returns-2
+    is-of-requires-3
+    returns-3
+    unknown-requires
+    returns-4)
