@@ -1,0 +1,248 @@
+-- The next line of the input, however it came to stand in the buffer. Assumes nothing.
+use mathlib.Core.Path.{_≡_, refl, sym, ap, _∙_}
+use mathlib.Core.Logic.{_⊎_, ⊎-elim, inl, inr}
+use mathlib.Core.Bool.{Bool, true, false, not}
+use mathlib.Core.List.{List, [], _∷_, _++_, append-nil, append-assoc}
+use Prim.Native.Nat.{ℕ, zero, suc, _+_, _-_, _≤_, _<_}
+use native.Mathlib.Omega.{arith}
+use lib.Dec.{eqb}
+use lib.IntN.{ℤ}
+use lib.ListN.{length, take, drop, getD, length-append, length-drop}
+use lib.Seq.{split-at, take-take, drop-drop, length-take-le}
+use borrow.Author.Tests.{eqb-true, eqb-false}
+use Rattle.paper.specs.Lists.{pick}
+use Rattle.text_protocol.specs.Bytes.{lineFeed, isNot, run}
+use Rattle.text_protocol.specs.Line.{meaning}
+use Rattle.text_line.specs.declared.Line.{Line}
+use Rattle.text_line.specs.Heard.{badLine, Heard as Said}
+use Rattle.text_line.proofs.Turns.{long-line}
+use Rattle.text_input.specs.declared.Input.{Input}
+use Rattle.text_input.specs.declared.Passed.{Passed}
+use Rattle.text_input.specs.declared.Heard.{Heard}
+use Rattle.text_input.specs.Input.{lineLength, Unbroken, unread, Stands, Next, Passes, Readied, LongPassed, Hears}
+use Rattle.text_input.proofs.Turns.{unbroken-both, drop-take, line-le}
+
+-- ---- the first line feed of a text
+
+run-ends : (t : List ℕ) → run (isNot 10) t < length t → getD t (run (isNot 10) t) 0 ≡ 10
+unfolding run isNot
+run-ends [] h = let z : ⊥ = omega arith in absurd z
+run-ends (b ∷ t) h = go (eqb b 10) refl h (λ k. run-ends t k)
+  where
+    go : (x : Bool) → eqb b 10 ≡ x → pick (not x) (suc (run (isNot 10) t)) 0 < suc (length t)
+        → (run (isNot 10) t < length t → getD t (run (isNot 10) t) 0 ≡ 10) → getD (b ∷ t) (pick (not x) (suc (run
+        (isNot 10) t)) 0) 0 ≡ 10
+    go true e k f = eqb-true b 10 e
+    go false e k f = f (omega arith)
+
+run-unbroken : (t : List ℕ) → run (isNot 10) (take (run (isNot 10) t) t) ≡ length (take (run (isNot 10) t) t)
+unfolding run
+run-unbroken [] = refl
+run-unbroken (b ∷ t) = go (isNot 10 b) refl (run-unbroken t)
+  where
+    go : (x : Bool) → isNot 10 b ≡ x → run (isNot 10) (take (run (isNot 10) t) t) ≡ length (take (run (isNot 10) t) t)
+        → run (isNot 10) (take (pick x (suc (run (isNot 10) t)) 0) (b ∷ t)) ≡ length (take (pick x (suc (run (isNot 10)
+        t)) 0) (b ∷ t))
+    go true e f = rw e (ap suc f)
+    go false e f = refl
+
+pub line-unbroken : (t : List ℕ) → Unbroken (take (lineLength t) t)
+unfolding lineLength
+line-unbroken t = run-unbroken t
+
+-- THE LAW: a text with a line feed is its first line, the line feed, and the rest
+pub line-split : (t : List ℕ) → lineLength t < length t → t ≡ take (lineLength t) t ++ 10 ∷ drop (suc (lineLength t)) t
+unfolding lineLength
+line-split t h =
+    let s : t ≡ take (run (isNot 10) t) t ++ getD t (run (isNot 10) t) 0 ∷ drop (suc (run (isNot 10) t)) t = split-at t
+    (run (isNot 10) t) 0 h in
+    rw (run-ends t h) at s
+
+-- nothing stands between a place and itself
+pub empty-end : (b : List ℕ) (n : ℕ) (ok : Bool)
+    → n ≡ n + lineLength (unread b (record { at = n; end = n; len = n; left = 0; ok = ok }))
+unfolding lineLength unread run
+empty-end b n ok = let e : n - n ≡ zero = omega arith in rw e (omega arith)
+
+-- what stands behind a place
+pub unread-behind : (b : List ℕ) (r : Input) (at len : ℕ) → r .at ≡ at → r .len ≡ len → drop at (take len b) ≡ unread b
+    r
+unfolding unread
+unread-behind b r at len e f = drop-take at len b ∙ rw (e, f)
+
+-- ---- a line that is whole in the buffer
+
+module _ (b : List ℕ) (i : Input) (p : Stands b i) where
+  size : length (unread b i) ≡ i .len - i .at
+  unfolding unread
+  size = length-take-le (i .len - i .at) (drop (i .at) b) (rw (length-drop (i .at) b) (omega (arith, p .in-b, p .long)))
+
+  first : lineLength (unread b i) ≡ i .end - i .at
+  first = omega (arith, p .is, p .low)
+
+  -- the bytes that are lent to the reader
+  part : take (i .end - i .at) (unread b i) ≡ take (i .end - i .at) (drop (i .at) b)
+  unfolding unread
+  part = take-take (i .end - i .at) (i .len - i .at) (drop (i .at) b) (omega (arith, p .high))
+
+  module _ (r : Input) (at : r .at ≡ i .end + 1) (len : r .len ≡ i .len) (left : r .left ≡ i .left - 1) (s : Stands b
+      r) (h : i .end < i .len) where
+    rest : drop (suc (i .end - i .at)) (unread b i) ≡ unread b r
+    unfolding unread
+    rest =
+        let m : i .len - i .at - suc (i .end - i .at) ≡ i .len - (i .end + 1) = omega (arith, p .low) in
+        let n : i .at + suc (i .end - i .at) ≡ i .end + 1 = omega (arith, p .low) in
+        drop-take (suc (i .end - i .at)) (i .len - i .at) (drop (i .at) b)
+        ∙ rw (m, drop-drop (suc (i .end - i .at)) (i .at) b, n, at, len)
+
+    pub next-whole : Next b i b r (take (i .end - i .at) (drop (i .at) b))
+    next-whole =
+        let o : lineLength (unread b i) < length (unread b i) = omega (arith, first, size, p .low) in
+        let u : Unbroken (take (lineLength (unread b i)) (unread b i)) = line-unbroken (unread b i) in
+        let e : unread b i ≡ take (lineLength (unread b i)) (unread b i) ++ 10 ∷ drop (suc (lineLength (unread b i)))
+        (unread b i) =
+        line-split (unread b i) o in
+        record {
+          got = [];
+          unbroken = rw (first, part) at u;
+          are = inl (append-nil (unread b i) ∙ (rw (first, part, rest) at e));
+          stands = s;
+          fewer = omega (arith, left);
+        }
+
+  -- ---- all that there is, where the input has ended
+
+  module _ (h : i .len ≤ i .end) where
+    whole : take (i .end - i .at) (drop (i .at) b) ≡ unread b i
+    unfolding unread
+    whole = let e : i .end - i .at ≡ i .len - i .at = omega (arith, p .high) in rw e
+
+    unbroken-all : Unbroken (unread b i)
+    unbroken-all = omega (arith, first, size, p .high)
+
+    pub next-last : (r : Input) (ok : Bool) → r ≡ record { at = i .len; end = i .len; len = i .len; left = 0; ok = ok }
+        → Next b i b r (take (i .end - i .at) (drop (i .at) b))
+    next-last r ok e =
+        rw (whole, e)
+        (record {
+          got = [];
+          unbroken = unbroken-all;
+          are = inr (append-nil (unread b i), refl);
+          stands = nothing-left;
+          fewer = omega arith;
+        })
+      where
+        nothing-left : Stands b (record { at = i .len; end = i .len; len = i .len; left = 0; ok = ok })
+        nothing-left =
+            record {
+              low = omega arith;
+              high = omega arith;
+              in-b = p .in-b;
+              long = p .long;
+              is = empty-end b (i .len)
+                  ok;
+            }
+
+    -- ---- a line that is longer than the buffer
+
+    pub next-long : (b' : List ℕ) (r : Input) (q : LongPassed b' (i .left) r) → Next b i b' r (unread b i ++ q .rest)
+    next-long b' r q =
+        record {
+          got = q .got;
+          unbroken = unbroken-both (unread b i) (q .rest) unbroken-all (q .unbroken);
+          are =
+              ⊎-elim
+              (λ e. inl (ap (λ (t : List ℕ). unread b i ++ t) e ∙ sym (append-assoc (unread b i) (q .rest) (10 ∷ unread
+              b' r))))
+              (λ e. inr (ap (λ (t : List ℕ). unread b i ++ t) (e .0), e .1))
+              (q .are);
+          stands = q .stands;
+          fewer = q .fewer;
+        }
+
+    pub long-says : (b' : List ℕ) (r : Input) (q : LongPassed b' (i .left) r) (l : Line) (xs : List ℤ) → i .at ≡ 0 →
+        65535 < i .len
+        → length xs ≡ 126 → l ≡ badLine → Said (meaning (unread b i ++ q .rest)) l xs
+    long-says b' r q l xs z o x e =
+        let m : length (unread b i ++ q .rest) ≡ length (unread b i) + length (q .rest) = length-append (unread b i) (q
+        .rest) in
+        long-line (unread b i ++ q .rest) l xs x (omega (arith, m, size, z)) e
+
+-- ---- the input that was made ready
+
+pub next-readied : {b : List ℕ} {s : Input} {b' : List ℕ} {i : Input} {b'' : List ℕ} {r : Input} {line : List ℕ}
+    → Readied b s b' i → Next b' i b'' r line → Next b s b'' r line
+next-readied {b} {s} {b'} {i} {b''} {r} {line} p q =
+    let e : unread b s ++ (p .got ++ q .got) ≡ unread b' i ++ q .got =
+    sym (append-assoc (unread b s) (p .got) (q .got)) ∙ ap (λ (t : List ℕ). t ++ q .got) (p .are) in
+    record {
+      got = p .got ++ q .got;
+      unbroken = q .unbroken;
+      are = ⊎-elim (λ f. inl (e ∙ f)) (λ f. inr (e ∙ f .0, f .1)) (q .are);
+      stands = q .stands;
+      fewer = omega (arith, q .fewer, p .left);
+    }
+
+-- where no line is whole, what is delivered stands at the front
+pub at-front : (end len at : ℕ) → (end < len) ⊎ (at ≡ 0) → len ≤ end → at ≡ 0
+at-front end len at p h = ⊎-elim (λ k. never k) (λ e. e) p
+  where
+    never : end < len → at ≡ 0
+    never k = let z : ⊥ = omega arith in absurd z
+
+-- ---- behind a line that is longer than the buffer
+
+module _ (b : List ℕ) (p : Passed) (q : Passes b p) (left : ℕ) (r : Input) where
+  pub long-ended : (ok : Bool) → r ≡ record { at = p .len; end = p .len; len = p .len; left = 0; ok = ok } → LongPassed
+      b left r
+  long-ended ok e =
+      rw e
+      (record {
+        rest = q .before;
+        unbroken = q .unbroken;
+        got = q .before;
+        are = inr (refl, refl);
+        stands = standing;
+        fewer = omega arith;
+      })
+    where
+      standing : Stands b (record { at = p .len; end = p .len; len = p .len; left = 0; ok = ok })
+      standing = record {
+        low = omega arith;
+        high = omega arith;
+        in-b = q .in-b;
+        long = q .long;
+        is = empty-end b (p
+            .len) ok;
+      }
+
+  module _ (no : p .ended ≡ false) (at : r .at ≡ p .at) (len : r .len ≡ p .len) (fewer : r .left ≡ left - 1) (s :
+      Stands b r) where
+    found : (p .at ≡ lineLength (take (p .len) b) + 1) × (lineLength (take (p .len) b) < p .len)
+    found = ⊎-elim (λ e. let z : _≡_ {A = ℕ} 0 1 = apart e in let y : ⊥ = omega arith in absurd y) (λ e. (e .1, e .2))
+        (q .is)
+      where
+        apart : p .ended ≡ true → _≡_ {A = ℕ} 0 1
+        apart e = cc
+
+    pub long-found : LongPassed b left r
+    long-found =
+        let t : List ℕ = take (p .len) b in
+        let o : length t ≡ p .len = length-take-le (p .len) b (omega (arith, q .in-b, q .long)) in
+        let h : lineLength t < length t = omega (arith, found .1, o) in
+        let u : t ≡ take (lineLength t) t ++ 10 ∷ drop (suc (lineLength t)) t = line-split t h in
+        let v : drop (suc (lineLength t)) t ≡ unread b r = behind-is in
+        record {
+          rest = q .before ++ take (lineLength t) t;
+          unbroken = unbroken-both (q .before) (take (lineLength t) t) (q .unbroken) (line-unbroken t);
+          got = q .before ++ t;
+          are =
+              inl
+              (ap (λ (x : List ℕ). q .before ++ x) (u ∙ rw v)
+              ∙ sym (append-assoc (q .before) (take (lineLength t) t) (10 ∷ unread b r)));
+          stands = s;
+          fewer = omega (arith, fewer);
+        }
+      where
+        behind-is : drop (suc (lineLength (take (p .len) b))) (take (p .len) b) ≡ unread b r
+        behind-is = unread-behind b r (suc (lineLength (take (p .len) b))) (p .len) (omega (arith, at, found .0)) len

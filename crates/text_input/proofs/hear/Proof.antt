@@ -1,0 +1,130 @@
+use Rattle.text_input.proofs.Lines.{next-whole, next-last, next-long, long-says, next-readied, at-front}
+use native.Mathlib.Omega.{arith}
+use Prim.Native.Nat.{_-_, _≤_, _<_}
+use mathlib.Core.Path.{_≡_, refl, sym, ap, _∙_}
+use borrow.Author.Needs.{needs}
+use Rattle.text_input.proofs.hear.Statement.{statement}
+use Rattle.text_input.proofs.hear.Tie as tie
+use Rattle.text_input.proofs.hear.Reads as reads
+use Rattle.text_input.proofs.hear.Lts as lts
+use Rattle.text_input.proofs.behind_long.Reads as behind-long-reads
+use Rattle.text_input.proofs.ended.Reads as ended-reads
+use Rattle.text_input.proofs.from_place.Reads as from-place-reads
+use Rattle.text_input.proofs.ready.Reads as ready-reads
+use Rattle.text_line.proofs.bad.Reads as bad-reads
+use Rattle.text_line.proofs.read_line.Reads as read-line-reads
+
+ready-requires : tie.Need-ready-requires
+ready-requires c κs = search needs
+
+sub-read-line : tie.Need-sub-read-line
+sub-read-line c = search needs
+
+part-read-line-start : tie.Need-part-read-line-start
+part-read-line-start c = search needs
+
+part-read-line-end : tie.Need-part-read-line-end
+part-read-line-end c = search needs
+
+read-line-requires : tie.Need-read-line-requires
+read-line-requires c κs = search needs
+
+add-next : tie.Need-add-next
+add-next c = search needs
+
+from-place-requires : tie.Need-from-place-requires
+from-place-requires c κs = search needs
+
+same-length : tie.Need-same-length
+same-length c = search needs
+
+same-length-2 : tie.Need-same-length-2
+same-length-2 c = search needs
+
+returns : tie.Need-returns
+returns c = let f = c .from-place .ensures in let p = c .before .before .before .before .before .before .before .before
+    .before .before .ready .ensures in record {
+      line = _;
+      next = next-readied p (next-whole _ _ (p .stands) _ (f .0) (f
+          .1) (f .2) (f .3) (c .before .before .before .before .before .before .before .if1 .taken));
+      says = c .before
+          .before .before .read-line .ensures;
+    }
+
+behind-long-requires : tie.Need-behind-long-requires
+behind-long-requires c κs = search needs
+
+bad-requires : tie.Need-bad-requires
+bad-requires c κs = search needs
+
+same-length-3 : tie.Need-same-length-3
+same-length-3 c = search needs
+
+returns-2 : tie.Need-returns-2
+returns-2 c = let p = c .before .before .before .before .before .before .before .before .before .ready .ensures in let
+    h = c .before .before .before .before .before .before .if1 .left in let q = c .before .before .before .behind-long
+    .ensures in record {
+      line = _;
+      next = next-readied p (next-long _ _ (p .stands) h _ _ q);
+      says = long-says _ _ (p
+          .stands) h _ _ q _ _ (at-front _ _ _ (p .front) h) (c .before .before .before .before .before .if2 .taken) (c
+          .before .before .before .before .before .before .before .before .before .before .before .before .pre .1) (c .bad
+          .ensures);
+    }
+
+sub-read-line-2 : tie.Need-sub-read-line-2
+sub-read-line-2 c = search needs
+
+part-read-line-start-2 : tie.Need-part-read-line-start-2
+part-read-line-start-2 c = search needs
+
+part-read-line-end-2 : tie.Need-part-read-line-end-2
+part-read-line-end-2 c = search needs
+
+read-line-requires-2 : tie.Need-read-line-requires-2
+read-line-requires-2 c κs = search needs
+
+ended-requires : tie.Need-ended-requires
+ended-requires c κs = search needs
+
+same-length-4 : tie.Need-same-length-4
+same-length-4 c = search needs
+
+same-length-5 : tie.Need-same-length-5
+same-length-5 c = search needs
+
+returns-3 : tie.Need-returns-3
+returns-3 c = let p = c .before .before .before .before .before .before .before .before .before .before .ready .ensures
+    in record {
+      line = _;
+      next = next-readied p (next-last _ _ (p .stands) (c .before .before .before .before .before
+          .before .before .if1 .left) _ _ (c .ended .ensures));
+      says = c .before .before .read-line2 .ensures;
+    }
+
+pub hear-spec : {M : Type 1} → statement M
+hear-spec =
+    tie.close
+    (tie.spec
+    ready-requires
+    sub-read-line
+    part-read-line-start
+    part-read-line-end
+    read-line-requires
+    add-next
+    from-place-requires
+    same-length
+    same-length-2
+    returns
+    behind-long-requires
+    bad-requires
+    same-length-3
+    returns-2
+    sub-read-line-2
+    part-read-line-start-2
+    part-read-line-end-2
+    read-line-requires-2
+    ended-requires
+    same-length-4
+    same-length-5
+    returns-3)

@@ -1,0 +1,41 @@
+use Rattle.text_input.proofs.Turns.{readied-now, unbroken-now, readied-later}
+use lib.Seq.{length-take-le}
+use lib.ListN.{length, take}
+use native.Mathlib.Omega.{arith}
+use Prim.Native.Nat.{_-_, _≤_, _<_}
+use mathlib.Core.Path.{_≡_, refl, sym, ap, _∙_}
+use borrow.Author.Needs.{needs}
+use Rattle.text_input.proofs.ready.Statement.{statement}
+use Rattle.text_input.proofs.ready.Tie as tie
+use Rattle.text_input.proofs.ready.Reads as reads
+use Rattle.text_input.proofs.ready.Lts as lts
+use Rattle.text_input.proofs.shift.Reads as shift-reads
+use Rattle.text_input.proofs.wait.Reads as wait-reads
+
+returns : tie.Need-returns
+returns c = readied-now _ _ (c .before .before .before .pre) (c .if1 .taken)
+
+shift-requires : tie.Need-shift-requires
+shift-requires c κs = search needs
+
+wait-requires : tie.Need-wait-requires
+wait-requires c κs =
+    let f = c .before .before .before .shift .ensures in
+    let p = c .before .before .before .before .before .before .before .before .pre in (
+      f .2 ∙ p .long,
+      omega (arith, f .0, p .in-b),
+      unbroken-now _ _ p (c .before .before .before .before .before .if1
+          .left) _ _ (f .0) (f .1),
+    )
+
+same-length : tie.Need-same-length
+same-length c = search needs
+
+returns-2 : tie.Need-returns-2
+returns-2 c = readied-later _ _ (c .before .before .before .before .before .before .before .before .before .before
+    .before .pre) (c .before .before .before .before .before .before .before .before .if1 .left) _ _ (c .before .before
+    .before .before .before .before .shift .ensures .0) (c .before .before .before .before .before .before .shift
+    .ensures .1) _ _ (c .before .before .wait .ensures)
+
+pub ready-spec : {M : Type 1} → statement M
+ready-spec = tie.close (tie.spec returns shift-requires wait-requires same-length returns-2)

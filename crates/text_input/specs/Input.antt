@@ -1,0 +1,93 @@
+-- What is left of the input, and the next line of it. Assumes nothing.
+use mathlib.Core.Path.{_≡_}
+use mathlib.Core.Logic.{_⊎_}
+use mathlib.Core.Bool.{true, false}
+use mathlib.Core.List.{List, [], _∷_, _++_}
+use Prim.Native.Nat.{ℕ, _+_, _-_, _≤_, _<_}
+use lib.IntN.{ℤ}
+use lib.ListN.{length, take, drop}
+use Rattle.text_protocol.specs.Bytes.{lineFeed, isNot, run}
+use Rattle.text_protocol.specs.Line.{meaning}
+use Rattle.text_line.specs.Heard.{Heard as Said}
+use Rattle.text_input.specs.declared.Input.{Input}
+use Rattle.text_input.specs.declared.Waited.{Waited}
+use Rattle.text_input.specs.declared.Passed.{Passed}
+use Rattle.text_input.specs.declared.Heard.{Heard}
+
+-- the bytes that the buffer holds
+abbrev pub room : ℕ
+room = 65536
+
+-- how many bytes stand before the first line feed, or all
+unfoldable pub lineLength : List ℕ → ℕ
+lineLength t = run (isNot lineFeed) t
+
+-- no byte is a line feed
+abbrev pub Unbroken : List ℕ → Type 0
+Unbroken t = lineLength t ≡ length t
+
+-- the bytes that were delivered and are not used
+unfoldable pub unread : List ℕ → Input → List ℕ
+unread b s = take (s .len - s .at) (drop (s .at) b)
+
+-- how the buffer stands between lines: `end` is where the next line ends, or `len` where no line is whole
+pub record Stands (b : List ℕ) (s : Input) : Type 0 where
+  pub low : s .at ≤ s .end
+  pub high : s .end ≤ s .len
+  pub in-b : s .len ≤ room
+  pub long : length b ≡ room
+  pub is : s .end ≡ s .at + lineLength (unread b s)
+
+-- THE NEXT LINE, whatever pieces `read` delivers it in: `got` is what it delivered. Behind the line stands a line
+-- feed; or the input has ended
+pub record Next (b : List ℕ) (s : Input) (b' : List ℕ) (r : Input) (line : List ℕ) : Type 0 where
+  pub got : List ℕ
+  pub unbroken : Unbroken line
+  pub are : (unread b s ++ got ≡ line ++ lineFeed ∷ unread b' r) ⊎ ((unread b s ++ got ≡ line) × (r .left ≡ 0))
+  pub stands : Stands b' r
+  pub fewer : r .left ≤ s .left - 1
+
+-- ---- what the code finds its way with
+
+-- `got` is delivered behind the first `have` bytes, until there is a line feed, the buffer is full or the input has
+-- ended
+pub record Waits (b : List ℕ) (have : ℕ) (b' : List ℕ) (r : Waited) : Type 0 where
+  pub got : List ℕ
+  pub are : take (r .len) b' ≡ take have b ++ got
+  pub in-b : r .len ≤ room
+  pub long : length b' ≡ room
+  pub is : r .end ≡ lineLength (take (r .len) b')
+
+-- the rest of a line is passed over: the pieces `before` of it, which have no line feed, and then what stands before
+-- `at`; or the input has ended
+pub record Passes (b' : List ℕ) (r : Passed) : Type 0 where
+  pub before : List ℕ
+  pub unbroken : Unbroken before
+  pub low : r .at ≤ r .len
+  pub in-b : r .len ≤ room
+  pub long : length b' ≡ room
+  pub is : (r .ended ≡ true) ⊎ ((r .ended ≡ false) × (r .at ≡ lineLength (take (r .len) b') + 1) × (lineLength (take (r
+      .len) b') < r .len))
+
+-- more is delivered, so that a line is whole, or the buffer is full, or the input has ended
+pub record Readied (b : List ℕ) (s : Input) (b' : List ℕ) (r : Input) : Type 0 where
+  pub got : List ℕ
+  pub are : unread b s ++ got ≡ unread b' r
+  pub stands : Stands b' r
+  pub left : r .left ≡ s .left
+  pub front : (r .end < r .len) ⊎ (r .at ≡ 0)
+
+-- the input behind a line that is longer than the buffer: `rest` of it is passed over
+pub record LongPassed (b' : List ℕ) (left : ℕ) (r : Input) : Type 0 where
+  pub rest : List ℕ
+  pub unbroken : Unbroken rest
+  pub got : List ℕ
+  pub are : (got ≡ rest ++ lineFeed ∷ unread b' r) ⊎ ((got ≡ rest) × (r .left ≡ 0))
+  pub stands : Stands b' r
+  pub fewer : r .left ≤ left - 1
+
+-- THE LINE THAT IS HEARD is what the definition says of its bytes
+pub record Hears (b : List ℕ) (s : Input) (b' : List ℕ) (r : Heard) (xs : List ℤ) : Type 0 where
+  pub line : List ℕ
+  pub next : Next b s b' (r .input) line
+  pub says : Said (meaning line) (r .line) xs
