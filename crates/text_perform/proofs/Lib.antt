@@ -1,0 +1,4 @@
+pub mod Gives
+mod Requests
+mod Arms
+mod ArmWithRows

@@ -1,0 +1,89 @@
+-- The plain values that the calls take, with their laws, and the call that each kind of request is. Assumes nothing.
+use mathlib.Core.Path.{_≡_, refl, _∙_}
+use mathlib.Core.Bool.{Bool, true, false, not}
+use mathlib.Core.List.{List}
+use Prim.Native.Nat.{ℕ}
+use lib.Dec.{T, eqb}
+use lib.IntN.{ℤ}
+use mir.Syntax.{w64, tyInt}
+use mir.Val.{vint}
+use denote.Builtin.{u64}
+use denote.Plain.{uint-tells, uint-lawful, uint-makes}
+use denote.Struct.Laws as LL
+use Rattle.paper.specs.declared.AskedDay.{AskedDay}
+use Rattle.paper.specs.Lists.{pick}
+use Rattle.paper.specs.Terms.{dayOf}
+use Rattle.paper.specs.Desk.{Call, admit, evaluate, quote, move, read}
+use Rattle.paper.proofs.AskedDay as D
+use Rattle.paper.proofs.AskedDay.Laws as D′
+use Rattle.paper.proofs.Quote as Q
+use Rattle.paper.proofs.Quote.Laws as Q′
+use Rattle.text_protocol.specs.Names.{admitKind, evaluateKind, quoteKind, moveKind}
+use Rattle.text_call.specs.declared.Request.{Request}
+use Rattle.text_call.specs.Requests.{requestCall}
+use Rattle.desk.proofs.Shape.{Plain, PlainLaws, of-row}
+
+abbrev pub asked : Plain
+asked = of-row D.the-row D′.mir
+
+pub asked-laws : PlainLaws asked
+asked-laws = record {
+  val = LL.val D.the-type D′.the-laws;
+  tells = LL.tells D.the-type D′.the-laws;
+  lawful = λ 𝓤 H A W. LL.lawful D.the-type D′.the-laws 𝓤 H A W;
+  makes = λ 𝓤 H A W. LL.makes D.the-type D′.the-plain 𝓤 H A;
+}
+
+-- an evaluation of the day that is asked for
+abbrev pub evaluation : ℕ → AskedDay → List ℤ → Call
+evaluation id a rows = evaluate id (dayOf a) rows
+
+abbrev pub quoted : Plain
+quoted = of-row Q.the-row Q′.mir
+
+pub quoted-laws : PlainLaws quoted
+quoted-laws = record {
+  val = LL.val Q.the-type Q′.the-laws;
+  tells = LL.tells Q.the-type Q′.the-laws;
+  lawful = λ 𝓤 H A W. LL.lawful Q.the-type Q′.the-laws 𝓤 H A W;
+  makes = λ 𝓤 H A W. LL.makes Q.the-type Q′.the-plain 𝓤 H A;
+}
+
+abbrev pub numbered : Plain
+numbered = of-row u64 (tyInt w64)
+
+pub numbered-laws : PlainLaws numbered
+numbered-laws = record {
+  val = vint w64;
+  tells = uint-tells w64;
+  lawful = λ 𝓤 H A W. uint-lawful 𝓤 H A W w64;
+  makes = λ 𝓤 H A W. uint-makes 𝓤 H A W w64;
+}
+
+-- ---- the call that each kind of request is
+
+pub admits-is : (c : Request) (rows : List ℤ) → c .kind ≡ 1 → requestCall c rows ≡ admit (c .admission)
+admits-is c rows e = rw e
+
+pub evaluates-is : (c : Request) (rows : List ℤ) → c .kind ≡ 2 → requestCall c rows ≡ evaluate (c .id) (dayOf (c .day))
+    rows
+evaluates-is c rows e = rw e
+
+pub quotes-is : (c : Request) (rows : List ℤ) → c .kind ≡ 3 → requestCall c rows ≡ quote (c .id) (c .quote)
+quotes-is c rows e = rw e
+
+pub moves-is : (c : Request) (rows : List ℤ) → c .kind ≡ 4 → requestCall c rows ≡ move (c .id) (c .side)
+moves-is c rows e = rw e
+
+passed : {A : Type 0} (b : Bool) (x y : A) → T (not b) → pick b x y ≡ y
+passed true x y n = absurd n
+passed false x y n = refl
+
+-- a request of none of the first four kinds is a read
+pub else-reads :
+    (c : Request) (rows : List ℤ) → T (not (eqb (c .kind) admitKind)) → T (not (eqb (c .kind) evaluateKind))
+    → T (not (eqb (c .kind) quoteKind)) → T (not (eqb (c .kind) moveKind)) → requestCall c rows ≡ read (c .id)
+else-reads c rows a e q m =
+    passed (eqb (c .kind) admitKind) _ _ a ∙ passed (eqb (c .kind) evaluateKind) _ _ e ∙ passed (eqb (c .kind)
+    quoteKind) _ _ q
+    ∙ passed (eqb (c .kind) moveKind) _ _ m

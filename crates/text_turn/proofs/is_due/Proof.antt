@@ -1,0 +1,14 @@
+use Rattle.text_turn.proofs.Told.{not-due, always-due}
+use Rattle.text_turn.proofs.is_due.Statement.{statement}
+use Rattle.text_turn.proofs.is_due.Tie as tie
+use Rattle.text_turn.proofs.is_due.Reads as reads
+use Rattle.text_turn.proofs.is_due.Lts as lts
+
+returns : tie.Need-returns
+returns c = λ e. not-due _ _ _ (c .if1 .taken) e
+
+returns-2 : tie.Need-returns-2
+returns-2 c = λ e. always-due e
+
+pub is-due-spec : {M : Type 1} → statement M
+is-due-spec = tie.close (tie.spec returns returns-2)

@@ -1,0 +1,15 @@
+use borrow.Author.Needs.{needs}
+use Rattle.text_turn.proofs.start.Statement.{statement}
+use Rattle.text_turn.proofs.start.Tie as tie
+use Rattle.text_turn.proofs.start.Reads as reads
+use Rattle.text_turn.proofs.start.Lts as lts
+use Rattle.text_kept.proofs.none.Reads as none-reads
+
+none-requires : tie.Need-none-requires
+none-requires c κs = search needs
+
+returns : tie.Need-returns
+returns c = rw (c .none .ensures)
+
+pub start-spec : {M : Type 1} → statement M
+start-spec = tie.close (tie.spec none-requires returns)

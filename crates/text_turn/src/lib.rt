@@ -1,0 +1,247 @@
+// The two halves of a turn: before the table is asked, the next line is heard; after, its answer is told. Neither sees
+// the table.
+ghost use mathlib.Core.Path.{_≡_};
+ghost use mathlib.Core.Bool.{false};
+ghost use Prim.Native.Nat.{_+_, _≤_, _<_};
+ghost use lib.ListN.{length, take, drop};
+ghost use Rattle.text_out.specs.Wrote.{Wrote};
+ghost use Rattle.text_input.specs.Input.{Stands};
+ghost use Rattle.text_protocol.specs.Evening.{numberAfter};
+ghost use Rattle.text_turn.specs.Turn.{lineText, Wants, Prepares, Tells, startState};
+use libc::STDOUT_FILENO;
+use paper::Answer;
+use paper::InterestAnswer;
+use paper::Verdict;
+use text_answer::say_answer;
+use text_answer::say_bad;
+use text_answer::say_interest;
+use text_call::Request;
+use text_call::figures;
+use text_call::interest_of;
+use text_call::least;
+use text_call::request_of;
+use text_input::Input;
+use text_input::hear;
+use text_kept::kept_after;
+use text_line::Line;
+use text_protocol::Kept;
+
+// What goes on from line to line: what is left of the input, the number of the next line, what is kept of the interest
+// lines, how many bytes of answers
+// wait to be written, and whether every read and write went well.
+pub struct State {
+    pub input: Input,
+    pub number: u64,
+    pub kept: Kept,
+    pub waiting: usize,
+    pub ok: bool,
+}
+
+// A line that was heard: its kind and how many numbers it has, what it asks of the desk, and what the interest side
+// answers to it.
+pub struct Prepared {
+    pub input: Input,
+    pub number: u64,
+    pub kept: Kept,
+    pub waiting: usize,
+    pub ok: bool,
+    pub kind: u64,
+    pub count: usize,
+    pub request: Request,
+    pub interest: InterestAnswer,
+}
+
+// ---- before the table is asked
+
+// What a line asks of the desk, what the interest side answers to it, and what is kept of the interest lines then.
+pub struct Wanted {
+    pub request: Request,
+    pub interest: InterestAnswer,
+    pub kept: Kept,
+}
+
+fn wanted_by(zs: &[i64], l: Line, k: Kept) -> Wanted
+    ensures { λ r. ⌜ Wants k (l .kind) (now (zs .entry)) (l .pairs) r ⌝ }
+{
+    let kind = l.kind;
+    let pairs = l.pairs;
+    let request = request_of(zs, kind, pairs, k);
+    if kind == Line::INTEREST {
+        let given = interest_of(zs);
+        let i = interest::work(given, figures(zs, 14));
+        return Wanted {
+            request,
+            interest: i,
+            kept: kept_after(k, given, i),
+        };
+    }
+    Wanted {
+        request,
+        interest: interest::refused(Verdict::OutOfRange),
+        kept: k,
+    }
+}
+
+// Hears the next line.
+pub fn prepare(buf: &mut [u8], xs: &mut [i64], s: State) -> Prepared
+    requires { ⌜ (Stands (now buf) (s .input)) × (length (now xs) ≡ 126) ⌝ }
+    ensures { λ r. ⌜ (Prepares (now (buf .entry)) s (now (buf .exit)) r (now (xs .exit))) × (length (now (xs .exit))
+        ≡ 126) ⌝ }
+{
+    let input = s.input;
+    let kept = s.kept;
+    let h = hear(buf, xs, input);
+    let line = h.line;
+    let count = line.count;
+    let w = wanted_by(&xs[..count], line, kept);
+    let input = h.input;
+    let kept = w.kept;
+    let request = w.request;
+    let interest = w.interest;
+    Prepared {
+        input,
+        number: s.number,
+        kept,
+        waiting: s.waiting,
+        ok: s.ok,
+        kind: line.kind,
+        count,
+        request,
+        interest,
+    }
+}
+
+// The row figures of a line of so many numbers.
+pub fn rows_of(xs: &[i64], count: usize) -> &[i64]
+    ensures { λ r. ⌜ now r ≡ drop 13 (take count (now (xs .entry))) ⌝ }
+{
+    let end = least(count, xs.len());
+    let start = least(13, end);
+    &xs[start..end]
+}
+
+// At the start nothing is read and nothing waits. Nothing says that the input ends, so the lines are counted down from
+// a number that no run uses up.
+pub fn start() -> State
+    ensures { λ r. ⌜ r ≡ startState ⌝ }
+{
+    State {
+        input: Input {
+            at: 0,
+            end: 0,
+            len: 0,
+            left: u64::MAX,
+            ok: true,
+        },
+        number: 1,
+        kept: text_kept::none(),
+        waiting: 0,
+        ok: true,
+    }
+}
+
+// ---- after the table is asked
+
+// Appends the answer to a line of a kind.
+fn say(
+    out: &mut [u8; 65536],
+    len: usize,
+    kind: u64,
+    number: u64,
+    i: InterestAnswer,
+    a: Answer,
+) -> usize
+    requires { ⌜ len + 1200 ≤ 65536 ⌝ }
+    ensures { λ r. ⌜ Wrote (now (out .entry)) len (now (out .exit)) r (lineText kind number i a) 1200 ⌝ }
+{
+    if kind == Line::BLANK {
+        return len;
+    }
+    if kind == Line::BAD {
+        return say_bad(out, len, number);
+    }
+    if kind == Line::INTEREST {
+        return say_interest(out, len, i);
+    }
+    say_answer(out, len, kind, a)
+}
+
+// Hands bytes to `write`, all of them: a short write is tried again. It says whether they were taken, which is C's answer:
+// no contract can say it.
+fn hand(bytes: &[u8], n: usize) -> bool
+    requires { ⌜ length (now bytes) ≡ n ⌝ }
+{
+    io::write_all(STDOUT_FILENO, bytes)
+}
+
+// Writes the first n bytes of the answers, and says what `hand` says.
+fn flush(out: &[u8], n: usize) -> bool
+    requires { ⌜ n ≤ length (now out) ⌝ }
+{
+    hand(&out[..n], n)
+}
+
+// The number of the line behind the n-th.
+fn number_after(n: u64) -> u64
+    ensures { λ r. ⌜ r ≡ numberAfter n ⌝ }
+{
+    if n < u64::MAX {
+        return n + 1;
+    }
+    n
+}
+
+// Where a write failed, no line more is heard.
+fn stopped(i: Input, ok: bool) -> Input
+    ensures { λ r. ⌜ (r .at ≡ i .at) × (r .end ≡ i .end) × (r .len ≡ i .len) × (r .left ≤ i .left) ⌝ }
+{
+    if ok {
+        return i;
+    }
+    Input {
+        at: i.at,
+        end: i.end,
+        len: i.len,
+        left: 0,
+        ok: false,
+    }
+}
+
+// Whether the answers are written now: the next line has to be waited for, or there is no room for one more answer.
+fn is_due(i: Input, n: usize) -> bool
+    ensures { λ r. ⌜ (r ≡ false → ((n + 1200 ≤ 65536) × (i .end < i .len))) ⌝ }
+{
+    if i.end < i.len {
+        return 64_336 < n;
+    }
+    true
+}
+
+// Tells the answer to a line: it is appended to those that wait, and they are written where they are due.
+pub fn tell(out: &mut [u8; 65536], p: Prepared, a: Answer) -> State
+    requires { ⌜ p .waiting + 1200 ≤ 65536 ⌝ }
+    ensures { λ r. ⌜ Tells (now (out .entry)) p a (now (out .exit)) r ⌝ }
+{
+    let i = p.input;
+    let kept = p.kept;
+    let interest = p.interest;
+    let n = say(out, p.waiting, p.kind, p.number, interest, a);
+    let number = number_after(p.number);
+    if is_due(i, n) {
+        let ok = flush(out, n);
+        return State {
+            input: stopped(i, ok),
+            number,
+            kept,
+            waiting: 0,
+            ok: p.ok & ok,
+        };
+    }
+    State {
+        input: i,
+        number,
+        kept,
+        waiting: n,
+        ok: p.ok,
+    }
+}
