@@ -1,4 +1,5 @@
 // Damaged and duplicate records, which no line of text can make: a table that is lent as it stands, with one damage to a slot, and then the calls on it.
+use paper::Limit;
 use paper::Limits;
 use paper::Moves;
 use paper::Near;
@@ -180,7 +181,7 @@ fn with_three(slot: usize, r: Record) -> Record {
     match slot {
         15 => with_rate(r, Rate::MOST + 1),
         16 => with_ranges(r, 947_605, 1_112_400),
-        17 => with_ranges(r, 947_600, Record::LIMIT_MOST + 10),
+        17 => with_ranges(r, 947_600, Limit::MOST + 10),
         18 => with_terms(r, Term::DAYS_MOST + 1, 0),
         19 => with_terms(r, 0, 1),
         20 => with_bands(r, 988_800, 1_071_205),
@@ -192,7 +193,7 @@ fn with_three(slot: usize, r: Record) -> Record {
 fn at_the_ends(id: u64) -> Record {
     let r = with_tentative(sound(id), 4_000, Record::AGE_MOST);
     let r = with_moves(r, Record::MOVES_MOST, Record::MOVES_MOST);
-    let r = with_bands(r, Record::LIMIT_MOST, 0);
+    let r = with_bands(r, Limit::MOST, 0);
     with_second(r, Record::SECOND_LAST)
 }
 

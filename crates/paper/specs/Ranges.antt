@@ -12,6 +12,9 @@ use Rattle.paper.specs.declared.MadePrice.the-variants as made-price
 use Rattle.paper.specs.declared.Rate.{Rate}
 use Rattle.paper.specs.declared.MadeRate.{MadeRate}
 use Rattle.paper.specs.declared.MadeRate.the-variants as made-rate
+use Rattle.paper.specs.declared.Limit.{Limit}
+use Rattle.paper.specs.declared.MadeLimit.{MadeLimit}
+use Rattle.paper.specs.declared.MadeLimit.the-variants as made-limit
 use Rattle.paper.specs.declared.Statics.{Statics}
 use Rattle.paper.specs.declared.Given.{Given}
 use Rattle.paper.specs.declared.Standing.{Standing}
@@ -44,7 +47,7 @@ unfoldable pub natural : ℤ → ℕ
 natural (pos n) = n
 natural (negsuc n) = pastEvery
 
--- ---- prices and rates
+-- ---- prices, rates and limits
 
 -- "Price: ten-thousandth of a rouble, 1 to 10^10"
 unfoldable pub isPrice : ℕ → Bool
@@ -59,6 +62,10 @@ isRate bp = leb bp rateMost
 
 unfoldable pub rateMade : ℕ → MadeRate
 rateMade bp = pick (isRate bp) (made-rate.Made (record { bp = bp })) made-rate.OutOfRange
+
+-- "limits .. 0..2·10^12 + 2·10^10": the range of a limit, which lies on the grid besides (`isLimit`)
+unfoldable pub limitMade : ℕ → MadeLimit
+limitMade units = pick (leb units limitMost) (made-limit.Made (record { units = units })) made-limit.OutOfRange
 
 -- "Grid (10.1): ceiling(log10 lot) + 2 decimals. So g = 100 units for lot 1, 10 for 2..10, 1 for 11..100."
 unfoldable pub gridOf : ℕ → ℕ

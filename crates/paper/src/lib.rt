@@ -1,7 +1,9 @@
 // The values that document 01 speaks of, in the forms that it names. What is right is said over them in specs/, a file a clause, and what
 // is proved of that stands in proofs/. Every number of the paper has one name here and one in specs/Numbers.antt.
 ghost use mathlib.Core.Path.{_≡_};
-ghost use Rattle.paper.specs.Ranges.{priceMade, rateMade};
+ghost use Prim.Native.Nat.{_≤_};
+ghost use Rattle.paper.specs.Numbers.{rateMost};
+ghost use Rattle.paper.specs.Ranges.{priceMade, rateMade, limitMade};
 ghost use Rattle.paper.specs.Verdicts.{numberOf};
 
 // "10,000 = 100 per cent": the basis points, and the ten-thousandths, of the whole.
@@ -62,6 +64,39 @@ impl Rate {
             MadeRate::Made(Rate { bp })
         } else {
             MadeRate::OutOfRange
+        }
+    }
+
+    // The rate of a number that a rule or a test has put in range already: its caller proves that it is.
+    pub fn of(bp: u64) -> Rate
+        requires { ⌜ bp ≤ rateMost ⌝ }
+        ensures { λ r. ⌜ r ≡ record { bp = bp } ⌝ }
+    {
+        Rate { bp }
+    }
+}
+
+// A limit of a range or a band, in ten-thousandths of a rouble, as a price is. Its range is its own: 0 is a limit, and
+// fifty moves take one past every price.
+pub struct Limit {
+    pub units: u64,
+}
+
+pub enum MadeLimit {
+    Made(Limit),
+    OutOfRange,
+}
+
+impl Limit {
+    pub const MOST: u64 = 2_020_000_000_000;
+
+    pub fn new(units: u64) -> MadeLimit
+        ensures { λ r. ⌜ r ≡ limitMade units ⌝ }
+    {
+        if units <= Limit::MOST {
+            MadeLimit::Made(Limit { units })
+        } else {
+            MadeLimit::OutOfRange
         }
     }
 }
@@ -238,8 +273,6 @@ impl Record {
     pub const VOLATILITY_MOST: u64 = 1_000_000;
 
     pub const AGE_MOST: u64 = 250;
-
-    pub const LIMIT_MOST: u64 = 2_020_000_000_000;
 
     pub const MOVES_MOST: u64 = 50;
 

@@ -12,7 +12,9 @@ use inputs::valid_figures;
 use inputs::valid_id;
 use inputs::valid_statics;
 use inputs::valid_terms;
+use paper::Limit;
 use paper::Limits;
+use paper::MadeLimit;
 use paper::Near;
 use paper::NearSeconds;
 use paper::Rate;
@@ -49,7 +51,11 @@ fn is_limit(g: u64, x: u64) -> bool
     requires { ⌜ 0 < g ⌝ }
     ensures { λ r. ⌜ r ≡ isLimit g x ⌝ }
 {
-    (x <= Record::LIMIT_MOST) & (x % g == 0)
+    let made = Limit::new(x);
+    match made {
+        MadeLimit::Made(limit) => limit.units % g == 0,
+        MadeLimit::OutOfRange => false,
+    }
 }
 
 pub fn valid_limits(g: u64, x: Limits) -> bool
