@@ -3,6 +3,8 @@
 use Prim.Native.Nat.{ℕ, _*_, _≤_}
 use native.Mathlib.Nat.{mul-le-mul}
 use lib.IntN.{ℤ}
+use Rattle.paper.specs.declared.Price.{Price}
+use Rattle.paper.specs.declared.Rate.{Rate}
 use Rattle.paper.specs.declared.Statics.{Statics}
 use Rattle.paper.specs.declared.Side.{Side}
 use Rattle.paper.specs.Numbers.{hundred, priceMost, rateMost, shiftMost, divisorMost}
@@ -14,26 +16,27 @@ use Rattle.paper.proofs.LimitSizes.{LimitStatics, grid-range}
 use Rattle.exact.specs.SignedLaws.{size-repo}
 use Rattle.limits.specs.LimitRanges.{RangeInputs, BandInputs}
 
-pub range-high : (st : Statics) (side : Side) (p rate : ℕ) → RangeInputs p rate → rangeLimit st side p rate ≤ freshMost
-range-high st side p rate r = sizes.range-high st side p rate (r .price) (r .rate-high)
+pub range-high : (st : Statics) (side : Side) (p : Price) (rate : Rate) → RangeInputs p rate
+    → rangeLimit st side (p .units) (rate .bp) ≤ freshMost
+range-high st side p rate r = sizes.range-high st side (p .units) (rate .bp) (r .price) (r .rate-high)
 
-pub band-high : (st : Statics) (side : Side) (p s1 c k : ℕ) (repo : ℤ) → LimitStatics st → BandInputs p s1 c k repo
-    → bandLimit st side p s1 c k repo ≤ freshMost
+pub band-high : (st : Statics) (side : Side) (p : Price) (s1 : Rate) (c k : ℕ) (repo : ℤ) → LimitStatics st
+    → BandInputs p s1 c k repo → bandLimit st side (p .units) (s1 .bp) c k repo ≤ freshMost
 band-high st side p s1 c k repo s r =
-    sizes.band-high st side p s1 c k repo s (r .price) (r .days) (size-repo repo (r .repo-high))
+    sizes.band-high st side (p .units) (s1 .bp) c k repo s (r .price) (r .days) (size-repo repo (r .repo-high))
 
 -- ---- delta
 
 -- its products, in the order in which they are formed
-pub record DeltaSizes (st : Statics) (p s1 : ℕ) : Type 0 where
+pub record DeltaSizes (st : Statics) (p : Price) (s1 : Rate) : Type 0 where
   pub shift : st .shift ≤ shiftMost
-  pub rates : st .shift * s1 ≤ shiftMost * rateMost
-  pub num : st .shift * s1 * p ≤ shiftMost * rateMost * priceMost
+  pub rates : st .shift * s1 .bp ≤ shiftMost * rateMost
+  pub num : st .shift * s1 .bp * p .units ≤ shiftMost * rateMost * priceMost
   pub den : st .xpr * gridOf (st .lot) ≤ divisorMost * hundred
 
-pub delta-sizes : (st : Statics) (p s1 : ℕ) → LimitStatics st → RangeInputs p s1 → DeltaSizes st p s1
+pub delta-sizes : (st : Statics) (p : Price) (s1 : Rate) → LimitStatics st → RangeInputs p s1 → DeltaSizes st p s1
 delta-sizes st p s1 s r =
-    let rates : st .shift * s1 ≤ shiftMost * rateMost = mul-le-mul (s .shift-high) (r .rate-high) in
+    let rates : st .shift * s1 .bp ≤ shiftMost * rateMost = mul-le-mul (s .shift-high) (r .rate-high) in
     record {
       shift = s .shift-high;
       rates = rates;
@@ -41,5 +44,6 @@ delta-sizes st p s1 s r =
       den = mul-le-mul (s .divisor-high) (grid-range (st .lot) .1);
     }
 
-pub delta-high : (st : Statics) (p s1 : ℕ) → LimitStatics st → RangeInputs p s1 → deltaOf st p s1 ≤ deltaMost
-delta-high st p s1 s r = sizes.delta-high st p s1 s (r .price) (r .rate-high)
+pub delta-high : (st : Statics) (p : Price) (s1 : Rate) → LimitStatics st → RangeInputs p s1
+    → deltaOf st (p .units) (s1 .bp) ≤ deltaMost
+delta-high st p s1 s r = sizes.delta-high st (p .units) (s1 .bp) s (r .price) (r .rate-high)

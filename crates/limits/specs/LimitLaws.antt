@@ -5,6 +5,8 @@ use Prim.Native.Nat.{ℕ, _+_, _-_, _*_, _≤_, _<_}
 use native.Mathlib.Nat.{mul-le-mul}
 use native.Mathlib.Omega.{arith}
 use lib.IntN.{ℤ}
+use Rattle.paper.specs.declared.Price.{Price}
+use Rattle.paper.specs.declared.Rate.{Rate}
 use Rattle.paper.specs.declared.Statics.{Statics}
 use Rattle.paper.specs.declared.Side.{Side}
 use Rattle.paper.specs.declared.Side.the-variants.{Upper, Lower}
@@ -26,10 +28,12 @@ unfolding shifted
 shifted-den Upper p rate = refl
 shifted-den Lower p rate = refl
 
-pub shifted-high : (side : Side) (p rate : ℕ) → RangeInputs p rate → shifted side p rate .num ≤ priceMost * (whole + rateMost)
+pub shifted-high : (side : Side) (p : Price) (rate : Rate) → RangeInputs p rate
+    → shifted side (p .units) (rate .bp) .num ≤ priceMost * (whole + rateMost)
 unfolding shifted
-shifted-high Upper p rate r = let h : whole + rate ≤ whole + rateMost = omega (arith, r .rate-high) in mul-le-mul (r .price) h
-shifted-high Lower p rate r = let h : whole - rate ≤ whole + rateMost = omega arith in mul-le-mul (r .price) h
+shifted-high Upper p rate r =
+    let h : whole + rate .bp ≤ whole + rateMost = omega (arith, r .rate-high) in mul-le-mul (r .price) h
+shifted-high Lower p rate r = let h : whole - rate .bp ≤ whole + rateMost = omega arith in mul-le-mul (r .price) h
 
 pub farthest-high : (st : Statics) (side : Side) → LimitStatics st → farthestRate st side ≤ rateMost
 farthest-high st Upper s = s .upper-high

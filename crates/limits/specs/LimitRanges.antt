@@ -6,6 +6,8 @@ use native.Mathlib.Omega.{arith}
 use lib.IntN.{ℤ}
 use lib.Signed.{mag}
 use borrow.Author.Tests.{leb-true}
+use Rattle.paper.specs.declared.Price.{Price}
+use Rattle.paper.specs.declared.Rate.{Rate}
 use Rattle.paper.specs.declared.Statics.{Statics}
 use Rattle.paper.specs.declared.Side.{Side}
 use Rattle.paper.specs.declared.Side.the-variants.{Upper, Lower}
@@ -23,22 +25,22 @@ use Rattle.limits.specs.Sides.{repoOf}
 -- ---- the ranges
 
 -- of a range limit, and of delta: the evaluation P and a rate
-pub record RangeInputs (p rate : ℕ) : Type 0 where
-  pub price : p ≤ priceMost
-  pub rate-high : rate ≤ rateMost
+pub record RangeInputs (p : Price) (rate : Rate) : Type 0 where
+  pub price : p .units ≤ priceMost
+  pub rate-high : rate .bp ≤ rateMost
 
 -- of a band limit: the evaluation P, S_1, the moves c, the days k and that side's repo rate
-pub record BandInputs (p s1 c k : ℕ) (repo : ℤ) : Type 0 where
-  pub price : p ≤ priceMost
-  pub rate-high : s1 ≤ rateMost
+pub record BandInputs (p : Price) (s1 : Rate) (c k : ℕ) (repo : ℤ) : Type 0 where
+  pub price : p .units ≤ priceMost
+  pub rate-high : s1 .bp ≤ rateMost
   pub moves-high : c ≤ movesMost
   pub days : k ≤ termDaysMost
   pub repo-high : mag repo ≤ mag repoMost
 
 -- of a term's band
-pub record TermInputs (p s1 : ℕ) (c : Moves) (x : Term) : Type 0 where
-  pub price : p ≤ priceMost
-  pub rate-high : s1 ≤ rateMost
+pub record TermInputs (p : Price) (s1 : Rate) (c : Moves) (x : Term) : Type 0 where
+  pub price : p .units ≤ priceMost
+  pub rate-high : s1 .bp ≤ rateMost
   pub upper-moves : c .upper ≤ movesMost
   pub lower-moves : c .lower ≤ movesMost
   pub term : validTerm x ≡ true
@@ -59,11 +61,12 @@ pub term-days : (x : Term) → validTerm x ≡ true → x .k ≤ termDaysMost
 unfolding validTerm
 term-days x v = leb-true _ _ (search (v, and-left, and-right))
 
-moves-high : (p s1 : ℕ) (side : Side) (c : Moves) (x : Term) → TermInputs p s1 c x → countOf side c ≤ movesMost
+moves-high : (p : Price) (s1 : Rate) (side : Side) (c : Moves) (x : Term) → TermInputs p s1 c x
+    → countOf side c ≤ movesMost
 moves-high p s1 Upper c x r = r .upper-moves
 moves-high p s1 Lower c x r = r .lower-moves
 
-pub side-inputs : (p s1 : ℕ) (side : Side) (c : Moves) (x : Term) → TermInputs p s1 c x
+pub side-inputs : (p : Price) (s1 : Rate) (side : Side) (c : Moves) (x : Term) → TermInputs p s1 c x
     → BandInputs p s1 (countOf side c) (x .k) (repoOf side x)
 side-inputs p s1 side c x r =
     record {
@@ -84,20 +87,22 @@ one-more-high Lower c u l h = (u, omega arith)
 
 -- ---- what the gateway tests is what its limits ask
 
-pub range-inputs : (st : Statics) (p rate side : ℕ) → rangeInRange st p rate side ≡ true → RangeInputs p rate
+pub range-inputs : (st : Statics) (p : Price) (rate : Rate) (side : ℕ)
+    → rangeInRange st (p .units) (rate .bp) side ≡ true → RangeInputs p rate
 unfolding rangeInRange isGridPrice isPrice isRate
 range-inputs st p rate side v =
     record {
-      price = leb-true p priceMost (search (v, and-left, and-right));
-      rate-high = leb-true rate rateMost (search (v, and-left, and-right));
+      price = leb-true (p .units) priceMost (search (v, and-left, and-right));
+      rate-high = leb-true (rate .bp) rateMost (search (v, and-left, and-right));
     }
 
-pub band-inputs : (st : Statics) (p s1 k : ℕ) (repo : ℤ) (c side : ℕ) → bandInRange st p s1 k repo c side ≡ true → BandInputs p s1 c k repo
+pub band-inputs : (st : Statics) (p : Price) (s1 : Rate) (k : ℕ) (repo : ℤ) (c side : ℕ)
+    → bandInRange st (p .units) (s1 .bp) k repo c side ≡ true → BandInputs p s1 c k repo
 unfolding bandInRange isGridPrice isPrice isRate
 band-inputs st p s1 k repo c side v =
     record {
-      price = leb-true p priceMost (search (v, and-left, and-right) depth 10);
-      rate-high = leb-true s1 rateMost (search (v, and-left, and-right));
+      price = leb-true (p .units) priceMost (search (v, and-left, and-right) depth 10);
+      rate-high = leb-true (s1 .bp) rateMost (search (v, and-left, and-right));
       moves-high = leb-true c movesMost (search (v, and-left, and-right));
       days = leb-true k termDaysMost (search (v, and-left, and-right));
       repo-high = repo-size repo (search (v, and-left, and-right)) (search (v, and-left, and-right));

@@ -1,9 +1,13 @@
-// Document 01, "Ranges, bands, alerts, moves" (10.1, 11.2, 17.8, 18): the limits by value, each rounded once by (g), and what a move makes of
-// them.
+// Document 01, "Ranges, bands, alerts, moves" (10.1, 11.2, 17.8, 18): the limits by value, each rounded once by (g),
+// and what a move makes of them. P is a price; S_L, S_1 and the two maxima are rates. A limit and delta are bare
+// numbers of units, and a repo rate is one of basis points: neither is a price or a rate, since a repo rate may be
+// negative, and a limit 0 or above every price.
 use inputs::grid_of;
 use paper::HUNDRED;
 use paper::Limits;
 use paper::Moves;
+use paper::Price;
+use paper::Rate;
 use paper::Side;
 use paper::Statics;
 use paper::Term;
@@ -29,27 +33,27 @@ fn less(a: u64, b: u64) -> u64
 // ---- ranges
 
 // P·(1 ± rate) over the whole.
-fn shifted(side: Side, p: u64, rate: u64) -> u64
+fn shifted(side: Side, p: Price, rate: Rate) -> u64
     requires { ⌜ RangeInputs p rate ⌝ }
-    ensures { λ r. ⌜ r ≡ shifted side p rate .num ⌝ }
+    ensures { λ r. ⌜ r ≡ shifted side (p .units) (rate .bp) .num ⌝ }
 {
     match side {
-        Side::Upper => p * (WHOLE + rate),
-        Side::Lower => p * (WHOLE - rate),
+        Side::Upper => p.units * (WHOLE + rate.bp),
+        Side::Lower => p.units * (WHOLE - rate.bp),
     }
 }
 
 // "Range of level L: P·(1 ± S_L)."
-pub fn range_limit(st: Statics, side: Side, p: u64, rate: u64) -> u64
+pub fn range_limit(st: Statics, side: Side, p: Price, rate: Rate) -> u64
     requires { ⌜ RangeInputs p rate ⌝ }
-    ensures { λ r. ⌜ r ≡ rangeLimit st side p rate ⌝ }
+    ensures { λ r. ⌜ r ≡ rangeLimit st side (p .units) (rate .bp) ⌝ }
 {
     exact::to_grid(grid_of(st.lot), shifted(side, p, rate), WHOLE)
 }
 
-pub fn range_of(st: Statics, p: u64, rate: u64) -> Limits
+pub fn range_of(st: Statics, p: Price, rate: Rate) -> Limits
     requires { ⌜ RangeInputs p rate ⌝ }
-    ensures { λ r. ⌜ r ≡ rangeOf st p rate ⌝ }
+    ensures { λ r. ⌜ r ≡ rangeOf st (p .units) (rate .bp) ⌝ }
 {
     Limits {
         lower: range_limit(st, Side::Lower, p, rate),
@@ -60,23 +64,24 @@ pub fn range_of(st: Statics, p: u64, rate: u64) -> Limits
 // ---- bands
 
 // PcH_max above, PcL_max below.
-fn farthest_rate(st: Statics, side: Side) -> u64
-    ensures { λ r. ⌜ r ≡ farthestRate st side ⌝ }
+fn farthest_rate(st: Statics, side: Side) -> Rate
+    requires { ⌜ validStatics st ≡ true ⌝ }
+    ensures { λ r. ⌜ r .bp ≡ farthestRate st side ⌝ }
 {
     match side {
-        Side::Upper => st.pchmax,
-        Side::Lower => st.pclmax,
+        Side::Upper => Rate::of(st.pchmax),
+        Side::Lower => Rate::of(st.pclmax),
     }
 }
 
 // x_pr ± e·S_1 in millionths, with e = 1 + 2·c·shift; below, "max(0, ..)".
-fn spread(st: Statics, side: Side, s1: u64, c: u64) -> u64
+fn spread(st: Statics, side: Side, s1: Rate, c: u64) -> u64
     requires { ⌜ validStatics st ≡ true ⌝ }
-    requires { ⌜ (s1 ≤ rateMost) × (c ≤ movesMost) ⌝ }
-    ensures { λ r. ⌜ r ≡ spread st side s1 c ⌝ }
+    requires { ⌜ (s1 .bp ≤ rateMost) × (c ≤ movesMost) ⌝ }
+    ensures { λ r. ⌜ r ≡ spread st side (s1 .bp) c ⌝ }
 {
     let middle = WHOLE * st.xpr;
-    let away = (HUNDRED + 2 * c * st.shift) * s1;
+    let away = (HUNDRED + 2 * c * st.shift) * s1.bp;
     match side {
         Side::Upper => middle + away,
         Side::Lower => less(middle, away),
@@ -84,15 +89,15 @@ fn spread(st: Statics, side: Side, s1: u64, c: u64) -> u64
 }
 
 // "P·(1 + e·S_1/x_pr)·(1 + RRcH·k/36500)" above, "P·max(0, 1 - e·S_1/x_pr)·(1 + RRcL·k/36500)" below, rounded once.
-fn monitored_limit(st: Statics, side: Side, p: u64, s1: u64, c: u64, k: u64, repo: i64) -> u64
+fn monitored_limit(st: Statics, side: Side, p: Price, s1: Rate, c: u64, k: u64, repo: i64) -> u64
     requires { ⌜ validStatics st ≡ true ⌝ }
     requires { ⌜ BandInputs p s1 c k repo ⌝ }
-    ensures { λ r. ⌜ r ≡ limitOf st (monitored st side p s1 c k repo) ⌝ }
+    ensures { λ r. ⌜ r ≡ limitOf st (monitored st side (p .units) (s1 .bp) c k repo) ⌝ }
 {
     let days = exact::grow(YEAR, k, repo);
     exact::product_to_grid(
         grid_of(st.lot),
-        p,
+        p.units,
         spread(st, side, s1, c),
         days,
         WHOLE * st.xpr * YEAR,
@@ -110,10 +115,10 @@ fn narrower(side: Side, x: u64, y: u64) -> u64
 }
 
 // Each of the two is rounded and then one is taken: a rounding keeps order, so that this is the one that the paper takes, rounded once.
-pub fn band_limit(st: Statics, side: Side, p: u64, s1: u64, c: u64, k: u64, repo: i64) -> u64
+pub fn band_limit(st: Statics, side: Side, p: Price, s1: Rate, c: u64, k: u64, repo: i64) -> u64
     requires { ⌜ validStatics st ≡ true ⌝ }
     requires { ⌜ BandInputs p s1 c k repo ⌝ }
-    ensures { λ r. ⌜ r ≡ bandLimit st side p s1 c k repo ⌝ }
+    ensures { λ r. ⌜ r ≡ bandLimit st side (p .units) (s1 .bp) c k repo ⌝ }
 {
     let farthest = range_limit(st, side, p, farthest_rate(st, side));
     if st.monitoring {
@@ -124,10 +129,10 @@ pub fn band_limit(st: Statics, side: Side, p: u64, s1: u64, c: u64, k: u64, repo
 }
 
 // A term's band: "c the moves of that side since the evaluation".
-pub fn band_of(st: Statics, p: u64, s1: u64, c: Moves, x: Term) -> Limits
+pub fn band_of(st: Statics, p: Price, s1: Rate, c: Moves, x: Term) -> Limits
     requires { ⌜ validStatics st ≡ true ⌝ }
     requires { ⌜ TermInputs p s1 c x ⌝ }
-    ensures { λ r. ⌜ r ≡ bandOf st p s1 c x ⌝ }
+    ensures { λ r. ⌜ r ≡ bandOf st (p .units) (s1 .bp) c x ⌝ }
 {
     Limits {
         lower: band_limit(st, Side::Lower, p, s1, c.lower, x.k, x.low),
@@ -145,12 +150,16 @@ pub fn is_crossed(x: Limits) -> bool
 // ---- moves
 
 // "delta = 2·shift·S_1·P/x_pr"
-pub fn delta(st: Statics, p: u64, s1: u64) -> u64
+pub fn delta(st: Statics, p: Price, s1: Rate) -> u64
     requires { ⌜ validStatics st ≡ true ⌝ }
     requires { ⌜ RangeInputs p s1 ⌝ }
-    ensures { λ r. ⌜ r ≡ deltaOf st p s1 ⌝ }
+    ensures { λ r. ⌜ r ≡ deltaOf st (p .units) (s1 .bp) ⌝ }
 {
-    exact::to_grid(grid_of(st.lot), 2 * st.shift * s1 * p, WHOLE * st.xpr)
+    exact::to_grid(
+        grid_of(st.lot),
+        2 * st.shift * s1.bp * p.units,
+        WHOLE * st.xpr,
+    )
 }
 
 // "It adds one to c".

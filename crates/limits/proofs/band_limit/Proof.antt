@@ -1,5 +1,5 @@
 -- `limits::band_limit` meets its contract: the narrower of the two rounded is the narrower rounded. Assumes nothing.
-use mathlib.Core.Path.{_≡_, sym, ap, _∙_}
+use mathlib.Core.Path.{_≡_, sym, _∙_}
 use Prim.Native.Nat.{ℕ}
 use mir.Facts.{toZ-ofZ}
 use borrow.Author.Needs.{needs}
@@ -17,8 +17,10 @@ range-limit-requires : tie.Need-range-limit-requires
 range-limit-requires c κs =
     let s = c .before in
     let v = limit-statics (s .args .st) (s .pre .0) in
-    rw (c .farthest-rate .ensures)
-    (record { price = s .pre .1 .price; rate-high = farthest-high (s .args .st) (s .args .side) v })
+    record {
+      price = s .pre .1 .price;
+      rate-high = rw (c .farthest-rate .ensures) (farthest-high (s .args .st) (s .args .side) v);
+    }
 
 monitored-limit-requires : tie.Need-monitored-limit-requires
 monitored-limit-requires c κs = search needs
@@ -28,12 +30,10 @@ narrower-requires c κs = search needs
 
 -- the farthest limit
 abbrev Far : tie.Start → ℕ
-Far s = rangeLimit (s .args .st) (s .args .side) (s .args .p) (farthestRate (s .args .st) (s .args .side))
+Far s = rangeLimit (s .args .st) (s .args .side) (s .args .p .units) (farthestRate (s .args .st) (s .args .side))
 
 far : (c : tie.After-range-limit) → c .range-limit .result ≡ Far (c .before .before)
-far c =
-    let a = c .before .before .args in
-    c .range-limit .ensures ∙ ap (rangeLimit (a .st) (a .side) (a .p)) (c .before .farthest-rate .ensures)
+far c = rw (c .before .farthest-rate .ensures) at (c .range-limit .ensures)
 
 returns : tie.Need-returns
 returns c =
@@ -42,12 +42,13 @@ returns c =
     let a = s .args in
     let v = limit-statics (a .st) (s .pre .0) in
     rw (c .narrower .ensures, far (m .before .before), m .monitored-limit .ensures, toZ-ofZ (s .fits .repo))
-    (sym (band-monitored (a .st) (a .side) (a .p) (a .s1) (a .c) (a .k) (a .repo) v (m .before .if1 .taken)))
+    (sym (band-monitored (a .st) (a .side) (a .p .units) (a .s1 .bp) (a .c) (a .k) (a .repo) v (m .before .if1 .taken)))
 
 returns-2 : tie.Need-returns-2
 returns-2 c =
     let a = c .before .before .before .args in
-    far (c .before) ∙ sym (band-unmonitored (a .st) (a .side) (a .p) (a .s1) (a .c) (a .k) (a .repo) (c .if1 .left))
+    far (c .before)
+    ∙ sym (band-unmonitored (a .st) (a .side) (a .p .units) (a .s1 .bp) (a .c) (a .k) (a .repo) (c .if1 .left))
 
 pub band-limit-spec : {M : Type 1} → statement M
 band-limit-spec =

@@ -1,11 +1,12 @@
 -- `limits::band_of` meets its contract, side by side, each with its own moves and repo rate. Assumes nothing.
 use mathlib.Core.Path.{_≡_}
 use mathlib.Core.Bool.{true}
-use Prim.Native.Nat.{ℕ}
 use native.Mathlib.Omega.{arith}
 use mir.Syntax.{w64}
 use mir.Val.{toZ, ofZ}
 use mir.Facts.{toZ-ofZ}
+use Rattle.paper.specs.declared.Price.{Price}
+use Rattle.paper.specs.declared.Rate.{Rate}
 use Rattle.paper.specs.declared.Side.{Side}
 use Rattle.paper.specs.declared.Side.the-variants.{Upper, Lower}
 use Rattle.paper.specs.declared.Moves.{Moves}
@@ -21,7 +22,7 @@ use Rattle.limits.proofs.band_of.Tie as tie
 bits : (side : Side) (x : Term) → validTerm x ≡ true → toZ w64 (ofZ w64 (repoOf side x)) ≡ repoOf side x
 bits side x v = toZ-ofZ (record { sfits = omega (arith, term-repo side x v) })
 
-inputs : (p s1 : ℕ) (side : Side) (c : Moves) (x : Term) → TermInputs p s1 c x
+inputs : (p : Price) (s1 : Rate) (side : Side) (c : Moves) (x : Term) → TermInputs p s1 c x
     → BandInputs p s1 (countOf side c) (x .k) (toZ w64 (ofZ w64 (repoOf side x)))
 inputs p s1 side c x r = rw (bits side x (r .term)) (side-inputs p s1 side c x r)
 

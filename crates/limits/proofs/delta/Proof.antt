@@ -21,22 +21,23 @@ mul-to-grid : tie.Need-mul-to-grid
 mul-to-grid c = omega (arith, sizes (c .before .before) .shift)
 
 mul-to-grid-2 : tie.Need-mul-to-grid-2
-mul-to-grid-2 c = omega (arith, sizes (c .before .before) .rates)
+mul-to-grid-2 c = omega (arith, sizes (c .before .before .before) .rates)
 
 mul-to-grid-3 : tie.Need-mul-to-grid-3
-mul-to-grid-3 c = omega (arith, sizes (c .before .before) .num)
+mul-to-grid-3 c = omega (arith, sizes (c .before .before .before .before) .num)
 
 mul-to-grid-4 : tie.Need-mul-to-grid-4
-mul-to-grid-4 c = omega (arith, statics (c .before .before .before) .divisor-high)
+mul-to-grid-4 c = omega (arith, statics (c .before .before .before .before .before) .divisor-high)
 
 to-grid-requires : tie.Need-to-grid-requires
 to-grid-requires c κs =
-    let s = c .before .before .before in
-    rw (c .before .before .grid-of .ensures) (omega (arith, grid-range (s .args .st .lot), statics s, sizes s))
+    let g = c .before .before .before .before in
+    let s = g .before in
+    rw (g .grid-of .ensures) (omega (arith, grid-range (s .args .st .lot), statics s, sizes s))
 
 returns : tie.Need-returns
 unfolding deltaOf limitOf
-returns c = rw (c .to-grid .ensures, c .before .before .before .grid-of .ensures)
+returns c = rw (c .to-grid .ensures, c .before .before .before .before .before .grid-of .ensures)
 
 pub delta-spec : {M : Type 1} → statement M
 delta-spec =

@@ -48,7 +48,7 @@ product-to-grid-requires c κs =
     let a = s .args in
     let b = s .pre .1 in
     let d = days-high (c .before .before .before) in
-    let most = spread-high (a .st) (a .side) (a .s1) (a .c) (statics s) (b .rate-high) (b .moves-high) in
+    let most = spread-high (a .st) (a .side) (a .s1 .bp) (a .c) (statics s) (b .rate-high) (b .moves-high) in
     rw (c .before .before .grid-of .ensures, c .before .spread .ensures)
     (omega (arith, grid-range (a .st .lot), most, statics s, d))
 

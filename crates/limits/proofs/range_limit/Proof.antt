@@ -24,7 +24,12 @@ unfolding rangeLimit limitOf
 returns c =
     let m = c .before in
     let a = m .before .before .args in
-    rw (c .to-grid .ensures, m .before .grid-of .ensures, m .shifted .ensures, shifted-den (a .side) (a .p) (a .rate))
+    rw (
+      c .to-grid .ensures,
+      m .before .grid-of .ensures,
+      m .shifted .ensures,
+      shifted-den (a .side) (a .p .units) (a .rate .bp),
+    )
 
 pub range-limit-spec : {M : Type 1} → statement M
 range-limit-spec = tie.close (tie.spec grid-of-requires shifted-requires to-grid-requires returns)

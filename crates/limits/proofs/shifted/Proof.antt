@@ -16,7 +16,7 @@ add-result c = search needs
 mul-result : tie.Need-mul-result
 unfolding shifted
 mul-result c =
-    let s = c .before .before in
+    let s = c .before .before .before .before in
     omega (arith, shifted-high Upper (s .args .p) (s .args .rate) (s .pre))
 
 enum-told-2 : tie.Need-enum-told-2
@@ -28,16 +28,16 @@ sub-result c = search needs
 mul-result-2 : tie.Need-mul-result-2
 unfolding shifted
 mul-result-2 c =
-    let s = c .before .before in
+    let s = c .before .before .before .before in
     omega (arith, shifted-high Lower (s .args .p) (s .args .rate) (s .pre))
 
 returns : tie.Need-returns
 unfolding shifted
-returns c = rw (c .enum-told .given .1)
+returns c = rw (c .before .before .enum-told .given .1)
 
 returns-2 : tie.Need-returns-2
 unfolding shifted
-returns-2 c = rw (c .enum-told2 .given .1)
+returns-2 c = rw (c .before .before .enum-told2 .given .1)
 
 pub shifted-spec : {M : Type 1} → statement M
 shifted-spec =

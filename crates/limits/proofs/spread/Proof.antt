@@ -16,13 +16,13 @@ record Sizes (st : Statics) (s1 c : ℕ) : Type 0 where
   shifts : c * st .shift ≤ movesMost * shiftMost
   away : (hundred + 2 * c * st .shift) * s1 ≤ (hundred + 2 * movesMost * shiftMost) * rateMost
 
-sizes : (c : tie.Start) → Sizes (c .args .st) (c .args .s1) (c .args .c)
+sizes : (c : tie.Start) → Sizes (c .args .st) (c .args .s1 .bp) (c .args .c)
 sizes c =
     let s = limit-statics (c .args .st) (c .pre .0) in
     record {
       middle = s .divisor-high;
       shifts = mul-le-mul (c .pre .1 .1) (s .shift-high);
-      away = away-high (c .args .st) (c .args .s1) (c .args .c) s (c .pre .1 .0) (c .pre .1 .1);
+      away = away-high (c .args .st) (c .args .s1 .bp) (c .args .c) s (c .pre .1 .0) (c .pre .1 .1);
     }
 
 mul-middle : tie.Need-mul-middle
@@ -38,13 +38,15 @@ add-away : tie.Need-add-away
 add-away c = omega (arith, sizes (c .before .before) .shifts)
 
 mul-away-3 : tie.Need-mul-away-3
-mul-away-3 c = omega (arith, sizes (c .before .before) .away)
+mul-away-3 c = omega (arith, sizes (c .before .before .before) .away)
 
 enum-told : tie.Need-enum-told
 enum-told c = search needs
 
 add-result : tie.Need-add-result
-add-result c = omega (arith, sizes (c .before .before .before .before) .middle, sizes (c .before .before .before .before) .away)
+add-result c =
+    let s = sizes (c .before .before .before .before .before) in
+    omega (arith, s .middle, s .away)
 
 enum-told-2 : tie.Need-enum-told-2
 enum-told-2 c = search needs
