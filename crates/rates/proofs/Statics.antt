@@ -58,7 +58,7 @@ level-statics st level r = go (eqb level 1) (eqb level 2)
 
 -- a sound record's figures are in the ranges of an evaluation
 pub sound-ranges : (r : Record) (m : ℕ) → sound r ≡ true → m ≤ aheadMost
-    → FigureRanges (r .statics) m (getD (r .rates) 0 noRate .bp) (r .s) (r .tentative)
+    → FigureRanges (r .statics) m (getD (r .rates) 0 noRate) (r .s) (r .tentative)
 unfolding sound validTentative isRate
 sound-ranges r m v h =
     let statics : RateStatics (r .statics) = valid-rates (r .statics) (search (v, and-left, and-right) depth 40) in

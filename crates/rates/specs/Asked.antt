@@ -1,6 +1,7 @@
 -- What the rate rules ask of the numbers that they are given: no more than "Units and ranges" allows. Assumes nothing.
 use mathlib.Core.Path.{_≡_}
 use Prim.Native.Nat.{ℕ, _+_, _*_, _/_, _%_, _≤_}
+use Rattle.paper.specs.declared.Rate.{Rate}
 use Rattle.paper.specs.declared.Statics.{Statics}
 use Rattle.paper.specs.declared.Tentative.{Tentative}
 use Rattle.paper.specs.Numbers.{whole, rateMost, volatilityMost, ageMost, aheadMost, stepMost, multiplierLeast, multiplierMost, weightMost, firstDaysMost, daysMost, liquidityMost}
@@ -31,10 +32,10 @@ abbrev pub tentativeMost : ℕ
 tentativeMost = multiplierMost * volatilityMost / whole + stepMost
 
 -- the figures that an evaluation carries on, and the days ahead
-pub record FigureRanges (st : Statics) (m s1 s : ℕ) (old : Tentative) : Type 0 where
+pub record FigureRanges (st : Statics) (m : ℕ) (s1 : Rate) (s : ℕ) (old : Tentative) : Type 0 where
   pub statics : RateStatics st
   pub ahead : m ≤ aheadMost
-  pub last-rate : s1 ≤ rateMost
+  pub last-rate : s1 .bp ≤ rateMost
   pub volatility : s ≤ volatilityMost
   pub tentative : old .bp ≤ tentativeMost
   pub age : old .age ≤ ageMost

@@ -12,7 +12,7 @@ use Rattle.rates.specs.declared.level.Level.{Level}
 
 -- rh_L and S_L_min of a level
 abbrev pub levelOf : Statics → ℕ → Level
-levelOf st level = record { days = daysOf st level; minimum = minimumOf st level }
+levelOf st level = record { days = daysOf st level; minimum = record { bp = minimumOf st level } }
 
 -- the two numbers under the roots
 abbrev pub tentativeSquare : (rh1 rh m tentative : ℕ) → ℕ

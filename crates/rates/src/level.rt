@@ -1,4 +1,5 @@
-// The rate of a level (7.1).
+// The rate of a level (7.1). It and the level's minimum are rates; the tentative rate that it is made of is a bare
+// number, whose range is its own.
 ghost use mathlib.Core.Path.{_≡_};
 ghost use Prim.Native.Nat.{_*_, _≤_, _<_};
 ghost use Rattle.paper.specs.Lists.{forLevels};
@@ -12,26 +13,27 @@ use paper::Statics;
 // A level's own statics: rh_L and S_L_min.
 pub struct Level {
     pub days: u64,
-    pub minimum: u64,
+    pub minimum: Rate,
 }
 
 pub fn level_of(st: Statics, level: u64) -> Level
+    requires { ⌜ RateStatics st ⌝ }
     ensures { λ r. ⌜ r ≡ levelOf st level ⌝ }
 {
     if level == 1 {
         Level {
             days: st.rh1,
-            minimum: st.min1,
+            minimum: Rate::of(st.min1),
         }
     } else if level == 2 {
         Level {
             days: st.rh2,
-            minimum: st.min2,
+            minimum: Rate::of(st.min2),
         }
     } else {
         Level {
             days: st.rh3,
-            minimum: st.min3,
+            minimum: Rate::of(st.min3),
         }
     }
 }
@@ -82,16 +84,16 @@ fn least_reach(low: u64, high: u64, step: u64, a: u64, b: u64) -> u64
 }
 
 // S_max where the requirement exceeds it, else the least multiple of h from S_L_min on that covers it, found by its number of steps.
-pub fn level_rate(st: Statics, level: u64, m: u64, tentative: u64) -> u64
+pub fn level_rate(st: Statics, level: u64, m: u64, tentative: u64) -> Rate
     requires { ⌜ RateStatics st ⌝ }
     requires { ⌜ (m ≤ aheadMost) × (tentative ≤ tentativeMost) ⌝ }
-    ensures { λ r. ⌜ r ≡ levelRate st level m tentative ⌝ }
+    ensures { λ r. ⌜ r .bp ≡ levelRate st level m tentative ⌝ }
 {
     let own = level_of(st, level);
     let a = tentative_square(st.rh1, own.days, m, tentative);
     let b = liquidity_square(st.rh1, own.days, st.liq);
-    let steps = least_reach(own.minimum / st.h, st.smax / st.h, st.h * st.rh1, a, b);
-    steps * st.h
+    let steps = least_reach(own.minimum.bp / st.h, st.smax / st.h, st.h * st.rh1, a, b);
+    Rate::of(steps * st.h)
 }
 
 // The three rates.
@@ -101,25 +103,16 @@ pub fn rates_of(st: Statics, m: u64, tentative: u64) -> [Rate; 3]
     ensures { λ r. ⌜ r ≡ forLevels (λ l. record { bp = levelRate st l m tentative }) ⌝ }
 {
     [
-        Rate {
-            bp: level_rate(st, 1, m, tentative),
-        },
-        Rate {
-            bp: level_rate(st, 2, m, tentative),
-        },
-        Rate {
-            bp: level_rate(st, 3, m, tentative),
-        },
+        level_rate(st, 1, m, tentative),
+        level_rate(st, 2, m, tentative),
+        level_rate(st, 3, m, tentative),
     ]
 }
 
 // The three minima, as rates.
 pub fn minima(st: Statics) -> [Rate; 3]
+    requires { ⌜ RateStatics st ⌝ }
     ensures { λ r. ⌜ r ≡ forLevels (λ l. record { bp = minimumOf st l }) ⌝ }
 {
-    [
-        Rate { bp: st.min1 },
-        Rate { bp: st.min2 },
-        Rate { bp: st.min3 },
-    ]
+    [Rate::of(st.min1), Rate::of(st.min2), Rate::of(st.min3)]
 }

@@ -9,7 +9,7 @@ ghost use mathlib.Core.Bool.{false};
 ghost use Prim.Native.Nat.{_≤_};
 ghost use Rattle.paper.specs.Numbers.{volatilityMost};
 ghost use Rattle.paper.specs.Rates.{modelled, unmodelled, figuresOf, moveTooLarge};
-ghost use Rattle.rates.specs.Asked.{FigureRanges};
+ghost use Rattle.rates.specs.Asked.{RateStatics, FigureRanges};
 ghost use Rattle.rates.specs.Figures.{handed};
 use paper::HUNDRED;
 use paper::Rate;
@@ -31,13 +31,13 @@ pub fn move_too_large(st: Statics, r: u64) -> bool
     st.ewma & (r > Record::VOLATILITY_MOST)
 }
 
-fn modelled(st: Statics, b: u64, m: u64, s1: u64, r: u64, s: u64, old: Tentative) -> Figures
+fn modelled(st: Statics, b: u64, m: u64, s1: Rate, r: u64, s: u64, old: Tentative) -> Figures
     requires { ⌜ FigureRanges st m s1 s old ⌝ }
     requires { ⌜ r ≤ volatilityMost ⌝ }
-    ensures { λ f. ⌜ f ≡ handed (modelled st b m s1 r s old) ⌝ }
+    ensures { λ f. ⌜ f ≡ handed (modelled st b m (s1 .bp) r s old) ⌝ }
 {
     let model = volatility::model_of(st);
-    let carried = volatility::volatility_of(model, b, HUNDRED * s1, r, s);
+    let carried = volatility::volatility_of(model, b, HUNDRED * s1.bp, r, s);
     let t = tentative::wanted(st, carried);
     let tentative = tentative::tentative_after(st.h, st.wait, t, old);
     let rates = level::rates_of(st, m, tentative.bp);
@@ -49,6 +49,7 @@ fn modelled(st: Statics, b: u64, m: u64, s1: u64, r: u64, s: u64, old: Tentative
 }
 
 fn unmodelled(st: Statics, s: u64, old: Tentative) -> Figures
+    requires { ⌜ RateStatics st ⌝ }
     ensures { λ f. ⌜ f ≡ handed (unmodelled st s old) ⌝ }
 {
     let rates = level::minima(st);
@@ -60,10 +61,10 @@ fn unmodelled(st: Statics, s: u64, old: Tentative) -> Figures
 }
 
 // The figures of an evaluation whose move is not too large.
-pub fn figures_of(st: Statics, b: u64, m: u64, s1: u64, r: u64, s: u64, old: Tentative) -> Figures
+pub fn figures_of(st: Statics, b: u64, m: u64, s1: Rate, r: u64, s: u64, old: Tentative) -> Figures
     requires { ⌜ FigureRanges st m s1 s old ⌝ }
     requires { ⌜ moveTooLarge st r ≡ false ⌝ }
-    ensures { λ f. ⌜ f ≡ handed (figuresOf st b m s1 r s old) ⌝ }
+    ensures { λ f. ⌜ f ≡ handed (figuresOf st b m (s1 .bp) r s old) ⌝ }
 {
     if st.ewma {
         modelled(st, b, m, s1, r, s, old)

@@ -9,21 +9,25 @@ ghost use Rattle.paper.proofs.Volatility.{Weighing};
 use paper::HUNDRED;
 use paper::MILLION;
 use paper::Model;
+use paper::Price;
 use paper::Statics;
 use paper::WHOLE;
 
 // Place (e).
-fn move_from(earlier: u64, p: u64) -> u64
-    requires { ⌜ (isPrice earlier ≡ true) × (isPrice p ≡ true) ⌝ }
-    ensures { λ r. ⌜ r ≡ moveFrom earlier p ⌝ }
+fn move_from(earlier: Price, p: Price) -> u64
+    requires { ⌜ (isPrice (earlier .units) ≡ true) × (isPrice (p .units) ≡ true) ⌝ }
+    ensures { λ r. ⌜ r ≡ moveFrom (earlier .units) (p .units) ⌝ }
 {
-    exact::up(exact::apart(p, earlier) * MILLION, earlier)
+    exact::up(
+        exact::apart(p.units, earlier.units) * MILLION,
+        earlier.units,
+    )
 }
 
 // The r of the paper, in millionths.
-pub fn move_of(p1: u64, p2: u64, p: u64) -> u64
-    requires { ⌜ (isPrice p1 ≡ true) × (isPrice p2 ≡ true) × (isPrice p ≡ true) ⌝ }
-    ensures { λ r. ⌜ r ≡ moveOf p1 p2 p ⌝ }
+pub fn move_of(p1: Price, p2: Price, p: Price) -> u64
+    requires { ⌜ (isPrice (p1 .units) ≡ true) × (isPrice (p2 .units) ≡ true) × (isPrice (p .units) ≡ true) ⌝ }
+    ensures { λ r. ⌜ r ≡ moveOf (p1 .units) (p2 .units) (p .units) ⌝ }
 {
     exact::greater(move_from(p1, p), move_from(p2, p))
 }

@@ -20,7 +20,7 @@ modelled-requires : tie.Need-modelled-requires
 modelled-requires c κs = (c .before .pre .0, move-held _ _ (c .before .pre .1) (c .if1 .taken))
 
 unmodelled-requires : tie.Need-unmodelled-requires
-unmodelled-requires c κs = search needs
+unmodelled-requires c κs = c .before .pre .0 .statics
 
 returns : tie.Need-returns
 unfolding figuresOf

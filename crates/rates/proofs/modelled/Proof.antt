@@ -14,30 +14,34 @@ model-of-requires : tie.Need-model-of-requires
 model-of-requires c κs = search needs
 
 mul-volatility-of : tie.Need-mul-volatility-of
-mul-volatility-of c = omega (arith, c .before .pre .0 .last-rate)
+mul-volatility-of c = omega (arith, c .before .before .pre .0 .last-rate)
 
 -- the weights and the multiplier are in range
 weighs : (c : tie.After-model-of) → Weighing (c .model-of .result)
 weighs c = rw (c .model-of .ensures) (rates-weighing _ (c .before .pre .0 .statics))
 
 volatility-of-requires : tie.Need-volatility-of-requires
-volatility-of-requires c κs = (weighs c, (c .before .pre .1, c .before .pre .0 .volatility))
+volatility-of-requires c κs = (weighs (c .before), (c .before .before .pre .1, c .before .before .pre .0 .volatility))
 
 wanted-requires : tie.Need-wanted-requires
 wanted-requires c κs =
-    let given = c .before .before .pre .0 in
-    (given .statics, rw (c .volatility-of .ensures) (volatility-high _ _ _ _ _ _ (weighs (c .before)) (given .volatility) (c .before .before .pre .1)))
+    let m = c .before .before in
+    let given = m .before .pre .0 in
+    let high = volatility-high _ _ _ _ _ _ (weighs m) (given .volatility) (m .before .pre .1) in
+    (given .statics, rw (c .volatility-of .ensures) high)
 
 -- t is at most S_max
-t-held : (c : tie.After-wanted) → c .wanted .result ≤ c .before .before .before .args .st .smax
+t-held : (c : tie.After-wanted) → c .wanted .result ≤ c .before .before .before .before .args .st .smax
 t-held c = rw (c .wanted .ensures) (wanted-held _ _)
 
 tentative-after-requires : tie.Need-tentative-after-requires
-tentative-after-requires c κs = omega (arith, t-held c, c .before .before .before .pre .0, c .before .before .before .pre .0 .statics)
+tentative-after-requires c κs =
+    let given = c .before .before .before .before .pre .0 in
+    omega (arith, t-held c, given, given .statics)
 
 rates-of-requires : tie.Need-rates-of-requires
 rates-of-requires c κs =
-    let given = c .before .before .before .before .pre .0 in
+    let given = c .before .before .before .before .before .pre .0 in
     let t-high : c .before .wanted .result ≤ tentativeMost = omega (arith, t-held (c .before), given .statics .most-high) in
     (given .statics, (given .ahead, rw (c .tentative-after .ensures) (tentative-held _ _ _ _ _ t-high (given .tentative))))
 
@@ -49,7 +53,7 @@ returns c =
       c .before .tentative-after .ensures,
       c .before .before .wanted .ensures,
       c .before .before .before .volatility-of .ensures,
-      c .before .before .before .before .model-of .ensures,
+      c .before .before .before .before .before .model-of .ensures,
     )
 
 pub modelled-spec : {M : Type 1} → statement M

@@ -4,7 +4,7 @@ use Prim.Native.Nat.{ℕ, _*_, _/_, _≤_}
 use native.Mathlib.Nat.{mul-le-mul}
 use native.Mathlib.Omega.{arith}
 use borrow.Author.Needs.{needs}
-use Rattle.paper.specs.Numbers.{daysMost}
+use Rattle.paper.specs.Numbers.{rateMost, daysMost}
 use Rattle.paper.specs.Rates.{levelRate}
 use Rattle.rates.proofs.Statics.{level-statics}
 use Rattle.rates.proofs.Reach.{steps-held, reach-rate, rate-held}
@@ -41,18 +41,40 @@ least-reach-requires c κs =
     rw (c .before .before .before .before .before .before .level-of .ensures)
     (held .0, held .1, c .before .before .before .before .before .tentative-square .ensures .1, c .before .before .before .before .liquidity-square .ensures .1)
 
-returns : tie.Need-returns
-returns c =
-    let squared = c .before .before .before .before .before .before in
-    let start = squared .before .before .before in
-    rw (c .before .least-reach .ensures, squared .liquidity-square .ensures .0, squared .before .tentative-square .ensures .0, squared .before .before .level-of .ensures)
-    (reach-rate (start .args .st) (start .args .level) (start .args .m) (start .args .tentative) (start .pre .0))
+-- the steps that were found, times h
+abbrev made : tie.After-struct-known5 → ℕ
+made c =
+    let a = c .before .before .before .before .before .before .before .before .before .args in
+    c .before .least-reach .result * a .st .h
 
-mul-result : tie.Need-mul-result
-mul-result c =
-    let start = c .before .before .before .before .before .before .before .before .before in
-    let held = rate-held (start .args .st) (start .args .level) (start .args .m) (start .args .tentative) (start .pre .0) in
-    omega (arith, returns c, start .pre .0 .most-high)
+is-rate : (c : tie.After-struct-known5)
+    → let a = c .before .before .before .before .before .before .before .before .before .args in
+    made c ≡ levelRate (a .st) (a .level) (a .m) (a .tentative)
+is-rate c =
+    let squared = c .before .before .before .before .before .before in
+    let s = squared .before .before .before in
+    rw (
+      c .before .least-reach .ensures,
+      squared .liquidity-square .ensures .0,
+      squared .before .tentative-square .ensures .0,
+      squared .before .before .level-of .ensures,
+    )
+    (reach-rate (s .args .st) (s .args .level) (s .args .m) (s .args .tentative) (s .pre .0))
+
+rate-high : (c : tie.After-struct-known5) → made c ≤ rateMost
+rate-high c =
+    let s = c .before .before .before .before .before .before .before .before .before in
+    let held = rate-held (s .args .st) (s .args .level) (s .args .m) (s .args .tentative) (s .pre .0) in
+    omega (arith, is-rate c, s .pre .0 .most-high)
+
+mul-of : tie.Need-mul-of
+mul-of c = omega (arith, rate-high c)
+
+of-requires : tie.Need-of-requires
+of-requires c κs = rate-high c
+
+returns : tie.Need-returns
+returns c = rw (c .of .ensures) (is-rate (c .before))
 
 pub level-rate-spec : {M : Type 1} → statement M
 level-rate-spec =
@@ -65,5 +87,6 @@ level-rate-spec =
     div-least-reach-2
     mul-least-reach
     least-reach-requires
-    mul-result
+    mul-of
+    of-requires
     returns)
