@@ -1,4 +1,6 @@
-// Document 01, "Ranges, bands, alerts, moves" (17.5): near sides and alerts, by value.
+// Document 01, "Ranges, bands, alerts, moves" (17.5): near sides and alerts, by value. A quote's bid and ask are no
+// prices of document 01's range: 0 is missing, and they go up to 10^11. So they are bare numbers of units here, as the
+// limits are that they are held against.
 use paper::Limits;
 use paper::Near;
 use paper::NearSeconds;

@@ -1,4 +1,6 @@
-// The evaluation of a day from its rows (6.1), with the roundings (a) to (d).
+// The evaluation of a day from its rows (6.1), with the roundings (a) to (d). The previous evaluation and the day's are
+// prices. The prices of the rows, and what is made of them before 7 has judged it, are bare numbers of units: 0 is
+// missing there, and a figure may be beyond a price's range.
 ghost use mathlib.Core.Path.{_≡_};
 ghost use mathlib.Core.Bool.{true};
 ghost use Prim.Native.Nat.{_*_, _≤_};
@@ -140,11 +142,11 @@ fn gather(rows: &[i64]) -> Gathered
 }
 
 // The weighted close, place (c), or with no weight the previous evaluation.
-fn close_of(book: Book, previous: u64) -> u64
-    ensures { λ r. ⌜ r ≡ closeIn previous book ⌝ }
+fn close_of(book: Book, previous: Price) -> u64
+    ensures { λ r. ⌜ r ≡ closeIn (previous .units) book ⌝ }
 {
     if book.weight == 0 {
-        previous
+        previous.units
     } else {
         exact::half_up(book.worth, book.weight)
     }
@@ -188,10 +190,10 @@ fn on_grid(g: u64, p: u64) -> Evaluation
 }
 
 // The evaluation of rows that are in range.
-pub fn evaluate(rows: &[i64], previous: u64, g: u64) -> Evaluation
+pub fn evaluate(rows: &[i64], previous: Price, g: u64) -> Evaluation
     requires { ⌜ validRows (now rows) ≡ true ⌝ }
-    requires { ⌜ (previous ≤ priceMost) × (1 ≤ g) × (g ≤ hundred) ⌝ }
-    ensures { λ r. ⌜ r ≡ evaluationMade g previous (dayRows (now (rows .entry))) ⌝ }
+    requires { ⌜ (previous .units ≤ priceMost) × (1 ≤ g) × (g ≤ hundred) ⌝ }
+    ensures { λ r. ⌜ r ≡ evaluationMade g (previous .units) (dayRows (now (rows .entry))) ⌝ }
 {
     let gathered = gather(rows);
     match gathered {
