@@ -7,6 +7,7 @@ use Prim.Native.Nat.{ℕ, zero, suc, _≤_, _<_}
 use native.Mathlib.Nat.{le-trans}
 use native.Mathlib.Omega.{arith}
 use lib.ListN.{length, getD}
+use Rattle.paper.specs.declared.Price.{Price}
 use Rattle.paper.specs.declared.Rate.{Rate}
 use Rattle.paper.specs.declared.Term.{Term}
 use Rattle.paper.specs.declared.Moves.{Moves}
@@ -56,7 +57,8 @@ band-near r q price s v h =
 
 -- ---- bands
 
-pub bands-asked : (p s1 : ℕ) (c : Moves) (terms : List Term) → RangeInputs p s1 → (c .upper ≤ movesMost) × (c .lower ≤ movesMost)
+pub bands-asked : (p : Price) (s1 : Rate) (c : Moves) (terms : List Term) → RangeInputs p s1
+    → (c .upper ≤ movesMost) × (c .lower ≤ movesMost)
     → allThree (λ k. validTerm (termAt terms k)) ≡ true → BandsAsked p s1 c terms
 bands-asked p s1 c terms r m v = at-three (λ k. TermInputs p s1 c (termAt terms k)) one
   where
@@ -81,7 +83,7 @@ day-terms d v = search (v, and-left, and-right)
 -- ---- a move
 
 -- the evaluation and S_1 of a record
-pub sound-inputs : (r : Record) → sound r ≡ true → RangeInputs (r .p1 .units) (getD (r .rates) 0 noRate .bp)
+pub sound-inputs : (r : Record) → sound r ≡ true → RangeInputs (r .p1) (getD (r .rates) 0 noRate)
 sound-inputs r v =
     let known = sound-facts r v in
     record { price = known .figures .later .price .most; rate-high = known .rates 0 (omega arith) }

@@ -1,16 +1,27 @@
--- What the makers of three limits ask of their numbers: no more than a sound record and an evaluation in range give. Assumes nothing.
+-- What is known when an admission is written, and what the makers of three limits ask of their numbers: no more than a
+-- valid admission, a sound record and an evaluation in range give. Assumes nothing.
+use mathlib.Core.Path.{_≡_}
+use mathlib.Core.Bool.{true}
 use mathlib.Core.List.{List}
 use Prim.Native.Nat.{ℕ, _≤_, _<_}
 use native.Mathlib.Omega.{arith}
 use lib.ListN.{getD}
+use Rattle.paper.specs.declared.Price.{Price}
 use Rattle.paper.specs.declared.Rate.{Rate}
+use Rattle.paper.specs.declared.Admission.{Admission}
 use Rattle.paper.specs.declared.Term.{Term}
 use Rattle.paper.specs.declared.Limits.{Limits}
 use Rattle.paper.specs.declared.Moves.{Moves}
 use Rattle.paper.specs.Numbers.{limitMost}
-use Rattle.paper.specs.Ranges.{noRate, noLimits, termAt}
+use Rattle.paper.specs.Ranges.{noRate, noLimits, termAt, validAdmission}
 use Rattle.limits.specs.LimitRanges.{RangeInputs, TermInputs}
 use Rattle.limits.specs.LimitBounds.{deltaMost}
+
+-- 4 does not apply, and the two latest evaluations that are given are these prices
+pub record Admitting (a : Admission) (p1 p2 : Price) : Type 0 where
+  pub valid : validAdmission a ≡ true
+  pub later : p1 ≡ record { units = a .p1 }
+  pub earlier : p2 ≡ record { units = a .p2 }
 
 -- a fact of each of three places
 abbrev pub EachOfThree : (ℕ → Type 0) → Type 0
@@ -20,11 +31,11 @@ pub at-three : (P : ℕ → Type 0) → ((i : ℕ) → i < 3 → P i) → EachOf
 at-three P f = (f 0 (omega arith), f 1 (omega arith), f 2 (omega arith))
 
 -- of three ranges: the evaluation P and each rate
-abbrev pub RangesAsked : ℕ → List Rate → Type 0
-RangesAsked p rates = EachOfThree (λ i. RangeInputs p (getD rates i noRate .bp))
+abbrev pub RangesAsked : Price → List Rate → Type 0
+RangesAsked p rates = EachOfThree (λ i. RangeInputs p (getD rates i noRate))
 
 -- of three bands: the evaluation P, S_1, the moves and each term
-abbrev pub BandsAsked : (p s1 : ℕ) → Moves → List Term → Type 0
+abbrev pub BandsAsked : Price → Rate → Moves → List Term → Type 0
 BandsAsked p s1 c terms = EachOfThree (λ k. TermInputs p s1 c (termAt terms k))
 
 -- of three ranges that are shifted: delta and each upper limit

@@ -9,7 +9,7 @@ ghost use Rattle.paper.specs.Ranges.{validStatics, validQuote, sound, noRate, n
 ghost use Rattle.paper.specs.Limits.{rangeOf, bandOf, countOf, rangeMoved, bandMoved};
 ghost use Rattle.paper.specs.Alerts.{nearCleared};
 ghost use Rattle.paper.specs.Desk.{admitted, nearOn, quoted, moved};
-ghost use Rattle.writing.specs.Asked.{RangesAsked, BandsAsked, ShiftsAsked};
+ghost use Rattle.writing.specs.Asked.{Admitting, RangesAsked, BandsAsked, ShiftsAsked};
 ghost use Rattle.writing.specs.Evaluates.{Evaluating, Evaluates};
 use paper::Admission;
 use paper::Day;
@@ -31,7 +31,8 @@ use rates::Figures;
 // ---- an admission
 
 // "The three rates start at their minima; age, limits, counts, terms and the last quote second at 0, with no near seconds."
-pub fn admitted(a: Admission) -> Record
+pub fn admitted(a: Admission, p1: Price, p2: Price) -> Record
+    requires { ⌜ Admitting a p1 p2 ⌝ }
     ensures { λ r. ⌜ r ≡ admitted a ⌝ }
 {
     let given = a.given;
@@ -41,8 +42,8 @@ pub fn admitted(a: Admission) -> Record
         id: a.id,
         statics,
         standing: Standing::Admitted(a.day),
-        p1: Price { units: a.p1 },
-        p2: Price { units: a.p2 },
+        p1,
+        p2,
         s: a.s,
         tentative: Tentative {
             bp: a.tentative,
@@ -105,21 +106,21 @@ pub fn quoted(r: Record, q: Quote, n: NearSeconds) -> Record
 
 // ---- three limits
 
-fn ranges_of(st: Statics, p: u64, rates: [Rate; 3]) -> [Limits; 3]
+fn ranges_of(st: Statics, p: Price, rates: [Rate; 3]) -> [Limits; 3]
     requires { ⌜ RangesAsked p rates ⌝ }
-    ensures { λ r. ⌜ r ≡ three (λ i. rangeOf st p (getD rates i noRate .bp)) ⌝ }
+    ensures { λ r. ⌜ r ≡ three (λ i. rangeOf st (p .units) (getD rates i noRate .bp)) ⌝ }
 {
     [
-        limits::range_of(st, p, rates[0].bp),
-        limits::range_of(st, p, rates[1].bp),
-        limits::range_of(st, p, rates[2].bp),
+        limits::range_of(st, p, rates[0]),
+        limits::range_of(st, p, rates[1]),
+        limits::range_of(st, p, rates[2]),
     ]
 }
 
-fn bands_of(st: Statics, p: u64, s1: u64, c: Moves, terms: [Term; 3]) -> [Limits; 3]
+fn bands_of(st: Statics, p: Price, s1: Rate, c: Moves, terms: [Term; 3]) -> [Limits; 3]
     requires { ⌜ validStatics st ≡ true ⌝ }
     requires { ⌜ BandsAsked p s1 c terms ⌝ }
-    ensures { λ r. ⌜ r ≡ three (λ k. bandOf st p s1 c (termAt terms k)) ⌝ }
+    ensures { λ r. ⌜ r ≡ three (λ k. bandOf st (p .units) (s1 .bp) c (termAt terms k)) ⌝ }
 {
     [
         limits::band_of(st, p, s1, c, terms[0]),
@@ -141,8 +142,8 @@ pub fn evaluated(r: Record, d: Day, p: Price, f: Figures) -> Record
     let rates = f.rates;
     let terms = d.terms;
     let moves = Moves { upper: 0, lower: 0 };
-    let ranges = ranges_of(statics, p.units, rates);
-    let bands = bands_of(statics, p.units, rates[0].bp, moves, terms);
+    let ranges = ranges_of(statics, p, rates);
+    let bands = bands_of(statics, p, rates[0], moves, terms);
     Record {
         id: r.id,
         statics,
@@ -214,8 +215,8 @@ pub fn moved(r: Record, side: Side) -> Record
     let bands = r.bands;
     let near = r.near;
     let moves = r.moves;
-    let p = r.p1.units;
-    let s1 = rates[0].bp;
+    let p = r.p1;
+    let s1 = rates[0];
     let c = limits::one_more(side, moves);
     let fresh = bands_of(st, p, s1, c, terms);
     let shifted = ranges_moved(side, limits::delta(st, p, s1), ranges);

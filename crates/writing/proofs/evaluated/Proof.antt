@@ -16,13 +16,10 @@ use Rattle.writing.specs.Evaluates.{moveTo, figuresAt}
 use Rattle.writing.proofs.Facts.{three-places, bands-asked, day-terms, rates-held}
 use Rattle.writing.proofs.evaluated.Statement.{statement}
 use Rattle.writing.proofs.evaluated.Tie as tie
-use Rattle.writing.proofs.evaluated.Reads as reads
-use Rattle.writing.proofs.evaluated.Lts as lts
-use Rattle.writing.proofs.bands_of.Reads as bands-of-reads
-use Rattle.writing.proofs.ranges_of.Reads as ranges-of-reads
 
 -- the evaluation and a rate of the figures
-rated : (c : tie.After-terms) (i : ℕ) → i < 3 → RangeInputs (c .before .before .before .before .before .args .p .units) (getD (c .before .before .before .before .before .args .f .rates) i noRate .bp)
+rated : (c : tie.After-terms) (i : ℕ) → i < 3
+    → let a = c .before .before .before .before .before .args in RangeInputs (a .p) (getD (a .f .rates) i noRate)
 rated c i l =
     let known = c .before .before .before .before .before .pre in
     record { price = price-facts _ (known .price) .most; rate-high = rw (known .figures) (rates-held _ _ _ (known .sound-record) i l) }
@@ -30,23 +27,30 @@ rated c i l =
 ranges-of-requires : tie.Need-ranges-of-requires
 ranges-of-requires c κs = at-three _ (rated c)
 
-element-copy-out-bands-of : tie.Need-element-copy-out-bands-of
-element-copy-out-bands-of c = search needs
+array-copy-out-bands-of : tie.Need-array-copy-out-bands-of
+array-copy-out-bands-of c = search needs
 
 bands-of-requires : tie.Need-bands-of-requires
 bands-of-requires c κs =
-    let s = c .before .before .before .before .before .before in (
+    let s = c .before .before .before .before .before .before .before in
+    let price-and-rate = rated (c .before .before) 0 (omega arith) in (
       sound-facts _ (s .pre .sound-record) .valid,
-      bands-asked _ _ _ (s .args .d .terms) (rated (c .before) 0 (omega arith)) (omega arith, omega arith) (day-terms _ (s .pre .day)),
+      bands-asked _ _ _ (s .args .d .terms) price-and-rate (omega arith, omega arith) (day-terms _ (s .pre .day)),
     )
 
 returns : tie.Need-returns
 unfolding evaluated figuresOn moveOn figuresAt moveTo
 returns c rows e =
-    let s = c .before .before .before .before .before .before .before in
+    let s = c .before .before .before .before .before .before .before .before in
     let terms : length (s .args .d .terms) ≡ 3 = rw length-map at (s .good .1 .0 .1 .1 .1 .1 .1 .0 .1 .0 .1) in
-    rw (e, c .bands-of .ensures, c .before .ranges-of .ensures, s .pre .figures, three-places (s .args .d .terms) noTerm terms)
+    rw (
+      e,
+      c .bands-of .ensures,
+      c .before .before .ranges-of .ensures,
+      s .pre .figures,
+      three-places (s .args .d .terms) noTerm terms,
+    )
 
 pub evaluated-spec : {M : Type 1} → statement M
 evaluated-spec =
-    tie.close (tie.spec ranges-of-requires element-copy-out-bands-of bands-of-requires returns)
+    tie.close (tie.spec ranges-of-requires array-copy-out-bands-of bands-of-requires returns)

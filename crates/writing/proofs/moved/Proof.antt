@@ -8,15 +8,15 @@ use Rattle.writing.proofs.Facts.{bands-asked, sound-terms, sound-inputs
 use Rattle.writing.proofs.moved.Statement.{statement}
 use Rattle.writing.proofs.moved.Tie as tie
 
-element-copy-out-s1 : tie.Need-element-copy-out-s1
-element-copy-out-s1 c = search needs
+array-copy-out-s1 : tie.Need-array-copy-out-s1
+array-copy-out-s1 c = search needs
 
 one-more-requires : tie.Need-one-more-requires
 one-more-requires c κs = search needs
 
 bands-of-requires : tie.Need-bands-of-requires
 bands-of-requires c κs =
-    let s = c .before .before .before .before .before .before .before .before in
+    let s = c .before .before .before .before .before .before .before .before .before .before in
     let r = s .args .r in
     let v = s .pre .0 in
     let known = sound-facts r v in
@@ -25,12 +25,12 @@ bands-of-requires c κs =
 
 delta-requires : tie.Need-delta-requires
 delta-requires c κs =
-    let s = c .before .before .before .before .before .before .before .before .before in
+    let s = c .before .before .before .before .before .before .before .before .before .before .before in
     (sound-facts _ (s .pre .0) .valid, sound-inputs _ (s .pre .0))
 
 ranges-moved-requires : tie.Need-ranges-moved-requires
 ranges-moved-requires c κs =
-    let s = c .before .before .before .before .before .before .before .before .before .before in
+    let s = c .before .before .before .before .before .before .before .before .before .before .before .before in
     rw (c .delta .ensures) (shifts-asked (s .args .r) (s .pre .0))
 
 bands-moved-requires : tie.Need-bands-moved-requires
@@ -55,7 +55,7 @@ pub moved-spec : {M : Type 1} → statement M
 moved-spec =
     tie.close
     (tie.spec
-    element-copy-out-s1
+    array-copy-out-s1
     one-more-requires
     bands-of-requires
     delta-requires
