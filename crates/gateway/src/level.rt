@@ -1,4 +1,5 @@
-// "a level's rate from tentative, m and level"
+// "a level's rate from tentative, m and level". The tentative rate is a bare number: its range, 0 to S_max in steps of
+// h, is its own.
 ghost use mathlib.Core.Path.{_≡_};
 ghost use mathlib.Core.Bool.{true};
 ghost use Prim.Native.Nat.{_<_};
@@ -8,6 +9,7 @@ use crate::answer::figure;
 use crate::answer::refusal;
 use paper::Day;
 use paper::Given;
+use paper::Rate;
 use paper::Statics;
 use paper::Verdict;
 
@@ -25,10 +27,10 @@ fn level_in_range(st: Statics, tentative: u64, m: u64, level: u64) -> bool
 }
 
 // With isEWMA no it is the minimum, whatever the tentative rate.
-fn level_figure(st: Statics, tentative: u64, m: u64, level: u64) -> u64
+fn level_figure(st: Statics, tentative: u64, m: u64, level: u64) -> Rate
     requires { ⌜ validStatics st ≡ true ⌝ }
     requires { ⌜ levelInRange st tentative m level ≡ true ⌝ }
-    ensures { λ r. ⌜ r ≡ levelFigure st tentative m level ⌝ }
+    ensures { λ r. ⌜ r .bp ≡ levelFigure st tentative m level ⌝ }
 {
     if st.ewma {
         return rates::level::level_rate(st, level, m, tentative);
@@ -44,7 +46,8 @@ pub fn level_answer(g: Given, tentative: u64, m: u64, level: u64) -> i64
     if inputs::valid_given(g) {
         let st = inputs::statics_of(g);
         if level_in_range(st, tentative, m, level) {
-            return figure(level_figure(st, tentative, m, level));
+            let rate = level_figure(st, tentative, m, level);
+            return figure(rate.bp);
         }
         return refusal(Verdict::OutOfRange);
     }

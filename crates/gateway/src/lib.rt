@@ -4,6 +4,7 @@ mod answer; // the figure, or minus the refusal number
 mod band; // a band limit
 mod given; // the statics
 mod level; // a level's rate
+mod priced; // the price and the rate of a limit
 mod range; // a range limit
 
 pub use band::band_answer;

@@ -1,18 +1,24 @@
 // "a fresh range limit from P, rate and side"
 ghost use mathlib.Core.Path.{_≡_};
+ghost use mathlib.Core.Bool.{true};
+ghost use Prim.Native.Nat.{ℕ};
+ghost use Rattle.paper.specs.Ranges.{isPrice, isRate};
 ghost use Rattle.paper.specs.Gateway.{rangeInRange, rangeCall};
 use crate::answer::figure;
 use crate::answer::refusal;
+use crate::priced::Priced;
+use crate::priced::price_and_rate;
 use paper::Given;
+use paper::Price;
 use paper::Statics;
 use paper::Verdict;
 
-fn range_in_range(st: Statics, p: u64, rate: u64, side: u64) -> bool
-    ensures { λ r. ⌜ r ≡ rangeInRange st p rate side ⌝ }
+// What is left to judge of a price in range, beside a rate in range.
+fn range_in_range(st: Statics, p: Price, side: u64) -> bool
+    requires { ⌜ isPrice (p .units) ≡ true ⌝ }
+    ensures { λ r. ⌜ ((rate : ℕ) → isRate rate ≡ true → r ≡ rangeInRange st (p .units) rate side) ⌝ }
 {
-    inputs::is_grid_price(inputs::grid_of(st.lot), p)
-        & inputs::is_rate(rate)
-        & inputs::valid_side(side)
+    (p.units % inputs::grid_of(st.lot) == 0) & inputs::valid_side(side)
 }
 
 // A static out of range is looked at before all else.
@@ -21,7 +27,10 @@ pub fn range_answer(g: Given, p: u64, rate: u64, side: u64) -> i64
 {
     if inputs::valid_given(g) {
         let st = inputs::statics_of(g);
-        if range_in_range(st, p, rate, side) {
+        let Priced::At(p, rate) = price_and_rate(p, rate) else {
+            return refusal(Verdict::OutOfRange);
+        };
+        if range_in_range(st, p, side) {
             return figure(limits::range_limit(st, inputs::side_of(side), p, rate));
         }
         return refusal(Verdict::OutOfRange);

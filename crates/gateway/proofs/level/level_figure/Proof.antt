@@ -21,11 +21,11 @@ unfolding levelFigure
 returns c = c .level-rate .ensures ∙ sym (pick-true _ _ _ (c .before .if1 .taken))
 
 level-of-requires : tie.Need-level-of-requires
-level-of-requires c κs = search needs
+level-of-requires c κs = valid-rates _ (c .before .pre .0)
 
 returns-2 : tie.Need-returns-2
 unfolding levelFigure
-returns-2 c = rw (c .level-of .ensures) (sym (pick-false _ _ _ (c .before .if1 .left)))
+returns-2 c = rw (c .before .level-of .ensures) (sym (pick-false _ _ _ (c .before .before .if1 .left)))
 
 pub level-figure-spec : {M : Type 1} → statement M
 level-figure-spec = tie.close (tie.spec level-rate-requires returns level-of-requires returns-2)

@@ -1,17 +1,44 @@
--- `range::range_answer` meets its contract: 4 where the statics' test fails, else 6 where the other values' test fails, else the limit, which is
--- at most twice the price and so fits. Assumes nothing.
-use mathlib.Core.Path.{sym, _∙_}
+-- `range::range_answer` meets its contract: 4 where the statics' test fails, else 6 where no price and rate are made or
+-- the test of what is left fails, else the limit, which is at most twice the price and so fits. Assumes nothing.
+use mathlib.Core.Path.{_≡_, refl, sym, _∙_}
 use native.Mathlib.Omega.{arith}
 use borrow.Author.Needs.{needs}
-use Rattle.paper.specs.Gateway.{rangeCall}
+use Rattle.paper.specs.Gateway.{rangeInRange, rangeCall}
+use Rattle.paper.specs.Limits.{rangeLimit}
 use Rattle.limits.specs.LimitRanges.{RangeInputs, range-inputs}
 use Rattle.limits.specs.LimitBounds.{range-high}
 use Rattle.gateway.proofs.Answers.{four, six, figure}
+use Rattle.gateway.proofs.InHand.{Held, held, range-out}
 use Rattle.gateway.proofs.range.range_answer.Statement.{statement}
 use Rattle.gateway.proofs.range.range_answer.Tie as tie
 
-in-range : (c : tie.Then2) → RangeInputs (c .before .before .before .before .before .args .p) (c .before .before .before .before .before .args .rate)
-in-range c = range-inputs _ _ _ _ (sym (c .before .range-in-range .ensures) ∙ c .if2 .taken)
+-- the price and the rate in hand
+in-hand : (c : tie.After-known-told) → let a = c .before .before .before .before .before .before .before .args in
+    Held (a .p) (a .rate) (c .before .p .given .0 .0) (c .before .p .given .0 .1 .0)
+in-hand c = held _ _ _ _ (sym (c .before .before .before .price-and-rate .ensures) ∙ c .before .p .given .1)
+
+-- what the test of what is left gave
+tested : (c : tie.After-range-in-range)
+    → let s = c .before .before .before .before .before in let a = s .before .before .before .args in
+    c .range-in-range .result ≡ rangeInRange (s .statics-of .result) (a .p) (a .rate) (a .side)
+tested c =
+    let h = in-hand (c .before) in
+    rw (h .of-price) at (c .range-in-range .ensures _ (h .rated))
+
+in-range : (c : tie.Then2) → let k = c .before .before .before in
+    RangeInputs (k .p .given .0 .0) (k .p .given .0 .1 .0)
+in-range c =
+    let h = in-hand (c .before .before) in
+    rw (h .of-price, h .of-rate) (range-inputs _ _ _ _ (sym (tested (c .before)) ∙ c .if2 .taken))
+
+-- what the limit is
+limited : (c : tie.After-range-limit)
+    → let s = c .before .before .before .before .before .before .before .before in
+    let a = s .before .before .before .args in
+    c .range-limit .result ≡ rangeLimit (s .statics-of .result) (c .before .side-of .result) (a .p) (a .rate)
+limited c =
+    let h = in-hand (c .before .before .before .before) in
+    rw (h .of-price, h .of-rate) at (c .range-limit .ensures)
 
 valid-given-requires : tie.Need-valid-given-requires
 valid-given-requires c κs = search needs
@@ -19,8 +46,31 @@ valid-given-requires c κs = search needs
 statics-of-requires : tie.Need-statics-of-requires
 statics-of-requires c κs = search needs
 
+price-and-rate-requires : tie.Need-price-and-rate-requires
+price-and-rate-requires c κs = search needs
+
+enum-known-p : tie.Need-enum-known-p
+enum-known-p c = search needs
+
+enum-told : tie.Need-enum-told
+enum-told c = search needs
+
+refusal-requires : tie.Need-refusal-requires
+refusal-requires c κs = search needs
+
+returns : tie.Need-returns
+unfolding rangeCall
+returns c =
+    let r = c .before .before .before in
+    let s = r .before in
+    let none = sym (r .price-and-rate .ensures) ∙ c .before .enum-told .given .1 in
+    let out = range-out _ _ none (s .statics-of .result) _ in
+    let given = s .before .before .valid-given .ensures in
+    rw (← s .statics-of .ensures)
+    (six _ _ _ (search needs) given (c .refusal .ensures) (s .before .if1 .taken) refl out)
+
 range-in-range-requires : tie.Need-range-in-range-requires
-range-in-range-requires c κs = search needs
+range-in-range-requires c κs = rw (in-hand c .of-price) (in-hand c .price)
 
 side-of-requires : tie.Need-side-of-requires
 side-of-requires c κs = search needs
@@ -31,35 +81,39 @@ range-limit-requires c κs = in-range (c .before)
 figure-requires : tie.Need-figure-requires
 figure-requires c κs =
     let t = c .before .before in
-    omega (arith, c .range-limit .ensures, range-high (t .before .before .statics-of .result) (c .before .side-of .result) _ _ (in-range t))
-
-returns : tie.Need-returns
-unfolding rangeCall
-returns c =
-    let t = c .before .before .before in
-    let r = t .before in
-    let s = r .before in
-    rw (← s .statics-of .ensures, ← c .before .before .side-of .ensures)
-    (figure _ _ _ (search needs) (s .before .before .valid-given .ensures) (c .figure .ensures) (c .before .range-limit .ensures)
-    (s .before .if1 .taken) (r .range-in-range .ensures) (t .if2 .taken))
-
-refusal-requires : tie.Need-refusal-requires
-refusal-requires c κs = search needs
+    let st = t .before .before .before .before .before .before .statics-of .result in
+    omega (arith, c .range-limit .ensures, range-high st (c .before .side-of .result) _ _ (in-range t))
 
 returns-2 : tie.Need-returns-2
 unfolding rangeCall
 returns-2 c =
-    let r = c .before .before in
-    let s = r .before in
-    rw (← s .statics-of .ensures)
-    (six _ _ _ (search needs) (s .before .before .valid-given .ensures) (c .refusal .ensures) (s .before .if1 .taken) (r .range-in-range .ensures) (c .before .if2 .left))
+    let t = c .before .before .before in
+    let s = t .before .before .before .before .before .before in
+    let given = s .before .before .valid-given .ensures in
+    rw (← s .statics-of .ensures, ← c .before .before .side-of .ensures)
+    (figure _ _ _ (search needs) given (c .figure .ensures) (limited (c .before))
+    (s .before .if1 .taken) (tested (t .before)) (t .if2 .taken))
 
 refusal-requires-2 : tie.Need-refusal-requires-2
 refusal-requires-2 c κs = search needs
 
 returns-3 : tie.Need-returns-3
 unfolding rangeCall
-returns-3 c = four _ _ _ (search needs) (c .before .before .valid-given .ensures) (c .refusal2 .ensures) (c .before .if1 .left)
+returns-3 c =
+    let t = c .before in
+    let s = t .before .before .before .before .before .before in
+    let given = s .before .before .valid-given .ensures in
+    rw (← s .statics-of .ensures)
+    (six _ _ _ (search needs) given (c .refusal2 .ensures) (s .before .if1 .taken) (tested (t .before)) (t .if2 .left))
+
+refusal-requires-3 : tie.Need-refusal-requires-3
+refusal-requires-3 c κs = search needs
+
+returns-4 : tie.Need-returns-4
+unfolding rangeCall
+returns-4 c =
+    let given = c .before .before .valid-given .ensures in
+    four _ _ _ (search needs) given (c .refusal3 .ensures) (c .before .if1 .left)
 
 pub range-answer-spec : {M : Type 1} → statement M
 range-answer-spec =
@@ -67,12 +121,17 @@ range-answer-spec =
     (tie.spec
     valid-given-requires
     statics-of-requires
+    price-and-rate-requires
+    enum-known-p
+    enum-told
+    refusal-requires
+    returns
     range-in-range-requires
     side-of-requires
     range-limit-requires
     figure-requires
-    returns
-    refusal-requires
     returns-2
     refusal-requires-2
-    returns-3)
+    returns-3
+    refusal-requires-3
+    returns-4)

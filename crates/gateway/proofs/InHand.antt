@@ -1,0 +1,55 @@
+-- What is known of two plain numbers once the constructors of a price and a rate have judged them. Assumes nothing.
+use mathlib.Core.Path.{_≡_, refl}
+use mathlib.Core.Bool.{Bool, true, false, _&&_}
+use Prim.Native.Nat.{ℕ}
+use native.Mathlib.Omega.{arith}
+use lib.IntN.{ℤ}
+use Rattle.paper.specs.declared.Price.{Price}
+use Rattle.paper.specs.declared.Rate.{Rate}
+use Rattle.paper.specs.declared.Statics.{Statics}
+use Rattle.paper.specs.Ranges.{isPrice, isRate, isGridPrice}
+use Rattle.paper.specs.Gateway.{rangeInRange, bandInRange}
+use Rattle.paper.proofs.Logic.{clash, and-left, and-right, and-both}
+use Rattle.inputs.proofs.Made.{picked-first, picked-second}
+use Rattle.gateway.specs.declared.priced.Priced.the-variants.{At, OutOfRange}
+use Rattle.gateway.specs.Priced.{pricedAt}
+
+priced-apart : (x : Price) (y : Rate) → At x y ≡ OutOfRange → ⊥
+priced-apart x y e = let z : _≡_ {A = ℕ} 0 1 = cc in omega arith
+
+-- a price and a rate in hand are those of the numbers, which are in range
+pub record Held (p rate : ℕ) (x : Price) (y : Rate) : Type 0 where
+  pub price : isPrice p ≡ true
+  pub rated : isRate rate ≡ true
+  pub of-price : x ≡ record { units = p }
+  pub of-rate : y ≡ record { bp = rate }
+
+pub held : (p rate : ℕ) (x : Price) (y : Rate) → pricedAt p rate ≡ At x y → Held p rate x y
+unfolding pricedAt
+held p rate x y e =
+    let made = picked-first (isPrice p && isRate rate) _ _ OutOfRange (λ q. priced-apart x y (cc)) e in
+    record {
+      price = and-left (isPrice p) (isRate rate) (made .0);
+      rated = and-right (isPrice p) (isRate rate) (made .0);
+      of-price = cc;
+      of-rate = cc;
+    }
+
+-- with none in hand, no test of the call's values passes
+module _ (p rate : ℕ) (e : pricedAt p rate ≡ OutOfRange) where
+  out : (isPrice p && isRate rate) ≡ false
+  unfolding pricedAt
+  out = picked-second (isPrice p && isRate rate) _ _ (priced-apart (record { units = p }) (record { bp = rate })) e
+
+  fails : (test : Bool) → (test ≡ true → (isPrice p ≡ true) × (isRate rate ≡ true)) → test ≡ false
+  fails true f = absurd (clash (isPrice p && isRate rate) (and-both _ _ (f refl .0) (f refl .1)) out)
+  fails false f = refl
+
+  pub range-out : (st : Statics) (side : ℕ) → rangeInRange st p rate side ≡ false
+  unfolding rangeInRange isGridPrice
+  range-out st side = fails _ (λ v. (search (v, and-left, and-right), search (v, and-left, and-right)))
+
+  pub band-out : (st : Statics) (k : ℕ) (repo : ℤ) (c side : ℕ) → bandInRange st p rate k repo c side ≡ false
+  unfolding bandInRange isGridPrice
+  band-out st k repo c side =
+      fails _ (λ v. (search (v, and-left, and-right) depth 10, search (v, and-left, and-right)))

@@ -1,0 +1,11 @@
+-- The price and the rate of two plain numbers. Assumes nothing.
+use mathlib.Core.Bool.{_&&_}
+use Prim.Native.Nat.{ℕ}
+use Rattle.paper.specs.Lists.{pick}
+use Rattle.paper.specs.Ranges.{isPrice, isRate}
+use Rattle.gateway.specs.declared.priced.Priced.{Priced}
+use Rattle.gateway.specs.declared.priced.Priced.the-variants.{At, OutOfRange}
+
+-- both, where each number is in its range
+unfoldable pub pricedAt : (p rate : ℕ) → Priced
+pricedAt p rate = pick (isPrice p && isRate rate) (At (record { units = p }) (record { bp = rate })) OutOfRange
