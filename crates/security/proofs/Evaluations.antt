@@ -1,4 +1,5 @@
--- What an evaluation in hand says of 7, and what a day and a record in range are to it. Assumes nothing.
+-- What an evaluation in hand says of 7, and what an admission, a day and a record in range are to the prices. Assumes
+-- nothing.
 use mathlib.Core.Path.{_≡_, refl, sym, ap, _∙_}
 use mathlib.Core.Bool.{Bool, true, false, _&&_}
 use mathlib.Core.List.{List}
@@ -6,11 +7,12 @@ use Prim.Native.Nat.{ℕ}
 use native.Mathlib.Omega.{arith}
 use lib.IntN.{ℤ}
 use Rattle.paper.specs.declared.Price.{Price}
+use Rattle.paper.specs.declared.Admission.{Admission}
 use Rattle.paper.specs.declared.Day.{Day}
 use Rattle.paper.specs.declared.Row.{Row}
 use Rattle.paper.specs.declared.Record.{Record}
 use Rattle.paper.specs.Lists.{pick, every}
-use Rattle.paper.specs.Ranges.{isPrice, isGridPrice, validDay, validRows, sound}
+use Rattle.paper.specs.Ranges.{isPrice, isGridPrice, validAdmission, validDay, validRows, sound}
 use Rattle.paper.specs.Evaluation.{evaluationOf, rowFits, evaluationFits}
 use Rattle.paper.proofs.Logic.{and-left, and-right}
 use Rattle.inputs.specs.Parts.{validDayNumbers}
@@ -21,6 +23,10 @@ use Rattle.evaluation.specs.Evaluation.{evaluationMade}
 pub sound-prices : (r : Record) → sound r ≡ true → (isPrice (r .p1 .units) ≡ true) × (isPrice (r .p2 .units) ≡ true)
 unfolding sound isGridPrice
 sound-prices r v = (search (v, and-left, and-right) depth 40, search (v, and-left, and-right) depth 40)
+
+pub admission-prices : (a : Admission) → validAdmission a ≡ true → (isPrice (a .p1) ≡ true) × (isPrice (a .p2) ≡ true)
+unfolding validAdmission isGridPrice
+admission-prices a v = (search (v, and-left, and-right) depth 40, search (v, and-left, and-right) depth 40)
 
 pub day-valid : (d : Day) (rows : List ℤ) → validDay d rows ≡ true → (validDayNumbers d ≡ true) × (validRows rows ≡ true)
 day-valid d rows v =

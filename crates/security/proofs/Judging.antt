@@ -51,6 +51,15 @@ module _ (s e : Slot) (a : Admission) where
   unfolding admitTurn admitChecksOf judgedTurn firstOf isDone
   admission-out t = rw t
 
+  -- an admission that is not valid is refused, whatever the number of slots
+  pub admission-invalid : (validAdmission a ≡ true → ⊥) → refusedTurn (s .count) AdmissionOutOfRange ≡ admitTurn s e a
+  admission-invalid n = admission-out (go (validSlots (s .count)) (validAdmission a) n)
+    where
+      go : (slots valid : Bool) → (valid ≡ true → ⊥) → (slots && valid) ≡ false
+      go slots true k = absurd (k refl)
+      go true false k = refl
+      go false false k = refl
+
   module _ (valid : (validSlots (s .count) && validAdmission a) ≡ true) where
     pub admission-again : holds s ≡ true → refusedTurn (s .count) AlreadyAdmitted ≡ admitTurn s e a
     unfolding admitTurn admitChecksOf judgedTurn firstOf isDone

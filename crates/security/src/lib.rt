@@ -16,6 +16,7 @@ use paper::Admission;
 use paper::Answer;
 use paper::Day;
 use paper::Limits;
+use paper::MadePrice;
 use paper::Moves;
 use paper::Near;
 use paper::NearSeconds;
@@ -43,7 +44,8 @@ pub struct Turn {
     pub answer: Answer,
 }
 
-// "all figures 0 (flags no, nothing near, admitted only)"
+// "all figures 0 (flags no, nothing near, admitted only)": a price of 0 is none of document 01's range, so no
+// constructor makes it.
 pub fn blank() -> Record
     ensures { λ r. ⌜ r ≡ blank ⌝ }
 {
@@ -196,8 +198,9 @@ fn is_known(s: Slot) -> bool
 
 // ---- the calls
 
-// "admit 4, 2, 3": s is the slot with the id, e the first empty one.
-pub fn admitted(s: Slot, e: Slot, a: Admission) -> Turn
+// 4 of what else an admission gives, 2, 3 and what is written, at the two latest evaluations that it gives.
+fn admitted_at(s: Slot, e: Slot, a: Admission, p1: Price, p2: Price) -> Turn
+    requires { ⌜ (p1 ≡ record { units = a .p1 }) × (p2 ≡ record { units = a .p2 }) ⌝ }
     ensures { λ o. ⌜ o ≡ admitTurn s e a ⌝ }
 {
     let count = s.count;
@@ -210,12 +213,29 @@ pub fn admitted(s: Slot, e: Slot, a: Admission) -> Turn
     if !holds(e) {
         return refused(count, Verdict::NoEmptySlot);
     }
-    let rec = writing::admitted(a);
+    let rec = writing::admitted(a, p1, p2);
     let answer = saying(Verdict::Done);
     Turn {
         at: e.at,
         rec,
         answer,
+    }
+}
+
+// "admit 4, 2, 3": s is the slot with the id, e the first empty one. A price out of range is an admission value out of
+// range (4).
+pub fn admitted(s: Slot, e: Slot, a: Admission) -> Turn
+    ensures { λ o. ⌜ o ≡ admitTurn s e a ⌝ }
+{
+    let count = s.count;
+    let later = Price::new(a.p1);
+    let earlier = Price::new(a.p2);
+    match later {
+        MadePrice::OutOfRange => refused(count, Verdict::AdmissionOutOfRange),
+        MadePrice::Made(p1) => match earlier {
+            MadePrice::OutOfRange => refused(count, Verdict::AdmissionOutOfRange),
+            MadePrice::Made(p2) => admitted_at(s, e, a, p1, p2),
+        },
     }
 }
 
@@ -245,11 +265,13 @@ fn evaluated_at(s: Slot, d: Day, p: Price) -> Turn
     let st = r.statics;
     let rates = r.rates;
     let tentative = r.tentative;
-    let change = rates::volatility::move_of(r.p1.units, r.p2.units, p.units);
+    let p1 = r.p1;
+    let p2 = r.p2;
+    let change = rates::volatility::move_of(p1, p2, p);
     if rates::move_too_large(st, change) {
         return refused(count, Verdict::MoveTooLarge);
     }
-    let figures = rates::figures_of(st, d.b, d.m, rates[0].bp, change, r.s, tentative);
+    let figures = rates::figures_of(st, d.b, d.m, rates[0], change, r.s, tentative);
     let new = writing::evaluated(r, d, p, figures);
     let bands = new.bands;
     if !in_order(bands) {
@@ -275,7 +297,8 @@ pub fn evaluated(s: Slot, d: Day, rows: &[i64]) -> Turn
         return refused(count, Verdict::DayNotAfter);
     }
     let g = inputs::grid_of(r.statics.lot);
-    let evaluation = evaluation::evaluate(rows, r.p1.units, g);
+    let previous = r.p1;
+    let evaluation = evaluation::evaluate(rows, previous, g);
     match evaluation {
         Evaluation::Beyond => refused(count, Verdict::PriceOutOfRange),
         Evaluation::Evaluated(p) => evaluated_at(s, d, p),

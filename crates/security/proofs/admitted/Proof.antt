@@ -1,85 +1,75 @@
--- `security::admitted` meets its contract: each return is the first check that applies, in the order 4, 2, 3, or none. Assumes nothing.
+-- `security::admitted` meets its contract: an admission with a price that is not made is refused 4, and with both made
+-- it is `admitted_at`'s. Assumes nothing.
 use mathlib.Core.Path.{_≡_, sym, _∙_}
-use mathlib.Core.Bool.{true, false, _&&_}
-use Rattle.paper.specs.Ranges.{validSlots, validAdmission}
-use Rattle.security.specs.Turns.{holds}
-use Rattle.security.proofs.Judging.{passed, failed, admission-out, admission-again, admission-full, admission-accepted}
+use Rattle.paper.proofs.Logic.{clash}
+use Rattle.inputs.proofs.Made.{price-made, price-unmade}
+use Rattle.security.proofs.Judging.{admission-invalid}
+use Rattle.security.proofs.Evaluations.{admission-prices}
 use borrow.Author.Needs.{needs}
 use Rattle.security.proofs.admitted.Statement.{statement}
 use Rattle.security.proofs.admitted.Tie as tie
 
--- both tests of 4 are the definition's
-tested : (c : tie.After-valid-admission)
-    → (c .before .valid-slots .result && c .valid-admission .result) ≡ (validSlots (c .before .before .args .s .count) && validAdmission (c .before .before .args .a))
-tested c = rw (c .before .valid-slots .ensures, c .valid-admission .ensures)
+new-requires : tie.Need-new-requires
+new-requires c κs = search needs
 
-valid : (c : tie.Else1) → (validSlots (c .before .before .before .args .s .count) && validAdmission (c .before .before .before .args .a)) ≡ true
-valid c = passed _ (tested (c .before)) (c .if1 .left)
+new-requires-2 : tie.Need-new-requires-2
+new-requires-2 c κs = search needs
 
-new : (c : tie.Else2) → holds (c .before .before .before .before .before .args .s) ≡ false
-new c = sym (c .before .holds .ensures) ∙ c .if2 .left
-
-valid-slots-requires : tie.Need-valid-slots-requires
-valid-slots-requires c κs = search needs
-
-valid-admission-requires : tie.Need-valid-admission-requires
-valid-admission-requires c κs = search needs
+enum-told : tie.Need-enum-told
+enum-told c = search needs
 
 refused-requires : tie.Need-refused-requires
 refused-requires c κs = search needs
 
-returns : tie.Need-returns
-returns c = c .refused .ensures ∙ admission-out _ _ _ (failed _ (tested (c .before .before)) (c .before .if1 .taken))
+enum-known-later : tie.Need-enum-known-later
+enum-known-later c = search needs
 
-holds-requires : tie.Need-holds-requires
-holds-requires c κs = search needs
+enum-told-2 : tie.Need-enum-told-2
+enum-told-2 c = search needs
 
 refused-requires-2 : tie.Need-refused-requires-2
 refused-requires-2 c κs = search needs
 
+enum-known-earlier : tie.Need-enum-known-earlier
+enum-known-earlier c = search needs
+
+-- each price in hand is the one that was given
+admitted-at-requires : tie.Need-admitted-at-requires
+admitted-at-requires c κs =
+    let k = c .before .before .before .before in
+    let n = k .before .before in (
+      price-made _ _ (sym (n .before .new .ensures) ∙ k .later .given .1) .1,
+      price-made _ _ (sym (n .new2 .ensures) ∙ c .before .earlier .given .1) .1,
+    )
+
+returns : tie.Need-returns
+returns c =
+    let n = c .before .before .before in
+    let out = price-unmade _ (sym (n .before .new .ensures) ∙ c .before .enum-told .given .1) in
+    c .refused .ensures ∙ admission-invalid _ _ _ (λ v. clash _ (admission-prices _ v .0) out)
+
 returns-2 : tie.Need-returns-2
 returns-2 c =
-    c .refused2 .ensures ∙ admission-again _ _ _ (valid (c .before .before .before)) (sym (c .before .before .holds .ensures) ∙ c .before .if2 .taken)
-
-holds-requires-2 : tie.Need-holds-requires-2
-holds-requires-2 c κs = search needs
-
-refused-requires-3 : tie.Need-refused-requires-3
-refused-requires-3 c κs = search needs
+    let n = c .before .before .before .before .before .before in
+    let out = price-unmade _ (sym (n .new2 .ensures) ∙ c .before .enum-told2 .given .1) in
+    c .refused2 .ensures ∙ admission-invalid _ _ _ (λ v. clash _ (admission-prices _ v .1) out)
 
 returns-3 : tie.Need-returns-3
-returns-3 c =
-    let e = c .before .before .before in
-    let test = failed _ (c .before .before .holds2 .ensures) (c .before .if3 .taken) in
-    c .refused3 .ensures ∙ admission-full _ _ _ (valid (e .before .before)) (new e) test
-
-admitted-requires : tie.Need-admitted-requires
-admitted-requires c κs = search needs
-
-saying-requires : tie.Need-saying-requires
-saying-requires c κs = search needs
-
-returns-4 : tie.Need-returns-4
-returns-4 c =
-    let f = c .before .before in
-    let e = f .before .before in
-    let test = passed _ (f .before .holds2 .ensures) (f .if3 .left) in
-    rw (c .saying .ensures, c .before .admitted .ensures) (admission-accepted _ _ _ (valid (e .before .before)) (new e) test)
+returns-3 c = search needs
 
 pub admitted-spec : {M : Type 1} → statement M
 admitted-spec =
     tie.close
     (tie.spec
-    valid-slots-requires
-    valid-admission-requires
+    new-requires
+    new-requires-2
+    enum-told
     refused-requires
-    returns
-    holds-requires
+    enum-known-later
+    enum-told-2
     refused-requires-2
+    enum-known-earlier
+    admitted-at-requires
+    returns
     returns-2
-    holds-requires-2
-    refused-requires-3
-    returns-3
-    admitted-requires
-    saying-requires
-    returns-4)
+    returns-3)

@@ -27,11 +27,15 @@ after c = lt-leb _ _ (rw (c .before .before .last-day .ensures) at (c .if3 .left
 
 -- the evaluation is that of the record's grid
 evaluation : (c : tie.After-evaluate)
-    → evaluationMade (gridOf (c .before .before .before .before .before .before .before .before .before .before .args .s .rec .statics .lot)) (c .before .before .before .before .before .before .before .before .before .before .args .s .rec .p1 .units) (dayRows (c .before .before .before .before .before .before .before .before .before .before .args .rows .now)) ≡ c .evaluate .result
-evaluation c = rw (← c .before .grid-of .ensures) (sym (c .evaluate .ensures))
+    → let a = c .before .before .before .before .before .before .before .before .before .before .before .args in
+    let r = a .s .rec in
+    evaluationMade (gridOf (r .statics .lot)) (r .p1 .units) (dayRows (a .rows .now)) ≡ c .evaluate .result
+evaluation c = rw (← c .before .before .grid-of .ensures) (sym (c .evaluate .ensures))
 
 price : (c : tie.After-evaluation)
-    → Made (gridOf (c .before .before .before .before .before .before .before .before .before .before .before .before .args .s .rec .statics .lot)) (c .before .before .before .before .before .before .before .before .before .before .before .before .args .s .rec .p1 .units) (dayRows (c .before .before .before .before .before .before .before .before .before .before .before .before .args .rows .now)) (c .evaluation .given .0 .0)
+    → let e = c .before .before in
+    let a = e .before .before .before .before .before .before .before .before .before .before .before .args in
+    Made (gridOf (a .s .rec .statics .lot)) (a .s .rec .p1 .units) (dayRows (a .rows .now)) (c .evaluation .given .0 .0)
 price c = made _ _ _ _ (evaluation (c .before .before) ∙ c .evaluation .given .1)
 
 is-known-requires : tie.Need-is-known-requires
@@ -70,11 +74,13 @@ grid-of-requires c κs = search needs
 
 evaluate-requires : tie.Need-evaluate-requires
 evaluate-requires c κs =
-    let e = c .before in
+    let g = c .before in
+    let e = g .before in
     let s = e .before .before .before .before .before .before .before .before in
     let day = day-valid _ _ (valid (e .before .before .before)) in
     let sound = sound-facts _ (known-sound _ (known (e .before .before .before .before .before))) in
-    (day .1, (sound .figures .later .price .most, rw (c .grid-of .ensures) (grid-range _ .0), rw (c .grid-of .ensures) (grid-range _ .1)))
+    let grid = rw (← g .grid-of .ensures) at (grid-range (s .args .s .rec .statics .lot)) in
+    (day .1, (sound .figures .later .price .most, grid .0, grid .1))
 
 enum-told : tie.Need-enum-told
 enum-told c = search needs
@@ -87,20 +93,20 @@ enum-known-evaluation c = search needs
 
 evaluated-at-requires : tie.Need-evaluated-at-requires
 evaluated-at-requires c κs =
-    let e = c .before .before .before .before .before in
+    let e = c .before .before .before .before .before .before in
     let day = day-valid _ _ (valid (e .before .before .before)) in
     (known-sound _ (known (e .before .before .before .before .before)), (day .0, price (c .before) .price))
 
 returns-4 : tie.Need-returns-4
 returns-4 c =
-    let e = c .before .before .before .before .before in
+    let e = c .before .before .before .before .before .before in
     let test = beyond _ _ _ (evaluation (c .before .before .before) ∙ c .before .enum-told .given .1) in
     c .refused4 .ensures ∙ day-beyond _ _ _ (known (e .before .before .before .before .before)) (valid (e .before .before .before)) (after e) test
 
 returns-5 : tie.Need-returns-5
 unfolding priceOn
 returns-5 c =
-    let e = c .before .before .before .before .before .before in
+    let e = c .before .before .before .before .before .before .before in
     let p = price (c .before .before) in
     c .evaluated-at .ensures _
     (record { known = known (e .before .before .before .before .before); valid = valid (e .before .before .before); later = after e; fits = p .fits })

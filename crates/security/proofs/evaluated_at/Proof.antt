@@ -14,14 +14,15 @@ use Rattle.security.proofs.evaluated_at.Statement.{statement}
 use Rattle.security.proofs.evaluated_at.Tie as tie
 
 -- the move that is tested is that of any rows with this price
-move-tested : (c : tie.After-move-too-large) (rows : List ℤ) → priceOn (c .before .before .before .before .before .before .args .s .rec) rows ≡ c .before .before .before .before .before .before .args .p .units
-    → c .move-too-large .result ≡ moveTooLarge (c .before .before .before .before .before .before .args .s .rec .statics) (moveOn (c .before .before .before .before .before .before .args .s .rec) rows)
+move-tested : (c : tie.After-move-too-large) (rows : List ℤ)
+    → let a = c .before .before .before .before .before .before .before .before .args in let r = a .s .rec in
+    priceOn r rows ≡ a .p .units → c .move-too-large .result ≡ moveTooLarge (r .statics) (moveOn r rows)
 unfolding moveOn
 move-tested c rows e = rw (e, ← c .before .move-of .ensures) (c .move-too-large .ensures)
 
 move-of-requires : tie.Need-move-of-requires
 move-of-requires c κs =
-    let s = c .before .before .before .before in
+    let s = c .before .before .before .before .before .before in
     let both = sound-prices _ (s .pre .0) in
     (both .0, both .1, s .pre .1 .1)
 
@@ -35,23 +36,25 @@ returns : tie.Need-returns
 returns c rows k e =
     c .refused .ensures ∙ day-moved-far _ _ rows k (sym (move-tested (c .before .before) rows e) ∙ c .before .if1 .taken)
 
-element-copy-out-figures-of : tie.Need-element-copy-out-figures-of
-element-copy-out-figures-of c = search needs
+array-copy-out-figures-of : tie.Need-array-copy-out-figures-of
+array-copy-out-figures-of c = search needs
 
 figures-of-requires : tie.Need-figures-of-requires
 figures-of-requires c κs =
-    let s = c .before .before .before .before .before .before .before in
-    (sound-ranges _ _ (s .pre .0) (day-facts _ (s .pre .1 .0) .m-most), sym (c .before .move-too-large .ensures) ∙ c .if1 .left)
+    let s = c .before .before .before .before .before .before .before .before .before .before in
+    let test = c .before in
+    let ranges = sound-ranges _ _ (s .pre .0) (day-facts _ (s .pre .1 .0) .m-most) in
+    (ranges, sym (test .before .move-too-large .ensures) ∙ test .if1 .left)
 
 evaluated-requires : tie.Need-evaluated-requires
 unfolding figuresAt moveTo
 evaluated-requires c κs =
-    let s = c .before .before .before .before .before .before .before .before in
+    let s = c .before .before .before .before .before .before .before .before .before .before .before in
     record {
       sound-record = s .pre .0;
       day = s .pre .1 .0;
       price = s .pre .1 .1;
-      figures = rw (← c .before .before .before .move-of .ensures) (c .figures-of .ensures);
+      figures = rw (← c .before .before .before .before .move-of .ensures) (c .figures-of .ensures);
     }
 
 in-order-requires : tie.Need-in-order-requires
@@ -62,7 +65,7 @@ refused-requires-2 c κs = search needs
 
 returns-2 : tie.Need-returns-2
 returns-2 c rows k e =
-    let m = c .before .before .before .before .before .before in
+    let m = c .before .before .before .before .before .before .before in
     let held = sym (move-tested (m .before) rows e) ∙ m .if1 .left in
     let made = c .before .before .before .before .evaluated .ensures rows e in
     c .refused2 .ensures ∙ day-crossed _ _ rows k held made (c .before .before .in-order .ensures) (c .before .if2 .taken)
@@ -72,7 +75,7 @@ written-requires c κs = search needs
 
 returns-3 : tie.Need-returns-3
 returns-3 c rows k e =
-    let m = c .before .before .before .before .before .before in
+    let m = c .before .before .before .before .before .before .before in
     let held = sym (move-tested (m .before) rows e) ∙ m .if1 .left in
     let made = c .before .before .before .before .evaluated .ensures rows e in
     c .written .ensures ∙ day-accepted _ _ rows k held made (c .before .before .in-order .ensures) (c .before .if2 .left)
@@ -85,7 +88,7 @@ evaluated-at-spec =
     move-too-large-requires
     refused-requires
     returns
-    element-copy-out-figures-of
+    array-copy-out-figures-of
     figures-of-requires
     evaluated-requires
     in-order-requires
