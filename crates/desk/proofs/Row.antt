@@ -150,3 +150,16 @@ after (switch c a) = skip
 after (exit n) = skip
 after return = skip
 after (call f xs d) = skip
+
+-- the code of a branch's arm that is taken where the test holds
+abbrev pub held-arm : Body → Body
+held-arm (cond c a b) = a
+held-arm skip = skip
+held-arm (seq a b) = skip
+held-arm (assign p r) = skip
+held-arm (block b) = skip
+held-arm (loop b) = skip
+held-arm (switch c a) = skip
+held-arm (exit n) = skip
+held-arm return = skip
+held-arm (call f xs d) = skip
