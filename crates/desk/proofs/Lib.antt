@@ -2,6 +2,7 @@ pub mod Places
 pub mod Steps
 pub mod Row
 pub mod Frame
+pub mod Slots
 pub mod Asks
 pub mod Calls
 pub mod Shape
