@@ -74,6 +74,10 @@ wref = tyRef erased mut (pointee (R .written))
 abbrev pub ℓt : ℕ
 ℓt = 1
 
+-- the compiler's own locals of a call that the table is lent to: the pointer to the first slot, and the slice
+abbrev pub Lending : Type 0
+Lending = ℕ × ℕ
+
 -- the row that is lent, its machine value, and what its `&mut` owns
 abbrev pub ref : ℕ → ℕ → GName → List Record → RefT (List Record)
 ref b o γ ys = record { ptr = (b, o); name = γ; now = ys }
@@ -89,24 +93,24 @@ abbrev pub Kept : Lft → Share → ℕ → ℕ → GName → List Record → Lf
 Kept κ q b o γ ys κ′ = fsep (flent κ′ (arr-parts (shares R) (length ys) .part fullShare ys b o)) (fsep (fobor κ q (Held R (length ys) b o γ))
     (fsep (fobs γ (codedHoleys R .code (heres R ys))) (fauth γ (codedHoleys R .code (heres R ys)))))
 
--- ---- the code of the two calls, for the table t and the compiler's own locals p, w
--- p = &*t.0; w = (p, t.1);
-abbrev pub lending : (t p w : ℕ) → Body → Body
-lending t p w rest =
-    seq (assign (place p []) (addrOf (place t (field 0 ∷ deref T′.mir ∷ []))))
-    (seq (assign (place w []) (aggregate (copy (place p []) ∷ copy (place t (field 1 ∷ [])) ∷ []))) rest)
+-- ---- the code of the two calls, for the table t and the compiler's own locals m
+-- m.0 = &*t.0; m.1 = (m.0, t.1);
+abbrev pub lending : (t : ℕ) (m : Lending) → Body → Body
+lending t m rest =
+    seq (assign (place (m .0) []) (addrOf (place t (field 0 ∷ deref T′.mir ∷ []))))
+    (seq (assign (place (m .1) []) (aggregate (copy (place (m .0) []) ∷ copy (place t (field 1 ∷ [])) ∷ []))) rest)
 
 -- let d = take(t, x);
-abbrev pub taking : (t p w d : ℕ) → Operand → Body → Body
-taking t p w d x rest = lending t p w (seq (call #take (copy (place w []) ∷ x ∷ []) (place d [])) rest)
+abbrev pub taking : (t : ℕ) (m : Lending) (d : ℕ) → Operand → Body → Body
+taking t m d x rest = lending t m (seq (call #take (copy (place (m .1) []) ∷ x ∷ []) (place d [])) rest)
 
 -- put(t, x, y);
-abbrev pub putting : (t p w d : ℕ) → Operand → Operand → Body → Body
-putting t p w d x y rest = lending t p w (seq (call #put (copy (place w []) ∷ x ∷ y ∷ []) (place d [])) rest)
+abbrev pub putting : (t : ℕ) (m : Lending) (d : ℕ) → Operand → Operand → Body → Body
+putting t m d x y rest = lending t m (seq (call #put (copy (place (m .1) []) ∷ x ∷ y ∷ []) (place d [])) rest)
 
 -- put(t, o.at, o.rec);
-abbrev pub putting-turn : (t p w d o : ℕ) → Body → Body
-putting-turn t p w d o = putting t p w d (copy (place o (field 0 ∷ []))) (copy (place o (field 1 ∷ [])))
+abbrev pub putting-turn : (t : ℕ) (m : Lending) (d o : ℕ) → Body → Body
+putting-turn t m d o = putting t m d (copy (place o (field 0 ∷ []))) (copy (place o (field 1 ∷ [])))
 
 -- o.answer
 abbrev pub answering : (o : ℕ) → Body
@@ -114,17 +118,17 @@ answering o = seq (assign (place 0 []) (rvOpd (copy (place o (field 2 ∷ []))))
 
 -- ---- the locals
 -- while t is lent
-abbrev pub lent : Locals → (p w : ℕ) → ℕ → ℕ → List Record → Locals
-lent cs p w b o ys = holding (holding cs p (some (vptr b o))) w (some (machine b o ys))
+abbrev pub lent : Locals → (m : Lending) → ℕ → ℕ → List Record → Locals
+lent cs m b o ys = holding (holding cs (m .0) (some (vptr b o))) (m .1) (some (machine b o ys))
 
--- once the call has returned v: p and w are room again
-abbrev pub returned : Locals → (p w d : ℕ) → ℕ → ℕ → List Record → Val → Locals
-returned cs p w d b o ys v = holding (holding (holding (lent cs p w b o ys) d (some v)) p none) w none
+-- once the call has returned v: m is room again
+abbrev pub returned : Locals → (m : Lending) (d : ℕ) → ℕ → ℕ → List Record → Val → Locals
+returned cs m d b o ys v = holding (holding (holding (lent cs m b o ys) d (some v)) (m .0) none) (m .1) none
 
 -- what is asked of the locals. At a frame that is written out it is `(refl, refl, tt, tt, tt, tt, tt)`
-abbrev pub Lends : {M : Type 1} (𝓤 : URA M) (H : Heap 𝓤) → Env 𝓤 H → Locals → (t p w : ℕ) → ℕ → ℕ → List Record → Type 0
-Lends 𝓤 H E cs t p w b o ys = (held E cs t ≡ some (machine b o ys)) × (spotOf 𝓤 H E t .0 ≡ table-ty) × Apart p t × Within E p × Within E w
-    × T (hasTy (spotOf 𝓤 H E p .0) (vptr b o)) × T (hasTy (spotOf 𝓤 H E w .0) (machine b o ys))
+abbrev pub Lends : {M : Type 1} (𝓤 : URA M) (H : Heap 𝓤) → Env 𝓤 H → Locals → (t : ℕ) (m : Lending) → ℕ → ℕ → List Record → Type 0
+Lends 𝓤 H E cs t m b o ys = (held E cs t ≡ some (machine b o ys)) × (spotOf 𝓤 H E t .0 ≡ table-ty) × Apart (m .0) t × Within E (m .0) × Within E (m .1)
+    × T (hasTy (spotOf 𝓤 H E (m .0) .0) (vptr b o)) × T (hasTy (spotOf 𝓤 H E (m .1) .0) (machine b o ys))
 
 -- ---- the steps
 
@@ -175,50 +179,50 @@ module _ {M : Type 1} (𝓤 : URA M) (H : Heap 𝓤) (A : Atoms 𝓤) (W : Given
         pureI ! (at-slice R (ref b o γ ys) (machine b o ys ∷ [])) (tt, (tt, tt)) (refl, room) $ fjoin ! $ s)
 
   module _ {Γ : List (Item 𝓤)} {E : Env 𝓤 H} {cs : Locals} {C : Calls 𝓤 H} {Λ : Loops 𝓤 H} {post : Post 𝓤 H} {rest : Body} where
-    lends : (t p w : ℕ) → Lends 𝓤 H E cs t p w b o ys
-        → Step (Go {0}) W (frame H E (lent cs p w b o ys) ∷ Γ) (runs C Λ E rest post) (frame H E cs ∷ Γ) (runs C Λ E (lending t p w rest) post)
-    lends t p w l = step (λ s.
-        assigns ! (behind ! t 0 (l .0) (l .1) refl refl) (from ! (stop !)) (sets ! p (l .3) (l .5, tt)) $
-        assigns ! (agg ! (and-then ! (value ! p (held-own E cs p (some (vptr b o)) (l .3)))
-        (and-then ! (field′ ! t 1 (held-other E cs p t (some (vptr b o)) (l .2) ∙ l .0) (l .1) refl) (no-more !))))
-        (from ! (stop !)) (sets ! w (l .4) (l .6, (tt, (record { fits = room .0 }, tt)))) $ s)
+    lends : (t : ℕ) (m : Lending) → Lends 𝓤 H E cs t m b o ys
+        → Step (Go {0}) W (frame H E (lent cs m b o ys) ∷ Γ) (runs C Λ E rest post) (frame H E cs ∷ Γ) (runs C Λ E (lending t m rest) post)
+    lends t m l = step (λ s.
+        assigns ! (behind ! t 0 (l .0) (l .1) refl refl) (from ! (stop !)) (sets ! (m .0) (l .3) (l .5, tt)) $
+        assigns ! (agg ! (and-then ! (value ! (m .0) (held-own E cs (m .0) (some (vptr b o)) (l .3)))
+        (and-then ! (field′ ! t 1 (held-other E cs (m .0) t (some (vptr b o)) (l .2) ∙ l .0) (l .1) refl) (no-more !))))
+        (from ! (stop !)) (sets ! (m .1) (l .4) (l .6, (tt, (record { fits = room .0 }, tt)))) $ s)
 
-  -- the local w, once t is lent in it
-  slice-in : (E : Env 𝓤 H) (cs : Locals) (p w : ℕ) → Within E w → held E (lent cs p w b o ys) w ≡ some (machine b o ys)
-  slice-in E cs p w in-w = held-own E (holding cs p (some (vptr b o))) w (some (machine b o ys)) in-w
+  -- the slice of m, once t is lent
+  slice-in : (E : Env 𝓤 H) (cs : Locals) (m : Lending) → Within E (m .1) → held E (lent cs m b o ys) (m .1) ≡ some (machine b o ys)
+  slice-in E cs m in-w = held-own E (holding cs (m .0) (some (vptr b o))) (m .1) (some (machine b o ys)) in-w
 
   module _ {Γ : List (Item 𝓤)} {E : Env 𝓤 H} {cs : Locals} {C : Calls 𝓤 H} {Λ : Loops 𝓤 H} {post : Post 𝓤 H} {rest : Body} where
     -- let d = take(t, x);
-    pub takes : FmC 𝓤 H (W .laws) C → Triple 𝓤 (C #take) (Take 𝓤 H A mem run) → (t p w d : ℕ) → Lends 𝓤 H E cs t p w b o ys
+    pub takes : FmC 𝓤 H (W .laws) C → Triple 𝓤 (C #take) (Take 𝓤 H A mem run) → (t : ℕ) (m : Lending) (d : ℕ) → Lends 𝓤 H E cs t m b o ys
         → Within E d → spotOf 𝓤 H E d .0 ≡ U′.mir → {x : Operand} (id : ℕ) → id < 2 ^ 64
-        → ((Δ : List (Item 𝓤)) → Opd (Go {0}) W (frame H E (lent cs p w b o ys) ∷ Δ) E x (vint w64 id))
+        → ((Δ : List (Item 𝓤)) → Opd (Go {0}) W (frame H E (lent cs m b o ys) ∷ Δ) E x (vint w64 id))
         → ((v : Val) → Is S (slotOf ys id) (v ∷ [])
-        → Sq W (frame H E (returned cs p w d b o ys v) ∷ ‵ (Owned κ b o γ ys) ∷ ‵ (flft κ q) ∷ Γ) (runs C Λ E rest post))
-        → Sq W (frame H E cs ∷ ‵ (Owned κ b o γ ys) ∷ ‵ (flft κ q) ∷ Γ) (runs C Λ E (taking t p w d x rest) post)
-    takes fm known t p w d l in-d is-slot id gd os k =
-        lends t p w l $ move ! (1 ∷ 2 ∷ []) $ lent-out tt (λ α γ′. move ! (0 ∷ 2 ∷ []) $
+        → Sq W (frame H E (returned cs m d b o ys v) ∷ ‵ (Owned κ b o γ ys) ∷ ‵ (flft κ q) ∷ Γ) (runs C Λ E rest post))
+        → Sq W (frame H E cs ∷ ‵ (Owned κ b o γ ys) ∷ ‵ (flft κ q) ∷ Γ) (runs C Λ E (taking t m d x rest) post)
+    takes fm known t m d l in-d is-slot id gd os k =
+        lends t m l $ move ! (1 ∷ 2 ∷ []) $ lent-out tt (λ α γ′. move ! (0 ∷ 2 ∷ []) $
         -- [the new token and the `&`; the frame; what is kept; …]
         calls 𝓤 H A W take.ended (take.clauses 𝓤 H A mem run) (to-take id (α ∷ []) γ′) tt fm known (‵ (flft (α ∷ []) fullShare) ⊛ ‵ (Lent (α ∷ []) γ′))
         (goes-take id gd (α ∷ []) γ′) (λ s v is. subst (λ (τ : Ty). T (hasTy τ v) × WT v) (sym is-slot) (typed-slot 𝓤 H A W s v is)) in-d
-        (and-then ! (value ! w (slice-in E cs p w (l .4))) (and-then ! (os _) (no-more !))) (λ s v is.
+        (and-then ! (value ! (m .1) (slice-in E cs m (l .4))) (and-then ! (os _) (no-more !))) (λ s v is.
         use1 W (raw (fact 𝓤 (s ≡ slotOf ys id))) (says 𝓤 H A W take.ended (take.clauses 𝓤 H A mem run) (to-take id (α ∷ []) γ′) tt s (s ≡ slotOf ys id)
         (λ e. id⊢ 𝓤 (fact 𝓤 (s ≡ slotOf ys id)))) $ heard ! (s ≡ slotOf ys id) (λ e.
         use1 W (‵ (flft (α ∷ []) fullShare) ⊛ ‵ ftrue) (id⊢ 𝓤 (sep 𝓤 (A .lft (α ∷ []) fullShare) (emp 𝓤))) $ split ! $
         -- [the new token; true; the frame; what is kept; …]
-        move ! (0 ∷ 3 ∷ []) $ taken-back tt $ move ! (2 ∷ []) $ drop ! $ move ! (2 ∷ []) $ clears ! p (l .3) $ clears ! w (l .4) $ k v (subst (λ (z : Slot). Is S z (v ∷ [])) e is))))
+        move ! (0 ∷ 3 ∷ []) $ taken-back tt $ move ! (2 ∷ []) $ drop ! $ move ! (2 ∷ []) $ clears ! (m .0) (l .3) $ clears ! (m .1) (l .4) $ k v (subst (λ (z : Slot). Is S z (v ∷ [])) e is))))
 
     -- put(t, x, y);
-    pub puts : FmC 𝓤 H (W .laws) C → Triple 𝓤 (C #put) (Put 𝓤 H A mem run) → (t p w d : ℕ) → Lends 𝓤 H E cs t p w b o ys
+    pub puts : FmC 𝓤 H (W .laws) C → Triple 𝓤 (C #put) (Put 𝓤 H A mem run) → (t : ℕ) (m : Lending) (d : ℕ) → Lends 𝓤 H E cs t m b o ys
         → Within E d → spotOf 𝓤 H E d .0 ≡ tyUnit → {x y : Operand} (i : ℕ) (r : Record) (v : Val) → i < 2 ^ 64 → Is R r (v ∷ [])
-        → ((Δ : List (Item 𝓤)) → Opd (Go {0}) W (frame H E (lent cs p w b o ys) ∷ Δ) E x (vint w64 i))
-        → ((Δ : List (Item 𝓤)) → Opd (Go {0}) W (frame H E (lent cs p w b o ys) ∷ Δ) E y v)
-        → ((u : Val) → Sq W (frame H E (holding (returned cs p w d b o ys u) d none) ∷ ‵ (finally R γ (set ys i r)) ∷ ‵ (flft κ q) ∷ Γ) (runs C Λ E rest post))
-        → Sq W (frame H E cs ∷ ‵ (Owned κ b o γ ys) ∷ ‵ (flft κ q) ∷ Γ) (runs C Λ E (putting t p w d x y rest) post)
-    puts fm known t p w d l in-d is-unit i r v gi is os os′ k =
-        lends t p w l $ move ! (1 ∷ 2 ∷ []) $ join ! $
+        → ((Δ : List (Item 𝓤)) → Opd (Go {0}) W (frame H E (lent cs m b o ys) ∷ Δ) E x (vint w64 i))
+        → ((Δ : List (Item 𝓤)) → Opd (Go {0}) W (frame H E (lent cs m b o ys) ∷ Δ) E y v)
+        → ((u : Val) → Sq W (frame H E (holding (returned cs m d b o ys u) d none) ∷ ‵ (finally R γ (set ys i r)) ∷ ‵ (flft κ q) ∷ Γ) (runs C Λ E rest post))
+        → Sq W (frame H E cs ∷ ‵ (Owned κ b o γ ys) ∷ ‵ (flft κ q) ∷ Γ) (runs C Λ E (putting t m d x y rest) post)
+    puts fm known t m d l in-d is-unit i r v gi is os os′ k =
+        lends t m l $ move ! (1 ∷ 2 ∷ []) $ join ! $
         calls 𝓤 H A W put.ended (put.clauses 𝓤 H A mem run) (to-put i r v) tt fm known (‵ (Owned κ b o γ ys) ⊛ ‵ (flft κ q)) (goes-put i r v gi is)
-        (λ u w iu. subst (λ (τ : Ty). T (hasTy τ w) × WT w) (sym is-unit) (nothing-lawful 𝓤 H A W .typed u (w ∷ []) iu .0)) in-d
-        (and-then ! (value ! w (slice-in E cs p w (l .4))) (and-then ! (os _) (and-then ! (os′ _) (no-more !)))) (λ u w′ iu.
+        (λ u z iu. subst (λ (τ : Ty). T (hasTy τ z) × WT z) (sym is-unit) (nothing-lawful 𝓤 H A W .typed u (z ∷ []) iu .0)) in-d
+        (and-then ! (value ! (m .1) (slice-in E cs m (l .4))) (and-then ! (os _) (and-then ! (os′ _) (no-more !)))) (λ u z iu.
         use1 W (some′ (λ (zs : List Record × (Unit {0} × (Unit {0} × Unit {0}))). ‵ (lasts put.ended (κ, tt) (ref b o γ ys, (i, (r, tt))) zs)
         ⊛ raw (fact 𝓤 (zs .0 ≡ set ys i r)))) (id⊢ 𝓤 (ensured 𝓤 H A put.ended (put.clauses 𝓤 H A mem run) (κ, tt) (ref b o γ ys, (i, (r, tt))) tt u)) $
         pick ! (λ zs. split ! $ move ! (1 ∷ []) $ heard ! (zs .0 ≡ set ys i r) (λ e. fsplit ! $ fsplit ! $
@@ -226,17 +230,17 @@ module _ {M : Type 1} (𝓤 : URA M) (H : Heap 𝓤) (A : Atoms 𝓤) (W : Given
         -- [the last list; that it is as long; true; the tokens; the frame; …]
         move ! (3 ∷ []) $ use1 W (‵ (flft κ q) ⊛ ‵ ftrue) (id⊢ 𝓤 (sep 𝓤 (A .lft κ q) (emp 𝓤))) $ split ! $ move ! (1 ∷ 3 ∷ 4 ∷ []) $ drop ! $ drop ! $ drop ! $
         -- [the token; the last list; the frame; …]
-        move ! (2 ∷ 1 ∷ 0 ∷ []) $ clears ! p (l .3) $ clears ! w (l .4) $ clears ! d in-d $ k w′)))
+        move ! (2 ∷ 1 ∷ 0 ∷ []) $ clears ! (m .0) (l .3) $ clears ! (m .1) (l .4) $ clears ! d in-d $ k z)))
 
     -- put(t, o.at, o.rec);
-    pub puts-turn : FmC 𝓤 H (W .laws) C → Triple 𝓤 (C #put) (Put 𝓤 H A mem run) → (t p w d o′ : ℕ) → Lends 𝓤 H E cs t p w b o ys
+    pub puts-turn : FmC 𝓤 H (W .laws) C → Triple 𝓤 (C #put) (Put 𝓤 H A mem run) → (t : ℕ) (m : Lending) (d o′ : ℕ) → Lends 𝓤 H E cs t m b o ys
         → Within E d → spotOf 𝓤 H E d .0 ≡ tyUnit → (r : Turn) → Is O.the-row r (turn-val r ∷ [])
-        → held E (lent cs p w b o ys) o′ ≡ some (turn-val r) → spotOf 𝓤 H E o′ .0 ≡ turn-ty
-        → ((u : Val) → Sq W (frame H E (holding (returned cs p w d b o ys u) d none) ∷ ‵ (finally R γ (set ys (r .at) (r .rec))) ∷ ‵ (flft κ q) ∷ Γ)
+        → held E (lent cs m b o ys) o′ ≡ some (turn-val r) → spotOf 𝓤 H E o′ .0 ≡ turn-ty
+        → ((u : Val) → Sq W (frame H E (holding (returned cs m d b o ys u) d none) ∷ ‵ (finally R γ (set ys (r .at) (r .rec))) ∷ ‵ (flft κ q) ∷ Γ)
         (runs C Λ E rest post))
-        → Sq W (frame H E cs ∷ ‵ (Owned κ b o γ ys) ∷ ‵ (flft κ q) ∷ Γ) (runs C Λ E (putting-turn t p w d o′ rest) post)
-    puts-turn fm known t p w d o′ l in-d is-unit r is holds is-turn =
-        puts fm known t p w d l in-d is-unit (r .at) (r .rec) (val (r .rec)) (turn-is r (turn-val r) is .0) (turn-is r (turn-val r) is .1 .0)
+        → Sq W (frame H E cs ∷ ‵ (Owned κ b o γ ys) ∷ ‵ (flft κ q) ∷ Γ) (runs C Λ E (putting-turn t m d o′ rest) post)
+    puts-turn fm known t m d o′ l in-d is-unit r is holds is-turn =
+        puts fm known t m d l in-d is-unit (r .at) (r .rec) (val (r .rec)) (turn-is r (turn-val r) is .0) (turn-is r (turn-val r) is .1 .0)
         (λ Δ. field′ ! o′ 0 holds is-turn refl) (λ Δ. field′ ! o′ 1 holds is-turn refl)
 
 -- let o = rule(…); has returned v, and the turn's fields can be read

@@ -20,7 +20,7 @@ use base.Fml.{Lft, GName, Share, Fml, ftrue, flft}
 use prog.Wp.{Heap, Env, Calls, Loops, WpFn, Tables}
 use ghost.Atoms.{Atoms}
 use contract.Monad.{Fun, fact}
-use types.Kit.{Given, Item, ‵, _⊛_, ⋆, runs, atRet, Sq, _$_, _∵_, !, qed, move, keep, split, join, fsplit, fjoin, suffices, frame as framed, done}
+use types.Kit.{Given, Item, ‵, _⊛_, ⋆, Goal, runs, atRet, Sq, _$_, _∵_, !, qed, move, keep, split, join, fsplit, fjoin, suffices, frame as framed, done}
 use types.Run.{and-then, no-more}
 use sound.WpLaws.{FmC, fmOf, WpFn-mono}
 use denote.RattleType.{RattleType, owns}
@@ -52,7 +52,7 @@ use Rattle.paper.proofs.Answer as N
 use Rattle.paper.proofs.Answer.Laws as N′
 use Rattle.desk.proofs.Row.{R, table-ty, S, makes-slot, turn-ty, turn-val, turn-is, typed-turn, answer-val, makes-answer}
 use Rattle.desk.proofs.Frame.{Addresses, env-of, spare, frame, enters, value}
-use Rattle.desk.proofs.Calls.{Take, Put, ℓt, rref, wref, ref, machine, Owned, taking, putting-turn, answering, takes, turned, puts-turn, answers}
+use Rattle.desk.proofs.Calls.{Take, Put, ℓt, Lending, rref, wref, ref, machine, Owned, taking, putting-turn, answering, takes, turned, puts-turn, answers}
 use Rattle.desk.proofs.Asks.{Callee, asks}
 use Rattle.desk.proofs.Steps.{promised}
 use Rattle.desk.proofs.take.Symbol.{name as #take}
@@ -93,9 +93,18 @@ abbrev ℓs : ℕ
 abbrev ℓo : ℕ
 ℓo = 5
 
+abbrev for-s : Lending
+for-s = (6, 7)
+
+abbrev ℓunit : ℕ
+ℓunit = 8
+
+abbrev for-put : Lending
+for-put = (9, 10)
+
 -- let s = take(t, id);
 abbrev code-s : Body → Body
-code-s = taking ℓt 6 7 ℓs (copy (place ℓid []))
+code-s = taking ℓt for-s ℓs (copy (place ℓid []))
 
 -- let o = rule(s, q);
 abbrev code-o : Name → Body → Body
@@ -103,7 +112,7 @@ code-o #rule = seq (call #rule (copy (place ℓs []) ∷ copy (place ℓq []) �
 
 -- put(t, o.at, o.rec);
 abbrev code-put : Body → Body
-code-put = putting-turn ℓt 9 10 8 ℓo
+code-put = putting-turn ℓt for-put ℓunit ℓo
 
 abbrev pub function : Ty → Name → Fn
 function τ #rule = record {
@@ -202,6 +211,10 @@ module _ (P : Plain) where
             abbrev En : Env 𝓤 H
             En = env-of (function (P .τ) #rule .locals) ls
 
+            -- the code b runs to the end, where the contract is met
+            abbrev Runs : Body → Goal 𝓤 H
+            Runs b = runs C Λ En b (atRet En Post)
+
             -- where the walk stands: what s and o hold beside t, id and q
             abbrev In : (s o : Option Val) → Item 𝓤
             In s o′ = frame H En (none ∷ some (machine b o ys) ∷ some (vint w64 id) ∷ some v ∷ s ∷ o′ ∷ spare 5)
@@ -215,29 +228,29 @@ module _ (P : Plain) where
 
             module _ {rest : Body} where
               -- let s = take(t, id);
-              let-s : ((w : Val) → Is S slot (w ∷ []) → Sq W (In (some w) none ∷ Ours) (runs C Λ En rest (atRet En Post)))
-                  → Sq W (In none none ∷ Ours) (runs C Λ En (code-s rest) (atRet En Post))
-              let-s = takes 𝓤 H A W mem run κ q b o γ ys room fm known-take ℓt 6 7 ℓs (refl, refl, tt, tt, tt, tt, tt) tt refl id gd
+              let-s : ((w : Val) → Is S slot (w ∷ []) → Sq W (In (some w) none ∷ Ours) (Runs rest))
+                  → Sq W (In none none ∷ Ours) (Runs (code-s rest))
+              let-s = takes 𝓤 H A W mem run κ q b o γ ys room fm known-take ℓt for-s ℓs (refl, refl, tt, tt, tt, tt, tt) tt refl id gd
                   (λ Δ. value ! ℓid refl)
 
               -- let o = rule(s, q);
               let-o : (w : Val) → Is S slot (w ∷ [])
-                  → (Is O.the-row turn (turn-val turn ∷ []) → Sq W (In (some w) (some (turn-val turn)) ∷ Ours) (runs C Λ En rest (atRet En Post)))
-                  → Sq W (In (some w) none ∷ Ours) (runs C Λ En (code-o #rule rest) (atRet En Post))
+                  → (Is O.the-row turn (turn-val turn ∷ []) → Sq W (In (some w) (some (turn-val turn)) ∷ Ours) (Runs rest))
+                  → Sq W (In (some w) none ∷ Ours) (Runs (code-o #rule rest))
               let-o w is k =
                   asks 𝓤 H A W rule-ended (rule-clauses F 𝓤) (to-rule w) tt fm known-rule (goes-rule w is) turn (λ r e. id⊢ 𝓤 _) (typed-turn 𝓤 H A W) tt
                   (and-then ! (value ! ℓs refl) (and-then ! (value ! ℓq refl) (no-more !))) (λ u iu. turned W (λ z. In (some w) (some z)) turn u iu k)
 
               -- put(t, o.at, o.rec);
               put-o : (w : Val) → Is O.the-row turn (turn-val turn ∷ [])
-                  → Sq W (In (some w) (some (turn-val turn)) ∷ Left) (runs C Λ En rest (atRet En Post))
-                  → Sq W (In (some w) (some (turn-val turn)) ∷ Ours) (runs C Λ En (code-put rest) (atRet En Post))
-              put-o w is k = puts-turn 𝓤 H A W mem run κ q b o γ ys room fm known-put ℓt 9 10 8 ℓo (refl, refl, tt, tt, tt, tt, tt) tt refl turn is
+                  → Sq W (In (some w) (some (turn-val turn)) ∷ Left) (Runs rest)
+                  → Sq W (In (some w) (some (turn-val turn)) ∷ Ours) (Runs (code-put rest))
+              put-o w is k = puts-turn 𝓤 H A W mem run κ q b o γ ys room fm known-put ℓt for-put ℓunit ℓo (refl, refl, tt, tt, tt, tt, tt) tt refl turn is
                   refl refl (λ _. k)
 
             -- o.answer
             answer : (w : Val) → Is O.the-row turn (turn-val turn ∷ [])
-                → Sq W (In (some w) (some (turn-val turn)) ∷ Left) (runs C Λ En (answering ℓo) (atRet En Post))
+                → Sq W (In (some w) (some (turn-val turn)) ∷ Left) (Runs (answering ℓo))
             answer w is = answers W ℓo turn is refl refl tt refl (exits is)
 
           walk : ent 𝓤 (onEntry 𝓤 H A (ended .signature) (κ, tt) (q, tt) x at) (WpFn 𝓤 H C Λ (function (P .τ) #rule)

@@ -23,7 +23,7 @@ use prog.Routine.{Routine}
 use prog.Wp.{Heap, Env, Calls, Loops, WpFn, Tables}
 use ghost.Atoms.{Atoms, sem}
 use contract.Monad.{Fun, fact}
-use types.Kit.{Given, Item, ‵, raw, _⊛_, ⋆, runs, atRet, Sq, _$_, _∵_, !, qed, move, keep, drop, use1, split, join, fsplit, fjoin, suffices, frame as framed, done}
+use types.Kit.{Given, Item, ‵, raw, _⊛_, ⋆, Goal, runs, atRet, Sq, _$_, _∵_, !, qed, move, keep, drop, use1, split, join, fsplit, fjoin, suffices, frame as framed, done}
 use types.Run.{and-then, no-more}
 use sound.WpLaws.{FmC, fmOf, WpFn-mono}
 use denote.RattleType.{RattleType, owns}
@@ -55,7 +55,7 @@ use Rattle.desk.specs.Promises.{Promised}
 use Rattle.desk.proofs.Row.{R, table-ty, S, makes-slot, turn-ty, turn-val, turn-is, typed-turn, answer-val, makes-answer}
 use Rattle.desk.proofs.Frame.{Addresses, env-of, spare, frame, enters, value}
 use Rattle.desk.proofs.Asks.{Callee, calls, says as learned}
-use Rattle.desk.proofs.Calls.{Take, Put, ℓt, rref, wref, ref, machine, Owned, taking, putting-turn, answering, takes, turned, puts-turn, answers}
+use Rattle.desk.proofs.Calls.{Take, Put, ℓt, Lending, rref, wref, ref, machine, Owned, taking, putting-turn, answering, takes, turned, puts-turn, answers}
 use Rattle.desk.proofs.Shape.{Plain, PlainLaws, row}
 use Rattle.desk.proofs.Steps.{promised}
 use Rattle.desk.proofs.take.Symbol.{name as #take}
@@ -77,9 +77,18 @@ abbrev ℓs : ℕ
 abbrev ℓo : ℕ
 ℓo = 6
 
+abbrev for-s : Lending
+for-s = (7, 8)
+
+abbrev ℓunit : ℕ
+ℓunit = 9
+
+abbrev for-put : Lending
+for-put = (10, 11)
+
 -- let s = take(t, id);
 abbrev code-s : Body → Body
-code-s = taking ℓt 7 8 ℓs (copy (place ℓid []))
+code-s = taking ℓt for-s ℓs (copy (place ℓid []))
 
 -- let o = rule(s, d, rows);
 abbrev code-o : Name → Body → Body
@@ -87,7 +96,7 @@ code-o #rule = seq (call #rule (copy (place ℓs []) ∷ copy (place ℓd []) �
 
 -- put(t, o.at, o.rec);
 abbrev code-put : Body → Body
-code-put = putting-turn ℓt 10 11 9 ℓo
+code-put = putting-turn ℓt for-put ℓunit ℓo
 
 abbrev pub function : Ty → Name → Fn
 function τ #rule = record {
@@ -205,6 +214,10 @@ module _ (P : Plain) where
             abbrev En : Env 𝓤 H
             En = env-of (function (P .τ) #rule .locals) ls
 
+            -- the code b runs to the end, where the contract is met
+            abbrev Runs : Body → Goal 𝓤 H
+            Runs b = runs C Λ En b (atRet En Post)
+
             -- where the walk stands: what s and o hold beside t, id, d and rows
             abbrev In : (s o : Option Val) → Item 𝓤
             In s o′ = frame H En (none ∷ some (machine b o ys) ∷ some (vint w64 id) ∷ some v ∷ some mrows ∷ s ∷ o′ ∷ spare 5)
@@ -218,15 +231,15 @@ module _ (P : Plain) where
 
             module _ {rest : Body} where
               -- let s = take(t, id);
-              let-s : ((w : Val) → Is S slot (w ∷ []) → Sq W (In (some w) none ∷ Ours) (runs C Λ En rest (atRet En Post)))
-                  → Sq W (In none none ∷ Ours) (runs C Λ En (code-s rest) (atRet En Post))
-              let-s = takes 𝓤 H A W mem run κ q b o γ ys room fm known-take ℓt 7 8 ℓs (refl, refl, tt, tt, tt, tt, tt) tt refl id gi
+              let-s : ((w : Val) → Is S slot (w ∷ []) → Sq W (In (some w) none ∷ Ours) (Runs rest))
+                  → Sq W (In none none ∷ Ours) (Runs (code-s rest))
+              let-s = takes 𝓤 H A W mem run κ q b o γ ys room fm known-take ℓt for-s ℓs (refl, refl, tt, tt, tt, tt, tt) tt refl id gi
                   (λ Δ. value ! ℓid refl)
 
               -- let o = rule(s, d, rows);
               let-o : (w : Val) → Is S slot (w ∷ [])
-                  → (Is O.the-row turn (turn-val turn ∷ []) → Sq W (In (some w) (some (turn-val turn)) ∷ Ours) (runs C Λ En rest (atRet En Post)))
-                  → Sq W (In (some w) none ∷ Ours) (runs C Λ En (code-o #rule rest) (atRet En Post))
+                  → (Is O.the-row turn (turn-val turn ∷ []) → Sq W (In (some w) (some (turn-val turn)) ∷ Ours) (Runs rest))
+                  → Sq W (In (some w) none ∷ Ours) (Runs (code-o #rule rest))
               let-o w is k =
                   -- [the frame; t; its token; the rows' token; what `rows` owns]: that is had twice, once for the call and once for the exit
                   move ! (4 ∷ []) $ use1 W (‵ Rows ⊛ ‵ Rows) (shr-slice-copy 𝓤 H A W (named 1) κ₂ i64 .twice rows (mrows ∷ [])) $ split ! $
@@ -241,14 +254,14 @@ module _ (P : Plain) where
 
               -- put(t, o.at, o.rec);
               put-o : (w : Val) → Is O.the-row turn (turn-val turn ∷ [])
-                  → Sq W (In (some w) (some (turn-val turn)) ∷ Left) (runs C Λ En rest (atRet En Post))
-                  → Sq W (In (some w) (some (turn-val turn)) ∷ Ours) (runs C Λ En (code-put rest) (atRet En Post))
-              put-o w is k = puts-turn 𝓤 H A W mem run κ q b o γ ys room fm known-put ℓt 10 11 9 ℓo (refl, refl, tt, tt, tt, tt, tt) tt refl turn is
+                  → Sq W (In (some w) (some (turn-val turn)) ∷ Left) (Runs rest)
+                  → Sq W (In (some w) (some (turn-val turn)) ∷ Ours) (Runs (code-put rest))
+              put-o w is k = puts-turn 𝓤 H A W mem run κ q b o γ ys room fm known-put ℓt for-put ℓunit ℓo (refl, refl, tt, tt, tt, tt, tt) tt refl turn is
                   refl refl (λ _. k)
 
             -- o.answer
             answer : (w : Val) → Is O.the-row turn (turn-val turn ∷ [])
-                → Sq W (In (some w) (some (turn-val turn)) ∷ Left) (runs C Λ En (answering ℓo) (atRet En Post))
+                → Sq W (In (some w) (some (turn-val turn)) ∷ Left) (Runs (answering ℓo))
             answer w is = answers W ℓo turn is refl refl tt refl (exits is)
 
           walk : ent 𝓤 (onEntry 𝓤 H A (ended .signature) (κ, (κ₂, tt)) (q, (q₂, tt)) x at)

@@ -18,7 +18,7 @@ use prog.Wp.{Heap, Env, Calls, Loops, WpFn, Tables}
 use ghost.Atoms.{Atoms}
 use contract.Monad.{Fun}
 use contract.Running.{givenOf, tables, tablesOf}
-use types.Kit.{Given, Item, ‵, _⊛_, ⋆, runs, atRet, Sq, _$_, _∵_, !, qed, move, keep, split, join, fsplit, fjoin, suffices, frame as framed, done}
+use types.Kit.{Given, Item, ‵, _⊛_, ⋆, Goal, runs, atRet, Sq, _$_, _∵_, !, qed, move, keep, split, join, fsplit, fjoin, suffices, frame as framed, done}
 use types.Run.{lit, and-then, no-more}
 use sound.WpLaws.{FmC, fmOf, WpFn-mono}
 use denote.RattleType.{owns}
@@ -50,7 +50,7 @@ use Rattle.security.proofs.Slot.Laws as U′
 use Rattle.security.proofs.Turn as O
 use Rattle.desk.proofs.Row.{R, table-ty, S, makes-slot, turn-ty, turn-val, turn-is, typed-turn, answer-val, makes-answer}
 use Rattle.desk.proofs.Frame.{Addresses, env-of, spare, frame, enters, value as local′, field as field′}
-use Rattle.desk.proofs.Calls.{Take, Put, ℓt, rref, wref, ref, machine, Owned, taking, putting-turn, answering, takes, turned, puts-turn, answers}
+use Rattle.desk.proofs.Calls.{Take, Put, ℓt, Lending, rref, wref, ref, machine, Owned, taking, putting-turn, answering, takes, turned, puts-turn, answers}
 use Rattle.desk.proofs.Asks.{Callee, asks}
 use Rattle.desk.proofs.Steps.{admit-steps, promised}
 use Rattle.desk.proofs.take.Symbol as take-def
@@ -84,13 +84,25 @@ abbrev ℓe : ℕ
 abbrev ℓo : ℕ
 ℓo = 5
 
+abbrev for-s : Lending
+for-s = (6, 7)
+
+abbrev for-e : Lending
+for-e = (8, 9)
+
+abbrev ℓunit : ℕ
+ℓunit = 10
+
+abbrev for-put : Lending
+for-put = (11, 12)
+
 -- let s = take(t, a.id);
 abbrev code-s : Body → Body
-code-s = taking ℓt 6 7 ℓs (copy (place ℓa (field 0 ∷ [])))
+code-s = taking ℓt for-s ℓs (copy (place ℓa (field 0 ∷ [])))
 
 -- let e = take(t, EMPTY);
 abbrev code-e : Body → Body
-code-e = taking ℓt 8 9 ℓe (int w64 0)
+code-e = taking ℓt for-e ℓe (int w64 0)
 
 -- let o = security::admitted(s, e, a);
 abbrev code-o : Body → Body
@@ -98,7 +110,7 @@ code-o = seq (call #rule (copy (place ℓs []) ∷ copy (place ℓe []) ∷ copy
 
 -- put(t, o.at, o.rec);
 abbrev code-put : Body → Body
-code-put = putting-turn ℓt 11 12 10 ℓo
+code-put = putting-turn ℓt for-put ℓunit ℓo
 
 -- an admission's machine type, with its statics' whole
 abbrev admission-ty : Ty
@@ -176,6 +188,10 @@ module _ {M : Type 1} (𝓤 : URA M) (H : Heap 𝓤) (A : Atoms 𝓤) (W : Given
       abbrev En : Env 𝓤 H
       En = env-of (function .locals) ls
 
+      -- the code b runs to the end, where the contract is met
+      abbrev Runs : Body → Goal 𝓤 H
+      Runs b = runs C Λ En b (atRet En Post)
+
       -- where the walk stands: what s, e and o hold beside t and a
       abbrev In : (s e o : Option Val) → Item 𝓤
       In s e o′ = frame H En (none ∷ some (machine b o ys) ∷ some (value a) ∷ s ∷ e ∷ o′ ∷ spare 7)
@@ -186,20 +202,20 @@ module _ {M : Type 1} (𝓤 : URA M) (H : Heap 𝓤) (A : Atoms 𝓤) (W : Given
 
       module _ {rest : Body} where
         -- let s = take(t, a.id);
-        let-s : ((v : Val) → Is S slot (v ∷ []) → Sq W (In (some v) none none ∷ Ours) (runs C Λ En rest (atRet En Post)))
-            → Sq W (In none none none ∷ Ours) (runs C Λ En (code-s rest) (atRet En Post))
-        let-s = takes 𝓤 H A W mem run κ q b o γ ys room fm known-take ℓt 6 7 ℓs (refl, refl, tt, tt, tt, tt, tt) tt refl (a .id) id-fits
+        let-s : ((v : Val) → Is S slot (v ∷ []) → Sq W (In (some v) none none ∷ Ours) (Runs rest))
+            → Sq W (In none none none ∷ Ours) (Runs (code-s rest))
+        let-s = takes 𝓤 H A W mem run κ q b o γ ys room fm known-take ℓt for-s ℓs (refl, refl, tt, tt, tt, tt, tt) tt refl (a .id) id-fits
             (λ Δ. field′ ! ℓa 0 refl refl refl)
 
         -- let e = take(t, EMPTY);
-        let-e : (v : Val) → ((u : Val) → Is S first-empty (u ∷ []) → Sq W (In (some v) (some u) none ∷ Ours) (runs C Λ En rest (atRet En Post)))
-            → Sq W (In (some v) none none ∷ Ours) (runs C Λ En (code-e rest) (atRet En Post))
-        let-e v = takes 𝓤 H A W mem run κ q b o γ ys room fm known-take ℓt 8 9 ℓe (refl, refl, tt, tt, tt, tt, tt) tt refl 0 (lit< tt) (λ Δ. lit ! tt)
+        let-e : (v : Val) → ((u : Val) → Is S first-empty (u ∷ []) → Sq W (In (some v) (some u) none ∷ Ours) (Runs rest))
+            → Sq W (In (some v) none none ∷ Ours) (Runs (code-e rest))
+        let-e v = takes 𝓤 H A W mem run κ q b o γ ys room fm known-take ℓt for-e ℓe (refl, refl, tt, tt, tt, tt, tt) tt refl 0 (lit< tt) (λ Δ. lit ! tt)
 
         -- let o = security::admitted(s, e, a);
         let-o : (v u : Val) → Is S slot (v ∷ []) → Is S first-empty (u ∷ [])
-            → (Is O.the-row turn (turn-val turn ∷ []) → Sq W (In (some v) (some u) (some (turn-val turn)) ∷ Ours) (runs C Λ En rest (atRet En Post)))
-            → Sq W (In (some v) (some u) none ∷ Ours) (runs C Λ En (code-o rest) (atRet En Post))
+            → (Is O.the-row turn (turn-val turn ∷ []) → Sq W (In (some v) (some u) (some (turn-val turn)) ∷ Ours) (Runs rest))
+            → Sq W (In (some v) (some u) none ∷ Ours) (Runs (code-o rest))
         let-o v u is ie k =
             asks 𝓤 H A W rule.ended (rule.clauses 𝓤 H A mem run) (to-rule v u) tt fm known-rule (goes-rule v u is ie) turn (λ r e. id⊢ 𝓤 _)
             (typed-turn 𝓤 H A W) tt (and-then ! (local′ ! ℓs refl) (and-then ! (local′ ! ℓe refl) (and-then ! (local′ ! ℓa refl) (no-more !))))
@@ -207,16 +223,14 @@ module _ {M : Type 1} (𝓤 : URA M) (H : Heap 𝓤) (A : Atoms 𝓤) (W : Given
 
         -- put(t, o.at, o.rec);
         put-o : (v u : Val) → Is O.the-row turn (turn-val turn ∷ [])
-            → Sq W (In (some v) (some u) (some (turn-val turn)) ∷ ‵ (finally R γ (set ys (turn .at) (turn .rec))) ∷ ‵ (flft κ q) ∷ [])
-            (runs C Λ En rest (atRet En Post))
-            → Sq W (In (some v) (some u) (some (turn-val turn)) ∷ Ours) (runs C Λ En (code-put rest) (atRet En Post))
-        put-o v u is k = puts-turn 𝓤 H A W mem run κ q b o γ ys room fm known-put ℓt 11 12 10 ℓo (refl, refl, tt, tt, tt, tt, tt) tt refl turn is
+            → Sq W (In (some v) (some u) (some (turn-val turn)) ∷ ‵ (finally R γ (set ys (turn .at) (turn .rec))) ∷ ‵ (flft κ q) ∷ []) (Runs rest)
+            → Sq W (In (some v) (some u) (some (turn-val turn)) ∷ Ours) (Runs (code-put rest))
+        put-o v u is k = puts-turn 𝓤 H A W mem run κ q b o γ ys room fm known-put ℓt for-put ℓunit ℓo (refl, refl, tt, tt, tt, tt, tt) tt refl turn is
             refl refl (λ _. k)
 
       -- o.answer
       answer : (v u : Val) → Is O.the-row turn (turn-val turn ∷ [])
-          → Sq W (In (some v) (some u) (some (turn-val turn)) ∷ ‵ (finally R γ (set ys (turn .at) (turn .rec))) ∷ ‵ (flft κ q) ∷ [])
-          (runs C Λ En (answering ℓo) (atRet En Post))
+          → Sq W (In (some v) (some u) (some (turn-val turn)) ∷ ‵ (finally R γ (set ys (turn .at) (turn .rec))) ∷ ‵ (flft κ q) ∷ []) (Runs (answering ℓo))
       answer v u is = answers W ℓo turn is refl refl tt refl (exits is)
 
     walk : ent 𝓤 (onEntry 𝓤 H A f.signature (κ, tt) (q, tt) x at) (WpFn 𝓤 H C Λ function (machine b o ys ∷ value a ∷ []) Post)

@@ -23,7 +23,7 @@ use ghost.Atoms.{Atoms}
 use contract.Monad.{Fun}
 use contract.Running.{givenOf, tables, tablesOf}
 use types.Kit as Kit
-use types.Kit.{Given, Item, ‵, _⊛_, ⋆, runs, anyQ, atRet, Sq, _$_, _∵_, !, qed, by, move, keep, drop, split, join, rewrite, fsplit, fjoin, feqI, suffices, frame as framed, done}
+use types.Kit.{Given, Item, ‵, _⊛_, ⋆, Goal, runs, anyQ, atRet, Sq, _$_, _∵_, !, qed, by, move, keep, drop, split, join, rewrite, fsplit, fjoin, feqI, suffices, frame as framed, done}
 use types.Run.{store-raw, stop, hop, from, unit-lit, of-opd, bin, assigns, assigns-last, first, branches, skips, exec}
 use sound.WpLaws.{WpFn-mono}
 use denote.RattleType.{owns}
@@ -148,6 +148,10 @@ module _ {M : Type 1} (𝓤 : URA M) (H : Heap 𝓤) (A : Atoms 𝓤) (W : Given
       abbrev En : Env 𝓤 H
       En = env-of (function .locals) ls
 
+      -- the code b runs to the end, where the contract is met
+      abbrev Runs : Body → Goal 𝓤 H
+      Runs b = runs C Λ En b (atRet En Post)
+
       -- where the walk stands: what the compiler's own locals hold, and the list l of the row t, which is owned
       abbrev At : (len test bytes slot : Option Val) → List Record → List (Item 𝓤)
       At len test bytes slot l =
@@ -163,14 +167,14 @@ module _ {M : Type 1} (𝓤 : URA M) (H : Heap 𝓤) (A : Atoms 𝓤) (W : Given
 
       -- if i < t.len() { … }
       tests : (T (ltb i n) → Sq W Tested (runs C Λ En code-store Branch)) → (T (not (ltb i n)) → Sq W Tested (runs C Λ En skip Branch))
-          → Sq W (At none none none none ys) (runs C Λ En (function .body) (atRet En Post))
+          → Sq W (At none none none none ys) (Runs (function .body))
       tests stored passed =
           assigns ! (of-opd ! (field ! ℓt 1 refl refl refl)) (from ! (stop !)) (sets ! ℓlen tt (tt, record { fits = room .0 })) $
           assigns ! (bin ! (value ! ℓi refl) (value ! ℓlen refl) tt) (from ! (stop !)) (sets ! ℓtest tt (tt, tt)) $
           first ! $ branches ! (value ! ℓtest refl) stored passed
 
       -- t[i] = r;
-      stores : i < n → ((len test bytes slot : Val) → Sq W (At (some len) (some test) (some bytes) (some slot) zs) (runs C Λ En code-end (atRet En Post)))
+      stores : i < n → ((len test bytes slot : Val) → Sq W (At (some len) (some test) (some bytes) (some slot) zs) (Runs code-end))
           → Sq W Tested (runs C Λ En code-store Branch)
       stores l k =
           finds 𝓤 H A W ℓt ℓi ℓbytes ℓslot b o n i (refl, refl, refl, tt, tt, tt, refl, refl) room l $
@@ -184,15 +188,15 @@ module _ {M : Type 1} (𝓤 : URA M) (H : Heap 𝓤) (A : Atoms 𝓤) (W : Given
           move ! (3 ∷ []) $ k _ _ _ _)
 
       -- past the end: nothing is stored, and `set` leaves the list
-      leaves-it : T (not (ltb i n)) → Sq W (At (some (vint w64 n)) (some (vbool (ltb i n))) none none zs) (runs C Λ En code-end (atRet En Post))
+      leaves-it : T (not (ltb i n)) → Sq W (At (some (vint w64 n)) (some (vbool (ltb i n))) none none zs) (Runs code-end)
           → Sq W Tested (runs C Λ En skip Branch)
       leaves-it over k =
           skips ! $ exec ! C Λ En code-end (atRet En Post) $
-          subst (λ (l : List Record). Sq W (At (some (vint w64 n)) (some (vbool (ltb i n))) none none l) (runs C Λ En code-end (atRet En Post)))
+          subst (λ (l : List Record). Sq W (At (some (vint w64 n)) (some (vbool (ltb i n))) none none l) (Runs code-end))
           (set-out ys i r (nltb→le i n over)) k
 
       -- the result `()`
-      returns-unit : {len test bytes slot : Option Val} → Sq W (At len test bytes slot zs) (runs C Λ En code-end (atRet En Post))
+      returns-unit : {len test bytes slot : Option Val} → Sq W (At len test bytes slot zs) (Runs code-end)
       returns-unit = assigns ! (of-opd ! (unit-lit !)) (from ! (stop !)) (sets ! 0 tt (tt, tt)) $ leaves ! refl $ by ! (exits room gi gr)
 
     walk : ent 𝓤 (onEntry 𝓤 H A f.signature (κ, tt) (q, tt) x at) (WpFn 𝓤 H C Λ function (sliceVal (b, o) n ∷ vint w64 i ∷ v ∷ []) Post)

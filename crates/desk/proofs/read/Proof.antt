@@ -17,7 +17,7 @@ use prog.Wp.{Heap, Env, Calls, Loops, WpFn, Tables}
 use ghost.Atoms.{Atoms, sem}
 use contract.Monad.{Fun, fact}
 use contract.Running.{givenOf, tables, tablesOf}
-use types.Kit.{Given, Item, ‵, raw, _⊛_, ⋆, runs, atRet, Sq, _$_, _∵_, !, qed, by, move, keep, use1, split, join, fsplit, fjoin, suffices, frame as framed, done}
+use types.Kit.{Given, Item, ‵, raw, _⊛_, ⋆, Goal, runs, atRet, Sq, _$_, _∵_, !, qed, by, move, keep, use1, split, join, fsplit, fjoin, suffices, frame as framed, done}
 use types.Run.{and-then, no-more}
 use sound.WpLaws.{FmC, fmOf, WpFn-mono}
 use denote.RattleType.{owns}
@@ -151,13 +151,17 @@ module _ {M : Type 1} (𝓤 : URA M) (H : Heap 𝓤) (A : Atoms 𝓤) (W : Given
       abbrev En : Env 𝓤 H
       En = env-of (function .locals) ls
 
+      -- the code b runs to the end, where the contract is met
+      abbrev Runs : Body → Goal 𝓤 H
+      Runs b = runs C Λ En b (atRet En Post)
+
       -- where the walk stands: what s holds beside t and id
       abbrev In : (s : Option Val) → Item 𝓤
       In s = frame H En (none ∷ some (machine b o ys) ∷ some (vint w64 id) ∷ s ∷ [])
 
       -- let s = take(t, id);
-      let-s : {rest : Body} → ((w : Val) → Is S slot (w ∷ []) → Sq W (In (some w) ∷ Ours) (runs C Λ En rest (atRet En Post)))
-          → Sq W (In none ∷ Ours) (runs C Λ En (code-s rest) (atRet En Post))
+      let-s : {rest : Body} → ((w : Val) → Is S slot (w ∷ []) → Sq W (In (some w) ∷ Ours) (Runs rest))
+          → Sq W (In none ∷ Ours) (Runs (code-s rest))
       let-s k =
           -- [the frame; the token; what t owns]: that is had twice, once for the call and once for the exit
           move ! (2 ∷ []) $ use1 W (‵ Lent ⊛ ‵ Lent) (shr-slice-copy 𝓤 H A W (named 0) κ R .twice (x .0) (at .0)) $ split ! $
@@ -170,7 +174,7 @@ module _ {M : Type 1} (𝓤 : URA M) (H : Heap 𝓤) (A : Atoms 𝓤) (W : Given
           keep ! (2 ∷ 0 ∷ 3 ∷ []) $ k w (subst (λ (z : Slot). Is S z (w ∷ [])) e is)))
 
       -- security::read(s)
-      answer : (w : Val) → Is S slot (w ∷ []) → Sq W (In (some w) ∷ Ours) (runs C Λ En code-read (atRet En Post))
+      answer : (w : Val) → Is S slot (w ∷ []) → Sq W (In (some w) ∷ Ours) (Runs code-read)
       answer w is =
           asks 𝓤 H A W rule.ended (rule.clauses 𝓤 H A mem run) (to-rule w) tt fm known-rule (goes-rule w is) said (λ r e. id⊢ 𝓤 _) (typed-answer 𝓤 H A W) tt
           (and-then ! (value ! ℓs refl) (no-more !)) (λ u iu. leaves ! refl $ by ! (exits u iu))

@@ -244,6 +244,10 @@ module _ {M : Type 1} (𝓤 : URA M) (H : Heap 𝓤) (A : Atoms 𝓤) (W : Given
     abbrev En : Env 𝓤 H
     En = env-of (function .locals) ls
 
+    -- the code b runs to the end, where the contract is met
+    abbrev Runs : Body → Goal 𝓤 H
+    Runs b = runs C Λ En b (atRet En Post)
+
     -- where the walk stands: what i holds beside t and id, and what the compiler's own locals hold
     abbrev In : ℕ → Locals → Item 𝓤
     In i own = frame H En (none ∷ some (sliceVal (b, o) n) ∷ some (vint w64 id) ∷ some (vint w64 i) ∷ own)
@@ -256,6 +260,9 @@ module _ {M : Type 1} (𝓤 : URA M) (H : Heap 𝓤) (A : Atoms 𝓤) (W : Given
     Turned i = anyQ (afterTurn 𝓤 H (Below 𝓤 H A Nearer At i) (afterBlock 𝓤 H (afterSeq 𝓤 H (Wp 𝓤 H C Λ En code-absent (atReturn 𝓤 H En Post)) (atReturn 𝓤 H En Post))))
 
     module _ (i : Upto) where
+      abbrev Turns : Body → Goal 𝓤 H
+      Turns b = runs C Λ En b (Turned i)
+
       -- after the test of the loop
       abbrev Tested : List (Item 𝓤)
       Tested = In (i .0) (some (vint w64 n) ∷ some (vbool (ltb (i .0) n)) ∷ spare 6) ∷ Ours
@@ -266,8 +273,8 @@ module _ {M : Type 1} (𝓤 : URA M) (H : Heap 𝓤) (A : Atoms 𝓤) (W : Given
           ∷ some (vint w64 (elem (i .0) .id)) ∷ spare 4) ∷ Ours
 
       -- while i < t.len() { … }
-      tests : {rest : Body} → (T (ltb (i .0) n) → Sq W Tested (runs C Λ En rest (Turned i)))
-          → (T (not (ltb (i .0) n)) → Sq W Tested (runs C Λ En code-absent (atRet En Post))) → Sq W (At i) (runs C Λ En (code-while rest) (Turned i))
+      tests : {rest : Body} → (T (ltb (i .0) n) → Sq W Tested (Turns rest))
+          → (T (not (ltb (i .0) n)) → Sq W Tested (Runs code-absent)) → Sq W (At i) (Turns (code-while rest))
       unfolding afterTurn
       tests {rest} stays leaves-loop =
           assigns ! (of-opd ! (field ! ℓt 1 refl refl refl)) (from ! (stop !)) (sets ! ℓlen tt (tt, record { fits = room .0 })) $
@@ -281,8 +288,8 @@ module _ {M : Type 1} (𝓤 : URA M) (H : Heap 𝓤) (A : Atoms 𝓤) (W : Given
 
       -- if t[i].id == id { … }
       compares : i .0 < n → (T (eqb (elem (i .0) .id) id) → Sq W Compared (runs C Λ En code-found Branch))
-          → (T (not (eqb (elem (i .0) .id) id)) → Sq W Compared (runs C Λ En code-next (Turned i)))
-          → Sq W Tested (runs C Λ En (code-if code-found code-next) (Turned i))
+          → (T (not (eqb (elem (i .0) .id) id)) → Sq W Compared (Turns code-next))
+          → Sq W Tested (Turns (code-if code-found code-next))
       compares l same other =
           finds 𝓤 H A W ℓt ℓi ℓlen ℓslot b o n (i .0) (refl, refl, refl, tt, tt, tt, refl, refl) room l $ opens (i .0) l tt (λ q′ g.
           assigns ! (of-opd ! (load ! (from ! (hop ! (whole ! ℓslot refl) (fld ! refl (stop !)))) (look-in ! 1 (sub ! 0 refl (cell-whole !)))))
@@ -310,7 +317,7 @@ module _ {M : Type 1} (𝓤 : URA M) (H : Heap 𝓤) (A : Atoms 𝓤) (W : Given
           is-slot g = slot-is n (i .0) (elem (i .0)) (room .0) (fits i) g
 
       -- i = i + 1;
-      steps : i .0 < n → T (not (eqb (elem (i .0) .id) id)) → Sq W Compared (runs C Λ En code-next (Turned i))
+      steps : i .0 < n → T (not (eqb (elem (i .0) .id) id)) → Sq W Compared (Turns code-next)
       unfolding afterTurn
       steps l other =
           assigns-last ! (bin ! (value ! ℓi refl) (lit ! tt) (record { fits = fits next })) (from ! (stop !)) (sets ! ℓi tt (tt, record { fits = fits next })) $
@@ -320,7 +327,7 @@ module _ {M : Type 1} (𝓤 : URA M) (H : Heap 𝓤) (A : Atoms 𝓤) (W : Given
           next = (i .0 + 1, (add-one-le l, passed-more ys id (i .0) (i .1 .1) l other))
 
       -- security::absent(i), past the end
-      returns-absent : T (not (ltb (i .0) n)) → Sq W Tested (runs C Λ En code-absent (atRet En Post))
+      returns-absent : T (not (ltb (i .0) n)) → Sq W Tested (Runs code-absent)
       returns-absent over =
           asks 𝓤 H A W absent.ended (absent.clauses 𝓤 H A mem run) (to-absent (i .0)) tt (fmOf 𝓤 H (W .laws) 𝓣) known-absent
           (goes-absent (i .0) (fits i)) (absentOf (i .0)) (λ r e. id⊢ 𝓤 _) (typed-slot 𝓤 H A W) tt (and-then ! (value ! ℓi refl) (no-more !))
@@ -331,7 +338,7 @@ module _ {M : Type 1} (𝓤 : URA M) (H : Heap 𝓤) (A : Atoms 𝓤) (W : Given
               let e : i .0 ≡ n = le-antisymm (i .1 .0) (nltb→le (i .0) n over) in
               ap absentOf e ∙ slot-absent ys id (subst (λ (k : ℕ). Passed ys id k) e (i .1 .1))
 
-      turns : Sq W (At i) (runs C Λ En code-turn (Turned i))
+      turns : Sq W (At i) (Turns code-turn)
       turns = tests (λ less. compares (ltb→lt (i .0) n less) (returns-slot (ltb→lt (i .0) n less)) (steps (ltb→lt (i .0) n less))) returns-absent
 
   walk : (𝓣 : Tables 𝓤 H) → Triple 𝓤 (𝓣 .C #absent) (Absent 𝓤 H A mem run)
