@@ -5,6 +5,7 @@ pub mod Frame
 pub mod Slots
 pub mod Asks
 pub mod Calls
+pub mod Known
 pub mod Shape
 pub mod ShapeWithRows
 pub mod Determined

@@ -1,10 +1,17 @@
--- The calls `quote` and `moved` have one shape, `fn call(t: &mut [Record], id: u64, q: Q) -> Answer { let s = take(t, id); let o = rule(s,
--- q); put(t, o.at, o.rec); o.answer }`, and it is proved once, over Q, the rule and the call.
---     Q            any plain type of one machine value: a number, or a declared struct. It is given by its parts, so that it is seen at exit as it was passed
+-- `quote` and `moved` meet their contracts, by one proof. They have one shape, which is proved once, over Q, the rule and
+-- the call:
+--     fn call(t: &mut [Record], id: u64, q: Q) -> Answer {
+--         let s = take(t, id); let o = rule(s, q); put(t, o.at, o.rec); o.answer
+--     }
+-- The rule makes a turn of the slot of the id, the turn's record is stored at its place, and that is the paper's step
+-- (`steps`). The walk has a step for each statement: `let-s`, `let-o`, `put-o` and `answer`.
+--     Plain        Q: any plain type of one machine value, a number or a declared struct. It is given by its parts, so
+--                  that it is seen at exit as it was passed
 --     function     the MIR of the shape
 --     clauses      its contract: what the call promises
 --     Rule         the rule's contract: the turn that it makes of a slot
---     meets        the shape meets its contract, where `take`, the rule and `put` meet theirs and the rule's turn is the call's step
+--     meets        the shape meets its contract, where `take`, the rule and `put` meet theirs and the rule's turn is the
+--                  call's step
 -- Assumes `Given`.
 use mathlib.Core.Path.{_≡_, refl}
 use mathlib.Core.Option.{Option, none, some}
@@ -265,14 +272,17 @@ module _ (P : Plain) where
 
       module _ (𝓣 : Tables 𝓤 H) (known-take : Triple 𝓤 (𝓣 .C #take) (Take 𝓤 H A mem run)) (known-rule : Triple 𝓤 (𝓣 .C #rule) Rule)
           (known-put : Triple 𝓤 (𝓣 .C #put) (Put 𝓤 H A mem run)) where
-        walks : Walks 𝓤 H A ended stayed (WpFn 𝓤 H (𝓣 .C) (𝓣 .Λ) (function (P .τ) #rule)) (clauses K 𝓤)
-        walks = walked 𝓤 H A ended stayed (clauses K 𝓤) (WpFn 𝓤 H (𝓣 .C) (𝓣 .Λ) (function (P .τ) #rule))
+        abbrev Run : Fun 𝓤
+        Run = WpFn 𝓤 H (𝓣 .C) (𝓣 .Λ) (function (P .τ) #rule)
+
+        walks : Walks 𝓤 H A ended stayed Run (clauses K 𝓤)
+        walks = walked 𝓤 H A ended stayed (clauses K 𝓤) Run
             (λ κs. (slice-vals, (uint-vals w64, ((λ d. L .val d ∷ []), tt)))) (λ κs. (mut-slice-tells (named 0) (κs .0) R, (uint-tells w64, (L .tells, tt))))
             (λ κs qs bounds a g are. via 𝓤 _ (fst∗ 𝓤 _ (emp 𝓤))
             (walk (κs .0) (qs .0) (a .0 .ptr .0) (a .0 .ptr .1) (a .0 .name) (a .0 .now) (a .1 .0) (a .1 .1 .0) (L .val (a .1 .1 .0)) (are .0 .0 .1)
             (are .1 .0 .1) (are .1 .1 .0) (𝓣 .C) (𝓣 .Λ) (fmOf 𝓤 H (W .laws) 𝓣) known-take known-rule known-put))
 
-        pub meets : Meets 𝓤 H A (ended .signature) (WpFn 𝓤 H (𝓣 .C) (𝓣 .Λ) (function (P .τ) #rule)) (closing 𝓤 H A ended (clauses K 𝓤))
+        pub meets : Meets 𝓤 H A (ended .signature) Run (closing 𝓤 H A ended (clauses K 𝓤))
         meets =
             walk-meets 𝓤 H A ended stayed W (goes-gave-slice 𝓤 H A W 1 0 tt (plain (λ _. R)), (goes-none 𝓤 H A W 1 (λ _. u64) yes (λ κs x f. refl), (goes-none 𝓤 H A W 1 (λ _. Q) yes (λ κs x f. refl), tt))) (clauses K 𝓤)
-            (WpFn 𝓤 H (𝓣 .C) (𝓣 .Λ) (function (P .τ) #rule)) (WpFn-mono 𝓤 H (W .laws) 𝓣 (function (P .τ) #rule)) walks
+            Run (WpFn-mono 𝓤 H (W .laws) 𝓣 (function (P .τ) #rule)) walks

@@ -1,11 +1,13 @@
--- The calls `evaluate` and `evaluate_asked` have one shape, `fn call(t: &mut [Record], id: u64, d: D, rows: &[i64]) -> Answer { let s = take(t, id); let o =
--- rule(s, d, rows); put(t, o.at, o.rec); o.answer }`, and it is proved once, over D, the rule and the call. It is `Shape`'s, with the day's rows lent beside
--- the table. They go to the rule: a `&` is Copy, so what it owns is had twice, once for the call and once for the exit.
---     D            any plain type of one machine value, given as in `Shape`
---     function     the MIR of the shape
---     clauses      its contract: what the call promises
---     Rule         the rule's contract: the turn that it makes of a slot
---     meets        the shape meets its contract, where `take`, the rule and `put` meet theirs and the rule's turn is the call's step
+-- `evaluate` and `evaluate_asked` meet their contracts, by one proof. They have `Shape`'s shape, with the day's rows lent
+-- beside the table, and what `Shape` says of its proof holds here:
+--     fn call(t: &mut [Record], id: u64, d: D, rows: &[i64]) -> Answer {
+--         let s = take(t, id); let o = rule(s, d, rows); put(t, o.at, o.rec); o.answer
+--     }
+-- The rows go to the rule: a `&` is Copy, so what it owns is had twice, once for the call and once for the exit (`let-o`).
+-- The two shapes are not one over what else is lent. The parameters come first among the locals, and their lifetimes first
+-- among the signature's. So one more of them changes the number of each local after it, and a step computes only at a frame
+-- that is written out; and it changes the types of the arguments, which compute only at a list of parameters that is. What
+-- the shapes have in common is the steps (`Calls`), and the proof of a step here is the law that it cites.
 -- Assumes `Given`.
 use mathlib.Core.Path.{_≡_, refl, subst}
 use mathlib.Core.Option.{Option, none, some}
@@ -289,8 +291,11 @@ module _ (P : Plain) where
       module _ (𝓣 : Tables 𝓤 H)
           (known-take : Triple 𝓤 (𝓣 .C #take) (Take 𝓤 H A mem run)) (known-rule : Triple 𝓤 (𝓣 .C #rule) Rule) (known-put : Triple 𝓤 (𝓣 .C #put)
           (Put 𝓤 H A mem run)) where
-        walks : Walks 𝓤 H A ended stayed (WpFn 𝓤 H (𝓣 .C) (𝓣 .Λ) (function (P .τ) #rule)) (clauses K 𝓤)
-        walks = walked 𝓤 H A ended stayed (clauses K 𝓤) (WpFn 𝓤 H (𝓣 .C) (𝓣 .Λ) (function (P .τ) #rule))
+        abbrev Run : Fun 𝓤
+        Run = WpFn 𝓤 H (𝓣 .C) (𝓣 .Λ) (function (P .τ) #rule)
+
+        walks : Walks 𝓤 H A ended stayed Run (clauses K 𝓤)
+        walks = walked 𝓤 H A ended stayed (clauses K 𝓤) Run
             (λ κs. (slice-vals, (uint-vals w64, ((λ d. L .val d ∷ []), (slice-vals, tt))))) (λ κs. (
               mut-slice-tells (named 0)
                   (κs .0) R,
@@ -301,7 +306,7 @@ module _ (P : Plain) where
             (L .val (a .1 .1 .0)) (a .1 .1 .1 .0) (are .0 .0 .1) (are .1 .0 .1) (are .1 .1 .0) (are .1 .1 .1 .0 .0 .1) (𝓣 .C) (𝓣 .Λ)
             (fmOf 𝓤 H (W .laws) 𝓣) known-take known-rule known-put))
 
-        pub meets : Meets 𝓤 H A (ended .signature) (WpFn 𝓤 H (𝓣 .C) (𝓣 .Λ) (function (P .τ) #rule)) (closing 𝓤 H A ended (clauses K 𝓤))
+        pub meets : Meets 𝓤 H A (ended .signature) Run (closing 𝓤 H A ended (clauses K 𝓤))
         meets =
             walk-meets 𝓤 H A ended stayed W (goes-gave-slice 𝓤 H A W 2 0 tt (plain (λ _. R)), (goes-none 𝓤 H A W 2 (λ _. u64) yes (λ κs x f. refl), (goes-none 𝓤 H A W 2 (λ _. D) yes (λ κs x f. refl), (goes-none-slice 𝓤 H A W 2 (1 ∷ []) tt (plain (λ _. i64)) yes, tt)))) (clauses K 𝓤)
-            (WpFn 𝓤 H (𝓣 .C) (𝓣 .Λ) (function (P .τ) #rule)) (WpFn-mono 𝓤 H (W .laws) 𝓣 (function (P .τ) #rule)) walks
+            Run (WpFn-mono 𝓤 H (W .laws) 𝓣 (function (P .τ) #rule)) walks

@@ -1,7 +1,8 @@
--- `desk::admit` meets its contract: a walk of its MIR, by hand. As `Shape`'s, with two calls of `take`: the slot of the id, and the first
--- empty one.
+-- `desk::admit` meets its contract: the rule makes a turn of the slot of the id and of the first empty slot, the turn's
+-- record is stored at its place, and that is the paper's step (`admit-steps`).
+-- The walk has a step for each statement: `let-s`, `let-e`, `let-o`, `put-o` and `answer`.
 -- Assumes nothing.
-use mathlib.Core.Path.{_≡_, refl}
+use mathlib.Core.Path.{refl}
 use mathlib.Core.Option.{Option, none, some}
 use Prim.Native.Nat.{ℕ, _<_, _^_}
 use mathlib.Core.List.{List, [], _∷_}
@@ -51,14 +52,11 @@ use Rattle.security.proofs.Turn as O
 use Rattle.desk.proofs.Row.{R, table-ty, S, makes-slot, turn-ty, turn-val, turn-is, typed-turn, answer-val, makes-answer}
 use Rattle.desk.proofs.Frame.{Addresses, env-of, spare, frame, enters, value as local′, field as field′}
 use Rattle.desk.proofs.Calls.{Take, Put, ℓt, Lending, rref, wref, ref, machine, Owned, taking, putting-turn, answering, takes, turned, puts-turn, answers}
+use Rattle.desk.proofs.Known.{take-known, put-known}
 use Rattle.desk.proofs.Asks.{Callee, asks}
 use Rattle.desk.proofs.Steps.{admit-steps, promised}
-use Rattle.desk.proofs.take.Symbol as take-def
 use Rattle.desk.proofs.take.Symbol.{name as #take}
-use Rattle.desk.proofs.take.Met as take-thm
-use Rattle.desk.proofs.put.Symbol as put-def
 use Rattle.desk.proofs.put.Symbol.{name as #put}
-use Rattle.desk.proofs.put.Met as put-thm
 use Rattle.security.proofs.admitted as rule
 use Rattle.security.proofs.admitted.Symbol as rule-def
 use Rattle.security.proofs.admitted.Symbol.{name as #rule}
@@ -245,18 +243,21 @@ module _ {M : Type 1} (𝓤 : URA M) (H : Heap 𝓤) (A : Atoms 𝓤) (W : Given
 module _ {M : Type 1} (𝓤 : URA M) (H : Heap 𝓤) (A : Atoms 𝓤) (W : Given 𝓤 H A) (mem : Memory → SProp 𝓤) (run : Routine → Fun 𝓤) (𝓣 : Tables 𝓤 H)
     (known-take : Triple 𝓤 (𝓣 .C #take) (Take 𝓤 H A mem run)) (known-rule : Triple 𝓤 (𝓣 .C #rule) (Rule 𝓤 H A mem run)) (known-put : Triple 𝓤 (𝓣 .C #put)
     (Put 𝓤 H A mem run)) where
-  walks : Walks 𝓤 H A f.ended stayed (WpFn 𝓤 H (𝓣 .C) (𝓣 .Λ) function) (f.clauses 𝓤 H A mem run)
-  walks = walked 𝓤 H A f.ended stayed (f.clauses 𝓤 H A mem run) (WpFn 𝓤 H (𝓣 .C) (𝓣 .Λ) function) (λ κs. (slice-vals, (LL.vals B.the-type B′.the-laws, tt)))
+  abbrev Run : Fun 𝓤
+  Run = WpFn 𝓤 H (𝓣 .C) (𝓣 .Λ) function
+
+  walks : Walks 𝓤 H A f.ended stayed Run (f.clauses 𝓤 H A mem run)
+  walks = walked 𝓤 H A f.ended stayed (f.clauses 𝓤 H A mem run) Run (λ κs. (slice-vals, (LL.vals B.the-type B′.the-laws, tt)))
       (λ κs. (mut-slice-tells (named 0) (κs .0) R, (LL.tells B.the-type B′.the-laws, tt)))
       (λ κs qs bounds a g are. via 𝓤 _ (fst∗ 𝓤 _ (emp 𝓤))
       (walk 𝓤 H A W mem run (κs .0) (qs .0) (a .0 .ptr .0) (a .0 .ptr .1) (a .0 .name) (a .0 .now) (a .1 .0) (are .0 .0 .1) (are .1 .0) (𝓣 .C) (𝓣 .Λ)
       (fmOf 𝓤 H (W .laws) 𝓣) known-take known-rule known-put))
 
-  meets : Meets 𝓤 H A f.signature (WpFn 𝓤 H (𝓣 .C) (𝓣 .Λ) function) (f.spec 𝓤 H A mem run)
+  meets : Meets 𝓤 H A f.signature Run (f.spec 𝓤 H A mem run)
   meets =
       walk-meets 𝓤 H A f.ended stayed W (goes-gave-slice 𝓤 H A W 1 0 tt (plain (λ _. R)), (goes-none 𝓤 H A W 1 (λ _. B.the-row) yes (λ κs x f. refl), tt))
       (f.clauses 𝓤 H A mem run)
-      (WpFn 𝓤 H (𝓣 .C) (𝓣 .Λ) function) (WpFn-mono 𝓤 H (W .laws) 𝓣 function) walks
+      Run (WpFn-mono 𝓤 H (W .laws) 𝓣 function) walks
 
 pub admit-spec : {M : Type 1} → stated.statement M
 unfolding code.routine tablesOf
@@ -264,6 +265,6 @@ admit-spec 𝓤 H 𝓜 𝓖 𝓡 =
     entered 𝓤 H (tripleOf 𝓤 H (𝓖 .A) f.signature (f.spec 𝓤 H (𝓖 .A) (𝓜 .mem) (𝓡 .run)))
     (tables 𝓤 H 𝓜 𝓡 code.env .C) (tables 𝓤 H 𝓜 𝓡 code.env .Λ) #admit code.function (code.unfolded 𝓤 H 𝓜 𝓡)
     (meets 𝓤 H (𝓖 .A) (givenOf 𝓤 H 𝓜 𝓖) (𝓜 .mem) (𝓡 .run) (tablesOf 𝓤 H 𝓜 (tables 𝓤 H 𝓜 𝓡 code.env))
-    (cited 𝓤 H (Take 𝓤 H (𝓖 .A) (𝓜 .mem) (𝓡 .run)) 𝓜 𝓡 code.env #take take-def.routine code.calls-desk·take (take-thm.met 𝓤 H 𝓜 𝓖 𝓡))
+    (take-known 𝓤 H 𝓜 𝓖 𝓡 code.env code.calls-desk·take)
     (cited 𝓤 H (Rule 𝓤 H (𝓖 .A) (𝓜 .mem) (𝓡 .run)) 𝓜 𝓡 code.env #rule rule-def.routine code.calls-security·admitted (rule-thm.met 𝓤 H 𝓜 𝓖 𝓡))
-    (cited 𝓤 H (Put 𝓤 H (𝓖 .A) (𝓜 .mem) (𝓡 .run)) 𝓜 𝓡 code.env #put put-def.routine code.calls-desk·put (put-thm.met 𝓤 H 𝓜 𝓖 𝓡)))
+    (put-known 𝓤 H 𝓜 𝓖 𝓡 code.env code.calls-desk·put))

@@ -16,14 +16,10 @@ use Rattle.paper.proofs.AskedDay.Laws as D′
 use Rattle.security.specs.declared.Slot.{Slot}
 use Rattle.security.specs.declared.Turn.{Turn}
 use Rattle.security.specs.Turns.{slotOf, evaluateTurn, doneBy}
-use Rattle.desk.proofs.Calls.{Take, Put}
+use Rattle.desk.proofs.Known.{take-known, put-known}
 use Rattle.desk.proofs.Shape.{Plain, PlainLaws, of-row}
 use Rattle.desk.proofs.ShapeWithRows.{Rule, meets}
 use Rattle.desk.proofs.Steps.{evaluate-steps}
-use Rattle.desk.proofs.take.Symbol as take-def
-use Rattle.desk.proofs.take.Met as take-thm
-use Rattle.desk.proofs.put.Symbol as put-def
-use Rattle.desk.proofs.put.Met as put-thm
 use Rattle.desk.proofs.asked.Symbol as rule-def
 use Rattle.desk.proofs.asked.Met as rule-thm
 use Rattle.desk.proofs.evaluate_asked as f
@@ -53,6 +49,6 @@ evaluate-asked-spec 𝓤 H 𝓜 𝓖 𝓡 =
     entered 𝓤 H (tripleOf 𝓤 H (𝓖 .A) f.signature (f.spec 𝓤 H (𝓖 .A) (𝓜 .mem) (𝓡 .run)))
     (tables 𝓤 H 𝓜 𝓡 code.env .C) (tables 𝓤 H 𝓜 𝓡 code.env .Λ) key.name code.function (code.unfolded 𝓤 H 𝓜 𝓡)
     (meets P L askedTurn evaluation asked-steps rule-def.name 𝓤 H (𝓖 .A) (givenOf 𝓤 H 𝓜 𝓖) (𝓜 .mem) (𝓡 .run) (tablesOf 𝓤 H 𝓜 (tables 𝓤 H 𝓜 𝓡 code.env))
-    (cited 𝓤 H (Take 𝓤 H (𝓖 .A) (𝓜 .mem) (𝓡 .run)) 𝓜 𝓡 code.env take-def.name take-def.routine code.calls-desk·take (take-thm.met 𝓤 H 𝓜 𝓖 𝓡))
+    (take-known 𝓤 H 𝓜 𝓖 𝓡 code.env code.calls-desk·take)
     (cited 𝓤 H (Rule P L askedTurn evaluation asked-steps rule-def.name 𝓤 H (𝓖 .A)) 𝓜 𝓡 code.env rule-def.name rule-def.routine code.calls-desk·asked (rule-thm.met 𝓤 H 𝓜 𝓖 𝓡))
-    (cited 𝓤 H (Put 𝓤 H (𝓖 .A) (𝓜 .mem) (𝓡 .run)) 𝓜 𝓡 code.env put-def.name put-def.routine code.calls-desk·put (put-thm.met 𝓤 H 𝓜 𝓖 𝓡)))
+    (put-known 𝓤 H 𝓜 𝓖 𝓡 code.env code.calls-desk·put))

@@ -1,5 +1,6 @@
--- `desk::read` meets its contract: a walk of its MIR, by hand. The table is a `&`, which is Copy: what it owns is had twice, once for the
--- call of `take`, and once for the exit.
+-- `desk::read` meets its contract: the rule answers of the slot of the id what the paper's read answers (`read-answers`).
+-- The walk has a step for each statement: `let-s` and `answer`. The table is a `&`, which is Copy: what it owns is had
+-- twice, once for the call of `take`, and once for the exit.
 -- Assumes nothing.
 use mathlib.Core.Path.{_≡_, refl, subst}
 use mathlib.Core.Option.{Option, none, some}
@@ -46,12 +47,11 @@ use Rattle.security.specs.Turns.{slotOf, readAnswer}
 use Rattle.desk.proofs.Row.{R, S, makes-slot, typed-slot, makes-answer, typed-answer}
 use Rattle.desk.proofs.Frame.{Addresses, env-of, frame, enters, value, leaves}
 use Rattle.desk.proofs.Calls.{Take, ℓt, ref, machine}
+use Rattle.desk.proofs.Known.{take-known}
 use Rattle.desk.proofs.Asks.{Callee, calls, says as learned, asks}
 use Rattle.desk.proofs.Steps.{read-answers}
 use Rattle.desk.proofs.take as take
-use Rattle.desk.proofs.take.Symbol as take-def
 use Rattle.desk.proofs.take.Symbol.{name as #take}
-use Rattle.desk.proofs.take.Met as take-thm
 use Rattle.security.proofs.read as rule
 use Rattle.security.proofs.read.Symbol as rule-def
 use Rattle.security.proofs.read.Symbol.{name as #rule}
@@ -189,17 +189,20 @@ module _ {M : Type 1} (𝓤 : URA M) (H : Heap 𝓤) (A : Atoms 𝓤) (W : Given
 
 module _ {M : Type 1} (𝓤 : URA M) (H : Heap 𝓤) (A : Atoms 𝓤) (W : Given 𝓤 H A) (mem : Memory → SProp 𝓤) (run : Routine → Fun 𝓤) (𝓣 : Tables 𝓤 H)
     (known-take : Triple 𝓤 (𝓣 .C #take) (Take 𝓤 H A mem run)) (known-rule : Triple 𝓤 (𝓣 .C #rule) (Rule 𝓤 H A mem run)) where
-  walks : Walks 𝓤 H A f.ended stayed (WpFn 𝓤 H (𝓣 .C) (𝓣 .Λ) function) (f.clauses 𝓤 H A mem run)
-  walks = walked 𝓤 H A f.ended stayed (f.clauses 𝓤 H A mem run) (WpFn 𝓤 H (𝓣 .C) (𝓣 .Λ) function) (λ κs. (slice-vals, (uint-vals w64, tt)))
+  abbrev Run : Fun 𝓤
+  Run = WpFn 𝓤 H (𝓣 .C) (𝓣 .Λ) function
+
+  walks : Walks 𝓤 H A f.ended stayed Run (f.clauses 𝓤 H A mem run)
+  walks = walked 𝓤 H A f.ended stayed (f.clauses 𝓤 H A mem run) Run (λ κs. (slice-vals, (uint-vals w64, tt)))
       (λ κs. (shr-slice-tells (named 0) (κs .0) R, (uint-tells w64, tt)))
       (λ κs qs bounds a g are. via 𝓤 _ (fst∗ 𝓤 _ (emp 𝓤))
       (walk 𝓤 H A W mem run (κs .0) (qs .0) (a .0 .ptr .0) (a .0 .ptr .1) (a .0 .name) (a .0 .now) (a .1 .0) (are .0 .0 .1) (are .1 .0 .1) (𝓣 .C) (𝓣 .Λ)
       (fmOf 𝓤 H (W .laws) 𝓣) known-take known-rule))
 
-  meets : Meets 𝓤 H A f.signature (WpFn 𝓤 H (𝓣 .C) (𝓣 .Λ) function) (f.spec 𝓤 H A mem run)
+  meets : Meets 𝓤 H A f.signature Run (f.spec 𝓤 H A mem run)
   meets =
       walk-meets 𝓤 H A f.ended stayed W (goes-none-slice 𝓤 H A W 1 (0 ∷ []) tt (plain (λ _. R)) yes, (goes-none 𝓤 H A W 1 (λ _. u64) yes (λ κs x f. refl), tt)) (f.clauses 𝓤 H A mem run)
-      (WpFn 𝓤 H (𝓣 .C) (𝓣 .Λ) function) (WpFn-mono 𝓤 H (W .laws) 𝓣 function) walks
+      Run (WpFn-mono 𝓤 H (W .laws) 𝓣 function) walks
 
 pub read-spec : {M : Type 1} → stated.statement M
 unfolding code.routine tablesOf
@@ -207,5 +210,5 @@ read-spec 𝓤 H 𝓜 𝓖 𝓡 =
     entered 𝓤 H (tripleOf 𝓤 H (𝓖 .A) f.signature (f.spec 𝓤 H (𝓖 .A) (𝓜 .mem) (𝓡 .run)))
     (tables 𝓤 H 𝓜 𝓡 code.env .C) (tables 𝓤 H 𝓜 𝓡 code.env .Λ) #read code.function (code.unfolded 𝓤 H 𝓜 𝓡)
     (meets 𝓤 H (𝓖 .A) (givenOf 𝓤 H 𝓜 𝓖) (𝓜 .mem) (𝓡 .run) (tablesOf 𝓤 H 𝓜 (tables 𝓤 H 𝓜 𝓡 code.env))
-    (cited 𝓤 H (Take 𝓤 H (𝓖 .A) (𝓜 .mem) (𝓡 .run)) 𝓜 𝓡 code.env #take take-def.routine code.calls-desk·take (take-thm.met 𝓤 H 𝓜 𝓖 𝓡))
+    (take-known 𝓤 H 𝓜 𝓖 𝓡 code.env code.calls-desk·take)
     (cited 𝓤 H (Rule 𝓤 H (𝓖 .A) (𝓜 .mem) (𝓡 .run)) 𝓜 𝓡 code.env #rule rule-def.routine code.calls-security·read (rule-thm.met 𝓤 H 𝓜 𝓖 𝓡)))

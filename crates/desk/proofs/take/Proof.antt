@@ -1,7 +1,8 @@
--- `desk::take` meets its contract: a walk of its MIR, by hand, with a loop whose turn may return. In each turn the borrow is looked into,
--- and the id of slot i is read where it lies. Where it is the id, the slot is copied; the borrow is shut.
--- The invariant: i slots are passed, and none of them has the id (`Places`' `Passed`). The variant: i with that, ordered by what is left to
--- pass. Past the end `absent` makes the answer.
+-- `desk::take` meets its contract. The loop passes the slots in order, and none that it has passed has the id (`Places`'
+-- `Passed`). So a slot with the id is the first one, and where all are passed the id stands nowhere, which is what `absent`
+-- answers. The loop ends, because each turn leaves fewer slots to pass (`Nearer`).
+-- The walk has a step for each statement: `tests`, `compares`, `returns-slot`, `steps`, and `returns-absent` once the loop is
+-- left. A statement that reads t[i] opens the borrow for it, and shuts it (`opens`, `shuts`).
 -- Assumes nothing.
 use mathlib.Core.Path.{_≡_, refl, _∙_, ap, subst}
 use mathlib.Core.Option.{some, none}
@@ -355,16 +356,19 @@ module _ {M : Type 1} (𝓤 : URA M) (H : Heap 𝓤) (A : Atoms 𝓤) (W : Given
 
 module _ {M : Type 1} (𝓤 : URA M) (H : Heap 𝓤) (A : Atoms 𝓤) (W : Given 𝓤 H A) (mem : Memory → SProp 𝓤) (run : Routine → Fun 𝓤) (𝓣 : Tables 𝓤 H)
     (known : Triple 𝓤 (𝓣 .C #absent) (Absent 𝓤 H A mem run)) where
-  walks : Walks 𝓤 H A f.ended stayed (WpFn 𝓤 H (𝓣 .C) (𝓣 .Λ) function) (f.clauses 𝓤 H A mem run)
-  walks = walked 𝓤 H A f.ended stayed (f.clauses 𝓤 H A mem run) (WpFn 𝓤 H (𝓣 .C) (𝓣 .Λ) function) (λ κs. (slice-vals, (uint-vals w64, tt)))
+  abbrev Run : Fun 𝓤
+  Run = WpFn 𝓤 H (𝓣 .C) (𝓣 .Λ) function
+
+  walks : Walks 𝓤 H A f.ended stayed Run (f.clauses 𝓤 H A mem run)
+  walks = walked 𝓤 H A f.ended stayed (f.clauses 𝓤 H A mem run) Run (λ κs. (slice-vals, (uint-vals w64, tt)))
       (λ κs. (shr-slice-tells (named 0) (κs .0) R, (uint-tells w64, tt)))
       (λ κs qs bounds a g are. via 𝓤 _ (fst∗ 𝓤 _ (emp 𝓤))
       (walk 𝓤 H A W mem run (κs .0) (qs .0) (a .0 .ptr .0) (a .0 .ptr .1) (a .0 .name) (a .0 .now) (a .1 .0) (are .0 .0 .1) (are .1 .0 .1) 𝓣 known))
 
-  meets : Meets 𝓤 H A f.signature (WpFn 𝓤 H (𝓣 .C) (𝓣 .Λ) function) (f.spec 𝓤 H A mem run)
+  meets : Meets 𝓤 H A f.signature Run (f.spec 𝓤 H A mem run)
   meets =
       walk-meets 𝓤 H A f.ended stayed W (goes-none-slice 𝓤 H A W 1 (0 ∷ []) tt (plain (λ _. R)) yes, (goes-none 𝓤 H A W 1 (λ _. u64) yes (λ κs x f. refl), tt)) (f.clauses 𝓤 H A mem run)
-      (WpFn 𝓤 H (𝓣 .C) (𝓣 .Λ) function) (WpFn-mono 𝓤 H (W .laws) 𝓣 function) walks
+      Run (WpFn-mono 𝓤 H (W .laws) 𝓣 function) walks
 
 pub take-spec : {M : Type 1} → stated.statement M
 unfolding code.routine tablesOf
