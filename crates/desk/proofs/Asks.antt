@@ -1,4 +1,5 @@
--- A call of a function that has a contract, as a step of a walk whose locals are a frame: the caller hands over what the callee asks for, the
+-- A call of a function that has a contract, as a step of a walk whose locals are a frame: the caller hands over what
+-- the callee asks for, the
 -- operands are read from the frame, and the result is in the local d.
 --     calls      any callee. The caller has back what it ensures, and the tokens of its lifetimes
 --     asks       a callee by value, which needs nothing but its operands. The caller learns what it ensures
@@ -35,8 +36,8 @@ module _ {M : Type 1} (𝓤 : URA M) (H : Heap 𝓤) (A : Atoms 𝓤) where
   reads-second : {W : Given 𝓤 H A} {Γ : List (Item 𝓤)} {i j : Item 𝓤} {E : Env 𝓤 H} {xs : List Operand} {vs : List Val}
       → Opds (Go {0}) W (i ∷ j ∷ Γ) E xs vs → Opds (Go {0}) W (j ∷ i ∷ Γ) E xs vs
   reads-second {W} {Γ} {i} {j} os = record {
-    go = λ Kt h.
-        via 𝓤 (⋆ 𝓤 H A (i ∷ j ∷ Γ)) (qed W (j ∷ i ∷ Γ) ∵ move ! (1 ∷ []) $ done !)
+    go =
+        λ Kt h. via 𝓤 (⋆ 𝓤 H A (i ∷ j ∷ Γ)) (qed W (j ∷ i ∷ Γ) ∵ move ! (1 ∷ []) $ done !)
         (os .go Kt (via 𝓤 (⋆ 𝓤 H A (j ∷ i ∷ Γ)) (qed W (i ∷ j ∷ Γ) ∵ move ! (1 ∷ []) $ done !) h));
   }
 
@@ -49,45 +50,54 @@ module _ {M : Type 1} (𝓤 : URA M) (H : Heap 𝓤) (A : Atoms 𝓤) where
   Result T′ x = typeAt (T′ .signature .result) (x .0)
 
   abbrev pub Stores : (T′ : Ended) → Bound 𝓤 H A (T′ .signature) → Env 𝓤 H → ℕ → Type 0
-  Stores T′ x E d = (r : Result T′ x .Denot) (v : Val) → Is (Result T′ x) r (v ∷ []) → T (hasTy (spotOf 𝓤 H E d .0) v) × WT v
+  Stores T′ x E d =
+      (r : Result T′ x .Denot) (v : Val) → Is (Result T′ x) r (v ∷ []) → T (hasTy (spotOf 𝓤 H E d .0) v) × WT v
 
-  module _ (W : Given 𝓤 H A) (T′ : Ended) (c : Clauses 𝓤 T′) (x : Bound 𝓤 H A (T′ .signature)) (g : c (x .0) (x .3) .ghost) where
+  module _ (W : Given 𝓤 H A) (T′ : Ended) (c : Clauses 𝓤 T′) (x : Bound 𝓤 H A (T′ .signature))
+      (g : c (x .0) (x .3) .ghost) where
     abbrev X : RattleType
     X = Result T′ x
 
     -- what the caller learns
-    pub says : (r : X .Denot) (φ : Type 0) → ((e : AtExit T′ (x .0)) → ent 𝓤 (c (x .0) (x .3) .ensures g r e) (fact 𝓤 φ))
-        → ent 𝓤 (ensured 𝓤 H A T′ c (x .0) (x .3) g r) (fact 𝓤 φ)
-    says r φ tells = exE 𝓤 _ (λ ws. via 𝓤 (c (x .0) (x .3) .ensures g r (atExit T′ (x .0) (x .3) ws))
-        (snd∗ 𝓤 (sem 𝓤 H A (lasts T′ (x .0) (x .3) ws)) (c (x .0) (x .3) .ensures g r (atExit T′ (x .0) (x .3) ws))) (tells (atExit T′ (x .0) (x .3) ws)))
+    pub says : (r : X .Denot) (φ : Type 0) → ((e : AtExit T′ (x .0)) → ent 𝓤 (c (x .0) (x .3) .ensures g r e)
+        (fact 𝓤 φ)) → ent 𝓤 (ensured 𝓤 H A T′ c (x .0) (x .3) g r) (fact 𝓤 φ)
+    says r φ tells =
+        exE 𝓤 _ (λ ws. via 𝓤 (c (x .0) (x .3) .ensures g r (atExit T′ (x .0) (x .3) ws))
+        (snd∗ 𝓤 (sem 𝓤 H A (lasts T′ (x .0) (x .3) ws)) (c (x .0) (x .3) .ensures g r (atExit T′ (x .0) (x .3) ws)))
+        (tells (atExit T′ (x .0) (x .3) ws)))
 
-    module _ {Γ : List (Item 𝓤)} {E : Env 𝓤 H} {cs : Locals} {C : Calls 𝓤 H} {Λ : Loops 𝓤 H} {post : Post 𝓤 H} {#f : Name} {xs : List Operand} {d : ℕ}
-        {rest : Body} where
-      pub calls : FmC 𝓤 H (W .laws) C → Triple 𝓤 (C #f) (Callee T′ c) → (i : Item 𝓤) → ent 𝓤 (mean 𝓤 H A i) (Callee T′ c .pre (x, g))
-          → Stores T′ x E d → Within E d → Opds (Go {0}) W (frame H E cs ∷ raw (Callee T′ c .pre (x, g)) ∷ Γ) E xs (passed 𝓤 H A (T′ .signature) x)
+    module _ {Γ : List (Item 𝓤)} {E : Env 𝓤 H} {cs : Locals} {C : Calls 𝓤 H} {Λ : Loops 𝓤 H} {post : Post 𝓤 H}
+        {#f : Name} {xs : List Operand} {d : ℕ} {rest : Body} where
+      pub calls : FmC 𝓤 H (W .laws) C → Triple 𝓤 (C #f) (Callee T′ c) → (i : Item 𝓤)
+          → ent 𝓤 (mean 𝓤 H A i) (Callee T′ c .pre (x, g)) → Stores T′ x E d → Within E d
+          → Opds (Go {0}) W (frame H E cs ∷ raw (Callee T′ c .pre (x, g)) ∷ Γ) E xs (passed 𝓤 H A (T′ .signature) x)
           → ((r : X .Denot) (v : Val) → Is X r (v ∷ [])
-          → Sq W (raw (ensured 𝓤 H A T′ c (x .0) (x .3) g r) ∷ raw (alive 𝓤 H A (T′ .signature) (x .0) (x .1)) ∷ frame H E (holding cs d (some v)) ∷ Γ)
-          (runs C Λ E rest post))
+          → Sq W (raw (ensured 𝓤 H A T′ c (x .0) (x .3) g r) ∷ raw (alive 𝓤 H A (T′ .signature) (x .0)
+          (x .1)) ∷ frame H E (holding cs d (some v)) ∷ Γ) (runs C Λ E rest post))
           → Sq W (i ∷ frame H E cs ∷ Γ) (runs C Λ E (seq (call #f xs (place d [])) rest) post)
       calls fm known i goes stores in-E os k =
-          use1 W (raw (Callee T′ c .pre (x, g))) goes $ calls-at ! fm (Callee T′ c) known (x, g) (reads-second os) (λ v.
-          use1 W (later (some′ (λ (r : X .Denot). (raw (alive 𝓤 H A (T′ .signature) (x .0) (x .1)) ⊛ ‵ (X .own r (v ∷ [])))
-          ⊛ raw (ensured 𝓤 H A T′ c (x .0) (x .3) g r)))) (id⊢ 𝓤 (Callee T′ c .post (x, g) v)) $ await ! tt $ pick ! (λ r.
-          split ! $ split ! $ move ! (1 ∷ []) $ facts ! X (Is X) (shows 𝓤 H A X) r (v ∷ []) (λ is.
+          use1 W (raw (Callee T′ c .pre (x, g))) goes $ calls-at ! fm (Callee T′ c) known (x, g) (reads-second os)
+          (λ v. use1 W
+          (later (some′ (λ (r : X .Denot). (raw (alive 𝓤 H A (T′ .signature) (x .0) (x .1)) ⊛ ‵
+          (X .own r (v ∷ []))) ⊛ raw (ensured 𝓤 H A T′ c (x .0) (x .3) g r)))) (id⊢ 𝓤 (Callee T′ c .post (x, g) v)) $
+          await ! tt $ pick ! (λ r. split ! $ split ! $ move ! (1 ∷ []) $
+          facts ! X (Is X) (shows 𝓤 H A X) r (v ∷ []) (λ is.
           -- [the tokens; what is ensured; the frame; …]
           move ! (2 ∷ []) $ land ! (from ! (stop !)) (sets ! d in-E (stores r v is)) $ move ! (2 ∷ 1 ∷ []) $ k r v is)))
 
-  module _ (W : Given 𝓤 H A) (T′ : Ended) (c : Clauses 𝓤 T′) (x : Bound 𝓤 H A (T′ .signature)) (g : c (x .0) (x .3) .ghost) where
-    module _ {Γ : List (Item 𝓤)} {E : Env 𝓤 H} {cs : Locals} {C : Calls 𝓤 H} {Λ : Loops 𝓤 H} {post : Post 𝓤 H} {#f : Name} {xs : List Operand} {d : ℕ}
-        {rest : Body} where
+  module _ (W : Given 𝓤 H A) (T′ : Ended) (c : Clauses 𝓤 T′) (x : Bound 𝓤 H A (T′ .signature))
+      (g : c (x .0) (x .3) .ghost) where
+    module _ {Γ : List (Item 𝓤)} {E : Env 𝓤 H} {cs : Locals} {C : Calls 𝓤 H} {Λ : Loops 𝓤 H} {post : Post 𝓤 H}
+        {#f : Name} {xs : List Operand} {d : ℕ} {rest : Body} where
       -- what is ensured says that the result is y, whatever is left of the parameters
       pub asks : FmC 𝓤 H (W .laws) C → Triple 𝓤 (C #f) (Callee T′ c) → ent 𝓤 (emp 𝓤) (Callee T′ c .pre (x, g))
-          → (y : Result T′ x .Denot) → ((r : Result T′ x .Denot) (e : AtExit T′ (x .0)) → ent 𝓤 (c (x .0) (x .3) .ensures g r e) (fact 𝓤 (r ≡ y)))
-          → Stores T′ x E d → Within E d → Opds (Go {0}) W (frame H E cs ∷ raw (Callee T′ c .pre (x, g)) ∷ Γ) E xs (passed 𝓤 H A (T′ .signature) x)
-          → ((v : Val) → Is (Result T′ x) y (v ∷ []) → Sq W (frame H E (holding cs d (some v)) ∷ Γ) (runs C Λ E rest post))
-          → Sq W (frame H E cs ∷ Γ) (runs C Λ E (seq (call #f xs (place d [])) rest) post)
+          → (y : Result T′ x .Denot) → ((r : Result T′ x .Denot) (e : AtExit T′ (x .0))
+          → ent 𝓤 (c (x .0) (x .3) .ensures g r e) (fact 𝓤 (r ≡ y))) → Stores T′ x E d → Within E d
+          → Opds (Go {0}) W (frame H E cs ∷ raw (Callee T′ c .pre (x, g)) ∷ Γ) E xs (passed 𝓤 H A (T′ .signature) x)
+          → ((v : Val) → Is (Result T′ x) y (v ∷ []) → Sq W (frame H E (holding cs d (some v)) ∷ Γ)
+          (runs C Λ E rest post)) → Sq W (frame H E cs ∷ Γ) (runs C Λ E (seq (call #f xs (place d [])) rest) post)
       asks fm known goes y tells stores in-E os k =
-          use0 W (raw (Callee T′ c .pre (x, g))) goes $
-          calls W T′ c x g fm known (raw (Callee T′ c .pre (x, g))) (id⊢ 𝓤 (Callee T′ c .pre (x, g))) stores in-E os (λ r v is.
-          use1 W (raw (fact 𝓤 (r ≡ y))) (says W T′ c x g r (r ≡ y) (tells r)) $ heard ! (r ≡ y) (λ e. drop ! $
+          use0 W (raw (Callee T′ c .pre (x, g))) goes $ calls W T′ c x g fm known (raw (Callee T′ c .pre (x, g)))
+          (id⊢ 𝓤 (Callee T′ c .pre (x, g))) stores in-E os (λ r v is. use1 W (raw (fact 𝓤 (r ≡ y)))
+          (says W T′ c x g r (r ≡ y) (tells r)) $ heard ! (r ≡ y) (λ e. drop ! $
           k v (subst (λ (z : Result T′ x .Denot). Is (Result T′ x) z (v ∷ [])) e is)))

@@ -1,4 +1,5 @@
--- The frame of a function: all of its locals as ONE entry of a walk's context. A local is named by its number in the MIR, whatever else the
+-- The frame of a function: all of its locals as ONE entry of a walk's context. A local is named by its number in the
+-- MIR, whatever else the
 -- context has, and a walk says of a frame only what each local holds.
 --     Frame E cs        the locals of E; cs says of each the value that it holds, or `none` where it is room alone
 --     enters            the function is entered: its locals are allocated and its arguments are stored
@@ -6,7 +7,8 @@
 --     whole, within     what `value` and `field` read, for a right side of another form
 --     sets              a local is written, whatever it held.        clears      a local is room again
 --     leaves            the function returns: its result is read, and all its locals are freed
--- Every rule has the frame at the head of the context and takes Kit's `!`. An equation that a rule asks for is `refl`, once the frame is
+-- Every rule has the frame at the head of the context and takes Kit's `!`. An equation that a rule asks for is `refl`,
+-- once the frame is
 -- written out.
 -- Assumes `Given`.
 use mathlib.Core.Path.{_≡_, refl, sym, subst}
@@ -112,7 +114,8 @@ held-own [] cs i c w = absurd w
 held-own (e ∷ E) cs zero c w = refl
 held-own (e ∷ E) cs (suc i) c w = held-own E (others-of cs) i c w
 
-pub held-other : (E : List (Ty × ℕ)) (cs : Locals) (i j : ℕ) (c : Option Val) → Apart i j → held E (holding cs i c) j ≡ held E cs j
+pub held-other : (E : List (Ty × ℕ)) (cs : Locals) (i j : ℕ) (c : Option Val) → Apart i j
+    → held E (holding cs i c) j ≡ held E cs j
 held-other [] cs i j c z = refl
 held-other (e ∷ E) cs zero zero c z = absurd z
 held-other (e ∷ E) cs zero (suc j) c z = refl
@@ -139,7 +142,6 @@ module _ {M : Type 1} (𝓤 : URA M) (H : Heap 𝓤) where
 
   infix 26 _⊢_
   infixr 35 _∗_
-
   abbrev Cell : Ty × ℕ → Option Val → SProp 𝓤
   Cell e none = H .room (e .0) (e .1) zero
   Cell e (some v) = H .at fullShare (e .0) (e .1) zero v
@@ -167,68 +169,81 @@ module _ {M : Type 1} (𝓤 : URA M) (H : Heap 𝓤) where
 
   module _ (A : Atoms 𝓤) (W : Given 𝓤 H A) where
     -- where the others stand between a local and the cell of another
-    under : (e : Ty × ℕ) (cs : Locals) (P Q R : SProp 𝓤) → P ⊢ Q ∗ R → One e (first-of cs) ∗ P ⊢ Q ∗ (One e (first-of cs) ∗ R)
+    under : (e : Ty × ℕ) (cs : Locals) (P Q R : SProp 𝓤) → P ⊢ Q ∗ R → One e (first-of cs) ∗ P ⊢ Q ∗
+        (One e (first-of cs) ∗ R)
     under e cs P Q R h =
-        qed W (raw (One e (first-of cs)) ∷ raw P ∷ []) ∵ move ! (1 ∷ []) $ use1 W (raw Q ⊛ raw R) h $ split ! $ move ! (0 ∷ 2 ∷ []) $ done !
+        qed W (raw (One e (first-of cs)) ∷ raw P ∷ []) ∵ move ! (1 ∷ []) $ use1 W (raw Q ⊛ raw R) h $ split ! $
+        move ! (0 ∷ 2 ∷ []) $ done !
 
-    over : (e : Ty × ℕ) (cs : Locals) (P Q R : SProp 𝓤) → Q ∗ R ⊢ P → Q ∗ (One e (first-of cs) ∗ R) ⊢ One e (first-of cs) ∗ P
+    over : (e : Ty × ℕ) (cs : Locals) (P Q R : SProp 𝓤) → Q ∗ R ⊢ P → Q ∗ (One e (first-of cs) ∗ R) ⊢ One e
+        (first-of cs) ∗ P
     over e cs P Q R h =
-        qed W (raw Q ∷ raw (One e (first-of cs)) ∷ raw R ∷ []) ∵ move ! (0 ∷ 2 ∷ []) $ use2 W (raw P) h $ move ! (1 ∷ []) $ done !
+        qed W (raw Q ∷ raw (One e (first-of cs)) ∷ raw R ∷ []) ∵ move ! (0 ∷ 2 ∷ []) $ use2 W (raw P) h $
+        move ! (1 ∷ []) $ done !
 
     out : (E : Env 𝓤 H) (cs : Locals) (i : ℕ) → Within E i → Frame E cs ⊢ Cellᵢ E i (held E cs i) ∗ Others E cs i
     unfolding Frame Others
     out [] cs i w = absurd w
     out (e ∷ E) cs zero w = assoc∗ 𝓤 (Cell e (first-of cs)) (Dies e) (Frame E (others-of cs))
     out (e ∷ E) cs (suc i) w =
-        under e cs (Frame E (others-of cs)) (Cellᵢ E i (held E (others-of cs) i)) (Others E (others-of cs) i) (out E (others-of cs) i w)
+        under e cs (Frame E (others-of cs)) (Cellᵢ E i (held E (others-of cs) i)) (Others E (others-of cs) i)
+        (out E (others-of cs) i w)
 
     back : (E : Env 𝓤 H) (cs : Locals) (i : ℕ) → Within E i → Cellᵢ E i (held E cs i) ∗ Others E cs i ⊢ Frame E cs
     unfolding Frame Others
     back [] cs i w = absurd w
     back (e ∷ E) cs zero w = assoc′ 𝓤 (Cell e (first-of cs)) (Dies e) (Frame E (others-of cs))
     back (e ∷ E) cs (suc i) w =
-        over e cs (Frame E (others-of cs)) (Cellᵢ E i (held E (others-of cs) i)) (Others E (others-of cs) i) (back E (others-of cs) i w)
+        over e cs (Frame E (others-of cs)) (Cellᵢ E i (held E (others-of cs) i)) (Others E (others-of cs) i)
+        (back E (others-of cs) i w)
 
-    back-with : (E : Env 𝓤 H) (cs : Locals) (i : ℕ) (c : Option Val) → Within E i → Cellᵢ E i c ∗ Others E cs i ⊢ Frame E (holding cs i c)
+    back-with : (E : Env 𝓤 H) (cs : Locals) (i : ℕ) (c : Option Val) → Within E i
+        → Cellᵢ E i c ∗ Others E cs i ⊢ Frame E (holding cs i c)
     unfolding Frame Others
     back-with [] cs i c w = absurd w
     back-with (e ∷ E) cs zero c w = assoc′ 𝓤 (Cell e c) (Dies e) (Frame E (others-of cs))
     back-with (e ∷ E) cs (suc i) c w =
-        over e cs (Frame E (holding (others-of cs) i c)) (Cellᵢ E i c) (Others E (others-of cs) i) (back-with E (others-of cs) i c w)
+        over e cs (Frame E (holding (others-of cs) i c)) (Cellᵢ E i c) (Others E (others-of cs) i)
+        (back-with E (others-of cs) i c w)
 
     to-room : (e : Ty × ℕ) (c : Option Val) → Cell e c ⊢ H .room (e .0) (e .1) zero
     to-room e none = id⊢ 𝓤 _
     to-room e (some v) = W .laws .at-room (e .0) (e .1) zero v
 
-    allocated : (ls : List Local) (Kt : Env 𝓤 H → SProp 𝓤) (P : SProp 𝓤)
-        → ((bs : Addresses ls) → Frame (env-of ls bs) (empty ls) ∗ P ⊢ Kt (env-of ls bs)) → P ⊢ alloc 𝓤 H ls Kt
+    allocated : (ls : List Local) (Kt : Env 𝓤 H → SProp 𝓤) (P : SProp 𝓤) → ((bs : Addresses ls)
+        → Frame (env-of ls bs) (empty ls) ∗ P ⊢ Kt (env-of ls bs)) → P ⊢ alloc 𝓤 H ls Kt
     unfolding Frame
     allocated [] Kt P k = via 𝓤 (emp 𝓤 ∗ P) (emp∗ 𝓤 P) (k tt)
     allocated (local τ h ∷ ls) Kt P k =
-        allI 𝓤 (λ (b : ℕ). wand 𝓤 (One (τ, b) none) (alloc 𝓤 H ls (λ E. Kt ((τ, b) ∷ E)))) (λ b.
-        wandI 𝓤 P (One (τ, b) none) (alloc 𝓤 H ls (λ E. Kt ((τ, b) ∷ E))) (allocated ls (λ E. Kt ((τ, b) ∷ E)) (P ∗ One (τ, b) none) (λ bs.
-        via 𝓤 ((One (τ, b) none ∗ Frame (env-of ls bs) (empty ls)) ∗ P)
-        (qed W (raw (Frame (env-of ls bs) (empty ls)) ∷ raw P ∷ raw (One (τ, b) none) ∷ []) ∵ move ! (2 ∷ []) $ join ! $ done !) (k (b, bs)))))
+        allI 𝓤 (λ (b : ℕ). wand 𝓤 (One (τ, b) none) (alloc 𝓤 H ls (λ E. Kt ((τ, b) ∷ E))))
+        (λ b. wandI 𝓤 P (One (τ, b) none) (alloc 𝓤 H ls (λ E. Kt ((τ, b) ∷ E)))
+        (allocated ls (λ E. Kt ((τ, b) ∷ E)) (P ∗ One (τ, b) none) (λ bs. via 𝓤
+        ((One (τ, b) none ∗ Frame (env-of ls bs) (empty ls)) ∗ P)
+        (qed W (raw (Frame (env-of ls bs) (empty ls)) ∷ raw P ∷ raw (One (τ, b) none) ∷ []) ∵ move ! (2 ∷ []) $ join ! $
+        done !) (k (b, bs)))))
 
-    passed : (E : Env 𝓤 H) (cs : Locals) (vs : List Val) (P Q : SProp 𝓤) → Fits E vs → Frame E (passing cs vs) ∗ P ⊢ Q → Frame E cs ∗ P ⊢ pass 𝓤 H E vs Q
+    passed : (E : Env 𝓤 H) (cs : Locals) (vs : List Val) (P Q : SProp 𝓤) → Fits E vs → Frame E (passing cs vs) ∗ P ⊢ Q
+        → Frame E cs ∗ P ⊢ pass 𝓤 H E vs Q
     unfolding Frame
     passed E cs [] P Q f h = h
     passed [] cs (v ∷ vs) P Q f h = absurd f
     passed (e ∷ E) cs (v ∷ vs) P Q f h =
-        qed W (((raw (Cell e (first-of cs)) ⊛ raw (Dies e)) ⊛ raw (Frame E (others-of cs))) ∷ raw P ∷ []) ∵ split ! $ split ! $
-        use1 W (raw (H .room (e .0) (e .1) zero)) (to-room e (first-of cs)) $ check ! (f .0) $ framed ! $
+        qed W (((raw (Cell e (first-of cs)) ⊛ raw (Dies e)) ⊛ raw (Frame E (others-of cs))) ∷ raw P ∷ []) ∵ split ! $
+        split ! $ use1 W (raw (H .room (e .0) (e .1) zero)) (to-room e (first-of cs)) $ check ! (f .0) $ framed ! $
         assume ! (raw (H .at fullShare (e .0) (e .1) zero v)) $ move ! (2 ∷ 3 ∷ 0 ∷ 1 ∷ []) $
         -- [the other locals; P; the cell, which is full; the right to free it]
-        by ! (passed E (others-of cs) vs (P ∗ One e (some v)) Q (f .1)
-        (via 𝓤 ((One e (some v) ∗ Frame E (passing (others-of cs) vs)) ∗ P)
-        (qed W (raw (Frame E (passing (others-of cs) vs)) ∷ raw P ∷ raw (One e (some v)) ∷ []) ∵ move ! (2 ∷ []) $ join ! $ done !) h))
+        by ! (passed E (others-of cs) vs (P ∗ One e (some v)) Q (f .1) (via 𝓤
+        ((One e (some v) ∗ Frame E (passing (others-of cs) vs)) ∗ P) (qed W
+        (raw (Frame E (passing (others-of cs) vs)) ∷ raw P ∷ raw (One e (some v)) ∷ []) ∵ move ! (2 ∷ []) $ join ! $
+        done !) h))
 
     freed : (E : Env 𝓤 H) (cs : Locals) (P Q : SProp 𝓤) → P ⊢ Q → Frame E cs ∗ P ⊢ release 𝓤 H E Q
     unfolding Frame
     freed [] cs P Q h = via 𝓤 P (snd∗ 𝓤 (emp 𝓤) P) h
     freed (e ∷ E) cs P Q h =
-        via 𝓤 (One e (first-of cs) ∗ (Frame E (others-of cs) ∗ P)) (assoc∗ 𝓤 (One e (first-of cs)) (Frame E (others-of cs)) P)
-        (mono∗ 𝓤 (monoL 𝓤 (Dies e) (to-room e (first-of cs))) (freed E (others-of cs) P Q h))
+        via 𝓤 (One e (first-of cs) ∗ (Frame E (others-of cs) ∗ P)) (assoc∗ 𝓤 (One e (first-of cs))
+        (Frame E (others-of cs)) P) (mono∗ 𝓤 (monoL 𝓤 (Dies e) (to-room e (first-of cs)))
+        (freed E (others-of cs) P Q h))
 
 abbrev pub frame : {M : Type 1} {𝓤 : URA M} (H : Heap 𝓤) → Env 𝓤 H → Locals → Item 𝓤
 frame {M} {𝓤} H E cs = given (Here E cs) (raw (Frame 𝓤 H E cs))
@@ -242,38 +257,44 @@ module _ {M : Type 1} (𝓤 : URA M) (H : Heap 𝓤) (E : Env 𝓤 H) (cs : Loca
 
   module _ (A : Atoms 𝓤) (W : Given 𝓤 H A) where
     -- the cell of a local that holds a value is taken out, and put back
-    opened : (i : ℕ) {v : Val} → held E cs i ≡ some v
-        → ent 𝓤 (mean 𝓤 H A (frame H E cs)) (sep 𝓤 (H .at fullShare (spotOf 𝓤 H E i .0) (spotOf 𝓤 H E i .1) zero v) (Others 𝓤 H E cs i))
+    opened : (i : ℕ) {v : Val} → held E cs i ≡ some v → ent 𝓤 (mean 𝓤 H A (frame H E cs))
+        (sep 𝓤 (H .at fullShare (spotOf 𝓤 H E i .0) (spotOf 𝓤 H E i .1) zero v) (Others 𝓤 H E cs i))
     opened i {v} e =
-        subst (λ (c : Option Val). ent 𝓤 (mean 𝓤 H A (frame H E cs)) (sep 𝓤 (Cell 𝓤 H (getD E i (noLocal 𝓤 H)) c) (Others 𝓤 H E cs i))) e
-        (via 𝓤 (Frame 𝓤 H E cs) (bare) (out 𝓤 H A W E cs i (is-within E cs i v e)))
+        subst (λ (c : Option Val). ent 𝓤 (mean 𝓤 H A (frame H E cs)) (sep 𝓤 (Cell 𝓤 H (getD E i (noLocal 𝓤 H)) c)
+        (Others 𝓤 H E cs i))) e (via 𝓤 (Frame 𝓤 H E cs) (bare) (out 𝓤 H A W E cs i (is-within E cs i v e)))
 
     shut : (i : ℕ) {v : Val} → held E cs i ≡ some v
-        → ent 𝓤 (sep 𝓤 (H .at fullShare (spotOf 𝓤 H E i .0) (spotOf 𝓤 H E i .1) zero v) (Others 𝓤 H E cs i)) (mean 𝓤 H A (frame H E cs))
+        → ent 𝓤 (sep 𝓤 (H .at fullShare (spotOf 𝓤 H E i .0) (spotOf 𝓤 H E i .1) zero v) (Others 𝓤 H E cs i))
+        (mean 𝓤 H A (frame H E cs))
     shut i {v} e =
-        subst (λ (c : Option Val). ent 𝓤 (sep 𝓤 (Cell 𝓤 H (getD E i (noLocal 𝓤 H)) c) (Others 𝓤 H E cs i)) (mean 𝓤 H A (frame H E cs))) e
-        (via 𝓤 (Frame 𝓤 H E cs) (back 𝓤 H A W E cs i (is-within E cs i v e)) (labelled))
+        subst (λ (c : Option Val). ent 𝓤 (sep 𝓤 (Cell 𝓤 H (getD E i (noLocal 𝓤 H)) c) (Others 𝓤 H E cs i))
+        (mean 𝓤 H A (frame H E cs))) e (via 𝓤 (Frame 𝓤 H E cs) (back 𝓤 H A W E cs i (is-within E cs i v e)) (labelled))
 
     -- its cell is taken out as room, and put back with c in it
-    emptied : (i : ℕ) → Within E i → ent 𝓤 (mean 𝓤 H A (frame H E cs)) (sep 𝓤 (H .room (spotOf 𝓤 H E i .0) (spotOf 𝓤 H E i .1) zero) (Others 𝓤 H E cs i))
+    emptied : (i : ℕ) → Within E i → ent 𝓤 (mean 𝓤 H A (frame H E cs)) (sep 𝓤
+        (H .room (spotOf 𝓤 H E i .0) (spotOf 𝓤 H E i .1) zero) (Others 𝓤 H E cs i))
     emptied i in-E =
-        via 𝓤 (Frame 𝓤 H E cs) (bare)
-        (via 𝓤 (sep 𝓤 (Cell 𝓤 H (getD E i (noLocal 𝓤 H)) (held E cs i)) (Others 𝓤 H E cs i)) (out 𝓤 H A W E cs i in-E)
-        (monoL 𝓤 (Others 𝓤 H E cs i) (to-room 𝓤 H A W (getD E i (noLocal 𝓤 H)) (held E cs i))))
+        via 𝓤 (Frame 𝓤 H E cs) (bare) (via 𝓤 (sep 𝓤 (Cell 𝓤 H (getD E i (noLocal 𝓤 H)) (held E cs i))
+        (Others 𝓤 H E cs i)) (out 𝓤 H A W E cs i in-E) (monoL 𝓤 (Others 𝓤 H E cs i)
+        (to-room 𝓤 H A W (getD E i (noLocal 𝓤 H)) (held E cs i))))
 
     refilled : (i : ℕ) (c : Option Val) → Within E i
-        → ent 𝓤 (sep 𝓤 (Cell 𝓤 H (getD E i (noLocal 𝓤 H)) c) (Others 𝓤 H E cs i)) (mean 𝓤 H A (frame H E (holding cs i c)))
-    refilled i c in-E = via 𝓤 (Frame 𝓤 H E (holding cs i c)) (back-with 𝓤 H A W E cs i c in-E) (guardI 𝓤 (Here E (holding cs i c)) (Frame 𝓤 H E (holding cs i c)) (record { so = tt }))
+        → ent 𝓤 (sep 𝓤 (Cell 𝓤 H (getD E i (noLocal 𝓤 H)) c) (Others 𝓤 H E cs i))
+        (mean 𝓤 H A (frame H E (holding cs i c)))
+    refilled i c in-E =
+        via 𝓤 (Frame 𝓤 H E (holding cs i c)) (back-with 𝓤 H A W E cs i c in-E)
+        (guardI 𝓤 (Here E (holding cs i c)) (Frame 𝓤 H E (holding cs i c)) (record { so = tt }))
 
 -- ---- the rules
 
-module _ {M : Type 1} {𝓤 : URA M} {H : Heap 𝓤} {A : Atoms 𝓤} {K : Type 0} {W : Given 𝓤 H A} {Γ : List (Item 𝓤)} {E : Env 𝓤 H} {cs : Locals} where
+module _ {M : Type 1} {𝓤 : URA M} {H : Heap 𝓤} {A : Atoms 𝓤} {K : Type 0} {W : Given 𝓤 H A} {Γ : List (Item 𝓤)}
+    {E : Env 𝓤 H} {cs : Locals} where
   reads : (i : ℕ) {v : Val} → held E cs i ≡ some v → {τ : Ty} {b o : ℕ} {u : Val}
-      → Reads K W (‵ (fat fullShare (spotOf 𝓤 H E i .0) (spotOf 𝓤 H E i .1) zero v) ∷ raw (Others 𝓤 H E cs i) ∷ Γ) τ b o u
-      → Reads K W (frame H E cs ∷ Γ) τ b o u
+      → Reads K W (‵ (fat fullShare (spotOf 𝓤 H E i .0) (spotOf 𝓤 H E i .1) zero v) ∷ raw
+      (Others 𝓤 H E cs i) ∷ Γ) τ b o u → Reads K W (frame H E cs ∷ Γ) τ b o u
   reads i {v} e r = record {
-    go = λ Kt h.
-        cut⊢ 𝓤 H A (frame H E cs ∷ []) (Cellᵢ ∷ Othersᵢ ∷ []) Γ _ (opened 𝓤 H E cs A W i e)
+    go =
+        λ Kt h. cut⊢ 𝓤 H A (frame H E cs ∷ []) (Cellᵢ ∷ Othersᵢ ∷ []) Γ _ (opened 𝓤 H E cs A W i e)
         (r .go Kt (cut⊢ 𝓤 H A (Cellᵢ ∷ Othersᵢ ∷ []) (frame H E cs ∷ []) Γ _ (shut 𝓤 H E cs A W i e) h));
   }
     where
@@ -283,15 +304,17 @@ module _ {M : Type 1} {𝓤 : URA M} {H : Heap 𝓤} {A : Atoms 𝓤} {K : Type 
       Othersᵢ : Item 𝓤
       Othersᵢ = raw (Others 𝓤 H E cs i)
 
-  pub whole : K → (i : ℕ) {v : Val} → held E cs i ≡ some v
-      → Reads K W (frame H E cs ∷ Γ) (spotOf 𝓤 H E i .0) (spotOf 𝓤 H E i .1) zero v
+  pub whole : K → (i : ℕ) {v : Val} → held E cs i ≡ some v → Reads K W (frame H E cs ∷ Γ) (spotOf 𝓤 H E i .0)
+      (spotOf 𝓤 H E i .1) zero v
   whole t i e = reads i e (look t 0 refl)
 
   pub within : K → (i k : ℕ) {vs : Vals} {ν : Sym} {τs : Tys} {τ : Ty} {d : ℕ} → held E cs i ≡ some (vstruct vs)
       → spotOf 𝓤 H E i .0 ≡ tyStruct ν τs → fieldAt zero τs k ≡ some (τ, d)
       → Reads K W (frame H E cs ∷ Γ) τ (spotOf 𝓤 H E i .1) (zero + d) (getV vs k)
   within t i k {vs} e is at-k =
-      reads i e (look-in t 0 (sub t k at-k (subst (λ (σ : Ty). Part K W (cellᵢ (vstruct vs)) fullShare σ (spotOf 𝓤 H E i .1) zero (vstruct vs) cellᵢ) is (cell-whole t))))
+      reads i e
+      (look-in t 0 (sub t k at-k (subst (λ (σ : Ty). Part K W (cellᵢ (vstruct vs)) fullShare σ (spotOf 𝓤 H E i .1) zero
+      (vstruct vs) cellᵢ) is (cell-whole t))))
     where
       cellᵢ : Val → Item 𝓤
       cellᵢ v = ‵ (fat fullShare (spotOf 𝓤 H E i .0) (spotOf 𝓤 H E i .1) zero v)
@@ -303,7 +326,8 @@ module _ {M : Type 1} {𝓤 : URA M} {H : Heap 𝓤} {A : Atoms 𝓤} {K : Type 
       → spotOf 𝓤 H E i .0 ≡ tyStruct ν τs → fieldAt zero τs k ≡ some (τ, d)
       → Opd K W (frame H E cs ∷ Γ) E (copy (place i (field-step k ∷ []))) (getV vs k)
   field t i k {τ = τ} {d} e is at-k =
-      load t (from t (fld t (subst (λ (σ : Ty). fieldOf σ k ≡ some (τ, d)) (sym is) at-k) (stop t))) (within t i k e is at-k)
+      load t (from t (fld t (subst (λ (σ : Ty). fieldOf σ k ≡ some (τ, d)) (sym is) at-k) (stop t)))
+      (within t i k e is at-k)
 
   -- the address of what the pointer in a field points to, as of a slice's first element
   pub behind : K → (i k : ℕ) {vs : Vals} {ν : Sym} {τs : Tys} {τ σ : Ty} {d b o : ℕ} → held E cs i ≡ some (vstruct vs)
@@ -311,17 +335,18 @@ module _ {M : Type 1} {𝓤 : URA M} {H : Heap 𝓤} {A : Atoms 𝓤} {K : Type 
       → Rv K W (frame H E cs ∷ Γ) E (addrOf (place i (field-step k ∷ deref σ ∷ []))) (vptr b o)
   behind t i k {τ = τ} {d = d} e is at-k to =
       addr t (from t (fld t (subst (λ (σ : Ty). fieldOf σ k ≡ some (τ, d)) (sym is) at-k)
-      (hop t (subst (λ (u : Val). Reads K W (frame H E cs ∷ Γ) τ (spotOf 𝓤 H E i .1) (zero + d) u) to (within t i k e is at-k)) (stop t))))
+      (hop t (subst (λ (u : Val). Reads K W (frame H E cs ∷ Γ) τ (spotOf 𝓤 H E i .1) (zero + d) u) to
+      (within t i k e is at-k)) (stop t))))
 
   pub sets : K → (i : ℕ) → Within E i → {v : Val} → T (hasTy (spotOf 𝓤 H E i .0) v) × WT v
-      → Writes K W (frame H E cs ∷ Γ) (spotOf 𝓤 H E i .0) (spotOf 𝓤 H E i .1) zero v (frame H E (holding cs i (some v)) ∷ Γ)
+      → Writes K W (frame H E cs ∷ Γ) (spotOf 𝓤 H E i .0) (spotOf 𝓤 H E i .1) zero v
+      (frame H E (holding cs i (some v)) ∷ Γ)
   sets t i in-E {v} wt = record {
-    go = λ P h.
-        cut⊢ 𝓤 H A (frame H E cs ∷ []) (Roomᵢ ∷ Othersᵢ ∷ []) Γ _
-        (emptied 𝓤 H E cs A W i in-E)
+    go =
+        λ P h. cut⊢ 𝓤 H A (frame H E cs ∷ []) (Roomᵢ ∷ Othersᵢ ∷ []) Γ _ (emptied 𝓤 H E cs A W i in-E)
         (init {K = K} {W = W} {Γ = Roomᵢ ∷ Othersᵢ ∷ Γ} t 0 refl wt .go P
-        (cut⊢ 𝓤 H A (‵ (fat fullShare (spotOf 𝓤 H E i .0) (spotOf 𝓤 H E i .1) zero v) ∷ Othersᵢ ∷ []) (frame H E (holding cs i (some v)) ∷ []) Γ P
-        (refilled 𝓤 H E cs A W i (some v) in-E) h));
+        (cut⊢ 𝓤 H A (‵ (fat fullShare (spotOf 𝓤 H E i .0) (spotOf 𝓤 H E i .1) zero v) ∷ Othersᵢ ∷ [])
+        (frame H E (holding cs i (some v)) ∷ []) Γ P (refilled 𝓤 H E cs A W i (some v) in-E) h));
   }
     where
       Roomᵢ : Item 𝓤
@@ -330,9 +355,11 @@ module _ {M : Type 1} {𝓤 : URA M} {H : Heap 𝓤} {A : Atoms 𝓤} {K : Type 
       Othersᵢ : Item 𝓤
       Othersᵢ = raw (Others 𝓤 H E cs i)
 
-  pub clears : K → (i : ℕ) → Within E i → {G : Goal 𝓤 H} → Step K W (frame H E (holding cs i none) ∷ Γ) G (frame H E cs ∷ Γ) G
-  clears t i in-E = use1 W (frame H E (holding cs i none)) (via 𝓤 (sep 𝓤 (H .room (spotOf 𝓤 H E i .0) (spotOf 𝓤 H E i .1) zero) (Others 𝓤 H E cs i))
-      (emptied 𝓤 H E cs A W i in-E) (refilled 𝓤 H E cs A W i none in-E))
+  pub clears : K → (i : ℕ) → Within E i → {G : Goal 𝓤 H} → Step K W (frame H E (holding cs i none) ∷ Γ) G
+      (frame H E cs ∷ Γ) G
+  clears t i in-E =
+      use1 W (frame H E (holding cs i none)) (via 𝓤 (sep 𝓤 (H .room (spotOf 𝓤 H E i .0) (spotOf 𝓤 H E i .1) zero)
+      (Others 𝓤 H E cs i)) (emptied 𝓤 H E cs A W i in-E) (refilled 𝓤 H E cs A W i none in-E))
 
   -- within a branch, a block or a loop, as Run's `returns-within`
   pub leaves-within : K → {C : Calls 𝓤 H} {Λ : Loops 𝓤 H} {q : Post 𝓤 H} (Kf : Val → SProp 𝓤) {v : Val}
@@ -341,8 +368,9 @@ module _ {M : Type 1} {𝓤 : URA M} {H : Heap 𝓤} {A : Atoms 𝓤} {K : Type 
   leaves-within t Kf {v} is e = step (λ s. returns-within t Kf is (whole t zero e) $ frees-all s)
     where
       frees-all : Seq K W Γ (prop (Kf v)) → Seq K W (frame H E cs ∷ Γ) (frees E (prop (Kf v)))
-      frees-all s = by t (via 𝓤 (sep 𝓤 (Frame 𝓤 H E cs) (⋆ 𝓤 H A Γ))
-          (via 𝓤 (sep 𝓤 (mean 𝓤 H A (frame H E cs)) (⋆ 𝓤 H A Γ)) (pop 𝓤 H A (frame H E cs) Γ) (monoL 𝓤 (⋆ 𝓤 H A Γ) (bare 𝓤 H E cs)))
+      frees-all s =
+          by t (via 𝓤 (sep 𝓤 (Frame 𝓤 H E cs) (⋆ 𝓤 H A Γ)) (via 𝓤 (sep 𝓤 (mean 𝓤 H A (frame H E cs)) (⋆ 𝓤 H A Γ))
+          (pop 𝓤 H A (frame H E cs) Γ) (monoL 𝓤 (⋆ 𝓤 H A Γ) (bare 𝓤 H E cs)))
           (freed 𝓤 H A W E cs (⋆ 𝓤 H A Γ) (Kf v) (s .prf)))
 
   pub leaves : K → {C : Calls 𝓤 H} {Λ : Loops 𝓤 H} {Kf : Val → SProp 𝓤} {v : Val} → held E cs zero ≡ some v
@@ -356,8 +384,10 @@ module _ {M : Type 1} {𝓤 : URA M} {H : Heap 𝓤} {A : Atoms 𝓤} {K : Type 
       (runs C Λ (env-of (f .locals) bs) (f .body) (atRet (env-of (f .locals) bs) Kf)))
       → Seq K W Γ (prop (WpFn 𝓤 H C Λ f vs Kf))
   unfolding WpFn Frame
-  enters t C Λ f vs Kf fit k = by t (allocated 𝓤 H A W (f .locals) (λ E. params 𝓤 H E vs (Wp 𝓤 H C Λ E (f .body) (atReturn 𝓤 H E Kf))) (⋆ 𝓤 H A Γ) (λ bs.
-      given-all (f .locals) bs (Wp 𝓤 H C Λ (env-of (f .locals) bs) (f .body) (atReturn 𝓤 H (env-of (f .locals) bs) Kf)) (fit bs)
+  enters t C Λ f vs Kf fit k =
+      by t (allocated 𝓤 H A W (f .locals) (λ E. params 𝓤 H E vs (Wp 𝓤 H C Λ E (f .body) (atReturn 𝓤 H E Kf)))
+      (⋆ 𝓤 H A Γ) (λ bs. given-all (f .locals) bs (Wp 𝓤 H C Λ (env-of (f .locals) bs) (f .body)
+      (atReturn 𝓤 H (env-of (f .locals) bs) Kf)) (fit bs)
       (via 𝓤 (sep 𝓤 (mean 𝓤 H A (frame H (env-of (f .locals) bs) (entry (f .locals) vs))) (⋆ 𝓤 H A Γ))
       (monoL 𝓤 (⋆ 𝓤 H A Γ) (labelled 𝓤 H (env-of (f .locals) bs) (entry (f .locals) vs)))
       (via 𝓤 (⋆ 𝓤 H A (frame H (env-of (f .locals) bs) (entry (f .locals) vs) ∷ Γ))
@@ -369,9 +399,9 @@ module _ {M : Type 1} {𝓤 : URA M} {H : Heap 𝓤} {A : Atoms 𝓤} {K : Type 
       given-all [] bs Q z h = absurd z
       given-all (local τ x ∷ ls) bs Q z h =
           via 𝓤 (sep 𝓤 (Frame 𝓤 H (env-of ls (bs .1)) (empty ls)) (sep 𝓤 (One 𝓤 H (τ, bs .0) none) (⋆ 𝓤 H A Γ)))
-          (qed W ((raw (One 𝓤 H (τ, bs .0) none) ⊛ raw (Frame 𝓤 H (env-of ls (bs .1)) (empty ls))) ∷ raw (⋆ 𝓤 H A Γ) ∷ []) ∵
-          split ! $ move ! (1 ∷ 0 ∷ 2 ∷ []) $ done !)
-          (passed 𝓤 H A W (env-of ls (bs .1)) (empty ls) vs (sep 𝓤 (One 𝓤 H (τ, bs .0) none) (⋆ 𝓤 H A Γ)) Q z
-          (via 𝓤 (sep 𝓤 (sep 𝓤 (One 𝓤 H (τ, bs .0) none) (Frame 𝓤 H (env-of ls (bs .1)) (passing (empty ls) vs))) (⋆ 𝓤 H A Γ))
-          (qed W (raw (Frame 𝓤 H (env-of ls (bs .1)) (passing (empty ls) vs)) ∷ raw (One 𝓤 H (τ, bs .0) none) ∷ raw (⋆ 𝓤 H A Γ) ∷ []) ∵
-          move ! (1 ∷ 0 ∷ []) $ join ! $ done !) h))
+          (qed W ((raw (One 𝓤 H (τ, bs .0) none) ⊛ raw (Frame 𝓤 H (env-of ls (bs .1)) (empty ls))) ∷ raw (⋆ 𝓤 H A Γ)
+          ∷ []) ∵ split ! $ move ! (1 ∷ 0 ∷ 2 ∷ []) $ done !) (passed 𝓤 H A W (env-of ls (bs .1)) (empty ls) vs
+          (sep 𝓤 (One 𝓤 H (τ, bs .0) none) (⋆ 𝓤 H A Γ)) Q z
+          (via 𝓤 (sep 𝓤 (sep 𝓤 (One 𝓤 H (τ, bs .0) none) (Frame 𝓤 H (env-of ls (bs .1)) (passing (empty ls) vs)))
+          (⋆ 𝓤 H A Γ)) (qed W (raw (Frame 𝓤 H (env-of ls (bs .1)) (passing (empty ls) vs)) ∷ raw
+          (One 𝓤 H (τ, bs .0) none) ∷ raw (⋆ 𝓤 H A Γ) ∷ []) ∵ move ! (1 ∷ 0 ∷ []) $ join ! $ done !) h))

@@ -1,4 +1,5 @@
--- `quote` and `moved` meet their contracts, by one proof. They have one shape, which is proved once, over Q, the rule and
+-- `quote` and `moved` meet their contracts, by one proof. They have one shape, which is proved once, over Q, the rule
+-- and
 -- the call:
 --     fn call(t: &mut [Record], id: u64, q: Q) -> Answer {
 --         let s = take(t, id); let o = rule(s, q); put(t, o.at, o.rec); o.answer
@@ -10,7 +11,8 @@
 --     function     the MIR of the shape
 --     clauses      its contract: what the call promises
 --     Rule         the rule's contract: the turn that it makes of a slot
---     meets        the shape meets its contract, where `take`, the rule and `put` meet theirs and the rule's turn is the
+--     meets        the shape meets its contract, where `take`, the rule and `put` meet theirs and the rule's turn is
+--         the
 --                  call's step
 -- Assumes `Given`.
 use mathlib.Core.Path.{_≡_, refl}
@@ -78,7 +80,16 @@ abbrev pub of-row : (Q : RattleType) → Ty → Plain
 of-row Q τ = record { D = Q .Denot; τ = τ; written = Q .written; reaches = Q .reaches; own = Q .own; coded = Q .coded }
 
 abbrev pub row : Plain → RattleType
-row P = record { Denot = P .D; mir = P .τ ∷ []; written = P .written; reaches = P .reaches; own = P .own; exit = λ k. unchanged; coded = P .coded }
+row P =
+    record {
+      Denot = P .D;
+      mir = P .τ ∷ [];
+      written = P .written;
+      reaches = P .reaches;
+      own = P .own;
+      exit = λ k. unchanged;
+      coded = P .coded;
+    }
 
 -- what is proved of it
 pub record PlainLaws (P : Plain) : Type 2 where
@@ -126,9 +137,10 @@ function τ #rule = record {
   lifetimes = 1;
   outlives = [];
   params = 3;
-  locals = local N′.mir valueLocal ∷ local table-ty valueLocal ∷ local (tyInt w64) valueLocal ∷ local τ valueLocal
-      ∷ local U′.mir valueLocal ∷ local turn-ty valueLocal
-      ∷ local rref valueLocal ∷ local (sliceTy rref) valueLocal ∷ local tyUnit valueLocal ∷ local wref valueLocal ∷ local (sliceTy wref) valueLocal ∷ [];
+  locals =
+      local N′.mir valueLocal ∷ local table-ty valueLocal ∷ local (tyInt w64) valueLocal ∷ local τ valueLocal
+      ∷ local U′.mir valueLocal ∷ local turn-ty valueLocal ∷ local rref valueLocal ∷ local (sliceTy rref) valueLocal
+      ∷ local tyUnit valueLocal ∷ local wref valueLocal ∷ local (sliceTy wref) valueLocal ∷ [];
   body = code-s (code-o #rule (code-put (answering ℓo)));
 }
 
@@ -144,7 +156,8 @@ module _ (P : Plain) where
   }
 
   abbrev pub rule-clauses : (Slot → P .D → Turn) → {M : Type 1} (𝓤 : URA M) → Clauses 𝓤 rule-ended
-  rule-clauses F 𝓤 κs a = record { ghost = Unit {0}; requires = λ _. emp 𝓤; ensures = λ _ o _. fact 𝓤 (o ≡ F (a .0) (a .1 .0)) }
+  rule-clauses F 𝓤 κs a =
+      record { ghost = Unit {0}; requires = λ _. emp 𝓤; ensures = λ _ o _. fact 𝓤 (o ≡ F (a .0) (a .1 .0)) }
 
   -- the call
   abbrev pub ended : Ended
@@ -168,14 +181,15 @@ module _ (P : Plain) where
   abbrev stayed : Stays (ended .signature .params) (ended .kept)
   stayed = (gave-slice (0 ∷ []) tt (plain (λ _. R)), (stay-none (λ _. u64) yes, (stay-none (λ _. Q) yes, tt)))
 
-  module _ (L : PlainLaws P) (F : Slot → P .D → Turn) (K : ℕ → P .D → Call) (steps : (t : List Record) (id : ℕ)
-      (d : P .D) → doneBy t (F (slotOf t id) d) ≡ step (K id d) t) (#rule : Name) {M : Type 1} (𝓤 : URA M) (H : Heap 𝓤) (A : Atoms 𝓤) where
+  module _ (L : PlainLaws P) (F : Slot → P .D → Turn) (K : ℕ → P .D → Call)
+      (steps : (t : List Record) (id : ℕ) (d : P .D) → doneBy t (F (slotOf t id) d) ≡ step (K id d) t) (#rule : Name)
+      {M : Type 1} (𝓤 : URA M) (H : Heap 𝓤) (A : Atoms 𝓤) where
     abbrev pub Rule : Contract 𝓤
     Rule = Callee 𝓤 H A rule-ended (rule-clauses F 𝓤)
 
     module _ (W : Given 𝓤 H A) (mem : Memory → SProp 𝓤) (run : Routine → Fun 𝓤) where
-      module _ (κ : Lft) (q : Share) (b o : ℕ) (γ : GName) (ys : List Record) (id : ℕ) (d : P .D) (v : Val) (room : Room R (length ys)) (gd : id < 2 ^ 64)
-          (gq : Is Q d (v ∷ [])) where
+      module _ (κ : Lft) (q : Share) (b o : ℕ) (γ : GName) (ys : List Record) (id : ℕ) (d : P .D) (v : Val)
+          (room : Room R (length ys)) (gd : id < 2 ^ 64) (gq : Is Q d (v ∷ [])) where
         abbrev x : RefT (List Record) × (ℕ × (P .D × Unit {0}))
         x = (ref b o γ ys, (id, (d, tt)))
 
@@ -193,15 +207,18 @@ module _ (P : Plain) where
         turn = F slot d
 
         exits : Is O.the-row turn (turn-val turn ∷ [])
-            → ent 𝓤 (⋆ 𝓤 H A (‵ (finally R γ (set ys (turn .at) (turn .rec))) ∷ ‵ (flft κ q) ∷ [])) (Post (answer-val (turn .answer)))
+            → ent 𝓤 (⋆ 𝓤 H A (‵ (finally R γ (set ys (turn .at) (turn .rec))) ∷ ‵ (flft κ q) ∷ []))
+            (Post (answer-val (turn .answer)))
         exits is =
             qed W (‵ (finally R γ (set ys (turn .at) (turn .rec))) ∷ ‵ (flft κ q) ∷ []) ∵
-            suffices ! _ (ends-at 𝓤 H A ended stayed (clauses K 𝓤) W (((κ, tt), (q, tt), tt, x, at), tt) (answer-val (turn .answer)) (turn .answer)
-            (set ys (turn .at) (turn .rec), (tt, (tt, tt))) (length-set ys (turn .at) (turn .rec), (tt, (tt, tt)))) $
-            says ! (promised (K id d) ys turn (steps ys id d)) $
-            nothing ! $ move ! (2 ∷ 0 ∷ []) $ join ! $ framed ! $ nothing ! $ owned ! Q (Is Q) (L .makes 𝓤 H A W) d (v ∷ []) gq $ fjoin ! $
+            suffices ! _ (ends-at 𝓤 H A ended stayed (clauses K 𝓤) W (((κ, tt), (q, tt), tt, x, at), tt)
+            (answer-val (turn .answer)) (turn .answer) (set ys (turn .at) (turn .rec), (tt, (tt, tt)))
+            (length-set ys (turn .at) (turn .rec), (tt, (tt, tt)))) $ says !
+            (promised (K id d) ys turn (steps ys id d)) $ nothing ! $ move ! (2 ∷ 0 ∷ []) $ join ! $ framed ! $
+            nothing ! $ owned ! Q (Is Q) (L .makes 𝓤 H A W) d (v ∷ []) gq $ fjoin ! $
             owned ! u64 (Is u64) (uint-makes 𝓤 H A W w64) id _ (refl, gd) $ fjoin ! $ move ! (1 ∷ 0 ∷ []) $ fjoin ! $
-            owned ! N.the-row (Is N.the-row) (makes-answer 𝓤 H A) (turn .answer) _ (turn-is turn (turn-val turn) is .1 .1) $ move ! (1 ∷ 0 ∷ []) $ done !
+            owned ! N.the-row (Is N.the-row) (makes-answer 𝓤 H A) (turn .answer) _
+            (turn-is turn (turn-val turn) is .1 .1) $ move ! (1 ∷ 0 ∷ []) $ done !
 
         -- what the rule is passed: the slot, whose machine value is w, and d
         abbrev to-rule : Val → Bound 𝓤 H A (rule-ended .signature)
@@ -212,8 +229,9 @@ module _ (P : Plain) where
             qed W [] ∵ nothing ! $ owned ! Q (Is Q) (L .makes 𝓤 H A W) d (v ∷ []) gq $ fjoin ! $
             owned ! S (Is S) (makes-slot 𝓤 H A) slot (w ∷ []) is $ fjoin ! $ nothing ! $ join ! $ framed ! $ done !
 
-        module _ (C : Calls 𝓤 H) (Λ : Loops 𝓤 H) (fm : FmC 𝓤 H (W .laws) C) (known-take : Triple 𝓤 (C #take) (Take 𝓤 H A mem run))
-            (known-rule : Triple 𝓤 (C #rule) Rule) (known-put : Triple 𝓤 (C #put) (Put 𝓤 H A mem run)) where
+        module _ (C : Calls 𝓤 H) (Λ : Loops 𝓤 H) (fm : FmC 𝓤 H (W .laws) C)
+            (known-take : Triple 𝓤 (C #take) (Take 𝓤 H A mem run)) (known-rule : Triple 𝓤 (C #rule) Rule)
+            (known-put : Triple 𝓤 (C #put) (Put 𝓤 H A mem run)) where
           module _ (ls : Addresses (function (P .τ) #rule .locals)) where
             abbrev En : Env 𝓤 H
             En = env-of (function (P .τ) #rule .locals) ls
@@ -237,52 +255,72 @@ module _ (P : Plain) where
               -- let s = take(t, id);
               let-s : ((w : Val) → Is S slot (w ∷ []) → Sq W (In (some w) none ∷ Ours) (Runs rest))
                   → Sq W (In none none ∷ Ours) (Runs (code-s rest))
-              let-s = takes 𝓤 H A W mem run κ q b o γ ys room fm known-take ℓt for-s ℓs (refl, refl, tt, tt, tt, tt, tt) tt refl id gd
-                  (λ Δ. value ! ℓid refl)
+              let-s =
+                  takes 𝓤 H A W mem run κ q b o γ ys room fm known-take ℓt for-s ℓs
+                  (refl, refl, tt, tt, tt, tt, tt) tt refl id gd (λ Δ. value ! ℓid refl)
 
               -- let o = rule(s, q);
-              let-o : (w : Val) → Is S slot (w ∷ [])
-                  → (Is O.the-row turn (turn-val turn ∷ []) → Sq W (In (some w) (some (turn-val turn)) ∷ Ours) (Runs rest))
+              let-o : (w : Val) → Is S slot (w ∷ []) → (Is O.the-row turn (turn-val turn ∷ [])
+                  → Sq W (In (some w) (some (turn-val turn)) ∷ Ours) (Runs rest))
                   → Sq W (In (some w) none ∷ Ours) (Runs (code-o #rule rest))
               let-o w is k =
-                  asks 𝓤 H A W rule-ended (rule-clauses F 𝓤) (to-rule w) tt fm known-rule (goes-rule w is) turn (λ r e. id⊢ 𝓤 _) (typed-turn 𝓤 H A W) tt
-                  (and-then ! (value ! ℓs refl) (and-then ! (value ! ℓq refl) (no-more !))) (λ u iu. turned W (λ z. In (some w) (some z)) turn u iu k)
+                  asks 𝓤 H A W rule-ended (rule-clauses F 𝓤) (to-rule w) tt fm known-rule (goes-rule w is) turn
+                  (λ r e. id⊢ 𝓤 _) (typed-turn 𝓤 H A W) tt (and-then ! (value ! ℓs refl)
+                  (and-then ! (value ! ℓq refl) (no-more !))) (λ u iu. turned W (λ z. In (some w) (some z)) turn u iu k)
 
               -- put(t, o.at, o.rec);
-              put-o : (w : Val) → Is O.the-row turn (turn-val turn ∷ [])
-                  → Sq W (In (some w) (some (turn-val turn)) ∷ Left) (Runs rest)
+              put-o : (w : Val) → Is O.the-row turn (turn-val turn ∷ []) → Sq W
+                  (In (some w) (some (turn-val turn)) ∷ Left) (Runs rest)
                   → Sq W (In (some w) (some (turn-val turn)) ∷ Ours) (Runs (code-put rest))
-              put-o w is k = puts-turn 𝓤 H A W mem run κ q b o γ ys room fm known-put ℓt for-put ℓunit ℓo (refl, refl, tt, tt, tt, tt, tt) tt refl turn is
-                  refl refl (λ _. k)
+              put-o w is k =
+                  puts-turn 𝓤 H A W mem run κ q b o γ ys room fm known-put ℓt for-put ℓunit ℓo
+                  (refl, refl, tt, tt, tt, tt, tt) tt refl turn is refl refl (λ _. k)
 
             -- o.answer
-            answer : (w : Val) → Is O.the-row turn (turn-val turn ∷ [])
-                → Sq W (In (some w) (some (turn-val turn)) ∷ Left) (Runs (answering ℓo))
+            answer : (w : Val) → Is O.the-row turn (turn-val turn ∷ []) → Sq W
+                (In (some w) (some (turn-val turn)) ∷ Left) (Runs (answering ℓo))
             answer w is = answers W ℓo turn is refl refl tt refl (exits is)
 
-          walk : ent 𝓤 (onEntry 𝓤 H A (ended .signature) (κ, tt) (q, tt) x at) (WpFn 𝓤 H C Λ (function (P .τ) #rule)
-              (machine b o ys ∷ vint w64 id ∷ v ∷ []) Post)
+          walk : ent 𝓤 (onEntry 𝓤 H A (ended .signature) (κ, tt) (q, tt) x at)
+              (WpFn 𝓤 H C Λ (function (P .τ) #rule) (machine b o ys ∷ vint w64 id ∷ v ∷ []) Post)
           walk =
               qed W ((‵ (flft κ q) ⊛ ‵ ftrue) ∷ ‵ (owns (MutSlice (named 0) κ R ∷ u64 ∷ Q ∷ []) x at) ∷ []) ∵
               enters ! C Λ (function (P .τ) #rule) (machine b o ys ∷ vint w64 id ∷ v ∷ []) Post
-              (λ ls. ((tt, (tt, (record { fits = room .0 }, tt))), ((tt, record { fits = gd }), (L .lawful 𝓤 H A W .typed d (v ∷ []) gq .0, tt)))) (λ ls.
+              (λ ls. (
+                (tt, (tt, (record { fits = room .0 }, tt))),
+                (
+                  (tt, record { fits = gd }),
+                  (L .lawful 𝓤 H A W .typed d (v ∷ []) gq .0, tt),
+                ),
+              )) (λ ls.
               -- [the frame; the token; what the parameters own]
               move ! (2 ∷ []) $ fsplit ! $ move ! (3 ∷ []) $ split ! $ keep ! (4 ∷ 2 ∷ 0 ∷ []) $
               let-s ls (λ w is. let-o ls w is (λ io. put-o ls w io (answer ls w io))))
 
-      module _ (𝓣 : Tables 𝓤 H) (known-take : Triple 𝓤 (𝓣 .C #take) (Take 𝓤 H A mem run)) (known-rule : Triple 𝓤 (𝓣 .C #rule) Rule)
-          (known-put : Triple 𝓤 (𝓣 .C #put) (Put 𝓤 H A mem run)) where
+      module _ (𝓣 : Tables 𝓤 H) (known-take : Triple 𝓤 (𝓣 .C #take) (Take 𝓤 H A mem run))
+          (known-rule : Triple 𝓤 (𝓣 .C #rule) Rule) (known-put : Triple 𝓤 (𝓣 .C #put) (Put 𝓤 H A mem run)) where
         abbrev Run : Fun 𝓤
         Run = WpFn 𝓤 H (𝓣 .C) (𝓣 .Λ) (function (P .τ) #rule)
 
         walks : Walks 𝓤 H A ended stayed Run (clauses K 𝓤)
-        walks = walked 𝓤 H A ended stayed (clauses K 𝓤) Run
-            (λ κs. (slice-vals, (uint-vals w64, ((λ d. L .val d ∷ []), tt)))) (λ κs. (mut-slice-tells (named 0) (κs .0) R, (uint-tells w64, (L .tells, tt))))
-            (λ κs qs bounds a g are. via 𝓤 _ (fst∗ 𝓤 _ (emp 𝓤))
-            (walk (κs .0) (qs .0) (a .0 .ptr .0) (a .0 .ptr .1) (a .0 .name) (a .0 .now) (a .1 .0) (a .1 .1 .0) (L .val (a .1 .1 .0)) (are .0 .0 .1)
-            (are .1 .0 .1) (are .1 .1 .0) (𝓣 .C) (𝓣 .Λ) (fmOf 𝓤 H (W .laws) 𝓣) known-take known-rule known-put))
+        walks =
+            walked 𝓤 H A ended stayed (clauses K 𝓤) Run
+            (λ κs. (slice-vals, (uint-vals w64, ((λ d. L .val d ∷ []), tt))))
+            (λ κs. (mut-slice-tells (named 0) (κs .0) R, (uint-tells w64, (L .tells, tt))))
+            (λ κs qs bounds a g are. via 𝓤 _ (fst∗ 𝓤 _ (emp 𝓤)) (walk (κs .0) (qs .0) (a .0 .ptr .0) (a .0 .ptr .1)
+            (a .0 .name) (a .0 .now) (a .1 .0) (a .1 .1 .0) (L .val (a .1 .1 .0)) (are .0 .0 .1) (are .1 .0 .1)
+            (are .1 .1 .0) (𝓣 .C) (𝓣 .Λ) (fmOf 𝓤 H (W .laws) 𝓣) known-take known-rule known-put))
 
         pub meets : Meets 𝓤 H A (ended .signature) Run (closing 𝓤 H A ended (clauses K 𝓤))
         meets =
-            walk-meets 𝓤 H A ended stayed W (goes-gave-slice 𝓤 H A W 1 0 tt (plain (λ _. R)), (goes-none 𝓤 H A W 1 (λ _. u64) yes (λ κs x f. refl), (goes-none 𝓤 H A W 1 (λ _. Q) yes (λ κs x f. refl), tt))) (clauses K 𝓤)
-            Run (WpFn-mono 𝓤 H (W .laws) 𝓣 (function (P .τ) #rule)) walks
+            walk-meets 𝓤 H A ended stayed W (
+              goes-gave-slice 𝓤 H A W 1 0 tt (plain (λ _. R)),
+              (
+                goes-none 𝓤 H A W 1 (λ _. u64) yes (λ κs x f. refl),
+                (
+                  goes-none 𝓤 H A W 1 (λ _. Q) yes
+                      (λ κs x f. refl),
+                  tt,
+                ),
+              ),
+            ) (clauses K 𝓤) Run (WpFn-mono 𝓤 H (W .laws) 𝓣 (function (P .τ) #rule)) walks

@@ -1,4 +1,5 @@
--- `desk::evaluate_asked` meets its contract: it has the shape that `ShapeWithRows` proves once, at its rule. Assumes nothing.
+-- `desk::evaluate_asked` meets its contract: it has the shape that `ShapeWithRows` proves once, at its rule. Assumes
+-- nothing.
 use mathlib.Core.Path.{_≡_}
 use mathlib.Core.List.{List}
 use Prim.Native.Nat.{ℕ}
@@ -31,7 +32,14 @@ abbrev P : Plain
 P = of-row D.the-row D′.mir
 
 L : PlainLaws P
-L = record { val = LL.val D.the-type D′.the-laws; tells = LL.tells D.the-type D′.the-laws; lawful = λ 𝓤 H A W. LL.lawful D.the-type D′.the-laws 𝓤 H A W; makes = λ 𝓤 H A W. LL.makes D.the-type D′.the-plain 𝓤 H A }
+L =
+    record {
+      val = LL.val D.the-type D′.the-laws;
+      tells = LL.tells D.the-type D′.the-laws;
+      lawful = λ 𝓤 H A W. LL.lawful D.the-type D′.the-laws 𝓤 H A W;
+      makes = λ 𝓤 H A W.
+          LL.makes D.the-type D′.the-plain 𝓤 H A;
+    }
 
 -- an evaluation of the day that is asked for
 abbrev askedTurn : Slot → AskedDay → List ℤ → Turn
@@ -40,15 +48,17 @@ askedTurn s a rows = evaluateTurn s (dayOf a) rows
 abbrev evaluation : ℕ → AskedDay → List ℤ → Call
 evaluation id a rows = evaluate id (dayOf a) rows
 
-asked-steps : (t : List Record) (id : ℕ) (a : AskedDay) (rows : List ℤ) → doneBy t (askedTurn (slotOf t id) a rows) ≡ step (evaluation id a rows) t
+asked-steps : (t : List Record) (id : ℕ) (a : AskedDay) (rows : List ℤ) → doneBy t
+    (askedTurn (slotOf t id) a rows) ≡ step (evaluation id a rows) t
 asked-steps t id a rows = evaluate-steps t id (dayOf a) rows
 
 pub evaluate-asked-spec : {M : Type 1} → stated.statement M
 unfolding code.routine tablesOf
 evaluate-asked-spec 𝓤 H 𝓜 𝓖 𝓡 =
-    entered 𝓤 H (tripleOf 𝓤 H (𝓖 .A) f.signature (f.spec 𝓤 H (𝓖 .A) (𝓜 .mem) (𝓡 .run)))
-    (tables 𝓤 H 𝓜 𝓡 code.env .C) (tables 𝓤 H 𝓜 𝓡 code.env .Λ) key.name code.function (code.unfolded 𝓤 H 𝓜 𝓡)
-    (meets P L askedTurn evaluation asked-steps rule-def.name 𝓤 H (𝓖 .A) (givenOf 𝓤 H 𝓜 𝓖) (𝓜 .mem) (𝓡 .run) (tablesOf 𝓤 H 𝓜 (tables 𝓤 H 𝓜 𝓡 code.env))
-    (take-known 𝓤 H 𝓜 𝓖 𝓡 code.env code.calls-desk·take)
-    (cited 𝓤 H (Rule P L askedTurn evaluation asked-steps rule-def.name 𝓤 H (𝓖 .A)) 𝓜 𝓡 code.env rule-def.name rule-def.routine code.calls-desk·asked (rule-thm.met 𝓤 H 𝓜 𝓖 𝓡))
+    entered 𝓤 H (tripleOf 𝓤 H (𝓖 .A) f.signature (f.spec 𝓤 H (𝓖 .A) (𝓜 .mem) (𝓡 .run))) (tables 𝓤 H 𝓜 𝓡 code.env .C)
+    (tables 𝓤 H 𝓜 𝓡 code.env .Λ) key.name code.function (code.unfolded 𝓤 H 𝓜 𝓡)
+    (meets P L askedTurn evaluation asked-steps rule-def.name 𝓤 H (𝓖 .A) (givenOf 𝓤 H 𝓜 𝓖) (𝓜 .mem) (𝓡 .run)
+    (tablesOf 𝓤 H 𝓜 (tables 𝓤 H 𝓜 𝓡 code.env)) (take-known 𝓤 H 𝓜 𝓖 𝓡 code.env code.calls-desk·take)
+    (cited 𝓤 H (Rule P L askedTurn evaluation asked-steps rule-def.name 𝓤 H
+    (𝓖 .A)) 𝓜 𝓡 code.env rule-def.name rule-def.routine code.calls-desk·asked (rule-thm.met 𝓤 H 𝓜 𝓖 𝓡))
     (put-known 𝓤 H 𝓜 𝓖 𝓡 code.env code.calls-desk·put))

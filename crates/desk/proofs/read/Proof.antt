@@ -1,4 +1,5 @@
--- `desk::read` meets its contract: the rule answers of the slot of the id what the paper's read answers (`read-answers`).
+-- `desk::read` meets its contract: the rule answers of the slot of the id what the paper's read answers
+-- (`read-answers`).
 -- The walk has a step for each statement: `let-s` and `answer`. The table is a `&`, which is Copy: what it owns is had
 -- twice, once for the call of `take`, and once for the exit.
 -- Assumes nothing.
@@ -84,8 +85,9 @@ function = record {
   lifetimes = 1;
   outlives = [];
   params = 2;
-  locals = local N′.mir valueLocal ∷ local (sliceTy (tyRef (named 0) imm (pointee (R .written)))) valueLocal ∷ local (tyInt w64) valueLocal
-      ∷ local U′.mir valueLocal ∷ [];
+  locals =
+      local N′.mir valueLocal ∷ local (sliceTy (tyRef (named 0) imm (pointee (R .written)))) valueLocal ∷ local
+      (tyInt w64) valueLocal ∷ local U′.mir valueLocal ∷ [];
   body = code-s code-read;
 }
 
@@ -93,8 +95,9 @@ module _ {M : Type 1} (𝓤 : URA M) (H : Heap 𝓤) (A : Atoms 𝓤) (mem : Mem
   abbrev Rule : Contract 𝓤
   Rule = Callee 𝓤 H A rule.ended (rule.clauses 𝓤 H A mem run)
 
-module _ {M : Type 1} (𝓤 : URA M) (H : Heap 𝓤) (A : Atoms 𝓤) (W : Given 𝓤 H A) (mem : Memory → SProp 𝓤) (run : Routine → Fun 𝓤) (κ : Lft) (q : Share)
-    (b o : ℕ) (γ : GName) (ys : List Record) (id : ℕ) (room : Room R (length ys)) (gi : id < 2 ^ 64) where
+module _ {M : Type 1} (𝓤 : URA M) (H : Heap 𝓤) (A : Atoms 𝓤) (W : Given 𝓤 H A) (mem : Memory → SProp 𝓤)
+    (run : Routine → Fun 𝓤) (κ : Lft) (q : Share) (b o : ℕ) (γ : GName) (ys : List Record) (id : ℕ)
+    (room : Room R (length ys)) (gi : id < 2 ^ 64) where
   abbrev x : RefT (List Record) × (ℕ × Unit {0})
   x = (ref b o γ ys, (id, tt))
 
@@ -120,11 +123,10 @@ module _ {M : Type 1} (𝓤 : URA M) (H : Heap 𝓤) (A : Atoms 𝓤) (W : Given
 
   exits : (w : Val) → Is N.the-row said (w ∷ []) → ent 𝓤 (⋆ 𝓤 H A Ours) (Post w)
   exits w is =
-      qed W Ours ∵
-      suffices ! _ (ends-at 𝓤 H A f.ended stayed (f.clauses 𝓤 H A mem run) W (((κ, tt), (q, tt), tt, x, at), tt) w said (tt, (tt, tt)) (tt, (tt, tt))) $
-      says ! (read-answers ys id) $
-      nothing ! $ move ! (1 ∷ 0 ∷ []) $ join ! $ framed ! $ nothing ! $ owned ! u64 (Is u64) (uint-makes 𝓤 H A W w64) id _ (refl, gi) $ fjoin ! $
-      move ! (1 ∷ 0 ∷ []) $ fjoin ! $
+      qed W Ours ∵ suffices ! _ (ends-at 𝓤 H A f.ended stayed (f.clauses 𝓤 H A mem run) W
+      (((κ, tt), (q, tt), tt, x, at), tt) w said (tt, (tt, tt)) (tt, (tt, tt))) $ says ! (read-answers ys id) $
+      nothing ! $ move ! (1 ∷ 0 ∷ []) $ join ! $ framed ! $ nothing ! $ owned ! u64 (Is u64)
+      (uint-makes 𝓤 H A W w64) id _ (refl, gi) $ fjoin ! $ move ! (1 ∷ 0 ∷ []) $ fjoin ! $
       owned ! N.the-row (Is N.the-row) (makes-answer 𝓤 H A) said (w ∷ []) is $ move ! (1 ∷ 0 ∷ []) $ done !
 
   -- what `take` is passed: t, at its own lifetime, and id
@@ -133,9 +135,9 @@ module _ {M : Type 1} (𝓤 : URA M) (H : Heap 𝓤) (A : Atoms 𝓤) (W : Given
 
   goes-take : ent 𝓤 (sep 𝓤 (A .lft κ q) (sem 𝓤 H A Lent)) (Take 𝓤 H A mem run .pre (to-take, tt))
   goes-take =
-      qed W Ours ∵ nothing ! $ move ! (1 ∷ 0 ∷ []) $ join ! $
-      nothing ! $ owned ! u64 (Is u64) (uint-makes 𝓤 H A W w64) id _ (refl, gi) $ fjoin ! $ move ! (2 ∷ 0 ∷ []) $ fjoin ! $ move ! (1 ∷ 0 ∷ []) $ join ! $
-      framed ! $ done !
+      qed W Ours ∵ nothing ! $ move ! (1 ∷ 0 ∷ []) $ join ! $ nothing ! $
+      owned ! u64 (Is u64) (uint-makes 𝓤 H A W w64) id _ (refl, gi) $ fjoin ! $ move ! (2 ∷ 0 ∷ []) $ fjoin ! $
+      move ! (1 ∷ 0 ∷ []) $ join ! $ framed ! $ done !
 
   -- what the rule is passed: the slot, whose machine value is w
   abbrev to-rule : Val → Bound 𝓤 H A rule.signature
@@ -143,10 +145,11 @@ module _ {M : Type 1} (𝓤 : URA M) (H : Heap 𝓤) (A : Atoms 𝓤) (W : Given
 
   goes-rule : (w : Val) → Is S slot (w ∷ []) → ent 𝓤 (emp 𝓤) (Rule 𝓤 H A mem run .pre (to-rule w, tt))
   goes-rule w is =
-      qed W [] ∵ nothing ! $ owned ! S (Is S) (makes-slot 𝓤 H A) slot (w ∷ []) is $ fjoin ! $ nothing ! $ join ! $ framed ! $ done !
+      qed W [] ∵ nothing ! $ owned ! S (Is S) (makes-slot 𝓤 H A) slot (w ∷ []) is $ fjoin ! $ nothing ! $ join ! $
+      framed ! $ done !
 
-  module _ (C : Calls 𝓤 H) (Λ : Loops 𝓤 H) (fm : FmC 𝓤 H (W .laws) C) (known-take : Triple 𝓤 (C #take) (Take 𝓤 H A mem run))
-      (known-rule : Triple 𝓤 (C #rule) (Rule 𝓤 H A mem run)) where
+  module _ (C : Calls 𝓤 H) (Λ : Loops 𝓤 H) (fm : FmC 𝓤 H (W .laws) C) (known-take : Triple 𝓤 (C #take)
+      (Take 𝓤 H A mem run)) (known-rule : Triple 𝓤 (C #rule) (Rule 𝓤 H A mem run)) where
     module _ (ls : Addresses (function .locals)) where
       abbrev En : Env 𝓤 H
       En = env-of (function .locals) ls
@@ -164,11 +167,12 @@ module _ {M : Type 1} (𝓤 : URA M) (H : Heap 𝓤) (A : Atoms 𝓤) (W : Given
           → Sq W (In none ∷ Ours) (Runs (code-s rest))
       let-s k =
           -- [the frame; the token; what t owns]: that is had twice, once for the call and once for the exit
-          move ! (2 ∷ []) $ use1 W (‵ Lent ⊛ ‵ Lent) (shr-slice-copy 𝓤 H A W (named 0) κ R .twice (x .0) (at .0)) $ split ! $
-          move ! (3 ∷ 0 ∷ []) $ join ! $ move ! (0 ∷ 2 ∷ []) $
-          calls 𝓤 H A W take.ended (take.clauses 𝓤 H A mem run) to-take tt fm known-take (‵ (flft κ q) ⊛ ‵ Lent) goes-take (typed-slot 𝓤 H A W) tt
-          (and-then ! (value ! ℓt refl) (and-then ! (value ! ℓid refl) (no-more !))) (λ s w is.
-          use1 W (raw (fact 𝓤 (s ≡ slot))) (learned 𝓤 H A W take.ended (take.clauses 𝓤 H A mem run) to-take tt s (s ≡ slot) (λ e. id⊢ 𝓤 _)) $
+          move ! (2 ∷ []) $ use1 W (‵ Lent ⊛ ‵ Lent) (shr-slice-copy 𝓤 H A W (named 0) κ R .twice (x .0) (at .0)) $
+          split ! $ move ! (3 ∷ 0 ∷ []) $ join ! $ move ! (0 ∷ 2 ∷ []) $ calls 𝓤 H A W take.ended
+          (take.clauses 𝓤 H A mem run) to-take tt fm known-take (‵ (flft κ q) ⊛ ‵ Lent) goes-take
+          (typed-slot 𝓤 H A W) tt (and-then ! (value ! ℓt refl) (and-then ! (value ! ℓid refl) (no-more !)))
+          (λ s w is. use1 W (raw (fact 𝓤 (s ≡ slot))) (learned 𝓤 H A W take.ended
+          (take.clauses 𝓤 H A mem run) to-take tt s (s ≡ slot) (λ e. id⊢ 𝓤 _)) $
           heard ! (s ≡ slot) (λ e. use1 W (‵ (flft κ q) ⊛ ‵ ftrue) (id⊢ 𝓤 (sep 𝓤 (A .lft κ q) (emp 𝓤))) $ split ! $
           -- [the token; true; the frame; what t owns]
           keep ! (2 ∷ 0 ∷ 3 ∷ []) $ k w (subst (λ (z : Slot). Is S z (w ∷ [])) e is)))
@@ -176,39 +180,47 @@ module _ {M : Type 1} (𝓤 : URA M) (H : Heap 𝓤) (A : Atoms 𝓤) (W : Given
       -- security::read(s)
       answer : (w : Val) → Is S slot (w ∷ []) → Sq W (In (some w) ∷ Ours) (Runs code-read)
       answer w is =
-          asks 𝓤 H A W rule.ended (rule.clauses 𝓤 H A mem run) (to-rule w) tt fm known-rule (goes-rule w is) said (λ r e. id⊢ 𝓤 _) (typed-answer 𝓤 H A W) tt
-          (and-then ! (value ! ℓs refl) (no-more !)) (λ u iu. leaves ! refl $ by ! (exits u iu))
+          asks 𝓤 H A W rule.ended (rule.clauses 𝓤 H A mem run) (to-rule w) tt fm known-rule (goes-rule w is) said
+          (λ r e. id⊢ 𝓤 _) (typed-answer 𝓤 H A W) tt (and-then ! (value ! ℓs refl) (no-more !))
+          (λ u iu. leaves ! refl $ by ! (exits u iu))
 
-    walk : ent 𝓤 (onEntry 𝓤 H A f.signature (κ, tt) (q, tt) x at) (WpFn 𝓤 H C Λ function (machine b o ys ∷ vint w64 id ∷ []) Post)
+    walk : ent 𝓤 (onEntry 𝓤 H A f.signature (κ, tt) (q, tt) x at) (WpFn 𝓤 H C Λ function
+        (machine b o ys ∷ vint w64 id ∷ []) Post)
     walk =
         qed W ((‵ (flft κ q) ⊛ ‵ ftrue) ∷ ‵ (owns (ShrSlice (named 0) κ R ∷ u64 ∷ []) x at) ∷ []) ∵
-        enters ! C Λ function (machine b o ys ∷ vint w64 id ∷ []) Post
-        (λ ls. ((tt, (tt, (record { fits = room .0 }, tt))), ((tt, record { fits = gi }), tt))) (λ ls.
+        enters ! C Λ function (machine b o ys ∷ vint w64 id ∷ []) Post (λ ls.
+        ((tt, (tt, (record { fits = room .0 }, tt))), ((tt, record { fits = gi }), tt))) (λ ls.
         -- [the frame; the token; what the parameters own]
         move ! (2 ∷ []) $ fsplit ! $ move ! (3 ∷ []) $ split ! $ keep ! (4 ∷ 0 ∷ 2 ∷ []) $ let-s ls (answer ls))
 
-module _ {M : Type 1} (𝓤 : URA M) (H : Heap 𝓤) (A : Atoms 𝓤) (W : Given 𝓤 H A) (mem : Memory → SProp 𝓤) (run : Routine → Fun 𝓤) (𝓣 : Tables 𝓤 H)
-    (known-take : Triple 𝓤 (𝓣 .C #take) (Take 𝓤 H A mem run)) (known-rule : Triple 𝓤 (𝓣 .C #rule) (Rule 𝓤 H A mem run)) where
+module _ {M : Type 1} (𝓤 : URA M) (H : Heap 𝓤) (A : Atoms 𝓤) (W : Given 𝓤 H A) (mem : Memory → SProp 𝓤)
+    (run : Routine → Fun 𝓤) (𝓣 : Tables 𝓤 H) (known-take : Triple 𝓤 (𝓣 .C #take) (Take 𝓤 H A mem run))
+    (known-rule : Triple 𝓤 (𝓣 .C #rule) (Rule 𝓤 H A mem run)) where
   abbrev Run : Fun 𝓤
   Run = WpFn 𝓤 H (𝓣 .C) (𝓣 .Λ) function
 
   walks : Walks 𝓤 H A f.ended stayed Run (f.clauses 𝓤 H A mem run)
-  walks = walked 𝓤 H A f.ended stayed (f.clauses 𝓤 H A mem run) Run (λ κs. (slice-vals, (uint-vals w64, tt)))
+  walks =
+      walked 𝓤 H A f.ended stayed (f.clauses 𝓤 H A mem run) Run (λ κs. (slice-vals, (uint-vals w64, tt)))
       (λ κs. (shr-slice-tells (named 0) (κs .0) R, (uint-tells w64, tt)))
-      (λ κs qs bounds a g are. via 𝓤 _ (fst∗ 𝓤 _ (emp 𝓤))
-      (walk 𝓤 H A W mem run (κs .0) (qs .0) (a .0 .ptr .0) (a .0 .ptr .1) (a .0 .name) (a .0 .now) (a .1 .0) (are .0 .0 .1) (are .1 .0 .1) (𝓣 .C) (𝓣 .Λ)
+      (λ κs qs bounds a g are. via 𝓤 _ (fst∗ 𝓤 _ (emp 𝓤)) (walk 𝓤 H A W mem run (κs .0) (qs .0) (a .0 .ptr .0)
+      (a .0 .ptr .1) (a .0 .name) (a .0 .now) (a .1 .0) (are .0 .0 .1) (are .1 .0 .1) (𝓣 .C) (𝓣 .Λ)
       (fmOf 𝓤 H (W .laws) 𝓣) known-take known-rule))
 
   meets : Meets 𝓤 H A f.signature Run (f.spec 𝓤 H A mem run)
   meets =
-      walk-meets 𝓤 H A f.ended stayed W (goes-none-slice 𝓤 H A W 1 (0 ∷ []) tt (plain (λ _. R)) yes, (goes-none 𝓤 H A W 1 (λ _. u64) yes (λ κs x f. refl), tt)) (f.clauses 𝓤 H A mem run)
-      Run (WpFn-mono 𝓤 H (W .laws) 𝓣 function) walks
+      walk-meets 𝓤 H A f.ended stayed W (
+        goes-none-slice 𝓤 H A W 1 (0 ∷ []) tt (plain (λ _. R)) yes,
+        (goes-none 𝓤 H A W 1 (λ _. u64) yes (λ κs x f. refl), tt),
+      ) (f.clauses 𝓤 H A mem run) Run
+      (WpFn-mono 𝓤 H (W .laws) 𝓣 function) walks
 
 pub read-spec : {M : Type 1} → stated.statement M
 unfolding code.routine tablesOf
 read-spec 𝓤 H 𝓜 𝓖 𝓡 =
-    entered 𝓤 H (tripleOf 𝓤 H (𝓖 .A) f.signature (f.spec 𝓤 H (𝓖 .A) (𝓜 .mem) (𝓡 .run)))
-    (tables 𝓤 H 𝓜 𝓡 code.env .C) (tables 𝓤 H 𝓜 𝓡 code.env .Λ) #read code.function (code.unfolded 𝓤 H 𝓜 𝓡)
+    entered 𝓤 H (tripleOf 𝓤 H (𝓖 .A) f.signature (f.spec 𝓤 H (𝓖 .A) (𝓜 .mem) (𝓡 .run))) (tables 𝓤 H 𝓜 𝓡 code.env .C)
+    (tables 𝓤 H 𝓜 𝓡 code.env .Λ) #read code.function (code.unfolded 𝓤 H 𝓜 𝓡)
     (meets 𝓤 H (𝓖 .A) (givenOf 𝓤 H 𝓜 𝓖) (𝓜 .mem) (𝓡 .run) (tablesOf 𝓤 H 𝓜 (tables 𝓤 H 𝓜 𝓡 code.env))
     (take-known 𝓤 H 𝓜 𝓖 𝓡 code.env code.calls-desk·take)
-    (cited 𝓤 H (Rule 𝓤 H (𝓖 .A) (𝓜 .mem) (𝓡 .run)) 𝓜 𝓡 code.env #rule rule-def.routine code.calls-security·read (rule-thm.met 𝓤 H 𝓜 𝓖 𝓡)))
+    (cited 𝓤 H (Rule 𝓤 H (𝓖 .A) (𝓜 .mem) (𝓡 .run)) 𝓜 𝓡 code.env #rule rule-def.routine code.calls-security·read
+    (rule-thm.met 𝓤 H 𝓜 𝓖 𝓡)))
