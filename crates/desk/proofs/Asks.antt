@@ -1,8 +1,8 @@
 -- A call of a function that has a contract, as a step of a walk whose locals are a frame: the caller hands over what
--- the callee asks for, the
--- operands are read from the frame, and the result is in the local d.
+-- the callee asks for, the operands are read from the frame, and the result is in the local d.
 --     calls      any callee. The caller has back what it ensures, and the tokens of its lifetimes
---     asks       a callee by value, which needs nothing but its operands. The caller learns what it ensures
+--     says       what is ensured says a fact
+--     asks       a callee by value, which needs nothing but its operands. The caller learns what its result is
 -- Assumes `Given`, and that the table's entry meets the contract.
 use mathlib.Core.Path.{_≡_, subst}
 use mathlib.Core.Option.{some}
@@ -59,8 +59,9 @@ module _ {M : Type 1} (𝓤 : URA M) (H : Heap 𝓤) (A : Atoms 𝓤) where
     X = Result T′ x
 
     -- what the caller learns
-    pub says : (r : X .Denot) (φ : Type 0) → ((e : AtExit T′ (x .0)) → ent 𝓤 (c (x .0) (x .3) .ensures g r e)
-        (fact 𝓤 φ)) → ent 𝓤 (ensured 𝓤 H A T′ c (x .0) (x .3) g r) (fact 𝓤 φ)
+    pub says : (r : X .Denot) (φ : Type 0)
+        → ((e : AtExit T′ (x .0)) → ent 𝓤 (c (x .0) (x .3) .ensures g r e) (fact 𝓤 φ))
+        → ent 𝓤 (ensured 𝓤 H A T′ c (x .0) (x .3) g r) (fact 𝓤 φ)
     says r φ tells =
         exE 𝓤 _ (λ ws. via 𝓤 (c (x .0) (x .3) .ensures g r (atExit T′ (x .0) (x .3) ws))
         (snd∗ 𝓤 (sem 𝓤 H A (lasts T′ (x .0) (x .3) ws)) (c (x .0) (x .3) .ensures g r (atExit T′ (x .0) (x .3) ws)))
@@ -72,16 +73,15 @@ module _ {M : Type 1} (𝓤 : URA M) (H : Heap 𝓤) (A : Atoms 𝓤) where
           → ent 𝓤 (mean 𝓤 H A i) (Callee T′ c .pre (x, g)) → Stores T′ x E d → Within E d
           → Opds (Go {0}) W (frame H E cs ∷ raw (Callee T′ c .pre (x, g)) ∷ Γ) E xs (passed 𝓤 H A (T′ .signature) x)
           → ((r : X .Denot) (v : Val) → Is X r (v ∷ [])
-          → Sq W (raw (ensured 𝓤 H A T′ c (x .0) (x .3) g r) ∷ raw (alive 𝓤 H A (T′ .signature) (x .0)
-          (x .1)) ∷ frame H E (holding cs d (some v)) ∷ Γ) (runs C Λ E rest post))
+          → Sq W (raw (ensured 𝓤 H A T′ c (x .0) (x .3) g r) ∷ raw (alive 𝓤 H A (T′ .signature) (x .0) (x .1))
+          ∷ frame H E (holding cs d (some v)) ∷ Γ) (runs C Λ E rest post))
           → Sq W (i ∷ frame H E cs ∷ Γ) (runs C Λ E (seq (call #f xs (place d [])) rest) post)
       calls fm known i goes stores in-E os k =
           use1 W (raw (Callee T′ c .pre (x, g))) goes $ calls-at ! fm (Callee T′ c) known (x, g) (reads-second os)
-          (λ v. use1 W
-          (later (some′ (λ (r : X .Denot). (raw (alive 𝓤 H A (T′ .signature) (x .0) (x .1)) ⊛ ‵
-          (X .own r (v ∷ []))) ⊛ raw (ensured 𝓤 H A T′ c (x .0) (x .3) g r)))) (id⊢ 𝓤 (Callee T′ c .post (x, g) v)) $
-          await ! tt $ pick ! (λ r. split ! $ split ! $ move ! (1 ∷ []) $
-          facts ! X (Is X) (shows 𝓤 H A X) r (v ∷ []) (λ is.
+          (λ v. use1 W (later (some′ (λ (r : X .Denot).
+          (raw (alive 𝓤 H A (T′ .signature) (x .0) (x .1)) ⊛ ‵ (X .own r (v ∷ []))) ⊛ raw (ensured 𝓤 H A T′ c (x .0)
+          (x .3) g r)))) (id⊢ 𝓤 (Callee T′ c .post (x, g) v)) $ await ! tt $
+          pick ! (λ r. split ! $ split ! $ move ! (1 ∷ []) $ facts ! X (Is X) (shows 𝓤 H A X) r (v ∷ []) (λ is.
           -- [the tokens; what is ensured; the frame; …]
           move ! (2 ∷ []) $ land ! (from ! (stop !)) (sets ! d in-E (stores r v is)) $ move ! (2 ∷ 1 ∷ []) $ k r v is)))
 
@@ -94,10 +94,11 @@ module _ {M : Type 1} (𝓤 : URA M) (H : Heap 𝓤) (A : Atoms 𝓤) where
           → (y : Result T′ x .Denot) → ((r : Result T′ x .Denot) (e : AtExit T′ (x .0))
           → ent 𝓤 (c (x .0) (x .3) .ensures g r e) (fact 𝓤 (r ≡ y))) → Stores T′ x E d → Within E d
           → Opds (Go {0}) W (frame H E cs ∷ raw (Callee T′ c .pre (x, g)) ∷ Γ) E xs (passed 𝓤 H A (T′ .signature) x)
-          → ((v : Val) → Is (Result T′ x) y (v ∷ []) → Sq W (frame H E (holding cs d (some v)) ∷ Γ)
-          (runs C Λ E rest post)) → Sq W (frame H E cs ∷ Γ) (runs C Λ E (seq (call #f xs (place d [])) rest) post)
+          → ((v : Val) → Is (Result T′ x) y (v ∷ [])
+          → Sq W (frame H E (holding cs d (some v)) ∷ Γ) (runs C Λ E rest post))
+          → Sq W (frame H E cs ∷ Γ) (runs C Λ E (seq (call #f xs (place d [])) rest) post)
       asks fm known goes y tells stores in-E os k =
-          use0 W (raw (Callee T′ c .pre (x, g))) goes $ calls W T′ c x g fm known (raw (Callee T′ c .pre (x, g)))
-          (id⊢ 𝓤 (Callee T′ c .pre (x, g))) stores in-E os (λ r v is. use1 W (raw (fact 𝓤 (r ≡ y)))
-          (says W T′ c x g r (r ≡ y) (tells r)) $ heard ! (r ≡ y) (λ e. drop ! $
-          k v (subst (λ (z : Result T′ x .Denot). Is (Result T′ x) z (v ∷ [])) e is)))
+          use0 W (raw (Callee T′ c .pre (x, g))) goes $
+          calls W T′ c x g fm known (raw (Callee T′ c .pre (x, g))) (id⊢ 𝓤 (Callee T′ c .pre (x, g))) stores in-E os
+          (λ r v is. use1 W (raw (fact 𝓤 (r ≡ y))) (says W T′ c x g r (r ≡ y) (tells r)) $
+          heard ! (r ≡ y) (λ e. drop ! $ k v (subst (λ (z : Result T′ x .Denot). Is (Result T′ x) z (v ∷ [])) e is)))

@@ -1,41 +1,35 @@
 -- The statements that the calls of the desk are made of, as steps of a walk, for any caller whose locals are a frame:
---     takes        let d = take(t, x);     t is lent as `&` for a lifetime that is made for the call, and comes back as
---         it was
+--     takes        let d = take(t, x);     t is lent as `&` for a lifetime made for the call, and comes back as it was
 --     puts         put(t, x, y);           t is given up to `put`, and the caller has what says t's last list
 --     puts-turn    put(t, o.at, o.rec);
 --     turned       after let o = rule(…);  the fields of the turn can be read
 --     answers      o.answer
 -- Each is told which locals the statement uses, and leaves the other locals and the rest of the context as they were.
--- `Asks` has the call of a rule, and `Frame` the locals. Assumes `Given`, and that the table's entries meet the
--- contracts.
+-- `Asks` has the call of a rule, and `Frame` the locals.
+-- Assumes `Given`, and that the table's entries meet the contracts.
 --
--- HOW TO ADD A CALL, as `pub fn seventh(t: &mut [Record], id: u64, q: Q) -> Answer`
--- 1. Prove its rule in `security`: `fn rule(s: Slot, q: Q) -> Turn` ensures that the turn is `seventhTurn s q`. Add
---    `seventh-steps` to `Steps`: what the turn stores and answers is the paper's step. `judged-done` shows it, in a
---        line.
--- 2. Where the code is `let s = take(t, id); let o = rule(s, q); put(t, o.at, o.rec); o.answer`, there is no walk to
--- write:
---    copy quote/Proof.antt (with rows lent beside the table evaluate/Proof.antt), and change the names in it.
--- 3. Where it has another statement, copy admit/Proof.antt, which has one, and change in this order:
---    - ℓ…, for-…: the numbers of the locals. `rt mir desk` has them: the result, the parameters, each `let`, and then
---      the compiler's own, which are a pair for each call that t is lent to, and the `()` of `put`
---    - code-…: a definition for each statement, and `function`: the types of the locals, and the statements in order.
---      A type that the code holds by value is `mir` of its `Laws`; the turn's is `turn-ty`
---    - x, at, stayed: the parameters, their machine values, and what is had of them at exit
---    - to-rule, goes-rule: what the rule is passed, and that it can be. What a value owns is made anew by `owned`, the
---        last
---      parameter first
---    - exits: the answer, and the table's last list. It ends like `goes-rule`, over the call's own parameters
---    - In: what each local holds, in the locals' order. Then a step for each statement: its type has `In` before and
---        after
---      it, and it is one of the laws above, or `asks`. `walk` is the steps, each in the one before it
--- 4. What a refusal means. A `refl` or `tt` of a step: the frame has no such local, holds nothing there, or `function`
--- has
---    another type for it. At `…-spec`, two functions that differ: `function` is not the code. In `exits` or
---        `goes-rule`, at
---    `done !` or `framed !`: an entry is missing or out of order. Write `? ` for the rest of a script: its goal has the
---        context.
--- 5. Add the call to `Determined` (two lines), and an edit of its `ensures` to must-fail/.
+-- HOW TO ADD A CALL, as `pub fn seventh(t: &mut [Record], id: u64, q: Q) -> Answer`:
+-- 1. Prove its rule in `security`: `fn rule(s: Slot, q: Q) -> Turn` ensures that the turn is `seventhTurn s q`.
+--    Add `seventh-steps` to `Steps`: what the turn stores and answers is the paper's step, by `judged-done`, in a line.
+-- 2. Where the code is `let s = take(t, id); let o = rule(s, q); put(t, o.at, o.rec); o.answer`, no walk is to be
+--    written: copy quote/Proof.antt, or evaluate/Proof.antt where rows are lent beside the table, and change the names.
+-- 3. Where the code has another statement, copy admit/Proof.antt, which has one, and change, in this order:
+--    - ℓ…, for-…: the numbers of the locals. `rt mir desk` has them in order: the result, the parameters, each `let`,
+--      and the compiler's own, which are a pair for each call that t is lent to, and the `()` of `put`.
+--    - code-…: a definition for each statement. `function`: the types of the locals, and the statements in order. The
+--      type of a local that holds a struct is `mir` of the struct's `Laws`; a turn's is `turn-ty`.
+--    - x, at, stayed: the parameters, their machine values, and what is had of them at exit.
+--    - to-rule, goes-rule: what the rule is passed, and that the caller has it. `owned` makes anew what a plain value
+--      owns, the last parameter's first.
+--    - exits: the answer and the table's last list are the paper's; then as `goes-rule`, over the call's parameters.
+--    - In: what each local holds, in the locals' order.
+--    - a step for each statement. Its type has `In` before and after the statement; its proof is a law of this file, or
+--      `asks` for the rule. `walk` puts each step into the one before it.
+-- 4. What a refusal means:
+--    - at a `refl` or `tt` of a step: the local holds nothing yet, or `function` has another type for it.
+--    - at `…-spec`: `function` is not the code. Compare it with `rt mir desk`.
+--    - at `done !` or `framed !`: an entry is missing, or out of order. A hole `?` there shows the context.
+-- 5. Add the call to `Determined`, in two lines, and an edit of its `ensures` to must-fail/.
 use mathlib.Core.Path.{_≡_, refl, sym, _∙_, subst}
 use mathlib.Core.Option.{none, some}
 use Prim.Native.Nat.{ℕ, _<_, _^_}
@@ -164,8 +158,9 @@ returned cs m d b o ys v = holding (holding (holding (lent cs m b o ys) d (some 
 abbrev pub Lends : {M : Type 1} (𝓤 : URA M) (H : Heap 𝓤) → Env 𝓤 H → Locals → (t : ℕ) (m : Lending) → ℕ → ℕ
     → List Record → Type 0
 Lends 𝓤 H E cs t m b o ys =
-    (held E cs t ≡ some (machine b o ys)) × (spotOf 𝓤 H E t .0 ≡ table-ty) × Apart (m .0) t × Within E (m .0) × Within E
-    (m .1) × T (hasTy (spotOf 𝓤 H E (m .0) .0) (vptr b o)) × T (hasTy (spotOf 𝓤 H E (m .1) .0) (machine b o ys))
+    (held E cs t ≡ some (machine b o ys)) × (spotOf 𝓤 H E t .0 ≡ table-ty) × Apart (m .0) t × Within E (m .0)
+    × Within E (m .1) × T (hasTy (spotOf 𝓤 H E (m .0) .0) (vptr b o))
+    × T (hasTy (spotOf 𝓤 H E (m .1) .0) (machine b o ys))
 
 -- ---- the steps
 
@@ -200,8 +195,10 @@ module _ {M : Type 1} (𝓤 : URA M) (H : Heap 𝓤) (A : Atoms 𝓤) (W : Given
 
   module _ {Γ : List (Item 𝓤)} {G : Goal 𝓤 H} where
     -- t is lent as `&`, for a lifetime that is made for the call
-    lent-out : Soaks G → ((α : ℕ) (γ′ : GName) → Sq W ((‵ (flft (α ∷ []) fullShare) ⊛ ‵ (Lent (α ∷ []) γ′)) ∷ ‵
-        (Kept κ q b o γ ys (α ∷ [])) ∷ Γ) G) → Sq W (‵ (Owned κ b o γ ys) ∷ ‵ (flft κ q) ∷ Γ) G
+    lent-out : Soaks G
+        → ((α : ℕ) (γ′ : GName)
+        → Sq W ((‵ (flft (α ∷ []) fullShare) ⊛ ‵ (Lent (α ∷ []) γ′)) ∷ ‵ (Kept κ q b o γ ys (α ∷ [])) ∷ Γ) G)
+        → Sq W (‵ (Owned κ b o γ ys) ∷ ‵ (flft κ q) ∷ Γ) G
     lent-out z k = fsplit ! $ drop ! $ fsplit ! $ opens-slice ! z R ys b o $ lft-new ! z (λ α.
         -- [the new token; the row; the open borrow; obs; auth; …]
         move ! (1 ∷ []) $ feqI ! ℕ (length ys) (length ys) refl $ fjoin ! $
@@ -213,7 +210,8 @@ module _ {M : Type 1} (𝓤 : URA M) (H : Heap 𝓤) (A : Atoms 𝓤) (W : Given
         move ! (2 ∷ 1 ∷ []) $ join ! $ k α γ′))
 
     -- the lifetime ends, and t comes back as it was
-    taken-back : Soaks G → {α : ℕ} → Step (Go {0}) W (‵ (Owned κ b o γ ys) ∷ ‵ (flft κ q) ∷ Γ) G
+    taken-back : Soaks G → {α : ℕ}
+        → Step (Go {0}) W (‵ (Owned κ b o γ ys) ∷ ‵ (flft κ q) ∷ Γ) G
         (‵ (flft (α ∷ []) fullShare) ∷ ‵ (Kept κ q b o γ ys (α ∷ [])) ∷ Γ) G
     taken-back z =
         step (λ s. lft-end ! z $ move ! (1 ∷ []) $ fsplit ! $ move ! (2 ∷ 0 ∷ []) $ lent-back ! z $ fsplit ! $ drop ! $
@@ -223,18 +221,19 @@ module _ {M : Type 1} (𝓤 : URA M) (H : Heap 𝓤) (A : Atoms 𝓤) (W : Given
 
   module _ {Γ : List (Item 𝓤)} {E : Env 𝓤 H} {cs : Locals} {C : Calls 𝓤 H} {Λ : Loops 𝓤 H} {post : Post 𝓤 H}
       {rest : Body} where
-    lends : (t : ℕ) (m : Lending) → Lends 𝓤 H E cs t m b o ys → Step (Go {0}) W (frame H E (lent cs m b o ys) ∷ Γ)
-        (runs C Λ E rest post) (frame H E cs ∷ Γ) (runs C Λ E (lending t m rest) post)
+    lends : (t : ℕ) (m : Lending) → Lends 𝓤 H E cs t m b o ys
+        → Step (Go {0}) W (frame H E (lent cs m b o ys) ∷ Γ) (runs C Λ E rest post) (frame H E cs ∷ Γ)
+        (runs C Λ E (lending t m rest) post)
     lends t m l =
         step (λ s. assigns ! (behind ! t 0 (l .0) (l .1) refl refl) (from ! (stop !))
-        (sets ! (m .0) (l .3) (l .5, tt)) $ assigns !
-        (agg ! (and-then ! (value ! (m .0) (held-own E cs (m .0) (some (vptr b o)) (l .3)))
+        (sets ! (m .0) (l .3) (l .5, tt)) $
+        assigns ! (agg ! (and-then ! (value ! (m .0) (held-own E cs (m .0) (some (vptr b o)) (l .3)))
         (and-then ! (field′ ! t 1 (held-other E cs (m .0) t (some (vptr b o)) (l .2) ∙ l .0) (l .1) refl) (no-more !))))
         (from ! (stop !)) (sets ! (m .1) (l .4) (l .6, (tt, (record { fits = room .0 }, tt)))) $ s)
 
   -- the slice of m, once t is lent
-  slice-in : (E : Env 𝓤 H) (cs : Locals) (m : Lending) → Within E (m .1) → held E (lent cs m b o ys) (m .1) ≡ some
-      (machine b o ys)
+  slice-in : (E : Env 𝓤 H) (cs : Locals) (m : Lending) → Within E (m .1)
+      → held E (lent cs m b o ys) (m .1) ≡ some (machine b o ys)
   slice-in E cs m in-w = held-own E (holding cs (m .0) (some (vptr b o))) (m .1) (some (machine b o ys)) in-w
 
   module _ {Γ : List (Item 𝓤)} {E : Env 𝓤 H} {cs : Locals} {C : Calls 𝓤 H} {Λ : Loops 𝓤 H} {post : Post 𝓤 H}
@@ -267,20 +266,22 @@ module _ {M : Type 1} (𝓤 : URA M) (H : Heap 𝓤) (A : Atoms 𝓤) (W : Given
         → {x y : Operand} (i : ℕ) (r : Record) (v : Val) → i < 2 ^ 64 → Is R r (v ∷ [])
         → ((Δ : List (Item 𝓤)) → Opd (Go {0}) W (frame H E (lent cs m b o ys) ∷ Δ) E x (vint w64 i))
         → ((Δ : List (Item 𝓤)) → Opd (Go {0}) W (frame H E (lent cs m b o ys) ∷ Δ) E y v)
-        → ((u : Val) → Sq W (frame H E (holding (returned cs m d b o ys u) d none) ∷ ‵ (finally R γ (set ys i r)) ∷ ‵
-        (flft κ q) ∷ Γ) (runs C Λ E rest post)) → Sq W (frame H E cs ∷ ‵ (Owned κ b o γ ys) ∷ ‵ (flft κ q) ∷ Γ)
-        (runs C Λ E (putting t m d x y rest) post)
+        → ((u : Val)
+        → Sq W (frame H E (holding (returned cs m d b o ys u) d none) ∷ ‵ (finally R γ (set ys i r)) ∷ ‵ (flft κ q) ∷ Γ)
+        (runs C Λ E rest post))
+        → Sq W (frame H E cs ∷ ‵ (Owned κ b o γ ys) ∷ ‵ (flft κ q) ∷ Γ) (runs C Λ E (putting t m d x y rest) post)
     puts fm known t m d l in-d is-unit i r v gi is os os′ k =
-        lends t m l $ move ! (1 ∷ 2 ∷ []) $ join ! $ calls 𝓤 H A W put.ended (put.clauses 𝓤 H A mem run)
-        (to-put i r v) tt fm known (‵ (Owned κ b o γ ys) ⊛ ‵ (flft κ q)) (goes-put i r v gi is)
-        (λ u z iu. subst (λ (τ : Ty). T (hasTy τ z) × WT z) (sym is-unit)
-        (nothing-lawful 𝓤 H A W .typed u (z ∷ []) iu .0)) in-d (and-then ! (value ! (m .1) (slice-in E cs m (l .4)))
-        (and-then ! (os _) (and-then ! (os′ _) (no-more !)))) (λ u z iu. use1 W
-        (some′ (λ (zs : List Record × (Unit {0} × (Unit {0} × Unit {0}))). ‵
-        (lasts put.ended (κ, tt) (ref b o γ ys, (i, (r, tt))) zs) ⊛ raw (fact 𝓤 (zs .0 ≡ set ys i r))))
+        lends t m l $ move ! (1 ∷ 2 ∷ []) $ join ! $
+        calls 𝓤 H A W put.ended (put.clauses 𝓤 H A mem run) (to-put i r v) tt fm known
+        (‵ (Owned κ b o γ ys) ⊛ ‵ (flft κ q)) (goes-put i r v gi is) (λ u z iu.
+        subst (λ (τ : Ty). T (hasTy τ z) × WT z) (sym is-unit) (nothing-lawful 𝓤 H A W .typed u (z ∷ []) iu .0)) in-d
+        (and-then ! (value ! (m .1) (slice-in E cs m (l .4))) (and-then ! (os _) (and-then ! (os′ _) (no-more !))))
+        (λ u z iu.
+        use1 W (some′ (λ (zs : List Record × (Unit {0} × (Unit {0} × Unit {0}))). ‵ (lasts put.ended (κ, tt)
+        (ref b o γ ys, (i, (r, tt))) zs) ⊛ raw (fact 𝓤 (zs .0 ≡ set ys i r))))
         (id⊢ 𝓤 (ensured 𝓤 H A put.ended (put.clauses 𝓤 H A mem run) (κ, tt) (ref b o γ ys, (i, (r, tt))) tt u)) $
-        pick ! (λ zs. split ! $ move ! (1 ∷ []) $ heard ! (zs .0 ≡ set ys i r)
-        (λ e. fsplit ! $ fsplit ! $ rewrite ! 0 (λ (l : List Record). ‵ (finally R γ l)) e refl $
+        pick ! (λ zs. split ! $ move ! (1 ∷ []) $ heard ! (zs .0 ≡ set ys i r) (λ e. fsplit ! $ fsplit ! $
+        rewrite ! 0 (λ (l : List Record). ‵ (finally R γ l)) e refl $
         -- [the last list; that it is as long; true; the tokens; the frame; …]
         move ! (3 ∷ []) $ use1 W (‵ (flft κ q) ⊛ ‵ ftrue) (id⊢ 𝓤 (sep 𝓤 (A .lft κ q) (emp 𝓤))) $ split ! $
         move ! (1 ∷ 3 ∷ 4 ∷ []) $ drop ! $ drop ! $ drop ! $
@@ -291,10 +292,11 @@ module _ {M : Type 1} (𝓤 : URA M) (H : Heap 𝓤) (A : Atoms 𝓤) (W : Given
     pub puts-turn : FmC 𝓤 H (W .laws) C → Triple 𝓤 (C #put) (Put 𝓤 H A mem run) → (t : ℕ) (m : Lending) (d o′ : ℕ)
         → Lends 𝓤 H E cs t m b o ys → Within E d → spotOf 𝓤 H E d .0 ≡ tyUnit → (r : Turn)
         → Is O.the-row r (turn-val r ∷ []) → held E (lent cs m b o ys) o′ ≡ some (turn-val r)
-        → spotOf 𝓤 H E o′ .0 ≡ turn-ty → ((u : Val)
-        → Sq W (frame H E (holding (returned cs m d b o ys u) d none) ∷ ‵ (finally R γ (set ys (r .at) (r .rec))) ∷ ‵
-        (flft κ q) ∷ Γ) (runs C Λ E rest post)) → Sq W (frame H E cs ∷ ‵ (Owned κ b o γ ys) ∷ ‵ (flft κ q) ∷ Γ)
-        (runs C Λ E (putting-turn t m d o′ rest) post)
+        → spotOf 𝓤 H E o′ .0 ≡ turn-ty
+        → ((u : Val)
+        → Sq W (frame H E (holding (returned cs m d b o ys u) d none) ∷ ‵ (finally R γ (set ys (r .at) (r .rec)))
+        ∷ ‵ (flft κ q) ∷ Γ) (runs C Λ E rest post))
+        → Sq W (frame H E cs ∷ ‵ (Owned κ b o γ ys) ∷ ‵ (flft κ q) ∷ Γ) (runs C Λ E (putting-turn t m d o′ rest) post)
     puts-turn fm known t m d o′ l in-d is-unit r is holds is-turn =
         puts fm known t m d l in-d is-unit (r .at) (r .rec) (val (r .rec)) (turn-is r (turn-val r) is .0)
         (turn-is r (turn-val r) is .1 .0) (λ Δ. field′ ! o′ 0 holds is-turn refl)
@@ -302,8 +304,8 @@ module _ {M : Type 1} (𝓤 : URA M) (H : Heap 𝓤) (A : Atoms 𝓤) (W : Given
 
 -- let o = rule(…); has returned v, and the turn's fields can be read
 pub turned : {M : Type 1} {𝓤 : URA M} {H : Heap 𝓤} {A : Atoms 𝓤} (W : Given 𝓤 H A) {Γ : List (Item 𝓤)} {G : Goal 𝓤 H}
-    (F : Val → Item 𝓤) (r : Turn) (v : Val) → Is O.the-row r (v ∷ []) → (Is O.the-row r (turn-val r ∷ [])
-    → Sq W (F (turn-val r) ∷ Γ) G) → Sq W (F v ∷ Γ) G
+    (F : Val → Item 𝓤) (r : Turn) (v : Val) → Is O.the-row r (v ∷ [])
+    → (Is O.the-row r (turn-val r ∷ []) → Sq W (F (turn-val r) ∷ Γ) G) → Sq W (F v ∷ Γ) G
 turned W F r v is k =
     rewrite ! 0 F (turn-tells r v is) refl $ k (subst (λ (z : Val). Is O.the-row r (z ∷ [])) (turn-tells r v is) is)
 
@@ -312,10 +314,11 @@ module _ {M : Type 1} {𝓤 : URA M} {H : Heap 𝓤} {A : Atoms 𝓤} (W : Given
   -- o.answer
   pub answers : (o : ℕ) (r : Turn) → Is O.the-row r (turn-val r ∷ []) → held E cs o ≡ some (turn-val r)
       → spotOf 𝓤 H E o .0 ≡ turn-ty → Within E 0 → spotOf 𝓤 H E 0 .0 ≡ N′.mir
-      → ent 𝓤 (⋆ 𝓤 H A Γ) (Kf (answer-val (r .answer))) → Sq W (frame H E cs ∷ Γ)
-      (runs C Λ E (answering o) (atRet E Kf))
+      → ent 𝓤 (⋆ 𝓤 H A Γ) (Kf (answer-val (r .answer)))
+      → Sq W (frame H E cs ∷ Γ) (runs C Λ E (answering o) (atRet E Kf))
   answers o r is holds is-turn in-0 is-answer exits =
       assigns ! (of-opd ! (field′ ! o 2 holds is-turn refl)) (from ! (stop !))
       (sets ! 0 in-0 (subst (λ (τ : Ty). T (hasTy τ (answer-val (r .answer))) × WT (answer-val (r .answer)))
       (sym is-answer) (typed-answer 𝓤 H A W (r .answer) (answer-val (r .answer)) (turn-is r (turn-val r) is .1 .1)))) $
-      leaves ! (held-own E cs 0 (some (answer-val (r .answer))) in-0) $ by ! exits
+      leaves ! (held-own E cs 0 (some (answer-val (r .answer))) in-0) $
+      by ! exits

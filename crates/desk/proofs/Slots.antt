@@ -49,8 +49,9 @@ module _ {M : Type 1} (𝓤 : URA M) (H : Heap 𝓤) (A : Atoms 𝓤) (W : Given
   finds t i x p b o n k f room l =
       step (λ s. assigns ! (bin ! (value ! i (f .2)) (lit ! tt) fits) (from ! (stop !))
       (sets ! x (f .4) (subst (λ (τ : Ty). T (hasTy τ (vint w64 (k * bytes))) × WT (vint w64 (k * bytes))) (sym (f .6))
-      (tt, fits))) $ assigns ! (bin ! (field′ ! t 0 (held-other E cs x t (some (vint w64 (k * bytes))) (f .3) ∙ f .0)
-      (f .1) refl) (value ! x (held-own E cs x (some (vint w64 (k * bytes))) (f .4))) tt) (from ! (stop !))
+      (tt, fits))) $
+      assigns ! (bin ! (field′ ! t 0 (held-other E cs x t (some (vint w64 (k * bytes))) (f .3) ∙ f .0) (f .1) refl)
+      (value ! x (held-own E cs x (some (vint w64 (k * bytes))) (f .4))) tt) (from ! (stop !))
       (sets ! p (f .5) (subst (λ (τ : Ty). T (hasTy τ (vptr b (k * bytes + o))) × WT (vptr b (k * bytes + o)))
       (sym (f .7)) (tt, tt))) $ rewrite ! 0 (λ (a : ℕ). frame H E (holding
       (holding cs x (some (vint w64 (k * bytes)))) p (some (vptr b a)))) (sym (slot-at o k)) refl $ s)

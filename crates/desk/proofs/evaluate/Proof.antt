@@ -27,8 +27,7 @@ L =
       val = LL.val D.the-type D′.the-laws;
       tells = LL.tells D.the-type D′.the-laws;
       lawful = λ 𝓤 H A W. LL.lawful D.the-type D′.the-laws 𝓤 H A W;
-      makes = λ 𝓤 H A W.
-          LL.makes D.the-type D′.the-plain 𝓤 H A;
+      makes = λ 𝓤 H A W. LL.makes D.the-type D′.the-plain 𝓤 H A;
     }
 
 pub evaluate-spec : {M : Type 1} → stated.statement M

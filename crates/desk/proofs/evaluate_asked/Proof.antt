@@ -37,8 +37,7 @@ L =
       val = LL.val D.the-type D′.the-laws;
       tells = LL.tells D.the-type D′.the-laws;
       lawful = λ 𝓤 H A W. LL.lawful D.the-type D′.the-laws 𝓤 H A W;
-      makes = λ 𝓤 H A W.
-          LL.makes D.the-type D′.the-plain 𝓤 H A;
+      makes = λ 𝓤 H A W. LL.makes D.the-type D′.the-plain 𝓤 H A;
     }
 
 -- an evaluation of the day that is asked for
@@ -48,8 +47,8 @@ askedTurn s a rows = evaluateTurn s (dayOf a) rows
 abbrev evaluation : ℕ → AskedDay → List ℤ → Call
 evaluation id a rows = evaluate id (dayOf a) rows
 
-asked-steps : (t : List Record) (id : ℕ) (a : AskedDay) (rows : List ℤ) → doneBy t
-    (askedTurn (slotOf t id) a rows) ≡ step (evaluation id a rows) t
+asked-steps : (t : List Record) (id : ℕ) (a : AskedDay) (rows : List ℤ)
+    → doneBy t (askedTurn (slotOf t id) a rows) ≡ step (evaluation id a rows) t
 asked-steps t id a rows = evaluate-steps t id (dayOf a) rows
 
 pub evaluate-asked-spec : {M : Type 1} → stated.statement M

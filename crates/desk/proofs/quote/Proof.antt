@@ -26,8 +26,7 @@ L =
       val = LL.val Q.the-type Q′.the-laws;
       tells = LL.tells Q.the-type Q′.the-laws;
       lawful = λ 𝓤 H A W. LL.lawful Q.the-type Q′.the-laws 𝓤 H A W;
-      makes = λ 𝓤 H A W.
-          LL.makes Q.the-type Q′.the-plain 𝓤 H A;
+      makes = λ 𝓤 H A W. LL.makes Q.the-type Q′.the-plain 𝓤 H A;
     }
 
 pub quote-spec : {M : Type 1} → stated.statement M
