@@ -24,7 +24,7 @@
 --    - exits: the answer and the table's last list are the paper's; then as `goes-rule`, over the call's parameters.
 --    - In: what each local holds, in the locals' order.
 --    - a step for each statement. Its type has `In` before and after the statement; its proof is a law of this file, or
---      `asks` for the rule. `walk` puts each step into the one before it.
+--      `consults` for the rule. `walk` puts each step into the one before it.
 -- 4. What a refusal means:
 --    - at a `refl` or `tt` of a step: the local holds nothing yet, or `function` has another type for it.
 --    - at `…-spec`: `function` is not the code. Compare it with `rt mir desk`.

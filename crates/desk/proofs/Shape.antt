@@ -61,7 +61,7 @@ use Rattle.paper.proofs.Answer.Laws as N′
 use Rattle.desk.proofs.Row.{R, table-ty, word, S, makes-slot, turn-ty, turn-val, turn-is, typed-turn, answer-val, makes-answer}
 use Rattle.desk.proofs.Frame.{Addresses, of-types, env-of, spare, frame, enters, value}
 use Rattle.desk.proofs.Calls.{Take, Put, ℓt, Lending, rref, wref, ref, machine, Owned, taking, putting-turn, answering, takes, turned, puts-turn, answers}
-use Rattle.desk.proofs.Asks.{Callee, asks}
+use Rattle.desk.proofs.Asks.{Callee, consults}
 use Rattle.desk.proofs.Steps.{promised}
 use Rattle.desk.proofs.take.Symbol.{name as #take}
 use Rattle.desk.proofs.put.Symbol.{name as #put}
@@ -272,7 +272,7 @@ module _ (P : Plain) where
                   → Sq W (In (some w) (some (turn-val turn)) ∷ Ours) (Runs rest))
                   → Sq W (In (some w) none ∷ Ours) (Runs (code-o #rule rest))
               let-o w is k =
-                  asks 𝓤 H A W rule-ended (rule-clauses F 𝓤) (to-rule w) tt fm known-rule (goes-rule w is) turn
+                  consults 𝓤 H A W rule-ended (rule-clauses F 𝓤) (to-rule w) tt fm known-rule (goes-rule w is) turn
                   (λ r e. id⊢ 𝓤 _) (typed-turn 𝓤 H A W) tt (and-then ! (value ! ℓs refl)
                   (and-then ! (value ! ℓq refl) (no-more !))) (λ u iu. turned W (λ z. In (some w) (some z)) turn u iu k)
 

@@ -53,7 +53,7 @@ use Rattle.desk.proofs.Row.{R, table-ty, S, makes-slot, turn-ty, turn-v
 use Rattle.desk.proofs.Frame.{Addresses, of-types, env-of, spare, frame, enters, value as local′, field as field′}
 use Rattle.desk.proofs.Calls.{Take, Put, ℓt, Lending, rref, wref, ref, machine, Owned, taking, putting-turn, answering, takes, turned, puts-turn, answers}
 use Rattle.desk.proofs.Known.{take-known, put-known}
-use Rattle.desk.proofs.Asks.{Callee, asks}
+use Rattle.desk.proofs.Asks.{Callee, consults}
 use Rattle.desk.proofs.Steps.{admit-steps, promised}
 use Rattle.desk.proofs.take.Symbol.{name as #take}
 use Rattle.desk.proofs.put.Symbol.{name as #put}
@@ -229,7 +229,7 @@ module _ {M : Type 1} (𝓤 : URA M) (H : Heap 𝓤) (A : Atoms 𝓤) (W : Given
             → Sq W (In (some v) (some u) (some (turn-val turn)) ∷ Ours) (Runs rest))
             → Sq W (In (some v) (some u) none ∷ Ours) (Runs (code-o rest))
         let-o v u is ie k =
-            asks 𝓤 H A W rule.ended (rule.clauses 𝓤 H A mem run) (to-rule v u) tt fm known-rule
+            consults 𝓤 H A W rule.ended (rule.clauses 𝓤 H A mem run) (to-rule v u) tt fm known-rule
             (goes-rule v u is ie) turn (λ r e. id⊢ 𝓤 _) (typed-turn 𝓤 H A W) tt
             (and-then ! (local′ ! ℓs refl) (and-then ! (local′ ! ℓe refl) (and-then ! (local′ ! ℓa refl) (no-more !))))
             (λ w iw. turned W (λ z. In (some v) (some u) (some z)) turn w iw k)

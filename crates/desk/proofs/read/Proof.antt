@@ -47,7 +47,7 @@ use Rattle.desk.proofs.Row.{R, shared-ty, word, S, makes-slot, typed-sl
 use Rattle.desk.proofs.Frame.{Addresses, of-types, env-of, frame, enters, value, leaves}
 use Rattle.desk.proofs.Calls.{Take, ℓt, ref, machine}
 use Rattle.desk.proofs.Known.{take-known}
-use Rattle.desk.proofs.Asks.{Callee, calls, says as learned, asks}
+use Rattle.desk.proofs.Asks.{Callee, calls, says as learned, consults}
 use Rattle.desk.proofs.Steps.{read-answers}
 use Rattle.desk.proofs.take as take
 use Rattle.desk.proofs.take.Symbol.{name as #take}
@@ -177,7 +177,7 @@ module _ {M : Type 1} (𝓤 : URA M) (H : Heap 𝓤) (A : Atoms 𝓤) (W : Given
       -- security::read(s)
       answer : (w : Val) → Is S slot (w ∷ []) → Sq W (In (some w) ∷ Ours) (Runs code-read)
       answer w is =
-          asks 𝓤 H A W rule.ended (rule.clauses 𝓤 H A mem run) (to-rule w) tt fm known-rule (goes-rule w is) said
+          consults 𝓤 H A W rule.ended (rule.clauses 𝓤 H A mem run) (to-rule w) tt fm known-rule (goes-rule w is) said
           (λ r e. id⊢ 𝓤 _) (typed-answer 𝓤 H A W) tt (and-then ! (value ! ℓs refl) (no-more !)) (λ u iu. leaves ! refl $
           by ! (exits u iu))
 

@@ -59,7 +59,7 @@ use Rattle.security.proofs.Slot.Laws as U′
 use Rattle.desk.proofs.Row.{R, shared-ty, word, bytes, vals, val, tells, copied, typed, id-fits, S, makes-slot, typed-slot, slot-val, slot-is}
 use Rattle.desk.proofs.Frame.{Addresses, of-types, env-of, Locals, spare, frame, enters, value, field, whole, sets, clears, leaves, leaves-within}
 use Rattle.desk.proofs.Slots.{finding, finds, address}
-use Rattle.desk.proofs.Asks.{Callee, asks}
+use Rattle.desk.proofs.Asks.{Callee, consults}
 use Rattle.desk.proofs.Places.{Passed, passed-none, passed-more, absentOf, slot-here, slot-absent}
 use Rattle.security.proofs.absent as absent
 use Rattle.security.proofs.absent.Symbol as absent-def
@@ -348,7 +348,7 @@ module _ {M : Type 1} (𝓤 : URA M) (H : Heap 𝓤) (A : Atoms 𝓤) (W : Given
       -- security::absent(i), past the end
       returns-absent : T (not (ltb (i .0) n)) → Sq W Tested (Runs code-absent)
       returns-absent over =
-          asks 𝓤 H A W absent.ended (absent.clauses 𝓤 H A mem run) (to-absent (i .0)) tt
+          consults 𝓤 H A W absent.ended (absent.clauses 𝓤 H A mem run) (to-absent (i .0)) tt
           (fmOf 𝓤 H (W .laws) 𝓣) known-absent (goes-absent (i .0) (fits i)) (absentOf (i .0)) (λ r e. id⊢ 𝓤 _)
           (typed-slot 𝓤 H A W) tt (and-then ! (value ! ℓi refl) (no-more !)) (λ v is. leaves ! refl $
           by ! (exits (absentOf (i .0)) v at-end is))
