@@ -2,7 +2,7 @@
 
 use std::fmt;
 
-use crate::words::words;
+use crate::words::{words, EVENING_LINE_MAX};
 
 /// The first place where two files of answers part.
 #[derive(Debug, PartialEq, Eq)]
@@ -14,12 +14,13 @@ pub struct Difference {
     pub second: Option<String>,
 }
 
-/// The calls of a script with their line numbers: blank lines have no answer.
+/// The calls of a script with their line numbers: blank lines have no answer,
+/// unless they are too long.
 fn calls(script: &[u8]) -> impl Iterator<Item = (usize, &[u8])> {
     lines(script)
         .enumerate()
         .map(|(index, line)| (index + 1, line))
-        .filter(|(_, line)| words(line).next().is_some())
+        .filter(|(_, line)| line.len() > EVENING_LINE_MAX || words(line).next().is_some())
 }
 
 /// Lines without their ends; the last may lack its end.

@@ -5,6 +5,13 @@ use std::io::{self, BufRead, Write};
 
 use crate::interest::Pair;
 
+/// The most bytes that an evening's line may have, its line feed aside: a longer
+/// one is no call.
+pub const EVENING_LINE_MAX: usize = 65_535;
+
+/// A gateway's line may have any number of bytes.
+pub const GATEWAY_LINE_MAX: usize = usize::MAX;
+
 /// Whether a byte parts words; a carriage return does too.
 fn is_blank(byte: u8) -> bool {
     matches!(byte, b' ' | b'\t' | b'\r' | b'\n')
@@ -101,14 +108,18 @@ pub enum Heard<A> {
     Answer(A),
 }
 
-/// Hears one line: its first word and the others as `read` takes them go to
-/// `answer`, which gives none where they are no call.
+/// Hears one line of at most so many bytes: its first word and the others as
+/// `read` takes them go to `answer`, which gives none where they are no call.
 pub fn hear<W, A>(
     line: &[u8],
+    bytes_max: usize,
     heard: &mut Vec<W>,
     read: impl Fn(&[u8]) -> Option<W>,
     answer: impl FnOnce(&[u8], &[W]) -> Option<A>,
 ) -> Heard<A> {
+    if line.strip_suffix(b"\n").unwrap_or(line).len() > bytes_max {
+        return Heard::Bad;
+    }
     let mut words = words(line);
     let verb = match words.next() {
         Some(verb) => verb,
@@ -123,6 +134,7 @@ pub fn hear<W, A>(
 pub fn serve<W, A: Display>(
     mut input: impl BufRead,
     mut output: impl Write,
+    bytes_max: usize,
     read: impl Fn(&[u8]) -> Option<W>,
     mut answer: impl FnMut(&[u8], &[W]) -> Option<A>,
 ) -> io::Result<()> {
@@ -131,7 +143,7 @@ pub fn serve<W, A: Display>(
     let mut count = 0_u64;
     while input.read_until(b'\n', &mut line)? > 0 {
         count += 1;
-        match hear(&line, &mut heard, &read, &mut answer) {
+        match hear(&line, bytes_max, &mut heard, &read, &mut answer) {
             Heard::Blank => {}
             Heard::Bad => writeln!(output, "bad {count}")?,
             Heard::Answer(said) => writeln!(output, "{said}")?,
@@ -153,6 +165,20 @@ mod tests {
         assert_eq!(number(b"-00000000000000000000000000012"), Some(-12));
         assert_eq!(number(b"9223372036854775807"), Some(i64::MAX));
         assert_eq!(number(b"-9223372036854775808"), Some(i64::MIN));
+    }
+
+    #[test]
+    fn a_line_past_its_most_bytes_is_no_call() {
+        let said = |bytes: usize, end: &[u8]| {
+            let line = [vec![b' '; bytes].as_slice(), end].concat();
+            hear(&line, EVENING_LINE_MAX, &mut Vec::new(), number, |_, _| {
+                Some(())
+            })
+        };
+        assert_eq!(said(EVENING_LINE_MAX, b"\n"), Heard::Blank);
+        assert_eq!(said(EVENING_LINE_MAX + 1, b""), Heard::Bad);
+        assert_eq!(said(EVENING_LINE_MAX - 1, b"x\n"), Heard::Answer(()));
+        assert_eq!(said(EVENING_LINE_MAX, b"x\n"), Heard::Bad);
     }
 
     #[test]

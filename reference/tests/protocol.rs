@@ -248,17 +248,17 @@ fn pairs_that_are_no_pairs_are_bad() {
 }
 
 #[test]
-fn rows_of_any_count_are_heard() {
-    let many = format!(
-        "{ADMIT}\nevaluate 7 1 0 0 0 0 0 0 0 0 0 0 0{}\n",
-        " 1".repeat(100_000)
+fn rows_of_any_count_are_heard_up_to_the_most_bytes_of_a_line() {
+    let rows = |count: usize| {
+        let rows = " 1".repeat(count);
+        format!("evaluate 7 1 0 0 0 0 0 0 0 0 0 0 0{rows}")
+    };
+    assert_eq!(said(format!("{ADMIT}\n{}\n", rows(32_000))), ["0", "6"]);
+    assert_eq!(said(format!("{} x\n", rows(32_000))), ["bad 1"]);
+    assert_eq!(
+        said(format!("{ADMIT}\n{}\nread 8\n", rows(40_000))),
+        ["0", "bad 2", "1"]
     );
-    assert_eq!(said(many), ["0", "6"]);
-    let flawed = format!(
-        "evaluate 7 1 0 0 0 0 0 0 0 0 0 0 0{} x\n",
-        " 1".repeat(100_000)
-    );
-    assert_eq!(said(flawed), ["bad 1"]);
 }
 
 #[test]

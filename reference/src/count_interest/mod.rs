@@ -16,7 +16,7 @@ use crate::kept::Kept;
 use crate::protocol::perform;
 use crate::record::Record;
 use crate::slices::split_first;
-use crate::words::{hear, number_or_pair, words, Heard, Word};
+use crate::words::{hear, number_or_pair, words, Heard, Word, EVENING_LINE_MAX};
 
 use days::SeenDay;
 use keys::SeenKey;
@@ -59,9 +59,13 @@ struct Reader {
 impl Reader {
     fn read(&mut self, line: &[u8], heard: &mut Vec<Word>) {
         let (table, kept) = (&mut self.table, &mut self.kept);
-        let said = hear(line, heard, number_or_pair, |verb, words| {
-            Some(perform(table, kept, verb, words)?.number())
-        });
+        let said = hear(
+            line,
+            EVENING_LINE_MAX,
+            heard,
+            number_or_pair,
+            |verb, words| Some(perform(table, kept, verb, words)?.number()),
+        );
         let verb = words(line).next().unwrap_or_default();
         match said {
             Heard::Answer(number) if verb == b"interest" => self.read_interest(heard, number),

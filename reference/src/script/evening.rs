@@ -10,7 +10,7 @@ use crate::protocol::perform;
 use crate::random::Random;
 use crate::record::Record;
 use crate::units::{Range, ID, MOVE_COUNT};
-use crate::words::{hear, number_or_pair, Word};
+use crate::words::{hear, number_or_pair, Word, EVENING_LINE_MAX};
 
 use super::edges::{edge, neighbours, unsettled_count, Ends};
 use super::{day, edges, quote, share, spelling};
@@ -131,9 +131,14 @@ impl Author {
         self.text.push(b'\n');
         self.written += 1;
         let (table, kept) = (&mut self.table, &mut self.kept);
-        hear(line, &mut self.heard, number_or_pair, |verb, words| {
-            perform(table, kept, verb, words)
-        });
+        let heard = &mut self.heard;
+        hear(
+            line,
+            EVENING_LINE_MAX,
+            heard,
+            number_or_pair,
+            |verb, words| perform(table, kept, verb, words),
+        );
         self.admitted = self.table.partition_point(|record| record.id != 0);
     }
 
@@ -505,18 +510,30 @@ impl Author {
         self.say_line(&line);
     }
 
-    /// An evaluation with far too many figures, or a call with far too many
-    /// blanks.
+    /// An evaluation with far too many figures, or a call or nothing with far too
+    /// many blanks, up to the most bytes of a line and past them.
     fn long_line(&mut self) {
         let record = self.record();
         let mut numbers = day::bare(record.id, record.last_day() + 1);
-        if self.random.chance(50) {
-            numbers.resize(130 + self.random.below(2_900), 1);
-            self.say("evaluate", &numbers);
-        } else {
-            let mut line = vec![b' '; 1 + self.random.below(9_000)];
-            line.extend(spelling::spelled(&mut self.random, "evaluate", &numbers));
-            self.say_line(&line);
+        match self.random.below(4) {
+            0 | 1 => {
+                numbers.resize(130 + self.random.below(2_900), 1);
+                self.say("evaluate", &numbers);
+            }
+            2 => {
+                let mut line = vec![b' '; 1 + self.random.below(9_000)];
+                line.extend(spelling::spelled(&mut self.random, "evaluate", &numbers));
+                self.say_line(&line);
+            }
+            _ => {
+                let mut line = Vec::new();
+                if self.random.chance(80) {
+                    line = spelling::spelled(&mut self.random, "evaluate", &numbers);
+                }
+                let past = self.random.pick(&[0, 1, 2, 3, 2 + EVENING_LINE_MAX]);
+                line.resize(EVENING_LINE_MAX - 1 + past, b' ');
+                self.say_line(&line);
+            }
         }
     }
 }
