@@ -213,7 +213,7 @@ fn record_of(slot: usize) -> Record {
 }
 
 fn table() -> [Record; 512] {
-    let mut t = serve::fresh();
+    let mut t = text_serve::fresh();
     let mut slot: usize = 0;
     while slot < 28 {
         let r = record_of(slot);
@@ -224,5 +224,5 @@ fn table() -> [Record; 512] {
 }
 
 fn main() {
-    sitting::on(table());
+    text_serve::on(table());
 }

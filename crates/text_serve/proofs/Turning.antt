@@ -1,0 +1,110 @@
+-- The two halves of a turn and the call between them are one turn. Assumes nothing.
+use mathlib.Core.Path.{_≡_, refl, sym, ap, subst, _∙_}
+use mathlib.Core.Logic.{_⊎_, inl, inr}
+use mathlib.Core.List.{List, [], _∷_, _++_}
+use Prim.Native.Nat.{ℕ, _≤_}
+use native.Mathlib.Omega.{arith}
+use lib.IntN.{ℤ}
+use lib.ListN.{take, drop}
+use Rattle.paper.specs.declared.Record.{Record}
+use Rattle.paper.specs.declared.Answer.{Answer}
+use Rattle.paper.specs.Desk.{Call, read, step}
+use Rattle.desk.specs.Promises.{Promised}
+use Rattle.desk.proofs.Steps.{read-leaves}
+use Rattle.text_protocol.specs.Bytes.{lineFeed}
+use Rattle.text_protocol.specs.Line.{meaning}
+use Rattle.text_protocol.specs.Calls.{Deed, nothing, noCall, call, interest, deedOf}
+use Rattle.text_protocol.specs.Evening.{Evening, tableAfter, numberAfter, after, answer}
+use Rattle.text_out.specs.Wrote.{Wrote}
+use Rattle.text_call.specs.Requests.{requestCall}
+use Rattle.text_input.specs.declared.Input.{Input}
+use Rattle.text_input.specs.Input.{unread, Stands, Next}
+use Rattle.text_turn.specs.declared.State.{State}
+use Rattle.text_turn.specs.declared.Prepared.{Prepared}
+use Rattle.text_turn.specs.Turn.{callIn, lineText, Prepares, Tells}
+use Rattle.text_serve.specs.Serve.{eveningOf, Turns}
+
+-- ---- the input, where only fewer lines are left to hear
+
+module _ (b : List ℕ) (i k : Input) (at : k .at ≡ i .at) (end : k .end ≡ i .end) (len : k .len ≡ i .len) where
+  same-unread : unread b k ≡ unread b i
+  unfolding unread
+  same-unread = rw (at, len)
+
+  stands-too : Stands b i → Stands b k
+  stands-too s =
+      record {
+        low = omega (arith, s .low, at, end);
+        high = omega (arith, s .high, end, len);
+        in-b = omega (arith, s .in-b, len);
+        long = s .long;
+        is = rw (same-unread) (omega (arith, s .is, at, end));
+      }
+
+  -- the next line is the same one
+  pub next-too : (b₀ : List ℕ) (j : Input) (line : List ℕ) → k .left ≤ i .left → Next b₀ j b i line → Next b₀ j b k line
+  next-too b₀ j line left n =
+      record {
+        got = n .got;
+        unbroken = n .unbroken;
+        are = are (n .are);
+        stands = stands-too (n .stands);
+        fewer = omega (arith, left, n .fewer);
+      }
+    where
+      are : (unread b₀ j ++ n .got ≡ line ++ lineFeed ∷ unread b i) ⊎ ((unread b₀ j ++ n .got ≡ line) × (i .left ≡ 0))
+          → (unread b₀ j ++ n .got ≡ line ++ lineFeed ∷ unread b k) ⊎ ((unread b₀ j ++ n .got ≡ line) × (k .left ≡ 0))
+      are (inl e) = inl (e ∙ ap (λ (u : List ℕ). line ++ lineFeed ∷ u) (sym same-unread))
+      are (inr e) = inr (e .0, omega (arith, left, e .1))
+
+-- ---- the table: a line that is no call of the desk is a read, which leaves it
+
+table-of : (d : Deed) (t : List Record) → tableAfter d t ≡ step (callIn d) t .table
+unfolding tableAfter callIn
+table-of nothing t = sym (read-leaves t 0)
+table-of noCall t = sym (read-leaves t 0)
+table-of (call c) t = refl
+table-of (interest i keys) t = sym (read-leaves t 0)
+
+-- ---- the turn
+
+module _ {b : List ℕ} {s : State} {b' : List ℕ} {p : Prepared} {xs rows : List ℤ} {t t' : List Record} {a : Answer} {o o' : List ℕ} {r : State}
+    (heard : Prepares b s b' p xs) (are : rows ≡ drop 13 (take (p .count) xs)) (done : Promised (requestCall (p .request) rows) t a t')
+    (told : Tells o p a o' r) where
+  abbrev deed : Deed
+  deed = deedOf (s .kept) (meaning (heard .line))
+
+  same-call : requestCall (p .request) rows ≡ callIn deed
+  same-call = ap (requestCall (p .request)) are ∙ heard .asks
+
+  performed : Promised (callIn deed) t a t'
+  performed = subst (λ (c : Call). Promised c t a t') same-call done
+
+  evening-is : eveningOf r t' ≡ after (heard .line) (eveningOf s t)
+  unfolding after
+  evening-is =
+      let number : r .number ≡ numberAfter (s .number) = told .number ∙ ap numberAfter (heard .number) in
+      let kept = told .kept ∙ heard .kept in
+      let table : t' ≡ tableAfter deed t = performed .table ∙ sym (table-of deed t) in
+      λ i. record { number = number i; kept = kept i; table = table i }
+
+  text-is : lineText (p .kind) (p .number) (p .interest) a ≡ answer (heard .line) (eveningOf s t)
+  unfolding answer
+  text-is = ap (λ (n : ℕ). lineText (p .kind) n (p .interest) a) (heard .number) ∙ heard .says a t (performed .answer)
+
+  wrote : Wrote o (s .waiting) o' (told .end) (answer (heard .line) (eveningOf s t)) 1200
+  wrote =
+      subst (λ (n : ℕ). Wrote o n o' (told .end) (answer (heard .line) (eveningOf s t)) 1200) (heard .waiting)
+      (subst (λ (u : List ℕ). Wrote o (p .waiting) o' (told .end) u 1200) text-is (told .wrote))
+
+  -- A LINE THAT IS HEARD, PERFORMED AND ANSWERED IS ONE TURN
+  pub turned : Turns b s t o b' r t' o'
+  turned =
+      record {
+        line = heard .line;
+        next = next-too b' (p .input) (r .input) (told .at) (told .ends) (told .len) b (s .input) (heard .line) (told .left) (heard .next);
+        evening = evening-is;
+        answers = record { end = told .end; wrote = wrote; waits = told .waits };
+        room = told .room;
+        prompt = told .prompt;
+      }

@@ -1,0 +1,93 @@
+// A turn of the evening on a lent table, and every turn: a line of standard input is heard, performed on the table and answered.
+ghost use mathlib.Core.Path.{_≡_};
+ghost use Prim.Native.Nat.{_+_, _≤_};
+ghost use lib.ListN.{length, take, drop, replicate};
+ghost use Rattle.paper.specs.Desk.{blank};
+ghost use Rattle.text_input.specs.Input.{Stands};
+ghost use Rattle.text_turn.specs.Turn.{Prepares};
+ghost use Rattle.text_serve.specs.Serve.{Turns, Serves};
+use libc::STDERR_FILENO;
+use paper::Record;
+use text_perform::perform;
+use text_turn::Prepared;
+use text_turn::State;
+use text_turn::prepare;
+use text_turn::rows_of;
+use text_turn::start;
+use text_turn::tell;
+
+// Hears the next line, with the bytes and the numbers of it in arrays, whose lengths their types say.
+fn hear_in(buf: &mut [u8; 65536], xs: &mut [i64; 126], s: State) -> Prepared
+    requires { ⌜ Stands (now buf) (s .input) ⌝ }
+    ensures { λ r. ⌜ Prepares (now (buf .entry)) s (now (buf .exit)) r (now (xs .exit)) ⌝ }
+{
+    prepare(buf, xs, s)
+}
+
+// The row figures of a line of so many numbers.
+fn rows_in(xs: &[i64; 126], count: usize) -> &[i64]
+    ensures { λ r. ⌜ now r ≡ drop 13 (take count (now (xs .entry))) ⌝ }
+{
+    rows_of(xs, count)
+}
+
+// One line: heard, performed on the table, answered. The numbers of the line have a lifetime of their own.
+pub fn step<'a, 'b>(
+    t: &'a mut [Record],
+    buf: &'a mut [u8; 65536],
+    xs: &'b mut [i64; 126],
+    out: &'a mut [u8; 65536],
+    s: State,
+) -> State
+    requires { ⌜ (Stands (now buf) (s .input)) × (s .waiting + 1200 ≤ 65536) ⌝ }
+    ensures { λ r. ⌜ Turns (now (buf .entry)) s (now (t .entry)) (now (out .entry)) (now (buf .exit)) r (now (t .exit)) (now (out .exit)) ⌝ }
+{
+    let p = hear_in(buf, xs, s);
+    let a = perform(t, p.request, rows_in(xs, p.count));
+    tell(out, p, a)
+}
+
+// No number.
+fn no_numbers() -> [i64; 126]
+    ensures { λ r. ⌜ 126 ≡ length r ⌝ }
+{
+    [0; 126]
+}
+
+// Every line of standard input. The state at the end says whether every read and write went well.
+pub fn serve(t: &mut [Record]) -> State
+    ensures { λ r. ⌜ Serves (now (t .entry)) r (now (t .exit)) ⌝ }
+{
+    let mut buf = io::large_buffer();
+    let mut xs = no_numbers();
+    let mut out = io::large_buffer();
+    let mut s = start();
+    while s.input.left > 0 {
+        s = step(t, &mut buf, &mut xs, &mut out, s);
+    }
+    s
+}
+
+// "A fresh table has every slot empty."
+pub fn fresh() -> [Record; 512]
+    ensures { λ r. ⌜ r ≡ replicate 512 blank ⌝ }
+{
+    let e = security::blank();
+    [e; 512]
+}
+
+// Says on standard error where a read or a write failed.
+fn report(s: State) {
+    let input = s.input;
+    if s.ok & input.ok {
+        return;
+    }
+    io::write_all(STDERR_FILENO, b"evening: could not read or write\n");
+}
+
+// A table by value, lent once to every line of standard input.
+pub fn on(t: [Record; 512]) {
+    let mut u = t;
+    let s = serve(&mut u);
+    report(s);
+}
