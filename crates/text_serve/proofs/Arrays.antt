@@ -56,10 +56,12 @@ Lent X n κ b o γ x = MutRef (named n) κ X .own (to b o γ x) (vptr b o ∷ []
 
 -- their machine types, with the types of their fields by name
 abbrev pub state-ty : Ty
-state-ty = tyStruct (G.struct .name) (tcons I′.mir (tcons (tyInt w64) (tcons K′.mir (tcons (tyInt w64) (tcons tyBool tnil)))))
+state-ty = tyStruct (G.struct .name) (tcons I′.mir (tcons (tyInt w64) (tcons K′.mir (tcons (tyInt w64) (tcons tyBool
+    tnil)))))
 
 abbrev pub heard-ty : Ty
-heard-ty = tyStruct (P.struct .name) (tcons I′.mir (tcons (tyInt w64) (tcons K′.mir (tcons (tyInt w64) (tcons tyBool (tcons (tyInt w64) (tcons (tyInt w64)
+heard-ty = tyStruct (P.struct .name) (tcons I′.mir (tcons (tyInt w64) (tcons K′.mir (tcons (tyInt w64) (tcons tyBool
+    (tcons (tyInt w64) (tcons (tyInt w64)
     (tcons R′.mir (tcons A′.mir tnil)))))))))
 
 abbrev pub state-val : State → Val

@@ -1,4 +1,5 @@
--- Turn after turn: the lines of the turns, one after the other, are the lines of all that `read` delivered. Assumes nothing.
+-- Turn after turn: the lines of the turns, one after the other, are the lines of all that `read` delivered. Assumes
+-- nothing.
 use mathlib.Core.Path.{_≡_, refl, sym, ap, _∙_}
 use mathlib.Core.Logic.{_⊎_, inl, inr}
 use mathlib.Core.List.{List, [], _∷_, _++_, append-assoc}
@@ -16,7 +17,8 @@ use Rattle.text_serve.specs.Serve.{eveningOf, Turns, Each, joined, Cut, 
 joined-more : (ls : List (List ℕ)) (u g : List ℕ) → joined ls u ++ g ≡ joined ls (u ++ g)
 unfolding joined
 joined-more [] u g = refl
-joined-more (l ∷ ls) u g = append-assoc l (lineFeed ∷ joined ls u) g ∙ ap (λ (z : List ℕ). l ++ lineFeed ∷ z) (joined-more ls u g)
+joined-more (l ∷ ls) u g = append-assoc l (lineFeed ∷ joined ls u) g ∙ ap (λ (z : List ℕ). l ++ lineFeed ∷ z)
+    (joined-more ls u g)
 
 joined-one : (ls : List (List ℕ)) (l u : List ℕ) → joined (ls ++ l ∷ []) u ≡ joined ls (l ++ lineFeed ∷ u)
 unfolding joined
@@ -33,7 +35,8 @@ unfolding Each
 each-one [] l e h = (h, tt)
 each-one (k ∷ ls) l e h = (e .0, each-one ls l (e .1) h)
 
--- where the loop stands, from the table t on: the bytes of the buffer b that are not used stand behind the lines, or the last line has been heard
+-- where the loop stands, from the table t on: the bytes of the buffer b that are not used stand behind the lines, or
+-- the last line has been heard
 pub record Sofar (t : List Record) (b : List ℕ) (s : State) (t' : List Record) : Type 0 where
   pub got : List ℕ
   pub lines : List (List ℕ)
@@ -58,7 +61,8 @@ none-yet t b long =
     }
 
 -- ONE TURN MORE
-module _ {t : List Record} {b : List ℕ} {s : State} {u : List Record} {o b' : List ℕ} {r : State} {u' : List Record} {o' : List ℕ}
+module _ {t : List Record} {b : List ℕ} {s : State} {u : List Record} {o b' : List ℕ} {r : State} {u' : List Record} {o'
+    : List ℕ}
     (so : Sofar t b s u) (more : 0 < s .input .left) (turn : Turns b s u o b' r u' o') where
   -- before the turn the input has not ended
   going : (so .got ≡ joined (so .lines) (unread b (s .input))) ⊎ ((s .input .left ≡ 0) × Cut (so .got) (so .lines))
@@ -76,12 +80,14 @@ module _ {t : List Record} {b : List ℕ} {s : State} {u : List Record} {o b' : 
   each = each-one (so .lines) (turn .line) (so .unbroken) (turn .next .unbroken)
 
   delivered : all-got ≡ joined (so .lines) (unread b (s .input) ++ turn .next .got)
-  delivered = ap (λ (z : List ℕ). z ++ turn .next .got) (going (so .are)) ∙ joined-more (so .lines) (unread b (s .input)) (turn .next .got)
+  delivered = ap (λ (z : List ℕ). z ++ turn .next .got) (going (so .are)) ∙ joined-more (so .lines) (unread b (s
+      .input)) (turn .next .got)
 
   are-now : (unread b (s .input) ++ turn .next .got ≡ turn .line ++ lineFeed ∷ unread b' (r .input))
       ⊎ ((unread b (s .input) ++ turn .next .got ≡ turn .line) × (r .input .left ≡ 0))
       → (all-got ≡ joined all (unread b' (r .input))) ⊎ ((r .input .left ≡ 0) × Cut all-got all)
-  are-now (inl e) = inl (delivered ∙ ap (joined (so .lines)) e ∙ sym (joined-one (so .lines) (turn .line) (unread b' (r .input))))
+  are-now (inl e) = inl (delivered ∙ ap (joined (so .lines)) e ∙ sym (joined-one (so .lines) (turn .line) (unread b' (r
+      .input))))
   are-now (inr e) = inr (
     e .1,
     record {
@@ -99,7 +105,8 @@ module _ {t : List Record} {b : List ℕ} {s : State} {u : List Record} {o b' : 
         got = all-got;
         lines = all;
         unbroken = each;
-        evening = turn .evening ∙ ap (after (turn .line)) (so .evening) ∙ sym (after-one (so .lines) (turn .line) (eveningOf startState t));
+        evening = turn .evening ∙ ap (after (turn .line)) (so .evening) ∙ sym (after-one (so .lines) (turn .line)
+            (eveningOf startState t));
         stands = turn .next .stands;
         room = turn .room;
         are = are-now (turn .next .are);
@@ -109,11 +116,13 @@ module _ {t : List Record} {b : List ℕ} {s : State} {u : List Record} {o b' : 
   fewer = omega (arith, more, turn .next .fewer)
 
 -- AT THE END
-module _ {t : List Record} {b : List ℕ} {s : State} {u : List Record} (so : Sofar t b s u) (over : s .input .left ≡ 0) where
-  cut : (so .got ≡ joined (so .lines) (unread b (s .input))) ⊎ ((s .input .left ≡ 0) × Cut (so .got) (so .lines)) → Cut (so .got) (so .lines)
-  cut (inl e) =
-      record { whole = so .lines; behind = unread b (s .input); are = e; unbroken = so .unbroken; heard = inr refl }
-  cut (inr e) = e .1
+module _ {t : List Record} {b : List ℕ} {s : State} {u : List Record} (so : Sofar t b s u) (over : s .input .left ≡ 0)
+  where
+    cut : (so .got ≡ joined (so .lines) (unread b (s .input))) ⊎ ((s .input .left ≡ 0) × Cut (so .got) (so .lines)) → Cut
+        (so .got) (so .lines)
+    cut (inl e) =
+        record { whole = so .lines; behind = unread b (s .input); are = e; unbroken = so .unbroken; heard = inr refl }
+    cut (inr e) = e .1
 
-  pub served : Serves t s u
-  served = record { got = so .got; lines = so .lines; cut = cut (so .are); evening = so .evening; over = over }
+    pub served : Serves t s u
+    served = record { got = so .got; lines = so .lines; cut = cut (so .are); evening = so .evening; over = over }

@@ -1,6 +1,7 @@
--- The calls `rows_in` and `perform` as steps of the calculus, for any caller whose context is Γ: the numbers are lent as `&` for α, the row figures are a part
--- of them, and the table is given up. After the second call the caller has the table's last list, and knows that the list and the answer are promised.
--- Assumes `Given`, and that the table's entries meet the contracts.
+-- The calls `rows_in` and `perform` as steps of the calculus, for any caller whose context is Γ: the numbers are lent
+-- as `&` for α, the row figures are a part of them, and the table is given up. After the second call the caller has the
+-- table's last list, and knows that the list and the answer are promised. Assumes `Given`, and that the table's entries
+-- meet the contracts.
 use mathlib.Core.Path.{_≡_, refl, subst}
 use Prim.Native.Nat.{ℕ, _<_, _^_}
 use mathlib.Core.List.{List, [], _∷_}
@@ -71,12 +72,29 @@ module _ {M : Type 1} (𝓤 : URA M) (H : Heap 𝓤) (A : Atoms 𝓤) (mem′ : 
   -- ---- `rows_in`
   module _ (W : Given 𝓤 H A) (α : Lft) (bx ox : ℕ) (δ : GName) (xs : List ℤ) (count : ℕ) (fits : count < 2 ^ 64) where
     abbrev to-rows : Rows .Ghost
-    to-rows = (((α, tt), (fullShare, tt), tt, (to bx ox δ xs, (count, tt)), (vptr bx ox ∷ [], (vint w64 count ∷ [], tt))), tt)
+    to-rows = (
+      (
+        (α, tt),
+        (fullShare, tt),
+        tt,
+        (to bx ox δ xs, (count, tt)),
+        (
+          vptr bx ox ∷ [],
+          (
+            vint w64 count ∷ [],
+            tt,
+          ),
+        ),
+      ),
+      tt,
+    )
 
     goes-rows : ent 𝓤 (sep 𝓤 (sem 𝓤 H A (Shared α bx ox δ xs)) (A .lft α fullShare)) (Rows .pre to-rows)
     goes-rows =
-        qed W (‵ (Shared α bx ox δ xs) ∷ ‵ (flft α fullShare) ∷ []) ∵ nothing ! $ move ! (2 ∷ 0 ∷ []) $ join ! $ move ! (1 ∷ 0 ∷ []) $
-        nothing ! $ owned ! usize (Is usize) (uint-makes 𝓤 H A W w64) count _ (refl, fits) $ fjoin ! $ move ! (1 ∷ 0 ∷ []) $ fjoin ! $
+        qed W (‵ (Shared α bx ox δ xs) ∷ ‵ (flft α fullShare) ∷ []) ∵ nothing ! $ move ! (2 ∷ 0 ∷ []) $ join ! $ move !
+        (1 ∷ 0 ∷ []) $
+        nothing ! $ owned ! usize (Is usize) (uint-makes 𝓤 H A W w64) count _ (refl, fits) $ fjoin ! $ move ! (1 ∷ 0 ∷
+        []) $ fjoin ! $
         move ! (1 ∷ 0 ∷ []) $ join ! $ frame ! $ done !
 
     abbrev Cut : RefT (List ℤ) → SProp 𝓤
@@ -84,26 +102,33 @@ module _ {M : Type 1} (𝓤 : URA M) (H : Heap 𝓤) (A : Atoms 𝓤) (mem′ : 
 
     cut-of : (f : RefT (List ℤ)) → ent 𝓤 (Cut f) (fact 𝓤 (f .now ≡ from 13 (take count xs)))
     cut-of f =
-        exE 𝓤 _ (λ ws. snd∗ 𝓤 (sem 𝓤 H A (lasts rows.ended (α, tt) (to bx ox δ xs, (count, tt)) ws)) (fact 𝓤 (f .now ≡ from 13 (take count xs))))
+        exE 𝓤 _ (λ ws. snd∗ 𝓤 (sem 𝓤 H A (lasts rows.ended (α, tt) (to bx ox δ xs, (count, tt)) ws)) (fact 𝓤 (f .now ≡
+        from 13 (take count xs))))
 
-    module _ {Γ : List (Item 𝓤)} {E : Env 𝓤 H} {C : Calls 𝓤 H} {Λ : Loops 𝓤 H} {post : Post 𝓤 H} {args : List Operand} {at : Place} {rest : Code} where
+    module _ {Γ : List (Item 𝓤)} {E : Env 𝓤 H} {C : Calls 𝓤 H} {Λ : Loops 𝓤 H} {post : Post 𝓤 H} {args : List Operand}
+        {at : Place} {rest : Code} where
       pub cuts : FmC 𝓤 H (W .laws) C → Triple 𝓤 (C rows-def.name) Rows
           → Opds (Go {0}) W (raw (Rows .pre to-rows) ∷ Γ) E args (vptr bx ox ∷ vint w64 count ∷ [])
           → ((f : RefT (List ℤ)) (w : Val) → f .now ≡ from 13 (take count xs) → Is (ShrSlice (named 0) α i64) f (w ∷ [])
           → Sq W (‵ (Figures 0 α f w) ∷ ‵ (flft α fullShare) ∷ Γ) (lands C Λ E at w rest post))
-          → Sq W (‵ (Shared α bx ox δ xs) ∷ ‵ (flft α fullShare) ∷ Γ) (runs C Λ E (seq (call rows-def.name args at) rest) post)
+          → Sq W (‵ (Shared α bx ox δ xs) ∷ ‵ (flft α fullShare) ∷ Γ) (runs C Λ E (seq (call rows-def.name args at)
+          rest) post)
       cuts fm known os k =
           use2 W (raw (Rows .pre to-rows)) goes-rows $ calls-at ! fm Rows known to-rows os (λ w.
-          use1 W (later (some (λ (f : RefT (List ℤ)). ((‵ (flft α fullShare) ⊛ ‵ ftrue) ⊛ ‵ (Figures 0 α f w)) ⊛ raw (Cut f)))) (id⊢ 𝓤 _) $ await ! tt $
+          use1 W (later (some (λ (f : RefT (List ℤ)). ((‵ (flft α fullShare) ⊛ ‵ ftrue) ⊛ ‵ (Figures 0 α f w)) ⊛ raw
+          (Cut f)))) (id⊢ 𝓤 _) $ await ! tt $
           pick ! (λ f. split ! $ move ! (1 ∷ []) $ use1 W (raw (fact 𝓤 (f .now ≡ from 13 (take count xs)))) (cut-of f) $
           heard ! (f .now ≡ from 13 (take count xs)) (λ e. split ! $ move ! (1 ∷ []) $
-          use1 W (‵ (Figures 0 α f w) ⊛ ‵ (Figures 0 α f w)) (shr-slice-copy 𝓤 H A W (named 0) α i64 .twice f (w ∷ [])) $ split ! $
-          facts ! (ShrSlice (named 0) α i64) (Is (ShrSlice (named 0) α i64)) (shows 𝓤 H A (ShrSlice (named 0) α i64)) f (w ∷ []) (λ is.
+          use1 W (‵ (Figures 0 α f w) ⊛ ‵ (Figures 0 α f w)) (shr-slice-copy 𝓤 H A W (named 0) α i64 .twice f (w ∷ []))
+          $ split ! $
+          facts ! (ShrSlice (named 0) α i64) (Is (ShrSlice (named 0) α i64)) (shows 𝓤 H A (ShrSlice (named 0) α i64)) f
+          (w ∷ []) (λ is.
           -- [the figures; the token; …]
           move ! (1 ∷ []) $ split ! $ move ! (1 ∷ []) $ drop ! $ move ! (1 ∷ 0 ∷ []) $ k f w e is))))
 
   -- ---- `perform`
-  module _ (W : Given 𝓤 H A) (κ α : Lft) (q : Share) (b o : ℕ) (γ : GName) (ys : List Record) (f : RefT (List ℤ)) (l : Request)
+  module _ (W : Given 𝓤 H A) (κ α : Lft) (q : Share) (b o : ℕ) (γ : GName) (ys : List Record) (f : RefT (List ℤ)) (l :
+      Request)
       (gl : Is B.the-row l (request-val l ∷ [])) where
     abbrev to-perform : Perform .Ghost
     to-perform = (
@@ -118,37 +143,49 @@ module _ {M : Type 1} (𝓤 : URA M) (H : Heap 𝓤) (A : Atoms 𝓤) (mem′ : 
     )
 
     goes-perform :
-        ent 𝓤 (sep 𝓤 (sep 𝓤 (sem 𝓤 H A (Owned κ b o γ ys)) (A .lft κ q)) (sep 𝓤 (sem 𝓤 H A (Figures 1 α f (figures-val f))) (A .lft α fullShare)))
+        ent 𝓤 (sep 𝓤 (sep 𝓤 (sem 𝓤 H A (Owned κ b o γ ys)) (A .lft κ q)) (sep 𝓤 (sem 𝓤 H A (Figures 1 α f (figures-val
+        f))) (A .lft α fullShare)))
         (Perform .pre to-perform)
     goes-perform =
-        qed W ((‵ (Owned κ b o γ ys) ⊛ ‵ (flft κ q)) ∷ (‵ (Figures 1 α f (figures-val f)) ⊛ ‵ (flft α fullShare)) ∷ []) ∵
+        qed W ((‵ (Owned κ b o γ ys) ⊛ ‵ (flft κ q)) ∷ (‵ (Figures 1 α f (figures-val f)) ⊛ ‵ (flft α fullShare)) ∷ [])
+        ∵
         split ! $ move ! (2 ∷ []) $ split ! $
         -- [the figures; their token; t; its token]
         nothing ! $ move ! (2 ∷ 0 ∷ []) $ join ! $ move ! (3 ∷ 0 ∷ []) $ join ! $
         -- [the tokens; the figures; t]
         nothing ! $ move ! (2 ∷ 0 ∷ []) $ fjoin ! $
-        owned ! B.the-row (Is B.the-row) (LL.makes B.the-type B′.the-plain 𝓤 H A) l (request-val l ∷ []) gl $ fjoin ! $ move ! (2 ∷ 0 ∷ []) $ fjoin ! $
+        owned ! B.the-row (Is B.the-row) (LL.makes B.the-type B′.the-plain 𝓤 H A) l (request-val l ∷ []) gl $ fjoin ! $
+        move ! (2 ∷ 0 ∷ []) $ fjoin ! $
         move ! (1 ∷ 0 ∷ []) $ join ! $ frame ! $ done !
 
     -- what comes of the call
     abbrev Back : Val → Item 𝓤
-    Back w = later (some (λ (a : Answer). ((‵ (flft κ q) ⊛ (‵ (flft α fullShare) ⊛ ‵ ftrue)) ⊛ ‵ (N.the-row .own a (w ∷ [])))
+    Back w = later (some (λ (a : Answer). ((‵ (flft κ q) ⊛ (‵ (flft α fullShare) ⊛ ‵ ftrue)) ⊛ ‵ (N.the-row .own a (w ∷
+        [])))
         ⊛ some (λ (zs : List Record × (Unit {0} × (Unit {0} × Unit {0}))).
         ‵ (fsep (fsep (finally R γ (zs .0)) (feq ℕ (length (zs .0)) (length ys))) (fsep ftrue (fsep ftrue ftrue)))
         ⊛ raw (fact 𝓤 (Promised (requestCall l (f .now)) ys a (zs .0))))))
 
-    module _ {Γ : List (Item 𝓤)} {E : Env 𝓤 H} {C : Calls 𝓤 H} {Λ : Loops 𝓤 H} {post : Post 𝓤 H} {args : List Operand} {at : Place} {rest : Code} where
+    module _ {Γ : List (Item 𝓤)} {E : Env 𝓤 H} {C : Calls 𝓤 H} {Λ : Loops 𝓤 H} {post : Post 𝓤 H} {args : List Operand}
+        {at : Place} {rest : Code} where
       pub performs : FmC 𝓤 H (W .laws) C → Triple 𝓤 (C perform-def.name) Perform
-          → Opds (Go {0}) W (raw (Perform .pre to-perform) ∷ Γ) E args (machine b o ys ∷ request-val l ∷ figures-val f ∷ [])
-          → ((zs : List Record) (a : Answer) (w : Val) → length zs ≡ length ys → Promised (requestCall l (f .now)) ys a zs → Is N.the-row a (w ∷ [])
+          → Opds (Go {0}) W (raw (Perform .pre to-perform) ∷ Γ) E args (machine b o ys ∷ request-val l ∷ figures-val f ∷
+          [])
+          → ((zs : List Record) (a : Answer) (w : Val) → length zs ≡ length ys → Promised (requestCall l (f .now)) ys a
+          zs → Is N.the-row a (w ∷ [])
           → Sq W (‵ (finally R γ zs) ∷ ‵ (flft κ q) ∷ ‵ (flft α fullShare) ∷ Γ) (lands C Λ E at w rest post))
           → Sq W (‵ (Owned κ b o γ ys) ∷ ‵ (flft κ q) ∷ ‵ (Figures 1 α f (figures-val f)) ∷ ‵ (flft α fullShare) ∷ Γ)
           (runs C Λ E (seq (call perform-def.name args at) rest) post)
       performs fm known os k =
-          join ! $ move ! (1 ∷ 2 ∷ []) $ join ! $ move ! (1 ∷ 0 ∷ []) $ use2 W (raw (Perform .pre to-perform)) goes-perform $
+          join ! $ move ! (1 ∷ 2 ∷ []) $ join ! $ move ! (1 ∷ 0 ∷ []) $ use2 W (raw (Perform .pre to-perform))
+          goes-perform $
           calls-at ! fm Perform known to-perform os (λ w.
-          use1 W (Back w) (id⊢ 𝓤 _) $ await ! tt $ pick ! (λ a. split ! $ move ! (1 ∷ []) $ pick ! (λ zs. split ! $ move ! (1 ∷ []) $
-          heard ! (Promised (requestCall l (f .now)) ys a (zs .0)) (λ e. fsplit ! $ fsplit ! $ move ! (1 ∷ []) $ feqL ! (λ n. move ! (1 ∷ []) $ drop ! $
+          use1 W (Back w) (id⊢ 𝓤 _) $ await ! tt $ pick ! (λ a. split ! $ move ! (1 ∷ []) $ pick ! (λ zs. split ! $ move
+          ! (1 ∷ []) $
+          heard ! (Promised (requestCall l (f .now)) ys a (zs .0)) (λ e. fsplit ! $ fsplit ! $ move ! (1 ∷ []) $ feqL !
+          (λ n. move ! (1 ∷ []) $ drop ! $
           -- [the last list; the tokens and the answer; …]
-          move ! (1 ∷ []) $ split ! $ move ! (1 ∷ []) $ facts ! N.the-row (Is N.the-row) (shows 𝓤 H A N.the-row) a (w ∷ []) (λ is.
-          split ! $ move ! (1 ∷ []) $ split ! $ move ! (1 ∷ []) $ drop ! $ move ! (2 ∷ 1 ∷ 0 ∷ []) $ k (zs .0) a w n e is))))))
+          move ! (1 ∷ []) $ split ! $ move ! (1 ∷ []) $ facts ! N.the-row (Is N.the-row) (shows 𝓤 H A N.the-row) a (w ∷
+          []) (λ is.
+          split ! $ move ! (1 ∷ []) $ split ! $ move ! (1 ∷ []) $ drop ! $ move ! (2 ∷ 1 ∷ 0 ∷ []) $ k (zs .0) a w n e
+          is))))))

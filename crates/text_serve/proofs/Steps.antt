@@ -1,6 +1,5 @@
--- The call `step` for a caller whose context is Γ: what it asks, and what comes back of it. The caller then has the last value of each reference and both
--- tokens, and knows that one turn was made.
--- Assumes `Given`.
+-- The call `step` for a caller whose context is Γ: what it asks, and what comes back of it. The caller then has the
+-- last value of each reference and both tokens, and knows that one turn was made. Assumes `Given`.
 use mathlib.Core.Path.{_≡_}
 use Prim.Native.Nat.{ℕ, _+_, _≤_}
 use mathlib.Core.List.{List, [], _∷_}
@@ -39,7 +38,8 @@ module _ {M : Type 1} (𝓤 : URA M) (H : Heap 𝓤) (A : Atoms 𝓤) (mem′ : 
   abbrev pub One : Contract 𝓤
   One = tripleOf 𝓤 H A one.signature (one.spec 𝓤 H A mem′ run)
 
-  module _ (W : Given 𝓤 H A) (α β : Lft) (b o : ℕ) (γ : GName) (ys : List Record) (lb : ℕ) (γb : GName) (bs : List ℕ) (lx : ℕ) (γx : GName) (xs : List ℤ)
+  module _ (W : Given 𝓤 H A) (α β : Lft) (b o : ℕ) (γ : GName) (ys : List Record) (lb : ℕ) (γb : GName) (bs : List ℕ)
+      (lx : ℕ) (γx : GName) (xs : List ℤ)
       (lo : ℕ) (γo : GName) (os : List ℕ) (s : State) where
     abbrev pub to-one : One .Ghost
     to-one = (
@@ -55,38 +55,51 @@ module _ {M : Type 1} (𝓤 : URA M) (H : Heap 𝓤) (A : Atoms 𝓤) (mem′ : 
 
     -- what is lent, and the two tokens
     abbrev pub Handed : Item 𝓤
-    Handed = ‵ (Owned α b o γ ys) ⊛ (‵ (Lent Bytes 0 α lb 0 γb bs) ⊛ (‵ (Lent Numbers 1 β lx 0 γx xs) ⊛ (‵ (Lent Bytes 0 α lo 0 γo os)
+    Handed = ‵ (Owned α b o γ ys) ⊛ (‵ (Lent Bytes 0 α lb 0 γb bs) ⊛ (‵ (Lent Numbers 1 β lx 0 γx xs) ⊛ (‵ (Lent Bytes 0
+        α lo 0 γo os)
         ⊛ (‵ (flft α fullShare) ⊛ ‵ (flft β fullShare)))))
 
-    pub goes-one : IsState s → Stands bs (s .input) → s .waiting + 1200 ≤ 65536 → ent 𝓤 (mean 𝓤 H A Handed) (One .pre to-one)
+    pub goes-one : IsState s → Stands bs (s .input) → s .waiting + 1200 ≤ 65536 → ent 𝓤 (mean 𝓤 H A Handed) (One .pre
+        to-one)
     goes-one held stands space =
-        qed W (Handed ∷ []) ∵ split ! $ move ! (1 ∷ []) $ split ! $ move ! (1 ∷ []) $ split ! $ move ! (1 ∷ []) $ split ! $ move ! (1 ∷ []) $ split ! $
+        qed W (Handed ∷ []) ∵ split ! $ move ! (1 ∷ []) $ split ! $ move ! (1 ∷ []) $ split ! $ move ! (1 ∷ []) $ split
+        ! $ move ! (1 ∷ []) $ split ! $
         -- [α's token; β's token; the answers; the numbers; the buffer; t]
         says ! (stands, space) $ nothing ! $ move ! (2 ∷ 0 ∷ []) $ join ! $ move ! (1 ∷ 0 ∷ []) $ join ! $ frame ! $
         -- [the answers; the numbers; the buffer; t]
-        nothing ! $ owned ! G.the-row (Is G.the-row) (LL.makes G.the-type G′.the-plain 𝓤 H A) s (state-val s ∷ []) held $ fjoin ! $
-        move ! (1 ∷ 0 ∷ []) $ fjoin ! $ move ! (1 ∷ 0 ∷ []) $ fjoin ! $ move ! (1 ∷ 0 ∷ []) $ fjoin ! $ move ! (1 ∷ 0 ∷ []) $ fjoin ! $ done !
+        nothing ! $ owned ! G.the-row (Is G.the-row) (LL.makes G.the-type G′.the-plain 𝓤 H A) s (state-val s ∷ []) held
+        $ fjoin ! $
+        move ! (1 ∷ 0 ∷ []) $ fjoin ! $ move ! (1 ∷ 0 ∷ []) $ fjoin ! $ move ! (1 ∷ 0 ∷ []) $ fjoin ! $ move ! (1 ∷ 0 ∷
+        []) $ fjoin ! $ done !
 
     -- what comes of the call
     abbrev Back : Val → Item 𝓤
-    Back w = later (some (λ (r : State). ((‵ (flft α fullShare) ⊛ (‵ (flft β fullShare) ⊛ ‵ ftrue)) ⊛ ‵ (G.the-row .own r (w ∷ [])))
+    Back w = later (some (λ (r : State). ((‵ (flft α fullShare) ⊛ (‵ (flft β fullShare) ⊛ ‵ ftrue)) ⊛ ‵ (G.the-row .own
+        r (w ∷ [])))
         ⊛ some (λ (zs : List Record × (List ℕ × (List ℤ × (List ℕ × (Unit {0} × Unit {0}))))).
-        ‵ (fsep (fsep (finally R γ (zs .0)) (feq ℕ (length (zs .0)) (length ys))) (fsep (fres γb (Bytes .coded .code (zs .1 .0)))
-        (fsep (fres γx (Numbers .coded .code (zs .1 .1 .0))) (fsep (fres γo (Bytes .coded .code (zs .1 .1 .1 .0))) (fsep ftrue ftrue)))))
+        ‵ (fsep (fsep (finally R γ (zs .0)) (feq ℕ (length (zs .0)) (length ys))) (fsep (fres γb (Bytes .coded .code (zs
+        .1 .0)))
+        (fsep (fres γx (Numbers .coded .code (zs .1 .1 .0))) (fsep (fres γo (Bytes .coded .code (zs .1 .1 .1 .0))) (fsep
+        ftrue ftrue)))))
         ⊛ raw (fact 𝓤 (Turns bs s ys os (zs .1 .0) r (zs .0) (zs .1 .1 .1 .0))))))
 
     module _ {Γ : List (Item 𝓤)} {g : Goal 𝓤 H} where
       pub comes-back : Soaks g → (w : Val)
-          → ((zs : List Record) (bs′ : List ℕ) (xs′ : List ℤ) (os′ : List ℕ) (r : State) → length zs ≡ length ys → Turns bs s ys os bs′ r zs os′
-          → Is G.the-row r (w ∷ []) → Sq W (‵ (finally R γ zs) ∷ ‵ (fres γb (Bytes .coded .code bs′)) ∷ ‵ (fres γx (Numbers .coded .code xs′))
+          → ((zs : List Record) (bs′ : List ℕ) (xs′ : List ℤ) (os′ : List ℕ) (r : State) → length zs ≡ length ys → Turns
+          bs s ys os bs′ r zs os′
+          → Is G.the-row r (w ∷ []) → Sq W (‵ (finally R γ zs) ∷ ‵ (fres γb (Bytes .coded .code bs′)) ∷ ‵ (fres γx
+          (Numbers .coded .code xs′))
           ∷ ‵ (fres γo (Bytes .coded .code os′)) ∷ ‵ (flft α fullShare) ∷ ‵ (flft β fullShare) ∷ Γ) g)
           → Sq W (raw (One .post to-one w) ∷ Γ) g
       comes-back soaks w k =
-          use1 W (Back w) (id⊢ 𝓤 _) $ await ! soaks $ pick ! (λ r. split ! $ move ! (1 ∷ []) $ pick ! (λ zs. split ! $ move ! (1 ∷ []) $
-          heard ! (Turns bs s ys os (zs .1 .0) r (zs .0) (zs .1 .1 .1 .0)) (λ e. fsplit ! $ fsplit ! $ move ! (1 ∷ []) $ feqL ! (λ l. move ! (1 ∷ []) $
+          use1 W (Back w) (id⊢ 𝓤 _) $ await ! soaks $ pick ! (λ r. split ! $ move ! (1 ∷ []) $ pick ! (λ zs. split ! $
+          move ! (1 ∷ []) $
+          heard ! (Turns bs s ys os (zs .1 .0) r (zs .0) (zs .1 .1 .1 .0)) (λ e. fsplit ! $ fsplit ! $ move ! (1 ∷ []) $
+          feqL ! (λ l. move ! (1 ∷ []) $
           fsplit ! $ move ! (1 ∷ []) $ fsplit ! $ move ! (1 ∷ []) $ fsplit ! $ move ! (1 ∷ []) $ drop ! $
           -- [the answers' last; the numbers' last; the buffer's last; t's last list; the tokens and the state; …]
-          move ! (4 ∷ []) $ split ! $ move ! (1 ∷ []) $ facts ! G.the-row (Is G.the-row) (shows 𝓤 H A G.the-row) r (w ∷ []) (λ is.
+          move ! (4 ∷ []) $ split ! $ move ! (1 ∷ []) $ facts ! G.the-row (Is G.the-row) (shows 𝓤 H A G.the-row) r (w ∷
+          []) (λ is.
           split ! $ move ! (1 ∷ []) $ split ! $ move ! (1 ∷ []) $ drop ! $
           -- [β's token; α's token; the answers' last; the numbers' last; the buffer's last; t's last list; …]
           move ! (5 ∷ 4 ∷ 3 ∷ 2 ∷ 1 ∷ 0 ∷ []) $ k (zs .0) (zs .1 .0) (zs .1 .1 .0) (zs .1 .1 .1 .0) r l e is)))))

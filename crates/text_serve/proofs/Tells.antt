@@ -1,6 +1,6 @@
--- The call `tell` as a step of the calculus, for any caller whose context is Γ: the buffer of the answers is given up. After it the caller has the buffer's
--- last bytes, and knows that the answer was told.
--- Assumes `Given`, and that the table's entry meets the contract.
+-- The call `tell` as a step of the calculus, for any caller whose context is Γ: the buffer of the answers is given up.
+-- After it the caller has the buffer's last bytes, and knows that the answer was told. Assumes `Given`, and that the
+-- table's entry meets the contract.
 use mathlib.Core.Path.{_≡_}
 use Prim.Native.Nat.{ℕ, _+_, _≤_}
 use mathlib.Core.List.{List, [], _∷_}
@@ -41,34 +41,45 @@ module _ {M : Type 1} (𝓤 : URA M) (H : Heap 𝓤) (A : Atoms 𝓤) (mem′ : 
   abbrev pub Tell : Contract 𝓤
   Tell = tripleOf 𝓤 H A tell.signature (tell.spec 𝓤 H A mem′ run)
 
-  module _ (W : Given 𝓤 H A) (κ : Lft) (q : Share) (b o : ℕ) (γ : GName) (os : List ℕ) (p : Prepared) (held : IsHeard p) (a : Answer) (v : Val)
+  module _ (W : Given 𝓤 H A) (κ : Lft) (q : Share) (b o : ℕ) (γ : GName) (os : List ℕ) (p : Prepared) (held : IsHeard p)
+      (a : Answer) (v : Val)
       (ia : Is N.the-row a (v ∷ [])) (space : p .waiting + 1200 ≤ 65536) where
     abbrev to-tell : Tell .Ghost
-    to-tell = (((κ, tt), (q, tt), tt, (to b o γ os, (p, (a, tt))), (vptr b o ∷ [], (heard-val p ∷ [], (v ∷ [], tt)))), tt)
+    to-tell = (
+      ((κ, tt), (q, tt), tt, (to b o γ os, (p, (a, tt))), (vptr b o ∷ [], (heard-val p ∷ [], (v ∷ [], tt)))),
+      tt,
+    )
 
     goes-tell : ent 𝓤 (sep 𝓤 (sem 𝓤 H A (Lent Bytes 0 κ b o γ os)) (A .lft κ q)) (Tell .pre to-tell)
     goes-tell =
-        qed W (‵ (Lent Bytes 0 κ b o γ os) ∷ ‵ (flft κ q) ∷ []) ∵ says ! space $ nothing ! $ move ! (2 ∷ 0 ∷ []) $ join ! $ frame ! $
+        qed W (‵ (Lent Bytes 0 κ b o γ os) ∷ ‵ (flft κ q) ∷ []) ∵ says ! space $ nothing ! $ move ! (2 ∷ 0 ∷ []) $ join
+        ! $ frame ! $
         nothing ! $ owned ! N.the-row (Is N.the-row) (makes-answer 𝓤 H A) a (v ∷ []) ia $ fjoin ! $
-        owned ! P.the-row (Is P.the-row) (LL.makes P.the-type P′.the-plain 𝓤 H A) p (heard-val p ∷ []) held $ fjoin ! $ move ! (1 ∷ 0 ∷ []) $
+        owned ! P.the-row (Is P.the-row) (LL.makes P.the-type P′.the-plain 𝓤 H A) p (heard-val p ∷ []) held $ fjoin ! $
+        move ! (1 ∷ 0 ∷ []) $
         fjoin ! $ done !
 
     -- what comes of the call
     abbrev Back : Val → Item 𝓤
     Back w = later (some (λ (r : State). ((‵ (flft κ q) ⊛ ‵ ftrue) ⊛ ‵ (G.the-row .own r (w ∷ [])))
-        ⊛ some (λ (zs : List ℕ × (Unit {0} × (Unit {0} × Unit {0}))). ‵ (fsep (fres γ (Bytes .coded .code (zs .0))) (fsep ftrue (fsep ftrue ftrue)))
+        ⊛ some (λ (zs : List ℕ × (Unit {0} × (Unit {0} × Unit {0}))). ‵ (fsep (fres γ (Bytes .coded .code (zs .0)))
+        (fsep ftrue (fsep ftrue ftrue)))
         ⊛ raw (fact 𝓤 (Tells os p a (zs .0) r)))))
 
-    module _ {Γ : List (Item 𝓤)} {E : Env 𝓤 H} {C : Calls 𝓤 H} {Λ : Loops 𝓤 H} {post : Post 𝓤 H} {args : List Operand} {at : Place} {rest : Code} where
+    module _ {Γ : List (Item 𝓤)} {E : Env 𝓤 H} {C : Calls 𝓤 H} {Λ : Loops 𝓤 H} {post : Post 𝓤 H} {args : List Operand}
+        {at : Place} {rest : Code} where
       pub tells : FmC 𝓤 H (W .laws) C → Triple 𝓤 (C tell-def.name) Tell
           → Opds (Go {0}) W (raw (Tell .pre to-tell) ∷ Γ) E args (vptr b o ∷ heard-val p ∷ v ∷ [])
           → ((os′ : List ℕ) (r : State) (w : Val) → Tells os p a os′ r → Is G.the-row r (w ∷ [])
           → Sq W (‵ (flft κ q) ∷ ‵ (fres γ (Bytes .coded .code os′)) ∷ Γ) (lands C Λ E at w rest post))
-          → Sq W (‵ (Lent Bytes 0 κ b o γ os) ∷ ‵ (flft κ q) ∷ Γ) (runs C Λ E (seq (call tell-def.name args at) rest) post)
+          → Sq W (‵ (Lent Bytes 0 κ b o γ os) ∷ ‵ (flft κ q) ∷ Γ) (runs C Λ E (seq (call tell-def.name args at) rest)
+          post)
       tells fm known ops k =
           use2 W (raw (Tell .pre to-tell)) goes-tell $ calls-at ! fm Tell known to-tell ops (λ w.
-          use1 W (Back w) (id⊢ 𝓤 _) $ await ! tt $ pick ! (λ r. split ! $ move ! (1 ∷ []) $ pick ! (λ zs. split ! $ move ! (1 ∷ []) $
+          use1 W (Back w) (id⊢ 𝓤 _) $ await ! tt $ pick ! (λ r. split ! $ move ! (1 ∷ []) $ pick ! (λ zs. split ! $ move
+          ! (1 ∷ []) $
           heard ! (Tells os p a (zs .0) r) (λ e. fsplit ! $ move ! (1 ∷ []) $ drop ! $
           -- [the last bytes; the token and the state; …]
-          move ! (1 ∷ []) $ split ! $ move ! (1 ∷ []) $ facts ! G.the-row (Is G.the-row) (shows 𝓤 H A G.the-row) r (w ∷ []) (λ is.
+          move ! (1 ∷ []) $ split ! $ move ! (1 ∷ []) $ facts ! G.the-row (Is G.the-row) (shows 𝓤 H A G.the-row) r (w ∷
+          []) (λ is.
           split ! $ move ! (1 ∷ []) $ drop ! $ k (zs .0) r w e is)))))

@@ -68,8 +68,10 @@ table-of (interest i keys) t = sym (read-leaves t 0)
 
 -- ---- the turn
 
-module _ {b : List ℕ} {s : State} {b' : List ℕ} {p : Prepared} {xs rows : List ℤ} {t t' : List Record} {a : Answer} {o o' : List ℕ} {r : State}
-    (heard : Prepares b s b' p xs) (are : rows ≡ drop 13 (take (p .count) xs)) (done : Promised (requestCall (p .request) rows) t a t')
+module _ {b : List ℕ} {s : State} {b' : List ℕ} {p : Prepared} {xs rows : List ℤ} {t t' : List Record} {a : Answer} {o
+    o' : List ℕ} {r : State}
+    (heard : Prepares b s b' p xs) (are : rows ≡ drop 13 (take (p .count) xs)) (done : Promised (requestCall (p
+    .request) rows) t a t')
     (told : Tells o p a o' r) where
   abbrev deed : Deed
   deed = deedOf (s .kept) (meaning (heard .line))
@@ -102,7 +104,8 @@ module _ {b : List ℕ} {s : State} {b' : List ℕ} {p : Prepared} {xs rows : Li
   turned =
       record {
         line = heard .line;
-        next = next-too b' (p .input) (r .input) (told .at) (told .ends) (told .len) b (s .input) (heard .line) (told .left) (heard .next);
+        next = next-too b' (p .input) (r .input) (told .at) (told .ends) (told .len) b (s .input) (heard .line) (told
+            .left) (heard .next);
         evening = evening-is;
         answers = record { end = told .end; wrote = wrote; waits = told .waits };
         room = told .room;

@@ -17,15 +17,19 @@ eveningOf s t = record { number = s .number; kept = s .kept; table = t }
 
 -- ---- one turn
 
--- ONE ANSWER MORE: it stands behind the n bytes of answers that wait in o, up to `end`. All of them wait on, or all of them were handed to `write`
+-- ONE ANSWER MORE: it stands behind the n bytes of answers that wait in o, up to `end`. All of them wait on, or all of
+-- them were handed to `write`
 pub record Answers (o : List ℕ) (n : ℕ) (o' : List ℕ) (n' : ℕ) (text : List ℕ) : Type 0 where
   pub end : ℕ
   pub wrote : Wrote o n o' end text 1200
   pub waits : (n' ≡ end) ⊎ (n' ≡ 0)
 
--- ONE TURN, from the buffer b, the state s, the table t and the answers o: `line` is the next line of the input, whatever pieces `read` delivered it in;
--- the evening behind it is the one that the definition has, and so is its answer. Answers wait only while a whole line stands in the buffer
-pub record Turns (b : List ℕ) (s : State) (t : List Record) (o b' : List ℕ) (r : State) (t' : List Record) (o' : List ℕ) : Type 0 where
+-- ONE TURN, from the buffer b, the state s, the table t and the answers o: `line` is the next line of the input,
+-- whatever pieces `read` delivered it in;
+-- the evening behind it is the one that the definition has, and so is its answer. Answers wait only while a whole line
+-- stands in the buffer
+pub record Turns (b : List ℕ) (s : State) (t : List Record) (o b' : List ℕ) (r : State) (t' : List Record) (o' : List ℕ)
+    : Type 0 where
   pub line : List ℕ
   pub next : Next b (s .input) b' (r .input) line
   pub evening : eveningOf r t' ≡ after line (eveningOf s t)
@@ -45,8 +49,8 @@ unfoldable pub joined : List (List ℕ) → List ℕ → List ℕ
 joined [] u = u
 joined (l ∷ ls) u = l ++ lineFeed ∷ joined ls u
 
--- THE LINES OF THE BYTES `got`: a line feed ends each line of `whole`, and `behind` stands behind the last one. That is the last line where the input has
--- ended; where it has not, as a write failed, it is not heard
+-- THE LINES OF THE BYTES `got`: a line feed ends each line of `whole`, and `behind` stands behind the last one. That is
+-- the last line where the input has ended; where it has not, as a write failed, it is not heard
 pub record Cut (got : List ℕ) (lines : List (List ℕ)) : Type 0 where
   pub whole : List (List ℕ)
   pub behind : List ℕ
@@ -54,7 +58,8 @@ pub record Cut (got : List ℕ) (lines : List (List ℕ)) : Type 0 where
   pub unbroken : Each lines
   pub heard : (lines ≡ whole ++ behind ∷ []) ⊎ (lines ≡ whole)
 
--- EVERY TURN: `got` is what `read` delivered, in order, and `lines` are its lines. The evening at the end is the one after these lines
+-- EVERY TURN: `got` is what `read` delivered, in order, and `lines` are its lines. The evening at the end is the one
+-- after these lines
 pub record Serves (t : List Record) (r : State) (t' : List Record) : Type 0 where
   pub got : List ℕ
   pub lines : List (List ℕ)

@@ -1,4 +1,5 @@
-// A turn of the evening on a lent table, and every turn: a line of standard input is heard, performed on the table and answered.
+// A turn of the evening on a lent table, and every turn: a line of standard input is heard, performed on the table and
+// answered.
 ghost use mathlib.Core.Path.{_≡_};
 ghost use Prim.Native.Nat.{_+_, _≤_};
 ghost use lib.ListN.{length, take, drop, replicate};

@@ -166,8 +166,8 @@ fn say(
     say_answer(out, len, kind, a)
 }
 
-// Hands bytes to `write`, all of them: a short write is tried again. It says whether they were taken, which is C's answer:
-// no contract can say it.
+// Hands bytes to `write`, all of them: a short write is tried again. It says whether they were taken, which is C's
+// answer: no contract can say it.
 fn hand(bytes: &[u8], n: usize) -> bool
     requires { ⌜ length (now bytes) ≡ n ⌝ }
 {

@@ -1,5 +1,5 @@
--- `text_serve::on` meets its contract: a walk of its MIR, by hand. The table comes by value and is moved to a local array, which is lent once as a
--- `&mut [Record]` and comes back when the input has ended; then what went wrong is said.
+-- `text_serve::on` meets its contract: a walk of its MIR, by hand. The table comes by value and is moved to a local
+-- array, which is lent once as a `&mut [Record]` and comes back when the input has ended; then what went wrong is said.
 -- Assumes nothing.
 use mathlib.Core.Path.{_≡_, refl, sym, _∙_, subst}
 use Prim.Native.Nat.{ℕ}
@@ -111,13 +111,16 @@ module _ {M : Type 1} (𝓤 : URA M) (H : Heap 𝓤) (A : Atoms 𝓤) (W : Given
   typedN l u p = array-lawful 𝓤 H A W R (LL.lawful S.the-type T′.the-laws 𝓤 H A W) slots .typed l (u ∷ []) p .0
 
   -- the table in a local is the records in memory, and back
-  apart : (l : List Record) (u : Val) (b : ℕ) → Is RN l (u ∷ []) → ent 𝓤 (H .at fullShare τN b 0 u) (sem 𝓤 H A (cells (mem R) l b 0))
+  apart : (l : List Record) (u : Val) (b : ℕ) → Is RN l (u ∷ []) → ent 𝓤 (H .at fullShare τN b 0 u) (sem 𝓤 H A (cells
+      (mem R) l b 0))
   unfolding partOf
   apart l u b p =
-      qed W (‵ (fat fullShare τN b 0 u) ∷ []) ∵ use1 W (‵ (fat fullShare (rawTy τN) b 0 u)) (W .laws .at-raw fullShare τN b 0 u) $
+      qed W (‵ (fat fullShare τN b 0 u) ∷ []) ∵ use1 W (‵ (fat fullShare (rawTy τN) b 0 u)) (W .laws .at-raw fullShare
+      τN b 0 u) $
       owned ! RN (Is RN) (array-makes 𝓤 H A W R (makes 𝓤 H A) slots) l (u ∷ []) p $ move ! (1 ∷ 0 ∷ []) $ fjoin ! $
       fpack ! (List Val) (λ us. fsep (cellAt fullShare (RN .mir) us b 0) (RN .own l us)) (u ∷ []) $
-      use1 W (‵ (arr-parts (shares R) slots .part fullShare l b 0)) (array-apart 𝓤 H A W R fullShare tt slots l b 0) $ fsplit ! $ drop ! $
+      use1 W (‵ (arr-parts (shares R) slots .part fullShare l b 0)) (array-apart 𝓤 H A W R fullShare tt slots l b 0) $
+      fsplit ! $ drop ! $
       use1 W (‵ (cells (mem R) l b 0)) (whole-in 𝓤 H A W R l b 0) $ done !
 
   back : {Γ : List (Item 𝓤)} {G : Goal 𝓤 H} (l : List Record) (b : ℕ) → length l ≡ slots → (Is RN l (valN l ∷ [])
@@ -128,100 +131,127 @@ module _ {M : Type 1} (𝓤 : URA M) (H : Heap 𝓤) (A : Atoms 𝓤) (W : Given
       use1 W (‵ (partAt RN fullShare l b 0)) (array-whole 𝓤 H A W R fullShare slots l b 0) $
       fpick ! (λ vs. fsplit ! $ move ! (1 ∷ []) $ facts ! RN (Is RN) (shows 𝓤 H A RN) l vs (λ p.
       rewrite ! 0 (λ (us : List Val). ‵ (cellAt fullShare (RN .mir) us b 0)) (tellsN l vs p) refl $
-      use1 W (‵ (fat fullShare τN b 0 (valN l))) (W .laws .raw-at fullShare τN b 0 (valN l)) $ k (subst (Is RN l) (tellsN l vs p) p)))
+      use1 W (‵ (fat fullShare τN b 0 (valN l))) (W .laws .raw-at fullShare τN b 0 (valN l)) $ k (subst (Is RN l)
+      (tellsN l vs p) p)))
 
-  module _ (mem′ : Memory → SProp 𝓤) (run′ : Routine → Fun 𝓤) (ts : List Record) (w : Val) (is : Is RN ts (w ∷ [])) where
-    abbrev x : List Record × Unit {0}
-    x = (ts, tt)
+  module _ (mem′ : Memory → SProp 𝓤) (run′ : Routine → Fun 𝓤) (ts : List Record) (w : Val) (is : Is RN ts (w ∷ []))
+    where
+      abbrev x : List Record × Unit {0}
+      x = (ts, tt)
 
-    abbrev at : Vals f.signature tt
-    at = (w ∷ [], tt)
+      abbrev at : Vals f.signature tt
+      at = (w ∷ [], tt)
 
-    abbrev Post : Val → SProp 𝓤
-    Post = walkOf 𝓤 H A f.ended stayed (f.clauses 𝓤 H A mem′ run′) .post ((tt, tt, tt, x, at), tt)
+      abbrev Post : Val → SProp 𝓤
+      Post = walkOf 𝓤 H A f.ended stayed (f.clauses 𝓤 H A mem′ run′) .post ((tt, tt, tt, x, at), tt)
 
-    -- `on` has no `ensures`, so that what it ends with is `sep .. emp`
-    abbrev Ends : SProp 𝓤
-    Ends = onExit 𝓤 H A f.ended stayed tt tt at vunit tt x (tt, tt)
+      -- `on` has no `ensures`, so that what it ends with is `sep .. emp`
+      abbrev Ends : SProp 𝓤
+      Ends = onExit 𝓤 H A f.ended stayed tt tt at vunit tt x (tt, tt)
 
-    exits : ent 𝓤 (emp 𝓤) (Post vunit)
-    exits =
-        qed W [] ∵ suffices ! _ (ends-at 𝓤 H A f.ended stayed (f.clauses 𝓤 H A mem′ run′) W ((tt, tt, tt, x, at), tt) vunit tt (tt, tt) (tt, tt)) $
-        suffices ! Ends (via 𝓤 (sep 𝓤 (emp 𝓤) Ends) (emp∗ 𝓤 Ends) (comm∗ 𝓤 (emp 𝓤) Ends)) $
-        feqI ! (List Val) (vunit ∷ []) (vunit ∷ []) refl $ nothing ! $ owned ! RN (Is RN) (array-makes 𝓤 H A W R (makes 𝓤 H A) slots) ts (w ∷ []) is $
-        fjoin ! $ nothing ! $ done !
+      exits : ent 𝓤 (emp 𝓤) (Post vunit)
+      exits =
+          qed W [] ∵ suffices ! _ (ends-at 𝓤 H A f.ended stayed (f.clauses 𝓤 H A mem′ run′) W ((tt, tt, tt, x, at), tt)
+          vunit tt (tt, tt) (tt, tt)) $
+          suffices ! Ends (via 𝓤 (sep 𝓤 (emp 𝓤) Ends) (emp∗ 𝓤 Ends) (comm∗ 𝓤 (emp 𝓤) Ends)) $
+          feqI ! (List Val) (vunit ∷ []) (vunit ∷ []) refl $ nothing ! $ owned ! RN (Is RN) (array-makes 𝓤 H A W R (makes
+          𝓤 H A) slots) ts (w ∷ []) is $
+          fjoin ! $ nothing ! $ done !
 
-    abbrev to-serve : Lft → ℕ → GName → Serve 𝓤 H A mem′ run′ .Ghost
-    to-serve κ b γ = (((κ, tt), (fullShare, tt), tt, (ref b 0 γ ts, tt), (machine b 0 ts ∷ [], tt)), tt)
+      abbrev to-serve : Lft → ℕ → GName → Serve 𝓤 H A mem′ run′ .Ghost
+      to-serve κ b γ = (((κ, tt), (fullShare, tt), tt, (ref b 0 γ ts, tt), (machine b 0 ts ∷ [], tt)), tt)
 
-    goes-serve : (κ : Lft) (b : ℕ) (γ : GName)
-        → ent 𝓤 (sep 𝓤 (sem 𝓤 H A (Owned κ b 0 γ ts)) (A .lft κ fullShare)) (Serve 𝓤 H A mem′ run′ .pre (to-serve κ b γ))
-    goes-serve κ b γ =
-        qed W (‵ (Owned κ b 0 γ ts) ∷ ‵ (flft κ fullShare) ∷ []) ∵ nothing ! $ move ! (2 ∷ 0 ∷ []) $ join ! $ move ! (1 ∷ 0 ∷ []) $
-        nothing ! $ move ! (1 ∷ 0 ∷ []) $ fjoin ! $ move ! (1 ∷ 0 ∷ []) $ join ! $ frame ! $ done !
+      goes-serve : (κ : Lft) (b : ℕ) (γ : GName)
+          → ent 𝓤 (sep 𝓤 (sem 𝓤 H A (Owned κ b 0 γ ts)) (A .lft κ fullShare)) (Serve 𝓤 H A mem′ run′ .pre (to-serve κ b
+          γ))
+      goes-serve κ b γ =
+          qed W (‵ (Owned κ b 0 γ ts) ∷ ‵ (flft κ fullShare) ∷ []) ∵ nothing ! $ move ! (2 ∷ 0 ∷ []) $ join ! $ move ! (1
+          ∷ 0 ∷ []) $
+          nothing ! $ move ! (1 ∷ 0 ∷ []) $ fjoin ! $ move ! (1 ∷ 0 ∷ []) $ join ! $ frame ! $ done !
 
-    abbrev to-report : State → Report 𝓤 H A mem′ run′ .Ghost
-    to-report r = ((tt, tt, tt, (r, tt), (state-val r ∷ [], tt)), tt)
+      abbrev to-report : State → Report 𝓤 H A mem′ run′ .Ghost
+      to-report r = ((tt, tt, tt, (r, tt), (state-val r ∷ [], tt)), tt)
 
-    goes-report : (r : State) → IsState r → ent 𝓤 (emp 𝓤) (Report 𝓤 H A mem′ run′ .pre (to-report r))
-    goes-report r ir =
-        qed W [] ∵ nothing ! $ owned ! G.the-row (Is G.the-row) (LL.makes G.the-type G′.the-plain 𝓤 H A) r (state-val r ∷ []) ir $ fjoin ! $ nothing ! $
-        join ! $ frame ! $ done !
+      goes-report : (r : State) → IsState r → ent 𝓤 (emp 𝓤) (Report 𝓤 H A mem′ run′ .pre (to-report r))
+      goes-report r ir =
+          qed W [] ∵ nothing ! $ owned ! G.the-row (Is G.the-row) (LL.makes G.the-type G′.the-plain 𝓤 H A) r (state-val r
+          ∷ []) ir $ fjoin ! $ nothing ! $
+          join ! $ frame ! $ done !
 
-    -- what comes of `report`, which ensures nothing
-    abbrev Reported : State → Val → Item 𝓤
-    Reported r u = later (some (λ (y : Unit {0}). (‵ ftrue ⊛ ‵ (unit .own y (u ∷ [])))
-        ⊛ raw (ensured 𝓤 H A report.ended (report.clauses 𝓤 H A mem′ run′) tt (r, tt) tt y)))
+      -- what comes of `report`, which ensures nothing
+      abbrev Reported : State → Val → Item 𝓤
+      Reported r u = later (some (λ (y : Unit {0}). (‵ ftrue ⊛ ‵ (unit .own y (u ∷ [])))
+          ⊛ raw (ensured 𝓤 H A report.ended (report.clauses 𝓤 H A mem′ run′) tt (r, tt) tt y)))
 
-    module _ (C : Calls 𝓤 H) (Λ : Loops 𝓤 H) (fm : FmC 𝓤 H (W .laws) C) (known : Triple 𝓤 (C serve-def.name) (Serve 𝓤 H A mem′ run′))
-        (known-report : Triple 𝓤 (C report-def.name) (Report 𝓤 H A mem′ run′)) where
-      walk : ent 𝓤 (onEntry 𝓤 H A f.signature tt tt x at) (WpFn 𝓤 H C Λ code.function (w ∷ []) Post)
-      walk =
-          qed W (‵ ftrue ∷ ‵ (owns (RN ∷ []) x at) ∷ []) ∵ enter ! C Λ code.function (w ∷ []) _ $
-          alloc1 ! (λ l₀. alloc1 ! (λ l₁. alloc1 ! (λ l₂. alloc1 ! (λ l₃. alloc1 ! (λ l₄. alloc1 ! (λ l₅. alloc1 ! (λ l₆. alloc0 ! $ params1 ! $
-          pass1 ! (init ! 10 refl (typedN ts w is)) $ pass0 ! $
-          -- `let mut u = t;`
-          assigns ! (of-opd ! (load ! (from ! (stop !)) (look ! 10 refl))) (from ! (stop !)) (init ! 8 refl (typedN ts w is)) $
-          -- `let s = serve(&mut u);`
-          assigns ! (addr ! (from ! (stop !))) (from ! (stop !)) (init ! 4 refl (tt, tt)) $
-          assigns ! (agg ! (and-then ! (load ! (from ! (stop !)) (look ! 4 refl)) (and-then ! (lit ! tt) (no-more !)))) (from ! (stop !))
-          (init ! 2 refl (tt, (tt, (record { fits = lit< tt }, tt)))) $
-          rewrite ! 2 (λ (m : ℕ). ‵ (fat fullShare slice l₅ 0 (sliceVal (l₂, 0) m))) (sym (full ts w is)) refl $
-          move ! (8 ∷ []) $ use1 W (‵ (cells (mem R) ts l₂ 0)) (apart ts w l₂ is) $ lft-new ! tt (λ α. move ! (1 ∷ []) $
-          use1 W (later (some (λ (γ : GName). ‵ (Owned (α ∷ []) l₂ 0 γ ts) ⊛ ‵ (flent (α ∷ []) (Held R (length ts) l₂ 0 γ)))))
-          (lends-slice 𝓤 H A W R (named 0) (α ∷ []) ts l₂ 0 (roomN ts (full ts w is))) $ await ! tt $ pick ! (λ γ. split ! $ move ! (0 ∷ 2 ∷ []) $
-          -- [the `&mut`; the token; what is lent; _6; …; _3; …; …; _1; …; _0; …]
-          gives-up 𝓤 H A W (α ∷ []) fullShare γ ts G.the-row 0 (λ r zs. Serves ts r zs) l₂ 0 fm (Serve 𝓤 H A mem′ run′) known
-          (to-serve (α ∷ []) l₂ γ) (goes-serve (α ∷ []) l₂ γ) (λ u. id⊢ 𝓤 _) (and-then ! (load ! (from ! (stop !)) (look ! 4 refl)) (no-more !))
-          (λ zs r v l e ir.
-          -- [the last list; the token; what is lent; _6; …]
-          move ! (1 ∷ []) $ lft-end ! tt $ move ! (0 ∷ 2 ∷ 1 ∷ []) $
-          use3 W (later (‵ (Arr (mem R) (length ts) .lies zs l₂ 0))) (slice-back 𝓤 H A W R (α ∷ []) γ zs (length ts) l₂ 0) $ await ! tt $ fsplit ! $ drop ! $
-          back zs l₂ (l ∙ full ts w is) (λ iz.
-          -- [_2; _6; …; _5; …; _4; …; _3; …; …; _1; …; _0; …]
-          land ! (from ! (stop !)) (init ! 7 refl (typed-state 𝓤 H A W r v ir)) $
-          rewrite ! 7 (λ (z : Val). ‵ (fat fullShare state-ty l₃ 0 z)) (state-tells r v ir) refl $
-          -- `report(s);`
-          use0 W (raw (Report 𝓤 H A mem′ run′ .pre (to-report r))) (goes-report r (state-is r v ir)) $
-          calls-at ! fm (Report 𝓤 H A mem′ run′) known-report (to-report r) (and-then ! (load ! (from ! (stop !)) (look ! 8 refl)) (no-more !)) (λ u.
-          use1 W (Reported r u) (id⊢ 𝓤 _) $ await ! tt $ pick ! (λ y. split ! $ move ! (1 ∷ []) $ drop ! $ split ! $ drop ! $
-          facts ! unit (Is unit) (shows 𝓤 H A unit) y (u ∷ []) (λ iu.
-          land ! (from ! (stop !)) (init ! 1 refl (nothing-lawful 𝓤 H A W .typed y (u ∷ []) iu .0)) $
-          assigns ! (of-opd ! (unit-lit !)) (from ! (stop !)) (init ! 12 refl (tt, tt)) $
-          returns ! (look ! 12 refl) $ forget ! 0 refl $ forget ! 1 refl $ forget ! 3 refl $ forget ! 5 refl $ forget ! 7 refl $ forget ! 10 refl $
-          forget ! 12 refl $ keep ! (1 ∷ 2 ∷ 3 ∷ 4 ∷ 5 ∷ 6 ∷ 7 ∷ 8 ∷ 0 ∷ 9 ∷ 10 ∷ 11 ∷ 12 ∷ 13 ∷ []) $
-          freed 𝓤 H A W (env-of (code.function .locals) (l₀ ∷ l₁ ∷ l₂ ∷ l₃ ∷ l₄ ∷ l₅ ∷ l₆ ∷ [])) [] (by ! exits)))))))))))))))
+      module _ (C : Calls 𝓤 H) (Λ : Loops 𝓤 H) (fm : FmC 𝓤 H (W .laws) C) (known : Triple 𝓤 (C serve-def.name) (Serve 𝓤 H
+          A mem′ run′))
+          (known-report : Triple 𝓤 (C report-def.name) (Report 𝓤 H A mem′ run′)) where
+        walk : ent 𝓤 (onEntry 𝓤 H A f.signature tt tt x at) (WpFn 𝓤 H C Λ code.function (w ∷ []) Post)
+        walk =
+            qed W (‵ ftrue ∷ ‵ (owns (RN ∷ []) x at) ∷ []) ∵ enter ! C Λ code.function (w ∷ []) _ $
+            alloc1 ! (λ l₀. alloc1 ! (λ l₁. alloc1 ! (λ l₂. alloc1 ! (λ l₃. alloc1 ! (λ l₄. alloc1 ! (λ l₅. alloc1 ! (λ
+            l₆. alloc0 ! $ params1 ! $
+            pass1 ! (init ! 10 refl (typedN ts w is)) $ pass0 ! $
+            -- `let mut u = t;`
+            assigns ! (of-opd ! (load ! (from ! (stop !)) (look ! 10 refl))) (from ! (stop !)) (init ! 8 refl (typedN ts w
+            is)) $
+            -- `let s = serve(&mut u);`
+            assigns ! (addr ! (from ! (stop !))) (from ! (stop !)) (init ! 4 refl (tt, tt)) $
+            assigns ! (agg ! (and-then ! (load ! (from ! (stop !)) (look ! 4 refl)) (and-then ! (lit ! tt) (no-more !))))
+            (from ! (stop !))
+            (init ! 2 refl (tt, (tt, (record { fits = lit< tt }, tt)))) $
+            rewrite ! 2 (λ (m : ℕ). ‵ (fat fullShare slice l₅ 0 (sliceVal (l₂, 0) m))) (sym (full ts w is)) refl $
+            move ! (8 ∷ []) $ use1 W (‵ (cells (mem R) ts l₂ 0)) (apart ts w l₂ is) $ lft-new ! tt (λ α. move ! (1 ∷ []) $
+            use1 W (later (some (λ (γ : GName). ‵ (Owned (α ∷ []) l₂ 0 γ ts) ⊛ ‵ (flent (α ∷ []) (Held R (length ts) l₂ 0
+            γ)))))
+            (lends-slice 𝓤 H A W R (named 0) (α ∷ []) ts l₂ 0 (roomN ts (full ts w is))) $ await ! tt $ pick ! (λ γ. split
+            ! $ move ! (0 ∷ 2 ∷ []) $
+            -- [the `&mut`; the token; what is lent; _6; …; _3; …; …; _1; …; _0; …]
+            gives-up 𝓤 H A W (α ∷ []) fullShare γ ts G.the-row 0 (λ r zs. Serves ts r zs) l₂ 0 fm (Serve 𝓤 H A mem′ run′)
+            known
+            (to-serve (α ∷ []) l₂ γ) (goes-serve (α ∷ []) l₂ γ) (λ u. id⊢ 𝓤 _) (and-then ! (load ! (from ! (stop !)) (look
+            ! 4 refl)) (no-more !))
+            (λ zs r v l e ir.
+            -- [the last list; the token; what is lent; _6; …]
+            move ! (1 ∷ []) $ lft-end ! tt $ move ! (0 ∷ 2 ∷ 1 ∷ []) $
+            use3 W (later (‵ (Arr (mem R) (length ts) .lies zs l₂ 0))) (slice-back 𝓤 H A W R (α ∷ []) γ zs (length ts) l₂
+            0) $ await ! tt $ fsplit ! $ drop ! $
+            back zs l₂ (l ∙ full ts w is) (λ iz.
+            -- [_2; _6; …; _5; …; _4; …; _3; …; …; _1; …; _0; …]
+            land ! (from ! (stop !)) (init ! 7 refl (typed-state 𝓤 H A W r v ir)) $
+            rewrite ! 7 (λ (z : Val). ‵ (fat fullShare state-ty l₃ 0 z)) (state-tells r v ir) refl $
+            -- `report(s);`
+            use0 W (raw (Report 𝓤 H A mem′ run′ .pre (to-report r))) (goes-report r (state-is r v ir)) $
+            calls-at ! fm (Report 𝓤 H A mem′ run′) known-report (to-report r) (and-then ! (load ! (from ! (stop !)) (look
+            ! 8 refl)) (no-more !)) (λ u.
+            use1 W (Reported r u) (id⊢ 𝓤 _) $ await ! tt $ pick ! (λ y. split ! $ move ! (1 ∷ []) $ drop ! $ split ! $
+            drop ! $
+            facts ! unit (Is unit) (shows 𝓤 H A unit) y (u ∷ []) (λ iu.
+            land ! (from ! (stop !)) (init ! 1 refl (nothing-lawful 𝓤 H A W .typed y (u ∷ []) iu .0)) $
+            assigns ! (of-opd ! (unit-lit !)) (from ! (stop !)) (init ! 12 refl (tt, tt)) $
+            returns ! (look ! 12 refl) $ forget ! 0 refl $ forget ! 1 refl $ forget ! 3 refl $ forget ! 5 refl $ forget !
+            7 refl $ forget ! 10 refl $
+            forget ! 12 refl $ keep ! (1 ∷ 2 ∷ 3 ∷ 4 ∷ 5 ∷ 6 ∷ 7 ∷ 8 ∷ 0 ∷ 9 ∷ 10 ∷ 11 ∷ 12 ∷ 13 ∷ []) $
+            freed 𝓤 H A W (env-of (code.function .locals) (l₀ ∷ l₁ ∷ l₂ ∷ l₃ ∷ l₄ ∷ l₅ ∷ l₆ ∷ [])) [] (by !
+            exits)))))))))))))))
 
-module _ {M : Type 1} (𝓤 : URA M) (H : Heap 𝓤) (A : Atoms 𝓤) (W : Given 𝓤 H A) (mem′ : Memory → SProp 𝓤) (run′ : Routine → Fun 𝓤) (𝓣 : Tables 𝓤 H)
-    (known : Triple 𝓤 (𝓣 .C serve-def.name) (Serve 𝓤 H A mem′ run′)) (known-report : Triple 𝓤 (𝓣 .C report-def.name) (Report 𝓤 H A mem′ run′)) where
+module _ {M : Type 1} (𝓤 : URA M) (H : Heap 𝓤) (A : Atoms 𝓤) (W : Given 𝓤 H A) (mem′ : Memory → SProp 𝓤) (run′ : Routine
+    → Fun 𝓤) (𝓣 : Tables 𝓤 H)
+    (known : Triple 𝓤 (𝓣 .C serve-def.name) (Serve 𝓤 H A mem′ run′)) (known-report : Triple 𝓤 (𝓣 .C report-def.name)
+    (Report 𝓤 H A mem′ run′)) where
   walks : Walks 𝓤 H A f.ended stayed (WpFn 𝓤 H (𝓣 .C) (𝓣 .Λ) code.function) (f.clauses 𝓤 H A mem′ run′)
-  walks = walked 𝓤 H A f.ended stayed (f.clauses 𝓤 H A mem′ run′) (WpFn 𝓤 H (𝓣 .C) (𝓣 .Λ) code.function) (λ κs. (valsN, tt)) (λ κs. (tellsN, tt))
+  walks = walked 𝓤 H A f.ended stayed (f.clauses 𝓤 H A mem′ run′) (WpFn 𝓤 H (𝓣 .C) (𝓣 .Λ) code.function) (λ κs. (
+    valsN,
+    tt,
+  )) (λ κs. (tellsN, tt))
       (λ κs qs bounds a g are.
-      via 𝓤 _ (fst∗ 𝓤 _ (emp 𝓤)) (walk 𝓤 H A W mem′ run′ (a .0) (valN (a .0)) (are .0) (𝓣 .C) (𝓣 .Λ) (fmOf 𝓤 H (W .laws) 𝓣) known known-report))
+      via 𝓤 _ (fst∗ 𝓤 _ (emp 𝓤)) (walk 𝓤 H A W mem′ run′ (a .0) (valN (a .0)) (are .0) (𝓣 .C) (𝓣 .Λ) (fmOf 𝓤 H (W .laws)
+      𝓣) known known-report))
 
   meets : Meets 𝓤 H A f.signature (WpFn 𝓤 H (𝓣 .C) (𝓣 .Λ) code.function) (f.spec 𝓤 H A mem′ run′)
   meets =
-      walk-meets 𝓤 H A f.ended stayed W (goes-none 𝓤 H A W 0 (λ _. RN) yes (λ κs x f. refl), tt) (f.clauses 𝓤 H A mem′ run′)
+      walk-meets 𝓤 H A f.ended stayed W (goes-none 𝓤 H A W 0 (λ _. RN) yes (λ κs x f. refl), tt) (f.clauses 𝓤 H A mem′
+      run′)
       (WpFn 𝓤 H (𝓣 .C) (𝓣 .Λ) code.function) (WpFn-mono 𝓤 H (W .laws) 𝓣 code.function) walks
 
 pub on-spec : {M : Type 1} → stated.statement M
@@ -230,6 +260,8 @@ on-spec 𝓤 H 𝓜 𝓖 𝓡 =
     entered 𝓤 H (tripleOf 𝓤 H (𝓖 .A) f.signature (f.spec 𝓤 H (𝓖 .A) (𝓜 .mem) (𝓡 .run)))
     (tables 𝓤 H 𝓜 𝓡 code.env .C) (tables 𝓤 H 𝓜 𝓡 code.env .Λ) key.name code.function (code.unfolded 𝓤 H 𝓜 𝓡)
     (meets 𝓤 H (𝓖 .A) (givenOf 𝓤 H 𝓜 𝓖) (𝓜 .mem) (𝓡 .run) (tablesOf 𝓤 H 𝓜 (tables 𝓤 H 𝓜 𝓡 code.env))
-    (cited 𝓤 H (Serve 𝓤 H (𝓖 .A) (𝓜 .mem) (𝓡 .run)) 𝓜 𝓡 code.env serve-def.name serve-def.routine code.calls-text-serve·serve (serve-thm.met 𝓤 H 𝓜 𝓖 𝓡))
-    (cited 𝓤 H (Report 𝓤 H (𝓖 .A) (𝓜 .mem) (𝓡 .run)) 𝓜 𝓡 code.env report-def.name report-def.routine code.calls-text-serve·report
+    (cited 𝓤 H (Serve 𝓤 H (𝓖 .A) (𝓜 .mem) (𝓡 .run)) 𝓜 𝓡 code.env serve-def.name serve-def.routine
+    code.calls-text-serve·serve (serve-thm.met 𝓤 H 𝓜 𝓖 𝓡))
+    (cited 𝓤 H (Report 𝓤 H (𝓖 .A) (𝓜 .mem) (𝓡 .run)) 𝓜 𝓡 code.env report-def.name report-def.routine
+    code.calls-text-serve·report
     (report-thm.met 𝓤 H 𝓜 𝓖 𝓡)))

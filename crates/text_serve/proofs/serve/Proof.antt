@@ -1,6 +1,6 @@
--- `text_serve::serve` meets its contract: a walk of its MIR, by hand. In each turn of the loop the row and the three local arrays are lent anew, for two
--- lifetimes of the turn's own. The variant is where the loop stands, ordered by the lines that may still be heard.
--- Assumes nothing.
+-- `text_serve::serve` meets its contract: a walk of its MIR, by hand. In each turn of the loop the row and the three
+-- local arrays are lent anew, for two lifetimes of the turn's own. The variant is where the loop stands, ordered by the
+-- lines that may still be heard. Assumes nothing.
 use mathlib.Core.Path.{_≡_, refl, sym, _∙_, ap, subst}
 use mathlib.Core.Bool.{Bool, true, false, not}
 use Prim.Native.Nat.{ℕ, _<_, _≤_}
@@ -99,9 +99,12 @@ function = record {
   lifetimes = 1;
   outlives = [];
   params = 1;
-  locals = local state-ty valueLocal ∷ local slice valueLocal ∷ local bytes-ty memorySlot ∷ local numbers-ty memorySlot ∷ local bytes-ty memorySlot
-      ∷ local state-ty valueLocal ∷ local bytes-ty valueLocal ∷ local numbers-ty valueLocal ∷ local tyBool valueLocal ∷ local wref valueLocal
-      ∷ local (sliceTy wref) valueLocal ∷ local (mref Bytes) valueLocal ∷ local (mref Numbers) valueLocal ∷ local (mref Bytes) valueLocal ∷ [];
+  locals = local state-ty valueLocal ∷ local slice valueLocal ∷ local bytes-ty memorySlot ∷ local numbers-ty memorySlot
+      ∷ local bytes-ty memorySlot
+      ∷ local state-ty valueLocal ∷ local bytes-ty valueLocal ∷ local numbers-ty valueLocal ∷ local tyBool valueLocal ∷
+      local wref valueLocal
+      ∷ local (sliceTy wref) valueLocal ∷ local (mref Bytes) valueLocal ∷ local (mref Numbers) valueLocal ∷ local (mref
+      Bytes) valueLocal ∷ [];
   body = code.function .body;
 }
 
@@ -159,7 +162,8 @@ module _ {M : Type 1} (𝓤 : URA M) (H : Heap 𝓤) (A : Atoms 𝓤) (mem′ : 
   numbered-of : (r : List ℤ) → ent 𝓤 (Numbered r) (fact 𝓤 (126 ≡ length r))
   numbered-of r = exE 𝓤 _ (λ ws. snd∗ 𝓤 (sem 𝓤 H A (lasts numbers.ended tt tt ws)) (fact 𝓤 (126 ≡ length r)))
 
-module _ {M : Type 1} (𝓤 : URA M) (H : Heap 𝓤) (A : Atoms 𝓤) (W : Given 𝓤 H A) (mem′ : Memory → SProp 𝓤) (run′ : Routine → Fun 𝓤) (κ : Lft) (q : Share)
+module _ {M : Type 1} (𝓤 : URA M) (H : Heap 𝓤) (A : Atoms 𝓤) (W : Given 𝓤 H A) (mem′ : Memory → SProp 𝓤) (run′ : Routine
+    → Fun 𝓤) (κ : Lft) (q : Share)
     (b o : ℕ) (γ : GName) (ys : List Record) (room : Room R (length ys)) where
   abbrev x : RefT (List Record) × Unit {0}
   x = (ref b o γ ys, tt)
@@ -180,9 +184,14 @@ module _ {M : Type 1} (𝓤 : URA M) (H : Heap 𝓤) (A : Atoms 𝓤) (W : Given
       → ent 𝓤 (⋆ 𝓤 H A (Obs zs ∷ Bor zs ∷ ‵ (flft κ q) ∷ [])) (Post (state-val r))
   exits zs r l e is =
       qed W (Obs zs ∷ Bor zs ∷ ‵ (flft κ q) ∷ []) ∵
-      suffices ! _ (ends-at 𝓤 H A f.ended stayed (f.clauses 𝓤 H A mem′ run′) W (((κ, tt), (q, tt), tt, x, at), tt) (state-val r) r (zs, tt) (l, tt)) $
+      suffices ! _ (ends-at 𝓤 H A f.ended stayed (f.clauses 𝓤 H A mem′ run′) W (((κ, tt), (q, tt), tt, x, at), tt)
+      (state-val r) r (zs, tt) (l, tt)) $
       says ! e $ nothing ! $ move ! (3 ∷ 0 ∷ []) $ join ! $ frame ! $
-      fjoin ! $ pureI ! (at-slice R (ref b o γ zs) (at .0)) (tt, (tt, tt)) (ap (λ (m : ℕ). sliceVal (b, o) m ∷ []) (sym l), subst (Room R) (sym l) room) $
+      fjoin ! $ pureI ! (at-slice R (ref b o γ zs) (at .0)) (tt, (tt, tt)) (
+        ap (λ (m : ℕ). sliceVal (b, o) m ∷ []) (sym
+            l),
+        subst (Room R) (sym l) room,
+      ) $
       fjoin ! $ nothing ! $ move ! (1 ∷ 0 ∷ []) $ fjoin ! $
       owned ! G.the-row (Is G.the-row) (LL.makes G.the-type G′.the-plain 𝓤 H A) r _ is $ move ! (1 ∷ 0 ∷ []) $ done !
 
@@ -192,7 +201,8 @@ module _ {M : Type 1} (𝓤 : URA M) (H : Heap 𝓤) (A : Atoms 𝓤) (W : Given
   Nearer-wf : WellFounded Nearer
   Nearer-wf = InvImage·wf (λ (i : Stand ys). i .state .input .left) (Nat·lt-wfRel .wf)
 
-  module _ (𝓣 : Tables 𝓤 H) (known-one : Triple 𝓤 (𝓣 .C one-def.name) (One 𝓤 H A mem′ run′)) (l₀ l₁ l₂ l₃ l₄ l₅ l₆ l₇ l₈ l₉ l₁₀ l₁₁ l₁₂ l₁₃ : ℕ) where
+  module _ (𝓣 : Tables 𝓤 H) (known-one : Triple 𝓤 (𝓣 .C one-def.name) (One 𝓤 H A mem′ run′)) (l₀ l₁ l₂ l₃ l₄ l₅ l₆ l₇ l₈
+      l₉ l₁₀ l₁₁ l₁₂ l₁₃ : ℕ) where
     abbrev C : Calls 𝓤 H
     C = 𝓣 .C
 
@@ -208,16 +218,21 @@ module _ {M : Type 1} (𝓤 : URA M) (H : Heap 𝓤) (A : Atoms 𝓤) (W : Given
 
     -- the locals in front of the arrays, and those behind them
     abbrev Rest : Stand ys → List (Item 𝓤)
-    Rest i = ‵ (fat fullShare state-ty l₅ 0 (state-val (i .state))) ∷ ‵ (fdies state-ty l₅) ∷ ‵ (fdies bytes-ty l₄) ∷ ‵ (fdies numbers-ty l₃)
-        ∷ ‵ (fdies bytes-ty l₂) ∷ ‵ (fat fullShare slice l₁ 0 (machine b o (i .table))) ∷ ‵ (fdies slice l₁) ∷ Empty state-ty l₀ []
+    Rest i = ‵ (fat fullShare state-ty l₅ 0 (state-val (i .state))) ∷ ‵ (fdies state-ty l₅) ∷ ‵ (fdies bytes-ty l₄) ∷ ‵
+        (fdies numbers-ty l₃)
+        ∷ ‵ (fdies bytes-ty l₂) ∷ ‵ (fat fullShare slice l₁ 0 (machine b o (i .table))) ∷ ‵ (fdies slice l₁) ∷ Empty
+        state-ty l₀ []
 
     abbrev At : Stand ys → List (Item 𝓤)
-    At i = ‵ (mem Bytes .lies (i .bytes) l₂ 0) ∷ ‵ (mem Numbers .lies (i .numbers) l₃ 0) ∷ ‵ (mem Bytes .lies (i .answers) l₄ 0)
-        ∷ Obs (i .table) ∷ Bor (i .table) ∷ ‵ (flft κ q) ∷ Empty (mref Bytes) l₁₃ (Empty (mref Numbers) l₁₂ (Empty (mref Bytes) l₁₁ (Empty (sliceTy wref) l₁₀
+    At i = ‵ (mem Bytes .lies (i .bytes) l₂ 0) ∷ ‵ (mem Numbers .lies (i .numbers) l₃ 0) ∷ ‵ (mem Bytes .lies (i
+        .answers) l₄ 0)
+        ∷ Obs (i .table) ∷ Bor (i .table) ∷ ‵ (flft κ q) ∷ Empty (mref Bytes) l₁₃ (Empty (mref Numbers) l₁₂ (Empty (mref
+        Bytes) l₁₁ (Empty (sliceTy wref) l₁₀
         (Empty wref l₉ (Empty tyBool l₈ (Empty numbers-ty l₇ (Empty bytes-ty l₆ (Rest i))))))))
 
     abbrev Turned : Stand ys → Out → SProp 𝓤
-    Turned i = afterTurn 𝓤 H (Below 𝓤 H A Nearer At i) (afterBlock 𝓤 H (afterSeq 𝓤 H (Wp 𝓤 H C Λ En behind (atReturn 𝓤 H En Post)) (atReturn 𝓤 H En Post)))
+    Turned i = afterTurn 𝓤 H (Below 𝓤 H A Nearer At i) (afterBlock 𝓤 H (afterSeq 𝓤 H (Wp 𝓤 H C Λ En behind (atReturn 𝓤 H
+        En Post)) (atReturn 𝓤 H En Post)))
 
     module _ (i : Stand ys) where
       abbrev zs : List Record
@@ -232,22 +247,26 @@ module _ {M : Type 1} (𝓤 : URA M) (H : Heap 𝓤) (A : Atoms 𝓤) (W : Given
       -- the arrays are given up, and the function returns `s`
       ends : T (not (ltb 0 (s .input .left))) → Sq W (At i) (runs C Λ En behind (atRet En Post))
       ends over =
-          assigns ! (of-opd ! (load ! (from ! (stop !)) (look ! 22 refl))) (from ! (stop !)) (init ! 29 refl (typed-state 𝓤 H A W s (state-val s) (i .held))) $
+          assigns ! (of-opd ! (load ! (from ! (stop !)) (look ! 22 refl))) (from ! (stop !)) (init ! 29 refl
+          (typed-state 𝓤 H A W s (state-val s) (i .held))) $
           returns ! (look ! 29 refl) $ forget ! 22 refl $ forget ! 27 refl $ forget ! 29 refl $
           back u8 65536 𝓤 H A W (uint-vals w8) (uint-tells w8) (i .bytes) l₂ (forget ! 0 refl $ move ! (1 ∷ []) $
           back i64 126 𝓤 H A W (sint-vals w64) (sint-tells w64) (i .numbers) l₃ (forget ! 0 refl $ move ! (2 ∷ []) $
           back u8 65536 𝓤 H A W (uint-vals w8) (uint-tells w8) (i .answers) l₄ (forget ! 0 refl $
           -- [_4; _3; _2; obs; the borrow; the token; _13; …; _5; …; …; _1; …; _0; …]
-          keep ! (6 ∷ 7 ∷ 8 ∷ 9 ∷ 10 ∷ 11 ∷ 12 ∷ 13 ∷ 14 ∷ 15 ∷ 16 ∷ 17 ∷ 18 ∷ 19 ∷ 20 ∷ 21 ∷ 22 ∷ 23 ∷ 0 ∷ 24 ∷ 1 ∷ 25 ∷ 2 ∷ 26 ∷ 27 ∷ 28 ∷ 29 ∷ 30
+          keep ! (6 ∷ 7 ∷ 8 ∷ 9 ∷ 10 ∷ 11 ∷ 12 ∷ 13 ∷ 14 ∷ 15 ∷ 16 ∷ 17 ∷ 18 ∷ 19 ∷ 20 ∷ 21 ∷ 22 ∷ 23 ∷ 0 ∷ 24 ∷ 1 ∷ 25
+          ∷ 2 ∷ 26 ∷ 27 ∷ 28 ∷ 29 ∷ 30
           ∷ 3 ∷ 4 ∷ 5 ∷ []) $
           freed 𝓤 H A W En (Obs zs ∷ Bor zs ∷ ‵ (flft κ q) ∷ [])
           (by ! (exits zs s (i .long) (served (i .came) (none-left (s .input .left) over)) (i .held))))))
 
       -- the locals while the turn is called: the references are in theirs
       abbrev Called : List (Item 𝓤)
-      Called = ‵ (fat fullShare (mref Bytes) l₁₃ 0 (vptr l₄ 0)) ∷ ‵ (fdies (mref Bytes) l₁₃) ∷ ‵ (fat fullShare (mref Numbers) l₁₂ 0 (vptr l₃ 0))
+      Called = ‵ (fat fullShare (mref Bytes) l₁₃ 0 (vptr l₄ 0)) ∷ ‵ (fdies (mref Bytes) l₁₃) ∷ ‵ (fat fullShare (mref
+          Numbers) l₁₂ 0 (vptr l₃ 0))
           ∷ ‵ (fdies (mref Numbers) l₁₂) ∷ ‵ (fat fullShare (mref Bytes) l₁₁ 0 (vptr l₂ 0)) ∷ ‵ (fdies (mref Bytes) l₁₁)
-          ∷ ‵ (fat fullShare (sliceTy wref) l₁₀ 0 (machine b o zs)) ∷ ‵ (fdies (sliceTy wref) l₁₀) ∷ ‵ (fat fullShare wref l₉ 0 (vptr b o))
+          ∷ ‵ (fat fullShare (sliceTy wref) l₁₀ 0 (machine b o zs)) ∷ ‵ (fdies (sliceTy wref) l₁₀) ∷ ‵ (fat fullShare
+          wref l₉ 0 (vptr b o))
           ∷ ‵ (fdies wref l₉) ∷ Empty tyBool l₈ (Empty numbers-ty l₇ (Empty bytes-ty l₆ (Rest i)))
 
       abbrev LentBytes : ℕ → ℕ → GName → Item 𝓤
@@ -258,65 +277,68 @@ module _ {M : Type 1} (𝓤 : URA M) (H : Heap 𝓤) (A : Atoms 𝓤) (W : Given
 
       -- what the lender keeps while the turn is called
       abbrev Kept : ℕ → ℕ → GName → GName → GName → GName → List (Item 𝓤) → List (Item 𝓤)
-      Kept α β γ′ γb γx γo Γ = LentBytes α l₄ γo ∷ LentNumbers β γx ∷ LentBytes α l₂ γb ∷ ‵ (flent (α ∷ []) (Held R (length zs) b o γ′))
-          ∷ ‵ (fobor κ q (Held R (length zs) b o γ)) ∷ ‵ (fobs γ (codedHoleys R .code (heres R zs))) ∷ ‵ (fauth γ (codedHoleys R .code (heres R zs))) ∷ Γ
+      Kept α β γ′ γb γx γo Γ = LentBytes α l₄ γo ∷ LentNumbers β γx ∷ LentBytes α l₂ γb ∷ ‵ (flent (α ∷ []) (Held R
+          (length zs) b o γ′))
+          ∷ ‵ (fobor κ q (Held R (length zs) b o γ)) ∷ ‵ (fobs γ (codedHoleys R .code (heres R zs))) ∷ ‵ (fauth γ
+          (codedHoleys R .code (heres R zs))) ∷ Γ
 
       -- what the call led to, with what is lent taken back
       abbrev Came : List Record → List ℕ → List ℤ → List ℕ → List (Item 𝓤)
-      Came us bs′ xs′ os′ = ‵ (mem Bytes .lies bs′ l₂ 0) ∷ ‵ (mem Numbers .lies xs′ l₃ 0) ∷ ‵ (mem Bytes .lies os′ l₄ 0) ∷ Obs us
+      Came us bs′ xs′ os′ = ‵ (mem Bytes .lies bs′ l₂ 0) ∷ ‵ (mem Numbers .lies xs′ l₃ 0) ∷ ‵ (mem Bytes .lies os′ l₄ 0)
+          ∷ Obs us
           ∷ ‵ (fbor κ (Held R (length us) b o γ)) ∷ ‵ (flft κ q) ∷ Called
 
       -- both lifetimes end: the arrays and the row come back
-      taken-back : {g : Goal 𝓤 H} → Soaks g → (α β : ℕ) (γ′ γb γx γo : GName) (us : List Record) (bs′ : List ℕ) (xs′ : List ℤ) (os′ : List ℕ)
+      taken-back : {g : Goal 𝓤 H} → Soaks g → (α β : ℕ) (γ′ γb γx γo : GName) (us : List Record) (bs′ : List ℕ) (xs′ :
+          List ℤ) (os′ : List ℕ)
           → length us ≡ length zs → Sq W (Came us bs′ xs′ os′) g
-          → Sq W (‵ (finally R γ′ us) ∷ ‵ (fres γb (Bytes .coded .code bs′)) ∷ ‵ (fres γx (Numbers .coded .code xs′)) ∷ ‵ (fres γo (Bytes .coded .code os′))
+          → Sq W (‵ (finally R γ′ us) ∷ ‵ (fres γb (Bytes .coded .code bs′)) ∷ ‵ (fres γx (Numbers .coded .code xs′)) ∷
+          ‵ (fres γo (Bytes .coded .code os′))
           ∷ ‵ (flft (α ∷ []) fullShare) ∷ ‵ (flft (β ∷ []) fullShare) ∷ Kept α β γ′ γb γx γo Called) g
       taken-back soaks α β γ′ γb γx γo us bs′ xs′ os′ l k =
           move ! (5 ∷ []) $ lft-end ! soaks $ move ! (0 ∷ 7 ∷ 3 ∷ []) $
-          use3 W (later (‵ (mem Numbers .lies xs′ l₃ 0))) (ref-back 𝓤 H A W Numbers (β ∷ []) γx xs′ l₃ 0) $ await ! soaks $
-          -- [the numbers; t's last list; the buffer's last; the answers' last; α's token; lent: the answers, the buffer, t; the open borrow; obs; auth; …]
-          move ! (4 ∷ []) $ lft-end ! soaks $ use1 W (‵ (fdead (α ∷ [])) ⊛ ‵ (fdead (α ∷ []))) (W .lfts .dead-dup (α ∷ [])) $ split ! $
+          use3 W (later (‵ (mem Numbers .lies xs′ l₃ 0))) (ref-back 𝓤 H A W Numbers (β ∷ []) γx xs′ l₃ 0) $ await !
+          soaks $
+          -- [the numbers; t's last list; the buffer's last; the answers' last; α's token; lent: the answers, the
+          -- buffer, t; the open borrow; obs; auth; …]
+          move ! (4 ∷ []) $ lft-end ! soaks $ use1 W (‵ (fdead (α ∷ [])) ⊛ ‵ (fdead (α ∷ []))) (W .lfts .dead-dup (α ∷
+          [])) $ split ! $
           move ! (0 ∷ 7 ∷ 4 ∷ []) $
           use3 W (later (‵ (mem Bytes .lies bs′ l₂ 0))) (ref-back 𝓤 H A W Bytes (α ∷ []) γb bs′ l₂ 0) $ await ! soaks $
-          -- [the buffer; α is dead; the numbers; t's last list; the answers' last; lent: the answers, t; the open borrow; obs; auth; …]
-          move ! (1 ∷ []) $ use1 W (‵ (fdead (α ∷ [])) ⊛ ‵ (fdead (α ∷ []))) (W .lfts .dead-dup (α ∷ [])) $ split ! $ move ! (0 ∷ 6 ∷ 5 ∷ []) $
+          -- [the buffer; α is dead; the numbers; t's last list; the answers' last; lent: the answers, t; the open
+          -- borrow; obs; auth; …]
+          move ! (1 ∷ []) $ use1 W (‵ (fdead (α ∷ [])) ⊛ ‵ (fdead (α ∷ []))) (W .lfts .dead-dup (α ∷ [])) $ split ! $
+          move ! (0 ∷ 6 ∷ 5 ∷ []) $
           use3 W (later (‵ (mem Bytes .lies os′ l₄ 0))) (ref-back 𝓤 H A W Bytes (α ∷ []) γo os′ l₄ 0) $ await ! soaks $
           -- [the answers; α is dead; the buffer; the numbers; t's last list; t is lent; the open borrow; obs; auth; …]
           move ! (1 ∷ 5 ∷ 4 ∷ []) $
-          use3 W (later (‵ (Arr (mem R) (length zs) .lies us b o))) (slice-back 𝓤 H A W R (α ∷ []) γ′ us (length zs) b o) $ await ! soaks $ fsplit ! $ drop ! $
-          use1 W (‵ (row R fullShare us b o)) (whole-out 𝓤 H A W R us b o) $ move ! (0 ∷ 4 ∷ 5 ∷ 6 ∷ []) $ closes-slice ! soaks R zs us l b o $
+          use3 W (later (‵ (Arr (mem R) (length zs) .lies us b o))) (slice-back 𝓤 H A W R (α ∷ []) γ′ us (length zs) b
+          o) $ await ! soaks $ fsplit ! $ drop ! $
+          use1 W (‵ (row R fullShare us b o)) (whole-out 𝓤 H A W R us b o) $ move ! (0 ∷ 4 ∷ 5 ∷ 6 ∷ []) $ closes-slice
+          ! soaks R zs us l b o $
           -- [obs; the borrow; the token; the answers; the buffer; the numbers; …]
           move ! (4 ∷ 5 ∷ 3 ∷ []) $ k
 
-      -- `s = step(t, &mut buf, &mut xs, &mut out, s);`, once the references are in their locals
-      calling : T (ltb 0 (s .input .left))
-          → Sq W (‵ (mem Bytes .lies (i .bytes) l₂ 0) ∷ ‵ (mem Numbers .lies (i .numbers) l₃ 0) ∷ ‵ (mem Bytes .lies (i .answers) l₄ 0) ∷ Obs zs ∷ Bor zs
-          ∷ ‵ (flft κ q) ∷ Called) (runs C Λ En (after (after (after (after (after body))))) (anyQ (Turned i)))
-      unfolding afterTurn
-      calling more =
-          move ! (3 ∷ 4 ∷ 5 ∷ []) $ opens-slice ! tt R zs b o $ use1 W (‵ (cells (mem R) zs b o)) (whole-in 𝓤 H A W R zs b o) $
-          -- [the row; the open borrow; obs; auth; the buffer; the numbers; the answers; …]
-          lft-new ! tt (λ α. lft-new ! tt (λ β. move ! (2 ∷ []) $
-          use1 W (later (some (λ (γ′ : GName). ‵ (Owned (α ∷ []) b o γ′ zs) ⊛ ‵ (flent (α ∷ []) (Held R (length zs) b o γ′)))))
-          (lends-slice 𝓤 H A W R (named 0) (α ∷ []) zs b o room′) $ await ! tt $ pick ! (λ γ′. split ! $ move ! (7 ∷ []) $
-          use1 W (later (some (λ (γb : GName). ‵ (Lent Bytes 0 (α ∷ []) l₂ 0 γb (i .bytes)) ⊛ LentBytes α l₂ γb)))
-          (lends-ref 𝓤 H A W Bytes (named 0) (α ∷ []) (i .bytes) l₂ 0) $ await ! tt $ pick ! (λ γb. split ! $ move ! (9 ∷ []) $
-          use1 W (later (some (λ (γx : GName). ‵ (Lent Numbers 1 (β ∷ []) l₃ 0 γx (i .numbers)) ⊛ LentNumbers β γx)))
-          (lends-ref 𝓤 H A W Numbers (named 1) (β ∷ []) (i .numbers) l₃ 0) $ await ! tt $ pick ! (λ γx. split ! $ move ! (11 ∷ []) $
-          use1 W (later (some (λ (γo : GName). ‵ (Lent Bytes 0 (α ∷ []) l₄ 0 γo (i .answers)) ⊛ LentBytes α l₄ γo)))
-          (lends-ref 𝓤 H A W Bytes (named 0) (α ∷ []) (i .answers) l₄ 0) $ await ! tt $ pick ! (λ γo. split ! $
-          -- [the answers and lent; the numbers and lent; the buffer and lent; t and lent; β's token; α's token; the open borrow; obs; auth; …]
-          move ! (9 ∷ 8 ∷ []) $ join ! $ move ! (1 ∷ 0 ∷ []) $ join ! $ move ! (2 ∷ 0 ∷ []) $ join ! $ move ! (3 ∷ 0 ∷ []) $ join ! $
-          move ! (4 ∷ 0 ∷ []) $ join ! $
+      there : ℕ → ℕ → GName → GName → GName → GName → One 𝓤 H A mem′ run′ .Ghost
+      there α β γ′ γb γx γo = to-one 𝓤 H A mem′ run′ W (α ∷ []) (β ∷ []) b o γ′ zs l₂ γb (i .bytes) l₃ γx (i .numbers)
+          l₄ γo (i .answers) s
+
+      -- `s = step(t, &mut buf, &mut xs, &mut out, s);`, with all that it takes lent
+      calling : T (ltb 0 (s .input .left)) → (α β : ℕ) (γ′ γb γx γo : GName)
+          → Sq W (Handed 𝓤 H A mem′ run′ W (α ∷ []) (β ∷ []) b o γ′ zs l₂ γb (i .bytes) l₃ γx (i .numbers) l₄ γo
+          (i .answers) s ∷ Kept α β γ′ γb γx γo Called)
+          (runs C Λ En (after (after (after (after (after body))))) (anyQ (Turned i)))
+      unfolding afterTurn there
+      calling more α β γ′ γb γx γo =
           use1 W (raw (One 𝓤 H A mem′ run′ .pre (there α β γ′ γb γx γo)))
-          (goes-one 𝓤 H A mem′ run′ W (α ∷ []) (β ∷ []) b o γ′ zs l₂ γb (i .bytes) l₃ γx (i .numbers) l₄ γo (i .answers) s (i .held) (i .came .stands)
-          (i .came .room)) $
+          (goes-one 𝓤 H A mem′ run′ W (α ∷ []) (β ∷ []) b o γ′ zs l₂ γb (i .bytes) l₃ γx (i .numbers) l₄ γo
+          (i .answers) s (i .held) (i .came .stands) (i .came .room)) $
           calls-at-last ! (fmOf 𝓤 H (W .laws) 𝓣) (One 𝓤 H A mem′ run′) known-one (there α β γ′ γb γx γo)
           (and-then ! (load ! (from ! (stop !)) (look ! 14 refl)) (and-then ! (load ! (from ! (stop !)) (look ! 12 refl))
           (and-then ! (load ! (from ! (stop !)) (look ! 10 refl)) (and-then ! (load ! (from ! (stop !)) (look ! 8 refl))
           (and-then ! (load ! (from ! (stop !)) (look ! 24 refl)) (no-more !)))))) (λ w.
-          comes-back 𝓤 H A mem′ run′ W (α ∷ []) (β ∷ []) b o γ′ zs l₂ γb (i .bytes) l₃ γx (i .numbers) l₄ γo (i .answers) s tt w (λ us bs′ xs′ os′ r l e is.
-          taken-back tt α β γ′ γb γx γo us bs′ xs′ os′ l (
+          comes-back 𝓤 H A mem′ run′ W (α ∷ []) (β ∷ []) b o γ′ zs l₂ γb (i .bytes) l₃ γx (i .numbers) l₄ γo
+          (i .answers) s tt w (λ us bs′ xs′ os′ r l e is. taken-back tt α β γ′ γb γx γo us bs′ xs′ os′ l (
           land-last ! (from ! (stop !)) (store ! 22 refl (typed-state 𝓤 H A W r w is)) $
           rewrite ! 22 (λ (z : Val). ‵ (fat fullShare state-ty l₅ 0 z)) (state-tells r w is) refl $
           rewrite ! 27 (λ (m : ℕ). ‵ (fat fullShare slice l₁ 0 (sliceVal (b, o) m))) (sym l) refl $
@@ -330,33 +352,71 @@ module _ {M : Type 1} (𝓤 : URA M) (H : Heap 𝓤) (A : Atoms 𝓤) (W : Given
             long = l ∙ i .long;
             held = state-is r w is;
             came = one-more (i .came) (ltb→lt 0 (s .input .left) more) e;
-          })
-          (fewer (i .came) (ltb→lt 0 (s .input .left) more) e))))))))))
-        where
-          there : ℕ → ℕ → GName → GName → GName → GName → One 𝓤 H A mem′ run′ .Ghost
-          there α β γ′ γb γx γo = to-one 𝓤 H A mem′ run′ W (α ∷ []) (β ∷ []) b o γ′ zs l₂ γb (i .bytes) l₃ γx (i .numbers) l₄ γo (i .answers) s
+          }) (fewer (i .came) (ltb→lt 0 (s .input .left) more) e))))
+
+      -- the row and the arrays are lent, for two lifetimes of the turn's own
+      lending : T (ltb 0 (s .input .left))
+          → Sq W (‵ (mem Bytes .lies (i .bytes) l₂ 0) ∷ ‵ (mem Numbers .lies (i .numbers) l₃ 0)
+          ∷ ‵ (mem Bytes .lies (i .answers) l₄ 0) ∷ Obs zs ∷ Bor zs ∷ ‵ (flft κ q) ∷ Called)
+          (runs C Λ En (after (after (after (after (after body))))) (anyQ (Turned i)))
+      lending more =
+          move ! (3 ∷ 4 ∷ 5 ∷ []) $ opens-slice ! tt R zs b o $
+          use1 W (‵ (cells (mem R) zs b o)) (whole-in 𝓤 H A W R zs b o) $
+          -- [the row; the open borrow; obs; auth; the buffer; the numbers; the answers; …]
+          lft-new ! tt (λ α. lft-new ! tt (λ β. move ! (2 ∷ []) $
+          use1 W (later (some (λ (γ′ : GName). ‵ (Owned (α ∷ []) b o γ′ zs)
+          ⊛ ‵ (flent (α ∷ []) (Held R (length zs) b o γ′)))))
+          (lends-slice 𝓤 H A W R (named 0) (α ∷ []) zs b o room′) $ await ! tt $ pick ! (λ γ′. split ! $
+          move ! (7 ∷ []) $
+          use1 W (later (some (λ (γb : GName). ‵ (Lent Bytes 0 (α ∷ []) l₂ 0 γb (i .bytes)) ⊛ LentBytes α l₂ γb)))
+          (lends-ref 𝓤 H A W Bytes (named 0) (α ∷ []) (i .bytes) l₂ 0) $ await ! tt $ pick ! (λ γb. split ! $
+          move ! (9 ∷ []) $
+          use1 W (later (some (λ (γx : GName). ‵ (Lent Numbers 1 (β ∷ []) l₃ 0 γx (i .numbers)) ⊛ LentNumbers β γx)))
+          (lends-ref 𝓤 H A W Numbers (named 1) (β ∷ []) (i .numbers) l₃ 0) $ await ! tt $ pick ! (λ γx. split ! $
+          move ! (11 ∷ []) $
+          use1 W (later (some (λ (γo : GName). ‵ (Lent Bytes 0 (α ∷ []) l₄ 0 γo (i .answers)) ⊛ LentBytes α l₄ γo)))
+          (lends-ref 𝓤 H A W Bytes (named 0) (α ∷ []) (i .answers) l₄ 0) $ await ! tt $ pick ! (λ γo. split ! $
+          -- [the answers and lent; the numbers and lent; the buffer and lent; t and lent; β's token; α's token; the
+          -- open borrow; obs; auth; …]
+          move ! (9 ∷ 8 ∷ []) $ join ! $ move ! (1 ∷ 0 ∷ []) $ join ! $ move ! (2 ∷ 0 ∷ []) $ join ! $
+          move ! (3 ∷ 0 ∷ []) $ join ! $ move ! (4 ∷ 0 ∷ []) $ join ! $ calling more α β γ′ γb γx γo))))))
 
       -- one turn of the loop
       turns : Sq W (At i) (runs C Λ En turn-1 (anyQ (Turned i)))
       unfolding afterTurn
       turns =
           -- `s.input.left > 0`
-          assigns ! (bin ! (lit ! tt) (load ! (from ! (fld ! refl (fld ! refl (stop !)))) (look-in ! 22 (sub ! 3 refl (sub ! 0 refl (whole !))))) tt)
+          assigns ! (bin ! (lit ! tt) (load ! (from ! (fld ! refl (fld ! refl (stop !)))) (look-in ! 22 (sub ! 3 refl
+          (sub ! 0 refl (whole !))))) tt)
           (from ! (stop !)) (init ! 16 refl (tt, tt)) $
           first ! $ branches ! (load ! (from ! (stop !)) (look ! 16 refl))
           (λ more. skips ! $ exec ! C Λ En body (anyQ (Turned i)) $ forget ! 16 refl $
           -- `t`, `&mut buf`, `&mut xs` and `&mut out`
-          assigns ! (addr ! (from ! (fld ! refl (hop ! (look-in ! 27 (sub ! 0 refl (whole !))) (stop !))))) (from ! (stop !)) (init ! 14 refl (tt, tt)) $
-          assigns ! (agg ! (and-then ! (load ! (from ! (stop !)) (look ! 14 refl)) (and-then ! (load ! (from ! (fld ! refl (stop !)))
-          (look-in ! 27 (sub ! 1 refl (whole !)))) (no-more !)))) (from ! (stop !)) (init ! 12 refl (tt, (tt, (record { fits = room′ .0 }, tt)))) $
+          assigns ! (addr ! (from ! (fld ! refl (hop ! (look-in ! 27 (sub ! 0 refl (whole !))) (stop !))))) (from !
+          (stop !)) (init ! 14 refl (tt, tt)) $
+          assigns ! (agg ! (and-then ! (load ! (from ! (stop !)) (look ! 14 refl)) (and-then ! (load ! (from ! (fld !
+          refl (stop !)))
+          (look-in ! 27 (sub ! 1 refl (whole !)))) (no-more !)))) (from ! (stop !)) (init ! 12 refl (
+            tt,
+            (
+              tt,
+              (
+                record {
+                  fits = room′ .0;
+                },
+                tt,
+              ),
+            ),
+          )) $
           assigns ! (addr ! (from ! (stop !))) (from ! (stop !)) (init ! 10 refl (tt, tt)) $
           assigns ! (addr ! (from ! (stop !))) (from ! (stop !)) (init ! 8 refl (tt, tt)) $
           assigns ! (addr ! (from ! (stop !))) (from ! (stop !)) (init ! 6 refl (tt, tt)) $
-          calling more)
+          lending more)
           (λ over. jumps ! $ exec ! C Λ En behind (atRet En Post) $ forget ! 16 refl $ ends over)
 
   module _ (𝓣 : Tables 𝓤 H) (known-buffer : Triple 𝓤 (𝓣 .C buffer-def.name) (Buffer 𝓤 H A mem′ run′))
-      (known-numbers : Triple 𝓤 (𝓣 .C numbers-def.name) (NoNumbers 𝓤 H A mem′ run′)) (known-start : Triple 𝓤 (𝓣 .C start-def.name) (Start 𝓤 H A mem′ run′))
+      (known-numbers : Triple 𝓤 (𝓣 .C numbers-def.name) (NoNumbers 𝓤 H A mem′ run′)) (known-start : Triple 𝓤 (𝓣 .C
+      start-def.name) (Start 𝓤 H A mem′ run′))
       (known-one : Triple 𝓤 (𝓣 .C one-def.name) (One 𝓤 H A mem′ run′)) where
     fm : FmC 𝓤 H (W .laws) (𝓣 .C)
     fm = fmOf 𝓤 H (W .laws) 𝓣
@@ -368,7 +428,8 @@ module _ {M : Type 1} (𝓤 : URA M) (H : Heap 𝓤) (A : Atoms 𝓤) (W : Given
     typed-numbers = typed-array i64 126 𝓤 H A W (sint-lawful 𝓤 H A W w64)
 
     -- where the loop stands at first
-    at-first : (bs : List ℕ) (xs : List ℤ) (os : List ℕ) (s : State) (w : Val) → 65536 ≡ length bs → s ≡ startState → Is G.the-row s (w ∷ []) → Stand ys
+    at-first : (bs : List ℕ) (xs : List ℤ) (os : List ℕ) (s : State) (w : Val) → 65536 ≡ length bs → s ≡ startState → Is
+        G.the-row s (w ∷ []) → Stand ys
     at-first bs xs os s w long e is =
         record {
           table = ys;
@@ -390,53 +451,75 @@ module _ {M : Type 1} (𝓤 : URA M) (H : Heap 𝓤) (A : Atoms 𝓤) (W : Given
     goes-start : ent 𝓤 (emp 𝓤) (Start 𝓤 H A mem′ run′ .pre ((tt, tt, tt, tt, tt), tt))
     goes-start = qed W [] ∵ nothing ! $ nothing ! $ join ! $ frame ! $ done !
 
-    walk : ent 𝓤 (onEntry 𝓤 H A f.signature (κ, tt) (q, tt) x at) (WpFn 𝓤 H (𝓣 .C) (𝓣 .Λ) function (machine b o ys ∷ []) Post)
+    walk : ent 𝓤 (onEntry 𝓤 H A f.signature (κ, tt) (q, tt) x at) (WpFn 𝓤 H (𝓣 .C) (𝓣 .Λ) function (machine b o ys ∷ [])
+        Post)
     unfolding at-first
     walk =
-        qed W ((‵ (flft κ q) ⊛ ‵ ftrue) ∷ ‵ (owns (MutSlice (named 0) κ R ∷ []) x at) ∷ []) ∵ enter ! (𝓣 .C) (𝓣 .Λ) function (machine b o ys ∷ []) _ $
-        alloc1 ! (λ l₀. alloc1 ! (λ l₁. alloc1 ! (λ l₂. alloc1 ! (λ l₃. alloc1 ! (λ l₄. alloc1 ! (λ l₅. alloc1 ! (λ l₆. alloc1 ! (λ l₇. alloc1 ! (λ l₈.
+        qed W ((‵ (flft κ q) ⊛ ‵ ftrue) ∷ ‵ (owns (MutSlice (named 0) κ R ∷ []) x at) ∷ []) ∵ enter ! (𝓣 .C) (𝓣 .Λ)
+        function (machine b o ys ∷ []) _ $
+        alloc1 ! (λ l₀. alloc1 ! (λ l₁. alloc1 ! (λ l₂. alloc1 ! (λ l₃. alloc1 ! (λ l₄. alloc1 ! (λ l₅. alloc1 ! (λ l₆.
+        alloc1 ! (λ l₇. alloc1 ! (λ l₈.
         alloc1 ! (λ l₉. alloc1 ! (λ l₁₀. alloc1 ! (λ l₁₁. alloc1 ! (λ l₁₂. alloc1 ! (λ l₁₃. alloc0 ! $ params1 ! $
         pass1 ! (init ! 24 refl (tt, (tt, (record { fits = room .0 }, tt)))) $ pass0 ! $
-        move ! (29 ∷ []) $ fsplit ! $ fsplit ! $ drop ! $ fsplit ! $ move ! (2 ∷ []) $ drop ! $ move ! (30 ∷ []) $ split ! $ move ! (1 ∷ []) $ drop ! $
+        move ! (29 ∷ []) $ fsplit ! $ fsplit ! $ drop ! $ fsplit ! $ move ! (2 ∷ []) $ drop ! $ move ! (30 ∷ []) $ split
+        ! $ move ! (1 ∷ []) $ drop ! $
         -- [the token; obs; the borrow; _13; …; _0; …]
         -- `let mut buf = io::large_buffer();`
-        asks 𝓤 H A W fm (Buffer 𝓤 H A mem′ run′) known-buffer ((tt, tt, tt, tt, tt), tt) goes-buffer Bytes (Buffers 𝓤 H A mem′ run′) (λ w. id⊢ 𝓤 _)
+        asks 𝓤 H A W fm (Buffer 𝓤 H A mem′ run′) known-buffer ((tt, tt, tt, tt, tt), tt) goes-buffer Bytes (Buffers 𝓤 H
+        A mem′ run′) (λ w. id⊢ 𝓤 _)
         (λ r. 65536 ≡ length r) (buffers-of 𝓤 H A mem′ run′) (no-more !) (λ bs w long ib.
         land ! (from ! (stop !)) (init ! 17 refl (typed-bytes bs w ib)) $
-        assigns ! (of-opd ! (load ! (from ! (stop !)) (look ! 17 refl))) (from ! (stop !)) (init ! 25 refl (typed-bytes bs w ib)) $
+        assigns ! (of-opd ! (load ! (from ! (stop !)) (look ! 17 refl))) (from ! (stop !)) (init ! 25 refl (typed-bytes
+        bs w ib)) $
         -- `let mut xs = no_numbers();`
-        asks 𝓤 H A W fm (NoNumbers 𝓤 H A mem′ run′) known-numbers ((tt, tt, tt, tt, tt), tt) goes-numbers Numbers (Numbered 𝓤 H A mem′ run′) (λ w. id⊢ 𝓤 _)
+        asks 𝓤 H A W fm (NoNumbers 𝓤 H A mem′ run′) known-numbers ((tt, tt, tt, tt, tt), tt) goes-numbers Numbers
+        (Numbered 𝓤 H A mem′ run′) (λ w. id⊢ 𝓤 _)
         (λ r. 126 ≡ length r) (numbered-of 𝓤 H A mem′ run′) (no-more !) (λ xs v _ ix.
         land ! (from ! (stop !)) (init ! 15 refl (typed-numbers xs v ix)) $
-        assigns ! (of-opd ! (load ! (from ! (stop !)) (look ! 15 refl))) (from ! (stop !)) (init ! 23 refl (typed-numbers xs v ix)) $
+        assigns ! (of-opd ! (load ! (from ! (stop !)) (look ! 15 refl))) (from ! (stop !)) (init ! 23 refl
+        (typed-numbers xs v ix)) $
         -- `let mut out = io::large_buffer();`
-        asks 𝓤 H A W fm (Buffer 𝓤 H A mem′ run′) known-buffer ((tt, tt, tt, tt, tt), tt) goes-buffer Bytes (Buffers 𝓤 H A mem′ run′) (λ w. id⊢ 𝓤 _)
+        asks 𝓤 H A W fm (Buffer 𝓤 H A mem′ run′) known-buffer ((tt, tt, tt, tt, tt), tt) goes-buffer Bytes (Buffers 𝓤 H
+        A mem′ run′) (λ w. id⊢ 𝓤 _)
         (λ r. 65536 ≡ length r) (buffers-of 𝓤 H A mem′ run′) (no-more !) (λ os u _ io.
         land ! (from ! (stop !)) (store ! 17 refl (typed-bytes os u io)) $
-        assigns ! (of-opd ! (load ! (from ! (stop !)) (look ! 17 refl))) (from ! (stop !)) (init ! 21 refl (typed-bytes os u io)) $
+        assigns ! (of-opd ! (load ! (from ! (stop !)) (look ! 17 refl))) (from ! (stop !)) (init ! 21 refl (typed-bytes
+        os u io)) $
         -- `let mut s = start();`
-        asks 𝓤 H A W fm (Start 𝓤 H A mem′ run′) known-start ((tt, tt, tt, tt, tt), tt) goes-start G.the-row (Starts 𝓤 H A mem′ run′) (λ w. id⊢ 𝓤 _)
+        asks 𝓤 H A W fm (Start 𝓤 H A mem′ run′) known-start ((tt, tt, tt, tt, tt), tt) goes-start G.the-row (Starts 𝓤 H
+        A mem′ run′) (λ w. id⊢ 𝓤 _)
         (λ r. r ≡ startState) (starts-of 𝓤 H A mem′ run′) (no-more !) (λ s z first-state is.
         land ! (from ! (stop !)) (init ! 19 refl (typed-state 𝓤 H A W s z is)) $
-        rewrite ! 19 (λ (y : Val). ‵ (fat fullShare state-ty l₅ 0 y)) (state-tells s z is) refl $ forget ! 15 refl $ forget ! 17 refl $
+        rewrite ! 19 (λ (y : Val). ‵ (fat fullShare state-ty l₅ 0 y)) (state-tells s z is) refl $ forget ! 15 refl $
+        forget ! 17 refl $
         -- the arrays in their locals are values in memory
-        move ! (25 ∷ []) $ use1 W (‵ (mem Bytes .lies bs l₂ 0)) (apart u8 65536 𝓤 H A W (uint-makes 𝓤 H A W w8) bs w l₂ ib) $
-        move ! (24 ∷ []) $ use1 W (‵ (mem Numbers .lies xs l₃ 0)) (apart i64 126 𝓤 H A W (sint-makes 𝓤 H A W w64) xs v l₃ ix) $
-        move ! (23 ∷ []) $ use1 W (‵ (mem Bytes .lies os l₄ 0)) (apart u8 65536 𝓤 H A W (uint-makes 𝓤 H A W w8) os u l₄ io) $
+        move ! (25 ∷ []) $ use1 W (‵ (mem Bytes .lies bs l₂ 0)) (apart u8 65536 𝓤 H A W (uint-makes 𝓤 H A W w8) bs w l₂
+        ib) $
+        move ! (24 ∷ []) $ use1 W (‵ (mem Numbers .lies xs l₃ 0)) (apart i64 126 𝓤 H A W (sint-makes 𝓤 H A W w64) xs v
+        l₃ ix) $
+        move ! (23 ∷ []) $ use1 W (‵ (mem Bytes .lies os l₄ 0)) (apart u8 65536 𝓤 H A W (uint-makes 𝓤 H A W w8) os u l₄
+        io) $
         -- [the answers; the numbers; the buffer; the token; obs; the borrow; _13; …; _0; …]
         move ! (2 ∷ 1 ∷ 0 ∷ 4 ∷ 5 ∷ 3 ∷ []) $
         first ! $ blocks ! $ loops ! 𝓣 Nearer Nearer-wf (At 𝓣 known-one l₀ l₁ l₂ l₃ l₄ l₅ l₆ l₇ l₈ l₉ l₁₀ l₁₁ l₁₂ l₁₃)
-        (turns 𝓣 known-one l₀ l₁ l₂ l₃ l₄ l₅ l₆ l₇ l₈ l₉ l₁₀ l₁₁ l₁₂ l₁₃) (at-first bs xs os s z long first-state is)))))))))))))))))))
+        (turns 𝓣 known-one l₀ l₁ l₂ l₃ l₄ l₅ l₆ l₇ l₈ l₉ l₁₀ l₁₁ l₁₂ l₁₃) (at-first bs xs os s z long first-state
+        is)))))))))))))))))))
 
-module _ {M : Type 1} (𝓤 : URA M) (H : Heap 𝓤) (A : Atoms 𝓤) (W : Given 𝓤 H A) (mem′ : Memory → SProp 𝓤) (run′ : Routine → Fun 𝓤) (𝓣 : Tables 𝓤 H)
+module _ {M : Type 1} (𝓤 : URA M) (H : Heap 𝓤) (A : Atoms 𝓤) (W : Given 𝓤 H A) (mem′ : Memory → SProp 𝓤) (run′ : Routine
+    → Fun 𝓤) (𝓣 : Tables 𝓤 H)
     (known-buffer : Triple 𝓤 (𝓣 .C buffer-def.name) (Buffer 𝓤 H A mem′ run′))
     (known-numbers : Triple 𝓤 (𝓣 .C numbers-def.name) (NoNumbers 𝓤 H A mem′ run′))
-    (known-start : Triple 𝓤 (𝓣 .C start-def.name) (Start 𝓤 H A mem′ run′)) (known-one : Triple 𝓤 (𝓣 .C one-def.name) (One 𝓤 H A mem′ run′)) where
+    (known-start : Triple 𝓤 (𝓣 .C start-def.name) (Start 𝓤 H A mem′ run′)) (known-one : Triple 𝓤 (𝓣 .C one-def.name)
+    (One 𝓤 H A mem′ run′)) where
   walks : Walks 𝓤 H A f.ended stayed (WpFn 𝓤 H (𝓣 .C) (𝓣 .Λ) function) (f.clauses 𝓤 H A mem′ run′)
-  walks = walked 𝓤 H A f.ended stayed (f.clauses 𝓤 H A mem′ run′) (WpFn 𝓤 H (𝓣 .C) (𝓣 .Λ) function) (λ κs. (slice-vals, tt))
+  walks = walked 𝓤 H A f.ended stayed (f.clauses 𝓤 H A mem′ run′) (WpFn 𝓤 H (𝓣 .C) (𝓣 .Λ) function) (λ κs. (
+    slice-vals,
+    tt,
+  ))
       (λ κs. (mut-slice-tells (named 0) (κs .0) R, tt))
       (λ κs qs bounds a g are. via 𝓤 _ (fst∗ 𝓤 _ (emp 𝓤))
-      (walk 𝓤 H A W mem′ run′ (κs .0) (qs .0) (a .0 .ptr .0) (a .0 .ptr .1) (a .0 .name) (a .0 .now) (are .0 .0 .1) 𝓣 known-buffer known-numbers
+      (walk 𝓤 H A W mem′ run′ (κs .0) (qs .0) (a .0 .ptr .0) (a .0 .ptr .1) (a .0 .name) (a .0 .now) (are .0 .0 .1) 𝓣
+      known-buffer known-numbers
       known-start known-one))
 
   meets : Meets 𝓤 H A f.signature (WpFn 𝓤 H (𝓣 .C) (𝓣 .Λ) function) (f.spec 𝓤 H A mem′ run′)
@@ -450,9 +533,13 @@ serve-spec 𝓤 H 𝓜 𝓖 𝓡 =
     entered 𝓤 H (tripleOf 𝓤 H (𝓖 .A) f.signature (f.spec 𝓤 H (𝓖 .A) (𝓜 .mem) (𝓡 .run)))
     (tables 𝓤 H 𝓜 𝓡 code.env .C) (tables 𝓤 H 𝓜 𝓡 code.env .Λ) key.name code.function (code.unfolded 𝓤 H 𝓜 𝓡)
     (meets 𝓤 H (𝓖 .A) (givenOf 𝓤 H 𝓜 𝓖) (𝓜 .mem) (𝓡 .run) (tablesOf 𝓤 H 𝓜 (tables 𝓤 H 𝓜 𝓡 code.env))
-    (cited 𝓤 H (Buffer 𝓤 H (𝓖 .A) (𝓜 .mem) (𝓡 .run)) 𝓜 𝓡 code.env buffer-def.name buffer-def.routine code.calls-io·large-buffer
+    (cited 𝓤 H (Buffer 𝓤 H (𝓖 .A) (𝓜 .mem) (𝓡 .run)) 𝓜 𝓡 code.env buffer-def.name buffer-def.routine
+    code.calls-io·large-buffer
     (buffer-thm.met 𝓤 H 𝓜 𝓖 𝓡))
-    (cited 𝓤 H (NoNumbers 𝓤 H (𝓖 .A) (𝓜 .mem) (𝓡 .run)) 𝓜 𝓡 code.env numbers-def.name numbers-def.routine code.calls-text-serve·no-numbers
+    (cited 𝓤 H (NoNumbers 𝓤 H (𝓖 .A) (𝓜 .mem) (𝓡 .run)) 𝓜 𝓡 code.env numbers-def.name numbers-def.routine
+    code.calls-text-serve·no-numbers
     (numbers-thm.met 𝓤 H 𝓜 𝓖 𝓡))
-    (cited 𝓤 H (Start 𝓤 H (𝓖 .A) (𝓜 .mem) (𝓡 .run)) 𝓜 𝓡 code.env start-def.name start-def.routine code.calls-text-turn·start (start-thm.met 𝓤 H 𝓜 𝓖 𝓡))
-    (cited 𝓤 H (One 𝓤 H (𝓖 .A) (𝓜 .mem) (𝓡 .run)) 𝓜 𝓡 code.env one-def.name one-def.routine code.calls-text-serve·step (one-thm.met 𝓤 H 𝓜 𝓖 𝓡)))
+    (cited 𝓤 H (Start 𝓤 H (𝓖 .A) (𝓜 .mem) (𝓡 .run)) 𝓜 𝓡 code.env start-def.name start-def.routine
+    code.calls-text-turn·start (start-thm.met 𝓤 H 𝓜 𝓖 𝓡))
+    (cited 𝓤 H (One 𝓤 H (𝓖 .A) (𝓜 .mem) (𝓡 .run)) 𝓜 𝓡 code.env one-def.name one-def.routine code.calls-text-serve·step
+    (one-thm.met 𝓤 H 𝓜 𝓖 𝓡)))

@@ -1,6 +1,6 @@
--- `text_serve::step` meets its contract: a walk of its MIR, by hand. The table, the buffer and the answers are given up, each to one call. The numbers are
--- opened for the whole turn: they are lent as `&mut` to the call that hears the line, and then as `&` to the calls that perform it.
--- Assumes nothing.
+-- `text_serve::step` meets its contract: a walk of its MIR, by hand. The table, the buffer and the answers are given
+-- up, each to one call. The numbers are opened for the whole turn: they are lent as `&mut` to the call that hears the
+-- line, and then as `&` to the calls that perform it. Assumes nothing.
 use mathlib.Core.Path.{_≡_, refl, sym, ap, subst, _∙_}
 use Prim.Native.Nat.{ℕ, _+_, _≤_, _<_, _^_}
 use native.Mathlib.Omega.{arith}
@@ -87,7 +87,17 @@ stayed = (
   gave-slice (0 ∷ []) tt (plain (λ _. R)),
   (
     gave-ref (0 ∷ []) tt (plain (λ _. Bytes)),
-    (gave-ref (1 ∷ []) tt (plain (λ _. Numbers)), (gave-ref (0 ∷ []) tt (plain (λ _. Bytes)), (stay-none (λ _. G.the-row) yes, tt))),
+    (
+      gave-ref (1 ∷ []) tt (plain (λ _. Numbers)),
+      (
+        gave-ref (0 ∷ []) tt (plain (λ _. Bytes)),
+        (
+          stay-none (λ _.
+              G.the-row) yes,
+          tt,
+        ),
+      ),
+    ),
   ),
 )
 
@@ -100,10 +110,14 @@ function = record {
   outlives = [];
   params = 5;
   locals = local state-ty valueLocal ∷ local (sliceTy (tyRef (named 0) mut (pointee (R .written)))) valueLocal
-      ∷ local (tyRef (named 0) mut (pointee (Bytes .written))) valueLocal ∷ local (tyRef (named 1) mut (pointee (Numbers .written))) valueLocal
-      ∷ local (tyRef (named 0) mut (pointee (Bytes .written))) valueLocal ∷ local state-ty valueLocal ∷ local heard-ty valueLocal
-      ∷ local N′.mir valueLocal ∷ local (mref Bytes) valueLocal ∷ local (mref Numbers) valueLocal ∷ local wref valueLocal
-      ∷ local (sliceTy wref) valueLocal ∷ local figures-ty valueLocal ∷ local (sref Numbers) valueLocal ∷ local (mref Bytes) valueLocal ∷ [];
+      ∷ local (tyRef (named 0) mut (pointee (Bytes .written))) valueLocal ∷ local (tyRef (named 1) mut (pointee (Numbers
+      .written))) valueLocal
+      ∷ local (tyRef (named 0) mut (pointee (Bytes .written))) valueLocal ∷ local state-ty valueLocal ∷ local heard-ty
+      valueLocal
+      ∷ local N′.mir valueLocal ∷ local (mref Bytes) valueLocal ∷ local (mref Numbers) valueLocal ∷ local wref
+      valueLocal
+      ∷ local (sliceTy wref) valueLocal ∷ local figures-ty valueLocal ∷ local (sref Numbers) valueLocal ∷ local (mref
+      Bytes) valueLocal ∷ [];
   body = code.function .body;
 }
 
@@ -121,8 +135,10 @@ count-fits p is = LL.owed P.the-type P′.the-laws p (heard-val p ∷ []) is .1 
 request-is : (p : Prepared) → IsHeard p → Is B.the-row (p .request) (LL.val B.the-type B′.the-laws (p .request) ∷ [])
 request-is p is = LL.owed P.the-type P′.the-laws p (heard-val p ∷ []) is .1 .1 .1 .1 .1 .1 .1 .0
 
-module _ {M : Type 1} (𝓤 : URA M) (H : Heap 𝓤) (A : Atoms 𝓤) (W : Given 𝓤 H A) (mem′ : Memory → SProp 𝓤) (run : Routine → Fun 𝓤) (κ κ₂ : Lft)
-    (q q₂ : Share) (b o : ℕ) (γ : GName) (ys : List Record) (bb ob : ℕ) (γb : GName) (bs : List ℕ) (bx ox : ℕ) (γx : GName) (xs : List ℤ)
+module _ {M : Type 1} (𝓤 : URA M) (H : Heap 𝓤) (A : Atoms 𝓤) (W : Given 𝓤 H A) (mem′ : Memory → SProp 𝓤) (run : Routine
+    → Fun 𝓤) (κ κ₂ : Lft)
+    (q q₂ : Share) (b o : ℕ) (γ : GName) (ys : List Record) (bb ob : ℕ) (γb : GName) (bs : List ℕ) (bx ox : ℕ) (γx :
+    GName) (xs : List ℤ)
     (bo oo : ℕ) (γo : GName) (os : List ℕ) (s : State) (room : Room R (length ys)) (gs : IsState s)
     (asked : (Stands bs (s .input)) × (s .waiting + 1200 ≤ 65536)) where
   abbrev x : RefT (List Record) × (RefT (List ℕ) × (RefT (List ℤ) × (RefT (List ℕ) × (State × Unit {0}))))
@@ -143,56 +159,80 @@ module _ {M : Type 1} (𝓤 : URA M) (H : Heap 𝓤) (A : Atoms 𝓤) (W : Given
       → Turns bs s ys os bs′ r zs os′ → Is G.the-row r (w ∷ []) → ent 𝓤 (⋆ 𝓤 H A (Last zs bs′ xs′ os′)) (Post w)
   exits zs bs′ xs′ os′ r w l e is =
       qed W (Last zs bs′ xs′ os′) ∵
-      suffices ! _ (ends-at 𝓤 H A f.ended stayed (f.clauses 𝓤 H A mem′ run) W (((κ, (κ₂, tt)), (q, (q₂, tt)), tt, x, at), tt) w r
+      suffices ! _ (ends-at 𝓤 H A f.ended stayed (f.clauses 𝓤 H A mem′ run) W (
+        (
+          (κ, (κ₂, tt)),
+          (q, (q₂, tt)),
+          tt,
+          x,
+          at,
+        ),
+        tt,
+      ) w r
       (zs, (bs′, (xs′, (os′, (tt, tt))))) (l, (tt, (tt, (tt, (tt, tt)))))) $
       says ! e $
       nothing ! $ move ! (2 ∷ 0 ∷ []) $ join ! $ move ! (1 ∷ 0 ∷ []) $ join ! $ frame ! $
       -- [t's last list; the buffer's last; the numbers' last; the answers' last]
-      nothing ! $ owned ! G.the-row (Is G.the-row) (LL.makes G.the-type G′.the-plain 𝓤 H A) s (state-val s ∷ []) gs $ fjoin ! $
-      move ! (4 ∷ 0 ∷ []) $ fjoin ! $ move ! (3 ∷ 0 ∷ []) $ fjoin ! $ move ! (2 ∷ 0 ∷ []) $ fjoin ! $ move ! (1 ∷ 0 ∷ []) $ fjoin ! $
+      nothing ! $ owned ! G.the-row (Is G.the-row) (LL.makes G.the-type G′.the-plain 𝓤 H A) s (state-val s ∷ []) gs $
+      fjoin ! $
+      move ! (4 ∷ 0 ∷ []) $ fjoin ! $ move ! (3 ∷ 0 ∷ []) $ fjoin ! $ move ! (2 ∷ 0 ∷ []) $ fjoin ! $ move ! (1 ∷ 0 ∷
+      []) $ fjoin ! $
       owned ! G.the-row (Is G.the-row) (LL.makes G.the-type G′.the-plain 𝓤 H A) r _ is $ move ! (1 ∷ 0 ∷ []) $ done !
 
   -- the open borrow of the numbers, with both halves of its ghost variable
   abbrev Opened : List (Item 𝓤) → List (Item 𝓤)
-  Opened Γ = ‵ (fobor κ₂ q₂ (Body (mem Numbers) bx ox γx)) ∷ ‵ (fobs γx (Numbers .coded .code xs)) ∷ ‵ (fauth γx (Numbers .coded .code xs)) ∷ Γ
+  Opened Γ = ‵ (fobor κ₂ q₂ (Body (mem Numbers) bx ox γx)) ∷ ‵ (fobs γx (Numbers .coded .code xs)) ∷ ‵ (fauth γx
+      (Numbers .coded .code xs)) ∷ Γ
 
-  module _ (C : Calls 𝓤 H) (Λ : Loops 𝓤 H) (fm : FmC 𝓤 H (W .laws) C) (known-hear : Triple 𝓤 (C hear-def.name) (Hear 𝓤 H A mem′ run))
-      (known-rows : Triple 𝓤 (C rows-def.name) (Rows 𝓤 H A mem′ run)) (known-perform : Triple 𝓤 (C perform-def.name) (Perform 𝓤 H A mem′ run))
-      (known-tell : Triple 𝓤 (C tell-def.name) (Tell 𝓤 H A mem′ run)) (l₀ l₁ l₂ l₃ l₄ l₅ l₆ l₇ l₈ l₉ l₁₀ l₁₁ l₁₂ l₁₃ l₁₄ : ℕ) where
+  module _ (C : Calls 𝓤 H) (Λ : Loops 𝓤 H) (fm : FmC 𝓤 H (W .laws) C) (known-hear : Triple 𝓤 (C hear-def.name) (Hear 𝓤 H
+      A mem′ run))
+      (known-rows : Triple 𝓤 (C rows-def.name) (Rows 𝓤 H A mem′ run)) (known-perform : Triple 𝓤 (C perform-def.name)
+      (Perform 𝓤 H A mem′ run))
+      (known-tell : Triple 𝓤 (C tell-def.name) (Tell 𝓤 H A mem′ run)) (l₀ l₁ l₂ l₃ l₄ l₅ l₆ l₇ l₈ l₉ l₁₀ l₁₁ l₁₂ l₁₃ l₁₄
+      : ℕ) where
     abbrev En : Env 𝓤 H
     En = env-of (function .locals) (l₀ ∷ l₁ ∷ l₂ ∷ l₃ ∷ l₄ ∷ l₅ ∷ l₆ ∷ l₇ ∷ l₈ ∷ l₉ ∷ l₁₀ ∷ l₁₁ ∷ l₁₂ ∷ l₁₃ ∷ l₁₄ ∷ [])
 
     -- what the locals hold: the parameters, and then what the statements left
     abbrev Locals : List (List Val) → List (Item 𝓤)
-    Locals vss = held 𝓤 H En ([] ∷ (machine b o ys ∷ []) ∷ (vptr bb ob ∷ []) ∷ (vptr bx ox ∷ []) ∷ (vptr bo oo ∷ []) ∷ (state-val s ∷ []) ∷ vss) []
+    Locals vss = held 𝓤 H En ([] ∷ (machine b o ys ∷ []) ∷ (vptr bb ob ∷ []) ∷ (vptr bx ox ∷ []) ∷ (vptr bo oo ∷ []) ∷
+        (state-val s ∷ []) ∷ vss) []
 
     abbrev at-first : List (Item 𝓤)
     at-first = Locals ([] ∷ [] ∷ [] ∷ [] ∷ [] ∷ [] ∷ [] ∷ [] ∷ [] ∷ [])
 
     abbrev once-heard : Prepared → List (Item 𝓤)
-    once-heard p = Locals ((heard-val p ∷ []) ∷ [] ∷ (vptr bb ob ∷ []) ∷ (vptr bx ox ∷ []) ∷ [] ∷ [] ∷ [] ∷ [] ∷ [] ∷ [])
+    once-heard p = Locals ((heard-val p ∷ []) ∷ [] ∷ (vptr bb ob ∷ []) ∷ (vptr bx ox ∷ []) ∷ [] ∷ [] ∷ [] ∷ [] ∷ [] ∷
+        [])
 
     abbrev once-performed : Prepared → Val → Val → List (Item 𝓤)
-    once-performed p v w = Locals ((heard-val p ∷ []) ∷ (v ∷ []) ∷ (vptr bb ob ∷ []) ∷ (vptr bx ox ∷ []) ∷ (vptr b o ∷ []) ∷ (machine b o ys ∷ [])
+    once-performed p v w = Locals ((heard-val p ∷ []) ∷ (v ∷ []) ∷ (vptr bb ob ∷ []) ∷ (vptr bx ox ∷ []) ∷ (vptr b o ∷
+        []) ∷ (machine b o ys ∷ [])
         ∷ (w ∷ []) ∷ (vptr bx ox ∷ []) ∷ [] ∷ [])
 
     -- `tell(out, p, a)`, and the return
     telling : {bs′ : List ℕ} {xs′ : List ℤ} {rows : List ℤ} {zs : List Record} (p : Prepared) (a : Answer) (v w : Val)
-        → Prepares bs s bs′ p xs′ → IsHeard p → rows ≡ from-at 13 (take (p .count) xs′) → Promised (requestCall (p .request) rows) ys a zs
+        → Prepares bs s bs′ p xs′ → IsHeard p → rows ≡ from-at 13 (take (p .count) xs′) → Promised (requestCall (p
+        .request) rows) ys a zs
         → length zs ≡ length ys → Is N.the-row a (v ∷ [])
-        → Sq W (‵ (Lent Bytes 0 κ bo oo γo os) ∷ ‵ (flft κ q) ∷ ‵ (flft κ₂ q₂) ∷ ‵ (finally R γ zs) ∷ ‵ (fres γb (Bytes .coded .code bs′))
+        → Sq W (‵ (Lent Bytes 0 κ bo oo γo os) ∷ ‵ (flft κ q) ∷ ‵ (flft κ₂ q₂) ∷ ‵ (finally R γ zs) ∷ ‵ (fres γb (Bytes
+        .coded .code bs′))
         ∷ ‵ (fres γx (Numbers .coded .code xs′)) ∷ once-performed p v w) (runs C Λ En to-tell (atRet En Post))
     telling {bs′} {xs′} {rows} {zs} p a v w heard ip are done′ l ia =
         assigns ! (addr ! (from ! (hop ! (look ! 26 refl) (stop !)))) (from ! (stop !)) (init ! 6 refl (tt, tt)) $
         tells 𝓤 H A mem′ run W κ q bo oo γo os p ip a v ia space fm known-tell
         (and-then ! (load ! (from ! (stop !)) (look ! 5 refl)) (and-then ! (load ! (from ! (stop !)) (look ! 21 refl))
         (and-then ! (load ! (from ! (stop !)) (look ! 19 refl)) (no-more !)))) (λ os′ r u told ir.
-        -- [the token; the answers' last; the other token; t's last list; the buffer's last; the numbers' last; _14; …; _0; …]
+        -- [the token; the answers' last; the other token; t's last list; the buffer's last; the numbers' last; _14; …;
+        -- _0; …]
         land ! (from ! (stop !)) (init ! 34 refl (typed-state 𝓤 H A W r u ir)) $
-        returns ! (look ! 34 refl) $ forget ! 6 refl $ forget ! 8 refl $ forget ! 10 refl $ forget ! 12 refl $ forget ! 14 refl $ forget ! 16 refl $
-        forget ! 18 refl $ forget ! 20 refl $ forget ! 22 refl $ forget ! 24 refl $ forget ! 26 refl $ forget ! 28 refl $ forget ! 30 refl $
+        returns ! (look ! 34 refl) $ forget ! 6 refl $ forget ! 8 refl $ forget ! 10 refl $ forget ! 12 refl $ forget !
+        14 refl $ forget ! 16 refl $
+        forget ! 18 refl $ forget ! 20 refl $ forget ! 22 refl $ forget ! 24 refl $ forget ! 26 refl $ forget ! 28 refl
+        $ forget ! 30 refl $
         forget ! 32 refl $ forget ! 34 refl $
-        keep ! (6 ∷ 7 ∷ 8 ∷ 9 ∷ 10 ∷ 11 ∷ 12 ∷ 13 ∷ 14 ∷ 15 ∷ 16 ∷ 17 ∷ 18 ∷ 19 ∷ 20 ∷ 21 ∷ 22 ∷ 23 ∷ 24 ∷ 25 ∷ 26 ∷ 27 ∷ 28 ∷ 29 ∷ 30 ∷ 31 ∷ 32
+        keep ! (6 ∷ 7 ∷ 8 ∷ 9 ∷ 10 ∷ 11 ∷ 12 ∷ 13 ∷ 14 ∷ 15 ∷ 16 ∷ 17 ∷ 18 ∷ 19 ∷ 20 ∷ 21 ∷ 22 ∷ 23 ∷ 24 ∷ 25 ∷ 26 ∷ 27
+        ∷ 28 ∷ 29 ∷ 30 ∷ 31 ∷ 32
         ∷ 33 ∷ 34 ∷ 35 ∷ 0 ∷ 2 ∷ 3 ∷ 4 ∷ 5 ∷ 1 ∷ []) $
         freed 𝓤 H A W En (Last zs bs′ xs′ os′) (by ! (exits zs bs′ xs′ os′ r u l (turned heard are done′ told) ir)))
       where
@@ -200,101 +240,154 @@ module _ {M : Type 1} (𝓤 : URA M) (H : Heap 𝓤) (A : Atoms 𝓤) (W : Given
         space = omega (arith, heard .waiting, asked .1)
 
     -- the row figures in their local: what is known of them
-    figures-are : (β : Lft) (fs : RefT (List ℤ)) (w : Val) → Is (ShrSlice (named 0) β i64) fs (w ∷ []) → w ≡ figures-val fs
+    figures-are : (β : Lft) (fs : RefT (List ℤ)) (w : Val) → Is (ShrSlice (named 0) β i64) fs (w ∷ []) → w ≡ figures-val
+        fs
     figures-are β fs w is = ap only (shr-slice-tells (named 0) β i64 fs (w ∷ []) is)
 
-    typed-figures : (β : Lft) (fs : RefT (List ℤ)) (w : Val) → Is (ShrSlice (named 0) β i64) fs (w ∷ []) → T (hasTy figures-ty w) × WT w
+    typed-figures : (β : Lft) (fs : RefT (List ℤ)) (w : Val) → Is (ShrSlice (named 0) β i64) fs (w ∷ []) → T (hasTy
+        figures-ty w) × WT w
     typed-figures β fs w is =
-        subst (λ (v : Val). T (hasTy figures-ty v) × WT v) (sym (figures-are β fs w is)) (tt, (tt, (record { fits = is .0 .1 .0 }, tt)))
+        subst (λ (v : Val). T (hasTy figures-ty v) × WT v) (sym (figures-are β fs w is)) (
+          tt,
+          (
+            tt,
+            (
+              record {
+                fits = is
+                    .0 .1 .0;
+              },
+              tt,
+            ),
+          ),
+        )
 
     -- the numbers, lent as `&` for β
     abbrev Reading : Lft → List ℤ → Item 𝓤
     Reading β xs′ = ‵ (flent β (partAt Numbers fullShare xs′ bx ox))
 
     -- the numbers come back, and their borrow is closed; then `tell(out, p, a)`
-    closing : {bs′ : List ℕ} {xs′ : List ℤ} {zs : List Record} (β : ℕ) (fs : RefT (List ℤ)) (p : Prepared) (a : Answer) (v : Val)
-        → Prepares bs s bs′ p xs′ → IsHeard p → fs .now ≡ from-at 13 (take (p .count) xs′) → Promised (requestCall (p .request) (fs .now)) ys a zs
+    closing : {bs′ : List ℕ} {xs′ : List ℤ} {zs : List Record} (β : ℕ) (fs : RefT (List ℤ)) (p : Prepared) (a : Answer)
+        (v : Val)
+        → Prepares bs s bs′ p xs′ → IsHeard p → fs .now ≡ from-at 13 (take (p .count) xs′) → Promised (requestCall (p
+        .request) (fs .now)) ys a zs
         → length zs ≡ length ys → Is N.the-row a (v ∷ [])
-        → Sq W (‵ (finally R γ zs) ∷ ‵ (flft κ q) ∷ ‵ (flft (β ∷ []) fullShare) ∷ Reading (β ∷ []) xs′ ∷ ‵ (fres γb (Bytes .coded .code bs′))
-        ∷ Opened (‵ (Lent Bytes 0 κ bo oo γo os) ∷ once-performed p v (figures-val fs))) (runs C Λ En to-tell (atRet En Post))
+        → Sq W (‵ (finally R γ zs) ∷ ‵ (flft κ q) ∷ ‵ (flft (β ∷ []) fullShare) ∷ Reading (β ∷ []) xs′ ∷ ‵ (fres γb
+        (Bytes .coded .code bs′))
+        ∷ Opened (‵ (Lent Bytes 0 κ bo oo γo os) ∷ once-performed p v (figures-val fs))) (runs C Λ En to-tell (atRet En
+        Post))
     closing {bs′} {xs′} {zs} β fs p a v heard ip are done′ l ia =
         move ! (2 ∷ []) $ lft-end ! tt $ move ! (0 ∷ 3 ∷ []) $ lent-back ! tt $
         -- [the numbers; t's last list; the token; the buffer's last; the open borrow; obs; auth; the answers; …]
         move ! (0 ∷ 4 ∷ 5 ∷ 6 ∷ []) $ close-ref ! tt (mem Numbers) xs′ $
-        use1 W (‵ (fres γx (Numbers .coded .code xs′))) (W .names .obs-res γx (Numbers .coded .code xs′)) $ move ! (1 ∷ []) $ drop ! $
+        use1 W (‵ (fres γx (Numbers .coded .code xs′))) (W .names .obs-res γx (Numbers .coded .code xs′)) $ move ! (1 ∷
+        []) $ drop ! $
         -- [the numbers' last; their token; t's last list; the token; the buffer's last; the answers; …]
         move ! (5 ∷ 3 ∷ 1 ∷ 2 ∷ 4 ∷ 0 ∷ []) $ telling p a v (figures-val fs) heard ip are done′ l ia
 
-    -- `let a = perform(t, p.request, rows_in(xs, p.count));`
-    performing : {bs′ : List ℕ} {xs′ : List ℤ} (p : Prepared) → Prepares bs s bs′ p xs′ → IsHeard p
+    -- what the locals hold before the table is asked
+    abbrev once-cut : Prepared → Val → List (Item 𝓤)
+    once-cut p w = Locals ((heard-val p ∷ []) ∷ [] ∷ (vptr bb ob ∷ []) ∷ (vptr bx ox ∷ []) ∷ (vptr b o ∷ [])
+        ∷ (machine b o ys ∷ []) ∷ (w ∷ []) ∷ (vptr bx ox ∷ []) ∷ [] ∷ [])
+
+    -- `let a = perform(t, p.request, ..);`, with the row figures in their local
+    performing : {bs′ : List ℕ} {xs′ : List ℤ} (β : ℕ) (fs : RefT (List ℤ)) (p : Prepared) → Prepares bs s bs′ p xs′
+        → IsHeard p → fs .now ≡ from-at 13 (take (p .count) xs′)
+        → Sq W (‵ (Owned κ b o γ ys) ∷ ‵ (flft κ q) ∷ ‵ (Figures 1 (β ∷ []) fs (figures-val fs))
+        ∷ ‵ (flft (β ∷ []) fullShare) ∷ Reading (β ∷ []) xs′ ∷ ‵ (fres γb (Bytes .coded .code bs′))
+        ∷ Opened (‵ (Lent Bytes 0 κ bo oo γo os) ∷ once-cut p (figures-val fs)))
+        (runs C Λ En (after (after (after (after to-perform)))) (atRet En Post))
+    performing {bs′} {xs′} β fs p heard ip are =
+        performs 𝓤 H A mem′ run W κ (β ∷ []) q b o γ ys fs (p .request) (request-is p ip) fm known-perform
+        (and-then ! (load ! (from ! (stop !)) (look ! 13 refl)) (and-then ! (load ! (from ! (fld ! refl (stop !)))
+        (look-in ! 23 (sub ! 7 refl (whole !)))) (and-then ! (load ! (from ! (stop !)) (look ! 11 refl)) (no-more !))))
+        (λ zs a v l done′ ia.
+        -- [t's last list; the token; the figures' token; what is lent; the buffer's last; the open borrow; obs; auth;
+        -- the answers; _14; …; _0; …]
+        land ! (from ! (stop !)) (init ! 23 refl (typed-answer 𝓤 H A W a v ia)) $
+        closing β fs p a v heard ip are done′ l ia)
+
+    -- `rows_in(xs, p.count)`, with the table's reference in its local
+    cutting : {bs′ : List ℕ} {xs′ : List ℤ} (p : Prepared) → Prepares bs s bs′ p xs′ → IsHeard p
         → Sq W (‵ (mem Numbers .lies xs′ bx ox) ∷ ‵ (flft κ q) ∷ ‵ (fres γb (Bytes .coded .code bs′))
-        ∷ Opened (‵ (Lent Bytes 0 κ bo oo γo os) ∷ ‵ (Owned κ b o γ ys) ∷ once-heard p)) (runs C Λ En to-perform (atRet En Post))
-    performing {bs′} {xs′} p heard ip =
-        assigns ! (addr ! (from ! (fld ! refl (hop ! (look-in ! 34 (sub ! 0 refl (whole !))) (stop !))))) (from ! (stop !)) (init ! 16 refl (tt, tt)) $
-        assigns ! (agg ! (and-then ! (load ! (from ! (stop !)) (look ! 16 refl)) (and-then ! (load ! (from ! (fld ! refl (stop !)))
-        (look-in ! 34 (sub ! 1 refl (whole !)))) (no-more !)))) (from ! (stop !)) (init ! 14 refl (tt, (tt, (record { fits = room .0 }, tt)))) $
+        ∷ Opened (‵ (Lent Bytes 0 κ bo oo γo os) ∷ ‵ (Owned κ b o γ ys) ∷ once-heard p))
+        (runs C Λ En to-perform (atRet En Post))
+    cutting {bs′} {xs′} p heard ip =
+        assigns ! (addr ! (from ! (fld ! refl (hop ! (look-in ! 34 (sub ! 0 refl (whole !))) (stop !)))))
+        (from ! (stop !)) (init ! 16 refl (tt, tt)) $
+        assigns ! (agg ! (and-then ! (load ! (from ! (stop !)) (look ! 16 refl)) (and-then !
+        (load ! (from ! (fld ! refl (stop !))) (look-in ! 34 (sub ! 1 refl (whole !)))) (no-more !))))
+        (from ! (stop !)) (init ! 14 refl (tt, (tt, (record { fits = room .0 }, tt)))) $
         assigns ! (addr ! (from ! (hop ! (look ! 30 refl) (stop !)))) (from ! (stop !)) (init ! 10 refl (tt, tt)) $
         lft-new ! tt (λ β. move ! (1 ∷ []) $
         use1 W (later (some (λ (δ : GName). ‵ (Shared (β ∷ []) bx ox δ xs′) ⊛ Reading (β ∷ []) xs′)))
         (lends-shr 𝓤 H A W Numbers (named 0) (β ∷ []) fullShare xs′ bx ox) $ await ! tt $ pick ! (λ δ. split ! $
-        -- [the `&`; what is lent; its token; the token; the buffer's last; the open borrow; obs; auth; the answers; t; _14; …; _0; …]
+        -- [the `&`; what is lent; its token; the token; the buffer's last; the open borrow; obs; auth; the answers; t;
+        -- _14; …; _0; …]
         move ! (0 ∷ 2 ∷ []) $
         cuts 𝓤 H A mem′ run W (β ∷ []) bx ox δ xs′ (p .count) (count-fits p ip) fm known-rows
         (and-then ! (load ! (from ! (stop !)) (look ! 11 refl)) (and-then ! (load ! (from ! (fld ! refl (stop !)))
         (look-in ! 25 (sub ! 6 refl (whole !)))) (no-more !))) (λ fs w e isf.
-        -- [the figures; their token; what is lent; the token; the buffer's last; the open borrow; obs; auth; the answers; t; _14; …; _0; …]
         land ! (from ! (stop !)) (init ! 14 refl (typed-figures (β ∷ []) fs w isf)) $
         rewrite ! 14 (λ (z : Val). ‵ (fat fullShare figures-ty l₁₂ 0 z)) (figures-are (β ∷ []) fs w isf) refl $
         rewrite ! 0 (λ (z : Val). ‵ (Figures 0 (β ∷ []) fs z)) (figures-are (β ∷ []) fs w isf) refl $
-        move ! (9 ∷ 3 ∷ 0 ∷ 1 ∷ []) $
-        performs 𝓤 H A mem′ run W κ (β ∷ []) q b o γ ys fs (p .request) (request-is p ip) fm known-perform
-        (and-then ! (load ! (from ! (stop !)) (look ! 13 refl)) (and-then ! (load ! (from ! (fld ! refl (stop !)))
-        (look-in ! 23 (sub ! 7 refl (whole !)))) (and-then ! (load ! (from ! (stop !)) (look ! 11 refl)) (no-more !)))) (λ zs a v l done′ ia.
-        -- [t's last list; the token; the figures' token; what is lent; the buffer's last; the open borrow; obs; auth; the answers; _14; …; _0; …]
-        land ! (from ! (stop !)) (init ! 23 refl (typed-answer 𝓤 H A W a v ia)) $
-        closing β fs p a v heard ip e done′ l ia))))
+        move ! (9 ∷ 3 ∷ 0 ∷ 1 ∷ []) $ performing β fs p heard ip e)))
 
     -- `let p = hear_in(buf, xs, s);`
     hearing : Sq W (‵ (mem Numbers .lies xs bx ox) ∷ ‵ (Lent Bytes 0 κ bb ob γb bs) ∷ ‵ (flft κ q)
-        ∷ Opened (‵ (Lent Bytes 0 κ bo oo γo os) ∷ ‵ (Owned κ b o γ ys) ∷ at-first)) (runs C Λ En (code.function .body) (atRet En Post))
+        ∷ Opened (‵ (Lent Bytes 0 κ bo oo γo os) ∷ ‵ (Owned κ b o γ ys) ∷ at-first)) (runs C Λ En (code.function .body)
+        (atRet En Post))
     hearing =
         assigns ! (addr ! (from ! (hop ! (look ! 32 refl) (stop !)))) (from ! (stop !)) (init ! 20 refl (tt, tt)) $
         assigns ! (addr ! (from ! (hop ! (look ! 30 refl) (stop !)))) (from ! (stop !)) (init ! 18 refl (tt, tt)) $
         hears 𝓤 H A mem′ run W κ q bb ob γb bs bx ox xs s gs (asked .0) fm known-hear
-        (λ α δ. and-then ! (load ! (from ! (stop !)) (look ! 19 refl)) (and-then ! (load ! (from ! (stop !)) (look ! 17 refl))
+        (λ α δ. and-then ! (load ! (from ! (stop !)) (look ! 19 refl)) (and-then ! (load ! (from ! (stop !)) (look ! 17
+        refl))
         (and-then ! (load ! (from ! (stop !)) (look ! 25 refl)) (no-more !)))) (λ bs′ xs′ p w e ip.
         land ! (from ! (stop !)) (init ! 24 refl (typed-heard 𝓤 H A W p w ip)) $
-        rewrite ! 24 (λ (z : Val). ‵ (fat fullShare heard-ty l₆ 0 z)) (heard-tells p w ip) refl $ performing p e (heard-is p w ip))
+        rewrite ! 24 (λ (z : Val). ‵ (fat fullShare heard-ty l₆ 0 z)) (heard-tells p w ip) refl $
+        cutting p e (heard-is p w ip))
 
   -- the parameters are in their locals, and the numbers are opened
-  module _ (C : Calls 𝓤 H) (Λ : Loops 𝓤 H) (fm : FmC 𝓤 H (W .laws) C) (known-hear : Triple 𝓤 (C hear-def.name) (Hear 𝓤 H A mem′ run))
-      (known-rows : Triple 𝓤 (C rows-def.name) (Rows 𝓤 H A mem′ run)) (known-perform : Triple 𝓤 (C perform-def.name) (Perform 𝓤 H A mem′ run))
+  module _ (C : Calls 𝓤 H) (Λ : Loops 𝓤 H) (fm : FmC 𝓤 H (W .laws) C) (known-hear : Triple 𝓤 (C hear-def.name) (Hear 𝓤 H
+      A mem′ run))
+      (known-rows : Triple 𝓤 (C rows-def.name) (Rows 𝓤 H A mem′ run)) (known-perform : Triple 𝓤 (C perform-def.name)
+      (Perform 𝓤 H A mem′ run))
       (known-tell : Triple 𝓤 (C tell-def.name) (Tell 𝓤 H A mem′ run)) where
     abbrev args : List Val
     args = machine b o ys ∷ vptr bb ob ∷ vptr bx ox ∷ vptr bo oo ∷ state-val s ∷ []
 
     walk : ent 𝓤 (onEntry 𝓤 H A f.signature (κ, (κ₂, tt)) (q, (q₂, tt)) x at) (WpFn 𝓤 H C Λ function args Post)
     walk =
-        qed W ((‵ (flft κ q) ⊛ (‵ (flft κ₂ q₂) ⊛ ‵ ftrue)) ∷ ‵ (owns (MutSlice (named 0) κ R ∷ MutRef (named 0) κ Bytes ∷ MutRef (named 1) κ₂ Numbers
+        qed W ((‵ (flft κ q) ⊛ (‵ (flft κ₂ q₂) ⊛ ‵ ftrue)) ∷ ‵ (owns (MutSlice (named 0) κ R ∷ MutRef (named 0) κ Bytes
+        ∷ MutRef (named 1) κ₂ Numbers
         ∷ MutRef (named 0) κ Bytes ∷ G.the-row ∷ []) x at) ∷ []) ∵
         enter ! C Λ function args _ $
-        alloc1 ! (λ l₀. alloc1 ! (λ l₁. alloc1 ! (λ l₂. alloc1 ! (λ l₃. alloc1 ! (λ l₄. alloc1 ! (λ l₅. alloc1 ! (λ l₆. alloc1 ! (λ l₇. alloc1 ! (λ l₈.
-        alloc1 ! (λ l₉. alloc1 ! (λ l₁₀. alloc1 ! (λ l₁₁. alloc1 ! (λ l₁₂. alloc1 ! (λ l₁₃. alloc1 ! (λ l₁₄. alloc0 ! $ params1 ! $
-        pass1 ! (init ! 26 refl (tt, (tt, (record { fits = room .0 }, tt)))) $ pass1 ! (init ! 24 refl (tt, tt)) $ pass1 ! (init ! 22 refl (tt, tt)) $
-        pass1 ! (init ! 20 refl (tt, tt)) $ pass1 ! (init ! 18 refl (typed-state 𝓤 H A W s (state-val s) gs)) $ pass0 ! $
+        alloc1 ! (λ l₀. alloc1 ! (λ l₁. alloc1 ! (λ l₂. alloc1 ! (λ l₃. alloc1 ! (λ l₄. alloc1 ! (λ l₅. alloc1 ! (λ l₆.
+        alloc1 ! (λ l₇. alloc1 ! (λ l₈.
+        alloc1 ! (λ l₉. alloc1 ! (λ l₁₀. alloc1 ! (λ l₁₁. alloc1 ! (λ l₁₂. alloc1 ! (λ l₁₃. alloc1 ! (λ l₁₄. alloc0 ! $
+        params1 ! $
+        pass1 ! (init ! 26 refl (tt, (tt, (record { fits = room .0 }, tt)))) $ pass1 ! (init ! 24 refl (tt, tt)) $ pass1
+        ! (init ! 22 refl (tt, tt)) $
+        pass1 ! (init ! 20 refl (tt, tt)) $ pass1 ! (init ! 18 refl (typed-state 𝓤 H A W s (state-val s) gs)) $ pass0 !
+        $
         -- [_14; …; _0; …; the tokens; what the parameters own]
-        move ! (31 ∷ []) $ fsplit ! $ move ! (1 ∷ []) $ fsplit ! $ move ! (1 ∷ []) $ fsplit ! $ move ! (1 ∷ []) $ fsplit ! $ move ! (1 ∷ []) $ fsplit ! $
+        move ! (31 ∷ []) $ fsplit ! $ move ! (1 ∷ []) $ fsplit ! $ move ! (1 ∷ []) $ fsplit ! $ move ! (1 ∷ []) $ fsplit
+        ! $ move ! (1 ∷ []) $ fsplit ! $
         drop ! $ drop ! $
         -- [the answers; the numbers; the buffer; t; _14; …; _0; …; the tokens]
         move ! (34 ∷ []) $ split ! $ move ! (1 ∷ []) $ split ! $ move ! (1 ∷ []) $ drop ! $
         move ! (3 ∷ 0 ∷ []) $ fsplit3 ! $ feqL ! (λ _. open-ref ! tt (mem Numbers) $
         -- [the numbers; the open borrow; obs; auth; the token; the answers; the buffer; t; _14; …; _0; …]
         move ! (0 ∷ 6 ∷ 4 ∷ 1 ∷ 2 ∷ 3 ∷ 5 ∷ 7 ∷ []) $
-        hearing C Λ fm known-hear known-rows known-perform known-tell l₀ l₁ l₂ l₃ l₄ l₅ l₆ l₇ l₈ l₉ l₁₀ l₁₁ l₁₂ l₁₃ l₁₄))))))))))))))))
+        hearing C Λ fm known-hear known-rows known-perform known-tell l₀ l₁ l₂ l₃ l₄ l₅ l₆ l₇ l₈ l₉ l₁₀ l₁₁ l₁₂ l₁₃
+        l₁₄))))))))))))))))
 
-module _ {M : Type 1} (𝓤 : URA M) (H : Heap 𝓤) (A : Atoms 𝓤) (W : Given 𝓤 H A) (mem′ : Memory → SProp 𝓤) (run : Routine → Fun 𝓤) (𝓣 : Tables 𝓤 H)
-    (known-hear : Triple 𝓤 (𝓣 .C hear-def.name) (Hear 𝓤 H A mem′ run)) (known-rows : Triple 𝓤 (𝓣 .C rows-def.name) (Rows 𝓤 H A mem′ run))
-    (known-perform : Triple 𝓤 (𝓣 .C perform-def.name) (Perform 𝓤 H A mem′ run)) (known-tell : Triple 𝓤 (𝓣 .C tell-def.name) (Tell 𝓤 H A mem′ run)) where
+module _ {M : Type 1} (𝓤 : URA M) (H : Heap 𝓤) (A : Atoms 𝓤) (W : Given 𝓤 H A) (mem′ : Memory → SProp 𝓤) (run : Routine
+    → Fun 𝓤) (𝓣 : Tables 𝓤 H)
+    (known-hear : Triple 𝓤 (𝓣 .C hear-def.name) (Hear 𝓤 H A mem′ run)) (known-rows : Triple 𝓤 (𝓣 .C rows-def.name) (Rows
+    𝓤 H A mem′ run))
+    (known-perform : Triple 𝓤 (𝓣 .C perform-def.name) (Perform 𝓤 H A mem′ run)) (known-tell : Triple 𝓤 (𝓣 .C
+    tell-def.name) (Tell 𝓤 H A mem′ run)) where
   walks : Walks 𝓤 H A f.ended stayed (WpFn 𝓤 H (𝓣 .C) (𝓣 .Λ) function) (f.clauses 𝓤 H A mem′ run)
   walks = walked 𝓤 H A f.ended stayed (f.clauses 𝓤 H A mem′ run) (WpFn 𝓤 H (𝓣 .C) (𝓣 .Λ) function)
       (λ κs. (slice-vals, (ptr-vals, (ptr-vals, (ptr-vals, (LL.vals G.the-type G′.the-laws, tt))))))
@@ -308,10 +401,13 @@ module _ {M : Type 1} (𝓤 : URA M) (H : Heap 𝓤) (A : Atoms 𝓤) (W : Given
           ),
         ),
       ))
-      (λ κs qs bounds a g are. needs 𝓤 ((Stands (a .1 .0 .now) (a .1 .1 .1 .1 .0 .input)) × (a .1 .1 .1 .1 .0 .waiting + 1200 ≤ 65536)) _ (λ asked.
+      (λ κs qs bounds a g are. needs 𝓤 ((Stands (a .1 .0 .now) (a .1 .1 .1 .1 .0 .input)) × (a .1 .1 .1 .1 .0 .waiting +
+      1200 ≤ 65536)) _ (λ asked.
       walk 𝓤 H A W mem′ run (κs .0) (κs .1 .0) (qs .0) (qs .1 .0) (a .0 .ptr .0) (a .0 .ptr .1) (a .0 .name) (a .0 .now)
-      (a .1 .0 .ptr .0) (a .1 .0 .ptr .1) (a .1 .0 .name) (a .1 .0 .now) (a .1 .1 .0 .ptr .0) (a .1 .1 .0 .ptr .1) (a .1 .1 .0 .name) (a .1 .1 .0 .now)
-      (a .1 .1 .1 .0 .ptr .0) (a .1 .1 .1 .0 .ptr .1) (a .1 .1 .1 .0 .name) (a .1 .1 .1 .0 .now) (a .1 .1 .1 .1 .0) (are .0 .0 .1) (are .1 .1 .1 .1 .0)
+      (a .1 .0 .ptr .0) (a .1 .0 .ptr .1) (a .1 .0 .name) (a .1 .0 .now) (a .1 .1 .0 .ptr .0) (a .1 .1 .0 .ptr .1) (a .1
+      .1 .0 .name) (a .1 .1 .0 .now)
+      (a .1 .1 .1 .0 .ptr .0) (a .1 .1 .1 .0 .ptr .1) (a .1 .1 .1 .0 .name) (a .1 .1 .1 .0 .now) (a .1 .1 .1 .1 .0) (are
+      .0 .0 .1) (are .1 .1 .1 .1 .0)
       asked (𝓣 .C) (𝓣 .Λ) (fmOf 𝓤 H (W .laws) 𝓣) known-hear known-rows known-perform known-tell))
 
   meets : Meets 𝓤 H A f.signature (WpFn 𝓤 H (𝓣 .C) (𝓣 .Λ) function) (f.spec 𝓤 H A mem′ run)
@@ -337,8 +433,12 @@ step-spec 𝓤 H 𝓜 𝓖 𝓡 =
     entered 𝓤 H (tripleOf 𝓤 H (𝓖 .A) f.signature (f.spec 𝓤 H (𝓖 .A) (𝓜 .mem) (𝓡 .run)))
     (tables 𝓤 H 𝓜 𝓡 code.env .C) (tables 𝓤 H 𝓜 𝓡 code.env .Λ) key.name code.function (code.unfolded 𝓤 H 𝓜 𝓡)
     (meets 𝓤 H (𝓖 .A) (givenOf 𝓤 H 𝓜 𝓖) (𝓜 .mem) (𝓡 .run) (tablesOf 𝓤 H 𝓜 (tables 𝓤 H 𝓜 𝓡 code.env))
-    (cited 𝓤 H (Hear 𝓤 H (𝓖 .A) (𝓜 .mem) (𝓡 .run)) 𝓜 𝓡 code.env hear-def.name hear-def.routine code.calls-text-serve·hear-in (hear-thm.met 𝓤 H 𝓜 𝓖 𝓡))
-    (cited 𝓤 H (Rows 𝓤 H (𝓖 .A) (𝓜 .mem) (𝓡 .run)) 𝓜 𝓡 code.env rows-def.name rows-def.routine code.calls-text-serve·rows-in (rows-thm.met 𝓤 H 𝓜 𝓖 𝓡))
-    (cited 𝓤 H (Perform 𝓤 H (𝓖 .A) (𝓜 .mem) (𝓡 .run)) 𝓜 𝓡 code.env perform-def.name perform-def.routine code.calls-text-perform·perform
+    (cited 𝓤 H (Hear 𝓤 H (𝓖 .A) (𝓜 .mem) (𝓡 .run)) 𝓜 𝓡 code.env hear-def.name hear-def.routine
+    code.calls-text-serve·hear-in (hear-thm.met 𝓤 H 𝓜 𝓖 𝓡))
+    (cited 𝓤 H (Rows 𝓤 H (𝓖 .A) (𝓜 .mem) (𝓡 .run)) 𝓜 𝓡 code.env rows-def.name rows-def.routine
+    code.calls-text-serve·rows-in (rows-thm.met 𝓤 H 𝓜 𝓖 𝓡))
+    (cited 𝓤 H (Perform 𝓤 H (𝓖 .A) (𝓜 .mem) (𝓡 .run)) 𝓜 𝓡 code.env perform-def.name perform-def.routine
+    code.calls-text-perform·perform
     (perform-thm.met 𝓤 H 𝓜 𝓖 𝓡))
-    (cited 𝓤 H (Tell 𝓤 H (𝓖 .A) (𝓜 .mem) (𝓡 .run)) 𝓜 𝓡 code.env tell-def.name tell-def.routine code.calls-text-turn·tell (tell-thm.met 𝓤 H 𝓜 𝓖 𝓡)))
+    (cited 𝓤 H (Tell 𝓤 H (𝓖 .A) (𝓜 .mem) (𝓡 .run)) 𝓜 𝓡 code.env tell-def.name tell-def.routine code.calls-text-turn·tell
+    (tell-thm.met 𝓤 H 𝓜 𝓖 𝓡)))
