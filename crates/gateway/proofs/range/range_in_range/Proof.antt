@@ -1,7 +1,6 @@
 -- `range::range_in_range` meets its contract: its tests are those of the definition that a price and a rate in range
 -- leave, and the grid is above 0. Assumes nothing.
 use mathlib.Core.Bool.{and-true}
-use native.Mathlib.Omega.{arith}
 use borrow.Author.Needs.{needs}
 use Rattle.paper.specs.Ranges.{isGridPrice}
 use Rattle.paper.specs.Gateway.{rangeInRange}
@@ -13,7 +12,7 @@ grid-of-requires : tie.Need-grid-of-requires
 grid-of-requires c κs = search needs
 
 rem-result : tie.Need-rem-result
-rem-result c = omega (arith, c .before .grid-of .ensures, grid-range (c .before .before .args .st .lot) .0)
+rem-result c = rw (c .before .grid-of .ensures) (grid-range _ .0)
 
 valid-side-requires : tie.Need-valid-side-requires
 valid-side-requires c κs = search needs
