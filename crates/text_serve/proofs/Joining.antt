@@ -44,6 +44,7 @@ pub record Sofar (t : List Record) (b : List ℕ) (s : State) (t' : List Record)
   pub evening : eveningOf s t' ≡ afterAll lines (eveningOf startState t)
   pub stands : Stands b (s .input)
   pub room : s .waiting + 1200 ≤ 65536
+  pub last : s .input .left ≡ 0 → s .waiting ≡ 0
   pub are : (got ≡ joined lines (unread b (s .input))) ⊎ ((s .input .left ≡ 0) × Cut got lines)
 
 -- at the start nothing is read
@@ -57,6 +58,7 @@ none-yet t b long =
       evening = refl;
       stands = record { low = omega arith; high = omega arith; in-b = omega arith; long = long; is = refl };
       room = omega arith;
+      last = λ h. refl;
       are = inl refl;
     }
 
@@ -109,6 +111,7 @@ module _ {t : List Record} {b : List ℕ} {s : State} {u : List Record} {o b' : 
             (eveningOf startState t));
         stands = turn .next .stands;
         room = turn .room;
+        last = turn .last;
         are = are-now (turn .next .are);
       }
 
@@ -125,4 +128,12 @@ module _ {t : List Record} {b : List ℕ} {s : State} {u : List Record} (so : So
     cut (inr e) = e .1
 
     pub served : Serves t s u
-    served = record { got = so .got; lines = so .lines; cut = cut (so .are); evening = so .evening; over = over }
+    served =
+        record {
+          got = so .got;
+          lines = so .lines;
+          cut = cut (so .are);
+          evening = so .evening;
+          over = over;
+          told = so .last over;
+        }

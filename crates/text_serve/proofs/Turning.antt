@@ -110,4 +110,5 @@ module _ {b : List ℕ} {s : State} {b' : List ℕ} {p : Prepared} {xs rows : Li
         answers = record { end = told .end; wrote = wrote; waits = told .waits };
         room = told .room;
         prompt = told .prompt;
+        last = told .last;
       }

@@ -27,7 +27,7 @@ pub record Answers (o : List ℕ) (n : ℕ) (o' : List ℕ) (n' : ℕ) (text : L
 -- ONE TURN, from the buffer b, the state s, the table t and the answers o: `line` is the next line of the input,
 -- whatever pieces `read` delivered it in;
 -- the evening behind it is the one that the definition has, and so is its answer. Answers wait only while a whole line
--- stands in the buffer
+-- stands in the buffer, and none waits where no line is left to hear
 pub record Turns (b : List ℕ) (s : State) (t : List Record) (o b' : List ℕ) (r : State) (t' : List Record) (o' : List ℕ)
     : Type 0 where
   pub line : List ℕ
@@ -36,6 +36,7 @@ pub record Turns (b : List ℕ) (s : State) (t : List Record) (o b' : List ℕ) 
   pub answers : Answers o (s .waiting) o' (r .waiting) (answer line (eveningOf s t))
   pub room : r .waiting + 1200 ≤ 65536
   pub prompt : r .input .len ≤ r .input .end → r .waiting ≡ 0
+  pub last : r .input .left ≡ 0 → r .waiting ≡ 0
 
 -- ---- every turn
 
@@ -59,10 +60,11 @@ pub record Cut (got : List ℕ) (lines : List (List ℕ)) : Type 0 where
   pub heard : (lines ≡ whole ++ behind ∷ []) ⊎ (lines ≡ whole)
 
 -- EVERY TURN: `got` is what `read` delivered, in order, and `lines` are its lines. The evening at the end is the one
--- after these lines
+-- after these lines, and no answer waits: the last one, too, was handed to `write`
 pub record Serves (t : List Record) (r : State) (t' : List Record) : Type 0 where
   pub got : List ℕ
   pub lines : List (List ℕ)
   pub cut : Cut got lines
   pub evening : eveningOf r t' ≡ afterAll lines (eveningOf startState t)
   pub over : r .input .left ≡ 0
+  pub told : r .waiting ≡ 0

@@ -3,7 +3,7 @@ use mathlib.Core.Path.{_≡_, refl}
 use mathlib.Core.Logic.{_⊎_, inl, inr}
 use mathlib.Core.Bool.{Bool, true, false}
 use mathlib.Core.List.{List}
-use Prim.Native.Nat.{ℕ, _+_, _≤_, _<_}
+use Prim.Native.Nat.{ℕ, zero, suc, _+_, _≤_, _<_}
 use native.Mathlib.Omega.{arith}
 use lib.Dec.{ltb}
 use borrow.Author.Tests.{ltb-false}
@@ -15,8 +15,13 @@ use Rattle.text_turn.specs.declared.State.{State}
 use Rattle.text_turn.specs.declared.Prepared.{Prepared}
 use Rattle.text_turn.specs.Turn.{lineText, Tells}
 
-pub not-due : (n end len : ℕ) → end < len → ltb 64336 n ≡ false → (n + 1200 ≤ 65536) × (end < len)
-not-due n end len h e = let k : n ≤ 64336 = ltb-false 64336 n e in (omega arith, h)
+some-left : (left : ℕ) → (left ≡ 0 → ⊥) → 0 < left
+some-left zero h = absurd (h refl)
+some-left (suc left) h = omega arith
+
+pub not-due : (n end len left : ℕ) → (left ≡ 0 → ⊥) → end < len → ltb 64336 n ≡ false
+    → (n + 1200 ≤ 65536) × (end < len) × (0 < left)
+not-due n end len left s h e = let k : n ≤ 64336 = ltb-false 64336 n e in (omega arith, h, some-left left s)
 
 pub always-due : {A : Type 0} → true ≡ false → A
 always-due e = let z : _≡_ {A = ℕ} 0 1 = cc in let y : ⊥ = omega arith in absurd y
@@ -35,6 +40,7 @@ module _ (b : List ℕ) (p : Prepared) (a : Answer) (b' : List ℕ) (n number : 
         waits = inr refl;
         room = omega arith;
         prompt = λ h. refl;
+        last = λ h. refl;
         kept = refl;
         number = m;
         at = s .0;
@@ -43,7 +49,7 @@ module _ (b : List ℕ) (p : Prepared) (a : Answer) (b' : List ℕ) (n number : 
         left = s .3;
       }
 
-  pub told-later : (ok : Bool) → (n + 1200 ≤ 65536) × (p .input .end < p .input .len)
+  pub told-later : (ok : Bool) → (n + 1200 ≤ 65536) × (p .input .end < p .input .len) × (0 < p .input .left)
       → Tells b p a b' (record { input = p .input; number = number; kept = p .kept; waiting = n; ok = ok })
   told-later ok s =
       record {
@@ -52,6 +58,7 @@ module _ (b : List ℕ) (p : Prepared) (a : Answer) (b' : List ℕ) (n number : 
         waits = inl refl;
         room = s .0;
         prompt = λ h. none h;
+        last = λ h. no-line h;
         kept = refl;
         number = m;
         at = refl;
@@ -62,3 +69,6 @@ module _ (b : List ℕ) (p : Prepared) (a : Answer) (b' : List ℕ) (n number : 
     where
       none : p .input .len ≤ p .input .end → n ≡ 0
       none h = let z : ⊥ = omega (arith, s .1) in absurd z
+
+      no-line : p .input .left ≡ 0 → n ≡ 0
+      no-line h = let z : ⊥ = omega (arith, s .2, h) in absurd z

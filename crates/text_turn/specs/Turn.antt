@@ -63,14 +63,15 @@ pub record Prepares (b : List ℕ) (s : State) (b' : List ℕ) (r : Prepared) (x
   pub waiting : r .waiting ≡ s .waiting
 
 -- AFTER THE TABLE IS ASKED: the answer is appended behind those that wait, up to `end`. They wait on, or all of them
--- are handed to `write`; they are handed
--- over where the next line has to be waited for
+-- are handed to `write`; they are handed over where the next line has to be waited for, and where no line is left to
+-- hear
 pub record Tells (b : List ℕ) (p : Prepared) (a : Answer) (b' : List ℕ) (r : State) : Type 0 where
   pub end : ℕ
   pub wrote : Wrote b (p .waiting) b' end (lineText (p .kind) (p .number) (p .interest) a) 1200
   pub waits : (r .waiting ≡ end) ⊎ (r .waiting ≡ 0)
   pub room : r .waiting + 1200 ≤ 65536
   pub prompt : r .input .len ≤ r .input .end → r .waiting ≡ 0
+  pub last : r .input .left ≡ 0 → r .waiting ≡ 0
   pub kept : r .kept ≡ p .kept
   pub number : r .number ≡ numberAfter (p .number)
   pub at : r .input .at ≡ p .input .at

@@ -207,10 +207,14 @@ fn stopped(i: Input, ok: bool) -> Input
     }
 }
 
-// Whether the answers are written now: the next line has to be waited for, or there is no room for one more answer.
+// Whether the answers are written now: no line is left to hear, the next line has to be waited for, or there is no room
+// for one more answer.
 fn is_due(i: Input, n: usize) -> bool
-    ensures { λ r. ⌜ (r ≡ false → ((n + 1200 ≤ 65536) × (i .end < i .len))) ⌝ }
+    ensures { λ r. ⌜ (r ≡ false → ((n + 1200 ≤ 65536) × (i .end < i .len) × (0 < i .left))) ⌝ }
 {
+    if i.left == 0 {
+        return true;
+    }
     if i.end < i.len {
         return 64_336 < n;
     }

@@ -5,10 +5,13 @@ use Rattle.text_turn.proofs.is_due.Reads as reads
 use Rattle.text_turn.proofs.is_due.Lts as lts
 
 returns : tie.Need-returns
-returns c = λ e. not-due _ _ _ (c .if1 .taken) e
+returns c = λ e. always-due e
 
 returns-2 : tie.Need-returns-2
-returns-2 c = λ e. always-due e
+returns-2 c = λ e. not-due _ _ _ _ (c .before .before .if1 .left) (c .if2 .taken) e
+
+returns-3 : tie.Need-returns-3
+returns-3 c = λ e. always-due e
 
 pub is-due-spec : {M : Type 1} → statement M
-is-due-spec = tie.close (tie.spec returns returns-2)
+is-due-spec = tie.close (tie.spec returns returns-2 returns-3)
