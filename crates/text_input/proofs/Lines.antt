@@ -19,7 +19,7 @@ use Rattle.text_line.proofs.Turns.{long-line}
 use Rattle.text_input.specs.declared.Input.{Input}
 use Rattle.text_input.specs.declared.Passed.{Passed}
 use Rattle.text_input.specs.declared.Heard.{Heard}
-use Rattle.text_input.specs.Input.{lineLength, Unbroken, unread, Stands, Next, Passes, Readied, LongPassed, Hears}
+use Rattle.text_input.specs.Input.{lineLength, Unbroken, unread, Stands, Ends, Next, Passes, Readied, LongPassed, Hears}
 use Rattle.text_input.proofs.Turns.{unbroken-both, drop-take, line-le}
 
 -- ---- the first line feed of a text
@@ -105,9 +105,8 @@ module _ (b : List ℕ) (i : Input) (p : Stands b i) where
         record {
           got = [];
           unbroken = rw (first, part) at u;
-          are = inl (append-nil (unread b i) ∙ (rw (first, part, rest) at e));
+          are = inl (append-nil (unread b i) ∙ (rw (first, part, rest) at e), left);
           stands = s;
-          fewer = omega (arith, left);
         }
 
   -- ---- all that there is, where the input has ended
@@ -127,11 +126,20 @@ module _ (b : List ℕ) (i : Input) (p : Stands b i) where
         (record {
           got = [];
           unbroken = unbroken-all;
-          are = inr (append-nil (unread b i), refl);
+          are = inr (append-nil (unread b i), over);
           stands = nothing-left;
-          fewer = omega arith;
         })
       where
+        -- the line is all that stood in the buffer from `at` on
+        over : Ends b (record { at = i .len; end = i .len; len = i .len; left = 0; ok = ok }) (unread b i)
+        over =
+            record {
+              none = refl;
+              used = refl;
+              from = i .at;
+              last = inl (sym (unread-behind b i (i .at) (i .len) refl refl));
+            }
+
         nothing-left : Stands b (record { at = i .len; end = i .len; len = i .len; left = 0; ok = ok })
         nothing-left =
             record {
@@ -145,28 +153,31 @@ module _ (b : List ℕ) (i : Input) (p : Stands b i) where
 
     -- ---- a line that is longer than the buffer
 
-    pub next-long : (b' : List ℕ) (r : Input) (q : LongPassed b' (i .left) r) → Next b i b' r (unread b i ++ q .rest)
-    next-long b' r q =
-        record {
-          got = q .got;
-          unbroken = unbroken-both (unread b i) (q .rest) unbroken-all (q .unbroken);
-          are =
-              ⊎-elim
-              (λ e. inl (ap (λ (t : List ℕ). unread b i ++ t) e ∙ sym (append-assoc (unread b i) (q .rest) (10 ∷ unread
-              b' r))))
-              (λ e. inr (ap (λ (t : List ℕ). unread b i ++ t) (e .0), e .1))
-              (q .are);
-          stands = q .stands;
-          fewer = q .fewer;
-        }
+    module _ (z : i .at ≡ 0) (o : 65535 < i .len) (b' : List ℕ) (r : Input) (q : LongPassed b' (i .left) r) where
+      abbrev long : List ℕ
+      long = unread b i ++ q .rest
 
-    pub long-says : (b' : List ℕ) (r : Input) (q : LongPassed b' (i .left) r) (l : Line) (xs : List ℤ) → i .at ≡ 0 →
-        65535 < i .len
-        → length xs ≡ 126 → l ≡ badLine → Said (meaning (unread b i ++ q .rest)) l xs
-    long-says b' r q l xs z o x e =
-        let m : length (unread b i ++ q .rest) ≡ length (unread b i) + length (q .rest) = length-append (unread b i) (q
-        .rest) in
-        long-line (unread b i ++ q .rest) l xs x (omega (arith, m, size, z)) e
+      long-size : 65536 ≤ length long
+      long-size = omega (arith, length-append (unread b i) (q .rest), size, z, o)
+
+      pub next-long : Next b i b' r long
+      next-long =
+          record {
+            got = q .got;
+            unbroken = unbroken-both (unread b i) (q .rest) unbroken-all (q .unbroken);
+            are =
+                ⊎-elim
+                (λ e. inl (more (e .0) ∙ sym (append-assoc (unread b i) (q .rest) (10 ∷ unread b' r)), e .1))
+                (λ e. inr (more (e .0), record { none = e .1; used = e .2; from = 0; last = inr long-size }))
+                (q .are);
+            stands = q .stands;
+          }
+        where
+          more : {t : List ℕ} → q .got ≡ t → unread b i ++ q .got ≡ unread b i ++ t
+          more e = ap (λ (t : List ℕ). unread b i ++ t) e
+
+      pub long-says : (l : Line) (xs : List ℤ) → length xs ≡ 126 → l ≡ badLine → Said (meaning long) l xs
+      long-says l xs x e = long-line long l xs x (omega (arith, long-size)) e
 
 -- ---- the input that was made ready
 
@@ -178,9 +189,8 @@ next-readied {b} {s} {b'} {i} {b''} {r} {line} p q =
     record {
       got = p .got ++ q .got;
       unbroken = q .unbroken;
-      are = ⊎-elim (λ f. inl (e ∙ f)) (λ f. inr (e ∙ f .0, f .1)) (q .are);
+      are = ⊎-elim (λ f. inl (e ∙ f .0, omega (arith, f .1, p .left))) (λ f. inr (e ∙ f .0, f .1)) (q .are);
       stands = q .stands;
-      fewer = omega (arith, q .fewer, p .left);
     }
 
 -- where no line is whole, what is delivered stands at the front
@@ -201,9 +211,8 @@ module _ (b : List ℕ) (p : Passed) (q : Passes b p) (left : ℕ) (r : Input) w
         rest = q .before;
         unbroken = q .unbroken;
         got = q .before;
-        are = inr (refl, refl);
+        are = inr (refl, refl, refl);
         stands = standing;
-        fewer = omega arith;
       })
     where
       standing : Stands b (record { at = p .len; end = p .len; len = p .len; left = 0; ok = ok })
@@ -237,11 +246,12 @@ module _ (b : List ℕ) (p : Passed) (q : Passes b p) (left : ℕ) (r : Input) w
           unbroken = unbroken-both (q .before) (take (lineLength t) t) (q .unbroken) (line-unbroken t);
           got = q .before ++ t;
           are =
-              inl
-              (ap (λ (x : List ℕ). q .before ++ x) (u ∙ rw v)
-              ∙ sym (append-assoc (q .before) (take (lineLength t) t) (10 ∷ unread b r)));
+              inl (
+                ap (λ (x : List ℕ). q .before ++ x) (u ∙ rw v)
+                    ∙ sym (append-assoc (q .before) (take (lineLength t) t) (10 ∷ unread b r)),
+                fewer,
+              );
           stands = s;
-          fewer = omega (arith, fewer);
         }
       where
         behind-is : drop (suc (lineLength (take (p .len) b))) (take (p .len) b) ≡ unread b r

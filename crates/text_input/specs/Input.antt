@@ -38,14 +38,22 @@ pub record Stands (b : List ℕ) (s : Input) : Type 0 where
   pub long : length b ≡ room
   pub is : s .end ≡ s .at + lineLength (unread b s)
 
+-- NOTHING MORE IS DELIVERED: no line is left to hear, every byte of the buffer is used, and its last bytes are the
+-- line, unless the line fills the buffer
+pub record Ends (b' : List ℕ) (r : Input) (line : List ℕ) : Type 0 where
+  pub none : r .left ≡ 0
+  pub used : r .at ≡ r .len
+  pub from : ℕ
+  pub last : (line ≡ drop from (take (r .len) b')) ⊎ (room ≤ length line)
+
 -- THE NEXT LINE, whatever pieces `read` delivers it in: `got` is what it delivered. Behind the line stands a line
--- feed; or the input has ended
+-- feed, and one line fewer is left to hear; or the input has ended
 pub record Next (b : List ℕ) (s : Input) (b' : List ℕ) (r : Input) (line : List ℕ) : Type 0 where
   pub got : List ℕ
   pub unbroken : Unbroken line
-  pub are : (unread b s ++ got ≡ line ++ lineFeed ∷ unread b' r) ⊎ ((unread b s ++ got ≡ line) × (r .left ≡ 0))
+  pub are : ((unread b s ++ got ≡ line ++ lineFeed ∷ unread b' r) × (r .left ≡ s .left - 1))
+      ⊎ ((unread b s ++ got ≡ line) × Ends b' r line)
   pub stands : Stands b' r
-  pub fewer : r .left ≤ s .left - 1
 
 -- ---- what the code finds its way with
 
@@ -82,9 +90,9 @@ pub record LongPassed (b' : List ℕ) (left : ℕ) (r : Input) : Type 0 where
   pub rest : List ℕ
   pub unbroken : Unbroken rest
   pub got : List ℕ
-  pub are : (got ≡ rest ++ lineFeed ∷ unread b' r) ⊎ ((got ≡ rest) × (r .left ≡ 0))
+  pub are : ((got ≡ rest ++ lineFeed ∷ unread b' r) × (r .left ≡ left - 1))
+      ⊎ ((got ≡ rest) × (r .left ≡ 0) × (r .at ≡ r .len))
   pub stands : Stands b' r
-  pub fewer : r .left ≤ left - 1
 
 -- THE LINE THAT IS HEARD is what the definition says of its bytes
 pub record Hears (b : List ℕ) (s : Input) (b' : List ℕ) (r : Heard) (xs : List ℤ) : Type 0 where

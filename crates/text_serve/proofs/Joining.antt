@@ -2,17 +2,19 @@
 -- nothing.
 use mathlib.Core.Path.{_≡_, refl, sym, ap, _∙_}
 use mathlib.Core.Logic.{_⊎_, inl, inr}
+use mathlib.Core.Bool.{false}
 use mathlib.Core.List.{List, [], _∷_, _++_, append-assoc}
 use Prim.Native.Nat.{ℕ, _+_, _-_, _≤_, _<_}
 use native.Mathlib.Omega.{arith}
-use lib.ListN.{length}
+use lib.ListN.{length, length-append}
 use Rattle.paper.specs.declared.Record.{Record}
 use Rattle.text_protocol.specs.Bytes.{lineFeed, run}
 use Rattle.text_protocol.specs.Evening.{Evening, after, afterAll}
-use Rattle.text_input.specs.Input.{lineLength, Unbroken, unread, Stands}
+use Rattle.text_input.specs.declared.Input.{Input}
+use Rattle.text_input.specs.Input.{lineLength, Unbroken, unread, Stands, Ends}
 use Rattle.text_turn.specs.declared.State.{State}
-use Rattle.text_turn.specs.Turn.{startState}
-use Rattle.text_serve.specs.Serve.{eveningOf, Turns, Each, joined, Cut, Serves}
+use Rattle.text_turn.specs.Turn.{halted, startState}
+use Rattle.text_serve.specs.Serve.{eveningOf, Turns, Each, joined, mostLines, Cut, Serves}
 
 joined-more : (ls : List (List ℕ)) (u g : List ℕ) → joined ls u ++ g ≡ joined ls (u ++ g)
 unfolding joined
@@ -35,8 +37,18 @@ unfolding Each
 each-one [] l e h = (h, tt)
 each-one (k ∷ ls) l e h = (e .0, each-one ls l (e .1) h)
 
--- where the loop stands, from the table t on: the bytes of the buffer b that are not used stand behind the lines, or
--- the last line has been heard
+-- one line more is one more
+length-one : (ls : List (List ℕ)) (l : List ℕ) → length (ls ++ l ∷ []) ≡ length ls + 1
+length-one ls l = length-append ls (l ∷ [])
+
+-- HOW FAR THE INPUT IS HEARD: the bytes of the buffer b that are not used stand behind the lines, and the lines and
+-- those that are left to hear are a run's most; or no line more is heard
+abbrev pub Reached : List ℕ → List (List ℕ) → List ℕ → State → Type 0
+Reached got lines b s =
+    ((got ≡ joined lines (unread b (s .input))) × (length lines + s .input .left ≡ mostLines))
+    ⊎ ((s .input .left ≡ 0) × Cut got lines (s .ok))
+
+-- where the loop stands, from the table t on
 pub record Sofar (t : List Record) (b : List ℕ) (s : State) (t' : List Record) : Type 0 where
   pub got : List ℕ
   pub lines : List (List ℕ)
@@ -45,7 +57,7 @@ pub record Sofar (t : List Record) (b : List ℕ) (s : State) (t' : List Record)
   pub stands : Stands b (s .input)
   pub room : s .waiting + 1200 ≤ 65536
   pub last : s .input .left ≡ 0 → s .waiting ≡ 0
-  pub are : (got ≡ joined lines (unread b (s .input))) ⊎ ((s .input .left ≡ 0) × Cut got lines)
+  pub are : Reached got lines b s
 
 -- at the start nothing is read
 pub none-yet : (t : List Record) (b : List ℕ) → length b ≡ 65536 → Sofar t b startState t
@@ -59,19 +71,18 @@ none-yet t b long =
       stands = record { low = omega arith; high = omega arith; in-b = omega arith; long = long; is = refl };
       room = omega arith;
       last = λ h. refl;
-      are = inl refl;
+      are = inl (refl, refl);
     }
+
+-- an input that is halted stands as it stood
+stands-halted : (b : List ℕ) (i : Input) → Stands b i → Stands b (halted i)
+unfolding unread
+stands-halted b i s = record { low = s .low; high = s .high; in-b = s .in-b; long = s .long; is = s .is }
 
 -- ONE TURN MORE
 module _ {t : List Record} {b : List ℕ} {s : State} {u : List Record} {o b' : List ℕ} {r : State} {u' : List Record} {o'
     : List ℕ}
     (so : Sofar t b s u) (more : 0 < s .input .left) (turn : Turns b s u o b' r u' o') where
-  -- before the turn the input has not ended
-  going : (so .got ≡ joined (so .lines) (unread b (s .input))) ⊎ ((s .input .left ≡ 0) × Cut (so .got) (so .lines))
-      → so .got ≡ joined (so .lines) (unread b (s .input))
-  going (inl e) = e
-  going (inr e) = let z : ⊥ = omega (arith, more, e .0) in absurd z
-
   abbrev all : List (List ℕ)
   all = so .lines ++ turn .line ∷ []
 
@@ -81,25 +92,66 @@ module _ {t : List Record} {b : List ℕ} {s : State} {u : List Record} {o b' : 
   each : Each all
   each = each-one (so .lines) (turn .line) (so .unbroken) (turn .next .unbroken)
 
+  -- before the turn the input has not ended
+  going : Reached (so .got) (so .lines) b s
+      → (so .got ≡ joined (so .lines) (unread b (s .input))) × (length (so .lines) + s .input .left ≡ mostLines)
+  going (inl e) = e
+  going (inr e) = let z : ⊥ = omega (arith, more, e .0) in absurd z
+
   delivered : all-got ≡ joined (so .lines) (unread b (s .input) ++ turn .next .got)
-  delivered = ap (λ (z : List ℕ). z ++ turn .next .got) (going (so .are)) ∙ joined-more (so .lines) (unread b (s
+  delivered = ap (λ (z : List ℕ). z ++ turn .next .got) (going (so .are) .0) ∙ joined-more (so .lines) (unread b (s
       .input)) (turn .next .got)
 
-  are-now : (unread b (s .input) ++ turn .next .got ≡ turn .line ++ lineFeed ∷ unread b' (r .input))
-      ⊎ ((unread b (s .input) ++ turn .next .got ≡ turn .line) × (r .input .left ≡ 0))
-      → (all-got ≡ joined all (unread b' (r .input))) ⊎ ((r .input .left ≡ 0) × Cut all-got all)
-  are-now (inl e) = inl (delivered ∙ ap (joined (so .lines)) e ∙ sym (joined-one (so .lines) (turn .line) (unread b' (r
-      .input))))
-  are-now (inr e) = inr (
-    e .1,
+  counted : turn .behind .left ≡ s .input .left - 1 → length all + turn .behind .left ≡ mostLines
+  counted e = omega (arith, e, going (so .are) .1, more, length-one (so .lines) (turn .line))
+
+  -- a line feed stands behind the line: the rest of the buffer stands behind it, and is heard on unless a write failed
+  ended-line : unread b (s .input) ++ turn .next .got ≡ turn .line ++ lineFeed ∷ unread b' (turn .behind)
+      → all-got ≡ joined all (unread b' (turn .behind))
+  ended-line e = delivered ∙ ap (joined (so .lines)) e ∙ sym (joined-one (so .lines) (turn .line) (unread b' (turn
+      .behind)))
+
+  -- none stands there: it is the last line
+  last-line : unread b (s .input) ++ turn .next .got ≡ turn .line → Cut all-got all (r .ok)
+  last-line e =
+      record {
+        whole = so .lines;
+        behind = turn .line;
+        are = delivered ∙ ap (joined (so .lines)) e;
+        unbroken = each;
+        heard = inl refl;
+      }
+
+  abbrev Goes : Type 0
+  Goes = (r .input ≡ turn .behind) ⊎ ((r .ok ≡ false) × (r .input ≡ halted (turn .behind)))
+
+  none-left : turn .behind .left ≡ 0 → Goes → r .input .left ≡ 0
+  none-left z (inl e) = rw e z
+  none-left z (inr e) = rw (e .1)
+
+  abbrev Line : Type 0
+  Line = ((unread b (s .input) ++ turn .next .got ≡ turn .line ++ lineFeed ∷ unread b' (turn .behind))
+      × (turn .behind .left ≡ s .input .left - 1))
+      ⊎ ((unread b (s .input) ++ turn .next .got ≡ turn .line) × Ends b' (turn .behind) (turn .line))
+
+  reached : Line → Goes → Reached all-got all b' r
+  unfolding unread
+  reached (inl e) (inl g) = inl (rw g (ended-line (e .0)), rw g (counted (e .1)))
+  reached (inl e) (inr g) = inr (
+    rw (g .1),
     record {
-      whole = so .lines;
-      behind = turn .line;
-      are = delivered ∙ ap (joined (so .lines)) (e .0);
+      whole = all;
+      behind = unread b' (turn .behind);
+      are = ended-line (e .0);
       unbroken = each;
-      heard = inl refl;
+      heard = inr (refl, inl (g .0));
     },
   )
+  reached (inr e) g = inr (none-left (e .1 .none) g, last-line (e .0))
+
+  stands-on : Goes → Stands b' (r .input)
+  stands-on (inl e) = rw e (turn .next .stands)
+  stands-on (inr e) = rw (e .1) (stands-halted b' (turn .behind) (turn .next .stands))
 
   pub one-more : Sofar t b' r u'
   one-more =
@@ -109,22 +161,35 @@ module _ {t : List Record} {b : List ℕ} {s : State} {u : List Record} {o b' : 
         unbroken = each;
         evening = turn .evening ∙ ap (after (turn .line)) (so .evening) ∙ sym (after-one (so .lines) (turn .line)
             (eveningOf startState t));
-        stands = turn .next .stands;
+        stands = stands-on (turn .goes-on);
         room = turn .room;
         last = turn .last;
-        are = are-now (turn .next .are);
+        are = reached (turn .next .are) (turn .goes-on);
       }
 
-  pub fewer : r .input .left < s .input .left
-  fewer = omega (arith, more, turn .next .fewer)
+  fewer-behind : Line → turn .behind .left < s .input .left
+  fewer-behind (inl e) = omega (arith, e .1, more)
+  fewer-behind (inr e) = omega (arith, e .1 .none, more)
 
--- AT THE END
+  fewer-still : Goes → turn .behind .left < s .input .left → r .input .left < s .input .left
+  fewer-still (inl e) h = rw e h
+  fewer-still (inr e) h = rw (e .1) more
+
+  pub fewer : r .input .left < s .input .left
+  fewer = fewer-still (turn .goes-on) (fewer-behind (turn .next .are))
+
+-- AT THE END: no line is left to hear, so that either the run's most lines were heard, or it is over already
 module _ {t : List Record} {b : List ℕ} {s : State} {u : List Record} (so : Sofar t b s u) (over : s .input .left ≡ 0)
   where
-    cut : (so .got ≡ joined (so .lines) (unread b (s .input))) ⊎ ((s .input .left ≡ 0) × Cut (so .got) (so .lines)) → Cut
-        (so .got) (so .lines)
+    cut : Reached (so .got) (so .lines) b s → Cut (so .got) (so .lines) (s .ok)
     cut (inl e) =
-        record { whole = so .lines; behind = unread b (s .input); are = e; unbroken = so .unbroken; heard = inr refl }
+        record {
+          whole = so .lines;
+          behind = unread b (s .input);
+          are = e .0;
+          unbroken = so .unbroken;
+          heard = inr (refl, inr (omega (arith, e .1, over)));
+        }
     cut (inr e) = e .1
 
     pub served : Serves t s u

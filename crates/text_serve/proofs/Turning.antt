@@ -24,39 +24,6 @@ use Rattle.text_turn.specs.declared.Prepared.{Prepared}
 use Rattle.text_turn.specs.Turn.{callIn, lineText, Prepares, Tells}
 use Rattle.text_serve.specs.Serve.{eveningOf, Turns}
 
--- ---- the input, where only fewer lines are left to hear
-
-module _ (b : List ℕ) (i k : Input) (at : k .at ≡ i .at) (end : k .end ≡ i .end) (len : k .len ≡ i .len) where
-  same-unread : unread b k ≡ unread b i
-  unfolding unread
-  same-unread = rw (at, len)
-
-  stands-too : Stands b i → Stands b k
-  stands-too s =
-      record {
-        low = omega (arith, s .low, at, end);
-        high = omega (arith, s .high, end, len);
-        in-b = omega (arith, s .in-b, len);
-        long = s .long;
-        is = rw (same-unread) (omega (arith, s .is, at, end));
-      }
-
-  -- the next line is the same one
-  pub next-too : (b₀ : List ℕ) (j : Input) (line : List ℕ) → k .left ≤ i .left → Next b₀ j b i line → Next b₀ j b k line
-  next-too b₀ j line left n =
-      record {
-        got = n .got;
-        unbroken = n .unbroken;
-        are = are (n .are);
-        stands = stands-too (n .stands);
-        fewer = omega (arith, left, n .fewer);
-      }
-    where
-      are : (unread b₀ j ++ n .got ≡ line ++ lineFeed ∷ unread b i) ⊎ ((unread b₀ j ++ n .got ≡ line) × (i .left ≡ 0))
-          → (unread b₀ j ++ n .got ≡ line ++ lineFeed ∷ unread b k) ⊎ ((unread b₀ j ++ n .got ≡ line) × (k .left ≡ 0))
-      are (inl e) = inl (e ∙ ap (λ (u : List ℕ). line ++ lineFeed ∷ u) (sym same-unread))
-      are (inr e) = inr (e .0, omega (arith, left, e .1))
-
 -- ---- the table: a line that is no call of the desk is a read, which leaves it
 
 table-of : (d : Deed) (t : List Record) → tableAfter d t ≡ step (callIn d) t .table
@@ -104,8 +71,9 @@ module _ {b : List ℕ} {s : State} {b' : List ℕ} {p : Prepared} {xs rows : Li
   turned =
       record {
         line = heard .line;
-        next = next-too b' (p .input) (r .input) (told .at) (told .ends) (told .len) b (s .input) (heard .line) (told
-            .left) (heard .next);
+        behind = p .input;
+        next = heard .next;
+        goes-on = told .goes-on;
         evening = evening-is;
         answers = record { end = told .end; wrote = wrote; waits = told .waits };
         room = told .room;

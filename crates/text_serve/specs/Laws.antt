@@ -1,9 +1,10 @@
--- For a reader: where the input has ended, the lines that were served are the pieces of the bytes between line feeds.
--- Assumes nothing.
+-- For a reader: where no write failed and fewer than 2^64 - 1 lines were served, they are the pieces of all the bytes
+-- that were delivered, between line feeds, and the table at the end is the table after them. Assumes nothing.
 use mathlib.Core.Path.{_≡_, refl, sym, ap, subst, _∙_}
 use mathlib.Core.Bool.{Bool, true, false, not}
+use mathlib.Core.Logic.{_⊎_, inl, inr}
 use mathlib.Core.List.{List, [], _∷_, _++_}
-use Prim.Native.Nat.{ℕ, suc, _≤_}
+use Prim.Native.Nat.{ℕ, suc, _<_}
 use native.Mathlib.Omega.{arith}
 use lib.Dec.{eqb}
 use lib.ListN.{length}
@@ -16,7 +17,7 @@ use Rattle.paper.specs.declared.Record.{Record}
 use Rattle.text_turn.specs.declared.State.{State}
 use Rattle.text_turn.specs.Turn.{startState}
 use Rattle.text_input.specs.Input.{lineLength, Unbroken}
-use Rattle.text_serve.specs.Serve.{eveningOf, Each, joined, Cut, Serves}
+use Rattle.text_serve.specs.Serve.{eveningOf, Each, joined, mostLines, Cut, Serves}
 
 -- a byte of a line that has no line feed is none, and the rest of the line has none
 first-not : (c : ℕ) (l : List ℕ) → Unbroken (c ∷ l) → (eqb c lineFeed ≡ false) × Unbroken l
@@ -39,16 +40,29 @@ no-feed [] h = refl
 no-feed (c ∷ l) h = let p = first-not c l h in rw (p .0, no-feed l (p .1))
 
 -- THE PIECES of lines that are joined are the lines, and what stands behind them
-pub pieces-are : (ls : List (List ℕ)) (u : List ℕ) → Each (ls ++ u ∷ []) → pieces isLineFeed (joined ls u) ≡ ls ++ u ∷ []
+pub pieces-are : (ls : List (List ℕ)) (u : List ℕ) → Each (ls ++ u ∷ [])
+    → pieces isLineFeed (joined ls u) ≡ ls ++ u ∷ []
 unfolding joined Each
 pieces-are [] u e = no-feed u (e .0)
 pieces-are (l ∷ ls) u e = line-first l (joined ls u) (e .0) ∙ ap (λ (z : List (List ℕ)). l ∷ z) (pieces-are ls u (e .1))
 
--- WHERE THE INPUT HAS ENDED, the lines that were served are the pieces of all that was delivered
-pub served-pieces : {got : List ℕ} {lines : List (List ℕ)} (c : Cut got lines) → lines ≡ c .whole ++ c .behind ∷ []
-    → lines ≡ pieces isLineFeed got
-served-pieces {got} {lines} c e =
-    e ∙ sym (ap (pieces isLineFeed) (c .are) ∙ pieces-are (c .whole) (c .behind) (subst Each e (c .unbroken)))
+-- WHERE ALL WENT WELL and fewer lines were served than a run may have, they are the pieces of all that was delivered
+pub served-pieces : {got : List ℕ} {lines : List (List ℕ)} {ok : Bool} → Cut got lines ok → ok ≡ true
+    → length lines < mostLines → lines ≡ pieces isLineFeed got
+served-pieces {got} {lines} {ok} c well few = every (c .heard)
+  where
+    all-of : lines ≡ c .whole ++ c .behind ∷ [] → lines ≡ pieces isLineFeed got
+    all-of e =
+        e ∙ sym (ap (pieces isLineFeed) (c .are) ∙ pieces-are (c .whole) (c .behind) (subst Each e (c .unbroken)))
+
+    never : (ok ≡ false) ⊎ (length lines ≡ mostLines) → ⊥
+    never (inl e) = let z : _≡_ {A = ℕ} 0 1 = cc in omega arith
+    never (inr e) = omega (arith, few, e)
+
+    every : (lines ≡ c .whole ++ c .behind ∷ []) ⊎ ((lines ≡ c .whole) × ((ok ≡ false) ⊎ (length lines ≡ mostLines)))
+        → lines ≡ pieces isLineFeed got
+    every (inl e) = all-of e
+    every (inr e) = absurd (never (e .1))
 
 -- an empty line changes no table
 empty-line : (e : Evening) → after [] e .table ≡ e .table
@@ -65,11 +79,10 @@ ended-table ([] ∷ q ∷ ps) e = ended-table (q ∷ ps) (after [] e)
 ended-table ((b ∷ p) ∷ q ∷ ps) e = ended-table (q ∷ ps) (after (b ∷ p) e)
 
 -- AND THE TABLE AT THE END IS THE TABLE AFTER THE LINES OF ALL THAT WAS DELIVERED
-pub served-table : {t : List Record} {r : State} {t' : List Record} (s : Serves t r t')
-    → s .lines ≡ s .cut .whole ++ s .cut .behind ∷ []
-    → t' ≡ afterAll (lines (s .got)) (eveningOf startState t) .table
+pub served-table : {t : List Record} {r : State} {t' : List Record} (s : Serves t r t') → r .ok ≡ true
+    → length (s .lines) < mostLines → t' ≡ afterAll (lines (s .got)) (eveningOf startState t) .table
 unfolding lines
-served-table {t} {r} {t'} s e =
+served-table {t} {r} {t'} s well few =
     ap (λ (z : Evening). z .table) (s .evening)
-    ∙ ap (λ (ls : List (List ℕ)). afterAll ls (eveningOf startState t) .table) (served-pieces (s .cut) e)
+    ∙ ap (λ (ls : List (List ℕ)). afterAll ls (eveningOf startState t) .table) (served-pieces (s .cut) well few)
     ∙ ended-table (pieces isLineFeed (s .got)) (eveningOf startState t)

@@ -1,7 +1,7 @@
 -- The two halves of a turn, before and after the table is asked. Assumes nothing.
 use mathlib.Core.Path.{_≡_}
 use mathlib.Core.Logic.{_⊎_}
-use mathlib.Core.Bool.{true}
+use mathlib.Core.Bool.{true, false}
 use mathlib.Core.List.{List, []}
 use Prim.Native.Nat.{ℕ, _+_, _≤_}
 use lib.Dec.{eqb}
@@ -25,6 +25,7 @@ use Rattle.text_out.specs.Wrote.{Wrote}
 use Rattle.text_answer.specs.Kinds.{textOfKind}
 use Rattle.text_line.specs.Heard.{blankKind, badKind}
 use Rattle.text_call.specs.Requests.{requestCall, lineCall}
+use Rattle.text_input.specs.declared.Input.{Input}
 use Rattle.text_input.specs.Input.{Stands, Next}
 use Rattle.text_turn.specs.declared.State.{State}
 use Rattle.text_turn.specs.declared.Prepared.{Prepared}
@@ -62,9 +63,13 @@ pub record Prepares (b : List ℕ) (s : State) (b' : List ℕ) (r : Prepared) (x
   pub number : r .number ≡ s .number
   pub waiting : r .waiting ≡ s .waiting
 
+-- the input of a run that is over before its input has ended: no line more is heard
+abbrev pub halted : Input → Input
+halted i = record { at = i .at; end = i .end; len = i .len; left = 0; ok = false }
+
 -- AFTER THE TABLE IS ASKED: the answer is appended behind those that wait, up to `end`. They wait on, or all of them
 -- are handed to `write`; they are handed over where the next line has to be waited for, and where no line is left to
--- hear
+-- hear. The input goes on as it was, unless a write failed: `ok` says so
 pub record Tells (b : List ℕ) (p : Prepared) (a : Answer) (b' : List ℕ) (r : State) : Type 0 where
   pub end : ℕ
   pub wrote : Wrote b (p .waiting) b' end (lineText (p .kind) (p .number) (p .interest) a) 1200
@@ -74,10 +79,7 @@ pub record Tells (b : List ℕ) (p : Prepared) (a : Answer) (b' : List ℕ) (r :
   pub last : r .input .left ≡ 0 → r .waiting ≡ 0
   pub kept : r .kept ≡ p .kept
   pub number : r .number ≡ numberAfter (p .number)
-  pub at : r .input .at ≡ p .input .at
-  pub ends : r .input .end ≡ p .input .end
-  pub len : r .input .len ≡ p .input .len
-  pub left : r .input .left ≤ p .input .left
+  pub goes-on : (r .input ≡ p .input) ⊎ ((r .ok ≡ false) × (r .input ≡ halted (p .input)))
 
 -- at the start nothing is read, nothing is kept and nothing waits, and the first line is the next
 abbrev pub startState : State

@@ -7,7 +7,8 @@ ghost use lib.ListN.{length, take, drop};
 ghost use Rattle.text_out.specs.Wrote.{Wrote};
 ghost use Rattle.text_input.specs.Input.{Stands};
 ghost use Rattle.text_protocol.specs.Evening.{numberAfter};
-ghost use Rattle.text_turn.specs.Turn.{lineText, Wants, Prepares, Tells, startState};
+ghost use Rattle.paper.specs.Lists.{pick};
+ghost use Rattle.text_turn.specs.Turn.{lineText, Wants, Prepares, halted, Tells, startState};
 use libc::STDOUT_FILENO;
 use paper::Answer;
 use paper::InterestAnswer;
@@ -166,19 +167,22 @@ fn say(
     say_answer(out, len, kind, a)
 }
 
-// Hands bytes to `write`, all of them: a short write is tried again. It says whether they were taken, which is C's
-// answer: no contract can say it.
-fn hand(bytes: &[u8], n: usize) -> bool
-    requires { ⌜ length (now bytes) ≡ n ⌝ }
-{
-    io::write_all(STDOUT_FILENO, bytes)
-}
-
-// Writes the first n bytes of the answers, and says what `hand` says.
-fn flush(out: &[u8], n: usize) -> bool
+// Hands the first n bytes of the answers to `write`, and says how many of them it took, by C's answers: all of them,
+// unless a write took nothing or failed. A short write is tried again.
+fn flush(out: &[u8], n: usize) -> usize
     requires { ⌜ n ≤ length (now out) ⌝ }
+    ensures { λ r. ⌜ r ≤ n ⌝ }
 {
-    hand(&out[..n], n)
+    let mut done = 0;
+    while done < n {
+        let got = libc::write(STDOUT_FILENO, &out[done..n]);
+        let took = io::count(got, &out[done..n]);
+        if took == 0 {
+            return done;
+        }
+        done += took;
+    }
+    done
 }
 
 // The number of the line behind the n-th.
@@ -193,7 +197,7 @@ fn number_after(n: u64) -> u64
 
 // Where a write failed, no line more is heard.
 fn stopped(i: Input, ok: bool) -> Input
-    ensures { λ r. ⌜ (r .at ≡ i .at) × (r .end ≡ i .end) × (r .len ≡ i .len) × (r .left ≤ i .left) ⌝ }
+    ensures { λ r. ⌜ r ≡ pick ok i (halted i) ⌝ }
 {
     if ok {
         return i;
@@ -232,7 +236,7 @@ pub fn tell(out: &mut [u8; 65536], p: Prepared, a: Answer) -> State
     let n = say(out, p.waiting, p.kind, p.number, interest, a);
     let number = number_after(p.number);
     if is_due(i, n) {
-        let ok = flush(out, n);
+        let ok = flush(out, n) == n;
         return State {
             input: stopped(i, ok),
             number,

@@ -61,15 +61,17 @@ same-length-3 : tie.Need-same-length-3
 same-length-3 c = search needs
 
 returns-2 : tie.Need-returns-2
-returns-2 c = let p = c .before .before .before .before .before .before .before .before .before .ready .ensures in let
-    h = c .before .before .before .before .before .before .if1 .left in let q = c .before .before .before .behind-long
-    .ensures in record {
+returns-2 c =
+    let p = c .before .before .before .before .before .before .before .before .before .ready .ensures in
+    let entered = c .before .before .before .before .before .before .before .before .before .before .before .before in
+    let h = c .before .before .before .before .before .before .if1 .left in
+    let q = c .before .before .before .behind-long .ensures in
+    let front = at-front _ _ _ (p .front) h in
+    let over = c .before .before .before .before .before .if2 .taken in
+    record {
       line = _;
-      next = next-readied p (next-long _ _ (p .stands) h _ _ q);
-      says = long-says _ _ (p
-          .stands) h _ _ q _ _ (at-front _ _ _ (p .front) h) (c .before .before .before .before .before .if2 .taken) (c
-          .before .before .before .before .before .before .before .before .before .before .before .before .pre .1) (c .bad
-          .ensures);
+      next = next-readied p (next-long _ _ (p .stands) h front over _ _ q);
+      says = long-says _ _ (p .stands) h front over _ _ q _ _ (entered .pre .1) (c .bad .ensures);
     }
 
 sub-read-line-2 : tie.Need-sub-read-line-2

@@ -30,12 +30,13 @@ same-length-2 : tie.Need-same-length-2
 same-length-2 c = search needs
 
 returns : tie.Need-returns
-returns c = let p = c .before .before .before .before .before .before .before .before .before .before .hear .ensures in (
-  prepared _ (c .before .before .before .before .before .before .before .before .before .before .before .before
-      .before .before .before .before .args .s) _ _ _ _ p (c .before .before .before .before .wanted-by .ensures),
-  p
-      .says .long,
-)
+returns c =
+    let asked = c .before .before .before .before in
+    let heard = asked .before .before .before .before .before .before in
+    let entered = heard .before .before .before .before .before .before in (
+      prepared _ (entered .args .s) _ _ _ _ (heard .hear .ensures) (asked .wanted-by .ensures),
+      heard .hear .ensures .says .long,
+    )
 
 pub prepare-spec : {M : Type 1} → statement M
 prepare-spec =

@@ -1,4 +1,8 @@
-use Rattle.text_turn.proofs.Told.{told-now, told-later}
+use mathlib.Core.Path.{refl}
+use mathlib.Core.Logic.{inl, inr}
+use native.Mathlib.Omega.{arith}
+use lib.Dec.{eqb}
+use Rattle.text_turn.proofs.Told.{goes-on, a-line-is-whole, a-line-is-left}
 use borrow.Author.Needs.{needs}
 use Rattle.text_turn.proofs.tell.Statement.{statement}
 use Rattle.text_turn.proofs.tell.Tie as tie
@@ -25,13 +29,41 @@ flush-requires c κs = search needs
 stopped-requires : tie.Need-stopped-requires
 stopped-requires c κs = search needs
 
+-- all that waited is handed over
 returns : tie.Need-returns
-returns c = told-now _ _ _ _ _ _ (c .before .before .before .before .before .before .before .before .say .ensures) (c
-    .before .before .before .before .before .before .before .number-after .ensures) _ _ (c .before .stopped .ensures)
+returns c =
+    let counted = c .before .before .before .before .before .before .before in
+    let entered = counted .before .before .before .before .before .before in
+    let said = counted .before .say in
+    let took = eqb (c .before .before .flush .result) (said .result) in
+    record {
+      end = said .result;
+      wrote = said .ensures;
+      waits = inr refl;
+      room = omega arith;
+      prompt = λ h. refl;
+      last = λ h. refl;
+      kept = refl;
+      number = counted .number-after .ensures;
+      goes-on = goes-on (entered .args .p .ok) took (c .before .stopped .ensures);
+    }
 
+-- all of it waits on
 returns-2 : tie.Need-returns-2
-returns-2 c = told-later _ _ _ _ _ _ (c .before .before .before .say .ensures) (c .before .before .number-after
-    .ensures) _ (c .before .is-due .ensures (c .if1 .left))
+returns-2 c =
+    let said = c .before .before .before .say in
+    let on = c .before .is-due .ensures (c .if1 .left) in
+    record {
+      end = said .result;
+      wrote = said .ensures;
+      waits = inl refl;
+      room = on .0;
+      prompt = a-line-is-whole (on .1);
+      last = a-line-is-left (on .2);
+      kept = refl;
+      number = c .before .before .number-after .ensures;
+      goes-on = inl refl;
+    }
 
 pub tell-spec : {M : Type 1} → statement M
 tell-spec =
