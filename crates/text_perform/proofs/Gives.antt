@@ -30,24 +30,26 @@ use Rattle.desk.proofs.Row.{R}
 use Rattle.desk.proofs.Calls.{Owned}
 
 -- what a contract binds and says at exit of n parameters by value: nothing
-abbrev Units : ℕ → Type 0
+abbrev pub Units : ℕ → Type 0
 Units zero = Unit {0}
 Units (suc n) = Unit {0} × Units n
 
-abbrev trues : ℕ → Fml
+abbrev pub trues : ℕ → Fml
 trues zero = ftrue
 trues (suc n) = fsep ftrue (trues n)
 
+-- what is ensured by a call of the row ys and n parameters by value: the row's last list, of which B says what is
+-- promised
+abbrev pub Last : {M : Type 1} (𝓤 : URA M) → GName → List Record → ℕ → (List Record → Type 0) → Item 𝓤
+Last 𝓤 γ ys n B = some (λ (zs : List Record × Units n).
+    ‵ (fsep (fsep (finally R γ (zs .0)) (feq ℕ (length (zs .0)) (length ys))) (trues n)) ⊛ raw (fact 𝓤 (B (zs .0))))
+
 module _ {M : Type 1} (𝓤 : URA M) (H : Heap 𝓤) (A : Atoms 𝓤) where
-  -- what comes of a call of the row ys and n parameters by value: some X, the token, and the row's last list, of which
-  -- B says what is ensured
+  -- what comes of such a call: some X, the token, and what is ensured
   abbrev pub Back : Lft → Share → GName → List Record → (X : RattleType) → ℕ → (X .Denot → List Record → Type 0) → Val
       → Item 𝓤
   Back κ q γ ys X n B v =
-      later (some (λ (r : X .Denot). ((‵ (flft κ q) ⊛ ‵ ftrue) ⊛ ‵ (X .own r (v ∷ []))) ⊛ some (λ (zs : List Record ×
-      Units n).
-      ‵ (fsep (fsep (finally R γ (zs .0)) (feq ℕ (length (zs .0)) (length ys))) (trues n)) ⊛ raw (fact 𝓤 (B r (zs
-      .0))))))
+      later (some (λ (r : X .Denot). ((‵ (flft κ q) ⊛ ‵ ftrue) ⊛ ‵ (X .own r (v ∷ []))) ⊛ Last 𝓤 γ ys n (B r)))
 
   module _ (W : Given 𝓤 H A) (κ : Lft) (q : Share) (γ : GName) (ys : List Record) (X : RattleType) (n : ℕ) (B : X
       .Denot → List Record → Type 0)

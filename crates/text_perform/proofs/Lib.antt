@@ -1,4 +1,4 @@
 pub mod Gives
 mod Requests
+mod Hands
 mod Arms
-mod ArmWithRows

@@ -41,7 +41,8 @@ pub fn step<'a, 'b>(
     s: State,
 ) -> State
     requires { ⌜ (Stands (now buf) (s .input)) × (s .waiting + 1200 ≤ 65536) ⌝ }
-    ensures { λ r. ⌜ Turns (now (buf .entry)) s (now (t .entry)) (now (out .entry)) (now (buf .exit)) r (now (t .exit)) (now (out .exit)) ⌝ }
+    ensures { λ r. ⌜ Turns (now (buf .entry)) s (now (t .entry)) (now (out .entry))
+        (now (buf .exit)) r (now (t .exit)) (now (out .exit)) ⌝ }
 {
     let p = hear_in(buf, xs, s);
     let a = perform(t, p.request, rows_in(xs, p.count));

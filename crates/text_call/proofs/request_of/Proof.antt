@@ -90,9 +90,11 @@ of-id-requires-4 : tie.Need-of-id-requires-4
 of-id-requires-4 c κs = search needs
 
 returns-6 : tie.Need-returns-6
-returns-6 c = other-line _ _ _ _ _ _ (c .of-id4 .ensures) (c .before .before .before .before .before .before .if1
-    .left) (c .before .before .before .before .before .if2 .left) (c .before .before .before .before .if3 .left) (c
-    .before .before .before .if4 .left) (c .before .before .if5 .left)
+returns-6 c =
+    let at-if2 = c .before .before .before .before .before in
+    let at-if1 = at-if2 .before in
+    other-line _ _ _ _ _ _ (c .of-id4 .ensures) (at-if1 .if1 .left) (at-if2 .if2 .left) (c .before .before .before
+    .before .if3 .left) (c .before .before .before .if4 .left) (c .before .before .if5 .left)
 
 pub request-of-spec : {M : Type 1} → statement M
 request-of-spec =

@@ -30,8 +30,10 @@ same-length-2 : tie.Need-same-length-2
 same-length-2 c = search needs
 
 returns-2 : tie.Need-returns-2
-returns-2 c = let f = c .from-place .ensures in long-found _ _ (c .before .before .before .before .before .pass-over
-    .ensures) _ _ (c .before .before .if1 .left) (f .0) (f .1) (f .2) (f .3)
+returns-2 c =
+    let at-pass-over = c .before .before .before .before .before in
+    let f = c .from-place .ensures in
+    long-found _ _ (at-pass-over .pass-over .ensures) _ _ (c .before .before .if1 .left) (f .0) (f .1) (f .2) (f .3)
 
 pub behind-long-spec : {M : Type 1} → statement M
 behind-long-spec =

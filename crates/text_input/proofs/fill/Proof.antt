@@ -23,12 +23,13 @@ same-length : tie.Need-same-length
 same-length c = search needs
 
 returns : tie.Need-returns
-returns c = (
-  search needs,
-  take-at _ _ _ (length-take-le _ _ (c .before .before .before .before .before .before .pre)),
-  search needs,
-  search needs,
-)
+returns c =
+    let entered = c .before .before .before .before .before .before in (
+      search needs,
+      take-at _ _ _ (length-take-le _ _ (entered .pre)),
+      search needs,
+      search needs,
+    )
 
 sub-count : tie.Need-sub-count
 sub-count c = search needs
@@ -49,13 +50,13 @@ same-length-2 : tie.Need-same-length-2
 same-length-2 c = search needs
 
 returns-2 : tie.Need-returns-2
-returns-2 c = (
-  search needs,
-  take-at _ _ _ (length-take-le _ _ (c .before .before .before .before .before .before
-      .before .before .before .pre)),
-  search needs,
-  search needs,
-)
+returns-2 c =
+    let entered = c .before .before .before .before .before .before .before .before .before in (
+      search needs,
+      take-at _ _ _ (length-take-le _ _ (entered .pre)),
+      search needs,
+      search needs,
+    )
 
 pub fill-spec : {M : Type 1} → statement M
 fill-spec =

@@ -42,13 +42,15 @@ same-length-2 : tie.Need-same-length-2
 same-length-2 c = search needs
 
 returns : tie.Need-returns
-returns c = let f = c .from-place .ensures in let p = c .before .before .before .before .before .before .before .before
-    .before .before .ready .ensures in record {
+returns c =
+    let at-if1 = c .before .before .before .before .before .before .before in
+    let at-ready = at-if1 .before .before .before in
+    let f = c .from-place .ensures in
+    let p = at-ready .ready .ensures in
+    record {
       line = _;
-      next = next-readied p (next-whole _ _ (p .stands) _ (f .0) (f
-          .1) (f .2) (f .3) (c .before .before .before .before .before .before .before .if1 .taken));
-      says = c .before
-          .before .before .read-line .ensures;
+      next = next-readied p (next-whole _ _ (p .stands) _ (f .0) (f .1) (f .2) (f .3) (at-if1 .if1 .taken));
+      says = c .before .before .before .read-line .ensures;
     }
 
 behind-long-requires : tie.Need-behind-long-requires
@@ -62,12 +64,15 @@ same-length-3 c = search needs
 
 returns-2 : tie.Need-returns-2
 returns-2 c =
-    let p = c .before .before .before .before .before .before .before .before .before .ready .ensures in
-    let entered = c .before .before .before .before .before .before .before .before .before .before .before .before in
-    let h = c .before .before .before .before .before .before .if1 .left in
+    let at-if2 = c .before .before .before .before .before in
+    let at-if1 = at-if2 .before in
+    let at-ready = at-if1 .before .before .before in
+    let entered = at-ready .before .before .before in
+    let p = at-ready .ready .ensures in
+    let h = at-if1 .if1 .left in
     let q = c .before .before .before .behind-long .ensures in
     let front = at-front _ _ _ (p .front) h in
-    let over = c .before .before .before .before .before .if2 .taken in
+    let over = at-if2 .if2 .taken in
     record {
       line = _;
       next = next-readied p (next-long _ _ (p .stands) h front over _ _ q);
@@ -96,11 +101,13 @@ same-length-5 : tie.Need-same-length-5
 same-length-5 c = search needs
 
 returns-3 : tie.Need-returns-3
-returns-3 c = let p = c .before .before .before .before .before .before .before .before .before .before .ready .ensures
-    in record {
+returns-3 c =
+    let at-if1 = c .before .before .before .before .before .before .before in
+    let at-ready = at-if1 .before .before .before in
+    let p = at-ready .ready .ensures in
+    record {
       line = _;
-      next = next-readied p (next-last _ _ (p .stands) (c .before .before .before .before .before
-          .before .before .if1 .left) _ _ (c .ended .ensures));
+      next = next-readied p (next-last _ _ (p .stands) (at-if1 .if1 .left) _ _ (c .ended .ensures));
       says = c .before .before .read-line2 .ensures;
     }
 

@@ -31,8 +31,10 @@ same-length : tie.Need-same-length Inv-loop μ-loop
 same-length c = search needs
 
 returns : tie.Need-returns Inv-loop μ-loop
-returns c = passing-end _ (c .before .before .before .before .before .before .loop .inv) _ (c .before .before .before
-    .fill .ensures .0 ∙ c .before .before .before .before .before .before .loop .inv .long) _
+returns c =
+    let looping = c .before .before .before .before .before .before in
+    passing-end _ (looping .loop .inv) _ (c .before .before .before
+    .fill .ensures .0 ∙ looping .loop .inv .long) _
 
 slice-reshare-prefix-find : tie.Need-slice-reshare-prefix-find Inv-loop μ-loop
 slice-reshare-prefix-find c = search needs
@@ -55,17 +57,25 @@ same-length-2 : tie.Need-same-length-2 Inv-loop μ-loop
 same-length-2 c = search needs
 
 returns-2 : tie.Need-returns-2 Inv-loop μ-loop
-returns-2 c = let f = c .before .before .before .before .before .before .fill .ensures in let i = c .before .before
-    .before .before .before .before .before .before .before .loop .inv in passing-found _ i _ (f .0 ∙ i .long) _ _
-    (omega (arith, f .3, i .long)) (c .before .find .ensures .0) _ (c .if2 .taken)
+returns-2 c =
+    let at-fill = c .before .before .before .before .before .before in
+    let looping = at-fill .before .before .before in
+    let f = at-fill .fill .ensures in
+    let i = looping .loop .inv in
+    passing-found _ i _ (f .0 ∙ i .long) _ _ (omega (arith, f .3, i .long)) (c .before .find .ensures .0) _ (c .if2
+    .taken)
 
 loop-less : tie.Need-loop-less Inv-loop μ-loop
 loop-less c = search needs
 
 loop-again : tie.Need-loop-again Inv-loop μ-loop
-loop-again c = let f = c .before .before .before .before .before .before .fill .ensures in let i = c .before .before
-    .before .before .before .before .before .before .before .loop .inv in passing-more _ i _ (f .0 ∙ i .long) _ _
-    (omega (arith, f .3, i .long)) (c .before .find .ensures .0) (c .if2 .left) (c .before .find .ensures .1)
+loop-again c =
+    let at-fill = c .before .before .before .before .before .before in
+    let looping = at-fill .before .before .before in
+    let f = at-fill .fill .ensures in
+    let i = looping .loop .inv in
+    passing-more _ i _ (f .0 ∙ i .long) _ _ (omega (arith, f .3, i .long)) (c .before .find .ensures .0) (c .if2
+    .left) (c .before .find .ensures .1)
 
 same-length-3 : tie.Need-same-length-3 Inv-loop μ-loop
 same-length-3 c = search needs

@@ -34,9 +34,10 @@ same-length-2 : tie.Need-same-length-2 Inv-loop μ-loop
 same-length-2 c = search needs
 
 returns-2 : tie.Need-returns-2 Inv-loop μ-loop
-returns-2 c = waiting-stop _ _ _ _ (c .before .before .before .before .before .before .loop .inv) _ _ (c .before
-    .before .before .fill .ensures .1) (c .before .before .before .fill .ensures .0 ∙ c .before .before .before .before
-    .before .before .loop .inv .long)
+returns-2 c =
+    let looping = c .before .before .before .before .before .before in
+    waiting-stop _ _ _ _ (looping .loop .inv) _ _ (c .before
+    .before .before .fill .ensures .1) (c .before .before .before .fill .ensures .0 ∙ looping .loop .inv .long)
 
 slice-reshare-prefix-find : tie.Need-slice-reshare-prefix-find Inv-loop μ-loop
 slice-reshare-prefix-find c = search needs
@@ -58,21 +59,36 @@ same-length-3 : tie.Need-same-length-3 Inv-loop μ-loop
 same-length-3 c = search needs
 
 returns-3 : tie.Need-returns-3 Inv-loop μ-loop
-returns-3 c = let f = c .before .before .before .before .before .before .fill .ensures in let i = c .before .before
-    .before .before .before .before .before .before .before .loop .inv in waiting-found _ _ _ _ i _ _ (f .1) (f .0 ∙ i
-    .long) (f .2) (omega (arith, f .3, i .long)) _ (c .before .find .ensures .0) _
+returns-3 c =
+    let at-fill = c .before .before .before .before .before .before in
+    let looping = at-fill .before .before .before in
+    let f = at-fill .fill .ensures in
+    let i = looping .loop .inv in
+    waiting-found _ _ _ _ i _ _ (f .1) (f .0 ∙ i .long) (f .2) (omega (arith, f .3, i .long)) _ (c .before .find
+    .ensures .0) _
 
 loop-less : tie.Need-loop-less Inv-loop μ-loop
-loop-less c = let f = c .before .before .before .before .before .before .fill .ensures in let i = c .before .before
-    .before .before .before .before .before .before .before .loop .inv in let d : c .before .before .before .before
-    .before .before .before .before .before .loop .len < c .before .before .before .before .before .before .fill
-    .result .end = omega (arith, f .2, c .before .before .before .if2 .left) in omega (arith, d, f .3, i .long)
+loop-less c =
+    let at-fill = c .before .before .before .before .before .before in
+    let looping = at-fill .before .before .before in
+    let f = at-fill .fill .ensures in
+    let i = looping .loop .inv in
+    let d : looping .loop .len < at-fill .fill .result .end = omega (
+      arith,
+      f .2,
+      c .before .before .before .if2
+          .left,
+    ) in
+    omega (arith, d, f .3, i .long)
 
 loop-again : tie.Need-loop-again Inv-loop μ-loop
-loop-again c = let f = c .before .before .before .before .before .before .fill .ensures in let i = c .before .before
-    .before .before .before .before .before .before .before .loop .inv in waiting-more _ _ _ _ i _ _ (f .1) (f .0 ∙ i
-    .long) (f .2) (omega (arith, f .3, i .long)) _ (c .before .find .ensures .0) (c .if3 .left) (c .before .find
-    .ensures .1)
+loop-again c =
+    let at-fill = c .before .before .before .before .before .before in
+    let looping = at-fill .before .before .before in
+    let f = at-fill .fill .ensures in
+    let i = looping .loop .inv in
+    waiting-more _ _ _ _ i _ _ (f .1) (f .0 ∙ i .long) (f .2) (omega (arith, f .3, i .long)) _ (c .before .find
+    .ensures .0) (c .if3 .left) (c .before .find .ensures .1)
 
 pub wait-spec : {M : Type 1} → statement M
 wait-spec =

@@ -27,8 +27,9 @@ same-bytes-requires-2 c κs = search needs
 returns-2 : tie.Need-returns-2
 unfolding kindOf kindFrom forms
 returns-2 c =
+    let c1 = c .before .before .before in
     rw (
-      sym (c .before .before .before .before .same-bytes .ensures) ∙ c .before .before .before .if1 .left,
+      sym (c1 .before .same-bytes .ensures) ∙ c1 .if1 .left,
       sym (c .before .same-bytes2 .ensures) ∙ c .if2 .taken,
     )
 
@@ -41,10 +42,11 @@ same-bytes-requires-3 c κs = search needs
 returns-3 : tie.Need-returns-3
 unfolding kindOf kindFrom forms
 returns-3 c =
+    let c2 = c .before .before .before in
+    let c1 = c2 .before .before .before in
     rw (
-      sym (c .before .before .before .before .before .before .before .same-bytes .ensures) ∙ c .before .before .before
-          .before .before .before .if1 .left,
-      sym (c .before .before .before .before .same-bytes2 .ensures) ∙ c .before .before .before .if2 .left,
+      sym (c1 .before .same-bytes .ensures) ∙ c1 .if1 .left,
+      sym (c2 .before .same-bytes2 .ensures) ∙ c2 .if2 .left,
       sym (c .before .same-bytes3 .ensures) ∙ c .if3 .taken,
     )
 
@@ -57,12 +59,13 @@ same-bytes-requires-4 c κs = search needs
 returns-4 : tie.Need-returns-4
 unfolding kindOf kindFrom forms
 returns-4 c =
+    let c3 = c .before .before .before in
+    let c2 = c3 .before .before .before in
+    let c1 = c2 .before .before .before in
     rw (
-      sym (c .before .before .before .before .before .before .before .before .before .before .same-bytes .ensures) ∙ c
-          .before .before .before .before .before .before .before .before .before .if1 .left,
-      sym (c .before .before .before .before .before .before .before .same-bytes2 .ensures) ∙ c .before .before .before
-          .before .before .before .if2 .left,
-      sym (c .before .before .before .before .same-bytes3 .ensures) ∙ c .before .before .before .if3 .left,
+      sym (c1 .before .same-bytes .ensures) ∙ c1 .if1 .left,
+      sym (c2 .before .same-bytes2 .ensures) ∙ c2 .if2 .left,
+      sym (c3 .before .same-bytes3 .ensures) ∙ c3 .if3 .left,
       sym (c .before .same-bytes4 .ensures) ∙ c .if4 .taken,
     )
 
@@ -75,15 +78,15 @@ same-bytes-requires-5 c κs = search needs
 returns-5 : tie.Need-returns-5
 unfolding kindOf kindFrom forms
 returns-5 c =
+    let c4 = c .before .before .before in
+    let c3 = c4 .before .before .before in
+    let c2 = c3 .before .before .before in
+    let c1 = c2 .before .before .before in
     rw (
-      sym (c .before .before .before .before .before .before .before .before .before .before .before .before .before
-          .same-bytes .ensures) ∙ c .before .before .before .before .before .before .before .before .before .before
-          .before .before .if1 .left,
-      sym (c .before .before .before .before .before .before .before .before .before .before .same-bytes2 .ensures) ∙ c
-          .before .before .before .before .before .before .before .before .before .if2 .left,
-      sym (c .before .before .before .before .before .before .before .same-bytes3 .ensures) ∙ c .before .before .before
-          .before .before .before .if3 .left,
-      sym (c .before .before .before .before .same-bytes4 .ensures) ∙ c .before .before .before .if4 .left,
+      sym (c1 .before .same-bytes .ensures) ∙ c1 .if1 .left,
+      sym (c2 .before .same-bytes2 .ensures) ∙ c2 .if2 .left,
+      sym (c3 .before .same-bytes3 .ensures) ∙ c3 .if3 .left,
+      sym (c4 .before .same-bytes4 .ensures) ∙ c4 .if4 .left,
       sym (c .before .same-bytes5 .ensures) ∙ c .if5 .taken,
     )
 
@@ -96,36 +99,34 @@ same-bytes-requires-6 c κs = search needs
 returns-6 : tie.Need-returns-6
 unfolding kindOf kindFrom forms
 returns-6 c =
+    let c5 = c .before .before .before in
+    let c4 = c5 .before .before .before in
+    let c3 = c4 .before .before .before in
+    let c2 = c3 .before .before .before in
+    let c1 = c2 .before .before .before in
     rw (
-      sym (c .before .before .before .before .before .before .before .before .before .before .before .before .before
-          .before .before .before .same-bytes .ensures) ∙ c .before .before .before .before .before .before .before
-          .before .before .before .before .before .before .before .before .if1 .left,
-      sym (c .before .before .before .before .before .before .before .before .before .before .before .before .before
-          .same-bytes2 .ensures) ∙ c .before .before .before .before .before .before .before .before .before .before
-          .before .before .if2 .left,
-      sym (c .before .before .before .before .before .before .before .before .before .before .same-bytes3 .ensures) ∙ c
-          .before .before .before .before .before .before .before .before .before .if3 .left,
-      sym (c .before .before .before .before .before .before .before .same-bytes4 .ensures) ∙ c .before .before .before
-          .before .before .before .if4 .left,
-      sym (c .before .before .before .before .same-bytes5 .ensures) ∙ c .before .before .before .if5 .left,
+      sym (c1 .before .same-bytes .ensures) ∙ c1 .if1 .left,
+      sym (c2 .before .same-bytes2 .ensures) ∙ c2 .if2 .left,
+      sym (c3 .before .same-bytes3 .ensures) ∙ c3 .if3 .left,
+      sym (c4 .before .same-bytes4 .ensures) ∙ c4 .if4 .left,
+      sym (c5 .before .same-bytes5 .ensures) ∙ c5 .if5 .left,
       sym (c .before .same-bytes6 .ensures) ∙ c .if6 .taken,
     )
 
 returns-7 : tie.Need-returns-7
 unfolding kindOf kindFrom forms
 returns-7 c =
+    let c5 = c .before .before .before in
+    let c4 = c5 .before .before .before in
+    let c3 = c4 .before .before .before in
+    let c2 = c3 .before .before .before in
+    let c1 = c2 .before .before .before in
     rw (
-      sym (c .before .before .before .before .before .before .before .before .before .before .before .before .before
-          .before .before .before .same-bytes .ensures) ∙ c .before .before .before .before .before .before .before
-          .before .before .before .before .before .before .before .before .if1 .left,
-      sym (c .before .before .before .before .before .before .before .before .before .before .before .before .before
-          .same-bytes2 .ensures) ∙ c .before .before .before .before .before .before .before .before .before .before
-          .before .before .if2 .left,
-      sym (c .before .before .before .before .before .before .before .before .before .before .same-bytes3 .ensures) ∙ c
-          .before .before .before .before .before .before .before .before .before .if3 .left,
-      sym (c .before .before .before .before .before .before .before .same-bytes4 .ensures) ∙ c .before .before .before
-          .before .before .before .if4 .left,
-      sym (c .before .before .before .before .same-bytes5 .ensures) ∙ c .before .before .before .if5 .left,
+      sym (c1 .before .same-bytes .ensures) ∙ c1 .if1 .left,
+      sym (c2 .before .same-bytes2 .ensures) ∙ c2 .if2 .left,
+      sym (c3 .before .same-bytes3 .ensures) ∙ c3 .if3 .left,
+      sym (c4 .before .same-bytes4 .ensures) ∙ c4 .if4 .left,
+      sym (c5 .before .same-bytes5 .ensures) ∙ c5 .if5 .left,
       sym (c .before .same-bytes6 .ensures) ∙ c .if6 .left,
     )
 

@@ -72,25 +72,31 @@ same-length-2 : tie.Need-same-length-2 Inv-loop μ-loop
 same-length-2 c = search needs
 
 returns-2 : tie.Need-returns-2 Inv-loop μ-loop
-returns-2 c = filling-bad _ _ _ _ _ _ _ (c .before .before .before .before .before .before .before .before .before
-    .before .loop .inv) _ (c .before .before .before .before .before .before .before .before .before .past-blanks
-    .ensures .0) _ (omega arith) (c .before .before .before .before .before .before .before .past-word .ensures .0) _ _
-    _ (c .before .before .before .before .item-of .ensures) (c .before .before .before .take-word .ensures) _ (c .bad
-    .ensures) (not-true _ (c .before .if2 .taken))
+returns-2 c =
+    let at-past-word = c .before .before .before .before .before .before .before in
+    let at-past-blanks = at-past-word .before .before in
+    let looping = at-past-blanks .before in
+    filling-bad _ _ _ _ _ _ _ (looping .loop .inv) _ (at-past-blanks .past-blanks .ensures .0) _ (omega arith)
+    (at-past-word .past-word .ensures .0) _ _ _ (c .before .before .before .before .item-of .ensures) (c .before
+    .before .before .take-word .ensures) _ (c .bad .ensures) (not-true _ (c .before .if2 .taken))
 
 loop-less : tie.Need-loop-less Inv-loop μ-loop
-loop-less c = let w : c .before .before .before .before .before .before .before .before .before .past-blanks .result <
-    c .before .before .before .before .before .before .before .past-word .result = word-some (c .before .before .before
-    .before .before .before .before .before .before .before .before .before .before .args .l .now) _ _ _ (c .before
-    .before .before .before .before .before .before .before .before .past-blanks .ensures .0) (omega arith) (c .before
-    .before .before .before .before .before .before .past-word .ensures .0) in omega arith
+loop-less c =
+    let at-past-word = c .before .before .before .before .before .before .before in
+    let at-past-blanks = at-past-word .before .before in
+    let entered = at-past-blanks .before .before .before .before in
+    let w : at-past-blanks .past-blanks .result < at-past-word .past-word .result = word-some (entered .args .l .now)
+    _ _ _ (at-past-blanks .past-blanks .ensures .0) (omega arith) (at-past-word .past-word .ensures .0) in
+    omega arith
 
 loop-again : tie.Need-loop-again Inv-loop μ-loop
-loop-again c = filling-more _ _ _ _ _ _ _ (c .before .before .before .before .before .before .before .before .before
-    .before .loop .inv) _ (c .before .before .before .before .before .before .before .before .before .past-blanks
-    .ensures .0) _ (omega arith) (c .before .before .before .before .before .before .before .past-word .ensures .0) _ _
-    _ (c .before .before .before .before .item-of .ensures) (c .before .before .before .take-word .ensures) (c .before
-    .before .before .before .before .before .before .past-word .ensures .1) (not-false _ (c .before .if2 .left))
+loop-again c =
+    let at-past-word = c .before .before .before .before .before .before .before in
+    let at-past-blanks = at-past-word .before .before in
+    let looping = at-past-blanks .before in
+    filling-more _ _ _ _ _ _ _ (looping .loop .inv) _ (at-past-blanks .past-blanks .ensures .0) _ (omega arith)
+    (at-past-word .past-word .ensures .0) _ _ _ (c .before .before .before .before .item-of .ensures) (c .before
+    .before .before .take-word .ensures) (at-past-word .past-word .ensures .1) (not-false _ (c .before .if2 .left))
 
 pub numbers-spec : {M : Type 1} → statement M
 numbers-spec =

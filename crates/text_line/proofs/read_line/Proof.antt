@@ -26,8 +26,10 @@ blank-requires : tie.Need-blank-requires
 blank-requires c κs = search needs
 
 returns-2 : tie.Need-returns-2
-returns-2 c = blank-line _ (c .before .before .before .if1 .left) _ (c .before .before .past-blanks .ensures .0) _ _ (c
-    .before .before .before .before .before .pre) (omega (arith, c .before .if2 .taken)) (c .blank .ensures)
+returns-2 c =
+    let entered = c .before .before .before .before .before in
+    blank-line _ (c .before .before .before .if1 .left) _ (c .before .before .past-blanks .ensures .0) _ _ (entered
+    .pre) (omega (arith, c .before .if2 .taken)) (c .blank .ensures)
 
 past-word-requires : tie.Need-past-word-requires
 past-word-requires c κs = search needs
@@ -48,10 +50,13 @@ bad-requires-2 : tie.Need-bad-requires-2
 bad-requires-2 c κs = search needs
 
 returns-3 : tie.Need-returns-3
-returns-3 c = no-call _ (c .before .before .before .before .before .before .before .if1 .left) _ (c .before .before
-    .before .before .before .before .past-blanks .ensures .0) _ _ (omega arith) (c .before .before .before .before
-    .past-word .ensures .0) (c .before .before .kind-of .ensures) _ _ (c .before .before .before .before .before
-    .before .before .before .before .pre) (c .before .if3 .taken) (c .bad2 .ensures)
+returns-3 c =
+    let at-past-blanks = c .before .before .before .before .before .before in
+    let at-if1 = at-past-blanks .before in
+    let entered = at-if1 .before .before in
+    no-call _ (at-if1 .if1 .left) _ (at-past-blanks .past-blanks .ensures .0) _ _ (omega arith) (c .before .before
+    .before .before .past-word .ensures .0) (c .before .before .kind-of .ensures) _ _ (entered .pre) (c .before .if3
+    .taken) (c .bad2 .ensures)
 
 numbers-requires : tie.Need-numbers-requires
 numbers-requires c κs = search needs
@@ -60,10 +65,13 @@ same-length : tie.Need-same-length
 same-length c = search needs
 
 returns-4 : tie.Need-returns-4
-returns-4 c = some-call _ (c .before .before .before .before .before .before .before .before .before .if1 .left) _ (c
-    .before .before .before .before .before .before .before .before .past-blanks .ensures .0) _ _ (omega arith) (c
-    .before .before .before .before .before .before .past-word .ensures .0) (c .before .before .before .before .kind-of
-    .ensures) _ _ (c .before .before .before .if3 .left) (c .before .numbers .ensures)
+returns-4 c =
+    let at-past-word = c .before .before .before .before .before .before in
+    let at-past-blanks = at-past-word .before .before in
+    let at-if1 = at-past-blanks .before in
+    some-call _ (at-if1 .if1 .left) _ (at-past-blanks .past-blanks .ensures .0) _ _ (omega arith) (at-past-word
+    .past-word .ensures .0) (c .before .before .before .before .kind-of .ensures) _ _ (c .before .before .before .if3
+    .left) (c .before .numbers .ensures)
 
 pub read-line-spec : {M : Type 1} → statement M
 read-line-spec =

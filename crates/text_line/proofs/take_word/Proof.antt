@@ -39,25 +39,23 @@ same-length : tie.Need-same-length
 same-length c = search needs
 
 returns : tie.Need-returns
-returns c = let z1 = toZ-ofZ {w = w64} {z = c .before .before .before .before .before .before .before .before .before
-    .before .w2 .given .0 .0} (record {
-      sfits = c .before .before .before .before .before .before .before .before
-          .before .known-told2 .given .0 .1;
-    }) in let z2 = toZ-ofZ {w = w64} {z = c .before .before .before .before .before
-    .before .before .before .before .before .w2 .given .0 .1 .0} (record {
-      sfits = c .before .before .before .before
-          .before .before .before .before .before .known-told2 .given .1 .0 .1;
-    }) in takes-two _ _ _ _ _ _ _ _ _ _ _ _ _ (c
-    .before .before .before .before .before .before .before .before .before .before .w2 .given .1) (omega (
+returns c =
+    let at-keep2 = c .before .before .before .before .before in
+    let at-if1 = at-keep2 .before .before in
+    let at-pair-fits = at-if1 .before in
+    let at-known-told2 = at-pair-fits .before in
+    let at-w2 = at-known-told2 .before in
+    let entered = at-w2 .before .before in
+    let z1 = toZ-ofZ {w = w64} {z = at-w2 .w2 .given .0 .0} (record {
+      sfits = at-known-told2 .known-told2 .given .0 .1;
+    }) in let z2 = toZ-ofZ {w = w64} {z = at-w2 .w2 .given .0 .1 .0} (record {
+      sfits = at-known-told2 .known-told2 .given .1 .0 .1;
+    }) in takes-two _ _ _ _ _ _ _ _ _ _ _ _ _ (at-w2 .w2 .given .1) (omega (
       arith,
-      c
-          .before .before .before .before .before .before .before .before .before .before .before .before .pre .0,
-      c .before
-          .before .before .before .before .before .before .before .before .before .before .before .pre .1,
-    )) (c .before
-    .before .before .before .before .before .before .before .pair-fits .ensures) (c .before .before .before .before
-    .before .before .before .if1 .taken) (c .with-pair .ensures) (rw z1 at (c .before .before .before .before .before
-    .keep2 .ensures)) (rw z2 at (c .before .before .keep3 .ensures))
+      entered .pre .0,
+      entered .pre .1,
+    )) (at-pair-fits .pair-fits .ensures) (at-if1 .if1 .taken) (c .with-pair .ensures)
+    (rw z1 at (at-keep2 .keep2 .ensures)) (rw z2 at (c .before .before .keep3 .ensures))
 
 spoilt-requires : tie.Need-spoilt-requires
 spoilt-requires c κs = search needs
@@ -79,8 +77,10 @@ returns-2 c = let z1 = toZ-ofZ {w = w64} {z = c .before .before .before .before 
     .w .given .1) (rw z1 at (c .before .keep .ensures))
 
 returns-3 : tie.Need-returns-3
-returns-3 c = takes-unfit _ _ _ _ _ _ (c .spoilt .ensures) (c .before .before .before .before .before .before .pre .0)
-    (c .before .before .before .before .before .before .pre .1) _ _ _ (c .before .before .before .before .w2 .given .1)
+returns-3 c =
+    let entered = c .before .before .before .before .before .before in
+    takes-unfit _ _ _ _ _ _ (c .spoilt .ensures) (entered .pre .0)
+    (entered .pre .1) _ _ _ (c .before .before .before .before .w2 .given .1)
     (c .before .before .pair-fits .ensures) (c .before .if1 .left)
 
 returns-4 : tie.Need-returns-4

@@ -3,7 +3,7 @@
 -- lines that may still be heard. Assumes nothing.
 use mathlib.Core.Path.{_≡_, refl, sym, _∙_, ap, subst}
 use mathlib.Core.Bool.{Bool, true, false, not}
-use Prim.Native.Nat.{ℕ, _<_, _≤_}
+use Prim.Native.Nat.{ℕ, suc, _<_, _≤_}
 use native.Mathlib.Omega.{arith}
 use mathlib.Core.WellFounded.{WellFounded, InvImage·wf}
 use mathlib.Core.List.{List, [], _∷_}
@@ -69,6 +69,7 @@ use Rattle.text_perform.proofs.Gives.{freed}
 use Rattle.text_serve.specs.Serve.{Serves}
 use Rattle.text_serve.proofs.Joining.{Sofar, none-yet, one-more, fewer, served}
 use Rattle.text_serve.proofs.Arrays.{Bytes, Numbers, mref, Lent, state-ty, state-val, IsState, state-tells, state-is, typed-state}
+use Rattle.text_serve.proofs.Held.{held as locals, place-of}
 use Rattle.text_serve.proofs.Buffers.{array-ty, typed-array, apart, back}
 use Rattle.text_serve.proofs.Steps.{One, to-one, Handed, goes-one, comes-back}
 use Rattle.text_serve.proofs.no_numbers as numbers
@@ -108,13 +109,79 @@ function = record {
   body = code.function .body;
 }
 
+-- the body from each statement of the source on
+abbrev code-buf : Code
+code-buf = code.function .body
+
+abbrev code-xs : Code
+code-xs = after (after code-buf)
+
+abbrev code-out : Code
+code-out = after (after code-xs)
+
+abbrev code-start : Code
+code-start = after (after code-out)
+
+abbrev code-loop : Code
+code-loop = after code-start
+
 -- the turn after its test
 abbrev body : Code
 body = after (after turn-1)
 
 -- the body after the loop
 abbrev behind : Code
-behind = after (after (after (after (after (after (after (after (code.function .body))))))))
+behind = after code-loop
+
+-- where each local stands in the context of the statements before the loop: behind the token, obs and the borrow, the
+-- last local first
+abbrev in-for-numbers : ℕ
+in-for-numbers = place-of 3 13 7
+
+abbrev in-for-bytes : ℕ
+in-for-bytes = place-of 3 13 6
+
+abbrev in-s : ℕ
+in-s = place-of 3 13 5
+
+abbrev in-out : ℕ
+in-out = place-of 3 13 4
+
+abbrev in-xs : ℕ
+in-xs = place-of 3 13 3
+
+abbrev in-buf : ℕ
+in-buf = place-of 3 13 2
+
+-- the locals of a turn, by the names of the code; those from `ℓtest` on are the compiler's own
+abbrev ℓs : ℕ
+ℓs = 5
+
+abbrev ℓtest : ℕ
+ℓtest = 8
+
+abbrev for-t : ℕ × ℕ
+for-t = (9, 10)
+
+abbrev for-buf : ℕ
+for-buf = 11
+
+abbrev for-xs : ℕ
+for-xs = 12
+
+abbrev for-out : ℕ
+for-out = 13
+
+-- where they stand in the context of a turn, behind k other entries. The arrays' cells are lent, so that t and the
+-- result, which stand behind them, are three entries nearer
+abbrev turn-slot : (k local : ℕ) → ℕ
+turn-slot k i = place-of k 13 i
+
+abbrev turn-t : ℕ
+turn-t = 27
+
+abbrev turn-result : ℕ
+turn-result = 29
 
 -- where the loop stands: the table, what the three arrays hold and the state, and what is known of them
 record Stand (ys : List Record) : Type 0 where
@@ -201,6 +268,21 @@ module _ {M : Type 1} (𝓤 : URA M) (H : Heap 𝓤) (A : Atoms 𝓤) (W : Given
   Nearer-wf : WellFounded Nearer
   Nearer-wf = InvImage·wf (λ (i : Stand ys). i .state .input .left) (Nat·lt-wfRel .wf)
 
+  -- where the loop stands at first
+  at-first : (bs : List ℕ) (xs : List ℤ) (os : List ℕ) (s : State) (w : Val) → 65536 ≡ length bs → s ≡ startState
+      → Is G.the-row s (w ∷ []) → Stand ys
+  at-first bs xs os s w long e is =
+      record {
+        table = ys;
+        bytes = bs;
+        numbers = xs;
+        answers = os;
+        state = s;
+        long = refl;
+        held = state-is s w is;
+        came = subst (λ (z : State). Sofar ys bs z ys) (sym e) (none-yet ys bs (sym long));
+      }
+
   module _ (𝓣 : Tables 𝓤 H) (known-one : Triple 𝓤 (𝓣 .C one-def.name) (One 𝓤 H A mem′ run′)) (l₀ l₁ l₂ l₃ l₄ l₅ l₆ l₇ l₈
       l₉ l₁₀ l₁₁ l₁₂ l₁₃ : ℕ) where
     abbrev C : Calls 𝓤 H
@@ -247,9 +329,10 @@ module _ {M : Type 1} (𝓤 : URA M) (H : Heap 𝓤) (A : Atoms 𝓤) (W : Given
       -- the arrays are given up, and the function returns `s`
       ends : T (not (ltb 0 (s .input .left))) → Sq W (At i) (runs C Λ En behind (atRet En Post))
       ends over =
-          assigns ! (of-opd ! (load ! (from ! (stop !)) (look ! 22 refl))) (from ! (stop !)) (init ! 29 refl
-          (typed-state 𝓤 H A W s (state-val s) (i .held))) $
-          returns ! (look ! 29 refl) $ forget ! 22 refl $ forget ! 27 refl $ forget ! 29 refl $
+          assigns ! (of-opd ! (load ! (from ! (stop !)) (look ! (turn-slot 6 ℓs) refl))) (from ! (stop !))
+          (init ! turn-result refl (typed-state 𝓤 H A W s (state-val s) (i .held))) $
+          returns ! (look ! turn-result refl) $ forget ! (turn-slot 6 ℓs) refl $ forget ! turn-t refl $
+          forget ! turn-result refl $
           back u8 65536 𝓤 H A W (uint-vals w8) (uint-tells w8) (i .bytes) l₂ (forget ! 0 refl $ move ! (1 ∷ []) $
           back i64 126 𝓤 H A W (sint-vals w64) (sint-tells w64) (i .numbers) l₃ (forget ! 0 refl $ move ! (2 ∷ []) $
           back u8 65536 𝓤 H A W (uint-vals w8) (uint-tells w8) (i .answers) l₄ (forget ! 0 refl $
@@ -334,15 +417,19 @@ module _ {M : Type 1} (𝓤 : URA M) (H : Heap 𝓤) (A : Atoms 𝓤) (W : Given
           (goes-one 𝓤 H A mem′ run′ W (α ∷ []) (β ∷ []) b o γ′ zs l₂ γb (i .bytes) l₃ γx (i .numbers) l₄ γo
           (i .answers) s (i .held) (i .came .stands) (i .came .room)) $
           calls-at-last ! (fmOf 𝓤 H (W .laws) 𝓣) (One 𝓤 H A mem′ run′) known-one (there α β γ′ γb γx γo)
-          (and-then ! (load ! (from ! (stop !)) (look ! 14 refl)) (and-then ! (load ! (from ! (stop !)) (look ! 12 refl))
-          (and-then ! (load ! (from ! (stop !)) (look ! 10 refl)) (and-then ! (load ! (from ! (stop !)) (look ! 8 refl))
-          (and-then ! (load ! (from ! (stop !)) (look ! 24 refl)) (no-more !)))))) (λ w.
+          (and-then ! (load ! (from ! (stop !)) (look ! (turn-slot 8 (for-t .1)) refl))
+          (and-then ! (load ! (from ! (stop !)) (look ! (turn-slot 8 for-buf) refl))
+          (and-then ! (load ! (from ! (stop !)) (look ! (turn-slot 8 for-xs) refl))
+          (and-then ! (load ! (from ! (stop !)) (look ! (turn-slot 8 for-out) refl))
+          (and-then ! (load ! (from ! (stop !)) (look ! (turn-slot 8 ℓs) refl)) (no-more !)))))) (λ w.
           comes-back 𝓤 H A mem′ run′ W (α ∷ []) (β ∷ []) b o γ′ zs l₂ γb (i .bytes) l₃ γx (i .numbers) l₄ γo
           (i .answers) s tt w (λ us bs′ xs′ os′ r l e is. taken-back tt α β γ′ γb γx γo us bs′ xs′ os′ l (
-          land-last ! (from ! (stop !)) (store ! 22 refl (typed-state 𝓤 H A W r w is)) $
-          rewrite ! 22 (λ (z : Val). ‵ (fat fullShare state-ty l₅ 0 z)) (state-tells r w is) refl $
-          rewrite ! 27 (λ (m : ℕ). ‵ (fat fullShare slice l₁ 0 (sliceVal (b, o) m))) (sym l) refl $
-          forget ! 6 refl $ forget ! 8 refl $ forget ! 10 refl $ forget ! 12 refl $ forget ! 14 refl $
+          land-last ! (from ! (stop !)) (store ! (turn-slot 6 ℓs) refl (typed-state 𝓤 H A W r w is)) $
+          rewrite ! (turn-slot 6 ℓs) (λ (z : Val). ‵ (fat fullShare state-ty l₅ 0 z)) (state-tells r w is) refl $
+          rewrite ! turn-t (λ (m : ℕ). ‵ (fat fullShare slice l₁ 0 (sliceVal (b, o) m))) (sym l) refl $
+          forget ! (turn-slot 6 for-out) refl $ forget ! (turn-slot 6 for-xs) refl $
+          forget ! (turn-slot 6 for-buf) refl $ forget ! (turn-slot 6 (for-t .1)) refl $
+          forget ! (turn-slot 6 (for-t .0)) refl $
           again ! Nearer At i (record {
             table = us;
             bytes = bs′;
@@ -386,61 +473,30 @@ module _ {M : Type 1} (𝓤 : URA M) (H : Heap 𝓤) (A : Atoms 𝓤) (W : Given
       unfolding afterTurn
       turns =
           -- `s.input.left > 0`
-          assigns ! (bin ! (lit ! tt) (load ! (from ! (fld ! refl (fld ! refl (stop !)))) (look-in ! 22 (sub ! 3 refl
-          (sub ! 0 refl (whole !))))) tt)
-          (from ! (stop !)) (init ! 16 refl (tt, tt)) $
-          first ! $ branches ! (load ! (from ! (stop !)) (look ! 16 refl))
-          (λ more. skips ! $ exec ! C Λ En body (anyQ (Turned i)) $ forget ! 16 refl $
+          assigns ! (bin ! (lit ! tt) (load ! (from ! (fld ! refl (fld ! refl (stop !))))
+          (look-in ! (turn-slot 6 ℓs) (sub ! 3 refl (sub ! 0 refl (whole !))))) tt)
+          (from ! (stop !)) (init ! (turn-slot 6 ℓtest) refl (tt, tt)) $
+          first ! $ branches ! (load ! (from ! (stop !)) (look ! (turn-slot 6 ℓtest) refl))
+          (λ more. skips ! $ exec ! C Λ En body (anyQ (Turned i)) $ forget ! (turn-slot 6 ℓtest) refl $
           -- `t`, `&mut buf`, `&mut xs` and `&mut out`
-          assigns ! (addr ! (from ! (fld ! refl (hop ! (look-in ! 27 (sub ! 0 refl (whole !))) (stop !))))) (from !
-          (stop !)) (init ! 14 refl (tt, tt)) $
-          assigns ! (agg ! (and-then ! (load ! (from ! (stop !)) (look ! 14 refl)) (and-then ! (load ! (from ! (fld !
-          refl (stop !)))
-          (look-in ! 27 (sub ! 1 refl (whole !)))) (no-more !)))) (from ! (stop !)) (init ! 12 refl (
-            tt,
-            (
-              tt,
-              (
-                record {
-                  fits = room′ .0;
-                },
-                tt,
-              ),
-            ),
-          )) $
-          assigns ! (addr ! (from ! (stop !))) (from ! (stop !)) (init ! 10 refl (tt, tt)) $
-          assigns ! (addr ! (from ! (stop !))) (from ! (stop !)) (init ! 8 refl (tt, tt)) $
-          assigns ! (addr ! (from ! (stop !))) (from ! (stop !)) (init ! 6 refl (tt, tt)) $
+          assigns ! (addr ! (from ! (fld ! refl (hop ! (look-in ! turn-t (sub ! 0 refl (whole !))) (stop !)))))
+          (from ! (stop !)) (init ! (turn-slot 6 (for-t .0)) refl (tt, tt)) $
+          assigns ! (agg ! (and-then ! (load ! (from ! (stop !)) (look ! (turn-slot 6 (for-t .0)) refl))
+          (and-then ! (load ! (from ! (fld ! refl (stop !))) (look-in ! turn-t (sub ! 1 refl (whole !)))) (no-more !))))
+          (from ! (stop !)) (init ! (turn-slot 6 (for-t .1)) refl (tt, (tt, (record { fits = room′ .0 }, tt)))) $
+          assigns ! (addr ! (from ! (stop !))) (from ! (stop !)) (init ! (turn-slot 6 for-buf) refl (tt, tt)) $
+          assigns ! (addr ! (from ! (stop !))) (from ! (stop !)) (init ! (turn-slot 6 for-xs) refl (tt, tt)) $
+          assigns ! (addr ! (from ! (stop !))) (from ! (stop !)) (init ! (turn-slot 6 for-out) refl (tt, tt)) $
           lending more)
-          (λ over. jumps ! $ exec ! C Λ En behind (atRet En Post) $ forget ! 16 refl $ ends over)
+          (λ over. jumps ! $ exec ! C Λ En behind (atRet En Post) $ forget ! (turn-slot 6 ℓtest) refl $ ends over)
 
-  module _ (𝓣 : Tables 𝓤 H) (known-buffer : Triple 𝓤 (𝓣 .C buffer-def.name) (Buffer 𝓤 H A mem′ run′))
-      (known-numbers : Triple 𝓤 (𝓣 .C numbers-def.name) (NoNumbers 𝓤 H A mem′ run′)) (known-start : Triple 𝓤 (𝓣 .C
-      start-def.name) (Start 𝓤 H A mem′ run′))
-      (known-one : Triple 𝓤 (𝓣 .C one-def.name) (One 𝓤 H A mem′ run′)) where
-    fm : FmC 𝓤 H (W .laws) (𝓣 .C)
-    fm = fmOf 𝓤 H (W .laws) 𝓣
+    -- ---- the statements before the loop
 
     typed-bytes : (l : List ℕ) (u : Val) → Is Bytes l (u ∷ []) → T (hasTy bytes-ty u) × WT u
     typed-bytes = typed-array u8 65536 𝓤 H A W (uint-lawful 𝓤 H A W w8)
 
     typed-numbers : (l : List ℤ) (u : Val) → Is Numbers l (u ∷ []) → T (hasTy numbers-ty u) × WT u
     typed-numbers = typed-array i64 126 𝓤 H A W (sint-lawful 𝓤 H A W w64)
-
-    -- where the loop stands at first
-    at-first : (bs : List ℕ) (xs : List ℤ) (os : List ℕ) (s : State) (w : Val) → 65536 ≡ length bs → s ≡ startState → Is
-        G.the-row s (w ∷ []) → Stand ys
-    at-first bs xs os s w long e is =
-        record {
-          table = ys;
-          bytes = bs;
-          numbers = xs;
-          answers = os;
-          state = s;
-          long = refl;
-          held = state-is s w is;
-          came = subst (λ (z : State). Sofar ys bs z ys) (sym e) (none-yet ys bs (sym long));
-        }
 
     goes-buffer : ent 𝓤 (emp 𝓤) (Buffer 𝓤 H A mem′ run′ .pre ((tt, tt, tt, tt, tt), tt))
     goes-buffer = qed W [] ∵ nothing ! $ nothing ! $ join ! $ frame ! $ done !
@@ -451,59 +507,111 @@ module _ {M : Type 1} (𝓤 : URA M) (H : Heap 𝓤) (A : Atoms 𝓤) (W : Given
     goes-start : ent 𝓤 (emp 𝓤) (Start 𝓤 H A mem′ run′ .pre ((tt, tt, tt, tt, tt), tt))
     goes-start = qed W [] ∵ nothing ! $ nothing ! $ join ! $ frame ! $ done !
 
+    -- the code c runs to the end, where the contract is met
+    abbrev Runs : Code → Goal 𝓤 H
+    Runs c = runs C Λ En c (atRet En Post)
+
+    -- where the walk stands: what buf, xs, out and s hold, and the compiler's own locals for the arrays
+    abbrev In : (buf xs out s for-bytes for-numbers : List Val) → List (Item 𝓤)
+    In buf xs out s for-bytes for-numbers =
+        ‵ (flft κ q) ∷ Obs ys ∷ Bor ys ∷ locals 𝓤 H En ([] ∷ (machine b o ys ∷ []) ∷ buf ∷ xs ∷ out ∷ s ∷ for-bytes
+        ∷ for-numbers ∷ [] ∷ [] ∷ [] ∷ [] ∷ [] ∷ [] ∷ []) []
+
+    module _ (known-buffer : Triple 𝓤 (C buffer-def.name) (Buffer 𝓤 H A mem′ run′))
+        (known-numbers : Triple 𝓤 (C numbers-def.name) (NoNumbers 𝓤 H A mem′ run′))
+        (known-start : Triple 𝓤 (C start-def.name) (Start 𝓤 H A mem′ run′)) where
+      fm : FmC 𝓤 H (W .laws) C
+      fm = fmOf 𝓤 H (W .laws) 𝓣
+
+      -- let mut buf = io::large_buffer();
+      let-buf : ((bs : List ℕ) (w : Val) → 65536 ≡ length bs → Is Bytes bs (w ∷ [])
+          → Sq W (In (w ∷ []) [] [] [] (w ∷ []) []) (Runs code-xs))
+          → Sq W (In [] [] [] [] [] []) (Runs code-buf)
+      let-buf k =
+          asks 𝓤 H A W fm (Buffer 𝓤 H A mem′ run′) known-buffer ((tt, tt, tt, tt, tt), tt) goes-buffer Bytes
+          (Buffers 𝓤 H A mem′ run′)
+          (λ w. id⊢ 𝓤 _) (λ r. 65536 ≡ length r) (buffers-of 𝓤 H A mem′ run′) (no-more !) (λ bs w long ib.
+          land ! (from ! (stop !)) (init ! in-for-bytes refl (typed-bytes bs w ib)) $
+          assigns ! (of-opd ! (load ! (from ! (stop !)) (look ! in-for-bytes refl))) (from ! (stop !))
+          (init ! in-buf refl (typed-bytes bs w ib)) $ k bs w long ib)
+
+      -- let mut xs = no_numbers();
+      let-xs : (w : Val) → ((xs : List ℤ) (v : Val) → Is Numbers xs (v ∷ [])
+          → Sq W (In (w ∷ []) (v ∷ []) [] [] (w ∷ []) (v ∷ [])) (Runs code-out))
+          → Sq W (In (w ∷ []) [] [] [] (w ∷ []) []) (Runs code-xs)
+      let-xs w k =
+          asks 𝓤 H A W fm (NoNumbers 𝓤 H A mem′ run′) known-numbers ((tt, tt, tt, tt, tt), tt) goes-numbers Numbers
+          (Numbered 𝓤 H A mem′ run′) (λ w. id⊢ 𝓤 _) (λ r. 126 ≡ length r) (numbered-of 𝓤 H A mem′ run′) (no-more !)
+          (λ xs v _ ix.
+          land ! (from ! (stop !)) (init ! in-for-numbers refl (typed-numbers xs v ix)) $
+          assigns ! (of-opd ! (load ! (from ! (stop !)) (look ! in-for-numbers refl))) (from ! (stop !))
+          (init ! in-xs refl (typed-numbers xs v ix)) $ k xs v ix)
+
+      -- let mut out = io::large_buffer();
+      let-out : (w v : Val) → ((os : List ℕ) (u : Val) → Is Bytes os (u ∷ [])
+          → Sq W (In (w ∷ []) (v ∷ []) (u ∷ []) [] (u ∷ []) (v ∷ [])) (Runs code-start))
+          → Sq W (In (w ∷ []) (v ∷ []) [] [] (w ∷ []) (v ∷ [])) (Runs code-out)
+      let-out w v k =
+          asks 𝓤 H A W fm (Buffer 𝓤 H A mem′ run′) known-buffer ((tt, tt, tt, tt, tt), tt) goes-buffer Bytes
+          (Buffers 𝓤 H A mem′ run′)
+          (λ w. id⊢ 𝓤 _) (λ r. 65536 ≡ length r) (buffers-of 𝓤 H A mem′ run′) (no-more !) (λ os u _ io.
+          land ! (from ! (stop !)) (store ! in-for-bytes refl (typed-bytes os u io)) $
+          assigns ! (of-opd ! (load ! (from ! (stop !)) (look ! in-for-bytes refl))) (from ! (stop !))
+          (init ! in-out refl (typed-bytes os u io)) $ k os u io)
+
+      -- let mut s = start();
+      let-s : (w v u : Val) → ((s : State) (z : Val) → s ≡ startState → Is G.the-row s (z ∷ [])
+          → Sq W (In (w ∷ []) (v ∷ []) (u ∷ []) (state-val s ∷ []) [] []) (Runs code-loop))
+          → Sq W (In (w ∷ []) (v ∷ []) (u ∷ []) [] (u ∷ []) (v ∷ [])) (Runs code-start)
+      let-s w v u k =
+          asks 𝓤 H A W fm (Start 𝓤 H A mem′ run′) known-start ((tt, tt, tt, tt, tt), tt) goes-start G.the-row
+          (Starts 𝓤 H A mem′ run′)
+          (λ w. id⊢ 𝓤 _) (λ r. r ≡ startState) (starts-of 𝓤 H A mem′ run′) (no-more !) (λ s z first-state is.
+          land ! (from ! (stop !)) (init ! in-s refl (typed-state 𝓤 H A W s z is)) $
+          rewrite ! in-s (λ (y : Val). ‵ (fat fullShare state-ty l₅ 0 y)) (state-tells s z is) refl $
+          forget ! in-for-numbers refl $ forget ! in-for-bytes refl $ k s z first-state is)
+
+      -- while s.input.left > 0 { .. }, with the arrays in their locals as values in memory
+      loop : (bs : List ℕ) (w : Val) → 65536 ≡ length bs → Is Bytes bs (w ∷ []) → (xs : List ℤ) (v : Val)
+          → Is Numbers xs (v ∷ []) → (os : List ℕ) (u : Val) → Is Bytes os (u ∷ []) → (s : State) (z : Val)
+          → s ≡ startState → Is G.the-row s (z ∷ [])
+          → Sq W (In (w ∷ []) (v ∷ []) (u ∷ []) (state-val s ∷ []) [] []) (Runs code-loop)
+      unfolding at-first
+      loop bs w long ib xs v ix os u io s z first-state is =
+          move ! (in-buf ∷ []) $
+          use1 W (‵ (mem Bytes .lies bs l₂ 0)) (apart u8 65536 𝓤 H A W (uint-makes 𝓤 H A W w8) bs w l₂ ib) $
+          -- [buf; the token; obs; the borrow; _13; …]: each local before buf stands one place further
+          move ! (suc in-xs ∷ []) $
+          use1 W (‵ (mem Numbers .lies xs l₃ 0)) (apart i64 126 𝓤 H A W (sint-makes 𝓤 H A W w64) xs v l₃ ix) $
+          move ! (suc (suc in-out) ∷ []) $
+          use1 W (‵ (mem Bytes .lies os l₄ 0)) (apart u8 65536 𝓤 H A W (uint-makes 𝓤 H A W w8) os u l₄ io) $
+          -- [out; xs; buf; the token; obs; the borrow; _13; …; _0; …]
+          move ! (2 ∷ 1 ∷ 0 ∷ 4 ∷ 5 ∷ 3 ∷ []) $
+          first ! $ blocks ! $ loops ! 𝓣 Nearer Nearer-wf At turns (at-first bs xs os s z long first-state is)
+
+      statements : Sq W (In [] [] [] [] [] []) (Runs code-buf)
+      statements =
+          let-buf (λ bs w long ib. let-xs w (λ xs v ix. let-out w v (λ os u io. let-s w v u (λ s z first-state is.
+          loop bs w long ib xs v ix os u io s z first-state is))))
+
+  module _ (𝓣 : Tables 𝓤 H) (known-buffer : Triple 𝓤 (𝓣 .C buffer-def.name) (Buffer 𝓤 H A mem′ run′))
+      (known-numbers : Triple 𝓤 (𝓣 .C numbers-def.name) (NoNumbers 𝓤 H A mem′ run′))
+      (known-start : Triple 𝓤 (𝓣 .C start-def.name) (Start 𝓤 H A mem′ run′))
+      (known-one : Triple 𝓤 (𝓣 .C one-def.name) (One 𝓤 H A mem′ run′)) where
     walk : ent 𝓤 (onEntry 𝓤 H A f.signature (κ, tt) (q, tt) x at) (WpFn 𝓤 H (𝓣 .C) (𝓣 .Λ) function (machine b o ys ∷ [])
         Post)
-    unfolding at-first
     walk =
         qed W ((‵ (flft κ q) ⊛ ‵ ftrue) ∷ ‵ (owns (MutSlice (named 0) κ R ∷ []) x at) ∷ []) ∵ enter ! (𝓣 .C) (𝓣 .Λ)
         function (machine b o ys ∷ []) _ $
         alloc1 ! (λ l₀. alloc1 ! (λ l₁. alloc1 ! (λ l₂. alloc1 ! (λ l₃. alloc1 ! (λ l₄. alloc1 ! (λ l₅. alloc1 ! (λ l₆.
-        alloc1 ! (λ l₇. alloc1 ! (λ l₈.
-        alloc1 ! (λ l₉. alloc1 ! (λ l₁₀. alloc1 ! (λ l₁₁. alloc1 ! (λ l₁₂. alloc1 ! (λ l₁₃. alloc0 ! $ params1 ! $
+        alloc1 ! (λ l₇. alloc1 ! (λ l₈. alloc1 ! (λ l₉. alloc1 ! (λ l₁₀. alloc1 ! (λ l₁₁. alloc1 ! (λ l₁₂.
+        alloc1 ! (λ l₁₃. alloc0 ! $ params1 ! $
         pass1 ! (init ! 24 refl (tt, (tt, (record { fits = room .0 }, tt)))) $ pass0 ! $
-        move ! (29 ∷ []) $ fsplit ! $ fsplit ! $ drop ! $ fsplit ! $ move ! (2 ∷ []) $ drop ! $ move ! (30 ∷ []) $ split
-        ! $ move ! (1 ∷ []) $ drop ! $
-        -- [the token; obs; the borrow; _13; …; _0; …]
-        -- `let mut buf = io::large_buffer();`
-        asks 𝓤 H A W fm (Buffer 𝓤 H A mem′ run′) known-buffer ((tt, tt, tt, tt, tt), tt) goes-buffer Bytes (Buffers 𝓤 H
-        A mem′ run′) (λ w. id⊢ 𝓤 _)
-        (λ r. 65536 ≡ length r) (buffers-of 𝓤 H A mem′ run′) (no-more !) (λ bs w long ib.
-        land ! (from ! (stop !)) (init ! 17 refl (typed-bytes bs w ib)) $
-        assigns ! (of-opd ! (load ! (from ! (stop !)) (look ! 17 refl))) (from ! (stop !)) (init ! 25 refl (typed-bytes
-        bs w ib)) $
-        -- `let mut xs = no_numbers();`
-        asks 𝓤 H A W fm (NoNumbers 𝓤 H A mem′ run′) known-numbers ((tt, tt, tt, tt, tt), tt) goes-numbers Numbers
-        (Numbered 𝓤 H A mem′ run′) (λ w. id⊢ 𝓤 _)
-        (λ r. 126 ≡ length r) (numbered-of 𝓤 H A mem′ run′) (no-more !) (λ xs v _ ix.
-        land ! (from ! (stop !)) (init ! 15 refl (typed-numbers xs v ix)) $
-        assigns ! (of-opd ! (load ! (from ! (stop !)) (look ! 15 refl))) (from ! (stop !)) (init ! 23 refl
-        (typed-numbers xs v ix)) $
-        -- `let mut out = io::large_buffer();`
-        asks 𝓤 H A W fm (Buffer 𝓤 H A mem′ run′) known-buffer ((tt, tt, tt, tt, tt), tt) goes-buffer Bytes (Buffers 𝓤 H
-        A mem′ run′) (λ w. id⊢ 𝓤 _)
-        (λ r. 65536 ≡ length r) (buffers-of 𝓤 H A mem′ run′) (no-more !) (λ os u _ io.
-        land ! (from ! (stop !)) (store ! 17 refl (typed-bytes os u io)) $
-        assigns ! (of-opd ! (load ! (from ! (stop !)) (look ! 17 refl))) (from ! (stop !)) (init ! 21 refl (typed-bytes
-        os u io)) $
-        -- `let mut s = start();`
-        asks 𝓤 H A W fm (Start 𝓤 H A mem′ run′) known-start ((tt, tt, tt, tt, tt), tt) goes-start G.the-row (Starts 𝓤 H
-        A mem′ run′) (λ w. id⊢ 𝓤 _)
-        (λ r. r ≡ startState) (starts-of 𝓤 H A mem′ run′) (no-more !) (λ s z first-state is.
-        land ! (from ! (stop !)) (init ! 19 refl (typed-state 𝓤 H A W s z is)) $
-        rewrite ! 19 (λ (y : Val). ‵ (fat fullShare state-ty l₅ 0 y)) (state-tells s z is) refl $ forget ! 15 refl $
-        forget ! 17 refl $
-        -- the arrays in their locals are values in memory
-        move ! (25 ∷ []) $ use1 W (‵ (mem Bytes .lies bs l₂ 0)) (apart u8 65536 𝓤 H A W (uint-makes 𝓤 H A W w8) bs w l₂
-        ib) $
-        move ! (24 ∷ []) $ use1 W (‵ (mem Numbers .lies xs l₃ 0)) (apart i64 126 𝓤 H A W (sint-makes 𝓤 H A W w64) xs v
-        l₃ ix) $
-        move ! (23 ∷ []) $ use1 W (‵ (mem Bytes .lies os l₄ 0)) (apart u8 65536 𝓤 H A W (uint-makes 𝓤 H A W w8) os u l₄
-        io) $
-        -- [the answers; the numbers; the buffer; the token; obs; the borrow; _13; …; _0; …]
-        move ! (2 ∷ 1 ∷ 0 ∷ 4 ∷ 5 ∷ 3 ∷ []) $
-        first ! $ blocks ! $ loops ! 𝓣 Nearer Nearer-wf (At 𝓣 known-one l₀ l₁ l₂ l₃ l₄ l₅ l₆ l₇ l₈ l₉ l₁₀ l₁₁ l₁₂ l₁₃)
-        (turns 𝓣 known-one l₀ l₁ l₂ l₃ l₄ l₅ l₆ l₇ l₈ l₉ l₁₀ l₁₁ l₁₂ l₁₃) (at-first bs xs os s z long first-state
-        is)))))))))))))))))))
+        -- [_13; …; _0; …; the token; what t owns]
+        move ! (29 ∷ []) $ fsplit ! $ fsplit ! $ drop ! $ fsplit ! $ move ! (2 ∷ []) $ drop ! $
+        move ! (30 ∷ []) $ split ! $ move ! (1 ∷ []) $ drop ! $
+        statements 𝓣 known-one l₀ l₁ l₂ l₃ l₄ l₅ l₆ l₇ l₈ l₉ l₁₀ l₁₁ l₁₂ l₁₃ known-buffer known-numbers
+        known-start))))))))))))))
 
 module _ {M : Type 1} (𝓤 : URA M) (H : Heap 𝓤) (A : Atoms 𝓤) (W : Given 𝓤 H A) (mem′ : Memory → SProp 𝓤) (run′ : Routine
     → Fun 𝓤) (𝓣 : Tables 𝓤 H)

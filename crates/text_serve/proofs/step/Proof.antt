@@ -73,7 +73,7 @@ use Rattle.text_serve.proofs.rows_in.Symbol as rows-def
 use Rattle.text_serve.proofs.rows_in.Met as rows-thm
 use Rattle.text_serve.proofs.Turning.{turned}
 use Rattle.text_serve.proofs.Arrays.{Bytes, Numbers, mref, sref, to, Lent, state-ty, heard-ty, state-val, heard-val, IsState, IsHeard, state-is, heard-tells, heard-is, typed-state, typed-heard}
-use Rattle.text_serve.proofs.Held.{held}
+use Rattle.text_serve.proofs.Held.{held, place-of}
 use Rattle.text_serve.proofs.Hears.{Hear, hears}
 use Rattle.text_serve.proofs.Performs.{Rows, Perform, Figures, figures-val, Shared, cuts, performs}
 use Rattle.text_serve.proofs.Tells.{Tell, tells}
@@ -120,6 +120,50 @@ function = record {
       Bytes) valueLocal ∷ [];
   body = code.function .body;
 }
+
+-- the locals, by the names of the code; those from `for-buf` on are the compiler's own, for each reference that is lent
+abbrev ℓt : ℕ
+ℓt = 1
+
+abbrev ℓbuf : ℕ
+ℓbuf = 2
+
+abbrev ℓxs : ℕ
+ℓxs = 3
+
+abbrev ℓout : ℕ
+ℓout = 4
+
+abbrev ℓs : ℕ
+ℓs = 5
+
+abbrev ℓp : ℕ
+ℓp = 6
+
+abbrev ℓa : ℕ
+ℓa = 7
+
+abbrev for-buf : ℕ
+for-buf = 8
+
+abbrev for-xs : ℕ
+for-xs = 9
+
+abbrev for-t : ℕ × ℕ
+for-t = (10, 11)
+
+abbrev ℓrows : ℕ
+ℓrows = 12
+
+abbrev for-rows : ℕ
+for-rows = 13
+
+abbrev for-out : ℕ
+for-out = 14
+
+-- where a local stands in the context, behind k other entries
+abbrev slot : (k local : ℕ) → ℕ
+slot k i = place-of k for-out i
 
 -- the body from each statement of the source on
 abbrev to-perform : Code
@@ -219,18 +263,21 @@ module _ {M : Type 1} (𝓤 : URA M) (H : Heap 𝓤) (A : Atoms 𝓤) (W : Given
         .coded .code bs′))
         ∷ ‵ (fres γx (Numbers .coded .code xs′)) ∷ once-performed p v w) (runs C Λ En to-tell (atRet En Post))
     telling {bs′} {xs′} {rows} {zs} p a v w heard ip are done′ l ia =
-        assigns ! (addr ! (from ! (hop ! (look ! 26 refl) (stop !)))) (from ! (stop !)) (init ! 6 refl (tt, tt)) $
+        assigns ! (addr ! (from ! (hop ! (look ! (slot 6 ℓout) refl) (stop !))))
+        (from ! (stop !)) (init ! (slot 6 for-out) refl (tt, tt)) $
         tells 𝓤 H A mem′ run W κ q bo oo γo os p ip a v ia space fm known-tell
-        (and-then ! (load ! (from ! (stop !)) (look ! 5 refl)) (and-then ! (load ! (from ! (stop !)) (look ! 21 refl))
-        (and-then ! (load ! (from ! (stop !)) (look ! 19 refl)) (no-more !)))) (λ os′ r u told ir.
+        (and-then ! (load ! (from ! (stop !)) (look ! (slot 5 for-out) refl))
+        (and-then ! (load ! (from ! (stop !)) (look ! (slot 5 ℓp) refl))
+        (and-then ! (load ! (from ! (stop !)) (look ! (slot 5 ℓa) refl)) (no-more !)))) (λ os′ r u told ir.
         -- [the token; the answers' last; the other token; t's last list; the buffer's last; the numbers' last; _14; …;
         -- _0; …]
-        land ! (from ! (stop !)) (init ! 34 refl (typed-state 𝓤 H A W r u ir)) $
-        returns ! (look ! 34 refl) $ forget ! 6 refl $ forget ! 8 refl $ forget ! 10 refl $ forget ! 12 refl $ forget !
-        14 refl $ forget ! 16 refl $
-        forget ! 18 refl $ forget ! 20 refl $ forget ! 22 refl $ forget ! 24 refl $ forget ! 26 refl $ forget ! 28 refl
-        $ forget ! 30 refl $
-        forget ! 32 refl $ forget ! 34 refl $
+        land ! (from ! (stop !)) (init ! (slot 6 0) refl (typed-state 𝓤 H A W r u ir)) $
+        returns ! (look ! (slot 6 0) refl) $ forget ! (slot 6 for-out) refl $ forget ! (slot 6 for-rows) refl $
+        forget ! (slot 6 ℓrows) refl $ forget ! (slot 6 (for-t .1)) refl $ forget ! (slot 6 (for-t .0)) refl $
+        forget ! (slot 6 for-xs) refl $ forget ! (slot 6 for-buf) refl $ forget ! (slot 6 ℓa) refl $
+        forget ! (slot 6 ℓp) refl $ forget ! (slot 6 ℓs) refl $ forget ! (slot 6 ℓout) refl $
+        forget ! (slot 6 ℓxs) refl $ forget ! (slot 6 ℓbuf) refl $ forget ! (slot 6 ℓt) refl $
+        forget ! (slot 6 0) refl $
         keep ! (6 ∷ 7 ∷ 8 ∷ 9 ∷ 10 ∷ 11 ∷ 12 ∷ 13 ∷ 14 ∷ 15 ∷ 16 ∷ 17 ∷ 18 ∷ 19 ∷ 20 ∷ 21 ∷ 22 ∷ 23 ∷ 24 ∷ 25 ∷ 26 ∷ 27
         ∷ 28 ∷ 29 ∷ 30 ∷ 31 ∷ 32
         ∷ 33 ∷ 34 ∷ 35 ∷ 0 ∷ 2 ∷ 3 ∷ 4 ∷ 5 ∷ 1 ∷ []) $
@@ -298,12 +345,14 @@ module _ {M : Type 1} (𝓤 : URA M) (H : Heap 𝓤) (A : Atoms 𝓤) (W : Given
         (runs C Λ En (after (after (after (after to-perform)))) (atRet En Post))
     performing {bs′} {xs′} β fs p heard ip are =
         performs 𝓤 H A mem′ run W κ (β ∷ []) q b o γ ys fs (p .request) (request-is p ip) fm known-perform
-        (and-then ! (load ! (from ! (stop !)) (look ! 13 refl)) (and-then ! (load ! (from ! (fld ! refl (stop !)))
-        (look-in ! 23 (sub ! 7 refl (whole !)))) (and-then ! (load ! (from ! (stop !)) (look ! 11 refl)) (no-more !))))
+        (and-then ! (load ! (from ! (stop !)) (look ! (slot 7 (for-t .1)) refl))
+        (and-then ! (load ! (from ! (fld ! refl (stop !)))
+        (look-in ! (slot 7 ℓp) (sub ! 7 refl (whole !))))
+        (and-then ! (load ! (from ! (stop !)) (look ! (slot 7 ℓrows) refl)) (no-more !))))
         (λ zs a v l done′ ia.
         -- [t's last list; the token; the figures' token; what is lent; the buffer's last; the open borrow; obs; auth;
         -- the answers; _14; …; _0; …]
-        land ! (from ! (stop !)) (init ! 23 refl (typed-answer 𝓤 H A W a v ia)) $
+        land ! (from ! (stop !)) (init ! (slot 9 ℓa) refl (typed-answer 𝓤 H A W a v ia)) $
         closing β fs p a v heard ip are done′ l ia)
 
     -- `rows_in(xs, p.count)`, with the table's reference in its local
@@ -312,12 +361,13 @@ module _ {M : Type 1} (𝓤 : URA M) (H : Heap 𝓤) (A : Atoms 𝓤) (W : Given
         ∷ Opened (‵ (Lent Bytes 0 κ bo oo γo os) ∷ ‵ (Owned κ b o γ ys) ∷ once-heard p))
         (runs C Λ En to-perform (atRet En Post))
     cutting {bs′} {xs′} p heard ip =
-        assigns ! (addr ! (from ! (fld ! refl (hop ! (look-in ! 34 (sub ! 0 refl (whole !))) (stop !)))))
-        (from ! (stop !)) (init ! 16 refl (tt, tt)) $
-        assigns ! (agg ! (and-then ! (load ! (from ! (stop !)) (look ! 16 refl)) (and-then !
-        (load ! (from ! (fld ! refl (stop !))) (look-in ! 34 (sub ! 1 refl (whole !)))) (no-more !))))
-        (from ! (stop !)) (init ! 14 refl (tt, (tt, (record { fits = room .0 }, tt)))) $
-        assigns ! (addr ! (from ! (hop ! (look ! 30 refl) (stop !)))) (from ! (stop !)) (init ! 10 refl (tt, tt)) $
+        assigns ! (addr ! (from ! (fld ! refl (hop ! (look-in ! (slot 8 ℓt) (sub ! 0 refl (whole !))) (stop !)))))
+        (from ! (stop !)) (init ! (slot 8 (for-t .0)) refl (tt, tt)) $
+        assigns ! (agg ! (and-then ! (load ! (from ! (stop !)) (look ! (slot 8 (for-t .0)) refl)) (and-then !
+        (load ! (from ! (fld ! refl (stop !))) (look-in ! (slot 8 ℓt) (sub ! 1 refl (whole !)))) (no-more !))))
+        (from ! (stop !)) (init ! (slot 8 (for-t .1)) refl (tt, (tt, (record { fits = room .0 }, tt)))) $
+        assigns ! (addr ! (from ! (hop ! (look ! (slot 8 ℓxs) refl) (stop !))))
+        (from ! (stop !)) (init ! (slot 8 for-rows) refl (tt, tt)) $
         lft-new ! tt (λ β. move ! (1 ∷ []) $
         use1 W (later (some (λ (δ : GName). ‵ (Shared (β ∷ []) bx ox δ xs′) ⊛ Reading (β ∷ []) xs′)))
         (lends-shr 𝓤 H A W Numbers (named 0) (β ∷ []) fullShare xs′ bx ox) $ await ! tt $ pick ! (λ δ. split ! $
@@ -325,10 +375,12 @@ module _ {M : Type 1} (𝓤 : URA M) (H : Heap 𝓤) (A : Atoms 𝓤) (W : Given
         -- _14; …; _0; …]
         move ! (0 ∷ 2 ∷ []) $
         cuts 𝓤 H A mem′ run W (β ∷ []) bx ox δ xs′ (p .count) (count-fits p ip) fm known-rows
-        (and-then ! (load ! (from ! (stop !)) (look ! 11 refl)) (and-then ! (load ! (from ! (fld ! refl (stop !)))
-        (look-in ! 25 (sub ! 6 refl (whole !)))) (no-more !))) (λ fs w e isf.
-        land ! (from ! (stop !)) (init ! 14 refl (typed-figures (β ∷ []) fs w isf)) $
-        rewrite ! 14 (λ (z : Val). ‵ (fat fullShare figures-ty l₁₂ 0 z)) (figures-are (β ∷ []) fs w isf) refl $
+        (and-then ! (load ! (from ! (stop !)) (look ! (slot 9 for-rows) refl))
+        (and-then ! (load ! (from ! (fld ! refl (stop !)))
+        (look-in ! (slot 9 ℓp) (sub ! 6 refl (whole !)))) (no-more !))) (λ fs w e isf.
+        land ! (from ! (stop !)) (init ! (slot 10 ℓrows) refl (typed-figures (β ∷ []) fs w isf)) $
+        rewrite ! (slot 10 ℓrows) (λ (z : Val). ‵ (fat fullShare figures-ty l₁₂ 0 z))
+        (figures-are (β ∷ []) fs w isf) refl $
         rewrite ! 0 (λ (z : Val). ‵ (Figures 0 (β ∷ []) fs z)) (figures-are (β ∷ []) fs w isf) refl $
         move ! (9 ∷ 3 ∷ 0 ∷ 1 ∷ []) $ performing β fs p heard ip e)))
 
@@ -337,14 +389,16 @@ module _ {M : Type 1} (𝓤 : URA M) (H : Heap 𝓤) (A : Atoms 𝓤) (W : Given
         ∷ Opened (‵ (Lent Bytes 0 κ bo oo γo os) ∷ ‵ (Owned κ b o γ ys) ∷ at-first)) (runs C Λ En (code.function .body)
         (atRet En Post))
     hearing =
-        assigns ! (addr ! (from ! (hop ! (look ! 32 refl) (stop !)))) (from ! (stop !)) (init ! 20 refl (tt, tt)) $
-        assigns ! (addr ! (from ! (hop ! (look ! 30 refl) (stop !)))) (from ! (stop !)) (init ! 18 refl (tt, tt)) $
+        assigns ! (addr ! (from ! (hop ! (look ! (slot 8 ℓbuf) refl) (stop !))))
+        (from ! (stop !)) (init ! (slot 8 for-buf) refl (tt, tt)) $
+        assigns ! (addr ! (from ! (hop ! (look ! (slot 8 ℓxs) refl) (stop !))))
+        (from ! (stop !)) (init ! (slot 8 for-xs) refl (tt, tt)) $
         hears 𝓤 H A mem′ run W κ q bb ob γb bs bx ox xs s gs (asked .0) fm known-hear
-        (λ α δ. and-then ! (load ! (from ! (stop !)) (look ! 19 refl)) (and-then ! (load ! (from ! (stop !)) (look ! 17
-        refl))
-        (and-then ! (load ! (from ! (stop !)) (look ! 25 refl)) (no-more !)))) (λ bs′ xs′ p w e ip.
-        land ! (from ! (stop !)) (init ! 24 refl (typed-heard 𝓤 H A W p w ip)) $
-        rewrite ! 24 (λ (z : Val). ‵ (fat fullShare heard-ty l₆ 0 z)) (heard-tells p w ip) refl $
+        (λ α δ. and-then ! (load ! (from ! (stop !)) (look ! (slot 7 for-buf) refl))
+        (and-then ! (load ! (from ! (stop !)) (look ! (slot 7 for-xs) refl))
+        (and-then ! (load ! (from ! (stop !)) (look ! (slot 7 ℓs) refl)) (no-more !)))) (λ bs′ xs′ p w e ip.
+        land ! (from ! (stop !)) (init ! (slot 8 ℓp) refl (typed-heard 𝓤 H A W p w ip)) $
+        rewrite ! (slot 8 ℓp) (λ (z : Val). ‵ (fat fullShare heard-ty l₆ 0 z)) (heard-tells p w ip) refl $
         cutting p e (heard-is p w ip))
 
   -- the parameters are in their locals, and the numbers are opened
@@ -366,10 +420,12 @@ module _ {M : Type 1} (𝓤 : URA M) (H : Heap 𝓤) (A : Atoms 𝓤) (W : Given
         alloc1 ! (λ l₇. alloc1 ! (λ l₈.
         alloc1 ! (λ l₉. alloc1 ! (λ l₁₀. alloc1 ! (λ l₁₁. alloc1 ! (λ l₁₂. alloc1 ! (λ l₁₃. alloc1 ! (λ l₁₄. alloc0 ! $
         params1 ! $
-        pass1 ! (init ! 26 refl (tt, (tt, (record { fits = room .0 }, tt)))) $ pass1 ! (init ! 24 refl (tt, tt)) $ pass1
-        ! (init ! 22 refl (tt, tt)) $
-        pass1 ! (init ! 20 refl (tt, tt)) $ pass1 ! (init ! 18 refl (typed-state 𝓤 H A W s (state-val s) gs)) $ pass0 !
-        $
+        pass1 ! (init ! (slot 0 ℓt) refl (tt, (tt, (record { fits = room .0 }, tt)))) $
+        pass1 ! (init ! (slot 0 ℓbuf) refl (tt, tt)) $
+        pass1 ! (init ! (slot 0 ℓxs) refl (tt, tt)) $
+        pass1 ! (init ! (slot 0 ℓout) refl (tt, tt)) $
+        pass1 ! (init ! (slot 0 ℓs) refl (typed-state 𝓤 H A W s (state-val s) gs)) $
+        pass0 ! $
         -- [_14; …; _0; …; the tokens; what the parameters own]
         move ! (31 ∷ []) $ fsplit ! $ move ! (1 ∷ []) $ fsplit ! $ move ! (1 ∷ []) $ fsplit ! $ move ! (1 ∷ []) $ fsplit
         ! $ move ! (1 ∷ []) $ fsplit ! $

@@ -27,7 +27,9 @@ kept-after-requires : tie.Need-kept-after-requires
 kept-after-requires c κs = search needs
 
 returns : tie.Need-returns
-returns c = wants-interest _ _ _ _ _ (c .before .before .before .before .before .request-of .ensures) _ _ _ _ (c
+returns c =
+    let at-request-of = c .before .before .before .before .before in
+    wants-interest _ _ _ _ _ (at-request-of .request-of .ensures) _ _ _ _ (c
     .before .before .before .interest-of .ensures) (c .before .before .figures .ensures) (c .before .work .ensures) (c
     .kept-after .ensures) (c .before .before .before .before .if1 .taken)
 
