@@ -12,20 +12,20 @@ use Rattle.paper.specs.declared.Quote.{Quote}
 use Rattle.paper.specs.Ranges.{natural}
 use Rattle.text_protocol.specs.declared.Kept.{Kept}
 use Rattle.text_protocol.specs.declared.Pairs.{Pairs}
-use Rattle.text_protocol.specs.Names.{the, placeOf, code, evaluateNames, quoteNames, moveNames, readNames}
+use Rattle.text_protocol.specs.Names.{the, placeOf, code, evaluateNames, quoteNames, moveNames, readNames, admitKind, evaluateKind, quoteKind, moveKind, readKind}
 use Rattle.text_protocol.specs.Calls.{admissionOf, quoteOf, askedOf, figuresOf}
 use Rattle.text_call.specs.declared.Request.{Request}
 use Rattle.text_call.specs.Requests.{requestCall, lineCall, noAdmission, noDay, noQuote}
 
 module _ (k : Kept) (kind : ℕ) (zs : List ℤ) (p : Pairs) where
-  pub admit-line : (a : Admission) (d : AskedDay) (q : Quote) → kind ≡ 1 → a ≡ admissionOf zs
+  pub admit-line : (a : Admission) (d : AskedDay) (q : Quote) → kind ≡ admitKind → a ≡ admissionOf zs
       → requestCall (record { kind = kind; id = 0; admission = a; day = d; quote = q; side = 0 }) (drop 13 zs) ≡
       lineCall k kind zs p
   unfolding lineCall
   admit-line a d q e f = rw (e, f)
 
-  pub evaluate-line : (id : ℕ) (a : Admission) (d : AskedDay) (q : Quote) → kind ≡ 2 → id ≡ natural (getD zs 0 (pos 0))
-      → d ≡ askedOf k zs p
+  pub evaluate-line : (id : ℕ) (a : Admission) (d : AskedDay) (q : Quote) → kind ≡ evaluateKind
+      → id ≡ natural (getD zs 0 (pos 0)) → d ≡ askedOf k zs p
       → requestCall (record { kind = kind; id = id; admission = a; day = d; quote = q; side = 0 }) (drop 13 zs) ≡
       lineCall k kind zs p
   unfolding lineCall figuresOf the placeOf code evaluateNames
@@ -33,30 +33,39 @@ module _ (k : Kept) (kind : ℕ) (zs : List ℤ) (p : Pairs) where
 
   module _ (r : Request) (id side : ℕ) (q : Quote)
       (is : r ≡ record { kind = kind; id = id; admission = noAdmission; day = noDay; quote = q; side = side }) where
-    pub quote-line : kind ≡ 3 → id ≡ natural (getD zs 0 (pos 0)) → q ≡ quoteOf zs → requestCall r (drop 13 zs) ≡
-        lineCall k kind zs p
+    pub quote-line : kind ≡ quoteKind → id ≡ natural (getD zs 0 (pos 0)) → q ≡ quoteOf zs
+        → requestCall r (drop 13 zs) ≡ lineCall k kind zs p
     unfolding lineCall the placeOf code quoteNames
     quote-line e f g = rw (is, e, f, g)
 
-    pub move-line : kind ≡ 4 → id ≡ natural (getD zs 0 (pos 0)) → side ≡ natural (getD zs 1 (pos 0))
+    pub move-line : kind ≡ moveKind → id ≡ natural (getD zs 0 (pos 0)) → side ≡ natural (getD zs 1 (pos 0))
         → requestCall r (drop 13 zs) ≡ lineCall k kind zs p
     unfolding lineCall the placeOf code moveNames
     move-line e f g = rw (is, e, f, g)
 
-    pub read-line : kind ≡ 5 → id ≡ natural (getD zs 0 (pos 0)) → requestCall r (drop 13 zs) ≡ lineCall k kind zs p
+    pub read-line : kind ≡ readKind → id ≡ natural (getD zs 0 (pos 0))
+        → requestCall r (drop 13 zs) ≡ lineCall k kind zs p
     unfolding lineCall the placeOf code readNames
     read-line e f = rw (is, e, f)
 
   pub other-line : (r : Request) (q : Quote) → r ≡ record {
-    kind = 5;
+    kind = readKind;
     id = 0;
     admission = noAdmission;
     day = noDay;
     quote = q;
     side = 0;
   }
-      → (kind ≡ 1 → ⊥) → (kind ≡ 2 → ⊥) → (kind ≡ 3 → ⊥) → (kind ≡ 4 → ⊥) → (kind ≡ 5 → ⊥)
+      → (kind ≡ admitKind → ⊥) → (kind ≡ evaluateKind → ⊥) → (kind ≡ quoteKind → ⊥) → (kind ≡ moveKind → ⊥)
+      → (kind ≡ readKind → ⊥)
       → requestCall r (drop 13 zs) ≡ lineCall k kind zs p
   unfolding lineCall
   other-line r q is a b c d e =
-      rw (is, ne-eqb kind 1 a, ne-eqb kind 2 b, ne-eqb kind 3 c, ne-eqb kind 4 d, ne-eqb kind 5 e)
+      rw (
+        is,
+        ne-eqb kind admitKind a,
+        ne-eqb kind evaluateKind b,
+        ne-eqb kind quoteKind c,
+        ne-eqb kind moveKind d,
+        ne-eqb kind readKind e,
+      )

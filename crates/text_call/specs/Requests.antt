@@ -1,5 +1,5 @@
 -- The call of document 01 that a request is. Assumes nothing.
-use mathlib.Core.List.{List}
+use mathlib.Core.List.{List, []}
 use lib.Dec.{eqb}
 use lib.IntN.{ℤ, pos}
 use Prim.Native.Nat.{ℕ}
@@ -24,43 +24,10 @@ requestCall c rows =
     (pick (eqb (c .kind) quoteKind) (quote (c .id) (c .quote))
     (pick (eqb (c .kind) moveKind) (move (c .id) (c .side)) (read (c .id)))))
 
--- ---- what a request leaves empty
+-- ---- what a request leaves empty: an admission, as a line of no numbers gives it, a day and a quote
 
 abbrev pub noAdmission : Admission
-noAdmission =
-    record {
-      id = 0;
-      day = 0;
-      p1 = 0;
-      p2 = 0;
-      s = 0;
-      tentative = 0;
-      given =
-          record {
-            lot = 0;
-            h = 0;
-            q = 0;
-            aup = 0;
-            adown = 0;
-            wait = 0;
-            rh1 = 0;
-            rh2 = 0;
-            rh3 = 0;
-            liq = 0;
-            min1 = 0;
-            min2 = 0;
-            min3 = 0;
-            smax = 0;
-            xpr = 0;
-            shift = 0;
-            pchmax = 0;
-            pclmax = 0;
-            w = 0;
-            u = 0;
-            monitoring = 0;
-            ewma = 0;
-          };
-    }
+noAdmission = admissionOf []
 
 abbrev pub noTerm : AskedTerm
 noTerm = record { k = 0; band = band.Given (record { low = pos 0; high = pos 0 }) }

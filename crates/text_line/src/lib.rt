@@ -118,12 +118,12 @@ fn takes(kind: u64, count: usize) -> bool
     ensures { λ r. ⌜ r ≡ takes kind count ⌝ }
 {
     match kind {
-        1 => count == 28,
-        2 => 13 <= count,
-        3 => count == 5,
-        4 => count == 2,
-        5 => count == 1,
-        6 => 14 <= count,
+        Line::ADMIT => count == 28,
+        Line::EVALUATE => 13 <= count,
+        Line::QUOTE => count == 5,
+        Line::MOVE => count == 2,
+        Line::READ => count == 1,
+        Line::INTEREST => 14 <= count,
         _ => false,
     }
 }

@@ -1,34 +1,12 @@
 use Rattle.text_protocol.specs.Names.{the, placeOf, admitNames, code}
 use Rattle.text_protocol.specs.Calls.{admissionOf}
 use mathlib.Core.Path.{_≡_}
-use borrow.Author.Needs.{needs}
 use Rattle.text_call.proofs.admission_of.Statement.{statement}
 use Rattle.text_call.proofs.admission_of.Tie as tie
 use Rattle.text_call.proofs.admission_of.Reads as reads
 use Rattle.text_call.proofs.admission_of.Lts as lts
 use Rattle.text_call.proofs.given_of.Reads as given-of-reads
 use Rattle.text_call.proofs.natural_at.Reads as natural-at-reads
-
-natural-at-requires : tie.Need-natural-at-requires
-natural-at-requires c κs = search needs
-
-natural-at-requires-2 : tie.Need-natural-at-requires-2
-natural-at-requires-2 c κs = search needs
-
-natural-at-requires-3 : tie.Need-natural-at-requires-3
-natural-at-requires-3 c κs = search needs
-
-natural-at-requires-4 : tie.Need-natural-at-requires-4
-natural-at-requires-4 c κs = search needs
-
-natural-at-requires-5 : tie.Need-natural-at-requires-5
-natural-at-requires-5 c κs = search needs
-
-natural-at-requires-6 : tie.Need-natural-at-requires-6
-natural-at-requires-6 c κs = search needs
-
-given-of-requires : tie.Need-given-of-requires
-given-of-requires c κs = search needs
 
 returns : tie.Need-returns
 unfolding admissionOf the placeOf admitNames code
@@ -49,15 +27,10 @@ returns c =
       c .given-of .ensures,
     )
 
+-- what is called asks for nothing
 pub admission-of-spec : {M : Type 1} → statement M
 admission-of-spec =
     tie.close
     (tie.spec
-    natural-at-requires
-    natural-at-requires-2
-    natural-at-requires-3
-    natural-at-requires-4
-    natural-at-requires-5
-    natural-at-requires-6
-    given-of-requires
+    (λ c κs. tt) (λ c κs. tt) (λ c κs. tt) (λ c κs. tt) (λ c κs. tt) (λ c κs. tt) (λ c κs. tt)
     returns)

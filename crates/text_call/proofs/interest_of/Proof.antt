@@ -11,48 +11,6 @@ use Rattle.text_call.proofs.interest_of.Lts as lts
 use Rattle.text_call.proofs.natural_at.Reads as natural-at-reads
 use Rattle.text_call.proofs.number_at.Reads as number-at-reads
 
-natural-at-requires : tie.Need-natural-at-requires
-natural-at-requires c κs = search needs
-
-natural-at-requires-2 : tie.Need-natural-at-requires-2
-natural-at-requires-2 c κs = search needs
-
-natural-at-requires-3 : tie.Need-natural-at-requires-3
-natural-at-requires-3 c κs = search needs
-
-natural-at-requires-4 : tie.Need-natural-at-requires-4
-natural-at-requires-4 c κs = search needs
-
-natural-at-requires-5 : tie.Need-natural-at-requires-5
-natural-at-requires-5 c κs = search needs
-
-natural-at-requires-6 : tie.Need-natural-at-requires-6
-natural-at-requires-6 c κs = search needs
-
-natural-at-requires-7 : tie.Need-natural-at-requires-7
-natural-at-requires-7 c κs = search needs
-
-natural-at-requires-8 : tie.Need-natural-at-requires-8
-natural-at-requires-8 c κs = search needs
-
-natural-at-requires-9 : tie.Need-natural-at-requires-9
-natural-at-requires-9 c κs = search needs
-
-natural-at-requires-10 : tie.Need-natural-at-requires-10
-natural-at-requires-10 c κs = search needs
-
-natural-at-requires-11 : tie.Need-natural-at-requires-11
-natural-at-requires-11 c κs = search needs
-
-natural-at-requires-12 : tie.Need-natural-at-requires-12
-natural-at-requires-12 c κs = search needs
-
-number-at-requires : tie.Need-number-at-requires
-number-at-requires c κs = search needs
-
-number-at-requires-2 : tie.Need-number-at-requires-2
-number-at-requires-2 c κs = search needs
-
 returns : tie.Need-returns
 unfolding interestOf the placeOf interestNames code
 returns c =
@@ -90,22 +48,11 @@ returns c =
       c .number-at2 .ensures,
     )
 
+-- what is called asks for nothing
 pub interest-of-spec : {M : Type 1} → statement M
 interest-of-spec =
     tie.close
     (tie.spec
-    natural-at-requires
-    natural-at-requires-2
-    natural-at-requires-3
-    natural-at-requires-4
-    natural-at-requires-5
-    natural-at-requires-6
-    natural-at-requires-7
-    natural-at-requires-8
-    natural-at-requires-9
-    natural-at-requires-10
-    natural-at-requires-11
-    natural-at-requires-12
-    number-at-requires
-    number-at-requires-2
+    (λ c κs. tt) (λ c κs. tt) (λ c κs. tt) (λ c κs. tt) (λ c κs. tt) (λ c κs. tt) (λ c κs. tt)
+    (λ c κs. tt) (λ c κs. tt) (λ c κs. tt) (λ c κs. tt) (λ c κs. tt) (λ c κs. tt) (λ c κs. tt)
     returns)

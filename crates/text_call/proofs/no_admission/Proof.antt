@@ -1,0 +1,13 @@
+use mathlib.Core.Path.{refl}
+use Rattle.paper.specs.Ranges.{natural}
+use Rattle.text_protocol.specs.Names.{the, placeOf, admitNames, code}
+use Rattle.text_protocol.specs.Calls.{admissionOf, givenOf}
+use Rattle.text_call.proofs.no_admission.Statement.{statement}
+use Rattle.text_call.proofs.no_admission.Tie as tie
+
+returns : tie.Need-returns
+unfolding admissionOf givenOf the placeOf admitNames code natural
+returns c = refl
+
+pub no-admission-spec : {M : Type 1} → statement M
+no-admission-spec = tie.close (tie.spec returns)
