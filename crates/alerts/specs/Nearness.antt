@@ -8,7 +8,7 @@ use lib.Signed.{ltZ}
 use borrow.Author.Tests.{leb-true}
 use Rattle.paper.specs.declared.Statics.{Statics}
 use Rattle.paper.specs.declared.Limits.{Limits}
-use Rattle.paper.specs.Numbers.{whole, limitMost, nearnessMost, quoteMost}
+use Rattle.paper.specs.Numbers.{oneInTenThousandths, limitMost, nearnessMost, quoteMost}
 use Rattle.paper.specs.Ranges.{validStatics, validLimits, isLimit}
 use Rattle.paper.proofs.Logic.{and-left, and-right}
 
@@ -33,4 +33,4 @@ near-range st g x price v l p =
 
 -- "to - from strictly less than w·(PcH - PcL)"
 unfoldable pub closer : ℕ → Limits → (from to : ℕ) → Bool
-closer w x from to = ltZ (pos whole *ℤ subℕ to from) (pos w *ℤ subℕ (x .upper) (x .lower))
+closer w x from to = ltZ (pos oneInTenThousandths *ℤ subℕ to from) (pos w *ℤ subℕ (x .upper) (x .lower))

@@ -4,8 +4,8 @@
 use paper::Limits;
 use paper::Near;
 use paper::NearSeconds;
+use paper::ONE_IN_TEN_THOUSANDTHS;
 use paper::Side;
-use paper::WHOLE;
 ghost use mathlib.Core.Path.{_≡_};
 ghost use Rattle.paper.specs.Alerts.{isNear, nearAfter, alert, nearCleared};
 ghost use Rattle.alerts.specs.Nearness.{NearRange, closer};
@@ -17,7 +17,7 @@ fn is_closer(w: u64, x: Limits, from: u64, to: u64) -> bool
     requires { ⌜ NearRange w x to ⌝ }
     ensures { λ r. ⌜ r ≡ closer w x from to ⌝ }
 {
-    WHOLE * to + w * x.lower < WHOLE * from + w * x.upper
+    ONE_IN_TEN_THOUSANDTHS * to + w * x.lower < ONE_IN_TEN_THOUSANDTHS * from + w * x.upper
 }
 
 // "Near the top: bid present and PcH - bid strictly less than w·(PcH - PcL). Near the bottom likewise with ask - PcL."

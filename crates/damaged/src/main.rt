@@ -128,7 +128,7 @@ fn with_figure(slot: usize, r: Record) -> Record {
     match slot {
         6 => with_prices(r, 0, 1_000_000),
         7 => with_prices(r, 1_030_005, 1_000_000),
-        8 => with_prices(r, 1_030_000, Price::MOST + 10),
+        8 => with_prices(r, 1_030_000, Price::MOST_UNITS + 10),
         9 => with_volatility(r, Record::VOLATILITY_MOST + 1),
         10 => with_tentative(r, 4_100, 0),
         11 => with_tentative(r, 650, 0),
@@ -179,9 +179,9 @@ fn with_near(r: Record, second: u64) -> Record {
 // One of the three rates, ranges, terms, bands or near seconds.
 fn with_three(slot: usize, r: Record) -> Record {
     match slot {
-        15 => with_rate(r, Rate::MOST + 1),
+        15 => with_rate(r, Rate::MOST_BP + 1),
         16 => with_ranges(r, 947_605, 1_112_400),
-        17 => with_ranges(r, 947_600, Limit::MOST + 10),
+        17 => with_ranges(r, 947_600, Limit::MOST_UNITS + 10),
         18 => with_terms(r, Term::DAYS_MOST + 1, 0),
         19 => with_terms(r, 0, 1),
         20 => with_bands(r, 988_800, 1_071_205),
@@ -193,7 +193,7 @@ fn with_three(slot: usize, r: Record) -> Record {
 fn at_the_ends(id: u64) -> Record {
     let r = with_tentative(sound(id), 4_000, Record::AGE_MOST);
     let r = with_moves(r, Record::MOVES_MOST, Record::MOVES_MOST);
-    let r = with_bands(r, Limit::MOST, 0);
+    let r = with_bands(r, Limit::MOST_UNITS, 0);
     with_second(r, Record::SECOND_LAST)
 }
 

@@ -12,7 +12,7 @@ use Rattle.paper.specs.declared.Tentative.{Tentative}
 use Rattle.paper.specs.declared.Record.{Record}
 use Rattle.paper.specs.declared.Admission.{Admission}
 use Rattle.paper.specs.declared.Day.{Day}
-use Rattle.paper.specs.Numbers.{hundred, priceMost}
+use Rattle.paper.specs.Numbers.{millionthsInBp, priceMost}
 use Rattle.paper.specs.Ranges.{isPrice, isGridPrice, gridOf, staticsOf, sound}
 use Rattle.paper.specs.Rates.{modelOf, moveOf, Figures, figuresOf, modelled, unmodelled, volatilityOf}
 use Rattle.paper.specs.History.{Event, evaluatedOn, quotedAt, movedBy, evaluations}
@@ -55,7 +55,7 @@ prices-positive a es l =
 
 -- with the model on, an evaluation's s is the volatility's rule
 volatility-modelled : (st : Statics) (b m s1 r s : ℕ) (old : Tentative) → st .ewma ≡ true
-    → figuresOf st b m s1 r s old .s ≡ volatilityOf (modelOf st) b (hundred * s1) r s
+    → figuresOf st b m s1 r s old .s ≡ volatilityOf (modelOf st) b (millionthsInBp * s1) r s
 unfolding figuresOf modelled unmodelled
 volatility-modelled st b m s1 r s old on =
     ap (λ (f : Figures). f .s) (pick-true (st .ewma) (modelled st b m s1 r s old) (unmodelled st s old) on)
@@ -70,7 +70,7 @@ carried a (evaluatedOn d rows ∷ es) (l, n) on =
     let p : ℕ = carriesNext st d rows x .p1 in
     let positive : PricesPositive x = prices-positive a es l in
     rw (volatility-modelled st (d .b) (d .m) (rateAt (x .rates) 0) (moveOf (x .p1) (x .p2) p) (x .s) (x .tentative) on)
-    (once-more (carried a es l on) (modelOf st) (d .b) (hundred * rateAt (x .rates) 0) (moveOf (x .p1) (x .p2) p)
+    (once-more (carried a es l on) (modelOf st) (d .b) (millionthsInBp * rateAt (x .rates) 0) (moveOf (x .p1) (x .p2) p)
     (exactMove (x .p1) (x .p2) p) (weighing st (lawful-statics a es l))
     (move-rounded (x .p1) (x .p2) p (positive .p1) (positive .p2)))
 carried a (quotedAt q ∷ es) (l, n) on = carried a es l on

@@ -17,7 +17,7 @@ use Rattle.paper.specs.declared.InterestAnswer.{InterestAnswer}
 use Rattle.paper.specs.declared.Verdict.the-variants.{Done}
 use Rattle.paper.specs.Lists.{eight}
 use Rattle.paper.specs.Numbers.{keyNumbers, allKeyNumbersMost}
-use Rattle.paper.specs.Ranges.{partsFrom, natural}
+use Rattle.paper.specs.Ranges.{partsFrom, unsigned}
 use Rattle.paper.specs.Roundings.{RoundedUp}
 use Rattle.paper.specs.Interest.{LentKey, keyAt, keysOf, wholeKeys, validInterest, validKeys, maturityOf, maturitiesOf, changeOf, repoVolatility, maturityFigures, noFigures, acceptedInterest, interestAnswer}
 use Rattle.paper.specs.Exact.{NearExact}
@@ -107,8 +107,8 @@ module _ (e : Evening) (done : interestAnswer (e .given) (e .numbers) .pair .ver
 -- ---- evenings that follow each other
 
 given-volatility : (last : Carried) (k : LentKey) → k ≡ keyGiven last k → maturityOf k .volatility ≡ last .volatility
-unfolding keyGiven maturityOf natural
-given-volatility last k g = ap (λ (x : LentKey). natural (x .volatility)) g
+unfolding keyGiven maturityOf unsigned
+given-volatility last k g = ap (λ (x : LentKey). unsigned (x .volatility)) g
 
 interest-carried : {first : Carried} {es : List Evening} → Follow first es
     → CarriedOn (length es) (carriedAfter first es .volatility) (exactRepoSquare first es)

@@ -50,9 +50,9 @@ use prog.Memory.{Memory}
 use prog.Routine.{Routine}
 use Rattle.paper.specs.declared.Record.{Record}
 use Rattle.security.specs.declared.Slot.{Slot}
-use Rattle.security.specs.declared.Turn.{Turn}
+use Rattle.security.specs.declared.Outcome.{Outcome}
 use Rattle.paper.specs.Desk.{Call, step}
-use Rattle.security.specs.Turns.{slotOf, doneBy}
+use Rattle.security.specs.Outcomes.{slotOf, doneBy}
 use Rattle.desk.specs.Promises.{Promised}
 use Rattle.security.proofs.Slot.Laws as U′
 use Rattle.security.proofs.Turn as O
@@ -158,7 +158,7 @@ module _ (P : Plain) where
     kept = (yes, (yes, tt));
   }
 
-  abbrev pub rule-clauses : (Slot → P .D → Turn) → {M : Type 1} (𝓤 : URA M) → Clauses 𝓤 rule-ended
+  abbrev pub rule-clauses : (Slot → P .D → Outcome) → {M : Type 1} (𝓤 : URA M) → Clauses 𝓤 rule-ended
   rule-clauses F 𝓤 κs a =
       record { ghost = Unit {0}; requires = λ _. emp 𝓤; ensures = λ _ o _. fact 𝓤 (o ≡ F (a .0) (a .1 .0)) }
 
@@ -184,7 +184,7 @@ module _ (P : Plain) where
   abbrev stayed : Stays (ended .signature .params) (ended .kept)
   stayed = (gave-slice (0 ∷ []) tt (plain (λ _. R)), (stay-none (λ _. u64) yes, (stay-none (λ _. Q) yes, tt)))
 
-  module _ (L : PlainLaws P) (F : Slot → P .D → Turn) (K : ℕ → P .D → Call)
+  module _ (L : PlainLaws P) (F : Slot → P .D → Outcome) (K : ℕ → P .D → Call)
       (steps : (t : List Record) (id : ℕ) (d : P .D) → doneBy t (F (slotOf t id) d) ≡ step (K id d) t) (#rule : Name)
       {M : Type 1} (𝓤 : URA M) (H : Heap 𝓤) (A : Atoms 𝓤) where
     abbrev pub Rule : Contract 𝓤
@@ -210,7 +210,7 @@ module _ (P : Plain) where
         abbrev slot : Slot
         slot = slotOf ys id
 
-        abbrev turn : Turn
+        abbrev turn : Outcome
         turn = F slot d
 
         exits : Is O.the-row turn (turn-val turn ∷ [])

@@ -50,8 +50,8 @@ use Rattle.paper.specs.Desk.{Call, step}
 use Rattle.paper.proofs.Answer as N
 use Rattle.paper.proofs.Answer.Laws as N′
 use Rattle.security.specs.declared.Slot.{Slot}
-use Rattle.security.specs.declared.Turn.{Turn}
-use Rattle.security.specs.Turns.{slotOf, doneBy}
+use Rattle.security.specs.declared.Outcome.{Outcome}
+use Rattle.security.specs.Outcomes.{slotOf, doneBy}
 use Rattle.security.proofs.Slot.Laws as U′
 use Rattle.security.proofs.Turn as O
 use Rattle.desk.specs.Promises.{Promised}
@@ -131,7 +131,7 @@ module _ (P : Plain) where
     kept = (yes, (yes, (yes, tt)));
   }
 
-  abbrev pub rule-clauses : (Slot → P .D → List ℤ → Turn) → {M : Type 1} (𝓤 : URA M) → Clauses 𝓤 rule-ended
+  abbrev pub rule-clauses : (Slot → P .D → List ℤ → Outcome) → {M : Type 1} (𝓤 : URA M) → Clauses 𝓤 rule-ended
   rule-clauses F 𝓤 κs a =
       record {
         ghost = Unit {0};
@@ -169,7 +169,7 @@ module _ (P : Plain) where
     ),
   )
 
-  module _ (L : PlainLaws P) (F : Slot → P .D → List ℤ → Turn) (K : ℕ → P .D → List ℤ → Call)
+  module _ (L : PlainLaws P) (F : Slot → P .D → List ℤ → Outcome) (K : ℕ → P .D → List ℤ → Call)
       (steps : (t : List Record) (id : ℕ) (d : P .D) (rows : List ℤ) → doneBy t (F (slotOf t id) d rows) ≡ step
       (K id d rows) t) (#rule : Name) {M : Type 1} (𝓤 : URA M) (H : Heap 𝓤) (A : Atoms 𝓤) where
     abbrev pub Rule : Contract 𝓤
@@ -211,7 +211,7 @@ module _ (P : Plain) where
         abbrev slot : Slot
         slot = slotOf ys id
 
-        abbrev turn : Turn
+        abbrev turn : Outcome
         turn = F slot d (rows .now)
 
         -- beside the table: the token of the rows' lifetime, and what `rows` owns
@@ -294,7 +294,7 @@ module _ (P : Plain) where
                   (λ e. use1 W (‵ (flft κ₂ q₂) ⊛ ‵ ftrue) (id⊢ 𝓤 (sep 𝓤 (A .lft κ₂ q₂) (emp 𝓤))) $ split ! $
                   -- [the rows' token; true; the frame; what `rows` owns; t; its token]
                   keep ! (2 ∷ 4 ∷ 5 ∷ 0 ∷ 3 ∷ []) $ turned W (λ z. In (some w) (some z)) turn u
-                  (subst (λ (z : Turn). Is O.the-row z (u ∷ [])) e iu) k))
+                  (subst (λ (z : Outcome). Is O.the-row z (u ∷ [])) e iu) k))
 
               -- put(t, o.at, o.rec);
               put-o : (w : Val) → Is O.the-row turn (turn-val turn ∷ [])

@@ -6,13 +6,13 @@ use paper::AskedDay;
 use paper::Day;
 use paper::Quote;
 use paper::Record;
+use security::Outcome;
 use security::Slot;
-use security::Turn;
 ghost use mathlib.Core.Path.{_≡_};
 ghost use lib.ListN.{set};
 ghost use Rattle.paper.specs.Desk.{Call, step};
 ghost use Rattle.paper.specs.Terms.{dayOf};
-ghost use Rattle.security.specs.Turns.{slotOf, evaluateTurn};
+ghost use Rattle.security.specs.Turns.{slotOf, evaluateOutcome};
 ghost use Rattle.desk.specs.Promises.{Promised};
 
 // "id 0 marks an empty slot"
@@ -66,8 +66,8 @@ pub fn evaluate(t: &mut [Record], id: u64, d: Day, rows: &[i64]) -> Answer
 }
 
 // The rule of an evaluation, on the day that is asked for.
-fn asked(s: Slot, a: AskedDay, rows: &[i64]) -> Turn
-    ensures { λ o. ⌜ o ≡ evaluateTurn s (dayOf a) (now (rows .entry)) ⌝ }
+fn asked(s: Slot, a: AskedDay, rows: &[i64]) -> Outcome
+    ensures { λ o. ⌜ o ≡ evaluateOutcome s (dayOf a) (now (rows .entry)) ⌝ }
 {
     let d = terms::day_of(a);
     security::evaluated(s, d, rows)

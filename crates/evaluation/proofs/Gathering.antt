@@ -61,13 +61,13 @@ module _ (numbers : List ℤ) (at : ℕ) (b : Book) (room : at + rowNumbers ≤ 
   pub gathering-range : InRange (rowOf (rowAt numbers at))
   gathering-range = in-range (rowAt numbers at) (and-left (validRow (rowAt numbers at)) (every validRow (restOf numbers (at + rowNumbers))) both)
 
-  module _ (w : Row) (is : w ≡ rowOf (rowAt numbers at)) where
-    split : every rowFits (rowsLeft numbers at) ≡ (rowFits w && every rowFits (rowsLeft numbers (at + rowNumbers)))
+  module _ (row : Row) (is : row ≡ rowOf (rowAt numbers at)) where
+    split : every rowFits (rowsLeft numbers at) ≡ (rowFits row && every rowFits (rowsLeft numbers (at + rowNumbers)))
     unfolding every
     split = rw is (ap (every rowFits) left)
 
     -- one row more
-    pub gathering-next : rowFits w ≡ true → Gathering numbers (at + rowNumbers) (added b (roublesOf w))
+    pub gathering-next : rowFits row ≡ true → Gathering numbers (at + rowNumbers) (added b (roublesOf row))
     unfolding roublesOf
     gathering-next e =
         record {
@@ -78,11 +78,11 @@ module _ (numbers : List ℤ) (at : ℕ) (b : Book) (room : at + rowNumbers ≤ 
               (sym (joined-next b (roublesOf (rowOf (rowAt numbers at))) (map roublesOf (rowsLeft numbers (at + rowNumbers))))
               ∙ sym (ap (λ (ws : List Row). joined b (map roublesOf ws)) left)
               ∙ g .book);
-          filled = filled-next at b (roublesOf w) (g .filled) (fitting w (rw is gathering-range) e);
+          filled = filled-next at b (roublesOf row) (g .filled) (fitting row (rw is gathering-range) e);
         }
 
     -- a row that does not fit decides
-    pub gathering-beyond : rowFits w ≡ false → Gathers (dayRows numbers) Beyond
+    pub gathering-beyond : rowFits row ≡ false → Gathers (dayRows numbers) Beyond
     unfolding gatheredOf
     gathering-beyond e =
         let no : every rowFits (dayRows numbers) ≡ false = sym (g .fit) ∙ split ∙ ap (λ (t : Bool). t && every rowFits (rowsLeft numbers (at + rowNumbers))) e in

@@ -8,7 +8,7 @@ use lib.Dec.{leb, eqb}
 use borrow.Author.Tests.{leb-true, eqb-true}
 use Rattle.paper.specs.declared.Row.{Row}
 use Rattle.paper.specs.declared.Roubles.{Roubles}
-use Rattle.paper.specs.Numbers.{rouble, year, priceLeast, priceMost, volumeMost}
+use Rattle.paper.specs.Numbers.{rouble, yearInDayBp, priceLeast, priceMost, volumeMost}
 use Rattle.paper.specs.Roundings.{halfUp, grown}
 use Rattle.paper.specs.Ranges.{isPrice}
 use Rattle.paper.specs.Evaluation.{rowPrice, rowWeight, roublesOf, priceFits, rowFits}
@@ -32,18 +32,18 @@ half-scale n d k p q =
 abbrev pub yearDays : ℕ
 yearDays = 365
 
-pub discounted-narrow : (x days : ℕ) → 0 < days → halfUp (x * yearDays) days ≡ halfUp (x * year) (rouble * days)
+pub discounted-narrow : (x days : ℕ) → 0 < days → halfUp (x * yearDays) days ≡ halfUp (x * yearInDayBp) (rouble * days)
 discounted-narrow x days p =
-    let times : x * yearDays * rouble ≡ x * year = omega arith in
+    let times : x * yearDays * rouble ≡ x * yearInDayBp = omega arith in
     let turned : days * rouble ≡ rouble * days = omega arith in
     half-scale (x * yearDays) days rouble p (omega arith) ∙ (λ i. halfUp (times i) (turned i))
 
 -- a missing price stays missing
-pub none-stays : (w : Row) → InRange w → 0 ≡ rowPrice w 0
+pub none-stays : (row : Row) → InRange row → 0 ≡ rowPrice row 0
 unfolding rowPrice
-none-stays w r =
-    let low = grown-range year (w .t) (w .repo) (r .t) (r .repo) .1 in
-    let none : rowPrice w 0 ≤ 0 = half-le (0 * w .central * year) (rouble * grown year (w .t) (w .repo)) 0 (omega arith) (omega arith) in
+none-stays row r =
+    let low = grown-range yearInDayBp (row .t) (row .repo) (r .t) (r .repo) .1 in
+    let none : rowPrice row 0 ≤ 0 = half-le (0 * row .central * yearInDayBp) (rouble * grown yearInDayBp (row .t) (row .repo)) 0 (omega arith) (omega arith) in
     omega arith
 
 -- ---- what a row whose figures fit keeps to
@@ -54,20 +54,20 @@ pub record Fitting (r : Roubles) : Type 0 where
   pub bid : r .bid ≤ priceMost
   pub ask : r .ask ≤ priceMost
 
-price-le : (w : Row) → InRange w → (price : ℕ) → priceFits price (rowPrice w price) ≡ true → rowPrice w price ≤ priceMost
+price-le : (row : Row) → InRange row → (price : ℕ) → priceFits price (rowPrice row price) ≡ true → rowPrice row price ≤ priceMost
 unfolding isPrice
-price-le w r price e = step (eqb price 0) refl e
+price-le row r price e = step (eqb price 0) refl e
   where
-    step : (t : Bool) → eqb price 0 ≡ t → (t || isPrice (rowPrice w price)) ≡ true → rowPrice w price ≤ priceMost
-    step true q p = rw (eqb-true price 0 q) (omega (arith, none-stays w r))
-    step false q p = leb-true (rowPrice w price) priceMost (and-right (leb priceLeast (rowPrice w price)) (leb (rowPrice w price) priceMost) p)
+    step : (t : Bool) → eqb price 0 ≡ t → (t || isPrice (rowPrice row price)) ≡ true → rowPrice row price ≤ priceMost
+    step true q p = rw (eqb-true price 0 q) (omega (arith, none-stays row r))
+    step false q p = leb-true (rowPrice row price) priceMost (and-right (leb priceLeast (rowPrice row price)) (leb (rowPrice row price) priceMost) p)
 
-pub fitting : (w : Row) → InRange w → rowFits w ≡ true → Fitting (roublesOf w)
+pub fitting : (row : Row) → InRange row → rowFits row ≡ true → Fitting (roublesOf row)
 unfolding rowFits roublesOf
-fitting w r e =
+fitting row r e =
     record {
-      weight = leb-true (rowWeight w) volumeMost (search (e, and-left, and-right) depth 40);
-      close = price-le w r (w .close) (search (e, and-left, and-right) depth 40);
-      bid = price-le w r (w .bid) (search (e, and-left, and-right) depth 40);
-      ask = price-le w r (w .ask) (search (e, and-left, and-right) depth 40);
+      weight = leb-true (rowWeight row) volumeMost (search (e, and-left, and-right) depth 40);
+      close = price-le row r (row .close) (search (e, and-left, and-right) depth 40);
+      bid = price-le row r (row .bid) (search (e, and-left, and-right) depth 40);
+      ask = price-le row r (row .ask) (search (e, and-left, and-right) depth 40);
     }

@@ -3,7 +3,7 @@ use mathlib.Core.List.{List}
 use Prim.Native.Nat.{ℕ, _+_, _-_, _*_, _≤_}
 use Rattle.paper.specs.declared.Row.{Row}
 use Rattle.paper.specs.Lists.{pick}
-use Rattle.paper.specs.Numbers.{year, priceMost, centralMost}
+use Rattle.paper.specs.Numbers.{yearInDayBp, priceMost, centralMost}
 use Rattle.paper.specs.Ranges.{isPrice}
 use Rattle.paper.specs.Evaluation.{evaluationOf, evaluationFits}
 use Rattle.exact.specs.SignedLaws.{growthMost}
@@ -22,5 +22,5 @@ evaluationFrom units = pick (isPrice units) (Evaluated (record { units = units }
 -- the ranges of a price times its central rate, and of a year's days with the repo rate of T of them
 pub record Discounts (x days : ℕ) : Type 0 where
   pub product : x ≤ priceMost * centralMost
-  pub low : year - growthMost ≤ days
-  pub high : days ≤ year + growthMost
+  pub low : yearInDayBp - growthMost ≤ days
+  pub high : days ≤ yearInDayBp + growthMost

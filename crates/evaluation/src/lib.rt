@@ -4,7 +4,7 @@
 ghost use mathlib.Core.Path.{_≡_};
 ghost use mathlib.Core.Bool.{true};
 ghost use Prim.Native.Nat.{_*_, _≤_};
-ghost use Rattle.paper.specs.Numbers.{hundred, rouble, year, priceMost};
+ghost use Rattle.paper.specs.Numbers.{oneInHundredths, rouble, yearInDayBp, priceMost};
 ghost use Rattle.paper.specs.Roundings.{halfUp, toGrid};
 ghost use Rattle.paper.specs.Ranges.{validRows};
 ghost use Rattle.paper.specs.Evaluation.{rowPrice, roublesOf, lesserAsk, median, between, dayRows, rowFits};
@@ -16,10 +16,10 @@ use paper::MadePrice;
 use paper::Price;
 use paper::Roubles;
 use paper::Row;
-use paper::YEAR;
+use paper::YEAR_IN_DAY_BP;
 
 // The days of a year: 3,650,000/10^4 of place (a).
-const YEAR_DAYS: u64 = YEAR / Row::ROUBLE;
+const YEAR_DAYS: u64 = YEAR_IN_DAY_BP / Row::ROUBLE;
 // The greatest number of which 365 times fits 64 bits.
 const NARROW_MOST: u64 = u64::MAX / YEAR_DAYS;
 
@@ -46,48 +46,51 @@ pub enum Evaluation {
 // x·3,650,000/(10^4·days), rounded once: a price times its central rate, discounted. It is x·365/days, and nearly always that fits 64 bits.
 fn discounted(x: u64, days: u64) -> u64
     requires { ⌜ Discounts x days ⌝ }
-    ensures { λ r. ⌜ r ≡ halfUp (x * year) (rouble * days) ⌝ }
+    ensures { λ r. ⌜ r ≡ halfUp (x * yearInDayBp) (rouble * days) ⌝ }
 {
     if x <= NARROW_MOST {
         exact::half_up(x * YEAR_DAYS, days)
     } else {
-        exact::half_up_wide(x, YEAR, Row::ROUBLE * days)
+        exact::half_up_wide(x, YEAR_IN_DAY_BP, Row::ROUBLE * days)
     }
 }
 
 // A price of a row in roubles today: place (a). A missing price, 0, stays missing.
-fn row_price(w: Row, price: u64) -> u64
-    requires { ⌜ InRange w ⌝ }
+fn row_price(row: Row, price: u64) -> u64
+    requires { ⌜ InRange row ⌝ }
     requires { ⌜ price ≤ priceMost ⌝ }
-    ensures { λ r. ⌜ r ≡ rowPrice w price ⌝ }
+    ensures { λ r. ⌜ r ≡ rowPrice row price ⌝ }
 {
     if price == 0 {
         return 0;
     }
-    discounted(price * w.central, exact::grow(YEAR, w.t, w.repo))
+    discounted(
+        price * row.central,
+        exact::grow(YEAR_IN_DAY_BP, row.t, row.repo),
+    )
 }
 
 // A row after places (a) and (b).
-fn in_roubles(w: Row) -> Roubles
-    requires { ⌜ InRange w ⌝ }
-    ensures { λ r. ⌜ r ≡ roublesOf w ⌝ }
+fn in_roubles(row: Row) -> Roubles
+    requires { ⌜ InRange row ⌝ }
+    ensures { λ r. ⌜ r ≡ roublesOf row ⌝ }
 {
     Roubles {
-        weight: exact::half_up(w.volume * w.central, Row::ROUBLE),
-        close: row_price(w, w.close),
-        bid: row_price(w, w.bid),
-        ask: row_price(w, w.ask),
+        weight: exact::half_up(row.volume * row.central, Row::ROUBLE),
+        close: row_price(row, row.close),
+        bid: row_price(row, row.bid),
+        ask: row_price(row, row.ask),
     }
 }
 
 // Whether no rounded figure of a row is refused 7.
-fn row_fits(w: Row, r: Roubles) -> bool
-    requires { ⌜ r ≡ roublesOf w ⌝ }
-    ensures { λ b. ⌜ b ≡ rowFits w ⌝ }
+fn row_fits(row: Row, r: Roubles) -> bool
+    requires { ⌜ r ≡ roublesOf row ⌝ }
+    ensures { λ b. ⌜ b ≡ rowFits row ⌝ }
 {
-    ((w.close == 0) | is_price(r.close))
-        & ((w.bid == 0) | is_price(r.bid))
-        & ((w.ask == 0) | is_price(r.ask))
+    ((row.close == 0) | is_price(r.close))
+        & ((row.bid == 0) | is_price(r.bid))
+        & ((row.ask == 0) | is_price(r.ask))
         & (r.weight <= Row::VOLUME_MOST)
 }
 
@@ -130,9 +133,9 @@ fn gather(rows: &[i64]) -> Gathered
     };
     let mut at = 0;
     while at < rows.len() {
-        let w = rows::row_at(rows, at);
-        let r = in_roubles(w);
-        if !row_fits(w, r) {
+        let row = rows::row_at(rows, at);
+        let r = in_roubles(row);
+        if !row_fits(row, r) {
             return Gathered::Beyond;
         }
         book = add(book, r);
@@ -179,7 +182,7 @@ fn between(bid: u64, close: u64, ask: u64) -> u64
 
 // The evaluation on the grid, place (d), unless it is beyond its range.
 fn on_grid(g: u64, p: u64) -> Evaluation
-    requires { ⌜ (1 ≤ g) × (g ≤ hundred) × (p ≤ priceMost) ⌝ }
+    requires { ⌜ (1 ≤ g) × (g ≤ oneInHundredths) × (p ≤ priceMost) ⌝ }
     ensures { λ r. ⌜ r ≡ evaluationFrom (toGrid g p 1) ⌝ }
 {
     let made = Price::new(exact::to_grid(g, p, 1));
@@ -192,7 +195,7 @@ fn on_grid(g: u64, p: u64) -> Evaluation
 // The evaluation of rows that are in range.
 pub fn evaluate(rows: &[i64], previous: Price, g: u64) -> Evaluation
     requires { ⌜ validRows (now rows) ≡ true ⌝ }
-    requires { ⌜ (previous .units ≤ priceMost) × (1 ≤ g) × (g ≤ hundred) ⌝ }
+    requires { ⌜ (previous .units ≤ priceMost) × (1 ≤ g) × (g ≤ oneInHundredths) ⌝ }
     ensures { λ r. ⌜ r ≡ evaluationMade g (previous .units) (dayRows (now (rows .entry))) ⌝ }
 {
     let gathered = gather(rows);

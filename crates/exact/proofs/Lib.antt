@@ -1,4 +1,4 @@
 pub mod Quotients
 pub mod Long
-pub mod Turn
+pub mod RootTurn
 pub mod Sign

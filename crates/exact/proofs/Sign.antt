@@ -12,7 +12,7 @@ use mir.Syntax.{w64}
 use mir.Val.{Fits, SFits}
 use Rattle.paper.specs.Numbers.{pastEvery}
 use Rattle.paper.specs.Roundings.{grown}
-use Rattle.paper.specs.Ranges.{natural}
+use Rattle.paper.specs.Ranges.{unsigned}
 
 -- no natural number is below 0
 none : (n : ℕ) → ltZ (pos n) (pos 0) ≡ true → ⊥
@@ -42,13 +42,13 @@ size-above (negsuc n) f e = absurd (some n e)
 
 -- ---- the definitions by the test
 
-pub natural-below : (x : ℤ) → ltZ x (pos 0) ≡ true → natural x ≡ pastEvery
-unfolding natural
+pub natural-below : (x : ℤ) → ltZ x (pos 0) ≡ true → unsigned x ≡ pastEvery
+unfolding unsigned
 natural-below (pos n) e = absurd (none n e)
 natural-below (negsuc n) e = refl
 
-pub natural-above : (x : ℤ) → ltZ x (pos 0) ≡ false → natural x ≡ mag x
-unfolding natural
+pub natural-above : (x : ℤ) → ltZ x (pos 0) ≡ false → unsigned x ≡ mag x
+unfolding unsigned
 natural-above (pos n) e = refl
 natural-above (negsuc n) e = absurd (some n e)
 

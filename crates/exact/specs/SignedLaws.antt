@@ -9,8 +9,8 @@ use lib.Dec.{leb}
 use lib.IntN.{ℤ, pos, negsuc}
 use lib.Signed.{mag, leZ}
 use borrow.Author.Tests.{leb-true, le-leb}
-use Rattle.paper.specs.Numbers.{whole, termDaysMost, repoLeast, repoMost, pastEvery}
-use Rattle.paper.specs.Ranges.{withinZ, natural}
+use Rattle.paper.specs.Numbers.{oneInBp, termDaysMost, repoLeast, repoMost, pastEvery}
+use Rattle.paper.specs.Ranges.{withinZ, unsigned}
 use Rattle.paper.specs.Roundings.{grown}
 use Rattle.paper.proofs.Logic.{clash, and-left, and-right}
 use Rattle.paper.proofs.Units.{natural-within}
@@ -39,14 +39,14 @@ pub repo-le : (x : ℤ) → withinZ repoLeast repoMost x ≡ true → mag x ≤ 
 repo-le x e = repo-size x (and-left (leZ repoLeast x) (leZ x repoMost) e) (and-right (leZ repoLeast x) (leZ x repoMost) e)
 
 -- a number of a range that begins at 0 or above is at most the range's end
-pub natural-le : (low most : ℕ) (x : ℤ) → most < pastEvery → withinZ (pos low) (pos most) x ≡ true → natural x ≤ most
-natural-le low most x h e = leb-true (natural x) most (and-right (leb low (natural x)) (leb (natural x) most) (natural-within low most x h ∙ e))
+pub unsigned-le : (low most : ℕ) (x : ℤ) → most < pastEvery → withinZ (pos low) (pos most) x ≡ true → unsigned x ≤ most
+unsigned-le low most x h e = leb-true (unsigned x) most (and-right (leb low (unsigned x)) (leb (unsigned x) most) (natural-within low most x h ∙ e))
 
 -- ---- base + k·rate
 
 -- a term's days at less than the whole each: 300,000
 abbrev pub growthMost : ℕ
-growthMost = termDaysMost * whole
+growthMost = termDaysMost * oneInBp
 
 -- base + k·rate stays above 0 and fits 64 bits
 pub record Grows (base k : ℕ) (rate : ℤ) : Type 0 where
@@ -61,5 +61,5 @@ pub grown-range : (base k : ℕ) (x : ℤ) → k ≤ termDaysMost → mag x ≤ 
 unfolding grown
 grown-range base k (pos n) hk h = omega (arith, mul-le-mul hk h)
 grown-range base k (negsuc n) hk h =
-    let more : suc n ≤ whole = omega arith in
+    let more : suc n ≤ oneInBp = omega arith in
     omega (arith, mul-le-mul hk more)

@@ -5,10 +5,10 @@ ghost use Prim.Native.Nat.{_+_, _*_, _/_, _%_, _^_, _≤_, _<_, min, max};
 ghost use lib.IntN.{pos};
 ghost use lib.ListN.{length, getD};
 ghost use lib.Signed.{mag};
-ghost use Rattle.paper.specs.Numbers.{whole};
+ghost use Rattle.paper.specs.Numbers.{oneInTenThousandths};
 ghost use Rattle.paper.specs.Roundings.{up, halfUp, toGrid, grown, apart};
 ghost use Rattle.paper.specs.Least.{leastRoot};
-ghost use Rattle.paper.specs.Ranges.{withinZ, natural};
+ghost use Rattle.paper.specs.Ranges.{withinZ, unsigned};
 ghost use Rattle.exact.specs.Wide.{Divides, LimitRange};
 ghost use Rattle.exact.specs.SignedLaws.{Grows};
 
@@ -101,25 +101,25 @@ fn shl(x: u64, k: u64) -> u64
     x << k
 }
 
-// The least x with w·x² >= n (7.1). The bits of the greatest x with w·x² < n are found from the top, in at most 20 turns without a product:
-// x is what is found so far, wx and sq are w·x and w·x².
-pub fn least_root(w: u64, n: u64) -> u64
-    requires { ⌜ (0 < w) × (w ≤ whole) × (n ≤ w * 2 ^ 40) ⌝ }
-    ensures { λ r. ⌜ r ≡ leastRoot w n ⌝ }
+// The least x with factor·x² >= n (7.1). The bits of the greatest x with factor·x² < n are found from the top, in at most 20 turns without a product:
+// x is what is found so far, factor_x and sq are factor·x and factor·x².
+pub fn least_root(factor: u64, n: u64) -> u64
+    requires { ⌜ (0 < factor) × (factor ≤ oneInTenThousandths) × (n ≤ factor * 2 ^ 40) ⌝ }
+    ensures { λ r. ⌜ r ≡ leastRoot factor n ⌝ }
 {
     if n == 0 {
         return 0;
     }
     let mut x: u64 = 0;
-    let mut wx: u64 = 0;
+    let mut factor_x: u64 = 0;
     let mut sq: u64 = 0;
     let mut k: u64 = ROOT_BITS;
     while 0 < k {
         k -= 1;
-        let next = sq + shl(wx, k + 1) + shl(w, k + k);
+        let next = sq + shl(factor_x, k + 1) + shl(factor, k + k);
         if next < n {
             sq = next;
-            wx += shl(w, k);
+            factor_x += shl(factor, k);
             x += shl(1, k);
         }
     }
@@ -139,17 +139,17 @@ pub fn is_within(low: i64, high: i64, x: i64) -> bool
 }
 
 // n where x is n or -(n + 1). Every other function leaves the sign to this one.
-pub fn size(x: i64) -> u64
+pub fn magnitude(x: i64) -> u64
     ensures { λ r. ⌜ r ≡ mag x ⌝ }
 {
     if x < 0 { (-1 - x) as u64 } else { x as u64 }
 }
 
 // A number of a range that begins at 0 or above; one below zero is out of every such range.
-pub fn natural(x: i64) -> u64
-    ensures { λ r. ⌜ r ≡ natural x ⌝ }
+pub fn unsigned(x: i64) -> u64
+    ensures { λ r. ⌜ r ≡ unsigned x ⌝ }
 {
-    if x < 0 { PAST_EVERY } else { size(x) }
+    if x < 0 { PAST_EVERY } else { magnitude(x) }
 }
 
 // base + k·rate for a rate of either sign: a year's days with the repo rate of k of them, at places (a) and (g).
@@ -157,7 +157,7 @@ pub fn grow(base: u64, k: u64, rate: i64) -> u64
     requires { ⌜ Grows base k rate ⌝ }
     ensures { λ r. ⌜ r ≡ grown base k rate ⌝ }
 {
-    let n = size(rate);
+    let n = magnitude(rate);
     if rate < 0 {
         base - k * (n + 1)
     } else {
@@ -168,11 +168,11 @@ pub fn grow(base: u64, k: u64, rate: i64) -> u64
 // ---- a number of a lent slice
 
 // The number at i; one below zero is read as a number that no range holds.
-pub fn natural_at(numbers: &[i64], i: usize) -> u64
+pub fn unsigned_at(numbers: &[i64], i: usize) -> u64
     requires { ⌜ i < length (now numbers) ⌝ }
-    ensures { λ r. ⌜ r ≡ natural (getD (now (numbers .entry)) i (pos 0)) ⌝ }
+    ensures { λ r. ⌜ r ≡ unsigned (getD (now (numbers .entry)) i (pos 0)) ⌝ }
 {
-    natural(numbers[i])
+    unsigned(numbers[i])
 }
 
 // Whether the number at i is from low to high.

@@ -5,7 +5,7 @@ use native.Mathlib.Nat.{mul-le-mul, mul-le-mul-left, mul-le-mul-right, mul-pos}
 use native.Mathlib.Omega.{arith}
 use lib.IntN.{ℤ, pos, subℕ, _+ℤ_, _-ℤ_, _*ℤ_}
 use Rattle.paper.specs.declared.Interest.{Interest}
-use Rattle.paper.specs.Numbers.{hundred, maturityMost, divisorMost}
+use Rattle.paper.specs.Numbers.{oneInHundredths, maturityMost, divisorMost}
 use Rattle.paper.specs.Roundings.{halfUp}
 use Rattle.paper.specs.Interest.{limitFrom}
 use Rattle.paper.proofs.Roundings.{half-le}
@@ -57,7 +57,7 @@ half-within n d h = half-le n d n h (omega (arith, mul-le-mul-left n h))
 -- the summands fit, and no margin is above x_IR·forward
 pub record Sums (i : Interest) (r : ℕ) : Type 0 where
   pub product : i .xir * r ≤ divisorMost * ((base + figureMost) * maturityMost)
-  pub margin : marginOf i figureMost ≤ hundred * maturityMost * figureMost
+  pub margin : marginOf i figureMost ≤ oneInHundredths * maturityMost * figureMost
   pub less : marginOf i figureMost ≤ i .xir * r
 
 pub sums : (i : Interest) (m n : Point) (r : ℕ) → PairRange i → Risen i m n r → Sums i r

@@ -5,9 +5,9 @@ use Prim.Native.Nat.{ℕ, _+_, _-_, _*_, _≤_, _<_}
 use lib.IntN.{ℤ, pos, subℕ, _+ℤ_, _-ℤ_, _*ℤ_}
 use Rattle.paper.specs.declared.Interest.{Interest}
 use Rattle.paper.specs.declared.Maturity.{Maturity}
-use Rattle.paper.specs.declared.Repo.{Repo}
+use Rattle.paper.specs.declared.RepoLimits.{RepoLimits}
 use Rattle.paper.specs.Lists.{pick}
-use Rattle.paper.specs.Numbers.{hundred, maturityMost}
+use Rattle.paper.specs.Numbers.{oneInHundredths, maturityMost}
 use Rattle.paper.specs.Interest.{figureAt, forward, margin, limitFrom, upward, downward, upperWorked, lowerWorked, lesserZ, greaterZ, isHeld, upperLimit, lowerLimit}
 use Rattle.paper.proofs.InterestRanges.{InterestRange}
 use Rattle.forward.specs.declared.Point.{Point}
@@ -28,14 +28,14 @@ forwardOf i rm rn = (pos (i .yn) *ℤ rn) -ℤ (pos (i .ym) *ℤ rm)
 
 -- the upper limit before it is held, h the upward estimate at Yn
 unfoldable pub upperOf : Interest → (rm rn h : ℤ) → ℤ
-upperOf i rm rn h = limitFrom i ((pos (i .xir) *ℤ forwardOf i rm rn) +ℤ (pos (hundred * (i .yn - i .ym)) *ℤ h))
+upperOf i rm rn h = limitFrom i ((pos (i .xir) *ℤ forwardOf i rm rn) +ℤ (pos (oneInHundredths * (i .yn - i .ym)) *ℤ h))
 
 -- the lower limit before it is held, l the downward estimate at Yn
 unfoldable pub lowerOf : Interest → (rm rn l : ℤ) → ℤ
-lowerOf i rm rn l = limitFrom i ((pos (i .xir) *ℤ forwardOf i rm rn) -ℤ (pos (hundred * (i .yn - i .ym)) *ℤ l))
+lowerOf i rm rn l = limitFrom i ((pos (i .xir) *ℤ forwardOf i rm rn) -ℤ (pos (oneInHundredths * (i .yn - i .ym)) *ℤ l))
 
 -- the band, held where the pair is 0/1
-unfoldable pub bandHeld : Interest → (rm rn l h : ℤ) → Repo
+unfoldable pub bandHeld : Interest → (rm rn l h : ℤ) → RepoLimits
 bandHeld i rm rn l h =
     record {
       low = pick (isHeld i) (greaterZ (lowerOf i rm rn l) (i .secrate)) (lowerOf i rm rn l);
@@ -54,7 +54,7 @@ band-is i ks = refl
 
 -- 100·(Yn - Ym)·Δ
 abbrev pub marginOf : Interest → ℕ → ℕ
-marginOf i estimate = hundred * (i .yn - i .ym) * estimate
+marginOf i estimate = oneInHundredths * (i .yn - i .ym) * estimate
 
 -- a margin is at most that of the greatest figure
 pub record Margin (i : Interest) (estimate r : ℕ) : Type 0 where

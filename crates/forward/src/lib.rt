@@ -6,9 +6,9 @@ ghost use lib.IntN.{pos, subℕ};
 ghost use Rattle.paper.specs.Interest.{isHeld, limitFrom, lesserZ, greaterZ};
 ghost use Rattle.forward.specs.Points.{figureMost, PointRange, rateOf, Line, linear, pointBetween};
 ghost use Rattle.forward.specs.Pair.{PairRange, base, Margin, Risen, upperOf, lowerOf, bandHeld};
-use paper::HUNDRED;
 use paper::Interest;
-use paper::Repo;
+use paper::ONE_IN_HUNDREDTHS;
+use paper::RepoLimits;
 use repo::LIFT;
 
 // ---- between the key maturities (14.6)
@@ -65,7 +65,7 @@ fn margin(i: Interest, estimate: u64) -> u64
     requires { ⌜ estimate ≤ figureMost ⌝ }
     ensures { λ r. ⌜ Margin i estimate r ⌝ }
 {
-    HUNDRED * (i.yn - i.ym) * estimate
+    ONE_IN_HUNDREDTHS * (i.yn - i.ym) * estimate
 }
 
 // n - from, of either sign.
@@ -123,7 +123,7 @@ fn is_held(i: Interest) -> bool
 }
 
 // The repo band of the pair, from the figures at Ym and at Yn.
-pub fn band_of(i: Interest, m: Point, n: Point) -> Repo
+pub fn band_of(i: Interest, m: Point, n: Point) -> RepoLimits
     requires { ⌜ PairRange i ⌝ }
     requires { ⌜ PointRange m ⌝ }
     requires { ⌜ PointRange n ⌝ }
@@ -132,11 +132,11 @@ pub fn band_of(i: Interest, m: Point, n: Point) -> Repo
     let low = lower_worked(i, m, n);
     let high = upper_worked(i, m, n);
     if is_held(i) {
-        Repo {
+        RepoLimits {
             low: greater(low, i.secrate),
             high: lesser(high, i.money),
         }
     } else {
-        Repo { low, high }
+        RepoLimits { low, high }
     }
 }

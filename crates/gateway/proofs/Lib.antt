@@ -1,3 +1,3 @@
 pub mod InHand
-pub mod Handed
+pub mod GatewayStatics
 pub mod Answers

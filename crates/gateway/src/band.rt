@@ -8,7 +8,7 @@ use crate::answer::figure;
 use crate::answer::refusal;
 use crate::priced::Priced;
 use crate::priced::price_and_rate;
-use paper::Given;
+use paper::GivenStatics;
 use paper::Price;
 use paper::Record;
 use paper::Statics;
@@ -28,7 +28,7 @@ fn band_in_range(st: Statics, p: Price, k: u64, repo: i64, c: u64, side: u64) ->
 }
 
 // A static out of range is looked at before all else.
-pub fn band_answer(g: Given, p: u64, s1: u64, k: u64, repo: i64, c: u64, side: u64) -> i64
+pub fn band_answer(g: GivenStatics, p: u64, s1: u64, k: u64, repo: i64, c: u64, side: u64) -> i64
     ensures { λ r. ⌜ r ≡ bandCall g p s1 k repo c side ⌝ }
 {
     if inputs::valid_given(g) {

@@ -1,7 +1,7 @@
 // The statics as the gateway's caller hands them over.
 ghost use mathlib.Core.Path.{_≡_};
 ghost use Rattle.paper.specs.Gateway.{givenOf};
-use paper::Given;
+use paper::GivenStatics;
 
 // 22 signed numbers in the order of document 01's table. One below zero becomes a number that no range holds, and so is refused as it is there.
 pub fn given_of(
@@ -27,31 +27,31 @@ pub fn given_of(
     u: i64,
     monitoring: i64,
     ewma: i64,
-) -> Given
+) -> GivenStatics
     ensures { λ r. ⌜ r ≡ givenOf (record { lot = lot; h = h; q = q; aup = aup; adown = adown; wait = wait; rh1 = rh1; rh2 = rh2; rh3 = rh3; liq = liq; min1 = min1; min2 = min2; min3 = min3; smax = smax; xpr = xpr; shift = shift; pchmax = pchmax; pclmax = pclmax; w = w; u = u; monitoring = monitoring; ewma = ewma }) ⌝ }
 {
-    Given {
-        lot: exact::natural(lot),
-        h: exact::natural(h),
-        q: exact::natural(q),
-        aup: exact::natural(aup),
-        adown: exact::natural(adown),
-        wait: exact::natural(wait),
-        rh1: exact::natural(rh1),
-        rh2: exact::natural(rh2),
-        rh3: exact::natural(rh3),
-        liq: exact::natural(liq),
-        min1: exact::natural(min1),
-        min2: exact::natural(min2),
-        min3: exact::natural(min3),
-        smax: exact::natural(smax),
-        xpr: exact::natural(xpr),
-        shift: exact::natural(shift),
-        pchmax: exact::natural(pchmax),
-        pclmax: exact::natural(pclmax),
-        w: exact::natural(w),
-        u: exact::natural(u),
-        monitoring: exact::natural(monitoring),
-        ewma: exact::natural(ewma),
+    GivenStatics {
+        lot: exact::unsigned(lot),
+        h: exact::unsigned(h),
+        q: exact::unsigned(q),
+        aup: exact::unsigned(aup),
+        adown: exact::unsigned(adown),
+        wait: exact::unsigned(wait),
+        rh1: exact::unsigned(rh1),
+        rh2: exact::unsigned(rh2),
+        rh3: exact::unsigned(rh3),
+        liq: exact::unsigned(liq),
+        min1: exact::unsigned(min1),
+        min2: exact::unsigned(min2),
+        min3: exact::unsigned(min3),
+        smax: exact::unsigned(smax),
+        xpr: exact::unsigned(xpr),
+        shift: exact::unsigned(shift),
+        pchmax: exact::unsigned(pchmax),
+        pclmax: exact::unsigned(pclmax),
+        w: exact::unsigned(w),
+        u: exact::unsigned(u),
+        monitoring: exact::unsigned(monitoring),
+        ewma: exact::unsigned(ewma),
     }
 }

@@ -8,7 +8,7 @@ ghost use Rattle.paper.specs.Gateway.{levelInRange, levelFigure, levelCall};
 use crate::answer::figure;
 use crate::answer::refusal;
 use paper::Day;
-use paper::Given;
+use paper::GivenStatics;
 use paper::Rate;
 use paper::Statics;
 use paper::Verdict;
@@ -40,7 +40,7 @@ fn level_figure(st: Statics, tentative: u64, m: u64, level: u64) -> Rate
 }
 
 // A static out of range is looked at before all else.
-pub fn level_answer(g: Given, tentative: u64, m: u64, level: u64) -> i64
+pub fn level_answer(g: GivenStatics, tentative: u64, m: u64, level: u64) -> i64
     ensures { λ r. ⌜ r ≡ levelCall g tentative m level ⌝ }
 {
     if inputs::valid_given(g) {

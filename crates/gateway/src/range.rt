@@ -8,7 +8,7 @@ use crate::answer::figure;
 use crate::answer::refusal;
 use crate::priced::Priced;
 use crate::priced::price_and_rate;
-use paper::Given;
+use paper::GivenStatics;
 use paper::Price;
 use paper::Statics;
 use paper::Verdict;
@@ -22,7 +22,7 @@ fn range_in_range(st: Statics, p: Price, side: u64) -> bool
 }
 
 // A static out of range is looked at before all else.
-pub fn range_answer(g: Given, p: u64, rate: u64, side: u64) -> i64
+pub fn range_answer(g: GivenStatics, p: u64, rate: u64, side: u64) -> i64
     ensures { λ r. ⌜ r ≡ rangeCall g p rate side ⌝ }
 {
     if inputs::valid_given(g) {

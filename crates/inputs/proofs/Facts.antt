@@ -10,7 +10,7 @@ use lib.IntN.{ℤ, pos, negsuc, natAbs}
 use lib.Signed.{leZ, mag}
 use borrow.Author.Tests.{leb-true, eqb-true}
 use Rattle.paper.specs.declared.Statics.{Statics}
-use Rattle.paper.specs.declared.Given.{Given}
+use Rattle.paper.specs.declared.GivenStatics.{GivenStatics}
 use Rattle.paper.specs.declared.Term.{Term}
 use Rattle.paper.specs.declared.Admission.{Admission}
 use Rattle.paper.specs.declared.Day.{Day}
@@ -134,7 +134,7 @@ statics-facts st v =
 pub statics-step : (st : Statics) → validStatics st ≡ true → 0 < st .h
 statics-step st v = statics-facts st v .h .least
 
-pub given-statics : (g : Given) → validGiven g ≡ true → validStatics (staticsOf g) ≡ true
+pub given-statics : (g : GivenStatics) → validGiven g ≡ true → validStatics (staticsOf g) ≡ true
 unfolding validGiven
 given-statics g v = and-left _ _ (and-left _ _ v)
 

@@ -8,13 +8,13 @@ use paper::Rate;
 pub fn is_price(p: u64) -> bool
     ensures { λ r. ⌜ r ≡ isPrice p ⌝ }
 {
-    (Price::LEAST <= p) & (p <= Price::MOST)
+    (Price::LEAST_UNITS <= p) & (p <= Price::MOST_UNITS)
 }
 
 pub fn is_rate(bp: u64) -> bool
     ensures { λ r. ⌜ r ≡ isRate bp ⌝ }
 {
-    bp <= Rate::MOST
+    bp <= Rate::MOST_BP
 }
 
 // "g = 100 units for lot 1, 10 for 2..10, 1 for 11..100". It is above 0 whatever the lot, so a damaged record is judged on some grid.

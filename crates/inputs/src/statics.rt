@@ -3,7 +3,7 @@ ghost use mathlib.Core.Path.{_≡_};
 ghost use Prim.Native.Nat.{_<_};
 ghost use Rattle.paper.specs.Ranges.{validStatics, staticsOf, validGiven, validTentative};
 ghost use Rattle.inputs.specs.Parts.{orderedStatics, multiplesOfStep};
-use paper::Given;
+use paper::GivenStatics;
 use paper::Rate;
 use paper::Statics;
 
@@ -25,7 +25,7 @@ fn ordered_statics(st: Statics) -> bool
         & (st.min1 <= st.min2)
         & (st.min2 <= st.min3)
         & (st.min3 <= st.smax)
-        & (st.smax <= Rate::MOST)
+        & (st.smax <= Rate::MOST_BP)
 }
 
 // "multiples of h": the minima and S_max.
@@ -43,8 +43,8 @@ pub fn valid_statics(st: Statics) -> bool
         return multiples_of_step(st)
             & ((Statics::DIVISOR_LEAST <= st.xpr) & (st.xpr <= Statics::DIVISOR_MOST))
             & ((1 <= st.shift) & (st.shift <= Statics::SHIFT_MOST))
-            & (st.pchmax <= Rate::MOST)
-            & (st.pclmax <= Rate::MOST)
+            & (st.pchmax <= Rate::MOST_BP)
+            & (st.pclmax <= Rate::MOST_BP)
             & (st.w <= Statics::NEARNESS_MOST)
             & ((1 <= st.u) & (st.u <= Statics::SECONDS_MOST));
     }
@@ -52,7 +52,7 @@ pub fn valid_statics(st: Statics) -> bool
 }
 
 // "yes 1, no 0"
-pub fn statics_of(g: Given) -> Statics
+pub fn statics_of(g: GivenStatics) -> Statics
     ensures { λ r. ⌜ r ≡ staticsOf g ⌝ }
 {
     Statics {
@@ -82,7 +82,7 @@ pub fn statics_of(g: Given) -> Statics
 }
 
 // A flag that is neither 0 nor 1 is out of range.
-pub fn valid_given(g: Given) -> bool
+pub fn valid_given(g: GivenStatics) -> bool
     ensures { λ r. ⌜ r ≡ validGiven g ⌝ }
 {
     valid_statics(statics_of(g)) & (g.monitoring <= 1) & (g.ewma <= 1)

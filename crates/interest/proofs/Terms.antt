@@ -10,7 +10,7 @@ use lib.ListN.{length}
 use borrow.Author.Tests.{eq-eqb, ne-eqb}
 use Rattle.paper.specs.declared.Interest.{Interest}
 use Rattle.paper.specs.declared.Maturity.{Maturity}
-use Rattle.paper.specs.declared.Repo.{Repo}
+use Rattle.paper.specs.declared.RepoLimits.{RepoLimits}
 use Rattle.paper.specs.Numbers.{keyNumbers}
 use Rattle.paper.specs.Interest.{keyAt, validKeys, maturitiesOf, upward, downward, maturityFigures, figureAt, interpolated, upperLimit, lowerLimit}
 use Rattle.paper.proofs.Logic.{pick-true, pick-false}

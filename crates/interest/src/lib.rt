@@ -23,7 +23,7 @@ use paper::Statics;
 use paper::Tentative;
 use paper::Term;
 use paper::Verdict;
-use paper::Worked;
+use paper::WorkedBand;
 
 // ---- what is refused
 
@@ -74,7 +74,7 @@ pub fn refused(verdict: Verdict) -> InterestAnswer
 {
     let none = no_figures();
     InterestAnswer {
-        pair: Worked {
+        pair: WorkedBand {
             verdict,
             lower: 0,
             upper: 0,
@@ -164,7 +164,7 @@ fn accepted(i: Interest, numbers: &[i64]) -> InterestAnswer
     let band = forward::band_of(i, m, n);
     let figures = all_figures(i, numbers);
     InterestAnswer {
-        pair: Worked {
+        pair: WorkedBand {
             verdict: Verdict::Done,
             lower: band.low,
             upper: band.high,
@@ -175,7 +175,7 @@ fn accepted(i: Interest, numbers: &[i64]) -> InterestAnswer
 }
 
 // What the interest side answers, for every input: 6, 14, or the pair's limits and the figures of every key maturity.
-pub fn work(i: Interest, numbers: &[i64]) -> InterestAnswer
+pub fn answer(i: Interest, numbers: &[i64]) -> InterestAnswer
     ensures { λ r. ⌜ r ≡ interestAnswer i (now (numbers .entry)) ⌝ }
 {
     if !(interest_valid(i) & maturities::keys_valid(numbers)) {

@@ -7,7 +7,7 @@ use Rattle.paper.specs.declared.Price.{Price}
 use Rattle.paper.specs.declared.Rate.{Rate}
 use Rattle.paper.specs.declared.Statics.{Statics}
 use Rattle.paper.specs.declared.Side.{Side}
-use Rattle.paper.specs.Numbers.{hundred, priceMost, rateMost, shiftMost, divisorMost}
+use Rattle.paper.specs.Numbers.{coarsestGrid, priceMost, rateMost, shiftMost, divisorMost}
 use Rattle.paper.specs.Ranges.{gridOf}
 use Rattle.paper.specs.Limits.{rangeLimit, bandLimit, deltaOf}
 pub use Rattle.paper.specs.Kept.{freshMost, deltaMost}
@@ -32,7 +32,7 @@ pub record DeltaSizes (st : Statics) (p : Price) (s1 : Rate) : Type 0 where
   pub shift : st .shift ≤ shiftMost
   pub rates : st .shift * s1 .bp ≤ shiftMost * rateMost
   pub num : st .shift * s1 .bp * p .units ≤ shiftMost * rateMost * priceMost
-  pub den : st .xpr * gridOf (st .lot) ≤ divisorMost * hundred
+  pub den : st .xpr * gridOf (st .lot) ≤ divisorMost * coarsestGrid
 
 pub delta-sizes : (st : Statics) (p : Price) (s1 : Rate) → LimitStatics st → RangeInputs p s1 → DeltaSizes st p s1
 delta-sizes st p s1 s r =

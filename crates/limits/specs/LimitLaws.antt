@@ -10,7 +10,7 @@ use Rattle.paper.specs.declared.Rate.{Rate}
 use Rattle.paper.specs.declared.Statics.{Statics}
 use Rattle.paper.specs.declared.Side.{Side}
 use Rattle.paper.specs.declared.Side.the-variants.{Upper, Lower}
-use Rattle.paper.specs.Numbers.{whole, hundred, priceMost, rateMost, shiftMost, movesMost}
+use Rattle.paper.specs.Numbers.{oneInBp, oneInHundredths, priceMost, rateMost, shiftMost, movesMost}
 use Rattle.paper.specs.Roundings.{Quotient}
 use Rattle.paper.specs.Ranges.{gridOf}
 use Rattle.paper.specs.Limits.{limitOf, shifted, rangeLimit, farthest, spread, monitored, narrower, bandLimit}
@@ -23,17 +23,17 @@ use Rattle.limits.specs.LimitRanges.{LimitStatics, RangeInputs}
 
 -- ---- quotients
 
-pub shifted-den : (side : Side) (p rate : ℕ) → shifted side p rate .den ≡ whole
+pub shifted-den : (side : Side) (p rate : ℕ) → shifted side p rate .den ≡ oneInBp
 unfolding shifted
 shifted-den Upper p rate = refl
 shifted-den Lower p rate = refl
 
 pub shifted-high : (side : Side) (p : Price) (rate : Rate) → RangeInputs p rate
-    → shifted side (p .units) (rate .bp) .num ≤ priceMost * (whole + rateMost)
+    → shifted side (p .units) (rate .bp) .num ≤ priceMost * (oneInBp + rateMost)
 unfolding shifted
 shifted-high Upper p rate r =
-    let h : whole + rate .bp ≤ whole + rateMost = omega (arith, r .rate-high) in mul-le-mul (r .price) h
-shifted-high Lower p rate r = let h : whole - rate .bp ≤ whole + rateMost = omega arith in mul-le-mul (r .price) h
+    let h : oneInBp + rate .bp ≤ oneInBp + rateMost = omega (arith, r .rate-high) in mul-le-mul (r .price) h
+shifted-high Lower p rate r = let h : oneInBp - rate .bp ≤ oneInBp + rateMost = omega arith in mul-le-mul (r .price) h
 
 pub farthest-high : (st : Statics) (side : Side) → LimitStatics st → farthestRate st side ≤ rateMost
 farthest-high st Upper s = s .upper-high
@@ -49,9 +49,9 @@ farthest-limit st Lower p = refl
 
 -- e·S_1 of the ranges, in millionths
 pub away-high : (st : Statics) (s1 c : ℕ) → LimitStatics st → s1 ≤ rateMost → c ≤ movesMost
-    → (hundred + 2 * c * st .shift) * s1 ≤ (hundred + 2 * movesMost * shiftMost) * rateMost
+    → (oneInHundredths + 2 * c * st .shift) * s1 ≤ (oneInHundredths + 2 * movesMost * shiftMost) * rateMost
 away-high st s1 c s r m =
-    let most : hundred + 2 * c * st .shift ≤ hundred + 2 * movesMost * shiftMost = omega (arith, mul-le-mul m (s .shift-high)) in
+    let most : oneInHundredths + 2 * c * st .shift ≤ oneInHundredths + 2 * movesMost * shiftMost = omega (arith, mul-le-mul m (s .shift-high)) in
     mul-le-mul most r
 
 pub spread-high : (st : Statics) (side : Side) (s1 c : ℕ) → LimitStatics st → s1 ≤ rateMost → c ≤ movesMost

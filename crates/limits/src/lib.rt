@@ -3,16 +3,16 @@
 // numbers of units, and a repo rate is one of basis points: neither is a price or a rate, since a repo rate may be
 // negative, and a limit 0 or above every price.
 use inputs::grid_of;
-use paper::HUNDRED;
 use paper::Limits;
 use paper::Moves;
+use paper::ONE_IN_BP;
+use paper::ONE_IN_HUNDREDTHS;
 use paper::Price;
 use paper::Rate;
 use paper::Side;
 use paper::Statics;
 use paper::Term;
-use paper::WHOLE;
-use paper::YEAR;
+use paper::YEAR_IN_DAY_BP;
 ghost use mathlib.Core.Path.{_≡_};
 ghost use mathlib.Core.Bool.{true};
 ghost use Prim.Native.Nat.{_-_, _≤_};
@@ -38,8 +38,8 @@ fn shifted(side: Side, p: Price, rate: Rate) -> u64
     ensures { λ r. ⌜ r ≡ shifted side (p .units) (rate .bp) .num ⌝ }
 {
     match side {
-        Side::Upper => p.units * (WHOLE + rate.bp),
-        Side::Lower => p.units * (WHOLE - rate.bp),
+        Side::Upper => p.units * (ONE_IN_BP + rate.bp),
+        Side::Lower => p.units * (ONE_IN_BP - rate.bp),
     }
 }
 
@@ -48,7 +48,7 @@ pub fn range_limit(st: Statics, side: Side, p: Price, rate: Rate) -> u64
     requires { ⌜ RangeInputs p rate ⌝ }
     ensures { λ r. ⌜ r ≡ rangeLimit st side (p .units) (rate .bp) ⌝ }
 {
-    exact::to_grid(grid_of(st.lot), shifted(side, p, rate), WHOLE)
+    exact::to_grid(grid_of(st.lot), shifted(side, p, rate), ONE_IN_BP)
 }
 
 pub fn range_of(st: Statics, p: Price, rate: Rate) -> Limits
@@ -80,8 +80,8 @@ fn spread(st: Statics, side: Side, s1: Rate, c: u64) -> u64
     requires { ⌜ (s1 .bp ≤ rateMost) × (c ≤ movesMost) ⌝ }
     ensures { λ r. ⌜ r ≡ spread st side (s1 .bp) c ⌝ }
 {
-    let middle = WHOLE * st.xpr;
-    let away = (HUNDRED + 2 * c * st.shift) * s1.bp;
+    let middle = ONE_IN_BP * st.xpr;
+    let away = (ONE_IN_HUNDREDTHS + 2 * c * st.shift) * s1.bp;
     match side {
         Side::Upper => middle + away,
         Side::Lower => less(middle, away),
@@ -94,13 +94,13 @@ fn monitored_limit(st: Statics, side: Side, p: Price, s1: Rate, c: u64, k: u64, 
     requires { ⌜ BandInputs p s1 c k repo ⌝ }
     ensures { λ r. ⌜ r ≡ limitOf st (monitored st side (p .units) (s1 .bp) c k repo) ⌝ }
 {
-    let days = exact::grow(YEAR, k, repo);
+    let days = exact::grow(YEAR_IN_DAY_BP, k, repo);
     exact::product_to_grid(
         grid_of(st.lot),
         p.units,
         spread(st, side, s1, c),
         days,
-        WHOLE * st.xpr * YEAR,
+        ONE_IN_BP * st.xpr * YEAR_IN_DAY_BP,
     )
 }
 
@@ -158,7 +158,7 @@ pub fn delta(st: Statics, p: Price, s1: Rate) -> u64
     exact::to_grid(
         grid_of(st.lot),
         2 * st.shift * s1.bp * p.units,
-        WHOLE * st.xpr,
+        ONE_IN_BP * st.xpr,
     )
 }
 

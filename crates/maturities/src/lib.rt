@@ -78,15 +78,15 @@ pub fn maturity_at(numbers: &[i64], at: usize) -> Maturity
     ensures { λ r. ⌜ r ≡ maturityOf (keyAt (now (numbers .entry)) at) ⌝ }
 {
     Maturity {
-        t: exact::natural_at(numbers, at),
+        t: exact::unsigned_at(numbers, at),
         r: numbers[at + 1],
         r1: numbers[at + 2],
         r2: numbers[at + 3],
         index: numbers[at + 4],
-        volatility: exact::natural_at(numbers, at + 5),
+        volatility: exact::unsigned_at(numbers, at + 5),
         tentative: Tentative {
-            bp: exact::natural_at(numbers, at + 6),
-            age: exact::natural_at(numbers, at + 7),
+            bp: exact::unsigned_at(numbers, at + 6),
+            age: exact::unsigned_at(numbers, at + 7),
         },
     }
 }
@@ -99,7 +99,7 @@ pub fn is_ascending(numbers: &[i64]) -> bool
     let mut at = 0;
     while Maturity::NUMBERS < numbers.len() - at {
         let next = at + Maturity::NUMBERS;
-        if exact::natural_at(numbers, next) <= exact::natural_at(numbers, at) {
+        if exact::unsigned_at(numbers, next) <= exact::unsigned_at(numbers, at) {
             return false;
         }
         at = next;
@@ -119,7 +119,7 @@ pub fn neighbours(numbers: &[i64], y: u64) -> Places
     requires { ⌜ (length (now numbers) % keyNumbers ≡ 0) × (keyNumbers ≤ length (now numbers)) ⌝ }
     ensures { λ r. ⌜ Reads (now (numbers .entry)) y (r .before) (r .after) ⌝ }
 {
-    if y <= exact::natural_at(numbers, 0) {
+    if y <= exact::unsigned_at(numbers, 0) {
         return Places {
             before: 0,
             after: 0,
@@ -128,7 +128,7 @@ pub fn neighbours(numbers: &[i64], y: u64) -> Places
     let mut at = 0;
     while Maturity::NUMBERS < numbers.len() - at {
         let next = at + Maturity::NUMBERS;
-        if y <= exact::natural_at(numbers, next) {
+        if y <= exact::unsigned_at(numbers, next) {
             return Places {
                 before: at,
                 after: next,

@@ -2,7 +2,7 @@
 // takes its own numbers and then the 22 statics in the order of document 01's table, all signed, of any value, and answers one figure, or minus
 // the refusal number. It only makes the numbers unsigned and hands them on; `gateway` has the calls.
 ghost use mathlib.Core.Path.{_≡_};
-ghost use Rattle.paper.specs.Ranges.{natural};
+ghost use Rattle.paper.specs.Ranges.{unsigned};
 ghost use Rattle.paper.specs.Gateway.{givenOf, levelCall, rangeCall, bandCall};
 
 // "a level's rate from tentative, m and level".
@@ -34,7 +34,7 @@ pub extern "C" fn nedrubal_level_rate(
     monitoring: i64,
     ewma: i64,
 ) -> i64
-    ensures { λ r. ⌜ r ≡ levelCall (givenOf (record { lot = lot; h = h; q = q; aup = aup; adown = adown; wait = wait; rh1 = rh1; rh2 = rh2; rh3 = rh3; liq = liq; min1 = min1; min2 = min2; min3 = min3; smax = smax; xpr = xpr; shift = shift; pchmax = pchmax; pclmax = pclmax; w = w; u = u; monitoring = monitoring; ewma = ewma })) (natural tentative) (natural m) (natural level) ⌝ }
+    ensures { λ r. ⌜ r ≡ levelCall (givenOf (record { lot = lot; h = h; q = q; aup = aup; adown = adown; wait = wait; rh1 = rh1; rh2 = rh2; rh3 = rh3; liq = liq; min1 = min1; min2 = min2; min3 = min3; smax = smax; xpr = xpr; shift = shift; pchmax = pchmax; pclmax = pclmax; w = w; u = u; monitoring = monitoring; ewma = ewma })) (unsigned tentative) (unsigned m) (unsigned level) ⌝ }
 {
     let given = gateway::given_of(
         lot,
@@ -62,9 +62,9 @@ pub extern "C" fn nedrubal_level_rate(
     );
     gateway::level_answer(
         given,
-        exact::natural(tentative),
-        exact::natural(m),
-        exact::natural(level),
+        exact::unsigned(tentative),
+        exact::unsigned(m),
+        exact::unsigned(level),
     )
 }
 
@@ -97,7 +97,7 @@ pub extern "C" fn nedrubal_range_limit(
     monitoring: i64,
     ewma: i64,
 ) -> i64
-    ensures { λ r. ⌜ r ≡ rangeCall (givenOf (record { lot = lot; h = h; q = q; aup = aup; adown = adown; wait = wait; rh1 = rh1; rh2 = rh2; rh3 = rh3; liq = liq; min1 = min1; min2 = min2; min3 = min3; smax = smax; xpr = xpr; shift = shift; pchmax = pchmax; pclmax = pclmax; w = w; u = u; monitoring = monitoring; ewma = ewma })) (natural p) (natural rate) (natural side) ⌝ }
+    ensures { λ r. ⌜ r ≡ rangeCall (givenOf (record { lot = lot; h = h; q = q; aup = aup; adown = adown; wait = wait; rh1 = rh1; rh2 = rh2; rh3 = rh3; liq = liq; min1 = min1; min2 = min2; min3 = min3; smax = smax; xpr = xpr; shift = shift; pchmax = pchmax; pclmax = pclmax; w = w; u = u; monitoring = monitoring; ewma = ewma })) (unsigned p) (unsigned rate) (unsigned side) ⌝ }
 {
     let given = gateway::given_of(
         lot,
@@ -125,9 +125,9 @@ pub extern "C" fn nedrubal_range_limit(
     );
     gateway::range_answer(
         given,
-        exact::natural(p),
-        exact::natural(rate),
-        exact::natural(side),
+        exact::unsigned(p),
+        exact::unsigned(rate),
+        exact::unsigned(side),
     )
 }
 
@@ -163,7 +163,7 @@ pub extern "C" fn nedrubal_band_limit(
     monitoring: i64,
     ewma: i64,
 ) -> i64
-    ensures { λ r. ⌜ r ≡ bandCall (givenOf (record { lot = lot; h = h; q = q; aup = aup; adown = adown; wait = wait; rh1 = rh1; rh2 = rh2; rh3 = rh3; liq = liq; min1 = min1; min2 = min2; min3 = min3; smax = smax; xpr = xpr; shift = shift; pchmax = pchmax; pclmax = pclmax; w = w; u = u; monitoring = monitoring; ewma = ewma })) (natural p) (natural s1) (natural k) repo (natural c) (natural side) ⌝ }
+    ensures { λ r. ⌜ r ≡ bandCall (givenOf (record { lot = lot; h = h; q = q; aup = aup; adown = adown; wait = wait; rh1 = rh1; rh2 = rh2; rh3 = rh3; liq = liq; min1 = min1; min2 = min2; min3 = min3; smax = smax; xpr = xpr; shift = shift; pchmax = pchmax; pclmax = pclmax; w = w; u = u; monitoring = monitoring; ewma = ewma })) (unsigned p) (unsigned s1) (unsigned k) repo (unsigned c) (unsigned side) ⌝ }
 {
     let given = gateway::given_of(
         lot,
@@ -191,11 +191,11 @@ pub extern "C" fn nedrubal_band_limit(
     );
     gateway::band_answer(
         given,
-        exact::natural(p),
-        exact::natural(s1),
-        exact::natural(k),
+        exact::unsigned(p),
+        exact::unsigned(s1),
+        exact::unsigned(k),
         repo,
-        exact::natural(c),
-        exact::natural(side),
+        exact::unsigned(c),
+        exact::unsigned(side),
     )
 }

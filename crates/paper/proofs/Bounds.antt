@@ -11,10 +11,10 @@ use Rattle.paper.specs.declared.Model.{Model}
 use Rattle.paper.specs.declared.Statics.{Statics}
 use Rattle.paper.specs.declared.Tentative.{Tentative}
 use Rattle.paper.specs.Lists.{pick}
-use Rattle.paper.specs.Numbers.{whole, hundred, ageMost}
+use Rattle.paper.specs.Numbers.{oneInTenThousandths, oneInHundredths, ageMost}
 use Rattle.paper.specs.Least.{leastMultiple}
 use Rattle.paper.specs.Roundings.{up}
-use Rattle.paper.specs.Rates.{weightOf, weighted, replacement, replaces, volatilityOf, leastStep, wanted, tentativeAfter}
+use Rattle.paper.specs.Rates.{weightOf, weighted, replacement, replaces, volatilityOf, leastStep, tentativeRate, tentativeAfter}
 use Rattle.paper.proofs.Logic.{le-or-lt}
 use Rattle.paper.proofs.Search.{root-least, times-least, least-unique}
 use Rattle.paper.proofs.Roundings.{up-covers, up-least, quotient-low}
@@ -23,19 +23,19 @@ use Rattle.paper.proofs.Volatility.{Weighing, weight-most}
 -- ---- the volatility
 
 -- a mean, by weights, of squares up to a bound's is at most the bound's
-pub mean-high : (a s r most : ℕ) → a ≤ whole → s ≤ most → r ≤ most → (whole - a) * (s * s) + a * (r * r) ≤ whole * (most * most)
+pub mean-high : (a s r most : ℕ) → a ≤ oneInTenThousandths → s ≤ most → r ≤ most → (oneInTenThousandths - a) * (s * s) + a * (r * r) ≤ oneInTenThousandths * (most * most)
 mean-high a s r most h p q =
-    let all : whole - a + a ≡ whole = omega arith in
-    omega (arith, ap (λ (z : ℕ). z * (most * most)) all, mul-le-mul-left (whole - a) (mul-le-mul p p), mul-le-mul-left a (mul-le-mul q q))
+    let all : oneInTenThousandths - a + a ≡ oneInTenThousandths = omega arith in
+    omega (arith, ap (λ (z : ℕ). z * (most * most)) all, mul-le-mul-left (oneInTenThousandths - a) (mul-le-mul p p), mul-le-mul-left a (mul-le-mul q q))
 
 -- the root knows no maximum of its own: it is at most the greater of s and r
-pub weighted-high : (a s r most : ℕ) → a ≤ whole → s ≤ most → r ≤ most → weighted a s r ≤ most
+pub weighted-high : (a s r most : ℕ) → a ≤ oneInTenThousandths → s ≤ most → r ≤ most → weighted a s r ≤ most
 unfolding weighted
-weighted-high a s r most h p q = root-least whole ((whole - a) * (s * s) + a * (r * r)) most (mean-high a s r most h p q)
+weighted-high a s r most h p q = root-least oneInTenThousandths ((oneInTenThousandths - a) * (s * s) + a * (r * r)) most (mean-high a s r most h p q)
 
-pub replacement-high : (q r : ℕ) → hundred ≤ q → replacement q r ≤ r
+pub replacement-high : (q r : ℕ) → oneInHundredths ≤ q → replacement q r ≤ r
 unfolding replacement
-replacement-high q r h = times-least q (hundred * r) r (omega (arith, mul-le-mul-left r h))
+replacement-high q r h = times-least q (oneInHundredths * r) r (omega (arith, mul-le-mul-left r h))
 
 pub volatility-high : (m : Model) (b last r s most : ℕ) → Weighing m → s ≤ most → r ≤ most → volatilityOf m b last r s ≤ most
 unfolding volatilityOf
@@ -91,9 +91,9 @@ step-high h w n p q =
 -- ---- the tentative rate
 
 -- t is held at S_max
-pub wanted-held : (st : Statics) (s : ℕ) → wanted st s ≤ st .smax
-unfolding wanted
-wanted-held st s = omega arith
+pub tentative-rate-held : (st : Statics) (s : ℕ) → tentativeRate st s ≤ st .smax
+unfolding tentativeRate
+tentative-rate-held st s = omega arith
 
 -- the tentative rate by its two tests
 abbrev after : (h t : ℕ) → Tentative → (rise fall : Bool) → Tentative

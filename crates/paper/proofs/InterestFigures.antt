@@ -9,15 +9,15 @@ use lib.Signed.{leZ}
 use borrow.Author.Tests.{leb-true, le-leb}
 use Rattle.paper.specs.declared.Maturity.{Maturity}
 use Rattle.paper.specs.declared.Interest.{Interest}
-use Rattle.paper.specs.Numbers.{hundred}
+use Rattle.paper.specs.Numbers.{oneInHundredths}
 use Rattle.paper.specs.Rates.{leastStep, IsLeastStep}
-use Rattle.paper.specs.Interest.{repoVolatility, repoWanted, repoTentative, atLeastZero, estimate}
+use Rattle.paper.specs.Interest.{repoVolatility, repoTentativeRate, repoTentative, atLeastZero, estimate}
 use Rattle.paper.proofs.Search.{step-is}
 
 -- t is the least multiple of h with 100·t ≥ q·σ
-pub repo-wanted-is : (i : Interest) (k : Maturity) → 1 ≤ i .h → IsLeastStep (i .h) hundred (i .model .q * repoVolatility i k) (repoWanted i k)
-unfolding repoWanted
-repo-wanted-is i k h = step-is (i .h) hundred (i .model .q * repoVolatility i k) h (omega arith)
+pub repo-tentative-rate-is : (i : Interest) (k : Maturity) → 1 ≤ i .h → IsLeastStep (i .h) oneInHundredths (i .model .q * repoVolatility i k) (repoTentativeRate i k)
+unfolding repoTentativeRate
+repo-tentative-rate-is i k h = step-is (i .h) oneInHundredths (i .model .q * repoVolatility i k) h (omega arith)
 
 -- an estimate is the least multiple of h at or above both tentative + liquidity and its minimum, of either sign
 pub record IsEstimate (h sum : ℕ) (minimum : ℤ) (v : ℕ) : Type 0 where

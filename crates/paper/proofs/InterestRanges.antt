@@ -13,9 +13,9 @@ use Rattle.paper.specs.declared.Interest.{Interest}
 use Rattle.paper.specs.declared.Maturity.{Maturity}
 use Rattle.paper.specs.declared.MaturityFigures.{MaturityFigures}
 use Rattle.paper.specs.Lists.{every}
-use Rattle.paper.specs.Numbers.{hundred, stepMost, multiplierMost, divisorLeast, divisorMost, minimumMost, maturityMost, ageMost, repoLeast, repoMost, repoVolatilityMost, repoTentativeMost}
-use Rattle.paper.specs.Ranges.{withinZ, natural}
-use Rattle.paper.specs.Interest.{LentKey, validKey, maturityOf, validInterest, apartZ, changeOf, repoVolatility, repoWanted, repoTentative, atLeastZero, estimate, upward, downward, maturityFigures, wholeKeys, validKeys, keysOf, maturitiesOf, noFigures}
+use Rattle.paper.specs.Numbers.{oneInHundredths, stepMost, multiplierMost, divisorLeast, divisorMost, minimumMost, maturityMost, ageMost, repoLeast, repoMost, repoVolatilityMost, repoTentativeMost}
+use Rattle.paper.specs.Ranges.{withinZ, unsigned}
+use Rattle.paper.specs.Interest.{LentKey, validKey, maturityOf, validInterest, apartZ, changeOf, repoVolatility, repoTentativeRate, repoTentative, atLeastZero, estimate, upward, downward, maturityFigures, wholeKeys, validKeys, keysOf, maturitiesOf, noFigures}
 use Rattle.paper.specs.InterestExact.{carriedFrom, keyGiven}
 use Rattle.paper.proofs.Logic.{clash, and-left, and-right, and-both}
 use Rattle.paper.proofs.Differences.{sum-size, minus-size}
@@ -40,20 +40,20 @@ unfolding repoVolatility
 repo-volatility-high i k w s r =
     volatility-high (i .model) (i .b) (k .tentative .bp) (changeOf k) (k .volatility) repoVolatilityMost w s r
 
-pub repo-wanted-high : (i : Interest) (k : Maturity) → 0 < i .h → i .h ≤ stepMost → i .model .q ≤ multiplierMost → repoVolatility i k ≤ repoVolatilityMost
-    → repoWanted i k ≤ repoTentativeMost
-unfolding repoWanted
-repo-wanted-high i k p h q s =
-    omega (arith, step-short (i .h) hundred (i .model .q * repoVolatility i k) p (omega arith), mul-le-mul q s)
+pub repo-tentative-rate-high : (i : Interest) (k : Maturity) → 0 < i .h → i .h ≤ stepMost → i .model .q ≤ multiplierMost → repoVolatility i k ≤ repoVolatilityMost
+    → repoTentativeRate i k ≤ repoTentativeMost
+unfolding repoTentativeRate
+repo-tentative-rate-high i k p h q s =
+    omega (arith, step-short (i .h) oneInHundredths (i .model .q * repoVolatility i k) p (omega arith), mul-le-mul q s)
 
-pub repo-tentative-high : (i : Interest) (k : Maturity) → repoWanted i k ≤ repoTentativeMost → k .tentative .bp ≤ repoTentativeMost
+pub repo-tentative-high : (i : Interest) (k : Maturity) → repoTentativeRate i k ≤ repoTentativeMost → k .tentative .bp ≤ repoTentativeMost
     → repoTentative i k .bp ≤ repoTentativeMost
 unfolding repoTentative
-repo-tentative-high i k t old = tentative-held (i .h) (i .wait) (repoWanted i k) (k .tentative) repoTentativeMost t old
+repo-tentative-high i k t old = tentative-held (i .h) (i .wait) (repoTentativeRate i k) (k .tentative) repoTentativeMost t old
 
 pub repo-age-high : (i : Interest) (k : Maturity) → repoTentative i k .age ≤ ageMost
 unfolding repoTentative
-repo-age-high i k = age-held (i .h) (i .wait) (repoWanted i k) (k .tentative)
+repo-age-high i k = age-held (i .h) (i .wait) (repoTentativeRate i k) (k .tentative)
 
 -- a minimum of either sign is no greater than the greatest tentative rate with the greatest liquidity
 pub estimate-high : (i : Interest) (k : Maturity) (minimum : ℤ) → 0 < i .h → i .h ≤ stepMost → repoTentative i k .bp ≤ repoTentativeMost
@@ -86,8 +86,8 @@ repo-size (pos n) v = leb-true n 9999 v
 repo-size (negsuc n) v = omega (arith, leb-true n 9998 (and-left (leb n 9998) true v))
 
 -- a number in a range from 0 is read as it is
-pub natural-high : (x : ℤ) (most : ℕ) → withinZ (pos 0) (pos most) x ≡ true → natural x ≤ most
-unfolding natural
+pub natural-high : (x : ℤ) (most : ℕ) → withinZ (pos 0) (pos most) x ≡ true → unsigned x ≤ most
+unfolding unsigned
 natural-high (pos n) most v = leb-true n most (and-right (leb 0 n) _ v)
 natural-high (negsuc n) most v = absurd (clash false v refl)
 
@@ -176,11 +176,11 @@ module _ (i : Interest) (k : Maturity) (g : InterestRange i) (h : KeyRange k) wh
   pub volatility-held : repoVolatility i k ≤ repoVolatilityMost
   volatility-held = repo-volatility-high i k (g .weighs) (h .volatility) change-held
 
-  pub wanted-held : repoWanted i k ≤ repoTentativeMost
-  wanted-held = repo-wanted-high i k (g .step-low) (g .step-high) (g .multiplier) volatility-held
+  pub tentative-rate-held : repoTentativeRate i k ≤ repoTentativeMost
+  tentative-rate-held = repo-tentative-rate-high i k (g .step-low) (g .step-high) (g .multiplier) volatility-held
 
   pub repo-tentative-held : repoTentative i k .bp ≤ repoTentativeMost
-  repo-tentative-held = repo-tentative-high i k wanted-held (h .tentative)
+  repo-tentative-held = repo-tentative-high i k tentative-rate-held (h .tentative)
 
   pub figures-held : FiguresHeld (maturityFigures i k)
   unfolding maturityFigures

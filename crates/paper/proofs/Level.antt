@@ -12,11 +12,11 @@ use lib.Signed.{leZ}
 use borrow.Author.Tests.{leb-true, leb-false, le-leb, lt-leb, le-ltb, lt-ltb, eqb-true}
 use Rattle.paper.specs.declared.Statics.{Statics}
 use Rattle.paper.specs.Lists.{pick}
-use Rattle.paper.specs.Numbers.{whole}
+use Rattle.paper.specs.Numbers.{hundredthsOfMillionthsInBp}
 use Rattle.paper.specs.Roundings.{Quotient}
 use Rattle.paper.specs.Least.{leastMultiple}
 use Rattle.paper.specs.Ranges.{validStatics}
-use Rattle.paper.specs.Rates.{leastStep, wanted, meets, daysOf, minimumOf, covers, levelRate, AtLeastRoots, volatilePart, liquidPart, AtLeastRequired, IsLeastStep, HeldLeast}
+use Rattle.paper.specs.Rates.{leastStep, tentativeRate, meetsRequirement, daysOf, minimumOf, covers, levelRate, AtLeastRoots, volatilePart, liquidPart, AtLeastRequired, IsLeastStep, HeldLeast}
 use Rattle.paper.proofs.Logic.{clash, and-left, and-right, and-both, le-or-lt, pick-true, pick-false}
 use Rattle.paper.proofs.Search.{Mono, multiple-holds, multiple-least, multiple-bound, multiple-is, step-is}
 use Rattle.paper.proofs.Roots.{roots-covered, Floor, floor-root, short-one, short-two}
@@ -48,8 +48,8 @@ unfoldable pub rootsWithin : ℕ → ℕ → ℕ → Bool
 rootsWithin have x y = leb (x + y) have && leb (4 * x * y) ((have - (x + y)) * (have - (x + y)))
 
 pub meets-roots : (rh1 rh liq m tentative v : ℕ)
-    → meets rh1 rh liq m tentative v ≡ rootsWithin (has rh1 v) (volatileNeed rh1 rh m tentative) (liquidNeed rh1 rh liq)
-unfolding meets rootsWithin
+    → meetsRequirement rh1 rh liq m tentative v ≡ rootsWithin (has rh1 v) (volatileNeed rh1 rh m tentative) (liquidNeed rh1 rh liq)
+unfolding meetsRequirement rootsWithin
 meets-roots rh1 rh liq m tentative v =
     let x : ℕ = volatileNeed rh1 rh m tentative in
     let y : ℕ = liquidNeed rh1 rh liq in
@@ -70,7 +70,7 @@ within-more have have′ x y l e =
     let d : have - (x + y) ≤ have′ - (x + y) = omega arith in
     and-both _ _ (le-leb (x + y) have′ (omega (arith, p .0))) (le-leb (4 * x * y) _ (le-trans (p .1) (mul-le-mul d d)))
 
-pub meets-more : (rh1 rh liq m tentative v v′ : ℕ) → v ≤ v′ → meets rh1 rh liq m tentative v ≡ true → meets rh1 rh liq m tentative v′ ≡ true
+pub meets-more : (rh1 rh liq m tentative v v′ : ℕ) → v ≤ v′ → meetsRequirement rh1 rh liq m tentative v ≡ true → meetsRequirement rh1 rh liq m tentative v′ ≡ true
 meets-more rh1 rh liq m tentative v v′ l e =
     meets-roots rh1 rh liq m tentative v′
     ∙ within-more (has rh1 v) (has rh1 v′) _ _ (mul-le-mul-right (rh1 * rh1) (mul-le-mul l l)) (sym (meets-roots rh1 rh liq m tentative v) ∙ e)
@@ -91,7 +91,7 @@ module _ (rh1 rh liq m tentative v : ℕ) (days : 0 < rh1) where
   Y : ℕ
   Y = liquidNeed rh1 rh liq
 
-  pub meets-real : meets rh1 rh liq m tentative v ≡ true → AtLeastRoots v (volatilePart rh1 rh m tentative) (liquidPart rh1 rh liq)
+  pub meets-real : meetsRequirement rh1 rh liq m tentative v ≡ true → AtLeastRoots v (volatilePart rh1 rh m tentative) (liquidPart rh1 rh liq)
   unfolding W X Y
   meets-real e =
       let p = within-covers (has rh1 v) X Y (sym (meets-roots rh1 rh liq m tentative v) ∙ e) in
@@ -115,7 +115,7 @@ module _ (rh1 rh liq m tentative v : ℕ) (days : 0 < rh1) where
       let second : b * b * rh1 ≤ rh * (liq * liq) * (rh1 * d * (rh1 * d)) = omega (arith, mul-le-mul-right rh1 (q .below)) in
       omega (arith, real .bounds a b (rh1 * d) (mul-pos days h) first second)
 
-  pub real-meets : AtLeastRoots v (volatilePart rh1 rh m tentative) (liquidPart rh1 rh liq) → meets rh1 rh liq m tentative v ≡ true
+  pub real-meets : AtLeastRoots v (volatilePart rh1 rh m tentative) (liquidPart rh1 rh liq) → meetsRequirement rh1 rh liq m tentative v ≡ true
   unfolding W X Y rootsWithin
   real-meets real = meets-roots rh1 rh liq m tentative v ∙ and-both _ _ (le-leb _ _ enough) (le-leb _ _ (cross (le-or-lt (4 * X * Y) (A * A))))
     where
@@ -261,22 +261,22 @@ level-rate-is st level m tentative v =
 -- ---- the rate that the volatility asks for
 
 -- t is the least multiple of h with 10,000·t ≥ q·s, held at S_max
-pub wanted-is : (st : Statics) (s : ℕ) → validStatics st ≡ true
-    → HeldLeast (st .h) 0 (st .smax) (λ t. st .q * s ≤ whole * t) (wanted st s)
-unfolding wanted
-wanted-is st s v = go (le-or-lt searched (st .smax))
+pub tentative-rate-is : (st : Statics) (s : ℕ) → validStatics st ≡ true
+    → HeldLeast (st .h) 0 (st .smax) (λ t. st .q * s ≤ hundredthsOfMillionthsInBp * t) (tentativeRate st s)
+unfolding tentativeRate
+tentative-rate-is st s v = go (le-or-lt searched (st .smax))
   where
     searched : ℕ
-    searched = leastStep (st .h) whole (st .q * s)
+    searched = leastStep (st .h) hundredthsOfMillionthsInBp (st .q * s)
 
-    is : IsLeastStep (st .h) whole (st .q * s) searched
-    is = step-is (st .h) whole (st .q * s) (step-positive st v) (omega arith)
+    is : IsLeastStep (st .h) hundredthsOfMillionthsInBp (st .q * s) searched
+    is = step-is (st .h) hundredthsOfMillionthsInBp (st .q * s) (step-positive st v) (omega arith)
 
     most : st .smax / st .h * st .h ≡ st .smax
     most = whole-times (st .smax) (st .h) (stepping st 1 v .multiple)
 
     go : (searched ≤ st .smax) ⊎ (st .smax < searched)
-        → HeldLeast (st .h) 0 (st .smax) (λ t. st .q * s ≤ whole * t) (min (st .smax) searched)
+        → HeldLeast (st .h) 0 (st .smax) (λ t. st .q * s ≤ hundredthsOfMillionthsInBp * t) (min (st .smax) searched)
     go (inl l) =
         let e : min (st .smax) searched ≡ searched = omega arith in
         rw e

@@ -8,20 +8,20 @@ use lib.Dec.{leb}
 use lib.IntN.{ℤ, pos, negsuc, negℤ}
 use lib.Signed.{leZ}
 use borrow.Author.Tests.{le-leb, lt-leb}
-use Rattle.paper.specs.declared.Given.{Given}
+use Rattle.paper.specs.declared.GivenStatics.{GivenStatics}
 use Rattle.paper.specs.declared.Verdict.the-variants.{Done, AdmissionOutOfRange, OutOfRange}
 use Rattle.paper.specs.Lists.{pick}
 use Rattle.paper.specs.Numbers.{pastEvery}
 use Rattle.paper.specs.Least.{least}
-use Rattle.paper.specs.Ranges.{within, withinZ, natural, gridOf, validGiven}
+use Rattle.paper.specs.Ranges.{within, withinZ, unsigned, gridOf, validGiven}
 use Rattle.paper.specs.Verdicts.{numberOf, isDone, firstOf}
 use Rattle.paper.specs.Gateway.{gatewayChecks, gatewayAnswer}
 use Rattle.paper.proofs.Logic.{le-or-lt}
 use Rattle.paper.proofs.Search.{least-unique}
 
 -- a number below zero is out of every range, and a number that is not is in it exactly where it is between its ends
-pub natural-within : (low high : ℕ) (x : ℤ) → high < pastEvery → within low high (natural x) ≡ withinZ (pos low) (pos high) x
-unfolding natural
+pub natural-within : (low high : ℕ) (x : ℤ) → high < pastEvery → within low high (unsigned x) ≡ withinZ (pos low) (pos high) x
+unfolding unsigned
 natural-within low high (pos n) h = refl
 natural-within low high (negsuc n) h = go (leb low pastEvery)
   where
@@ -65,14 +65,14 @@ grid-decimals lot h = go (le-or-lt lot 1) (le-or-lt lot 10)
 
 -- ---- the gateway: "one figure, or minus the refusal number", 4 before 6
 
-pub gateway-four : (g : Given) (inRange : Bool) (figure : ℕ) → validGiven g ≡ false → gatewayAnswer (firstOf (gatewayChecks g inRange)) figure ≡ negsuc 3
+pub gateway-four : (g : GivenStatics) (inRange : Bool) (figure : ℕ) → validGiven g ≡ false → gatewayAnswer (firstOf (gatewayChecks g inRange)) figure ≡ negsuc 3
 unfolding gatewayAnswer gatewayChecks firstOf isDone
 gateway-four g inRange figure e = rw e
 
-pub gateway-six : (g : Given) (inRange : Bool) (figure : ℕ) → validGiven g ≡ true → inRange ≡ false → gatewayAnswer (firstOf (gatewayChecks g inRange)) figure ≡ negsuc 5
+pub gateway-six : (g : GivenStatics) (inRange : Bool) (figure : ℕ) → validGiven g ≡ true → inRange ≡ false → gatewayAnswer (firstOf (gatewayChecks g inRange)) figure ≡ negsuc 5
 unfolding gatewayAnswer gatewayChecks firstOf isDone
 gateway-six g inRange figure e f = rw (e, f)
 
-pub gateway-figure : (g : Given) (inRange : Bool) (figure : ℕ) → validGiven g ≡ true → inRange ≡ true → gatewayAnswer (firstOf (gatewayChecks g inRange)) figure ≡ pos figure
+pub gateway-figure : (g : GivenStatics) (inRange : Bool) (figure : ℕ) → validGiven g ≡ true → inRange ≡ true → gatewayAnswer (firstOf (gatewayChecks g inRange)) figure ≡ pos figure
 unfolding gatewayAnswer gatewayChecks firstOf isDone
 gateway-figure g inRange figure e f = rw (e, f)

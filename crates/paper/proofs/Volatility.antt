@@ -10,7 +10,7 @@ use borrow.Author.Tests.{leb-true, leb-false}
 use Rattle.paper.specs.declared.Model.{Model}
 use Rattle.paper.specs.declared.Statics.{Statics}
 use Rattle.paper.specs.Lists.{pick}
-use Rattle.paper.specs.Numbers.{whole, hundred, million}
+use Rattle.paper.specs.Numbers.{oneInTenThousandths, oneInHundredths, oneInMillionths}
 use Rattle.paper.specs.Roundings.{Quotient, up, RoundedUp, greaterOf, apart}
 use Rattle.paper.specs.Ranges.{validStatics}
 use Rattle.paper.specs.Rates.{modelOf, moveFrom, moveOf, weightOf, weighted, replacement, replaces, volatilityOf}
@@ -22,9 +22,9 @@ use Rattle.paper.proofs.Drift.{weight-near, replace-near}
 
 -- what the argument asks of the weights and the multiplier
 pub record Weighing (m : Model) : Type 0 where
-  pub q : hundred ≤ m .q
-  pub aup : m .aup ≤ whole
-  pub adown : m .adown ≤ whole
+  pub q : oneInHundredths ≤ m .q
+  pub aup : m .aup ≤ oneInTenThousandths
+  pub adown : m .adown ≤ oneInTenThousandths
 
 pub weighing : (st : Statics) → validStatics st ≡ true → Weighing (modelOf st)
 unfolding validStatics
@@ -43,10 +43,10 @@ unfolding moveOf moveFrom exactMove greaterOf
 move-rounded p1 p2 p h1 h2 = go (leb (y .num * x .den) (x .num * y .den)) refl
   where
     x : Quotient
-    x = record { num = apart p p1 * million; den = p1 }
+    x = record { num = apart p p1 * oneInMillionths; den = p1 }
 
     y : Quotient
-    y = record { num = apart p p2 * million; den = p2 }
+    y = record { num = apart p p2 * oneInMillionths; den = p2 }
 
     go : (t : Bool) → leb (y .num * x .den) (x .num * y .den) ≡ t → RoundedUp (max (up (x .num) (x .den)) (up (y .num) (y .den))) (pick t x y)
     go true e =
@@ -58,31 +58,31 @@ move-rounded p1 p2 p h1 h2 = go (leb (y .num * x .den) (x .num * y .den)) refl
 
 -- ---- the volatility
 
-pub weight-most : (m : Model) (b r s : ℕ) → Weighing m → weightOf m b r s ≤ whole
+pub weight-most : (m : Model) (b r s : ℕ) → Weighing m → weightOf m b r s ≤ oneInTenThousandths
 unfolding weightOf
 weight-most m b r s h = go (ltb 1 b) (ltb s r)
   where
-    go : (x y : Bool) → pick x 0 (pick y (m .aup) (m .adown)) ≤ whole
+    go : (x y : Bool) → pick x 0 (pick y (m .aup) (m .adown)) ≤ oneInTenThousandths
     go true y = omega arith
     go false true = h .aup
     go false false = h .adown
 
 -- the mean by a weight
-weighted-near : (a n s r q : ℕ) (old move : Quotient) → a ≤ whole → NearExact n s old → RoundedUp r move
+weighted-near : (a n s r q : ℕ) (old move : Quotient) → a ≤ oneInTenThousandths → NearExact n s old → RoundedUp r move
     → NearExact (n + 1) (weighted a s r) (nextSquare q old move (byWeight a))
 unfolding weighted nextSquare
 weighted-near a n s r q old move ha near rounded =
-    let e : whole - a + a ≡ whole = omega arith in
-    rw e at (weight-near (whole - a) a n s r (weighted a s r) old move near rounded
-    (rw e (root-covers whole ((whole - a) * (s * s) + a * (r * r)) (omega arith)))
-    (λ z k. root-least whole ((whole - a) * (s * s) + a * (r * r)) z (rw e at k)) (omega arith))
+    let e : oneInTenThousandths - a + a ≡ oneInTenThousandths = omega arith in
+    rw e at (weight-near (oneInTenThousandths - a) a n s r (weighted a s r) old move near rounded
+    (rw e (root-covers oneInTenThousandths ((oneInTenThousandths - a) * (s * s) + a * (r * r)) (omega arith)))
+    (λ z k. root-least oneInTenThousandths ((oneInTenThousandths - a) * (s * s) + a * (r * r)) z (rw e at k)) (omega arith))
 
-replacement-near : (n r q : ℕ) (old move : Quotient) → hundred ≤ q → RoundedUp r move
+replacement-near : (n r q : ℕ) (old move : Quotient) → oneInHundredths ≤ q → RoundedUp r move
     → NearExact (n + 1) (replacement q r) (nextSquare q old move replaced)
 unfolding replacement nextSquare
 replacement-near n r q old move hq rounded =
-    replace-near hundred n q r (replacement q r) move rounded (omega arith) hq
-    (times-covers q (hundred * r) (omega arith)) (times-least q (hundred * r))
+    replace-near oneInHundredths n q r (replacement q r) move rounded (omega arith) hq
+    (times-covers q (oneInHundredths * r) (omega arith)) (times-least q (oneInHundredths * r))
 
 -- the rule takes one of the two, and the exact square is worked out by the same choice
 pub volatility-near : (m : Model) (b last r s n : ℕ) (old move : Quotient) → Weighing m → NearExact n s old → RoundedUp r move
@@ -91,7 +91,7 @@ unfolding volatilityOf choiceOf
 volatility-near m b last r s n old move h near rounded =
     go (replaces m b last r (weighted (weightOf m b r s) s r)) (weightOf m b r s) (weight-most m b r s h)
   where
-    go : (t : Bool) (a : ℕ) → a ≤ whole
+    go : (t : Bool) (a : ℕ) → a ≤ oneInTenThousandths
         → NearExact (n + 1) (pick t (replacement (m .q) r) (weighted a s r)) (nextSquare (m .q) old move (pick t replaced (byWeight a)))
     go true a ha = replacement-near n r (m .q) old move (h .q) rounded
     go false a ha = weighted-near a n s r (m .q) old move ha near rounded

@@ -11,7 +11,7 @@ use Rattle.paper.specs.declared.Near.{Near}
 use Rattle.paper.specs.declared.Near.the-variants.{Not, Since}
 use Rattle.paper.specs.declared.NearSeconds.{NearSeconds}
 use Rattle.paper.specs.Lists.{pick}
-use Rattle.paper.specs.Numbers.{whole}
+use Rattle.paper.specs.Numbers.{oneInTenThousandths}
 
 -- "PcH - bid" at the top, "ask - PcL" at the bottom
 unfoldable pub distance : Side → Limits → ℕ → ℤ
@@ -21,7 +21,7 @@ distance Lower x price = subℕ price (x .lower)
 -- "Near the top: bid present and PcH - bid strictly less than w·(PcH - PcL). Near the bottom likewise with ask - PcL."
 unfoldable pub isNear : Side → ℕ → Limits → ℕ → Bool
 isNear side w x price =
-    ltb 0 price && ltZ (pos whole *ℤ distance side x price) (pos w *ℤ subℕ (x .upper) (x .lower))
+    ltb 0 price && ltZ (pos oneInTenThousandths *ℤ distance side x price) (pos w *ℤ subℕ (x .upper) (x .lower))
 
 -- "A near side keeps the second at which it became near"
 unfoldable pub keptSince : Near → ℕ → Near

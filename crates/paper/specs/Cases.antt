@@ -7,7 +7,7 @@ use lib.IntN.{ℤ, pos, negsuc}
 use lib.ListN.{getD, replicate}
 use Rattle.paper.specs.declared.Rate.{Rate}
 use Rattle.paper.specs.declared.Statics.{Statics}
-use Rattle.paper.specs.declared.Given.{Given}
+use Rattle.paper.specs.declared.GivenStatics.{GivenStatics}
 use Rattle.paper.specs.declared.Side.the-variants.{Upper, Lower}
 use Rattle.paper.specs.declared.Limits.{Limits}
 use Rattle.paper.specs.declared.Term.{Term}
@@ -16,19 +16,19 @@ use Rattle.paper.specs.declared.Record.{Record}
 use Rattle.paper.specs.declared.Admission.{Admission}
 use Rattle.paper.specs.declared.Day.{Day}
 use Rattle.paper.specs.Lists.{pick, three, those}
-use Rattle.paper.specs.Numbers.{hundred}
+use Rattle.paper.specs.Numbers.{millionthsInBp}
 use Rattle.paper.specs.Roundings.{up, halfUp, toGrid, lesserOf, greaterOf, grown, apart}
 use Rattle.paper.specs.Least.{first, least, leastRoot, leastTimes, leastMultiple}
-use Rattle.paper.specs.Ranges.{isPrice, isGridPrice, validStatics, validGiven, validTentative, validAdmission, validSlots, gridOf, staticsOf, rowAt, partsFrom, rowsOf, rowOf, natural, noTerm, noLimits}
+use Rattle.paper.specs.Ranges.{isPrice, isGridPrice, validStatics, validGiven, validTentative, validAdmission, validSlots, gridOf, staticsOf, rowAt, partsFrom, rowsOf, rowOf, unsigned, noTerm, noLimits}
 use Rattle.paper.specs.Evaluation.{rowPrice, rowWeight, roublesOf, traded, weights, worth, mean, closeOf, bestBid, lesserAsk, bestAsk, median, between, evaluationOf, dayRows}
-use Rattle.paper.specs.Rates.{modelOf, moveFrom, moveOf, weightOf, weighted, replacement, replaces, volatilityOf, leastStep, wanted, tentativeAfter, meets, daysOf, minimumOf, covers, levelRate, modelled, unmodelled, figuresOf}
+use Rattle.paper.specs.Rates.{modelOf, moveFrom, moveOf, weightOf, weighted, replacement, replaces, volatilityOf, leastStep, tentativeRate, tentativeAfter, meetsRequirement, daysOf, minimumOf, covers, levelRate, modelled, unmodelled, figuresOf}
 use Rattle.paper.specs.Limits.{limitOf, shifted, rangeLimit, rangeOf, farthest, spread, monitored, narrower, bandLimit, bandOf, deltaOf, oneMore, rangeMoved, bandMoved}
 use Rattle.paper.specs.Alerts.{distance, isNear, nearCleared}
 use Rattle.paper.specs.Verdicts.{numberOf, isDone, firstOf}
 use Rattle.paper.specs.Desk.{blank, saying, admitted, priceOn, moveOn, figuresOn, evaluated, moved, place, stands, found, quoted, admit, quote, admitChecks, checksOf, judged, acceptedOf, step}
 
 -- "Statics Z", but for the lot
-unfoldable pub givenWith : (lot : ℕ) → Given
+unfoldable pub givenWith : (lot : ℕ) → GivenStatics
 givenWith lot =
     record {
       lot = lot;
@@ -73,7 +73,7 @@ dayWith m x = record { day = 4; b = 0; m = m; terms = three (λ k. x) }
 
 -- cases 1 to 6: the record after an evaluation at 1,030,000
 unfoldable pub after : (m : ℕ) → Term → Record
-unfolding admissionZ givenWith roublesRow dayWith staticsOf admitted minimumOf evaluated figuresOn figuresOf modelled unmodelled moveOn priceOn moveOf moveFrom up apart volatilityOf weightOf weighted replaces replacement leastStep wanted tentativeAfter levelRate covers meets daysOf least first leastRoot leastTimes leastMultiple evaluationOf dayRows rowsOf partsFrom rowAt rowOf natural roublesOf rowPrice rowWeight halfUp toGrid grown closeOf mean traded those weights worth bestBid bestAsk lesserAsk between median gridOf rangeOf rangeLimit limitOf shifted bandOf bandLimit farthest narrower lesserOf greaterOf monitored spread
+unfolding admissionZ givenWith roublesRow dayWith staticsOf admitted minimumOf evaluated figuresOn figuresOf modelled unmodelled moveOn priceOn moveOf moveFrom up apart volatilityOf weightOf weighted replaces replacement leastStep tentativeRate tentativeAfter levelRate covers meetsRequirement daysOf least first leastRoot leastTimes leastMultiple evaluationOf dayRows rowsOf partsFrom rowAt rowOf unsigned roublesOf rowPrice rowWeight halfUp toGrid grown closeOf mean traded those weights worth bestBid bestAsk lesserAsk between median gridOf rangeOf rangeLimit limitOf shifted bandOf bandLimit farthest narrower lesserOf greaterOf monitored spread
 after m x = evaluated (admitted admissionZ) (dayWith m x) (roublesRow 1030000 0 0 5 [])
 
 rateAt : Record → ℕ → ℕ
@@ -137,11 +137,11 @@ results =
     -- 7: r, and the weight
     ∷ (moveOf 300000000 300000000 306000100 ∷ weightOf (modelOf Z) 0 (moveOf 300000000 300000000 306000100) 20000 ∷ [])
     -- 8: s after r 200,000 with S_1 700, and with b 2
-    ∷ (volatilityOf (modelOf Z) 0 (hundred * 700) 200000 20000 ∷ volatilityOf (modelOf Z) 2 (hundred * 700) 200000 20000 ∷ [])
+    ∷ (volatilityOf (modelOf Z) 0 (millionthsInBp * 700) 200000 20000 ∷ volatilityOf (modelOf Z) 2 (millionthsInBp * 700) 200000 20000 ∷ [])
     -- 9: t, and the tentative rate at age 3 and at age 4
-    ∷ (wanted Z 3333
-    ∷ tentativeAfter (Z .h) (Z .wait) (wanted Z 3333) (record { bp = 700; age = 3 }) .bp
-    ∷ tentativeAfter (Z .h) (Z .wait) (wanted Z 3333) (record { bp = 700; age = 4 }) .bp
+    ∷ (tentativeRate Z 3333
+    ∷ tentativeAfter (Z .h) (Z .wait) (tentativeRate Z 3333) (record { bp = 700; age = 3 }) .bp
+    ∷ tentativeAfter (Z .h) (Z .wait) (tentativeRate Z 3333) (record { bp = 700; age = 4 }) .bp
     ∷ [])
     -- 10: the close and the evaluation
     ∷ (closeOf 1000000 (map roublesOf (dayRows rows10)) ∷ evaluationOf (gridOf (Z .lot)) 1000000 (dayRows rows10) ∷ [])

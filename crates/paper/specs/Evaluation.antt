@@ -7,22 +7,22 @@ use lib.IntN.{ℤ}
 use Rattle.paper.specs.declared.Row.{Row}
 use Rattle.paper.specs.declared.Roubles.{Roubles}
 use Rattle.paper.specs.Lists.{every, those}
-use Rattle.paper.specs.Numbers.{rouble, year, volumeMost}
+use Rattle.paper.specs.Numbers.{rouble, yearInDayBp, volumeMost}
 use Rattle.paper.specs.Roundings.{halfUp, toGrid, grown}
 use Rattle.paper.specs.Ranges.{isPrice, rowsOf, rowOf}
 
 -- (a) "Each present row price is price·Rc/10^4 · 3,650,000/(3,650,000 + T·rate), rounded once, half up, to a unit." A missing price, 0,
 -- stays 0
 unfoldable pub rowPrice : Row → ℕ → ℕ
-rowPrice w price = halfUp (price * w .central * year) (rouble * grown year (w .t) (w .repo))
+rowPrice row price = halfUp (price * row .central * yearInDayBp) (rouble * grown yearInDayBp (row .t) (row .repo))
 
 -- (b) "Row volume in roubles, half up to a thousand": the row's weight
 unfoldable pub rowWeight : Row → ℕ
-rowWeight w = halfUp (w .volume * w .central) rouble
+rowWeight row = halfUp (row .volume * row .central) rouble
 
 unfoldable pub roublesOf : Row → Roubles
-roublesOf w =
-    record { weight = rowWeight w; close = rowPrice w (w .close); bid = rowPrice w (w .bid); ask = rowPrice w (w .ask) }
+roublesOf row =
+    record { weight = rowWeight row; close = rowPrice row (row .close); bid = rowPrice row (row .bid); ask = rowPrice row (row .ask) }
 
 -- "The close is the mean over rows whose weight (b) is above 0, weighted by it. With no such row it is the previous evaluation."
 unfoldable pub traded : List Roubles → List Roubles
@@ -84,11 +84,11 @@ abbrev pub priceFits : ℕ → ℕ → Bool
 priceFits given rounded = eqb given 0 || isPrice rounded
 
 unfoldable pub rowFits : Row → Bool
-rowFits w =
-    priceFits (w .close) (rowPrice w (w .close))
-    && priceFits (w .bid) (rowPrice w (w .bid))
-    && priceFits (w .ask) (rowPrice w (w .ask))
-    && leb (rowWeight w) volumeMost
+rowFits row =
+    priceFits (row .close) (rowPrice row (row .close))
+    && priceFits (row .bid) (rowPrice row (row .bid))
+    && priceFits (row .ask) (rowPrice row (row .ask))
+    && leb (rowWeight row) volumeMost
 
 unfoldable pub evaluationFits : ℕ → ℕ → List Row → Bool
 evaluationFits g previous rows = every rowFits rows && isPrice (evaluationOf g previous rows)

@@ -6,18 +6,18 @@ use Prim.Native.Nat.{ℕ}
 use lib.Dec.{leb, eqb}
 use lib.IntN.{ℤ, pos, negℤ}
 use Rattle.paper.specs.declared.Statics.{Statics}
-use Rattle.paper.specs.declared.Given.{Given}
+use Rattle.paper.specs.declared.GivenStatics.{GivenStatics}
 use Rattle.paper.specs.declared.Verdict.{Verdict}
 use Rattle.paper.specs.declared.Verdict.the-variants.{AdmissionOutOfRange, OutOfRange}
 use Rattle.paper.specs.Lists.{pick}
 use Rattle.paper.specs.Numbers.{aheadMost, termDaysMost, repoLeast, repoMost, movesMost}
-use Rattle.paper.specs.Ranges.{within, withinZ, natural, isRate, isGridPrice, gridOf, staticsOf, validGiven, validTentative, validSide, sideOf}
+use Rattle.paper.specs.Ranges.{within, withinZ, unsigned, isRate, isGridPrice, gridOf, staticsOf, validGiven, validTentative, validSide, sideOf}
 use Rattle.paper.specs.Rates.{levelRate, minimumOf}
 use Rattle.paper.specs.Limits.{rangeLimit, bandLimit}
 use Rattle.paper.specs.Verdicts.{numberOf, isDone, Check, firstOf}
 
 -- the statics as the gateway hands them over: 22 signed numbers, by the names of document 01's table
-pub record Handed : Type 0 where
+pub record GatewayStatics : Type 0 where
   pub lot : ℤ
   pub h : ℤ
   pub q : ℤ
@@ -41,35 +41,35 @@ pub record Handed : Type 0 where
   pub monitoring : ℤ
   pub ewma : ℤ
 
-unfoldable pub givenOf : Handed → Given
+unfoldable pub givenOf : GatewayStatics → GivenStatics
 givenOf x =
     record {
-      lot = natural (x .lot);
-      h = natural (x .h);
-      q = natural (x .q);
-      aup = natural (x .aup);
-      adown = natural (x .adown);
-      wait = natural (x .wait);
-      rh1 = natural (x .rh1);
-      rh2 = natural (x .rh2);
-      rh3 = natural (x .rh3);
-      liq = natural (x .liq);
-      min1 = natural (x .min1);
-      min2 = natural (x .min2);
-      min3 = natural (x .min3);
-      smax = natural (x .smax);
-      xpr = natural (x .xpr);
-      shift = natural (x .shift);
-      pchmax = natural (x .pchmax);
-      pclmax = natural (x .pclmax);
-      w = natural (x .w);
-      u = natural (x .u);
-      monitoring = natural (x .monitoring);
-      ewma = natural (x .ewma);
+      lot = unsigned (x .lot);
+      h = unsigned (x .h);
+      q = unsigned (x .q);
+      aup = unsigned (x .aup);
+      adown = unsigned (x .adown);
+      wait = unsigned (x .wait);
+      rh1 = unsigned (x .rh1);
+      rh2 = unsigned (x .rh2);
+      rh3 = unsigned (x .rh3);
+      liq = unsigned (x .liq);
+      min1 = unsigned (x .min1);
+      min2 = unsigned (x .min2);
+      min3 = unsigned (x .min3);
+      smax = unsigned (x .smax);
+      xpr = unsigned (x .xpr);
+      shift = unsigned (x .shift);
+      pchmax = unsigned (x .pchmax);
+      pclmax = unsigned (x .pclmax);
+      w = unsigned (x .w);
+      u = unsigned (x .u);
+      monitoring = unsigned (x .monitoring);
+      ewma = unsigned (x .ewma);
     }
 
 -- "gateway 4 (a static out of range), 6 (another value out of range or off the grid)"
-unfoldable pub gatewayChecks : Given → Bool → List Check
+unfoldable pub gatewayChecks : GivenStatics → Bool → List Check
 gatewayChecks g inRange =
     record { verdict = AdmissionOutOfRange; applies = not (validGiven g) }
     ∷ record { verdict = OutOfRange; applies = not inRange }
@@ -86,7 +86,7 @@ levelInRange st tentative m level = validTentative st tentative && leb m aheadMo
 unfoldable pub levelFigure : Statics → (tentative m level : ℕ) → ℕ
 levelFigure st tentative m level = pick (st .ewma) (levelRate st level m tentative) (minimumOf st level)
 
-unfoldable pub levelCall : Given → (tentative m level : ℕ) → ℤ
+unfoldable pub levelCall : GivenStatics → (tentative m level : ℕ) → ℤ
 levelCall g tentative m level =
     gatewayAnswer (firstOf (gatewayChecks g (levelInRange (staticsOf g) tentative m level)))
     (levelFigure (staticsOf g) tentative m level)
@@ -95,7 +95,7 @@ levelCall g tentative m level =
 unfoldable pub rangeInRange : Statics → (p rate side : ℕ) → Bool
 rangeInRange st p rate side = isGridPrice (gridOf (st .lot)) p && isRate rate && validSide side
 
-unfoldable pub rangeCall : Given → (p rate side : ℕ) → ℤ
+unfoldable pub rangeCall : GivenStatics → (p rate side : ℕ) → ℤ
 rangeCall g p rate side =
     gatewayAnswer (firstOf (gatewayChecks g (rangeInRange (staticsOf g) p rate side)))
     (rangeLimit (staticsOf g) (sideOf side) p rate)
@@ -110,7 +110,7 @@ bandInRange st p s1 k repo c side =
     && leb c movesMost
     && validSide side
 
-unfoldable pub bandCall : Given → (p s1 k : ℕ) → ℤ → (c side : ℕ) → ℤ
+unfoldable pub bandCall : GivenStatics → (p s1 k : ℕ) → ℤ → (c side : ℕ) → ℤ
 bandCall g p s1 k repo c side =
     gatewayAnswer (firstOf (gatewayChecks g (bandInRange (staticsOf g) p s1 k repo c side)))
     (bandLimit (staticsOf g) (sideOf side) p s1 c k repo)

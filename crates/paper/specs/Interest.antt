@@ -11,14 +11,14 @@ use Rattle.paper.specs.declared.Model.{Model}
 use Rattle.paper.specs.declared.Maturity.{Maturity}
 use Rattle.paper.specs.declared.Interest.{Interest}
 use Rattle.paper.specs.declared.MaturityFigures.{MaturityFigures}
-use Rattle.paper.specs.declared.Worked.{Worked}
+use Rattle.paper.specs.declared.WorkedBand.{WorkedBand}
 use Rattle.paper.specs.declared.InterestAnswer.{InterestAnswer}
 use Rattle.paper.specs.declared.Verdict.{Verdict}
 use Rattle.paper.specs.declared.Verdict.the-variants.{Done, OutOfRange, NotAscending}
 use Rattle.paper.specs.Lists.{pick, eight, every}
-use Rattle.paper.specs.Numbers.{hundred, repoLeast, repoMost, behindMost, weightMost, multiplierLeast, multiplierMost, stepMost, waitMost, divisorLeast, divisorMost, ageMost, keyNumbers, allKeyNumbersMost, maturityMost, minimumMost, repoVolatilityMost, repoTentativeMost}
+use Rattle.paper.specs.Numbers.{oneInHundredths, repoLeast, repoMost, behindMost, weightMost, multiplierLeast, multiplierMost, stepMost, waitMost, divisorLeast, divisorMost, ageMost, keyNumbers, allKeyNumbersMost, maturityMost, minimumMost, repoVolatilityMost, repoTentativeMost}
 use Rattle.paper.specs.Roundings.{halfUpZ}
-use Rattle.paper.specs.Ranges.{within, withinZ, natural, partsFrom}
+use Rattle.paper.specs.Ranges.{within, withinZ, unsigned, partsFrom}
 use Rattle.paper.specs.Rates.{volatilityOf, leastStep, tentativeAfter}
 use Rattle.paper.specs.Verdicts.{isDone, Check, firstOf}
 
@@ -75,13 +75,13 @@ validKeys numbers = wholeKeys numbers && every validKey (keysOf numbers)
 unfoldable pub maturityOf : LentKey → Maturity
 maturityOf k =
     record {
-      t = natural (k .t);
+      t = unsigned (k .t);
       r = k .r;
       r1 = k .r1;
       r2 = k .r2;
       index = k .index;
-      volatility = natural (k .volatility);
-      tentative = record { bp = natural (k .tentative); age = natural (k .age) };
+      volatility = unsigned (k .volatility);
+      tentative = record { bp = unsigned (k .tentative); age = unsigned (k .age) };
     }
 
 unfoldable pub maturitiesOf : List ℤ → List Maturity
@@ -120,12 +120,12 @@ unfoldable pub repoVolatility : Interest → Maturity → ℕ
 repoVolatility i k = volatilityOf (i .model) (i .b) (k .tentative .bp) (changeOf k) (k .volatility)
 
 -- t is the least multiple of h with 100·t ≥ q·σ: "with no maximum"
-unfoldable pub repoWanted : Interest → Maturity → ℕ
-repoWanted i k = leastStep (i .h) hundred (i .model .q * repoVolatility i k)
+unfoldable pub repoTentativeRate : Interest → Maturity → ℕ
+repoTentativeRate i k = leastStep (i .h) oneInHundredths (i .model .q * repoVolatility i k)
 
 -- "the one-step-down rule" is the shares'
 unfoldable pub repoTentative : Interest → Maturity → Tentative
-repoTentative i k = tentativeAfter (i .h) (i .wait) (repoWanted i k) (k .tentative)
+repoTentative i k = tentativeAfter (i .h) (i .wait) (repoTentativeRate i k) (k .tentative)
 
 -- a number below zero counts as 0
 abbrev pub atLeastZero : ℤ → ℕ
@@ -179,7 +179,7 @@ forward i ks = (pos (i .yn) *ℤ figureAt (λ k. k .r) ks (i .yn)) -ℤ (pos (i 
 
 -- 100·Δ(Yn)/x_IR, over the same denominator (Yn - Ym)·x_IR
 unfoldable pub margin : Interest → List Maturity → (Maturity → ℕ) → ℤ
-margin i ks f = pos (hundred * (i .yn - i .ym)) *ℤ figureAt (λ k. pos (f k)) ks (i .yn)
+margin i ks f = pos (oneInHundredths * (i .yn - i .ym)) *ℤ figureAt (λ k. pos (f k)) ks (i .yn)
 
 -- "each band limit round once, half up to a bp"
 unfoldable pub limitFrom : Interest → ℤ → ℤ

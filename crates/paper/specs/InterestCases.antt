@@ -7,15 +7,15 @@ use lib.ListN.{getD}
 use native.Mathlib.Omega.{arith}
 use Rattle.paper.specs.declared.Interest.{Interest}
 use Rattle.paper.specs.declared.MaturityFigures.{MaturityFigures}
-use Rattle.paper.specs.declared.Worked.{Worked}
+use Rattle.paper.specs.declared.WorkedBand.{WorkedBand}
 use Rattle.paper.specs.declared.InterestAnswer.{InterestAnswer}
 use Rattle.paper.specs.Lists.{pick, every}
 use Rattle.paper.specs.Roundings.{halfUp, halfDown, halfUpZ}
 use Rattle.paper.specs.Least.{first, least, leastRoot, leastTimes, leastMultiple}
-use Rattle.paper.specs.Ranges.{natural, partsFrom}
+use Rattle.paper.specs.Ranges.{unsigned, partsFrom}
 use Rattle.paper.specs.Rates.{weightOf, weighted, replacement, replaces, volatilityOf, leastStep, tentativeAfter}
 use Rattle.paper.specs.Verdicts.{numberOf, isDone, firstOf}
-use Rattle.paper.specs.Interest.{keyAt, keysOf, wholeKeys, validKey, validKeys, maturityOf, maturitiesOf, validInterest, apartZ, changeOf, repoVolatility, repoWanted, repoTentative, estimate, upward, downward, maturityFigures, interpolated, figureAfter, figureAt, forward, margin, limitFrom, upperWorked, lowerWorked, isHeld, upperLimit, lowerLimit, ascendingFrom, ascending, interestChecks, noFigures, refusedInterest, acceptedInterest, interestAnswer}
+use Rattle.paper.specs.Interest.{keyAt, keysOf, wholeKeys, validKey, validKeys, maturityOf, maturitiesOf, validInterest, apartZ, changeOf, repoVolatility, repoTentativeRate, repoTentative, estimate, upward, downward, maturityFigures, interpolated, figureAfter, figureAt, forward, margin, limitFrom, upperWorked, lowerWorked, isHeld, upperLimit, lowerLimit, ascendingFrom, ascending, interestChecks, noFigures, refusedInterest, acceptedInterest, interestAnswer}
 use Rattle.paper.specs.InterestExact.{Evening, Carried, keyIn, answeredIn, carriedAfter, keyGiven, Follow, start, next}
 
 -- the statics of every case, with b, a pair of terms and the two rollover rates
@@ -72,9 +72,9 @@ calmEvening =
 -- what the interest side answers. It opens every definition that the call computes with, so that a table opens this one
 -- alone
 unfoldable pub answered : Interest → List ℤ → InterestAnswer
-unfolding halfUp halfDown halfUpZ first least leastRoot leastTimes leastMultiple natural weightOf weighted replacement
+unfolding halfUp halfDown halfUpZ first least leastRoot leastTimes leastMultiple unsigned weightOf weighted replacement
     replaces volatilityOf leastStep tentativeAfter isDone firstOf every keyAt partsFrom keysOf wholeKeys
-    validKey validKeys maturityOf maturitiesOf validInterest apartZ changeOf repoVolatility repoWanted
+    validKey validKeys maturityOf maturitiesOf validInterest apartZ changeOf repoVolatility repoTentativeRate
     repoTentative estimate upward downward maturityFigures interpolated figureAfter figureAt forward margin
     limitFrom upperWorked lowerWorked isHeld upperLimit lowerLimit ascendingFrom ascending interestChecks
     refusedInterest acceptedInterest interestAnswer

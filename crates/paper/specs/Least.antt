@@ -12,9 +12,9 @@ first (suc d) x p = elim (p x) [ true ↦ x | false ↦ first d (suc x) p ]
 unfoldable pub least : ℕ → (ℕ → Bool) → ℕ
 least bound p = first bound 0 p
 
--- the least whole x with w·x² ≥ n; where w is above 0, n itself is such an x
+-- the least whole x with factor·x² ≥ n; where w is above 0, n itself is such an x
 unfoldable pub leastRoot : ℕ → ℕ → ℕ
-leastRoot w n = least n (λ x. leb n (w * (x * x)))
+leastRoot factor n = least n (λ x. leb n (factor * (x * x)))
 
 -- the least whole y with y·q ≥ n; where q is above 0, n itself is such a y
 unfoldable pub leastTimes : ℕ → ℕ → ℕ

@@ -10,7 +10,7 @@ use Rattle.paper.specs.declared.Limits.{Limits}
 use Rattle.paper.specs.declared.Moves.{Moves}
 use Rattle.paper.specs.declared.Term.{Term}
 use Rattle.paper.specs.Lists.{pick}
-use Rattle.paper.specs.Numbers.{whole, hundred, year}
+use Rattle.paper.specs.Numbers.{oneInBp, oneInHundredths, yearInDayBp}
 use Rattle.paper.specs.Roundings.{Quotient, toGrid, lesserOf, greaterOf, grown}
 use Rattle.paper.specs.Ranges.{gridOf}
 
@@ -20,8 +20,8 @@ limitOf st x = toGrid (gridOf (st .lot)) (x .num) (x .den)
 
 -- P·(1 + rate) above, P·(1 - rate) below
 unfoldable pub shifted : Side → ℕ → ℕ → Quotient
-shifted Upper p rate = record { num = p * (whole + rate); den = whole }
-shifted Lower p rate = record { num = p * (whole - rate); den = whole }
+shifted Upper p rate = record { num = p * (oneInBp + rate); den = oneInBp }
+shifted Lower p rate = record { num = p * (oneInBp - rate); den = oneInBp }
 
 -- ---- ranges
 
@@ -41,13 +41,13 @@ farthest st Lower p = shifted Lower p (st .pclmax)
 
 -- x_pr ± e·S_1, in millionths, with "e = 1 + 2·c·shift, shift as a fraction"; below, "max(0, ..)"
 unfoldable pub spread : Statics → Side → ℕ → ℕ → ℕ
-spread st Upper s1 c = whole * st .xpr + (hundred + 2 * c * st .shift) * s1
-spread st Lower s1 c = whole * st .xpr - (hundred + 2 * c * st .shift) * s1
+spread st Upper s1 c = oneInBp * st .xpr + (oneInHundredths + 2 * c * st .shift) * s1
+spread st Lower s1 c = oneInBp * st .xpr - (oneInHundredths + 2 * c * st .shift) * s1
 
 -- "P·(1 + e·S_1/x_pr)·(1 + RRcH·k/36500)" above, "P·max(0, 1 - e·S_1/x_pr)·(1 + RRcL·k/36500)" below
 unfoldable pub monitored : Statics → Side → (p s1 c k : ℕ) → ℤ → Quotient
 monitored st side p s1 c k repo =
-    record { num = p * spread st side s1 c * grown year k repo; den = whole * st .xpr * year }
+    record { num = p * spread st side s1 c * grown yearInDayBp k repo; den = oneInBp * st .xpr * yearInDayBp }
 
 -- "the upper is the lesser of that and ..; the lower the greater of that and .."
 unfoldable pub narrower : Side → Quotient → Quotient → Quotient
@@ -75,7 +75,7 @@ crossed x = ltb (x .upper) (x .lower)
 
 -- "delta = 2·shift·S_1·P/x_pr"
 unfoldable pub deltaOf : Statics → ℕ → ℕ → ℕ
-deltaOf st p s1 = limitOf st (record { num = 2 * st .shift * s1 * p; den = whole * st .xpr })
+deltaOf st p s1 = limitOf st (record { num = 2 * st .shift * s1 * p; den = oneInBp * st .xpr })
 
 -- "It adds one to c"
 unfoldable pub oneMore : Side → Moves → Moves

@@ -14,7 +14,7 @@ use Rattle.paper.specs.declared.Row.{Row}
 use Rattle.paper.specs.declared.Record.{Record}
 use Rattle.paper.specs.Ranges.{staticsOf, noLimits}
 use Rattle.paper.specs.Evaluation.{rowPrice, rowWeight, evaluationOf, dayRows}
-use Rattle.paper.specs.Rates.{modelOf, moveOf, weightOf, replaces, volatilityOf, wanted, tentativeAfter, levelRate}
+use Rattle.paper.specs.Rates.{modelOf, moveOf, weightOf, replaces, volatilityOf, tentativeRate, tentativeAfter, levelRate}
 use Rattle.paper.specs.Limits.{rangeLimit, bandLimit, deltaOf}
 use Rattle.paper.specs.Desk.{blank, evaluate, admitted, run}
 use Rattle.paper.specs.PinnedValues.{_but_, lotAt, qAt, centralAt, pchmaxAt, pclmaxAt, monitoringAt, ewmaAt, p1At, sAt, ageAt, ratesAt, givenFrom, admissionFrom, recordFrom, dayFrom, closedAt, zNumbers, zRecord, yesNo}
@@ -123,9 +123,9 @@ rates =
     ∷ yesNo (replaces (modelOf (staticsBut zNumbers)) 0 900 1000 334)
     ∷ [])
     -- "t is the least multiple of h with 10,000·t ≥ q·s, held at S_max.": exactly 100, just above; S_max
-    ∷ (wanted (staticsBut (zNumbers but (qAt, pos 100))) 10000
-    ∷ wanted (staticsBut (zNumbers but (qAt, pos 100))) 10001
-    ∷ wanted (staticsBut zNumbers) 140000
+    ∷ (tentativeRate (staticsBut (zNumbers but (qAt, pos 100))) 10000
+    ∷ tentativeRate (staticsBut (zNumbers but (qAt, pos 100))) 10001
+    ∷ tentativeRate (staticsBut zNumbers) 140000
     ∷ [])
     -- "If t ≥ tentative + h, tentative becomes t.": at 700, one below, and far above
     ∷ tentativeAt 0 700

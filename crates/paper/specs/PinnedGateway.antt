@@ -5,16 +5,16 @@ use mathlib.Core.Path.{_≡_, refl}
 use mathlib.Core.List.{List, [], _∷_, map}
 use Prim.Native.Nat.{ℕ, _+_}
 use lib.IntN.{ℤ, pos, negsuc}
-use Rattle.paper.specs.Ranges.{natural}
-use Rattle.paper.specs.Gateway.{Handed, givenOf, gatewayChecks, gatewayAnswer, levelInRange, levelFigure, levelCall, rangeInRange, rangeCall, bandInRange, bandCall}
+use Rattle.paper.specs.Ranges.{unsigned}
+use Rattle.paper.specs.Gateway.{GatewayStatics, givenOf, gatewayChecks, gatewayAnswer, levelInRange, levelFigure, levelCall, rangeInRange, rangeCall, bandInRange, bandCall}
 use Rattle.paper.specs.PinnedValues.{_but_, signed, plain, lotAt, liqAt, minimaAt, pchmaxAt, pclmaxAt, monitoringAt, ewmaAt, givenFrom, zNumbers}
 use Rattle.paper.specs.PinnedSequence.{numbers}
 
 -- ---- "all statics with each, yes 1, no 0"
 
 -- the statics handed over from a row of numbers in the order of document 01's table
-unfoldable pub handedFrom : List ℤ → Handed
-handedFrom xs =
+unfoldable pub gatewayStaticsFrom : List ℤ → GatewayStatics
+gatewayStaticsFrom xs =
     record {
       lot = signed xs 0;
       h = signed xs 1;
@@ -41,29 +41,29 @@ handedFrom xs =
     }
 
 -- each static is the number in its own place, whatever the numbers are
-pub handed-in-order : (xs : List ℤ) → givenOf (handedFrom xs) ≡ givenFrom xs
-unfolding givenOf handedFrom givenFrom natural
+pub handed-in-order : (xs : List ℤ) → givenOf (gatewayStaticsFrom xs) ≡ givenFrom xs
+unfolding givenOf gatewayStaticsFrom givenFrom unsigned
 handed-in-order xs = refl
 
 -- ---- the calls, with their own numbers in a row
 
 -- "a level's rate from tentative, m and level"
 level : (statics call : List ℤ) → ℤ
-unfolding numbers givenOf handedFrom gatewayChecks gatewayAnswer levelInRange levelFigure levelCall
+unfolding numbers givenOf gatewayStaticsFrom gatewayChecks gatewayAnswer levelInRange levelFigure levelCall
 level statics call =
-    levelCall (givenOf (handedFrom statics)) (plain call 0) (plain call 1) (plain call 2)
+    levelCall (givenOf (gatewayStaticsFrom statics)) (plain call 0) (plain call 1) (plain call 2)
 
 -- "a fresh range limit from P, rate and side"
 range : (statics call : List ℤ) → ℤ
 unfolding level rangeInRange rangeCall
 range statics call =
-    rangeCall (givenOf (handedFrom statics)) (plain call 0) (plain call 1) (plain call 2)
+    rangeCall (givenOf (gatewayStaticsFrom statics)) (plain call 0) (plain call 1) (plain call 2)
 
 -- "a band limit from P, S_1, k, that side's repo rate, c and side"
 band : (statics call : List ℤ) → ℤ
 unfolding level bandInRange bandCall
 band statics call =
-    bandCall (givenOf (handedFrom statics)) (plain call 0) (plain call 1) (plain call 2)
+    bandCall (givenOf (gatewayStaticsFrom statics)) (plain call 0) (plain call 1) (plain call 2)
     (signed call 3) (plain call 4) (plain call 5)
 
 -- the places of a band's numbers

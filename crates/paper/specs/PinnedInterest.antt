@@ -11,7 +11,7 @@ use lib.ListN.{replicate}
 use Rattle.paper.specs.declared.Interest.{Interest}
 use Rattle.paper.specs.declared.InterestAnswer.{InterestAnswer}
 use Rattle.paper.specs.Verdicts.{numberOf}
-use Rattle.paper.specs.Ranges.{natural}
+use Rattle.paper.specs.Ranges.{unsigned}
 use Rattle.paper.specs.InterestCases.{limits, figures, answered}
 use Rattle.paper.specs.PinnedValues.{_but_, signed, plain}
 use Rattle.paper.specs.PinnedRanges.{Ranged, range, valuesOf, straddles, atTheEndsAlone}
@@ -20,7 +20,7 @@ use Rattle.paper.specs.PinnedRanges.{Ranged, range, valuesOf, straddles,
 
 -- b, the pair of terms, a_up, a_down, q, h, n, liq, MMΔ, SECΔ, x_IR, the money rate and the security rollover rate
 unfoldable pub interestFrom : List ℤ → Interest
-unfolding natural
+unfolding unsigned
 interestFrom xs =
     record {
       b = plain xs 0;

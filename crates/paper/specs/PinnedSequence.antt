@@ -15,9 +15,9 @@ use Rattle.paper.specs.declared.Verdict.the-variants.{NoSuchId}
 use Rattle.paper.specs.Lists.{every, those}
 use Rattle.paper.specs.Roundings.{up, halfUp, toGrid, lesserOf, greaterOf, grown, apart}
 use Rattle.paper.specs.Least.{first, least, leastRoot, leastTimes, leastMultiple}
-use Rattle.paper.specs.Ranges.{natural, isPrice, isRate, gridOf, isGridPrice, validStatics, staticsOf, validGiven, validTentative, validAdmission, partsFrom, rowAt, rowsOf, wholeRows, validRow, validRows, rowOf, validTerm, validDay, validQuote, validSide, sideOf, isLive, lastDay, noLimits, isLimit, validLimits, validNear, validNearSeconds, sound, validSlots}
+use Rattle.paper.specs.Ranges.{unsigned, isPrice, isRate, gridOf, isGridPrice, validStatics, staticsOf, validGiven, validTentative, validAdmission, partsFrom, rowAt, rowsOf, wholeRows, validRow, validRows, rowOf, validTerm, validDay, validQuote, validSide, sideOf, isLive, lastDay, noLimits, isLimit, validLimits, validNear, validNearSeconds, sound, validSlots}
 use Rattle.paper.specs.Evaluation.{rowPrice, rowWeight, roublesOf, traded, weights, worth, mean, closeOf, bestBid, lesserAsk, bestAsk, median, between, evaluationOf, dayRows, rowFits, evaluationFits}
-use Rattle.paper.specs.Rates.{moveFrom, moveOf, weightOf, weighted, replacement, replaces, volatilityOf, leastStep, wanted, tentativeAfter, meets, daysOf, minimumOf, covers, levelRate, modelled, unmodelled, figuresOf, moveTooLarge}
+use Rattle.paper.specs.Rates.{moveFrom, moveOf, weightOf, weighted, replacement, replaces, volatilityOf, leastStep, tentativeRate, tentativeAfter, meetsRequirement, daysOf, minimumOf, covers, levelRate, modelled, unmodelled, figuresOf, moveTooLarge}
 use Rattle.paper.specs.Limits.{limitOf, shifted, rangeLimit, rangeOf, farthest, spread, monitored, narrower, bandLimit, bandOf, crossed, deltaOf, oneMore, rangeMoved, bandMoved}
 use Rattle.paper.specs.Alerts.{distance, isNear, keptSince, nearAfter, alert, nearCleared}
 use Rattle.paper.specs.Verdicts.{numberOf, isDone, firstOf}
@@ -27,11 +27,11 @@ use Rattle.paper.specs.PinnedValues.{_but_, pchmaxAt, monitoringAt, ewma
 -- what the calls of a list answer, each on the table that those before it leave. It opens every definition that a call
 -- computes with, so that a table opens this one alone
 unfoldable pub answers : List Call → List Record → List Answer
-unfolding natural isPrice isRate gridOf isGridPrice validStatics staticsOf validGiven validTentative validAdmission
+unfolding unsigned isPrice isRate gridOf isGridPrice validStatics staticsOf validGiven validTentative validAdmission
     partsFrom rowAt rowsOf wholeRows validRow validRows rowOf validTerm validDay validQuote validSide sideOf isLive
     lastDay isLimit validLimits validNear validNearSeconds sound validSlots rowPrice rowWeight roublesOf traded
     weights worth mean closeOf bestBid lesserAsk bestAsk median between evaluationOf dayRows rowFits evaluationFits
-    moveFrom moveOf weightOf weighted replacement replaces volatilityOf leastStep wanted tentativeAfter meets daysOf
+    moveFrom moveOf weightOf weighted replacement replaces volatilityOf leastStep tentativeRate tentativeAfter meetsRequirement daysOf
     minimumOf covers levelRate modelled unmodelled figuresOf moveTooLarge limitOf shifted rangeLimit rangeOf farthest
     spread monitored narrower bandLimit bandOf crossed deltaOf oneMore rangeMoved bandMoved distance isNear keptSince
     nearAfter alert nearCleared isDone firstOf blank saying showing alerting admitted priceOn moveOn figuresOn
@@ -61,12 +61,12 @@ slots-fresh (suc count) = slots-fresh count
 
 -- the evaluation of a day on which the security closes at a price
 unfoldable pub dayAt : (id day close : ℕ) → Call
-unfolding dayFrom natural closedAt
+unfolding dayFrom unsigned closedAt
 dayAt id day close = evaluate id (dayFrom (pos day ∷ [])) (closedAt close)
 
 -- a quote of a bid alone in term 0
 unfoldable pub bidAt : (id second bid : ℕ) → Call
-unfolding quoteFrom natural
+unfolding quoteFrom unsigned
 bidAt id second bid = quote id (quoteFrom (pos second ∷ pos 0 ∷ pos bid ∷ []))
 
 -- cases 1 and 5, and a second day, back at 1,000,000

@@ -8,7 +8,7 @@ use Prim.Native.Nat.{ℕ, zero, suc, _+_, _*_}
 use lib.Dec.{eqb}
 use lib.IntN.{ℤ, pos}
 use lib.ListN.{getD, set, replicate}
-use Rattle.paper.specs.declared.Given.{Given}
+use Rattle.paper.specs.declared.GivenStatics.{GivenStatics}
 use Rattle.paper.specs.declared.Standing.{Standing}
 use Rattle.paper.specs.declared.Standing.the-variants.{Admitted, Live}
 use Rattle.paper.specs.declared.Near.{Near}
@@ -21,7 +21,7 @@ use Rattle.paper.specs.declared.Day.{Day}
 use Rattle.paper.specs.declared.Quote.{Quote}
 use Rattle.paper.specs.Lists.{pick, three}
 use Rattle.paper.specs.Numbers.{rouble}
-use Rattle.paper.specs.Ranges.{natural, staticsOf}
+use Rattle.paper.specs.Ranges.{unsigned, staticsOf}
 use Rattle.paper.specs.Desk.{blank}
 use Rattle.paper.specs.Cases.{givenWith, admissionZ}
 
@@ -37,7 +37,7 @@ abbrev pub signed : List ℤ → ℕ → ℤ
 signed xs place = getD xs place (pos 0)
 
 abbrev pub plain : List ℤ → ℕ → ℕ
-plain xs place = natural (signed xs place)
+plain xs place = unsigned (signed xs place)
 
 -- ---- the places: the statics in the order of the table, then an admission's numbers, then a record's
 
@@ -126,8 +126,8 @@ secondAt = 62
 
 -- ---- what the numbers spell
 
-unfoldable pub givenFrom : List ℤ → Given
-unfolding natural
+unfoldable pub givenFrom : List ℤ → GivenStatics
+unfolding unsigned
 givenFrom xs =
     record {
       lot = plain xs lotAt;
@@ -175,11 +175,11 @@ nearFrom zero = Not
 nearFrom (suc second) = Since second
 
 unfoldable pub limitsFrom : List ℤ → ℕ → Limits
-unfolding natural
+unfolding unsigned
 limitsFrom xs place = record { lower = plain xs place; upper = plain xs (place + 1) }
 
 unfoldable pub termFrom : List ℤ → ℕ → Term
-unfolding natural
+unfolding unsigned
 termFrom xs place = record { k = plain xs place; low = signed xs (place + 1); high = signed xs (place + 2) }
 
 unfoldable pub recordFrom : List ℤ → Record
@@ -214,7 +214,7 @@ dayFrom xs =
     record { day = plain xs 0; b = plain xs 1; m = plain xs 2; terms = three (λ k. termFrom xs (3 + 3 * k)) }
 
 unfoldable pub quoteFrom : List ℤ → Quote
-unfolding natural
+unfolding unsigned
 quoteFrom xs = record { second = plain xs 0; term = plain xs 1; bid = plain xs 2; ask = plain xs 3 }
 
 -- yes 1, no 0

@@ -16,7 +16,7 @@ use Rattle.paper.specs.declared.Limit.{Limit}
 use Rattle.paper.specs.declared.MadeLimit.{MadeLimit}
 use Rattle.paper.specs.declared.MadeLimit.the-variants as made-limit
 use Rattle.paper.specs.declared.Statics.{Statics}
-use Rattle.paper.specs.declared.Given.{Given}
+use Rattle.paper.specs.declared.GivenStatics.{GivenStatics}
 use Rattle.paper.specs.declared.Standing.{Standing}
 use Rattle.paper.specs.declared.Standing.the-variants.{Admitted, Live}
 use Rattle.paper.specs.declared.Side.{Side}
@@ -43,9 +43,9 @@ withinZ low high x = leZ low x && leZ x high
 
 -- a signed number where the paper's range begins at 0 or above: one below zero is out of every range, and so is read as a number that no
 -- range holds
-unfoldable pub natural : ℤ → ℕ
-natural (pos n) = n
-natural (negsuc n) = pastEvery
+unfoldable pub unsigned : ℤ → ℕ
+unsigned (pos n) = n
+unsigned (negsuc n) = pastEvery
 
 -- ---- prices, rates and limits
 
@@ -107,7 +107,7 @@ validStatics st =
     && within 1 secondsMost (st .u)
 
 -- the statics that are given as numbers: "yes 1, no 0"
-unfoldable pub staticsOf : Given → Statics
+unfoldable pub staticsOf : GivenStatics → Statics
 staticsOf g =
     record {
       lot = g .lot;
@@ -134,7 +134,7 @@ staticsOf g =
       ewma = eqb (g .ewma) 1;
     }
 
-unfoldable pub validGiven : Given → Bool
+unfoldable pub validGiven : GivenStatics → Bool
 validGiven g = validStatics (staticsOf g) && leb (g .monitoring) 1 && leb (g .ewma) 1
 
 -- "the tentative rate (0..S_max, a multiple of h)"
@@ -197,30 +197,30 @@ closeForVolume volume close = leZ volume (pos 0) || leZ (pos 1) close
 
 -- "A row: T 0..30; central rate 1..10^7 ten-thousandths; repo rate -9,999..9,999 bp; close, bid, ask 0..10^10; volume 0..10^8 thousands."
 unfoldable pub validRow : LentRow → Bool
-validRow w =
-    withinZ (pos 0) (pos rowTermMost) (w .t)
-    && withinZ (pos 1) (pos centralMost) (w .central)
-    && withinZ repoLeast repoMost (w .repo)
-    && withinZ (pos 0) (pos priceMost) (w .close)
-    && withinZ (pos 0) (pos priceMost) (w .bid)
-    && withinZ (pos 0) (pos priceMost) (w .ask)
-    && withinZ (pos 0) (pos volumeMost) (w .volume)
-    && closeForVolume (w .volume) (w .close)
+validRow row =
+    withinZ (pos 0) (pos rowTermMost) (row .t)
+    && withinZ (pos 1) (pos centralMost) (row .central)
+    && withinZ repoLeast repoMost (row .repo)
+    && withinZ (pos 0) (pos priceMost) (row .close)
+    && withinZ (pos 0) (pos priceMost) (row .bid)
+    && withinZ (pos 0) (pos priceMost) (row .ask)
+    && withinZ (pos 0) (pos volumeMost) (row .volume)
+    && closeForVolume (row .volume) (row .close)
 
 unfoldable pub validRows : List ℤ → Bool
 validRows numbers = wholeRows numbers && every validRow (rowsOf numbers)
 
 -- the row that seven numbers in range are
 unfoldable pub rowOf : LentRow → Row
-rowOf w =
+rowOf row =
     record {
-      t = natural (w .t);
-      central = natural (w .central);
-      repo = w .repo;
-      close = natural (w .close);
-      bid = natural (w .bid);
-      ask = natural (w .ask);
-      volume = natural (w .volume);
+      t = unsigned (row .t);
+      central = unsigned (row .central);
+      repo = row .repo;
+      close = unsigned (row .close);
+      bid = unsigned (row .bid);
+      ask = unsigned (row .ask);
+      volume = unsigned (row .volume);
     }
 
 -- "days k 0..30 and repo band RRcL ≤ RRcH, -9,999..9,999 bp"

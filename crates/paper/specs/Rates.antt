@@ -12,7 +12,7 @@ use Rattle.paper.specs.declared.Tentative.{Tentative}
 use Rattle.paper.specs.declared.Model.{Model}
 use Rattle.paper.specs.declared.Statics.{Statics}
 use Rattle.paper.specs.Lists.{pick, forLevels}
-use Rattle.paper.specs.Numbers.{whole, million, hundred, volatilityMost, ageMost}
+use Rattle.paper.specs.Numbers.{hundredthsOfMillionthsInBp, oneInTenThousandths, oneInMillionths, millionthsInBp, oneInHundredths, volatilityMost, ageMost}
 use Rattle.paper.specs.Roundings.{Quotient, up, apart}
 use Rattle.paper.specs.Least.{leastRoot, leastTimes, leastMultiple}
 
@@ -20,7 +20,7 @@ use Rattle.paper.specs.Least.{leastRoot, leastTimes, leastMultiple}
 
 -- |P - P1|/P1, rounded by (e) up to a millionth
 unfoldable pub moveFrom : ℕ → ℕ → ℕ
-moveFrom earlier p = up (apart p earlier * million) earlier
+moveFrom earlier p = up (apart p earlier * oneInMillionths) earlier
 
 -- "r is the greater of |P - P1|/P1 and |P - P2|/P2 over the two earlier evaluations, rounded by (e)."
 unfoldable pub moveOf : ℕ → ℕ → ℕ → ℕ
@@ -36,11 +36,11 @@ weightOf m b r s = pick (ltb 1 b) 0 (pick (ltb s r) (m .aup) (m .adown))
 
 -- "New s is the least whole x with 10,000·x² ≥ (10,000 - a)·s² + a·r²."
 unfoldable pub weighted : ℕ → ℕ → ℕ → ℕ
-weighted a s r = leastRoot whole ((whole - a) * (s * s) + a * (r * r))
+weighted a s r = leastRoot oneInTenThousandths ((oneInTenThousandths - a) * (s * s) + a * (r * r))
 
 -- "the least y with y·q ≥ 100·r"
 unfoldable pub replacement : ℕ → ℕ → ℕ
-replacement q r = leastTimes q (hundred * r)
+replacement q r = leastTimes q (oneInHundredths * r)
 
 -- "When b ≤ 1 and r > 100·S_1 (last rate), also take the least y ..; s is the greater, and on a tie x is the one chosen." The last rate is in the
 -- unit of the move
@@ -54,13 +54,13 @@ volatilityOf m b last r s =
 
 -- ---- the tentative rate
 
--- "the least multiple of h with" w·t ≥ n
-unfoldable pub leastStep : (h w n : ℕ) → ℕ
-leastStep h w n = leastMultiple h n (λ t. leb n (w * t))
+-- "the least multiple of h with" factor·t ≥ n
+unfoldable pub leastStep : (h factor n : ℕ) → ℕ
+leastStep h factor n = leastMultiple h n (λ t. leb n (factor * t))
 
 -- "t is the least multiple of h with 10,000·t ≥ q·s, held at S_max."
-unfoldable pub wanted : Statics → ℕ → ℕ
-wanted st s = min (st .smax) (leastStep (st .h) whole (st .q * s))
+unfoldable pub tentativeRate : Statics → ℕ → ℕ
+tentativeRate st s = min (st .smax) (leastStep (st .h) hundredthsOfMillionthsInBp (st .q * s))
 
 -- "If t ≥ tentative + h, tentative becomes t. Else if t ≤ tentative - h and age + 1 ≥ n, it falls by one h. Else it stays. Age becomes 0 on a
 -- change, else one more, held at 250."
@@ -74,8 +74,8 @@ tentativeAfter h wait t old =
 
 -- "v ≥ sqrt(rh_L/rh_1)·(tentative·sqrt((rh_1 + m)/rh_1) + liq)": with A = v²·rh_1² - rh_L·tentative²·(rh_1 + m) - rh_L·rh_1·liq², "it holds
 -- when A ≥ 0 and A² ≥ 4·rh_L²·tentative²·liq²·rh_1·(rh_1 + m)"
-unfoldable pub meets : ℕ → ℕ → ℕ → ℕ → ℕ → ℕ → Bool
-meets rh1 rh liq m tentative v =
+unfoldable pub meetsRequirement : ℕ → ℕ → ℕ → ℕ → ℕ → ℕ → Bool
+meetsRequirement rh1 rh liq m tentative v =
     let A : ℤ = subℕ (v * v * (rh1 * rh1)) (rh * (tentative * tentative) * (rh1 + m) + rh * rh1 * (liq * liq)) in
     leZ (pos 0) A && leZ (pos (4 * (rh * rh) * (tentative * tentative) * (liq * liq) * rh1 * (rh1 + m))) (A *ℤ A)
 
@@ -88,7 +88,7 @@ minimumOf st level = pick (eqb level 1) (st .min1) (pick (eqb level 2) (st .min2
 
 -- whether a rate v covers the requirement of a level
 unfoldable pub covers : Statics → ℕ → ℕ → ℕ → ℕ → Bool
-covers st level m tentative v = meets (st .rh1) (daysOf st level) (st .liq) m tentative v
+covers st level m tentative v = meetsRequirement (st .rh1) (daysOf st level) (st .liq) m tentative v
 
 -- "Rate of level L is S_max if the requirement exceeds it, else the least multiple v of h, v ≥ S_L_min, with v ≥ .." the requirement
 unfoldable pub levelRate : Statics → ℕ → ℕ → ℕ → ℕ
@@ -107,8 +107,8 @@ pub record Figures : Type 0 where
 
 unfoldable pub modelled : Statics → (b m s1 r s : ℕ) → Tentative → Figures
 modelled st b m s1 r s old =
-    let s′ : ℕ = volatilityOf (modelOf st) b (hundred * s1) r s in
-    let t : Tentative = tentativeAfter (st .h) (st .wait) (wanted st s′) old in
+    let s′ : ℕ = volatilityOf (modelOf st) b (millionthsInBp * s1) r s in
+    let t : Tentative = tentativeAfter (st .h) (st .wait) (tentativeRate st s′) old in
     record { s = s′; tentative = t; rates = forLevels (λ l. record { bp = levelRate st l m (t .bp) }) }
 
 unfoldable pub unmodelled : Statics → (s : ℕ) → Tentative → Figures
@@ -135,11 +135,11 @@ volatilePart rh1 rh m tentative = record { num = rh * (tentative * tentative) * 
 abbrev pub liquidPart : (rh1 rh liq : ℕ) → Quotient
 liquidPart rh1 rh liq = record { num = rh * (liq * liq); den = rh1 }
 
--- v is the least multiple of h with w·v ≥ n
-pub record IsLeastStep (h w n v : ℕ) : Type 0 where
+-- v is the least multiple of h with factor·v ≥ n
+pub record IsLeastStep (h factor n v : ℕ) : Type 0 where
   pub multiple : v % h ≡ 0
-  pub enough : n ≤ w * v
-  pub least : (j : ℕ) → n ≤ w * (j * h) → v ≤ j * h
+  pub enough : n ≤ factor * v
+  pub least : (j : ℕ) → n ≤ factor * (j * h) → v ≤ j * h
 
 -- v is at least the requirement of a level, as real numbers are: "v ≥ sqrt(rh_L/rh_1)·(tentative·sqrt((rh_1 + m)/rh_1)
 -- + liq)"

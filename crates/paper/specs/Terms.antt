@@ -4,10 +4,10 @@ use mathlib.Core.List.{List, [], _∷_}
 use Prim.Native.Nat.{ℕ}
 use lib.IntN.{ℤ, pos}
 use Rattle.paper.specs.declared.Term.{Term}
-use Rattle.paper.specs.declared.Repo.{Repo}
-use Rattle.paper.specs.declared.Worked.{Worked}
-use Rattle.paper.specs.declared.Band.{Band}
-use Rattle.paper.specs.declared.Band.the-variants as band
+use Rattle.paper.specs.declared.RepoLimits.{RepoLimits}
+use Rattle.paper.specs.declared.WorkedBand.{WorkedBand}
+use Rattle.paper.specs.declared.RepoBand.{RepoBand}
+use Rattle.paper.specs.declared.RepoBand.the-variants as band
 use Rattle.paper.specs.declared.AskedTerm.{AskedTerm}
 use Rattle.paper.specs.declared.AskedDay.{AskedDay}
 use Rattle.paper.specs.declared.Day.{Day}
@@ -15,14 +15,14 @@ use Rattle.paper.specs.Lists.{pick}
 use Rattle.paper.specs.Verdicts.{isDone}
 
 -- no band: its low is above its high, so that it is out of range (6)
-abbrev pub noRepo : Repo
+abbrev pub noRepo : RepoLimits
 noRepo = record { low = pos 1; high = pos 0 }
 
 -- the limits of a pair that was worked out, as they are; a pair that was refused has none
-unfoldable pub workedRepo : Worked → Repo
+unfoldable pub workedRepo : WorkedBand → RepoLimits
 workedRepo w = pick (isDone (w .verdict)) (record { low = w .lower; high = w .upper }) noRepo
 
-unfoldable pub repoOf : Band → Repo
+unfoldable pub repoOf : RepoBand → RepoLimits
 repoOf (band.Given x) = x
 repoOf (band.Worked w) = workedRepo w
 

@@ -6,17 +6,26 @@ ghost use Rattle.paper.specs.Numbers.{rateMost};
 ghost use Rattle.paper.specs.Ranges.{priceMade, rateMade, limitMade};
 ghost use Rattle.paper.specs.Verdicts.{numberOf};
 
-// "10,000 = 100 per cent": the basis points, and the ten-thousandths, of the whole.
-pub const WHOLE: u64 = 10_000;
+// "10,000 = 100 per cent": one, in basis points.
+pub const ONE_IN_BP: u64 = 10_000;
 
-// The millionths of the whole.
-pub const MILLION: u64 = 1_000_000;
+// One, in the ten-thousandths in which the weights and w are given.
+pub const ONE_IN_TEN_THOUSANDTHS: u64 = 10_000;
 
-// The hundredths of the whole; also the millionths of a basis point.
-pub const HUNDRED: u64 = 100;
+// One, in the hundredths in which q, x_pr and shift are given.
+pub const ONE_IN_HUNDREDTHS: u64 = 100;
 
-// A year's days, times the whole in basis points.
-pub const YEAR: u64 = 3_650_000;
+// One, in the millionths in which a move and the volatility are given.
+pub const ONE_IN_MILLIONTHS: u64 = 1_000_000;
+
+// A basis point, in millionths.
+pub const MILLIONTHS_IN_BP: u64 = 100;
+
+// A basis point, in the unit of q·s, hundredths of millionths: the 10,000 of "10,000·t ≥ q·s".
+pub const HUNDREDTHS_OF_MILLIONTHS_IN_BP: u64 = 10_000;
+
+// A year of 365 days at 100 per cent, in days times basis points.
+pub const YEAR_IN_DAY_BP: u64 = 3_650_000;
 
 // A price, in ten-thousandths of a rouble.
 pub struct Price {
@@ -29,14 +38,14 @@ pub enum MadePrice {
 }
 
 impl Price {
-    pub const LEAST: u64 = 1;
+    pub const LEAST_UNITS: u64 = 1;
 
-    pub const MOST: u64 = 10_000_000_000;
+    pub const MOST_UNITS: u64 = 10_000_000_000;
 
     pub fn new(units: u64) -> MadePrice
         ensures { λ r. ⌜ r ≡ priceMade units ⌝ }
     {
-        if (Price::LEAST <= units) & (units <= Price::MOST) {
+        if (Price::LEAST_UNITS <= units) & (units <= Price::MOST_UNITS) {
             MadePrice::Made(Price { units })
         } else {
             MadePrice::OutOfRange
@@ -55,12 +64,12 @@ pub enum MadeRate {
 }
 
 impl Rate {
-    pub const MOST: u64 = 10_000;
+    pub const MOST_BP: u64 = 10_000;
 
     pub fn new(bp: u64) -> MadeRate
         ensures { λ r. ⌜ r ≡ rateMade bp ⌝ }
     {
-        if bp <= Rate::MOST {
+        if bp <= Rate::MOST_BP {
             MadeRate::Made(Rate { bp })
         } else {
             MadeRate::OutOfRange
@@ -88,12 +97,12 @@ pub enum MadeLimit {
 }
 
 impl Limit {
-    pub const MOST: u64 = 2_020_000_000_000;
+    pub const MOST_UNITS: u64 = 2_020_000_000_000;
 
     pub fn new(units: u64) -> MadeLimit
         ensures { λ r. ⌜ r ≡ limitMade units ⌝ }
     {
-        if units <= Limit::MOST {
+        if units <= Limit::MOST_UNITS {
             MadeLimit::Made(Limit { units })
         } else {
             MadeLimit::OutOfRange
@@ -117,28 +126,28 @@ pub struct Model {
 
 // What a security is admitted with, by the names of document 01's table.
 pub struct Statics {
-    pub lot: u64,
-    pub h: u64,
-    pub q: u64,
-    pub aup: u64,
-    pub adown: u64,
-    pub wait: u64,
-    pub rh1: u64,
-    pub rh2: u64,
-    pub rh3: u64,
-    pub liq: u64,
-    pub min1: u64,
-    pub min2: u64,
-    pub min3: u64,
-    pub smax: u64,
-    pub xpr: u64,
-    pub shift: u64,
-    pub pchmax: u64,
-    pub pclmax: u64,
-    pub w: u64,
-    pub u: u64,
-    pub monitoring: bool,
-    pub ewma: bool,
+    pub lot: u64, // pieces, 1 to 100
+    pub h: u64, // bp, 1 to 1,000
+    pub q: u64, // hundredths, 100 to 1,000
+    pub aup: u64, // ten-thousandths, 0 to 10,000
+    pub adown: u64, // ten-thousandths, 0 to 10,000
+    pub wait: u64, // trading days, 1 to 250
+    pub rh1: u64, // days, 1 to 5
+    pub rh2: u64, // days, rh1 to 30
+    pub rh3: u64, // days, rh2 to 30
+    pub liq: u64, // bp, 0 to 500
+    pub min1: u64, // bp, 0 to min2, a multiple of h
+    pub min2: u64, // bp, min1 to min3, a multiple of h
+    pub min3: u64, // bp, min2 to smax, a multiple of h
+    pub smax: u64, // bp, min3 to 10,000, a multiple of h
+    pub xpr: u64, // hundredths, 50 to 1,000
+    pub shift: u64, // hundredths, 1 to 100
+    pub pchmax: u64, // bp, 0 to 10,000
+    pub pclmax: u64, // bp, 0 to 10,000
+    pub w: u64, // ten-thousandths, 0 to 5,000
+    pub u: u64, // seconds, 1 to 3,600
+    pub monitoring: bool, // yes or no
+    pub ewma: bool, // yes or no
 }
 
 impl Statics {
@@ -172,7 +181,7 @@ impl Statics {
 }
 
 // The statics as they are given: the same numbers, with yes as 1 and no as 0.
-pub struct Given {
+pub struct GivenStatics {
     pub lot: u64,
     pub h: u64,
     pub q: u64,
@@ -289,7 +298,7 @@ pub struct Admission {
     pub p2: u64,
     pub s: u64,
     pub tentative: u64,
-    pub given: Given,
+    pub given: GivenStatics,
 }
 
 // What a day gives beside its rows.
@@ -460,7 +469,7 @@ pub struct MaturityFigures {
 }
 
 // A pair of terms worked out: the limits of its repo band, where the verdict is done.
-pub struct Worked {
+pub struct WorkedBand {
     pub verdict: Verdict,
     pub lower: i64,
     pub upper: i64,
@@ -469,26 +478,26 @@ pub struct Worked {
 // What the interest side answers: the pair, how many key maturities there are, and the figures of each; zeros past the last. A refusal has its verdict
 // and every figure 0.
 pub struct InterestAnswer {
-    pub pair: Worked,
+    pub pair: WorkedBand,
     pub count: u64,
     pub figures: [MaturityFigures; 8],
 }
 
 // A repo band as two numbers give it.
-pub struct Repo {
+pub struct RepoLimits {
     pub low: i64,
     pub high: i64,
 }
 
 // Where a term's repo band comes from: it is given, or a pair of terms was worked out.
-pub enum Band {
-    Given(Repo),
-    Worked(Worked),
+pub enum RepoBand {
+    Given(RepoLimits),
+    Worked(WorkedBand),
 }
 
 pub struct AskedTerm {
     pub k: u64,
-    pub band: Band,
+    pub band: RepoBand,
 }
 
 // A day as it is asked for, with either kind of band in each of its terms.

@@ -10,7 +10,7 @@ use borrow.Author.Tests.{leb-true, leb-false, le-leb, lt-leb}
 use Rattle.paper.specs.declared.Statics.{Statics}
 use Rattle.paper.specs.Lists.{pick}
 use Rattle.paper.specs.Least.{least, leastMultiple}
-use Rattle.paper.specs.Rates.{meets, daysOf, minimumOf, covers, levelRate}
+use Rattle.paper.specs.Rates.{meetsRequirement, daysOf, minimumOf, covers, levelRate}
 use Rattle.paper.proofs.Logic.{clash, and-left, and-right, and-both, pick-true, pick-false, le-or-lt}
 use Rattle.paper.proofs.Level.{meets-roots, within-more, covers-more, whole-times}
 use Rattle.paper.proofs.Search.{Mono, Between, between-hit, between-miss, between-one, least-monotone, multiple-cases, multiple-bound}
@@ -36,7 +36,7 @@ four-products a b = either (le-or-lt a b)
 
 -- a rate meets the requirement exactly where, times rh_1, it reaches the two roots
 pub meets-reaches : (rh1 rh liq m tentative v : ℕ)
-    → reaches (v * rh1) (tentativeSquare rh1 rh m tentative) (liquiditySquare rh1 rh liq) ≡ meets rh1 rh liq m tentative v
+    → reaches (v * rh1) (tentativeSquare rh1 rh m tentative) (liquiditySquare rh1 rh liq) ≡ meetsRequirement rh1 rh liq m tentative v
 unfolding reaches
 meets-reaches rh1 rh liq m tentative v =
     let same : v * rh1 * (v * rh1) ≡ v * v * (rh1 * rh1) = omega arith in

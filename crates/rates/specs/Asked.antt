@@ -4,7 +4,7 @@ use Prim.Native.Nat.{ℕ, _+_, _*_, _/_, _%_, _≤_}
 use Rattle.paper.specs.declared.Rate.{Rate}
 use Rattle.paper.specs.declared.Statics.{Statics}
 use Rattle.paper.specs.declared.Tentative.{Tentative}
-use Rattle.paper.specs.Numbers.{whole, rateMost, volatilityMost, ageMost, aheadMost, stepMost, multiplierLeast, multiplierMost, weightMost, firstDaysMost, daysMost, liquidityMost}
+use Rattle.paper.specs.Numbers.{hundredthsOfMillionthsInBp, rateMost, volatilityMost, ageMost, aheadMost, stepMost, multiplierLeast, multiplierMost, weightMost, firstDaysMost, daysMost, liquidityMost}
 
 -- the statics of 7.1
 pub record RateStatics (st : Statics) : Type 0 where
@@ -29,7 +29,7 @@ pub record RateStatics (st : Statics) : Type 0 where
 
 -- no tentative rate passes it, held at S_max or not: q·s/10,000 at its most, and a step
 abbrev pub tentativeMost : ℕ
-tentativeMost = multiplierMost * volatilityMost / whole + stepMost
+tentativeMost = multiplierMost * volatilityMost / hundredthsOfMillionthsInBp + stepMost
 
 -- the figures that an evaluation carries on, and the days ahead
 pub record FigureRanges (st : Statics) (m : ℕ) (s1 : Rate) (s : ℕ) (old : Tentative) : Type 0 where

@@ -11,7 +11,7 @@ ghost use Rattle.paper.specs.Numbers.{volatilityMost};
 ghost use Rattle.paper.specs.Rates.{modelled, unmodelled, figuresOf, moveTooLarge};
 ghost use Rattle.rates.specs.Asked.{RateStatics, FigureRanges};
 ghost use Rattle.rates.specs.Figures.{handed};
-use paper::HUNDRED;
+use paper::MILLIONTHS_IN_BP;
 use paper::Rate;
 use paper::Record;
 use paper::Statics;
@@ -37,8 +37,8 @@ fn modelled(st: Statics, b: u64, m: u64, s1: Rate, r: u64, s: u64, old: Tentativ
     ensures { λ f. ⌜ f ≡ handed (modelled st b m (s1 .bp) r s old) ⌝ }
 {
     let model = volatility::model_of(st);
-    let carried = volatility::volatility_of(model, b, HUNDRED * s1.bp, r, s);
-    let t = tentative::wanted(st, carried);
+    let carried = volatility::volatility_of(model, b, MILLIONTHS_IN_BP * s1.bp, r, s);
+    let t = tentative::tentative_rate(st, carried);
     let tentative = tentative::tentative_after(st.h, st.wait, t, old);
     let rates = level::rates_of(st, m, tentative.bp);
     Figures {

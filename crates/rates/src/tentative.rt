@@ -2,28 +2,31 @@
 ghost use mathlib.Core.Path.{_≡_};
 ghost use Prim.Native.Nat.{_+_, _*_, _^_, _≤_, _<_};
 ghost use Rattle.paper.specs.Numbers.{volatilityMost};
-ghost use Rattle.paper.specs.Rates.{leastStep, wanted, tentativeAfter};
+ghost use Rattle.paper.specs.Rates.{leastStep, tentativeRate, tentativeAfter};
 ghost use Rattle.rates.specs.Asked.{RateStatics};
+use paper::HUNDREDTHS_OF_MILLIONTHS_IN_BP;
 use paper::Record;
 use paper::Statics;
 use paper::Tentative;
-use paper::WHOLE;
 
-// The least multiple of h with w·t ≥ n: so many steps that each makes w·h.
-pub fn least_step(h: u64, w: u64, n: u64) -> u64
-    requires { ⌜ (0 < h) × (0 < w) × (n + w * h < 2 ^ 64) ⌝ }
-    ensures { λ r. ⌜ r ≡ leastStep h w n ⌝ }
+// The least multiple of h with factor·t ≥ n: so many steps that each makes factor·h.
+pub fn least_step(h: u64, factor: u64, n: u64) -> u64
+    requires { ⌜ (0 < h) × (0 < factor) × (n + factor * h < 2 ^ 64) ⌝ }
+    ensures { λ r. ⌜ r ≡ leastStep h factor n ⌝ }
 {
-    exact::up(n, w * h) * h
+    exact::up(n, factor * h) * h
 }
 
 // The t of the paper.
-pub fn wanted(st: Statics, s: u64) -> u64
+pub fn tentative_rate(st: Statics, s: u64) -> u64
     requires { ⌜ RateStatics st ⌝ }
     requires { ⌜ s ≤ volatilityMost ⌝ }
-    ensures { λ r. ⌜ r ≡ wanted st s ⌝ }
+    ensures { λ r. ⌜ r ≡ tentativeRate st s ⌝ }
 {
-    exact::lesser(st.smax, least_step(st.h, WHOLE, st.q * s))
+    exact::lesser(
+        st.smax,
+        least_step(st.h, HUNDREDTHS_OF_MILLIONTHS_IN_BP, st.q * s),
+    )
 }
 
 // Up to t at once, down by one step where it has waited, else it stays.

@@ -2,16 +2,16 @@
 ghost use mathlib.Core.Path.{_≡_};
 ghost use mathlib.Core.Bool.{true};
 ghost use Prim.Native.Nat.{_*_, _^_, _≤_, _<_};
-ghost use Rattle.paper.specs.Numbers.{whole, volatilityMost};
+ghost use Rattle.paper.specs.Numbers.{oneInTenThousandths, volatilityMost};
 ghost use Rattle.paper.specs.Ranges.{isPrice};
 ghost use Rattle.paper.specs.Rates.{modelOf, moveFrom, moveOf, weightOf, weighted, replacement, replaces, volatilityOf};
 ghost use Rattle.paper.proofs.Volatility.{Weighing};
-use paper::HUNDRED;
-use paper::MILLION;
 use paper::Model;
+use paper::ONE_IN_HUNDREDTHS;
+use paper::ONE_IN_MILLIONTHS;
+use paper::ONE_IN_TEN_THOUSANDTHS;
 use paper::Price;
 use paper::Statics;
-use paper::WHOLE;
 
 // Place (e).
 fn move_from(earlier: Price, p: Price) -> u64
@@ -19,7 +19,7 @@ fn move_from(earlier: Price, p: Price) -> u64
     ensures { λ r. ⌜ r ≡ moveFrom (earlier .units) (p .units) ⌝ }
 {
     exact::up(
-        exact::apart(p.units, earlier.units) * MILLION,
+        exact::apart(p.units, earlier.units) * ONE_IN_MILLIONTHS,
         earlier.units,
     )
 }
@@ -58,10 +58,13 @@ pub fn weight_of(m: Model, b: u64, r: u64, s: u64) -> u64
 
 // Place (f): the x of the paper.
 pub fn weighted(a: u64, s: u64, r: u64) -> u64
-    requires { ⌜ (a ≤ whole) × (s ≤ 2 ^ 20) × (r ≤ 2 ^ 20) ⌝ }
+    requires { ⌜ (a ≤ oneInTenThousandths) × (s ≤ 2 ^ 20) × (r ≤ 2 ^ 20) ⌝ }
     ensures { λ x. ⌜ x ≡ weighted a s r ⌝ }
 {
-    exact::least_root(WHOLE, (WHOLE - a) * (s * s) + a * (r * r))
+    exact::least_root(
+        ONE_IN_TEN_THOUSANDTHS,
+        (ONE_IN_TEN_THOUSANDTHS - a) * (s * s) + a * (r * r),
+    )
 }
 
 // The y of the paper.
@@ -69,7 +72,7 @@ pub fn replacement(q: u64, r: u64) -> u64
     requires { ⌜ (0 < q) × (r ≤ volatilityMost) ⌝ }
     ensures { λ y. ⌜ y ≡ replacement q r ⌝ }
 {
-    exact::up(HUNDRED * r, q)
+    exact::up(ONE_IN_HUNDREDTHS * r, q)
 }
 
 // Whether y is chosen over x. The last rate is in the unit of the move.

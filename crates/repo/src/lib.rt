@@ -2,17 +2,17 @@
 ghost use mathlib.Core.Path.{_≡_};
 ghost use Prim.Native.Nat.{_-_, _*_, _≤_};
 ghost use lib.IntN.{natAbs};
-ghost use Rattle.paper.specs.Numbers.{hundred, minimumMost, repoMost, repoVolatilityMost, repoTentativeMost};
+ghost use Rattle.paper.specs.Numbers.{oneInHundredths, minimumMost, repoMost, repoVolatilityMost, repoTentativeMost};
 ghost use Rattle.paper.specs.Roundings.{grown};
 ghost use Rattle.paper.specs.Rates.{leastStep};
 ghost use Rattle.paper.specs.Interest.{apartZ, atLeastZero, changeOf, repoVolatility, repoTentative, maturityFigures};
 ghost use Rattle.paper.proofs.InterestRanges.{InterestRange, KeyRange};
 ghost use Rattle.repo.specs.Lift.{lift};
 ghost use Rattle.repo.specs.Estimates.{estimateOf, securityMinimum};
-use paper::HUNDRED;
 use paper::Interest;
 use paper::Maturity;
 use paper::MaturityFigures;
+use paper::ONE_IN_HUNDREDTHS;
 use paper::Tentative;
 
 // The base on which a rate of either sign is a natural number: differences of rates are worked out without a sign. It is no number of the paper.
@@ -54,12 +54,12 @@ fn volatility_of(i: Interest, k: Maturity, change: u64) -> u64
 }
 
 // The t of the paper: no maximum holds it.
-fn wanted(i: Interest, volatility: u64) -> u64
+fn tentative_rate(i: Interest, volatility: u64) -> u64
     requires { ⌜ InterestRange i ⌝ }
     requires { ⌜ volatility ≤ repoVolatilityMost ⌝ }
-    ensures { λ r. ⌜ r ≡ leastStep (i .h) hundred (i .model .q * volatility) ⌝ }
+    ensures { λ r. ⌜ r ≡ leastStep (i .h) oneInHundredths (i .model .q * volatility) ⌝ }
 {
-    rates::tentative::least_step(i.h, HUNDRED, i.model.q * volatility)
+    rates::tentative::least_step(i.h, ONE_IN_HUNDREDTHS, i.model.q * volatility)
 }
 
 // Up to t at once, down by one step where it has waited: the shares' rule.
@@ -69,7 +69,7 @@ fn tentative_of(i: Interest, k: Maturity, volatility: u64) -> Tentative
     requires { ⌜ volatility ≡ repoVolatility i k ⌝ }
     ensures { λ r. ⌜ r ≡ repoTentative i k ⌝ }
 {
-    let t = wanted(i, volatility);
+    let t = tentative_rate(i, volatility);
     let old = k.tentative;
     rates::tentative::tentative_after(i.h, i.wait, t, old)
 }

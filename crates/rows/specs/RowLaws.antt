@@ -15,7 +15,7 @@ use Rattle.paper.specs.Numbers.{rowNumbers, allNumbersMost, rowTermMost, centra
 use Rattle.paper.specs.Ranges.{LentRow, rowAt, rowsOf, wholeRows, validRows, validRow, rowOf}
 use Rattle.paper.proofs.Logic.{and-left, and-right}
 use Rattle.exact.specs.LentLaws.{partsLeft, left-first}
-use Rattle.exact.specs.SignedLaws.{natural-le, repo-le}
+use Rattle.exact.specs.SignedLaws.{unsigned-le, repo-le}
 
 -- ---- the rows from a place on
 
@@ -47,24 +47,24 @@ valid-every numbers e = and-right (wholeRows numbers) (every validRow (rowsOf nu
 -- ---- what a row in range gives
 
 -- the ends of a row's ranges, as far as arithmetic asks for them
-pub record InRange (w : Row) : Type 0 where
-  pub t : w .t ≤ rowTermMost
-  pub central : w .central ≤ centralMost
-  pub repo : mag (w .repo) ≤ mag repoMost
-  pub close : w .close ≤ priceMost
-  pub bid : w .bid ≤ priceMost
-  pub ask : w .ask ≤ priceMost
-  pub volume : w .volume ≤ volumeMost
+pub record InRange (row : Row) : Type 0 where
+  pub t : row .t ≤ rowTermMost
+  pub central : row .central ≤ centralMost
+  pub repo : mag (row .repo) ≤ mag repoMost
+  pub close : row .close ≤ priceMost
+  pub bid : row .bid ≤ priceMost
+  pub ask : row .ask ≤ priceMost
+  pub volume : row .volume ≤ volumeMost
 
-pub in-range : (w : LentRow) → validRow w ≡ true → InRange (rowOf w)
+pub in-range : (row : LentRow) → validRow row ≡ true → InRange (rowOf row)
 unfolding validRow rowOf
-in-range w e =
+in-range row e =
     record {
-      t = natural-le 0 rowTermMost (w .t) (omega arith) (search (e, and-left, and-right) depth 40);
-      central = natural-le 1 centralMost (w .central) (omega arith) (search (e, and-left, and-right) depth 40);
-      repo = repo-le (w .repo) (search (e, and-left, and-right) depth 40);
-      close = natural-le 0 priceMost (w .close) (omega arith) (search (e, and-left, and-right) depth 40);
-      bid = natural-le 0 priceMost (w .bid) (omega arith) (search (e, and-left, and-right) depth 40);
-      ask = natural-le 0 priceMost (w .ask) (omega arith) (search (e, and-left, and-right) depth 40);
-      volume = natural-le 0 volumeMost (w .volume) (omega arith) (search (e, and-left, and-right) depth 40);
+      t = unsigned-le 0 rowTermMost (row .t) (omega arith) (search (e, and-left, and-right) depth 40);
+      central = unsigned-le 1 centralMost (row .central) (omega arith) (search (e, and-left, and-right) depth 40);
+      repo = repo-le (row .repo) (search (e, and-left, and-right) depth 40);
+      close = unsigned-le 0 priceMost (row .close) (omega arith) (search (e, and-left, and-right) depth 40);
+      bid = unsigned-le 0 priceMost (row .bid) (omega arith) (search (e, and-left, and-right) depth 40);
+      ask = unsigned-le 0 priceMost (row .ask) (omega arith) (search (e, and-left, and-right) depth 40);
+      volume = unsigned-le 0 volumeMost (row .volume) (omega arith) (search (e, and-left, and-right) depth 40);
     }

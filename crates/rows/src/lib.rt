@@ -11,7 +11,7 @@ use paper::Row;
 use paper::Term;
 
 // The ends of ranges of which paper's code has the unsigned number: what is lent is signed.
-const PRICE_MOST: i64 = Price::MOST as i64;
+const PRICE_MOST: i64 = Price::MOST_UNITS as i64;
 
 const VOLUME_MOST: i64 = Row::VOLUME_MOST as i64;
 
@@ -46,13 +46,13 @@ pub fn row_at(rows: &[i64], at: usize) -> Row
     ensures { λ r. ⌜ r ≡ rowOf (rowAt (now (rows .entry)) at) ⌝ }
 {
     Row {
-        t: exact::natural_at(rows, at),
-        central: exact::natural_at(rows, at + 1),
+        t: exact::unsigned_at(rows, at),
+        central: exact::unsigned_at(rows, at + 1),
         repo: rows[at + 2],
-        close: exact::natural_at(rows, at + 3),
-        bid: exact::natural_at(rows, at + 4),
-        ask: exact::natural_at(rows, at + 5),
-        volume: exact::natural_at(rows, at + 6),
+        close: exact::unsigned_at(rows, at + 3),
+        bid: exact::unsigned_at(rows, at + 4),
+        ask: exact::unsigned_at(rows, at + 5),
+        volume: exact::unsigned_at(rows, at + 6),
     }
 }
 

@@ -1,3 +1,3 @@
-pub mod Turns
+pub mod Outcomes
 pub mod Openings
 pub mod Prices

@@ -8,7 +8,7 @@ ghost use Rattle.paper.specs.Limits.{crossed};
 ghost use Rattle.paper.specs.Verdicts.{isDone, firstOf};
 ghost use Rattle.paper.specs.Desk.{blank, saying, showing, nearOn, alertsOn};
 ghost use Rattle.inputs.specs.Parts.{validDayNumbers};
-ghost use Rattle.security.specs.Turns.{holds, isKnown, refusedTurn, admitTurn, evaluateTurn, quoteTurn, moveTurn, readAnswer};
+ghost use Rattle.security.specs.Turns.{holds, isKnown, refusedOutcome, admitOutcome, evaluateOutcome, quoteOutcome, moveOutcome, readAnswer};
 ghost use Rattle.security.specs.Openings.{openingChecks};
 ghost use Rattle.security.specs.Prices.{Prices};
 use evaluation::Evaluation;
@@ -38,7 +38,7 @@ pub struct Slot {
 }
 
 // Where to store, what, and what to answer. A refusal stores past the end.
-pub struct Turn {
+pub struct Outcome {
     pub at: usize,
     pub rec: Record,
     pub answer: Answer,
@@ -154,12 +154,12 @@ fn alerts_on(r: Record, q: Quote, n: NearSeconds) -> Answer
     }
 }
 
-fn refused(count: usize, v: Verdict) -> Turn
-    ensures { λ o. ⌜ o ≡ refusedTurn count v ⌝ }
+fn refused(count: usize, v: Verdict) -> Outcome
+    ensures { λ o. ⌜ o ≡ refusedOutcome count v ⌝ }
 {
     let rec = blank();
     let answer = saying(v);
-    Turn {
+    Outcome {
         at: count,
         rec,
         answer,
@@ -167,11 +167,11 @@ fn refused(count: usize, v: Verdict) -> Turn
 }
 
 // A record that is stored, and answered as it then stands.
-fn written(at: usize, r: Record) -> Turn
+fn written(at: usize, r: Record) -> Outcome
     ensures { λ o. ⌜ o ≡ record { at = at; rec = r; answer = showing r } ⌝ }
 {
     let answer = showing(r);
-    Turn { at, rec: r, answer }
+    Outcome { at, rec: r, answer }
 }
 
 fn is_done(v: Verdict) -> bool
@@ -199,9 +199,9 @@ fn is_known(s: Slot) -> bool
 // ---- the calls
 
 // 4 of what else an admission gives, 2, 3 and what is written, at the two latest evaluations that it gives.
-fn admitted_at(s: Slot, e: Slot, a: Admission, p1: Price, p2: Price) -> Turn
+fn admitted_at(s: Slot, e: Slot, a: Admission, p1: Price, p2: Price) -> Outcome
     requires { ⌜ (p1 ≡ record { units = a .p1 }) × (p2 ≡ record { units = a .p2 }) ⌝ }
-    ensures { λ o. ⌜ o ≡ admitTurn s e a ⌝ }
+    ensures { λ o. ⌜ o ≡ admitOutcome s e a ⌝ }
 {
     let count = s.count;
     if !(soundness::valid_slots(count) & inputs::valid_admission(a)) {
@@ -215,7 +215,7 @@ fn admitted_at(s: Slot, e: Slot, a: Admission, p1: Price, p2: Price) -> Turn
     }
     let rec = writing::admitted(a, p1, p2);
     let answer = saying(Verdict::Done);
-    Turn {
+    Outcome {
         at: e.at,
         rec,
         answer,
@@ -224,8 +224,8 @@ fn admitted_at(s: Slot, e: Slot, a: Admission, p1: Price, p2: Price) -> Turn
 
 // "admit 4, 2, 3": s is the slot with the id, e the first empty one. A price out of range is an admission value out of
 // range (4).
-pub fn admitted(s: Slot, e: Slot, a: Admission) -> Turn
-    ensures { λ o. ⌜ o ≡ admitTurn s e a ⌝ }
+pub fn admitted(s: Slot, e: Slot, a: Admission) -> Outcome
+    ensures { λ o. ⌜ o ≡ admitOutcome s e a ⌝ }
 {
     let count = s.count;
     let later = Price::new(a.p1);
@@ -254,7 +254,7 @@ fn in_order(bands: [Limits; 3]) -> bool
 }
 
 // 8, 9 and what is written, at the evaluation P of a day that is not refused before.
-fn evaluated_at(s: Slot, d: Day, p: Price) -> Turn
+fn evaluated_at(s: Slot, d: Day, p: Price) -> Outcome
     requires { ⌜ sound (s .rec) ≡ true ⌝ }
     requires { ⌜ validDayNumbers d ≡ true ⌝ }
     requires { ⌜ isPrice (p .units) ≡ true ⌝ }
@@ -281,8 +281,8 @@ fn evaluated_at(s: Slot, d: Day, p: Price) -> Turn
 }
 
 // "evaluate 1, 6, 5, 7, 8, 9".
-pub fn evaluated(s: Slot, d: Day, rows: &[i64]) -> Turn
-    ensures { λ o. ⌜ o ≡ evaluateTurn s d (now (rows .entry)) ⌝ }
+pub fn evaluated(s: Slot, d: Day, rows: &[i64]) -> Outcome
+    ensures { λ o. ⌜ o ≡ evaluateOutcome s d (now (rows .entry)) ⌝ }
 {
     let count = s.count;
     let r = s.rec;
@@ -327,8 +327,8 @@ fn opening(s: Slot, in_range: bool) -> Verdict
 }
 
 // "quote 1, 6, 10, 11, 13".
-pub fn quoted(s: Slot, q: Quote) -> Turn
-    ensures { λ o. ⌜ o ≡ quoteTurn s q ⌝ }
+pub fn quoted(s: Slot, q: Quote) -> Outcome
+    ensures { λ o. ⌜ o ≡ quoteOutcome s q ⌝ }
 {
     let count = s.count;
     let r = s.rec;
@@ -342,7 +342,7 @@ pub fn quoted(s: Slot, q: Quote) -> Turn
     let n = writing::near_on(r, q);
     let rec = writing::quoted(r, q, n);
     let answer = alerts_on(r, q, n);
-    Turn {
+    Outcome {
         at: s.at,
         rec,
         answer,
@@ -350,8 +350,8 @@ pub fn quoted(s: Slot, q: Quote) -> Turn
 }
 
 // "move 1, 6, 10, 11, 12".
-pub fn moved(s: Slot, side: u64) -> Turn
-    ensures { λ o. ⌜ o ≡ moveTurn s side ⌝ }
+pub fn moved(s: Slot, side: u64) -> Outcome
+    ensures { λ o. ⌜ o ≡ moveOutcome s side ⌝ }
 {
     let count = s.count;
     let r = s.rec;

@@ -1,7 +1,7 @@
 // What the benchmark measures, for Rust to link: one security admitted and evaluated day after day by the rules of `security`, and parts of that. The table
 // is not part of it, since its records cannot cross to C; the benchmark runs the whole programs besides.
 ghost use Prim.Native.Nat.{_≤_};
-use exact::natural;
+use exact::unsigned;
 use paper::Admission;
 use paper::Day;
 use paper::Record;
@@ -38,12 +38,12 @@ fn admission_of(x: &[i64; 28]) -> Admission {
         x[27],
     );
     Admission {
-        id: natural(x[0]),
-        day: natural(x[1]),
-        p1: natural(x[2]),
-        p2: natural(x[3]),
-        s: natural(x[4]),
-        tentative: natural(x[5]),
+        id: unsigned(x[0]),
+        day: unsigned(x[1]),
+        p1: unsigned(x[2]),
+        p2: unsigned(x[3]),
+        s: unsigned(x[4]),
+        tentative: unsigned(x[5]),
         given,
     }
 }
@@ -51,14 +51,14 @@ fn admission_of(x: &[i64; 28]) -> Admission {
 // A day with three terms alike: DAY B M K RRCL RRCH.
 fn day_of(y: &[i64; 6], later: u64) -> Day {
     let term = Term {
-        k: natural(y[3]),
+        k: unsigned(y[3]),
         low: y[4],
         high: y[5],
     };
     Day {
-        day: std::num::wrapping_add_u64(natural(y[0]), later),
-        b: natural(y[1]),
-        m: natural(y[2]),
+        day: std::num::wrapping_add_u64(unsigned(y[0]), later),
+        b: unsigned(y[1]),
+        m: unsigned(y[2]),
         terms: [term; 3],
     }
 }

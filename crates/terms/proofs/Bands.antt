@@ -8,11 +8,11 @@ use lib.Dec.{leb}
 use lib.IntN.{ℤ}
 use Rattle.paper.specs.declared.AskedDay.{AskedDay}
 use Rattle.paper.specs.declared.AskedTerm.{AskedTerm}
-use Rattle.paper.specs.declared.Band.{Band}
-use Rattle.paper.specs.declared.Band.the-variants as band
+use Rattle.paper.specs.declared.RepoBand.{RepoBand}
+use Rattle.paper.specs.declared.RepoBand.the-variants as band
 use Rattle.paper.specs.declared.Interest.{Interest}
 use Rattle.paper.specs.declared.Verdict.the-variants.{Done}
-use Rattle.paper.specs.declared.Worked.{Worked}
+use Rattle.paper.specs.declared.WorkedBand.{WorkedBand}
 use Rattle.paper.specs.Numbers.{dayMost, behindMost, aheadMost, termDaysMost}
 use Rattle.paper.specs.Interest.{maturitiesOf, lowerLimit, upperLimit, interestChecks, acceptedInterest, refusedInterest, interestAnswer}
 use Rattle.paper.specs.Ranges.{validTerm, validRows, validDay}
@@ -21,13 +21,13 @@ use Rattle.paper.specs.Verdicts.{isDone, firstOf}
 use Rattle.paper.proofs.Logic.{clash, not-true}
 
 -- a term with a pair that was worked out
-abbrev pub withPair : ℕ → Worked → AskedTerm
+abbrev pub withPair : ℕ → WorkedBand → AskedTerm
 withPair k w = record { k = k; band = band.Worked w }
 
 -- ---- a pair that was accepted
 
 -- its limits are judged as given ones are: they make the same term
-pub worked-as-given : (k : ℕ) (w : Worked) → w .verdict ≡ Done
+pub worked-as-given : (k : ℕ) (w : WorkedBand) → w .verdict ≡ Done
     → termOf (withPair k w) ≡ termOf (record { k = k; band = band.Given (record { low = w .lower; high = w .upper }) })
 unfolding termOf repoOf workedRepo isDone
 worked-as-given k w e = rw e
@@ -42,7 +42,7 @@ accepted-limits k i numbers e = rw e
 -- ---- a pair that was refused
 
 -- whether a band is a pair that was refused
-abbrev pub isRefused : Band → Bool
+abbrev pub isRefused : RepoBand → Bool
 isRefused (band.Given x) = false
 isRefused (band.Worked w) = not (isDone (w .verdict))
 
@@ -56,7 +56,7 @@ pub refused-out : (x : AskedTerm) → isRefused (x .band) ≡ true → validTerm
 unfolding termOf repoOf workedRepo validTerm
 refused-out x e = go (x .band) e
   where
-    go : (b : Band) → isRefused b ≡ true → validTerm (record { k = x .k; low = repoOf b .low; high = repoOf b .high }) ≡ false
+    go : (b : RepoBand) → isRefused b ≡ true → validTerm (record { k = x .k; low = repoOf b .low; high = repoOf b .high }) ≡ false
     go (band.Given r) e = absurd (clash false e refl)
     go (band.Worked w) e = rw (not-true (isDone (w .verdict)) e) (one-fails (leb (x .k) termDaysMost && true) true)
 

@@ -1,35 +1,35 @@
 // Document 02, W-201: "The security's evaluation may take these limits or given ones." A day as it is asked for becomes a day of document 01.
 use paper::AskedDay;
 use paper::AskedTerm;
-use paper::Band;
 use paper::Day;
-use paper::Repo;
+use paper::RepoBand;
+use paper::RepoLimits;
 use paper::Term;
-use paper::Worked;
+use paper::WorkedBand;
 ghost use mathlib.Core.Path.{_≡_};
 ghost use Rattle.paper.specs.Terms.{workedRepo, repoOf, termOf, dayOf};
 
 // The limits of a pair that was worked out. One that was refused has no band: its low is above its high, which the range test (6) refuses.
-fn worked_repo(w: Worked) -> Repo
+fn worked_repo(w: WorkedBand) -> RepoLimits
     ensures { λ r. ⌜ r ≡ workedRepo w ⌝ }
 {
     let verdict = w.verdict;
     if verdict.number() == 0 {
-        Repo {
+        RepoLimits {
             low: w.lower,
             high: w.upper,
         }
     } else {
-        Repo { low: 1, high: 0 }
+        RepoLimits { low: 1, high: 0 }
     }
 }
 
-fn repo_of(band: Band) -> Repo
+fn repo_of(band: RepoBand) -> RepoLimits
     ensures { λ r. ⌜ r ≡ repoOf band ⌝ }
 {
     match band {
-        Band::Given(repo) => repo,
-        Band::Worked(pair) => worked_repo(pair),
+        RepoBand::Given(repo) => repo,
+        RepoBand::Worked(pair) => worked_repo(pair),
     }
 }
 

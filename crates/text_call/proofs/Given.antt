@@ -4,34 +4,34 @@ use mathlib.Core.List.{List}
 use Prim.Native.Nat.{ℕ}
 use lib.IntN.{ℤ, pos}
 use lib.ListN.{getD}
-use Rattle.paper.specs.declared.Given.{Given}
-use Rattle.paper.specs.Ranges.{natural}
+use Rattle.paper.specs.declared.GivenStatics.{GivenStatics}
+use Rattle.paper.specs.Ranges.{unsigned}
 use Rattle.text_protocol.specs.Calls.{givenOf}
 use Rattle.text_protocol.specs.Names.{the, placeOf, admitNames, code}
 
 pub given-is : (zs : List ℤ) {x6 x7 x8 x9 x10 x11 x12 x13 x14 x15 x16 x17 x18 x19 x20 x21 x22 x23 x24 x25 x26 x27 : ℕ}
-    → x6 ≡ natural (getD zs 6 (pos 0))
-    → x7 ≡ natural (getD zs 7 (pos 0))
-    → x8 ≡ natural (getD zs 8 (pos 0))
-    → x9 ≡ natural (getD zs 9 (pos 0))
-    → x10 ≡ natural (getD zs 10 (pos 0))
-    → x11 ≡ natural (getD zs 11 (pos 0))
-    → x12 ≡ natural (getD zs 12 (pos 0))
-    → x13 ≡ natural (getD zs 13 (pos 0))
-    → x14 ≡ natural (getD zs 14 (pos 0))
-    → x15 ≡ natural (getD zs 15 (pos 0))
-    → x16 ≡ natural (getD zs 16 (pos 0))
-    → x17 ≡ natural (getD zs 17 (pos 0))
-    → x18 ≡ natural (getD zs 18 (pos 0))
-    → x19 ≡ natural (getD zs 19 (pos 0))
-    → x20 ≡ natural (getD zs 20 (pos 0))
-    → x21 ≡ natural (getD zs 21 (pos 0))
-    → x22 ≡ natural (getD zs 22 (pos 0))
-    → x23 ≡ natural (getD zs 23 (pos 0))
-    → x24 ≡ natural (getD zs 24 (pos 0))
-    → x25 ≡ natural (getD zs 25 (pos 0))
-    → x26 ≡ natural (getD zs 26 (pos 0))
-    → x27 ≡ natural (getD zs 27 (pos 0))
+    → x6 ≡ unsigned (getD zs 6 (pos 0))
+    → x7 ≡ unsigned (getD zs 7 (pos 0))
+    → x8 ≡ unsigned (getD zs 8 (pos 0))
+    → x9 ≡ unsigned (getD zs 9 (pos 0))
+    → x10 ≡ unsigned (getD zs 10 (pos 0))
+    → x11 ≡ unsigned (getD zs 11 (pos 0))
+    → x12 ≡ unsigned (getD zs 12 (pos 0))
+    → x13 ≡ unsigned (getD zs 13 (pos 0))
+    → x14 ≡ unsigned (getD zs 14 (pos 0))
+    → x15 ≡ unsigned (getD zs 15 (pos 0))
+    → x16 ≡ unsigned (getD zs 16 (pos 0))
+    → x17 ≡ unsigned (getD zs 17 (pos 0))
+    → x18 ≡ unsigned (getD zs 18 (pos 0))
+    → x19 ≡ unsigned (getD zs 19 (pos 0))
+    → x20 ≡ unsigned (getD zs 20 (pos 0))
+    → x21 ≡ unsigned (getD zs 21 (pos 0))
+    → x22 ≡ unsigned (getD zs 22 (pos 0))
+    → x23 ≡ unsigned (getD zs 23 (pos 0))
+    → x24 ≡ unsigned (getD zs 24 (pos 0))
+    → x25 ≡ unsigned (getD zs 25 (pos 0))
+    → x26 ≡ unsigned (getD zs 26 (pos 0))
+    → x27 ≡ unsigned (getD zs 27 (pos 0))
     → record {
       lot = x6;
       h = x7;

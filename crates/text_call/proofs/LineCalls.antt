@@ -9,7 +9,7 @@ use borrow.Author.Tests.{ne-eqb}
 use Rattle.paper.specs.declared.Admission.{Admission}
 use Rattle.paper.specs.declared.AskedDay.{AskedDay}
 use Rattle.paper.specs.declared.Quote.{Quote}
-use Rattle.paper.specs.Ranges.{natural}
+use Rattle.paper.specs.Ranges.{unsigned}
 use Rattle.text_protocol.specs.declared.Kept.{Kept}
 use Rattle.text_protocol.specs.declared.Pairs.{Pairs}
 use Rattle.text_protocol.specs.Names.{the, placeOf, code, evaluateNames, quoteNames, moveNames, readNames, admitKind, evaluateKind, quoteKind, moveKind, readKind}
@@ -25,7 +25,7 @@ module _ (k : Kept) (kind : ℕ) (zs : List ℤ) (p : Pairs) where
   admit-line a d q e f = rw (e, f)
 
   pub evaluate-line : (id : ℕ) (a : Admission) (d : AskedDay) (q : Quote) → kind ≡ evaluateKind
-      → id ≡ natural (getD zs 0 (pos 0)) → d ≡ askedOf k zs p
+      → id ≡ unsigned (getD zs 0 (pos 0)) → d ≡ askedOf k zs p
       → requestCall (record { kind = kind; id = id; admission = a; day = d; quote = q; side = 0 }) (drop 13 zs) ≡
       lineCall k kind zs p
   unfolding lineCall figuresOf the placeOf code evaluateNames
@@ -33,17 +33,17 @@ module _ (k : Kept) (kind : ℕ) (zs : List ℤ) (p : Pairs) where
 
   module _ (r : Request) (id side : ℕ) (q : Quote)
       (is : r ≡ record { kind = kind; id = id; admission = noAdmission; day = noDay; quote = q; side = side }) where
-    pub quote-line : kind ≡ quoteKind → id ≡ natural (getD zs 0 (pos 0)) → q ≡ quoteOf zs
+    pub quote-line : kind ≡ quoteKind → id ≡ unsigned (getD zs 0 (pos 0)) → q ≡ quoteOf zs
         → requestCall r (drop 13 zs) ≡ lineCall k kind zs p
     unfolding lineCall the placeOf code quoteNames
     quote-line e f g = rw (is, e, f, g)
 
-    pub move-line : kind ≡ moveKind → id ≡ natural (getD zs 0 (pos 0)) → side ≡ natural (getD zs 1 (pos 0))
+    pub move-line : kind ≡ moveKind → id ≡ unsigned (getD zs 0 (pos 0)) → side ≡ unsigned (getD zs 1 (pos 0))
         → requestCall r (drop 13 zs) ≡ lineCall k kind zs p
     unfolding lineCall the placeOf code moveNames
     move-line e f g = rw (is, e, f, g)
 
-    pub read-line : kind ≡ readKind → id ≡ natural (getD zs 0 (pos 0))
+    pub read-line : kind ≡ readKind → id ≡ unsigned (getD zs 0 (pos 0))
         → requestCall r (drop 13 zs) ≡ lineCall k kind zs p
     unfolding lineCall the placeOf code readNames
     read-line e f = rw (is, e, f)

@@ -5,7 +5,7 @@ use lib.IntN.{ℤ, pos}
 use Prim.Native.Nat.{ℕ}
 use Rattle.paper.specs.declared.Admission.{Admission}
 use Rattle.paper.specs.declared.Quote.{Quote}
-use Rattle.paper.specs.declared.Band.the-variants as band
+use Rattle.paper.specs.declared.RepoBand.the-variants as band
 use Rattle.paper.specs.declared.AskedTerm.{AskedTerm}
 use Rattle.paper.specs.declared.AskedDay.{AskedDay}
 use Rattle.paper.specs.Lists.{pick}

@@ -5,13 +5,13 @@ use Prim.Native.Nat.{ℕ, _+_}
 use lib.IntN.{ℤ, pos}
 use lib.ListN.{getD}
 use Rattle.paper.specs.declared.AskedTerm.{AskedTerm}
-use Rattle.paper.specs.Ranges.{natural}
+use Rattle.paper.specs.Ranges.{unsigned}
 use Rattle.text_protocol.specs.declared.Kept.{Kept}
 use Rattle.text_protocol.specs.Calls.{bandOf}
 
 abbrev pub termAtPlace : Kept → Bool → List ℤ → ℕ → AskedTerm
 termAtPlace k pair zs at =
     record {
-      k = natural (getD zs at (pos 0));
+      k = unsigned (getD zs at (pos 0));
       band = bandOf k pair (getD zs (at + 1) (pos 0)) (getD zs (at + 2) (pos 0));
     }

@@ -4,19 +4,19 @@ ghost use mathlib.Core.Path.{_≡_};
 ghost use Prim.Native.Nat.{_≤_, min};
 ghost use lib.IntN.{pos};
 ghost use lib.ListN.{drop, getD};
-ghost use Rattle.paper.specs.Ranges.{natural};
+ghost use Rattle.paper.specs.Ranges.{unsigned};
 ghost use Rattle.text_protocol.specs.Calls.{givenOf, admissionOf, quoteOf, interestOf, bandOf, askedOf};
 ghost use Rattle.text_call.specs.Terms.{termAtPlace};
 ghost use Rattle.text_call.specs.Requests.{requestCall, lineCall, noAdmission, noTerm, noDay, noQuote};
 use paper::Admission;
 use paper::AskedDay;
 use paper::AskedTerm;
-use paper::Band;
-use paper::Given;
+use paper::GivenStatics;
 use paper::Interest;
 use paper::Model;
 use paper::Quote;
-use paper::Repo;
+use paper::RepoBand;
+use paper::RepoLimits;
 use text_kept::found;
 use text_protocol::Kept;
 use text_protocol::Pairs;
@@ -55,40 +55,40 @@ fn number_at(zs: &[i64], i: usize) -> i64
 }
 
 // The number at a place that may not be below zero.
-pub fn natural_at(zs: &[i64], i: usize) -> u64
-    ensures { λ r. ⌜ r ≡ natural (getD (now (zs .entry)) i (pos 0)) ⌝ }
+pub fn unsigned_at(zs: &[i64], i: usize) -> u64
+    ensures { λ r. ⌜ r ≡ unsigned (getD (now (zs .entry)) i (pos 0)) ⌝ }
 {
-    exact::natural(number_at(zs, i))
+    exact::unsigned(number_at(zs, i))
 }
 
 // ---- an admission
 
-fn given_of(zs: &[i64]) -> Given
+fn given_of(zs: &[i64]) -> GivenStatics
     ensures { λ r. ⌜ r ≡ givenOf (now (zs .entry)) ⌝ }
 {
-    Given {
-        lot: natural_at(zs, 6),
-        h: natural_at(zs, 7),
-        q: natural_at(zs, 8),
-        aup: natural_at(zs, 9),
-        adown: natural_at(zs, 10),
-        wait: natural_at(zs, 11),
-        rh1: natural_at(zs, 12),
-        rh2: natural_at(zs, 13),
-        rh3: natural_at(zs, 14),
-        liq: natural_at(zs, 15),
-        min1: natural_at(zs, 16),
-        min2: natural_at(zs, 17),
-        min3: natural_at(zs, 18),
-        smax: natural_at(zs, 19),
-        xpr: natural_at(zs, 20),
-        shift: natural_at(zs, 21),
-        pchmax: natural_at(zs, 22),
-        pclmax: natural_at(zs, 23),
-        w: natural_at(zs, 24),
-        u: natural_at(zs, 25),
-        monitoring: natural_at(zs, 26),
-        ewma: natural_at(zs, 27),
+    GivenStatics {
+        lot: unsigned_at(zs, 6),
+        h: unsigned_at(zs, 7),
+        q: unsigned_at(zs, 8),
+        aup: unsigned_at(zs, 9),
+        adown: unsigned_at(zs, 10),
+        wait: unsigned_at(zs, 11),
+        rh1: unsigned_at(zs, 12),
+        rh2: unsigned_at(zs, 13),
+        rh3: unsigned_at(zs, 14),
+        liq: unsigned_at(zs, 15),
+        min1: unsigned_at(zs, 16),
+        min2: unsigned_at(zs, 17),
+        min3: unsigned_at(zs, 18),
+        smax: unsigned_at(zs, 19),
+        xpr: unsigned_at(zs, 20),
+        shift: unsigned_at(zs, 21),
+        pchmax: unsigned_at(zs, 22),
+        pclmax: unsigned_at(zs, 23),
+        w: unsigned_at(zs, 24),
+        u: unsigned_at(zs, 25),
+        monitoring: unsigned_at(zs, 26),
+        ewma: unsigned_at(zs, 27),
     }
 }
 
@@ -96,12 +96,12 @@ pub fn admission_of(zs: &[i64]) -> Admission
     ensures { λ r. ⌜ r ≡ admissionOf (now (zs .entry)) ⌝ }
 {
     Admission {
-        id: natural_at(zs, 0),
-        day: natural_at(zs, 1),
-        p1: natural_at(zs, 2),
-        p2: natural_at(zs, 3),
-        s: natural_at(zs, 4),
-        tentative: natural_at(zs, 5),
+        id: unsigned_at(zs, 0),
+        day: unsigned_at(zs, 1),
+        p1: unsigned_at(zs, 2),
+        p2: unsigned_at(zs, 3),
+        s: unsigned_at(zs, 4),
+        tentative: unsigned_at(zs, 5),
         given: given_of(zs),
     }
 }
@@ -110,13 +110,13 @@ pub fn admission_of(zs: &[i64]) -> Admission
 
 // Where a pair stands in a term, the two numbers are Ym and Yn, and the band is the newest kept answer of that pair;
 // else they are the band.
-fn band_of(k: Kept, pair: bool, low: i64, high: i64) -> Band
+fn band_of(k: Kept, pair: bool, low: i64, high: i64) -> RepoBand
     ensures { λ r. ⌜ r ≡ bandOf k pair low high ⌝ }
 {
     if pair {
-        return Band::Worked(found(k, exact::natural(low), exact::natural(high)));
+        return RepoBand::Worked(found(k, exact::unsigned(low), exact::unsigned(high)));
     }
-    Band::Given(Repo { low, high })
+    RepoBand::Given(RepoLimits { low, high })
 }
 
 // The term whose days stand at a place, and its band behind them.
@@ -125,7 +125,7 @@ fn term_of(k: Kept, pair: bool, zs: &[i64], at: usize) -> AskedTerm
     ensures { λ r. ⌜ r ≡ termAtPlace k pair (now (zs .entry)) at ⌝ }
 {
     AskedTerm {
-        k: natural_at(zs, at),
+        k: unsigned_at(zs, at),
         band: band_of(k, pair, number_at(zs, at + 1), number_at(zs, at + 2)),
     }
 }
@@ -135,9 +135,9 @@ pub fn asked_of(k: Kept, p: Pairs, zs: &[i64]) -> AskedDay
     ensures { λ r. ⌜ r ≡ askedOf k (now (zs .entry)) p ⌝ }
 {
     AskedDay {
-        day: natural_at(zs, 1),
-        b: natural_at(zs, 2),
-        m: natural_at(zs, 3),
+        day: unsigned_at(zs, 1),
+        b: unsigned_at(zs, 2),
+        m: unsigned_at(zs, 3),
         first: term_of(k, p.first, zs, 4),
         second: term_of(k, p.second, zs, 7),
         third: term_of(k, p.third, zs, 10),
@@ -150,10 +150,10 @@ pub fn quote_of(zs: &[i64]) -> Quote
     ensures { λ r. ⌜ r ≡ quoteOf (now (zs .entry)) ⌝ }
 {
     Quote {
-        second: natural_at(zs, 1),
-        term: natural_at(zs, 2),
-        bid: natural_at(zs, 3),
-        ask: natural_at(zs, 4),
+        second: unsigned_at(zs, 1),
+        term: unsigned_at(zs, 2),
+        bid: unsigned_at(zs, 3),
+        ask: unsigned_at(zs, 4),
     }
 }
 
@@ -163,20 +163,20 @@ pub fn interest_of(zs: &[i64]) -> Interest
     ensures { λ r. ⌜ r ≡ interestOf (now (zs .entry)) ⌝ }
 {
     Interest {
-        b: natural_at(zs, 0),
-        ym: natural_at(zs, 1),
-        yn: natural_at(zs, 2),
+        b: unsigned_at(zs, 0),
+        ym: unsigned_at(zs, 1),
+        yn: unsigned_at(zs, 2),
         model: Model {
-            aup: natural_at(zs, 3),
-            adown: natural_at(zs, 4),
-            q: natural_at(zs, 5),
+            aup: unsigned_at(zs, 3),
+            adown: unsigned_at(zs, 4),
+            q: unsigned_at(zs, 5),
         },
-        h: natural_at(zs, 6),
-        wait: natural_at(zs, 7),
-        liq: natural_at(zs, 8),
-        mm: natural_at(zs, 9),
-        sec: natural_at(zs, 10),
-        xir: natural_at(zs, 11),
+        h: unsigned_at(zs, 6),
+        wait: unsigned_at(zs, 7),
+        liq: unsigned_at(zs, 8),
+        mm: unsigned_at(zs, 9),
+        sec: unsigned_at(zs, 10),
+        xir: unsigned_at(zs, 11),
         money: number_at(zs, 12),
         secrate: number_at(zs, 13),
     }
@@ -212,7 +212,7 @@ fn no_admission() -> Admission
         p2: 0,
         s: 0,
         tentative: 0,
-        given: Given {
+        given: GivenStatics {
             lot: 0,
             h: 0,
             q: 0,
@@ -244,7 +244,7 @@ fn no_term() -> AskedTerm
 {
     AskedTerm {
         k: 0,
-        band: Band::Given(Repo { low: 0, high: 0 }),
+        band: RepoBand::Given(RepoLimits { low: 0, high: 0 }),
     }
 }
 
@@ -311,7 +311,7 @@ pub fn request_of(zs: &[i64], kind: u64, p: Pairs, k: Kept) -> Request
     if kind == EVALUATE {
         return Request {
             kind,
-            id: natural_at(zs, 0),
+            id: unsigned_at(zs, 0),
             admission: no_admission(),
             day: asked_of(k, p, zs),
             quote: no_quote(),
@@ -319,13 +319,13 @@ pub fn request_of(zs: &[i64], kind: u64, p: Pairs, k: Kept) -> Request
         };
     }
     if kind == QUOTE {
-        return of_id(kind, natural_at(zs, 0), quote_of(zs), 0);
+        return of_id(kind, unsigned_at(zs, 0), quote_of(zs), 0);
     }
     if kind == MOVE {
-        return of_id(kind, natural_at(zs, 0), no_quote(), natural_at(zs, 1));
+        return of_id(kind, unsigned_at(zs, 0), no_quote(), unsigned_at(zs, 1));
     }
     if kind == READ {
-        return of_id(kind, natural_at(zs, 0), no_quote(), 0);
+        return of_id(kind, unsigned_at(zs, 0), no_quote(), 0);
     }
     of_id(READ, 0, no_quote(), 0)
 }

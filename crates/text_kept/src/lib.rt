@@ -4,7 +4,7 @@ ghost use Rattle.text_protocol.specs.Kept.{keptAfter, unknown, noneKept, isOf, 
 use paper::Interest;
 use paper::InterestAnswer;
 use paper::Verdict;
-use paper::Worked;
+use paper::WorkedBand;
 use text_protocol::Kept;
 use text_protocol::Pair;
 
@@ -31,10 +31,10 @@ pub fn kept_after(k: Kept, i: Interest, a: InterestAnswer) -> Kept
 }
 
 // No answer: a pair that is not kept makes the day out of range.
-fn unknown() -> Worked
+fn unknown() -> WorkedBand
     ensures { λ r. ⌜ r ≡ unknown ⌝ }
 {
-    Worked {
+    WorkedBand {
         verdict: Verdict::OutOfRange,
         lower: 0,
         upper: 0,
@@ -64,7 +64,7 @@ fn is_of(p: Pair, ym: u64, yn: u64) -> bool
 }
 
 // The newest answer of a pair of terms.
-pub fn found(k: Kept, ym: u64, yn: u64) -> Worked
+pub fn found(k: Kept, ym: u64, yn: u64) -> WorkedBand
     ensures { λ r. ⌜ r ≡ foundIn k ym yn ⌝ }
 {
     let newest = k.newest;

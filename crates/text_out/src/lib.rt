@@ -6,7 +6,7 @@ ghost use Prim.Native.Nat.{_+_, _-_, _≤_, _<_, _^_};
 ghost use Rattle.text_protocol.specs.Numbers.{decimal, signed};
 ghost use Rattle.text_out.specs.Places.{Places};
 ghost use Rattle.text_out.specs.Wrote.{Wrote};
-use exact::size;
+use exact::magnitude;
 
 // How many decimal digits x has.
 fn places(x: u64) -> usize

@@ -6,7 +6,7 @@ use Prim.Native.String.{String}
 use lib.IntN.{pos}
 use Rattle.paper.specs.declared.Verdict.the-variants.{Done}
 use Rattle.paper.specs.Verdicts.{isDone}
-use Rattle.paper.specs.Ranges.{natural}
+use Rattle.paper.specs.Ranges.{unsigned}
 use Rattle.paper.specs.Terms.{workedRepo, repoOf, dayOf}
 use Rattle.paper.specs.Terms.{termOf as dayTerm}
 use Rattle.paper.specs.Desk.{admit, evaluate, quote, move, read}
@@ -99,7 +99,7 @@ pub asked : (deedBy "admit 1 2 3 4 5 6 7 8 9 10 11 12 13 14 15 16 17 18 19 20 21
       money = pos 13;
       secrate = pos 14;
     }) (naturals (15 ∷ 16 ∷ [])))
-unfolding deedBy keptLimits bytes isDone natural workedRepo repoOf dayOf dayTerm isBlank isNot run grow
+unfolding deedBy keptLimits bytes isDone unsigned workedRepo repoOf dayOf dayTerm isBlank isNot run grow
     pieces full words same isDigit sizeFrom sizeOf upTo above numberOf slashAt code admitNames evaluateNames quoteNames
     moveNames readNames interestNames forms kindFrom kindOf countFits takesIn takes placeOf the oneOf twoOf itemOf
     pairFits withPair more taking onWith finished fill called meaning foundIn givenOf admissionOf quoteOf interestOf

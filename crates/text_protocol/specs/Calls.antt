@@ -6,16 +6,16 @@ use Prim.Native.Nat.{ℕ}
 use lib.Dec.{eqb}
 use lib.IntN.{ℤ}
 use lib.ListN.{length, drop}
-use Rattle.paper.specs.declared.Given.{Given}
+use Rattle.paper.specs.declared.GivenStatics.{GivenStatics}
 use Rattle.paper.specs.declared.Admission.{Admission}
 use Rattle.paper.specs.declared.Quote.{Quote}
 use Rattle.paper.specs.declared.Interest.{Interest}
-use Rattle.paper.specs.declared.Band.{Band}
-use Rattle.paper.specs.declared.Band.the-variants as band
+use Rattle.paper.specs.declared.RepoBand.{RepoBand}
+use Rattle.paper.specs.declared.RepoBand.the-variants as band
 use Rattle.paper.specs.declared.AskedTerm.{AskedTerm}
 use Rattle.paper.specs.declared.AskedDay.{AskedDay}
 use Rattle.paper.specs.Lists.{pick}
-use Rattle.paper.specs.Ranges.{natural}
+use Rattle.paper.specs.Ranges.{unsigned}
 use Rattle.paper.specs.Terms.{dayOf}
 use Rattle.paper.specs.Desk.{Call, admit, evaluate, quote, move, read}
 use Rattle.text_protocol.specs.declared.Kept.{Kept}
@@ -27,9 +27,9 @@ use Rattle.text_protocol.specs.Line.{Call as saysCall}
 
 -- a number that may not be below zero: one that is, is out of every range
 abbrev pub naturalOf : List Name → List ℤ → Name → ℕ
-naturalOf names zs x = natural (the names zs x)
+naturalOf names zs x = unsigned (the names zs x)
 
-unfoldable pub givenOf : List ℤ → Given
+unfoldable pub givenOf : List ℤ → GivenStatics
 givenOf zs =
     record {
       lot = naturalOf admitNames zs LOT;
@@ -103,8 +103,8 @@ interestOf zs =
 
 -- where a pair stands in a term, the two numbers are Ym and Yn, and the band is the newest kept answer of that pair;
 -- else they are the band
-unfoldable pub bandOf : Kept → Bool → (low high : ℤ) → Band
-bandOf k true low high = band.Worked (foundIn k (natural low) (natural high))
+unfoldable pub bandOf : Kept → Bool → (low high : ℤ) → RepoBand
+bandOf k true low high = band.Worked (foundIn k (unsigned low) (unsigned high))
 bandOf k false low high = band.Given (record { low = low; high = high })
 
 unfoldable pub termOf : Kept → List ℤ → Bool → (days low high : Name) → AskedTerm

@@ -5,7 +5,7 @@ use Prim.Native.Nat.{ℕ}
 use lib.Dec.{eqb}
 use lib.IntN.{pos}
 use Rattle.paper.specs.declared.Interest.{Interest}
-use Rattle.paper.specs.declared.Worked.{Worked}
+use Rattle.paper.specs.declared.WorkedBand.{WorkedBand}
 use Rattle.paper.specs.declared.InterestAnswer.{InterestAnswer}
 use Rattle.paper.specs.declared.Verdict.the-variants.{OutOfRange}
 use Rattle.paper.specs.Lists.{pick}
@@ -14,7 +14,7 @@ use Rattle.text_protocol.specs.declared.Pair.{Pair}
 use Rattle.text_protocol.specs.declared.Kept.{Kept}
 
 -- no answer: a pair that is not kept makes the day out of range
-abbrev pub unknown : Worked
+abbrev pub unknown : WorkedBand
 unknown = record { verdict = OutOfRange; lower = pos 0; upper = pos 0 }
 
 -- nothing is kept at the start: the pair 0/0, which no interest line may have, stands for it
@@ -35,7 +35,7 @@ abbrev pub isOf : Pair → ℕ → ℕ → Bool
 isOf p ym yn = eqb (p .ym) ym && eqb (p .yn) yn
 
 -- the newest answer of a pair of terms
-unfoldable pub foundIn : Kept → ℕ → ℕ → Worked
+unfoldable pub foundIn : Kept → ℕ → ℕ → WorkedBand
 foundIn k ym yn =
     pick (isOf (k .newest) ym yn) (k .newest .worked)
     (pick (isOf (k .middle) ym yn) (k .middle .worked)

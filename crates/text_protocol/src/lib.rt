@@ -1,7 +1,7 @@
 // The evening's text, as docs/EVENING.md gives it: what the definitions (specs/) and the code share. This crate has no
 // function: the definitions say what a line of text means and what is printed, and every other crate of the text is
 // proved equal to them.
-use paper::Worked;
+use paper::WorkedBand;
 
 // What digits spell: a size, or no number.
 pub enum Size {
@@ -26,7 +26,7 @@ pub enum Item {
 pub struct Pair {
     pub ym: u64,
     pub yn: u64,
-    pub worked: Worked,
+    pub worked: WorkedBand,
 }
 
 // The pairs of the three latest interest lines that were accepted, the newest first.

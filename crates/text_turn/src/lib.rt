@@ -69,7 +69,7 @@ fn wanted_by(zs: &[i64], l: Line, k: Kept) -> Wanted
     let request = request_of(zs, kind, pairs, k);
     if kind == Line::INTEREST {
         let given = interest_of(zs);
-        let i = interest::work(given, figures(zs, 14));
+        let i = interest::answer(given, figures(zs, 14));
         return Wanted {
             request,
             interest: i,

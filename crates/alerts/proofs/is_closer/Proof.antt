@@ -6,7 +6,7 @@ use native.Mathlib.Nat.{mul-le-mul}
 use native.Mathlib.Omega.{arith}
 use borrow.Author.Needs.{needs}
 use Rattle.paper.specs.declared.Limits.{Limits}
-use Rattle.paper.specs.Numbers.{whole, limitMost, nearnessMost}
+use Rattle.paper.specs.Numbers.{oneInTenThousandths, limitMost, nearnessMost}
 use Rattle.alerts.specs.Nearness.{closer}
 use Rattle.paper.proofs.Differences.{share-order}
 use Rattle.alerts.proofs.is_closer.Statement.{statement}
@@ -43,7 +43,7 @@ returns : tie.Need-returns
 unfolding closer
 returns c =
     let a = c .before .before .args in
-    sym (share-order whole (a .w) (a .to) (a .from) (a .x .upper) (a .x .lower))
+    sym (share-order oneInTenThousandths (a .w) (a .to) (a .from) (a .x .upper) (a .x .lower))
 
 pub is-closer-spec : {M : Type 1} → statement M
 is-closer-spec =

@@ -45,8 +45,8 @@ use Rattle.paper.proofs.Admission as B
 use Rattle.paper.proofs.Admission.Laws as B′
 use Rattle.paper.proofs.Given.Laws as G′
 use Rattle.security.specs.declared.Slot.{Slot}
-use Rattle.security.specs.declared.Turn.{Turn}
-use Rattle.security.specs.Turns.{slotOf, admitTurn}
+use Rattle.security.specs.declared.Outcome.{Outcome}
+use Rattle.security.specs.Outcomes.{slotOf, admitOutcome}
 use Rattle.security.proofs.Slot.Laws as U′
 use Rattle.security.proofs.Turn as O
 use Rattle.desk.proofs.Row.{R, table-ty, S, makes-slot, turn-ty, turn-val, turn-is, typed-turn, answer-val, makes-answer}
@@ -161,8 +161,8 @@ module _ {M : Type 1} (𝓤 : URA M) (H : Heap 𝓤) (A : Atoms 𝓤) (W : Given
   abbrev first-empty : Slot
   first-empty = slotOf ys 0
 
-  abbrev turn : Turn
-  turn = admitTurn slot first-empty a
+  abbrev turn : Outcome
+  turn = admitOutcome slot first-empty a
 
   exits : Is O.the-row turn (turn-val turn ∷ [])
       → ent 𝓤 (⋆ 𝓤 H A (‵ (finally R γ (set ys (turn .at) (turn .rec))) ∷ ‵ (flft κ q) ∷ []))

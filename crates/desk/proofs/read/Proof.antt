@@ -42,7 +42,7 @@ use Rattle.paper.proofs.Answer as N
 use Rattle.paper.proofs.Answer.Laws as N′
 use Rattle.security.proofs.Slot.Laws as U′
 use Rattle.security.specs.declared.Slot.{Slot}
-use Rattle.security.specs.Turns.{slotOf, readAnswer}
+use Rattle.security.specs.Outcomes.{slotOf, readAnswer}
 use Rattle.desk.proofs.Row.{R, shared-ty, word, S, makes-slot, typed-slot, makes-answer, typed-answer}
 use Rattle.desk.proofs.Frame.{Addresses, of-types, env-of, frame, enters, value, leaves}
 use Rattle.desk.proofs.Calls.{Take, ℓt, ref, machine}

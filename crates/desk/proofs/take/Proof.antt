@@ -53,7 +53,7 @@ use denote.Exit.{yes}
 use Rattle.paper.specs.declared.Record.{Record}
 use Rattle.security.specs.declared.Slot.{Slot}
 use Rattle.paper.specs.Desk.{blank}
-use Rattle.security.specs.Turns.{slotOf}
+use Rattle.security.specs.Outcomes.{slotOf}
 use Rattle.paper.proofs.Record.Laws as T′
 use Rattle.security.proofs.Slot.Laws as U′
 use Rattle.desk.proofs.Row.{R, shared-ty, word, bytes, vals, val, tells, copied, typed, id-fits, S, makes-slot, typed-slot, slot-val, slot-is}

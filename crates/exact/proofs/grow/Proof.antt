@@ -6,22 +6,22 @@ use native.Mathlib.Omega.{arith}
 use lib.Signed.{mag}
 use mir.Facts.{toZ-ofZ}
 use borrow.Author.Needs.{needs}
-use Rattle.paper.specs.Numbers.{whole}
+use Rattle.paper.specs.Numbers.{oneInBp}
 use Rattle.exact.specs.SignedLaws.{growthMost}
 use Rattle.exact.proofs.Sign.{grown-below, grown-above}
 use Rattle.exact.proofs.grow.Statement.{statement}
 use Rattle.exact.proofs.grow.Tie as tie
 
-size-requires : tie.Need-size-requires
+size-requires : tie.Need-magnitude-requires
 size-requires c κs = search needs
 
 -- a callee's promise speaks of what it reads back from the argument's bits, which is the argument
-is : (c : tie.After-size) → c .size .result ≡ mag (c .before .args .rate)
-is c = rw (toZ-ofZ (c .before .fits .rate)) at (c .size .ensures)
+is : (c : tie.After-magnitude) → c .magnitude .result ≡ mag (c .before .args .rate)
+is c = rw (toZ-ofZ (c .before .fits .rate)) at (c .magnitude .ensures)
 
-moved : (c : tie.After-size) → c .before .args .k * (c .size .result + 1) ≤ growthMost
+moved : (c : tie.After-magnitude) → c .before .args .k * (c .magnitude .result + 1) ≤ growthMost
 moved c =
-    let more : c .size .result + 1 ≤ whole = omega (arith, is c, c .before .pre .size) in
+    let more : c .magnitude .result + 1 ≤ oneInBp = omega (arith, is c, c .before .pre .size) in
     mul-le-mul (c .before .pre .days) more
 
 add-result : tie.Need-add-result

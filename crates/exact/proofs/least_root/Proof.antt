@@ -1,22 +1,22 @@
--- `least_root` meets its contract. The invariant, `Found` of `Turn.antt`: with k bits to come, w·x² is below n and
--- w·(x + 2^k)² is not. With none to come one more than x is the root. The measure is k, 20 at first. Assumes nothing.
+-- `least_root` meets its contract. The invariant, `Found` of `RootTurn.antt`: with k bits to come, factor·x² is below n and
+-- factor·(x + 2^k)² is not. With none to come one more than x is the root. The measure is k, 20 at first. Assumes nothing.
 use mathlib.Core.Path.{_≡_, sym}
 use native.Mathlib.Nat.{pos-of-ne-zero}
 use native.Mathlib.Omega.{arith}
 use Rattle.paper.specs.Least.{leastRoot, least, first}
 use Rattle.paper.proofs.Search.{root-one-more}
-use Rattle.exact.proofs.Turn.{Found, Turn, turn, taken, left}
+use Rattle.exact.proofs.RootTurn.{Found, RootTurn, turn, taken, left}
 use Rattle.exact.proofs.least_root.Statement.{statement}
 use Rattle.exact.proofs.least_root.Tie as tie
 
 abbrev Inv-loop : tie.InvT-loop
-Inv-loop w n x₀ wx₀ sq₀ k₀ x wx sq k = Found w n x wx sq k
+Inv-loop factor n x₀ factor-x₀ sq₀ k₀ x factor-x sq k = Found factor n x factor-x sq k
 
 abbrev μ-loop : tie.MeasureT-loop
-μ-loop w n x₀ wx₀ sq₀ k₀ x wx sq k = k
+μ-loop factor n x₀ factor-x₀ sq₀ k₀ x factor-x sq k = k
 
 -- what is known at the head of a turn
-at : (c : tie.In-loop Inv-loop μ-loop) → Turn (c .before .before .before .args .w) (c .before .loop .x) (c .before .loop .wx) (c .before .loop .k)
+at : (c : tie.In-loop Inv-loop μ-loop) → RootTurn (c .before .before .before .args .factor) (c .before .loop .x) (c .before .loop .factor-x) (c .before .loop .k)
 at c = turn _ _ _ _ _ _ (c .loop-test .taken) (c .before .before .before .pre .1) (c .before .loop .inv)
 
 returns : tie.Need-returns Inv-loop μ-loop

@@ -2,7 +2,7 @@
 use Prim.Native.Nat.{ℕ, _*_, _^_, _≤_, _<_}
 use native.Mathlib.Nat.{mul-le-mul, lt-of-mul-lt-mul-right}
 use native.Mathlib.Omega.{arith}
-use Rattle.paper.specs.Numbers.{hundred, priceMost}
+use Rattle.paper.specs.Numbers.{coarsestGrid, priceMost}
 use Rattle.paper.specs.Roundings.{halfUp, toGrid}
 use Rattle.exact.specs.Wide.{spreadMost, yearMost, scaleLeast, scaleMost}
 use Rattle.exact.proofs.Quotients.{grid-low}
@@ -13,7 +13,7 @@ use Rattle.exact.proofs.product_to_grid.Tie as tie
 record Bounds (g p a b d : ℕ) : Type 0 where
   pa : p * a ≤ priceMost * spreadMost
   pab : p * a * b ≤ priceMost * spreadMost * yearMost
-  dg : d * g ≤ scaleMost * hundred
+  dg : d * g ≤ scaleMost * coarsestGrid
   dg-low : scaleLeast * 1 ≤ d * g
 
 bounds : (c : tie.Start) → Bounds (c .args .g) (c .args .p) (c .args .a) (c .args .b) (c .args .d)

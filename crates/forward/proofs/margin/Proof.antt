@@ -4,7 +4,7 @@ use Prim.Native.Nat.{_-_, _*_, _≤_}
 use native.Mathlib.Nat.{mul-le-mul-left}
 use native.Mathlib.Omega.{arith}
 use borrow.Author.Needs.{needs}
-use Rattle.paper.specs.Numbers.{hundred}
+use Rattle.paper.specs.Numbers.{oneInHundredths}
 use Rattle.forward.specs.Points.{figureMost}
 use Rattle.forward.specs.Pair.{marginOf}
 use Rattle.forward.proofs.margin.Statement.{statement}
@@ -12,7 +12,7 @@ use Rattle.forward.proofs.margin.Tie as tie
 
 -- the product is at most that of the greatest figure
 high : (c : tie.Start) → marginOf (c .args .i) (c .args .estimate) ≤ marginOf (c .args .i) figureMost
-high c = mul-le-mul-left (hundred * (c .args .i .yn - c .args .i .ym)) (c .pre .1)
+high c = mul-le-mul-left (oneInHundredths * (c .args .i .yn - c .args .i .ym)) (c .pre .1)
 
 sub-result : tie.Need-sub-result
 sub-result c = search needs

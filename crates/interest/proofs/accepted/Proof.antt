@@ -4,7 +4,7 @@ use mir.Syntax.{w64}
 use mir.Val.{SFits}
 use mir.Facts.{toZ-ofZ}
 use borrow.Author.Needs.{needs}
-use Rattle.paper.specs.declared.Repo.{Repo}
+use Rattle.paper.specs.declared.RepoLimits.{RepoLimits}
 use Rattle.paper.specs.declared.Verdict.the-variants.{Done}
 use Rattle.paper.specs.Interest.{acceptedInterest}
 use Rattle.maturities.specs.KeyLaws.{count-is}
@@ -35,7 +35,7 @@ returns c =
     let low : SFits w64 (band .result .low) = search (needs, band .ok) in
     let high : SFits w64 (band .result .high) = search (needs, band .ok) in
     λ j. record {
-      pair = record { verdict = Done; lower = (toZ-ofZ low ∙ ap (λ (x : Repo). x .low) is) j; upper = (toZ-ofZ high ∙ ap (λ (x : Repo). x .high) is) j };
+      pair = record { verdict = Done; lower = (toZ-ofZ low ∙ ap (λ (x : RepoLimits). x .low) is) j; upper = (toZ-ofZ high ∙ ap (λ (x : RepoLimits). x .high) is) j };
       count = sym (count-is (m .before .args .numbers .now)) j;
       figures = f .all-figures .ensures j;
     }

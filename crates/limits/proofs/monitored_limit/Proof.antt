@@ -5,7 +5,7 @@ use Prim.Native.Nat.{_≤_}
 use native.Mathlib.Omega.{arith}
 use mir.Facts.{toZ-ofZ}
 use borrow.Author.Needs.{needs}
-use Rattle.paper.specs.Numbers.{year}
+use Rattle.paper.specs.Numbers.{yearInDayBp}
 use Rattle.paper.specs.Roundings.{grown}
 use Rattle.paper.specs.Limits.{limitOf, monitored}
 use Rattle.exact.specs.SignedLaws.{grown-range}
@@ -19,13 +19,13 @@ statics : (c : tie.Start) → LimitStatics (c .args .st)
 statics c = limit-statics (c .args .st) (c .pre .0)
 
 -- the days' factor and its range
-days : (c : tie.After-grow) → c .grow .result ≡ grown year (c .before .args .k) (c .before .args .repo)
+days : (c : tie.After-grow) → c .grow .result ≡ grown yearInDayBp (c .before .args .k) (c .before .args .repo)
 days c = rw (toZ-ofZ (c .before .fits .repo)) at (c .grow .ensures)
 
 days-high : (c : tie.After-grow) → c .grow .result ≤ yearMost
 days-high c =
     let s = c .before in
-    omega (arith, days c, grown-range year (s .args .k) (s .args .repo) (s .pre .1 .days) (s .pre .1 .repo-high) .0)
+    omega (arith, days c, grown-range yearInDayBp (s .args .k) (s .args .repo) (s .pre .1 .days) (s .pre .1 .repo-high) .0)
 
 grow-requires : tie.Need-grow-requires
 grow-requires c κs = search needs

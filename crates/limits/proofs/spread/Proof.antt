@@ -4,7 +4,7 @@ use native.Mathlib.Nat.{mul-le-mul}
 use native.Mathlib.Omega.{arith}
 use borrow.Author.Needs.{needs}
 use Rattle.paper.specs.declared.Statics.{Statics}
-use Rattle.paper.specs.Numbers.{hundred, rateMost, divisorMost, shiftMost, movesMost}
+use Rattle.paper.specs.Numbers.{oneInHundredths, rateMost, divisorMost, shiftMost, movesMost}
 use Rattle.paper.specs.Limits.{spread}
 use Rattle.limits.specs.LimitRanges.{limit-statics}
 use Rattle.limits.specs.LimitLaws.{away-high}
@@ -14,7 +14,7 @@ use Rattle.limits.proofs.spread.Tie as tie
 record Sizes (st : Statics) (s1 c : ℕ) : Type 0 where
   middle : st .xpr ≤ divisorMost
   shifts : c * st .shift ≤ movesMost * shiftMost
-  away : (hundred + 2 * c * st .shift) * s1 ≤ (hundred + 2 * movesMost * shiftMost) * rateMost
+  away : (oneInHundredths + 2 * c * st .shift) * s1 ≤ (oneInHundredths + 2 * movesMost * shiftMost) * rateMost
 
 sizes : (c : tie.Start) → Sizes (c .args .st) (c .args .s1 .bp) (c .args .c)
 sizes c =

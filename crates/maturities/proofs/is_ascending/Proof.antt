@@ -30,10 +30,10 @@ sub-loop c = c .loop .inv .0 .inside
 add-next : tie.Need-add-next Inv-loop μ-loop
 add-next c = omega (arith, room c)
 
-natural-at-requires : tie.Need-natural-at-requires Inv-loop μ-loop
+natural-at-requires : tie.Need-unsigned-at-requires Inv-loop μ-loop
 natural-at-requires c κs = omega (arith, room c)
 
-natural-at-requires-2 : tie.Need-natural-at-requires-2 Inv-loop μ-loop
+natural-at-requires-2 : tie.Need-unsigned-at-requires-2 Inv-loop μ-loop
 natural-at-requires-2 c κs = omega (arith, room (c .before))
 
 returns : tie.Need-returns Inv-loop μ-loop

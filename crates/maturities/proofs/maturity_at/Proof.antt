@@ -9,7 +9,7 @@ use borrow.Author.Needs.{needs}
 use Rattle.maturities.proofs.maturity_at.Statement.{statement}
 use Rattle.maturities.proofs.maturity_at.Tie as tie
 
-natural-at-requires : tie.Need-natural-at-requires
+natural-at-requires : tie.Need-unsigned-at-requires
 natural-at-requires c κs = search needs
 
 add-t4 : tie.Need-add-t4
@@ -51,19 +51,19 @@ shared-slice-copy-out-t19 c = search needs
 add-natural-at : tie.Need-add-natural-at
 add-natural-at c = search needs
 
-natural-at-requires-2 : tie.Need-natural-at-requires-2
+natural-at-requires-2 : tie.Need-unsigned-at-requires-2
 natural-at-requires-2 c κs = search needs
 
 add-natural-at-2 : tie.Need-add-natural-at-2
 add-natural-at-2 c = search needs
 
-natural-at-requires-3 : tie.Need-natural-at-requires-3
+natural-at-requires-3 : tie.Need-unsigned-at-requires-3
 natural-at-requires-3 c κs = search needs
 
 add-natural-at-3 : tie.Need-add-natural-at-3
 add-natural-at-3 c = search needs
 
-natural-at-requires-4 : tie.Need-natural-at-requires-4
+natural-at-requires-4 : tie.Need-unsigned-at-requires-4
 natural-at-requires-4 c κs = search needs
 
 returns : tie.Need-returns
@@ -73,7 +73,7 @@ returns c =
     let a = last .before .before .before .before .before .args in
     let number : ℕ → ℤ = λ n. getD (a .numbers .now) (a .at + n) (pos 0) in
     λ i. record {
-      t = last .before .before .before .before .natural-at .ensures i;
+      t = last .before .before .before .before .unsigned-at .ensures i;
       r = toZ-ofZ {w = w64} {z = number 1} (record { sfits = last .before .before .before .t7 .given }) i;
       r1 = toZ-ofZ {w = w64} {z = number 2} (record { sfits = last .before .before .t11 .given }) i;
       r2 = toZ-ofZ {w = w64} {z = number 3} (record { sfits = last .before .t15 .given }) i;

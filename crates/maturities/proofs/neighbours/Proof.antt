@@ -15,7 +15,7 @@ Inv-loop numbers y at₀ at = Passed numbers y at
 abbrev μ-loop : tie.MeasureT-loop
 μ-loop numbers y at₀ at = length numbers - at
 
-natural-at-requires : tie.Need-natural-at-requires Inv-loop μ-loop
+natural-at-requires : tie.Need-unsigned-at-requires Inv-loop μ-loop
 natural-at-requires c κs = omega (arith, c .pre .1)
 
 returns : tie.Need-returns Inv-loop μ-loop
@@ -37,7 +37,7 @@ sub-loop c = c .loop .inv .place .inside
 add-next : tie.Need-add-next Inv-loop μ-loop
 add-next c = omega (arith, room c)
 
-natural-at-requires-2 : tie.Need-natural-at-requires-2 Inv-loop μ-loop
+natural-at-requires-2 : tie.Need-unsigned-at-requires-2 Inv-loop μ-loop
 natural-at-requires-2 c κs = omega (arith, room c)
 
 returns-2 : tie.Need-returns-2 Inv-loop μ-loop

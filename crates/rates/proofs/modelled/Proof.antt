@@ -4,7 +4,7 @@ use native.Mathlib.Omega.{arith}
 use borrow.Author.Needs.{needs}
 use Rattle.paper.specs.Rates.{modelled}
 use Rattle.paper.proofs.Volatility.{Weighing}
-use Rattle.paper.proofs.Bounds.{volatility-high, wanted-held, tentative-held}
+use Rattle.paper.proofs.Bounds.{volatility-high, tentative-rate-held, tentative-held}
 use Rattle.rates.specs.Asked.{tentativeMost}
 use Rattle.rates.proofs.Statics.{rates-weighing}
 use Rattle.rates.proofs.modelled.Statement.{statement}
@@ -23,16 +23,16 @@ weighs c = rw (c .model-of .ensures) (rates-weighing _ (c .before .pre .0 .stati
 volatility-of-requires : tie.Need-volatility-of-requires
 volatility-of-requires c κs = (weighs (c .before), (c .before .before .pre .1, c .before .before .pre .0 .volatility))
 
-wanted-requires : tie.Need-wanted-requires
-wanted-requires c κs =
+tentative-rate-requires : tie.Need-tentative-rate-requires
+tentative-rate-requires c κs =
     let m = c .before .before in
     let given = m .before .pre .0 in
     let high = volatility-high _ _ _ _ _ _ (weighs m) (given .volatility) (m .before .pre .1) in
     (given .statics, rw (c .volatility-of .ensures) high)
 
 -- t is at most S_max
-t-held : (c : tie.After-wanted) → c .wanted .result ≤ c .before .before .before .before .args .st .smax
-t-held c = rw (c .wanted .ensures) (wanted-held _ _)
+t-held : (c : tie.After-tentative-rate) → c .tentative-rate .result ≤ c .before .before .before .before .args .st .smax
+t-held c = rw (c .tentative-rate .ensures) (tentative-rate-held _ _)
 
 tentative-after-requires : tie.Need-tentative-after-requires
 tentative-after-requires c κs =
@@ -42,7 +42,7 @@ tentative-after-requires c κs =
 rates-of-requires : tie.Need-rates-of-requires
 rates-of-requires c κs =
     let given = c .before .before .before .before .before .pre .0 in
-    let t-high : c .before .wanted .result ≤ tentativeMost = omega (arith, t-held (c .before), given .statics .most-high) in
+    let t-high : c .before .tentative-rate .result ≤ tentativeMost = omega (arith, t-held (c .before), given .statics .most-high) in
     (given .statics, (given .ahead, rw (c .tentative-after .ensures) (tentative-held _ _ _ _ _ t-high (given .tentative))))
 
 returns : tie.Need-returns
@@ -51,7 +51,7 @@ returns c =
     rw (
       c .rates-of .ensures,
       c .before .tentative-after .ensures,
-      c .before .before .wanted .ensures,
+      c .before .before .tentative-rate .ensures,
       c .before .before .before .volatility-of .ensures,
       c .before .before .before .before .before .model-of .ensures,
     )
@@ -59,4 +59,4 @@ returns c =
 pub modelled-spec : {M : Type 1} → statement M
 modelled-spec =
     tie.close
-    (tie.spec model-of-requires mul-volatility-of volatility-of-requires wanted-requires tentative-after-requires rates-of-requires returns)
+    (tie.spec model-of-requires mul-volatility-of volatility-of-requires tentative-rate-requires tentative-after-requires rates-of-requires returns)

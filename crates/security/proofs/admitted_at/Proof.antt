@@ -4,7 +4,7 @@ use mathlib.Core.Path.{_≡_, sym, _∙_}
 use mathlib.Core.Bool.{true, false, _&&_}
 use Rattle.paper.specs.Ranges.{validSlots, validAdmission}
 use Rattle.paper.proofs.Logic.{and-right}
-use Rattle.security.specs.Turns.{holds}
+use Rattle.security.specs.Outcomes.{holds}
 use Rattle.security.proofs.Judging.{passed, failed, admission-out, admission-again, admission-full, admission-accepted}
 use borrow.Author.Needs.{needs}
 use Rattle.security.proofs.admitted_at.Statement.{statement}

@@ -9,7 +9,7 @@ use Rattle.paper.specs.Desk.{priceOn}
 use Rattle.inputs.proofs.Tests.{grid-range}
 use Rattle.soundness.proofs.Facts.{sound-facts}
 use Rattle.evaluation.specs.Evaluation.{evaluationMade}
-use Rattle.security.specs.Turns.{isKnown}
+use Rattle.security.specs.Outcomes.{isKnown}
 use Rattle.security.proofs.Judging.{passed, failed, known-sound, day-unknown, day-out, day-not-after, day-beyond}
 use Rattle.security.proofs.Evaluations.{day-valid, beyond, Made, made}
 use borrow.Author.Needs.{needs}

@@ -1,6 +1,6 @@
 -- `security::holds` meets its contract: it is the definition's test. Assumes nothing.
 use mathlib.Core.Path.{refl}
-use Rattle.security.specs.Turns.{holds}
+use Rattle.security.specs.Outcomes.{holds}
 use Rattle.security.proofs.holds.Statement.{statement}
 use Rattle.security.proofs.holds.Tie as tie
 

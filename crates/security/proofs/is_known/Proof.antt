@@ -1,5 +1,5 @@
 -- `security::is_known` meets its contract, test by test. Assumes nothing.
-use Rattle.security.specs.Turns.{isKnown}
+use Rattle.security.specs.Outcomes.{isKnown}
 use borrow.Author.Needs.{needs}
 use Rattle.security.proofs.is_known.Statement.{statement}
 use Rattle.security.proofs.is_known.Tie as tie

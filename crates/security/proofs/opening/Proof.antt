@@ -4,7 +4,7 @@ use mathlib.Core.Bool.{true}
 use Rattle.paper.specs.Ranges.{isLive}
 use Rattle.paper.specs.Verdicts.{firstOf}
 use Rattle.paper.proofs.Logic.{not-true, not-false}
-use Rattle.security.specs.Turns.{isKnown}
+use Rattle.security.specs.Outcomes.{isKnown}
 use Rattle.security.specs.Openings.{openingChecks}
 use Rattle.security.proofs.Judging.{passed, failed}
 use borrow.Author.Needs.{needs}

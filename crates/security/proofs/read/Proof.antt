@@ -4,7 +4,7 @@ use mathlib.Core.Bool.{true, false}
 use Rattle.paper.specs.Verdicts.{isDone, firstOf}
 use Rattle.paper.specs.Desk.{readChecks}
 use Rattle.paper.proofs.Logic.{not-true, not-false}
-use Rattle.security.specs.Turns.{isKnown, readAnswer}
+use Rattle.security.specs.Outcomes.{isKnown, readAnswer}
 use borrow.Author.Needs.{needs}
 use Rattle.security.proofs.read.Statement.{statement}
 use Rattle.security.proofs.read.Tie as tie

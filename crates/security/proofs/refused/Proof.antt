@@ -1,6 +1,6 @@
 -- `security::refused` meets its contract: the blank is stored past the end, and the verdict is said. Assumes nothing.
 use borrow.Author.Needs.{needs}
-use Rattle.security.specs.Turns.{refusedTurn}
+use Rattle.security.specs.Outcomes.{refusedOutcome}
 use Rattle.security.proofs.refused.Statement.{statement}
 use Rattle.security.proofs.refused.Tie as tie
 
@@ -11,7 +11,7 @@ saying-requires : tie.Need-saying-requires
 saying-requires c κs = search needs
 
 returns : tie.Need-returns
-unfolding refusedTurn
+unfolding refusedOutcome
 returns c = rw (c .saying .ensures, c .before .blank .ensures)
 
 pub refused-spec : {M : Type 1} → statement M

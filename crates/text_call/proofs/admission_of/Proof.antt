@@ -6,7 +6,7 @@ use Rattle.text_call.proofs.admission_of.Tie as tie
 use Rattle.text_call.proofs.admission_of.Reads as reads
 use Rattle.text_call.proofs.admission_of.Lts as lts
 use Rattle.text_call.proofs.given_of.Reads as given-of-reads
-use Rattle.text_call.proofs.natural_at.Reads as natural-at-reads
+use Rattle.text_call.proofs.unsigned_at.Reads as natural-at-reads
 
 returns : tie.Need-returns
 unfolding admissionOf the placeOf admitNames code
@@ -18,7 +18,7 @@ returns c =
     let c5 = c4 .before in
     let c6 = c5 .before in
     rw (
-      c6 .natural-at .ensures,
+      c6 .unsigned-at .ensures,
       c5 .natural-at2 .ensures,
       c4 .natural-at3 .ensures,
       c3 .natural-at4 .ensures,

@@ -6,16 +6,16 @@ use Rattle.text_call.proofs.asked_of.Statement.{statement}
 use Rattle.text_call.proofs.asked_of.Tie as tie
 use Rattle.text_call.proofs.asked_of.Reads as reads
 use Rattle.text_call.proofs.asked_of.Lts as lts
-use Rattle.text_call.proofs.natural_at.Reads as natural-at-reads
+use Rattle.text_call.proofs.unsigned_at.Reads as natural-at-reads
 use Rattle.text_call.proofs.term_of.Reads as term-of-reads
 
-natural-at-requires : tie.Need-natural-at-requires
+natural-at-requires : tie.Need-unsigned-at-requires
 natural-at-requires c κs = search needs
 
-natural-at-requires-2 : tie.Need-natural-at-requires-2
+natural-at-requires-2 : tie.Need-unsigned-at-requires-2
 natural-at-requires-2 c κs = search needs
 
-natural-at-requires-3 : tie.Need-natural-at-requires-3
+natural-at-requires-3 : tie.Need-unsigned-at-requires-3
 natural-at-requires-3 c κs = search needs
 
 term-of-requires : tie.Need-term-of-requires
@@ -36,7 +36,7 @@ returns c =
     let c4 = c3 .before in
     let c5 = c4 .before in
     rw (
-      c5 .natural-at .ensures,
+      c5 .unsigned-at .ensures,
       c4 .natural-at2 .ensures,
       c3 .natural-at3 .ensures,
       c2 .term-of .ensures,

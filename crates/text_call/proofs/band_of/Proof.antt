@@ -1,5 +1,5 @@
-use Rattle.paper.specs.Ranges.{natural}
-use Rattle.paper.specs.declared.Band.the-variants as band
+use Rattle.paper.specs.Ranges.{unsigned}
+use Rattle.paper.specs.declared.RepoBand.the-variants as band
 use Rattle.text_protocol.specs.Calls.{bandOf}
 use mir.Facts.{toZ-ofZ}
 use mir.Syntax.{w64}
@@ -9,13 +9,13 @@ use Rattle.text_call.proofs.band_of.Statement.{statement}
 use Rattle.text_call.proofs.band_of.Tie as tie
 use Rattle.text_call.proofs.band_of.Reads as reads
 use Rattle.text_call.proofs.band_of.Lts as lts
-use Rattle.exact.proofs.natural.Reads as natural-reads
+use Rattle.exact.proofs.unsigned.Reads as natural-reads
 use Rattle.text_kept.proofs.found.Reads as found-reads
 
-natural-requires : tie.Need-natural-requires
+natural-requires : tie.Need-unsigned-requires
 natural-requires c κs = search needs
 
-natural-requires-2 : tie.Need-natural-requires-2
+natural-requires-2 : tie.Need-unsigned-requires-2
 natural-requires-2 c κs = search needs
 
 found-requires : tie.Need-found-requires
@@ -23,7 +23,7 @@ found-requires c κs = search needs
 
 returns : tie.Need-returns
 unfolding bandOf
-returns c = let low = rw (toZ-ofZ (c .before .before .before .before .fits .low)) at (c .before .before .natural
+returns c = let low = rw (toZ-ofZ (c .before .before .before .before .fits .low)) at (c .before .before .unsigned
     .ensures) in let high = rw (toZ-ofZ (c .before .before .before .before .fits .high)) at (c .before .natural2
     .ensures) in rw (c .before .before .before .if1 .taken, c .found .ensures, low, high)
 

@@ -4,7 +4,7 @@ use Rattle.text_call.proofs.given_of.Statement.{statement}
 use Rattle.text_call.proofs.given_of.Tie as tie
 use Rattle.text_call.proofs.given_of.Reads as reads
 use Rattle.text_call.proofs.given_of.Lts as lts
-use Rattle.text_call.proofs.natural_at.Reads as natural-at-reads
+use Rattle.text_call.proofs.unsigned_at.Reads as natural-at-reads
 
 returns : tie.Need-returns
 returns c =
@@ -30,7 +30,7 @@ returns c =
     let c20 = c19 .before in
     let c21 = c20 .before in
     given-is (c21 .before .args .zs .now)
-    (c21 .natural-at .ensures)
+    (c21 .unsigned-at .ensures)
     (c20 .natural-at2 .ensures)
     (c19 .natural-at3 .ensures)
     (c18 .natural-at4 .ensures)

@@ -8,7 +8,7 @@ use Rattle.text_call.proofs.interest_of.Statement.{statement}
 use Rattle.text_call.proofs.interest_of.Tie as tie
 use Rattle.text_call.proofs.interest_of.Reads as reads
 use Rattle.text_call.proofs.interest_of.Lts as lts
-use Rattle.text_call.proofs.natural_at.Reads as natural-at-reads
+use Rattle.text_call.proofs.unsigned_at.Reads as natural-at-reads
 use Rattle.text_call.proofs.number_at.Reads as number-at-reads
 
 returns : tie.Need-returns
@@ -32,7 +32,7 @@ returns c =
     rw (
       money,
       secrate,
-      c13 .natural-at .ensures,
+      c13 .unsigned-at .ensures,
       c12 .natural-at2 .ensures,
       c11 .natural-at3 .ensures,
       c10 .natural-at4 .ensures,

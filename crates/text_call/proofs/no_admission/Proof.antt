@@ -1,12 +1,12 @@
 use mathlib.Core.Path.{refl}
-use Rattle.paper.specs.Ranges.{natural}
+use Rattle.paper.specs.Ranges.{unsigned}
 use Rattle.text_protocol.specs.Names.{the, placeOf, admitNames, code}
 use Rattle.text_protocol.specs.Calls.{admissionOf, givenOf}
 use Rattle.text_call.proofs.no_admission.Statement.{statement}
 use Rattle.text_call.proofs.no_admission.Tie as tie
 
 returns : tie.Need-returns
-unfolding admissionOf givenOf the placeOf admitNames code natural
+unfolding admissionOf givenOf the placeOf admitNames code unsigned
 returns c = refl
 
 pub no-admission-spec : {M : Type 1} → statement M

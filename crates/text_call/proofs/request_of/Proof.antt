@@ -6,7 +6,7 @@ use Rattle.text_call.proofs.request_of.Reads as reads
 use Rattle.text_call.proofs.request_of.Lts as lts
 use Rattle.text_call.proofs.admission_of.Reads as admission-of-reads
 use Rattle.text_call.proofs.asked_of.Reads as asked-of-reads
-use Rattle.text_call.proofs.natural_at.Reads as natural-at-reads
+use Rattle.text_call.proofs.unsigned_at.Reads as natural-at-reads
 use Rattle.text_call.proofs.no_admission.Reads as no-admission-reads
 use Rattle.text_call.proofs.no_day.Reads as no-day-reads
 use Rattle.text_call.proofs.no_quote.Reads as no-quote-reads
@@ -25,7 +25,7 @@ no-quote-requires c κs = search needs
 returns : tie.Need-returns
 returns c = admit-line _ _ _ _ _ _ _ (c .before .before .before .if1 .taken) (c .before .before .admission-of .ensures)
 
-natural-at-requires : tie.Need-natural-at-requires
+natural-at-requires : tie.Need-unsigned-at-requires
 natural-at-requires c κs = search needs
 
 no-admission-requires : tie.Need-no-admission-requires
@@ -39,9 +39,9 @@ no-quote-requires-2 c κs = search needs
 
 returns-2 : tie.Need-returns-2
 returns-2 c = evaluate-line _ _ _ _ _ _ _ _ (c .before .before .before .before .if2 .taken) (c .before .before .before
-    .natural-at .ensures) (c .before .asked-of .ensures)
+    .unsigned-at .ensures) (c .before .asked-of .ensures)
 
-natural-at-requires-2 : tie.Need-natural-at-requires-2
+natural-at-requires-2 : tie.Need-unsigned-at-requires-2
 natural-at-requires-2 c κs = search needs
 
 quote-of-requires : tie.Need-quote-of-requires
@@ -54,13 +54,13 @@ returns-3 : tie.Need-returns-3
 returns-3 c = quote-line _ _ _ _ _ _ _ _ (c .of-id .ensures) (c .before .before .before .if3 .taken) (c .before .before
     .natural-at2 .ensures) (c .before .quote-of .ensures)
 
-natural-at-requires-3 : tie.Need-natural-at-requires-3
+natural-at-requires-3 : tie.Need-unsigned-at-requires-3
 natural-at-requires-3 c κs = search needs
 
 no-quote-requires-3 : tie.Need-no-quote-requires-3
 no-quote-requires-3 c κs = search needs
 
-natural-at-requires-4 : tie.Need-natural-at-requires-4
+natural-at-requires-4 : tie.Need-unsigned-at-requires-4
 natural-at-requires-4 c κs = search needs
 
 of-id-requires-2 : tie.Need-of-id-requires-2
@@ -70,7 +70,7 @@ returns-4 : tie.Need-returns-4
 returns-4 c = move-line _ _ _ _ _ _ _ _ (c .of-id2 .ensures) (c .before .before .before .before .if4 .taken) (c .before
     .before .before .natural-at3 .ensures) (c .before .natural-at4 .ensures)
 
-natural-at-requires-5 : tie.Need-natural-at-requires-5
+natural-at-requires-5 : tie.Need-unsigned-at-requires-5
 natural-at-requires-5 c κs = search needs
 
 no-quote-requires-4 : tie.Need-no-quote-requires-4

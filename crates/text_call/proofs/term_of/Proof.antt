@@ -7,10 +7,10 @@ use Rattle.text_call.proofs.term_of.Tie as tie
 use Rattle.text_call.proofs.term_of.Reads as reads
 use Rattle.text_call.proofs.term_of.Lts as lts
 use Rattle.text_call.proofs.band_of.Reads as band-of-reads
-use Rattle.text_call.proofs.natural_at.Reads as natural-at-reads
+use Rattle.text_call.proofs.unsigned_at.Reads as natural-at-reads
 use Rattle.text_call.proofs.number_at.Reads as number-at-reads
 
-natural-at-requires : tie.Need-natural-at-requires
+natural-at-requires : tie.Need-unsigned-at-requires
 natural-at-requires c κs = search needs
 
 add-number-at : tie.Need-add-number-at
@@ -31,7 +31,7 @@ band-of-requires c κs = search needs
 returns : tie.Need-returns
 returns c = let low = toZ-ofZ {w = w64} {z = c .before .before .number-at .result} (search needs) in let high = toZ-ofZ
     {w = w64} {z = c .before .number-at2 .result} (search needs) in rw (
-      c .before .before .before .natural-at .ensures,
+      c .before .before .before .unsigned-at .ensures,
       (rw (low, high) at (c .band-of .ensures)),
       c .before .before .number-at .ensures,
       c .before .number-at2 .ensures,

@@ -14,7 +14,7 @@ use Rattle.text_out.proofs.put_number.Reads as put-number-reads
 put-byte-requires : tie.Need-put-byte-requires
 put-byte-requires c κs = search needs
 
-size-requires : tie.Need-size-requires
+size-requires : tie.Need-magnitude-requires
 size-requires c κs = search needs
 
 add-put-number : tie.Need-add-put-number
@@ -34,7 +34,7 @@ returns c =
     below-wrote (s .args .x) _ (rw (toZ-ofZ f) at (c .before .size .ensures)) (rw (toZ-ofZ f) at (c .before .before
     .before .before .before .if1 .taken)) (c .before .before .before .put-byte .ensures) (c .put-number .ensures)
 
-size-requires-2 : tie.Need-size-requires-2
+size-requires-2 : tie.Need-magnitude-requires-2
 size-requires-2 c κs = search needs
 
 put-number-requires-2 : tie.Need-put-number-requires-2

@@ -5,7 +5,7 @@ use Rattle.text_turn.proofs.wanted_by.Tie as tie
 use Rattle.text_turn.proofs.wanted_by.Reads as reads
 use Rattle.text_turn.proofs.wanted_by.Lts as lts
 use Rattle.interest.proofs.refused.Reads as refused-reads
-use Rattle.interest.proofs.work.Reads as work-reads
+use Rattle.interest.proofs.answer.Reads as work-reads
 use Rattle.text_call.proofs.figures.Reads as figures-reads
 use Rattle.text_call.proofs.interest_of.Reads as interest-of-reads
 use Rattle.text_call.proofs.request_of.Reads as request-of-reads

@@ -1,6 +1,6 @@
 -- `given::given_of` meets its contract: each number is read back from its bits and made unsigned, field by field. Assumes nothing.
 use Rattle.paper.specs.Gateway.{givenOf}
-use Rattle.gateway.proofs.Handed.{read}
+use Rattle.gateway.proofs.GatewayStatics.{read}
 use Rattle.gateway.proofs.given.given_of.Statement.{statement}
 use Rattle.gateway.proofs.given.given_of.Tie as tie
 
@@ -31,7 +31,7 @@ returns c =
     let c1 = c2 .before in
     let f = c1 .before .fits in
     λ i. record {
-      lot = read (f .lot) (c1 .natural .ensures) i;
+      lot = read (f .lot) (c1 .unsigned .ensures) i;
       h = read (f .h) (c2 .natural2 .ensures) i;
       q = read (f .q) (c3 .natural3 .ensures) i;
       aup = read (f .aup) (c4 .natural4 .ensures) i;

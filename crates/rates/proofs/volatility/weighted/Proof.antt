@@ -3,7 +3,7 @@ use Prim.Native.Nat.{ℕ, _+_, _-_, _*_, _^_, _≤_}
 use native.Mathlib.Nat.{mul-le-mul, mul-le-mul-left}
 use native.Mathlib.Omega.{arith}
 use borrow.Author.Needs.{needs}
-use Rattle.paper.specs.Numbers.{whole}
+use Rattle.paper.specs.Numbers.{oneInTenThousandths}
 use Rattle.paper.specs.Rates.{weighted}
 use Rattle.paper.proofs.Bounds.{mean-high}
 use Rattle.rates.proofs.volatility.weighted.Statement.{statement}
@@ -12,7 +12,7 @@ use Rattle.rates.proofs.volatility.weighted.Tie as tie
 record Sizes (a s r : ℕ) : Type 0 where
   old : s * s ≤ 2 ^ 20 * 2 ^ 20
   new : r * r ≤ 2 ^ 20 * 2 ^ 20
-  mean : (whole - a) * (s * s) + a * (r * r) ≤ whole * (2 ^ 20 * 2 ^ 20)
+  mean : (oneInTenThousandths - a) * (s * s) + a * (r * r) ≤ oneInTenThousandths * (2 ^ 20 * 2 ^ 20)
 
 sizes : (c : tie.Start) → Sizes (c .args .a) (c .args .s) (c .args .r)
 sizes c =

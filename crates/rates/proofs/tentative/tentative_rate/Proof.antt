@@ -2,9 +2,9 @@
 use native.Mathlib.Nat.{mul-le-mul}
 use native.Mathlib.Omega.{arith}
 use borrow.Author.Needs.{needs}
-use Rattle.paper.specs.Rates.{wanted}
-use Rattle.rates.proofs.tentative.wanted.Statement.{statement}
-use Rattle.rates.proofs.tentative.wanted.Tie as tie
+use Rattle.paper.specs.Rates.{tentativeRate}
+use Rattle.rates.proofs.tentative.tentative_rate.Statement.{statement}
+use Rattle.rates.proofs.tentative.tentative_rate.Tie as tie
 
 mul-least-step : tie.Need-mul-least-step
 mul-least-step c = omega (arith, mul-le-mul (c .before .pre .0 .multiplier-high) (c .before .pre .1))
@@ -17,8 +17,8 @@ lesser-requires : tie.Need-lesser-requires
 lesser-requires c κs = search needs
 
 returns : tie.Need-returns
-unfolding wanted
+unfolding tentativeRate
 returns c = rw (c .lesser .ensures, c .before .least-step .ensures)
 
-pub wanted-spec : {M : Type 1} → statement M
-wanted-spec = tie.close (tie.spec mul-least-step least-step-requires lesser-requires returns)
+pub tentative-rate-spec : {M : Type 1} → statement M
+tentative-rate-spec = tie.close (tie.spec mul-least-step least-step-requires lesser-requires returns)

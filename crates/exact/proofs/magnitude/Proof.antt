@@ -26,5 +26,5 @@ returns c = rw (toZ-ofZ (c .before .fits .x), toZ-ofZ (below c .signed)) (below 
 returns-2 : tie.Need-returns-2
 returns-2 c = rw (toZ-ofZ (c .before .fits .x)) (above c .is)
 
-pub size-spec : {M : Type 1} → statement M
-size-spec = tie.close (tie.spec sub-result cast-result cast-result-2 returns returns-2)
+pub magnitude-spec : {M : Type 1} → statement M
+magnitude-spec = tie.close (tie.spec sub-result cast-result cast-result-2 returns returns-2)

@@ -2,8 +2,8 @@
 use mir.Syntax.{w64}
 use mir.Facts.{toZ-ofZ}
 use borrow.Author.Needs.{needs}
-use Rattle.exact.proofs.natural_at.Statement.{statement}
-use Rattle.exact.proofs.natural_at.Tie as tie
+use Rattle.exact.proofs.unsigned_at.Statement.{statement}
+use Rattle.exact.proofs.unsigned_at.Tie as tie
 
 mul-natural : tie.Need-mul-natural
 mul-natural c = search needs
@@ -11,13 +11,13 @@ mul-natural c = search needs
 shared-slice-copy-out-natural : tie.Need-shared-slice-copy-out-natural
 shared-slice-copy-out-natural c = search needs
 
-natural-requires : tie.Need-natural-requires
+natural-requires : tie.Need-unsigned-requires
 natural-requires c κs = search needs
 
 returns : tie.Need-returns
-returns c = rw (toZ-ofZ {w = w64} (record { sfits = c .before .natural-arg .given })) at (c .natural .ensures)
+returns c = rw (toZ-ofZ {w = w64} (record { sfits = c .before .unsigned-arg .given })) at (c .unsigned .ensures)
 
-pub natural-at-spec : {M : Type 1} → statement M
-natural-at-spec =
+pub unsigned-at-spec : {M : Type 1} → statement M
+unsigned-at-spec =
     tie.close
     (tie.spec mul-natural shared-slice-copy-out-natural natural-requires returns)

@@ -4,10 +4,10 @@ use lib.Signed.{mag}
 use mir.Facts.{toZ-ofZ}
 use borrow.Author.Needs.{needs}
 use Rattle.exact.proofs.Sign.{natural-below, natural-above}
-use Rattle.exact.proofs.natural.Statement.{statement}
-use Rattle.exact.proofs.natural.Tie as tie
+use Rattle.exact.proofs.unsigned.Statement.{statement}
+use Rattle.exact.proofs.unsigned.Tie as tie
 
-size-requires : tie.Need-size-requires
+size-requires : tie.Need-magnitude-requires
 size-requires c κs = search needs
 
 returns : tie.Need-returns
@@ -16,8 +16,8 @@ returns c = sym (natural-below _ (rw (toZ-ofZ (c .before .fits .x)) at (c .if1 .
 returns-2 : tie.Need-returns-2
 returns-2 c =
     let f = c .before .before .fits .x in
-    let is : c .size .result ≡ mag (c .before .before .args .x) = rw (toZ-ofZ f) at (c .size .ensures) in
+    let is : c .magnitude .result ≡ mag (c .before .before .args .x) = rw (toZ-ofZ f) at (c .magnitude .ensures) in
     is ∙ sym (natural-above _ (rw (toZ-ofZ f) at (c .before .if1 .left)))
 
-pub natural-spec : {M : Type 1} → statement M
-natural-spec = tie.close (tie.spec size-requires returns returns-2)
+pub unsigned-spec : {M : Type 1} → statement M
+unsigned-spec = tie.close (tie.spec size-requires returns returns-2)

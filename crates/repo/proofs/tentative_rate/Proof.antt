@@ -2,8 +2,8 @@
 use native.Mathlib.Nat.{mul-le-mul}
 use native.Mathlib.Omega.{arith}
 use borrow.Author.Needs.{needs}
-use Rattle.repo.proofs.wanted.Statement.{statement}
-use Rattle.repo.proofs.wanted.Tie as tie
+use Rattle.repo.proofs.tentative_rate.Statement.{statement}
+use Rattle.repo.proofs.tentative_rate.Tie as tie
 
 mul-least-step : tie.Need-mul-least-step
 mul-least-step c = omega (arith, mul-le-mul (c .before .pre .0 .multiplier) (c .before .pre .1))
@@ -15,5 +15,5 @@ least-step-requires c κs =
 returns : tie.Need-returns
 returns c = search needs
 
-pub wanted-spec : {M : Type 1} → statement M
-wanted-spec = tie.close (tie.spec mul-least-step least-step-requires returns)
+pub tentative-rate-spec : {M : Type 1} → statement M
+tentative-rate-spec = tie.close (tie.spec mul-least-step least-step-requires returns)

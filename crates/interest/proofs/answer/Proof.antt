@@ -7,8 +7,8 @@ use Rattle.paper.specs.Interest.{validInterest, validKeys, maturitiesOf, ascend
 use Rattle.paper.proofs.Logic.{not-true, not-false}
 use Rattle.maturities.specs.KeyLaws.{valid-whole, valid-eights}
 use Rattle.interest.proofs.Answers.{answer-keys, answer-pair, answer-range, answer-order, answer-figures}
-use Rattle.interest.proofs.work.Statement.{statement}
-use Rattle.interest.proofs.work.Tie as tie
+use Rattle.interest.proofs.answer.Statement.{statement}
+use Rattle.interest.proofs.answer.Tie as tie
 
 -- the test of 6, and that it passed; the test of 14 passed
 rule : (c : tie.After-keys-valid)
@@ -51,8 +51,8 @@ accepted-requires c κs =
 returns-3 : tie.Need-returns-3
 returns-3 c = c .accepted .ensures ∙ answer-figures _ _ (ruled (c .before .before .before)) (ordered (c .before))
 
-pub work-spec : {M : Type 1} → statement M
-work-spec =
+pub answer-spec : {M : Type 1} → statement M
+answer-spec =
     tie.close
     (tie.spec
     interest-valid-requires
