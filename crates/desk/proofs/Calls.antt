@@ -9,7 +9,7 @@
 -- Assumes `Given`, and that the table's entries meet the contracts.
 --
 -- HOW TO ADD A CALL, as `pub fn seventh(t: &mut [Record], id: u64, q: Q) -> Answer`:
--- 1. Prove its rule in `security`: `fn rule(s: Slot, q: Q) -> Outcome` ensures that the turn is `seventhTurn s q`.
+-- 1. Prove its rule in `record_calls`: `fn rule(s: Slot, q: Q) -> Outcome` ensures that the turn is `seventhTurn s q`.
 --    Add `seventh-steps` to `Steps`: what the turn stores and answers is the paper's step, by `judged-done`, in a line.
 -- 2. Where the code is `let s = take(t, id); let o = rule(s, q); put(t, o.at, o.rec); o.answer`, no walk is to be
 --    written: copy quote/Proof.antt, or evaluate/Proof.antt where rows are lent beside the table, and change the names.
@@ -68,12 +68,12 @@ use denote.Triple.Bound.{Bound}
 use denote.Triple.Spec.{tripleOf}
 use denote.Triple.Clauses.{ensured, lasts}
 use Rattle.paper.specs.declared.Record.{Record}
-use Rattle.security.specs.declared.Slot.{Slot}
-use Rattle.security.specs.declared.Outcome.{Outcome}
-use Rattle.security.specs.Outcomes.{slotOf}
+use Rattle.record_calls.specs.declared.Slot.{Slot}
+use Rattle.record_calls.specs.declared.Outcome.{Outcome}
+use Rattle.record_calls.specs.Outcomes.{slotOf}
 use Rattle.paper.proofs.Record.Laws as T′
-use Rattle.security.proofs.Slot.Laws as U′
-use Rattle.security.proofs.Turn as O
+use Rattle.record_calls.proofs.Slot.Laws as U′
+use Rattle.record_calls.proofs.Turn as O
 use Rattle.paper.proofs.Answer.Laws as N′
 use Rattle.desk.proofs.Row.{R, table-ty, val, makes, S, typed-slot, turn-ty, turn-val, turn-is, turn-tells, answer-val, typed-answer}
 use Rattle.desk.proofs.Frame.{Locals, held, holding, Within, Apart, held-own, held-other, frame, value, field as field′, behind, sets, clears, leaves}

@@ -25,12 +25,12 @@ use Rattle.paper.proofs.Record as T
 use Rattle.paper.proofs.Record.Laws as T′
 use Rattle.paper.proofs.Answer as N
 use Rattle.paper.proofs.Answer.Laws as N′
-use Rattle.security.specs.declared.Slot.{Slot}
-use Rattle.security.specs.declared.Outcome.{Outcome}
-use Rattle.security.proofs.Slot as U
-use Rattle.security.proofs.Slot.Laws as U′
-use Rattle.security.proofs.Turn as O
-use Rattle.security.proofs.Turn.Laws as O′
+use Rattle.record_calls.specs.declared.Slot.{Slot}
+use Rattle.record_calls.specs.declared.Outcome.{Outcome}
+use Rattle.record_calls.proofs.Slot as U
+use Rattle.record_calls.proofs.Slot.Laws as U′
+use Rattle.record_calls.proofs.Turn as O
+use Rattle.record_calls.proofs.Turn.Laws as O′
 
 -- ---- a record
 

@@ -49,11 +49,11 @@ use Rattle.paper.specs.declared.Record.{Record}
 use Rattle.paper.specs.Desk.{Call, step}
 use Rattle.paper.proofs.Answer as N
 use Rattle.paper.proofs.Answer.Laws as N′
-use Rattle.security.specs.declared.Slot.{Slot}
-use Rattle.security.specs.declared.Outcome.{Outcome}
-use Rattle.security.specs.Outcomes.{slotOf, doneBy}
-use Rattle.security.proofs.Slot.Laws as U′
-use Rattle.security.proofs.Turn as O
+use Rattle.record_calls.specs.declared.Slot.{Slot}
+use Rattle.record_calls.specs.declared.Outcome.{Outcome}
+use Rattle.record_calls.specs.Outcomes.{slotOf, doneBy}
+use Rattle.record_calls.proofs.Slot.Laws as U′
+use Rattle.record_calls.proofs.Turn as O
 use Rattle.desk.specs.Promises.{Promised}
 use Rattle.desk.proofs.Row.{R, table-ty, word, S, makes-slot, turn-ty, turn-val, turn-is, typed-turn, answer-val, makes-answer}
 use Rattle.desk.proofs.Frame.{Addresses, of-types, env-of, spare, frame, enters, value}

@@ -17,8 +17,8 @@ use Rattle.paper.specs.declared.Verdict.{Verdict}
 use Rattle.paper.specs.Lists.{pick}
 use Rattle.paper.specs.Verdicts.{isDone, firstOf}
 use Rattle.paper.specs.Desk.{Call, admit, evaluate, quote, move, read, Outcome, blank, saying, showing, stands, known, found, admitChecks, readChecks, checksOf, judged, acceptedOf, step}
-use Rattle.security.specs.declared.Outcome.{Outcome}
-use Rattle.security.specs.Outcomes.{slotOf, holds, isKnown, refusedOutcome, judgedOutcome, admitChecksOf, admitOutcome, evaluateOutcome, quoteOutcome, moveOutcome, readAnswer, doneBy}
+use Rattle.record_calls.specs.declared.Outcome.{Outcome}
+use Rattle.record_calls.specs.Outcomes.{slotOf, holds, isKnown, refusedOutcome, judgedOutcome, admitChecksOf, admitOutcome, evaluateOutcome, quoteOutcome, moveOutcome, readAnswer, doneBy}
 use Rattle.desk.specs.Promises.{Promised}
 
 judged-done : (t : List Record) (v : Verdict) (o : Outcome) → doneBy t (judgedOutcome (length t) v o) ≡ judged v t (doneBy t o)

@@ -6,13 +6,13 @@ use paper::AskedDay;
 use paper::Day;
 use paper::Quote;
 use paper::Record;
-use security::Outcome;
-use security::Slot;
+use record_calls::Outcome;
+use record_calls::Slot;
 ghost use mathlib.Core.Path.{_≡_};
 ghost use lib.ListN.{set};
 ghost use Rattle.paper.specs.Desk.{Call, step};
 ghost use Rattle.paper.specs.Terms.{dayOf};
-ghost use Rattle.security.specs.Turns.{slotOf, evaluateOutcome};
+ghost use Rattle.record_calls.specs.Turns.{slotOf, evaluateOutcome};
 ghost use Rattle.desk.specs.Promises.{Promised};
 
 // "id 0 marks an empty slot"
@@ -33,7 +33,7 @@ pub fn take(t: &[Record], id: u64) -> Slot
         }
         i = i + 1;
     }
-    security::absent(i)
+    record_calls::absent(i)
 }
 
 // The record is stored at a place. Past the end nothing is.
@@ -51,7 +51,7 @@ pub fn admit(t: &mut [Record], a: Admission) -> Answer
 {
     let s = take(t, a.id);
     let e = take(t, EMPTY);
-    let o = security::admitted(s, e, a);
+    let o = record_calls::admitted(s, e, a);
     put(t, o.at, o.rec);
     o.answer
 }
@@ -60,7 +60,7 @@ pub fn evaluate(t: &mut [Record], id: u64, d: Day, rows: &[i64]) -> Answer
     ensures { λ r. ⌜ Promised (Call.evaluate id d (now (rows .entry))) (now (t .entry)) r (now (t .exit)) ⌝ }
 {
     let s = take(t, id);
-    let o = security::evaluated(s, d, rows);
+    let o = record_calls::evaluated(s, d, rows);
     put(t, o.at, o.rec);
     o.answer
 }
@@ -69,8 +69,8 @@ pub fn evaluate(t: &mut [Record], id: u64, d: Day, rows: &[i64]) -> Answer
 fn asked(s: Slot, a: AskedDay, rows: &[i64]) -> Outcome
     ensures { λ o. ⌜ o ≡ evaluateOutcome s (dayOf a) (now (rows .entry)) ⌝ }
 {
-    let d = terms::day_of(a);
-    security::evaluated(s, d, rows)
+    let d = interest_terms::day_of(a);
+    record_calls::evaluated(s, d, rows)
 }
 
 // W-201: "The security's evaluation may take these limits or given ones."
@@ -87,7 +87,7 @@ pub fn quote(t: &mut [Record], id: u64, q: Quote) -> Answer
     ensures { λ r. ⌜ Promised (Call.quote id q) (now (t .entry)) r (now (t .exit)) ⌝ }
 {
     let s = take(t, id);
-    let o = security::quoted(s, q);
+    let o = record_calls::quoted(s, q);
     put(t, o.at, o.rec);
     o.answer
 }
@@ -97,7 +97,7 @@ pub fn moved(t: &mut [Record], id: u64, side: u64) -> Answer
     ensures { λ r. ⌜ Promised (Call.move id side) (now (t .entry)) r (now (t .exit)) ⌝ }
 {
     let s = take(t, id);
-    let o = security::moved(s, side);
+    let o = record_calls::moved(s, side);
     put(t, o.at, o.rec);
     o.answer
 }
@@ -107,5 +107,5 @@ pub fn read(t: &[Record], id: u64) -> Answer
     ensures { λ r. ⌜ r ≡ step (Call.read id) (now (t .entry)) .answer ⌝ }
 {
     let s = take(t, id);
-    security::read(s)
+    record_calls::read(s)
 }

@@ -11,7 +11,7 @@ use Rattle.paper.specs.Interest.{validInterest, validKeys, maturitiesOf, ascend
 use Rattle.paper.specs.Verdicts.{isDone, firstOf}
 use Rattle.paper.proofs.Logic.{and-left, and-right}
 use Rattle.paper.proofs.InterestRanges.{interest-range}
-use Rattle.forward.specs.Pair.{PairRange}
+use Rattle.interest_forward.specs.Pair.{PairRange}
 
 module _ (i : Interest) (numbers : List ℤ) where
   -- what is not refused gives the ranges that the rules ask for

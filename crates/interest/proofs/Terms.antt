@@ -17,13 +17,13 @@ use Rattle.paper.proofs.Logic.{pick-true, pick-false}
 use Rattle.paper.proofs.Differences.{difference-whole}
 use Rattle.paper.proofs.Lifted.{lifted-is}
 use Rattle.paper.proofs.InterestRanges.{InterestRange, KeyRange, key-range, figures-held}
-use Rattle.maturities.specs.KeyLaws.{maturityAt, valid-key}
-use Rattle.maturities.specs.Reads.{Reads}
-use Rattle.repo.specs.Lift.{lift, lifted, lifted-range}
-use Rattle.forward.specs.declared.Point.{Point}
-use Rattle.forward.specs.Pair.{bandHeld, band-is}
-use Rattle.forward.specs.Points.{PointRange, rateOf, linear, pointBetween}
-use Rattle.forward.proofs.Lines.{interpolated-lifted, between-range}
+use Rattle.interest_maturities.specs.KeyLaws.{maturityAt, valid-key}
+use Rattle.interest_maturities.specs.Reads.{Reads}
+use Rattle.interest_repo.specs.Lift.{lift, lifted, lifted-range}
+use Rattle.interest_forward.specs.declared.Point.{Point}
+use Rattle.interest_forward.specs.Pair.{bandHeld, band-is}
+use Rattle.interest_forward.specs.Points.{PointRange, rateOf, linear, pointBetween}
+use Rattle.interest_forward.proofs.Lines.{interpolated-lifted, between-range}
 use Rattle.interest.specs.Figures.{pointOf, PointAt}
 
 -- a key maturity of numbers that are not refused is in range

@@ -6,9 +6,9 @@ use lib.IntN.{pos}
 use Rattle.paper.specs.declared.Interest.{Interest}
 use Rattle.paper.specs.declared.Maturity.{Maturity}
 use Rattle.paper.specs.Interest.{upward, downward, figureAt}
-use Rattle.repo.specs.Lift.{lifted}
-use Rattle.forward.specs.declared.Point.{Point}
-use Rattle.forward.specs.Points.{PointRange, rateOf}
+use Rattle.interest_repo.specs.Lift.{lifted}
+use Rattle.interest_forward.specs.declared.Point.{Point}
+use Rattle.interest_forward.specs.Points.{PointRange, rateOf}
 
 abbrev pub pointOf : Interest → Maturity → Point
 pointOf i k = record { t = k .t; rate = lifted (k .r); up = upward i k; down = downward i k }

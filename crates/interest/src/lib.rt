@@ -1,5 +1,5 @@
 // The interest side (document 02, W-201): an evening's key maturities, lent in one slice, to the figures of each and to the repo band of a pair of terms.
-// The rules are those of `repo` and `forward`; this crate judges what is given, asks them, and puts the answer together.
+// The rules are those of `repo` and `interest_forward`; this crate judges what is given, asks them, and puts the answer together.
 ghost use mathlib.Core.Path.{_≡_};
 ghost use mathlib.Core.Bool.{true, _&&_};
 ghost use mathlib.Core.List.{map};
@@ -10,10 +10,10 @@ ghost use Rattle.paper.specs.Lists.{eight};
 ghost use Rattle.paper.specs.Numbers.{keyNumbers};
 ghost use Rattle.paper.specs.Interest.{validInterest, validKeys, maturitiesOf, ascending, maturityFigures, noFigures, refusedInterest, acceptedInterest, interestAnswer};
 ghost use Rattle.paper.proofs.InterestRanges.{InterestRange};
-ghost use Rattle.maturities.specs.KeyLaws.{maturityAt};
-ghost use Rattle.forward.specs.Pair.{PairRange};
+ghost use Rattle.interest_maturities.specs.KeyLaws.{maturityAt};
+ghost use Rattle.interest_forward.specs.Pair.{PairRange};
 ghost use Rattle.interest.specs.Figures.{pointOf, PointAt};
-use forward::Point;
+use interest_forward::Point;
 use paper::Day;
 use paper::Interest;
 use paper::InterestAnswer;
@@ -52,7 +52,7 @@ fn in_order(i: Interest, numbers: &[i64]) -> bool
     requires { ⌜ length (now numbers) % keyNumbers ≡ 0 ⌝ }
     ensures { λ r. ⌜ r ≡ (ascending (maturitiesOf (now (numbers .entry))) && ltb (i .ym) (i .yn)) ⌝ }
 {
-    maturities::is_ascending(numbers) & (i.ym < i.yn)
+    interest_maturities::is_ascending(numbers) & (i.ym < i.yn)
 }
 
 // The figures past the last key maturity, and of a refusal.
@@ -95,7 +95,7 @@ fn figures_at(i: Interest, numbers: &[i64], n: usize) -> MaturityFigures
 {
     let at = Maturity::NUMBERS * n;
     if at < numbers.len() {
-        repo::figures_of(i, maturities::maturity_at(numbers, at))
+        interest_repo::figures_of(i, interest_maturities::maturity_at(numbers, at))
     } else {
         no_figures()
     }
@@ -127,11 +127,11 @@ fn point_of(i: Interest, numbers: &[i64], at: usize) -> Point
     requires { ⌜ (at % keyNumbers ≡ 0) × (at + keyNumbers ≤ length (now numbers)) ⌝ }
     ensures { λ r. ⌜ r ≡ pointOf i (maturityAt (now (numbers .entry)) at) ⌝ }
 {
-    let k = maturities::maturity_at(numbers, at);
-    let figures = repo::figures_of(i, k);
+    let k = interest_maturities::maturity_at(numbers, at);
+    let figures = interest_repo::figures_of(i, k);
     Point {
         t: k.t,
-        rate: repo::lifted(k.r),
+        rate: interest_repo::lifted(k.r),
         up: figures.up,
         down: figures.down,
     }
@@ -143,13 +143,13 @@ fn point_at(i: Interest, numbers: &[i64], y: u64) -> Point
     requires { ⌜ validKeys (now numbers) ≡ true ⌝ }
     ensures { λ r. ⌜ PointAt i (maturitiesOf (now (numbers .entry))) y r ⌝ }
 {
-    let places = maturities::neighbours(numbers, y);
+    let places = interest_maturities::neighbours(numbers, y);
     let before = point_of(i, numbers, places.before);
     if places.before == places.after {
         return before;
     }
     let after = point_of(i, numbers, places.after);
-    forward::between(before, after, y)
+    interest_forward::between(before, after, y)
 }
 
 // ---- the answer
@@ -161,7 +161,7 @@ fn accepted(i: Interest, numbers: &[i64]) -> InterestAnswer
 {
     let m = point_at(i, numbers, i.ym);
     let n = point_at(i, numbers, i.yn);
-    let band = forward::band_of(i, m, n);
+    let band = interest_forward::band_of(i, m, n);
     let figures = all_figures(i, numbers);
     InterestAnswer {
         pair: WorkedBand {
@@ -178,7 +178,7 @@ fn accepted(i: Interest, numbers: &[i64]) -> InterestAnswer
 pub fn answer(i: Interest, numbers: &[i64]) -> InterestAnswer
     ensures { λ r. ⌜ r ≡ interestAnswer i (now (numbers .entry)) ⌝ }
 {
-    if !(interest_valid(i) & maturities::keys_valid(numbers)) {
+    if !(interest_valid(i) & interest_maturities::keys_valid(numbers)) {
         return refused(Verdict::OutOfRange);
     }
     if !in_order(i, numbers) {

@@ -1,4 +1,4 @@
-// What the benchmark measures, for Rust to link: one security admitted and evaluated day after day by the rules of `security`, and parts of that. The table
+// What the benchmark measures, for Rust to link: one security admitted and evaluated day after day by the rules of `record_calls`, and parts of that. The table
 // is not part of it, since its records cannot cross to C; the benchmark runs the whole programs besides.
 ghost use Prim.Native.Nat.{_≤_};
 use exact::unsigned;
@@ -6,7 +6,7 @@ use paper::Admission;
 use paper::Day;
 use paper::Record;
 use paper::Term;
-use security::Slot;
+use record_calls::Slot;
 
 // The slots of the table that the security would stand in.
 const SLOTS: usize = 512;
@@ -73,8 +73,8 @@ fn first(r: Record) -> Slot {
 
 fn admitted(x: &[i64; 28]) -> Record {
     let a = admission_of(x);
-    let empty = first(security::blank());
-    let turn = security::admitted(security::absent(SLOTS), empty, a);
+    let empty = first(record_calls::blank());
+    let turn = record_calls::admitted(record_calls::absent(SLOTS), empty, a);
     turn.rec
 }
 
@@ -91,7 +91,7 @@ pub extern "C" fn nedrubal_days(x: &[i64; 28], y: &[i64; 6], rows: &[i64], days:
     let mut sum: u64 = 0;
     let mut i: u64 = 0;
     while i < days {
-        let turn = security::evaluated(first(r), day_of(y, i), rows);
+        let turn = record_calls::evaluated(first(r), day_of(y, i), rows);
         r = turn.rec;
         sum = std::num::wrapping_add_u64(sum, figure(r));
         i += 1;
@@ -106,7 +106,7 @@ pub extern "C" fn nedrubal_reads(x: &[i64; 28], times: u64) -> u64 {
     let mut sum: u64 = 0;
     let mut i: u64 = 0;
     while i < times {
-        let answer = security::read(first(r));
+        let answer = record_calls::read(first(r));
         r = answer.rec;
         sum = std::num::wrapping_add_u64(sum, figure(r));
         i += 1;

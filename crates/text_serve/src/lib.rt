@@ -74,7 +74,7 @@ pub fn serve(t: &mut [Record]) -> State
 pub fn fresh() -> [Record; 512]
     ensures { λ r. ⌜ r ≡ replicate 512 blank ⌝ }
 {
-    let e = security::blank();
+    let e = record_calls::blank();
     [e; 512]
 }
 

@@ -44,11 +44,11 @@ use Rattle.paper.proofs.Answer.Laws as N′
 use Rattle.paper.proofs.Admission as B
 use Rattle.paper.proofs.Admission.Laws as B′
 use Rattle.paper.proofs.Given.Laws as G′
-use Rattle.security.specs.declared.Slot.{Slot}
-use Rattle.security.specs.declared.Outcome.{Outcome}
-use Rattle.security.specs.Outcomes.{slotOf, admitOutcome}
-use Rattle.security.proofs.Slot.Laws as U′
-use Rattle.security.proofs.Turn as O
+use Rattle.record_calls.specs.declared.Slot.{Slot}
+use Rattle.record_calls.specs.declared.Outcome.{Outcome}
+use Rattle.record_calls.specs.Outcomes.{slotOf, admitOutcome}
+use Rattle.record_calls.proofs.Slot.Laws as U′
+use Rattle.record_calls.proofs.Turn as O
 use Rattle.desk.proofs.Row.{R, table-ty, S, makes-slot, turn-ty, turn-val, turn-is, typed-turn, answer-val, makes-answer}
 use Rattle.desk.proofs.Frame.{Addresses, of-types, env-of, spare, frame, enters, value as local′, field as field′}
 use Rattle.desk.proofs.Calls.{Take, Put, ℓt, Lending, rref, wref, ref, machine, Owned, taking, putting-turn, answering, takes, turned, puts-turn, answers}
@@ -57,10 +57,10 @@ use Rattle.desk.proofs.Asks.{Callee, consults}
 use Rattle.desk.proofs.Steps.{admit-steps, promised}
 use Rattle.desk.proofs.take.Symbol.{name as #take}
 use Rattle.desk.proofs.put.Symbol.{name as #put}
-use Rattle.security.proofs.admitted as rule
-use Rattle.security.proofs.admitted.Symbol as rule-def
-use Rattle.security.proofs.admitted.Symbol.{name as #rule}
-use Rattle.security.proofs.admitted.Met as rule-thm
+use Rattle.record_calls.proofs.admitted as rule
+use Rattle.record_calls.proofs.admitted.Symbol as rule-def
+use Rattle.record_calls.proofs.admitted.Symbol.{name as #rule}
+use Rattle.record_calls.proofs.admitted.Met as rule-thm
 use Rattle.desk.proofs.admit as f
 use Rattle.desk.proofs.admit.Key.{name as #admit}
 use Rattle.desk.proofs.admit.Statement as stated

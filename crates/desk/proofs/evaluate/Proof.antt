@@ -6,13 +6,13 @@ use denote.Struct.Laws as LL
 use Rattle.paper.proofs.Day as D
 use Rattle.paper.proofs.Day.Laws as D′
 use Rattle.paper.specs.Desk.{evaluate}
-use Rattle.security.specs.Outcomes.{evaluateOutcome}
+use Rattle.record_calls.specs.Outcomes.{evaluateOutcome}
 use Rattle.desk.proofs.Known.{take-known, put-known}
 use Rattle.desk.proofs.Shape.{Plain, PlainLaws, of-row}
 use Rattle.desk.proofs.ShapeWithRows.{Rule, meets}
 use Rattle.desk.proofs.Steps.{evaluate-steps}
-use Rattle.security.proofs.evaluated.Symbol as rule-def
-use Rattle.security.proofs.evaluated.Met as rule-thm
+use Rattle.record_calls.proofs.evaluated.Symbol as rule-def
+use Rattle.record_calls.proofs.evaluated.Met as rule-thm
 use Rattle.desk.proofs.evaluate as f
 use Rattle.desk.proofs.evaluate.Key as key
 use Rattle.desk.proofs.evaluate.Statement as stated

@@ -14,9 +14,9 @@ use Rattle.paper.specs.Desk.{Call, evaluate, step}
 use Rattle.paper.specs.Terms.{dayOf}
 use Rattle.paper.proofs.AskedDay as D
 use Rattle.paper.proofs.AskedDay.Laws as D′
-use Rattle.security.specs.declared.Slot.{Slot}
-use Rattle.security.specs.declared.Outcome.{Outcome}
-use Rattle.security.specs.Outcomes.{slotOf, evaluateOutcome, doneBy}
+use Rattle.record_calls.specs.declared.Slot.{Slot}
+use Rattle.record_calls.specs.declared.Outcome.{Outcome}
+use Rattle.record_calls.specs.Outcomes.{slotOf, evaluateOutcome, doneBy}
 use Rattle.desk.proofs.Known.{take-known, put-known}
 use Rattle.desk.proofs.Shape.{Plain, PlainLaws, of-row}
 use Rattle.desk.proofs.ShapeWithRows.{Rule, meets}

@@ -7,12 +7,12 @@ use mir.Val.{vint}
 use denote.Builtin.{u64}
 use denote.Plain.{uint-tells, uint-lawful, uint-makes}
 use Rattle.paper.specs.Desk.{move}
-use Rattle.security.specs.Outcomes.{moveOutcome}
+use Rattle.record_calls.specs.Outcomes.{moveOutcome}
 use Rattle.desk.proofs.Known.{take-known, put-known}
 use Rattle.desk.proofs.Shape.{Plain, PlainLaws, of-row, Rule, meets}
 use Rattle.desk.proofs.Steps.{move-steps}
-use Rattle.security.proofs.moved.Symbol as rule-def
-use Rattle.security.proofs.moved.Met as rule-thm
+use Rattle.record_calls.proofs.moved.Symbol as rule-def
+use Rattle.record_calls.proofs.moved.Met as rule-thm
 use Rattle.desk.proofs.moved as f
 use Rattle.desk.proofs.moved.Key as key
 use Rattle.desk.proofs.moved.Statement as stated

@@ -6,12 +6,12 @@ use denote.Struct.Laws as LL
 use Rattle.paper.proofs.Quote as Q
 use Rattle.paper.proofs.Quote.Laws as Q′
 use Rattle.paper.specs.Desk.{quote}
-use Rattle.security.specs.Outcomes.{quoteOutcome}
+use Rattle.record_calls.specs.Outcomes.{quoteOutcome}
 use Rattle.desk.proofs.Known.{take-known, put-known}
 use Rattle.desk.proofs.Shape.{Plain, PlainLaws, of-row, Rule, meets}
 use Rattle.desk.proofs.Steps.{quote-steps}
-use Rattle.security.proofs.quoted.Symbol as rule-def
-use Rattle.security.proofs.quoted.Met as rule-thm
+use Rattle.record_calls.proofs.quoted.Symbol as rule-def
+use Rattle.record_calls.proofs.quoted.Met as rule-thm
 use Rattle.desk.proofs.quote as f
 use Rattle.desk.proofs.quote.Key as key
 use Rattle.desk.proofs.quote.Statement as stated

@@ -40,9 +40,9 @@ use Rattle.paper.specs.declared.Record.{Record}
 use Rattle.paper.specs.declared.Answer.{Answer}
 use Rattle.paper.proofs.Answer as N
 use Rattle.paper.proofs.Answer.Laws as N′
-use Rattle.security.proofs.Slot.Laws as U′
-use Rattle.security.specs.declared.Slot.{Slot}
-use Rattle.security.specs.Outcomes.{slotOf, readAnswer}
+use Rattle.record_calls.proofs.Slot.Laws as U′
+use Rattle.record_calls.specs.declared.Slot.{Slot}
+use Rattle.record_calls.specs.Outcomes.{slotOf, readAnswer}
 use Rattle.desk.proofs.Row.{R, shared-ty, word, S, makes-slot, typed-slot, makes-answer, typed-answer}
 use Rattle.desk.proofs.Frame.{Addresses, of-types, env-of, frame, enters, value, leaves}
 use Rattle.desk.proofs.Calls.{Take, ℓt, ref, machine}
@@ -51,10 +51,10 @@ use Rattle.desk.proofs.Asks.{Callee, calls, says as learned, consults}
 use Rattle.desk.proofs.Steps.{read-answers}
 use Rattle.desk.proofs.take as take
 use Rattle.desk.proofs.take.Symbol.{name as #take}
-use Rattle.security.proofs.read as rule
-use Rattle.security.proofs.read.Symbol as rule-def
-use Rattle.security.proofs.read.Symbol.{name as #rule}
-use Rattle.security.proofs.read.Met as rule-thm
+use Rattle.record_calls.proofs.read as rule
+use Rattle.record_calls.proofs.read.Symbol as rule-def
+use Rattle.record_calls.proofs.read.Symbol.{name as #rule}
+use Rattle.record_calls.proofs.read.Met as rule-thm
 use Rattle.desk.proofs.read as f
 use Rattle.desk.proofs.read.Key.{name as #read}
 use Rattle.desk.proofs.read.Statement as stated

@@ -51,20 +51,20 @@ use denote.Triple.Table.{entered, cited}
 use denote.Triple.Walked.{says, Stays, stay-none-slice, stay-none, walkOf, goes-none-slice, goes-none, Walks, ends-at, walked, walk-meets}
 use denote.Exit.{yes}
 use Rattle.paper.specs.declared.Record.{Record}
-use Rattle.security.specs.declared.Slot.{Slot}
+use Rattle.record_calls.specs.declared.Slot.{Slot}
 use Rattle.paper.specs.Desk.{blank}
-use Rattle.security.specs.Outcomes.{slotOf}
+use Rattle.record_calls.specs.Outcomes.{slotOf}
 use Rattle.paper.proofs.Record.Laws as T′
-use Rattle.security.proofs.Slot.Laws as U′
+use Rattle.record_calls.proofs.Slot.Laws as U′
 use Rattle.desk.proofs.Row.{R, shared-ty, word, bytes, vals, val, tells, copied, typed, id-fits, S, makes-slot, typed-slot, slot-val, slot-is}
 use Rattle.desk.proofs.Frame.{Addresses, of-types, env-of, Locals, spare, frame, enters, value, field, whole, sets, clears, leaves, leaves-within}
 use Rattle.desk.proofs.Slots.{finding, finds, address}
 use Rattle.desk.proofs.Asks.{Callee, consults}
 use Rattle.desk.proofs.Places.{Passed, passed-none, passed-more, absentOf, slot-here, slot-absent}
-use Rattle.security.proofs.absent as absent
-use Rattle.security.proofs.absent.Symbol as absent-def
-use Rattle.security.proofs.absent.Symbol.{name as #absent}
-use Rattle.security.proofs.absent.Met as absent-thm
+use Rattle.record_calls.proofs.absent as absent
+use Rattle.record_calls.proofs.absent.Symbol as absent-def
+use Rattle.record_calls.proofs.absent.Symbol.{name as #absent}
+use Rattle.record_calls.proofs.absent.Met as absent-thm
 use Rattle.desk.proofs.take.Key.{name as #take}
 use Rattle.desk.proofs.take as f
 use Rattle.desk.proofs.take.Statement as stated

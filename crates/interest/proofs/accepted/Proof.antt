@@ -7,7 +7,7 @@ use borrow.Author.Needs.{needs}
 use Rattle.paper.specs.declared.RepoLimits.{RepoLimits}
 use Rattle.paper.specs.declared.Verdict.the-variants.{Done}
 use Rattle.paper.specs.Interest.{acceptedInterest}
-use Rattle.maturities.specs.KeyLaws.{count-is}
+use Rattle.interest_maturities.specs.KeyLaws.{count-is}
 use Rattle.interest.proofs.Terms.{band-at}
 use Rattle.interest.proofs.accepted.Statement.{statement}
 use Rattle.interest.proofs.accepted.Tie as tie

@@ -5,7 +5,7 @@ use lib.Dec.{ltb}
 use borrow.Author.Needs.{needs}
 use Rattle.paper.specs.Interest.{validInterest, validKeys, maturitiesOf, ascending}
 use Rattle.paper.proofs.Logic.{not-true, not-false}
-use Rattle.maturities.specs.KeyLaws.{valid-whole, valid-eights}
+use Rattle.interest_maturities.specs.KeyLaws.{valid-whole, valid-eights}
 use Rattle.interest.proofs.Answers.{answer-keys, answer-pair, answer-range, answer-order, answer-figures}
 use Rattle.interest.proofs.answer.Statement.{statement}
 use Rattle.interest.proofs.answer.Tie as tie

@@ -2,7 +2,7 @@
 use mathlib.Core.Path.{_≡_}
 use mathlib.Core.Logic.{_⊎_, inl, inr}
 use Prim.Native.Nat.{ℕ}
-use Rattle.maturities.specs.KeyLaws.{valid-whole, valid-eights, valid-one}
+use Rattle.interest_maturities.specs.KeyLaws.{valid-whole, valid-eights, valid-one}
 use Rattle.interest.proofs.Terms.{point-range, before-range, after-range, point-here, point-between}
 use Rattle.interest.proofs.point_at.Statement.{statement}
 use Rattle.interest.proofs.point_at.Tie as tie

@@ -2,7 +2,7 @@
 use borrow.Author.Needs.{needs}
 use Rattle.paper.specs.Interest.{maturityFigures}
 use Rattle.paper.proofs.InterestRanges.{KeyRange}
-use Rattle.repo.proofs.Bits.{rate-bits}
+use Rattle.interest_repo.proofs.Bits.{rate-bits}
 use Rattle.interest.proofs.Terms.{key-in-range}
 use Rattle.interest.proofs.point_of.Statement.{statement}
 use Rattle.interest.proofs.point_of.Tie as tie

@@ -1,0 +1,12 @@
+-- `interest_forward::is_held` meets its contract: it is the definition's test. Assumes nothing.
+use mathlib.Core.Path.{refl}
+use Rattle.paper.specs.Interest.{isHeld}
+use Rattle.interest_forward.proofs.is_held.Statement.{statement}
+use Rattle.interest_forward.proofs.is_held.Tie as tie
+
+returns : tie.Need-returns
+unfolding isHeld
+returns c = refl
+
+pub is-held-spec : {M : Type 1} → statement M
+is-held-spec = tie.close (tie.spec returns)

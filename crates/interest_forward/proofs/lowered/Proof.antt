@@ -1,0 +1,50 @@
+-- `interest_forward::lowered` meets its contract: both numbers and their difference fit a signed number. Assumes nothing.
+use mathlib.Core.Path.{_≡_, ap, _∙_}
+use mathlib.Core.Logic.{_⊎_, inl, inr}
+use Prim.Native.Nat.{ℕ, _+_, _≤_, _<_, _^_}
+use native.Mathlib.Omega.{arith}
+use lib.IntN.{ℤ, pos, subℕ, _-ℤ_}
+use mir.Syntax.{w64}
+use mir.Val.{SFits}
+use mir.ValLaws.{toZ-pos}
+use mir.Facts.{toZ-ofZ}
+use borrow.Author.Needs.{needs}
+use Rattle.paper.proofs.Logic.{le-or-lt}
+use Rattle.paper.proofs.Differences.{difference-up, difference-down, difference-whole, difference-minus, difference-same}
+use Rattle.interest_forward.proofs.lowered.Statement.{statement}
+use Rattle.interest_forward.proofs.lowered.Tie as tie
+
+less : (n m : ℕ) → pos n -ℤ pos m ≡ subℕ n m
+less n m =
+    ap (λ (z : ℤ). z -ℤ pos m) (difference-whole n)
+    ∙ ap (λ (z : ℤ). subℕ n 0 -ℤ z) (difference-whole m)
+    ∙ difference-minus n 0 m 0
+    ∙ difference-same (n + 0) (0 + m) n m (omega arith)
+
+less-fits : (n m : ℕ) → n < 2 ^ 62 → m < 2 ^ 62 → SFits w64 (pos n -ℤ pos m)
+less-fits n m h k = rw (less n m) (go (le-or-lt m n))
+  where
+    go : (m ≤ n) ⊎ (n < m) → SFits w64 (subℕ n m)
+    go (inl l) = rw (difference-up n m l) (record { sfits = omega arith })
+    go (inr l) = rw (difference-down n m l) (record { sfits = omega arith })
+
+cast-result : tie.Need-cast-result
+cast-result c = search needs
+
+cast-result-2 : tie.Need-cast-result-2
+cast-result-2 c = search needs
+
+sub-result : tie.Need-sub-result
+sub-result c =
+    let n = c .args .n in
+    let m = c .args .from in
+    rw (toZ-pos w64 n (omega arith), toZ-pos w64 m (omega arith)) (less-fits n m (c .pre .0) (c .pre .1))
+
+returns : tie.Need-returns
+returns c =
+    let n = c .args .n in
+    let m = c .args .from in
+    rw (toZ-pos w64 n (omega arith), toZ-pos w64 m (omega arith), toZ-ofZ (less-fits n m (c .pre .0) (c .pre .1))) (less n m)
+
+pub lowered-spec : {M : Type 1} → statement M
+lowered-spec = tie.close (tie.spec cast-result cast-result-2 sub-result returns)

@@ -1,0 +1,50 @@
+-- `interest_forward::risen` meets its contract: its products fit, and what is taken off is no more than the base's part. Assumes nothing.
+use native.Mathlib.Omega.{arith}
+use borrow.Author.Needs.{needs}
+use Rattle.interest_forward.proofs.Limits.{Rises, rises, risen-is}
+use Rattle.interest_forward.proofs.risen.Statement.{statement}
+use Rattle.interest_forward.proofs.risen.Tie as tie
+
+known : (c : tie.Start) → Rises (c .args .i) (c .args .m) (c .args .n)
+known c = rises _ _ _ (c .pre .0) (c .pre .1 .0) (c .pre .1 .1)
+
+mul-result : tie.Need-mul-result
+mul-result c = omega (arith, known (c .before .before))
+
+sub-result : tie.Need-sub-result
+sub-result c = search needs
+
+sub-result-2 : tie.Need-sub-result-2
+sub-result-2 c = search needs
+
+mul-result-2 : tie.Need-mul-result-2
+mul-result-2 c = search needs
+
+add-result : tie.Need-add-result
+add-result c = omega (arith, known (c .before .before .before))
+
+mul-result-3 : tie.Need-mul-result-3
+mul-result-3 c = omega (arith, known (c .before .before .before .before .before))
+
+sub-result-3 : tie.Need-sub-result-3
+sub-result-3 c =
+    let s = c .before .before .before .before .before in
+    omega (arith, known s, s .pre .0 .order)
+
+returns : tie.Need-returns
+returns c =
+    let s = c .before .before .before .before .before in
+    risen-is _ _ _ (s .pre .0) (s .pre .1 .0) (s .pre .1 .1)
+
+pub risen-spec : {M : Type 1} → statement M
+risen-spec =
+    tie.close
+    (tie.spec
+    mul-result
+    sub-result
+    sub-result-2
+    mul-result-2
+    add-result
+    mul-result-3
+    sub-result-3
+    returns)

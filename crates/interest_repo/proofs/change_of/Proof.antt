@@ -1,0 +1,26 @@
+-- `change_of` meets its contract: the greater of the two distances. Assumes nothing.
+use borrow.Author.Needs.{needs}
+use Rattle.paper.specs.Interest.{changeOf}
+use Rattle.interest_repo.proofs.Bits.{rate-bits}
+use Rattle.interest_repo.proofs.change_of.Statement.{statement}
+use Rattle.interest_repo.proofs.change_of.Tie as tie
+
+apart-requires : tie.Need-apart-requires
+apart-requires c κs = search needs
+
+apart-requires-2 : tie.Need-apart-requires-2
+apart-requires-2 c κs = search needs
+
+greater-requires : tie.Need-greater-requires
+greater-requires c κs = search needs
+
+returns : tie.Need-returns
+unfolding changeOf
+returns c =
+    let start = c .before .before .before .before .before .before .before in
+    let k = start .args .k in
+    rw (c .greater .ensures, c .before .apart2 .ensures, c .before .before .before .before .apart .ensures)
+    (simp (rate-bits (k .r) (start .pre .r), rate-bits (k .r1) (start .pre .r1), rate-bits (k .r2) (start .pre .r2)))
+
+pub change-of-spec : {M : Type 1} → statement M
+change-of-spec = tie.close (tie.spec apart-requires apart-requires-2 greater-requires returns)

@@ -1,0 +1,21 @@
+-- `downward` meets its contract: the estimate with that minimum. Assumes nothing.
+use borrow.Author.Needs.{needs}
+use Rattle.interest_repo.proofs.Bits.{rate-bits}
+use Rattle.interest_repo.proofs.downward.Statement.{statement}
+use Rattle.interest_repo.proofs.downward.Tie as tie
+
+security-minimum-requires : tie.Need-security-minimum-requires
+security-minimum-requires c κs = search needs
+
+estimate-requires : tie.Need-estimate-requires
+estimate-requires c κs = search needs
+
+returns : tie.Need-returns
+returns c =
+    let start = c .before .before .before .before in
+    let k = start .args .k in
+    rw (c .estimate .ensures, c .before .security-minimum .ensures .0)
+    (simp (rate-bits (k .index) (start .pre .1 .0 .index), rate-bits (k .r) (start .pre .1 .0 .r)))
+
+pub downward-spec : {M : Type 1} → statement M
+downward-spec = tie.close (tie.spec security-minimum-requires estimate-requires returns)

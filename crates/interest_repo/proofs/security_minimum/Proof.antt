@@ -1,0 +1,44 @@
+-- `security_minimum` meets its contract: the difference of two rates is that of what they are on the base. Assumes nothing.
+use mathlib.Core.Path.{_≡_}
+use Prim.Native.Nat.{_+_, _-_}
+use native.Mathlib.Omega.{arith}
+use mir.Facts.{toZ-ofZ}
+use borrow.Author.Needs.{needs}
+use Rattle.interest_repo.specs.Lift.{lifted, lifted-range, lifted-part}
+use Rattle.interest_repo.proofs.security_minimum.Statement.{statement}
+use Rattle.interest_repo.proofs.security_minimum.Tie as tie
+
+lifted-requires : tie.Need-lifted-requires
+lifted-requires c κs = search needs
+
+-- what the two calls gave
+index-is : (c : tie.After-lifted) → c .lifted .result ≡ lifted (c .before .args .index)
+index-is c = rw (toZ-ofZ (c .before .fits .index)) at (c .lifted .ensures)
+
+rate-is : (c : tie.After-lifted2) → c .lifted2 .result ≡ lifted (c .before .before .args .rate)
+rate-is c = rw (toZ-ofZ (c .before .before .fits .rate)) at (c .lifted2 .ensures)
+
+add-less : tie.Need-add-less
+add-less c =
+    let start = c .before in
+    omega (arith, index-is c, lifted-range (start .args .index) (start .pre .0) .0, start .pre .2)
+
+lifted-requires-2 : tie.Need-lifted-requires-2
+lifted-requires-2 c κs = search needs
+
+less-requires : tie.Need-less-requires
+less-requires c κs = search needs
+
+returns : tie.Need-returns
+returns c =
+    let start = c .before .before .before in
+    let a = start .args in
+    let is : c .less .result ≡ lifted (a .index) + a .sec - lifted (a .rate) =
+    rw (c .less .ensures, index-is (c .before .before), rate-is (c .before)) in (
+      rw is (lifted-part (a .index) (a .rate) (a .sec) (start .pre .0) (start .pre .1)),
+      omega (arith, is, lifted-range (a .index) (start .pre .0) .0, lifted-range (a .rate) (start .pre .1) .1, start .pre .2),
+    )
+
+pub security-minimum-spec : {M : Type 1} → statement M
+security-minimum-spec =
+    tie.close (tie.spec lifted-requires add-less lifted-requires-2 less-requires returns)

@@ -1,0 +1,195 @@
+-- How a rule judges: the first check that applies refuses, and where none applies the call is accepted. Assumes nothing.
+use mathlib.Core.Path.{_≡_, refl, sym, ap, _∙_}
+use mathlib.Core.Bool.{Bool, true, false, not, _&&_}
+use mathlib.Core.List.{List, [], _∷_, _++_}
+use Prim.Native.Nat.{ℕ, _<_}
+use native.Mathlib.Omega.{arith}
+use lib.Dec.{leb, ltb, eqb}
+use lib.IntN.{ℤ}
+use lib.ListN.{getD}
+use Rattle.paper.specs.declared.Admission.{Admission}
+use Rattle.paper.specs.declared.Day.{Day}
+use Rattle.paper.specs.declared.Quote.{Quote}
+use Rattle.paper.specs.declared.Record.{Record}
+use Rattle.paper.specs.declared.Side.{Side}
+use Rattle.paper.specs.declared.Side.the-variants.{Upper, Lower}
+use Rattle.paper.specs.declared.Verdict.{Verdict}
+use Rattle.paper.specs.declared.Verdict.the-variants.{Done, NoSuchId, AlreadyAdmitted, NoEmptySlot, AdmissionOutOfRange, DayNotAfter, OutOfRange, PriceOutOfRange, MoveTooLarge, BandCrossed, MovesUsedUp, SecondEarlier}
+use Rattle.paper.specs.Lists.{pick, every, allThree}
+use Rattle.paper.specs.Numbers.{movesMost}
+use Rattle.paper.specs.Ranges.{gridOf, validSlots, validAdmission, validDay, validQuote, validSide, sideOf, isLive, lastDay, sound, noLimits}
+use Rattle.paper.specs.Evaluation.{dayRows, evaluationFits}
+use Rattle.paper.specs.Rates.{moveTooLarge}
+use Rattle.paper.specs.Limits.{crossed, countOf}
+use Rattle.paper.specs.Verdicts.{isDone, Check, firstOf, NoneApplies, none, also}
+use Rattle.paper.specs.Desk.{saying, showing, admitted, moveOn, evaluated, quoted, alertsOn, moved, evaluateChecks, quoteChecks, moveChecks}
+use Rattle.paper.proofs.Logic.{clash, and-right, not-true, not-false, pick-false}
+use Rattle.paper.proofs.Refusals.{refusals, done-none}
+use Rattle.record_soundness.proofs.Facts.{sound-facts}
+use Rattle.record_calls.specs.declared.Slot.{Slot}
+use Rattle.record_calls.specs.declared.Outcome.{Outcome}
+use Rattle.record_calls.specs.Outcomes.{holds, isKnown, refusedOutcome, judgedOutcome, admitChecksOf, admitOutcome, evaluateOutcome, quoteOutcome, moveOutcome}
+use Rattle.record_calls.specs.Openings.{openingChecks}
+use Rattle.record_calls.specs.Prices.{Priced}
+
+-- ---- what a test of the code says of its definition
+
+pub passed : {test : Bool} (is : Bool) → test ≡ is → not test ≡ false → is ≡ true
+passed is e h = sym e ∙ not-false _ h
+
+pub failed : {test : Bool} (is : Bool) → test ≡ is → not test ≡ true → is ≡ false
+failed is e h = sym e ∙ not-true _ h
+
+pub known-sound : (s : Slot) → isKnown s ≡ true → sound (s .rec) ≡ true
+unfolding isKnown
+known-sound s e = and-right (validSlots (s .count) && holds s) (sound (s .rec)) e
+
+-- ---- admit 4, 2, 3
+
+module _ (s e : Slot) (a : Admission) where
+  pub admission-out : (validSlots (s .count) && validAdmission a) ≡ false → refusedOutcome (s .count) AdmissionOutOfRange ≡ admitOutcome s e a
+  unfolding admitOutcome admitChecksOf judgedOutcome firstOf isDone
+  admission-out t = rw t
+
+  -- an admission that is not valid is refused, whatever the number of slots
+  pub admission-invalid : (validAdmission a ≡ true → ⊥) → refusedOutcome (s .count) AdmissionOutOfRange ≡ admitOutcome s e a
+  admission-invalid n = admission-out (go (validSlots (s .count)) (validAdmission a) n)
+    where
+      go : (slots valid : Bool) → (valid ≡ true → ⊥) → (slots && valid) ≡ false
+      go slots true k = absurd (k refl)
+      go true false k = refl
+      go false false k = refl
+
+  module _ (valid : (validSlots (s .count) && validAdmission a) ≡ true) where
+    pub admission-again : holds s ≡ true → refusedOutcome (s .count) AlreadyAdmitted ≡ admitOutcome s e a
+    unfolding admitOutcome admitChecksOf judgedOutcome firstOf isDone
+    admission-again t = rw (valid, t)
+
+    pub admission-full : holds s ≡ false → holds e ≡ false → refusedOutcome (s .count) NoEmptySlot ≡ admitOutcome s e a
+    unfolding admitOutcome admitChecksOf judgedOutcome firstOf isDone
+    admission-full new t = rw (valid, new, t)
+
+    pub admission-accepted : holds s ≡ false → holds e ≡ true → record { at = e .at; rec = admitted a; answer = saying Done } ≡ admitOutcome s e a
+    unfolding admitOutcome admitChecksOf judgedOutcome firstOf isDone
+    admission-accepted new t = rw (valid, new, t)
+
+-- ---- evaluate 1, 6, 5, 7, 8, 9
+
+module _ (s : Slot) (d : Day) (rows : List ℤ) where
+  pub day-unknown : isKnown s ≡ false → refusedOutcome (s .count) NoSuchId ≡ evaluateOutcome s d rows
+  unfolding evaluateOutcome evaluateChecks judgedOutcome firstOf isDone
+  day-unknown t = rw t
+
+  pub day-out : isKnown s ≡ true → validDay d rows ≡ false → refusedOutcome (s .count) OutOfRange ≡ evaluateOutcome s d rows
+  unfolding evaluateOutcome evaluateChecks judgedOutcome firstOf isDone
+  day-out known t = rw (known, t)
+
+  pub day-not-after : isKnown s ≡ true → validDay d rows ≡ true → leb (d .day) (lastDay (s .rec .standing)) ≡ true
+      → refusedOutcome (s .count) DayNotAfter ≡ evaluateOutcome s d rows
+  unfolding evaluateOutcome evaluateChecks judgedOutcome firstOf isDone
+  day-not-after known valid t = rw (known, valid, t)
+
+  pub day-beyond : isKnown s ≡ true → validDay d rows ≡ true → leb (d .day) (lastDay (s .rec .standing)) ≡ false
+      → evaluationFits (gridOf (s .rec .statics .lot)) (s .rec .p1 .units) (dayRows rows) ≡ false
+      → refusedOutcome (s .count) PriceOutOfRange ≡ evaluateOutcome s d rows
+  unfolding evaluateOutcome evaluateChecks judgedOutcome firstOf isDone
+  day-beyond known valid after t = rw (known, valid, after, t)
+
+  module _ (p : Priced s d rows) where
+    pub day-moved-far : moveTooLarge (s .rec .statics) (moveOn (s .rec) rows) ≡ true → refusedOutcome (s .count) MoveTooLarge ≡ evaluateOutcome s d rows
+    unfolding evaluateOutcome evaluateChecks judgedOutcome firstOf isDone
+    day-moved-far t = rw (p .known, p .valid, p .later, p .fits, t)
+
+    module _ {new : Record} {ordered : Bool}
+        (near : moveTooLarge (s .rec .statics) (moveOn (s .rec) rows) ≡ false)
+        (is : new ≡ evaluated (s .rec) d rows)
+        (tested : ordered ≡ allThree (λ k. not (crossed (getD (new .bands) k noLimits)))) where
+      bands : ordered ≡ allThree (λ k. not (crossed (getD (evaluated (s .rec) d rows .bands) k noLimits)))
+      bands = rw is at tested
+
+      pub day-crossed : not ordered ≡ true → refusedOutcome (s .count) BandCrossed ≡ evaluateOutcome s d rows
+      unfolding evaluateOutcome evaluateChecks judgedOutcome firstOf isDone
+      day-crossed t = rw (p .known, p .valid, p .later, p .fits, near, failed _ bands t)
+
+      pub day-accepted : not ordered ≡ false → record { at = s .at; rec = new; answer = showing new } ≡ evaluateOutcome s d rows
+      unfolding evaluateOutcome evaluateChecks judgedOutcome firstOf isDone
+      day-accepted t = rw (is, p .known, p .valid, p .later, p .fits, near, passed _ bands t)
+
+-- ---- quote 1, 6, 10, 11, 13; move 1, 6, 10, 11, 12
+
+-- a refusal of the first checks is that of all
+first-stays : (cs more : List Check) → isDone (firstOf cs) ≡ false → firstOf (cs ++ more) ≡ firstOf cs
+unfolding firstOf isDone
+first-stays [] more n = absurd (clash true refl n)
+first-stays (c ∷ cs) more n = go (c .applies) n (first-stays cs more)
+  where
+    go : (b : Bool) → isDone (pick b (c .verdict) (firstOf cs)) ≡ false → (isDone (firstOf cs) ≡ false → firstOf (cs ++ more) ≡ firstOf cs)
+        → pick b (c .verdict) (firstOf (cs ++ more)) ≡ pick b (c .verdict) (firstOf cs)
+    go true m rest = refl
+    go false m rest = rest m
+
+turn-stays : (count : ℕ) (cs more : List Check) (accepted : Outcome) → isDone (firstOf cs) ≡ false
+    → refusedOutcome count (firstOf cs) ≡ judgedOutcome count (firstOf (cs ++ more)) accepted
+unfolding judgedOutcome
+turn-stays count cs more accepted n =
+    rw (first-stays cs more n) (sym (pick-false (isDone (firstOf cs)) accepted (refusedOutcome count (firstOf cs)) n))
+
+-- 1, 6, 10 and 11 do not apply
+pub record Opened (there inRange : Bool) (r : Record) : Type 0 where
+  pub known : there ≡ true
+  pub valid : inRange ≡ true
+  pub live : isLive (r .standing) ≡ true
+  pub monitored : r .statics .monitoring ≡ true
+
+pub opened : (there inRange : Bool) (r : Record) → isDone (firstOf (openingChecks there inRange r)) ≡ true → Opened there inRange r
+unfolding openingChecks refusals every isDone
+opened there inRange r e = go (done-none (openingChecks there inRange r) refl e)
+  where
+    go : NoneApplies (openingChecks there inRange r) → Opened there inRange r
+    go (also a (also b (also c (also d none)))) =
+        record { known = not-false _ a; valid = not-false _ b; live = not-false _ c; monitored = not-false _ d }
+
+module _ (s : Slot) (q : Quote) where
+  pub quote-stopped : isDone (firstOf (openingChecks (isKnown s) (validQuote q) (s .rec))) ≡ false
+      → refusedOutcome (s .count) (firstOf (openingChecks (isKnown s) (validQuote q) (s .rec))) ≡ quoteOutcome s q
+  unfolding quoteOutcome quoteChecks openingChecks
+  quote-stopped n =
+      turn-stays (s .count) (openingChecks (isKnown s) (validQuote q) (s .rec))
+      (record { verdict = SecondEarlier; applies = ltb (q .second) (s .rec .second) } ∷ [])
+      (record { at = s .at; rec = quoted (s .rec) q; answer = alertsOn (s .rec) q })
+      n
+
+  module _ (o : Opened (isKnown s) (validQuote q) (s .rec)) where
+    pub quote-earlier : ltb (q .second) (s .rec .second) ≡ true → refusedOutcome (s .count) SecondEarlier ≡ quoteOutcome s q
+    unfolding quoteOutcome quoteChecks judgedOutcome firstOf isDone
+    quote-earlier t = rw (o .known, o .valid, o .live, o .monitored, t)
+
+    pub quote-accepted : ltb (q .second) (s .rec .second) ≡ false
+        → record { at = s .at; rec = quoted (s .rec) q; answer = alertsOn (s .rec) q } ≡ quoteOutcome s q
+    unfolding quoteOutcome quoteChecks judgedOutcome firstOf isDone
+    quote-accepted t = rw (o .known, o .valid, o .live, o .monitored, t)
+
+module _ (s : Slot) (side : ℕ) where
+  pub move-stopped : isDone (firstOf (openingChecks (isKnown s) (validSide side) (s .rec))) ≡ false
+      → refusedOutcome (s .count) (firstOf (openingChecks (isKnown s) (validSide side) (s .rec))) ≡ moveOutcome s side
+  unfolding moveOutcome moveChecks openingChecks
+  move-stopped n =
+      turn-stays (s .count) (openingChecks (isKnown s) (validSide side) (s .rec))
+      (record { verdict = MovesUsedUp; applies = eqb (countOf (sideOf side) (s .rec .moves)) movesMost } ∷ [])
+      (record { at = s .at; rec = moved (s .rec) (sideOf side); answer = showing (moved (s .rec) (sideOf side)) })
+      n
+
+  module _ (o : Opened (isKnown s) (validSide side) (s .rec)) where
+    pub move-used-up : eqb (countOf (sideOf side) (s .rec .moves)) movesMost ≡ true → refusedOutcome (s .count) MovesUsedUp ≡ moveOutcome s side
+    unfolding moveOutcome moveChecks judgedOutcome firstOf isDone
+    move-used-up t = rw (o .known, o .valid, o .live, o .monitored, t)
+
+    pub move-accepted : eqb (countOf (sideOf side) (s .rec .moves)) movesMost ≡ false
+        → record { at = s .at; rec = moved (s .rec) (sideOf side); answer = showing (moved (s .rec) (sideOf side)) } ≡ moveOutcome s side
+    unfolding moveOutcome moveChecks judgedOutcome firstOf isDone
+    move-accepted t = rw (o .known, o .valid, o .live, o .monitored, t)
+
+-- c is not 50, so a move is left
+pub move-left : (r : Record) (side : Side) → sound r ≡ true → (countOf side (r .moves) ≡ movesMost → ⊥) → countOf side (r .moves) < movesMost
+move-left r Upper v n = omega (arith, sound-facts r v .moves-upper)
+move-left r Lower v n = omega (arith, sound-facts r v .moves-lower)

@@ -1,0 +1,15 @@
+-- `record_calls::is_done` meets its contract: 0 is done. Assumes nothing.
+use borrow.Author.Needs.{needs}
+use Rattle.paper.specs.Verdicts.{isDone}
+use Rattle.record_calls.proofs.is_done.Statement.{statement}
+use Rattle.record_calls.proofs.is_done.Tie as tie
+
+number-requires : tie.Need-number-requires
+number-requires c κs = search needs
+
+returns : tie.Need-returns
+unfolding isDone
+returns c = rw (c .number .ensures)
+
+pub is-done-spec : {M : Type 1} → statement M
+is-done-spec = tie.close (tie.spec number-requires returns)

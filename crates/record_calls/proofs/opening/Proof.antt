@@ -1,0 +1,57 @@
+-- `record_calls::opening` meets its contract: each return is the first check that applies, in the order 1, 6, 10, 11, or none. Assumes nothing.
+use mathlib.Core.Path.{_≡_}
+use mathlib.Core.Bool.{true}
+use Rattle.paper.specs.Ranges.{isLive}
+use Rattle.paper.specs.Verdicts.{firstOf}
+use Rattle.paper.proofs.Logic.{not-true, not-false}
+use Rattle.record_calls.specs.Outcomes.{isKnown}
+use Rattle.record_calls.specs.Openings.{openingChecks}
+use Rattle.record_calls.proofs.Judging.{passed, failed}
+use borrow.Author.Needs.{needs}
+use Rattle.record_calls.proofs.opening.Statement.{statement}
+use Rattle.record_calls.proofs.opening.Tie as tie
+
+known : (c : tie.Else1) → isKnown (c .before .before .before .args .s) ≡ true
+known c = passed _ (c .before .is-known .ensures) (c .if1 .left)
+
+live : (c : tie.Else3) → isLive (c .before .before .before .before .before .before .args .s .rec .standing) ≡ true
+live c = passed _ (c .before .is-live .ensures) (c .if3 .left)
+
+is-known-requires : tie.Need-is-known-requires
+is-known-requires c κs = search needs
+
+returns : tie.Need-returns
+unfolding openingChecks firstOf
+returns c = rw (failed _ (c .before .is-known .ensures) (c .if1 .taken))
+
+returns-2 : tie.Need-returns-2
+unfolding openingChecks firstOf
+returns-2 c = rw (known (c .before), not-true (c .before .before .before .before .args .in-range) (c .if2 .taken))
+
+is-live-requires : tie.Need-is-live-requires
+is-live-requires c κs = search needs
+
+returns-3 : tie.Need-returns-3
+unfolding openingChecks firstOf
+returns-3 c =
+    let e = c .before .before in
+    rw (known (e .before), not-false (e .before .before .before .before .args .in-range) (e .if2 .left), failed _ (c .before .is-live .ensures) (c .if3 .taken))
+
+returns-4 : tie.Need-returns-4
+unfolding openingChecks firstOf
+returns-4 c =
+    let l = c .before .before in
+    let e = l .before .before in
+    rw (known (e .before), not-false (e .before .before .before .before .args .in-range) (e .if2 .left), live l, not-true (c .before .before .before .before .before .before .before .before .args .s .rec .statics .monitoring) (c .if4 .taken))
+
+returns-5 : tie.Need-returns-5
+unfolding openingChecks firstOf
+returns-5 c =
+    let l = c .before .before in
+    let e = l .before .before in
+    rw (known (e .before), not-false (e .before .before .before .before .args .in-range) (e .if2 .left), live l, not-false (c .before .before .before .before .before .before .before .before .args .s .rec .statics .monitoring) (c .if4 .left))
+
+pub opening-spec : {M : Type 1} → statement M
+opening-spec =
+    tie.close
+    (tie.spec is-known-requires returns returns-2 is-live-requires returns-3 returns-4 returns-5)

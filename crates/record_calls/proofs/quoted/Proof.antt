@@ -1,0 +1,74 @@
+-- `record_calls::quoted` meets its contract: the opening refuses, or 13 does, or the quote is written and its alerts answered. Assumes nothing.
+use mathlib.Core.Path.{_≡_, ap, _∙_}
+use borrow.Author.Tests.{lt-ltb, le-ltb}
+use Rattle.paper.specs.Ranges.{validQuote}
+use Rattle.paper.specs.Verdicts.{isDone, firstOf}
+use Rattle.record_calls.specs.Outcomes.{isKnown, refusedOutcome}
+use Rattle.record_calls.specs.Openings.{openingChecks}
+use Rattle.record_calls.proofs.Judging.{passed, failed, known-sound, Opened, opened, quote-stopped, quote-earlier, quote-accepted}
+use borrow.Author.Needs.{needs}
+use Rattle.record_calls.proofs.quoted.Statement.{statement}
+use Rattle.record_calls.proofs.quoted.Tie as tie
+
+-- the opening, of the definition's tests
+verdict : (c : tie.After-opening) → c .opening .result ≡ firstOf (openingChecks (isKnown (c .before .before .before .args .s)) (validQuote (c .before .before .before .args .q)) (c .before .before .before .args .s .rec))
+verdict c = rw (c .before .valid-quote .ensures) at (c .opening .ensures)
+
+past : (c : tie.Else1) → Opened (isKnown (c .before .before .before .before .before .args .s)) (validQuote (c .before .before .before .before .before .args .q)) (c .before .before .before .before .before .args .s .rec)
+past c = opened _ _ _ (passed _ (c .before .is-done .ensures ∙ ap isDone (verdict (c .before .before))) (c .if1 .left))
+
+valid-quote-requires : tie.Need-valid-quote-requires
+valid-quote-requires c κs = search needs
+
+opening-requires : tie.Need-opening-requires
+opening-requires c κs = search needs
+
+is-done-requires : tie.Need-is-done-requires
+is-done-requires c κs = search needs
+
+refused-requires : tie.Need-refused-requires
+refused-requires c κs = search needs
+
+returns : tie.Need-returns
+returns c =
+    let v = verdict (c .before .before .before) in
+    let test = failed _ (c .before .before .is-done .ensures ∙ ap isDone v) (c .before .if1 .taken) in
+    c .refused .ensures ∙ ap (refusedOutcome _) v ∙ quote-stopped _ _ test
+
+refused-requires-2 : tie.Need-refused-requires-2
+refused-requires-2 c κs = search needs
+
+returns-2 : tie.Need-returns-2
+returns-2 c = c .refused2 .ensures ∙ quote-earlier _ _ (past (c .before .before .before .before)) (lt-ltb _ _ (c .before .if2 .taken))
+
+near-on-requires : tie.Need-near-on-requires
+near-on-requires c κs =
+    let o = past (c .before .before .before) in
+    (known-sound _ (o .known), o .valid)
+
+quoted-requires : tie.Need-quoted-requires
+quoted-requires c κs = (past (c .before .before .before .before) .valid, c .near-on .ensures)
+
+alerts-on-requires : tie.Need-alerts-on-requires
+alerts-on-requires c κs = search needs
+
+returns-3 : tie.Need-returns-3
+returns-3 c =
+    let e = c .before .before .before in
+    rw (c .alerts-on .ensures, c .before .quoted .ensures) (quote-accepted _ _ (past (e .before .before .before)) (le-ltb _ _ (e .if2 .left)))
+
+pub quoted-spec : {M : Type 1} → statement M
+quoted-spec =
+    tie.close
+    (tie.spec
+    valid-quote-requires
+    opening-requires
+    is-done-requires
+    refused-requires
+    returns
+    refused-requires-2
+    returns-2
+    near-on-requires
+    quoted-requires
+    alerts-on-requires
+    returns-3)

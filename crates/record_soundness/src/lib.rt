@@ -1,0 +1,142 @@
+// Document 01, "What the desk covers": a record with a field outside its range, order, multiple of h or grid "counts as no such id". `sound` is
+// judged whatever a lent table holds.
+ghost use mathlib.Core.Path.{_≡_};
+ghost use Prim.Native.Nat.{_<_};
+ghost use lib.ListN.{getD};
+ghost use Rattle.paper.specs.Lists.{allThree};
+ghost use Rattle.paper.specs.Ranges.{isLive, lastDay, isRate, noRate, isLimit, validLimits, noLimits, validNear, validNearSeconds, notNear, sound, validSlots};
+ghost use Rattle.record_soundness.specs.Parts.{soundFigures};
+use inputs::grid_of;
+use inputs::is_rate;
+use inputs::valid_figures;
+use inputs::valid_id;
+use inputs::valid_statics;
+use inputs::valid_terms;
+use paper::Limit;
+use paper::Limits;
+use paper::MadeLimit;
+use paper::Near;
+use paper::NearSeconds;
+use paper::Rate;
+use paper::Record;
+use paper::Standing;
+
+pub fn is_live(standing: Standing) -> bool
+    ensures { λ r. ⌜ r ≡ isLive standing ⌝ }
+{
+    match standing {
+        Standing::Admitted(_) => false,
+        Standing::Live(_) => true,
+    }
+}
+
+// Of an admitted-only record the last day is the one given at admission.
+pub fn last_day(standing: Standing) -> u64
+    ensures { λ r. ⌜ r ≡ lastDay standing ⌝ }
+{
+    match standing {
+        Standing::Admitted(day) => day,
+        Standing::Live(day) => day,
+    }
+}
+
+fn valid_rates(rates: [Rate; 3]) -> bool
+    ensures { λ r. ⌜ r ≡ allThree (λ i. isRate (getD rates i noRate .bp)) ⌝ }
+{
+    is_rate(rates[0].bp) & is_rate(rates[1].bp) & is_rate(rates[2].bp)
+}
+
+// "limits on the grid 0..2·10^12 + 2·10^10"
+fn is_limit(g: u64, x: u64) -> bool
+    requires { ⌜ 0 < g ⌝ }
+    ensures { λ r. ⌜ r ≡ isLimit g x ⌝ }
+{
+    let made = Limit::new(x);
+    match made {
+        MadeLimit::Made(limit) => limit.units % g == 0,
+        MadeLimit::OutOfRange => false,
+    }
+}
+
+pub fn valid_limits(g: u64, x: Limits) -> bool
+    requires { ⌜ 0 < g ⌝ }
+    ensures { λ r. ⌜ r ≡ validLimits g x ⌝ }
+{
+    is_limit(g, x.lower) & is_limit(g, x.upper)
+}
+
+// Three ranges, or three bands.
+fn valid_three_limits(g: u64, limits: [Limits; 3]) -> bool
+    requires { ⌜ 0 < g ⌝ }
+    ensures { λ r. ⌜ r ≡ allThree (λ i. validLimits g (getD limits i noLimits)) ⌝ }
+{
+    valid_limits(g, limits[0]) & valid_limits(g, limits[1]) & valid_limits(g, limits[2])
+}
+
+fn valid_near(near: Near) -> bool
+    ensures { λ r. ⌜ r ≡ validNear near ⌝ }
+{
+    match near {
+        Near::Not => true,
+        Near::Since(second) => second <= Record::SECOND_LAST,
+    }
+}
+
+pub fn valid_near_seconds(n: NearSeconds) -> bool
+    ensures { λ r. ⌜ r ≡ validNearSeconds n ⌝ }
+{
+    let top = n.top;
+    let bottom = n.bottom;
+    valid_near(top) & valid_near(bottom)
+}
+
+fn valid_three_near(near: [NearSeconds; 3]) -> bool
+    ensures { λ r. ⌜ r ≡ allThree (λ k. validNearSeconds (getD near k notNear)) ⌝ }
+{
+    let first = near[0];
+    let second = near[1];
+    let third = near[2];
+    valid_near_seconds(first) & valid_near_seconds(second) & valid_near_seconds(third)
+}
+
+// The id, the statics and the figures that an admission gives too, with the age. Where the statics are damaged nothing is divided by their
+// step.
+fn sound_figures(r: Record) -> bool
+    ensures { λ t. ⌜ t ≡ soundFigures r ⌝ }
+{
+    let st = r.statics;
+    let standing = r.standing;
+    if valid_id(r.id) & valid_statics(st) {
+        let day = last_day(standing);
+        return valid_figures(st, day, r.p1.units, r.p2.units, r.s, r.tentative.bp)
+            & (r.tentative.age <= Record::AGE_MOST);
+    }
+    false
+}
+
+pub fn sound(r: Record) -> bool
+    ensures { λ t. ⌜ t ≡ sound r ⌝ }
+{
+    let g = grid_of(r.statics.lot);
+    let rates = r.rates;
+    let ranges = r.ranges;
+    let terms = r.terms;
+    let bands = r.bands;
+    let near = r.near;
+    sound_figures(r)
+        & valid_rates(rates)
+        & valid_three_limits(g, ranges)
+        & valid_terms(terms)
+        & valid_three_limits(g, bands)
+        & (r.moves.upper <= Record::MOVES_MOST)
+        & (r.moves.lower <= Record::MOVES_MOST)
+        & valid_three_near(near)
+        & (r.second <= Record::SECOND_LAST)
+}
+
+// "1 to 512 slots": a call refuses any other table.
+pub fn valid_slots(count: usize) -> bool
+    ensures { λ r. ⌜ r ≡ validSlots count ⌝ }
+{
+    (1 <= count) & (count <= Record::SLOTS_MOST)
+}

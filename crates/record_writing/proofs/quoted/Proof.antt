@@ -1,0 +1,19 @@
+-- `record_writing::quoted` meets its contract: of the record only the quote's term and the last quote second change. Assumes nothing.
+use native.Mathlib.Omega.{arith}
+use Rattle.paper.specs.Desk.{quoted}
+use Rattle.record_writing.proofs.Facts.{quote-place}
+use Rattle.record_writing.proofs.quoted.Statement.{statement}
+use Rattle.record_writing.proofs.quoted.Tie as tie
+
+mul-near : tie.Need-mul-near
+mul-near c = record { fits = omega (arith, quote-place _ (c .before .pre .0)) }
+
+array-set-from-near : tie.Need-array-set-from-near
+array-set-from-near c = quote-place _ (c .before .pre .0)
+
+returns : tie.Need-returns
+unfolding quoted
+returns c = rw (c .before .pre .1)
+
+pub quoted-spec : {M : Type 1} → statement M
+quoted-spec = tie.close (tie.spec mul-near array-set-from-near returns)

@@ -1,0 +1,231 @@
+// What each call writes: the record after an admission, an evaluation, a quote or a move, made anew in one function for each.
+ghost use mathlib.Core.Path.{_≡_};
+ghost use mathlib.Core.Bool.{true};
+ghost use Prim.Native.Nat.{_<_};
+ghost use lib.ListN.{getD};
+ghost use Rattle.paper.specs.Lists.{three};
+ghost use Rattle.paper.specs.Numbers.{movesMost};
+ghost use Rattle.paper.specs.Ranges.{validStatics, validQuote, sound, noRate, noLimits, notNear, termAt};
+ghost use Rattle.paper.specs.Limits.{rangeOf, bandOf, countOf, rangeMoved, bandMoved};
+ghost use Rattle.paper.specs.Alerts.{nearCleared};
+ghost use Rattle.paper.specs.Desk.{admitted, nearOn, quoted, moved};
+ghost use Rattle.record_writing.specs.Asked.{Admitting, RangesAsked, BandsAsked, ShiftsAsked};
+ghost use Rattle.record_writing.specs.Evaluates.{Evaluating, Evaluates};
+use paper::Admission;
+use paper::Day;
+use paper::Limits;
+use paper::Moves;
+use paper::Near;
+use paper::NearSeconds;
+use paper::Price;
+use paper::Quote;
+use paper::Rate;
+use paper::Record;
+use paper::Side;
+use paper::Standing;
+use paper::Statics;
+use paper::Tentative;
+use paper::Term;
+use rates::Figures;
+
+// ---- an admission
+
+// "The three rates start at their minima; age, limits, counts, terms and the last quote second at 0, with no near seconds."
+pub fn admitted(a: Admission, p1: Price, p2: Price) -> Record
+    requires { ⌜ Admitting a p1 p2 ⌝ }
+    ensures { λ r. ⌜ r ≡ admitted a ⌝ }
+{
+    let given = a.given;
+    let statics = inputs::statics_of(given);
+    let rates = rates::level::minima(statics);
+    Record {
+        id: a.id,
+        statics,
+        standing: Standing::Admitted(a.day),
+        p1,
+        p2,
+        s: a.s,
+        tentative: Tentative {
+            bp: a.tentative,
+            age: 0,
+        },
+        rates,
+        ranges: [Limits { lower: 0, upper: 0 }; 3],
+        terms: [Term {
+            k: 0,
+            low: 0,
+            high: 0,
+        }; 3],
+        bands: [Limits { lower: 0, upper: 0 }; 3],
+        moves: Moves { upper: 0, lower: 0 },
+        near: [NearSeconds {
+            top: Near::Not,
+            bottom: Near::Not,
+        }; 3],
+        second: 0,
+    }
+}
+
+// ---- a quote
+
+// The near seconds of the quote's term after it.
+pub fn near_on(r: Record, q: Quote) -> NearSeconds
+    requires { ⌜ sound r ≡ true ⌝ }
+    requires { ⌜ validQuote q ≡ true ⌝ }
+    ensures { λ n. ⌜ n ≡ nearOn r q ⌝ }
+{
+    let term = q.term as usize;
+    let bands = r.bands;
+    let near = r.near;
+    let x = bands[term];
+    let n = near[term];
+    let top = n.top;
+    let bottom = n.bottom;
+    let above = alerts::is_near(Side::Upper, r.statics.w, x, q.bid);
+    let below = alerts::is_near(Side::Lower, r.statics.w, x, q.ask);
+    NearSeconds {
+        top: alerts::near_after(above, top, q.second),
+        bottom: alerts::near_after(below, bottom, q.second),
+    }
+}
+
+// "One quote touches one term only."
+pub fn quoted(r: Record, q: Quote, n: NearSeconds) -> Record
+    requires { ⌜ validQuote q ≡ true ⌝ }
+    requires { ⌜ n ≡ nearOn r q ⌝ }
+    ensures { λ o. ⌜ o ≡ quoted r q ⌝ }
+{
+    let term = q.term as usize;
+    let mut near = r.near;
+    near[term] = n;
+    let mut o = r;
+    o.near = near;
+    o.second = q.second;
+    o
+}
+
+// ---- three limits
+
+fn ranges_of(st: Statics, p: Price, rates: [Rate; 3]) -> [Limits; 3]
+    requires { ⌜ RangesAsked p rates ⌝ }
+    ensures { λ r. ⌜ r ≡ three (λ i. rangeOf st (p .units) (getD rates i noRate .bp)) ⌝ }
+{
+    [
+        limits::range_of(st, p, rates[0]),
+        limits::range_of(st, p, rates[1]),
+        limits::range_of(st, p, rates[2]),
+    ]
+}
+
+fn bands_of(st: Statics, p: Price, s1: Rate, c: Moves, terms: [Term; 3]) -> [Limits; 3]
+    requires { ⌜ validStatics st ≡ true ⌝ }
+    requires { ⌜ BandsAsked p s1 c terms ⌝ }
+    ensures { λ r. ⌜ r ≡ three (λ k. bandOf st (p .units) (s1 .bp) c (termAt terms k)) ⌝ }
+{
+    [
+        limits::band_of(st, p, s1, c, terms[0]),
+        limits::band_of(st, p, s1, c, terms[1]),
+        limits::band_of(st, p, s1, c, terms[2]),
+    ]
+}
+
+// ---- an evaluation
+
+// "An evaluation clears both counts, all near seconds and the last quote second (to 0)." The security is then live.
+pub fn evaluated(r: Record, d: Day, p: Price, f: Figures) -> Record
+    requires { ⌜ Evaluating r d p f ⌝ }
+    ensures { λ o. ⌜ Evaluates r d (p .units) o ⌝ }
+{
+    let statics = r.statics;
+    let earlier = r.p1;
+    let tentative = f.tentative;
+    let rates = f.rates;
+    let terms = d.terms;
+    let moves = Moves { upper: 0, lower: 0 };
+    let ranges = ranges_of(statics, p, rates);
+    let bands = bands_of(statics, p, rates[0], moves, terms);
+    Record {
+        id: r.id,
+        statics,
+        standing: Standing::Live(d.day),
+        p1: p,
+        p2: earlier,
+        s: f.s,
+        tentative,
+        rates,
+        ranges,
+        terms,
+        bands,
+        moves,
+        near: [NearSeconds {
+            top: Near::Not,
+            bottom: Near::Not,
+        }; 3],
+        second: 0,
+    }
+}
+
+// ---- a move
+
+fn ranges_moved(side: Side, delta: u64, ranges: [Limits; 3]) -> [Limits; 3]
+    requires { ⌜ ShiftsAsked delta ranges ⌝ }
+    ensures { λ r. ⌜ r ≡ three (λ i. rangeMoved side delta (getD ranges i noLimits)) ⌝ }
+{
+    [
+        limits::range_moved(side, delta, ranges[0]),
+        limits::range_moved(side, delta, ranges[1]),
+        limits::range_moved(side, delta, ranges[2]),
+    ]
+}
+
+fn bands_moved(side: Side, fresh: [Limits; 3], bands: [Limits; 3]) -> [Limits; 3]
+    ensures { λ r. ⌜ r ≡ three (λ k. bandMoved side (getD fresh k noLimits) (getD bands k noLimits)) ⌝ }
+{
+    [
+        limits::band_moved(side, fresh[0], bands[0]),
+        limits::band_moved(side, fresh[1], bands[1]),
+        limits::band_moved(side, fresh[2], bands[2]),
+    ]
+}
+
+fn near_cleared(side: Side, near: [NearSeconds; 3]) -> [NearSeconds; 3]
+    ensures { λ r. ⌜ r ≡ three (λ k. nearCleared side (getD near k notNear)) ⌝ }
+{
+    let first = near[0];
+    let second = near[1];
+    let third = near[2];
+    [
+        alerts::near_cleared(side, first),
+        alerts::near_cleared(side, second),
+        alerts::near_cleared(side, third),
+    ]
+}
+
+// "It adds one to c, remakes that side's three band limits, and shifts its three range limits by delta. It clears that side's near seconds in
+// all terms."
+pub fn moved(r: Record, side: Side) -> Record
+    requires { ⌜ sound r ≡ true ⌝ }
+    requires { ⌜ countOf side (r .moves) < movesMost ⌝ }
+    ensures { λ o. ⌜ o ≡ moved r side ⌝ }
+{
+    let st = r.statics;
+    let rates = r.rates;
+    let terms = r.terms;
+    let ranges = r.ranges;
+    let bands = r.bands;
+    let near = r.near;
+    let moves = r.moves;
+    let p = r.p1;
+    let s1 = rates[0];
+    let c = limits::one_more(side, moves);
+    let fresh = bands_of(st, p, s1, c, terms);
+    let shifted = ranges_moved(side, limits::delta(st, p, s1), ranges);
+    let remade = bands_moved(side, fresh, bands);
+    let cleared = near_cleared(side, near);
+    let mut o = r;
+    o.ranges = shifted;
+    o.bands = remade;
+    o.moves = c;
+    o.near = cleared;
+    o
+}
