@@ -20,7 +20,8 @@ pub record NearRange (w : ℕ) (x : Limits) (price : ℕ) : Type 0 where
   pub within : price ≤ limitMost
 
 -- so it is of valid statics, a sound record's limits and a valid quote's price
-pub near-range : (st : Statics) (g : ℕ) (x : Limits) (price : ℕ) → validStatics st ≡ true → validLimits g x ≡ true → price ≤ quoteMost
+pub near-range : (st : Statics) (g : ℕ) (x : Limits) (price : ℕ) → validStatics st ≡ true → validLimits g x ≡ true
+    → price ≤ quoteMost
     → NearRange (st .w) x price
 unfolding validStatics validLimits isLimit
 near-range st g x price v l p =

@@ -10,8 +10,8 @@ ghost use mathlib.Core.Path.{_≡_};
 ghost use Rattle.paper.specs.Alerts.{isNear, nearAfter, alert, nearCleared};
 ghost use Rattle.alerts.specs.Nearness.{NearRange, closer};
 
-// Whether to - from is strictly less than w·(PcH - PcL). A lent band may stand crossed, so that either difference may be negative: what is taken
-// away is added on the other side.
+// Whether to - from is strictly less than w·(PcH - PcL). A lent band may stand crossed, so that either difference may
+// be negative: what is taken away is added on the other side.
 fn is_closer(w: u64, x: Limits, from: u64, to: u64) -> bool
     requires { ⌜ NearRange w x from ⌝ }
     requires { ⌜ NearRange w x to ⌝ }

@@ -1,4 +1,5 @@
-// Damaged and duplicate records, which no line of text can make: a table that is lent as it stands, with one damage to a slot, and then the calls on it.
+// Damaged and duplicate records, which no line of text can make: a table that is lent as it stands, with one damage to
+// a slot, and then the calls on it.
 use paper::Limit;
 use paper::Limits;
 use paper::Moves;
@@ -189,7 +190,8 @@ fn with_three(slot: usize, r: Record) -> Record {
     }
 }
 
-// A sound record at the ends of its ranges, its bands crossed: what lies one past each of them stands in the slots before.
+// A sound record at the ends of its ranges, its bands crossed: what lies one past each of them stands in the slots
+// before.
 fn at_the_ends(id: u64) -> Record {
     let r = with_tentative(sound(id), 4_000, Record::AGE_MOST);
     let r = with_moves(r, Record::MOVES_MOST, Record::MOVES_MOST);
@@ -197,7 +199,8 @@ fn at_the_ends(id: u64) -> Record {
     with_second(r, Record::SECOND_LAST)
 }
 
-// Slots 0 to 21 hold one damage each, under the ids 100 to 121; then duplicates of 700 and 701, an id past its range, and the ends.
+// Slots 0 to 21 hold one damage each, under the ids 100 to 121; then duplicates of 700 and 701, an id past its range,
+// and the ends.
 fn record_of(slot: usize) -> Record {
     match slot {
         0..=5 => with_statics(slot, sound(100 + slot as u64)),

@@ -1,5 +1,5 @@
--- Laws of the first slot with an id. `Passed t id i`: the slots before i have another id, so that the search may go on at i.
--- Assumes nothing.
+-- Laws of the first slot with an id. `Passed t id i`: the slots before i have another id, so that the search may go on
+-- at i. Assumes nothing.
 use mathlib.Core.Path.{_≡_, refl, sym, _∙_, ap}
 use mathlib.Core.Bool.{Bool, true, false, not}
 use mathlib.Core.List.{List, _∷_}
@@ -49,7 +49,8 @@ module _ (t : List Record) (id i : ℕ) (p : Passed t id i) (l : i < length t) w
   passed-more h = rw add-one (omega (arith, from-here, place-later (getD t i blank) (drop (suc i) t) id h))
 
   -- the slot that is handed out where the id is found
-  pub slot-here : T (eqb (getD t i blank .id) id) → record { count = length t; at = i; rec = getD t i blank } ≡ slotOf t id
+  pub slot-here : T (eqb (getD t i blank .id) id) → record { count = length t; at = i; rec = getD t i blank }
+      ≡ slotOf t id
   unfolding slotOf found
   slot-here h = ap (λ (k : ℕ). record { count = length t; at = k; rec = getD t k blank }) (found-here h)
 
@@ -60,6 +61,8 @@ absentOf n = record { count = n; at = n; rec = blank }
 pub slot-absent : (t : List Record) (id : ℕ) → Passed t id (length t) → absentOf (length t) ≡ slotOf t id
 unfolding place slotOf found
 slot-absent t id p =
-    ap (λ (r : Record). record { count = length t; at = length t; rec = r }) (sym (List·getD-eq-default t blank (le-refl (length t))))
-    ∙ ap (λ (k : ℕ). record { count = length t; at = k; rec = getD t k blank }) (sym (p ∙ ap (λ (u : List Record). length t + place u id)
+    ap (λ (r : Record). record { count = length t; at = length t; rec = r })
+    (sym (List·getD-eq-default t blank (le-refl (length t))))
+    ∙ ap (λ (k : ℕ). record { count = length t; at = k; rec = getD t k blank })
+    (sym (p ∙ ap (λ (u : List Record). length t + place u id)
     (drop-length t) ∙ add-zero (length t)))

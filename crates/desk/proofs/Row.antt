@@ -104,7 +104,8 @@ abbrev pub slot-val : ℕ → ℕ → Val → Val
 slot-val n i v = vstruct (vcons (vint w64 n) (vcons (vint w64 i) (vcons v vnil)))
 
 pub slot-is :
-    (n i : ℕ) (r : Record) → n < 2 ^ 64 → i < 2 ^ 64 → Is R r (vals r) → Is S (record { count = n; at = i; rec = r }) (slot-val n i (val r) ∷ [])
+    (n i : ℕ) (r : Record) → n < 2 ^ 64 → i < 2 ^ 64 → Is R r (vals r)
+    → Is S (record { count = n; at = i; rec = r }) (slot-val n i (val r) ∷ [])
 slot-is n i r gn gi g =
     LL.owes U.the-type U′.the-laws (record { count = n; at = i; rec = r }) ((refl, gn), ((refl, gi), (g, tt)))
 
@@ -116,7 +117,8 @@ answer-val = LL.val N.the-type N′.the-laws
 abbrev pub turn-val : Outcome → Val
 turn-val = LL.val O.the-type O′.the-laws
 
--- a turn's machine type, with the types of its fields by name: spelled out, as it is in the code, it makes every step of a walk ten times as long
+-- a turn's machine type, with the types of its fields by name: spelled out, as it is in the code, it makes every step
+-- of a walk ten times as long
 abbrev pub turn-ty : Ty
 turn-ty = tyStruct (O.struct .name) (tcons (tyInt w64) (tcons T′.mir (tcons N′.mir tnil)))
 
@@ -125,7 +127,8 @@ pub turn-tells : (o : Outcome) (w : Val) → Is O.the-row o (w ∷ []) → w ≡
 turn-tells o w is = ap only (LL.tells O.the-type O′.the-laws o (w ∷ []) is)
 
 pub turn-is :
-    (o : Outcome) (w : Val) → Is O.the-row o (w ∷ []) → (o .at < 2 ^ 64) × (Is R (o .rec) (vals (o .rec)) × Is N.the-row (o .answer)
+    (o : Outcome) (w : Val) → Is O.the-row o (w ∷ [])
+    → (o .at < 2 ^ 64) × (Is R (o .rec) (vals (o .rec)) × Is N.the-row (o .answer)
     (answer-val (o .answer) ∷ []))
 turn-is o w is = let fs = LL.owed O.the-type O′.the-laws o (w ∷ []) is in (fs .0 .1, (fs .1 .0, fs .1 .1 .0))
 

@@ -1,5 +1,5 @@
--- A turn on one slot is the paper's step on the table: what is stored past the end changes nothing, and that is all that a refusal stores.
--- Assumes nothing.
+-- A turn on one slot is the paper's step on the table: what is stored past the end changes nothing, and that is all
+-- that a refusal stores. Assumes nothing.
 use mathlib.Core.Path.{_≡_, refl, ap}
 use mathlib.Core.Bool.{Bool, true, false}
 use mathlib.Core.List.{List}
@@ -21,19 +21,24 @@ use Rattle.record_calls.specs.declared.Outcome.{Outcome}
 use Rattle.record_calls.specs.Outcomes.{slotOf, holds, isKnown, refusedOutcome, judgedOutcome, admitChecksOf, admitOutcome, evaluateOutcome, quoteOutcome, moveOutcome, readAnswer, doneBy}
 use Rattle.desk.specs.Promises.{Promised}
 
-judged-done : (t : List Record) (v : Verdict) (o : Outcome) → doneBy t (judgedOutcome (length t) v o) ≡ judged v t (doneBy t o)
+judged-done : (t : List Record) (v : Verdict) (o : Outcome) → doneBy t (judgedOutcome (length t) v o)
+    ≡ judged v t (doneBy t o)
 unfolding doneBy judgedOutcome refusedOutcome judged
 judged-done t v o = go (isDone v)
   where
-    go : (b : Bool) → doneBy t (pick b o (refusedOutcome (length t) v)) ≡ pick b (doneBy t o) (record { answer = saying v; table = t })
+    go : (b : Bool) → doneBy t (pick b o (refusedOutcome (length t) v))
+        ≡ pick b (doneBy t o) (record { answer = saying v; table = t })
     go true = refl
-    go false = ap (λ (u : List Record). record { answer = saying v; table = u }) (set-out t (length t) blank (le-refl (length t)))
+    go false = ap (λ (u : List Record). record { answer = saying v; table = u })
+        (set-out t (length t) blank (le-refl (length t)))
 
-pub admit-steps : (t : List Record) (a : Admission) → doneBy t (admitOutcome (slotOf t (a .id)) (slotOf t 0) a) ≡ step (admit a) t
+pub admit-steps : (t : List Record) (a : Admission) → doneBy t (admitOutcome (slotOf t (a .id)) (slotOf t 0) a)
+    ≡ step (admit a) t
 unfolding slotOf holds admitChecksOf admitOutcome doneBy stands admitChecks checksOf acceptedOf step
 admit-steps t a = judged-done t _ _
 
-pub evaluate-steps : (t : List Record) (id : ℕ) (d : Day) (rows : List ℤ) → doneBy t (evaluateOutcome (slotOf t id) d rows) ≡ step (evaluate id d rows) t
+pub evaluate-steps : (t : List Record) (id : ℕ) (d : Day) (rows : List ℤ)
+    → doneBy t (evaluateOutcome (slotOf t id) d rows) ≡ step (evaluate id d rows) t
 unfolding slotOf holds isKnown evaluateOutcome doneBy stands known checksOf acceptedOf step
 evaluate-steps t id d rows = judged-done t _ _
 
@@ -61,11 +66,13 @@ pub read-leaves : (t : List Record) (id : ℕ) → step (read id) t .table ≡ t
 unfolding checksOf acceptedOf judged step
 read-leaves t id = go (isDone (firstOf (readChecks (known t id)))) _ _
   where
-    go : (b : Bool) (a r : Answer) → pick {A = Outcome} b (record { answer = a; table = t }) (record { answer = r; table = t }) .table ≡ t
+    go : (b : Bool) (a r : Answer)
+        → pick {A = Outcome} b (record { answer = a; table = t }) (record { answer = r; table = t }) .table ≡ t
     go true a r = refl
     go false a r = refl
 
 -- what a turn stores and answers is promised, where the turn is the paper's step
-pub promised : (c : Call) (t : List Record) (o : Outcome) → doneBy t o ≡ step c t → Promised c t (o .answer) (set t (o .at) (o .rec))
+pub promised : (c : Call) (t : List Record) (o : Outcome) → doneBy t o ≡ step c t
+    → Promised c t (o .answer) (set t (o .at) (o .rec))
 unfolding doneBy
 promised c t o e = record { answer = ap (λ (x : Outcome). x .answer) e; table = ap (λ (x : Outcome). x .table) e }

@@ -1,5 +1,6 @@
-// The calls over the table, a lent row of records. Only `take` and `put` touch the row. Each call takes the slot, asks its rule by value
-// and stores what the rule says, with no branch of its own: a refusal is stored past the end, where nothing is.
+// The calls over the table, a lent row of records. Only `take` and `put` touch the row. Each call takes the slot, asks
+// its rule by value and stores what the rule says, with no branch of its own: a refusal is stored past the end, where
+// nothing is.
 use paper::Admission;
 use paper::Answer;
 use paper::AskedDay;

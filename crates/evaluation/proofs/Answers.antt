@@ -25,27 +25,35 @@ use Rattle.evaluation.proofs.Books.{close-of-book}
 
 module _ (g previous : ℕ) (rows : List Row) where
   -- the evaluation from the book
-  of-book : (b : Book) → b ≡ bookOf (map roublesOf rows) → toGrid g (between (b .bid) (closeIn previous b) (b .ask)) 1 ≡ evaluationOf g previous rows
+  of-book : (b : Book) → b ≡ bookOf (map roublesOf rows) → toGrid g (between (b .bid) (closeIn previous b) (b .ask)) 1
+      ≡ evaluationOf g previous rows
   unfolding evaluationOf bookOf
   of-book b p =
       let rs : List Roubles = map roublesOf rows in
-      (λ i. toGrid g (between (p i .bid) (closeIn previous (p i)) (p i .ask)) 1) ∙ ap (λ (z : ℕ). toGrid g (between (bestBid rs) z (bestAsk rs)) 1) (close-of-book previous rs)
+      (λ i. toGrid g (between (p i .bid) (closeIn previous (p i)) (p i .ask)) 1)
+      ∙ ap (λ (z : ℕ). toGrid g (between (bestBid rs) z (bestAsk rs)) 1) (close-of-book previous rs)
 
   -- 7 for a row
   pub made-beyond : gathered.Beyond ≡ gatheredOf rows → Beyond ≡ evaluationMade g previous rows
   unfolding evaluationMade evaluationFits gatheredOf
   made-beyond k = step (every rowFits rows) k
     where
-      step : (t : Bool) → gathered.Beyond ≡ pick t (gathered.Whole (bookOf (map roublesOf rows))) gathered.Beyond → Beyond ≡ pick (t && isPrice (evaluationOf g previous rows)) (Evaluated (record { units = evaluationOf g previous rows })) Beyond
+      step : (t : Bool) → gathered.Beyond ≡ pick t (gathered.Whole (bookOf (map roublesOf rows))) gathered.Beyond
+          → Beyond ≡ pick (t && isPrice (evaluationOf g previous rows))
+          (Evaluated (record { units = evaluationOf g previous rows })) Beyond
       step true p = absurd (let z : _≡_ {A = ℕ} 0 1 = cc in omega arith)
       step false p = refl
 
   -- the evaluation, or 7 for it
-  pub made-book : (b : Book) → gathered.Whole b ≡ gatheredOf rows → evaluationFrom (toGrid g (between (b .bid) (closeIn previous b) (b .ask)) 1) ≡ evaluationMade g previous rows
+  pub made-book : (b : Book) → gathered.Whole b ≡ gatheredOf rows
+      → evaluationFrom (toGrid g (between (b .bid) (closeIn previous b) (b .ask)) 1) ≡ evaluationMade g previous rows
   unfolding evaluationMade evaluationFits evaluationFrom gatheredOf
   made-book b k = step (every rowFits rows) k
     where
-      step : (t : Bool) → gathered.Whole b ≡ pick t (gathered.Whole (bookOf (map roublesOf rows))) gathered.Beyond → evaluationFrom (toGrid g (between (b .bid) (closeIn previous b) (b .ask)) 1) ≡ pick (t && isPrice (evaluationOf g previous rows)) (Evaluated (record { units = evaluationOf g previous rows })) Beyond
+      step : (t : Bool) → gathered.Whole b ≡ pick t (gathered.Whole (bookOf (map roublesOf rows))) gathered.Beyond
+          → evaluationFrom (toGrid g (between (b .bid) (closeIn previous b) (b .ask)) 1)
+          ≡ pick (t && isPrice (evaluationOf g previous rows))
+          (Evaluated (record { units = evaluationOf g previous rows })) Beyond
       step true p = ap evaluationFrom (of-book b (cc))
       step false p = absurd (let z : _≡_ {A = ℕ} 0 1 = cc in omega arith)
 
@@ -54,7 +62,8 @@ pub from-made : (units : ℕ) (p : Price) → made.Made p ≡ priceMade units �
 unfolding priceMade evaluationFrom
 from-made units p k = step (isPrice units) k
   where
-    step : (t : Bool) → made.Made p ≡ pick t (made.Made (record { units = units })) made.OutOfRange → Evaluated p ≡ pick t (Evaluated (record { units = units })) Beyond
+    step : (t : Bool) → made.Made p ≡ pick t (made.Made (record { units = units })) made.OutOfRange
+        → Evaluated p ≡ pick t (Evaluated (record { units = units })) Beyond
     step true q = cc
     step false q = absurd (let z : _≡_ {A = ℕ} 0 1 = cc in omega arith)
 
@@ -62,7 +71,8 @@ pub from-out : (units : ℕ) → made.OutOfRange ≡ priceMade units → Beyond 
 unfolding priceMade evaluationFrom
 from-out units k = step (isPrice units) k
   where
-    step : (t : Bool) → made.OutOfRange ≡ pick t (made.Made (record { units = units })) made.OutOfRange → Beyond ≡ pick t (Evaluated (record { units = units })) Beyond
+    step : (t : Bool) → made.OutOfRange ≡ pick t (made.Made (record { units = units })) made.OutOfRange
+        → Beyond ≡ pick t (Evaluated (record { units = units })) Beyond
     step true q = absurd (let z : _≡_ {A = ℕ} 0 1 = cc in omega arith)
     step false q = refl
 

@@ -46,7 +46,8 @@ pub joined-next : (b : Book) (r : Roubles) (rs : List Roubles) → joined b (r �
 unfolding joined added weights worth bestBid bestAsk
 joined-next b r rs =
     let first : b .weight + (r .weight + weights rs) ≡ b .weight + r .weight + weights rs = omega arith in
-    let second : b .worth + (r .weight * r .close + worth rs) ≡ b .worth + r .weight * r .close + worth rs = omega arith in
+    let second : b .worth + (r .weight * r .close + worth rs) ≡ b .worth + r .weight * r .close + worth rs =
+    omega arith in
     λ i. record {
       weight = first i;
       worth = second i;
@@ -59,7 +60,13 @@ unfolding joined weights worth bestBid bestAsk
 joined-none b =
     let first : b .weight + 0 ≡ b .weight = omega arith in
     let second : b .worth + 0 ≡ b .worth = omega arith in
-    λ i. record { weight = first i; worth = second i; bid = max-zero (b .bid) i; ask = sym (second-missing (b .ask) 0 refl) i }
+    λ i. record {
+      weight = first i;
+      worth = second i;
+      bid = max-zero (b .bid) i;
+      ask =
+          sym (second-missing (b .ask) 0 refl) i;
+    }
 
 -- ---- the close: a row of weight 0 adds nothing, so the sums over all rows are those over the rows with weight
 
@@ -69,7 +76,8 @@ unfolding traded those
 heavy [] s ss e = absurd (let z : _≡_ {A = ℕ} 0 1 = cc in omega arith)
 heavy (r ∷ rs) s ss e = step (ltb 0 (r .weight)) refl e (heavy rs s ss)
   where
-    step : (t : Bool) → ltb 0 (r .weight) ≡ t → pick t (r ∷ traded rs) (traded rs) ≡ s ∷ ss → (traded rs ≡ s ∷ ss → 0 < s .weight) → 0 < s .weight
+    step : (t : Bool) → ltb 0 (r .weight) ≡ t → pick t (r ∷ traded rs) (traded rs) ≡ s ∷ ss
+        → (traded rs ≡ s ∷ ss → 0 < s .weight) → 0 < s .weight
     step true q p h = let same : r ≡ s = cc in rw same at (ltb-true 0 (r .weight) q)
     step false q p h = h p
 
@@ -78,7 +86,8 @@ unfolding traded those weights
 traded-weights [] = refl
 traded-weights (r ∷ rs) = step (ltb 0 (r .weight)) refl (traded-weights rs)
   where
-    step : (t : Bool) → ltb 0 (r .weight) ≡ t → weights (traded rs) ≡ weights rs → weights (pick t (r ∷ traded rs) (traded rs)) ≡ r .weight + weights rs
+    step : (t : Bool) → ltb 0 (r .weight) ≡ t → weights (traded rs) ≡ weights rs
+        → weights (pick t (r ∷ traded rs) (traded rs)) ≡ r .weight + weights rs
     step true e h = ap (λ (n : ℕ). r .weight + n) h
     step false e h = omega (arith, ltb-false 0 (r .weight) e)
 
@@ -87,7 +96,8 @@ unfolding traded those worth
 traded-worth [] = refl
 traded-worth (r ∷ rs) = step (ltb 0 (r .weight)) refl (traded-worth rs)
   where
-    step : (t : Bool) → ltb 0 (r .weight) ≡ t → worth (traded rs) ≡ worth rs → worth (pick t (r ∷ traded rs) (traded rs)) ≡ r .weight * r .close + worth rs
+    step : (t : Bool) → ltb 0 (r .weight) ≡ t → worth (traded rs) ≡ worth rs
+        → worth (pick t (r ∷ traded rs) (traded rs)) ≡ r .weight * r .close + worth rs
     step true e h = ap (λ (n : ℕ). r .weight * r .close + n) h
     step false e h =
         let light : r .weight ≤ 0 = ltb-false 0 (r .weight) e in
@@ -98,7 +108,8 @@ pub close-of-book : (previous : ℕ) (rs : List Roubles) → closeIn previous (b
 unfolding closeIn bookOf closeOf mean weights
 close-of-book previous rs = step (traded rs) refl
   where
-    step : (ts : List Roubles) → traded rs ≡ ts → pick (eqb (weights rs) 0) previous (halfUp (worth rs) (weights rs)) ≡ mean previous ts
+    step : (ts : List Roubles) → traded rs ≡ ts → pick (eqb (weights rs) 0) previous (halfUp (worth rs) (weights rs))
+        ≡ mean previous ts
     step [] e =
         let none : weights rs ≡ 0 = sym (traded-weights rs) ∙ ap weights e in
         rw (eq-eqb (weights rs) 0 none)
@@ -116,9 +127,14 @@ pub record Filled (at : ℕ) (b : Book) : Type 0 where
   pub bounded : Bounded b
 
 pub filled-first : Filled 0 empty
-filled-first = record { sum = omega arith; bounded = record { mean = omega arith; bid = omega arith; ask = omega arith } }
+filled-first = record {
+  sum = omega arith;
+  bounded =
+      record { mean = omega arith; bid = omega arith; ask = omega arith };
+}
 
-pub filled-room : (at : ℕ) (b : Book) (r : Roubles) → at + rowNumbers ≤ allNumbersMost → Filled at b → Fitting r → Room b r
+pub filled-room : (at : ℕ) (b : Book) (r : Roubles) → at + rowNumbers ≤ allNumbersMost → Filled at b → Fitting r
+    → Room b r
 filled-room at b r h f t = record { sum = omega arith; mean = f .bounded .mean; weight = t .weight; close = t .close }
 
 pub filled-next : (at : ℕ) (b : Book) (r : Roubles) → Filled at b → Fitting r → Filled (at + rowNumbers) (added b r)

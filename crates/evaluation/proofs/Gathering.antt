@@ -1,4 +1,5 @@
--- What `gather` keeps at each row: the book so far, joined with the rows still to come, is the book of all rows. Assumes nothing.
+-- What `gather` keeps at each row: the book so far, joined with the rows still to come, is the book of all rows.
+-- Assumes nothing.
 use mathlib.Core.Path.{_≡_, sym, ap, _∙_}
 use mathlib.Core.Bool.{Bool, true, false, _&&_}
 use mathlib.Core.List.{List, _∷_, map}
@@ -46,7 +47,8 @@ gathering-first numbers e =
       filled = filled-first;
     }
 
-module _ (numbers : List ℤ) (at : ℕ) (b : Book) (room : at + rowNumbers ≤ length numbers) (g : Gathering numbers at b) where
+module _ (numbers : List ℤ) (at : ℕ) (b : Book) (room : at + rowNumbers ≤ length numbers)
+    (g : Gathering numbers at b) where
   here : restOf numbers at ≡ rowAt numbers at ∷ restOf numbers (at + rowNumbers)
   here = left-here rowAt rowNumbers numbers at (omega arith) room
 
@@ -59,7 +61,8 @@ module _ (numbers : List ℤ) (at : ℕ) (b : Book) (room : at + rowNumbers ≤ 
 
   -- the row at hand is in range
   pub gathering-range : InRange (rowOf (rowAt numbers at))
-  gathering-range = in-range (rowAt numbers at) (and-left (validRow (rowAt numbers at)) (every validRow (restOf numbers (at + rowNumbers))) both)
+  gathering-range = in-range (rowAt numbers at)
+      (and-left (validRow (rowAt numbers at)) (every validRow (restOf numbers (at + rowNumbers))) both)
 
   module _ (row : Row) (is : row ≡ rowOf (rowAt numbers at)) where
     split : every rowFits (rowsLeft numbers at) ≡ (rowFits row && every rowFits (rowsLeft numbers (at + rowNumbers)))
@@ -75,7 +78,8 @@ module _ (numbers : List ℤ) (at : ℕ) (b : Book) (room : at + rowNumbers ≤ 
           range = and-right (validRow (rowAt numbers at)) (every validRow (restOf numbers (at + rowNumbers))) both;
           fit = sym (split ∙ ap (λ (t : Bool). t && every rowFits (rowsLeft numbers (at + rowNumbers))) e) ∙ g .fit;
           book = rw is
-              (sym (joined-next b (roublesOf (rowOf (rowAt numbers at))) (map roublesOf (rowsLeft numbers (at + rowNumbers))))
+              (sym (joined-next b (roublesOf (rowOf (rowAt numbers at)))
+              (map roublesOf (rowsLeft numbers (at + rowNumbers))))
               ∙ sym (ap (λ (ws : List Row). joined b (map roublesOf ws)) left)
               ∙ g .book);
           filled = filled-next at b (roublesOf row) (g .filled) (fitting row (rw is gathering-range) e);
@@ -85,16 +89,20 @@ module _ (numbers : List ℤ) (at : ℕ) (b : Book) (room : at + rowNumbers ≤ 
     pub gathering-beyond : rowFits row ≡ false → Gathers (dayRows numbers) Beyond
     unfolding gatheredOf
     gathering-beyond e =
-        let no : every rowFits (dayRows numbers) ≡ false = sym (g .fit) ∙ split ∙ ap (λ (t : Bool). t && every rowFits (rowsLeft numbers (at + rowNumbers))) e in
+        let no : every rowFits (dayRows numbers) ≡ false = sym (g .fit) ∙ split
+        ∙ ap (λ (t : Bool). t && every rowFits (rowsLeft numbers (at + rowNumbers))) e in
         record { is = rw no; bounded = λ c q. absurd (let z : _≡_ {A = ℕ} 0 1 = cc in omega arith) }
 
 -- at the end the book is that of all rows
-pub gathering-end : (numbers : List ℤ) (at : ℕ) (b : Book) → length numbers ≤ at → Gathering numbers at b → Gathers (dayRows numbers) (Whole b)
+pub gathering-end : (numbers : List ℤ) (at : ℕ) (b : Book) → length numbers ≤ at → Gathering numbers at b
+    → Gathers (dayRows numbers) (Whole b)
 unfolding gatheredOf rowsLeft rowOf roublesOf every rowFits
 gathering-end numbers at b h g =
     let none = left-end rowAt rowNumbers numbers at (omega arith) h in
-    let yes : every rowFits (dayRows numbers) ≡ true = sym (g .fit) ∙ ap (λ (ws : List LentRow). every rowFits (map rowOf ws)) none in
-    let same : b ≡ bookOf (map roublesOf (dayRows numbers)) = sym (joined-none b) ∙ sym (ap (λ (ws : List LentRow). joined b (map roublesOf (map rowOf ws))) none) ∙ g .book in
+    let yes : every rowFits (dayRows numbers) ≡ true = sym (g .fit)
+    ∙ ap (λ (ws : List LentRow). every rowFits (map rowOf ws)) none in
+    let same : b ≡ bookOf (map roublesOf (dayRows numbers)) = sym (joined-none b)
+    ∙ sym (ap (λ (ws : List LentRow). joined b (map roublesOf (map rowOf ws))) none) ∙ g .book in
     record {
       is = rw yes (ap Whole same);
       bounded = λ c q. let e : b ≡ c = cc in rw e at (g .filled .bounded);

@@ -1,4 +1,5 @@
--- Laws of place (a): a price discounted in 64 bits is the paper's, and what a row whose figures fit keeps to. Assumes nothing.
+-- Laws of place (a): a price discounted in 64 bits is the paper's, and what a row whose figures fit keeps to. Assumes
+-- nothing.
 use mathlib.Core.Path.{_≡_, refl, _∙_}
 use mathlib.Core.Bool.{Bool, true, false, _||_}
 use Prim.Native.Nat.{ℕ, _-_, _*_, _≤_, _<_}
@@ -43,7 +44,9 @@ pub none-stays : (row : Row) → InRange row → 0 ≡ rowPrice row 0
 unfolding rowPrice
 none-stays row r =
     let low = grown-range yearInDayBp (row .t) (row .repo) (r .t) (r .repo) .1 in
-    let none : rowPrice row 0 ≤ 0 = half-le (0 * row .central * yearInDayBp) (rouble * grown yearInDayBp (row .t) (row .repo)) 0 (omega arith) (omega arith) in
+    let none : rowPrice row 0 ≤ 0 =
+    half-le (0 * row .central * yearInDayBp) (rouble * grown yearInDayBp (row .t) (row .repo)) 0 (omega arith)
+    (omega arith) in
     omega arith
 
 -- ---- what a row whose figures fit keeps to
@@ -54,13 +57,15 @@ pub record Fitting (r : Roubles) : Type 0 where
   pub bid : r .bid ≤ priceMost
   pub ask : r .ask ≤ priceMost
 
-price-le : (row : Row) → InRange row → (price : ℕ) → priceFits price (rowPrice row price) ≡ true → rowPrice row price ≤ priceMost
+price-le : (row : Row) → InRange row → (price : ℕ) → priceFits price (rowPrice row price) ≡ true
+    → rowPrice row price ≤ priceMost
 unfolding isPrice
 price-le row r price e = step (eqb price 0) refl e
   where
     step : (t : Bool) → eqb price 0 ≡ t → (t || isPrice (rowPrice row price)) ≡ true → rowPrice row price ≤ priceMost
     step true q p = rw (eqb-true price 0 q) (omega (arith, none-stays row r))
-    step false q p = leb-true (rowPrice row price) priceMost (and-right (leb priceLeast (rowPrice row price)) (leb (rowPrice row price) priceMost) p)
+    step false q p = leb-true (rowPrice row price) priceMost
+        (and-right (leb priceLeast (rowPrice row price)) (leb (rowPrice row price) priceMost) p)
 
 pub fitting : (row : Row) → InRange row → rowFits row ≡ true → Fitting (roublesOf row)
 unfolding rowFits roublesOf

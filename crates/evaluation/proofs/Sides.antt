@@ -1,4 +1,5 @@
--- Laws of the two sides: the close between those that are present, what the median is, and the lesser of two asks. Assumes nothing.
+-- Laws of the two sides: the close between those that are present, what the median is, and the lesser of two asks.
+-- Assumes nothing.
 use mathlib.Core.Path.{_≡_, refl, sym, _∙_}
 use Prim.Native.Nat.{ℕ, zero, suc, _≤_, min, max}
 use native.Mathlib.Omega.{arith}
@@ -72,4 +73,5 @@ lesser-assoc (suc a) (suc b) (suc c) =
     let g : min (suc b) (suc c) ≡ 0 → ⊥ = λ e. omega arith in
     let s : suc a ≡ 0 → ⊥ = λ e. omega arith in
     let t : suc c ≡ 0 → ⊥ = λ e. omega arith in
-    sym (none-missing (min (suc a) (suc b)) (suc c) f t) ∙ min-assoc (suc a) (suc b) (suc c) ∙ none-missing (suc a) (min (suc b) (suc c)) s g
+    sym (none-missing (min (suc a) (suc b)) (suc c) f t) ∙ min-assoc (suc a) (suc b) (suc c)
+    ∙ none-missing (suc a) (min (suc b) (suc c)) s g

@@ -10,7 +10,8 @@ use Rattle.exact.specs.SignedLaws.{growthMost}
 use Rattle.evaluation.specs.declared.Evaluation.{Evaluation}
 use Rattle.evaluation.specs.declared.Evaluation.the-variants.{Evaluated, Beyond}
 
--- 7: "a rounded row price, or the evaluation, is 0 or above 10^10; a rounded row volume is above 10^8"; else the evaluation
+-- 7: "a rounded row price, or the evaluation, is 0 or above 10^10; a rounded row volume is above 10^8"; else the
+-- evaluation
 unfoldable pub evaluationMade : ℕ → ℕ → List Row → Evaluation
 evaluationMade g previous rows =
     pick (evaluationFits g previous rows) (Evaluated (record { units = evaluationOf g previous rows })) Beyond

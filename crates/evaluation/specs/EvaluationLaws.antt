@@ -1,5 +1,5 @@
--- What an answer says of the paper's figures, for those who call: the evaluation is the paper's, on the grid and in range, or 7 refuses. Assumes
--- nothing.
+-- What an answer says of the paper's figures, for those who call: the evaluation is the paper's, on the grid and in
+-- range, or 7 refuses. Assumes nothing.
 use mathlib.Core.Path.{_≡_, refl}
 use mathlib.Core.Bool.{Bool, true, false}
 use mathlib.Core.List.{List}
@@ -23,7 +23,8 @@ abbrev pub priceOf : ℕ → ℕ → List Row → Price
 priceOf g previous rows = record { units = evaluationOf g previous rows }
 
 module _ (g previous : ℕ) (rows : List Row) where
-  pub evaluated-fits : (p : Price) → Evaluated p ≡ evaluationMade g previous rows → evaluationFits g previous rows ≡ true
+  pub evaluated-fits : (p : Price) → Evaluated p ≡ evaluationMade g previous rows
+      → evaluationFits g previous rows ≡ true
   unfolding evaluationMade
   evaluated-fits p e = step (evaluationFits g previous rows) e
     where
@@ -35,7 +36,8 @@ module _ (g previous : ℕ) (rows : List Row) where
   unfolding evaluationMade
   evaluated-is p e = step (evaluationFits g previous rows) e
     where
-      step : (t : Bool) → Evaluated p ≡ pick t (Evaluated (priceOf g previous rows)) Beyond → p ≡ priceOf g previous rows
+      step : (t : Bool) → Evaluated p ≡ pick t (Evaluated (priceOf g previous rows)) Beyond
+          → p ≡ priceOf g previous rows
       step true q = cc
       step false q = absurd (let z : _≡_ {A = ℕ} 0 1 = cc in omega arith)
 

@@ -43,7 +43,8 @@ pub enum Evaluation {
     Beyond,
 }
 
-// x·3,650,000/(10^4·days), rounded once: a price times its central rate, discounted. It is x·365/days, and nearly always that fits 64 bits.
+// x·3,650,000/(10^4·days), rounded once: a price times its central rate, discounted. It is x·365/days, and nearly
+// always that fits 64 bits.
 fn discounted(x: u64, days: u64) -> u64
     requires { ⌜ Discounts x days ⌝ }
     ensures { λ r. ⌜ r ≡ halfUp (x * yearInDayBp) (rouble * days) ⌝ }

@@ -1,4 +1,5 @@
--- The long division of `divide_product`, on plain numbers: the quotient and the rest that it makes give the product again. Assumes nothing.
+-- The long division of `divide_product`, on plain numbers: the quotient and the rest that it makes give the product
+-- again. Assumes nothing.
 use mathlib.Core.Path.{_≡_, sym, ap, _∙_}
 use Prim.Native.Nat.{ℕ, _+_, _*_, _/_, _%_, _^_, _≤_, _<_}
 use native.Mathlib.Nat.{mul-le-mul, mod-lt, div-add-mod', lt-of-mul-lt-mul-right}
@@ -37,7 +38,8 @@ long x n e pre =
     let split-n : n ≡ n / digit * digit + n % digit = omega arith in
     let r-n : x % e * n ≡ x % e * (n / digit * digit + n % digit) = ap (λ (z : ℕ). x % e * z) split-n in
     let x-n : (x / e * e + x % e) * n ≡ x * n = ap (λ (z : ℕ). z * n) split-x in
-    let again : quot x n e * e + low x n e % e ≡ x * n = omega (arith, div-add-mod' (high x n e) e, div-add-mod' (low x n e) e) in
+    let again : quot x n e * e + low x n e % e ≡ x * n =
+    omega (arith, div-add-mod' (high x n e) e, div-add-mod' (low x n e) e) in
     let r-le : x % e ≤ 2 ^ 52 = omega arith in
     let hi-le : n / digit ≤ 2047 = omega arith in
     let lo-le : n % digit ≤ 2047 = omega arith in

@@ -1,4 +1,5 @@
--- One turn of `least_root`'s loop, on plain numbers: x is what is found so far, 2 ^ k the bits still to come, and factor_x and sq are factor·x and factor·x². Assumes nothing.
+-- One turn of `least_root`'s loop, on plain numbers: x is what is found so far, 2 ^ k the bits still to come, and
+-- factor_x and sq are factor·x and factor·x². Assumes nothing.
 use mathlib.Core.Path.{_≡_, ap}
 use Prim.Native.Nat.{ℕ, _+_, _-_, _*_, _^_, _≤_, _<_}
 use native.Mathlib.Nat.{mul-le-mul}
@@ -23,7 +24,8 @@ pub record RootTurn (factor x factor-x k : ℕ) : Type 0 where
   pub cap : factor * ((x + 2 ^ (k - 1)) * (x + 2 ^ (k - 1))) ≤ oneInTenThousandths * (2 ^ 20 * 2 ^ 20)
   pub side : factor * (x + 2 ^ (k - 1)) ≤ oneInTenThousandths * 2 ^ 20
 
-pub turn : (factor n x factor-x sq k : ℕ) → 0 < k → factor ≤ oneInTenThousandths → Found factor n x factor-x sq k → RootTurn factor x factor-x k
+pub turn : (factor n x factor-x sq k : ℕ) → 0 < k → factor ≤ oneInTenThousandths → Found factor n x factor-x sq k
+    → RootTurn factor x factor-x k
 turn factor n x factor-x sq k pos hfactor f =
     let one-more : 2 ^ (k - 1 + 1) ≡ 2 ^ (k - 1) * 2 = pow-add 2 (k - 1) 1 in
     let same : k ≡ k - 1 + 1 = omega arith in
@@ -38,7 +40,10 @@ turn factor n x factor-x sq k pos hfactor f =
     }
 
 -- the bit is taken: a, b, d and e are what the four shifts gave
-pub taken : (factor n x factor-x sq k a b d e : ℕ) → 0 < k → factor ≤ oneInTenThousandths → Found factor n x factor-x sq k → a ≡ factor-x * 2 ^ (k - 1 + 1) → b ≡ factor * 2 ^ (k - 1 + (k - 1)) → d ≡ factor * 2 ^ (k - 1) → e ≡ 1 * 2 ^ (k - 1) → sq + a + b < n → Found factor n (x + e) (factor-x + d) (sq + a + b) (k - 1)
+pub taken : (factor n x factor-x sq k a b d e : ℕ) → 0 < k → factor ≤ oneInTenThousandths
+    → Found factor n x factor-x sq k → a ≡ factor-x * 2 ^ (k - 1 + 1) → b ≡ factor * 2 ^ (k - 1 + (k - 1))
+    → d ≡ factor * 2 ^ (k - 1) → e ≡ 1 * 2 ^ (k - 1) → sq + a + b < n
+    → Found factor n (x + e) (factor-x + d) (sq + a + b) (k - 1)
 taken factor n x factor-x sq k a b d e pos hfactor f ea eb ed ee low =
     let t = turn factor n x factor-x sq k pos hfactor f in
     let bit : e ≡ 2 ^ (k - 1) = omega arith in
@@ -48,11 +53,14 @@ taken factor n x factor-x sq k a b d e pos hfactor f ea eb ed ee low =
       times = rw bit (omega (arith, f .times));
       square = rw bit (omega (arith, f .square, t .cross, t .corner));
       below = low;
-      above = rw bit (let above : n ≤ factor * ((x + 2 * 2 ^ (k - 1)) * (x + 2 * 2 ^ (k - 1))) = rw (t .two) at (f .above) in omega arith);
+      above = rw bit (let above : n ≤ factor * ((x + 2 * 2 ^ (k - 1)) * (x + 2 * 2 ^ (k - 1))) =
+          rw (t .two) at (f .above) in omega arith);
     }
 
 -- the bit is left
-pub left : (factor n x factor-x sq k a b : ℕ) → 0 < k → factor ≤ oneInTenThousandths → Found factor n x factor-x sq k → a ≡ factor-x * 2 ^ (k - 1 + 1) → b ≡ factor * 2 ^ (k - 1 + (k - 1)) → n ≤ sq + a + b → Found factor n x factor-x sq (k - 1)
+pub left : (factor n x factor-x sq k a b : ℕ) → 0 < k → factor ≤ oneInTenThousandths → Found factor n x factor-x sq k
+    → a ≡ factor-x * 2 ^ (k - 1 + 1) → b ≡ factor * 2 ^ (k - 1 + (k - 1)) → n ≤ sq + a + b
+    → Found factor n x factor-x sq (k - 1)
 left factor n x factor-x sq k a b pos hfactor f ea eb high =
     let t = turn factor n x factor-x sq k pos hfactor f in
     record {

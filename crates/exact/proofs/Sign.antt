@@ -34,7 +34,8 @@ flipped n = rw (le-ltb (suc n) 1 (omega arith)) (ap pos (omega arith))
 
 pub size-below : (x : ℤ) → SFits w64 x → ltZ x (pos 0) ≡ true → Arm (negsuc 0 -ℤ x) x
 size-below (pos n) f e = absurd (none n e)
-size-below (negsuc n) f e = rw (flipped n) (record { signed = record { sfits = f .sfits }; cast = (tt, omega (arith, f .sfits)); is = refl })
+size-below (negsuc n) f e =
+    rw (flipped n) (record { signed = record { sfits = f .sfits }; cast = (tt, omega (arith, f .sfits)); is = refl })
 
 pub size-above : (x : ℤ) → SFits w64 x → ltZ x (pos 0) ≡ false → Arm x x
 size-above (pos n) f e = record { signed = f; cast = (tt, omega (arith, f .sfits)); is = refl }

@@ -25,7 +25,8 @@ pub place-first : (width : ℕ) (numbers : List ℤ) → Place width numbers 0
 place-first width numbers = record { inside = omega arith; parts = 0; is = omega arith }
 
 -- before the end there is a whole part
-pub place-room : (width : ℕ) (numbers : List ℤ) (at : ℕ) → length numbers % width ≡ 0 → Place width numbers at → at < length numbers
+pub place-room : (width : ℕ) (numbers : List ℤ) (at : ℕ) → length numbers % width ≡ 0 → Place width numbers at
+    → at < length numbers
     → at + width ≤ length numbers
 place-room width numbers at e p h = go (le-or-lt (length numbers / width) (p .parts))
   where
@@ -35,7 +36,8 @@ place-room width numbers at e p h = go (le-or-lt (length numbers / width) (p .pa
         let more : p .parts + 1 ≤ length numbers / width = omega arith in
         omega (arith, e, p .is, div-add-mod' (length numbers) width, mul-le-mul-right width more)
 
-pub place-next : (width : ℕ) (numbers : List ℤ) (at : ℕ) → Place width numbers at → at + width ≤ length numbers → Place width numbers (at + width)
+pub place-next : (width : ℕ) (numbers : List ℤ) (at : ℕ) → Place width numbers at → at + width ≤ length numbers
+    → Place width numbers (at + width)
 place-next width numbers at p h = record { inside = h; parts = p .parts + 1; is = omega (arith, p .is) }
 
 -- ---- the parts from a place on
@@ -74,7 +76,8 @@ module _ {A : Type 0} (read : List ℤ → ℕ → A) (width : ℕ) (numbers : L
 -- ---- whether every part passes, judged one after the other
 
 -- what a walk that judges each part keeps at a place: the parts that are left decide for all
-pub record Judging {A : Type 0} (valid : A → Bool) (read : List ℤ → ℕ → A) (width : ℕ) (numbers : List ℤ) (all : List A) (at : ℕ) : Type 0 where
+pub record Judging {A : Type 0} (valid : A → Bool) (read : List ℤ → ℕ → A) (width : ℕ) (numbers : List ℤ)
+    (all : List A) (at : ℕ) : Type 0 where
   pub place : Place width numbers at
   pub decides : every valid (partsLeft read width numbers at) ≡ every valid all
 
@@ -84,7 +87,8 @@ module _ {A : Type 0} (valid : A → Bool) (read : List ℤ → ℕ → A) (widt
 
   module _ (at : ℕ) (w : 0 < width) (j : Judging valid read width numbers all at) where
     -- one that passes leaves it to the rest, and one that does not decides it
-    pub judging-next : at + width ≤ length numbers → valid (read numbers at) ≡ true → Judging valid read width numbers all (at + width)
+    pub judging-next : at + width ≤ length numbers → valid (read numbers at) ≡ true
+        → Judging valid read width numbers all (at + width)
     judging-next h e =
         record {
           place = place-next width numbers at (j .place) h;

@@ -1,5 +1,5 @@
--- Laws of signed numbers for those who read a day: their order, what a range gives, and how far a term's repo rate moves a base. Assumes
--- nothing.
+-- Laws of signed numbers for those who read a day: their order, what a range gives, and how far a term's repo rate
+-- moves a base. Assumes nothing.
 use mathlib.Core.Path.{_≡_, refl, _∙_}
 use mathlib.Core.Bool.{true, false}
 use Prim.Native.Nat.{ℕ, suc, _+_, _*_, _^_, _≤_, _<_}
@@ -36,11 +36,14 @@ size-repo (pos n) h = le-leb n 9999 h
 size-repo (negsuc n) h = refl
 
 pub repo-le : (x : ℤ) → withinZ repoLeast repoMost x ≡ true → mag x ≤ mag repoMost
-repo-le x e = repo-size x (and-left (leZ repoLeast x) (leZ x repoMost) e) (and-right (leZ repoLeast x) (leZ x repoMost) e)
+repo-le x e = repo-size x (and-left (leZ repoLeast x) (leZ x repoMost) e)
+    (and-right (leZ repoLeast x) (leZ x repoMost) e)
 
 -- a number of a range that begins at 0 or above is at most the range's end
 pub unsigned-le : (low most : ℕ) (x : ℤ) → most < pastEvery → withinZ (pos low) (pos most) x ≡ true → unsigned x ≤ most
-unsigned-le low most x h e = leb-true (unsigned x) most (and-right (leb low (unsigned x)) (leb (unsigned x) most) (natural-within low most x h ∙ e))
+unsigned-le low most x h e =
+    leb-true (unsigned x) most
+    (and-right (leb low (unsigned x)) (leb (unsigned x) most) (natural-within low most x h ∙ e))
 
 -- ---- base + k·rate
 

@@ -25,7 +25,8 @@ scaleLeast = oneInBp * divisorLeast * yearInDayBp
 abbrev pub scaleMost : ℕ
 scaleMost = oneInBp * divisorMost * yearInDayBp
 
--- a limit p·a·b/d on the grid g, of place (g): p the price, a the spread, b the year with the repo rate, d the divisor of both
+-- a limit p·a·b/d on the grid g, of place (g): p the price, a the spread, b the year with the repo rate, d the divisor
+-- of both
 pub record LimitRange (g p a b d : ℕ) : Type 0 where
   pub grid : 0 < g
   pub coarse : g ≤ coarsestGrid

@@ -1,5 +1,6 @@
-// Whole-number arithmetic that loses nothing: the roundings of document 01, "Places of rounding", the least root of clause 7.1, and signed
-// numbers, given or lent. Every result is a definition of `paper`, for every input that its callers can have.
+// Whole-number arithmetic that loses nothing: the roundings of document 01, "Places of rounding", the least root of
+// clause 7.1, and signed numbers, given or lent. Every result is a definition of `paper`, for every input that its
+// callers can have.
 ghost use mathlib.Core.Path.{_≡_};
 ghost use Prim.Native.Nat.{_+_, _*_, _/_, _%_, _^_, _≤_, _<_, min, max};
 ghost use lib.IntN.{pos};
@@ -23,7 +24,8 @@ pub fn up(n: u64, d: u64) -> u64
     if n % d == 0 { q } else { q + 1 }
 }
 
-// n/d to the nearest whole number, a tie up, as at places (a), (b) and (c). Nothing is doubled: the sums of place (c) reach 1.6·10^19.
+// n/d to the nearest whole number, a tie up, as at places (a), (b) and (c). Nothing is doubled: the sums of place (c)
+// reach 1.6·10^19.
 pub fn half_up(n: u64, d: u64) -> u64
     requires { ⌜ 0 < d ⌝ }
     ensures { λ r. ⌜ r ≡ halfUp n d ⌝ }
@@ -101,8 +103,8 @@ fn shl(x: u64, k: u64) -> u64
     x << k
 }
 
-// The least x with factor·x² >= n (7.1). The bits of the greatest x with factor·x² < n are found from the top, in at most 20 turns without a product:
-// x is what is found so far, factor_x and sq are factor·x and factor·x².
+// The least x with factor·x² >= n (7.1). The bits of the greatest x with factor·x² < n are found from the top, in at
+// most 20 turns without a product: x is what is found so far, factor_x and sq are factor·x and factor·x².
 pub fn least_root(factor: u64, n: u64) -> u64
     requires { ⌜ (0 < factor) × (factor ≤ oneInTenThousandths) × (n ≤ factor * 2 ^ 40) ⌝ }
     ensures { λ r. ⌜ r ≡ leastRoot factor n ⌝ }

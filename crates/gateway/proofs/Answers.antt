@@ -16,11 +16,14 @@ use Rattle.paper.proofs.Units.{gateway-four, gateway-six, gateway-figure}
 use Rattle.inputs.proofs.Facts.{given-statics}
 
 -- the statics that a call is worked out in are valid where the test of those given passed
-pub made-valid : {valid : Bool} {st : Statics} (g : GivenStatics) → valid ≡ validGiven g → valid ≡ true → st ≡ staticsOf g → validStatics st ≡ true
+pub made-valid : {valid : Bool} {st : Statics} (g : GivenStatics) → valid ≡ validGiven g → valid ≡ true
+    → st ≡ staticsOf g → validStatics st ≡ true
 made-valid g e t s = rw s (given-statics g (sym e ∙ t))
 
--- r, read back from its bits, is the answer of a call whose tests of the statics and of the other values gave valid and inside
-module _ {r : ℤ} {valid : Bool} (g : GivenStatics) (inRange : Bool) (n : ℕ) (fits : SFits w64 r) (e : valid ≡ validGiven g) where
+-- r, read back from its bits, is the answer of a call whose tests of the statics and of the other values gave valid and
+-- inside
+module _ {r : ℤ} {valid : Bool} (g : GivenStatics) (inRange : Bool) (n : ℕ) (fits : SFits w64 r)
+    (e : valid ≡ validGiven g) where
   pub four : r ≡ negℤ (pos (numberOf AdmissionOutOfRange)) → valid ≡ false
       → toZ w64 (ofZ w64 r) ≡ gatewayAnswer (firstOf (gatewayChecks g inRange)) n
   four is t = toZ-ofZ fits ∙ is ∙ sym (gateway-four g inRange n (sym e ∙ t))

@@ -14,7 +14,8 @@ pub read : {r : ℕ} {x : ℤ} → SFits w64 x → r ≡ unsigned (toZ w64 (ofZ 
 read f e = e ∙ ap unsigned (toZ-ofZ f)
 
 -- the statics that were made of the bits of 22 numbers were made of the numbers
-pub read-given : {g : GivenStatics} {lot h q aup adown wait rh1 rh2 rh3 liq min1 min2 min3 smax xpr shift pchmax pclmax w u monitoring ewma : ℤ}
+pub read-given : {g : GivenStatics}
+    {lot h q aup adown wait rh1 rh2 rh3 liq min1 min2 min3 smax xpr shift pchmax pclmax w u monitoring ewma : ℤ}
     → SFits w64 lot → SFits w64 h → SFits w64 q → SFits w64 aup → SFits w64 adown → SFits w64 wait
     → SFits w64 rh1 → SFits w64 rh2 → SFits w64 rh3 → SFits w64 liq → SFits w64 min1 → SFits w64 min2
     → SFits w64 min3 → SFits w64 smax → SFits w64 xpr → SFits w64 shift → SFits w64 pchmax → SFits w64 pclmax

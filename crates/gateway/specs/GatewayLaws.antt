@@ -14,7 +14,8 @@ use Rattle.paper.proofs.Logic.{and-left, and-right}
 use Rattle.paper.proofs.Level.{level-rate-is}
 
 -- a level's figure is at most S_max, with the model and without
-pub figure-high : (st : Statics) (tentative m level : ℕ) → validStatics st ≡ true → levelFigure st tentative m level ≤ st .smax
+pub figure-high : (st : Statics) (tentative m level : ℕ) → validStatics st ≡ true
+    → levelFigure st tentative m level ≤ st .smax
 unfolding levelFigure
 figure-high st tentative m level v = go (st .ewma)
   where
@@ -31,7 +32,8 @@ pub record LevelInputs (st : Statics) (tentative m : ℕ) : Type 0 where
   pub held : tentative ≤ st .smax
   pub ahead : m ≤ aheadMost
 
-pub level-inputs : (st : Statics) (tentative m level : ℕ) → levelInRange st tentative m level ≡ true → LevelInputs st tentative m
+pub level-inputs : (st : Statics) (tentative m level : ℕ) → levelInRange st tentative m level ≡ true
+    → LevelInputs st tentative m
 unfolding levelInRange validTentative
 level-inputs st tentative m level v =
     record {

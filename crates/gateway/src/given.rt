@@ -3,7 +3,8 @@ ghost use mathlib.Core.Path.{_≡_};
 ghost use Rattle.paper.specs.Gateway.{givenOf};
 use paper::GivenStatics;
 
-// 22 signed numbers in the order of document 01's table. One below zero becomes a number that no range holds, and so is refused as it is there.
+// 22 signed numbers in the order of document 01's table. One below zero becomes a number that no range holds, and so is
+// refused as it is there.
 pub fn given_of(
     lot: i64,
     h: i64,

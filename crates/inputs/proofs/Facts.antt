@@ -1,5 +1,5 @@
--- What the range tests say in plain numbers: of each test of the paper that passed, a record of the facts that a rule may use. Assumes
--- nothing.
+-- What the range tests say in plain numbers: of each test of the paper that passed, a record of the facts that a rule
+-- may use. Assumes nothing.
 use mathlib.Core.Path.{_≡_}
 use mathlib.Core.Bool.{true, _&&_}
 use mathlib.Core.List.{List}
@@ -138,7 +138,8 @@ pub given-statics : (g : GivenStatics) → validGiven g ≡ true → validStatic
 unfolding validGiven
 given-statics g v = and-left _ _ (and-left _ _ v)
 
-pub tentative-facts : (st : Statics) (tentative : ℕ) → validTentative st tentative ≡ true → MultipleTo (st .smax) (st .h) tentative
+pub tentative-facts : (st : Statics) (tentative : ℕ) → validTentative st tentative ≡ true
+    → MultipleTo (st .smax) (st .h) tentative
 unfolding validTentative
 tentative-facts st tentative v = multiple-facts _ _ tentative v
 
@@ -208,7 +209,8 @@ term-facts x v =
     }
 
 -- of each of three terms
-pub terms-facts : (terms : List Term) → allThree (λ k. validTerm (termAt terms k)) ≡ true → (k : ℕ) → k < 3 → TermFacts (termAt terms k)
+pub terms-facts : (terms : List Term) → allThree (λ k. validTerm (termAt terms k)) ≡ true → (k : ℕ) → k < 3
+    → TermFacts (termAt terms k)
 terms-facts terms v k l = term-facts _ (each-of-three (λ k. validTerm (termAt terms k)) v k l)
 
 pub record DayFacts (d : Day) : Type 0 where
@@ -224,7 +226,8 @@ day-facts d v =
       day-most = leb-true _ _ (search (v, and-left, and-right) depth 40);
       b-most = leb-true _ _ (search (v, and-left, and-right) depth 40);
       m-most = leb-true _ _ (search (v, and-left, and-right) depth 40);
-      terms = terms-facts (d .terms) (and-right (leb (d .day) dayMost && leb (d .b) behindMost && leb (d .m) aheadMost) _ v);
+      terms = terms-facts (d .terms)
+          (and-right (leb (d .day) dayMost && leb (d .b) behindMost && leb (d .m) aheadMost) _ v);
     }
 
 -- ---- a quote and a move

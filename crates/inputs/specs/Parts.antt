@@ -1,5 +1,5 @@
--- Document 01, "Units and ranges": the parts of the paper's range tests that one function judges. Each stands in the paper's definition as it
--- stands here. Assumes nothing.
+-- Document 01, "Units and ranges": the parts of the paper's range tests that one function judges. Each stands in the
+-- paper's definition as it stands here. Assumes nothing.
 use mathlib.Core.Bool.{Bool, _&&_}
 use Prim.Native.Nat.{ℕ, _%_}
 use lib.Dec.{leb, eqb}
@@ -33,7 +33,8 @@ unfoldable pub multiplesOfStep : Statics → Bool
 multiplesOfStep st =
     eqb (st .min1 % st .h) 0 && eqb (st .min2 % st .h) 0 && eqb (st .min3 % st .h) 0 && eqb (st .smax % st .h) 0
 
--- "last day number (0..10^6), the two latest evaluations (on the grid, in range), s, and the tentative rate": of an admission and of a record
+-- "last day number (0..10^6), the two latest evaluations (on the grid, in range), s, and the tentative rate": of an
+-- admission and of a record
 unfoldable pub validFigures : Statics → (day p1 p2 s tentative : ℕ) → Bool
 validFigures st day p1 p2 s tentative =
     leb day dayMost

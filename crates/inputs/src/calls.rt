@@ -25,7 +25,8 @@ pub fn valid_id(id: u64) -> bool
     (1 <= id) & (id <= Record::ID_MOST)
 }
 
-// The last day number, the two latest evaluations, s and the tentative rate: an admission gives them, and a record keeps them.
+// The last day number, the two latest evaluations, s and the tentative rate: an admission gives them, and a record
+// keeps them.
 pub fn valid_figures(st: Statics, day: u64, p1: u64, p2: u64, s: u64, tentative: u64) -> bool
     requires { ⌜ 0 < st .h ⌝ }
     ensures { λ r. ⌜ r ≡ validFigures st day p1 p2 s tentative ⌝ }

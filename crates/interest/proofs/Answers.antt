@@ -18,23 +18,27 @@ module _ (i : Interest) (numbers : List ℤ) where
   pub answer-keys : (validInterest i && validKeys numbers) ≡ true → validKeys numbers ≡ true
   answer-keys e = and-right (validInterest i) (validKeys numbers) e
 
-  pub answer-pair : (validInterest i && validKeys numbers) ≡ true → (ascending (maturitiesOf numbers) && ltb (i .ym) (i .yn)) ≡ true → PairRange i
+  pub answer-pair : (validInterest i && validKeys numbers) ≡ true
+      → (ascending (maturitiesOf numbers) && ltb (i .ym) (i .yn)) ≡ true → PairRange i
   answer-pair e o =
       record {
         given = interest-range i (and-left (validInterest i) (validKeys numbers) e);
         order = ltb-true (i .ym) (i .yn) (and-right (ascending (maturitiesOf numbers)) (ltb (i .ym) (i .yn)) o);
       }
 
-  pub answer-range : (validInterest i && validKeys numbers) ≡ false → refusedInterest OutOfRange ≡ interestAnswer i numbers
+  pub answer-range : (validInterest i && validKeys numbers) ≡ false
+      → refusedInterest OutOfRange ≡ interestAnswer i numbers
   unfolding interestAnswer interestChecks firstOf isDone
   answer-range e = rw e
 
-  pub answer-order : (validInterest i && validKeys numbers) ≡ true → (ascending (maturitiesOf numbers) && ltb (i .ym) (i .yn)) ≡ false
+  pub answer-order : (validInterest i && validKeys numbers) ≡ true
+      → (ascending (maturitiesOf numbers) && ltb (i .ym) (i .yn)) ≡ false
       → refusedInterest NotAscending ≡ interestAnswer i numbers
   unfolding interestAnswer interestChecks firstOf isDone
   answer-order e o = rw (e, o)
 
-  pub answer-figures : (validInterest i && validKeys numbers) ≡ true → (ascending (maturitiesOf numbers) && ltb (i .ym) (i .yn)) ≡ true
+  pub answer-figures : (validInterest i && validKeys numbers) ≡ true
+      → (ascending (maturitiesOf numbers) && ltb (i .ym) (i .yn)) ≡ true
       → acceptedInterest i (maturitiesOf numbers) ≡ interestAnswer i numbers
   unfolding interestAnswer interestChecks firstOf isDone
   answer-figures e o = rw (e, o)

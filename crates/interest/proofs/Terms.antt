@@ -1,4 +1,5 @@
--- The figures at a term (14.6), from those of the key maturities beside it, and the limits (16.2), from those at the two terms. Assumes nothing.
+-- The figures at a term (14.6), from those of the key maturities beside it, and the limits (16.2), from those at the
+-- two terms. Assumes nothing.
 use mathlib.Core.Path.{_≡_, sym, ap, _∙_}
 use mathlib.Core.Bool.{true}
 use mathlib.Core.List.{List}
@@ -27,7 +28,8 @@ use Rattle.interest_forward.proofs.Lines.{interpolated-lifted, between-range}
 use Rattle.interest.specs.Figures.{pointOf, PointAt}
 
 -- a key maturity of numbers that are not refused is in range
-pub key-in-range : (numbers : List ℤ) (at : ℕ) → validKeys numbers ≡ true → at % keyNumbers ≡ 0 → at + keyNumbers ≤ length numbers → KeyRange (maturityAt numbers at)
+pub key-in-range : (numbers : List ℤ) (at : ℕ) → validKeys numbers ≡ true → at % keyNumbers ≡ 0
+    → at + keyNumbers ≤ length numbers → KeyRange (maturityAt numbers at)
 key-in-range numbers at v e h = key-range (keyAt numbers at) (valid-key numbers at v e h)
 
 pub point-range : (i : Interest) (k : Maturity) → InterestRange i → KeyRange k → PointRange (pointOf i k)
@@ -53,7 +55,8 @@ between-estimates t a u b y h k =
     ∙ interpolated-lifted 0 t a u b y h k
     ∙ sym (difference-whole (linear t a u b y))
 
-module _ (i : Interest) (numbers : List ℤ) (y before after : ℕ) (g : InterestRange i) (v : validKeys numbers ≡ true) (s : Reads numbers y before after) where
+module _ (i : Interest) (numbers : List ℤ) (y before after : ℕ) (g : InterestRange i) (v : validKeys numbers ≡ true)
+    (s : Reads numbers y before after) where
   abbrev pub earlier : Maturity
   earlier = maturityAt numbers before
 
@@ -81,24 +84,32 @@ module _ (i : Interest) (numbers : List ℤ) (y before after : ℕ) (g : Interes
 
   -- between two
   pub point-between : (before ≡ after → ⊥) → earlier .t < y → y ≤ later .t
-      → PointAt i (maturitiesOf numbers) y (pointBetween (pointOf i (maturityAt numbers before)) (pointOf i (maturityAt numbers after)) y)
+      → PointAt i (maturitiesOf numbers) y
+      (pointBetween (pointOf i (maturityAt numbers before)) (pointOf i (maturityAt numbers after)) y)
   unfolding pointBetween
   point-between n h k =
       record {
-        range = between-range (pointOf i earlier) (pointOf i later) y (point-range i earlier g before-range) (point-range i later g after-range) h k;
+        range = between-range (pointOf i earlier) (pointOf i later) y (point-range i earlier g before-range)
+            (point-range i later g after-range) h k;
         rate =
             two (λ m. m .r)
             ∙ ap (λ (z : ℤ). interpolated (earlier .t) z (later .t) (later .r) y) (rate-is i earlier before-range)
-            ∙ ap (λ (z : ℤ). interpolated (earlier .t) (rateOf (pointOf i earlier)) (later .t) z y) (rate-is i later after-range)
+            ∙ ap (λ (z : ℤ). interpolated (earlier .t) (rateOf (pointOf i earlier)) (later .t) z y)
+            (rate-is i later after-range)
             ∙ interpolated-lifted lift (earlier .t) (lifted (earlier .r)) (later .t) (lifted (later .r)) y h k;
-        up = two (λ m. pos (upward i m)) ∙ between-estimates (earlier .t) (upward i earlier) (later .t) (upward i later) y h k;
-        down = two (λ m. pos (downward i m)) ∙ between-estimates (earlier .t) (downward i earlier) (later .t) (downward i later) y h k;
+        up = two (λ m. pos (upward i m))
+            ∙ between-estimates (earlier .t) (upward i earlier) (later .t) (upward i later) y h k;
+        down = two (λ m. pos (downward i m))
+            ∙ between-estimates (earlier .t) (downward i earlier) (later .t) (downward i later) y h k;
       }
     where
-      two : (f : Maturity → ℤ) → figureAt f (maturitiesOf numbers) y ≡ interpolated (earlier .t) (f earlier) (later .t) (f later) y
+      two : (f : Maturity → ℤ)
+          → figureAt f (maturitiesOf numbers) y ≡ interpolated (earlier .t) (f earlier) (later .t) (f later) y
       two f = s .reads f ∙ pick-false (eqb before after) _ _ (ne-eqb before after n)
 
 -- the limits from the figures at the two terms are the paper's
-module _ (i : Interest) (ks : List Maturity) (m n : Point) (p : PointAt i ks (i .ym) m) (q : PointAt i ks (i .yn) n) where
-  pub band-at : bandHeld i (rateOf m) (rateOf n) (pos (n .down)) (pos (n .up)) ≡ record { low = lowerLimit i ks; high = upperLimit i ks }
+module _ (i : Interest) (ks : List Maturity) (m n : Point) (p : PointAt i ks (i .ym) m)
+    (q : PointAt i ks (i .yn) n) where
+  pub band-at : bandHeld i (rateOf m) (rateOf n) (pos (n .down)) (pos (n .up))
+      ≡ record { low = lowerLimit i ks; high = upperLimit i ks }
   band-at = rw (band-is i ks, p .rate, q .rate, q .down, q .up)

@@ -34,7 +34,8 @@ risen-is i m n p a b =
     let s = rises i m n p a b in
     record {
       is =
-          difference-same _ (base * (i .yn - i .ym)) (i .yn * n .rate + i .ym * lift) (i .yn * lift + i .ym * m .rate) (omega arith)
+          difference-same _ (base * (i .yn - i .ym)) (i .yn * n .rate + i .ym * lift) (i .yn * lift + i .ym * m .rate)
+          (omega arith)
           ∙ sym (difference-minus (i .yn * n .rate) (i .yn * lift) (i .ym * m .rate) (i .ym * lift))
           ∙ sym (rw (difference-times (i .yn) (n .rate) lift, difference-times (i .ym) (m .rate) lift));
       low = omega arith;
@@ -78,7 +79,8 @@ module _ (i : Interest) (m n : Point) (r : ℕ) (s : Risen i m n r) where
       ∙ ap (λ (z : ℕ). subℕ (i .xir * r) z) (omega arith)
 
   pub upper-counted : (h : ℕ)
-      → limitFrom i (subℕ (i .xir * r + marginOf i h) (base * ((i .yn - i .ym) * i .xir))) ≡ upperOf i (rateOf m) (rateOf n) (pos h)
+      → limitFrom i (subℕ (i .xir * r + marginOf i h) (base * ((i .yn - i .ym) * i .xir)))
+      ≡ upperOf i (rateOf m) (rateOf n) (pos h)
   unfolding upperOf
   upper-counted h =
       let den : ℕ = base * ((i .yn - i .ym) * i .xir) in
@@ -89,7 +91,8 @@ module _ (i : Interest) (m n : Point) (r : ℕ) (s : Risen i m n r) where
       sym (ap (λ (z : ℤ). limitFrom i (z +ℤ pos (marginOf i h))) multiplied ∙ ap (limitFrom i) sum)
 
   pub lower-counted : (l : ℕ) → marginOf i l ≤ i .xir * r
-      → limitFrom i (subℕ (i .xir * r - marginOf i l) (base * ((i .yn - i .ym) * i .xir))) ≡ lowerOf i (rateOf m) (rateOf n) (pos l)
+      → limitFrom i (subℕ (i .xir * r - marginOf i l) (base * ((i .yn - i .ym) * i .xir)))
+      ≡ lowerOf i (rateOf m) (rateOf n) (pos l)
   unfolding lowerOf
   lower-counted l k =
       let den : ℕ = base * ((i .yn - i .ym) * i .xir) in

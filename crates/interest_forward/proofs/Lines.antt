@@ -1,4 +1,5 @@
--- Laws of a figure between two (14.6): what it is of lifted figures, and that it is no greater than both. Assumes nothing.
+-- Laws of a figure between two (14.6): what it is of lifted figures, and that it is no greater than both. Assumes
+-- nothing.
 use mathlib.Core.Path.{_≡_, ap, _∙_}
 use Prim.Native.Nat.{ℕ, _+_, _-_, _*_, _≤_, _<_}
 use native.Mathlib.Nat.{mul-le-mul, mul-le-mul-right}
@@ -14,7 +15,8 @@ use Rattle.interest_forward.specs.declared.Point.{Point}
 use Rattle.interest_forward.specs.Points.{figureMost, PointRange, Line, linear, pointBetween}
 
 -- the products of the sum
-pub line-parts : (t f u g y : ℕ) → Line t f u g y → (f * (u - y) ≤ figureMost * maturityMost) × (g * (y - t) ≤ figureMost * maturityMost)
+pub line-parts : (t f u g y : ℕ) → Line t f u g y → (f * (u - y) ≤ figureMost * maturityMost)
+    × (g * (y - t) ≤ figureMost * maturityMost)
 line-parts t f u g y l =
     let first : u - y ≤ maturityMost = omega arith in
     let second : y - t ≤ maturityMost = omega arith in (
@@ -30,7 +32,8 @@ linear-le t f u g y most h k p q =
     half-le _ _ most (omega arith) (omega (arith, times, mul-le-mul-right (u - y) p, mul-le-mul-right (y - t) q))
 
 -- between two figures lifted alike lies their figure, lifted alike
-pub interpolated-lifted : (l t a u b y : ℕ) → t < y → y ≤ u → interpolated t (subℕ a l) u (subℕ b l) y ≡ subℕ (linear t a u b y) l
+pub interpolated-lifted : (l t a u b y : ℕ) → t < y → y ≤ u → interpolated t (subℕ a l) u (subℕ b l) y
+    ≡ subℕ (linear t a u b y) l
 unfolding interpolated linear
 interpolated-lifted l t a u b y h k =
     let parts : u - t ≡ u - y + (y - t) = omega arith in
@@ -43,7 +46,8 @@ interpolated-lifted l t a u b y h k =
     ap (λ (z : ℤ). halfUpZ z (u - t)) sum ∙ half-shift n (u - t) l (omega arith)
 
 -- a point between two is in range
-pub between-range : (a b : Point) (y : ℕ) → PointRange a → PointRange b → a .t < y → y ≤ b .t → PointRange (pointBetween a b y)
+pub between-range : (a b : Point) (y : ℕ) → PointRange a → PointRange b → a .t < y → y ≤ b .t
+    → PointRange (pointBetween a b y)
 unfolding pointBetween
 between-range a b y p q h k =
     record {

@@ -1,4 +1,5 @@
--- Document 02, W-201, clause 16.2 from the figures at the two terms of the pair, where the paper has the key maturities that they are read off. Assumes nothing.
+-- Document 02, W-201, clause 16.2 from the figures at the two terms of the pair, where the paper has the key maturities
+-- that they are read off. Assumes nothing.
 use mathlib.Core.Path.{_≡_, refl}
 use mathlib.Core.List.{List}
 use Prim.Native.Nat.{ℕ, _+_, _-_, _*_, _≤_, _<_}
@@ -45,7 +46,8 @@ bandHeld i rm rn l h =
 -- these are the paper's limits, from the figures that it reads off the key maturities
 pub band-is : (i : Interest) (ks : List Maturity)
     → record { low = lowerLimit i ks; high = upperLimit i ks }
-    ≡ bandHeld i (figureAt (λ k. k .r) ks (i .ym)) (figureAt (λ k. k .r) ks (i .yn)) (figureAt (λ k. pos (downward i k)) ks (i .yn))
+    ≡ bandHeld i (figureAt (λ k. k .r) ks (i .ym)) (figureAt (λ k. k .r) ks (i .yn))
+    (figureAt (λ k. pos (downward i k)) ks (i .yn))
     (figureAt (λ k. pos (upward i k)) ks (i .yn))
 unfolding upperLimit lowerLimit upperWorked lowerWorked bandHeld upperOf lowerOf forwardOf forward margin
 band-is i ks = refl

@@ -1,5 +1,5 @@
-// Between the key maturities (14.6), and the rouble repo band of a pair of terms (16.2), by value. A rate may be below zero: it comes lifted, and a limit
-// is counted from a base, so that every sum here is one of natural numbers.
+// Between the key maturities (14.6), and the rouble repo band of a pair of terms (16.2), by value. A rate may be below
+// zero: it comes lifted, and a limit is counted from a base, so that every sum here is one of natural numbers.
 ghost use mathlib.Core.Path.{_≡_};
 ghost use Prim.Native.Nat.{_-_, _*_, _^_, _≤_, _<_};
 ghost use lib.IntN.{pos, subℕ};
@@ -21,7 +21,8 @@ pub struct Point {
     pub down: u64,
 }
 
-// A figure y days ahead, between f days ahead t and g days ahead u: rounded once, half up. A lift of both is a lift of the figure.
+// A figure y days ahead, between f days ahead t and g days ahead u: rounded once, half up. A lift of both is a lift of
+// the figure.
 fn linear(t: u64, f: u64, u: u64, g: u64, y: u64) -> u64
     requires { ⌜ Line t f u g y ⌝ }
     ensures { λ r. ⌜ r ≡ linear t f u g y ⌝ }

@@ -1,4 +1,5 @@
--- A walk over the key maturities, from each to the next: their order, and what the figures for a term are read off. Assumes nothing.
+-- A walk over the key maturities, from each to the next: their order, and what the figures for a term are read off.
+-- Assumes nothing.
 use mathlib.Core.Path.{_≡_, refl, sym, ap, _∙_}
 use mathlib.Core.Logic.{_⊎_, inl, inr}
 use mathlib.Core.Bool.{true, false, _&&_}
@@ -26,14 +27,16 @@ pub left-first : (numbers : List ℤ) → left numbers 0 ≡ maturitiesOf number
 unfolding maturitiesOf
 left-first numbers = ap (map maturityOf) (rest-first numbers)
 
-left-here : (numbers : List ℤ) (at : ℕ) → at + keyNumbers ≤ length numbers → left numbers at ≡ maturityAt numbers at ∷ left numbers (at + keyNumbers)
+left-here : (numbers : List ℤ) (at : ℕ) → at + keyNumbers ≤ length numbers
+    → left numbers at ≡ maturityAt numbers at ∷ left numbers (at + keyNumbers)
 left-here numbers at h = ap (map maturityOf) (part-here keyAt keyNumbers numbers at (omega arith) h)
 
 left-end : (numbers : List ℤ) (at : ℕ) → length numbers ≤ at → left numbers at ≡ []
 left-end numbers at h = ap (map maturityOf) (parts-end keyAt keyNumbers numbers at (omega arith) h)
 
 -- with more than one left, there is a whole next one
-pub next-room : (numbers : List ℤ) (at : ℕ) → length numbers % keyNumbers ≡ 0 → Place keyNumbers numbers at → keyNumbers < length numbers - at
+pub next-room : (numbers : List ℤ) (at : ℕ) → length numbers % keyNumbers ≡ 0 → Place keyNumbers numbers at
+    → keyNumbers < length numbers - at
     → at + keyNumbers + keyNumbers ≤ length numbers
 next-room numbers at e p h = omega (arith, place-eights numbers at p)
 
@@ -41,21 +44,26 @@ next-room numbers at e p h = omega (arith, place-eights numbers at p)
 
 module _ (numbers : List ℤ) (at : ℕ) where
   ascending-first : at + keyNumbers + keyNumbers ≤ length numbers
-      → ascending (left numbers at) ≡ (ltb (maturityAt numbers at .t) (maturityAt numbers (at + keyNumbers) .t) && ascending (left numbers (at + keyNumbers)))
+      → ascending (left numbers at)
+      ≡ (ltb (maturityAt numbers at .t) (maturityAt numbers (at + keyNumbers) .t)
+      && ascending (left numbers (at + keyNumbers)))
   unfolding ascending ascendingFrom
   ascending-first h = rw (left-here numbers at (omega arith), left-here numbers (at + keyNumbers) h)
 
   -- one that is before the next leaves it to the rest, and one that is not decides it
-  pub ascending-in : at + keyNumbers + keyNumbers ≤ length numbers → maturityAt numbers at .t < maturityAt numbers (at + keyNumbers) .t
+  pub ascending-in : at + keyNumbers + keyNumbers ≤ length numbers
+      → maturityAt numbers at .t < maturityAt numbers (at + keyNumbers) .t
       → ascending (left numbers at) ≡ ascending (left numbers (at + keyNumbers))
   ascending-in h e = ascending-first h ∙ rw (lt-ltb _ _ e)
 
-  pub ascending-out : at + keyNumbers + keyNumbers ≤ length numbers → maturityAt numbers (at + keyNumbers) .t ≤ maturityAt numbers at .t
+  pub ascending-out : at + keyNumbers + keyNumbers ≤ length numbers
+      → maturityAt numbers (at + keyNumbers) .t ≤ maturityAt numbers at .t
       → ascending (left numbers at) ≡ false
   ascending-out h e = ascending-first h ∙ rw (le-ltb _ _ e)
 
   -- one or none is in order
-  pub ascending-end : length numbers % keyNumbers ≡ 0 → Place keyNumbers numbers at → length numbers - at ≤ keyNumbers → ascending (left numbers at) ≡ true
+  pub ascending-end : length numbers % keyNumbers ≡ 0 → Place keyNumbers numbers at → length numbers - at ≤ keyNumbers
+      → ascending (left numbers at) ≡ true
   unfolding ascending ascendingFrom
   ascending-end e p h = go (le-or-lt (at + keyNumbers) (length numbers))
     where
@@ -70,10 +78,12 @@ pub record Passed (numbers : List ℤ) (y at : ℕ) : Type 0 where
   pub place : Place keyNumbers numbers at
   pub room : at + keyNumbers ≤ length numbers
   pub before : maturityAt numbers at .t < y
-  pub figure : (f : Maturity → ℤ) → figureAt f (maturitiesOf numbers) y ≡ figureAfter f (maturityAt numbers at) (left numbers (at + keyNumbers)) y
+  pub figure : (f : Maturity → ℤ)
+      → figureAt f (maturitiesOf numbers) y ≡ figureAfter f (maturityAt numbers at) (left numbers (at + keyNumbers)) y
 
 module _ (numbers : List ℤ) (y : ℕ) where
-  opened : (f : Maturity → ℤ) → keyNumbers ≤ length numbers → figureAt f (maturitiesOf numbers) y ≡ figureAt f (maturityAt numbers 0 ∷ left numbers keyNumbers) y
+  opened : (f : Maturity → ℤ) → keyNumbers ≤ length numbers
+      → figureAt f (maturitiesOf numbers) y ≡ figureAt f (maturityAt numbers 0 ∷ left numbers keyNumbers) y
   opened f one = ap (λ (ks : List Maturity). figureAt f ks y) (sym (left-first numbers) ∙ left-here numbers 0 one)
 
   pub passed-first : keyNumbers ≤ length numbers → maturityAt numbers 0 .t < y → Passed numbers y 0
@@ -101,10 +111,15 @@ module _ (numbers : List ℤ) (y : ℕ) where
   module _ (at : ℕ) (p : Passed numbers y at) where
     -- with the next one at hand too
     stepped : (f : Maturity → ℤ) → at + keyNumbers + keyNumbers ≤ length numbers
-        → figureAt f (maturitiesOf numbers) y ≡ figureAfter f (maturityAt numbers at) (maturityAt numbers (at + keyNumbers) ∷ left numbers (at + keyNumbers + keyNumbers)) y
-    stepped f h = p .figure f ∙ ap (λ (ks : List Maturity). figureAfter f (maturityAt numbers at) ks y) (left-here numbers (at + keyNumbers) h)
+        → figureAt f (maturitiesOf numbers) y
+        ≡ figureAfter f (maturityAt numbers at)
+        (maturityAt numbers (at + keyNumbers) ∷ left numbers (at + keyNumbers + keyNumbers)) y
+    stepped f h = p .figure f
+        ∙ ap (λ (ks : List Maturity). figureAfter f (maturityAt numbers at) ks y)
+        (left-here numbers (at + keyNumbers) h)
 
-    pub passed-next : at + keyNumbers + keyNumbers ≤ length numbers → maturityAt numbers (at + keyNumbers) .t < y → Passed numbers y (at + keyNumbers)
+    pub passed-next : at + keyNumbers + keyNumbers ≤ length numbers → maturityAt numbers (at + keyNumbers) .t < y
+        → Passed numbers y (at + keyNumbers)
     unfolding figureAfter
     passed-next h e =
         record {
@@ -114,7 +129,8 @@ module _ (numbers : List ℤ) (y : ℕ) where
           figure = λ f. stepped f h ∙ rw (lt-leb y _ e);
         }
 
-    pub read-between : at + keyNumbers + keyNumbers ≤ length numbers → y ≤ maturityAt numbers (at + keyNumbers) .t → Reads numbers y at (at + keyNumbers)
+    pub read-between : at + keyNumbers + keyNumbers ≤ length numbers → y ≤ maturityAt numbers (at + keyNumbers) .t
+        → Reads numbers y at (at + keyNumbers)
     unfolding figureAfter
     read-between h e =
         record {

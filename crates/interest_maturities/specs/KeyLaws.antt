@@ -1,4 +1,5 @@
--- Laws of an evening's key maturities: those from a place on, what each is, and what those in range give. Assumes nothing.
+-- Laws of an evening's key maturities: those from a place on, what each is, and what those in range give. Assumes
+-- nothing.
 use mathlib.Core.Path.{_≡_, refl, ap, sym, _∙_}
 use mathlib.Core.Bool.{true, false}
 use mathlib.Core.List.{List, [], _∷_, map, map-map}
@@ -36,12 +37,14 @@ place-eights numbers at p = omega (arith, p .is)
 -- ---- the key maturity of a number
 
 -- of so many keys from a place on, what is read off the one of number i is read where it begins
-key-here : {A : Type 0} (g : LentKey → A) (d : A) (numbers : List ℤ) (from count i at : ℕ) → i < count → from + keyNumbers * i ≡ at
+key-here : {A : Type 0} (g : LentKey → A) (d : A) (numbers : List ℤ) (from count i at : ℕ) → i < count
+    → from + keyNumbers * i ≡ at
     → getD (map g (partsFrom keyAt keyNumbers numbers from count)) i d ≡ g (keyAt numbers at)
 unfolding partsFrom
 key-here g d numbers from zero i at h e = absurd (omega arith)
 key-here g d numbers from (suc count) zero at h e = ap (λ (n : ℕ). g (keyAt numbers n)) (omega arith)
-key-here g d numbers from (suc count) (suc i) at h e = key-here g d numbers (from + keyNumbers) count i at (omega arith) (omega arith)
+key-here g d numbers from (suc count) (suc i) at h e =
+    key-here g d numbers (from + keyNumbers) count i at (omega arith) (omega arith)
 
 keys-count : (numbers : List ℤ) (at count : ℕ) → length (partsFrom keyAt keyNumbers numbers at count) ≡ count
 unfolding partsFrom
@@ -53,18 +56,22 @@ unfolding maturitiesOf keysOf
 count-is numbers = length-map (keysOf numbers) maturityOf ∙ keys-count numbers 0 (length numbers / keyNumbers)
 
 -- what is read off the key maturity of number n is read where it begins
-pub figure-here : {A : Type 0} (f : Maturity → A) (d : A) (numbers : List ℤ) (n : ℕ) → keyNumbers * n + keyNumbers ≤ length numbers
+pub figure-here : {A : Type 0} (f : Maturity → A) (d : A) (numbers : List ℤ) (n : ℕ)
+    → keyNumbers * n + keyNumbers ≤ length numbers
     → getD (map f (maturitiesOf numbers)) n d ≡ f (maturityAt numbers (keyNumbers * n))
 unfolding maturitiesOf keysOf
 figure-here f d numbers n h =
     ap (λ (xs : List _). getD xs n d) (map-map f maturityOf (keysOf numbers))
-    ∙ key-here (λ k. f (maturityOf k)) d numbers 0 (length numbers / keyNumbers) n (keyNumbers * n) (omega arith) (omega arith)
+    ∙ key-here (λ k. f (maturityOf k)) d numbers 0 (length numbers / keyNumbers) n (keyNumbers * n) (omega arith)
+    (omega arith)
 
 -- and past the last there is none
-pub figure-past : {A : Type 0} (f : Maturity → A) (d : A) (numbers : List ℤ) (n : ℕ) → length numbers % keyNumbers ≡ 0 → length numbers ≤ keyNumbers * n
+pub figure-past : {A : Type 0} (f : Maturity → A) (d : A) (numbers : List ℤ) (n : ℕ) → length numbers % keyNumbers ≡ 0
+    → length numbers ≤ keyNumbers * n
     → getD (map f (maturitiesOf numbers)) n d ≡ d
 figure-past f d numbers n e h =
-    List·getD-eq-default (map f (maturitiesOf numbers)) d (omega (arith, length-map (maturitiesOf numbers) f, count-is numbers))
+    List·getD-eq-default (map f (maturitiesOf numbers)) d
+    (omega (arith, length-map (maturitiesOf numbers) f, count-is numbers))
 
 -- ---- what numbers that are not refused give
 
@@ -84,7 +91,8 @@ pub valid-short : (numbers : List ℤ) → wholeKeys numbers ≡ true → length
 unfolding wholeKeys
 valid-short numbers v = leb-true (length numbers) allKeyNumbersMost (search (v, and-left, and-right))
 
-pub valid-key : (numbers : List ℤ) (at : ℕ) → validKeys numbers ≡ true → at % keyNumbers ≡ 0 → at + keyNumbers ≤ length numbers
+pub valid-key : (numbers : List ℤ) (at : ℕ) → validKeys numbers ≡ true → at % keyNumbers ≡ 0
+    → at + keyNumbers ≤ length numbers
     → validKey (keyAt numbers at) ≡ true
 unfolding validKeys keysOf
 valid-key numbers at v e h =

@@ -12,8 +12,8 @@ use Rattle.paper.specs.Numbers.{keyNumbers}
 use Rattle.paper.specs.Interest.{maturitiesOf, figureAt, interpolated}
 use Rattle.interest_maturities.specs.KeyLaws.{maturityAt}
 
--- where the key maturities before and after a term of y days begin: two neighbours with the term between them, or one place twice where it is not after the
--- first, or is after the last
+-- where the key maturities before and after a term of y days begin: two neighbours with the term between them, or one
+-- place twice where it is not after the first, or is after the last
 pub record Reads (numbers : List ℤ) (y before after : ℕ) : Type 0 where
   pub inside-before : before + keyNumbers ≤ length numbers
   pub inside-after : after + keyNumbers ≤ length numbers
@@ -24,4 +24,5 @@ pub record Reads (numbers : List ℤ) (y before after : ℕ) : Type 0 where
       → figureAt f (maturitiesOf numbers) y
       ≡ pick (eqb before after)
       (f (maturityAt numbers before))
-      (interpolated (maturityAt numbers before .t) (f (maturityAt numbers before)) (maturityAt numbers after .t) (f (maturityAt numbers after)) y)
+      (interpolated (maturityAt numbers before .t) (f (maturityAt numbers before)) (maturityAt numbers after .t)
+      (f (maturityAt numbers after)) y)

@@ -1,4 +1,5 @@
-// The key maturities of an evening (document 02, W-201): eight signed numbers each, lent in one slice, checked and read.
+// The key maturities of an evening (document 02, W-201): eight signed numbers each, lent in one slice, checked and
+// read.
 ghost use mathlib.Core.Path.{_≡_};
 ghost use Prim.Native.Nat.{_+_, _%_, _≤_};
 ghost use lib.ListN.{length};
@@ -113,8 +114,9 @@ pub struct Places {
     pub after: usize,
 }
 
-// "Maturities between the key ones are interpolated, and outside them take the nearest one's" (14.6): the key maturities that every figure for a
-// term of y days is read off. They are one where y is not after the first, or is after the last.
+// "Maturities between the key ones are interpolated, and outside them take the nearest one's" (14.6): the key
+// maturities that every figure for a term of y days is read off. They are one where y is not after the first, or is
+// after the last.
 pub fn neighbours(numbers: &[i64], y: u64) -> Places
     requires { ⌜ (length (now numbers) % keyNumbers ≡ 0) × (keyNumbers ≤ length (now numbers)) ⌝ }
     ensures { λ r. ⌜ Reads (now (numbers .entry)) y (r .before) (r .after) ⌝ }

@@ -1,4 +1,5 @@
--- Rates of either sign on a base that no rate reaches below, so that they are natural numbers, and what of rates is worked out in these. Assumes nothing.
+-- Rates of either sign on a base that no rate reaches below, so that they are natural numbers, and what of rates is
+-- worked out in these. Assumes nothing.
 use mathlib.Core.Path.{_≡_, sym, ap, _∙_}
 use Prim.Native.Nat.{ℕ, _+_, _-_, _≤_}
 use native.Mathlib.Omega.{arith}
@@ -17,13 +18,15 @@ abbrev pub lifted : ℤ → ℕ
 lifted x = grown lift 1 x
 
 -- a rate moves the base by at most 9,999 either way
-pub lifted-range : (x : ℤ) → natAbs x ≤ natAbs repoMost → (lifted x ≤ lift + natAbs repoMost) × (lift ≤ lifted x + natAbs repoMost)
+pub lifted-range : (x : ℤ) → natAbs x ≤ natAbs repoMost
+    → (lifted x ≤ lift + natAbs repoMost) × (lift ≤ lifted x + natAbs repoMost)
 unfolding grown
 lifted-range (pos n) h = omega arith
 lifted-range (negsuc n) h = omega arith
 
 -- x - y
-pub lifted-minus : (x y : ℤ) → natAbs x ≤ natAbs repoMost → natAbs y ≤ natAbs repoMost → x -ℤ y ≡ subℕ (lifted x) (lifted y)
+pub lifted-minus : (x y : ℤ) → natAbs x ≤ natAbs repoMost → natAbs y ≤ natAbs repoMost
+    → x -ℤ y ≡ subℕ (lifted x) (lifted y)
 lifted-minus x y h k =
     let left : x ≡ subℕ (lifted x) lift = lifted-is lift x (omega arith) in
     let right : y ≡ subℕ (lifted y) lift = lifted-is lift y (omega arith) in
@@ -33,12 +36,14 @@ lifted-minus x y h k =
     ∙ difference-same (lifted x + lift) (lift + lifted y) (lifted x) (lifted y) (omega arith)
 
 -- |x - y|
-pub lifted-apart : (x y : ℤ) → natAbs x ≤ natAbs repoMost → natAbs y ≤ natAbs repoMost → apart (lifted x) (lifted y) ≡ apartZ x y
+pub lifted-apart : (x y : ℤ) → natAbs x ≤ natAbs repoMost → natAbs y ≤ natAbs repoMost
+    → apart (lifted x) (lifted y) ≡ apartZ x y
 unfolding apartZ
 lifted-apart x y h k = sym (ap natAbs (lifted-minus x y h k) ∙ difference-size (lifted x) (lifted y))
 
 -- x - y + n, where below zero counts as 0
-pub lifted-part : (x y : ℤ) (n : ℕ) → natAbs x ≤ natAbs repoMost → natAbs y ≤ natAbs repoMost → lifted x + n - lifted y ≡ atLeastZero ((x -ℤ y) +ℤ pos n)
+pub lifted-part : (x y : ℤ) (n : ℕ) → natAbs x ≤ natAbs repoMost → natAbs y ≤ natAbs repoMost
+    → lifted x + n - lifted y ≡ atLeastZero ((x -ℤ y) +ℤ pos n)
 lifted-part x y n h k =
     sym
     (ap (λ (z : ℤ). atLeastZero (z +ℤ pos n)) (lifted-minus x y h k)

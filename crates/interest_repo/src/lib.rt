@@ -1,4 +1,5 @@
-// The figures of a key maturity (W-201, clause 14.4), by value. The weights, the root, the replacement and the one-step-down rule are the shares'.
+// The figures of a key maturity (W-201, clause 14.4), by value. The weights, the root, the replacement and the
+// one-step-down rule are the shares'.
 ghost use mathlib.Core.Path.{_≡_};
 ghost use Prim.Native.Nat.{_-_, _*_, _≤_};
 ghost use lib.IntN.{natAbs};
@@ -15,7 +16,8 @@ use paper::MaturityFigures;
 use paper::ONE_IN_HUNDREDTHS;
 use paper::Tentative;
 
-// The base on which a rate of either sign is a natural number: differences of rates are worked out without a sign. It is no number of the paper.
+// The base on which a rate of either sign is a natural number: differences of rates are worked out without a sign. It
+// is no number of the paper.
 pub const LIFT: u64 = 1_000_000;
 
 // A rate on the base.

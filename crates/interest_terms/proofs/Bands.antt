@@ -1,5 +1,5 @@
--- W-201, "The security's evaluation may take these limits or given ones": what the band of a term is where a pair was worked out, and that a pair that was
--- refused makes its day out of range (6). Assumes nothing.
+-- W-201, "The security's evaluation may take these limits or given ones": what the band of a term is where a pair was
+-- worked out, and that a pair that was refused makes its day out of range (6). Assumes nothing.
 use mathlib.Core.Path.{_≡_, refl}
 use mathlib.Core.Bool.{Bool, true, false, not, _&&_, _||_}
 use mathlib.Core.List.{List}
@@ -56,7 +56,8 @@ pub refused-out : (x : AskedTerm) → isRefused (x .band) ≡ true → validTerm
 unfolding termOf repoOf workedRepo validTerm
 refused-out x e = go (x .band) e
   where
-    go : (b : RepoBand) → isRefused b ≡ true → validTerm (record { k = x .k; low = repoOf b .low; high = repoOf b .high }) ≡ false
+    go : (b : RepoBand) → isRefused b ≡ true
+        → validTerm (record { k = x .k; low = repoOf b .low; high = repoOf b .high }) ≡ false
     go (band.Given r) e = absurd (clash false e refl)
     go (band.Worked w) e = rw (not-true (isDone (w .verdict)) e) (one-fails (leb (x .k) termDaysMost && true) true)
 
@@ -72,10 +73,12 @@ refused-pair-out k i numbers e = refused-out (withPair k (interestAnswer i numbe
 
 -- any one of them makes the day out of range
 pub refused-day : (a : AskedDay) (rows : List ℤ)
-    → (isRefused (a .first .band) || isRefused (a .second .band) || isRefused (a .third .band)) ≡ true → validDay (dayOf a) rows ≡ false
+    → (isRefused (a .first .band) || isRefused (a .second .band) || isRefused (a .third .band)) ≡ true
+    → validDay (dayOf a) rows ≡ false
 unfolding dayOf validDay
 refused-day a rows e =
-    rw (any (isRefused (a .first .band)) (isRefused (a .second .band)) (isRefused (a .third .band)) e (refused-out (a .first)) (refused-out (a .second))
+    rw (any (isRefused (a .first .band)) (isRefused (a .second .band)) (isRefused (a .third .band)) e
+    (refused-out (a .first)) (refused-out (a .second))
     (refused-out (a .third)))
     (one-fails (leb (a .day) dayMost && leb (a .b) behindMost && leb (a .m) aheadMost) (validRows rows))
   where
@@ -83,7 +86,8 @@ refused-day a rows e =
     last-fails true = refl
     last-fails false = refl
 
-    any : (x y z : Bool) {p q r : Bool} → (x || y || z) ≡ true → (x ≡ true → p ≡ false) → (y ≡ true → q ≡ false) → (z ≡ true → r ≡ false)
+    any : (x y z : Bool) {p q r : Bool} → (x || y || z) ≡ true → (x ≡ true → p ≡ false) → (y ≡ true → q ≡ false)
+        → (z ≡ true → r ≡ false)
         → (p && q && r) ≡ false
     any true y z {p} {q} {r} e f g h = rw (f refl) refl
     any false true z {p} {q} {r} e f g h = rw (g refl) (one-fails p r)

@@ -1,4 +1,5 @@
-// Document 02, W-201: "The security's evaluation may take these limits or given ones." A day as it is asked for becomes a day of document 01.
+// Document 02, W-201: "The security's evaluation may take these limits or given ones." A day as it is asked for becomes
+// a day of document 01.
 use paper::AskedDay;
 use paper::AskedTerm;
 use paper::Day;
@@ -9,7 +10,8 @@ use paper::WorkedBand;
 ghost use mathlib.Core.Path.{_≡_};
 ghost use Rattle.paper.specs.Terms.{workedRepo, repoOf, termOf, dayOf};
 
-// The limits of a pair that was worked out. One that was refused has no band: its low is above its high, which the range test (6) refuses.
+// The limits of a pair that was worked out. One that was refused has no band: its low is above its high, which the
+// range test (6) refuses.
 fn worked_repo(w: WorkedBand) -> RepoLimits
     ensures { λ r. ⌜ r ≡ workedRepo w ⌝ }
 {

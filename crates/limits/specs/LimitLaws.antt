@@ -1,4 +1,5 @@
--- Laws of the limits: how far their parts reach, and that the narrower of two limits can be taken after they are rounded. Assumes nothing.
+-- Laws of the limits: how far their parts reach, and that the narrower of two limits can be taken after they are
+-- rounded. Assumes nothing.
 use mathlib.Core.Path.{_≡_, refl, sym, ap, _∙_}
 use mathlib.Core.Bool.{true, false}
 use Prim.Native.Nat.{ℕ, _+_, _-_, _*_, _≤_, _<_}
@@ -40,7 +41,8 @@ farthest-high st Upper s = s .upper-high
 farthest-high st Lower s = s .lower-high
 
 -- the farthest band limit is the range limit at that rate
-pub farthest-limit : (st : Statics) (side : Side) (p : ℕ) → rangeLimit st side p (farthestRate st side) ≡ limitOf st (farthest st side p)
+pub farthest-limit : (st : Statics) (side : Side) (p : ℕ) → rangeLimit st side p (farthestRate st side)
+    ≡ limitOf st (farthest st side p)
 unfolding rangeLimit farthest
 farthest-limit st Upper p = refl
 farthest-limit st Lower p = refl
@@ -51,7 +53,8 @@ farthest-limit st Lower p = refl
 pub away-high : (st : Statics) (s1 c : ℕ) → LimitStatics st → s1 ≤ rateMost → c ≤ movesMost
     → (oneInHundredths + 2 * c * st .shift) * s1 ≤ (oneInHundredths + 2 * movesMost * shiftMost) * rateMost
 away-high st s1 c s r m =
-    let most : oneInHundredths + 2 * c * st .shift ≤ oneInHundredths + 2 * movesMost * shiftMost = omega (arith, mul-le-mul m (s .shift-high)) in
+    let most : oneInHundredths + 2 * c * st .shift ≤ oneInHundredths + 2 * movesMost * shiftMost =
+    omega (arith, mul-le-mul m (s .shift-high)) in
     mul-le-mul most r
 
 pub spread-high : (st : Statics) (side : Side) (s1 c : ℕ) → LimitStatics st → s1 ≤ rateMost → c ≤ movesMost
@@ -68,14 +71,16 @@ unfolding limitOf narrower
 narrower-rounded st Upper x y p q = lesser-rounded (gridOf (st .lot)) x y (grid-range (st .lot) .0) p q
 narrower-rounded st Lower x y p q = greater-rounded (gridOf (st .lot)) x y (grid-range (st .lot) .0) p q
 
--- ---- so a band limit is the narrower of the farthest limit and the monitored one; without monitoring it is the farthest
+-- ---- so a band limit is the narrower of the farthest limit and the monitored one; without monitoring it is the
+-- farthest
 
 farthest-positive : (st : Statics) (side : Side) (p : ℕ) → 0 < farthest st side p .den
 unfolding farthest shifted
 farthest-positive st Upper p = omega arith
 farthest-positive st Lower p = omega arith
 
-monitored-positive : (st : Statics) (side : Side) (p s1 c k : ℕ) (repo : ℤ) → LimitStatics st → 0 < monitored st side p s1 c k repo .den
+monitored-positive : (st : Statics) (side : Side) (p s1 c k : ℕ) (repo : ℤ) → LimitStatics st
+    → 0 < monitored st side p s1 c k repo .den
 unfolding monitored
 monitored-positive st side p s1 c k repo s = omega (arith, s .divisor-low)
 

@@ -1,4 +1,5 @@
--- What a limit is worked out in: the ranges of document 01 that the limit rules ask for. Each follows from a test of the paper. Assumes nothing.
+-- What a limit is worked out in: the ranges of document 01 that the limit rules ask for. Each follows from a test of
+-- the paper. Assumes nothing.
 use mathlib.Core.Path.{_≡_}
 use mathlib.Core.Bool.{true}
 use Prim.Native.Nat.{ℕ, _≤_, _<_}

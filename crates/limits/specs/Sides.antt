@@ -16,7 +16,8 @@ abbrev pub repoOf : Side → Term → ℤ
 repoOf Upper x = x .high
 repoOf Lower x = x .low
 
--- "the upper is the lesser of that and ..; the lower the greater of that and ..": of two limits that are rounded already
+-- "the upper is the lesser of that and ..; the lower the greater of that and ..": of two limits that are rounded
+-- already
 abbrev pub narrowerOf : Side → ℕ → ℕ → ℕ
 narrowerOf Upper x y = min x y
 narrowerOf Lower x y = max x y

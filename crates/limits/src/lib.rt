@@ -114,7 +114,8 @@ fn narrower(side: Side, x: u64, y: u64) -> u64
     }
 }
 
-// Each of the two is rounded and then one is taken: a rounding keeps order, so that this is the one that the paper takes, rounded once.
+// Each of the two is rounded and then one is taken: a rounding keeps order, so that this is the one that the paper
+// takes, rounded once.
 pub fn band_limit(st: Statics, side: Side, p: Price, s1: Rate, c: u64, k: u64, repo: i64) -> u64
     requires { ⌜ validStatics st ≡ true ⌝ }
     requires { ⌜ BandInputs p s1 c k repo ⌝ }

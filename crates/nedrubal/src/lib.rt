@@ -1,6 +1,7 @@
-// What C links: document 01, "What the desk covers", "The C gateway reaches the rate rules and the limit rules with plain numbers". Each function
-// takes its own numbers and then the 22 statics in the order of document 01's table, all signed, of any value, and answers one figure, or minus
-// the refusal number. It only makes the numbers unsigned and hands them on; `gateway` has the calls.
+// What C links: document 01, "What the desk covers", "The C gateway reaches the rate rules and the limit rules with
+// plain numbers". Each function takes its own numbers and then the 22 statics in the order of document 01's table, all
+// signed, of any value, and answers one figure, or minus the refusal number. It only makes the numbers unsigned and
+// hands them on; `gateway` has the calls.
 ghost use mathlib.Core.Path.{_≡_};
 ghost use Rattle.paper.specs.Ranges.{unsigned};
 ghost use Rattle.paper.specs.Gateway.{givenOf, levelCall, rangeCall, bandCall};

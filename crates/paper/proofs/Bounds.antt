@@ -1,4 +1,5 @@
--- Laws of the rate rules' sizes: how far the volatility, the least step and the tentative rate go. Both sides, shares and interest, use them. Assumes nothing.
+-- Laws of the rate rules' sizes: how far the volatility, the least step and the tentative rate go. Both sides, shares
+-- and interest, use them. Assumes nothing.
 use mathlib.Core.Path.{_≡_, ap, sym}
 use mathlib.Core.Logic.{_⊎_, inl, inr}
 use mathlib.Core.Bool.{Bool, true, false, _&&_}
@@ -23,21 +24,29 @@ use Rattle.paper.proofs.Volatility.{Weighing, weight-most}
 -- ---- the volatility
 
 -- a mean, by weights, of squares up to a bound's is at most the bound's
-pub mean-high : (a s r most : ℕ) → a ≤ oneInTenThousandths → s ≤ most → r ≤ most → (oneInTenThousandths - a) * (s * s) + a * (r * r) ≤ oneInTenThousandths * (most * most)
+pub mean-high : (a s r most : ℕ) → a ≤ oneInTenThousandths → s ≤ most → r ≤ most
+    → (oneInTenThousandths - a) * (s * s) + a * (r * r) ≤ oneInTenThousandths * (most * most)
 mean-high a s r most h p q =
     let all : oneInTenThousandths - a + a ≡ oneInTenThousandths = omega arith in
-    omega (arith, ap (λ (z : ℕ). z * (most * most)) all, mul-le-mul-left (oneInTenThousandths - a) (mul-le-mul p p), mul-le-mul-left a (mul-le-mul q q))
+    omega (
+      arith,
+      ap (λ (z : ℕ). z * (most * most)) all,
+      mul-le-mul-left (oneInTenThousandths - a) (mul-le-mul p p),
+      mul-le-mul-left a (mul-le-mul q q),
+    )
 
 -- the root knows no maximum of its own: it is at most the greater of s and r
 pub weighted-high : (a s r most : ℕ) → a ≤ oneInTenThousandths → s ≤ most → r ≤ most → weighted a s r ≤ most
 unfolding weighted
-weighted-high a s r most h p q = root-least oneInTenThousandths ((oneInTenThousandths - a) * (s * s) + a * (r * r)) most (mean-high a s r most h p q)
+weighted-high a s r most h p q =
+    root-least oneInTenThousandths ((oneInTenThousandths - a) * (s * s) + a * (r * r)) most (mean-high a s r most h p q)
 
 pub replacement-high : (q r : ℕ) → oneInHundredths ≤ q → replacement q r ≤ r
 unfolding replacement
 replacement-high q r h = times-least q (oneInHundredths * r) r (omega (arith, mul-le-mul-left r h))
 
-pub volatility-high : (m : Model) (b last r s most : ℕ) → Weighing m → s ≤ most → r ≤ most → volatilityOf m b last r s ≤ most
+pub volatility-high : (m : Model) (b last r s most : ℕ) → Weighing m → s ≤ most → r ≤ most
+    → volatilityOf m b last r s ≤ most
 unfolding volatilityOf
 volatility-high m b last r s most h p q = go (replaces m b last r x)
   where
@@ -102,7 +111,8 @@ after h t old rise fall =
     (pick fall (record { bp = old .bp - h; age = 0 }) (record { bp = old .bp; age = min ageMost (old .age + 1) }))
 
 -- it is at most what it was or t
-pub tentative-held : (h wait t : ℕ) (old : Tentative) (most : ℕ) → t ≤ most → old .bp ≤ most → tentativeAfter h wait t old .bp ≤ most
+pub tentative-held : (h wait t : ℕ) (old : Tentative) (most : ℕ) → t ≤ most → old .bp ≤ most
+    → tentativeAfter h wait t old .bp ≤ most
 unfolding tentativeAfter
 tentative-held h wait t old most p q = go (leb (old .bp + h) t) (leb (t + h) (old .bp) && leb wait (old .age + 1))
   where

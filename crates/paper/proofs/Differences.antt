@@ -43,7 +43,8 @@ difference-times m a b = go (le-or-lt b a)
     go (inl h) =
         let parts : m * a ≡ m * (b + (a - b)) = ap (λ (z : ℕ). m * z) (omega arith) in
         let same : m * (a - b) ≡ m * a - m * b = omega arith in
-        ap (λ (z : ℤ). pos m *ℤ z) (difference-up a b h) ∙ ap pos same ∙ sym (difference-up (m * a) (m * b) (omega arith))
+        ap (λ (z : ℤ). pos m *ℤ z) (difference-up a b h) ∙ ap pos same
+        ∙ sym (difference-up (m * a) (m * b) (omega arith))
     go (inr h) =
         let parts : m * b ≡ m * (a + suc (b - suc a)) = ap (λ (z : ℕ). m * z) (omega arith) in
         ap (λ (z : ℤ). pos m *ℤ z) (difference-down a b h)
@@ -54,15 +55,20 @@ difference-times m a b = go (le-or-lt b a)
 pub difference-order : (a b c d : ℕ) → ltZ (subℕ a b) (subℕ c d) ≡ ltb (a + d) (c + b)
 difference-order a b c d = go (le-or-lt b a) (le-or-lt d c) (le-or-lt (c + b) (a + d))
   where
-    go : (b ≤ a) ⊎ (a < b) → (d ≤ c) ⊎ (c < d) → (c + b ≤ a + d) ⊎ (a + d < c + b) → ltZ (subℕ a b) (subℕ c d) ≡ ltb (a + d) (c + b)
-    go (inl h) (inl k) (inl l) = rw (le-ltb a b h, le-ltb c d k, le-ltb (a + d) (c + b) l) (le-ltb (a - b) (c - d) (omega arith))
-    go (inl h) (inl k) (inr l) = rw (le-ltb a b h, le-ltb c d k, lt-ltb (a + d) (c + b) l) (lt-ltb (a - b) (c - d) (omega arith))
+    go : (b ≤ a) ⊎ (a < b) → (d ≤ c) ⊎ (c < d) → (c + b ≤ a + d) ⊎ (a + d < c + b)
+        → ltZ (subℕ a b) (subℕ c d) ≡ ltb (a + d) (c + b)
+    go (inl h) (inl k) (inl l) =
+        rw (le-ltb a b h, le-ltb c d k, le-ltb (a + d) (c + b) l) (le-ltb (a - b) (c - d) (omega arith))
+    go (inl h) (inl k) (inr l) =
+        rw (le-ltb a b h, le-ltb c d k, lt-ltb (a + d) (c + b) l) (lt-ltb (a - b) (c - d) (omega arith))
     go (inl h) (inr k) (inl l) = rw (le-ltb a b h, lt-ltb c d k, le-ltb (a + d) (c + b) l)
     go (inl h) (inr k) (inr l) = absurd (omega arith)
     go (inr h) (inl k) (inl l) = absurd (omega arith)
     go (inr h) (inl k) (inr l) = rw (lt-ltb a b h, le-ltb c d k, lt-ltb (a + d) (c + b) l)
-    go (inr h) (inr k) (inl l) = rw (lt-ltb a b h, lt-ltb c d k, le-ltb (a + d) (c + b) l) (le-ltb (d - suc c) (b - suc a) (omega arith))
-    go (inr h) (inr k) (inr l) = rw (lt-ltb a b h, lt-ltb c d k, lt-ltb (a + d) (c + b) l) (lt-ltb (d - suc c) (b - suc a) (omega arith))
+    go (inr h) (inr k) (inl l) =
+        rw (lt-ltb a b h, lt-ltb c d k, le-ltb (a + d) (c + b) l) (le-ltb (d - suc c) (b - suc a) (omega arith))
+    go (inr h) (inr k) (inr l) =
+        rw (lt-ltb a b h, lt-ltb c d k, lt-ltb (a + d) (c + b) l) (lt-ltb (d - suc c) (b - suc a) (omega arith))
 
 -- m·(a - b) < w·(c - d) is m·a + w·d < m·b + w·c
 pub share-order : (m w a b c d : ℕ) → ltZ (pos m *ℤ subℕ a b) (pos w *ℤ subℕ c d) ≡ ltb (m * a + w * d) (m * b + w * c)
@@ -89,12 +95,15 @@ difference-plus a b c d = go (le-or-lt b a) (le-or-lt d c)
         let same : a - b + (c - d) ≡ a + c - (b + d) = omega arith in
         rw (difference-up a b h, difference-up c d k) (ap pos same ∙ sym (difference-up (a + c) (b + d) (omega arith)))
     go (inl h) (inr k) =
-        rw (difference-up a b h, difference-down c d k) (difference-same (a - b) (suc (d - suc c)) (a + c) (b + d) (omega arith))
+        rw (difference-up a b h, difference-down c d k)
+        (difference-same (a - b) (suc (d - suc c)) (a + c) (b + d) (omega arith))
     go (inr h) (inl k) =
-        rw (difference-down a b h, difference-up c d k) (difference-same (c - d) (suc (b - suc a)) (a + c) (b + d) (omega arith))
+        rw (difference-down a b h, difference-up c d k)
+        (difference-same (c - d) (suc (b - suc a)) (a + c) (b + d) (omega arith))
     go (inr h) (inr k) =
         let same : suc (b - suc a + (d - suc c)) ≡ b + d - suc (a + c) = omega arith in
-        rw (difference-down a b h, difference-down c d k) (ap negsuc same ∙ sym (difference-down (a + c) (b + d) (omega arith)))
+        rw (difference-down a b h, difference-down c d k) (ap negsuc same
+        ∙ sym (difference-down (a + c) (b + d) (omega arith)))
 
 -- (a - b) - (c - d) is (a + d) - (b + c)
 pub difference-minus : (a b c d : ℕ) → subℕ a b -ℤ subℕ c d ≡ subℕ (a + d) (b + c)

@@ -1,4 +1,5 @@
--- One step of the carried volatility against the exact one, over whole numbers alone and any weights b and a. Assumes nothing.
+-- One step of the carried volatility against the exact one, over whole numbers alone and any weights b and a. Assumes
+-- nothing.
 use mathlib.Core.Path.{_≡_, refl}
 use mathlib.Core.Logic.{_⊎_, inl, inr}
 use Prim.Native.Nat.{ℕ, zero, suc, _+_, _-_, _*_, _≤_, _<_}
@@ -18,7 +19,8 @@ side-le x y h = go (le-or-lt x y)
     go (inr l) = absurd (let m : suc y * suc y ≤ x * x = mul-le-mul l l in omega arith)
 
 -- Cauchy, for two weights b and a
-cauchy-up : (b a x k : ℕ) → (b * x + a * (x + k)) * (b * x + a * (x + k)) ≤ (b + a) * (b * (x * x) + a * ((x + k) * (x + k)))
+cauchy-up : (b a x k : ℕ)
+    → (b * x + a * (x + k)) * (b * x + a * (x + k)) ≤ (b + a) * (b * (x * x) + a * ((x + k) * (x + k)))
 cauchy-up b a x k = omega arith
 
 cauchy : (b a x y : ℕ) → (b * x + a * y) * (b * x + a * y) ≤ (b + a) * (b * (x * x) + a * (y * y))
@@ -30,7 +32,8 @@ cauchy b a x y = go (le-or-lt x y)
         rw e at (cauchy-up b a x (y - x))
     go (inr l) =
         let e : y + (x - y) ≡ x = omega arith in
-        let c : (a * y + b * x) * (a * y + b * x) ≤ (a + b) * (a * (y * y) + b * (x * x)) = rw e at (cauchy-up a b y (x - y)) in
+        let c : (a * y + b * x) * (a * y + b * x) ≤ (a + b) * (a * (y * y) + b * (x * x)) =
+        rw e at (cauchy-up a b y (x - y)) in
         omega arith
 
 -- at the start the carried figure is exact
@@ -49,16 +52,20 @@ near-below n s x h = go (h .close)
     go (inl l) = let e : s - (n + 1) ≡ 0 = omega arith in rw e (omega arith)
     go (inr l) = let e : s - (n + 1) ≡ s - n - 1 = omega arith in rw e (omega arith)
 
--- A mean of two bounds, over a common denominator: b and a are weights, S and Q squares above N/D and E/K, X one above their mean
-mean-above : (b a w S Q X N D E K : ℕ) → N ≤ S * D → E ≤ Q * K → b * S + a * Q ≤ w * X → b * N * K + a * E * D ≤ X * (w * D * K)
+-- A mean of two bounds, over a common denominator: b and a are weights, S and Q squares above N/D and E/K, X one above
+-- their mean
+mean-above : (b a w S Q X N D E K : ℕ) → N ≤ S * D → E ≤ Q * K → b * S + a * Q ≤ w * X
+    → b * N * K + a * E * D ≤ X * (w * D * K)
 mean-above b a w S Q X N D E K p q m =
     omega (arith, mul-le-mul-left (b * K) p, mul-le-mul-left (a * D) q, mul-le-mul-left (D * K) m)
 
 -- The same from below; the common denominator is taken away again
-mean-below : (b a w S Q U N D E K : ℕ) → 0 < D → 0 < K → S * D ≤ N → Q * K ≤ E → b * N * K + a * E * D ≤ U * (w * D * K) → b * S + a * Q ≤ w * U
+mean-below : (b a w S Q U N D E K : ℕ) → 0 < D → 0 < K → S * D ≤ N → Q * K ≤ E
+    → b * N * K + a * E * D ≤ U * (w * D * K) → b * S + a * Q ≤ w * U
 mean-below b a w S Q U N D E K d k p q m =
     le-of-mul-le-mul-left
-    (let t : (D * K) * (b * S + a * Q) ≤ (D * K) * (w * U) = omega (arith, mul-le-mul-left (b * K) p, mul-le-mul-left (a * D) q) in t)
+    (let t : (D * K) * (b * S + a * Q) ≤ (D * K) * (w * U) =
+    omega (arith, mul-le-mul-left (b * K) p, mul-le-mul-left (a * D) q) in t)
     (mul-pos d k)
 
 -- Both sides of a mean shifted by c: the mean's root moves by no more than c
@@ -67,7 +74,13 @@ mean-shift : (b a c x y u s r : ℕ) → s ≤ x + c → r ≤ y + c → b * (x 
 mean-shift b a c x y u s r hs hr m =
     let l : b * x + a * y ≤ (b + a) * u =
     side-le (b * x + a * y) ((b + a) * u) (le-trans (cauchy b a x y) (omega (arith, mul-le-mul-left (b + a) m))) in
-    omega (arith, mul-le-mul-left b (mul-le-mul hs hs), mul-le-mul-left a (mul-le-mul hr hr), mul-le-mul-left (c + c) l, m)
+    omega (
+      arith,
+      mul-le-mul-left b (mul-le-mul hs hs),
+      mul-le-mul-left a (mul-le-mul hr hr),
+      mul-le-mul-left (c + c) l,
+      m,
+    )
 
 square-out : (x y : ℕ) → x * x * (y * y) ≤ x * y * (x * y)
 square-out x y = omega arith
@@ -82,7 +95,8 @@ module _ (b a n s r x : ℕ) (old : Quotient) (move : Quotient) (near : NearExac
       < b * old .num * (move .den * move .den) + a * (move .num * move .num) * old .den)
   weight-close =
       go (le-or-lt x (n + 1))
-      (le-or-lt (b * old .num * (move .den * move .den) + a * (move .num * move .num) * old .den) (u * u * ((b + a) * old .den * (move .den * move .den))))
+      (le-or-lt (b * old .num * (move .den * move .den) + a * (move .num * move .num) * old .den)
+      (u * u * ((b + a) * old .den * (move .den * move .den))))
     where
       u : ℕ
       u = x - (n + 1) - 1
@@ -98,7 +112,8 @@ module _ (b a n s r x : ℕ) (old : Quotient) (move : Quotient) (near : NearExac
       go (inr l) (inr e) = inr e
       go (inr l) (inl e) =
           let m : b * ((s - (n + 1)) * (s - (n + 1))) + a * ((r - 1) * (r - 1)) ≤ (b + a) * (u * u) =
-          mean-below b a (b + a) ((s - (n + 1)) * (s - (n + 1))) ((r - 1) * (r - 1)) (u * u) (old .num) (old .den) (move .num * move .num) (move .den * move .den)
+          mean-below b a (b + a) ((s - (n + 1)) * (s - (n + 1))) ((r - 1) * (r - 1)) (u * u) (old .num) (old .den)
+          (move .num * move .num) (move .den * move .den)
           (near .positive) (mul-pos (rounded .positive) (rounded .positive)) (near-below n s old near)
           (le-trans (square-out (r - 1) (move .den))
           (mul-le-mul (rounded-below r move rounded) (rounded-below r move rounded))) e in
@@ -114,15 +129,18 @@ module _ (b a n s r x : ℕ) (old : Quotient) (move : Quotient) (near : NearExac
   weight-near =
       record {
         above =
-            mean-above b a (b + a) (s * s) (r * r) (x * x) (old .num) (old .den) (move .num * move .num) (move .den * move .den) (near .above)
+            mean-above b a (b + a) (s * s) (r * r) (x * x) (old .num) (old .den) (move .num * move .num)
+            (move .den * move .den) (near .above)
             (le-trans (mul-le-mul (rounded .covers) (rounded .covers)) (omega arith)) covers;
         close = weight-close;
         exact = λ z. absurd (omega arith);
         positive = mul-pos (mul-pos w (near .positive)) (mul-pos (rounded .positive) (rounded .positive));
       }
 
--- The replacement step: x is the least figure with x·q ≥ k·r, and the exact one is k·A/(B·q), squared; a unit of r is at most a unit of x
-pub replace-near : (k n q r x : ℕ) (move : Quotient) → RoundedUp r move → 0 < q → k ≤ q → k * r ≤ x * q → ((z : ℕ) → k * r ≤ z * q → x ≤ z)
+-- The replacement step: x is the least figure with x·q ≥ k·r, and the exact one is k·A/(B·q), squared; a unit of r is
+-- at most a unit of x
+pub replace-near : (k n q r x : ℕ) (move : Quotient) → RoundedUp r move → 0 < q → k ≤ q → k * r ≤ x * q
+    → ((z : ℕ) → k * r ≤ z * q → x ≤ z)
     → NearExact (n + 1) x (record { num = k * move .num * (k * move .num); den = move .den * q * (move .den * q) })
 replace-near k n q r x move rounded hq kq covers least =
     record {
@@ -154,7 +172,8 @@ replace-near k n q r x move rounded hq kq covers least =
         go (inl l) e = inl l
         go (inr l) (inr e) = inr e
         go (inr l) (inl e) =
-            let d : k * move .num ≤ u * (move .den * q) = side-le (k * move .num) (u * (move .den * q)) (le-trans e (omega arith)) in
+            let d : k * move .num ≤ u * (move .den * q) =
+            side-le (k * move .num) (u * (move .den * q)) (le-trans e (omega arith)) in
             let f : move .den * (k * (r - 1)) ≤ move .den * (u * q) =
             omega (arith, mul-le-mul-left k (rounded-below r move rounded)) in
             let g : k * (r - 1) ≤ u * q = le-of-mul-le-mul-left f (rounded .positive) in

@@ -1,4 +1,5 @@
--- What the figures of a key maturity are, in W-201's words: each the least that is asked for, with no maximum. Assumes nothing.
+-- What the figures of a key maturity are, in W-201's words: each the least that is asked for, with no maximum. Assumes
+-- nothing.
 use mathlib.Core.Path.{_≡_, refl}
 use mathlib.Core.Bool.{Bool, true, false}
 use Prim.Native.Nat.{ℕ, _+_, _*_, _%_, _≤_, max}
@@ -15,7 +16,8 @@ use Rattle.paper.specs.Interest.{repoVolatility, repoTentativeRate, repo
 use Rattle.paper.proofs.Search.{step-is}
 
 -- t is the least multiple of h with 100·t ≥ q·σ
-pub repo-tentative-rate-is : (i : Interest) (k : Maturity) → 1 ≤ i .h → IsLeastStep (i .h) oneInHundredths (i .model .q * repoVolatility i k) (repoTentativeRate i k)
+pub repo-tentative-rate-is : (i : Interest) (k : Maturity) → 1 ≤ i .h
+    → IsLeastStep (i .h) oneInHundredths (i .model .q * repoVolatility i k) (repoTentativeRate i k)
 unfolding repoTentativeRate
 repo-tentative-rate-is i k h = step-is (i .h) oneInHundredths (i .model .q * repoVolatility i k) h (omega arith)
 

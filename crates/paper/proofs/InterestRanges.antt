@@ -1,4 +1,5 @@
--- The interest side's figures stay in range: those of an accepted evening are in the ranges of the next (W-201). Assumes nothing.
+-- The interest side's figures stay in range: those of an accepted evening are in the ranges of the next (W-201).
+-- Assumes nothing.
 use mathlib.Core.Path.{_≡_, refl}
 use mathlib.Core.Bool.{Bool, true, false, _&&_}
 use mathlib.Core.List.{List, [], _∷_, map}
@@ -29,50 +30,63 @@ estimateMost = 211977
 -- ---- each figure
 
 -- two rates in range are at most 19,998 apart
-pub change-high : (k : Maturity) → natAbs (k .r) ≤ natAbs repoMost → natAbs (k .r1) ≤ natAbs repoMost → natAbs (k .r2) ≤ natAbs repoMost
+pub change-high : (k : Maturity) → natAbs (k .r) ≤ natAbs repoMost → natAbs (k .r1) ≤ natAbs repoMost
+    → natAbs (k .r2) ≤ natAbs repoMost
     → changeOf k ≤ repoVolatilityMost
 unfolding changeOf apartZ
 change-high k r r1 r2 = omega (arith, minus-size (k .r) (k .r1), minus-size (k .r) (k .r2))
 
-pub repo-volatility-high : (i : Interest) (k : Maturity) → Weighing (i .model) → k .volatility ≤ repoVolatilityMost → changeOf k ≤ repoVolatilityMost
+pub repo-volatility-high : (i : Interest) (k : Maturity) → Weighing (i .model) → k .volatility ≤ repoVolatilityMost
+    → changeOf k ≤ repoVolatilityMost
     → repoVolatility i k ≤ repoVolatilityMost
 unfolding repoVolatility
 repo-volatility-high i k w s r =
     volatility-high (i .model) (i .b) (k .tentative .bp) (changeOf k) (k .volatility) repoVolatilityMost w s r
 
-pub repo-tentative-rate-high : (i : Interest) (k : Maturity) → 0 < i .h → i .h ≤ stepMost → i .model .q ≤ multiplierMost → repoVolatility i k ≤ repoVolatilityMost
+pub repo-tentative-rate-high : (i : Interest) (k : Maturity) → 0 < i .h → i .h ≤ stepMost
+    → i .model .q ≤ multiplierMost → repoVolatility i k ≤ repoVolatilityMost
     → repoTentativeRate i k ≤ repoTentativeMost
 unfolding repoTentativeRate
 repo-tentative-rate-high i k p h q s =
     omega (arith, step-short (i .h) oneInHundredths (i .model .q * repoVolatility i k) p (omega arith), mul-le-mul q s)
 
-pub repo-tentative-high : (i : Interest) (k : Maturity) → repoTentativeRate i k ≤ repoTentativeMost → k .tentative .bp ≤ repoTentativeMost
+pub repo-tentative-high : (i : Interest) (k : Maturity) → repoTentativeRate i k ≤ repoTentativeMost
+    → k .tentative .bp ≤ repoTentativeMost
     → repoTentative i k .bp ≤ repoTentativeMost
 unfolding repoTentative
-repo-tentative-high i k t old = tentative-held (i .h) (i .wait) (repoTentativeRate i k) (k .tentative) repoTentativeMost t old
+repo-tentative-high i k t old =
+    tentative-held (i .h) (i .wait) (repoTentativeRate i k) (k .tentative) repoTentativeMost t old
 
 pub repo-age-high : (i : Interest) (k : Maturity) → repoTentative i k .age ≤ ageMost
 unfolding repoTentative
 repo-age-high i k = age-held (i .h) (i .wait) (repoTentativeRate i k) (k .tentative)
 
 -- a minimum of either sign is no greater than the greatest tentative rate with the greatest liquidity
-pub estimate-high : (i : Interest) (k : Maturity) (minimum : ℤ) → 0 < i .h → i .h ≤ stepMost → repoTentative i k .bp ≤ repoTentativeMost
+pub estimate-high : (i : Interest) (k : Maturity) (minimum : ℤ) → 0 < i .h → i .h ≤ stepMost
+    → repoTentative i k .bp ≤ repoTentativeMost
     → i .liq ≤ minimumMost → natAbs minimum ≤ repoTentativeMost + minimumMost → estimate i k minimum ≤ estimateMost
 unfolding estimate
 estimate-high i k minimum p h t liq m =
-    omega (arith, step-short (i .h) 1 (max (repoTentative i k .bp + i .liq) (atLeastZero minimum)) p (omega arith), size minimum)
+    omega (
+      arith,
+      step-short (i .h) 1 (max (repoTentative i k .bp + i .liq) (atLeastZero minimum)) p (omega arith),
+      size minimum,
+    )
   where
     size : (z : ℤ) → atLeastZero z ≤ natAbs z
     size (pos n) = omega arith
     size (negsuc n) = omega arith
 
-pub upward-high : (i : Interest) (k : Maturity) → 0 < i .h → i .h ≤ stepMost → repoTentative i k .bp ≤ repoTentativeMost → i .liq ≤ minimumMost
+pub upward-high : (i : Interest) (k : Maturity) → 0 < i .h → i .h ≤ stepMost
+    → repoTentative i k .bp ≤ repoTentativeMost → i .liq ≤ minimumMost
     → i .mm ≤ minimumMost → upward i k ≤ estimateMost
 unfolding upward
 upward-high i k p h t liq m = estimate-high i k (pos (i .mm)) p h t liq (omega arith)
 
-pub downward-high : (i : Interest) (k : Maturity) → 0 < i .h → i .h ≤ stepMost → repoTentative i k .bp ≤ repoTentativeMost → i .liq ≤ minimumMost
-    → i .sec ≤ minimumMost → natAbs (k .index) ≤ natAbs repoMost → natAbs (k .r) ≤ natAbs repoMost → downward i k ≤ estimateMost
+pub downward-high : (i : Interest) (k : Maturity) → 0 < i .h → i .h ≤ stepMost
+    → repoTentative i k .bp ≤ repoTentativeMost → i .liq ≤ minimumMost
+    → i .sec ≤ minimumMost → natAbs (k .index) ≤ natAbs repoMost → natAbs (k .r) ≤ natAbs repoMost
+    → downward i k ≤ estimateMost
 unfolding downward
 downward-high i k p h t liq m x r =
     estimate-high i k ((k .index -ℤ k .r) +ℤ pos (i .sec)) p h t liq
@@ -195,7 +209,8 @@ module _ (i : Interest) (k : Maturity) (g : InterestRange i) (h : KeyRange k) wh
       }
 
 -- of eight numbers in range
-pub accepted-held : (i : Interest) (k : LentKey) → validInterest i ≡ true → validKey k ≡ true → FiguresHeld (maturityFigures i (maturityOf k))
+pub accepted-held : (i : Interest) (k : LentKey) → validInterest i ≡ true → validKey k ≡ true
+    → FiguresHeld (maturityFigures i (maturityOf k))
 accepted-held i k v w = figures-held i (maturityOf k) (interest-range i v) (key-range k w)
 
 -- of every key maturity of an evening, and of the zeros past the last
@@ -204,9 +219,18 @@ pub all-held : (i : Interest) (numbers : List ℤ) → validInterest i ≡ true 
 unfolding validKeys maturitiesOf every
 all-held i numbers v w n = each (keysOf numbers) (and-right (wholeKeys numbers) (every validKey (keysOf numbers)) w) n
   where
-    each : (ks : List LentKey) → every validKey ks ≡ true → (n : ℕ) → FiguresHeld (getD (map (maturityFigures i) (map maturityOf ks)) n noFigures)
+    each : (ks : List LentKey) → every validKey ks ≡ true → (n : ℕ)
+        → FiguresHeld (getD (map (maturityFigures i) (map maturityOf ks)) n noFigures)
     each [] e n =
-        record { change = omega arith; volatility = omega arith; tentative = omega arith; age = omega arith; up = omega arith; down = omega arith }
+        record {
+          change = omega arith;
+          volatility = omega arith;
+          tentative = omega arith;
+          age = omega arith;
+          up =
+              omega arith;
+          down = omega arith;
+        }
     each (k ∷ ks) e zero = accepted-held i k v (and-left (validKey k) (every validKey ks) e)
     each (k ∷ ks) e (suc n) = each ks (and-right (validKey k) (every validKey ks) e) n
 
@@ -217,7 +241,8 @@ unfolding validKey keyGiven
 next-valid i k next v w n =
     let held : FiguresHeld (maturityFigures i (maturityOf k)) = accepted-held i k v w in
     let given : rates ≡ true = search (n, and-left, and-right) depth 40 in
-    and-both _ _ (and-both _ _ (and-both rates _ given (natural-within _ _ (held .volatility))) (natural-within _ _ (held .tentative)))
+    and-both _ _ (and-both _ _ (and-both rates _ given (natural-within _ _ (held .volatility)))
+    (natural-within _ _ (held .tentative)))
     (natural-within _ _ (held .age))
   where
     -- what the next evening gives of its own

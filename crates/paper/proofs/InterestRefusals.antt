@@ -1,4 +1,5 @@
--- The numbers of an interest call (W-201): each is given exactly when its condition holds, 6 before 14, and a refusal has every figure 0. Assumes nothing.
+-- The numbers of an interest call (W-201): each is given exactly when its condition holds, 6 before 14, and a refusal
+-- has every figure 0. Assumes nothing.
 use mathlib.Core.Path.{_≡_, refl, sym, _∙_, ap}
 use mathlib.Core.Bool.{Bool, true, false, not, _&&_}
 use mathlib.Core.List.{List}
@@ -29,11 +30,13 @@ module _ (i : Interest) (numbers : List ℤ) where
   unfolding interestAnswer acceptedInterest refusedInterest
   verdict-first = go (firstOf (interestChecks i numbers)) (isDone (firstOf (interestChecks i numbers))) refl
     where
-      go : (v : Verdict) (b : Bool) → isDone v ≡ b → pick b (acceptedInterest i (maturitiesOf numbers)) (refusedInterest v) .pair .verdict ≡ v
+      go : (v : Verdict) (b : Bool) → isDone v ≡ b
+          → pick b (acceptedInterest i (maturitiesOf numbers)) (refusedInterest v) .pair .verdict ≡ v
       go v true e = sym (done-is v e)
       go v false e = refl
 
-  first-at : (v : Verdict) → isDone v ≡ false → interestAnswer i numbers .pair .verdict ≡ v → FirstAt v (interestChecks i numbers)
+  first-at : (v : Verdict) → isDone v ≡ false → interestAnswer i numbers .pair .verdict ≡ v
+      → FirstAt v (interestChecks i numbers)
   first-at v n e = first-is (interestChecks i numbers) v n (sym verdict-first ∙ e)
 
   at-first : (v : Verdict) → FirstAt v (interestChecks i numbers) → interestAnswer i numbers .pair .verdict ≡ v
@@ -52,7 +55,8 @@ module _ (i : Interest) (numbers : List ℤ) where
       only (later p (here w q)) = absurd (differ (sym w))
 
   -- 14, after 6
-  pub not-ascending : Exactly (interestAnswer i numbers .pair .verdict ≡ NotAscending) ((inRange i numbers ≡ true) × (inOrder i numbers ≡ false))
+  pub not-ascending : Exactly (interestAnswer i numbers .pair .verdict ≡ NotAscending)
+      ((inRange i numbers ≡ true) × (inOrder i numbers ≡ false))
   unfolding interestChecks isDone
   not-ascending = (
     λ e. only (first-at NotAscending refl e),
@@ -64,7 +68,8 @@ module _ (i : Interest) (numbers : List ℤ) where
       only (later p (here w q)) = (not-false (inRange i numbers) p, not-true (inOrder i numbers) q)
 
   -- 0, otherwise
-  pub accepted : Exactly (interestAnswer i numbers .pair .verdict ≡ Done) ((inRange i numbers ≡ true) × (inOrder i numbers ≡ true))
+  pub accepted : Exactly (interestAnswer i numbers .pair .verdict ≡ Done)
+      ((inRange i numbers ≡ true) × (inOrder i numbers ≡ true))
   unfolding interestChecks isDone refusals every
   accepted = (
     λ e. only (done-none (interestChecks i numbers) refl (ap isDone (sym verdict-first ∙ e))),
@@ -79,9 +84,11 @@ module _ (i : Interest) (numbers : List ℤ) where
       → interestAnswer i numbers ≡ refusedInterest (interestAnswer i numbers .pair .verdict)
   unfolding interestAnswer
   refused-zero e =
-      pick-false (isDone (firstOf (interestChecks i numbers))) _ _ (ap isDone (sym verdict-first) ∙ e) ∙ ap refusedInterest (sym verdict-first)
+      pick-false (isDone (firstOf (interestChecks i numbers))) _ _ (ap isDone (sym verdict-first) ∙ e)
+      ∙ ap refusedInterest (sym verdict-first)
 
   -- and 0 comes with the figures
-  pub accepted-figures : interestAnswer i numbers .pair .verdict ≡ Done → interestAnswer i numbers ≡ acceptedInterest i (maturitiesOf numbers)
+  pub accepted-figures : interestAnswer i numbers .pair .verdict ≡ Done
+      → interestAnswer i numbers ≡ acceptedInterest i (maturitiesOf numbers)
   unfolding interestAnswer isDone
   accepted-figures e = pick-true (isDone (firstOf (interestChecks i numbers))) _ _ (ap isDone (sym verdict-first ∙ e))

@@ -1,5 +1,5 @@
--- Demand 2's rate: the exact comparison is the inequality of real numbers, and the rate of a level is the least multiple of the step that covers the
--- requirement and the minimum, held at the maximum. Assumes nothing.
+-- Demand 2's rate: the exact comparison is the inequality of real numbers, and the rate of a level is the least
+-- multiple of the step that covers the requirement and the minimum, held at the maximum. Assumes nothing.
 use mathlib.Core.Path.{_≡_, refl, sym, _∙_, ap}
 use mathlib.Core.Logic.{_⊎_, inl, inr}
 use mathlib.Core.Bool.{Bool, true, false, _&&_}
@@ -25,11 +25,13 @@ use Rattle.paper.proofs.Roots.{roots-covered, Floor, floor-root, short-
 
 -- A ≥ 0 and A² ≥ cross, with A = have - need
 pub signed-test : (have need cross : ℕ)
-    → (leZ (pos 0) (subℕ have need) && leZ (pos cross) (subℕ have need *ℤ subℕ have need)) ≡ (leb need have && leb cross ((have - need) * (have - need)))
+    → (leZ (pos 0) (subℕ have need) && leZ (pos cross) (subℕ have need *ℤ subℕ have need))
+    ≡ (leb need have && leb cross ((have - need) * (have - need)))
 signed-test have need cross = go (le-or-lt need have)
   where
     go : (need ≤ have) ⊎ (have < need)
-        → (leZ (pos 0) (subℕ have need) && leZ (pos cross) (subℕ have need *ℤ subℕ have need)) ≡ (leb need have && leb cross ((have - need) * (have - need)))
+        → (leZ (pos 0) (subℕ have need) && leZ (pos cross) (subℕ have need *ℤ subℕ have need))
+        ≡ (leb need have && leb cross ((have - need) * (have - need)))
     go (inl h) = rw (le-ltb have need h, le-leb need have h, leb·zero)
     go (inr h) = rw (lt-ltb have need h, lt-leb need have h)
 
@@ -48,7 +50,8 @@ unfoldable pub rootsWithin : ℕ → ℕ → ℕ → Bool
 rootsWithin have x y = leb (x + y) have && leb (4 * x * y) ((have - (x + y)) * (have - (x + y)))
 
 pub meets-roots : (rh1 rh liq m tentative v : ℕ)
-    → meetsRequirement rh1 rh liq m tentative v ≡ rootsWithin (has rh1 v) (volatileNeed rh1 rh m tentative) (liquidNeed rh1 rh liq)
+    → meetsRequirement rh1 rh liq m tentative v
+    ≡ rootsWithin (has rh1 v) (volatileNeed rh1 rh m tentative) (liquidNeed rh1 rh liq)
 unfolding meetsRequirement rootsWithin
 meets-roots rh1 rh liq m tentative v =
     let x : ℕ = volatileNeed rh1 rh m tentative in
@@ -57,7 +60,8 @@ meets-roots rh1 rh liq m tentative v =
     signed-test (has rh1 v) (x + y) (4 * (rh * rh) * (tentative * tentative) * (liq * liq) * rh1 * (rh1 + m))
     ∙ ap (λ (z : ℕ). leb (x + y) (has rh1 v) && leb z ((has rh1 v - (x + y)) * (has rh1 v - (x + y)))) cross
 
-pub within-covers : (have x y : ℕ) → rootsWithin have x y ≡ true → (x + y ≤ have) × (4 * x * y ≤ (have - (x + y)) * (have - (x + y)))
+pub within-covers : (have x y : ℕ) → rootsWithin have x y ≡ true
+    → (x + y ≤ have) × (4 * x * y ≤ (have - (x + y)) * (have - (x + y)))
 unfolding rootsWithin
 within-covers have x y e =
     (leb-true _ _ (and-left (leb (x + y) have) _ e), leb-true _ _ (and-right (leb (x + y) have) _ e))
@@ -70,10 +74,12 @@ within-more have have′ x y l e =
     let d : have - (x + y) ≤ have′ - (x + y) = omega arith in
     and-both _ _ (le-leb (x + y) have′ (omega (arith, p .0))) (le-leb (4 * x * y) _ (le-trans (p .1) (mul-le-mul d d)))
 
-pub meets-more : (rh1 rh liq m tentative v v′ : ℕ) → v ≤ v′ → meetsRequirement rh1 rh liq m tentative v ≡ true → meetsRequirement rh1 rh liq m tentative v′ ≡ true
+pub meets-more : (rh1 rh liq m tentative v v′ : ℕ) → v ≤ v′ → meetsRequirement rh1 rh liq m tentative v ≡ true
+    → meetsRequirement rh1 rh liq m tentative v′ ≡ true
 meets-more rh1 rh liq m tentative v v′ l e =
     meets-roots rh1 rh liq m tentative v′
-    ∙ within-more (has rh1 v) (has rh1 v′) _ _ (mul-le-mul-right (rh1 * rh1) (mul-le-mul l l)) (sym (meets-roots rh1 rh liq m tentative v) ∙ e)
+    ∙ within-more (has rh1 v) (has rh1 v′) _ _ (mul-le-mul-right (rh1 * rh1) (mul-le-mul l l))
+    (sym (meets-roots rh1 rh liq m tentative v) ∙ e)
 
 pub covers-more : (st : Statics) (level m tentative : ℕ) → Mono (covers st level m tentative)
 unfolding covers
@@ -91,7 +97,8 @@ module _ (rh1 rh liq m tentative v : ℕ) (days : 0 < rh1) where
   Y : ℕ
   Y = liquidNeed rh1 rh liq
 
-  pub meets-real : meetsRequirement rh1 rh liq m tentative v ≡ true → AtLeastRoots v (volatilePart rh1 rh m tentative) (liquidPart rh1 rh liq)
+  pub meets-real : meetsRequirement rh1 rh liq m tentative v ≡ true
+      → AtLeastRoots v (volatilePart rh1 rh m tentative) (liquidPart rh1 rh liq)
   unfolding W X Y
   meets-real e =
       let p = within-covers (has rh1 v) X Y (sym (meets-roots rh1 rh liq m tentative v) ∙ e) in
@@ -103,21 +110,27 @@ module _ (rh1 rh liq m tentative v : ℕ) (days : 0 < rh1) where
           let sum : W * W ≡ X + Y + (has rh1 v - (X + Y)) = omega (arith, p .0) in
           let first : a * rh1 * (a * rh1) ≤ X * (d * d) = omega arith in
           let second : b * rh1 * (b * rh1) ≤ Y * (d * d) = omega (arith, mul-le-mul-left rh1 y) in
-          let total : a * rh1 + b * rh1 ≤ W * d = roots-covered W X Y (has rh1 v - (X + Y)) (a * rh1) (b * rh1) d sum (p .1) first second in
+          let total : a * rh1 + b * rh1 ≤ W * d =
+          roots-covered W X Y (has rh1 v - (X + Y)) (a * rh1) (b * rh1) d sum (p .1) first second in
           let scaled : rh1 * (a + b) ≤ rh1 * (v * d) = omega arith in
           le-of-mul-le-mul-left scaled days
 
   -- two whole roots at a scale d are fractions over rh_1·d, so their sum is covered
-  scaled : AtLeastRoots v (volatilePart rh1 rh m tentative) (liquidPart rh1 rh liq) → (d a b : ℕ) → 0 < d → Floor (X * (d * d)) a → Floor (Y * (d * d)) b → a + b ≤ W * d
+  scaled : AtLeastRoots v (volatilePart rh1 rh m tentative) (liquidPart rh1 rh liq) → (d a b : ℕ) → 0 < d
+      → Floor (X * (d * d)) a → Floor (Y * (d * d)) b → a + b ≤ W * d
   unfolding W X Y
   scaled real d a b h p q =
-      let first : a * a * (rh1 * rh1) ≤ X * (rh1 * d * (rh1 * d)) = omega (arith, mul-le-mul-right (rh1 * rh1) (p .below)) in
-      let second : b * b * rh1 ≤ rh * (liq * liq) * (rh1 * d * (rh1 * d)) = omega (arith, mul-le-mul-right rh1 (q .below)) in
+      let first : a * a * (rh1 * rh1) ≤ X * (rh1 * d * (rh1 * d)) =
+      omega (arith, mul-le-mul-right (rh1 * rh1) (p .below)) in
+      let second : b * b * rh1 ≤ rh * (liq * liq) * (rh1 * d * (rh1 * d)) =
+      omega (arith, mul-le-mul-right rh1 (q .below)) in
       omega (arith, real .bounds a b (rh1 * d) (mul-pos days h) first second)
 
-  pub real-meets : AtLeastRoots v (volatilePart rh1 rh m tentative) (liquidPart rh1 rh liq) → meetsRequirement rh1 rh liq m tentative v ≡ true
+  pub real-meets : AtLeastRoots v (volatilePart rh1 rh m tentative) (liquidPart rh1 rh liq)
+      → meetsRequirement rh1 rh liq m tentative v ≡ true
   unfolding W X Y rootsWithin
-  real-meets real = meets-roots rh1 rh liq m tentative v ∙ and-both _ _ (le-leb _ _ enough) (le-leb _ _ (cross (le-or-lt (4 * X * Y) (A * A))))
+  real-meets real = meets-roots rh1 rh liq m tentative v
+      ∙ and-both _ _ (le-leb _ _ enough) (le-leb _ _ (cross (le-or-lt (4 * X * Y) (A * A))))
     where
       A : ℕ
       A = has rh1 v - (X + Y)
@@ -127,7 +140,8 @@ module _ (rh1 rh liq m tentative v : ℕ) (days : 0 < rh1) where
           let d : ℕ = 4 * W + 4 in
           let a = floor-root (X * (d * d)) in
           let b = floor-root (Y * (d * d)) in
-          short-one W X Y (a .0) (b .0) l (a .1) (b .1) (scaled real (4 * W + 4) (a .0) (b .0) (omega arith) (a .1) (b .1))
+          short-one W X Y (a .0) (b .0) l (a .1) (b .1)
+          (scaled real (4 * W + 4) (a .0) (b .0) (omega arith) (a .1) (b .1))
 
       enough : X + Y ≤ has rh1 v
       enough = go (le-or-lt (X + Y) (has rh1 v))
@@ -145,7 +159,8 @@ module _ (rh1 rh liq m tentative v : ℕ) (days : 0 < rh1) where
           let sum : W * W ≡ X + Y + A = omega (arith, enough) in
           let a = floor-root (X * (D * D)) in
           let b = floor-root (Y * (D * D)) in
-          absurd (short-two W X Y A D (a .0) (b .0) sum h refl (a .1) (b .1) (scaled real D (a .0) (b .0) (omega arith) (a .1) (b .1)))
+          absurd (short-two W X Y A D (a .0) (b .0) sum h refl (a .1) (b .1)
+          (scaled real D (a .0) (b .0) (omega arith) (a .1) (b .1)))
 
 -- ---- the rate of a level
 
@@ -156,7 +171,11 @@ record Stepping (st : Statics) (level : ℕ) : Type 0 where
 stepping : (st : Statics) (level : ℕ) → validStatics st ≡ true → Stepping st level
 unfolding validStatics minimumOf
 stepping st level v =
-    record { low = go (eqb level 1) (eqb level 2); multiple = eqb-true (st .smax % st .h) 0 (search (v, and-left, and-right) depth 40) }
+    record {
+      low = go (eqb level 1) (eqb level 2);
+      multiple =
+          eqb-true (st .smax % st .h) 0 (search (v, and-left, and-right) depth 40);
+    }
   where
     third : st .min3 ≤ st .smax
     third = leb-true _ _ (search (v, and-left, and-right) depth 40)
@@ -203,7 +222,8 @@ level-rate-compared st level m tentative v = go (covers st level m tentative (st
         → HeldLeast (st .h) (minimumOf st level) (st .smax) (λ w. covers st level m tentative w ≡ true)
         (pick b searched (st .smax))
     go true e =
-        let at-most : enough (st .smax / st .h * st .h) ≡ true = rw most (and-both _ _ (le-leb (minimumOf st level) (st .smax) (k .low)) e) in
+        let at-most : enough (st .smax / st .h * st .h) ≡ true =
+        rw most (and-both _ _ (le-leb (minimumOf st level) (st .smax) (k .low)) e) in
         let holds : enough searched ≡ true = multiple-holds (st .h) (st .smax / st .h) enough at-most in
         let is = multiple-is (st .h) (st .smax / st .h) enough in
         record {
@@ -211,7 +231,8 @@ level-rate-compared st level m tentative v = go (covers st level m tentative (st
           low = leb-true (minimumOf st level) searched (and-left (leb (minimumOf st level) searched) _ holds);
           held = omega (arith, multiple-bound (st .h) (st .smax / st .h) enough, most);
           covers-or-held = inl (and-right (leb (minimumOf st level) searched) _ holds);
-          least = λ j l c. multiple-least (st .h) (st .smax / st .h) enough j (and-both _ _ (le-leb (minimumOf st level) (j * st .h) l) c);
+          least = λ j l c. multiple-least (st .h) (st .smax / st .h) enough j
+              (and-both _ _ (le-leb (minimumOf st level) (j * st .h) l) c);
         }
     go false e =
         record {
@@ -222,10 +243,12 @@ level-rate-compared st level m tentative v = go (covers st level m tentative (st
           least = λ j l c. over j c (le-or-lt (st .smax) (j * st .h));
         }
       where
-        over : (j : ℕ) → covers st level m tentative (j * st .h) ≡ true → (st .smax ≤ j * st .h) ⊎ (j * st .h < st .smax) → st .smax ≤ j * st .h
+        over : (j : ℕ) → covers st level m tentative (j * st .h) ≡ true
+            → (st .smax ≤ j * st .h) ⊎ (j * st .h < st .smax) → st .smax ≤ j * st .h
         over j c (inl l) = l
         over j c (inr l) =
-            absurd (clash (covers st level m tentative (st .smax)) (covers-more st level m tentative (j * st .h) (st .smax) (omega arith) c) e)
+            absurd (clash (covers st level m tentative (st .smax))
+            (covers-more st level m tentative (j * st .h) (st .smax) (omega arith) c) e)
 
 -- what is covered exactly where something else is may stand for it
 held-by : {h minimum maximum v : ℕ} {P Q : ℕ → Type 0} → ((w : ℕ) → P w → Q w) → ((w : ℕ) → Q w → P w)

@@ -1,4 +1,5 @@
--- Numbers of either sign, lifted onto the natural ones: what W-201 rounds, and a rate, worked out from a sum that is never below zero. Assumes nothing.
+-- Numbers of either sign, lifted onto the natural ones: what W-201 rounds, and a rate, worked out from a sum that is
+-- never below zero. Assumes nothing.
 use mathlib.Core.Path.{_≡_, refl, sym, ap, _∙_}
 use mathlib.Core.Logic.{_⊎_, inl, inr}
 use Prim.Native.Nat.{ℕ, zero, suc, _+_, _-_, _*_, _/_, _≤_, _<_}
@@ -17,7 +18,8 @@ use Rattle.paper.proofs.Roundings.{quotient-low, quotient-high, half-lo
 -- a rate is what its base with it is above the base
 pub lifted-is : (base : ℕ) (x : ℤ) → natAbs x ≤ base → x ≡ subℕ (grown base 1 x) base
 unfolding grown
-lifted-is base (pos n) h = let same : n ≡ base + 1 * n - base = omega arith in ap pos same ∙ sym (difference-up (base + 1 * n) base (omega arith))
+lifted-is base (pos n) h = let same : n ≡ base + 1 * n - base = omega arith in ap pos same
+    ∙ sym (difference-up (base + 1 * n) base (omega arith))
 lifted-is base (negsuc n) h =
     let same : n ≡ base - suc (base - 1 * suc n) = omega arith in
     ap negsuc same ∙ sym (difference-down (base - 1 * suc n) base (omega arith))
@@ -75,7 +77,8 @@ half-shift n d k h = go (le-or-lt (k * d) n)
           where
             within-le : (q ≤ k) ⊎ (k < q) → q ≤ k
             within-le (inl a) = a
-            within-le (inr a) = let more : k + 1 ≤ q = omega arith in absurd (omega (arith, low, mul-le-mul-right (2 * d) more))
+            within-le (inr a) = let more : k + 1 ≤ q = omega arith in
+                absurd (omega (arith, low, mul-le-mul-right (2 * d) more))
 
         same : k - q ≡ halfUp n d
         same =
@@ -89,9 +92,12 @@ pub half-nearest : (n : ℤ) (d : ℕ) → 0 < d
     × (ltZ ((pos 2 *ℤ n) +ℤ pos d) (pos (2 * d) *ℤ (halfUpZ n d +ℤ pos 1)) ≡ true)
 half-nearest n d w = (
   rw (twice, rounded, difference-times (2 * d) h k)
-      (difference-order (2 * a + d) (2 * (k * d) + 0) (2 * d * h) (2 * d * k) ∙ le-ltb (2 * a + d + 2 * d * k) (2 * d * h + (2 * (k * d) + 0)) (omega (arith, half-low a d w))),
+      (difference-order (2 * a + d) (2 * (k * d) + 0) (2 * d * h) (2 * d * k)
+      ∙ le-ltb (2 * a + d + 2 * d * k) (2 * d * h + (2 * (k * d) + 0)) (omega (arith, half-low a d w))),
   rw (twice, rounded, difference-whole 1, difference-plus h k 1 0, difference-times (2 * d) (h + 1) (k + 0))
-      (difference-order (2 * a + d) (2 * (k * d) + 0) (2 * d * (h + 1)) (2 * d * (k + 0)) ∙ lt-ltb (2 * a + d + 2 * d * (k + 0)) (2 * d * (h + 1) + (2 * (k * d) + 0)) (omega (arith, half-high a d w))),
+      (difference-order (2 * a + d) (2 * (k * d) + 0) (2 * d * (h + 1)) (2 * d * (k + 0))
+      ∙ lt-ltb (2 * a + d + 2 * d * (k + 0)) (2 * d * (h + 1) + (2 * (k * d) + 0))
+      (omega (arith, half-high a d w))),
 )
   where
     k : ℕ

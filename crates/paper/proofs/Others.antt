@@ -24,7 +24,8 @@ writtenAt (read id) t = place t id
 
 -- what holds of the table before, and after whatever the call would write, holds after the call
 pub either : (P : List Record → Type 0) (c : Call) (t : List Record) → P t
-    → (isDone (step c t .answer .verdict) ≡ true → NoneApplies (checksOf c t) → P (acceptedOf c t .table)) → P (step c t .table)
+    → (isDone (step c t .answer .verdict) ≡ true → NoneApplies (checksOf c t) → P (acceptedOf c t .table))
+    → P (step c t .table)
 either P c t p q = go (isDone (step c t .answer .verdict)) refl
   where
     go : (b : Bool) → isDone (step c t .answer .verdict) ≡ b → P (step c t .table)
@@ -46,7 +47,8 @@ length-stays c t = either (λ u. length u ≡ length t) c t refl (λ _ _. accept
     accepted (read id) = refl
 
 -- every other slot, whatever it holds
-pub slots-stay : (c : Call) (t : List Record) (k : ℕ) → k ≢ writtenAt c t → getD (step c t .table) k blank ≡ getD t k blank
+pub slots-stay : (c : Call) (t : List Record) (k : ℕ) → k ≢ writtenAt c t
+    → getD (step c t .table) k blank ≡ getD t k blank
 unfolding acceptedOf
 slots-stay c t k n = either (λ u. getD u k blank ≡ getD t k blank) c t refl (λ _ _. accepted c n)
   where
@@ -61,7 +63,8 @@ slots-stay c t k n = either (λ u. getD u k blank ≡ getD t k blank) c t refl (
 abbrev pub Stays : ℕ → List Record → List Record → Type 0
 Stays id t u = (stands u id ≡ stands t id) × (found u id ≡ found t id)
 
-stored-stays : (id i : ℕ) (t : List Record) (x : Record) → known t i ≡ true → x .id ≡ found t i .id → id ≢ i → Stays id t (set t (place t i) x)
+stored-stays : (id i : ℕ) (t : List Record) (x : Record) → known t i ≡ true → x .id ≡ found t i .id → id ≢ i
+    → Stays id t (set t (place t i) x)
 stored-stays id i t x e m n =
     let mine : x .id ≡ i = m ∙ found-id t i (known-stands t i e) in
     let other : id ≢ x .id = λ (w : id ≡ x .id). n (w ∙ mine) in
@@ -73,7 +76,9 @@ others-stay c t id z n = either (Stays id t) c t (refl, refl) (λ _ w. accepted 
   where
     accepted : (c : Call) → id ≢ idOf c → NoneApplies (checksOf c t) → Stays id t (acceptedOf c t .table)
     accepted (admit a) n w = (stands-other 0 (admitted a) t id z n, found-other 0 (admitted a) t id z n)
-    accepted (evaluate i d rows) n (also q w) = stored-stays id i t (evaluated (found t i) d rows) (not-false (known t i) q) refl n
+    accepted (evaluate i d rows) n (also q w) =
+        stored-stays id i t (evaluated (found t i) d rows) (not-false (known t i) q) refl n
     accepted (quote i q) n (also v w) = stored-stays id i t (quoted (found t i) q) (not-false (known t i) v) refl n
-    accepted (move i side) n (also v w) = stored-stays id i t (moved (found t i) (sideOf side)) (not-false (known t i) v) refl n
+    accepted (move i side) n (also v w) =
+        stored-stays id i t (moved (found t i) (sideOf side)) (not-false (known t i) v) refl n
     accepted (read i) n w = (refl, refl)

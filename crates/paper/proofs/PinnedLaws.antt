@@ -313,7 +313,8 @@ shown-stands c t s e =
     accepted (evaluate id d rows) s (also q w) =
         found-stored t id (evaluated (found t id) d rows) (known-stands t id (not-false (known t id) q)) refl
     accepted (quote id q) s w = absurd (let z : _≡_ {A = ℕ} 0 1 = cc in omega arith)
-    accepted (move id side) s (also q w) = found-stored t id (moved (found t id) (sideOf side)) (known-stands t id (not-false (known t id) q)) refl
+    accepted (move id side) s (also q w) =
+        found-stored t id (moved (found t id) (sideOf side)) (known-stands t id (not-false (known t id) q)) refl
     accepted (read id) s w = refl
 
 -- "a quote its two alerts, an admission the number 0 alone": neither shows a record

@@ -1,5 +1,5 @@
--- Demand 1: each number is given exactly when its condition holds and no earlier one in the paper's order does; a refused call leaves the table as it
--- was, and answers its number with every figure 0. Assumes nothing.
+-- Demand 1: each number is given exactly when its condition holds and no earlier one in the paper's order does; a
+-- refused call leaves the table as it was, and answers its number with every figure 0. Assumes nothing.
 use mathlib.Core.Path.{_≡_, refl, sym, _∙_, ap}
 use mathlib.Core.Bool.{Bool, true, false, not, _&&_}
 use mathlib.Core.List.{List, [], _∷_}
@@ -46,7 +46,8 @@ unfolding firstOf isDone
 first-is [] v n e = absurd (clash (isDone Done) refl (ap isDone e ∙ n))
 first-is (c ∷ cs) v n e = go (c .applies) refl e (first-is cs v n)
   where
-    go : (b : Bool) → c .applies ≡ b → pick b (c .verdict) (firstOf cs) ≡ v → (firstOf cs ≡ v → FirstAt v cs) → FirstAt v (c ∷ cs)
+    go : (b : Bool) → c .applies ≡ b → pick b (c .verdict) (firstOf cs) ≡ v → (firstOf cs ≡ v → FirstAt v cs)
+        → FirstAt v (c ∷ cs)
     go true q w rest = here w q
     go false q w rest = later q (rest w)
 
@@ -66,7 +67,8 @@ unfolding refusals every firstOf
 done-none [] r e = none
 done-none (c ∷ cs) r e = go (c .applies) refl e (done-none cs (and-right (not (isDone (c .verdict))) _ r))
   where
-    go : (b : Bool) → c .applies ≡ b → isDone (pick b (c .verdict) (firstOf cs)) ≡ true → (isDone (firstOf cs) ≡ true → NoneApplies cs) → NoneApplies (c ∷ cs)
+    go : (b : Bool) → c .applies ≡ b → isDone (pick b (c .verdict) (firstOf cs)) ≡ true
+        → (isDone (firstOf cs) ≡ true → NoneApplies cs) → NoneApplies (c ∷ cs)
     go true q w rest =
         absurd (clash (not (isDone (c .verdict))) (and-left (not (isDone (c .verdict))) _ r) (ap not w))
     go false q w rest = also q (rest w)
@@ -99,7 +101,8 @@ pub verdict-first : (c : Call) (t : List Record) → step c t .answer .verdict �
 unfolding step judged saying
 verdict-first c t = go (firstOf (checksOf c t)) (isDone (firstOf (checksOf c t))) refl
   where
-    go : (v : Verdict) (b : Bool) → isDone v ≡ b → pick b (acceptedOf c t) (record { answer = saying v; table = t }) .answer .verdict ≡ v
+    go : (v : Verdict) (b : Bool) → isDone v ≡ b
+        → pick b (acceptedOf c t) (record { answer = saying v; table = t }) .answer .verdict ≡ v
     go v true e = accepted-done c t ∙ sym (done-is v e)
     go v false e = refl
 
@@ -113,14 +116,18 @@ pub accepted-step : (c : Call) (t : List Record) → isDone (firstOf (checksOf c
 unfolding step judged
 accepted-step c t e = pick-true (isDone (firstOf (checksOf c t))) _ _ e
 
--- Demand 1. A refusal v is answered exactly when v is the first that applies, in the paper's order; 0 exactly when none applies
-pub refused-only : (c : Call) (t : List Record) (v : Verdict) → isDone v ≡ false → step c t .answer .verdict ≡ v → FirstAt v (checksOf c t)
+-- Demand 1. A refusal v is answered exactly when v is the first that applies, in the paper's order; 0 exactly when none
+-- applies
+pub refused-only : (c : Call) (t : List Record) (v : Verdict) → isDone v ≡ false → step c t .answer .verdict ≡ v
+    → FirstAt v (checksOf c t)
 refused-only c t v n e = first-is (checksOf c t) v n (sym (verdict-first c t) ∙ e)
 
-pub refused-always : (c : Call) (t : List Record) (v : Verdict) → FirstAt v (checksOf c t) → step c t .answer .verdict ≡ v
+pub refused-always : (c : Call) (t : List Record) (v : Verdict) → FirstAt v (checksOf c t)
+    → step c t .answer .verdict ≡ v
 refused-always c t v f = verdict-first c t ∙ is-first (checksOf c t) v f
 
-pub accepted-only : (c : Call) (t : List Record) → isDone (step c t .answer .verdict) ≡ true → NoneApplies (checksOf c t)
+pub accepted-only : (c : Call) (t : List Record) → isDone (step c t .answer .verdict) ≡ true
+    → NoneApplies (checksOf c t)
 accepted-only c t e = done-none (checksOf c t) (all-refusals c t) (ap isDone (sym (verdict-first c t)) ∙ e)
 
 pub accepted-always : (c : Call) (t : List Record) → NoneApplies (checksOf c t) → step c t .answer .verdict ≡ Done

@@ -1,4 +1,5 @@
--- W ≥ √X + √Y on whole numbers: the test with A = W² - X - Y, A ≥ 0 and A² ≥ 4·X·Y, is the inequality of real numbers. Assumes nothing.
+-- W ≥ √X + √Y on whole numbers: the test with A = W² - X - Y, A ≥ 0 and A² ≥ 4·X·Y, is the inequality of real numbers.
+-- Assumes nothing.
 use mathlib.Core.Path.{_≡_, refl}
 use mathlib.Core.Logic.{_⊎_, inl, inr}
 use Prim.Native.Nat.{ℕ, zero, suc, _+_, _-_, _*_, _≤_, _<_}
@@ -11,7 +12,8 @@ use Rattle.paper.proofs.Drift.{side-le}
 
 -- ---- where the test passes, every two fractions below the roots have a sum that W covers
 
-pub roots-covered : (W X Y A a b d : ℕ) → W * W ≡ X + Y + A → 4 * X * Y ≤ A * A → a * a ≤ X * (d * d) → b * b ≤ Y * (d * d) → a + b ≤ W * d
+pub roots-covered : (W X Y A a b d : ℕ) → W * W ≡ X + Y + A → 4 * X * Y ≤ A * A → a * a ≤ X * (d * d)
+    → b * b ≤ Y * (d * d) → a + b ≤ W * d
 roots-covered W X Y A a b d e h p q =
     let both : (a * a) * (b * b) ≤ X * (d * d) * (Y * (d * d)) = mul-le-mul p q in
     let cross : 4 * X * Y * (d * d * (d * d)) ≤ A * A * (d * d * (d * d)) = mul-le-mul-right (d * d * (d * d)) h in
@@ -41,11 +43,13 @@ floor-root n = go (leastRoot 1 (n + 1)) (root-covers 1 (n + 1) (omega arith)) (r
 room : (W X Y d a b : ℕ) → Floor (X * (d * d)) a → Floor (Y * (d * d)) b → a + b ≤ W * d
     → (X + Y) * (d * d) + 2 * ((a + 1) * (b + 1)) < W * W * (d * d) + 4 * (W * d) + 4
 room W X Y d a b p q s =
-    let square : (a + 1 + (b + 1)) * (a + 1 + (b + 1)) ≤ (W * d + 2) * (W * d + 2) = mul-le-mul (omega arith) (omega arith) in
+    let square : (a + 1 + (b + 1)) * (a + 1 + (b + 1)) ≤ (W * d + 2) * (W * d + 2) =
+    mul-le-mul (omega arith) (omega arith) in
     omega (arith, p .above, q .above)
 
 -- X + Y above W²: at the scale 4·W + 4 there is no such room
-pub short-one : (W X Y a b : ℕ) → W * W < X + Y → Floor (X * ((4 * W + 4) * (4 * W + 4))) a → Floor (Y * ((4 * W + 4) * (4 * W + 4))) b
+pub short-one : (W X Y a b : ℕ) → W * W < X + Y → Floor (X * ((4 * W + 4) * (4 * W + 4))) a
+    → Floor (Y * ((4 * W + 4) * (4 * W + 4))) b
     → a + b ≤ W * (4 * W + 4) → ⊥
 short-one W X Y a b l p q s =
     omega (arith, room W X Y (4 * W + 4) a b p q s, mul-le-mul-right ((4 * W + 4) * (4 * W + 4)) l)
@@ -55,7 +59,8 @@ too-wide : (A F : ℕ) → (2 * A * F + F + 1) * (2 * A * F + F + 1) ≤ 2 * A *
 too-wide A F h = omega arith
 
 -- from squares of squares to squares: what is left of (A·d² + F·d)² when (A·d²)² is taken away
-thinner : (A F d : ℕ) → 0 < d → d * d * (d * d) ≤ 2 * A * (d * d) * (F * d) + F * d * (F * d) → d * d ≤ 2 * A * F * d + F * F
+thinner : (A F d : ℕ) → 0 < d → d * d * (d * d) ≤ 2 * A * (d * d) * (F * d) + F * d * (F * d)
+    → d * d ≤ 2 * A * F * d + F * F
 thinner A F d h l =
     let same : d * d * (d * d) ≤ d * d * (2 * A * F * d + F * F) = omega arith in
     le-of-mul-le-mul-left same (mul-pos h h)
@@ -65,11 +70,15 @@ pub short-two : (W X Y A d a b : ℕ) → W * W ≡ X + Y + A → A * A < 4 * X 
 short-two W X Y A d a b e l g p q s =
     let whole : W * W * (d * d) ≡ (X + Y + A) * (d * d) = rw e refl in
     let twice : 2 * ((a + 1) * (b + 1)) ≤ A * (d * d) + (4 * W + 4) * d = omega (arith, room W X Y d a b p q s) in
-    let square : 2 * ((a + 1) * (b + 1)) * (2 * ((a + 1) * (b + 1))) ≤ (A * (d * d) + (4 * W + 4) * d) * (A * (d * d) + (4 * W + 4) * d) = mul-le-mul twice twice in
+    let square : 2 * ((a + 1) * (b + 1)) * (2 * ((a + 1) * (b + 1))) ≤ (A * (d * d) + (4 * W + 4) * d) *
+    (A * (d * d) + (4 * W + 4) * d) = mul-le-mul twice twice in
     let x : X * (d * d) ≤ (a + 1) * (a + 1) = omega (arith, p .above) in
     let y : Y * (d * d) ≤ (b + 1) * (b + 1) = omega (arith, q .above) in
     let product : X * (d * d) * (Y * (d * d)) ≤ (a + 1) * (a + 1) * ((b + 1) * (b + 1)) = mul-le-mul x y in
-    let under : (A * A + 1) * (d * d * (d * d)) ≤ 4 * X * Y * (d * d * (d * d)) = mul-le-mul-right (d * d * (d * d)) (omega arith) in
-    let left : d * d * (d * d) ≤ 2 * A * (d * d) * ((4 * W + 4) * d) + (4 * W + 4) * d * ((4 * W + 4) * d) = omega arith in
-    let thin : d * d ≤ 2 * A * (4 * W + 4) * d + (4 * W + 4) * (4 * W + 4) = thinner A (4 * W + 4) d (omega arith) left in
+    let under : (A * A + 1) * (d * d * (d * d)) ≤ 4 * X * Y * (d * d * (d * d)) =
+    mul-le-mul-right (d * d * (d * d)) (omega arith) in
+    let left : d * d * (d * d) ≤ 2 * A * (d * d) * ((4 * W + 4) * d) + (4 * W + 4) * d * ((4 * W + 4) * d) =
+    omega arith in
+    let thin : d * d ≤ 2 * A * (4 * W + 4) * d + (4 * W + 4) * (4 * W + 4) =
+    thinner A (4 * W + 4) d (omega arith) left in
     too-wide A (4 * W + 4) (rw g at thin)

@@ -1,4 +1,5 @@
--- Laws of the roundings: what each is, that it is the only such number, and that it keeps order. n/d ≤ m/e is said as n·e ≤ m·d. Assumes nothing.
+-- Laws of the roundings: what each is, that it is the only such number, and that it keeps order. n/d ≤ m/e is said as
+-- n·e ≤ m·d. Assumes nothing.
 use mathlib.Core.Path.{_≡_, refl, ap, sym, _∙_}
 use mathlib.Core.Logic.{_⊎_, inl, inr}
 use mathlib.Core.Bool.{Bool, true, false}
@@ -133,11 +134,13 @@ half-down n d h p =
 
 pub half-over : (n d : ℕ) → 0 < d → d - n % d ≤ n % d → n / d + 1 ≡ halfUp n d
 half-over n d h p =
-    half-unique n d (n / d + 1) h (omega (arith, div-add-mod' n d, mod-lt n h)) (omega (arith, div-add-mod' n d, mod-lt n h))
+    half-unique n d (n / d + 1) h (omega (arith, div-add-mod' n d, mod-lt n h))
+    (omega (arith, div-add-mod' n d, mod-lt n h))
 
 -- ---- the same to a grid
 
-pub grid-unique : (g n d q : ℕ) → 0 < g → 0 < d → q * (2 * (d * g)) ≤ 2 * n + d * g → 2 * n + d * g < (q + 1) * (2 * (d * g)) → q * g ≡ toGrid g n d
+pub grid-unique : (g n d q : ℕ) → 0 < g → 0 < d → q * (2 * (d * g)) ≤ 2 * n + d * g
+    → 2 * n + d * g < (q + 1) * (2 * (d * g)) → q * g ≡ toGrid g n d
 unfolding toGrid
 grid-unique g n d q p r low high = ap (λ (z : ℕ). z * g) (half-unique n (d * g) q (mul-pos r p) low high)
 
@@ -164,7 +167,8 @@ lesser-rounded g x y p q r = go (le-or-lt (x .num * y .den) (y .num * x .den))
     chosen t = pick t x y
 
     go : (x .num * y .den ≤ y .num * x .den) ⊎ (y .num * x .den < x .num * y .den)
-        → toGrid g (chosen (leb (x .num * y .den) (y .num * x .den)) .num) (chosen (leb (x .num * y .den) (y .num * x .den)) .den)
+        → toGrid g (chosen (leb (x .num * y .den) (y .num * x .den)) .num)
+        (chosen (leb (x .num * y .den) (y .num * x .den)) .den)
         ≡ min (toGrid g (x .num) (x .den)) (toGrid g (y .num) (y .den))
     go (inl h) =
         rw (le-leb (x .num * y .den) (y .num * x .den) h)
@@ -182,7 +186,8 @@ greater-rounded g x y p q r = go (le-or-lt (x .num * y .den) (y .num * x .den))
     chosen t = pick t y x
 
     go : (x .num * y .den ≤ y .num * x .den) ⊎ (y .num * x .den < x .num * y .den)
-        → toGrid g (chosen (leb (x .num * y .den) (y .num * x .den)) .num) (chosen (leb (x .num * y .den) (y .num * x .den)) .den)
+        → toGrid g (chosen (leb (x .num * y .den) (y .num * x .den)) .num)
+        (chosen (leb (x .num * y .den) (y .num * x .den)) .den)
         ≡ max (toGrid g (x .num) (x .den)) (toGrid g (y .num) (y .den))
     go (inl h) =
         rw (le-leb (x .num * y .den) (y .num * x .den) h)

@@ -35,7 +35,8 @@ unfolding first
 first-holds zero x p l = absurd (omega arith)
 first-holds (suc d) x p l = go (p x) refl (first-holds d (suc x) p)
   where
-    go : (b : Bool) → p x ≡ b → (first d (suc x) p < suc x + d → p (first d (suc x) p) ≡ true) → p (first (suc d) x p) ≡ true
+    go : (b : Bool) → p x ≡ b → (first d (suc x) p < suc x + d → p (first d (suc x) p) ≡ true)
+        → p (first (suc d) x p) ≡ true
     go true e h = rw (first-true d x p e) e
     go false e h = let k : first (suc d) x p ≡ first d (suc x) p = first-false d x p e in rw k (h (omega arith))
 
@@ -83,7 +84,8 @@ least-below bound p z l = go (p z) refl
     go false e = e
 
 -- a number within the bound that passes (unless it is the bound), with nothing below it that does, is the one found
-pub least-unique : (bound : ℕ) (p : ℕ → Bool) (x : ℕ) → x ≤ bound → (x < bound → p x ≡ true) → ((z : ℕ) → z < x → p z ≡ false) → least bound p ≡ x
+pub least-unique : (bound : ℕ) (p : ℕ → Bool) (x : ℕ) → x ≤ bound → (x < bound → p x ≡ true)
+    → ((z : ℕ) → z < x → p z ≡ false) → least bound p ≡ x
 least-unique bound p x l t f = go (le-or-lt x (least bound p)) (eq-or-lt-of-le l)
   where
     go : (x ≤ least bound p) ⊎ (least bound p < x) → (x ≡ bound) ⊎ (x < bound) → least bound p ≡ x
@@ -116,12 +118,20 @@ pub record Between (p : ℕ → Bool) (bound low high : ℕ) : Type 0 where
   pub before : (z : ℕ) → z < low → p z ≡ false
   pub here : high < bound → p high ≡ true
 
-pub between-hit : (p : ℕ → Bool) (bound low high mid : ℕ) → Between p bound low high → low ≤ mid → mid < high → p mid ≡ true → Between p bound low mid
+pub between-hit : (p : ℕ → Bool) (bound low high mid : ℕ) → Between p bound low high → low ≤ mid → mid < high
+    → p mid ≡ true → Between p bound low mid
 between-hit p bound low high mid s u v e = record { order = u; inside = omega arith; before = s .before; here = λ _. e }
 
-pub between-miss : (p : ℕ → Bool) (bound low high mid : ℕ) → Mono p → Between p bound low high → mid < high → p mid ≡ false → Between p bound (mid + 1) high
+pub between-miss : (p : ℕ → Bool) (bound low high mid : ℕ) → Mono p → Between p bound low high → mid < high
+    → p mid ≡ false → Between p bound (mid + 1) high
 between-miss p bound low high mid mono s v e =
-    record { order = omega arith; inside = s .inside; before = λ z l. not-before z (omega arith) (p z) refl; here = s .here }
+    record {
+      order = omega arith;
+      inside = s .inside;
+      before = λ z l. not-before z (omega arith) (p z) refl;
+      here =
+          s .here;
+    }
   where
     not-before : (z : ℕ) → z ≤ mid → (t : Bool) → p z ≡ t → t ≡ false
     not-before z l true q = absurd (clash (p mid) (mono z mid l q) e)
@@ -171,7 +181,8 @@ root-one-more w n r h low high = root-unique w n (r + 1) h high above
 pub times-covers : (q n : ℕ) → 0 < q → n ≤ leastTimes q n * q
 unfolding leastTimes
 times-covers q n h =
-    leb-true _ _ (least-holds n (λ y. leb n (y * q)) (le-leb n (n * q) (let e : n * 1 ≤ n * q = mul-le-mul-left n h in omega arith)))
+    leb-true _ _ (least-holds n (λ y. leb n (y * q))
+    (le-leb n (n * q) (let e : n * 1 ≤ n * q = mul-le-mul-left n h in omega arith)))
 
 pub times-least : (q n z : ℕ) → n ≤ z * q → leastTimes q n ≤ z
 unfolding leastTimes
@@ -186,7 +197,8 @@ times-monotone q n m h l = times-least q n (leastTimes q m) (le-trans l (times-c
 -- ---- the least multiple
 
 -- either every multiple was tried, or what is found passes
-pub multiple-cases : (h bound : ℕ) (p : ℕ → Bool) → (leastMultiple h bound p ≡ bound * h) ⊎ (p (leastMultiple h bound p) ≡ true)
+pub multiple-cases : (h bound : ℕ) (p : ℕ → Bool) → (leastMultiple h bound p ≡ bound * h)
+    ⊎ (p (leastMultiple h bound p) ≡ true)
 unfolding leastMultiple
 multiple-cases h bound p = go (least-cases bound (λ j. p (j * h)))
   where
@@ -212,9 +224,11 @@ pub multiple-is : (h bound : ℕ) (p : ℕ → Bool) → (j : ℕ) × (leastMult
 unfolding leastMultiple
 multiple-is h bound p = (least bound (λ j. p (j * h)), refl)
 
-pub multiple-monotone : (h bound : ℕ) (p q : ℕ → Bool) → ((z : ℕ) → q z ≡ true → p z ≡ true) → leastMultiple h bound p ≤ leastMultiple h bound q
+pub multiple-monotone : (h bound : ℕ) (p q : ℕ → Bool) → ((z : ℕ) → q z ≡ true → p z ≡ true)
+    → leastMultiple h bound p ≤ leastMultiple h bound q
 unfolding leastMultiple
-multiple-monotone h bound p q f = mul-le-mul-right h (least-monotone bound (λ j. p (j * h)) (λ j. q (j * h)) (λ z t. f (z * h) t))
+multiple-monotone h bound p q f =
+    mul-le-mul-right h (least-monotone bound (λ j. p (j * h)) (λ j. q (j * h)) (λ z t. f (z * h) t))
 
 -- the least step is what its name says, for every factor w
 pub step-is : (h w n : ℕ) → 0 < h → 0 < w → IsLeastStep h w n (leastStep h w n)

@@ -22,7 +22,8 @@ found-id [] id e = absurd (clash false e refl)
 found-id (r ∷ t) id e = go (eqb (r .id) id) refl (ltb-true _ _ e) (λ k. found-id t id (lt-ltb _ _ k))
   where
     go : (b : Bool) → eqb (r .id) id ≡ b → pick b 0 (suc (place t id)) < suc (length t)
-        → (place t id < length t → getD t (place t id) blank .id ≡ id) → getD (r ∷ t) (pick b 0 (suc (place t id))) blank .id ≡ id
+        → (place t id < length t → getD t (place t id) blank .id ≡ id)
+        → getD (r ∷ t) (pick b 0 (suc (place t id))) blank .id ≡ id
     go true q l rest = eqb-true (r .id) id q
     go false q l rest = rest (omega arith)
 
@@ -49,7 +50,8 @@ module _ (i : ℕ) (x : Record) where
     where
       go : (b : Bool) → eqb (r .id) i ≡ b → (c : Bool) → eqb (r .id) id ≡ c
           → getD (set t (place t i) x) (place (set t (place t i) x) id) blank ≡ getD t (place t id) blank
-          → getD (set (r ∷ t) (pick b 0 (suc (place t i))) x) (place (set (r ∷ t) (pick b 0 (suc (place t i))) x) id) blank
+          → getD (set (r ∷ t) (pick b 0 (suc (place t i))) x) (place (set (r ∷ t) (pick b 0 (suc (place t i))) x) id)
+          blank
           ≡ getD (r ∷ t) (pick c 0 (suc (place t id))) blank
       go true q c w rest =
           let new : eqb (x .id) id ≡ false = ne-eqb (x .id) id (λ (v : x .id ≡ id). m (sym v)) in
@@ -62,15 +64,18 @@ module _ (i : ℕ) (x : Record) where
   unfolding stands
   stands-other t id n m = rw (place-other t id n m, length-set t (place t i) x)
 
-  -- the slot that is written is the first with the id of what was written, which no slot had, or which the slot itself had
-  pub place-written : (t : List Record) → stands t i ≡ true → ((x .id ≡ i → ⊥) → stands t (x .id) ≡ false) → place (set t (place t i) x) (x .id) ≡ place t i
+  -- the slot that is written is the first with the id of what was written, which no slot had, or which the slot itself
+  -- had
+  pub place-written : (t : List Record) → stands t i ≡ true → ((x .id ≡ i → ⊥) → stands t (x .id) ≡ false)
+      → place (set t (place t i) x) (x .id) ≡ place t i
   unfolding stands place
   place-written [] e f = absurd (clash false e refl)
   place-written (r ∷ t) e f = go (eqb (r .id) i) refl (ltb-true _ _ e)
       (λ l g. place-written t (lt-ltb _ _ l) g)
     where
       go : (b : Bool) → eqb (r .id) i ≡ b → pick b 0 (suc (place t i)) < suc (length t)
-          → (place t i < length t → ((x .id ≡ i → ⊥) → ltb (place t (x .id)) (length t) ≡ false) → place (set t (place t i) x) (x .id) ≡ place t i)
+          → (place t i < length t → ((x .id ≡ i → ⊥) → ltb (place t (x .id)) (length t) ≡ false)
+          → place (set t (place t i) x) (x .id) ≡ place t i)
           → place (set (r ∷ t) (pick b 0 (suc (place t i))) x) (x .id) ≡ pick b 0 (suc (place t i))
       go true q l rest = rw (eq-eqb (x .id) (x .id) refl)
       go false q l rest =
@@ -82,19 +87,25 @@ module _ (i : ℕ) (x : Record) where
           differs w =
               let here : eqb (r .id) (x .id) ≡ true = eq-eqb (r .id) (x .id) w in
               let same : x .id ≡ i → ⊥ = λ v. eqb-false (r .id) i q (w ∙ v) in
-              clash (ltb (pick (eqb (r .id) (x .id)) 0 (suc (place t (x .id)))) (suc (length t))) (rw here (lt-ltb 0 (suc (length t)) (omega arith))) (f same)
+              clash (ltb (pick (eqb (r .id) (x .id)) 0 (suc (place t (x .id)))) (suc (length t)))
+              (rw here (lt-ltb 0 (suc (length t)) (omega arith))) (f same)
 
           gone : (x .id ≡ i → ⊥) → ltb (place t (x .id)) (length t) ≡ false
           gone same =
-              let there : ltb (pick (eqb (r .id) (x .id)) 0 (suc (place t (x .id)))) (suc (length t)) ≡ false = f same in
-              let past : ltb (suc (place t (x .id))) (suc (length t)) ≡ false = rw (ne-eqb (r .id) (x .id) differs) at there in
-              le-ltb (place t (x .id)) (length t) (omega (arith, ltb-false (suc (place t (x .id))) (suc (length t)) past))
+              let there : ltb (pick (eqb (r .id) (x .id)) 0 (suc (place t (x .id)))) (suc (length t)) ≡ false =
+              f same in
+              let past : ltb (suc (place t (x .id))) (suc (length t)) ≡ false =
+              rw (ne-eqb (r .id) (x .id) differs) at there in
+              le-ltb (place t (x .id)) (length t)
+              (omega (arith, ltb-false (suc (place t (x .id))) (suc (length t)) past))
 
-  pub found-written : (t : List Record) → stands t i ≡ true → ((x .id ≡ i → ⊥) → stands t (x .id) ≡ false) → found (set t (place t i) x) (x .id) ≡ x
+  pub found-written : (t : List Record) → stands t i ≡ true → ((x .id ≡ i → ⊥) → stands t (x .id) ≡ false)
+      → found (set t (place t i) x) (x .id) ≡ x
   unfolding found stands
   found-written t e f = rw (place-written t e f) (getD-set-same t (place t i) x blank (ltb-true _ _ e))
 
-  pub stands-written : (t : List Record) → stands t i ≡ true → ((x .id ≡ i → ⊥) → stands t (x .id) ≡ false) → stands (set t (place t i) x) (x .id) ≡ true
+  pub stands-written : (t : List Record) → stands t i ≡ true → ((x .id ≡ i → ⊥) → stands t (x .id) ≡ false)
+      → stands (set t (place t i) x) (x .id) ≡ true
   unfolding stands
   stands-written t e f = rw (place-written t e f, length-set t (place t i) x) e
 
@@ -118,7 +129,8 @@ fresh-empty (r ∷ t) id n f =
 -- a known id stands in a slot, and its record is sound
 pub known-stands : (t : List Record) (i : ℕ) → known t i ≡ true → stands t i ≡ true
 unfolding known
-known-stands t i e = and-right (validSlots (length t)) (stands t i) (and-left (validSlots (length t) && stands t i) (sound (found t i)) e)
+known-stands t i e = and-right (validSlots (length t)) (stands t i)
+    (and-left (validSlots (length t) && stands t i) (sound (found t i)) e)
 
 pub known-sound : (t : List Record) (i : ℕ) → known t i ≡ true → sound (found t i) ≡ true
 unfolding known

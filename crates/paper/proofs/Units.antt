@@ -20,7 +20,8 @@ use Rattle.paper.proofs.Logic.{le-or-lt}
 use Rattle.paper.proofs.Search.{least-unique}
 
 -- a number below zero is out of every range, and a number that is not is in it exactly where it is between its ends
-pub natural-within : (low high : ℕ) (x : ℤ) → high < pastEvery → within low high (unsigned x) ≡ withinZ (pos low) (pos high) x
+pub natural-within : (low high : ℕ) (x : ℤ) → high < pastEvery
+    → within low high (unsigned x) ≡ withinZ (pos low) (pos high) x
 unfolding unsigned
 natural-within low high (pos n) h = refl
 natural-within low high (negsuc n) h = go (leb low pastEvery)
@@ -32,7 +33,8 @@ natural-within low high (negsuc n) h = go (leb low pastEvery)
     go true = past
     go false = refl
 
--- "ceiling(log10 lot) + 2 decimals" of a rouble of 10^4 units: the least e with 10^e ≥ lot, and a grid of 10^(4 - (e + 2)) units
+-- "ceiling(log10 lot) + 2 decimals" of a rouble of 10^4 units: the least e with 10^e ≥ lot, and a grid of 10^(4 - (e +
+-- 2)) units
 unfoldable pub ceilingLog10 : ℕ → ℕ
 ceilingLog10 lot = least 2 (λ e. leb lot (10 ^ e))
 
@@ -52,9 +54,11 @@ grid-decimals lot h = go (le-or-lt lot 1) (le-or-lt lot 10)
     below-two b (suc zero) l = lt-leb lot 10 b
     below-two b (suc (suc z)) l = absurd (omega arith)
 
-    go : (lot ≤ 1) ⊎ (1 < lot) → (lot ≤ 10) ⊎ (10 < lot) → pick (leb lot 1) 100 (pick (leb lot 10) 10 1) ≡ 10 ^ (4 - (least 2 enough + 2))
+    go : (lot ≤ 1) ⊎ (1 < lot) → (lot ≤ 10) ⊎ (10 < lot) → pick (leb lot 1) 100 (pick (leb lot 10) 10 1)
+        ≡ 10 ^ (4 - (least 2 enough + 2))
     go (inl a) b =
-        let e : least 2 enough ≡ 0 = least-unique 2 enough 0 (omega arith) (λ _. le-leb lot 1 a) (λ z l. absurd (omega arith)) in
+        let e : least 2 enough ≡ 0 =
+        least-unique 2 enough 0 (omega arith) (λ _. le-leb lot 1 a) (λ z l. absurd (omega arith)) in
         rw (le-leb lot 1 a, e)
     go (inr a) (inl b) =
         let e : least 2 enough ≡ 1 = least-unique 2 enough 1 (omega arith) (λ _. le-leb lot 10 b) (below-one a) in
@@ -65,14 +69,17 @@ grid-decimals lot h = go (le-or-lt lot 1) (le-or-lt lot 10)
 
 -- ---- the gateway: "one figure, or minus the refusal number", 4 before 6
 
-pub gateway-four : (g : GivenStatics) (inRange : Bool) (figure : ℕ) → validGiven g ≡ false → gatewayAnswer (firstOf (gatewayChecks g inRange)) figure ≡ negsuc 3
+pub gateway-four : (g : GivenStatics) (inRange : Bool) (figure : ℕ) → validGiven g ≡ false
+    → gatewayAnswer (firstOf (gatewayChecks g inRange)) figure ≡ negsuc 3
 unfolding gatewayAnswer gatewayChecks firstOf isDone
 gateway-four g inRange figure e = rw e
 
-pub gateway-six : (g : GivenStatics) (inRange : Bool) (figure : ℕ) → validGiven g ≡ true → inRange ≡ false → gatewayAnswer (firstOf (gatewayChecks g inRange)) figure ≡ negsuc 5
+pub gateway-six : (g : GivenStatics) (inRange : Bool) (figure : ℕ) → validGiven g ≡ true → inRange ≡ false
+    → gatewayAnswer (firstOf (gatewayChecks g inRange)) figure ≡ negsuc 5
 unfolding gatewayAnswer gatewayChecks firstOf isDone
 gateway-six g inRange figure e f = rw (e, f)
 
-pub gateway-figure : (g : GivenStatics) (inRange : Bool) (figure : ℕ) → validGiven g ≡ true → inRange ≡ true → gatewayAnswer (firstOf (gatewayChecks g inRange)) figure ≡ pos figure
+pub gateway-figure : (g : GivenStatics) (inRange : Bool) (figure : ℕ) → validGiven g ≡ true → inRange ≡ true
+    → gatewayAnswer (firstOf (gatewayChecks g inRange)) figure ≡ pos figure
 unfolding gatewayAnswer gatewayChecks firstOf isDone
 gateway-figure g inRange figure e f = rw (e, f)

@@ -48,12 +48,15 @@ move-rounded p1 p2 p h1 h2 = go (leb (y .num * x .den) (x .num * y .den)) refl
     y : Quotient
     y = record { num = apart p p2 * oneInMillionths; den = p2 }
 
-    go : (t : Bool) → leb (y .num * x .den) (x .num * y .den) ≡ t → RoundedUp (max (up (x .num) (x .den)) (up (y .num) (y .den))) (pick t x y)
+    go : (t : Bool) → leb (y .num * x .den) (x .num * y .den) ≡ t
+        → RoundedUp (max (up (x .num) (x .den)) (up (y .num) (y .den))) (pick t x y)
     go true e =
-        rounded-max (up (x .num) (x .den)) (up (y .num) (y .den)) x y (up-rounded (x .num) p1 h1) (up-rounded (y .num) p2 h2) (leb-true _ _ e)
+        rounded-max (up (x .num) (x .den)) (up (y .num) (y .den)) x y (up-rounded (x .num) p1 h1)
+        (up-rounded (y .num) p2 h2) (leb-true _ _ e)
     go false e =
         rw (max-comm (up (x .num) (x .den)) (up (y .num) (y .den)))
-        (rounded-max (up (y .num) (y .den)) (up (x .num) (x .den)) y x (up-rounded (y .num) p2 h2) (up-rounded (x .num) p1 h1)
+        (rounded-max (up (y .num) (y .den)) (up (x .num) (x .den)) y x (up-rounded (y .num) p2 h2)
+        (up-rounded (x .num) p1 h1)
         (omega (arith, leb-false (y .num * x .den) (x .num * y .den) e)))
 
 -- ---- the volatility
@@ -75,7 +78,8 @@ weighted-near a n s r q old move ha near rounded =
     let e : oneInTenThousandths - a + a ≡ oneInTenThousandths = omega arith in
     rw e at (weight-near (oneInTenThousandths - a) a n s r (weighted a s r) old move near rounded
     (rw e (root-covers oneInTenThousandths ((oneInTenThousandths - a) * (s * s) + a * (r * r)) (omega arith)))
-    (λ z k. root-least oneInTenThousandths ((oneInTenThousandths - a) * (s * s) + a * (r * r)) z (rw e at k)) (omega arith))
+    (λ z k. root-least oneInTenThousandths ((oneInTenThousandths - a) * (s * s) + a * (r * r)) z (rw e at k))
+    (omega arith))
 
 replacement-near : (n r q : ℕ) (old move : Quotient) → oneInHundredths ≤ q → RoundedUp r move
     → NearExact (n + 1) (replacement q r) (nextSquare q old move replaced)
@@ -85,13 +89,15 @@ replacement-near n r q old move hq rounded =
     (times-covers q (oneInHundredths * r) (omega arith)) (times-least q (oneInHundredths * r))
 
 -- the rule takes one of the two, and the exact square is worked out by the same choice
-pub volatility-near : (m : Model) (b last r s n : ℕ) (old move : Quotient) → Weighing m → NearExact n s old → RoundedUp r move
+pub volatility-near : (m : Model) (b last r s n : ℕ) (old move : Quotient) → Weighing m → NearExact n s old
+    → RoundedUp r move
     → NearExact (n + 1) (volatilityOf m b last r s) (nextSquare (m .q) old move (choiceOf m b last r s))
 unfolding volatilityOf choiceOf
 volatility-near m b last r s n old move h near rounded =
     go (replaces m b last r (weighted (weightOf m b r s) s r)) (weightOf m b r s) (weight-most m b r s h)
   where
     go : (t : Bool) (a : ℕ) → a ≤ oneInTenThousandths
-        → NearExact (n + 1) (pick t (replacement (m .q) r) (weighted a s r)) (nextSquare (m .q) old move (pick t replaced (byWeight a)))
+        → NearExact (n + 1) (pick t (replacement (m .q) r) (weighted a s r))
+        (nextSquare (m .q) old move (pick t replaced (byWeight a)))
     go true a ha = replacement-near n r (m .q) old move (h .q) rounded
     go false a ha = weighted-near a n s r (m .q) old move ha near rounded

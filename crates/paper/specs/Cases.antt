@@ -1,4 +1,5 @@
--- Document 01, "Both sides of each line": the starred cases, computed from the definitions, a line to a case. Assumes nothing.
+-- Document 01, "Both sides of each line": the starred cases, computed from the definitions, a line to a case. Assumes
+-- nothing.
 use mathlib.Core.Path.{_≡_, refl}
 use mathlib.Core.Bool.{Bool, true, false}
 use mathlib.Core.List.{List, [], _∷_, map}
@@ -73,7 +74,12 @@ dayWith m x = record { day = 4; b = 0; m = m; terms = three (λ k. x) }
 
 -- cases 1 to 6: the record after an evaluation at 1,030,000
 unfoldable pub after : (m : ℕ) → Term → Record
-unfolding admissionZ givenWith roublesRow dayWith staticsOf admitted minimumOf evaluated figuresOn figuresOf modelled unmodelled moveOn priceOn moveOf moveFrom up apart volatilityOf weightOf weighted replaces replacement leastStep tentativeRate tentativeAfter levelRate covers meetsRequirement daysOf least first leastRoot leastTimes leastMultiple evaluationOf dayRows rowsOf partsFrom rowAt rowOf unsigned roublesOf rowPrice rowWeight halfUp toGrid grown closeOf mean traded those weights worth bestBid bestAsk lesserAsk between median gridOf rangeOf rangeLimit limitOf shifted bandOf bandLimit farthest narrower lesserOf greaterOf monitored spread
+unfolding admissionZ givenWith roublesRow dayWith staticsOf admitted minimumOf evaluated figuresOn figuresOf modelled
+    unmodelled moveOn priceOn moveOf moveFrom up apart volatilityOf weightOf weighted replaces replacement leastStep
+    tentativeRate tentativeAfter levelRate covers meetsRequirement daysOf least first leastRoot leastTimes leastMultiple
+    evaluationOf dayRows rowsOf partsFrom rowAt rowOf unsigned roublesOf rowPrice rowWeight halfUp toGrid grown closeOf
+    mean traded those weights worth bestBid bestAsk lesserAsk between median gridOf rangeOf rangeLimit limitOf shifted
+    bandOf bandLimit farthest narrower lesserOf greaterOf monitored spread
 after m x = evaluated (admitted admissionZ) (dayWith m x) (roublesRow 1030000 0 0 5 [])
 
 rateAt : Record → ℕ → ℕ
@@ -98,7 +104,8 @@ rows10 = roublesRow 1000000 0 0 300 (pos 0 ∷ pos 125000 ∷ pos 0 ∷ pos 8100
 
 -- what the definitions give
 pub results : List (List ℕ)
-unfolding after Z rateAt upperAt lowerAt bandAt yesNo rows10 moved oneMore deltaOf rangeMoved bandMoved nearCleared isNear distance
+unfolding after Z rateAt upperAt lowerAt bandAt yesNo rows10 moved oneMore deltaOf rangeMoved bandMoved nearCleared
+    isNear distance
 results =
     -- 1: r, s, tentative, the three rates
     (moveOn (admitted admissionZ) (roublesRow 1030000 0 0 5 [])
@@ -137,7 +144,8 @@ results =
     -- 7: r, and the weight
     ∷ (moveOf 300000000 300000000 306000100 ∷ weightOf (modelOf Z) 0 (moveOf 300000000 300000000 306000100) 20000 ∷ [])
     -- 8: s after r 200,000 with S_1 700, and with b 2
-    ∷ (volatilityOf (modelOf Z) 0 (millionthsInBp * 700) 200000 20000 ∷ volatilityOf (modelOf Z) 2 (millionthsInBp * 700) 200000 20000 ∷ [])
+    ∷ (volatilityOf (modelOf Z) 0 (millionthsInBp * 700) 200000 20000 ∷ volatilityOf (modelOf Z) 2
+    (millionthsInBp * 700) 200000 20000 ∷ [])
     -- 9: t, and the tentative rate at age 3 and at age 4
     ∷ (tentativeRate Z 3333
     ∷ tentativeAfter (Z .h) (Z .wait) (tentativeRate Z 3333) (record { bp = 700; age = 3 }) .bp
@@ -180,17 +188,20 @@ admitAnswer slots = numberOf (step (admit admissionZ) (replicate slots blank) .a
 
 -- case 1's security on a second day, back at 1,000,000
 second : Record
-second = evaluated (after 0 noTerm) (record { day = 5; b = 0; m = 0; terms = three (λ k. noTerm) }) (roublesRow 1000000 0 0 5 [])
+second = evaluated (after 0 noTerm) (record { day = 5; b = 0; m = 0; terms = three (λ k. noTerm) })
+    (roublesRow 1000000 0 0 5 [])
 
 pub straddles : List (List ℕ)
-unfolding results fine admitAnswer second quoted found step judged firstOf checksOf admitChecks acceptedOf saying validSlots validAdmission validGiven validStatics isGridPrice isPrice validTentative stands place isDone blank
+unfolding results fine admitAnswer second quoted found step judged firstOf checksOf admitChecks acceptedOf saying
+    validSlots validAdmission validGiven validStatics isGridPrice isPrice validTentative stands place isDone blank
 straddles =
     -- a band limit is rounded once: with each factor rounded it would be 1,052,490
     (bandLimit fine Upper 1000010 800 0 30 (pos 1460) ∷ [])
     -- the second day is evaluated as the first was: the two evaluations, s, tentative and age
     ∷ (second .p1 .units ∷ second .p2 .units ∷ second .s ∷ second .tentative .bp ∷ second .tentative .age ∷ [])
     -- a quote leaves the volatility
-    ∷ (getD (acceptedOf (quote 7 (record { second = 1; term = 0; bid = 1062970; ask = 0 })) (after 0 noTerm ∷ []) .table) 0 blank .s ∷ [])
+    ∷ (getD (acceptedOf (quote 7 (record { second = 1; term = 0; bid = 1062970; ask = 0 }))
+    (after 0 noTerm ∷ []) .table) 0 blank .s ∷ [])
     -- "A table of no slots, or over 512, is refused 4 by admit"
     ∷ (admitAnswer 0 ∷ admitAnswer 1 ∷ admitAnswer 512 ∷ admitAnswer 513 ∷ [])
     -- "Where an id stands in several slots the first alone counts"

@@ -1,4 +1,5 @@
--- Document 01, "What the desk covers" and "Numbers a member may see": the five calls over the table, and sequences of them. Assumes nothing.
+-- Document 01, "What the desk covers" and "Numbers a member may see": the five calls over the table, and sequences of
+-- them. Assumes nothing.
 use mathlib.Core.Bool.{Bool, true, false, not, _&&_, _||_}
 use mathlib.Core.List.{List, [], _∷_}
 use Prim.Native.Nat.{ℕ, zero, suc, _+_, _-_}
@@ -97,7 +98,8 @@ alerting top bottom = record { verdict = Done; rec = blank; top = top; bottom = 
 
 -- ---- what each call writes
 
--- "The three rates start at their minima; age, limits, counts, terms and the last quote second at 0, with no near seconds."
+-- "The three rates start at their minima; age, limits, counts, terms and the last quote second at 0, with no near
+-- seconds."
 unfoldable pub admitted : Admission → Record
 admitted a =
     record {
@@ -182,10 +184,11 @@ quoted r q =
 -- "The answer has two yes/no alerts, one for the top and one for the bottom"
 unfoldable pub alertsOn : Record → Quote → Answer
 alertsOn r q =
-    alerting (alert (r .statics .u) (nearOn r q .top) (q .second)) (alert (r .statics .u) (nearOn r q .bottom) (q .second))
+    alerting (alert (r .statics .u) (nearOn r q .top) (q .second))
+    (alert (r .statics .u) (nearOn r q .bottom) (q .second))
 
--- "It adds one to c, remakes that side's three band limits, and shifts its three range limits by delta. It clears that side's near seconds in
--- all terms."
+-- "It adds one to c, remakes that side's three band limits, and shifts its three range limits by delta. It clears that
+-- side's near seconds in all terms."
 unfoldable pub moved : Record → Side → Record
 moved r side =
     let c : Moves = oneMore side (r .moves) in
@@ -202,7 +205,8 @@ moved r side =
       ranges = three (λ i. rangeMoved side (deltaOf (r .statics) (r .p1 .units) s1) (getD (r .ranges) i noLimits));
       terms = r .terms;
       bands =
-          three (λ k. bandMoved side (bandOf (r .statics) (r .p1 .units) s1 c (termAt (r .terms) k)) (getD (r .bands) k noLimits));
+          three (λ k. bandMoved side (bandOf (r .statics) (r .p1 .units) s1 c (termAt (r .terms) k))
+          (getD (r .bands) k noLimits));
       moves = c;
       near = three (λ k. nearCleared side (getD (r .near) k notNear));
       second = r .second;
@@ -210,7 +214,8 @@ moved r side =
 
 -- ---- the table
 
--- the place of the first slot with an id, or the number of slots: "Where an id stands in several slots the first alone counts"
+-- the place of the first slot with an id, or the number of slots: "Where an id stands in several slots the first alone
+-- counts"
 unfoldable pub place : List Record → ℕ → ℕ
 place [] id = 0
 place (r ∷ t) id = pick (eqb (r .id) id) 0 (suc (place t id))
@@ -256,9 +261,17 @@ evaluateChecks there r d rows =
     record { verdict = NoSuchId; applies = not there }
     ∷ record { verdict = OutOfRange; applies = not (validDay d rows) }
     ∷ record { verdict = DayNotAfter; applies = leb (d .day) (lastDay (r .standing)) }
-    ∷ record { verdict = PriceOutOfRange; applies = not (evaluationFits (gridOf (r .statics .lot)) (r .p1 .units) (dayRows rows)) }
+    ∷ record {
+      verdict = PriceOutOfRange;
+      applies =
+          not (evaluationFits (gridOf (r .statics .lot)) (r .p1 .units) (dayRows rows));
+    }
     ∷ record { verdict = MoveTooLarge; applies = moveTooLarge (r .statics) (moveOn r rows) }
-    ∷ record { verdict = BandCrossed; applies = not (allThree (λ k. not (crossed (getD (evaluated r d rows .bands) k noLimits)))) }
+    ∷ record {
+      verdict = BandCrossed;
+      applies =
+          not (allThree (λ k. not (crossed (getD (evaluated r d rows .bands) k noLimits))));
+    }
     ∷ []
 
 -- "quote 1, 6, 10, 11, 13"
@@ -306,11 +319,19 @@ judged v t accepted = pick (isDone v) accepted (record { answer = saying v; tabl
 unfoldable pub acceptedOf : Call → List Record → Outcome
 acceptedOf (admit a) t = record { answer = saying Done; table = set t (place t 0) (admitted a) }
 acceptedOf (evaluate id d rows) t =
-    record { answer = showing (evaluated (found t id) d rows); table = set t (place t id) (evaluated (found t id) d rows) }
+    record {
+      answer = showing (evaluated (found t id) d rows);
+      table =
+          set t (place t id) (evaluated (found t id) d rows);
+    }
 acceptedOf (quote id q) t =
     record { answer = alertsOn (found t id) q; table = set t (place t id) (quoted (found t id) q) }
 acceptedOf (move id side) t =
-    record { answer = showing (moved (found t id) (sideOf side)); table = set t (place t id) (moved (found t id) (sideOf side)) }
+    record {
+      answer = showing (moved (found t id) (sideOf side));
+      table =
+          set t (place t id) (moved (found t id) (sideOf side));
+    }
 acceptedOf (read id) t = record { answer = showing (found t id); table = t }
 
 -- one call

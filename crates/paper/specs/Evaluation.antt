@@ -11,8 +11,8 @@ use Rattle.paper.specs.Numbers.{rouble, yearInDayBp, volumeMost}
 use Rattle.paper.specs.Roundings.{halfUp, toGrid, grown}
 use Rattle.paper.specs.Ranges.{isPrice, rowsOf, rowOf}
 
--- (a) "Each present row price is price·Rc/10^4 · 3,650,000/(3,650,000 + T·rate), rounded once, half up, to a unit." A missing price, 0,
--- stays 0
+-- (a) "Each present row price is price·Rc/10^4 · 3,650,000/(3,650,000 + T·rate), rounded once, half up, to a unit." A
+-- missing price, 0, stays 0
 unfoldable pub rowPrice : Row → ℕ → ℕ
 rowPrice row price = halfUp (price * row .central * yearInDayBp) (rouble * grown yearInDayBp (row .t) (row .repo))
 
@@ -22,9 +22,16 @@ rowWeight row = halfUp (row .volume * row .central) rouble
 
 unfoldable pub roublesOf : Row → Roubles
 roublesOf row =
-    record { weight = rowWeight row; close = rowPrice row (row .close); bid = rowPrice row (row .bid); ask = rowPrice row (row .ask) }
+    record {
+      weight = rowWeight row;
+      close = rowPrice row (row .close);
+      bid = rowPrice row (row .bid);
+      ask =
+          rowPrice row (row .ask);
+    }
 
--- "The close is the mean over rows whose weight (b) is above 0, weighted by it. With no such row it is the previous evaluation."
+-- "The close is the mean over rows whose weight (b) is above 0, weighted by it. With no such row it is the previous
+-- evaluation."
 unfoldable pub traded : List Roubles → List Roubles
 traded rs = those (λ (r : Roubles). ltb 0 (r .weight)) rs
 
@@ -61,7 +68,8 @@ bestAsk (r ∷ rs) = lesserAsk (r .ask) (bestAsk rs)
 unfoldable pub median : ℕ → ℕ → ℕ → ℕ
 median a b c = max (min a b) (min (max a b) c)
 
--- "Both present: the median of BID, close, ASK, also when BID > ASK. One side: min(close, ASK) or max(close, BID). None: the close."
+-- "Both present: the median of BID, close, ASK, also when BID > ASK. One side: min(close, ASK) or max(close, BID).
+-- None: the close."
 unfoldable pub between : ℕ → ℕ → ℕ → ℕ
 between zero close zero = close
 between zero close (suc ask) = min close (suc ask)

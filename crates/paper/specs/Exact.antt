@@ -23,7 +23,8 @@ pub data Choice : Type 0 where
 -- the greater of |P - P1|/P1 and |P - P2|/P2 in millionths, not rounded
 unfoldable pub exactMove : ℕ → ℕ → ℕ → Quotient
 exactMove p1 p2 p =
-    greaterOf (record { num = apart p p2 * oneInMillionths; den = p2 }) (record { num = apart p p1 * oneInMillionths; den = p1 })
+    greaterOf (record { num = apart p p2 * oneInMillionths; den = p2 })
+    (record { num = apart p p1 * oneInMillionths; den = p1 })
 
 -- (10,000 - a)/10,000 of the old square and a/10,000 of the move's; or the square of 100·r/q
 unfoldable pub nextSquare : ℕ → Quotient → Quotient → Choice → Quotient
@@ -32,7 +33,8 @@ nextSquare q x r (byWeight a) =
       num = (oneInTenThousandths - a) * x .num * (r .den * r .den) + a * (r .num * r .num) * x .den;
       den = oneInTenThousandths * x .den * (r .den * r .den);
     }
-nextSquare q x r replaced = record { num = oneInHundredths * r .num * (oneInHundredths * r .num); den = r .den * q * (r .den * q) }
+nextSquare q x r replaced =
+    record { num = oneInHundredths * r .num * (oneInHundredths * r .num); den = r .den * q * (r .den * q) }
 
 -- the choice that the volatility's rule makes in an evaluation
 unfoldable pub choiceOf : Model → (b last r s : ℕ) → Choice
@@ -48,7 +50,8 @@ exactSquare a (evaluatedOn d rows ∷ es) =
     let x : Carries = carries a es in
     let p : ℕ = carries a (evaluatedOn d rows ∷ es) .p1 in
     nextSquare (a .given .q) (exactSquare a es) (exactMove (x .p1) (x .p2) p)
-    (choiceOf (modelOf (staticsOf (a .given))) (d .b) (millionthsInBp * rateAt (x .rates) 0) (moveOf (x .p1) (x .p2) p) (x .s))
+    (choiceOf (modelOf (staticsOf (a .given))) (d .b) (millionthsInBp * rateAt (x .rates) 0) (moveOf (x .p1) (x .p2) p)
+    (x .s))
 exactSquare a (quotedAt q ∷ es) = exactSquare a es
 exactSquare a (movedBy side ∷ es) = exactSquare a es
 

@@ -1,4 +1,5 @@
--- Document 02, W-201: clauses 14.4, 14.6 and 16.2 of source document 001, in basis points and in roubles. Assumes nothing.
+-- Document 02, W-201: clauses 14.4, 14.6 and 16.2 of source document 001, in basis points and in roubles. Assumes
+-- nothing.
 use mathlib.Core.Bool.{Bool, true, false, not, _&&_}
 use mathlib.Core.List.{List, [], _∷_, map}
 use Prim.Native.Nat.{ℕ, zero, suc, _+_, _-_, _*_, _/_, _%_, max}
@@ -55,8 +56,8 @@ keysOf numbers = partsFrom keyAt keyNumbers numbers 0 (length numbers / keyNumbe
 unfoldable pub wholeKeys : List ℤ → Bool
 wholeKeys numbers = eqb (length numbers % keyNumbers) 0 && within keyNumbers allKeyNumbersMost (length numbers)
 
--- "Rates given lie in -9,999..9,999 bp, .. old volatility in 0..19,998, old tentative rate in 0..200,979, .. key maturities in 0..365 days, the rest as for
--- shares"
+-- "Rates given lie in -9,999..9,999 bp, .. old volatility in 0..19,998, old tentative rate in 0..200,979, .. key
+-- maturities in 0..365 days, the rest as for shares"
 unfoldable pub validKey : LentKey → Bool
 validKey k =
     withinZ (pos 0) (pos maturityMost) (k .t)
@@ -132,8 +133,8 @@ abbrev pub atLeastZero : ℤ → ℕ
 atLeastZero (pos n) = n
 atLeastZero (negsuc n) = 0
 
--- "ceiling(max(tentative + liq_RR; minimum)/h_IR)·h_IR": the least multiple of h at or above the greater; the sum is never below 0, so a minimum below 0 is
--- never the greater
+-- "ceiling(max(tentative + liq_RR; minimum)/h_IR)·h_IR": the least multiple of h at or above the greater; the sum is
+-- never below 0, so a minimum below 0 is never the greater
 unfoldable pub estimate : Interest → Maturity → ℤ → ℕ
 estimate i k minimum = leastStep (i .h) 1 (max (repoTentative i k .bp + i .liq) (atLeastZero minimum))
 
@@ -218,7 +219,8 @@ unfoldable pub ascending : List Maturity → Bool
 ascending [] = true
 ascending (k ∷ ks) = ascendingFrom (k .t) ks
 
--- "or the answer is 6"; "14, key maturities not strictly ascending or the pair's second term not after its first, after 6"
+-- "or the answer is 6"; "14, key maturities not strictly ascending or the pair's second term not after its first, after
+-- 6"
 unfoldable pub interestChecks : Interest → List ℤ → List Check
 interestChecks i numbers =
     record { verdict = OutOfRange; applies = not (validInterest i && validKeys numbers) }

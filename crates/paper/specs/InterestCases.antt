@@ -106,7 +106,8 @@ workedFigures =
     ∷ []
 
 pub worked-figures : workedFigures
-    -- a change equal to the old tentative rate is weighed, one above is replaced by 100·151/200, up; zeros past the last
+    -- a change equal to the old tentative rate is weighed, one above is replaced by 100·151/200, up; zeros past the
+    -- last
     ≡ (150 ∷ 61 ∷ 150 ∷ 2 ∷ 300 ∷ 200 ∷ [])
     ∷ (151 ∷ 76 ∷ 200 ∷ 0 ∷ 300 ∷ 450 ∷ [])
     ∷ (0 ∷ 0 ∷ 0 ∷ 0 ∷ 0 ∷ 0 ∷ [])

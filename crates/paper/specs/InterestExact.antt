@@ -90,7 +90,8 @@ repoChoice i k = choiceOf (i .model) (i .b) (k .tentative .bp) (changeOf k) (k .
 unfoldable pub exactChange : Maturity → Quotient
 exactChange k = record { num = changeOf k; den = 1 }
 
--- the exact square in square bp, "from the first volatility given", by the exact changes and the choices of the carried figure
+-- the exact square in square bp, "from the first volatility given", by the exact changes and the choices of the carried
+-- figure
 unfoldable pub exactRepoSquare : Carried → List Evening → Quotient
 exactRepoSquare first [] = record { num = first .volatility * first .volatility; den = 1 }
 exactRepoSquare first (e ∷ es) =

@@ -31,7 +31,8 @@ unfolding unsigned isPrice isRate gridOf isGridPrice validStatics staticsOf vali
     partsFrom rowAt rowsOf wholeRows validRow validRows rowOf validTerm validDay validQuote validSide sideOf isLive
     lastDay isLimit validLimits validNear validNearSeconds sound validSlots rowPrice rowWeight roublesOf traded
     weights worth mean closeOf bestBid lesserAsk bestAsk median between evaluationOf dayRows rowFits evaluationFits
-    moveFrom moveOf weightOf weighted replacement replaces volatilityOf leastStep tentativeRate tentativeAfter meetsRequirement daysOf
+    moveFrom moveOf weightOf weighted replacement replaces volatilityOf leastStep tentativeRate tentativeAfter
+    meetsRequirement daysOf
     minimumOf covers levelRate modelled unmodelled figuresOf moveTooLarge limitOf shifted rangeLimit rangeOf farthest
     spread monitored narrower bandLimit bandOf crossed deltaOf oneMore rangeMoved bandMoved distance isNear keptSince
     nearAfter alert nearCleared isDone firstOf blank saying showing alerting admitted priceOn moveOn figuresOn

@@ -41,8 +41,8 @@ within low high x = leb low x && leb x high
 abbrev pub withinZ : ℤ → ℤ → ℤ → Bool
 withinZ low high x = leZ low x && leZ x high
 
--- a signed number where the paper's range begins at 0 or above: one below zero is out of every range, and so is read as a number that no
--- range holds
+-- a signed number where the paper's range begins at 0 or above: one below zero is out of every range, and so is read as
+-- a number that no range holds
 unfoldable pub unsigned : ℤ → ℕ
 unsigned (pos n) = n
 unsigned (negsuc n) = pastEvery
@@ -143,8 +143,8 @@ validTentative st tentative = leb tentative (st .smax) && eqb (tentative % st .h
 
 -- ---- an admission
 
--- "Admission also gives id (1..10^9), last day number (0..10^6), the two latest evaluations (on the grid, in range), s, and the tentative
--- rate"
+-- "Admission also gives id (1..10^9), last day number (0..10^6), the two latest evaluations (on the grid, in range), s,
+-- and the tentative rate"
 unfoldable pub validAdmission : Admission → Bool
 validAdmission a =
     within 1 idMost (a .id)
@@ -195,7 +195,8 @@ wholeRows numbers = eqb (length numbers % rowNumbers) 0 && leb (length numbers) 
 abbrev pub closeForVolume : ℤ → ℤ → Bool
 closeForVolume volume close = leZ volume (pos 0) || leZ (pos 1) close
 
--- "A row: T 0..30; central rate 1..10^7 ten-thousandths; repo rate -9,999..9,999 bp; close, bid, ask 0..10^10; volume 0..10^8 thousands."
+-- "A row: T 0..30; central rate 1..10^7 ten-thousandths; repo rate -9,999..9,999 bp; close, bid, ask 0..10^10; volume
+-- 0..10^8 thousands."
 unfoldable pub validRow : LentRow → Bool
 validRow row =
     withinZ (pos 0) (pos rowTermMost) (row .t)
@@ -262,7 +263,8 @@ unfoldable pub isLive : Standing → Bool
 isLive (Admitted day) = false
 isLive (Live day) = true
 
--- "live with its day number, which is then the last day"; of an admitted-only record the last day is the one given at admission
+-- "live with its day number, which is then the last day"; of an admitted-only record the last day is the one given at
+-- admission
 unfoldable pub lastDay : Standing → ℕ
 lastDay (Admitted day) = day
 lastDay (Live day) = day
@@ -290,8 +292,9 @@ validNear (Since second) = leb second secondLast
 unfoldable pub validNearSeconds : NearSeconds → Bool
 validNearSeconds n = validNear (n .top) && validNear (n .bottom)
 
--- "A record with a field outside the ranges, orders, multiples of h or grid that this paper gives as input ranges (and rates 0..10,000,
--- limits on the grid 0..2·10^12 + 2·10^10, move counts 0..50, age 0..250, seconds 0..86,399) counts as no such id": it is sound otherwise
+-- "A record with a field outside the ranges, orders, multiples of h or grid that this paper gives as input ranges (and
+-- rates 0..10,000, limits on the grid 0..2·10^12 + 2·10^10, move counts 0..50, age 0..250, seconds 0..86,399) counts as
+-- no such id": it is sound otherwise
 unfoldable pub sound : Record → Bool
 sound r =
     within 1 idMost (r .id)

@@ -42,8 +42,8 @@ weighted a s r = leastRoot oneInTenThousandths ((oneInTenThousandths - a) * (s *
 unfoldable pub replacement : ℕ → ℕ → ℕ
 replacement q r = leastTimes q (oneInHundredths * r)
 
--- "When b ≤ 1 and r > 100·S_1 (last rate), also take the least y ..; s is the greater, and on a tie x is the one chosen." The last rate is in the
--- unit of the move
+-- "When b ≤ 1 and r > 100·S_1 (last rate), also take the least y ..; s is the greater, and on a tie x is the one
+-- chosen." The last rate is in the unit of the move
 unfoldable pub replaces : Model → (b last r x : ℕ) → Bool
 replaces m b last r x = leb b 1 && ltb last r && ltb x (replacement (m .q) r)
 
@@ -62,8 +62,8 @@ leastStep h factor n = leastMultiple h n (λ t. leb n (factor * t))
 unfoldable pub tentativeRate : Statics → ℕ → ℕ
 tentativeRate st s = min (st .smax) (leastStep (st .h) hundredthsOfMillionthsInBp (st .q * s))
 
--- "If t ≥ tentative + h, tentative becomes t. Else if t ≤ tentative - h and age + 1 ≥ n, it falls by one h. Else it stays. Age becomes 0 on a
--- change, else one more, held at 250."
+-- "If t ≥ tentative + h, tentative becomes t. Else if t ≤ tentative - h and age + 1 ≥ n, it falls by one h. Else it
+-- stays. Age becomes 0 on a change, else one more, held at 250."
 unfoldable pub tentativeAfter : ℕ → ℕ → ℕ → Tentative → Tentative
 tentativeAfter h wait t old =
     pick (leb (old .bp + h) t) (record { bp = t; age = 0 })
@@ -72,8 +72,8 @@ tentativeAfter h wait t old =
 
 -- ---- the rate of a level
 
--- "v ≥ sqrt(rh_L/rh_1)·(tentative·sqrt((rh_1 + m)/rh_1) + liq)": with A = v²·rh_1² - rh_L·tentative²·(rh_1 + m) - rh_L·rh_1·liq², "it holds
--- when A ≥ 0 and A² ≥ 4·rh_L²·tentative²·liq²·rh_1·(rh_1 + m)"
+-- "v ≥ sqrt(rh_L/rh_1)·(tentative·sqrt((rh_1 + m)/rh_1) + liq)": with A = v²·rh_1² - rh_L·tentative²·(rh_1 + m) -
+-- rh_L·rh_1·liq², "it holds when A ≥ 0 and A² ≥ 4·rh_L²·tentative²·liq²·rh_1·(rh_1 + m)"
 unfoldable pub meetsRequirement : ℕ → ℕ → ℕ → ℕ → ℕ → ℕ → Bool
 meetsRequirement rh1 rh liq m tentative v =
     let A : ℤ = subℕ (v * v * (rh1 * rh1)) (rh * (tentative * tentative) * (rh1 + m) + rh * rh1 * (liq * liq)) in
@@ -90,7 +90,8 @@ minimumOf st level = pick (eqb level 1) (st .min1) (pick (eqb level 2) (st .min2
 unfoldable pub covers : Statics → ℕ → ℕ → ℕ → ℕ → Bool
 covers st level m tentative v = meetsRequirement (st .rh1) (daysOf st level) (st .liq) m tentative v
 
--- "Rate of level L is S_max if the requirement exceeds it, else the least multiple v of h, v ≥ S_L_min, with v ≥ .." the requirement
+-- "Rate of level L is S_max if the requirement exceeds it, else the least multiple v of h, v ≥ S_L_min, with v ≥ .."
+-- the requirement
 unfoldable pub levelRate : Statics → ℕ → ℕ → ℕ → ℕ
 levelRate st level m tentative =
     pick (covers st level m tentative (st .smax))
@@ -123,10 +124,11 @@ moveTooLarge st r = st .ewma && ltb volatilityMost r
 
 -- ---- what the rate of a level is, in demand 2's words
 
--- v is at least the sum of the roots of two quotients, as real numbers are: every fraction a/d whose square is at most x, and every b/d whose square is at
--- most y, have (a + b)/d ≤ v
+-- v is at least the sum of the roots of two quotients, as real numbers are: every fraction a/d whose square is at most
+-- x, and every b/d whose square is at most y, have (a + b)/d ≤ v
 pub record AtLeastRoots (v : ℕ) (x y : Quotient) : Type 0 where
-  pub bounds : (a b d : ℕ) → 0 < d → a * a * x .den ≤ x .num * (d * d) → b * b * y .den ≤ y .num * (d * d) → a + b ≤ v * d
+  pub bounds : (a b d : ℕ) → 0 < d → a * a * x .den ≤ x .num * (d * d) → b * b * y .den ≤ y .num * (d * d)
+      → a + b ≤ v * d
 
 -- the squares of sqrt(rh_L/rh_1)·tentative·sqrt((rh_1 + m)/rh_1) and of sqrt(rh_L/rh_1)·liq
 abbrev pub volatilePart : (rh1 rh m tentative : ℕ) → Quotient

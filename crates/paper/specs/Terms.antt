@@ -1,4 +1,5 @@
--- Document 02, W-201: "The security's evaluation may take these limits or given ones." A day as it is asked for is a day of document 01. Assumes nothing.
+-- Document 02, W-201: "The security's evaluation may take these limits or given ones." A day as it is asked for is a
+-- day of document 01. Assumes nothing.
 use mathlib.Core.Bool.{Bool, true, false}
 use mathlib.Core.List.{List, [], _∷_}
 use Prim.Native.Nat.{ℕ}
@@ -31,4 +32,10 @@ termOf x = record { k = x .k; low = repoOf (x .band) .low; high = repoOf (x .ban
 
 -- the day of document 01, "the worked limits judged by the same range test (6) as given ones"
 unfoldable pub dayOf : AskedDay → Day
-dayOf a = record { day = a .day; b = a .b; m = a .m; terms = termOf (a .first) ∷ termOf (a .second) ∷ termOf (a .third) ∷ [] }
+dayOf a = record {
+  day = a .day;
+  b = a .b;
+  m = a .m;
+  terms =
+      termOf (a .first) ∷ termOf (a .second) ∷ termOf (a .third) ∷ [];
+}

@@ -1,5 +1,6 @@
-// The values that document 01 speaks of, in the forms that it names. What is right is said over them in specs/, a file a clause, and what
-// is proved of that stands in proofs/. Every number of the paper has one name here and one in specs/Numbers.antt.
+// The values that document 01 speaks of, in the forms that it names. What is right is said over them in specs/, a file
+// a clause, and what is proved of that stands in proofs/. Every number of the paper has one name here and one in
+// specs/Numbers.antt.
 ghost use mathlib.Core.Path.{_≡_};
 ghost use Prim.Native.Nat.{_≤_};
 ghost use Rattle.paper.specs.Numbers.{rateMost};
@@ -110,14 +111,15 @@ impl Limit {
     }
 }
 
-// The tentative rate (7.1), in basis points, and the days since it changed. It is no `Rate`: nothing but the desk's maximum holds it.
+// The tentative rate (7.1), in basis points, and the days since it changed. It is no `Rate`: nothing but the desk's
+// maximum holds it.
 pub struct Tentative {
     pub bp: u64,
     pub age: u64,
 }
 
-// What the volatility's rule takes, for shares and for interest alike: the weight where the move is above the volatility, the weight where it is not, and
-// the multiplier.
+// What the volatility's rule takes, for shares and for interest alike: the weight where the move is above the
+// volatility, the weight where it is not, and the multiplier.
 pub struct Model {
     pub aup: u64,
     pub adown: u64,
@@ -315,7 +317,8 @@ impl Day {
     pub const AHEAD_MOST: u64 = 10;
 }
 
-// A row of the day, its numbers in range; only the repo rate may be negative. Close, bid or ask 0 is missing, volume 0 is no trade.
+// A row of the day, its numbers in range; only the repo rate may be negative. Close, bid or ask 0 is missing, volume 0
+// is no trade.
 pub struct Row {
     pub t: u64,
     pub central: u64,
@@ -415,8 +418,8 @@ pub struct Answer {
 
 // ---- the interest side (W-201)
 
-// A key maturity as an evening gives it: its days, the repo rate of this evening and of the two before, the repo index, and the volatility and the tentative
-// rate of the evening before. Rates and volatility are in basis points.
+// A key maturity as an evening gives it: its days, the repo rate of this evening and of the two before, the repo index,
+// and the volatility and the tentative rate of the evening before. Rates and volatility are in basis points.
 pub struct Maturity {
     pub t: u64,
     pub r: i64,
@@ -439,7 +442,8 @@ impl Maturity {
     pub const TENTATIVE_MOST: u64 = 200_979;
 }
 
-// What an evening gives beside its key maturities: the holidays b, the pair of terms Ym/Yn, the statics, and the rollover rates of money and of the security.
+// What an evening gives beside its key maturities: the holidays b, the pair of terms Ym/Yn, the statics, and the
+// rollover rates of money and of the security.
 pub struct Interest {
     pub b: u64,
     pub ym: u64,
@@ -459,7 +463,8 @@ impl Interest {
     pub const MINIMUM_MOST: u64 = 9_999;
 }
 
-// The figures of a key maturity: the change of its rate, the volatility, the tentative rate, and the upward and the downward estimate.
+// The figures of a key maturity: the change of its rate, the volatility, the tentative rate, and the upward and the
+// downward estimate.
 pub struct MaturityFigures {
     pub change: u64,
     pub volatility: u64,
@@ -475,8 +480,8 @@ pub struct WorkedBand {
     pub upper: i64,
 }
 
-// What the interest side answers: the pair, how many key maturities there are, and the figures of each; zeros past the last. A refusal has its verdict
-// and every figure 0.
+// What the interest side answers: the pair, how many key maturities there are, and the figures of each; zeros past the
+// last. A refusal has its verdict and every figure 0.
 pub struct InterestAnswer {
     pub pair: WorkedBand,
     pub count: u64,

@@ -36,7 +36,8 @@ four-products a b = either (le-or-lt a b)
 
 -- a rate meets the requirement exactly where, times rh_1, it reaches the two roots
 pub meets-reaches : (rh1 rh liq m tentative v : ℕ)
-    → reaches (v * rh1) (tentativeSquare rh1 rh m tentative) (liquiditySquare rh1 rh liq) ≡ meetsRequirement rh1 rh liq m tentative v
+    → reaches (v * rh1) (tentativeSquare rh1 rh m tentative) (liquiditySquare rh1 rh liq)
+    ≡ meetsRequirement rh1 rh liq m tentative v
 unfolding reaches
 meets-reaches rh1 rh liq m tentative v =
     let same : v * rh1 * (v * rh1) ≡ v * v * (rh1 * rh1) = omega arith in
@@ -66,7 +67,13 @@ halved-start low high step a b h =
     record {
       above = omega arith;
       between =
-          record { order = h; inside = omega arith; before = λ z l. rw (lt-leb low z l); here = λ l. absurd (omega arith) };
+          record {
+            order = h;
+            inside = omega arith;
+            before = λ z l. rw (lt-leb low z l);
+            here =
+                λ l. absurd (omega arith);
+          };
     }
 
 -- a test between the two takes one of them to its place
@@ -85,7 +92,8 @@ module _ (low high step a b from to k : ℕ) (h : Halved low high step a b from 
         between = between-miss _ high from to k (reach-monotone low step a b) (h .between) v (tested false e);
       }
 
-pub halved-one : (low high step a b from to : ℕ) → Halved low high step a b from to → to ≤ from → from ≡ leastReach low high step a b
+pub halved-one : (low high step a b from to : ℕ) → Halved low high step a b from to → to ≤ from
+    → from ≡ leastReach low high step a b
 unfolding leastReach
 halved-one low high step a b from to h e = sym (between-one _ high from to (h .between) e)
 
@@ -98,7 +106,8 @@ least-same bound p q f =
 
 -- where S_max does not cover, no multiple below it does: the search alone gives the rate
 rate-multiple : (st : Statics) (level m tentative : ℕ) → st .smax % st .h ≡ 0
-    → leastMultiple (st .h) (st .smax / st .h) (λ v. leb (minimumOf st level) v && covers st level m tentative v) ≡ levelRate st level m tentative
+    → leastMultiple (st .h) (st .smax / st .h) (λ v. leb (minimumOf st level) v && covers st level m tentative v)
+    ≡ levelRate st level m tentative
 unfolding levelRate
 rate-multiple st level m tentative e = go (covers st level m tentative (st .smax)) refl
   where
@@ -108,9 +117,11 @@ rate-multiple st level m tentative e = go (covers st level m tentative (st .smax
     rate : ℕ
     rate = leastMultiple (st .h) (st .smax / st .h) passes
 
-    go : (t : Bool) → covers st level m tentative (st .smax) ≡ t → rate ≡ pick (covers st level m tentative (st .smax)) rate (st .smax)
+    go : (t : Bool) → covers st level m tentative (st .smax) ≡ t
+        → rate ≡ pick (covers st level m tentative (st .smax)) rate (st .smax)
     go true p = sym (pick-true (covers st level m tentative (st .smax)) rate (st .smax) p)
-    go false p = none (multiple-cases (st .h) (st .smax / st .h) passes) ∙ sym (pick-false (covers st level m tentative (st .smax)) rate (st .smax) p)
+    go false p = none (multiple-cases (st .h) (st .smax / st .h) passes)
+        ∙ sym (pick-false (covers st level m tentative (st .smax)) rate (st .smax) p)
       where
         most : st .smax / st .h * st .h ≡ st .smax
         most = whole-times (st .smax) (st .h) e
@@ -137,22 +148,29 @@ steps-from x h k p e = go (le-or-lt (x / h) k)
 
 pub reach-rate : (st : Statics) (level m tentative : ℕ) → RateStatics st
     → leastReach (minimumOf st level / st .h) (st .smax / st .h) (st .h * st .rh1)
-    (tentativeSquare (st .rh1) (daysOf st level) m tentative) (liquiditySquare (st .rh1) (daysOf st level) (st .liq)) * st .h
+    (tentativeSquare (st .rh1) (daysOf st level) m tentative) (liquiditySquare (st .rh1) (daysOf st level) (st .liq)) *
+    st .h
     ≡ levelRate st level m tentative
 unfolding leastReach leastMultiple covers
 reach-rate st level m tentative r =
-    ap (λ (k : ℕ). k * st .h) (least-same (st .smax / st .h) _ _ same) ∙ rate-multiple st level m tentative (r .most-multiple)
+    ap (λ (k : ℕ). k * st .h) (least-same (st .smax / st .h) _ _ same)
+    ∙ rate-multiple st level m tentative (r .most-multiple)
   where
     rh : ℕ
     rh = daysOf st level
 
     same : (k : ℕ)
         → (leb (minimumOf st level / st .h) k
-        && reaches (k * (st .h * st .rh1)) (tentativeSquare (st .rh1) rh m tentative) (liquiditySquare (st .rh1) rh (st .liq)))
+        && reaches (k * (st .h * st .rh1)) (tentativeSquare (st .rh1) rh m tentative)
+        (liquiditySquare (st .rh1) rh (st .liq)))
         ≡ (leb (minimumOf st level) (k * st .h) && covers st level m tentative (k * st .h))
     same k =
         let step : k * (st .h * st .rh1) ≡ k * st .h * st .rh1 = omega arith in
-        rw (step, steps-from (minimumOf st level) (st .h) k (r .step-low) (level-statics st level r .2), meets-reaches (st .rh1) rh (st .liq) m tentative (k * st .h))
+        rw (
+          step,
+          steps-from (minimumOf st level) (st .h) k (r .step-low) (level-statics st level r .2),
+          meets-reaches (st .rh1) rh (st .liq) m tentative (k * st .h),
+        )
 
 -- the numbers of steps that the search is given are in order, and reach no further than a rate may
 pub steps-held : (st : Statics) (level : ℕ) → RateStatics st
@@ -162,7 +180,8 @@ steps-held st level r =
     let most = whole-times (st .smax) (st .h) (r .most-multiple) in
     let low = whole-times (minimumOf st level) (st .h) (own .2) in
     let same : st .smax / st .h * (st .h * st .rh1) ≡ st .smax / st .h * st .h * st .rh1 = omega arith in (
-      le-div-iff-mul-le {k = st .h} {x = minimumOf st level / st .h} {y = st .smax} (r .step-low) .1 (omega (arith, low, own .1)),
+      le-div-iff-mul-le {k = st .h} {x = minimumOf st level / st .h} {y = st .smax} (r .step-low) .1
+          (omega (arith, low, own .1)),
       rw (same, most) (mul-le-mul (r .most-high) (r .first-high)),
     )
 

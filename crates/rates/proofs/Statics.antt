@@ -51,7 +51,8 @@ pub level-statics : (st : Statics) (level : ℕ) → RateStatics st → LevelSta
 unfolding daysOf minimumOf
 level-statics st level r = go (eqb level 1) (eqb level 2)
   where
-    go : (x y : Bool) → LevelStatics st (pick x (st .rh1) (pick y (st .rh2) (st .rh3))) (pick x (st .min1) (pick y (st .min2) (st .min3)))
+    go : (x y : Bool) → LevelStatics st (pick x (st .rh1) (pick y (st .rh2) (st .rh3)))
+        (pick x (st .min1) (pick y (st .min2) (st .min3)))
     go true y = (omega arith, omega arith, r .first-multiple)
     go false true = (omega arith, omega arith, r .second-multiple)
     go false false = (omega arith, omega arith, r .third-multiple)

@@ -1,5 +1,6 @@
--- The rate of a level (7.1), as the code finds it: with both sides times rh_1, v ≥ sqrt(rh_L/rh_1)·(tentative·sqrt((rh_1 + m)/rh_1) + liq) says that
--- v·rh_1 is at least the sum of the roots of two whole numbers. Assumes nothing.
+-- The rate of a level (7.1), as the code finds it: with both sides times rh_1, v ≥
+-- sqrt(rh_L/rh_1)·(tentative·sqrt((rh_1 + m)/rh_1) + liq) says that v·rh_1 is at least the sum of the roots of two
+-- whole numbers. Assumes nothing.
 use mathlib.Core.Bool.{Bool, _&&_}
 use Prim.Native.Nat.{ℕ, _+_, _*_, _^_}
 use lib.Dec.{leb}

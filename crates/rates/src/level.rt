@@ -52,7 +52,8 @@ fn liquidity_square(rh1: u64, rh: u64, liq: u64) -> u64
     rh * rh1 * (liq * liq)
 }
 
-// Whether x ≥ sqrt(a) + sqrt(b). The products are formed only where a + b is at most x², so that they fit however large a is.
+// Whether x ≥ sqrt(a) + sqrt(b). The products are formed only where a + b is at most x², so that they fit however large
+// a is.
 fn reaches(x: u64, a: u64, b: u64) -> bool
     requires { ⌜ (x ≤ reachMost) × (a ≤ squareMost) × (b ≤ squareMost) ⌝ }
     ensures { λ r. ⌜ r ≡ reaches x a b ⌝ }
@@ -83,7 +84,8 @@ fn least_reach(low: u64, high: u64, step: u64, a: u64, b: u64) -> u64
     from
 }
 
-// S_max where the requirement exceeds it, else the least multiple of h from S_L_min on that covers it, found by its number of steps.
+// S_max where the requirement exceeds it, else the least multiple of h from S_L_min on that covers it, found by its
+// number of steps.
 pub fn level_rate(st: Statics, level: u64, m: u64, tentative: u64) -> Rate
     requires { ⌜ RateStatics st ⌝ }
     requires { ⌜ (m ≤ aheadMost) × (tentative ≤ tentativeMost) ⌝ }

@@ -28,12 +28,14 @@ pub admission-prices : (a : Admission) → validAdmission a ≡ true → (isPric
 unfolding validAdmission isGridPrice
 admission-prices a v = (search (v, and-left, and-right) depth 40, search (v, and-left, and-right) depth 40)
 
-pub day-valid : (d : Day) (rows : List ℤ) → validDay d rows ≡ true → (validDayNumbers d ≡ true) × (validRows rows ≡ true)
+pub day-valid : (d : Day) (rows : List ℤ) → validDay d rows ≡ true
+    → (validDayNumbers d ≡ true) × (validRows rows ≡ true)
 day-valid d rows v =
     let both = sym (day-in-parts d rows) ∙ v in
     (and-left (validDayNumbers d) (validRows rows) both, and-right (validDayNumbers d) (validRows rows) both)
 
-pub beyond : (g previous : ℕ) (rows : List Row) → evaluationMade g previous rows ≡ Beyond → evaluationFits g previous rows ≡ false
+pub beyond : (g previous : ℕ) (rows : List Row) → evaluationMade g previous rows ≡ Beyond
+    → evaluationFits g previous rows ≡ false
 unfolding evaluationMade
 beyond g previous rows e = go (evaluationFits g previous rows) e
   where
@@ -47,14 +49,21 @@ pub record Made (g previous : ℕ) (rows : List Row) (p : Price) : Type 0 where
   pub is : evaluationOf g previous rows ≡ p .units
   pub price : isPrice (p .units) ≡ true
 
-pub made : (g previous : ℕ) (rows : List Row) (p : Price) → evaluationMade g previous rows ≡ Evaluated p → Made g previous rows p
+pub made : (g previous : ℕ) (rows : List Row) (p : Price) → evaluationMade g previous rows ≡ Evaluated p
+    → Made g previous rows p
 unfolding evaluationMade evaluationFits
 made g previous rows p e = go (evaluationFits g previous rows) refl e
   where
     go : (b : Bool) → evaluationFits g previous rows ≡ b
-        → pick b (Evaluated (record { units = evaluationOf g previous rows })) Beyond ≡ Evaluated p → Made g previous rows p
+        → pick b (Evaluated (record { units = evaluationOf g previous rows })) Beyond ≡ Evaluated p
+        → Made g previous rows p
     go true f q =
         let same : _≡_ {A = Price} (record { units = evaluationOf g previous rows }) p = cc in
         let is : evaluationOf g previous rows ≡ p .units = ap (λ (z : Price). z .units) same in
-        record { fits = f; is = is; price = rw is at (and-right (every rowFits rows) (isPrice (evaluationOf g previous rows)) f) }
+        record {
+          fits = f;
+          is = is;
+          price =
+              rw is at (and-right (every rowFits rows) (isPrice (evaluationOf g previous rows)) f);
+        }
     go false f q = let z : _≡_ {A = ℕ} 0 1 = cc in absurd (omega arith)

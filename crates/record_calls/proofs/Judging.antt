@@ -1,4 +1,5 @@
--- How a rule judges: the first check that applies refuses, and where none applies the call is accepted. Assumes nothing.
+-- How a rule judges: the first check that applies refuses, and where none applies the call is accepted. Assumes
+-- nothing.
 use mathlib.Core.Path.{_≡_, refl, sym, ap, _∙_}
 use mathlib.Core.Bool.{Bool, true, false, not, _&&_}
 use mathlib.Core.List.{List, [], _∷_, _++_}
@@ -47,12 +48,14 @@ known-sound s e = and-right (validSlots (s .count) && holds s) (sound (s .rec)) 
 -- ---- admit 4, 2, 3
 
 module _ (s e : Slot) (a : Admission) where
-  pub admission-out : (validSlots (s .count) && validAdmission a) ≡ false → refusedOutcome (s .count) AdmissionOutOfRange ≡ admitOutcome s e a
+  pub admission-out : (validSlots (s .count) && validAdmission a) ≡ false
+      → refusedOutcome (s .count) AdmissionOutOfRange ≡ admitOutcome s e a
   unfolding admitOutcome admitChecksOf judgedOutcome firstOf isDone
   admission-out t = rw t
 
   -- an admission that is not valid is refused, whatever the number of slots
-  pub admission-invalid : (validAdmission a ≡ true → ⊥) → refusedOutcome (s .count) AdmissionOutOfRange ≡ admitOutcome s e a
+  pub admission-invalid : (validAdmission a ≡ true → ⊥) → refusedOutcome (s .count) AdmissionOutOfRange
+      ≡ admitOutcome s e a
   admission-invalid n = admission-out (go (validSlots (s .count)) (validAdmission a) n)
     where
       go : (slots valid : Bool) → (valid ≡ true → ⊥) → (slots && valid) ≡ false
@@ -69,7 +72,8 @@ module _ (s e : Slot) (a : Admission) where
     unfolding admitOutcome admitChecksOf judgedOutcome firstOf isDone
     admission-full new t = rw (valid, new, t)
 
-    pub admission-accepted : holds s ≡ false → holds e ≡ true → record { at = e .at; rec = admitted a; answer = saying Done } ≡ admitOutcome s e a
+    pub admission-accepted : holds s ≡ false → holds e ≡ true
+        → record { at = e .at; rec = admitted a; answer = saying Done } ≡ admitOutcome s e a
     unfolding admitOutcome admitChecksOf judgedOutcome firstOf isDone
     admission-accepted new t = rw (valid, new, t)
 
@@ -80,7 +84,8 @@ module _ (s : Slot) (d : Day) (rows : List ℤ) where
   unfolding evaluateOutcome evaluateChecks judgedOutcome firstOf isDone
   day-unknown t = rw t
 
-  pub day-out : isKnown s ≡ true → validDay d rows ≡ false → refusedOutcome (s .count) OutOfRange ≡ evaluateOutcome s d rows
+  pub day-out : isKnown s ≡ true → validDay d rows ≡ false
+      → refusedOutcome (s .count) OutOfRange ≡ evaluateOutcome s d rows
   unfolding evaluateOutcome evaluateChecks judgedOutcome firstOf isDone
   day-out known t = rw (known, t)
 
@@ -96,7 +101,8 @@ module _ (s : Slot) (d : Day) (rows : List ℤ) where
   day-beyond known valid after t = rw (known, valid, after, t)
 
   module _ (p : Priced s d rows) where
-    pub day-moved-far : moveTooLarge (s .rec .statics) (moveOn (s .rec) rows) ≡ true → refusedOutcome (s .count) MoveTooLarge ≡ evaluateOutcome s d rows
+    pub day-moved-far : moveTooLarge (s .rec .statics) (moveOn (s .rec) rows) ≡ true
+        → refusedOutcome (s .count) MoveTooLarge ≡ evaluateOutcome s d rows
     unfolding evaluateOutcome evaluateChecks judgedOutcome firstOf isDone
     day-moved-far t = rw (p .known, p .valid, p .later, p .fits, t)
 
@@ -111,7 +117,8 @@ module _ (s : Slot) (d : Day) (rows : List ℤ) where
       unfolding evaluateOutcome evaluateChecks judgedOutcome firstOf isDone
       day-crossed t = rw (p .known, p .valid, p .later, p .fits, near, failed _ bands t)
 
-      pub day-accepted : not ordered ≡ false → record { at = s .at; rec = new; answer = showing new } ≡ evaluateOutcome s d rows
+      pub day-accepted : not ordered ≡ false → record { at = s .at; rec = new; answer = showing new }
+          ≡ evaluateOutcome s d rows
       unfolding evaluateOutcome evaluateChecks judgedOutcome firstOf isDone
       day-accepted t = rw (is, p .known, p .valid, p .later, p .fits, near, passed _ bands t)
 
@@ -123,7 +130,8 @@ unfolding firstOf isDone
 first-stays [] more n = absurd (clash true refl n)
 first-stays (c ∷ cs) more n = go (c .applies) n (first-stays cs more)
   where
-    go : (b : Bool) → isDone (pick b (c .verdict) (firstOf cs)) ≡ false → (isDone (firstOf cs) ≡ false → firstOf (cs ++ more) ≡ firstOf cs)
+    go : (b : Bool) → isDone (pick b (c .verdict) (firstOf cs)) ≡ false
+        → (isDone (firstOf cs) ≡ false → firstOf (cs ++ more) ≡ firstOf cs)
         → pick b (c .verdict) (firstOf (cs ++ more)) ≡ pick b (c .verdict) (firstOf cs)
     go true m rest = refl
     go false m rest = rest m
@@ -141,7 +149,8 @@ pub record Opened (there inRange : Bool) (r : Record) : Type 0 where
   pub live : isLive (r .standing) ≡ true
   pub monitored : r .statics .monitoring ≡ true
 
-pub opened : (there inRange : Bool) (r : Record) → isDone (firstOf (openingChecks there inRange r)) ≡ true → Opened there inRange r
+pub opened : (there inRange : Bool) (r : Record) → isDone (firstOf (openingChecks there inRange r)) ≡ true
+    → Opened there inRange r
 unfolding openingChecks refusals every isDone
 opened there inRange r e = go (done-none (openingChecks there inRange r) refl e)
   where
@@ -160,7 +169,8 @@ module _ (s : Slot) (q : Quote) where
       n
 
   module _ (o : Opened (isKnown s) (validQuote q) (s .rec)) where
-    pub quote-earlier : ltb (q .second) (s .rec .second) ≡ true → refusedOutcome (s .count) SecondEarlier ≡ quoteOutcome s q
+    pub quote-earlier : ltb (q .second) (s .rec .second) ≡ true → refusedOutcome (s .count) SecondEarlier
+        ≡ quoteOutcome s q
     unfolding quoteOutcome quoteChecks judgedOutcome firstOf isDone
     quote-earlier t = rw (o .known, o .valid, o .live, o .monitored, t)
 
@@ -180,16 +190,19 @@ module _ (s : Slot) (side : ℕ) where
       n
 
   module _ (o : Opened (isKnown s) (validSide side) (s .rec)) where
-    pub move-used-up : eqb (countOf (sideOf side) (s .rec .moves)) movesMost ≡ true → refusedOutcome (s .count) MovesUsedUp ≡ moveOutcome s side
+    pub move-used-up : eqb (countOf (sideOf side) (s .rec .moves)) movesMost ≡ true
+        → refusedOutcome (s .count) MovesUsedUp ≡ moveOutcome s side
     unfolding moveOutcome moveChecks judgedOutcome firstOf isDone
     move-used-up t = rw (o .known, o .valid, o .live, o .monitored, t)
 
     pub move-accepted : eqb (countOf (sideOf side) (s .rec .moves)) movesMost ≡ false
-        → record { at = s .at; rec = moved (s .rec) (sideOf side); answer = showing (moved (s .rec) (sideOf side)) } ≡ moveOutcome s side
+        → record { at = s .at; rec = moved (s .rec) (sideOf side); answer = showing (moved (s .rec) (sideOf side)) }
+        ≡ moveOutcome s side
     unfolding moveOutcome moveChecks judgedOutcome firstOf isDone
     move-accepted t = rw (o .known, o .valid, o .live, o .monitored, t)
 
 -- c is not 50, so a move is left
-pub move-left : (r : Record) (side : Side) → sound r ≡ true → (countOf side (r .moves) ≡ movesMost → ⊥) → countOf side (r .moves) < movesMost
+pub move-left : (r : Record) (side : Side) → sound r ≡ true → (countOf side (r .moves) ≡ movesMost → ⊥)
+    → countOf side (r .moves) < movesMost
 move-left r Upper v n = omega (arith, sound-facts r v .moves-upper)
 move-left r Lower v n = omega (arith, sound-facts r v .moves-lower)

@@ -1,5 +1,5 @@
--- What a call makes of the slot that it found: where to store, what, and what to answer. Each is `step` of the paper on one slot (proofs/Steps).
--- Assumes nothing.
+-- What a call makes of the slot that it found: where to store, what, and what to answer. Each is `step` of the paper on
+-- one slot (proofs/Steps). Assumes nothing.
 use mathlib.Core.Bool.{Bool, true, false, not, _&&_}
 use mathlib.Core.List.{List, [], _∷_}
 use Prim.Native.Nat.{ℕ}
@@ -48,7 +48,8 @@ admitChecksOf s e a =
 
 unfoldable pub admitOutcome : Slot → Slot → Admission → Outcome
 admitOutcome s e a =
-    judgedOutcome (s .count) (firstOf (admitChecksOf s e a)) (record { at = e .at; rec = admitted a; answer = saying Done })
+    judgedOutcome (s .count) (firstOf (admitChecksOf s e a))
+    (record { at = e .at; rec = admitted a; answer = saying Done })
 
 unfoldable pub evaluateOutcome : Slot → Day → List ℤ → Outcome
 evaluateOutcome s d rows =
@@ -66,7 +67,8 @@ moveOutcome s side =
     (record { at = s .at; rec = moved (s .rec) (sideOf side); answer = showing (moved (s .rec) (sideOf side)) })
 
 unfoldable pub readAnswer : Slot → Answer
-readAnswer s = pick (isDone (firstOf (readChecks (isKnown s)))) (showing (s .rec)) (saying (firstOf (readChecks (isKnown s))))
+readAnswer s = pick (isDone (firstOf (readChecks (isKnown s)))) (showing (s .rec))
+    (saying (firstOf (readChecks (isKnown s))))
 
 -- the table after a turn, and its answer
 unfoldable pub doneBy : List Record → Outcome → Outcome

@@ -1,5 +1,5 @@
--- What a rule makes of a day once its evaluation is known: the paper works from the day's rows, of which only the price is left to use. Assumes
--- nothing.
+-- What a rule makes of a day once its evaluation is known: the paper works from the day's rows, of which only the price
+-- is left to use. Assumes nothing.
 use mathlib.Core.Path.{_≡_}
 use mathlib.Core.Bool.{true, false}
 use mathlib.Core.List.{List}

@@ -1,4 +1,5 @@
-// One rule for each call, by value: the slot found and the inputs in, a turn out. Each judges the refusals in the paper's order.
+// One rule for each call, by value: the slot found and the inputs in, a turn out. Each judges the refusals in the
+// paper's order.
 ghost use mathlib.Core.Path.{_≡_};
 ghost use mathlib.Core.Bool.{true, not};
 ghost use lib.ListN.{getD};
@@ -30,7 +31,8 @@ use paper::Tentative;
 use paper::Term;
 use paper::Verdict;
 
-// What is found of an id in a table: how many slots there are, the place of the first with the id, or their number, and its record, or a blank.
+// What is found of an id in a table: how many slots there are, the place of the first with the id, or their number, and
+// its record, or a blank.
 pub struct Slot {
     pub count: usize,
     pub at: usize,

@@ -36,7 +36,8 @@ limits-facts g x v =
     }
 
 -- of each of three ranges, or bands
-pub three-limits-facts : (g : ℕ) (limits : List Limits) → allThree (λ i. validLimits g (getD limits i noLimits)) ≡ true → (i : ℕ) → i < 3 → LimitsFacts g (getD limits i noLimits)
+pub three-limits-facts : (g : ℕ) (limits : List Limits) → allThree (λ i. validLimits g (getD limits i noLimits)) ≡ true
+    → (i : ℕ) → i < 3 → LimitsFacts g (getD limits i noLimits)
 three-limits-facts g limits v i l = limits-facts g _ (each-of-three (λ i. validLimits g (getD limits i noLimits)) v i l)
 
 -- ---- near seconds
@@ -54,19 +55,22 @@ pub since-last : (second : ℕ) → validNear (Since second) ≡ true → second
 unfolding validNear
 since-last second v = leb-true _ _ v
 
-pub three-near-facts : (near : List NearSeconds) → allThree (λ k. validNearSeconds (getD near k notNear)) ≡ true → (k : ℕ) → k < 3 → NearFacts (getD near k notNear)
+pub three-near-facts : (near : List NearSeconds) → allThree (λ k. validNearSeconds (getD near k notNear)) ≡ true
+    → (k : ℕ) → k < 3 → NearFacts (getD near k notNear)
 three-near-facts near v k l = near-facts _ (each-of-three (λ k. validNearSeconds (getD near k notNear)) v k l)
 
 -- ---- a record
 
-pub rates-facts : (rates : List Rate) → allThree (λ i. isRate (getD rates i noRate .bp)) ≡ true → (i : ℕ) → i < 3 → getD rates i noRate .bp ≤ rateMost
+pub rates-facts : (rates : List Rate) → allThree (λ i. isRate (getD rates i noRate .bp)) ≡ true → (i : ℕ) → i < 3
+    → getD rates i noRate .bp ≤ rateMost
 rates-facts rates v i l = rate-most _ (each-of-three (λ i. isRate (getD rates i noRate .bp)) v i l)
 
 pub record SoundRecord (r : Record) : Type 0 where
   pub id : Within 1 idMost (r .id)
   pub valid : validStatics (r .statics) ≡ true
   pub statics : StaticsFacts (r .statics)
-  pub figures : FiguresFacts (r .statics) (lastDay (r .standing)) (r .p1 .units) (r .p2 .units) (r .s) (r .tentative .bp)
+  pub figures : FiguresFacts (r .statics) (lastDay (r .standing)) (r .p1 .units) (r .p2 .units) (r .s)
+      (r .tentative .bp)
   pub age-most : r .tentative .age ≤ ageMost
   pub rates : (i : ℕ) → i < 3 → getD (r .rates) i noRate .bp ≤ rateMost
   pub ranges : (i : ℕ) → i < 3 → LimitsFacts (gridOf (r .statics .lot)) (getD (r .ranges) i noLimits)

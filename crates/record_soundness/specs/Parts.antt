@@ -1,5 +1,5 @@
--- Document 01, "What the desk covers": the part of a sound record that one function judges. It stands in the paper's definition as it stands
--- here. Assumes nothing.
+-- Document 01, "What the desk covers": the part of a sound record that one function judges. It stands in the paper's
+-- definition as it stands here. Assumes nothing.
 use mathlib.Core.Bool.{Bool, _&&_}
 use lib.Dec.{leb}
 use Rattle.paper.specs.declared.Record.{Record}

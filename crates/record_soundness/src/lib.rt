@@ -1,5 +1,5 @@
-// Document 01, "What the desk covers": a record with a field outside its range, order, multiple of h or grid "counts as no such id". `sound` is
-// judged whatever a lent table holds.
+// Document 01, "What the desk covers": a record with a field outside its range, order, multiple of h or grid "counts as
+// no such id". `sound` is judged whatever a lent table holds.
 ghost use mathlib.Core.Path.{_≡_};
 ghost use Prim.Native.Nat.{_<_};
 ghost use lib.ListN.{getD};
@@ -99,8 +99,8 @@ fn valid_three_near(near: [NearSeconds; 3]) -> bool
     valid_near_seconds(first) & valid_near_seconds(second) & valid_near_seconds(third)
 }
 
-// The id, the statics and the figures that an admission gives too, with the age. Where the statics are damaged nothing is divided by their
-// step.
+// The id, the statics and the figures that an admission gives too, with the age. Where the statics are damaged nothing
+// is divided by their step.
 fn sound_figures(r: Record) -> bool
     ensures { λ t. ⌜ t ≡ soundFigures r ⌝ }
 {

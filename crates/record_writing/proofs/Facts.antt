@@ -1,5 +1,5 @@
--- What a sound record, a day in range and a valid quote are to what is written: that each limit, and each place of three, is in range. Assumes
--- nothing.
+-- What a sound record, a day in range and a valid quote are to what is written: that each limit, and each place of
+-- three, is in range. Assumes nothing.
 use mathlib.Core.Path.{_≡_, refl}
 use mathlib.Core.Bool.{Bool, true, false, _&&_}
 use mathlib.Core.List.{List, [], _∷_}
@@ -88,23 +88,29 @@ sound-inputs r v =
     let known = sound-facts r v in
     record { price = known .figures .later .price .most; rate-high = known .rates 0 (omega arith) }
 
-pub shifts-asked : (r : Record) → sound r ≡ true → ShiftsAsked (deltaOf (r .statics) (r .p1 .units) (getD (r .rates) 0 noRate .bp)) (r .ranges)
+pub shifts-asked : (r : Record) → sound r ≡ true
+    → ShiftsAsked (deltaOf (r .statics) (r .p1 .units) (getD (r .rates) 0 noRate .bp)) (r .ranges)
 shifts-asked r v =
     let known = sound-facts r v in
     let held = delta-high (r .statics) _ _ (limit-statics (r .statics) (known .valid)) (sound-inputs r v) in
-    let upper = known .ranges in
-    ((held, upper 0 (omega arith) .upper .most), (held, upper 1 (omega arith) .upper .most), (held, upper 2 (omega arith) .upper .most))
+    let upper = known .ranges in (
+      (held, upper 0 (omega arith) .upper .most),
+      (held, upper 1 (omega arith) .upper .most),
+      (held, upper 2 (omega arith) .upper .most),
+    )
 
 -- ---- the rates of an evaluation are rates
 
 -- a figure for each level, each within a most
-levels-held : (rate : ℕ → ℕ) (most : ℕ) → ((l : ℕ) → rate l ≤ most) → (i : ℕ) → i < 3 → getD (forLevels (λ l. record { bp = rate l })) i noRate .bp ≤ most
+levels-held : (rate : ℕ → ℕ) (most : ℕ) → ((l : ℕ) → rate l ≤ most) → (i : ℕ) → i < 3
+    → getD (forLevels (λ l. record { bp = rate l })) i noRate .bp ≤ most
 levels-held rate most h zero k = h 1
 levels-held rate most h (suc zero) k = h 2
 levels-held rate most h (suc (suc zero)) k = h 3
 levels-held rate most h (suc (suc (suc i))) k = absurd (omega arith)
 
-pub rates-held : (r : Record) (d : Day) (p : ℕ) → sound r ≡ true → (i : ℕ) → i < 3 → getD (figuresAt r d p .rates) i noRate .bp ≤ rateMost
+pub rates-held : (r : Record) (d : Day) (p : ℕ) → sound r ≡ true → (i : ℕ) → i < 3
+    → getD (figuresAt r d p .rates) i noRate .bp ≤ rateMost
 unfolding figuresAt figuresOf modelled unmodelled
 rates-held r d p v i k = go (r .statics .ewma)
   where
@@ -114,7 +120,9 @@ rates-held r d p v i k = go (r .statics .ewma)
     by-model : Figures
     by-model = modelled (r .statics) (d .b) (d .m) (getD (r .rates) 0 noRate .bp) (moveTo r p) (r .s) (r .tentative)
 
-    go : (b : Bool) → getD (pick b by-model (unmodelled (r .statics) (r .s) (r .tentative)) .rates) i noRate .bp ≤ rateMost
+    go : (b : Bool) → getD (pick b by-model (unmodelled (r .statics) (r .s) (r .tentative)) .rates) i noRate .bp ≤
+        rateMost
     go true = levels-held (λ l. levelRate (r .statics) l (d .m) (by-model .tentative .bp)) rateMost
         (λ l. le-trans (rate-held (r .statics) l (d .m) (by-model .tentative .bp) st) (st .most-high)) i k
-    go false = levels-held (minimumOf (r .statics)) rateMost (λ l. le-trans (level-statics (r .statics) l st .1) (st .most-high)) i k
+    go false = levels-held (minimumOf (r .statics)) rateMost
+        (λ l. le-trans (level-statics (r .statics) l st .1) (st .most-high)) i k

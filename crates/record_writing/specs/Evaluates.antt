@@ -1,4 +1,5 @@
--- What an evaluation writes, by its price: the paper works from the day's rows, of which the price is all that a record takes. Assumes nothing.
+-- What an evaluation writes, by its price: the paper works from the day's rows, of which the price is all that a record
+-- takes. Assumes nothing.
 use mathlib.Core.Path.{_≡_}
 use mathlib.Core.Bool.{true}
 use mathlib.Core.List.{List}
@@ -20,7 +21,8 @@ unfoldable pub moveTo : Record → ℕ → ℕ
 moveTo r p = moveOf (r .p1 .units) (r .p2 .units) p
 
 unfoldable pub figuresAt : Record → Day → ℕ → Figures
-figuresAt r d p = handed (figuresOf (r .statics) (d .b) (d .m) (getD (r .rates) 0 noRate .bp) (moveTo r p) (r .s) (r .tentative))
+figuresAt r d p = handed
+    (figuresOf (r .statics) (d .b) (d .m) (getD (r .rates) 0 noRate .bp) (moveTo r p) (r .s) (r .tentative))
 
 -- what is known when a record is written: 1, 6 and 7 do not apply, and the figures are those at P
 pub record Evaluating (r : Record) (d : Day) (p : Price) (f : Figures) : Type 0 where

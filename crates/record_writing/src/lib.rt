@@ -1,4 +1,5 @@
-// What each call writes: the record after an admission, an evaluation, a quote or a move, made anew in one function for each.
+// What each call writes: the record after an admission, an evaluation, a quote or a move, made anew in one function for
+// each.
 ghost use mathlib.Core.Path.{_≡_};
 ghost use mathlib.Core.Bool.{true};
 ghost use Prim.Native.Nat.{_<_};
@@ -30,7 +31,8 @@ use rates::Figures;
 
 // ---- an admission
 
-// "The three rates start at their minima; age, limits, counts, terms and the last quote second at 0, with no near seconds."
+// "The three rates start at their minima; age, limits, counts, terms and the last quote second at 0, with no near
+// seconds."
 pub fn admitted(a: Admission, p1: Price, p2: Price) -> Record
     requires { ⌜ Admitting a p1 p2 ⌝ }
     ensures { λ r. ⌜ r ≡ admitted a ⌝ }
@@ -201,8 +203,8 @@ fn near_cleared(side: Side, near: [NearSeconds; 3]) -> [NearSeconds; 3]
     ]
 }
 
-// "It adds one to c, remakes that side's three band limits, and shifts its three range limits by delta. It clears that side's near seconds in
-// all terms."
+// "It adds one to c, remakes that side's three band limits, and shifts its three range limits by delta. It clears that
+// side's near seconds in all terms."
 pub fn moved(r: Record, side: Side) -> Record
     requires { ⌜ sound r ≡ true ⌝ }
     requires { ⌜ countOf side (r .moves) < movesMost ⌝ }

@@ -30,11 +30,14 @@ rest-first numbers = left-first rowAt rowNumbers numbers
 
 pub valid-sevens : (numbers : List ℤ) → wholeRows numbers ≡ true → length numbers % rowNumbers ≡ 0
 unfolding wholeRows
-valid-sevens numbers e = eqb-true (length numbers % rowNumbers) 0 (and-left (eqb (length numbers % rowNumbers) 0) (leb (length numbers) allNumbersMost) e)
+valid-sevens numbers e =
+    eqb-true (length numbers % rowNumbers) 0
+    (and-left (eqb (length numbers % rowNumbers) 0) (leb (length numbers) allNumbersMost) e)
 
 pub valid-short : (numbers : List ℤ) → wholeRows numbers ≡ true → length numbers ≤ allNumbersMost
 unfolding wholeRows
-valid-short numbers e = leb-true (length numbers) allNumbersMost (and-right (eqb (length numbers % rowNumbers) 0) (leb (length numbers) allNumbersMost) e)
+valid-short numbers e = leb-true (length numbers) allNumbersMost
+    (and-right (eqb (length numbers % rowNumbers) 0) (leb (length numbers) allNumbersMost) e)
 
 pub valid-whole : (numbers : List ℤ) → validRows numbers ≡ true → wholeRows numbers ≡ true
 unfolding validRows

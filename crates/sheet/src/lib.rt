@@ -1,5 +1,6 @@
-// What the benchmark measures, for Rust to link: one security admitted and evaluated day after day by the rules of `record_calls`, and parts of that. The table
-// is not part of it, since its records cannot cross to C; the benchmark runs the whole programs besides.
+// What the benchmark measures, for Rust to link: one security admitted and evaluated day after day by the rules of
+// `record_calls`, and parts of that. The table is not part of it, since its records cannot cross to C; the benchmark
+// runs the whole programs besides.
 ghost use Prim.Native.Nat.{_≤_};
 use exact::unsigned;
 use paper::Admission;

@@ -1,4 +1,5 @@
--- `alerts::is_near` meets its contract: the distance of each side is the difference that `is_closer` compares. Assumes nothing.
+-- `alerts::is_near` meets its contract: the distance of each side is the difference that `is_closer` compares. Assumes
+-- nothing.
 use borrow.Author.Needs.{needs}
 use Rattle.paper.specs.Alerts.{isNear, distance}
 use Rattle.alerts.specs.Nearness.{closer}

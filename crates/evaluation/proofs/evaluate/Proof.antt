@@ -1,4 +1,5 @@
--- `evaluation::evaluate` meets its contract: each arm is one law of `Answers`, and the book's bounds keep the close within a price. Assumes nothing.
+-- `evaluation::evaluate` meets its contract: each arm is one law of `Answers`, and the book's bounds keep the close
+-- within a price. Assumes nothing.
 use mathlib.Core.Path.{refl}
 use Prim.Native.Nat.{_≤_}
 use borrow.Author.Needs.{needs}
@@ -26,7 +27,8 @@ between-requires : tie.Need-between-requires
 between-requires c κs = search needs
 
 -- the book of the arm is what was gathered
-whole : (c : tie.After-gathered) → Gathers (dayRows (c .before .before .before .args .rows .now)) (Whole (c .gathered .given .0 .0))
+whole : (c : tie.After-gathered)
+    → Gathers (dayRows (c .before .before .before .args .rows .now)) (Whole (c .gathered .given .0 .0))
 whole c = rw (c .gathered .given .1) at (c .before .before .gather .ensures)
 
 on-grid-requires : tie.Need-on-grid-requires
@@ -34,7 +36,8 @@ on-grid-requires c κs =
     let k = c .before .before .before in
     let s = k .before .before .before in
     let bounds = whole k .bounded (k .gathered .given .0 .0) refl in
-    let close : c .before .close-of .result ≤ priceMost = rw (c .before .close-of .ensures) (close-le _ _ _ (s .pre .1 .0) (bounds .mean)) in
+    let close : c .before .close-of .result ≤ priceMost =
+    rw (c .before .close-of .ensures) (close-le _ _ _ (s .pre .1 .0) (bounds .mean)) in
     (s .pre .1 .1, s .pre .1 .2, rw (c .between .ensures) (between-le _ _ _ _ (bounds .bid) close (bounds .ask)))
 
 returns : tie.Need-returns
@@ -49,4 +52,5 @@ returns-2 c =
 pub evaluate-spec : {M : Type 1} → statement M
 evaluate-spec =
     tie.close
-    (tie.spec gather-requires enum-told enum-known-gathered close-of-requires between-requires on-grid-requires returns returns-2)
+    (tie.spec gather-requires enum-told enum-known-gathered close-of-requires between-requires on-grid-requires returns
+    returns-2)

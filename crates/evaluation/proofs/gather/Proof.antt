@@ -24,8 +24,10 @@ abbrev μ-loop : tie.MeasureT-loop
 loop-holds : tie.Need-loop-holds Inv-loop μ-loop
 loop-holds c = gathering-first _ (valid-every _ (c .pre))
 
-room : (c : tie.In-loop Inv-loop μ-loop) → c .before .loop .at + rowNumbers ≤ length (c .before .before .args .rows .now)
-room c = place-room _ _ _ (valid-sevens _ (valid-whole _ (c .before .before .pre))) (c .before .loop .inv .place) (c .loop-test .taken)
+room : (c : tie.In-loop Inv-loop μ-loop)
+    → c .before .loop .at + rowNumbers ≤ length (c .before .before .args .rows .now)
+room c = place-room _ _ _ (valid-sevens _ (valid-whole _ (c .before .before .pre))) (c .before .loop .inv .place)
+    (c .loop-test .taken)
 
 row-at-requires : tie.Need-row-at-requires Inv-loop μ-loop
 row-at-requires c κs = room c
@@ -44,7 +46,8 @@ returns : tie.Need-returns Inv-loop μ-loop
 returns c =
     let m = c .before in
     let l = m .before .before .before in
-    gathering-beyond _ _ _ (room l) (l .before .loop .inv) _ (m .before .before .row-at .ensures) (sym (m .row-fits .ensures) ∙ not-true _ (c .if1 .taken))
+    gathering-beyond _ _ _ (room l) (l .before .loop .inv) _ (m .before .before .row-at .ensures)
+    (sym (m .row-fits .ensures) ∙ not-true _ (c .if1 .taken))
 
 fine : (c : tie.Else1 Inv-loop μ-loop) → rowFits (c .before .before .before .row-at .result) ≡ true
 fine c = sym (c .before .row-fits .ensures) ∙ not-false _ (c .if1 .left)
@@ -54,7 +57,9 @@ add-requires c κs =
     let m = c .before in
     let l = m .before .before .before in
     rw (m .before .in-roubles .ensures)
-    (filled-room (l .before .loop .at) _ _ (omega (arith, room l, valid-short _ (valid-whole _ (l .before .before .pre)))) (l .before .loop .inv .filled) (fitting _ (range (m .before .before)) (fine c)))
+    (filled-room (l .before .loop .at) _ _
+    (omega (arith, room l, valid-short _ (valid-whole _ (l .before .before .pre)))) (l .before .loop .inv .filled)
+    (fitting _ (range (m .before .before)) (fine c)))
 
 add-at : tie.Need-add-at Inv-loop μ-loop
 add-at c = omega (arith, room (c .before .before .before .before .before))

@@ -1,4 +1,5 @@
--- `evaluation::in_roubles` meets its contract: each figure is the paper's, and a volume times a central rate fits 64 bits. Assumes nothing.
+-- `evaluation::in_roubles` meets its contract: each figure is the paper's, and a volume times a central rate fits 64
+-- bits. Assumes nothing.
 use native.Mathlib.Nat.{mul-le-mul}
 use native.Mathlib.Omega.{arith}
 use borrow.Author.Needs.{needs}
@@ -24,7 +25,12 @@ row-price-requires-3 c κs = search needs
 returns : tie.Need-returns
 unfolding roublesOf rowWeight
 returns c =
-    rw (c .row-price3 .ensures, c .before .row-price2 .ensures, c .before .before .row-price .ensures, c .before .before .before .half-up .ensures)
+    rw (
+      c .row-price3 .ensures,
+      c .before .row-price2 .ensures,
+      c .before .before .row-price .ensures,
+      c .before .before .before .half-up .ensures,
+    )
 
 pub in-roubles-spec : {M : Type 1} → statement M
 in-roubles-spec =

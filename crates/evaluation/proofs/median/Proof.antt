@@ -1,4 +1,5 @@
--- `evaluation::median` meets its contract: the lesser and the greater of two numbers are the definition's. Assumes nothing.
+-- `evaluation::median` meets its contract: the lesser and the greater of two numbers are the definition's. Assumes
+-- nothing.
 use Rattle.paper.specs.Evaluation.{median}
 use borrow.Author.Needs.{needs}
 use Rattle.evaluation.proofs.median.Statement.{statement}
@@ -19,7 +20,12 @@ greater-requires-2 c κs = search needs
 returns : tie.Need-returns
 unfolding median
 returns c =
-    rw (c .greater2 .ensures, c .before .lesser2 .ensures, c .before .before .greater .ensures, c .before .before .before .lesser .ensures)
+    rw (
+      c .greater2 .ensures,
+      c .before .lesser2 .ensures,
+      c .before .before .greater .ensures,
+      c .before .before .before .lesser .ensures,
+    )
 
 pub median-spec : {M : Type 1} → statement M
 median-spec =

@@ -20,7 +20,8 @@ enum-told : tie.Need-enum-told
 enum-told c = search needs
 
 -- what the constructor was asked
-asked : (c : tie.After-new) → c .new .result ≡ priceMade (toGrid (c .before .before .args .g) (c .before .before .args .p) 1)
+asked : (c : tie.After-new)
+    → c .new .result ≡ priceMade (toGrid (c .before .before .args .g) (c .before .before .args .p) 1)
 asked c = c .new .ensures ∙ ap priceMade (c .before .to-grid .ensures)
 
 returns : tie.Need-returns

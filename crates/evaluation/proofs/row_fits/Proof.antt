@@ -1,4 +1,5 @@
--- `evaluation::row_fits` meets its contract: its tests are the paper's, of the row's figures in roubles. Assumes nothing.
+-- `evaluation::row_fits` meets its contract: its tests are the paper's, of the row's figures in roubles. Assumes
+-- nothing.
 use borrow.Author.Needs.{needs}
 use Rattle.paper.specs.Evaluation.{roublesOf, rowFits}
 use Rattle.evaluation.proofs.row_fits.Statement.{statement}
@@ -17,7 +18,12 @@ returns : tie.Need-returns
 unfolding rowFits roublesOf
 returns c =
     let s = c .before .before .before .before .before .before .before in
-    rw (c .before .is-price3 .ensures, c .before .before .before .is-price2 .ensures, c .before .before .before .before .before .is-price .ensures, s .pre)
+    rw (
+      c .before .is-price3 .ensures,
+      c .before .before .before .is-price2 .ensures,
+      c .before .before .before .before .before .is-price .ensures,
+      s .pre,
+    )
 
 pub row-fits-spec : {M : Type 1} → statement M
 row-fits-spec =

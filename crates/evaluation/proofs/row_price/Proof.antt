@@ -1,4 +1,5 @@
--- `evaluation::row_price` meets its contract: a missing price stays missing, and the divisor of any other is the paper's. Assumes nothing.
+-- `evaluation::row_price` meets its contract: a missing price stays missing, and the divisor of any other is the
+-- paper's. Assumes nothing.
 use mathlib.Core.Path.{_≡_, ap, _∙_}
 use Prim.Native.Nat.{ℕ, _*_, _≤_}
 use native.Mathlib.Nat.{mul-le-mul}
@@ -28,7 +29,9 @@ grow-requires : tie.Need-grow-requires
 grow-requires c κs = search needs
 
 -- what the call gave
-days : (c : tie.After-grow) → c .grow .result ≡ grown yearInDayBp (c .before .before .before .before .args .row .t) (c .before .before .before .before .args .row .repo)
+days : (c : tie.After-grow)
+    → c .grow .result ≡ grown yearInDayBp (c .before .before .before .before .args .row .t)
+    (c .before .before .before .before .args .row .repo)
 days c =
     let s = c .before .before .before .before in
     let f : SFits w64 (s .args .row .repo) = record { sfits = omega (arith, s .pre .0 .repo) } in
@@ -44,7 +47,8 @@ returns-2 : tie.Need-returns-2
 unfolding rowPrice
 returns-2 c =
     let a = c .before .before .before .before .before .args in
-    c .discounted .ensures ∙ ap (λ (z : ℕ). halfUp (a .price * a .row .central * yearInDayBp) (rouble * z)) (days (c .before))
+    c .discounted .ensures ∙ ap (λ (z : ℕ). halfUp (a .price * a .row .central * yearInDayBp) (rouble * z))
+    (days (c .before))
 
 pub row-price-spec : {M : Type 1} → statement M
 row-price-spec =

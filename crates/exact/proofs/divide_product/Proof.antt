@@ -56,4 +56,5 @@ returns c = (known c .is-quot, known c .is-rest)
 pub divide-product-spec : {M : Type 1} → statement M
 divide-product-spec =
     tie.close
-    (tie.spec div-q rem-r mul-high rem-low mul-low mul-low-2 add-low mul-t8 div-t11 mul-t10 add-t9 div-t12 add-t13 rem-t14 returns)
+    (tie.spec div-q rem-r mul-high rem-low mul-low mul-low-2 add-low mul-t8 div-t11 mul-t10 add-t9 div-t12 add-t13
+    rem-t14 returns)

@@ -1,4 +1,5 @@
--- `half_up` meets its contract: the quotient, or one more where the remainder is at least what the divisor has beside it. Assumes nothing.
+-- `half_up` meets its contract: the quotient, or one more where the remainder is at least what the divisor has beside
+-- it. Assumes nothing.
 use native.Mathlib.Nat.{mod-lt}
 use native.Mathlib.Omega.{arith}
 use borrow.Author.Needs.{needs}

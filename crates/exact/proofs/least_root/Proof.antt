@@ -1,5 +1,6 @@
--- `least_root` meets its contract. The invariant, `Found` of `RootTurn.antt`: with k bits to come, factor·x² is below n and
--- factor·(x + 2^k)² is not. With none to come one more than x is the root. The measure is k, 20 at first. Assumes nothing.
+-- `least_root` meets its contract. The invariant, `Found` of `RootTurn.antt`: with k bits to come, factor·x² is below n
+-- and factor·(x + 2^k)² is not. With none to come one more than x is the root. The measure is k, 20 at first. Assumes
+-- nothing.
 use mathlib.Core.Path.{_≡_, sym}
 use native.Mathlib.Nat.{pos-of-ne-zero}
 use native.Mathlib.Omega.{arith}
@@ -16,7 +17,9 @@ abbrev μ-loop : tie.MeasureT-loop
 μ-loop factor n x₀ factor-x₀ sq₀ k₀ x factor-x sq k = k
 
 -- what is known at the head of a turn
-at : (c : tie.In-loop Inv-loop μ-loop) → RootTurn (c .before .before .before .args .factor) (c .before .loop .x) (c .before .loop .factor-x) (c .before .loop .k)
+at : (c : tie.In-loop Inv-loop μ-loop)
+    → RootTurn (c .before .before .before .args .factor) (c .before .loop .x) (c .before .loop .factor-x)
+    (c .before .loop .k)
 at c = turn _ _ _ _ _ _ (c .loop-test .taken) (c .before .before .before .pre .1) (c .before .loop .inv)
 
 returns : tie.Need-returns Inv-loop μ-loop
@@ -74,7 +77,8 @@ loop-again : tie.Need-loop-again Inv-loop μ-loop
 loop-again c =
     let t = c .before .before .before .before .before in
     taken _ _ _ _ _ _ _ _ _ _ (t .loop-test .taken) (t .before .before .before .pre .1) (t .before .loop .inv)
-    (c .before .before .before .before .shl .ensures) (c .before .before .before .shl2 .ensures) (c .before .shl3 .ensures) (c .shl4 .ensures) (c .before .before .if2 .taken)
+    (c .before .before .before .before .shl .ensures) (c .before .before .before .shl2 .ensures)
+    (c .before .shl3 .ensures) (c .shl4 .ensures) (c .before .before .if2 .taken)
 
 loop-less-2 : tie.Need-loop-less-2 Inv-loop μ-loop
 loop-less-2 c = omega arith

@@ -1,4 +1,5 @@
--- `size` meets its contract: by the sign, -1 - x or x is a natural number that fits, and it is the size. Assumes nothing.
+-- `size` meets its contract: by the sign, -1 - x or x is a natural number that fits, and it is the size. Assumes
+-- nothing.
 use lib.IntN.{negsuc, _-ℤ_}
 use mir.Facts.{toZ-ofZ}
 use Rattle.exact.proofs.Sign.{Arm, size-below, size-above}

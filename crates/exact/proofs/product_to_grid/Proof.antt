@@ -1,4 +1,5 @@
--- `product_to_grid` meets its contract: the ranges keep p·a and d·g within 64 bits and the figure too; the rest is `half_up_wide`'s. Assumes nothing.
+-- `product_to_grid` meets its contract: the ranges keep p·a and d·g within 64 bits and the figure too; the rest is
+-- `half_up_wide`'s. Assumes nothing.
 use Prim.Native.Nat.{ℕ, _*_, _^_, _≤_, _<_}
 use native.Mathlib.Nat.{mul-le-mul, lt-of-mul-lt-mul-right}
 use native.Mathlib.Omega.{arith}
@@ -42,7 +43,8 @@ mul-result c =
     let n : ℕ = s .args .p * s .args .a * s .args .b in
     let d = s .args .d in
     let low = grid-low g n d (s .pre .grid) (omega (arith, s .pre .low)) in
-    let small : halfUp n (d * g) * g < 2 ^ 63 = lt-of-mul-lt-mul-right d {m = halfUp n (d * g) * g} {n = 2 ^ 63} (omega (arith, bounds s)) in
+    let small : halfUp n (d * g) * g < 2 ^ 63 =
+    lt-of-mul-lt-mul-right d {m = halfUp n (d * g) * g} {n = 2 ^ 63} (omega (arith, bounds s)) in
     rw (c .half-up-wide .ensures) (omega arith)
 
 returns : tie.Need-returns

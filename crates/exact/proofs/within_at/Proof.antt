@@ -1,4 +1,5 @@
--- `within_at` meets its contract: it is `is_within`, of the two ends and of the number at i as their bits are read back. Assumes nothing.
+-- `within_at` meets its contract: it is `is_within`, of the two ends and of the number at i as their bits are read
+-- back. Assumes nothing.
 use mir.Syntax.{w64}
 use mir.Facts.{toZ-ofZ}
 use borrow.Author.Needs.{needs}
@@ -17,7 +18,11 @@ is-within-requires c κs = search needs
 returns : tie.Need-returns
 returns c =
     let s = c .before .before in
-    rw (toZ-ofZ (s .fits .low), toZ-ofZ (s .fits .high), toZ-ofZ {w = w64} (record { sfits = c .before .is-within-arg .given })) at (c .is-within .ensures)
+    rw (
+      toZ-ofZ (s .fits .low),
+      toZ-ofZ (s .fits .high),
+      toZ-ofZ {w = w64} (record { sfits = c .before .is-within-arg .given }),
+    ) at (c .is-within .ensures)
 
 pub within-at-spec : {M : Type 1} → statement M
 within-at-spec =

@@ -1,4 +1,5 @@
--- `interest::accepted` meets its contract: the paper's limits are those of the figures at the two terms. Assumes nothing.
+-- `interest::accepted` meets its contract: the paper's limits are those of the figures at the two terms. Assumes
+-- nothing.
 use mathlib.Core.Path.{sym, ap, _∙_}
 use mir.Syntax.{w64}
 use mir.Val.{SFits}
@@ -35,7 +36,12 @@ returns c =
     let low : SFits w64 (band .result .low) = search (needs, band .ok) in
     let high : SFits w64 (band .result .high) = search (needs, band .ok) in
     λ j. record {
-      pair = record { verdict = Done; lower = (toZ-ofZ low ∙ ap (λ (x : RepoLimits). x .low) is) j; upper = (toZ-ofZ high ∙ ap (λ (x : RepoLimits). x .high) is) j };
+      pair = record {
+        verdict = Done;
+        lower = (toZ-ofZ low ∙ ap (λ (x : RepoLimits). x .low) is) j;
+        upper =
+            (toZ-ofZ high ∙ ap (λ (x : RepoLimits). x .high) is) j;
+      };
       count = sym (count-is (m .before .args .numbers .now)) j;
       figures = f .all-figures .ensures j;
     }

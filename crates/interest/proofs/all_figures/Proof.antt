@@ -9,7 +9,8 @@ use Rattle.interest.proofs.all_figures.Statement.{statement}
 use Rattle.interest.proofs.all_figures.Tie as tie
 
 -- what each call asks
-asked : (c : tie.Start) (n : ℕ) → n < 8 → InterestRange (c .args .i) × ((validKeys (c .args .numbers .now) ≡ true) × (n < 8))
+asked : (c : tie.Start) (n : ℕ) → n < 8
+    → InterestRange (c .args .i) × ((validKeys (c .args .numbers .now) ≡ true) × (n < 8))
 asked c n h = (c .pre .0, (c .pre .1, h))
 
 figures-at-requires : tie.Need-figures-at-requires

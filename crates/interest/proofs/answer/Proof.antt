@@ -12,15 +12,18 @@ use Rattle.interest.proofs.answer.Tie as tie
 
 -- the test of 6, and that it passed; the test of 14 passed
 rule : (c : tie.After-keys-valid)
-    → (c .before .interest-valid .result && c .keys-valid .result) ≡ (validInterest (c .before .before .args .i) && validKeys (c .before .before .args .numbers .now))
+    → (c .before .interest-valid .result && c .keys-valid .result)
+    ≡ (validInterest (c .before .before .args .i) && validKeys (c .before .before .args .numbers .now))
 rule c = rw (c .before .interest-valid .ensures, c .keys-valid .ensures)
 
-ruled : (c : tie.Else1) → (validInterest (c .before .before .before .args .i) && validKeys (c .before .before .before .args .numbers .now)) ≡ true
+ruled : (c : tie.Else1) → (validInterest (c .before .before .before .args .i)
+    && validKeys (c .before .before .before .args .numbers .now)) ≡ true
 ruled c = sym (rule (c .before)) ∙ not-false _ (c .if1 .left)
 
 ordered : (c : tie.Else2)
     → (ascending (maturitiesOf (c .before .before .before .before .before .args .numbers .now))
-    && ltb (c .before .before .before .before .before .args .i .ym) (c .before .before .before .before .before .args .i .yn)) ≡ true
+    && ltb (c .before .before .before .before .before .args .i .ym)
+    (c .before .before .before .before .before .args .i .yn)) ≡ true
 ordered c = sym (c .before .in-order .ensures) ∙ not-false _ (c .if2 .left)
 
 interest-valid-requires : tie.Need-interest-valid-requires
@@ -33,7 +36,8 @@ refused-requires : tie.Need-refused-requires
 refused-requires c κs = search needs
 
 returns : tie.Need-returns
-returns c = c .refused .ensures ∙ answer-range _ _ (not-true _ (rw (rule (c .before .before)) at (c .before .if1 .taken)))
+returns c = c .refused .ensures
+    ∙ answer-range _ _ (not-true _ (rw (rule (c .before .before)) at (c .before .if1 .taken)))
 
 in-order-requires : tie.Need-in-order-requires
 in-order-requires c κs = let keys = answer-keys _ _ (ruled c) in valid-eights _ (valid-whole _ keys)
@@ -42,7 +46,9 @@ refused-requires-2 : tie.Need-refused-requires-2
 refused-requires-2 c κs = search needs
 
 returns-2 : tie.Need-returns-2
-returns-2 c = c .refused2 .ensures ∙ answer-order _ _ (ruled (c .before .before .before)) (not-true _ (rw (c .before .before .in-order .ensures) at (c .before .if2 .taken)))
+returns-2 c = c .refused2 .ensures
+    ∙ answer-order _ _ (ruled (c .before .before .before))
+    (not-true _ (rw (c .before .before .in-order .ensures) at (c .before .if2 .taken)))
 
 accepted-requires : tie.Need-accepted-requires
 accepted-requires c κs =

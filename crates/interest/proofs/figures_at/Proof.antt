@@ -1,4 +1,5 @@
--- `interest::figures_at` meets its contract: the n-th key maturity begins at 8·n, and past the last there is none. Assumes nothing.
+-- `interest::figures_at` meets its contract: the n-th key maturity begins at 8·n, and past the last there is none.
+-- Assumes nothing.
 use mathlib.Core.Path.{_≡_, ap, sym, _∙_}
 use Prim.Native.Nat.{_+_, _*_, _%_, _≤_}
 use native.Mathlib.Omega.{arith}
@@ -44,7 +45,8 @@ returns-2 : tie.Need-returns-2
 returns-2 c =
     let s = c .before .before in
     c .no-figures .ensures
-    ∙ sym (figure-past (maturityFigures (s .args .i)) noFigures _ (s .args .n) (eights s) (omega (arith, c .before .if1 .left)))
+    ∙ sym (figure-past (maturityFigures (s .args .i)) noFigures _ (s .args .n) (eights s)
+    (omega (arith, c .before .if1 .left)))
 
 pub figures-at-spec : {M : Type 1} → statement M
 figures-at-spec =

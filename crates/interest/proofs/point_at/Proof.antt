@@ -1,4 +1,5 @@
--- `interest::point_at` meets its contract: every figure is read off the neighbours, of one or between two. Assumes nothing.
+-- `interest::point_at` meets its contract: every figure is read off the neighbours, of one or between two. Assumes
+-- nothing.
 use mathlib.Core.Path.{_≡_}
 use mathlib.Core.Logic.{_⊎_, inl, inr}
 use Prim.Native.Nat.{ℕ}
@@ -17,7 +18,8 @@ neighbours-requires c κs = let w = valid-whole _ (c .pre .1) in (valid-eights _
 
 point-of-requires : tie.Need-point-of-requires
 point-of-requires c κs =
-    let reads = c .neighbours .ensures in (c .before .pre .0, (c .before .pre .1, (reads .whole-before, reads .inside-before)))
+    let reads = c .neighbours .ensures in
+    (c .before .pre .0, (c .before .pre .1, (reads .whole-before, reads .inside-before)))
 
 returns : tie.Need-returns
 returns c =
@@ -29,7 +31,8 @@ returns c =
 point-of-requires-2 : tie.Need-point-of-requires-2
 point-of-requires-2 c κs =
     let p = c .before .before .before in
-    let reads = p .neighbours .ensures in (p .before .pre .0, (p .before .pre .1, (reads .whole-after, reads .inside-after)))
+    let reads = p .neighbours .ensures in
+    (p .before .pre .0, (p .before .pre .1, (reads .whole-after, reads .inside-after)))
 
 between-requires : tie.Need-between-requires
 between-requires c κs =

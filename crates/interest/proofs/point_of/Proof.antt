@@ -25,7 +25,12 @@ returns : tie.Need-returns
 unfolding maturityFigures
 returns c =
     let k = c .before .before .before in
-    rw (c .lifted .ensures, c .before .before .figures-of .ensures, rate-bits (k .maturity-at .result .r) (known k .r), k .maturity-at .ensures)
+    rw (
+      c .lifted .ensures,
+      c .before .before .figures-of .ensures,
+      rate-bits (k .maturity-at .result .r) (known k .r),
+      k .maturity-at .ensures,
+    )
 
 pub point-of-spec : {M : Type 1} → statement M
 point-of-spec =

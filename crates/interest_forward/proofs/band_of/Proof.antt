@@ -68,4 +68,5 @@ returns-2 c =
 pub band-of-spec : {M : Type 1} → statement M
 band-of-spec =
     tie.close
-    (tie.spec lower-worked-requires upper-worked-requires is-held-requires greater-requires lesser-requires returns returns-2)
+    (tie.spec lower-worked-requires upper-worked-requires is-held-requires greater-requires lesser-requires returns
+    returns-2)

@@ -1,4 +1,5 @@
--- `interest_forward::linear` meets its contract: the sum's two products fit, and the rest is `half_up`'s. Assumes nothing.
+-- `interest_forward::linear` meets its contract: the sum's two products fit, and the rest is `half_up`'s. Assumes
+-- nothing.
 use Prim.Native.Nat.{_-_, _*_, _≤_}
 use native.Mathlib.Omega.{arith}
 use borrow.Author.Needs.{needs}
@@ -9,7 +10,8 @@ use Rattle.interest_forward.proofs.linear.Statement.{statement}
 use Rattle.interest_forward.proofs.linear.Tie as tie
 
 parts : (c : tie.Start)
-    → (c .args .f * (c .args .u - c .args .y) ≤ figureMost * maturityMost) × (c .args .g * (c .args .y - c .args .t) ≤ figureMost * maturityMost)
+    → (c .args .f * (c .args .u - c .args .y) ≤ figureMost * maturityMost)
+    × (c .args .g * (c .args .y - c .args .t) ≤ figureMost * maturityMost)
 parts c = line-parts (c .args .t) (c .args .f) (c .args .u) (c .args .g) (c .args .y) (c .pre)
 
 sub-half-up : tie.Need-sub-half-up

@@ -1,4 +1,5 @@
--- `interest_forward::lower_worked` meets its contract: the margin is no more than what it is taken off, and the difference is rounded once. Assumes nothing.
+-- `interest_forward::lower_worked` meets its contract: the margin is no more than what it is taken off, and the
+-- difference is rounded once. Assumes nothing.
 use mathlib.Core.Path.{ap, _∙_}
 use Prim.Native.Nat.{ℕ, _-_, _*_, _≤_}
 use native.Mathlib.Omega.{arith}
@@ -35,7 +36,8 @@ sub-limit-from : tie.Need-sub-limit-from
 sub-limit-from c = omega (arith, known (c .before .before), c .margin .ensures .high)
 
 limit-from-requires : tie.Need-limit-from-requires
-limit-from-requires c κs = (c .before .before .before .pre .0, omega (arith, known (c .before .before), c .margin .ensures .high))
+limit-from-requires c κs =
+    (c .before .before .before .pre .0, omega (arith, known (c .before .before), c .margin .ensures .high))
 
 returns : tie.Need-returns
 returns c =
@@ -45,7 +47,8 @@ returns c =
     let answered : SFits w64 (c .limit-from .result) = search needs in
     toZ-ofZ answered
     ∙ c .limit-from .ensures
-    ∙ ap (λ (z : ℕ). limitFrom i (subℕ (i .xir * r .result - z) (base * ((i .yn - i .ym) * i .xir)))) (c .before .margin .ensures .is)
+    ∙ ap (λ (z : ℕ). limitFrom i (subℕ (i .xir * r .result - z) (base * ((i .yn - i .ym) * i .xir))))
+    (c .before .margin .ensures .is)
     ∙ lower-counted _ _ _ _ (r .ensures) (s .args .n .down) (taken (c .before))
 
 pub lower-worked-spec : {M : Type 1} → statement M

@@ -1,4 +1,5 @@
--- `interest_forward::lowered` meets its contract: both numbers and their difference fit a signed number. Assumes nothing.
+-- `interest_forward::lowered` meets its contract: both numbers and their difference fit a signed number. Assumes
+-- nothing.
 use mathlib.Core.Path.{_≡_, ap, _∙_}
 use mathlib.Core.Logic.{_⊎_, inl, inr}
 use Prim.Native.Nat.{ℕ, _+_, _≤_, _<_, _^_}
@@ -44,7 +45,8 @@ returns : tie.Need-returns
 returns c =
     let n = c .args .n in
     let m = c .args .from in
-    rw (toZ-pos w64 n (omega arith), toZ-pos w64 m (omega arith), toZ-ofZ (less-fits n m (c .pre .0) (c .pre .1))) (less n m)
+    rw (toZ-pos w64 n (omega arith), toZ-pos w64 m (omega arith), toZ-ofZ (less-fits n m (c .pre .0) (c .pre .1)))
+    (less n m)
 
 pub lowered-spec : {M : Type 1} → statement M
 lowered-spec = tie.close (tie.spec cast-result cast-result-2 sub-result returns)

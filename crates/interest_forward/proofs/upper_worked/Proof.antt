@@ -1,4 +1,5 @@
--- `interest_forward::upper_worked` meets its contract: both summands are counted from the base, and rounded once. Assumes nothing.
+-- `interest_forward::upper_worked` meets its contract: both summands are counted from the base, and rounded once.
+-- Assumes nothing.
 use mathlib.Core.Path.{ap, _∙_}
 use Prim.Native.Nat.{ℕ, _+_, _-_, _*_}
 use native.Mathlib.Omega.{arith}
@@ -29,7 +30,8 @@ add-limit-from : tie.Need-add-limit-from
 add-limit-from c = omega (arith, known (c .before .before), c .margin .ensures .high)
 
 limit-from-requires : tie.Need-limit-from-requires
-limit-from-requires c κs = (c .before .before .before .pre .0, omega (arith, known (c .before .before), c .margin .ensures .high))
+limit-from-requires c κs =
+    (c .before .before .before .pre .0, omega (arith, known (c .before .before), c .margin .ensures .high))
 
 returns : tie.Need-returns
 returns c =
@@ -39,7 +41,8 @@ returns c =
     let answered : SFits w64 (c .limit-from .result) = search needs in
     toZ-ofZ answered
     ∙ c .limit-from .ensures
-    ∙ ap (λ (z : ℕ). limitFrom i (subℕ (i .xir * r .result + z) (base * ((i .yn - i .ym) * i .xir)))) (c .before .margin .ensures .is)
+    ∙ ap (λ (z : ℕ). limitFrom i (subℕ (i .xir * r .result + z) (base * ((i .yn - i .ym) * i .xir))))
+    (c .before .margin .ensures .is)
     ∙ upper-counted _ _ _ _ (r .ensures) (s .args .n .up)
 
 pub upper-worked-spec : {M : Type 1} → statement M

@@ -1,5 +1,5 @@
--- `interest_maturities::is_ascending` meets its contract: whether the key maturities from the place on ascend is always whether all do, as each one passed was before
--- the next. Assumes nothing.
+-- `interest_maturities::is_ascending` meets its contract: whether the key maturities from the place on ascend is always
+-- whether all do, as each one passed was before the next. Assumes nothing.
 use mathlib.Core.Path.{_≡_, sym, ap, _∙_}
 use Prim.Native.Nat.{_+_, _-_, _≤_}
 use native.Mathlib.Omega.{arith}
@@ -21,7 +21,8 @@ loop-holds : tie.Need-loop-holds Inv-loop μ-loop
 loop-holds c = (place-first _ _, ap ascending (left-first _))
 
 -- the key maturity at hand and the next
-room : (c : tie.In-loop Inv-loop μ-loop) → c .before .loop .at + keyNumbers + keyNumbers ≤ length (c .before .before .args .numbers .now)
+room : (c : tie.In-loop Inv-loop μ-loop)
+    → c .before .loop .at + keyNumbers + keyNumbers ≤ length (c .before .before .args .numbers .now)
 room c = next-room _ _ (c .before .before .pre) (c .before .loop .inv .0) (c .loop-test .taken)
 
 sub-loop : tie.Need-sub-loop Inv-loop μ-loop
@@ -56,7 +57,8 @@ loop-again c =
     )
 
 returns-2 : tie.Need-returns-2 Inv-loop μ-loop
-returns-2 c = sym (ascending-end _ _ (c .before .before .pre) (c .before .loop .inv .0) (c .loop-test .left)) ∙ c .before .loop .inv .1
+returns-2 c = sym (ascending-end _ _ (c .before .before .pre) (c .before .loop .inv .0) (c .loop-test .left))
+    ∙ c .before .loop .inv .1
 
 pub is-ascending-spec : {M : Type 1} → statement M
 is-ascending-spec =

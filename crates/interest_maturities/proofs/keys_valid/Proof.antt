@@ -1,4 +1,5 @@
--- `interest_maturities::keys_valid` meets its contract: only whole key maturities are walked, and without them the definition's first test fails. Assumes nothing.
+-- `interest_maturities::keys_valid` meets its contract: only whole key maturities are walked, and without them the
+-- definition's first test fails. Assumes nothing.
 use mathlib.Core.Path.{_≡_, sym, _∙_}
 use mathlib.Core.Bool.{true}
 use borrow.Author.Needs.{needs}

@@ -1,4 +1,5 @@
--- `interest_maturities::maturity_at` meets its contract: each number stands at its place of the key maturity, and the rates' bits are read back. Assumes nothing.
+-- `interest_maturities::maturity_at` meets its contract: each number stands at its place of the key maturity, and the
+-- rates' bits are read back. Assumes nothing.
 use Prim.Native.Nat.{ℕ, _+_}
 use lib.IntN.{ℤ, pos}
 use lib.ListN.{getD}

@@ -18,8 +18,10 @@ apart-requires c κs = search needs
 returns : tie.Need-returns
 returns c =
     let start = c .before .before .before in
-    let x : c .before .before .lifted .result ≡ lifted (start .args .x) = rw (toZ-ofZ (start .fits .x)) at (c .before .before .lifted .ensures) in
-    let y : c .before .lifted2 .result ≡ lifted (start .args .y) = rw (toZ-ofZ (start .fits .y)) at (c .before .lifted2 .ensures) in
+    let x : c .before .before .lifted .result ≡ lifted (start .args .x) =
+    rw (toZ-ofZ (start .fits .x)) at (c .before .before .lifted .ensures) in
+    let y : c .before .lifted2 .result ≡ lifted (start .args .y) =
+    rw (toZ-ofZ (start .fits .y)) at (c .before .lifted2 .ensures) in
     rw (c .apart .ensures, x, y) (lifted-apart _ _ (start .pre .0) (start .pre .1))
 
 pub apart-spec : {M : Type 1} → statement M

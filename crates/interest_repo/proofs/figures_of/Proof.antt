@@ -1,4 +1,5 @@
--- `figures_of` meets its contract: each figure is made of those before it, and none is higher than the next rule takes. Assumes nothing.
+-- `figures_of` meets its contract: each figure is made of those before it, and none is higher than the next rule takes.
+-- Assumes nothing.
 use Prim.Native.Nat.{_≤_}
 use borrow.Author.Needs.{needs}
 use Rattle.paper.specs.Numbers.{repoTentativeMost}
@@ -18,13 +19,15 @@ tentative-of-requires : tie.Need-tentative-of-requires
 tentative-of-requires c κs = search needs
 
 held : (c : tie.After-tentative-of) → c .tentative-of .result .bp ≤ repoTentativeMost
-held c = let start = c .before .before .before in rw (c .tentative-of .ensures) (repo-tentative-held _ _ (start .pre .0) (start .pre .1))
+held c = let start = c .before .before .before in
+    rw (c .tentative-of .ensures) (repo-tentative-held _ _ (start .pre .0) (start .pre .1))
 
 upward-requires : tie.Need-upward-requires
 upward-requires c κs = (c .before .before .before .pre .0, held c)
 
 downward-requires : tie.Need-downward-requires
-downward-requires c κs = let start = c .before .before .before .before in (start .pre .0, (start .pre .1, held (c .before)))
+downward-requires c κs = let start = c .before .before .before .before in
+    (start .pre .0, (start .pre .1, held (c .before)))
 
 returns : tie.Need-returns
 unfolding maturityFigures

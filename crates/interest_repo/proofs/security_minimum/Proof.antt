@@ -1,4 +1,5 @@
--- `security_minimum` meets its contract: the difference of two rates is that of what they are on the base. Assumes nothing.
+-- `security_minimum` meets its contract: the difference of two rates is that of what they are on the base. Assumes
+-- nothing.
 use mathlib.Core.Path.{_≡_}
 use Prim.Native.Nat.{_+_, _-_}
 use native.Mathlib.Omega.{arith}
@@ -36,7 +37,13 @@ returns c =
     let is : c .less .result ≡ lifted (a .index) + a .sec - lifted (a .rate) =
     rw (c .less .ensures, index-is (c .before .before), rate-is (c .before)) in (
       rw is (lifted-part (a .index) (a .rate) (a .sec) (start .pre .0) (start .pre .1)),
-      omega (arith, is, lifted-range (a .index) (start .pre .0) .0, lifted-range (a .rate) (start .pre .1) .1, start .pre .2),
+      omega (
+        arith,
+        is,
+        lifted-range (a .index) (start .pre .0) .0,
+        lifted-range (a .rate) (start .pre .1) .1,
+        start .pre .2,
+      ),
     )
 
 pub security-minimum-spec : {M : Type 1} → statement M

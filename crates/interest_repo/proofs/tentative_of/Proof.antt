@@ -10,14 +10,21 @@ tentative-rate-requires : tie.Need-tentative-rate-requires
 tentative-rate-requires c κs = (c .pre .0, rw (c .pre .1 .1) (volatility-held _ _ (c .pre .0) (c .pre .1 .0)))
 
 -- the t of the paper
-t-is : (c : tie.After-tentative-rate) → c .tentative-rate .result ≡ repoTentativeRate (c .before .args .i) (c .before .args .k)
+t-is : (c : tie.After-tentative-rate)
+    → c .tentative-rate .result ≡ repoTentativeRate (c .before .args .i) (c .before .args .k)
 unfolding repoTentativeRate
 t-is c = rw (c .tentative-rate .ensures, c .before .pre .1 .1)
 
 tentative-after-requires : tie.Need-tentative-after-requires
 tentative-after-requires c κs =
     let start = c .before .before in
-    omega (arith, t-is (c .before), tentative-rate-held _ _ (start .pre .0) (start .pre .1 .0), start .pre .0 .step-high, start .pre .1 .0)
+    omega (
+      arith,
+      t-is (c .before),
+      tentative-rate-held _ _ (start .pre .0) (start .pre .1 .0),
+      start .pre .0 .step-high,
+      start .pre .1 .0,
+    )
 
 returns : tie.Need-returns
 unfolding repoTentative

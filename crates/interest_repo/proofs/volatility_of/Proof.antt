@@ -9,8 +9,13 @@ volatility-of-requires : tie.Need-volatility-of-requires
 volatility-of-requires c κs =
     let start = c .before in
     let g = start .pre .0 in
-    let h = start .pre .1 .0 in
-    (g .weighs, (omega (arith, change-held (start .args .i) (start .args .k) g h, start .pre .1 .1), omega (arith, h .volatility)))
+    let h = start .pre .1 .0 in (
+      g .weighs,
+      (
+        omega (arith, change-held (start .args .i) (start .args .k) g h, start .pre .1 .1),
+        omega (arith, h .volatility),
+      ),
+    )
 
 returns : tie.Need-returns
 unfolding repoVolatility

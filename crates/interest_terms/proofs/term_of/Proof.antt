@@ -13,7 +13,11 @@ unfolding termOf
 returns c =
     let r = c .before .repo-of .result in
     let is = c .struct-told .given in
-    rw (toZ-ofZ {z = r .low} (record { sfits = is .0 .1 }), toZ-ofZ {z = r .high} (record { sfits = is .1 .0 .1 }), c .before .repo-of .ensures)
+    rw (
+      toZ-ofZ {z = r .low} (record { sfits = is .0 .1 }),
+      toZ-ofZ {z = r .high} (record { sfits = is .1 .0 .1 }),
+      c .before .repo-of .ensures,
+    )
 
 pub term-of-spec : {M : Type 1} → statement M
 term-of-spec = tie.close (tie.spec repo-of-requires returns)

@@ -16,7 +16,11 @@ unfolding workedRepo isDone
 returns c =
     let w = c .before .before .before .args .w in
     let is = c .struct-told .given in
-    rw (toZ-ofZ {z = w .lower} (record { sfits = is .1 .0 .1 }), toZ-ofZ {z = w .upper} (record { sfits = is .1 .1 .0 .1 }), eq-eqb _ _ (sym (c .before .before .number .ensures) ∙ c .before .if1 .taken))
+    rw (
+      toZ-ofZ {z = w .lower} (record { sfits = is .1 .0 .1 }),
+      toZ-ofZ {z = w .upper} (record { sfits = is .1 .1 .0 .1 }),
+      eq-eqb _ _ (sym (c .before .before .number .ensures) ∙ c .before .if1 .taken),
+    )
 
 returns-2 : tie.Need-returns-2
 unfolding workedRepo isDone

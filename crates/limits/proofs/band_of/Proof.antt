@@ -43,7 +43,12 @@ unfolding bandOf
 returns c =
     let s = c .before .before .before .before in
     let v = s .pre .1 .term in
-    rw (c .before .before .band-limit .ensures, c .band-limit2 .ensures, bits Lower (s .args .x) v, bits Upper (s .args .x) v)
+    rw (
+      c .before .before .band-limit .ensures,
+      c .band-limit2 .ensures,
+      bits Lower (s .args .x) v,
+      bits Upper (s .args .x) v,
+    )
 
 pub band-of-spec : {M : Type 1} → statement M
 band-of-spec = tie.close (tie.spec band-limit-requires band-limit-requires-2 returns)

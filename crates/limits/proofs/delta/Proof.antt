@@ -1,4 +1,5 @@
--- `limits::delta` meets its contract: the quotient of the definition, rounded once. The products fit by the ranges. Assumes nothing.
+-- `limits::delta` meets its contract: the quotient of the definition, rounded once. The products fit by the ranges.
+-- Assumes nothing.
 use native.Mathlib.Omega.{arith}
 use borrow.Author.Needs.{needs}
 use Rattle.paper.specs.Limits.{deltaOf, limitOf}

@@ -1,5 +1,5 @@
--- `limits::monitored_limit` meets its contract: the three factors and the divisor of the definition, rounded once. Their ranges are those of the
--- wide product. Assumes nothing.
+-- `limits::monitored_limit` meets its contract: the three factors and the divisor of the definition, rounded once.
+-- Their ranges are those of the wide product. Assumes nothing.
 use mathlib.Core.Path.{_≡_}
 use Prim.Native.Nat.{_≤_}
 use native.Mathlib.Omega.{arith}
@@ -25,7 +25,12 @@ days c = rw (toZ-ofZ (c .before .fits .repo)) at (c .grow .ensures)
 days-high : (c : tie.After-grow) → c .grow .result ≤ yearMost
 days-high c =
     let s = c .before in
-    omega (arith, days c, grown-range yearInDayBp (s .args .k) (s .args .repo) (s .pre .1 .days) (s .pre .1 .repo-high) .0)
+    omega (
+      arith,
+      days c,
+      grown-range yearInDayBp (s .args .k) (s .args .repo) (s .pre .1 .days)
+          (s .pre .1 .repo-high) .0,
+    )
 
 grow-requires : tie.Need-grow-requires
 grow-requires c κs = search needs

@@ -1,4 +1,5 @@
--- `modelled` meets its contract: each figure is made of those before it, and what is made stays in the ranges of the next rule. Assumes nothing.
+-- `modelled` meets its contract: each figure is made of those before it, and what is made stays in the ranges of the
+-- next rule. Assumes nothing.
 use Prim.Native.Nat.{_≤_}
 use native.Mathlib.Omega.{arith}
 use borrow.Author.Needs.{needs}
@@ -42,8 +43,14 @@ tentative-after-requires c κs =
 rates-of-requires : tie.Need-rates-of-requires
 rates-of-requires c κs =
     let given = c .before .before .before .before .before .pre .0 in
-    let t-high : c .before .tentative-rate .result ≤ tentativeMost = omega (arith, t-held (c .before), given .statics .most-high) in
-    (given .statics, (given .ahead, rw (c .tentative-after .ensures) (tentative-held _ _ _ _ _ t-high (given .tentative))))
+    let t-high : c .before .tentative-rate .result ≤ tentativeMost =
+    omega (arith, t-held (c .before), given .statics .most-high) in (
+      given .statics,
+      (
+        given .ahead,
+        rw (c .tentative-after .ensures) (tentative-held _ _ _ _ _ t-high (given .tentative)),
+      ),
+    )
 
 returns : tie.Need-returns
 unfolding modelled
@@ -59,4 +66,5 @@ returns c =
 pub modelled-spec : {M : Type 1} → statement M
 modelled-spec =
     tie.close
-    (tie.spec model-of-requires mul-volatility-of volatility-of-requires tentative-rate-requires tentative-after-requires rates-of-requires returns)
+    (tie.spec model-of-requires mul-volatility-of volatility-of-requires tentative-rate-requires
+    tentative-after-requires rates-of-requires returns)

@@ -10,7 +10,8 @@ blank-requires : tie.Need-blank-requires
 blank-requires c κs = search needs
 
 returns : tie.Need-returns
-returns c = ap (λ (r : Record). record { count = c .before .args .n; at = c .before .args .n; rec = r }) (c .blank .ensures)
+returns c = ap (λ (r : Record). record { count = c .before .args .n; at = c .before .args .n; rec = r })
+    (c .blank .ensures)
 
 pub absent-spec : {M : Type 1} → statement M
 absent-spec = tie.close (tie.spec blank-requires returns)

@@ -1,5 +1,6 @@
--- `record_calls::alerts_on` meets its contract: each alert is that of its side's near second after the quote. Assumes nothing.
--- `record_calls::alerts_on` meets its contract: each side's alert is of its near second after the quote. Assumes nothing.
+-- `record_calls::alerts_on` meets its contract: each alert is that of its side's near second after the quote. Assumes
+-- nothing. `record_calls::alerts_on` meets its contract: each side's alert is of its near second after the quote.
+-- Assumes nothing.
 use borrow.Author.Needs.{needs}
 use Rattle.paper.specs.Desk.{alerting, alertsOn}
 use Rattle.record_calls.proofs.alerts_on.Statement.{statement}
@@ -16,7 +17,12 @@ alert-requires-2 c κs = search needs
 
 returns : tie.Need-returns
 unfolding alertsOn alerting
-returns c = rw (c .alert2 .ensures, c .before .alert .ensures, c .before .before .blank .ensures, c .before .before .before .pre)
+returns c = rw (
+  c .alert2 .ensures,
+  c .before .alert .ensures,
+  c .before .before .blank .ensures,
+  c .before .before .before .pre,
+)
 
 pub alerts-on-spec : {M : Type 1} → statement M
 alerts-on-spec = tie.close (tie.spec blank-requires alert-requires alert-requires-2 returns)

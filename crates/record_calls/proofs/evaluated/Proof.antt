@@ -1,4 +1,5 @@
--- `record_calls::evaluated` meets its contract: each return is the first check that applies, 1, 6, 5 or 7; after them the price is all that the rest takes. Assumes nothing.
+-- `record_calls::evaluated` meets its contract: each return is the first check that applies, 1, 6, 5 or 7; after them
+-- the price is all that the rest takes. Assumes nothing.
 use mathlib.Core.Path.{_≡_, sym, ap, _∙_}
 use mathlib.Core.Bool.{true, false}
 use lib.Dec.{leb}
@@ -19,10 +20,12 @@ use Rattle.record_calls.proofs.evaluated.Tie as tie
 known : (c : tie.Else1) → isKnown (c .before .before .before .args .s) ≡ true
 known c = passed _ (c .before .is-known .ensures) (c .if1 .left)
 
-valid : (c : tie.Else2) → validDay (c .before .before .before .before .before .args .d) (c .before .before .before .before .before .args .rows .now) ≡ true
+valid : (c : tie.Else2) → validDay (c .before .before .before .before .before .args .d)
+    (c .before .before .before .before .before .args .rows .now) ≡ true
 valid c = passed _ (c .before .valid-day .ensures) (c .if2 .left)
 
-after : (c : tie.Else3) → leb (c .before .before .before .before .before .before .before .before .args .d .day) (lastDay (c .before .before .before .before .before .before .before .before .args .s .rec .standing)) ≡ false
+after : (c : tie.Else3) → leb (c .before .before .before .before .before .before .before .before .args .d .day)
+    (lastDay (c .before .before .before .before .before .before .before .before .args .s .rec .standing)) ≡ false
 after c = lt-leb _ _ (rw (c .before .before .last-day .ensures) at (c .if3 .left))
 
 -- the evaluation is that of the record's grid
@@ -45,7 +48,8 @@ refused-requires : tie.Need-refused-requires
 refused-requires c κs = search needs
 
 returns : tie.Need-returns
-returns c = c .refused .ensures ∙ day-unknown _ _ _ (failed _ (c .before .before .is-known .ensures) (c .before .if1 .taken))
+returns c = c .refused .ensures
+    ∙ day-unknown _ _ _ (failed _ (c .before .before .is-known .ensures) (c .before .if1 .taken))
 
 valid-day-requires : tie.Need-valid-day-requires
 valid-day-requires c κs = search needs
@@ -55,7 +59,8 @@ refused-requires-2 c κs = search needs
 
 returns-2 : tie.Need-returns-2
 returns-2 c =
-    c .refused2 .ensures ∙ day-out _ _ _ (known (c .before .before .before)) (failed _ (c .before .before .valid-day .ensures) (c .before .if2 .taken))
+    c .refused2 .ensures ∙ day-out _ _ _ (known (c .before .before .before))
+    (failed _ (c .before .before .valid-day .ensures) (c .before .if2 .taken))
 
 last-day-requires : tie.Need-last-day-requires
 last-day-requires c κs = search needs
@@ -101,7 +106,8 @@ returns-4 : tie.Need-returns-4
 returns-4 c =
     let e = c .before .before .before .before .before .before in
     let test = beyond _ _ _ (evaluation (c .before .before .before) ∙ c .before .enum-told .given .1) in
-    c .refused4 .ensures ∙ day-beyond _ _ _ (known (e .before .before .before .before .before)) (valid (e .before .before .before)) (after e) test
+    c .refused4 .ensures ∙ day-beyond _ _ _ (known (e .before .before .before .before .before))
+    (valid (e .before .before .before)) (after e) test
 
 returns-5 : tie.Need-returns-5
 unfolding priceOn
@@ -109,7 +115,13 @@ returns-5 c =
     let e = c .before .before .before .before .before .before .before in
     let p = price (c .before .before) in
     c .evaluated-at .ensures _
-    (record { known = known (e .before .before .before .before .before); valid = valid (e .before .before .before); later = after e; fits = p .fits })
+    (record {
+      known = known (e .before .before .before .before .before);
+      valid =
+          valid (e .before .before .before);
+      later = after e;
+      fits = p .fits;
+    })
     (p .is)
 
 pub evaluated-spec : {M : Type 1} → statement M

@@ -1,4 +1,5 @@
--- `record_calls::evaluated_at` meets its contract: where 1, 6, 5 and 7 do not apply, each return is the first check that applies, 8 or 9, or none. Assumes nothing.
+-- `record_calls::evaluated_at` meets its contract: where 1, 6, 5 and 7 do not apply, each return is the first check
+-- that applies, 8 or 9, or none. Assumes nothing.
 use mathlib.Core.Path.{_≡_, sym, _∙_}
 use mathlib.Core.List.{List}
 use lib.IntN.{ℤ}
@@ -34,7 +35,8 @@ refused-requires c κs = search needs
 
 returns : tie.Need-returns
 returns c rows k e =
-    c .refused .ensures ∙ day-moved-far _ _ rows k (sym (move-tested (c .before .before) rows e) ∙ c .before .if1 .taken)
+    c .refused .ensures ∙ day-moved-far _ _ rows k (sym (move-tested (c .before .before) rows e)
+    ∙ c .before .if1 .taken)
 
 array-copy-out-figures-of : tie.Need-array-copy-out-figures-of
 array-copy-out-figures-of c = search needs
@@ -68,7 +70,8 @@ returns-2 c rows k e =
     let m = c .before .before .before .before .before .before .before in
     let held = sym (move-tested (m .before) rows e) ∙ m .if1 .left in
     let made = c .before .before .before .before .evaluated .ensures rows e in
-    c .refused2 .ensures ∙ day-crossed _ _ rows k held made (c .before .before .in-order .ensures) (c .before .if2 .taken)
+    c .refused2 .ensures ∙ day-crossed _ _ rows k held made (c .before .before .in-order .ensures)
+    (c .before .if2 .taken)
 
 written-requires : tie.Need-written-requires
 written-requires c κs = search needs
@@ -78,7 +81,8 @@ returns-3 c rows k e =
     let m = c .before .before .before .before .before .before .before in
     let held = sym (move-tested (m .before) rows e) ∙ m .if1 .left in
     let made = c .before .before .before .before .evaluated .ensures rows e in
-    c .written .ensures ∙ day-accepted _ _ rows k held made (c .before .before .in-order .ensures) (c .before .if2 .left)
+    c .written .ensures ∙ day-accepted _ _ rows k held made (c .before .before .in-order .ensures)
+    (c .before .if2 .left)
 
 pub evaluated-at-spec : {M : Type 1} → statement M
 evaluated-at-spec =

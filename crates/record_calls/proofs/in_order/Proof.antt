@@ -22,7 +22,11 @@ is-crossed-requires-3 : tie.Need-is-crossed-requires-3
 is-crossed-requires-3 c κs = search needs
 
 returns : tie.Need-returns
-returns c = rw (c .is-crossed3 .ensures, c .before .before .is-crossed2 .ensures, c .before .before .before .before .is-crossed .ensures)
+returns c = rw (
+  c .is-crossed3 .ensures,
+  c .before .before .is-crossed2 .ensures,
+  c .before .before .before .before .is-crossed .ensures,
+)
 
 pub in-order-spec : {M : Type 1} → statement M
 in-order-spec =

@@ -11,10 +11,15 @@ use Rattle.record_calls.proofs.moved.Statement.{statement}
 use Rattle.record_calls.proofs.moved.Tie as tie
 
 -- the opening, of the definition's tests
-verdict : (c : tie.After-opening) → c .opening .result ≡ firstOf (openingChecks (isKnown (c .before .before .before .before .args .s)) (validSide (c .before .before .before .before .args .side)) (c .before .before .before .before .args .s .rec))
+verdict : (c : tie.After-opening)
+    → c .opening .result ≡ firstOf
+    (openingChecks (isKnown (c .before .before .before .before .args .s))
+    (validSide (c .before .before .before .before .args .side)) (c .before .before .before .before .args .s .rec))
 verdict c = rw (c .before .valid-side .ensures) at (c .opening .ensures)
 
-past : (c : tie.Else1) → Opened (isKnown (c .before .before .before .before .before .before .args .s)) (validSide (c .before .before .before .before .before .before .args .side)) (c .before .before .before .before .before .before .args .s .rec)
+past : (c : tie.Else1) → Opened (isKnown (c .before .before .before .before .before .before .args .s))
+    (validSide (c .before .before .before .before .before .before .args .side))
+    (c .before .before .before .before .before .before .args .s .rec)
 past c = opened _ _ _ (passed _ (c .before .is-done .ensures ∙ ap isDone (verdict (c .before .before))) (c .if1 .left))
 
 valid-side-requires : tie.Need-valid-side-requires
@@ -46,7 +51,8 @@ refused-requires-2 c κs = search needs
 
 returns-2 : tie.Need-returns-2
 returns-2 c =
-    let test = rw (c .before .before .count-of .ensures, c .before .before .before .side-of .ensures) at (c .before .if2 .taken) in
+    let test = rw (c .before .before .count-of .ensures, c .before .before .before .side-of .ensures) at
+    (c .before .if2 .taken) in
     c .refused2 .ensures ∙ move-used-up _ _ (past (c .before .before .before .before)) (eq-eqb _ _ test)
 
 moved-requires : tie.Need-moved-requires
@@ -62,7 +68,8 @@ returns-3 c =
     let e = c .before .before in
     let side = e .before .before .side-of .ensures in
     let test = rw (e .before .count-of .ensures, side) at (e .if2 .left) in
-    rw (c .written .ensures, c .before .moved .ensures, side) (move-accepted _ _ (past (e .before .before .before)) (ne-eqb _ _ test))
+    rw (c .written .ensures, c .before .moved .ensures, side)
+    (move-accepted _ _ (past (e .before .before .before)) (ne-eqb _ _ test))
 
 pub moved-spec : {M : Type 1} → statement M
 moved-spec =

@@ -1,4 +1,5 @@
--- `record_calls::opening` meets its contract: each return is the first check that applies, in the order 1, 6, 10, 11, or none. Assumes nothing.
+-- `record_calls::opening` meets its contract: each return is the first check that applies, in the order 1, 6, 10, 11,
+-- or none. Assumes nothing.
 use mathlib.Core.Path.{_≡_}
 use mathlib.Core.Bool.{true}
 use Rattle.paper.specs.Ranges.{isLive}
@@ -35,21 +36,36 @@ returns-3 : tie.Need-returns-3
 unfolding openingChecks firstOf
 returns-3 c =
     let e = c .before .before in
-    rw (known (e .before), not-false (e .before .before .before .before .args .in-range) (e .if2 .left), failed _ (c .before .is-live .ensures) (c .if3 .taken))
+    rw (
+      known (e .before),
+      not-false (e .before .before .before .before .args .in-range) (e .if2 .left),
+      failed _ (c .before .is-live .ensures) (c .if3 .taken),
+    )
 
 returns-4 : tie.Need-returns-4
 unfolding openingChecks firstOf
 returns-4 c =
     let l = c .before .before in
     let e = l .before .before in
-    rw (known (e .before), not-false (e .before .before .before .before .args .in-range) (e .if2 .left), live l, not-true (c .before .before .before .before .before .before .before .before .args .s .rec .statics .monitoring) (c .if4 .taken))
+    rw (
+      known (e .before),
+      not-false (e .before .before .before .before .args .in-range) (e .if2 .left),
+      live l,
+      not-true (c .before .before .before .before .before .before .before .before .args .s .rec .statics .monitoring)
+          (c .if4 .taken),
+    )
 
 returns-5 : tie.Need-returns-5
 unfolding openingChecks firstOf
 returns-5 c =
     let l = c .before .before in
     let e = l .before .before in
-    rw (known (e .before), not-false (e .before .before .before .before .args .in-range) (e .if2 .left), live l, not-false (c .before .before .before .before .before .before .before .before .args .s .rec .statics .monitoring) (c .if4 .left))
+    rw (
+      known (e .before),
+      not-false (e .before .before .before .before .args .in-range) (e .if2 .left),
+      live l,
+      not-false (c .before .before .before .before .before .before .before .before .args .s .rec .statics .monitoring) (c .if4 .left),
+    )
 
 pub opening-spec : {M : Type 1} → statement M
 opening-spec =

@@ -1,4 +1,5 @@
--- `record_calls::quoted` meets its contract: the opening refuses, or 13 does, or the quote is written and its alerts answered. Assumes nothing.
+-- `record_calls::quoted` meets its contract: the opening refuses, or 13 does, or the quote is written and its alerts
+-- answered. Assumes nothing.
 use mathlib.Core.Path.{_≡_, ap, _∙_}
 use borrow.Author.Tests.{lt-ltb, le-ltb}
 use Rattle.paper.specs.Ranges.{validQuote}
@@ -11,10 +12,15 @@ use Rattle.record_calls.proofs.quoted.Statement.{statement}
 use Rattle.record_calls.proofs.quoted.Tie as tie
 
 -- the opening, of the definition's tests
-verdict : (c : tie.After-opening) → c .opening .result ≡ firstOf (openingChecks (isKnown (c .before .before .before .args .s)) (validQuote (c .before .before .before .args .q)) (c .before .before .before .args .s .rec))
+verdict : (c : tie.After-opening)
+    → c .opening .result ≡ firstOf
+    (openingChecks (isKnown (c .before .before .before .args .s)) (validQuote (c .before .before .before .args .q))
+    (c .before .before .before .args .s .rec))
 verdict c = rw (c .before .valid-quote .ensures) at (c .opening .ensures)
 
-past : (c : tie.Else1) → Opened (isKnown (c .before .before .before .before .before .args .s)) (validQuote (c .before .before .before .before .before .args .q)) (c .before .before .before .before .before .args .s .rec)
+past : (c : tie.Else1) → Opened (isKnown (c .before .before .before .before .before .args .s))
+    (validQuote (c .before .before .before .before .before .args .q))
+    (c .before .before .before .before .before .args .s .rec)
 past c = opened _ _ _ (passed _ (c .before .is-done .ensures ∙ ap isDone (verdict (c .before .before))) (c .if1 .left))
 
 valid-quote-requires : tie.Need-valid-quote-requires
@@ -39,7 +45,8 @@ refused-requires-2 : tie.Need-refused-requires-2
 refused-requires-2 c κs = search needs
 
 returns-2 : tie.Need-returns-2
-returns-2 c = c .refused2 .ensures ∙ quote-earlier _ _ (past (c .before .before .before .before)) (lt-ltb _ _ (c .before .if2 .taken))
+returns-2 c = c .refused2 .ensures
+    ∙ quote-earlier _ _ (past (c .before .before .before .before)) (lt-ltb _ _ (c .before .if2 .taken))
 
 near-on-requires : tie.Need-near-on-requires
 near-on-requires c κs =
@@ -55,7 +62,8 @@ alerts-on-requires c κs = search needs
 returns-3 : tie.Need-returns-3
 returns-3 c =
     let e = c .before .before .before in
-    rw (c .alerts-on .ensures, c .before .quoted .ensures) (quote-accepted _ _ (past (e .before .before .before)) (le-ltb _ _ (e .if2 .left)))
+    rw (c .alerts-on .ensures, c .before .quoted .ensures)
+    (quote-accepted _ _ (past (e .before .before .before)) (le-ltb _ _ (e .if2 .left)))
 
 pub quoted-spec : {M : Type 1} → statement M
 quoted-spec =

@@ -18,7 +18,8 @@ saying-requires c κs = search needs
 returns : tie.Need-returns
 unfolding readAnswer readChecks firstOf isDone
 returns c =
-    let unknown : isKnown (c .before .before .before .before .args .s) ≡ false = sym (c .before .before .is-known .ensures) ∙ not-true _ (c .before .if1 .taken) in
+    let unknown : isKnown (c .before .before .before .before .args .s) ≡ false =
+    sym (c .before .before .is-known .ensures) ∙ not-true _ (c .before .if1 .taken) in
     rw (c .saying .ensures, unknown)
 
 showing-requires : tie.Need-showing-requires
@@ -27,7 +28,8 @@ showing-requires c κs = search needs
 returns-2 : tie.Need-returns-2
 unfolding readAnswer readChecks firstOf isDone
 returns-2 c =
-    let known : isKnown (c .before .before .before .before .args .s) ≡ true = sym (c .before .before .is-known .ensures) ∙ not-false _ (c .before .if1 .left) in
+    let known : isKnown (c .before .before .before .before .args .s) ≡ true =
+    sym (c .before .before .is-known .ensures) ∙ not-false _ (c .before .if1 .left) in
     rw (c .showing .ensures, known)
 
 pub read-spec : {M : Type 1} → statement M

@@ -1,4 +1,5 @@
--- `record_calls::refused` meets its contract: the blank is stored past the end, and the verdict is said. Assumes nothing.
+-- `record_calls::refused` meets its contract: the blank is stored past the end, and the verdict is said. Assumes
+-- nothing.
 use borrow.Author.Needs.{needs}
 use Rattle.record_calls.specs.Outcomes.{refusedOutcome}
 use Rattle.record_calls.proofs.refused.Statement.{statement}

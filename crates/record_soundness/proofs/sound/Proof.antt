@@ -1,4 +1,5 @@
--- `record_soundness::sound` meets its contract: the definition is the figures, then each part as its function judges it. The grid of any lot is above 0. Assumes nothing.
+-- `record_soundness::sound` meets its contract: the definition is the figures, then each part as its function judges
+-- it. The grid of any lot is above 0. Assumes nothing.
 use borrow.Author.Needs.{needs}
 use Rattle.paper.specs.Ranges.{sound}
 use Rattle.inputs.proofs.Tests.{grid-range}
@@ -16,13 +17,15 @@ valid-rates-requires : tie.Need-valid-rates-requires
 valid-rates-requires c κs = search needs
 
 valid-three-limits-requires : tie.Need-valid-three-limits-requires
-valid-three-limits-requires c κs = rw (c .before .before .before .before .before .before .before .grid-of .ensures) (grid-range _ .0)
+valid-three-limits-requires c κs =
+    rw (c .before .before .before .before .before .before .before .grid-of .ensures) (grid-range _ .0)
 
 valid-terms-requires : tie.Need-valid-terms-requires
 valid-terms-requires c κs = search needs
 
 valid-three-limits-requires-2 : tie.Need-valid-three-limits-requires-2
-valid-three-limits-requires-2 c κs = rw (c .before .before .before .before .before .before .before .before .before .grid-of .ensures) (grid-range _ .0)
+valid-three-limits-requires-2 c κs =
+    rw (c .before .before .before .before .before .before .before .before .before .grid-of .ensures) (grid-range _ .0)
 
 valid-three-near-requires : tie.Need-valid-three-near-requires
 valid-three-near-requires c κs = search needs
@@ -33,7 +36,15 @@ returns c =
     let bands = c .before .before .before .before in
     let figures = bands .before .before .before .before in
     let grid = figures .before .before .before .before .before .before in
-    rw (figures .sound-figures .ensures, bands .before .before .before .valid-rates .ensures, bands .before .before .valid-three-limits .ensures, bands .before .valid-terms .ensures, bands .valid-three-limits2 .ensures, c .before .valid-three-near .ensures, grid .grid-of .ensures)
+    rw (
+      figures .sound-figures .ensures,
+      bands .before .before .before .valid-rates .ensures,
+      bands .before .before .valid-three-limits .ensures,
+      bands .before .valid-terms .ensures,
+      bands .valid-three-limits2 .ensures,
+      c .before .valid-three-near .ensures,
+      grid .grid-of .ensures,
+    )
 
 pub sound-spec : {M : Type 1} → statement M
 sound-spec =

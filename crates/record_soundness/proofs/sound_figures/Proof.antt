@@ -1,5 +1,6 @@
--- `record_soundness::sound_figures` meets its contract: where the id and the statics are in range the rest of the test is that of the figures and the age, and where
--- they are not the whole is no. The step of valid statics is not 0. Assumes nothing.
+-- `record_soundness::sound_figures` meets its contract: where the id and the statics are in range the rest of the test
+-- is that of the figures and the age, and where they are not the whole is no. The step of valid statics is not 0.
+-- Assumes nothing.
 use mathlib.Core.Path.{_≡_}
 use mathlib.Core.Bool.{true, _&&_}
 use borrow.Author.Needs.{needs}
@@ -22,7 +23,9 @@ valid-statics-requires c κs = search needs
 last-day-requires : tie.Need-last-day-requires
 last-day-requires c κs = search needs
 
-passed : (c : tie.Then1) → (within 1 idMost (c .before .before .before .before .args .r .id) && validStatics (c .before .before .before .before .args .r .statics)) ≡ true
+passed : (c : tie.Then1)
+    → (within 1 idMost (c .before .before .before .before .args .r .id)
+    && validStatics (c .before .before .before .before .args .r .statics)) ≡ true
 passed c = two-tests (c .before .before .valid-id .ensures) (c .before .valid-statics .ensures) (c .if1 .taken)
 
 valid-figures-requires : tie.Need-valid-figures-requires
@@ -32,7 +35,11 @@ valid-figures-requires c κs =
 
 returns : tie.Need-returns
 unfolding soundFigures validFigures
-returns c = rw (passed (c .before .before .before), c .before .valid-figures .ensures, c .before .before .last-day .ensures)
+returns c = rw (
+  passed (c .before .before .before),
+  c .before .valid-figures .ensures,
+  c .before .before .last-day .ensures,
+)
 
 returns-2 : tie.Need-returns-2
 unfolding soundFigures

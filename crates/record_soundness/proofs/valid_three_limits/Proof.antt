@@ -23,7 +23,8 @@ valid-limits-requires-3 : tie.Need-valid-limits-requires-3
 valid-limits-requires-3 c κs = search needs
 
 returns : tie.Need-returns
-returns c = all-three (c .before .before .before .before .valid-limits .ensures) (c .before .before .valid-limits2 .ensures) (c .valid-limits3 .ensures)
+returns c = all-three (c .before .before .before .before .valid-limits .ensures)
+    (c .before .before .valid-limits2 .ensures) (c .valid-limits3 .ensures)
 
 pub valid-three-limits-spec : {M : Type 1} → statement M
 valid-three-limits-spec =

@@ -23,7 +23,8 @@ valid-near-seconds-requires-3 : tie.Need-valid-near-seconds-requires-3
 valid-near-seconds-requires-3 c κs = search needs
 
 returns : tie.Need-returns
-returns c = all-three (c .before .before .valid-near-seconds .ensures) (c .before .valid-near-seconds2 .ensures) (c .valid-near-seconds3 .ensures)
+returns c = all-three (c .before .before .valid-near-seconds .ensures) (c .before .valid-near-seconds2 .ensures)
+    (c .valid-near-seconds3 .ensures)
 
 pub valid-three-near-spec : {M : Type 1} → statement M
 valid-three-near-spec =

@@ -1,5 +1,5 @@
--- `record_writing::evaluated` meets its contract: the limits are made of the price and the figures, which are those of any rows with that price. Assumes
--- nothing.
+-- `record_writing::evaluated` meets its contract: the limits are made of the price and the figures, which are those of
+-- any rows with that price. Assumes nothing.
 use mathlib.Core.Path.{_≡_}
 use borrow.Author.Needs.{needs}
 use Prim.Native.Nat.{ℕ, _<_}
@@ -22,7 +22,11 @@ rated : (c : tie.After-terms) (i : ℕ) → i < 3
     → let a = c .before .before .before .before .before .args in RangeInputs (a .p) (getD (a .f .rates) i noRate)
 rated c i l =
     let known = c .before .before .before .before .before .pre in
-    record { price = price-facts _ (known .price) .most; rate-high = rw (known .figures) (rates-held _ _ _ (known .sound-record) i l) }
+    record {
+      price = price-facts _ (known .price) .most;
+      rate-high =
+          rw (known .figures) (rates-held _ _ _ (known .sound-record) i l);
+    }
 
 ranges-of-requires : tie.Need-ranges-of-requires
 ranges-of-requires c κs = at-three _ (rated c)

@@ -1,4 +1,5 @@
--- `rows::row_at` meets its contract: each number stands at its place of the row, and the repo rate's bits are read back. Assumes nothing.
+-- `rows::row_at` meets its contract: each number stands at its place of the row, and the repo rate's bits are read
+-- back. Assumes nothing.
 use mir.Syntax.{w64}
 use mir.Facts.{toZ-ofZ}
 use Rattle.paper.specs.Ranges.{rowOf, rowAt}

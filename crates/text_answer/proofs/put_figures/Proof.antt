@@ -1,3 +1,4 @@
+-- `text_answer::put_figures` meets its contract: ID LIVE DAY P1 P2 S TENTATIVE AGE. Assumes nothing.
 use Rattle.text_protocol.specs.Answers.{figureNumbers, standingNumbers}
 use Rattle.text_answer.specs.Told.{both}
 use borrow.Author.Needs.{needs}

@@ -1,3 +1,4 @@
+-- `text_answer::put_flag` meets its contract. Assumes nothing.
 use Rattle.text_protocol.specs.Answers.{flag}
 use borrow.Author.Needs.{needs}
 use Rattle.text_answer.proofs.put_flag.Statement.{statement}

@@ -1,3 +1,4 @@
+-- `text_answer::put_last` meets its contract: MOVESUPPER MOVESLOWER LASTSECOND. Assumes nothing.
 use Rattle.text_protocol.specs.Answers.{lastNumbers}
 use Rattle.text_answer.specs.Told.{both}
 use borrow.Author.Needs.{needs}

@@ -1,3 +1,4 @@
+-- `text_answer::put_maturities` meets its contract: of each of the first `count` key maturities. Assumes nothing.
 use borrow.Author.Needs.{needs}
 use Rattle.text_answer.proofs.Turns.{Telling, telling-none, telling-more, telling-over, telling-all}
 use Rattle.paper.specs.declared.MaturityFigures.{MaturityFigures}

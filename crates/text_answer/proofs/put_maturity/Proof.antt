@@ -1,3 +1,4 @@
+-- `text_answer::put_maturity` meets its contract: CHANGE VOLATILITY TENTATIVE AGE UP DOWN. Assumes nothing.
 use Rattle.text_protocol.specs.Answers.{maturityNumbers}
 use Rattle.text_answer.specs.Told.{both}
 use borrow.Author.Needs.{needs}

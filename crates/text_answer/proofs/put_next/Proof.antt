@@ -1,3 +1,4 @@
+-- `text_answer::put_next` meets its contract: a blank, and a number. Assumes nothing.
 use Rattle.text_protocol.specs.Numbers.{signed}
 use Rattle.text_protocol.specs.Answers.{next}
 use Rattle.text_answer.specs.Told.{told-one}

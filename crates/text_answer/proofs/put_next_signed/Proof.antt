@@ -1,3 +1,4 @@
+-- `text_answer::put_next_signed` meets its contract: a blank, and a signed number. Assumes nothing.
 use Rattle.text_protocol.specs.Answers.{next}
 use Rattle.text_answer.specs.Told.{told-one}
 use Rattle.text_out.specs.Wrote.{then}

@@ -1,3 +1,4 @@
+-- `text_answer::put_ranges` meets its contract: UPPER1 UPPER2 UPPER3 LOWER1 LOWER2 LOWER3. Assumes nothing.
 use Rattle.text_protocol.specs.Answers.{rangesNumbers}
 use Rattle.text_answer.specs.Told.{both}
 use borrow.Author.Needs.{needs}

@@ -1,3 +1,4 @@
+-- `text_answer::put_record` meets its contract. Assumes nothing.
 use Rattle.text_protocol.specs.Answers.{recordNumbers}
 use Rattle.text_answer.specs.Told.{both}
 use borrow.Author.Needs.{needs}

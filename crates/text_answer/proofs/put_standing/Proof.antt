@@ -1,3 +1,4 @@
+-- `text_answer::put_standing` meets its contract: LIVE DAY. Assumes nothing.
 use Rattle.text_protocol.specs.Answers.{standingNumbers, flag}
 use Rattle.paper.specs.Ranges.{isLive, lastDay}
 use Rattle.text_protocol.specs.Answers.{standingNumbers}

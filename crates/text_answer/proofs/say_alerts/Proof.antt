@@ -1,3 +1,4 @@
+-- `text_answer::say_alerts` meets its contract: a quote's two alerts. Assumes nothing.
 use Rattle.text_answer.specs.Told.{both, answered}
 use native.Mathlib.Omega.{arith}
 use borrow.Author.Needs.{needs}

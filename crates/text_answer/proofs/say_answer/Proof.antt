@@ -1,3 +1,4 @@
+-- `text_answer::say_answer` meets its contract: what a call of a kind answers. Assumes nothing.
 use Rattle.text_answer.proofs.Cases.{refused-kind, admit-kind, quote-kind, record-kind}
 use borrow.Author.Needs.{needs}
 use Rattle.text_answer.proofs.say_answer.Statement.{statement}

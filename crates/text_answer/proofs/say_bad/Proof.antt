@@ -1,3 +1,4 @@
+-- `text_answer::say_bad` meets its contract: "bad" and the line's number. Assumes nothing.
 use Rattle.text_answer.specs.Told.{wrote-one}
 use Rattle.text_out.specs.Wrote.{then, wider}
 use Rattle.text_protocol.specs.Answers.{badText}

@@ -1,3 +1,4 @@
+-- `text_answer::say_interest` meets its contract. Assumes nothing.
 use Rattle.text_answer.proofs.Cases.{refused-text, done-text}
 use Rattle.text_protocol.specs.Answers.{interestText, interestNumbers}
 use borrow.Author.Needs.{needs}

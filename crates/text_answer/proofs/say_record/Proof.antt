@@ -1,3 +1,4 @@
+-- `text_answer::say_record` meets its contract. Assumes nothing.
 use Rattle.text_answer.specs.Told.{answered}
 use native.Mathlib.Omega.{arith}
 use borrow.Author.Needs.{needs}

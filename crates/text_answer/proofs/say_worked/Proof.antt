@@ -1,3 +1,4 @@
+-- `text_answer::say_worked` meets its contract: LOWER UPPER, and the figures of each key maturity. Assumes nothing.
 use Rattle.text_answer.specs.Told.{both, answered}
 use Rattle.text_protocol.specs.Answers.{interestNumbers}
 use native.Mathlib.Omega.{arith}

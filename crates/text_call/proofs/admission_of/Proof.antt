@@ -1,3 +1,4 @@
+-- `text_call::admission_of` meets its contract. Assumes nothing.
 use Rattle.text_protocol.specs.Names.{the, placeOf, admitNames, code}
 use Rattle.text_protocol.specs.Calls.{admissionOf}
 use mathlib.Core.Path.{_≡_}

@@ -1,3 +1,4 @@
+-- `text_call::figures` meets its contract. Assumes nothing.
 use Rattle.text_call.proofs.Rest.{behind}
 use mathlib.Core.Path.{_≡_, refl, sym, ap, _∙_}
 use borrow.Author.Needs.{needs}

@@ -1,3 +1,4 @@
+-- `text_call::given_of` meets its contract. Assumes nothing.
 use Rattle.text_call.proofs.Given.{given-is}
 use mathlib.Core.Path.{_≡_}
 use Rattle.text_call.proofs.given_of.Statement.{statement}

@@ -1,3 +1,4 @@
+-- `text_call::interest_of` meets its contract. Assumes nothing.
 use mir.Syntax.{w64}
 use mir.Facts.{toZ-ofZ}
 use Rattle.text_protocol.specs.Names.{the, placeOf, interestNames, code}

@@ -1,3 +1,4 @@
+-- `text_call::no_admission` meets its contract. Assumes nothing.
 use mathlib.Core.Path.{refl}
 use Rattle.paper.specs.Ranges.{unsigned}
 use Rattle.text_protocol.specs.Names.{the, placeOf, admitNames, code}

@@ -1,3 +1,4 @@
+-- `text_call::no_day` meets its contract. Assumes nothing.
 use borrow.Author.Needs.{needs}
 use Rattle.text_call.proofs.no_day.Statement.{statement}
 use Rattle.text_call.proofs.no_day.Tie as tie

@@ -1,3 +1,4 @@
+-- `text_call::of_id` meets its contract: a request that names an id, and a side where it has one. Assumes nothing.
 use borrow.Author.Needs.{needs}
 use Rattle.text_call.proofs.of_id.Statement.{statement}
 use Rattle.text_call.proofs.of_id.Tie as tie

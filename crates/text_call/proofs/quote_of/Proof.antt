@@ -1,3 +1,4 @@
+-- `text_call::quote_of` meets its contract. Assumes nothing.
 use Rattle.text_protocol.specs.Names.{the, placeOf, quoteNames, code}
 use Rattle.text_protocol.specs.Calls.{quoteOf}
 use mathlib.Core.Path.{_≡_, refl, sym, ap, _∙_}

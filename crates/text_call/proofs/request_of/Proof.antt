@@ -1,3 +1,4 @@
+-- `text_call::request_of` meets its contract: what a line of a kind asks of the desk. Assumes nothing.
 use Rattle.text_call.proofs.LineCalls.{admit-line, evaluate-line, quote-line, move-line, read-line, other-line}
 use borrow.Author.Needs.{needs}
 use Rattle.text_call.proofs.request_of.Statement.{statement}

@@ -1,3 +1,5 @@
+-- `text_call::term_of` meets its contract: the term whose days stand at a place, and its band behind them. Assumes
+-- nothing.
 use mir.Facts.{toZ-ofZ}
 use mir.Syntax.{w64}
 use mathlib.Core.Path.{_≡_, refl, sym, ap, _∙_}

@@ -1,3 +1,4 @@
+-- `text_input::fill` meets its contract. Assumes nothing.
 use lib.Seq.{take-at, length-take-le}
 use borrow.Author.Needs.{needs}
 use Rattle.text_input.proofs.fill.Statement.{statement}

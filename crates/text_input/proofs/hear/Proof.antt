@@ -1,3 +1,4 @@
+-- `text_input::hear` meets its contract: the next line. Assumes nothing.
 use Rattle.text_input.proofs.Lines.{next-whole, next-last, next-long, long-says, next-readied, at-front}
 use native.Mathlib.Omega.{arith}
 use Prim.Native.Nat.{_-_, _≤_, _<_}

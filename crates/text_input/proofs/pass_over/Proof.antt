@@ -1,3 +1,5 @@
+-- `text_input::pass_over` meets its contract: passes over the rest of a line that is longer than the buffer. Assumes
+-- nothing.
 use borrow.Author.Needs.{needs}
 use Rattle.text_input.proofs.Turns.{Passing, passing-none, passing-end, passing-found, passing-more}
 use lib.Seq.{length-take-le}

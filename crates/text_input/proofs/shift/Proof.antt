@@ -1,3 +1,4 @@
+-- `text_input::shift` meets its contract: the bytes from `from` to `to`, moved to the front. Assumes nothing.
 use Rattle.text_input.proofs.Turns.{shifted-all}
 use borrow.Author.Needs.{needs}
 use Rattle.text_input.proofs.Turns.{Shifted, shifted-none, shifted-more}

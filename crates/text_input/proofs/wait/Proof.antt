@@ -1,3 +1,5 @@
+-- `text_input::wait` meets its contract: reads until a line feed stands behind the first `have` bytes, which have none,
+-- or the buffer is full, or the input has ended. Assumes nothing.
 use borrow.Author.Needs.{needs}
 use Rattle.text_input.proofs.Turns.{Waiting, waiting-none, waiting-stop, waiting-found, waiting-more}
 use lib.Seq.{length-take-le}

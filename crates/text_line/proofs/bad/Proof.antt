@@ -1,3 +1,4 @@
+-- `text_line::bad` meets its contract. Assumes nothing.
 use borrow.Author.Needs.{needs}
 use Rattle.text_line.proofs.bad.Statement.{statement}
 use Rattle.text_line.proofs.bad.Tie as tie

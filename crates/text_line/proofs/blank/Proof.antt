@@ -1,3 +1,4 @@
+-- `text_line::blank` meets its contract. Assumes nothing.
 use borrow.Author.Needs.{needs}
 use Rattle.text_line.proofs.blank.Statement.{statement}
 use Rattle.text_line.proofs.blank.Tie as tie

@@ -1,3 +1,4 @@
+-- `text_line::finish` meets its contract. Assumes nothing.
 use Rattle.text_line.proofs.Table.{finish-call, finish-bad}
 use mathlib.Core.Path.{_≡_, refl, sym, ap, _∙_}
 use borrow.Author.Needs.{needs}

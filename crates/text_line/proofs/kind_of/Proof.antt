@@ -1,3 +1,4 @@
+-- `text_line::kind_of` meets its contract: which call a word is, 0 where it is no call's. Assumes nothing.
 use mathlib.Core.Path.{_≡_, sym, _∙_}
 use Rattle.text_protocol.specs.Names.{kindOf, kindFrom, forms}
 use borrow.Author.Needs.{needs}

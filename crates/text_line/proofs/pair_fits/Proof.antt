@@ -1,3 +1,5 @@
+-- `text_line::pair_fits` meets its contract: a pair stands in an evaluation alone, in place of a term's RRCL RRCH.
+-- Assumes nothing.
 use Rattle.text_protocol.specs.Line.{pairFits}
 use Rattle.text_protocol.specs.Names.{placeOf, evaluateNames, code}
 use borrow.Author.Tests.{ne-eqb}

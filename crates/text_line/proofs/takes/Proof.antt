@@ -1,3 +1,4 @@
+-- `text_line::takes` meets its contract: whether a call of the kind has so many numbers. Assumes nothing.
 use Rattle.text_line.proofs.Table.{takes-none}
 use Rattle.text_protocol.specs.Names.{takes, takesIn, countFits, forms, admitNames, evaluateNames, quoteNames, moveNames, readNames, interestNames}
 use mathlib.Core.Path.{_≡_, refl, sym, ap, _∙_}

@@ -1,3 +1,4 @@
+-- `text_line::with_pair` meets its contract. Assumes nothing.
 use Rattle.text_protocol.specs.Line.{withPair}
 use Rattle.text_protocol.specs.Names.{placeOf, evaluateNames, code}
 use mathlib.Core.Path.{_≡_, refl, sym, ap, _∙_}

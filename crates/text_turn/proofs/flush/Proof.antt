@@ -1,3 +1,5 @@
+-- `text_turn::flush` meets its contract: hands the first n bytes of the answers to `write`, and says how many of them
+-- it took, by C's answers. Assumes nothing.
 use mathlib.Core.Path.{_≡_}
 use mathlib.Core.List.{List}
 use Prim.Native.Nat.{ℕ, _+_, _-_, _≤_}

@@ -1,3 +1,4 @@
+-- `text_turn::is_due` meets its contract: whether the answers are written now. Assumes nothing.
 use Rattle.text_turn.proofs.Told.{not-due, always-due}
 use Rattle.text_turn.proofs.is_due.Statement.{statement}
 use Rattle.text_turn.proofs.is_due.Tie as tie

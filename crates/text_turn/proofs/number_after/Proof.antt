@@ -1,3 +1,4 @@
+-- `text_turn::number_after` meets its contract: the number of the line behind the n-th. Assumes nothing.
 use Rattle.text_protocol.specs.Evening.{numberAfter}
 use borrow.Author.Tests.{lt-ltb, le-ltb}
 use borrow.Author.Needs.{needs}

@@ -1,3 +1,4 @@
+-- `text_turn::prepare` meets its contract: hears the next line. Assumes nothing.
 use Rattle.text_turn.proofs.Preparing.{prepared}
 use lib.Seq.{length-take-le}
 use native.Mathlib.Omega.{arith}

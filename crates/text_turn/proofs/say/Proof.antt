@@ -1,3 +1,4 @@
+-- `text_turn::say` meets its contract: appends the answer to a line of a kind. Assumes nothing.
 use Rattle.text_turn.specs.Turn.{lineText}
 use Rattle.text_out.specs.Wrote.{nothing}
 use borrow.Author.Tests.{ne-eqb}

@@ -1,3 +1,4 @@
+-- `text_turn::stopped` meets its contract: where a write failed, no line more is heard. Assumes nothing.
 use Rattle.text_turn.proofs.stopped.Statement.{statement}
 use Rattle.text_turn.proofs.stopped.Tie as tie
 use Rattle.text_turn.proofs.stopped.Reads as reads

@@ -1,3 +1,4 @@
+-- `text_turn::tell` meets its contract: tells the answer to a line. Assumes nothing.
 use mathlib.Core.Path.{refl}
 use mathlib.Core.Logic.{inl, inr}
 use native.Mathlib.Omega.{arith}

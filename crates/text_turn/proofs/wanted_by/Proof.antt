@@ -1,3 +1,4 @@
+-- `text_turn::wanted_by` meets its contract. Assumes nothing.
 use Rattle.text_turn.proofs.Preparing.{wants-interest, wants-other}
 use borrow.Author.Needs.{needs}
 use Rattle.text_turn.proofs.wanted_by.Statement.{statement}

@@ -1,3 +1,4 @@
+-- `text_word::is_blank` meets its contract: a space, a tab and a carriage return part words. Assumes nothing.
 use Rattle.text_protocol.specs.Bytes.{isBlank, run, same}
 use Rattle.text_protocol.specs.Numbers.{sizeFrom, upTo, above, below, numberOf}
 use Rattle.text_word.specs.Parts.{isSolid, Capped}

@@ -1,3 +1,5 @@
+-- `text_word::pair_at` meets its contract: the two numbers of a pair Ym/Yn, whose slash stands at `at`. Assumes
+-- nothing.
 use Rattle.text_word.proofs.Items.{first-bad, second-bad, two-numbers, behind}
 use Rattle.text_protocol.specs.Numbers.{numberOf}
 use lib.Seq.{length-take-le}

@@ -1,4 +1,5 @@
--- `answer::refusal` meets its contract: the refusal's number fits, so 0 less it fits too, and is its negative. Assumes nothing.
+-- `answer::refusal` meets its contract: the refusal's number fits, so 0 less it fits too, and is its negative. Assumes
+-- nothing.
 use mathlib.Core.Path.{_≡_, refl}
 use Prim.Native.Nat.{ℕ, zero, suc, _<_, _^_}
 use native.Mathlib.Omega.{arith}
@@ -35,7 +36,12 @@ sub-result c = rw (toZ-pos w64 (c .number .result) (small c), less) (less-fits (
 
 returns : tie.Need-returns
 returns c =
-    rw (toZ-pos w64 (c .number .result) (small c), less, toZ-ofZ (less-fits (c .number .result) (small c)), c .number .ensures)
+    rw (
+      toZ-pos w64 (c .number .result) (small c),
+      less,
+      toZ-ofZ (less-fits (c .number .result) (small c)),
+      c .number .ensures,
+    )
 
 pub refusal-spec : {M : Type 1} → statement M
 refusal-spec = tie.close (tie.spec number-requires cast-result sub-result returns)

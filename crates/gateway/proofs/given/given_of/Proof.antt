@@ -1,4 +1,5 @@
--- `given::given_of` meets its contract: each number is read back from its bits and made unsigned, field by field. Assumes nothing.
+-- `given::given_of` meets its contract: each number is read back from its bits and made unsigned, field by field.
+-- Assumes nothing.
 use Rattle.paper.specs.Gateway.{givenOf}
 use Rattle.gateway.proofs.GatewayStatics.{read}
 use Rattle.gateway.proofs.given.given_of.Statement.{statement}

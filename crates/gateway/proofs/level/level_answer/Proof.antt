@@ -1,5 +1,5 @@
--- `level::level_answer` meets its contract: 4 where the statics' test fails, else 6 where the other values' test fails, else the figure, which
--- is at most S_max and so fits. Assumes nothing.
+-- `level::level_answer` meets its contract: 4 where the statics' test fails, else 6 where the other values' test fails,
+-- else the figure, which is at most S_max and so fits. Assumes nothing.
 use mathlib.Core.Path.{_≡_, sym, _∙_}
 use mathlib.Core.Bool.{true}
 use native.Mathlib.Omega.{arith}
@@ -40,7 +40,8 @@ returns c =
     let r = c .before .before .before in
     let s = r .before in
     rw (← s .statics-of .ensures)
-    (figure _ _ _ (search needs) (s .before .before .valid-given .ensures) (c .figure .ensures) (c .before .level-figure .ensures)
+    (figure _ _ _ (search needs) (s .before .before .valid-given .ensures) (c .figure .ensures)
+    (c .before .level-figure .ensures)
     (s .before .if1 .taken) (r .level-in-range .ensures) (c .before .before .if2 .taken))
 
 refusal-requires : tie.Need-refusal-requires
@@ -52,14 +53,16 @@ returns-2 c =
     let r = c .before .before in
     let s = r .before in
     rw (← s .statics-of .ensures)
-    (six _ _ _ (search needs) (s .before .before .valid-given .ensures) (c .refusal .ensures) (s .before .if1 .taken) (r .level-in-range .ensures) (c .before .if2 .left))
+    (six _ _ _ (search needs) (s .before .before .valid-given .ensures) (c .refusal .ensures) (s .before .if1 .taken)
+    (r .level-in-range .ensures) (c .before .if2 .left))
 
 refusal-requires-2 : tie.Need-refusal-requires-2
 refusal-requires-2 c κs = search needs
 
 returns-3 : tie.Need-returns-3
 unfolding levelCall
-returns-3 c = four _ _ _ (search needs) (c .before .before .valid-given .ensures) (c .refusal2 .ensures) (c .before .if1 .left)
+returns-3 c = four _ _ _ (search needs) (c .before .before .valid-given .ensures) (c .refusal2 .ensures)
+    (c .before .if1 .left)
 
 pub level-answer-spec : {M : Type 1} → statement M
 level-answer-spec =

@@ -1,4 +1,5 @@
--- `level::level_figure` meets its contract: with isEWMA yes it is the level's rate, with isEWMA no the level's minimum. Assumes nothing.
+-- `level::level_figure` meets its contract: with isEWMA yes it is the level's rate, with isEWMA no the level's minimum.
+-- Assumes nothing.
 use mathlib.Core.Path.{sym, _∙_}
 use native.Mathlib.Omega.{arith}
 use borrow.Author.Needs.{needs}

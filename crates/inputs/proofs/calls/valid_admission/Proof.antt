@@ -1,5 +1,5 @@
--- `inputs::valid_admission` meets its contract: where the id and the statics are in range the rest of the test is that of the figures, and where they
--- are not the whole is no. The step of valid statics is not 0. Assumes nothing.
+-- `inputs::valid_admission` meets its contract: where the id and the statics are in range the rest of the test is that
+-- of the figures, and where they are not the whole is no. The step of valid statics is not 0. Assumes nothing.
 use mathlib.Core.Path.{_≡_, _∙_}
 use mathlib.Core.Bool.{true, _&&_}
 use borrow.Author.Needs.{needs}
@@ -21,7 +21,9 @@ valid-given-requires c κs = search needs
 statics-of-requires : tie.Need-statics-of-requires
 statics-of-requires c κs = search needs
 
-passed : (c : tie.Then1) → (within 1 idMost (c .before .before .before .before .args .a .id) && validGiven (c .before .before .before .before .args .a .given)) ≡ true
+passed : (c : tie.Then1)
+    → (within 1 idMost (c .before .before .before .before .args .a .id)
+    && validGiven (c .before .before .before .before .args .a .given)) ≡ true
 passed c = two-tests (c .before .before .valid-id .ensures) (c .before .valid-given .ensures) (c .if1 .taken)
 
 valid-figures-requires : tie.Need-valid-figures-requires

@@ -1,4 +1,5 @@
--- `inputs::valid_day_numbers` meets its contract: the numbers are tested as the definition tests them, and the terms by `valid_terms`. Assumes nothing.
+-- `inputs::valid_day_numbers` meets its contract: the numbers are tested as the definition tests them, and the terms by
+-- `valid_terms`. Assumes nothing.
 use borrow.Author.Needs.{needs}
 use Rattle.inputs.specs.Parts.{validDayNumbers}
 use Rattle.inputs.proofs.calls.valid_day_numbers.Statement.{statement}

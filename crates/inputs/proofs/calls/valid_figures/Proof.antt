@@ -1,4 +1,5 @@
--- `inputs::valid_figures` meets its contract: the grid of any lot is above 0, and each test is the one that the definition names. Assumes nothing.
+-- `inputs::valid_figures` meets its contract: the grid of any lot is above 0, and each test is the one that the
+-- definition names. Assumes nothing.
 use borrow.Author.Needs.{needs}
 use Rattle.inputs.specs.Parts.{validFigures}
 use Rattle.inputs.proofs.Tests.{grid-range}
@@ -19,7 +20,12 @@ valid-tentative-requires c κs = search needs
 
 returns : tie.Need-returns
 unfolding validFigures
-returns c = rw (← c .before .before .before .grid-of .ensures, c .before .before .is-grid-price .ensures, c .before .is-grid-price2 .ensures, c .valid-tentative .ensures)
+returns c = rw (
+  ← c .before .before .before .grid-of .ensures,
+  c .before .before .is-grid-price .ensures,
+  c .before .is-grid-price2 .ensures,
+  c .valid-tentative .ensures,
+)
 
 pub valid-figures-spec : {M : Type 1} → statement M
 valid-figures-spec =

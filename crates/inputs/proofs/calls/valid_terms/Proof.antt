@@ -23,7 +23,8 @@ valid-term-requires-3 : tie.Need-valid-term-requires-3
 valid-term-requires-3 c κs = search needs
 
 returns : tie.Need-returns
-returns c = all-three (c .before .before .before .before .valid-term .ensures) (c .before .before .valid-term2 .ensures) (c .valid-term3 .ensures)
+returns c = all-three (c .before .before .before .before .valid-term .ensures)
+    (c .before .before .valid-term2 .ensures) (c .valid-term3 .ensures)
 
 pub valid-terms-spec : {M : Type 1} → statement M
 valid-terms-spec =

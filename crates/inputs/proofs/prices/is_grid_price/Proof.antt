@@ -1,4 +1,5 @@
--- `inputs::is_grid_price` meets its contract: the range is judged by `is_price`, and the remainder is the definition's. Assumes nothing.
+-- `inputs::is_grid_price` meets its contract: the range is judged by `is_price`, and the remainder is the definition's.
+-- Assumes nothing.
 use borrow.Author.Needs.{needs}
 use Rattle.paper.specs.Ranges.{isGridPrice}
 use Rattle.inputs.proofs.prices.is_grid_price.Statement.{statement}

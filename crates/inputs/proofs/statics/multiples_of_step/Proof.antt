@@ -1,4 +1,5 @@
--- `inputs::multiples_of_step` meets its contract: the code's tests are the definition's, and the step is above 0. Assumes nothing.
+-- `inputs::multiples_of_step` meets its contract: the code's tests are the definition's, and the step is above 0.
+-- Assumes nothing.
 use mathlib.Core.Path.{refl}
 use borrow.Author.Needs.{needs}
 use Rattle.inputs.specs.Parts.{multiplesOfStep}

@@ -1,4 +1,5 @@
--- `inputs::valid_tentative` meets its contract: the code's tests are the definition's, and the step is above 0. Assumes nothing.
+-- `inputs::valid_tentative` meets its contract: the code's tests are the definition's, and the step is above 0. Assumes
+-- nothing.
 use mathlib.Core.Path.{refl}
 use borrow.Author.Needs.{needs}
 use Rattle.paper.specs.Ranges.{validTentative}

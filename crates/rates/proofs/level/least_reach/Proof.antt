@@ -1,4 +1,5 @@
--- `level::least_reach` meets its contract: a search by halves for the least number that passes the definition's test. Assumes nothing.
+-- `level::least_reach` meets its contract: a search by halves for the least number that passes the definition's test.
+-- Assumes nothing.
 use mathlib.Core.Path.{_≡_, sym, _∙_}
 use Prim.Native.Nat.{ℕ, _+_, _-_, _*_, _/_, _≤_, _<_}
 use native.Mathlib.Nat.{le-trans, mul-le-mul-right}
@@ -21,15 +22,18 @@ sub-middle : tie.Need-sub-middle Inv-loop μ-loop
 sub-middle c = omega arith
 
 -- the middle is tested at no more than a rate allows
-middle-high : (from to high step : ℕ) → from < to → to ≤ high → high * step ≤ reachMost → (from + (to - from) / 2) * step ≤ reachMost
+middle-high : (from to high step : ℕ) → from < to → to ≤ high → high * step ≤ reachMost
+    → (from + (to - from) / 2) * step ≤ reachMost
 middle-high from to high step u v h =
     let inside : from + (to - from) / 2 ≤ high = omega arith in
     le-trans (mul-le-mul-right step inside) h
 
 in-turn : (c : tie.In-loop Inv-loop μ-loop)
-    → (c .before .loop .from + (c .before .loop .to - c .before .loop .from) / 2) * c .before .before .args .step ≤ reachMost
+    → (c .before .loop .from + (c .before .loop .to - c .before .loop .from) / 2) * c .before .before .args .step ≤
+    reachMost
 in-turn c =
-    middle-high _ _ _ (c .before .before .args .step) (c .loop-test .taken) (c .before .loop .inv .between .inside) (c .before .before .pre .1)
+    middle-high _ _ _ (c .before .before .args .step) (c .loop-test .taken) (c .before .loop .inv .between .inside)
+    (c .before .before .pre .1)
 
 add-middle : tie.Need-add-middle Inv-loop μ-loop
 add-middle c = omega arith

@@ -1,4 +1,5 @@
--- `level::level_rate` meets its contract: the least number of steps that reaches the requirement, times h, is the level's rate. Assumes nothing.
+-- `level::level_rate` meets its contract: the least number of steps that reaches the requirement, times h, is the
+-- level's rate. Assumes nothing.
 use mathlib.Core.Path.{_≡_}
 use Prim.Native.Nat.{ℕ, _*_, _/_, _≤_}
 use native.Mathlib.Nat.{mul-le-mul}
@@ -38,8 +39,12 @@ least-reach-requires : tie.Need-least-reach-requires
 least-reach-requires c κs =
     let start = c .before .before .before .before .before .before .before in
     let held = steps-held (start .args .st) (start .args .level) (start .pre .0) in
-    rw (c .before .before .before .before .before .before .level-of .ensures)
-    (held .0, held .1, c .before .before .before .before .before .tentative-square .ensures .1, c .before .before .before .before .liquidity-square .ensures .1)
+    rw (c .before .before .before .before .before .before .level-of .ensures) (
+      held .0,
+      held .1,
+      c .before .before .before .before .before .tentative-square .ensures .1,
+      c .before .before .before .before .liquidity-square .ensures .1,
+    )
 
 -- the steps that were found, times h
 abbrev made : tie.After-struct-known5 → ℕ

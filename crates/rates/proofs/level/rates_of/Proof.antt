@@ -1,3 +1,4 @@
+-- `rates::level::rates_of` meets its contract: the three rates. Assumes nothing.
 use borrow.Author.Needs.{needs}
 use Rattle.rates.proofs.level.rates_of.Statement.{statement}
 use Rattle.rates.proofs.level.rates_of.Tie as tie

@@ -1,4 +1,5 @@
--- `level::reaches` meets its contract. Where a + b is at most x², 4·a·b ≤ (a + b)² is at most x⁴, so nothing wraps. Assumes nothing.
+-- `level::reaches` meets its contract. Where a + b is at most x², 4·a·b ≤ (a + b)² is at most x⁴, so nothing wraps.
+-- Assumes nothing.
 use Prim.Native.Nat.{ℕ, _+_, _-_, _*_, _≤_}
 use native.Mathlib.Nat.{mul-le-mul, le-trans}
 use native.Mathlib.Omega.{arith}

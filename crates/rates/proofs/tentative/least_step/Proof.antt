@@ -17,7 +17,11 @@ up-requires c κs = mul-pos (c .pre .1) (c .pre .0)
 mul-result : tie.Need-mul-result
 mul-result c =
     rw (c .up .ensures)
-    (omega (arith, step-high (c .before .args .h) (c .before .args .factor) (c .before .args .n) (c .before .pre .0) (c .before .pre .1)))
+    (omega (
+      arith,
+      step-high (c .before .args .h) (c .before .args .factor) (c .before .args .n) (c .before .pre .0)
+          (c .before .pre .1),
+    ))
 
 returns : tie.Need-returns
 returns c = rw (c .up .ensures) (step-up _ _ _ (c .before .pre .0) (c .before .pre .1))

@@ -1,4 +1,5 @@
--- `tentative::tentative_after` meets its contract: the tests of the code are the definition's, in its order. Assumes nothing.
+-- `tentative::tentative_after` meets its contract: the tests of the code are the definition's, in its order. Assumes
+-- nothing.
 use Prim.Native.Nat.{_+_, _≤_}
 use native.Mathlib.Omega.{arith}
 use borrow.Author.Needs.{needs}
@@ -20,7 +21,8 @@ add-if2-2 c = search needs
 sub-fallen : tie.Need-sub-fallen
 sub-fallen c =
     let start = c .before .before .before .before .before .before in
-    let fall : start .args .t + start .args .h ≤ start .args .old .bp = leb-true _ _ (and-left _ _ (c .before .if2 .taken)) in
+    let fall : start .args .t + start .args .h ≤ start .args .old .bp =
+    leb-true _ _ (and-left _ _ (c .before .if2 .taken)) in
     omega arith
 
 add-lesser : tie.Need-add-lesser
@@ -41,7 +43,11 @@ returns-2 c = rw (lt-leb _ _ (c .before .before .before .before .if1 .left), c .
 
 returns-3 : tie.Need-returns-3
 unfolding tentativeAfter
-returns-3 c = rw (lt-leb _ _ (c .before .before .before .before .before .if1 .left), c .before .before .if2 .left, c .lesser .ensures)
+returns-3 c = rw (
+  lt-leb _ _ (c .before .before .before .before .before .if1 .left),
+  c .before .before .if2 .left,
+  c .lesser .ensures,
+)
 
 pub tentative-after-spec : {M : Type 1} → statement M
 tentative-after-spec =

@@ -1,4 +1,5 @@
--- `volatility::volatility_of` meets its contract: the choice of the code is the definition's, between the same two numbers. Assumes nothing.
+-- `volatility::volatility_of` meets its contract: the choice of the code is the definition's, between the same two
+-- numbers. Assumes nothing.
 use mathlib.Core.Path.{_≡_, sym, _∙_}
 use Prim.Native.Nat.{ℕ, _≤_}
 use native.Mathlib.Omega.{arith}
@@ -22,7 +23,8 @@ weighted-requires c κs =
 mean : (c : tie.After-weighted)
     → c .weighted .result
     ≡ weighted
-    (weightOf (c .before .before .args .m) (c .before .before .args .b) (c .before .before .args .r) (c .before .before .args .s))
+    (weightOf (c .before .before .args .m) (c .before .before .args .b) (c .before .before .args .r)
+    (c .before .before .args .s))
     (c .before .before .args .s)
     (c .before .before .args .r)
 mean c = rw (c .weighted .ensures, c .before .weight-of .ensures)
@@ -36,11 +38,13 @@ replacement-requires c κs = search needs
 returns : tie.Need-returns
 returns c =
     c .replacement .ensures
-    ∙ replaced _ _ _ _ _ _ (mean (c .before .before .before)) (sym (c .before .before .replaces .ensures) ∙ c .before .if1 .taken)
+    ∙ replaced _ _ _ _ _ _ (mean (c .before .before .before)) (sym (c .before .before .replaces .ensures)
+    ∙ c .before .if1 .taken)
 
 returns-2 : tie.Need-returns-2
 returns-2 c =
-    not-replaced _ (c .before .before .before .before .args .b) (c .before .before .before .before .args .last) _ _ _ (mean (c .before .before)) (sym (c .before .replaces .ensures) ∙ c .if1 .left)
+    not-replaced _ (c .before .before .before .before .args .b) (c .before .before .before .before .args .last) _ _ _
+    (mean (c .before .before)) (sym (c .before .replaces .ensures) ∙ c .if1 .left)
 
 pub volatility-of-spec : {M : Type 1} → statement M
 volatility-of-spec =
