@@ -54,21 +54,21 @@ fn sound(id: u64) -> Record {
         ranges: [Limits {
             lower: 947_600,
             upper: 1_112_400,
-        }; 3],
+        }; Record::LEVELS],
         terms: [Term {
             k: 0,
             low: 0,
             high: 0,
-        }; 3],
+        }; Record::TERMS],
         bands: [Limits {
             lower: 988_800,
             upper: 1_071_200,
-        }; 3],
+        }; Record::TERMS],
         moves: Moves { upper: 0, lower: 0 },
         near: [NearSeconds {
             top: Near::Not,
             bottom: Near::Not,
-        }; 3],
+        }; Record::TERMS],
         second: 0,
     }
 }
@@ -147,21 +147,21 @@ fn with_rate(r: Record, bp: u64) -> Record {
 }
 
 fn with_ranges(r: Record, lower: u64, upper: u64) -> Record {
-    let ranges = [Limits { lower, upper }; 3];
+    let ranges = [Limits { lower, upper }; Record::LEVELS];
     let mut o = r;
     o.ranges = ranges;
     o
 }
 
 fn with_terms(r: Record, k: u64, low: i64) -> Record {
-    let terms = [Term { k, low, high: 0 }; 3];
+    let terms = [Term { k, low, high: 0 }; Record::TERMS];
     let mut o = r;
     o.terms = terms;
     o
 }
 
 fn with_bands(r: Record, lower: u64, upper: u64) -> Record {
-    let bands = [Limits { lower, upper }; 3];
+    let bands = [Limits { lower, upper }; Record::TERMS];
     let mut o = r;
     o.bands = bands;
     o
@@ -171,7 +171,7 @@ fn with_near(r: Record, second: u64) -> Record {
     let near = [NearSeconds {
         top: Near::Not,
         bottom: Near::Since(second),
-    }; 3];
+    }; Record::TERMS];
     let mut o = r;
     o.near = near;
     o
@@ -215,7 +215,7 @@ fn record_of(slot: usize) -> Record {
     }
 }
 
-fn table() -> [Record; 512] {
+fn table() -> [Record; Record::SLOTS_MOST] {
     let mut t = text_serve::fresh();
     let mut slot: usize = 0;
     while slot < 28 {

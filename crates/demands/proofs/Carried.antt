@@ -13,10 +13,11 @@ use Rattle.paper.specs.declared.Record.{Record}
 use Rattle.paper.specs.declared.Admission.{Admission}
 use Rattle.paper.specs.declared.Day.{Day}
 use Rattle.paper.specs.Numbers.{millionthsInBp, priceMost}
-use Rattle.paper.specs.Ranges.{isPrice, isGridPrice, gridOf, staticsOf, sound}
-use Rattle.paper.specs.Rates.{modelOf, moveOf, Figures, figuresOf, modelled, unmodelled, volatilityOf}
+use Rattle.paper.specs.Ranges.{isPrice, isGridPrice, gridOf, staticsOf, sound, rateAt}
+use Rattle.paper.specs.declared.Figures.{Figures}
+use Rattle.paper.specs.Rates.{modelOf, moveOf, figuresOf, modelled, unmodelled, volatilityOf}
 use Rattle.paper.specs.History.{Event, evaluatedOn, quotedAt, movedBy, evaluations}
-use Rattle.paper.specs.Sequences.{Carries, rateAt, carriesFirst, carriesNext, carries}
+use Rattle.paper.specs.Sequences.{Carries, carriesFirst, carriesNext, carries}
 use Rattle.paper.specs.Exact.{exactMove, exactSquare, NearExact}
 use Rattle.demands.specs.Demands.{FiguresHold}
 use Rattle.paper.proofs.Logic.{and-left, pick-true}

@@ -9,7 +9,7 @@
 -- Assumes `Given`, and that the table's entries meet the contracts.
 --
 -- HOW TO ADD A CALL, as `pub fn seventh(t: &mut [Record], id: u64, q: Q) -> Answer`:
--- 1. Prove its rule in `record_calls`: `fn rule(s: Slot, q: Q) -> Outcome` ensures that the turn is `seventhTurn s q`.
+-- 1. Prove its rule in `record_calls`: `fn rule(s: Slot, q: Q) -> Effect` ensures that the turn is `seventhTurn s q`.
 --    Add `seventh-steps` to `Steps`: what the turn stores and answers is the paper's step, by `judged-done`, in a line.
 -- 2. Where the code is `let s = take(t, id); let o = rule(s, q); put(t, o.at, o.rec); o.answer`, no walk is to be
 --    written: copy quote/Proof.antt, or evaluate/Proof.antt where rows are lent beside the table, and change the names.
@@ -69,11 +69,11 @@ use denote.Triple.Spec.{tripleOf}
 use denote.Triple.Clauses.{ensured, lasts}
 use Rattle.paper.specs.declared.Record.{Record}
 use Rattle.record_calls.specs.declared.Slot.{Slot}
-use Rattle.record_calls.specs.declared.Outcome.{Outcome}
-use Rattle.record_calls.specs.Outcomes.{slotOf}
+use Rattle.record_calls.specs.declared.Effect.{Effect}
+use Rattle.record_calls.specs.Effects.{slotOf}
 use Rattle.paper.proofs.Record.Laws as T′
 use Rattle.record_calls.proofs.Slot.Laws as U′
-use Rattle.record_calls.proofs.Turn as O
+use Rattle.record_calls.proofs.Effect as O
 use Rattle.paper.proofs.Answer.Laws as N′
 use Rattle.desk.proofs.Row.{R, table-ty, val, makes, S, typed-slot, turn-ty, turn-val, turn-is, turn-tells, answer-val, typed-answer}
 use Rattle.desk.proofs.Frame.{Locals, held, holding, Within, Apart, held-own, held-other, frame, value, field as field′, behind, sets, clears, leaves}
@@ -290,7 +290,7 @@ module _ {M : Type 1} (𝓤 : URA M) (H : Heap 𝓤) (A : Atoms 𝓤) (W : Given
 
     -- put(t, o.at, o.rec);
     pub puts-turn : FmC 𝓤 H (W .laws) C → Triple 𝓤 (C #put) (Put 𝓤 H A mem run) → (t : ℕ) (m : Lending) (d o′ : ℕ)
-        → Lends 𝓤 H E cs t m b o ys → Within E d → spotOf 𝓤 H E d .0 ≡ tyUnit → (r : Outcome)
+        → Lends 𝓤 H E cs t m b o ys → Within E d → spotOf 𝓤 H E d .0 ≡ tyUnit → (r : Effect)
         → Is O.the-row r (turn-val r ∷ []) → held E (lent cs m b o ys) o′ ≡ some (turn-val r)
         → spotOf 𝓤 H E o′ .0 ≡ turn-ty
         → ((u : Val)
@@ -304,7 +304,7 @@ module _ {M : Type 1} (𝓤 : URA M) (H : Heap 𝓤) (A : Atoms 𝓤) (W : Given
 
 -- let o = rule(…); has returned v, and the turn's fields can be read
 pub turned : {M : Type 1} {𝓤 : URA M} {H : Heap 𝓤} {A : Atoms 𝓤} (W : Given 𝓤 H A) {Γ : List (Item 𝓤)} {G : Goal 𝓤 H}
-    (F : Val → Item 𝓤) (r : Outcome) (v : Val) → Is O.the-row r (v ∷ [])
+    (F : Val → Item 𝓤) (r : Effect) (v : Val) → Is O.the-row r (v ∷ [])
     → (Is O.the-row r (turn-val r ∷ []) → Sq W (F (turn-val r) ∷ Γ) G) → Sq W (F v ∷ Γ) G
 turned W F r v is k =
     rewrite ! 0 F (turn-tells r v is) refl $ k (subst (λ (z : Val). Is O.the-row r (z ∷ [])) (turn-tells r v is) is)
@@ -312,7 +312,7 @@ turned W F r v is k =
 module _ {M : Type 1} {𝓤 : URA M} {H : Heap 𝓤} {A : Atoms 𝓤} (W : Given 𝓤 H A) {Γ : List (Item 𝓤)} {E : Env 𝓤 H}
     {cs : Locals} {C : Calls 𝓤 H} {Λ : Loops 𝓤 H} {Kf : Val → SProp 𝓤} where
   -- o.answer
-  pub answers : (o : ℕ) (r : Outcome) → Is O.the-row r (turn-val r ∷ []) → held E cs o ≡ some (turn-val r)
+  pub answers : (o : ℕ) (r : Effect) → Is O.the-row r (turn-val r ∷ []) → held E cs o ≡ some (turn-val r)
       → spotOf 𝓤 H E o .0 ≡ turn-ty → Within E 0 → spotOf 𝓤 H E 0 .0 ≡ N′.mir
       → ent 𝓤 (⋆ 𝓤 H A Γ) (Kf (answer-val (r .answer)))
       → Sq W (frame H E cs ∷ Γ) (runs C Λ E (answering o) (atRet E Kf))

@@ -26,11 +26,11 @@ use Rattle.paper.proofs.Record.Laws as T′
 use Rattle.paper.proofs.Answer as N
 use Rattle.paper.proofs.Answer.Laws as N′
 use Rattle.record_calls.specs.declared.Slot.{Slot}
-use Rattle.record_calls.specs.declared.Outcome.{Outcome}
+use Rattle.record_calls.specs.declared.Effect.{Effect}
 use Rattle.record_calls.proofs.Slot as U
 use Rattle.record_calls.proofs.Slot.Laws as U′
-use Rattle.record_calls.proofs.Turn as O
-use Rattle.record_calls.proofs.Turn.Laws as O′
+use Rattle.record_calls.proofs.Effect as O
+use Rattle.record_calls.proofs.Effect.Laws as O′
 
 -- ---- a record
 
@@ -114,7 +114,7 @@ slot-is n i r gn gi g =
 abbrev pub answer-val : Answer → Val
 answer-val = LL.val N.the-type N′.the-laws
 
-abbrev pub turn-val : Outcome → Val
+abbrev pub turn-val : Effect → Val
 turn-val = LL.val O.the-type O′.the-laws
 
 -- a turn's machine type, with the types of its fields by name: spelled out, as it is in the code, it makes every step
@@ -123,11 +123,11 @@ abbrev pub turn-ty : Ty
 turn-ty = tyStruct (O.struct .name) (tcons (tyInt w64) (tcons T′.mir (tcons N′.mir tnil)))
 
 -- what whoever holds a turn knows of its machine value and of its fields
-pub turn-tells : (o : Outcome) (w : Val) → Is O.the-row o (w ∷ []) → w ≡ turn-val o
+pub turn-tells : (o : Effect) (w : Val) → Is O.the-row o (w ∷ []) → w ≡ turn-val o
 turn-tells o w is = ap only (LL.tells O.the-type O′.the-laws o (w ∷ []) is)
 
 pub turn-is :
-    (o : Outcome) (w : Val) → Is O.the-row o (w ∷ [])
+    (o : Effect) (w : Val) → Is O.the-row o (w ∷ [])
     → (o .at < 2 ^ 64) × (Is R (o .rec) (vals (o .rec)) × Is N.the-row (o .answer)
     (answer-val (o .answer) ∷ []))
 turn-is o w is = let fs = LL.owed O.the-type O′.the-laws o (w ∷ []) is in (fs .0 .1, (fs .1 .0, fs .1 .1 .0))
@@ -140,7 +140,7 @@ module _ {M : Type 1} (𝓤 : URA M) (H : Heap 𝓤) (A : Atoms 𝓤) where
     pub typed-answer : (r : Answer) (v : Val) → Is N.the-row r (v ∷ []) → T (hasTy N′.mir v) × WT v
     typed-answer r v p = LL.lawful N.the-type N′.the-laws 𝓤 H A W .typed r (v ∷ []) p .0
 
-    pub typed-turn : (o : Outcome) (v : Val) → Is O.the-row o (v ∷ []) → T (hasTy turn-ty v) × WT v
+    pub typed-turn : (o : Effect) (v : Val) → Is O.the-row o (v ∷ []) → T (hasTy turn-ty v) × WT v
     typed-turn o v p = LL.lawful O.the-type O′.the-laws 𝓤 H A W .typed o (v ∷ []) p .0
 
 -- ---- parts of a function, for the crates over this one whose walks have no frame

@@ -50,12 +50,12 @@ use prog.Memory.{Memory}
 use prog.Routine.{Routine}
 use Rattle.paper.specs.declared.Record.{Record}
 use Rattle.record_calls.specs.declared.Slot.{Slot}
-use Rattle.record_calls.specs.declared.Outcome.{Outcome}
+use Rattle.record_calls.specs.declared.Effect.{Effect}
 use Rattle.paper.specs.Desk.{Call, step}
-use Rattle.record_calls.specs.Outcomes.{slotOf, doneBy}
+use Rattle.record_calls.specs.Effects.{slotOf, doneBy}
 use Rattle.desk.specs.Promises.{Promised}
 use Rattle.record_calls.proofs.Slot.Laws as U′
-use Rattle.record_calls.proofs.Turn as O
+use Rattle.record_calls.proofs.Effect as O
 use Rattle.paper.proofs.Answer as N
 use Rattle.paper.proofs.Answer.Laws as N′
 use Rattle.desk.proofs.Row.{R, table-ty, word, S, makes-slot, turn-ty, turn-val, turn-is, typed-turn, answer-val, makes-answer}
@@ -158,7 +158,7 @@ module _ (P : Plain) where
     kept = (yes, (yes, tt));
   }
 
-  abbrev pub rule-clauses : (Slot → P .D → Outcome) → {M : Type 1} (𝓤 : URA M) → Clauses 𝓤 rule-ended
+  abbrev pub rule-clauses : (Slot → P .D → Effect) → {M : Type 1} (𝓤 : URA M) → Clauses 𝓤 rule-ended
   rule-clauses F 𝓤 κs a =
       record { ghost = Unit {0}; requires = λ _. emp 𝓤; ensures = λ _ o _. fact 𝓤 (o ≡ F (a .0) (a .1 .0)) }
 
@@ -184,7 +184,7 @@ module _ (P : Plain) where
   abbrev stayed : Stays (ended .signature .params) (ended .kept)
   stayed = (gave-slice (0 ∷ []) tt (plain (λ _. R)), (stay-none (λ _. u64) yes, (stay-none (λ _. Q) yes, tt)))
 
-  module _ (L : PlainLaws P) (F : Slot → P .D → Outcome) (K : ℕ → P .D → Call)
+  module _ (L : PlainLaws P) (F : Slot → P .D → Effect) (K : ℕ → P .D → Call)
       (steps : (t : List Record) (id : ℕ) (d : P .D) → doneBy t (F (slotOf t id) d) ≡ step (K id d) t) (#rule : Name)
       {M : Type 1} (𝓤 : URA M) (H : Heap 𝓤) (A : Atoms 𝓤) where
     abbrev pub Rule : Contract 𝓤
@@ -210,7 +210,7 @@ module _ (P : Plain) where
         abbrev slot : Slot
         slot = slotOf ys id
 
-        abbrev turn : Outcome
+        abbrev turn : Effect
         turn = F slot d
 
         exits : Is O.the-row turn (turn-val turn ∷ [])

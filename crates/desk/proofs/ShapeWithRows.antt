@@ -50,10 +50,10 @@ use Rattle.paper.specs.Desk.{Call, step}
 use Rattle.paper.proofs.Answer as N
 use Rattle.paper.proofs.Answer.Laws as N′
 use Rattle.record_calls.specs.declared.Slot.{Slot}
-use Rattle.record_calls.specs.declared.Outcome.{Outcome}
-use Rattle.record_calls.specs.Outcomes.{slotOf, doneBy}
+use Rattle.record_calls.specs.declared.Effect.{Effect}
+use Rattle.record_calls.specs.Effects.{slotOf, doneBy}
 use Rattle.record_calls.proofs.Slot.Laws as U′
-use Rattle.record_calls.proofs.Turn as O
+use Rattle.record_calls.proofs.Effect as O
 use Rattle.desk.specs.Promises.{Promised}
 use Rattle.desk.proofs.Row.{R, table-ty, word, S, makes-slot, turn-ty, turn-val, turn-is, typed-turn, answer-val, makes-answer}
 use Rattle.desk.proofs.Frame.{Addresses, of-types, env-of, spare, frame, enters, value}
@@ -131,7 +131,7 @@ module _ (P : Plain) where
     kept = (yes, (yes, (yes, tt)));
   }
 
-  abbrev pub rule-clauses : (Slot → P .D → List ℤ → Outcome) → {M : Type 1} (𝓤 : URA M) → Clauses 𝓤 rule-ended
+  abbrev pub rule-clauses : (Slot → P .D → List ℤ → Effect) → {M : Type 1} (𝓤 : URA M) → Clauses 𝓤 rule-ended
   rule-clauses F 𝓤 κs a =
       record {
         ghost = Unit {0};
@@ -169,7 +169,7 @@ module _ (P : Plain) where
     ),
   )
 
-  module _ (L : PlainLaws P) (F : Slot → P .D → List ℤ → Outcome) (K : ℕ → P .D → List ℤ → Call)
+  module _ (L : PlainLaws P) (F : Slot → P .D → List ℤ → Effect) (K : ℕ → P .D → List ℤ → Call)
       (steps : (t : List Record) (id : ℕ) (d : P .D) (rows : List ℤ) → doneBy t (F (slotOf t id) d rows) ≡ step
       (K id d rows) t) (#rule : Name) {M : Type 1} (𝓤 : URA M) (H : Heap 𝓤) (A : Atoms 𝓤) where
     abbrev pub Rule : Contract 𝓤
@@ -211,7 +211,7 @@ module _ (P : Plain) where
         abbrev slot : Slot
         slot = slotOf ys id
 
-        abbrev turn : Outcome
+        abbrev turn : Effect
         turn = F slot d (rows .now)
 
         -- beside the table: the token of the rows' lifetime, and what `rows` owns
@@ -294,7 +294,7 @@ module _ (P : Plain) where
                   (λ e. use1 W (‵ (flft κ₂ q₂) ⊛ ‵ ftrue) (id⊢ 𝓤 (sep 𝓤 (A .lft κ₂ q₂) (emp 𝓤))) $ split ! $
                   -- [the rows' token; true; the frame; what `rows` owns; t; its token]
                   keep ! (2 ∷ 4 ∷ 5 ∷ 0 ∷ 3 ∷ []) $ turned W (λ z. In (some w) (some z)) turn u
-                  (subst (λ (z : Outcome). Is O.the-row z (u ∷ [])) e iu) k))
+                  (subst (λ (z : Effect). Is O.the-row z (u ∷ [])) e iu) k))
 
               -- put(t, o.at, o.rec);
               put-o : (w : Val) → Is O.the-row turn (turn-val turn ∷ [])

@@ -17,37 +17,37 @@ use Rattle.paper.specs.declared.Verdict.{Verdict}
 use Rattle.paper.specs.Lists.{pick}
 use Rattle.paper.specs.Verdicts.{isDone, firstOf}
 use Rattle.paper.specs.Desk.{Call, admit, evaluate, quote, move, read, Outcome, blank, saying, showing, stands, known, found, admitChecks, readChecks, checksOf, judged, acceptedOf, step}
-use Rattle.record_calls.specs.declared.Outcome.{Outcome}
-use Rattle.record_calls.specs.Outcomes.{slotOf, holds, isKnown, refusedOutcome, judgedOutcome, admitChecksOf, admitOutcome, evaluateOutcome, quoteOutcome, moveOutcome, readAnswer, doneBy}
+use Rattle.record_calls.specs.declared.Effect.{Effect}
+use Rattle.record_calls.specs.Effects.{slotOf, holds, isKnown, refusedEffect, judgedEffect, admitChecksOf, admitEffect, evaluateEffect, quoteEffect, moveEffect, readAnswer, doneBy}
 use Rattle.desk.specs.Promises.{Promised}
 
-judged-done : (t : List Record) (v : Verdict) (o : Outcome) → doneBy t (judgedOutcome (length t) v o)
+judged-done : (t : List Record) (v : Verdict) (o : Effect) → doneBy t (judgedEffect (length t) v o)
     ≡ judged v t (doneBy t o)
-unfolding doneBy judgedOutcome refusedOutcome judged
+unfolding doneBy judgedEffect refusedEffect judged
 judged-done t v o = go (isDone v)
   where
-    go : (b : Bool) → doneBy t (pick b o (refusedOutcome (length t) v))
+    go : (b : Bool) → doneBy t (pick b o (refusedEffect (length t) v))
         ≡ pick b (doneBy t o) (record { answer = saying v; table = t })
     go true = refl
     go false = ap (λ (u : List Record). record { answer = saying v; table = u })
         (set-out t (length t) blank (le-refl (length t)))
 
-pub admit-steps : (t : List Record) (a : Admission) → doneBy t (admitOutcome (slotOf t (a .id)) (slotOf t 0) a)
+pub admit-steps : (t : List Record) (a : Admission) → doneBy t (admitEffect (slotOf t (a .id)) (slotOf t 0) a)
     ≡ step (admit a) t
-unfolding slotOf holds admitChecksOf admitOutcome doneBy stands admitChecks checksOf acceptedOf step
+unfolding slotOf holds admitChecksOf admitEffect doneBy stands admitChecks checksOf acceptedOf step
 admit-steps t a = judged-done t _ _
 
 pub evaluate-steps : (t : List Record) (id : ℕ) (d : Day) (rows : List ℤ)
-    → doneBy t (evaluateOutcome (slotOf t id) d rows) ≡ step (evaluate id d rows) t
-unfolding slotOf holds isKnown evaluateOutcome doneBy stands known checksOf acceptedOf step
+    → doneBy t (evaluateEffect (slotOf t id) d rows) ≡ step (evaluate id d rows) t
+unfolding slotOf holds isKnown evaluateEffect doneBy stands known checksOf acceptedOf step
 evaluate-steps t id d rows = judged-done t _ _
 
-pub quote-steps : (t : List Record) (id : ℕ) (q : Quote) → doneBy t (quoteOutcome (slotOf t id) q) ≡ step (quote id q) t
-unfolding slotOf holds isKnown quoteOutcome doneBy stands known checksOf acceptedOf step
+pub quote-steps : (t : List Record) (id : ℕ) (q : Quote) → doneBy t (quoteEffect (slotOf t id) q) ≡ step (quote id q) t
+unfolding slotOf holds isKnown quoteEffect doneBy stands known checksOf acceptedOf step
 quote-steps t id q = judged-done t _ _
 
-pub move-steps : (t : List Record) (id side : ℕ) → doneBy t (moveOutcome (slotOf t id) side) ≡ step (move id side) t
-unfolding slotOf holds isKnown moveOutcome doneBy stands known checksOf acceptedOf step
+pub move-steps : (t : List Record) (id side : ℕ) → doneBy t (moveEffect (slotOf t id) side) ≡ step (move id side) t
+unfolding slotOf holds isKnown moveEffect doneBy stands known checksOf acceptedOf step
 move-steps t id side = judged-done t _ _
 
 pub read-answers : (t : List Record) (id : ℕ) → readAnswer (slotOf t id) ≡ step (read id) t .answer
@@ -72,7 +72,7 @@ read-leaves t id = go (isDone (firstOf (readChecks (known t id)))) _ _
     go false a r = refl
 
 -- what a turn stores and answers is promised, where the turn is the paper's step
-pub promised : (c : Call) (t : List Record) (o : Outcome) → doneBy t o ≡ step c t
+pub promised : (c : Call) (t : List Record) (o : Effect) → doneBy t o ≡ step c t
     → Promised c t (o .answer) (set t (o .at) (o .rec))
 unfolding doneBy
 promised c t o e = record { answer = ap (λ (x : Outcome). x .answer) e; table = ap (λ (x : Outcome). x .table) e }

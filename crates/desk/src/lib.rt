@@ -7,13 +7,13 @@ use paper::AskedDay;
 use paper::Day;
 use paper::Quote;
 use paper::Record;
-use record_calls::Outcome;
+use record_calls::Effect;
 use record_calls::Slot;
 ghost use mathlib.Core.Path.{_≡_};
 ghost use lib.ListN.{set};
 ghost use Rattle.paper.specs.Desk.{Call, step};
 ghost use Rattle.paper.specs.Terms.{dayOf};
-ghost use Rattle.record_calls.specs.Turns.{slotOf, evaluateOutcome};
+ghost use Rattle.record_calls.specs.Effects.{slotOf, evaluateEffect};
 ghost use Rattle.desk.specs.Promises.{Promised};
 
 // "id 0 marks an empty slot"
@@ -67,8 +67,8 @@ pub fn evaluate(t: &mut [Record], id: u64, d: Day, rows: &[i64]) -> Answer
 }
 
 // The rule of an evaluation, on the day that is asked for.
-fn asked(s: Slot, a: AskedDay, rows: &[i64]) -> Outcome
-    ensures { λ o. ⌜ o ≡ evaluateOutcome s (dayOf a) (now (rows .entry)) ⌝ }
+fn asked(s: Slot, a: AskedDay, rows: &[i64]) -> Effect
+    ensures { λ o. ⌜ o ≡ evaluateEffect s (dayOf a) (now (rows .entry)) ⌝ }
 {
     let d = interest_terms::day_of(a);
     record_calls::evaluated(s, d, rows)

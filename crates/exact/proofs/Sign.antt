@@ -43,15 +43,15 @@ size-above (negsuc n) f e = absurd (some n e)
 
 -- ---- the definitions by the test
 
-pub natural-below : (x : ℤ) → ltZ x (pos 0) ≡ true → unsigned x ≡ pastEvery
+pub unsigned-below : (x : ℤ) → ltZ x (pos 0) ≡ true → unsigned x ≡ pastEvery
 unfolding unsigned
-natural-below (pos n) e = absurd (none n e)
-natural-below (negsuc n) e = refl
+unsigned-below (pos n) e = absurd (none n e)
+unsigned-below (negsuc n) e = refl
 
-pub natural-above : (x : ℤ) → ltZ x (pos 0) ≡ false → unsigned x ≡ mag x
+pub unsigned-above : (x : ℤ) → ltZ x (pos 0) ≡ false → unsigned x ≡ mag x
 unfolding unsigned
-natural-above (pos n) e = refl
-natural-above (negsuc n) e = absurd (some n e)
+unsigned-above (pos n) e = refl
+unsigned-above (negsuc n) e = absurd (some n e)
 
 pub grown-below : (base k : ℕ) (x : ℤ) → ltZ x (pos 0) ≡ true → grown base k x ≡ base - k * (mag x + 1)
 unfolding grown

@@ -13,17 +13,7 @@ use Rattle.paper.specs.Numbers.{oneInBp, termDaysMost, repoLeast, repoMost, pas
 use Rattle.paper.specs.Ranges.{withinZ, unsigned}
 use Rattle.paper.specs.Roundings.{grown}
 use Rattle.paper.proofs.Logic.{clash, and-left, and-right}
-use Rattle.paper.proofs.Units.{natural-within}
-
--- ---- order
-
-pub order-trans : (a b c : ℤ) → leZ a b ≡ true → leZ b c ≡ true → leZ a c ≡ true
-order-trans (pos a) (pos b) (pos c) p q = le-leb a c (le-trans (leb-true a b p) (leb-true b c q))
-order-trans (pos a) (pos b) (negsuc c) p q = q
-order-trans (pos a) (negsuc b) c p q = absurd (clash false p refl)
-order-trans (negsuc a) b (pos c) p q = refl
-order-trans (negsuc a) (pos b) (negsuc c) p q = absurd (clash false q refl)
-order-trans (negsuc a) (negsuc b) (negsuc c) p q = le-leb c a (le-trans (leb-true c b q) (leb-true b a p))
+use Rattle.paper.proofs.Units.{unsigned-within}
 
 -- "-9,999..9,999 bp"
 pub repo-size : (x : ℤ) → leZ repoLeast x ≡ true → leZ x repoMost ≡ true → mag x ≤ mag repoMost
@@ -43,7 +33,7 @@ repo-le x e = repo-size x (and-left (leZ repoLeast x) (leZ x repoMost) e)
 pub unsigned-le : (low most : ℕ) (x : ℤ) → most < pastEvery → withinZ (pos low) (pos most) x ≡ true → unsigned x ≤ most
 unsigned-le low most x h e =
     leb-true (unsigned x) most
-    (and-right (leb low (unsigned x)) (leb (unsigned x) most) (natural-within low most x h ∙ e))
+    (and-right (leb low (unsigned x)) (leb (unsigned x) most) (unsigned-within low most x h ∙ e))
 
 -- ---- base + k·rate
 

@@ -2,7 +2,7 @@
 // clause 7.1, and signed numbers, given or lent. Every result is a definition of `paper`, for every input that its
 // callers can have.
 ghost use mathlib.Core.Path.{_≡_};
-ghost use Prim.Native.Nat.{_+_, _*_, _/_, _%_, _^_, _≤_, _<_, min, max};
+ghost use Prim.Native.Nat.{_+_, _-_, _*_, _/_, _%_, _^_, _≤_, _<_, min, max};
 ghost use lib.IntN.{pos};
 ghost use lib.ListN.{length, getD};
 ghost use lib.Signed.{mag};
@@ -200,6 +200,13 @@ pub fn greater(a: u64, b: u64) -> u64
 }
 
 // ---- how far apart two numbers are
+
+// a - b, stopping at 0.
+pub fn less(a: u64, b: u64) -> u64
+    ensures { λ r. ⌜ r ≡ a - b ⌝ }
+{
+    if b < a { a - b } else { 0 }
+}
 
 // |a - b|
 pub fn apart(a: u64, b: u64) -> u64

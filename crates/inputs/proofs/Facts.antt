@@ -17,10 +17,8 @@ use Rattle.paper.specs.declared.Day.{Day}
 use Rattle.paper.specs.declared.Quote.{Quote}
 use Rattle.paper.specs.Lists.{allThree}
 use Rattle.paper.specs.Numbers.{priceLeast, priceMost, rateMost, volatilityMost, lotMost, stepMost, multiplierLeast, multiplierMost, weightMost, waitMost, firstDaysMost, daysMost, liquidityMost, divisorLeast, divisorMost, shiftMost, nearnessMost, secondsMost, idMost, dayMost, secondLast, behindMost, aheadMost, termDaysMost, repoLeast, repoMost, termLast, quoteMost}
-use Rattle.paper.specs.Ranges.{within, isPrice, isRate, gridOf, isGridPrice, validStatics, staticsOf, validGiven, validTentative, validAdmission, validTerm, termAt, validQuote, validSide}
-use Rattle.paper.proofs.Logic.{and-left, and-right}
-use Rattle.inputs.specs.Parts.{validDayNumbers}
-use Rattle.inputs.proofs.Tests.{each-of-three, leZ-trans}
+use Rattle.paper.specs.Ranges.{within, isPrice, isRate, gridOf, isGridPrice, validStatics, staticsOf, validGiven, validTentative, validAdmission, validTerm, termAt, validQuote, validSide, validDayNumbers}
+use Rattle.paper.proofs.Logic.{and-left, and-right, each-of-three, order-trans}
 
 -- ---- ranges and multiples
 
@@ -203,8 +201,8 @@ term-facts x v =
     let most : leZ (x .high) repoMost ≡ true = search (v, and-left, and-right) depth 40 in
     record {
       k-most = leb-true _ _ (search (v, and-left, and-right) depth 40);
-      low = repo-facts (x .low) least (leZ-trans (x .low) (x .high) repoMost ordered most);
-      high = repo-facts (x .high) (leZ-trans repoLeast (x .low) (x .high) least ordered) most;
+      low = repo-facts (x .low) least (order-trans (x .low) (x .high) repoMost ordered most);
+      high = repo-facts (x .high) (order-trans repoLeast (x .low) (x .high) least ordered) most;
       ordered = ordered;
     }
 
@@ -220,7 +218,6 @@ pub record DayFacts (d : Day) : Type 0 where
   pub terms : (k : ℕ) → k < 3 → TermFacts (termAt (d .terms) k)
 
 pub day-facts : (d : Day) → validDayNumbers d ≡ true → DayFacts d
-unfolding validDayNumbers
 day-facts d v =
     record {
       day-most = leb-true _ _ (search (v, and-left, and-right) depth 40);

@@ -3,8 +3,7 @@ ghost use mathlib.Core.Path.{_≡_};
 ghost use Prim.Native.Nat.{_<_};
 ghost use Rattle.paper.specs.Lists.{allThree};
 ghost use Rattle.paper.specs.Numbers.{idMost};
-ghost use Rattle.paper.specs.Ranges.{within, validAdmission, validTerm, termAt, validQuote, validSide, sideOf};
-ghost use Rattle.inputs.specs.Parts.{validFigures, validDayNumbers};
+ghost use Rattle.paper.specs.Ranges.{within, validAdmission, validTerm, termAt, validQuote, validSide, sideOf, validFigures, validDayNumbers};
 use crate::prices::grid_of;
 use crate::prices::is_grid_price;
 use crate::statics::statics_of;
@@ -60,7 +59,7 @@ pub fn valid_term(x: Term) -> bool
         & (x.high <= Term::REPO_MOST)
 }
 
-pub fn valid_terms(terms: [Term; 3]) -> bool
+pub fn valid_terms(terms: [Term; Record::TERMS]) -> bool
     ensures { λ r. ⌜ r ≡ allThree (λ k. validTerm (termAt terms k)) ⌝ }
 {
     valid_term(terms[0]) & valid_term(terms[1]) & valid_term(terms[2])

@@ -1,8 +1,7 @@
 // The table of statics, and the tentative rate that it bounds.
 ghost use mathlib.Core.Path.{_≡_};
 ghost use Prim.Native.Nat.{_<_};
-ghost use Rattle.paper.specs.Ranges.{validStatics, staticsOf, validGiven, validTentative};
-ghost use Rattle.inputs.specs.Parts.{orderedStatics, multiplesOfStep};
+ghost use Rattle.paper.specs.Ranges.{validStatics, staticsOf, validGiven, validTentative, orderedStatics, multiplesOfStep};
 use paper::GivenStatics;
 use paper::Rate;
 use paper::Statics;

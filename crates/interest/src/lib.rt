@@ -9,8 +9,7 @@ ghost use lib.Dec.{ltb};
 ghost use lib.ListN.{length, getD};
 ghost use Rattle.paper.specs.Lists.{eight};
 ghost use Rattle.paper.specs.Numbers.{keyNumbers};
-ghost use Rattle.paper.specs.Interest.{validInterest, validKeys, maturitiesOf, ascending, maturityFigures, noFigures, refusedInterest, acceptedInterest, interestAnswer};
-ghost use Rattle.paper.proofs.InterestRanges.{InterestRange};
+ghost use Rattle.paper.specs.Interest.{validInterest, validKeys, maturitiesOf, ascending, maturityFigures, noFigures, refusedInterest, acceptedInterest, interestAnswer, InterestRange};
 ghost use Rattle.interest_maturities.specs.KeyLaws.{maturityAt};
 ghost use Rattle.interest_forward.specs.Pair.{PairRange};
 ghost use Rattle.interest.specs.Figures.{pointOf, PointAt};
@@ -81,7 +80,7 @@ pub fn refused(verdict: Verdict) -> InterestAnswer
             upper: 0,
         },
         count: 0,
-        figures: [none; 8],
+        figures: [none; Maturity::COUNT_MOST],
     }
 }
 
@@ -102,7 +101,7 @@ fn figures_at(i: Interest, numbers: &[i64], n: usize) -> MaturityFigures
     }
 }
 
-fn all_figures(i: Interest, numbers: &[i64]) -> [MaturityFigures; 8]
+fn all_figures(i: Interest, numbers: &[i64]) -> [MaturityFigures; Maturity::COUNT_MOST]
     requires { ⌜ InterestRange i ⌝ }
     requires { ⌜ validKeys (now numbers) ≡ true ⌝ }
     ensures { λ r. ⌜ r ≡ eight (λ n. getD (map (maturityFigures i) (maturitiesOf (now (numbers .entry)))) n noFigures) ⌝ }

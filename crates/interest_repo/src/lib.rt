@@ -6,8 +6,7 @@ ghost use lib.IntN.{natAbs};
 ghost use Rattle.paper.specs.Numbers.{oneInHundredths, minimumMost, repoMost, repoVolatilityMost, repoTentativeMost};
 ghost use Rattle.paper.specs.Roundings.{grown};
 ghost use Rattle.paper.specs.Rates.{leastStep};
-ghost use Rattle.paper.specs.Interest.{apartZ, atLeastZero, changeOf, repoVolatility, repoTentative, maturityFigures};
-ghost use Rattle.paper.proofs.InterestRanges.{InterestRange, KeyRange};
+ghost use Rattle.paper.specs.Interest.{apartZ, atLeastZero, changeOf, repoVolatility, repoTentative, maturityFigures, InterestRange, KeyRange};
 ghost use Rattle.interest_repo.specs.Lift.{lift};
 ghost use Rattle.interest_repo.specs.Estimates.{estimateOf, securityMinimum};
 use paper::Interest;
@@ -94,19 +93,12 @@ fn upward(i: Interest, tentative: u64) -> u64
     estimate(i, tentative, i.mm)
 }
 
-// a - b, where below zero counts as 0.
-fn less(a: u64, b: u64) -> u64
-    ensures { λ r. ⌜ r ≡ a - b ⌝ }
-{
-    if a < b { 0 } else { a - b }
-}
-
 // REPOIndex - REPOrate + SECΔ, where below zero counts as 0.
 fn security_minimum(index: i64, rate: i64, sec: u64) -> u64
     requires { ⌜ (natAbs index ≤ natAbs repoMost) × (natAbs rate ≤ natAbs repoMost) × (sec ≤ minimumMost) ⌝ }
     ensures { λ r. ⌜ (r ≡ atLeastZero (securityMinimum index rate sec)) × (r ≤ repoTentativeMost) ⌝ }
 {
-    less(lifted(index) + sec, lifted(rate))
+    exact::less(lifted(index) + sec, lifted(rate))
 }
 
 // LΔ.

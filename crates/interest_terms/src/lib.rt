@@ -16,7 +16,7 @@ fn worked_repo(w: WorkedBand) -> RepoLimits
     ensures { λ r. ⌜ r ≡ workedRepo w ⌝ }
 {
     let verdict = w.verdict;
-    if verdict.number() == 0 {
+    if verdict.is_done() {
         RepoLimits {
             low: w.lower,
             high: w.upper,

@@ -18,9 +18,9 @@ use Rattle.paper.specs.Numbers.{priceMost, rateMost, movesMost, termDaysMost, r
 use Rattle.paper.specs.Ranges.{validTerm, isPrice, isGridPrice, isRate}
 use Rattle.paper.specs.Limits.{countOf, oneMore}
 use Rattle.paper.specs.Gateway.{rangeInRange, bandInRange}
-use Rattle.paper.proofs.Logic.{and-left, and-right}
+use Rattle.paper.proofs.Logic.{and-left, and-right, order-trans}
 pub use Rattle.paper.proofs.LimitSizes.{LimitStatics, limit-statics}
-use Rattle.exact.specs.SignedLaws.{order-trans, repo-size}
+use Rattle.exact.specs.SignedLaws.{repo-size}
 use Rattle.limits.specs.Sides.{repoOf}
 
 -- ---- the ranges

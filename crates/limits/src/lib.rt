@@ -23,13 +23,6 @@ ghost use Rattle.limits.specs.Sides.{farthestRate, narrowerOf};
 ghost use Rattle.limits.specs.LimitRanges.{RangeInputs, BandInputs, TermInputs};
 ghost use Rattle.limits.specs.LimitBounds.{deltaMost};
 
-// a - b, stopping at 0.
-fn less(a: u64, b: u64) -> u64
-    ensures { λ r. ⌜ r ≡ a - b ⌝ }
-{
-    if b < a { a - b } else { 0 }
-}
-
 // ---- ranges
 
 // P·(1 ± rate) over the whole.
@@ -84,7 +77,7 @@ fn spread(st: Statics, side: Side, s1: Rate, c: u64) -> u64
     let away = (ONE_IN_HUNDREDTHS + 2 * c * st.shift) * s1.bp;
     match side {
         Side::Upper => middle + away,
-        Side::Lower => less(middle, away),
+        Side::Lower => exact::less(middle, away),
     }
 }
 
@@ -200,7 +193,7 @@ pub fn range_moved(side: Side, delta: u64, x: Limits) -> Limits
             upper: x.upper + delta,
         },
         Side::Lower => Limits {
-            lower: less(x.lower, delta),
+            lower: exact::less(x.lower, delta),
             upper: x.upper,
         },
     }

@@ -15,7 +15,7 @@ use Rattle.paper.specs.declared.Record.{Record}
 use Rattle.paper.specs.declared.Verdict.the-variants.{Done}
 use Rattle.paper.specs.Lists.{pick, every}
 use Rattle.paper.specs.Numbers.{idMost, dayMost, volatilityMost, rateMost}
-use Rattle.paper.specs.Ranges.{within, gridOf, isGridPrice, validTentative, isRate, isLimit, validLimits, noLimits, validStatics, validGiven, validAdmission, validTerm, validNear, validNearSeconds, staticsOf, lastDay, sound, validSlots}
+use Rattle.paper.specs.Ranges.{within, gridOf, isRate, isLimit, validLimits, noLimits, validStatics, validGiven, validFigures, validAdmission, validTerm, validNear, validNearSeconds, staticsOf, lastDay, sound, validSlots}
 use Rattle.paper.specs.Rates.{minimumOf}
 use Rattle.paper.specs.Verdicts.{numberOf, isDone, firstOf, NoneApplies, none, also}
 use Rattle.paper.specs.Desk.{admitted, stands, place, known, fresh, admit, checksOf, admitChecks, acceptedOf, step}
@@ -61,16 +61,12 @@ admitted-sound a v =
     let statics : validStatics (staticsOf (a .given)) ≡ true = search (v, and-left, and-right) depth 40 in
     let m : Minima (staticsOf (a .given)) = minima (staticsOf (a .given)) statics in
     let id : within 1 idMost (a .id) ≡ true = search (v, and-left, and-right) depth 40 in
-    let day : leb (a .day) dayMost ≡ true = search (v, and-left, and-right) depth 40 in
-    let p1 : isGridPrice (gridOf (a .given .lot)) (a .p1) ≡ true = search (v, and-left, and-right) depth 40 in
-    let p2 : isGridPrice (gridOf (a .given .lot)) (a .p2) ≡ true = search (v, and-left, and-right) depth 40 in
-    let s : leb (a .s) volatilityMost ≡ true = search (v, and-left, and-right) depth 40 in
-    let t : validTentative (staticsOf (a .given)) (a .tentative) ≡ true = search (v, and-left, and-right) depth 40 in
+    let figures : validFigures (staticsOf (a .given)) (a .day) (a .p1) (a .p2) (a .s) (a .tentative) ≡ true =
+    and-right (within 1 idMost (a .id) && validGiven (a .given)) _ v in
     let l : validLimits (gridOf (a .given .lot)) noLimits ≡ true = no-limits-valid (a .given .lot) in
     let limits = and-both _ _ (and-both _ _ l l) l in
     let rates = and-both _ _ (and-both _ _ (m .first) (m .second)) (m .third) in
-    let prices = and-both _ _ (and-both _ _ (and-both _ _ (and-both _ _ id statics) day) p1) p2 in
-    let tentative = and-both _ _ (and-both _ _ (and-both _ _ prices s) t) refl in
+    let tentative = and-both _ _ (and-both _ _ (and-both _ _ id statics) figures) refl in
     let bands = and-both _ _ (and-both _ _ (and-both _ _ (and-both _ _ tentative rates) limits) refl) limits in
     and-both _ _ (and-both _ _ (and-both _ _ (and-both _ _ bands refl) refl) refl) refl
 

@@ -15,11 +15,11 @@ use Rattle.paper.specs.Lists.{pick}
 use Rattle.paper.specs.Numbers.{oneInTenThousandths, oneInHundredths, ageMost}
 use Rattle.paper.specs.Least.{leastMultiple}
 use Rattle.paper.specs.Roundings.{up}
-use Rattle.paper.specs.Rates.{weightOf, weighted, replacement, replaces, volatilityOf, leastStep, tentativeRate, tentativeAfter}
+use Rattle.paper.specs.Rates.{weightOf, weighted, replacement, replaces, volatilityOf, leastStep, tentativeRate, tentativeAfter, Weighing}
 use Rattle.paper.proofs.Logic.{le-or-lt}
 use Rattle.paper.proofs.Search.{root-least, times-least, least-unique}
 use Rattle.paper.proofs.Roundings.{up-covers, up-least, quotient-low}
-use Rattle.paper.proofs.Volatility.{Weighing, weight-most}
+use Rattle.paper.proofs.Volatility.{weight-most}
 
 -- ---- the volatility
 

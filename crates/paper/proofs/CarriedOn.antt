@@ -5,10 +5,10 @@ use native.Mathlib.Numerals.{add-one}
 use native.Mathlib.Omega.{arith}
 use Rattle.paper.specs.declared.Model.{Model}
 use Rattle.paper.specs.Roundings.{Quotient, RoundedUp}
-use Rattle.paper.specs.Rates.{volatilityOf}
+use Rattle.paper.specs.Rates.{volatilityOf, Weighing}
 use Rattle.paper.specs.Exact.{nextSquare, choiceOf, NearExact}
 use Rattle.paper.proofs.Drift.{near-start}
-use Rattle.paper.proofs.Volatility.{Weighing, volatility-near}
+use Rattle.paper.proofs.Volatility.{volatility-near}
 
 -- s was carried on n times by the volatility's rule, and x is the exact square by the same choices. Each time has its
 -- own weights and multiplier, its own last rate and a move that is rounded up

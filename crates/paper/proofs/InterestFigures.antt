@@ -12,7 +12,7 @@ use Rattle.paper.specs.declared.Maturity.{Maturity}
 use Rattle.paper.specs.declared.Interest.{Interest}
 use Rattle.paper.specs.Numbers.{oneInHundredths}
 use Rattle.paper.specs.Rates.{leastStep, IsLeastStep}
-use Rattle.paper.specs.Interest.{repoVolatility, repoTentativeRate, repoTentative, atLeastZero, estimate}
+use Rattle.paper.specs.Interest.{repoVolatility, repoTentativeRate, repoTentative, atLeastZero, estimate, IsEstimate}
 use Rattle.paper.proofs.Search.{step-is}
 
 -- t is the least multiple of h with 100·t ≥ q·σ
@@ -20,13 +20,6 @@ pub repo-tentative-rate-is : (i : Interest) (k : Maturity) → 1 ≤ i .h
     → IsLeastStep (i .h) oneInHundredths (i .model .q * repoVolatility i k) (repoTentativeRate i k)
 unfolding repoTentativeRate
 repo-tentative-rate-is i k h = step-is (i .h) oneInHundredths (i .model .q * repoVolatility i k) h (omega arith)
-
--- an estimate is the least multiple of h at or above both tentative + liquidity and its minimum, of either sign
-pub record IsEstimate (h sum : ℕ) (minimum : ℤ) (v : ℕ) : Type 0 where
-  pub multiple : v % h ≡ 0
-  pub over-sum : sum ≤ v
-  pub over-minimum : leZ minimum (pos v) ≡ true
-  pub least : (j : ℕ) → sum ≤ j * h → leZ minimum (pos (j * h)) ≡ true → v ≤ j * h
 
 pub estimate-is : (i : Interest) (k : Maturity) (minimum : ℤ) → 1 ≤ i .h
     → IsEstimate (i .h) (repoTentative i k .bp + i .liq) minimum (estimate i k minimum)

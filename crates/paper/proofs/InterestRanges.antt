@@ -10,22 +10,18 @@ use lib.Dec.{leb}
 use lib.IntN.{ℤ, pos, negsuc, natAbs, _+ℤ_, _-ℤ_}
 use lib.ListN.{getD}
 use borrow.Author.Tests.{leb-true, le-leb}
+use Rattle.paper.specs.Rates.{Weighing}
 use Rattle.paper.specs.declared.Interest.{Interest}
 use Rattle.paper.specs.declared.Maturity.{Maturity}
 use Rattle.paper.specs.declared.MaturityFigures.{MaturityFigures}
 use Rattle.paper.specs.Lists.{every}
 use Rattle.paper.specs.Numbers.{oneInHundredths, stepMost, multiplierMost, divisorLeast, divisorMost, minimumMost, maturityMost, ageMost, repoLeast, repoMost, repoVolatilityMost, repoTentativeMost}
 use Rattle.paper.specs.Ranges.{withinZ, unsigned}
-use Rattle.paper.specs.Interest.{LentKey, validKey, maturityOf, validInterest, apartZ, changeOf, repoVolatility, repoTentativeRate, repoTentative, atLeastZero, estimate, upward, downward, maturityFigures, wholeKeys, validKeys, keysOf, maturitiesOf, noFigures}
+use Rattle.paper.specs.Interest.{LentKey, validKey, maturityOf, validInterest, apartZ, changeOf, repoVolatility, repoTentativeRate, repoTentative, atLeastZero, estimate, upward, downward, maturityFigures, wholeKeys, validKeys, keysOf, maturitiesOf, noFigures, InterestRange, KeyRange, FiguresHeld, estimateMost}
 use Rattle.paper.specs.InterestExact.{carriedFrom, keyGiven}
 use Rattle.paper.proofs.Logic.{clash, and-left, and-right, and-both}
 use Rattle.paper.proofs.Differences.{sum-size, minus-size}
-use Rattle.paper.proofs.Volatility.{Weighing}
 use Rattle.paper.proofs.Bounds.{volatility-high, step-short, tentative-held, age-held}
-
--- an estimate is less than a step, of at most 1,000, above the greatest tentative rate with the greatest liquidity
-abbrev pub estimateMost : ℕ
-estimateMost = 211977
 
 -- ---- each figure
 
@@ -100,29 +96,13 @@ repo-size (pos n) v = leb-true n 9999 v
 repo-size (negsuc n) v = omega (arith, leb-true n 9998 (and-left (leb n 9998) true v))
 
 -- a number in a range from 0 is read as it is
-pub natural-high : (x : ℤ) (most : ℕ) → withinZ (pos 0) (pos most) x ≡ true → unsigned x ≤ most
+pub unsigned-high : (x : ℤ) (most : ℕ) → withinZ (pos 0) (pos most) x ≡ true → unsigned x ≤ most
 unfolding unsigned
-natural-high (pos n) most v = leb-true n most (and-right (leb 0 n) _ v)
-natural-high (negsuc n) most v = absurd (clash false v refl)
+unsigned-high (pos n) most v = leb-true n most (and-right (leb 0 n) _ v)
+unsigned-high (negsuc n) most v = absurd (clash false v refl)
 
-natural-within : (n most : ℕ) → n ≤ most → withinZ (pos 0) (pos most) (pos n) ≡ true
-natural-within n most h = and-both _ _ (le-leb 0 n (omega arith)) (le-leb n most h)
-
--- what an evening in range gives beside its key maturities
-pub record InterestRange (i : Interest) : Type 0 where
-  pub ym : i .ym ≤ maturityMost
-  pub yn : i .yn ≤ maturityMost
-  pub weighs : Weighing (i .model)
-  pub multiplier : i .model .q ≤ multiplierMost
-  pub step-low : 1 ≤ i .h
-  pub step-high : i .h ≤ stepMost
-  pub liq : i .liq ≤ minimumMost
-  pub mm : i .mm ≤ minimumMost
-  pub sec : i .sec ≤ minimumMost
-  pub divisor-low : divisorLeast ≤ i .xir
-  pub divisor-high : i .xir ≤ divisorMost
-  pub money : natAbs (i .money) ≤ natAbs repoMost
-  pub secrate : natAbs (i .secrate) ≤ natAbs repoMost
+unsigned-within : (n most : ℕ) → n ≤ most → withinZ (pos 0) (pos most) (pos n) ≡ true
+unsigned-within n most h = and-both _ _ (le-leb 0 n (omega arith)) (le-leb n most h)
 
 pub interest-range : (i : Interest) → validInterest i ≡ true → InterestRange i
 unfolding validInterest
@@ -148,40 +128,21 @@ interest-range i v =
       secrate = repo-size (i .secrate) (search (v, and-left, and-right) depth 40);
     }
 
--- a key maturity in range
-pub record KeyRange (k : Maturity) : Type 0 where
-  pub t : k .t ≤ maturityMost
-  pub r : natAbs (k .r) ≤ natAbs repoMost
-  pub r1 : natAbs (k .r1) ≤ natAbs repoMost
-  pub r2 : natAbs (k .r2) ≤ natAbs repoMost
-  pub index : natAbs (k .index) ≤ natAbs repoMost
-  pub volatility : k .volatility ≤ repoVolatilityMost
-  pub tentative : k .tentative .bp ≤ repoTentativeMost
-  pub age : k .tentative .age ≤ ageMost
-
 pub key-range : (k : LentKey) → validKey k ≡ true → KeyRange (maturityOf k)
 unfolding validKey maturityOf
 key-range k v =
     record {
-      t = natural-high (k .t) maturityMost (search (v, and-left, and-right) depth 40);
+      t = unsigned-high (k .t) maturityMost (search (v, and-left, and-right) depth 40);
       r = repo-size (k .r) (search (v, and-left, and-right) depth 40);
       r1 = repo-size (k .r1) (search (v, and-left, and-right) depth 40);
       r2 = repo-size (k .r2) (search (v, and-left, and-right) depth 40);
       index = repo-size (k .index) (search (v, and-left, and-right) depth 40);
-      volatility = natural-high (k .volatility) repoVolatilityMost (search (v, and-left, and-right) depth 40);
-      tentative = natural-high (k .tentative) repoTentativeMost (search (v, and-left, and-right) depth 40);
-      age = natural-high (k .age) ageMost (search (v, and-left, and-right) depth 40);
+      volatility = unsigned-high (k .volatility) repoVolatilityMost (search (v, and-left, and-right) depth 40);
+      tentative = unsigned-high (k .tentative) repoTentativeMost (search (v, and-left, and-right) depth 40);
+      age = unsigned-high (k .age) ageMost (search (v, and-left, and-right) depth 40);
     }
 
 -- ---- all figures of an evening
-
-pub record FiguresHeld (f : MaturityFigures) : Type 0 where
-  pub change : f .change ≤ repoVolatilityMost
-  pub volatility : f .volatility ≤ repoVolatilityMost
-  pub tentative : f .tentative .bp ≤ repoTentativeMost
-  pub age : f .tentative .age ≤ ageMost
-  pub up : f .up ≤ estimateMost
-  pub down : f .down ≤ estimateMost
 
 module _ (i : Interest) (k : Maturity) (g : InterestRange i) (h : KeyRange k) where
   pub change-held : changeOf k ≤ repoVolatilityMost
@@ -241,9 +202,9 @@ unfolding validKey keyGiven
 next-valid i k next v w n =
     let held : FiguresHeld (maturityFigures i (maturityOf k)) = accepted-held i k v w in
     let given : rates ≡ true = search (n, and-left, and-right) depth 40 in
-    and-both _ _ (and-both _ _ (and-both rates _ given (natural-within _ _ (held .volatility)))
-    (natural-within _ _ (held .tentative)))
-    (natural-within _ _ (held .age))
+    and-both _ _ (and-both _ _ (and-both rates _ given (unsigned-within _ _ (held .volatility)))
+    (unsigned-within _ _ (held .tentative)))
+    (unsigned-within _ _ (held .age))
   where
     -- what the next evening gives of its own
     rates : Bool

@@ -1,11 +1,15 @@
--- Small laws of tests and choices. Assumes nothing.
+-- Small laws of tests, of choices and of order. Assumes nothing.
 use mathlib.Core.Path.{_≡_, refl, sym}
 use mathlib.Core.Logic.{_⊎_, inl, inr}
 use mathlib.Core.Bool.{Bool, true, false, not, _&&_}
-use Prim.Native.Nat.{ℕ, _≤_, _<_}
+use Prim.Native.Nat.{ℕ, zero, suc, _≤_, _<_}
 use native.Mathlib.Decide.{decLe}
+use native.Mathlib.Nat.{le-trans}
 use native.Mathlib.Omega.{arith}
-use Rattle.paper.specs.Lists.{pick}
+use lib.IntN.{ℤ, pos, negsuc}
+use lib.Signed.{leZ}
+use borrow.Author.Tests.{leb-true, le-leb}
+use Rattle.paper.specs.Lists.{pick, allThree}
 
 pub clash : (b : Bool) → b ≡ true → b ≡ false → ⊥
 clash b p q = let z : _≡_ {A = ℕ} 0 1 = cc in omega arith
@@ -54,3 +58,22 @@ le-or-lt a b = go (decLe a b)
     go : Dec (a ≤ b) → (a ≤ b) ⊎ (b < a)
     go (yes h) = inl h
     go (no h) = inr (omega arith)
+
+-- ---- three of a kind
+
+-- what passes at all three passes at each
+pub each-of-three : (p : ℕ → Bool) → allThree p ≡ true → (i : ℕ) → i < 3 → p i ≡ true
+each-of-three p v zero l = and-left (p 0) (p 1) (and-left (p 0 && p 1) (p 2) v)
+each-of-three p v (suc zero) l = and-right (p 0) (p 1) (and-left (p 0 && p 1) (p 2) v)
+each-of-three p v (suc (suc zero)) l = and-right (p 0 && p 1) (p 2) v
+each-of-three p v (suc (suc (suc i))) l = absurd (omega arith)
+
+-- ---- the order of signed numbers
+
+pub order-trans : (a b c : ℤ) → leZ a b ≡ true → leZ b c ≡ true → leZ a c ≡ true
+order-trans (pos a) (pos b) (pos c) p q = le-leb a c (le-trans (leb-true a b p) (leb-true b c q))
+order-trans (pos a) (pos b) (negsuc c) p q = q
+order-trans (pos a) (negsuc b) c p q = absurd (clash false p refl)
+order-trans (negsuc a) b (pos c) p q = refl
+order-trans (negsuc a) (pos b) (negsuc c) p q = absurd (clash false q refl)
+order-trans (negsuc a) (negsuc b) (negsuc c) p q = le-leb c a (le-trans (leb-true c b q) (leb-true b a p))

@@ -10,17 +10,10 @@ use Rattle.paper.specs.declared.Record.{Record}
 use Rattle.paper.specs.Ranges.{sideOf}
 use Rattle.paper.specs.Verdicts.{isDone, firstOf, NoneApplies, none, also}
 use Rattle.paper.specs.Desk.{Call, admit, evaluate, quote, move, read, idOf, Outcome, blank, admitted, evaluated, quoted, moved, place, stands, found, known, checksOf, admitChecks, evaluateChecks, quoteChecks, moveChecks, acceptedOf, step}
+use Rattle.paper.specs.Kept.{writtenAt, Stays}
 use Rattle.paper.proofs.Logic.{not-false}
 use Rattle.paper.proofs.Slots.{found-id, found-other, stands-other, known-stands}
 use Rattle.paper.proofs.Refusals.{verdict-first, refused-leaves, accepted-step, accepted-only}
-
--- the slot that a call may write: the first empty one for an admission, the first with the id for the rest
-abbrev pub writtenAt : Call → List Record → ℕ
-writtenAt (admit a) t = place t 0
-writtenAt (evaluate id d rows) t = place t id
-writtenAt (quote id q) t = place t id
-writtenAt (move id side) t = place t id
-writtenAt (read id) t = place t id
 
 -- what holds of the table before, and after whatever the call would write, holds after the call
 pub either : (P : List Record → Type 0) (c : Call) (t : List Record) → P t
@@ -58,10 +51,6 @@ slots-stay c t k n = either (λ u. getD u k blank ≡ getD t k blank) c t refl (
     accepted (quote id q) n = getD-set-other t (place t id) k _ blank n
     accepted (move id side) n = getD-set-other t (place t id) k _ blank n
     accepted (read id) n = refl
-
--- every other id: it stands where it stood, with the record that it had
-abbrev pub Stays : ℕ → List Record → List Record → Type 0
-Stays id t u = (stands u id ≡ stands t id) × (found u id ≡ found t id)
 
 stored-stays : (id i : ℕ) (t : List Record) (x : Record) → known t i ≡ true → x .id ≡ found t i .id → id ≢ i
     → Stays id t (set t (place t i) x)

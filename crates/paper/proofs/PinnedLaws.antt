@@ -26,7 +26,7 @@ use Rattle.paper.specs.declared.Answer.{Answer}
 use Rattle.paper.specs.declared.Verdict.{Verdict}
 use Rattle.paper.specs.declared.Verdict.the-variants.{NoSuchId, AdmissionOutOfRange}
 use Rattle.paper.specs.Lists.{pick, three}
-use Rattle.paper.specs.Ranges.{noRate, noLimits, notNear, termAt, sideOf, validSlots, sound}
+use Rattle.paper.specs.Ranges.{noLimits, notNear, termAt, sideOf, validSlots, sound, rateAt}
 use Rattle.paper.specs.Limits.{bandLimit, bandOf, oneMore, countOf, rangeMoved, bandMoved}
 use Rattle.paper.specs.Alerts.{isNear, keptSince, nearAfter, alert, nearCleared}
 use Rattle.paper.specs.Verdicts.{numberOf, isDone, firstOf, FirstAt, here, NoneApplies, also}
@@ -123,13 +123,13 @@ range-after r side i l = three-at (λ i. rangeMoved side (deltaFor r) (getD (r .
 band-after : (r : Record) (side : Side) (k : ℕ) → k < 3
     → getD (moved r side .bands) k noLimits
     ≡ bandMoved side
-    (bandOf (r .statics) (r .p1 .units) (getD (r .rates) 0 noRate .bp) (moved r side .moves) (termAt (r .terms) k))
+    (bandOf (r .statics) (r .p1 .units) (rateAt (r .rates) 0) (moved r side .moves) (termAt (r .terms) k))
     (getD (r .bands) k noLimits)
 unfolding moved
 band-after r side k l =
     three-at
     (λ k. bandMoved side
-    (bandOf (r .statics) (r .p1 .units) (getD (r .rates) 0 noRate .bp) (oneMore side (r .moves)) (termAt (r .terms) k))
+    (bandOf (r .statics) (r .p1 .units) (rateAt (r .rates) 0) (oneMore side (r .moves)) (termAt (r .terms) k))
     (getD (r .bands) k noLimits))
     noLimits k l
 
@@ -141,7 +141,7 @@ near-after r side k l = three-at (λ k. nearCleared side (getD (r .near) k notNe
 -- "remakes that side's three band limits": by one move more of that side
 pub move-remakes : (r : Record) (side : Side) (k : ℕ) → k < 3
     → limitOn side (getD (moved r side .bands) k noLimits)
-    ≡ bandLimit (r .statics) side (r .p1 .units) (getD (r .rates) 0 noRate .bp) (countOf side (r .moves) + 1)
+    ≡ bandLimit (r .statics) side (r .p1 .units) (rateAt (r .rates) 0) (countOf side (r .moves) + 1)
     (termAt (r .terms) k .k) (repoOn side (termAt (r .terms) k))
 unfolding moved bandMoved bandOf oneMore
 move-remakes r Upper k l = ap (limitOn Upper) (band-after r Upper k l)

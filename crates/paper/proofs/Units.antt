@@ -20,11 +20,11 @@ use Rattle.paper.proofs.Logic.{le-or-lt}
 use Rattle.paper.proofs.Search.{least-unique}
 
 -- a number below zero is out of every range, and a number that is not is in it exactly where it is between its ends
-pub natural-within : (low high : ℕ) (x : ℤ) → high < pastEvery
+pub unsigned-within : (low high : ℕ) (x : ℤ) → high < pastEvery
     → within low high (unsigned x) ≡ withinZ (pos low) (pos high) x
 unfolding unsigned
-natural-within low high (pos n) h = refl
-natural-within low high (negsuc n) h = go (leb low pastEvery)
+unsigned-within low high (pos n) h = refl
+unsigned-within low high (negsuc n) h = go (leb low pastEvery)
   where
     past : leb pastEvery high ≡ false
     past = lt-leb pastEvery high h

@@ -13,18 +13,12 @@ use Rattle.paper.specs.Lists.{pick}
 use Rattle.paper.specs.Numbers.{oneInTenThousandths, oneInHundredths, oneInMillionths}
 use Rattle.paper.specs.Roundings.{Quotient, up, RoundedUp, greaterOf, apart}
 use Rattle.paper.specs.Ranges.{validStatics}
-use Rattle.paper.specs.Rates.{modelOf, moveFrom, moveOf, weightOf, weighted, replacement, replaces, volatilityOf}
+use Rattle.paper.specs.Rates.{modelOf, moveFrom, moveOf, weightOf, weighted, replacement, replaces, volatilityOf, Weighing}
 use Rattle.paper.specs.Exact.{Choice, byWeight, replaced, exactMove, nextSquare, choiceOf, NearExact}
 use Rattle.paper.proofs.Logic.{and-left, and-right, le-or-lt}
 use Rattle.paper.proofs.Search.{root-covers, root-least, times-covers, times-least}
 use Rattle.paper.proofs.Roundings.{up-rounded, rounded-max}
 use Rattle.paper.proofs.Drift.{weight-near, replace-near}
-
--- what the argument asks of the weights and the multiplier
-pub record Weighing (m : Model) : Type 0 where
-  pub q : oneInHundredths ≤ m .q
-  pub aup : m .aup ≤ oneInTenThousandths
-  pub adown : m .adown ≤ oneInTenThousandths
 
 pub weighing : (st : Statics) → validStatics st ≡ true → Weighing (modelOf st)
 unfolding validStatics

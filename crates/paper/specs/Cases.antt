@@ -20,7 +20,7 @@ use Rattle.paper.specs.Lists.{pick, three, those}
 use Rattle.paper.specs.Numbers.{millionthsInBp}
 use Rattle.paper.specs.Roundings.{up, halfUp, toGrid, lesserOf, greaterOf, grown, apart}
 use Rattle.paper.specs.Least.{first, least, leastRoot, leastTimes, leastMultiple}
-use Rattle.paper.specs.Ranges.{isPrice, isGridPrice, validStatics, validGiven, validTentative, validAdmission, validSlots, gridOf, staticsOf, rowAt, partsFrom, rowsOf, rowOf, unsigned, noTerm, noLimits}
+use Rattle.paper.specs.Ranges.{isPrice, isGridPrice, validStatics, validGiven, validTentative, validAdmission, validSlots, gridOf, staticsOf, rowAt, partsFrom, rowsOf, rowOf, unsigned, noTerm, noLimits, rateAt}
 use Rattle.paper.specs.Evaluation.{rowPrice, rowWeight, roublesOf, traded, weights, worth, mean, closeOf, bestBid, lesserAsk, bestAsk, median, between, evaluationOf, dayRows}
 use Rattle.paper.specs.Rates.{modelOf, moveFrom, moveOf, weightOf, weighted, replacement, replaces, volatilityOf, leastStep, tentativeRate, tentativeAfter, meetsRequirement, daysOf, minimumOf, covers, levelRate, modelled, unmodelled, figuresOf}
 use Rattle.paper.specs.Limits.{limitOf, shifted, rangeLimit, rangeOf, farthest, spread, monitored, narrower, bandLimit, bandOf, deltaOf, oneMore, rangeMoved, bandMoved}
@@ -82,9 +82,6 @@ unfolding admissionZ givenWith roublesRow dayWith staticsOf admitted minimumOf e
     bandOf bandLimit farthest narrower lesserOf greaterOf monitored spread
 after m x = evaluated (admitted admissionZ) (dayWith m x) (roublesRow 1030000 0 0 5 [])
 
-rateAt : Record → ℕ → ℕ
-rateAt r i = getD (r .rates) i (record { bp = 0 }) .bp
-
 upperAt : Record → ℕ → ℕ
 upperAt r i = getD (r .ranges) i noLimits .upper
 
@@ -104,19 +101,19 @@ rows10 = roublesRow 1000000 0 0 300 (pos 0 ∷ pos 125000 ∷ pos 0 ∷ pos 8100
 
 -- what the definitions give
 pub results : List (List ℕ)
-unfolding after Z rateAt upperAt lowerAt bandAt yesNo rows10 moved oneMore deltaOf rangeMoved bandMoved nearCleared
-    isNear distance
+unfolding after Z upperAt lowerAt bandAt yesNo rows10 moved oneMore deltaOf rangeMoved bandMoved nearCleared isNear
+    distance
 results =
     -- 1: r, s, tentative, the three rates
     (moveOn (admitted admissionZ) (roublesRow 1030000 0 0 5 [])
     ∷ after 0 noTerm .s
     ∷ after 0 noTerm .tentative .bp
-    ∷ rateAt (after 0 noTerm) 0
-    ∷ rateAt (after 0 noTerm) 1
-    ∷ rateAt (after 0 noTerm) 2
+    ∷ rateAt ((after 0 noTerm) .rates) 0
+    ∷ rateAt ((after 0 noTerm) .rates) 1
+    ∷ rateAt ((after 0 noTerm) .rates) 2
     ∷ [])
     -- 2: level 1 with m 6 and with m 1
-    ∷ (rateAt (after 6 noTerm) 0 ∷ rateAt (after 1 noTerm) 0 ∷ [])
+    ∷ (rateAt ((after 6 noTerm) .rates) 0 ∷ rateAt ((after 1 noTerm) .rates) 0 ∷ [])
     -- 3: the ranges, upper and lower
     ∷ (upperAt (after 0 noTerm) 0
     ∷ upperAt (after 0 noTerm) 1

@@ -25,9 +25,10 @@ use Rattle.paper.specs.declared.Verdict.{Verdict}
 use Rattle.paper.specs.declared.Verdict.the-variants.{Done, NoSuchId, AlreadyAdmitted, NoEmptySlot, AdmissionOutOfRange, DayNotAfter, OutOfRange, PriceOutOfRange, MoveTooLarge, BandCrossed, NotLive, NotMonitored, MovesUsedUp, SecondEarlier}
 use Rattle.paper.specs.Lists.{pick, three, forLevels, allThree, every}
 use Rattle.paper.specs.Numbers.{movesMost}
-use Rattle.paper.specs.Ranges.{gridOf, staticsOf, validAdmission, validDay, validQuote, validSide, sideOf, isLive, lastDay, sound, validSlots, noRate, noLimits, notNear, noTerm, termAt}
+use Rattle.paper.specs.Ranges.{gridOf, staticsOf, validAdmission, validDay, validQuote, validSide, sideOf, isLive, lastDay, sound, validSlots, noRate, noLimits, notNear, noTerm, termAt, rateAt}
 use Rattle.paper.specs.Evaluation.{dayRows, evaluationOf, evaluationFits}
-use Rattle.paper.specs.Rates.{moveOf, minimumOf, Figures, figuresOf, moveTooLarge}
+use Rattle.paper.specs.declared.Figures.{Figures}
+use Rattle.paper.specs.Rates.{moveOf, minimumOf, figuresOf, moveTooLarge}
 use Rattle.paper.specs.Limits.{rangeOf, bandOf, crossed, deltaOf, oneMore, countOf, rangeMoved, bandMoved}
 use Rattle.paper.specs.Alerts.{isNear, nearAfter, alert, nearCleared}
 use Rattle.paper.specs.Verdicts.{isDone, Check, firstOf}
@@ -128,7 +129,7 @@ moveOn r rows = moveOf (r .p1 .units) (r .p2 .units) (priceOn r rows)
 
 unfoldable pub figuresOn : Record → Day → List ℤ → Figures
 figuresOn r d rows =
-    figuresOf (r .statics) (d .b) (d .m) (getD (r .rates) 0 noRate .bp) (moveOn r rows) (r .s) (r .tentative)
+    figuresOf (r .statics) (d .b) (d .m) (rateAt (r .rates) 0) (moveOn r rows) (r .s) (r .tentative)
 
 -- "An evaluation clears both counts, all near seconds and the last quote second (to 0)." The security is then live
 unfoldable pub evaluated : Record → Day → List ℤ → Record
@@ -144,9 +145,9 @@ evaluated r d rows =
       s = f .s;
       tentative = f .tentative;
       rates = f .rates;
-      ranges = three (λ i. rangeOf (r .statics) p (getD (f .rates) i noRate .bp));
+      ranges = three (λ i. rangeOf (r .statics) p (rateAt (f .rates) i));
       terms = three (λ k. termAt (d .terms) k);
-      bands = three (λ k. bandOf (r .statics) p (getD (f .rates) 0 noRate .bp) noMoves (termAt (d .terms) k));
+      bands = three (λ k. bandOf (r .statics) p (rateAt (f .rates) 0) noMoves (termAt (d .terms) k));
       moves = noMoves;
       near = three (λ k. notNear);
       second = 0;
@@ -192,7 +193,7 @@ alertsOn r q =
 unfoldable pub moved : Record → Side → Record
 moved r side =
     let c : Moves = oneMore side (r .moves) in
-    let s1 : ℕ = getD (r .rates) 0 noRate .bp in
+    let s1 : ℕ = rateAt (r .rates) 0 in
     record {
       id = r .id;
       statics = r .statics;

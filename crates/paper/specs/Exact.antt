@@ -8,10 +8,10 @@ use Rattle.paper.specs.declared.Admission.{Admission}
 use Rattle.paper.specs.Lists.{pick}
 use Rattle.paper.specs.Numbers.{oneInTenThousandths, oneInMillionths, millionthsInBp, oneInHundredths}
 use Rattle.paper.specs.Roundings.{Quotient, greaterOf, apart}
-use Rattle.paper.specs.Ranges.{staticsOf}
+use Rattle.paper.specs.Ranges.{staticsOf, rateAt}
 use Rattle.paper.specs.Rates.{modelOf, moveOf, weightOf, weighted, replaces}
 use Rattle.paper.specs.History.{Event, evaluatedOn, quotedAt, movedBy}
-use Rattle.paper.specs.Sequences.{Carries, carries, rateAt}
+use Rattle.paper.specs.Sequences.{Carries, carries}
 
 -- which figure the carried volatility chose: the mean by a weight, or the replacement
 pub data Choice : Type 0 where

@@ -1,8 +1,9 @@
 -- Document 02, W-201: clauses 14.4, 14.6 and 16.2 of source document 001, in basis points and in roubles. Assumes
 -- nothing.
+use mathlib.Core.Path.{_≡_}
 use mathlib.Core.Bool.{Bool, true, false, not, _&&_}
 use mathlib.Core.List.{List, [], _∷_, map}
-use Prim.Native.Nat.{ℕ, zero, suc, _+_, _-_, _*_, _/_, _%_, max}
+use Prim.Native.Nat.{ℕ, zero, suc, _+_, _-_, _*_, _/_, _%_, _≤_, max}
 use lib.Dec.{leb, ltb, eqb}
 use lib.IntN.{ℤ, pos, negsuc, natAbs, _+ℤ_, _-ℤ_, _*ℤ_}
 use lib.ListN.{length, getD}
@@ -20,7 +21,7 @@ use Rattle.paper.specs.Lists.{pick, eight, every}
 use Rattle.paper.specs.Numbers.{oneInHundredths, repoLeast, repoMost, behindMost, weightMost, multiplierLeast, multiplierMost, stepMost, waitMost, divisorLeast, divisorMost, ageMost, keyNumbers, allKeyNumbersMost, maturityMost, minimumMost, repoVolatilityMost, repoTentativeMost}
 use Rattle.paper.specs.Roundings.{halfUpZ}
 use Rattle.paper.specs.Ranges.{within, withinZ, unsigned, partsFrom}
-use Rattle.paper.specs.Rates.{volatilityOf, leastStep, tentativeAfter}
+use Rattle.paper.specs.Rates.{volatilityOf, leastStep, tentativeAfter, Weighing}
 use Rattle.paper.specs.Verdicts.{isDone, Check, firstOf}
 
 -- ---- what is given, and its ranges
@@ -138,6 +139,13 @@ atLeastZero (negsuc n) = 0
 unfoldable pub estimate : Interest → Maturity → ℤ → ℕ
 estimate i k minimum = leastStep (i .h) 1 (max (repoTentative i k .bp + i .liq) (atLeastZero minimum))
 
+-- an estimate is the least multiple of h at or above both tentative + liquidity and its minimum, of either sign
+pub record IsEstimate (h sum : ℕ) (minimum : ℤ) (v : ℕ) : Type 0 where
+  pub multiple : v % h ≡ 0
+  pub over-sum : sum ≤ v
+  pub over-minimum : leZ minimum (pos v) ≡ true
+  pub least : (j : ℕ) → sum ≤ j * h → leZ minimum (pos (j * h)) ≡ true → v ≤ j * h
+
 -- HΔ, with MMΔ
 unfoldable pub upward : Interest → Maturity → ℕ
 upward i k = estimate i k (pos (i .mm))
@@ -247,3 +255,45 @@ unfoldable pub interestAnswer : Interest → List ℤ → InterestAnswer
 interestAnswer i numbers =
     let v : Verdict = firstOf (interestChecks i numbers) in
     pick (isDone v) (acceptedInterest i (maturitiesOf numbers)) (refusedInterest v)
+
+-- ---- the ranges of what is given and of what is worked out, as the rules ask for them
+
+-- what an evening in range gives beside its key maturities
+pub record InterestRange (i : Interest) : Type 0 where
+  pub ym : i .ym ≤ maturityMost
+  pub yn : i .yn ≤ maturityMost
+  pub weighs : Weighing (i .model)
+  pub multiplier : i .model .q ≤ multiplierMost
+  pub step-low : 1 ≤ i .h
+  pub step-high : i .h ≤ stepMost
+  pub liq : i .liq ≤ minimumMost
+  pub mm : i .mm ≤ minimumMost
+  pub sec : i .sec ≤ minimumMost
+  pub divisor-low : divisorLeast ≤ i .xir
+  pub divisor-high : i .xir ≤ divisorMost
+  pub money : natAbs (i .money) ≤ natAbs repoMost
+  pub secrate : natAbs (i .secrate) ≤ natAbs repoMost
+
+-- a key maturity in range
+pub record KeyRange (k : Maturity) : Type 0 where
+  pub t : k .t ≤ maturityMost
+  pub r : natAbs (k .r) ≤ natAbs repoMost
+  pub r1 : natAbs (k .r1) ≤ natAbs repoMost
+  pub r2 : natAbs (k .r2) ≤ natAbs repoMost
+  pub index : natAbs (k .index) ≤ natAbs repoMost
+  pub volatility : k .volatility ≤ repoVolatilityMost
+  pub tentative : k .tentative .bp ≤ repoTentativeMost
+  pub age : k .tentative .age ≤ ageMost
+
+-- an estimate is less than a step, of at most 1,000, above the greatest tentative rate with the greatest liquidity
+abbrev pub estimateMost : ℕ
+estimateMost = 211977
+
+-- the figures of a key maturity stay within their ranges
+pub record FiguresHeld (f : MaturityFigures) : Type 0 where
+  pub change : f .change ≤ repoVolatilityMost
+  pub volatility : f .volatility ≤ repoVolatilityMost
+  pub tentative : f .tentative .bp ≤ repoTentativeMost
+  pub age : f .tentative .age ≤ ageMost
+  pub up : f .up ≤ estimateMost
+  pub down : f .down ≤ estimateMost

@@ -77,9 +77,9 @@ isGridPrice g p = isPrice p && eqb (p % g) 0
 
 -- ---- statics
 
--- the table of statics, in its order; yes and no need no range
-unfoldable pub validStatics : Statics → Bool
-validStatics st =
+-- the table of statics, in its order, down to S_max: ranges and orders
+abbrev pub orderedStatics : Statics → Bool
+orderedStatics st =
     within 1 lotMost (st .lot)
     && within 1 stepMost (st .h)
     && within multiplierLeast multiplierMost (st .q)
@@ -95,10 +95,17 @@ validStatics st =
     && leb (st .min2) (st .min3)
     && leb (st .min3) (st .smax)
     && leb (st .smax) rateMost
-    && eqb (st .min1 % st .h) 0
-    && eqb (st .min2 % st .h) 0
-    && eqb (st .min3 % st .h) 0
-    && eqb (st .smax % st .h) 0
+
+-- "S_1_min ≤ S_2_min ≤ S_3_min ≤ S_max .. multiples of h"
+abbrev pub multiplesOfStep : Statics → Bool
+multiplesOfStep st =
+    eqb (st .min1 % st .h) 0 && eqb (st .min2 % st .h) 0 && eqb (st .min3 % st .h) 0 && eqb (st .smax % st .h) 0
+
+-- the whole table; yes and no need no range
+unfoldable pub validStatics : Statics → Bool
+validStatics st =
+    orderedStatics st
+    && multiplesOfStep st
     && within divisorLeast divisorMost (st .xpr)
     && within 1 shiftMost (st .shift)
     && leb (st .pchmax) rateMost
@@ -143,17 +150,22 @@ validTentative st tentative = leb tentative (st .smax) && eqb (tentative % st .h
 
 -- ---- an admission
 
--- "Admission also gives id (1..10^9), last day number (0..10^6), the two latest evaluations (on the grid, in range), s,
--- and the tentative rate"
+-- "last day number (0..10^6), the two latest evaluations (on the grid, in range), s, and the tentative rate": a record
+-- has these figures too
+abbrev pub validFigures : Statics → (day p1 p2 s tentative : ℕ) → Bool
+validFigures st day p1 p2 s tentative =
+    leb day dayMost
+    && isGridPrice (gridOf (st .lot)) p1
+    && isGridPrice (gridOf (st .lot)) p2
+    && leb s volatilityMost
+    && validTentative st tentative
+
+-- "Admission also gives id (1..10^9)" and these figures
 unfoldable pub validAdmission : Admission → Bool
 validAdmission a =
     within 1 idMost (a .id)
     && validGiven (a .given)
-    && leb (a .day) dayMost
-    && isGridPrice (gridOf (a .given .lot)) (a .p1)
-    && isGridPrice (gridOf (a .given .lot)) (a .p2)
-    && leb (a .s) volatilityMost
-    && validTentative (staticsOf (a .given)) (a .tentative)
+    && validFigures (staticsOf (a .given)) (a .day) (a .p1) (a .p2) (a .s) (a .tentative)
 
 -- ---- a day
 
@@ -235,14 +247,17 @@ noTerm = record { k = 0; low = pos 0; high = pos 0 }
 abbrev pub termAt : List Term → ℕ → Term
 termAt terms k = getD terms k noTerm
 
--- "A day gives a day number; rows; b 0..30; m 0..10; and three terms"
-unfoldable pub validDay : Day → List ℤ → Bool
-validDay d rows =
+-- "A day gives a day number; .. b 0..30; m 0..10; and three terms"
+abbrev pub validDayNumbers : Day → Bool
+validDayNumbers d =
     leb (d .day) dayMost
     && leb (d .b) behindMost
     && leb (d .m) aheadMost
     && allThree (λ k. validTerm (termAt (d .terms) k))
-    && validRows rows
+
+-- and "rows"
+unfoldable pub validDay : Day → List ℤ → Bool
+validDay d rows = validDayNumbers d && validRows rows
 
 -- ---- a quote and a move
 
@@ -272,6 +287,10 @@ lastDay (Live day) = day
 abbrev pub noRate : Rate
 noRate = record { bp = 0 }
 
+-- S_1, S_2 and S_3, which stand at 0, 1 and 2
+abbrev pub rateAt : List Rate → (i : ℕ) → ℕ
+rateAt rates i = getD rates i noRate .bp
+
 abbrev pub noLimits : Limits
 noLimits = record { lower = 0; upper = 0 }
 
@@ -292,20 +311,21 @@ validNear (Since second) = leb second secondLast
 unfoldable pub validNearSeconds : NearSeconds → Bool
 validNearSeconds n = validNear (n .top) && validNear (n .bottom)
 
+-- a record's id, its statics, the figures that an admission gives too, and the age
+abbrev pub soundFigures : Record → Bool
+soundFigures r =
+    within 1 idMost (r .id)
+    && validStatics (r .statics)
+    && validFigures (r .statics) (lastDay (r .standing)) (r .p1 .units) (r .p2 .units) (r .s) (r .tentative .bp)
+    && leb (r .tentative .age) ageMost
+
 -- "A record with a field outside the ranges, orders, multiples of h or grid that this paper gives as input ranges (and
 -- rates 0..10,000, limits on the grid 0..2·10^12 + 2·10^10, move counts 0..50, age 0..250, seconds 0..86,399) counts as
 -- no such id": it is sound otherwise
 unfoldable pub sound : Record → Bool
 sound r =
-    within 1 idMost (r .id)
-    && validStatics (r .statics)
-    && leb (lastDay (r .standing)) dayMost
-    && isGridPrice (gridOf (r .statics .lot)) (r .p1 .units)
-    && isGridPrice (gridOf (r .statics .lot)) (r .p2 .units)
-    && leb (r .s) volatilityMost
-    && validTentative (r .statics) (r .tentative .bp)
-    && leb (r .tentative .age) ageMost
-    && allThree (λ i. isRate (getD (r .rates) i noRate .bp))
+    soundFigures r
+    && allThree (λ i. isRate (rateAt (r .rates) i))
     && allThree (λ i. validLimits (gridOf (r .statics .lot)) (getD (r .ranges) i noLimits))
     && allThree (λ k. validTerm (termAt (r .terms) k))
     && allThree (λ k. validLimits (gridOf (r .statics .lot)) (getD (r .bands) k noLimits))

@@ -11,6 +11,7 @@ use Rattle.paper.specs.declared.Rate.{Rate}
 use Rattle.paper.specs.declared.Tentative.{Tentative}
 use Rattle.paper.specs.declared.Model.{Model}
 use Rattle.paper.specs.declared.Statics.{Statics}
+use Rattle.paper.specs.declared.Figures.{Figures}
 use Rattle.paper.specs.Lists.{pick, forLevels}
 use Rattle.paper.specs.Numbers.{hundredthsOfMillionthsInBp, oneInTenThousandths, oneInMillionths, millionthsInBp, oneInHundredths, volatilityMost, ageMost}
 use Rattle.paper.specs.Roundings.{Quotient, up, apart}
@@ -29,6 +30,12 @@ moveOf p1 p2 p = max (moveFrom p1 p) (moveFrom p2 p)
 -- the weights and the multiplier of a share
 abbrev pub modelOf : Statics → Model
 modelOf st = record { aup = st .aup; adown = st .adown; q = st .q }
+
+-- a model whose weights are at most one, and whose multiplier is at least one
+pub record Weighing (m : Model) : Type 0 where
+  pub q : oneInHundredths ≤ m .q
+  pub aup : m .aup ≤ oneInTenThousandths
+  pub adown : m .adown ≤ oneInTenThousandths
 
 -- "a is 0 when b > 1; else a_up when r > s, a_down otherwise."
 unfoldable pub weightOf : Model → ℕ → ℕ → ℕ → ℕ
@@ -100,12 +107,7 @@ levelRate st level m tentative =
 
 -- ---- by isEWMA
 
--- what an evaluation gives: "With isEWMA no, the three rates are the minima and s, tentative and age stay."
-pub record Figures : Type 0 where
-  pub s : ℕ
-  pub tentative : Tentative
-  pub rates : List Rate
-
+-- "With isEWMA no, the three rates are the minima and s, tentative and age stay."
 unfoldable pub modelled : Statics → (b m s1 r s : ℕ) → Tentative → Figures
 modelled st b m s1 r s old =
     let s′ : ℕ = volatilityOf (modelOf st) b (millionthsInBp * s1) r s in

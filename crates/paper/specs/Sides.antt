@@ -12,7 +12,7 @@ use Rattle.paper.specs.declared.Near.{Near}
 use Rattle.paper.specs.declared.NearSeconds.{NearSeconds}
 use Rattle.paper.specs.declared.Term.{Term}
 use Rattle.paper.specs.declared.Record.{Record}
-use Rattle.paper.specs.Ranges.{noRate}
+use Rattle.paper.specs.Ranges.{rateAt}
 use Rattle.paper.specs.Limits.{deltaOf}
 use Rattle.paper.specs.Desk.{Call, admit, evaluate, quote, move, read}
 
@@ -36,7 +36,7 @@ repoOn Lower x = x .low
 
 -- the delta of a move: by the record's own P and S_1
 abbrev pub deltaFor : Record → ℕ
-deltaFor r = deltaOf (r .statics) (r .p1 .units) (getD (r .rates) 0 noRate .bp)
+deltaFor r = deltaOf (r .statics) (r .p1 .units) (rateAt (r .rates) 0)
 
 -- "Accepted evaluations, moves and reads return the record as it then stands, a quote its two alerts, an admission the
 -- number 0 alone."

@@ -5,7 +5,7 @@ ghost use mathlib.Core.Path.{_≡_};
 ghost use Prim.Native.Nat.{_≤_};
 ghost use Rattle.paper.specs.Numbers.{rateMost};
 ghost use Rattle.paper.specs.Ranges.{priceMade, rateMade, limitMade};
-ghost use Rattle.paper.specs.Verdicts.{numberOf};
+ghost use Rattle.paper.specs.Verdicts.{numberOf, isDone};
 
 // "10,000 = 100 per cent": one, in basis points.
 pub const ONE_IN_BP: u64 = 10_000;
@@ -258,6 +258,14 @@ impl Term {
     pub const REPO_MOST: i64 = 9_999;
 }
 
+// What an evaluation gives beside its price (7.1): the volatility in millionths, the tentative rate, and a rate a
+// level.
+pub struct Figures {
+    pub s: u64,
+    pub tentative: Tentative,
+    pub rates: [Rate; Record::LEVELS],
+}
+
 // One security. The slot is empty where id is 0. Of the two latest evaluations p1 is the later.
 pub struct Record {
     pub id: u64,
@@ -267,16 +275,21 @@ pub struct Record {
     pub p2: Price,
     pub s: u64,
     pub tentative: Tentative,
-    pub rates: [Rate; 3],
-    pub ranges: [Limits; 3],
-    pub terms: [Term; 3],
-    pub bands: [Limits; 3],
+    pub rates: [Rate; Record::LEVELS],
+    pub ranges: [Limits; Record::LEVELS],
+    pub terms: [Term; Record::TERMS],
+    pub bands: [Limits; Record::TERMS],
     pub moves: Moves,
-    pub near: [NearSeconds; 3],
+    pub near: [NearSeconds; Record::TERMS],
     pub second: u64,
 }
 
 impl Record {
+    // A rate and a range a level; a repo band, a price band and near seconds a term.
+    pub const LEVELS: usize = 3;
+
+    pub const TERMS: usize = 3;
+
     pub const ID_MOST: u64 = 1_000_000_000;
 
     pub const DAY_MOST: u64 = 1_000_000;
@@ -308,7 +321,7 @@ pub struct Day {
     pub day: u64,
     pub b: u64,
     pub m: u64,
-    pub terms: [Term; 3],
+    pub terms: [Term; Record::TERMS],
 }
 
 impl Day {
@@ -406,6 +419,13 @@ impl Verdict {
             Verdict::NotAscending => 14,
         }
     }
+
+    pub fn is_done(self) -> bool
+        ensures { λ t. ⌜ t ≡ isDone self ⌝ }
+    {
+        let verdict = self;
+        verdict.number() == 0
+    }
 }
 
 // What a call answers. A refusal has its verdict and every figure 0, flags no, nothing near, admitted only.
@@ -434,6 +454,8 @@ impl Maturity {
     pub const NUMBERS: usize = 8;
 
     pub const ALL_NUMBERS_MOST: usize = 64;
+
+    pub const COUNT_MOST: usize = 8;
 
     pub const DAYS_MOST: u64 = 365;
 
@@ -485,7 +507,7 @@ pub struct WorkedBand {
 pub struct InterestAnswer {
     pub pair: WorkedBand,
     pub count: u64,
-    pub figures: [MaturityFigures; 8],
+    pub figures: [MaturityFigures; Maturity::COUNT_MOST],
 }
 
 // A repo band as two numbers give it.

@@ -11,9 +11,8 @@ use Rattle.paper.specs.declared.Record.{Record}
 use Rattle.paper.specs.Numbers.{daysMost, aheadMost}
 use Rattle.paper.specs.Lists.{pick}
 use Rattle.paper.specs.Ranges.{validStatics, validTentative, isRate, noRate, sound}
-use Rattle.paper.specs.Rates.{modelOf, daysOf, minimumOf}
+use Rattle.paper.specs.Rates.{modelOf, daysOf, minimumOf, Weighing}
 use Rattle.paper.proofs.Logic.{and-left, and-right}
-use Rattle.paper.proofs.Volatility.{Weighing}
 use Rattle.rates.specs.Asked.{RateStatics, FigureRanges}
 
 pub valid-rates : (st : Statics) → validStatics st ≡ true → RateStatics st

@@ -8,6 +8,7 @@ ghost use Rattle.paper.specs.Rates.{minimumOf, levelRate};
 ghost use Rattle.rates.specs.Asked.{RateStatics, tentativeMost};
 ghost use Rattle.rates.specs.Level.{levelOf, tentativeSquare, liquiditySquare, squareMost, reaches, reachMost, leastReach};
 use paper::Rate;
+use paper::Record;
 use paper::Statics;
 
 // A level's own statics: rh_L and S_L_min.
@@ -99,7 +100,7 @@ pub fn level_rate(st: Statics, level: u64, m: u64, tentative: u64) -> Rate
 }
 
 // The three rates.
-pub fn rates_of(st: Statics, m: u64, tentative: u64) -> [Rate; 3]
+pub fn rates_of(st: Statics, m: u64, tentative: u64) -> [Rate; Record::LEVELS]
     requires { ⌜ RateStatics st ⌝ }
     requires { ⌜ (m ≤ aheadMost) × (tentative ≤ tentativeMost) ⌝ }
     ensures { λ r. ⌜ r ≡ forLevels (λ l. record { bp = levelRate st l m tentative }) ⌝ }
@@ -112,7 +113,7 @@ pub fn rates_of(st: Statics, m: u64, tentative: u64) -> [Rate; 3]
 }
 
 // The three minima, as rates.
-pub fn minima(st: Statics) -> [Rate; 3]
+pub fn minima(st: Statics) -> [Rate; Record::LEVELS]
     requires { ⌜ RateStatics st ⌝ }
     ensures { λ r. ⌜ r ≡ forLevels (λ l. record { bp = minimumOf st l }) ⌝ }
 {

@@ -10,19 +10,12 @@ ghost use Prim.Native.Nat.{_≤_};
 ghost use Rattle.paper.specs.Numbers.{volatilityMost};
 ghost use Rattle.paper.specs.Rates.{modelled, unmodelled, figuresOf, moveTooLarge};
 ghost use Rattle.rates.specs.Asked.{RateStatics, FigureRanges};
-ghost use Rattle.rates.specs.Figures.{handed};
+use paper::Figures;
 use paper::MILLIONTHS_IN_BP;
 use paper::Rate;
 use paper::Record;
 use paper::Statics;
 use paper::Tentative;
-
-// What an evaluation gives.
-pub struct Figures {
-    pub s: u64,
-    pub tentative: Tentative,
-    pub rates: [Rate; 3],
-}
 
 // Refusal 8.
 pub fn move_too_large(st: Statics, r: u64) -> bool
@@ -34,7 +27,7 @@ pub fn move_too_large(st: Statics, r: u64) -> bool
 fn modelled(st: Statics, b: u64, m: u64, s1: Rate, r: u64, s: u64, old: Tentative) -> Figures
     requires { ⌜ FigureRanges st m s1 s old ⌝ }
     requires { ⌜ r ≤ volatilityMost ⌝ }
-    ensures { λ f. ⌜ f ≡ handed (modelled st b m (s1 .bp) r s old) ⌝ }
+    ensures { λ f. ⌜ f ≡ modelled st b m (s1 .bp) r s old ⌝ }
 {
     let model = volatility::model_of(st);
     let carried = volatility::volatility_of(model, b, MILLIONTHS_IN_BP * s1.bp, r, s);
@@ -50,7 +43,7 @@ fn modelled(st: Statics, b: u64, m: u64, s1: Rate, r: u64, s: u64, old: Tentativ
 
 fn unmodelled(st: Statics, s: u64, old: Tentative) -> Figures
     requires { ⌜ RateStatics st ⌝ }
-    ensures { λ f. ⌜ f ≡ handed (unmodelled st s old) ⌝ }
+    ensures { λ f. ⌜ f ≡ unmodelled st s old ⌝ }
 {
     let rates = level::minima(st);
     Figures {
@@ -64,7 +57,7 @@ fn unmodelled(st: Statics, s: u64, old: Tentative) -> Figures
 pub fn figures_of(st: Statics, b: u64, m: u64, s1: Rate, r: u64, s: u64, old: Tentative) -> Figures
     requires { ⌜ FigureRanges st m s1 s old ⌝ }
     requires { ⌜ moveTooLarge st r ≡ false ⌝ }
-    ensures { λ f. ⌜ f ≡ handed (figuresOf st b m (s1 .bp) r s old) ⌝ }
+    ensures { λ f. ⌜ f ≡ figuresOf st b m (s1 .bp) r s old ⌝ }
 {
     if st.ewma {
         modelled(st, b, m, s1, r, s, old)

@@ -12,10 +12,9 @@ use Rattle.paper.specs.declared.Day.{Day}
 use Rattle.paper.specs.declared.Row.{Row}
 use Rattle.paper.specs.declared.Record.{Record}
 use Rattle.paper.specs.Lists.{pick, every}
-use Rattle.paper.specs.Ranges.{isPrice, isGridPrice, validAdmission, validDay, validRows, sound}
+use Rattle.paper.specs.Ranges.{isPrice, isGridPrice, validAdmission, validDay, validRows, sound, validDayNumbers}
 use Rattle.paper.specs.Evaluation.{evaluationOf, rowFits, evaluationFits}
 use Rattle.paper.proofs.Logic.{and-left, and-right}
-use Rattle.inputs.specs.Parts.{validDayNumbers}
 use Rattle.inputs.proofs.Tests.{day-in-parts}
 use Rattle.evaluation.specs.declared.Evaluation.the-variants.{Evaluated, Beyond}
 use Rattle.evaluation.specs.Evaluation.{evaluationMade}

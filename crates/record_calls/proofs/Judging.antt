@@ -28,8 +28,8 @@ use Rattle.paper.proofs.Logic.{clash, and-right, not-true, not-false, pick-fals
 use Rattle.paper.proofs.Refusals.{refusals, done-none}
 use Rattle.record_soundness.proofs.Facts.{sound-facts}
 use Rattle.record_calls.specs.declared.Slot.{Slot}
-use Rattle.record_calls.specs.declared.Outcome.{Outcome}
-use Rattle.record_calls.specs.Outcomes.{holds, isKnown, refusedOutcome, judgedOutcome, admitChecksOf, admitOutcome, evaluateOutcome, quoteOutcome, moveOutcome}
+use Rattle.record_calls.specs.declared.Effect.{Effect}
+use Rattle.record_calls.specs.Effects.{holds, isKnown, refusedEffect, judgedEffect, admitChecksOf, admitEffect, evaluateEffect, quoteEffect, moveEffect}
 use Rattle.record_calls.specs.Openings.{openingChecks}
 use Rattle.record_calls.specs.Prices.{Priced}
 
@@ -49,13 +49,13 @@ known-sound s e = and-right (validSlots (s .count) && holds s) (sound (s .rec)) 
 
 module _ (s e : Slot) (a : Admission) where
   pub admission-out : (validSlots (s .count) && validAdmission a) ≡ false
-      → refusedOutcome (s .count) AdmissionOutOfRange ≡ admitOutcome s e a
-  unfolding admitOutcome admitChecksOf judgedOutcome firstOf isDone
+      → refusedEffect (s .count) AdmissionOutOfRange ≡ admitEffect s e a
+  unfolding admitEffect admitChecksOf judgedEffect firstOf isDone
   admission-out t = rw t
 
   -- an admission that is not valid is refused, whatever the number of slots
-  pub admission-invalid : (validAdmission a ≡ true → ⊥) → refusedOutcome (s .count) AdmissionOutOfRange
-      ≡ admitOutcome s e a
+  pub admission-invalid : (validAdmission a ≡ true → ⊥) → refusedEffect (s .count) AdmissionOutOfRange
+      ≡ admitEffect s e a
   admission-invalid n = admission-out (go (validSlots (s .count)) (validAdmission a) n)
     where
       go : (slots valid : Bool) → (valid ≡ true → ⊥) → (slots && valid) ≡ false
@@ -64,46 +64,46 @@ module _ (s e : Slot) (a : Admission) where
       go false false k = refl
 
   module _ (valid : (validSlots (s .count) && validAdmission a) ≡ true) where
-    pub admission-again : holds s ≡ true → refusedOutcome (s .count) AlreadyAdmitted ≡ admitOutcome s e a
-    unfolding admitOutcome admitChecksOf judgedOutcome firstOf isDone
+    pub admission-again : holds s ≡ true → refusedEffect (s .count) AlreadyAdmitted ≡ admitEffect s e a
+    unfolding admitEffect admitChecksOf judgedEffect firstOf isDone
     admission-again t = rw (valid, t)
 
-    pub admission-full : holds s ≡ false → holds e ≡ false → refusedOutcome (s .count) NoEmptySlot ≡ admitOutcome s e a
-    unfolding admitOutcome admitChecksOf judgedOutcome firstOf isDone
+    pub admission-full : holds s ≡ false → holds e ≡ false → refusedEffect (s .count) NoEmptySlot ≡ admitEffect s e a
+    unfolding admitEffect admitChecksOf judgedEffect firstOf isDone
     admission-full new t = rw (valid, new, t)
 
     pub admission-accepted : holds s ≡ false → holds e ≡ true
-        → record { at = e .at; rec = admitted a; answer = saying Done } ≡ admitOutcome s e a
-    unfolding admitOutcome admitChecksOf judgedOutcome firstOf isDone
+        → record { at = e .at; rec = admitted a; answer = saying Done } ≡ admitEffect s e a
+    unfolding admitEffect admitChecksOf judgedEffect firstOf isDone
     admission-accepted new t = rw (valid, new, t)
 
 -- ---- evaluate 1, 6, 5, 7, 8, 9
 
 module _ (s : Slot) (d : Day) (rows : List ℤ) where
-  pub day-unknown : isKnown s ≡ false → refusedOutcome (s .count) NoSuchId ≡ evaluateOutcome s d rows
-  unfolding evaluateOutcome evaluateChecks judgedOutcome firstOf isDone
+  pub day-unknown : isKnown s ≡ false → refusedEffect (s .count) NoSuchId ≡ evaluateEffect s d rows
+  unfolding evaluateEffect evaluateChecks judgedEffect firstOf isDone
   day-unknown t = rw t
 
   pub day-out : isKnown s ≡ true → validDay d rows ≡ false
-      → refusedOutcome (s .count) OutOfRange ≡ evaluateOutcome s d rows
-  unfolding evaluateOutcome evaluateChecks judgedOutcome firstOf isDone
+      → refusedEffect (s .count) OutOfRange ≡ evaluateEffect s d rows
+  unfolding evaluateEffect evaluateChecks judgedEffect firstOf isDone
   day-out known t = rw (known, t)
 
   pub day-not-after : isKnown s ≡ true → validDay d rows ≡ true → leb (d .day) (lastDay (s .rec .standing)) ≡ true
-      → refusedOutcome (s .count) DayNotAfter ≡ evaluateOutcome s d rows
-  unfolding evaluateOutcome evaluateChecks judgedOutcome firstOf isDone
+      → refusedEffect (s .count) DayNotAfter ≡ evaluateEffect s d rows
+  unfolding evaluateEffect evaluateChecks judgedEffect firstOf isDone
   day-not-after known valid t = rw (known, valid, t)
 
   pub day-beyond : isKnown s ≡ true → validDay d rows ≡ true → leb (d .day) (lastDay (s .rec .standing)) ≡ false
       → evaluationFits (gridOf (s .rec .statics .lot)) (s .rec .p1 .units) (dayRows rows) ≡ false
-      → refusedOutcome (s .count) PriceOutOfRange ≡ evaluateOutcome s d rows
-  unfolding evaluateOutcome evaluateChecks judgedOutcome firstOf isDone
+      → refusedEffect (s .count) PriceOutOfRange ≡ evaluateEffect s d rows
+  unfolding evaluateEffect evaluateChecks judgedEffect firstOf isDone
   day-beyond known valid after t = rw (known, valid, after, t)
 
   module _ (p : Priced s d rows) where
     pub day-moved-far : moveTooLarge (s .rec .statics) (moveOn (s .rec) rows) ≡ true
-        → refusedOutcome (s .count) MoveTooLarge ≡ evaluateOutcome s d rows
-    unfolding evaluateOutcome evaluateChecks judgedOutcome firstOf isDone
+        → refusedEffect (s .count) MoveTooLarge ≡ evaluateEffect s d rows
+    unfolding evaluateEffect evaluateChecks judgedEffect firstOf isDone
     day-moved-far t = rw (p .known, p .valid, p .later, p .fits, t)
 
     module _ {new : Record} {ordered : Bool}
@@ -113,13 +113,13 @@ module _ (s : Slot) (d : Day) (rows : List ℤ) where
       bands : ordered ≡ allThree (λ k. not (crossed (getD (evaluated (s .rec) d rows .bands) k noLimits)))
       bands = rw is at tested
 
-      pub day-crossed : not ordered ≡ true → refusedOutcome (s .count) BandCrossed ≡ evaluateOutcome s d rows
-      unfolding evaluateOutcome evaluateChecks judgedOutcome firstOf isDone
+      pub day-crossed : not ordered ≡ true → refusedEffect (s .count) BandCrossed ≡ evaluateEffect s d rows
+      unfolding evaluateEffect evaluateChecks judgedEffect firstOf isDone
       day-crossed t = rw (p .known, p .valid, p .later, p .fits, near, failed _ bands t)
 
       pub day-accepted : not ordered ≡ false → record { at = s .at; rec = new; answer = showing new }
-          ≡ evaluateOutcome s d rows
-      unfolding evaluateOutcome evaluateChecks judgedOutcome firstOf isDone
+          ≡ evaluateEffect s d rows
+      unfolding evaluateEffect evaluateChecks judgedEffect firstOf isDone
       day-accepted t = rw (is, p .known, p .valid, p .later, p .fits, near, passed _ bands t)
 
 -- ---- quote 1, 6, 10, 11, 13; move 1, 6, 10, 11, 12
@@ -136,11 +136,11 @@ first-stays (c ∷ cs) more n = go (c .applies) n (first-stays cs more)
     go true m rest = refl
     go false m rest = rest m
 
-turn-stays : (count : ℕ) (cs more : List Check) (accepted : Outcome) → isDone (firstOf cs) ≡ false
-    → refusedOutcome count (firstOf cs) ≡ judgedOutcome count (firstOf (cs ++ more)) accepted
-unfolding judgedOutcome
+turn-stays : (count : ℕ) (cs more : List Check) (accepted : Effect) → isDone (firstOf cs) ≡ false
+    → refusedEffect count (firstOf cs) ≡ judgedEffect count (firstOf (cs ++ more)) accepted
+unfolding judgedEffect
 turn-stays count cs more accepted n =
-    rw (first-stays cs more n) (sym (pick-false (isDone (firstOf cs)) accepted (refusedOutcome count (firstOf cs)) n))
+    rw (first-stays cs more n) (sym (pick-false (isDone (firstOf cs)) accepted (refusedEffect count (firstOf cs)) n))
 
 -- 1, 6, 10 and 11 do not apply
 pub record Opened (there inRange : Bool) (r : Record) : Type 0 where
@@ -160,8 +160,8 @@ opened there inRange r e = go (done-none (openingChecks there inRange r) refl e)
 
 module _ (s : Slot) (q : Quote) where
   pub quote-stopped : isDone (firstOf (openingChecks (isKnown s) (validQuote q) (s .rec))) ≡ false
-      → refusedOutcome (s .count) (firstOf (openingChecks (isKnown s) (validQuote q) (s .rec))) ≡ quoteOutcome s q
-  unfolding quoteOutcome quoteChecks openingChecks
+      → refusedEffect (s .count) (firstOf (openingChecks (isKnown s) (validQuote q) (s .rec))) ≡ quoteEffect s q
+  unfolding quoteEffect quoteChecks openingChecks
   quote-stopped n =
       turn-stays (s .count) (openingChecks (isKnown s) (validQuote q) (s .rec))
       (record { verdict = SecondEarlier; applies = ltb (q .second) (s .rec .second) } ∷ [])
@@ -169,20 +169,20 @@ module _ (s : Slot) (q : Quote) where
       n
 
   module _ (o : Opened (isKnown s) (validQuote q) (s .rec)) where
-    pub quote-earlier : ltb (q .second) (s .rec .second) ≡ true → refusedOutcome (s .count) SecondEarlier
-        ≡ quoteOutcome s q
-    unfolding quoteOutcome quoteChecks judgedOutcome firstOf isDone
+    pub quote-earlier : ltb (q .second) (s .rec .second) ≡ true → refusedEffect (s .count) SecondEarlier
+        ≡ quoteEffect s q
+    unfolding quoteEffect quoteChecks judgedEffect firstOf isDone
     quote-earlier t = rw (o .known, o .valid, o .live, o .monitored, t)
 
     pub quote-accepted : ltb (q .second) (s .rec .second) ≡ false
-        → record { at = s .at; rec = quoted (s .rec) q; answer = alertsOn (s .rec) q } ≡ quoteOutcome s q
-    unfolding quoteOutcome quoteChecks judgedOutcome firstOf isDone
+        → record { at = s .at; rec = quoted (s .rec) q; answer = alertsOn (s .rec) q } ≡ quoteEffect s q
+    unfolding quoteEffect quoteChecks judgedEffect firstOf isDone
     quote-accepted t = rw (o .known, o .valid, o .live, o .monitored, t)
 
 module _ (s : Slot) (side : ℕ) where
   pub move-stopped : isDone (firstOf (openingChecks (isKnown s) (validSide side) (s .rec))) ≡ false
-      → refusedOutcome (s .count) (firstOf (openingChecks (isKnown s) (validSide side) (s .rec))) ≡ moveOutcome s side
-  unfolding moveOutcome moveChecks openingChecks
+      → refusedEffect (s .count) (firstOf (openingChecks (isKnown s) (validSide side) (s .rec))) ≡ moveEffect s side
+  unfolding moveEffect moveChecks openingChecks
   move-stopped n =
       turn-stays (s .count) (openingChecks (isKnown s) (validSide side) (s .rec))
       (record { verdict = MovesUsedUp; applies = eqb (countOf (sideOf side) (s .rec .moves)) movesMost } ∷ [])
@@ -191,14 +191,14 @@ module _ (s : Slot) (side : ℕ) where
 
   module _ (o : Opened (isKnown s) (validSide side) (s .rec)) where
     pub move-used-up : eqb (countOf (sideOf side) (s .rec .moves)) movesMost ≡ true
-        → refusedOutcome (s .count) MovesUsedUp ≡ moveOutcome s side
-    unfolding moveOutcome moveChecks judgedOutcome firstOf isDone
+        → refusedEffect (s .count) MovesUsedUp ≡ moveEffect s side
+    unfolding moveEffect moveChecks judgedEffect firstOf isDone
     move-used-up t = rw (o .known, o .valid, o .live, o .monitored, t)
 
     pub move-accepted : eqb (countOf (sideOf side) (s .rec .moves)) movesMost ≡ false
         → record { at = s .at; rec = moved (s .rec) (sideOf side); answer = showing (moved (s .rec) (sideOf side)) }
-        ≡ moveOutcome s side
-    unfolding moveOutcome moveChecks judgedOutcome firstOf isDone
+        ≡ moveEffect s side
+    unfolding moveEffect moveChecks judgedEffect firstOf isDone
     move-accepted t = rw (o .known, o .valid, o .live, o .monitored, t)
 
 -- c is not 50, so a move is left

@@ -11,8 +11,8 @@ use Rattle.paper.specs.Ranges.{gridOf, lastDay, validDay}
 use Rattle.paper.specs.Evaluation.{dayRows, evaluationFits}
 use Rattle.paper.specs.Desk.{priceOn}
 use Rattle.record_calls.specs.declared.Slot.{Slot}
-use Rattle.record_calls.specs.declared.Outcome.{Outcome}
-use Rattle.record_calls.specs.Outcomes.{isKnown, evaluateOutcome}
+use Rattle.record_calls.specs.declared.Effect.{Effect}
+use Rattle.record_calls.specs.Effects.{isKnown, evaluateEffect}
 
 -- 1, 6, 5 and 7 do not apply
 pub record Priced (s : Slot) (d : Day) (rows : List ℤ) : Type 0 where
@@ -22,5 +22,5 @@ pub record Priced (s : Slot) (d : Day) (rows : List ℤ) : Type 0 where
   pub fits : evaluationFits (gridOf (s .rec .statics .lot)) (s .rec .p1 .units) (dayRows rows) ≡ true
 
 -- o is the turn of a day of any rows whose evaluation is p
-abbrev pub Prices : Slot → Day → ℕ → Outcome → Type 0
-Prices s d p o = (rows : List ℤ) → Priced s d rows → priceOn (s .rec) rows ≡ p → o ≡ evaluateOutcome s d rows
+abbrev pub Prices : Slot → Day → ℕ → Effect → Type 0
+Prices s d p o = (rows : List ℤ) → Priced s d rows → priceOn (s .rec) rows ≡ p → o ≡ evaluateEffect s d rows

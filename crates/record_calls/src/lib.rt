@@ -4,12 +4,11 @@ ghost use mathlib.Core.Path.{_≡_};
 ghost use mathlib.Core.Bool.{true, not};
 ghost use lib.ListN.{getD};
 ghost use Rattle.paper.specs.Lists.{allThree};
-ghost use Rattle.paper.specs.Ranges.{isPrice, validDay, noLimits, sound};
+ghost use Rattle.paper.specs.Ranges.{isPrice, validDay, noLimits, sound, validDayNumbers};
 ghost use Rattle.paper.specs.Limits.{crossed};
-ghost use Rattle.paper.specs.Verdicts.{isDone, firstOf};
+ghost use Rattle.paper.specs.Verdicts.{firstOf};
 ghost use Rattle.paper.specs.Desk.{blank, saying, showing, nearOn, alertsOn};
-ghost use Rattle.inputs.specs.Parts.{validDayNumbers};
-ghost use Rattle.record_calls.specs.Turns.{holds, isKnown, refusedOutcome, admitOutcome, evaluateOutcome, quoteOutcome, moveOutcome, readAnswer};
+ghost use Rattle.record_calls.specs.Effects.{holds, isKnown, refusedEffect, admitEffect, evaluateEffect, quoteEffect, moveEffect, readAnswer};
 ghost use Rattle.record_calls.specs.Openings.{openingChecks};
 ghost use Rattle.record_calls.specs.Prices.{Prices};
 use evaluation::Evaluation;
@@ -40,7 +39,7 @@ pub struct Slot {
 }
 
 // Where to store, what, and what to answer. A refusal stores past the end.
-pub struct Outcome {
+pub struct Effect {
     pub at: usize,
     pub rec: Record,
     pub answer: Answer,
@@ -84,19 +83,19 @@ pub fn blank() -> Record
         p2: price,
         s: 0,
         tentative: Tentative { bp: 0, age: 0 },
-        rates: [Rate { bp: 0 }; 3],
-        ranges: [none; 3],
+        rates: [Rate { bp: 0 }; Record::LEVELS],
+        ranges: [none; Record::LEVELS],
         terms: [Term {
             k: 0,
             low: 0,
             high: 0,
-        }; 3],
-        bands: [none; 3],
+        }; Record::TERMS],
+        bands: [none; Record::TERMS],
         moves: Moves { upper: 0, lower: 0 },
         near: [NearSeconds {
             top: Near::Not,
             bottom: Near::Not,
-        }; 3],
+        }; Record::TERMS],
         second: 0,
     }
 }
@@ -156,12 +155,12 @@ fn alerts_on(r: Record, q: Quote, n: NearSeconds) -> Answer
     }
 }
 
-fn refused(count: usize, v: Verdict) -> Outcome
-    ensures { λ o. ⌜ o ≡ refusedOutcome count v ⌝ }
+fn refused(count: usize, v: Verdict) -> Effect
+    ensures { λ o. ⌜ o ≡ refusedEffect count v ⌝ }
 {
     let rec = blank();
     let answer = saying(v);
-    Outcome {
+    Effect {
         at: count,
         rec,
         answer,
@@ -169,17 +168,11 @@ fn refused(count: usize, v: Verdict) -> Outcome
 }
 
 // A record that is stored, and answered as it then stands.
-fn written(at: usize, r: Record) -> Outcome
+fn written(at: usize, r: Record) -> Effect
     ensures { λ o. ⌜ o ≡ record { at = at; rec = r; answer = showing r } ⌝ }
 {
     let answer = showing(r);
-    Outcome { at, rec: r, answer }
-}
-
-fn is_done(v: Verdict) -> bool
-    ensures { λ t. ⌜ t ≡ isDone v ⌝ }
-{
-    v.number() == 0
+    Effect { at, rec: r, answer }
 }
 
 // ---- what is found
@@ -201,9 +194,9 @@ fn is_known(s: Slot) -> bool
 // ---- the calls
 
 // 4 of what else an admission gives, 2, 3 and what is written, at the two latest evaluations that it gives.
-fn admitted_at(s: Slot, e: Slot, a: Admission, p1: Price, p2: Price) -> Outcome
+fn admitted_at(s: Slot, e: Slot, a: Admission, p1: Price, p2: Price) -> Effect
     requires { ⌜ (p1 ≡ record { units = a .p1 }) × (p2 ≡ record { units = a .p2 }) ⌝ }
-    ensures { λ o. ⌜ o ≡ admitOutcome s e a ⌝ }
+    ensures { λ o. ⌜ o ≡ admitEffect s e a ⌝ }
 {
     let count = s.count;
     if !(record_soundness::valid_slots(count) & inputs::valid_admission(a)) {
@@ -217,7 +210,7 @@ fn admitted_at(s: Slot, e: Slot, a: Admission, p1: Price, p2: Price) -> Outcome
     }
     let rec = record_writing::admitted(a, p1, p2);
     let answer = saying(Verdict::Done);
-    Outcome {
+    Effect {
         at: e.at,
         rec,
         answer,
@@ -226,8 +219,8 @@ fn admitted_at(s: Slot, e: Slot, a: Admission, p1: Price, p2: Price) -> Outcome
 
 // "admit 4, 2, 3": s is the slot with the id, e the first empty one. A price out of range is an admission value out of
 // range (4).
-pub fn admitted(s: Slot, e: Slot, a: Admission) -> Outcome
-    ensures { λ o. ⌜ o ≡ admitOutcome s e a ⌝ }
+pub fn admitted(s: Slot, e: Slot, a: Admission) -> Effect
+    ensures { λ o. ⌜ o ≡ admitEffect s e a ⌝ }
 {
     let count = s.count;
     let later = Price::new(a.p1);
@@ -249,14 +242,14 @@ fn valid_day(d: Day, rows: &[i64]) -> bool
 }
 
 // Whether no band is crossed (9).
-fn in_order(bands: [Limits; 3]) -> bool
+fn in_order(bands: [Limits; Record::TERMS]) -> bool
     ensures { λ t. ⌜ t ≡ allThree (λ k. not (crossed (getD bands k noLimits))) ⌝ }
 {
     !limits::is_crossed(bands[0]) & !limits::is_crossed(bands[1]) & !limits::is_crossed(bands[2])
 }
 
 // 8, 9 and what is written, at the evaluation P of a day that is not refused before.
-fn evaluated_at(s: Slot, d: Day, p: Price) -> Outcome
+fn evaluated_at(s: Slot, d: Day, p: Price) -> Effect
     requires { ⌜ sound (s .rec) ≡ true ⌝ }
     requires { ⌜ validDayNumbers d ≡ true ⌝ }
     requires { ⌜ isPrice (p .units) ≡ true ⌝ }
@@ -283,8 +276,8 @@ fn evaluated_at(s: Slot, d: Day, p: Price) -> Outcome
 }
 
 // "evaluate 1, 6, 5, 7, 8, 9".
-pub fn evaluated(s: Slot, d: Day, rows: &[i64]) -> Outcome
-    ensures { λ o. ⌜ o ≡ evaluateOutcome s d (now (rows .entry)) ⌝ }
+pub fn evaluated(s: Slot, d: Day, rows: &[i64]) -> Effect
+    ensures { λ o. ⌜ o ≡ evaluateEffect s d (now (rows .entry)) ⌝ }
 {
     let count = s.count;
     let r = s.rec;
@@ -329,13 +322,13 @@ fn opening(s: Slot, in_range: bool) -> Verdict
 }
 
 // "quote 1, 6, 10, 11, 13".
-pub fn quoted(s: Slot, q: Quote) -> Outcome
-    ensures { λ o. ⌜ o ≡ quoteOutcome s q ⌝ }
+pub fn quoted(s: Slot, q: Quote) -> Effect
+    ensures { λ o. ⌜ o ≡ quoteEffect s q ⌝ }
 {
     let count = s.count;
     let r = s.rec;
     let v = opening(s, inputs::valid_quote(q));
-    if !is_done(v) {
+    if !v.is_done() {
         return refused(count, v);
     }
     if q.second < r.second {
@@ -344,7 +337,7 @@ pub fn quoted(s: Slot, q: Quote) -> Outcome
     let n = record_writing::near_on(r, q);
     let rec = record_writing::quoted(r, q, n);
     let answer = alerts_on(r, q, n);
-    Outcome {
+    Effect {
         at: s.at,
         rec,
         answer,
@@ -352,14 +345,14 @@ pub fn quoted(s: Slot, q: Quote) -> Outcome
 }
 
 // "move 1, 6, 10, 11, 12".
-pub fn moved(s: Slot, side: u64) -> Outcome
-    ensures { λ o. ⌜ o ≡ moveOutcome s side ⌝ }
+pub fn moved(s: Slot, side: u64) -> Effect
+    ensures { λ o. ⌜ o ≡ moveEffect s side ⌝ }
 {
     let count = s.count;
     let r = s.rec;
     let moves = r.moves;
     let v = opening(s, inputs::valid_side(side));
-    if !is_done(v) {
+    if !v.is_done() {
         return refused(count, v);
     }
     let named = inputs::side_of(side);

@@ -12,9 +12,8 @@ use Rattle.paper.specs.declared.Limits.{Limits}
 use Rattle.paper.specs.declared.Record.{Record}
 use Rattle.paper.specs.Lists.{allThree}
 use Rattle.paper.specs.Numbers.{rateMost, idMost, ageMost, limitMost, movesMost, secondLast, slotsMost}
-use Rattle.paper.specs.Ranges.{gridOf, isRate, noRate, validStatics, lastDay, termAt, isLimit, validLimits, noLimits, validNear, validNearSeconds, notNear, sound, validSlots}
-use Rattle.paper.proofs.Logic.{and-left, and-right}
-use Rattle.inputs.proofs.Tests.{each-of-three}
+use Rattle.paper.specs.Ranges.{gridOf, isRate, validStatics, lastDay, termAt, isLimit, validLimits, noLimits, validNear, validNearSeconds, notNear, sound, validSlots, rateAt}
+use Rattle.paper.proofs.Logic.{and-left, and-right, each-of-three}
 use Rattle.inputs.proofs.Facts.{Within, within-facts, MultipleTo, multiple-facts, grid-price-facts, rate-most, StaticsFacts, statics-facts, tentative-facts, FiguresFacts, TermFacts, terms-facts}
 
 -- ---- limits
@@ -61,9 +60,9 @@ three-near-facts near v k l = near-facts _ (each-of-three (λ k. validNearSecond
 
 -- ---- a record
 
-pub rates-facts : (rates : List Rate) → allThree (λ i. isRate (getD rates i noRate .bp)) ≡ true → (i : ℕ) → i < 3
-    → getD rates i noRate .bp ≤ rateMost
-rates-facts rates v i l = rate-most _ (each-of-three (λ i. isRate (getD rates i noRate .bp)) v i l)
+pub rates-facts : (rates : List Rate) → allThree (λ i. isRate (rateAt rates i)) ≡ true → (i : ℕ) → i < 3
+    → rateAt rates i ≤ rateMost
+rates-facts rates v i l = rate-most _ (each-of-three (λ i. isRate (rateAt rates i)) v i l)
 
 pub record SoundRecord (r : Record) : Type 0 where
   pub id : Within 1 idMost (r .id)
@@ -72,7 +71,7 @@ pub record SoundRecord (r : Record) : Type 0 where
   pub figures : FiguresFacts (r .statics) (lastDay (r .standing)) (r .p1 .units) (r .p2 .units) (r .s)
       (r .tentative .bp)
   pub age-most : r .tentative .age ≤ ageMost
-  pub rates : (i : ℕ) → i < 3 → getD (r .rates) i noRate .bp ≤ rateMost
+  pub rates : (i : ℕ) → i < 3 → rateAt (r .rates) i ≤ rateMost
   pub ranges : (i : ℕ) → i < 3 → LimitsFacts (gridOf (r .statics .lot)) (getD (r .ranges) i noLimits)
   pub terms : (k : ℕ) → k < 3 → TermFacts (termAt (r .terms) k)
   pub bands : (k : ℕ) → k < 3 → LimitsFacts (gridOf (r .statics .lot)) (getD (r .bands) k noLimits)

@@ -4,8 +4,7 @@ ghost use mathlib.Core.Path.{_≡_};
 ghost use Prim.Native.Nat.{_<_};
 ghost use lib.ListN.{getD};
 ghost use Rattle.paper.specs.Lists.{allThree};
-ghost use Rattle.paper.specs.Ranges.{isLive, lastDay, isRate, noRate, isLimit, validLimits, noLimits, validNear, validNearSeconds, notNear, sound, validSlots};
-ghost use Rattle.record_soundness.specs.Parts.{soundFigures};
+ghost use Rattle.paper.specs.Ranges.{isLive, lastDay, isRate, noRate, isLimit, validLimits, noLimits, validNear, validNearSeconds, notNear, sound, validSlots, soundFigures};
 use inputs::grid_of;
 use inputs::is_rate;
 use inputs::valid_figures;
@@ -40,7 +39,7 @@ pub fn last_day(standing: Standing) -> u64
     }
 }
 
-fn valid_rates(rates: [Rate; 3]) -> bool
+fn valid_rates(rates: [Rate; Record::LEVELS]) -> bool
     ensures { λ r. ⌜ r ≡ allThree (λ i. isRate (getD rates i noRate .bp)) ⌝ }
 {
     is_rate(rates[0].bp) & is_rate(rates[1].bp) & is_rate(rates[2].bp)
@@ -66,7 +65,7 @@ pub fn valid_limits(g: u64, x: Limits) -> bool
 }
 
 // Three ranges, or three bands.
-fn valid_three_limits(g: u64, limits: [Limits; 3]) -> bool
+fn valid_three_limits(g: u64, limits: [Limits; Record::TERMS]) -> bool
     requires { ⌜ 0 < g ⌝ }
     ensures { λ r. ⌜ r ≡ allThree (λ i. validLimits g (getD limits i noLimits)) ⌝ }
 {
@@ -90,7 +89,7 @@ pub fn valid_near_seconds(n: NearSeconds) -> bool
     valid_near(top) & valid_near(bottom)
 }
 
-fn valid_three_near(near: [NearSeconds; 3]) -> bool
+fn valid_three_near(near: [NearSeconds; Record::TERMS]) -> bool
     ensures { λ r. ⌜ r ≡ allThree (λ k. validNearSeconds (getD near k notNear)) ⌝ }
 {
     let first = near[0];

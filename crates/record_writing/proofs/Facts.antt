@@ -17,12 +17,11 @@ use Rattle.paper.specs.declared.Day.{Day}
 use Rattle.paper.specs.declared.Side.{Side}
 use Rattle.paper.specs.Lists.{pick, three, forLevels, allThree}
 use Rattle.paper.specs.Numbers.{priceMost, rateMost, movesMost, quoteMost}
-use Rattle.paper.specs.Ranges.{noRate, noLimits, isPrice, validTerm, termAt, validQuote, sound}
-use Rattle.paper.specs.Rates.{minimumOf, levelRate, Figures, figuresOf, modelled, unmodelled}
+use Rattle.paper.specs.Ranges.{noRate, noLimits, isPrice, validTerm, termAt, validQuote, sound, validDayNumbers, rateAt}
+use Rattle.paper.specs.declared.Figures.{Figures}
+use Rattle.paper.specs.Rates.{minimumOf, levelRate, figuresOf, modelled, unmodelled}
 use Rattle.paper.specs.Limits.{deltaOf}
-use Rattle.paper.proofs.Logic.{and-left, and-right}
-use Rattle.inputs.specs.Parts.{validDayNumbers}
-use Rattle.inputs.proofs.Tests.{each-of-three}
+use Rattle.paper.proofs.Logic.{and-left, and-right, each-of-three}
 use Rattle.inputs.proofs.Facts.{quote-facts}
 use Rattle.record_soundness.proofs.Facts.{sound-facts}
 use Rattle.rates.specs.Asked.{RateStatics}
@@ -77,7 +76,6 @@ unfolding sound
 sound-terms r v = search (v, and-left, and-right) depth 40
 
 pub day-terms : (d : Day) → validDayNumbers d ≡ true → allThree (λ k. validTerm (termAt (d .terms) k)) ≡ true
-unfolding validDayNumbers
 day-terms d v = search (v, and-left, and-right)
 
 -- ---- a move
@@ -89,7 +87,7 @@ sound-inputs r v =
     record { price = known .figures .later .price .most; rate-high = known .rates 0 (omega arith) }
 
 pub shifts-asked : (r : Record) → sound r ≡ true
-    → ShiftsAsked (deltaOf (r .statics) (r .p1 .units) (getD (r .rates) 0 noRate .bp)) (r .ranges)
+    → ShiftsAsked (deltaOf (r .statics) (r .p1 .units) (rateAt (r .rates) 0)) (r .ranges)
 shifts-asked r v =
     let known = sound-facts r v in
     let held = delta-high (r .statics) _ _ (limit-statics (r .statics) (known .valid)) (sound-inputs r v) in
@@ -110,7 +108,7 @@ levels-held rate most h (suc (suc zero)) k = h 3
 levels-held rate most h (suc (suc (suc i))) k = absurd (omega arith)
 
 pub rates-held : (r : Record) (d : Day) (p : ℕ) → sound r ≡ true → (i : ℕ) → i < 3
-    → getD (figuresAt r d p .rates) i noRate .bp ≤ rateMost
+    → rateAt (figuresAt r d p .rates) i ≤ rateMost
 unfolding figuresAt figuresOf modelled unmodelled
 rates-held r d p v i k = go (r .statics .ewma)
   where
@@ -118,7 +116,7 @@ rates-held r d p v i k = go (r .statics .ewma)
     st = valid-rates (r .statics) (sound-facts r v .valid)
 
     by-model : Figures
-    by-model = modelled (r .statics) (d .b) (d .m) (getD (r .rates) 0 noRate .bp) (moveTo r p) (r .s) (r .tentative)
+    by-model = modelled (r .statics) (d .b) (d .m) (rateAt (r .rates) 0) (moveTo r p) (r .s) (r .tentative)
 
     go : (b : Bool) → getD (pick b by-model (unmodelled (r .statics) (r .s) (r .tentative)) .rates) i noRate .bp ≤
         rateMost

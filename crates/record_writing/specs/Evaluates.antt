@@ -9,20 +9,17 @@ use lib.ListN.{getD}
 use Rattle.paper.specs.declared.Record.{Record}
 use Rattle.paper.specs.declared.Day.{Day}
 use Rattle.paper.specs.declared.Price.{Price}
-use Rattle.paper.specs.Ranges.{isPrice, sound, noRate}
+use Rattle.paper.specs.Ranges.{isPrice, sound, validDayNumbers, rateAt}
 use Rattle.paper.specs.Rates.{moveOf, figuresOf}
 use Rattle.paper.specs.Desk.{priceOn, evaluated}
-use Rattle.inputs.specs.Parts.{validDayNumbers}
-use Rattle.rates.specs.declared.Figures.{Figures}
-use Rattle.rates.specs.Figures.{handed}
+use Rattle.paper.specs.declared.Figures.{Figures}
 
 -- the move to P and the figures of 7.1 at P
 unfoldable pub moveTo : Record → ℕ → ℕ
 moveTo r p = moveOf (r .p1 .units) (r .p2 .units) p
 
 unfoldable pub figuresAt : Record → Day → ℕ → Figures
-figuresAt r d p = handed
-    (figuresOf (r .statics) (d .b) (d .m) (getD (r .rates) 0 noRate .bp) (moveTo r p) (r .s) (r .tentative))
+figuresAt r d p = figuresOf (r .statics) (d .b) (d .m) (rateAt (r .rates) 0) (moveTo r p) (r .s) (r .tentative)
 
 -- what is known when a record is written: 1, 6 and 7 do not apply, and the figures are those at P
 pub record Evaluating (r : Record) (d : Day) (p : Price) (f : Figures) : Type 0 where

@@ -14,6 +14,7 @@ ghost use Rattle.record_writing.specs.Asked.{Admitting, RangesAsked, Ban
 ghost use Rattle.record_writing.specs.Evaluates.{Evaluating, Evaluates};
 use paper::Admission;
 use paper::Day;
+use paper::Figures;
 use paper::Limits;
 use paper::Moves;
 use paper::Near;
@@ -27,7 +28,6 @@ use paper::Standing;
 use paper::Statics;
 use paper::Tentative;
 use paper::Term;
-use rates::Figures;
 
 // ---- an admission
 
@@ -52,18 +52,18 @@ pub fn admitted(a: Admission, p1: Price, p2: Price) -> Record
             age: 0,
         },
         rates,
-        ranges: [Limits { lower: 0, upper: 0 }; 3],
+        ranges: [Limits { lower: 0, upper: 0 }; Record::LEVELS],
         terms: [Term {
             k: 0,
             low: 0,
             high: 0,
-        }; 3],
-        bands: [Limits { lower: 0, upper: 0 }; 3],
+        }; Record::TERMS],
+        bands: [Limits { lower: 0, upper: 0 }; Record::TERMS],
         moves: Moves { upper: 0, lower: 0 },
         near: [NearSeconds {
             top: Near::Not,
             bottom: Near::Not,
-        }; 3],
+        }; Record::TERMS],
         second: 0,
     }
 }
@@ -108,7 +108,7 @@ pub fn quoted(r: Record, q: Quote, n: NearSeconds) -> Record
 
 // ---- three limits
 
-fn ranges_of(st: Statics, p: Price, rates: [Rate; 3]) -> [Limits; 3]
+fn ranges_of(st: Statics, p: Price, rates: [Rate; Record::LEVELS]) -> [Limits; Record::LEVELS]
     requires { ⌜ RangesAsked p rates ⌝ }
     ensures { λ r. ⌜ r ≡ three (λ i. rangeOf st (p .units) (getD rates i noRate .bp)) ⌝ }
 {
@@ -119,7 +119,13 @@ fn ranges_of(st: Statics, p: Price, rates: [Rate; 3]) -> [Limits; 3]
     ]
 }
 
-fn bands_of(st: Statics, p: Price, s1: Rate, c: Moves, terms: [Term; 3]) -> [Limits; 3]
+fn bands_of(
+    st: Statics,
+    p: Price,
+    s1: Rate,
+    c: Moves,
+    terms: [Term; Record::TERMS],
+) -> [Limits; Record::TERMS]
     requires { ⌜ validStatics st ≡ true ⌝ }
     requires { ⌜ BandsAsked p s1 c terms ⌝ }
     ensures { λ r. ⌜ r ≡ three (λ k. bandOf st (p .units) (s1 .bp) c (termAt terms k)) ⌝ }
@@ -162,14 +168,18 @@ pub fn evaluated(r: Record, d: Day, p: Price, f: Figures) -> Record
         near: [NearSeconds {
             top: Near::Not,
             bottom: Near::Not,
-        }; 3],
+        }; Record::TERMS],
         second: 0,
     }
 }
 
 // ---- a move
 
-fn ranges_moved(side: Side, delta: u64, ranges: [Limits; 3]) -> [Limits; 3]
+fn ranges_moved(
+    side: Side,
+    delta: u64,
+    ranges: [Limits; Record::LEVELS],
+) -> [Limits; Record::LEVELS]
     requires { ⌜ ShiftsAsked delta ranges ⌝ }
     ensures { λ r. ⌜ r ≡ three (λ i. rangeMoved side delta (getD ranges i noLimits)) ⌝ }
 {
@@ -180,7 +190,11 @@ fn ranges_moved(side: Side, delta: u64, ranges: [Limits; 3]) -> [Limits; 3]
     ]
 }
 
-fn bands_moved(side: Side, fresh: [Limits; 3], bands: [Limits; 3]) -> [Limits; 3]
+fn bands_moved(
+    side: Side,
+    fresh: [Limits; Record::TERMS],
+    bands: [Limits; Record::TERMS],
+) -> [Limits; Record::TERMS]
     ensures { λ r. ⌜ r ≡ three (λ k. bandMoved side (getD fresh k noLimits) (getD bands k noLimits)) ⌝ }
 {
     [
@@ -190,7 +204,7 @@ fn bands_moved(side: Side, fresh: [Limits; 3], bands: [Limits; 3]) -> [Limits; 3
     ]
 }
 
-fn near_cleared(side: Side, near: [NearSeconds; 3]) -> [NearSeconds; 3]
+fn near_cleared(side: Side, near: [NearSeconds; Record::TERMS]) -> [NearSeconds; Record::TERMS]
     ensures { λ r. ⌜ r ≡ three (λ k. nearCleared side (getD near k notNear)) ⌝ }
 {
     let first = near[0];

@@ -60,7 +60,7 @@ fn day_of(y: &[i64; 6], later: u64) -> Day {
         day: std::num::wrapping_add_u64(unsigned(y[0]), later),
         b: unsigned(y[1]),
         m: unsigned(y[2]),
-        terms: [term; 3],
+        terms: [term; Record::TERMS],
     }
 }
 

@@ -9,12 +9,8 @@ use lib.ListN.{length}
 use lib.Seq.{sets}
 use Rattle.text_protocol.specs.Bytes.{lineFeed}
 use Rattle.text_protocol.specs.Numbers.{decimal}
-use Rattle.text_protocol.specs.Answers.{next, spaced, answerText}
+use Rattle.text_protocol.specs.Answers.{next, spaced, answerText, answerMost}
 use Rattle.text_out.specs.Wrote.{Wrote, then, wider}
-
--- no answer is longer
-abbrev pub answerMost : ℕ
-answerMost = 1200
 
 -- b' is b with the numbers zs at n, and n' is where they end, at most m bytes further
 pub record Told (b : List ℕ) (n : ℕ) (b' : List ℕ) (n' : ℕ) (zs : List ℤ) (m : ℕ) : Type 0 where

@@ -6,13 +6,15 @@ ghost use Prim.Native.Nat.{_+_, _*_, _≤_};
 ghost use lib.IntN.{pos, negsuc};
 ghost use lib.ListN.{getD};
 ghost use Rattle.paper.specs.Verdicts.{numberOf};
-ghost use Rattle.text_protocol.specs.Answers.{next, answerText, badText, flag, standingNumbers, nearNumber, figureNumbers, ratesNumbers, rangesNumbers, termNumbers, lastNumbers, recordNumbers, maturityNumbers, maturitiesNumbers, interestNumbers, interestText};
+ghost use Rattle.text_protocol.specs.Answers.{next, answerText, badText, flag, standingNumbers, nearNumber, figureNumbers, ratesNumbers, rangesNumbers, termNumbers, lastNumbers, recordNumbers, maturityNumbers, maturitiesNumbers, interestNumbers, interestText, answerMost};
 ghost use Rattle.text_out.specs.Wrote.{Wrote};
 ghost use Rattle.text_answer.specs.Told.{Told};
 ghost use Rattle.text_answer.specs.Kinds.{textOfKind};
+ghost use Rattle.text_protocol.specs.Bytes.{room};
 use paper::Answer;
 use paper::InterestAnswer;
 use paper::Limits;
+use paper::Maturity;
 use paper::MaturityFigures;
 use paper::Near;
 use paper::NearSeconds;
@@ -23,17 +25,14 @@ use paper::Term;
 use text_out::put_byte;
 use text_out::put_number;
 use text_out::put_signed;
-
-// The numbers of the calls whose answers are not the record (text_protocol/specs/Names.antt).
-const ADMIT: u64 = 1;
-
-const QUOTE: u64 = 3;
+use text_protocol::Kind;
+use text_protocol::ROOM;
 
 // ---- numbers
 
 // A blank, and a number.
-fn put_next(out: &mut [u8; 65536], len: usize, x: u64) -> usize
-    requires { ⌜ len + 21 ≤ 65536 ⌝ }
+fn put_next(out: &mut [u8; ROOM], len: usize, x: u64) -> usize
+    requires { ⌜ len + 21 ≤ room ⌝ }
     ensures { λ r. ⌜ Told (now (out .entry)) len (now (out .exit)) r (pos x ∷ []) 21 ⌝ }
 {
     let n = put_byte(out, len, b' ');
@@ -41,16 +40,16 @@ fn put_next(out: &mut [u8; 65536], len: usize, x: u64) -> usize
 }
 
 // A blank, and a signed number.
-fn put_next_signed(out: &mut [u8; 65536], len: usize, x: i64) -> usize
-    requires { ⌜ len + 22 ≤ 65536 ⌝ }
+fn put_next_signed(out: &mut [u8; ROOM], len: usize, x: i64) -> usize
+    requires { ⌜ len + 22 ≤ room ⌝ }
     ensures { λ r. ⌜ Told (now (out .entry)) len (now (out .exit)) r (x ∷ []) 22 ⌝ }
 {
     let n = put_byte(out, len, b' ');
     put_signed(out, n, x)
 }
 
-fn put_flag(out: &mut [u8; 65536], len: usize, yes: bool) -> usize
-    requires { ⌜ len + 21 ≤ 65536 ⌝ }
+fn put_flag(out: &mut [u8; ROOM], len: usize, yes: bool) -> usize
+    requires { ⌜ len + 21 ≤ room ⌝ }
     ensures { λ r. ⌜ Told (now (out .entry)) len (now (out .exit)) r (flag yes ∷ []) 21 ⌝ }
 {
     if yes {
@@ -60,8 +59,8 @@ fn put_flag(out: &mut [u8; 65536], len: usize, yes: bool) -> usize
 }
 
 // "near: the second, or -1"
-fn put_near(out: &mut [u8; 65536], len: usize, near: Near) -> usize
-    requires { ⌜ len + 22 ≤ 65536 ⌝ }
+fn put_near(out: &mut [u8; ROOM], len: usize, near: Near) -> usize
+    requires { ⌜ len + 22 ≤ room ⌝ }
     ensures { λ r. ⌜ Told (now (out .entry)) len (now (out .exit)) r (nearNumber near ∷ []) 22 ⌝ }
 {
     match near {
@@ -73,8 +72,8 @@ fn put_near(out: &mut [u8; 65536], len: usize, near: Near) -> usize
 // ---- a record
 
 // LIVE DAY
-fn put_standing(out: &mut [u8; 65536], len: usize, standing: Standing) -> usize
-    requires { ⌜ len + 42 ≤ 65536 ⌝ }
+fn put_standing(out: &mut [u8; ROOM], len: usize, standing: Standing) -> usize
+    requires { ⌜ len + 42 ≤ room ⌝ }
     ensures { λ r. ⌜ Told (now (out .entry)) len (now (out .exit)) r (standingNumbers standing) 42 ⌝ }
 {
     match standing {
@@ -90,8 +89,8 @@ fn put_standing(out: &mut [u8; 65536], len: usize, standing: Standing) -> usize
 }
 
 // ID LIVE DAY P1 P2 S TENTATIVE AGE
-fn put_figures(out: &mut [u8; 65536], len: usize, r: Record) -> usize
-    requires { ⌜ len + 168 ≤ 65536 ⌝ }
+fn put_figures(out: &mut [u8; ROOM], len: usize, r: Record) -> usize
+    requires { ⌜ len + 168 ≤ room ⌝ }
     ensures { λ n. ⌜ Told (now (out .entry)) len (now (out .exit)) n (figureNumbers r) 168 ⌝ }
 {
     let standing = r.standing;
@@ -105,8 +104,8 @@ fn put_figures(out: &mut [u8; 65536], len: usize, r: Record) -> usize
 }
 
 // S1 S2 S3
-fn put_rates(out: &mut [u8; 65536], len: usize, rates: [Rate; 3]) -> usize
-    requires { ⌜ len + 63 ≤ 65536 ⌝ }
+fn put_rates(out: &mut [u8; ROOM], len: usize, rates: [Rate; Record::LEVELS]) -> usize
+    requires { ⌜ len + 63 ≤ room ⌝ }
     ensures { λ r. ⌜ Told (now (out .entry)) len (now (out .exit)) r (ratesNumbers rates) 63 ⌝ }
 {
     let n = put_next(out, len, rates[0].bp);
@@ -115,8 +114,8 @@ fn put_rates(out: &mut [u8; 65536], len: usize, rates: [Rate; 3]) -> usize
 }
 
 // UPPER1 UPPER2 UPPER3 LOWER1 LOWER2 LOWER3
-fn put_ranges(out: &mut [u8; 65536], len: usize, ranges: [Limits; 3]) -> usize
-    requires { ⌜ len + 126 ≤ 65536 ⌝ }
+fn put_ranges(out: &mut [u8; ROOM], len: usize, ranges: [Limits; Record::LEVELS]) -> usize
+    requires { ⌜ len + 126 ≤ room ⌝ }
     ensures { λ r. ⌜ Told (now (out .entry)) len (now (out .exit)) r (rangesNumbers ranges) 126 ⌝ }
 {
     let n = put_next(out, len, ranges[0].upper);
@@ -128,8 +127,8 @@ fn put_ranges(out: &mut [u8; 65536], len: usize, ranges: [Limits; 3]) -> usize
 }
 
 // K RRCL RRCH BANDLOWER BANDUPPER NEARTOP NEARBOTTOM
-fn put_term(out: &mut [u8; 65536], len: usize, term: Term, band: Limits, near: NearSeconds) -> usize
-    requires { ⌜ len + 151 ≤ 65536 ⌝ }
+fn put_term(out: &mut [u8; ROOM], len: usize, term: Term, band: Limits, near: NearSeconds) -> usize
+    requires { ⌜ len + 151 ≤ room ⌝ }
     ensures { λ r. ⌜ Told (now (out .entry)) len (now (out .exit)) r (termNumbers term band near) 151 ⌝ }
 {
     let top = near.top;
@@ -144,8 +143,8 @@ fn put_term(out: &mut [u8; 65536], len: usize, term: Term, band: Limits, near: N
 }
 
 // MOVESUPPER MOVESLOWER LASTSECOND
-fn put_last(out: &mut [u8; 65536], len: usize, r: Record) -> usize
-    requires { ⌜ len + 63 ≤ 65536 ⌝ }
+fn put_last(out: &mut [u8; ROOM], len: usize, r: Record) -> usize
+    requires { ⌜ len + 63 ≤ room ⌝ }
     ensures { λ n. ⌜ Told (now (out .entry)) len (now (out .exit)) n (lastNumbers r) 63 ⌝ }
 {
     let n = put_next(out, len, r.moves.upper);
@@ -153,8 +152,8 @@ fn put_last(out: &mut [u8; 65536], len: usize, r: Record) -> usize
     put_next(out, n, r.second)
 }
 
-fn put_record(out: &mut [u8; 65536], len: usize, r: Record) -> usize
-    requires { ⌜ len + 873 ≤ 65536 ⌝ }
+fn put_record(out: &mut [u8; ROOM], len: usize, r: Record) -> usize
+    requires { ⌜ len + 873 ≤ room ⌝ }
     ensures { λ n. ⌜ Told (now (out .entry)) len (now (out .exit)) n (recordNumbers r) 873 ⌝ }
 {
     let rates = r.rates;
@@ -174,8 +173,8 @@ fn put_record(out: &mut [u8; 65536], len: usize, r: Record) -> usize
 // ---- an interest line's answer
 
 // CHANGE VOLATILITY TENTATIVE AGE UP DOWN
-fn put_maturity(out: &mut [u8; 65536], len: usize, f: MaturityFigures) -> usize
-    requires { ⌜ len + 126 ≤ 65536 ⌝ }
+fn put_maturity(out: &mut [u8; ROOM], len: usize, f: MaturityFigures) -> usize
+    requires { ⌜ len + 126 ≤ room ⌝ }
     ensures { λ r. ⌜ Told (now (out .entry)) len (now (out .exit)) r (maturityNumbers f) 126 ⌝ }
 {
     let n = put_next(out, len, f.change);
@@ -188,12 +187,12 @@ fn put_maturity(out: &mut [u8; 65536], len: usize, f: MaturityFigures) -> usize
 
 // Of each of the first `count` key maturities.
 fn put_maturities(
-    out: &mut [u8; 65536],
+    out: &mut [u8; ROOM],
     len: usize,
-    figures: [MaturityFigures; 8],
+    figures: [MaturityFigures; Maturity::COUNT_MOST],
     count: u64,
 ) -> usize
-    requires { ⌜ len + 1008 ≤ 65536 ⌝ }
+    requires { ⌜ len + 1008 ≤ room ⌝ }
     ensures { λ r. ⌜ Told (now (out .entry)) len (now (out .exit)) r (maturitiesNumbers count figures) 1008 ⌝ }
 {
     let mut n = len;
@@ -212,19 +211,19 @@ fn put_maturities(
 // ---- the answers
 
 // A refusal's number, or an admission's 0, stands alone.
-pub fn say_number(out: &mut [u8; 65536], len: usize, no: u64) -> usize
-    requires { ⌜ len + 1200 ≤ 65536 ⌝ }
-    ensures { λ r. ⌜ Wrote (now (out .entry)) len (now (out .exit)) r (answerText no []) 1200 ⌝ }
+pub fn say_number(out: &mut [u8; ROOM], len: usize, no: u64) -> usize
+    requires { ⌜ len + answerMost ≤ room ⌝ }
+    ensures { λ r. ⌜ Wrote (now (out .entry)) len (now (out .exit)) r (answerText no []) answerMost ⌝ }
 {
     let n = put_number(out, len, no);
     put_byte(out, n, b'\n')
 }
 
 // A quote's two alerts.
-pub fn say_alerts(out: &mut [u8; 65536], len: usize, top: bool, bottom: bool) -> usize
-    requires { ⌜ len + 1200 ≤ 65536 ⌝ }
+pub fn say_alerts(out: &mut [u8; ROOM], len: usize, top: bool, bottom: bool) -> usize
+    requires { ⌜ len + answerMost ≤ room ⌝ }
     ensures { λ r. ⌜ Wrote (now (out .entry)) len (now (out .exit)) r (answerText 0 (flag top ∷ flag bottom ∷ []))
-        1200 ⌝ }
+        answerMost ⌝ }
 {
     let n = put_number(out, len, 0);
     let n = put_flag(out, n, top);
@@ -232,9 +231,9 @@ pub fn say_alerts(out: &mut [u8; 65536], len: usize, top: bool, bottom: bool) ->
     put_byte(out, n, b'\n')
 }
 
-pub fn say_record(out: &mut [u8; 65536], len: usize, r: Record) -> usize
-    requires { ⌜ len + 1200 ≤ 65536 ⌝ }
-    ensures { λ n. ⌜ Wrote (now (out .entry)) len (now (out .exit)) n (answerText 0 (recordNumbers r)) 1200 ⌝ }
+pub fn say_record(out: &mut [u8; ROOM], len: usize, r: Record) -> usize
+    requires { ⌜ len + answerMost ≤ room ⌝ }
+    ensures { λ n. ⌜ Wrote (now (out .entry)) len (now (out .exit)) n (answerText 0 (recordNumbers r)) answerMost ⌝ }
 {
     let n = put_number(out, len, 0);
     let n = put_record(out, n, r);
@@ -242,9 +241,9 @@ pub fn say_record(out: &mut [u8; 65536], len: usize, r: Record) -> usize
 }
 
 // LOWER UPPER, and the figures of each key maturity.
-fn say_worked(out: &mut [u8; 65536], len: usize, a: InterestAnswer) -> usize
-    requires { ⌜ len + 1200 ≤ 65536 ⌝ }
-    ensures { λ r. ⌜ Wrote (now (out .entry)) len (now (out .exit)) r (answerText 0 (interestNumbers a)) 1200 ⌝ }
+fn say_worked(out: &mut [u8; ROOM], len: usize, a: InterestAnswer) -> usize
+    requires { ⌜ len + answerMost ≤ room ⌝ }
+    ensures { λ r. ⌜ Wrote (now (out .entry)) len (now (out .exit)) r (answerText 0 (interestNumbers a)) answerMost ⌝ }
 {
     let figures = a.figures;
     let pair = a.pair;
@@ -255,9 +254,9 @@ fn say_worked(out: &mut [u8; 65536], len: usize, a: InterestAnswer) -> usize
     put_byte(out, n, b'\n')
 }
 
-pub fn say_interest(out: &mut [u8; 65536], len: usize, a: InterestAnswer) -> usize
-    requires { ⌜ len + 1200 ≤ 65536 ⌝ }
-    ensures { λ r. ⌜ Wrote (now (out .entry)) len (now (out .exit)) r (interestText a) 1200 ⌝ }
+pub fn say_interest(out: &mut [u8; ROOM], len: usize, a: InterestAnswer) -> usize
+    requires { ⌜ len + answerMost ≤ room ⌝ }
+    ensures { λ r. ⌜ Wrote (now (out .entry)) len (now (out .exit)) r (interestText a) answerMost ⌝ }
 {
     let pair = a.pair;
     let verdict = pair.verdict;
@@ -269,19 +268,19 @@ pub fn say_interest(out: &mut [u8; 65536], len: usize, a: InterestAnswer) -> usi
 }
 
 // What a call of a kind answers.
-pub fn say_answer(out: &mut [u8; 65536], len: usize, kind: u64, a: Answer) -> usize
-    requires { ⌜ len + 1200 ≤ 65536 ⌝ }
-    ensures { λ r. ⌜ Wrote (now (out .entry)) len (now (out .exit)) r (textOfKind kind a) 1200 ⌝ }
+pub fn say_answer(out: &mut [u8; ROOM], len: usize, kind: u64, a: Answer) -> usize
+    requires { ⌜ len + answerMost ≤ room ⌝ }
+    ensures { λ r. ⌜ Wrote (now (out .entry)) len (now (out .exit)) r (textOfKind kind a) answerMost ⌝ }
 {
     let verdict = a.verdict;
     let no = verdict.number();
     if no != 0 {
         return say_number(out, len, no);
     }
-    if kind == ADMIT {
+    if kind == Kind::ADMIT {
         return say_number(out, len, 0);
     }
-    if kind == QUOTE {
+    if kind == Kind::QUOTE {
         return say_alerts(out, len, a.top, a.bottom);
     }
     let r = a.rec;
@@ -289,9 +288,9 @@ pub fn say_answer(out: &mut [u8; 65536], len: usize, kind: u64, a: Answer) -> us
 }
 
 // "bad" and the line's number: the answer to a line that is no call.
-pub fn say_bad(out: &mut [u8; 65536], len: usize, number: u64) -> usize
-    requires { ⌜ len + 1200 ≤ 65536 ⌝ }
-    ensures { λ r. ⌜ Wrote (now (out .entry)) len (now (out .exit)) r (badText number) 1200 ⌝ }
+pub fn say_bad(out: &mut [u8; ROOM], len: usize, number: u64) -> usize
+    requires { ⌜ len + answerMost ≤ room ⌝ }
+    ensures { λ r. ⌜ Wrote (now (out .entry)) len (now (out .exit)) r (badText number) answerMost ⌝ }
 {
     let n = put_byte(out, len, b'b');
     let n = put_byte(out, n, b'a');

@@ -14,7 +14,7 @@ use Rattle.paper.specs.Desk.{Call, admit, evaluate, quote, move, read}
 use Rattle.text_protocol.specs.declared.Kept.{Kept}
 use Rattle.text_protocol.specs.declared.Pairs.{Pairs}
 use Rattle.text_protocol.specs.Names.{ID, SIDE, evaluateNames, quoteNames, moveNames, readNames, admitKind, evaluateKind, quoteKind, moveKind, readKind}
-use Rattle.text_protocol.specs.Calls.{naturalOf, admissionOf, quoteOf, askedOf, figuresOf}
+use Rattle.text_protocol.specs.Calls.{unsignedOf, admissionOf, quoteOf, askedOf, figuresOf}
 use Rattle.text_call.specs.declared.Request.{Request}
 
 abbrev pub requestCall : Request → List ℤ → Call
@@ -44,8 +44,8 @@ noQuote = record { second = 0; term = 0; bid = 0; ask = 0 }
 unfoldable pub lineCall : Kept → (kind : ℕ) → List ℤ → Pairs → Call
 lineCall k kind zs p =
     pick (eqb kind admitKind) (admit (admissionOf zs))
-    (pick (eqb kind evaluateKind) (evaluate (naturalOf evaluateNames zs ID) (dayOf (askedOf k zs p)) (figuresOf
+    (pick (eqb kind evaluateKind) (evaluate (unsignedOf evaluateNames zs ID) (dayOf (askedOf k zs p)) (figuresOf
     evaluateNames zs))
-    (pick (eqb kind quoteKind) (quote (naturalOf quoteNames zs ID) (quoteOf zs))
-    (pick (eqb kind moveKind) (move (naturalOf moveNames zs ID) (naturalOf moveNames zs SIDE))
-    (pick (eqb kind readKind) (read (naturalOf readNames zs ID)) (read 0)))))
+    (pick (eqb kind quoteKind) (quote (unsignedOf quoteNames zs ID) (quoteOf zs))
+    (pick (eqb kind moveKind) (move (unsignedOf moveNames zs ID) (unsignedOf moveNames zs SIDE))
+    (pick (eqb kind readKind) (read (unsignedOf readNames zs ID)) (read 0)))))

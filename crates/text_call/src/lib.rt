@@ -19,18 +19,8 @@ use paper::RepoBand;
 use paper::RepoLimits;
 use text_kept::found;
 use text_protocol::Kept;
+use text_protocol::Kind;
 use text_protocol::Pairs;
-
-// The numbers of the desk's calls (text_protocol/specs/Names.antt).
-const ADMIT: u64 = 1;
-
-const EVALUATE: u64 = 2;
-
-const QUOTE: u64 = 3;
-
-const MOVE: u64 = 4;
-
-const READ: u64 = 5;
 
 // What a call of the desk is given, whichever of the calls it is: `kind` says which of the fields count. A line that
 // is no call of the desk is a read of id 0,
@@ -298,7 +288,7 @@ fn of_id(kind: u64, id: u64, quote: Quote, side: u64) -> Request
 pub fn request_of(zs: &[i64], kind: u64, p: Pairs, k: Kept) -> Request
     ensures { λ r. ⌜ requestCall r (drop 13 (now (zs .entry))) ≡ lineCall k kind (now (zs .entry)) p ⌝ }
 {
-    if kind == ADMIT {
+    if kind == Kind::ADMIT {
         return Request {
             kind,
             id: 0,
@@ -308,7 +298,7 @@ pub fn request_of(zs: &[i64], kind: u64, p: Pairs, k: Kept) -> Request
             side: 0,
         };
     }
-    if kind == EVALUATE {
+    if kind == Kind::EVALUATE {
         return Request {
             kind,
             id: unsigned_at(zs, 0),
@@ -318,14 +308,14 @@ pub fn request_of(zs: &[i64], kind: u64, p: Pairs, k: Kept) -> Request
             side: 0,
         };
     }
-    if kind == QUOTE {
+    if kind == Kind::QUOTE {
         return of_id(kind, unsigned_at(zs, 0), quote_of(zs), 0);
     }
-    if kind == MOVE {
+    if kind == Kind::MOVE {
         return of_id(kind, unsigned_at(zs, 0), no_quote(), unsigned_at(zs, 1));
     }
-    if kind == READ {
+    if kind == Kind::READ {
         return of_id(kind, unsigned_at(zs, 0), no_quote(), 0);
     }
-    of_id(READ, 0, no_quote(), 0)
+    of_id(Kind::READ, 0, no_quote(), 0)
 }

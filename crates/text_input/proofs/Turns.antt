@@ -8,11 +8,11 @@ use native.Mathlib.Omega.{arith}
 use lib.ListN.{length, take, drop, getD, set, length-set, length-append, length-take, length-drop}
 use lib.Seq.{take-suc-set, take-suc, getD-set-other, getD-drop, take-add, drop-drop, take-nil, take-take, length-take-le, take-append-le}
 use Rattle.paper.specs.Lists.{pick}
-use Rattle.text_protocol.specs.Bytes.{lineFeed, isNot, run}
+use Rattle.text_protocol.specs.Bytes.{lineFeed, isNot, run, room}
 use Rattle.text_input.specs.declared.Input.{Input}
 use Rattle.text_input.specs.declared.Waited.{Waited}
 use Rattle.text_input.specs.declared.Passed.{Passed}
-use Rattle.text_input.specs.Input.{room, lineLength, Unbroken, unread, Stands, Waits, Passes, Readied}
+use Rattle.text_input.specs.Input.{lineLength, Unbroken, unread, Stands, Waits, Passes, Readied}
 
 -- the loop of `shift`: the first i bytes are moved, and those from i on are as they were
 pub record Shifted (b₀ : List ℕ) (from n : ℕ) (b : List ℕ) (i : ℕ) : Type 0 where

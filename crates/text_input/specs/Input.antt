@@ -6,17 +6,13 @@ use mathlib.Core.List.{List, [], _∷_, _++_}
 use Prim.Native.Nat.{ℕ, _+_, _-_, _≤_, _<_}
 use lib.IntN.{ℤ}
 use lib.ListN.{length, take, drop}
-use Rattle.text_protocol.specs.Bytes.{lineFeed, isNot, run}
+use Rattle.text_protocol.specs.Bytes.{room, lineFeed, isNot, run}
 use Rattle.text_protocol.specs.Line.{meaning}
 use Rattle.text_line.specs.Heard.{Heard as Said}
 use Rattle.text_input.specs.declared.Input.{Input}
 use Rattle.text_input.specs.declared.Waited.{Waited}
 use Rattle.text_input.specs.declared.Passed.{Passed}
 use Rattle.text_input.specs.declared.Heard.{Heard}
-
--- the bytes that the buffer holds
-abbrev pub room : ℕ
-room = 65536
 
 -- how many bytes stand before the first line feed, or all
 unfoldable pub lineLength : List ℕ → ℕ

@@ -4,6 +4,8 @@ ghost use mathlib.Core.List.{List};
 ghost use Prim.Native.Nat.{ℕ, _+_, _-_, _≤_};
 ghost use lib.ListN.{length, take, drop};
 ghost use Rattle.text_input.specs.Input.{Stands, Waits, Unbroken, Passes, Readied, LongPassed, Hears};
+ghost use Rattle.text_protocol.specs.Bytes.{room};
+ghost use Rattle.text_protocol.specs.Line.{keptMost};
 use libc::STDIN_FILENO;
 use text_line::LONGEST;
 use text_line::Line;
@@ -80,7 +82,7 @@ fn fill(buf: &mut [u8], have: usize) -> Got
 // Reads until a line feed stands behind the first `have` bytes, which have none, or the buffer is full, or the input
 // has ended.
 fn wait(buf: &mut [u8], have: usize) -> Waited
-    requires { ⌜ (length (now buf) ≡ 65536) × (have ≤ 65536) × Unbroken (take have (now buf)) ⌝ }
+    requires { ⌜ (length (now buf) ≡ room) × (have ≤ room) × Unbroken (take have (now buf)) ⌝ }
     ensures { λ r. ⌜ Waits (now (buf .entry)) have (now (buf .exit)) r ⌝ }
 {
     let mut len = have;
@@ -106,7 +108,7 @@ fn wait(buf: &mut [u8], have: usize) -> Waited
 // Passes over the rest of a line that is longer than the buffer. Nothing says that it ends, so the reads are counted
 // down from a number that no run uses up.
 fn pass_over(buf: &mut [u8]) -> Passed
-    requires { ⌜ length (now buf) ≡ 65536 ⌝ }
+    requires { ⌜ length (now buf) ≡ room ⌝ }
     ensures { λ r. ⌜ Passes (now (buf .exit)) r ⌝ }
 {
     let mut turns = u64::MAX;
@@ -173,7 +175,7 @@ fn one_less(n: u64) -> u64
 
 // The input from `at` on, with a line fewer to hear.
 fn from_place(buf: &[u8], at: usize, len: usize, left: u64, ok: bool) -> Input
-    requires { ⌜ (at ≤ len) × (len ≤ 65536) × (length (now buf) ≡ 65536) ⌝ }
+    requires { ⌜ (at ≤ len) × (len ≤ room) × (length (now buf) ≡ room) ⌝ }
     ensures { λ r. ⌜ (r .at ≡ at) × (r .len ≡ len) × (r .left ≡ left - 1) × Stands (now (buf .entry)) r ⌝ }
 {
     let end = find(&buf[..len], at, b'\n');
@@ -207,7 +209,7 @@ pub struct Heard {
 
 // The input behind a line that is longer than the buffer.
 fn behind_long(buf: &mut [u8], left: u64) -> Input
-    requires { ⌜ length (now buf) ≡ 65536 ⌝ }
+    requires { ⌜ length (now buf) ≡ room ⌝ }
     ensures { λ r. ⌜ LongPassed (now (buf .exit)) left r ⌝ }
 {
     let p = pass_over(buf);
@@ -220,7 +222,7 @@ fn behind_long(buf: &mut [u8], left: u64) -> Input
 
 // The next line. Where no line is whole, the input is waited for.
 pub fn hear(buf: &mut [u8], xs: &mut [i64], s: Input) -> Heard
-    requires { ⌜ (Stands (now buf) s) × (length (now xs) ≡ 126) ⌝ }
+    requires { ⌜ (Stands (now buf) s) × (length (now xs) ≡ keptMost) ⌝ }
     ensures { λ r. ⌜ Hears (now (buf .entry)) s (now (buf .exit)) r (now (xs .exit)) ⌝ }
 {
     let i = ready(buf, s);

@@ -14,7 +14,7 @@ pub fn kept_after(k: Kept, i: Interest, a: InterestAnswer) -> Kept
 {
     let worked = a.pair;
     let verdict = worked.verdict;
-    if verdict.number() == 0 {
+    if verdict.is_done() {
         let middle = k.newest;
         let oldest = k.middle;
         return Kept {

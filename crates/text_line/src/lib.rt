@@ -6,18 +6,16 @@ ghost use Prim.Native.Nat.{_≤_};
 ghost use lib.ListN.{length, take, drop};
 ghost use Rattle.text_protocol.specs.Bytes.{words};
 ghost use Rattle.text_protocol.specs.Names.{kindOf, takes};
-ghost use Rattle.text_protocol.specs.Line.{noPairs, pairFits, withPair, taking, fill, meaning};
+ghost use Rattle.text_protocol.specs.Line.{noPairs, pairFits, withPair, taking, fill, meaning, keptMost};
 ghost use Rattle.text_line.specs.Heard.{blankLine, badLine, Heard, lineOf, Keeps, Takes};
 use text_protocol::Item;
+use text_protocol::KEPT;
+use text_protocol::Kind;
 use text_protocol::Pairs;
 use text_word::item_of;
 use text_word::past_blanks;
 use text_word::past_word;
 use text_word::same_bytes;
-
-// The numbers that a line keeps: the thirteen of `evaluate` and its row figures, with one figure more than a day may
-// have.
-pub const KEPT: usize = 126;
 
 // A line of more bytes is no call.
 pub const LONGEST: usize = 65_535;
@@ -36,25 +34,6 @@ pub struct Line {
     pub pairs: Pairs,
 }
 
-impl Line {
-    pub const ADMIT: u64 = 1;
-
-    pub const EVALUATE: u64 = 2;
-
-    pub const QUOTE: u64 = 3;
-
-    pub const MOVE: u64 = 4;
-
-    pub const READ: u64 = 5;
-
-    pub const INTEREST: u64 = 6;
-
-    // No call: a line with no word, and one that says no call.
-    pub const BLANK: u64 = 7;
-
-    pub const BAD: u64 = 8;
-}
-
 // ---- the kinds of lines
 
 fn no_pairs() -> Pairs
@@ -71,7 +50,7 @@ fn blank() -> Line
     ensures { λ r. ⌜ r ≡ blankLine ⌝ }
 {
     Line {
-        kind: Line::BLANK,
+        kind: Kind::BLANK,
         count: 0,
         pairs: no_pairs(),
     }
@@ -81,7 +60,7 @@ pub fn bad() -> Line
     ensures { λ r. ⌜ r ≡ badLine ⌝ }
 {
     Line {
-        kind: Line::BAD,
+        kind: Kind::BAD,
         count: 0,
         pairs: no_pairs(),
     }
@@ -92,22 +71,22 @@ fn kind_of(p: &[u8]) -> u64
     ensures { λ r. ⌜ r ≡ kindOf (now (p .entry)) ⌝ }
 {
     if same_bytes(p, b"admit") {
-        return Line::ADMIT;
+        return Kind::ADMIT;
     }
     if same_bytes(p, b"evaluate") {
-        return Line::EVALUATE;
+        return Kind::EVALUATE;
     }
     if same_bytes(p, b"quote") {
-        return Line::QUOTE;
+        return Kind::QUOTE;
     }
     if same_bytes(p, b"move") {
-        return Line::MOVE;
+        return Kind::MOVE;
     }
     if same_bytes(p, b"read") {
-        return Line::READ;
+        return Kind::READ;
     }
     if same_bytes(p, b"interest") {
-        return Line::INTEREST;
+        return Kind::INTEREST;
     }
     0
 }
@@ -118,12 +97,12 @@ fn takes(kind: u64, count: usize) -> bool
     ensures { λ r. ⌜ r ≡ takes kind count ⌝ }
 {
     match kind {
-        Line::ADMIT => count == 28,
-        Line::EVALUATE => 13 <= count,
-        Line::QUOTE => count == 5,
-        Line::MOVE => count == 2,
-        Line::READ => count == 1,
-        Line::INTEREST => 14 <= count,
+        Kind::ADMIT => count == 28,
+        Kind::EVALUATE => 13 <= count,
+        Kind::QUOTE => count == 5,
+        Kind::MOVE => count == 2,
+        Kind::READ => count == 1,
+        Kind::INTEREST => 14 <= count,
         _ => false,
     }
 }
@@ -143,7 +122,7 @@ fn finish(kind: u64, count: usize, pairs: Pairs) -> Line
 fn pair_fits(kind: u64, n: usize) -> bool
     ensures { λ r. ⌜ r ≡ pairFits kind n ⌝ }
 {
-    if kind != Line::EVALUATE {
+    if kind != Kind::EVALUATE {
         return false;
     }
     if n == FIRST_LOW {
@@ -167,7 +146,7 @@ fn with_pair(n: usize, p: Pairs) -> Pairs
 
 // A number more, kept where there is room for it.
 fn keep(xs: &mut [i64], n: usize, z: i64) -> usize
-    requires { ⌜ (length (now xs) ≡ 126) × (n ≤ 126) ⌝ }
+    requires { ⌜ (length (now xs) ≡ keptMost) × (n ≤ keptMost) ⌝ }
     ensures { λ r. ⌜ Keeps (now (xs .entry)) n z (now (xs .exit)) r ⌝ }
 {
     if n < KEPT {
@@ -196,7 +175,7 @@ fn spoilt(count: usize, pairs: Pairs) -> Taken
 
 // A word more.
 fn take_word(xs: &mut [i64], kind: u64, n: usize, pairs: Pairs, w: Item) -> Taken
-    requires { ⌜ (length (now xs) ≡ 126) × (n ≤ 126) ⌝ }
+    requires { ⌜ (length (now xs) ≡ keptMost) × (n ≤ keptMost) ⌝ }
     ensures { λ r. ⌜ Takes (taking kind (take n (now (xs .entry))) pairs w) r (now (xs .exit)) ⌝ }
 {
     match w {
@@ -223,7 +202,7 @@ fn take_word(xs: &mut [i64], kind: u64, n: usize, pairs: Pairs, w: Item) -> Take
 
 // The words from `from` on, behind the call's.
 fn numbers(l: &[u8], from: usize, kind: u64, xs: &mut [i64]) -> Line
-    requires { ⌜ (from ≤ length (now l)) × (length (now xs) ≡ 126) ⌝ }
+    requires { ⌜ (from ≤ length (now l)) × (length (now xs) ≡ keptMost) ⌝ }
     ensures { λ r. ⌜ Heard (fill kind [] noPairs (words (drop from (now (l .entry))))) r (now (xs .exit)) ⌝ }
 {
     let mut s = from;
@@ -249,7 +228,7 @@ fn numbers(l: &[u8], from: usize, kind: u64, xs: &mut [i64]) -> Line
 
 // What a line says.
 pub fn read_line(l: &[u8], xs: &mut [i64]) -> Line
-    requires { ⌜ length (now xs) ≡ 126 ⌝ }
+    requires { ⌜ length (now xs) ≡ keptMost ⌝ }
     ensures { λ r. ⌜ Heard (meaning (now (l .entry))) r (now (xs .exit)) ⌝ }
 {
     if LONGEST < l.len() {

@@ -6,7 +6,9 @@ ghost use Prim.Native.Nat.{_+_, _-_, _≤_, _<_, _^_};
 ghost use Rattle.text_protocol.specs.Numbers.{decimal, signed};
 ghost use Rattle.text_out.specs.Places.{Places};
 ghost use Rattle.text_out.specs.Wrote.{Wrote};
+ghost use Rattle.text_protocol.specs.Bytes.{room};
 use exact::magnitude;
+use text_protocol::ROOM;
 
 // How many decimal digits x has.
 fn places(x: u64) -> usize
@@ -73,8 +75,8 @@ fn places(x: u64) -> usize
 }
 
 // One byte.
-pub fn put_byte(out: &mut [u8; 65536], len: usize, b: u8) -> usize
-    requires { ⌜ len + 1 ≤ 65536 ⌝ }
+pub fn put_byte(out: &mut [u8; ROOM], len: usize, b: u8) -> usize
+    requires { ⌜ len + 1 ≤ room ⌝ }
     ensures { λ r. ⌜ Wrote (now (out .entry)) len (now (out .exit)) r (b ∷ []) 1 ⌝ }
 {
     out[len] = b;
@@ -82,8 +84,8 @@ pub fn put_byte(out: &mut [u8; 65536], len: usize, b: u8) -> usize
 }
 
 // The decimal digits of x, the most significant first.
-pub fn put_number(out: &mut [u8; 65536], len: usize, x: u64) -> usize
-    requires { ⌜ len + 20 ≤ 65536 ⌝ }
+pub fn put_number(out: &mut [u8; ROOM], len: usize, x: u64) -> usize
+    requires { ⌜ len + 20 ≤ room ⌝ }
     ensures { λ r. ⌜ Wrote (now (out .entry)) len (now (out .exit)) r (decimal x) 20 ⌝ }
 {
     let k = places(x);
@@ -99,13 +101,13 @@ pub fn put_number(out: &mut [u8; 65536], len: usize, x: u64) -> usize
 }
 
 // A minus where x is below 0, and its size in decimal.
-pub fn put_signed(out: &mut [u8; 65536], len: usize, x: i64) -> usize
-    requires { ⌜ len + 21 ≤ 65536 ⌝ }
+pub fn put_signed(out: &mut [u8; ROOM], len: usize, x: i64) -> usize
+    requires { ⌜ len + 21 ≤ room ⌝ }
     ensures { λ r. ⌜ Wrote (now (out .entry)) len (now (out .exit)) r (signed x) 21 ⌝ }
 {
     if x < 0 {
         let n = put_byte(out, len, b'-');
-        return put_number(out, n, size(x) + 1);
+        return put_number(out, n, magnitude(x) + 1);
     }
-    put_number(out, len, size(x))
+    put_number(out, len, magnitude(x))
 }

@@ -8,7 +8,7 @@ use desk::read;
 use paper::Answer;
 use paper::Record;
 use text_call::Request;
-use text_line::Line;
+use text_protocol::Kind;
 ghost use mathlib.Core.Path.{_≡_};
 ghost use Rattle.desk.specs.Promises.{Promised};
 ghost use Rattle.text_call.specs.Requests.{requestCall};
@@ -18,16 +18,16 @@ ghost use Rattle.text_call.specs.Requests.{requestCall};
 pub fn perform(t: &mut [Record], c: Request, rows: &[i64]) -> Answer
     ensures { λ r. ⌜ Promised (requestCall c (now (rows .entry))) (now (t .entry)) r (now (t .exit)) ⌝ }
 {
-    if c.kind == Line::ADMIT {
+    if c.kind == Kind::ADMIT {
         return admit(t, c.admission);
     }
-    if c.kind == Line::EVALUATE {
+    if c.kind == Kind::EVALUATE {
         return evaluate_asked(t, c.id, c.day, rows);
     }
-    if c.kind == Line::QUOTE {
+    if c.kind == Kind::QUOTE {
         return quote(t, c.id, c.quote);
     }
-    if c.kind == Line::MOVE {
+    if c.kind == Kind::MOVE {
         return moved(t, c.id, c.side);
     }
     read(t, c.id)

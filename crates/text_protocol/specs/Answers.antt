@@ -17,7 +17,7 @@ use Rattle.paper.specs.declared.Answer.{Answer}
 use Rattle.paper.specs.declared.MaturityFigures.{MaturityFigures}
 use Rattle.paper.specs.declared.InterestAnswer.{InterestAnswer}
 use Rattle.paper.specs.Lists.{pick}
-use Rattle.paper.specs.Ranges.{isLive, lastDay, noRate, noLimits, notNear, termAt}
+use Rattle.paper.specs.Ranges.{isLive, lastDay, noLimits, notNear, termAt, rateAt}
 use Rattle.paper.specs.Verdicts.{numberOf, isDone}
 use Rattle.paper.specs.Desk.{Call, admit, evaluate, quote, move, read}
 use Rattle.text_protocol.specs.Bytes.{space, lineFeed}
@@ -33,6 +33,10 @@ next z = space ∷ signed z
 unfoldable pub spaced : List ℤ → List ℕ
 spaced [] = []
 spaced (z ∷ zs) = next z ++ spaced zs
+
+-- no answer is longer
+abbrev pub answerMost : ℕ
+answerMost = 1200
 
 -- the numbers of an answer, the verdict's first
 abbrev pub numbersOf : ℕ → List ℤ → List ℤ
@@ -77,7 +81,7 @@ figureNumbers r =
 
 -- S1 S2 S3
 unfoldable pub ratesNumbers : List Rate → List ℤ
-ratesNumbers rates = pos (getD rates 0 noRate .bp) ∷ pos (getD rates 1 noRate .bp) ∷ pos (getD rates 2 noRate .bp) ∷ []
+ratesNumbers rates = pos (rateAt rates 0) ∷ pos (rateAt rates 1) ∷ pos (rateAt rates 2) ∷ []
 
 -- UPPER1 UPPER2 UPPER3 LOWER1 LOWER2 LOWER3
 unfoldable pub rangesNumbers : List Limits → List ℤ

@@ -8,6 +8,10 @@ use Rattle.paper.specs.Lists.{pick}
 
 -- ---- the bytes that have a meaning of their own
 
+-- the bytes of each buffer: of what is read, and of the answers that wait
+abbrev pub room : ℕ
+room = 65536
+
 abbrev pub tab : ℕ
 tab = 9
 

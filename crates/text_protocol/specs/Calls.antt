@@ -26,75 +26,75 @@ use Rattle.text_protocol.specs.Line.{Said, Nothing, NoCall}
 use Rattle.text_protocol.specs.Line.{Call as saysCall}
 
 -- a number that may not be below zero: one that is, is out of every range
-abbrev pub naturalOf : List Name → List ℤ → Name → ℕ
-naturalOf names zs x = unsigned (the names zs x)
+abbrev pub unsignedOf : List Name → List ℤ → Name → ℕ
+unsignedOf names zs x = unsigned (the names zs x)
 
 unfoldable pub givenOf : List ℤ → GivenStatics
 givenOf zs =
     record {
-      lot = naturalOf admitNames zs LOT;
-      h = naturalOf admitNames zs H;
-      q = naturalOf admitNames zs Q;
-      aup = naturalOf admitNames zs A-UP;
-      adown = naturalOf admitNames zs A-DOWN;
-      wait = naturalOf admitNames zs WAIT;
-      rh1 = naturalOf admitNames zs RH1;
-      rh2 = naturalOf admitNames zs RH2;
-      rh3 = naturalOf admitNames zs RH3;
-      liq = naturalOf admitNames zs LIQ;
-      min1 = naturalOf admitNames zs MIN1;
-      min2 = naturalOf admitNames zs MIN2;
-      min3 = naturalOf admitNames zs MIN3;
-      smax = naturalOf admitNames zs SMAX;
-      xpr = naturalOf admitNames zs XPR;
-      shift = naturalOf admitNames zs SHIFT;
-      pchmax = naturalOf admitNames zs PCHMAX;
-      pclmax = naturalOf admitNames zs PCLMAX;
-      w = naturalOf admitNames zs W;
-      u = naturalOf admitNames zs U;
-      monitoring = naturalOf admitNames zs MONITORING;
-      ewma = naturalOf admitNames zs ISEWMA;
+      lot = unsignedOf admitNames zs LOT;
+      h = unsignedOf admitNames zs H;
+      q = unsignedOf admitNames zs Q;
+      aup = unsignedOf admitNames zs A-UP;
+      adown = unsignedOf admitNames zs A-DOWN;
+      wait = unsignedOf admitNames zs WAIT;
+      rh1 = unsignedOf admitNames zs RH1;
+      rh2 = unsignedOf admitNames zs RH2;
+      rh3 = unsignedOf admitNames zs RH3;
+      liq = unsignedOf admitNames zs LIQ;
+      min1 = unsignedOf admitNames zs MIN1;
+      min2 = unsignedOf admitNames zs MIN2;
+      min3 = unsignedOf admitNames zs MIN3;
+      smax = unsignedOf admitNames zs SMAX;
+      xpr = unsignedOf admitNames zs XPR;
+      shift = unsignedOf admitNames zs SHIFT;
+      pchmax = unsignedOf admitNames zs PCHMAX;
+      pclmax = unsignedOf admitNames zs PCLMAX;
+      w = unsignedOf admitNames zs W;
+      u = unsignedOf admitNames zs U;
+      monitoring = unsignedOf admitNames zs MONITORING;
+      ewma = unsignedOf admitNames zs ISEWMA;
     }
 
 unfoldable pub admissionOf : List ℤ → Admission
 admissionOf zs =
     record {
-      id = naturalOf admitNames zs ID;
-      day = naturalOf admitNames zs DAY;
-      p1 = naturalOf admitNames zs P1;
-      p2 = naturalOf admitNames zs P2;
-      s = naturalOf admitNames zs S;
-      tentative = naturalOf admitNames zs TENTATIVE;
+      id = unsignedOf admitNames zs ID;
+      day = unsignedOf admitNames zs DAY;
+      p1 = unsignedOf admitNames zs P1;
+      p2 = unsignedOf admitNames zs P2;
+      s = unsignedOf admitNames zs S;
+      tentative = unsignedOf admitNames zs TENTATIVE;
       given = givenOf zs;
     }
 
 unfoldable pub quoteOf : List ℤ → Quote
 quoteOf zs =
     record {
-      second = naturalOf quoteNames zs SECOND;
-      term = naturalOf quoteNames zs TERM;
-      bid = naturalOf quoteNames zs BID;
-      ask = naturalOf quoteNames zs ASK;
+      second = unsignedOf quoteNames zs SECOND;
+      term = unsignedOf quoteNames zs TERM;
+      bid = unsignedOf quoteNames zs BID;
+      ask = unsignedOf quoteNames zs ASK;
     }
 
 unfoldable pub interestOf : List ℤ → Interest
 interestOf zs =
     record {
-      b = naturalOf interestNames zs B;
-      ym = naturalOf interestNames zs YM;
-      yn = naturalOf interestNames zs YN;
+      b = unsignedOf interestNames zs B;
+      ym = unsignedOf interestNames zs YM;
+      yn = unsignedOf interestNames zs YN;
       model =
           record {
-            aup = naturalOf interestNames zs A-UP;
-            adown = naturalOf interestNames zs A-DOWN;
-            q = naturalOf interestNames zs Q;
+            aup = unsignedOf interestNames zs A-UP;
+            adown = unsignedOf interestNames zs A-DOWN;
+            q = unsignedOf interestNames zs Q;
           };
-      h = naturalOf interestNames zs H;
-      wait = naturalOf interestNames zs WAIT;
-      liq = naturalOf interestNames zs LIQ;
-      mm = naturalOf interestNames zs MM;
-      sec = naturalOf interestNames zs SEC;
-      xir = naturalOf interestNames zs XIR;
+      h = unsignedOf interestNames zs H;
+      wait = unsignedOf interestNames zs WAIT;
+      liq = unsignedOf interestNames zs LIQ;
+      mm = unsignedOf interestNames zs MM;
+      sec = unsignedOf interestNames zs SEC;
+      xir = unsignedOf interestNames zs XIR;
       money = the interestNames zs MONEY;
       secrate = the interestNames zs SECRATE;
     }
@@ -110,16 +110,16 @@ bandOf k false low high = band.Given (record { low = low; high = high })
 unfoldable pub termOf : Kept → List ℤ → Bool → (days low high : Name) → AskedTerm
 termOf k zs pair days low high =
     record {
-      k = naturalOf evaluateNames zs days;
+      k = unsignedOf evaluateNames zs days;
       band = bandOf k pair (the evaluateNames zs low) (the evaluateNames zs high);
     }
 
 unfoldable pub askedOf : Kept → List ℤ → Pairs → AskedDay
 askedOf k zs p =
     record {
-      day = naturalOf evaluateNames zs DAY;
-      b = naturalOf evaluateNames zs B;
-      m = naturalOf evaluateNames zs M;
+      day = unsignedOf evaluateNames zs DAY;
+      b = unsignedOf evaluateNames zs B;
+      m = unsignedOf evaluateNames zs M;
       first = termOf k zs (p .first) K0 RRCL0 RRCH0;
       second = termOf k zs (p .second) K1 RRCL1 RRCH1;
       third = termOf k zs (p .third) K2 RRCL2 RRCH2;
@@ -142,10 +142,10 @@ unfoldable pub callOf : Kept → (kind : ℕ) → List ℤ → Pairs → Deed
 callOf k kind zs p =
     pick (eqb kind admitKind) (call (admit (admissionOf zs)))
     (pick (eqb kind evaluateKind)
-    (call (evaluate (naturalOf evaluateNames zs ID) (dayOf (askedOf k zs p)) (figuresOf evaluateNames zs)))
-    (pick (eqb kind quoteKind) (call (quote (naturalOf quoteNames zs ID) (quoteOf zs)))
-    (pick (eqb kind moveKind) (call (move (naturalOf moveNames zs ID) (naturalOf moveNames zs SIDE)))
-    (pick (eqb kind readKind) (call (read (naturalOf readNames zs ID)))
+    (call (evaluate (unsignedOf evaluateNames zs ID) (dayOf (askedOf k zs p)) (figuresOf evaluateNames zs)))
+    (pick (eqb kind quoteKind) (call (quote (unsignedOf quoteNames zs ID) (quoteOf zs)))
+    (pick (eqb kind moveKind) (call (move (unsignedOf moveNames zs ID) (unsignedOf moveNames zs SIDE)))
+    (pick (eqb kind readKind) (call (read (unsignedOf readNames zs ID)))
     (interest (interestOf zs) (figuresOf interestNames zs))))))
 
 unfoldable pub deedOf : Kept → Said → Deed

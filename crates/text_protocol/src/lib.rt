@@ -3,6 +3,37 @@
 // proved equal to them.
 use paper::WorkedBand;
 
+// The bytes of each buffer: of what is read, and of the answers that wait.
+pub const ROOM: usize = 65_536;
+
+// The numbers that a line keeps: the thirteen of `evaluate` and its row figures, with one figure more than a day may
+// have.
+pub const KEPT: usize = 126;
+
+// What kind of line a line is, by its number (specs/Names.antt).
+pub struct Kind {
+    pub number: u64,
+}
+
+impl Kind {
+    pub const ADMIT: u64 = 1;
+
+    pub const EVALUATE: u64 = 2;
+
+    pub const QUOTE: u64 = 3;
+
+    pub const MOVE: u64 = 4;
+
+    pub const READ: u64 = 5;
+
+    pub const INTEREST: u64 = 6;
+
+    // No call: a line with no word, and one that says no call.
+    pub const BLANK: u64 = 7;
+
+    pub const BAD: u64 = 8;
+}
+
 // What digits spell: a size, or no number.
 pub enum Size {
     Is(u64),

@@ -7,9 +7,14 @@ ghost use Rattle.paper.specs.Desk.{blank};
 ghost use Rattle.text_input.specs.Input.{Stands};
 ghost use Rattle.text_turn.specs.Turn.{Prepares};
 ghost use Rattle.text_serve.specs.Serve.{Turns, Serves};
+ghost use Rattle.text_protocol.specs.Bytes.{room};
+ghost use Rattle.text_protocol.specs.Answers.{answerMost};
+ghost use Rattle.text_protocol.specs.Line.{keptMost};
 use libc::STDERR_FILENO;
 use paper::Record;
 use text_perform::perform;
+use text_protocol::KEPT;
+use text_protocol::ROOM;
 use text_turn::Prepared;
 use text_turn::State;
 use text_turn::prepare;
@@ -18,7 +23,7 @@ use text_turn::start;
 use text_turn::tell;
 
 // Hears the next line, with the bytes and the numbers of it in arrays, whose lengths their types say.
-fn hear_in(buf: &mut [u8; 65536], xs: &mut [i64; 126], s: State) -> Prepared
+fn hear_in(buf: &mut [u8; ROOM], xs: &mut [i64; KEPT], s: State) -> Prepared
     requires { ⌜ Stands (now buf) (s .input) ⌝ }
     ensures { λ r. ⌜ Prepares (now (buf .entry)) s (now (buf .exit)) r (now (xs .exit)) ⌝ }
 {
@@ -26,7 +31,7 @@ fn hear_in(buf: &mut [u8; 65536], xs: &mut [i64; 126], s: State) -> Prepared
 }
 
 // The row figures of a line of so many numbers.
-fn rows_in(xs: &[i64; 126], count: usize) -> &[i64]
+fn rows_in(xs: &[i64; KEPT], count: usize) -> &[i64]
     ensures { λ r. ⌜ now r ≡ drop 13 (take count (now (xs .entry))) ⌝ }
 {
     rows_of(xs, count)
@@ -35,12 +40,12 @@ fn rows_in(xs: &[i64; 126], count: usize) -> &[i64]
 // One line: heard, performed on the table, answered. The numbers of the line have a lifetime of their own.
 pub fn step<'a, 'b>(
     t: &'a mut [Record],
-    buf: &'a mut [u8; 65536],
-    xs: &'b mut [i64; 126],
-    out: &'a mut [u8; 65536],
+    buf: &'a mut [u8; ROOM],
+    xs: &'b mut [i64; KEPT],
+    out: &'a mut [u8; ROOM],
     s: State,
 ) -> State
-    requires { ⌜ (Stands (now buf) (s .input)) × (s .waiting + 1200 ≤ 65536) ⌝ }
+    requires { ⌜ (Stands (now buf) (s .input)) × (s .waiting + answerMost ≤ room) ⌝ }
     ensures { λ r. ⌜ Turns (now (buf .entry)) s (now (t .entry)) (now (out .entry))
         (now (buf .exit)) r (now (t .exit)) (now (out .exit)) ⌝ }
 {
@@ -50,10 +55,10 @@ pub fn step<'a, 'b>(
 }
 
 // No number.
-fn no_numbers() -> [i64; 126]
-    ensures { λ r. ⌜ 126 ≡ length r ⌝ }
+fn no_numbers() -> [i64; KEPT]
+    ensures { λ r. ⌜ keptMost ≡ length r ⌝ }
 {
-    [0; 126]
+    [0; KEPT]
 }
 
 // Every line of standard input. The state at the end says whether every read and write went well.
@@ -71,11 +76,11 @@ pub fn serve(t: &mut [Record]) -> State
 }
 
 // "A fresh table has every slot empty."
-pub fn fresh() -> [Record; 512]
+pub fn fresh() -> [Record; Record::SLOTS_MOST]
     ensures { λ r. ⌜ r ≡ replicate 512 blank ⌝ }
 {
     let e = record_calls::blank();
-    [e; 512]
+    [e; Record::SLOTS_MOST]
 }
 
 // Says on standard error where a read or a write failed.
@@ -88,7 +93,7 @@ fn report(s: State) {
 }
 
 // A table by value, lent once to every line of standard input.
-pub fn on(t: [Record; 512]) {
+pub fn on(t: [Record; Record::SLOTS_MOST]) {
     let mut u = t;
     let s = serve(&mut u);
     report(s);

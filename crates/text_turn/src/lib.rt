@@ -9,6 +9,9 @@ ghost use Rattle.text_input.specs.Input.{Stands};
 ghost use Rattle.text_protocol.specs.Evening.{numberAfter};
 ghost use Rattle.paper.specs.Lists.{pick};
 ghost use Rattle.text_turn.specs.Turn.{lineText, Wants, Prepares, halted, Tells, startState};
+ghost use Rattle.text_protocol.specs.Bytes.{room};
+ghost use Rattle.text_protocol.specs.Answers.{answerMost};
+ghost use Rattle.text_protocol.specs.Line.{keptMost};
 use libc::STDOUT_FILENO;
 use paper::Answer;
 use paper::InterestAnswer;
@@ -26,6 +29,8 @@ use text_input::hear;
 use text_kept::kept_after;
 use text_line::Line;
 use text_protocol::Kept;
+use text_protocol::Kind;
+use text_protocol::ROOM;
 
 // What goes on from line to line: what is left of the input, the number of the next line, what is kept of the interest
 // lines, how many bytes of answers
@@ -67,7 +72,7 @@ fn wanted_by(zs: &[i64], l: Line, k: Kept) -> Wanted
     let kind = l.kind;
     let pairs = l.pairs;
     let request = request_of(zs, kind, pairs, k);
-    if kind == Line::INTEREST {
+    if kind == Kind::INTEREST {
         let given = interest_of(zs);
         let i = interest::answer(given, figures(zs, 14));
         return Wanted {
@@ -85,9 +90,9 @@ fn wanted_by(zs: &[i64], l: Line, k: Kept) -> Wanted
 
 // Hears the next line.
 pub fn prepare(buf: &mut [u8], xs: &mut [i64], s: State) -> Prepared
-    requires { ⌜ (Stands (now buf) (s .input)) × (length (now xs) ≡ 126) ⌝ }
+    requires { ⌜ (Stands (now buf) (s .input)) × (length (now xs) ≡ keptMost) ⌝ }
     ensures { λ r. ⌜ (Prepares (now (buf .entry)) s (now (buf .exit)) r (now (xs .exit))) × (length (now (xs .exit))
-        ≡ 126) ⌝ }
+        ≡ keptMost) ⌝ }
 {
     let input = s.input;
     let kept = s.kept;
@@ -145,23 +150,23 @@ pub fn start() -> State
 
 // Appends the answer to a line of a kind.
 fn say(
-    out: &mut [u8; 65536],
+    out: &mut [u8; ROOM],
     len: usize,
     kind: u64,
     number: u64,
     i: InterestAnswer,
     a: Answer,
 ) -> usize
-    requires { ⌜ len + 1200 ≤ 65536 ⌝ }
-    ensures { λ r. ⌜ Wrote (now (out .entry)) len (now (out .exit)) r (lineText kind number i a) 1200 ⌝ }
+    requires { ⌜ len + answerMost ≤ room ⌝ }
+    ensures { λ r. ⌜ Wrote (now (out .entry)) len (now (out .exit)) r (lineText kind number i a) answerMost ⌝ }
 {
-    if kind == Line::BLANK {
+    if kind == Kind::BLANK {
         return len;
     }
-    if kind == Line::BAD {
+    if kind == Kind::BAD {
         return say_bad(out, len, number);
     }
-    if kind == Line::INTEREST {
+    if kind == Kind::INTEREST {
         return say_interest(out, len, i);
     }
     say_answer(out, len, kind, a)
@@ -214,7 +219,7 @@ fn stopped(i: Input, ok: bool) -> Input
 // Whether the answers are written now: no line is left to hear, the next line has to be waited for, or there is no room
 // for one more answer.
 fn is_due(i: Input, n: usize) -> bool
-    ensures { λ r. ⌜ (r ≡ false → ((n + 1200 ≤ 65536) × (i .end < i .len) × (0 < i .left))) ⌝ }
+    ensures { λ r. ⌜ (r ≡ false → ((n + answerMost ≤ room) × (i .end < i .len) × (0 < i .left))) ⌝ }
 {
     if i.left == 0 {
         return true;
@@ -226,8 +231,8 @@ fn is_due(i: Input, n: usize) -> bool
 }
 
 // Tells the answer to a line: it is appended to those that wait, and they are written where they are due.
-pub fn tell(out: &mut [u8; 65536], p: Prepared, a: Answer) -> State
-    requires { ⌜ p .waiting + 1200 ≤ 65536 ⌝ }
+pub fn tell(out: &mut [u8; ROOM], p: Prepared, a: Answer) -> State
+    requires { ⌜ p .waiting + answerMost ≤ room ⌝ }
     ensures { λ r. ⌜ Tells (now (out .entry)) p a (now (out .exit)) r ⌝ }
 {
     let i = p.input;

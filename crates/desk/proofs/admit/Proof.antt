@@ -43,12 +43,12 @@ use Rattle.paper.proofs.Answer as N
 use Rattle.paper.proofs.Answer.Laws as N′
 use Rattle.paper.proofs.Admission as B
 use Rattle.paper.proofs.Admission.Laws as B′
-use Rattle.paper.proofs.Given.Laws as G′
+use Rattle.paper.proofs.GivenStatics.Laws as G′
 use Rattle.record_calls.specs.declared.Slot.{Slot}
-use Rattle.record_calls.specs.declared.Outcome.{Outcome}
-use Rattle.record_calls.specs.Outcomes.{slotOf, admitOutcome}
+use Rattle.record_calls.specs.declared.Effect.{Effect}
+use Rattle.record_calls.specs.Effects.{slotOf, admitEffect}
 use Rattle.record_calls.proofs.Slot.Laws as U′
-use Rattle.record_calls.proofs.Turn as O
+use Rattle.record_calls.proofs.Effect as O
 use Rattle.desk.proofs.Row.{R, table-ty, S, makes-slot, turn-ty, turn-val, turn-is, typed-turn, answer-val, makes-answer}
 use Rattle.desk.proofs.Frame.{Addresses, of-types, env-of, spare, frame, enters, value as local′, field as field′}
 use Rattle.desk.proofs.Calls.{Take, Put, ℓt, Lending, rref, wref, ref, machine, Owned, taking, putting-turn, answering, takes, turned, puts-turn, answers}
@@ -102,7 +102,7 @@ code-s = taking ℓt for-s ℓs (copy (place ℓa (field 0 ∷ [])))
 abbrev code-e : Body → Body
 code-e = taking ℓt for-e ℓe (int w64 0)
 
--- let o = security::admitted(s, e, a);
+-- let o = record_calls::admitted(s, e, a);
 abbrev code-o : Body → Body
 code-o = seq (call #rule (copy (place ℓs []) ∷ copy (place ℓe []) ∷ copy (place ℓa []) ∷ []) (place ℓo []))
 
@@ -161,8 +161,8 @@ module _ {M : Type 1} (𝓤 : URA M) (H : Heap 𝓤) (A : Atoms 𝓤) (W : Given
   abbrev first-empty : Slot
   first-empty = slotOf ys 0
 
-  abbrev turn : Outcome
-  turn = admitOutcome slot first-empty a
+  abbrev turn : Effect
+  turn = admitEffect slot first-empty a
 
   exits : Is O.the-row turn (turn-val turn ∷ [])
       → ent 𝓤 (⋆ 𝓤 H A (‵ (finally R γ (set ys (turn .at) (turn .rec))) ∷ ‵ (flft κ q) ∷ []))
@@ -223,7 +223,7 @@ module _ {M : Type 1} (𝓤 : URA M) (H : Heap 𝓤) (A : Atoms 𝓤) (W : Given
             takes 𝓤 H A W mem run κ q b o γ ys room fm known-take ℓt for-e ℓe (refl, refl, tt, tt, tt, tt, tt) tt refl 0
             (lit< tt) (λ Δ. lit ! tt)
 
-        -- let o = security::admitted(s, e, a);
+        -- let o = record_calls::admitted(s, e, a);
         let-o : (v u : Val) → Is S slot (v ∷ []) → Is S first-empty (u ∷ [])
             → (Is O.the-row turn (turn-val turn ∷ [])
             → Sq W (In (some v) (some u) (some (turn-val turn)) ∷ Ours) (Runs rest))
@@ -290,5 +290,5 @@ admit-spec 𝓤 H 𝓜 𝓖 𝓡 =
     (tables 𝓤 H 𝓜 𝓡 code.env .Λ) #admit code.function (code.unfolded 𝓤 H 𝓜 𝓡)
     (meets 𝓤 H (𝓖 .A) (givenOf 𝓤 H 𝓜 𝓖) (𝓜 .mem) (𝓡 .run) (tablesOf 𝓤 H 𝓜 (tables 𝓤 H 𝓜 𝓡 code.env))
     (take-known 𝓤 H 𝓜 𝓖 𝓡 code.env code.calls-desk·take)
-    (cited 𝓤 H (Rule 𝓤 H (𝓖 .A) (𝓜 .mem) (𝓡 .run)) 𝓜 𝓡 code.env #rule rule-def.routine code.calls-security·admitted
+    (cited 𝓤 H (Rule 𝓤 H (𝓖 .A) (𝓜 .mem) (𝓡 .run)) 𝓜 𝓡 code.env #rule rule-def.routine code.calls-record-calls·admitted
     (rule-thm.met 𝓤 H 𝓜 𝓖 𝓡)) (put-known 𝓤 H 𝓜 𝓖 𝓡 code.env code.calls-desk·put))

@@ -15,8 +15,8 @@ use Rattle.paper.specs.Terms.{dayOf}
 use Rattle.paper.proofs.AskedDay as D
 use Rattle.paper.proofs.AskedDay.Laws as D′
 use Rattle.record_calls.specs.declared.Slot.{Slot}
-use Rattle.record_calls.specs.declared.Outcome.{Outcome}
-use Rattle.record_calls.specs.Outcomes.{slotOf, evaluateOutcome, doneBy}
+use Rattle.record_calls.specs.declared.Effect.{Effect}
+use Rattle.record_calls.specs.Effects.{slotOf, evaluateEffect, doneBy}
 use Rattle.desk.proofs.Known.{take-known, put-known}
 use Rattle.desk.proofs.Shape.{Plain, PlainLaws, of-row}
 use Rattle.desk.proofs.ShapeWithRows.{Rule, meets}
@@ -41,8 +41,8 @@ L =
     }
 
 -- an evaluation of the day that is asked for
-abbrev askedTurn : Slot → AskedDay → List ℤ → Outcome
-askedTurn s a rows = evaluateOutcome s (dayOf a) rows
+abbrev askedTurn : Slot → AskedDay → List ℤ → Effect
+askedTurn s a rows = evaluateEffect s (dayOf a) rows
 
 abbrev evaluation : ℕ → AskedDay → List ℤ → Call
 evaluation id a rows = evaluate id (dayOf a) rows

@@ -7,7 +7,7 @@ use mir.Val.{vint}
 use denote.Builtin.{u64}
 use denote.Plain.{uint-tells, uint-lawful, uint-makes}
 use Rattle.paper.specs.Desk.{move}
-use Rattle.record_calls.specs.Outcomes.{moveOutcome}
+use Rattle.record_calls.specs.Effects.{moveEffect}
 use Rattle.desk.proofs.Known.{take-known, put-known}
 use Rattle.desk.proofs.Shape.{Plain, PlainLaws, of-row, Rule, meets}
 use Rattle.desk.proofs.Steps.{move-steps}
@@ -35,8 +35,8 @@ unfolding code.routine tablesOf
 moved-spec 𝓤 H 𝓜 𝓖 𝓡 =
     entered 𝓤 H (tripleOf 𝓤 H (𝓖 .A) f.signature (f.spec 𝓤 H (𝓖 .A) (𝓜 .mem) (𝓡 .run))) (tables 𝓤 H 𝓜 𝓡 code.env .C)
     (tables 𝓤 H 𝓜 𝓡 code.env .Λ) key.name code.function (code.unfolded 𝓤 H 𝓜 𝓡)
-    (meets P L moveOutcome move move-steps rule-def.name 𝓤 H (𝓖 .A) (givenOf 𝓤 H 𝓜 𝓖) (𝓜 .mem) (𝓡 .run)
+    (meets P L moveEffect move move-steps rule-def.name 𝓤 H (𝓖 .A) (givenOf 𝓤 H 𝓜 𝓖) (𝓜 .mem) (𝓡 .run)
     (tablesOf 𝓤 H 𝓜 (tables 𝓤 H 𝓜 𝓡 code.env)) (take-known 𝓤 H 𝓜 𝓖 𝓡 code.env code.calls-desk·take)
-    (cited 𝓤 H (Rule P L moveOutcome move move-steps rule-def.name 𝓤 H
-    (𝓖 .A)) 𝓜 𝓡 code.env rule-def.name rule-def.routine code.calls-security·moved (rule-thm.met 𝓤 H 𝓜 𝓖 𝓡))
+    (cited 𝓤 H (Rule P L moveEffect move move-steps rule-def.name 𝓤 H
+    (𝓖 .A)) 𝓜 𝓡 code.env rule-def.name rule-def.routine code.calls-record-calls·moved (rule-thm.met 𝓤 H 𝓜 𝓖 𝓡))
     (put-known 𝓤 H 𝓜 𝓖 𝓡 code.env code.calls-desk·put))

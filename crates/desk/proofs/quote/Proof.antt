@@ -6,7 +6,7 @@ use denote.Struct.Laws as LL
 use Rattle.paper.proofs.Quote as Q
 use Rattle.paper.proofs.Quote.Laws as Q′
 use Rattle.paper.specs.Desk.{quote}
-use Rattle.record_calls.specs.Outcomes.{quoteOutcome}
+use Rattle.record_calls.specs.Effects.{quoteEffect}
 use Rattle.desk.proofs.Known.{take-known, put-known}
 use Rattle.desk.proofs.Shape.{Plain, PlainLaws, of-row, Rule, meets}
 use Rattle.desk.proofs.Steps.{quote-steps}
@@ -34,8 +34,8 @@ unfolding code.routine tablesOf
 quote-spec 𝓤 H 𝓜 𝓖 𝓡 =
     entered 𝓤 H (tripleOf 𝓤 H (𝓖 .A) f.signature (f.spec 𝓤 H (𝓖 .A) (𝓜 .mem) (𝓡 .run))) (tables 𝓤 H 𝓜 𝓡 code.env .C)
     (tables 𝓤 H 𝓜 𝓡 code.env .Λ) key.name code.function (code.unfolded 𝓤 H 𝓜 𝓡)
-    (meets P L quoteOutcome quote quote-steps rule-def.name 𝓤 H (𝓖 .A) (givenOf 𝓤 H 𝓜 𝓖) (𝓜 .mem) (𝓡 .run)
+    (meets P L quoteEffect quote quote-steps rule-def.name 𝓤 H (𝓖 .A) (givenOf 𝓤 H 𝓜 𝓖) (𝓜 .mem) (𝓡 .run)
     (tablesOf 𝓤 H 𝓜 (tables 𝓤 H 𝓜 𝓡 code.env)) (take-known 𝓤 H 𝓜 𝓖 𝓡 code.env code.calls-desk·take)
-    (cited 𝓤 H (Rule P L quoteOutcome quote quote-steps rule-def.name 𝓤 H
-    (𝓖 .A)) 𝓜 𝓡 code.env rule-def.name rule-def.routine code.calls-security·quoted (rule-thm.met 𝓤 H 𝓜 𝓖 𝓡))
+    (cited 𝓤 H (Rule P L quoteEffect quote quote-steps rule-def.name 𝓤 H
+    (𝓖 .A)) 𝓜 𝓡 code.env rule-def.name rule-def.routine code.calls-record-calls·quoted (rule-thm.met 𝓤 H 𝓜 𝓖 𝓡))
     (put-known 𝓤 H 𝓜 𝓖 𝓡 code.env code.calls-desk·put))

@@ -42,7 +42,7 @@ use Rattle.paper.proofs.Answer as N
 use Rattle.paper.proofs.Answer.Laws as N′
 use Rattle.record_calls.proofs.Slot.Laws as U′
 use Rattle.record_calls.specs.declared.Slot.{Slot}
-use Rattle.record_calls.specs.Outcomes.{slotOf, readAnswer}
+use Rattle.record_calls.specs.Effects.{slotOf, readAnswer}
 use Rattle.desk.proofs.Row.{R, shared-ty, word, S, makes-slot, typed-slot, makes-answer, typed-answer}
 use Rattle.desk.proofs.Frame.{Addresses, of-types, env-of, frame, enters, value, leaves}
 use Rattle.desk.proofs.Calls.{Take, ℓt, ref, machine}
@@ -74,7 +74,7 @@ abbrev ℓs : ℕ
 abbrev code-s : Body → Body
 code-s = seq (call #take (copy (place ℓt []) ∷ copy (place ℓid []) ∷ []) (place ℓs []))
 
--- security::read(s)
+-- record_calls::read(s)
 abbrev code-read : Body
 code-read = seq (call #rule (copy (place ℓs []) ∷ []) (place 0 [])) return
 
@@ -174,7 +174,7 @@ module _ {M : Type 1} (𝓤 : URA M) (H : Heap 𝓤) (A : Atoms 𝓤) (W : Given
           -- [the token; true; the frame; what t owns]
           keep ! (2 ∷ 0 ∷ 3 ∷ []) $ k w (subst (λ (z : Slot). Is S z (w ∷ [])) e is)))
 
-      -- security::read(s)
+      -- record_calls::read(s)
       answer : (w : Val) → Is S slot (w ∷ []) → Sq W (In (some w) ∷ Ours) (Runs code-read)
       answer w is =
           consults 𝓤 H A W rule.ended (rule.clauses 𝓤 H A mem run) (to-rule w) tt fm known-rule (goes-rule w is) said
@@ -219,5 +219,5 @@ read-spec 𝓤 H 𝓜 𝓖 𝓡 =
     (tables 𝓤 H 𝓜 𝓡 code.env .Λ) #read code.function (code.unfolded 𝓤 H 𝓜 𝓡)
     (meets 𝓤 H (𝓖 .A) (givenOf 𝓤 H 𝓜 𝓖) (𝓜 .mem) (𝓡 .run) (tablesOf 𝓤 H 𝓜 (tables 𝓤 H 𝓜 𝓡 code.env))
     (take-known 𝓤 H 𝓜 𝓖 𝓡 code.env code.calls-desk·take)
-    (cited 𝓤 H (Rule 𝓤 H (𝓖 .A) (𝓜 .mem) (𝓡 .run)) 𝓜 𝓡 code.env #rule rule-def.routine code.calls-security·read
+    (cited 𝓤 H (Rule 𝓤 H (𝓖 .A) (𝓜 .mem) (𝓡 .run)) 𝓜 𝓡 code.env #rule rule-def.routine code.calls-record-calls·read
     (rule-thm.met 𝓤 H 𝓜 𝓖 𝓡)))

@@ -13,8 +13,8 @@ use Rattle.exact.proofs.Sign.{grown-below, grown-above}
 use Rattle.exact.proofs.grow.Statement.{statement}
 use Rattle.exact.proofs.grow.Tie as tie
 
-size-requires : tie.Need-magnitude-requires
-size-requires c κs = search needs
+magnitude-requires : tie.Need-magnitude-requires
+magnitude-requires c κs = search needs
 
 -- a callee's promise speaks of what it reads back from the argument's bits, which is the argument
 is : (c : tie.After-magnitude) → c .magnitude .result ≡ mag (c .before .args .rate)
@@ -55,4 +55,4 @@ returns-2 c =
 pub grow-spec : {M : Type 1} → statement M
 grow-spec =
     tie.close
-    (tie.spec size-requires add-result mul-result sub-result mul-result-2 add-result-2 returns returns-2)
+    (tie.spec magnitude-requires add-result mul-result sub-result mul-result-2 add-result-2 returns returns-2)

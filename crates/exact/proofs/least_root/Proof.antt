@@ -61,8 +61,8 @@ add-next-2 c = omega (arith, at (c .before .before))
 shl-requires-3 : tie.Need-shl-requires-3 Inv-loop μ-loop
 shl-requires-3 c κs = omega (arith, at (c .before .before .before))
 
-add-wx : tie.Need-add-wx Inv-loop μ-loop
-add-wx c = omega (arith, at (c .before .before .before .before))
+add-factor-x : tie.Need-add-factor-x Inv-loop μ-loop
+add-factor-x c = omega (arith, at (c .before .before .before .before))
 
 shl-requires-4 : tie.Need-shl-requires-4 Inv-loop μ-loop
 shl-requires-4 c κs = omega (arith, at (c .before .before .before .before))
@@ -115,7 +115,7 @@ least-root-spec =
     shl-requires-2
     add-next-2
     shl-requires-3
-    add-wx
+    add-factor-x
     shl-requires-4
     add-x
     loop-less

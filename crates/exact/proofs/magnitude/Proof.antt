@@ -1,10 +1,10 @@
--- `size` meets its contract: by the sign, -1 - x or x is a natural number that fits, and it is the size. Assumes
+-- `magnitude` meets its contract: by the sign, -1 - x or x is a natural number that fits, and it is the size. Assumes
 -- nothing.
 use lib.IntN.{negsuc, _-ℤ_}
 use mir.Facts.{toZ-ofZ}
 use Rattle.exact.proofs.Sign.{Arm, size-below, size-above}
-use Rattle.exact.proofs.size.Statement.{statement}
-use Rattle.exact.proofs.size.Tie as tie
+use Rattle.exact.proofs.magnitude.Statement.{statement}
+use Rattle.exact.proofs.magnitude.Tie as tie
 
 below : (c : tie.Then1) → Arm (negsuc 0 -ℤ c .before .args .x) (c .before .args .x)
 below c = size-below _ (c .before .fits .x) (rw (toZ-ofZ (c .before .fits .x)) at (c .if1 .taken))

@@ -5,14 +5,14 @@ use borrow.Author.Needs.{needs}
 use Rattle.exact.proofs.unsigned_at.Statement.{statement}
 use Rattle.exact.proofs.unsigned_at.Tie as tie
 
-mul-natural : tie.Need-mul-natural
-mul-natural c = search needs
+mul-unsigned : tie.Need-mul-unsigned
+mul-unsigned c = search needs
 
-shared-slice-copy-out-natural : tie.Need-shared-slice-copy-out-natural
-shared-slice-copy-out-natural c = search needs
+shared-slice-copy-out-unsigned : tie.Need-shared-slice-copy-out-unsigned
+shared-slice-copy-out-unsigned c = search needs
 
-natural-requires : tie.Need-unsigned-requires
-natural-requires c κs = search needs
+unsigned-requires : tie.Need-unsigned-requires
+unsigned-requires c κs = search needs
 
 returns : tie.Need-returns
 returns c = rw (toZ-ofZ {w = w64} (record { sfits = c .before .unsigned-arg .given })) at (c .unsigned .ensures)
@@ -20,4 +20,4 @@ returns c = rw (toZ-ofZ {w = w64} (record { sfits = c .before .unsigned-arg .giv
 pub unsigned-at-spec : {M : Type 1} → statement M
 unsigned-at-spec =
     tie.close
-    (tie.spec mul-natural shared-slice-copy-out-natural natural-requires returns)
+    (tie.spec mul-unsigned shared-slice-copy-out-unsigned unsigned-requires returns)

@@ -31,11 +31,11 @@ sub-loop c = c .loop .inv .0 .inside
 add-next : tie.Need-add-next Inv-loop μ-loop
 add-next c = omega (arith, room c)
 
-natural-at-requires : tie.Need-unsigned-at-requires Inv-loop μ-loop
-natural-at-requires c κs = omega (arith, room c)
+unsigned-at-requires : tie.Need-unsigned-at-requires Inv-loop μ-loop
+unsigned-at-requires c κs = omega (arith, room c)
 
-natural-at-requires-2 : tie.Need-unsigned-at-requires-2 Inv-loop μ-loop
-natural-at-requires-2 c κs = omega (arith, room (c .before))
+unsigned-at-requires-2 : tie.Need-unsigned-at-requires-2 Inv-loop μ-loop
+unsigned-at-requires-2 c κs = omega (arith, room (c .before))
 
 returns : tie.Need-returns Inv-loop μ-loop
 unfolding maturityOf keyAt
@@ -69,8 +69,8 @@ is-ascending-spec =
     loop-holds
     sub-loop
     add-next
-    natural-at-requires
-    natural-at-requires-2
+    unsigned-at-requires
+    unsigned-at-requires-2
     returns
     loop-less
     loop-again

@@ -10,8 +10,8 @@ use borrow.Author.Needs.{needs}
 use Rattle.interest_maturities.proofs.maturity_at.Statement.{statement}
 use Rattle.interest_maturities.proofs.maturity_at.Tie as tie
 
-natural-at-requires : tie.Need-unsigned-at-requires
-natural-at-requires c κs = search needs
+unsigned-at-requires : tie.Need-unsigned-at-requires
+unsigned-at-requires c κs = search needs
 
 add-t4 : tie.Need-add-t4
 add-t4 c = search needs
@@ -49,23 +49,23 @@ mul-t17 c = search needs
 shared-slice-copy-out-t19 : tie.Need-shared-slice-copy-out-t19
 shared-slice-copy-out-t19 c = search needs
 
-add-natural-at : tie.Need-add-natural-at
-add-natural-at c = search needs
+add-unsigned-at : tie.Need-add-unsigned-at
+add-unsigned-at c = search needs
 
-natural-at-requires-2 : tie.Need-unsigned-at-requires-2
-natural-at-requires-2 c κs = search needs
+unsigned-at-requires-2 : tie.Need-unsigned-at-requires-2
+unsigned-at-requires-2 c κs = search needs
 
-add-natural-at-2 : tie.Need-add-natural-at-2
-add-natural-at-2 c = search needs
+add-unsigned-at-2 : tie.Need-add-unsigned-at-2
+add-unsigned-at-2 c = search needs
 
-natural-at-requires-3 : tie.Need-unsigned-at-requires-3
-natural-at-requires-3 c κs = search needs
+unsigned-at-requires-3 : tie.Need-unsigned-at-requires-3
+unsigned-at-requires-3 c κs = search needs
 
-add-natural-at-3 : tie.Need-add-natural-at-3
-add-natural-at-3 c = search needs
+add-unsigned-at-3 : tie.Need-add-unsigned-at-3
+add-unsigned-at-3 c = search needs
 
-natural-at-requires-4 : tie.Need-unsigned-at-requires-4
-natural-at-requires-4 c κs = search needs
+unsigned-at-requires-4 : tie.Need-unsigned-at-requires-4
+unsigned-at-requires-4 c κs = search needs
 
 returns : tie.Need-returns
 unfolding maturityOf keyAt
@@ -79,15 +79,15 @@ returns c =
       r1 = toZ-ofZ {w = w64} {z = number 2} (record { sfits = last .before .before .t11 .given }) i;
       r2 = toZ-ofZ {w = w64} {z = number 3} (record { sfits = last .before .t15 .given }) i;
       index = toZ-ofZ {w = w64} {z = number 4} (record { sfits = last .t19 .given }) i;
-      volatility = c .before .before .natural-at2 .ensures i;
-      tentative = record { bp = c .before .natural-at3 .ensures i; age = c .natural-at4 .ensures i };
+      volatility = c .before .before .unsigned-at2 .ensures i;
+      tentative = record { bp = c .before .unsigned-at3 .ensures i; age = c .unsigned-at4 .ensures i };
     }
 
 pub maturity-at-spec : {M : Type 1} → statement M
 maturity-at-spec =
     tie.close
     (tie.spec
-    natural-at-requires
+    unsigned-at-requires
     add-t4
     mul-t5
     shared-slice-copy-out-t7
@@ -100,10 +100,10 @@ maturity-at-spec =
     add-t16
     mul-t17
     shared-slice-copy-out-t19
-    add-natural-at
-    natural-at-requires-2
-    add-natural-at-2
-    natural-at-requires-3
-    add-natural-at-3
-    natural-at-requires-4
+    add-unsigned-at
+    unsigned-at-requires-2
+    add-unsigned-at-2
+    unsigned-at-requires-3
+    add-unsigned-at-3
+    unsigned-at-requires-4
     returns)

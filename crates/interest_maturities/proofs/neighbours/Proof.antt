@@ -15,8 +15,8 @@ Inv-loop numbers y at₀ at = Passed numbers y at
 abbrev μ-loop : tie.MeasureT-loop
 μ-loop numbers y at₀ at = length numbers - at
 
-natural-at-requires : tie.Need-unsigned-at-requires Inv-loop μ-loop
-natural-at-requires c κs = omega (arith, c .pre .1)
+unsigned-at-requires : tie.Need-unsigned-at-requires Inv-loop μ-loop
+unsigned-at-requires c κs = omega (arith, c .pre .1)
 
 returns : tie.Need-returns Inv-loop μ-loop
 unfolding maturityOf keyAt
@@ -37,8 +37,8 @@ sub-loop c = c .loop .inv .place .inside
 add-next : tie.Need-add-next Inv-loop μ-loop
 add-next c = omega (arith, room c)
 
-natural-at-requires-2 : tie.Need-unsigned-at-requires-2 Inv-loop μ-loop
-natural-at-requires-2 c κs = omega (arith, room c)
+unsigned-at-requires-2 : tie.Need-unsigned-at-requires-2 Inv-loop μ-loop
+unsigned-at-requires-2 c κs = omega (arith, room c)
 
 returns-2 : tie.Need-returns-2 Inv-loop μ-loop
 unfolding maturityOf keyAt
@@ -64,12 +64,12 @@ neighbours-spec =
     (tie.spec
     Inv-loop
     μ-loop
-    natural-at-requires
+    unsigned-at-requires
     returns
     loop-holds
     sub-loop
     add-next
-    natural-at-requires-2
+    unsigned-at-requires-2
     returns-2
     loop-less
     loop-again

@@ -21,11 +21,11 @@ returns c =
     (f .min2) (f .min3) (f .smax) (f .xpr)
     (f .shift) (f .pchmax) (f .pclmax) (f .w) (f .u) (f .monitoring) (f .ewma) (g .given-of .ensures) i)
     (read (f .p) (c .before .before .before .before .before .unsigned .ensures) i)
-    (read (f .s1) (c .before .before .before .before .natural2 .ensures) i)
-    (read (f .k) (c .before .before .before .natural3 .ensures) i)
+    (read (f .s1) (c .before .before .before .before .unsigned2 .ensures) i)
+    (read (f .k) (c .before .before .before .unsigned3 .ensures) i)
     (toZ-ofZ (f .repo) i)
-    (read (f .c) (c .before .before .natural4 .ensures) i)
-    (read (f .side) (c .before .natural5 .ensures) i))
+    (read (f .c) (c .before .before .unsigned4 .ensures) i)
+    (read (f .side) (c .before .unsigned5 .ensures) i))
 
 pub nedrubal-band-limit-spec : {M : Type 1} → statement M
 nedrubal-band-limit-spec =

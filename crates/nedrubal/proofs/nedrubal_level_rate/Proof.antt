@@ -21,8 +21,8 @@ returns c =
     (f .min2) (f .min3) (f .smax) (f .xpr)
     (f .shift) (f .pchmax) (f .pclmax) (f .w) (f .u) (f .monitoring) (f .ewma) (g .given-of .ensures) i)
     (read (f .tentative) (c .before .before .before .unsigned .ensures) i)
-    (read (f .m) (c .before .before .natural2 .ensures) i)
-    (read (f .level) (c .before .natural3 .ensures) i))
+    (read (f .m) (c .before .before .unsigned2 .ensures) i)
+    (read (f .level) (c .before .unsigned3 .ensures) i))
 
 pub nedrubal-level-rate-spec : {M : Type 1} → statement M
 nedrubal-level-rate-spec =

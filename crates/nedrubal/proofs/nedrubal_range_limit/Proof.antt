@@ -21,8 +21,8 @@ returns c =
     (f .min2) (f .min3) (f .smax) (f .xpr)
     (f .shift) (f .pchmax) (f .pclmax) (f .w) (f .u) (f .monitoring) (f .ewma) (g .given-of .ensures) i)
     (read (f .p) (c .before .before .before .unsigned .ensures) i)
-    (read (f .rate) (c .before .before .natural2 .ensures) i)
-    (read (f .side) (c .before .natural3 .ensures) i))
+    (read (f .rate) (c .before .before .unsigned2 .ensures) i)
+    (read (f .side) (c .before .unsigned3 .ensures) i))
 
 pub nedrubal-range-limit-spec : {M : Type 1} → statement M
 nedrubal-range-limit-spec =

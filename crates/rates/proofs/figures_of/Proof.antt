@@ -8,7 +8,6 @@ use Rattle.paper.specs.declared.Statics.{Statics}
 use Rattle.paper.specs.Numbers.{volatilityMost}
 use Rattle.paper.specs.Rates.{figuresOf, moveTooLarge}
 use Rattle.paper.proofs.Logic.{and-false, pick-true, pick-false}
-use Rattle.rates.specs.Figures.{handed}
 use Rattle.rates.proofs.figures_of.Statement.{statement}
 use Rattle.rates.proofs.figures_of.Tie as tie
 
@@ -24,11 +23,11 @@ unmodelled-requires c κs = c .before .pre .0 .statics
 
 returns : tie.Need-returns
 unfolding figuresOf
-returns c = c .modelled .ensures ∙ ap handed (sym (pick-true _ _ _ (c .before .if1 .taken)))
+returns c = c .modelled .ensures ∙ (sym (pick-true _ _ _ (c .before .if1 .taken)))
 
 returns-2 : tie.Need-returns-2
 unfolding figuresOf
-returns-2 c = c .unmodelled .ensures ∙ ap handed (sym (pick-false _ _ _ (c .before .if1 .left)))
+returns-2 c = c .unmodelled .ensures ∙ (sym (pick-false _ _ _ (c .before .if1 .left)))
 
 pub figures-of-spec : {M : Type 1} → statement M
 figures-of-spec = tie.close (tie.spec modelled-requires unmodelled-requires returns returns-2)

@@ -3,8 +3,7 @@
 use Prim.Native.Nat.{_≤_}
 use native.Mathlib.Omega.{arith}
 use borrow.Author.Needs.{needs}
-use Rattle.paper.specs.Rates.{modelled}
-use Rattle.paper.proofs.Volatility.{Weighing}
+use Rattle.paper.specs.Rates.{modelled, Weighing}
 use Rattle.paper.proofs.Bounds.{volatility-high, tentative-rate-held, tentative-held}
 use Rattle.rates.specs.Asked.{tentativeMost}
 use Rattle.rates.proofs.Statics.{rates-weighing}

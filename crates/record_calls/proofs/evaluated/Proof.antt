@@ -4,13 +4,13 @@ use mathlib.Core.Path.{_≡_, sym, ap, _∙_}
 use mathlib.Core.Bool.{true, false}
 use lib.Dec.{leb}
 use borrow.Author.Tests.{le-leb, lt-leb}
+use Rattle.paper.proofs.LimitSizes.{grid-range}
 use Rattle.paper.specs.Ranges.{gridOf, lastDay, validDay}
 use Rattle.paper.specs.Evaluation.{dayRows}
 use Rattle.paper.specs.Desk.{priceOn}
-use Rattle.inputs.proofs.Tests.{grid-range}
 use Rattle.record_soundness.proofs.Facts.{sound-facts}
 use Rattle.evaluation.specs.Evaluation.{evaluationMade}
-use Rattle.record_calls.specs.Outcomes.{isKnown}
+use Rattle.record_calls.specs.Effects.{isKnown}
 use Rattle.record_calls.proofs.Judging.{passed, failed, known-sound, day-unknown, day-out, day-not-after, day-beyond}
 use Rattle.record_calls.proofs.Evaluations.{day-valid, beyond, Made, made}
 use borrow.Author.Needs.{needs}

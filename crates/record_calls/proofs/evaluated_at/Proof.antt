@@ -45,7 +45,7 @@ figures-of-requires : tie.Need-figures-of-requires
 figures-of-requires c κs =
     let s = c .before .before .before .before .before .before .before .before .before .before in
     let test = c .before in
-    let ranges = sound-ranges _ _ (s .pre .0) (day-facts _ (s .pre .1 .0) .m-most) in
+    let ranges = sound-ranges _ _ (s .pre .0) (day-facts (s .args .d) (s .pre .1 .0) .m-most) in
     (ranges, sym (test .before .move-too-large .ensures) ∙ test .if1 .left)
 
 evaluated-requires : tie.Need-evaluated-requires

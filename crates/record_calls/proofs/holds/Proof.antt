@@ -1,6 +1,6 @@
 -- `record_calls::holds` meets its contract: it is the definition's test. Assumes nothing.
 use mathlib.Core.Path.{refl}
-use Rattle.record_calls.specs.Outcomes.{holds}
+use Rattle.record_calls.specs.Effects.{holds}
 use Rattle.record_calls.proofs.holds.Statement.{statement}
 use Rattle.record_calls.proofs.holds.Tie as tie
 

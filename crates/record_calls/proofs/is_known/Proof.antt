@@ -1,5 +1,5 @@
 -- `record_calls::is_known` meets its contract, test by test. Assumes nothing.
-use Rattle.record_calls.specs.Outcomes.{isKnown}
+use Rattle.record_calls.specs.Effects.{isKnown}
 use borrow.Author.Needs.{needs}
 use Rattle.record_calls.proofs.is_known.Statement.{statement}
 use Rattle.record_calls.proofs.is_known.Tie as tie

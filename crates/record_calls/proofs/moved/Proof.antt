@@ -3,7 +3,7 @@ use mathlib.Core.Path.{_≡_, ap, _∙_}
 use borrow.Author.Tests.{eq-eqb, ne-eqb}
 use Rattle.paper.specs.Ranges.{validSide, sideOf}
 use Rattle.paper.specs.Verdicts.{isDone, firstOf}
-use Rattle.record_calls.specs.Outcomes.{isKnown, refusedOutcome}
+use Rattle.record_calls.specs.Effects.{isKnown, refusedEffect}
 use Rattle.record_calls.specs.Openings.{openingChecks}
 use Rattle.record_calls.proofs.Judging.{passed, failed, known-sound, Opened, opened, move-stopped, move-used-up, move-accepted, move-left}
 use borrow.Author.Needs.{needs}
@@ -38,7 +38,7 @@ returns : tie.Need-returns
 returns c =
     let v = verdict (c .before .before .before) in
     let test = failed _ (c .before .before .is-done .ensures ∙ ap isDone v) (c .before .if1 .taken) in
-    c .refused .ensures ∙ ap (refusedOutcome _) v ∙ move-stopped _ _ test
+    c .refused .ensures ∙ ap (refusedEffect _) v ∙ move-stopped _ _ test
 
 side-of-requires : tie.Need-side-of-requires
 side-of-requires c κs = search needs

@@ -5,7 +5,7 @@ use mathlib.Core.Bool.{true}
 use Rattle.paper.specs.Ranges.{isLive}
 use Rattle.paper.specs.Verdicts.{firstOf}
 use Rattle.paper.proofs.Logic.{not-true, not-false}
-use Rattle.record_calls.specs.Outcomes.{isKnown}
+use Rattle.record_calls.specs.Effects.{isKnown}
 use Rattle.record_calls.specs.Openings.{openingChecks}
 use Rattle.record_calls.proofs.Judging.{passed, failed}
 use borrow.Author.Needs.{needs}
@@ -64,7 +64,8 @@ returns-5 c =
       known (e .before),
       not-false (e .before .before .before .before .args .in-range) (e .if2 .left),
       live l,
-      not-false (c .before .before .before .before .before .before .before .before .args .s .rec .statics .monitoring) (c .if4 .left),
+      not-false (c .before .before .before .before .before .before .before .before .args .s .rec .statics .monitoring)
+          (c .if4 .left),
     )
 
 pub opening-spec : {M : Type 1} → statement M

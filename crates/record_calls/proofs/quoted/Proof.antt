@@ -4,7 +4,7 @@ use mathlib.Core.Path.{_≡_, ap, _∙_}
 use borrow.Author.Tests.{lt-ltb, le-ltb}
 use Rattle.paper.specs.Ranges.{validQuote}
 use Rattle.paper.specs.Verdicts.{isDone, firstOf}
-use Rattle.record_calls.specs.Outcomes.{isKnown, refusedOutcome}
+use Rattle.record_calls.specs.Effects.{isKnown, refusedEffect}
 use Rattle.record_calls.specs.Openings.{openingChecks}
 use Rattle.record_calls.proofs.Judging.{passed, failed, known-sound, Opened, opened, quote-stopped, quote-earlier, quote-accepted}
 use borrow.Author.Needs.{needs}
@@ -39,7 +39,7 @@ returns : tie.Need-returns
 returns c =
     let v = verdict (c .before .before .before) in
     let test = failed _ (c .before .before .is-done .ensures ∙ ap isDone v) (c .before .if1 .taken) in
-    c .refused .ensures ∙ ap (refusedOutcome _) v ∙ quote-stopped _ _ test
+    c .refused .ensures ∙ ap (refusedEffect _) v ∙ quote-stopped _ _ test
 
 refused-requires-2 : tie.Need-refused-requires-2
 refused-requires-2 c κs = search needs

@@ -1,7 +1,7 @@
 -- `record_calls::refused` meets its contract: the blank is stored past the end, and the verdict is said. Assumes
 -- nothing.
 use borrow.Author.Needs.{needs}
-use Rattle.record_calls.specs.Outcomes.{refusedOutcome}
+use Rattle.record_calls.specs.Effects.{refusedEffect}
 use Rattle.record_calls.proofs.refused.Statement.{statement}
 use Rattle.record_calls.proofs.refused.Tie as tie
 
@@ -12,7 +12,7 @@ saying-requires : tie.Need-saying-requires
 saying-requires c κs = search needs
 
 returns : tie.Need-returns
-unfolding refusedOutcome
+unfolding refusedEffect
 returns c = rw (c .saying .ensures, c .before .blank .ensures)
 
 pub refused-spec : {M : Type 1} → statement M

@@ -1,9 +1,8 @@
 -- `record_soundness::sound` meets its contract: the definition is the figures, then each part as its function judges
 -- it. The grid of any lot is above 0. Assumes nothing.
 use borrow.Author.Needs.{needs}
-use Rattle.paper.specs.Ranges.{sound}
-use Rattle.inputs.proofs.Tests.{grid-range}
-use Rattle.record_soundness.specs.Parts.{soundFigures}
+use Rattle.paper.proofs.LimitSizes.{grid-range}
+use Rattle.paper.specs.Ranges.{sound, soundFigures}
 use Rattle.record_soundness.proofs.sound.Statement.{statement}
 use Rattle.record_soundness.proofs.sound.Tie as tie
 
@@ -31,7 +30,7 @@ valid-three-near-requires : tie.Need-valid-three-near-requires
 valid-three-near-requires c κs = search needs
 
 returns : tie.Need-returns
-unfolding sound soundFigures
+unfolding sound
 returns c =
     let bands = c .before .before .before .before in
     let figures = bands .before .before .before .before in

@@ -5,12 +5,10 @@ use mathlib.Core.Path.{_≡_}
 use mathlib.Core.Bool.{true, _&&_}
 use borrow.Author.Needs.{needs}
 use Rattle.paper.specs.Numbers.{idMost}
-use Rattle.paper.specs.Ranges.{within, validStatics}
+use Rattle.paper.specs.Ranges.{within, validStatics, validFigures, soundFigures}
 use Rattle.paper.proofs.Logic.{and-right}
-use Rattle.inputs.specs.Parts.{validFigures}
 use Rattle.inputs.proofs.Tests.{two-tests}
 use Rattle.inputs.proofs.Facts.{statics-step}
-use Rattle.record_soundness.specs.Parts.{soundFigures}
 use Rattle.record_soundness.proofs.sound_figures.Statement.{statement}
 use Rattle.record_soundness.proofs.sound_figures.Tie as tie
 
@@ -34,7 +32,6 @@ valid-figures-requires c κs =
     statics-step _ (and-right id _ (passed (c .before)))
 
 returns : tie.Need-returns
-unfolding soundFigures validFigures
 returns c = rw (
   passed (c .before .before .before),
   c .before .valid-figures .ensures,
@@ -42,7 +39,6 @@ returns c = rw (
 )
 
 returns-2 : tie.Need-returns-2
-unfolding soundFigures
 returns-2 c = rw (two-tests (c .before .before .valid-id .ensures) (c .before .valid-statics .ensures) (c .if1 .left))
 
 pub sound-figures-spec : {M : Type 1} → statement M

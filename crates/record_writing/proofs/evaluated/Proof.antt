@@ -39,7 +39,8 @@ bands-of-requires c κs =
     let s = c .before .before .before .before .before .before .before in
     let price-and-rate = rated (c .before .before) 0 (omega arith) in (
       sound-facts _ (s .pre .sound-record) .valid,
-      bands-asked _ _ _ (s .args .d .terms) price-and-rate (omega arith, omega arith) (day-terms _ (s .pre .day)),
+      bands-asked _ _ _ (s .args .d .terms) price-and-rate (omega arith, omega arith)
+          (day-terms (s .args .d) (s .pre .day)),
     )
 
 returns : tie.Need-returns

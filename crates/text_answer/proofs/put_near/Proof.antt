@@ -1,4 +1,4 @@
--- `text_answer::put_near` meets its contract: "near. Assumes nothing.
+-- `text_answer::put_near` meets its contract: when a side came near. Assumes nothing.
 use native.Mathlib.Omega.{arith}
 use Rattle.text_answer.specs.Told.{roomier}
 use Rattle.text_protocol.specs.Answers.{nearNumber}

@@ -1,4 +1,4 @@
--- `text_answer::put_rates` meets its contract: s1 S2 S3. Assumes nothing.
+-- `text_answer::put_rates` meets its contract: S1 S2 S3. Assumes nothing.
 use Rattle.text_protocol.specs.Answers.{ratesNumbers}
 use Rattle.text_answer.specs.Told.{both}
 use borrow.Author.Needs.{needs}

@@ -1,4 +1,4 @@
--- `text_answer::put_term` meets its contract: k RRCL RRCH BANDLOWER BANDUPPER NEARTOP NEARBOTTOM. Assumes nothing.
+-- `text_answer::put_term` meets its contract: K RRCL RRCH BANDLOWER BANDUPPER NEARTOP NEARBOTTOM. Assumes nothing.
 use mir.Facts.{toZ-ofZ}
 use mir.Syntax.{w64}
 use Rattle.text_protocol.specs.Answers.{termNumbers}

@@ -7,7 +7,7 @@ use Rattle.text_call.proofs.admission_of.Tie as tie
 use Rattle.text_call.proofs.admission_of.Reads as reads
 use Rattle.text_call.proofs.admission_of.Lts as lts
 use Rattle.text_call.proofs.given_of.Reads as given-of-reads
-use Rattle.text_call.proofs.unsigned_at.Reads as natural-at-reads
+use Rattle.text_call.proofs.unsigned_at.Reads as unsigned-at-reads
 
 returns : tie.Need-returns
 unfolding admissionOf the placeOf admitNames code
@@ -20,11 +20,11 @@ returns c =
     let c6 = c5 .before in
     rw (
       c6 .unsigned-at .ensures,
-      c5 .natural-at2 .ensures,
-      c4 .natural-at3 .ensures,
-      c3 .natural-at4 .ensures,
-      c2 .natural-at5 .ensures,
-      c1 .natural-at6 .ensures,
+      c5 .unsigned-at2 .ensures,
+      c4 .unsigned-at3 .ensures,
+      c3 .unsigned-at4 .ensures,
+      c2 .unsigned-at5 .ensures,
+      c1 .unsigned-at6 .ensures,
       c .given-of .ensures,
     )
 

@@ -11,14 +11,14 @@ use Rattle.text_call.proofs.band_of.Statement.{statement}
 use Rattle.text_call.proofs.band_of.Tie as tie
 use Rattle.text_call.proofs.band_of.Reads as reads
 use Rattle.text_call.proofs.band_of.Lts as lts
-use Rattle.exact.proofs.unsigned.Reads as natural-reads
+use Rattle.exact.proofs.unsigned.Reads as unsigned-reads
 use Rattle.text_kept.proofs.found.Reads as found-reads
 
-natural-requires : tie.Need-unsigned-requires
-natural-requires c κs = search needs
+unsigned-requires : tie.Need-unsigned-requires
+unsigned-requires c κs = search needs
 
-natural-requires-2 : tie.Need-unsigned-requires-2
-natural-requires-2 c κs = search needs
+unsigned-requires-2 : tie.Need-unsigned-requires-2
+unsigned-requires-2 c κs = search needs
 
 found-requires : tie.Need-found-requires
 found-requires c κs = search needs
@@ -26,7 +26,7 @@ found-requires c κs = search needs
 returns : tie.Need-returns
 unfolding bandOf
 returns c = let low = rw (toZ-ofZ (c .before .before .before .before .fits .low)) at (c .before .before .unsigned
-    .ensures) in let high = rw (toZ-ofZ (c .before .before .before .before .fits .high)) at (c .before .natural2
+    .ensures) in let high = rw (toZ-ofZ (c .before .before .before .before .fits .high)) at (c .before .unsigned2
     .ensures) in rw (c .before .before .before .if1 .taken, c .found .ensures, low, high)
 
 returns-2 : tie.Need-returns-2
@@ -35,4 +35,4 @@ returns-2 c = rw (c .if1 .left, toZ-ofZ (c .before .fits .low), toZ-ofZ (c .befo
 
 pub band-of-spec : {M : Type 1} → statement M
 band-of-spec =
-    tie.close (tie.spec natural-requires natural-requires-2 found-requires returns returns-2)
+    tie.close (tie.spec unsigned-requires unsigned-requires-2 found-requires returns returns-2)

@@ -5,7 +5,7 @@ use Rattle.text_call.proofs.given_of.Statement.{statement}
 use Rattle.text_call.proofs.given_of.Tie as tie
 use Rattle.text_call.proofs.given_of.Reads as reads
 use Rattle.text_call.proofs.given_of.Lts as lts
-use Rattle.text_call.proofs.unsigned_at.Reads as natural-at-reads
+use Rattle.text_call.proofs.unsigned_at.Reads as unsigned-at-reads
 
 returns : tie.Need-returns
 returns c =
@@ -32,27 +32,27 @@ returns c =
     let c21 = c20 .before in
     given-is (c21 .before .args .zs .now)
     (c21 .unsigned-at .ensures)
-    (c20 .natural-at2 .ensures)
-    (c19 .natural-at3 .ensures)
-    (c18 .natural-at4 .ensures)
-    (c17 .natural-at5 .ensures)
-    (c16 .natural-at6 .ensures)
-    (c15 .natural-at7 .ensures)
-    (c14 .natural-at8 .ensures)
-    (c13 .natural-at9 .ensures)
-    (c12 .natural-at10 .ensures)
-    (c11 .natural-at11 .ensures)
-    (c10 .natural-at12 .ensures)
-    (c9 .natural-at13 .ensures)
-    (c8 .natural-at14 .ensures)
-    (c7 .natural-at15 .ensures)
-    (c6 .natural-at16 .ensures)
-    (c5 .natural-at17 .ensures)
-    (c4 .natural-at18 .ensures)
-    (c3 .natural-at19 .ensures)
-    (c2 .natural-at20 .ensures)
-    (c1 .natural-at21 .ensures)
-    (c .natural-at22 .ensures)
+    (c20 .unsigned-at2 .ensures)
+    (c19 .unsigned-at3 .ensures)
+    (c18 .unsigned-at4 .ensures)
+    (c17 .unsigned-at5 .ensures)
+    (c16 .unsigned-at6 .ensures)
+    (c15 .unsigned-at7 .ensures)
+    (c14 .unsigned-at8 .ensures)
+    (c13 .unsigned-at9 .ensures)
+    (c12 .unsigned-at10 .ensures)
+    (c11 .unsigned-at11 .ensures)
+    (c10 .unsigned-at12 .ensures)
+    (c9 .unsigned-at13 .ensures)
+    (c8 .unsigned-at14 .ensures)
+    (c7 .unsigned-at15 .ensures)
+    (c6 .unsigned-at16 .ensures)
+    (c5 .unsigned-at17 .ensures)
+    (c4 .unsigned-at18 .ensures)
+    (c3 .unsigned-at19 .ensures)
+    (c2 .unsigned-at20 .ensures)
+    (c1 .unsigned-at21 .ensures)
+    (c .unsigned-at22 .ensures)
 
 -- what is called asks for nothing
 pub given-of-spec : {M : Type 1} → statement M

@@ -9,7 +9,7 @@ use Rattle.text_call.proofs.interest_of.Statement.{statement}
 use Rattle.text_call.proofs.interest_of.Tie as tie
 use Rattle.text_call.proofs.interest_of.Reads as reads
 use Rattle.text_call.proofs.interest_of.Lts as lts
-use Rattle.text_call.proofs.unsigned_at.Reads as natural-at-reads
+use Rattle.text_call.proofs.unsigned_at.Reads as unsigned-at-reads
 use Rattle.text_call.proofs.number_at.Reads as number-at-reads
 
 returns : tie.Need-returns
@@ -34,17 +34,17 @@ returns c =
       money,
       secrate,
       c13 .unsigned-at .ensures,
-      c12 .natural-at2 .ensures,
-      c11 .natural-at3 .ensures,
-      c10 .natural-at4 .ensures,
-      c9 .natural-at5 .ensures,
-      c8 .natural-at6 .ensures,
-      c7 .natural-at7 .ensures,
-      c6 .natural-at8 .ensures,
-      c5 .natural-at9 .ensures,
-      c4 .natural-at10 .ensures,
-      c3 .natural-at11 .ensures,
-      c2 .natural-at12 .ensures,
+      c12 .unsigned-at2 .ensures,
+      c11 .unsigned-at3 .ensures,
+      c10 .unsigned-at4 .ensures,
+      c9 .unsigned-at5 .ensures,
+      c8 .unsigned-at6 .ensures,
+      c7 .unsigned-at7 .ensures,
+      c6 .unsigned-at8 .ensures,
+      c5 .unsigned-at9 .ensures,
+      c4 .unsigned-at10 .ensures,
+      c3 .unsigned-at11 .ensures,
+      c2 .unsigned-at12 .ensures,
       c1 .number-at .ensures,
       c .number-at2 .ensures,
     )

@@ -7,36 +7,36 @@ use Rattle.text_call.proofs.quote_of.Statement.{statement}
 use Rattle.text_call.proofs.quote_of.Tie as tie
 use Rattle.text_call.proofs.quote_of.Reads as reads
 use Rattle.text_call.proofs.quote_of.Lts as lts
-use Rattle.text_call.proofs.unsigned_at.Reads as natural-at-reads
+use Rattle.text_call.proofs.unsigned_at.Reads as unsigned-at-reads
 
-natural-at-requires : tie.Need-unsigned-at-requires
-natural-at-requires c κs = search needs
+unsigned-at-requires : tie.Need-unsigned-at-requires
+unsigned-at-requires c κs = search needs
 
-natural-at-requires-2 : tie.Need-unsigned-at-requires-2
-natural-at-requires-2 c κs = search needs
+unsigned-at-requires-2 : tie.Need-unsigned-at-requires-2
+unsigned-at-requires-2 c κs = search needs
 
-natural-at-requires-3 : tie.Need-unsigned-at-requires-3
-natural-at-requires-3 c κs = search needs
+unsigned-at-requires-3 : tie.Need-unsigned-at-requires-3
+unsigned-at-requires-3 c κs = search needs
 
-natural-at-requires-4 : tie.Need-unsigned-at-requires-4
-natural-at-requires-4 c κs = search needs
+unsigned-at-requires-4 : tie.Need-unsigned-at-requires-4
+unsigned-at-requires-4 c κs = search needs
 
 returns : tie.Need-returns
 unfolding quoteOf the placeOf quoteNames code
 returns c = rw (
   c .before .before .before .unsigned-at .ensures,
-  c .before .before .natural-at2 .ensures,
+  c .before .before .unsigned-at2 .ensures,
   c .before
-      .natural-at3 .ensures,
-  c .natural-at4 .ensures,
+      .unsigned-at3 .ensures,
+  c .unsigned-at4 .ensures,
 )
 
 pub quote-of-spec : {M : Type 1} → statement M
 quote-of-spec =
     tie.close
     (tie.spec
-    natural-at-requires
-    natural-at-requires-2
-    natural-at-requires-3
-    natural-at-requires-4
+    unsigned-at-requires
+    unsigned-at-requires-2
+    unsigned-at-requires-3
+    unsigned-at-requires-4
     returns)

@@ -7,7 +7,7 @@ use Rattle.text_call.proofs.request_of.Reads as reads
 use Rattle.text_call.proofs.request_of.Lts as lts
 use Rattle.text_call.proofs.admission_of.Reads as admission-of-reads
 use Rattle.text_call.proofs.asked_of.Reads as asked-of-reads
-use Rattle.text_call.proofs.unsigned_at.Reads as natural-at-reads
+use Rattle.text_call.proofs.unsigned_at.Reads as unsigned-at-reads
 use Rattle.text_call.proofs.no_admission.Reads as no-admission-reads
 use Rattle.text_call.proofs.no_day.Reads as no-day-reads
 use Rattle.text_call.proofs.no_quote.Reads as no-quote-reads
@@ -26,8 +26,8 @@ no-quote-requires c κs = search needs
 returns : tie.Need-returns
 returns c = admit-line _ _ _ _ _ _ _ (c .before .before .before .if1 .taken) (c .before .before .admission-of .ensures)
 
-natural-at-requires : tie.Need-unsigned-at-requires
-natural-at-requires c κs = search needs
+unsigned-at-requires : tie.Need-unsigned-at-requires
+unsigned-at-requires c κs = search needs
 
 no-admission-requires : tie.Need-no-admission-requires
 no-admission-requires c κs = search needs
@@ -42,8 +42,8 @@ returns-2 : tie.Need-returns-2
 returns-2 c = evaluate-line _ _ _ _ _ _ _ _ (c .before .before .before .before .if2 .taken) (c .before .before .before
     .unsigned-at .ensures) (c .before .asked-of .ensures)
 
-natural-at-requires-2 : tie.Need-unsigned-at-requires-2
-natural-at-requires-2 c κs = search needs
+unsigned-at-requires-2 : tie.Need-unsigned-at-requires-2
+unsigned-at-requires-2 c κs = search needs
 
 quote-of-requires : tie.Need-quote-of-requires
 quote-of-requires c κs = search needs
@@ -53,26 +53,26 @@ of-id-requires c κs = search needs
 
 returns-3 : tie.Need-returns-3
 returns-3 c = quote-line _ _ _ _ _ _ _ _ (c .of-id .ensures) (c .before .before .before .if3 .taken) (c .before .before
-    .natural-at2 .ensures) (c .before .quote-of .ensures)
+    .unsigned-at2 .ensures) (c .before .quote-of .ensures)
 
-natural-at-requires-3 : tie.Need-unsigned-at-requires-3
-natural-at-requires-3 c κs = search needs
+unsigned-at-requires-3 : tie.Need-unsigned-at-requires-3
+unsigned-at-requires-3 c κs = search needs
 
 no-quote-requires-3 : tie.Need-no-quote-requires-3
 no-quote-requires-3 c κs = search needs
 
-natural-at-requires-4 : tie.Need-unsigned-at-requires-4
-natural-at-requires-4 c κs = search needs
+unsigned-at-requires-4 : tie.Need-unsigned-at-requires-4
+unsigned-at-requires-4 c κs = search needs
 
 of-id-requires-2 : tie.Need-of-id-requires-2
 of-id-requires-2 c κs = search needs
 
 returns-4 : tie.Need-returns-4
 returns-4 c = move-line _ _ _ _ _ _ _ _ (c .of-id2 .ensures) (c .before .before .before .before .if4 .taken) (c .before
-    .before .before .natural-at3 .ensures) (c .before .natural-at4 .ensures)
+    .before .before .unsigned-at3 .ensures) (c .before .unsigned-at4 .ensures)
 
-natural-at-requires-5 : tie.Need-unsigned-at-requires-5
-natural-at-requires-5 c κs = search needs
+unsigned-at-requires-5 : tie.Need-unsigned-at-requires-5
+unsigned-at-requires-5 c κs = search needs
 
 no-quote-requires-4 : tie.Need-no-quote-requires-4
 no-quote-requires-4 c κs = search needs
@@ -82,7 +82,7 @@ of-id-requires-3 c κs = search needs
 
 returns-5 : tie.Need-returns-5
 returns-5 c = read-line _ _ _ _ _ _ _ _ (c .of-id3 .ensures) (c .before .before .before .if5 .taken) (c .before .before
-    .natural-at5 .ensures)
+    .unsigned-at5 .ensures)
 
 no-quote-requires-5 : tie.Need-no-quote-requires-5
 no-quote-requires-5 c κs = search needs
@@ -105,21 +105,21 @@ request-of-spec =
     no-day-requires
     no-quote-requires
     returns
-    natural-at-requires
+    unsigned-at-requires
     no-admission-requires
     asked-of-requires
     no-quote-requires-2
     returns-2
-    natural-at-requires-2
+    unsigned-at-requires-2
     quote-of-requires
     of-id-requires
     returns-3
-    natural-at-requires-3
+    unsigned-at-requires-3
     no-quote-requires-3
-    natural-at-requires-4
+    unsigned-at-requires-4
     of-id-requires-2
     returns-4
-    natural-at-requires-5
+    unsigned-at-requires-5
     no-quote-requires-4
     of-id-requires-3
     returns-5

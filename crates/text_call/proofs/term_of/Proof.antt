@@ -9,11 +9,11 @@ use Rattle.text_call.proofs.term_of.Tie as tie
 use Rattle.text_call.proofs.term_of.Reads as reads
 use Rattle.text_call.proofs.term_of.Lts as lts
 use Rattle.text_call.proofs.band_of.Reads as band-of-reads
-use Rattle.text_call.proofs.unsigned_at.Reads as natural-at-reads
+use Rattle.text_call.proofs.unsigned_at.Reads as unsigned-at-reads
 use Rattle.text_call.proofs.number_at.Reads as number-at-reads
 
-natural-at-requires : tie.Need-unsigned-at-requires
-natural-at-requires c κs = search needs
+unsigned-at-requires : tie.Need-unsigned-at-requires
+unsigned-at-requires c κs = search needs
 
 add-number-at : tie.Need-add-number-at
 add-number-at c = search needs
@@ -43,7 +43,7 @@ pub term-of-spec : {M : Type 1} → statement M
 term-of-spec =
     tie.close
     (tie.spec
-    natural-at-requires
+    unsigned-at-requires
     add-number-at
     number-at-requires
     add-number-at-2

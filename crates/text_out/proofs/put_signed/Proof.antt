@@ -15,13 +15,14 @@ use Rattle.text_out.proofs.put_number.Reads as put-number-reads
 put-byte-requires : tie.Need-put-byte-requires
 put-byte-requires c κs = search needs
 
-size-requires : tie.Need-magnitude-requires
-size-requires c κs = search needs
+magnitude-requires : tie.Need-magnitude-requires
+magnitude-requires c κs = search needs
 
 add-put-number : tie.Need-add-put-number
 add-put-number c =
     let f = c .before .before .before .before .before .fits .x in
-    let e : c .size .result ≡ mag (c .before .before .before .before .before .args .x) = rw (toZ-ofZ f) at (c .size
+    let e : c .magnitude .result ≡ mag (c .before .before .before .before .before .args .x) =
+    rw (toZ-ofZ f) at (c .magnitude
     .ensures) in
     omega (arith, f .sfits)
 
@@ -32,11 +33,11 @@ returns : tie.Need-returns
 returns c =
     let s = c .before .before .before .before .before .before in
     let f = s .fits .x in
-    below-wrote (s .args .x) _ (rw (toZ-ofZ f) at (c .before .size .ensures)) (rw (toZ-ofZ f) at (c .before .before
+    below-wrote (s .args .x) _ (rw (toZ-ofZ f) at (c .before .magnitude .ensures)) (rw (toZ-ofZ f) at (c .before .before
     .before .before .before .if1 .taken)) (c .before .before .before .put-byte .ensures) (c .put-number .ensures)
 
-size-requires-2 : tie.Need-magnitude-requires-2
-size-requires-2 c κs = search needs
+magnitude-requires-2 : tie.Need-magnitude-requires-2
+magnitude-requires-2 c κs = search needs
 
 put-number-requires-2 : tie.Need-put-number-requires-2
 put-number-requires-2 c κs = search needs
@@ -45,7 +46,8 @@ returns-2 : tie.Need-returns-2
 returns-2 c =
     let s = c .before .before .before .before in
     let f = s .fits .x in
-    above-wrote (s .args .x) _ (rw (toZ-ofZ f) at (c .before .size2 .ensures)) (rw (toZ-ofZ f) at (c .before .before
+    above-wrote (s .args .x) _ (rw (toZ-ofZ f) at (c .before .magnitude2 .ensures))
+    (rw (toZ-ofZ f) at (c .before .before
     .before .if1 .left)) (c .put-number2 .ensures)
 
 pub put-signed-spec : {M : Type 1} → statement M
@@ -53,10 +55,10 @@ put-signed-spec =
     tie.close
     (tie.spec
     put-byte-requires
-    size-requires
+    magnitude-requires
     add-put-number
     put-number-requires
     returns
-    size-requires-2
+    magnitude-requires-2
     put-number-requires-2
     returns-2)

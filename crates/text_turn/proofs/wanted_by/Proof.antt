@@ -6,7 +6,7 @@ use Rattle.text_turn.proofs.wanted_by.Tie as tie
 use Rattle.text_turn.proofs.wanted_by.Reads as reads
 use Rattle.text_turn.proofs.wanted_by.Lts as lts
 use Rattle.interest.proofs.refused.Reads as refused-reads
-use Rattle.interest.proofs.answer.Reads as work-reads
+use Rattle.interest.proofs.answer.Reads as answer-reads
 use Rattle.text_call.proofs.figures.Reads as figures-reads
 use Rattle.text_call.proofs.interest_of.Reads as interest-of-reads
 use Rattle.text_call.proofs.request_of.Reads as request-of-reads
@@ -21,8 +21,8 @@ interest-of-requires c κs = search needs
 figures-requires : tie.Need-figures-requires
 figures-requires c κs = search needs
 
-work-requires : tie.Need-work-requires
-work-requires c κs = search needs
+answer-requires : tie.Need-answer-requires
+answer-requires c κs = search needs
 
 kept-after-requires : tie.Need-kept-after-requires
 kept-after-requires c κs = search needs
@@ -31,7 +31,7 @@ returns : tie.Need-returns
 returns c =
     let at-request-of = c .before .before .before .before .before in
     wants-interest _ _ _ _ _ (at-request-of .request-of .ensures) _ _ _ _ (c
-    .before .before .before .interest-of .ensures) (c .before .before .figures .ensures) (c .before .work .ensures) (c
+    .before .before .before .interest-of .ensures) (c .before .before .figures .ensures) (c .before .answer .ensures) (c
     .kept-after .ensures) (c .before .before .before .before .if1 .taken)
 
 refused-requires : tie.Need-refused-requires
@@ -47,7 +47,7 @@ wanted-by-spec =
     request-of-requires
     interest-of-requires
     figures-requires
-    work-requires
+    answer-requires
     kept-after-requires
     returns
     refused-requires

@@ -4,9 +4,8 @@ use mathlib.Core.Path.{_≡_, _∙_}
 use mathlib.Core.Bool.{true, _&&_}
 use borrow.Author.Needs.{needs}
 use Rattle.paper.specs.Numbers.{idMost}
-use Rattle.paper.specs.Ranges.{within, staticsOf, validGiven, validAdmission}
+use Rattle.paper.specs.Ranges.{within, staticsOf, validGiven, validAdmission, validFigures}
 use Rattle.paper.proofs.Logic.{and-right}
-use Rattle.inputs.specs.Parts.{validFigures}
 use Rattle.inputs.proofs.Tests.{two-tests}
 use Rattle.inputs.proofs.Facts.{statics-step, given-statics}
 use Rattle.inputs.proofs.calls.valid_admission.Statement.{statement}
@@ -32,7 +31,7 @@ valid-figures-requires c κs =
     rw (c .statics-of .ensures) (statics-step _ (given-statics _ (and-right id _ (passed (c .before)))))
 
 returns : tie.Need-returns
-unfolding validAdmission validFigures staticsOf
+unfolding validAdmission staticsOf
 returns c = c .valid-figures .ensures ∙ rw (c .before .statics-of .ensures, passed (c .before .before))
 
 returns-2 : tie.Need-returns-2

@@ -1,8 +1,8 @@
 -- `inputs::valid_figures` meets its contract: the grid of any lot is above 0, and each test is the one that the
 -- definition names. Assumes nothing.
 use borrow.Author.Needs.{needs}
-use Rattle.inputs.specs.Parts.{validFigures}
-use Rattle.inputs.proofs.Tests.{grid-range}
+use Rattle.paper.proofs.LimitSizes.{grid-range}
+use Rattle.paper.specs.Ranges.{validFigures}
 use Rattle.inputs.proofs.calls.valid_figures.Statement.{statement}
 use Rattle.inputs.proofs.calls.valid_figures.Tie as tie
 
@@ -19,7 +19,6 @@ valid-tentative-requires : tie.Need-valid-tentative-requires
 valid-tentative-requires c κs = search needs
 
 returns : tie.Need-returns
-unfolding validFigures
 returns c = rw (
   ← c .before .before .before .grid-of .ensures,
   c .before .before .is-grid-price .ensures,

@@ -2,7 +2,7 @@
 -- Assumes nothing.
 use mathlib.Core.Path.{refl}
 use borrow.Author.Needs.{needs}
-use Rattle.inputs.specs.Parts.{multiplesOfStep}
+use Rattle.paper.specs.Ranges.{multiplesOfStep}
 use Rattle.inputs.proofs.statics.multiples_of_step.Statement.{statement}
 use Rattle.inputs.proofs.statics.multiples_of_step.Tie as tie
 
@@ -19,7 +19,6 @@ rem-result-4 : tie.Need-rem-result-4
 rem-result-4 c = search needs
 
 returns : tie.Need-returns
-unfolding multiplesOfStep
 returns c = refl
 
 pub multiples-of-step-spec : {M : Type 1} → statement M

@@ -1,11 +1,10 @@
 -- `inputs::ordered_statics` meets its contract: the code's tests are the definition's, in its order. Assumes nothing.
 use mathlib.Core.Path.{refl}
-use Rattle.inputs.specs.Parts.{orderedStatics}
+use Rattle.paper.specs.Ranges.{orderedStatics}
 use Rattle.inputs.proofs.statics.ordered_statics.Statement.{statement}
 use Rattle.inputs.proofs.statics.ordered_statics.Tie as tie
 
 returns : tie.Need-returns
-unfolding orderedStatics
 returns c = refl
 
 pub ordered-statics-spec : {M : Type 1} → statement M

@@ -4,8 +4,7 @@
 use mathlib.Core.Path.{_≡_, sym, _∙_}
 use mathlib.Core.Bool.{true}
 use borrow.Author.Needs.{needs}
-use Rattle.paper.specs.Ranges.{validStatics}
-use Rattle.inputs.specs.Parts.{orderedStatics, multiplesOfStep}
+use Rattle.paper.specs.Ranges.{validStatics, orderedStatics, multiplesOfStep}
 use Rattle.inputs.proofs.Tests.{ordered-step}
 use Rattle.inputs.proofs.statics.valid_statics.Statement.{statement}
 use Rattle.inputs.proofs.statics.valid_statics.Tie as tie
@@ -17,16 +16,16 @@ ordered : (c : tie.Then1) → orderedStatics (c .before .before .args .st) ≡ t
 ordered c = sym (c .before .ordered-statics .ensures) ∙ c .if1 .taken
 
 multiples-of-step-requires : tie.Need-multiples-of-step-requires
-multiples-of-step-requires c κs = ordered-step _ (ordered c)
+multiples-of-step-requires c κs = ordered-step (c .before .before .args .st) (ordered c)
 
 returns : tie.Need-returns
-unfolding validStatics orderedStatics multiplesOfStep
+unfolding validStatics
 returns c =
     let after = c .before .before .before .before .before .before .before .before .before in
     rw (after .multiples-of-step .ensures, ordered (after .before))
 
 returns-2 : tie.Need-returns-2
-unfolding validStatics orderedStatics
+unfolding validStatics
 returns-2 c = rw (sym (c .before .ordered-statics .ensures) ∙ c .if1 .left)
 
 pub valid-statics-spec : {M : Type 1} → statement M

@@ -1,4 +1,4 @@
--- `tentative::wanted` meets its contract: the least multiple, held at S_max. Assumes nothing.
+-- `tentative::tentative_rate` meets its contract: the least multiple, held at S_max. Assumes nothing.
 use native.Mathlib.Nat.{mul-le-mul}
 use native.Mathlib.Omega.{arith}
 use borrow.Author.Needs.{needs}

@@ -1,7 +1,7 @@
--- `limits::less` meets its contract: the difference is taken only where it does not pass below 0. Assumes nothing.
+-- `exact::less` meets its contract: the difference is taken only where it does not pass below 0. Assumes nothing.
 use native.Mathlib.Omega.{arith}
-use Rattle.limits.proofs.less.Statement.{statement}
-use Rattle.limits.proofs.less.Tie as tie
+use Rattle.exact.proofs.less.Statement.{statement}
+use Rattle.exact.proofs.less.Tie as tie
 
 sub-result : tie.Need-sub-result
 sub-result c = omega arith

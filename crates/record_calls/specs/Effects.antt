@@ -18,7 +18,7 @@ use Rattle.paper.specs.Ranges.{validSlots, validAdmission, sound, sideOf}
 use Rattle.paper.specs.Verdicts.{isDone, Check, firstOf}
 use Rattle.paper.specs.Desk.{blank, saying, showing, admitted, evaluated, quoted, alertsOn, moved, place, found, Outcome, evaluateChecks, quoteChecks, moveChecks, readChecks}
 use Rattle.record_calls.specs.declared.Slot.{Slot}
-use Rattle.record_calls.specs.declared.Outcome.{Outcome}
+use Rattle.record_calls.specs.declared.Effect.{Effect}
 
 -- the first slot with an id: the number of slots, its place, and its record; past the end, a blank
 unfoldable pub slotOf : List Record → ℕ → Slot
@@ -32,11 +32,11 @@ unfoldable pub isKnown : Slot → Bool
 isKnown s = validSlots (s .count) && holds s && sound (s .rec)
 
 -- a refusal stores past the end, where nothing is stored
-unfoldable pub refusedOutcome : ℕ → Verdict → Outcome
-refusedOutcome count v = record { at = count; rec = blank; answer = saying v }
+unfoldable pub refusedEffect : ℕ → Verdict → Effect
+refusedEffect count v = record { at = count; rec = blank; answer = saying v }
 
-unfoldable pub judgedOutcome : ℕ → Verdict → Outcome → Outcome
-judgedOutcome count v accepted = pick (isDone v) accepted (refusedOutcome count v)
+unfoldable pub judgedEffect : ℕ → Verdict → Effect → Effect
+judgedEffect count v accepted = pick (isDone v) accepted (refusedEffect count v)
 
 -- of the slot with the id, and the first empty one
 unfoldable pub admitChecksOf : Slot → Slot → Admission → List Check
@@ -46,24 +46,24 @@ admitChecksOf s e a =
     ∷ record { verdict = NoEmptySlot; applies = not (holds e) }
     ∷ []
 
-unfoldable pub admitOutcome : Slot → Slot → Admission → Outcome
-admitOutcome s e a =
-    judgedOutcome (s .count) (firstOf (admitChecksOf s e a))
+unfoldable pub admitEffect : Slot → Slot → Admission → Effect
+admitEffect s e a =
+    judgedEffect (s .count) (firstOf (admitChecksOf s e a))
     (record { at = e .at; rec = admitted a; answer = saying Done })
 
-unfoldable pub evaluateOutcome : Slot → Day → List ℤ → Outcome
-evaluateOutcome s d rows =
-    judgedOutcome (s .count) (firstOf (evaluateChecks (isKnown s) (s .rec) d rows))
+unfoldable pub evaluateEffect : Slot → Day → List ℤ → Effect
+evaluateEffect s d rows =
+    judgedEffect (s .count) (firstOf (evaluateChecks (isKnown s) (s .rec) d rows))
     (record { at = s .at; rec = evaluated (s .rec) d rows; answer = showing (evaluated (s .rec) d rows) })
 
-unfoldable pub quoteOutcome : Slot → Quote → Outcome
-quoteOutcome s q =
-    judgedOutcome (s .count) (firstOf (quoteChecks (isKnown s) (s .rec) q))
+unfoldable pub quoteEffect : Slot → Quote → Effect
+quoteEffect s q =
+    judgedEffect (s .count) (firstOf (quoteChecks (isKnown s) (s .rec) q))
     (record { at = s .at; rec = quoted (s .rec) q; answer = alertsOn (s .rec) q })
 
-unfoldable pub moveOutcome : Slot → ℕ → Outcome
-moveOutcome s side =
-    judgedOutcome (s .count) (firstOf (moveChecks (isKnown s) (s .rec) side))
+unfoldable pub moveEffect : Slot → ℕ → Effect
+moveEffect s side =
+    judgedEffect (s .count) (firstOf (moveChecks (isKnown s) (s .rec) side))
     (record { at = s .at; rec = moved (s .rec) (sideOf side); answer = showing (moved (s .rec) (sideOf side)) })
 
 unfoldable pub readAnswer : Slot → Answer
@@ -71,5 +71,5 @@ readAnswer s = pick (isDone (firstOf (readChecks (isKnown s)))) (showing (s .rec
     (saying (firstOf (readChecks (isKnown s))))
 
 -- the table after a turn, and its answer
-unfoldable pub doneBy : List Record → Outcome → Outcome
+unfoldable pub doneBy : List Record → Effect → Outcome
 doneBy t o = record { answer = o .answer; table = set t (o .at) (o .rec) }

@@ -1,8 +1,8 @@
--- `record_calls::is_done` meets its contract: 0 is done. Assumes nothing.
+-- `Verdict::is_done` meets its contract: 0 is done. Assumes nothing.
 use borrow.Author.Needs.{needs}
 use Rattle.paper.specs.Verdicts.{isDone}
-use Rattle.record_calls.proofs.is_done.Statement.{statement}
-use Rattle.record_calls.proofs.is_done.Tie as tie
+use Rattle.paper.proofs.Verdict.is_done.Statement.{statement}
+use Rattle.paper.proofs.Verdict.is_done.Tie as tie
 
 number-requires : tie.Need-number-requires
 number-requires c κs = search needs
