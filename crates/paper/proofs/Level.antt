@@ -16,7 +16,7 @@ use Rattle.paper.specs.Numbers.{hundredthsOfMillionthsInBp}
 use Rattle.paper.specs.Roundings.{Quotient}
 use Rattle.paper.specs.Least.{leastMultiple}
 use Rattle.paper.specs.Ranges.{validStatics}
-use Rattle.paper.specs.Rates.{leastStep, tentativeRate, meetsRequirement, daysOf, minimumOf, covers, levelRate, AtLeastRoots, volatilePart, liquidPart, AtLeastRequired, IsLeastStep, HeldLeast}
+use Rattle.paper.specs.Rates.{leastStep, heldStep, tentativeRate, meetsRequirement, daysOf, minimumOf, covers, levelRate, AtLeastRoots, volatilePart, liquidPart, AtLeastRequired, IsLeastStep, HeldLeast}
 use Rattle.paper.proofs.Logic.{clash, and-left, and-right, and-both, le-or-lt, pick-true, pick-false}
 use Rattle.paper.proofs.Search.{Mono, multiple-holds, multiple-least, multiple-bound, multiple-is, step-is}
 use Rattle.paper.proofs.Roots.{roots-covered, Floor, floor-root, short-one, short-two}
@@ -283,23 +283,23 @@ level-rate-is st level m tentative v =
 
 -- ---- the rate that the volatility asks for
 
--- t is the least multiple of h with 10,000·t ≥ q·s, held at S_max
-pub tentative-rate-is : (st : Statics) (s : ℕ) → validStatics st ≡ true
-    → HeldLeast (st .h) 0 (st .smax) (λ t. st .q * s ≤ hundredthsOfMillionthsInBp * t) (tentativeRate st s)
-unfolding tentativeRate
-tentative-rate-is st s v = go (le-or-lt searched (st .smax))
+-- the least multiple of h with w·t ≥ n, held at S_max
+held-step-is : (st : Statics) (w n : ℕ) → validStatics st ≡ true → 0 < w
+    → HeldLeast (st .h) 0 (st .smax) (λ t. n ≤ w * t) (heldStep st w n)
+unfolding heldStep
+held-step-is st w n v positive = go (le-or-lt searched (st .smax))
   where
     searched : ℕ
-    searched = leastStep (st .h) hundredthsOfMillionthsInBp (st .q * s)
+    searched = leastStep (st .h) w n
 
-    is : IsLeastStep (st .h) hundredthsOfMillionthsInBp (st .q * s) searched
-    is = step-is (st .h) hundredthsOfMillionthsInBp (st .q * s) (step-positive st v) (omega arith)
+    is : IsLeastStep (st .h) w n searched
+    is = step-is (st .h) w n (step-positive st v) positive
 
     most : st .smax / st .h * st .h ≡ st .smax
     most = whole-times (st .smax) (st .h) (stepping st 1 v .multiple)
 
     go : (searched ≤ st .smax) ⊎ (st .smax < searched)
-        → HeldLeast (st .h) 0 (st .smax) (λ t. st .q * s ≤ hundredthsOfMillionthsInBp * t) (min (st .smax) searched)
+        → HeldLeast (st .h) 0 (st .smax) (λ t. n ≤ w * t) (min (st .smax) searched)
     go (inl l) =
         let e : min (st .smax) searched ≡ searched = omega arith in
         rw e
@@ -320,3 +320,9 @@ tentative-rate-is st s v = go (le-or-lt searched (st .smax))
           covers-or-held = inr (refl, λ c. absurd (omega (arith, most, is .least (st .smax / st .h) (rw most c))));
           least = λ j _ c. le-trans (omega arith) (is .least j c);
         })
+
+-- t is the least multiple of h with 10,000·t ≥ q·s, held at S_max
+pub tentative-rate-is : (st : Statics) (s : ℕ) → validStatics st ≡ true
+    → HeldLeast (st .h) 0 (st .smax) (λ t. st .q * s ≤ hundredthsOfMillionthsInBp * t) (tentativeRate st s)
+unfolding tentativeRate
+tentative-rate-is st s v = held-step-is st hundredthsOfMillionthsInBp (st .q * s) v (omega arith)

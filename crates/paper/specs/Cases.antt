@@ -22,7 +22,7 @@ use Rattle.paper.specs.Roundings.{up, halfUp, toGrid, lesserOf, greaterO
 use Rattle.paper.specs.Least.{first, least, leastRoot, leastTimes, leastMultiple}
 use Rattle.paper.specs.Ranges.{isPrice, isGridPrice, validStatics, validGiven, validTentative, validAdmission, validSlots, gridOf, staticsOf, rowAt, partsFrom, rowsOf, rowOf, unsigned, noTerm, noLimits, rateAt}
 use Rattle.paper.specs.Evaluation.{rowPrice, rowWeight, roublesOf, traded, weights, worth, mean, closeOf, bestBid, lesserAsk, bestAsk, median, between, evaluationOf, dayRows}
-use Rattle.paper.specs.Rates.{modelOf, moveFrom, moveOf, weightOf, weighted, replacement, replaces, volatilityOf, leastStep, tentativeRate, tentativeAfter, meetsRequirement, daysOf, minimumOf, covers, levelRate, modelled, unmodelled, figuresOf}
+use Rattle.paper.specs.Rates.{modelOf, moveFrom, moveOf, weightOf, weighted, replacement, replaces, volatilityOf, leastStep, heldStep, tentativeRate, tentativeAfter, meetsRequirement, daysOf, minimumOf, covers, levelRate, modelled, unmodelled, figuresOf}
 use Rattle.paper.specs.Limits.{limitOf, shifted, rangeLimit, rangeOf, farthest, spread, monitored, narrower, bandLimit, bandOf, deltaOf, oneMore, rangeMoved, bandMoved}
 use Rattle.paper.specs.Alerts.{distance, isNear, nearCleared}
 use Rattle.paper.specs.Verdicts.{numberOf, isDone, firstOf}
@@ -76,10 +76,10 @@ dayWith m x = record { day = 4; b = 0; m = m; terms = three (λ k. x) }
 unfoldable pub after : (m : ℕ) → Term → Record
 unfolding admissionZ givenWith roublesRow dayWith staticsOf admitted minimumOf evaluated figuresOn figuresOf modelled
     unmodelled moveOn priceOn moveOf moveFrom up apart volatilityOf weightOf weighted replaces replacement leastStep
-    tentativeRate tentativeAfter levelRate covers meetsRequirement daysOf least first leastRoot leastTimes leastMultiple
-    evaluationOf dayRows rowsOf partsFrom rowAt rowOf unsigned roublesOf rowPrice rowWeight halfUp toGrid grown closeOf
-    mean traded those weights worth bestBid bestAsk lesserAsk between median gridOf rangeOf rangeLimit limitOf shifted
-    bandOf bandLimit farthest narrower lesserOf greaterOf monitored spread
+    heldStep tentativeRate tentativeAfter levelRate covers meetsRequirement daysOf least first leastRoot leastTimes
+    leastMultiple evaluationOf dayRows rowsOf partsFrom rowAt rowOf unsigned roublesOf rowPrice rowWeight halfUp toGrid
+    grown closeOf mean traded those weights worth bestBid bestAsk lesserAsk between median gridOf rangeOf rangeLimit
+    limitOf shifted bandOf bandLimit farthest narrower lesserOf greaterOf monitored spread
 after m x = evaluated (admitted admissionZ) (dayWith m x) (roublesRow 1030000 0 0 5 [])
 
 upperAt : Record → ℕ → ℕ

@@ -9,7 +9,7 @@ use Rattle.paper.specs.Lists.{pick}
 use Rattle.paper.specs.Numbers.{oneInTenThousandths, oneInMillionths, millionthsInBp, oneInHundredths}
 use Rattle.paper.specs.Roundings.{Quotient, greaterOf, apart}
 use Rattle.paper.specs.Ranges.{staticsOf, rateAt}
-use Rattle.paper.specs.Rates.{modelOf, moveOf, weightOf, weighted, replaces}
+use Rattle.paper.specs.Rates.{modelOf, moveOf, weightOf, replacementWins}
 use Rattle.paper.specs.History.{Event, evaluatedOn, quotedAt, movedBy}
 use Rattle.paper.specs.Sequences.{Carries, carries}
 
@@ -38,9 +38,7 @@ nextSquare q x r replaced =
 
 -- the choice that the volatility's rule makes in an evaluation
 unfoldable pub choiceOf : Model → (b last r s : ℕ) → Choice
-choiceOf m b last r s =
-    let a : ℕ = weightOf m b r s in
-    pick (replaces m b last r (weighted a s r)) replaced (byWeight a)
+choiceOf m b last r s = pick (replacementWins m b last r s) replaced (byWeight (weightOf m b r s))
 
 -- the exact square in square millionths: from the s of the admission, by the move of each accepted evaluation as it is,
 -- not rounded, and by the choice that the carried figure made in it. Quotes and moves carry nothing on

@@ -13,7 +13,7 @@ use Rattle.paper.specs.declared.Model.{Model}
 use Rattle.paper.specs.declared.Statics.{Statics}
 use Rattle.paper.specs.declared.Figures.{Figures}
 use Rattle.paper.specs.Lists.{pick, forLevels}
-use Rattle.paper.specs.Numbers.{hundredthsOfMillionthsInBp, oneInTenThousandths, oneInMillionths, millionthsInBp, oneInHundredths, volatilityMost, ageMost}
+use Rattle.paper.specs.Numbers.{oneInTenThousandths, oneInMillionths, millionthsInBp, oneInHundredths, volatilityMost, ageMost}
 use Rattle.paper.specs.Roundings.{Quotient, up, apart}
 use Rattle.paper.specs.Least.{leastRoot, leastTimes, leastMultiple}
 
@@ -54,10 +54,13 @@ replacement q r = leastTimes q (oneInHundredths * r)
 unfoldable pub replaces : Model → (b last r x : ℕ) → Bool
 replaces m b last r x = leb b 1 && ltb last r && ltb x (replacement (m .q) r)
 
+-- whether y is the one chosen over this evaluation's x
+abbrev pub replacementWins : Model → (b last r s : ℕ) → Bool
+replacementWins m b last r s = replaces m b last r (weighted (weightOf m b r s) s r)
+
 unfoldable pub volatilityOf : Model → (b last r s : ℕ) → ℕ
 volatilityOf m b last r s =
-    let x : ℕ = weighted (weightOf m b r s) s r in
-    pick (replaces m b last r x) (replacement (m .q) r) x
+    pick (replacementWins m b last r s) (replacement (m .q) r) (weighted (weightOf m b r s) s r)
 
 -- ---- the tentative rate
 
@@ -65,9 +68,13 @@ volatilityOf m b last r s =
 unfoldable pub leastStep : (h factor n : ℕ) → ℕ
 leastStep h factor n = leastMultiple h n (λ t. leb n (factor * t))
 
+-- .. "held at S_max": a share's t is held here and nowhere else; the interest side has no maximum
+unfoldable pub heldStep : Statics → (factor n : ℕ) → ℕ
+heldStep st factor n = min (st .smax) (leastStep (st .h) factor n)
+
 -- "t is the least multiple of h with 10,000·t ≥ q·s, held at S_max."
 unfoldable pub tentativeRate : Statics → ℕ → ℕ
-tentativeRate st s = min (st .smax) (leastStep (st .h) hundredthsOfMillionthsInBp (st .q * s))
+tentativeRate st s = heldStep st oneInTenThousandths (st .q * s)
 
 -- "If t ≥ tentative + h, tentative becomes t. Else if t ≤ tentative - h and age + 1 ≥ n, it falls by one h. Else it
 -- stays. Age becomes 0 on a change, else one more, held at 250."

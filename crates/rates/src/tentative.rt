@@ -2,7 +2,7 @@
 ghost use mathlib.Core.Path.{_≡_};
 ghost use Prim.Native.Nat.{_+_, _*_, _^_, _≤_, _<_};
 ghost use Rattle.paper.specs.Numbers.{volatilityMost};
-ghost use Rattle.paper.specs.Rates.{leastStep, tentativeRate, tentativeAfter};
+ghost use Rattle.paper.specs.Rates.{leastStep, heldStep, tentativeRate, tentativeAfter};
 ghost use Rattle.rates.specs.Asked.{RateStatics};
 use paper::HUNDREDTHS_OF_MILLIONTHS_IN_BP;
 use paper::Record;
@@ -17,16 +17,21 @@ pub fn least_step(h: u64, factor: u64, n: u64) -> u64
     exact::up(n, factor * h) * h
 }
 
+// The same, held at S_max: a share's t is held here and nowhere else.
+fn held_step(st: Statics, factor: u64, n: u64) -> u64
+    requires { ⌜ (0 < st .h) × (0 < factor) × (n + factor * st .h < 2 ^ 64) ⌝ }
+    ensures { λ r. ⌜ r ≡ heldStep st factor n ⌝ }
+{
+    exact::lesser(st.smax, least_step(st.h, factor, n))
+}
+
 // The t of the paper.
 pub fn tentative_rate(st: Statics, s: u64) -> u64
     requires { ⌜ RateStatics st ⌝ }
     requires { ⌜ s ≤ volatilityMost ⌝ }
     ensures { λ r. ⌜ r ≡ tentativeRate st s ⌝ }
 {
-    exact::lesser(
-        st.smax,
-        least_step(st.h, HUNDREDTHS_OF_MILLIONTHS_IN_BP, st.q * s),
-    )
+    held_step(st, HUNDREDTHS_OF_MILLIONTHS_IN_BP, st.q * s)
 }
 
 // Up to t at once, down by one step where it has waited, else it stays.

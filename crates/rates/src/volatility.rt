@@ -5,6 +5,7 @@ ghost use Prim.Native.Nat.{_*_, _^_, _≤_, _<_};
 ghost use Rattle.paper.specs.Numbers.{oneInTenThousandths, volatilityMost};
 ghost use Rattle.paper.specs.Ranges.{isPrice};
 ghost use Rattle.paper.specs.Rates.{modelOf, moveFrom, moveOf, weightOf, weighted, replacement, replaces, volatilityOf, Weighing};
+ghost use Rattle.rates.specs.Chosen.{chosen};
 use paper::Model;
 use paper::ONE_IN_HUNDREDTHS;
 use paper::ONE_IN_MILLIONTHS;
@@ -82,16 +83,37 @@ pub fn replaces(m: Model, b: u64, last: u64, r: u64, x: u64) -> bool
     (b <= 1) & (r > last) & (x < replacement(m.q, r))
 }
 
-// New s.
+// New s, and whether it is the replacement.
+pub struct Volatility {
+    pub s: u64,
+    pub replaced: bool,
+}
+
+pub fn choose(m: Model, b: u64, last: u64, r: u64, s: u64) -> Volatility
+    requires { ⌜ Weighing m ⌝ }
+    requires { ⌜ (r ≤ volatilityMost) × (s ≤ volatilityMost) ⌝ }
+    ensures { λ v. ⌜ v ≡ chosen m b last r s ⌝ }
+{
+    let x = weighted(weight_of(m, b, r, s), s, r);
+    if replaces(m, b, last, r, x) {
+        Volatility {
+            s: replacement(m.q, r),
+            replaced: true,
+        }
+    } else {
+        Volatility {
+            s: x,
+            replaced: false,
+        }
+    }
+}
+
+// New s alone, which is all that the interest side takes.
 pub fn volatility_of(m: Model, b: u64, last: u64, r: u64, s: u64) -> u64
     requires { ⌜ Weighing m ⌝ }
     requires { ⌜ (r ≤ volatilityMost) × (s ≤ volatilityMost) ⌝ }
     ensures { λ x. ⌜ x ≡ volatilityOf m b last r s ⌝ }
 {
-    let x = weighted(weight_of(m, b, r, s), s, r);
-    if replaces(m, b, last, r, x) {
-        replacement(m.q, r)
-    } else {
-        x
-    }
+    let new = choose(m, b, last, r, s);
+    new.s
 }

@@ -1,24 +1,20 @@
--- `tentative::tentative_rate` meets its contract: the least multiple, held at S_max. Assumes nothing.
+-- `tentative::tentative_rate` meets its contract: q·s is at most 1,000 times the greatest volatility. Assumes nothing.
 use native.Mathlib.Nat.{mul-le-mul}
 use native.Mathlib.Omega.{arith}
-use borrow.Author.Needs.{needs}
 use Rattle.paper.specs.Rates.{tentativeRate}
 use Rattle.rates.proofs.tentative.tentative_rate.Statement.{statement}
 use Rattle.rates.proofs.tentative.tentative_rate.Tie as tie
 
-mul-least-step : tie.Need-mul-least-step
-mul-least-step c = omega (arith, mul-le-mul (c .before .pre .0 .multiplier-high) (c .before .pre .1))
+mul-held-step : tie.Need-mul-held-step
+mul-held-step c = omega (arith, mul-le-mul (c .before .pre .0 .multiplier-high) (c .before .pre .1))
 
-least-step-requires : tie.Need-least-step-requires
-least-step-requires c κs =
+held-step-requires : tie.Need-held-step-requires
+held-step-requires c κs =
     omega (arith, c .before .pre .0, mul-le-mul (c .before .pre .0 .multiplier-high) (c .before .pre .1))
-
-lesser-requires : tie.Need-lesser-requires
-lesser-requires c κs = search needs
 
 returns : tie.Need-returns
 unfolding tentativeRate
-returns c = rw (c .lesser .ensures, c .before .least-step .ensures)
+returns c = c .held-step .ensures
 
 pub tentative-rate-spec : {M : Type 1} → statement M
-tentative-rate-spec = tie.close (tie.spec mul-least-step least-step-requires lesser-requires returns)
+tentative-rate-spec = tie.close (tie.spec mul-held-step held-step-requires returns)

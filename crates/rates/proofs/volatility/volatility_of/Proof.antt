@@ -1,52 +1,15 @@
--- `volatility::volatility_of` meets its contract: the choice of the code is the definition's, between the same two
--- numbers. Assumes nothing.
-use mathlib.Core.Path.{_≡_, sym, _∙_}
-use Prim.Native.Nat.{ℕ, _≤_}
-use native.Mathlib.Omega.{arith}
+-- `volatility::volatility_of` meets its contract: of what is chosen, the figure. Assumes nothing.
+use mathlib.Core.Path.{ap}
 use borrow.Author.Needs.{needs}
-use Rattle.paper.specs.Rates.{weightOf, weighted}
-use Rattle.paper.proofs.Volatility.{weight-most}
-use Rattle.rates.proofs.Volatilities.{replaced, not-replaced}
+use Rattle.rates.specs.declared.volatility.Volatility.{Volatility}
 use Rattle.rates.proofs.volatility.volatility_of.Statement.{statement}
 use Rattle.rates.proofs.volatility.volatility_of.Tie as tie
 
-weight-of-requires : tie.Need-weight-of-requires
-weight-of-requires c κs = search needs
-
-weighted-requires : tie.Need-weighted-requires
-weighted-requires c κs =
-    let start = c .before in
-    let high = weight-most (start .args .m) (start .args .b) (start .args .r) (start .args .s) (start .pre .0) in
-    omega (arith, c .weight-of .ensures, high)
-
--- the x of the paper
-mean : (c : tie.After-weighted)
-    → c .weighted .result
-    ≡ weighted
-    (weightOf (c .before .before .args .m) (c .before .before .args .b) (c .before .before .args .r)
-    (c .before .before .args .s))
-    (c .before .before .args .s)
-    (c .before .before .args .r)
-mean c = rw (c .weighted .ensures, c .before .weight-of .ensures)
-
-replaces-requires : tie.Need-replaces-requires
-replaces-requires c κs = search needs
-
-replacement-requires : tie.Need-replacement-requires
-replacement-requires c κs = search needs
+choose-requires : tie.Need-choose-requires
+choose-requires c κs = search needs
 
 returns : tie.Need-returns
-returns c =
-    c .replacement .ensures
-    ∙ replaced _ _ _ _ _ _ (mean (c .before .before .before)) (sym (c .before .before .replaces .ensures)
-    ∙ c .before .if1 .taken)
-
-returns-2 : tie.Need-returns-2
-returns-2 c =
-    not-replaced _ (c .before .before .before .before .args .b) (c .before .before .before .before .args .last) _ _ _
-    (mean (c .before .before)) (sym (c .before .replaces .ensures) ∙ c .if1 .left)
+returns c = ap (λ (v : Volatility). v .s) (c .choose .ensures)
 
 pub volatility-of-spec : {M : Type 1} → statement M
-volatility-of-spec =
-    tie.close
-    (tie.spec weight-of-requires weighted-requires replaces-requires replacement-requires returns returns-2)
+volatility-of-spec = tie.close (tie.spec choose-requires returns)
