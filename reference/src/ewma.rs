@@ -2,7 +2,7 @@
 //! weight, root, replacement and the one-step-down rule. Volatility, change
 //! and the rate that a change may pass share one unit, millionths for shares
 //! and basis points for interest. There is no maximum here: a share holds t at
-//! its own.
+//! its own, and takes it from the move where its replacement is chosen (W-202).
 
 use crate::exact::{least, narrow, wide, Quotient};
 use crate::units::{AGE, ONE_IN_HUNDREDTHS, ONE_IN_TEN_THOUSANDTHS};
@@ -42,33 +42,50 @@ fn weight(model: &Model, change: i64, s: i64, days_between: i64) -> i64 {
     }
 }
 
-/// The least x with 10,000·x² ≥ (10,000 - a)·s² + a·change².
-fn weighed(a: i64, change: i64, s: i64) -> i64 {
-    let (a, change, s) = (wide(a), wide(change), wide(s));
+/// x, the weighed volatility: the least x with
+/// 10,000·x² ≥ (10,000 - a)·s² + a·change².
+pub fn weighed(model: &Model, s: i64, change: i64, days_between: i64) -> i64 {
+    let a = wide(weight(model, change, s, days_between));
+    let (change, s) = (wide(change), wide(s));
     let square = (ONE_IN_TEN_THOUSANDTHS - a) * s * s + a * change * change;
     narrow(least(s.min(change), s.max(change), |x| {
         ONE_IN_TEN_THOUSANDTHS * x * x >= square
     }))
 }
 
-/// The least y with y·q ≥ 100·change.
-fn replacement(model: &Model, change: i64) -> i64 {
+/// y, the replacement: the least y with y·q ≥ 100·change. None where the
+/// change has not passed the last rate, or after more than one holiday.
+pub fn replacement(model: &Model, change: i64, last_rate: i64, days_between: i64) -> Option<i64> {
     let needed = Quotient {
         numerator: ONE_IN_HUNDREDTHS * wide(change),
         denominator: wide(model.multiplier),
     };
-    narrow(needed.up())
+    let is_passed = days_between <= HOLIDAYS_MAX && change > last_rate;
+    is_passed.then(|| narrow(needed.up()))
 }
 
-/// New s: the weighed volatility, and the replacement where the change passed
-/// the last rate.
-pub fn volatility(model: &Model, s: i64, change: i64, last_rate: i64, days_between: i64) -> i64 {
-    let x = weighed(weight(model, change, s, days_between), change, s);
-    let passed = days_between <= HOLIDAYS_MAX && change > last_rate;
-    if passed {
-        x.max(replacement(model, change))
-    } else {
-        x
+/// New s, and which of the two it is.
+#[derive(Clone, Copy, Debug, PartialEq, Eq)]
+pub enum Chosen {
+    Weighed(i64),
+    Replacement(i64),
+}
+
+impl Chosen {
+    pub fn s(self) -> i64 {
+        match self {
+            Chosen::Weighed(s) | Chosen::Replacement(s) => s,
+        }
+    }
+}
+
+/// The greater of the weighed volatility and the replacement; on a tie the
+/// weighed one is chosen.
+pub fn volatility(model: &Model, s: i64, change: i64, last_rate: i64, days_between: i64) -> Chosen {
+    let x = weighed(model, s, change, days_between);
+    match replacement(model, change, last_rate, days_between) {
+        Some(y) if y > x => Chosen::Replacement(y),
+        _ => Chosen::Weighed(x),
     }
 }
 

@@ -250,13 +250,14 @@ impl Sheet {
     fn figures(&self, key: &Key) -> Figures {
         let change = key.change();
         let before = &key.before;
-        let s = ewma::volatility(
+        let chosen = ewma::volatility(
             &self.model,
             before.s,
             change,
             before.tentative,
             self.days_between,
         );
+        let s = chosen.s();
         let t = ewma::target(&self.model, s, UNITS_IN_BP);
         let after = ewma::stepped(&self.model, s, t, before);
         let estimate = |minimum: i64| self.estimate(after.tentative, minimum);

@@ -1,6 +1,6 @@
-//! The independent second opinion on document 01 and on W-201 of document 02:
-//! the parameter desk's rules in exact 128-bit integers, written from the
-//! papers alone.
+//! The independent second opinion on document 01 and on W-201 and W-202 of
+//! document 02: the parameter desk's rules in exact 128-bit integers, written
+//! from the papers alone.
 //!
 //! A quotient stays a numerator and a denominator until one of the paper's
 //! places of rounding (a) to (g), or W-201's own.
@@ -8,6 +8,7 @@
 pub mod compare;
 pub mod count;
 pub mod count_interest;
+pub mod count_replacement;
 pub mod desk;
 pub mod evaluation;
 pub mod ewma;
@@ -21,9 +22,11 @@ pub mod random;
 pub mod rates;
 pub mod record;
 pub mod refusal;
+pub mod replay;
 pub mod script;
 pub mod security;
 pub mod slices;
 pub mod statics;
+pub mod tally;
 pub mod units;
 pub mod words;

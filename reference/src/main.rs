@@ -3,10 +3,11 @@
 use std::io::{self, Write};
 use std::process::ExitCode;
 
-use reference::{compare, count, count_interest, gateway, protocol, script};
+use reference::{compare, count, count_interest, count_replacement, gateway, protocol, script};
 
 const USAGE: &str = "usage: reference evening | gateway | script-evening SEED LINES | \
-script-gateway SEED LINES | count [gateway | interest] | compare FILE_A FILE_B SCRIPT";
+script-gateway SEED LINES | count [gateway | interest | replacement] | \
+compare FILE_A FILE_B SCRIPT";
 /// The exit code of a comparison that fails or a count with a gap.
 const DIFFERENT: u8 = 1;
 /// The exit code of a command that cannot be run.
@@ -41,6 +42,7 @@ fn run(words: &[&str]) -> io::Result<ExitCode> {
         ["count"] => return told(&count::count(input, count::Answers::Evening)?),
         ["count", "gateway"] => return told(&count::count(input, count::Answers::Gateway)?),
         ["count", "interest"] => return told(&count_interest::count_interest(input)?),
+        ["count", "replacement"] => return told(&count_replacement::count_replacement(input)?),
         ["compare", first, second, script] => return compared(first, second, script),
         _ => return Err(unusable(USAGE)),
     }

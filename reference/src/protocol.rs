@@ -164,21 +164,50 @@ fn admission(numbers: &[i64]) -> Option<Admission> {
     })
 }
 
-/// `ID DAY B M`, the three terms, and the row figures.
+/// What an evaluation is asked: `ID DAY B M`, the three terms, and the row
+/// figures.
+#[derive(Clone, Debug)]
+pub struct Asked {
+    pub id: i64,
+    pub number: i64,
+    pub days_between: i64,
+    pub days_closed: i64,
+    pub terms: [RepoTerm; 3],
+    pub rows: Vec<i64>,
+}
+
+impl Asked {
+    /// What the words of an evaluation ask; none where they are no call.
+    pub fn from_words(kept: &Kept, words: &[Word]) -> Option<Asked> {
+        let (head, rest) = split_first::<4, _>(words)?;
+        let (&[id, number, days_between, days_closed], _) = split_first(&numbers(head)?)?;
+        let (first, rest) = term(kept, rest)?;
+        let (second, rest) = term(kept, rest)?;
+        let (third, rest) = term(kept, rest)?;
+        Some(Asked {
+            id,
+            number,
+            days_between,
+            days_closed,
+            terms: [first, second, third],
+            rows: numbers(rest)?,
+        })
+    }
+
+    pub fn day(&self) -> Day<'_> {
+        Day {
+            number: self.number,
+            days_between: self.days_between,
+            days_closed: self.days_closed,
+            terms: self.terms,
+            rows: &self.rows,
+        }
+    }
+}
+
 fn evaluate(table: &mut [Record], kept: &Kept, words: &[Word]) -> Option<Answer> {
-    let (head, rest) = split_first::<4, _>(words)?;
-    let (&[id, number, days_between, days_closed], _) = split_first(&numbers(head)?)?;
-    let (first, rest) = term(kept, rest)?;
-    let (second, rest) = term(kept, rest)?;
-    let (third, rest) = term(kept, rest)?;
-    let day = Day {
-        number,
-        days_between,
-        days_closed,
-        terms: [first, second, third],
-        rows: &numbers(rest)?,
-    };
-    Some(answered(desk::evaluate(table, id, &day)))
+    let asked = Asked::from_words(kept, words)?;
+    Some(answered(desk::evaluate(table, asked.id, &asked.day())))
 }
 
 /// A term, `K RRCL RRCH` or `K YM/YN`, and the words after it.

@@ -1,7 +1,7 @@
 //! Move, volatility, tentative rate and level rates (document 01, "The rates
 //! (7.1)").
 
-use crate::ewma::{self, Volatility};
+use crate::ewma::{self, Chosen, Volatility};
 use crate::exact::{least, narrow, wide, Quotient};
 use crate::refusal::Refusal;
 use crate::statics::Statics;
@@ -47,9 +47,27 @@ pub fn after_day(
     }
     let model = statics.model();
     let last_rate = MILLIONTHS_IN_BP * day.last_s_1;
-    let s = ewma::volatility(&model, before.s, r, last_rate, day.days_between);
-    let t = ewma::target(&model, s, MILLIONTHS_IN_BP).min(statics.s_max);
-    Ok(ewma::stepped(&model, s, t, before))
+    let chosen = ewma::volatility(&model, before.s, r, last_rate, day.days_between);
+    let t = match chosen {
+        Chosen::Weighed(s) => ewma::target(&model, s, MILLIONTHS_IN_BP),
+        Chosen::Replacement(_) => move_target(statics, r),
+    };
+    Ok(ewma::stepped(
+        &model,
+        chosen.s(),
+        t.min(statics.s_max),
+        before,
+    ))
+}
+
+/// t where a share's replacement is chosen (W-202): the least multiple of h
+/// with 100·t ≥ r, before S_max holds it.
+pub fn move_target(statics: &Statics, r: i64) -> i64 {
+    let in_bp = Quotient {
+        numerator: wide(r),
+        denominator: wide(MILLIONTHS_IN_BP),
+    };
+    in_bp.up_to(statics.step)
 }
 
 /// What a level's rate has to cover.

@@ -117,16 +117,20 @@ fn case_8_replacement() {
     assert_eq!(price_move(1_200_000, 1_000_000, 1_000_000), 200_000);
     let one = evaluated(&record, &day(1, &rows)).unwrap();
     assert_eq!(one.s, 66_667);
+    // W-202: t is 2,000, and so is the tentative rate.
+    assert_eq!(one.tentative, 2_000);
     let at_most_one = Day {
         days_between: 1,
         ..day(1, &rows)
     };
-    assert_eq!(evaluated(&record, &at_most_one).unwrap().s, 66_667);
+    let one = evaluated(&record, &at_most_one).unwrap();
+    assert_eq!((one.s, one.tentative), (66_667, 2_000));
     let two = Day {
         days_between: 2,
         ..day(1, &rows)
     };
-    assert_eq!(evaluated(&record, &two).unwrap().s, 20_000);
+    let two = evaluated(&record, &two).unwrap();
+    assert_eq!((two.s, two.tentative), (20_000, 600));
 }
 
 #[test]

@@ -178,6 +178,14 @@ fn the_tentative_rate_falls_by_one_step_after_the_wait() {
 }
 
 #[test]
+fn a_replacement_has_the_ordinary_t() {
+    // W-202 is of shares: 21 replaces 5, and 3·21 = 63, though the change is 61.
+    let weights = [(A_UP, 0), (A_DOWN, 0), (H, 1)];
+    let key = [(R1, 861), (R2, 800), (VOLATILITY, 5), (TENTATIVE, 60)];
+    assert_eq!(figures(&weights, &key)[..3], [61, 21, 63]);
+}
+
+#[test]
 fn there_is_no_maximum() {
     // 10·19,998 = 199,980; 200·1,000 covers it, and of h 999 201 steps do.
     let greatest = |h: i64| {

@@ -1,8 +1,9 @@
 //! The scripts are the same for a seed, as long as asked, and meet every
-//! number and every edge of the interest side.
+//! number, every edge of the interest side and every edge of a replacement.
 
 use reference::count::{count, Answers};
 use reference::count_interest::count_interest;
+use reference::count_replacement::count_replacement;
 use reference::gateway::gateway;
 use reference::protocol::evening;
 use reference::script;
@@ -63,6 +64,21 @@ fn an_evening_meets_every_edge_of_the_interest_side() {
 #[test]
 fn an_evening_without_interest_lines_meets_no_edge() {
     let counted = count_interest(&b"read 1\nread 2"[..]).unwrap();
+    assert_eq!(counted.missing.len(), counted.line.lines().count());
+}
+
+#[test]
+fn an_evening_meets_every_edge_of_a_replacement() {
+    for seed in [1, 2] {
+        let script = script::evening::script(seed, 20_000);
+        let counted = count_replacement(&script[..]).unwrap();
+        assert!(counted.missing.is_empty(), "{:?}", counted.missing);
+    }
+}
+
+#[test]
+fn an_evening_without_evaluations_meets_no_edge_of_a_replacement() {
+    let counted = count_replacement(&b"read 1\nevaluate 1\nread 2"[..]).unwrap();
     assert_eq!(counted.missing.len(), counted.line.lines().count());
 }
 

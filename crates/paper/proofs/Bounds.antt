@@ -15,7 +15,7 @@ use Rattle.paper.specs.Lists.{pick}
 use Rattle.paper.specs.Numbers.{oneInTenThousandths, oneInHundredths, ageMost}
 use Rattle.paper.specs.Least.{leastMultiple}
 use Rattle.paper.specs.Roundings.{up}
-use Rattle.paper.specs.Rates.{weightOf, weighted, replacement, replaces, volatilityOf, leastStep, heldStep, tentativeRate, tentativeAfter, Weighing}
+use Rattle.paper.specs.Rates.{weightOf, weighted, replacement, replaces, volatilityOf, leastStep, heldStep, tentativeRate, tentativeRateByMove, tentativeRateOf, tentativeAfter, Weighing}
 use Rattle.paper.proofs.Logic.{le-or-lt}
 use Rattle.paper.proofs.Search.{root-least, times-least, least-unique}
 use Rattle.paper.proofs.Roundings.{up-covers, up-least, quotient-low}
@@ -99,10 +99,11 @@ step-high h w n p q =
 
 -- ---- the tentative rate
 
--- t is held at S_max
-pub tentative-rate-held : (st : Statics) (s : ℕ) → tentativeRate st s ≤ st .smax
-unfolding tentativeRate heldStep
-tentative-rate-held st s = omega arith
+-- t is held at S_max, whichever rule makes it
+pub tentative-rate-held : (st : Statics) (replaced : Bool) (r s : ℕ) → tentativeRateOf st replaced r s ≤ st .smax
+unfolding tentativeRateOf tentativeRateByMove tentativeRate heldStep
+tentative-rate-held st true r s = omega arith
+tentative-rate-held st false r s = omega arith
 
 -- the tentative rate by its two tests
 abbrev after : (h t : ℕ) → Tentative → (rise fall : Bool) → Tentative

@@ -12,11 +12,11 @@ use lib.Signed.{leZ}
 use borrow.Author.Tests.{leb-true, leb-false, le-leb, lt-leb, le-ltb, lt-ltb, eqb-true}
 use Rattle.paper.specs.declared.Statics.{Statics}
 use Rattle.paper.specs.Lists.{pick}
-use Rattle.paper.specs.Numbers.{hundredthsOfMillionthsInBp}
+use Rattle.paper.specs.Numbers.{hundredthsOfMillionthsInBp, millionthsInBp}
 use Rattle.paper.specs.Roundings.{Quotient}
 use Rattle.paper.specs.Least.{leastMultiple}
 use Rattle.paper.specs.Ranges.{validStatics}
-use Rattle.paper.specs.Rates.{leastStep, heldStep, tentativeRate, meetsRequirement, daysOf, minimumOf, covers, levelRate, AtLeastRoots, volatilePart, liquidPart, AtLeastRequired, IsLeastStep, HeldLeast}
+use Rattle.paper.specs.Rates.{leastStep, heldStep, tentativeRate, tentativeRateByMove, tentativeRateOf, meetsRequirement, daysOf, minimumOf, covers, levelRate, AtLeastRoots, volatilePart, liquidPart, AtLeastRequired, IsLeastStep, HeldLeast}
 use Rattle.paper.proofs.Logic.{clash, and-left, and-right, and-both, le-or-lt, pick-true, pick-false}
 use Rattle.paper.proofs.Search.{Mono, multiple-holds, multiple-least, multiple-bound, multiple-is, step-is}
 use Rattle.paper.proofs.Roots.{roots-covered, Floor, floor-root, short-one, short-two}
@@ -326,3 +326,16 @@ pub tentative-rate-is : (st : Statics) (s : ℕ) → validStatics st ≡ true
     → HeldLeast (st .h) 0 (st .smax) (λ t. st .q * s ≤ hundredthsOfMillionthsInBp * t) (tentativeRate st s)
 unfolding tentativeRate
 tentative-rate-is st s v = held-step-is st hundredthsOfMillionthsInBp (st .q * s) v (omega arith)
+
+-- W-202: of a replacement, with 100·t ≥ r
+pub tentative-rate-by-move-is : (st : Statics) (r : ℕ) → validStatics st ≡ true
+    → HeldLeast (st .h) 0 (st .smax) (λ t. r ≤ millionthsInBp * t) (tentativeRateByMove st r)
+unfolding tentativeRateByMove
+tentative-rate-by-move-is st r v = held-step-is st millionthsInBp r v (omega arith)
+
+-- whichever rule makes it, it is a multiple of h
+pub tentative-rate-multiple : (st : Statics) (replaced : Bool) (r s : ℕ) → validStatics st ≡ true
+    → tentativeRateOf st replaced r s % st .h ≡ 0
+unfolding tentativeRateOf
+tentative-rate-multiple st true r s v = tentative-rate-by-move-is st r v .multiple
+tentative-rate-multiple st false r s v = tentative-rate-is st s v .multiple

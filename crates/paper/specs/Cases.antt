@@ -22,7 +22,7 @@ use Rattle.paper.specs.Roundings.{up, halfUp, toGrid, lesserOf, greaterO
 use Rattle.paper.specs.Least.{first, least, leastRoot, leastTimes, leastMultiple}
 use Rattle.paper.specs.Ranges.{isPrice, isGridPrice, validStatics, validGiven, validTentative, validAdmission, validSlots, gridOf, staticsOf, rowAt, partsFrom, rowsOf, rowOf, unsigned, noTerm, noLimits, rateAt}
 use Rattle.paper.specs.Evaluation.{rowPrice, rowWeight, roublesOf, traded, weights, worth, mean, closeOf, bestBid, lesserAsk, bestAsk, median, between, evaluationOf, dayRows}
-use Rattle.paper.specs.Rates.{modelOf, moveFrom, moveOf, weightOf, weighted, replacement, replaces, volatilityOf, leastStep, heldStep, tentativeRate, tentativeAfter, meetsRequirement, daysOf, minimumOf, covers, levelRate, modelled, unmodelled, figuresOf}
+use Rattle.paper.specs.Rates.{modelOf, moveFrom, moveOf, weightOf, weighted, replacement, replaces, volatilityOf, leastStep, heldStep, tentativeRate, tentativeRateByMove, tentativeRateOf, tentativeAfter, meetsRequirement, daysOf, minimumOf, covers, levelRate, modelled, unmodelled, figuresOf}
 use Rattle.paper.specs.Limits.{limitOf, shifted, rangeLimit, rangeOf, farthest, spread, monitored, narrower, bandLimit, bandOf, deltaOf, oneMore, rangeMoved, bandMoved}
 use Rattle.paper.specs.Alerts.{distance, isNear, nearCleared}
 use Rattle.paper.specs.Verdicts.{numberOf, isDone, firstOf}
@@ -76,10 +76,11 @@ dayWith m x = record { day = 4; b = 0; m = m; terms = three (λ k. x) }
 unfoldable pub after : (m : ℕ) → Term → Record
 unfolding admissionZ givenWith roublesRow dayWith staticsOf admitted minimumOf evaluated figuresOn figuresOf modelled
     unmodelled moveOn priceOn moveOf moveFrom up apart volatilityOf weightOf weighted replaces replacement leastStep
-    heldStep tentativeRate tentativeAfter levelRate covers meetsRequirement daysOf least first leastRoot leastTimes
-    leastMultiple evaluationOf dayRows rowsOf partsFrom rowAt rowOf unsigned roublesOf rowPrice rowWeight halfUp toGrid
-    grown closeOf mean traded those weights worth bestBid bestAsk lesserAsk between median gridOf rangeOf rangeLimit
-    limitOf shifted bandOf bandLimit farthest narrower lesserOf greaterOf monitored spread
+    heldStep tentativeRate tentativeRateByMove tentativeRateOf tentativeAfter levelRate covers meetsRequirement daysOf
+    least first leastRoot
+    leastTimes leastMultiple evaluationOf dayRows rowsOf partsFrom rowAt rowOf unsigned roublesOf rowPrice rowWeight
+    halfUp toGrid grown closeOf mean traded those weights worth bestBid bestAsk lesserAsk between median gridOf
+    rangeOf rangeLimit limitOf shifted bandOf bandLimit farthest narrower lesserOf greaterOf monitored spread
 after m x = evaluated (admitted admissionZ) (dayWith m x) (roublesRow 1030000 0 0 5 [])
 
 upperAt : Record → ℕ → ℕ
@@ -140,9 +141,11 @@ results =
     ∷ [])
     -- 7: r, and the weight
     ∷ (moveOf 300000000 300000000 306000100 ∷ weightOf (modelOf Z) 0 (moveOf 300000000 300000000 306000100) 20000 ∷ [])
-    -- 8: s after r 200,000 with S_1 700, and with b 2
-    ∷ (volatilityOf (modelOf Z) 0 (millionthsInBp * 700) 200000 20000 ∷ volatilityOf (modelOf Z) 2
-    (millionthsInBp * 700) 200000 20000 ∷ [])
+    -- 8: s after r 200,000 with S_1 700, and with b 2; of the first, t by W-202, which is the tentative rate then
+    ∷ (volatilityOf (modelOf Z) 0 (millionthsInBp * 700) 200000 20000
+    ∷ volatilityOf (modelOf Z) 2 (millionthsInBp * 700) 200000 20000
+    ∷ modelled Z 0 0 700 200000 20000 (record { bp = 600; age = 0 }) .tentative .bp
+    ∷ [])
     -- 9: t, and the tentative rate at age 3 and at age 4
     ∷ (tentativeRate Z 3333
     ∷ tentativeAfter (Z .h) (Z .wait) (tentativeRate Z 3333) (record { bp = 700; age = 3 }) .bp
@@ -156,7 +159,7 @@ results =
     ∷ [])
     ∷ []
 
--- what document 01 says
+-- what document 01 says, and W-202 of case 8's t
 pub starred : results
     ≡ (30000 ∷ 21214 ∷ 700 ∷ 800 ∷ 1200 ∷ 1500 ∷ [])
     ∷ (1500 ∷ 1000 ∷ [])
@@ -165,7 +168,8 @@ pub starred : results
     ∷ (1091800 ∷ 1133000 ∷ 1174200 ∷ 1205100 ∷ [])
     ∷ (0 ∷ 1 ∷ [])
     ∷ (20001 ∷ 1000 ∷ [])
-    ∷ (66667 ∷ 20000 ∷ [])
+    -- W-202: "Case 8's t becomes 2,000."
+    ∷ (66667 ∷ 20000 ∷ 2000 ∷ [])
     ∷ (100 ∷ 700 ∷ 600 ∷ [])
     ∷ (1003125 ∷ 1003130 ∷ [])
     ∷ (1005000 ∷ 1000000 ∷ [])

@@ -26,6 +26,7 @@ pub mod PinnedRanges
 pub mod PinnedOrders
 pub mod PinnedSession
 pub mod PinnedEvaluation
+pub mod PinnedReplacement
 pub mod PinnedExact
 pub mod PinnedGateway
 pub mod PinnedInterest

@@ -180,6 +180,19 @@ pub holidays-are : holidays
 unfolding holidays
 holidays-are = refl
 
+-- ---- the request of a share's t (W-202) is not the interest side's
+
+-- with q 300 and the volatility 0, a change of 200 is above the old tentative rate of 150, and its y wins
+pub ofTheVolatility : List ℕ
+unfolding answerTo callRow keyRow figures
+ofTheVolatility = figures (answerTo (callRow but (5, pos 300)) (keyRow but (2, pos 600) but (6, pos 150))) 0
+
+-- 0.1·200² is 4,000, and 64 covers it; 100·200/300 up is 67. 300·67 is 20,100, and t is 201 up to 250 (by the change
+-- itself it would be 200)
+pub of-the-volatility : ofTheVolatility ≡ 200 ∷ 67 ∷ 250 ∷ 0 ∷ 300 ∷ 1000 ∷ []
+unfolding ofTheVolatility
+of-the-volatility = refl
+
 -- ---- between the key maturities, and outside them (14.6)
 
 -- a key maturity whose rate stands: the volatility is 0, and the tentative rate waits

@@ -17,7 +17,7 @@ use Rattle.paper.specs.Roundings.{up, halfUp, toGrid, lesserOf, greaterO
 use Rattle.paper.specs.Least.{first, least, leastRoot, leastTimes, leastMultiple}
 use Rattle.paper.specs.Ranges.{unsigned, isPrice, isRate, gridOf, isGridPrice, validStatics, staticsOf, validGiven, validTentative, validAdmission, partsFrom, rowAt, rowsOf, wholeRows, validRow, validRows, rowOf, validTerm, validDay, validQuote, validSide, sideOf, isLive, lastDay, noLimits, isLimit, validLimits, validNear, validNearSeconds, sound, validSlots}
 use Rattle.paper.specs.Evaluation.{rowPrice, rowWeight, roublesOf, traded, weights, worth, mean, closeOf, bestBid, lesserAsk, bestAsk, median, between, evaluationOf, dayRows, rowFits, evaluationFits}
-use Rattle.paper.specs.Rates.{moveFrom, moveOf, weightOf, weighted, replacement, replaces, volatilityOf, leastStep, heldStep, tentativeRate, tentativeAfter, meetsRequirement, daysOf, minimumOf, covers, levelRate, modelled, unmodelled, figuresOf, moveTooLarge}
+use Rattle.paper.specs.Rates.{moveFrom, moveOf, weightOf, weighted, replacement, replaces, volatilityOf, leastStep, heldStep, tentativeRate, tentativeRateByMove, tentativeRateOf, tentativeAfter, meetsRequirement, daysOf, minimumOf, covers, levelRate, modelled, unmodelled, figuresOf, moveTooLarge}
 use Rattle.paper.specs.Limits.{limitOf, shifted, rangeLimit, rangeOf, farthest, spread, monitored, narrower, bandLimit, bandOf, crossed, deltaOf, oneMore, rangeMoved, bandMoved}
 use Rattle.paper.specs.Alerts.{distance, isNear, keptSince, nearAfter, alert, nearCleared}
 use Rattle.paper.specs.Verdicts.{numberOf, isDone, firstOf}
@@ -31,14 +31,15 @@ unfolding unsigned isPrice isRate gridOf isGridPrice validStatics staticsOf vali
     partsFrom rowAt rowsOf wholeRows validRow validRows rowOf validTerm validDay validQuote validSide sideOf isLive
     lastDay isLimit validLimits validNear validNearSeconds sound validSlots rowPrice rowWeight roublesOf traded
     weights worth mean closeOf bestBid lesserAsk bestAsk median between evaluationOf dayRows rowFits evaluationFits
-    moveFrom moveOf weightOf weighted replacement replaces volatilityOf leastStep heldStep tentativeRate tentativeAfter
-    meetsRequirement daysOf
-    minimumOf covers levelRate modelled unmodelled figuresOf moveTooLarge limitOf shifted rangeLimit rangeOf farthest
-    spread monitored narrower bandLimit bandOf crossed deltaOf oneMore rangeMoved bandMoved distance isNear keptSince
-    nearAfter alert nearCleared isDone firstOf blank saying showing alerting admitted priceOn moveOn figuresOn
-    evaluated nearOn quoted alertsOn moved place stands found known admitChecks evaluateChecks quoteChecks moveChecks
-    readChecks checksOf judged acceptedOf step run every those up halfUp toGrid lesserOf greaterOf grown apart first
-    least leastRoot leastTimes leastMultiple
+    moveFrom moveOf weightOf weighted replacement replaces volatilityOf leastStep heldStep tentativeRate
+    tentativeRateByMove
+    tentativeRateOf tentativeAfter meetsRequirement daysOf minimumOf covers levelRate modelled unmodelled figuresOf
+    moveTooLarge limitOf
+    shifted rangeLimit rangeOf farthest spread monitored narrower bandLimit bandOf crossed deltaOf oneMore rangeMoved
+    bandMoved distance isNear keptSince nearAfter alert nearCleared isDone firstOf blank saying showing alerting
+    admitted priceOn moveOn figuresOn evaluated nearOn quoted alertsOn moved place stands found known admitChecks
+    evaluateChecks quoteChecks moveChecks readChecks checksOf judged acceptedOf step run every those up halfUp toGrid
+    lesserOf greaterOf grown apart first least leastRoot leastTimes leastMultiple
 answers [] t = []
 answers (c ∷ cs) t =
     let o : Outcome = step c t in

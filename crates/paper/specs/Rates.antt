@@ -1,4 +1,4 @@
--- Document 01, "The rates (7.1)". Assumes nothing.
+-- Document 01, "The rates (7.1)"; document 02, W-202. Assumes nothing.
 use mathlib.Core.Path.{_≡_}
 use mathlib.Core.Logic.{_⊎_}
 use mathlib.Core.Bool.{Bool, true, false, _&&_}
@@ -13,7 +13,7 @@ use Rattle.paper.specs.declared.Model.{Model}
 use Rattle.paper.specs.declared.Statics.{Statics}
 use Rattle.paper.specs.declared.Figures.{Figures}
 use Rattle.paper.specs.Lists.{pick, forLevels}
-use Rattle.paper.specs.Numbers.{oneInTenThousandths, oneInMillionths, millionthsInBp, oneInHundredths, volatilityMost, ageMost}
+use Rattle.paper.specs.Numbers.{oneInTenThousandths, oneInMillionths, millionthsInBp, hundredthsOfMillionthsInBp, oneInHundredths, volatilityMost, ageMost}
 use Rattle.paper.specs.Roundings.{Quotient, up, apart}
 use Rattle.paper.specs.Least.{leastRoot, leastTimes, leastMultiple}
 
@@ -74,7 +74,16 @@ heldStep st factor n = min (st .smax) (leastStep (st .h) factor n)
 
 -- "t is the least multiple of h with 10,000·t ≥ q·s, held at S_max."
 unfoldable pub tentativeRate : Statics → ℕ → ℕ
-tentativeRate st s = heldStep st oneInTenThousandths (st .q * s)
+tentativeRate st s = heldStep st hundredthsOfMillionthsInBp (st .q * s)
+
+-- W-202: "t is the least multiple of h with 100·t ≥ r, held at S_max"
+unfoldable pub tentativeRateByMove : Statics → (r : ℕ) → ℕ
+tentativeRateByMove st r = heldStep st millionthsInBp r
+
+-- W-202: "When a share's replacement is the greater," t is that of the move; "on a tie the ordinary rule stands", and
+-- so it does wherever x is chosen. s is new s
+unfoldable pub tentativeRateOf : Statics → (replaced : Bool) → (r s : ℕ) → ℕ
+tentativeRateOf st replaced r s = pick replaced (tentativeRateByMove st r) (tentativeRate st s)
 
 -- "If t ≥ tentative + h, tentative becomes t. Else if t ≤ tentative - h and age + 1 ≥ n, it falls by one h. Else it
 -- stays. Age becomes 0 on a change, else one more, held at 250."
@@ -118,7 +127,8 @@ levelRate st level m tentative =
 unfoldable pub modelled : Statics → (b m s1 r s : ℕ) → Tentative → Figures
 modelled st b m s1 r s old =
     let s′ : ℕ = volatilityOf (modelOf st) b (millionthsInBp * s1) r s in
-    let t : Tentative = tentativeAfter (st .h) (st .wait) (tentativeRate st s′) old in
+    let replaced : Bool = replacementWins (modelOf st) b (millionthsInBp * s1) r s in
+    let t : Tentative = tentativeAfter (st .h) (st .wait) (tentativeRateOf st replaced r s′) old in
     record { s = s′; tentative = t; rates = forLevels (λ l. record { bp = levelRate st l m (t .bp) }) }
 
 unfoldable pub unmodelled : Statics → (s : ℕ) → Tentative → Figures

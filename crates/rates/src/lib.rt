@@ -30,12 +30,12 @@ fn modelled(st: Statics, b: u64, m: u64, s1: Rate, r: u64, s: u64, old: Tentativ
     ensures { λ f. ⌜ f ≡ modelled st b m (s1 .bp) r s old ⌝ }
 {
     let model = volatility::model_of(st);
-    let carried = volatility::volatility_of(model, b, MILLIONTHS_IN_BP * s1.bp, r, s);
-    let t = tentative::tentative_rate(st, carried);
+    let carried = volatility::choose(model, b, MILLIONTHS_IN_BP * s1.bp, r, s);
+    let t = tentative::tentative_rate_of(st, carried.replaced, r, carried.s);
     let tentative = tentative::tentative_after(st.h, st.wait, t, old);
     let rates = level::rates_of(st, m, tentative.bp);
     Figures {
-        s: carried,
+        s: carried.s,
         tentative,
         rates,
     }

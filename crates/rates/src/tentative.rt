@@ -1,10 +1,11 @@
-// The tentative rate (7.1).
+// The tentative rate (7.1; W-202).
 ghost use mathlib.Core.Path.{_≡_};
 ghost use Prim.Native.Nat.{_+_, _*_, _^_, _≤_, _<_};
 ghost use Rattle.paper.specs.Numbers.{volatilityMost};
-ghost use Rattle.paper.specs.Rates.{leastStep, heldStep, tentativeRate, tentativeAfter};
+ghost use Rattle.paper.specs.Rates.{leastStep, heldStep, tentativeRate, tentativeRateByMove, tentativeRateOf, tentativeAfter};
 ghost use Rattle.rates.specs.Asked.{RateStatics};
 use paper::HUNDREDTHS_OF_MILLIONTHS_IN_BP;
+use paper::MILLIONTHS_IN_BP;
 use paper::Record;
 use paper::Statics;
 use paper::Tentative;
@@ -25,13 +26,35 @@ fn held_step(st: Statics, factor: u64, n: u64) -> u64
     exact::lesser(st.smax, least_step(st.h, factor, n))
 }
 
-// The t of the paper.
-pub fn tentative_rate(st: Statics, s: u64) -> u64
+// The t of the paper, by new s.
+fn tentative_rate(st: Statics, s: u64) -> u64
     requires { ⌜ RateStatics st ⌝ }
     requires { ⌜ s ≤ volatilityMost ⌝ }
     ensures { λ r. ⌜ r ≡ tentativeRate st s ⌝ }
 {
     held_step(st, HUNDREDTHS_OF_MILLIONTHS_IN_BP, st.q * s)
+}
+
+// The t of a replacement: by the move itself.
+fn tentative_rate_by_move(st: Statics, r: u64) -> u64
+    requires { ⌜ RateStatics st ⌝ }
+    requires { ⌜ r ≤ volatilityMost ⌝ }
+    ensures { λ t. ⌜ t ≡ tentativeRateByMove st r ⌝ }
+{
+    held_step(st, MILLIONTHS_IN_BP, r)
+}
+
+// t: by the move where the replacement won, else by new s.
+pub fn tentative_rate_of(st: Statics, replaced: bool, r: u64, s: u64) -> u64
+    requires { ⌜ RateStatics st ⌝ }
+    requires { ⌜ (r ≤ volatilityMost) × (s ≤ volatilityMost) ⌝ }
+    ensures { λ t. ⌜ t ≡ tentativeRateOf st replaced r s ⌝ }
+{
+    if replaced {
+        tentative_rate_by_move(st, r)
+    } else {
+        tentative_rate(st, s)
+    }
 }
 
 // Up to t at once, down by one step where it has waited, else it stays.

@@ -4,9 +4,8 @@ use crate::interest::{Pair, RepoBand};
 use crate::kept::Kept;
 use crate::record::is_repo_term;
 use crate::refusal::Refusal;
+use crate::tally::Edge;
 use crate::units::REPO_RATE;
-
-use super::Edge;
 
 /// An evaluation with worked pairs, and what was kept before it.
 pub struct SeenDay<'s> {

@@ -2,9 +2,8 @@
 
 use crate::ewma;
 use crate::interest::{Figures, Key, Sheet};
+use crate::tally::Edge;
 use crate::units::{AGE, RATE};
-
-use super::Edge;
 
 /// A key maturity of an accepted sheet.
 pub struct SeenKey<'s> {
@@ -26,12 +25,10 @@ impl SeenKey<'_> {
 
     /// The volatility had no change passed the tentative rate.
     fn weighed(&self) -> i64 {
-        let change = self.figures.change;
-        ewma::volatility(
+        ewma::weighed(
             &self.sheet.model,
             self.key.before.s,
-            change,
-            change,
+            self.figures.change,
             self.sheet.days_between,
         )
     }

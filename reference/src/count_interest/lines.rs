@@ -2,9 +2,8 @@
 
 use crate::interest::{MATURITIES_MAX, MATURITY, MATURITY_RANGES, VALUES, VALUE_RANGES};
 use crate::refusal::Refusal;
+use crate::tally::Edge;
 use crate::units::Range;
-
-use super::Edge;
 
 /// An interest line, accepted or not.
 pub struct SeenLine<'s> {

@@ -5,7 +5,6 @@ mod days;
 mod keys;
 mod lines;
 mod sheets;
-mod tally;
 
 use std::io::{self, BufRead};
 
@@ -16,16 +15,13 @@ use crate::kept::Kept;
 use crate::protocol::perform;
 use crate::record::Record;
 use crate::slices::split_first;
+use crate::tally::{names, Tally};
 use crate::words::{hear, number_or_pair, words, Heard, Word, EVENING_LINE_MAX};
 
 use days::SeenDay;
 use keys::SeenKey;
 use lines::SeenLine;
 use sheets::SeenSheet;
-use tally::Tally;
-
-/// An edge: its name, and whether what is seen stands at it.
-type Edge<T> = (&'static str, fn(&T) -> bool);
 
 /// Accepted sheets among which an evening's last one is looked for.
 const RECENT: usize = 40;
@@ -40,10 +36,6 @@ fn every_edge() -> impl Iterator<Item = String> {
         .chain(lines::range_edges())
         .chain(names(days::edges()))
         .chain([BAD_PAIR.to_string()])
-}
-
-fn names<T>(edges: Vec<Edge<T>>) -> impl Iterator<Item = String> {
-    edges.into_iter().map(|(name, _)| name.to_string())
 }
 
 /// A reader of a script, with a desk of its own.

@@ -2,9 +2,8 @@
 
 use crate::exact::Quotient;
 use crate::interest::{Figures, Pair, Sheet, Worked};
+use crate::tally::Edge;
 use crate::units::REPO_RATE;
-
-use super::Edge;
 
 /// An accepted sheet.
 pub struct SeenSheet<'s> {

@@ -163,6 +163,11 @@ fn plain_row(random: &mut Random, price: i64) -> [i64; ROW] {
     [0, ROUBLE, 0, price, bid, ask, volume]
 }
 
+/// A rouble row that trades at the price and has no other.
+pub fn traded_row(price: i64) -> [i64; ROW] {
+    [0, ROUBLE, 0, price, 0, 0, 1]
+}
+
 /// A rouble row of the greatest weight.
 fn heavy_row(random: &mut Random, price: i64) -> [i64; ROW] {
     let volume = *ROW_VOLUME.end() - random.between(0, 9);

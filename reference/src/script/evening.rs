@@ -13,7 +13,7 @@ use crate::units::{Range, ID, MOVE_COUNT};
 use crate::words::{hear, number_or_pair, Word, EVENING_LINE_MAX};
 
 use super::edges::{edge, neighbours, unsettled_count, Ends};
-use super::{day, edges, quote, share, spelling};
+use super::{day, edges, quote, replacement, share, spelling};
 
 /// Securities that the author works on at a time.
 const FOCUS: usize = 24;
@@ -29,8 +29,18 @@ const SPELL_LINES: usize = 10_000;
 const QUIET_DAYS: i64 = 254;
 /// After how many of a hundred lines the table is filled.
 const FILL_AT: usize = 25;
+/// Securities of a spell that are made for the edges of a replacement: two for
+/// each meeting of them.
+const REPLACED: usize = 2 * replacement::SHARES;
+/// Draws of a record whose next day can stand at the edge of a replacement.
+const REPLACED_DRAWS: usize = 8;
 /// After how many of a hundred lines each spell comes.
-const SPELLS: [(usize, Spell); 3] = [(8, Spell::Falls), (14, Spell::Stays), (20, Spell::Widest)];
+const SPELLS: [(usize, Spell); 4] = [
+    (8, Spell::Falls),
+    (11, Spell::Replaced),
+    (14, Spell::Stays),
+    (20, Spell::Widest),
+];
 
 /// A long spell of one security.
 #[derive(Clone, Copy, Debug, PartialEq, Eq)]
@@ -42,6 +52,8 @@ enum Spell {
     Stays,
     /// Its limits move to the greatest a record may hold.
     Widest,
+    /// Not one security but many, each made for the edges of a replacement.
+    Replaced,
 }
 
 /// A script of so many lines. Scripts of odd seeds lack the last line's end.
@@ -159,8 +171,9 @@ impl Author {
     /// One thing of the desk, by its weight among a thousand.
     fn desk_turn(&mut self) {
         match self.random.below(1_000) {
-            0..=329 => self.day(),
-            330..=459 => self.day_at_an_edge(),
+            0..=279 => self.day(),
+            280..=339 => self.replaced_day(),
+            340..=459 => self.day_at_an_edge(),
             460..=539 => self.unsettled_day(),
             540..=679 => self.quote(),
             680..=709 => self.unsettled_quote(),
@@ -306,24 +319,58 @@ impl Author {
         }
     }
 
-    /// A long spell of one security that is made for it.
+    /// A day at the edge of a replacement, of a security that can have one.
+    fn replaced_day(&mut self) {
+        for _ in 0..REPLACED_DRAWS {
+            let record = self.record();
+            if let Some(price) = replacement::price(&mut self.random, &record) {
+                let holidays = self.random.pick(&[0, 0, 0, 0, 1, 1, 2]);
+                return self.trade(record.id, record.last_day() + 1, holidays, price);
+            }
+        }
+        self.day();
+    }
+
+    /// A day on which a security trades at a price.
+    fn trade(&mut self, id: i64, number: i64, holidays: i64, price: i64) {
+        let numbers = replacement::day_at(&mut self.random, id, number, holidays, price);
+        self.say("evaluate", &numbers);
+    }
+
+    /// A long spell of one security that is made for it, or of many.
     fn spell(&mut self, kind: Spell) {
         let id = self.new_id();
-        let admission = match kind {
-            Spell::Falls => share::quiet_admission(id, true),
-            Spell::Stays => share::quiet_admission(id, false),
-            Spell::Widest => share::widest_admission(&mut self.random, id),
-        };
+        match kind {
+            Spell::Falls => self.quiet_spell(&share::quiet_admission(id, true)),
+            Spell::Stays => self.quiet_spell(&share::quiet_admission(id, false)),
+            Spell::Widest => self.widest_spell(id),
+            Spell::Replaced => (0..REPLACED).for_each(|turn| self.replaced_security(turn)),
+        }
+    }
+
+    fn quiet_spell(&mut self, admission: &[i64]) {
+        self.say("admit", admission);
+        self.quiet_days(admission[0], 1..=QUIET_DAYS);
+    }
+
+    fn widest_spell(&mut self, id: i64) {
+        let admission = share::widest_admission(&mut self.random, id);
         self.say("admit", &admission);
-        if kind == Spell::Widest {
-            self.quiet_days(id, 1..=1);
-            self.every_move(id, 0);
-            self.every_move(id, 1);
-            self.quiet_days(id, 2..=2);
-            let heaviest = [day::bare(id, 3), day::heaviest_rows()].concat();
-            self.say("evaluate", &heaviest);
-        } else {
-            self.quiet_days(id, 1..=QUIET_DAYS);
+        self.quiet_days(id, 1..=1);
+        self.every_move(id, 0);
+        self.every_move(id, 1);
+        self.quiet_days(id, 2..=2);
+        let heaviest = [day::bare(id, 3), day::heaviest_rows()].concat();
+        self.say("evaluate", &heaviest);
+    }
+
+    /// A security made for the edge of a replacement, and its first day.
+    fn replaced_security(&mut self, turn: usize) {
+        let id = self.new_id();
+        if let Some(made) = replacement::made(&mut self.random, id, turn) {
+            self.say("admit", &made.admission);
+            let holidays = self.random.pick(&[0, 0, 1]);
+            self.trade(id, 1, holidays, made.price);
         }
     }
 

@@ -6,5 +6,6 @@ pub mod evening;
 pub mod gateway;
 mod interest;
 mod quote;
+mod replacement;
 mod share;
 mod spelling;

@@ -268,7 +268,8 @@ pub fn widest_admission(random: &mut Random, id: i64) -> Vec<i64> {
     numbers(&[id, 0, p, p, *VOLATILITY.end(), rate], &statics)
 }
 
-fn numbers(values: &[i64; 6], statics: &Statics) -> Vec<i64> {
+/// The numbers of an admission: `ID DAY P1 P2 S TENTATIVE` and the statics.
+pub fn numbers(values: &[i64; 6], statics: &Statics) -> Vec<i64> {
     let mut numbers = Vec::with_capacity(values.len() + STATICS);
     numbers.extend(values);
     numbers.extend(statics.numbers());

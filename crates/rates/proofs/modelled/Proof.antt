@@ -13,26 +13,27 @@ use Rattle.rates.proofs.modelled.Tie as tie
 model-of-requires : tie.Need-model-of-requires
 model-of-requires c κs = search needs
 
-mul-volatility-of : tie.Need-mul-volatility-of
-mul-volatility-of c = omega (arith, c .before .before .pre .0 .last-rate)
+mul-choose : tie.Need-mul-choose
+mul-choose c = omega (arith, c .before .before .pre .0 .last-rate)
 
 -- the weights and the multiplier are in range
 weighs : (c : tie.After-model-of) → Weighing (c .model-of .result)
 weighs c = rw (c .model-of .ensures) (rates-weighing _ (c .before .pre .0 .statics))
 
-volatility-of-requires : tie.Need-volatility-of-requires
-volatility-of-requires c κs = (weighs (c .before), (c .before .before .pre .1, c .before .before .pre .0 .volatility))
+choose-requires : tie.Need-choose-requires
+choose-requires c κs = (weighs (c .before), (c .before .before .pre .1, c .before .before .pre .0 .volatility))
 
-tentative-rate-requires : tie.Need-tentative-rate-requires
-tentative-rate-requires c κs =
+tentative-rate-of-requires : tie.Need-tentative-rate-of-requires
+tentative-rate-of-requires c κs =
     let m = c .before .before in
     let given = m .before .pre .0 in
     let high = volatility-high _ _ _ _ _ _ (weighs m) (given .volatility) (m .before .pre .1) in
-    (given .statics, rw (c .volatility-of .ensures) high)
+    (given .statics, (m .before .pre .1, rw (c .choose .ensures) high))
 
 -- t is at most S_max
-t-held : (c : tie.After-tentative-rate) → c .tentative-rate .result ≤ c .before .before .before .before .args .st .smax
-t-held c = rw (c .tentative-rate .ensures) (tentative-rate-held _ _)
+t-held : (c : tie.After-tentative-rate-of)
+    → c .tentative-rate-of .result ≤ c .before .before .before .before .args .st .smax
+t-held c = rw (c .tentative-rate-of .ensures) (tentative-rate-held _ _ _ _)
 
 tentative-after-requires : tie.Need-tentative-after-requires
 tentative-after-requires c κs =
@@ -42,7 +43,7 @@ tentative-after-requires c κs =
 rates-of-requires : tie.Need-rates-of-requires
 rates-of-requires c κs =
     let given = c .before .before .before .before .before .pre .0 in
-    let t-high : c .before .tentative-rate .result ≤ tentativeMost =
+    let t-high : c .before .tentative-rate-of .result ≤ tentativeMost =
     omega (arith, t-held (c .before), given .statics .most-high) in (
       given .statics,
       (
@@ -57,13 +58,13 @@ returns c =
     rw (
       c .rates-of .ensures,
       c .before .tentative-after .ensures,
-      c .before .before .tentative-rate .ensures,
-      c .before .before .before .volatility-of .ensures,
+      c .before .before .tentative-rate-of .ensures,
+      c .before .before .before .choose .ensures,
       c .before .before .before .before .before .model-of .ensures,
     )
 
 pub modelled-spec : {M : Type 1} → statement M
 modelled-spec =
     tie.close
-    (tie.spec model-of-requires mul-volatility-of volatility-of-requires tentative-rate-requires
-    tentative-after-requires rates-of-requires returns)
+    (tie.spec model-of-requires mul-choose choose-requires tentative-rate-of-requires tentative-after-requires
+    rates-of-requires returns)

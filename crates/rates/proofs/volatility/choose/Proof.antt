@@ -21,12 +21,10 @@ weighted-requires c κs =
 
 -- the x of the paper
 mean : (c : tie.After-weighted)
-    → c .weighted .result
-    ≡ weighted
-    (weightOf (c .before .before .args .m) (c .before .before .args .b) (c .before .before .args .r)
-    (c .before .before .args .s))
-    (c .before .before .args .s)
-    (c .before .before .args .r)
+    → (let start = c .before .before in
+    c .weighted .result
+    ≡ weighted (weightOf (start .args .m) (start .args .b) (start .args .r) (start .args .s)) (start .args .s)
+    (start .args .r))
 mean c = rw (c .weighted .ensures, c .before .weight-of .ensures)
 
 replaces-requires : tie.Need-replaces-requires

@@ -2,7 +2,13 @@
 
 use crate::count::Count;
 
-use super::Edge;
+/// An edge: its name, and whether what is seen stands at it.
+pub type Edge<T> = (&'static str, fn(&T) -> bool);
+
+/// The names of edges, in their order.
+pub fn names<T>(edges: Vec<Edge<T>>) -> impl Iterator<Item = String> {
+    edges.into_iter().map(|(name, _)| name.to_string())
+}
 
 /// Edges in the order in which they are told, with their counts.
 pub struct Tally {

@@ -1,0 +1,15 @@
+-- `tentative::tentative_rate_by_move` meets its contract: r and a step's worth fit. Assumes nothing.
+use native.Mathlib.Omega.{arith}
+use Rattle.paper.specs.Rates.{tentativeRateByMove}
+use Rattle.rates.proofs.tentative.tentative_rate_by_move.Statement.{statement}
+use Rattle.rates.proofs.tentative.tentative_rate_by_move.Tie as tie
+
+held-step-requires : tie.Need-held-step-requires
+held-step-requires c κs = omega (arith, c .pre .0)
+
+returns : tie.Need-returns
+unfolding tentativeRateByMove
+returns c = c .held-step .ensures
+
+pub tentative-rate-by-move-spec : {M : Type 1} → statement M
+tentative-rate-by-move-spec = tie.close (tie.spec held-step-requires returns)
