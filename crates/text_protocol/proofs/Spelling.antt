@@ -7,7 +7,7 @@ use native.Mathlib.Omega.{arith}
 use lib.Dec.{leb, eqb}
 use lib.IntN.{ℤ, pos}
 use lib.ListN.{length}
-use borrow.Author.Tests.{le-leb, leb-true, ne-eqb, eqb-true}
+use borrow.Author.Tests.{le-leb, lt-leb, leb-true, ne-eqb, eqb-true}
 use Rattle.paper.specs.Lists.{pick}
 use Rattle.paper.proofs.Logic.{and-left, and-right}
 use Rattle.text_protocol.specs.declared.Size.{Size}
@@ -28,9 +28,17 @@ digits-solid : {t : List ℕ} → Digits t → Solid t
 digits-solid no-digit = nil
 digits-solid (digit {b} h k d) = solid (high-solid b (omega arith)) (digits-solid d)
 
-digit-is : (b : ℕ) → digitZero ≤ b → b ≤ digitNine → isDigit b ≡ true
+pub digit-is : (b : ℕ) → digitZero ≤ b → b ≤ digitNine → isDigit b ≡ true
 unfolding isDigit
 digit-is b h k = rw (le-leb digitZero b h, le-leb b digitNine k)
+
+pub low-no-digit : (b : ℕ) → b < digitZero → isDigit b ≡ false
+unfolding isDigit
+low-no-digit b h = rw (lt-leb digitZero b h)
+
+pub high-no-digit : (b : ℕ) → digitNine < b → isDigit b ≡ false
+unfolding isDigit
+high-no-digit b h = let k : digitZero ≤ b = omega arith in rw (le-leb digitZero b k, lt-leb b digitNine h)
 
 size-digits : (n : ℕ) {t : List ℕ} → Digits t → sizeFrom n t ≡ size.Is (value n t)
 unfolding sizeFrom value
@@ -80,13 +88,20 @@ spells-some (minus d h k) = omega arith
 
 -- ---- what is read is spelt
 
+pub is-digit : (b : ℕ) → isDigit b ≡ true → (digitZero ≤ b) × (b ≤ digitNine)
+unfolding isDigit
+is-digit b h = (
+  leb-true digitZero b (and-left (leb digitZero b) (leb b digitNine) h),
+  leb-true b digitNine (and-right (leb digitZero b) (leb b digitNine) h),
+)
+
 -- t is digits, and behind those of n they spell v
 pub record Sized (n : ℕ) (t : List ℕ) (v : ℕ) : Type 0 where
   pub digits : Digits t
   pub is : value n t ≡ v
 
 size-back : (n : ℕ) (t : List ℕ) (v : ℕ) → sizeFrom n t ≡ size.Is v → Sized n t v
-unfolding sizeFrom value isDigit
+unfolding sizeFrom value
 size-back n [] v e = record { digits = no-digit; is = cc }
 size-back n (b ∷ t) v e = go (isDigit b) refl e (λ f. size-back (10 * n + (b - digitZero)) t v f)
   where
@@ -95,9 +110,7 @@ size-back n (b ∷ t) v e = go (isDigit b) refl e (λ f. size-back (10 * n + (b 
         → Sized n (b ∷ t) v
     go true h f k =
         let r : Sized (10 * n + (b - digitZero)) t v = k f in
-        let lo : digitZero ≤ b = leb-true digitZero b (and-left (leb digitZero b) (leb b digitNine) h) in
-        let up : b ≤ digitNine = leb-true b digitNine (and-right (leb digitZero b) (leb b digitNine) h) in
-        record { digits = digit lo up (r .digits); is = r .is }
+        record { digits = digit (is-digit b h .0) (is-digit b h .1) (r .digits); is = r .is }
     go false h f k = impossible cc
 
 size-of-back : (t : List ℕ) (v : ℕ) → sizeOf t ≡ size.Is v → Sized 0 t v × (0 < length t)

@@ -20,6 +20,7 @@ use Rattle.text_protocol.specs.declared.Size.{Size}
 use Rattle.text_protocol.specs.declared.Size.the-variants as size
 use Rattle.text_protocol.specs.Bytes.{run, same}
 use Rattle.text_protocol.specs.Numbers.{isDigit, sizeFrom, sizeOf, upTo, above, below, numberOf}
+use Rattle.text_protocol.proofs.Spelling.{digit-is, low-no-digit, high-no-digit}
 use Rattle.text_word.specs.Parts.{Capped}
 
 -- ---- a run of bytes that pass a test
@@ -53,18 +54,6 @@ module _ (q : ℕ → Bool) (t : List ℕ) (from i : ℕ) (p : Running q t from 
 
 -- ---- digits
 
-yes-digit : (b : ℕ) → 48 ≤ b → b ≤ 57 → isDigit b ≡ true
-unfolding isDigit
-yes-digit b h k = rw (le-leb 48 b h, le-leb b 57 k)
-
-low-digit : (b : ℕ) → b < 48 → isDigit b ≡ false
-unfolding isDigit
-low-digit b h = rw (lt-leb 48 b h)
-
-high-digit : (b : ℕ) → 57 < b → isDigit b ≡ false
-unfolding isDigit
-high-digit b h = let k : 48 ≤ b = omega arith in rw (le-leb 48 b k, lt-leb b 57 h)
-
 -- above hi the reading ends in Bad, whatever follows
 number-over : (hi n : ℕ) (t : List ℕ) → hi < n → upTo hi (sizeFrom n t) ≡ size.Bad
 unfolding sizeFrom upTo
@@ -93,19 +82,19 @@ module _ (t : List ℕ) (hi : ℕ) (goal : Size) (i x : ℕ) (p : Counting t hi 
 
   pub counting-low : b < 48 → size.Bad ≡ goal
   unfolding upTo
-  counting-low q = rw (low-digit b q) at here
+  counting-low q = rw (low-no-digit b q) at here
 
   pub counting-high : 57 < b → size.Bad ≡ goal
   unfolding upTo
-  counting-high q = rw (high-digit b q) at here
+  counting-high q = rw (high-no-digit b q) at here
 
   pub counting-over : 48 ≤ b → b ≤ 57 → hi < 10 * x + (b - 48) → size.Bad ≡ goal
-  counting-over lo up o = sym (number-over hi (10 * x + (b - 48)) (drop (suc i) t) o) ∙ (rw (yes-digit b lo up) at here)
+  counting-over lo up o = sym (number-over hi (10 * x + (b - 48)) (drop (suc i) t) o) ∙ (rw (digit-is b lo up) at here)
 
   pub counting-more : 48 ≤ b → b ≤ 57 → 10 * x + (b - 48) ≤ hi → Counting t hi goal (i + 1) (10 * x + (b - 48))
   counting-more lo up o =
       let f : i + 1 ≡ suc i = omega arith in
-      record { in-t = omega arith; below = o; rest = rw f (rw (yes-digit b lo up) at here) }
+      record { in-t = omega arith; below = o; rest = rw f (rw (digit-is b lo up) at here) }
 
 pub counting-all : (t : List ℕ) (hi : ℕ) (goal : Size) (i x : ℕ) → Counting t hi goal i x → length t ≤ i → size.Is x ≡
     goal
