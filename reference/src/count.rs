@@ -21,7 +21,11 @@ pub struct Count {
 /// The kinds of answer that must all occur.
 fn kinds(answers: Answers) -> Vec<String> {
     match answers {
-        Answers::Evening => (0..=Refusal::LAST).map(|n| n.to_string()).collect(),
+        // An evening has no exchange's text.
+        Answers::Evening => (0..=Refusal::LAST)
+            .filter(|number| *number != Refusal::BadLine.number())
+            .map(|number| number.to_string())
+            .collect(),
         Answers::Gateway => {
             let static_refused = -Refusal::AdmissionOutOfRange.number();
             let value_refused = -Refusal::ValueOutOfRange.number();

@@ -1,18 +1,20 @@
-//! The independent second opinion on document 01 and on W-201 and W-202 of
-//! document 02: the parameter desk's rules in exact 128-bit integers, written
-//! from the papers alone.
+//! The independent second opinion on document 01 and on W-201 to W-203 of
+//! document 02: the parameter desk's rules in exact 128-bit integers and the
+//! reading of the exchange's text, written from the papers alone.
 //!
 //! A quotient stays a numerator and a denominator until one of the paper's
 //! places of rounding (a) to (g), or W-201's own.
 
 pub mod compare;
 pub mod count;
+pub mod count_exchange;
 pub mod count_interest;
 pub mod count_replacement;
 pub mod desk;
 pub mod evaluation;
 pub mod ewma;
 pub mod exact;
+pub mod exchange;
 pub mod gateway;
 pub mod interest;
 pub mod kept;

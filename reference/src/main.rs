@@ -1,21 +1,28 @@
 //! The commands of the reference; see README.md.
 
+use std::borrow::Cow;
+use std::ffi::OsString;
 use std::io::{self, Write};
+use std::path::Path;
 use std::process::ExitCode;
 
-use reference::{compare, count, count_interest, count_replacement, gateway, protocol, script};
+use reference::{
+    compare, count, count_exchange, count_interest, count_replacement, exchange, gateway, protocol,
+    script,
+};
 
-const USAGE: &str = "usage: reference evening | gateway | script-evening SEED LINES | \
-script-gateway SEED LINES | count [gateway | interest | replacement] | \
-compare FILE_A FILE_B SCRIPT";
+const USAGE: &str = "usage: reference evening | gateway | exchange ID | exchange-index | \
+script-evening SEED LINES | script-gateway SEED LINES | script-exchange SEED TEXTS FOLDER | \
+count [gateway | interest | replacement | exchange] | compare FILE_A FILE_B SCRIPT";
 /// The exit code of a comparison that fails or a count with a gap.
 const DIFFERENT: u8 = 1;
 /// The exit code of a command that cannot be run.
 const UNUSABLE: u8 = 2;
 
 fn main() -> ExitCode {
-    let words: Vec<String> = std::env::args().skip(1).collect();
-    let words: Vec<&str> = words.iter().map(String::as_str).collect();
+    let words: Vec<OsString> = std::env::args_os().skip(1).collect();
+    let words: Vec<Cow<str>> = words.iter().map(|word| word.to_string_lossy()).collect();
+    let words: Vec<&str> = words.iter().map(AsRef::as_ref).collect();
     match run(&words) {
         Ok(code) => code,
         Err(error) => {
@@ -31,6 +38,16 @@ fn run(words: &[&str]) -> io::Result<ExitCode> {
     match words {
         ["evening"] => protocol::evening(input, output)?,
         ["gateway"] => gateway::gateway(input, output)?,
+        ["exchange", id] => {
+            let id = exchange::asked_id(id.as_bytes()).ok_or_else(|| unusable(USAGE))?;
+            let text = exchange::taken(input)?;
+            writeln!(output, "{}", exchange::Printed(exchange::read(&text, id)))?;
+            output.flush()?;
+        }
+        ["exchange-index"] => exchange::index::answer(input, output)?,
+        ["script-exchange", seed, texts, folder] => {
+            script::exchange::write(parsed(seed)?, parsed(texts)?, Path::new(folder), output)?;
+        }
         ["script-evening", seed, lines] => {
             output.write_all(&script::evening::script(parsed(seed)?, parsed(lines)?))?;
             output.flush()?;
@@ -43,6 +60,7 @@ fn run(words: &[&str]) -> io::Result<ExitCode> {
         ["count", "gateway"] => return told(&count::count(input, count::Answers::Gateway)?),
         ["count", "interest"] => return told(&count_interest::count_interest(input)?),
         ["count", "replacement"] => return told(&count_replacement::count_replacement(input)?),
+        ["count", "exchange"] => return told(&count_exchange::count_exchange(input)?),
         ["compare", first, second, script] => return compared(first, second, script),
         _ => return Err(unusable(USAGE)),
     }

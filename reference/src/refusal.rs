@@ -1,4 +1,5 @@
-//! The refusals (document 01, "Numbers a member may see"; 14 is W-201's).
+//! The refusals (document 01, "Numbers a member may see"; 14 is W-201's, 15
+//! W-203's).
 
 /// Why a call is refused; each carries the paper's number.
 #[derive(Clone, Copy, Debug, PartialEq, Eq)]
@@ -17,11 +18,12 @@ pub enum Refusal {
     MovesExhausted = 12,
     EarlierSecond = 13,
     TermsNotAscending = 14,
+    BadLine = 15,
 }
 
 impl Refusal {
     /// The greatest number a member may see.
-    pub const LAST: i64 = Refusal::TermsNotAscending.number();
+    pub const LAST: i64 = Refusal::BadLine.number();
 
     /// The number a member sees.
     pub const fn number(self) -> i64 {

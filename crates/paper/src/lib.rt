@@ -394,6 +394,7 @@ pub enum Verdict {
     MovesUsedUp,
     SecondEarlier,
     NotAscending,
+    BadLine,
 }
 
 impl Verdict {
@@ -417,6 +418,7 @@ impl Verdict {
             Verdict::MovesUsedUp => 12,
             Verdict::SecondEarlier => 13,
             Verdict::NotAscending => 14,
+            Verdict::BadLine => 15,
         }
     }
 

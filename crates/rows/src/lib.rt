@@ -26,7 +26,7 @@ fn close_for_volume(rows: &[i64], v: usize, c: usize) -> bool
 }
 
 // The tests are joined without branches: a row of a day is nearly always in range.
-fn row_valid(rows: &[i64], at: usize) -> bool
+pub fn row_valid(rows: &[i64], at: usize) -> bool
     requires { ⌜ at + rowNumbers ≤ length (now rows) ⌝ }
     ensures { λ r. ⌜ r ≡ validRow (rowAt (now (rows .entry)) at) ⌝ }
 {

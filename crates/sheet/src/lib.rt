@@ -123,3 +123,12 @@ pub extern "C" fn nedrubal_root(n: u64) -> u64 {
     }
     0
 }
+
+// The exchange's text read once.
+#[no_mangle]
+pub extern "C" fn nedrubal_exchange(t: &[u8], id: u64) -> u64 {
+    let r = text_exchange::read_exchange(t, id);
+    let rows = r.rows;
+    let figures = std::num::wrapping_add_u64(r.line, unsigned(rows[0]));
+    std::num::wrapping_add_u64(figures, r.count as u64)
+}

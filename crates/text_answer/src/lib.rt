@@ -31,7 +31,7 @@ use text_protocol::ROOM;
 // ---- numbers
 
 // A blank, and a number.
-fn put_next(out: &mut [u8; ROOM], len: usize, x: u64) -> usize
+pub fn put_next(out: &mut [u8; ROOM], len: usize, x: u64) -> usize
     requires { ⌜ len + 21 ≤ room ⌝ }
     ensures { λ r. ⌜ Told (now (out .entry)) len (now (out .exit)) r (pos x ∷ []) 21 ⌝ }
 {
@@ -40,7 +40,7 @@ fn put_next(out: &mut [u8; ROOM], len: usize, x: u64) -> usize
 }
 
 // A blank, and a signed number.
-fn put_next_signed(out: &mut [u8; ROOM], len: usize, x: i64) -> usize
+pub fn put_next_signed(out: &mut [u8; ROOM], len: usize, x: i64) -> usize
     requires { ⌜ len + 22 ≤ room ⌝ }
     ensures { λ r. ⌜ Told (now (out .entry)) len (now (out .exit)) r (x ∷ []) 22 ⌝ }
 {

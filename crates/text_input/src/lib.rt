@@ -60,7 +60,7 @@ pub struct Got {
     pub end: usize,
 }
 
-fn fill(buf: &mut [u8], have: usize) -> Got
+pub fn fill(buf: &mut [u8], have: usize) -> Got
     requires { ⌜ have ≤ length (now buf) ⌝ }
     ensures { λ r. ⌜ (length (now (buf .exit)) ≡ length (now (buf .entry))) × (take have (now (buf .exit)) ≡ take
         have (now (buf .entry))) × (have ≤ r .end) × (r .end ≤ length (now (buf .entry))) ⌝ }

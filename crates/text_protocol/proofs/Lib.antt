@@ -1,6 +1,7 @@
 pub mod Decimals
 pub mod Words
 pub mod Spelling
+pub mod Pieces
 pub mod Filling
 pub mod Reading
 pub mod NoCall

@@ -3,6 +3,7 @@
 mod day;
 mod edges;
 pub mod evening;
+pub mod exchange;
 pub mod gateway;
 mod interest;
 mod quote;

@@ -1,0 +1,63 @@
+// The rows of one security in the exchange's evening text: the id is the argument, the text stands on standard input.
+ghost use mathlib.Core.Path.{_≡_};
+ghost use lib.ListN.{length};
+use libc::STDERR_FILENO;
+use libc::STDOUT_FILENO;
+use text_rows::Asked;
+
+// A byte more than a text may have, so that a longer one is seen.
+fn text_buffer() -> [u8; 65537]
+    ensures { λ r. ⌜ 65537 ≡ length r ⌝ }
+{
+    [0; 65537]
+}
+
+// No argument is longer on Linux.
+fn word_buffer() -> [u8; 131072] {
+    [0; 131072]
+}
+
+fn say_usage() {
+    io::write_all(
+        STDERR_FILENO,
+        b"usage: exchange ID, with the exchange's text on standard input\n",
+    );
+}
+
+fn say_failed() {
+    io::write_all(STDERR_FILENO, b"exchange: could not read or write\n");
+}
+
+// Which security the only argument asks for.
+fn asked() -> Asked {
+    if os::arg_count() != 2 {
+        return Asked::Bad;
+    }
+    let mut word = word_buffer();
+    let n = os::arg(1, &mut word);
+    text_rows::id_of(&word[..n])
+}
+
+fn serve(id: u64) {
+    let mut text = text_buffer();
+    let mut out = io::large_buffer();
+    let got = text_rows::take_in(&mut text);
+    let end = got.end;
+    let read = got.ok;
+    if !read {
+        say_failed();
+        return;
+    }
+    let len = text_rows::answer(&text[..end], id, &mut out);
+    if !io::write_all(STDOUT_FILENO, &out[..len]) {
+        say_failed();
+    }
+}
+
+fn main() {
+    let asked = asked();
+    match asked {
+        Asked::Id(id) => serve(id),
+        Asked::Bad => say_usage(),
+    }
+}

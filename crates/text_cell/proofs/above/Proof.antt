@@ -1,0 +1,37 @@
+-- `text_cell::above` meets its contract: the number of a field fits a signed number. Assumes nothing.
+use borrow.Author.Needs.{needs}
+use Rattle.text_cell.proofs.Turns.{counted, not-counted, plain-fits, positive-bad, positive-is}
+use Rattle.text_cell.proofs.above.Statement.{statement}
+use Rattle.text_cell.proofs.above.Tie as tie
+
+number-requires : tie.Need-number-requires
+number-requires c κs = search needs
+
+enum-known-part : tie.Need-enum-known-part
+enum-known-part c = search needs
+
+enum-told : tie.Need-enum-told
+enum-told c = search needs
+
+returns : tie.Need-returns
+returns c =
+    let at-number = c .before .before in
+    let at-start = at-number .before .before in
+    positive-bad _ _ (at-start .args .from) (not-counted (c .enum-told .given .1) (at-number .number .ensures))
+
+cast-t7 : tie.Need-cast-t7
+cast-t7 c =
+    let at-part = c .before in
+    let at-number = at-part .before .before in
+    plain-fits _ (counted _ _ (at-part .part .given .1) (at-number .number .ensures) .small)
+
+returns-2 : tie.Need-returns-2
+returns-2 c =
+    let at-part = c .before in
+    let at-number = at-part .before .before in
+    let at-start = at-number .before .before in
+    positive-is _ _ (at-start .args .from) _ _ (counted _ _ (at-part .part .given .1) (at-number .number .ensures))
+
+pub above-spec : {M : Type 1} → statement M
+above-spec =
+    tie.close (tie.spec number-requires enum-known-part enum-told returns cast-t7 returns-2)

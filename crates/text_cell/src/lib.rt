@@ -1,0 +1,206 @@
+// A field of the exchange's text, lent with the text that it stands in: its number, and where it ends. Nothing is
+// copied and no byte is read twice: a field ends at the first byte that is none of its number's.
+ghost use mathlib.Core.Path.{_≡_};
+ghost use Prim.Native.Nat.{_+_, _*_, _-_, _^_, _≤_};
+ghost use lib.Dec.{eqb};
+ghost use lib.ListN.{length, drop};
+ghost use Rattle.text_protocol.specs.Numbers.{isDigit};
+ghost use Rattle.text_table.specs.Scan.{front, starts, numberMost, digits, pastZeros, behindZeros, decimals, number, positive, turned, cell};
+ghost use Rattle.text_cell.specs.Placed.{Took, Numbered, Celled};
+use paper::Price;
+use text_table::Column;
+
+// A number in front of a text, and where it ends.
+pub enum Part {
+    Is(u64, usize),
+    Bad,
+}
+
+// A field, and where it ends.
+pub enum Cell {
+    Is(i64, usize),
+    Bad,
+}
+
+// No range of a row holds a greater number than a price's.
+const NUMBER_MOST: u64 = Price::MOST_UNITS;
+
+fn wide(b: u8) -> u64
+    ensures { λ r. ⌜ r ≡ b ⌝ }
+{
+    b as u64
+}
+
+// Whether the byte b stands at a place.
+pub fn is_at(t: &[u8], at: usize, b: u8) -> bool
+    requires { ⌜ at ≤ length (now t) ⌝ }
+    ensures { λ r. ⌜ r ≡ starts (λ x. eqb x b) (drop at (now (t .entry))) ⌝ }
+{
+    if at < t.len() {
+        return t[at] == b;
+    }
+    false
+}
+
+fn is_digit_at(t: &[u8], at: usize) -> bool
+    requires { ⌜ at ≤ length (now t) ⌝ }
+    ensures { λ r. ⌜ r ≡ starts isDigit (drop at (now (t .entry))) ⌝ }
+{
+    if at < t.len() {
+        let b = wide(t[at]);
+        return (48 <= b) & (b <= 57);
+    }
+    false
+}
+
+// The digits from `from` on, at most so many, behind those of x.
+fn digits(t: &[u8], from: usize, most: usize, x: u64) -> Part
+    requires { ⌜ (from ≤ length (now t)) × (x ≤ numberMost) ⌝ }
+    ensures { λ r. ⌜ Took (now (t .entry)) from most r (digits most x (drop from (now (t .entry)))) ⌝ }
+{
+    let mut i = from;
+    let mut left = most;
+    let mut n = x;
+    while i < t.len() {
+        if left == 0 {
+            return Part::Is(n, i);
+        }
+        let b = wide(t[i]);
+        if b < 48 {
+            return Part::Is(n, i);
+        }
+        if 57 < b {
+            return Part::Is(n, i);
+        }
+        let y = 10 * n + (b - 48);
+        if NUMBER_MOST < y {
+            return Part::Bad;
+        }
+        n = y;
+        left -= 1;
+        i += 1;
+    }
+    Part::Is(n, i)
+}
+
+// The end of the zeros from `from` on.
+fn past_zeros(t: &[u8], from: usize) -> usize
+    requires { ⌜ from ≤ length (now t) ⌝ }
+    ensures { λ r. ⌜ (drop r (now (t .entry)) ≡ pastZeros (drop from (now (t .entry))))
+        × (r ≤ length (now (t .entry))) ⌝ }
+{
+    let mut i = from;
+    while i < t.len() {
+        if t[i] != b'0' {
+            return i;
+        }
+        i += 1;
+    }
+    i
+}
+
+// The same, where the column may have zeros there.
+fn behind_zeros(t: &[u8], from: usize, c: Column) -> usize
+    requires { ⌜ from ≤ length (now t) ⌝ }
+    ensures { λ r. ⌜ (drop r (now (t .entry)) ≡ behindZeros c (drop from (now (t .entry))))
+        × (r ≤ length (now (t .entry))) ⌝ }
+{
+    if c.zeros {
+        return past_zeros(t, from);
+    }
+    from
+}
+
+fn ten_to(k: usize) -> u64
+    requires { ⌜ k ≤ 4 ⌝ }
+    ensures { λ r. ⌜ (r ≡ 10 ^ k) × (r ≤ 10000) ⌝ }
+{
+    if k == 0 {
+        return 1;
+    }
+    if k == 1 {
+        return 10;
+    }
+    if k == 2 {
+        return 100;
+    }
+    if k == 3 {
+        return 1_000;
+    }
+    10_000
+}
+
+// What stands behind the point, where n stands before it.
+fn decimals(t: &[u8], from: usize, c: Column, n: u64) -> Part
+    requires { ⌜ (from ≤ length (now t)) × (n ≤ numberMost) × (c .places ≤ 4) ⌝ }
+    ensures { λ r. ⌜ Numbered (now (t .entry)) r (decimals c n (drop from (now (t .entry)))) ⌝ }
+{
+    let places = c.places;
+    let part = digits(t, from, places, n);
+    let Part::Is(v, e) = part else {
+        return Part::Bad;
+    };
+    let end = behind_zeros(t, e, c);
+    if end <= from {
+        return Part::Bad;
+    }
+    Part::Is(v * ten_to(places - (e - from)), end)
+}
+
+// A decimal of the column, in its unit.
+fn number(t: &[u8], from: usize, c: Column) -> Part
+    requires { ⌜ (from ≤ length (now t)) × (c .places ≤ 4) ⌝ }
+    ensures { λ r. ⌜ Numbered (now (t .entry)) r (number c (drop from (now (t .entry)))) ⌝ }
+{
+    let places = c.places;
+    let part = digits(t, from, t.len() - from, 0);
+    let Part::Is(n, e) = part else {
+        return Part::Bad;
+    };
+    if e <= from {
+        return Part::Bad;
+    }
+    if is_at(t, e, b'.') {
+        return decimals(t, e + 1, c, n);
+    }
+    Part::Is(n * ten_to(places), e)
+}
+
+// A number below zero, and one above.
+fn below(t: &[u8], from: usize, c: Column) -> Cell
+    requires { ⌜ (from ≤ length (now t)) × (c .places ≤ 4) ⌝ }
+    ensures { λ r. ⌜ Celled (now (t .entry)) r (turned c (drop from (now (t .entry)))) ⌝ }
+{
+    let part = number(t, from, c);
+    let Part::Is(v, e) = part else {
+        return Cell::Bad;
+    };
+    Cell::Is(0 - (v as i64), e)
+}
+
+fn above(t: &[u8], from: usize, c: Column) -> Cell
+    requires { ⌜ (from ≤ length (now t)) × (c .places ≤ 4) ⌝ }
+    ensures { λ r. ⌜ Celled (now (t .entry)) r (positive c (drop from (now (t .entry)))) ⌝ }
+{
+    let part = number(t, from, c);
+    let Part::Is(v, e) = part else {
+        return Cell::Bad;
+    };
+    Cell::Is(v as i64, e)
+}
+
+// The field that begins at `from`.
+pub fn read_cell(t: &[u8], from: usize, c: Column) -> Cell
+    requires { ⌜ (from ≤ length (now t)) × (c .places ≤ 4) ⌝ }
+    ensures { λ r. ⌜ Celled (now (t .entry)) r (cell c (drop from (now (t .entry)))) ⌝ }
+{
+    let minus = c.minus;
+    let empty = c.empty;
+    if minus & is_at(t, from, b'-') {
+        return below(t, from + 1, c);
+    }
+    if empty & !is_digit_at(t, from) {
+        return Cell::Is(0, from);
+    }
+    above(t, from, c)
+}

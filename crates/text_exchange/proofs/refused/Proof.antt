@@ -1,0 +1,12 @@
+-- `text_exchange::refused` meets its contract: it is the definition, field by field. Assumes nothing.
+use mathlib.Core.Path.{refl}
+use Rattle.text_table.specs.Exchange.{refused}
+use Rattle.text_exchange.proofs.refused.Statement.{statement}
+use Rattle.text_exchange.proofs.refused.Tie as tie
+
+returns : tie.Need-returns
+unfolding refused
+returns c = refl
+
+pub refused-spec : {M : Type 1} → statement M
+refused-spec = tie.close (tie.spec returns)

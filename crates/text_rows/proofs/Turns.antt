@@ -1,0 +1,146 @@
+-- What each function needs, on plain values. Assumes nothing.
+use mathlib.Core.Path.{_≡_, refl, sym, ap, _∙_}
+use mathlib.Core.Bool.{Bool, true, false}
+use mathlib.Core.List.{List, [], _∷_, _++_}
+use Prim.Native.Nat.{ℕ, zero, suc, _+_, _-_, _*_, _≤_, _<_}
+use native.Mathlib.Omega.{arith}
+use lib.Dec.{leb}
+use lib.IntN.{ℤ, pos}
+use lib.ListN.{length, take, drop, getD, drop-of-length-le}
+use lib.Seq.{drop-cons}
+use borrow.Author.Tests.{le-leb, lt-leb, leb-false, eq-eqb, ne-eqb}
+use Rattle.paper.specs.Lists.{pick}
+use Rattle.paper.specs.Numbers.{idMost}
+use Rattle.paper.specs.Verdicts.{numberOf, isDone}
+use Rattle.text_protocol.specs.Bytes.{lineFeed, digitZero, digitNine}
+use Rattle.text_protocol.specs.declared.Size.{Size}
+use Rattle.text_protocol.specs.declared.Size.the-variants as size
+use Rattle.text_protocol.specs.Numbers.{decimal, isDigit, sizeFrom, sizeOf}
+use Rattle.text_protocol.specs.Answers.{next, spaced, answerText}
+use Rattle.text_protocol.proofs.Spelling.{digit-is, low-no-digit, high-no-digit}
+use Rattle.text_out.specs.Wrote.{Wrote, then, wider, Left, left-none, left-more, left-all}
+use Rattle.text_answer.specs.Told.{Told, both, wrote, told, wrote-one}
+use Rattle.text_table.specs.declared.Reading.{Reading}
+use Rattle.text_rows.specs.declared.Asked.{Asked}
+use Rattle.text_rows.specs.declared.Asked.the-variants as asked
+use Rattle.text_rows.specs.Rows.{settled, askedOf, grown, readingNumbers, readingText}
+
+-- ---- the argument
+
+-- above the greatest id one number asks as another
+over : (x y : ℕ) (t : List ℕ) → idMost < x → idMost < y → settled (sizeFrom x t) ≡ settled (sizeFrom y t)
+unfolding settled sizeFrom
+over x y [] h k = rw (lt-leb x idMost h, lt-leb y idMost k)
+over x y (b ∷ t) h k =
+    go (isDigit b)
+    (over (10 * x + (b - digitZero)) (10 * y + (b - digitZero)) t (omega arith) (omega arith))
+  where
+    go : (z : Bool) → settled (sizeFrom (10 * x + (b - digitZero)) t) ≡ settled (sizeFrom (10 * y + (b - digitZero)) t)
+        → settled (pick z (sizeFrom (10 * x + (b - digitZero)) t) size.Bad)
+        ≡ settled (pick z (sizeFrom (10 * y + (b - digitZero)) t) size.Bad)
+    go true e = e
+    go false e = refl
+
+grown-same : (n d : ℕ) (t : List ℕ) → settled (sizeFrom (grown n d) t) ≡ settled (sizeFrom (10 * n + d) t)
+unfolding grown
+grown-same n d t = go (leb (10 * n + d) idMost) refl
+  where
+    go : (z : Bool) → leb (10 * n + d) idMost ≡ z
+        → settled (sizeFrom (pick z (10 * n + d) (suc idMost)) t) ≡ settled (sizeFrom (10 * n + d) t)
+    go true e = refl
+    go false e = over (suc idMost) (10 * n + d) t (omega arith) (leb-false (10 * n + d) idMost e)
+
+pub grown-small : (n d : ℕ) → 10 * n + d ≤ idMost → 10 * n + d ≡ grown n d
+unfolding grown
+grown-small n d h = rw (le-leb (10 * n + d) idMost h)
+
+pub grown-over : (n d : ℕ) → idMost < 10 * n + d → suc idMost ≡ grown n d
+unfolding grown
+grown-over n d h = rw (lt-leb (10 * n + d) idMost h)
+
+pub record Asking (p : List ℕ) (i n : ℕ) : Type 0 where
+  pub in-p : i ≤ length p
+  pub most : n ≤ 1000000001
+  pub rest : settled (sizeFrom n (drop i p)) ≡ askedOf p
+
+pub none-asked : (p : List ℕ) → length p ≡ 0 → asked.Bad ≡ askedOf p
+unfolding askedOf settled sizeOf
+none-asked [] h = refl
+none-asked (b ∷ p) h = let z : ⊥ = omega arith in absurd z
+
+pub asking-none : (p : List ℕ) → (length p ≡ 0 → ⊥) → Asking p 0 0
+unfolding askedOf sizeOf
+asking-none [] h = absurd (h refl)
+asking-none (b ∷ p) h = record { in-p = omega arith; most = omega arith; rest = refl }
+
+module _ (p : List ℕ) (i n : ℕ) (a : Asking p i n) where
+  pub asking-small : length p ≤ i → n ≤ idMost → asked.Id n ≡ askedOf p
+  unfolding settled sizeFrom
+  asking-small h k = rw (drop-of-length-le p h, le-leb n idMost k) at (a .rest)
+
+  pub asking-over : length p ≤ i → idMost < n → asked.Id 0 ≡ askedOf p
+  unfolding settled sizeFrom
+  asking-over h k = rw (drop-of-length-le p h, lt-leb n idMost k) at (a .rest)
+
+  module _ (h : i < length p) (b : ℕ) (e : b ≡ getD p i 0) where
+    opened : settled (pick (isDigit b) (sizeFrom (10 * n + (b - digitZero)) (drop (suc i) p)) size.Bad) ≡ askedOf p
+    unfolding sizeFrom
+    opened = rw e (rw (drop-cons p i 0 h) at (a .rest))
+
+    no-digit : isDigit b ≡ false → asked.Bad ≡ askedOf p
+    unfolding settled
+    no-digit d = rw d at opened
+
+    pub asking-low : b < digitZero → asked.Bad ≡ askedOf p
+    asking-low k = no-digit (low-no-digit b k)
+
+    pub asking-high : digitNine < b → asked.Bad ≡ askedOf p
+    asking-high k = no-digit (high-no-digit b k)
+
+    pub asking-more : digitZero ≤ b → b ≤ digitNine → (m : ℕ) → (m ≡ grown n (b - digitZero)) × (m ≤ 1000000001)
+        → Asking p (i + 1) m
+    asking-more lo hi m g =
+        let f : i + 1 ≡ suc i = omega arith in
+        record {
+          in-p = omega arith;
+          most = g .1;
+          rest =
+              rw (f, g .0) (grown-same n (b - digitZero) (drop (suc i) p) ∙ (rw (digit-is b lo hi) at opened));
+        }
+
+-- ---- the answer
+
+abbrev pub Telling : List ℕ → ℕ → List ℤ → List ℕ → ℕ → ℕ → Type 0
+Telling b₀ n₀ zs b n i = Left b₀ n₀ (spaced zs) 2464 b n (spaced (drop i zs)) (22 * (112 - i))
+
+pub telling-none : (b : List ℕ) (n : ℕ) (zs : List ℤ) → Telling b n zs b n 0
+telling-none b n zs = left-none b n (spaced zs) 2464 2464 (omega arith)
+
+module _ (b₀ : List ℕ) (n₀ : ℕ) (zs : List ℤ) (b : List ℕ) (n i : ℕ) (p : Telling b₀ n₀ zs b n i) where
+  pub telling-more : (b' : List ℕ) (n' : ℕ) → i < length zs → i < 112 → Told b n b' n' (getD zs i (pos 0) ∷ []) 22
+      → Telling b₀ n₀ zs b' n' (i + 1)
+  unfolding spaced
+  telling-more b' n' h j q =
+      let m : 22 * (112 - i) ≡ 22 + 22 * (112 - (i + 1)) = omega arith in
+      let f : i + 1 ≡ suc i = omega arith in
+      rw f (left-more (rw (m, drop-cons zs i (pos 0) h, f) at p) (wrote-one q))
+
+  pub telling-all : length zs ≤ i → Told b₀ n₀ b n zs 2464
+  unfolding spaced
+  telling-all h = told refl (left-all (rw (drop-of-length-le zs h) at p))
+
+-- a bad line, and rows
+module _ (r : Reading) (b : List ℕ) (n : ℕ) {b' b'' c : List ℕ} {n' n'' e : ℕ} (no' : ℕ)
+    (is : no' ≡ numberOf (r .verdict)) (p : Wrote b n b' n' (decimal no') 20) where
+  pub say-bad-line : (no' ≡ 0 → ⊥) → Told b' n' b'' n'' (pos (r .line) ∷ []) 21 → Wrote b'' n'' c e (lineFeed ∷ []) 1
+      → Wrote b n c e (readingText r) 2600
+  unfolding readingText readingNumbers answerText isDone
+  say-bad-line h q w =
+      rw (← is, ne-eqb no' 0 h) (wider (then (then p (wrote q)) w) (omega arith))
+
+  pub say-rows : {d : List ℕ} {m : ℕ} → no' ≡ 0 → Told b' n' b'' n'' (pos (r .count) ∷ []) 21
+      → Told b'' n'' d m (take (7 * r .count) (r .rows)) 2464 → Wrote d m c e (lineFeed ∷ []) 1
+      → Wrote b n c e (readingText r) 2600
+  unfolding readingText readingNumbers answerText isDone
+  say-rows h q k w =
+      rw (← is, eq-eqb no' 0 h) (wider (then (then p (wrote (both q k))) w) (omega arith))

@@ -1,0 +1,138 @@
+// The two ends of the program `exchange`: which security its argument asks for, and the line that it answers.
+ghost use mathlib.Core.Path.{_≡_};
+ghost use Prim.Native.Nat.{_+_, _*_, _≤_};
+ghost use lib.ListN.{length};
+ghost use Rattle.text_table.specs.Scan.{reading};
+ghost use Rattle.text_out.specs.Wrote.{Wrote};
+ghost use Rattle.text_answer.specs.Told.{Told};
+ghost use Rattle.text_rows.specs.Rows.{grown, askedOf, readingText};
+ghost use Rattle.text_protocol.specs.Bytes.{room};
+use paper::Record;
+use paper::Row;
+use text_answer::put_next;
+use text_answer::put_next_signed;
+use text_exchange::read_exchange;
+use text_input::Got;
+use text_input::fill;
+use text_out::put_byte;
+use text_out::put_number;
+use text_protocol::ROOM;
+use text_table::Reading;
+
+// ---- the argument
+
+// Which security the program's argument asks for. No security has the id 0, so 0 stands for every id that is out of
+// range.
+pub enum Asked {
+    Id(u64),
+    Bad,
+}
+
+fn wide(b: u8) -> u64
+    ensures { λ r. ⌜ r ≡ b ⌝ }
+{
+    b as u64
+}
+
+// A number with a digit more; all that are above the greatest id are one.
+fn grown(n: u64, d: u64) -> u64
+    requires { ⌜ (n ≤ 1000000001) × (d ≤ 9) ⌝ }
+    ensures { λ r. ⌜ (r ≡ grown n d) × (r ≤ 1000000001) ⌝ }
+{
+    let y = 10 * n + d;
+    if y <= Record::ID_MOST {
+        return y;
+    }
+    Record::ID_MOST + 1
+}
+
+// One digit or more, and nothing else.
+pub fn id_of(p: &[u8]) -> Asked
+    ensures { λ r. ⌜ r ≡ askedOf (now (p .entry)) ⌝ }
+{
+    if p.len() == 0 {
+        return Asked::Bad;
+    }
+    let mut i = 0;
+    let mut n: u64 = 0;
+    while i < p.len() {
+        let b = wide(p[i]);
+        if b < 48 {
+            return Asked::Bad;
+        }
+        if 57 < b {
+            return Asked::Bad;
+        }
+        n = grown(n, b - 48);
+        i += 1;
+    }
+    if Record::ID_MOST < n {
+        return Asked::Id(0);
+    }
+    Asked::Id(n)
+}
+
+// ---- the text
+
+// Reads standard input until it ends, the buffer is full or a read fails.
+pub fn take_in(buf: &mut [u8]) -> Got
+    ensures { λ r. ⌜ (length (now (buf .exit)) ≡ length (now (buf .entry))) × (r .end ≤ length (now (buf .entry))) ⌝ }
+{
+    let mut len = 0;
+    loop {
+        if len == buf.len() {
+            return Got { ok: true, end: len };
+        }
+        let g = fill(buf, len);
+        let end = g.end;
+        let ok = g.ok;
+        if end == len {
+            return Got { ok, end };
+        }
+        len = end;
+    }
+}
+
+// ---- the answer
+
+// Numbers, a blank before each.
+fn put_rows(out: &mut [u8; ROOM], len: usize, zs: &[i64]) -> usize
+    requires { ⌜ (len + 2464 ≤ room) × (length (now zs) ≤ 112) ⌝ }
+    ensures { λ r. ⌜ Told (now (out .entry)) len (now (out .exit)) r (now (zs .entry)) 2464 ⌝ }
+{
+    let mut n = len;
+    let mut i = 0;
+    while i < zs.len() {
+        n = put_next_signed(out, n, zs[i]);
+        i += 1;
+    }
+    n
+}
+
+// `0 COUNT` and the numbers of the rows; or `15 LINE`.
+fn say_reading(out: &mut [u8; ROOM], len: usize, r: Reading) -> usize
+    requires { ⌜ (len + 2600 ≤ room) × (r .count ≤ 16) × (length (r .rows) ≡ 112) ⌝ }
+    ensures { λ n. ⌜ Wrote (now (out .entry)) len (now (out .exit)) n (readingText r) 2600 ⌝ }
+{
+    let verdict = r.verdict;
+    let rows = r.rows;
+    let count = r.count;
+    let no = verdict.number();
+    let n = put_number(out, len, no);
+    if no != 0 {
+        let n = put_next(out, n, r.line);
+        return put_byte(out, n, b'\n');
+    }
+    let n = put_next(out, n, count as u64);
+    let numbers = Row::NUMBERS * count;
+    let n = put_rows(out, n, &rows[..numbers]);
+    put_byte(out, n, b'\n')
+}
+
+// What the program answers to a text, of the security that it is asked for.
+pub fn answer(t: &[u8], id: u64, out: &mut [u8; ROOM]) -> usize
+    ensures { λ r. ⌜ Wrote (now (out .entry)) 0 (now (out .exit)) r (readingText (reading id (now (t .entry)))) 2600 ⌝ }
+{
+    let r = read_exchange(t, id);
+    say_reading(out, 0, r)
+}

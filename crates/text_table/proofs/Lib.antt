@@ -1,0 +1,7 @@
+pub mod Values
+pub mod Decimals
+pub mod Cells
+pub mod Lines
+pub mod Walk
+pub mod Texts
+pub mod ValidRows
