@@ -58,16 +58,20 @@ toolchain() {
     echo "$kit/on/$(uname -m)/toolchain"
 }
 
-# ---- what else is needed: a C compiler for x86-64, make, and cargo
+# ---- what else is needed: a C compiler for x86-64, make, a reader of x86-64 machine code, and cargo
 
 case $(uname -m) in
 x86_64)
     cc=${CC:-cc}
     c_packages='gcc libc6-dev make'
+    objdump=objdump
+    objdump_package=binutils
     ;;
 *)
     cc=x86_64-linux-gnu-gcc
     c_packages='gcc-x86-64-linux-gnu libc6-dev-amd64-cross make'
+    objdump=x86_64-linux-gnu-objdump
+    objdump_package=binutils-x86-64-linux-gnu
     ;;
 esac
 
@@ -91,6 +95,13 @@ need_c() {
     # shellcheck disable=SC2086
     install_packages "$cc with a static C library, or make, is missing" $c_packages
     c_links || cannot "$cc does not link a static program for x86-64"
+}
+
+# objdump knows the processors that it was built for, and every C compiler brings the one for its own.
+need_objdump() {
+    has "$objdump" && return
+    install_packages "$objdump is missing" "$objdump_package"
+    has "$objdump" || cannot "there is still no $objdump"
 }
 
 # The benchmark links for this machine's own processor.

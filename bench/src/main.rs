@@ -1,5 +1,6 @@
 //! Evaluates a sheet of securities with 16 rows each by the proved rules (the archive of the crate `sheet`) and by the reference, in one process, and
-//! prints the time of each, the ratio, the spread over repeats, how the cost grows with the securities, and the share of each part.
+//! prints the time of each, the ratio, the spread over repeats, how the cost grows with the securities, and the share of each part. Then it takes the
+//! root by the proved code, which does not divide, and by a root that does. With the word `root` it does that last part alone.
 
 use std::hint::black_box;
 use std::time::Instant;
@@ -23,6 +24,7 @@ const SECURITIES: usize = 512;
 const ROWS: usize = 16;
 const DAYS: u64 = 40;
 const REPEATS: usize = 15;
+const ROOTS: usize = 10_000;
 const MONITORING: usize = 26;
 const IS_EWMA: usize = 27;
 
@@ -284,9 +286,85 @@ fn parts() {
     share("record: judged sound, and its copies", read);
 }
 
-fn main() {
-    for securities in [64, 128, 256, SECURITIES] {
-        compare(securities);
+/// The least x with 10,000·x² >= n, by Newton's method, with a division in each turn.
+fn by_newton(n: u64, mut divided: impl FnMut()) -> u64 {
+    // x² >= n/10,000 says the same of whole numbers as x² >= least.
+    let least = n.div_ceil(10_000);
+    if least <= 1 {
+        return least;
     }
-    parts();
+    // From above the root of `least`, rounded down, each turn comes nearer until one does not.
+    let mut x = 1 << (u64::BITS - least.leading_zeros()).div_ceil(2);
+    loop {
+        divided();
+        let next = (x + least / x) / 2;
+        if next >= x {
+            break;
+        }
+        x = next;
+    }
+    if x * x < least {
+        x + 1
+    } else {
+        x
+    }
+}
+
+#[inline(never)]
+fn root_with_division(n: u64) -> u64 {
+    by_newton(n, || ())
+}
+
+/// What the root is taken of: (10,000 - a)·s² + a·r² with a, s and r drawn up to `most`, and the edges of the squares.
+fn means(most: u64) -> Vec<u64> {
+    let mut random = Random(0x9E37_79B9_7F4A_7C15);
+    let mut means = Vec::new();
+    while means.len() < ROOTS - 3 {
+        let [a, s, r] = [10_001, most + 1, most + 1].map(|n| random.below(n) as u64);
+        means.push((10_000 - a) * s * s + a * r * r);
+    }
+    let square = 10_000 * most * most;
+    means.extend([0, square - 1, square]);
+    means
+}
+
+fn roots(side: &str, most: u64) {
+    let means = means(most);
+    let ours = |n: u64| unsafe { nedrubal_root(n) };
+    for &n in &means {
+        for n in [n, n.saturating_sub(1)] {
+            assert_eq!(
+                ours(n),
+                root_with_division(n),
+                "the two roots of {n} differ"
+            );
+        }
+    }
+    let mut divisions = 0;
+    for &n in &means {
+        by_newton(n, || divisions += 1);
+    }
+    let all = |root: &dyn Fn(u64) -> u64| means.iter().fold(0, |sum, &n| sum ^ root(black_box(n)));
+    let (rattle, rust) = by_turns(ROOTS as f64, || all(&ours), || all(&root_with_division));
+    println!("{ROOTS} roots as {side} has them, {REPEATS} repeats; for one root:");
+    line("  the proved root: no division", &rattle);
+    line("  the same root by Newton's method", &rust);
+    println!(
+        "  ratio {:.2} of the medians, {:.2} of the least; Newton's method divides {:.1} times for one root",
+        rattle.median / rust.median,
+        rattle.least / rust.least,
+        divisions as f64 / ROOTS as f64
+    );
+}
+
+fn main() {
+    let word = std::env::args().nth(1);
+    if word.as_deref() != Some("root") {
+        for securities in [64, 128, 256, SECURITIES] {
+            compare(securities);
+        }
+        parts();
+    }
+    roots("a share", 1_000_000);
+    roots("the interest side", 19_998);
 }

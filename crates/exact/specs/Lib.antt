@@ -1,4 +1,5 @@
 pub mod EveryLaws
 pub mod LentLaws
+pub mod RootInputs
 pub mod SignedLaws
 pub mod Wide

@@ -103,8 +103,9 @@ fn shl(x: u64, k: u64) -> u64
     x << k
 }
 
-// The least x with factor·x² >= n (7.1). The bits of the greatest x with factor·x² < n are found from the top, in at
-// most 20 turns without a product: x is what is found so far, factor_x and sq are factor·x and factor·x².
+// The least x with factor·x² >= n (7.1), by shifts, sums and comparisons only (W-204; `outside/root` reads what they
+// become). The bits of the greatest x with factor·x² < n are found from the top, in at most 20 turns: x is what is
+// found so far, factor_x and sq are factor·x and factor·x².
 pub fn least_root(factor: u64, n: u64) -> u64
     requires { ⌜ (0 < factor) × (factor ≤ oneInTenThousandths) × (n ≤ factor * 2 ^ 40) ⌝ }
     ensures { λ r. ⌜ r ≡ leastRoot factor n ⌝ }
