@@ -49,7 +49,7 @@ pub fn admit(table: &mut [Record], admission: &Admission) -> Result<(), Refusal>
     Ok(())
 }
 
-/// Evaluates a day: refused 1, 6, 5, 7, 8, 9.
+/// Evaluates a day: refused 1, 6, 16, 5, 7, 8, 9.
 pub fn evaluate<'t>(table: &'t mut [Record], id: i64, day: &Day) -> Result<&'t Record, Refusal> {
     let slot = find(table, id)?;
     table[slot] = evaluated(&table[slot], day)?;

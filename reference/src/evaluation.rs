@@ -50,6 +50,12 @@ impl Row {
             && (self.volume == 0 || self.close != MISSING)
     }
 
+    /// Bid and ask both present and the bid above the ask, as they are given
+    /// (W-205).
+    fn is_crossed(&self) -> bool {
+        self.bid != MISSING && self.ask != MISSING && self.bid > self.ask
+    }
+
     /// Place (a): a present price in roubles today, half up to a unit. The
     /// outer none is a result that is no price; the inner a missing price.
     fn in_roubles(&self, price: i64) -> Option<Option<i64>> {
@@ -144,14 +150,38 @@ pub fn rows_are_in_range(rows: &[i64]) -> bool {
             .all(|row| Row::from_numbers(row).is_in_range())
 }
 
-/// The day's evaluation from rows in range, place (d): half up to the grid.
-/// None where a rounded row price, the evaluation or a rounded row volume
-/// falls outside its range (number 7).
-pub fn evaluation(rows: &[i64], previous: i64, grid: i64) -> Option<i64> {
+/// The places of the crossed rows.
+pub fn crossed_rows(rows: &[i64]) -> impl Iterator<Item = usize> + '_ {
+    let numbered = rows.chunks_exact(ROW).enumerate();
+    let crossed = numbered.filter(|(_, row)| Row::from_numbers(row).is_crossed());
+    crossed.map(|(place, _)| place)
+}
+
+/// Whether some row is crossed; BID may stand above ASK across rows.
+pub fn has_crossed_row(rows: &[i64]) -> bool {
+    crossed_rows(rows).next().is_some()
+}
+
+/// What the rows together say; none where a rounded figure is out of range.
+fn market(rows: &[i64]) -> Option<Market> {
     let mut market = Market::default();
     for row in rows.chunks_exact(ROW) {
         market.take(&Row::from_numbers(row))?;
     }
+    Some(market)
+}
+
+/// BID and ASK of rows in range, where they are present; none where a rounded
+/// figure is out of range.
+pub fn sides_in_roubles(rows: &[i64]) -> Option<(Option<i64>, Option<i64>)> {
+    market(rows).map(|market| (market.bid, market.ask))
+}
+
+/// The day's evaluation from rows in range, place (d): half up to the grid.
+/// None where a rounded row price, the evaluation or a rounded row volume
+/// falls outside its range (number 7).
+pub fn evaluation(rows: &[i64], previous: i64, grid: i64) -> Option<i64> {
+    let market = market(rows)?;
     let settled = Quotient {
         numerator: wide(market.settled(market.close(previous))),
         denominator: 1,

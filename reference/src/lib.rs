@@ -1,4 +1,4 @@
-//! The independent second opinion on document 01 and on W-201 to W-203 of
+//! The independent second opinion on document 01 and on W-201 to W-203 and W-205 of
 //! document 02: the parameter desk's rules in exact 128-bit integers and the
 //! reading of the exchange's text, written from the papers alone.
 //!
@@ -7,6 +7,7 @@
 
 pub mod compare;
 pub mod count;
+pub mod count_crossed;
 pub mod count_exchange;
 pub mod count_interest;
 pub mod count_replacement;

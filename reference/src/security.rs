@@ -1,7 +1,7 @@
 //! The rule of each call for one security: the record before and the inputs
 //! in, the record after out.
 
-use crate::evaluation::{evaluation, rows_are_in_range};
+use crate::evaluation::{evaluation, has_crossed_row, rows_are_in_range};
 use crate::ewma::Volatility;
 use crate::exact::wide;
 use crate::limits::{band_limit, delta, range_limit, BandInputs};
@@ -88,7 +88,8 @@ pub fn admitted(admission: &Admission) -> Option<Record> {
 }
 
 impl Day<'_> {
-    fn is_in_range(&self) -> bool {
+    /// Every value in its range, the rows' too.
+    pub fn is_in_range(&self) -> bool {
         DAY_NUMBER.contains(&self.number)
             && DAYS_BETWEEN.contains(&self.days_between)
             && DAYS_CLOSED.contains(&self.days_closed)
@@ -100,15 +101,23 @@ impl Day<'_> {
     }
 }
 
-/// The record after a day: refused 6, 5, 7, 8, 9, the first that applies. An
-/// evaluation clears both counts, all near seconds and the last quote second.
+/// The record after a day: refused 6, 16, 5, 7, 8, 9, the first that applies.
 pub fn evaluated(record: &Record, day: &Day) -> Result<Record, Refusal> {
     if !day.is_in_range() {
         return Err(Refusal::ValueOutOfRange);
     }
+    if has_crossed_row(day.rows) {
+        return Err(Refusal::CrossedRow);
+    }
     if day.number <= record.last_day() {
         return Err(Refusal::DayNotAfterLast);
     }
+    worked_out(record, day)
+}
+
+/// The record after a day that is in range: refused 7, 8, 9. An evaluation
+/// clears both counts, all near seconds and the last quote second.
+pub fn worked_out(record: &Record, day: &Day) -> Result<Record, Refusal> {
     let statics = &record.statics;
     let p = evaluation(day.rows, record.p1, statics.grid()).ok_or(Refusal::EvaluationOutOfRange)?;
     let volatility = volatility_after(record, day, p)?;

@@ -6,6 +6,7 @@ use common::{day, quote, security, traded, NO_REPO};
 use reference::evaluation::evaluation;
 use reference::rates::price_move;
 use reference::record::Record;
+use reference::refusal::Refusal;
 use reference::security::{evaluated, moved, quoted, Day, RepoTerm};
 
 const GRID: i64 = 10;
@@ -164,9 +165,23 @@ fn case_10_weighted_close() {
 
 #[test]
 fn case_11_the_median_of_a_crossed_market() {
-    let row = |close| [0, 10_000, 0, close, 1_010_000, 1_000_000, 1];
-    assert_eq!(evaluation(&row(1_005_000), 1, GRID), Some(1_005_000));
-    assert_eq!(evaluation(&row(990_000), 1, GRID), Some(1_000_000));
+    // W-205: the bid and the ask stand in two rows.
+    let rows = |close: i64| {
+        let bid = [0, 10_000, 0, close, 1_010_000, 0, 1];
+        let ask = [0, 10_000, 0, 0, 0, 1_000_000, 0];
+        [bid, ask].concat()
+    };
+    assert_eq!(evaluation(&rows(1_005_000), 1, GRID), Some(1_005_000));
+    assert_eq!(evaluation(&rows(990_000), 1, GRID), Some(1_000_000));
+    let record = security(1_000_000, 600);
+    let price = |rows: &[i64]| evaluated(&record, &day(1, rows)).map(|record| record.p1);
+    assert_eq!(price(&rows(1_005_000)), Ok(1_005_000));
+    assert_eq!(price(&rows(990_000)), Ok(1_000_000));
+    // In one row they are a typing error.
+    for close in [1_005_000, 990_000] {
+        let row = [0, 10_000, 0, close, 1_010_000, 1_000_000, 1];
+        assert_eq!(price(&row), Err(Refusal::CrossedRow));
+    }
 }
 
 #[test]

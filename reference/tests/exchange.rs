@@ -73,6 +73,13 @@ fn rows_go_on_to_an_evaluation() {
 }
 
 #[test]
+fn a_crossed_row_is_not_the_texts_to_judge() {
+    // W-205's 16 is the evaluation's.
+    let text = "7;0;1;0;;101;100;0\n";
+    assert_eq!(of_seven(text), "0 1 0 10000 0 0 1010000 1000000 0");
+}
+
+#[test]
 fn fields_out_of_range_are_bad() {
     for (place, most) in [(T, "30"), (VOLUME, "100000000")] {
         assert_eq!(number(place, "0"), Some(0));

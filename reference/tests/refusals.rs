@@ -383,6 +383,125 @@ fn evaluation_refusals_come_in_order() {
     assert_eq!(table[0], reference::security::admitted(&narrow).unwrap());
 }
 
+/// A plain rouble row with the sides, without a trade.
+fn sides(bid: i64, ask: i64) -> [i64; 7] {
+    [0, 10_000, 0, 0, bid, ask, 0]
+}
+
+#[test]
+fn a_crossed_row_is_16() {
+    for (bid, ask, expected) in [
+        (999_999, 1_000_000, 0),
+        (1_000_000, 1_000_000, 0),
+        (1_000_001, 1_000_000, 16),
+        (1_000_000, 1, 16),
+        (10_000_000_000, 1_000_000, 16),
+        (10_000_000_000, 9_999_999_999, 16),
+        (2, 1, 16),
+        // Either missing, or both.
+        (1_000_000, 0, 0),
+        (0, 1_000_000, 0),
+        (0, 0, 0),
+    ] {
+        assert_eq!(row_number(&sides(bid, ask)), expected, "{bid} and {ask}");
+    }
+    // At their most both are in range, and the move is too great.
+    assert_eq!(row_number(&sides(10_000_000_000, 10_000_000_000)), 8);
+}
+
+#[test]
+fn a_crossed_row_is_16_wherever_it_stands() {
+    let good = sides(990_000, 1_010_000);
+    for count in [1, 2, 3, 16] {
+        for place in 0..count {
+            let mut rows = vec![good; count];
+            assert_eq!(row_number(&rows.concat()), 0);
+            rows[place] = sides(1_000_001, 1_000_000);
+            assert_eq!(row_number(&rows.concat()), 16, "row {place} of {count}");
+        }
+    }
+}
+
+#[test]
+fn rows_may_be_crossed_with_each_other() {
+    let rows = [sides(1_009_000, 1_010_000), sides(990_000, 1_000_000)];
+    assert_eq!(row_number(&rows.concat()), 0);
+    let rows = [sides(1_010_000, 0), sides(0, 1_000_000)];
+    assert_eq!(row_number(&rows.concat()), 0);
+}
+
+#[test]
+fn a_crossed_row_is_judged_as_given() {
+    // Half a rouble each: 1,999,999 and 2,000,000 are both 1,000,000 in roubles.
+    let half = |bid: i64, ask: i64| [0, 5_000, 0, 0, bid, ask, 0];
+    assert_eq!(row_number(&half(2_000_000, 1_999_999)), 16);
+    assert_eq!(row_number(&half(1_999_999, 2_000_000)), 0);
+    assert_eq!(row_number(&half(2_000_000, 2_000_000)), 0);
+    // A bid above the ask of a row in another currency is no crossed row.
+    let rows = [half(2_000_000, 2_000_000), sides(1_000_000, 1_000_000)];
+    assert_eq!(row_number(&rows.concat()), 0);
+}
+
+#[test]
+fn a_crossed_row_is_refused_after_6_and_before_5_7_8_and_9() {
+    let crossed = sides(1_000_001, 1_000_000);
+    // 1: no such id.
+    let mut table = one_admitted();
+    assert_eq!(refused(evaluate(&mut table, 8, &day(1, &crossed))), 1);
+    // 6: in the same row, in another, in the day, in a term, in the length.
+    assert_eq!(row_number(&[31, 10_000, 0, 0, 1_000_001, 1_000_000, 0]), 6);
+    assert_eq!(row_number(&[0, 10_000, 0, 0, 1_000_001, 1_000_000, 1]), 6);
+    assert_eq!(row_number(&sides(10_000_000_001, 1_000_000)), 6);
+    assert_eq!(row_number(&sides(1_000_000, -1)), 6);
+    let wrong = [31, 10_000, 0, 1, 0, 0, 0];
+    assert_eq!(row_number(&[crossed, wrong].concat()), 6);
+    assert_eq!(row_number(&[wrong, crossed].concat()), 6);
+    assert_eq!(row_number(&[&crossed[..], &[0]].concat()), 6);
+    assert_eq!(row_number(&crossed.repeat(17)), 6);
+    assert_eq!(day_number(&day(-1, &crossed)), 6);
+    let late = Day {
+        days_between: 31,
+        ..day(1, &crossed)
+    };
+    assert_eq!(day_number(&late), 6);
+    // 5: the day is the last one.
+    assert_eq!(day_number(&day(0, &crossed)), 16);
+    assert_eq!(day_number(&day(0, &sides(1_000_000, 1_000_000))), 5);
+    // 7: a price rounds to 0.
+    let zero = [0, 1, 0, 1, 0, 0, 0];
+    assert_eq!(row_number(&zero), 7);
+    assert_eq!(row_number(&[zero, crossed].concat()), 16);
+    assert_eq!(row_number(&[crossed, zero].concat()), 16);
+    assert_eq!(row_number(&[0, 1, 0, 1, 2, 1, 0]), 16);
+    // 8: the move is too great.
+    let far = traded(2_000_010);
+    assert_eq!(row_number(&far), 8);
+    assert_eq!(
+        row_number(&[0, 10_000, 0, 2_000_010, 2_000_011, 2_000_010, 1]),
+        16
+    );
+    // 9: a band is crossed.
+    let crossing = RepoTerm {
+        days: 30,
+        rrcl: 9_999,
+        rrch: 9_999,
+    };
+    let mut table = fresh_table(1);
+    let narrow = Admission {
+        statics: z_with(&[(16, 0), (14, 1_000)]),
+        ..admission(1_000_000, 600)
+    };
+    admit(&mut table, &narrow).unwrap();
+    for (rows, expected) in [(sides(1_000_000, 1_000_000), 9), (crossed, 16)] {
+        let day = Day {
+            terms: [crossing; 3],
+            ..day(1, &rows)
+        };
+        assert_eq!(refused(evaluate(&mut table, 7, &day)), expected);
+    }
+    assert_eq!(table[0], reference::security::admitted(&narrow).unwrap());
+}
+
 #[test]
 fn rounded_row_figures_out_of_range_are_7() {
     let row = |central_rate, close, volume| [0, central_rate, 0, close, 0, 0, volume];

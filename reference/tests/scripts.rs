@@ -1,7 +1,9 @@
 //! The scripts are the same for a seed, as long as asked, and meet every
-//! number, every edge of the interest side and every edge of a replacement.
+//! number, every edge of the interest side, of a replacement and of a crossed
+//! row.
 
 use reference::count::{count, Answers};
+use reference::count_crossed::count_crossed;
 use reference::count_interest::count_interest;
 use reference::count_replacement::count_replacement;
 use reference::gateway::gateway;
@@ -79,6 +81,17 @@ fn an_evening_meets_every_edge_of_a_replacement() {
 #[test]
 fn an_evening_without_evaluations_meets_no_edge_of_a_replacement() {
     let counted = count_replacement(&b"read 1\nevaluate 1\nread 2"[..]).unwrap();
+    assert_eq!(counted.missing.len(), counted.line.lines().count());
+}
+
+#[test]
+fn an_evening_meets_every_edge_of_a_crossed_row() {
+    for seed in [1, 2] {
+        let script = script::evening::script(seed, 20_000);
+        let counted = count_crossed(&script[..]).unwrap();
+        assert!(counted.missing.is_empty(), "{:?}", counted.missing);
+    }
+    let counted = count_crossed(&b"read 1\nevaluate 1\nread 2"[..]).unwrap();
     assert_eq!(counted.missing.len(), counted.line.lines().count());
 }
 

@@ -32,10 +32,11 @@ answered c t = step c t .answer .verdict
 
 -- ---- Demand 1
 
--- "First that applies: admit 4, 2, 3; evaluate 1, 6, 5, 7, 8, 9; quote 1, 6, 10, 11, 13; move 1, 6, 10, 11, 12; read 1"
+-- "First that applies: admit 4, 2, 3; evaluate 1, 6, 5, 7, 8, 9; quote 1, 6, 10, 11, 13; move 1, 6, 10, 11, 12; read
+-- 1"; W-205: "16, after 6 and before 5 in an evaluation"
 abbrev pub orderOf : Call → List ℕ
 orderOf (admit a) = 4 ∷ 2 ∷ 3 ∷ []
-orderOf (evaluate id d rows) = 1 ∷ 6 ∷ 5 ∷ 7 ∷ 8 ∷ 9 ∷ []
+orderOf (evaluate id d rows) = 1 ∷ 6 ∷ 16 ∷ 5 ∷ 7 ∷ 8 ∷ 9 ∷ []
 orderOf (quote id q) = 1 ∷ 6 ∷ 10 ∷ 11 ∷ 13 ∷ []
 orderOf (move id side) = 1 ∷ 6 ∷ 10 ∷ 11 ∷ 12 ∷ []
 orderOf (read id) = 1 ∷ []

@@ -16,17 +16,17 @@ use Rattle.paper.specs.declared.Roubles.{Roubles}
 use Rattle.paper.specs.declared.Record.{Record}
 use Rattle.paper.specs.declared.Admission.{Admission}
 use Rattle.paper.specs.declared.Day.{Day}
-use Rattle.paper.specs.Lists.{pick, three, those}
+use Rattle.paper.specs.Lists.{pick, three, every, some, those}
 use Rattle.paper.specs.Numbers.{millionthsInBp}
 use Rattle.paper.specs.Roundings.{up, halfUp, toGrid, lesserOf, greaterOf, grown, apart}
 use Rattle.paper.specs.Least.{first, least, leastRoot, leastTimes, leastMultiple}
-use Rattle.paper.specs.Ranges.{isPrice, isGridPrice, validStatics, validGiven, validTentative, validAdmission, validSlots, gridOf, staticsOf, rowAt, partsFrom, rowsOf, rowOf, unsigned, noTerm, noLimits, rateAt}
-use Rattle.paper.specs.Evaluation.{rowPrice, rowWeight, roublesOf, traded, weights, worth, mean, closeOf, bestBid, lesserAsk, bestAsk, median, between, evaluationOf, dayRows}
-use Rattle.paper.specs.Rates.{modelOf, moveFrom, moveOf, weightOf, weighted, replacement, replaces, volatilityOf, leastStep, heldStep, tentativeRate, tentativeRateByMove, tentativeRateOf, tentativeAfter, meetsRequirement, daysOf, minimumOf, covers, levelRate, modelled, unmodelled, figuresOf}
-use Rattle.paper.specs.Limits.{limitOf, shifted, rangeLimit, rangeOf, farthest, spread, monitored, narrower, bandLimit, bandOf, deltaOf, oneMore, rangeMoved, bandMoved}
+use Rattle.paper.specs.Ranges.{isPrice, isRate, isGridPrice, validStatics, validGiven, validTentative, validAdmission, validRow, wholeRows, validRows, validTerm, validDay, lastDay, isLimit, validLimits, validNear, validNearSeconds, sound, validSlots, gridOf, staticsOf, rowAt, partsFrom, rowsOf, rowOf, unsigned, noTerm, noLimits, rateAt}
+use Rattle.paper.specs.Evaluation.{rowPrice, rowWeight, roublesOf, traded, weights, worth, mean, closeOf, bestBid, lesserAsk, bestAsk, median, between, evaluationOf, dayRows, isCrossedRow, hasCrossedRow, rowFits, evaluationFits}
+use Rattle.paper.specs.Rates.{modelOf, moveFrom, moveOf, weightOf, weighted, replacement, replaces, volatilityOf, leastStep, heldStep, tentativeRate, tentativeRateByMove, tentativeRateOf, tentativeAfter, meetsRequirement, daysOf, minimumOf, covers, levelRate, modelled, unmodelled, figuresOf, moveTooLarge}
+use Rattle.paper.specs.Limits.{limitOf, shifted, rangeLimit, rangeOf, farthest, spread, monitored, narrower, bandLimit, bandOf, crossed, deltaOf, oneMore, rangeMoved, bandMoved}
 use Rattle.paper.specs.Alerts.{distance, isNear, nearCleared}
 use Rattle.paper.specs.Verdicts.{numberOf, isDone, firstOf}
-use Rattle.paper.specs.Desk.{blank, saying, admitted, priceOn, moveOn, figuresOn, evaluated, moved, place, stands, found, quoted, admit, quote, admitChecks, checksOf, judged, acceptedOf, step}
+use Rattle.paper.specs.Desk.{blank, saying, showing, admitted, priceOn, moveOn, figuresOn, evaluated, moved, place, stands, found, known, quoted, admit, evaluate, quote, admitChecks, evaluateChecks, checksOf, judged, acceptedOf, step}
 
 -- "Statics Z", but for the lot
 unfoldable pub givenWith : (lot : ℕ) → GivenStatics
@@ -100,10 +100,22 @@ yesNo false = 0
 rows10 : List ℤ
 rows10 = roublesRow 1000000 0 0 300 (pos 0 ∷ pos 125000 ∷ pos 0 ∷ pos 81000 ∷ pos 0 ∷ pos 0 ∷ pos 8 ∷ [])
 
+-- case 11's rows. W-205: "Case 11 then uses two rows", one with the close and the bid, and one with the ask
+rows11 : (close : ℕ) → List ℤ
+rows11 close = roublesRow close 1010000 0 1 (roublesRow 0 0 1000000 0 [])
+
+-- the number that an evaluation of rows gets, once Z is admitted
+dayAnswer : List ℤ → ℕ
+unfolding after step judged firstOf isDone checksOf evaluateChecks acceptedOf saying showing known found stands place
+    validSlots sound validStatics isGridPrice isPrice isRate validTentative isLimit validLimits validNear
+    validNearSeconds lastDay validDay validTerm validRows wholeRows validRow every some isCrossedRow hasCrossedRow
+    evaluationFits rowFits moveTooLarge crossed
+dayAnswer rows = numberOf (step (evaluate 7 (dayWith 0 noTerm) rows) (admitted admissionZ ∷ []) .answer .verdict)
+
 -- what the definitions give
 pub results : List (List ℕ)
-unfolding after Z upperAt lowerAt bandAt yesNo rows10 moved oneMore deltaOf rangeMoved bandMoved nearCleared isNear
-    distance
+unfolding after Z upperAt lowerAt bandAt yesNo rows10 rows11 dayAnswer moved oneMore deltaOf rangeMoved bandMoved
+    nearCleared isNear distance
 results =
     -- 1: r, s, tentative, the three rates
     (moveOn (admitted admissionZ) (roublesRow 1030000 0 0 5 [])
@@ -153,13 +165,16 @@ results =
     ∷ [])
     -- 10: the close and the evaluation
     ∷ (closeOf 1000000 (map roublesOf (dayRows rows10)) ∷ evaluationOf (gridOf (Z .lot)) 1000000 (dayRows rows10) ∷ [])
-    -- 11: BID 1,010,000, ASK 1,000,000, with the close 1,005,000 and with 990,000
-    ∷ (evaluationOf (gridOf (Z .lot)) 1000000 (dayRows (roublesRow 1005000 1010000 1000000 1 []))
-    ∷ evaluationOf (gridOf (Z .lot)) 1000000 (dayRows (roublesRow 990000 1010000 1000000 1 []))
+    -- 11: BID 1,010,000, ASK 1,000,000, with the close 1,005,000 and with 990,000; by W-205 the numbers that the first
+    -- gets of two rows and of one
+    ∷ (evaluationOf (gridOf (Z .lot)) 1000000 (dayRows (rows11 1005000))
+    ∷ evaluationOf (gridOf (Z .lot)) 1000000 (dayRows (rows11 990000))
+    ∷ dayAnswer (rows11 1005000)
+    ∷ dayAnswer (roublesRow 1005000 1010000 1000000 1 [])
     ∷ [])
     ∷ []
 
--- what document 01 says, and W-202 of case 8's t
+-- what document 01 says, W-202 of case 8's t, and W-205 of case 11's rows
 pub starred : results
     ≡ (30000 ∷ 21214 ∷ 700 ∷ 800 ∷ 1200 ∷ 1500 ∷ [])
     ∷ (1500 ∷ 1000 ∷ [])
@@ -172,7 +187,8 @@ pub starred : results
     ∷ (66667 ∷ 20000 ∷ 2000 ∷ [])
     ∷ (100 ∷ 700 ∷ 600 ∷ [])
     ∷ (1003125 ∷ 1003130 ∷ [])
-    ∷ (1005000 ∷ 1000000 ∷ [])
+    -- W-205: "Case 11 then uses two rows."
+    ∷ (1005000 ∷ 1000000 ∷ 0 ∷ 16 ∷ [])
     ∷ []
 unfolding results
 starred = refl

@@ -22,11 +22,11 @@ use Rattle.paper.specs.declared.Day.{Day}
 use Rattle.paper.specs.declared.Quote.{Quote}
 use Rattle.paper.specs.declared.Answer.{Answer}
 use Rattle.paper.specs.declared.Verdict.{Verdict}
-use Rattle.paper.specs.declared.Verdict.the-variants.{Done, NoSuchId, AlreadyAdmitted, NoEmptySlot, AdmissionOutOfRange, DayNotAfter, OutOfRange, PriceOutOfRange, MoveTooLarge, BandCrossed, NotLive, NotMonitored, MovesUsedUp, SecondEarlier}
+use Rattle.paper.specs.declared.Verdict.the-variants.{Done, NoSuchId, AlreadyAdmitted, NoEmptySlot, AdmissionOutOfRange, DayNotAfter, OutOfRange, PriceOutOfRange, MoveTooLarge, BandCrossed, NotLive, NotMonitored, MovesUsedUp, SecondEarlier, RowCrossed}
 use Rattle.paper.specs.Lists.{pick, three, forLevels, allThree, every}
 use Rattle.paper.specs.Numbers.{movesMost}
 use Rattle.paper.specs.Ranges.{gridOf, staticsOf, validAdmission, validDay, validQuote, validSide, sideOf, isLive, lastDay, sound, validSlots, noRate, noLimits, notNear, noTerm, termAt, rateAt}
-use Rattle.paper.specs.Evaluation.{dayRows, evaluationOf, evaluationFits}
+use Rattle.paper.specs.Evaluation.{dayRows, evaluationOf, hasCrossedRow, evaluationFits}
 use Rattle.paper.specs.declared.Figures.{Figures}
 use Rattle.paper.specs.Rates.{moveOf, minimumOf, figuresOf, moveTooLarge}
 use Rattle.paper.specs.Limits.{rangeOf, bandOf, crossed, deltaOf, oneMore, countOf, rangeMoved, bandMoved}
@@ -256,11 +256,12 @@ admitChecks t a =
     ∷ record { verdict = NoEmptySlot; applies = not (stands t 0) }
     ∷ []
 
--- "evaluate 1, 6, 5, 7, 8, 9"
+-- "evaluate 1, 6, 5, 7, 8, 9"; W-205: "16, after 6 and before 5 in an evaluation"
 unfoldable pub evaluateChecks : Bool → Record → Day → List ℤ → List Check
 evaluateChecks there r d rows =
     record { verdict = NoSuchId; applies = not there }
     ∷ record { verdict = OutOfRange; applies = not (validDay d rows) }
+    ∷ record { verdict = RowCrossed; applies = hasCrossedRow (dayRows rows) }
     ∷ record { verdict = DayNotAfter; applies = leb (d .day) (lastDay (r .standing)) }
     ∷ record {
       verdict = PriceOutOfRange;

@@ -6,7 +6,7 @@ use lib.Dec.{leb, ltb, eqb}
 use lib.IntN.{ℤ}
 use Rattle.paper.specs.declared.Row.{Row}
 use Rattle.paper.specs.declared.Roubles.{Roubles}
-use Rattle.paper.specs.Lists.{every, those}
+use Rattle.paper.specs.Lists.{every, some, those}
 use Rattle.paper.specs.Numbers.{rouble, yearInDayBp, volumeMost}
 use Rattle.paper.specs.Roundings.{halfUp, toGrid, grown}
 use Rattle.paper.specs.Ranges.{isPrice, rowsOf, rowOf}
@@ -85,6 +85,17 @@ evaluationOf g previous rows =
 -- the day's rows, taken from the numbers lent
 unfoldable pub dayRows : List ℤ → List Row
 dayRows numbers = map rowOf (rowsOf numbers)
+
+-- ---- 16: document 02, W-205, "A crossed row is a typing error."
+
+-- "Within one row two columns were exchanged. Refuse a row whose bid and ask are both present and the bid is above the
+-- ask." They are the row's numbers as given, before (a) makes roubles of them
+unfoldable pub isCrossedRow : Row → Bool
+isCrossedRow row = ltb 0 (row .bid) && ltb 0 (row .ask) && ltb (row .ask) (row .bid)
+
+-- "Across boards a bid may stand above an ask": each row is judged by itself
+unfoldable pub hasCrossedRow : List Row → Bool
+hasCrossedRow rows = some isCrossedRow rows
 
 -- ---- 7: "a rounded row price, or the evaluation, is 0 or above 10^10; a rounded row volume is above 10^8"
 

@@ -1,5 +1,5 @@
 -- A choice by a test, a figure for each of three, and tests over a list. Assumes nothing.
-use mathlib.Core.Bool.{Bool, true, false, _&&_}
+use mathlib.Core.Bool.{Bool, true, false, _&&_, _||_}
 use mathlib.Core.List.{List, [], _∷_}
 use Prim.Native.Nat.{ℕ}
 
@@ -28,6 +28,11 @@ allThree p = p 0 && p 1 && p 2
 unfoldable pub every {ℓ} : {A : Type ℓ} → (A → Bool) → List A → Bool
 every p [] = true
 every p (x ∷ xs) = p x && every p xs
+
+-- whether one passes
+unfoldable pub some {ℓ} : {A : Type ℓ} → (A → Bool) → List A → Bool
+some p [] = false
+some p (x ∷ xs) = p x || some p xs
 
 -- those that pass
 unfoldable pub those {ℓ} : {A : Type ℓ} → (A → Bool) → List A → List A

@@ -3,7 +3,7 @@
 -- It may use every definition of document 01, and the values of PinnedValues. Assumes nothing.
 use mathlib.Core.Path.{_≡_, refl}
 use mathlib.Core.List.{List, [], _∷_, _++_, map}
-use Prim.Native.Nat.{ℕ, _+_}
+use Prim.Native.Nat.{ℕ, zero, suc, _+_}
 use lib.IntN.{ℤ, pos}
 use Rattle.paper.specs.declared.Record.{Record}
 use Rattle.paper.specs.declared.Limits.{Limits}
@@ -11,7 +11,7 @@ use Rattle.paper.specs.Lists.{those}
 use Rattle.paper.specs.Limits.{crossed}
 use Rattle.paper.specs.Verdicts.{numberOf, Check}
 use Rattle.paper.specs.Desk.{blank, Call, admit, evaluate, quote, move, read, checksOf, run}
-use Rattle.paper.specs.PinnedValues.{_but_, minimaAt, centralAt, volumeAt, aupAt, adownAt, liqAt, pchmaxAt, monitoringAt, ewmaAt, idAt, dayAt, sAt, tentativeAt, liveAt, ageAt, upperMovesAt, lowerMovesAt, secondAt, admissionFrom, recordFrom, dayFrom, quoteFrom, closedAt, zNumbers, zRecord, yesNo}
+use Rattle.paper.specs.PinnedValues.{_but_, minimaAt, centralAt, rowBidAt, rowAskAt, volumeAt, aupAt, adownAt, liqAt, pchmaxAt, monitoringAt, ewmaAt, idAt, dayAt, sAt, tentativeAt, liveAt, ageAt, upperMovesAt, lowerMovesAt, secondAt, admissionFrom, recordFrom, dayFrom, quoteFrom, closedAt, zNumbers, zRecord, yesNo}
 use Rattle.paper.specs.PinnedSequence.{numbers}
 
 -- ---- "First that applies"
@@ -55,6 +55,15 @@ rowTooHigh : List ℤ
 unfolding closedAt
 rowTooHigh = closedAt 10000000000 but (centralAt, pos 20000)
 
+-- the row with a bid and an ask
+withPrices : (bid ask : ℕ) → List ℤ → List ℤ
+withPrices bid ask row = row but (rowBidAt, pos bid) but (rowAskAt, pos ask)
+
+-- the row whose price is too high, with a bid one above its ask
+crossedTooHigh : List ℤ
+unfolding withPrices rowTooHigh
+crossedTooHigh = withPrices 10000000000 9999999999 rowTooHigh
+
 -- a quote of neither bid nor ask at a second, in a term
 quoteAt : (second term : ℕ) → Call
 unfolding quoteFrom
@@ -62,11 +71,12 @@ quoteAt second term = quote 7 (quoteFrom (pos second ∷ pos term ∷ []))
 
 -- in each call a line takes away the first number that applies in the line before it
 pub orders : List (List ℕ)
-unfolding judgement calm idle damaged holding crossingDay rowTooHigh dayFrom quoteAt admissionFrom
+unfolding judgement calm idle damaged holding crossingDay crossedTooHigh dayFrom quoteAt admissionFrom
 orders =
-    -- "evaluate 1, 6, 5, 7, 8, 9"
-    judgement (evaluate 7 (dayFrom (crossingDay 3 11)) rowTooHigh) (holding (damaged calm))
-    ∷ judgement (evaluate 7 (dayFrom (crossingDay 3 11)) rowTooHigh) (holding calm)
+    -- "evaluate 1, 6, 5, 7, 8, 9"; W-205: "16, after 6 and before 5"
+    judgement (evaluate 7 (dayFrom (crossingDay 3 11)) crossedTooHigh) (holding (damaged calm))
+    ∷ judgement (evaluate 7 (dayFrom (crossingDay 3 11)) crossedTooHigh) (holding calm)
+    ∷ judgement (evaluate 7 (dayFrom (crossingDay 3 10)) crossedTooHigh) (holding calm)
     ∷ judgement (evaluate 7 (dayFrom (crossingDay 3 10)) rowTooHigh) (holding calm)
     ∷ judgement (evaluate 7 (dayFrom (crossingDay 4 10)) rowTooHigh) (holding calm)
     ∷ judgement (evaluate 7 (dayFrom (crossingDay 4 10)) (closedAt 2000010)) (holding calm)
@@ -97,8 +107,9 @@ orders =
     ∷ []
 
 pub orders-are : orders
-    ≡ (1 ∷ 1 ∷ 6 ∷ 5 ∷ 7 ∷ 8 ∷ 9 ∷ [])
-    ∷ (6 ∷ 6 ∷ 5 ∷ 7 ∷ 8 ∷ 9 ∷ [])
+    ≡ (1 ∷ 1 ∷ 6 ∷ 16 ∷ 5 ∷ 7 ∷ 8 ∷ 9 ∷ [])
+    ∷ (6 ∷ 6 ∷ 16 ∷ 5 ∷ 7 ∷ 8 ∷ 9 ∷ [])
+    ∷ (16 ∷ 16 ∷ 5 ∷ 7 ∷ 8 ∷ 9 ∷ [])
     ∷ (5 ∷ 5 ∷ 7 ∷ 8 ∷ 9 ∷ [])
     ∷ (7 ∷ 7 ∷ 8 ∷ 9 ∷ [])
     ∷ (8 ∷ 8 ∷ 9 ∷ [])
@@ -218,6 +229,80 @@ pub conditions-are : conditions
     ∷ []
 unfolding conditions
 conditions-are = refl
+
+-- ---- 16: document 02, W-205, "A crossed row is a typing error."
+
+-- a row of a board in roubles today, with no trade
+board : (bid ask : ℕ) → List ℤ
+unfolding withPrices closedAt
+board bid ask = withPrices bid ask (closedAt 0 but (volumeAt, pos 0))
+
+-- so many boards, none of them crossed
+boards : ℕ → List ℤ
+unfolding board
+boards zero = []
+boards (suc count) = board 1000000 1000001 ++ boards count
+
+pub crossedRows : List (List ℕ)
+unfolding rowAnswer boards plainZ
+crossedRows =
+    -- "the bid is above the ask": the bid one below the ask, equal, one above
+    (rowAnswer plainZ (board 999999 1000000)
+    ++ rowAnswer plainZ (board 1000000 1000000)
+    ++ rowAnswer plainZ (board 1000001 1000000))
+    -- "both present": the ask missing, the bid missing, both missing
+    ∷ (rowAnswer plainZ (board 1000001 0) ++ rowAnswer plainZ (board 0 1000000) ++ rowAnswer plainZ (board 0 0))
+    -- "Across boards a bid may stand above an ask": a bid and an ask alone, in either order; two rows with both
+    ∷ (rowAnswer plainZ (board 1000001 0 ++ board 0 1000000)
+    ++ rowAnswer plainZ (board 0 1000000 ++ board 1000001 0)
+    ++ rowAnswer plainZ (board 1000002 1000003 ++ board 1000000 1000001))
+    -- of sixteen rows the first, the ninth and the last is crossed; none is
+    ∷ (rowAnswer plainZ (board 2 1 ++ boards 15)
+    ++ rowAnswer plainZ (boards 8 ++ board 2 1 ++ boards 7)
+    ++ rowAnswer plainZ (boards 15 ++ board 2 1)
+    ++ rowAnswer plainZ (boards 16))
+    -- the numbers as given: of a currency at 0.4000 both prices are 400,000 roubles; at 0.4900 the ask rounds to 0
+    ∷ (rowAnswer plainZ (board 1000001 1000000 but (centralAt, pos 4000))
+    ++ rowAnswer plainZ (board 2 1 but (centralAt, pos 4900)))
+    ∷ []
+
+pub crossed-rows-are : crossedRows
+    ≡ (0 ∷ 0 ∷ 16 ∷ [])
+    ∷ (0 ∷ 0 ∷ 0 ∷ [])
+    ∷ (0 ∷ 0 ∷ 0 ∷ [])
+    ∷ (16 ∷ 16 ∷ 16 ∷ 0 ∷ [])
+    ∷ (16 ∷ 16 ∷ [])
+    ∷ []
+unfolding crossedRows
+crossed-rows-are = refl
+
+-- "after 6 and before 5": a crossed row beside each other number
+pub crossedBeside : List (List ℕ)
+unfolding judgement calm plainZ damaged holding crossingDay crossedTooHigh board dayFrom closedAt
+crossedBeside =
+    -- 1 a damaged record; 6 an m of 11, and another row with volume and no close; 5 the last day
+    judgement (evaluate 7 (dayFrom (pos 4 ∷ pos 2 ∷ [])) (board 1000001 1000000)) (holding (damaged plainZ))
+    ∷ judgement (evaluate 7 (dayFrom (pos 4 ∷ pos 2 ∷ pos 11 ∷ [])) (board 1000001 1000000)) (holding plainZ)
+    ∷ judgement (evaluate 7 (dayFrom (pos 4 ∷ pos 2 ∷ [])) (board 1000001 1000000 ++ closedAt 0)) (holding plainZ)
+    ∷ judgement (evaluate 7 (dayFrom (pos 3 ∷ pos 2 ∷ [])) (board 1000001 1000000)) (holding plainZ)
+    -- 7 a price above 10^10; 8 r of 1,000,010; 9 bands that cross
+    ∷ judgement (evaluate 7 (dayFrom (pos 4 ∷ pos 2 ∷ [])) crossedTooHigh) (holding plainZ)
+    ∷ judgement (evaluate 7 (dayFrom (pos 4 ∷ pos 2 ∷ [])) (withPrices 2000011 2000010 (closedAt 2000010)))
+    (holding calm)
+    ∷ judgement (evaluate 7 (dayFrom (crossingDay 4 10)) (withPrices 2000001 2000000 (closedAt 2000000))) (holding calm)
+    ∷ []
+
+pub crossed-beside-are : crossedBeside
+    ≡ (1 ∷ 1 ∷ 16 ∷ [])
+    ∷ (6 ∷ 6 ∷ 16 ∷ [])
+    ∷ (6 ∷ 6 ∷ 16 ∷ [])
+    ∷ (16 ∷ 16 ∷ 5 ∷ [])
+    ∷ (16 ∷ 16 ∷ 7 ∷ [])
+    ∷ (16 ∷ 16 ∷ 8 ∷ [])
+    ∷ (16 ∷ 16 ∷ 9 ∷ [])
+    ∷ []
+unfolding crossedBeside
+crossed-beside-are = refl
 
 -- ---- "Where an id stands in several slots the first alone counts, even if it is damaged."
 

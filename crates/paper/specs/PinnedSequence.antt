@@ -1,5 +1,6 @@
 -- Document 01 from a fresh table on: its cases 1, 5 and 13, a second day and a read as calls, each accepted with the
--- document's figures; and one list of calls that is answered every number 0 to 13. So the definitions are not empty.
+-- document's figures; and one list of calls that is answered every number 0 to 13, and 16 (W-205). So the definitions
+-- are not empty.
 -- It may use every definition of document 01, and the values of PinnedValues. Assumes nothing.
 use mathlib.Core.Path.{_≡_, refl}
 use mathlib.Core.Bool.{true}
@@ -12,17 +13,17 @@ use Rattle.paper.specs.declared.Rate.{Rate}
 use Rattle.paper.specs.declared.Limits.{Limits}
 use Rattle.paper.specs.declared.Answer.{Answer}
 use Rattle.paper.specs.declared.Verdict.the-variants.{NoSuchId}
-use Rattle.paper.specs.Lists.{every, those}
+use Rattle.paper.specs.Lists.{every, some, those}
 use Rattle.paper.specs.Roundings.{up, halfUp, toGrid, lesserOf, greaterOf, grown, apart}
 use Rattle.paper.specs.Least.{first, least, leastRoot, leastTimes, leastMultiple}
 use Rattle.paper.specs.Ranges.{unsigned, isPrice, isRate, gridOf, isGridPrice, validStatics, staticsOf, validGiven, validTentative, validAdmission, partsFrom, rowAt, rowsOf, wholeRows, validRow, validRows, rowOf, validTerm, validDay, validQuote, validSide, sideOf, isLive, lastDay, noLimits, isLimit, validLimits, validNear, validNearSeconds, sound, validSlots}
-use Rattle.paper.specs.Evaluation.{rowPrice, rowWeight, roublesOf, traded, weights, worth, mean, closeOf, bestBid, lesserAsk, bestAsk, median, between, evaluationOf, dayRows, rowFits, evaluationFits}
+use Rattle.paper.specs.Evaluation.{rowPrice, rowWeight, roublesOf, traded, weights, worth, mean, closeOf, bestBid, lesserAsk, bestAsk, median, between, evaluationOf, dayRows, isCrossedRow, hasCrossedRow, rowFits, evaluationFits}
 use Rattle.paper.specs.Rates.{moveFrom, moveOf, weightOf, weighted, replacement, replaces, volatilityOf, leastStep, heldStep, tentativeRate, tentativeRateByMove, tentativeRateOf, tentativeAfter, meetsRequirement, daysOf, minimumOf, covers, levelRate, modelled, unmodelled, figuresOf, moveTooLarge}
 use Rattle.paper.specs.Limits.{limitOf, shifted, rangeLimit, rangeOf, farthest, spread, monitored, narrower, bandLimit, bandOf, crossed, deltaOf, oneMore, rangeMoved, bandMoved}
 use Rattle.paper.specs.Alerts.{distance, isNear, keptSince, nearAfter, alert, nearCleared}
 use Rattle.paper.specs.Verdicts.{numberOf, isDone, firstOf}
 use Rattle.paper.specs.Desk.{blank, saying, showing, alerting, admitted, priceOn, moveOn, figuresOn, evaluated, nearOn, quoted, alertsOn, moved, place, stands, found, known, Call, admit, evaluate, quote, move, read, admitChecks, evaluateChecks, quoteChecks, moveChecks, readChecks, checksOf, Outcome, judged, acceptedOf, step, run, fresh}
-use Rattle.paper.specs.PinnedValues.{_but_, pchmaxAt, monitoringAt, ewmaAt, idAt, sAt, aupAt, adownAt, admissionFrom, dayFrom, quoteFrom, closedAt, zNumbers, yesNo}
+use Rattle.paper.specs.PinnedValues.{_but_, rowBidAt, rowAskAt, pchmaxAt, monitoringAt, ewmaAt, idAt, sAt, aupAt, adownAt, admissionFrom, dayFrom, quoteFrom, closedAt, zNumbers, yesNo}
 
 -- what the calls of a list answer, each on the table that those before it leave. It opens every definition that a call
 -- computes with, so that a table opens this one alone
@@ -30,16 +31,15 @@ unfoldable pub answers : List Call → List Record → List Answer
 unfolding unsigned isPrice isRate gridOf isGridPrice validStatics staticsOf validGiven validTentative validAdmission
     partsFrom rowAt rowsOf wholeRows validRow validRows rowOf validTerm validDay validQuote validSide sideOf isLive
     lastDay isLimit validLimits validNear validNearSeconds sound validSlots rowPrice rowWeight roublesOf traded
-    weights worth mean closeOf bestBid lesserAsk bestAsk median between evaluationOf dayRows rowFits evaluationFits
-    moveFrom moveOf weightOf weighted replacement replaces volatilityOf leastStep heldStep tentativeRate
-    tentativeRateByMove
-    tentativeRateOf tentativeAfter meetsRequirement daysOf minimumOf covers levelRate modelled unmodelled figuresOf
-    moveTooLarge limitOf
-    shifted rangeLimit rangeOf farthest spread monitored narrower bandLimit bandOf crossed deltaOf oneMore rangeMoved
-    bandMoved distance isNear keptSince nearAfter alert nearCleared isDone firstOf blank saying showing alerting
-    admitted priceOn moveOn figuresOn evaluated nearOn quoted alertsOn moved place stands found known admitChecks
-    evaluateChecks quoteChecks moveChecks readChecks checksOf judged acceptedOf step run every those up halfUp toGrid
-    lesserOf greaterOf grown apart first least leastRoot leastTimes leastMultiple
+    weights worth mean closeOf bestBid lesserAsk bestAsk median between evaluationOf dayRows isCrossedRow
+    hasCrossedRow rowFits evaluationFits moveFrom moveOf weightOf weighted replacement replaces volatilityOf
+    leastStep heldStep tentativeRate tentativeRateByMove tentativeRateOf tentativeAfter meetsRequirement daysOf
+    minimumOf covers levelRate modelled unmodelled figuresOf moveTooLarge limitOf shifted rangeLimit rangeOf
+    farthest spread monitored narrower bandLimit bandOf crossed deltaOf oneMore rangeMoved bandMoved distance isNear
+    keptSince nearAfter alert nearCleared isDone firstOf blank saying showing alerting admitted priceOn moveOn
+    figuresOn evaluated nearOn quoted alertsOn moved place stands found known admitChecks evaluateChecks quoteChecks
+    moveChecks readChecks checksOf judged acceptedOf step run every some those up halfUp toGrid lesserOf greaterOf
+    grown apart first least leastRoot leastTimes leastMultiple
 answers [] t = []
 answers (c ∷ cs) t =
     let o : Outcome = step c t in
@@ -160,7 +160,7 @@ unfoldable pub crossing : List ℤ
 crossing = pos 30 ∷ pos 9999 ∷ pos 9999 ∷ []
 
 unfoldable pub numbered : List Call
-unfolding quiet still crossing dayAt bidAt
+unfolding quiet still crossing dayAt bidAt dayFrom closedAt
 numbered =
     -- 1 no such id; 4 id 0; 0 done; 2 already admitted; 10 not live
     read 7
@@ -168,9 +168,11 @@ numbered =
     ∷ quiet 7
     ∷ quiet 7
     ∷ bidAt 7 100 990000
-    -- 5 the last day; 6 volume without a close; 7 an evaluation of 0; 9 bands that cross; 0 done
+    -- 5 the last day; 6 volume without a close; 16 a row whose bid is above its ask; 7 an evaluation of 0; 9 bands that
+    -- cross; 0 done
     ∷ dayAt 7 3 1000000
     ∷ dayAt 7 4 0
+    ∷ evaluate 7 (dayFrom (pos 4 ∷ [])) (closedAt 1000000 but (rowBidAt, pos 2) but (rowAskAt, pos 1))
     ∷ dayAt 7 4 1
     ∷ evaluate 7 (dayFrom (pos 4 ∷ pos 0 ∷ pos 0 ∷ crossing)) []
     ∷ dayAt 7 4 1000000
@@ -190,6 +192,6 @@ numbered =
     ∷ []))
 
 pub every-number : numbers numbered (slots 3)
-    ≡ 1 ∷ 4 ∷ 0 ∷ 2 ∷ 10 ∷ 5 ∷ 6 ∷ 7 ∷ 9 ∷ 0 ∷ 0 ∷ 13 ∷ (replicate 50 0 ++ (12 ∷ 0 ∷ 8 ∷ 0 ∷ 11 ∷ 0 ∷ 3 ∷ []))
+    ≡ 1 ∷ 4 ∷ 0 ∷ 2 ∷ 10 ∷ 5 ∷ 6 ∷ 16 ∷ 7 ∷ 9 ∷ 0 ∷ 0 ∷ 13 ∷ (replicate 50 0 ++ (12 ∷ 0 ∷ 8 ∷ 0 ∷ 11 ∷ 0 ∷ 3 ∷ []))
 unfolding numbers numbered slots
 every-number = refl

@@ -222,9 +222,15 @@ unfoldable pub yesNo : Bool → ℕ
 yesNo true = 1
 yesNo false = 0
 
--- of a day's row the places of the central rate and of the volume
+-- of a day's row the places of the central rate, the bid, the ask and the volume
 abbrev pub centralAt : ℕ
 centralAt = 1
+
+abbrev pub rowBidAt : ℕ
+rowBidAt = 4
+
+abbrev pub rowAskAt : ℕ
+rowAskAt = 5
 
 abbrev pub volumeAt : ℕ
 volumeAt = 6

@@ -377,7 +377,7 @@ impl Quote {
     pub const PRICE_MOST: u64 = 100_000_000_000;
 }
 
-// "Numbers a member may see", by name; `number` gives document 01's number.
+// "Numbers a member may see", by name; `number` gives the number: 0 to 13 are document 01's, later ones document 02's.
 pub enum Verdict {
     Done,
     NoSuchId,
@@ -395,6 +395,7 @@ pub enum Verdict {
     SecondEarlier,
     NotAscending,
     BadLine,
+    RowCrossed,
 }
 
 impl Verdict {
@@ -419,6 +420,7 @@ impl Verdict {
             Verdict::SecondEarlier => 13,
             Verdict::NotAscending => 14,
             Verdict::BadLine => 15,
+            Verdict::RowCrossed => 16,
         }
     }
 

@@ -15,11 +15,11 @@ use Rattle.paper.specs.declared.Record.{Record}
 use Rattle.paper.specs.declared.Side.{Side}
 use Rattle.paper.specs.declared.Side.the-variants.{Upper, Lower}
 use Rattle.paper.specs.declared.Verdict.{Verdict}
-use Rattle.paper.specs.declared.Verdict.the-variants.{Done, NoSuchId, AlreadyAdmitted, NoEmptySlot, AdmissionOutOfRange, DayNotAfter, OutOfRange, PriceOutOfRange, MoveTooLarge, BandCrossed, MovesUsedUp, SecondEarlier}
+use Rattle.paper.specs.declared.Verdict.the-variants.{Done, NoSuchId, AlreadyAdmitted, NoEmptySlot, AdmissionOutOfRange, DayNotAfter, OutOfRange, PriceOutOfRange, MoveTooLarge, BandCrossed, MovesUsedUp, SecondEarlier, RowCrossed}
 use Rattle.paper.specs.Lists.{pick, every, allThree}
 use Rattle.paper.specs.Numbers.{movesMost}
 use Rattle.paper.specs.Ranges.{gridOf, validSlots, validAdmission, validDay, validQuote, validSide, sideOf, isLive, lastDay, sound, noLimits}
-use Rattle.paper.specs.Evaluation.{dayRows, evaluationFits}
+use Rattle.paper.specs.Evaluation.{dayRows, hasCrossedRow, evaluationFits}
 use Rattle.paper.specs.Rates.{moveTooLarge}
 use Rattle.paper.specs.Limits.{crossed, countOf}
 use Rattle.paper.specs.Verdicts.{isDone, Check, firstOf, NoneApplies, none, also}
@@ -31,7 +31,7 @@ use Rattle.record_calls.specs.declared.Slot.{Slot}
 use Rattle.record_calls.specs.declared.Effect.{Effect}
 use Rattle.record_calls.specs.Effects.{holds, isKnown, refusedEffect, judgedEffect, admitChecksOf, admitEffect, evaluateEffect, quoteEffect, moveEffect}
 use Rattle.record_calls.specs.Openings.{openingChecks}
-use Rattle.record_calls.specs.Prices.{Priced}
+use Rattle.record_calls.specs.Prices.{Begun, Priced}
 
 -- ---- what a test of the code says of its definition
 
@@ -77,7 +77,7 @@ module _ (s e : Slot) (a : Admission) where
     unfolding admitEffect admitChecksOf judgedEffect firstOf isDone
     admission-accepted new t = rw (valid, new, t)
 
--- ---- evaluate 1, 6, 5, 7, 8, 9
+-- ---- evaluate 1, 6, 16, 5, 7, 8, 9
 
 module _ (s : Slot) (d : Day) (rows : List ℤ) where
   pub day-unknown : isKnown s ≡ false → refusedEffect (s .count) NoSuchId ≡ evaluateEffect s d rows
@@ -89,22 +89,30 @@ module _ (s : Slot) (d : Day) (rows : List ℤ) where
   unfolding evaluateEffect evaluateChecks judgedEffect firstOf isDone
   day-out known t = rw (known, t)
 
-  pub day-not-after : isKnown s ≡ true → validDay d rows ≡ true → leb (d .day) (lastDay (s .rec .standing)) ≡ true
-      → refusedEffect (s .count) DayNotAfter ≡ evaluateEffect s d rows
+  pub day-row-crossed : isKnown s ≡ true → validDay d rows ≡ true → hasCrossedRow (dayRows rows) ≡ true
+      → refusedEffect (s .count) RowCrossed ≡ evaluateEffect s d rows
   unfolding evaluateEffect evaluateChecks judgedEffect firstOf isDone
-  day-not-after known valid t = rw (known, valid, t)
+  day-row-crossed known valid t = rw (known, valid, t)
 
-  pub day-beyond : isKnown s ≡ true → validDay d rows ≡ true → leb (d .day) (lastDay (s .rec .standing)) ≡ false
-      → evaluationFits (gridOf (s .rec .statics .lot)) (s .rec .p1 .units) (dayRows rows) ≡ false
-      → refusedEffect (s .count) PriceOutOfRange ≡ evaluateEffect s d rows
-  unfolding evaluateEffect evaluateChecks judgedEffect firstOf isDone
-  day-beyond known valid after t = rw (known, valid, after, t)
+  module _ (b : Begun s d rows) where
+    pub day-not-after : leb (d .day) (lastDay (s .rec .standing)) ≡ true
+        → refusedEffect (s .count) DayNotAfter ≡ evaluateEffect s d rows
+    unfolding evaluateEffect evaluateChecks judgedEffect firstOf isDone
+    day-not-after t = rw (b .known, b .valid, b .uncrossed, t)
+
+    pub day-beyond : leb (d .day) (lastDay (s .rec .standing)) ≡ false
+        → evaluationFits (gridOf (s .rec .statics .lot)) (s .rec .p1 .units) (dayRows rows) ≡ false
+        → refusedEffect (s .count) PriceOutOfRange ≡ evaluateEffect s d rows
+    unfolding evaluateEffect evaluateChecks judgedEffect firstOf isDone
+    day-beyond after t = rw (b .known, b .valid, b .uncrossed, after, t)
 
   module _ (p : Priced s d rows) where
     pub day-moved-far : moveTooLarge (s .rec .statics) (moveOn (s .rec) rows) ≡ true
         → refusedEffect (s .count) MoveTooLarge ≡ evaluateEffect s d rows
     unfolding evaluateEffect evaluateChecks judgedEffect firstOf isDone
-    day-moved-far t = rw (p .known, p .valid, p .later, p .fits, t)
+    day-moved-far t =
+        let b = p .begun in
+        rw (b .known, b .valid, b .uncrossed, p .later, p .fits, t)
 
     module _ {new : Record} {ordered : Bool}
         (near : moveTooLarge (s .rec .statics) (moveOn (s .rec) rows) ≡ false)
@@ -115,12 +123,16 @@ module _ (s : Slot) (d : Day) (rows : List ℤ) where
 
       pub day-crossed : not ordered ≡ true → refusedEffect (s .count) BandCrossed ≡ evaluateEffect s d rows
       unfolding evaluateEffect evaluateChecks judgedEffect firstOf isDone
-      day-crossed t = rw (p .known, p .valid, p .later, p .fits, near, failed _ bands t)
+      day-crossed t =
+          let b = p .begun in
+          rw (b .known, b .valid, b .uncrossed, p .later, p .fits, near, failed _ bands t)
 
       pub day-accepted : not ordered ≡ false → record { at = s .at; rec = new; answer = showing new }
           ≡ evaluateEffect s d rows
       unfolding evaluateEffect evaluateChecks judgedEffect firstOf isDone
-      day-accepted t = rw (is, p .known, p .valid, p .later, p .fits, near, passed _ bands t)
+      day-accepted t =
+          let b = p .begun in
+          rw (is, b .known, b .valid, b .uncrossed, p .later, p .fits, near, passed _ bands t)
 
 -- ---- quote 1, 6, 10, 11, 13; move 1, 6, 10, 11, 12
 

@@ -8,16 +8,21 @@ use lib.Dec.{leb}
 use lib.IntN.{ℤ}
 use Rattle.paper.specs.declared.Day.{Day}
 use Rattle.paper.specs.Ranges.{gridOf, lastDay, validDay}
-use Rattle.paper.specs.Evaluation.{dayRows, evaluationFits}
+use Rattle.paper.specs.Evaluation.{dayRows, hasCrossedRow, evaluationFits}
 use Rattle.paper.specs.Desk.{priceOn}
 use Rattle.record_calls.specs.declared.Slot.{Slot}
 use Rattle.record_calls.specs.declared.Effect.{Effect}
 use Rattle.record_calls.specs.Effects.{isKnown, evaluateEffect}
 
--- 1, 6, 5 and 7 do not apply
-pub record Priced (s : Slot) (d : Day) (rows : List ℤ) : Type 0 where
+-- 1, 6 and 16 do not apply
+pub record Begun (s : Slot) (d : Day) (rows : List ℤ) : Type 0 where
   pub known : isKnown s ≡ true
   pub valid : validDay d rows ≡ true
+  pub uncrossed : hasCrossedRow (dayRows rows) ≡ false
+
+-- nor do 5 and 7
+pub record Priced (s : Slot) (d : Day) (rows : List ℤ) : Type 0 where
+  pub begun : Begun s d rows
   pub later : leb (d .day) (lastDay (s .rec .standing)) ≡ false
   pub fits : evaluationFits (gridOf (s .rec .statics .lot)) (s .rec .p1 .units) (dayRows rows) ≡ true
 

@@ -275,7 +275,7 @@ fn evaluated_at(s: Slot, d: Day, p: Price) -> Effect
     written(s.at, new)
 }
 
-// "evaluate 1, 6, 5, 7, 8, 9".
+// "evaluate 1, 6, 5, 7, 8, 9"; W-205: "16, after 6 and before 5".
 pub fn evaluated(s: Slot, d: Day, rows: &[i64]) -> Effect
     ensures { λ o. ⌜ o ≡ evaluateEffect s d (now (rows .entry)) ⌝ }
 {
@@ -287,6 +287,9 @@ pub fn evaluated(s: Slot, d: Day, rows: &[i64]) -> Effect
     }
     if !valid_day(d, rows) {
         return refused(count, Verdict::OutOfRange);
+    }
+    if rows::has_crossed_row(rows) {
+        return refused(count, Verdict::RowCrossed);
     }
     if d.day <= record_soundness::last_day(standing) {
         return refused(count, Verdict::DayNotAfter);

@@ -6,6 +6,8 @@ ghost use lib.IntN.{pos};
 ghost use Rattle.paper.specs.Lists.{every};
 ghost use Rattle.paper.specs.Numbers.{rowNumbers};
 ghost use Rattle.paper.specs.Ranges.{rowAt, rowsOf, wholeRows, closeForVolume, validRow, validRows, rowOf};
+ghost use Rattle.paper.specs.Evaluation.{dayRows, isCrossedRow, hasCrossedRow};
+ghost use Rattle.rows.specs.RowTests.{passes};
 use paper::Price;
 use paper::Row;
 use paper::Term;
@@ -14,6 +16,12 @@ use paper::Term;
 const PRICE_MOST: i64 = Price::MOST_UNITS as i64;
 
 const VOLUME_MOST: i64 = Row::VOLUME_MOST as i64;
+
+// What every row of a day is asked: that its numbers are in range, else 6, and that it is not crossed, else 16.
+enum RowTest {
+    InRange,
+    NotCrossed,
+}
 
 // "Volume above 0 with close 0 is out of range": whether there is no volume at v, or a close at c.
 fn close_for_volume(rows: &[i64], v: usize, c: usize) -> bool
@@ -56,14 +64,34 @@ pub fn row_at(rows: &[i64], at: usize) -> Row
     }
 }
 
-// Whether every number of every row is in its range.
-fn every_row_valid(rows: &[i64]) -> bool
+// W-205: "a row whose bid and ask are both present and the bid is above the ask", of the numbers as they are lent.
+fn row_crossed(rows: &[i64], at: usize) -> bool
+    requires { ⌜ at + rowNumbers ≤ length (now rows) ⌝ }
+    ensures { λ r. ⌜ r ≡ isCrossedRow (rowOf (rowAt (now (rows .entry)) at)) ⌝ }
+{
+    let bid = exact::unsigned_at(rows, at + 4);
+    let ask = exact::unsigned_at(rows, at + 5);
+    (0 < bid) & (0 < ask) & (ask < bid)
+}
+
+fn row_passes(rows: &[i64], at: usize, test: RowTest) -> bool
+    requires { ⌜ at + rowNumbers ≤ length (now rows) ⌝ }
+    ensures { λ r. ⌜ r ≡ passes test (rowAt (now (rows .entry)) at) ⌝ }
+{
+    match test {
+        RowTest::InRange => row_valid(rows, at),
+        RowTest::NotCrossed => !row_crossed(rows, at),
+    }
+}
+
+// Whether every row passes a test: one walk for both tests, since no function can be handed to another.
+fn every_row_passes(rows: &[i64], test: RowTest) -> bool
     requires { ⌜ length (now rows) % rowNumbers ≡ 0 ⌝ }
-    ensures { λ r. ⌜ r ≡ every validRow (rowsOf (now (rows .entry))) ⌝ }
+    ensures { λ r. ⌜ r ≡ every (passes test) (rowsOf (now (rows .entry))) ⌝ }
 {
     let mut at = 0;
     while at < rows.len() {
-        if !row_valid(rows, at) {
+        if !row_passes(rows, at, test) {
             return false;
         }
         at += Row::NUMBERS;
@@ -85,5 +113,13 @@ pub fn rows_valid(rows: &[i64]) -> bool
     if !whole_rows(rows) {
         return false;
     }
-    every_row_valid(rows)
+    every_row_passes(rows, RowTest::InRange)
+}
+
+// Whether some row is crossed: the day is then refused 16.
+pub fn has_crossed_row(rows: &[i64]) -> bool
+    requires { ⌜ length (now rows) % rowNumbers ≡ 0 ⌝ }
+    ensures { λ r. ⌜ r ≡ hasCrossedRow (dayRows (now (rows .entry))) ⌝ }
+{
+    !every_row_passes(rows, RowTest::NotCrossed)
 }

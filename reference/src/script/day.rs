@@ -10,13 +10,16 @@ use crate::units::{
     ROW_PRICE, ROW_VOLUME, YEAR_IN_DAY_BP,
 };
 
-use super::edges;
+use super::{crossed, edges};
 
 /// The rouble's central rate.
 const ROUBLE: i64 = ONE_IN_TEN_THOUSANDTHS as i64;
 
 /// A price above which rows of the greatest weight are tried.
 const HEAVY_PRICE: i64 = *ROW_PRICE.end() / 3;
+
+/// In how many of a hundred days the bid and the ask of a row are exchanged.
+const EXCHANGED_PERCENT: usize = 2;
 
 /// The numbers of a day for a record, in the order of the text protocol.
 pub fn numbers(random: &mut Random, record: &Record) -> Vec<i64> {
@@ -120,7 +123,7 @@ fn rows(random: &mut Random, record: &Record) -> Vec<i64> {
         _ => 16,
     };
     let heavy = aim > HEAVY_PRICE && random.chance(25);
-    let kind = random.below(6);
+    let kind = random.below(7);
     let mut rows = Vec::with_capacity(ROW * count);
     for _ in 0..count {
         rows.extend(match kind {
@@ -128,8 +131,13 @@ fn rows(random: &mut Random, record: &Record) -> Vec<i64> {
             0 | 1 => plain_row(random, aim),
             2 => quoted_row(random, aim),
             3 => tied_row(random, aim),
+            4 => parted_row(random, aim),
             _ => foreign_row(random, aim),
         });
+    }
+    rows.chunks_exact_mut(ROW).for_each(crossed::mend);
+    if random.chance(EXCHANGED_PERCENT) {
+        crossed::exchange_columns(random, &mut rows);
     }
     if random.chance(8) {
         lengthen(random, &mut rows);
@@ -153,7 +161,7 @@ fn lengthen(random: &mut Random, rows: &mut Vec<i64>) {
 }
 
 /// A rouble row that trades at the price.
-fn plain_row(random: &mut Random, price: i64) -> [i64; ROW] {
+pub fn plain_row(random: &mut Random, price: i64) -> [i64; ROW] {
     let spread = random.between(0, price / 50 + 2);
     let volume = random.pick(&[1, 1, 2, 3, 8, 100, 300, 1_000_000]);
     let bid = random.pick(&[0, price, price - spread]).max(0);
@@ -188,6 +196,20 @@ fn quoted_row(random: &mut Random, price: i64) -> [i64; ROW] {
     let close = random.pick(&[0, 0, price]);
     let held = |price: i64| price.clamp(0, *ROW_PRICE.end());
     [0, ROUBLE, 0, close, held(bid), held(ask), 0]
+}
+
+/// A row whose bid and ask stand together above the price or below it, so that
+/// across rows BID may be above ASK.
+fn parted_row(random: &mut Random, price: i64) -> [i64; ROW] {
+    let far = price / 100 + 2;
+    let middle = price + random.between(-far, far);
+    let spread = random.between(0, price / 400 + 1);
+    let close = random.pick(&[0, price]);
+    let held = |price: i64| price.clamp(1, *ROW_PRICE.end());
+    let bid = random.pick(&[0, held(middle - spread), held(middle - spread)]);
+    let ask = random.pick(&[0, held(middle + spread), held(middle + spread)]);
+    let volume = if close == 0 { 0 } else { 1 };
+    [0, ROUBLE, 0, close, bid, ask, volume]
 }
 
 /// A row whose price or volume rounds at or beside a tie: 3,650,000 over

@@ -9,11 +9,12 @@ use crate::kept::Kept;
 use crate::protocol::perform;
 use crate::random::Random;
 use crate::record::Record;
+use crate::refusal::Refusal;
 use crate::units::{Range, ID, MOVE_COUNT};
 use crate::words::{hear, number_or_pair, Word, EVENING_LINE_MAX};
 
 use super::edges::{edge, neighbours, unsettled_count, Ends};
-use super::{day, edges, quote, replacement, share, spelling};
+use super::{crossed, day, edges, quote, replacement, share, spelling};
 
 /// Securities that the author works on at a time.
 const FOCUS: usize = 24;
@@ -34,6 +35,19 @@ const FILL_AT: usize = 25;
 const REPLACED: usize = 2 * replacement::SHARES;
 /// Draws of a record whose next day can stand at the edge of a replacement.
 const REPLACED_DRAWS: usize = 8;
+/// Draws of a record whose next day can have a crossed row and another fault.
+const CROSSED_DRAWS: usize = 40;
+/// What else may be wrong with a day that has a crossed row.
+const ALSO_REFUSED: [Refusal; 8] = [
+    Refusal::ValueOutOfRange,
+    Refusal::ValueOutOfRange,
+    Refusal::DayNotAfterLast,
+    Refusal::DayNotAfterLast,
+    Refusal::EvaluationOutOfRange,
+    Refusal::MoveTooGreat,
+    Refusal::BandCrossed,
+    Refusal::BandCrossed,
+];
 /// After how many of a hundred lines each spell comes.
 const SPELLS: [(usize, Spell); 4] = [
     (8, Spell::Falls),
@@ -171,8 +185,9 @@ impl Author {
     /// One thing of the desk, by its weight among a thousand.
     fn desk_turn(&mut self) {
         match self.random.below(1_000) {
-            0..=279 => self.day(),
-            280..=339 => self.replaced_day(),
+            0..=234 => self.day(),
+            235..=294 => self.replaced_day(),
+            295..=339 => self.crossed_day(),
             340..=459 => self.day_at_an_edge(),
             460..=539 => self.unsettled_day(),
             540..=679 => self.quote(),
@@ -329,6 +344,42 @@ impl Author {
             }
         }
         self.day();
+    }
+
+    /// A day with a row whose bid stands beside its ask. A crossed one is said
+    /// once more with its columns put right.
+    fn crossed_day(&mut self) {
+        if self.random.chance(40) {
+            return self.crossed_and_refused();
+        }
+        let record = self.record();
+        let random = &mut self.random;
+        let is_crossed = random.chance(50);
+        let sides = if is_crossed {
+            random.pick(&crossed::Sides::CROSSED)
+        } else {
+            random.pick(&crossed::Sides::UNCROSSED)
+        };
+        let numbers = crossed::numbers(random, &record, sides);
+        self.say("evaluate", &numbers);
+        if is_crossed {
+            self.say("evaluate", &crossed::mended(&numbers));
+        }
+    }
+
+    /// A day with a crossed row and something else that is refused, of a
+    /// security that can have it.
+    fn crossed_and_refused(&mut self) {
+        let refusal = self.random.pick(&ALSO_REFUSED);
+        for _ in 0..CROSSED_DRAWS {
+            let record = self.record();
+            if let Some(mut numbers) = crossed::refused(&mut self.random, &record, refusal) {
+                if self.random.chance(20) {
+                    numbers[0] = self.new_id();
+                }
+                return self.say("evaluate", &numbers);
+            }
+        }
     }
 
     /// A day on which a security trades at a price.

@@ -1,5 +1,6 @@
 //! Seeded random scripts that crowd both sides of every edge.
 
+mod crossed;
 mod day;
 mod edges;
 pub mod evening;

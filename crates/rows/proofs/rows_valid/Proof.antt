@@ -19,12 +19,12 @@ returns c = rw (sym (c .before .whole-rows .ensures) ∙ not-true _ (c .if1 .tak
 full : (c : tie.Else1) → wholeRows (c .before .before .args .rows .now) ≡ true
 full c = sym (c .before .whole-rows .ensures) ∙ not-false _ (c .if1 .left)
 
-every-row-valid-requires : tie.Need-every-row-valid-requires
-every-row-valid-requires c κs = valid-sevens _ (full c)
+every-row-passes-requires : tie.Need-every-row-passes-requires
+every-row-passes-requires c κs = valid-sevens _ (full c)
 
 returns-2 : tie.Need-returns-2
 unfolding validRows
-returns-2 c = rw (full (c .before)) (c .every-row-valid .ensures)
+returns-2 c = rw (full (c .before)) (c .every-row-passes .ensures)
 
 pub rows-valid-spec : {M : Type 1} → statement M
-rows-valid-spec = tie.close (tie.spec whole-rows-requires returns every-row-valid-requires returns-2)
+rows-valid-spec = tie.close (tie.spec whole-rows-requires returns every-row-passes-requires returns-2)
