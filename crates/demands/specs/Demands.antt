@@ -24,7 +24,7 @@ use Rattle.paper.specs.Kept.{everySlot}
 use Rattle.paper.specs.History.{FreshTable, Event, quotedAt, unknown, since, historyOf, wasAdmitted, isAdmission, evaluations}
 use Rattle.paper.specs.Sequences.{carries, onDay, lastEvaluated, movesOf, standingNow, termNow, rangeNow, bandNow, nearSince, nearNow, lastSecond}
 use Rattle.paper.specs.Exact.{exactSquare, NearExact}
-use Rattle.paper.specs.InterestExact.{Evening, Carried, carriedAfter, Follow, exactRepoSquare}
+use Rattle.paper_interest.specs.InterestExact.{Evening, Carried, carriedAfter, Follow, exactRepoSquare}
 
 -- the number, as a verdict, that a call gets from a table
 abbrev pub answered : Call → List Record → Verdict

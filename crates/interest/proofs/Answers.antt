@@ -7,10 +7,10 @@ use lib.IntN.{ℤ}
 use borrow.Author.Tests.{ltb-true}
 use Rattle.paper.specs.declared.Interest.{Interest}
 use Rattle.paper.specs.declared.Verdict.the-variants.{OutOfRange, NotAscending}
-use Rattle.paper.specs.Interest.{validInterest, validKeys, maturitiesOf, ascending, interestChecks, refusedInterest, acceptedInterest, interestAnswer}
+use Rattle.paper_interest.specs.Interest.{validInterest, validKeys, maturitiesOf, ascending, interestChecks, refusedInterest, acceptedInterest, interestAnswer}
 use Rattle.paper.specs.Verdicts.{isDone, firstOf}
 use Rattle.paper.proofs.Logic.{and-left, and-right}
-use Rattle.paper.proofs.InterestRanges.{interest-range}
+use Rattle.paper_interest.proofs.InterestRanges.{interest-range}
 use Rattle.interest_forward.specs.Pair.{PairRange}
 
 module _ (i : Interest) (numbers : List ℤ) where

@@ -13,11 +13,11 @@ use Rattle.paper.specs.declared.Interest.{Interest}
 use Rattle.paper.specs.declared.Maturity.{Maturity}
 use Rattle.paper.specs.declared.RepoLimits.{RepoLimits}
 use Rattle.paper.specs.Numbers.{keyNumbers}
-use Rattle.paper.specs.Interest.{keyAt, validKeys, maturitiesOf, upward, downward, maturityFigures, figureAt, interpolated, upperLimit, lowerLimit, InterestRange, KeyRange}
+use Rattle.paper_interest.specs.Interest.{keyAt, validKeys, maturitiesOf, upward, downward, maturityFigures, figureAt, interpolated, upperLimit, lowerLimit, InterestRange, KeyRange}
 use Rattle.paper.proofs.Logic.{pick-true, pick-false}
 use Rattle.paper.proofs.Differences.{difference-whole}
-use Rattle.paper.proofs.Lifted.{lifted-is}
-use Rattle.paper.proofs.InterestRanges.{key-range, figures-held}
+use Rattle.paper_interest.proofs.Lifted.{lifted-is}
+use Rattle.paper_interest.proofs.InterestRanges.{key-range, figures-held}
 use Rattle.interest_maturities.specs.KeyLaws.{maturityAt, valid-key}
 use Rattle.interest_maturities.specs.Reads.{Reads}
 use Rattle.interest_repo.specs.Lift.{lift, lifted, lifted-range}

@@ -6,7 +6,7 @@ use Prim.Native.Nat.{ℕ}
 use lib.IntN.{pos}
 use Rattle.paper.specs.declared.Interest.{Interest}
 use Rattle.paper.specs.declared.Maturity.{Maturity}
-use Rattle.paper.specs.Interest.{upward, downward, figureAt}
+use Rattle.paper_interest.specs.Interest.{upward, downward, figureAt}
 use Rattle.interest_repo.specs.Lift.{lifted}
 use Rattle.interest_forward.specs.declared.Point.{Point}
 use Rattle.interest_forward.specs.Points.{PointRange, rateOf}

@@ -9,7 +9,7 @@ ghost use lib.Dec.{ltb};
 ghost use lib.ListN.{length, getD};
 ghost use Rattle.paper.specs.Lists.{eight};
 ghost use Rattle.paper.specs.Numbers.{keyNumbers};
-ghost use Rattle.paper.specs.Interest.{validInterest, validKeys, maturitiesOf, ascending, maturityFigures, noFigures, refusedInterest, acceptedInterest, interestAnswer, InterestRange};
+ghost use Rattle.paper_interest.specs.Interest.{validInterest, validKeys, maturitiesOf, ascending, maturityFigures, noFigures, refusedInterest, acceptedInterest, interestAnswer, InterestRange};
 ghost use Rattle.interest_maturities.specs.KeyLaws.{maturityAt};
 ghost use Rattle.interest_forward.specs.Pair.{PairRange};
 ghost use Rattle.interest.specs.Figures.{pointOf, PointAt};

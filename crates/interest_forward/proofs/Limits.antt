@@ -7,10 +7,10 @@ use lib.IntN.{ℤ, pos, subℕ, _+ℤ_, _-ℤ_, _*ℤ_}
 use Rattle.paper.specs.declared.Interest.{Interest}
 use Rattle.paper.specs.Numbers.{oneInHundredths, maturityMost, divisorMost}
 use Rattle.paper.specs.Roundings.{halfUp}
-use Rattle.paper.specs.Interest.{limitFrom}
+use Rattle.paper_interest.specs.Interest.{limitFrom}
 use Rattle.paper.proofs.Roundings.{half-le}
 use Rattle.paper.proofs.Differences.{difference-times, difference-plus, difference-minus, difference-same, difference-whole}
-use Rattle.paper.proofs.Lifted.{half-shift}
+use Rattle.paper_interest.proofs.Lifted.{half-shift}
 use Rattle.interest_forward.specs.declared.Point.{Point}
 use Rattle.interest_repo.specs.Lift.{lift}
 use Rattle.interest_forward.specs.Points.{figureMost, PointRange, rateOf}

@@ -7,10 +7,10 @@ use native.Mathlib.Omega.{arith}
 use lib.IntN.{ℤ, pos, subℕ, _+ℤ_, _*ℤ_}
 use Rattle.paper.specs.Numbers.{maturityMost}
 use Rattle.paper.specs.Roundings.{halfUpZ}
-use Rattle.paper.specs.Interest.{interpolated}
+use Rattle.paper_interest.specs.Interest.{interpolated}
 use Rattle.paper.proofs.Roundings.{half-le}
 use Rattle.paper.proofs.Differences.{difference-times, difference-plus, difference-same}
-use Rattle.paper.proofs.Lifted.{half-shift}
+use Rattle.paper_interest.proofs.Lifted.{half-shift}
 use Rattle.interest_forward.specs.declared.Point.{Point}
 use Rattle.interest_forward.specs.Points.{figureMost, PointRange, Line, linear, pointBetween}
 

@@ -3,7 +3,7 @@
 ghost use mathlib.Core.Path.{_≡_};
 ghost use Prim.Native.Nat.{_-_, _*_, _^_, _≤_, _<_};
 ghost use lib.IntN.{pos, subℕ};
-ghost use Rattle.paper.specs.Interest.{isHeld, limitFrom, lesserZ, greaterZ};
+ghost use Rattle.paper_interest.specs.Interest.{isHeld, limitFrom, lesserZ, greaterZ};
 ghost use Rattle.interest_forward.specs.Points.{figureMost, PointRange, rateOf, Line, linear, pointBetween};
 ghost use Rattle.interest_forward.specs.Pair.{PairRange, base, Margin, Risen, upperOf, lowerOf, bandHeld};
 use interest_repo::LIFT;

@@ -9,7 +9,7 @@ use lib.ListN.{length}
 use Rattle.paper.specs.declared.Maturity.{Maturity}
 use Rattle.paper.specs.Lists.{pick}
 use Rattle.paper.specs.Numbers.{keyNumbers}
-use Rattle.paper.specs.Interest.{maturitiesOf, figureAt, interpolated}
+use Rattle.paper_interest.specs.Interest.{maturitiesOf, figureAt, interpolated}
 use Rattle.interest_maturities.specs.KeyLaws.{maturityAt}
 
 -- where the key maturities before and after a term of y days begin: two neighbours with the term between them, or one

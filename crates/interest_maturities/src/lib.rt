@@ -5,7 +5,7 @@ ghost use Prim.Native.Nat.{_+_, _%_, _≤_};
 ghost use lib.ListN.{length};
 ghost use Rattle.paper.specs.Lists.{every};
 ghost use Rattle.paper.specs.Numbers.{keyNumbers};
-ghost use Rattle.paper.specs.Interest.{keyAt, keysOf, wholeKeys, validKey, validKeys, maturityOf, maturitiesOf, ascending};
+ghost use Rattle.paper_interest.specs.Interest.{keyAt, keysOf, wholeKeys, validKey, validKeys, maturityOf, maturitiesOf, ascending};
 ghost use Rattle.interest_maturities.specs.Reads.{Reads};
 use paper::Maturity;
 use paper::Record;

@@ -6,9 +6,9 @@ use native.Mathlib.Omega.{arith}
 use lib.IntN.{ℤ, pos, negsuc, natAbs, subℕ, _+ℤ_, _-ℤ_}
 use Rattle.paper.specs.Numbers.{repoMost}
 use Rattle.paper.specs.Roundings.{grown, apart}
-use Rattle.paper.specs.Interest.{apartZ, atLeastZero}
+use Rattle.paper_interest.specs.Interest.{apartZ, atLeastZero}
 use Rattle.paper.proofs.Differences.{difference-same, difference-whole, difference-plus, difference-minus, difference-size}
-use Rattle.paper.proofs.Lifted.{lifted-is, difference-part}
+use Rattle.paper_interest.proofs.Lifted.{lifted-is, difference-part}
 
 -- the base; it is no number of the paper
 abbrev pub lift : ℕ

@@ -6,7 +6,7 @@ ghost use lib.IntN.{natAbs};
 ghost use Rattle.paper.specs.Numbers.{oneInHundredths, minimumMost, repoMost, repoVolatilityMost, repoTentativeMost};
 ghost use Rattle.paper.specs.Roundings.{grown};
 ghost use Rattle.paper.specs.Rates.{leastStep};
-ghost use Rattle.paper.specs.Interest.{apartZ, atLeastZero, changeOf, repoVolatility, repoTentative, maturityFigures, InterestRange, KeyRange};
+ghost use Rattle.paper_interest.specs.Interest.{apartZ, atLeastZero, changeOf, repoVolatility, repoTentative, maturityFigures, InterestRange, KeyRange};
 ghost use Rattle.interest_repo.specs.Lift.{lift};
 ghost use Rattle.interest_repo.specs.Estimates.{estimateOf, securityMinimum};
 use paper::Interest;

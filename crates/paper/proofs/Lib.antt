@@ -2,7 +2,6 @@ pub mod Logic
 pub mod Differences
 pub mod Search
 pub mod Roundings
-pub mod Lifted
 pub mod Units
 pub mod Slots
 pub mod Refusals
@@ -12,9 +11,6 @@ pub mod Volatility
 pub mod Bounds
 pub mod LimitSizes
 pub mod CarriedOn
-pub mod InterestRanges
-pub mod InterestFigures
-pub mod InterestRefusals
 pub mod Roots
 pub mod Level
 pub mod PinnedLaws

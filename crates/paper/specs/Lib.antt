@@ -15,9 +15,6 @@ pub mod Sequences
 pub mod Exact
 pub mod Kept
 pub mod Cases
-pub mod Interest
-pub mod InterestExact
-pub mod InterestCases
 pub mod Terms
 pub mod Sides
 pub mod PinnedValues
@@ -29,4 +26,3 @@ pub mod PinnedEvaluation
 pub mod PinnedReplacement
 pub mod PinnedExact
 pub mod PinnedGateway
-pub mod PinnedInterest

@@ -1,7 +1,6 @@
--- Demand 3's exact square in figures: "the exact square kept as N/D in square millionths" of a share (document 01), and
--- in square bp of the interest side (W-201). The carried figures stand beside it, so that a square that followed them,
--- or a move that was rounded, is refused here.
--- It may use every definition of the two documents, and the values of PinnedValues. Assumes nothing.
+-- Demand 3's exact square in figures: "the exact square kept as N/D in square millionths" of a share (document 01). The
+-- carried figures stand beside it, so that a square that followed them, or a move that was rounded, is refused here.
+-- It may use every definition of document 01, and the values of PinnedValues. Assumes nothing.
 use mathlib.Core.Path.{_≡_, refl}
 use mathlib.Core.List.{List, [], _∷_, map}
 use Prim.Native.Nat.{ℕ, _+_, _*_, _/_, _%_}
@@ -12,16 +11,12 @@ use Rattle.paper.specs.Roundings.{Quotient}
 use Rattle.paper.specs.History.{Event, evaluatedOn, quotedAt, movedBy}
 use Rattle.paper.specs.Sequences.{carries, carriesFirst, carriesNext}
 use Rattle.paper.specs.Exact.{exactMove, nextSquare, choiceOf, exactSquare}
-use Rattle.paper.specs.InterestExact.{Evening, keyIn, repoChoice, exactChange, exactRepoSquare}
-use Rattle.paper.specs.InterestCases.{oneEvening, twoEvenings, calmEvenings, firstGiven}
 use Rattle.paper.specs.PinnedValues.{_but_, hAt, liqAt, minimaAt, p1At, sAt, tentativeAt, admissionFrom, dayFrom, quoteFrom, closedAt, zNumbers}
 use Rattle.paper.specs.PinnedSequence.{numbers}
 
 -- a quotient counted in parts of which d make a whole, and what is left over: n and 0 where the quotient is n/d
-partsOf : (d : ℕ) → Quotient → List ℕ
+unfoldable pub partsOf : (d : ℕ) → Quotient → List ℕ
 partsOf d x = x .num * d / x .den ∷ x .num * d % x .den ∷ []
-
--- ---- shares
 
 -- Z with h 1, the minima 1, 2 and 3, liq 0, both earlier evaluations 3,000,000, s 4 and the tentative rate 1: so
 -- 100·S_1 is 100
@@ -112,34 +107,3 @@ pub exact-squares-are : exact-squares
     ∷ []
 unfolding exact-squares
 exact-squares-are = refl
-
--- ---- the interest side
-
-pub exact-repo-squares : List (List ℕ)
-unfolding oneEvening twoEvenings calmEvenings firstGiven partsOf keyIn repoChoice exactChange nextSquare
-    choiceOf exactRepoSquare
-exact-repo-squares =
-    -- the first key maturity: no evening, one, and two by weight, of which b 2 makes the second 0
-    partsOf 1 (exactRepoSquare firstGiven [])
-    ∷ partsOf 1 (exactRepoSquare firstGiven (oneEvening 0))
-    ∷ partsOf 1 (exactRepoSquare firstGiven (calmEvenings 1 0))
-    ∷ partsOf 1 (exactRepoSquare firstGiven (calmEvenings 2 0))
-    -- the second: the replacement; from it by weight; from it by another replacement
-    ∷ partsOf 4 (exactRepoSquare firstGiven (oneEvening 1))
-    ∷ partsOf 40 (exactRepoSquare firstGiven (calmEvenings 0 1))
-    ∷ partsOf 1 (exactRepoSquare firstGiven (twoEvenings 1))
-    ∷ []
-
-pub exact-repo-squares-are : exact-repo-squares
-    -- 40²; 0.9·1,600 + 0.1·150²; 0.9·3,690 + 0.1·100² (from the carried 61 it would be 4,348.9)
-    ≡ (1600 ∷ 0 ∷ [])
-    ∷ (3690 ∷ 0 ∷ [])
-    ∷ (4321 ∷ 0 ∷ [])
-    ∷ (3690 ∷ 0 ∷ [])
-    -- (100·151/200)² = 22,801/4; 0.9·22,801/4 + 0.1·100² = 205,209/40 + 1,000; (100·1,606/200)² = 803²
-    ∷ (22801 ∷ 0 ∷ [])
-    ∷ (245209 ∷ 0 ∷ [])
-    ∷ (644809 ∷ 0 ∷ [])
-    ∷ []
-unfolding exact-repo-squares
-exact-repo-squares-are = refl

@@ -7,7 +7,7 @@ use lib.IntN.{ℤ}
 use lib.ListN.{length, drop, getD, drop-of-length-le}
 use lib.Seq.{drop-cons}
 use Rattle.paper.specs.declared.MaturityFigures.{MaturityFigures}
-use Rattle.paper.specs.Interest.{noFigures}
+use Rattle.paper_interest.specs.Interest.{noFigures}
 use Rattle.text_protocol.specs.Answers.{spaced, maturityNumbers, maturitiesNumbers}
 use Rattle.text_out.specs.Wrote.{Left, left-none, left-more, left-all}
 use Rattle.text_answer.specs.Told.{Told, spaced-both, wrote, told}

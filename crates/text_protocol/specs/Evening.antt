@@ -5,7 +5,7 @@ use Prim.Native.Nat.{ℕ, _+_}
 use lib.Dec.{ltb}
 use Rattle.paper.specs.declared.Record.{Record}
 use Rattle.paper.specs.Lists.{pick}
-use Rattle.paper.specs.Interest.{interestAnswer}
+use Rattle.paper_interest.specs.Interest.{interestAnswer}
 use Rattle.paper.specs.Desk.{step}
 use Rattle.text_protocol.specs.declared.Kept.{Kept}
 use Rattle.text_protocol.specs.Kept.{keptAfter}

@@ -14,7 +14,7 @@ use Rattle.paper.specs.declared.Interest.{Interest}
 use Rattle.paper.specs.declared.InterestAnswer.{InterestAnswer}
 use Rattle.text_call.specs.declared.Request.{Request}
 use Rattle.paper.specs.Lists.{pick}
-use Rattle.paper.specs.Interest.{interestAnswer}
+use Rattle.paper_interest.specs.Interest.{interestAnswer}
 use Rattle.paper.specs.Desk.{Call, step}
 use Rattle.text_protocol.specs.declared.Kept.{Kept}
 use Rattle.text_protocol.specs.declared.Pairs.{Pairs}

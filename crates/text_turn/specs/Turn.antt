@@ -12,7 +12,7 @@ use Rattle.paper.specs.declared.Answer.{Answer}
 use Rattle.paper.specs.declared.InterestAnswer.{InterestAnswer}
 use Rattle.paper.specs.Lists.{pick}
 use Rattle.paper.specs.Desk.{Call, read, step}
-use Rattle.paper.specs.Interest.{interestAnswer}
+use Rattle.paper_interest.specs.Interest.{interestAnswer}
 use Rattle.text_protocol.specs.declared.Kept.{Kept}
 use Rattle.text_protocol.specs.declared.Pairs.{Pairs}
 use Rattle.text_protocol.specs.Kept.{keptAfter, noneKept}

@@ -7,7 +7,7 @@ use mir.Facts.{toZ-ofZ}
 use borrow.Author.Needs.{needs}
 use Rattle.paper.specs.declared.RepoLimits.{RepoLimits}
 use Rattle.paper.specs.declared.Verdict.the-variants.{Done}
-use Rattle.paper.specs.Interest.{acceptedInterest}
+use Rattle.paper_interest.specs.Interest.{acceptedInterest}
 use Rattle.interest_maturities.specs.KeyLaws.{count-is}
 use Rattle.interest.proofs.Terms.{band-at}
 use Rattle.interest.proofs.accepted.Statement.{statement}

@@ -3,7 +3,7 @@ use mathlib.Core.Path.{_≡_}
 use mathlib.Core.Bool.{true}
 use Prim.Native.Nat.{ℕ, _<_}
 use native.Mathlib.Omega.{arith}
-use Rattle.paper.specs.Interest.{validKeys, InterestRange}
+use Rattle.paper_interest.specs.Interest.{validKeys, InterestRange}
 use Rattle.interest.proofs.all_figures.Statement.{statement}
 use Rattle.interest.proofs.all_figures.Tie as tie
 

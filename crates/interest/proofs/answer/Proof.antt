@@ -3,7 +3,7 @@ use mathlib.Core.Path.{_≡_, sym, _∙_}
 use mathlib.Core.Bool.{true, _&&_}
 use lib.Dec.{ltb}
 use borrow.Author.Needs.{needs}
-use Rattle.paper.specs.Interest.{validInterest, validKeys, maturitiesOf, ascending}
+use Rattle.paper_interest.specs.Interest.{validInterest, validKeys, maturitiesOf, ascending}
 use Rattle.paper.proofs.Logic.{not-true, not-false}
 use Rattle.interest_maturities.specs.KeyLaws.{valid-whole, valid-eights}
 use Rattle.interest.proofs.Answers.{answer-keys, answer-pair, answer-range, answer-order, answer-figures}

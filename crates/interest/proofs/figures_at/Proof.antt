@@ -6,7 +6,7 @@ use native.Mathlib.Omega.{arith}
 use lib.ListN.{length}
 use borrow.Author.Needs.{needs}
 use Rattle.paper.specs.Numbers.{keyNumbers}
-use Rattle.paper.specs.Interest.{maturityFigures, noFigures}
+use Rattle.paper_interest.specs.Interest.{maturityFigures, noFigures}
 use Rattle.interest_maturities.specs.KeyLaws.{valid-whole, valid-eights, figure-here, figure-past}
 use Rattle.interest.proofs.Terms.{key-in-range}
 use Rattle.interest.proofs.figures_at.Statement.{statement}

@@ -2,7 +2,7 @@
 -- the last fields, and are read back from their bits. Assumes nothing.
 use mir.Facts.{toZ-ofZ}
 use borrow.Author.Needs.{needs}
-use Rattle.paper.specs.Interest.{validInterest}
+use Rattle.paper_interest.specs.Interest.{validInterest}
 use Rattle.interest.proofs.interest_valid.Statement.{statement}
 use Rattle.interest.proofs.interest_valid.Tie as tie
 

@@ -1,6 +1,6 @@
 -- `interest::point_of` meets its contract: the figures of the key maturity, and its rate lifted. Assumes nothing.
 use borrow.Author.Needs.{needs}
-use Rattle.paper.specs.Interest.{maturityFigures, KeyRange}
+use Rattle.paper_interest.specs.Interest.{maturityFigures, KeyRange}
 use Rattle.interest_repo.proofs.Bits.{rate-bits}
 use Rattle.interest.proofs.Terms.{key-in-range}
 use Rattle.interest.proofs.point_of.Statement.{statement}

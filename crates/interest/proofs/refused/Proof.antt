@@ -1,6 +1,6 @@
 -- `interest::refused` meets its contract: every figure is 0. Assumes nothing.
 use borrow.Author.Needs.{needs}
-use Rattle.paper.specs.Interest.{refusedInterest}
+use Rattle.paper_interest.specs.Interest.{refusedInterest}
 use Rattle.interest.proofs.refused.Statement.{statement}
 use Rattle.interest.proofs.refused.Tie as tie
 

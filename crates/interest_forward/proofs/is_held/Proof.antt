@@ -1,6 +1,6 @@
 -- `interest_forward::is_held` meets its contract: it is the definition's test. Assumes nothing.
 use mathlib.Core.Path.{refl}
-use Rattle.paper.specs.Interest.{isHeld}
+use Rattle.paper_interest.specs.Interest.{isHeld}
 use Rattle.interest_forward.proofs.is_held.Statement.{statement}
 use Rattle.interest_forward.proofs.is_held.Tie as tie
 

@@ -8,7 +8,7 @@ use mir.Syntax.{w64}
 use mir.Val.{SFits}
 use mir.Facts.{toZ-ofZ}
 use borrow.Author.Needs.{needs}
-use Rattle.paper.specs.Interest.{limitFrom}
+use Rattle.paper_interest.specs.Interest.{limitFrom}
 use Rattle.interest_forward.specs.Pair.{base, marginOf}
 use Rattle.interest_forward.proofs.Limits.{Sums, sums, lower-counted}
 use Rattle.interest_forward.proofs.lower_worked.Statement.{statement}

@@ -8,7 +8,7 @@ use mir.Syntax.{w64}
 use mir.Val.{SFits}
 use mir.Facts.{toZ-ofZ}
 use borrow.Author.Needs.{needs}
-use Rattle.paper.specs.Interest.{limitFrom}
+use Rattle.paper_interest.specs.Interest.{limitFrom}
 use Rattle.interest_forward.specs.Pair.{base}
 use Rattle.interest_forward.proofs.Limits.{Sums, sums, upper-counted}
 use Rattle.interest_forward.proofs.upper_worked.Statement.{statement}

@@ -6,7 +6,7 @@ use native.Mathlib.Omega.{arith}
 use borrow.Author.Tests.{not-true, not-false}
 use lib.ListN.{length}
 use Rattle.paper.specs.Numbers.{keyNumbers}
-use Rattle.paper.specs.Interest.{keyAt, keysOf, validKey}
+use Rattle.paper_interest.specs.Interest.{keyAt, keysOf, validKey}
 use Rattle.exact.specs.LentLaws.{Judging, place-room, judging-first, judging-next, judging-out, judging-end}
 use Rattle.interest_maturities.specs.KeyLaws.{rest-first}
 use Rattle.interest_maturities.proofs.every_key_valid.Statement.{statement}

@@ -5,7 +5,7 @@ use Prim.Native.Nat.{_+_, _-_, _≤_}
 use native.Mathlib.Omega.{arith}
 use lib.ListN.{length}
 use Rattle.paper.specs.Numbers.{keyNumbers}
-use Rattle.paper.specs.Interest.{keyAt, maturityOf, maturitiesOf, ascending}
+use Rattle.paper_interest.specs.Interest.{keyAt, maturityOf, maturitiesOf, ascending}
 use Rattle.exact.specs.LentLaws.{Place, place-first, place-next}
 use Rattle.interest_maturities.proofs.Walk.{left, left-first, next-room, ascending-in, ascending-out, ascending-end}
 use Rattle.interest_maturities.proofs.is_ascending.Statement.{statement}

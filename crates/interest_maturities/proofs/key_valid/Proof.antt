@@ -1,6 +1,6 @@
 -- `interest_maturities::key_valid` meets its contract: its eight tests are the definition's, in its order. Assumes
 -- nothing.
-use Rattle.paper.specs.Interest.{validKey, keyAt}
+use Rattle.paper_interest.specs.Interest.{validKey, keyAt}
 use borrow.Author.Needs.{needs}
 use Rattle.interest_maturities.proofs.key_valid.Statement.{statement}
 use Rattle.interest_maturities.proofs.key_valid.Tie as tie

@@ -4,7 +4,7 @@ use mathlib.Core.Path.{_≡_, sym, _∙_}
 use mathlib.Core.Bool.{true}
 use borrow.Author.Needs.{needs}
 use borrow.Author.Tests.{not-true, not-false}
-use Rattle.paper.specs.Interest.{validKeys, wholeKeys}
+use Rattle.paper_interest.specs.Interest.{validKeys, wholeKeys}
 use Rattle.interest_maturities.specs.KeyLaws.{valid-eights}
 use Rattle.interest_maturities.proofs.keys_valid.Statement.{statement}
 use Rattle.interest_maturities.proofs.keys_valid.Tie as tie

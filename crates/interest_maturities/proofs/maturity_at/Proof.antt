@@ -5,7 +5,7 @@ use lib.IntN.{ℤ, pos}
 use lib.ListN.{getD}
 use mir.Syntax.{w64}
 use mir.Facts.{toZ-ofZ}
-use Rattle.paper.specs.Interest.{maturityOf, keyAt}
+use Rattle.paper_interest.specs.Interest.{maturityOf, keyAt}
 use borrow.Author.Needs.{needs}
 use Rattle.interest_maturities.proofs.maturity_at.Statement.{statement}
 use Rattle.interest_maturities.proofs.maturity_at.Tie as tie

@@ -1,6 +1,6 @@
 -- `interest_maturities::whole_keys` meets its contract: its three tests are the definition's. Assumes nothing.
 use mathlib.Core.Path.{refl}
-use Rattle.paper.specs.Interest.{wholeKeys}
+use Rattle.paper_interest.specs.Interest.{wholeKeys}
 use Rattle.interest_maturities.proofs.whole_keys.Statement.{statement}
 use Rattle.interest_maturities.proofs.whole_keys.Tie as tie
 

@@ -1,6 +1,6 @@
 -- `change_of` meets its contract: the greater of the two distances. Assumes nothing.
 use borrow.Author.Needs.{needs}
-use Rattle.paper.specs.Interest.{changeOf}
+use Rattle.paper_interest.specs.Interest.{changeOf}
 use Rattle.interest_repo.proofs.Bits.{rate-bits}
 use Rattle.interest_repo.proofs.change_of.Statement.{statement}
 use Rattle.interest_repo.proofs.change_of.Tie as tie

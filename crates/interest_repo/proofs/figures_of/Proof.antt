@@ -3,9 +3,9 @@
 use Prim.Native.Nat.{_≤_}
 use borrow.Author.Needs.{needs}
 use Rattle.paper.specs.Numbers.{repoTentativeMost}
-use Rattle.paper.specs.Interest.{maturityFigures}
+use Rattle.paper_interest.specs.Interest.{maturityFigures}
 use Rattle.interest_repo.specs.Estimates.{upward-is, downward-is}
-use Rattle.paper.proofs.InterestRanges.{repo-tentative-held}
+use Rattle.paper_interest.proofs.InterestRanges.{repo-tentative-held}
 use Rattle.interest_repo.proofs.figures_of.Statement.{statement}
 use Rattle.interest_repo.proofs.figures_of.Tie as tie
 

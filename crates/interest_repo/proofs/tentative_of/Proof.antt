@@ -1,8 +1,8 @@
 -- `tentative_of` meets its contract: t is the paper's, and no higher than a tentative rate may be. Assumes nothing.
 use mathlib.Core.Path.{_≡_}
 use native.Mathlib.Omega.{arith}
-use Rattle.paper.specs.Interest.{repoTentativeRate, repoTentative}
-use Rattle.paper.proofs.InterestRanges.{volatility-held, tentative-rate-held}
+use Rattle.paper_interest.specs.Interest.{repoTentativeRate, repoTentative}
+use Rattle.paper_interest.proofs.InterestRanges.{volatility-held, tentative-rate-held}
 use Rattle.interest_repo.proofs.tentative_of.Statement.{statement}
 use Rattle.interest_repo.proofs.tentative_of.Tie as tie
 

@@ -1,7 +1,7 @@
 -- `volatility_of` meets its contract: it is the shares' rule, and the ranges are within the shares'. Assumes nothing.
 use native.Mathlib.Omega.{arith}
-use Rattle.paper.specs.Interest.{repoVolatility}
-use Rattle.paper.proofs.InterestRanges.{change-held}
+use Rattle.paper_interest.specs.Interest.{repoVolatility}
+use Rattle.paper_interest.proofs.InterestRanges.{change-held}
 use Rattle.interest_repo.proofs.volatility_of.Statement.{statement}
 use Rattle.interest_repo.proofs.volatility_of.Tie as tie
 

@@ -6,14 +6,14 @@ use mathlib.Core.List.{List, [], _∷_}
 use Prim.Native.Nat.{ℕ, _*_, _<_}
 use lib.IntN.{ℤ, pos}
 use lib.ListN.{getD}
 use Rattle.paper.specs.declared.Tentative.{Tentative}
 use Rattle.paper.specs.declared.Maturity.{Maturity}
 use Rattle.paper.specs.declared.MaturityFigures.{MaturityFigures}
 use Rattle.paper.specs.declared.Interest.{Interest}
 use Rattle.paper.specs.declared.Verdict.the-variants.{Done}
 use Rattle.paper.specs.Roundings.{Quotient}
-use Rattle.paper.specs.Interest.{LentKey, keysOf, maturityOf, changeOf, noFigures, interestAnswer}
+use Rattle.paper_interest.specs.Interest.{LentKey, keysOf, maturityOf, changeOf, noFigures, interestAnswer}
 use Rattle.paper.specs.Exact.{Choice, nextSquare, choiceOf}
 
 -- ---- evenings
 

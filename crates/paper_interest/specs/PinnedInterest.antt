@@ -8,13 +8,13 @@ use Prim.Native.Nat.{ℕ, zero, suc}
 use lib.Dec.{eqb}
 use lib.IntN.{ℤ, pos, negsuc}
 use lib.ListN.{replicate}
 use Rattle.paper.specs.declared.Interest.{Interest}
 use Rattle.paper.specs.declared.InterestAnswer.{InterestAnswer}
 use Rattle.paper.specs.Verdicts.{numberOf}
 use Rattle.paper.specs.Ranges.{unsigned}
-use Rattle.paper.specs.InterestCases.{limits, figures, answered}
+use Rattle.paper_interest.specs.InterestCases.{limits, figures, answered}
 use Rattle.paper.specs.PinnedValues.{_but_, signed, plain}
 use Rattle.paper.specs.PinnedRanges.{Ranged, range, valuesOf, straddles, atTheEndsAlone}
 
 -- ---- a call as two rows of numbers
 

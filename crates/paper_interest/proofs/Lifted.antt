@@ -9,11 +9,11 @@ use lib.IntN.{ℤ, pos, negsuc, negℤ, natAbs, subℕ, _+ℤ_, _*ℤ_}
 use lib.Signed.{ltZ}
 use borrow.Author.Tests.{le-ltb, lt-ltb}
 use mathlib.Core.Bool.{true, false}
 use Rattle.paper.specs.Roundings.{halfUp, halfDown, halfUpZ, grown}
-use Rattle.paper.specs.Interest.{atLeastZero}
+use Rattle.paper_interest.specs.Interest.{atLeastZero}
 use Rattle.paper.proofs.Logic.{le-or-lt}
 use Rattle.paper.proofs.Differences.{difference-up, difference-down, difference-same, difference-times, difference-order, difference-plus, difference-whole, negated}
 use Rattle.paper.proofs.Roundings.{quotient-low, quotient-high, half-low, half-high, half-unique}
 
 -- a rate is what its base with it is above the base
 pub lifted-is : (base : ℕ) (x : ℤ) → natAbs x ≤ base → x ≡ subℕ (grown base 1 x) base

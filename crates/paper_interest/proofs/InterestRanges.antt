@@ -10,18 +10,18 @@ use lib.Dec.{leb}
 use lib.IntN.{ℤ, pos, negsuc, natAbs, _+ℤ_, _-ℤ_}
 use lib.ListN.{getD}
 use borrow.Author.Tests.{leb-true, le-leb}
 use Rattle.paper.specs.Rates.{Weighing}
 use Rattle.paper.specs.declared.Interest.{Interest}
 use Rattle.paper.specs.declared.Maturity.{Maturity}
 use Rattle.paper.specs.declared.MaturityFigures.{MaturityFigures}
 use Rattle.paper.specs.Lists.{every}
 use Rattle.paper.specs.Numbers.{oneInHundredths, stepMost, multiplierMost, divisorLeast, divisorMost, minimumMost, maturityMost, ageMost, repoLeast, repoMost, repoVolatilityMost, repoTentativeMost}
 use Rattle.paper.specs.Ranges.{withinZ, unsigned}
-use Rattle.paper.specs.Interest.{LentKey, validKey, maturityOf, validInterest, apartZ, changeOf, repoVolatility, repoTentativeRate, repoTentative, atLeastZero, estimate, upward, downward, maturityFigures, wholeKeys, validKeys, keysOf, maturitiesOf, noFigures, InterestRange, KeyRange, FiguresHeld, estimateMost}
-use Rattle.paper.specs.InterestExact.{carriedFrom, keyGiven}
+use Rattle.paper_interest.specs.Interest.{LentKey, validKey, maturityOf, validInterest, apartZ, changeOf, repoVolatility, repoTentativeRate, repoTentative, atLeastZero, estimate, upward, downward, maturityFigures, wholeKeys, validKeys, keysOf, maturitiesOf, noFigures, InterestRange, KeyRange, FiguresHeld, estimateMost}
+use Rattle.paper_interest.specs.InterestExact.{carriedFrom, keyGiven}
 use Rattle.paper.proofs.Logic.{clash, and-left, and-right, and-both}
 use Rattle.paper.proofs.Differences.{sum-size, minus-size}
 use Rattle.paper.proofs.Bounds.{volatility-high, step-short, tentative-held, age-held}
 
 -- ---- each figure
 

@@ -1,0 +1,4 @@
+pub mod Lifted
+pub mod InterestRanges
+pub mod InterestFigures
+pub mod InterestRefusals

@@ -1,0 +1,5 @@
+pub mod Interest
+pub mod InterestExact
+pub mod InterestCases
+pub mod PinnedInterest
+pub mod PinnedRepoSquares
