@@ -3,7 +3,6 @@ use mathlib.Core.Path.{_≡_, refl}
 use mathlib.Core.Bool.{Bool, true, false, _&&_}
 use Prim.Native.Nat.{ℕ}
 use native.Mathlib.Omega.{arith}
-use lib.IntN.{ℤ}
 use Rattle.paper.specs.declared.Price.{Price}
 use Rattle.paper.specs.declared.Rate.{Rate}
 use Rattle.paper.specs.declared.Statics.{Statics}
@@ -11,6 +10,9 @@ use Rattle.paper.specs.Ranges.{isPrice, isRate, isGridPrice}
 use Rattle.paper.specs.Gateway.{rangeInRange, bandInRange}
 use Rattle.paper.proofs.Logic.{clash, and-left, and-right, and-both}
 use Rattle.inputs.proofs.Made.{picked-first, picked-second}
+use Rattle.gateway.specs.declared.limit.Asked.{Asked}
+use Rattle.gateway.specs.declared.limit.Asked.the-variants.{Range, Band}
+use Rattle.gateway.specs.LimitCalls.{limitInRange}
 use Rattle.gateway.specs.declared.priced.Priced.the-variants.{At, OutOfRange}
 use Rattle.gateway.specs.Priced.{pricedAt}
 
@@ -45,11 +47,8 @@ module _ (p rate : ℕ) (e : pricedAt p rate ≡ OutOfRange) where
   fails true f = absurd (clash (isPrice p && isRate rate) (and-both _ _ (f refl .0) (f refl .1)) out)
   fails false f = refl
 
-  pub range-out : (st : Statics) (side : ℕ) → rangeInRange st p rate side ≡ false
-  unfolding rangeInRange isGridPrice
-  range-out st side = fails _ (λ v. (search (v, and-left, and-right), search (v, and-left, and-right)))
-
-  pub band-out : (st : Statics) (k : ℕ) (repo : ℤ) (c side : ℕ) → bandInRange st p rate k repo c side ≡ false
-  unfolding bandInRange isGridPrice
-  band-out st k repo c side =
+  pub limit-out : (st : Statics) (asked : Asked) (side : ℕ) → limitInRange st asked p rate side ≡ false
+  unfolding limitInRange rangeInRange bandInRange isGridPrice
+  limit-out st Range side = fails _ (λ v. (search (v, and-left, and-right), search (v, and-left, and-right)))
+  limit-out st (Band x) side =
       fails _ (λ v. (search (v, and-left, and-right) depth 10, search (v, and-left, and-right)))

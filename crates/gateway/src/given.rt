@@ -29,7 +29,30 @@ pub fn given_of(
     monitoring: i64,
     ewma: i64,
 ) -> GivenStatics
-    ensures { λ r. ⌜ r ≡ givenOf (record { lot = lot; h = h; q = q; aup = aup; adown = adown; wait = wait; rh1 = rh1; rh2 = rh2; rh3 = rh3; liq = liq; min1 = min1; min2 = min2; min3 = min3; smax = smax; xpr = xpr; shift = shift; pchmax = pchmax; pclmax = pclmax; w = w; u = u; monitoring = monitoring; ewma = ewma }) ⌝ }
+    ensures { λ r. ⌜ r ≡ givenOf (record {
+      lot = lot;
+      h = h;
+      q = q;
+      aup = aup;
+      adown = adown;
+      wait = wait;
+      rh1 = rh1;
+      rh2 = rh2;
+      rh3 = rh3;
+      liq = liq;
+      min1 = min1;
+      min2 = min2;
+      min3 = min3;
+      smax = smax;
+      xpr = xpr;
+      shift = shift;
+      pchmax = pchmax;
+      pclmax = pclmax;
+      w = w;
+      u = u;
+      monitoring = monitoring;
+      ewma = ewma;
+    }) ⌝ }
 {
     GivenStatics {
         lot: exact::unsigned(lot),

@@ -104,7 +104,8 @@ fn figures_at(i: Interest, numbers: &[i64], n: usize) -> MaturityFigures
 fn all_figures(i: Interest, numbers: &[i64]) -> [MaturityFigures; Maturity::COUNT_MOST]
     requires { ⌜ InterestRange i ⌝ }
     requires { ⌜ validKeys (now numbers) ≡ true ⌝ }
-    ensures { λ r. ⌜ r ≡ eight (λ n. getD (map (maturityFigures i) (maturitiesOf (now (numbers .entry)))) n noFigures) ⌝ }
+    ensures { λ r. ⌜ r ≡ eight (λ n. getD (map (maturityFigures i) (maturitiesOf (now (numbers .entry)))) n
+        noFigures) ⌝ }
 {
     [
         figures_at(i, numbers, 0),

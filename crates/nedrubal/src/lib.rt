@@ -35,7 +35,31 @@ pub extern "C" fn nedrubal_level_rate(
     monitoring: i64,
     ewma: i64,
 ) -> i64
-    ensures { λ r. ⌜ r ≡ levelCall (givenOf (record { lot = lot; h = h; q = q; aup = aup; adown = adown; wait = wait; rh1 = rh1; rh2 = rh2; rh3 = rh3; liq = liq; min1 = min1; min2 = min2; min3 = min3; smax = smax; xpr = xpr; shift = shift; pchmax = pchmax; pclmax = pclmax; w = w; u = u; monitoring = monitoring; ewma = ewma })) (unsigned tentative) (unsigned m) (unsigned level) ⌝ }
+    ensures { λ r. ⌜ r ≡ levelCall (givenOf (record {
+      lot = lot;
+      h = h;
+      q = q;
+      aup = aup;
+      adown = adown;
+      wait = wait;
+      rh1 = rh1;
+      rh2 = rh2;
+      rh3 = rh3;
+      liq = liq;
+      min1 = min1;
+      min2 = min2;
+      min3 = min3;
+      smax = smax;
+      xpr = xpr;
+      shift = shift;
+      pchmax = pchmax;
+      pclmax = pclmax;
+      w = w;
+      u = u;
+      monitoring = monitoring;
+      ewma = ewma;
+    }))
+        (unsigned tentative) (unsigned m) (unsigned level) ⌝ }
 {
     let given = gateway::given_of(
         lot,
@@ -98,7 +122,31 @@ pub extern "C" fn nedrubal_range_limit(
     monitoring: i64,
     ewma: i64,
 ) -> i64
-    ensures { λ r. ⌜ r ≡ rangeCall (givenOf (record { lot = lot; h = h; q = q; aup = aup; adown = adown; wait = wait; rh1 = rh1; rh2 = rh2; rh3 = rh3; liq = liq; min1 = min1; min2 = min2; min3 = min3; smax = smax; xpr = xpr; shift = shift; pchmax = pchmax; pclmax = pclmax; w = w; u = u; monitoring = monitoring; ewma = ewma })) (unsigned p) (unsigned rate) (unsigned side) ⌝ }
+    ensures { λ r. ⌜ r ≡ rangeCall (givenOf (record {
+      lot = lot;
+      h = h;
+      q = q;
+      aup = aup;
+      adown = adown;
+      wait = wait;
+      rh1 = rh1;
+      rh2 = rh2;
+      rh3 = rh3;
+      liq = liq;
+      min1 = min1;
+      min2 = min2;
+      min3 = min3;
+      smax = smax;
+      xpr = xpr;
+      shift = shift;
+      pchmax = pchmax;
+      pclmax = pclmax;
+      w = w;
+      u = u;
+      monitoring = monitoring;
+      ewma = ewma;
+    }))
+        (unsigned p) (unsigned rate) (unsigned side) ⌝ }
 {
     let given = gateway::given_of(
         lot,
@@ -164,7 +212,32 @@ pub extern "C" fn nedrubal_band_limit(
     monitoring: i64,
     ewma: i64,
 ) -> i64
-    ensures { λ r. ⌜ r ≡ bandCall (givenOf (record { lot = lot; h = h; q = q; aup = aup; adown = adown; wait = wait; rh1 = rh1; rh2 = rh2; rh3 = rh3; liq = liq; min1 = min1; min2 = min2; min3 = min3; smax = smax; xpr = xpr; shift = shift; pchmax = pchmax; pclmax = pclmax; w = w; u = u; monitoring = monitoring; ewma = ewma })) (unsigned p) (unsigned s1) (unsigned k) repo (unsigned c) (unsigned side) ⌝ }
+    ensures { λ r. ⌜ r ≡ bandCall (givenOf (record {
+      lot = lot;
+      h = h;
+      q = q;
+      aup = aup;
+      adown = adown;
+      wait = wait;
+      rh1 = rh1;
+      rh2 = rh2;
+      rh3 = rh3;
+      liq = liq;
+      min1 = min1;
+      min2 = min2;
+      min3 = min3;
+      smax = smax;
+      xpr = xpr;
+      shift
+          = shift;
+      pchmax = pchmax;
+      pclmax = pclmax;
+      w = w;
+      u = u;
+      monitoring = monitoring;
+      ewma = ewma;
+    })) (unsigned p)
+        (unsigned s1) (unsigned k) repo (unsigned c) (unsigned side) ⌝ }
 {
     let given = gateway::given_of(
         lot,

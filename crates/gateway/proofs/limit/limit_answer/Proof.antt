@@ -1,55 +1,47 @@
--- `band::band_answer` meets its contract: 4 where the statics' test fails, else 6 where no price and rate are made or
--- the test of what is left fails, else the limit, which is at most twice the price and so fits. The repo rate is handed
--- on by its bits. Assumes nothing.
+-- `limit::limit_answer` meets its contract: 4 where the statics' test fails, else 6 where no price and rate are made or
+-- the test of what is left fails, else the limit, which is at most twice the price and so fits. Assumes nothing.
 use mathlib.Core.Path.{_≡_, refl, sym, _∙_}
-use mathlib.Core.Bool.{true}
 use native.Mathlib.Omega.{arith}
-use mir.Facts.{toZ-ofZ}
 use borrow.Author.Needs.{needs}
+use mathlib.Core.Bool.{true}
 use Rattle.paper.specs.Ranges.{validStatics}
-use Rattle.paper.specs.Limits.{bandLimit}
-use Rattle.paper.specs.Gateway.{bandInRange, bandCall}
-use Rattle.limits.specs.LimitRanges.{BandInputs, band-inputs, limit-statics}
-use Rattle.limits.specs.LimitBounds.{band-high}
+use Rattle.gateway.specs.LimitCalls.{limitInRange, LimitInputs, limitFigure, limitCall, limit-inputs, limit-high}
 use Rattle.gateway.proofs.Answers.{made-valid, four, six, figure}
-use Rattle.gateway.proofs.InHand.{Held, held, band-out}
-use Rattle.gateway.proofs.band.band_answer.Statement.{statement}
-use Rattle.gateway.proofs.band.band_answer.Tie as tie
+use Rattle.gateway.proofs.InHand.{Held, held, limit-out}
+use Rattle.gateway.proofs.limit.limit_answer.Statement.{statement}
+use Rattle.gateway.proofs.limit.limit_answer.Tie as tie
 
 valid : (c : tie.After-statics-of) → validStatics (c .statics-of .result) ≡ true
 valid c = made-valid _ (c .before .before .valid-given .ensures) (c .before .if1 .taken) (c .statics-of .ensures)
 
 -- the price and the rate in hand
 in-hand : (c : tie.After-known-told) → let a = c .before .before .before .before .before .before .before .args in
-    Held (a .p) (a .s1) (c .before .p .given .0 .0) (c .before .p .given .0 .1 .0)
+    Held (a .p) (a .rate) (c .before .p .given .0 .0) (c .before .p .given .0 .1 .0)
 in-hand c = held _ _ _ _ (sym (c .before .before .before .price-and-rate .ensures) ∙ c .before .p .given .1)
 
 -- what the test of what is left gave
-tested : (c : tie.After-band-in-range)
+tested : (c : tie.After-limit-in-range)
     → let s = c .before .before .before .before .before in let a = s .before .before .before .args in
-    c .band-in-range .result ≡ bandInRange (s .statics-of .result) (a .p) (a .s1) (a .k) (a .repo) (a .c) (a .side)
+    c .limit-in-range .result ≡ limitInRange (s .statics-of .result) (a .asked) (a .p) (a .rate) (a .side)
 tested c =
     let h = in-hand (c .before) in
-    let start = c .before .before .before .before .before .before .before .before in
-    rw (h .of-price, toZ-ofZ (start .fits .repo)) at (c .band-in-range .ensures _ (h .rated))
+    rw (h .of-price) at (c .limit-in-range .ensures _ (h .rated))
 
 in-range : (c : tie.Then2)
     → let k = c .before .before .before in let a = k .before .before .before .before .before .before .args in
-    BandInputs (k .p .given .0 .0) (k .p .given .0 .1 .0) (a .c) (a .k) (a .repo)
+    LimitInputs (a .asked) (k .p .given .0 .0) (k .p .given .0 .1 .0)
 in-range c =
     let h = in-hand (c .before .before) in
-    rw (h .of-price, h .of-rate) (band-inputs _ _ _ _ _ _ _ (sym (tested (c .before)) ∙ c .if2 .taken))
+    rw (h .of-price, h .of-rate) (limit-inputs _ _ _ _ _ (sym (tested (c .before)) ∙ c .if2 .taken))
 
 -- what the limit is
-limited : (c : tie.After-band-limit)
+limited : (c : tie.After-limit-of)
     → let s = c .before .before .before .before .before .before .before .before in
     let a = s .before .before .before .args in
-    c .band-limit .result
-    ≡ bandLimit (s .statics-of .result) (c .before .side-of .result) (a .p) (a .s1) (a .c) (a .k) (a .repo)
+    c .limit-of .result ≡ limitFigure (s .statics-of .result) (a .asked) (c .before .side-of .result) (a .p) (a .rate)
 limited c =
     let h = in-hand (c .before .before .before .before) in
-    let start = c .before .before .before .before .before .before .before .before .before .before .before in
-    rw (h .of-price, h .of-rate, toZ-ofZ (start .fits .repo)) at (c .band-limit .ensures)
+    rw (h .of-price, h .of-rate) at (c .limit-of .ensures)
 
 valid-given-requires : tie.Need-valid-given-requires
 valid-given-requires c κs = search needs
@@ -70,38 +62,38 @@ refusal-requires : tie.Need-refusal-requires
 refusal-requires c κs = search needs
 
 returns : tie.Need-returns
-unfolding bandCall
+unfolding limitCall
 returns c =
     let r = c .before .before .before in
     let s = r .before in
     let none = sym (r .price-and-rate .ensures) ∙ c .before .enum-told .given .1 in
-    let out = band-out _ _ none (s .statics-of .result) _ _ _ _ in
+    let out = limit-out _ _ none (s .statics-of .result) _ _ in
     let given = s .before .before .valid-given .ensures in
     rw (← s .statics-of .ensures)
     (six _ _ _ (search needs) given (c .refusal .ensures) (s .before .if1 .taken) refl out)
 
-band-in-range-requires : tie.Need-band-in-range-requires
-band-in-range-requires c κs = rw (in-hand c .of-price) (in-hand c .price)
+limit-in-range-requires : tie.Need-limit-in-range-requires
+limit-in-range-requires c κs = rw (in-hand c .of-price) (in-hand c .price)
 
 side-of-requires : tie.Need-side-of-requires
 side-of-requires c κs = search needs
 
-band-limit-requires : tie.Need-band-limit-requires
-band-limit-requires c κs =
-    let s = c .before .before .before .before .before .before .before in
-    rw (toZ-ofZ (s .before .before .before .fits .repo)) (valid s, in-range (c .before))
+limit-of-requires : tie.Need-limit-of-requires
+limit-of-requires c κs =
+    (valid (c .before .before .before .before .before .before .before), in-range (c .before))
 
 figure-requires : tie.Need-figure-requires
 figure-requires c κs =
     let t = c .before .before in
     let s = t .before .before .before .before .before .before in
-    let h = in-hand (t .before .before) in
-    let inputs = rw (h .of-price, h .of-rate) at (in-range t) in
-    let st = s .statics-of .result in
-    omega (arith, limited c, band-high st (c .before .side-of .result) _ _ _ _ _ (limit-statics st (valid s)) inputs)
+    omega (
+      arith,
+      c .limit-of .ensures,
+      limit-high (s .statics-of .result) _ (c .before .side-of .result) _ _ (valid s) (in-range t),
+    )
 
 returns-2 : tie.Need-returns-2
-unfolding bandCall
+unfolding limitCall
 returns-2 c =
     let t = c .before .before .before in
     let s = t .before .before .before .before .before .before in
@@ -114,7 +106,7 @@ refusal-requires-2 : tie.Need-refusal-requires-2
 refusal-requires-2 c κs = search needs
 
 returns-3 : tie.Need-returns-3
-unfolding bandCall
+unfolding limitCall
 returns-3 c =
     let t = c .before in
     let s = t .before .before .before .before .before .before in
@@ -126,13 +118,13 @@ refusal-requires-3 : tie.Need-refusal-requires-3
 refusal-requires-3 c κs = search needs
 
 returns-4 : tie.Need-returns-4
-unfolding bandCall
+unfolding limitCall
 returns-4 c =
     let given = c .before .before .valid-given .ensures in
     four _ _ _ (search needs) given (c .refusal3 .ensures) (c .before .if1 .left)
 
-pub band-answer-spec : {M : Type 1} → statement M
-band-answer-spec =
+pub limit-answer-spec : {M : Type 1} → statement M
+limit-answer-spec =
     tie.close
     (tie.spec
     valid-given-requires
@@ -142,9 +134,9 @@ band-answer-spec =
     enum-told
     refusal-requires
     returns
-    band-in-range-requires
+    limit-in-range-requires
     side-of-requires
-    band-limit-requires
+    limit-of-requires
     figure-requires
     returns-2
     refusal-requires-2
