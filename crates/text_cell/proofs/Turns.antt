@@ -14,13 +14,13 @@ use mir.Syntax.{w64}
 use mir.Val.{Fits, SFits, toZ, ofZ}
 use mir.ValLaws.{toZ-pos}
 use mir.Facts.{toZ-ofZ}
-use borrow.Author.Tests.{le-leb, lt-leb, lt-ltb, le-ltb, eq-eqb, ne-eqb}
+use borrow.Author.Tests.{le-leb, lt-leb, lt-ltb, le-ltb, eq-eqb, ne-eqb, eqb-true}
 use Rattle.paper.specs.Lists.{pick}
-use Rattle.paper.proofs.Logic.{le-or-lt}
+use Rattle.paper.proofs.Logic.{clash, and-left, and-right, le-or-lt}
 use Rattle.text_protocol.specs.Bytes.{minusSign, digitZero, digitNine}
 use Rattle.text_protocol.specs.Numbers.{isDigit}
 use Rattle.text_protocol.specs.Written.{negated}
-use Rattle.text_protocol.proofs.Spelling.{impossible, digit-is, low-no-digit, high-no-digit}
+use Rattle.text_protocol.proofs.Spelling.{impossible, digit-is, is-digit, low-no-digit, high-no-digit}
 use Rattle.text_table.specs.declared.Column.{Column}
 use Rattle.text_table.specs.Exchange.{point}
 use Rattle.text_table.specs.Scan.{Front, front, none, then, starts, numberMost, digits, pastZeros, behindZeros, decimals, behindWhole, number, positive, turned, cell}
@@ -28,7 +28,7 @@ use Rattle.text_cell.specs.declared.Part.{Part}
 use Rattle.text_cell.specs.declared.Part.the-variants as part
 use Rattle.text_cell.specs.declared.Cell.{Cell}
 use Rattle.text_cell.specs.declared.Cell.the-variants as cells
-use Rattle.text_cell.specs.Placed.{partFront, cellFront, PartNear, Took, PartIn, Numbered, CellIn, Celled}
+use Rattle.text_cell.specs.Placed.{partFront, cellFront, Stops, PartNear, Took, PartIn, Numbered, CellIn, Celled}
 
 -- ---- the byte at a place
 
@@ -57,49 +57,66 @@ digit-at t at b e h = rw e (starts-at isDigit t at h)
 
 -- ---- digits
 
-pub record Counting (t : List ℕ) (from most : ℕ) (goal : Front ℕ) (i left n : ℕ) : Type 0 where
-  pub in-t : i ≤ length t
+module _ (t : List ℕ) (from most : ℕ) (h : from ≤ length t) where
+  pub stops-short : most < length t - from → Stops t from most (from + most)
+  stops-short k =
+      record { low = omega arith; high = omega arith; in-t = omega (arith, h); last = inl refl }
+
+  pub stops-all : length t - from ≤ most → Stops t from most (length t)
+  stops-all k = record { low = h; high = omega (arith, h); in-t = omega arith; last = inr refl }
+
+pub record Counting (t : List ℕ) (from most stop : ℕ) (goal : Front ℕ) (i n : ℕ) : Type 0 where
+  pub stops : Stops t from most stop
   pub behind : from ≤ i
-  pub counts : i + left ≡ from + most
+  pub in-stop : i ≤ stop
   pub small : n ≤ numberMost
-  pub rest : digits left n (drop i t) ≡ goal
+  pub rest : digits (from + most - i) n (drop i t) ≡ goal
 
-pub counting-none : (t : List ℕ) (from most n : ℕ) → from ≤ length t → n ≤ numberMost
-    → Counting t from most (digits most n (drop from t)) from most n
-counting-none t from most n h k = record { in-t = h; behind = omega arith; counts = refl; small = k; rest = refl }
+pub counting-none : (t : List ℕ) (from most stop n : ℕ) → Stops t from most stop → n ≤ numberMost
+    → Counting t from most stop (digits most n (drop from t)) from n
+counting-none t from most stop n s k =
+    let e : from + most - from ≡ most = omega arith in
+    record { stops = s; behind = omega arith; in-stop = s .low; small = k; rest = rw e }
 
-module _ (t : List ℕ) (from most : ℕ) (goal : Front ℕ) (i left n : ℕ) (c : Counting t from most goal i left n) where
+module _ (t : List ℕ) (from most stop : ℕ) (goal : Front ℕ) (i n : ℕ) (c : Counting t from most stop goal i n) where
   took : front n (drop i t) ≡ goal → Took t from most (part.Is n i) goal
   unfolding partFront PartNear
-  took e = record { is = e; near = (c .small, c .behind, omega (arith, c .counts), c .in-t) }
-
-  pub counting-enough : left ≡ 0 → Took t from most (part.Is n i) goal
-  unfolding digits
-  counting-enough h = took (rw h at (c .rest))
+  took e =
+      record {
+        is = e;
+        near = (
+          c .small,
+          c .behind,
+          omega (arith, c .in-stop, c .stops .high),
+          omega (arith, c .in-stop, c .stops .in-t),
+        );
+      }
 
   at-end : (m : ℕ) → digits m n [] ≡ front n []
   unfolding digits
   at-end zero = refl
   at-end (suc m) = refl
 
-  pub counting-all : length t ≤ i → Took t from most (part.Is n i) goal
-  counting-all h =
-      let e : drop i t ≡ [] = drop-of-length-le t h in
-      took (ap (front n) e ∙ sym (at-end left) ∙ (rw e at (c .rest)))
+  pub counting-all : stop ≤ i → Took t from most (part.Is n i) goal
+  unfolding digits
+  counting-all h = go (c .stops .last)
+    where
+      go : (stop ≡ from + most) ⊎ (stop ≡ length t) → Took t from most (part.Is n i) goal
+      go (inl e) = let z : from + most - i ≡ 0 = omega arith in took (rw z at (c .rest))
+      go (inr e) =
+          let l : length t ≤ i = omega arith in
+          let d : drop i t ≡ [] = drop-of-length-le t l in
+          took (ap (front n) d ∙ sym (at-end (from + most - i)) ∙ (rw d at (c .rest)))
 
-  module _ (h : i < length t) (some : left ≡ 0 → ⊥) (b : ℕ) (e : b ≡ getD t i 0) where
-    less : left ≡ suc (left - 1)
-    less = go left some
-      where
-        go : (m : ℕ) → (m ≡ 0 → ⊥) → m ≡ suc (m - 1)
-        go zero h = absurd (h refl)
-        go (suc m) h = omega arith
-
+  module _ (h : i < stop) (b : ℕ) (e : b ≡ getD t i 0) where
     opened : pick (isDigit b)
         (pick (leb (10 * n + (b - digitZero)) numberMost)
-        (digits (left - 1) (10 * n + (b - digitZero)) (drop (suc i) t)) none) (front n (drop i t)) ≡ goal
+        (digits (from + most - (i + 1)) (10 * n + (b - digitZero)) (drop (suc i) t)) none) (front n (drop i t)) ≡ goal
     unfolding digits
-    opened = rw (drop-cons t i 0 h, e) (rw (less, drop-cons t i 0 h) at (c .rest))
+    opened =
+        let l : i < length t = omega (arith, c .stops .in-t) in
+        let less : from + most - i ≡ suc (from + most - (i + 1)) = omega (arith, c .stops .high) in
+        rw (drop-cons t i 0 l, e) (rw (less, drop-cons t i 0 l) at (c .rest))
 
     no-digit : isDigit b ≡ false → Took t from most (part.Is n i) goal
     no-digit d = took (rw d at opened)
@@ -117,16 +134,15 @@ module _ (t : List ℕ) (from most : ℕ) (goal : Front ℕ) (i left n : ℕ) (c
           record { is = rw (digit-is b lo hi, lt-leb (10 * n + (b - digitZero)) numberMost k) at opened; near = tt }
 
       pub counting-more : 10 * n + (b - digitZero) ≤ numberMost
-          → Counting t from most goal (i + 1) (left - 1) (10 * n + (b - digitZero))
+          → Counting t from most stop goal (i + 1) (10 * n + (b - digitZero))
       counting-more k =
-          let f : i + 1 ≡ suc i = omega arith in
-          let l : left ≡ suc (left - 1) = less in
+          let f : suc i ≡ i + 1 = omega arith in
           record {
-            in-t = omega arith;
+            stops = c .stops;
             behind = omega (arith, c .behind);
-            counts = omega (arith, c .counts, l);
+            in-stop = omega arith;
             small = k;
-            rest = rw f (rw (digit-is b lo hi, le-leb (10 * n + (b - digitZero)) numberMost k) at opened);
+            rest = rw f at (rw (digit-is b lo hi, le-leb (10 * n + (b - digitZero)) numberMost k) at opened);
           }
 
 -- ---- zeros
@@ -226,40 +242,69 @@ module _ (t : List ℕ) (c : Column) (n from : ℕ) where
 
 -- ---- a number
 
-module _ (t : List ℕ) (c : Column) (from : ℕ) where
+-- a digit stands in front
+module _ (t : List ℕ) (from b : ℕ) (e : b ≡ getD t from 0) (first : true ≡ starts isDigit (drop from t)) where
+  pub first-digit : (digitZero ≤ b) × (b ≤ digitNine)
+  first-digit =
+      is-digit b (ap isDigit e ∙ starts-at isDigit t from (starts-in isDigit t from first) ∙ sym first)
+
   abbrev whole : Front ℕ
-  whole = digits (length t - from) 0 (drop from t)
+  whole = digits (length t - (from + 1)) (b - digitZero) (drop (from + 1) t)
 
   whole-is : digits (length (drop from t)) 0 (drop from t) ≡ whole
-  whole-is = ap (λ (m : ℕ). digits m 0 (drop from t)) (length-drop from t)
+  unfolding digits
+  whole-is =
+      let l : from < length t = starts-in isDigit t from first in
+      let m : length (drop from t) ≡ suc (length t - (from + 1)) = length-drop from t ∙ omega arith in
+      let k : b - digitZero ≤ numberMost = omega (arith, first-digit) in
+      let z : 10 * 0 + (b - digitZero) ≡ b - digitZero = omega arith in
+      let f : suc from ≡ from + 1 = omega arith in
+      rw (
+        m,
+        drop-cons t from 0 l,
+        ← e,
+        digit-is b (first-digit .0) (first-digit .1),
+        z,
+        le-leb (b - digitZero) numberMost k,
+        f,
+      )
 
-  pub number-bad : none ≡ whole → Numbered t part.Bad (number c (drop from t))
-  unfolding partFront PartIn number
-  number-bad e = record { is = rw (whole-is, ← e); inside = tt }
-
-  module _ (most n e : ℕ) (f : Found t from most n e whole) where
-    pub number-none : e ≤ from → Numbered t part.Bad (number c (drop from t))
+  module _ (c : Column) where
+    pub number-bad : none ≡ whole → Numbered t part.Bad (number c (drop from t))
     unfolding partFront PartIn number
-    number-none h = record { is = rw (whole-is, ← f .is, no-further t from e h); inside = tt }
+    number-bad x = record { is = rw (whole-is, ← x); inside = tt }
 
-    module _ (h : from < e) where
-      pub number-pointed : (r : Part) → true ≡ starts (λ x. eqb x point) (drop e t)
-          → Numbered t r (decimals c n (drop (e + 1) t)) → Numbered t r (number c (drop from t))
+    module _ (most n end : ℕ) (f : Found t (from + 1) most n end whole) where
+      past : from < end
+      past = omega (arith, f .low)
+
+      pub number-pointed : (r : Part) → true ≡ starts (λ x. eqb x point) (drop end t)
+          → Numbered t r (decimals c n (drop (end + 1) t)) → Numbered t r (number c (drop from t))
       unfolding number behindWhole
       number-pointed r p q =
           record {
-            is = rw (whole-is, ← f .is, further t from e (f .in-t) h, ← p, drop-drop 1 e t) (q .is);
+            is = rw (whole-is, ← f .is, further t from end (f .in-t) past, ← p, drop-drop 1 end t) (q .is);
             inside = q .inside;
           }
 
-      pub number-whole : false ≡ starts (λ x. eqb x point) (drop e t) → (m : ℕ) → (m ≡ 10 ^ c .places) × (m ≤ 10000)
-          → Numbered t (part.Is (n * m) e) (number c (drop from t))
+      pub number-whole : false ≡ starts (λ x. eqb x point) (drop end t) → (m : ℕ) → (m ≡ 10 ^ c .places) × (m ≤ 10000)
+          → Numbered t (part.Is (n * m) end) (number c (drop from t))
       unfolding partFront PartIn number behindWhole
       number-whole p m k =
           record {
-            is = rw (whole-is, ← f .is, further t from e (f .in-t) h, ← p, k .0);
+            is = rw (whole-is, ← f .is, further t from end (f .in-t) past, ← p, k .0);
             inside = (scaled n (c .places) m (f .small) (k .1) (k .0), f .in-t);
           }
+
+-- no digit stands in front
+no-digits : (u : List ℕ) → false ≡ starts isDigit u → digits (length u) 0 u ≡ front 0 u
+unfolding digits starts
+no-digits [] e = refl
+no-digits (b ∷ u) e = rw (← e)
+
+no-number : (c : Column) (u : List ℕ) → false ≡ starts isDigit u → number c u ≡ none
+unfolding number
+no-number c u e = rw (no-digits u e, le-ltb (length u) (length u) (omega arith))
 
 -- ---- a field
 
@@ -324,22 +369,90 @@ module _ (t : List ℕ) (c : Column) (from : ℕ) where
   unfolding cellFront CellIn positive
   positive-is v e k = record { is = rw (← k .is, plain-code v (k .small)); inside = k .in-t }
 
-  -- ---- which way a field is read
+-- ---- which way a field is read
 
-  module _ (x : Bool) (is : x ≡ starts (λ b. eqb b minusSign) (drop from t)) where
-    pub cell-minus : (r : Cell) → (c .minus && x) ≡ true → Celled t r (turned c (drop (from + 1) t))
-        → Celled t r (cell c (drop from t))
+and-not : (a : Bool) → (a && false) ≡ false
+and-not true = refl
+and-not false = refl
+
+no-and : (a b : Bool) → a ≡ false → (a && b) ≡ false
+no-and true b e = absurd (clash true refl e)
+no-and false b e = refl
+
+module _ (t : List ℕ) (c : Column) (from start : ℕ) where
+  abbrev minus : Bool
+  minus = c .minus && starts (λ b. eqb b minusSign) (drop from t)
+
+  module _ (is : start ≡ pick minus (from + 1) from) where
+    -- a minus is passed, or none is there
+    behind-minus : ((minus ≡ true) × (start ≡ from + 1)) ⊎ ((minus ≡ false) × (start ≡ from))
+    behind-minus = go minus refl
+      where
+        go : (b : Bool) → minus ≡ b → ((minus ≡ true) × (start ≡ from + 1)) ⊎ ((minus ≡ false) × (start ≡ from))
+        go true e = inl (e, rw e at is)
+        go false e = inr (e, rw e at is)
+
+    cell-turned : minus ≡ true → start ≡ from + 1 → cell c (drop from t) ≡ turned c (drop start t)
     unfolding cell
-    cell-minus r h q =
-        record { is = rw (← is, h, drop-drop 1 from t) (q .is); inside = q .inside }
+    cell-turned m e = rw (m, drop-drop 1 from t, e)
 
-    module _ (h : (c .minus && x) ≡ false) (y : Bool) (so : y ≡ starts isDigit (drop from t)) where
-      pub cell-empty : from ≤ length t → (c .empty && not y) ≡ true
-          → Celled t (cells.Is (pos 0) from) (cell c (drop from t))
-      unfolding cell cellFront CellIn
-      cell-empty l k = record { is = rw (← is, h, ← so, k); inside = l }
+    module _ (digit : true ≡ starts isDigit (drop start t)) where
+      pub cell-below : from < start → (r : Cell) → Celled t r (turned c (drop start t)) → Celled t r (cell c (drop from t))
+      cell-below h r q = go behind-minus
+        where
+          go : ((minus ≡ true) × (start ≡ from + 1)) ⊎ ((minus ≡ false) × (start ≡ from))
+              → Celled t r (cell c (drop from t))
+          go (inl (m, e)) = rw (cell-turned m e) q
+          go (inr (m, e)) = absurd (omega arith)
 
-      pub cell-plain : (r : Cell) → (c .empty && not y) ≡ false → Celled t r (positive c (drop from t))
+      pub cell-above : start ≤ from → (r : Cell) → Celled t r (positive c (drop start t))
           → Celled t r (cell c (drop from t))
       unfolding cell
-      cell-plain r k q = record { is = rw (← is, h, ← so, k) (q .is); inside = q .inside }
+      cell-above h r q = go behind-minus
+        where
+          go : ((minus ≡ true) × (start ≡ from + 1)) ⊎ ((minus ≡ false) × (start ≡ from))
+              → Celled t r (cell c (drop from t))
+          go (inl (m, e)) = absurd (omega arith)
+          go (inr (m, e)) = rw (m, ← (rw e at digit), and-not (c .empty)) (rw e at q)
+
+      pub cell-bad : none ≡ number c (drop start t) → Celled t cells.Bad (cell c (drop from t))
+      cell-bad e = go (le-or-lt start from)
+        where
+          go : (start ≤ from) ⊎ (from < start) → Celled t cells.Bad (cell c (drop from t))
+          go (inl h) = cell-above h cells.Bad (positive-bad t c start e)
+          go (inr h) = cell-below h cells.Bad (turned-bad t c start e)
+
+    module _ (no-digit : false ≡ starts isDigit (drop start t)) where
+      pub cell-empty : from ≤ length t → (c .empty && eqb start from) ≡ true
+          → Celled t (cells.Is (pos 0) from) (cell c (drop from t))
+      unfolding cell cellFront CellIn
+      cell-empty l k = go behind-minus
+        where
+          same : start ≡ from
+          same = eqb-true start from (and-right (c .empty) (eqb start from) k)
+
+          go : ((minus ≡ true) × (start ≡ from + 1)) ⊎ ((minus ≡ false) × (start ≡ from))
+              → Celled t (cells.Is (pos 0) from) (cell c (drop from t))
+          go (inl (m, e)) = absurd (omega (arith, same))
+          go (inr (m, e)) =
+              record {
+                is = rw (m, ← (rw e at no-digit), and-left (c .empty) (eqb start from) k);
+                inside = l;
+              }
+
+      pub cell-none : (c .empty && eqb start from) ≡ false → Celled t cells.Bad (cell c (drop from t))
+      unfolding cell
+      cell-none k = go behind-minus
+        where
+          empty-no : (a : Bool) → (a && true) ≡ false → a ≡ false
+          empty-no true h = h
+          empty-no false h = refl
+
+          go : ((minus ≡ true) × (start ≡ from + 1)) ⊎ ((minus ≡ false) × (start ≡ from))
+              → Celled t cells.Bad (cell c (drop from t))
+          go (inl (m, e)) =
+              rw (cell-turned m e) (turned-bad t c start (sym (no-number c (drop start t) no-digit)))
+          go (inr (m, e)) =
+              let f : c .empty ≡ false = empty-no (c .empty) (rw (eq-eqb start from e) at k) in
+              rw (m, no-and (c .empty) (not (starts isDigit (drop from t))) f)
+              (rw e at (positive-bad t c start (sym (no-number c (drop start t) no-digit))))

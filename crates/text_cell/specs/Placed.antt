@@ -2,6 +2,7 @@
 -- same, and what is left is what stands behind its end. Assumes nothing.
 use mathlib.Core.Path.{_≡_}
 use mathlib.Core.List.{List}
+use mathlib.Core.Logic.{_⊎_}
 use Prim.Native.Nat.{ℕ, _+_, _*_, _≤_}
 use lib.IntN.{ℤ}
 use lib.ListN.{length, drop}
@@ -18,6 +19,13 @@ partFront t part.Bad = none
 unfoldable pub cellFront : List ℕ → Cell → Front ℤ
 cellFront t (cell.Is z e) = front z (drop e t)
 cellFront t cell.Bad = none
+
+-- the end of at most so many bytes behind `from`: there are so many, or the text ends
+pub record Stops (t : List ℕ) (from most stop : ℕ) : Type 0 where
+  pub low : from ≤ stop
+  pub high : stop ≤ from + most
+  pub in-t : stop ≤ length t
+  pub last : (stop ≡ from + most) ⊎ (stop ≡ length t)
 
 -- digits end at most so many bytes behind `from`
 unfoldable pub PartNear : List ℕ → (from most : ℕ) → Part → Type 0

@@ -1,12 +1,16 @@
 // A field of the exchange's text, lent with the text that it stands in: its number, and where it ends. Nothing is
-// copied and no byte is read twice: a field ends at the first byte that is none of its number's.
+// copied: a field ends at the first byte that is none of its number's. Each function has one caller, or is short, so
+// that the compiler makes one loop over the fields of them.
 ghost use mathlib.Core.Path.{_≡_};
+ghost use mathlib.Core.Bool.{true, _&&_};
 ghost use Prim.Native.Nat.{_+_, _*_, _-_, _^_, _≤_};
 ghost use lib.Dec.{eqb};
 ghost use lib.ListN.{length, drop};
+ghost use Rattle.paper.specs.Lists.{pick};
+ghost use Rattle.text_protocol.specs.Bytes.{minusSign};
 ghost use Rattle.text_protocol.specs.Numbers.{isDigit};
-ghost use Rattle.text_table.specs.Scan.{front, starts, numberMost, digits, pastZeros, behindZeros, decimals, number, positive, turned, cell};
-ghost use Rattle.text_cell.specs.Placed.{Took, Numbered, Celled};
+ghost use Rattle.text_table.specs.Scan.{front, starts, numberMost, digits, pastZeros, behindZeros, decimals, number, cell};
+ghost use Rattle.text_cell.specs.Placed.{Stops, Took, Numbered, Celled};
 use paper::Price;
 use text_table::Column;
 
@@ -53,18 +57,27 @@ fn is_digit_at(t: &[u8], at: usize) -> bool
     false
 }
 
-// The digits from `from` on, at most so many, behind those of x.
+// Where at most so many bytes from `from` on end.
+fn stop_of(t: &[u8], from: usize, most: usize) -> usize
+    requires { ⌜ from ≤ length (now t) ⌝ }
+    ensures { λ r. ⌜ Stops (now (t .entry)) from most r ⌝ }
+{
+    if most < t.len() - from {
+        return from + most;
+    }
+    t.len()
+}
+
+// The digits from `from` on, at most so many, behind those of x. Whether there are enough of them and whether the text
+// ends are one test.
 fn digits(t: &[u8], from: usize, most: usize, x: u64) -> Part
     requires { ⌜ (from ≤ length (now t)) × (x ≤ numberMost) ⌝ }
     ensures { λ r. ⌜ Took (now (t .entry)) from most r (digits most x (drop from (now (t .entry)))) ⌝ }
 {
+    let stop = stop_of(t, from, most);
     let mut i = from;
-    let mut left = most;
     let mut n = x;
-    while i < t.len() {
-        if left == 0 {
-            return Part::Is(n, i);
-        }
+    while i < stop {
         let b = wide(t[i]);
         if b < 48 {
             return Part::Is(n, i);
@@ -77,7 +90,6 @@ fn digits(t: &[u8], from: usize, most: usize, x: u64) -> Part
             return Part::Bad;
         }
         n = y;
-        left -= 1;
         i += 1;
     }
     Part::Is(n, i)
@@ -147,60 +159,56 @@ fn decimals(t: &[u8], from: usize, c: Column, n: u64) -> Part
     Part::Is(v * ten_to(places - (e - from)), end)
 }
 
-// A decimal of the column, in its unit.
+// A decimal of the column, in its unit: a digit stands in front.
 fn number(t: &[u8], from: usize, c: Column) -> Part
-    requires { ⌜ (from ≤ length (now t)) × (c .places ≤ 4) ⌝ }
+    requires { ⌜ (from ≤ length (now t)) × (true ≡ starts isDigit (drop from (now t))) × (c .places ≤ 4) ⌝ }
     ensures { λ r. ⌜ Numbered (now (t .entry)) r (number c (drop from (now (t .entry)))) ⌝ }
 {
     let places = c.places;
-    let part = digits(t, from, t.len() - from, 0);
+    let first = wide(t[from]) - 48;
+    let part = digits(t, from + 1, t.len() - (from + 1), first);
     let Part::Is(n, e) = part else {
         return Part::Bad;
     };
-    if e <= from {
-        return Part::Bad;
-    }
     if is_at(t, e, b'.') {
         return decimals(t, e + 1, c, n);
     }
     Part::Is(n * ten_to(places), e)
 }
 
-// A number below zero, and one above.
-fn below(t: &[u8], from: usize, c: Column) -> Cell
-    requires { ⌜ (from ≤ length (now t)) × (c .places ≤ 4) ⌝ }
-    ensures { λ r. ⌜ Celled (now (t .entry)) r (turned c (drop from (now (t .entry)))) ⌝ }
+// Behind a minus, where the column may have one and it stands there.
+fn behind_minus(t: &[u8], from: usize, c: Column) -> usize
+    requires { ⌜ from ≤ length (now t) ⌝ }
+    ensures { λ r. ⌜ (r ≡ pick (c .minus && starts (λ x. eqb x minusSign) (drop from (now (t .entry)))) (from + 1) from)
+        × (r ≤ length (now (t .entry))) ⌝ }
 {
-    let part = number(t, from, c);
-    let Part::Is(v, e) = part else {
-        return Cell::Bad;
-    };
-    Cell::Is(0 - (v as i64), e)
+    if c.minus {
+        if is_at(t, from, b'-') {
+            return from + 1;
+        }
+    }
+    from
 }
 
-fn above(t: &[u8], from: usize, c: Column) -> Cell
-    requires { ⌜ (from ≤ length (now t)) × (c .places ≤ 4) ⌝ }
-    ensures { λ r. ⌜ Celled (now (t .entry)) r (positive c (drop from (now (t .entry)))) ⌝ }
-{
-    let part = number(t, from, c);
-    let Part::Is(v, e) = part else {
-        return Cell::Bad;
-    };
-    Cell::Is(v as i64, e)
-}
-
-// The field that begins at `from`.
+// The field that begins at `from`. A digit is looked for first, since nearly every field has one in front.
 pub fn read_cell(t: &[u8], from: usize, c: Column) -> Cell
     requires { ⌜ (from ≤ length (now t)) × (c .places ≤ 4) ⌝ }
     ensures { λ r. ⌜ Celled (now (t .entry)) r (cell c (drop from (now (t .entry)))) ⌝ }
 {
-    let minus = c.minus;
-    let empty = c.empty;
-    if minus & is_at(t, from, b'-') {
-        return below(t, from + 1, c);
+    let start = behind_minus(t, from, c);
+    if is_digit_at(t, start) {
+        let part = number(t, start, c);
+        let Part::Is(v, e) = part else {
+            return Cell::Bad;
+        };
+        if from < start {
+            return Cell::Is(0 - (v as i64), e);
+        }
+        return Cell::Is(v as i64, e);
     }
-    if empty & !is_digit_at(t, from) {
+    let empty = c.empty;
+    if empty & (start == from) {
         return Cell::Is(0, from);
     }
-    above(t, from, c)
+    Cell::Bad
 }
