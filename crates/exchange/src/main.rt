@@ -1,20 +1,27 @@
 // The rows of one security in the exchange's evening text: the id is the argument, the text stands on standard input.
 ghost use mathlib.Core.Path.{_≡_};
+ghost use Prim.Native.Nat.{_+_};
 ghost use lib.ListN.{length};
+ghost use Rattle.text_table.specs.Exchange.{textMost};
+ghost use Rattle.text_rows.specs.Rows.{Asks};
 use libc::STDERR_FILENO;
 use libc::STDOUT_FILENO;
 use text_rows::Asked;
+use text_rows::TEXT_ROOM;
 
-// A byte more than a text may have, so that a longer one is seen.
-fn text_buffer() -> [u8; 65537]
-    ensures { λ r. ⌜ 65537 ≡ length r ⌝ }
+fn text_buffer() -> [u8; TEXT_ROOM]
+    ensures { λ r. ⌜ textMost + 1 ≡ length r ⌝ }
 {
-    [0; 65537]
+    [0; TEXT_ROOM]
 }
 
 // No argument is longer on Linux.
-fn word_buffer() -> [u8; 131072] {
-    [0; 131072]
+const WORD_ROOM: usize = 131_072;
+
+fn word_buffer() -> [u8; WORD_ROOM]
+    ensures { λ r. ⌜ 131072 ≡ length r ⌝ }
+{
+    [0; WORD_ROOM]
 }
 
 fn say_usage() {
@@ -29,7 +36,9 @@ fn say_failed() {
 }
 
 // Which security the only argument asks for.
-fn asked() -> Asked {
+fn asked() -> Asked
+    ensures { λ r. ⌜ Asks r ⌝ }
+{
     if os::arg_count() != 2 {
         return Asked::Bad;
     }

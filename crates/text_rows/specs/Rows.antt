@@ -1,4 +1,5 @@
 -- docs/EXCHANGE.md: what the program `exchange` is asked for, and the line that it answers. Assumes nothing.
+use mathlib.Core.Path.{_≡_}
 use mathlib.Core.Bool.{Bool}
 use mathlib.Core.List.{List, [], _∷_}
 use Prim.Native.Nat.{ℕ, suc, _+_, _*_}
@@ -23,6 +24,11 @@ settled size.Bad = asked.Bad
 
 unfoldable pub askedOf : List ℕ → Asked
 askedOf p = settled (sizeOf p)
+
+-- what is asked for is what some word asks for
+pub record Asks (r : Asked) : Type 0 where
+  pub word : List ℕ
+  pub is : r ≡ askedOf word
 
 -- a digit more, where all numbers above the greatest id are one
 unfoldable pub grown : ℕ → ℕ → ℕ

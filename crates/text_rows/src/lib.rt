@@ -1,6 +1,7 @@
 // The two ends of the program `exchange`: which security its argument asks for, and the line that it answers.
 ghost use mathlib.Core.Path.{_≡_};
-ghost use Prim.Native.Nat.{_+_, _*_, _≤_};
+ghost use mathlib.Core.Bool.{false};
+ghost use Prim.Native.Nat.{_+_, _*_, _≤_, _<_};
 ghost use lib.ListN.{length};
 ghost use Rattle.text_table.specs.Scan.{reading};
 ghost use Rattle.text_out.specs.Wrote.{Wrote};
@@ -11,6 +12,7 @@ use paper::Record;
 use paper::Row;
 use text_answer::put_next;
 use text_answer::put_next_signed;
+use text_exchange::TEXT_MOST;
 use text_exchange::read_exchange;
 use text_input::Got;
 use text_input::fill;
@@ -74,9 +76,14 @@ pub fn id_of(p: &[u8]) -> Asked
 
 // ---- the text
 
-// Reads standard input until it ends, the buffer is full or a read fails.
+// The room for a text: a byte more than one may have, so that a longer one is seen.
+pub const TEXT_ROOM: usize = TEXT_MOST + 1;
+
+// Reads standard input until it ends, the buffer is full or a read fails. What was read before a failure is fewer bytes
+// than the buffer has: a text that fills it is never taken for a failure.
 pub fn take_in(buf: &mut [u8]) -> Got
-    ensures { λ r. ⌜ (length (now (buf .exit)) ≡ length (now (buf .entry))) × (r .end ≤ length (now (buf .entry))) ⌝ }
+    ensures { λ r. ⌜ (length (now (buf .exit)) ≡ length (now (buf .entry))) × (r .end ≤ length (now (buf .entry)))
+        × (r .ok ≡ false → r .end < length (now (buf .entry))) ⌝ }
 {
     let mut len = 0;
     loop {
