@@ -6,7 +6,8 @@ use lib.IntN.{ℤ, pos, _+ℤ_, _-ℤ_}
 use Rattle.paper.specs.declared.Interest.{Interest}
 use Rattle.paper.specs.declared.Maturity.{Maturity}
 use Rattle.paper.specs.Rates.{leastStep}
-use Rattle.paper_interest.specs.Interest.{atLeastZero, repoTentative, estimate, upward, downward}
+use Rattle.paper.specs.Roundings.{atLeastZero}
+use Rattle.paper_interest.specs.Interest.{repoTentative, estimate, upward, downward}
 
 -- the least multiple of h at or above the greater of tentative + liquidity and a minimum
 unfoldable pub estimateOf : Interest → (tentative minimum : ℕ) → ℕ

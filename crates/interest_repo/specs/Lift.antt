@@ -5,8 +5,8 @@ use Prim.Native.Nat.{ℕ, _+_, _-_, _≤_}
 use native.Mathlib.Omega.{arith}
 use lib.IntN.{ℤ, pos, negsuc, natAbs, subℕ, _+ℤ_, _-ℤ_}
 use Rattle.paper.specs.Numbers.{repoMost}
-use Rattle.paper.specs.Roundings.{grown, apart}
-use Rattle.paper_interest.specs.Interest.{apartZ, atLeastZero}
+use Rattle.paper.specs.Roundings.{grown, apart, atLeastZero}
+use Rattle.paper_interest.specs.Interest.{apartZ}
 use Rattle.paper.proofs.Differences.{difference-same, difference-whole, difference-plus, difference-minus, difference-size}
 use Rattle.paper_interest.proofs.Lifted.{lifted-is, difference-part}
 

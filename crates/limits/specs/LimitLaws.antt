@@ -1,5 +1,4 @@
--- Laws of the limits: how far their parts reach, and that the narrower of two limits can be taken after they are
--- rounded. Assumes nothing.
+-- Laws of a share's limits: how far their parts reach, and what a band limit is made of. Assumes nothing.
 use mathlib.Core.Path.{_≡_, refl, sym, ap, _∙_}
 use mathlib.Core.Bool.{true, false}
 use Prim.Native.Nat.{ℕ, _+_, _-_, _*_, _≤_, _<_}
@@ -12,14 +11,11 @@ use Rattle.paper.specs.declared.Statics.{Statics}
 use Rattle.paper.specs.declared.Side.{Side}
 use Rattle.paper.specs.declared.Side.the-variants.{Upper, Lower}
 use Rattle.paper.specs.Numbers.{oneInBp, oneInHundredths, priceMost, rateMost, shiftMost, movesMost}
-use Rattle.paper.specs.Roundings.{Quotient}
-use Rattle.paper.specs.Ranges.{gridOf}
-use Rattle.paper.specs.Limits.{limitOf, shifted, rangeLimit, farthest, spread, monitored, narrower, bandLimit}
-use Rattle.paper.proofs.Logic.{pick-true, pick-false}
+use Rattle.paper.specs.Limits.{share, limitOf, shifted, rangeLimit, farthest, spread, monitored, narrowerOf, bandLimit}
 pub use Rattle.paper.proofs.LimitSizes.{grid-range}
-use Rattle.paper.proofs.Roundings.{lesser-rounded, greater-rounded}
+use Rattle.paper.proofs.KindLaws as kinds
 use Rattle.exact.specs.Wide.{spreadMost}
-use Rattle.limits.specs.Sides.{farthestRate, narrowerOf}
+use Rattle.limits.specs.Sides.{farthestRate}
 use Rattle.limits.specs.LimitRanges.{LimitStatics, RangeInputs}
 
 -- ---- quotients
@@ -63,42 +59,19 @@ unfolding spread
 spread-high st Upper s1 c s r m = omega (arith, s .divisor-high, away-high st s1 c s r m)
 spread-high st Lower s1 c s r m = omega (arith, s .divisor-high)
 
--- ---- the narrower of two, rounded once, is the narrower of the two rounded
-
-pub narrower-rounded : (st : Statics) (side : Side) (x y : Quotient) → 0 < x .den → 0 < y .den
-    → limitOf st (narrower side x y) ≡ narrowerOf side (limitOf st x) (limitOf st y)
-unfolding limitOf narrower
-narrower-rounded st Upper x y p q = lesser-rounded (gridOf (st .lot)) x y (grid-range (st .lot) .0) p q
-narrower-rounded st Lower x y p q = greater-rounded (gridOf (st .lot)) x y (grid-range (st .lot) .0) p q
-
--- ---- so a band limit is the narrower of the farthest limit and the monitored one; without monitoring it is the
+-- ---- so a share's band limit is the narrower of its farthest limit and the monitored one; without monitoring it is the
 -- farthest
-
-farthest-positive : (st : Statics) (side : Side) (p : ℕ) → 0 < farthest st side p .den
-unfolding farthest shifted
-farthest-positive st Upper p = omega arith
-farthest-positive st Lower p = omega arith
-
-monitored-positive : (st : Statics) (side : Side) (p s1 c k : ℕ) (repo : ℤ) → LimitStatics st
-    → 0 < monitored st side p s1 c k repo .den
-unfolding monitored
-monitored-positive st side p s1 c k repo s = omega (arith, s .divisor-low)
 
 pub band-monitored : (st : Statics) (side : Side) (p s1 c k : ℕ) (repo : ℤ) → LimitStatics st → st .monitoring ≡ true
     → bandLimit st side p s1 c k repo
     ≡ narrowerOf side (rangeLimit st side p (farthestRate st side)) (limitOf st (monitored st side p s1 c k repo))
 unfolding bandLimit
 band-monitored st side p s1 c k repo s e =
-    let x : Quotient = farthest st side p in
-    let y : Quotient = monitored st side p s1 c k repo in
-    ap (limitOf st) (pick-true (st .monitoring) (narrower side x y) x e)
-    ∙ narrower-rounded st side x y (farthest-positive st side p) (monitored-positive st side p s1 c k repo s)
-    ∙ ap (λ (z : ℕ). narrowerOf side z (limitOf st y)) (sym (farthest-limit st side p))
+    kinds.band-monitored share st side p s1 c k repo (omega arith) (s .divisor-low) e
+    ∙ ap (λ (z : ℕ). narrowerOf side z (limitOf st (monitored st side p s1 c k repo))) (sym (farthest-limit st side p))
 
 pub band-unmonitored : (st : Statics) (side : Side) (p s1 c k : ℕ) (repo : ℤ) → st .monitoring ≡ false
     → bandLimit st side p s1 c k repo ≡ rangeLimit st side p (farthestRate st side)
 unfolding bandLimit
 band-unmonitored st side p s1 c k repo e =
-    let x : Quotient = farthest st side p in
-    ap (limitOf st) (pick-false (st .monitoring) (narrower side x (monitored st side p s1 c k repo)) x e)
-    ∙ sym (farthest-limit st side p)
+    kinds.band-unmonitored share st side p s1 c k repo e ∙ sym (farthest-limit st side p)

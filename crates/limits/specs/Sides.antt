@@ -1,5 +1,5 @@
--- What each side takes: its farthest rate, its repo rate, and which of two limits. Assumes nothing.
-use Prim.Native.Nat.{ℕ, min, max}
+-- What each side takes: its farthest rate and its repo rate. Assumes nothing.
+use Prim.Native.Nat.{ℕ}
 use lib.IntN.{ℤ}
 use Rattle.paper.specs.declared.Statics.{Statics}
 use Rattle.paper.specs.declared.Side.{Side}
@@ -15,9 +15,3 @@ farthestRate st Lower = st .pclmax
 abbrev pub repoOf : Side → Term → ℤ
 repoOf Upper x = x .high
 repoOf Lower x = x .low
-
--- "the upper is the lesser of that and ..; the lower the greater of that and ..": of two limits that are rounded
--- already
-abbrev pub narrowerOf : Side → ℕ → ℕ → ℕ
-narrowerOf Upper x y = min x y
-narrowerOf Lower x y = max x y

@@ -18,15 +18,15 @@ ghost use mathlib.Core.Bool.{true};
 ghost use Prim.Native.Nat.{_-_, _≤_};
 ghost use Rattle.paper.specs.Numbers.{rateMost, limitMost, movesMost};
 ghost use Rattle.paper.specs.Ranges.{validStatics};
-ghost use Rattle.paper.specs.Limits.{limitOf, shifted, rangeLimit, rangeOf, spread, monitored, bandLimit, bandOf, crossed, deltaOf, oneMore, countOf, rangeMoved, bandMoved};
-ghost use Rattle.limits.specs.Sides.{farthestRate, narrowerOf};
+ghost use Rattle.paper.specs.Limits.{limitOf, shifted, rangeLimit, rangeOf, spread, monitored, bandLimit, bandOf, narrowerOf, crossed, deltaOf, oneMore, countOf, rangeMoved, bandMoved};
+ghost use Rattle.limits.specs.Sides.{farthestRate};
 ghost use Rattle.limits.specs.LimitRanges.{RangeInputs, BandInputs, TermInputs};
 ghost use Rattle.limits.specs.LimitBounds.{deltaMost};
 
 // ---- ranges
 
 // P·(1 ± rate) over the whole.
-fn shifted(side: Side, p: Price, rate: Rate) -> u64
+pub fn shifted(side: Side, p: Price, rate: Rate) -> u64
     requires { ⌜ RangeInputs p rate ⌝ }
     ensures { λ r. ⌜ r ≡ shifted side (p .units) (rate .bp) .num ⌝ }
 {
@@ -57,7 +57,7 @@ pub fn range_of(st: Statics, p: Price, rate: Rate) -> Limits
 // ---- bands
 
 // PcH_max above, PcL_max below.
-fn farthest_rate(st: Statics, side: Side) -> Rate
+pub fn farthest_rate(st: Statics, side: Side) -> Rate
     requires { ⌜ validStatics st ≡ true ⌝ }
     ensures { λ r. ⌜ r .bp ≡ farthestRate st side ⌝ }
 {
@@ -68,7 +68,7 @@ fn farthest_rate(st: Statics, side: Side) -> Rate
 }
 
 // x_pr ± e·S_1 in millionths, with e = 1 + 2·c·shift; below, "max(0, ..)".
-fn spread(st: Statics, side: Side, s1: Rate, c: u64) -> u64
+pub fn spread(st: Statics, side: Side, s1: Rate, c: u64) -> u64
     requires { ⌜ validStatics st ≡ true ⌝ }
     requires { ⌜ (s1 .bp ≤ rateMost) × (c ≤ movesMost) ⌝ }
     ensures { λ r. ⌜ r ≡ spread st side (s1 .bp) c ⌝ }
@@ -98,7 +98,7 @@ fn monitored_limit(st: Statics, side: Side, p: Price, s1: Rate, c: u64, k: u64, 
 }
 
 // The lesser of two upper limits, the greater of two lower ones.
-fn narrower(side: Side, x: u64, y: u64) -> u64
+pub fn narrower(side: Side, x: u64, y: u64) -> u64
     ensures { λ r. ⌜ r ≡ narrowerOf side x y ⌝ }
 {
     match side {

@@ -9,6 +9,7 @@ pub mod Others
 pub mod Drift
 pub mod Volatility
 pub mod Bounds
+pub mod KindLaws
 pub mod LimitSizes
 pub mod CarriedOn
 pub mod Roots

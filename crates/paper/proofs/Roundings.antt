@@ -158,40 +158,25 @@ grid-exact g k d p q =
 
 -- ---- the lesser and the greater of two quotients, rounded once, are the lesser and the greater of the two rounded
 
-pub lesser-rounded : (g : ℕ) (x y : Quotient) → 0 < g → 0 < x .den → 0 < y .den
-    → toGrid g (lesserOf x y .num) (lesserOf x y .den) ≡ min (toGrid g (x .num) (x .den)) (toGrid g (y .num) (y .den))
-unfolding lesserOf
-lesser-rounded g x y p q r = go (le-or-lt (x .num * y .den) (y .num * x .den))
-  where
-    chosen : Bool → Quotient
-    chosen t = pick t x y
+-- a rounding that keeps order: that of a grid does, and so does what each kind of security makes of a limit
+pub record KeepsOrder (f : Quotient → ℕ) : Type 0 where
+  pub keeps : (x y : Quotient) → 0 < x .den → 0 < y .den → x .num * y .den ≤ y .num * x .den → f x ≤ f y
 
-    go : (x .num * y .den ≤ y .num * x .den) ⊎ (y .num * x .den < x .num * y .den)
-        → toGrid g (chosen (leb (x .num * y .den) (y .num * x .den)) .num)
-        (chosen (leb (x .num * y .den) (y .num * x .den)) .den)
-        ≡ min (toGrid g (x .num) (x .den)) (toGrid g (y .num) (y .den))
-    go (inl h) =
-        rw (le-leb (x .num * y .den) (y .num * x .den) h)
-        (sym (min-eq-left (grid-monotone g (x .num) (x .den) (y .num) (y .den) p q r h)))
-    go (inr h) =
-        rw (lt-leb (x .num * y .den) (y .num * x .den) h)
-        (sym (min-eq-right (grid-monotone g (y .num) (y .den) (x .num) (x .den) p r q (le-of-lt h))))
+module _ (f : Quotient → ℕ) (o : KeepsOrder f) (x y : Quotient) (p : 0 < x .den) (q : 0 < y .den) where
+  pub lesser-rounded : f (lesserOf x y) ≡ min (f x) (f y)
+  unfolding lesserOf
+  lesser-rounded = go (le-or-lt (x .num * y .den) (y .num * x .den))
+    where
+      go : (x .num * y .den ≤ y .num * x .den) ⊎ (y .num * x .den < x .num * y .den)
+          → f (pick (leb (x .num * y .den) (y .num * x .den)) x y) ≡ min (f x) (f y)
+      go (inl h) = rw (le-leb (x .num * y .den) (y .num * x .den) h) (sym (min-eq-left (o .keeps x y p q h)))
+      go (inr h) = rw (lt-leb (x .num * y .den) (y .num * x .den) h) (sym (min-eq-right (o .keeps y x q p (le-of-lt h))))
 
-pub greater-rounded : (g : ℕ) (x y : Quotient) → 0 < g → 0 < x .den → 0 < y .den
-    → toGrid g (greaterOf x y .num) (greaterOf x y .den) ≡ max (toGrid g (x .num) (x .den)) (toGrid g (y .num) (y .den))
-unfolding greaterOf
-greater-rounded g x y p q r = go (le-or-lt (x .num * y .den) (y .num * x .den))
-  where
-    chosen : Bool → Quotient
-    chosen t = pick t y x
-
-    go : (x .num * y .den ≤ y .num * x .den) ⊎ (y .num * x .den < x .num * y .den)
-        → toGrid g (chosen (leb (x .num * y .den) (y .num * x .den)) .num)
-        (chosen (leb (x .num * y .den) (y .num * x .den)) .den)
-        ≡ max (toGrid g (x .num) (x .den)) (toGrid g (y .num) (y .den))
-    go (inl h) =
-        rw (le-leb (x .num * y .den) (y .num * x .den) h)
-        (omega (arith, grid-monotone g (x .num) (x .den) (y .num) (y .den) p q r h))
-    go (inr h) =
-        rw (lt-leb (x .num * y .den) (y .num * x .den) h)
-        (omega (arith, grid-monotone g (y .num) (y .den) (x .num) (x .den) p r q (le-of-lt h)))
+  pub greater-rounded : f (greaterOf x y) ≡ max (f x) (f y)
+  unfolding greaterOf
+  greater-rounded = go (le-or-lt (x .num * y .den) (y .num * x .den))
+    where
+      go : (x .num * y .den ≤ y .num * x .den) ⊎ (y .num * x .den < x .num * y .den)
+          → f (pick (leb (x .num * y .den) (y .num * x .den)) y x) ≡ max (f x) (f y)
+      go (inl h) = rw (le-leb (x .num * y .den) (y .num * x .den) h) (omega (arith, o .keeps x y p q h))
+      go (inr h) = rw (lt-leb (x .num * y .den) (y .num * x .den) h) (omega (arith, o .keeps y x q p (le-of-lt h)))

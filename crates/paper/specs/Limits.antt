@@ -1,22 +1,49 @@
--- Document 01, "Ranges, bands, alerts, moves" (10.1, 11.2, 17.8, 18): the limits, rounded by (g). Assumes nothing.
+-- Document 01, "Ranges, bands, alerts, moves" (10.1, 11.2, 17.8, 18): the limits, rounded by (g); document 02, W-206
+-- (11.1): those of a bond. What the two kinds of security share is said over the kind. Assumes nothing.
 use mathlib.Core.Bool.{Bool, true, false}
-use Prim.Native.Nat.{ℕ, zero, suc, _+_, _-_, _*_}
+use Prim.Native.Nat.{ℕ, zero, suc, _+_, _-_, _*_, min, max}
 use lib.Dec.{ltb}
-use lib.IntN.{ℤ}
+use lib.IntN.{ℤ, pos, subℕ, _*ℤ_}
 use Rattle.paper.specs.declared.Statics.{Statics}
+use Rattle.paper.specs.declared.BondScale.{BondScale}
 use Rattle.paper.specs.declared.Side.{Side}
 use Rattle.paper.specs.declared.Side.the-variants.{Upper, Lower}
 use Rattle.paper.specs.declared.Limits.{Limits}
 use Rattle.paper.specs.declared.Moves.{Moves}
 use Rattle.paper.specs.declared.Term.{Term}
 use Rattle.paper.specs.Lists.{pick}
-use Rattle.paper.specs.Numbers.{oneInBp, oneInHundredths, yearInDayBp}
-use Rattle.paper.specs.Roundings.{Quotient, toGrid, lesserOf, greaterOf, grown}
+use Rattle.paper.specs.Numbers.{oneInBp, oneInHundredths, yearInDayBp, wholeInQuotes}
+use Rattle.paper.specs.Roundings.{Quotient, halfUp, halfUpZ, toGrid, atLeastZero, lesserOf, greaterOf, grown}
 use Rattle.paper.specs.Ranges.{gridOf}
+
+-- ---- the kind of security
+
+-- a share, or a bond with what its limits take beside its statics
+pub data Kind : Type 0 where
+  share : Kind
+  bond : BondScale → Kind
+
+-- ---- a limit, rounded
 
 -- (g) "once each, half up to the grid"
 unfoldable pub limitOf : Statics → Quotient → ℕ
 limitOf st x = toGrid (gridOf (st .lot)) (x .num) (x .den)
+
+-- W-206: "the grown price half up to a unit"
+abbrev pub grownPrice : Quotient → ℕ
+grownPrice x = halfUp (x .num) (x .den)
+
+-- 11.1: "(.. - Carry - НКД)/FaceValue·100", W-206: "half up to two decimals of the per cent. Negative limits are zero."
+-- It is kept in hundredths of a per cent
+unfoldable pub bondLimitOf : BondScale → Quotient → ℕ
+bondLimitOf b x =
+    atLeastZero
+    (halfUpZ (pos wholeInQuotes *ℤ subℕ (grownPrice x) (b .carry + b .accrued)) (b .face))
+
+-- the limit of either kind
+abbrev pub limitFor : Kind → Statics → Quotient → ℕ
+limitFor share st x = limitOf st x
+limitFor (bond b) st x = bondLimitOf b x
 
 -- P·(1 + rate) above, P·(1 - rate) below
 unfoldable pub shifted : Side → ℕ → ℕ → Quotient
@@ -44,28 +71,50 @@ unfoldable pub spread : Statics → Side → ℕ → ℕ → ℕ
 spread st Upper s1 c = oneInBp * st .xpr + (oneInHundredths + 2 * c * st .shift) * s1
 spread st Lower s1 c = oneInBp * st .xpr - (oneInHundredths + 2 * c * st .shift) * s1
 
+-- "(1 + R·k/36500)", R in per cent: x grown over k days at a repo rate
+abbrev pub growing : (k : ℕ) → ℤ → Quotient → Quotient
+growing k repo x = record { num = x .num * grown yearInDayBp k repo; den = x .den * yearInDayBp }
+
+-- a share's farthest limit does not grow; a bond's grows "(1 + REPORate·k/36500)" (11.1)
+abbrev pub farthestFor : Kind → Statics → Side → (p k : ℕ) → Quotient
+farthestFor share st side p k = farthest st side p
+farthestFor (bond b) st side p k = growing k (b .repo) (farthest st side p)
+
 -- "P·(1 + e·S_1/x_pr)·(1 + RRcH·k/36500)" above, "P·max(0, 1 - e·S_1/x_pr)·(1 + RRcL·k/36500)" below
 unfoldable pub monitored : Statics → Side → (p s1 c k : ℕ) → ℤ → Quotient
 monitored st side p s1 c k repo =
-    record { num = p * spread st side s1 c * grown yearInDayBp k repo; den = oneInBp * st .xpr * yearInDayBp }
+    growing k repo (record { num = p * spread st side s1 c; den = oneInBp * st .xpr })
 
 -- "the upper is the lesser of that and ..; the lower the greater of that and .."
 unfoldable pub narrower : Side → Quotient → Quotient → Quotient
 narrower Upper x y = lesserOf x y
 narrower Lower x y = greaterOf x y
 
-unfoldable pub bandLimit : Statics → Side → (p s1 c k : ℕ) → ℤ → ℕ
-bandLimit st side p s1 c k repo =
-    limitOf st
-    (pick (st .monitoring) (narrower side (farthest st side p) (monitored st side p s1 c k repo)) (farthest st side p))
+-- the same of two limits that are rounded already
+abbrev pub narrowerOf : Side → ℕ → ℕ → ℕ
+narrowerOf Upper x y = min x y
+narrowerOf Lower x y = max x y
 
--- a term's band: "c the moves of that side since the evaluation"
+-- a band limit of either kind, before it is rounded
+abbrev pub bandBefore : Kind → Statics → Side → (p s1 c k : ℕ) → ℤ → Quotient
+bandBefore kind st side p s1 c k repo =
+    let far : Quotient = farthestFor kind st side p k in
+    pick (st .monitoring) (narrower side far (monitored st side p s1 c k repo)) far
+
+abbrev pub bandLimitFor : Kind → Statics → Side → (p s1 c k : ℕ) → ℤ → ℕ
+bandLimitFor kind st side p s1 c k repo = limitFor kind st (bandBefore kind st side p s1 c k repo)
+
+-- of a share
+unfoldable pub bandLimit : Statics → Side → (p s1 c k : ℕ) → ℤ → ℕ
+bandLimit st side p s1 c k repo = bandLimitFor share st side p s1 c k repo
+
+-- a term's band, from its limits: "c the moves of that side since the evaluation"
+abbrev pub bandBy : (Side → (c k : ℕ) → ℤ → ℕ) → Moves → Term → Limits
+bandBy limit c x =
+    record { lower = limit Lower (c .lower) (x .k) (x .low); upper = limit Upper (c .upper) (x .k) (x .high) }
+
 unfoldable pub bandOf : Statics → (p s1 : ℕ) → Moves → Term → Limits
-bandOf st p s1 c x =
-    record {
-      lower = bandLimit st Lower p s1 (c .lower) (x .k) (x .low);
-      upper = bandLimit st Upper p s1 (c .upper) (x .k) (x .high);
-    }
+bandOf st p s1 c x = bandBy (λ side. bandLimit st side p s1) c x
 
 -- 9: "a rounded lower band limit above its upper one"
 unfoldable pub crossed : Limits → Bool

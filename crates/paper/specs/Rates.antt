@@ -123,19 +123,33 @@ levelRate st level m tentative =
 
 -- ---- by isEWMA
 
--- "With isEWMA no, the three rates are the minima and s, tentative and age stay."
+-- what t makes of the tentative rate, and that of the rates of the levels: the same for a share and for a bond
+abbrev pub ratedBy : Statics → (m t s : ℕ) → Tentative → Figures
+ratedBy st m t s old =
+    let after : Tentative = tentativeAfter (st .h) (st .wait) t old in
+    record { s = s; tentative = after; rates = forLevels (λ l. record { bp = levelRate st l m (after .bp) }) }
+
 unfoldable pub modelled : Statics → (b m s1 r s : ℕ) → Tentative → Figures
 modelled st b m s1 r s old =
     let s′ : ℕ = volatilityOf (modelOf st) b (millionthsInBp * s1) r s in
     let replaced : Bool = replacementWins (modelOf st) b (millionthsInBp * s1) r s in
-    let t : Tentative = tentativeAfter (st .h) (st .wait) (tentativeRateOf st replaced r s′) old in
-    record { s = s′; tentative = t; rates = forLevels (λ l. record { bp = levelRate st l m (t .bp) }) }
+    ratedBy st m (tentativeRateOf st replaced r s′) s′ old
 
+-- "With isEWMA no, the three rates are the minima and s, tentative and age stay."
 unfoldable pub unmodelled : Statics → (s : ℕ) → Tentative → Figures
 unmodelled st s old = record { s = s; tentative = old; rates = forLevels (λ l. record { bp = minimumOf st l }) }
 
+abbrev pub ifModelled : Statics → Figures → (s : ℕ) → Tentative → Figures
+ifModelled st figures s old = pick (st .ewma) figures (unmodelled st s old)
+
+-- a share's figures: its s is worked out from the move
 unfoldable pub figuresOf : Statics → (b m s1 r s : ℕ) → Tentative → Figures
-figuresOf st b m s1 r s old = pick (st .ewma) (modelled st b m s1 r s old) (unmodelled st s old)
+figuresOf st b m s1 r s old = ifModelled st (modelled st b m s1 r s old) s old
+
+-- W-206, a bond's: "Rates come from a given volatility by the share rules, with the bond maximum"; no move, and so no
+-- replacement
+unfoldable pub figuresByVolatility : Statics → (m s : ℕ) → Tentative → Figures
+figuresByVolatility st m s old = ifModelled st (ratedBy st m (tentativeRate st s) s old) s old
 
 -- 8: "isEWMA yes and r above 1,000,000"
 unfoldable pub moveTooLarge : Statics → ℕ → Bool

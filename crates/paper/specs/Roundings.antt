@@ -37,6 +37,11 @@ halfUpZ (negsuc n) d = negℤ (pos (halfDown (suc n) d))
 unfoldable pub toGrid : ℕ → ℕ → ℕ → ℕ
 toGrid g n d = halfUp n (d * g) * g
 
+-- a number below zero counts as 0
+abbrev pub atLeastZero : ℤ → ℕ
+atLeastZero (pos n) = n
+atLeastZero (negsuc n) = 0
+
 -- the lesser and the greater of two quotients, exactly
 unfoldable pub lesserOf : Quotient → Quotient → Quotient
 lesserOf x y = pick (leb (x .num * y .den) (y .num * x .den)) x y

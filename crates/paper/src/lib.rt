@@ -28,6 +28,9 @@ pub const HUNDREDTHS_OF_MILLIONTHS_IN_BP: u64 = 10_000;
 // A year of 365 days at 100 per cent, in days times basis points.
 pub const YEAR_IN_DAY_BP: u64 = 3_650_000;
 
+// 100 per cent of a face value, in the hundredths of a per cent in which a bond is quoted.
+pub const WHOLE_IN_QUOTES: u64 = 10_000;
+
 // A price, in ten-thousandths of a rouble.
 pub struct Price {
     pub units: u64,
@@ -256,6 +259,14 @@ impl Term {
     pub const REPO_LEAST: i64 = -9_999;
 
     pub const REPO_MOST: i64 = 9_999;
+}
+
+// What the limits of a bond take beside its statics, for one term (11.1): money is in units, the rate in basis points.
+pub struct BondScale {
+    pub carry: u64, // Carry, of the cash flows up to the term
+    pub accrued: u64, // the accrued interest
+    pub face: u64, // the face value
+    pub repo: i64, // REPORate
 }
 
 // What an evaluation gives beside its price (7.1): the volatility in millionths, the tentative rate, and a rate a

@@ -12,7 +12,8 @@ use Rattle.paper.specs.declared.Maturity.{Maturity}
 use Rattle.paper.specs.declared.Interest.{Interest}
 use Rattle.paper.specs.Numbers.{oneInHundredths}
 use Rattle.paper.specs.Rates.{leastStep, IsLeastStep}
-use Rattle.paper_interest.specs.Interest.{repoVolatility, repoTentativeRate, repoTentative, atLeastZero, estimate, IsEstimate}
+use Rattle.paper.specs.Roundings.{atLeastZero}
+use Rattle.paper_interest.specs.Interest.{repoVolatility, repoTentativeRate, repoTentative, estimate, IsEstimate}
 use Rattle.paper.proofs.Search.{step-is}
 
 -- t is the least multiple of h with 100·t ≥ q·σ

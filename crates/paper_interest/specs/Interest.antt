@@ -19,7 +19,7 @@ use Rattle.paper.specs.declared.Verdict.{Verdict}
 use Rattle.paper.specs.declared.Verdict.the-variants.{Done, OutOfRange, NotAscending}
 use Rattle.paper.specs.Lists.{pick, eight, every}
 use Rattle.paper.specs.Numbers.{oneInHundredths, repoLeast, repoMost, behindMost, weightMost, multiplierLeast, multiplierMost, stepMost, waitMost, divisorLeast, divisorMost, ageMost, keyNumbers, allKeyNumbersMost, maturityMost, minimumMost, repoVolatilityMost, repoTentativeMost}
-use Rattle.paper.specs.Roundings.{halfUpZ}
+use Rattle.paper.specs.Roundings.{halfUpZ, atLeastZero}
 use Rattle.paper.specs.Ranges.{within, withinZ, unsigned, partsFrom}
 use Rattle.paper.specs.Rates.{volatilityOf, leastStep, tentativeAfter, Weighing}
 use Rattle.paper.specs.Verdicts.{isDone, Check, firstOf}
@@ -128,11 +128,6 @@ repoTentativeRate i k = leastStep (i .h) oneInHundredths (i .model .q * repoVola
 -- "the one-step-down rule" is the shares'
 unfoldable pub repoTentative : Interest → Maturity → Tentative
 repoTentative i k = tentativeAfter (i .h) (i .wait) (repoTentativeRate i k) (k .tentative)
-
--- a number below zero counts as 0
-abbrev pub atLeastZero : ℤ → ℕ
-atLeastZero (pos n) = n
-atLeastZero (negsuc n) = 0
 
 -- "ceiling(max(tentative + liq_RR; minimum)/h_IR)·h_IR": the least multiple of h at or above the greater; the sum is
 -- never below 0, so a minimum below 0 is never the greater

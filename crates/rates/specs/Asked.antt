@@ -31,6 +31,22 @@ pub record RateStatics (st : Statics) : Type 0 where
 abbrev pub tentativeMost : ℕ
 tentativeMost = multiplierMost * volatilityMost / hundredthsOfMillionthsInBp + stepMost
 
+-- the figures that t is held against, and the days ahead
+pub record RatedRanges (st : Statics) (m t : ℕ) (old : Tentative) : Type 0 where
+  pub statics : RateStatics st
+  pub ahead : m ≤ aheadMost
+  pub t-high : t ≤ tentativeMost
+  pub tentative : old .bp ≤ tentativeMost
+  pub age : old .age ≤ ageMost
+
+-- the figures of a security whose volatility is given, and the days ahead
+pub record VolatilityRanges (st : Statics) (m s : ℕ) (old : Tentative) : Type 0 where
+  pub statics : RateStatics st
+  pub ahead : m ≤ aheadMost
+  pub volatility : s ≤ volatilityMost
+  pub tentative : old .bp ≤ tentativeMost
+  pub age : old .age ≤ ageMost
+
 -- the figures that an evaluation carries on, and the days ahead
 pub record FigureRanges (st : Statics) (m : ℕ) (s1 : Rate) (s : ℕ) (old : Tentative) : Type 0 where
   pub statics : RateStatics st

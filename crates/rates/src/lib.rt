@@ -8,8 +8,8 @@ ghost use mathlib.Core.Path.{_≡_};
 ghost use mathlib.Core.Bool.{false};
 ghost use Prim.Native.Nat.{_≤_};
 ghost use Rattle.paper.specs.Numbers.{volatilityMost};
-ghost use Rattle.paper.specs.Rates.{modelled, unmodelled, figuresOf, moveTooLarge};
-ghost use Rattle.rates.specs.Asked.{RateStatics, FigureRanges};
+ghost use Rattle.paper.specs.Rates.{ratedBy, modelled, unmodelled, figuresOf, figuresByVolatility, moveTooLarge};
+ghost use Rattle.rates.specs.Asked.{RateStatics, RatedRanges, VolatilityRanges, FigureRanges};
 use paper::Figures;
 use paper::MILLIONTHS_IN_BP;
 use paper::Rate;
@@ -24,6 +24,20 @@ pub fn move_too_large(st: Statics, r: u64) -> bool
     st.ewma & (r > Record::VOLATILITY_MOST)
 }
 
+// What t makes of the tentative rate, and that of the rates of the levels.
+fn rated(st: Statics, m: u64, t: u64, s: u64, old: Tentative) -> Figures
+    requires { ⌜ RatedRanges st m t old ⌝ }
+    ensures { λ f. ⌜ f ≡ ratedBy st m t s old ⌝ }
+{
+    let tentative = tentative::tentative_after(st.h, st.wait, t, old);
+    let rates = level::rates_of(st, m, tentative.bp);
+    Figures {
+        s,
+        tentative,
+        rates,
+    }
+}
+
 fn modelled(st: Statics, b: u64, m: u64, s1: Rate, r: u64, s: u64, old: Tentative) -> Figures
     requires { ⌜ FigureRanges st m s1 s old ⌝ }
     requires { ⌜ r ≤ volatilityMost ⌝ }
@@ -32,13 +46,7 @@ fn modelled(st: Statics, b: u64, m: u64, s1: Rate, r: u64, s: u64, old: Tentativ
     let model = volatility::model_of(st);
     let carried = volatility::choose(model, b, MILLIONTHS_IN_BP * s1.bp, r, s);
     let t = tentative::tentative_rate_of(st, carried.replaced, r, carried.s);
-    let tentative = tentative::tentative_after(st.h, st.wait, t, old);
-    let rates = level::rates_of(st, m, tentative.bp);
-    Figures {
-        s: carried.s,
-        tentative,
-        rates,
-    }
+    rated(st, m, t, carried.s, old)
 }
 
 fn unmodelled(st: Statics, s: u64, old: Tentative) -> Figures
@@ -61,6 +69,18 @@ pub fn figures_of(st: Statics, b: u64, m: u64, s1: Rate, r: u64, s: u64, old: Te
 {
     if st.ewma {
         modelled(st, b, m, s1, r, s, old)
+    } else {
+        unmodelled(st, s, old)
+    }
+}
+
+// The figures of a security whose volatility is given (W-206): by the same rules, with no move and no replacement.
+pub fn figures_by_volatility(st: Statics, m: u64, s: u64, old: Tentative) -> Figures
+    requires { ⌜ VolatilityRanges st m s old ⌝ }
+    ensures { λ f. ⌜ f ≡ figuresByVolatility st m s old ⌝ }
+{
+    if st.ewma {
+        rated(st, m, tentative::tentative_rate(st, s), s, old)
     } else {
         unmodelled(st, s, old)
     }

@@ -27,7 +27,7 @@ fn held_step(st: Statics, factor: u64, n: u64) -> u64
 }
 
 // The t of the paper, by new s.
-fn tentative_rate(st: Statics, s: u64) -> u64
+pub fn tentative_rate(st: Statics, s: u64) -> u64
     requires { ⌜ RateStatics st ⌝ }
     requires { ⌜ s ≤ volatilityMost ⌝ }
     ensures { λ r. ⌜ r ≡ tentativeRate st s ⌝ }

@@ -4,8 +4,7 @@ use Prim.Native.Nat.{_≤_}
 use native.Mathlib.Omega.{arith}
 use borrow.Author.Needs.{needs}
 use Rattle.paper.specs.Rates.{modelled, Weighing}
-use Rattle.paper.proofs.Bounds.{volatility-high, tentative-rate-held, tentative-held}
-use Rattle.rates.specs.Asked.{tentativeMost}
+use Rattle.paper.proofs.Bounds.{volatility-high, tentative-rate-held}
 use Rattle.rates.proofs.Statics.{rates-weighing}
 use Rattle.rates.proofs.modelled.Statement.{statement}
 use Rattle.rates.proofs.modelled.Tie as tie
@@ -35,36 +34,28 @@ t-held : (c : tie.After-tentative-rate-of)
     → c .tentative-rate-of .result ≤ c .before .before .before .before .args .st .smax
 t-held c = rw (c .tentative-rate-of .ensures) (tentative-rate-held _ _ _ _)
 
-tentative-after-requires : tie.Need-tentative-after-requires
-tentative-after-requires c κs =
+rated-requires : tie.Need-rated-requires
+rated-requires c κs =
     let given = c .before .before .before .before .pre .0 in
-    omega (arith, t-held c, given, given .statics)
-
-rates-of-requires : tie.Need-rates-of-requires
-rates-of-requires c κs =
-    let given = c .before .before .before .before .before .pre .0 in
-    let t-high : c .before .tentative-rate-of .result ≤ tentativeMost =
-    omega (arith, t-held (c .before), given .statics .most-high) in (
-      given .statics,
-      (
-        given .ahead,
-        rw (c .tentative-after .ensures) (tentative-held _ _ _ _ _ t-high (given .tentative)),
-      ),
-    )
+    record {
+      statics = given .statics;
+      ahead = given .ahead;
+      t-high = omega (arith, t-held c, given .statics .most-high);
+      tentative = given .tentative;
+      age = given .age;
+    }
 
 returns : tie.Need-returns
 unfolding modelled
 returns c =
     rw (
-      c .rates-of .ensures,
-      c .before .tentative-after .ensures,
-      c .before .before .tentative-rate-of .ensures,
-      c .before .before .before .choose .ensures,
-      c .before .before .before .before .before .model-of .ensures,
+      c .rated .ensures,
+      c .before .tentative-rate-of .ensures,
+      c .before .before .choose .ensures,
+      c .before .before .before .before .model-of .ensures,
     )
 
 pub modelled-spec : {M : Type 1} → statement M
 modelled-spec =
     tie.close
-    (tie.spec model-of-requires mul-choose choose-requires tentative-rate-of-requires tentative-after-requires
-    rates-of-requires returns)
+    (tie.spec model-of-requires mul-choose choose-requires tentative-rate-of-requires rated-requires returns)

@@ -1,0 +1,155 @@
+-- Laws over the kind of security: what either kind makes of a limit keeps order, so that the narrower of two limits can be
+-- taken before they are rounded or after; and so a band limit is the narrower of the farthest limit and the monitored
+-- one. Assumes nothing.
+use mathlib.Core.Path.{_≡_, refl, ap, sym, _∙_}
+use mathlib.Core.Logic.{_⊎_, inl, inr}
+use mathlib.Core.Bool.{Bool, true, false}
+use Prim.Native.Nat.{ℕ, zero, suc, _+_, _-_, _*_, _≤_, _<_}
+use native.Mathlib.Nat.{mul-le-mul-left, mul-le-mul-right}
+use native.Mathlib.Omega.{arith}
+use lib.Dec.{leb}
+use lib.IntN.{ℤ, pos, negsuc, negℤ, subℕ, _*ℤ_}
+use Rattle.paper.specs.declared.Statics.{Statics}
+use Rattle.paper.specs.declared.BondScale.{BondScale}
+use Rattle.paper.specs.declared.Side.{Side}
+use Rattle.paper.specs.declared.Side.the-variants.{Upper, Lower}
+use Rattle.paper.specs.Lists.{pick}
+use Rattle.paper.specs.Numbers.{coarsestGrid, divisorLeast, wholeInQuotes}
+use Rattle.paper.specs.Roundings.{Quotient, halfUp, halfUpZ, halfDown, atLeastZero, lesserOf, greaterOf}
+use Rattle.paper.specs.Ranges.{gridOf}
+use Rattle.paper.specs.Limits.{Kind, share, bond, limitOf, grownPrice, bondLimitOf, limitFor, shifted, farthest, growing, farthestFor, monitored, narrower, narrowerOf, bandBefore, bandLimitFor}
+use Rattle.paper.proofs.Logic.{le-or-lt, pick-true, pick-false}
+use Rattle.paper.proofs.Differences.{difference-up, difference-down, difference-times}
+use Rattle.paper.proofs.Roundings.{half-le, half-monotone, grid-monotone, KeepsOrder, lesser-rounded, greater-rounded}
+
+-- ---- a share's grid
+
+-- g is 1, 10 or 100
+pub grid-range : (lot : ℕ) → (0 < gridOf lot) × (gridOf lot ≤ coarsestGrid)
+unfolding gridOf
+grid-range lot = go (leb lot 1) (leb lot 10)
+  where
+    go : (a b : Bool) → (0 < pick a 100 (pick b 10 1)) × (pick a 100 (pick b 10 1) ≤ coarsestGrid)
+    go true b = omega arith
+    go false true = omega arith
+    go false false = omega arith
+
+-- ---- a bond's limit, without signs
+
+-- half up of a difference of either sign, and 0 where it is below 0: half up of the difference that stops at 0
+half-part : (a b d : ℕ) → 0 < d → atLeastZero (halfUpZ (subℕ a b) d) ≡ halfUp (a - b) d
+unfolding halfUpZ
+half-part a b d p = go (le-or-lt b a)
+  where
+    never : (n : ℕ) → atLeastZero (negℤ (pos n)) ≡ 0
+    never zero = refl
+    never (suc n) = refl
+
+    go : (b ≤ a) ⊎ (a < b) → atLeastZero (halfUpZ (subℕ a b) d) ≡ halfUp (a - b) d
+    go (inl h) = ap (λ (z : ℤ). atLeastZero (halfUpZ z d)) (difference-up a b h)
+    go (inr h) =
+        let nothing : a - b ≤ 0 * d = omega arith in
+        ap (λ (z : ℤ). atLeastZero (halfUpZ z d)) (difference-down a b h)
+        ∙ never (halfDown (suc (b - suc a)) d)
+        ∙ omega (arith, half-le (a - b) d 0 p nothing)
+
+pub bond-limit-is : (b : BondScale) (x : Quotient) → 0 < b .face
+    → bondLimitOf b x ≡ halfUp (wholeInQuotes * (grownPrice x - (b .carry + b .accrued))) (b .face)
+unfolding bondLimitOf
+bond-limit-is b x p =
+    let off : ℕ = b .carry + b .accrued in
+    let same : wholeInQuotes * grownPrice x - wholeInQuotes * off ≡ wholeInQuotes * (grownPrice x - off) = omega arith in
+    ap (λ (z : ℤ). atLeastZero (halfUpZ z (b .face))) (difference-times wholeInQuotes (grownPrice x) off)
+    ∙ half-part (wholeInQuotes * grownPrice x) (wholeInQuotes * off) (b .face) p
+    ∙ ap (λ (n : ℕ). halfUp n (b .face)) same
+
+-- ---- a limit keeps order
+
+-- a bond without a face value has no limits (17)
+abbrev pub HasFace : Kind → Type 0
+HasFace share = 0 < 1
+HasFace (bond b) = 0 < b .face
+
+pub limit-monotone : (kind : Kind) (st : Statics) → HasFace kind → KeepsOrder (limitFor kind st)
+unfolding limitOf
+limit-monotone share st f =
+    record {
+      keeps = λ x y p q l.
+          grid-monotone (gridOf (st .lot)) (x .num) (x .den) (y .num) (y .den) (grid-range (st .lot) .0) p q l;
+    }
+limit-monotone (bond b) st f = record { keeps = keeps }
+  where
+    keeps : (x y : Quotient) → 0 < x .den → 0 < y .den → x .num * y .den ≤ y .num * x .den
+        → bondLimitOf b x ≤ bondLimitOf b y
+    keeps x y p q l =
+        let off : ℕ = b .carry + b .accrued in
+        let grown : grownPrice x ≤ grownPrice y = half-monotone (x .num) (x .den) (y .num) (y .den) p q l in
+        let less : wholeInQuotes * (grownPrice x - off) ≤ wholeInQuotes * (grownPrice y - off) = omega arith in
+        rw (bond-limit-is b x f, bond-limit-is b y f)
+        (half-monotone (wholeInQuotes * (grownPrice x - off)) (b .face) (wholeInQuotes * (grownPrice y - off)) (b .face) f f
+        (mul-le-mul-right (b .face) less))
+
+-- so the narrower of two, rounded once, is the narrower of the two rounded
+pub narrower-rounded : (kind : Kind) (st : Statics) (side : Side) (x y : Quotient) → HasFace kind → 0 < x .den
+    → 0 < y .den
+    → limitFor kind st (narrower side x y) ≡ narrowerOf side (limitFor kind st x) (limitFor kind st y)
+unfolding narrower
+narrower-rounded kind st Upper x y f p q = lesser-rounded (limitFor kind st) (limit-monotone kind st f) x y p q
+narrower-rounded kind st Lower x y f p q = greater-rounded (limitFor kind st) (limit-monotone kind st f) x y p q
+
+-- ---- a band limit
+
+pub shifted-positive : (side : Side) (p rate : ℕ) → 0 < shifted side p rate .den
+unfolding shifted
+shifted-positive Upper p rate = omega arith
+shifted-positive Lower p rate = omega arith
+
+pub farthest-positive : (kind : Kind) (st : Statics) (side : Side) (p k : ℕ) → 0 < farthestFor kind st side p k .den
+unfolding farthest
+farthest-positive share st Upper p k = shifted-positive Upper p (st .pchmax)
+farthest-positive share st Lower p k = shifted-positive Lower p (st .pclmax)
+farthest-positive (bond b) st Upper p k = omega (arith, shifted-positive Upper p (st .pchmax))
+farthest-positive (bond b) st Lower p k = omega (arith, shifted-positive Lower p (st .pclmax))
+
+pub monitored-positive : (st : Statics) (side : Side) (p s1 c k : ℕ) (repo : ℤ) → divisorLeast ≤ st .xpr
+    → 0 < monitored st side p s1 c k repo .den
+unfolding monitored
+monitored-positive st side p s1 c k repo h = omega arith
+
+-- of two quotients whose divisors are above 0, either has one, and so has the narrower
+either-positive : (b : Bool) (x y : Quotient) → 0 < x .den → 0 < y .den → 0 < pick b x y .den
+either-positive true x y p q = p
+either-positive false x y p q = q
+
+narrower-positive : (side : Side) (x y : Quotient) → 0 < x .den → 0 < y .den → 0 < narrower side x y .den
+unfolding narrower lesserOf greaterOf
+narrower-positive Upper x y p q = either-positive (leb (x .num * y .den) (y .num * x .den)) x y p q
+narrower-positive Lower x y p q = either-positive (leb (x .num * y .den) (y .num * x .den)) y x q p
+
+module _ (kind : Kind) (st : Statics) (side : Side) (p s1 c k : ℕ) (repo : ℤ) where
+  -- with monitoring a band limit is the narrower of the farthest limit and the monitored one
+  pub band-monitored : HasFace kind → divisorLeast ≤ st .xpr → st .monitoring ≡ true
+      → bandLimitFor kind st side p s1 c k repo
+      ≡ narrowerOf side (limitFor kind st (farthestFor kind st side p k))
+      (limitFor kind st (monitored st side p s1 c k repo))
+  band-monitored f h e =
+      let x : Quotient = farthestFor kind st side p k in
+      let y : Quotient = monitored st side p s1 c k repo in
+      ap (limitFor kind st) (pick-true (st .monitoring) (narrower side x y) x e)
+      ∙ narrower-rounded kind st side x y f (farthest-positive kind st side p k)
+      (monitored-positive st side p s1 c k repo h)
+
+  -- and without it the farthest limit
+  pub band-unmonitored : st .monitoring ≡ false
+      → bandLimitFor kind st side p s1 c k repo ≡ limitFor kind st (farthestFor kind st side p k)
+  band-unmonitored e =
+      let x : Quotient = farthestFor kind st side p k in
+      ap (limitFor kind st) (pick-false (st .monitoring) (narrower side x (monitored st side p s1 c k repo)) x e)
+
+  pub band-positive : divisorLeast ≤ st .xpr → 0 < bandBefore kind st side p s1 c k repo .den
+  band-positive h =
+      let x : Quotient = farthestFor kind st side p k in
+      let y : Quotient = monitored st side p s1 c k repo in
+      let far : 0 < x .den = farthest-positive kind st side p k in
+      either-positive (st .monitoring) (narrower side x y) x
+      (narrower-positive side x y far (monitored-positive st side p s1 c k repo h)) far

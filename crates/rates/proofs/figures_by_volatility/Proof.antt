@@ -1,0 +1,44 @@
+-- `figures_by_volatility` meets its contract: by isEWMA, the figures that t makes, or those that stay. Assumes nothing.
+use mathlib.Core.Path.{sym, _∙_}
+use mathlib.Core.Bool.{false}
+use Prim.Native.Nat.{ℕ, _≤_}
+use native.Mathlib.Omega.{arith}
+use Rattle.paper.specs.declared.Statics.{Statics}
+use Rattle.paper.specs.Rates.{tentativeRate, tentativeRateOf, figuresByVolatility}
+use Rattle.paper.proofs.Bounds.{tentative-rate-held}
+use Rattle.paper.proofs.Logic.{pick-false}
+use Rattle.rates.proofs.figures_by_volatility.Statement.{statement}
+use Rattle.rates.proofs.figures_by_volatility.Tie as tie
+
+t-held : (st : Statics) (s : ℕ) → tentativeRate st s ≤ st .smax
+unfolding tentativeRateOf
+t-held st s = tentative-rate-held st false 0 s
+
+tentative-rate-requires : tie.Need-tentative-rate-requires
+tentative-rate-requires c κs = (c .before .pre .statics, c .before .pre .volatility)
+
+rated-requires : tie.Need-rated-requires
+rated-requires c κs =
+    let s = c .before .before in
+    record {
+      statics = s .pre .statics;
+      ahead = s .pre .ahead;
+      t-high = rw (c .tentative-rate .ensures) (omega (arith, t-held (s .args .st) (s .args .s), s .pre .statics .most-high));
+      tentative = s .pre .tentative;
+      age = s .pre .age;
+    }
+
+unmodelled-requires : tie.Need-unmodelled-requires
+unmodelled-requires c κs = c .before .pre .statics
+
+returns : tie.Need-returns
+unfolding figuresByVolatility
+returns c = rw (c .rated .ensures, c .before .tentative-rate .ensures, c .before .before .if1 .taken)
+
+returns-2 : tie.Need-returns-2
+unfolding figuresByVolatility
+returns-2 c = c .unmodelled .ensures ∙ (sym (pick-false _ _ _ (c .before .if1 .left)))
+
+pub figures-by-volatility-spec : {M : Type 1} → statement M
+figures-by-volatility-spec =
+    tie.close (tie.spec tentative-rate-requires rated-requires unmodelled-requires returns returns-2)
