@@ -57,6 +57,14 @@ impl Quotient {
         }
     }
 
+    /// The product of two quotients, exactly.
+    pub fn times(self, other: Quotient) -> Quotient {
+        Quotient {
+            numerator: self.numerator * other.numerator,
+            denominator: self.denominator * other.denominator,
+        }
+    }
+
     /// The lesser of two quotients, compared exactly.
     pub fn lesser(self, other: Quotient) -> Quotient {
         if other.is_below(self) {

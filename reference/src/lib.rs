@@ -1,12 +1,14 @@
-//! The independent second opinion on document 01 and on W-201 to W-203 and W-205 of
-//! document 02: the parameter desk's rules in exact 128-bit integers and the
-//! reading of the exchange's text, written from the papers alone.
+//! The independent second opinion on document 01 and on W-201 to W-203, W-205
+//! and W-206 of document 02: the parameter desk's rules in exact 128-bit integers
+//! and the reading of the exchange's text, written from the papers alone.
 //!
 //! A quotient stays a numerator and a denominator until one of the paper's
 //! places of rounding (a) to (g), or W-201's own.
 
+pub mod bond;
 pub mod compare;
 pub mod count;
+pub mod count_bond;
 pub mod count_crossed;
 pub mod count_exchange;
 pub mod count_interest;

@@ -6,21 +6,31 @@ use crate::record::Side;
 use crate::statics::Statics;
 use crate::units::{ONE_IN_BP, ONE_IN_HUNDREDTHS, YEAR_IN_DAY_BP};
 
-/// P·(1 ± rate), exactly.
-fn around(p: i64, rate: i64, side: Side) -> Quotient {
+/// 1 ± rate, exactly.
+pub fn beside_one(rate: i64, side: Side) -> Quotient {
     let share = match side {
         Side::Upper => ONE_IN_BP + wide(rate),
         Side::Lower => ONE_IN_BP - wide(rate),
     };
     Quotient {
-        numerator: wide(p) * share,
+        numerator: share,
         denominator: ONE_IN_BP,
+    }
+}
+
+/// A whole number of units as a quotient.
+pub fn units(units: i64) -> Quotient {
+    Quotient {
+        numerator: wide(units),
+        denominator: 1,
     }
 }
 
 /// A fresh range limit: P·(1 ± S_L), half up to the grid.
 pub fn range_limit(statics: &Statics, p: i64, rate: i64, side: Side) -> i64 {
-    around(p, rate, side).half_up_to(statics.grid())
+    units(p)
+        .times(beside_one(rate, side))
+        .half_up_to(statics.grid())
 }
 
 /// What one band limit is made from: the evaluation, S_1, the term's days,
@@ -34,43 +44,56 @@ pub struct BandInputs {
     pub moves: i64,
 }
 
-/// P·(1 + PcH_max) or P·(1 - PcL_max), exactly.
-fn furthest(statics: &Statics, p: i64, side: Side) -> Quotient {
+/// 1 + PcH_max or 1 - PcL_max, exactly.
+pub fn furthest(statics: &Statics, side: Side) -> Quotient {
     match side {
-        Side::Upper => around(p, statics.pch_max, side),
-        Side::Lower => around(p, statics.pcl_max, side),
+        Side::Upper => beside_one(statics.pch_max, side),
+        Side::Lower => beside_one(statics.pcl_max, side),
     }
 }
 
-/// P·(1 ± e·S_1/x_pr)·(1 + RRc·k/36500) with e = 1 + 2·c·shift, exactly; the
-/// first factor no less than 0.
-fn monitored(statics: &Statics, inputs: &BandInputs, side: Side) -> Quotient {
+/// 1 ± e·S_1/x_pr with e = 1 + 2·c·shift, exactly; no less than 0.
+pub fn spread(statics: &Statics, s_1: i64, moves: i64, side: Side) -> Quotient {
     let one = ONE_IN_BP * wide(statics.x_pr);
-    let e = ONE_IN_HUNDREDTHS + 2 * wide(inputs.moves) * wide(statics.shift);
-    let spread = e * wide(inputs.s_1);
-    let factor = match side {
-        Side::Upper => one + spread,
-        Side::Lower => (one - spread).max(0),
-    };
-    let carry = YEAR_IN_DAY_BP + wide(inputs.repo_rate) * wide(inputs.days);
+    let e = ONE_IN_HUNDREDTHS + 2 * wide(moves) * wide(statics.shift);
+    let spread = e * wide(s_1);
     Quotient {
-        numerator: wide(inputs.p) * factor * carry,
-        denominator: one * YEAR_IN_DAY_BP,
+        numerator: match side {
+            Side::Upper => one + spread,
+            Side::Lower => (one - spread).max(0),
+        },
+        denominator: one,
     }
 }
 
-/// A band limit, half up to the grid: with Monitoring yes the lesser of the
-/// two upper limits or the greater of the two lower ones.
+/// 1 + rate·days/36500, the rate in per cent, exactly.
+pub fn growth(rate: i64, days: i64) -> Quotient {
+    Quotient {
+        numerator: YEAR_IN_DAY_BP + wide(rate) * wide(days),
+        denominator: YEAR_IN_DAY_BP,
+    }
+}
+
+/// The narrower of two limits of a side: the lesser upper or the greater lower
+/// one.
+pub fn narrower(one: Quotient, other: Quotient, side: Side) -> Quotient {
+    match side {
+        Side::Upper => one.lesser(other),
+        Side::Lower => one.greater(other),
+    }
+}
+
+/// A band limit, half up to the grid: with Monitoring yes the narrower of the
+/// two.
 pub fn band_limit(statics: &Statics, inputs: &BandInputs, side: Side) -> i64 {
-    let furthest = furthest(statics, inputs.p, side);
+    let p = units(inputs.p);
+    let furthest = p.times(furthest(statics, side));
     let limit = if !statics.monitoring {
         furthest
     } else {
-        let monitored = monitored(statics, inputs, side);
-        match side {
-            Side::Upper => furthest.lesser(monitored),
-            Side::Lower => furthest.greater(monitored),
-        }
+        let spread = spread(statics, inputs.s_1, inputs.moves, side);
+        let monitored = p.times(spread).times(growth(inputs.repo_rate, inputs.days));
+        narrower(furthest, monitored, side)
     };
     limit.half_up_to(statics.grid())
 }

@@ -7,13 +7,13 @@ use std::path::Path;
 use std::process::ExitCode;
 
 use reference::{
-    compare, count, count_crossed, count_exchange, count_interest, count_replacement, exchange,
-    gateway, protocol, script,
+    compare, count, count_bond, count_crossed, count_exchange, count_interest, count_replacement,
+    exchange, gateway, protocol, script,
 };
 
 const USAGE: &str = "usage: reference evening | gateway | exchange ID | exchange-index | \
 script-evening SEED LINES | script-gateway SEED LINES | script-exchange SEED TEXTS FOLDER | \
-count [gateway | interest | replacement | exchange | crossed] | compare FILE_A FILE_B SCRIPT";
+count [gateway | interest | replacement | exchange | crossed | bond] | compare FILE_A FILE_B SCRIPT";
 /// The exit code of a comparison that fails or a count with a gap.
 const DIFFERENT: u8 = 1;
 /// The exit code of a command that cannot be run.
@@ -61,6 +61,7 @@ fn run(words: &[&str]) -> io::Result<ExitCode> {
         ["count", "interest"] => return told(&count_interest::count_interest(input)?),
         ["count", "replacement"] => return told(&count_replacement::count_replacement(input)?),
         ["count", "crossed"] => return told(&count_crossed::count_crossed(input)?),
+        ["count", "bond"] => return told(&count_bond::count_bond(input)?),
         ["count", "exchange"] => return told(&count_exchange::count_exchange(input)?),
         ["compare", first, second, script] => return compared(first, second, script),
         _ => return Err(unusable(USAGE)),

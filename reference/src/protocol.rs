@@ -3,6 +3,7 @@
 use std::fmt;
 use std::io::{self, BufRead, Write};
 
+use crate::bond;
 use crate::desk;
 use crate::interest::{self, RepoBand, Sheet, Worked};
 use crate::kept::Kept;
@@ -96,6 +97,12 @@ impl From<Worked> for Answer {
     }
 }
 
+impl From<bond::Worked> for Answer {
+    fn from(worked: bond::Worked) -> Answer {
+        Answer::new(DONE, &worked.numbers())
+    }
+}
+
 /// A call's result, done or refused, as an answer.
 fn answered<T: Into<Answer>>(result: Result<T, Refusal>) -> Answer {
     result.map_or_else(Answer::from, T::into)
@@ -109,8 +116,10 @@ pub fn perform(
     verb: &[u8],
     words: &[Word],
 ) -> Option<Answer> {
-    if verb == b"evaluate" {
-        return evaluate(table, kept, words);
+    match verb {
+        b"evaluate" => return evaluate(table, kept, words),
+        b"bond" => return work_bond(kept, words),
+        _ => {}
     }
     let numbers = numbers(words)?;
     match (verb, &numbers[..]) {
@@ -208,6 +217,27 @@ impl Asked {
 fn evaluate(table: &mut [Record], kept: &Kept, words: &[Word]) -> Option<Answer> {
     let asked = Asked::from_words(kept, words)?;
     Some(answered(desk::evaluate(table, asked.id, &asked.day())))
+}
+
+/// A bond's numbers, its terms' worked pairs taken: `M NET FACE ACCRUED REPO S
+/// TENTATIVE AGE`, the three terms, the statics that a bond uses and its cash
+/// flows. None where the words are no call.
+pub fn bond_numbers(kept: &Kept, words: &[Word]) -> Option<Vec<i64>> {
+    let (own, mut rest) = split_first::<{ bond::TERMS }, _>(words)?;
+    let mut found = numbers(own)?;
+    for _ in 0..3 {
+        let (term, after) = term(kept, rest)?;
+        found.extend([term.days, term.rrcl, term.rrch]);
+        rest = after;
+    }
+    found.extend(numbers(rest)?);
+    (found.len() >= bond::VALUES).then_some(found)
+}
+
+fn work_bond(kept: &Kept, words: &[Word]) -> Option<Answer> {
+    let numbers = bond_numbers(kept, words)?;
+    let (values, flows) = split_first(&numbers)?;
+    Some(answered(bond::worked(values, flows)))
 }
 
 /// A term, `K RRCL RRCH` or `K YM/YN`, and the words after it.

@@ -49,15 +49,16 @@ pub fn after_day(
     let last_rate = MILLIONTHS_IN_BP * day.last_s_1;
     let chosen = ewma::volatility(&model, before.s, r, last_rate, day.days_between);
     let t = match chosen {
-        Chosen::Weighed(s) => ewma::target(&model, s, MILLIONTHS_IN_BP),
-        Chosen::Replacement(_) => move_target(statics, r),
+        Chosen::Weighed(s) => target(statics, s),
+        Chosen::Replacement(_) => move_target(statics, r).min(statics.s_max),
     };
-    Ok(ewma::stepped(
-        &model,
-        chosen.s(),
-        t.min(statics.s_max),
-        before,
-    ))
+    Ok(ewma::stepped(&model, chosen.s(), t, before))
+}
+
+/// t of a volatility: the least multiple of h with 10,000·t ≥ q·s, held at
+/// S_max.
+pub fn target(statics: &Statics, s: i64) -> i64 {
+    ewma::target(&statics.model(), s, MILLIONTHS_IN_BP).min(statics.s_max)
 }
 
 /// t where a share's replacement is chosen (W-202): the least multiple of h

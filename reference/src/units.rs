@@ -46,6 +46,12 @@ pub const INTEREST_VOLATILITY: Range = 0..=19_998;
 /// The tentative interest rate, in basis points: the greatest multiplier of the
 /// greatest volatility, up to the greatest step.
 pub const INTEREST_TENTATIVE: Range = 0..=200_979;
+/// A bond's net evaluation, in hundredths of a per cent of its face value.
+pub const NET: Range = 1..=30_000;
+/// A bond's face value, its accrued interest or a cash flow, in units.
+pub const BOND_MONEY: Range = 0..=10_000_000_000;
+/// The day of a cash flow.
+pub const FLOW_DAY: Range = 1..=30;
 /// A range or band limit that a record may hold.
 pub const LIMIT: Range = 0..=2_020_000_000_000;
 
@@ -57,6 +63,8 @@ pub const ONE_IN_TEN_THOUSANDTHS: i128 = 10_000;
 pub const ONE_IN_HUNDREDTHS: i128 = 100;
 /// One in millionths.
 pub const ONE_IN_MILLIONTHS: i128 = 1_000_000;
+/// 100 per cent in hundredths of a per cent.
+pub const ONE_IN_HUNDREDTHS_OF_A_PER_CENT: i128 = 10_000;
 /// Millionths in a basis point.
 pub const MILLIONTHS_IN_BP: i64 = 100;
 /// A year of 365 days at 100 per cent, in days times basis points: the

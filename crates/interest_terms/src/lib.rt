@@ -35,7 +35,8 @@ fn repo_of(band: RepoBand) -> RepoLimits
     }
 }
 
-fn term_of(x: AskedTerm) -> Term
+// One term, of a day or of a bond (W-206).
+pub fn term_of(x: AskedTerm) -> Term
     ensures { λ r. ⌜ r ≡ termOf x ⌝ }
 {
     let band = x.band;

@@ -59,8 +59,7 @@ unfolding spread
 spread-high st Upper s1 c s r m = omega (arith, s .divisor-high, away-high st s1 c s r m)
 spread-high st Lower s1 c s r m = omega (arith, s .divisor-high)
 
--- ---- so a share's band limit is the narrower of its farthest limit and the monitored one; without monitoring it is the
--- farthest
+-- ---- a share's band limit: with monitoring the narrower of two, without it the farthest
 
 pub band-monitored : (st : Statics) (side : Side) (p s1 c k : ℕ) (repo : ℤ) → LimitStatics st → st .monitoring ≡ true
     → bandLimit st side p s1 c k repo

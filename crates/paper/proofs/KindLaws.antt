@@ -1,6 +1,6 @@
--- Laws over the kind of security: what either kind makes of a limit keeps order, so that the narrower of two limits can be
--- taken before they are rounded or after; and so a band limit is the narrower of the farthest limit and the monitored
--- one. Assumes nothing.
+-- Laws over the kind of security: what either kind makes of a limit keeps order, so that the narrower of two limits can
+-- be taken before they are rounded or after; and so a band limit is the narrower of the farthest limit and the
+-- monitored one. Assumes nothing.
 use mathlib.Core.Path.{_≡_, refl, ap, sym, _∙_}
 use mathlib.Core.Logic.{_⊎_, inl, inr}
 use mathlib.Core.Bool.{Bool, true, false}
@@ -14,7 +14,7 @@ use Rattle.paper.specs.declared.BondScale.{BondScale}
 use Rattle.paper.specs.declared.Side.{Side}
 use Rattle.paper.specs.declared.Side.the-variants.{Upper, Lower}
 use Rattle.paper.specs.Lists.{pick}
-use Rattle.paper.specs.Numbers.{coarsestGrid, divisorLeast, wholeInQuotes}
+use Rattle.paper.specs.Numbers.{coarsestGrid, divisorLeast, oneInPerCentHundredths}
 use Rattle.paper.specs.Roundings.{Quotient, halfUp, halfUpZ, halfDown, atLeastZero, lesserOf, greaterOf}
 use Rattle.paper.specs.Ranges.{gridOf}
 use Rattle.paper.specs.Limits.{Kind, share, bond, limitOf, grownPrice, bondLimitOf, limitFor, shifted, farthest, growing, farthestFor, monitored, narrower, narrowerOf, bandBefore, bandLimitFor}
@@ -54,13 +54,14 @@ half-part a b d p = go (le-or-lt b a)
         ∙ omega (arith, half-le (a - b) d 0 p nothing)
 
 pub bond-limit-is : (b : BondScale) (x : Quotient) → 0 < b .face
-    → bondLimitOf b x ≡ halfUp (wholeInQuotes * (grownPrice x - (b .carry + b .accrued))) (b .face)
+    → bondLimitOf b x ≡ halfUp (oneInPerCentHundredths * (grownPrice x - (b .carry + b .accrued))) (b .face)
 unfolding bondLimitOf
 bond-limit-is b x p =
     let off : ℕ = b .carry + b .accrued in
-    let same : wholeInQuotes * grownPrice x - wholeInQuotes * off ≡ wholeInQuotes * (grownPrice x - off) = omega arith in
-    ap (λ (z : ℤ). atLeastZero (halfUpZ z (b .face))) (difference-times wholeInQuotes (grownPrice x) off)
-    ∙ half-part (wholeInQuotes * grownPrice x) (wholeInQuotes * off) (b .face) p
+    let one : ℕ = oneInPerCentHundredths in
+    let same : one * grownPrice x - one * off ≡ one * (grownPrice x - off) = omega arith in
+    ap (λ (z : ℤ). atLeastZero (halfUpZ z (b .face))) (difference-times oneInPerCentHundredths (grownPrice x) off)
+    ∙ half-part (oneInPerCentHundredths * grownPrice x) (oneInPerCentHundredths * off) (b .face) p
     ∙ ap (λ (n : ℕ). halfUp n (b .face)) same
 
 -- ---- a limit keeps order
@@ -84,9 +85,10 @@ limit-monotone (bond b) st f = record { keeps = keeps }
     keeps x y p q l =
         let off : ℕ = b .carry + b .accrued in
         let grown : grownPrice x ≤ grownPrice y = half-monotone (x .num) (x .den) (y .num) (y .den) p q l in
-        let less : wholeInQuotes * (grownPrice x - off) ≤ wholeInQuotes * (grownPrice y - off) = omega arith in
+        let left : Quotient → ℕ = λ z. oneInPerCentHundredths * (grownPrice z - off) in
+        let less : left x ≤ left y = omega arith in
         rw (bond-limit-is b x f, bond-limit-is b y f)
-        (half-monotone (wholeInQuotes * (grownPrice x - off)) (b .face) (wholeInQuotes * (grownPrice y - off)) (b .face) f f
+        (half-monotone (left x) (b .face) (left y) (b .face) f f
         (mul-le-mul-right (b .face) less))
 
 -- so the narrower of two, rounded once, is the narrower of the two rounded

@@ -14,7 +14,7 @@ use Rattle.paper.specs.declared.Day.{Day}
 use Rattle.paper.specs.declared.Quote.{Quote}
 use Rattle.paper.specs.declared.Answer.{Answer}
 use Rattle.paper.specs.declared.Verdict.{Verdict}
-use Rattle.paper.specs.declared.Verdict.the-variants.{Done, NoSuchId, AlreadyAdmitted, NoEmptySlot, AdmissionOutOfRange, DayNotAfter, OutOfRange, PriceOutOfRange, MoveTooLarge, BandCrossed, NotLive, NotMonitored, MovesUsedUp, SecondEarlier, NotAscending, BadLine, RowCrossed}
+use Rattle.paper.specs.declared.Verdict.the-variants.{Done, NoSuchId, AlreadyAdmitted, NoEmptySlot, AdmissionOutOfRange, DayNotAfter, OutOfRange, PriceOutOfRange, MoveTooLarge, BandCrossed, NotLive, NotMonitored, MovesUsedUp, SecondEarlier, NotAscending, BadLine, RowCrossed, NoFaceValue}
 use Rattle.paper.specs.Lists.{pick, every}
 use Rattle.paper.specs.Verdicts.{numberOf, isDone, Check, firstOf, FirstAt, here, later, NoneApplies, none, also}
 use Rattle.paper.specs.Desk.{Call, admit, evaluate, quote, move, read, admitChecks, evaluateChecks, quoteChecks, moveChecks, readChecks, checksOf, Outcome, saying, showing, alerting, alertsOn, judged, acceptedOf, step}
@@ -41,6 +41,7 @@ done-is SecondEarlier e = absurd (clash false e refl)
 done-is NotAscending e = absurd (clash false e refl)
 done-is BadLine e = absurd (clash false e refl)
 done-is RowCrossed e = absurd (clash false e refl)
+done-is NoFaceValue e = absurd (clash false e refl)
 
 -- a number that is not 0 is given only where it is the first that applies
 pub first-is : (cs : List Check) (v : Verdict) → isDone v ≡ false → firstOf cs ≡ v → FirstAt v cs

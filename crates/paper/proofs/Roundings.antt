@@ -170,7 +170,8 @@ module _ (f : Quotient → ℕ) (o : KeepsOrder f) (x y : Quotient) (p : 0 < x .
       go : (x .num * y .den ≤ y .num * x .den) ⊎ (y .num * x .den < x .num * y .den)
           → f (pick (leb (x .num * y .den) (y .num * x .den)) x y) ≡ min (f x) (f y)
       go (inl h) = rw (le-leb (x .num * y .den) (y .num * x .den) h) (sym (min-eq-left (o .keeps x y p q h)))
-      go (inr h) = rw (lt-leb (x .num * y .den) (y .num * x .den) h) (sym (min-eq-right (o .keeps y x q p (le-of-lt h))))
+      go (inr h) =
+          rw (lt-leb (x .num * y .den) (y .num * x .den) h) (sym (min-eq-right (o .keeps y x q p (le-of-lt h))))
 
   pub greater-rounded : f (greaterOf x y) ≡ max (f x) (f y)
   unfolding greaterOf

@@ -17,6 +17,7 @@ pub mod Kept
 pub mod Cases
 pub mod Terms
 pub mod Sides
+pub mod PinnedKinds
 pub mod PinnedValues
 pub mod PinnedSequence
 pub mod PinnedRanges

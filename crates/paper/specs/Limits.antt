@@ -12,7 +12,7 @@ use Rattle.paper.specs.declared.Limits.{Limits}
 use Rattle.paper.specs.declared.Moves.{Moves}
 use Rattle.paper.specs.declared.Term.{Term}
 use Rattle.paper.specs.Lists.{pick}
-use Rattle.paper.specs.Numbers.{oneInBp, oneInHundredths, yearInDayBp, wholeInQuotes}
+use Rattle.paper.specs.Numbers.{oneInBp, oneInHundredths, yearInDayBp, oneInPerCentHundredths}
 use Rattle.paper.specs.Roundings.{Quotient, halfUp, halfUpZ, toGrid, atLeastZero, lesserOf, greaterOf, grown}
 use Rattle.paper.specs.Ranges.{gridOf}
 
@@ -38,7 +38,7 @@ grownPrice x = halfUp (x .num) (x .den)
 unfoldable pub bondLimitOf : BondScale → Quotient → ℕ
 bondLimitOf b x =
     atLeastZero
-    (halfUpZ (pos wholeInQuotes *ℤ subℕ (grownPrice x) (b .carry + b .accrued)) (b .face))
+    (halfUpZ (pos oneInPerCentHundredths *ℤ subℕ (grownPrice x) (b .carry + b .accrued)) (b .face))
 
 -- the limit of either kind
 abbrev pub limitFor : Kind → Statics → Quotient → ℕ

@@ -36,9 +36,9 @@ rouble = 10000
 abbrev pub yearInDayBp : ℕ
 yearInDayBp = 3650000
 
--- 100 per cent of a face value, in the hundredths of a per cent in which a bond is quoted (W-206)
-abbrev pub wholeInQuotes : ℕ
-wholeInQuotes = 10000
+-- one, in the hundredths of a per cent in which a net evaluation and the limits of a bond are given (W-206)
+abbrev pub oneInPerCentHundredths : ℕ
+oneInPerCentHundredths = 10000
 
 -- the coarsest of the three grids, in units
 abbrev pub coarsestGrid : ℕ

@@ -28,8 +28,8 @@ pub const HUNDREDTHS_OF_MILLIONTHS_IN_BP: u64 = 10_000;
 // A year of 365 days at 100 per cent, in days times basis points.
 pub const YEAR_IN_DAY_BP: u64 = 3_650_000;
 
-// 100 per cent of a face value, in the hundredths of a per cent in which a bond is quoted.
-pub const WHOLE_IN_QUOTES: u64 = 10_000;
+// One, in the hundredths of a per cent in which a net evaluation and the limits of a bond are given.
+pub const ONE_IN_PER_CENT_HUNDREDTHS: u64 = 10_000;
 
 // A price, in ten-thousandths of a rouble.
 pub struct Price {
@@ -407,6 +407,7 @@ pub enum Verdict {
     NotAscending,
     BadLine,
     RowCrossed,
+    NoFaceValue,
 }
 
 impl Verdict {
@@ -432,6 +433,7 @@ impl Verdict {
             Verdict::NotAscending => 14,
             Verdict::BadLine => 15,
             Verdict::RowCrossed => 16,
+            Verdict::NoFaceValue => 17,
         }
     }
 

@@ -104,7 +104,7 @@ fn put_figures(out: &mut [u8; ROOM], len: usize, r: Record) -> usize
 }
 
 // S1 S2 S3
-fn put_rates(out: &mut [u8; ROOM], len: usize, rates: [Rate; Record::LEVELS]) -> usize
+pub fn put_rates(out: &mut [u8; ROOM], len: usize, rates: [Rate; Record::LEVELS]) -> usize
     requires { ⌜ len + 63 ≤ room ⌝ }
     ensures { λ r. ⌜ Told (now (out .entry)) len (now (out .exit)) r (ratesNumbers rates) 63 ⌝ }
 {

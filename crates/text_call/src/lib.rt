@@ -35,7 +35,7 @@ pub struct Request {
 }
 
 // The number at a place; 0 where there is none.
-fn number_at(zs: &[i64], i: usize) -> i64
+pub fn number_at(zs: &[i64], i: usize) -> i64
     ensures { λ r. ⌜ r ≡ getD (now (zs .entry)) i (pos 0) ⌝ }
 {
     if i < zs.len() {
@@ -109,9 +109,9 @@ fn band_of(k: Kept, pair: bool, low: i64, high: i64) -> RepoBand
     RepoBand::Given(RepoLimits { low, high })
 }
 
-// The term whose days stand at a place, and its band behind them.
-fn term_of(k: Kept, pair: bool, zs: &[i64], at: usize) -> AskedTerm
-    requires { ⌜ at ≤ 10 ⌝ }
+// The term whose days stand at a place, and its band behind them: of an evaluation or of a bond.
+pub fn term_of(k: Kept, pair: bool, zs: &[i64], at: usize) -> AskedTerm
+    requires { ⌜ at ≤ 14 ⌝ }
     ensures { λ r. ⌜ r ≡ termAtPlace k pair (now (zs .entry)) at ⌝ }
 {
     AskedTerm {

@@ -15,13 +15,14 @@ use Rattle.text_protocol.specs.declared.Item.{Item}
 use Rattle.text_protocol.specs.declared.Item.the-variants as item
 use Rattle.text_protocol.specs.declared.Pairs.{Pairs}
 use Rattle.text_protocol.specs.Bytes.{isBlank, run, words}
-use Rattle.text_protocol.specs.Names.{kindOf, takes, takesIn, forms}
+use Rattle.text_protocol.specs.Names.{kindOf, takes}
 use Rattle.text_protocol.specs.Line.{Said, Nothing, NoCall, Call, noPairs, pairFits, withPair, more, Reading, read, spoilt, taking, onWith, finished, itemOf, fill, called, meaning}
 use Rattle.text_word.specs.Parts.{isSolid}
 use Rattle.text_word.proofs.Words.{words-part, words-end}
 use Rattle.text_line.specs.declared.Line.{Line}
 use Rattle.text_line.specs.declared.Taken.{Taken}
-use Rattle.text_line.specs.Heard.{blankLine, badLine, said, Heard, lineOf, Keeps, readingOf, Takes}
+use Rattle.text_line.proofs.Table.{takes-call}
+use Rattle.text_line.specs.Heard.{blankKind, badKind, blankLine, badLine, said, Heard, lineOf, Keeps, readingOf, Takes}
 
 -- ---- one number more
 
@@ -56,7 +57,7 @@ module _ (k : ℕ) (xs : List ℤ) (n : ℕ) (p : Pairs) (w : Item) where
 
   pub takes-two : (ym yn : ℤ) (xs₁ : List ℤ) (n₁ : ℕ) (xs' : List ℤ) (n' : ℕ) (ps : Pairs) (fits : Bool) → w ≡ item.Two
       ym yn → n ≤ length xs
-      → fits ≡ pairFits k n → fits ≡ true → ps ≡ withPair n p → Keeps xs n ym xs₁ n₁ → Keeps xs₁ n₁ yn xs' n'
+      → fits ≡ pairFits k n → fits ≡ true → ps ≡ withPair k n p → Keeps xs n ym xs₁ n₁ → Keeps xs₁ n₁ yn xs' n'
       → Takes (taking k (take n xs) p w) (record { ok = true; count = n'; pairs = ps }) xs'
   unfolding taking readingOf
   takes-two ym yn xs₁ n₁ xs' n' ps fits e l f t s q r =
@@ -91,22 +92,6 @@ pub filling-none : (l : List ℕ) (k : ℕ) (xs : List ℤ) (from : ℕ) (p : Pa
     → Filling l k (fill k [] noPairs (words (drop from l))) xs from 0 p
 filling-none l k xs from p h e q = record { in-l = h; in-xs = omega arith; long = e; rest = rw q }
 
--- a kind of the table is none behind it
-takes-call : (k n : ℕ) → takes k n ≡ true → (0 < k) × (k ≤ 6)
-unfolding takes takesIn forms
-takes-call zero n e = let z : _≡_ {A = ℕ} 0 1 = cc in let y : ⊥ = omega arith in absurd y
-takes-call (suc zero) n e = (omega arith, omega arith)
-takes-call (suc (suc zero)) n e = (omega arith, omega arith)
-takes-call (suc (suc (suc zero))) n e = (omega arith, omega arith)
-takes-call (suc (suc (suc (suc zero)))) n e = (omega arith, omega arith)
-takes-call (suc (suc (suc (suc (suc zero))))) n e = (omega arith, omega arith)
-takes-call (suc (suc (suc (suc (suc (suc zero)))))) n e = (omega arith, omega arith)
-takes-call (suc (suc (suc (suc (suc (suc (suc k))))))) n e = let z : _≡_ {A = ℕ} 0 1 = cc in let y : ⊥ = omega arith in
-    absurd y
-
-apart : (k c : ℕ) → k ≤ 6 → 6 < c → k ≡ c → ⊥
-apart k c h g e = omega arith
-
 bad-says : (xs : List ℤ) → said badLine xs ≡ NoCall
 unfolding said
 bad-says xs = refl
@@ -130,10 +115,10 @@ module _ (l : List ℕ) (k : ℕ) (goal : Said) (xs : List ℤ) (s n : ℕ) (p :
       by : (x : Bool) → takes k n ≡ x → Heard goal (pick x (record { kind = k; count = n; pairs = p }) badLine) xs
       by true t =
           let o = takes-call k n t in
-          let seven : k ≡ 7 → ⊥ = λ e. apart k 7 (o .1) (omega arith) e in
-          let eight : k ≡ 8 → ⊥ = λ e. apart k 8 (o .1) (omega arith) e in
+          let not-blank : k ≡ blankKind → ⊥ = λ e. omega (arith, o .1) in
+          let not-bad : k ≡ badKind → ⊥ = λ e. omega (arith, o .1) in
           record {
-            says = rw (ne-eqb k 7 seven, ne-eqb k 8 eight) (rw t at g);
+            says = rw (ne-eqb k blankKind not-blank, ne-eqb k badKind not-bad) (rw t at g);
             long = f .long;
             most = f .in-xs;
             low = o .0;

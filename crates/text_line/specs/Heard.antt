@@ -2,23 +2,23 @@
 use mathlib.Core.Path.{_≡_}
 use mathlib.Core.Bool.{Bool, true, false}
 use mathlib.Core.List.{List, [], _∷_, _++_}
-use Prim.Native.Nat.{ℕ, _≤_, _<_}
+use Prim.Native.Nat.{ℕ, _+_, _≤_, _<_}
 use lib.Dec.{eqb}
 use lib.IntN.{ℤ}
 use lib.ListN.{length, take}
 use Rattle.paper.specs.Lists.{pick}
 use Rattle.text_protocol.specs.declared.Pairs.{Pairs}
-use Rattle.text_protocol.specs.Names.{takes}
-use Rattle.text_protocol.specs.Line.{Said, Nothing, NoCall, Call, Reading, read, spoilt, noPairs, more}
+use Rattle.text_protocol.specs.Names.{RRCL0, RRCL1, RRCL2, takes}
+use Rattle.text_protocol.specs.Line.{Said, Nothing, NoCall, Call, Reading, read, spoilt, noPairs, placeIn, more}
 use Rattle.text_line.specs.declared.Line.{Line}
 use Rattle.text_line.specs.declared.Taken.{Taken}
 
 -- the kinds behind those of the calls
 abbrev pub blankKind : ℕ
-blankKind = 7
+blankKind = 8
 
 abbrev pub badKind : ℕ
-badKind = 8
+badKind = 9
 
 abbrev pub blankLine : Line
 blankLine = record { kind = blankKind; count = 0; pairs = noPairs }
@@ -32,7 +32,7 @@ said l xs =
     (pick (eqb (l .kind) badKind) NoCall (Call (l .kind) (take (l .count) xs) (l .pairs)))
 
 -- the reader's promise: the line says s, its numbers are the first of xs, xs is as long as it was, and the kind is one
--- of the eight
+-- of the nine
 pub record Heard (s : Said) (l : Line) (xs : List ℤ) : Type 0 where
   pub says : said l xs ≡ s
   pub long : length xs ≡ 126
@@ -43,6 +43,13 @@ pub record Heard (s : Said) (l : Line) (xs : List ℤ) : Type 0 where
 -- a call of so many numbers, where it takes so many
 unfoldable pub lineOf : (kind count : ℕ) → Pairs → Line
 lineOf k n p = pick (takes k n) (record { kind = k; count = n; pairs = p }) badLine
+
+-- where the RRCL of each term stands in a call with terms: the first at a place, each other behind a term's numbers
+pub record LowsAt (k at : ℕ) : Type 0 where
+  pub first : at ≡ placeIn k RRCL0
+  pub second : at + 3 ≡ placeIn k RRCL1
+  pub third : at + 6 ≡ placeIn k RRCL2
+  pub small : at ≤ 9
 
 -- one number more among those that are kept
 pub record Keeps (xs : List ℤ) (n : ℕ) (z : ℤ) (xs' : List ℤ) (n' : ℕ) : Type 0 where

@@ -4,10 +4,11 @@ ghost use mathlib.Core.Bool.{false};
 ghost use mathlib.Core.List.{[]};
 ghost use Prim.Native.Nat.{_≤_};
 ghost use lib.ListN.{length, take, drop};
-ghost use Rattle.text_protocol.specs.Bytes.{words};
+ghost use Rattle.paper.specs.Lists.{pick};
+ghost use Rattle.text_protocol.specs.Bytes.{words, same};
 ghost use Rattle.text_protocol.specs.Names.{kindOf, takes};
-ghost use Rattle.text_protocol.specs.Line.{noPairs, pairFits, withPair, taking, fill, meaning, keptMost};
-ghost use Rattle.text_line.specs.Heard.{blankLine, badLine, Heard, lineOf, Keeps, Takes};
+ghost use Rattle.text_protocol.specs.Line.{noPairs, hasTerms, pairFits, withPair, taking, fill, meaning, keptMost};
+ghost use Rattle.text_line.specs.Heard.{blankLine, badLine, Heard, lineOf, LowsAt, Keeps, Takes};
 use text_protocol::Item;
 use text_protocol::KEPT;
 use text_protocol::Kind;
@@ -20,12 +21,13 @@ use text_word::same_bytes;
 // A line of more bytes is no call.
 pub const LONGEST: usize = 65_535;
 
-// The places of the three numbers RRCL of `evaluate`, where a pair may stand.
-const FIRST_LOW: usize = 5;
+// The place of the first RRCL of an evaluation and of a bond, where a pair may stand.
+const EVALUATE_LOW: usize = 5;
 
-const SECOND_LOW: usize = 8;
+const BOND_LOW: usize = 9;
 
-const THIRD_LOW: usize = 11;
+// The numbers K RRCL RRCH of a term.
+const TERM_NUMBERS: usize = 3;
 
 // What a line says. A call's numbers are the first `count` of the lent array.
 pub struct Line {
@@ -66,33 +68,31 @@ pub fn bad() -> Line
     }
 }
 
+// A kind, where the word is that of its call, or else another.
+fn kind_if(p: &[u8], word: &[u8], kind: u64, other: u64) -> u64
+    ensures { λ r. ⌜ r ≡ pick (same (now (p .entry)) (now (word .entry))) kind other ⌝ }
+{
+    if same_bytes(p, word) {
+        return kind;
+    }
+    other
+}
+
 // Which call a word is, 0 where it is no call's.
 fn kind_of(p: &[u8]) -> u64
     ensures { λ r. ⌜ r ≡ kindOf (now (p .entry)) ⌝ }
 {
-    if same_bytes(p, b"admit") {
-        return Kind::ADMIT;
-    }
-    if same_bytes(p, b"evaluate") {
-        return Kind::EVALUATE;
-    }
-    if same_bytes(p, b"quote") {
-        return Kind::QUOTE;
-    }
-    if same_bytes(p, b"move") {
-        return Kind::MOVE;
-    }
-    if same_bytes(p, b"read") {
-        return Kind::READ;
-    }
-    if same_bytes(p, b"interest") {
-        return Kind::INTEREST;
-    }
-    0
+    let k = kind_if(p, b"bond", Kind::BOND, 0);
+    let k = kind_if(p, b"interest", Kind::INTEREST, k);
+    let k = kind_if(p, b"read", Kind::READ, k);
+    let k = kind_if(p, b"move", Kind::MOVE, k);
+    let k = kind_if(p, b"quote", Kind::QUOTE, k);
+    let k = kind_if(p, b"evaluate", Kind::EVALUATE, k);
+    kind_if(p, b"admit", Kind::ADMIT, k)
 }
 
-// Whether a call of the kind has so many numbers: `evaluate` may have row figures besides, and `interest` key
-// maturities.
+// Whether a call of the kind has so many numbers: `evaluate` may have row figures besides, `interest` key maturities,
+// and `bond` cash flows.
 fn takes(kind: u64, count: usize) -> bool
     ensures { λ r. ⌜ r ≡ takes kind count ⌝ }
 {
@@ -103,6 +103,7 @@ fn takes(kind: u64, count: usize) -> bool
         Kind::MOVE => count == 2,
         Kind::READ => count == 1,
         Kind::INTEREST => 14 <= count,
+        Kind::BOND => 33 <= count,
         _ => false,
     }
 }
@@ -118,29 +119,39 @@ fn finish(kind: u64, count: usize, pairs: Pairs) -> Line
 
 // ---- the numbers of a call
 
-// A pair stands in an evaluation alone, in place of a term's RRCL RRCH.
+// The calls with three terms, an evaluation and a bond.
+fn has_terms(kind: u64) -> bool
+    ensures { λ r. ⌜ r ≡ hasTerms kind ⌝ }
+{
+    (kind == Kind::EVALUATE) | (kind == Kind::BOND)
+}
+
+// Where the first term's RRCL stands in a call with terms. Those of the other two follow a term's numbers apart.
+fn first_low(kind: u64) -> usize
+    ensures { λ r. ⌜ LowsAt kind r ⌝ }
+{
+    if kind == Kind::BOND {
+        return BOND_LOW;
+    }
+    EVALUATE_LOW
+}
+
+// A pair stands in a call with terms alone, in place of a term's RRCL RRCH.
 fn pair_fits(kind: u64, n: usize) -> bool
     ensures { λ r. ⌜ r ≡ pairFits kind n ⌝ }
 {
-    if kind != Kind::EVALUATE {
-        return false;
-    }
-    if n == FIRST_LOW {
-        return true;
-    }
-    if n == SECOND_LOW {
-        return true;
-    }
-    n == THIRD_LOW
+    let low = first_low(kind);
+    has_terms(kind) & ((n == low) | ((n == low + TERM_NUMBERS) | (n == low + 2 * TERM_NUMBERS)))
 }
 
-fn with_pair(n: usize, p: Pairs) -> Pairs
-    ensures { λ r. ⌜ r ≡ withPair n p ⌝ }
+fn with_pair(kind: u64, n: usize, p: Pairs) -> Pairs
+    ensures { λ r. ⌜ r ≡ withPair kind n p ⌝ }
 {
+    let low = first_low(kind);
     Pairs {
-        first: p.first | (n == FIRST_LOW),
-        second: p.second | (n == SECOND_LOW),
-        third: p.third | (n == THIRD_LOW),
+        first: p.first | (n == low),
+        second: p.second | (n == low + TERM_NUMBERS),
+        third: p.third | (n == low + 2 * TERM_NUMBERS),
     }
 }
 
@@ -191,7 +202,7 @@ fn take_word(xs: &mut [i64], kind: u64, n: usize, pairs: Pairs, w: Item) -> Take
                 return Taken {
                     ok: true,
                     count,
-                    pairs: with_pair(n, pairs),
+                    pairs: with_pair(kind, n, pairs),
                 };
             }
             spoilt(n, pairs)

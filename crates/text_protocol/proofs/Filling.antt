@@ -24,7 +24,7 @@ module _ (k : ℕ) (zs : List ℤ) (p : Pairs) (w : List ℕ) (ws : List (List �
 
   module _ {m n : ℤ} (e : itemOf w ≡ item.Two m n) where
     pub fill-two : pairFits k (length zs) ≡ true
-        → fill k zs p (w ∷ ws) ≡ fill k (more (more zs m) n) (withPair (length zs) p) ws
+        → fill k zs p (w ∷ ws) ≡ fill k (more (more zs m) n) (withPair k (length zs) p) ws
     unfolding fill taking onWith
     fill-two h = rw (e, h)
 

@@ -17,9 +17,9 @@ use Rattle.text_protocol.specs.declared.Item.the-variants as item
 use Rattle.text_protocol.specs.declared.Pairs.{Pairs}
 use Rattle.text_protocol.specs.Bytes.{isBlank, slash, digitZero, isNot, run, words, same}
 use Rattle.text_protocol.specs.Numbers.{numberOf, slashAt}
-use Rattle.text_protocol.specs.Names.{kindFrom, kindOf, forms, takes, admitWord, evaluateWord, quoteWord, moveWord, readWord, interestWord}
+use Rattle.text_protocol.specs.Names.{kindFrom, kindOf, forms, takes, admitWord, evaluateWord, quoteWord, moveWord, readWord, interestWord, bondWord}
 use Rattle.text_protocol.specs.Line.{NoCall, Call, oneOf, twoOf, itemOf, noPairs, pairFits, withPair, more, finished, fill, called, longest, meaning}
-use Rattle.text_protocol.specs.Written.{Blanks, no-blank, blank, Digits, no-digit, digit, Spells, plain, minus, CallWord, admit, evaluate, quote, move, read, interest, Numbers, done, one, two, Says, says}
+use Rattle.text_protocol.specs.Written.{Blanks, no-blank, blank, Digits, no-digit, digit, Spells, plain, minus, CallWord, admit, evaluate, quote, move, read, interest, bond, Numbers, done, one, two, Says, says}
 use Rattle.text_protocol.proofs.Words.{Solid, solid, Ends, end, parted, solid-append, words-blanks, words-solid, words-none, high-solid, allHigh, letters, Split, last, word, SplitOf, split-words, split, word-not-here}
 use Rattle.text_protocol.proofs.Spelling.{impossible, spells-reads, spells-solid, spells-some, reads-spells}
 use Rattle.text_protocol.proofs.Filling.{fill-none, fill-one, fill-two, fill-no-pair, fill-neither}
@@ -109,6 +109,7 @@ word-solid {w} quote = letters w refl
 word-solid {w} move = letters w refl
 word-solid {w} read = letters w refl
 word-solid {w} interest = letters w refl
+word-solid {w} bond = letters w refl
 
 word-some : {w : List ℕ} {k : ℕ} → CallWord w k → 0 < length w
 word-some admit = omega arith
@@ -117,6 +118,7 @@ word-some quote = omega arith
 word-some move = omega arith
 word-some read = omega arith
 word-some interest = omega arith
+word-some bond = omega arith
 
 word-called : {w : List ℕ} {k : ℕ} (ws : List (List ℕ)) → CallWord w k → called (w ∷ ws) ≡ fill k [] noPairs ws
 unfolding called kindOf kindFrom forms same
@@ -126,6 +128,7 @@ word-called ws quote = refl
 word-called ws move = refl
 word-called ws read = refl
 word-called ws interest = refl
+word-called ws bond = refl
 
 finished-right : (k : ℕ) (zs : List ℤ) (p : Pairs) → takes k (length zs) ≡ true → finished k zs p ≡ Call k zs p
 unfolding finished
@@ -259,8 +262,8 @@ item-back k ys q {b} {t} w rest ws j zs p g bs on e = go (itemOf w) refl
         let z : NoCall ≡ Call j zs p = sym (fill-no-pair k ys q w ws i f) ∙ e in
         impossible cc
     pair m n i true f =
-        let r : FillBack k (more (more ys m) n) (withPair (length ys) q) rest j zs p =
-        on (more (more ys m) n) (withPair (length ys) q) (sym (fill-two k ys q w ws i f) ∙ e) in
+        let r : FillBack k (more (more ys m) n) (withPair k (length ys) q) rest j zs p =
+        on (more (more ys m) n) (withPair k (length ys) q) (sym (fill-two k ys q w ws i f) ∙ e) in
         let d : PairBack w m n = item-two-back w m n i in
         record {
           kind = r .kind;
@@ -307,20 +310,21 @@ word-back : (w : List ℕ) → eqb (kindOf w) 0 ≡ false → CallWord w (kindOf
 unfolding kindOf kindFrom forms
 word-back w e =
     go (same w admitWord) (same w evaluateWord) (same w quoteWord) (same w moveWord) (same w readWord)
-    (same w interestWord)
-    refl refl refl refl refl refl e
+    (same w interestWord) (same w bondWord)
+    refl refl refl refl refl refl refl e
   where
-    go : (a b c d f g : Bool) → same w admitWord ≡ a → same w evaluateWord ≡ b → same w quoteWord ≡ c
-        → same w moveWord ≡ d → same w readWord ≡ f → same w interestWord ≡ g
-        → eqb (pick a 1 (pick b 2 (pick c 3 (pick d 4 (pick f 5 (pick g 6 0)))))) 0 ≡ false
-        → CallWord w (pick a 1 (pick b 2 (pick c 3 (pick d 4 (pick f 5 (pick g 6 0))))))
-    go true b c d f g ha hb hc hd hf hg e = rw (same-is w admitWord ha) admit
-    go false true c d f g ha hb hc hd hf hg e = rw (same-is w evaluateWord hb) evaluate
-    go false false true d f g ha hb hc hd hf hg e = rw (same-is w quoteWord hc) quote
-    go false false false true f g ha hb hc hd hf hg e = rw (same-is w moveWord hd) move
-    go false false false false true g ha hb hc hd hf hg e = rw (same-is w readWord hf) read
-    go false false false false false true ha hb hc hd hf hg e = rw (same-is w interestWord hg) interest
-    go false false false false false false ha hb hc hd hf hg e = impossible cc
+    go : (a b c d f g h : Bool) → same w admitWord ≡ a → same w evaluateWord ≡ b → same w quoteWord ≡ c
+        → same w moveWord ≡ d → same w readWord ≡ f → same w interestWord ≡ g → same w bondWord ≡ h
+        → eqb (pick a 1 (pick b 2 (pick c 3 (pick d 4 (pick f 5 (pick g 6 (pick h 7 0))))))) 0 ≡ false
+        → CallWord w (pick a 1 (pick b 2 (pick c 3 (pick d 4 (pick f 5 (pick g 6 (pick h 7 0)))))))
+    go true b c d f g h ha hb hc hd hf hg hh e = rw (same-is w admitWord ha) admit
+    go false true c d f g h ha hb hc hd hf hg hh e = rw (same-is w evaluateWord hb) evaluate
+    go false false true d f g h ha hb hc hd hf hg hh e = rw (same-is w quoteWord hc) quote
+    go false false false true f g h ha hb hc hd hf hg hh e = rw (same-is w moveWord hd) move
+    go false false false false true g h ha hb hc hd hf hg hh e = rw (same-is w readWord hf) read
+    go false false false false false true h ha hb hc hd hf hg hh e = rw (same-is w interestWord hg) interest
+    go false false false false false false true ha hb hc hd hf hg hh e = rw (same-is w bondWord hh) bond
+    go false false false false false false false ha hb hc hd hf hg hh e = impossible cc
 
 line-back : {l : List ℕ} {ws : List (List ℕ)} (k : ℕ) (zs : List ℤ) (p : Pairs) → Split l ws → length l ≤ longest
     → called ws ≡ Call k zs p → Says l k zs p

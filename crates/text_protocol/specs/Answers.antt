@@ -7,6 +7,7 @@ use lib.IntN.{ℤ, pos, negsuc}
 use lib.ListN.{getD}
 use Rattle.paper.specs.declared.Standing.{Standing}
 use Rattle.paper.specs.declared.Rate.{Rate}
+use Rattle.paper.specs.declared.Tentative.{Tentative}
 use Rattle.paper.specs.declared.Limits.{Limits}
 use Rattle.paper.specs.declared.Near.{Near}
 use Rattle.paper.specs.declared.Near.the-variants as near
@@ -16,6 +17,8 @@ use Rattle.paper.specs.declared.Record.{Record}
 use Rattle.paper.specs.declared.Answer.{Answer}
 use Rattle.paper.specs.declared.MaturityFigures.{MaturityFigures}
 use Rattle.paper.specs.declared.InterestAnswer.{InterestAnswer}
+use Rattle.paper_bonds.specs.declared.BondLimits.{BondLimits}
+use Rattle.paper_bonds.specs.declared.BondAnswer.{BondAnswer}
 use Rattle.paper.specs.Lists.{pick}
 use Rattle.paper.specs.Ranges.{isLive, lastDay, noLimits, notNear, termAt, rateAt}
 use Rattle.paper.specs.Verdicts.{numberOf, isDone}
@@ -160,3 +163,27 @@ interestNumbers a = a .pair .lower ∷ a .pair .upper ∷ maturitiesNumbers (a .
 unfoldable pub interestText : InterestAnswer → List ℕ
 interestText a =
     answerText (numberOf (a .pair .verdict)) (pick (isDone (a .pair .verdict)) (interestNumbers a) [])
+
+-- ---- what a bond line answers
+
+-- LOWER UPPER OFFLOWER OFFUPPER
+unfoldable pub bondLimitsNumbers : BondLimits → List ℤ
+bondLimitsNumbers x =
+    pos (x .band .lower) ∷ pos (x .band .upper) ∷ pos (x .off .lower) ∷ pos (x .off .upper) ∷ []
+
+-- of the term k of a bond
+abbrev pub bondLimitsAt : List BondLimits → ℕ → List ℤ
+bondLimitsAt limits k = bondLimitsNumbers (getD limits k (record { band = noLimits; off = noLimits }))
+
+-- P TENTATIVE AGE
+unfoldable pub bondFiguresNumbers : (gross : ℕ) → Tentative → List ℤ
+bondFiguresNumbers gross tentative = pos gross ∷ pos (tentative .bp) ∷ pos (tentative .age) ∷ []
+
+-- P TENTATIVE AGE S1 S2 S3, and the limits of each term
+unfoldable pub bondNumbers : BondAnswer → List ℤ
+bondNumbers a =
+    bondFiguresNumbers (a .gross) (a .tentative) ++ ratesNumbers (a .rates)
+    ++ bondLimitsAt (a .limits) 0 ++ bondLimitsAt (a .limits) 1 ++ bondLimitsAt (a .limits) 2
+
+unfoldable pub bondText : BondAnswer → List ℕ
+bondText a = answerText (numberOf (a .verdict)) (pick (isDone (a .verdict)) (bondNumbers a) [])

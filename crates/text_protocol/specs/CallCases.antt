@@ -5,6 +5,7 @@ use mathlib.Core.List.{[], _∷_}
 use Prim.Native.String.{String}
 use lib.IntN.{pos}
 use Rattle.paper.specs.declared.Verdict.the-variants.{Done}
+use Rattle.paper.specs.declared.RepoBand.the-variants as band
 use Rattle.paper.specs.Verdicts.{isDone}
 use Rattle.paper.specs.Ranges.{unsigned}
 use Rattle.paper.specs.Terms.{workedRepo, repoOf, dayOf}
@@ -13,11 +14,11 @@ use Rattle.paper.specs.Desk.{admit, evaluate, quote, move, read}
 use Rattle.text_protocol.specs.declared.Kept.{Kept}
 use Rattle.text_protocol.specs.Bytes.{isBlank, isNot, run, grow, pieces, full, words, same}
 use Rattle.text_protocol.specs.Numbers.{isDigit, sizeFrom, sizeOf, upTo, above, numberOf, slashAt}
-use Rattle.text_protocol.specs.Names.{code, admitNames, evaluateNames, quoteNames, moveNames, readNames, interestNames, forms, kindFrom, kindOf, countFits, takesIn, takes, placeOf, the}
-use Rattle.text_protocol.specs.Line.{oneOf, twoOf, itemOf, pairFits, withPair, more, taking, onWith, finished, fill, called, meaning}
+use Rattle.text_protocol.specs.Names.{code, admitNames, evaluateNames, quoteNames, moveNames, readNames, interestNames, bondNames, forms, kindFrom, kindOf, countFits, takesIn, takes, placeOf, the}
+use Rattle.text_protocol.specs.Line.{oneOf, twoOf, itemOf, hasTerms, placeIn, pairFits, withPair, more, taking, onWith, finished, fill, called, meaning}
 use Rattle.text_protocol.specs.LineCases.{bytes, naturals}
 use Rattle.text_protocol.specs.Kept.{noPair, foundIn}
-use Rattle.text_protocol.specs.Calls.{Deed, call, interest, givenOf, admissionOf, quoteOf, interestOf, bandOf, termOf, askedOf, figuresOf, callOf, deedOf}
+use Rattle.text_protocol.specs.Calls.{Deed, call, interest, bond, givenOf, admissionOf, quoteOf, interestOf, bandOf, termOf, askedOf, bondStaticsOf, bondOf, figuresOf, callOf, deedOf}
 
 -- of the pair 6/7 the limits 60 and 70 are kept, of no other pair any
 unfoldable pub keptLimits : Kept
@@ -99,9 +100,40 @@ pub asked : (deedBy "admit 1 2 3 4 5 6 7 8 9 10 11 12 13 14 15 16 17 18 19 20 21
       money = pos 13;
       secrate = pos 14;
     }) (naturals (15 ∷ 16 ∷ [])))
+    × (deedBy "bond 1 2 3 4 5 6 7 8 9 10 11 12 6/7 15 16 17 18 19 20 21 22 23 24 25 26 27 28 29 30 31 32 33 34 35"
+    ≡ bond (record {
+      m = 1;
+      net = 2;
+      face = 3;
+      accrued = 4;
+      s = 6;
+      tentative = record { bp = 7; age = 8 };
+      statics = record {
+        h = 18;
+        q = 19;
+        wait = 20;
+        rh1 = 21;
+        rh2 = 22;
+        rh3 = 23;
+        liq = 24;
+        min1 = 25;
+        min2 = 26;
+        min3 = 27;
+        smax = 28;
+        xpr = 29;
+        pchmax = 30;
+        pclmax = 31;
+        monitoring = 32;
+        ewma = 33;
+      };
+      first = record { k = 9; band = band.Given (record { low = pos 10; high = pos 11 }) };
+      second = record { k = 12; band = band.Worked (record { verdict = Done; lower = pos 60; upper = pos 70 }) };
+      third = record { k = 15; band = band.Given (record { low = pos 16; high = pos 17 }) };
+      repo = pos 5;
+    }) (naturals (34 ∷ 35 ∷ [])))
 unfolding deedBy keptLimits bytes isDone unsigned workedRepo repoOf dayOf dayTerm isBlank isNot run grow
     pieces full words same isDigit sizeFrom sizeOf upTo above numberOf slashAt code admitNames evaluateNames quoteNames
-    moveNames readNames interestNames forms kindFrom kindOf countFits takesIn takes placeOf the oneOf twoOf itemOf
-    pairFits withPair more taking onWith finished fill called meaning foundIn givenOf admissionOf quoteOf interestOf
-    bandOf termOf askedOf figuresOf callOf deedOf
-asked = (refl, refl, refl, refl, refl, refl, refl)
+    moveNames readNames interestNames bondNames forms kindFrom kindOf countFits takesIn takes placeOf the oneOf twoOf
+    itemOf hasTerms placeIn pairFits withPair more taking onWith finished fill called meaning foundIn givenOf
+    admissionOf quoteOf interestOf bandOf termOf askedOf bondStaticsOf bondOf figuresOf callOf deedOf
+asked = (refl, refl, refl, refl, refl, refl, refl, refl)

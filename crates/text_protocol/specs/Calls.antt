@@ -1,5 +1,5 @@
 -- docs/EVENING.md, "The calls": what each call is given, by the names of its numbers; and the call of document 01 (or
--- of W-201) that a line is. Assumes nothing.
+-- of W-201, or of W-206) that a line is. Assumes nothing.
 use mathlib.Core.Bool.{Bool, true, false}
 use mathlib.Core.List.{List}
 use Prim.Native.Nat.{ℕ}
@@ -14,6 +14,8 @@ use Rattle.paper.specs.declared.RepoBand.{RepoBand}
 use Rattle.paper.specs.declared.RepoBand.the-variants as band
 use Rattle.paper.specs.declared.AskedTerm.{AskedTerm}
 use Rattle.paper.specs.declared.AskedDay.{AskedDay}
+use Rattle.paper_bonds.specs.declared.BondStatics.{BondStatics}
+use Rattle.paper_bonds.specs.declared.Bond.{Bond}
 use Rattle.paper.specs.Lists.{pick}
 use Rattle.paper.specs.Ranges.{unsigned}
 use Rattle.paper.specs.Terms.{dayOf}
@@ -21,7 +23,7 @@ use Rattle.paper.specs.Desk.{Call, admit, evaluate, quote, move, read}
 use Rattle.text_protocol.specs.declared.Kept.{Kept}
 use Rattle.text_protocol.specs.declared.Pairs.{Pairs}
 use Rattle.text_protocol.specs.Kept.{foundIn}
-use Rattle.text_protocol.specs.Names.{Name, ID, DAY, P1, P2, S, TENTATIVE, LOT, H, Q, A-UP, A-DOWN, WAIT, RH1, RH2, RH3, LIQ, MIN1, MIN2, MIN3, SMAX, XPR, SHIFT, PCHMAX, PCLMAX, W, U, MONITORING, ISEWMA, B, M, K0, RRCL0, RRCH0, K1, RRCL1, RRCH1, K2, RRCL2, RRCH2, SECOND, TERM, BID, ASK, SIDE, YM, YN, MM, SEC, XIR, MONEY, SECRATE, admitNames, evaluateNames, quoteNames, moveNames, readNames, interestNames, admitKind, evaluateKind, quoteKind, moveKind, readKind, the}
+use Rattle.text_protocol.specs.Names.{Name, ID, DAY, P1, P2, S, TENTATIVE, LOT, H, Q, A-UP, A-DOWN, WAIT, RH1, RH2, RH3, LIQ, MIN1, MIN2, MIN3, SMAX, XPR, SHIFT, PCHMAX, PCLMAX, W, U, MONITORING, ISEWMA, B, M, K0, RRCL0, RRCH0, K1, RRCL1, RRCH1, K2, RRCL2, RRCH2, SECOND, TERM, BID, ASK, SIDE, YM, YN, MM, SEC, XIR, MONEY, SECRATE, NET, FACE, ACCRUED, REPO, AGE, admitNames, evaluateNames, quoteNames, moveNames, readNames, interestNames, bondNames, admitKind, evaluateKind, quoteKind, moveKind, readKind, interestKind, the}
 use Rattle.text_protocol.specs.Line.{Said, Nothing, NoCall}
 use Rattle.text_protocol.specs.Line.{Call as saysCall}
 
@@ -99,7 +101,7 @@ interestOf zs =
       secrate = the interestNames zs SECRATE;
     }
 
--- ---- an evaluation
+-- ---- an evaluation, and the terms that a bond has too
 
 -- where a pair stands in a term, the two numbers are Ym and Yn, and the band is the newest kept answer of that pair;
 -- else they are the band
@@ -107,11 +109,11 @@ unfoldable pub bandOf : Kept → Bool → (low high : ℤ) → RepoBand
 bandOf k true low high = band.Worked (foundIn k (unsigned low) (unsigned high))
 bandOf k false low high = band.Given (record { low = low; high = high })
 
-unfoldable pub termOf : Kept → List ℤ → Bool → (days low high : Name) → AskedTerm
-termOf k zs pair days low high =
+unfoldable pub termOf : (names : List Name) → Kept → List ℤ → Bool → (days low high : Name) → AskedTerm
+termOf names k zs pair days low high =
     record {
-      k = unsignedOf evaluateNames zs days;
-      band = bandOf k pair (the evaluateNames zs low) (the evaluateNames zs high);
+      k = unsignedOf names zs days;
+      band = bandOf k pair (the names zs low) (the names zs high);
     }
 
 unfoldable pub askedOf : Kept → List ℤ → Pairs → AskedDay
@@ -120,12 +122,51 @@ askedOf k zs p =
       day = unsignedOf evaluateNames zs DAY;
       b = unsignedOf evaluateNames zs B;
       m = unsignedOf evaluateNames zs M;
-      first = termOf k zs (p .first) K0 RRCL0 RRCH0;
-      second = termOf k zs (p .second) K1 RRCL1 RRCH1;
-      third = termOf k zs (p .third) K2 RRCL2 RRCH2;
+      first = termOf evaluateNames k zs (p .first) K0 RRCL0 RRCH0;
+      second = termOf evaluateNames k zs (p .second) K1 RRCL1 RRCH1;
+      third = termOf evaluateNames k zs (p .third) K2 RRCL2 RRCH2;
     }
 
--- the figures behind the named numbers: an evaluation's rows, an evening's key maturities
+-- ---- a bond
+
+unfoldable pub bondStaticsOf : List ℤ → BondStatics
+bondStaticsOf zs =
+    record {
+      h = unsignedOf bondNames zs H;
+      q = unsignedOf bondNames zs Q;
+      wait = unsignedOf bondNames zs WAIT;
+      rh1 = unsignedOf bondNames zs RH1;
+      rh2 = unsignedOf bondNames zs RH2;
+      rh3 = unsignedOf bondNames zs RH3;
+      liq = unsignedOf bondNames zs LIQ;
+      min1 = unsignedOf bondNames zs MIN1;
+      min2 = unsignedOf bondNames zs MIN2;
+      min3 = unsignedOf bondNames zs MIN3;
+      smax = unsignedOf bondNames zs SMAX;
+      xpr = unsignedOf bondNames zs XPR;
+      pchmax = unsignedOf bondNames zs PCHMAX;
+      pclmax = unsignedOf bondNames zs PCLMAX;
+      monitoring = unsignedOf bondNames zs MONITORING;
+      ewma = unsignedOf bondNames zs ISEWMA;
+    }
+
+unfoldable pub bondOf : Kept → List ℤ → Pairs → Bond
+bondOf k zs p =
+    record {
+      m = unsignedOf bondNames zs M;
+      net = unsignedOf bondNames zs NET;
+      face = unsignedOf bondNames zs FACE;
+      accrued = unsignedOf bondNames zs ACCRUED;
+      s = unsignedOf bondNames zs S;
+      tentative = record { bp = unsignedOf bondNames zs TENTATIVE; age = unsignedOf bondNames zs AGE };
+      statics = bondStaticsOf zs;
+      first = termOf bondNames k zs (p .first) K0 RRCL0 RRCH0;
+      second = termOf bondNames k zs (p .second) K1 RRCL1 RRCH1;
+      third = termOf bondNames k zs (p .third) K2 RRCL2 RRCH2;
+      repo = the bondNames zs REPO;
+    }
+
+-- the figures behind the named numbers: an evaluation's rows, an evening's key maturities, a bond's cash flows
 unfoldable pub figuresOf : List Name → List ℤ → List ℤ
 figuresOf names zs = drop (length names) zs
 
@@ -135,7 +176,8 @@ pub data Deed : Type 0 where
   nothing : Deed
   noCall : Deed
   call : Call → Deed
-  interest : Interest → List ℤ → Deed
+  interest : Interest → (keys : List ℤ) → Deed
+  bond : Bond → (flows : List ℤ) → Deed
 
 -- the call of a kind, where k is what is kept of the interest lines
 unfoldable pub callOf : Kept → (kind : ℕ) → List ℤ → Pairs → Deed
@@ -146,7 +188,8 @@ callOf k kind zs p =
     (pick (eqb kind quoteKind) (call (quote (unsignedOf quoteNames zs ID) (quoteOf zs)))
     (pick (eqb kind moveKind) (call (move (unsignedOf moveNames zs ID) (unsignedOf moveNames zs SIDE)))
     (pick (eqb kind readKind) (call (read (unsignedOf readNames zs ID)))
-    (interest (interestOf zs) (figuresOf interestNames zs))))))
+    (pick (eqb kind interestKind) (interest (interestOf zs) (figuresOf interestNames zs))
+    (bond (bondOf k zs p) (figuresOf bondNames zs)))))))
 
 unfoldable pub deedOf : Kept → Said → Deed
 deedOf k Nothing = nothing

@@ -7,11 +7,12 @@ use Rattle.paper.specs.declared.Record.{Record}
 use Rattle.paper.specs.Lists.{pick}
 use Rattle.paper_interest.specs.Interest.{interestAnswer}
 use Rattle.paper.specs.Desk.{step}
+use Rattle.paper_bonds.specs.Bonds.{bondAnswer}
 use Rattle.text_protocol.specs.declared.Kept.{Kept}
 use Rattle.text_protocol.specs.Kept.{keptAfter}
 use Rattle.text_protocol.specs.Line.{meaning}
-use Rattle.text_protocol.specs.Calls.{Deed, nothing, noCall, call, interest, deedOf}
-use Rattle.text_protocol.specs.Answers.{badText, callText, interestText}
+use Rattle.text_protocol.specs.Calls.{Deed, nothing, noCall, call, interest, bond, deedOf}
+use Rattle.text_protocol.specs.Answers.{badText, callText, interestText, bondText}
 
 -- the number of the line that comes next, what is kept of the interest lines, and the table
 pub record Evening : Type 0 where
@@ -27,6 +28,7 @@ tableAfter nothing t = t
 tableAfter noCall t = t
 tableAfter (call c) t = step c t .table
 tableAfter (interest i keys) t = t
+tableAfter (bond b flows) t = t
 
 -- only an interest line changes what is kept
 unfoldable pub keptBy : Deed → Kept → Kept
@@ -34,6 +36,7 @@ keptBy nothing k = k
 keptBy noCall k = k
 keptBy (call c) k = k
 keptBy (interest i keys) k = keptAfter k i (interestAnswer i keys)
+keptBy (bond b flows) k = k
 
 -- the answer to the n-th line; a blank line has none
 unfoldable pub textOf : ℕ → Deed → List Record → List ℕ
@@ -41,6 +44,7 @@ textOf n nothing t = []
 textOf n noCall t = badText n
 textOf n (call c) t = callText c (step c t .answer)
 textOf n (interest i keys) t = interestText (interestAnswer i keys)
+textOf n (bond b flows) t = bondText (bondAnswer b flows)
 
 -- lines are counted from 1, blank ones too, up to the greatest number of 64 bits
 abbrev pub lastNumber : ℕ

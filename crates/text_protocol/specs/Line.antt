@@ -13,7 +13,7 @@ use Rattle.text_protocol.specs.declared.Item.the-variants as item
 use Rattle.text_protocol.specs.declared.Pairs.{Pairs}
 use Rattle.text_protocol.specs.Bytes.{words}
 use Rattle.text_protocol.specs.Numbers.{numberOf, slashAt}
-use Rattle.text_protocol.specs.Names.{evaluateKind, evaluateNames, placeOf, RRCL0, RRCL1, RRCL2, kindOf, takes}
+use Rattle.text_protocol.specs.Names.{Name, evaluateKind, bondKind, evaluateNames, bondNames, placeOf, RRCL0, RRCL1, RRCL2, kindOf, takes}
 
 unfoldable pub oneOf : Number → Item
 oneOf (number.Is z) = item.One z
@@ -41,20 +41,26 @@ pub data Said : Type 0 where
 abbrev pub noPairs : Pairs
 noPairs = record { first = false; second = false; third = false }
 
--- a pair stands in an evaluation alone, in place of a term's RRCL RRCH
+-- the calls with three terms, an evaluation and a bond
+unfoldable pub hasTerms : (kind : ℕ) → Bool
+hasTerms k = eqb k evaluateKind || eqb k bondKind
+
+-- where a term's RRCL stands in a call with terms
+unfoldable pub placeIn : (kind : ℕ) → (low : Name) → ℕ
+placeIn k low = pick (eqb k bondKind) (placeOf bondNames low) (placeOf evaluateNames low)
+
+-- a pair stands in a call with terms alone, in place of a term's RRCL RRCH
 unfoldable pub pairFits : (kind place : ℕ) → Bool
 pairFits k n =
-    eqb k evaluateKind
-    && (eqb n (placeOf evaluateNames RRCL0)
-    || (eqb n (placeOf evaluateNames RRCL1) || eqb n (placeOf evaluateNames RRCL2)))
+    hasTerms k && (eqb n (placeIn k RRCL0) || (eqb n (placeIn k RRCL1) || eqb n (placeIn k RRCL2)))
 
 -- a pair more, at a place
-unfoldable pub withPair : (place : ℕ) → Pairs → Pairs
-withPair n p =
+unfoldable pub withPair : (kind place : ℕ) → Pairs → Pairs
+withPair k n p =
     record {
-      first = p .first || eqb n (placeOf evaluateNames RRCL0);
-      second = p .second || eqb n (placeOf evaluateNames RRCL1);
-      third = p .third || eqb n (placeOf evaluateNames RRCL2);
+      first = p .first || eqb n (placeIn k RRCL0);
+      second = p .second || eqb n (placeIn k RRCL1);
+      third = p .third || eqb n (placeIn k RRCL2);
     }
 
 -- A line keeps the thirteen numbers of an evaluation and 113 figures, one more than a day may have: with so many it is
@@ -74,7 +80,8 @@ pub data Reading : Type 0 where
 -- what is read with a word more
 unfoldable pub taking : (kind : ℕ) → List ℤ → Pairs → Item → Reading
 taking k zs p (item.One z) = read (more zs z) p
-taking k zs p (item.Two m n) = pick (pairFits k (length zs)) (read (more (more zs m) n) (withPair (length zs) p)) spoilt
+taking k zs p (item.Two m n) =
+    pick (pairFits k (length zs)) (read (more (more zs m) n) (withPair k (length zs) p)) spoilt
 taking k zs p item.Neither = spoilt
 
 unfoldable pub onWith : Reading → (List ℤ → Pairs → Said) → Said

@@ -11,9 +11,9 @@ use lib.IntN.{ℤ, pos, negsuc}
 use lib.ListN.{replicate}
 use Rattle.text_protocol.specs.Bytes.{isBlank, isLineFeed, isNot, run, grow, pieces, full, ended, words, lines, same}
 use Rattle.text_protocol.specs.Numbers.{isDigit, sizeFrom, sizeOf, upTo, above, below, numberOf, slashAt}
-use Rattle.text_protocol.specs.Names.{admitKind, evaluateKind, quoteKind, moveKind, readKind, interestKind, admitNames, evaluateNames, quoteNames, moveNames, readNames, interestNames, forms, kindFrom, kindOf, countFits, takesIn, takes, placeOf}
+use Rattle.text_protocol.specs.Names.{admitKind, evaluateKind, quoteKind, moveKind, readKind, interestKind, bondKind, admitNames, evaluateNames, quoteNames, moveNames, readNames, interestNames, bondNames, forms, kindFrom, kindOf, countFits, takesIn, takes, placeOf}
 use Rattle.text_protocol.specs.Names.{code as codeOf}
-use Rattle.text_protocol.specs.Line.{Said, Nothing, NoCall, Call, oneOf, twoOf, itemOf, noPairs, keptMost, pairFits, withPair, more, taking, onWith, finished, fill, called, meaning}
+use Rattle.text_protocol.specs.Line.{Said, Nothing, NoCall, Call, oneOf, twoOf, itemOf, noPairs, keptMost, hasTerms, placeIn, pairFits, withPair, more, taking, onWith, finished, fill, called, meaning}
 
 -- the bytes of a text whose characters are one byte each
 unfoldable pub bytes : String → List ℕ
@@ -74,6 +74,16 @@ lineCases =
     "interest 0 0 1 1000 500 200/50 2 20 300 100 200 940 710 1 800 650 700 810 40 150 1 3 803 652 700 1150 40 150 1"
     NoCall
     ∷ line "interest 0 0 1 1000 500 200 50 2 20 300 100 200 940" NoCall
+    -- a bond with a pair in its first term, a number below zero in its third and one cash flow; the pair at the place
+    -- that it has in an evaluation; a number too few
+    ∷ line
+    "bond 0 9850 20000 100 700 30000 800 2 1 0/1 2 0 0 7 -730 0 100 300 5 2 5 8 50 500 700 900 4000 200 250 250 1 1 2 9"
+    (Call bondKind (pos 0 ∷ pos 9850 ∷ pos 20000 ∷ pos 100 ∷ pos 700 ∷ pos 30000 ∷ pos 800 ∷ pos 2 ∷ pos 1 ∷ pos 0
+    ∷ pos 1 ∷ pos 2 ∷ pos 0 ∷ pos 0 ∷ pos 7 ∷ negsuc 729 ∷ pos 0 ∷ pos 100 ∷ pos 300 ∷ pos 5 ∷ pos 2 ∷ pos 5 ∷ pos 8
+    ∷ pos 50 ∷ pos 500 ∷ pos 700 ∷ pos 900 ∷ pos 4000 ∷ pos 200 ∷ pos 250 ∷ pos 250 ∷ pos 1 ∷ pos 1 ∷ pos 2 ∷ pos 9
+    ∷ []) (record { first = true; second = false; third = false }))
+    ∷ line "bond 0 9850 1 0 0 0/1 0 1 0 0 2 0 0 7 0 0 100 300 5 2 5 8 50 500 700 900 4000 200 250 250 1 1" NoCall
+    ∷ line "bond 0 9850 1 0 0 0 0 2 1 0 0 2 0 0 7 0 0 100 300 5 2 5 8 50 500 700 900 4000 200 250 250 1" NoCall
     -- a line says nothing where it is empty or blanks alone
     ∷ line "" Nothing
     ∷ line " \t \r" Nothing
@@ -117,6 +127,6 @@ pub meanings : (map heard lineCases ≡ map meant lineCases)
     × (lines (bytes "move 7 0\nread 9\n") ≡ bytes "move 7 0" ∷ bytes "read 9" ∷ [])
 unfolding lineCases heard meant bytes ones isBlank isLineFeed isNot run grow pieces full ended words lines same isDigit
     sizeFrom sizeOf upTo above below numberOf slashAt admitNames evaluateNames quoteNames moveNames readNames
-    interestNames forms kindFrom kindOf countFits takesIn takes placeOf codeOf oneOf twoOf itemOf pairFits withPair more
-    taking onWith finished fill called meaning
+    interestNames bondNames forms kindFrom kindOf countFits takesIn takes placeOf codeOf oneOf twoOf itemOf hasTerms
+    placeIn pairFits withPair more taking onWith finished fill called meaning
 meanings = (refl, refl, refl, refl)

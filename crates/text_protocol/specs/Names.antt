@@ -61,6 +61,11 @@ pub data Name : Type 0 where
   XIR : Name
   MONEY : Name
   SECRATE : Name
+  NET : Name
+  FACE : Name
+  ACCRUED : Name
+  REPO : Name
+  AGE : Name
 
 -- a number for each name, by which names are told apart
 unfoldable pub code : Name → ℕ
@@ -115,11 +120,16 @@ code SEC = 47
 code XIR = 48
 code MONEY = 49
 code SECRATE = 50
+code NET = 51
+code FACE = 52
+code ACCRUED = 53
+code REPO = 54
+code AGE = 55
 
 -- ---- the calls
 
 -- the word, the names of the numbers behind it, and whether more numbers may follow: an evaluation's rows, an
--- evening's key maturities
+-- evening's key maturities, a bond's cash flows
 pub record Form : Type 0 where
   pub word : List ℕ
   pub names : List Name
@@ -146,6 +156,13 @@ readNames = ID ∷ []
 unfoldable pub interestNames : List Name
 interestNames = B ∷ YM ∷ YN ∷ A-UP ∷ A-DOWN ∷ Q ∷ H ∷ WAIT ∷ LIQ ∷ MM ∷ SEC ∷ XIR ∷ MONEY ∷ SECRATE ∷ []
 
+-- in place of each RRCL RRCH a pair YM/YN may stand, as in an evaluation
+unfoldable pub bondNames : List Name
+bondNames =
+    M ∷ NET ∷ FACE ∷ ACCRUED ∷ REPO ∷ S ∷ TENTATIVE ∷ AGE ∷ K0 ∷ RRCL0 ∷ RRCH0 ∷ K1 ∷ RRCL1 ∷ RRCH1 ∷ K2 ∷ RRCL2 ∷ RRCH2
+    ∷ H ∷ Q ∷ WAIT ∷ RH1 ∷ RH2 ∷ RH3 ∷ LIQ ∷ MIN1 ∷ MIN2 ∷ MIN3 ∷ SMAX ∷ XPR ∷ PCHMAX ∷ PCLMAX ∷ MONITORING ∷ ISEWMA
+    ∷ []
+
 -- the words, as bytes
 abbrev pub admitWord : List ℕ
 admitWord = 97 ∷ 100 ∷ 109 ∷ 105 ∷ 116 ∷ []  -- "admit"
@@ -165,6 +182,9 @@ readWord = 114 ∷ 101 ∷ 97 ∷ 100 ∷ []  -- "read"
 abbrev pub interestWord : List ℕ
 interestWord = 105 ∷ 110 ∷ 116 ∷ 101 ∷ 114 ∷ 101 ∷ 115 ∷ 116 ∷ []  -- "interest"
 
+abbrev pub bondWord : List ℕ
+bondWord = 98 ∷ 111 ∷ 110 ∷ 100 ∷ []  -- "bond"
+
 -- THE CALLS: the kind of a call is its place in this list, counted from 1
 unfoldable pub forms : List Form
 forms =
@@ -174,6 +194,7 @@ forms =
     ∷ record { word = moveWord; names = moveNames; more = false }
     ∷ record { word = readWord; names = readNames; more = false }
     ∷ record { word = interestWord; names = interestNames; more = true }
+    ∷ record { word = bondWord; names = bondNames; more = true }
     ∷ []
 
 abbrev pub admitKind : ℕ
@@ -193,6 +214,9 @@ readKind = 5
 
 abbrev pub interestKind : ℕ
 interestKind = 6
+
+abbrev pub bondKind : ℕ
+bondKind = 7
 
 -- ---- a word's call, and a name's number
 

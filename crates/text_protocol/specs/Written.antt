@@ -10,7 +10,7 @@ use lib.ListN.{length}
 use Rattle.text_protocol.specs.declared.Pairs.{Pairs}
 use Rattle.text_protocol.specs.Bytes.{isBlank, minusSign, slash, digitZero, digitNine}
 use Rattle.text_protocol.specs.Numbers.{greatest, least}
-use Rattle.text_protocol.specs.Names.{admitWord, evaluateWord, quoteWord, moveWord, readWord, interestWord, admitKind, evaluateKind, quoteKind, moveKind, readKind, interestKind, takes}
+use Rattle.text_protocol.specs.Names.{admitWord, evaluateWord, quoteWord, moveWord, readWord, interestWord, bondWord, admitKind, evaluateKind, quoteKind, moveKind, readKind, interestKind, bondKind, takes}
 use Rattle.text_protocol.specs.Line.{noPairs, pairFits, withPair, more, longest}
 
 pub data Blanks : List ℕ → Type 0 where
@@ -46,6 +46,7 @@ pub data CallWord : List ℕ → ℕ → Type 0 where
   move : CallWord moveWord moveKind
   read : CallWord readWord readKind
   interest : CallWord interestWord interestKind
+  bond : CallWord bondWord bondKind
 
 -- Behind the word of a call of kind k, where the numbers ys are read with the pairs q: each number or pair stands
 -- behind a blank or more, blanks may end the line, and then zs are read with the pairs p
@@ -56,7 +57,7 @@ pub data Numbers (k : ℕ) : List ℤ → Pairs → List ℕ → List ℤ → Pa
       → Numbers k ys q (b ∷ (t ++ (w ++ rest))) zs p
   two : {ys : List ℤ} {q : Pairs} {b : ℕ} {t v w rest : List ℕ} {m n : ℤ} {zs : List ℤ} {p : Pairs} → isBlank b ≡ true
       → Blanks t → Spells v m → Spells w n → pairFits k (length ys) ≡ true
-      → Numbers k (more (more ys m) n) (withPair (length ys) q) rest zs p
+      → Numbers k (more (more ys m) n) (withPair k (length ys) q) rest zs p
       → Numbers k ys q (b ∷ (t ++ ((v ++ slash ∷ w) ++ rest))) zs p
 
 -- A LINE THAT IS A CALL of kind k with the numbers zs, and with pairs in the terms p

@@ -28,10 +28,12 @@ impl Kind {
 
     pub const INTEREST: u64 = 6;
 
-    // No call: a line with no word, and one that says no call.
-    pub const BLANK: u64 = 7;
+    pub const BOND: u64 = 7;
 
-    pub const BAD: u64 = 8;
+    // No call: a line with no word, and one that says no call.
+    pub const BLANK: u64 = 8;
+
+    pub const BAD: u64 = 9;
 }
 
 // What digits spell: a size, or no number.
@@ -67,7 +69,7 @@ pub struct Kept {
     pub oldest: Pair,
 }
 
-// Which of a day's three terms have a pair of terms Ym/Yn in place of their band.
+// Which of the three terms of an evaluation or of a bond have a pair of terms Ym/Yn in place of their band.
 pub struct Pairs {
     pub first: bool,
     pub second: bool,

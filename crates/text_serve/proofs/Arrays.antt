@@ -19,7 +19,6 @@ use denote.Builtin.{u8, i64}
 use denote.Ref.{RefT, MutRef}
 use denote.Steps.{only}
 use denote.Struct.Laws as LL
-use Rattle.paper.proofs.InterestAnswer.Laws as A′
 use Rattle.text_protocol.proofs.Kept.Laws as K′
 use Rattle.text_call.proofs.Request.Laws as R′
 use Rattle.text_input.proofs.Input.Laws as I′
@@ -27,6 +26,7 @@ use Rattle.text_turn.specs.declared.State.{State}
 use Rattle.text_turn.specs.declared.Prepared.{Prepared}
 use Rattle.text_turn.proofs.State as G
 use Rattle.text_turn.proofs.State.Laws as G′
+use Rattle.text_deed.proofs.Beside.Laws as B′
 use Rattle.text_turn.proofs.Prepared as P
 use Rattle.text_turn.proofs.Prepared.Laws as P′
 
@@ -62,7 +62,7 @@ state-ty = tyStruct (G.struct .name) (tcons I′.mir (tcons (tyInt w64) (tcons K
 abbrev pub heard-ty : Ty
 heard-ty = tyStruct (P.struct .name) (tcons I′.mir (tcons (tyInt w64) (tcons K′.mir (tcons (tyInt w64) (tcons tyBool
     (tcons (tyInt w64) (tcons (tyInt w64)
-    (tcons R′.mir (tcons A′.mir tnil)))))))))
+    (tcons R′.mir (tcons B′.mir tnil)))))))))
 
 abbrev pub state-val : State → Val
 state-val = LL.val G.the-type G′.the-laws

@@ -13,7 +13,7 @@ use Rattle.desk.specs.Promises.{Promised}
 use Rattle.desk.proofs.Steps.{read-leaves}
 use Rattle.text_protocol.specs.Bytes.{lineFeed}
 use Rattle.text_protocol.specs.Line.{meaning}
-use Rattle.text_protocol.specs.Calls.{Deed, nothing, noCall, call, interest, deedOf}
+use Rattle.text_protocol.specs.Calls.{Deed, nothing, noCall, call, interest, bond, deedOf}
 use Rattle.text_protocol.specs.Evening.{Evening, tableAfter, numberAfter, after, answer}
 use Rattle.text_out.specs.Wrote.{Wrote}
 use Rattle.text_call.specs.Requests.{requestCall}
@@ -21,7 +21,8 @@ use Rattle.text_input.specs.declared.Input.{Input}
 use Rattle.text_input.specs.Input.{unread, Stands, Next}
 use Rattle.text_turn.specs.declared.State.{State}
 use Rattle.text_turn.specs.declared.Prepared.{Prepared}
-use Rattle.text_turn.specs.Turn.{callIn, lineText, Prepares, Tells}
+use Rattle.text_deed.specs.Deeds.{callIn, lineText}
+use Rattle.text_turn.specs.Turn.{Prepares, Tells}
 use Rattle.text_serve.specs.Serve.{eveningOf, Turns}
 
 -- ---- the table: a line that is no call of the desk is a read, which leaves it
@@ -32,6 +33,7 @@ table-of nothing t = sym (read-leaves t 0)
 table-of noCall t = sym (read-leaves t 0)
 table-of (call c) t = refl
 table-of (interest i keys) t = sym (read-leaves t 0)
+table-of (bond b flows) t = sym (read-leaves t 0)
 
 -- ---- the turn
 
@@ -57,9 +59,9 @@ module _ {b : List ℕ} {s : State} {b' : List ℕ} {p : Prepared} {xs rows : Li
       let table : t' ≡ tableAfter deed t = performed .table ∙ sym (table-of deed t) in
       λ i. record { number = number i; kept = kept i; table = table i }
 
-  text-is : lineText (p .kind) (p .number) (p .interest) a ≡ answer (heard .line) (eveningOf s t)
+  text-is : lineText (p .kind) (p .number) (p .beside) a ≡ answer (heard .line) (eveningOf s t)
   unfolding answer
-  text-is = ap (λ (n : ℕ). lineText (p .kind) n (p .interest) a) (heard .number) ∙ heard .says a t (performed .answer)
+  text-is = ap (λ (n : ℕ). lineText (p .kind) n (p .beside) a) (heard .number) ∙ heard .says a t (performed .answer)
 
   wrote : Wrote o (s .waiting) o' (told .end) (answer (heard .line) (eveningOf s t)) 1200
   wrote =

@@ -2,55 +2,24 @@
 use mathlib.Core.Path.{_≡_}
 use mathlib.Core.Logic.{_⊎_}
 use mathlib.Core.Bool.{true, false}
-use mathlib.Core.List.{List, []}
+use mathlib.Core.List.{List}
 use Prim.Native.Nat.{ℕ, _+_, _≤_}
-use lib.Dec.{eqb}
 use lib.IntN.{ℤ}
-use lib.ListN.{length, take, drop}
+use lib.ListN.{take, drop}
 use Rattle.paper.specs.declared.Record.{Record}
 use Rattle.paper.specs.declared.Answer.{Answer}
-use Rattle.paper.specs.declared.InterestAnswer.{InterestAnswer}
-use Rattle.paper.specs.Lists.{pick}
-use Rattle.paper.specs.Desk.{Call, read, step}
-use Rattle.paper_interest.specs.Interest.{interestAnswer}
-use Rattle.text_protocol.specs.declared.Kept.{Kept}
-use Rattle.text_protocol.specs.declared.Pairs.{Pairs}
-use Rattle.text_protocol.specs.Kept.{keptAfter, noneKept}
-use Rattle.text_protocol.specs.Names.{interestKind, interestNames}
+use Rattle.paper.specs.Desk.{step}
+use Rattle.text_protocol.specs.Kept.{noneKept}
 use Rattle.text_protocol.specs.Line.{meaning}
-use Rattle.text_protocol.specs.Calls.{Deed, nothing, noCall, call, interest, deedOf, interestOf, figuresOf}
-use Rattle.text_protocol.specs.Answers.{badText, interestText}
+use Rattle.text_protocol.specs.Calls.{deedOf}
 use Rattle.text_protocol.specs.Evening.{keptBy, textOf, numberAfter}
 use Rattle.text_out.specs.Wrote.{Wrote}
-use Rattle.text_answer.specs.Kinds.{textOfKind}
-use Rattle.text_line.specs.Heard.{blankKind, badKind}
-use Rattle.text_call.specs.Requests.{requestCall, lineCall}
+use Rattle.text_call.specs.Requests.{requestCall}
 use Rattle.text_input.specs.declared.Input.{Input}
 use Rattle.text_input.specs.Input.{Stands, Next}
+use Rattle.text_deed.specs.Deeds.{callIn, lineText}
 use Rattle.text_turn.specs.declared.State.{State}
 use Rattle.text_turn.specs.declared.Prepared.{Prepared}
-use Rattle.text_turn.specs.declared.Wanted.{Wanted}
-
--- the call of the desk that a line asks for: a read of id 0, which changes nothing, where it asks for none
-unfoldable pub callIn : Deed → Call
-callIn nothing = read 0
-callIn noCall = read 0
-callIn (call c) = c
-callIn (interest i keys) = read 0
-
--- the text of an answer, as the code has it: by the line's kind
-unfoldable pub lineText : (kind number : ℕ) → InterestAnswer → Answer → List ℕ
-lineText k n i a =
-    pick (eqb k blankKind) [] (pick (eqb k badKind) (badText n) (pick (eqb k interestKind) (interestText i) (textOfKind
-    k a)))
-
--- what the code makes of a line of a kind, of the numbers zs and the pairs p
-pub record Wants (k : Kept) (kind : ℕ) (zs : List ℤ) (p : Pairs) (r : Wanted) : Type 0 where
-  pub asks : requestCall (r .request) (drop 13 zs) ≡ lineCall k kind zs p
-  pub works : kind ≡ interestKind → r .interest ≡ interestAnswer (interestOf zs) (figuresOf interestNames zs)
-  pub keeps : kind ≡ interestKind → r .kept ≡ keptAfter k (interestOf zs) (interestAnswer (interestOf zs) (figuresOf
-      interestNames zs))
-  pub stays : (kind ≡ interestKind → ⊥) → r .kept ≡ k
 
 -- BEFORE THE TABLE IS ASKED: the next line is heard, and what it asks for is known
 pub record Prepares (b : List ℕ) (s : State) (b' : List ℕ) (r : Prepared) (xs : List ℤ) : Type 0 where
@@ -59,7 +28,7 @@ pub record Prepares (b : List ℕ) (s : State) (b' : List ℕ) (r : Prepared) (x
   pub asks : requestCall (r .request) (drop 13 (take (r .count) xs)) ≡ callIn (deedOf (s .kept) (meaning line))
   pub kept : r .kept ≡ keptBy (deedOf (s .kept) (meaning line)) (s .kept)
   pub says : (a : Answer) (t : List Record) → a ≡ step (callIn (deedOf (s .kept) (meaning line))) t .answer
-      → lineText (r .kind) (s .number) (r .interest) a ≡ textOf (s .number) (deedOf (s .kept) (meaning line)) t
+      → lineText (r .kind) (s .number) (r .beside) a ≡ textOf (s .number) (deedOf (s .kept) (meaning line)) t
   pub number : r .number ≡ s .number
   pub waiting : r .waiting ≡ s .waiting
 
@@ -72,7 +41,7 @@ halted i = record { at = i .at; end = i .end; len = i .len; left = 0; ok = false
 -- hear. The input goes on as it was, unless a write failed: `ok` says so
 pub record Tells (b : List ℕ) (p : Prepared) (a : Answer) (b' : List ℕ) (r : State) : Type 0 where
   pub end : ℕ
-  pub wrote : Wrote b (p .waiting) b' end (lineText (p .kind) (p .number) (p .interest) a) 1200
+  pub wrote : Wrote b (p .waiting) b' end (lineText (p .kind) (p .number) (p .beside) a) 1200
   pub waits : (r .waiting ≡ end) ⊎ (r .waiting ≡ 0)
   pub room : r .waiting + 1200 ≤ 65536
   pub prompt : r .input .len ≤ r .input .end → r .waiting ≡ 0

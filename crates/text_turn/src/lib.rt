@@ -4,32 +4,23 @@ ghost use mathlib.Core.Path.{_≡_};
 ghost use mathlib.Core.Bool.{false};
 ghost use Prim.Native.Nat.{_+_, _≤_, _<_};
 ghost use lib.ListN.{length, take, drop};
-ghost use Rattle.text_out.specs.Wrote.{Wrote};
 ghost use Rattle.text_input.specs.Input.{Stands};
 ghost use Rattle.text_protocol.specs.Evening.{numberAfter};
 ghost use Rattle.paper.specs.Lists.{pick};
-ghost use Rattle.text_turn.specs.Turn.{lineText, Wants, Prepares, halted, Tells, startState};
+ghost use Rattle.text_turn.specs.Turn.{Prepares, halted, Tells, startState};
 ghost use Rattle.text_protocol.specs.Bytes.{room};
 ghost use Rattle.text_protocol.specs.Answers.{answerMost};
 ghost use Rattle.text_protocol.specs.Line.{keptMost};
 use libc::STDOUT_FILENO;
 use paper::Answer;
-use paper::InterestAnswer;
-use paper::Verdict;
-use text_answer::say_answer;
-use text_answer::say_bad;
-use text_answer::say_interest;
 use text_call::Request;
-use text_call::figures;
-use text_call::interest_of;
 use text_call::least;
-use text_call::request_of;
+use text_deed::Beside;
+use text_deed::say;
+use text_deed::wanted_by;
 use text_input::Input;
 use text_input::hear;
-use text_kept::kept_after;
-use text_line::Line;
 use text_protocol::Kept;
-use text_protocol::Kind;
 use text_protocol::ROOM;
 
 // What goes on from line to line: what is left of the input, the number of the next line, what is kept of the interest
@@ -43,8 +34,8 @@ pub struct State {
     pub ok: bool,
 }
 
-// A line that was heard: its kind and how many numbers it has, what it asks of the desk, and what the interest side
-// answers to it.
+// A line that was heard: its kind and how many numbers it has, what it asks of the desk, and what is answered to it
+// beside the table.
 pub struct Prepared {
     pub input: Input,
     pub number: u64,
@@ -54,39 +45,10 @@ pub struct Prepared {
     pub kind: u64,
     pub count: usize,
     pub request: Request,
-    pub interest: InterestAnswer,
+    pub beside: Beside,
 }
 
 // ---- before the table is asked
-
-// What a line asks of the desk, what the interest side answers to it, and what is kept of the interest lines then.
-pub struct Wanted {
-    pub request: Request,
-    pub interest: InterestAnswer,
-    pub kept: Kept,
-}
-
-fn wanted_by(zs: &[i64], l: Line, k: Kept) -> Wanted
-    ensures { λ r. ⌜ Wants k (l .kind) (now (zs .entry)) (l .pairs) r ⌝ }
-{
-    let kind = l.kind;
-    let pairs = l.pairs;
-    let request = request_of(zs, kind, pairs, k);
-    if kind == Kind::INTEREST {
-        let given = interest_of(zs);
-        let i = interest::answer(given, figures(zs, 14));
-        return Wanted {
-            request,
-            interest: i,
-            kept: kept_after(k, given, i),
-        };
-    }
-    Wanted {
-        request,
-        interest: interest::refused(Verdict::OutOfRange),
-        kept: k,
-    }
-}
 
 // Hears the next line.
 pub fn prepare(buf: &mut [u8], xs: &mut [i64], s: State) -> Prepared
@@ -103,7 +65,7 @@ pub fn prepare(buf: &mut [u8], xs: &mut [i64], s: State) -> Prepared
     let input = h.input;
     let kept = w.kept;
     let request = w.request;
-    let interest = w.interest;
+    let beside = w.beside;
     Prepared {
         input,
         number: s.number,
@@ -113,7 +75,7 @@ pub fn prepare(buf: &mut [u8], xs: &mut [i64], s: State) -> Prepared
         kind: line.kind,
         count,
         request,
-        interest,
+        beside,
     }
 }
 
@@ -147,30 +109,6 @@ pub fn start() -> State
 }
 
 // ---- after the table is asked
-
-// Appends the answer to a line of a kind.
-fn say(
-    out: &mut [u8; ROOM],
-    len: usize,
-    kind: u64,
-    number: u64,
-    i: InterestAnswer,
-    a: Answer,
-) -> usize
-    requires { ⌜ len + answerMost ≤ room ⌝ }
-    ensures { λ r. ⌜ Wrote (now (out .entry)) len (now (out .exit)) r (lineText kind number i a) answerMost ⌝ }
-{
-    if kind == Kind::BLANK {
-        return len;
-    }
-    if kind == Kind::BAD {
-        return say_bad(out, len, number);
-    }
-    if kind == Kind::INTEREST {
-        return say_interest(out, len, i);
-    }
-    say_answer(out, len, kind, a)
-}
 
 // Hands the first n bytes of the answers to `write`, and says how many of them it took, by C's answers: all of them,
 // unless a write took nothing or failed. A short write is tried again.
@@ -237,8 +175,8 @@ pub fn tell(out: &mut [u8; ROOM], p: Prepared, a: Answer) -> State
 {
     let i = p.input;
     let kept = p.kept;
-    let interest = p.interest;
-    let n = say(out, p.waiting, p.kind, p.number, interest, a);
+    let beside = p.beside;
+    let n = say(out, p.waiting, p.kind, p.number, beside, a);
     let number = number_after(p.number);
     if is_due(i, n) {
         let ok = flush(out, n) == n;

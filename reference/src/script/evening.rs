@@ -1,6 +1,7 @@
 //! Random evenings. The author keeps a desk of its own while it writes, so
 //! that most calls are about admitted securities and meet their edges.
 
+mod bonds;
 mod sheets;
 
 use crate::desk::{fresh_table, SLOTS_MAX};
@@ -24,6 +25,8 @@ const FOCUS_DRAWS: usize = 900;
 const FILLING_LINES: usize = 2_000;
 /// In how many of a hundred turns the interest side has its turn.
 const INTEREST_PERCENT: usize = 31;
+/// In how many of a hundred of the other turns bonds have theirs.
+const BOND_PERCENT: usize = 16;
 /// A shorter script has no long spells of one security.
 const SPELL_LINES: usize = 10_000;
 /// Days of a quiet spell: the longest wait and a little more.
@@ -92,6 +95,8 @@ struct Author {
     pairs: Vec<Pair>,
     /// How many ends of the interest side's ranges have had their turn.
     ends: usize,
+    /// How many edges of a bond have had their turn.
+    aims: usize,
     text: Vec<u8>,
     heard: Vec<Word>,
     lines: usize,
@@ -109,6 +114,7 @@ impl Author {
             sheets: Vec::new(),
             pairs: Vec::new(),
             ends: 0,
+            aims: 0,
             text: Vec::new(),
             heard: Vec::new(),
             lines,
@@ -177,6 +183,8 @@ impl Author {
     fn turn(&mut self) {
         if self.random.chance(INTEREST_PERCENT) {
             self.interest_turn();
+        } else if self.random.chance(BOND_PERCENT) {
+            self.bond_turn();
         } else {
             self.desk_turn();
         }
@@ -580,6 +588,8 @@ impl Author {
     fn any_call(&mut self) -> (&'static str, Vec<i64>) {
         if self.random.chance(INTEREST_PERCENT) {
             ("interest", self.sheet().numbers())
+        } else if self.random.chance(BOND_PERCENT) {
+            ("bond", super::bond::bond(&mut self.random).numbers())
         } else {
             self.any_desk_call()
         }

@@ -1,5 +1,6 @@
 //! Seeded random scripts that crowd both sides of every edge.
 
+mod bond;
 mod crossed;
 mod day;
 mod edges;

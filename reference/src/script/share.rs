@@ -288,7 +288,7 @@ pub fn tentative(random: &mut Random, statics: &Statics) -> i64 {
 }
 
 /// A volatility: any, at an end, or where t is just at tentative ± h.
-fn volatility(random: &mut Random, statics: &Statics, tentative: i64) -> i64 {
+pub fn volatility(random: &mut Random, statics: &Statics, tentative: i64) -> i64 {
     let t = tentative + statics.step * random.between(-2, 2);
     let s = match random.below(10) {
         0 => *VOLATILITY.end() - random.between(0, 1),

@@ -56,7 +56,7 @@ const NO_PAIRS: [&[u8]; 20] = [
     b"0/1\0",
 ];
 
-const NO_VERBS: [&[u8]; 17] = [
+const NO_VERBS: [&[u8]; 20] = [
     b"Admit",
     b"READ",
     b"rea",
@@ -74,6 +74,9 @@ const NO_VERBS: [&[u8]; 17] = [
     b"Interest",
     b"interests",
     b"interes",
+    b"Bond",
+    b"bonds",
+    b"bon",
 ];
 
 const BLANK_LINES: [&[u8]; 5] = [b"", b" ", b"\t", b"\r", b"  \t \r"];

@@ -23,7 +23,9 @@ rated-requires c κs =
     record {
       statics = s .pre .statics;
       ahead = s .pre .ahead;
-      t-high = rw (c .tentative-rate .ensures) (omega (arith, t-held (s .args .st) (s .args .s), s .pre .statics .most-high));
+      t-high =
+          rw (c .tentative-rate .ensures)
+          (omega (arith, t-held (s .args .st) (s .args .s), s .pre .statics .most-high));
       tentative = s .pre .tentative;
       age = s .pre .age;
     }

@@ -9,7 +9,7 @@ use Rattle.text_turn.proofs.prepare.Tie as tie
 use Rattle.text_turn.proofs.prepare.Reads as reads
 use Rattle.text_turn.proofs.prepare.Lts as lts
 use Rattle.text_input.proofs.hear.Reads as hear-reads
-use Rattle.text_turn.proofs.wanted_by.Reads as wanted-by-reads
+use Rattle.text_deed.proofs.wanted_by.Reads as wanted-by-reads
 
 hear-requires : tie.Need-hear-requires
 hear-requires c κs = search needs

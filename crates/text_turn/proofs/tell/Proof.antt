@@ -12,7 +12,7 @@ use Rattle.text_turn.proofs.tell.Lts as lts
 use Rattle.text_turn.proofs.flush.Reads as flush-reads
 use Rattle.text_turn.proofs.is_due.Reads as is-due-reads
 use Rattle.text_turn.proofs.number_after.Reads as number-after-reads
-use Rattle.text_turn.proofs.say.Reads as say-reads
+use Rattle.text_deed.proofs.say.Reads as say-reads
 use Rattle.text_turn.proofs.stopped.Reads as stopped-reads
 
 say-requires : tie.Need-say-requires

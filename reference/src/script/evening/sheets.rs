@@ -48,8 +48,16 @@ impl Author {
     fn paired(&mut self, numbers: &[i64]) -> Vec<Word> {
         let (head, rest) = numbers.split_at(4);
         let (terms, rows) = rest.split_at(edges::DAY.len() - 4);
-        let sure = self.random.below(3);
         let mut words: Vec<Word> = head.iter().copied().map(Word::from).collect();
+        words.extend(self.paired_terms(terms));
+        words.extend(rows.iter().copied().map(Word::from));
+        words
+    }
+
+    /// The words of three terms with a worked pair for at least one of them.
+    pub(super) fn paired_terms(&mut self, terms: &[i64]) -> Vec<Word> {
+        let sure = self.random.below(3);
+        let mut words = Vec::new();
         for (index, term) in terms.chunks_exact(3).enumerate() {
             words.push(term[0].into());
             if index == sure || self.random.chance(25) {
@@ -58,7 +66,6 @@ impl Author {
                 words.extend(term[1..].iter().copied().map(Word::from));
             }
         }
-        words.extend(rows.iter().copied().map(Word::from));
         words
     }
 

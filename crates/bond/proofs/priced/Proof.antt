@@ -1,0 +1,88 @@
+-- `bond::priced` meets its contract: 9, else the figures. Assumes nothing.
+use mathlib.Core.Path.{_≡_, sym, ap, _∙_}
+use borrow.Author.Needs.{needs}
+use Rattle.paper.specs.declared.Figures.{Figures}
+use Rattle.paper.specs.Lists.{some}
+use Rattle.paper.specs.Ranges.{rateAt}
+use Rattle.paper_bonds.specs.Bonds.{bondStatics, flowsOf, bondFigures, allLimits, isCrossed, acceptedBond}
+use Rattle.bond.proofs.Facts.{volatility-ranges}
+use Rattle.bond.proofs.Answers.{answer-crossed, answer-figures}
+use Rattle.bond.proofs.priced.Statement.{statement}
+use Rattle.bond.proofs.priced.Tie as tie
+
+given-of-requires : tie.Need-given-of-requires
+given-of-requires c κs = search needs
+
+statics-of-requires : tie.Need-statics-of-requires
+statics-of-requires c κs = search needs
+
+statics : (c : tie.After-statics-of) → c .statics-of .result ≡ bondStatics (c .before .before .before .args .b)
+statics c = rw (c .before .given-of .ensures) at (c .statics-of .ensures)
+
+figures-by-volatility-requires : tie.Need-figures-by-volatility-requires
+figures-by-volatility-requires c κs =
+    let s = c .before .before .before .before in
+    rw (statics (c .before)) (volatility-ranges (s .args .b) (s .pre .0 .valid))
+
+figured : (c : tie.After-figures-by-volatility)
+    → c .figures-by-volatility .result ≡ bondFigures (c .before .before .before .before .before .args .b)
+unfolding bondFigures
+figured c = rw (statics (c .before .before)) at (c .figures-by-volatility .ensures)
+
+array-copy-out-all-limits : tie.Need-array-copy-out-all-limits
+array-copy-out-all-limits c = search needs
+
+all-limits-requires : tie.Need-all-limits-requires
+all-limits-requires c κs =
+    let f = c .before .before .before in
+    let s = f .before .before .before .before .before in (
+      s .pre .0,
+      record {
+        statics = statics (f .before .before);
+        price = s .pre .1;
+        rate = ap (λ (x : Figures). rateAt (x .rates) 0) (figured f);
+      },
+    )
+
+some-crossed-requires : tie.Need-some-crossed-requires
+some-crossed-requires c κs = search needs
+
+refused-requires : tie.Need-refused-requires
+refused-requires c κs = search needs
+
+-- whether a term is crossed is what the paper asks
+tested : (c : tie.After-some-crossed)
+    → c .some-crossed .result
+    ≡ some isCrossed
+    (allLimits (c .before .before .before .before .before .before .before .before .before .before .args .b)
+    (flowsOf (c .before .before .before .before .before .before .before .before .before .before .args .flows .now)))
+tested c = rw (c .before .all-limits .ensures) at (c .some-crossed .ensures)
+
+returns : tie.Need-returns
+returns c =
+    let t = c .before .before in
+    let s = t .before .before .before .before .before .before .before .before .before .before in
+    c .refused .ensures ∙ answer-crossed _ _ (s .pre .0) (sym (tested t) ∙ c .before .if1 .taken)
+
+returns-2 : tie.Need-returns-2
+unfolding acceptedBond
+returns-2 c =
+    let t = c .before in
+    let f = t .before .before .before .before .before in
+    let s = f .before .before .before .before .before in
+    rw (s .pre .1, figured f, t .before .all-limits .ensures)
+    (answer-figures _ _ (s .pre .0) (sym (tested t) ∙ c .if1 .left))
+
+pub priced-spec : {M : Type 1} → statement M
+priced-spec =
+    tie.close
+    (tie.spec
+    given-of-requires
+    statics-of-requires
+    figures-by-volatility-requires
+    array-copy-out-all-limits
+    all-limits-requires
+    some-crossed-requires
+    refused-requires
+    returns
+    returns-2)

@@ -1,0 +1,70 @@
+-- `bond::term_limits` meets its contract: Carry at the term, and the limits that it makes. Assumes nothing.
+use mathlib.Core.Path.{_≡_}
+use mir.Syntax.{w64}
+use mir.Val.{toZ, ofZ}
+use Rattle.inputs.proofs.Facts.{price-facts}
+use Rattle.limits.specs.LimitRanges.{term-days}
+use Rattle.paper_bonds.specs.Bonds.{flowsOf, carryOf, limitsOf}
+use Rattle.paper_bonds.proofs.BondFigures.{bond-statics-valid}
+use Rattle.bond_flows.specs.FlowLaws.{CarryInputs, carry-most}
+use Rattle.bond_limits.proofs.Sizes.{rate-bits}
+use Rattle.bond.proofs.Facts.{BondFacts, bond-facts, first-rate-high}
+use Rattle.bond.proofs.term_limits.Statement.{statement}
+use Rattle.bond.proofs.term_limits.Tie as tie
+
+facts : (s : tie.Start) → BondFacts (s .args .b)
+facts s = bond-facts (s .args .b) (s .pre .0 .valid)
+
+-- REPORate is its own bits read back
+bits : (s : tie.Start) → toZ w64 (ofZ w64 (s .args .b .repo)) ≡ s .args .b .repo
+bits s = rate-bits (s .args .b .repo) (facts s .repo)
+
+inputs : (s : tie.Start) → CarryInputs (s .args .x .k) (s .args .b .repo)
+inputs s = record { days = term-days (s .args .x) (s .pre .1 .1); rate = facts s .repo }
+
+carry-of-requires : tie.Need-carry-of-requires
+carry-of-requires c κs = let s = c .before in (rw (bits s) (inputs s), s .pre .0 .flows)
+
+carried : (c : tie.After-carry-of)
+    → c .carry-of .result
+    ≡ carryOf (c .before .before .args .b .repo) (c .before .before .args .x .k)
+    (flowsOf (c .before .before .args .flows .now))
+carried c = rw (bits (c .before .before)) at (c .carry-of .ensures)
+
+limits-of-requires : tie.Need-limits-of-requires
+limits-of-requires c κs =
+    let s = c .before .before .before in
+    let b = s .args .b in
+    let figured = s .pre .1 .0 in (
+      record {
+        carry = rw (carried (c .before)) (carry-most _ _ _ (inputs s) (s .pre .0 .flows));
+        accrued = facts s .accrued;
+        face = s .pre .0 .face;
+        repo = rw (bits s) (facts s .repo);
+      },
+      (
+        rw (figured .statics) (bond-statics-valid b (s .pre .0 .valid)),
+        record {
+          price = rw (figured .price) (price-facts _ (s .pre .0 .price) .most);
+          rate-high = rw (figured .rate) (first-rate-high b (s .pre .0 .valid));
+          term = s .pre .1 .1;
+        },
+      ),
+    )
+
+returns : tie.Need-returns
+unfolding limitsOf
+returns c =
+    let s = c .before .before .before .before in
+    let figured = s .pre .1 .0 in
+    rw (
+      c .limits-of .ensures,
+      bits s,
+      carried (c .before .before),
+      figured .statics,
+      figured .price,
+      figured .rate,
+    )
+
+pub term-limits-spec : {M : Type 1} → statement M
+term-limits-spec = tie.close (tie.spec carry-of-requires limits-of-requires returns)

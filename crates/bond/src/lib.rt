@@ -1,0 +1,214 @@
+// Document 02, W-206: the public call for a bond, by value. Nothing is stored. The rules are those of `rates`,
+// `bond_flows` and `bond_limits`; this crate judges what is given, asks them, and puts the answer together.
+ghost use mathlib.Core.Path.{_≡_};
+ghost use mathlib.Core.Bool.{true};
+ghost use Prim.Native.Nat.{_<_};
+ghost use lib.ListN.{getD};
+ghost use Rattle.paper.specs.Lists.{three, some};
+ghost use Rattle.paper.specs.Ranges.{validTerm};
+ghost use Rattle.paper_bonds.specs.Bonds.{givenOf, bondStatics, termsOf, validNumbers, validBond, flowsOf, grossOf, limitsOf, allLimits, isCrossed, refusedBond, bondAnswer};
+ghost use Rattle.bond.specs.Priced.{Priced, Figured, noBondLimits};
+use interest_terms::term_of;
+use paper::BondScale;
+use paper::Day;
+use paper::GivenStatics;
+use paper::Limits;
+use paper::MadePrice;
+use paper::ONE_IN_PER_CENT_HUNDREDTHS;
+use paper::Price;
+use paper::Rate;
+use paper::Record;
+use paper::Statics;
+use paper::Tentative;
+use paper::Term;
+use paper::Verdict;
+use paper_bonds::Bond;
+use paper_bonds::BondAnswer;
+use paper_bonds::BondLimits;
+use paper_bonds::BondStatics;
+
+// ---- what is given
+
+// A bond's statics among the shares': no rule of a bond reads the lot, the weights, shift, w or u.
+fn given_of(g: BondStatics) -> GivenStatics
+    ensures { λ r. ⌜ r ≡ givenOf g ⌝ }
+{
+    GivenStatics {
+        lot: 1,
+        h: g.h,
+        q: g.q,
+        aup: 0,
+        adown: 0,
+        wait: g.wait,
+        rh1: g.rh1,
+        rh2: g.rh2,
+        rh3: g.rh3,
+        liq: g.liq,
+        min1: g.min1,
+        min2: g.min2,
+        min3: g.min3,
+        smax: g.smax,
+        xpr: g.xpr,
+        shift: 1,
+        pchmax: g.pchmax,
+        pclmax: g.pclmax,
+        w: 0,
+        u: 1,
+        monitoring: g.monitoring,
+        ewma: g.ewma,
+    }
+}
+
+// The three terms: a repo band that was worked out counts as one that is given.
+fn terms_of(b: Bond) -> [Term; Record::TERMS]
+    ensures { λ r. ⌜ r ≡ termsOf b ⌝ }
+{
+    let first = b.first;
+    let second = b.second;
+    let third = b.third;
+    [term_of(first), term_of(second), term_of(third)]
+}
+
+// What is given beside the statics, the terms and REPORate. The tentative rate is judged only behind valid statics,
+// whose step is not 0.
+fn valid_numbers(b: Bond, st: Statics) -> bool
+    requires { ⌜ (st ≡ bondStatics b) × (0 < st .h) ⌝ }
+    ensures { λ r. ⌜ r ≡ validNumbers b ⌝ }
+{
+    (b.m <= Day::AHEAD_MOST)
+        & ((1 <= b.net) & (b.net <= Bond::NET_MOST))
+        & (b.face <= Bond::MONEY_MOST)
+        & (b.accrued <= Bond::MONEY_MOST)
+        & (b.s <= Record::VOLATILITY_MOST)
+        & inputs::valid_tentative(st, b.tentative.bp)
+        & (b.tentative.age <= Record::AGE_MOST)
+}
+
+fn bond_valid(b: Bond) -> bool
+    ensures { λ r. ⌜ r ≡ validBond b ⌝ }
+{
+    let statics = b.statics;
+    let given = given_of(statics);
+    if inputs::valid_given(given) {
+        return valid_numbers(b, inputs::statics_of(given))
+            & inputs::valid_terms(terms_of(b))
+            & exact::is_within(Term::REPO_LEAST, Term::REPO_MOST, b.repo);
+    }
+    false
+}
+
+// ---- the figures
+
+// "P_sttlmnt/100·Facevalue + НКД", half up to a unit.
+fn gross_of(b: Bond) -> u64
+    requires { ⌜ validBond b ≡ true ⌝ }
+    ensures { λ r. ⌜ r ≡ grossOf b ⌝ }
+{
+    exact::half_up(b.net * b.face, ONE_IN_PER_CENT_HUNDREDTHS) + b.accrued
+}
+
+// The limits of a term, with the Carry of the cash flows up to it.
+fn term_limits(b: Bond, st: Statics, p: Price, s1: Rate, x: Term, flows: &[i64]) -> BondLimits
+    requires { ⌜ Priced b (now flows) ⌝ }
+    requires { ⌜ Figured b st p s1 ⌝ }
+    requires { ⌜ validTerm x ≡ true ⌝ }
+    ensures { λ r. ⌜ r ≡ limitsOf b (flowsOf (now (flows .entry))) x ⌝ }
+{
+    let carry = bond_flows::carry_of(flows, x.k, b.repo);
+    let scale = BondScale {
+        carry,
+        accrued: b.accrued,
+        face: b.face,
+        repo: b.repo,
+    };
+    bond_limits::limits_of(scale, st, p, s1, x)
+}
+
+fn all_limits(
+    b: Bond,
+    st: Statics,
+    p: Price,
+    s1: Rate,
+    flows: &[i64],
+) -> [BondLimits; Record::TERMS]
+    requires { ⌜ Priced b (now flows) ⌝ }
+    requires { ⌜ Figured b st p s1 ⌝ }
+    ensures { λ r. ⌜ r ≡ allLimits b (flowsOf (now (flows .entry))) ⌝ }
+{
+    let terms = terms_of(b);
+    [
+        term_limits(b, st, p, s1, terms[0], flows),
+        term_limits(b, st, p, s1, terms[1], flows),
+        term_limits(b, st, p, s1, terms[2], flows),
+    ]
+}
+
+// Whether the limits of some term are crossed (9).
+fn some_crossed(limits: [BondLimits; Record::TERMS]) -> bool
+    ensures { λ r. ⌜ r ≡ some isCrossed (three (λ k. getD limits k noBondLimits)) ⌝ }
+{
+    bond_limits::is_crossed(limits[0])
+        | bond_limits::is_crossed(limits[1])
+        | bond_limits::is_crossed(limits[2])
+}
+
+// ---- the answer
+
+// "A refusal returns its number with all figures 0."
+pub fn refused(verdict: Verdict) -> BondAnswer
+    ensures { λ r. ⌜ r ≡ refusedBond verdict ⌝ }
+{
+    let none = Limits { lower: 0, upper: 0 };
+    BondAnswer {
+        verdict,
+        gross: 0,
+        tentative: Tentative { bp: 0, age: 0 },
+        rates: [Rate { bp: 0 }; Record::LEVELS],
+        limits: [BondLimits {
+            band: none,
+            off: none,
+        }; Record::TERMS],
+    }
+}
+
+// 9, or the figures, at the gross evaluation P of a bond that is not refused before.
+fn priced(b: Bond, p: Price, flows: &[i64]) -> BondAnswer
+    requires { ⌜ Priced b (now flows) ⌝ }
+    requires { ⌜ p .units ≡ grossOf b ⌝ }
+    ensures { λ r. ⌜ r ≡ bondAnswer b (now (flows .entry)) ⌝ }
+{
+    let statics = b.statics;
+    let st = inputs::statics_of(given_of(statics));
+    let old = b.tentative;
+    let figures = rates::figures_by_volatility(st, b.m, b.s, old);
+    let tentative = figures.tentative;
+    let rates = figures.rates;
+    let limits = all_limits(b, st, p, rates[0], flows);
+    if some_crossed(limits) {
+        return refused(Verdict::BandCrossed);
+    }
+    BondAnswer {
+        verdict: Verdict::Done,
+        gross: p.units,
+        tentative,
+        rates,
+        limits,
+    }
+}
+
+// What the call answers, for every input: 6, 17, 7, 9, or the figures. The cash flows are lent, two numbers each.
+pub fn answer(b: Bond, flows: &[i64]) -> BondAnswer
+    ensures { λ r. ⌜ r ≡ bondAnswer b (now (flows .entry)) ⌝ }
+{
+    if !(bond_valid(b) & bond_flows::flows_valid(flows)) {
+        return refused(Verdict::OutOfRange);
+    }
+    if b.face == 0 {
+        return refused(Verdict::NoFaceValue);
+    }
+    let gross = Price::new(gross_of(b));
+    match gross {
+        MadePrice::OutOfRange => refused(Verdict::PriceOutOfRange),
+        MadePrice::Made(p) => priced(b, p, flows),
+    }
+}

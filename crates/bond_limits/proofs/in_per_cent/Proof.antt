@@ -1,0 +1,22 @@
+-- `bond_limits::in_per_cent` meets its contract: what is left of the grown price, rounded once. Assumes nothing.
+use borrow.Author.Needs.{needs}
+use Rattle.bond_limits.proofs.in_per_cent.Statement.{statement}
+use Rattle.bond_limits.proofs.in_per_cent.Tie as tie
+
+add-less : tie.Need-add-less
+add-less c = search needs
+
+less-requires : tie.Need-less-requires
+less-requires c κs = search needs
+
+mul-half-up : tie.Need-mul-half-up
+mul-half-up c = search needs
+
+half-up-requires : tie.Need-half-up-requires
+half-up-requires c κs = search needs
+
+returns : tie.Need-returns
+returns c = rw (c .half-up .ensures, c .before .less .ensures)
+
+pub in-per-cent-spec : {M : Type 1} → statement M
+in-per-cent-spec = tie.close (tie.spec add-less less-requires mul-half-up half-up-requires returns)

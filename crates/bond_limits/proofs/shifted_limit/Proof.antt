@@ -1,0 +1,35 @@
+-- `bond_limits::shifted_limit` meets its contract: the shares' P·(1 ± rate), grown with REPORate. Assumes nothing.
+use mathlib.Core.Path.{_≡_}
+use native.Mathlib.Omega.{arith}
+use borrow.Author.Needs.{needs}
+use Rattle.limits.specs.LimitLaws.{shifted-den}
+use Rattle.bond_limits.proofs.Sizes.{rate-bits, shifted-grows}
+use Rattle.bond_limits.proofs.shifted_limit.Statement.{statement}
+use Rattle.bond_limits.proofs.shifted_limit.Tie as tie
+
+shifted-requires : tie.Need-shifted-requires
+shifted-requires c κs = record { price = c .pre .1 .0 .price; rate-high = c .pre .1 .1 }
+
+limit-of-requires : tie.Need-limit-of-requires
+limit-of-requires c κs =
+    let s = c .before .before in
+    let a = s .args in
+    let repo = s .pre .0 .repo in (
+      s .pre .0,
+      rw (c .before .shifted .ensures, rate-bits (a .b .repo) repo)
+          (shifted-grows (a .side) (a .p) (a .rate) (a .k) (a .b .repo) (s .pre .1 .0) (s .pre .1 .1) repo),
+    )
+
+returns : tie.Need-returns
+returns c =
+    let s = c .before .before .before in
+    let a = s .args in
+    rw (
+      c .limit-of .ensures,
+      rate-bits (a .b .repo) (s .pre .0 .repo),
+      c .before .before .shifted .ensures,
+      shifted-den (a .side) (a .p .units) (a .rate .bp),
+    )
+
+pub shifted-limit-spec : {M : Type 1} → statement M
+shifted-limit-spec = tie.close (tie.spec shifted-requires limit-of-requires returns)

@@ -1,0 +1,68 @@
+-- What the figures of a bond are (W-206): a rate is the least multiple of h that covers the requirement and the
+-- minimum, held at the bond maximum, as a share's is; a limit is the nearest two-decimal figure of what is left of the
+-- grown price, and 0 where nothing is. Assumes nothing.
+use mathlib.Core.Path.{_≡_, ap, sym, _∙_}
+use mathlib.Core.Bool.{true, false, _&&_}
+use Prim.Native.Nat.{ℕ, _+_, _-_, _*_, _≤_, _<_}
+use native.Mathlib.Omega.{arith}
+use Rattle.paper.specs.declared.BondScale.{BondScale}
+use Rattle.paper.specs.Lists.{forLevels}
+use Rattle.paper.specs.Numbers.{oneInPerCentHundredths}
+use Rattle.paper.specs.Roundings.{Quotient}
+use Rattle.paper.specs.Ranges.{validStatics, validGiven, staticsOf}
+use Rattle.paper.specs.Rates.{minimumOf, levelRate, unmodelled, figuresByVolatility, AtLeastRequired, HeldLeast}
+use Rattle.paper.specs.Limits.{grownPrice, bondLimitOf}
+use Rattle.paper.proofs.Logic.{and-left, pick-true, pick-false}
+use Rattle.paper.proofs.Level.{level-rate-is}
+use Rattle.paper.proofs.Roundings.{half-low, half-high, half-le}
+use Rattle.paper.proofs.KindLaws.{bond-limit-is}
+use Rattle.paper_bonds.specs.declared.Bond.{Bond}
+use Rattle.paper_bonds.specs.Bonds.{givenOf, bondStatics, validBond, bondFigures}
+
+-- ---- the rates
+
+-- what is in range has statics in range, as a share's are
+pub bond-statics-valid : (b : Bond) → validBond b ≡ true → validStatics (bondStatics b) ≡ true
+unfolding validBond validGiven
+bond-statics-valid b v = search (v, and-left) depth 40
+
+-- with isEWMA the rate of each level, held at the bond's own maximum
+pub bond-rate-is : (b : Bond) (level : ℕ) → validBond b ≡ true
+    → HeldLeast (b .statics .h) (minimumOf (bondStatics b) level) (b .statics .smax)
+    (AtLeastRequired (bondStatics b) level (b .m) (bondFigures b .tentative .bp))
+    (levelRate (bondStatics b) level (b .m) (bondFigures b .tentative .bp))
+unfolding givenOf staticsOf
+bond-rate-is b level v =
+    level-rate-is (bondStatics b) level (b .m) (bondFigures b .tentative .bp) (bond-statics-valid b v)
+
+pub bond-rates-are : (b : Bond) → bondStatics b .ewma ≡ true
+    → bondFigures b .rates
+    ≡ forLevels (λ l. record { bp = levelRate (bondStatics b) l (b .m) (bondFigures b .tentative .bp) })
+unfolding bondFigures figuresByVolatility
+bond-rates-are b e = rw e
+
+-- without it the minima, and the tentative rate and its age stay
+pub bond-rates-stay : (b : Bond) → bondStatics b .ewma ≡ false
+    → (bondFigures b .rates ≡ forLevels (λ l. record { bp = minimumOf (bondStatics b) l }))
+    × (bondFigures b .tentative ≡ b .tentative)
+unfolding bondFigures figuresByVolatility unmodelled
+bond-rates-stay b e = (rw e, rw e)
+
+-- ---- a limit
+
+-- x is the nearest hundredth of a per cent of the face value to what is left, ties up, and 0 where nothing is left
+pub record IsPerCent (face grown off x : ℕ) : Type 0 where
+  pub above : off ≤ grown → x * (2 * face) ≤ 2 * (oneInPerCentHundredths * (grown - off)) + face
+  pub below : off ≤ grown → 2 * (oneInPerCentHundredths * (grown - off)) + face < (x + 1) * (2 * face)
+  pub negative : grown < off → x ≡ 0
+
+pub bond-limit-nearest : (b : BondScale) (x : Quotient) → 0 < b .face
+    → IsPerCent (b .face) (grownPrice x) (b .carry + b .accrued) (bondLimitOf b x)
+bond-limit-nearest b x f =
+    let n : ℕ = oneInPerCentHundredths * (grownPrice x - (b .carry + b .accrued)) in
+    rw (bond-limit-is b x f)
+    (record {
+      above = λ h. half-low n (b .face) f;
+      below = λ h. half-high n (b .face) f;
+      negative = λ h. omega (arith, half-le n (b .face) 0 f (omega arith));
+    })

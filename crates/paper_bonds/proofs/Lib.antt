@@ -1,0 +1,3 @@
+pub mod BondFigures
+pub mod OffBook
+pub mod BondRefusals

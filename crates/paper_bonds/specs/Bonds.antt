@@ -1,0 +1,228 @@
+-- Document 02, W-206: clauses 8.10 and 11.1 of source document 001. What bonds share with shares is in `paper`, over
+-- the kind of security (Limits) and over statics (Rates); here stands what is a bond's own. Assumes nothing.
+use mathlib.Core.Bool.{Bool, true, false, not, _&&_, _||_}
+use mathlib.Core.List.{List, [], _∷_, map}
+use Prim.Native.Nat.{ℕ, _+_, _-_, _*_, _/_, _%_}
+use lib.Dec.{leb, eqb}
+use lib.IntN.{ℤ, pos}
+use lib.ListN.{length, getD}
+use Rattle.paper.specs.declared.GivenStatics.{GivenStatics}
+use Rattle.paper.specs.declared.Statics.{Statics}
+use Rattle.paper.specs.declared.BondScale.{BondScale}
+use Rattle.paper.specs.declared.Figures.{Figures}
+use Rattle.paper.specs.declared.Limits.{Limits}
+use Rattle.paper.specs.declared.Side.{Side}
+use Rattle.paper.specs.declared.Term.{Term}
+use Rattle.paper.specs.declared.Verdict.{Verdict}
+use Rattle.paper.specs.declared.Verdict.the-variants.{Done, OutOfRange, PriceOutOfRange, BandCrossed, NoFaceValue}
+use Rattle.paper.specs.Lists.{pick, three, forLevels, allThree, every, some}
+use Rattle.paper.specs.Numbers.{volatilityMost, ageMost, aheadMost, repoLeast, repoMost, yearInDayBp, oneInPerCentHundredths}
+use Rattle.paper.specs.Roundings.{Quotient, halfUp, grown}
+use Rattle.paper.specs.Ranges.{within, withinZ, unsigned, partsFrom, isPrice, staticsOf, validGiven, validTentative, validTerm, termAt, rateAt, noRate, noLimits}
+use Rattle.paper.specs.Rates.{figuresByVolatility}
+use Rattle.paper.specs.Limits.{bond, bondLimitOf, shifted, growing, narrower, bandBefore, bandLimitFor, limitFor, bandBy, crossed}
+use Rattle.paper.specs.Verdicts.{isDone, Check, firstOf}
+use Rattle.paper.specs.Desk.{noMoves}
+use Rattle.paper.specs.Terms.{termOf}
+use Rattle.paper_bonds.specs.declared.BondStatics.{BondStatics}
+use Rattle.paper_bonds.specs.declared.Bond.{Bond}
+use Rattle.paper_bonds.specs.declared.Flow.{Flow}
+use Rattle.paper_bonds.specs.declared.BondLimits.{BondLimits}
+use Rattle.paper_bonds.specs.declared.BondAnswer.{BondAnswer}
+use Rattle.paper_bonds.specs.BondNumbers.{netMost, moneyMost, flowNumbers, allFlowNumbersMost, flowDayLeast, flowDayMost, offBook}
+
+-- ---- the statics
+
+-- a bond's statics among the shares': no rule of a bond reads the lot, the weights, shift, w or u, which stand at the
+-- least of their ranges
+unfoldable pub givenOf : BondStatics → GivenStatics
+givenOf g =
+    record {
+      lot = 1;
+      h = g .h;
+      q = g .q;
+      aup = 0;
+      adown = 0;
+      wait = g .wait;
+      rh1 = g .rh1;
+      rh2 = g .rh2;
+      rh3 = g .rh3;
+      liq = g .liq;
+      min1 = g .min1;
+      min2 = g .min2;
+      min3 = g .min3;
+      smax = g .smax;
+      xpr = g .xpr;
+      shift = 1;
+      pchmax = g .pchmax;
+      pclmax = g .pclmax;
+      w = 0;
+      u = 1;
+      monitoring = g .monitoring;
+      ewma = g .ewma;
+    }
+
+abbrev pub bondStatics : Bond → Statics
+bondStatics b = staticsOf (givenOf (b .statics))
+
+-- ---- cash flows
+
+-- a cash flow as it is lent: two signed numbers
+pub record LentFlow : Type 0 where
+  pub day : ℤ
+  pub amount : ℤ
+
+unfoldable pub flowAt : List ℤ → ℕ → LentFlow
+flowAt numbers at = record { day = getD numbers at (pos 0); amount = getD numbers (at + 1) (pos 0) }
+
+unfoldable pub lentFlows : List ℤ → List LentFlow
+lentFlows numbers = partsFrom flowAt flowNumbers numbers 0 (length numbers / flowNumbers)
+
+-- "at most four cash flows", each whole
+unfoldable pub wholeFlows : List ℤ → Bool
+wholeFlows numbers = eqb (length numbers % flowNumbers) 0 && leb (length numbers) allFlowNumbersMost
+
+-- "0 to 10^10 units, days 1..30"
+unfoldable pub validFlow : LentFlow → Bool
+validFlow f =
+    withinZ (pos flowDayLeast) (pos flowDayMost) (f .day) && withinZ (pos 0) (pos moneyMost) (f .amount)
+
+unfoldable pub validFlows : List ℤ → Bool
+validFlows numbers = wholeFlows numbers && every validFlow (lentFlows numbers)
+
+-- the cash flow that two numbers in range are
+unfoldable pub flowOf : LentFlow → Flow
+flowOf f = record { day = unsigned (f .day); amount = unsigned (f .amount) }
+
+unfoldable pub flowsOf : List ℤ → List Flow
+flowsOf numbers = map flowOf (lentFlows numbers)
+
+-- ---- what is refused 6
+
+abbrev pub termsOf : Bond → List Term
+termsOf b = termOf (b .first) ∷ termOf (b .second) ∷ termOf (b .third) ∷ []
+
+-- "Net evaluation (1 to 30,000 hundredths of a per cent), face value and accrued interest (0 to 10^10 units) .. other
+-- ranges as for shares"
+unfoldable pub validNumbers : Bond → Bool
+validNumbers b =
+    leb (b .m) aheadMost
+    && within 1 netMost (b .net)
+    && leb (b .face) moneyMost
+    && leb (b .accrued) moneyMost
+    && leb (b .s) volatilityMost
+    && validTentative (bondStatics b) (b .tentative .bp)
+    && leb (b .tentative .age) ageMost
+
+-- with the statics, the terms and REPORate
+unfoldable pub validBond : Bond → Bool
+validBond b =
+    validGiven (givenOf (b .statics))
+    && validNumbers b
+    && allThree (λ k. validTerm (termAt (termsOf b) k))
+    && withinZ repoLeast repoMost (b .repo)
+
+-- ---- the gross evaluation (8.10)
+
+-- "P_sttlmnt/100·Facevalue + НКД", "the gross evaluation .. half up to a unit"
+unfoldable pub grossOf : Bond → ℕ
+grossOf b = halfUp (b .net * b .face) oneInPerCentHundredths + b .accrued
+
+-- ---- carry (11.1)
+
+-- "CashFlow(t)·(1 + REPOrate·(k - t)/36500)", "each carry term half up to a unit"
+unfoldable pub carryTerm : (repo : ℤ) (k : ℕ) → Flow → ℕ
+carryTerm repo k f = halfUp (f .amount * grown yearInDayBp (k - f .day) repo) yearInDayBp
+
+-- "from DateT0 + 1 to DateT0 + k": only a cash flow up to day k counts
+unfoldable pub carryDue : (repo : ℤ) (k : ℕ) → Flow → ℕ
+carryDue repo k f = pick (leb (f .day) k) (carryTerm repo k f) 0
+
+-- "the sum over the flows"
+unfoldable pub carryOf : (repo : ℤ) (k : ℕ) → List Flow → ℕ
+carryOf repo k [] = 0
+carryOf repo k (f ∷ fs) = carryDue repo k f + carryOf repo k fs
+
+-- ---- the figures
+
+unfoldable pub bondFigures : Bond → Figures
+bondFigures b = figuresByVolatility (bondStatics b) (b .m) (b .s) (b .tentative)
+
+-- S_1
+abbrev pub firstRate : Bond → ℕ
+firstRate b = rateAt (bondFigures b .rates) 0
+
+-- what a term's limits take
+abbrev pub scaleAt : Bond → List Flow → (k : ℕ) → BondScale
+scaleAt b flows k =
+    record { carry = carryOf (b .repo) k flows; accrued = b .accrued; face = b .face; repo = b .repo }
+
+-- the 20 per cent, which grow with REPORate, before they are rounded and after
+abbrev pub twentyBefore : BondScale → Side → (p k : ℕ) → Quotient
+twentyBefore scale side p k = growing k (scale .repo) (shifted side p offBook)
+
+abbrev pub twentyLimit : BondScale → Side → (p k : ℕ) → ℕ
+twentyLimit scale side p k = bondLimitOf scale (twentyBefore scale side p k)
+
+-- off the book: "the narrower" of the band limit and that of the 20 per cent
+abbrev pub offBefore : BondScale → Statics → Side → (p s1 c k : ℕ) → ℤ → Quotient
+offBefore scale st side p s1 c k repo =
+    narrower side (bandBefore (bond scale) st side p s1 c k repo) (twentyBefore scale side p k)
+
+abbrev pub offLimit : BondScale → Statics → Side → (p s1 c k : ℕ) → ℤ → ℕ
+offLimit scale st side p s1 c k repo = limitFor (bond scale) st (offBefore scale st side p s1 c k repo)
+
+-- the limits of a term, from P and S_1: a bond's do not move
+unfoldable pub limitsFrom : BondScale → Statics → (p s1 : ℕ) → Term → BondLimits
+limitsFrom scale st p s1 x =
+    record {
+      band = bandBy (λ side. bandLimitFor (bond scale) st side p s1) noMoves x;
+      off = bandBy (λ side. offLimit scale st side p s1) noMoves x;
+    }
+
+unfoldable pub limitsOf : Bond → List Flow → Term → BondLimits
+limitsOf b flows x = limitsFrom (scaleAt b flows (x .k)) (bondStatics b) (grossOf b) (firstRate b) x
+
+-- "The band is crossed by the same test": on the book or off it
+unfoldable pub isCrossed : BondLimits → Bool
+isCrossed x = crossed (x .band) || crossed (x .off)
+
+-- ---- the call
+
+abbrev pub allLimits : Bond → List Flow → List BondLimits
+allLimits b flows = three (λ k. limitsOf b flows (termAt (termsOf b) k))
+
+-- "17, face value 0, after 6"; 7, the gross evaluation is no price; "crossed by the same test and answers 9"
+unfoldable pub bondChecks : Bond → List ℤ → List Check
+bondChecks b numbers =
+    record { verdict = OutOfRange; applies = not (validBond b && validFlows numbers) }
+    ∷ record { verdict = NoFaceValue; applies = eqb (b .face) 0 }
+    ∷ record { verdict = PriceOutOfRange; applies = not (isPrice (grossOf b)) }
+    ∷ record { verdict = BandCrossed; applies = some isCrossed (allLimits b (flowsOf numbers)) }
+    ∷ []
+
+unfoldable pub refusedBond : Verdict → BondAnswer
+refusedBond v =
+    record {
+      verdict = v;
+      gross = 0;
+      tentative = record { bp = 0; age = 0 };
+      rates = forLevels (λ l. noRate);
+      limits = three (λ k. record { band = noLimits; off = noLimits });
+    }
+
+unfoldable pub acceptedBond : Bond → List Flow → BondAnswer
+acceptedBond b flows =
+    record {
+      verdict = Done;
+      gross = grossOf b;
+      tentative = bondFigures b .tentative;
+      rates = bondFigures b .rates;
+      limits = allLimits b flows;
+    }
+
+-- what the call answers, for every input
+unfoldable pub bondAnswer : Bond → List ℤ → BondAnswer
+bondAnswer b numbers =
+    let v : Verdict = firstOf (bondChecks b numbers) in
+    pick (isDone v) (acceptedBond b (flowsOf numbers)) (refusedBond v)

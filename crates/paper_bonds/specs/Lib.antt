@@ -1,0 +1,4 @@
+pub mod BondNumbers
+pub mod Bonds
+pub mod BondCases
+pub mod PinnedBonds
