@@ -1,6 +1,7 @@
 -- Demand 1: each number is given exactly when its condition holds and no earlier one in the paper's order does; a
 -- refused call leaves the table as it was, and answers its number with every figure 0. Assumes nothing.
 use mathlib.Core.Path.{_≡_, refl, sym, _∙_, ap}
+use mathlib.Core.Logic.{_⊎_, inl, inr, ⊎-elim}
 use mathlib.Core.Bool.{Bool, true, false, not, _&&_}
 use mathlib.Core.List.{List, [], _∷_}
 use Prim.Native.Nat.{ℕ}
@@ -16,7 +17,7 @@ use Rattle.paper.specs.declared.Answer.{Answer}
 use Rattle.paper.specs.declared.Verdict.{Verdict}
 use Rattle.paper.specs.declared.Verdict.the-variants.{Done, NoSuchId, AlreadyAdmitted, NoEmptySlot, AdmissionOutOfRange, DayNotAfter, OutOfRange, PriceOutOfRange, MoveTooLarge, BandCrossed, NotLive, NotMonitored, MovesUsedUp, SecondEarlier, NotAscending, BadLine, RowCrossed, NoFaceValue}
 use Rattle.paper.specs.Lists.{pick, every}
-use Rattle.paper.specs.Verdicts.{numberOf, isDone, Check, firstOf, FirstAt, here, later, NoneApplies, none, also}
+use Rattle.paper.specs.Verdicts.{numberOf, isDone, Naming, Check, firstNamed, firstOf, FirstAt, here, later, NoneApplies, none, also}
 use Rattle.paper.specs.Desk.{Call, admit, evaluate, quote, move, read, admitChecks, evaluateChecks, quoteChecks, moveChecks, readChecks, checksOf, Outcome, saying, showing, alerting, alertsOn, judged, acceptedOf, step}
 use Rattle.paper.proofs.Logic.{clash, and-left, and-right, pick-true, pick-false}
 
@@ -43,22 +44,39 @@ done-is BadLine e = absurd (clash false e refl)
 done-is RowCrossed e = absurd (clash false e refl)
 done-is NoFaceValue e = absurd (clash false e refl)
 
+-- what is named is what the first that applies names; or none applies, and it is what stands otherwise
+pub named-is : {A : Type 0} (otherwise : A) (cs : List (Naming A)) (v : A) → firstNamed otherwise cs ≡ v
+    → FirstAt v cs ⊎ ((otherwise ≡ v) × NoneApplies cs)
+named-is otherwise [] v e = inr (e, none)
+named-is otherwise (c ∷ cs) v e = go (c .applies) refl e (named-is otherwise cs v)
+  where
+    go : (b : Bool) → c .applies ≡ b → pick b (c .verdict) (firstNamed otherwise cs) ≡ v
+        → (firstNamed otherwise cs ≡ v → FirstAt v cs ⊎ ((otherwise ≡ v) × NoneApplies cs))
+        → FirstAt v (c ∷ cs) ⊎ ((otherwise ≡ v) × NoneApplies (c ∷ cs))
+    go true q w rest = inl (here w q)
+    go false q w rest = ⊎-elim (λ f. inl (later q f)) (λ n. inr (n .0, also q (n .1))) (rest w)
+
+-- and it is named wherever it is the first that applies
+pub is-named : {A : Type 0} (otherwise : A) (cs : List (Naming A)) (v : A) → FirstAt v cs
+    → firstNamed otherwise cs ≡ v
+is-named otherwise (c ∷ cs) v (here w q) = rw q w
+is-named otherwise (c ∷ cs) v (later q rest) = rw q (is-named otherwise cs v rest)
+
+pub none-named : {A : Type 0} (otherwise : A) (cs : List (Naming A)) → NoneApplies cs
+    → firstNamed otherwise cs ≡ otherwise
+none-named otherwise [] none = refl
+none-named otherwise (c ∷ cs) (also q rest) = rw q (none-named otherwise cs rest)
+
 -- a number that is not 0 is given only where it is the first that applies
 pub first-is : (cs : List Check) (v : Verdict) → isDone v ≡ false → firstOf cs ≡ v → FirstAt v cs
 unfolding firstOf isDone
-first-is [] v n e = absurd (clash (isDone Done) refl (ap isDone e ∙ n))
-first-is (c ∷ cs) v n e = go (c .applies) refl e (first-is cs v n)
-  where
-    go : (b : Bool) → c .applies ≡ b → pick b (c .verdict) (firstOf cs) ≡ v → (firstOf cs ≡ v → FirstAt v cs)
-        → FirstAt v (c ∷ cs)
-    go true q w rest = here w q
-    go false q w rest = later q (rest w)
+first-is cs v n e =
+    ⊎-elim (λ f. f) (λ o. absurd (clash (isDone Done) refl (ap isDone (o .0) ∙ n))) (named-is Done cs v e)
 
 -- and wherever it is
 pub is-first : (cs : List Check) (v : Verdict) → FirstAt v cs → firstOf cs ≡ v
 unfolding firstOf
-is-first (c ∷ cs) v (here w q) = rw q w
-is-first (c ∷ cs) v (later q rest) = rw q (is-first cs v rest)
+is-first cs v f = is-named Done cs v f
 
 -- every check names a refusal
 unfoldable pub refusals : List Check → Bool
@@ -78,8 +96,7 @@ done-none (c ∷ cs) r e = go (c .applies) refl e (done-none cs (and-right (not 
 
 pub none-done : (cs : List Check) → NoneApplies cs → firstOf cs ≡ Done
 unfolding firstOf
-none-done [] none = refl
-none-done (c ∷ cs) (also q rest) = rw q (none-done cs rest)
+none-done cs n = none-named Done cs n
 
 -- ---- each call
 

@@ -36,22 +36,30 @@ isDone v = eqb (numberOf v) 0
 abbrev pub Exactly : Type 0 → Type 0 → Type 0
 Exactly a b = (a → b) × (b → a)
 
--- a number, and when it applies
-pub record Check : Type 0 where
-  pub verdict : Verdict
+-- what is named, and when it applies: a number that a member may see, or a reason (W-207)
+pub record Naming (A : Type 0) : Type 0 where
+  pub verdict : A
   pub applies : Bool
 
--- "First that applies"
+-- a number, and when it applies
+abbrev pub Check : Type 0
+Check = Naming Verdict
+
+-- "First that applies": what the first one names, and where none applies, what stands otherwise
+abbrev pub firstNamed : {A : Type 0} → (otherwise : A) → List (Naming A) → A
+firstNamed otherwise [] = otherwise
+firstNamed otherwise (c ∷ cs) = pick (c .applies) (c .verdict) (firstNamed otherwise cs)
+
+-- of the checks of a call; 0 where none applies
 unfoldable pub firstOf : List Check → Verdict
-firstOf [] = Done
-firstOf (c ∷ cs) = pick (c .applies) (c .verdict) (firstOf cs)
+firstOf cs = firstNamed Done cs
 
--- v is the number of the first check that applies: it applies, and no earlier one does
-pub data FirstAt (v : Verdict) : List Check → Type 0 where
-  here : {c : Check} {cs : List Check} → c .verdict ≡ v → c .applies ≡ true → FirstAt v (c ∷ cs)
-  later : {c : Check} {cs : List Check} → c .applies ≡ false → FirstAt v cs → FirstAt v (c ∷ cs)
+-- v is what the first that applies names: it applies, and no earlier one does
+pub data FirstAt {A : Type 0} (v : A) : List (Naming A) → Type 0 where
+  here : {c : Naming A} {cs : List (Naming A)} → c .verdict ≡ v → c .applies ≡ true → FirstAt v (c ∷ cs)
+  later : {c : Naming A} {cs : List (Naming A)} → c .applies ≡ false → FirstAt v cs → FirstAt v (c ∷ cs)
 
--- no check applies
-pub data NoneApplies : List Check → Type 0 where
+-- none applies
+pub data NoneApplies {A : Type 0} : List (Naming A) → Type 0 where
   none : NoneApplies []
-  also : {c : Check} {cs : List Check} → c .applies ≡ false → NoneApplies cs → NoneApplies (c ∷ cs)
+  also : {c : Naming A} {cs : List (Naming A)} → c .applies ≡ false → NoneApplies cs → NoneApplies (c ∷ cs)
