@@ -14,13 +14,14 @@ use Rattle.paper.specs.declared.Roubles.{Roubles}
 use Rattle.paper.specs.Lists.{pick, every}
 use Rattle.paper.specs.Roundings.{halfUp, toGrid}
 use Rattle.paper.specs.Ranges.{isPrice, priceMade}
-use Rattle.paper.specs.Evaluation.{bestBid, bestAsk, roublesOf, rowFits, median, between, evaluationOf, evaluationFits}
+use Rattle.paper.specs.Evaluation.{weights, bestBid, bestAsk, roublesOf, rowFits, median, between, evaluationOf, evaluationFits}
 use Rattle.paper.proofs.Roundings.{half-le}
 use Rattle.evaluation.specs.declared.Book.{Book}
+use Rattle.evaluation.specs.declared.PriceFigures.{PriceFigures}
 use Rattle.evaluation.specs.declared.Gathered.the-variants as gathered
 use Rattle.evaluation.specs.declared.Evaluation.the-variants.{Evaluated, Beyond}
-use Rattle.evaluation.specs.Evaluation.{evaluationFrom, evaluationMade}
-use Rattle.evaluation.specs.Book.{bookOf, closeIn, gatheredOf}
+use Rattle.evaluation.specs.Evaluation.{priceFigures, pricedOf, evaluationFrom, evaluationMade}
+use Rattle.evaluation.specs.Book.{bookOf, closeIn, figuresIn, gatheredOf}
 use Rattle.evaluation.proofs.Books.{close-of-book}
 
 module _ (g previous : ℕ) (rows : List Row) where
@@ -33,46 +34,57 @@ module _ (g previous : ℕ) (rows : List Row) where
       (λ i. toGrid g (between (p i .bid) (closeIn previous (p i)) (p i .ask)) 1)
       ∙ ap (λ (z : ℕ). toGrid g (between (bestBid rs) z (bestAsk rs)) 1) (close-of-book previous rs)
 
+  -- the figures that it is chosen from
+  figures-of-book : (b : Book) → b ≡ bookOf (map roublesOf rows)
+      → figuresIn previous b ≡ priceFigures previous (map roublesOf rows)
+  unfolding bookOf priceFigures
+  figures-of-book b p =
+      let rs : List Roubles = map roublesOf rows in
+      ap (figuresIn previous) p
+      ∙ ap (λ (z : ℕ). record { weight = weights rs; close = z; bid = bestBid rs; ask = bestAsk rs })
+      (close-of-book previous rs)
+
   -- 7 for a row
   pub made-beyond : gathered.Beyond ≡ gatheredOf rows → Beyond ≡ evaluationMade g previous rows
   unfolding evaluationMade evaluationFits gatheredOf
   made-beyond k = step (every rowFits rows) k
     where
       step : (t : Bool) → gathered.Beyond ≡ pick t (gathered.Whole (bookOf (map roublesOf rows))) gathered.Beyond
-          → Beyond ≡ pick (t && isPrice (evaluationOf g previous rows))
-          (Evaluated (record { units = evaluationOf g previous rows })) Beyond
+          → Beyond ≡ pick (t && isPrice (evaluationOf g previous rows)) (Evaluated (pricedOf g previous rows)) Beyond
       step true p = absurd (let z : _≡_ {A = ℕ} 0 1 = cc in omega arith)
       step false p = refl
 
   -- the evaluation, or 7 for it
   pub made-book : (b : Book) → gathered.Whole b ≡ gatheredOf rows
-      → evaluationFrom (toGrid g (between (b .bid) (closeIn previous b) (b .ask)) 1) ≡ evaluationMade g previous rows
-  unfolding evaluationMade evaluationFits evaluationFrom gatheredOf
+      → evaluationFrom (toGrid g (between (b .bid) (closeIn previous b) (b .ask)) 1) (figuresIn previous b)
+      ≡ evaluationMade g previous rows
+  unfolding evaluationMade evaluationFits evaluationFrom gatheredOf pricedOf
   made-book b k = step (every rowFits rows) k
     where
       step : (t : Bool) → gathered.Whole b ≡ pick t (gathered.Whole (bookOf (map roublesOf rows))) gathered.Beyond
-          → evaluationFrom (toGrid g (between (b .bid) (closeIn previous b) (b .ask)) 1)
-          ≡ pick (t && isPrice (evaluationOf g previous rows))
-          (Evaluated (record { units = evaluationOf g previous rows })) Beyond
-      step true p = ap evaluationFrom (of-book b (cc))
+          → evaluationFrom (toGrid g (between (b .bid) (closeIn previous b) (b .ask)) 1) (figuresIn previous b)
+          ≡ pick (t && isPrice (evaluationOf g previous rows)) (Evaluated (pricedOf g previous rows)) Beyond
+      step true p = rw (of-book b (cc), figures-of-book b (cc))
       step false p = absurd (let z : _≡_ {A = ℕ} 0 1 = cc in omega arith)
 
 -- the evaluation as the price's constructor has it
-pub from-made : (units : ℕ) (p : Price) → made.Made p ≡ priceMade units → Evaluated p ≡ evaluationFrom units
+pub from-made : (units : ℕ) (p : Price) (f : PriceFigures) → made.Made p ≡ priceMade units
+    → Evaluated (record { price = p; figures = f }) ≡ evaluationFrom units f
 unfolding priceMade evaluationFrom
-from-made units p k = step (isPrice units) k
+from-made units p f k = step (isPrice units) k
   where
     step : (t : Bool) → made.Made p ≡ pick t (made.Made (record { units = units })) made.OutOfRange
-        → Evaluated p ≡ pick t (Evaluated (record { units = units })) Beyond
-    step true q = cc
+        → Evaluated (record { price = p; figures = f })
+        ≡ pick t (Evaluated (record { price = record { units = units }; figures = f })) Beyond
+    step true q = let same : p ≡ record { units = units } = cc in rw same
     step false q = absurd (let z : _≡_ {A = ℕ} 0 1 = cc in omega arith)
 
-pub from-out : (units : ℕ) → made.OutOfRange ≡ priceMade units → Beyond ≡ evaluationFrom units
+pub from-out : (units : ℕ) (f : PriceFigures) → made.OutOfRange ≡ priceMade units → Beyond ≡ evaluationFrom units f
 unfolding priceMade evaluationFrom
-from-out units k = step (isPrice units) k
+from-out units f k = step (isPrice units) k
   where
     step : (t : Bool) → made.OutOfRange ≡ pick t (made.Made (record { units = units })) made.OutOfRange
-        → Beyond ≡ pick t (Evaluated (record { units = units })) Beyond
+        → Beyond ≡ pick t (Evaluated (record { price = record { units = units }; figures = f })) Beyond
     step true q = absurd (let z : _≡_ {A = ℕ} 0 1 = cc in omega arith)
     step false q = refl
 

@@ -10,6 +10,7 @@ use Rattle.paper.specs.Numbers.{priceMost, volumeMost}
 use Rattle.paper.specs.Roundings.{halfUp}
 use Rattle.paper.specs.Evaluation.{weights, worth, bestBid, lesserAsk, bestAsk, roublesOf, rowFits}
 use Rattle.evaluation.specs.declared.Book.{Book}
+use Rattle.evaluation.specs.declared.PriceFigures.{PriceFigures}
 use Rattle.evaluation.specs.declared.Gathered.{Gathered}
 use Rattle.evaluation.specs.declared.Gathered.the-variants.{Whole, Beyond}
 
@@ -37,6 +38,10 @@ pub record Room (b : Book) (r : Roubles) : Type 0 where
 -- the close from a book: "With no such row it is the previous evaluation"
 unfoldable pub closeIn : ℕ → Book → ℕ
 closeIn previous b = pick (eqb (b .weight) 0) previous (halfUp (b .worth) (b .weight))
+
+-- the figures that a price is chosen from, from a book
+abbrev pub figuresIn : ℕ → Book → PriceFigures
+figuresIn previous b = record { weight = b .weight; close = closeIn previous b; bid = b .bid; ask = b .ask }
 
 -- the book, unless 7 refuses a row
 unfoldable pub gatheredOf : List Row → Gathered

@@ -1,24 +1,40 @@
 -- What an evaluation (6.1) answers: the paper's figure, or that 7 refuses it. Assumes nothing.
-use mathlib.Core.List.{List}
+use mathlib.Core.List.{List, map}
 use Prim.Native.Nat.{ℕ, _+_, _-_, _*_, _≤_}
 use Rattle.paper.specs.declared.Row.{Row}
+use Rattle.paper.specs.declared.Roubles.{Roubles}
 use Rattle.paper.specs.Lists.{pick}
 use Rattle.paper.specs.Numbers.{yearInDayBp, priceMost, centralMost}
 use Rattle.paper.specs.Ranges.{isPrice}
-use Rattle.paper.specs.Evaluation.{evaluationOf, evaluationFits}
+use Rattle.paper.specs.Evaluation.{roublesOf, weights, closeOf, bestBid, bestAsk, evaluationOf, evaluationFits}
 use Rattle.exact.specs.SignedLaws.{growthMost}
+use Rattle.evaluation.specs.declared.PriceFigures.{PriceFigures}
+use Rattle.evaluation.specs.declared.Priced.{Priced}
 use Rattle.evaluation.specs.declared.Evaluation.{Evaluation}
 use Rattle.evaluation.specs.declared.Evaluation.the-variants.{Evaluated, Beyond}
+
+-- the figures that a price is chosen from
+unfoldable pub priceFigures : (previous : ℕ) → List Roubles → PriceFigures
+priceFigures previous rs =
+    record { weight = weights rs; close = closeOf previous rs; bid = bestBid rs; ask = bestAsk rs }
+
+-- the evaluation, and the figures that it was chosen from
+unfoldable pub pricedOf : ℕ → ℕ → List Row → Priced
+pricedOf g previous rows =
+    record {
+      price = record { units = evaluationOf g previous rows };
+      figures = priceFigures previous (map roublesOf rows);
+    }
 
 -- 7: "a rounded row price, or the evaluation, is 0 or above 10^10; a rounded row volume is above 10^8"; else the
 -- evaluation
 unfoldable pub evaluationMade : ℕ → ℕ → List Row → Evaluation
-evaluationMade g previous rows =
-    pick (evaluationFits g previous rows) (Evaluated (record { units = evaluationOf g previous rows })) Beyond
+evaluationMade g previous rows = pick (evaluationFits g previous rows) (Evaluated (pricedOf g previous rows)) Beyond
 
 -- the same of the evaluation alone, where every row's figures are in range
-unfoldable pub evaluationFrom : ℕ → Evaluation
-evaluationFrom units = pick (isPrice units) (Evaluated (record { units = units })) Beyond
+unfoldable pub evaluationFrom : ℕ → PriceFigures → Evaluation
+evaluationFrom units figures =
+    pick (isPrice units) (Evaluated (record { price = record { units = units }; figures = figures })) Beyond
 
 -- the ranges of a price times its central rate, and of a year's days with the repo rate of T of them
 pub record Discounts (x days : ℕ) : Type 0 where

@@ -8,36 +8,32 @@ use native.Mathlib.Nat.{mul-mod-left}
 use native.Mathlib.Omega.{arith}
 use lib.Dec.{eqb}
 use borrow.Author.Tests.{eq-eqb}
-use Rattle.paper.specs.declared.Price.{Price}
 use Rattle.paper.specs.declared.Row.{Row}
 use Rattle.paper.specs.Lists.{pick, every}
 use Rattle.paper.specs.Roundings.{toGrid}
 use Rattle.paper.specs.Ranges.{isPrice, isGridPrice}
 use Rattle.paper.specs.Evaluation.{rowFits, evaluationOf, evaluationFits}
 use Rattle.paper.proofs.Logic.{and-right, and-both}
+use Rattle.evaluation.specs.declared.Priced.{Priced}
 use Rattle.evaluation.specs.declared.Evaluation.the-variants.{Evaluated, Beyond}
-use Rattle.evaluation.specs.Evaluation.{evaluationMade}
-
--- the evaluation as a price
-abbrev pub priceOf : ℕ → ℕ → List Row → Price
-priceOf g previous rows = record { units = evaluationOf g previous rows }
+use Rattle.evaluation.specs.Evaluation.{pricedOf, evaluationMade}
 
 module _ (g previous : ℕ) (rows : List Row) where
-  pub evaluated-fits : (p : Price) → Evaluated p ≡ evaluationMade g previous rows
+  pub evaluated-fits : (p : Priced) → Evaluated p ≡ evaluationMade g previous rows
       → evaluationFits g previous rows ≡ true
   unfolding evaluationMade
   evaluated-fits p e = step (evaluationFits g previous rows) e
     where
-      step : (t : Bool) → Evaluated p ≡ pick t (Evaluated (priceOf g previous rows)) Beyond → t ≡ true
+      step : (t : Bool) → Evaluated p ≡ pick t (Evaluated (pricedOf g previous rows)) Beyond → t ≡ true
       step true q = refl
       step false q = absurd (let z : _≡_ {A = ℕ} 0 1 = cc in omega arith)
 
-  pub evaluated-is : (p : Price) → Evaluated p ≡ evaluationMade g previous rows → p ≡ priceOf g previous rows
+  pub evaluated-is : (p : Priced) → Evaluated p ≡ evaluationMade g previous rows → p ≡ pricedOf g previous rows
   unfolding evaluationMade
   evaluated-is p e = step (evaluationFits g previous rows) e
     where
-      step : (t : Bool) → Evaluated p ≡ pick t (Evaluated (priceOf g previous rows)) Beyond
-          → p ≡ priceOf g previous rows
+      step : (t : Bool) → Evaluated p ≡ pick t (Evaluated (pricedOf g previous rows)) Beyond
+          → p ≡ pricedOf g previous rows
       step true q = cc
       step false q = absurd (let z : _≡_ {A = ℕ} 0 1 = cc in omega arith)
 
@@ -45,7 +41,7 @@ module _ (g previous : ℕ) (rows : List Row) where
   unfolding evaluationMade
   beyond-refused e = step (evaluationFits g previous rows) e
     where
-      step : (t : Bool) → Beyond ≡ pick t (Evaluated (priceOf g previous rows)) Beyond → t ≡ false
+      step : (t : Bool) → Beyond ≡ pick t (Evaluated (pricedOf g previous rows)) Beyond → t ≡ false
       step true q = absurd (let z : _≡_ {A = ℕ} 0 1 = cc in omega arith)
       step false q = refl
 

@@ -37,9 +37,23 @@ enum Gathered {
     Beyond,
 }
 
+// The figures that a price is chosen from: the weights of the rows together, the close, BID and ASK, in units.
+pub struct PriceFigures {
+    pub weight: u64,
+    pub close: u64,
+    pub bid: u64,
+    pub ask: u64,
+}
+
+// An evaluation, and the figures that it was chosen from.
+pub struct Priced {
+    pub price: Price,
+    pub figures: PriceFigures,
+}
+
 // The day's evaluation, or that a figure is beyond its range: refusal 7.
 pub enum Evaluation {
-    Evaluated(Price),
+    Evaluated(Priced),
     Beyond,
 }
 
@@ -93,6 +107,15 @@ fn row_fits(row: Row, r: Roubles) -> bool
         & ((row.bid == 0) | is_price(r.bid))
         & ((row.ask == 0) | is_price(r.ask))
         & (r.weight <= Row::VOLUME_MOST)
+}
+
+// The same of a row as it was given: W-207 looks for the first that does not fit.
+pub fn fits(row: Row) -> bool
+    requires { ⌜ InRange row ⌝ }
+    ensures { λ b. ⌜ b ≡ rowFits row ⌝ }
+{
+    let r = in_roubles(row);
+    row_fits(row, r)
 }
 
 // The lesser of two asks, of which 0 is missing.
@@ -163,7 +186,7 @@ fn median(a: u64, b: u64, c: u64) -> u64
 }
 
 // The close between the sides that are present.
-fn between(bid: u64, close: u64, ask: u64) -> u64
+pub fn between(bid: u64, close: u64, ask: u64) -> u64
     ensures { λ r. ⌜ r ≡ between bid close ask ⌝ }
 {
     if bid == 0 {
@@ -181,14 +204,14 @@ fn between(bid: u64, close: u64, ask: u64) -> u64
     }
 }
 
-// The evaluation on the grid, place (d), unless it is beyond its range.
-fn on_grid(g: u64, p: u64) -> Evaluation
+// The evaluation on the grid, place (d), unless it is beyond its range: p is the price that the figures give.
+fn on_grid(g: u64, p: u64, figures: PriceFigures) -> Evaluation
     requires { ⌜ (1 ≤ g) × (g ≤ oneInHundredths) × (p ≤ priceMost) ⌝ }
-    ensures { λ r. ⌜ r ≡ evaluationFrom (toGrid g p 1) ⌝ }
+    ensures { λ r. ⌜ r ≡ evaluationFrom (toGrid g p 1) figures ⌝ }
 {
     let made = Price::new(exact::to_grid(g, p, 1));
     match made {
-        MadePrice::Made(price) => Evaluation::Evaluated(price),
+        MadePrice::Made(price) => Evaluation::Evaluated(Priced { price, figures }),
         MadePrice::OutOfRange => Evaluation::Beyond,
     }
 }
@@ -204,7 +227,13 @@ pub fn evaluate(rows: &[i64], previous: Price, g: u64) -> Evaluation
         Gathered::Beyond => Evaluation::Beyond,
         Gathered::Whole(book) => {
             let close = close_of(book, previous);
-            on_grid(g, between(book.bid, close, book.ask))
+            let figures = PriceFigures {
+                weight: book.weight,
+                close,
+                bid: book.bid,
+                ask: book.ask,
+            };
+            on_grid(g, between(book.bid, close, book.ask), figures)
         }
     }
 }

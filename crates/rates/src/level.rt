@@ -3,8 +3,8 @@
 ghost use mathlib.Core.Path.{_≡_};
 ghost use Prim.Native.Nat.{_*_, _≤_, _<_};
 ghost use Rattle.paper.specs.Lists.{forLevels};
-ghost use Rattle.paper.specs.Numbers.{aheadMost, firstDaysMost, daysMost, liquidityMost};
-ghost use Rattle.paper.specs.Rates.{minimumOf, levelRate};
+ghost use Rattle.paper.specs.Numbers.{rateMost, aheadMost, firstDaysMost, daysMost, liquidityMost};
+ghost use Rattle.paper.specs.Rates.{minimumOf, covers, levelRate};
 ghost use Rattle.rates.specs.Asked.{RateStatics, tentativeMost};
 ghost use Rattle.rates.specs.Level.{levelOf, tentativeSquare, liquiditySquare, squareMost, reaches, reachMost, leastReach};
 use paper::Rate;
@@ -97,6 +97,18 @@ pub fn level_rate(st: Statics, level: u64, m: u64, tentative: u64) -> Rate
     let b = liquidity_square(st.rh1, own.days, st.liq);
     let steps = least_reach(own.minimum.bp / st.h, st.smax / st.h, st.h * st.rh1, a, b);
     Rate::of(steps * st.h)
+}
+
+// Whether a rate of v basis points covers the requirement of a level.
+pub fn covers(st: Statics, level: u64, m: u64, tentative: u64, v: u64) -> bool
+    requires { ⌜ RateStatics st ⌝ }
+    requires { ⌜ (m ≤ aheadMost) × (tentative ≤ tentativeMost) × (v ≤ rateMost) ⌝ }
+    ensures { λ r. ⌜ r ≡ covers st level m tentative v ⌝ }
+{
+    let own = level_of(st, level);
+    let a = tentative_square(st.rh1, own.days, m, tentative);
+    let b = liquidity_square(st.rh1, own.days, st.liq);
+    reaches(v * st.rh1, a, b)
 }
 
 // The three rates.

@@ -1,12 +1,11 @@
 -- What an evaluation in hand says of 7, and what an admission, a day and a record in range are to the prices. Assumes
 -- nothing.
-use mathlib.Core.Path.{_≡_, refl, sym, ap, _∙_}
+use mathlib.Core.Path.{_≡_, refl, sym, subst, _∙_}
 use mathlib.Core.Bool.{Bool, true, false, _&&_}
 use mathlib.Core.List.{List}
 use Prim.Native.Nat.{ℕ}
 use native.Mathlib.Omega.{arith}
 use lib.IntN.{ℤ}
-use Rattle.paper.specs.declared.Price.{Price}
 use Rattle.paper.specs.declared.Admission.{Admission}
 use Rattle.paper.specs.declared.Day.{Day}
 use Rattle.paper.specs.declared.Row.{Row}
@@ -16,8 +15,9 @@ use Rattle.paper.specs.Ranges.{isPrice, isGridPrice, validAdmission, validDay, 
 use Rattle.paper.specs.Evaluation.{evaluationOf, rowFits, evaluationFits}
 use Rattle.paper.proofs.Logic.{and-left, and-right}
 use Rattle.inputs.proofs.Tests.{day-in-parts}
+use Rattle.evaluation.specs.declared.Priced.{Priced}
 use Rattle.evaluation.specs.declared.Evaluation.the-variants.{Evaluated, Beyond}
-use Rattle.evaluation.specs.Evaluation.{evaluationMade}
+use Rattle.evaluation.specs.Evaluation.{pricedOf, evaluationMade}
 
 pub sound-prices : (r : Record) → sound r ≡ true → (isPrice (r .p1 .units) ≡ true) × (isPrice (r .p2 .units) ≡ true)
 unfolding sound isGridPrice
@@ -38,31 +38,31 @@ pub beyond : (g previous : ℕ) (rows : List Row) → evaluationMade g previous 
 unfolding evaluationMade
 beyond g previous rows e = go (evaluationFits g previous rows) e
   where
-    go : (b : Bool) → pick b (Evaluated (record { units = evaluationOf g previous rows })) Beyond ≡ Beyond → b ≡ false
+    go : (b : Bool) → pick b (Evaluated (pricedOf g previous rows)) Beyond ≡ Beyond → b ≡ false
     go true q = let z : _≡_ {A = ℕ} 0 1 = cc in absurd (omega arith)
     go false q = refl
 
--- a price that was made is the evaluation, and fits
-pub record Made (g previous : ℕ) (rows : List Row) (p : Price) : Type 0 where
+-- an evaluation that was made is the paper's, and fits
+pub record Made (g previous : ℕ) (rows : List Row) (e : Priced) : Type 0 where
   pub fits : evaluationFits g previous rows ≡ true
-  pub is : evaluationOf g previous rows ≡ p .units
-  pub price : isPrice (p .units) ≡ true
+  pub is : pricedOf g previous rows ≡ e
+  pub price : isPrice (e .price .units) ≡ true
 
-pub made : (g previous : ℕ) (rows : List Row) (p : Price) → evaluationMade g previous rows ≡ Evaluated p
-    → Made g previous rows p
-unfolding evaluationMade evaluationFits
-made g previous rows p e = go (evaluationFits g previous rows) refl e
+pub made : (g previous : ℕ) (rows : List Row) (e : Priced) → evaluationMade g previous rows ≡ Evaluated e
+    → Made g previous rows e
+unfolding evaluationMade evaluationFits pricedOf
+made g previous rows e m = go (evaluationFits g previous rows) refl m
   where
-    go : (b : Bool) → evaluationFits g previous rows ≡ b
-        → pick b (Evaluated (record { units = evaluationOf g previous rows })) Beyond ≡ Evaluated p
-        → Made g previous rows p
+    go : (b : Bool) → evaluationFits g previous rows ≡ b → pick b (Evaluated (pricedOf g previous rows)) Beyond
+        ≡ Evaluated e
+        → Made g previous rows e
     go true f q =
-        let same : _≡_ {A = Price} (record { units = evaluationOf g previous rows }) p = cc in
-        let is : evaluationOf g previous rows ≡ p .units = ap (λ (z : Price). z .units) same in
+        let same : pricedOf g previous rows ≡ e = cc in
         record {
           fits = f;
-          is = is;
+          is = same;
           price =
-              rw is at (and-right (every rowFits rows) (isPrice (evaluationOf g previous rows)) f);
+              subst (λ (z : Priced). isPrice (z .price .units) ≡ true) same
+              (and-right (every rowFits rows) (isPrice (evaluationOf g previous rows)) f);
         }
     go false f q = let z : _≡_ {A = ℕ} 0 1 = cc in absurd (omega arith)

@@ -24,14 +24,16 @@ use Rattle.paper.specs.Rates.{moveTooLarge}
 use Rattle.paper.specs.Limits.{crossed, countOf}
 use Rattle.paper.specs.Verdicts.{isDone, Check, firstOf, NoneApplies, none, also}
 use Rattle.paper.specs.Desk.{saying, showing, admitted, moveOn, evaluated, quoted, alertsOn, moved, evaluateChecks, quoteChecks, moveChecks}
-use Rattle.paper.proofs.Logic.{clash, and-right, not-true, not-false, pick-false}
+use Rattle.paper.proofs.Logic.{clash, and-right, not-true, not-false, pick-true, pick-false}
 use Rattle.paper.proofs.Refusals.{refusals, done-none}
 use Rattle.record_soundness.proofs.Facts.{sound-facts}
+use Rattle.evaluation.specs.declared.PriceFigures.{PriceFigures}
 use Rattle.record_calls.specs.declared.Slot.{Slot}
 use Rattle.record_calls.specs.declared.Effect.{Effect}
+use Rattle.record_calls.specs.declared.Working.{Working}
 use Rattle.record_calls.specs.Effects.{holds, isKnown, refusedEffect, judgedEffect, admitChecksOf, admitEffect, evaluateEffect, quoteEffect, moveEffect}
 use Rattle.record_calls.specs.Openings.{openingChecks}
-use Rattle.record_calls.specs.Prices.{Begun, Priced}
+use Rattle.record_calls.specs.Workings.{pricedOn, unmadeBy, madeWith, isMade, workedOf, Begun, Evaluates}
 
 -- ---- what a test of the code says of its definition
 
@@ -80,59 +82,97 @@ module _ (s e : Slot) (a : Admission) where
 -- ---- evaluate 1, 6, 16, 5, 7, 8, 9
 
 module _ (s : Slot) (d : Day) (rows : List ℤ) where
-  pub day-unknown : isKnown s ≡ false → refusedEffect (s .count) NoSuchId ≡ evaluateEffect s d rows
-  unfolding evaluateEffect evaluateChecks judgedEffect firstOf isDone
+  pub day-unknown : isKnown s ≡ false → unmadeBy NoSuchId ≡ workedOf s d rows
+  unfolding workedOf evaluateChecks firstOf isDone isMade
   day-unknown t = rw t
 
   pub day-out : isKnown s ≡ true → validDay d rows ≡ false
-      → refusedEffect (s .count) OutOfRange ≡ evaluateEffect s d rows
-  unfolding evaluateEffect evaluateChecks judgedEffect firstOf isDone
+      → unmadeBy OutOfRange ≡ workedOf s d rows
+  unfolding workedOf evaluateChecks firstOf isDone isMade
   day-out known t = rw (known, t)
 
   pub day-row-crossed : isKnown s ≡ true → validDay d rows ≡ true → hasCrossedRow (dayRows rows) ≡ true
-      → refusedEffect (s .count) RowCrossed ≡ evaluateEffect s d rows
-  unfolding evaluateEffect evaluateChecks judgedEffect firstOf isDone
+      → unmadeBy RowCrossed ≡ workedOf s d rows
+  unfolding workedOf evaluateChecks firstOf isDone isMade
   day-row-crossed known valid t = rw (known, valid, t)
 
   module _ (b : Begun s d rows) where
     pub day-not-after : leb (d .day) (lastDay (s .rec .standing)) ≡ true
-        → refusedEffect (s .count) DayNotAfter ≡ evaluateEffect s d rows
-    unfolding evaluateEffect evaluateChecks judgedEffect firstOf isDone
+        → unmadeBy DayNotAfter ≡ workedOf s d rows
+    unfolding workedOf evaluateChecks firstOf isDone isMade
     day-not-after t = rw (b .known, b .valid, b .uncrossed, t)
 
     pub day-beyond : leb (d .day) (lastDay (s .rec .standing)) ≡ false
         → evaluationFits (gridOf (s .rec .statics .lot)) (s .rec .p1 .units) (dayRows rows) ≡ false
-        → refusedEffect (s .count) PriceOutOfRange ≡ evaluateEffect s d rows
-    unfolding evaluateEffect evaluateChecks judgedEffect firstOf isDone
+        → unmadeBy PriceOutOfRange ≡ workedOf s d rows
+    unfolding workedOf evaluateChecks firstOf isDone isMade
     day-beyond after t = rw (b .known, b .valid, b .uncrossed, after, t)
 
-  module _ (p : Priced s d rows) where
+  module _ (p : Evaluates s d rows) where
     pub day-moved-far : moveTooLarge (s .rec .statics) (moveOn (s .rec) rows) ≡ true
-        → refusedEffect (s .count) MoveTooLarge ≡ evaluateEffect s d rows
-    unfolding evaluateEffect evaluateChecks judgedEffect firstOf isDone
+        → unmadeBy MoveTooLarge ≡ workedOf s d rows
+    unfolding workedOf evaluateChecks firstOf isDone isMade
     day-moved-far t =
         let b = p .begun in
         rw (b .known, b .valid, b .uncrossed, p .later, p .fits, t)
 
-    module _ {new : Record} {ordered : Bool}
+    module _ {new : Record} {figures : PriceFigures} {ordered : Bool}
         (near : moveTooLarge (s .rec .statics) (moveOn (s .rec) rows) ≡ false)
         (is : new ≡ evaluated (s .rec) d rows)
+        (chosen : figures ≡ pricedOn (s .rec) rows .figures)
         (tested : ordered ≡ allThree (λ k. not (crossed (getD (new .bands) k noLimits)))) where
       bands : ordered ≡ allThree (λ k. not (crossed (getD (evaluated (s .rec) d rows .bands) k noLimits)))
       bands = rw is at tested
 
-      pub day-crossed : not ordered ≡ true → refusedEffect (s .count) BandCrossed ≡ evaluateEffect s d rows
-      unfolding evaluateEffect evaluateChecks judgedEffect firstOf isDone
+      pub day-crossed : not ordered ≡ true
+          → record { verdict = BandCrossed; rec = new; figures = figures } ≡ workedOf s d rows
+      unfolding workedOf evaluateChecks firstOf isDone isMade
       day-crossed t =
           let b = p .begun in
-          rw (b .known, b .valid, b .uncrossed, p .later, p .fits, near, failed _ bands t)
+          rw (is, chosen, b .known, b .valid, b .uncrossed, p .later, p .fits, near, failed _ bands t)
 
-      pub day-accepted : not ordered ≡ false → record { at = s .at; rec = new; answer = showing new }
-          ≡ evaluateEffect s d rows
-      unfolding evaluateEffect evaluateChecks judgedEffect firstOf isDone
+      pub day-accepted : not ordered ≡ false
+          → record { verdict = Done; rec = new; figures = figures } ≡ workedOf s d rows
+      unfolding workedOf evaluateChecks firstOf isDone isMade
       day-accepted t =
           let b = p .begun in
-          rw (is, b .known, b .valid, b .uncrossed, p .later, p .fits, near, passed _ bands t)
+          rw (is, chosen, b .known, b .valid, b .uncrossed, p .later, p .fits, near, passed _ bands t)
+
+-- what `evaluate` makes of it: a refusal, or the record stored and answered
+module _ (s : Slot) (d : Day) (rows : List ℤ) where
+  abbrev first : Verdict
+  first = firstOf (evaluateChecks (isKnown s) (s .rec) d rows)
+
+  pub worked-verdict : workedOf s d rows .verdict ≡ first
+  unfolding workedOf
+  worked-verdict = go (isMade first)
+    where
+      go : (b : Bool) → pick b (madeWith s d rows first) (unmadeBy first) .verdict ≡ first
+      go true = refl
+      go false = refl
+
+  -- where it is 0 or 9 the record is made
+  pub worked-made : isMade first ≡ true → workedOf s d rows ≡ madeWith s d rows first
+  unfolding workedOf
+  worked-made e = pick-true (isMade first) _ _ e
+
+  worked-record : isDone first ≡ true → workedOf s d rows .rec ≡ evaluated (s .rec) d rows
+  unfolding isMade
+  worked-record e = ap (λ (w : Working). w .rec) (worked-made (rw e))
+
+  pub day-refused : isDone (workedOf s d rows .verdict) ≡ false
+      → refusedEffect (s .count) (workedOf s d rows .verdict) ≡ evaluateEffect s d rows
+  unfolding evaluateEffect judgedEffect
+  day-refused n =
+      rw worked-verdict (sym (pick-false (isDone first) _ _ (ap isDone (sym worked-verdict) ∙ n)))
+
+  pub day-stored : isDone (workedOf s d rows .verdict) ≡ true
+      → record { at = s .at; rec = workedOf s d rows .rec; answer = showing (workedOf s d rows .rec) }
+      ≡ evaluateEffect s d rows
+  unfolding evaluateEffect judgedEffect
+  day-stored e =
+      let done : isDone first ≡ true = ap isDone (sym worked-verdict) ∙ e in
+      rw (worked-record done) (sym (pick-true (isDone first) _ _ done))
 
 -- ---- quote 1, 6, 10, 11, 13; move 1, 6, 10, 11, 12
 

@@ -1,3 +1,3 @@
 pub mod Effects
 pub mod Openings
-pub mod Prices
+pub mod Workings

@@ -10,8 +10,10 @@ ghost use Rattle.paper.specs.Verdicts.{firstOf};
 ghost use Rattle.paper.specs.Desk.{blank, saying, showing, nearOn, alertsOn};
 ghost use Rattle.record_calls.specs.Effects.{holds, isKnown, refusedEffect, admitEffect, evaluateEffect, quoteEffect, moveEffect, readAnswer};
 ghost use Rattle.record_calls.specs.Openings.{openingChecks};
-ghost use Rattle.record_calls.specs.Prices.{Prices};
+ghost use Rattle.record_calls.specs.Workings.{unmadeBy, workedOf, Prices};
 use evaluation::Evaluation;
+use evaluation::PriceFigures;
+use evaluation::Priced;
 use paper::Admission;
 use paper::Answer;
 use paper::Day;
@@ -248,59 +250,106 @@ fn in_order(bands: [Limits; Record::TERMS]) -> bool
     !limits::is_crossed(bands[0]) & !limits::is_crossed(bands[1]) & !limits::is_crossed(bands[2])
 }
 
-// 8, 9 and what is written, at the evaluation P of a day that is not refused before.
-fn evaluated_at(s: Slot, d: Day, p: Price) -> Effect
+// What an evaluation comes to before it is answered: the first number that applies, or done, and where that is done or
+// 9 the record that was made, with the figures that its price was chosen from; else a blank and zeros.
+pub struct Working {
+    pub verdict: Verdict,
+    pub rec: Record,
+    pub figures: PriceFigures,
+}
+
+// What a number before 9 leaves: nothing is made.
+fn unmade(first: Verdict) -> Working
+    ensures { λ w. ⌜ w ≡ unmadeBy first ⌝ }
+{
+    let rec = blank();
+    Working {
+        verdict: first,
+        rec,
+        figures: PriceFigures {
+            weight: 0,
+            close: 0,
+            bid: 0,
+            ask: 0,
+        },
+    }
+}
+
+// 8, 9 and the record that is made, at the evaluation of a day that is not refused before.
+fn worked_at(s: Slot, d: Day, e: Priced) -> Working
     requires { ⌜ sound (s .rec) ≡ true ⌝ }
     requires { ⌜ validDayNumbers d ≡ true ⌝ }
-    requires { ⌜ isPrice (p .units) ≡ true ⌝ }
-    ensures { λ o. ⌜ Prices s d (p .units) o ⌝ }
+    requires { ⌜ isPrice (e .price .units) ≡ true ⌝ }
+    ensures { λ w. ⌜ Prices s d e w ⌝ }
 {
-    let count = s.count;
     let r = s.rec;
     let st = r.statics;
     let rates = r.rates;
     let tentative = r.tentative;
     let p1 = r.p1;
     let p2 = r.p2;
+    let p = e.price;
+    let figures = e.figures;
     let change = rates::volatility::move_of(p1, p2, p);
     if rates::move_too_large(st, change) {
-        return refused(count, Verdict::MoveTooLarge);
+        return unmade(Verdict::MoveTooLarge);
     }
-    let figures = rates::figures_of(st, d.b, d.m, rates[0], change, r.s, tentative);
-    let new = record_writing::evaluated(r, d, p, figures);
-    let bands = new.bands;
+    let made = rates::figures_of(st, d.b, d.m, rates[0], change, r.s, tentative);
+    let rec = record_writing::evaluated(r, d, p, made);
+    let bands = rec.bands;
     if !in_order(bands) {
-        return refused(count, Verdict::BandCrossed);
+        return Working {
+            verdict: Verdict::BandCrossed,
+            rec,
+            figures,
+        };
     }
-    written(s.at, new)
+    Working {
+        verdict: Verdict::Done,
+        rec,
+        figures,
+    }
 }
 
 // "evaluate 1, 6, 5, 7, 8, 9"; W-205: "16, after 6 and before 5".
-pub fn evaluated(s: Slot, d: Day, rows: &[i64]) -> Effect
-    ensures { λ o. ⌜ o ≡ evaluateEffect s d (now (rows .entry)) ⌝ }
+pub fn worked(s: Slot, d: Day, rows: &[i64]) -> Working
+    ensures { λ w. ⌜ w ≡ workedOf s d (now (rows .entry)) ⌝ }
 {
-    let count = s.count;
     let r = s.rec;
     let standing = r.standing;
     if !is_known(s) {
-        return refused(count, Verdict::NoSuchId);
+        return unmade(Verdict::NoSuchId);
     }
     if !valid_day(d, rows) {
-        return refused(count, Verdict::OutOfRange);
+        return unmade(Verdict::OutOfRange);
     }
     if rows::has_crossed_row(rows) {
-        return refused(count, Verdict::RowCrossed);
+        return unmade(Verdict::RowCrossed);
     }
     if d.day <= record_soundness::last_day(standing) {
-        return refused(count, Verdict::DayNotAfter);
+        return unmade(Verdict::DayNotAfter);
     }
     let g = inputs::grid_of(r.statics.lot);
     let previous = r.p1;
     let evaluation = evaluation::evaluate(rows, previous, g);
     match evaluation {
-        Evaluation::Beyond => refused(count, Verdict::PriceOutOfRange),
-        Evaluation::Evaluated(p) => evaluated_at(s, d, p),
+        Evaluation::Beyond => unmade(Verdict::PriceOutOfRange),
+        Evaluation::Evaluated(e) => worked_at(s, d, e),
     }
+}
+
+// The record that an evaluation makes is stored and answered, unless a number applies.
+pub fn evaluated(s: Slot, d: Day, rows: &[i64]) -> Effect
+    ensures { λ o. ⌜ o ≡ evaluateEffect s d (now (rows .entry)) ⌝ }
+{
+    let count = s.count;
+    let w = worked(s, d, rows);
+    let v = w.verdict;
+    if !v.is_done() {
+        return refused(count, v);
+    }
+    let rec = w.rec;
+    written(s.at, rec)
 }
 
 // 1, 6, 10 and 11, which a quote and a move have in this order: the first that applies, or done.

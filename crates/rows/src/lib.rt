@@ -65,7 +65,7 @@ pub fn row_at(rows: &[i64], at: usize) -> Row
 }
 
 // W-205: "a row whose bid and ask are both present and the bid is above the ask", of the numbers as they are lent.
-fn row_crossed(rows: &[i64], at: usize) -> bool
+pub fn row_crossed(rows: &[i64], at: usize) -> bool
     requires { ⌜ at + rowNumbers ≤ length (now rows) ⌝ }
     ensures { λ r. ⌜ r ≡ isCrossedRow (rowOf (rowAt (now (rows .entry)) at)) ⌝ }
 {
@@ -100,7 +100,7 @@ fn every_row_passes(rows: &[i64], test: RowTest) -> bool
 }
 
 // "slice length not a multiple of 7 or over 112" is refused.
-fn whole_rows(rows: &[i64]) -> bool
+pub fn whole_rows(rows: &[i64]) -> bool
     ensures { λ r. ⌜ r ≡ wholeRows (now (rows .entry)) ⌝ }
 {
     (rows.len() % Row::NUMBERS == 0) & (rows.len() <= Row::ALL_NUMBERS_MOST)

@@ -25,10 +25,10 @@ asked : (c : tie.After-new)
 asked c = c .new .ensures ∙ ap priceMade (c .before .to-grid .ensures)
 
 returns : tie.Need-returns
-returns c = from-made _ _ (sym (c .before .made .given .1) ∙ asked (c .before .before .before))
+returns c = from-made _ _ _ (sym (c .before .made .given .1) ∙ asked (c .before .before .before))
 
 returns-2 : tie.Need-returns-2
-returns-2 c = from-out _ (sym (c .enum-told .given .1) ∙ asked (c .before .before))
+returns-2 c = from-out _ _ (sym (c .enum-told .given .1) ∙ asked (c .before .before))
 
 pub on-grid-spec : {M : Type 1} → statement M
 on-grid-spec =
