@@ -6,7 +6,7 @@ use crate::ewma::{self, Volatility};
 use crate::exact::{narrow, wide, Quotient};
 use crate::limits::{beside_one, furthest, growth, narrower, spread, units};
 use crate::rates::{level_rates, target};
-use crate::record::{is_repo_term, is_tentative, Side};
+use crate::record::{is_tentative, Side};
 use crate::refusal::Refusal;
 use crate::security::RepoTerm;
 use crate::statics::{
@@ -210,9 +210,8 @@ impl Bond {
                 })
                 .collect(),
         };
-        let terms_are_sound =
-            (bond.terms.iter()).all(|term| is_repo_term(term.days, term.rrcl, term.rrch));
-        (terms_are_sound && is_tentative(&statics, bond.before.tentative)).then_some(bond)
+        let are_terms = bond.terms.iter().all(RepoTerm::is_in_range);
+        (are_terms && is_tentative(&statics, bond.before.tentative)).then_some(bond)
     }
 
     /// The bond as plain numbers, in the order of the text protocol.

@@ -78,11 +78,7 @@ impl SeenMove {
         let model = self.before.statics.model();
         let ordinary = ewma::target(&model, self.after.s, MILLIONTHS_IN_BP);
         let stepped = |t: i64| {
-            let before = ewma::Volatility {
-                s: self.before.s,
-                tentative: self.before.tentative,
-                age: self.before.age,
-            };
+            let before = self.before.volatility();
             ewma::stepped(&model, self.after.s, self.held(t), &before)
         };
         stepped(ordinary) != stepped(self.of_move())

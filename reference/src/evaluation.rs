@@ -113,16 +113,18 @@ impl Market {
         Some(())
     }
 
-    /// Place (c): the weighted close, or the previous evaluation.
-    fn close(&self, previous: i64) -> i64 {
-        if self.weight == 0 {
-            return previous;
-        }
+    /// Place (c): the weighted close; none where no row has a weight.
+    fn weighted_close(&self) -> Option<i64> {
         let mean = Quotient {
             numerator: self.turnover,
             denominator: self.weight,
         };
-        narrow(mean.half_up())
+        (self.weight > 0).then(|| narrow(mean.half_up()))
+    }
+
+    /// The weighted close, or the previous evaluation.
+    fn close(&self, previous: i64) -> i64 {
+        self.weighted_close().unwrap_or(previous)
     }
 
     /// The close against BID and ASK: the median where both are present, also
@@ -141,20 +143,37 @@ fn median(a: i64, b: i64, c: i64) -> i64 {
     a.max(b).min(a.min(b).max(c))
 }
 
+/// Whether a day's rows have a permitted length.
+pub fn is_row_length(rows: &[i64]) -> bool {
+    rows.len() <= ROWS_MAX && rows.len() % ROW == 0
+}
+
 /// Whether a day's rows have a permitted length and every value in range.
 pub fn rows_are_in_range(rows: &[i64]) -> bool {
-    rows.len() <= ROWS_MAX
-        && rows.len() % ROW == 0
-        && rows
-            .chunks_exact(ROW)
-            .all(|row| Row::from_numbers(row).is_in_range())
+    is_row_length(rows) && rows_out_of_range(rows).next().is_none()
+}
+
+/// The places of the rows of which a value is out of range.
+pub fn rows_out_of_range(rows: &[i64]) -> impl Iterator<Item = usize> + '_ {
+    places(rows, |row| !row.is_in_range())
 }
 
 /// The places of the crossed rows.
 pub fn crossed_rows(rows: &[i64]) -> impl Iterator<Item = usize> + '_ {
+    places(rows, Row::is_crossed)
+}
+
+/// The places of the rows in range of which a rounded price or volume does not
+/// fit.
+pub fn unfit_rows(rows: &[i64]) -> impl Iterator<Item = usize> + '_ {
+    places(rows, |row| Market::default().take(row).is_none())
+}
+
+/// The places of the rows that are so, counted from 0.
+fn places(rows: &[i64], is_so: fn(&Row) -> bool) -> impl Iterator<Item = usize> + '_ {
     let numbered = rows.chunks_exact(ROW).enumerate();
-    let crossed = numbered.filter(|(_, row)| Row::from_numbers(row).is_crossed());
-    crossed.map(|(place, _)| place)
+    let found = numbered.filter(move |(_, row)| is_so(&Row::from_numbers(row)));
+    found.map(|(place, _)| place)
 }
 
 /// Whether some row is crossed; BID may stand above ASK across rows.
@@ -177,13 +196,37 @@ pub fn sides_in_roubles(rows: &[i64]) -> Option<(Option<i64>, Option<i64>)> {
     market(rows).map(|market| (market.bid, market.ask))
 }
 
+/// What the price before the grid is made of, and that price.
+#[derive(Clone, Copy, Debug)]
+pub struct Settled {
+    /// The price before the grid.
+    pub price: i64,
+    /// The weighted close, where a row has a weight.
+    pub close: Option<i64>,
+    /// BID, where it is present.
+    pub bid: Option<i64>,
+    /// ASK, where it is present.
+    pub ask: Option<i64>,
+}
+
+/// The price before the grid from rows in range; none where a rounded figure is
+/// out of range.
+pub fn settled(rows: &[i64], previous: i64) -> Option<Settled> {
+    let market = market(rows)?;
+    Some(Settled {
+        price: market.settled(market.close(previous)),
+        close: market.weighted_close(),
+        bid: market.bid,
+        ask: market.ask,
+    })
+}
+
 /// The day's evaluation from rows in range, place (d): half up to the grid.
 /// None where a rounded row price, the evaluation or a rounded row volume
 /// falls outside its range (number 7).
 pub fn evaluation(rows: &[i64], previous: i64, grid: i64) -> Option<i64> {
-    let market = market(rows)?;
     let settled = Quotient {
-        numerator: wide(market.settled(market.close(previous))),
+        numerator: wide(settled(rows, previous)?.price),
         denominator: 1,
     };
     let price = settled.half_up_to(grid);

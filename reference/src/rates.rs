@@ -31,16 +31,18 @@ pub fn price_move(p: i64, p1: i64, p2: i64) -> i64 {
     from(p1).max(from(p2))
 }
 
-/// Volatility, tentative rate and age after a day, t held at S_max. With
-/// isEWMA no they stay.
-pub fn after_day(
-    statics: &Statics,
-    before: &Volatility,
-    day: &DayMove,
-) -> Result<Volatility, Refusal> {
-    if !statics.is_ewma {
-        return Ok(*before);
-    }
+/// What a day's move does to the volatility, and t.
+#[derive(Clone, Copy, Debug)]
+pub struct Turn {
+    /// The move, by (e).
+    pub r: i64,
+    pub chosen: Chosen,
+    /// t, held at S_max.
+    pub t: i64,
+}
+
+/// The turn of a day; refused where the move is too great.
+pub fn turn(statics: &Statics, before: &Volatility, day: &DayMove) -> Result<Turn, Refusal> {
     let r = price_move(day.p, day.p1, day.p2);
     if !VOLATILITY.contains(&r) {
         return Err(Refusal::MoveTooGreat);
@@ -52,7 +54,20 @@ pub fn after_day(
         Chosen::Weighed(s) => target(statics, s),
         Chosen::Replacement(_) => move_target(statics, r).min(statics.s_max),
     };
-    Ok(ewma::stepped(&model, chosen.s(), t, before))
+    Ok(Turn { r, chosen, t })
+}
+
+/// Volatility, tentative rate and age after a day. With isEWMA no they stay.
+pub fn after_day(
+    statics: &Statics,
+    before: &Volatility,
+    day: &DayMove,
+) -> Result<Volatility, Refusal> {
+    if !statics.is_ewma {
+        return Ok(*before);
+    }
+    let Turn { chosen, t, .. } = turn(statics, before, day)?;
+    Ok(ewma::stepped(&statics.model(), chosen.s(), t, before))
 }
 
 /// t of a volatility: the least multiple of h with 10,000·t ≥ q·s, held at
@@ -94,6 +109,32 @@ impl Requirement {
     }
 }
 
+/// The requirement of a level (0, 1, 2 for the paper's 1, 2, 3).
+fn requirement(statics: &Statics, level: usize, tentative: i64, days_closed: i64) -> Requirement {
+    Requirement {
+        horizon: wide(statics.horizons[level]),
+        horizon_1: wide(statics.horizons[0]),
+        ahead: wide(statics.horizons[0] + days_closed),
+        tentative: wide(tentative),
+        liq: wide(statics.liq),
+    }
+}
+
+/// The least multiple of h that covers a level's requirement, whatever the
+/// minimum; none where S_max does not cover it.
+pub fn least_covering(
+    statics: &Statics,
+    level: usize,
+    tentative: i64,
+    days_closed: i64,
+) -> Option<i64> {
+    let requirement = requirement(statics, level, tentative, days_closed);
+    let step = wide(statics.step);
+    let most = wide(statics.s_max) / step;
+    let covers = |steps: i128| requirement.is_met_by(steps * step);
+    covers(most).then(|| narrow(least(0, most, covers) * step))
+}
+
 /// The rate of a level (0, 1, 2 for the paper's 1, 2, 3): S_max where the
 /// requirement exceeds it, else the least multiple of h from S_L_min up that
 /// meets it. With isEWMA no, the minimum.
@@ -102,13 +143,7 @@ pub fn level_rate(statics: &Statics, level: usize, tentative: i64, days_closed: 
     if !statics.is_ewma {
         return minimum;
     }
-    let requirement = Requirement {
-        horizon: wide(statics.horizons[level]),
-        horizon_1: wide(statics.horizons[0]),
-        ahead: wide(statics.horizons[0] + days_closed),
-        tentative: wide(tentative),
-        liq: wide(statics.liq),
-    };
+    let requirement = requirement(statics, level, tentative, days_closed);
     if !requirement.is_met_by(wide(statics.s_max)) {
         return statics.s_max;
     }

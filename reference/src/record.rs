@@ -1,5 +1,6 @@
 //! A security's record (document 01, "What the desk covers").
 
+use crate::ewma::Volatility;
 use crate::statics::Statics;
 use crate::units::{
     AGE, DAYS_AHEAD, DAY_NUMBER, ID, LIMIT, MOVE_COUNT, PRICE, RATE, REPO_RATE, SECOND, VOLATILITY,
@@ -102,6 +103,15 @@ impl Record {
         matches!(self.standing, Standing::Live(_))
     }
 
+    /// What an evaluation carries on from the day before.
+    pub fn volatility(&self) -> Volatility {
+        Volatility {
+            s: self.s,
+            tentative: self.tentative,
+            age: self.age,
+        }
+    }
+
     /// The last day: of the admission, or of the latest evaluation.
     pub fn last_day(&self) -> i64 {
         match self.standing {
@@ -176,6 +186,11 @@ impl Term {
         near_top: None,
         near_bottom: None,
     };
+
+    /// The lower band limit above the upper one.
+    pub fn is_crossed(&self) -> bool {
+        self.lower > self.upper
+    }
 
     fn figures(&self) -> [i64; 7] {
         [

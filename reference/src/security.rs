@@ -48,6 +48,12 @@ pub struct RepoTerm {
     pub rrch: i64,
 }
 
+impl RepoTerm {
+    pub fn is_in_range(&self) -> bool {
+        is_repo_term(self.days, self.rrcl, self.rrch)
+    }
+}
+
 /// A quote; 0 is a missing side.
 #[derive(Clone, Copy, Debug)]
 pub struct Quote {
@@ -93,10 +99,7 @@ impl Day<'_> {
         DAY_NUMBER.contains(&self.number)
             && DAYS_BETWEEN.contains(&self.days_between)
             && DAYS_CLOSED.contains(&self.days_closed)
-            && self
-                .terms
-                .iter()
-                .all(|term| is_repo_term(term.days, term.rrcl, term.rrch))
+            && self.terms.iter().all(RepoTerm::is_in_range)
             && rows_are_in_range(self.rows)
     }
 }
@@ -115,19 +118,23 @@ pub fn evaluated(record: &Record, day: &Day) -> Result<Record, Refusal> {
     worked_out(record, day)
 }
 
-/// The record after a day that is in range: refused 7, 8, 9. An evaluation
-/// clears both counts, all near seconds and the last quote second.
+/// The record after a day that is in range: refused 7, 8, 9.
 pub fn worked_out(record: &Record, day: &Day) -> Result<Record, Refusal> {
+    let after = made(record, day)?;
+    if after.terms.iter().any(Term::is_crossed) {
+        return Err(Refusal::BandCrossed);
+    }
+    Ok(after)
+}
+
+/// The record that a day in range makes, its bands crossed perhaps: refused 7,
+/// 8. An evaluation clears both counts, all near seconds and the last quote
+/// second.
+pub fn made(record: &Record, day: &Day) -> Result<Record, Refusal> {
     let statics = &record.statics;
     let p = evaluation(day.rows, record.p1, statics.grid()).ok_or(Refusal::EvaluationOutOfRange)?;
     let volatility = volatility_after(record, day, p)?;
     let rates = level_rates(statics, volatility.tentative, day.days_closed);
-    let terms = day
-        .terms
-        .map(|term| fresh_term(statics, p, rates[0], &term));
-    if terms.iter().any(|term| term.lower > term.upper) {
-        return Err(Refusal::BandCrossed);
-    }
     Ok(Record {
         id: record.id,
         statics: *statics,
@@ -140,7 +147,9 @@ pub fn worked_out(record: &Record, day: &Day) -> Result<Record, Refusal> {
         rates,
         upper: rates.map(|rate| range_limit(statics, p, rate, Side::Upper)),
         lower: rates.map(|rate| range_limit(statics, p, rate, Side::Lower)),
-        terms,
+        terms: day
+            .terms
+            .map(|term| fresh_term(statics, p, rates[0], &term)),
         moves_upper: 0,
         moves_lower: 0,
         last_second: 0,
@@ -148,19 +157,22 @@ pub fn worked_out(record: &Record, day: &Day) -> Result<Record, Refusal> {
 }
 
 fn volatility_after(record: &Record, day: &Day, p: i64) -> Result<Volatility, Refusal> {
-    let before = Volatility {
-        s: record.s,
-        tentative: record.tentative,
-        age: record.age,
-    };
-    let day_move = DayMove {
+    after_day(
+        &record.statics,
+        &record.volatility(),
+        &day_move(record, day, p),
+    )
+}
+
+/// What a day with evaluation P says to the rates.
+pub fn day_move(record: &Record, day: &Day, p: i64) -> DayMove {
+    DayMove {
         p,
         p1: record.p1,
         p2: record.p2,
         last_s_1: record.rates[0],
         days_between: day.days_between,
-    };
-    after_day(&record.statics, &before, &day_move)
+    }
 }
 
 /// A term at an evaluation, where c is 0 on both sides and nothing is near.

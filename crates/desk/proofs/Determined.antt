@@ -40,7 +40,7 @@ module _ {M : Type 1} (𝓤 : URA M) where
       (r r′ : Res (T .signature) κs) (e e′ : AtExit T κs)
       → ent 𝓤 (conj 𝓤 (c κs a .ensures g r e) (c κs a .ensures g r′ e′)) (fact 𝓤 ((r ≡ r′) × (left κs e ≡ left κs e′)))
 
-  together : (φ ψ χ : Type 0) → (φ → ψ → χ) → ent 𝓤 (conj 𝓤 (fact 𝓤 φ) (fact 𝓤 ψ)) (fact 𝓤 χ)
+  pub together : (φ ψ χ : Type 0) → (φ → ψ → χ) → ent 𝓤 (conj 𝓤 (fact 𝓤 φ) (fact 𝓤 ψ)) (fact 𝓤 χ)
   together φ ψ χ k =
       fact-use 𝓤 φ (conjL 𝓤 (fact 𝓤 φ) (fact 𝓤 ψ))
       (λ p. fact-use 𝓤 ψ (conjR 𝓤 (fact 𝓤 φ) (fact 𝓤 ψ)) (λ p′. factI 𝓤 χ (conj 𝓤 (fact 𝓤 φ) (fact 𝓤 ψ))

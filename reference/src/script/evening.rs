@@ -4,6 +4,7 @@
 mod bonds;
 mod sheets;
 
+use crate::count_why::{self, NamedEdge};
 use crate::desk::{fresh_table, SLOTS_MAX};
 use crate::interest::{Pair, Sheet, Worked};
 use crate::kept::Kept;
@@ -15,7 +16,7 @@ use crate::units::{Range, ID, MOVE_COUNT};
 use crate::words::{hear, number_or_pair, Word, EVENING_LINE_MAX};
 
 use super::edges::{edge, neighbours, unsettled_count, Ends};
-use super::{crossed, day, edges, quote, replacement, share, spelling};
+use super::{crossed, day, edges, quote, replacement, share, spelling, why};
 
 /// Securities that the author works on at a time.
 const FOCUS: usize = 24;
@@ -40,6 +41,8 @@ const REPLACED: usize = 2 * replacement::SHARES;
 const REPLACED_DRAWS: usize = 8;
 /// Draws of a record whose next day can have a crossed row and another fault.
 const CROSSED_DRAWS: usize = 40;
+/// Draws of a record whose next day can stand at an edge of its reasons.
+const WHY_DRAWS: usize = 1_500;
 /// What else may be wrong with a day that has a crossed row.
 const ALSO_REFUSED: [Refusal; 8] = [
     Refusal::ValueOutOfRange,
@@ -52,10 +55,11 @@ const ALSO_REFUSED: [Refusal; 8] = [
     Refusal::BandCrossed,
 ];
 /// After how many of a hundred lines each spell comes.
-const SPELLS: [(usize, Spell); 4] = [
+const SPELLS: [(usize, Spell); 5] = [
     (8, Spell::Falls),
     (11, Spell::Replaced),
     (14, Spell::Stays),
+    (17, Spell::Reasoned),
     (20, Spell::Widest),
 ];
 
@@ -71,6 +75,8 @@ enum Spell {
     Widest,
     /// Not one security but many, each made for the edges of a replacement.
     Replaced,
+    /// Many, each made for the reasons of a level.
+    Reasoned,
 }
 
 /// A script of so many lines. Scripts of odd seeds lack the last line's end.
@@ -95,6 +101,9 @@ struct Author {
     pairs: Vec<Pair>,
     /// How many ends of the interest side's ranges have had their turn.
     ends: usize,
+    /// The edges of an evaluation's reasons, and how many have had their turn.
+    reasons: Vec<NamedEdge>,
+    reasoned: usize,
     /// How many edges of a bond have had their turn.
     aims: usize,
     text: Vec<u8>,
@@ -114,6 +123,8 @@ impl Author {
             sheets: Vec::new(),
             pairs: Vec::new(),
             ends: 0,
+            reasons: count_why::edges(),
+            reasoned: 0,
             aims: 0,
             text: Vec::new(),
             heard: Vec::new(),
@@ -193,7 +204,8 @@ impl Author {
     /// One thing of the desk, by its weight among a thousand.
     fn desk_turn(&mut self) {
         match self.random.below(1_000) {
-            0..=234 => self.day(),
+            0..=174 => self.day(),
+            175..=234 => self.reasoned_day(),
             235..=294 => self.replaced_day(),
             295..=339 => self.crossed_day(),
             340..=459 => self.day_at_an_edge(),
@@ -390,6 +402,24 @@ impl Author {
         }
     }
 
+    /// A day at the next edge of its reasons, of a security that can have it.
+    fn reasoned_day(&mut self) {
+        let place = self.reasoned % self.reasons.len();
+        self.reasoned += 1;
+        for _ in 0..WHY_DRAWS {
+            let mut record = self.table[self.random.below(self.admitted)];
+            let is_admitted = self.random.chance(90);
+            if !is_admitted {
+                record.id = self.new_id();
+            }
+            let edge = &self.reasons[place];
+            if let Some(numbers) = why::attempt(&mut self.random, &record, is_admitted, edge) {
+                return self.say("evaluate", &numbers);
+            }
+        }
+        self.day();
+    }
+
     /// A day on which a security trades at a price.
     fn trade(&mut self, id: i64, number: i64, holidays: i64, price: i64) {
         let numbers = replacement::day_at(&mut self.random, id, number, holidays, price);
@@ -404,6 +434,7 @@ impl Author {
             Spell::Stays => self.quiet_spell(&share::quiet_admission(id, false)),
             Spell::Widest => self.widest_spell(id),
             Spell::Replaced => (0..REPLACED).for_each(|turn| self.replaced_security(turn)),
+            Spell::Reasoned => (0..why::SHARES).for_each(|turn| self.reasoned_security(turn)),
         }
     }
 
@@ -430,6 +461,15 @@ impl Author {
             self.say("admit", &made.admission);
             let holidays = self.random.pick(&[0, 0, 1]);
             self.trade(id, 1, holidays, made.price);
+        }
+    }
+
+    /// A security made for the reasons of a level, and its first day.
+    fn reasoned_security(&mut self, turn: usize) {
+        let id = self.new_id();
+        if let Some(admission) = why::made(&mut self.random, id, turn) {
+            self.say("admit", &admission);
+            self.quiet_days(id, 1..=1);
         }
     }
 

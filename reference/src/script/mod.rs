@@ -12,3 +12,4 @@ mod quote;
 mod replacement;
 mod share;
 mod spelling;
+mod why;

@@ -1,0 +1,30 @@
+-- Asking why agrees with `evaluate` on the number, whatever is asked; and of a refusal it names what the first fault
+-- that applies is. Assumes nothing.
+use mathlib.Core.Path.{_≡_, refl, sym, ap, _∙_}
+use mathlib.Core.Logic.{_⊎_}
+use mathlib.Core.Bool.{Bool, true, false}
+use mathlib.Core.List.{List}
+use Prim.Native.Nat.{ℕ}
+use lib.IntN.{ℤ}
+use Rattle.paper.specs.declared.Record.{Record}
+use Rattle.paper.specs.declared.Day.{Day}
+use Rattle.paper.specs.declared.Verdict.{Verdict}
+use Rattle.paper.specs.Verdicts.{FirstAt, NoneApplies}
+use Rattle.paper.specs.Desk.{evaluate, checksOf, step}
+use Rattle.paper.proofs.Refusals.{verdict-first, named-is}
+use Rattle.paper_reasons.specs.declared.Fault.{Fault}
+use Rattle.paper_reasons.specs.declared.Fault.the-variants as fault
+use Rattle.paper_reasons.specs.Faults.{faultsOf, faultOf}
+use Rattle.paper_reasons.specs.Why.{whyOf, whyOn}
+
+-- THE NUMBER is that which `evaluate` answers
+pub number-agrees : (t : List Record) (id : ℕ) (d : Day) (rows : List ℤ)
+    → whyOn t id d rows .verdict ≡ step (evaluate id d rows) t .answer .verdict
+unfolding whyOn whyOf checksOf
+number-agrees t id d rows = sym (verdict-first (evaluate id d rows) t)
+
+-- THE FAULT is the first row, else term, at fault; or none is
+pub fault-is : (v : Verdict) (r : Record) (d : Day) (rows : List ℤ) (x : Fault) → faultOf v r d rows ≡ x
+    → FirstAt x (faultsOf v r d rows) ⊎ ((fault.None ≡ x) × NoneApplies (faultsOf v r d rows))
+unfolding faultOf
+fault-is v r d rows x e = named-is fault.None (faultsOf v r d rows) x e

@@ -1,0 +1,125 @@
+-- A reason's figure is the figure: the price on the grid, the weight, the volatility, the tentative rate and the rate
+-- of a level are what the reason that is named says. Assumes nothing.
+use mathlib.Core.Path.{_≡_, refl, sym, ap, _∙_}
+use mathlib.Core.Bool.{Bool, true, false, not, _&&_}
+use mathlib.Core.List.{List, [], _∷_, map}
+use Prim.Native.Nat.{ℕ, _+_, _-_, _≤_, _<_, min}
+use native.Mathlib.Omega.{arith}
+use lib.Dec.{leb, ltb, eqb}
+use borrow.Author.Tests.{eqb-true, ltb-false, leb-false, le-leb, lt-ltb}
+use Rattle.paper.specs.declared.Row.{Row}
+use Rattle.paper.specs.declared.Roubles.{Roubles}
+use Rattle.paper.specs.declared.Model.{Model}
+use Rattle.paper.specs.declared.Statics.{Statics}
+use Rattle.paper.specs.declared.Tentative.{Tentative}
+use Rattle.paper.specs.Lists.{pick}
+use Rattle.paper.specs.Numbers.{ageMost}
+use Rattle.paper.specs.Roundings.{toGrid}
+use Rattle.paper.specs.Ranges.{validStatics}
+use Rattle.paper.specs.Evaluation.{roublesOf, closeOf, bestBid, bestAsk, evaluationOf}
+use Rattle.paper.specs.Rates.{weightOf, weighted, replacement, replacementWins, volatilityOf, tentativeAfter, minimumOf, covers, levelRate}
+use Rattle.paper.proofs.Logic.{clash, and-right, and-both}
+use Rattle.paper_reasons.specs.declared.PriceReason.{PriceReason}
+use Rattle.paper_reasons.specs.declared.PriceReason.the-variants as price
+use Rattle.paper_reasons.specs.declared.WeightReason.the-variants as weight
+use Rattle.paper_reasons.specs.declared.ReplacementReason.the-variants as chosen
+use Rattle.paper_reasons.specs.declared.TentativeReason.the-variants as tentative
+use Rattle.paper_reasons.specs.declared.LevelReason.{LevelReason}
+use Rattle.paper_reasons.specs.declared.LevelReason.the-variants as level
+use Rattle.paper_reasons.specs.Reasons.{isTraded, beforeGrid, priceSetBy, priceReason, weightIs, weightReason, replacementWas, replacementReason, tentativeDid, tentativeReason, requirementStep, levelSetBy, levelReason}
+use Rattle.paper_reasons.specs.Figures.{priceFigure, weightFigure, volatilityFigure, tentativeFigure, levelFigure}
+use Rattle.paper_reasons.proofs.Prices.{price-named}
+use Rattle.paper_reasons.proofs.Levels.{level-named}
+
+-- the figure whose condition holds is the price before the grid
+set-by : (previous : ℕ) (rs : List Roubles) (x : PriceReason) → priceSetBy previous rs x ≡ true
+    → beforeGrid previous rs ≡ priceFigure previous rs x
+unfolding priceSetBy priceFigure
+set-by previous rs price.None e = absurd (clash false e refl)
+set-by previous rs price.Close e = eqb-true _ _ (and-right (isTraded rs) _ e)
+set-by previous rs price.Bid e = eqb-true _ _ (and-right (ltb 0 (bestBid rs)) _ e)
+set-by previous rs price.Ask e = eqb-true _ _ (and-right (ltb 0 (bestAsk rs)) _ e)
+set-by previous rs price.Yesterday e = eqb-true _ _ (and-right (not (isTraded rs)) _ e)
+
+-- PRICE CLOSE: the evaluation is the close on the grid; and so for the others
+pub price-is : (g previous : ℕ) (rows : List Row)
+    → let rs : List Roubles = map roublesOf rows in
+    evaluationOf g previous rows ≡ toGrid g (priceFigure previous rs (priceReason previous rs)) 1
+unfolding evaluationOf
+price-is g previous rows =
+    let rs : List Roubles = map roublesOf rows in
+    ap (λ (x : ℕ). toGrid g x 1) (set-by previous rs (priceReason previous rs) (price-named previous rs .condition))
+
+-- With isEWMA yes:
+module _ (st : Statics) (ewma : st .ewma ≡ true) where
+  -- WEIGHT
+  pub weight-is : (m : Model) (b r s : ℕ) → weightOf m b r s ≡ weightFigure m (weightReason st b r s)
+  unfolding weightOf weightFigure weightReason weightIs
+  weight-is m b r s = rw ewma (go (ltb 1 b) (ltb s r) (leb r s) (λ e. le-leb r s (ltb-false s r e)))
+    where
+      go : (none above below : Bool) → (above ≡ false → below ≡ true) → pick none 0 (pick above (m .aup) (m .adown))
+          ≡ weightFigure m (pick none weight.Zero (pick above weight.Up (pick below weight.Down weight.None)))
+      go true above below e = refl
+      go false true below e = refl
+      go false false below e = rw (e refl)
+
+  -- REPLACEMENT
+  pub volatility-is : (m : Model) (b last r s : ℕ) → volatilityOf m b last r s
+      ≡ volatilityFigure m (weightOf m b r s) r s (replacementReason st (replacementWins m b last r s))
+  unfolding volatilityOf volatilityFigure replacementReason replacementWas
+  volatility-is m b last r s = rw ewma (go (replacementWins m b last r s))
+    where
+      x : ℕ
+      x = weighted (weightOf m b r s) s r
+
+      go : (won : Bool) → pick won (replacement (m .q) r) x
+          ≡ volatilityFigure m (weightOf m b r s) r s (pick won chosen.Yes (pick (not won) chosen.No chosen.None))
+      go true = refl
+      go false = refl
+
+  -- TENTATIVE
+  pub tentative-is : (t : ℕ) (old : Tentative) → tentativeAfter (st .h) (st .wait) t old .bp
+      ≡ tentativeFigure (st .h) t (old .bp) (tentativeReason st t old)
+  unfolding tentativeAfter tentativeFigure tentativeReason tentativeDid
+  tentative-is t old =
+      rw ewma (go (leb (old .bp + st .h) t) (leb (t + st .h) (old .bp)) (leb (st .wait) (old .age + 1))
+      (ltb t (old .bp + st .h) && ltb (old .bp) (t + st .h)) within)
+    where
+      within : leb (old .bp + st .h) t ≡ false → leb (t + st .h) (old .bp) ≡ false
+          → (ltb t (old .bp + st .h) && ltb (old .bp) (t + st .h)) ≡ true
+      within r l =
+          and-both (ltb t (old .bp + st .h)) (ltb (old .bp) (t + st .h))
+          (lt-ltb t (old .bp + st .h) (leb-false (old .bp + st .h) t r))
+          (lt-ltb (old .bp) (t + st .h) (leb-false (t + st .h) (old .bp) l))
+
+      go : (rose low over level : Bool) → (rose ≡ false → low ≡ false → level ≡ true)
+          → pick {A = Tentative} rose (record { bp = t; age = 0 }) (pick (low && over)
+          (record { bp = old .bp - st .h; age = 0 })
+          (record { bp = old .bp; age = min ageMost (old .age + 1) })) .bp
+          ≡ tentativeFigure (st .h) t (old .bp) (pick rose tentative.Rose (pick (low && over) tentative.Fell
+          (pick low tentative.Waited (pick level tentative.Level tentative.None))))
+      go true low over level e = refl
+      go false true true level e = refl
+      go false true false level e = refl
+      go false false over level e = rw (e refl refl)
+
+-- LEVEL: with isEWMA yes
+level-set-by : (st : Statics) (l m t rate : ℕ) (x : LevelReason) → levelSetBy st l m t rate x ≡ true
+    → rate ≡ levelFigure st l m t x
+unfolding levelSetBy levelFigure
+level-set-by st l m t rate level.None e = absurd (clash false e refl)
+level-set-by st l m t rate level.Requirement e = eqb-true _ _ (and-right (covers st l m t (st .smax)) _ e)
+level-set-by st l m t rate level.Minimum e = eqb-true _ _ e
+level-set-by st l m t rate level.Maximum e = eqb-true _ _ e
+
+pub level-is : (st : Statics) (l m t : ℕ) → validStatics st ≡ true → st .ewma ≡ true
+    → levelRate st l m t ≡ levelFigure st l m t (levelReason st l m t (levelRate st l m t))
+level-is st l m t v ewma =
+    level-set-by st l m t (levelRate st l m t) (levelReason st l m t (levelRate st l m t))
+    (level-named st l m t v ewma .condition)
+
+-- and with isEWMA no: the rate is the minimum, which is what is named
+pub level-unmodelled : (st : Statics) (l m t rate : ℕ) → st .ewma ≡ false
+    → levelFigure st l m t (levelReason st l m t rate) ≡ minimumOf st l
+unfolding levelReason levelFigure
+level-unmodelled st l m t rate off = rw off

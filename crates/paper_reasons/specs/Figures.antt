@@ -1,0 +1,58 @@
+-- W-207: the figure of documents 01 and 02 that each reason names. `None` names no figure, which stands as 0. Assumes
+-- nothing.
+use mathlib.Core.Bool.{Bool}
+use mathlib.Core.List.{List}
+use Prim.Native.Nat.{ℕ, _-_}
+use Rattle.paper.specs.declared.Roubles.{Roubles}
+use Rattle.paper.specs.declared.Model.{Model}
+use Rattle.paper.specs.declared.Statics.{Statics}
+use Rattle.paper.specs.declared.Tentative.{Tentative}
+use Rattle.paper.specs.Evaluation.{closeOf, bestBid, bestAsk}
+use Rattle.paper.specs.Rates.{weighted, replacement, minimumOf}
+use Rattle.paper_reasons.specs.declared.PriceReason.{PriceReason}
+use Rattle.paper_reasons.specs.declared.PriceReason.the-variants as price
+use Rattle.paper_reasons.specs.declared.WeightReason.{WeightReason}
+use Rattle.paper_reasons.specs.declared.WeightReason.the-variants as weight
+use Rattle.paper_reasons.specs.declared.ReplacementReason.{ReplacementReason}
+use Rattle.paper_reasons.specs.declared.ReplacementReason.the-variants as chosen
+use Rattle.paper_reasons.specs.declared.TentativeReason.{TentativeReason}
+use Rattle.paper_reasons.specs.declared.TentativeReason.the-variants as tentative
+use Rattle.paper_reasons.specs.declared.LevelReason.{LevelReason}
+use Rattle.paper_reasons.specs.declared.LevelReason.the-variants as level
+use Rattle.paper_reasons.specs.Reasons.{requirementStep}
+
+-- the close, BID, ASK, or the previous evaluation
+unfoldable pub priceFigure : (previous : ℕ) → List Roubles → PriceReason → ℕ
+priceFigure previous rs price.None = 0
+priceFigure previous rs price.Close = closeOf previous rs
+priceFigure previous rs price.Bid = bestBid rs
+priceFigure previous rs price.Ask = bestAsk rs
+priceFigure previous rs price.Yesterday = previous
+
+-- 0, a_up or a_down
+unfoldable pub weightFigure : Model → WeightReason → ℕ
+weightFigure m weight.None = 0
+weightFigure m weight.Zero = 0
+weightFigure m weight.Up = m .aup
+weightFigure m weight.Down = m .adown
+
+-- y where the replacement won, else x, by the weight a
+unfoldable pub volatilityFigure : Model → (a r s : ℕ) → ReplacementReason → ℕ
+volatilityFigure m a r s chosen.None = 0
+volatilityFigure m a r s chosen.Yes = replacement (m .q) r
+volatilityFigure m a r s chosen.No = weighted a s r
+
+-- t, a step below the old rate, or the old rate
+unfoldable pub tentativeFigure : (h t old : ℕ) → TentativeReason → ℕ
+tentativeFigure h t old tentative.None = 0
+tentativeFigure h t old tentative.Rose = t
+tentativeFigure h t old tentative.Fell = old - h
+tentativeFigure h t old tentative.Waited = old
+tentativeFigure h t old tentative.Level = old
+
+-- the least multiple of h that covers the requirement, S_L_min or S_max
+unfoldable pub levelFigure : Statics → (level m tentative : ℕ) → LevelReason → ℕ
+levelFigure st l m t level.None = 0
+levelFigure st l m t level.Requirement = requirementStep st l m t
+levelFigure st l m t level.Minimum = minimumOf st l
+levelFigure st l m t level.Maximum = st .smax

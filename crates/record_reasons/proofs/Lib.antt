@@ -1,0 +1,4 @@
+pub mod Seeking
+pub mod AtFault
+pub mod Reasoning
+pub mod Answering

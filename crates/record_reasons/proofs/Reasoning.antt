@@ -1,0 +1,182 @@
+-- The reasons by what is in hand are those of the paper, and what an accepted evaluation gives in hand. Assumes
+-- nothing.
+use mathlib.Core.Path.{_≡_, refl, sym, ap, subst, _∙_}
+use mathlib.Core.Bool.{Bool, true, false, not, _&&_, _||_}
+use mathlib.Core.List.{List, [], _∷_, map}
+use Prim.Native.Nat.{ℕ, zero, suc, _+_, _≤_}
+use native.Mathlib.Nat.{le-trans}
+use native.Mathlib.Omega.{arith}
+use lib.Dec.{leb, ltb, eqb}
+use lib.IntN.{ℤ}
+use lib.ListN.{getD}
+use borrow.Author.Tests.{ltb-true, ltb-false, lt-ltb}
+use Rattle.paper.specs.declared.Record.{Record}
+use Rattle.paper.specs.declared.Day.{Day}
+use Rattle.paper.specs.declared.Roubles.{Roubles}
+use Rattle.paper.specs.declared.Rate.{Rate}
+use Rattle.paper.specs.declared.Statics.{Statics}
+use Rattle.paper.specs.declared.Tentative.{Tentative}
+use Rattle.paper.specs.declared.Figures.{Figures}
+use Rattle.paper.specs.Lists.{pick, every, some, forLevels}
+use Rattle.paper.specs.Ranges.{isPrice, gridOf, validStatics, sound, validDay, rateAt, noRate}
+use Rattle.paper.specs.Evaluation.{roublesOf, weights, rowFits, evaluationOf, evaluationFits, dayRows}
+use Rattle.paper.specs.Rates.{moveTooLarge, levelRate, modelled, figuresOf}
+use Rattle.paper.specs.Numbers.{volatilityMost, aheadMost}
+use Rattle.paper.specs.Verdicts.{isDone, firstOf, NoneApplies, none, also}
+use Rattle.paper.specs.Desk.{priceOn, moveOn, figuresOn, evaluated, evaluateChecks}
+use Rattle.paper.proofs.Logic.{clash, and-right, and-false, not-false, pick-true, pick-false}
+use Rattle.paper.proofs.Bounds.{tentative-rate-held, tentative-held}
+use Rattle.paper.proofs.Refusals.{refusals, done-none}
+use Rattle.evaluation.specs.declared.PriceFigures.{PriceFigures}
+use Rattle.evaluation.specs.Evaluation.{priceFigures, pricedOf}
+use Rattle.record_soundness.proofs.Facts.{sound-facts}
+use Rattle.inputs.proofs.Facts.{day-facts}
+use Rattle.rates.specs.Asked.{FigureRanges, tentativeMost}
+use Rattle.rates.proofs.Statics.{sound-ranges}
+use Rattle.record_writing.specs.Evaluates.{moveTo, figuresAt}
+use Rattle.record_calls.specs.declared.Slot.{Slot}
+use Rattle.record_calls.specs.Effects.{isKnown}
+use Rattle.record_calls.specs.Workings.{pricedOn}
+use Rattle.record_calls.proofs.Judging.{known-sound}
+use Rattle.record_calls.proofs.Evaluations.{day-valid}
+use Rattle.paper_reasons.specs.declared.PriceReason.{PriceReason}
+use Rattle.paper_reasons.specs.declared.WeightReason.the-variants as weight
+use Rattle.paper_reasons.specs.declared.ReplacementReason.the-variants as replacement
+use Rattle.paper_reasons.specs.declared.TentativeReason.the-variants as tentative
+use Rattle.paper_reasons.specs.Reasons.{firstThatHolds, isTraded, priceSetBy, priceReason, weightIs, weightReasons, weightReason, replacementWas, replacementReasons, replacementReason, tentativeDid, tentativeReasons, tentativeReason, levelReason}
+use Rattle.paper_reasons.specs.Why.{replacedOn, stepOn, levelOn, reasonsOf}
+use Rattle.record_reasons.specs.Reasoned.{setBy, reasonFrom, replacedAt, stepAt, levelAt, unmodelledWith, modelledWith, reasonsAt, Accepted}
+
+-- the weights together are above 0 where some row's is
+weights-traded : (rs : List Roubles) → ltb 0 (weights rs) ≡ isTraded rs
+unfolding weights isTraded some
+weights-traded [] = refl
+weights-traded (r ∷ rs) = go (ltb 0 (r .weight)) refl (ltb 0 (weights rs)) refl (weights-traded rs)
+  where
+    go : (here : Bool) → ltb 0 (r .weight) ≡ here → (behind : Bool) → ltb 0 (weights rs) ≡ behind
+        → ltb 0 (weights rs) ≡ isTraded rs → ltb 0 (r .weight + weights rs) ≡ (here || isTraded rs)
+    go true h behind k e = lt-ltb 0 (r .weight + weights rs) (omega (arith, ltb-true 0 (r .weight) h))
+    go false h behind k e =
+        let same : r .weight + weights rs ≡ weights rs = omega (arith, ltb-false 0 (r .weight) h) in
+        rw same e
+
+reason-from : (previous : ℕ) (rs : List Roubles) → reasonFrom previous (priceFigures previous rs)
+    ≡ priceReason previous rs
+unfolding reasonFrom priceReason setBy priceSetBy priceFigures
+reason-from previous rs = rw (weights-traded rs)
+
+-- THE REASONS of the rows of a day
+pub reasons-are : (r : Record) (d : Day) (rows : List ℤ)
+    → reasonsAt r d (priceOn r rows) (pricedOn r rows .figures) ≡ reasonsOf r d rows
+unfolding pricedOf modelledWith reasonsOf moveTo moveOn figuresAt figuresOn replacedAt replacedOn stepAt stepOn levelAt
+    levelOn
+reasons-are r d rows = rw (reason-from (r .p1 .units) (map roublesOf (dayRows rows)))
+
+-- WHERE NO NUMBER APPLIES
+pub accepted : (s : Slot) (d : Day) (rows : List ℤ)
+    → isDone (firstOf (evaluateChecks (isKnown s) (s .rec) d rows)) ≡ true
+    → Accepted (s .rec) d (evaluated (s .rec) d rows)
+unfolding evaluateChecks refusals every isDone evaluationFits priceOn evaluated moveTo moveOn figuresAt figuresOn
+accepted s d rows e = go (done-none (evaluateChecks (isKnown s) (s .rec) d rows) refl e)
+  where
+    go : NoneApplies (evaluateChecks (isKnown s) (s .rec) d rows) → Accepted (s .rec) d (evaluated (s .rec) d rows)
+    go (also k (also v (also c (also l (also f (also m (also b none))))))) =
+        let valid = day-valid d rows (not-false _ v) in
+        record {
+          sound-record = known-sound s (not-false _ k);
+          day = valid .0;
+          price =
+              and-right (every rowFits (dayRows rows)) (isPrice (priceOn (s .rec) rows)) (not-false _ f);
+          near = m;
+          tentative = refl;
+          rates = refl;
+        }
+
+-- ---- with isEWMA yes
+
+-- 8 does not apply, so the move is in range
+pub near-move : (st : Statics) (r : ℕ) → st .ewma ≡ true → moveTooLarge st r ≡ false → r ≤ volatilityMost
+unfolding moveTooLarge
+near-move st r on e = ltb-false volatilityMost r (and-false (st .ewma) (ltb volatilityMost r) e on)
+
+-- the figures are those of the model
+pub figures-modelled : (r : Record) (d : Day) (p : ℕ) → r .statics .ewma ≡ true → figuresAt r d p
+    ≡ modelled (r .statics) (d .b) (d .m) (rateAt (r .rates) 0) (moveTo r p) (r .s) (r .tentative)
+unfolding figuresAt figuresOf
+figures-modelled r d p on = pick-true (r .statics .ewma) _ _ on
+
+module _ (old : Record) (d : Day) (new : Record) (a : Accepted old d new) (on : old .statics .ewma ≡ true) where
+  abbrev made : Figures
+  made = modelled (old .statics) (d .b) (d .m) (rateAt (old .rates) 0) (moveTo old (new .p1 .units)) (old .s)
+      (old .tentative)
+
+  is-made : figuresAt old d (new .p1 .units) ≡ made
+  is-made = figures-modelled old d (new .p1 .units) on
+
+  pub ranges : FigureRanges (old .statics) (d .m) (getD (old .rates) 0 noRate) (old .s) (old .tentative)
+  ranges = sound-ranges old (d .m) (a .sound-record) (day-facts d (a .day) .m-most)
+
+  tentative-is : new .tentative ≡ made .tentative
+  tentative-is = a .tentative ∙ ap (λ (f : Figures). f .tentative) is-made
+
+  pub tentative-high : new .tentative .bp ≤ tentativeMost
+  unfolding modelled
+  tentative-high =
+      rw tentative-is
+      (tentative-held _ _ _ _ tentativeMost (le-trans (tentative-rate-held (old .statics) _ _ _)
+      (omega (arith, ranges .statics .most-high))) (ranges .tentative))
+
+  -- the rate of each level, of the tentative rate that was made
+  pub rates-made : new .rates
+      ≡ forLevels (λ l. record { bp = levelRate (old .statics) l (d .m) (new .tentative .bp) })
+  unfolding modelled
+  rates-made = rw tentative-is (a .rates ∙ ap (λ (f : Figures). f .rates) is-made)
+
+  -- what is asked of each level
+  pub level-asked : ((validStatics (old .statics) ≡ true) × (old .statics .ewma ≡ true))
+      × ((d .m ≤ aheadMost) × (new .tentative .bp ≤ tentativeMost))
+  level-asked = ((sound-facts old (a .sound-record) .valid, on), (ranges .ahead, tentative-high))
+
+  pub rate-asked : (i : ℕ) → getD (new .rates) i noRate .bp
+      ≡ getD (forLevels (λ l. record { bp = levelRate (old .statics) l (d .m) (new .tentative .bp) })) i noRate .bp
+  rate-asked i = ap (λ (rs : List Rate). getD rs i noRate .bp) rates-made
+
+-- the reason of a level, of the record that was made
+pub level-at : (old : Record) (d : Day) (new : Record) → Accepted old d new → (l i : ℕ)
+    → levelReason (old .statics) l (d .m) (new .tentative .bp) (getD (new .rates) i noRate .bp)
+    ≡ levelAt old d (new .p1 .units) l i
+unfolding levelAt
+level-at old d new a l i = rw (a .tentative, a .rates)
+
+-- each reason where isEWMA is yes
+pub weight-by : (st : Statics) (b r s : ℕ) → st .ewma ≡ true
+    → firstThatHolds weight.None (weightIs b r s) weightReasons ≡ weightReason st b r s
+unfolding weightReason
+weight-by st b r s on = sym (pick-true (st .ewma) _ _ on)
+
+pub replacement-by : (st : Statics) (won : Bool) → st .ewma ≡ true
+    → firstThatHolds replacement.None (replacementWas won) replacementReasons ≡ replacementReason st won
+unfolding replacementReason
+replacement-by st won on = sym (pick-true (st .ewma) _ _ on)
+
+pub tentative-by : (st : Statics) (t : ℕ) (old : Tentative) → st .ewma ≡ true
+    → firstThatHolds tentative.None (tentativeDid (st .h) (st .wait) t old) tentativeReasons ≡ tentativeReason st t old
+unfolding tentativeReason
+tentative-by st t old on = sym (pick-true (st .ewma) _ _ on)
+
+-- and where it is no
+pub unmodelled-is : (x : PriceReason) (r : Record) (d : Day) (p : ℕ) → r .statics .ewma ≡ false
+    → unmodelledWith x ≡ modelledWith x r d p
+unfolding modelledWith weightReason replacementReason tentativeReason levelAt levelReason
+unmodelled-is x r d p off =
+    rw (
+      none-picked _ _ off,
+      none-picked _ _ off,
+      none-picked _ _ off,
+      none-picked _ _ off,
+      none-picked _ _ off,
+      none-picked _ _ off,
+    )
+  where
+    none-picked : {A : Type 0} (a b : A) → r .statics .ewma ≡ false → pick (r .statics .ewma) a b ≡ b
+    none-picked a b e = pick-false (r .statics .ewma) a b e

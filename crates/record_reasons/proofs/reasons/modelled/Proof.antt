@@ -1,0 +1,185 @@
+-- `reasons::modelled` meets its contract: each reason is that of the figures in hand. Assumes nothing.
+use Rattle.paper.specs.Numbers.{millionthsInBp, volatilityMost}
+use Rattle.paper.specs.Rates.{modelOf, modelled, Weighing}
+use Rattle.paper.specs.Ranges.{rateAt}
+use Rattle.rates.specs.declared.volatility.Volatility.{Volatility}
+use Rattle.rates.specs.Chosen.{chosen}
+use Rattle.paper.proofs.Bounds.{volatility-high, tentative-rate-held}
+use Rattle.rates.proofs.Statics.{rates-weighing}
+use Rattle.record_writing.specs.Evaluates.{moveTo}
+use Rattle.record_calls.proofs.Evaluations.{sound-prices}
+use Rattle.record_reasons.proofs.Reasoning.{near-move, figures-modelled, ranges, level-asked, rate-asked, level-at, weight-by, replacement-by, tentative-by}
+use mathlib.Core.Path.{_≡_, sym, ap, _∙_}
+use Prim.Native.Nat.{_*_, _≤_}
+use native.Mathlib.Omega.{arith}
+use Rattle.record_reasons.specs.Reasoned.{replacedAt, stepAt, levelAt, modelledWith}
+use borrow.Author.Needs.{needs}
+use Rattle.record_reasons.proofs.reasons.modelled.Statement.{statement}
+use Rattle.record_reasons.proofs.reasons.modelled.Tie as tie
+
+move-of-requires : tie.Need-move-of-requires
+move-of-requires c κs =
+    let a = c .before .before .before .before .before .before .before .before .pre .0 in
+    let both = sound-prices _ (a .sound-record) in
+    (both .0, both .1, a .price)
+
+model-of-requires : tie.Need-model-of-requires
+model-of-requires c κs = search needs
+
+element-copy-out-choose : tie.Need-element-copy-out-choose
+element-copy-out-choose c = search needs
+
+-- the move is in range
+move-high : (c : tie.After-move-of) → c .move-of .result ≤ volatilityMost
+unfolding moveTo
+move-high c =
+    let s = c .before .before .before .before .before .before .before .before .before in
+    rw (c .move-of .ensures) (near-move _ _ (s .pre .1) (s .pre .0 .near))
+
+-- the weights and the multiplier are in range
+weighs : (c : tie.After-model-of) → Weighing (c .model-of .result)
+weighs c =
+    let s = c .before .before .before .before .before .before .before .before .before .before in
+    rw (c .model-of .ensures) (rates-weighing _ (ranges _ _ _ (s .pre .0) (s .pre .1) .statics))
+
+mul-choose : tie.Need-mul-choose
+mul-choose c =
+    let s = c .before .before .before .before .before .before .before .before .before .before in
+    omega (arith, ranges _ _ _ (s .pre .0) (s .pre .1) .last-rate)
+
+choose-requires : tie.Need-choose-requires
+choose-requires c κs =
+    let s = c .before .before .before .before .before .before .before .before .before .before in
+    (weighs c, (move-high (c .before), ranges _ _ _ (s .pre .0) (s .pre .1) .volatility))
+
+tentative-rate-of-requires : tie.Need-tentative-rate-of-requires
+tentative-rate-of-requires c κs =
+    let s = c .before .before .before .before .before .before .before .before .before .before .before in
+    let given = ranges _ _ _ (s .pre .0) (s .pre .1) in
+    let r = move-high (c .before .before) in
+    let high = volatility-high _ _ _ _ _ _ (weighs (c .before)) (given .volatility) r in
+    (given .statics, (r, rw (c .choose .ensures) high))
+
+weight-reason-requires : tie.Need-weight-reason-requires
+weight-reason-requires c κs = search needs
+
+replacement-reason-requires : tie.Need-replacement-reason-requires
+replacement-reason-requires c κs = search needs
+
+tentative-reason-requires : tie.Need-tentative-reason-requires
+tentative-reason-requires c κs =
+    let s = c .before .before .before .before .before .before .before .before .before .before .before .before .before
+    .before in
+    let given = ranges _ _ _ (s .pre .0) (s .pre .1) in
+    let t-held : c .before .before .tentative-rate-of .result ≤ s .args .old .statics .smax =
+    rw (c .before .before .tentative-rate-of .ensures) (tentative-rate-held _ _ _ _) in
+    omega (arith, t-held, given, given .statics)
+
+array-copy-out-level-reason : tie.Need-array-copy-out-level-reason
+array-copy-out-level-reason c = search needs
+
+level-reason-requires : tie.Need-level-reason-requires
+level-reason-requires c κs =
+    let s = c .before .before .before .before .before .before .before .before .before .before .before .before .before
+    .before .before .before in
+    let asked = level-asked _ _ _ (s .pre .0) (s .pre .1) in
+    (asked .0, (asked .1, rate-asked _ _ _ (s .pre .0) (s .pre .1) 0))
+
+array-copy-out-level-reason-2 : tie.Need-array-copy-out-level-reason-2
+array-copy-out-level-reason-2 c = search needs
+
+level-reason-requires-2 : tie.Need-level-reason-requires-2
+level-reason-requires-2 c κs =
+    let s = c .before .before .before .before .before .before .before .before .before .before .before .before .before
+    .before .before .before .before .before in
+    let asked = level-asked _ _ _ (s .pre .0) (s .pre .1) in
+    (asked .0, (asked .1, rate-asked _ _ _ (s .pre .0) (s .pre .1) 1))
+
+array-copy-out-level-reason-3 : tie.Need-array-copy-out-level-reason-3
+array-copy-out-level-reason-3 c = search needs
+
+level-reason-requires-3 : tie.Need-level-reason-requires-3
+level-reason-requires-3 c κs =
+    let s = c .before .before .before .before .before .before .before .before .before .before .before .before .before
+    .before .before .before .before .before .before .before in
+    let asked = level-asked _ _ _ (s .pre .0) (s .pre .1) in
+    (asked .0, (asked .1, rate-asked _ _ _ (s .pre .0) (s .pre .1) 2))
+
+-- the move, whether the replacement won, new s and t are those at P
+moved-to : (c : tie.After-move-of)
+    → let a = c .before .before .before .before .before .before .before .before .before .args in c .move-of .result ≡
+    moveTo (a .old) (a .new .p1 .units)
+unfolding moveTo
+moved-to c = c .move-of .ensures
+
+chosen-is : (c : tie.After-choose)
+    → let a = c .before .before .before .before .before .before .before .before .before .before .before .args in
+    c .choose .result
+    ≡ chosen (modelOf (a .old .statics)) (a .d .b) (millionthsInBp * rateAt (a .old .rates) 0)
+    (moveTo (a .old) (a .new .p1 .units)) (a .old .s)
+chosen-is c = rw (c .choose .ensures, c .before .model-of .ensures, moved-to (c .before .before))
+
+replaced-is : (c : tie.After-choose)
+    → let a = c .before .before .before .before .before .before .before .before .before .before .before .args in c
+    .choose .result .replaced ≡ replacedAt (a .old) (a .d) (a .new .p1 .units)
+unfolding replacedAt
+replaced-is c = ap (λ (v : Volatility). v .replaced) (chosen-is c)
+
+step-is : (c : tie.After-tentative-rate-of)
+    → let a = c .before .before .before .before .before .before .before .before .before .before .before .before .args in
+    c .tentative-rate-of .result ≡ stepAt (a .old) (a .d) (a .new .p1 .units)
+unfolding stepAt replacedAt modelled
+step-is c =
+    let s = c .before .before .before .before .before .before .before .before .before .before .before .before in
+    rw (
+      c .tentative-rate-of .ensures,
+      chosen-is (c .before),
+      moved-to (c .before .before .before),
+      figures-modelled (s .args .old) (s .args .d) (s .args .new .p1 .units) (s .pre .1),
+    )
+
+returns : tie.Need-returns
+unfolding modelledWith
+returns c =
+    let s = c .before .before .before .before .before .before .before .before .before .before .before .before .before
+    .before .before .before .before .before .before .before .before in
+    let old = s .args .old in
+    let t = c .before .before .before .before .before .before .before .before .before in
+    let chosen = t .before in
+    let moved = chosen .before .before in
+    let w = rw (moved-to moved) at (c .before .before .before .before .before .before .before .before .weight-reason
+    .ensures) ∙ weight-by (old .statics) _ _ _ (s .pre .1) in
+    let r = rw (replaced-is chosen) at (c .before .before .before .before .before .before .before .replacement-reason
+    .ensures)
+    ∙ replacement-by (old .statics) _ (s .pre .1) in
+    let k = rw (step-is t) at (c .before .before .before .before .before .before .tentative-reason .ensures) ∙
+    tentative-by (old .statics) _ _ (s .pre .1) in
+    rw (
+      w,
+      r,
+      k,
+      c .before .before .before .before .level-reason .ensures ∙ level-at _ _ _ (s .pre .0) 1 0,
+      c .before .before .level-reason2 .ensures ∙ level-at _ _ _ (s .pre .0) 2 1,
+      c .level-reason3 .ensures ∙ level-at _ _ _ (s .pre .0) 3 2,
+    )
+
+pub modelled-spec : {M : Type 1} → statement M
+modelled-spec =
+    tie.close
+    (tie.spec
+    move-of-requires
+    model-of-requires
+    element-copy-out-choose
+    mul-choose
+    choose-requires
+    tentative-rate-of-requires
+    weight-reason-requires
+    replacement-reason-requires
+    tentative-reason-requires
+    array-copy-out-level-reason
+    level-reason-requires
+    array-copy-out-level-reason-2
+    level-reason-requires-2
+    array-copy-out-level-reason-3
+    level-reason-requires-3
+    returns)

@@ -1,0 +1,54 @@
+-- `reasons::price_reason` meets its contract: the tests of the code are the conditions, in their order. Assumes
+-- nothing.
+use Rattle.record_reasons.specs.Reasoned.{setBy, reasonFrom}
+use borrow.Author.Needs.{needs}
+use Rattle.record_reasons.proofs.reasons.price_reason.Statement.{statement}
+use Rattle.record_reasons.proofs.reasons.price_reason.Tie as tie
+
+between-requires : tie.Need-between-requires
+between-requires c κs = search needs
+
+returns : tie.Need-returns
+unfolding reasonFrom setBy
+returns c = rw (← c .before .before .before .between .ensures, c .if1 .taken)
+
+returns-2 : tie.Need-returns-2
+unfolding reasonFrom setBy
+returns-2 c = rw (
+  ← c .before .before .before .before .before .before .between .ensures,
+  c .before .before .before .if1 .left,
+  c .if2 .taken,
+)
+
+returns-3 : tie.Need-returns-3
+unfolding reasonFrom setBy
+returns-3 c = rw (
+  ← c .before .before .before .before .before .before .before .before .before .between .ensures,
+  c .before .before .before .before .before .before .if1 .left,
+  c .before .before .before .if2 .left,
+  c .if3 .taken,
+)
+
+returns-4 : tie.Need-returns-4
+unfolding reasonFrom setBy
+returns-4 c = rw (
+  ← c .before .before .before .before .before .before .before .before .before .before .before .before .between .ensures,
+  c .before .before .before .before .before .before .before .before .before .if1 .left,
+  c .before .before .before .before .before .before .if2 .left,
+  c .before .before .before .if3 .left,
+  c .if4 .taken,
+)
+
+returns-5 : tie.Need-returns-5
+unfolding reasonFrom setBy
+returns-5 c = rw (
+  ← c .before .before .before .before .before .before .before .before .before .before .before .before .between .ensures,
+  c .before .before .before .before .before .before .before .before .before .if1 .left,
+  c .before .before .before .before .before .before .if2 .left,
+  c .before .before .before .if3 .left,
+  c .if4 .left,
+)
+
+pub price-reason-spec : {M : Type 1} → statement M
+price-reason-spec =
+    tie.close (tie.spec between-requires returns returns-2 returns-3 returns-4 returns-5)

@@ -1,0 +1,11 @@
+-- Why, of the slot that a call found. Assumes nothing.
+use mathlib.Core.List.{List}
+use lib.IntN.{ℤ}
+use Rattle.paper.specs.declared.Day.{Day}
+use Rattle.record_calls.specs.declared.Slot.{Slot}
+use Rattle.record_calls.specs.Effects.{isKnown}
+use Rattle.paper_reasons.specs.declared.Why.{Why}
+use Rattle.paper_reasons.specs.Why.{whyOf}
+
+unfoldable pub whySlot : Slot → Day → List ℤ → Why
+whySlot s d rows = whyOf (isKnown s) (s .rec) d rows

@@ -1,0 +1,186 @@
+// Which reason is named for each figure of an accepted evaluation: the first whose condition holds.
+ghost use mathlib.Core.Path.{_≡_};
+ghost use mathlib.Core.Bool.{true};
+ghost use Prim.Native.Nat.{_+_, _^_, _≤_, _<_};
+ghost use Rattle.paper.specs.Numbers.{aheadMost, rateMost};
+ghost use Rattle.paper.specs.Ranges.{validStatics};
+ghost use Rattle.paper.specs.Rates.{levelRate};
+ghost use Rattle.rates.specs.Asked.{tentativeMost};
+ghost use Rattle.paper_reasons.specs.Reasons.{firstThatHolds, weightIs, weightReasons, replacementWas, replacementReasons, tentativeDid, tentativeReasons, levelSetBy, levelReason};
+ghost use Rattle.record_reasons.specs.Reasoned.{reasonFrom, unmodelledWith, modelledWith, reasonsAt, Accepted};
+use evaluation::PriceFigures;
+use paper::Day;
+use paper::MILLIONTHS_IN_BP;
+use paper::Price;
+use paper::Rate;
+use paper::Record;
+use paper::Statics;
+use paper::Tentative;
+use paper_reasons::LevelReason;
+use paper_reasons::PriceReason;
+use paper_reasons::Reasons;
+use paper_reasons::ReplacementReason;
+use paper_reasons::TentativeReason;
+use paper_reasons::WeightReason;
+use rates::level::covers;
+use rates::level::level_of;
+use rates::tentative::tentative_rate_of;
+use rates::volatility::choose;
+use rates::volatility::model_of;
+use rates::volatility::move_of;
+
+// "(close, bid, ask, or yesterday)"
+fn price_reason(previous: Price, f: PriceFigures) -> PriceReason
+    ensures { λ r. ⌜ r ≡ reasonFrom (previous .units) f ⌝ }
+{
+    let p = evaluation::between(f.bid, f.close, f.ask);
+    if (0 < f.weight) & (p == f.close) {
+        return PriceReason::Close;
+    }
+    if (0 < f.bid) & (p == f.bid) {
+        return PriceReason::Bid;
+    }
+    if (0 < f.ask) & (p == f.ask) {
+        return PriceReason::Ask;
+    }
+    if !(0 < f.weight) & (p == previous.units) {
+        return PriceReason::Yesterday;
+    }
+    PriceReason::None
+}
+
+// "a is 0 when b > 1; else a_up when r > s, a_down otherwise."
+fn weight_reason(b: u64, r: u64, s: u64) -> WeightReason
+    ensures { λ y. ⌜ y ≡ firstThatHolds WeightReason.None (weightIs b r s) weightReasons ⌝ }
+{
+    if 1 < b {
+        return WeightReason::Zero;
+    }
+    if s < r {
+        return WeightReason::Up;
+    }
+    WeightReason::Down
+}
+
+fn replacement_reason(won: bool) -> ReplacementReason
+    ensures { λ y. ⌜ y ≡ firstThatHolds ReplacementReason.None (replacementWas won) replacementReasons ⌝ }
+{
+    if won {
+        return ReplacementReason::Yes;
+    }
+    ReplacementReason::No
+}
+
+// Rose, fell, waited or was level.
+fn tentative_reason(h: u64, wait: u64, t: u64, old: Tentative) -> TentativeReason
+    requires { ⌜ (old .bp + h < 2 ^ 64) × (t + h < 2 ^ 64) × (old .age + 1 < 2 ^ 64) ⌝ }
+    ensures { λ y. ⌜ y ≡ firstThatHolds TentativeReason.None (tentativeDid h wait t old) tentativeReasons ⌝ }
+{
+    if old.bp + h <= t {
+        return TentativeReason::Rose;
+    }
+    if (t + h <= old.bp) & (wait <= old.age + 1) {
+        return TentativeReason::Fell;
+    }
+    if t + h <= old.bp {
+        return TentativeReason::Waited;
+    }
+    TentativeReason::Level
+}
+
+// Whether the rate of a level is the least multiple of h that covers the requirement, which S_max covers: it covers it,
+// and a step below does not.
+fn is_least(st: Statics, level: u64, m: u64, tentative: u64, rate: Rate) -> bool
+    requires { ⌜ validStatics st ≡ true ⌝ }
+    requires { ⌜ (m ≤ aheadMost) × (tentative ≤ tentativeMost) ⌝ }
+    requires { ⌜ rate .bp ≡ levelRate st level m tentative ⌝ }
+    ensures { λ r. ⌜ r ≡ levelSetBy st level m tentative (rate .bp) LevelReason.Requirement ⌝ }
+{
+    if !covers(st, level, m, tentative, rate.bp) {
+        return false;
+    }
+    if rate.bp == 0 {
+        return true;
+    }
+    !covers(st, level, m, tentative, rate.bp - st.h)
+}
+
+// The requirement, the minimum or the maximum.
+fn level_reason(st: Statics, level: u64, m: u64, tentative: u64, rate: Rate) -> LevelReason
+    requires { ⌜ (validStatics st ≡ true) × (st .ewma ≡ true) ⌝ }
+    requires { ⌜ (m ≤ aheadMost) × (tentative ≤ tentativeMost) ⌝ }
+    requires { ⌜ rate .bp ≡ levelRate st level m tentative ⌝ }
+    ensures { λ y. ⌜ y ≡ levelReason st level m tentative (rate .bp) ⌝ }
+{
+    if is_least(st, level, m, tentative, rate) {
+        return LevelReason::Requirement;
+    }
+    let own = level_of(st, level);
+    if rate.bp == own.minimum.bp {
+        return LevelReason::Minimum;
+    }
+    LevelReason::Maximum
+}
+
+// With isEWMA no: "each level names the minimum, and weight, replacement and tentative rate none".
+fn unmodelled(price: PriceReason) -> Reasons
+    ensures { λ r. ⌜ r ≡ unmodelledWith price ⌝ }
+{
+    Reasons {
+        price,
+        weight: WeightReason::None,
+        replacement: ReplacementReason::None,
+        tentative: TentativeReason::None,
+        level1: LevelReason::Minimum,
+        level2: LevelReason::Minimum,
+        level3: LevelReason::Minimum,
+    }
+}
+
+// With isEWMA yes, of the record before and the one that was made.
+fn modelled(price: PriceReason, old: Record, d: Day, new: Record) -> Reasons
+    requires { ⌜ Accepted old d new ⌝ }
+    requires { ⌜ old .statics .ewma ≡ true ⌝ }
+    ensures { λ r. ⌜ r ≡ modelledWith price old d (new .p1 .units) ⌝ }
+{
+    let st = old.statics;
+    let last = old.rates;
+    let tentative = old.tentative;
+    let p1 = old.p1;
+    let p2 = old.p2;
+    let p = new.p1;
+    let made = new.rates;
+    let after = new.tentative;
+    let change = move_of(p1, p2, p);
+    let carried = choose(
+        model_of(st),
+        d.b,
+        MILLIONTHS_IN_BP * last[0].bp,
+        change,
+        old.s,
+    );
+    let t = tentative_rate_of(st, carried.replaced, change, carried.s);
+    Reasons {
+        price,
+        weight: weight_reason(d.b, change, old.s),
+        replacement: replacement_reason(carried.replaced),
+        tentative: tentative_reason(st.h, st.wait, t, tentative),
+        level1: level_reason(st, 1, d.m, after.bp, made[0]),
+        level2: level_reason(st, 2, d.m, after.bp, made[1]),
+        level3: level_reason(st, 3, d.m, after.bp, made[2]),
+    }
+}
+
+// The reasons of an evaluation that is accepted: of the record before, the record that was made, and the figures that
+// its price was chosen from.
+pub fn reasons_of(old: Record, d: Day, new: Record, figures: PriceFigures) -> Reasons
+    requires { ⌜ Accepted old d new ⌝ }
+    ensures { λ r. ⌜ r ≡ reasonsAt old d (new .p1 .units) figures ⌝ }
+{
+    let previous = old.p1;
+    let price = price_reason(previous, figures);
+    if old.statics.ewma {
+        return modelled(price, old, d, new);
+    }
+    unmodelled(price)
+}
