@@ -46,7 +46,8 @@ extern "C" {
 /*
  * The rate of a level, in basis points, 0..smax. With ewma 0 it is the level's least rate.
  *
- *     tentative    the tentative rate: 0..smax, a multiple of h
+ *     tentative    the tentative rate, in basis points: a multiple of h, from 0 to the least one at or above 100,000;
+ *                  it may be above smax, and the rate is then smax
  *     m            non-trading days ahead: 0..10
  *     level        1, 2 or 3
  */

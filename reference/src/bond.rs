@@ -15,7 +15,7 @@ use crate::statics::{
 };
 use crate::units::{
     Range, AGE, BOND_MONEY, DAYS_AHEAD, DAYS_CLOSED, FLOW_DAY, NET,
-    ONE_IN_HUNDREDTHS_OF_A_PER_CENT, PRICE, RATE, REPO_RATE, VOLATILITY,
+    ONE_IN_HUNDREDTHS_OF_A_PER_CENT, PRICE, RATE, REPO_RATE, TENTATIVE, VOLATILITY,
 };
 
 /// How many values a bond has before its cash flows: eight of its own, three to
@@ -46,7 +46,7 @@ pub const VALUE_RANGES: [Range; VALUES] = [
     BOND_MONEY,
     REPO_RATE,
     VOLATILITY,
-    RATE,
+    TENTATIVE,
     AGE,
     DAYS_AHEAD,
     REPO_RATE,

@@ -55,7 +55,7 @@ impl SeenMove {
         self.y.map_or(false, |y| y > self.x)
     }
 
-    /// t from the move, before S_max holds it.
+    /// t from the move.
     fn of_move(&self) -> i64 {
         move_target(&self.before.statics, self.r)
     }
@@ -69,17 +69,13 @@ impl SeenMove {
         self.before.statics.step
     }
 
-    fn held(&self, t: i64) -> i64 {
-        t.min(self.before.statics.s_max)
-    }
-
     /// Whether the move and the ordinary rule give two rates.
     fn is_told_apart(&self) -> bool {
         let model = self.before.statics.model();
         let ordinary = ewma::target(&model, self.after.s, MILLIONTHS_IN_BP);
         let stepped = |t: i64| {
             let before = self.before.volatility();
-            ewma::stepped(&model, self.after.s, self.held(t), &before)
+            ewma::stepped(&model, self.after.s, t, &before)
         };
         stepped(ordinary) != stepped(self.of_move())
     }
@@ -133,7 +129,7 @@ fn edges() -> Vec<Edge<SeenMove>> {
         ("replaced, t a step above S_max", |m| {
             m.is_replaced() && m.past_maximum() == 1
         }),
-        ("replaced, held at S_max on the rise", |m| {
+        ("replaced, rises above S_max", |m| {
             m.is_replaced() && m.past_maximum() > 0 && m.rise() > 0
         }),
         ("replaced, r one below a multiple of 100·h", |m| {

@@ -1,8 +1,9 @@
 //! The volatility model that shares (7.1) and interest (14.4) have in common:
 //! weight, root, replacement and the one-step-down rule. Volatility, change
 //! and the rate that a change may pass share one unit, millionths for shares
-//! and basis points for interest. There is no maximum here: a share holds t at
-//! its own, and takes it from the move where its replacement is chosen (W-202).
+//! and basis points for interest. There is no maximum (W-208): a
+//! share holds its rates alone, and takes t from the move where its replacement is
+//! chosen (W-202).
 
 use crate::exact::{least, narrow, wide, Quotient};
 use crate::units::{AGE, ONE_IN_HUNDREDTHS, ONE_IN_TEN_THOUSANDTHS};

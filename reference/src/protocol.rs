@@ -160,7 +160,7 @@ fn work(kept: &mut Kept, sheet: Result<Sheet, Refusal>) -> Result<Worked, Refusa
 }
 
 /// `ID DAY P1 P2 S TENTATIVE` and the statics.
-fn admission(numbers: &[i64]) -> Option<Admission> {
+pub fn admission(numbers: &[i64]) -> Option<Admission> {
     let (&[id, day, p1, p2, s, tentative], statics) = split_first(numbers)?;
     Some(Admission {
         id,

@@ -37,7 +37,6 @@ pub struct Turn {
     /// The move, by (e).
     pub r: i64,
     pub chosen: Chosen,
-    /// t, held at S_max.
     pub t: i64,
 }
 
@@ -52,7 +51,7 @@ pub fn turn(statics: &Statics, before: &Volatility, day: &DayMove) -> Result<Tur
     let chosen = ewma::volatility(&model, before.s, r, last_rate, day.days_between);
     let t = match chosen {
         Chosen::Weighed(s) => target(statics, s),
-        Chosen::Replacement(_) => move_target(statics, r).min(statics.s_max),
+        Chosen::Replacement(_) => move_target(statics, r),
     };
     Ok(Turn { r, chosen, t })
 }
@@ -70,14 +69,14 @@ pub fn after_day(
     Ok(ewma::stepped(&statics.model(), chosen.s(), t, before))
 }
 
-/// t of a volatility: the least multiple of h with 10,000·t ≥ q·s, held at
-/// S_max.
+/// t of a volatility: the least multiple of h with 10,000·t ≥ q·s. S_max does
+/// not hold it (W-208), but the rates alone.
 pub fn target(statics: &Statics, s: i64) -> i64 {
-    ewma::target(&statics.model(), s, MILLIONTHS_IN_BP).min(statics.s_max)
+    ewma::target(&statics.model(), s, MILLIONTHS_IN_BP)
 }
 
 /// t where a share's replacement is chosen (W-202): the least multiple of h
-/// with 100·t ≥ r, before S_max holds it.
+/// with 100·t ≥ r.
 pub fn move_target(statics: &Statics, r: i64) -> i64 {
     let in_bp = Quotient {
         numerator: wide(r),

@@ -210,9 +210,10 @@ pub fn is_price(statics: &Statics, price: i64) -> bool {
     PRICE.contains(&price) && statics.is_on_grid(price)
 }
 
-/// A tentative rate: 0..S_max, a multiple of h.
+/// A tentative rate (W-208): 0 to the least multiple of h at or above 100,000, a
+/// multiple of h.
 pub fn is_tentative(statics: &Statics, tentative: i64) -> bool {
-    (0..=statics.s_max).contains(&tentative) && statics.is_multiple_of_step(tentative)
+    (0..=statics.tentative_max()).contains(&tentative) && statics.is_multiple_of_step(tentative)
 }
 
 /// A near second: none, or a second of the day.

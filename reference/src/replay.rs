@@ -1,12 +1,13 @@
-//! Performs an evening's script again and shows its evaluations, for the counts
-//! of edges that evaluations meet.
+//! Performs an evening's script again and shows its evaluations or its
+//! admissions, for the counts of edges that these meet.
 
 use std::io::{self, BufRead};
 
 use crate::desk::{self, fresh_table, SLOTS_MAX};
 use crate::kept::Kept;
-use crate::protocol::{perform, Asked};
+use crate::protocol::{admission, perform, Asked};
 use crate::record::Record;
+use crate::security::Admission;
 use crate::words::{hear, number_or_pair, words, Heard, EVENING_LINE_MAX};
 
 /// An evaluation of a script.
@@ -18,6 +19,30 @@ pub struct Evaluation {
     pub number: i64,
     /// The record after; that before where the evaluation is refused.
     pub after: Option<Record>,
+}
+
+/// Shows every admission of a script, in order, with the number of its answer.
+pub fn admissions(input: impl BufRead, mut see: impl FnMut(&Admission, i64)) -> io::Result<()> {
+    let mut table = fresh_table(SLOTS_MAX);
+    let mut kept = Kept::default();
+    let mut heard = Vec::new();
+    for line in input.split(b'\n') {
+        let line = line?;
+        let is_admission = words(&line).next() == Some(b"admit");
+        let said = hear(
+            &line,
+            EVENING_LINE_MAX,
+            &mut heard,
+            number_or_pair,
+            |verb, words| perform(&mut table, &mut kept, verb, words),
+        );
+        let numbers: Vec<i64> = heard.iter().filter_map(|word| word.number()).collect();
+        match (said, admission(&numbers)) {
+            (Heard::Answer(answer), Some(given)) if is_admission => see(&given, answer.number()),
+            _ => {}
+        }
+    }
+    Ok(())
 }
 
 /// Shows every evaluation of a script, in order.

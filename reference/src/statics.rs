@@ -1,7 +1,7 @@
 //! A security's statics and their ranges (document 01, "Units and ranges").
 
 use crate::ewma::Model;
-use crate::units::{Range, RATE};
+use crate::units::{Range, RATE, TARGET_MAX};
 
 /// How many statics there are.
 pub const STATICS: usize = 22;
@@ -179,6 +179,13 @@ impl Statics {
             step: self.step,
             wait: self.wait,
         }
+    }
+
+    /// The greatest tentative rate (W-208): the least multiple of h at or above
+    /// 100,000.
+    pub fn tentative_max(&self) -> i64 {
+        let steps = (TARGET_MAX + self.step - 1) / self.step;
+        steps * self.step
     }
 
     /// Whether a rate is a multiple of h.

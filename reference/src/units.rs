@@ -13,6 +13,11 @@ pub const RATE: Range = 0..=10_000;
 pub const VOLATILITY: Range = 0..=1_000_000;
 /// A repo rate, in basis points.
 pub const REPO_RATE: Range = -9_999..=9_999;
+/// The most that q and s can give t, in basis points: ten times 100 per cent.
+pub const TARGET_MAX: i64 = 100_000;
+/// A tentative rate whatever its step, in basis points (W-208): a step may take
+/// it up to 999 above what q and s can give.
+pub const TENTATIVE: Range = 0..=100_999;
 /// An id.
 pub const ID: Range = 1..=1_000_000_000;
 /// A day number.

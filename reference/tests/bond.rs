@@ -233,10 +233,10 @@ fn rates_come_by_the_share_rules() {
     assert_eq!((down(3).0, down(3).1), (700, 4));
     assert_eq!((down(4).0, down(4).1), (600, 0));
     assert_eq!(rates(&[(AGE, 250)]).1, 250);
-    // t is held at the bond's own maximum, and so are the rates.
+    // The rates are held at the bond's own maximum, t is not (W-208).
     assert_eq!(
         rates(&[(S, 1_000_000), (SMAX, 1_000)]),
-        (1_000, 0, [1_000, 1_000, 1_000])
+        (30_000, 0, [1_000, 1_000, 1_000])
     );
     // isEWMA no: the minima; tentative rate and age stay.
     assert_eq!(
@@ -310,8 +310,9 @@ fn every_value_has_its_range() {
     assert_eq!(number(&[(SMAX, 4_001)], &[]), 6);
     assert_eq!(number(&[(H, 99)], &[]), 6);
     assert_eq!(number(&[(TENTATIVE, 601)], &[]), 6);
-    assert_eq!(number(&[(TENTATIVE, 4_000), (WAIT, 250)], &[]), 0);
-    assert_eq!(number(&[(TENTATIVE, 4_100)], &[]), 6);
+    assert_eq!(number(&[(TENTATIVE, 4_100), (WAIT, 250)], &[]), 0);
+    assert_eq!(number(&[(TENTATIVE, 100_000), (WAIT, 250)], &[]), 0);
+    assert_eq!(number(&[(TENTATIVE, 100_100)], &[]), 6);
 }
 
 #[test]

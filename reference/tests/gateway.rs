@@ -64,7 +64,7 @@ fn both_sides_of_each_range() {
         }
     };
     let rate = [700, 0, 1];
-    check("rate", &rate, 0, 0, 4_000, 100);
+    check("rate", &rate, 0, 0, 100_000, 100);
     check("rate", &rate, 1, 0, 10, 1);
     check("rate", &rate, 2, 1, 3, 1);
     let range = [1_000_000, 800, 0];

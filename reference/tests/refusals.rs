@@ -101,7 +101,14 @@ fn the_step_divides_every_rate() {
     assert_eq!(with(1_000, [0, 1_000, 2_000, 10_000], 10_000), 0);
     assert_eq!(with(1_000, [0, 1_000, 2_000, 11_000], 10_000), 4);
     assert_eq!(with(100, [500, 700, 900, 4_000], 4_000), 0);
-    assert_eq!(with(100, [500, 700, 900, 4_000], 4_100), 4);
+    // W-208: S_max does not hold the tentative rate.
+    assert_eq!(with(100, [500, 700, 900, 4_000], 4_100), 0);
+    for (step, top) in [(1, 100_000), (7, 100_002), (999, 100_899), (1_000, 100_000)] {
+        assert_eq!(with(step, [0; 4], top), 0, "{step}");
+        assert_eq!(with(step, [0; 4], top + step), 4, "{step}");
+        assert_eq!(with(step, [0; 4], top + 1), 4, "{step}");
+    }
+    assert_eq!(with(7, [0; 4], 100_000), 4);
     assert_eq!(with(100, [500, 700, 900, 4_000], 650), 4);
     assert_eq!(with(100, [500, 700, 900, 4_000], -100), 4);
     assert_eq!(with(100, [550, 700, 900, 4_000], 600), 4);
@@ -222,7 +229,8 @@ fn the_first_of_an_id_counts_even_if_damaged() {
 #[test]
 fn a_damaged_record_is_no_such_id() {
     type Damage = fn(&mut Record);
-    let sound: [Damage; 8] = [
+    let sound: [Damage; 9] = [
+        |record| record.tentative = 100_000,
         |record| record.rates = [10_000; 3],
         |record| record.rates = [1, 0, 2],
         |record| record.upper[2] = 2_020_000_000_000,
@@ -240,7 +248,7 @@ fn a_damaged_record_is_no_such_id() {
         |record| record.p2 = 0,
         |record| record.s = 1_000_001,
         |record| record.tentative = 650,
-        |record| record.tentative = 4_100,
+        |record| record.tentative = 100_100,
         |record| record.rates[1] = 10_001,
         |record| record.rates[0] = -1,
         |record| record.upper[0] = 1_112_401,

@@ -1,5 +1,6 @@
 //! W-202: where a share's replacement is the greater, t is the least multiple
-//! of h with 100·t ≥ r, held at S_max; on a tie the ordinary rule stands.
+//! of h with 100·t ≥ r, which S_max does not hold (W-208); on a tie the ordinary
+//! rule stands.
 
 mod common;
 
@@ -62,13 +63,13 @@ fn t_is_the_least_multiple_that_covers_the_move() {
 }
 
 #[test]
-fn t_is_held_at_the_maximum() {
+fn the_maximum_does_not_hold_t() {
     let with = |s_max: i64, r: i64| after(&unweighed(20_000, 600, &[(S_MAX, s_max)]), r);
     assert_eq!(with(2_100, 200_000), (66_667, 2_000, 0));
     assert_eq!(with(2_000, 200_000), (66_667, 2_000, 0));
-    assert_eq!(with(2_000, 200_001), (66_667, 2_000, 0));
-    assert_eq!(with(1_900, 200_000), (66_667, 1_900, 0));
-    assert_eq!(with(900, 1_000_000), (333_334, 900, 0));
+    assert_eq!(with(2_000, 200_001), (66_667, 2_100, 0));
+    assert_eq!(with(1_900, 200_000), (66_667, 2_000, 0));
+    assert_eq!(with(900, 1_000_000), (333_334, 10_000, 0));
 }
 
 #[test]

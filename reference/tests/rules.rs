@@ -108,7 +108,8 @@ fn tentative_follows_t_up_at_once() {
     };
     assert_eq!(evaluated(&record, &two).unwrap().tentative, 1_200);
     record.s = 1_000_000;
-    assert_eq!(evaluated(&record, &two).unwrap().tentative, 4_000);
+    // W-208: S_max, 4,000, holds the rates alone.
+    assert_eq!(evaluated(&record, &two).unwrap().tentative, 30_000);
     assert_eq!(evaluated(&record, &two).unwrap().rates, [4_000; 3]);
 }
 

@@ -1,12 +1,13 @@
 //! The scripts are the same for a seed, as long as asked, and meet every
 //! number, every edge of the interest side, of a replacement, of a crossed row,
-//! of a bond and of the reasons.
+//! of a bond, of the reasons and of the tentative rate.
 
 use reference::count::{count, Answers};
 use reference::count_bond::count_bond;
 use reference::count_crossed::count_crossed;
 use reference::count_interest::count_interest;
 use reference::count_replacement::count_replacement;
+use reference::count_tentative::count_tentative;
 use reference::count_why::count_why;
 use reference::gateway::gateway;
 use reference::protocol::evening;
@@ -116,6 +117,17 @@ fn an_evening_meets_every_edge_of_the_reasons() {
         assert!(counted.missing.is_empty(), "{:?}", counted.missing);
     }
     let counted = count_why(&b"read 1\nevaluate 1\nread 2"[..]).unwrap();
+    assert_eq!(counted.missing.len(), counted.line.lines().count());
+}
+
+#[test]
+fn an_evening_meets_every_edge_of_the_tentative_rate() {
+    for seed in [1, 2] {
+        let script = script::evening::script(seed, 20_000);
+        let counted = count_tentative(&script[..]).unwrap();
+        assert!(counted.missing.is_empty(), "{:?}", counted.missing);
+    }
+    let counted = count_tentative(&b"read 1\nevaluate 1\nread 2"[..]).unwrap();
     assert_eq!(counted.missing.len(), counted.line.lines().count());
 }
 

@@ -9,13 +9,13 @@ use Rattle.paper.specs.declared.Figures.{Figures}
 use Rattle.paper.specs.declared.Term.{Term}
 use Rattle.paper.specs.Lists.{pick, allThree}
 use Rattle.paper.specs.Numbers.{rateMost, volatilityMost, ageMost, aheadMost, repoMost}
-use Rattle.paper.specs.Ranges.{validStatics, validTentative, validTerm, termAt, rateAt}
+use Rattle.paper.specs.Ranges.{validStatics, tentativeTop, validTentative, validTerm, termAt, rateAt}
 use Rattle.paper.specs.Rates.{tentativeRate, ratedBy, minimumOf, unmodelled, figuresByVolatility}
 use Rattle.paper.proofs.Logic.{and-left, and-right, each-of-three}
 use Rattle.paper.proofs.Level.{level-rate-is}
 use Rattle.exact.specs.SignedLaws.{repo-le}
 use Rattle.rates.specs.Asked.{RateStatics, VolatilityRanges}
-use Rattle.rates.proofs.Statics.{valid-rates}
+use Rattle.rates.proofs.Statics.{valid-rates, top-within}
 use Rattle.paper_bonds.specs.declared.Bond.{Bond}
 use Rattle.paper_bonds.specs.BondNumbers.{netMost, moneyMost}
 use Rattle.paper_bonds.specs.Bonds.{bondStatics, termsOf, validNumbers, validBond, bondFigures, firstRate}
@@ -29,7 +29,7 @@ pub record BondFacts (b : Bond) : Type 0 where
   pub face : b .face ≤ moneyMost
   pub accrued : b .accrued ≤ moneyMost
   pub volatility : b .s ≤ volatilityMost
-  pub tentative : b .tentative .bp ≤ bondStatics b .smax
+  pub tentative : b .tentative .bp ≤ tentativeTop (bondStatics b .h)
   pub age : b .tentative .age ≤ ageMost
   pub repo : mag (b .repo) ≤ mag repoMost
 
@@ -68,7 +68,7 @@ volatility-ranges b v =
       statics = statics;
       ahead = facts .ahead;
       volatility = facts .volatility;
-      tentative = omega (arith, facts .tentative, statics .most-high);
+      tentative = top-within statics (facts .tentative);
       age = facts .age;
     }
 

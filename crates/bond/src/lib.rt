@@ -80,7 +80,7 @@ fn valid_numbers(b: Bond, st: Statics) -> bool
         & (b.face <= Bond::MONEY_MOST)
         & (b.accrued <= Bond::MONEY_MOST)
         & (b.s <= Record::VOLATILITY_MOST)
-        & inputs::valid_tentative(st, b.tentative.bp)
+        & inputs::valid_tentative(st.h, b.tentative.bp)
         & (b.tentative.age <= Record::AGE_MOST)
 }
 

@@ -131,7 +131,7 @@ fn with_figure(slot: usize, r: Record) -> Record {
         7 => with_prices(r, 1_030_005, 1_000_000),
         8 => with_prices(r, 1_030_000, Price::MOST_UNITS + 10),
         9 => with_volatility(r, Record::VOLATILITY_MOST + 1),
-        10 => with_tentative(r, 4_100, 0),
+        10 => with_tentative(r, Tentative::MOST_BP + 100, 0),
         11 => with_tentative(r, 650, 0),
         12 => with_tentative(r, 700, Record::AGE_MOST + 1),
         13 => with_moves(r, 0, Record::MOVES_MOST + 1),

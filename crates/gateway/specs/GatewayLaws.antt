@@ -7,7 +7,7 @@ use borrow.Author.Tests.{leb-true}
 use Rattle.paper.specs.declared.Statics.{Statics}
 use Rattle.paper.specs.Lists.{pick}
 use Rattle.paper.specs.Numbers.{aheadMost}
-use Rattle.paper.specs.Ranges.{validStatics, validTentative}
+use Rattle.paper.specs.Ranges.{validStatics, tentativeTop, validTentative}
 use Rattle.paper.specs.Rates.{minimumOf, levelRate, AtLeastRequired, HeldLeast}
 use Rattle.paper.specs.Gateway.{levelInRange, levelFigure}
 use Rattle.paper.proofs.Logic.{and-left, and-right}
@@ -29,7 +29,7 @@ figure-high st tentative m level v = go (st .ewma)
 
 -- what the gateway tests is what the level's rate asks
 pub record LevelInputs (st : Statics) (tentative m : ℕ) : Type 0 where
-  pub held : tentative ≤ st .smax
+  pub high : tentative ≤ tentativeTop (st .h)
   pub ahead : m ≤ aheadMost
 
 pub level-inputs : (st : Statics) (tentative m level : ℕ) → levelInRange st tentative m level ≡ true
@@ -37,6 +37,6 @@ pub level-inputs : (st : Statics) (tentative m level : ℕ) → levelInRange st 
 unfolding levelInRange validTentative
 level-inputs st tentative m level v =
     record {
-      held = leb-true tentative (st .smax) (search (v, and-left, and-right));
+      high = leb-true tentative (tentativeTop (st .h)) (search (v, and-left, and-right));
       ahead = leb-true m aheadMost (search (v, and-left, and-right));
     }

@@ -1,5 +1,5 @@
-// "a level's rate from tentative, m and level". The tentative rate is a bare number: its range, 0 to S_max in steps of
-// h, is its own.
+// "a level's rate from tentative, m and level". The tentative rate is a bare number: its range, in steps of h and past
+// S_max (W-208), is its own.
 ghost use mathlib.Core.Path.{_≡_};
 ghost use mathlib.Core.Bool.{true};
 ghost use Prim.Native.Nat.{_<_};
@@ -21,7 +21,7 @@ fn level_in_range(st: Statics, tentative: u64, m: u64, level: u64) -> bool
     requires { ⌜ 0 < st .h ⌝ }
     ensures { λ r. ⌜ r ≡ levelInRange st tentative m level ⌝ }
 {
-    inputs::valid_tentative(st, tentative)
+    inputs::valid_tentative(st.h, tentative)
         & (m <= Day::AHEAD_MOST)
         & ((1 <= level) & (level <= LEVEL_LAST))
 }

@@ -17,7 +17,7 @@ use Rattle.paper.specs.declared.Day.{Day}
 use Rattle.paper.specs.declared.Quote.{Quote}
 use Rattle.paper.specs.Lists.{allThree}
 use Rattle.paper.specs.Numbers.{priceLeast, priceMost, rateMost, volatilityMost, lotMost, stepMost, multiplierLeast, multiplierMost, weightMost, waitMost, firstDaysMost, daysMost, liquidityMost, divisorLeast, divisorMost, shiftMost, nearnessMost, secondsMost, idMost, dayMost, secondLast, behindMost, aheadMost, termDaysMost, repoLeast, repoMost, termLast, quoteMost}
-use Rattle.paper.specs.Ranges.{within, isPrice, isRate, gridOf, isGridPrice, validStatics, staticsOf, validGiven, validTentative, validAdmission, validTerm, termAt, validQuote, validSide, validDayNumbers}
+use Rattle.paper.specs.Ranges.{within, isPrice, isRate, gridOf, isGridPrice, validStatics, staticsOf, validGiven, tentativeTop, validTentative, validAdmission, validTerm, termAt, validQuote, validSide, validDayNumbers}
 use Rattle.paper.proofs.Logic.{and-left, and-right, each-of-three, order-trans}
 
 -- ---- ranges and multiples
@@ -136,10 +136,9 @@ pub given-statics : (g : GivenStatics) → validGiven g ≡ true → validStatic
 unfolding validGiven
 given-statics g v = and-left _ _ (and-left _ _ v)
 
-pub tentative-facts : (st : Statics) (tentative : ℕ) → validTentative st tentative ≡ true
-    → MultipleTo (st .smax) (st .h) tentative
+pub tentative-facts : (h tentative : ℕ) → validTentative h tentative ≡ true → MultipleTo (tentativeTop h) h tentative
 unfolding validTentative
-tentative-facts st tentative v = multiple-facts _ _ tentative v
+tentative-facts h tentative v = multiple-facts _ _ tentative v
 
 -- ---- an admission
 
@@ -149,7 +148,7 @@ pub record FiguresFacts (st : Statics) (day p1 p2 s tentative : ℕ) : Type 0 wh
   pub later : GridPrice (gridOf (st .lot)) p1
   pub earlier : GridPrice (gridOf (st .lot)) p2
   pub s-most : s ≤ volatilityMost
-  pub held : MultipleTo (st .smax) (st .h) tentative
+  pub tentative-in : MultipleTo (tentativeTop (st .h)) (st .h) tentative
 
 pub record AdmissionFacts (a : Admission) : Type 0 where
   pub id : Within 1 idMost (a .id)
@@ -171,7 +170,7 @@ admission-facts a v =
             later = grid-price-facts _ _ (search (v, and-left, and-right) depth 40);
             earlier = grid-price-facts _ _ (search (v, and-left, and-right) depth 40);
             s-most = leb-true _ _ (search (v, and-left, and-right) depth 40);
-            held = tentative-facts (staticsOf (a .given)) _ (search (v, and-left, and-right) depth 40);
+            tentative-in = tentative-facts (staticsOf (a .given) .h) _ (search (v, and-left, and-right) depth 40);
           };
     }
 

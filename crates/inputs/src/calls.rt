@@ -35,7 +35,7 @@ pub fn valid_figures(st: Statics, day: u64, p1: u64, p2: u64, s: u64, tentative:
         & is_grid_price(g, p1)
         & is_grid_price(g, p2)
         & (s <= Record::VOLATILITY_MOST)
-        & valid_tentative(st, tentative)
+        & valid_tentative(st.h, tentative)
 }
 
 // The figures are judged only behind valid statics, whose step is not 0.

@@ -1,10 +1,11 @@
-// The table of statics, and the tentative rate that it bounds.
+// The table of statics, and the tentative rate, whose range the step decides.
 ghost use mathlib.Core.Path.{_≡_};
 ghost use Prim.Native.Nat.{_<_};
-ghost use Rattle.paper.specs.Ranges.{validStatics, staticsOf, validGiven, validTentative, orderedStatics, multiplesOfStep};
+ghost use Rattle.paper.specs.Ranges.{validStatics, staticsOf, validGiven, tentativeTop, validTentative, orderedStatics, multiplesOfStep};
 use paper::GivenStatics;
 use paper::Rate;
 use paper::Statics;
+use paper::Tentative;
 
 // The table down to S_max: its ranges and orders. Nothing is divided by the step before this has passed.
 fn ordered_statics(st: Statics) -> bool
@@ -87,10 +88,18 @@ pub fn valid_given(g: GivenStatics) -> bool
     valid_statics(statics_of(g)) & (g.monitoring <= 1) & (g.ewma <= 1)
 }
 
-// "0..S_max, a multiple of h"
-pub fn valid_tentative(st: Statics, tentative: u64) -> bool
-    requires { ⌜ 0 < st .h ⌝ }
-    ensures { λ r. ⌜ r ≡ validTentative st tentative ⌝ }
+// W-208: "the least multiple of h at or above 100,000 bp".
+fn tentative_top(h: u64) -> u64
+    requires { ⌜ 0 < h ⌝ }
+    ensures { λ r. ⌜ r ≡ tentativeTop h ⌝ }
 {
-    (tentative <= st.smax) & (tentative % st.h == 0)
+    exact::up(Tentative::MOST_BP, h) * h
+}
+
+// From 0 to the top, a multiple of h: of a share's tentative rate, and of whatever else has one.
+pub fn valid_tentative(h: u64, tentative: u64) -> bool
+    requires { ⌜ 0 < h ⌝ }
+    ensures { λ r. ⌜ r ≡ validTentative h tentative ⌝ }
+{
+    (tentative <= tentative_top(h)) & (tentative % h == 0)
 }

@@ -3,22 +3,21 @@
 use mathlib.Core.Path.{_≡_, ap, sym}
 use mathlib.Core.Logic.{_⊎_, inl, inr}
 use mathlib.Core.Bool.{Bool, true, false, _&&_}
-use Prim.Native.Nat.{ℕ, _+_, _-_, _*_, _≤_, _<_, min}
-use native.Mathlib.Nat.{le-trans, mul-pos, mul-le-mul, mul-le-mul-left}
+use Prim.Native.Nat.{ℕ, _+_, _-_, _*_, _%_, _≤_, _<_, min}
+use native.Mathlib.Nat.{le-trans, mul-pos, mul-le-mul, mul-le-mul-left, mod-self}
 use native.Mathlib.Omega.{arith}
 use lib.Dec.{leb}
 use borrow.Author.Tests.{le-leb, lt-leb}
 use Rattle.paper.specs.declared.Model.{Model}
-use Rattle.paper.specs.declared.Statics.{Statics}
 use Rattle.paper.specs.declared.Tentative.{Tentative}
 use Rattle.paper.specs.Lists.{pick}
 use Rattle.paper.specs.Numbers.{oneInTenThousandths, oneInHundredths, ageMost}
 use Rattle.paper.specs.Least.{leastMultiple}
 use Rattle.paper.specs.Roundings.{up}
-use Rattle.paper.specs.Rates.{weightOf, weighted, replacement, replaces, volatilityOf, leastStep, heldStep, tentativeRate, tentativeRateByMove, tentativeRateOf, tentativeAfter, Weighing}
+use Rattle.paper.specs.Rates.{weightOf, weighted, replacement, replaces, volatilityOf, leastStep, tentativeAfter, Weighing}
 use Rattle.paper.proofs.Logic.{le-or-lt}
 use Rattle.paper.proofs.Search.{root-least, times-least, least-unique}
-use Rattle.paper.proofs.Roundings.{up-covers, up-least, quotient-low}
+use Rattle.paper.proofs.Roundings.{up-covers, up-least, quotient-low, less-multiple}
 use Rattle.paper.proofs.Volatility.{weight-most}
 
 -- ---- the volatility
@@ -99,12 +98,6 @@ step-high h w n p q =
 
 -- ---- the tentative rate
 
--- t is held at S_max, whichever rule makes it
-pub tentative-rate-held : (st : Statics) (replaced : Bool) (r s : ℕ) → tentativeRateOf st replaced r s ≤ st .smax
-unfolding tentativeRateOf tentativeRateByMove tentativeRate heldStep
-tentative-rate-held st true r s = omega arith
-tentative-rate-held st false r s = omega arith
-
 -- the tentative rate by its two tests
 abbrev after : (h t : ℕ) → Tentative → (rise fall : Bool) → Tentative
 after h t old rise fall =
@@ -120,6 +113,17 @@ tentative-held h wait t old most p q = go (leb (old .bp + h) t) (leb (t + h) (ol
     go : (rise fall : Bool) → after h t old rise fall .bp ≤ most
     go true fall = p
     go false true = omega arith
+    go false false = q
+
+-- it is a multiple of h where both are
+pub tentative-multiple : (h wait t : ℕ) (old : Tentative) → t % h ≡ 0 → old .bp % h ≡ 0
+    → tentativeAfter h wait t old .bp % h ≡ 0
+unfolding tentativeAfter
+tentative-multiple h wait t old p q = go (leb (old .bp + h) t) (leb (t + h) (old .bp) && leb wait (old .age + 1))
+  where
+    go : (rise fall : Bool) → after h t old rise fall .bp % h ≡ 0
+    go true fall = p
+    go false true = less-multiple h (old .bp) h q (mod-self h)
     go false false = q
 
 -- the age is held, whatever it was

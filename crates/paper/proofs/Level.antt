@@ -3,7 +3,7 @@
 use mathlib.Core.Path.{_≡_, refl, sym, _∙_, ap}
 use mathlib.Core.Logic.{_⊎_, inl, inr}
 use mathlib.Core.Bool.{Bool, true, false, _&&_}
-use Prim.Native.Nat.{ℕ, zero, suc, _+_, _-_, _*_, _/_, _%_, _≤_, _<_, min}
+use Prim.Native.Nat.{ℕ, zero, suc, _+_, _-_, _*_, _/_, _%_, _≤_, _<_}
 use native.Mathlib.Nat.{mul-le-mul, mul-le-mul-left, mul-le-mul-right, le-of-mul-le-mul-left, mul-pos, le-trans, div-add-mod', mul-mod-left}
 use native.Mathlib.Omega.{arith}
 use lib.Dec.{leb, eqb, leb·zero}
@@ -12,13 +12,12 @@ use lib.Signed.{leZ}
 use borrow.Author.Tests.{leb-true, leb-false, le-leb, lt-leb, le-ltb, lt-ltb, eqb-true}
 use Rattle.paper.specs.declared.Statics.{Statics}
 use Rattle.paper.specs.Lists.{pick}
-use Rattle.paper.specs.Numbers.{hundredthsOfMillionthsInBp, millionthsInBp}
 use Rattle.paper.specs.Roundings.{Quotient}
 use Rattle.paper.specs.Least.{leastMultiple}
 use Rattle.paper.specs.Ranges.{validStatics}
-use Rattle.paper.specs.Rates.{leastStep, heldStep, tentativeRate, tentativeRateByMove, tentativeRateOf, meetsRequirement, daysOf, minimumOf, covers, levelRate, AtLeastRoots, volatilePart, liquidPart, AtLeastRequired, IsLeastStep, HeldLeast}
+use Rattle.paper.specs.Rates.{meetsRequirement, daysOf, minimumOf, covers, levelRate, AtLeastRoots, volatilePart, liquidPart, AtLeastRequired, HeldLeast}
 use Rattle.paper.proofs.Logic.{clash, and-left, and-right, and-both, le-or-lt, pick-true, pick-false}
-use Rattle.paper.proofs.Search.{Mono, multiple-holds, multiple-least, multiple-bound, multiple-is, step-is}
+use Rattle.paper.proofs.Search.{Mono, multiple-holds, multiple-least, multiple-bound, multiple-is}
 use Rattle.paper.proofs.Roots.{roots-covered, Floor, floor-root, short-one, short-two}
 
 -- ---- the comparison, without signs
@@ -191,10 +190,6 @@ stepping st level v =
     go false true = second
     go false false = third
 
-step-positive : (st : Statics) → validStatics st ≡ true → 0 < st .h
-unfolding validStatics
-step-positive st v = leb-true 1 (st .h) (search (v, and-left, and-right) depth 40)
-
 -- a multiple of h is its quotient times h
 pub whole-times : (x h : ℕ) → x % h ≡ 0 → x / h * h ≡ x
 whole-times x h e = omega (arith, div-add-mod' x h)
@@ -280,62 +275,3 @@ level-rate-is st level m tentative v =
     held-by (λ w e. meets-real (st .rh1) (daysOf st level) (st .liq) m tentative w (days-positive st v) e)
     (λ w c. real-meets (st .rh1) (daysOf st level) (st .liq) m tentative w (days-positive st v) c)
     (level-rate-compared st level m tentative v)
-
--- ---- the rate that the volatility asks for
-
--- the least multiple of h with w·t ≥ n, held at S_max
-held-step-is : (st : Statics) (w n : ℕ) → validStatics st ≡ true → 0 < w
-    → HeldLeast (st .h) 0 (st .smax) (λ t. n ≤ w * t) (heldStep st w n)
-unfolding heldStep
-held-step-is st w n v positive = go (le-or-lt searched (st .smax))
-  where
-    searched : ℕ
-    searched = leastStep (st .h) w n
-
-    is : IsLeastStep (st .h) w n searched
-    is = step-is (st .h) w n (step-positive st v) positive
-
-    most : st .smax / st .h * st .h ≡ st .smax
-    most = whole-times (st .smax) (st .h) (stepping st 1 v .multiple)
-
-    go : (searched ≤ st .smax) ⊎ (st .smax < searched)
-        → HeldLeast (st .h) 0 (st .smax) (λ t. n ≤ w * t) (min (st .smax) searched)
-    go (inl l) =
-        let e : min (st .smax) searched ≡ searched = omega arith in
-        rw e
-        (record {
-          multiple = is .multiple;
-          low = omega arith;
-          held = l;
-          covers-or-held = inl (is .enough);
-          least = λ j _ c. is .least j c;
-        })
-    go (inr l) =
-        let e : min (st .smax) searched ≡ st .smax = omega arith in
-        rw e
-        (record {
-          multiple = stepping st 1 v .multiple;
-          low = omega arith;
-          held = omega arith;
-          covers-or-held = inr (refl, λ c. absurd (omega (arith, most, is .least (st .smax / st .h) (rw most c))));
-          least = λ j _ c. le-trans (omega arith) (is .least j c);
-        })
-
--- t is the least multiple of h with 10,000·t ≥ q·s, held at S_max
-pub tentative-rate-is : (st : Statics) (s : ℕ) → validStatics st ≡ true
-    → HeldLeast (st .h) 0 (st .smax) (λ t. st .q * s ≤ hundredthsOfMillionthsInBp * t) (tentativeRate st s)
-unfolding tentativeRate
-tentative-rate-is st s v = held-step-is st hundredthsOfMillionthsInBp (st .q * s) v (omega arith)
-
--- W-202: of a replacement, with 100·t ≥ r
-pub tentative-rate-by-move-is : (st : Statics) (r : ℕ) → validStatics st ≡ true
-    → HeldLeast (st .h) 0 (st .smax) (λ t. r ≤ millionthsInBp * t) (tentativeRateByMove st r)
-unfolding tentativeRateByMove
-tentative-rate-by-move-is st r v = held-step-is st millionthsInBp r v (omega arith)
-
--- whichever rule makes it, it is a multiple of h
-pub tentative-rate-multiple : (st : Statics) (replaced : Bool) (r s : ℕ) → validStatics st ≡ true
-    → tentativeRateOf st replaced r s % st .h ≡ 0
-unfolding tentativeRateOf
-tentative-rate-multiple st true r s v = tentative-rate-by-move-is st r v .multiple
-tentative-rate-multiple st false r s v = tentative-rate-is st s v .multiple

@@ -14,5 +14,6 @@ pub mod LimitSizes
 pub mod CarriedOn
 pub mod Roots
 pub mod Level
+pub mod TentativeRange
 pub mod PinnedLaws
 pub mod Admissions

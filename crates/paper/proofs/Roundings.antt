@@ -4,7 +4,7 @@ use mathlib.Core.Path.{_≡_, refl, ap, sym, _∙_}
 use mathlib.Core.Logic.{_⊎_, inl, inr}
 use mathlib.Core.Bool.{Bool, true, false}
 use Prim.Native.Nat.{ℕ, zero, suc, _+_, _-_, _*_, _/_, _%_, _≤_, _<_, min, max}
-use native.Mathlib.Nat.{div-add-mod', mod-lt, le-trans, pos-of-ne-zero, div-lt-iff-lt-mul, le-div-iff-mul-le, mul-le-mul-right, le-of-mul-le-mul-left, mul-pos, min-eq-left, min-eq-right, le-of-lt}
+use native.Mathlib.Nat.{div-add-mod, div-add-mod', mul-sub, mul-mod-right, add-mod, zero-mod, mod-lt, le-trans, pos-of-ne-zero, div-lt-iff-lt-mul, le-div-iff-mul-le, mul-le-mul-right, le-of-mul-le-mul-left, mul-pos, min-eq-left, min-eq-right, le-of-lt}
 use native.Mathlib.Omega.{arith}
 use lib.Dec.{leb}
 use borrow.Author.Tests.{le-leb, lt-leb}
@@ -92,6 +92,16 @@ up-over n d h e =
 -- the least y with y·d ≥ n is n/d rounded up
 pub times-up : (n d : ℕ) → 0 < d → leastTimes d n ≡ up n d
 times-up n d h = times-unique d n (up n d) h (up-covers n d h) (λ z k. up-least n d z h k)
+
+-- ---- multiples of one number
+
+pub less-multiple : (g a b : ℕ) → a % g ≡ 0 → b % g ≡ 0 → (a - b) % g ≡ 0
+less-multiple g a b e f =
+    let z : g * (a / g - b / g) ≡ a - b = omega (arith, mul-sub g (a / g) (b / g), div-add-mod a g, div-add-mod b g) in
+    rw (← z) (mul-mod-right g (a / g - b / g))
+
+pub more-multiple : (g a b : ℕ) → a % g ≡ 0 → b % g ≡ 0 → (a + b) % g ≡ 0
+more-multiple g a b e f = add-mod a b g ∙ rw (e, f) (zero-mod g)
 
 -- ---- half up: n/d - 1/2 < halfUp ≤ n/d + 1/2, and only it: the nearest, and of two the upper
 

@@ -20,9 +20,9 @@ use Rattle.paper.specs.Lists.{pick, three, every, some, those}
 use Rattle.paper.specs.Numbers.{millionthsInBp}
 use Rattle.paper.specs.Roundings.{up, halfUp, toGrid, lesserOf, greaterOf, grown, apart}
 use Rattle.paper.specs.Least.{first, least, leastRoot, leastTimes, leastMultiple}
-use Rattle.paper.specs.Ranges.{isPrice, isRate, isGridPrice, validStatics, validGiven, validTentative, validAdmission, validRow, wholeRows, validRows, validTerm, validDay, lastDay, isLimit, validLimits, validNear, validNearSeconds, sound, validSlots, gridOf, staticsOf, rowAt, partsFrom, rowsOf, rowOf, unsigned, noTerm, noLimits, rateAt}
+use Rattle.paper.specs.Ranges.{isPrice, isRate, isGridPrice, validStatics, validGiven, tentativeTop, validTentative, validAdmission, validRow, wholeRows, validRows, validTerm, validDay, lastDay, isLimit, validLimits, validNear, validNearSeconds, sound, validSlots, gridOf, staticsOf, rowAt, partsFrom, rowsOf, rowOf, unsigned, noTerm, noLimits, rateAt}
 use Rattle.paper.specs.Evaluation.{rowPrice, rowWeight, roublesOf, traded, weights, worth, mean, closeOf, bestBid, lesserAsk, bestAsk, median, between, evaluationOf, dayRows, isCrossedRow, hasCrossedRow, rowFits, evaluationFits}
-use Rattle.paper.specs.Rates.{modelOf, moveFrom, moveOf, weightOf, weighted, replacement, replaces, volatilityOf, leastStep, heldStep, tentativeRate, tentativeRateByMove, tentativeRateOf, tentativeAfter, meetsRequirement, daysOf, minimumOf, covers, levelRate, modelled, unmodelled, figuresOf, moveTooLarge}
+use Rattle.paper.specs.Rates.{modelOf, moveFrom, moveOf, weightOf, weighted, replacement, replaces, volatilityOf, leastStep, tentativeRate, tentativeRateByMove, tentativeRateOf, tentativeAfter, meetsRequirement, daysOf, minimumOf, covers, levelRate, modelled, unmodelled, figuresOf, moveTooLarge}
 use Rattle.paper.specs.Limits.{limitOf, shifted, rangeLimit, rangeOf, farthest, spread, monitored, narrower, bandLimit, bandOf, crossed, deltaOf, oneMore, rangeMoved, bandMoved}
 use Rattle.paper.specs.Alerts.{distance, isNear, nearCleared}
 use Rattle.paper.specs.Verdicts.{numberOf, isDone, firstOf}
@@ -76,8 +76,8 @@ dayWith m x = record { day = 4; b = 0; m = m; terms = three (λ k. x) }
 unfoldable pub after : (m : ℕ) → Term → Record
 unfolding admissionZ givenWith roublesRow dayWith staticsOf admitted minimumOf evaluated figuresOn figuresOf modelled
     unmodelled moveOn priceOn moveOf moveFrom up apart volatilityOf weightOf weighted replaces replacement leastStep
-    heldStep tentativeRate tentativeRateByMove tentativeRateOf tentativeAfter levelRate covers meetsRequirement daysOf
-    least first leastRoot
+    tentativeTop tentativeRate tentativeRateByMove tentativeRateOf tentativeAfter levelRate covers meetsRequirement
+    daysOf least first leastRoot
     leastTimes leastMultiple evaluationOf dayRows rowsOf partsFrom rowAt rowOf unsigned roublesOf rowPrice rowWeight
     halfUp toGrid grown closeOf mean traded those weights worth bestBid bestAsk lesserAsk between median gridOf
     rangeOf rangeLimit limitOf shifted bandOf bandLimit farthest narrower lesserOf greaterOf monitored spread

@@ -81,7 +81,7 @@ gatewayAnswer v figure = pick (isDone v) (pos figure) (negℤ (pos (numberOf v))
 
 -- "a level's rate from tentative, m and level"; with isEWMA no it is the minimum
 unfoldable pub levelInRange : Statics → (tentative m level : ℕ) → Bool
-levelInRange st tentative m level = validTentative st tentative && leb m aheadMost && within 1 3 level
+levelInRange st tentative m level = validTentative (st .h) tentative && leb m aheadMost && within 1 3 level
 
 unfoldable pub levelFigure : Statics → (tentative m level : ℕ) → ℕ
 levelFigure st tentative m level = pick (st .ewma) (levelRate st level m tentative) (minimumOf st level)

@@ -61,6 +61,10 @@ rateMost = 10000
 abbrev pub volatilityMost : ℕ
 volatilityMost = 1000000
 
+-- "100,000 bp, the most that q and s can give" (W-208): q·s at its most, in basis points
+abbrev pub tentativeMost : ℕ
+tentativeMost = 100000
+
 -- ---- statics
 
 -- the lot

@@ -122,10 +122,14 @@ rates =
     ∷ (yesNo (replaces (modelOf (staticsBut zNumbers)) 0 900 1000 333)
     ∷ yesNo (replaces (modelOf (staticsBut zNumbers)) 0 900 1000 334)
     ∷ [])
-    -- "t is the least multiple of h with 10,000·t ≥ q·s, held at S_max.": exactly 100, just above; S_max
+    -- "t is the least multiple of h with 10,000·t ≥ q·s": exactly 100, just above; W-208: a step below S_max, at it and
+    -- a step above; "the most that q and s can give"
     ∷ (tentativeRate (staticsBut (zNumbers but (qAt, pos 100))) 10000
     ∷ tentativeRate (staticsBut (zNumbers but (qAt, pos 100))) 10001
-    ∷ tentativeRate (staticsBut zNumbers) 140000
+    ∷ tentativeRate (staticsBut zNumbers) 130000
+    ∷ tentativeRate (staticsBut zNumbers) 133333
+    ∷ tentativeRate (staticsBut zNumbers) 133334
+    ∷ tentativeRate (staticsBut (zNumbers but (qAt, pos 1000))) 1000000
     ∷ [])
     -- "If t ≥ tentative + h, tentative becomes t.": at 700, one below, and far above
     ∷ tentativeAt 0 700
@@ -140,8 +144,12 @@ rates =
     ∷ tentativeAt 248 600
     ∷ tentativeAt 249 600
     ∷ tentativeAt 250 600
-    -- the minimum and S_max of a level
-    ∷ (levelRate (staticsBut zNumbers) 1 0 0 ∷ levelRate (staticsBut zNumbers) 3 0 4000 ∷ [])
+    -- the minimum and S_max of a level; W-208: "Rates stay held at S_max", a step past it and at the top of the range
+    ∷ (levelRate (staticsBut zNumbers) 1 0 0
+    ∷ levelRate (staticsBut zNumbers) 3 0 4000
+    ∷ levelRate (staticsBut zNumbers) 1 0 4100
+    ∷ levelRate (staticsBut zNumbers) 1 0 100000
+    ∷ [])
     -- "r is the greater of |P - P1|/P1 and |P - P2|/P2": P2 decides, P1 decides, and P2 where P is below both
     ∷ (moveOf 1010000 1000000 1020000 ∷ moveOf 1000000 1010000 1020000 ∷ moveOf 1000000 1010000 990000 ∷ [])
     ∷ []
@@ -150,7 +158,7 @@ pub rates-are : rates
     ≡ (1000 ∷ 1000 ∷ 0 ∷ 500 ∷ [])
     ∷ (334 ∷ 100 ∷ 334 ∷ 331 ∷ [])
     ∷ (1 ∷ 0 ∷ [])
-    ∷ (100 ∷ 200 ∷ 4000 ∷ [])
+    ∷ (100 ∷ 200 ∷ 3900 ∷ 4000 ∷ 4100 ∷ 100000 ∷ [])
     ∷ (700 ∷ 0 ∷ [])
     ∷ (600 ∷ 1 ∷ [])
     ∷ (1200 ∷ 0 ∷ [])
@@ -161,7 +169,7 @@ pub rates-are : rates
     ∷ (600 ∷ 249 ∷ [])
     ∷ (600 ∷ 250 ∷ [])
     ∷ (600 ∷ 250 ∷ [])
-    ∷ (500 ∷ 4000 ∷ [])
+    ∷ (500 ∷ 4000 ∷ 4000 ∷ 4000 ∷ [])
     -- 20,000/1,010,000 is 19,801.98 millionths
     ∷ (20000 ∷ 20000 ∷ 19802 ∷ [])
     ∷ []

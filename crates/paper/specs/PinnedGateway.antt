@@ -107,8 +107,9 @@ levels =
     triedAt (level zNumbers) case1Level 2 (pos 0 ∷ pos 1 ∷ pos 2 ∷ pos 3 ∷ pos 4 ∷ [])
     -- m: below 0, case 2's 1 and 6, the most, one more
     ∷ triedAt (level zNumbers) case1Level 1 (negsuc 0 ∷ pos 1 ∷ pos 6 ∷ pos 10 ∷ pos 11 ∷ [])
-    -- the tentative rate: below 0, 0, S_max, a step more; no multiple of h
-    ∷ triedAt (level zNumbers) case1Level 0 (negsuc 0 ∷ pos 0 ∷ pos 4000 ∷ pos 4100 ∷ pos 650 ∷ [])
+    -- the tentative rate: below 0, 0, S_max, a step more, the top of W-208's range, a step more; no multiple of h
+    ∷ triedAt (level zNumbers) case1Level 0
+    (negsuc 0 ∷ pos 0 ∷ pos 4000 ∷ pos 4100 ∷ pos 100000 ∷ pos 100100 ∷ pos 650 ∷ [])
     -- isEWMA no: the minima, and 6 as before
     ∷ triedAt (level (zNumbers but (ewmaAt, pos 0))) case1Level 2 (pos 0 ∷ pos 1 ∷ pos 2 ∷ pos 3 ∷ pos 4 ∷ [])
     -- isEWMA 0, 1, 2; Monitoring 0, 1, 2
@@ -126,7 +127,7 @@ pub levels-are : levels
     -- 700·sqrt(6) + 50 is 1,764.6
     ∷ (negsuc 5 ∷ pos 1000 ∷ pos 1500 ∷ pos 1800 ∷ negsuc 5 ∷ [])
     -- the minimum 500 is above liq; 4,000 + 50 is above S_max
-    ∷ (negsuc 5 ∷ pos 500 ∷ pos 4000 ∷ negsuc 5 ∷ negsuc 5 ∷ [])
+    ∷ (negsuc 5 ∷ pos 500 ∷ pos 4000 ∷ pos 4000 ∷ pos 4000 ∷ negsuc 5 ∷ negsuc 5 ∷ [])
     ∷ (negsuc 5 ∷ pos 500 ∷ pos 700 ∷ pos 900 ∷ negsuc 5 ∷ [])
     ∷ (pos 500 ∷ pos 800 ∷ negsuc 3 ∷ negsuc 3 ∷ [])
     ∷ (pos 800 ∷ pos 800 ∷ negsuc 3 ∷ negsuc 3 ∷ [])

@@ -9,7 +9,8 @@ use lib.IntN.{ℤ, pos, negsuc, sucℤ, predℤ}
 use lib.ListN.{replicate}
 use Rattle.paper.specs.declared.Side.the-variants.{Upper, Lower}
 use Rattle.paper.specs.Lists.{every}
-use Rattle.paper.specs.Ranges.{isPrice, isRate, gridOf, isGridPrice, validStatics, staticsOf, validGiven, validTentative, validAdmission, partsFrom, rowAt, rowsOf, wholeRows, validRow, validRows, validTerm, validDay, validQuote, validSide, sideOf, lastDay, isLimit, validLimits, validNear, validNearSeconds, sound, validSlots}
+use Rattle.paper.specs.Roundings.{up}
+use Rattle.paper.specs.Ranges.{isPrice, isRate, gridOf, isGridPrice, validStatics, staticsOf, validGiven, tentativeTop, validTentative, validAdmission, partsFrom, rowAt, rowsOf, wholeRows, validRow, validRows, validTerm, validDay, validQuote, validSide, sideOf, lastDay, isLimit, validLimits, validNear, validNearSeconds, sound, validSlots}
 use Rattle.paper.specs.PinnedValues.{_but_, lotAt, hAt, minimaAt, idAt, p1At, tentativeAt, ageAt, rangesAt, bandsAt, admissionFrom, recordFrom, dayFrom, quoteFrom}
 
 -- ---- a row of numbers with their ranges
@@ -80,7 +81,8 @@ flagRanges : List Ranged
 flagRanges = range 1 0 1 ∷ range 1 0 1 ∷ []
 
 -- "id (1..10^9), last day number (0..10^6, as every day number), the two latest evaluations (on the grid, in range), s,
--- and the tentative rate (0..S_max, a multiple of h)"; "Price: .. 1 to 10^10"; "Volatility s: .. 0 to 1,000,000"
+-- and the tentative rate", which W-208 takes to 100,000 where h is 1; "Price: .. 1 to 10^10"; "Volatility s: .. 0 to
+-- 1,000,000"
 admissionRanges : List Ranged
 admissionRanges =
     range 7 1 1000000000
@@ -88,7 +90,7 @@ admissionRanges =
     ∷ range 1000000 1 10000000000
     ∷ range 1000000 1 10000000000
     ∷ range 20000 0 1000000
-    ∷ range 0 0 8000
+    ∷ range 0 0 100000
     ∷ []
 
 -- "limits on the grid 0..2·10^12 + 2·10^10"
@@ -123,12 +125,13 @@ unfolding admissionRow recordRanges
 recordRow = admissionRow ++ (pos 1 ∷ valuesOf recordRanges)
 
 validAdmissionRow : List ℤ → Bool
-unfolding validAdmission validGiven validStatics staticsOf isGridPrice isPrice gridOf validTentative admissionFrom
+unfolding validAdmission validGiven validStatics staticsOf isGridPrice isPrice gridOf tentativeTop validTentative
+    up admissionFrom
 validAdmissionRow row = validAdmission (admissionFrom row)
 
 soundRow : List ℤ → Bool
-unfolding sound validStatics isGridPrice isPrice isRate gridOf validTentative lastDay validTerm isLimit validLimits
-    validNear validNearSeconds recordFrom
+unfolding sound validStatics isGridPrice isPrice isRate gridOf tentativeTop validTentative up lastDay validTerm
+    isLimit validLimits validNear validNearSeconds recordFrom
 soundRow row = sound (recordFrom row)
 
 pub admission-ends : List (List Bool)
@@ -168,6 +171,27 @@ steps =
     ∷ (tentativeAt, pos 3000)
     ∷ []
 
+-- W-208: h and a tentative rate a step past the top of its range, then at it, for h 1, 7, 999 and 1,000
+aboutTheTop : List (ℕ × ℕ)
+aboutTheTop =
+    (1, 100001)
+    ∷ (1, 100000)
+    ∷ (7, 100009)
+    ∷ (7, 100002)
+    ∷ (999, 101898)
+    ∷ (999, 100899)
+    ∷ (1000, 101000)
+    ∷ (1000, 100000)
+    ∷ []
+
+-- whether the row is valid with each of them, where the minima and S_max are 0, so that S_max is no maximum
+triedTops : (valid : List ℤ → Bool) → (row : List ℤ) → List Bool
+unfolding aboutTheTop
+triedTops valid row =
+    map (λ (x : ℕ × ℕ). valid (row but (hAt, pos (x .0)) but (minimaAt, pos 0) but (minimaAt + 1, pos 0)
+    but (minimaAt + 2, pos 0) but (minimaAt + 3, pos 0) but (tentativeAt, pos (x .1))))
+    aboutTheTop
+
 -- with lot 10, whose grid is 10: the two evaluations, off the grid and on it
 onGrid : List (ℕ × ℤ)
 onGrid = (p1At, pos 1000005) ∷ (p1At, pos 1000010) ∷ (p1At + 1, pos 1000005) ∷ (p1At + 1, pos 1000010) ∷ []
@@ -186,12 +210,14 @@ limitsOnGrid =
     ∷ []
 
 pub multiples : List (List Bool)
-unfolding tried steps onGrid limitsOnGrid validAdmissionRow soundRow recordRow
+unfolding tried steps triedTops onGrid limitsOnGrid validAdmissionRow soundRow recordRow
 multiples =
     tried validAdmissionRow (admissionRow but (hAt, pos 1000)) steps
     ∷ tried soundRow (recordRow but (hAt, pos 1000)) steps
     ∷ tried validAdmissionRow (admissionRow but (lotAt, pos 10)) onGrid
     ∷ tried soundRow (recordRow but (lotAt, pos 10)) (onGrid ++ limitsOnGrid)
+    ∷ triedTops validAdmissionRow admissionRow
+    ∷ triedTops soundRow recordRow
     ∷ []
 
 -- no, yes, so many times
@@ -199,7 +225,7 @@ unfoldable pub offThenOn : ℕ → List Bool
 offThenOn zero = []
 offThenOn (suc times) = false ∷ true ∷ offThenOn times
 
-pub multiples-are : multiples ≡ offThenOn 5 ∷ offThenOn 5 ∷ offThenOn 2 ∷ offThenOn 6 ∷ []
+pub multiples-are : multiples ≡ offThenOn 5 ∷ offThenOn 5 ∷ offThenOn 2 ∷ offThenOn 6 ∷ offThenOn 4 ∷ offThenOn 4 ∷ []
 unfolding multiples offThenOn
 multiples-are = refl
 

@@ -1,14 +1,16 @@
--- Document 02, W-202, on both sides of its lines: t where the replacement wins, and where it does not.
+-- Document 02, W-202, on both sides of its lines: t where the replacement wins, and where it does not. W-208: its t
+-- beside S_max, with the rates, which S_max holds.
 -- It may use Rates, and the values of PinnedValues. Assumes nothing.
 use mathlib.Core.Path.{_≡_, refl}
-use mathlib.Core.List.{List, [], _∷_}
+use mathlib.Core.List.{List, [], _∷_, map}
 use Prim.Native.Nat.{ℕ, _+_}
 use lib.IntN.{ℤ, pos}
+use Rattle.paper.specs.declared.Rate.{Rate}
 use Rattle.paper.specs.declared.Statics.{Statics}
 use Rattle.paper.specs.Ranges.{staticsOf}
 use Rattle.paper.specs.declared.Figures.{Figures}
 use Rattle.paper.specs.Rates.{modelled}
-use Rattle.paper.specs.PinnedValues.{_but_, minimaAt, givenFrom, zNumbers}
+use Rattle.paper.specs.PinnedValues.{_but_, liqAt, minimaAt, givenFrom, zNumbers}
 use Rattle.paper.specs.PinnedSequence.{numbers}
 
 -- new s, and the tentative rate that a rate of 0 becomes, which is t where t is at least a step; after b holidays, with
@@ -20,13 +22,8 @@ carriedBy numbersOfZ b s1 r s =
     let f : Figures = modelled st b 0 s1 r s (record { bp = 0; age = 0 }) in
     f .s ∷ f .tentative .bp ∷ []
 
--- Z's, with S_max 200 bp
-lowMost : List ℤ
-unfolding zNumbers
-lowMost = zNumbers but (minimaAt + 3, pos 200)
-
 pub replacements : List (List ℕ)
-unfolding carriedBy lowMost
+unfolding carriedBy
 replacements =
     -- "When a share's replacement is the greater, ..; on a tie the ordinary rule stands.": r is 10,000, y 3,334, and x
     -- is 3,333, then 3,334, then 3,335
@@ -42,10 +39,6 @@ replacements =
     ∷ carriedBy zNumbers 0 0 9999 0
     ∷ carriedBy zNumbers 0 0 10000 0
     ∷ carriedBy zNumbers 0 0 10001 0
-    -- "held at S_max": t is below 200, at it, and would be above it
-    ∷ carriedBy lowMost 0 0 10000 0
-    ∷ carriedBy lowMost 0 0 20000 0
-    ∷ carriedBy lowMost 0 0 20001 0
     ∷ []
 
 pub replacements-are : replacements
@@ -62,9 +55,36 @@ pub replacements-are : replacements
     ∷ (3333 ∷ 100 ∷ [])
     ∷ (3334 ∷ 100 ∷ [])
     ∷ (3334 ∷ 200 ∷ [])
-    ∷ (3334 ∷ 100 ∷ [])
-    ∷ (6667 ∷ 200 ∷ [])
-    ∷ (6667 ∷ 200 ∷ [])
     ∷ []
 unfolding replacements
 replacements-are = refl
+
+-- ---- W-208: "Take the cap off t, W-202's included. .. Rates stay held at S_max"
+
+-- Z's, with S_max 200 bp, minima and liq 0
+lowMost : List ℤ
+unfolding zNumbers
+lowMost =
+    zNumbers but (liqAt, pos 0) but (minimaAt, pos 0) but (minimaAt + 1, pos 0) but (minimaAt + 2, pos 0)
+    but (minimaAt + 3, pos 200)
+
+-- the tentative rate that a rate of 0 becomes when a replacement by the move r wins, and the three rates
+ratedBy : (r : ℕ) → List ℕ
+unfolding carriedBy lowMost
+ratedBy r =
+    let f : Figures = modelled (staticsOf (givenFrom lowMost)) 0 0 0 r 0 (record { bp = 0; age = 0 }) in
+    f .tentative .bp ∷ map (λ (x : Rate). x .bp) (f .rates)
+
+-- t is a step below S_max, at it, and a step above
+pub rated : List (List ℕ)
+unfolding ratedBy
+rated = map ratedBy (10000 ∷ 20000 ∷ 20001 ∷ [])
+
+pub rated-are : rated
+    -- 100·sqrt(5/2) is 158.1
+    ≡ (100 ∷ 100 ∷ 200 ∷ 200 ∷ [])
+    ∷ (200 ∷ 200 ∷ 200 ∷ 200 ∷ [])
+    ∷ (300 ∷ 200 ∷ 200 ∷ 200 ∷ [])
+    ∷ []
+unfolding rated
+rated-are = refl

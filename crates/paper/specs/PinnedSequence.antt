@@ -16,9 +16,9 @@ use Rattle.paper.specs.declared.Verdict.the-variants.{NoSuchId}
 use Rattle.paper.specs.Lists.{every, some, those}
 use Rattle.paper.specs.Roundings.{up, halfUp, toGrid, lesserOf, greaterOf, grown, apart}
 use Rattle.paper.specs.Least.{first, least, leastRoot, leastTimes, leastMultiple}
-use Rattle.paper.specs.Ranges.{unsigned, isPrice, isRate, gridOf, isGridPrice, validStatics, staticsOf, validGiven, validTentative, validAdmission, partsFrom, rowAt, rowsOf, wholeRows, validRow, validRows, rowOf, validTerm, validDay, validQuote, validSide, sideOf, isLive, lastDay, noLimits, isLimit, validLimits, validNear, validNearSeconds, sound, validSlots}
+use Rattle.paper.specs.Ranges.{unsigned, isPrice, isRate, gridOf, isGridPrice, validStatics, staticsOf, validGiven, tentativeTop, validTentative, validAdmission, partsFrom, rowAt, rowsOf, wholeRows, validRow, validRows, rowOf, validTerm, validDay, validQuote, validSide, sideOf, isLive, lastDay, noLimits, isLimit, validLimits, validNear, validNearSeconds, sound, validSlots}
 use Rattle.paper.specs.Evaluation.{rowPrice, rowWeight, roublesOf, traded, weights, worth, mean, closeOf, bestBid, lesserAsk, bestAsk, median, between, evaluationOf, dayRows, isCrossedRow, hasCrossedRow, rowFits, evaluationFits}
-use Rattle.paper.specs.Rates.{moveFrom, moveOf, weightOf, weighted, replacement, replaces, volatilityOf, leastStep, heldStep, tentativeRate, tentativeRateByMove, tentativeRateOf, tentativeAfter, meetsRequirement, daysOf, minimumOf, covers, levelRate, modelled, unmodelled, figuresOf, moveTooLarge}
+use Rattle.paper.specs.Rates.{moveFrom, moveOf, weightOf, weighted, replacement, replaces, volatilityOf, leastStep, tentativeRate, tentativeRateByMove, tentativeRateOf, tentativeAfter, meetsRequirement, daysOf, minimumOf, covers, levelRate, modelled, unmodelled, figuresOf, moveTooLarge}
 use Rattle.paper.specs.Limits.{limitOf, shifted, rangeLimit, rangeOf, farthest, spread, monitored, narrower, bandLimit, bandOf, crossed, deltaOf, oneMore, rangeMoved, bandMoved}
 use Rattle.paper.specs.Alerts.{distance, isNear, keptSince, nearAfter, alert, nearCleared}
 use Rattle.paper.specs.Verdicts.{numberOf, isDone, firstOf}
@@ -33,7 +33,7 @@ unfolding unsigned isPrice isRate gridOf isGridPrice validStatics staticsOf vali
     lastDay isLimit validLimits validNear validNearSeconds sound validSlots rowPrice rowWeight roublesOf traded
     weights worth mean closeOf bestBid lesserAsk bestAsk median between evaluationOf dayRows isCrossedRow
     hasCrossedRow rowFits evaluationFits moveFrom moveOf weightOf weighted replacement replaces volatilityOf
-    leastStep heldStep tentativeRate tentativeRateByMove tentativeRateOf tentativeAfter meetsRequirement daysOf
+    leastStep tentativeTop tentativeRate tentativeRateByMove tentativeRateOf tentativeAfter meetsRequirement daysOf
     minimumOf covers levelRate modelled unmodelled figuresOf moveTooLarge limitOf shifted rangeLimit rangeOf
     farthest spread monitored narrower bandLimit bandOf crossed deltaOf oneMore rangeMoved bandMoved distance isNear
     keptSince nearAfter alert nearCleared isDone firstOf blank saying showing alerting admitted priceOn moveOn

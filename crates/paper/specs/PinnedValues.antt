@@ -56,6 +56,9 @@ aupAt = 3
 abbrev pub adownAt : ℕ
 adownAt = 4
 
+abbrev pub waitAt : ℕ
+waitAt = 5
+
 abbrev pub liqAt : ℕ
 liqAt = 9
 

@@ -1,7 +1,8 @@
--- Document 01, "Units and ranges": what is in range and on the grid, and what a sound record is. Assumes nothing.
+-- Document 01, "Units and ranges", with W-208's tentative rate: what is in range and on the grid, and what a sound
+-- record is. Assumes nothing.
 use mathlib.Core.Bool.{Bool, true, false, _&&_, _||_}
 use mathlib.Core.List.{List, [], _∷_}
-use Prim.Native.Nat.{ℕ, zero, suc, _+_, _/_, _%_}
+use Prim.Native.Nat.{ℕ, zero, suc, _+_, _*_, _/_, _%_}
 use lib.Dec.{leb, eqb}
 use lib.IntN.{ℤ, pos, negsuc}
 use lib.ListN.{length, getD}
@@ -32,7 +33,8 @@ use Rattle.paper.specs.declared.Day.{Day}
 use Rattle.paper.specs.declared.Row.{Row}
 use Rattle.paper.specs.declared.Quote.{Quote}
 use Rattle.paper.specs.Lists.{pick, allThree, every}
-use Rattle.paper.specs.Numbers.{priceLeast, priceMost, rateMost, volatilityMost, lotMost, stepMost, multiplierLeast, multiplierMost, weightMost, waitMost, firstDaysMost, daysMost, liquidityMost, divisorLeast, divisorMost, shiftMost, nearnessMost, secondsMost, idMost, dayMost, ageMost, limitMost, movesMost, secondLast, slotsMost, behindMost, aheadMost, termDaysMost, repoLeast, repoMost, rowNumbers, allNumbersMost, rowTermMost, centralMost, volumeMost, termLast, quoteMost, pastEvery}
+use Rattle.paper.specs.Numbers.{priceLeast, priceMost, rateMost, volatilityMost, tentativeMost, lotMost, stepMost, multiplierLeast, multiplierMost, weightMost, waitMost, firstDaysMost, daysMost, liquidityMost, divisorLeast, divisorMost, shiftMost, nearnessMost, secondsMost, idMost, dayMost, ageMost, limitMost, movesMost, secondLast, slotsMost, behindMost, aheadMost, termDaysMost, repoLeast, repoMost, rowNumbers, allNumbersMost, rowTermMost, centralMost, volumeMost, termLast, quoteMost, pastEvery}
+use Rattle.paper.specs.Roundings.{up}
 
 -- "low..high"
 abbrev pub within : ℕ → ℕ → ℕ → Bool
@@ -144,9 +146,16 @@ staticsOf g =
 unfoldable pub validGiven : GivenStatics → Bool
 validGiven g = validStatics (staticsOf g) && leb (g .monitoring) 1 && leb (g .ewma) 1
 
--- "the tentative rate (0..S_max, a multiple of h)"
-unfoldable pub validTentative : Statics → ℕ → Bool
-validTentative st tentative = leb tentative (st .smax) && eqb (tentative % st .h) 0
+-- ---- the tentative rate
+
+-- W-208: "the least multiple of h at or above 100,000 bp". It is the same of every kind of security
+unfoldable pub tentativeTop : (h : ℕ) → ℕ
+tentativeTop h = up tentativeMost h * h
+
+-- "the tentative rate (0.., a multiple of h)"; W-208: it "runs to the least multiple of h at or above 100,000 bp ..,
+-- and the admission range likewise"
+unfoldable pub validTentative : (h tentative : ℕ) → Bool
+validTentative h tentative = leb tentative (tentativeTop h) && eqb (tentative % h) 0
 
 -- ---- an admission
 
@@ -158,7 +167,7 @@ validFigures st day p1 p2 s tentative =
     && isGridPrice (gridOf (st .lot)) p1
     && isGridPrice (gridOf (st .lot)) p2
     && leb s volatilityMost
-    && validTentative st tentative
+    && validTentative (st .h) tentative
 
 -- "Admission also gives id (1..10^9)" and these figures
 unfoldable pub validAdmission : Admission → Bool

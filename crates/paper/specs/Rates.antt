@@ -1,4 +1,4 @@
--- Document 01, "The rates (7.1)"; document 02, W-202. Assumes nothing.
+-- Document 01, "The rates (7.1)"; document 02, W-202 and W-208. Assumes nothing.
 use mathlib.Core.Path.{_≡_}
 use mathlib.Core.Logic.{_⊎_}
 use mathlib.Core.Bool.{Bool, true, false, _&&_}
@@ -64,21 +64,18 @@ volatilityOf m b last r s =
 
 -- ---- the tentative rate
 
--- "the least multiple of h with" factor·t ≥ n
+-- "the least multiple of h with" factor·t ≥ n: every t is this one, of a share by either rule and of a repo rate, and
+-- none has a maximum. W-208: "Take the cap off t, W-202's included."
 unfoldable pub leastStep : (h factor n : ℕ) → ℕ
 leastStep h factor n = leastMultiple h n (λ t. leb n (factor * t))
 
--- .. "held at S_max": a share's t is held here and nowhere else; the interest side has no maximum
-unfoldable pub heldStep : Statics → (factor n : ℕ) → ℕ
-heldStep st factor n = min (st .smax) (leastStep (st .h) factor n)
+-- "t is the least multiple of h with 10,000·t ≥ q·s"
+unfoldable pub tentativeRate : Statics → (s : ℕ) → ℕ
+tentativeRate st s = leastStep (st .h) hundredthsOfMillionthsInBp (st .q * s)
 
--- "t is the least multiple of h with 10,000·t ≥ q·s, held at S_max."
-unfoldable pub tentativeRate : Statics → ℕ → ℕ
-tentativeRate st s = heldStep st hundredthsOfMillionthsInBp (st .q * s)
-
--- W-202: "t is the least multiple of h with 100·t ≥ r, held at S_max"
+-- W-202: "t is the least multiple of h with 100·t ≥ r"
 unfoldable pub tentativeRateByMove : Statics → (r : ℕ) → ℕ
-tentativeRateByMove st r = heldStep st millionthsInBp r
+tentativeRateByMove st r = leastStep (st .h) millionthsInBp r
 
 -- W-202: "When a share's replacement is the greater," t is that of the move; "on a tie the ordinary rule stands", and
 -- so it does wherever x is chosen. s is new s
@@ -114,7 +111,7 @@ unfoldable pub covers : Statics → ℕ → ℕ → ℕ → ℕ → Bool
 covers st level m tentative v = meetsRequirement (st .rh1) (daysOf st level) (st .liq) m tentative v
 
 -- "Rate of level L is S_max if the requirement exceeds it, else the least multiple v of h, v ≥ S_L_min, with v ≥ .."
--- the requirement
+-- the requirement. W-208: "Rates stay held at S_max"
 unfoldable pub levelRate : Statics → ℕ → ℕ → ℕ → ℕ
 levelRate st level m tentative =
     pick (covers st level m tentative (st .smax))

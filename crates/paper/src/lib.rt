@@ -114,11 +114,16 @@ impl Limit {
     }
 }
 
-// The tentative rate (7.1), in basis points, and the days since it changed. It is no `Rate`: nothing but the desk's
-// maximum holds it.
+// The tentative rate (7.1), in basis points, and the days since it changed. It is no `Rate`: no maximum holds it,
+// and it runs as far as the multiplier and the volatility take it (W-208).
 pub struct Tentative {
     pub bp: u64,
     pub age: u64,
+}
+
+impl Tentative {
+    // "the most that q and s can give", before it is rounded up to a multiple of h.
+    pub const MOST_BP: u64 = 100_000;
 }
 
 // What the volatility's rule takes, for shares and for interest alike: the weight where the move is above the

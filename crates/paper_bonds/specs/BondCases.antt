@@ -10,10 +10,10 @@ use Rattle.paper.specs.declared.Limits.{Limits}
 use Rattle.paper.specs.declared.Rate.{Rate}
 use Rattle.paper.specs.declared.RepoBand.the-variants as band
 use Rattle.paper.specs.Lists.{pick, every, some}
-use Rattle.paper.specs.Roundings.{halfUp, halfUpZ, halfDown, toGrid, lesserOf, greaterOf, grown}
+use Rattle.paper.specs.Roundings.{up, halfUp, halfUpZ, halfDown, toGrid, lesserOf, greaterOf, grown}
 use Rattle.paper.specs.Least.{first, least, leastMultiple}
-use Rattle.paper.specs.Ranges.{unsigned, partsFrom, isPrice, validStatics, staticsOf, validGiven, validTentative, validTerm, noLimits}
-use Rattle.paper.specs.Rates.{leastStep, heldStep, tentativeRate, tentativeAfter, meetsRequirement, daysOf, minimumOf, covers, levelRate, unmodelled, figuresByVolatility}
+use Rattle.paper.specs.Ranges.{unsigned, partsFrom, isPrice, validStatics, staticsOf, validGiven, tentativeTop, validTentative, validTerm, noLimits}
+use Rattle.paper.specs.Rates.{leastStep, tentativeRate, tentativeAfter, meetsRequirement, daysOf, minimumOf, covers, levelRate, unmodelled, figuresByVolatility}
 use Rattle.paper.specs.Limits.{bondLimitOf, shifted, farthest, spread, monitored, narrower, crossed}
 use Rattle.paper.specs.Terms.{workedRepo, repoOf, termOf}
 use Rattle.paper.specs.Verdicts.{numberOf, isDone, firstOf}
@@ -127,7 +127,7 @@ plainBond =
 -- what the call answers. It opens every definition that the call computes with, so that a table opens this one alone
 unfoldable pub answered : Bond → List ℤ → BondAnswer
 unfolding halfUp halfUpZ halfDown toGrid lesserOf greaterOf grown first least leastMultiple unsigned partsFrom isPrice
-    validStatics staticsOf validGiven validTentative validTerm leastStep heldStep tentativeRate tentativeAfter
+    validStatics staticsOf validGiven up tentativeTop validTentative validTerm leastStep tentativeRate tentativeAfter
     meetsRequirement daysOf minimumOf covers levelRate unmodelled figuresByVolatility bondLimitOf shifted farthest
     spread monitored narrower crossed workedRepo repoOf termOf isDone firstOf every some givenOf flowAt lentFlows
     wholeFlows validFlow validFlows flowOf flowsOf validNumbers validBond grossOf carryTerm carryDue carryOf bondFigures
@@ -198,8 +198,8 @@ pub worked-heads : workedHeads
     -- P is 10^10, and one more
     ∷ (0 ∷ 10000000000 ∷ 600 ∷ 1 ∷ 700 ∷ 1100 ∷ 1300 ∷ [])
     ∷ (7 ∷ 0 ∷ 0 ∷ 0 ∷ 0 ∷ 0 ∷ 0 ∷ [])
-    -- t would be 30,000: the bond maximum holds it, and each rate
-    ∷ (0 ∷ 10000 ∷ 4000 ∷ 0 ∷ 4000 ∷ 4000 ∷ 4000 ∷ [])
+    -- t is 30,000, which nothing holds (W-208): the bond maximum holds each rate
+    ∷ (0 ∷ 10000 ∷ 30000 ∷ 0 ∷ 4000 ∷ 4000 ∷ 4000 ∷ [])
     -- one step down where it has waited, as in cases 9 and 1 of document 01; case 2 with m 6
     ∷ (0 ∷ 10000 ∷ 600 ∷ 0 ∷ 700 ∷ 1100 ∷ 1300 ∷ [])
     ∷ (0 ∷ 10000 ∷ 700 ∷ 4 ∷ 800 ∷ 1200 ∷ 1500 ∷ [])

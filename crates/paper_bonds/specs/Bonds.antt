@@ -111,7 +111,7 @@ validNumbers b =
     && leb (b .face) moneyMost
     && leb (b .accrued) moneyMost
     && leb (b .s) volatilityMost
-    && validTentative (bondStatics b) (b .tentative .bp)
+    && validTentative (bondStatics b .h) (b .tentative .bp)
     && leb (b .tentative .age) ageMost
 
 -- with the statics, the terms and REPORate

@@ -34,10 +34,10 @@ bondRanges =
     ∷ range 10000 1 30000
     ∷ range 10000 0 10000000000
     ∷ range 0 0 10000000000
-    -- REPORate; s; the tentative rate, to S_max; its age
+    -- REPORate; s; the tentative rate, to the top of its range (W-208); its age
     ∷ rateRange
     ∷ range 20000 0 1000000
-    ∷ range 0 0 8000
+    ∷ range 0 0 100000
     ∷ range 0 0 250
     ∷ (termRanges
     ++ (termRanges

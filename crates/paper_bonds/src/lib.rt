@@ -35,7 +35,7 @@ pub struct Bond {
     pub face: u64, // the face value, in units, 0 to 10^10
     pub accrued: u64, // the accrued interest, in units, 0 to 10^10
     pub s: u64, // the volatility, in millionths, 0 to 1,000,000
-    pub tentative: Tentative, // bp, 0 to smax, a multiple of h; its age, 0 to 250
+    pub tentative: Tentative, // bp, as a share's (W-208); its age, 0 to 250
     pub statics: BondStatics,
     pub first: AskedTerm, // three terms as a day's: days, and a repo band given or worked out
     pub second: AskedTerm,

@@ -8,9 +8,9 @@ use lib.IntN.{ℤ, pos, negsuc}
 use Rattle.paper.specs.Lists.{every, some, those}
 use Rattle.paper.specs.Roundings.{up, halfUp, toGrid, lesserOf, greaterOf, grown, apart}
 use Rattle.paper.specs.Least.{first, least, leastRoot, leastTimes, leastMultiple}
-use Rattle.paper.specs.Ranges.{unsigned, isPrice, isRate, gridOf, isGridPrice, validStatics, staticsOf, validTentative, partsFrom, rowAt, rowsOf, wholeRows, validRow, validRows, rowOf, validTerm, validDay, lastDay, isLimit, validLimits, validNear, validNearSeconds, sound, validSlots}
+use Rattle.paper.specs.Ranges.{unsigned, isPrice, isRate, gridOf, isGridPrice, validStatics, staticsOf, tentativeTop, validTentative, partsFrom, rowAt, rowsOf, wholeRows, validRow, validRows, rowOf, validTerm, validDay, lastDay, isLimit, validLimits, validNear, validNearSeconds, sound, validSlots}
 use Rattle.paper.specs.Evaluation.{rowPrice, rowWeight, roublesOf, traded, weights, worth, mean, closeOf, bestBid, lesserAsk, bestAsk, median, between, evaluationOf, dayRows, isCrossedRow, hasCrossedRow, rowFits, evaluationFits}
-use Rattle.paper.specs.Rates.{moveFrom, moveOf, weightOf, weighted, replacement, replaces, volatilityOf, leastStep, heldStep, tentativeRate, tentativeRateByMove, tentativeRateOf, tentativeAfter, meetsRequirement, daysOf, minimumOf, covers, levelRate, modelled, unmodelled, figuresOf, moveTooLarge}
+use Rattle.paper.specs.Rates.{moveFrom, moveOf, weightOf, weighted, replacement, replaces, volatilityOf, leastStep, tentativeRate, tentativeRateByMove, tentativeRateOf, tentativeAfter, meetsRequirement, daysOf, minimumOf, covers, levelRate, modelled, unmodelled, figuresOf, moveTooLarge}
 use Rattle.paper.specs.Limits.{limitOf, shifted, rangeLimit, rangeOf, farthest, spread, monitored, narrower, bandLimit, bandOf, crossed}
 use Rattle.paper.specs.Verdicts.{numberOf, isDone, firstOf}
 use Rattle.paper.specs.Desk.{blank, priceOn, moveOn, figuresOn, evaluated, place, stands, found, known, evaluateChecks}
@@ -25,11 +25,11 @@ use Rattle.paper_reasons.specs.Words.{priceNumber, weightNumber, replace
 -- replacement, the tentative rate and the three levels of a day that is accepted; the number and the fault of one that
 -- is refused. It opens every definition that it computes with, so that a table opens this one alone
 said : (admitted day rows : List ℤ) → List ℕ
-unfolding unsigned isPrice isRate gridOf isGridPrice validStatics staticsOf validTentative partsFrom rowAt rowsOf
+unfolding unsigned isPrice isRate gridOf isGridPrice validStatics staticsOf tentativeTop validTentative partsFrom rowAt rowsOf
     wholeRows validRow validRows rowOf validTerm validDay lastDay isLimit validLimits validNear validNearSeconds sound
     validSlots rowPrice rowWeight roublesOf traded weights worth mean closeOf bestBid lesserAsk bestAsk median between
     evaluationOf dayRows isCrossedRow hasCrossedRow rowFits evaluationFits moveFrom moveOf weightOf weighted replacement
-    replaces volatilityOf leastStep heldStep tentativeRate tentativeRateByMove tentativeRateOf tentativeAfter
+    replaces volatilityOf leastStep tentativeRate tentativeRateByMove tentativeRateOf tentativeAfter
     meetsRequirement daysOf minimumOf covers levelRate modelled unmodelled figuresOf moveTooLarge limitOf shifted
     rangeLimit rangeOf farthest spread monitored narrower bandLimit bandOf crossed isDone firstOf blank priceOn moveOn
     figuresOn evaluated place stands found known evaluateChecks every some those up halfUp toGrid lesserOf greaterOf

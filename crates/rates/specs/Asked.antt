@@ -1,10 +1,10 @@
 -- What the rate rules ask of the numbers that they are given: no more than "Units and ranges" allows. Assumes nothing.
 use mathlib.Core.Path.{_≡_}
-use Prim.Native.Nat.{ℕ, _+_, _*_, _/_, _%_, _≤_}
+use Prim.Native.Nat.{ℕ, _+_, _%_, _≤_}
 use Rattle.paper.specs.declared.Rate.{Rate}
 use Rattle.paper.specs.declared.Statics.{Statics}
 use Rattle.paper.specs.declared.Tentative.{Tentative}
-use Rattle.paper.specs.Numbers.{hundredthsOfMillionthsInBp, rateMost, volatilityMost, ageMost, aheadMost, stepMost, multiplierLeast, multiplierMost, weightMost, firstDaysMost, daysMost, liquidityMost}
+use Rattle.paper.specs.Numbers.{rateMost, volatilityMost, tentativeMost, ageMost, aheadMost, stepMost, multiplierLeast, multiplierMost, weightMost, firstDaysMost, daysMost, liquidityMost}
 
 -- the statics of 7.1
 pub record RateStatics (st : Statics) : Type 0 where
@@ -27,16 +27,16 @@ pub record RateStatics (st : Statics) : Type 0 where
   pub third-multiple : st .min3 % st .h ≡ 0
   pub most-multiple : st .smax % st .h ≡ 0
 
--- no tentative rate passes it, held at S_max or not: q·s/10,000 at its most, and a step
-abbrev pub tentativeMost : ℕ
-tentativeMost = multiplierMost * volatilityMost / hundredthsOfMillionthsInBp + stepMost
+-- no tentative rate passes it, whatever h: the most that q and s can give, and a step
+abbrev pub tentativeBound : ℕ
+tentativeBound = tentativeMost + stepMost
 
 -- the figures that t is held against, and the days ahead
 pub record RatedRanges (st : Statics) (m t : ℕ) (old : Tentative) : Type 0 where
   pub statics : RateStatics st
   pub ahead : m ≤ aheadMost
-  pub t-high : t ≤ tentativeMost
-  pub tentative : old .bp ≤ tentativeMost
+  pub t-high : t ≤ tentativeBound
+  pub tentative : old .bp ≤ tentativeBound
   pub age : old .age ≤ ageMost
 
 -- the figures of a security whose volatility is given, and the days ahead
@@ -44,7 +44,7 @@ pub record VolatilityRanges (st : Statics) (m s : ℕ) (old : Tentative) : Type 
   pub statics : RateStatics st
   pub ahead : m ≤ aheadMost
   pub volatility : s ≤ volatilityMost
-  pub tentative : old .bp ≤ tentativeMost
+  pub tentative : old .bp ≤ tentativeBound
   pub age : old .age ≤ ageMost
 
 -- the figures that an evaluation carries on, and the days ahead
@@ -53,5 +53,5 @@ pub record FigureRanges (st : Statics) (m : ℕ) (s1 : Rate) (s : ℕ) (old : Te
   pub ahead : m ≤ aheadMost
   pub last-rate : s1 .bp ≤ rateMost
   pub volatility : s ≤ volatilityMost
-  pub tentative : old .bp ≤ tentativeMost
+  pub tentative : old .bp ≤ tentativeBound
   pub age : old .age ≤ ageMost

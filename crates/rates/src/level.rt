@@ -5,7 +5,7 @@ ghost use Prim.Native.Nat.{_*_, _≤_, _<_};
 ghost use Rattle.paper.specs.Lists.{forLevels};
 ghost use Rattle.paper.specs.Numbers.{rateMost, aheadMost, firstDaysMost, daysMost, liquidityMost};
 ghost use Rattle.paper.specs.Rates.{minimumOf, covers, levelRate};
-ghost use Rattle.rates.specs.Asked.{RateStatics, tentativeMost};
+ghost use Rattle.rates.specs.Asked.{RateStatics, tentativeBound};
 ghost use Rattle.rates.specs.Level.{levelOf, tentativeSquare, liquiditySquare, squareMost, reaches, reachMost, leastReach};
 use paper::Rate;
 use paper::Record;
@@ -40,7 +40,7 @@ pub fn level_of(st: Statics, level: u64) -> Level
 }
 
 fn tentative_square(rh1: u64, rh: u64, m: u64, tentative: u64) -> u64
-    requires { ⌜ (rh1 ≤ firstDaysMost) × (rh ≤ daysMost) × (m ≤ aheadMost) × (tentative ≤ tentativeMost) ⌝ }
+    requires { ⌜ (rh1 ≤ firstDaysMost) × (rh ≤ daysMost) × (m ≤ aheadMost) × (tentative ≤ tentativeBound) ⌝ }
     ensures { λ r. ⌜ (r ≡ tentativeSquare rh1 rh m tentative) × (r ≤ squareMost) ⌝ }
 {
     rh * (tentative * tentative) * (rh1 + m)
@@ -89,7 +89,7 @@ fn least_reach(low: u64, high: u64, step: u64, a: u64, b: u64) -> u64
 // number of steps.
 pub fn level_rate(st: Statics, level: u64, m: u64, tentative: u64) -> Rate
     requires { ⌜ RateStatics st ⌝ }
-    requires { ⌜ (m ≤ aheadMost) × (tentative ≤ tentativeMost) ⌝ }
+    requires { ⌜ (m ≤ aheadMost) × (tentative ≤ tentativeBound) ⌝ }
     ensures { λ r. ⌜ r .bp ≡ levelRate st level m tentative ⌝ }
 {
     let own = level_of(st, level);
@@ -102,7 +102,7 @@ pub fn level_rate(st: Statics, level: u64, m: u64, tentative: u64) -> Rate
 // Whether a rate of v basis points covers the requirement of a level.
 pub fn covers(st: Statics, level: u64, m: u64, tentative: u64, v: u64) -> bool
     requires { ⌜ RateStatics st ⌝ }
-    requires { ⌜ (m ≤ aheadMost) × (tentative ≤ tentativeMost) × (v ≤ rateMost) ⌝ }
+    requires { ⌜ (m ≤ aheadMost) × (tentative ≤ tentativeBound) × (v ≤ rateMost) ⌝ }
     ensures { λ r. ⌜ r ≡ covers st level m tentative v ⌝ }
 {
     let own = level_of(st, level);
@@ -114,7 +114,7 @@ pub fn covers(st: Statics, level: u64, m: u64, tentative: u64, v: u64) -> bool
 // The three rates.
 pub fn rates_of(st: Statics, m: u64, tentative: u64) -> [Rate; Record::LEVELS]
     requires { ⌜ RateStatics st ⌝ }
-    requires { ⌜ (m ≤ aheadMost) × (tentative ≤ tentativeMost) ⌝ }
+    requires { ⌜ (m ≤ aheadMost) × (tentative ≤ tentativeBound) ⌝ }
     ensures { λ r. ⌜ r ≡ forLevels (λ l. record { bp = levelRate st l m tentative }) ⌝ }
 {
     [

@@ -1,8 +1,8 @@
-// The tentative rate (7.1; W-202).
+// The tentative rate (7.1; W-202 and W-208).
 ghost use mathlib.Core.Path.{_≡_};
 ghost use Prim.Native.Nat.{_+_, _*_, _^_, _≤_, _<_};
 ghost use Rattle.paper.specs.Numbers.{volatilityMost};
-ghost use Rattle.paper.specs.Rates.{leastStep, heldStep, tentativeRate, tentativeRateByMove, tentativeRateOf, tentativeAfter};
+ghost use Rattle.paper.specs.Rates.{leastStep, tentativeRate, tentativeRateByMove, tentativeRateOf, tentativeAfter};
 ghost use Rattle.rates.specs.Asked.{RateStatics};
 use paper::HUNDREDTHS_OF_MILLIONTHS_IN_BP;
 use paper::MILLIONTHS_IN_BP;
@@ -10,20 +10,13 @@ use paper::Record;
 use paper::Statics;
 use paper::Tentative;
 
-// The least multiple of h with factor·t ≥ n: so many steps that each makes factor·h.
+// The least multiple of h with factor·t ≥ n: so many steps that each makes factor·h. Every t is made here, a repo
+// rate's too, and no maximum holds it.
 pub fn least_step(h: u64, factor: u64, n: u64) -> u64
     requires { ⌜ (0 < h) × (0 < factor) × (n + factor * h < 2 ^ 64) ⌝ }
     ensures { λ r. ⌜ r ≡ leastStep h factor n ⌝ }
 {
     exact::up(n, factor * h) * h
-}
-
-// The same, held at S_max: a share's t is held here and nowhere else.
-fn held_step(st: Statics, factor: u64, n: u64) -> u64
-    requires { ⌜ (0 < st .h) × (0 < factor) × (n + factor * st .h < 2 ^ 64) ⌝ }
-    ensures { λ r. ⌜ r ≡ heldStep st factor n ⌝ }
-{
-    exact::lesser(st.smax, least_step(st.h, factor, n))
 }
 
 // The t of the paper, by new s.
@@ -32,7 +25,7 @@ pub fn tentative_rate(st: Statics, s: u64) -> u64
     requires { ⌜ s ≤ volatilityMost ⌝ }
     ensures { λ r. ⌜ r ≡ tentativeRate st s ⌝ }
 {
-    held_step(st, HUNDREDTHS_OF_MILLIONTHS_IN_BP, st.q * s)
+    least_step(st.h, HUNDREDTHS_OF_MILLIONTHS_IN_BP, st.q * s)
 }
 
 // The t of a replacement: by the move itself.
@@ -41,7 +34,7 @@ fn tentative_rate_by_move(st: Statics, r: u64) -> u64
     requires { ⌜ r ≤ volatilityMost ⌝ }
     ensures { λ t. ⌜ t ≡ tentativeRateByMove st r ⌝ }
 {
-    held_step(st, MILLIONTHS_IN_BP, r)
+    least_step(st.h, MILLIONTHS_IN_BP, r)
 }
 
 // t: by the move where the replacement won, else by new s.

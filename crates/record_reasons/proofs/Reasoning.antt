@@ -4,7 +4,6 @@ use mathlib.Core.Path.{_≡_, refl, sym, ap, subst, _∙_}
 use mathlib.Core.Bool.{Bool, true, false, not, _&&_, _||_}
 use mathlib.Core.List.{List, [], _∷_, map}
 use Prim.Native.Nat.{ℕ, zero, suc, _+_, _≤_}
-use native.Mathlib.Nat.{le-trans}
 use native.Mathlib.Omega.{arith}
 use lib.Dec.{leb, ltb, eqb}
 use lib.IntN.{ℤ}
@@ -18,21 +17,21 @@ use Rattle.paper.specs.declared.Statics.{Statics}
 use Rattle.paper.specs.declared.Tentative.{Tentative}
 use Rattle.paper.specs.declared.Figures.{Figures}
 use Rattle.paper.specs.Lists.{pick, every, some, forLevels}
-use Rattle.paper.specs.Ranges.{isPrice, gridOf, validStatics, sound, validDay, rateAt, noRate}
+use Rattle.paper.specs.Ranges.{isPrice, gridOf, validStatics, validTentative, sound, validDay, rateAt, noRate}
 use Rattle.paper.specs.Evaluation.{roublesOf, weights, rowFits, evaluationOf, evaluationFits, dayRows}
 use Rattle.paper.specs.Rates.{moveTooLarge, levelRate, modelled, figuresOf}
 use Rattle.paper.specs.Numbers.{volatilityMost, aheadMost}
 use Rattle.paper.specs.Verdicts.{isDone, firstOf, NoneApplies, none, also}
 use Rattle.paper.specs.Desk.{priceOn, moveOn, figuresOn, evaluated, evaluateChecks}
-use Rattle.paper.proofs.Logic.{clash, and-right, and-false, not-false, pick-true, pick-false}
-use Rattle.paper.proofs.Bounds.{tentative-rate-held, tentative-held}
+use Rattle.paper.proofs.Logic.{clash, and-left, and-right, and-false, not-false, pick-true, pick-false}
+use Rattle.paper.proofs.TentativeRange.{valid-high, modelled-stays}
 use Rattle.paper.proofs.Refusals.{refusals, done-none}
 use Rattle.evaluation.specs.declared.PriceFigures.{PriceFigures}
 use Rattle.evaluation.specs.Evaluation.{priceFigures, pricedOf}
 use Rattle.record_soundness.proofs.Facts.{sound-facts}
 use Rattle.inputs.proofs.Facts.{day-facts}
-use Rattle.rates.specs.Asked.{FigureRanges, tentativeMost}
-use Rattle.rates.proofs.Statics.{sound-ranges}
+use Rattle.rates.specs.Asked.{FigureRanges, tentativeBound}
+use Rattle.rates.proofs.Statics.{sound-ranges, top-within}
 use Rattle.record_writing.specs.Evaluates.{moveTo, figuresAt}
 use Rattle.record_calls.specs.declared.Slot.{Slot}
 use Rattle.record_calls.specs.Effects.{isKnown}
@@ -105,6 +104,11 @@ pub figures-modelled : (r : Record) (d : Day) (p : ℕ) → r .statics .ewma ≡
 unfolding figuresAt figuresOf
 figures-modelled r d p on = pick-true (r .statics .ewma) _ _ on
 
+-- a sound record's tentative rate is in its range
+tentative-valid : (r : Record) → sound r ≡ true → validTentative (r .statics .h) (r .tentative .bp) ≡ true
+unfolding sound
+tentative-valid r v = search (v, and-left, and-right) depth 40
+
 module _ (old : Record) (d : Day) (new : Record) (a : Accepted old d new) (on : old .statics .ewma ≡ true) where
   abbrev made : Figures
   made = modelled (old .statics) (d .b) (d .m) (rateAt (old .rates) 0) (moveTo old (new .p1 .units)) (old .s)
@@ -119,12 +123,13 @@ module _ (old : Record) (d : Day) (new : Record) (a : Accepted old d new) (on : 
   tentative-is : new .tentative ≡ made .tentative
   tentative-is = a .tentative ∙ ap (λ (f : Figures). f .tentative) is-made
 
-  pub tentative-high : new .tentative .bp ≤ tentativeMost
-  unfolding modelled
+  pub tentative-high : new .tentative .bp ≤ tentativeBound
   tentative-high =
-      rw tentative-is
-      (tentative-held _ _ _ _ tentativeMost (le-trans (tentative-rate-held (old .statics) _ _ _)
-      (omega (arith, ranges .statics .most-high))) (ranges .tentative))
+      let stays =
+      modelled-stays (old .statics) (d .b) (d .m) _ _ (old .s) (old .tentative)
+      (sound-facts old (a .sound-record) .valid) (near-move (old .statics) _ on (a .near)) (ranges .volatility)
+      (tentative-valid old (a .sound-record)) in
+      rw tentative-is (top-within (ranges .statics) (valid-high _ _ stays))
 
   -- the rate of each level, of the tentative rate that was made
   pub rates-made : new .rates
@@ -134,7 +139,7 @@ module _ (old : Record) (d : Day) (new : Record) (a : Accepted old d new) (on : 
 
   -- what is asked of each level
   pub level-asked : ((validStatics (old .statics) ≡ true) × (old .statics .ewma ≡ true))
-      × ((d .m ≤ aheadMost) × (new .tentative .bp ≤ tentativeMost))
+      × ((d .m ≤ aheadMost) × (new .tentative .bp ≤ tentativeBound))
   level-asked = ((sound-facts old (a .sound-record) .valid, on), (ranges .ahead, tentative-high))
 
   pub rate-asked : (i : ℕ) → getD (new .rates) i noRate .bp

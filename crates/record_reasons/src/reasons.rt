@@ -5,7 +5,7 @@ ghost use Prim.Native.Nat.{_+_, _^_, _≤_, _<_};
 ghost use Rattle.paper.specs.Numbers.{aheadMost, rateMost};
 ghost use Rattle.paper.specs.Ranges.{validStatics};
 ghost use Rattle.paper.specs.Rates.{levelRate};
-ghost use Rattle.rates.specs.Asked.{tentativeMost};
+ghost use Rattle.rates.specs.Asked.{tentativeBound};
 ghost use Rattle.paper_reasons.specs.Reasons.{firstThatHolds, weightIs, weightReasons, replacementWas, replacementReasons, tentativeDid, tentativeReasons, levelSetBy, levelReason};
 ghost use Rattle.record_reasons.specs.Reasoned.{reasonFrom, unmodelledWith, modelledWith, reasonsAt, Accepted};
 use evaluation::PriceFigures;
@@ -92,7 +92,7 @@ fn tentative_reason(h: u64, wait: u64, t: u64, old: Tentative) -> TentativeReaso
 // and a step below does not.
 fn is_least(st: Statics, level: u64, m: u64, tentative: u64, rate: Rate) -> bool
     requires { ⌜ validStatics st ≡ true ⌝ }
-    requires { ⌜ (m ≤ aheadMost) × (tentative ≤ tentativeMost) ⌝ }
+    requires { ⌜ (m ≤ aheadMost) × (tentative ≤ tentativeBound) ⌝ }
     requires { ⌜ rate .bp ≡ levelRate st level m tentative ⌝ }
     ensures { λ r. ⌜ r ≡ levelSetBy st level m tentative (rate .bp) LevelReason.Requirement ⌝ }
 {
@@ -108,7 +108,7 @@ fn is_least(st: Statics, level: u64, m: u64, tentative: u64, rate: Rate) -> bool
 // The requirement, the minimum or the maximum.
 fn level_reason(st: Statics, level: u64, m: u64, tentative: u64, rate: Rate) -> LevelReason
     requires { ⌜ (validStatics st ≡ true) × (st .ewma ≡ true) ⌝ }
-    requires { ⌜ (m ≤ aheadMost) × (tentative ≤ tentativeMost) ⌝ }
+    requires { ⌜ (m ≤ aheadMost) × (tentative ≤ tentativeBound) ⌝ }
     requires { ⌜ rate .bp ≡ levelRate st level m tentative ⌝ }
     ensures { λ y. ⌜ y ≡ levelReason st level m tentative (rate .bp) ⌝ }
 {

@@ -93,7 +93,7 @@ sound-facts r v =
             later = grid-price-facts _ _ (search (v, and-left, and-right) depth 40);
             earlier = grid-price-facts _ _ (search (v, and-left, and-right) depth 40);
             s-most = leb-true _ _ (search (v, and-left, and-right) depth 40);
-            held = tentative-facts (r .statics) _ (search (v, and-left, and-right) depth 40);
+            tentative-in = tentative-facts (r .statics .h) _ (search (v, and-left, and-right) depth 40);
           };
       age-most = leb-true _ _ (search (v, and-left, and-right) depth 40);
       rates = rates-facts (r .rates) (search (v, and-left, and-right) depth 40);

@@ -16,7 +16,7 @@ use crate::record::{is_repo_term, Side};
 use crate::refusal::Refusal;
 use crate::slices::split_first;
 use crate::tally::{Edge, Tally};
-use crate::units::{AGE, BOND_MONEY, MILLIONTHS_IN_BP, PRICE};
+use crate::units::{AGE, BOND_MONEY, MILLIONTHS_IN_BP, PRICE, TARGET_MAX};
 use crate::words::{hear, number_or_pair, words, Word, EVENING_LINE_MAX};
 
 /// A bond's line and what is answered.
@@ -194,6 +194,13 @@ const VALUE_NAMES: [&str; VALUES] = [
 ];
 const FLOW_NAMES: [&str; FLOW] = ["DAY", "AMOUNT"];
 
+/// The ends of the tentative rate that go by the step, so that they are edges of
+/// their own.
+const TOPS: [(Ranged, End); 2] = [
+    (Ranged::Value(6), End::Most),
+    (Ranged::Value(6), End::Above),
+];
+
 /// What an edge is about, so that the generator can aim at it.
 #[derive(Clone, Copy, Debug, PartialEq, Eq)]
 pub enum Aim {
@@ -212,7 +219,9 @@ impl Aim {
         let numbers: Vec<Ranged> = values.chain((0..FLOW).map(Ranged::Flow)).collect();
         let ends = numbers
             .iter()
-            .flat_map(|place| End::ALL.map(|(_, end)| Aim::End(*place, end)));
+            .flat_map(|place| End::ALL.map(|(_, end)| (*place, end)))
+            .filter(|end| !TOPS.contains(end))
+            .map(|(place, end)| Aim::End(place, end));
         let places = rounding::Place::all();
         let roundings = places
             .iter()
@@ -253,15 +262,32 @@ impl Aim {
     }
 }
 
-/// t, before S_max holds it.
+/// t of the volatility.
 fn t(bond: &Bond) -> i64 {
     ewma::target(&bond.statics.model(), bond.before.s, MILLIONTHS_IN_BP)
 }
 
-/// How many steps t stands above the old tentative rate, S_max holding it.
+/// How many steps t stands above the old tentative rate.
 fn rise(bond: &Bond) -> i64 {
     let statics = &bond.statics;
-    (t(bond).min(statics.s_max) - bond.before.tentative) / statics.step
+    (t(bond) - bond.before.tentative) / statics.step
+}
+
+/// The greatest tentative rate of a step.
+fn top(step: i64) -> i64 {
+    (TARGET_MAX + step - 1) / step * step
+}
+
+/// Accepted at the greatest tentative rate of that step.
+fn is_at_top(seen: &SeenBond, step: i64) -> bool {
+    let [tentative, given] = [6, 17].map(|place| seen.values[place]);
+    seen.number == 0 && given == step && tentative == top(step)
+}
+
+/// Refused a step past the greatest tentative rate of that step.
+fn is_past_top(seen: &SeenBond, step: i64) -> bool {
+    let [tentative, given] = [6, 17].map(|place| seen.values[place]);
+    seen.is_6() && given == step && tentative == top(step) + step
 }
 
 /// The limit that a reach gives in a term, rounded.
@@ -535,13 +561,42 @@ const OTHERS: &[Edge<SeenBond>] = &[
             bond.before.tentative == s_max && s_max > 0 && s_max < 10_000
         })
     }),
-    ("6: tentative rate a step above S_max", |b| {
-        let [tentative, step, s_max] = [6, 17, 27].map(|place| b.values[place]);
-        b.is_6() && b.ranged().all(|inside| inside) && tentative == s_max + step
+    ("tentative rate a step above S_max", |b| {
+        b.accepts(|bond, _| bond.before.tentative == bond.statics.s_max + bond.statics.step)
+    }),
+    ("tentative rate at the top, h 1", |b| is_at_top(b, 1)),
+    ("tentative rate at the top, h 7", |b| is_at_top(b, 7)),
+    ("tentative rate at the top, h 999", |b| is_at_top(b, 999)),
+    ("tentative rate at the top, h 1,000", |b| {
+        is_at_top(b, 1_000)
+    }),
+    ("6: tentative rate a step past the top, h 1", |b| {
+        is_past_top(b, 1)
+    }),
+    ("6: tentative rate a step past the top, h 7", |b| {
+        is_past_top(b, 7)
+    }),
+    ("6: tentative rate a step past the top, h 999", |b| {
+        is_past_top(b, 999)
+    }),
+    ("6: tentative rate a step past the top, h 1,000", |b| {
+        is_past_top(b, 1_000)
+    }),
+    ("rises above S_max, the rates at it", |b| {
+        b.accepts(|bond, worked| {
+            let s_max = bond.statics.s_max;
+            worked.tentative > s_max.max(bond.before.tentative) && worked.rates == [s_max; 3]
+        })
+    }),
+    ("falls by a step and stays above S_max", |b| {
+        b.accepts(|bond, worked| {
+            bond.before.tentative > worked.tentative && worked.tentative > bond.statics.s_max
+        })
     }),
     ("6: tentative rate no multiple of h", |b| {
         let [tentative, step, s_max] = [6, 17, 27].map(|place| b.values[place]);
-        b.is_6() && b.ranged().all(|inside| inside) && tentative < s_max && tentative % step == 1
+        let is_alone = b.is_6() && b.ranged().all(|inside| inside);
+        is_alone && tentative < s_max && tentative % step == 1
     }),
     ("6: a minimum above S_max", |b| {
         b.is_6() && b.ranged().all(|inside| inside) && b.values[26] > b.values[27]

@@ -272,12 +272,19 @@ fn lengthen(random: &mut Random, numbers: &mut Vec<i64>) {
 
 /// One relation of the values fails by the least there is.
 fn misfit(random: &mut Random, numbers: &mut [i64]) {
-    match random.below(7) {
+    match random.below(8) {
         0 => {
             let low = TERMS + 3 * random.below(3) + 1;
             numbers[low] = numbers[low + 1] + 1;
         }
         1 => numbers[TENTATIVE] = numbers[S_MAX] + numbers[STEP],
+        7 => {
+            let statics = share::statics_of_step(random);
+            numbers[STEP] = statics.step;
+            numbers[MINIMA..S_MAX].copy_from_slice(&statics.minima);
+            numbers[S_MAX] = statics.s_max;
+            numbers[TENTATIVE] = share::top(random, &statics);
+        }
         2 => numbers[TENTATIVE] += 1,
         3 => numbers[MINIMA + 2] = numbers[S_MAX] + numbers[STEP],
         4 => numbers[S_MAX] -= 1,

@@ -49,7 +49,7 @@ pub const ADMISSION: [Ends; 6] = [
     ends(&u::PRICE),
     ends(&u::PRICE),
     ends(&u::VOLATILITY),
-    ends(&u::RATE),
+    (0, u::TARGET_MAX),
 ];
 
 const TERM: [Ends; 3] = [
@@ -99,7 +99,7 @@ pub const QUOTE: [Ends; 5] = [
 pub const MOVE: [Ends; 2] = [ends(&u::ID), FLAG];
 
 /// The ends of the gateway's values.
-pub const GATEWAY_RATE: [Ends; 3] = [ends(&u::RATE), ends(&u::DAYS_CLOSED), (1, 3)];
+pub const GATEWAY_RATE: [Ends; 3] = [(0, u::TARGET_MAX), ends(&u::DAYS_CLOSED), (1, 3)];
 pub const GATEWAY_RANGE: [Ends; 3] = [ends(&u::PRICE), ends(&u::RATE), FLAG];
 pub const GATEWAY_BAND: [Ends; 6] = [
     ends(&u::PRICE),

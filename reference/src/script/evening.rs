@@ -16,7 +16,7 @@ use crate::units::{Range, ID, MOVE_COUNT};
 use crate::words::{hear, number_or_pair, Word, EVENING_LINE_MAX};
 
 use super::edges::{edge, neighbours, unsettled_count, Ends};
-use super::{crossed, day, edges, quote, replacement, share, spelling, why};
+use super::{crossed, day, edges, quote, replacement, share, spelling, tentative, why};
 
 /// Securities that the author works on at a time.
 const FOCUS: usize = 24;
@@ -55,12 +55,13 @@ const ALSO_REFUSED: [Refusal; 8] = [
     Refusal::BandCrossed,
 ];
 /// After how many of a hundred lines each spell comes.
-const SPELLS: [(usize, Spell); 5] = [
+const SPELLS: [(usize, Spell); 6] = [
     (8, Spell::Falls),
     (11, Spell::Replaced),
     (14, Spell::Stays),
     (17, Spell::Reasoned),
     (20, Spell::Widest),
+    (22, Spell::Uncapped),
 ];
 
 /// A long spell of one security.
@@ -77,6 +78,8 @@ enum Spell {
     Replaced,
     /// Many, each made for the reasons of a level.
     Reasoned,
+    /// Many, each with a tentative rate beside S_max, above it or at its top.
+    Uncapped,
 }
 
 /// A script of so many lines. Scripts of odd seeds lack the last line's end.
@@ -434,6 +437,7 @@ impl Author {
             Spell::Stays => self.quiet_spell(&share::quiet_admission(id, false)),
             Spell::Widest => self.widest_spell(id),
             Spell::Replaced => (0..REPLACED).for_each(|turn| self.replaced_security(turn)),
+            Spell::Uncapped => (0..tentative::SHARES).for_each(|turn| self.uncapped_security(turn)),
             Spell::Reasoned => (0..why::SHARES).for_each(|turn| self.reasoned_security(turn)),
         }
     }
@@ -471,6 +475,16 @@ impl Author {
             self.say("admit", &admission);
             self.quiet_days(id, 1..=1);
         }
+    }
+
+    /// A security made for its tentative rate, a refused admission of it before,
+    /// and its first days.
+    fn uncapped_security(&mut self, turn: usize) {
+        let id = self.new_id();
+        let made = tentative::made(&mut self.random, id, turn);
+        self.say("admit", &made.refused);
+        self.say("admit", &made.admission);
+        self.quiet_days(id, 1..=made.days);
     }
 
     fn quiet_days(&mut self, id: i64, numbers: Range) {

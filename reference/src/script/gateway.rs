@@ -90,6 +90,10 @@ fn rate_inputs(random: &mut Random) -> (Statics, i64) {
             let statics = share::statics(random);
             (statics, statics.s_max + statics.step)
         }
+        4 => {
+            let statics = share::statics_of_step(random);
+            (statics, share::top(random, &statics))
+        }
         _ => {
             let statics = share::statics(random);
             (statics, share::tentative(random, &statics))

@@ -12,4 +12,5 @@ mod quote;
 mod replacement;
 mod share;
 mod spelling;
+mod tentative;
 mod why;

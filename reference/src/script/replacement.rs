@@ -38,8 +38,8 @@ pub struct Made {
     pub price: i64,
 }
 
-/// The share of a turn, whose first day, at the price, stands at an edge. Where
-/// S_max leaves room, the ordinary t gives another tentative rate.
+/// The share of a turn, whose first day, at the price, stands at an edge. The
+/// ordinary t gives another tentative rate.
 pub fn made(random: &mut Random, id: i64, turn: usize) -> Option<Made> {
     (0..ATTEMPTS).find_map(|_| attempt(random, id, turn))
 }
@@ -64,12 +64,12 @@ fn attempt(random: &mut Random, id: i64, turn: usize) -> Option<Made> {
     let x = y - above_weighed.unwrap_or(y / 2);
     let before = Volatility {
         s: weighing(&statics, r, x)?,
-        tentative: (t + above_target * step).clamp(0, statics.s_max),
+        tentative: (t + above_target * step).clamp(0, statics.tentative_max()),
         age: 0,
     };
-    let stepped = |t: i64| ewma::stepped(&model, x.max(y), t.min(statics.s_max), &before);
+    let stepped = |t: i64| ewma::stepped(&model, x.max(y), t, &before);
     let ordinary = ewma::target(&model, x.max(y), MILLIONTHS_IN_BP);
-    if statics.s_max > t && stepped(ordinary) == stepped(t) {
+    if stepped(ordinary) == stepped(t) {
         return None;
     }
     let p = share::either(

@@ -217,9 +217,27 @@ pub fn missed_admission(random: &mut Random, id: i64) -> Vec<i64> {
     let mut numbers = admission_with(random, id, &statics);
     numbers[TENTATIVE] = match random.below(3) {
         0 => numbers[TENTATIVE] + random.pick(&[1, -1]),
-        _ => statics.s_max + statics.step,
+        _ => statics.tentative_max() + statics.step,
     };
     numbers
+}
+
+/// Statics with a step of which the greatest tentative rate is 100,000, 2 above
+/// it or 899 above it.
+pub fn statics_of_step(random: &mut Random) -> Statics {
+    let step = random.pick(&[1, 7, 999, 1_000]);
+    let [first, second, third, s_max] = rate_ladder(random, step);
+    Statics {
+        step,
+        minima: [first, second, third],
+        s_max,
+        ..statics(random)
+    }
+}
+
+/// The greatest tentative rate, a step below it or a step past it.
+pub fn top(random: &mut Random, statics: &Statics) -> i64 {
+    statics.tentative_max() + statics.step * random.between(-1, 1)
 }
 
 fn admission_with(random: &mut Random, id: i64, statics: &Statics) -> Vec<i64> {
@@ -276,12 +294,17 @@ pub fn numbers(values: &[i64; 6], statics: &Statics) -> Vec<i64> {
     numbers
 }
 
-/// A tentative rate: 0, S_max or a step between.
+/// A tentative rate: 0, S_max, a step between or above, or any up to the
+/// greatest.
 pub fn tentative(random: &mut Random, statics: &Statics) -> i64 {
     let steps = statics.s_max / statics.step;
-    let taken = match random.below(8) {
-        0 => 0,
-        1 => steps,
+    let most = statics.tentative_max() / statics.step;
+    let taken = match random.below(16) {
+        0 | 1 => 0,
+        2 => steps,
+        3 => (steps + random.between(1, 3)).min(most),
+        4 => random.between(steps, most),
+        5 if random.chance(30) => most,
         _ => random.between(0, steps),
     };
     taken * statics.step

@@ -87,7 +87,7 @@ fn made_attempt(random: &mut Random, id: i64, turn: usize) -> Option<Vec<i64>> {
     let s = tentative * ROUBLE / statics.multiplier;
     let p = share::price(random, statics.grid());
     let admission = share::numbers(&[id, 0, p, p, s, tentative], &statics);
-    (tentative <= s_max && statics.is_sound()).then_some(admission)
+    statics.is_sound().then_some(admission)
 }
 
 /// A day without faults: the record's next, with holidays of any count.

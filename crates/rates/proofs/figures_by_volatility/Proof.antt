@@ -5,14 +5,20 @@ use Prim.Native.Nat.{ℕ, _≤_}
 use native.Mathlib.Omega.{arith}
 use Rattle.paper.specs.declared.Statics.{Statics}
 use Rattle.paper.specs.Rates.{tentativeRate, tentativeRateOf, figuresByVolatility}
-use Rattle.paper.proofs.Bounds.{tentative-rate-held}
+use Rattle.paper.specs.Numbers.{volatilityMost}
+use Rattle.paper.proofs.TentativeRange.{valid-high, tentative-rate-in}
 use Rattle.paper.proofs.Logic.{pick-false}
+use Rattle.rates.specs.Asked.{RateStatics, tentativeBound}
+use Rattle.rates.proofs.Statics.{top-within}
 use Rattle.rates.proofs.figures_by_volatility.Statement.{statement}
 use Rattle.rates.proofs.figures_by_volatility.Tie as tie
 
-t-held : (st : Statics) (s : ℕ) → tentativeRate st s ≤ st .smax
+-- t is in the tentative rate's range
+t-high : (st : Statics) (s : ℕ) → RateStatics st → s ≤ volatilityMost → tentativeRate st s ≤ tentativeBound
 unfolding tentativeRateOf
-t-held st s = tentative-rate-held st false 0 s
+t-high st s r h =
+    let in-range = tentative-rate-in st false 0 s (r .step-low) (r .multiplier-high) (omega arith) h in
+    top-within r (valid-high _ _ in-range)
 
 tentative-rate-requires : tie.Need-tentative-rate-requires
 tentative-rate-requires c κs = (c .before .pre .statics, c .before .pre .volatility)
@@ -23,9 +29,7 @@ rated-requires c κs =
     record {
       statics = s .pre .statics;
       ahead = s .pre .ahead;
-      t-high =
-          rw (c .tentative-rate .ensures)
-          (omega (arith, t-held (s .args .st) (s .args .s), s .pre .statics .most-high));
+      t-high = rw (c .tentative-rate .ensures) (t-high _ _ (s .pre .statics) (s .pre .volatility));
       tentative = s .pre .tentative;
       age = s .pre .age;
     }

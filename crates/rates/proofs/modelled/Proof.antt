@@ -3,9 +3,12 @@
 use Prim.Native.Nat.{_≤_}
 use native.Mathlib.Omega.{arith}
 use borrow.Author.Needs.{needs}
+use Rattle.paper.specs.Numbers.{volatilityMost}
 use Rattle.paper.specs.Rates.{modelled, Weighing}
-use Rattle.paper.proofs.Bounds.{volatility-high, tentative-rate-held}
-use Rattle.rates.proofs.Statics.{rates-weighing}
+use Rattle.paper.proofs.Bounds.{volatility-high}
+use Rattle.paper.proofs.TentativeRange.{valid-high, tentative-rate-in}
+use Rattle.rates.specs.Asked.{tentativeBound}
+use Rattle.rates.proofs.Statics.{rates-weighing, top-within}
 use Rattle.rates.proofs.modelled.Statement.{statement}
 use Rattle.rates.proofs.modelled.Tie as tie
 
@@ -22,17 +25,25 @@ weighs c = rw (c .model-of .ensures) (rates-weighing _ (c .before .pre .0 .stati
 choose-requires : tie.Need-choose-requires
 choose-requires c κs = (weighs (c .before), (c .before .before .pre .1, c .before .before .pre .0 .volatility))
 
-tentative-rate-of-requires : tie.Need-tentative-rate-of-requires
-tentative-rate-of-requires c κs =
+-- new s is a volatility
+s-high : (c : tie.After-choose) → c .choose .result .s ≤ volatilityMost
+s-high c =
     let m = c .before .before in
     let given = m .before .pre .0 in
-    let high = volatility-high _ _ _ _ _ _ (weighs m) (given .volatility) (m .before .pre .1) in
-    (given .statics, (m .before .pre .1, rw (c .choose .ensures) high))
+    rw (c .choose .ensures) (volatility-high _ _ _ _ _ _ (weighs m) (given .volatility) (m .before .pre .1))
 
--- t is at most S_max
-t-held : (c : tie.After-tentative-rate-of)
-    → c .tentative-rate-of .result ≤ c .before .before .before .before .args .st .smax
-t-held c = rw (c .tentative-rate-of .ensures) (tentative-rate-held _ _ _ _)
+tentative-rate-of-requires : tie.Need-tentative-rate-of-requires
+tentative-rate-of-requires c κs =
+    let start = c .before .before .before in
+    (start .pre .0 .statics, (start .pre .1, s-high c))
+
+-- t is in the tentative rate's range
+t-high : (c : tie.After-tentative-rate-of) → c .tentative-rate-of .result ≤ tentativeBound
+t-high c =
+    let start = c .before .before .before .before in
+    let st = start .pre .0 .statics in
+    let in-range = tentative-rate-in _ _ _ _ (st .step-low) (st .multiplier-high) (start .pre .1) (s-high (c .before)) in
+    rw (c .tentative-rate-of .ensures) (top-within st (valid-high _ _ in-range))
 
 rated-requires : tie.Need-rated-requires
 rated-requires c κs =
@@ -40,7 +51,7 @@ rated-requires c κs =
     record {
       statics = given .statics;
       ahead = given .ahead;
-      t-high = omega (arith, t-held c, given .statics .most-high);
+      t-high = t-high c;
       tentative = given .tentative;
       age = given .age;
     }

@@ -1,11 +1,10 @@
 -- `level::level_figure` meets its contract: with isEWMA yes it is the level's rate, with isEWMA no the level's minimum.
 -- Assumes nothing.
 use mathlib.Core.Path.{sym, _∙_}
-use native.Mathlib.Omega.{arith}
 use borrow.Author.Needs.{needs}
 use Rattle.paper.specs.Gateway.{levelFigure}
 use Rattle.paper.proofs.Logic.{pick-true, pick-false}
-use Rattle.rates.proofs.Statics.{valid-rates}
+use Rattle.rates.proofs.Statics.{valid-rates, top-within}
 use Rattle.gateway.specs.GatewayLaws.{level-inputs}
 use Rattle.gateway.proofs.level.level_figure.Statement.{statement}
 use Rattle.gateway.proofs.level.level_figure.Tie as tie
@@ -15,7 +14,7 @@ level-rate-requires c κs =
     let a = c .before .args in
     let rates = valid-rates (a .st) (c .before .pre .0) in
     let inputs = level-inputs (a .st) (a .tentative) (a .m) (a .level) (c .before .pre .1) in
-    (rates, (inputs .ahead, omega (arith, inputs .held, rates .most-high)))
+    (rates, (inputs .ahead, top-within rates (inputs .high)))
 
 returns : tie.Need-returns
 unfolding levelFigure

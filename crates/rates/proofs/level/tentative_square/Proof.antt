@@ -4,15 +4,15 @@ use native.Mathlib.Nat.{mul-le-mul, add-le-add}
 use native.Mathlib.Omega.{arith}
 use borrow.Author.Needs.{needs}
 use Rattle.paper.specs.Numbers.{firstDaysMost, daysMost, aheadMost}
-use Rattle.rates.specs.Asked.{tentativeMost}
+use Rattle.rates.specs.Asked.{tentativeBound}
 use Rattle.rates.specs.Level.{tentativeSquare}
 use Rattle.rates.proofs.level.tentative_square.Statement.{statement}
 use Rattle.rates.proofs.level.tentative_square.Tie as tie
 
 record Sizes (rh1 rh m t : ℕ) : Type 0 where
-  square : t * t ≤ tentativeMost * tentativeMost
-  days : rh * (t * t) ≤ daysMost * (tentativeMost * tentativeMost)
-  all : tentativeSquare rh1 rh m t ≤ tentativeSquare firstDaysMost daysMost aheadMost tentativeMost
+  square : t * t ≤ tentativeBound * tentativeBound
+  days : rh * (t * t) ≤ daysMost * (tentativeBound * tentativeBound)
+  all : tentativeSquare rh1 rh m t ≤ tentativeSquare firstDaysMost daysMost aheadMost tentativeBound
 
 sizes : (c : tie.Start) → Sizes (c .args .rh1) (c .args .rh) (c .args .m) (c .args .tentative)
 sizes c =

@@ -5,16 +5,16 @@ use Rattle.paper.specs.Rates.{tentativeRate}
 use Rattle.rates.proofs.tentative.tentative_rate.Statement.{statement}
 use Rattle.rates.proofs.tentative.tentative_rate.Tie as tie
 
-mul-held-step : tie.Need-mul-held-step
-mul-held-step c = omega (arith, mul-le-mul (c .before .pre .0 .multiplier-high) (c .before .pre .1))
+mul-least-step : tie.Need-mul-least-step
+mul-least-step c = omega (arith, mul-le-mul (c .before .pre .0 .multiplier-high) (c .before .pre .1))
 
-held-step-requires : tie.Need-held-step-requires
-held-step-requires c κs =
+least-step-requires : tie.Need-least-step-requires
+least-step-requires c κs =
     omega (arith, c .before .pre .0, mul-le-mul (c .before .pre .0 .multiplier-high) (c .before .pre .1))
 
 returns : tie.Need-returns
 unfolding tentativeRate
-returns c = c .held-step .ensures
+returns c = c .least-step .ensures
 
 pub tentative-rate-spec : {M : Type 1} → statement M
-tentative-rate-spec = tie.close (tie.spec mul-held-step held-step-requires returns)
+tentative-rate-spec = tie.close (tie.spec mul-least-step least-step-requires returns)

@@ -4,12 +4,12 @@ use Rattle.paper.specs.Rates.{tentativeRateByMove}
 use Rattle.rates.proofs.tentative.tentative_rate_by_move.Statement.{statement}
 use Rattle.rates.proofs.tentative.tentative_rate_by_move.Tie as tie
 
-held-step-requires : tie.Need-held-step-requires
-held-step-requires c κs = omega (arith, c .pre .0)
+least-step-requires : tie.Need-least-step-requires
+least-step-requires c κs = omega (arith, c .pre .0)
 
 returns : tie.Need-returns
 unfolding tentativeRateByMove
-returns c = c .held-step .ensures
+returns c = c .least-step .ensures
 
 pub tentative-rate-by-move-spec : {M : Type 1} → statement M
-tentative-rate-by-move-spec = tie.close (tie.spec held-step-requires returns)
+tentative-rate-by-move-spec = tie.close (tie.spec least-step-requires returns)

@@ -4,8 +4,10 @@ use Rattle.paper.specs.Rates.{modelOf, modelled, Weighing}
 use Rattle.paper.specs.Ranges.{rateAt}
 use Rattle.rates.specs.declared.volatility.Volatility.{Volatility}
 use Rattle.rates.specs.Chosen.{chosen}
-use Rattle.paper.proofs.Bounds.{volatility-high, tentative-rate-held}
-use Rattle.rates.proofs.Statics.{rates-weighing}
+use Rattle.paper.proofs.Bounds.{volatility-high}
+use Rattle.paper.proofs.TentativeRange.{valid-high, tentative-rate-in}
+use Rattle.rates.specs.Asked.{tentativeBound}
+use Rattle.rates.proofs.Statics.{rates-weighing, top-within}
 use Rattle.record_writing.specs.Evaluates.{moveTo}
 use Rattle.record_calls.proofs.Evaluations.{sound-prices}
 use Rattle.record_reasons.proofs.Reasoning.{near-move, figures-modelled, ranges, level-asked, rate-asked, level-at, weight-by, replacement-by, tentative-by}
@@ -52,13 +54,27 @@ choose-requires c κs =
     let s = c .before .before .before .before .before .before .before .before .before .before in
     (weighs c, (move-high (c .before), ranges _ _ _ (s .pre .0) (s .pre .1) .volatility))
 
-tentative-rate-of-requires : tie.Need-tentative-rate-of-requires
-tentative-rate-of-requires c κs =
+-- new s is a volatility
+s-high : (c : tie.After-choose) → c .choose .result .s ≤ volatilityMost
+s-high c =
     let s = c .before .before .before .before .before .before .before .before .before .before .before in
     let given = ranges _ _ _ (s .pre .0) (s .pre .1) in
     let r = move-high (c .before .before) in
-    let high = volatility-high _ _ _ _ _ _ (weighs (c .before)) (given .volatility) r in
-    (given .statics, (r, rw (c .choose .ensures) high))
+    rw (c .choose .ensures) (volatility-high _ _ _ _ _ _ (weighs (c .before)) (given .volatility) r)
+
+tentative-rate-of-requires : tie.Need-tentative-rate-of-requires
+tentative-rate-of-requires c κs =
+    let s = c .before .before .before .before .before .before .before .before .before .before .before in
+    (ranges _ _ _ (s .pre .0) (s .pre .1) .statics, (move-high (c .before .before), s-high c))
+
+-- t is in the tentative rate's range
+t-high : (c : tie.After-tentative-rate-of) → c .tentative-rate-of .result ≤ tentativeBound
+t-high c =
+    let s = c .before .before .before .before .before .before .before .before .before .before .before .before in
+    let st = ranges _ _ _ (s .pre .0) (s .pre .1) .statics in
+    let moved = move-high (c .before .before .before) in
+    let in-range = tentative-rate-in _ _ _ _ (st .step-low) (st .multiplier-high) moved (s-high (c .before)) in
+    rw (c .tentative-rate-of .ensures) (top-within st (valid-high _ _ in-range))
 
 weight-reason-requires : tie.Need-weight-reason-requires
 weight-reason-requires c κs = search needs
@@ -71,9 +87,7 @@ tentative-reason-requires c κs =
     let s = c .before .before .before .before .before .before .before .before .before .before .before .before .before
     .before in
     let given = ranges _ _ _ (s .pre .0) (s .pre .1) in
-    let t-held : c .before .before .tentative-rate-of .result ≤ s .args .old .statics .smax =
-    rw (c .before .before .tentative-rate-of .ensures) (tentative-rate-held _ _ _ _) in
-    omega (arith, t-held, given, given .statics)
+    omega (arith, t-high (c .before .before), given, given .statics)
 
 array-copy-out-level-reason : tie.Need-array-copy-out-level-reason
 array-copy-out-level-reason c = search needs
