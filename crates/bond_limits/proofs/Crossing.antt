@@ -15,6 +15,7 @@ use Rattle.paper.specs.declared.BondScale.{BondScale}
 use Rattle.paper.specs.declared.Statics.{Statics}
 use Rattle.paper.specs.declared.Side.{Side}
 use Rattle.paper.specs.declared.Side.the-variants.{Upper, Lower}
+use Rattle.paper.specs.declared.Way.the-variants.{HalfUp}
 use Rattle.paper.specs.declared.Term.{Term}
 use Rattle.paper.specs.Numbers.{oneInBp, yearInDayBp, divisorLeast, termDaysMost, repoMost}
 use Rattle.paper.specs.Roundings.{Quotient, grown}
@@ -52,8 +53,8 @@ module _ (b : BondScale) (st : Statics) (p s1 k : ℕ) (f : 0 < b .face) (d : di
   own-year = grown yearInDayBp k (b .repo)
 
   keeps : (x y : Quotient) → 0 < x .den → 0 < y .den → x .num * y .den ≤ y .num * x .den
-      → bondLimitOf b x ≤ bondLimitOf b y
-  keeps x y u v l = limit-monotone (bond b) st f .keeps x y u v l
+      → bondLimitOf HalfUp b x ≤ bondLimitOf HalfUp b y
+  keeps x y u v l = limit-monotone HalfUp (bond b) st f .keeps x y u v l
 
   abbrev twenty : Side → Quotient
   twenty side = growing k (b .repo) (shifted side p offBook)
@@ -67,7 +68,7 @@ module _ (b : BondScale) (st : Statics) (p s1 k : ℕ) (f : 0 < b .face) (d : di
       (omega arith))
 
   -- the farthest limits against the 20 per cent of the other side: both grow with REPORate
-  far-below : bondLimitOf b (farthestFor (bond b) st Lower p k) ≤ twentyLimit b Upper p k
+  far-below : bondLimitOf HalfUp b (farthestFor (bond b) st Lower p k) ≤ twentyLimit b Upper p k
   unfolding farthest shifted
   far-below =
       let l : oneInBp - st .pclmax ≤ oneInBp + offBook = omega arith in
@@ -75,7 +76,7 @@ module _ (b : BondScale) (st : Statics) (p s1 k : ℕ) (f : 0 < b .face) (d : di
       (grows-order p (oneInBp - st .pclmax) (oneInBp + offBook) oneInBp oneInBp own-year own-year yearInDayBp
       (omega (arith, mul-le-mul-right own-year l)))
 
-  far-above : twentyLimit b Lower p k ≤ bondLimitOf b (farthestFor (bond b) st Upper p k)
+  far-above : twentyLimit b Lower p k ≤ bondLimitOf HalfUp b (farthestFor (bond b) st Upper p k)
   unfolding farthest shifted
   far-above =
       let l : oneInBp - offBook ≤ oneInBp + st .pchmax = omega arith in
@@ -98,7 +99,7 @@ module _ (b : BondScale) (st : Statics) (p s1 k : ℕ) (f : 0 < b .face) (d : di
       grown-range yearInDayBp k (b .repo) days own,
     )
 
-    monitored-below : bondLimitOf b (monitored st Lower p s1 0 k repo) ≤ twentyLimit b Upper p k
+    monitored-below : bondLimitOf HalfUp b (monitored st Lower p s1 0 k repo) ≤ twentyLimit b Upper p k
     unfolding monitored shifted
     monitored-below =
         let a : ℕ = spread st Lower s1 0 in
@@ -108,7 +109,7 @@ module _ (b : BondScale) (st : Statics) (p s1 k : ℕ) (f : 0 < b .face) (d : di
         (grows-order p a (oneInBp + offBook) whole oneInBp year own-year yearInDayBp
         (omega (arith, mul-le-mul-right year less, mul-le-mul-left whole (near-years .0))))
 
-    monitored-above : twentyLimit b Lower p k ≤ bondLimitOf b (monitored st Upper p s1 0 k repo)
+    monitored-above : twentyLimit b Lower p k ≤ bondLimitOf HalfUp b (monitored st Upper p s1 0 k repo)
     unfolding monitored shifted
     monitored-above =
         let a : ℕ = spread st Upper s1 0 in
@@ -127,9 +128,9 @@ module _ (b : BondScale) (st : Statics) (p s1 k : ℕ) (f : 0 < b .face) (d : di
         limit = bandLimitFor (bond b) st Lower p s1 0 k repo
 
         go : (t : Bool) → (t ≡ true → limit
-            ≡ narrowerOf Lower (bondLimitOf b (farthestFor (bond b) st Lower p k))
-            (bondLimitOf b (monitored st Lower p s1 0 k repo)))
-            → (t ≡ false → limit ≡ bondLimitOf b (farthestFor (bond b) st Lower p k)) → limit ≤ twentyLimit b Upper p k
+            ≡ narrowerOf Lower (bondLimitOf HalfUp b (farthestFor (bond b) st Lower p k))
+            (bondLimitOf HalfUp b (monitored st Lower p s1 0 k repo)))
+            → (t ≡ false → limit ≡ bondLimitOf HalfUp b (farthestFor (bond b) st Lower p k)) → limit ≤ twentyLimit b Upper p k
         go true m u = omega (arith, m refl, far-below, monitored-below)
         go false m u = omega (arith, u refl, far-below)
 
@@ -141,9 +142,9 @@ module _ (b : BondScale) (st : Statics) (p s1 k : ℕ) (f : 0 < b .face) (d : di
         limit = bandLimitFor (bond b) st Upper p s1 0 k repo
 
         go : (t : Bool) → (t ≡ true → limit
-            ≡ narrowerOf Upper (bondLimitOf b (farthestFor (bond b) st Upper p k))
-            (bondLimitOf b (monitored st Upper p s1 0 k repo)))
-            → (t ≡ false → limit ≡ bondLimitOf b (farthestFor (bond b) st Upper p k)) → twentyLimit b Lower p k ≤ limit
+            ≡ narrowerOf Upper (bondLimitOf HalfUp b (farthestFor (bond b) st Upper p k))
+            (bondLimitOf HalfUp b (monitored st Upper p s1 0 k repo)))
+            → (t ≡ false → limit ≡ bondLimitOf HalfUp b (farthestFor (bond b) st Upper p k)) → twentyLimit b Lower p k ≤ limit
         go true m u = omega (arith, m refl, far-above, monitored-above)
         go false m u = omega (arith, u refl, far-above)
 

@@ -18,6 +18,7 @@ use paper::Rate;
 use paper::Side;
 use paper::Statics;
 use paper::Term;
+use paper::Way;
 use paper::YEAR_IN_DAY_BP;
 use paper_bonds::Bond;
 use paper_bonds::BondLimits;
@@ -51,7 +52,7 @@ fn in_per_cent(b: BondScale, grown: u64) -> u64
 fn limit_of(b: BondScale, x: u64, whole: u64, k: u64, repo: i64) -> u64
     requires { ⌜ ScaleRange b ⌝ }
     requires { ⌜ GrowthRange x whole k repo ⌝ }
-    ensures { λ r. ⌜ r ≡ bondLimitOf b (growing k repo (record { num = x; den = whole })) ⌝ }
+    ensures { λ r. ⌜ r ≡ bondLimitOf Way.HalfUp b (growing k repo (record { num = x; den = whole })) ⌝ }
 {
     in_per_cent(b, grown_price(x, whole, k, repo))
 }
@@ -61,7 +62,7 @@ fn shifted_limit(b: BondScale, side: Side, p: Price, rate: Rate, k: u64) -> u64
     requires { ⌜ ScaleRange b ⌝ }
     requires { ⌜ PriceRange p k ⌝ }
     requires { ⌜ rate .bp ≤ rateMost ⌝ }
-    ensures { λ r. ⌜ r ≡ bondLimitOf b (growing k (b .repo) (shifted side (p .units) (rate .bp))) ⌝ }
+    ensures { λ r. ⌜ r ≡ bondLimitOf Way.HalfUp b (growing k (b .repo) (shifted side (p .units) (rate .bp))) ⌝ }
 {
     limit_of(b, limits::shifted(side, p, rate), ONE_IN_BP, k, b.repo)
 }
@@ -79,7 +80,7 @@ fn monitored_limit(
     requires { ⌜ ScaleRange b ⌝ }
     requires { ⌜ validStatics st ≡ true ⌝ }
     requires { ⌜ SideRange p s1 k repo ⌝ }
-    ensures { λ r. ⌜ r ≡ bondLimitOf b (monitored st side (p .units) (s1 .bp) 0 k repo) ⌝ }
+    ensures { λ r. ⌜ r ≡ bondLimitOf Way.HalfUp b (monitored st side (p .units) (s1 .bp) 0 k repo) ⌝ }
 {
     limit_of(
         b,

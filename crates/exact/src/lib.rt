@@ -1,46 +1,74 @@
 // Whole-number arithmetic that loses nothing: the roundings of document 01, "Places of rounding", the least root of
 // clause 7.1, and signed numbers, given or lent. Every result is a definition of `paper`, for every input that its
 // callers can have.
+use paper::Way;
 ghost use mathlib.Core.Path.{_≡_};
 ghost use Prim.Native.Nat.{_+_, _-_, _*_, _/_, _%_, _^_, _≤_, _<_, min, max};
 ghost use lib.IntN.{pos};
 ghost use lib.ListN.{length, getD};
 ghost use lib.Signed.{mag};
 ghost use Rattle.paper.specs.Numbers.{oneInTenThousandths};
-ghost use Rattle.paper.specs.Roundings.{up, halfUp, toGrid, grown, apart};
+ghost use Rattle.paper.specs.Roundings.{up, halfUp, rounded, roundedTo, toGrid, grown, apart};
 ghost use Rattle.paper.specs.Least.{leastRoot};
 ghost use Rattle.paper.specs.Ranges.{withinZ, unsigned};
+ghost use Rattle.exact.specs.Remainders.{goesUp};
 ghost use Rattle.exact.specs.Wide.{Divides, LimitRange};
 ghost use Rattle.exact.specs.SignedLaws.{Grows};
 
 // ---- the roundings
 
-// n/d rounded up, as at places (e) and (f). Nothing is added to n, so that every n can be rounded.
+// Whether a quotient with this remainder goes on to the next whole number.
+fn goes_up(way: Way, rest: u64, d: u64) -> bool
+    requires { ⌜ rest < d ⌝ }
+    ensures { λ r. ⌜ r ≡ goesUp way rest d ⌝ }
+{
+    match way {
+        Way::Down => false,
+        Way::HalfUp => d - rest <= rest,
+        Way::Up => 0 < rest,
+    }
+}
+
+// n/d rounded that way. Nothing is added to n and nothing is doubled, so that every n can be rounded: the sums of place
+// (c) reach 1.6·10^19.
+pub fn rounded(way: Way, n: u64, d: u64) -> u64
+    requires { ⌜ 0 < d ⌝ }
+    ensures { λ r. ⌜ r ≡ rounded way n d ⌝ }
+{
+    let q = n / d;
+    if goes_up(way, n % d, d) { q + 1 } else { q }
+}
+
+// n/d rounded up, as at places (e) and (f).
 pub fn up(n: u64, d: u64) -> u64
     requires { ⌜ 0 < d ⌝ }
     ensures { λ r. ⌜ r ≡ up n d ⌝ }
 {
-    let q = n / d;
-    if n % d == 0 { q } else { q + 1 }
+    rounded(Way::Up, n, d)
 }
 
-// n/d to the nearest whole number, a tie up, as at places (a), (b) and (c). Nothing is doubled: the sums of place (c)
-// reach 1.6·10^19.
+// n/d to the nearest whole number, a tie up, as at places (a), (b) and (c).
 pub fn half_up(n: u64, d: u64) -> u64
     requires { ⌜ 0 < d ⌝ }
     ensures { λ r. ⌜ r ≡ halfUp n d ⌝ }
 {
-    let q = n / d;
-    let r = n % d;
-    if r < d - r { q } else { q + 1 }
+    rounded(Way::HalfUp, n, d)
 }
 
-// n/d to the nearest multiple of g, a tie up, as at places (d) and (g).
+// n/d rounded that way to a multiple of g, as at place (g).
+pub fn rounded_to(way: Way, g: u64, n: u64, d: u64) -> u64
+    requires { ⌜ (0 < g) × (0 < d) × (n + d * g < 2 ^ 64) ⌝ }
+    ensures { λ r. ⌜ r ≡ roundedTo way g n d ⌝ }
+{
+    rounded(way, n, d * g) * g
+}
+
+// n/d to the nearest multiple of g, a tie up, as at place (d).
 pub fn to_grid(g: u64, n: u64, d: u64) -> u64
     requires { ⌜ (0 < g) × (0 < d) × (n + d * g < 2 ^ 64) ⌝ }
     ensures { λ r. ⌜ r ≡ toGrid g n d ⌝ }
 {
-    half_up(n, d * g) * g
+    rounded_to(Way::HalfUp, g, n, d)
 }
 
 // ---- products that do not fit 64 bits
@@ -69,25 +97,33 @@ fn divide_product(x: u64, n: u64, e: u64) -> Division
     }
 }
 
+// x·n/e rounded that way.
+pub fn rounded_wide(way: Way, x: u64, n: u64, e: u64) -> u64
+    requires { ⌜ Divides x n e ⌝ }
+    ensures { λ r. ⌜ r ≡ rounded way (x * n) e ⌝ }
+{
+    let s = divide_product(x, n, e);
+    if goes_up(way, s.rest, e) {
+        s.quot + 1
+    } else {
+        s.quot
+    }
+}
+
 // x·n/e to the nearest whole number, a tie up: the row price of place (a).
 pub fn half_up_wide(x: u64, n: u64, e: u64) -> u64
     requires { ⌜ Divides x n e ⌝ }
     ensures { λ r. ⌜ r ≡ halfUp (x * n) e ⌝ }
 {
-    let s = divide_product(x, n, e);
-    if s.rest < e - s.rest {
-        s.quot
-    } else {
-        s.quot + 1
-    }
+    rounded_wide(Way::HalfUp, x, n, e)
 }
 
-// p·a·b/d to the nearest multiple of g, a tie up, rounded once: the monitored band limit of place (g).
-pub fn product_to_grid(g: u64, p: u64, a: u64, b: u64, d: u64) -> u64
+// p·a·b/d to a multiple of g, rounded once, that way: the monitored band limit of place (g).
+pub fn product_to_grid(way: Way, g: u64, p: u64, a: u64, b: u64, d: u64) -> u64
     requires { ⌜ LimitRange g p a b d ⌝ }
-    ensures { λ r. ⌜ r ≡ toGrid g (p * a * b) d ⌝ }
+    ensures { λ r. ⌜ r ≡ roundedTo way g (p * a * b) d ⌝ }
 {
-    half_up_wide(p * a, b, d * g) * g
+    rounded_wide(way, p * a, b, d * g) * g
 }
 
 // ---- the least root

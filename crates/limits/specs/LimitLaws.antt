@@ -10,6 +10,7 @@ use Rattle.paper.specs.declared.Rate.{Rate}
 use Rattle.paper.specs.declared.Statics.{Statics}
 use Rattle.paper.specs.declared.Side.{Side}
 use Rattle.paper.specs.declared.Side.the-variants.{Upper, Lower}
+use Rattle.paper.specs.declared.Way.the-variants.{HalfUp}
 use Rattle.paper.specs.Numbers.{oneInBp, oneInHundredths, priceMost, rateMost, shiftMost, movesMost}
 use Rattle.paper.specs.Limits.{share, limitOf, shifted, rangeLimit, farthest, spread, monitored, narrowerOf, bandLimit}
 pub use Rattle.paper.proofs.LimitSizes.{grid-range}
@@ -38,7 +39,7 @@ farthest-high st Lower s = s .lower-high
 
 -- the farthest band limit is the range limit at that rate
 pub farthest-limit : (st : Statics) (side : Side) (p : ℕ) → rangeLimit st side p (farthestRate st side)
-    ≡ limitOf st (farthest st side p)
+    ≡ limitOf HalfUp st (farthest st side p)
 unfolding rangeLimit farthest
 farthest-limit st Upper p = refl
 farthest-limit st Lower p = refl
@@ -63,11 +64,11 @@ spread-high st Lower s1 c s r m = omega (arith, s .divisor-high)
 
 pub band-monitored : (st : Statics) (side : Side) (p s1 c k : ℕ) (repo : ℤ) → LimitStatics st → st .monitoring ≡ true
     → bandLimit st side p s1 c k repo
-    ≡ narrowerOf side (rangeLimit st side p (farthestRate st side)) (limitOf st (monitored st side p s1 c k repo))
+    ≡ narrowerOf side (rangeLimit st side p (farthestRate st side)) (limitOf HalfUp st (monitored st side p s1 c k repo))
 unfolding bandLimit
 band-monitored st side p s1 c k repo s e =
     kinds.band-monitored share st side p s1 c k repo (omega arith) (s .divisor-low) e
-    ∙ ap (λ (z : ℕ). narrowerOf side z (limitOf st (monitored st side p s1 c k repo))) (sym (farthest-limit st side p))
+    ∙ ap (λ (z : ℕ). narrowerOf side z (limitOf HalfUp st (monitored st side p s1 c k repo))) (sym (farthest-limit st side p))
 
 pub band-unmonitored : (st : Statics) (side : Side) (p s1 c k : ℕ) (repo : ℤ) → st .monitoring ≡ false
     → bandLimit st side p s1 c k repo ≡ rangeLimit st side p (farthestRate st side)

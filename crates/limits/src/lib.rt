@@ -12,6 +12,7 @@ use paper::Rate;
 use paper::Side;
 use paper::Statics;
 use paper::Term;
+use paper::Way;
 use paper::YEAR_IN_DAY_BP;
 ghost use mathlib.Core.Path.{_≡_};
 ghost use mathlib.Core.Bool.{true};
@@ -41,7 +42,12 @@ pub fn range_limit(st: Statics, side: Side, p: Price, rate: Rate) -> u64
     requires { ⌜ RangeInputs p rate ⌝ }
     ensures { λ r. ⌜ r ≡ rangeLimit st side (p .units) (rate .bp) ⌝ }
 {
-    exact::to_grid(grid_of(st.lot), shifted(side, p, rate), ONE_IN_BP)
+    exact::rounded_to(
+        Way::HalfUp,
+        grid_of(st.lot),
+        shifted(side, p, rate),
+        ONE_IN_BP,
+    )
 }
 
 pub fn range_of(st: Statics, p: Price, rate: Rate) -> Limits
@@ -85,10 +91,11 @@ pub fn spread(st: Statics, side: Side, s1: Rate, c: u64) -> u64
 fn monitored_limit(st: Statics, side: Side, p: Price, s1: Rate, c: u64, k: u64, repo: i64) -> u64
     requires { ⌜ validStatics st ≡ true ⌝ }
     requires { ⌜ BandInputs p s1 c k repo ⌝ }
-    ensures { λ r. ⌜ r ≡ limitOf st (monitored st side (p .units) (s1 .bp) c k repo) ⌝ }
+    ensures { λ r. ⌜ r ≡ limitOf Way.HalfUp st (monitored st side (p .units) (s1 .bp) c k repo) ⌝ }
 {
     let days = exact::grow(YEAR_IN_DAY_BP, k, repo);
     exact::product_to_grid(
+        Way::HalfUp,
         grid_of(st.lot),
         p.units,
         spread(st, side, s1, c),
@@ -149,7 +156,8 @@ pub fn delta(st: Statics, p: Price, s1: Rate) -> u64
     requires { ⌜ RangeInputs p s1 ⌝ }
     ensures { λ r. ⌜ r ≡ deltaOf st (p .units) (s1 .bp) ⌝ }
 {
-    exact::to_grid(
+    exact::rounded_to(
+        Way::HalfUp,
         grid_of(st.lot),
         2 * st.shift * s1.bp * p.units,
         ONE_IN_BP * st.xpr,

@@ -13,14 +13,16 @@ use Rattle.paper.specs.declared.Statics.{Statics}
 use Rattle.paper.specs.declared.BondScale.{BondScale}
 use Rattle.paper.specs.declared.Side.{Side}
 use Rattle.paper.specs.declared.Side.the-variants.{Upper, Lower}
+use Rattle.paper.specs.declared.Way.{Way}
+use Rattle.paper.specs.declared.Way.the-variants.{HalfUp}
 use Rattle.paper.specs.Lists.{pick}
 use Rattle.paper.specs.Numbers.{coarsestGrid, divisorLeast, oneInPerCentHundredths}
-use Rattle.paper.specs.Roundings.{Quotient, halfUp, halfUpZ, halfDown, atLeastZero, lesserOf, greaterOf}
+use Rattle.paper.specs.Roundings.{Quotient, rounded, mirrored, roundedZ, atLeastZero, lesserOf, greaterOf}
 use Rattle.paper.specs.Ranges.{gridOf}
 use Rattle.paper.specs.Limits.{Kind, share, bond, limitOf, grownPrice, bondLimitOf, limitFor, shifted, farthest, growing, farthestFor, monitored, narrower, narrowerOf, bandBefore, bandLimitFor}
 use Rattle.paper.proofs.Logic.{le-or-lt, pick-true, pick-false}
 use Rattle.paper.proofs.Differences.{difference-up, difference-down, difference-times}
-use Rattle.paper.proofs.Roundings.{half-le, half-monotone, grid-monotone, KeepsOrder, lesser-rounded, greater-rounded}
+use Rattle.paper.proofs.Roundings.{rounded-le, rounded-monotone, grid-monotone, KeepsOrder, lesser-rounded, greater-rounded}
 
 -- ---- a share's grid
 
@@ -36,33 +38,32 @@ grid-range lot = go (leb lot 1) (leb lot 10)
 
 -- ---- a bond's limit, without signs
 
--- half up of a difference of either sign, and 0 where it is below 0: half up of the difference that stops at 0
-half-part : (a b d : ℕ) → 0 < d → atLeastZero (halfUpZ (subℕ a b) d) ≡ halfUp (a - b) d
-unfolding halfUpZ
-half-part a b d p = go (le-or-lt b a)
+-- a difference of either sign, rounded, and 0 where it is below 0: the difference that stops at 0, rounded
+rounded-part : (way : Way) (a b d : ℕ) → 0 < d → atLeastZero (roundedZ way (subℕ a b) d) ≡ rounded way (a - b) d
+rounded-part way a b d p = go (le-or-lt b a)
   where
     never : (n : ℕ) → atLeastZero (negℤ (pos n)) ≡ 0
     never zero = refl
     never (suc n) = refl
 
-    go : (b ≤ a) ⊎ (a < b) → atLeastZero (halfUpZ (subℕ a b) d) ≡ halfUp (a - b) d
-    go (inl h) = ap (λ (z : ℤ). atLeastZero (halfUpZ z d)) (difference-up a b h)
+    go : (b ≤ a) ⊎ (a < b) → atLeastZero (roundedZ way (subℕ a b) d) ≡ rounded way (a - b) d
+    go (inl h) = ap (λ (z : ℤ). atLeastZero (roundedZ way z d)) (difference-up a b h)
     go (inr h) =
         let nothing : a - b ≤ 0 * d = omega arith in
-        ap (λ (z : ℤ). atLeastZero (halfUpZ z d)) (difference-down a b h)
-        ∙ never (halfDown (suc (b - suc a)) d)
-        ∙ omega (arith, half-le (a - b) d 0 p nothing)
+        ap (λ (z : ℤ). atLeastZero (roundedZ way z d)) (difference-down a b h)
+        ∙ never (mirrored way (suc (b - suc a)) d)
+        ∙ omega (arith, rounded-le way (a - b) d 0 p nothing)
 
-pub bond-limit-is : (b : BondScale) (x : Quotient) → 0 < b .face
-    → bondLimitOf b x ≡ halfUp (oneInPerCentHundredths * (grownPrice x - (b .carry + b .accrued))) (b .face)
+pub bond-limit-is : (way : Way) (b : BondScale) (x : Quotient) → 0 < b .face
+    → bondLimitOf way b x ≡ rounded way (oneInPerCentHundredths * (grownPrice x - (b .carry + b .accrued))) (b .face)
 unfolding bondLimitOf
-bond-limit-is b x p =
+bond-limit-is way b x p =
     let off : ℕ = b .carry + b .accrued in
     let one : ℕ = oneInPerCentHundredths in
     let same : one * grownPrice x - one * off ≡ one * (grownPrice x - off) = omega arith in
-    ap (λ (z : ℤ). atLeastZero (halfUpZ z (b .face))) (difference-times oneInPerCentHundredths (grownPrice x) off)
-    ∙ half-part (oneInPerCentHundredths * grownPrice x) (oneInPerCentHundredths * off) (b .face) p
-    ∙ ap (λ (n : ℕ). halfUp n (b .face)) same
+    ap (λ (z : ℤ). atLeastZero (roundedZ way z (b .face))) (difference-times oneInPerCentHundredths (grownPrice x) off)
+    ∙ rounded-part way (oneInPerCentHundredths * grownPrice x) (oneInPerCentHundredths * off) (b .face) p
+    ∙ ap (λ (n : ℕ). rounded way n (b .face)) same
 
 -- ---- a limit keeps order
 
@@ -71,33 +72,33 @@ abbrev pub HasFace : Kind → Type 0
 HasFace share = 0 < 1
 HasFace (bond b) = 0 < b .face
 
-pub limit-monotone : (kind : Kind) (st : Statics) → HasFace kind → KeepsOrder (limitFor kind st)
+pub limit-monotone : (way : Way) (kind : Kind) (st : Statics) → HasFace kind → KeepsOrder (limitFor way kind st)
 unfolding limitOf
-limit-monotone share st f =
+limit-monotone way share st f =
     record {
       keeps = λ x y p q l.
-          grid-monotone (gridOf (st .lot)) (x .num) (x .den) (y .num) (y .den) (grid-range (st .lot) .0) p q l;
+          grid-monotone way (gridOf (st .lot)) (x .num) (x .den) (y .num) (y .den) (grid-range (st .lot) .0) p q l;
     }
-limit-monotone (bond b) st f = record { keeps = keeps }
+limit-monotone way (bond b) st f = record { keeps = keeps }
   where
     keeps : (x y : Quotient) → 0 < x .den → 0 < y .den → x .num * y .den ≤ y .num * x .den
-        → bondLimitOf b x ≤ bondLimitOf b y
+        → bondLimitOf way b x ≤ bondLimitOf way b y
     keeps x y p q l =
         let off : ℕ = b .carry + b .accrued in
-        let grown : grownPrice x ≤ grownPrice y = half-monotone (x .num) (x .den) (y .num) (y .den) p q l in
+        let grown : grownPrice x ≤ grownPrice y = rounded-monotone HalfUp (x .num) (x .den) (y .num) (y .den) p q l in
         let left : Quotient → ℕ = λ z. oneInPerCentHundredths * (grownPrice z - off) in
         let less : left x ≤ left y = omega arith in
-        rw (bond-limit-is b x f, bond-limit-is b y f)
-        (half-monotone (left x) (b .face) (left y) (b .face) f f
+        rw (bond-limit-is way b x f, bond-limit-is way b y f)
+        (rounded-monotone way (left x) (b .face) (left y) (b .face) f f
         (mul-le-mul-right (b .face) less))
 
 -- so the narrower of two, rounded once, is the narrower of the two rounded
-pub narrower-rounded : (kind : Kind) (st : Statics) (side : Side) (x y : Quotient) → HasFace kind → 0 < x .den
+pub narrower-rounded : (way : Way) (kind : Kind) (st : Statics) (side : Side) (x y : Quotient) → HasFace kind → 0 < x .den
     → 0 < y .den
-    → limitFor kind st (narrower side x y) ≡ narrowerOf side (limitFor kind st x) (limitFor kind st y)
+    → limitFor way kind st (narrower side x y) ≡ narrowerOf side (limitFor way kind st x) (limitFor way kind st y)
 unfolding narrower
-narrower-rounded kind st Upper x y f p q = lesser-rounded (limitFor kind st) (limit-monotone kind st f) x y p q
-narrower-rounded kind st Lower x y f p q = greater-rounded (limitFor kind st) (limit-monotone kind st f) x y p q
+narrower-rounded way kind st Upper x y f p q = lesser-rounded (limitFor way kind st) (limit-monotone way kind st f) x y p q
+narrower-rounded way kind st Lower x y f p q = greater-rounded (limitFor way kind st) (limit-monotone way kind st f) x y p q
 
 -- ---- a band limit
 
@@ -132,21 +133,21 @@ module _ (kind : Kind) (st : Statics) (side : Side) (p s1 c k : ℕ) (repo : ℤ
   -- with monitoring a band limit is the narrower of the farthest limit and the monitored one
   pub band-monitored : HasFace kind → divisorLeast ≤ st .xpr → st .monitoring ≡ true
       → bandLimitFor kind st side p s1 c k repo
-      ≡ narrowerOf side (limitFor kind st (farthestFor kind st side p k))
-      (limitFor kind st (monitored st side p s1 c k repo))
+      ≡ narrowerOf side (limitFor HalfUp kind st (farthestFor kind st side p k))
+      (limitFor HalfUp kind st (monitored st side p s1 c k repo))
   band-monitored f h e =
       let x : Quotient = farthestFor kind st side p k in
       let y : Quotient = monitored st side p s1 c k repo in
-      ap (limitFor kind st) (pick-true (st .monitoring) (narrower side x y) x e)
-      ∙ narrower-rounded kind st side x y f (farthest-positive kind st side p k)
+      ap (limitFor HalfUp kind st) (pick-true (st .monitoring) (narrower side x y) x e)
+      ∙ narrower-rounded HalfUp kind st side x y f (farthest-positive kind st side p k)
       (monitored-positive st side p s1 c k repo h)
 
   -- and without it the farthest limit
   pub band-unmonitored : st .monitoring ≡ false
-      → bandLimitFor kind st side p s1 c k repo ≡ limitFor kind st (farthestFor kind st side p k)
+      → bandLimitFor kind st side p s1 c k repo ≡ limitFor HalfUp kind st (farthestFor kind st side p k)
   band-unmonitored e =
       let x : Quotient = farthestFor kind st side p k in
-      ap (limitFor kind st) (pick-false (st .monitoring) (narrower side x (monitored st side p s1 c k repo)) x e)
+      ap (limitFor HalfUp kind st) (pick-false (st .monitoring) (narrower side x (monitored st side p s1 c k repo)) x e)
 
   pub band-positive : divisorLeast ≤ st .xpr → 0 < bandBefore kind st side p s1 c k repo .den
   band-positive h =

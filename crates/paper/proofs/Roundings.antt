@@ -1,16 +1,19 @@
--- Laws of the roundings: what each is, that it is the only such number, and that it keeps order. n/d ≤ m/e is said as
--- n·e ≤ m·d. Assumes nothing.
+-- Laws of the one rounding rule, each said once over the way: what it is, that it is the only such number, that it keeps
+-- order, that it keeps what is a multiple already, and on which side of the quotient it stands. Then what is used of one
+-- way alone. n/d ≤ m/e is said as n·e ≤ m·d. Assumes nothing.
 use mathlib.Core.Path.{_≡_, refl, ap, sym, _∙_}
 use mathlib.Core.Logic.{_⊎_, inl, inr}
 use mathlib.Core.Bool.{Bool, true, false}
-use Prim.Native.Nat.{ℕ, zero, suc, _+_, _-_, _*_, _/_, _%_, _≤_, _<_, min, max}
-use native.Mathlib.Nat.{div-add-mod, div-add-mod', mul-sub, mul-mod-right, add-mod, zero-mod, mod-lt, le-trans, pos-of-ne-zero, div-lt-iff-lt-mul, le-div-iff-mul-le, mul-le-mul-right, le-of-mul-le-mul-left, mul-pos, min-eq-left, min-eq-right, le-of-lt}
+use Prim.Native.Nat.{ℕ, _+_, _-_, _*_, _/_, _%_, _≤_, _<_, min, max}
+use native.Mathlib.Nat.{div-add-mod, mul-sub, mul-mod-right, add-mod, zero-mod, le-trans, div-lt-iff-lt-mul, le-div-iff-mul-le, mul-le-mul-right, le-of-mul-le-mul-left, mul-pos, min-eq-left, min-eq-right, le-of-lt}
 use native.Mathlib.Omega.{arith}
 use lib.Dec.{leb}
 use borrow.Author.Tests.{le-leb, lt-leb}
+use Rattle.paper.specs.declared.Way.{Way}
+use Rattle.paper.specs.declared.Way.the-variants.{Down, HalfUp, Up}
 use Rattle.paper.specs.Lists.{pick}
 use Rattle.paper.specs.Least.{leastTimes}
-use Rattle.paper.specs.Roundings.{Quotient, up, RoundedUp, halfUp, toGrid, lesserOf, greaterOf}
+use Rattle.paper.specs.Roundings.{Quotient, down, halfUp, up, rounded, roundedTo, above, below, Rounded, RoundedUp, lesserOf, greaterOf}
 use Rattle.paper.proofs.Logic.{le-or-lt}
 use Rattle.paper.proofs.Search.{times-unique}
 
@@ -28,6 +31,55 @@ quotient-unique n d q h low high =
     let b : n / d < q + 1 = div-lt-iff-lt-mul {k = d} {x = n} {y = q + 1} h .1 high in
     omega arith
 
+-- two quotients in order
+pub quotient-monotone : (n d m e : ℕ) → 0 < d → 0 < e → n * e ≤ m * d → n / d ≤ m / e
+quotient-monotone n d m e p q l =
+    let k : ℕ = n / d in
+    let times : k * d * e ≤ n * e = mul-le-mul-right e (quotient-low n d p) in
+    let fits : d * (k * e) ≤ d * m = omega arith in
+    le-div-iff-mul-le {k = e} {x = k} {y = m} q .1 (le-of-mul-le-mul-left fits p)
+
+-- ---- what the rule is, and that it alone is that
+
+pub rounded-is : (way : Way) (n d : ℕ) → 0 < d → Rounded way (rounded way n d) (record { num = n; den = d })
+unfolding down halfUp up
+rounded-is Down n d h =
+    record {
+      positive = h;
+      not-above = omega (arith, quotient-low n d h);
+      not-below = omega (arith, quotient-high n d h);
+    }
+rounded-is HalfUp n d h =
+    record {
+      positive = h;
+      not-above = omega (arith, quotient-low (2 * n + d) (2 * d) (omega arith));
+      not-below = omega (arith, quotient-high (2 * n + d) (2 * d) (omega arith));
+    }
+rounded-is Up n d h =
+    record {
+      positive = h;
+      not-above = omega (arith, quotient-low (n + (d - 1)) d h);
+      not-below = omega (arith, quotient-high (n + (d - 1)) d h);
+    }
+
+-- the two distances make a whole unit, so that two numbers do not fit between them
+whole-unit : (way : Way) (d : ℕ) → 0 < d → (above way d + below way d ≡ 2 * d) × (0 < below way d)
+whole-unit Down d h = omega arith
+whole-unit HalfUp d h = omega arith
+whole-unit Up d h = omega arith
+
+not-more : (way : Way) (q r : ℕ) (x : Quotient) → Rounded way q x → Rounded way r x → q ≤ r
+not-more way q r x u v = go (le-or-lt q r)
+  where
+    go : (q ≤ r) ⊎ (r < q) → q ≤ r
+    go (inl l) = l
+    go (inr l) =
+        let more : (r + 1) * x .den ≤ q * x .den = mul-le-mul-right (x .den) (omega arith) in
+        absurd (omega (arith, whole-unit way (x .den) (u .positive) .0))
+
+pub rounded-unique : (way : Way) (q r : ℕ) (x : Quotient) → Rounded way q x → Rounded way r x → q ≡ r
+rounded-unique way q r x u v = omega (arith, not-more way q r x u v, not-more way r q x v u)
+
 -- ---- up: at least n/d, and the least such number
 
 pub up-covers : (n d : ℕ) → 0 < d → n ≤ up n d * d
@@ -40,22 +92,52 @@ up-least n d q h p =
     let b : (n + (d - 1)) / d < q + 1 = div-lt-iff-lt-mul {k = d} {x = n + (d - 1)} {y = q + 1} h .1 (omega arith) in
     omega arith
 
-pub up-unique : (n d q : ℕ) → 0 < d → n ≤ q * d → q * d < n + d → q ≡ up n d
-unfolding up
-up-unique n d q h low high = quotient-unique (n + (d - 1)) d q h (omega arith) (omega arith)
+-- ---- it keeps order
 
-pub up-monotone : (n d m e : ℕ) → 0 < d → 0 < e → n * e ≤ m * d → up n d ≤ up m e
-up-monotone n d m e p q l =
+pub rounded-monotone : (way : Way) (n d m e : ℕ) → 0 < d → 0 < e → n * e ≤ m * d → rounded way n d ≤ rounded way m e
+unfolding down halfUp
+rounded-monotone Down n d m e p q l = quotient-monotone n d m e p q l
+rounded-monotone HalfUp n d m e p q l =
+    quotient-monotone (2 * n + d) (2 * d) (2 * m + e) (2 * e) (omega arith) (omega arith) (omega arith)
+rounded-monotone Up n d m e p q l =
     let covers : m * d ≤ up m e * e * d = mul-le-mul-right d (up-covers m e q) in
     let fits : e * n ≤ e * (up m e * d) = omega arith in
     up-least n d (up m e) p (le-of-mul-le-mul-left fits q)
 
--- so it is the rounding up, and the only one
+-- ---- it keeps what is a multiple already, so that it passes no multiple
+
+pub rounded-exact : (way : Way) (k d : ℕ) → 0 < d → k ≡ rounded way (k * d) d
+rounded-exact way k d p =
+    rounded-unique way k (rounded way (k * d) d) (record { num = k * d; den = d })
+    (record { positive = p; not-above = omega arith; not-below = omega (arith, whole-unit way d p .1) })
+    (rounded-is way (k * d) d p)
+
+pub rounded-le : (way : Way) (n d k : ℕ) → 0 < d → n ≤ k * d → rounded way n d ≤ k
+rounded-le way n d k p l =
+    rw (rounded-exact way k d p) (rounded-monotone way n d (k * d) d p p (mul-le-mul-right d l))
+
+pub rounded-ge : (way : Way) (n d k : ℕ) → 0 < d → k * d ≤ n → k ≤ rounded way n d
+rounded-ge way n d k p l =
+    rw (rounded-exact way k d p) (rounded-monotone way (k * d) d n d p p (mul-le-mul-right d l))
+
+-- a rounding is less than a unit away
+pub rounded-near : (way : Way) (n d : ℕ) → 0 < d → rounded way n d * d < n + d
+rounded-near way n d p =
+    omega (arith, rounded-is way n d p .not-above, whole-unit way d p .0, whole-unit way d p .1)
+
+-- ---- down is never above the quotient, up never below it
+
+pub down-not-above : (n d : ℕ) → 0 < d → rounded Down n d * d ≤ n
+down-not-above n d p = omega (arith, rounded-is Down n d p .not-above)
+
+pub up-not-below : (n d : ℕ) → 0 < d → n ≤ rounded Up n d * d
+up-not-below n d p = omega (arith, rounded-is Up n d p .not-below)
+
+-- ---- up, by every other number
+
+-- it is the rounding up
 pub up-rounded : (n d : ℕ) → 0 < d → RoundedUp (up n d) (record { num = n; den = d })
 up-rounded n d h = record { covers = up-covers n d h; least = λ z k. up-least n d z h k; positive = h }
-
-pub rounded-unique : (q r : ℕ) (x : Quotient) → RoundedUp q x → RoundedUp r x → q ≡ r
-rounded-unique q r x u v = omega (arith, u .least r (v .covers), v .least q (u .covers))
 
 -- a unit less is no longer above the quotient
 pub rounded-below : (r : ℕ) (x : Quotient) → RoundedUp r x → (r - 1) * x .den ≤ x .num
@@ -80,15 +162,6 @@ rounded-max q r x y u v l =
         let fits : x .den * y .num ≤ x .den * (z * y .den) = omega (arith, mul-le-mul-right (y .den) k) in
         le-of-mul-le-mul-left fits (u .positive)
 
--- from the quotient and the remainder
-pub up-exact : (n d : ℕ) → 0 < d → n % d ≡ 0 → n / d ≡ up n d
-up-exact n d h e = up-unique n d (n / d) h (omega (arith, div-add-mod' n d)) (omega (arith, div-add-mod' n d))
-
-pub up-over : (n d : ℕ) → 0 < d → (n % d ≡ 0 → ⊥) → n / d + 1 ≡ up n d
-up-over n d h e =
-    let some : 0 < n % d = pos-of-ne-zero e in
-    up-unique n d (n / d + 1) h (omega (arith, div-add-mod' n d, mod-lt n h)) (omega (arith, div-add-mod' n d))
-
 -- the least y with y·d ≥ n is n/d rounded up
 pub times-up : (n d : ℕ) → 0 < d → leastTimes d n ≡ up n d
 times-up n d h = times-unique d n (up n d) h (up-covers n d h) (λ z k. up-least n d z h k)
@@ -106,69 +179,45 @@ more-multiple g a b e f = add-mod a b g ∙ rw (e, f) (zero-mod g)
 -- ---- half up: n/d - 1/2 < halfUp ≤ n/d + 1/2, and only it: the nearest, and of two the upper
 
 pub half-low : (n d : ℕ) → 0 < d → halfUp n d * (2 * d) ≤ 2 * n + d
-unfolding halfUp
-half-low n d h = quotient-low (2 * n + d) (2 * d) (omega arith)
+half-low n d h = omega (arith, rounded-is HalfUp n d h .not-above)
 
 pub half-high : (n d : ℕ) → 0 < d → 2 * n + d < (halfUp n d + 1) * (2 * d)
-unfolding halfUp
-half-high n d h = quotient-high (2 * n + d) (2 * d) (omega arith)
+half-high n d h = omega (arith, rounded-is HalfUp n d h .not-below)
 
 pub half-unique : (n d q : ℕ) → 0 < d → q * (2 * d) ≤ 2 * n + d → 2 * n + d < (q + 1) * (2 * d) → q ≡ halfUp n d
-unfolding halfUp
-half-unique n d q h low high = quotient-unique (2 * n + d) (2 * d) q (omega arith) low high
+half-unique n d q h low high =
+    rounded-unique HalfUp q (halfUp n d) (record { num = n; den = d })
+    (record { positive = h; not-above = omega arith; not-below = omega arith })
+    (rounded-is HalfUp n d h)
 
-pub half-monotone : (n d m e : ℕ) → 0 < d → 0 < e → n * e ≤ m * d → halfUp n d ≤ halfUp m e
-unfolding halfUp
-half-monotone n d m e p q l =
-    let k : ℕ = (2 * n + d) / (2 * d) in
-    let low : k * (2 * d) ≤ 2 * n + d = quotient-low (2 * n + d) (2 * d) (omega arith) in
-    let times : k * (2 * d) * e ≤ (2 * n + d) * e = mul-le-mul-right e low in
-    let fits : d * (k * (2 * e)) ≤ d * (2 * m + e) = omega arith in
-    le-div-iff-mul-le {k = 2 * e} {x = k} {y = 2 * m + e} (omega arith) .1 (le-of-mul-le-mul-left fits p)
-
--- what is whole already stays
-pub half-exact : (k d : ℕ) → 0 < d → k ≡ halfUp (k * d) d
-half-exact k d p = half-unique (k * d) d k p (omega arith) (omega arith)
-
--- bounds by whole numbers
+-- a bound by a whole number
 pub half-le : (n d k : ℕ) → 0 < d → n ≤ k * d → halfUp n d ≤ k
-half-le n d k p l = rw (half-exact k d p) (half-monotone n d (k * d) d p p (mul-le-mul-right d l))
-
-pub half-ge : (n d k : ℕ) → 0 < d → k * d ≤ n → k ≤ halfUp n d
-half-ge n d k p l = rw (half-exact k d p) (half-monotone (k * d) d n d p p (mul-le-mul-right d l))
-
--- from the quotient and the remainder
-pub half-down : (n d : ℕ) → 0 < d → n % d < d - n % d → n / d ≡ halfUp n d
-half-down n d h p =
-    half-unique n d (n / d) h (omega (arith, div-add-mod' n d)) (omega (arith, div-add-mod' n d, mod-lt n h))
-
-pub half-over : (n d : ℕ) → 0 < d → d - n % d ≤ n % d → n / d + 1 ≡ halfUp n d
-half-over n d h p =
-    half-unique n d (n / d + 1) h (omega (arith, div-add-mod' n d, mod-lt n h))
-    (omega (arith, div-add-mod' n d, mod-lt n h))
+half-le n d k p l = rounded-le HalfUp n d k p l
 
 -- ---- the same to a grid
 
-pub grid-unique : (g n d q : ℕ) → 0 < g → 0 < d → q * (2 * (d * g)) ≤ 2 * n + d * g
-    → 2 * n + d * g < (q + 1) * (2 * (d * g)) → q * g ≡ toGrid g n d
-unfolding toGrid
-grid-unique g n d q p r low high = ap (λ (z : ℕ). z * g) (half-unique n (d * g) q (mul-pos r p) low high)
+pub grid-unique : (way : Way) (g n d q : ℕ) → 0 < g → 0 < d → Rounded way q (record { num = n; den = d * g })
+    → q * g ≡ roundedTo way g n d
+grid-unique way g n d q p r u =
+    ap (λ (z : ℕ). z * g)
+    (rounded-unique way q (rounded way n (d * g)) (record { num = n; den = d * g }) u
+    (rounded-is way n (d * g) (mul-pos r p)))
 
-pub grid-monotone : (g n d m e : ℕ) → 0 < g → 0 < d → 0 < e → n * e ≤ m * d → toGrid g n d ≤ toGrid g m e
-unfolding toGrid
-grid-monotone g n d m e p q r l =
+pub grid-monotone : (way : Way) (g n d m e : ℕ) → 0 < g → 0 < d → 0 < e → n * e ≤ m * d
+    → roundedTo way g n d ≤ roundedTo way g m e
+grid-monotone way g n d m e p q r l =
     let wide : n * (e * g) ≤ m * (d * g) = omega (arith, mul-le-mul-right g l) in
-    mul-le-mul-right g (half-monotone n (d * g) m (e * g) (mul-pos q p) (mul-pos r p) wide)
+    mul-le-mul-right g (rounded-monotone way n (d * g) m (e * g) (mul-pos q p) (mul-pos r p) wide)
 
-pub grid-exact : (g k d : ℕ) → 0 < g → 0 < d → k * g ≡ toGrid g (k * g * d) d
-unfolding toGrid
-grid-exact g k d p q =
+pub grid-exact : (way : Way) (g k d : ℕ) → 0 < g → 0 < d → k * g ≡ roundedTo way g (k * g * d) d
+grid-exact way g k d p q =
     let same : k * g * d ≡ k * (d * g) = omega arith in
-    rw same (ap (λ (z : ℕ). z * g) (half-exact k (d * g) (mul-pos q p)))
+    rw same (ap (λ (z : ℕ). z * g) (rounded-exact way k (d * g) (mul-pos q p)))
 
 -- ---- the lesser and the greater of two quotients, rounded once, are the lesser and the greater of the two rounded
 
--- a rounding that keeps order: that of a grid does, and so does what each kind of security makes of a limit
+-- a rounding that keeps order: that of a grid does, whichever way it goes, and so does what each kind of security makes of
+-- a limit
 pub record KeepsOrder (f : Quotient → ℕ) : Type 0 where
   pub keeps : (x y : Quotient) → 0 < x .den → 0 < y .den → x .num * y .den ≤ y .num * x .den → f x ≤ f y
 

@@ -8,12 +8,14 @@ use Rattle.paper.specs.declared.Statics.{Statics}
 use Rattle.paper.specs.declared.BondScale.{BondScale}
 use Rattle.paper.specs.declared.Side.{Side}
 use Rattle.paper.specs.declared.Side.the-variants.{Upper, Lower}
+use Rattle.paper.specs.declared.Way.{Way}
+use Rattle.paper.specs.declared.Way.the-variants.{Down, HalfUp, Up}
 use Rattle.paper.specs.declared.Limits.{Limits}
 use Rattle.paper.specs.declared.Moves.{Moves}
 use Rattle.paper.specs.declared.Term.{Term}
 use Rattle.paper.specs.Lists.{pick}
 use Rattle.paper.specs.Numbers.{oneInBp, oneInHundredths, yearInDayBp, oneInPerCentHundredths}
-use Rattle.paper.specs.Roundings.{Quotient, halfUp, halfUpZ, toGrid, atLeastZero, lesserOf, greaterOf, grown}
+use Rattle.paper.specs.Roundings.{Quotient, halfUp, roundedTo, roundedZ, atLeastZero, lesserOf, greaterOf, grown}
 use Rattle.paper.specs.Ranges.{gridOf}
 
 -- ---- the kind of security
@@ -25,25 +27,25 @@ pub data Kind : Type 0 where
 
 -- ---- a limit, rounded
 
--- (g) "once each, half up to the grid"
-unfoldable pub limitOf : Statics → Quotient → ℕ
-limitOf st x = toGrid (gridOf (st .lot)) (x .num) (x .den)
+-- (g) "once each, .. to the grid", that way
+unfoldable pub limitOf : Way → Statics → Quotient → ℕ
+limitOf way st x = roundedTo way (gridOf (st .lot)) (x .num) (x .den)
 
 -- W-206: "the grown price half up to a unit"
 abbrev pub grownPrice : Quotient → ℕ
 grownPrice x = halfUp (x .num) (x .den)
 
--- 11.1: "(.. - Carry - НКД)/FaceValue·100", W-206: "half up to two decimals of the per cent. Negative limits are zero."
--- It is kept in hundredths of a per cent
-unfoldable pub bondLimitOf : BondScale → Quotient → ℕ
-bondLimitOf b x =
+-- 11.1: "(.. - Carry - НКД)/FaceValue·100", W-206: ".. to two decimals of the per cent. Negative limits are zero.", that
+-- way. It is kept in hundredths of a per cent
+unfoldable pub bondLimitOf : Way → BondScale → Quotient → ℕ
+bondLimitOf way b x =
     atLeastZero
-    (halfUpZ (pos oneInPerCentHundredths *ℤ subℕ (grownPrice x) (b .carry + b .accrued)) (b .face))
+    (roundedZ way (pos oneInPerCentHundredths *ℤ subℕ (grownPrice x) (b .carry + b .accrued)) (b .face))
 
 -- the limit of either kind
-abbrev pub limitFor : Kind → Statics → Quotient → ℕ
-limitFor share st x = limitOf st x
-limitFor (bond b) st x = bondLimitOf b x
+abbrev pub limitFor : Way → Kind → Statics → Quotient → ℕ
+limitFor way share st x = limitOf way st x
+limitFor way (bond b) st x = bondLimitOf way b x
 
 -- P·(1 + rate) above, P·(1 - rate) below
 unfoldable pub shifted : Side → ℕ → ℕ → Quotient
@@ -54,7 +56,7 @@ shifted Lower p rate = record { num = p * (oneInBp - rate); den = oneInBp }
 
 -- "Range of level L: P·(1 ± S_L)."
 unfoldable pub rangeLimit : Statics → Side → ℕ → ℕ → ℕ
-rangeLimit st side p rate = limitOf st (shifted side p rate)
+rangeLimit st side p rate = limitOf HalfUp st (shifted side p rate)
 
 unfoldable pub rangeOf : Statics → ℕ → ℕ → Limits
 rangeOf st p rate = record { lower = rangeLimit st Lower p rate; upper = rangeLimit st Upper p rate }
@@ -102,7 +104,7 @@ bandBefore kind st side p s1 c k repo =
     pick (st .monitoring) (narrower side far (monitored st side p s1 c k repo)) far
 
 abbrev pub bandLimitFor : Kind → Statics → Side → (p s1 c k : ℕ) → ℤ → ℕ
-bandLimitFor kind st side p s1 c k repo = limitFor kind st (bandBefore kind st side p s1 c k repo)
+bandLimitFor kind st side p s1 c k repo = limitFor HalfUp kind st (bandBefore kind st side p s1 c k repo)
 
 -- of a share
 unfoldable pub bandLimit : Statics → Side → (p s1 c k : ℕ) → ℤ → ℕ
@@ -124,7 +126,7 @@ crossed x = ltb (x .upper) (x .lower)
 
 -- "delta = 2·shift·S_1·P/x_pr"
 unfoldable pub deltaOf : Statics → ℕ → ℕ → ℕ
-deltaOf st p s1 = limitOf st (record { num = 2 * st .shift * s1 * p; den = oneInBp * st .xpr })
+deltaOf st p s1 = limitOf HalfUp st (record { num = 2 * st .shift * s1 * p; den = oneInBp * st .xpr })
 
 -- "It adds one to c"
 unfoldable pub oneMore : Side → Moves → Moves

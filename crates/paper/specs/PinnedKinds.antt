@@ -7,7 +7,8 @@ use lib.IntN.{ℤ, pos}
 use Rattle.paper.specs.declared.BondScale.{BondScale}
 use Rattle.paper.specs.declared.Statics.{Statics}
 use Rattle.paper.specs.declared.Side.the-variants.{Upper}
-use Rattle.paper.specs.Roundings.{Quotient, halfUp, halfUpZ, halfDown, toGrid, grown}
+use Rattle.paper.specs.declared.Way.the-variants.{HalfUp}
+use Rattle.paper.specs.Roundings.{Quotient, halfUp, halfDown, grown}
 use Rattle.paper.specs.Ranges.{staticsOf, gridOf}
 use Rattle.paper.specs.Limits.{share, bond, limitOf, bondLimitOf, limitFor, shifted, farthest, farthestFor}
 use Rattle.paper.specs.Cases.{givenWith}
@@ -20,13 +21,13 @@ halves : (num : ℕ) → Quotient
 halves num = record { num = num; den = 2 }
 
 pub perCents : List ℕ
-unfolding scale halves bondLimitOf halfUp halfUpZ halfDown
+unfolding scale halves bondLimitOf halfUp halfDown
 perCents =
-    bondLimitOf (scale 0 1000) (halves 2001)
-    ∷ bondLimitOf (scale 0 1000) (halves 1999)
-    ∷ bondLimitOf (scale 1 20000) (halves 40000)
-    ∷ bondLimitOf (scale 2 20000) (halves 40000)
-    ∷ bondLimitOf (scale 20000 10000) (halves 20000)
+    bondLimitOf HalfUp (scale 0 1000) (halves 2001)
+    ∷ bondLimitOf HalfUp (scale 0 1000) (halves 1999)
+    ∷ bondLimitOf HalfUp (scale 1 20000) (halves 40000)
+    ∷ bondLimitOf HalfUp (scale 2 20000) (halves 40000)
+    ∷ bondLimitOf HalfUp (scale 20000 10000) (halves 20000)
     ∷ []
 
 pub per-cents-are : perCents
@@ -44,11 +45,11 @@ per-cents-are = refl
 
 -- the farthest upper limit of P 10,000 at a term of 30 days, of either kind: PcH_max is 20 per cent
 pub farthests : List ℕ
-unfolding scale givenWith staticsOf gridOf limitOf bondLimitOf farthest shifted toGrid halfUp halfUpZ grown
+unfolding scale givenWith staticsOf gridOf limitOf bondLimitOf farthest shifted halfUp grown
 farthests =
     let st : Statics = staticsOf (givenWith 10) in
-    limitFor share st (farthestFor share st Upper 10000 30)
-    ∷ limitFor (bond (scale 0 10000)) st (farthestFor (bond (scale 0 10000)) st Upper 10000 30)
+    limitFor HalfUp share st (farthestFor share st Upper 10000 30)
+    ∷ limitFor HalfUp (bond (scale 0 10000)) st (farthestFor (bond (scale 0 10000)) st Upper 10000 30)
     ∷ []
 
 pub farthests-are : farthests ≡ 12000 ∷ 12360 ∷ []

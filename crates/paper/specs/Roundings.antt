@@ -1,8 +1,12 @@
--- Document 01, "Places of rounding". A quotient n/d is kept as n and d until one of these places. Assumes nothing.
+-- Document 01, "Places of rounding", and W-209, "The shared rounding rule now says which way it goes": one rule over the
+-- ways down, half up and up, of which every rounding to a unit or to a grid is an instance. A quotient n/d is kept as n
+-- and d until one of these places. Assumes nothing.
 use mathlib.Core.Bool.{Bool}
 use Prim.Native.Nat.{ℕ, suc, _+_, _-_, _*_, _/_, _≤_, _<_}
 use lib.Dec.{leb}
 use lib.IntN.{ℤ, pos, negsuc, negℤ}
+use Rattle.paper.specs.declared.Way.{Way}
+use Rattle.paper.specs.declared.Way.the-variants.{Down, HalfUp, Up}
 use Rattle.paper.specs.Lists.{pick}
 
 -- a quotient that is not rounded yet
@@ -10,37 +14,88 @@ pub record Quotient : Type 0 where
   pub num : ℕ
   pub den : ℕ
 
--- (e), (f) "up": n/d rounded up
-unfoldable pub up : ℕ → ℕ → ℕ
-up n d = (n + (d - 1)) / d
+-- ---- the ways
 
--- what that is: r is the least whole number that is not below the quotient
-pub record RoundedUp (r : ℕ) (x : Quotient) : Type 0 where
-  pub covers : x .num ≤ r * x .den
-  pub least : (z : ℕ) → x .num ≤ z * x .den → r ≤ z
-  pub positive : 0 < x .den
+-- W-209, "Round the upper limit down": n/d rounded down
+unfoldable pub down : ℕ → ℕ → ℕ
+down n d = n / d
 
 -- (a), (b), (c) "Half up is to nearest, ties up"
 unfoldable pub halfUp : ℕ → ℕ → ℕ
 halfUp n d = (2 * n + d) / (2 * d)
 
+-- (e), (f) "up": n/d rounded up
+unfoldable pub up : ℕ → ℕ → ℕ
+up n d = (n + (d - 1)) / d
+
+-- ---- the rule: n/d rounded that way, to a unit and to a multiple of g
+
+abbrev pub rounded : Way → (n d : ℕ) → ℕ
+rounded Down n d = down n d
+rounded HalfUp n d = halfUp n d
+rounded Up n d = up n d
+
+abbrev pub roundedTo : Way → (g n d : ℕ) → ℕ
+roundedTo way g n d = rounded way n (d * g) * g
+
+-- (d), (g) "half up to the grid": n/d to the nearest multiple of g, ties up
+unfoldable pub toGrid : ℕ → ℕ → ℕ → ℕ
+toGrid g n d = roundedTo HalfUp g n d
+
+-- ---- what it is
+
+-- how far above n/d a number may stand that is n/d rounded that way, in halves of 1/d: nowhere, half a unit, less than
+-- a unit
+abbrev pub above : Way → ℕ → ℕ
+above Down d = 0
+above HalfUp d = d
+above Up d = 2 * d - 1
+
+-- and below which distance from n/d it stands under it: less than a unit, less than half a unit, nowhere
+abbrev pub below : Way → ℕ → ℕ
+below Down d = 2 * d
+below HalfUp d = d
+below Up d = 1
+
+-- r is x rounded that way
+pub record Rounded (way : Way) (r : ℕ) (x : Quotient) : Type 0 where
+  pub positive : 0 < x .den
+  pub not-above : 2 * (r * x .den) ≤ 2 * x .num + above way (x .den)
+  pub not-below : 2 * x .num < 2 * (r * x .den) + below way (x .den)
+
+-- (e), (f) the same of "up", by every other number: r is the least whole number that is not below the quotient
+pub record RoundedUp (r : ℕ) (x : Quotient) : Type 0 where
+  pub covers : x .num ≤ r * x .den
+  pub least : (z : ℕ) → x .num ≤ z * x .den → r ≤ z
+  pub positive : 0 < x .den
+
+-- ---- numbers below zero
+
 -- to nearest, ties down: how the size of a number below zero is rounded where the number is rounded half up
 unfoldable pub halfDown : ℕ → ℕ → ℕ
 halfDown n d = (2 * n + (d - 1)) / (2 * d)
 
+-- how the size of a number below zero is rounded where the number is rounded that way
+abbrev pub mirrored : Way → (n d : ℕ) → ℕ
+mirrored Down n d = up n d
+mirrored HalfUp n d = halfDown n d
+mirrored Up n d = down n d
+
+-- the rule, also below zero
+abbrev pub roundedZ : Way → ℤ → (d : ℕ) → ℤ
+roundedZ way (pos n) d = pos (rounded way n d)
+roundedZ way (negsuc n) d = negℤ (pos (mirrored way (suc n) d))
+
 -- W-201, "half up to a bp": to nearest, ties up, also below zero
 unfoldable pub halfUpZ : ℤ → ℕ → ℤ
-halfUpZ (pos n) d = pos (halfUp n d)
-halfUpZ (negsuc n) d = negℤ (pos (halfDown (suc n) d))
-
--- (d), (g) "half up to the grid": n/d to the nearest multiple of g, ties up
-unfoldable pub toGrid : ℕ → ℕ → ℕ → ℕ
-toGrid g n d = halfUp n (d * g) * g
+halfUpZ x d = roundedZ HalfUp x d
 
 -- a number below zero counts as 0
 abbrev pub atLeastZero : ℤ → ℕ
 atLeastZero (pos n) = n
 atLeastZero (negsuc n) = 0
+
+-- ---- quotients and sums that are not rounded
 
 -- the lesser and the greater of two quotients, exactly
 unfoldable pub lesserOf : Quotient → Quotient → Quotient

@@ -222,6 +222,14 @@ pub enum Standing {
     Live(u64),
 }
 
+// W-209, "The shared rounding rule now says which way it goes": to the whole number that is not above, to the nearest
+// with a tie up, to the one that is not below.
+pub enum Way {
+    Down,
+    HalfUp,
+    Up,
+}
+
 // A lower and an upper limit, in units: a level's range, or a term's band.
 pub struct Limits {
     pub lower: u64,

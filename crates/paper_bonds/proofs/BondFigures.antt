@@ -1,20 +1,21 @@
 -- What the figures of a bond are (W-206): a rate is the least multiple of h that covers the requirement and the
--- minimum, held at the bond maximum, as a share's is; a limit is the nearest two-decimal figure of what is left of the
--- grown price, and 0 where nothing is. Assumes nothing.
+-- minimum, held at the bond maximum, as a share's is; a limit is the two-decimal figure of what is left of the grown
+-- price, rounded the way it says, and 0 where nothing is. Assumes nothing.
 use mathlib.Core.Path.{_≡_, ap, sym, _∙_}
 use mathlib.Core.Bool.{true, false, _&&_}
 use Prim.Native.Nat.{ℕ, _+_, _-_, _*_, _≤_, _<_}
 use native.Mathlib.Omega.{arith}
 use Rattle.paper.specs.declared.BondScale.{BondScale}
+use Rattle.paper.specs.declared.Way.{Way}
 use Rattle.paper.specs.Lists.{forLevels}
 use Rattle.paper.specs.Numbers.{oneInPerCentHundredths}
-use Rattle.paper.specs.Roundings.{Quotient}
+use Rattle.paper.specs.Roundings.{Quotient, Rounded}
 use Rattle.paper.specs.Ranges.{validStatics, validGiven, staticsOf}
 use Rattle.paper.specs.Rates.{minimumOf, levelRate, unmodelled, figuresByVolatility, AtLeastRequired, HeldLeast}
 use Rattle.paper.specs.Limits.{grownPrice, bondLimitOf}
 use Rattle.paper.proofs.Logic.{and-left, pick-true, pick-false}
 use Rattle.paper.proofs.Level.{level-rate-is}
-use Rattle.paper.proofs.Roundings.{half-low, half-high, half-le}
+use Rattle.paper.proofs.Roundings.{rounded-is, rounded-le}
 use Rattle.paper.proofs.KindLaws.{bond-limit-is}
 use Rattle.paper_bonds.specs.declared.Bond.{Bond}
 use Rattle.paper_bonds.specs.Bonds.{givenOf, bondStatics, validBond, bondFigures}
@@ -50,19 +51,17 @@ bond-rates-stay b e = (rw e, rw e)
 
 -- ---- a limit
 
--- x is the nearest hundredth of a per cent of the face value to what is left, ties up, and 0 where nothing is left
-pub record IsPerCent (face grown off x : ℕ) : Type 0 where
-  pub above : off ≤ grown → x * (2 * face) ≤ 2 * (oneInPerCentHundredths * (grown - off)) + face
-  pub below : off ≤ grown → 2 * (oneInPerCentHundredths * (grown - off)) + face < (x + 1) * (2 * face)
+-- x is what is left, in hundredths of a per cent of the face value, rounded that way, and 0 where nothing is left
+pub record IsPerCent (way : Way) (face grown off x : ℕ) : Type 0 where
+  pub rounded : off ≤ grown → Rounded way x (record { num = oneInPerCentHundredths * (grown - off); den = face })
   pub negative : grown < off → x ≡ 0
 
-pub bond-limit-nearest : (b : BondScale) (x : Quotient) → 0 < b .face
-    → IsPerCent (b .face) (grownPrice x) (b .carry + b .accrued) (bondLimitOf b x)
-bond-limit-nearest b x f =
+pub bond-limit-rounded : (way : Way) (b : BondScale) (x : Quotient) → 0 < b .face
+    → IsPerCent way (b .face) (grownPrice x) (b .carry + b .accrued) (bondLimitOf way b x)
+bond-limit-rounded way b x f =
     let n : ℕ = oneInPerCentHundredths * (grownPrice x - (b .carry + b .accrued)) in
-    rw (bond-limit-is b x f)
+    rw (bond-limit-is way b x f)
     (record {
-      above = λ h. half-low n (b .face) f;
-      below = λ h. half-high n (b .face) f;
-      negative = λ h. omega (arith, half-le n (b .face) 0 f (omega arith));
+      rounded = λ h. rounded-is way n (b .face) f;
+      negative = λ h. omega (arith, rounded-le way n (b .face) 0 f (omega arith));
     })

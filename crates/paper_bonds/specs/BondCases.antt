@@ -10,7 +10,7 @@ use Rattle.paper.specs.declared.Limits.{Limits}
 use Rattle.paper.specs.declared.Rate.{Rate}
 use Rattle.paper.specs.declared.RepoBand.the-variants as band
 use Rattle.paper.specs.Lists.{pick, every, some}
-use Rattle.paper.specs.Roundings.{up, halfUp, halfUpZ, halfDown, toGrid, lesserOf, greaterOf, grown}
+use Rattle.paper.specs.Roundings.{up, grown}
 use Rattle.paper.specs.Least.{first, least, leastMultiple}
 use Rattle.paper.specs.Ranges.{unsigned, partsFrom, isPrice, validStatics, staticsOf, validGiven, tentativeTop, validTentative, validTerm, noLimits}
 use Rattle.paper.specs.Rates.{leastStep, tentativeRate, tentativeAfter, meetsRequirement, daysOf, minimumOf, covers, levelRate, unmodelled, figuresByVolatility}
@@ -126,8 +126,8 @@ plainBond =
 
 -- what the call answers. It opens every definition that the call computes with, so that a table opens this one alone
 unfoldable pub answered : Bond → List ℤ → BondAnswer
-unfolding halfUp halfUpZ halfDown toGrid lesserOf greaterOf grown first least leastMultiple unsigned partsFrom isPrice
-    validStatics staticsOf validGiven up tentativeTop validTentative validTerm leastStep tentativeRate tentativeAfter
+unfolding up halfUp halfDown toGrid lesserOf greaterOf grown first least leastMultiple unsigned partsFrom isPrice
+    validStatics staticsOf validGiven tentativeTop validTentative validTerm leastStep tentativeRate tentativeAfter
     meetsRequirement daysOf minimumOf covers levelRate unmodelled figuresByVolatility bondLimitOf shifted farthest
     spread monitored narrower crossed workedRepo repoOf termOf isDone firstOf every some givenOf flowAt lentFlows
     wholeFlows validFlow validFlows flowOf flowsOf validNumbers validBond grossOf carryTerm carryDue carryOf bondFigures

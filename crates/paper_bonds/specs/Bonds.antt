@@ -12,6 +12,7 @@ use Rattle.paper.specs.declared.BondScale.{BondScale}
 use Rattle.paper.specs.declared.Figures.{Figures}
 use Rattle.paper.specs.declared.Limits.{Limits}
 use Rattle.paper.specs.declared.Side.{Side}
+use Rattle.paper.specs.declared.Way.the-variants.{HalfUp}
 use Rattle.paper.specs.declared.Term.{Term}
 use Rattle.paper.specs.declared.Verdict.{Verdict}
 use Rattle.paper.specs.declared.Verdict.the-variants.{Done, OutOfRange, PriceOutOfRange, BandCrossed, NoFaceValue}
@@ -162,7 +163,7 @@ abbrev pub twentyBefore : BondScale → Side → (p k : ℕ) → Quotient
 twentyBefore scale side p k = growing k (scale .repo) (shifted side p offBook)
 
 abbrev pub twentyLimit : BondScale → Side → (p k : ℕ) → ℕ
-twentyLimit scale side p k = bondLimitOf scale (twentyBefore scale side p k)
+twentyLimit scale side p k = bondLimitOf HalfUp scale (twentyBefore scale side p k)
 
 -- off the book: "the narrower" of the band limit and that of the 20 per cent
 abbrev pub offBefore : BondScale → Statics → Side → (p s1 c k : ℕ) → ℤ → Quotient
@@ -170,7 +171,7 @@ offBefore scale st side p s1 c k repo =
     narrower side (bandBefore (bond scale) st side p s1 c k repo) (twentyBefore scale side p k)
 
 abbrev pub offLimit : BondScale → Statics → Side → (p s1 c k : ℕ) → ℤ → ℕ
-offLimit scale st side p s1 c k repo = limitFor (bond scale) st (offBefore scale st side p s1 c k repo)
+offLimit scale st side p s1 c k repo = limitFor HalfUp (bond scale) st (offBefore scale st side p s1 c k repo)
 
 -- the limits of a term, from P and S_1: a bond's do not move
 unfoldable pub limitsFrom : BondScale → Statics → (p s1 : ℕ) → Term → BondLimits

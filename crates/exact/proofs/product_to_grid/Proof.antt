@@ -1,10 +1,10 @@
 -- `product_to_grid` meets its contract: the ranges keep p·a and d·g within 64 bits and the figure too; the rest is
--- `half_up_wide`'s. Assumes nothing.
+-- `rounded_wide`'s. Assumes nothing.
 use Prim.Native.Nat.{ℕ, _*_, _^_, _≤_, _<_}
 use native.Mathlib.Nat.{mul-le-mul, lt-of-mul-lt-mul-right}
 use native.Mathlib.Omega.{arith}
 use Rattle.paper.specs.Numbers.{coarsestGrid, priceMost}
-use Rattle.paper.specs.Roundings.{halfUp, toGrid}
+use Rattle.paper.specs.Roundings.{rounded}
 use Rattle.exact.specs.Wide.{spreadMost, yearMost, scaleLeast, scaleMost}
 use Rattle.exact.proofs.Quotients.{grid-low}
 use Rattle.exact.proofs.product_to_grid.Statement.{statement}
@@ -27,14 +27,14 @@ bounds c =
       dg-low = mul-le-mul (r .low) (r .grid);
     }
 
-mul-half-up-wide : tie.Need-mul-half-up-wide
-mul-half-up-wide c = omega (arith, bounds c)
+mul-rounded-wide : tie.Need-mul-rounded-wide
+mul-rounded-wide c = omega (arith, bounds c)
 
-mul-half-up-wide-2 : tie.Need-mul-half-up-wide-2
-mul-half-up-wide-2 c = omega (arith, bounds c)
+mul-rounded-wide-2 : tie.Need-mul-rounded-wide-2
+mul-rounded-wide-2 c = omega (arith, bounds c)
 
-half-up-wide-requires : tie.Need-half-up-wide-requires
-half-up-wide-requires c κs = omega (arith, bounds c)
+rounded-wide-requires : tie.Need-rounded-wide-requires
+rounded-wide-requires c κs = omega (arith, bounds c)
 
 mul-result : tie.Need-mul-result
 mul-result c =
@@ -42,16 +42,15 @@ mul-result c =
     let g = s .args .g in
     let n : ℕ = s .args .p * s .args .a * s .args .b in
     let d = s .args .d in
-    let low = grid-low g n d (s .pre .grid) (omega (arith, s .pre .low)) in
-    let small : halfUp n (d * g) * g < 2 ^ 63 =
-    lt-of-mul-lt-mul-right d {m = halfUp n (d * g) * g} {n = 2 ^ 63} (omega (arith, bounds s)) in
-    rw (c .half-up-wide .ensures) (omega arith)
+    let low = grid-low (s .args .way) g n d (s .pre .grid) (omega (arith, s .pre .low)) in
+    let small : rounded (s .args .way) n (d * g) * g < 2 ^ 63 =
+    lt-of-mul-lt-mul-right d {m = rounded (s .args .way) n (d * g) * g} {n = 2 ^ 63} (omega (arith, bounds s)) in
+    rw (c .rounded-wide .ensures) (omega arith)
 
 returns : tie.Need-returns
-unfolding toGrid
-returns c = rw (c .half-up-wide .ensures)
+returns c = rw (c .rounded-wide .ensures)
 
 pub product-to-grid-spec : {M : Type 1} → statement M
 product-to-grid-spec =
     tie.close
-    (tie.spec mul-half-up-wide mul-half-up-wide-2 half-up-wide-requires mul-result returns)
+    (tie.spec mul-rounded-wide mul-rounded-wide-2 rounded-wide-requires mul-result returns)

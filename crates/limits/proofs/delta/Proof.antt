@@ -18,36 +18,36 @@ sizes c = delta-sizes (c .args .st) (c .args .p) (c .args .s1) (statics c) (c .p
 grid-of-requires : tie.Need-grid-of-requires
 grid-of-requires c κs = search needs
 
-mul-to-grid : tie.Need-mul-to-grid
-mul-to-grid c = omega (arith, sizes (c .before .before) .shift)
+mul-rounded-to : tie.Need-mul-rounded-to
+mul-rounded-to c = omega (arith, sizes (c .before .before) .shift)
 
-mul-to-grid-2 : tie.Need-mul-to-grid-2
-mul-to-grid-2 c = omega (arith, sizes (c .before .before .before) .rates)
+mul-rounded-to-2 : tie.Need-mul-rounded-to-2
+mul-rounded-to-2 c = omega (arith, sizes (c .before .before .before) .rates)
 
-mul-to-grid-3 : tie.Need-mul-to-grid-3
-mul-to-grid-3 c = omega (arith, sizes (c .before .before .before .before) .num)
+mul-rounded-to-3 : tie.Need-mul-rounded-to-3
+mul-rounded-to-3 c = omega (arith, sizes (c .before .before .before .before) .num)
 
-mul-to-grid-4 : tie.Need-mul-to-grid-4
-mul-to-grid-4 c = omega (arith, statics (c .before .before .before .before .before) .divisor-high)
+mul-rounded-to-4 : tie.Need-mul-rounded-to-4
+mul-rounded-to-4 c = omega (arith, statics (c .before .before .before .before .before) .divisor-high)
 
-to-grid-requires : tie.Need-to-grid-requires
-to-grid-requires c κs =
+rounded-to-requires : tie.Need-rounded-to-requires
+rounded-to-requires c κs =
     let g = c .before .before .before .before in
     let s = g .before in
     rw (g .grid-of .ensures) (omega (arith, grid-range (s .args .st .lot), statics s, sizes s))
 
 returns : tie.Need-returns
 unfolding deltaOf limitOf
-returns c = rw (c .to-grid .ensures, c .before .before .before .before .before .grid-of .ensures)
+returns c = rw (c .rounded-to .ensures, c .before .before .before .before .before .grid-of .ensures)
 
 pub delta-spec : {M : Type 1} → statement M
 delta-spec =
     tie.close
     (tie.spec
     grid-of-requires
-    mul-to-grid
-    mul-to-grid-2
-    mul-to-grid-3
-    mul-to-grid-4
-    to-grid-requires
+    mul-rounded-to
+    mul-rounded-to-2
+    mul-rounded-to-3
+    mul-rounded-to-4
+    rounded-to-requires
     returns)

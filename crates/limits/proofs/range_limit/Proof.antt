@@ -12,8 +12,8 @@ grid-of-requires c κs = search needs
 shifted-requires : tie.Need-shifted-requires
 shifted-requires c κs = search needs
 
-to-grid-requires : tie.Need-to-grid-requires
-to-grid-requires c κs =
+rounded-to-requires : tie.Need-rounded-to-requires
+rounded-to-requires c κs =
     let s = c .before .before in
     let a = s .args in
     rw (c .before .grid-of .ensures, c .shifted .ensures)
@@ -25,11 +25,11 @@ returns c =
     let m = c .before in
     let a = m .before .before .args in
     rw (
-      c .to-grid .ensures,
+      c .rounded-to .ensures,
       m .before .grid-of .ensures,
       m .shifted .ensures,
       shifted-den (a .side) (a .p .units) (a .rate .bp),
     )
 
 pub range-limit-spec : {M : Type 1} → statement M
-range-limit-spec = tie.close (tie.spec grid-of-requires shifted-requires to-grid-requires returns)
+range-limit-spec = tie.close (tie.spec grid-of-requires shifted-requires rounded-to-requires returns)
