@@ -71,8 +71,8 @@ int64_t nedrubal_range_limit(
     int64_t monitoring, int64_t ewma);
 
 /*
- * A band limit of one side, rounded half up to the grid, 0..2 * 10^10. With monitoring 0 it is p raised by pchmax or lowered by pclmax; s1, k, repo
- * and c must be in range all the same.
+ * A band limit of one side, rounded inward to the grid, the upper down and the lower up, 0..2 * 10^10. With monitoring 0 it is p raised by pchmax or
+ * lowered by pclmax; s1, k, repo and c must be in range all the same.
  *
  *     p            the evaluation: 1..10^10, on the grid
  *     s1           the rate of level 1: 0..10,000

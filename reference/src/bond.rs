@@ -342,17 +342,18 @@ impl Bond {
         let (lower, off_lower) = self.exact_limits(s_1, term, Side::Lower);
         let (upper, off_upper) = self.exact_limits(s_1, term, Side::Upper);
         Limits {
-            lower: rounded(lower),
-            upper: rounded(upper),
-            off_lower: rounded(off_lower),
-            off_upper: rounded(off_upper),
+            lower: rounded(lower, Side::Lower),
+            upper: rounded(upper, Side::Upper),
+            off_lower: rounded(off_lower, Side::Lower),
+            off_upper: rounded(off_upper, Side::Upper),
         }
     }
 }
 
-/// A limit half up to a hundredth of a per cent; 0 where it is below 0.
-pub fn rounded(limit: Quotient) -> i64 {
-    narrow(limit.half_up().max(0))
+/// A limit rounded to a hundredth of a per cent into the band (W-209); 0 where
+/// it is below 0.
+pub fn rounded(limit: Quotient, side: Side) -> i64 {
+    narrow(limit.rounded(side.inward()).max(0))
 }
 
 impl Limits {

@@ -1,4 +1,5 @@
-//! The paper's ways of rounding (document 01, "Places of rounding").
+//! The paper's ways of rounding (document 01, "Places of rounding"; W-209 says
+//! which way each goes).
 
 /// A 64-bit number in the width of the arithmetic.
 pub fn wide(x: i64) -> i128 {
@@ -22,6 +23,17 @@ fn floor(numerator: i128, denominator: i128) -> i128 {
     }
 }
 
+/// Which way a quotient goes to a whole number.
+#[derive(Clone, Copy, Debug, PartialEq, Eq)]
+pub enum Way {
+    /// The greatest whole number not above it.
+    Down,
+    /// The nearest whole number, ties up, also below 0.
+    HalfUp,
+    /// The least whole number not below it.
+    Up,
+}
+
 /// An exact quotient, its denominator above 0.
 #[derive(Clone, Copy, Debug)]
 pub struct Quotient {
@@ -30,27 +42,42 @@ pub struct Quotient {
 }
 
 impl Quotient {
-    /// The least whole number not below the quotient.
+    /// The whole number that the quotient goes to.
+    pub fn rounded(self, way: Way) -> i128 {
+        let Quotient {
+            numerator,
+            denominator,
+        } = self;
+        match way {
+            Way::Down => floor(numerator, denominator),
+            Way::HalfUp => floor(2 * numerator + denominator, 2 * denominator),
+            Way::Up => floor(numerator + denominator - 1, denominator),
+        }
+    }
+
+    /// The multiple of the step that the quotient goes to.
+    pub fn rounded_to(self, way: Way, step: i64) -> i64 {
+        narrow(self.in_steps(step).rounded(way) * wide(step))
+    }
+
     pub fn up(self) -> i128 {
-        floor(self.numerator + self.denominator - 1, self.denominator)
+        self.rounded(Way::Up)
     }
 
-    /// The least multiple of the step not below the quotient.
     pub fn up_to(self, step: i64) -> i64 {
-        narrow(self.in_steps(step).up() * wide(step))
+        self.rounded_to(Way::Up, step)
     }
 
-    /// "Half up": the nearest whole number, ties up, also below 0.
     pub fn half_up(self) -> i128 {
-        floor(2 * self.numerator + self.denominator, 2 * self.denominator)
+        self.rounded(Way::HalfUp)
     }
 
-    /// Half up to a multiple of the grid.
     pub fn half_up_to(self, grid: i64) -> i64 {
-        narrow(self.in_steps(grid).half_up() * wide(grid))
+        self.rounded_to(Way::HalfUp, grid)
     }
 
-    fn in_steps(self, step: i64) -> Quotient {
+    /// The quotient in steps, exactly.
+    pub fn in_steps(self, step: i64) -> Quotient {
         Quotient {
             numerator: self.numerator,
             denominator: self.denominator * wide(step),
@@ -152,6 +179,24 @@ mod tests {
         assert_eq!(quotient(0, 1).up_to(25), 0);
         assert_eq!(quotient(100, 4).up_to(25), 25);
         assert_eq!(quotient(101, 4).up_to(25), 50);
+    }
+
+    #[test]
+    fn down_and_up_meet_on_whole_numbers_alone() {
+        for (numerator, down, up) in [
+            (-8, -2, -1),
+            (-7, -1, -1),
+            (-1, -1, 0),
+            (0, 0, 0),
+            (1, 0, 1),
+            (7, 1, 1),
+        ] {
+            assert_eq!(quotient(numerator, 7).rounded(Way::Down), down);
+            assert_eq!(quotient(numerator, 7).rounded(Way::Up), up);
+        }
+        assert_eq!(quotient(1_072_056, 1).rounded_to(Way::Down, 10), 1_072_050);
+        assert_eq!(quotient(988_404, 1).rounded_to(Way::Up, 10), 988_410);
+        assert_eq!(quotient(988_400, 1).rounded_to(Way::Up, 10), 988_400);
     }
 
     #[test]

@@ -1,5 +1,6 @@
 //! Range limits, band limits and delta, each rounded once: place (g)
-//! (document 01, "Ranges, bands, alerts, moves").
+//! (document 01, "Ranges, bands, alerts, moves"). Band limits go into the band
+//! (W-209), the others half up.
 
 use crate::exact::{wide, Quotient};
 use crate::record::Side;
@@ -83,19 +84,22 @@ pub fn narrower(one: Quotient, other: Quotient, side: Side) -> Quotient {
     }
 }
 
-/// A band limit, half up to the grid: with Monitoring yes the narrower of the
-/// two.
+/// A band limit, rounded to the grid into the band (W-209).
 pub fn band_limit(statics: &Statics, inputs: &BandInputs, side: Side) -> i64 {
+    exact_band_limit(statics, inputs, side).rounded_to(side.inward(), statics.grid())
+}
+
+/// A band limit, exactly: with Monitoring yes the narrower of the two.
+pub fn exact_band_limit(statics: &Statics, inputs: &BandInputs, side: Side) -> Quotient {
     let p = units(inputs.p);
     let furthest = p.times(furthest(statics, side));
-    let limit = if !statics.monitoring {
+    if !statics.monitoring {
         furthest
     } else {
         let spread = spread(statics, inputs.s_1, inputs.moves, side);
         let monitored = p.times(spread).times(growth(inputs.repo_rate, inputs.days));
         narrower(furthest, monitored, side)
-    };
-    limit.half_up_to(statics.grid())
+    }
 }
 
 /// delta = 2·shift·S_1·P/x_pr, half up to the grid (18.4).

@@ -1,6 +1,7 @@
 //! A security's record (document 01, "What the desk covers").
 
 use crate::ewma::Volatility;
+use crate::exact::Way;
 use crate::statics::Statics;
 use crate::units::{
     AGE, DAYS_AHEAD, DAY_NUMBER, ID, LIMIT, MOVE_COUNT, PRICE, RATE, REPO_RATE, SECOND, VOLATILITY,
@@ -26,6 +27,16 @@ impl Side {
             0 => Some(Side::Upper),
             1 => Some(Side::Lower),
             _ => None,
+        }
+    }
+}
+
+impl Side {
+    /// The way of rounding that goes into the band (W-209).
+    pub fn inward(self) -> Way {
+        match self {
+            Side::Upper => Way::Down,
+            Side::Lower => Way::Up,
         }
     }
 }

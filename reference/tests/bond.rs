@@ -79,14 +79,16 @@ fn a_worked_bond() {
     // older. 600 + 50 = 650 gives 700; by sqrt(5/2) 1,027.7 and by 2 1,300. The
     // spread is 700/2 bp: 10,401,750 and 9,698,250.
     // k 0: less 50,000, over 1,000: 10,351.75 and 9,648.25.
-    // k 2: 10,410,071.4 and 9,694,370.7, less 1,000,000 and 50,000.
+    // k 2: 10,410,071.4 and 9,694,370.7, less 1,000,000 and 50,000: 9,360.071
+    // and 8,644.371.
     // k 3: the flow has become 1,000,100: 9,351.65 and 8,648.15.
+    // The upper limits go down and the lower ones up (W-209).
     let worked = answer(&[], &[2, 1_000_000]).unwrap();
     assert_eq!(
         worked.numbers(),
         [
-            10_050_000, 600, 1, 700, 1_100, 1_300, 9_648, 10_352, 9_648, 10_352, 8_644, 9_360,
-            8_644, 9_360, 8_648, 9_352, 8_648, 9_352
+            10_050_000, 600, 1, 700, 1_100, 1_300, 9_649, 10_351, 9_649, 10_351, 8_645, 9_360,
+            8_645, 9_360, 8_649, 9_351, 8_649, 9_351
         ]
     );
 }
@@ -158,22 +160,51 @@ fn the_grown_price_is_half_up_to_a_unit() {
 }
 
 #[test]
-fn a_limit_is_half_up_to_two_decimals() {
-    // Of 20,000 a hundredth of a per cent is two units, of 40,000 four.
-    let limits = |face: i64, flow: i64| still(&[(FACE, face), (ACCRUED, 0)], &[1, flow]);
-    let both = |limit: i64| (limit, limit);
-    for (face, flow, limit) in [
-        (20_000, 0, 10_000),
-        (20_000, 1, 10_000),
-        (20_000, 2, 9_999),
-        (20_000, 3, 9_999),
-        (40_000, 1, 10_000),
-        (40_000, 2, 10_000),
-        (40_000, 3, 9_999),
-    ] {
-        let expected = [both(10_000), both(limit), both(limit)];
-        assert_eq!(limits(face, flow), expected, "{face} {flow}");
-    }
+fn a_limit_goes_into_the_band() {
+    // Of 40,000 a hundredth of a per cent is four units. The upper factor is 2,
+    // the lower one 1/2: 80,000 and 20,000 less the flow.
+    let limits = |flow: i64| {
+        let own = [
+            (FACE, 40_000),
+            (ACCRUED, 0),
+            (PCHMAX, 10_000),
+            (PCLMAX, 5_000),
+        ];
+        still(&own, &[1, flow])[1]
+    };
+    assert_eq!(limits(0), (5_000, 20_000));
+    assert_eq!(limits(1), (5_000, 19_999));
+    assert_eq!(limits(2), (5_000, 19_999));
+    assert_eq!(limits(3), (5_000, 19_999));
+    assert_eq!(limits(4), (4_999, 19_999));
+    // With no room between them the limits meet on a whole number alone.
+    let narrow = |flow: i64| {
+        let own = [(FACE, 40_000), (ACCRUED, 0)];
+        number(&[&STILL, &own[..]].concat(), &[1, flow])
+    };
+    assert_eq!([0, 1, 2, 3, 4].map(narrow), [0, 9, 9, 9, 0]);
+}
+
+#[test]
+fn off_the_book_the_limits_may_cross_alone() {
+    // P is 100; less 50 it is 70 and 30 of a million off the book, 0.7 and 0.3
+    // of a hundredth of a per cent; on the book 1.5 and below 0.
+    let own = [
+        (NET, 1),
+        (FACE, 1_000_000),
+        (ACCRUED, 0),
+        (PCHMAX, 10_000),
+        (PCLMAX, 10_000),
+    ];
+    let changes = [&STILL, &own[..]].concat();
+    assert_eq!(number(&changes, &[1, 50]), 9);
+    // Less 30 they are 90 and 50: 0 and 1. Less 20 they are 100 and 60: 1 and 1.
+    assert_eq!(number(&changes, &[1, 30]), 9);
+    let limits = answer(&changes, &[1, 20]).unwrap().limits[1];
+    assert_eq!(limits.numbers(), [0, 1, 1, 1]);
+    // Less 80 the lower one is 0.
+    let limits = answer(&changes, &[1, 80]).unwrap().limits[1];
+    assert_eq!(limits.numbers(), [0, 1, 0, 0]);
 }
 
 #[test]
@@ -181,7 +212,8 @@ fn a_negative_limit_is_zero() {
     let own = [(FACE, 20_000), (ACCRUED, 0), (PCHMAX, 10_000)];
     assert_eq!(still(&own, &[1, 30_000])[1], (0, 5_000));
     assert_eq!(still(&own, &[1, 20_000])[1], (0, 10_000));
-    assert_eq!(still(&own, &[1, 19_999])[1], (1, 10_001));
+    // A half of a hundredth is left below, and a half more above.
+    assert_eq!(still(&own, &[1, 19_999])[1], (1, 10_000));
     assert_eq!(still(&own, &[1, 40_000])[1], (0, 0));
     assert_eq!(still(&own, &[1, 10_000_000_000])[1], (0, 0));
 }
@@ -339,8 +371,8 @@ fn line(changes: &[(usize, i64)], flows: &str) -> String {
 #[test]
 fn a_bond_line() {
     let plain = line(&[], " 2 1000000");
-    let expected = "0 10050000 600 1 700 1100 1300 9648 10352 9648 10352 8644 9360 8644 9360 \
-8648 9352 8648 9352";
+    let expected = "0 10050000 600 1 700 1100 1300 9649 10351 9649 10351 8645 9360 8645 9360 \
+8649 9351 8649 9351";
     assert_eq!(said(&plain), [expected]);
     assert_eq!(said(&line(&[(FACE, 0)], "")), ["17"]);
     assert_eq!(said(&line(&[], " 2")), ["6"]);

@@ -1,17 +1,32 @@
 //! The scripts are the same for a seed, as long as asked, and meet every
-//! number, every edge of the interest side, of a replacement, of a crossed row,
-//! of a bond, of the reasons and of the tentative rate.
+//! number and every edge of each request.
 
-use reference::count::{count, Answers};
+use std::io;
+
+use reference::count::{count, Answers, Count};
 use reference::count_bond::count_bond;
 use reference::count_crossed::count_crossed;
 use reference::count_interest::count_interest;
+use reference::count_inward::count_inward;
 use reference::count_replacement::count_replacement;
 use reference::count_tentative::count_tentative;
 use reference::count_why::count_why;
 use reference::gateway::gateway;
 use reference::protocol::evening;
 use reference::script;
+
+/// A count of the edges that a script meets.
+type CountOf = fn(&[u8]) -> io::Result<Count>;
+
+const COUNTS: [(&str, CountOf); 7] = [
+    ("interest", |script| count_interest(script)),
+    ("replacement", |script| count_replacement(script)),
+    ("crossed", |script| count_crossed(script)),
+    ("bond", |script| count_bond(script)),
+    ("why", |script| count_why(script)),
+    ("tentative", |script| count_tentative(script)),
+    ("inward", |script| count_inward(script)),
+];
 
 fn lines(text: &[u8]) -> usize {
     text.split_inclusive(|byte| *byte == b'\n').count()
@@ -51,84 +66,34 @@ fn a_seed_gives_one_script() {
 }
 
 #[test]
-fn an_evening_meets_every_number() {
-    let script = script::evening::script(1, 20_000);
-    let mut answers = Vec::new();
-    evening(&script[..], &mut answers).unwrap();
-    let counted = count(&answers[..], Answers::Evening).unwrap();
-    assert!(counted.missing.is_empty(), "{counted:?}");
-}
-
-#[test]
-fn an_evening_meets_every_edge_of_the_interest_side() {
-    let script = script::evening::script(1, 20_000);
-    let counted = count_interest(&script[..]).unwrap();
-    assert!(counted.missing.is_empty(), "{:?}", counted.missing);
-}
-
-#[test]
-fn an_evening_without_interest_lines_meets_no_edge() {
-    let counted = count_interest(&b"read 1\nread 2"[..]).unwrap();
-    assert_eq!(counted.missing.len(), counted.line.lines().count());
-}
-
-#[test]
-fn an_evening_meets_every_edge_of_a_replacement() {
+fn an_evening_meets_every_number_and_every_edge() {
     for seed in [1, 2] {
         let script = script::evening::script(seed, 20_000);
-        let counted = count_replacement(&script[..]).unwrap();
-        assert!(counted.missing.is_empty(), "{:?}", counted.missing);
+        let mut answers = Vec::new();
+        evening(&script[..], &mut answers).unwrap();
+        let counted = count(&answers[..], Answers::Evening).unwrap();
+        assert!(counted.missing.is_empty(), "{counted:?}");
+        for (name, count) in COUNTS {
+            let counted = count(&script[..]).unwrap();
+            assert!(
+                counted.missing.is_empty(),
+                "{name}, seed {seed}: {:?}",
+                counted.missing
+            );
+        }
     }
 }
 
 #[test]
-fn an_evening_without_evaluations_meets_no_edge_of_a_replacement() {
-    let counted = count_replacement(&b"read 1\nevaluate 1\nread 2"[..]).unwrap();
-    assert_eq!(counted.missing.len(), counted.line.lines().count());
-}
-
-#[test]
-fn an_evening_meets_every_edge_of_a_crossed_row() {
-    for seed in [1, 2] {
-        let script = script::evening::script(seed, 20_000);
-        let counted = count_crossed(&script[..]).unwrap();
-        assert!(counted.missing.is_empty(), "{:?}", counted.missing);
+fn an_evening_without_such_lines_meets_no_edge() {
+    for (name, count) in COUNTS {
+        let counted = count(&b"read 1\nevaluate 1\nbond 1\nread 2"[..]).unwrap();
+        assert_eq!(
+            counted.missing.len(),
+            counted.line.lines().count(),
+            "{name}"
+        );
     }
-    let counted = count_crossed(&b"read 1\nevaluate 1\nread 2"[..]).unwrap();
-    assert_eq!(counted.missing.len(), counted.line.lines().count());
-}
-
-#[test]
-fn an_evening_meets_every_edge_of_a_bond() {
-    for seed in [1, 2] {
-        let script = script::evening::script(seed, 20_000);
-        let counted = count_bond(&script[..]).unwrap();
-        assert!(counted.missing.is_empty(), "{:?}", counted.missing);
-    }
-    let counted = count_bond(&b"read 1\nbond 1\nread 2"[..]).unwrap();
-    assert_eq!(counted.missing.len(), counted.line.lines().count());
-}
-
-#[test]
-fn an_evening_meets_every_edge_of_the_reasons() {
-    for seed in [1, 2] {
-        let script = script::evening::script(seed, 20_000);
-        let counted = count_why(&script[..]).unwrap();
-        assert!(counted.missing.is_empty(), "{:?}", counted.missing);
-    }
-    let counted = count_why(&b"read 1\nevaluate 1\nread 2"[..]).unwrap();
-    assert_eq!(counted.missing.len(), counted.line.lines().count());
-}
-
-#[test]
-fn an_evening_meets_every_edge_of_the_tentative_rate() {
-    for seed in [1, 2] {
-        let script = script::evening::script(seed, 20_000);
-        let counted = count_tentative(&script[..]).unwrap();
-        assert!(counted.missing.is_empty(), "{:?}", counted.missing);
-    }
-    let counted = count_tentative(&b"read 1\nevaluate 1\nread 2"[..]).unwrap();
-    assert_eq!(counted.missing.len(), counted.line.lines().count());
 }
 
 #[test]

@@ -8,8 +8,9 @@ use Rattle.paper.specs.declared.BondScale.{BondScale}
 use Rattle.paper.specs.declared.Price.{Price}
 use Rattle.paper.specs.declared.Rate.{Rate}
 use Rattle.paper.specs.declared.Term.{Term}
+use Rattle.paper.specs.declared.Way.{Way}
 use Rattle.paper.specs.Numbers.{oneInBp, priceMost, rateMost, divisorMost, termDaysMost, repoMost, oneInPerCentHundredths}
-use Rattle.paper.specs.Roundings.{halfUp}
+use Rattle.paper.specs.Roundings.{rounded}
 use Rattle.paper.specs.Ranges.{validTerm}
 use Rattle.paper_bonds.specs.BondNumbers.{moneyMost}
 use Rattle.bond_flows.specs.FlowLaws.{carryMost}
@@ -34,8 +35,8 @@ abbrev pub grownMost : ℕ
 grownMost = 6 * priceMost
 
 -- the limit that a grown price makes, without signs
-abbrev pub perCentOf : BondScale → (grown : ℕ) → ℕ
-perCentOf b grown = halfUp (oneInPerCentHundredths * (grown - (b .carry + b .accrued))) (b .face)
+abbrev pub perCentOf : Way → BondScale → (grown : ℕ) → ℕ
+perCentOf way b grown = rounded way (oneInPerCentHundredths * (grown - (b .carry + b .accrued))) (b .face)
 
 -- the evaluation P and the days k
 pub record PriceRange (p : Price) (k : ℕ) : Type 0 where

@@ -1,12 +1,12 @@
 // The limits of a bond for one term (document 02, W-206; clause 11.1), in hundredths of a per cent: on the book, and
 // off it. The spread, the farthest rates, the narrower of two and the test for crossed are the shares', of `limits`;
-// how a limit grows and is rounded is the bond's own.
+// how a limit grows and is rounded is the bond's own: the grown price half up, and the limit inward (W-209).
 ghost use mathlib.Core.Path.{_≡_};
 ghost use mathlib.Core.Bool.{true};
 ghost use Prim.Native.Nat.{_≤_};
 ghost use Rattle.paper.specs.Numbers.{rateMost};
 ghost use Rattle.paper.specs.Ranges.{validStatics};
-ghost use Rattle.paper.specs.Limits.{bond, grownPrice, bondLimitOf, shifted, growing, monitored, narrowerOf, bandLimitFor};
+ghost use Rattle.paper.specs.Limits.{bond, inward, grownPrice, bondLimitOf, shifted, growing, monitored, narrowerOf, bandLimitFor};
 ghost use Rattle.paper_bonds.specs.Bonds.{twentyLimit, limitsFrom, isCrossed};
 ghost use Rattle.bond_limits.specs.BondInputs.{ScaleRange, GrowthRange, PriceRange, SideRange, TermRange, grownMost, perCentOf};
 use paper::BondScale;
@@ -37,24 +37,25 @@ fn grown_price(x: u64, whole: u64, k: u64, repo: i64) -> u64
     )
 }
 
-// "(.. - Carry - НКД)/FaceValue·100", half up to two decimals of the per cent; "Negative limits are zero."
-fn in_per_cent(b: BondScale, grown: u64) -> u64
+// "(.. - Carry - НКД)/FaceValue·100", to two decimals of the per cent, that way; "Negative limits are zero."
+fn in_per_cent(way: Way, b: BondScale, grown: u64) -> u64
     requires { ⌜ ScaleRange b ⌝ }
     requires { ⌜ grown ≤ grownMost ⌝ }
-    ensures { λ r. ⌜ r ≡ perCentOf b grown ⌝ }
+    ensures { λ r. ⌜ r ≡ perCentOf way b grown ⌝ }
 {
-    exact::half_up(
+    exact::rounded(
+        way,
         ONE_IN_PER_CENT_HUNDREDTHS * exact::less(grown, b.carry + b.accrued),
         b.face,
     )
 }
 
-fn limit_of(b: BondScale, x: u64, whole: u64, k: u64, repo: i64) -> u64
+fn limit_of(way: Way, b: BondScale, x: u64, whole: u64, k: u64, repo: i64) -> u64
     requires { ⌜ ScaleRange b ⌝ }
     requires { ⌜ GrowthRange x whole k repo ⌝ }
-    ensures { λ r. ⌜ r ≡ bondLimitOf Way.HalfUp b (growing k repo (record { num = x; den = whole })) ⌝ }
+    ensures { λ r. ⌜ r ≡ bondLimitOf way b (growing k repo (record { num = x; den = whole })) ⌝ }
 {
-    in_per_cent(b, grown_price(x, whole, k, repo))
+    in_per_cent(way, b, grown_price(x, whole, k, repo))
 }
 
 // P·(1 ± rate), which grows with REPORate: the farthest limit, and that of the 20 per cent off the book.
@@ -62,9 +63,16 @@ fn shifted_limit(b: BondScale, side: Side, p: Price, rate: Rate, k: u64) -> u64
     requires { ⌜ ScaleRange b ⌝ }
     requires { ⌜ PriceRange p k ⌝ }
     requires { ⌜ rate .bp ≤ rateMost ⌝ }
-    ensures { λ r. ⌜ r ≡ bondLimitOf Way.HalfUp b (growing k (b .repo) (shifted side (p .units) (rate .bp))) ⌝ }
+    ensures { λ r. ⌜ r ≡ bondLimitOf (inward side) b (growing k (b .repo) (shifted side (p .units) (rate .bp))) ⌝ }
 {
-    limit_of(b, limits::shifted(side, p, rate), ONE_IN_BP, k, b.repo)
+    limit_of(
+        limits::inward(side),
+        b,
+        limits::shifted(side, p, rate),
+        ONE_IN_BP,
+        k,
+        b.repo,
+    )
 }
 
 // P·(1 ± S_1/x_pr), which grows with the term's own repo rate: a bond's limits are not moved.
@@ -80,9 +88,10 @@ fn monitored_limit(
     requires { ⌜ ScaleRange b ⌝ }
     requires { ⌜ validStatics st ≡ true ⌝ }
     requires { ⌜ SideRange p s1 k repo ⌝ }
-    ensures { λ r. ⌜ r ≡ bondLimitOf Way.HalfUp b (monitored st side (p .units) (s1 .bp) 0 k repo) ⌝ }
+    ensures { λ r. ⌜ r ≡ bondLimitOf (inward side) b (monitored st side (p .units) (s1 .bp) 0 k repo) ⌝ }
 {
     limit_of(
+        limits::inward(side),
         b,
         p.units * limits::spread(st, side, s1, 0),
         ONE_IN_BP * st.xpr,

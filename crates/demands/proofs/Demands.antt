@@ -12,7 +12,7 @@ use Rattle.paper.specs.Ranges.{sideOf, validAdmission}
 use Rattle.paper.specs.Verdicts.{numberOf, isDone, Check, firstOf, NoneApplies, Exactly}
 use Rattle.paper.specs.Desk.{Call, admit, evaluate, quote, move, read, idOf, Outcome, saying, showing, evaluated, moved, place, stands, found, known, checksOf, admitChecks, evaluateChecks, quoteChecks, moveChecks, readChecks, acceptedOf, step, run}
 use Rattle.paper.specs.History.{FreshTable, Event, unknown, since, historyOf, wasAdmitted, isAdmission}
-use Rattle.demands.specs.Demands.{answered, orderOf, Demand1, FiguresHold, answerThen, Demand2, Demand3, TableKept}
+use Rattle.demands.specs.Demands.{answered, orderOf, Demand1, FiguresHold, answerThen, Demand2, Demand3, TableKept, BandsInOrder}
 use Rattle.paper.proofs.Slots.{found-stored, known-stands}
 use Rattle.paper.proofs.Refusals.{verdict-first, refused-step, accepted-step, refused-only, refused-always, accepted-only, accepted-always}
 use Rattle.demands.proofs.Kept.{run-sound, evaluate-knows, quote-knows, move-knows}
@@ -20,6 +20,7 @@ use Rattle.demands.proofs.Histories.{recordOf, Lawful}
 use Rattle.demands.proofs.Known.{one-unknown, history-since, known-admitted, no-such-id, already-admitted, stays-known}
 use Rattle.paper.proofs.PinnedLaws.{bad-table}
 use Rattle.demands.proofs.Sequences.{quote-term, alerts-noted, lawful-figures, lawful-statics, rates-hold}
+use Rattle.demands.proofs.Bands.{lawful-uncrossed}
 use Rattle.demands.proofs.Carried.{lawful-near}
 use Rattle.demands.proofs.InterestCarried.{evenings-near}
 
@@ -32,6 +33,12 @@ table-kept cs t f =
       admitted-known = known-admitted cs t (f .slots) (f .empty);
       stays-known = λ later. stays-known cs later t (f .slots) (f .empty);
     }
+
+pub bands-in-order : (id : ℕ) (cs : List Call) (t : List Record) → FreshTable t → (a : Admission) (es : List Event)
+    → historyOf id cs t ≡ since a es → BandsInOrder (found (run cs t) id)
+bands-in-order id cs t f a es e =
+    let k = history-since id cs t (f .empty) a es e in
+    rw (k .1) (record { in-order = lawful-uncrossed a es (k .2) })
 
 -- ---- Demand 1
 

@@ -4,5 +4,6 @@ pub mod Kept
 pub mod Histories
 pub mod Known
 pub mod Sequences
+pub mod Bands
 pub mod Carried
 pub mod Demands

@@ -17,6 +17,7 @@ use Rattle.paper.specs.declared.Verdict.the-variants.{Done, NoSuchId, AlreadyAd
 use Rattle.paper.specs.Lists.{pick}
 use Rattle.paper.specs.Ranges.{staticsOf, validAdmission, validSlots, sound, noLimits, notNear, termAt, rateAt}
 use Rattle.paper.specs.Rates.{minimumOf, AtLeastRequired, HeldLeast}
+use Rattle.paper.specs.Limits.{crossed}
 use Rattle.paper.specs.Alerts.{alert}
 use Rattle.paper.specs.Verdicts.{numberOf, isDone, Check, FirstAt, NoneApplies, Exactly}
 use Rattle.paper.specs.Desk.{Call, admit, evaluate, quote, move, read, idOf, saying, showing, alerting, found, known, checksOf, step, run}
@@ -144,3 +145,8 @@ pub record TableKept (cs : List Call) (t : List Record) : Type 0 where
   pub admitted-known : (id : ℕ) → known (run cs t) id ≡ wasAdmitted (historyOf id cs t)
   -- and stays known, whatever is called later
   pub stays-known : (later : List Call) (id : ℕ) → known (run cs t) id ≡ true → known (run (cs ++ later) t) id ≡ true
+
+-- W-209: "a moved band that was not crossed is not crossed", and 9 refuses an evaluation whose bands would be: so in a
+-- record r that calls made of a fresh table each band's lower limit is not above its upper one
+pub record BandsInOrder (r : Record) : Type 0 where
+  pub in-order : (k : ℕ) → k < 3 → crossed (getD (r .bands) k noLimits) ≡ false

@@ -10,9 +10,8 @@ use Rattle.paper.specs.declared.Rate.{Rate}
 use Rattle.paper.specs.declared.Statics.{Statics}
 use Rattle.paper.specs.declared.Side.{Side}
 use Rattle.paper.specs.declared.Side.the-variants.{Upper, Lower}
-use Rattle.paper.specs.declared.Way.the-variants.{HalfUp}
 use Rattle.paper.specs.Numbers.{oneInBp, oneInHundredths, priceMost, rateMost, shiftMost, movesMost}
-use Rattle.paper.specs.Limits.{share, limitOf, shifted, rangeLimit, farthest, spread, monitored, narrowerOf, bandLimit}
+use Rattle.paper.specs.Limits.{share, limitOf, inward, shifted, farthest, spread, monitored, narrowerOf, bandLimit}
 pub use Rattle.paper.proofs.LimitSizes.{grid-range}
 use Rattle.paper.proofs.KindLaws as kinds
 use Rattle.exact.specs.Wide.{spreadMost}
@@ -37,12 +36,11 @@ pub farthest-high : (st : Statics) (side : Side) → LimitStatics st → farthes
 farthest-high st Upper s = s .upper-high
 farthest-high st Lower s = s .lower-high
 
--- the farthest band limit is the range limit at that rate
-pub farthest-limit : (st : Statics) (side : Side) (p : ℕ) → rangeLimit st side p (farthestRate st side)
-    ≡ limitOf HalfUp st (farthest st side p)
-unfolding rangeLimit farthest
-farthest-limit st Upper p = refl
-farthest-limit st Lower p = refl
+-- the farthest limit before it is rounded, by its rate
+farthest-is : (st : Statics) (side : Side) (p : ℕ) → shifted side p (farthestRate st side) ≡ farthest st side p
+unfolding farthest
+farthest-is st Upper p = refl
+farthest-is st Lower p = refl
 
 -- ---- the spread
 
@@ -62,16 +60,25 @@ spread-high st Lower s1 c s r m = omega (arith, s .divisor-high)
 
 -- ---- a share's band limit: with monitoring the narrower of two, without it the farthest
 
+-- the farthest limit, rounded inward
+abbrev pub farthestLimit : Statics → Side → (p : ℕ) → ℕ
+farthestLimit st side p = limitOf (inward side) st (shifted side p (farthestRate st side))
+
+farthest-limit : (st : Statics) (side : Side) (p : ℕ)
+    → farthestLimit st side p ≡ limitOf (inward side) st (farthest st side p)
+farthest-limit st side p = ap (limitOf (inward side) st) (farthest-is st side p)
+
 pub band-monitored : (st : Statics) (side : Side) (p s1 c k : ℕ) (repo : ℤ) → LimitStatics st → st .monitoring ≡ true
     → bandLimit st side p s1 c k repo
-    ≡ narrowerOf side (rangeLimit st side p (farthestRate st side)) (limitOf HalfUp st (monitored st side p s1 c k repo))
+    ≡ narrowerOf side (farthestLimit st side p) (limitOf (inward side) st (monitored st side p s1 c k repo))
 unfolding bandLimit
 band-monitored st side p s1 c k repo s e =
+    let near : ℕ = limitOf (inward side) st (monitored st side p s1 c k repo) in
     kinds.band-monitored share st side p s1 c k repo (omega arith) (s .divisor-low) e
-    ∙ ap (λ (z : ℕ). narrowerOf side z (limitOf HalfUp st (monitored st side p s1 c k repo))) (sym (farthest-limit st side p))
+    ∙ ap (λ (z : ℕ). narrowerOf side z near) (sym (farthest-limit st side p))
 
 pub band-unmonitored : (st : Statics) (side : Side) (p s1 c k : ℕ) (repo : ℤ) → st .monitoring ≡ false
-    → bandLimit st side p s1 c k repo ≡ rangeLimit st side p (farthestRate st side)
+    → bandLimit st side p s1 c k repo ≡ farthestLimit st side p
 unfolding bandLimit
 band-unmonitored st side p s1 c k repo e =
     kinds.band-unmonitored share st side p s1 c k repo e ∙ sym (farthest-limit st side p)

@@ -19,7 +19,7 @@ ghost use mathlib.Core.Bool.{true};
 ghost use Prim.Native.Nat.{_-_, _≤_};
 ghost use Rattle.paper.specs.Numbers.{rateMost, limitMost, movesMost};
 ghost use Rattle.paper.specs.Ranges.{validStatics};
-ghost use Rattle.paper.specs.Limits.{limitOf, shifted, rangeLimit, rangeOf, spread, monitored, bandLimit, bandOf, narrowerOf, crossed, deltaOf, oneMore, countOf, rangeMoved, bandMoved};
+ghost use Rattle.paper.specs.Limits.{limitOf, inward, shifted, rangeLimit, rangeOf, spread, monitored, bandLimit, bandOf, narrowerOf, crossed, deltaOf, oneMore, countOf, rangeMoved, bandMoved};
 ghost use Rattle.limits.specs.Sides.{farthestRate};
 ghost use Rattle.limits.specs.LimitRanges.{RangeInputs, BandInputs, TermInputs};
 ghost use Rattle.limits.specs.LimitBounds.{deltaMost};
@@ -37,17 +37,20 @@ pub fn shifted(side: Side, p: Price, rate: Rate) -> u64
     }
 }
 
-// "Range of level L: P·(1 ± S_L)."
+// P·(1 ± rate), rounded once, that way.
+fn shifted_limit(way: Way, st: Statics, side: Side, p: Price, rate: Rate) -> u64
+    requires { ⌜ RangeInputs p rate ⌝ }
+    ensures { λ r. ⌜ r ≡ limitOf way st (shifted side (p .units) (rate .bp)) ⌝ }
+{
+    exact::rounded_to(way, grid_of(st.lot), shifted(side, p, rate), ONE_IN_BP)
+}
+
+// "Range of level L: P·(1 ± S_L)."; W-209: "ranges .. keep half up".
 pub fn range_limit(st: Statics, side: Side, p: Price, rate: Rate) -> u64
     requires { ⌜ RangeInputs p rate ⌝ }
     ensures { λ r. ⌜ r ≡ rangeLimit st side (p .units) (rate .bp) ⌝ }
 {
-    exact::rounded_to(
-        Way::HalfUp,
-        grid_of(st.lot),
-        shifted(side, p, rate),
-        ONE_IN_BP,
-    )
+    shifted_limit(Way::HalfUp, st, side, p, rate)
 }
 
 pub fn range_of(st: Statics, p: Price, rate: Rate) -> Limits
@@ -61,6 +64,16 @@ pub fn range_of(st: Statics, p: Price, rate: Rate) -> Limits
 }
 
 // ---- bands
+
+// W-209: "Round the upper limit down and the lower limit up".
+pub fn inward(side: Side) -> Way
+    ensures { λ r. ⌜ r ≡ inward side ⌝ }
+{
+    match side {
+        Side::Upper => Way::Down,
+        Side::Lower => Way::Up,
+    }
+}
 
 // PcH_max above, PcL_max below.
 pub fn farthest_rate(st: Statics, side: Side) -> Rate
@@ -87,15 +100,16 @@ pub fn spread(st: Statics, side: Side, s1: Rate, c: u64) -> u64
     }
 }
 
-// "P·(1 + e·S_1/x_pr)·(1 + RRcH·k/36500)" above, "P·max(0, 1 - e·S_1/x_pr)·(1 + RRcL·k/36500)" below, rounded once.
+// "P·(1 + e·S_1/x_pr)·(1 + RRcH·k/36500)" above, "P·max(0, 1 - e·S_1/x_pr)·(1 + RRcL·k/36500)" below, rounded once,
+// inward.
 fn monitored_limit(st: Statics, side: Side, p: Price, s1: Rate, c: u64, k: u64, repo: i64) -> u64
     requires { ⌜ validStatics st ≡ true ⌝ }
     requires { ⌜ BandInputs p s1 c k repo ⌝ }
-    ensures { λ r. ⌜ r ≡ limitOf Way.HalfUp st (monitored st side (p .units) (s1 .bp) c k repo) ⌝ }
+    ensures { λ r. ⌜ r ≡ limitOf (inward side) st (monitored st side (p .units) (s1 .bp) c k repo) ⌝ }
 {
     let days = exact::grow(YEAR_IN_DAY_BP, k, repo);
     exact::product_to_grid(
-        Way::HalfUp,
+        inward(side),
         grid_of(st.lot),
         p.units,
         spread(st, side, s1, c),
@@ -121,7 +135,7 @@ pub fn band_limit(st: Statics, side: Side, p: Price, s1: Rate, c: u64, k: u64, r
     requires { ⌜ BandInputs p s1 c k repo ⌝ }
     ensures { λ r. ⌜ r ≡ bandLimit st side (p .units) (s1 .bp) c k repo ⌝ }
 {
-    let farthest = range_limit(st, side, p, farthest_rate(st, side));
+    let farthest = shifted_limit(inward(side), st, side, p, farthest_rate(st, side));
     if st.monitoring {
         narrower(side, farthest, monitored_limit(st, side, p, s1, c, k, repo))
     } else {

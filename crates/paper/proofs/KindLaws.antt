@@ -19,7 +19,7 @@ use Rattle.paper.specs.Lists.{pick}
 use Rattle.paper.specs.Numbers.{coarsestGrid, divisorLeast, oneInPerCentHundredths}
 use Rattle.paper.specs.Roundings.{Quotient, rounded, mirrored, roundedZ, atLeastZero, lesserOf, greaterOf}
 use Rattle.paper.specs.Ranges.{gridOf}
-use Rattle.paper.specs.Limits.{Kind, share, bond, limitOf, grownPrice, bondLimitOf, limitFor, shifted, farthest, growing, farthestFor, monitored, narrower, narrowerOf, bandBefore, bandLimitFor}
+use Rattle.paper.specs.Limits.{inward, Kind, share, bond, limitOf, grownPrice, bondLimitOf, limitFor, shifted, farthest, growing, farthestFor, monitored, narrower, narrowerOf, bandBefore, bandLimitFor}
 use Rattle.paper.proofs.Logic.{le-or-lt, pick-true, pick-false}
 use Rattle.paper.proofs.Differences.{difference-up, difference-down, difference-times}
 use Rattle.paper.proofs.Roundings.{rounded-le, rounded-monotone, grid-monotone, KeepsOrder, lesser-rounded, greater-rounded}
@@ -133,21 +133,21 @@ module _ (kind : Kind) (st : Statics) (side : Side) (p s1 c k : ℕ) (repo : ℤ
   -- with monitoring a band limit is the narrower of the farthest limit and the monitored one
   pub band-monitored : HasFace kind → divisorLeast ≤ st .xpr → st .monitoring ≡ true
       → bandLimitFor kind st side p s1 c k repo
-      ≡ narrowerOf side (limitFor HalfUp kind st (farthestFor kind st side p k))
-      (limitFor HalfUp kind st (monitored st side p s1 c k repo))
+      ≡ narrowerOf side (limitFor (inward side) kind st (farthestFor kind st side p k))
+      (limitFor (inward side) kind st (monitored st side p s1 c k repo))
   band-monitored f h e =
       let x : Quotient = farthestFor kind st side p k in
       let y : Quotient = monitored st side p s1 c k repo in
-      ap (limitFor HalfUp kind st) (pick-true (st .monitoring) (narrower side x y) x e)
-      ∙ narrower-rounded HalfUp kind st side x y f (farthest-positive kind st side p k)
+      ap (limitFor (inward side) kind st) (pick-true (st .monitoring) (narrower side x y) x e)
+      ∙ narrower-rounded (inward side) kind st side x y f (farthest-positive kind st side p k)
       (monitored-positive st side p s1 c k repo h)
 
   -- and without it the farthest limit
   pub band-unmonitored : st .monitoring ≡ false
-      → bandLimitFor kind st side p s1 c k repo ≡ limitFor HalfUp kind st (farthestFor kind st side p k)
+      → bandLimitFor kind st side p s1 c k repo ≡ limitFor (inward side) kind st (farthestFor kind st side p k)
   band-unmonitored e =
       let x : Quotient = farthestFor kind st side p k in
-      ap (limitFor HalfUp kind st) (pick-false (st .monitoring) (narrower side x (monitored st side p s1 c k repo)) x e)
+      ap (limitFor (inward side) kind st) (pick-false (st .monitoring) (narrower side x (monitored st side p s1 c k repo)) x e)
 
   pub band-positive : divisorLeast ≤ st .xpr → 0 < bandBefore kind st side p s1 c k repo .den
   band-positive h =

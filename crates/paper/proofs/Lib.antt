@@ -11,6 +11,7 @@ pub mod Volatility
 pub mod Bounds
 pub mod KindLaws
 pub mod LimitSizes
+pub mod Bands
 pub mod CarriedOn
 pub mod Roots
 pub mod Level

@@ -18,7 +18,7 @@ use Rattle.paper.specs.declared.Admission.{Admission}
 use Rattle.paper.specs.declared.Day.{Day}
 use Rattle.paper.specs.Lists.{pick, three, every, some, those}
 use Rattle.paper.specs.Numbers.{millionthsInBp}
-use Rattle.paper.specs.Roundings.{up, halfUp, toGrid, lesserOf, greaterOf, grown, apart}
+use Rattle.paper.specs.Roundings.{down, up, halfUp, toGrid, lesserOf, greaterOf, grown, apart}
 use Rattle.paper.specs.Least.{first, least, leastRoot, leastTimes, leastMultiple}
 use Rattle.paper.specs.Ranges.{isPrice, isRate, isGridPrice, validStatics, validGiven, tentativeTop, validTentative, validAdmission, validRow, wholeRows, validRows, validTerm, validDay, lastDay, isLimit, validLimits, validNear, validNearSeconds, sound, validSlots, gridOf, staticsOf, rowAt, partsFrom, rowsOf, rowOf, unsigned, noTerm, noLimits, rateAt}
 use Rattle.paper.specs.Evaluation.{rowPrice, rowWeight, roublesOf, traded, weights, worth, mean, closeOf, bestBid, lesserAsk, bestAsk, median, between, evaluationOf, dayRows, isCrossedRow, hasCrossedRow, rowFits, evaluationFits}
@@ -79,7 +79,7 @@ unfolding admissionZ givenWith roublesRow dayWith staticsOf admitted minimumOf e
     tentativeTop tentativeRate tentativeRateByMove tentativeRateOf tentativeAfter levelRate covers meetsRequirement
     daysOf least first leastRoot
     leastTimes leastMultiple evaluationOf dayRows rowsOf partsFrom rowAt rowOf unsigned roublesOf rowPrice rowWeight
-    halfUp toGrid grown closeOf mean traded those weights worth bestBid bestAsk lesserAsk between median gridOf
+    down halfUp toGrid grown closeOf mean traded those weights worth bestBid bestAsk lesserAsk between median gridOf
     rangeOf rangeLimit limitOf shifted bandOf bandLimit farthest narrower lesserOf greaterOf monitored spread
 after m x = evaluated (admitted admissionZ) (dayWith m x) (roublesRow 1030000 0 0 5 [])
 
@@ -174,12 +174,13 @@ results =
     ∷ [])
     ∷ []
 
--- what document 01 says, W-202 of case 8's t, and W-205 of case 11's rows
+-- what document 01 says, W-202 of case 8's t, W-205 of case 11's rows, and W-209 of case 4's second band
 pub starred : results
     ≡ (30000 ∷ 21214 ∷ 700 ∷ 800 ∷ 1200 ∷ 1500 ∷ [])
     ∷ (1500 ∷ 1000 ∷ [])
     ∷ (1112400 ∷ 1153600 ∷ 1184500 ∷ 947600 ∷ 906400 ∷ 875500 ∷ [])
-    ∷ (988800 ∷ 1071200 ∷ 988400 ∷ 1072060 ∷ [])
+    -- W-209: "Case 4's second top becomes 1,072,050 and its bottom 988,410."
+    ∷ (988800 ∷ 1071200 ∷ 988410 ∷ 1072050 ∷ [])
     ∷ (1091800 ∷ 1133000 ∷ 1174200 ∷ 1205100 ∷ [])
     ∷ (0 ∷ 1 ∷ [])
     ∷ (20001 ∷ 1000 ∷ [])
@@ -212,8 +213,8 @@ pub straddles : List (List ℕ)
 unfolding results fine admitAnswer second quoted found step judged firstOf checksOf admitChecks acceptedOf saying
     validSlots validAdmission validGiven validStatics isGridPrice isPrice validTentative stands place isDone blank
 straddles =
-    -- a band limit is rounded once: with each factor rounded it would be 1,052,490
-    (bandLimit fine Upper 1000010 800 0 30 (pos 1460) ∷ [])
+    -- a band limit is rounded once: 1,052,493.68 down; with each factor rounded it would be 1,052,494
+    (bandLimit fine Upper 1000013 800 0 30 (pos 1460) ∷ [])
     -- the second day is evaluated as the first was: the two evaluations, s, tentative and age
     ∷ (second .p1 .units ∷ second .p2 .units ∷ second .s ∷ second .tentative .bp ∷ second .tentative .age ∷ [])
     -- a quote leaves the volatility
@@ -226,7 +227,7 @@ straddles =
     ∷ []
 
 pub straddled : straddles
-    ≡ (1052491 ∷ [])
+    ≡ (1052493 ∷ [])
     ∷ (1000000 ∷ 1030000 ∷ 22133 ∷ 700 ∷ 1 ∷ [])
     ∷ (21214 ∷ [])
     ∷ (4 ∷ 0 ∷ 0 ∷ 4 ∷ [])

@@ -1,7 +1,7 @@
 -- Document 01, "Ranges, bands, alerts, moves" (10.1, 11.2, 17.8, 18): the limits, rounded by (g); document 02, W-206
 -- (11.1): those of a bond. What the two kinds of security share is said over the kind. Assumes nothing.
 use mathlib.Core.Bool.{Bool, true, false}
-use Prim.Native.Nat.{ℕ, zero, suc, _+_, _-_, _*_, min, max}
+use Prim.Native.Nat.{ℕ, zero, suc, _+_, _-_, _*_, _≤_, min, max}
 use lib.Dec.{ltb}
 use lib.IntN.{ℤ, pos, subℕ, _*ℤ_}
 use Rattle.paper.specs.declared.Statics.{Statics}
@@ -31,6 +31,16 @@ pub data Kind : Type 0 where
 unfoldable pub limitOf : Way → Statics → Quotient → ℕ
 limitOf way st x = roundedTo way (gridOf (st .lot)) (x .num) (x .den)
 
+-- W-209: "Round the upper limit down and the lower limit up, bonds' too": the way of a band's side
+abbrev pub inward : Side → Way
+inward Upper = Down
+inward Lower = Up
+
+-- what that is for: "An order at the published limit can lie outside the exact band", and at one inside it cannot
+abbrev pub Inside : Side → (limit : ℕ) → Quotient → Type 0
+Inside Upper limit x = limit * x .den ≤ x .num
+Inside Lower limit x = x .num ≤ limit * x .den
+
 -- W-206: "the grown price half up to a unit"
 abbrev pub grownPrice : Quotient → ℕ
 grownPrice x = halfUp (x .num) (x .den)
@@ -54,7 +64,7 @@ shifted Lower p rate = record { num = p * (oneInBp - rate); den = oneInBp }
 
 -- ---- ranges
 
--- "Range of level L: P·(1 ± S_L)."
+-- "Range of level L: P·(1 ± S_L)."; W-209: "ranges .. keep half up"
 unfoldable pub rangeLimit : Statics → Side → ℕ → ℕ → ℕ
 rangeLimit st side p rate = limitOf HalfUp st (shifted side p rate)
 
@@ -103,8 +113,9 @@ bandBefore kind st side p s1 c k repo =
     let far : Quotient = farthestFor kind st side p k in
     pick (st .monitoring) (narrower side far (monitored st side p s1 c k repo)) far
 
+-- (g) "once each", and W-209, inward
 abbrev pub bandLimitFor : Kind → Statics → Side → (p s1 c k : ℕ) → ℤ → ℕ
-bandLimitFor kind st side p s1 c k repo = limitFor HalfUp kind st (bandBefore kind st side p s1 c k repo)
+bandLimitFor kind st side p s1 c k repo = limitFor (inward side) kind st (bandBefore kind st side p s1 c k repo)
 
 -- of a share
 unfoldable pub bandLimit : Statics → Side → (p s1 c k : ℕ) → ℤ → ℕ

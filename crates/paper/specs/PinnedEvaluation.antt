@@ -9,6 +9,7 @@ use lib.ListN.{getD}
 use Rattle.paper.specs.declared.Rate.{Rate}
 use Rattle.paper.specs.declared.Tentative.{Tentative}
 use Rattle.paper.specs.declared.Statics.{Statics}
+use Rattle.paper.specs.declared.Side.{Side}
 use Rattle.paper.specs.declared.Side.the-variants.{Upper, Lower}
 use Rattle.paper.specs.declared.Row.{Row}
 use Rattle.paper.specs.declared.Record.{Record}
@@ -200,11 +201,19 @@ deltaAt : (lot p : ℕ) → ℕ
 unfolding numbers staticsBut zNumbers
 deltaAt lot p = deltaOf (staticsBut (zNumbers but (lotAt, pos lot))) p 100
 
+-- the lower and the upper limit that lie 1 bp from P, with Monitoring no, for a lot
+farthestAt : (lot p : ℕ) → List ℕ
+unfolding numbers staticsBut zNumbers
+farthestAt lot p =
+    let near : List ℤ = zNumbers but (monitoringAt, pos 0) but (pchmaxAt, pos 1) but (pclmaxAt, pos 1) in
+    map (λ (side : Side). bandLimit (staticsBut (near but (lotAt, pos lot))) side p 0 0 0 (pos 0))
+    (Lower ∷ Upper ∷ [])
+
 bandOf0 : Record → List ℕ
 bandOf0 r = getD (r .bands) 0 noLimits .lower ∷ getD (r .bands) 0 noLimits .upper ∷ []
 
 pub evaluated-records : List (List ℕ)
-unfolding evaluatedAt ratesOf bandOf0 deltaAt staticsBut
+unfolding evaluatedAt ratesOf bandOf0 deltaAt farthestAt staticsBut
 evaluated-records =
     -- "With isEWMA no, the three rates are the minima and s, tentative and age stay.": s 20,000, tentative 600, age 3
     ratesOf (evaluatedAt (zRecord but (ewmaAt, pos 0) but (ageAt, pos 3)) 1030000)
@@ -222,12 +231,20 @@ evaluated-records =
     ∷ rangeLimit (staticsBut zNumbers) Upper 1000000 10000
     ∷ rangeLimit (staticsBut zNumbers) Upper 1050 100
     ∷ rangeLimit (staticsBut zNumbers) Lower 1050 100
+    -- W-209 "ranges .. keep half up": 1,515 and 1,584
+    ∷ rangeLimit (staticsBut zNumbers) Upper 1500 100
+    ∷ rangeLimit (staticsBut zNumbers) Lower 1600 100
     ∷ [])
     -- r by P2: P1 is 1,000,010, P2 1,000,000, s 0 and S_1 500
     ∷ ratesOf (evaluatedAt (zRecord but (p1At, pos 1000010) but (sAt, pos 0) but (ratesAt, pos 500)) 1000020)
     -- (g) "delta, .. half up to the grid": just below half a step and at it, on the grids 10, 100 and 1
     ∷ (deltaAt 10 1990 ∷ deltaAt 10 2000 ∷ deltaAt 10 5990 ∷ deltaAt 10 6000 ∷ [])
     ∷ (deltaAt 1 19900 ∷ deltaAt 1 20000 ∷ deltaAt 11 199 ∷ deltaAt 11 200 ∷ [])
+    -- W-209 "Round the upper limit down and the lower limit up": 1 bp from P on the grids 1, 10 and 100, on multiples
+    -- of it and a ten-thousandth of a step above and below them
+    ∷ (farthestAt 11 100000 ++ farthestAt 11 100001 ++ farthestAt 11 99999)
+    ∷ (farthestAt 10 1000000 ++ farthestAt 10 1000010 ++ farthestAt 10 999990)
+    ∷ (farthestAt 1 10000000 ++ farthestAt 1 10000100 ++ farthestAt 1 9999900)
     ∷ []
 
 pub evaluated-records-are : evaluated-records
@@ -236,12 +253,16 @@ pub evaluated-records-are : evaluated-records
     ∷ (975000 ∷ 1025000 ∷ [])
     ∷ (980000 ∷ 1010000 ∷ [])
     ∷ (800000 ∷ 0 ∷ [])
-    ∷ (0 ∷ 2000000 ∷ 1060 ∷ 1040 ∷ [])
+    ∷ (0 ∷ 2000000 ∷ 1060 ∷ 1040 ∷ 1520 ∷ 1580 ∷ [])
     -- r is 20: 0.1·20² is 40, and 7² covers it (by P1 r would be 10, and s 4)
     ∷ (7 ∷ 600 ∷ 1 ∷ 700 ∷ 1100 ∷ 1300 ∷ [])
     -- 4.975, 5, 14.975, 15; 49.75, 50; 0.4975, 0.5
     ∷ (0 ∷ 10 ∷ 10 ∷ 20 ∷ [])
     ∷ (0 ∷ 100 ∷ 0 ∷ 1 ∷ [])
+    -- 99,990 and 100,010; 99,990.9999 and 100,011.0001; 99,989.0001 and 100,008.9999
+    ∷ (99990 ∷ 100010 ∷ 99991 ∷ 100011 ∷ 99990 ∷ 100008 ∷ [])
+    ∷ (999900 ∷ 1000100 ∷ 999910 ∷ 1000110 ∷ 999900 ∷ 1000080 ∷ [])
+    ∷ (9999000 ∷ 10001000 ∷ 9999100 ∷ 10001100 ∷ 9999000 ∷ 10000800 ∷ [])
     ∷ []
 unfolding evaluated-records
 evaluated-records-are = refl

@@ -7,10 +7,10 @@ use lib.IntN.{ℤ, pos}
 use Rattle.paper.specs.declared.BondScale.{BondScale}
 use Rattle.paper.specs.declared.Statics.{Statics}
 use Rattle.paper.specs.declared.Side.the-variants.{Upper}
-use Rattle.paper.specs.declared.Way.the-variants.{HalfUp}
-use Rattle.paper.specs.Roundings.{Quotient, halfUp, halfDown, grown}
+use Rattle.paper.specs.declared.Way.the-variants.{Down, Up}
+use Rattle.paper.specs.Roundings.{Quotient, down, halfUp, up, grown}
 use Rattle.paper.specs.Ranges.{staticsOf, gridOf}
-use Rattle.paper.specs.Limits.{share, bond, limitOf, bondLimitOf, limitFor, shifted, farthest, farthestFor}
+use Rattle.paper.specs.Limits.{share, bond, inward, limitOf, bondLimitOf, limitFor, shifted, farthest, farthestFor}
 use Rattle.paper.specs.Cases.{givenWith}
 
 -- so much Carry, and a face value; the accrued interest is 0, and REPORate a thousandth a day
@@ -21,21 +21,26 @@ halves : (num : ℕ) → Quotient
 halves num = record { num = num; den = 2 }
 
 pub perCents : List ℕ
-unfolding scale halves bondLimitOf halfUp halfDown
+unfolding scale halves bondLimitOf down halfUp up
 perCents =
-    bondLimitOf HalfUp (scale 0 1000) (halves 2001)
-    ∷ bondLimitOf HalfUp (scale 0 1000) (halves 1999)
-    ∷ bondLimitOf HalfUp (scale 1 20000) (halves 40000)
-    ∷ bondLimitOf HalfUp (scale 2 20000) (halves 40000)
-    ∷ bondLimitOf HalfUp (scale 20000 10000) (halves 20000)
+    bondLimitOf Down (scale 0 1000) (halves 2001)
+    ∷ bondLimitOf Down (scale 0 1000) (halves 1999)
+    ∷ bondLimitOf Down (scale 1 20000) (halves 40000)
+    ∷ bondLimitOf Up (scale 1 20000) (halves 40000)
+    ∷ bondLimitOf Down (scale 2 20000) (halves 40000)
+    ∷ bondLimitOf Up (scale 2 20000) (halves 40000)
+    ∷ bondLimitOf Down (scale 20000 10000) (halves 20000)
     ∷ []
 
 pub per-cents-are : perCents
     -- "the grown price half up to a unit": 1,000.5 and 999.5 of a face value of 1,000
     ≡ 10010
     ∷ 10000
-    -- "the limit half up to two decimals of the per cent": 19,999 of 20,000 is 9,999.5, and 19,998 is 9,999
+    -- W-209: the limit to two decimals of the per cent, down above and up below: 19,999 of 20,000 is 9,999.5, and
+    -- 19,998 is 9,999
+    ∷ 9999
     ∷ 10000
+    ∷ 9999
     ∷ 9999
     -- "Negative limits are zero": 10,000 less 20,000
     ∷ 0
@@ -45,11 +50,11 @@ per-cents-are = refl
 
 -- the farthest upper limit of P 10,000 at a term of 30 days, of either kind: PcH_max is 20 per cent
 pub farthests : List ℕ
-unfolding scale givenWith staticsOf gridOf limitOf bondLimitOf farthest shifted halfUp grown
+unfolding scale givenWith staticsOf gridOf limitOf bondLimitOf farthest shifted down halfUp grown
 farthests =
     let st : Statics = staticsOf (givenWith 10) in
-    limitFor HalfUp share st (farthestFor share st Upper 10000 30)
-    ∷ limitFor HalfUp (bond (scale 0 10000)) st (farthestFor (bond (scale 0 10000)) st Upper 10000 30)
+    limitFor (inward Upper) share st (farthestFor share st Upper 10000 30)
+    ∷ limitFor (inward Upper) (bond (scale 0 10000)) st (farthestFor (bond (scale 0 10000)) st Upper 10000 30)
     ∷ []
 
 pub farthests-are : farthests ≡ 12000 ∷ 12360 ∷ []

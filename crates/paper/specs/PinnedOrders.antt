@@ -11,7 +11,7 @@ use Rattle.paper.specs.Lists.{those}
 use Rattle.paper.specs.Limits.{crossed}
 use Rattle.paper.specs.Verdicts.{numberOf, Check}
 use Rattle.paper.specs.Desk.{blank, Call, admit, evaluate, quote, move, read, checksOf, run}
-use Rattle.paper.specs.PinnedValues.{_but_, minimaAt, centralAt, rowBidAt, rowAskAt, volumeAt, aupAt, adownAt, liqAt, pchmaxAt, monitoringAt, ewmaAt, idAt, dayAt, sAt, tentativeAt, liveAt, ageAt, upperMovesAt, lowerMovesAt, secondAt, admissionFrom, recordFrom, dayFrom, quoteFrom, closedAt, zNumbers, zRecord, yesNo}
+use Rattle.paper.specs.PinnedValues.{_but_, minimaAt, p1At, centralAt, rowBidAt, rowAskAt, volumeAt, aupAt, adownAt, liqAt, pchmaxAt, monitoringAt, ewmaAt, idAt, dayAt, sAt, tentativeAt, liveAt, ageAt, upperMovesAt, lowerMovesAt, secondAt, admissionFrom, recordFrom, dayFrom, quoteFrom, closedAt, zNumbers, zRecord, yesNo}
 use Rattle.paper.specs.PinnedSequence.{numbers}
 
 -- ---- "First that applies"
@@ -191,10 +191,15 @@ conditions =
     -- 9 "a rounded lower band limit above its upper one": one below, bands that touch, one above
     ∷ map (λ (x : Limits). yesNo (crossed x))
     (record { lower = 9; upper = 10 } ∷ record { lower = 10; upper = 10 } ∷ record { lower = 11; upper = 10 } ∷ [])
-    -- of an evaluation with S_1 0 and PcH_max 0: the limits touch; touch once rounded; cross
+    -- of an evaluation with S_1 0: with PcH_max 0 the limits touch, and cross
     ∷ (termAnswer (plainZ but (minimaAt, pos 0) but (pchmaxAt, pos 0)) 0 0
     ++ termAnswer (plainZ but (minimaAt, pos 0) but (pchmaxAt, pos 0)) 1 18
-    ++ termAnswer (plainZ but (minimaAt, pos 0) but (pchmaxAt, pos 0)) 1 19)
+    -- W-209 "A band narrower than a grid step may now cross and answers 9.": both limits 1,000,100; both 1,000,004.9;
+    -- of P 10, which is a step, 9.75 to 10.25, and with k 30 and a repo rate of 3,650 bp 10.04 to 10.56
+    ++ termAnswer (plainZ but (minimaAt, pos 0)) 1 365
+    ++ termAnswer (plainZ but (minimaAt, pos 0)) 1 18
+    ++ termAnswer (plainZ but (p1At, pos 10)) 0 0
+    ++ termAnswer (plainZ but (p1At, pos 10)) 30 3650)
     -- 12 "c is 50": of the side that moves, 49 and 50; 50 of the other side
     ∷ (numbers (move 7 0 ∷ move 7 0 ∷ []) (holding (plainZ but (upperMovesAt, pos 49) but (lowerMovesAt, pos 50)))
     ++ numbers (move 7 1 ∷ move 7 1 ∷ []) (holding (plainZ but (lowerMovesAt, pos 49) but (upperMovesAt, pos 50))))
@@ -222,7 +227,7 @@ pub conditions-are : conditions
     ∷ (0 ∷ 7 ∷ [])
     ∷ (0 ∷ 8 ∷ 0 ∷ [])
     ∷ (0 ∷ 0 ∷ 1 ∷ [])
-    ∷ (0 ∷ 0 ∷ 9 ∷ [])
+    ∷ (0 ∷ 9 ∷ 0 ∷ 9 ∷ 0 ∷ 9 ∷ [])
     ∷ (0 ∷ 12 ∷ 0 ∷ 12 ∷ [])
     ∷ (0 ∷ 13 ∷ 13 ∷ 0 ∷ 0 ∷ 0 ∷ 13 ∷ [])
     ∷ (1 ∷ 1 ∷ [])

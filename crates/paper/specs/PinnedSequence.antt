@@ -14,7 +14,7 @@ use Rattle.paper.specs.declared.Limits.{Limits}
 use Rattle.paper.specs.declared.Answer.{Answer}
 use Rattle.paper.specs.declared.Verdict.the-variants.{NoSuchId}
 use Rattle.paper.specs.Lists.{every, some, those}
-use Rattle.paper.specs.Roundings.{up, halfUp, toGrid, lesserOf, greaterOf, grown, apart}
+use Rattle.paper.specs.Roundings.{down, up, halfUp, toGrid, lesserOf, greaterOf, grown, apart}
 use Rattle.paper.specs.Least.{first, least, leastRoot, leastTimes, leastMultiple}
 use Rattle.paper.specs.Ranges.{unsigned, isPrice, isRate, gridOf, isGridPrice, validStatics, staticsOf, validGiven, tentativeTop, validTentative, validAdmission, partsFrom, rowAt, rowsOf, wholeRows, validRow, validRows, rowOf, validTerm, validDay, validQuote, validSide, sideOf, isLive, lastDay, noLimits, isLimit, validLimits, validNear, validNearSeconds, sound, validSlots}
 use Rattle.paper.specs.Evaluation.{rowPrice, rowWeight, roublesOf, traded, weights, worth, mean, closeOf, bestBid, lesserAsk, bestAsk, median, between, evaluationOf, dayRows, isCrossedRow, hasCrossedRow, rowFits, evaluationFits}
@@ -38,7 +38,7 @@ unfolding unsigned isPrice isRate gridOf isGridPrice validStatics staticsOf vali
     farthest spread monitored narrower bandLimit bandOf crossed deltaOf oneMore rangeMoved bandMoved distance isNear
     keptSince nearAfter alert nearCleared isDone firstOf blank saying showing alerting admitted priceOn moveOn
     figuresOn evaluated nearOn quoted alertsOn moved place stands found known admitChecks evaluateChecks quoteChecks
-    moveChecks readChecks checksOf judged acceptedOf step run every some those up halfUp toGrid lesserOf greaterOf
+    moveChecks readChecks checksOf judged acceptedOf step run every some those up down halfUp toGrid lesserOf greaterOf
     grown apart first least leastRoot leastTimes leastMultiple
 answers [] t = []
 answers (c ∷ cs) t =

@@ -10,10 +10,9 @@ use Rattle.paper.specs.declared.BondScale.{BondScale}
 use Rattle.paper.specs.declared.Statics.{Statics}
 use Rattle.paper.specs.declared.Side.{Side}
 use Rattle.paper.specs.declared.Side.the-variants.{Upper, Lower}
-use Rattle.paper.specs.declared.Way.the-variants.{HalfUp}
 use Rattle.paper.specs.declared.Term.{Term}
 use Rattle.paper.specs.Numbers.{divisorLeast}
-use Rattle.paper.specs.Limits.{bond, narrowerOf, bandBefore, bandLimitFor}
+use Rattle.paper.specs.Limits.{bond, inward, narrowerOf, bandBefore, bandLimitFor}
 use Rattle.paper.proofs.LimitSizes.{limit-statics}
 use Rattle.paper.proofs.KindLaws.{shifted-positive, band-positive, narrower-rounded}
 use Rattle.paper_bonds.specs.declared.Bond.{Bond}
@@ -28,7 +27,7 @@ pub off-is : (b : BondScale) (st : Statics) (side : Side) (p s1 c k : ℕ) (repo
     → offLimit b st side p s1 c k repo
     ≡ narrowerOf side (bandLimitFor (bond b) st side p s1 c k repo) (twentyLimit b side p k)
 off-is b st side p s1 c k repo f d =
-    narrower-rounded HalfUp (bond b) st side (bandBefore (bond b) st side p s1 c k repo)
+    narrower-rounded (inward side) (bond b) st side (bandBefore (bond b) st side p s1 c k repo)
     (twentyBefore b side p k) f (band-positive (bond b) st side p s1 c k repo d)
     (omega (arith, shifted-positive side p offBook))
 

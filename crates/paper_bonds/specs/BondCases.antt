@@ -10,7 +10,7 @@ use Rattle.paper.specs.declared.Limits.{Limits}
 use Rattle.paper.specs.declared.Rate.{Rate}
 use Rattle.paper.specs.declared.RepoBand.the-variants as band
 use Rattle.paper.specs.Lists.{pick, every, some}
-use Rattle.paper.specs.Roundings.{up, grown}
+use Rattle.paper.specs.Roundings.{down, halfUp, up, toGrid, lesserOf, greaterOf, grown}
 use Rattle.paper.specs.Least.{first, least, leastMultiple}
 use Rattle.paper.specs.Ranges.{unsigned, partsFrom, isPrice, validStatics, staticsOf, validGiven, tentativeTop, validTentative, validTerm, noLimits}
 use Rattle.paper.specs.Rates.{leastStep, tentativeRate, tentativeAfter, meetsRequirement, daysOf, minimumOf, covers, levelRate, unmodelled, figuresByVolatility}
@@ -126,7 +126,7 @@ plainBond =
 
 -- what the call answers. It opens every definition that the call computes with, so that a table opens this one alone
 unfoldable pub answered : Bond → List ℤ → BondAnswer
-unfolding up halfUp halfDown toGrid lesserOf greaterOf grown first least leastMultiple unsigned partsFrom isPrice
+unfolding down halfUp up toGrid lesserOf greaterOf grown first least leastMultiple unsigned partsFrom isPrice
     validStatics staticsOf validGiven tentativeTop validTentative validTerm leastStep tentativeRate tentativeAfter
     meetsRequirement daysOf minimumOf covers levelRate unmodelled figuresByVolatility bondLimitOf shifted farthest
     spread monitored narrower crossed workedRepo repoOf termOf isDone firstOf every some givenOf flowAt lentFlows
@@ -134,14 +134,16 @@ unfolding up halfUp halfDown toGrid lesserOf greaterOf grown first least leastMu
     limitsFrom limitsOf isCrossed bondChecks refusedBond acceptedBond bondAnswer
 answered b numbers = bondAnswer b numbers
 
+-- the plain bond with these changes
+changed : List (ℕ × ℤ) → List ℤ
+unfolding plainBond
+changed [] = plainBond
+changed (c ∷ cs) = changed cs but c
+
 -- what is answered to the plain bond with these changes, and these cash flows
 unfoldable pub answerTo : List (ℕ × ℤ) → List ℤ → BondAnswer
-unfolding plainBond bondFrom answered
+unfolding changed bondFrom answered
 answerTo changes flows = answered (bondFrom (changed changes)) flows
-  where
-    changed : List (ℕ × ℤ) → List ℤ
-    changed [] = plainBond
-    changed (c ∷ cs) = changed cs but c
 
 -- the number, P, the tentative rate, its age and the three rates
 unfoldable pub head : BondAnswer → List ℕ
@@ -260,17 +262,17 @@ pub worked-bands : workedBands
 unfolding workedBands
 worked-bands = refl
 
--- Monitoring no, and both maxima 0: every limit is that of P itself
-atPar : List (ℕ × ℤ)
-atPar = (monitoringAt, pos 0) ∷ (pchmaxAt, pos 0) ∷ (pclmaxAt, pos 0) ∷ []
+-- Monitoring no, and both maxima so many basis points
+aroundPar : (maximum : ℕ) → List (ℕ × ℤ)
+aroundPar maximum = (monitoringAt, pos 0) ∷ (pchmaxAt, pos maximum) ∷ (pclmaxAt, pos maximum) ∷ []
 
 pub workedFirst : List (List ℕ)
-unfolding atPar firstBand answerTo
+unfolding aroundPar firstBand answerTo
 workedFirst =
     firstBand (answerTo ((accruedAt, pos 250) ∷ []) [])
     ∷ firstBand (answerTo ((faceAt, pos 1000) ∷ (monitoringAt, pos 0) ∷ (pchmaxAt, pos 5) ∷ (pclmaxAt, pos 5) ∷ []) [])
-    ∷ firstBand (answerTo ((faceAt, pos 20000) ∷ atPar) (pos 1 ∷ pos 1 ∷ []))
-    ∷ firstBand (answerTo ((faceAt, pos 20000) ∷ atPar) (pos 1 ∷ pos 2 ∷ []))
+    ∷ firstBand (answerTo ((faceAt, pos 20000) ∷ aroundPar 1) (pos 1 ∷ pos 1 ∷ []))
+    ∷ firstBand (answerTo ((faceAt, pos 20000) ∷ aroundPar 0) (pos 1 ∷ pos 2 ∷ []))
     ∷ firstBand (answerTo [] (pos 1 ∷ pos 10000 ∷ []))
     ∷ firstBand (answerTo [] (pos 1 ∷ pos 20000 ∷ []))
     ∷ firstBand (answerTo ((monitoringAt, pos 0) ∷ (pchmaxAt, pos 3000) ∷ (pclmaxAt, pos 3000) ∷ []) [])
@@ -285,8 +287,8 @@ pub worked-first : workedFirst
     ≡ (9641 ∷ 10359 ∷ 9641 ∷ 10359 ∷ [])
     -- the grown price half up to a unit, before it is taken per cent: 999.5 and 1,000.5 of a face value of 1,000
     ∷ (10000 ∷ 10010 ∷ 10000 ∷ 10010 ∷ [])
-    -- the limit half up: 19,999 of 20,000 is 9,999.5; 19,998 is 9,999
-    ∷ (10000 ∷ 10000 ∷ 10000 ∷ 10000 ∷ [])
+    -- W-209: the limit inward: 19,997 of 20,000 is 9,998.5 and 20,001 is 10,000.5; 19,998 is 9,999
+    ∷ (9999 ∷ 10000 ∷ 9999 ∷ 10000 ∷ [])
     ∷ (9999 ∷ 9999 ∷ 9999 ∷ 9999 ∷ [])
     -- negative limits are zero: -350, and then both
     ∷ (0 ∷ 350 ∷ 0 ∷ 350 ∷ [])
@@ -301,3 +303,31 @@ pub worked-first : workedFirst
     ∷ []
 unfolding workedFirst
 worked-first = refl
+
+-- ---- 9, on the book and off it (W-209)
+
+-- P of 100 units, of which a hundred make a hundredth of a per cent; half of it flows before the first term ends
+smallFlows : List ℤ
+smallFlows = pos 1 ∷ pos 50 ∷ []
+
+smallBond : (maximum : ℕ) → Bond
+unfolding aroundPar changed bondFrom
+smallBond maximum = bondFrom (changed ((netAt, pos 1) ∷ (faceAt, pos 1000000) ∷ aroundPar maximum))
+
+-- the number, and the limits of the first term, which 9 is judged of
+pub judgedFirst : (maximum : ℕ) → List ℕ
+unfolding smallBond smallFlows answered fourOf
+judgedFirst maximum =
+    numberOf (answered (smallBond maximum) smallFlows .verdict)
+    ∷ fourOf (limitsOf (smallBond maximum) (flowsOf smallFlows) (termOf (smallBond maximum .first)))
+
+-- "A band narrower than a grid step may now cross and answers 9.", bonds' too; off the book one may cross where the band
+-- does not
+pub crossings-are : map judgedFirst (2000 ∷ 5000 ∷ [])
+    -- 0.3 and 0.7 of a hundredth: both cross
+    ≡ (9 ∷ 1 ∷ 0 ∷ 1 ∷ 0 ∷ [])
+    -- on the book 0 and 1, exactly; off it 0.3 and 0.7
+    ∷ (9 ∷ 0 ∷ 1 ∷ 1 ∷ 0 ∷ [])
+    ∷ []
+unfolding judgedFirst
+crossings-are = refl

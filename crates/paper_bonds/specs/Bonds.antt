@@ -12,7 +12,6 @@ use Rattle.paper.specs.declared.BondScale.{BondScale}
 use Rattle.paper.specs.declared.Figures.{Figures}
 use Rattle.paper.specs.declared.Limits.{Limits}
 use Rattle.paper.specs.declared.Side.{Side}
-use Rattle.paper.specs.declared.Way.the-variants.{HalfUp}
 use Rattle.paper.specs.declared.Term.{Term}
 use Rattle.paper.specs.declared.Verdict.{Verdict}
 use Rattle.paper.specs.declared.Verdict.the-variants.{Done, OutOfRange, PriceOutOfRange, BandCrossed, NoFaceValue}
@@ -21,7 +20,7 @@ use Rattle.paper.specs.Numbers.{volatilityMost, ageMost, aheadMost, repoLeast, 
 use Rattle.paper.specs.Roundings.{Quotient, halfUp, grown}
 use Rattle.paper.specs.Ranges.{within, withinZ, unsigned, partsFrom, isPrice, staticsOf, validGiven, validTentative, validTerm, termAt, rateAt, noRate, noLimits}
 use Rattle.paper.specs.Rates.{figuresByVolatility}
-use Rattle.paper.specs.Limits.{bond, bondLimitOf, shifted, growing, narrower, bandBefore, bandLimitFor, limitFor, bandBy, crossed}
+use Rattle.paper.specs.Limits.{bond, inward, bondLimitOf, shifted, growing, narrower, bandBefore, bandLimitFor, limitFor, bandBy, crossed}
 use Rattle.paper.specs.Verdicts.{isDone, Check, firstOf}
 use Rattle.paper.specs.Desk.{noMoves}
 use Rattle.paper.specs.Terms.{termOf}
@@ -163,15 +162,15 @@ abbrev pub twentyBefore : BondScale → Side → (p k : ℕ) → Quotient
 twentyBefore scale side p k = growing k (scale .repo) (shifted side p offBook)
 
 abbrev pub twentyLimit : BondScale → Side → (p k : ℕ) → ℕ
-twentyLimit scale side p k = bondLimitOf HalfUp scale (twentyBefore scale side p k)
+twentyLimit scale side p k = bondLimitOf (inward side) scale (twentyBefore scale side p k)
 
--- off the book: "the narrower" of the band limit and that of the 20 per cent
+-- off the book, rounded inward too (W-209): "the narrower" of the band limit and that of the 20 per cent
 abbrev pub offBefore : BondScale → Statics → Side → (p s1 c k : ℕ) → ℤ → Quotient
 offBefore scale st side p s1 c k repo =
     narrower side (bandBefore (bond scale) st side p s1 c k repo) (twentyBefore scale side p k)
 
 abbrev pub offLimit : BondScale → Statics → Side → (p s1 c k : ℕ) → ℤ → ℕ
-offLimit scale st side p s1 c k repo = limitFor HalfUp (bond scale) st (offBefore scale st side p s1 c k repo)
+offLimit scale st side p s1 c k repo = limitFor (inward side) (bond scale) st (offBefore scale st side p s1 c k repo)
 
 -- the limits of a term, from P and S_1: a bond's do not move
 unfoldable pub limitsFrom : BondScale → Statics → (p s1 : ℕ) → Term → BondLimits
@@ -184,7 +183,7 @@ limitsFrom scale st p s1 x =
 unfoldable pub limitsOf : Bond → List Flow → Term → BondLimits
 limitsOf b flows x = limitsFrom (scaleAt b flows (x .k)) (bondStatics b) (grossOf b) (firstRate b) x
 
--- "The band is crossed by the same test": on the book or off it
+-- "The band is crossed by the same test": on the book or off it, where it may cross alone (W-209)
 unfoldable pub isCrossed : BondLimits → Bool
 isCrossed x = crossed (x .band) || crossed (x .off)
 

@@ -6,7 +6,7 @@ use mathlib.Core.List.{List, [], _∷_, _++_}
 use Prim.Native.Nat.{ℕ, _+_}
 use lib.IntN.{ℤ, pos, negsuc}
 use Rattle.paper.specs.Lists.{every, some, those}
-use Rattle.paper.specs.Roundings.{up, halfUp, toGrid, lesserOf, greaterOf, grown, apart}
+use Rattle.paper.specs.Roundings.{down, up, halfUp, toGrid, lesserOf, greaterOf, grown, apart}
 use Rattle.paper.specs.Least.{first, least, leastRoot, leastTimes, leastMultiple}
 use Rattle.paper.specs.Ranges.{unsigned, isPrice, isRate, gridOf, isGridPrice, validStatics, staticsOf, tentativeTop, validTentative, partsFrom, rowAt, rowsOf, wholeRows, validRow, validRows, rowOf, validTerm, validDay, lastDay, isLimit, validLimits, validNear, validNearSeconds, sound, validSlots}
 use Rattle.paper.specs.Evaluation.{rowPrice, rowWeight, roublesOf, traded, weights, worth, mean, closeOf, bestBid, lesserAsk, bestAsk, median, between, evaluationOf, dayRows, isCrossedRow, hasCrossedRow, rowFits, evaluationFits}
@@ -25,19 +25,19 @@ use Rattle.paper_reasons.specs.Words.{priceNumber, weightNumber, replace
 -- replacement, the tentative rate and the three levels of a day that is accepted; the number and the fault of one that
 -- is refused. It opens every definition that it computes with, so that a table opens this one alone
 said : (admitted day rows : List ℤ) → List ℕ
-unfolding unsigned isPrice isRate gridOf isGridPrice validStatics staticsOf tentativeTop validTentative partsFrom rowAt rowsOf
-    wholeRows validRow validRows rowOf validTerm validDay lastDay isLimit validLimits validNear validNearSeconds sound
-    validSlots rowPrice rowWeight roublesOf traded weights worth mean closeOf bestBid lesserAsk bestAsk median between
-    evaluationOf dayRows isCrossedRow hasCrossedRow rowFits evaluationFits moveFrom moveOf weightOf weighted replacement
-    replaces volatilityOf leastStep tentativeRate tentativeRateByMove tentativeRateOf tentativeAfter
-    meetsRequirement daysOf minimumOf covers levelRate modelled unmodelled figuresOf moveTooLarge limitOf shifted
-    rangeLimit rangeOf farthest spread monitored narrower bandLimit bandOf crossed isDone firstOf blank priceOn moveOn
-    figuresOn evaluated place stands found known evaluateChecks every some those up halfUp toGrid lesserOf greaterOf
-    grown apart first least leastRoot leastTimes leastMultiple givenFrom standingFrom nearFrom limitsFrom termFrom
-    recordFrom dayFrom isTraded priceSetBy priceReason weightIs weightReason replacementWas replacementReason
-    tentativeDid tentativeReason requirementStep levelSetBy levelReason rowsAtFault outOfRange isSame faultsOf faultOf
-    replacedOn stepOn levelOn reasonsOf whyOf whyOn priceNumber weightNumber replacementNumber tentativeNumber
-    levelNumber faultNumbers
+unfolding unsigned isPrice isRate gridOf isGridPrice validStatics staticsOf tentativeTop validTentative partsFrom
+    rowAt rowsOf wholeRows validRow validRows rowOf validTerm validDay lastDay isLimit validLimits validNear
+    validNearSeconds sound validSlots rowPrice rowWeight roublesOf traded weights worth mean closeOf bestBid lesserAsk
+    bestAsk median between evaluationOf dayRows isCrossedRow hasCrossedRow rowFits evaluationFits moveFrom moveOf
+    weightOf weighted replacement replaces volatilityOf leastStep tentativeRate tentativeRateByMove tentativeRateOf
+    tentativeAfter meetsRequirement daysOf minimumOf covers levelRate modelled unmodelled figuresOf moveTooLarge
+    limitOf shifted rangeLimit rangeOf farthest spread monitored narrower bandLimit bandOf crossed isDone firstOf
+    blank priceOn moveOn figuresOn evaluated place stands found known evaluateChecks every some those down up halfUp
+    toGrid lesserOf greaterOf grown apart first least leastRoot leastTimes leastMultiple givenFrom standingFrom
+    nearFrom limitsFrom termFrom recordFrom dayFrom isTraded priceSetBy priceReason weightIs weightReason
+    replacementWas replacementReason tentativeDid tentativeReason requirementStep levelSetBy levelReason rowsAtFault
+    outOfRange isSame faultsOf faultOf replacedOn stepOn levelOn reasonsOf whyOf whyOn priceNumber weightNumber
+    replacementNumber tentativeNumber levelNumber faultNumbers
 said admitted day rows =
     let y : Why = whyOn (recordFrom admitted ∷ []) 7 (dayFrom day) rows in
     numberOf (y .verdict)

@@ -206,7 +206,7 @@ const TOPS: [(Ranged, End); 2] = [
 pub enum Aim {
     /// A number at an end of its range.
     End(Ranged, End),
-    /// A rounding at a tie, or at the last part below it.
+    /// A rounding at or beside the place where it turns.
     Rounding(rounding::Place, rounding::Beside),
     /// The n-th of the other edges.
     Other(usize),
@@ -225,7 +225,8 @@ impl Aim {
         let places = rounding::Place::all();
         let roundings = places
             .iter()
-            .flat_map(|place| rounding::Beside::ALL.map(|beside| Aim::Rounding(*place, beside)));
+            .flat_map(|place| place.besides().iter().map(|beside| (*place, *beside)))
+            .map(|(place, beside)| Aim::Rounding(place, beside));
         let others = (0..OTHERS.len()).map(Aim::Other);
         roundings.chain(others).chain(ends).collect()
     }
@@ -293,7 +294,7 @@ fn is_past_top(seen: &SeenBond, step: i64) -> bool {
 /// The limit that a reach gives in a term, rounded.
 fn limit(bond: &Bond, worked: &Worked, term: usize, reach: Reach, side: Side) -> i64 {
     let term = &bond.terms[term];
-    crate::bond::rounded(bond.reached(worked.rates[0], term, reach, side))
+    crate::bond::rounded(bond.reached(worked.rates[0], term, reach, side), side)
 }
 
 /// How far the monitored limit is above the furthest one, both rounded.
@@ -366,6 +367,9 @@ const OTHERS: &[Edge<SeenBond>] = &[
     }),
     ("6 before 17", |b| b.is_6() && b.values[2] == 0),
     ("face value 1", |b| b.accepts(|bond, _| bond.face == 1)),
+    ("face value 1, a limit above 0", |b| {
+        b.accepts_term(|bond, _, _, limits| bond.face == 1 && limits.lower > 0)
+    }),
     ("face value at its most", |b| {
         b.accepts(|bond, _| bond.face == *BOND_MONEY.end())
     }),
@@ -393,6 +397,27 @@ const OTHERS: &[Edge<SeenBond>] = &[
     ("9: the second term alone", |b| b.crossed_places() == [1]),
     ("9: the third term alone", |b| b.crossed_places() == [2]),
     ("9: every term", |b| b.crossed_places() == [0, 1, 2]),
+    ("9: off the book alone", |b| {
+        let crossed = b.crossed();
+        let is_off = |limits: &Limits| limits.lower <= limits.upper;
+        !crossed.is_empty() && crossed.iter().all(is_off)
+    }),
+    ("9: off the book alone, by one", |b| {
+        let crossed = b.crossed();
+        let is_off = |limits: &Limits| limits.lower <= limits.upper;
+        let by_one = |limits: &Limits| limits.off_lower == limits.off_upper + 1;
+        crossed.iter().all(is_off) && crossed.iter().any(by_one)
+    }),
+    ("9: on the book too, and half up would not cross", |b| {
+        let bond = match &b.bond {
+            Some(bond) if !b.crossed_places().is_empty() => bond,
+            _ => return false,
+        };
+        let s_1 = bond.rates()[0];
+        let terms = bond.terms.iter().zip(b.crossed());
+        let mut on_book = terms.filter(|(_, limits)| limits.lower > limits.upper);
+        on_book.any(|(term, _)| !rounding::is_crossed_half_up(bond, s_1, term))
+    }),
     ("9: crossed by one", |b| {
         let crossed = b.crossed();
         let mut crossed = crossed.iter().filter(|limits| limits.are_crossed());
@@ -521,14 +546,14 @@ const OTHERS: &[Edge<SeenBond>] = &[
         b.accepts_term(|bond, worked, place, limits| {
             let term = &bond.terms[place];
             let made = bond.reached(worked.rates[0], term, Reach::Furthest, Side::Lower);
-            limits.lower == 0 && limits.upper > 0 && made.half_up() < 0
+            limits.lower == 0 && limits.upper > 0 && made.numerator < 0
         })
     }),
     ("an upper limit below 0 before it is 0", |b| {
         b.accepts_term(|bond, worked, place, limits| {
             let term = &bond.terms[place];
             let made = bond.reached(worked.rates[0], term, Reach::Furthest, Side::Upper);
-            limits.upper == 0 && made.half_up() < 0
+            limits.upper == 0 && made.numerator < 0
         })
     }),
     ("a lower limit of 1", |b| {

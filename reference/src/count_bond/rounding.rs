@@ -1,9 +1,11 @@
-//! The roundings of a bond: at a tie, and at the last part below it, where the
-//! answer shows which way it went.
+//! The roundings of a bond at and beside the place where they turn, where the
+//! answer shows which way they went.
 
 use crate::bond::{rounded, Bond, Limits, Reach, Worked};
 use crate::exact::{wide, Quotient};
+use crate::limits::narrower;
 use crate::record::Side;
+use crate::security::RepoTerm;
 use crate::units::ONE_IN_HUNDREDTHS_OF_A_PER_CENT;
 
 use super::SeenBond;
@@ -21,11 +23,19 @@ pub enum Place {
     Limit(Reach, Side),
 }
 
-/// Where a quotient stands to the tie between two whole numbers.
+/// Where a quotient stands, in parts of its least denominator.
 #[derive(Clone, Copy, Debug, PartialEq, Eq)]
 pub enum Beside {
+    /// At the tie between two whole numbers.
     Tie,
+    /// The last part below a tie.
     Below,
+    /// At a whole number.
+    Whole,
+    /// A part above a whole number.
+    PartAbove,
+    /// A part below a whole number.
+    PartBelow,
 }
 
 const REACHES: [Reach; 3] = [Reach::Monitored, Reach::Furthest, Reach::OffBook];
@@ -57,18 +67,30 @@ impl Place {
     }
 }
 
-impl Beside {
-    pub const ALL: [Beside; 2] = [Beside::Tie, Beside::Below];
+impl Place {
+    /// Where the rounding turns: half up at a tie, and a limit, which goes into
+    /// the band, at a whole number.
+    pub fn besides(self) -> &'static [Beside] {
+        match self {
+            Place::Limit(..) => &[Beside::Whole, Beside::PartAbove, Beside::PartBelow],
+            _ => &[Beside::Tie, Beside::Below],
+        }
+    }
+}
 
+impl Beside {
     pub fn name(self) -> &'static str {
         match self {
             Beside::Tie => "a tie",
             Beside::Below => "the last part below a tie",
+            Beside::Whole => "a whole number",
+            Beside::PartAbove => "a part above a whole number",
+            Beside::PartBelow => "a part below a whole number",
         }
     }
 
-    /// Whether a quotient stands so, in parts of its least denominator.
-    fn is(self, quotient: Quotient) -> bool {
+    /// Whether a quotient stands so.
+    pub fn is(self, quotient: Quotient) -> bool {
         let Quotient {
             numerator,
             denominator,
@@ -77,14 +99,20 @@ impl Beside {
         match self {
             Beside::Tie => past == 0,
             Beside::Below => denominator > 1 && (past == -1 || past == -2),
+            Beside::Whole => denominator == 1,
+            Beside::PartAbove => denominator > 2 && numerator.rem_euclid(denominator) == 1,
+            Beside::PartBelow => {
+                denominator > 2 && numerator.rem_euclid(denominator) == denominator - 1
+            }
         }
     }
 
-    /// Where the rounded figure would go if the rounding went the other way.
+    /// Where a figure that is half up would go if the rounding went the other
+    /// way.
     fn other_way(self) -> i128 {
         match self {
             Beside::Tie => -1,
-            Beside::Below => 1,
+            _ => 1,
         }
     }
 }
@@ -142,7 +170,7 @@ fn is_grown(
     if !beside.is(grown) || !is_shown(bond, worked, term, (reach, side)) {
         return false;
     }
-    let limit = |grown: i128| rounded(bond.exact_limit(grown, repo_term.days));
+    let limit = |grown: i128| rounded(bond.exact_limit(grown, repo_term.days), side);
     limit(grown.half_up()) != limit(grown.half_up() + beside.other_way())
 }
 
@@ -154,7 +182,7 @@ fn is_limit(
     beside: Beside,
 ) -> bool {
     let limit = bond.reached(worked.rates[0], &bond.terms[term], reach, side);
-    beside.is(limit) && is_shown(bond, worked, term, (reach, side)) && limit.half_up() > 0
+    beside.is(limit) && is_shown(bond, worked, term, (reach, side)) && rounded(limit, side) > 0
 }
 
 /// Whether the limit of a reach is the one that the answer has: none of the
@@ -181,7 +209,7 @@ fn is_shown(bond: &Bond, worked: &Worked, term: usize, (reach, side): (Reach, Si
 fn with_left(bond: &Bond, term: usize, s_1: i64, more: i128) -> Limits {
     let k = bond.terms[term].days;
     made_with(bond, term, s_1, |grown| {
-        rounded(bond.exact_limit(grown.half_up() + more, k))
+        bond.exact_limit(grown.half_up() + more, k)
     })
 }
 
@@ -190,10 +218,10 @@ pub fn with_grown_exact(bond: &Bond, term: usize, s_1: i64) -> Limits {
     let paid = bond.carry(bond.terms[term].days) + wide(bond.accrued);
     made_with(bond, term, s_1, |grown| {
         let left = grown.numerator - paid * grown.denominator;
-        rounded(Quotient {
+        Quotient {
             numerator: left * ONE_IN_HUNDREDTHS_OF_A_PER_CENT,
             denominator: grown.denominator * wide(bond.face),
-        })
+        }
     })
 }
 
@@ -209,10 +237,10 @@ pub fn with_carry_at_once(bond: &Bond, term: usize, s_1: i64) -> Limits {
 }
 
 /// The limits of a term, each made from the exact grown price.
-fn made_with(bond: &Bond, term: usize, s_1: i64, made: impl Fn(Quotient) -> i64) -> Limits {
+fn made_with(bond: &Bond, term: usize, s_1: i64, made: impl Fn(Quotient) -> Quotient) -> Limits {
     let term = &bond.terms[term];
     let side = |side: Side| {
-        let reached = |reach: Reach| made(bond.grown(s_1, term, reach, side));
+        let reached = |reach: Reach| rounded(made(bond.grown(s_1, term, reach, side)), side);
         let narrower = |one: i64, other: i64| match side {
             Side::Upper => one.min(other),
             Side::Lower => one.max(other),
@@ -233,4 +261,22 @@ fn made_with(bond: &Bond, term: usize, s_1: i64, made: impl Fn(Quotient) -> i64)
         off_lower,
         off_upper,
     }
+}
+
+/// Whether a term's limits on the book would be crossed if they were half up.
+pub fn is_crossed_half_up(bond: &Bond, s_1: i64, term: &RepoTerm) -> bool {
+    let limit = |side: Side| {
+        let furthest = bond.reached(s_1, term, Reach::Furthest, side);
+        let limit = if bond.statics.monitoring {
+            narrower(
+                furthest,
+                bond.reached(s_1, term, Reach::Monitored, side),
+                side,
+            )
+        } else {
+            furthest
+        };
+        limit.half_up().max(0)
+    };
+    limit(Side::Lower) > limit(Side::Upper)
 }

@@ -170,10 +170,11 @@ fn attempt(random: &mut Random, aim: Aim) -> Vec<i64> {
 /// A bond of any kind: plain, narrow, tiny, with one number changed, or with
 /// flows of any length.
 fn any(random: &mut Random) -> Vec<i64> {
-    let bond = match random.below(6) {
+    let bond = match random.below(8) {
         0 => narrow_band(random),
         1 => small(random),
         2 => beside_20_per_cent(random),
+        3 => cheap(random),
         _ => bond(random),
     };
     let mut numbers = bond.numbers();
@@ -248,6 +249,24 @@ fn small(random: &mut Random) -> Bond {
     for flow in &mut bond.flows {
         flow.amount = random.between(0, 9);
     }
+    bond
+}
+
+/// A bond of so little net value that a hundredth of a per cent of its face is
+/// much of it, with a flow that leaves a part of it.
+fn cheap(random: &mut Random) -> Bond {
+    let mut bond = bond(random);
+    bond.net = random.between(1, 5);
+    bond.face = 10_000 * random.between(1, 200);
+    bond.accrued = 0;
+    let p = bond.gross();
+    bond.statics.pch_max = random.pick(&[10_000, 10_000, 5_000, 2_000, 100]);
+    bond.statics.pcl_max = random.pick(&[10_000, 10_000, 5_000, 2_000, 100]);
+    bond.statics.monitoring = random.chance(30);
+    bond.flows = vec![Flow {
+        day: random.pick(&[1, 1, 2]),
+        amount: random.between(0, p),
+    }];
     bond
 }
 
@@ -379,7 +398,7 @@ fn fit(numbers: &mut [i64], place: usize, value: i64) {
     }
 }
 
-/// A bond that rounds at a tie, or at the last part below one.
+/// A bond that rounds at or beside the place where it turns.
 fn rounding(random: &mut Random, place: Place, beside: Beside) -> Bond {
     let mut bond = bond(random);
     match place {
@@ -400,16 +419,18 @@ fn rounding(random: &mut Random, place: Place, beside: Beside) -> Bond {
 }
 
 /// A whole number x up to `most` whose product with the factor stands so.
-fn solved(random: &mut Random, factor: Quotient, beside: Beside, most: i64) -> Option<i64> {
+pub fn solved(random: &mut Random, factor: Quotient, beside: Beside, most: i64) -> Option<i64> {
     let Quotient {
         numerator,
         denominator,
     } = reduced(factor);
     let wanted = match beside {
+        Beside::Whole => 0,
         Beside::Tie if denominator % 2 == 0 => denominator / 2,
-        Beside::Tie => return None,
         Beside::Below if denominator > 2 => (denominator - 1) / 2,
-        Beside::Below => return None,
+        Beside::PartAbove if denominator > 2 => 1,
+        Beside::PartBelow if denominator > 2 => denominator - 1,
+        _ => return None,
     };
     let least = (wanted * inverse(numerator, denominator)).rem_euclid(denominator);
     let room = (wide(most) - least) / denominator;

@@ -16,7 +16,7 @@ use crate::units::{Range, ID, MOVE_COUNT};
 use crate::words::{hear, number_or_pair, Word, EVENING_LINE_MAX};
 
 use super::edges::{edge, neighbours, unsettled_count, Ends};
-use super::{crossed, day, edges, quote, replacement, share, spelling, tentative, why};
+use super::{crossed, day, edges, inward, quote, replacement, share, spelling, tentative, why};
 
 /// Securities that the author works on at a time.
 const FOCUS: usize = 24;
@@ -55,13 +55,14 @@ const ALSO_REFUSED: [Refusal; 8] = [
     Refusal::BandCrossed,
 ];
 /// After how many of a hundred lines each spell comes.
-const SPELLS: [(usize, Spell); 6] = [
+const SPELLS: [(usize, Spell); 7] = [
     (8, Spell::Falls),
     (11, Spell::Replaced),
     (14, Spell::Stays),
     (17, Spell::Reasoned),
     (20, Spell::Widest),
     (22, Spell::Uncapped),
+    (24, Spell::Inward),
 ];
 
 /// A long spell of one security.
@@ -78,6 +79,8 @@ enum Spell {
     Replaced,
     /// Many, each made for the reasons of a level.
     Reasoned,
+    /// Many, each with a band limit beside a multiple of the grid.
+    Inward,
     /// Many, each with a tentative rate beside S_max, above it or at its top.
     Uncapped,
 }
@@ -438,6 +441,7 @@ impl Author {
             Spell::Widest => self.widest_spell(id),
             Spell::Replaced => (0..REPLACED).for_each(|turn| self.replaced_security(turn)),
             Spell::Uncapped => (0..tentative::SHARES).for_each(|turn| self.uncapped_security(turn)),
+            Spell::Inward => (0..inward::SHARES).for_each(|turn| self.inward_security(turn)),
             Spell::Reasoned => (0..why::SHARES).for_each(|turn| self.reasoned_security(turn)),
         }
     }
@@ -485,6 +489,18 @@ impl Author {
         self.say("admit", &made.refused);
         self.say("admit", &made.admission);
         self.quiet_days(id, 1..=made.days);
+    }
+
+    /// A security made for its band limits, its first day, and a move of each
+    /// side.
+    fn inward_security(&mut self, turn: usize) {
+        let id = self.new_id();
+        if let Some(made) = inward::made(&mut self.random, id, turn) {
+            self.say("admit", &made.admission);
+            self.say("evaluate", &made.day);
+            self.say("move", &[id, 0]);
+            self.say("move", &[id, 1]);
+        }
     }
 
     fn quiet_days(&mut self, id: i64, numbers: Range) {

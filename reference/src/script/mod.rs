@@ -8,6 +8,7 @@ pub mod evening;
 pub mod exchange;
 pub mod gateway;
 mod interest;
+mod inward;
 mod quote;
 mod replacement;
 mod share;

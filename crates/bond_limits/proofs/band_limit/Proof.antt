@@ -4,8 +4,7 @@ use mathlib.Core.Path.{_≡_, sym, _∙_}
 use native.Mathlib.Omega.{arith}
 use mir.Facts.{toZ-ofZ}
 use borrow.Author.Needs.{needs}
-use Rattle.paper.specs.declared.Way.the-variants.{HalfUp}
-use Rattle.paper.specs.Limits.{bond, bondLimitOf, growing, farthest}
+use Rattle.paper.specs.Limits.{bond, inward, bondLimitOf, growing, farthest}
 use Rattle.paper.proofs.LimitSizes.{LimitStatics, limit-statics}
 use Rattle.paper.proofs.KindLaws.{band-monitored, band-unmonitored}
 use Rattle.limits.specs.LimitLaws.{farthest-high}
@@ -33,7 +32,7 @@ shifted-limit-requires c κs =
 -- the farthest limit
 far : (c : tie.After-shifted-limit)
     → c .shifted-limit .result
-    ≡ bondLimitOf HalfUp (c .before .before .args .b)
+    ≡ bondLimitOf (inward (c .before .before .args .side)) (c .before .before .args .b)
     (growing (c .before .before .args .k) (c .before .before .args .b .repo)
     (farthest (c .before .before .args .st) (c .before .before .args .side) (c .before .before .args .p .units)))
 far c =

@@ -9,14 +9,14 @@ add-less c = search needs
 less-requires : tie.Need-less-requires
 less-requires c κs = search needs
 
-mul-half-up : tie.Need-mul-half-up
-mul-half-up c = search needs
+mul-rounded : tie.Need-mul-rounded
+mul-rounded c = search needs
 
-half-up-requires : tie.Need-half-up-requires
-half-up-requires c κs = search needs
+rounded-requires : tie.Need-rounded-requires
+rounded-requires c κs = search needs
 
 returns : tie.Need-returns
-returns c = rw (c .half-up .ensures, c .before .less .ensures)
+returns c = rw (c .rounded .ensures, c .before .less .ensures)
 
 pub in-per-cent-spec : {M : Type 1} → statement M
-in-per-cent-spec = tie.close (tie.spec add-less less-requires mul-half-up half-up-requires returns)
+in-per-cent-spec = tie.close (tie.spec add-less less-requires mul-rounded rounded-requires returns)

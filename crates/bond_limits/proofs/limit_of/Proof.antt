@@ -3,7 +3,6 @@ use mathlib.Core.Path.{_≡_, sym, _∙_}
 use native.Mathlib.Omega.{arith}
 use mir.Facts.{toZ-ofZ}
 use borrow.Author.Needs.{needs}
-use Rattle.paper.specs.declared.Way.the-variants.{HalfUp}
 use Rattle.paper.specs.Limits.{grownPrice, growing}
 use Rattle.paper.proofs.KindLaws.{bond-limit-is}
 use Rattle.bond_limits.proofs.Sizes.{grown-high}
@@ -28,7 +27,7 @@ in-per-cent-requires c κs =
 returns : tie.Need-returns
 returns c =
     let s = c .before .before in
-    rw (c .in-per-cent .ensures, grown (c .before)) (sym (bond-limit-is HalfUp (s .args .b) _ (s .pre .0 .face)))
+    rw (c .in-per-cent .ensures, grown (c .before)) (sym (bond-limit-is (s .args .way) (s .args .b) _ (s .pre .0 .face)))
 
 pub limit-of-spec : {M : Type 1} → statement M
 limit-of-spec = tie.close (tie.spec grown-price-requires in-per-cent-requires returns)

@@ -13,12 +13,15 @@ use Rattle.bond_limits.proofs.monitored_limit.Tie as tie
 statics : (s : tie.Start) → LimitStatics (s .args .st)
 statics s = limit-statics (s .args .st) (s .pre .1 .0)
 
+inward-requires : tie.Need-inward-requires
+inward-requires c κs = search needs
+
 spread-requires : tie.Need-spread-requires
 spread-requires c κs = search needs
 
 mul-limit-of : tie.Need-mul-limit-of
 mul-limit-of c =
-    let s = c .before .before in
+    let s = c .before .before .before in
     let a = s .args in
     let r = s .pre .1 .1 in
     rw (c .before .spread .ensures)
@@ -29,11 +32,11 @@ mul-limit-of c =
     ))
 
 mul-limit-of-2 : tie.Need-mul-limit-of-2
-mul-limit-of-2 c = omega (arith, statics (c .before .before .before))
+mul-limit-of-2 c = omega (arith, statics (c .before .before .before .before))
 
 limit-of-requires : tie.Need-limit-of-requires
 limit-of-requires c κs =
-    let s = c .before .before .before in
+    let s = c .before .before .before .before in
     let a = s .args in (
       s .pre .0,
       rw (c .before .before .spread .ensures, toZ-ofZ (s .fits .repo))
@@ -43,8 +46,8 @@ limit-of-requires c κs =
 returns : tie.Need-returns
 unfolding monitored
 returns c =
-    let s = c .before .before .before .before in
-    rw (c .limit-of .ensures, toZ-ofZ (s .fits .repo), c .before .before .before .spread .ensures)
+    let s = c .before .before .before .before .before in
+    rw (c .limit-of .ensures, c .before .before .before .before .inward .ensures, toZ-ofZ (s .fits .repo), c .before .before .before .spread .ensures)
 
 pub monitored-limit-spec : {M : Type 1} → statement M
-monitored-limit-spec = tie.close (tie.spec spread-requires mul-limit-of mul-limit-of-2 limit-of-requires returns)
+monitored-limit-spec = tie.close (tie.spec inward-requires spread-requires mul-limit-of mul-limit-of-2 limit-of-requires returns)

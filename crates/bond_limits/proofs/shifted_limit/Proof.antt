@@ -7,12 +7,17 @@ use Rattle.bond_limits.proofs.Sizes.{rate-bits, shifted-grows}
 use Rattle.bond_limits.proofs.shifted_limit.Statement.{statement}
 use Rattle.bond_limits.proofs.shifted_limit.Tie as tie
 
+inward-requires : tie.Need-inward-requires
+inward-requires c κs = search needs
+
 shifted-requires : tie.Need-shifted-requires
-shifted-requires c κs = record { price = c .pre .1 .0 .price; rate-high = c .pre .1 .1 }
+shifted-requires c κs =
+    let s = c .before in
+    record { price = s .pre .1 .0 .price; rate-high = s .pre .1 .1 }
 
 limit-of-requires : tie.Need-limit-of-requires
 limit-of-requires c κs =
-    let s = c .before .before in
+    let s = c .before .before .before in
     let a = s .args in
     let repo = s .pre .0 .repo in (
       s .pre .0,
@@ -22,14 +27,15 @@ limit-of-requires c κs =
 
 returns : tie.Need-returns
 returns c =
-    let s = c .before .before .before in
+    let s = c .before .before .before .before in
     let a = s .args in
     rw (
       c .limit-of .ensures,
+      c .before .before .before .inward .ensures,
       rate-bits (a .b .repo) (s .pre .0 .repo),
       c .before .before .shifted .ensures,
       shifted-den (a .side) (a .p .units) (a .rate .bp),
     )
 
 pub shifted-limit-spec : {M : Type 1} → statement M
-shifted-limit-spec = tie.close (tie.spec shifted-requires limit-of-requires returns)
+shifted-limit-spec = tie.close (tie.spec inward-requires shifted-requires limit-of-requires returns)

@@ -35,6 +35,9 @@ days-high c =
 grow-requires : tie.Need-grow-requires
 grow-requires c κs = search needs
 
+inward-requires : tie.Need-inward-requires
+inward-requires c κs = search needs
+
 grid-of-requires : tie.Need-grid-of-requires
 grid-of-requires c κs = search needs
 
@@ -42,17 +45,17 @@ spread-requires : tie.Need-spread-requires
 spread-requires c κs = search needs
 
 mul-product-to-grid : tie.Need-mul-product-to-grid
-mul-product-to-grid c = omega (arith, statics (c .before .before .before .before))
+mul-product-to-grid c = omega (arith, statics (c .before .before .before .before .before))
 
 mul-product-to-grid-2 : tie.Need-mul-product-to-grid-2
-mul-product-to-grid-2 c = omega (arith, statics (c .before .before .before .before))
+mul-product-to-grid-2 c = omega (arith, statics (c .before .before .before .before .before))
 
 product-to-grid-requires : tie.Need-product-to-grid-requires
 product-to-grid-requires c κs =
-    let s = c .before .before .before .before in
+    let s = c .before .before .before .before .before in
     let a = s .args in
     let b = s .pre .1 in
-    let d = days-high (c .before .before .before) in
+    let d = days-high (c .before .before .before .before) in
     let most = spread-high (a .st) (a .side) (a .s1 .bp) (a .c) (statics s) (b .rate-high) (b .moves-high) in
     rw (c .before .before .grid-of .ensures, c .before .spread .ensures)
     (omega (arith, grid-range (a .st .lot), most, statics s, d))
@@ -61,13 +64,15 @@ returns : tie.Need-returns
 unfolding limitOf monitored
 returns c =
     let m = c .before .before in
-    rw (c .product-to-grid .ensures, m .before .grid-of .ensures, m .spread .ensures, days (m .before .before))
+    let i = m .before .before in
+    rw (c .product-to-grid .ensures, i .inward .ensures, m .before .grid-of .ensures, m .spread .ensures, days (i .before))
 
 pub monitored-limit-spec : {M : Type 1} → statement M
 monitored-limit-spec =
     tie.close
     (tie.spec
     grow-requires
+    inward-requires
     grid-of-requires
     spread-requires
     mul-product-to-grid

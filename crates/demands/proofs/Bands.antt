@@ -1,0 +1,57 @@
+-- W-209: after every sequence of calls on a fresh table no band is crossed. An evaluation is refused where one would be
+-- (9), a quote leaves the bands, and a move takes its side outward. Assumes nothing.
+use mathlib.Core.Path.{_≡_, refl, sym, _∙_, ap}
+use mathlib.Core.Bool.{Bool, true, false, not}
+use mathlib.Core.List.{List, [], _∷_}
+use Prim.Native.Nat.{ℕ, _<_}
+use native.Mathlib.Omega.{arith}
+use lib.IntN.{ℤ}
+use lib.ListN.{getD}
+use Rattle.paper.specs.declared.Record.{Record}
+use Rattle.paper.specs.declared.Admission.{Admission}
+use Rattle.paper.specs.declared.Day.{Day}
+use Rattle.paper.specs.declared.Side.{Side}
+use Rattle.paper.specs.declared.Limits.{Limits}
+use Rattle.paper.specs.declared.Moves.{Moves}
+use Rattle.paper.specs.Ranges.{staticsOf, noLimits, termAt, rateAt}
+use Rattle.paper.specs.Limits.{bandOf, crossed}
+use Rattle.paper.specs.Verdicts.{NoneApplies, none, also}
+use Rattle.paper.specs.Desk.{admitted, evaluated, quoted, moved, evaluateChecks}
+use Rattle.paper.specs.History.{Event, evaluatedOn, quotedAt, movedBy}
+use Rattle.paper.specs.Sequences.{carries, LastDay, noDay, onDay, lastEvaluated, movesOf, bandNow}
+use Rattle.paper.proofs.Logic.{each-of-three, not-true, not-false}
+use Rattle.paper.proofs.LimitSizes.{LimitStatics, limit-statics}
+use Rattle.paper.proofs.Bands.{moved-not-crossed}
+use Rattle.demands.proofs.Histories.{after, recordOf, eventChecks, Lawful}
+use Rattle.demands.proofs.Sequences.{three-at, one-more-noted, lawful-figures, lawful-statics}
+
+-- 9 does not apply to an accepted evaluation
+evaluated-uncrossed : (there : Bool) (r : Record) (d : Day) (rows : List ℤ) → NoneApplies (evaluateChecks there r d rows)
+    → (k : ℕ) → k < 3 → crossed (getD (evaluated r d rows .bands) k noLimits) ≡ false
+unfolding evaluateChecks
+evaluated-uncrossed there r d rows (also n (also v (also x (also y (also p (also m (also c none))))))) k l =
+    not-true _ (each-of-three (λ k. not (crossed (getD (evaluated r d rows .bands) k noLimits))) (not-false _ c) k l)
+
+-- a move keeps what the definitions give uncrossed
+now-uncrossed : (a : Admission) (es : List Event) (side : Side) (x : LastDay) (k : ℕ)
+    → LimitStatics (staticsOf (a .given))
+    → crossed (bandNow a es x k) ≡ false → crossed (bandNow a (movedBy side ∷ es) x k) ≡ false
+unfolding bandNow carries
+now-uncrossed a es side noDay k s e = e
+now-uncrossed a es side (onDay d) k s e =
+    let p1 : ℕ = carries a es .p1 in
+    let s1 : ℕ = rateAt (carries a es .rates) 0 in
+    rw (one-more-noted side es)
+    (moved-not-crossed (staticsOf (a .given)) side p1 s1 (movesOf es) (termAt (d .terms) k) s e)
+
+pub lawful-uncrossed : (a : Admission) (es : List Event) → Lawful a es → (k : ℕ) → k < 3
+    → crossed (getD (recordOf a es .bands) k noLimits) ≡ false
+unfolding recordOf after eventChecks admitted quoted crossed lastEvaluated
+lawful-uncrossed a [] v k l = ap crossed (three-at (λ i. noLimits) noLimits k l)
+lawful-uncrossed a (evaluatedOn d rows ∷ es) (v, n) k l = evaluated-uncrossed true (recordOf a es) d rows n k l
+lawful-uncrossed a (quotedAt q ∷ es) (v, n) k l = lawful-uncrossed a es v k l
+lawful-uncrossed a (movedBy side ∷ es) (v, n) k l =
+    let before : crossed (bandNow a es (lastEvaluated es) k) ≡ false =
+    sym (ap crossed (lawful-figures a es v .bands k l)) ∙ lawful-uncrossed a es v k l in
+    ap crossed (lawful-figures a (movedBy side ∷ es) (v, n) .bands k l)
+    ∙ now-uncrossed a es side (lastEvaluated es) k (limit-statics _ (lawful-statics a es v)) before
