@@ -14,26 +14,26 @@ use Rattle.paper.specs.Lists.{pick}
 use Rattle.paper.specs.Numbers.{oneInTenThousandths}
 
 -- "PcH - bid" at the top, "ask - PcL" at the bottom
-unfoldable pub distance : Side → Limits → ℕ → ℤ
+unfoldable pub distance : Side → Limits → (price : ℕ) → ℤ
 distance Upper x price = subℕ (x .upper) price
 distance Lower x price = subℕ price (x .lower)
 
 -- "Near the top: bid present and PcH - bid strictly less than w·(PcH - PcL). Near the bottom likewise with ask - PcL."
-unfoldable pub isNear : Side → ℕ → Limits → ℕ → Bool
+unfoldable pub isNear : Side → (w : ℕ) → Limits → (price : ℕ) → Bool
 isNear side w x price =
     ltb 0 price && ltZ (pos oneInTenThousandths *ℤ distance side x price) (pos w *ℤ subℕ (x .upper) (x .lower))
 
 -- "A near side keeps the second at which it became near"
-unfoldable pub keptSince : Near → ℕ → Near
+unfoldable pub keptSince : Near → (second : ℕ) → Near
 keptSince Not second = Since second
 keptSince (Since earlier) second = Since earlier
 
 -- "a quote that isn't near clears it"
-unfoldable pub nearAfter : Bool → Near → ℕ → Near
+unfoldable pub nearAfter : (near : Bool) → Near → (second : ℕ) → Near
 nearAfter near old second = pick near (keptSince old second) Not
 
 -- "near, and at least u seconds since that second"
-unfoldable pub alert : ℕ → Near → ℕ → Bool
+unfoldable pub alert : (u : ℕ) → Near → (second : ℕ) → Bool
 alert u Not second = false
 alert u (Since since) second = leb (since + u) second
 

@@ -65,7 +65,7 @@ unfoldable pub admissionZ : Admission
 admissionZ = record { id = 7; day = 3; p1 = 1000000; p2 = 1000000; s = 20000; tentative = 600; given = givenWith 10 }
 
 -- a row in roubles today, before other rows
-pub roublesRow : (close bid ask volume : ℕ) → List ℤ → List ℤ
+pub roublesRow : (close bid ask volume : ℕ) → (rest : List ℤ) → List ℤ
 roublesRow close bid ask volume rest = pos 0 ∷ pos 10000 ∷ pos 0 ∷ pos close ∷ pos bid ∷ pos ask ∷ pos volume ∷ rest
 
 -- "repo bands 0; b, m 0", but for the m and the terms given
@@ -83,13 +83,13 @@ unfolding admissionZ givenWith roublesRow dayWith staticsOf admitted minimumOf e
     rangeOf rangeLimit limitOf shifted bandOf bandLimit farthest narrower lesserOf greaterOf monitored spread
 after m x = evaluated (admitted admissionZ) (dayWith m x) (roublesRow 1030000 0 0 5 [])
 
-upperAt : Record → ℕ → ℕ
+upperAt : Record → (i : ℕ) → ℕ
 upperAt r i = getD (r .ranges) i noLimits .upper
 
-lowerAt : Record → ℕ → ℕ
+lowerAt : Record → (i : ℕ) → ℕ
 lowerAt r i = getD (r .ranges) i noLimits .lower
 
-bandAt : Record → ℕ → Limits
+bandAt : Record → (k : ℕ) → Limits
 bandAt r k = getD (r .bands) k noLimits
 
 yesNo : Bool → ℕ
@@ -105,7 +105,7 @@ rows11 : (close : ℕ) → List ℤ
 rows11 close = roublesRow close 1010000 0 1 (roublesRow 0 0 1000000 0 [])
 
 -- the number that an evaluation of rows gets, once Z is admitted
-dayAnswer : List ℤ → ℕ
+dayAnswer : (rows : List ℤ) → ℕ
 unfolding after step judged firstOf isDone checksOf evaluateChecks acceptedOf saying showing known found stands place
     validSlots sound validStatics isGridPrice isPrice isRate validTentative isLimit validLimits validNear
     validNearSeconds lastDay validDay validTerm validRows wholeRows validRow every some isCrossedRow hasCrossedRow
@@ -201,7 +201,7 @@ fine : Statics
 fine = staticsOf (givenWith 11)
 
 -- the number that an admission gets from a fresh table of so many slots
-admitAnswer : ℕ → ℕ
+admitAnswer : (slots : ℕ) → ℕ
 admitAnswer slots = numberOf (step (admit admissionZ) (replicate slots blank) .answer .verdict)
 
 -- case 1's security on a second day, back at 1,000,000

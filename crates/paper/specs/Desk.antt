@@ -94,7 +94,7 @@ unfoldable pub showing : Record → Answer
 showing r = record { verdict = Done; rec = r; top = false; bottom = false }
 
 -- "a quote its two alerts"
-unfoldable pub alerting : Bool → Bool → Answer
+unfoldable pub alerting : (top bottom : Bool) → Answer
 alerting top bottom = record { verdict = Done; rec = blank; top = top; bottom = bottom }
 
 -- ---- what each call writes
@@ -121,18 +121,18 @@ admitted a =
     }
 
 -- the evaluation P of a day, the move r to it, and the figures of 7.1
-unfoldable pub priceOn : Record → List ℤ → ℕ
+unfoldable pub priceOn : Record → (rows : List ℤ) → ℕ
 priceOn r rows = evaluationOf (gridOf (r .statics .lot)) (r .p1 .units) (dayRows rows)
 
-unfoldable pub moveOn : Record → List ℤ → ℕ
+unfoldable pub moveOn : Record → (rows : List ℤ) → ℕ
 moveOn r rows = moveOf (r .p1 .units) (r .p2 .units) (priceOn r rows)
 
-unfoldable pub figuresOn : Record → Day → List ℤ → Figures
+unfoldable pub figuresOn : Record → Day → (rows : List ℤ) → Figures
 figuresOn r d rows =
     figuresOf (r .statics) (d .b) (d .m) (rateAt (r .rates) 0) (moveOn r rows) (r .s) (r .tentative)
 
 -- "An evaluation clears both counts, all near seconds and the last quote second (to 0)." The security is then live
-unfoldable pub evaluated : Record → Day → List ℤ → Record
+unfoldable pub evaluated : Record → Day → (rows : List ℤ) → Record
 evaluated r d rows =
     let f : Figures = figuresOn r d rows in
     let p : ℕ = priceOn r rows in
@@ -217,18 +217,18 @@ moved r side =
 
 -- the place of the first slot with an id, or the number of slots: "Where an id stands in several slots the first alone
 -- counts"
-unfoldable pub place : List Record → ℕ → ℕ
+unfoldable pub place : List Record → (id : ℕ) → ℕ
 place [] id = 0
 place (r ∷ t) id = pick (eqb (r .id) id) 0 (suc (place t id))
 
-unfoldable pub stands : List Record → ℕ → Bool
+unfoldable pub stands : List Record → (id : ℕ) → Bool
 stands t id = ltb (place t id) (length t)
 
-unfoldable pub found : List Record → ℕ → Record
+unfoldable pub found : List Record → (id : ℕ) → Record
 found t id = getD t (place t id) blank
 
 -- 1: "no such id (0 included)", a damaged record, a table of no slots or over 512
-unfoldable pub known : List Record → ℕ → Bool
+unfoldable pub known : List Record → (id : ℕ) → Bool
 known t id = validSlots (length t) && stands t id && sound (found t id)
 
 -- ---- the calls: "First that applies"
@@ -257,7 +257,7 @@ admitChecks t a =
     ∷ []
 
 -- "evaluate 1, 6, 5, 7, 8, 9"; W-205: "16, after 6 and before 5 in an evaluation"
-unfoldable pub evaluateChecks : Bool → Record → Day → List ℤ → List Check
+unfoldable pub evaluateChecks : (there : Bool) → Record → Day → (rows : List ℤ) → List Check
 evaluateChecks there r d rows =
     record { verdict = NoSuchId; applies = not there }
     ∷ record { verdict = OutOfRange; applies = not (validDay d rows) }
@@ -277,7 +277,7 @@ evaluateChecks there r d rows =
     ∷ []
 
 -- "quote 1, 6, 10, 11, 13"
-unfoldable pub quoteChecks : Bool → Record → Quote → List Check
+unfoldable pub quoteChecks : (there : Bool) → Record → Quote → List Check
 quoteChecks there r q =
     record { verdict = NoSuchId; applies = not there }
     ∷ record { verdict = OutOfRange; applies = not (validQuote q) }
@@ -287,7 +287,7 @@ quoteChecks there r q =
     ∷ []
 
 -- "move 1, 6, 10, 11, 12"
-unfoldable pub moveChecks : Bool → Record → ℕ → List Check
+unfoldable pub moveChecks : (there : Bool) → Record → (side : ℕ) → List Check
 moveChecks there r side =
     record { verdict = NoSuchId; applies = not there }
     ∷ record { verdict = OutOfRange; applies = not (validSide side) }
@@ -297,7 +297,7 @@ moveChecks there r side =
     ∷ []
 
 -- "read 1"
-unfoldable pub readChecks : Bool → List Check
+unfoldable pub readChecks : (there : Bool) → List Check
 readChecks there = record { verdict = NoSuchId; applies = not there } ∷ []
 
 unfoldable pub checksOf : Call → List Record → List Check

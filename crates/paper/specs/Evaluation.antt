@@ -13,7 +13,7 @@ use Rattle.paper.specs.Ranges.{isPrice, rowsOf, rowOf}
 
 -- (a) "Each present row price is price·Rc/10^4 · 3,650,000/(3,650,000 + T·rate), rounded once, half up, to a unit." A
 -- missing price, 0, stays 0
-unfoldable pub rowPrice : Row → ℕ → ℕ
+unfoldable pub rowPrice : Row → (price : ℕ) → ℕ
 rowPrice row price = halfUp (price * row .central * yearInDayBp) (rouble * grown yearInDayBp (row .t) (row .repo))
 
 -- (b) "Row volume in roubles, half up to a thousand": the row's weight
@@ -44,11 +44,11 @@ worth [] = 0
 worth (r ∷ rs) = r .weight * r .close + worth rs
 
 -- (c) "The weighted close, half up to a unit"
-unfoldable pub mean : ℕ → List Roubles → ℕ
+unfoldable pub mean : (previous : ℕ) → List Roubles → ℕ
 mean previous [] = previous
 mean previous (r ∷ rs) = halfUp (worth (r ∷ rs)) (weights (r ∷ rs))
 
-unfoldable pub closeOf : ℕ → List Roubles → ℕ
+unfoldable pub closeOf : (previous : ℕ) → List Roubles → ℕ
 closeOf previous rs = mean previous (traded rs)
 
 -- "BID is the greatest row bid, ASK the least row ask"; 0 where there is none
@@ -56,7 +56,7 @@ unfoldable pub bestBid : List Roubles → ℕ
 bestBid [] = 0
 bestBid (r ∷ rs) = max (r .bid) (bestBid rs)
 
-unfoldable pub lesserAsk : ℕ → ℕ → ℕ
+unfoldable pub lesserAsk : (a b : ℕ) → ℕ
 lesserAsk zero b = b
 lesserAsk (suc a) zero = suc a
 lesserAsk (suc a) (suc b) = min (suc a) (suc b)
@@ -65,25 +65,25 @@ unfoldable pub bestAsk : List Roubles → ℕ
 bestAsk [] = 0
 bestAsk (r ∷ rs) = lesserAsk (r .ask) (bestAsk rs)
 
-unfoldable pub median : ℕ → ℕ → ℕ → ℕ
+unfoldable pub median : (a b c : ℕ) → ℕ
 median a b c = max (min a b) (min (max a b) c)
 
 -- "Both present: the median of BID, close, ASK, also when BID > ASK. One side: min(close, ASK) or max(close, BID).
 -- None: the close."
-unfoldable pub between : ℕ → ℕ → ℕ → ℕ
+unfoldable pub between : (bid close ask : ℕ) → ℕ
 between zero close zero = close
 between zero close (suc ask) = min close (suc ask)
 between (suc bid) close zero = max close (suc bid)
 between (suc bid) close (suc ask) = median (suc bid) close (suc ask)
 
 -- (d) "The evaluation, half up to the grid"
-unfoldable pub evaluationOf : ℕ → ℕ → List Row → ℕ
+unfoldable pub evaluationOf : (g previous : ℕ) → List Row → ℕ
 evaluationOf g previous rows =
     let rs : List Roubles = map roublesOf rows in
     toGrid g (between (bestBid rs) (closeOf previous rs) (bestAsk rs)) 1
 
 -- the day's rows, taken from the numbers lent
-unfoldable pub dayRows : List ℤ → List Row
+unfoldable pub dayRows : (numbers : List ℤ) → List Row
 dayRows numbers = map rowOf (rowsOf numbers)
 
 -- ---- 16: document 02, W-205, "A crossed row is a typing error."
@@ -99,7 +99,7 @@ hasCrossedRow rows = some isCrossedRow rows
 
 -- ---- 7: "a rounded row price, or the evaluation, is 0 or above 10^10; a rounded row volume is above 10^8"
 
-abbrev pub priceFits : ℕ → ℕ → Bool
+abbrev pub priceFits : (given rounded : ℕ) → Bool
 priceFits given rounded = eqb given 0 || isPrice rounded
 
 unfoldable pub rowFits : Row → Bool
@@ -109,5 +109,5 @@ rowFits row =
     && priceFits (row .ask) (rowPrice row (row .ask))
     && leb (rowWeight row) volumeMost
 
-unfoldable pub evaluationFits : ℕ → ℕ → List Row → Bool
+unfoldable pub evaluationFits : (g previous : ℕ) → List Row → Bool
 evaluationFits g previous rows = every rowFits rows && isPrice (evaluationOf g previous rows)

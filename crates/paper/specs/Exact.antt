@@ -21,13 +21,13 @@ pub data Choice : Type 0 where
 -- ---- the exact square
 
 -- the greater of |P - P1|/P1 and |P - P2|/P2 in millionths, not rounded
-unfoldable pub exactMove : ℕ → ℕ → ℕ → Quotient
+unfoldable pub exactMove : (p1 p2 p : ℕ) → Quotient
 exactMove p1 p2 p =
     greaterOf (record { num = apart p p2 * oneInMillionths; den = p2 })
     (record { num = apart p p1 * oneInMillionths; den = p1 })
 
 -- (10,000 - a)/10,000 of the old square and a/10,000 of the move's; or the square of 100·r/q
-unfoldable pub nextSquare : ℕ → Quotient → Quotient → Choice → Quotient
+unfoldable pub nextSquare : (q : ℕ) → (x r : Quotient) → Choice → Quotient
 nextSquare q x r (byWeight a) =
     record {
       num = (oneInTenThousandths - a) * x .num * (r .den * r .den) + a * (r .num * r .num) * x .den;

@@ -69,14 +69,14 @@ givenOf x =
     }
 
 -- "gateway 4 (a static out of range), 6 (another value out of range or off the grid)"
-unfoldable pub gatewayChecks : GivenStatics → Bool → List Check
+unfoldable pub gatewayChecks : GivenStatics → (inRange : Bool) → List Check
 gatewayChecks g inRange =
     record { verdict = AdmissionOutOfRange; applies = not (validGiven g) }
     ∷ record { verdict = OutOfRange; applies = not inRange }
     ∷ []
 
 -- "one figure, or minus the refusal number"
-unfoldable pub gatewayAnswer : Verdict → ℕ → ℤ
+unfoldable pub gatewayAnswer : Verdict → (figure : ℕ) → ℤ
 gatewayAnswer v figure = pick (isDone v) (pos figure) (negℤ (pos (numberOf v)))
 
 -- "a level's rate from tentative, m and level"; with isEWMA no it is the minimum
@@ -101,7 +101,7 @@ rangeCall g p rate side =
     (rangeLimit (staticsOf g) (sideOf side) p rate)
 
 -- "a band limit from P, S_1, k, that side's repo rate, c and side"
-unfoldable pub bandInRange : Statics → (p s1 k : ℕ) → ℤ → (c side : ℕ) → Bool
+unfoldable pub bandInRange : Statics → (p s1 k : ℕ) → (repo : ℤ) → (c side : ℕ) → Bool
 bandInRange st p s1 k repo c side =
     isGridPrice (gridOf (st .lot)) p
     && isRate s1
@@ -110,7 +110,7 @@ bandInRange st p s1 k repo c side =
     && leb c movesMost
     && validSide side
 
-unfoldable pub bandCall : GivenStatics → (p s1 k : ℕ) → ℤ → (c side : ℕ) → ℤ
+unfoldable pub bandCall : GivenStatics → (p s1 k : ℕ) → (repo : ℤ) → (c side : ℕ) → ℤ
 bandCall g p s1 k repo c side =
     gatewayAnswer (firstOf (gatewayChecks g (bandInRange (staticsOf g) p s1 k repo c side)))
     (bandLimit (staticsOf g) (sideOf side) p s1 c k repo)

@@ -58,33 +58,33 @@ limitFor way share st x = limitOf way st x
 limitFor way (bond b) st x = bondLimitOf way b x
 
 -- P·(1 + rate) above, P·(1 - rate) below
-unfoldable pub shifted : Side → ℕ → ℕ → Quotient
+unfoldable pub shifted : Side → (p rate : ℕ) → Quotient
 shifted Upper p rate = record { num = p * (oneInBp + rate); den = oneInBp }
 shifted Lower p rate = record { num = p * (oneInBp - rate); den = oneInBp }
 
 -- ---- ranges
 
 -- "Range of level L: P·(1 ± S_L)."; W-209: "ranges .. keep half up"
-unfoldable pub rangeLimit : Statics → Side → ℕ → ℕ → ℕ
+unfoldable pub rangeLimit : Statics → Side → (p rate : ℕ) → ℕ
 rangeLimit st side p rate = limitOf HalfUp st (shifted side p rate)
 
-unfoldable pub rangeOf : Statics → ℕ → ℕ → Limits
+unfoldable pub rangeOf : Statics → (p rate : ℕ) → Limits
 rangeOf st p rate = record { lower = rangeLimit st Lower p rate; upper = rangeLimit st Upper p rate }
 
 -- ---- bands
 
 -- "Monitoring no: P·(1 + PcH_max) and P·(1 - PcL_max)."
-unfoldable pub farthest : Statics → Side → ℕ → Quotient
+unfoldable pub farthest : Statics → Side → (p : ℕ) → Quotient
 farthest st Upper p = shifted Upper p (st .pchmax)
 farthest st Lower p = shifted Lower p (st .pclmax)
 
 -- x_pr ± e·S_1, in millionths, with "e = 1 + 2·c·shift, shift as a fraction"; below, "max(0, ..)"
-unfoldable pub spread : Statics → Side → ℕ → ℕ → ℕ
+unfoldable pub spread : Statics → Side → (s1 c : ℕ) → ℕ
 spread st Upper s1 c = oneInBp * st .xpr + (oneInHundredths + 2 * c * st .shift) * s1
 spread st Lower s1 c = oneInBp * st .xpr - (oneInHundredths + 2 * c * st .shift) * s1
 
 -- "(1 + R·k/36500)", R in per cent: x grown over k days at a repo rate
-abbrev pub growing : (k : ℕ) → ℤ → Quotient → Quotient
+abbrev pub growing : (k : ℕ) → (repo : ℤ) → Quotient → Quotient
 growing k repo x = record { num = x .num * grown yearInDayBp k repo; den = x .den * yearInDayBp }
 
 -- a share's farthest limit does not grow; a bond's grows "(1 + REPORate·k/36500)" (11.1)
@@ -93,7 +93,7 @@ farthestFor share st side p k = farthest st side p
 farthestFor (bond b) st side p k = growing k (b .repo) (farthest st side p)
 
 -- "P·(1 + e·S_1/x_pr)·(1 + RRcH·k/36500)" above, "P·max(0, 1 - e·S_1/x_pr)·(1 + RRcL·k/36500)" below
-unfoldable pub monitored : Statics → Side → (p s1 c k : ℕ) → ℤ → Quotient
+unfoldable pub monitored : Statics → Side → (p s1 c k : ℕ) → (repo : ℤ) → Quotient
 monitored st side p s1 c k repo =
     growing k repo (record { num = p * spread st side s1 c; den = oneInBp * st .xpr })
 
@@ -103,22 +103,22 @@ narrower Upper x y = lesserOf x y
 narrower Lower x y = greaterOf x y
 
 -- the same of two limits that are rounded already
-abbrev pub narrowerOf : Side → ℕ → ℕ → ℕ
+abbrev pub narrowerOf : Side → (x y : ℕ) → ℕ
 narrowerOf Upper x y = min x y
 narrowerOf Lower x y = max x y
 
 -- a band limit of either kind, before it is rounded
-abbrev pub bandBefore : Kind → Statics → Side → (p s1 c k : ℕ) → ℤ → Quotient
+abbrev pub bandBefore : Kind → Statics → Side → (p s1 c k : ℕ) → (repo : ℤ) → Quotient
 bandBefore kind st side p s1 c k repo =
     let far : Quotient = farthestFor kind st side p k in
     pick (st .monitoring) (narrower side far (monitored st side p s1 c k repo)) far
 
 -- (g) "once each", and W-209, inward
-abbrev pub bandLimitFor : Kind → Statics → Side → (p s1 c k : ℕ) → ℤ → ℕ
+abbrev pub bandLimitFor : Kind → Statics → Side → (p s1 c k : ℕ) → (repo : ℤ) → ℕ
 bandLimitFor kind st side p s1 c k repo = limitFor (inward side) kind st (bandBefore kind st side p s1 c k repo)
 
 -- of a share
-unfoldable pub bandLimit : Statics → Side → (p s1 c k : ℕ) → ℤ → ℕ
+unfoldable pub bandLimit : Statics → Side → (p s1 c k : ℕ) → (repo : ℤ) → ℕ
 bandLimit st side p s1 c k repo = bandLimitFor share st side p s1 c k repo
 
 -- a term's band, from its limits: "c the moves of that side since the evaluation"
@@ -136,7 +136,7 @@ crossed x = ltb (x .upper) (x .lower)
 -- ---- moves
 
 -- "delta = 2·shift·S_1·P/x_pr"
-unfoldable pub deltaOf : Statics → ℕ → ℕ → ℕ
+unfoldable pub deltaOf : Statics → (p s1 : ℕ) → ℕ
 deltaOf st p s1 = limitOf HalfUp st (record { num = 2 * st .shift * s1 * p; den = oneInBp * st .xpr })
 
 -- "It adds one to c"
@@ -149,7 +149,7 @@ countOf Upper c = c .upper
 countOf Lower c = c .lower
 
 -- "shifts its three range limits by delta, lower ones stopping at 0 (18.4)"
-unfoldable pub rangeMoved : Side → ℕ → Limits → Limits
+unfoldable pub rangeMoved : Side → (delta : ℕ) → Limits → Limits
 rangeMoved Upper delta x = record { lower = x .lower; upper = x .upper + delta }
 rangeMoved Lower delta x = record { lower = x .lower - delta; upper = x .upper }
 

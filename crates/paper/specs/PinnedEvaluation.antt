@@ -24,7 +24,7 @@ use Rattle.paper.specs.PinnedSequence.{numbers}
 -- ---- the evaluation
 
 -- the evaluation to a unit after 700, of rows of seven numbers
-evaluationAt : List ℤ → ℕ
+evaluationAt : (rows : List ℤ) → ℕ
 unfolding numbers
 evaluationAt rows = evaluationOf 1 700 (dayRows rows)
 
@@ -33,7 +33,7 @@ row : (close bid ask volume : ℕ) → List ℤ
 row close bid ask volume = pos 0 ∷ pos 10000 ∷ pos 0 ∷ pos close ∷ pos bid ∷ pos ask ∷ pos volume ∷ []
 
 -- a row with a price of a currency at a central rate, T and a repo rate
-currency : (t central : ℕ) → ℤ → Row
+currency : (t central : ℕ) → (repo : ℤ) → Row
 currency t central repo = record { t = t; central = central; repo = repo; close = 0; bid = 0; ask = 0; volume = 1 }
 
 pub evaluations : List (List ℕ)
@@ -92,7 +92,7 @@ evaluations-are = refl
 -- ---- the rates
 
 -- Z's statics with changes
-staticsBut : List ℤ → Statics
+staticsBut : (numbersOfZ : List ℤ) → Statics
 unfolding staticsOf givenFrom
 staticsBut numbersOfZ = staticsOf (givenFrom numbersOfZ)
 
@@ -187,7 +187,7 @@ unfolding numbers admissionFrom recordFrom zNumbers
 admitted-starts = refl
 
 -- the record that an evaluation of day 4 at a price leaves
-evaluatedAt : List ℤ → ℕ → Record
+evaluatedAt : (numbersOfZ : List ℤ) → (price : ℕ) → Record
 unfolding numbers recordFrom dayFrom closedAt zRecord
 evaluatedAt numbersOfZ price =
     getD (run (evaluate 7 (dayFrom (pos 4 ∷ [])) (closedAt price) ∷ []) (recordFrom numbersOfZ ∷ [])) 0 blank

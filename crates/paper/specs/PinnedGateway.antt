@@ -13,7 +13,7 @@ use Rattle.paper.specs.PinnedSequence.{numbers}
 -- ---- "all statics with each, yes 1, no 0"
 
 -- the statics handed over from a row of numbers in the order of document 01's table
-unfoldable pub gatewayStaticsFrom : List ℤ → GatewayStatics
+unfoldable pub gatewayStaticsFrom : (xs : List ℤ) → GatewayStatics
 gatewayStaticsFrom xs =
     record {
       lot = signed xs 0;
@@ -97,7 +97,7 @@ roundBand : List ℤ
 roundBand = pos 1000000 ∷ pos 0 ∷ pos 0 ∷ pos 0 ∷ pos 0 ∷ pos 0 ∷ []
 
 -- the answers to a call with other numbers at one of its places, one after the other
-triedAt : (answer : List ℤ → ℤ) → (call : List ℤ) → (place : ℕ) → List ℤ → List ℤ
+triedAt : (answer : List ℤ → ℤ) → (call : List ℤ) → (place : ℕ) → (values : List ℤ) → List ℤ
 triedAt answer call place values = map (λ (value : ℤ). answer (call but (place, value))) values
 
 pub levels : List (List ℤ)

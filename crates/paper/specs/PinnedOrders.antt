@@ -39,10 +39,10 @@ unfolding zRecord
 idle = zRecord but (monitoringAt, pos 0) but (secondAt, pos 100) but (lowerMovesAt, pos 50)
 
 -- a damaged record: its age is past every age
-damaged : List ℤ → List ℤ
+damaged : (row : List ℤ) → List ℤ
 damaged row = row but (ageAt, pos 251)
 
-holding : List ℤ → List Record
+holding : (row : List ℤ) → List Record
 unfolding recordFrom
 holding row = recordFrom row ∷ []
 
@@ -56,7 +56,7 @@ unfolding closedAt
 rowTooHigh = closedAt 10000000000 but (centralAt, pos 20000)
 
 -- the row with a bid and an ask
-withPrices : (bid ask : ℕ) → List ℤ → List ℤ
+withPrices : (bid ask : ℕ) → (row : List ℤ) → List ℤ
 withPrices bid ask row = row but (rowBidAt, pos bid) but (rowAskAt, pos ask)
 
 -- the row whose price is too high, with a bid one above its ask
@@ -145,12 +145,12 @@ unfolding zRecord
 plainZ = zRecord but (ewmaAt, pos 0) but (liveAt, pos 1)
 
 -- the number that an evaluation of day 4 answers to a row, with terms of 0
-rowAnswer : List ℤ → List ℤ → List ℕ
+rowAnswer : (row numbersOfRow : List ℤ) → List ℕ
 unfolding numbers holding dayFrom
 rowAnswer row numbersOfRow = numbers (evaluate 7 (dayFrom (pos 4 ∷ pos 2 ∷ [])) numbersOfRow ∷ []) (holding row)
 
 -- the number that an evaluation of day 4 answers to terms of so many days, with RRcL and RRcH alike
-termAnswer : List ℤ → (k repo : ℕ) → List ℕ
+termAnswer : (row : List ℤ) → (k repo : ℕ) → List ℕ
 unfolding numbers holding dayFrom
 termAnswer row k repo =
     numbers (evaluate 7 (dayFrom (pos 4 ∷ pos 0 ∷ pos 0 ∷ pos k ∷ pos repo ∷ pos repo ∷ [])) [] ∷ []) (holding row)

@@ -37,7 +37,7 @@ straddles valid row place (r ∷ rs) =
     ∷ straddles valid row (suc place) rs
 
 -- what is said of so many numbers: valid at the ends, not past them
-unfoldable pub atTheEndsAlone : ℕ → List (List Bool)
+unfoldable pub atTheEndsAlone : (count : ℕ) → List (List Bool)
 atTheEndsAlone count = replicate count (false ∷ true ∷ true ∷ false ∷ [])
 
 -- whether the row is valid with each of these changes
@@ -124,12 +124,12 @@ recordRow : List ℤ
 unfolding admissionRow recordRanges
 recordRow = admissionRow ++ (pos 1 ∷ valuesOf recordRanges)
 
-validAdmissionRow : List ℤ → Bool
+validAdmissionRow : (row : List ℤ) → Bool
 unfolding validAdmission validGiven validStatics staticsOf isGridPrice isPrice gridOf tentativeTop validTentative
     up admissionFrom
 validAdmissionRow row = validAdmission (admissionFrom row)
 
-soundRow : List ℤ → Bool
+soundRow : (row : List ℤ) → Bool
 unfolding sound validStatics isGridPrice isPrice isRate gridOf tentativeTop validTentative up lastDay validTerm
     isLimit validLimits validNear validNearSeconds recordFrom
 soundRow row = sound (recordFrom row)
@@ -262,7 +262,7 @@ validDayRow : (rows day : List ℤ) → Bool
 unfolding validDay validTerm validRows wholeRows every validRow rowsOf partsFrom rowAt dayFrom
 validDayRow rows day = validDay (dayFrom day) rows
 
-validQuoteRow : List ℤ → Bool
+validQuoteRow : (row : List ℤ) → Bool
 unfolding validQuote quoteFrom
 validQuoteRow row = validQuote (quoteFrom row)
 

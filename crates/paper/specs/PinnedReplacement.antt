@@ -15,7 +15,7 @@ use Rattle.paper.specs.PinnedSequence.{numbers}
 
 -- new s, and the tentative rate that a rate of 0 becomes, which is t where t is at least a step; after b holidays, with
 -- the last rate S_1, the move r and the old s, by Z's statics with changes
-carriedBy : List ℤ → (b s1 r s : ℕ) → List ℕ
+carriedBy : (numbersOfZ : List ℤ) → (b s1 r s : ℕ) → List ℕ
 unfolding numbers staticsOf givenFrom zNumbers
 carriedBy numbersOfZ b s1 r s =
     let st : Statics = staticsOf (givenFrom numbersOfZ) in

@@ -51,7 +51,7 @@ unfolding answers
 numbers cs t = map (λ (a : Answer). numberOf (a .verdict)) (answers cs t)
 
 -- a fresh table of so many slots
-unfoldable pub slots : ℕ → List Record
+unfoldable pub slots : (count : ℕ) → List Record
 slots count = replicate count blank
 
 pub slots-fresh : (count : ℕ) → fresh (slots count) ≡ true
@@ -89,7 +89,7 @@ waits =
     ∷ []
 
 -- the answer to a call of a list, by its place
-answerTo : List Call → ℕ → Answer
+answerTo : List Call → (call : ℕ) → Answer
 unfolding answers slots
 answerTo cs call = getD (answers cs (slots 4)) call (saying NoSuchId)
 

@@ -104,7 +104,7 @@ unfolding alerts
 alerts-are = refl
 
 -- whether prices are near a side of a band, with w in ten-thousandths
-nearTo : Side → (w : ℕ) → Limits → List ℕ → List ℕ
+nearTo : Side → (w : ℕ) → Limits → (prices : List ℕ) → List ℕ
 unfolding answers yesNo
 nearTo side w x prices = map (λ (price : ℕ). yesNo (isNear side w x price)) prices
 
@@ -156,7 +156,7 @@ limitsOf r =
     ∷ []
 
 -- the record that a list of calls leaves in a table of one slot
-left : List Call → List ℤ → Record
+left : List Call → (row : List ℤ) → Record
 unfolding answers recordFrom
 left calls row = getD (run calls (recordFrom row ∷ [])) 0 blank
 

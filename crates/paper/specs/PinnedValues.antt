@@ -33,10 +33,10 @@ abbrev pub _but_ : List ℤ → ℕ × ℤ → List ℤ
 xs but change = set xs (change .0) (change .1)
 
 -- the number at a place, and the number without a sign that it is read as
-abbrev pub signed : List ℤ → ℕ → ℤ
+abbrev pub signed : (xs : List ℤ) → (place : ℕ) → ℤ
 signed xs place = getD xs place (pos 0)
 
-abbrev pub plain : List ℤ → ℕ → ℕ
+abbrev pub plain : (xs : List ℤ) → (place : ℕ) → ℕ
 plain xs place = unsigned (signed xs place)
 
 -- ---- the places: the statics in the order of the table, then an admission's numbers, then a record's
@@ -129,7 +129,7 @@ secondAt = 62
 
 -- ---- what the numbers spell
 
-unfoldable pub givenFrom : List ℤ → GivenStatics
+unfoldable pub givenFrom : (xs : List ℤ) → GivenStatics
 unfolding unsigned
 givenFrom xs =
     record {
@@ -157,7 +157,7 @@ givenFrom xs =
       ewma = plain xs ewmaAt;
     }
 
-unfoldable pub admissionFrom : List ℤ → Admission
+unfoldable pub admissionFrom : (xs : List ℤ) → Admission
 unfolding givenFrom
 admissionFrom xs =
     record {
@@ -170,22 +170,22 @@ admissionFrom xs =
       given = givenFrom xs;
     }
 
-unfoldable pub standingFrom : ℕ → ℕ → Standing
+unfoldable pub standingFrom : (live day : ℕ) → Standing
 standingFrom live day = pick (eqb live 1) (Live day) (Admitted day)
 
 unfoldable pub nearFrom : ℕ → Near
 nearFrom zero = Not
 nearFrom (suc second) = Since second
 
-unfoldable pub limitsFrom : List ℤ → ℕ → Limits
+unfoldable pub limitsFrom : (xs : List ℤ) → (place : ℕ) → Limits
 unfolding unsigned
 limitsFrom xs place = record { lower = plain xs place; upper = plain xs (place + 1) }
 
-unfoldable pub termFrom : List ℤ → ℕ → Term
+unfoldable pub termFrom : (xs : List ℤ) → (place : ℕ) → Term
 unfolding unsigned
 termFrom xs place = record { k = plain xs place; low = signed xs (place + 1); high = signed xs (place + 2) }
 
-unfoldable pub recordFrom : List ℤ → Record
+unfoldable pub recordFrom : (xs : List ℤ) → Record
 unfolding givenFrom staticsOf standingFrom nearFrom limitsFrom termFrom
 recordFrom xs =
     record {
@@ -211,12 +211,12 @@ recordFrom xs =
     }
 
 -- a day number, b, m, and three terms
-unfoldable pub dayFrom : List ℤ → Day
+unfoldable pub dayFrom : (xs : List ℤ) → Day
 unfolding termFrom
 dayFrom xs =
     record { day = plain xs 0; b = plain xs 1; m = plain xs 2; terms = three (λ k. termFrom xs (3 + 3 * k)) }
 
-unfoldable pub quoteFrom : List ℤ → Quote
+unfoldable pub quoteFrom : (xs : List ℤ) → Quote
 unfolding unsigned
 quoteFrom xs = record { second = plain xs 0; term = plain xs 1; bid = plain xs 2; ask = plain xs 3 }
 
@@ -239,7 +239,7 @@ abbrev pub volumeAt : ℕ
 volumeAt = 6
 
 -- a row in roubles today that closes at a price, with no bid and no ask
-unfoldable pub closedAt : ℕ → List ℤ
+unfoldable pub closedAt : (close : ℕ) → List ℤ
 closedAt close = pos 0 ∷ pos rouble ∷ pos 0 ∷ pos close ∷ pos 0 ∷ pos 0 ∷ pos 5 ∷ []
 
 -- ---- "Statics Z", "Earlier prices 1,000,000 unless given; s 20,000", tentative 600, id 7, last day 3

@@ -37,10 +37,10 @@ use Rattle.paper.specs.Numbers.{priceLeast, priceMost, rateMost, volatil
 use Rattle.paper.specs.Roundings.{up}
 
 -- "low..high"
-abbrev pub within : ℕ → ℕ → ℕ → Bool
+abbrev pub within : (low high x : ℕ) → Bool
 within low high x = leb low x && leb x high
 
-abbrev pub withinZ : ℤ → ℤ → ℤ → Bool
+abbrev pub withinZ : (low high x : ℤ) → Bool
 withinZ low high x = leZ low x && leZ x high
 
 -- a signed number where the paper's range begins at 0 or above: one below zero is out of every range, and so is read as
@@ -52,29 +52,29 @@ unsigned (negsuc n) = pastEvery
 -- ---- prices, rates and limits
 
 -- "Price: ten-thousandth of a rouble, 1 to 10^10"
-unfoldable pub isPrice : ℕ → Bool
+unfoldable pub isPrice : (p : ℕ) → Bool
 isPrice p = within priceLeast priceMost p
 
-unfoldable pub priceMade : ℕ → MadePrice
+unfoldable pub priceMade : (units : ℕ) → MadePrice
 priceMade units = pick (isPrice units) (made-price.Made (record { units = units })) made-price.OutOfRange
 
 -- "Rate: basis point (bp), 10,000 = 100 per cent"
-unfoldable pub isRate : ℕ → Bool
+unfoldable pub isRate : (bp : ℕ) → Bool
 isRate bp = leb bp rateMost
 
-unfoldable pub rateMade : ℕ → MadeRate
+unfoldable pub rateMade : (bp : ℕ) → MadeRate
 rateMade bp = pick (isRate bp) (made-rate.Made (record { bp = bp })) made-rate.OutOfRange
 
 -- "limits .. 0..2·10^12 + 2·10^10": the range of a limit, which lies on the grid besides (`isLimit`)
-unfoldable pub limitMade : ℕ → MadeLimit
+unfoldable pub limitMade : (units : ℕ) → MadeLimit
 limitMade units = pick (leb units limitMost) (made-limit.Made (record { units = units })) made-limit.OutOfRange
 
 -- "Grid (10.1): ceiling(log10 lot) + 2 decimals. So g = 100 units for lot 1, 10 for 2..10, 1 for 11..100."
-unfoldable pub gridOf : ℕ → ℕ
+unfoldable pub gridOf : (lot : ℕ) → ℕ
 gridOf lot = pick (leb lot 1) 100 (pick (leb lot 10) 10 1)
 
 -- "on the grid, in range"
-unfoldable pub isGridPrice : ℕ → ℕ → Bool
+unfoldable pub isGridPrice : (g p : ℕ) → Bool
 isGridPrice g p = isPrice p && eqb (p % g) 0
 
 -- ---- statics
@@ -193,7 +193,7 @@ pub record LentRow : Type 0 where
   pub ask : ℤ
   pub volume : ℤ
 
-unfoldable pub rowAt : List ℤ → ℕ → LentRow
+unfoldable pub rowAt : (numbers : List ℤ) → (at : ℕ) → LentRow
 rowAt numbers at =
     record {
       t = getD numbers at (pos 0);
@@ -205,15 +205,15 @@ rowAt numbers at =
       volume = getD numbers (at + 6) (pos 0);
     }
 
-unfoldable pub rowsOf : List ℤ → List LentRow
+unfoldable pub rowsOf : (numbers : List ℤ) → List LentRow
 rowsOf numbers = partsFrom rowAt rowNumbers numbers 0 (length numbers / rowNumbers)
 
 -- "slice length not a multiple of 7 or over 112" is refused
-unfoldable pub wholeRows : List ℤ → Bool
+unfoldable pub wholeRows : (numbers : List ℤ) → Bool
 wholeRows numbers = eqb (length numbers % rowNumbers) 0 && leb (length numbers) allNumbersMost
 
 -- "Volume above 0 with close 0 is out of range."
-abbrev pub closeForVolume : ℤ → ℤ → Bool
+abbrev pub closeForVolume : (volume close : ℤ) → Bool
 closeForVolume volume close = leZ volume (pos 0) || leZ (pos 1) close
 
 -- "A row: T 0..30; central rate 1..10^7 ten-thousandths; repo rate -9,999..9,999 bp; close, bid, ask 0..10^10; volume
@@ -229,7 +229,7 @@ validRow row =
     && withinZ (pos 0) (pos volumeMost) (row .volume)
     && closeForVolume (row .volume) (row .close)
 
-unfoldable pub validRows : List ℤ → Bool
+unfoldable pub validRows : (numbers : List ℤ) → Bool
 validRows numbers = wholeRows numbers && every validRow (rowsOf numbers)
 
 -- the row that seven numbers in range are
@@ -253,7 +253,7 @@ abbrev pub noTerm : Term
 noTerm = record { k = 0; low = pos 0; high = pos 0 }
 
 -- the term at a place
-abbrev pub termAt : List Term → ℕ → Term
+abbrev pub termAt : List Term → (k : ℕ) → Term
 termAt terms k = getD terms k noTerm
 
 -- "A day gives a day number; .. b 0..30; m 0..10; and three terms"
@@ -265,7 +265,7 @@ validDayNumbers d =
     && allThree (λ k. validTerm (termAt (d .terms) k))
 
 -- and "rows"
-unfoldable pub validDay : Day → List ℤ → Bool
+unfoldable pub validDay : Day → (rows : List ℤ) → Bool
 validDay d rows = validDayNumbers d && validRows rows
 
 -- ---- a quote and a move
@@ -275,10 +275,10 @@ unfoldable pub validQuote : Quote → Bool
 validQuote q = leb (q .second) secondLast && leb (q .term) termLast && leb (q .bid) quoteMost && leb (q .ask) quoteMost
 
 -- "A move names a side, 0 upper or 1 lower."
-unfoldable pub validSide : ℕ → Bool
+unfoldable pub validSide : (side : ℕ) → Bool
 validSide side = leb side 1
 
-unfoldable pub sideOf : ℕ → Side
+unfoldable pub sideOf : (side : ℕ) → Side
 sideOf side = pick (eqb side 0) Upper Lower
 
 -- ---- a record
@@ -307,10 +307,10 @@ abbrev pub notNear : NearSeconds
 notNear = record { top = Not; bottom = Not }
 
 -- "limits on the grid 0..2·10^12 + 2·10^10"
-unfoldable pub isLimit : ℕ → ℕ → Bool
+unfoldable pub isLimit : (g x : ℕ) → Bool
 isLimit g x = leb x limitMost && eqb (x % g) 0
 
-unfoldable pub validLimits : ℕ → Limits → Bool
+unfoldable pub validLimits : (g : ℕ) → Limits → Bool
 validLimits g x = isLimit g (x .lower) && isLimit g (x .upper)
 
 unfoldable pub validNear : Near → Bool
@@ -344,5 +344,5 @@ sound r =
     && leb (r .second) secondLast
 
 -- "1 to 512 slots"
-unfoldable pub validSlots : ℕ → Bool
+unfoldable pub validSlots : (count : ℕ) → Bool
 validSlots count = within 1 slotsMost count

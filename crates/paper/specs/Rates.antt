@@ -20,11 +20,11 @@ use Rattle.paper.specs.Least.{leastRoot, leastTimes, leastMultiple}
 -- ---- the move and the volatility
 
 -- |P - P1|/P1, rounded by (e) up to a millionth
-unfoldable pub moveFrom : ℕ → ℕ → ℕ
+unfoldable pub moveFrom : (earlier p : ℕ) → ℕ
 moveFrom earlier p = up (apart p earlier * oneInMillionths) earlier
 
 -- "r is the greater of |P - P1|/P1 and |P - P2|/P2 over the two earlier evaluations, rounded by (e)."
-unfoldable pub moveOf : ℕ → ℕ → ℕ → ℕ
+unfoldable pub moveOf : (p1 p2 p : ℕ) → ℕ
 moveOf p1 p2 p = max (moveFrom p1 p) (moveFrom p2 p)
 
 -- the weights and the multiplier of a share
@@ -38,15 +38,15 @@ pub record Weighing (m : Model) : Type 0 where
   pub adown : m .adown ≤ oneInTenThousandths
 
 -- "a is 0 when b > 1; else a_up when r > s, a_down otherwise."
-unfoldable pub weightOf : Model → ℕ → ℕ → ℕ → ℕ
+unfoldable pub weightOf : Model → (b r s : ℕ) → ℕ
 weightOf m b r s = pick (ltb 1 b) 0 (pick (ltb s r) (m .aup) (m .adown))
 
 -- "New s is the least whole x with 10,000·x² ≥ (10,000 - a)·s² + a·r²."
-unfoldable pub weighted : ℕ → ℕ → ℕ → ℕ
+unfoldable pub weighted : (a s r : ℕ) → ℕ
 weighted a s r = leastRoot oneInTenThousandths ((oneInTenThousandths - a) * (s * s) + a * (r * r))
 
 -- "the least y with y·q ≥ 100·r"
-unfoldable pub replacement : ℕ → ℕ → ℕ
+unfoldable pub replacement : (q r : ℕ) → ℕ
 replacement q r = leastTimes q (oneInHundredths * r)
 
 -- "When b ≤ 1 and r > 100·S_1 (last rate), also take the least y ..; s is the greater, and on a tie x is the one
@@ -84,7 +84,7 @@ tentativeRateOf st replaced r s = pick replaced (tentativeRateByMove st r) (tent
 
 -- "If t ≥ tentative + h, tentative becomes t. Else if t ≤ tentative - h and age + 1 ≥ n, it falls by one h. Else it
 -- stays. Age becomes 0 on a change, else one more, held at 250."
-unfoldable pub tentativeAfter : ℕ → ℕ → ℕ → Tentative → Tentative
+unfoldable pub tentativeAfter : (h wait t : ℕ) → Tentative → Tentative
 tentativeAfter h wait t old =
     pick (leb (old .bp + h) t) (record { bp = t; age = 0 })
     (pick (leb (t + h) (old .bp) && leb wait (old .age + 1)) (record { bp = old .bp - h; age = 0 })
@@ -94,25 +94,25 @@ tentativeAfter h wait t old =
 
 -- "v ≥ sqrt(rh_L/rh_1)·(tentative·sqrt((rh_1 + m)/rh_1) + liq)": with A = v²·rh_1² - rh_L·tentative²·(rh_1 + m) -
 -- rh_L·rh_1·liq², "it holds when A ≥ 0 and A² ≥ 4·rh_L²·tentative²·liq²·rh_1·(rh_1 + m)"
-unfoldable pub meetsRequirement : ℕ → ℕ → ℕ → ℕ → ℕ → ℕ → Bool
+unfoldable pub meetsRequirement : (rh1 rh liq m tentative v : ℕ) → Bool
 meetsRequirement rh1 rh liq m tentative v =
     let A : ℤ = subℕ (v * v * (rh1 * rh1)) (rh * (tentative * tentative) * (rh1 + m) + rh * rh1 * (liq * liq)) in
     leZ (pos 0) A && leZ (pos (4 * (rh * rh) * (tentative * tentative) * (liq * liq) * rh1 * (rh1 + m))) (A *ℤ A)
 
 -- rh_L and S_L_min of the levels 1, 2, 3
-unfoldable pub daysOf : Statics → ℕ → ℕ
+unfoldable pub daysOf : Statics → (level : ℕ) → ℕ
 daysOf st level = pick (eqb level 1) (st .rh1) (pick (eqb level 2) (st .rh2) (st .rh3))
 
-unfoldable pub minimumOf : Statics → ℕ → ℕ
+unfoldable pub minimumOf : Statics → (level : ℕ) → ℕ
 minimumOf st level = pick (eqb level 1) (st .min1) (pick (eqb level 2) (st .min2) (st .min3))
 
 -- whether a rate v covers the requirement of a level
-unfoldable pub covers : Statics → ℕ → ℕ → ℕ → ℕ → Bool
+unfoldable pub covers : Statics → (level m tentative v : ℕ) → Bool
 covers st level m tentative v = meetsRequirement (st .rh1) (daysOf st level) (st .liq) m tentative v
 
 -- "Rate of level L is S_max if the requirement exceeds it, else the least multiple v of h, v ≥ S_L_min, with v ≥ .."
 -- the requirement. W-208: "Rates stay held at S_max"
-unfoldable pub levelRate : Statics → ℕ → ℕ → ℕ → ℕ
+unfoldable pub levelRate : Statics → (level m tentative : ℕ) → ℕ
 levelRate st level m tentative =
     pick (covers st level m tentative (st .smax))
     (leastMultiple (st .h) (st .smax / st .h) (λ v. leb (minimumOf st level) v && covers st level m tentative v))
@@ -149,7 +149,7 @@ unfoldable pub figuresByVolatility : Statics → (m s : ℕ) → Tentative → F
 figuresByVolatility st m s old = ifModelled st (ratedBy st m (tentativeRate st s) s old) s old
 
 -- 8: "isEWMA yes and r above 1,000,000"
-unfoldable pub moveTooLarge : Statics → ℕ → Bool
+unfoldable pub moveTooLarge : Statics → (r : ℕ) → Bool
 moveTooLarge st r = st .ewma && ltb volatilityMost r
 
 -- ---- what the rate of a level is, in demand 2's words

@@ -17,15 +17,15 @@ pub record Quotient : Type 0 where
 -- ---- the ways
 
 -- W-209, "Round the upper limit down": n/d rounded down
-unfoldable pub down : ℕ → ℕ → ℕ
+unfoldable pub down : (n d : ℕ) → ℕ
 down n d = n / d
 
 -- (a), (b), (c) "Half up is to nearest, ties up"
-unfoldable pub halfUp : ℕ → ℕ → ℕ
+unfoldable pub halfUp : (n d : ℕ) → ℕ
 halfUp n d = (2 * n + d) / (2 * d)
 
 -- (e), (f) "up": n/d rounded up
-unfoldable pub up : ℕ → ℕ → ℕ
+unfoldable pub up : (n d : ℕ) → ℕ
 up n d = (n + (d - 1)) / d
 
 -- ---- the rule: n/d rounded that way, to a unit and to a multiple of g
@@ -39,20 +39,20 @@ abbrev pub roundedTo : Way → (g n d : ℕ) → ℕ
 roundedTo way g n d = rounded way n (d * g) * g
 
 -- (d), (g) "half up to the grid": n/d to the nearest multiple of g, ties up
-unfoldable pub toGrid : ℕ → ℕ → ℕ → ℕ
+unfoldable pub toGrid : (g n d : ℕ) → ℕ
 toGrid g n d = roundedTo HalfUp g n d
 
 -- ---- what it is
 
 -- how far above n/d a number may stand that is n/d rounded that way, in halves of 1/d: nowhere, half a unit, less than
 -- a unit
-abbrev pub above : Way → ℕ → ℕ
+abbrev pub above : Way → (d : ℕ) → ℕ
 above Down d = 0
 above HalfUp d = d
 above Up d = 2 * d - 1
 
 -- and below which distance from n/d it stands under it: less than a unit, less than half a unit, nowhere
-abbrev pub below : Way → ℕ → ℕ
+abbrev pub below : Way → (d : ℕ) → ℕ
 below Down d = 2 * d
 below HalfUp d = d
 below Up d = 1
@@ -72,7 +72,7 @@ pub record RoundedUp (r : ℕ) (x : Quotient) : Type 0 where
 -- ---- numbers below zero
 
 -- to nearest, ties down: how the size of a number below zero is rounded where the number is rounded half up
-unfoldable pub halfDown : ℕ → ℕ → ℕ
+unfoldable pub halfDown : (n d : ℕ) → ℕ
 halfDown n d = (2 * n + (d - 1)) / (2 * d)
 
 -- how the size of a number below zero is rounded where the number is rounded that way
@@ -82,12 +82,12 @@ mirrored HalfUp n d = halfDown n d
 mirrored Up n d = down n d
 
 -- the rule, also below zero
-abbrev pub roundedZ : Way → ℤ → (d : ℕ) → ℤ
+abbrev pub roundedZ : Way → (n : ℤ) → (d : ℕ) → ℤ
 roundedZ way (pos n) d = pos (rounded way n d)
 roundedZ way (negsuc n) d = negℤ (pos (mirrored way (suc n) d))
 
 -- W-201, "half up to a bp": to nearest, ties up, also below zero
-unfoldable pub halfUpZ : ℤ → ℕ → ℤ
+unfoldable pub halfUpZ : (x : ℤ) → (d : ℕ) → ℤ
 halfUpZ x d = roundedZ HalfUp x d
 
 -- a number below zero counts as 0
@@ -105,10 +105,10 @@ unfoldable pub greaterOf : Quotient → Quotient → Quotient
 greaterOf x y = pick (leb (x .num * y .den) (y .num * x .den)) y x
 
 -- base + k·rate for a rate of either sign; the paper's ranges keep it above 0
-unfoldable pub grown : ℕ → ℕ → ℤ → ℕ
+unfoldable pub grown : (base k : ℕ) → (rate : ℤ) → ℕ
 grown base k (pos r) = base + k * r
 grown base k (negsuc r) = base - k * suc r
 
 -- how far apart two numbers are: |a - b|
-unfoldable pub apart : ℕ → ℕ → ℕ
+unfoldable pub apart : (a b : ℕ) → ℕ
 apart a b = (a - b) + (b - a)

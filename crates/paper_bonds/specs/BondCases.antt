@@ -75,12 +75,12 @@ monitoringAt = 31
 abbrev pub ewmaAt : ℕ
 ewmaAt = 32
 
-termFrom : List ℤ → (at : ℕ) → AskedTerm
+termFrom : (xs : List ℤ) → (at : ℕ) → AskedTerm
 unfolding unsigned
 termFrom xs at =
     record { k = plain xs at; band = band.Given (record { low = signed xs (at + 1); high = signed xs (at + 2) }) }
 
-unfoldable pub bondFrom : List ℤ → Bond
+unfoldable pub bondFrom : (xs : List ℤ) → Bond
 unfolding unsigned termFrom
 bondFrom xs =
     record {
@@ -125,7 +125,7 @@ plainBond =
     ∷ pos 200 ∷ pos 2000 ∷ pos 2000 ∷ pos 1 ∷ pos 1 ∷ []
 
 -- what the call answers. It opens every definition that the call computes with, so that a table opens this one alone
-unfoldable pub answered : Bond → List ℤ → BondAnswer
+unfoldable pub answered : Bond → (numbers : List ℤ) → BondAnswer
 unfolding down halfUp up toGrid lesserOf greaterOf grown first least leastMultiple unsigned partsFrom isPrice
     validStatics staticsOf validGiven tentativeTop validTentative validTerm leastStep tentativeRate tentativeAfter
     meetsRequirement daysOf minimumOf covers levelRate unmodelled figuresByVolatility bondLimitOf shifted farthest
@@ -141,7 +141,7 @@ changed [] = plainBond
 changed (c ∷ cs) = changed cs but c
 
 -- what is answered to the plain bond with these changes, and these cash flows
-unfoldable pub answerTo : List (ℕ × ℤ) → List ℤ → BondAnswer
+unfoldable pub answerTo : List (ℕ × ℤ) → (flows : List ℤ) → BondAnswer
 unfolding changed bondFrom answered
 answerTo changes flows = answered (bondFrom (changed changes)) flows
 

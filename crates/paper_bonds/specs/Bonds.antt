@@ -72,14 +72,14 @@ pub record LentFlow : Type 0 where
   pub day : ℤ
   pub amount : ℤ
 
-unfoldable pub flowAt : List ℤ → ℕ → LentFlow
+unfoldable pub flowAt : (numbers : List ℤ) → (at : ℕ) → LentFlow
 flowAt numbers at = record { day = getD numbers at (pos 0); amount = getD numbers (at + 1) (pos 0) }
 
-unfoldable pub lentFlows : List ℤ → List LentFlow
+unfoldable pub lentFlows : (numbers : List ℤ) → List LentFlow
 lentFlows numbers = partsFrom flowAt flowNumbers numbers 0 (length numbers / flowNumbers)
 
 -- "at most four cash flows", each whole
-unfoldable pub wholeFlows : List ℤ → Bool
+unfoldable pub wholeFlows : (numbers : List ℤ) → Bool
 wholeFlows numbers = eqb (length numbers % flowNumbers) 0 && leb (length numbers) allFlowNumbersMost
 
 -- "0 to 10^10 units, days 1..30"
@@ -87,14 +87,14 @@ unfoldable pub validFlow : LentFlow → Bool
 validFlow f =
     withinZ (pos flowDayLeast) (pos flowDayMost) (f .day) && withinZ (pos 0) (pos moneyMost) (f .amount)
 
-unfoldable pub validFlows : List ℤ → Bool
+unfoldable pub validFlows : (numbers : List ℤ) → Bool
 validFlows numbers = wholeFlows numbers && every validFlow (lentFlows numbers)
 
 -- the cash flow that two numbers in range are
 unfoldable pub flowOf : LentFlow → Flow
 flowOf f = record { day = unsigned (f .day); amount = unsigned (f .amount) }
 
-unfoldable pub flowsOf : List ℤ → List Flow
+unfoldable pub flowsOf : (numbers : List ℤ) → List Flow
 flowsOf numbers = map flowOf (lentFlows numbers)
 
 -- ---- what is refused 6
@@ -165,11 +165,11 @@ abbrev pub twentyLimit : BondScale → Side → (p k : ℕ) → ℕ
 twentyLimit scale side p k = bondLimitOf (inward side) scale (twentyBefore scale side p k)
 
 -- off the book, rounded inward too (W-209): "the narrower" of the band limit and that of the 20 per cent
-abbrev pub offBefore : BondScale → Statics → Side → (p s1 c k : ℕ) → ℤ → Quotient
+abbrev pub offBefore : BondScale → Statics → Side → (p s1 c k : ℕ) → (repo : ℤ) → Quotient
 offBefore scale st side p s1 c k repo =
     narrower side (bandBefore (bond scale) st side p s1 c k repo) (twentyBefore scale side p k)
 
-abbrev pub offLimit : BondScale → Statics → Side → (p s1 c k : ℕ) → ℤ → ℕ
+abbrev pub offLimit : BondScale → Statics → Side → (p s1 c k : ℕ) → (repo : ℤ) → ℕ
 offLimit scale st side p s1 c k repo = limitFor (inward side) (bond scale) st (offBefore scale st side p s1 c k repo)
 
 -- the limits of a term, from P and S_1: a bond's do not move
@@ -193,7 +193,7 @@ abbrev pub allLimits : Bond → List Flow → List BondLimits
 allLimits b flows = three (λ k. limitsOf b flows (termAt (termsOf b) k))
 
 -- "17, face value 0, after 6"; 7, the gross evaluation is no price; "crossed by the same test and answers 9"
-unfoldable pub bondChecks : Bond → List ℤ → List Check
+unfoldable pub bondChecks : Bond → (numbers : List ℤ) → List Check
 bondChecks b numbers =
     record { verdict = OutOfRange; applies = not (validBond b && validFlows numbers) }
     ∷ record { verdict = NoFaceValue; applies = eqb (b .face) 0 }
@@ -222,7 +222,7 @@ acceptedBond b flows =
     }
 
 -- what the call answers, for every input
-unfoldable pub bondAnswer : Bond → List ℤ → BondAnswer
+unfoldable pub bondAnswer : Bond → (numbers : List ℤ) → BondAnswer
 bondAnswer b numbers =
     let v : Verdict = firstOf (bondChecks b numbers) in
     pick (isDone v) (acceptedBond b (flowsOf numbers)) (refusedBond v)

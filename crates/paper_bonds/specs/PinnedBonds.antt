@@ -100,7 +100,7 @@ lengths-are = refl
 
 -- ---- 6, 17, 7, 9
 
-numberTo : List (ℕ × ℤ) → List ℤ → ℕ
+numberTo : List (ℕ × ℤ) → (flows : List ℤ) → ℕ
 unfolding answerTo
 numberTo changes flows = numberOf (answerTo changes flows .verdict)
 

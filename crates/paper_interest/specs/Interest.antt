@@ -37,7 +37,7 @@ pub record LentKey : Type 0 where
   pub tentative : ℤ
   pub age : ℤ
 
-unfoldable pub keyAt : List ℤ → ℕ → LentKey
+unfoldable pub keyAt : (numbers : List ℤ) → (at : ℕ) → LentKey
 keyAt numbers at =
     record {
       t = getD numbers at (pos 0);
@@ -50,11 +50,11 @@ keyAt numbers at =
       age = getD numbers (at + 7) (pos 0);
     }
 
-unfoldable pub keysOf : List ℤ → List LentKey
+unfoldable pub keysOf : (numbers : List ℤ) → List LentKey
 keysOf numbers = partsFrom keyAt keyNumbers numbers 0 (length numbers / keyNumbers)
 
 -- "one to eight key maturities", each whole
-unfoldable pub wholeKeys : List ℤ → Bool
+unfoldable pub wholeKeys : (numbers : List ℤ) → Bool
 wholeKeys numbers = eqb (length numbers % keyNumbers) 0 && within keyNumbers allKeyNumbersMost (length numbers)
 
 -- "Rates given lie in -9,999..9,999 bp, .. old volatility in 0..19,998, old tentative rate in 0..200,979, .. key
@@ -70,7 +70,7 @@ validKey k =
     && withinZ (pos 0) (pos repoTentativeMost) (k .tentative)
     && withinZ (pos 0) (pos ageMost) (k .age)
 
-unfoldable pub validKeys : List ℤ → Bool
+unfoldable pub validKeys : (numbers : List ℤ) → Bool
 validKeys numbers = wholeKeys numbers && every validKey (keysOf numbers)
 
 -- the maturity that eight numbers in range are
@@ -86,7 +86,7 @@ maturityOf k =
       tentative = record { bp = unsigned (k .tentative); age = unsigned (k .age) };
     }
 
-unfoldable pub maturitiesOf : List ℤ → List Maturity
+unfoldable pub maturitiesOf : (numbers : List ℤ) → List Maturity
 maturitiesOf numbers = map maturityOf (keysOf numbers)
 
 -- "minima and liquidity in 0..9,999, .. terms .. in 0..365 days, the rest as for shares": x_IR as x_pr
@@ -110,7 +110,7 @@ validInterest i =
 -- ---- the figures of a key maturity (14.4)
 
 -- |x - y|
-unfoldable pub apartZ : ℤ → ℤ → ℕ
+unfoldable pub apartZ : (x y : ℤ) → ℕ
 apartZ x y = natAbs (x -ℤ y)
 
 -- "max(abs[REPOrate_i - REPOrate_i-1]; abs[REPOrate_i - REPOrate_i-2])"
@@ -131,7 +131,7 @@ repoTentative i k = tentativeAfter (i .h) (i .wait) (repoTentativeRate i k) (k .
 
 -- "ceiling(max(tentative + liq_RR; minimum)/h_IR)·h_IR": the least multiple of h at or above the greater; the sum is
 -- never below 0, so a minimum below 0 is never the greater
-unfoldable pub estimate : Interest → Maturity → ℤ → ℕ
+unfoldable pub estimate : Interest → Maturity → (minimum : ℤ) → ℕ
 estimate i k minimum = leastStep (i .h) 1 (max (repoTentative i k .bp + i .liq) (atLeastZero minimum))
 
 -- an estimate is the least multiple of h at or above both tentative + liquidity and its minimum, of either sign
@@ -166,12 +166,12 @@ unfoldable pub interpolated : (t : ℕ) (f : ℤ) (u : ℕ) (g : ℤ) (y : ℕ) 
 interpolated t f u g y = halfUpZ ((pos (u - y) *ℤ f) +ℤ (pos (y - t) *ℤ g)) (u - t)
 
 -- the figure after a key maturity k that comes before y: between it and the next, or after the last the last one's
-unfoldable pub figureAfter : (Maturity → ℤ) → Maturity → List Maturity → ℕ → ℤ
+unfoldable pub figureAfter : (Maturity → ℤ) → Maturity → List Maturity → (y : ℕ) → ℤ
 figureAfter f k [] y = f k
 figureAfter f k (l ∷ ks) y = pick (leb y (l .t)) (interpolated (k .t) (f k) (l .t) (f l) y) (figureAfter f l ks y)
 
 -- "Maturities between the key ones are interpolated, and outside them take the nearest one's"
-unfoldable pub figureAt : (Maturity → ℤ) → List Maturity → ℕ → ℤ
+unfoldable pub figureAt : (Maturity → ℤ) → List Maturity → (y : ℕ) → ℤ
 figureAt f [] y = pos 0
 figureAt f (k ∷ ks) y = pick (leb y (k .t)) (f k) (figureAfter f k ks y)
 
@@ -186,7 +186,7 @@ unfoldable pub margin : Interest → List Maturity → (Maturity → ℕ) → �
 margin i ks f = pos (oneInHundredths * (i .yn - i .ym)) *ℤ figureAt (λ k. pos (f k)) ks (i .yn)
 
 -- "each band limit round once, half up to a bp"
-unfoldable pub limitFrom : Interest → ℤ → ℤ
+unfoldable pub limitFrom : Interest → (n : ℤ) → ℤ
 limitFrom i n = halfUpZ n ((i .yn - i .ym) * i .xir)
 
 unfoldable pub upperWorked : Interest → List Maturity → ℤ
@@ -195,10 +195,10 @@ upperWorked i ks = limitFrom i ((pos (i .xir) *ℤ forward i ks) +ℤ margin i k
 unfoldable pub lowerWorked : Interest → List Maturity → ℤ
 lowerWorked i ks = limitFrom i ((pos (i .xir) *ℤ forward i ks) -ℤ margin i ks (downward i))
 
-abbrev pub lesserZ : ℤ → ℤ → ℤ
+abbrev pub lesserZ : (x y : ℤ) → ℤ
 lesserZ x y = pick (leZ x y) x y
 
-abbrev pub greaterZ : ℤ → ℤ → ℤ
+abbrev pub greaterZ : (x y : ℤ) → ℤ
 greaterZ x y = pick (leZ x y) y x
 
 -- "Y0/Y1 is held by the money and security rollover rates"
@@ -214,7 +214,7 @@ lowerLimit i ks = pick (isHeld i) (greaterZ (lowerWorked i ks) (i .secrate)) (lo
 -- ---- the call
 
 -- "key maturities .. strictly ascending"
-unfoldable pub ascendingFrom : ℕ → List Maturity → Bool
+unfoldable pub ascendingFrom : (t : ℕ) → List Maturity → Bool
 ascendingFrom t [] = true
 ascendingFrom t (k ∷ ks) = ltb t (k .t) && ascendingFrom (k .t) ks
 
@@ -224,7 +224,7 @@ ascending (k ∷ ks) = ascendingFrom (k .t) ks
 
 -- "or the answer is 6"; "14, key maturities not strictly ascending or the pair's second term not after its first, after
 -- 6"
-unfoldable pub interestChecks : Interest → List ℤ → List Check
+unfoldable pub interestChecks : Interest → (numbers : List ℤ) → List Check
 interestChecks i numbers =
     record { verdict = OutOfRange; applies = not (validInterest i && validKeys numbers) }
     ∷ record { verdict = NotAscending; applies = not (ascending (maturitiesOf numbers) && ltb (i .ym) (i .yn)) }
@@ -246,7 +246,7 @@ acceptedInterest i ks =
     }
 
 -- what the interest side answers, for every input
-unfoldable pub interestAnswer : Interest → List ℤ → InterestAnswer
+unfoldable pub interestAnswer : Interest → (numbers : List ℤ) → InterestAnswer
 interestAnswer i numbers =
     let v : Verdict = firstOf (interestChecks i numbers) in
     pick (isDone v) (acceptedInterest i (maturitiesOf numbers)) (refusedInterest v)

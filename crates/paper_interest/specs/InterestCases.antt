@@ -71,7 +71,7 @@ calmEvening =
 
 -- what the interest side answers. It opens every definition that the call computes with, so that a table opens this one
 -- alone
-unfoldable pub answered : Interest → List ℤ → InterestAnswer
+unfoldable pub answered : Interest → (numbers : List ℤ) → InterestAnswer
 unfolding halfUp halfDown halfUpZ first least leastRoot leastTimes leastMultiple unsigned weightOf weighted replacement
     replaces volatilityOf leastStep tentativeAfter isDone firstOf every keyAt partsFrom keysOf wholeKeys
     validKey validKeys maturityOf maturitiesOf validInterest apartZ changeOf repoVolatility repoTentativeRate
@@ -84,7 +84,7 @@ answered i numbers = interestAnswer i numbers
 unfoldable pub limits : InterestAnswer → List ℤ
 limits a = pos (numberOf (a .pair .verdict)) ∷ a .pair .lower ∷ a .pair .upper ∷ []
 
-unfoldable pub figures : InterestAnswer → ℕ → List ℕ
+unfoldable pub figures : InterestAnswer → (n : ℕ) → List ℕ
 figures a n =
     let f : MaturityFigures = getD (a .figures) n noFigures in
     f .change ∷ f .volatility ∷ f .tentative .bp ∷ f .tentative .age ∷ f .up ∷ f .down ∷ []
@@ -160,7 +160,7 @@ unfolding workedLimits
 worked-limits = refl
 
 -- an evening after b non-trading days, on which we follow one of its two key maturities
-evening : (b place : ℕ) → (money secrate : ℤ) → List ℤ → Evening
+evening : (b place : ℕ) → (money secrate : ℤ) → (numbers : List ℤ) → Evening
 evening b place money secrate numbers =
     record { given = givenAfter b 0 1 money secrate; numbers = numbers; place = place }
 

@@ -19,7 +19,7 @@ use Rattle.paper.specs.PinnedRanges.{Ranged, range, valuesOf, straddles, atTheE
 -- ---- a call as two rows of numbers
 
 -- b, the pair of terms, a_up, a_down, q, h, n, liq, MMΔ, SECΔ, x_IR, the money rate and the security rollover rate
-unfoldable pub interestFrom : List ℤ → Interest
+unfoldable pub interestFrom : (xs : List ℤ) → Interest
 unfolding unsigned
 interestFrom xs =
     record {

@@ -35,7 +35,7 @@ abbrev pub termsAtFault : (atFault : ℕ → Bool) → List (Naming Fault)
 termsAtFault atFault = three (λ k. record { verdict = fault.Term k; applies = atFault k })
 
 -- 6: "the first row out of range where the length is a whole number of rows up to 16, else the first term out of range"
-unfoldable pub outOfRange : Day → List ℤ → List (Naming Fault)
+unfoldable pub outOfRange : Day → (rows : List ℤ) → List (Naming Fault)
 outOfRange d rows =
     pick (wholeRows rows) (rowsAtFault firstRow (λ (row : LentRow). not (validRow row)) (rowsOf rows)) []
     ++ termsAtFault (λ k. not (validTerm (termAt (d .terms) k)))
@@ -46,7 +46,7 @@ isSame v w = eqb (numberOf v) (numberOf w)
 
 -- what may be at fault in a refusal, rows before terms. 16: "the first crossed row"; 7: "the first row whose rounded
 -- price or volume does not fit"; 9: "the first crossed term"; "any other number: none"
-unfoldable pub faultsOf : Verdict → Record → Day → List ℤ → List (Naming Fault)
+unfoldable pub faultsOf : Verdict → Record → Day → (rows : List ℤ) → List (Naming Fault)
 faultsOf v r d rows =
     pick (isSame v OutOfRange) (outOfRange d rows)
     (pick (isSame v RowCrossed) (rowsAtFault firstRow isCrossedRow (dayRows rows))
@@ -55,5 +55,5 @@ faultsOf v r d rows =
     [])))
 
 -- "the first row, else term, at fault, or none"
-unfoldable pub faultOf : Verdict → Record → Day → List ℤ → Fault
+unfoldable pub faultOf : Verdict → Record → Day → (rows : List ℤ) → Fault
 faultOf v r d rows = firstNamed fault.None (faultsOf v r d rows)

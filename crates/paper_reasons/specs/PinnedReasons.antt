@@ -232,7 +232,7 @@ refusals =
     ∷ []
 
 -- no figure has a reason
-abbrev refused : List ℕ → List ℕ
+abbrev refused : (numbers : List ℕ) → List ℕ
 refused numbers = numbers ++ 0 ∷ 0 ∷ 0 ∷ 0 ∷ 0 ∷ 0 ∷ 0 ∷ []
 
 pub refusals-are : refusals

@@ -39,21 +39,21 @@ noReasons =
     }
 
 -- whether the replacement is the one chosen on a day, and the t of that day
-unfoldable pub replacedOn : Record → Day → List ℤ → Bool
+unfoldable pub replacedOn : Record → Day → (rows : List ℤ) → Bool
 replacedOn r d rows =
     replacementWins (modelOf (r .statics)) (d .b) (millionthsInBp * rateAt (r .rates) 0) (moveOn r rows) (r .s)
 
-unfoldable pub stepOn : Record → Day → List ℤ → ℕ
+unfoldable pub stepOn : Record → Day → (rows : List ℤ) → ℕ
 stepOn r d rows = tentativeRateOf (r .statics) (replacedOn r d rows) (moveOn r rows) (figuresOn r d rows .s)
 
 -- of the levels 1, 2, 3: the rate of level L stands at L - 1
-unfoldable pub levelOn : Record → Day → List ℤ → (level place : ℕ) → LevelReason
+unfoldable pub levelOn : Record → Day → (rows : List ℤ) → (level place : ℕ) → LevelReason
 levelOn r d rows level place =
     let f : Figures = figuresOn r d rows in
     levelReason (r .statics) level (d .m) (f .tentative .bp) (rateAt (f .rates) place)
 
 -- the reasons of an evaluation that is accepted
-unfoldable pub reasonsOf : Record → Day → List ℤ → Reasons
+unfoldable pub reasonsOf : Record → Day → (rows : List ℤ) → Reasons
 reasonsOf r d rows =
     record {
       price = priceReason (r .p1 .units) (map roublesOf (dayRows rows));
@@ -67,11 +67,11 @@ reasonsOf r d rows =
 
 -- "For an accepted evaluation, name: ..". "For a refused evaluation it names the number and ..": `there` is whether the
 -- id is known, and r its record
-unfoldable pub whyOf : (there : Bool) → Record → Day → List ℤ → Why
+unfoldable pub whyOf : (there : Bool) → Record → Day → (rows : List ℤ) → Why
 whyOf there r d rows =
     let v : Verdict = firstOf (evaluateChecks there r d rows) in
     record { verdict = v; fault = faultOf v r d rows; reasons = pick (isDone v) (reasonsOf r d rows) noReasons }
 
 -- why an evaluation of a day is answered as it is, on a table
-unfoldable pub whyOn : List Record → (id : ℕ) → Day → List ℤ → Why
+unfoldable pub whyOn : List Record → (id : ℕ) → Day → (rows : List ℤ) → Why
 whyOn t id d rows = whyOf (known t id) (found t id) d rows
