@@ -26,7 +26,8 @@ use Rattle.demands.proofs.Histories.{after, recordOf, eventChecks, Lawf
 use Rattle.demands.proofs.Sequences.{three-at, one-more-noted, lawful-figures, lawful-statics}
 
 -- 9 does not apply to an accepted evaluation
-evaluated-uncrossed : (there : Bool) (r : Record) (d : Day) (rows : List ℤ) → NoneApplies (evaluateChecks there r d rows)
+evaluated-uncrossed : (there : Bool) (r : Record) (d : Day) (rows : List ℤ)
+    → NoneApplies (evaluateChecks there r d rows)
     → (k : ℕ) → k < 3 → crossed (getD (evaluated r d rows .bands) k noLimits) ≡ false
 unfolding evaluateChecks
 evaluated-uncrossed there r d rows (also n (also v (also x (also y (also p (also m (also c none))))))) k l =

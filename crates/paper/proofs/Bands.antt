@@ -1,5 +1,5 @@
--- W-209: where a band limit stands. It is never outside the exact band; and a move never takes its side inward, so that a
--- moved band crosses only if it was crossed before. Assumes nothing.
+-- W-209: where a band limit stands. It is never outside the exact band; and a move never takes its side inward, so that
+-- a moved band crosses only if it was crossed before. Assumes nothing.
 use mathlib.Core.Path.{_≡_, refl}
 use mathlib.Core.Bool.{Bool, true, false}
 use Prim.Native.Nat.{ℕ, _+_, _-_, _*_, _≤_, _<_}
@@ -77,7 +77,8 @@ away-more st s1 c =
     mul-le-mul-right s1 more
 
 -- with one move more e is greater, and so is the spread's distance from x_pr
-spread-outward : (st : Statics) (side : Side) (s1 c : ℕ) → Outward side (spread st side s1 (c + 1)) (spread st side s1 c)
+spread-outward : (st : Statics) (side : Side) (s1 c : ℕ) → Outward side (spread st side s1 (c + 1))
+    (spread st side s1 c)
 unfolding spread
 spread-outward st Upper s1 c = omega (arith, away-more st s1 c)
 spread-outward st Lower s1 c = omega (arith, away-more st s1 c)
@@ -88,12 +89,16 @@ monitored-outward : (way : Way) (st : Statics) (side : Side) (p s1 c k : ℕ) (r
     (limitOf way st (monitored st side p s1 c k repo))
 unfolding monitored
 monitored-outward way st Upper p s1 c k repo s =
-    limit-monotone way share st (omega arith) .keeps (monitored st Upper p s1 c k repo) (monitored st Upper p s1 (c + 1) k repo)
-    (monitored-positive st Upper p s1 c k repo (s .divisor-low)) (monitored-positive st Upper p s1 (c + 1) k repo (s .divisor-low))
+    limit-monotone way share st (omega arith) .keeps (monitored st Upper p s1 c k repo) (monitored st Upper p s1
+    (c + 1) k repo)
+    (monitored-positive st Upper p s1 c k repo (s .divisor-low)) (monitored-positive st Upper p s1 (c + 1) k repo
+    (s .divisor-low))
     (product-order p (grown yearInDayBp k repo) (oneInBp * st .xpr * yearInDayBp) (spread-outward st Upper s1 c))
 monitored-outward way st Lower p s1 c k repo s =
-    limit-monotone way share st (omega arith) .keeps (monitored st Lower p s1 (c + 1) k repo) (monitored st Lower p s1 c k repo)
-    (monitored-positive st Lower p s1 (c + 1) k repo (s .divisor-low)) (monitored-positive st Lower p s1 c k repo (s .divisor-low))
+    limit-monotone way share st (omega arith) .keeps (monitored st Lower p s1 (c + 1) k repo)
+    (monitored st Lower p s1 c k repo)
+    (monitored-positive st Lower p s1 (c + 1) k repo (s .divisor-low)) (monitored-positive st Lower p s1 c k repo
+    (s .divisor-low))
     (product-order p (grown yearInDayBp k repo) (oneInBp * st .xpr * yearInDayBp) (spread-outward st Lower s1 c))
 
 pub band-outward : (st : Statics) (side : Side) (p s1 c k : ℕ) (repo : ℤ) → LimitStatics st
@@ -123,13 +128,16 @@ band-outward st side p s1 c k repo s = go (st .monitoring)
         (monitored-outward (inward side) st side p s1 c k repo s))
     go false = same-outward side (limitOf (inward side) st far)
 
--- "After a move the side that is remade never stands inside the other": a moved band that was not crossed is not crossed
+-- "After a move the side that is remade never stands inside the other": a moved band that was not crossed is not
+-- crossed
 pub moved-not-crossed : (st : Statics) (side : Side) (p s1 : ℕ) (c : Moves) (x : Term) → LimitStatics st
     → crossed (bandOf st p s1 c x) ≡ false → crossed (bandOf st p s1 (oneMore side c) x) ≡ false
 unfolding bandOf crossed oneMore
 moved-not-crossed st Upper p s1 c x s e =
-    le-ltb (bandLimit st Upper p s1 (c .upper + 1) (x .k) (x .high)) (bandLimit st Lower p s1 (c .lower) (x .k) (x .low))
+    le-ltb (bandLimit st Upper p s1 (c .upper + 1) (x .k) (x .high)) (bandLimit st Lower p s1 (c .lower) (x .k)
+    (x .low))
     (le-trans (ltb-false _ _ e) (band-outward st Upper p s1 (c .upper) (x .k) (x .high) s))
 moved-not-crossed st Lower p s1 c x s e =
-    le-ltb (bandLimit st Upper p s1 (c .upper) (x .k) (x .high)) (bandLimit st Lower p s1 (c .lower + 1) (x .k) (x .low))
+    le-ltb (bandLimit st Upper p s1 (c .upper) (x .k) (x .high)) (bandLimit st Lower p s1 (c .lower + 1) (x .k)
+    (x .low))
     (le-trans (band-outward st Lower p s1 (c .lower) (x .k) (x .low) s) (ltb-false _ _ e))

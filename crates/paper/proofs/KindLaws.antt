@@ -93,12 +93,15 @@ limit-monotone way (bond b) st f = record { keeps = keeps }
         (mul-le-mul-right (b .face) less))
 
 -- so the narrower of two, rounded once, is the narrower of the two rounded
-pub narrower-rounded : (way : Way) (kind : Kind) (st : Statics) (side : Side) (x y : Quotient) → HasFace kind → 0 < x .den
+pub narrower-rounded : (way : Way) (kind : Kind) (st : Statics) (side : Side) (x y : Quotient) → HasFace kind
+    → 0 < x .den
     → 0 < y .den
     → limitFor way kind st (narrower side x y) ≡ narrowerOf side (limitFor way kind st x) (limitFor way kind st y)
 unfolding narrower
-narrower-rounded way kind st Upper x y f p q = lesser-rounded (limitFor way kind st) (limit-monotone way kind st f) x y p q
-narrower-rounded way kind st Lower x y f p q = greater-rounded (limitFor way kind st) (limit-monotone way kind st f) x y p q
+narrower-rounded way kind st Upper x y f p q = lesser-rounded (limitFor way kind st)
+    (limit-monotone way kind st f) x y p q
+narrower-rounded way kind st Lower x y f p q = greater-rounded (limitFor way kind st)
+    (limit-monotone way kind st f) x y p q
 
 -- ---- a band limit
 
@@ -147,7 +150,8 @@ module _ (kind : Kind) (st : Statics) (side : Side) (p s1 c k : ℕ) (repo : ℤ
       → bandLimitFor kind st side p s1 c k repo ≡ limitFor (inward side) kind st (farthestFor kind st side p k)
   band-unmonitored e =
       let x : Quotient = farthestFor kind st side p k in
-      ap (limitFor (inward side) kind st) (pick-false (st .monitoring) (narrower side x (monitored st side p s1 c k repo)) x e)
+      ap (limitFor (inward side) kind st) (pick-false (st .monitoring) (narrower side x
+      (monitored st side p s1 c k repo)) x e)
 
   pub band-positive : divisorLeast ≤ st .xpr → 0 < bandBefore kind st side p s1 c k repo .den
   band-positive h =

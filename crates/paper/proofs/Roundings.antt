@@ -1,6 +1,6 @@
--- Laws of the one rounding rule, each said once over the way: what it is, that it is the only such number, that it keeps
--- order, that it keeps what is a multiple already, and on which side of the quotient it stands. Then what is used of one
--- way alone. n/d ≤ m/e is said as n·e ≤ m·d. Assumes nothing.
+-- Laws of the one rounding rule, each said once over the way: what it is, that it is the only such number, that it
+-- keeps order, that it keeps what is a multiple already, and on which side of the quotient it stands. Then what is used
+-- of one way alone. n/d ≤ m/e is said as n·e ≤ m·d. Assumes nothing.
 use mathlib.Core.Path.{_≡_, refl, ap, sym, _∙_}
 use mathlib.Core.Logic.{_⊎_, inl, inr}
 use mathlib.Core.Bool.{Bool, true, false}
@@ -216,8 +216,8 @@ grid-exact way g k d p q =
 
 -- ---- the lesser and the greater of two quotients, rounded once, are the lesser and the greater of the two rounded
 
--- a rounding that keeps order: that of a grid does, whichever way it goes, and so does what each kind of security makes of
--- a limit
+-- a rounding that keeps order: that of a grid does, whichever way it goes, and so does what each kind of security makes
+-- of a limit
 pub record KeepsOrder (f : Quotient → ℕ) : Type 0 where
   pub keeps : (x y : Quotient) → 0 < x .den → 0 < y .den → x .num * y .den ≤ y .num * x .den → f x ≤ f y
 

@@ -45,8 +45,8 @@ Inside Lower limit x = x .num ≤ limit * x .den
 abbrev pub grownPrice : Quotient → ℕ
 grownPrice x = halfUp (x .num) (x .den)
 
--- 11.1: "(.. - Carry - НКД)/FaceValue·100", W-206: ".. to two decimals of the per cent. Negative limits are zero.", that
--- way. It is kept in hundredths of a per cent
+-- 11.1: "(.. - Carry - НКД)/FaceValue·100", W-206: ".. to two decimals of the per cent. Negative limits are zero.",
+-- that way. It is kept in hundredths of a per cent
 unfoldable pub bondLimitOf : Way → BondScale → Quotient → ℕ
 bondLimitOf way b x =
     atLeastZero

@@ -321,8 +321,8 @@ judgedFirst maximum =
     numberOf (answered (smallBond maximum) smallFlows .verdict)
     ∷ fourOf (limitsOf (smallBond maximum) (flowsOf smallFlows) (termOf (smallBond maximum .first)))
 
--- "A band narrower than a grid step may now cross and answers 9.", bonds' too; off the book one may cross where the band
--- does not
+-- "A band narrower than a grid step may now cross and answers 9.", bonds' too; off the book one may cross where the
+-- band does not
 pub crossings-are : map judgedFirst (2000 ∷ 5000 ∷ [])
     -- 0.3 and 0.7 of a hundredth: both cross
     ≡ (9 ∷ 1 ∷ 0 ∷ 1 ∷ 0 ∷ [])

@@ -397,7 +397,8 @@ module _ (t : List ℕ) (c : Column) (from start : ℕ) where
     cell-turned m e = rw (m, drop-drop 1 from t, e)
 
     module _ (digit : true ≡ starts isDigit (drop start t)) where
-      pub cell-below : from < start → (r : Cell) → Celled t r (turned c (drop start t)) → Celled t r (cell c (drop from t))
+      pub cell-below : from < start → (r : Cell) → Celled t r (turned c (drop start t))
+          → Celled t r (cell c (drop from t))
       cell-below h r q = go behind-minus
         where
           go : ((minus ≡ true) × (start ≡ from + 1)) ⊎ ((minus ≡ false) × (start ≡ from))

@@ -27,7 +27,8 @@ in-per-cent-requires c κs =
 returns : tie.Need-returns
 returns c =
     let s = c .before .before in
-    rw (c .in-per-cent .ensures, grown (c .before)) (sym (bond-limit-is (s .args .way) (s .args .b) _ (s .pre .0 .face)))
+    rw (c .in-per-cent .ensures, grown (c .before)) (sym (bond-limit-is (s .args .way) (s .args .b) _
+    (s .pre .0 .face)))
 
 pub limit-of-spec : {M : Type 1} → statement M
 limit-of-spec = tie.close (tie.spec grown-price-requires in-per-cent-requires returns)

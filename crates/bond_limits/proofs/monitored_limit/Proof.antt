@@ -47,7 +47,13 @@ returns : tie.Need-returns
 unfolding monitored
 returns c =
     let s = c .before .before .before .before .before in
-    rw (c .limit-of .ensures, c .before .before .before .before .inward .ensures, toZ-ofZ (s .fits .repo), c .before .before .before .spread .ensures)
+    rw (
+      c .limit-of .ensures,
+      c .before .before .before .before .inward .ensures,
+      toZ-ofZ (s .fits .repo),
+      c .before .before .before .spread .ensures,
+    )
 
 pub monitored-limit-spec : {M : Type 1} → statement M
-monitored-limit-spec = tie.close (tie.spec inward-requires spread-requires mul-limit-of mul-limit-of-2 limit-of-requires returns)
+monitored-limit-spec = tie.close (tie.spec inward-requires spread-requires mul-limit-of mul-limit-of-2
+    limit-of-requires returns)

@@ -65,7 +65,13 @@ unfolding limitOf monitored
 returns c =
     let m = c .before .before in
     let i = m .before .before in
-    rw (c .product-to-grid .ensures, i .inward .ensures, m .before .grid-of .ensures, m .spread .ensures, days (i .before))
+    rw (
+      c .product-to-grid .ensures,
+      i .inward .ensures,
+      m .before .grid-of .ensures,
+      m .spread .ensures,
+      days (i .before),
+    )
 
 pub monitored-limit-spec : {M : Type 1} → statement M
 monitored-limit-spec =

@@ -42,7 +42,8 @@ t-high : (c : tie.After-tentative-rate-of) → c .tentative-rate-of .result ≤ 
 t-high c =
     let start = c .before .before .before .before in
     let st = start .pre .0 .statics in
-    let in-range = tentative-rate-in _ _ _ _ (st .step-low) (st .multiplier-high) (start .pre .1) (s-high (c .before)) in
+    let in-range = tentative-rate-in _ _ _ _ (st .step-low) (st .multiplier-high) (start .pre .1) (s-high
+    (c .before)) in
     rw (c .tentative-rate-of .ensures) (top-within st (valid-high _ _ in-range))
 
 rated-requires : tie.Need-rated-requires

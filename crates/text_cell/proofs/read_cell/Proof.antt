@@ -61,7 +61,8 @@ returns-2 c =
     let at-start = at-behind-minus .before .before in
     cell-below _ (at-start .args .c) (at-start .args .from) _ (at-behind-minus .behind-minus .ensures .0)
     (sym (at-if1 .if1 .taken) ∙ at-is-digit-at .is-digit-at .ensures) (c .if2 .taken) _
-    (turned-is _ _ (at-behind-minus .behind-minus .result) _ _ (counted _ _ (at-part .part .given .1) (at-number .number .ensures)))
+    (turned-is _ _ (at-behind-minus .behind-minus .result) _ _ (counted _ _ (at-part .part .given .1)
+    (at-number .number .ensures)))
 
 cast-t13 : tie.Need-cast-t13
 cast-t13 c =
@@ -79,7 +80,8 @@ returns-3 c =
     let at-start = at-behind-minus .before .before in
     cell-above _ (at-start .args .c) (at-start .args .from) _ (at-behind-minus .behind-minus .ensures .0)
     (sym (at-if1 .if1 .taken) ∙ at-is-digit-at .is-digit-at .ensures) (c .if2 .left) _
-    (positive-is _ _ (at-behind-minus .behind-minus .result) _ _ (counted _ _ (at-part .part .given .1) (at-number .number .ensures)))
+    (positive-is _ _ (at-behind-minus .behind-minus .result) _ _ (counted _ _ (at-part .part .given .1)
+    (at-number .number .ensures)))
 
 returns-4 : tie.Need-returns-4
 returns-4 c =
