@@ -1,4 +1,2 @@
-pub mod Seeking
-pub mod AtFault
 pub mod Reasoning
 pub mod Answering

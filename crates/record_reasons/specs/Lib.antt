@@ -1,3 +1,2 @@
-pub mod RowFaults
 pub mod Reasoned
 pub mod Whys

@@ -1,4 +1,4 @@
-// "the first row, else term, at fault, or none": rows count from 1, terms are 0, 1, 2.
+// W-207, "the first row, else term, at fault, or none", of a refused evaluation: rows count from 1, terms are 0, 1, 2.
 ghost use mathlib.Core.Path.{_≡_};
 ghost use mathlib.Core.Bool.{true};
 ghost use mathlib.Core.List.{[]};
@@ -9,7 +9,7 @@ ghost use Rattle.paper.specs.Numbers.{rowNumbers};
 ghost use Rattle.paper.specs.Ranges.{rowAt, rowsOf};
 ghost use Rattle.paper.specs.Verdicts.{firstNamed};
 ghost use Rattle.paper_reasons.specs.Faults.{isSame, outOfRange};
-ghost use Rattle.record_reasons.specs.RowFaults.{atFault, judgeable, rowFault, wholeFault, termFault, orElse, faultWith, Refused};
+ghost use Rattle.record_faults.specs.RowFaults.{atFault, judgeable, rowFault, wholeFault, termFault, orElse, faultWith, Refused};
 use inputs::valid_term;
 use limits::is_crossed;
 use paper::Day;
