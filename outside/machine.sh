@@ -192,6 +192,28 @@ need_program() { # NAME
     cannot "$1 is not proved; see target/log/$1.check"
 }
 
+# Runs a proved program on the lines of a file, or of standard input, from the folder `top` on.
+serve_lines() { # NAME [FILE]
+    served=$1
+    shift
+    take_words 1 "$@"
+    # The file is opened here, where the caller names it.
+    if [ $# -eq 1 ]; then
+        [ -f "$1" ] && [ -r "$1" ] || [ -p "$1" ] || [ -c "$1" ] || cannot "$1 is no file that can be read"
+        exec <"$1"
+    fi
+    cd "$top" || exit 2
+    toolchain >/dev/null || exit 2
+    need_program "$served"
+    # Standard output is the program's own; what it says on standard error is kept until it ends.
+    { said=$(outside/runner "target/bin/$served" 2>&1 >&3 3>&-); } 3>&1
+    status=$?
+    [ -n "$said" ] || exit "$status"
+    echo "$said" >&2
+    [ "$status" -ne 0 ] || status=1
+    exit "$status"
+}
+
 # The proved archive, at target/staticlib/libNAME.a.
 need_archive() { # NAME
     is_built "target/staticlib/lib$1.a" && return

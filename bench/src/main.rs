@@ -1,6 +1,8 @@
-//! Evaluates a sheet of securities with 16 rows each by the proved rules (the archive of the crate `sheet`) and by the reference, in one process, and
-//! prints the time of each, the ratio, the spread over repeats, how the cost grows with the securities, and the share of each part. Then it takes the
-//! root by the proved code, which does not divide, and by a root that does. With the word `root` it does that last part alone.
+//! Evaluates a sheet of securities with 16 rows each by the proved rules (the archive of the crate `sheet`) and by the
+//! reference, in one process, and prints the time of each, the ratio, the spread over repeats, how the cost grows with
+//! the securities, and the share of each part. Then it asks why of the evaluations beside evaluating, and takes the
+//! root by the proved code, which does not divide, and by a root that does. With the word `why` or `root` it does that
+//! part alone.
 
 use std::hint::black_box;
 use std::time::Instant;
@@ -10,6 +12,20 @@ use reference::security::{admitted, evaluated, Admission, Day, RepoTerm};
 
 extern "C" {
     fn nedrubal_days(
+        x: *const [i64; 28],
+        y: *const [i64; 6],
+        rows: *const i64,
+        rows_len: usize,
+        days: u64,
+    ) -> u64;
+    fn nedrubal_evaluations(
+        x: *const [i64; 28],
+        y: *const [i64; 6],
+        rows: *const i64,
+        rows_len: usize,
+        days: u64,
+    ) -> u64;
+    fn nedrubal_whys(
         x: *const [i64; 28],
         y: *const [i64; 6],
         rows: *const i64,
@@ -27,6 +43,8 @@ const REPEATS: usize = 15;
 const ROOTS: usize = 10_000;
 const MONITORING: usize = 26;
 const IS_EWMA: usize = 27;
+/// What an accepted evaluation counts in the sum of `nedrubal_whys`.
+const ACCEPTED: u64 = 8;
 
 /// The numbers of one security: `admit`'s 28, a day's DAY B M K RRCL RRCH, and the rows.
 #[derive(Clone)]
@@ -97,9 +115,13 @@ fn sheet(securities: usize) -> Vec<Security> {
         .collect()
 }
 
-fn ours(security: &Security, days: u64) -> u64 {
+/// A call of the archive over so many days of a security.
+type OverDays =
+    unsafe extern "C" fn(*const [i64; 28], *const [i64; 6], *const i64, usize, u64) -> u64;
+
+fn over_days(call: OverDays, security: &Security, days: u64) -> u64 {
     unsafe {
-        nedrubal_days(
+        call(
             &security.admit,
             &security.day,
             security.rows.as_ptr(),
@@ -107,6 +129,18 @@ fn ours(security: &Security, days: u64) -> u64 {
             days,
         )
     }
+}
+
+fn ours(security: &Security, days: u64) -> u64 {
+    over_days(nedrubal_days, security, days)
+}
+
+fn evaluated_anew(security: &Security, days: u64) -> u64 {
+    over_days(nedrubal_evaluations, security, days)
+}
+
+fn asked_why(security: &Security, days: u64) -> u64 {
+    over_days(nedrubal_whys, security, days)
 }
 
 fn figure(record: &Record) -> u64 {
@@ -241,6 +275,30 @@ fn compare(securities: usize) {
     );
 }
 
+/// Asking why beside evaluating: of the same securities as they were admitted, on the same days.
+fn asking() {
+    let sheet = sheet(SECURITIES);
+    let whys = total(&sheet, DAYS, asked_why);
+    assert!(
+        whys >= ACCEPTED * evaluations(&sheet) as u64,
+        "an evaluation that is asked of is refused"
+    );
+    let (evaluating, asking) = by_turns(
+        evaluations(&sheet),
+        || total(&sheet, DAYS, evaluated_anew),
+        || total(&sheet, DAYS, asked_why),
+    );
+    println!("{SECURITIES} securities, {ROWS} rows each, {DAYS} days, {REPEATS} repeats;");
+    println!("  for one evaluation, and for asking why of it:");
+    line("  evaluating", &evaluating);
+    line("  asking why", &asking);
+    println!(
+        "  ratio {:.2} of the medians, {:.2} of the least",
+        asking.median / evaluating.median,
+        asking.least / evaluating.least
+    );
+}
+
 /// The sheet with something changed in every security.
 fn changed(change: impl Fn(&mut Security)) -> Vec<Security> {
     let mut sheet = sheet(SECURITIES);
@@ -358,13 +416,19 @@ fn roots(side: &str, most: u64) {
 }
 
 fn main() {
-    let word = std::env::args().nth(1);
-    if word.as_deref() != Some("root") {
+    let word = std::env::args().nth(1).unwrap_or_default();
+    let is_asked = |part: &str| word.is_empty() || word == part;
+    if word.is_empty() {
         for securities in [64, 128, 256, SECURITIES] {
             compare(securities);
         }
         parts();
     }
-    roots("a share", 1_000_000);
-    roots("the interest side", 19_998);
+    if is_asked("why") {
+        asking();
+    }
+    if is_asked("root") {
+        roots("a share", 1_000_000);
+        roots("the interest side", 19_998);
+    }
 }

@@ -227,5 +227,5 @@ fn table() -> [Record; Record::SLOTS_MOST] {
 }
 
 fn main() {
-    text_serve::on(table());
+    text_serve::on(table(), false);
 }

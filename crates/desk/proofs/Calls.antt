@@ -1,5 +1,6 @@
 -- The statements that the calls of the desk are made of, as steps of a walk, for any caller whose locals are a frame:
---     takes        let d = take(t, x);     t is lent as `&` for a lifetime made for the call, and comes back as it was
+--     lent-out     t is lent as `&` for a lifetime made for a call.        taken-back     it comes back as it was
+--     takes        let d = take(t, x);     t is lent as `&` and comes back
 --     puts         put(t, x, y);           t is given up to `put`, and the caller has what says t's last list
 --     puts-turn    put(t, o.at, o.rec);
 --     turned       after let o = rule(…);  the fields of the turn can be read
@@ -171,7 +172,7 @@ module _ {M : Type 1} (𝓤 : URA M) (H : Heap 𝓤) (A : Atoms 𝓤) (W : Given
   to-take id κ′ γ′ =
       ((κ′, tt), (fullShare, tt), tt, (ref b o γ′ ys, (id, tt)), (machine b o ys ∷ [], (vint w64 id ∷ [], tt)))
 
-  abbrev Lent : Lft → GName → Fml
+  abbrev pub Lent : Lft → GName → Fml
   Lent κ′ γ′ = ShrSlice (named 0) κ′ R .own (ref b o γ′ ys) (machine b o ys ∷ [])
 
   goes-take : (id : ℕ) → id < 2 ^ 64 → (κ′ : Lft) (γ′ : GName)
@@ -195,7 +196,7 @@ module _ {M : Type 1} (𝓤 : URA M) (H : Heap 𝓤) (A : Atoms 𝓤) (W : Given
 
   module _ {Γ : List (Item 𝓤)} {G : Goal 𝓤 H} where
     -- t is lent as `&`, for a lifetime that is made for the call
-    lent-out : Soaks G
+    pub lent-out : Soaks G
         → ((α : ℕ) (γ′ : GName)
         → Sq W ((‵ (flft (α ∷ []) fullShare) ⊛ ‵ (Lent (α ∷ []) γ′)) ∷ ‵ (Kept κ q b o γ ys (α ∷ [])) ∷ Γ) G)
         → Sq W (‵ (Owned κ b o γ ys) ∷ ‵ (flft κ q) ∷ Γ) G
@@ -210,7 +211,7 @@ module _ {M : Type 1} (𝓤 : URA M) (H : Heap 𝓤) (A : Atoms 𝓤) (W : Given
         move ! (2 ∷ 1 ∷ []) $ join ! $ k α γ′))
 
     -- the lifetime ends, and t comes back as it was
-    taken-back : Soaks G → {α : ℕ}
+    pub taken-back : Soaks G → {α : ℕ}
         → Step (Go {0}) W (‵ (Owned κ b o γ ys) ∷ ‵ (flft κ q) ∷ Γ) G
         (‵ (flft (α ∷ []) fullShare) ∷ ‵ (Kept κ q b o γ ys (α ∷ [])) ∷ Γ) G
     taken-back z =

@@ -1,16 +1,26 @@
 // What the benchmark measures, for Rust to link: one security admitted and evaluated day after day by the rules of
-// `record_calls`, and parts of that. The table is not part of it, since its records cannot cross to C; the benchmark
-// runs the whole programs besides.
+// `record_calls`, parts of that, and asking why by the rule of `record_reasons`. The table is not part of it, since its
+// records cannot cross to C; the benchmark runs the whole programs besides.
 ghost use Prim.Native.Nat.{_≤_};
 use exact::unsigned;
 use paper::Admission;
 use paper::Day;
 use paper::Record;
 use paper::Term;
+use paper::Verdict;
+use paper_reasons::LevelReason;
+use paper_reasons::PriceReason;
+use paper_reasons::ReplacementReason;
+use paper_reasons::TentativeReason;
+use paper_reasons::WeightReason;
+use paper_reasons::Why;
 use record_calls::Slot;
 
 // The slots of the table that the security would stand in.
 const SLOTS: usize = 512;
+
+// What an accepted evaluation counts beside its seven reasons, so that the sum tells how many were accepted.
+const ACCEPTED: u64 = 8;
 
 // The numbers of one security, in the order of the evening's `admit`.
 fn admission_of(x: &[i64; 28]) -> Admission {
@@ -85,6 +95,69 @@ fn figure(r: Record) -> u64 {
     std::num::wrapping_add_u64(r.p1.units, std::num::wrapping_add_u64(r.s, bands[2].upper))
 }
 
+fn yesterday(price: PriceReason) -> u64 {
+    match price {
+        PriceReason::Yesterday => 1,
+        _ => 0,
+    }
+}
+
+fn down(weight: WeightReason) -> u64 {
+    match weight {
+        WeightReason::Down => 1,
+        _ => 0,
+    }
+}
+
+fn not_replaced(replacement: ReplacementReason) -> u64 {
+    match replacement {
+        ReplacementReason::No => 1,
+        _ => 0,
+    }
+}
+
+fn level(tentative: TentativeReason) -> u64 {
+    match tentative {
+        TentativeReason::Level => 1,
+        _ => 0,
+    }
+}
+
+fn maximum(level: LevelReason) -> u64 {
+    match level {
+        LevelReason::Maximum => 1,
+        _ => 0,
+    }
+}
+
+fn accepted(verdict: Verdict) -> u64 {
+    if verdict.is_done() {
+        return ACCEPTED;
+    }
+    0
+}
+
+// What is added up of an answer that says why: so much where the evaluation is accepted, and 1 for each reason that is
+// the last of its list. The last is named where no earlier one holds, so that no condition can be left out.
+fn lasts(why: Why) -> u64 {
+    let verdict = why.verdict;
+    let reasons = why.reasons;
+    let price = reasons.price;
+    let weight = reasons.weight;
+    let replacement = reasons.replacement;
+    let tentative = reasons.tentative;
+    let level1 = reasons.level1;
+    let level2 = reasons.level2;
+    let level3 = reasons.level3;
+    let sum = std::num::wrapping_add_u64(accepted(verdict), yesterday(price));
+    let sum = std::num::wrapping_add_u64(sum, down(weight));
+    let sum = std::num::wrapping_add_u64(sum, not_replaced(replacement));
+    let sum = std::num::wrapping_add_u64(sum, level(tentative));
+    let sum = std::num::wrapping_add_u64(sum, maximum(level1));
+    let sum = std::num::wrapping_add_u64(sum, maximum(level2));
+    std::num::wrapping_add_u64(sum, maximum(level3))
+}
+
 // One security evaluated on so many days.
 #[no_mangle]
 pub extern "C" fn nedrubal_days(x: &[i64; 28], y: &[i64; 6], rows: &[i64], days: u64) -> u64 {
@@ -95,6 +168,39 @@ pub extern "C" fn nedrubal_days(x: &[i64; 28], y: &[i64; 6], rows: &[i64], days:
         let turn = record_calls::evaluated(first(r), day_of(y, i), rows);
         r = turn.rec;
         sum = std::num::wrapping_add_u64(sum, figure(r));
+        i += 1;
+    }
+    sum
+}
+
+// One security evaluated on so many days, each time as it was admitted: what asking is measured beside.
+#[no_mangle]
+pub extern "C" fn nedrubal_evaluations(
+    x: &[i64; 28],
+    y: &[i64; 6],
+    rows: &[i64],
+    days: u64,
+) -> u64 {
+    let r = admitted(x);
+    let mut sum: u64 = 0;
+    let mut i: u64 = 0;
+    while i < days {
+        let turn = record_calls::evaluated(first(r), day_of(y, i), rows);
+        sum = std::num::wrapping_add_u64(sum, figure(turn.rec));
+        i += 1;
+    }
+    sum
+}
+
+// Why each of those evaluations is answered as it is.
+#[no_mangle]
+pub extern "C" fn nedrubal_whys(x: &[i64; 28], y: &[i64; 6], rows: &[i64], days: u64) -> u64 {
+    let r = admitted(x);
+    let mut sum: u64 = 0;
+    let mut i: u64 = 0;
+    while i < days {
+        let why = record_reasons::why(first(r), day_of(y, i), rows);
+        sum = std::num::wrapping_add_u64(sum, lasts(why));
         i += 1;
     }
     sum

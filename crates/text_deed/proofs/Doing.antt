@@ -1,6 +1,7 @@
 -- What a line of each kind asks for, what is kept of it and what is answered to it: the definition's, by the code's
 -- kinds. Assumes nothing.
 use mathlib.Core.Path.{_≡_, refl, _∙_}
+use mathlib.Core.Bool.{Bool, true, false, _&&_}
 use mathlib.Core.List.{List}
 use Prim.Native.Nat.{ℕ, zero, suc, _≤_, _<_}
 use native.Mathlib.Omega.{arith}
@@ -8,17 +9,22 @@ use lib.Dec.{eqb}
 use lib.IntN.{ℤ}
 use lib.ListN.{take, drop}
 use Rattle.paper.specs.declared.Record.{Record}
-use Rattle.paper.specs.declared.Answer.{Answer}
+use Rattle.paper.specs.declared.Admission.{Admission}
+use Rattle.paper.specs.declared.Day.{Day}
+use Rattle.paper.specs.declared.Quote.{Quote}
 use Rattle.paper.specs.declared.Interest.{Interest}
 use Rattle.paper.specs.declared.InterestAnswer.{InterestAnswer}
 use Rattle.paper.specs.Lists.{pick}
 use Rattle.paper_interest.specs.Interest.{interestAnswer}
-use Rattle.paper.specs.Desk.{step}
+use Rattle.paper.specs.Terms.{dayOf}
+use Rattle.paper.specs.Desk.{Call, admit, evaluate, quote, move, read, step}
 use Rattle.paper_bonds.specs.declared.Bond.{Bond}
 use Rattle.paper_bonds.specs.declared.BondAnswer.{BondAnswer}
 use Rattle.paper_bonds.specs.Bonds.{bondAnswer}
+use Rattle.paper_reasons.specs.Why.{whyOn}
 use Rattle.text_protocol.specs.declared.Kept.{Kept}
 use Rattle.text_protocol.specs.declared.Pairs.{Pairs}
+use Rattle.text_protocol.specs.declared.Performed.{Performed}
 use Rattle.text_protocol.specs.Kept.{keptAfter}
 use Rattle.text_protocol.specs.Names.{interestNames, bondNames, admitKind, evaluateKind, quoteKind, moveKind, readKind, interestKind, bondKind}
 use Rattle.text_protocol.specs.Line.{Said, Nothing, NoCall}
@@ -26,7 +32,8 @@ use Rattle.text_protocol.specs.Line.{Call as saysCall}
 use Rattle.text_protocol.specs.Calls.{interestOf, bondOf, figuresOf, callOf, deedOf}
 use Rattle.text_protocol.specs.Answers.{callText}
 use Rattle.text_protocol.specs.Answers.{figuresOf as figuresAnswered}
-use Rattle.text_protocol.specs.Evening.{keptBy, textOf}
+use Rattle.text_protocol.specs.Evening.{keptBy, callTold, textOf}
+use Rattle.text_protocol.proofs.Spelling.{impossible}
 use Rattle.text_answer.specs.Kinds.{figuresOfKind, textOfKind}
 use Rattle.text_line.specs.declared.Line.{Line}
 use Rattle.text_line.specs.Heard.{blankKind, badKind, said, Heard}
@@ -34,7 +41,7 @@ use Rattle.text_call.specs.declared.Request.{Request}
 use Rattle.text_call.specs.Requests.{requestCall, lineCall}
 use Rattle.text_deed.specs.declared.Beside.{Beside}
 use Rattle.text_deed.specs.declared.Wanted.{Wanted}
-use Rattle.text_deed.specs.Deeds.{callIn, lineText, Wants, Does}
+use Rattle.text_deed.specs.Deeds.{callIn, asksWhy, lineText, Said as SaidBy, Wants, Does}
 
 -- what a line of a kind says
 abbrev saidKind : ℕ → List ℤ → Pairs → Said
@@ -69,6 +76,35 @@ line-kind (suc (suc (suc (suc (suc (suc (suc (suc zero)))))))) h g = is-blank
 line-kind (suc (suc (suc (suc (suc (suc (suc (suc (suc zero))))))))) h g = is-bad
 line-kind (suc (suc (suc (suc (suc (suc (suc (suc (suc (suc j)))))))))) h g = let z : ⊥ = omega arith in absurd z
 
+-- ---- why
+
+-- a line of another kind is not asked why
+no-reasons : (reasons : Bool) → (reasons && false) ≡ false
+no-reasons true = refl
+no-reasons false = refl
+
+-- a request that is an evaluation is of its id and of its day
+evaluates-as : (is-admit is-evaluate is-quote is-move : Bool) (g : Admission) (id id' side : ℕ) (d d' : Day) (q : Quote)
+    (rows rows' : List ℤ) (t : List Record)
+    → pick is-admit (admit g) (pick is-evaluate (evaluate id d rows) (pick is-quote (quote id q)
+    (pick is-move (move id side) (read id)))) ≡ evaluate id' d' rows'
+    → whyOn t id d rows ≡ whyOn t id' d' rows'
+evaluates-as true b c e g id id' side d d' q rows rows' t h = impossible cc
+evaluates-as false true c e g id id' side d d' q rows rows' t h =
+    let i : id ≡ id' = cc in
+    let j : d ≡ d' = cc in
+    let k : rows ≡ rows' = cc in
+    rw (i, j, k)
+evaluates-as false false true e g id id' side d d' q rows rows' t h = impossible cc
+evaluates-as false false false true g id id' side d d' q rows rows' t h = impossible cc
+evaluates-as false false false false g id id' side d d' q rows rows' t h = impossible cc
+
+why-of : (r : Request) (rows : List ℤ) (t : List Record) {id : ℕ} {d : Day} {rows' : List ℤ}
+    → requestCall r rows ≡ evaluate id d rows' → whyOn t (r .id) (dayOf (r .day)) rows ≡ whyOn t id d rows'
+why-of r rows t {id} {d} {rows'} h =
+    evaluates-as (eqb (r .kind) admitKind) (eqb (r .kind) evaluateKind) (eqb (r .kind) quoteKind)
+    (eqb (r .kind) moveKind) (r .admission) (r .id) id (r .side) (dayOf (r .day)) d (r .quote) rows rows' t h
+
 module _ (k : Kept) (zs : List ℤ) (p : Pairs) where
   abbrev worked : InterestAnswer
   worked = interestAnswer (interestOf zs) (figuresOf interestNames zs)
@@ -102,20 +138,23 @@ module _ (k : Kept) (zs : List ℤ) (p : Pairs) where
   keeps-kind kept is-blank e f = f (λ q. omega arith)
   keeps-kind kept is-bad e f = f (λ q. omega arith)
 
-  says-kind : (n : ℕ) (b : Beside) (a : Answer) (t : List Record) {kind : ℕ} → LineKind kind
+  says-kind : (reasons : Bool) (n : ℕ) (b : Beside) (r : Request) (rows : List ℤ) (a : Performed) (t : List Record)
+      {kind : ℕ} → LineKind kind
       → (kind ≡ interestKind → b .interest ≡ worked) → (kind ≡ bondKind → b .bond ≡ workedBond)
-      → a ≡ step (callIn (deedOf k (saidKind kind zs p))) t .answer
-      → lineText kind n b a ≡ textOf n (deedOf k (saidKind kind zs p)) t
-  unfolding lineText textOf deedOf callOf callIn callText textOfKind figuresOfKind figuresAnswered
-  says-kind n b a t admits f g e = rw e
-  says-kind n b a t evaluates f g e = rw e
-  says-kind n b a t quotes f g e = rw e
-  says-kind n b a t moves f g e = rw e
-  says-kind n b a t reads f g e = rw e
-  says-kind n b a t asks-interest f g e = rw (f refl)
-  says-kind n b a t asks-bond f g e = rw (g refl)
-  says-kind n b a t is-blank f g e = refl
-  says-kind n b a t is-bad f g e = refl
+      → requestCall r rows ≡ callIn (deedOf k (saidKind kind zs p))
+      → SaidBy (asksWhy reasons kind) r rows (callIn (deedOf k (saidKind kind zs p))) t a
+      → lineText (asksWhy reasons kind) kind n b a ≡ textOf reasons n (deedOf k (saidKind kind zs p)) t
+  unfolding lineText textOf callTold deedOf callOf callIn callText textOfKind figuresOfKind figuresAnswered
+  says-kind reasons n b r rows a t admits f g asks e = rw (no-reasons reasons, e .answer)
+  says-kind true n b r rows a t evaluates f g asks e = rw (e .why refl, why-of r rows t asks)
+  says-kind false n b r rows a t evaluates f g asks e = rw (e .answer)
+  says-kind reasons n b r rows a t quotes f g asks e = rw (no-reasons reasons, e .answer)
+  says-kind reasons n b r rows a t moves f g asks e = rw (no-reasons reasons, e .answer)
+  says-kind reasons n b r rows a t reads f g asks e = rw (no-reasons reasons, e .answer)
+  says-kind reasons n b r rows a t asks-interest f g asks e = rw (no-reasons reasons, f refl)
+  says-kind reasons n b r rows a t asks-bond f g asks e = rw (no-reasons reasons, g refl)
+  says-kind reasons n b r rows a t is-blank f g asks e = rw (no-reasons reasons)
+  says-kind reasons n b r rows a t is-bad f g asks e = rw (no-reasons reasons)
 
 -- ---- what is wanted of a line
 
@@ -166,9 +205,12 @@ wants-does l xs s k w h q =
     let zs : List ℤ = take (l .count) xs in
     let e : saidKind (l .kind) zs (l .pairs) ≡ s = said-kind l xs (h .says) in
     let is : LineKind (l .kind) = line-kind (l .kind) (h .low) (h .high) in
+    let asks : requestCall (w .request) (drop 13 zs) ≡ callIn (deedOf k (saidKind (l .kind) zs (l .pairs))) =
+    q .asks ∙ asks-kind k zs (l .pairs) is in
     record {
-      asks = q .asks ∙ rw (← e) (asks-kind k zs (l .pairs) is);
+      asks = rw (← e) asks;
       kept = rw (← e) (keeps-kind k zs (l .pairs) (w .kept) is (q .keeps) (q .stays));
-      says = λ n a t f.
-          rw (← e) (says-kind k zs (l .pairs) n (w .beside) a t is (q .works) (q .bonds) (rw (← e) at f));
+      says = λ reasons n a t f.
+          rw (← e) (says-kind k zs (l .pairs) reasons n (w .beside) (w .request) (drop 13 zs) a t is (q .works)
+          (q .bonds) asks (rw (← e) at f));
     }

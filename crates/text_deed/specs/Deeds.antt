@@ -1,25 +1,30 @@
 -- What a line asks for, as the code has it: by the line's kind. Assumes nothing.
 use mathlib.Core.Path.{_≡_}
+use mathlib.Core.Bool.{Bool, true, _&&_}
 use mathlib.Core.List.{List, []}
 use Prim.Native.Nat.{ℕ}
 use lib.Dec.{eqb}
 use lib.IntN.{ℤ}
 use lib.ListN.{drop}
 use Rattle.paper.specs.declared.Record.{Record}
-use Rattle.paper.specs.declared.Answer.{Answer}
 use Rattle.paper.specs.Lists.{pick}
+use Rattle.paper.specs.Terms.{dayOf}
 use Rattle.paper.specs.Desk.{Call, read, step}
 use Rattle.paper_interest.specs.Interest.{interestAnswer}
 use Rattle.paper_bonds.specs.Bonds.{bondAnswer}
+use Rattle.paper_reasons.specs.Why.{whyOn}
 use Rattle.text_protocol.specs.declared.Kept.{Kept}
 use Rattle.text_protocol.specs.declared.Pairs.{Pairs}
+use Rattle.text_protocol.specs.declared.Performed.{Performed}
 use Rattle.text_protocol.specs.Kept.{keptAfter}
-use Rattle.text_protocol.specs.Names.{interestKind, bondKind, interestNames, bondNames}
+use Rattle.text_protocol.specs.Names.{evaluateKind, interestKind, bondKind, interestNames, bondNames}
 use Rattle.text_protocol.specs.Calls.{Deed, nothing, noCall, call, interest, bond, interestOf, bondOf, figuresOf}
 use Rattle.text_protocol.specs.Answers.{badText, interestText, bondText}
+use Rattle.text_protocol.specs.Reasons.{whyText}
 use Rattle.text_protocol.specs.Evening.{keptBy, textOf}
 use Rattle.text_answer.specs.Kinds.{textOfKind}
 use Rattle.text_line.specs.Heard.{blankKind, badKind}
+use Rattle.text_call.specs.declared.Request.{Request}
 use Rattle.text_call.specs.Requests.{requestCall, lineCall}
 use Rattle.text_deed.specs.declared.Beside.{Beside}
 use Rattle.text_deed.specs.declared.Wanted.{Wanted}
@@ -32,13 +37,23 @@ callIn (call c) = c
 callIn (interest i keys) = read 0
 callIn (bond b flows) = read 0
 
--- the text of an answer, as the code has it: by the line's kind
-unfoldable pub lineText : (kind number : ℕ) → Beside → Answer → List ℕ
-lineText k n b a =
-    pick (eqb k blankKind) []
+-- a line of a kind is answered with why, where evaluations are: it is one
+abbrev pub asksWhy : (reasons : Bool) → (kind : ℕ) → Bool
+asksWhy reasons k = reasons && eqb k evaluateKind
+
+-- the text of an answer, as the code has it: why, where `asked`; else by the line's kind
+unfoldable pub lineText : (asked : Bool) → (kind number : ℕ) → Beside → Performed → List ℕ
+lineText asked k n b p =
+    pick asked (whyText (p .why))
+    (pick (eqb k blankKind) []
     (pick (eqb k badKind) (badText n)
     (pick (eqb k interestKind) (interestText (b .interest))
-    (pick (eqb k bondKind) (bondText (b .bond)) (textOfKind k a))))
+    (pick (eqb k bondKind) (bondText (b .bond)) (textOfKind k (p .answer))))))
+
+-- WHAT THE DESK SAYS to a request on the table t, whose call is c: what c answers, and why, where that is asked for
+pub record Said (asked : Bool) (r : Request) (rows : List ℤ) (c : Call) (t : List Record) (p : Performed) : Type 0 where
+  pub answer : p .answer ≡ step c t .answer
+  pub why : asked ≡ true → p .why ≡ whyOn t (r .id) (dayOf (r .day)) rows
 
 -- what the code makes of a line of a kind, of the numbers zs and the pairs p
 pub record Wants (k : Kept) (kind : ℕ) (zs : List ℤ) (p : Pairs) (r : Wanted) : Type 0 where
@@ -50,9 +65,10 @@ pub record Wants (k : Kept) (kind : ℕ) (zs : List ℤ) (p : Pairs) (r : Wanted
   pub stays : (kind ≡ interestKind → ⊥) → r .kept ≡ k
 
 -- WHAT THE CODE MAKES OF A LINE IS THE DEED d: its call of the desk, what is kept after it, and the text of its answer,
--- where the desk's answer is the one to that call
+-- where the desk says what it says to that call, and however evaluations are answered
 pub record Does (k : Kept) (d : Deed) (kind : ℕ) (zs : List ℤ) (r : Wanted) : Type 0 where
   pub asks : requestCall (r .request) (drop 13 zs) ≡ callIn d
   pub kept : r .kept ≡ keptBy d k
-  pub says : (n : ℕ) (a : Answer) (t : List Record) → a ≡ step (callIn d) t .answer
-      → lineText kind n (r .beside) a ≡ textOf n d t
+  pub says : (reasons : Bool) (n : ℕ) (a : Performed) (t : List Record)
+      → Said (asksWhy reasons kind) (r .request) (drop 13 zs) (callIn d) t a
+      → lineText (asksWhy reasons kind) kind n (r .beside) a ≡ textOf reasons n d t

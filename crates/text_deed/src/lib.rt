@@ -6,7 +6,6 @@ ghost use Rattle.text_protocol.specs.Bytes.{room};
 ghost use Rattle.text_protocol.specs.Answers.{answerMost};
 ghost use Rattle.text_out.specs.Wrote.{Wrote};
 ghost use Rattle.text_deed.specs.Deeds.{lineText, Wants};
-use paper::Answer;
 use paper::InterestAnswer;
 use paper::Verdict;
 use paper_bonds::BondAnswer;
@@ -23,7 +22,9 @@ use text_kept::kept_after;
 use text_line::Line;
 use text_protocol::Kept;
 use text_protocol::Kind;
+use text_protocol::Performed;
 use text_protocol::ROOM;
+use text_why::say_why;
 
 // What the calls beside the table answer to a line, the interest side's and a bond's: only the one that the line asks
 // for counts.
@@ -90,11 +91,23 @@ pub fn wanted_by(zs: &[i64], l: Line, k: Kept) -> Wanted
     }
 }
 
-// Appends the answer to a line of a kind.
-pub fn say(out: &mut [u8; ROOM], len: usize, kind: u64, number: u64, b: Beside, a: Answer) -> usize
+// Appends the answer to a line of a kind; `asked` is whether it says why.
+pub fn say(
+    out: &mut [u8; ROOM],
+    len: usize,
+    asked: bool,
+    kind: u64,
+    number: u64,
+    b: Beside,
+    p: Performed,
+) -> usize
     requires { ⌜ len + answerMost ≤ room ⌝ }
-    ensures { λ r. ⌜ Wrote (now (out .entry)) len (now (out .exit)) r (lineText kind number b a) answerMost ⌝ }
+    ensures { λ r. ⌜ Wrote (now (out .entry)) len (now (out .exit)) r (lineText asked kind number b p) answerMost ⌝ }
 {
+    if asked {
+        let why = p.why;
+        return say_why(out, len, why);
+    }
     if kind == Kind::BLANK {
         return len;
     }
@@ -109,5 +122,6 @@ pub fn say(out: &mut [u8; ROOM], len: usize, kind: u64, number: u64, b: Beside, 
         let bond = b.bond;
         return say_bond(out, len, bond);
     }
-    say_answer(out, len, kind, a)
+    let answer = p.answer;
+    say_answer(out, len, kind, answer)
 }

@@ -1,4 +1,4 @@
 pub mod Gives
-mod Requests
-mod Hands
+pub mod Requests
+pub mod Hands
 mod Arms

@@ -1,11 +1,12 @@
--- The plain values that the calls take, with their laws, and the call that each kind of request is. Assumes nothing.
+-- A request's machine type, the plain values that the calls take, with their laws, and the call that each kind of
+-- request is. Assumes nothing.
 use mathlib.Core.Path.{_≡_, refl, _∙_}
 use mathlib.Core.Bool.{Bool, true, false, not}
 use mathlib.Core.List.{List}
 use Prim.Native.Nat.{ℕ}
 use lib.Dec.{T, eqb}
 use lib.IntN.{ℤ}
-use mir.Syntax.{w64, tyInt}
+use mir.Syntax.{Ty, w64, tyInt, tyStruct, tcons, tnil}
 use mir.Val.{vint}
 use denote.Builtin.{u64}
 use denote.Plain.{uint-tells, uint-lawful, uint-makes}
@@ -14,6 +15,7 @@ use Rattle.paper.specs.declared.AskedDay.{AskedDay}
 use Rattle.paper.specs.Lists.{pick}
 use Rattle.paper.specs.Terms.{dayOf}
 use Rattle.paper.specs.Desk.{Call, admit, evaluate, quote, move, read}
+use Rattle.paper.proofs.Admission.Laws as X′
 use Rattle.paper.proofs.AskedDay as D
 use Rattle.paper.proofs.AskedDay.Laws as D′
 use Rattle.paper.proofs.Quote as Q
@@ -21,7 +23,14 @@ use Rattle.paper.proofs.Quote.Laws as Q′
 use Rattle.text_protocol.specs.Names.{admitKind, evaluateKind, quoteKind, moveKind}
 use Rattle.text_call.specs.declared.Request.{Request}
 use Rattle.text_call.specs.Requests.{requestCall}
+use Rattle.text_call.proofs.Request as B
 use Rattle.desk.proofs.Shape.{Plain, PlainLaws, of-row}
+
+-- the machine type of a request, with the types of its fields by name
+abbrev pub request-ty : Ty
+request-ty =
+    tyStruct (B.struct .name) (tcons (tyInt w64) (tcons (tyInt w64)
+    (tcons X′.mir (tcons D′.mir (tcons Q′.mir (tcons (tyInt w64) tnil))))))
 
 abbrev pub asked : Plain
 asked = of-row D.the-row D′.mir

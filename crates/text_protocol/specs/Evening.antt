@@ -1,18 +1,21 @@
 -- docs/EVENING.md, "An evening": what lines do, one after the other, to the table and to what is kept, and what
 -- is answered to them. Assumes nothing.
+use mathlib.Core.Bool.{Bool}
 use mathlib.Core.List.{List, [], _∷_, _++_}
 use Prim.Native.Nat.{ℕ, _+_}
 use lib.Dec.{ltb}
 use Rattle.paper.specs.declared.Record.{Record}
 use Rattle.paper.specs.Lists.{pick}
 use Rattle.paper_interest.specs.Interest.{interestAnswer}
-use Rattle.paper.specs.Desk.{step}
+use Rattle.paper.specs.Desk.{Call, admit, evaluate, quote, move, read, step}
 use Rattle.paper_bonds.specs.Bonds.{bondAnswer}
+use Rattle.paper_reasons.specs.Why.{whyOn}
 use Rattle.text_protocol.specs.declared.Kept.{Kept}
 use Rattle.text_protocol.specs.Kept.{keptAfter}
 use Rattle.text_protocol.specs.Line.{meaning}
 use Rattle.text_protocol.specs.Calls.{Deed, nothing, noCall, call, interest, bond, deedOf}
 use Rattle.text_protocol.specs.Answers.{badText, callText, interestText, bondText}
+use Rattle.text_protocol.specs.Reasons.{whyText}
 
 -- the number of the line that comes next, what is kept of the interest lines, and the table
 pub record Evening : Type 0 where
@@ -38,13 +41,27 @@ keptBy (call c) k = k
 keptBy (interest i keys) k = keptAfter k i (interestAnswer i keys)
 keptBy (bond b flows) k = k
 
+-- what a call of document 01 answers
+abbrev pub answerTo : Call → List Record → List ℕ
+answerTo c t = callText c (step c t .answer)
+
+-- `reasons` is how evaluations are answered: with the record, as the program `evening` does, or with why it is what it
+-- is, as the program `why` does. Every other call is answered alike
+unfoldable pub callTold : (reasons : Bool) → Call → List Record → List ℕ
+callTold reasons (admit g) t = answerTo (admit g) t
+callTold reasons (evaluate id d rows) t =
+    pick reasons (whyText (whyOn t id d rows)) (answerTo (evaluate id d rows) t)
+callTold reasons (quote id q) t = answerTo (quote id q) t
+callTold reasons (move id side) t = answerTo (move id side) t
+callTold reasons (read id) t = answerTo (read id) t
+
 -- the answer to the n-th line; a blank line has none
-unfoldable pub textOf : ℕ → Deed → List Record → List ℕ
-textOf n nothing t = []
-textOf n noCall t = badText n
-textOf n (call c) t = callText c (step c t .answer)
-textOf n (interest i keys) t = interestText (interestAnswer i keys)
-textOf n (bond b flows) t = bondText (bondAnswer b flows)
+unfoldable pub textOf : (reasons : Bool) → (n : ℕ) → Deed → List Record → List ℕ
+textOf reasons n nothing t = []
+textOf reasons n noCall t = badText n
+textOf reasons n (call c) t = callTold reasons c t
+textOf reasons n (interest i keys) t = interestText (interestAnswer i keys)
+textOf reasons n (bond b flows) t = bondText (bondAnswer b flows)
 
 -- lines are counted from 1, blank ones too, up to the greatest number of 64 bits
 abbrev pub lastNumber : ℕ
@@ -67,8 +84,8 @@ after l e =
     }
 
 -- THE ANSWER TO A LINE
-unfoldable pub answer : List ℕ → Evening → List ℕ
-answer l e = textOf (e .number) (askedBy l e) (e .table)
+unfoldable pub answer : (reasons : Bool) → List ℕ → Evening → List ℕ
+answer reasons l e = textOf reasons (e .number) (askedBy l e) (e .table)
 
 -- the evening after a line that asks for nothing, or is no call: only the number of the line goes on
 abbrev pub passedOver : Evening → Evening
@@ -82,6 +99,6 @@ afterAll [] e = e
 afterAll (l ∷ ls) e = afterAll ls (after l e)
 
 -- THE ANSWERS TO LINES
-unfoldable pub answers : List (List ℕ) → Evening → List ℕ
-answers [] e = []
-answers (l ∷ ls) e = answer l e ++ answers ls (after l e)
+unfoldable pub answers : (reasons : Bool) → List (List ℕ) → Evening → List ℕ
+answers reasons [] e = []
+answers reasons (l ∷ ls) e = answer reasons l e ++ answers reasons ls (after l e)

@@ -8,4 +8,6 @@ pub mod Kept
 pub mod Calls
 pub mod CallCases
 pub mod Answers
+pub mod Reasons
+pub mod ReasonCases
 pub mod Evening

@@ -1,7 +1,9 @@
 // The evening's text, as docs/EVENING.md gives it: what the definitions (specs/) and the code share. This crate has no
 // function: the definitions say what a line of text means and what is printed, and every other crate of the text is
 // proved equal to them.
+use paper::Answer;
 use paper::WorkedBand;
+use paper_reasons::Why;
 
 // The bytes of each buffer: of what is read, and of the answers that wait.
 pub const ROOM: usize = 65_536;
@@ -74,4 +76,10 @@ pub struct Pairs {
     pub first: bool,
     pub second: bool,
     pub third: bool,
+}
+
+// What the desk says to a line: what its call answers, and why, which counts only where that is asked for.
+pub struct Performed {
+    pub answer: Answer,
+    pub why: Why,
 }

@@ -1,4 +1,5 @@
--- The types and the machine values of the lent arrays, of a state and of a line that was heard. Assumes nothing.
+-- The types and the machine values of the lent arrays, of a state, of a line that was heard and of what the desk said.
+-- Assumes nothing.
 use mathlib.Core.Path.{_≡_, ap, subst}
 use mathlib.Core.List.{List, [], _∷_}
 use Prim.Native.Nat.{ℕ}
@@ -27,6 +28,9 @@ use Rattle.text_turn.specs.declared.Prepared.{Prepared}
 use Rattle.text_turn.proofs.State as G
 use Rattle.text_turn.proofs.State.Laws as G′
 use Rattle.text_deed.proofs.Beside.Laws as B′
+use Rattle.text_protocol.specs.declared.Performed.{Performed}
+use Rattle.text_protocol.proofs.Performed as F
+use Rattle.text_protocol.proofs.Performed.Laws as F′
 use Rattle.text_turn.proofs.Prepared as P
 use Rattle.text_turn.proofs.Prepared.Laws as P′
 
@@ -57,12 +61,12 @@ Lent X n κ b o γ x = MutRef (named n) κ X .own (to b o γ x) (vptr b o ∷ []
 -- their machine types, with the types of their fields by name
 abbrev pub state-ty : Ty
 state-ty = tyStruct (G.struct .name) (tcons I′.mir (tcons (tyInt w64) (tcons K′.mir (tcons (tyInt w64) (tcons tyBool
-    tnil)))))
+    (tcons tyBool tnil))))))
 
 abbrev pub heard-ty : Ty
 heard-ty = tyStruct (P.struct .name) (tcons I′.mir (tcons (tyInt w64) (tcons K′.mir (tcons (tyInt w64) (tcons tyBool
     (tcons (tyInt w64) (tcons (tyInt w64)
-    (tcons R′.mir (tcons B′.mir tnil)))))))))
+    (tcons R′.mir (tcons B′.mir (tcons tyBool (tcons tyBool tnil)))))))))))
 
 abbrev pub state-val : State → Val
 state-val = LL.val G.the-type G′.the-laws
@@ -94,3 +98,6 @@ module _ {M : Type 1} (𝓤 : URA M) (H : Heap 𝓤) (A : Atoms 𝓤) (W : Given
 
   pub typed-heard : (p : Prepared) (w : Val) → Is P.the-row p (w ∷ []) → T (hasTy heard-ty w) × WT w
   typed-heard p w is = LL.lawful P.the-type P′.the-laws 𝓤 H A W .typed p (w ∷ []) is .0
+
+  pub typed-performed : (a : Performed) (w : Val) → Is F.the-row a (w ∷ []) → T (hasTy F′.mir w) × WT w
+  typed-performed a w is = LL.lawful F.the-type F′.the-laws 𝓤 H A W .typed a (w ∷ []) is .0

@@ -2,7 +2,7 @@
 -- nothing.
 use mathlib.Core.Path.{_≡_, refl, sym, ap, _∙_}
 use mathlib.Core.Logic.{_⊎_, inl, inr}
-use mathlib.Core.Bool.{false}
+use mathlib.Core.Bool.{Bool, false}
 use mathlib.Core.List.{List, [], _∷_, _++_, append-assoc}
 use Prim.Native.Nat.{ℕ, _+_, _-_, _≤_, _<_}
 use native.Mathlib.Omega.{arith}
@@ -48,26 +48,29 @@ Reached got lines b s =
     ((got ≡ joined lines (unread b (s .input))) × (length lines + s .input .left ≡ mostLines))
     ⊎ ((s .input .left ≡ 0) × Cut got lines (s .ok))
 
--- where the loop stands, from the table t on
-pub record Sofar (t : List Record) (b : List ℕ) (s : State) (t' : List Record) : Type 0 where
+-- where the loop stands, from the table t on, where evaluations are answered in one way
+pub record Sofar (reasons : Bool) (t : List Record) (b : List ℕ) (s : State) (t' : List Record) : Type 0 where
   pub got : List ℕ
   pub lines : List (List ℕ)
   pub unbroken : Each lines
-  pub evening : eveningOf s t' ≡ afterAll lines (eveningOf startState t)
+  pub evening : eveningOf s t' ≡ afterAll lines (eveningOf (startState reasons) t)
+  pub one-way : s .reasons ≡ reasons
   pub stands : Stands b (s .input)
   pub room : s .waiting + 1200 ≤ 65536
   pub last : s .input .left ≡ 0 → s .waiting ≡ 0
   pub are : Reached got lines b s
 
 -- at the start nothing is read
-pub none-yet : (t : List Record) (b : List ℕ) → length b ≡ 65536 → Sofar t b startState t
+pub none-yet : (reasons : Bool) (t : List Record) (b : List ℕ) → length b ≡ 65536
+    → Sofar reasons t b (startState reasons) t
 unfolding unread lineLength run Each afterAll joined
-none-yet t b long =
+none-yet reasons t b long =
     record {
       got = [];
       lines = [];
       unbroken = tt;
       evening = refl;
+      one-way = refl;
       stands = record { low = omega arith; high = omega arith; in-b = omega arith; long = long; is = refl };
       room = omega arith;
       last = λ h. refl;
@@ -80,9 +83,9 @@ unfolding unread
 stands-halted b i s = record { low = s .low; high = s .high; in-b = s .in-b; long = s .long; is = s .is }
 
 -- ONE TURN MORE
-module _ {t : List Record} {b : List ℕ} {s : State} {u : List Record} {o b' : List ℕ} {r : State} {u' : List Record} {o'
-    : List ℕ}
-    (so : Sofar t b s u) (more : 0 < s .input .left) (turn : Turns b s u o b' r u' o') where
+module _ {reasons : Bool} {t : List Record} {b : List ℕ} {s : State} {u : List Record} {o b' : List ℕ} {r : State}
+    {u' : List Record} {o' : List ℕ} (so : Sofar reasons t b s u) (more : 0 < s .input .left)
+    (turn : Turns b s u o b' r u' o') where
   abbrev all : List (List ℕ)
   all = so .lines ++ turn .line ∷ []
 
@@ -153,14 +156,15 @@ module _ {t : List Record} {b : List ℕ} {s : State} {u : List Record} {o b' : 
   stands-on (inl e) = rw e (turn .next .stands)
   stands-on (inr e) = rw (e .1) (stands-halted b' (turn .behind) (turn .next .stands))
 
-  pub one-more : Sofar t b' r u'
+  pub one-more : Sofar reasons t b' r u'
   one-more =
       record {
         got = all-got;
         lines = all;
         unbroken = each;
         evening = turn .evening ∙ ap (after (turn .line)) (so .evening) ∙ sym (after-one (so .lines) (turn .line)
-            (eveningOf startState t));
+            (eveningOf (startState reasons) t));
+        one-way = turn .reasons ∙ so .one-way;
         stands = stands-on (turn .goes-on);
         room = turn .room;
         last = turn .last;
@@ -179,26 +183,27 @@ module _ {t : List Record} {b : List ℕ} {s : State} {u : List Record} {o b' : 
   fewer = fewer-still (turn .goes-on) (fewer-behind (turn .next .are))
 
 -- AT THE END: no line is left to hear, so that either the run's most lines were heard, or it is over already
-module _ {t : List Record} {b : List ℕ} {s : State} {u : List Record} (so : Sofar t b s u) (over : s .input .left ≡ 0)
-  where
-    cut : Reached (so .got) (so .lines) b s → Cut (so .got) (so .lines) (s .ok)
-    cut (inl e) =
-        record {
-          whole = so .lines;
-          behind = unread b (s .input);
-          are = e .0;
-          unbroken = so .unbroken;
-          heard = inr (refl, inr (omega (arith, e .1, over)));
-        }
-    cut (inr e) = e .1
+module _ {reasons : Bool} {t : List Record} {b : List ℕ} {s : State} {u : List Record} (so : Sofar reasons t b s u)
+    (over : s .input .left ≡ 0) where
+  cut : Reached (so .got) (so .lines) b s → Cut (so .got) (so .lines) (s .ok)
+  cut (inl e) =
+      record {
+        whole = so .lines;
+        behind = unread b (s .input);
+        are = e .0;
+        unbroken = so .unbroken;
+        heard = inr (refl, inr (omega (arith, e .1, over)));
+      }
+  cut (inr e) = e .1
 
-    pub served : Serves t s u
-    served =
-        record {
-          got = so .got;
-          lines = so .lines;
-          cut = cut (so .are);
-          evening = so .evening;
-          over = over;
-          told = so .last over;
-        }
+  pub served : Serves reasons t s u
+  served =
+      record {
+        got = so .got;
+        lines = so .lines;
+        cut = cut (so .are);
+        evening = so .evening;
+        one-way = so .one-way;
+        over = over;
+        told = so .last over;
+      }

@@ -24,9 +24,9 @@ use denote.Triple.Statement.{Contract, Triple}
 use denote.Triple.Call.{calls-at}
 use denote.Triple.Spec.{tripleOf}
 use denote.Triple.Walked.{says}
-use Rattle.paper.specs.declared.Answer.{Answer}
-use Rattle.paper.proofs.Answer as N
-use Rattle.desk.proofs.Row.{makes-answer, answer-val}
+use Rattle.text_protocol.specs.declared.Performed.{Performed}
+use Rattle.text_protocol.proofs.Performed as F
+use Rattle.text_protocol.proofs.Performed.Laws as F′
 use Rattle.text_turn.specs.declared.State.{State}
 use Rattle.text_turn.specs.declared.Prepared.{Prepared}
 use Rattle.text_turn.specs.Turn.{Tells}
@@ -42,8 +42,8 @@ module _ {M : Type 1} (𝓤 : URA M) (H : Heap 𝓤) (A : Atoms 𝓤) (mem′ : 
   Tell = tripleOf 𝓤 H A tell.signature (tell.spec 𝓤 H A mem′ run)
 
   module _ (W : Given 𝓤 H A) (κ : Lft) (q : Share) (b o : ℕ) (γ : GName) (os : List ℕ) (p : Prepared) (held : IsHeard p)
-      (a : Answer) (v : Val)
-      (ia : Is N.the-row a (v ∷ [])) (space : p .waiting + 1200 ≤ 65536) where
+      (a : Performed) (v : Val)
+      (ia : Is F.the-row a (v ∷ [])) (space : p .waiting + 1200 ≤ 65536) where
     abbrev to-tell : Tell .Ghost
     to-tell = (
       ((κ, tt), (q, tt), tt, (to b o γ os, (p, (a, tt))), (vptr b o ∷ [], (heard-val p ∷ [], (v ∷ [], tt)))),
@@ -54,7 +54,8 @@ module _ {M : Type 1} (𝓤 : URA M) (H : Heap 𝓤) (A : Atoms 𝓤) (mem′ : 
     goes-tell =
         qed W (‵ (Lent Bytes 0 κ b o γ os) ∷ ‵ (flft κ q) ∷ []) ∵ says ! space $ nothing ! $ move ! (2 ∷ 0 ∷ []) $ join
         ! $ frame ! $
-        nothing ! $ owned ! N.the-row (Is N.the-row) (makes-answer 𝓤 H A) a (v ∷ []) ia $ fjoin ! $
+        nothing ! $ owned ! F.the-row (Is F.the-row) (LL.makes F.the-type F′.the-plain 𝓤 H A) a (v ∷ []) ia $
+        fjoin ! $
         owned ! P.the-row (Is P.the-row) (LL.makes P.the-type P′.the-plain 𝓤 H A) p (heard-val p ∷ []) held $ fjoin ! $
         move ! (1 ∷ 0 ∷ []) $
         fjoin ! $ done !

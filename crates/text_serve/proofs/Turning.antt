@@ -7,11 +7,13 @@ use native.Mathlib.Omega.{arith}
 use lib.IntN.{ℤ}
 use lib.ListN.{take, drop}
 use Rattle.paper.specs.declared.Record.{Record}
-use Rattle.paper.specs.declared.Answer.{Answer}
+use Rattle.paper.specs.Terms.{dayOf}
 use Rattle.paper.specs.Desk.{Call, read, step}
+use Rattle.paper_reasons.specs.Why.{whyOn}
 use Rattle.desk.specs.Promises.{Promised}
 use Rattle.desk.proofs.Steps.{read-leaves}
 use Rattle.text_protocol.specs.Bytes.{lineFeed}
+use Rattle.text_protocol.specs.declared.Performed.{Performed}
 use Rattle.text_protocol.specs.Line.{meaning}
 use Rattle.text_protocol.specs.Calls.{Deed, nothing, noCall, call, interest, bond, deedOf}
 use Rattle.text_protocol.specs.Evening.{Evening, tableAfter, numberAfter, after, answer}
@@ -21,8 +23,9 @@ use Rattle.text_input.specs.declared.Input.{Input}
 use Rattle.text_input.specs.Input.{unread, Stands, Next}
 use Rattle.text_turn.specs.declared.State.{State}
 use Rattle.text_turn.specs.declared.Prepared.{Prepared}
-use Rattle.text_deed.specs.Deeds.{callIn, lineText}
+use Rattle.text_deed.specs.Deeds.{callIn, lineText, Said}
 use Rattle.text_turn.specs.Turn.{Prepares, Tells}
+use Rattle.text_ask.specs.Asked.{Asks}
 use Rattle.text_serve.specs.Serve.{eveningOf, Turns}
 
 -- ---- the table: a line that is no call of the desk is a read, which leaves it
@@ -37,10 +40,9 @@ table-of (bond b flows) t = sym (read-leaves t 0)
 
 -- ---- the turn
 
-module _ {b : List ℕ} {s : State} {b' : List ℕ} {p : Prepared} {xs rows : List ℤ} {t t' : List Record} {a : Answer} {o
-    o' : List ℕ} {r : State}
-    (heard : Prepares b s b' p xs) (are : rows ≡ drop 13 (take (p .count) xs)) (done : Promised (requestCall (p
-    .request) rows) t a t')
+module _ {b : List ℕ} {s : State} {b' : List ℕ} {p : Prepared} {xs rows : List ℤ} {t t' : List Record} {a : Performed}
+    {o o' : List ℕ} {r : State} (heard : Prepares b s b' p xs) (are : rows ≡ drop 13 (take (p .count) xs))
+    (done : Asks (p .asked) (p .request) rows t a t')
     (told : Tells o p a o' r) where
   abbrev deed : Deed
   deed = deedOf (s .kept) (meaning (heard .line))
@@ -48,8 +50,16 @@ module _ {b : List ℕ} {s : State} {b' : List ℕ} {p : Prepared} {xs rows : Li
   same-call : requestCall (p .request) rows ≡ callIn deed
   same-call = ap (requestCall (p .request)) are ∙ heard .asks
 
-  performed : Promised (callIn deed) t a t'
-  performed = subst (λ (c : Call). Promised c t a t') same-call done
+  performed : Promised (callIn deed) t (a .answer) t'
+  performed = subst (λ (c : Call). Promised c t (a .answer) t') same-call (done .performed)
+
+  said : Said (p .asked) (p .request) (drop 13 (take (p .count) xs)) (callIn deed) t a
+  said =
+      record {
+        answer = performed .answer;
+        why = λ e.
+            subst (λ (zs : List ℤ). a .why ≡ whyOn t (p .request .id) (dayOf (p .request .day)) zs) are (done .why e);
+      }
 
   evening-is : eveningOf r t' ≡ after (heard .line) (eveningOf s t)
   unfolding after
@@ -59,13 +69,15 @@ module _ {b : List ℕ} {s : State} {b' : List ℕ} {p : Prepared} {xs rows : Li
       let table : t' ≡ tableAfter deed t = performed .table ∙ sym (table-of deed t) in
       λ i. record { number = number i; kept = kept i; table = table i }
 
-  text-is : lineText (p .kind) (p .number) (p .beside) a ≡ answer (heard .line) (eveningOf s t)
+  text-is : lineText (p .asked) (p .kind) (p .number) (p .beside) a ≡ answer (s .reasons) (heard .line) (eveningOf s t)
   unfolding answer
-  text-is = ap (λ (n : ℕ). lineText (p .kind) n (p .beside) a) (heard .number) ∙ heard .says a t (performed .answer)
+  text-is =
+      ap (λ (n : ℕ). lineText (p .asked) (p .kind) n (p .beside) a) (heard .number) ∙ heard .says a t said
 
-  wrote : Wrote o (s .waiting) o' (told .end) (answer (heard .line) (eveningOf s t)) 1200
+  wrote : Wrote o (s .waiting) o' (told .end) (answer (s .reasons) (heard .line) (eveningOf s t)) 1200
   wrote =
-      subst (λ (n : ℕ). Wrote o n o' (told .end) (answer (heard .line) (eveningOf s t)) 1200) (heard .waiting)
+      subst (λ (n : ℕ). Wrote o n o' (told .end) (answer (s .reasons) (heard .line) (eveningOf s t)) 1200)
+      (heard .waiting)
       (subst (λ (u : List ℕ). Wrote o (p .waiting) o' (told .end) u 1200) text-is (told .wrote))
 
   -- A LINE THAT IS HEARD, PERFORMED AND ANSWERED IS ONE TURN
@@ -77,6 +89,7 @@ module _ {b : List ℕ} {s : State} {b' : List ℕ} {p : Prepared} {xs rows : Li
         next = heard .next;
         goes-on = told .goes-on;
         evening = evening-is;
+        reasons = told .reasons ∙ heard .reasons;
         answers = record { end = told .end; wrote = wrote; waits = told .waits };
         room = told .room;
         prompt = told .prompt;

@@ -79,10 +79,12 @@ ended-table ([] ∷ q ∷ ps) e = ended-table (q ∷ ps) (after [] e)
 ended-table ((b ∷ p) ∷ q ∷ ps) e = ended-table (q ∷ ps) (after (b ∷ p) e)
 
 -- AND THE TABLE AT THE END IS THE TABLE AFTER THE LINES OF ALL THAT WAS DELIVERED
-pub served-table : {t : List Record} {r : State} {t' : List Record} (s : Serves t r t') → r .ok ≡ true
-    → length (s .lines) < mostLines → t' ≡ afterAll (lines (s .got)) (eveningOf startState t) .table
+pub served-table : {reasons : Bool} {t : List Record} {r : State} {t' : List Record} (s : Serves reasons t r t')
+    → r .ok ≡ true → length (s .lines) < mostLines
+    → t' ≡ afterAll (lines (s .got)) (eveningOf (startState reasons) t) .table
 unfolding lines
-served-table {t} {r} {t'} s well few =
+served-table {reasons} {t} {r} {t'} s well few =
     ap (λ (z : Evening). z .table) (s .evening)
-    ∙ ap (λ (ls : List (List ℕ)). afterAll ls (eveningOf startState t) .table) (served-pieces (s .cut) well few)
-    ∙ ended-table (pieces isLineFeed (s .got)) (eveningOf startState t)
+    ∙ ap (λ (ls : List (List ℕ)). afterAll ls (eveningOf (startState reasons) t) .table)
+    (served-pieces (s .cut) well few)
+    ∙ ended-table (pieces isLineFeed (s .got)) (eveningOf (startState reasons) t)

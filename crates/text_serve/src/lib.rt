@@ -12,7 +12,7 @@ ghost use Rattle.text_protocol.specs.Answers.{answerMost};
 ghost use Rattle.text_protocol.specs.Line.{keptMost};
 use libc::STDERR_FILENO;
 use paper::Record;
-use text_perform::perform;
+use text_ask::ask;
 use text_protocol::KEPT;
 use text_protocol::ROOM;
 use text_turn::Prepared;
@@ -37,7 +37,7 @@ fn rows_in(xs: &[i64; KEPT], count: usize) -> &[i64]
     rows_of(xs, count)
 }
 
-// One line: heard, performed on the table, answered. The numbers of the line have a lifetime of their own.
+// One line: heard, asked of the desk, answered. The numbers of the line have a lifetime of their own.
 pub fn step<'a, 'b>(
     t: &'a mut [Record],
     buf: &'a mut [u8; ROOM],
@@ -50,7 +50,7 @@ pub fn step<'a, 'b>(
         (now (buf .exit)) r (now (t .exit)) (now (out .exit)) ⌝ }
 {
     let p = hear_in(buf, xs, s);
-    let a = perform(t, p.request, rows_in(xs, p.count));
+    let a = ask(t, p.request, rows_in(xs, p.count), p.asked);
     tell(out, p, a)
 }
 
@@ -61,14 +61,15 @@ fn no_numbers() -> [i64; KEPT]
     [0; KEPT]
 }
 
-// Every line of standard input. The state at the end says whether every read and write went well.
-pub fn serve(t: &mut [Record]) -> State
-    ensures { λ r. ⌜ Serves (now (t .entry)) r (now (t .exit)) ⌝ }
+// Every line of standard input; `reasons` is whether evaluations are answered with why. The state at the end says
+// whether every read and write went well.
+pub fn serve(t: &mut [Record], reasons: bool) -> State
+    ensures { λ r. ⌜ Serves reasons (now (t .entry)) r (now (t .exit)) ⌝ }
 {
     let mut buf = io::large_buffer();
     let mut xs = no_numbers();
     let mut out = io::large_buffer();
-    let mut s = start();
+    let mut s = start(reasons);
     while s.input.left > 0 {
         s = step(t, &mut buf, &mut xs, &mut out, s);
     }
@@ -89,12 +90,17 @@ fn report(s: State) {
     if s.ok & input.ok {
         return;
     }
+    if s.reasons {
+        io::write_all(STDERR_FILENO, b"why: could not read or write\n");
+        return;
+    }
     io::write_all(STDERR_FILENO, b"evening: could not read or write\n");
 }
 
-// A table by value, lent once to every line of standard input.
-pub fn on(t: [Record; Record::SLOTS_MOST]) {
+// A table by value, lent once to every line of standard input: `evening`, and `why` where evaluations are answered with
+// why.
+pub fn on(t: [Record; Record::SLOTS_MOST], reasons: bool) {
     let mut u = t;
-    let s = serve(&mut u);
+    let s = serve(&mut u, reasons);
     report(s);
 }

@@ -9,7 +9,7 @@ use Rattle.text_protocol.specs.Calls.{deedOf}
 use Rattle.text_input.specs.declared.Heard.{Heard}
 use Rattle.text_input.specs.Input.{Hears}
 use Rattle.text_deed.specs.declared.Wanted.{Wanted}
-use Rattle.text_deed.specs.Deeds.{Wants, Does}
+use Rattle.text_deed.specs.Deeds.{asksWhy, Wants, Does}
 use Rattle.text_deed.proofs.Doing.{wants-does}
 use Rattle.text_turn.specs.declared.State.{State}
 use Rattle.text_turn.specs.Turn.{Prepares}
@@ -28,6 +28,8 @@ pub prepared : (b : List ℕ) (s : State) (b' : List ℕ) (h : Heard) (xs : List
       count = h .line .count;
       request = w .request;
       beside = w .beside;
+      reasons = s .reasons;
+      asked = asksWhy (s .reasons) (h .line .kind);
     }) xs
 prepared b s b' h xs w p q =
     let d : Does (s .kept) (deedOf (s .kept) (meaning (p .line))) (h .line .kind) (take (h .line .count) xs) w =
@@ -37,7 +39,8 @@ prepared b s b' h xs w p q =
       next = p .next;
       asks = d .asks;
       kept = d .kept;
-      says = d .says (s .number);
+      says = d .says (s .reasons) (s .number);
+      reasons = refl;
       number = refl;
       waiting = refl;
     }

@@ -1,14 +1,13 @@
 -- The two halves of a turn, before and after the table is asked. Assumes nothing.
 use mathlib.Core.Path.{_≡_}
 use mathlib.Core.Logic.{_⊎_}
-use mathlib.Core.Bool.{true, false}
+use mathlib.Core.Bool.{Bool, true, false}
 use mathlib.Core.List.{List}
 use Prim.Native.Nat.{ℕ, _+_, _≤_}
 use lib.IntN.{ℤ}
 use lib.ListN.{take, drop}
 use Rattle.paper.specs.declared.Record.{Record}
-use Rattle.paper.specs.declared.Answer.{Answer}
-use Rattle.paper.specs.Desk.{step}
+use Rattle.text_protocol.specs.declared.Performed.{Performed}
 use Rattle.text_protocol.specs.Kept.{noneKept}
 use Rattle.text_protocol.specs.Line.{meaning}
 use Rattle.text_protocol.specs.Calls.{deedOf}
@@ -17,7 +16,7 @@ use Rattle.text_out.specs.Wrote.{Wrote}
 use Rattle.text_call.specs.Requests.{requestCall}
 use Rattle.text_input.specs.declared.Input.{Input}
 use Rattle.text_input.specs.Input.{Stands, Next}
-use Rattle.text_deed.specs.Deeds.{callIn, lineText}
+use Rattle.text_deed.specs.Deeds.{callIn, lineText, Said}
 use Rattle.text_turn.specs.declared.State.{State}
 use Rattle.text_turn.specs.declared.Prepared.{Prepared}
 
@@ -27,8 +26,11 @@ pub record Prepares (b : List ℕ) (s : State) (b' : List ℕ) (r : Prepared) (x
   pub next : Next b (s .input) b' (r .input) line
   pub asks : requestCall (r .request) (drop 13 (take (r .count) xs)) ≡ callIn (deedOf (s .kept) (meaning line))
   pub kept : r .kept ≡ keptBy (deedOf (s .kept) (meaning line)) (s .kept)
-  pub says : (a : Answer) (t : List Record) → a ≡ step (callIn (deedOf (s .kept) (meaning line))) t .answer
-      → lineText (r .kind) (s .number) (r .beside) a ≡ textOf (s .number) (deedOf (s .kept) (meaning line)) t
+  pub says : (a : Performed) (t : List Record)
+      → Said (r .asked) (r .request) (drop 13 (take (r .count) xs)) (callIn (deedOf (s .kept) (meaning line))) t a
+      → lineText (r .asked) (r .kind) (s .number) (r .beside) a
+      ≡ textOf (s .reasons) (s .number) (deedOf (s .kept) (meaning line)) t
+  pub reasons : r .reasons ≡ s .reasons
   pub number : r .number ≡ s .number
   pub waiting : r .waiting ≡ s .waiting
 
@@ -39,24 +41,27 @@ halted i = record { at = i .at; end = i .end; len = i .len; left = 0; ok = false
 -- AFTER THE TABLE IS ASKED: the answer is appended behind those that wait, up to `end`. They wait on, or all of them
 -- are handed to `write`; they are handed over where the next line has to be waited for, and where no line is left to
 -- hear. The input goes on as it was, unless a write failed: `ok` says so
-pub record Tells (b : List ℕ) (p : Prepared) (a : Answer) (b' : List ℕ) (r : State) : Type 0 where
+pub record Tells (b : List ℕ) (p : Prepared) (a : Performed) (b' : List ℕ) (r : State) : Type 0 where
   pub end : ℕ
-  pub wrote : Wrote b (p .waiting) b' end (lineText (p .kind) (p .number) (p .beside) a) 1200
+  pub wrote : Wrote b (p .waiting) b' end (lineText (p .asked) (p .kind) (p .number) (p .beside) a) 1200
   pub waits : (r .waiting ≡ end) ⊎ (r .waiting ≡ 0)
   pub room : r .waiting + 1200 ≤ 65536
   pub prompt : r .input .len ≤ r .input .end → r .waiting ≡ 0
   pub last : r .input .left ≡ 0 → r .waiting ≡ 0
   pub kept : r .kept ≡ p .kept
+  pub reasons : r .reasons ≡ p .reasons
   pub number : r .number ≡ numberAfter (p .number)
   pub goes-on : (r .input ≡ p .input) ⊎ ((r .ok ≡ false) × (r .input ≡ halted (p .input)))
 
--- at the start nothing is read, nothing is kept and nothing waits, and the first line is the next
-abbrev pub startState : State
-startState =
+-- at the start nothing is read, nothing is kept and nothing waits, and the first line is the next; `reasons` is how
+-- evaluations are answered, from the start to the end
+abbrev pub startState : (reasons : Bool) → State
+startState reasons =
     record {
       input = record { at = 0; end = 0; len = 0; left = 18446744073709551615; ok = true };
       number = 1;
       kept = noneKept;
       waiting = 0;
       ok = true;
+      reasons = reasons;
     }

@@ -12,7 +12,6 @@ ghost use Rattle.text_protocol.specs.Bytes.{room};
 ghost use Rattle.text_protocol.specs.Answers.{answerMost};
 ghost use Rattle.text_protocol.specs.Line.{keptMost};
 use libc::STDOUT_FILENO;
-use paper::Answer;
 use text_call::Request;
 use text_call::least;
 use text_deed::Beside;
@@ -21,21 +20,24 @@ use text_deed::wanted_by;
 use text_input::Input;
 use text_input::hear;
 use text_protocol::Kept;
+use text_protocol::Kind;
+use text_protocol::Performed;
 use text_protocol::ROOM;
 
 // What goes on from line to line: what is left of the input, the number of the next line, what is kept of the interest
-// lines, how many bytes of answers
-// wait to be written, and whether every read and write went well.
+// lines, how many bytes of answers wait to be written, whether every read and write went well, and whether evaluations
+// are answered with why.
 pub struct State {
     pub input: Input,
     pub number: u64,
     pub kept: Kept,
     pub waiting: usize,
     pub ok: bool,
+    pub reasons: bool,
 }
 
-// A line that was heard: its kind and how many numbers it has, what it asks of the desk, and what is answered to it
-// beside the table.
+// A line that was heard: its kind and how many numbers it has, what it asks of the desk, what is answered to it beside
+// the table, and whether it is answered with why.
 pub struct Prepared {
     pub input: Input,
     pub number: u64,
@@ -46,6 +48,8 @@ pub struct Prepared {
     pub count: usize,
     pub request: Request,
     pub beside: Beside,
+    pub reasons: bool,
+    pub asked: bool,
 }
 
 // ---- before the table is asked
@@ -61,6 +65,7 @@ pub fn prepare(buf: &mut [u8], xs: &mut [i64], s: State) -> Prepared
     let h = hear(buf, xs, input);
     let line = h.line;
     let count = line.count;
+    let kind = line.kind;
     let w = wanted_by(&xs[..count], line, kept);
     let input = h.input;
     let kept = w.kept;
@@ -72,10 +77,12 @@ pub fn prepare(buf: &mut [u8], xs: &mut [i64], s: State) -> Prepared
         kept,
         waiting: s.waiting,
         ok: s.ok,
-        kind: line.kind,
+        kind,
         count,
         request,
         beside,
+        reasons: s.reasons,
+        asked: s.reasons & (kind == Kind::EVALUATE),
     }
 }
 
@@ -90,8 +97,8 @@ pub fn rows_of(xs: &[i64], count: usize) -> &[i64]
 
 // At the start nothing is read and nothing waits. Nothing says that the input ends, so the lines are counted down from
 // a number that no run uses up.
-pub fn start() -> State
-    ensures { λ r. ⌜ r ≡ startState ⌝ }
+pub fn start(reasons: bool) -> State
+    ensures { λ r. ⌜ r ≡ startState reasons ⌝ }
 {
     State {
         input: Input {
@@ -105,6 +112,7 @@ pub fn start() -> State
         kept: text_kept::none(),
         waiting: 0,
         ok: true,
+        reasons,
     }
 }
 
@@ -169,14 +177,14 @@ fn is_due(i: Input, n: usize) -> bool
 }
 
 // Tells the answer to a line: it is appended to those that wait, and they are written where they are due.
-pub fn tell(out: &mut [u8; ROOM], p: Prepared, a: Answer) -> State
+pub fn tell(out: &mut [u8; ROOM], p: Prepared, a: Performed) -> State
     requires { ⌜ p .waiting + answerMost ≤ room ⌝ }
     ensures { λ r. ⌜ Tells (now (out .entry)) p a (now (out .exit)) r ⌝ }
 {
     let i = p.input;
     let kept = p.kept;
     let beside = p.beside;
-    let n = say(out, p.waiting, p.kind, p.number, beside, a);
+    let n = say(out, p.waiting, p.asked, p.kind, p.number, beside, a);
     let number = number_after(p.number);
     if is_due(i, n) {
         let ok = flush(out, n) == n;
@@ -186,6 +194,7 @@ pub fn tell(out: &mut [u8; ROOM], p: Prepared, a: Answer) -> State
             kept,
             waiting: 0,
             ok: p.ok & ok,
+            reasons: p.reasons,
         };
     }
     State {
@@ -194,5 +203,6 @@ pub fn tell(out: &mut [u8; ROOM], p: Prepared, a: Answer) -> State
         kept,
         waiting: n,
         ok: p.ok,
+        reasons: p.reasons,
     }
 }

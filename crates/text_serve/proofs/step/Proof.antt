@@ -44,13 +44,11 @@ use denote.Triple.Table.{entered, cited}
 use denote.Triple.Walked.{says, needs, Stays, gave-slice, gave-ref, stay-none, walkOf, goes-gave-slice, goes-gave-ref, goes-none, Walks, ends-at, walked, walk-meets}
 use denote.Exit.{yes}
 use Rattle.paper.specs.declared.Record.{Record}
-use Rattle.paper.specs.declared.Answer.{Answer}
-use Rattle.paper.proofs.Answer as N
-use Rattle.paper.proofs.Answer.Laws as N′
-use Rattle.desk.specs.Promises.{Promised}
-use Rattle.desk.proofs.Row.{R, typed-answer, env-of, after, answer-val}
+use Rattle.desk.proofs.Row.{R, env-of, after}
 use Rattle.desk.proofs.Calls.{wref, ref, machine, Owned}
-use Rattle.text_call.specs.Requests.{requestCall}
+use Rattle.text_protocol.specs.declared.Performed.{Performed}
+use Rattle.text_protocol.proofs.Performed as F
+use Rattle.text_protocol.proofs.Performed.Laws as F′
 use Rattle.text_call.proofs.Request as B
 use Rattle.text_call.proofs.Request.Laws as B′
 use Rattle.text_input.specs.Input.{Stands}
@@ -62,8 +60,9 @@ use Rattle.text_turn.proofs.State.Laws as G′
 use Rattle.text_turn.proofs.Prepared as P
 use Rattle.text_turn.proofs.Prepared.Laws as P′
 use Rattle.text_perform.proofs.Gives.{freed}
-use Rattle.text_perform.proofs.perform.Symbol as perform-def
-use Rattle.text_perform.proofs.perform.Met as perform-thm
+use Rattle.text_ask.specs.Asked.{Asks}
+use Rattle.text_ask.proofs.ask.Symbol as ask-def
+use Rattle.text_ask.proofs.ask.Met as ask-thm
 use Rattle.text_turn.proofs.tell.Symbol as tell-def
 use Rattle.text_turn.proofs.tell.Met as tell-thm
 use Rattle.text_serve.specs.Serve.{Turns}
@@ -72,10 +71,10 @@ use Rattle.text_serve.proofs.hear_in.Met as hear-thm
 use Rattle.text_serve.proofs.rows_in.Symbol as rows-def
 use Rattle.text_serve.proofs.rows_in.Met as rows-thm
 use Rattle.text_serve.proofs.Turning.{turned}
-use Rattle.text_serve.proofs.Arrays.{Bytes, Numbers, mref, sref, to, Lent, state-ty, heard-ty, state-val, heard-val, IsState, IsHeard, state-is, heard-tells, heard-is, typed-state, typed-heard}
+use Rattle.text_serve.proofs.Arrays.{Bytes, Numbers, mref, sref, to, Lent, state-ty, heard-ty, state-val, heard-val, IsState, IsHeard, state-is, heard-tells, heard-is, typed-state, typed-heard, typed-performed}
 use Rattle.text_serve.proofs.Held.{held, place-of}
 use Rattle.text_serve.proofs.Hears.{Hear, hears}
-use Rattle.text_serve.proofs.Performs.{Rows, Perform, Figures, figures-val, Shared, cuts, performs}
+use Rattle.text_serve.proofs.Performs.{Rows, Ask, Figures, figures-val, Shared, cuts, asks}
 use Rattle.text_serve.proofs.Tells.{Tell, tells}
 use Rattle.text_serve.proofs.step as f
 use Rattle.text_serve.proofs.step.Key as key
@@ -114,7 +113,7 @@ function = record {
       .written))) valueLocal
       ∷ local (tyRef (named 0) mut (pointee (Bytes .written))) valueLocal ∷ local state-ty valueLocal ∷ local heard-ty
       valueLocal
-      ∷ local N′.mir valueLocal ∷ local (mref Bytes) valueLocal ∷ local (mref Numbers) valueLocal ∷ local wref
+      ∷ local F′.mir valueLocal ∷ local (mref Bytes) valueLocal ∷ local (mref Numbers) valueLocal ∷ local wref
       valueLocal
       ∷ local (sliceTy wref) valueLocal ∷ local figures-ty valueLocal ∷ local (sref Numbers) valueLocal ∷ local (mref
       Bytes) valueLocal ∷ [];
@@ -166,11 +165,11 @@ abbrev slot : (k local : ℕ) → ℕ
 slot k i = place-of k for-out i
 
 -- the body from each statement of the source on
-abbrev to-perform : Code
-to-perform = after (after (after (code.function .body)))
+abbrev to-ask : Code
+to-ask = after (after (after (code.function .body)))
 
 abbrev to-tell : Code
-to-tell = after (after (after (after (after to-perform))))
+to-tell = after (after (after (after (after to-ask))))
 
 -- what is known of the fields of a line that was heard
 count-fits : (p : Prepared) → IsHeard p → p .count < 2 ^ 64
@@ -230,8 +229,8 @@ module _ {M : Type 1} (𝓤 : URA M) (H : Heap 𝓤) (A : Atoms 𝓤) (W : Given
 
   module _ (C : Calls 𝓤 H) (Λ : Loops 𝓤 H) (fm : FmC 𝓤 H (W .laws) C) (known-hear : Triple 𝓤 (C hear-def.name) (Hear 𝓤 H
       A mem′ run))
-      (known-rows : Triple 𝓤 (C rows-def.name) (Rows 𝓤 H A mem′ run)) (known-perform : Triple 𝓤 (C perform-def.name)
-      (Perform 𝓤 H A mem′ run))
+      (known-rows : Triple 𝓤 (C rows-def.name) (Rows 𝓤 H A mem′ run)) (known-ask : Triple 𝓤 (C ask-def.name)
+      (Ask 𝓤 H A mem′ run))
       (known-tell : Triple 𝓤 (C tell-def.name) (Tell 𝓤 H A mem′ run)) (l₀ l₁ l₂ l₃ l₄ l₅ l₆ l₇ l₈ l₉ l₁₀ l₁₁ l₁₂ l₁₃ l₁₄
       : ℕ) where
     abbrev En : Env 𝓤 H
@@ -249,19 +248,19 @@ module _ {M : Type 1} (𝓤 : URA M) (H : Heap 𝓤) (A : Atoms 𝓤) (W : Given
     once-heard p = Locals ((heard-val p ∷ []) ∷ [] ∷ (vptr bb ob ∷ []) ∷ (vptr bx ox ∷ []) ∷ [] ∷ [] ∷ [] ∷ [] ∷ [] ∷
         [])
 
-    abbrev once-performed : Prepared → Val → Val → List (Item 𝓤)
-    once-performed p v w = Locals ((heard-val p ∷ []) ∷ (v ∷ []) ∷ (vptr bb ob ∷ []) ∷ (vptr bx ox ∷ []) ∷ (vptr b o ∷
+    abbrev once-asked : Prepared → Val → Val → List (Item 𝓤)
+    once-asked p v w = Locals ((heard-val p ∷ []) ∷ (v ∷ []) ∷ (vptr bb ob ∷ []) ∷ (vptr bx ox ∷ []) ∷ (vptr b o ∷
         []) ∷ (machine b o ys ∷ [])
         ∷ (w ∷ []) ∷ (vptr bx ox ∷ []) ∷ [] ∷ [])
 
     -- `tell(out, p, a)`, and the return
-    telling : {bs′ : List ℕ} {xs′ : List ℤ} {rows : List ℤ} {zs : List Record} (p : Prepared) (a : Answer) (v w : Val)
-        → Prepares bs s bs′ p xs′ → IsHeard p → rows ≡ from-at 13 (take (p .count) xs′) → Promised (requestCall (p
-        .request) rows) ys a zs
-        → length zs ≡ length ys → Is N.the-row a (v ∷ [])
+    telling : {bs′ : List ℕ} {xs′ : List ℤ} {rows : List ℤ} {zs : List Record} (p : Prepared) (a : Performed)
+        (v w : Val) → Prepares bs s bs′ p xs′ → IsHeard p → rows ≡ from-at 13 (take (p .count) xs′)
+        → Asks (p .asked) (p .request) rows ys a zs
+        → length zs ≡ length ys → Is F.the-row a (v ∷ [])
         → Sq W (‵ (Lent Bytes 0 κ bo oo γo os) ∷ ‵ (flft κ q) ∷ ‵ (flft κ₂ q₂) ∷ ‵ (finally R γ zs) ∷ ‵ (fres γb (Bytes
         .coded .code bs′))
-        ∷ ‵ (fres γx (Numbers .coded .code xs′)) ∷ once-performed p v w) (runs C Λ En to-tell (atRet En Post))
+        ∷ ‵ (fres γx (Numbers .coded .code xs′)) ∷ once-asked p v w) (runs C Λ En to-tell (atRet En Post))
     telling {bs′} {xs′} {rows} {zs} p a v w heard ip are done′ l ia =
         assigns ! (addr ! (from ! (hop ! (look ! (slot 6 ℓout) refl) (stop !))))
         (from ! (stop !)) (init ! (slot 6 for-out) refl (tt, tt)) $
@@ -313,14 +312,13 @@ module _ {M : Type 1} (𝓤 : URA M) (H : Heap 𝓤) (A : Atoms 𝓤) (W : Given
     Reading β xs′ = ‵ (flent β (partAt Numbers fullShare xs′ bx ox))
 
     -- the numbers come back, and their borrow is closed; then `tell(out, p, a)`
-    closing : {bs′ : List ℕ} {xs′ : List ℤ} {zs : List Record} (β : ℕ) (fs : RefT (List ℤ)) (p : Prepared) (a : Answer)
-        (v : Val)
-        → Prepares bs s bs′ p xs′ → IsHeard p → fs .now ≡ from-at 13 (take (p .count) xs′) → Promised (requestCall (p
-        .request) (fs .now)) ys a zs
-        → length zs ≡ length ys → Is N.the-row a (v ∷ [])
+    closing : {bs′ : List ℕ} {xs′ : List ℤ} {zs : List Record} (β : ℕ) (fs : RefT (List ℤ)) (p : Prepared)
+        (a : Performed) (v : Val) → Prepares bs s bs′ p xs′ → IsHeard p → fs .now ≡ from-at 13 (take (p .count) xs′)
+        → Asks (p .asked) (p .request) (fs .now) ys a zs
+        → length zs ≡ length ys → Is F.the-row a (v ∷ [])
         → Sq W (‵ (finally R γ zs) ∷ ‵ (flft κ q) ∷ ‵ (flft (β ∷ []) fullShare) ∷ Reading (β ∷ []) xs′ ∷ ‵ (fres γb
         (Bytes .coded .code bs′))
-        ∷ Opened (‵ (Lent Bytes 0 κ bo oo γo os) ∷ once-performed p v (figures-val fs))) (runs C Λ En to-tell (atRet En
+        ∷ Opened (‵ (Lent Bytes 0 κ bo oo γo os) ∷ once-asked p v (figures-val fs))) (runs C Λ En to-tell (atRet En
         Post))
     closing {bs′} {xs′} {zs} β fs p a v heard ip are done′ l ia =
         move ! (2 ∷ []) $ lft-end ! tt $ move ! (0 ∷ 3 ∷ []) $ lent-back ! tt $
@@ -336,30 +334,32 @@ module _ {M : Type 1} (𝓤 : URA M) (H : Heap 𝓤) (A : Atoms 𝓤) (W : Given
     once-cut p w = Locals ((heard-val p ∷ []) ∷ [] ∷ (vptr bb ob ∷ []) ∷ (vptr bx ox ∷ []) ∷ (vptr b o ∷ [])
         ∷ (machine b o ys ∷ []) ∷ (w ∷ []) ∷ (vptr bx ox ∷ []) ∷ [] ∷ [])
 
-    -- `let a = perform(t, p.request, ..);`, with the row figures in their local
-    performing : {bs′ : List ℕ} {xs′ : List ℤ} (β : ℕ) (fs : RefT (List ℤ)) (p : Prepared) → Prepares bs s bs′ p xs′
+    -- `let a = ask(t, p.request, .., p.asked);`, with the row figures in their local
+    asking : {bs′ : List ℕ} {xs′ : List ℤ} (β : ℕ) (fs : RefT (List ℤ)) (p : Prepared) → Prepares bs s bs′ p xs′
         → IsHeard p → fs .now ≡ from-at 13 (take (p .count) xs′)
         → Sq W (‵ (Owned κ b o γ ys) ∷ ‵ (flft κ q) ∷ ‵ (Figures 1 (β ∷ []) fs (figures-val fs))
         ∷ ‵ (flft (β ∷ []) fullShare) ∷ Reading (β ∷ []) xs′ ∷ ‵ (fres γb (Bytes .coded .code bs′))
         ∷ Opened (‵ (Lent Bytes 0 κ bo oo γo os) ∷ once-cut p (figures-val fs)))
-        (runs C Λ En (after (after (after (after to-perform)))) (atRet En Post))
-    performing {bs′} {xs′} β fs p heard ip are =
-        performs 𝓤 H A mem′ run W κ (β ∷ []) q b o γ ys fs (p .request) (request-is p ip) fm known-perform
+        (runs C Λ En (after (after (after (after to-ask)))) (atRet En Post))
+    asking {bs′} {xs′} β fs p heard ip are =
+        asks 𝓤 H A mem′ run W κ (β ∷ []) q b o γ ys fs (p .request) (p .asked) (request-is p ip) fm known-ask
         (and-then ! (load ! (from ! (stop !)) (look ! (slot 7 (for-t .1)) refl))
         (and-then ! (load ! (from ! (fld ! refl (stop !)))
         (look-in ! (slot 7 ℓp) (sub ! 7 refl (whole !))))
-        (and-then ! (load ! (from ! (stop !)) (look ! (slot 7 ℓrows) refl)) (no-more !))))
+        (and-then ! (load ! (from ! (stop !)) (look ! (slot 7 ℓrows) refl))
+        (and-then ! (load ! (from ! (fld ! refl (stop !)))
+        (look-in ! (slot 7 ℓp) (sub ! 10 refl (whole !)))) (no-more !)))))
         (λ zs a v l done′ ia.
         -- [t's last list; the token; the figures' token; what is lent; the buffer's last; the open borrow; obs; auth;
         -- the answers; _14; …; _0; …]
-        land ! (from ! (stop !)) (init ! (slot 9 ℓa) refl (typed-answer 𝓤 H A W a v ia)) $
+        land ! (from ! (stop !)) (init ! (slot 9 ℓa) refl (typed-performed 𝓤 H A W a v ia)) $
         closing β fs p a v heard ip are done′ l ia)
 
     -- `rows_in(xs, p.count)`, with the table's reference in its local
     cutting : {bs′ : List ℕ} {xs′ : List ℤ} (p : Prepared) → Prepares bs s bs′ p xs′ → IsHeard p
         → Sq W (‵ (mem Numbers .lies xs′ bx ox) ∷ ‵ (flft κ q) ∷ ‵ (fres γb (Bytes .coded .code bs′))
         ∷ Opened (‵ (Lent Bytes 0 κ bo oo γo os) ∷ ‵ (Owned κ b o γ ys) ∷ once-heard p))
-        (runs C Λ En to-perform (atRet En Post))
+        (runs C Λ En to-ask (atRet En Post))
     cutting {bs′} {xs′} p heard ip =
         assigns ! (addr ! (from ! (fld ! refl (hop ! (look-in ! (slot 8 ℓt) (sub ! 0 refl (whole !))) (stop !)))))
         (from ! (stop !)) (init ! (slot 8 (for-t .0)) refl (tt, tt)) $
@@ -382,7 +382,7 @@ module _ {M : Type 1} (𝓤 : URA M) (H : Heap 𝓤) (A : Atoms 𝓤) (W : Given
         rewrite ! (slot 10 ℓrows) (λ (z : Val). ‵ (fat fullShare figures-ty l₁₂ 0 z))
         (figures-are (β ∷ []) fs w isf) refl $
         rewrite ! 0 (λ (z : Val). ‵ (Figures 0 (β ∷ []) fs z)) (figures-are (β ∷ []) fs w isf) refl $
-        move ! (9 ∷ 3 ∷ 0 ∷ 1 ∷ []) $ performing β fs p heard ip e)))
+        move ! (9 ∷ 3 ∷ 0 ∷ 1 ∷ []) $ asking β fs p heard ip e)))
 
     -- `let p = hear_in(buf, xs, s);`
     hearing : Sq W (‵ (mem Numbers .lies xs bx ox) ∷ ‵ (Lent Bytes 0 κ bb ob γb bs) ∷ ‵ (flft κ q)
@@ -404,8 +404,8 @@ module _ {M : Type 1} (𝓤 : URA M) (H : Heap 𝓤) (A : Atoms 𝓤) (W : Given
   -- the parameters are in their locals, and the numbers are opened
   module _ (C : Calls 𝓤 H) (Λ : Loops 𝓤 H) (fm : FmC 𝓤 H (W .laws) C) (known-hear : Triple 𝓤 (C hear-def.name) (Hear 𝓤 H
       A mem′ run))
-      (known-rows : Triple 𝓤 (C rows-def.name) (Rows 𝓤 H A mem′ run)) (known-perform : Triple 𝓤 (C perform-def.name)
-      (Perform 𝓤 H A mem′ run))
+      (known-rows : Triple 𝓤 (C rows-def.name) (Rows 𝓤 H A mem′ run)) (known-ask : Triple 𝓤 (C ask-def.name)
+      (Ask 𝓤 H A mem′ run))
       (known-tell : Triple 𝓤 (C tell-def.name) (Tell 𝓤 H A mem′ run)) where
     abbrev args : List Val
     args = machine b o ys ∷ vptr bb ob ∷ vptr bx ox ∷ vptr bo oo ∷ state-val s ∷ []
@@ -435,14 +435,14 @@ module _ {M : Type 1} (𝓤 : URA M) (H : Heap 𝓤) (A : Atoms 𝓤) (W : Given
         move ! (3 ∷ 0 ∷ []) $ fsplit3 ! $ feqL ! (λ _. open-ref ! tt (mem Numbers) $
         -- [the numbers; the open borrow; obs; auth; the token; the answers; the buffer; t; _14; …; _0; …]
         move ! (0 ∷ 6 ∷ 4 ∷ 1 ∷ 2 ∷ 3 ∷ 5 ∷ 7 ∷ []) $
-        hearing C Λ fm known-hear known-rows known-perform known-tell l₀ l₁ l₂ l₃ l₄ l₅ l₆ l₇ l₈ l₉ l₁₀ l₁₁ l₁₂ l₁₃
+        hearing C Λ fm known-hear known-rows known-ask known-tell l₀ l₁ l₂ l₃ l₄ l₅ l₆ l₇ l₈ l₉ l₁₀ l₁₁ l₁₂ l₁₃
         l₁₄))))))))))))))))
 
 module _ {M : Type 1} (𝓤 : URA M) (H : Heap 𝓤) (A : Atoms 𝓤) (W : Given 𝓤 H A) (mem′ : Memory → SProp 𝓤) (run : Routine
     → Fun 𝓤) (𝓣 : Tables 𝓤 H)
     (known-hear : Triple 𝓤 (𝓣 .C hear-def.name) (Hear 𝓤 H A mem′ run)) (known-rows : Triple 𝓤 (𝓣 .C rows-def.name) (Rows
     𝓤 H A mem′ run))
-    (known-perform : Triple 𝓤 (𝓣 .C perform-def.name) (Perform 𝓤 H A mem′ run)) (known-tell : Triple 𝓤 (𝓣 .C
+    (known-ask : Triple 𝓤 (𝓣 .C ask-def.name) (Ask 𝓤 H A mem′ run)) (known-tell : Triple 𝓤 (𝓣 .C
     tell-def.name) (Tell 𝓤 H A mem′ run)) where
   walks : Walks 𝓤 H A f.ended stayed (WpFn 𝓤 H (𝓣 .C) (𝓣 .Λ) function) (f.clauses 𝓤 H A mem′ run)
   walks = walked 𝓤 H A f.ended stayed (f.clauses 𝓤 H A mem′ run) (WpFn 𝓤 H (𝓣 .C) (𝓣 .Λ) function)
@@ -464,7 +464,7 @@ module _ {M : Type 1} (𝓤 : URA M) (H : Heap 𝓤) (A : Atoms 𝓤) (W : Given
       .1 .0 .name) (a .1 .1 .0 .now)
       (a .1 .1 .1 .0 .ptr .0) (a .1 .1 .1 .0 .ptr .1) (a .1 .1 .1 .0 .name) (a .1 .1 .1 .0 .now) (a .1 .1 .1 .1 .0) (are
       .0 .0 .1) (are .1 .1 .1 .1 .0)
-      asked (𝓣 .C) (𝓣 .Λ) (fmOf 𝓤 H (W .laws) 𝓣) known-hear known-rows known-perform known-tell))
+      asked (𝓣 .C) (𝓣 .Λ) (fmOf 𝓤 H (W .laws) 𝓣) known-hear known-rows known-ask known-tell))
 
   meets : Meets 𝓤 H A f.signature (WpFn 𝓤 H (𝓣 .C) (𝓣 .Λ) function) (f.spec 𝓤 H A mem′ run)
   meets =
@@ -493,8 +493,8 @@ step-spec 𝓤 H 𝓜 𝓖 𝓡 =
     code.calls-text-serve·hear-in (hear-thm.met 𝓤 H 𝓜 𝓖 𝓡))
     (cited 𝓤 H (Rows 𝓤 H (𝓖 .A) (𝓜 .mem) (𝓡 .run)) 𝓜 𝓡 code.env rows-def.name rows-def.routine
     code.calls-text-serve·rows-in (rows-thm.met 𝓤 H 𝓜 𝓖 𝓡))
-    (cited 𝓤 H (Perform 𝓤 H (𝓖 .A) (𝓜 .mem) (𝓡 .run)) 𝓜 𝓡 code.env perform-def.name perform-def.routine
-    code.calls-text-perform·perform
-    (perform-thm.met 𝓤 H 𝓜 𝓖 𝓡))
+    (cited 𝓤 H (Ask 𝓤 H (𝓖 .A) (𝓜 .mem) (𝓡 .run)) 𝓜 𝓡 code.env ask-def.name ask-def.routine
+    code.calls-text-ask·ask
+    (ask-thm.met 𝓤 H 𝓜 𝓖 𝓡))
     (cited 𝓤 H (Tell 𝓤 H (𝓖 .A) (𝓜 .mem) (𝓡 .run)) 𝓜 𝓡 code.env tell-def.name tell-def.routine code.calls-text-turn·tell
     (tell-thm.met 𝓤 H 𝓜 𝓖 𝓡)))

@@ -32,7 +32,7 @@ same-length-2 c = search needs
 
 returns : tie.Need-returns
 returns c =
-    let asked = c .before .before .before .before in
+    let asked = c .before .before .before .before .before in
     let heard = asked .before .before .before .before .before .before in
     let entered = heard .before .before .before .before .before .before in (
       prepared _ (entered .args .s) _ _ _ _ (heard .hear .ensures) (asked .wanted-by .ensures),

@@ -1,0 +1,29 @@
+-- `sheet::nedrubal_evaluations` meets its contract. Assumes nothing.
+use Prim.Native.Nat.{_≤_, _-_}
+use borrow.Author.Needs.{needs}
+use Rattle.sheet.proofs.nedrubal_evaluations.Statement.{statement}
+use Rattle.sheet.proofs.nedrubal_evaluations.Tie as tie
+
+abbrev Inv-loop : tie.InvT-loop
+Inv-loop x y rows days r sum₀ i₀ sum i = i ≤ days
+
+abbrev μ-loop : tie.MeasureT-loop
+μ-loop x y rows days r sum₀ i₀ sum i = days - i
+
+pub nedrubal-evaluations-spec : {M : Type 1} → statement M
+nedrubal-evaluations-spec =
+    tie.close
+    (tie.spec
+    Inv-loop
+    μ-loop
+    (λ c κs. search needs)
+    (λ c. search needs)
+    (λ c κs. search needs)
+    (λ c κs. search needs)
+    (λ c κs. search needs)
+    (λ c κs. search needs)
+    (λ c κs. search needs)
+    (λ c. search needs)
+    (λ c. search needs)
+    (λ c. search needs)
+    (λ c. search needs))

@@ -1,0 +1,84 @@
+-- docs/EVENING.md, "Why" (document 02, W-207): answers to evaluations, byte for byte: of one that is
+-- accepted, of a share that is not modelled, and of refusals. Assumes nothing.
+use mathlib.Core.Path.{_≡_, refl}
+use mathlib.Core.List.{List, [], _∷_, _++_}
+use Prim.Native.Nat.{ℕ}
+use Rattle.paper.specs.Verdicts.{isDone}
+use Rattle.paper.specs.declared.Verdict.the-variants as verdict
+use Rattle.paper_reasons.specs.declared.PriceReason.the-variants as price
+use Rattle.paper_reasons.specs.declared.WeightReason.the-variants as weight
+use Rattle.paper_reasons.specs.declared.ReplacementReason.the-variants as replacement
+use Rattle.paper_reasons.specs.declared.TentativeReason.the-variants as tentative
+use Rattle.paper_reasons.specs.declared.LevelReason.the-variants as level
+use Rattle.paper_reasons.specs.declared.Fault.{Fault}
+use Rattle.paper_reasons.specs.declared.Fault.the-variants as fault
+use Rattle.paper_reasons.specs.declared.Reasons.{Reasons}
+use Rattle.paper.specs.declared.Verdict.{Verdict}
+use Rattle.paper_reasons.specs.Words.{priceWord, weightWord, replacementWord, tentativeWord, levelWord}
+use Rattle.text_protocol.specs.Numbers.{spelt, decimal}
+use Rattle.text_protocol.specs.LineCases.{bytes}
+use Rattle.text_protocol.specs.Reasons.{reasonWords, faultWords, spelled, wordsText, whyText}
+
+-- document 02's example, a share that is not modelled, and no reason at all
+abbrev rising : Reasons
+rising =
+    record {
+      price = price.Close;
+      weight = weight.Up;
+      replacement = replacement.No;
+      tentative = tentative.Rose;
+      level1 = level.Requirement;
+      level2 = level.Requirement;
+      level3 = level.Minimum;
+    }
+
+abbrev unmodelled : Reasons
+unmodelled =
+    record {
+      price = price.Yesterday;
+      weight = weight.None;
+      replacement = replacement.None;
+      tentative = tentative.None;
+      level1 = level.Minimum;
+      level2 = level.Minimum;
+      level3 = level.Minimum;
+    }
+
+abbrev none : Reasons
+none =
+    record {
+      price = price.None;
+      weight = weight.None;
+      replacement = replacement.None;
+      tentative = tentative.None;
+      level1 = level.None;
+      level2 = level.None;
+      level3 = level.None;
+    }
+
+-- the bytes that say why
+said : Verdict → Fault → Reasons → List ℕ
+said v f r = whyText (record { verdict = v; fault = f; reasons = r })
+
+pub answersWhy : List (List ℕ)
+unfolding said whyText wordsText spelled reasonWords faultWords priceWord weightWord replacementWord tentativeWord
+    levelWord decimal spelt isDone
+answersWhy =
+    said verdict.Done fault.None rising
+    ∷ said verdict.Done fault.None unmodelled
+    ∷ said verdict.OutOfRange (fault.Row 3) none
+    ∷ said verdict.RowCrossed (fault.Row 16) none
+    ∷ said verdict.BandCrossed (fault.Term 1) none
+    ∷ said verdict.DayNotAfter fault.None none
+    ∷ []
+
+pub answers-why-are : answersWhy
+    ≡ bytes "0 price close weight up replacement no tentative rose level1 requirement level2 requirement level3 minimum\n"
+    ∷ bytes "0 price yesterday weight none replacement none tentative none level1 minimum level2 minimum level3 minimum\n"
+    ∷ bytes "6 row 3\n"
+    ∷ bytes "16 row 16\n"
+    ∷ bytes "9 term 1\n"
+    ∷ bytes "5 none\n"
+    ∷ []
+unfolding answersWhy bytes
+answers-why-are = refl
