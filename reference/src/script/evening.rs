@@ -4,11 +4,10 @@
 mod bonds;
 mod sheets;
 
-use crate::count_why::{self, NamedEdge};
-use crate::desk::{fresh_table, SLOTS_MAX};
+use crate::desk::{self, fresh_table, SLOTS_MAX};
 use crate::interest::{Pair, Sheet, Worked};
 use crate::kept::Kept;
-use crate::protocol::perform;
+use crate::protocol::{perform, Asked};
 use crate::random::Random;
 use crate::record::Record;
 use crate::refusal::Refusal;
@@ -107,9 +106,8 @@ struct Author {
     pairs: Vec<Pair>,
     /// How many ends of the interest side's ranges have had their turn.
     ends: usize,
-    /// The edges of an evaluation's reasons, and how many have had their turn.
-    reasons: Vec<NamedEdge>,
-    reasoned: usize,
+    /// The edges of an evaluation's reasons.
+    reasons: why::Aims,
     /// How many edges of a bond have had their turn.
     aims: usize,
     text: Vec<u8>,
@@ -129,8 +127,7 @@ impl Author {
             sheets: Vec::new(),
             pairs: Vec::new(),
             ends: 0,
-            reasons: count_why::edges(),
-            reasoned: 0,
+            reasons: why::Aims::new(),
             aims: 0,
             text: Vec::new(),
             heard: Vec::new(),
@@ -180,13 +177,19 @@ impl Author {
         self.text.push(b'\n');
         self.written += 1;
         let (table, kept) = (&mut self.table, &mut self.kept);
-        let heard = &mut self.heard;
+        let (heard, reasons) = (&mut self.heard, &mut self.reasons);
         hear(
             line,
             EVENING_LINE_MAX,
             heard,
             number_or_pair,
-            |verb, words| perform(table, kept, verb, words),
+            |verb, words| {
+                if verb == b"evaluate" {
+                    let asked = Asked::from_words(kept, words)?;
+                    reasons.look(&asked, desk::read(table, asked.id).ok());
+                }
+                perform(table, kept, verb, words)
+            },
         );
         self.admitted = self.table.partition_point(|record| record.id != 0);
     }
@@ -210,8 +213,8 @@ impl Author {
     /// One thing of the desk, by its weight among a thousand.
     fn desk_turn(&mut self) {
         match self.random.below(1_000) {
-            0..=174 => self.day(),
-            175..=234 => self.reasoned_day(),
+            0..=159 => self.day(),
+            160..=234 => self.reasoned_day(),
             235..=294 => self.replaced_day(),
             295..=339 => self.crossed_day(),
             340..=459 => self.day_at_an_edge(),
@@ -410,15 +413,14 @@ impl Author {
 
     /// A day at the next edge of its reasons, of a security that can have it.
     fn reasoned_day(&mut self) {
-        let place = self.reasoned % self.reasons.len();
-        self.reasoned += 1;
+        let place = self.reasons.next();
         for _ in 0..WHY_DRAWS {
             let mut record = self.table[self.random.below(self.admitted)];
             let is_admitted = self.random.chance(90);
             if !is_admitted {
                 record.id = self.new_id();
             }
-            let edge = &self.reasons[place];
+            let edge = self.reasons.edge(place);
             if let Some(numbers) = why::attempt(&mut self.random, &record, is_admitted, edge) {
                 return self.say("evaluate", &numbers);
             }

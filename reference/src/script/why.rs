@@ -1,7 +1,7 @@
 //! Days at which two reasons hold at once, or more than one thing is at fault
 //! (W-207).
 
-use crate::count_why::{NamedEdge, SeenWhy};
+use crate::count_why::{self, NamedEdge, SeenWhy};
 use crate::evaluation::ROW;
 use crate::kept::Kept;
 use crate::protocol::Asked;
@@ -24,6 +24,44 @@ const ROWS: usize = 16;
 /// The first place of the terms.
 const TERMS: usize = 4;
 
+/// Every edge of an evaluation's reasons, with how often it was met or had a
+/// turn. The edge that was met least has the next turn, so that a rare one is
+/// met on every seed.
+pub struct Aims {
+    edges: Vec<(NamedEdge, usize)>,
+}
+
+impl Aims {
+    pub fn new() -> Aims {
+        let edges = count_why::edges();
+        Aims {
+            edges: edges.into_iter().map(|edge| (edge, 0)).collect(),
+        }
+    }
+
+    /// Meets every edge at which an evaluation stands.
+    pub fn look(&mut self, asked: &Asked, before: Option<&Record>) {
+        let seen = SeenWhy::of(asked, before);
+        for ((_, is_met), times) in &mut self.edges {
+            *times += usize::from(is_met(&seen));
+        }
+    }
+
+    /// The place of the edge that is next. Its turn counts too: one that no
+    /// record can stand at does not take every turn.
+    pub fn next(&mut self) -> usize {
+        let places = 0..self.edges.len();
+        let least = places.min_by_key(|place| self.edges[*place].1);
+        let place = least.expect("there are edges");
+        self.edges[place].1 += 1;
+        place
+    }
+
+    pub fn edge(&self, place: usize) -> &NamedEdge {
+        &self.edges[place].0
+    }
+}
+
 /// The numbers of a day of a record that stands at an edge; none where this
 /// attempt does not. The record may be one that the table does not have.
 pub fn attempt(
@@ -44,9 +82,12 @@ pub fn attempt(
     edge.1(&seen).then_some(numbers)
 }
 
-/// Shares made for each set of reasons of each level, with the model and
-/// without.
-pub const SHARES: usize = 2 * 3 * SETS;
+/// Shares made for each set of reasons of each level, in rounds with the model
+/// and one without.
+pub const SHARES: usize = (MODELLED + 1) * ROUND;
+const MODELLED: usize = 3;
+/// Every set of every level.
+const ROUND: usize = 3 * SETS;
 /// Sets of reasons that may hold of a level at once.
 const SETS: usize = 7;
 /// Attempts at statics that fit each other.
@@ -63,7 +104,7 @@ fn made_attempt(random: &mut Random, id: i64, turn: usize) -> Option<Vec<i64>> {
     let mut statics = Statics {
         a_up: 0,
         a_down: 0,
-        is_ewma: turn < 3 * SETS,
+        is_ewma: turn < MODELLED * ROUND,
         s_max: *RATE.end() / 1_000 * 1_000,
         step: random.pick(&[1, 10, 25, 100, 100, 250, 1_000]),
         ..share::statics(random)
