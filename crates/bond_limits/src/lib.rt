@@ -88,7 +88,7 @@ fn monitored_limit(
     requires { ⌜ ScaleRange b ⌝ }
     requires { ⌜ validStatics st ≡ true ⌝ }
     requires { ⌜ SideRange p s1 k repo ⌝ }
-    ensures { λ r. ⌜ r ≡ bondLimitOf (inward side) b (monitored st side (p .units) (s1 .bp) 0 k repo) ⌝ }
+    ensures { λ r. ⌜ r ≡ bondLimitOf (inward side) b (monitored st (p .units) (s1 .bp) k repo 0 side) ⌝ }
 {
     limit_of(
         limits::inward(side),
@@ -108,7 +108,7 @@ fn band_limit(b: BondScale, st: Statics, side: Side, p: Price, s1: Rate, k: u64,
     requires { ⌜ ScaleRange b ⌝ }
     requires { ⌜ validStatics st ≡ true ⌝ }
     requires { ⌜ SideRange p s1 k repo ⌝ }
-    ensures { λ r. ⌜ r ≡ bandLimitFor (bond b) st side (p .units) (s1 .bp) 0 k repo ⌝ }
+    ensures { λ r. ⌜ r ≡ bandLimitFor (bond b) st (p .units) (s1 .bp) k repo 0 side ⌝ }
 {
     let farthest = shifted_limit(b, side, p, limits::farthest_rate(st, side), k);
     if st.monitoring {

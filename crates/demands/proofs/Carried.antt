@@ -56,7 +56,7 @@ prices-positive a es l =
 
 -- with the model on, an evaluation's s is the volatility's rule
 volatility-modelled : (st : Statics) (b m s1 r s : ℕ) (old : Tentative) → st .ewma ≡ true
-    → figuresOf st b m s1 r s old .s ≡ volatilityOf (modelOf st) b (millionthsInBp * s1) r s
+    → figuresOf st b m s1 r s old .s ≡ volatilityOf (modelOf st) b r (millionthsInBp * s1) s
 unfolding figuresOf modelled unmodelled
 volatility-modelled st b m s1 r s old on =
     ap (λ (f : Figures). f .s) (pick-true (st .ewma) (modelled st b m s1 r s old) (unmodelled st s old) on)
@@ -70,9 +70,9 @@ carried a (evaluatedOn d rows ∷ es) (l, n) on =
     let x : Carries = carries a es in
     let p : ℕ = carriesNext st d rows x .p1 in
     let positive : PricesPositive x = prices-positive a es l in
-    rw (volatility-modelled st (d .b) (d .m) (rateAt (x .rates) 0) (moveOf (x .p1) (x .p2) p) (x .s) (x .tentative) on)
-    (once-more (carried a es l on) (modelOf st) (d .b) (millionthsInBp * rateAt (x .rates) 0) (moveOf (x .p1) (x .p2) p)
-    (exactMove (x .p1) (x .p2) p) (weighing st (lawful-statics a es l))
+    rw (volatility-modelled st (d .b) (d .m) (rateAt (x .rates) 0) (moveOf p (x .p1) (x .p2)) (x .s) (x .tentative) on)
+    (once-more (carried a es l on) (modelOf st) (d .b) (millionthsInBp * rateAt (x .rates) 0) (moveOf p (x .p1) (x .p2))
+    (exactMove p (x .p1) (x .p2)) (weighing st (lawful-statics a es l))
     (move-rounded (x .p1) (x .p2) p (positive .p1) (positive .p2)))
 carried a (quotedAt q ∷ es) (l, n) on = carried a es l on
 carried a (movedBy side ∷ es) (l, n) on = carried a es l on

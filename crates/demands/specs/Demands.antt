@@ -96,7 +96,7 @@ pub record FiguresHold (a : Admission) (es : List Event) (r : Record) : Type 0 w
 -- numbers. "With isEWMA no, the three rates are the minima"
 pub record RatesHold (st : Statics) (m : ℕ) (r : Record) : Type 0 where
   pub modelled : st .ewma ≡ true → (i : ℕ) → i < 3
-      → HeldLeast (st .h) (minimumOf st (i + 1)) (st .smax) (AtLeastRequired st (i + 1) m (r .tentative .bp))
+      → HeldLeast (st .h) (minimumOf st (i + 1)) (st .smax) (AtLeastRequired st (r .tentative .bp) m (i + 1))
       (rateAt (r .rates) i)
   pub minima : st .ewma ≡ false → (i : ℕ) → i < 3 → rateAt (r .rates) i ≡ minimumOf st (i + 1)
 

@@ -62,7 +62,7 @@ unfolding answers
 cappedFrom st old [] = []
 cappedFrom st old (s ∷ rest) =
     let t : Tentative = tentativeAfter (st .h) (st .wait) (min (st .smax) (tentativeRate st s)) old in
-    (t .bp ∷ levelRate st 1 0 (t .bp) ∷ []) ∷ cappedFrom st t rest
+    (t .bp ∷ levelRate st (t .bp) 0 1 ∷ []) ∷ cappedFrom st t rest
 
 -- with the week's volatilities, which the cap would not have changed
 pub cappedWeek : List (List ℕ)

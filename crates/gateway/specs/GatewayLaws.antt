@@ -19,11 +19,11 @@ pub figure-high : (st : Statics) (tentative m level : ℕ) → validStatics st �
 unfolding levelFigure
 figure-high st tentative m level v = go (st .ewma)
   where
-    is : HeldLeast (st .h) (minimumOf st level) (st .smax) (AtLeastRequired st level m tentative)
-        (levelRate st level m tentative)
+    is : HeldLeast (st .h) (minimumOf st level) (st .smax) (AtLeastRequired st tentative m level)
+        (levelRate st tentative m level)
     is = level-rate-is st level m tentative v
 
-    go : (b : Bool) → pick b (levelRate st level m tentative) (minimumOf st level) ≤ st .smax
+    go : (b : Bool) → pick b (levelRate st tentative m level) (minimumOf st level) ≤ st .smax
     go true = is .held
     go false = omega (arith, is .low, is .held)
 

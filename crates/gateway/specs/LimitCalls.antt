@@ -33,8 +33,8 @@ limitInRange st Range p rate side = rangeInRange st p rate side
 limitInRange st (Band x) p rate side = bandInRange st p rate (x .k) (x .repo) (x .c) side
 
 unfoldable pub limitFigure : Statics → Asked → Side → (p rate : ℕ) → ℕ
-limitFigure st Range side p rate = rangeLimit st side p rate
-limitFigure st (Band x) side p rate = bandLimit st side p rate (x .c) (x .k) (x .repo)
+limitFigure st Range side p rate = rangeLimit st p rate side
+limitFigure st (Band x) side p rate = bandLimit st p rate (x .k) (x .repo) (x .c) side
 
 unfoldable pub limitCall : GivenStatics → Asked → (p rate side : ℕ) → ℤ
 limitCall g asked p rate side =

@@ -17,11 +17,11 @@ use Rattle.exact.specs.SignedLaws.{size-repo}
 use Rattle.limits.specs.LimitRanges.{RangeInputs, BandInputs}
 
 pub range-high : (st : Statics) (side : Side) (p : Price) (rate : Rate) → RangeInputs p rate
-    → rangeLimit st side (p .units) (rate .bp) ≤ freshMost
+    → rangeLimit st (p .units) (rate .bp) side ≤ freshMost
 range-high st side p rate r = sizes.range-high st side (p .units) (rate .bp) (r .price) (r .rate-high)
 
 pub band-high : (st : Statics) (side : Side) (p : Price) (s1 : Rate) (c k : ℕ) (repo : ℤ) → LimitStatics st
-    → BandInputs p s1 c k repo → bandLimit st side (p .units) (s1 .bp) c k repo ≤ freshMost
+    → BandInputs p s1 c k repo → bandLimit st (p .units) (s1 .bp) k repo c side ≤ freshMost
 band-high st side p s1 c k repo s r =
     sizes.band-high st side (p .units) (s1 .bp) c k repo s (r .price) (r .days) (size-repo repo (r .repo-high))
 
@@ -45,5 +45,5 @@ delta-sizes st p s1 s r =
     }
 
 pub delta-high : (st : Statics) (p : Price) (s1 : Rate) → LimitStatics st → RangeInputs p s1
-    → deltaOf st (p .units) (s1 .bp) ≤ deltaMost
+    → deltaOf st (s1 .bp) (p .units) ≤ deltaMost
 delta-high st p s1 s r = sizes.delta-high st (p .units) (s1 .bp) s (r .price) (r .rate-high)

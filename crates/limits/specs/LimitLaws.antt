@@ -69,16 +69,16 @@ farthest-limit : (st : Statics) (side : Side) (p : ℕ)
 farthest-limit st side p = ap (limitOf (inward side) st) (farthest-is st side p)
 
 pub band-monitored : (st : Statics) (side : Side) (p s1 c k : ℕ) (repo : ℤ) → LimitStatics st → st .monitoring ≡ true
-    → bandLimit st side p s1 c k repo
-    ≡ narrowerOf side (farthestLimit st side p) (limitOf (inward side) st (monitored st side p s1 c k repo))
+    → bandLimit st p s1 k repo c side
+    ≡ narrowerOf side (farthestLimit st side p) (limitOf (inward side) st (monitored st p s1 k repo c side))
 unfolding bandLimit
 band-monitored st side p s1 c k repo s e =
-    let near : ℕ = limitOf (inward side) st (monitored st side p s1 c k repo) in
+    let near : ℕ = limitOf (inward side) st (monitored st p s1 k repo c side) in
     kinds.band-monitored share st side p s1 c k repo (omega arith) (s .divisor-low) e
     ∙ ap (λ (z : ℕ). narrowerOf side z near) (sym (farthest-limit st side p))
 
 pub band-unmonitored : (st : Statics) (side : Side) (p s1 c k : ℕ) (repo : ℤ) → st .monitoring ≡ false
-    → bandLimit st side p s1 c k repo ≡ farthestLimit st side p
+    → bandLimit st p s1 k repo c side ≡ farthestLimit st side p
 unfolding bandLimit
 band-unmonitored st side p s1 c k repo e =
     kinds.band-unmonitored share st side p s1 c k repo e ∙ sym (farthest-limit st side p)

@@ -48,7 +48,7 @@ fn shifted_limit(way: Way, st: Statics, side: Side, p: Price, rate: Rate) -> u64
 // "Range of level L: P·(1 ± S_L)."; W-209: "ranges .. keep half up".
 pub fn range_limit(st: Statics, side: Side, p: Price, rate: Rate) -> u64
     requires { ⌜ RangeInputs p rate ⌝ }
-    ensures { λ r. ⌜ r ≡ rangeLimit st side (p .units) (rate .bp) ⌝ }
+    ensures { λ r. ⌜ r ≡ rangeLimit st (p .units) (rate .bp) side ⌝ }
 {
     shifted_limit(Way::HalfUp, st, side, p, rate)
 }
@@ -105,7 +105,7 @@ pub fn spread(st: Statics, side: Side, s1: Rate, c: u64) -> u64
 fn monitored_limit(st: Statics, side: Side, p: Price, s1: Rate, c: u64, k: u64, repo: i64) -> u64
     requires { ⌜ validStatics st ≡ true ⌝ }
     requires { ⌜ BandInputs p s1 c k repo ⌝ }
-    ensures { λ r. ⌜ r ≡ limitOf (inward side) st (monitored st side (p .units) (s1 .bp) c k repo) ⌝ }
+    ensures { λ r. ⌜ r ≡ limitOf (inward side) st (monitored st (p .units) (s1 .bp) k repo c side) ⌝ }
 {
     let days = exact::grow(YEAR_IN_DAY_BP, k, repo);
     exact::product_to_grid(
@@ -133,7 +133,7 @@ pub fn narrower(side: Side, x: u64, y: u64) -> u64
 pub fn band_limit(st: Statics, side: Side, p: Price, s1: Rate, c: u64, k: u64, repo: i64) -> u64
     requires { ⌜ validStatics st ≡ true ⌝ }
     requires { ⌜ BandInputs p s1 c k repo ⌝ }
-    ensures { λ r. ⌜ r ≡ bandLimit st side (p .units) (s1 .bp) c k repo ⌝ }
+    ensures { λ r. ⌜ r ≡ bandLimit st (p .units) (s1 .bp) k repo c side ⌝ }
 {
     let farthest = shifted_limit(inward(side), st, side, p, farthest_rate(st, side));
     if st.monitoring {
@@ -168,7 +168,7 @@ pub fn is_crossed(x: Limits) -> bool
 pub fn delta(st: Statics, p: Price, s1: Rate) -> u64
     requires { ⌜ validStatics st ≡ true ⌝ }
     requires { ⌜ RangeInputs p s1 ⌝ }
-    ensures { λ r. ⌜ r ≡ deltaOf st (p .units) (s1 .bp) ⌝ }
+    ensures { λ r. ⌜ r ≡ deltaOf st (s1 .bp) (p .units) ⌝ }
 {
     exact::rounded_to(
         Way::HalfUp,

@@ -37,10 +37,10 @@ limit-inside st Lower x p =
 
 -- a band limit is never outside the exact band
 pub band-inside : (st : Statics) (side : Side) (p s1 c k : ℕ) (repo : ℤ) → LimitStatics st
-    → Inside side (bandLimit st side p s1 c k repo) (bandBefore share st side p s1 c k repo)
+    → Inside side (bandLimit st p s1 k repo c side) (bandBefore share st p s1 k repo c side)
 unfolding bandLimit
 band-inside st side p s1 c k repo s =
-    limit-inside st side (bandBefore share st side p s1 c k repo)
+    limit-inside st side (bandBefore share st p s1 k repo c side)
     (band-positive share st side p s1 c k repo (s .divisor-low))
 
 -- and so of a bond, whose grown price is rounded half up to a unit before
@@ -85,24 +85,24 @@ spread-outward st Lower s1 c = omega (arith, away-more st s1 c)
 
 -- so the monitored limit lies farther out, or where it was
 monitored-outward : (way : Way) (st : Statics) (side : Side) (p s1 c k : ℕ) (repo : ℤ) → LimitStatics st
-    → Outward side (limitOf way st (monitored st side p s1 (c + 1) k repo))
-    (limitOf way st (monitored st side p s1 c k repo))
+    → Outward side (limitOf way st (monitored st p s1 k repo (c + 1) side))
+    (limitOf way st (monitored st p s1 k repo c side))
 unfolding monitored
 monitored-outward way st Upper p s1 c k repo s =
-    limit-monotone way share st (omega arith) .keeps (monitored st Upper p s1 c k repo) (monitored st Upper p s1
-    (c + 1) k repo)
+    limit-monotone way share st (omega arith) .keeps (monitored st p s1 k repo c Upper) (monitored st p s1 k
+    repo (c + 1) Upper)
     (monitored-positive st Upper p s1 c k repo (s .divisor-low)) (monitored-positive st Upper p s1 (c + 1) k repo
     (s .divisor-low))
     (product-order p (grown yearInDayBp k repo) (oneInBp * st .xpr * yearInDayBp) (spread-outward st Upper s1 c))
 monitored-outward way st Lower p s1 c k repo s =
-    limit-monotone way share st (omega arith) .keeps (monitored st Lower p s1 (c + 1) k repo)
-    (monitored st Lower p s1 c k repo)
+    limit-monotone way share st (omega arith) .keeps (monitored st p s1 k repo (c + 1) Lower)
+    (monitored st p s1 k repo c Lower)
     (monitored-positive st Lower p s1 (c + 1) k repo (s .divisor-low)) (monitored-positive st Lower p s1 c k repo
     (s .divisor-low))
     (product-order p (grown yearInDayBp k repo) (oneInBp * st .xpr * yearInDayBp) (spread-outward st Lower s1 c))
 
 pub band-outward : (st : Statics) (side : Side) (p s1 c k : ℕ) (repo : ℤ) → LimitStatics st
-    → Outward side (bandLimit st side p s1 (c + 1) k repo) (bandLimit st side p s1 c k repo)
+    → Outward side (bandLimit st p s1 k repo (c + 1) side) (bandLimit st p s1 k repo c side)
 unfolding bandLimit
 band-outward st side p s1 c k repo s = go (st .monitoring)
   where
@@ -110,7 +110,7 @@ band-outward st side p s1 c k repo s = go (st .monitoring)
     far = farthest st side p
 
     near : (c : ℕ) → Quotient
-    near c = monitored st side p s1 c k repo
+    near c = monitored st p s1 k repo c side
 
     rounded-of : (c : ℕ)
         → limitOf (inward side) st (narrower side far (near c))
@@ -134,10 +134,10 @@ pub moved-not-crossed : (st : Statics) (side : Side) (p s1 : ℕ) (c : Moves) (x
     → crossed (bandOf st p s1 c x) ≡ false → crossed (bandOf st p s1 (oneMore side c) x) ≡ false
 unfolding bandOf crossed oneMore
 moved-not-crossed st Upper p s1 c x s e =
-    le-ltb (bandLimit st Upper p s1 (c .upper + 1) (x .k) (x .high)) (bandLimit st Lower p s1 (c .lower) (x .k)
-    (x .low))
+    le-ltb (bandLimit st p s1 (x .k) (x .high) (c .upper + 1) Upper) (bandLimit st p s1 (x .k) (x .low) (c .lower)
+    Lower)
     (le-trans (ltb-false _ _ e) (band-outward st Upper p s1 (c .upper) (x .k) (x .high) s))
 moved-not-crossed st Lower p s1 c x s e =
-    le-ltb (bandLimit st Upper p s1 (c .upper) (x .k) (x .high)) (bandLimit st Lower p s1 (c .lower + 1) (x .k)
-    (x .low))
+    le-ltb (bandLimit st p s1 (x .k) (x .high) (c .upper) Upper) (bandLimit st p s1 (x .k) (x .low) (c .lower + 1)
+    Lower)
     (le-trans (band-outward st Lower p s1 (c .lower) (x .k) (x .low) s) (ltb-false _ _ e))

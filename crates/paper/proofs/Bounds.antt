@@ -45,9 +45,9 @@ unfolding replacement
 replacement-high q r h = times-least q (oneInHundredths * r) r (omega (arith, mul-le-mul-left r h))
 
 pub volatility-high : (m : Model) (b last r s most : ℕ) → Weighing m → s ≤ most → r ≤ most
-    → volatilityOf m b last r s ≤ most
+    → volatilityOf m b r last s ≤ most
 unfolding volatilityOf
-volatility-high m b last r s most h p q = go (replaces m b last r x)
+volatility-high m b last r s most h p q = go (replaces m b r last x)
   where
     x : ℕ
     x = weighted (weightOf m b r s) s r

@@ -16,7 +16,7 @@ pub data CarriedOn : (n s : ℕ) → Quotient → Type 0 where
   begun : (s : ℕ) → CarriedOn 0 s (record { num = s * s; den = 1 })
   once-more : {n s : ℕ} {x : Quotient} → CarriedOn n s x → (m : Model) (b last r : ℕ) (move : Quotient) → Weighing m
       → RoundedUp r move
-      → CarriedOn (suc n) (volatilityOf m b last r s) (nextSquare (m .q) x move (choiceOf m b last r s))
+      → CarriedOn (suc n) (volatilityOf m b r last s) (nextSquare (m .q) x move (choiceOf m b r last s))
 
 pub carried-near : {n s : ℕ} {x : Quotient} → CarriedOn n s x → NearExact n s x
 carried-near (begun s) = near-start s

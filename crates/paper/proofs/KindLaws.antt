@@ -118,7 +118,7 @@ farthest-positive (bond b) st Upper p k = omega (arith, shifted-positive Upper p
 farthest-positive (bond b) st Lower p k = omega (arith, shifted-positive Lower p (st .pclmax))
 
 pub monitored-positive : (st : Statics) (side : Side) (p s1 c k : ℕ) (repo : ℤ) → divisorLeast ≤ st .xpr
-    → 0 < monitored st side p s1 c k repo .den
+    → 0 < monitored st p s1 k repo c side .den
 unfolding monitored
 monitored-positive st side p s1 c k repo h = omega arith
 
@@ -135,28 +135,28 @@ narrower-positive Lower x y p q = either-positive (leb (x .num * y .den) (y .num
 module _ (kind : Kind) (st : Statics) (side : Side) (p s1 c k : ℕ) (repo : ℤ) where
   -- with monitoring a band limit is the narrower of the farthest limit and the monitored one
   pub band-monitored : HasFace kind → divisorLeast ≤ st .xpr → st .monitoring ≡ true
-      → bandLimitFor kind st side p s1 c k repo
+      → bandLimitFor kind st p s1 k repo c side
       ≡ narrowerOf side (limitFor (inward side) kind st (farthestFor kind st side p k))
-      (limitFor (inward side) kind st (monitored st side p s1 c k repo))
+      (limitFor (inward side) kind st (monitored st p s1 k repo c side))
   band-monitored f h e =
       let x : Quotient = farthestFor kind st side p k in
-      let y : Quotient = monitored st side p s1 c k repo in
+      let y : Quotient = monitored st p s1 k repo c side in
       ap (limitFor (inward side) kind st) (pick-true (st .monitoring) (narrower side x y) x e)
       ∙ narrower-rounded (inward side) kind st side x y f (farthest-positive kind st side p k)
       (monitored-positive st side p s1 c k repo h)
 
   -- and without it the farthest limit
   pub band-unmonitored : st .monitoring ≡ false
-      → bandLimitFor kind st side p s1 c k repo ≡ limitFor (inward side) kind st (farthestFor kind st side p k)
+      → bandLimitFor kind st p s1 k repo c side ≡ limitFor (inward side) kind st (farthestFor kind st side p k)
   band-unmonitored e =
       let x : Quotient = farthestFor kind st side p k in
       ap (limitFor (inward side) kind st) (pick-false (st .monitoring) (narrower side x
-      (monitored st side p s1 c k repo)) x e)
+      (monitored st p s1 k repo c side)) x e)
 
-  pub band-positive : divisorLeast ≤ st .xpr → 0 < bandBefore kind st side p s1 c k repo .den
+  pub band-positive : divisorLeast ≤ st .xpr → 0 < bandBefore kind st p s1 k repo c side .den
   band-positive h =
       let x : Quotient = farthestFor kind st side p k in
-      let y : Quotient = monitored st side p s1 c k repo in
+      let y : Quotient = monitored st p s1 k repo c side in
       let far : 0 < x .den = farthest-positive kind st side p k in
       either-positive (st .monitoring) (narrower side x y) x
       (narrower-positive side x y far (monitored-positive st side p s1 c k repo h)) far

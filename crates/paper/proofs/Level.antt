@@ -49,7 +49,7 @@ unfoldable pub rootsWithin : ℕ → ℕ → ℕ → Bool
 rootsWithin have x y = leb (x + y) have && leb (4 * x * y) ((have - (x + y)) * (have - (x + y)))
 
 pub meets-roots : (rh1 rh liq m tentative v : ℕ)
-    → meetsRequirement rh1 rh liq m tentative v
+    → meetsRequirement rh1 rh liq tentative m v
     ≡ rootsWithin (has rh1 v) (volatileNeed rh1 rh m tentative) (liquidNeed rh1 rh liq)
 unfolding meetsRequirement rootsWithin
 meets-roots rh1 rh liq m tentative v =
@@ -73,14 +73,14 @@ within-more have have′ x y l e =
     let d : have - (x + y) ≤ have′ - (x + y) = omega arith in
     and-both _ _ (le-leb (x + y) have′ (omega (arith, p .0))) (le-leb (4 * x * y) _ (le-trans (p .1) (mul-le-mul d d)))
 
-pub meets-more : (rh1 rh liq m tentative v v′ : ℕ) → v ≤ v′ → meetsRequirement rh1 rh liq m tentative v ≡ true
-    → meetsRequirement rh1 rh liq m tentative v′ ≡ true
+pub meets-more : (rh1 rh liq m tentative v v′ : ℕ) → v ≤ v′ → meetsRequirement rh1 rh liq tentative m v ≡ true
+    → meetsRequirement rh1 rh liq tentative m v′ ≡ true
 meets-more rh1 rh liq m tentative v v′ l e =
     meets-roots rh1 rh liq m tentative v′
     ∙ within-more (has rh1 v) (has rh1 v′) _ _ (mul-le-mul-right (rh1 * rh1) (mul-le-mul l l))
     (sym (meets-roots rh1 rh liq m tentative v) ∙ e)
 
-pub covers-more : (st : Statics) (level m tentative : ℕ) → Mono (covers st level m tentative)
+pub covers-more : (st : Statics) (level m tentative : ℕ) → Mono (covers st tentative m level)
 unfolding covers
 covers-more st level m tentative v v′ l e = meets-more (st .rh1) (daysOf st level) (st .liq) m tentative v v′ l e
 
@@ -96,8 +96,8 @@ module _ (rh1 rh liq m tentative v : ℕ) (days : 0 < rh1) where
   Y : ℕ
   Y = liquidNeed rh1 rh liq
 
-  pub meets-real : meetsRequirement rh1 rh liq m tentative v ≡ true
-      → AtLeastRoots v (volatilePart rh1 rh m tentative) (liquidPart rh1 rh liq)
+  pub meets-real : meetsRequirement rh1 rh liq tentative m v ≡ true
+      → AtLeastRoots v (volatilePart rh1 rh tentative m) (liquidPart rh1 rh liq)
   unfolding W X Y
   meets-real e =
       let p = within-covers (has rh1 v) X Y (sym (meets-roots rh1 rh liq m tentative v) ∙ e) in
@@ -115,7 +115,7 @@ module _ (rh1 rh liq m tentative v : ℕ) (days : 0 < rh1) where
           le-of-mul-le-mul-left scaled days
 
   -- two whole roots at a scale d are fractions over rh_1·d, so their sum is covered
-  scaled : AtLeastRoots v (volatilePart rh1 rh m tentative) (liquidPart rh1 rh liq) → (d a b : ℕ) → 0 < d
+  scaled : AtLeastRoots v (volatilePart rh1 rh tentative m) (liquidPart rh1 rh liq) → (d a b : ℕ) → 0 < d
       → Floor (X * (d * d)) a → Floor (Y * (d * d)) b → a + b ≤ W * d
   unfolding W X Y
   scaled real d a b h p q =
@@ -125,8 +125,8 @@ module _ (rh1 rh liq m tentative v : ℕ) (days : 0 < rh1) where
       omega (arith, mul-le-mul-right rh1 (q .below)) in
       omega (arith, real .bounds a b (rh1 * d) (mul-pos days h) first second)
 
-  pub real-meets : AtLeastRoots v (volatilePart rh1 rh m tentative) (liquidPart rh1 rh liq)
-      → meetsRequirement rh1 rh liq m tentative v ≡ true
+  pub real-meets : AtLeastRoots v (volatilePart rh1 rh tentative m) (liquidPart rh1 rh liq)
+      → meetsRequirement rh1 rh liq tentative m v ≡ true
   unfolding W X Y rootsWithin
   real-meets real = meets-roots rh1 rh liq m tentative v
       ∙ and-both _ _ (le-leb _ _ enough) (le-leb _ _ (cross (le-or-lt (4 * X * Y) (A * A))))
@@ -196,16 +196,16 @@ whole-times x h e = omega (arith, div-add-mod' x h)
 
 -- the rate of a level by the exact comparison
 level-rate-compared : (st : Statics) (level m tentative : ℕ) → validStatics st ≡ true
-    → HeldLeast (st .h) (minimumOf st level) (st .smax) (λ w. covers st level m tentative w ≡ true)
-    (levelRate st level m tentative)
+    → HeldLeast (st .h) (minimumOf st level) (st .smax) (λ w. covers st tentative m level w ≡ true)
+    (levelRate st tentative m level)
 unfolding levelRate
-level-rate-compared st level m tentative v = go (covers st level m tentative (st .smax)) refl
+level-rate-compared st level m tentative v = go (covers st tentative m level (st .smax)) refl
   where
     k : Stepping st level
     k = stepping st level v
 
     enough : ℕ → Bool
-    enough w = leb (minimumOf st level) w && covers st level m tentative w
+    enough w = leb (minimumOf st level) w && covers st tentative m level w
 
     searched : ℕ
     searched = leastMultiple (st .h) (st .smax / st .h) enough
@@ -213,8 +213,8 @@ level-rate-compared st level m tentative v = go (covers st level m tentative (st
     most : st .smax / st .h * st .h ≡ st .smax
     most = whole-times (st .smax) (st .h) (k .multiple)
 
-    go : (b : Bool) → covers st level m tentative (st .smax) ≡ b
-        → HeldLeast (st .h) (minimumOf st level) (st .smax) (λ w. covers st level m tentative w ≡ true)
+    go : (b : Bool) → covers st tentative m level (st .smax) ≡ b
+        → HeldLeast (st .h) (minimumOf st level) (st .smax) (λ w. covers st tentative m level w ≡ true)
         (pick b searched (st .smax))
     go true e =
         let at-most : enough (st .smax / st .h * st .h) ≡ true =
@@ -234,15 +234,15 @@ level-rate-compared st level m tentative v = go (covers st level m tentative (st
           multiple = k .multiple;
           low = k .low;
           held = omega arith;
-          covers-or-held = inr (refl, λ c. clash (covers st level m tentative (st .smax)) c e);
+          covers-or-held = inr (refl, λ c. clash (covers st tentative m level (st .smax)) c e);
           least = λ j l c. over j c (le-or-lt (st .smax) (j * st .h));
         }
       where
-        over : (j : ℕ) → covers st level m tentative (j * st .h) ≡ true
+        over : (j : ℕ) → covers st tentative m level (j * st .h) ≡ true
             → (st .smax ≤ j * st .h) ⊎ (j * st .h < st .smax) → st .smax ≤ j * st .h
         over j c (inl l) = l
         over j c (inr l) =
-            absurd (clash (covers st level m tentative (st .smax))
+            absurd (clash (covers st tentative m level (st .smax))
             (covers-more st level m tentative (j * st .h) (st .smax) (omega arith) c) e)
 
 -- what is covered exactly where something else is may stand for it
@@ -268,8 +268,8 @@ days-positive st v = leb-true 1 (st .rh1) (search (v, and-left, and-right) depth
 -- With the model on, the rate of a level is the least multiple of the step that covers the requirement and the minimum,
 -- held at the maximum
 pub level-rate-is : (st : Statics) (level m tentative : ℕ) → validStatics st ≡ true
-    → HeldLeast (st .h) (minimumOf st level) (st .smax) (AtLeastRequired st level m tentative)
-    (levelRate st level m tentative)
+    → HeldLeast (st .h) (minimumOf st level) (st .smax) (AtLeastRequired st tentative m level)
+    (levelRate st tentative m level)
 unfolding covers
 level-rate-is st level m tentative v =
     held-by (λ w e. meets-real (st .rh1) (daysOf st level) (st .liq) m tentative w (days-positive st v) e)

@@ -141,8 +141,8 @@ near-after r side k l = three-at (λ k. nearCleared side (getD (r .near) k notNe
 -- "remakes that side's three band limits": by one move more of that side
 pub move-remakes : (r : Record) (side : Side) (k : ℕ) → k < 3
     → limitOn side (getD (moved r side .bands) k noLimits)
-    ≡ bandLimit (r .statics) side (r .p1 .units) (rateAt (r .rates) 0) (countOf side (r .moves) + 1)
-    (termAt (r .terms) k .k) (repoOn side (termAt (r .terms) k))
+    ≡ bandLimit (r .statics) (r .p1 .units) (rateAt (r .rates) 0) (termAt (r .terms) k .k)
+    (repoOn side (termAt (r .terms) k)) (countOf side (r .moves) + 1) side
 unfolding moved bandMoved bandOf oneMore
 move-remakes r Upper k l = ap (limitOn Upper) (band-after r Upper k l)
 move-remakes r Lower k l = ap (limitOn Lower) (band-after r Lower k l)

@@ -32,7 +32,7 @@ weighing st v =
 -- ---- the move
 
 -- (e): the move r is the exact one, rounded up
-pub move-rounded : (p1 p2 p : ℕ) → 0 < p1 → 0 < p2 → RoundedUp (moveOf p1 p2 p) (exactMove p1 p2 p)
+pub move-rounded : (p1 p2 p : ℕ) → 0 < p1 → 0 < p2 → RoundedUp (moveOf p p1 p2) (exactMove p p1 p2)
 unfolding moveOf moveFrom exactMove greaterOf
 move-rounded p1 p2 p h1 h2 = go (leb (y .num * x .den) (x .num * y .den)) refl
   where
@@ -85,10 +85,10 @@ replacement-near n r q old move hq rounded =
 -- the rule takes one of the two, and the exact square is worked out by the same choice
 pub volatility-near : (m : Model) (b last r s n : ℕ) (old move : Quotient) → Weighing m → NearExact n s old
     → RoundedUp r move
-    → NearExact (n + 1) (volatilityOf m b last r s) (nextSquare (m .q) old move (choiceOf m b last r s))
+    → NearExact (n + 1) (volatilityOf m b r last s) (nextSquare (m .q) old move (choiceOf m b r last s))
 unfolding volatilityOf choiceOf
 volatility-near m b last r s n old move h near rounded =
-    go (replaces m b last r (weighted (weightOf m b r s) s r)) (weightOf m b r s) (weight-most m b r s h)
+    go (replaces m b r last (weighted (weightOf m b r s) s r)) (weightOf m b r s) (weight-most m b r s h)
   where
     go : (t : Bool) (a : ℕ) → a ≤ oneInTenThousandths
         → NearExact (n + 1) (pick t (replacement (m .q) r) (weighted a s r))

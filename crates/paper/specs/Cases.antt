@@ -152,10 +152,10 @@ results =
     ∷ yesNo (isNear Upper (Z .w) (bandAt (after 0 noTerm) 0) 1062970)
     ∷ [])
     -- 7: r, and the weight
-    ∷ (moveOf 300000000 300000000 306000100 ∷ weightOf (modelOf Z) 0 (moveOf 300000000 300000000 306000100) 20000 ∷ [])
+    ∷ (moveOf 306000100 300000000 300000000 ∷ weightOf (modelOf Z) 0 (moveOf 306000100 300000000 300000000) 20000 ∷ [])
     -- 8: s after r 200,000 with S_1 700, and with b 2; of the first, t by W-202, which is the tentative rate then
-    ∷ (volatilityOf (modelOf Z) 0 (millionthsInBp * 700) 200000 20000
-    ∷ volatilityOf (modelOf Z) 2 (millionthsInBp * 700) 200000 20000
+    ∷ (volatilityOf (modelOf Z) 0 200000 (millionthsInBp * 700) 20000
+    ∷ volatilityOf (modelOf Z) 2 200000 (millionthsInBp * 700) 20000
     ∷ modelled Z 0 0 700 200000 20000 (record { bp = 600; age = 0 }) .tentative .bp
     ∷ [])
     -- 9: t, and the tentative rate at age 3 and at age 4
@@ -214,7 +214,7 @@ unfolding results fine admitAnswer second quoted found step judged firstOf check
     validSlots validAdmission validGiven validStatics isGridPrice isPrice validTentative stands place isDone blank
 straddles =
     -- a band limit is rounded once: 1,052,493.68 down; with each factor rounded it would be 1,052,494
-    (bandLimit fine Upper 1000013 800 0 30 (pos 1460) ∷ [])
+    (bandLimit fine 1000013 800 30 (pos 1460) 0 Upper ∷ [])
     -- the second day is evaluated as the first was: the two evaluations, s, tentative and age
     ∷ (second .p1 .units ∷ second .p2 .units ∷ second .s ∷ second .tentative .bp ∷ second .tentative .age ∷ [])
     -- a quote leaves the volatility

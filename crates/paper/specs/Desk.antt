@@ -125,7 +125,7 @@ unfoldable pub priceOn : Record → (rows : List ℤ) → ℕ
 priceOn r rows = evaluationOf (gridOf (r .statics .lot)) (r .p1 .units) (dayRows rows)
 
 unfoldable pub moveOn : Record → (rows : List ℤ) → ℕ
-moveOn r rows = moveOf (r .p1 .units) (r .p2 .units) (priceOn r rows)
+moveOn r rows = moveOf (priceOn r rows) (r .p1 .units) (r .p2 .units)
 
 unfoldable pub figuresOn : Record → Day → (rows : List ℤ) → Figures
 figuresOn r d rows =
@@ -203,7 +203,7 @@ moved r side =
       s = r .s;
       tentative = r .tentative;
       rates = r .rates;
-      ranges = three (λ i. rangeMoved side (deltaOf (r .statics) (r .p1 .units) s1) (getD (r .ranges) i noLimits));
+      ranges = three (λ i. rangeMoved side (deltaOf (r .statics) s1 (r .p1 .units)) (getD (r .ranges) i noLimits));
       terms = r .terms;
       bands =
           three (λ k. bandMoved side (bandOf (r .statics) (r .p1 .units) s1 c (termAt (r .terms) k))

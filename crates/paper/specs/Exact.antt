@@ -21,8 +21,8 @@ pub data Choice : Type 0 where
 -- ---- the exact square
 
 -- the greater of |P - P1|/P1 and |P - P2|/P2 in millionths, not rounded
-unfoldable pub exactMove : (p1 p2 p : ℕ) → Quotient
-exactMove p1 p2 p =
+unfoldable pub exactMove : (p p1 p2 : ℕ) → Quotient
+exactMove p p1 p2 =
     greaterOf (record { num = apart p p2 * oneInMillionths; den = p2 })
     (record { num = apart p p1 * oneInMillionths; den = p1 })
 
@@ -37,8 +37,8 @@ nextSquare q x r replaced =
     record { num = oneInHundredths * r .num * (oneInHundredths * r .num); den = r .den * q * (r .den * q) }
 
 -- the choice that the volatility's rule makes in an evaluation
-unfoldable pub choiceOf : Model → (b last r s : ℕ) → Choice
-choiceOf m b last r s = pick (replacementWins m b last r s) replaced (byWeight (weightOf m b r s))
+unfoldable pub choiceOf : Model → (b r last s : ℕ) → Choice
+choiceOf m b r last s = pick (replacementWins m b r last s) replaced (byWeight (weightOf m b r s))
 
 -- the exact square in square millionths: from the s of the admission, by the move of each accepted evaluation as it is,
 -- not rounded, and by the choice that the carried figure made in it. Quotes and moves carry nothing on
@@ -47,8 +47,8 @@ exactSquare a [] = record { num = a .s * a .s; den = 1 }
 exactSquare a (evaluatedOn d rows ∷ es) =
     let x : Carries = carries a es in
     let p : ℕ = carries a (evaluatedOn d rows ∷ es) .p1 in
-    nextSquare (a .given .q) (exactSquare a es) (exactMove (x .p1) (x .p2) p)
-    (choiceOf (modelOf (staticsOf (a .given))) (d .b) (millionthsInBp * rateAt (x .rates) 0) (moveOf (x .p1) (x .p2) p)
+    nextSquare (a .given .q) (exactSquare a es) (exactMove p (x .p1) (x .p2))
+    (choiceOf (modelOf (staticsOf (a .given))) (d .b) (moveOf p (x .p1) (x .p2)) (millionthsInBp * rateAt (x .rates) 0)
     (x .s))
 exactSquare a (quotedAt q ∷ es) = exactSquare a es
 exactSquare a (movedBy side ∷ es) = exactSquare a es

@@ -84,7 +84,7 @@ unfoldable pub levelInRange : Statics → (tentative m level : ℕ) → Bool
 levelInRange st tentative m level = validTentative (st .h) tentative && leb m aheadMost && within 1 3 level
 
 unfoldable pub levelFigure : Statics → (tentative m level : ℕ) → ℕ
-levelFigure st tentative m level = pick (st .ewma) (levelRate st level m tentative) (minimumOf st level)
+levelFigure st tentative m level = pick (st .ewma) (levelRate st tentative m level) (minimumOf st level)
 
 unfoldable pub levelCall : GivenStatics → (tentative m level : ℕ) → ℤ
 levelCall g tentative m level =
@@ -98,7 +98,7 @@ rangeInRange st p rate side = isGridPrice (gridOf (st .lot)) p && isRate rate &&
 unfoldable pub rangeCall : GivenStatics → (p rate side : ℕ) → ℤ
 rangeCall g p rate side =
     gatewayAnswer (firstOf (gatewayChecks g (rangeInRange (staticsOf g) p rate side)))
-    (rangeLimit (staticsOf g) (sideOf side) p rate)
+    (rangeLimit (staticsOf g) p rate (sideOf side))
 
 -- "a band limit from P, S_1, k, that side's repo rate, c and side"
 unfoldable pub bandInRange : Statics → (p s1 k : ℕ) → (repo : ℤ) → (c side : ℕ) → Bool
@@ -113,4 +113,4 @@ bandInRange st p s1 k repo c side =
 unfoldable pub bandCall : GivenStatics → (p s1 k : ℕ) → (repo : ℤ) → (c side : ℕ) → ℤ
 bandCall g p s1 k repo c side =
     gatewayAnswer (firstOf (gatewayChecks g (bandInRange (staticsOf g) p s1 k repo c side)))
-    (bandLimit (staticsOf g) (sideOf side) p s1 c k repo)
+    (bandLimit (staticsOf g) p s1 k repo c (sideOf side))

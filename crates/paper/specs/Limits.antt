@@ -65,11 +65,11 @@ shifted Lower p rate = record { num = p * (oneInBp - rate); den = oneInBp }
 -- ---- ranges
 
 -- "Range of level L: P·(1 ± S_L)."; W-209: "ranges .. keep half up"
-unfoldable pub rangeLimit : Statics → Side → (p rate : ℕ) → ℕ
-rangeLimit st side p rate = limitOf HalfUp st (shifted side p rate)
+unfoldable pub rangeLimit : Statics → (p rate : ℕ) → Side → ℕ
+rangeLimit st p rate side = limitOf HalfUp st (shifted side p rate)
 
 unfoldable pub rangeOf : Statics → (p rate : ℕ) → Limits
-rangeOf st p rate = record { lower = rangeLimit st Lower p rate; upper = rangeLimit st Upper p rate }
+rangeOf st p rate = record { lower = rangeLimit st p rate Lower; upper = rangeLimit st p rate Upper }
 
 -- ---- bands
 
@@ -93,8 +93,8 @@ farthestFor share st side p k = farthest st side p
 farthestFor (bond b) st side p k = growing k (b .repo) (farthest st side p)
 
 -- "P·(1 + e·S_1/x_pr)·(1 + RRcH·k/36500)" above, "P·max(0, 1 - e·S_1/x_pr)·(1 + RRcL·k/36500)" below
-unfoldable pub monitored : Statics → Side → (p s1 c k : ℕ) → (repo : ℤ) → Quotient
-monitored st side p s1 c k repo =
+unfoldable pub monitored : Statics → (p s1 k : ℕ) → (repo : ℤ) → (c : ℕ) → Side → Quotient
+monitored st p s1 k repo c side =
     growing k repo (record { num = p * spread st side s1 c; den = oneInBp * st .xpr })
 
 -- "the upper is the lesser of that and ..; the lower the greater of that and .."
@@ -108,26 +108,26 @@ narrowerOf Upper x y = min x y
 narrowerOf Lower x y = max x y
 
 -- a band limit of either kind, before it is rounded
-abbrev pub bandBefore : Kind → Statics → Side → (p s1 c k : ℕ) → (repo : ℤ) → Quotient
-bandBefore kind st side p s1 c k repo =
+abbrev pub bandBefore : Kind → Statics → (p s1 k : ℕ) → (repo : ℤ) → (c : ℕ) → Side → Quotient
+bandBefore kind st p s1 k repo c side =
     let far : Quotient = farthestFor kind st side p k in
-    pick (st .monitoring) (narrower side far (monitored st side p s1 c k repo)) far
+    pick (st .monitoring) (narrower side far (monitored st p s1 k repo c side)) far
 
 -- (g) "once each", and W-209, inward
-abbrev pub bandLimitFor : Kind → Statics → Side → (p s1 c k : ℕ) → (repo : ℤ) → ℕ
-bandLimitFor kind st side p s1 c k repo = limitFor (inward side) kind st (bandBefore kind st side p s1 c k repo)
+abbrev pub bandLimitFor : Kind → Statics → (p s1 k : ℕ) → (repo : ℤ) → (c : ℕ) → Side → ℕ
+bandLimitFor kind st p s1 k repo c side = limitFor (inward side) kind st (bandBefore kind st p s1 k repo c side)
 
 -- of a share
-unfoldable pub bandLimit : Statics → Side → (p s1 c k : ℕ) → (repo : ℤ) → ℕ
-bandLimit st side p s1 c k repo = bandLimitFor share st side p s1 c k repo
+unfoldable pub bandLimit : Statics → (p s1 k : ℕ) → (repo : ℤ) → (c : ℕ) → Side → ℕ
+bandLimit st p s1 k repo c side = bandLimitFor share st p s1 k repo c side
 
 -- a term's band, from its limits: "c the moves of that side since the evaluation"
-abbrev pub bandBy : (Side → (c k : ℕ) → ℤ → ℕ) → Moves → Term → Limits
+abbrev pub bandBy : ((k : ℕ) → ℤ → (c : ℕ) → Side → ℕ) → Moves → Term → Limits
 bandBy limit c x =
-    record { lower = limit Lower (c .lower) (x .k) (x .low); upper = limit Upper (c .upper) (x .k) (x .high) }
+    record { lower = limit (x .k) (x .low) (c .lower) Lower; upper = limit (x .k) (x .high) (c .upper) Upper }
 
 unfoldable pub bandOf : Statics → (p s1 : ℕ) → Moves → Term → Limits
-bandOf st p s1 c x = bandBy (λ side. bandLimit st side p s1) c x
+bandOf st p s1 c x = bandBy (bandLimit st p s1) c x
 
 -- 9: "a rounded lower band limit above its upper one"
 unfoldable pub crossed : Limits → Bool
@@ -136,8 +136,8 @@ crossed x = ltb (x .upper) (x .lower)
 -- ---- moves
 
 -- "delta = 2·shift·S_1·P/x_pr"
-unfoldable pub deltaOf : Statics → (p s1 : ℕ) → ℕ
-deltaOf st p s1 = limitOf HalfUp st (record { num = 2 * st .shift * s1 * p; den = oneInBp * st .xpr })
+unfoldable pub deltaOf : Statics → (s1 p : ℕ) → ℕ
+deltaOf st s1 p = limitOf HalfUp st (record { num = 2 * st .shift * s1 * p; den = oneInBp * st .xpr })
 
 -- "It adds one to c"
 unfoldable pub oneMore : Side → Moves → Moves

@@ -113,15 +113,15 @@ rates =
     ∷ weightOf (modelOf (staticsBut zNumbers)) 1 10 10
     ∷ [])
     -- "When b ≤ 1 and r > 100·S_1 (last rate), also take the least y with y·q ≥ 100·r; s is the greater": b 1 and b 2
-    ∷ (volatilityOf (modelOf (staticsBut zNumbers)) 1 900 1000 100
-    ∷ volatilityOf (modelOf (staticsBut zNumbers)) 2 900 1000 100
+    ∷ (volatilityOf (modelOf (staticsBut zNumbers)) 1 1000 900 100
+    ∷ volatilityOf (modelOf (staticsBut zNumbers)) 2 1000 900 100
     -- r one above 100·S_1, and at it
-    ∷ volatilityOf (modelOf (staticsBut zNumbers)) 1 999 1000 100
+    ∷ volatilityOf (modelOf (staticsBut zNumbers)) 1 1000 999 100
     ∷ volatilityOf (modelOf (staticsBut zNumbers)) 1 1000 1000 100
     ∷ [])
     -- "and on a tie x is the one chosen": y is 334
-    ∷ (yesNo (replaces (modelOf (staticsBut zNumbers)) 0 900 1000 333)
-    ∷ yesNo (replaces (modelOf (staticsBut zNumbers)) 0 900 1000 334)
+    ∷ (yesNo (replaces (modelOf (staticsBut zNumbers)) 0 1000 900 333)
+    ∷ yesNo (replaces (modelOf (staticsBut zNumbers)) 0 1000 900 334)
     ∷ [])
     -- "t is the least multiple of h with 10,000·t ≥ q·s": exactly 100, just above; W-208: a step below S_max, at it and
     -- a step above; "the most that q and s can give"
@@ -146,13 +146,13 @@ rates =
     ∷ tentativeAt 249 600
     ∷ tentativeAt 250 600
     -- the minimum and S_max of a level; W-208: "Rates stay held at S_max", a step past it and at the top of the range
-    ∷ (levelRate (staticsBut zNumbers) 1 0 0
-    ∷ levelRate (staticsBut zNumbers) 3 0 4000
-    ∷ levelRate (staticsBut zNumbers) 1 0 4100
-    ∷ levelRate (staticsBut zNumbers) 1 0 100000
+    ∷ (levelRate (staticsBut zNumbers) 0 0 1
+    ∷ levelRate (staticsBut zNumbers) 4000 0 3
+    ∷ levelRate (staticsBut zNumbers) 4100 0 1
+    ∷ levelRate (staticsBut zNumbers) 100000 0 1
     ∷ [])
     -- "r is the greater of |P - P1|/P1 and |P - P2|/P2": P2 decides, P1 decides, and P2 where P is below both
-    ∷ (moveOf 1010000 1000000 1020000 ∷ moveOf 1000000 1010000 1020000 ∷ moveOf 1000000 1010000 990000 ∷ [])
+    ∷ (moveOf 1020000 1010000 1000000 ∷ moveOf 1020000 1000000 1010000 ∷ moveOf 990000 1000000 1010000 ∷ [])
     ∷ []
 
 pub rates-are : rates
@@ -199,14 +199,14 @@ ratesOf r = r .s ∷ r .tentative .bp ∷ r .tentative .age ∷ map (λ (x : Rat
 -- delta for S_1 100 bp and a lot: with Z's shift 25 and x_pr 200 it is P/400 before it is rounded
 deltaAt : (lot p : ℕ) → ℕ
 unfolding numbers staticsBut zNumbers
-deltaAt lot p = deltaOf (staticsBut (zNumbers but (lotAt, pos lot))) p 100
+deltaAt lot p = deltaOf (staticsBut (zNumbers but (lotAt, pos lot))) 100 p
 
 -- the lower and the upper limit that lie 1 bp from P, with Monitoring no, for a lot
 farthestAt : (lot p : ℕ) → List ℕ
 unfolding numbers staticsBut zNumbers
 farthestAt lot p =
     let near : List ℤ = zNumbers but (monitoringAt, pos 0) but (pchmaxAt, pos 1) but (pclmaxAt, pos 1) in
-    map (λ (side : Side). bandLimit (staticsBut (near but (lotAt, pos lot))) side p 0 0 0 (pos 0))
+    map (λ (side : Side). bandLimit (staticsBut (near but (lotAt, pos lot))) p 0 0 (pos 0) 0 side)
     (Lower ∷ Upper ∷ [])
 
 bandOf0 : Record → List ℕ
@@ -223,17 +223,17 @@ evaluated-records =
     ∷ bandOf0 (evaluatedAt (zRecord but (ewmaAt, pos 0)) 1000000)
     ∷ bandOf0 (evaluatedAt (zRecord but (ewmaAt, pos 0) but (pchmaxAt, pos 100) but (pclmaxAt, pos 200)) 1000000)
     -- "P·max(0, 1 - e·S_1/x_pr)": with c 50 nothing is left but P·(1 - PcL_max); with PcL_max the whole, 0
-    ∷ (bandLimit (staticsBut zNumbers) Lower 1000000 800 50 0 (pos 0)
-    ∷ bandLimit (staticsBut (zNumbers but (pclmaxAt, pos 10000))) Lower 1000000 800 50 0 (pos 0)
+    ∷ (bandLimit (staticsBut zNumbers) 1000000 800 0 (pos 0) 50 Lower
+    ∷ bandLimit (staticsBut (zNumbers but (pclmaxAt, pos 10000))) 1000000 800 0 (pos 0) 50 Lower
     ∷ [])
     -- "Range of level L: P·(1 ± S_L).", S_L the whole; half up to the grid
-    ∷ (rangeLimit (staticsBut zNumbers) Lower 1000000 10000
-    ∷ rangeLimit (staticsBut zNumbers) Upper 1000000 10000
-    ∷ rangeLimit (staticsBut zNumbers) Upper 1050 100
-    ∷ rangeLimit (staticsBut zNumbers) Lower 1050 100
+    ∷ (rangeLimit (staticsBut zNumbers) 1000000 10000 Lower
+    ∷ rangeLimit (staticsBut zNumbers) 1000000 10000 Upper
+    ∷ rangeLimit (staticsBut zNumbers) 1050 100 Upper
+    ∷ rangeLimit (staticsBut zNumbers) 1050 100 Lower
     -- W-209 "ranges .. keep half up": 1,515 and 1,584
-    ∷ rangeLimit (staticsBut zNumbers) Upper 1500 100
-    ∷ rangeLimit (staticsBut zNumbers) Lower 1600 100
+    ∷ rangeLimit (staticsBut zNumbers) 1500 100 Upper
+    ∷ rangeLimit (staticsBut zNumbers) 1600 100 Lower
     ∷ [])
     -- r by P2: P1 is 1,000,010, P2 1,000,000, s 0 and S_1 500
     ∷ ratesOf (evaluatedAt (zRecord but (p1At, pos 1000010) but (sAt, pos 0) but (ratesAt, pos 500)) 1000020)

@@ -64,10 +64,10 @@ unfolding numbers security oneDay twoDays threeDays dayAtLine replacedDay dayAft
     exactSquare carries carriesFirst carriesNext
 exact-squares =
     -- the move as it is, up and down; by P2 and by P1: in thirds of a millionth
-    partsOf 3 (exactMove 3000000 3000000 3000010)
-    ∷ partsOf 3 (exactMove 3000000 3000000 2999990)
-    ∷ partsOf 3 (exactMove 3000010 3000000 3000020)
-    ∷ partsOf 3 (exactMove 3000000 3000010 3000020)
+    partsOf 3 (exactMove 3000010 3000000 3000000)
+    ∷ partsOf 3 (exactMove 2999990 3000000 3000000)
+    ∷ partsOf 3 (exactMove 3000020 3000010 3000000)
+    ∷ partsOf 3 (exactMove 3000020 3000000 3000010)
     -- "at n 0, s²·D = N"
     ∷ partsOf 1 (exactSquare security [])
     -- evaluations, of which the second starts from the exact square; a weight of 0

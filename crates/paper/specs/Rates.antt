@@ -20,12 +20,12 @@ use Rattle.paper.specs.Least.{leastRoot, leastTimes, leastMultiple}
 -- ---- the move and the volatility
 
 -- |P - P1|/P1, rounded by (e) up to a millionth
-unfoldable pub moveFrom : (earlier p : ℕ) → ℕ
-moveFrom earlier p = up (apart p earlier * oneInMillionths) earlier
+unfoldable pub moveFrom : (p earlier : ℕ) → ℕ
+moveFrom p earlier = up (apart p earlier * oneInMillionths) earlier
 
 -- "r is the greater of |P - P1|/P1 and |P - P2|/P2 over the two earlier evaluations, rounded by (e)."
-unfoldable pub moveOf : (p1 p2 p : ℕ) → ℕ
-moveOf p1 p2 p = max (moveFrom p1 p) (moveFrom p2 p)
+unfoldable pub moveOf : (p p1 p2 : ℕ) → ℕ
+moveOf p p1 p2 = max (moveFrom p p1) (moveFrom p p2)
 
 -- the weights and the multiplier of a share
 abbrev pub modelOf : Statics → Model
@@ -51,16 +51,16 @@ replacement q r = leastTimes q (oneInHundredths * r)
 
 -- "When b ≤ 1 and r > 100·S_1 (last rate), also take the least y ..; s is the greater, and on a tie x is the one
 -- chosen." The last rate is in the unit of the move
-unfoldable pub replaces : Model → (b last r x : ℕ) → Bool
-replaces m b last r x = leb b 1 && ltb last r && ltb x (replacement (m .q) r)
+unfoldable pub replaces : Model → (b r last x : ℕ) → Bool
+replaces m b r last x = leb b 1 && ltb last r && ltb x (replacement (m .q) r)
 
 -- whether y is the one chosen over this evaluation's x
-abbrev pub replacementWins : Model → (b last r s : ℕ) → Bool
-replacementWins m b last r s = replaces m b last r (weighted (weightOf m b r s) s r)
+abbrev pub replacementWins : Model → (b r last s : ℕ) → Bool
+replacementWins m b r last s = replaces m b r last (weighted (weightOf m b r s) s r)
 
-unfoldable pub volatilityOf : Model → (b last r s : ℕ) → ℕ
-volatilityOf m b last r s =
-    pick (replacementWins m b last r s) (replacement (m .q) r) (weighted (weightOf m b r s) s r)
+unfoldable pub volatilityOf : Model → (b r last s : ℕ) → ℕ
+volatilityOf m b r last s =
+    pick (replacementWins m b r last s) (replacement (m .q) r) (weighted (weightOf m b r s) s r)
 
 -- ---- the tentative rate
 
@@ -94,8 +94,8 @@ tentativeAfter h wait t old =
 
 -- "v ≥ sqrt(rh_L/rh_1)·(tentative·sqrt((rh_1 + m)/rh_1) + liq)": with A = v²·rh_1² - rh_L·tentative²·(rh_1 + m) -
 -- rh_L·rh_1·liq², "it holds when A ≥ 0 and A² ≥ 4·rh_L²·tentative²·liq²·rh_1·(rh_1 + m)"
-unfoldable pub meetsRequirement : (rh1 rh liq m tentative v : ℕ) → Bool
-meetsRequirement rh1 rh liq m tentative v =
+unfoldable pub meetsRequirement : (rh1 rh liq tentative m v : ℕ) → Bool
+meetsRequirement rh1 rh liq tentative m v =
     let A : ℤ = subℕ (v * v * (rh1 * rh1)) (rh * (tentative * tentative) * (rh1 + m) + rh * rh1 * (liq * liq)) in
     leZ (pos 0) A && leZ (pos (4 * (rh * rh) * (tentative * tentative) * (liq * liq) * rh1 * (rh1 + m))) (A *ℤ A)
 
@@ -107,15 +107,15 @@ unfoldable pub minimumOf : Statics → (level : ℕ) → ℕ
 minimumOf st level = pick (eqb level 1) (st .min1) (pick (eqb level 2) (st .min2) (st .min3))
 
 -- whether a rate v covers the requirement of a level
-unfoldable pub covers : Statics → (level m tentative v : ℕ) → Bool
-covers st level m tentative v = meetsRequirement (st .rh1) (daysOf st level) (st .liq) m tentative v
+unfoldable pub covers : Statics → (tentative m level v : ℕ) → Bool
+covers st tentative m level v = meetsRequirement (st .rh1) (daysOf st level) (st .liq) tentative m v
 
 -- "Rate of level L is S_max if the requirement exceeds it, else the least multiple v of h, v ≥ S_L_min, with v ≥ .."
 -- the requirement. W-208: "Rates stay held at S_max"
-unfoldable pub levelRate : Statics → (level m tentative : ℕ) → ℕ
-levelRate st level m tentative =
-    pick (covers st level m tentative (st .smax))
-    (leastMultiple (st .h) (st .smax / st .h) (λ v. leb (minimumOf st level) v && covers st level m tentative v))
+unfoldable pub levelRate : Statics → (tentative m level : ℕ) → ℕ
+levelRate st tentative m level =
+    pick (covers st tentative m level (st .smax))
+    (leastMultiple (st .h) (st .smax / st .h) (λ v. leb (minimumOf st level) v && covers st tentative m level v))
     (st .smax)
 
 -- ---- by isEWMA
@@ -124,12 +124,12 @@ levelRate st level m tentative =
 abbrev pub ratedBy : Statics → (m t s : ℕ) → Tentative → Figures
 ratedBy st m t s old =
     let after : Tentative = tentativeAfter (st .h) (st .wait) t old in
-    record { s = s; tentative = after; rates = forLevels (λ l. record { bp = levelRate st l m (after .bp) }) }
+    record { s = s; tentative = after; rates = forLevels (λ l. record { bp = levelRate st (after .bp) m l }) }
 
 unfoldable pub modelled : Statics → (b m s1 r s : ℕ) → Tentative → Figures
 modelled st b m s1 r s old =
-    let s′ : ℕ = volatilityOf (modelOf st) b (millionthsInBp * s1) r s in
-    let replaced : Bool = replacementWins (modelOf st) b (millionthsInBp * s1) r s in
+    let s′ : ℕ = volatilityOf (modelOf st) b r (millionthsInBp * s1) s in
+    let replaced : Bool = replacementWins (modelOf st) b r (millionthsInBp * s1) s in
     ratedBy st m (tentativeRateOf st replaced r s′) s′ old
 
 -- "With isEWMA no, the three rates are the minima and s, tentative and age stay."
@@ -161,8 +161,8 @@ pub record AtLeastRoots (v : ℕ) (x y : Quotient) : Type 0 where
       → a + b ≤ v * d
 
 -- the squares of sqrt(rh_L/rh_1)·tentative·sqrt((rh_1 + m)/rh_1) and of sqrt(rh_L/rh_1)·liq
-abbrev pub volatilePart : (rh1 rh m tentative : ℕ) → Quotient
-volatilePart rh1 rh m tentative = record { num = rh * (tentative * tentative) * (rh1 + m); den = rh1 * rh1 }
+abbrev pub volatilePart : (rh1 rh tentative m : ℕ) → Quotient
+volatilePart rh1 rh tentative m = record { num = rh * (tentative * tentative) * (rh1 + m); den = rh1 * rh1 }
 
 abbrev pub liquidPart : (rh1 rh liq : ℕ) → Quotient
 liquidPart rh1 rh liq = record { num = rh * (liq * liq); den = rh1 }
@@ -175,9 +175,9 @@ pub record IsLeastStep (h factor n v : ℕ) : Type 0 where
 
 -- v is at least the requirement of a level, as real numbers are: "v ≥ sqrt(rh_L/rh_1)·(tentative·sqrt((rh_1 + m)/rh_1)
 -- + liq)"
-abbrev pub AtLeastRequired : Statics → (level m tentative v : ℕ) → Type 0
-AtLeastRequired st level m tentative v =
-    AtLeastRoots v (volatilePart (st .rh1) (daysOf st level) m tentative)
+abbrev pub AtLeastRequired : Statics → (tentative m level v : ℕ) → Type 0
+AtLeastRequired st tentative m level v =
+    AtLeastRoots v (volatilePart (st .rh1) (daysOf st level) tentative m)
     (liquidPart (st .rh1) (daysOf st level) (st .liq))
 
 -- "the least multiple of the step that covers the requirement and the minimum, held at the maximum", whatever it is

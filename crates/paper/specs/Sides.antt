@@ -36,7 +36,7 @@ repoOn Lower x = x .low
 
 -- the delta of a move: by the record's own P and S_1
 abbrev pub deltaFor : Record → ℕ
-deltaFor r = deltaOf (r .statics) (r .p1 .units) (rateAt (r .rates) 0)
+deltaFor r = deltaOf (r .statics) (rateAt (r .rates) 0) (r .p1 .units)
 
 -- "Accepted evaluations, moves and reads return the record as it then stands, a quote its two alerts, an admission the
 -- number 0 alone."

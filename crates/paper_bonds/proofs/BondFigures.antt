@@ -30,15 +30,15 @@ bond-statics-valid b v = search (v, and-left) depth 40
 -- with isEWMA the rate of each level, held at the bond's own maximum
 pub bond-rate-is : (b : Bond) (level : ℕ) → validBond b ≡ true
     → HeldLeast (b .statics .h) (minimumOf (bondStatics b) level) (b .statics .smax)
-    (AtLeastRequired (bondStatics b) level (b .m) (bondFigures b .tentative .bp))
-    (levelRate (bondStatics b) level (b .m) (bondFigures b .tentative .bp))
+    (AtLeastRequired (bondStatics b) (bondFigures b .tentative .bp) (b .m) level)
+    (levelRate (bondStatics b) (bondFigures b .tentative .bp) (b .m) level)
 unfolding givenOf staticsOf
 bond-rate-is b level v =
     level-rate-is (bondStatics b) level (b .m) (bondFigures b .tentative .bp) (bond-statics-valid b v)
 
 pub bond-rates-are : (b : Bond) → bondStatics b .ewma ≡ true
     → bondFigures b .rates
-    ≡ forLevels (λ l. record { bp = levelRate (bondStatics b) l (b .m) (bondFigures b .tentative .bp) })
+    ≡ forLevels (λ l. record { bp = levelRate (bondStatics b) (bondFigures b .tentative .bp) (b .m) l })
 unfolding bondFigures figuresByVolatility
 bond-rates-are b e = rw e
 

@@ -24,10 +24,10 @@ use Rattle.paper_bonds.proofs.BondFigures.{bond-statics-valid}
 
 pub off-is : (b : BondScale) (st : Statics) (side : Side) (p s1 c k : ℕ) (repo : ℤ) → 0 < b .face
     → divisorLeast ≤ st .xpr
-    → offLimit b st side p s1 c k repo
-    ≡ narrowerOf side (bandLimitFor (bond b) st side p s1 c k repo) (twentyLimit b side p k)
+    → offLimit b st p s1 k repo c side
+    ≡ narrowerOf side (bandLimitFor (bond b) st p s1 k repo c side) (twentyLimit b side p k)
 off-is b st side p s1 c k repo f d =
-    narrower-rounded (inward side) (bond b) st side (bandBefore (bond b) st side p s1 c k repo)
+    narrower-rounded (inward side) (bond b) st side (bandBefore (bond b) st p s1 k repo c side)
     (twentyBefore b side p k) f (band-positive (bond b) st side p s1 c k repo d)
     (omega (arith, shifted-positive side p offBook))
 

@@ -165,19 +165,19 @@ abbrev pub twentyLimit : BondScale → Side → (p k : ℕ) → ℕ
 twentyLimit scale side p k = bondLimitOf (inward side) scale (twentyBefore scale side p k)
 
 -- off the book, rounded inward too (W-209): "the narrower" of the band limit and that of the 20 per cent
-abbrev pub offBefore : BondScale → Statics → Side → (p s1 c k : ℕ) → (repo : ℤ) → Quotient
-offBefore scale st side p s1 c k repo =
-    narrower side (bandBefore (bond scale) st side p s1 c k repo) (twentyBefore scale side p k)
+abbrev pub offBefore : BondScale → Statics → (p s1 k : ℕ) → (repo : ℤ) → (c : ℕ) → Side → Quotient
+offBefore scale st p s1 k repo c side =
+    narrower side (bandBefore (bond scale) st p s1 k repo c side) (twentyBefore scale side p k)
 
-abbrev pub offLimit : BondScale → Statics → Side → (p s1 c k : ℕ) → (repo : ℤ) → ℕ
-offLimit scale st side p s1 c k repo = limitFor (inward side) (bond scale) st (offBefore scale st side p s1 c k repo)
+abbrev pub offLimit : BondScale → Statics → (p s1 k : ℕ) → (repo : ℤ) → (c : ℕ) → Side → ℕ
+offLimit scale st p s1 k repo c side = limitFor (inward side) (bond scale) st (offBefore scale st p s1 k repo c side)
 
 -- the limits of a term, from P and S_1: a bond's do not move
 unfoldable pub limitsFrom : BondScale → Statics → (p s1 : ℕ) → Term → BondLimits
 limitsFrom scale st p s1 x =
     record {
-      band = bandBy (λ side. bandLimitFor (bond scale) st side p s1) noMoves x;
-      off = bandBy (λ side. offLimit scale st side p s1) noMoves x;
+      band = bandBy (bandLimitFor (bond scale) st p s1) noMoves x;
+      off = bandBy (offLimit scale st p s1) noMoves x;
     }
 
 unfoldable pub limitsOf : Bond → List Flow → Term → BondLimits

@@ -119,7 +119,7 @@ changeOf k = max (apartZ (k .r) (k .r1)) (apartZ (k .r) (k .r2))
 
 -- the shares' rule, in whole bp, with the old tentative rate where shares have the last rate
 unfoldable pub repoVolatility : Interest → Maturity → ℕ
-repoVolatility i k = volatilityOf (i .model) (i .b) (k .tentative .bp) (changeOf k) (k .volatility)
+repoVolatility i k = volatilityOf (i .model) (i .b) (changeOf k) (k .tentative .bp) (k .volatility)
 
 -- t is the least multiple of h with 100·t ≥ q·σ: "with no maximum"
 unfoldable pub repoTentativeRate : Interest → Maturity → ℕ

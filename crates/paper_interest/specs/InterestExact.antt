@@ -84,7 +84,7 @@ pub data Follow (first : Carried) : List Evening → Type 0 where
 
 -- the choice that the volatility's rule makes: the old tentative rate stands where shares have the last rate
 unfoldable pub repoChoice : Interest → Maturity → Choice
-repoChoice i k = choiceOf (i .model) (i .b) (k .tentative .bp) (changeOf k) (k .volatility)
+repoChoice i k = choiceOf (i .model) (i .b) (changeOf k) (k .tentative .bp) (k .volatility)
 
 -- the change as a quotient: whole rates are exact
 unfoldable pub exactChange : Maturity → Quotient

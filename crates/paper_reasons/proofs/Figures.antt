@@ -64,10 +64,10 @@ module _ (st : Statics) (ewma : st .ewma ≡ true) where
       go false false below e = rw (e refl)
 
   -- REPLACEMENT
-  pub volatility-is : (m : Model) (b last r s : ℕ) → volatilityOf m b last r s
-      ≡ volatilityFigure m (weightOf m b r s) r s (replacementReason st (replacementWins m b last r s))
+  pub volatility-is : (m : Model) (b last r s : ℕ) → volatilityOf m b r last s
+      ≡ volatilityFigure m (weightOf m b r s) r s (replacementReason st (replacementWins m b r last s))
   unfolding volatilityOf volatilityFigure replacementReason replacementWas
-  volatility-is m b last r s = rw ewma (go (replacementWins m b last r s))
+  volatility-is m b last r s = rw ewma (go (replacementWins m b r last s))
     where
       x : ℕ
       x = weighted (weightOf m b r s) s r
@@ -104,22 +104,22 @@ module _ (st : Statics) (ewma : st .ewma ≡ true) where
       go false false over level e = rw (e refl refl)
 
 -- LEVEL: with isEWMA yes
-level-set-by : (st : Statics) (l m t rate : ℕ) (x : LevelReason) → levelSetBy st l m t rate x ≡ true
-    → rate ≡ levelFigure st l m t x
+level-set-by : (st : Statics) (l m t rate : ℕ) (x : LevelReason) → levelSetBy st t m l rate x ≡ true
+    → rate ≡ levelFigure st t m l x
 unfolding levelSetBy levelFigure
 level-set-by st l m t rate level.None e = absurd (clash false e refl)
-level-set-by st l m t rate level.Requirement e = eqb-true _ _ (and-right (covers st l m t (st .smax)) _ e)
+level-set-by st l m t rate level.Requirement e = eqb-true _ _ (and-right (covers st t m l (st .smax)) _ e)
 level-set-by st l m t rate level.Minimum e = eqb-true _ _ e
 level-set-by st l m t rate level.Maximum e = eqb-true _ _ e
 
 pub level-is : (st : Statics) (l m t : ℕ) → validStatics st ≡ true → st .ewma ≡ true
-    → levelRate st l m t ≡ levelFigure st l m t (levelReason st l m t (levelRate st l m t))
+    → levelRate st t m l ≡ levelFigure st t m l (levelReason st t m l (levelRate st t m l))
 level-is st l m t v ewma =
-    level-set-by st l m t (levelRate st l m t) (levelReason st l m t (levelRate st l m t))
+    level-set-by st l m t (levelRate st t m l) (levelReason st t m l (levelRate st t m l))
     (level-named st l m t v ewma .condition)
 
 -- and with isEWMA no: the rate is the minimum, which is what is named
 pub level-unmodelled : (st : Statics) (l m t rate : ℕ) → st .ewma ≡ false
-    → levelFigure st l m t (levelReason st l m t rate) ≡ minimumOf st l
+    → levelFigure st t m l (levelReason st t m l rate) ≡ minimumOf st l
 unfolding levelReason levelFigure
 level-unmodelled st l m t rate off = rw off

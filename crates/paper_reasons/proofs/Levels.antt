@@ -45,170 +45,170 @@ module _ (st : Statics) (v : validStatics st ≡ true) where
 
 -- with isEWMA yes
 pub level-by : (st : Statics) (l m t rate : ℕ) → st .ewma ≡ true
-    → levelReason st l m t rate ≡ firstThatHolds level.None (levelSetBy st l m t rate) levelReasons
+    → levelReason st t m l rate ≡ firstThatHolds level.None (levelSetBy st t m l rate) levelReasons
 unfolding levelReason
 level-by st l m t rate e = pick-true (st .ewma) _ _ e
 
 module _ (st : Statics) (l m t : ℕ) (v : validStatics st ≡ true) where
-  held : HeldLeast (st .h) (minimumOf st l) (st .smax) (AtLeastRequired st l m t) (levelRate st l m t)
+  held : HeldLeast (st .h) (minimumOf st l) (st .smax) (AtLeastRequired st t m l) (levelRate st t m l)
   held = level-rate-is st l m t v
 
-  covers-real : (w : ℕ) → covers st l m t w ≡ true → AtLeastRequired st l m t w
+  covers-real : (w : ℕ) → covers st t m l w ≡ true → AtLeastRequired st t m l w
   unfolding covers
   covers-real w e = meets-real (st .rh1) (daysOf st l) (st .liq) m t w (days-positive st v) e
 
-  real-covers : (w : ℕ) → AtLeastRequired st l m t w → covers st l m t w ≡ true
+  real-covers : (w : ℕ) → AtLeastRequired st t m l w → covers st t m l w ≡ true
   unfolding covers
   real-covers w c = real-meets (st .rh1) (daysOf st l) (st .liq) m t w (days-positive st v) c
 
   -- where S_max covers the requirement, the rate does
-  rate-covers : covers st l m t (st .smax) ≡ true → covers st l m t (levelRate st l m t) ≡ true
+  rate-covers : covers st t m l (st .smax) ≡ true → covers st t m l (levelRate st t m l) ≡ true
   rate-covers e = go (held .covers-or-held)
     where
-      go : AtLeastRequired st l m t (levelRate st l m t)
-          ⊎ ((levelRate st l m t ≡ st .smax) × (AtLeastRequired st l m t (st .smax) → ⊥))
-          → covers st l m t (levelRate st l m t) ≡ true
+      go : AtLeastRequired st t m l (levelRate st t m l)
+          ⊎ ((levelRate st t m l ≡ st .smax) × (AtLeastRequired st t m l (st .smax) → ⊥))
+          → covers st t m l (levelRate st t m l) ≡ true
       go (inl c) = real-covers _ c
       go (inr (q, f)) = absurd (f (covers-real _ e))
 
   -- and then the least multiple of h that covers it is at most the rate
-  step-covers : covers st l m t (st .smax) ≡ true → covers st l m t (requirementStep st l m t) ≡ true
+  step-covers : covers st t m l (st .smax) ≡ true → covers st t m l (requirementStep st t m l) ≡ true
   unfolding requirementStep
   step-covers e =
-      multiple-holds (st .h) (st .smax / st .h) (λ w. covers st l m t w) (rw (most-whole st v) e)
+      multiple-holds (st .h) (st .smax / st .h) (λ w. covers st t m l w) (rw (most-whole st v) e)
 
-  step-least : (w : ℕ) → w / st .h * st .h ≡ w → covers st l m t w ≡ true → requirementStep st l m t ≤ w
+  step-least : (w : ℕ) → w / st .h * st .h ≡ w → covers st t m l w ≡ true → requirementStep st t m l ≤ w
   unfolding requirementStep
   step-least w whole c =
-      rw (sym whole) (multiple-least (st .h) (st .smax / st .h) (λ w. covers st l m t w) (w / st .h) (rw whole c))
+      rw (sym whole) (multiple-least (st .h) (st .smax / st .h) (λ w. covers st t m l w) (w / st .h) (rw whole c))
 
-  rate-whole : levelRate st l m t / st .h * st .h ≡ levelRate st l m t
-  rate-whole = whole-times (levelRate st l m t) (st .h) (held .multiple)
+  rate-whole : levelRate st t m l / st .h * st .h ≡ levelRate st t m l
+  rate-whole = whole-times (levelRate st t m l) (st .h) (held .multiple)
 
   -- a rate that is not 0 is a step at least
-  pub a-step : 0 < levelRate st l m t → st .h ≤ levelRate st l m t
-  a-step p = go (le-or-lt 1 (levelRate st l m t / st .h))
+  pub a-step : 0 < levelRate st t m l → st .h ≤ levelRate st t m l
+  a-step p = go (le-or-lt 1 (levelRate st t m l / st .h))
     where
-      go : (1 ≤ levelRate st l m t / st .h) ⊎ (levelRate st l m t / st .h < 1) → st .h ≤ levelRate st l m t
+      go : (1 ≤ levelRate st t m l / st .h) ⊎ (levelRate st t m l / st .h < 1) → st .h ≤ levelRate st t m l
       go (inl k) = omega (arith, rate-whole, mul-le-mul-right (st .h) k)
       go (inr k) =
-          let no-steps : levelRate st l m t / st .h ≡ 0 = omega arith in
+          let no-steps : levelRate st t m l / st .h ≡ 0 = omega arith in
           absurd (omega (arith, rw no-steps at rate-whole))
 
-  step-whole : (j : ℕ) × (requirementStep st l m t ≡ j * st .h)
+  step-whole : (j : ℕ) × (requirementStep st t m l ≡ j * st .h)
   unfolding requirementStep
-  step-whole = multiple-is (st .h) (st .smax / st .h) (λ w. covers st l m t w)
+  step-whole = multiple-is (st .h) (st .smax / st .h) (λ w. covers st t m l w)
 
   -- a step that is not below the minimum is the rate
-  step-is-rate : covers st l m t (st .smax) ≡ true → minimumOf st l ≤ requirementStep st l m t
-      → levelRate st l m t ≡ requirementStep st l m t
+  step-is-rate : covers st t m l (st .smax) ≡ true → minimumOf st l ≤ requirementStep st t m l
+      → levelRate st t m l ≡ requirementStep st t m l
   step-is-rate e low =
       let at = step-whole in
-      let below : levelRate st l m t ≤ requirementStep st l m t =
+      let below : levelRate st t m l ≤ requirementStep st t m l =
       rw (at .1) (held .least (at .0) (rw (at .1) at low) (covers-real _ (rw (at .1) at (step-covers e)))) in
       le-antisymm below (step-least _ rate-whole (rate-covers e))
 
   -- and below the minimum it leaves the minimum
-  minimum-is-rate : covers st l m t (st .smax) ≡ true → requirementStep st l m t < minimumOf st l
-      → levelRate st l m t ≡ minimumOf st l
+  minimum-is-rate : covers st t m l (st .smax) ≡ true → requirementStep st t m l < minimumOf st l
+      → levelRate st t m l ≡ minimumOf st l
   minimum-is-rate e short =
       let whole = minimum-whole st v l in
-      let covered : covers st l m t (minimumOf st l) ≡ true =
-      covers-more st l m t (requirementStep st l m t) (minimumOf st l) (omega arith) (step-covers e) in
-      let below : levelRate st l m t ≤ minimumOf st l / st .h * st .h =
+      let covered : covers st t m l (minimumOf st l) ≡ true =
+      covers-more st l m t (requirementStep st t m l) (minimumOf st l) (omega arith) (step-covers e) in
+      let below : levelRate st t m l ≤ minimumOf st l / st .h * st .h =
       held .least (minimumOf st l / st .h) (omega (arith, whole)) (covers-real _ (rw whole covered)) in
       omega (arith, whole, held .low)
 
-  most-is-rate : covers st l m t (st .smax) ≡ false → levelRate st l m t ≡ st .smax
+  most-is-rate : covers st t m l (st .smax) ≡ false → levelRate st t m l ≡ st .smax
   unfolding levelRate
-  most-is-rate e = pick-false (covers st l m t (st .smax)) _ _ e
+  most-is-rate e = pick-false (covers st t m l (st .smax)) _ _ e
 
-  one-set-it : NoneApplies (inOrder (levelSetBy st l m t (levelRate st l m t)) levelReasons) → ⊥
+  one-set-it : NoneApplies (inOrder (levelSetBy st t m l (levelRate st t m l)) levelReasons) → ⊥
   unfolding levelSetBy
-  one-set-it (also a (also b (also c none))) = go (covers st l m t (st .smax)) refl
+  one-set-it (also a (also b (also c none))) = go (covers st t m l (st .smax)) refl
     where
-      set : covers st l m t (st .smax) ≡ true
-          → (minimumOf st l ≤ requirementStep st l m t) ⊎ (requirementStep st l m t < minimumOf st l) → ⊥
+      set : covers st t m l (st .smax) ≡ true
+          → (minimumOf st l ≤ requirementStep st t m l) ⊎ (requirementStep st t m l < minimumOf st l) → ⊥
       set e (inl low) = clash _ (and-both _ _ e (eq-eqb _ _ (step-is-rate e low))) a
       set e (inr short) = clash _ (eq-eqb _ _ (minimum-is-rate e short)) b
 
-      go : (covered : Bool) → covers st l m t (st .smax) ≡ covered → ⊥
-      go true e = set e (le-or-lt (minimumOf st l) (requirementStep st l m t))
+      go : (covered : Bool) → covers st t m l (st .smax) ≡ covered → ⊥
+      go true e = set e (le-or-lt (minimumOf st l) (requirementStep st t m l))
       go false e = clash _ (eq-eqb _ _ (most-is-rate e)) c
 
   pub level-named : st .ewma ≡ true
-      → TrueReason (levelSetBy st l m t (levelRate st l m t)) levelReasons (levelReason st l m t (levelRate st l m t))
+      → TrueReason (levelSetBy st t m l (levelRate st t m l)) levelReasons (levelReason st t m l (levelRate st t m l))
   level-named ewma =
-      subst (TrueReason (levelSetBy st l m t (levelRate st l m t)) levelReasons)
-      (sym (level-by st l m t (levelRate st l m t) ewma))
-      (true-reason level.None (levelSetBy st l m t (levelRate st l m t)) levelReasons one-set-it)
+      subst (TrueReason (levelSetBy st t m l (levelRate st t m l)) levelReasons)
+      (sym (level-by st l m t (levelRate st t m l) ewma))
+      (true-reason level.None (levelSetBy st t m l (levelRate st t m l)) levelReasons one-set-it)
 
   -- where neither the requirement nor the minimum set it, the maximum did
-  pub maximum-left : st .ewma ≡ true → levelSetBy st l m t (levelRate st l m t) level.Requirement ≡ false
-      → levelSetBy st l m t (levelRate st l m t) level.Minimum ≡ false
-      → level.Maximum ≡ levelReason st l m t (levelRate st l m t)
-  maximum-left ewma r low = go (levelSetBy st l m t (levelRate st l m t) level.Maximum) refl
+  pub maximum-left : st .ewma ≡ true → levelSetBy st t m l (levelRate st t m l) level.Requirement ≡ false
+      → levelSetBy st t m l (levelRate st t m l) level.Minimum ≡ false
+      → level.Maximum ≡ levelReason st t m l (levelRate st t m l)
+  maximum-left ewma r low = go (levelSetBy st t m l (levelRate st t m l) level.Maximum) refl
     where
-      go : (b : Bool) → levelSetBy st l m t (levelRate st l m t) level.Maximum ≡ b
-          → level.Maximum ≡ levelReason st l m t (levelRate st l m t)
-      go true e = sym (level-by st l m t (levelRate st l m t) ewma ∙ rw (r, low, e))
+      go : (b : Bool) → levelSetBy st t m l (levelRate st t m l) level.Maximum ≡ b
+          → level.Maximum ≡ levelReason st t m l (levelRate st t m l)
+      go true e = sym (level-by st l m t (levelRate st t m l) ewma ∙ rw (r, low, e))
       go false e = absurd (one-set-it (also r (also low (also e none))))
 
   -- ---- whether the rate is the least that covers the requirement, by a comparison a step below it
 
   -- the requirement set the rate
   abbrev pub bySelf : Bool
-  bySelf = levelSetBy st l m t (levelRate st l m t) level.Requirement
+  bySelf = levelSetBy st t m l (levelRate st t m l) level.Requirement
 
-  pub uncovered : covers st l m t (levelRate st l m t) ≡ false → bySelf ≡ false
+  pub uncovered : covers st t m l (levelRate st t m l) ≡ false → bySelf ≡ false
   unfolding levelSetBy
-  uncovered n = go (covers st l m t (st .smax)) refl
+  uncovered n = go (covers st t m l (st .smax)) refl
     where
-      go : (b : Bool) → covers st l m t (st .smax) ≡ b
-          → (b && eqb (levelRate st l m t) (requirementStep st l m t)) ≡ false
+      go : (b : Bool) → covers st t m l (st .smax) ≡ b
+          → (b && eqb (levelRate st t m l) (requirementStep st t m l)) ≡ false
       go true e = absurd (clash _ (rate-covers e) n)
       go false e = refl
 
-  module _ (covered : covers st l m t (levelRate st l m t) ≡ true) where
-    most-covers : covers st l m t (st .smax) ≡ true
-    most-covers = covers-more st l m t (levelRate st l m t) (st .smax) (held .held) covered
+  module _ (covered : covers st t m l (levelRate st t m l) ≡ true) where
+    most-covers : covers st t m l (st .smax) ≡ true
+    most-covers = covers-more st l m t (levelRate st t m l) (st .smax) (held .held) covered
 
-    step-below : requirementStep st l m t ≤ levelRate st l m t
+    step-below : requirementStep st t m l ≤ levelRate st t m l
     step-below = step-least _ rate-whole covered
 
-    pub at-zero : levelRate st l m t ≡ 0 → bySelf ≡ true
+    pub at-zero : levelRate st t m l ≡ 0 → bySelf ≡ true
     unfolding levelSetBy
     at-zero z =
-        and-both _ _ most-covers (eq-eqb (levelRate st l m t) (requirementStep st l m t) (omega (arith, step-below)))
+        and-both _ _ most-covers (eq-eqb (levelRate st t m l) (requirementStep st t m l) (omega (arith, step-below)))
 
-    pub a-step-below : 0 < levelRate st l m t → bySelf ≡ not (covers st l m t (levelRate st l m t - st .h))
+    pub a-step-below : 0 < levelRate st t m l → bySelf ≡ not (covers st t m l (levelRate st t m l - st .h))
     unfolding levelSetBy
-    a-step-below p = go (covers st l m t (levelRate st l m t - st .h)) refl
+    a-step-below p = go (covers st t m l (levelRate st t m l - st .h)) refl
       where
-        below-whole : (levelRate st l m t - st .h) / st .h * st .h ≡ levelRate st l m t - st .h
+        below-whole : (levelRate st t m l - st .h) / st .h * st .h ≡ levelRate st t m l - st .h
         below-whole = whole-times _ (st .h) (sym (mod-eq-sub-mod (a-step p)) ∙ held .multiple)
 
         -- two multiples of h are a step apart
-        apart : requirementStep st l m t < levelRate st l m t → requirementStep st l m t ≤ levelRate st l m t - st .h
+        apart : requirementStep st t m l < levelRate st t m l → requirementStep st t m l ≤ levelRate st t m l - st .h
         apart k =
             let at = step-whole in
-            let less : at .0 * st .h < levelRate st l m t / st .h * st .h = omega (arith, rate-whole, at .1) in
-            let fewer : at .0 < levelRate st l m t / st .h = lt-of-mul-lt-mul-right (st .h) less in
-            let more : (at .0 + 1) * st .h ≤ levelRate st l m t / st .h * st .h =
+            let less : at .0 * st .h < levelRate st t m l / st .h * st .h = omega (arith, rate-whole, at .1) in
+            let fewer : at .0 < levelRate st t m l / st .h = lt-of-mul-lt-mul-right (st .h) less in
+            let more : (at .0 + 1) * st .h ≤ levelRate st t m l / st .h * st .h =
             mul-le-mul-right (st .h) (omega arith) in
             omega (arith, rate-whole, at .1)
 
-        go : (b : Bool) → covers st l m t (levelRate st l m t - st .h) ≡ b
-            → (covers st l m t (st .smax) && eqb (levelRate st l m t) (requirementStep st l m t)) ≡ not b
+        go : (b : Bool) → covers st t m l (levelRate st t m l - st .h) ≡ b
+            → (covers st t m l (st .smax) && eqb (levelRate st t m l) (requirementStep st t m l)) ≡ not b
         go true e =
-            let short : requirementStep st l m t ≤ levelRate st l m t - st .h = step-least _ below-whole e in
-            let differ : eqb (levelRate st l m t) (requirementStep st l m t) ≡ false =
-            ne-eqb (levelRate st l m t) (requirementStep st l m t) (λ q. omega (arith, step-positive st v)) in
+            let short : requirementStep st t m l ≤ levelRate st t m l - st .h = step-least _ below-whole e in
+            let differ : eqb (levelRate st t m l) (requirementStep st t m l) ≡ false =
+            ne-eqb (levelRate st t m l) (requirementStep st t m l) (λ q. omega (arith, step-positive st v)) in
             rw (most-covers, differ)
-        go false e = rw most-covers (same (le-or-lt (levelRate st l m t) (requirementStep st l m t)))
+        go false e = rw most-covers (same (le-or-lt (levelRate st t m l) (requirementStep st t m l)))
           where
-            same : (levelRate st l m t ≤ requirementStep st l m t) ⊎ (requirementStep st l m t < levelRate st l m t)
-                → eqb (levelRate st l m t) (requirementStep st l m t) ≡ true
+            same : (levelRate st t m l ≤ requirementStep st t m l) ⊎ (requirementStep st t m l < levelRate st t m l)
+                → eqb (levelRate st t m l) (requirementStep st t m l) ≡ true
             same (inl k) = eq-eqb _ _ (le-antisymm k step-below)
             same (inr k) =
                 absurd (clash _ (covers-more st l m t _ _ (apart k) (step-covers most-covers)) e)

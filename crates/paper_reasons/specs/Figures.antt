@@ -51,8 +51,8 @@ tentativeFigure h t old tentative.Waited = old
 tentativeFigure h t old tentative.Level = old
 
 -- the least multiple of h that covers the requirement, S_L_min or S_max
-unfoldable pub levelFigure : Statics → (level m tentative : ℕ) → LevelReason → ℕ
-levelFigure st l m t level.None = 0
-levelFigure st l m t level.Requirement = requirementStep st l m t
-levelFigure st l m t level.Minimum = minimumOf st l
-levelFigure st l m t level.Maximum = st .smax
+unfoldable pub levelFigure : Statics → (tentative m level : ℕ) → LevelReason → ℕ
+levelFigure st t m l level.None = 0
+levelFigure st t m l level.Requirement = requirementStep st t m l
+levelFigure st t m l level.Minimum = minimumOf st l
+levelFigure st t m l level.Maximum = st .smax

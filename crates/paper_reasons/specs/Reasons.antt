@@ -114,21 +114,21 @@ tentativeReason st t old =
 -- ---- the rate of a level (7.1)
 
 -- the least multiple of h that covers the requirement, where S_max covers it
-unfoldable pub requirementStep : Statics → (level m tentative : ℕ) → ℕ
-requirementStep st level m t = leastMultiple (st .h) (st .smax / st .h) (λ v. covers st level m t v)
+unfoldable pub requirementStep : Statics → (tentative m level : ℕ) → ℕ
+requirementStep st t m level = leastMultiple (st .h) (st .smax / st .h) (λ v. covers st t m level v)
 
 -- "whether the requirement, the minimum or the maximum set it": the rate is the least multiple of h that covers the
 -- requirement, which S_max covers; it is S_L_min; it is S_max
-unfoldable pub levelSetBy : Statics → (level m tentative rate : ℕ) → LevelReason → Bool
-levelSetBy st l m t rate level.None = false
-levelSetBy st l m t rate level.Requirement = covers st l m t (st .smax) && eqb rate (requirementStep st l m t)
-levelSetBy st l m t rate level.Minimum = eqb rate (minimumOf st l)
-levelSetBy st l m t rate level.Maximum = eqb rate (st .smax)
+unfoldable pub levelSetBy : Statics → (tentative m level rate : ℕ) → LevelReason → Bool
+levelSetBy st t m l rate level.None = false
+levelSetBy st t m l rate level.Requirement = covers st t m l (st .smax) && eqb rate (requirementStep st t m l)
+levelSetBy st t m l rate level.Minimum = eqb rate (minimumOf st l)
+levelSetBy st t m l rate level.Maximum = eqb rate (st .smax)
 
 abbrev pub levelReasons : List LevelReason
 levelReasons = level.Requirement ∷ level.Minimum ∷ level.Maximum ∷ []
 
 -- "With isEWMA no, each level names the minimum"
-unfoldable pub levelReason : Statics → (level m tentative rate : ℕ) → LevelReason
-levelReason st l m t rate =
-    pick (st .ewma) (firstThatHolds level.None (levelSetBy st l m t rate) levelReasons) level.Minimum
+unfoldable pub levelReason : Statics → (tentative m level rate : ℕ) → LevelReason
+levelReason st t m l rate =
+    pick (st .ewma) (firstThatHolds level.None (levelSetBy st t m l rate) levelReasons) level.Minimum

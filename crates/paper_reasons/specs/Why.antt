@@ -41,7 +41,7 @@ noReasons =
 -- whether the replacement is the one chosen on a day, and the t of that day
 unfoldable pub replacedOn : Record → Day → (rows : List ℤ) → Bool
 replacedOn r d rows =
-    replacementWins (modelOf (r .statics)) (d .b) (millionthsInBp * rateAt (r .rates) 0) (moveOn r rows) (r .s)
+    replacementWins (modelOf (r .statics)) (d .b) (moveOn r rows) (millionthsInBp * rateAt (r .rates) 0) (r .s)
 
 unfoldable pub stepOn : Record → Day → (rows : List ℤ) → ℕ
 stepOn r d rows = tentativeRateOf (r .statics) (replacedOn r d rows) (moveOn r rows) (figuresOn r d rows .s)
@@ -50,7 +50,7 @@ stepOn r d rows = tentativeRateOf (r .statics) (replacedOn r d rows) (moveOn r r
 unfoldable pub levelOn : Record → Day → (rows : List ℤ) → (level place : ℕ) → LevelReason
 levelOn r d rows level place =
     let f : Figures = figuresOn r d rows in
-    levelReason (r .statics) level (d .m) (f .tentative .bp) (rateAt (f .rates) place)
+    levelReason (r .statics) (f .tentative .bp) (d .m) level (rateAt (f .rates) place)
 
 -- the reasons of an evaluation that is accepted
 unfoldable pub reasonsOf : Record → Day → (rows : List ℤ) → Reasons

@@ -37,7 +37,7 @@ four-products a b = either (le-or-lt a b)
 -- a rate meets the requirement exactly where, times rh_1, it reaches the two roots
 pub meets-reaches : (rh1 rh liq m tentative v : ℕ)
     → reaches (v * rh1) (tentativeSquare rh1 rh m tentative) (liquiditySquare rh1 rh liq)
-    ≡ meetsRequirement rh1 rh liq m tentative v
+    ≡ meetsRequirement rh1 rh liq tentative m v
 unfolding reaches
 meets-reaches rh1 rh liq m tentative v =
     let same : v * rh1 * (v * rh1) ≡ v * v * (rh1 * rh1) = omega arith in
@@ -106,22 +106,22 @@ least-same bound p q f =
 
 -- where S_max does not cover, no multiple below it does: the search alone gives the rate
 rate-multiple : (st : Statics) (level m tentative : ℕ) → st .smax % st .h ≡ 0
-    → leastMultiple (st .h) (st .smax / st .h) (λ v. leb (minimumOf st level) v && covers st level m tentative v)
-    ≡ levelRate st level m tentative
+    → leastMultiple (st .h) (st .smax / st .h) (λ v. leb (minimumOf st level) v && covers st tentative m level v)
+    ≡ levelRate st tentative m level
 unfolding levelRate
-rate-multiple st level m tentative e = go (covers st level m tentative (st .smax)) refl
+rate-multiple st level m tentative e = go (covers st tentative m level (st .smax)) refl
   where
     passes : ℕ → Bool
-    passes v = leb (minimumOf st level) v && covers st level m tentative v
+    passes v = leb (minimumOf st level) v && covers st tentative m level v
 
     rate : ℕ
     rate = leastMultiple (st .h) (st .smax / st .h) passes
 
-    go : (t : Bool) → covers st level m tentative (st .smax) ≡ t
-        → rate ≡ pick (covers st level m tentative (st .smax)) rate (st .smax)
-    go true p = sym (pick-true (covers st level m tentative (st .smax)) rate (st .smax) p)
+    go : (t : Bool) → covers st tentative m level (st .smax) ≡ t
+        → rate ≡ pick (covers st tentative m level (st .smax)) rate (st .smax)
+    go true p = sym (pick-true (covers st tentative m level (st .smax)) rate (st .smax) p)
     go false p = none (multiple-cases (st .h) (st .smax / st .h) passes)
-        ∙ sym (pick-false (covers st level m tentative (st .smax)) rate (st .smax) p)
+        ∙ sym (pick-false (covers st tentative m level (st .smax)) rate (st .smax) p)
       where
         most : st .smax / st .h * st .h ≡ st .smax
         most = whole-times (st .smax) (st .h) e
@@ -132,7 +132,7 @@ rate-multiple st level m tentative e = go (covers st level m tentative (st .smax
         none : (rate ≡ st .smax / st .h * st .h) ⊎ (passes rate ≡ true) → rate ≡ st .smax
         none (inl q) = q ∙ most
         none (inr q) =
-            absurd (clash (covers st level m tentative (st .smax))
+            absurd (clash (covers st tentative m level (st .smax))
             (covers-more st level m tentative rate (st .smax) below (and-right (leb (minimumOf st level) rate) _ q)) p)
 
 -- a number of steps is at least the minimum's where it is, in steps, at least the minimum
@@ -150,7 +150,7 @@ pub reach-rate : (st : Statics) (level m tentative : ℕ) → RateStatics st
     → leastReach (minimumOf st level / st .h) (st .smax / st .h) (st .h * st .rh1)
     (tentativeSquare (st .rh1) (daysOf st level) m tentative) (liquiditySquare (st .rh1) (daysOf st level) (st .liq)) *
     st .h
-    ≡ levelRate st level m tentative
+    ≡ levelRate st tentative m level
 unfolding leastReach leastMultiple covers
 reach-rate st level m tentative r =
     ap (λ (k : ℕ). k * st .h) (least-same (st .smax / st .h) _ _ same)
@@ -163,7 +163,7 @@ reach-rate st level m tentative r =
         → (leb (minimumOf st level / st .h) k
         && reaches (k * (st .h * st .rh1)) (tentativeSquare (st .rh1) rh m tentative)
         (liquiditySquare (st .rh1) rh (st .liq)))
-        ≡ (leb (minimumOf st level) (k * st .h) && covers st level m tentative (k * st .h))
+        ≡ (leb (minimumOf st level) (k * st .h) && covers st tentative m level (k * st .h))
     same k =
         let step : k * (st .h * st .rh1) ≡ k * st .h * st .rh1 = omega arith in
         rw (
@@ -186,11 +186,11 @@ steps-held st level r =
     )
 
 -- "S_max if the requirement exceeds it": no rate is above it
-pub rate-held : (st : Statics) (level m tentative : ℕ) → RateStatics st → levelRate st level m tentative ≤ st .smax
+pub rate-held : (st : Statics) (level m tentative : ℕ) → RateStatics st → levelRate st tentative m level ≤ st .smax
 rate-held st level m tentative r =
     rw (← rate-multiple st level m tentative (r .most-multiple))
     (omega (
       arith,
       whole-times (st .smax) (st .h) (r .most-multiple),
-      multiple-bound (st .h) (st .smax / st .h) (λ v. leb (minimumOf st level) v && covers st level m tentative v),
+      multiple-bound (st .h) (st .smax / st .h) (λ v. leb (minimumOf st level) v && covers st tentative m level v),
     ))

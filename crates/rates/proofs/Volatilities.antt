@@ -9,15 +9,15 @@ use Rattle.rates.specs.Chosen.{chosen}
 
 -- what is chosen, by whether the replacement is
 module _ (m : Model) (b last r s x : ℕ) (e : x ≡ weighted (weightOf m b r s) s r) where
-  wins : (t : Bool) → replaces m b last r x ≡ t → replacementWins m b last r s ≡ t
+  wins : (t : Bool) → replaces m b r last x ≡ t → replacementWins m b r last s ≡ t
   wins t f = rw (← e) f
 
-  pub replaced : replaces m b last r x ≡ true
+  pub replaced : replaces m b r last x ≡ true
       → _≡_ {A = Volatility} (record { s = replacement (m .q) r; replaced = true }) (chosen m b last r s)
   unfolding volatilityOf
   replaced f = rw (wins true f)
 
-  pub not-replaced : replaces m b last r x ≡ false
+  pub not-replaced : replaces m b r last x ≡ false
       → _≡_ {A = Volatility} (record { s = x; replaced = false }) (chosen m b last r s)
   unfolding volatilityOf
   not-replaced f = rw (wins false f, e)

@@ -6,4 +6,4 @@ use Rattle.rates.specs.declared.volatility.Volatility.{Volatility}
 
 -- new s, and whether it is the replacement
 abbrev pub chosen : Model → (b last r s : ℕ) → Volatility
-chosen m b last r s = record { s = volatilityOf m b last r s; replaced = replacementWins m b last r s }
+chosen m b last r s = record { s = volatilityOf m b r last s; replaced = replacementWins m b r last s }

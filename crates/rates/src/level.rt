@@ -90,7 +90,7 @@ fn least_reach(low: u64, high: u64, step: u64, a: u64, b: u64) -> u64
 pub fn level_rate(st: Statics, level: u64, m: u64, tentative: u64) -> Rate
     requires { ⌜ RateStatics st ⌝ }
     requires { ⌜ (m ≤ aheadMost) × (tentative ≤ tentativeBound) ⌝ }
-    ensures { λ r. ⌜ r .bp ≡ levelRate st level m tentative ⌝ }
+    ensures { λ r. ⌜ r .bp ≡ levelRate st tentative m level ⌝ }
 {
     let own = level_of(st, level);
     let a = tentative_square(st.rh1, own.days, m, tentative);
@@ -103,7 +103,7 @@ pub fn level_rate(st: Statics, level: u64, m: u64, tentative: u64) -> Rate
 pub fn covers(st: Statics, level: u64, m: u64, tentative: u64, v: u64) -> bool
     requires { ⌜ RateStatics st ⌝ }
     requires { ⌜ (m ≤ aheadMost) × (tentative ≤ tentativeBound) × (v ≤ rateMost) ⌝ }
-    ensures { λ r. ⌜ r ≡ covers st level m tentative v ⌝ }
+    ensures { λ r. ⌜ r ≡ covers st tentative m level v ⌝ }
 {
     let own = level_of(st, level);
     let a = tentative_square(st.rh1, own.days, m, tentative);
@@ -115,7 +115,7 @@ pub fn covers(st: Statics, level: u64, m: u64, tentative: u64, v: u64) -> bool
 pub fn rates_of(st: Statics, m: u64, tentative: u64) -> [Rate; Record::LEVELS]
     requires { ⌜ RateStatics st ⌝ }
     requires { ⌜ (m ≤ aheadMost) × (tentative ≤ tentativeBound) ⌝ }
-    ensures { λ r. ⌜ r ≡ forLevels (λ l. record { bp = levelRate st l m tentative }) ⌝ }
+    ensures { λ r. ⌜ r ≡ forLevels (λ l. record { bp = levelRate st tentative m l }) ⌝ }
 {
     [
         level_rate(st, 1, m, tentative),

@@ -16,7 +16,7 @@ use paper::Statics;
 // Place (e).
 fn move_from(earlier: Price, p: Price) -> u64
     requires { ⌜ (isPrice (earlier .units) ≡ true) × (isPrice (p .units) ≡ true) ⌝ }
-    ensures { λ r. ⌜ r ≡ moveFrom (earlier .units) (p .units) ⌝ }
+    ensures { λ r. ⌜ r ≡ moveFrom (p .units) (earlier .units) ⌝ }
 {
     exact::up(
         exact::apart(p.units, earlier.units) * ONE_IN_MILLIONTHS,
@@ -27,7 +27,7 @@ fn move_from(earlier: Price, p: Price) -> u64
 // The r of the paper, in millionths.
 pub fn move_of(p1: Price, p2: Price, p: Price) -> u64
     requires { ⌜ (isPrice (p1 .units) ≡ true) × (isPrice (p2 .units) ≡ true) × (isPrice (p .units) ≡ true) ⌝ }
-    ensures { λ r. ⌜ r ≡ moveOf (p1 .units) (p2 .units) (p .units) ⌝ }
+    ensures { λ r. ⌜ r ≡ moveOf (p .units) (p1 .units) (p2 .units) ⌝ }
 {
     exact::greater(move_from(p1, p), move_from(p2, p))
 }
@@ -78,7 +78,7 @@ pub fn replacement(q: u64, r: u64) -> u64
 // Whether y is chosen over x. The last rate is in the unit of the move.
 pub fn replaces(m: Model, b: u64, last: u64, r: u64, x: u64) -> bool
     requires { ⌜ (0 < m .q) × (r ≤ volatilityMost) ⌝ }
-    ensures { λ y. ⌜ y ≡ replaces m b last r x ⌝ }
+    ensures { λ y. ⌜ y ≡ replaces m b r last x ⌝ }
 {
     (b <= 1) & (r > last) & (x < replacement(m.q, r))
 }
@@ -112,7 +112,7 @@ pub fn choose(m: Model, b: u64, last: u64, r: u64, s: u64) -> Volatility
 pub fn volatility_of(m: Model, b: u64, last: u64, r: u64, s: u64) -> u64
     requires { ⌜ Weighing m ⌝ }
     requires { ⌜ (r ≤ volatilityMost) × (s ≤ volatilityMost) ⌝ }
-    ensures { λ x. ⌜ x ≡ volatilityOf m b last r s ⌝ }
+    ensures { λ x. ⌜ x ≡ volatilityOf m b r last s ⌝ }
 {
     let new = choose(m, b, last, r, s);
     new.s

@@ -133,7 +133,7 @@ module _ (old : Record) (d : Day) (new : Record) (a : Accepted old d new) (on : 
 
   -- the rate of each level, of the tentative rate that was made
   pub rates-made : new .rates
-      ≡ forLevels (λ l. record { bp = levelRate (old .statics) l (d .m) (new .tentative .bp) })
+      ≡ forLevels (λ l. record { bp = levelRate (old .statics) (new .tentative .bp) (d .m) l })
   unfolding modelled
   rates-made = rw tentative-is (a .rates ∙ ap (λ (f : Figures). f .rates) is-made)
 
@@ -143,12 +143,12 @@ module _ (old : Record) (d : Day) (new : Record) (a : Accepted old d new) (on : 
   level-asked = ((sound-facts old (a .sound-record) .valid, on), (ranges .ahead, tentative-high))
 
   pub rate-asked : (i : ℕ) → getD (new .rates) i noRate .bp
-      ≡ getD (forLevels (λ l. record { bp = levelRate (old .statics) l (d .m) (new .tentative .bp) })) i noRate .bp
+      ≡ getD (forLevels (λ l. record { bp = levelRate (old .statics) (new .tentative .bp) (d .m) l })) i noRate .bp
   rate-asked i = ap (λ (rs : List Rate). getD rs i noRate .bp) rates-made
 
 -- the reason of a level, of the record that was made
 pub level-at : (old : Record) (d : Day) (new : Record) → Accepted old d new → (l i : ℕ)
-    → levelReason (old .statics) l (d .m) (new .tentative .bp) (getD (new .rates) i noRate .bp)
+    → levelReason (old .statics) (new .tentative .bp) (d .m) l (getD (new .rates) i noRate .bp)
     ≡ levelAt old d (new .p1 .units) l i
 unfolding levelAt
 level-at old d new a l i = rw (a .tentative, a .rates)

@@ -37,7 +37,7 @@ reasonFrom previous f = firstThatHolds price.None (setBy previous f) priceReason
 -- whether the replacement is the one chosen at P, and the t at P
 unfoldable pub replacedAt : Record → Day → (p : ℕ) → Bool
 replacedAt r d p =
-    replacementWins (modelOf (r .statics)) (d .b) (millionthsInBp * rateAt (r .rates) 0) (moveTo r p) (r .s)
+    replacementWins (modelOf (r .statics)) (d .b) (moveTo r p) (millionthsInBp * rateAt (r .rates) 0) (r .s)
 
 unfoldable pub stepAt : Record → Day → (p : ℕ) → ℕ
 stepAt r d p = tentativeRateOf (r .statics) (replacedAt r d p) (moveTo r p) (figuresAt r d p .s)
@@ -45,7 +45,7 @@ stepAt r d p = tentativeRateOf (r .statics) (replacedAt r d p) (moveTo r p) (fig
 unfoldable pub levelAt : Record → Day → (p level place : ℕ) → LevelReason
 levelAt r d p level place =
     let f : Figures = figuresAt r d p in
-    levelReason (r .statics) level (d .m) (f .tentative .bp) (rateAt (f .rates) place)
+    levelReason (r .statics) (f .tentative .bp) (d .m) level (rateAt (f .rates) place)
 
 -- with isEWMA no
 abbrev pub unmodelledWith : PriceReason → Reasons

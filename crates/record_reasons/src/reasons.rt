@@ -93,8 +93,8 @@ fn tentative_reason(h: u64, wait: u64, t: u64, old: Tentative) -> TentativeReaso
 fn is_least(st: Statics, level: u64, m: u64, tentative: u64, rate: Rate) -> bool
     requires { ⌜ validStatics st ≡ true ⌝ }
     requires { ⌜ (m ≤ aheadMost) × (tentative ≤ tentativeBound) ⌝ }
-    requires { ⌜ rate .bp ≡ levelRate st level m tentative ⌝ }
-    ensures { λ r. ⌜ r ≡ levelSetBy st level m tentative (rate .bp) LevelReason.Requirement ⌝ }
+    requires { ⌜ rate .bp ≡ levelRate st tentative m level ⌝ }
+    ensures { λ r. ⌜ r ≡ levelSetBy st tentative m level (rate .bp) LevelReason.Requirement ⌝ }
 {
     if !covers(st, level, m, tentative, rate.bp) {
         return false;
@@ -109,8 +109,8 @@ fn is_least(st: Statics, level: u64, m: u64, tentative: u64, rate: Rate) -> bool
 fn level_reason(st: Statics, level: u64, m: u64, tentative: u64, rate: Rate) -> LevelReason
     requires { ⌜ (validStatics st ≡ true) × (st .ewma ≡ true) ⌝ }
     requires { ⌜ (m ≤ aheadMost) × (tentative ≤ tentativeBound) ⌝ }
-    requires { ⌜ rate .bp ≡ levelRate st level m tentative ⌝ }
-    ensures { λ y. ⌜ y ≡ levelReason st level m tentative (rate .bp) ⌝ }
+    requires { ⌜ rate .bp ≡ levelRate st tentative m level ⌝ }
+    ensures { λ y. ⌜ y ≡ levelReason st tentative m level (rate .bp) ⌝ }
 {
     if is_least(st, level, m, tentative, rate) {
         return LevelReason::Requirement;

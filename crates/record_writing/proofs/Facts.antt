@@ -87,7 +87,7 @@ sound-inputs r v =
     record { price = known .figures .later .price .most; rate-high = known .rates 0 (omega arith) }
 
 pub shifts-asked : (r : Record) → sound r ≡ true
-    → ShiftsAsked (deltaOf (r .statics) (r .p1 .units) (rateAt (r .rates) 0)) (r .ranges)
+    → ShiftsAsked (deltaOf (r .statics) (rateAt (r .rates) 0) (r .p1 .units)) (r .ranges)
 shifts-asked r v =
     let known = sound-facts r v in
     let held = delta-high (r .statics) _ _ (limit-statics (r .statics) (known .valid)) (sound-inputs r v) in
@@ -120,7 +120,7 @@ rates-held r d p v i k = go (r .statics .ewma)
 
     go : (b : Bool) → getD (pick b by-model (unmodelled (r .statics) (r .s) (r .tentative)) .rates) i noRate .bp ≤
         rateMost
-    go true = levels-held (λ l. levelRate (r .statics) l (d .m) (by-model .tentative .bp)) rateMost
+    go true = levels-held (λ l. levelRate (r .statics) (by-model .tentative .bp) (d .m) l) rateMost
         (λ l. le-trans (rate-held (r .statics) l (d .m) (by-model .tentative .bp) st) (st .most-high)) i k
     go false = levels-held (minimumOf (r .statics)) rateMost
         (λ l. le-trans (level-statics (r .statics) l st .1) (st .most-high)) i k

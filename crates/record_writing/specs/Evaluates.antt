@@ -16,7 +16,7 @@ use Rattle.paper.specs.declared.Figures.{Figures}
 
 -- the move to P and the figures of 7.1 at P
 unfoldable pub moveTo : Record → ℕ → ℕ
-moveTo r p = moveOf (r .p1 .units) (r .p2 .units) p
+moveTo r p = moveOf p (r .p1 .units) (r .p2 .units)
 
 unfoldable pub figuresAt : Record → Day → ℕ → Figures
 figuresAt r d p = figuresOf (r .statics) (d .b) (d .m) (rateAt (r .rates) 0) (moveTo r p) (r .s) (r .tentative)

@@ -54,7 +54,7 @@ made c =
 
 is-rate : (c : tie.After-struct-known5)
     → let a = c .before .before .before .before .before .before .before .before .before .args in
-    made c ≡ levelRate (a .st) (a .level) (a .m) (a .tentative)
+    made c ≡ levelRate (a .st) (a .tentative) (a .m) (a .level)
 is-rate c =
     let squared = c .before .before .before .before .before .before in
     let s = squared .before .before .before in

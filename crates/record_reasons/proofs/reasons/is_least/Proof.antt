@@ -18,7 +18,7 @@ use Rattle.record_reasons.proofs.reasons.is_least.Tie as tie
 
 -- the rate is in range
 rate-high : (st : Statics) (level m tentative : ℕ) (rate : Rate) → validStatics st ≡ true
-    → rate .bp ≡ levelRate st level m tentative → rate .bp ≤ rateMost
+    → rate .bp ≡ levelRate st tentative m level → rate .bp ≤ rateMost
 rate-high st level m tentative rate v is =
     let given = valid-rates st v in
     omega (arith, is, rate-held st level m tentative given, given .most-high)
@@ -31,25 +31,25 @@ returns : tie.Need-returns
 returns c =
     let s = c .before .before in
     let a = s .args in
-    let test : covers (a .st) (a .level) (a .m) (a .tentative) (a .rate .bp) ≡ false =
+    let test : covers (a .st) (a .tentative) (a .m) (a .level) (a .rate .bp) ≡ false =
     failed _ (c .before .covers .ensures) (c .if1 .taken) in
     rw (s .pre .1 .1) (sym (uncovered _ _ _ _ (s .pre .0) (rw (s .pre .1 .1) at test)))
 
 -- where the first test is passed the rate covers the requirement
 rate-covered : (c : tie.Else1)
     → let a = c .before .before .args in
-    covers (a .st) (a .level) (a .m) (a .tentative) (levelRate (a .st) (a .level) (a .m) (a .tentative)) ≡ true
+    covers (a .st) (a .tentative) (a .m) (a .level) (levelRate (a .st) (a .tentative) (a .m) (a .level)) ≡ true
 rate-covered c =
     let s = c .before .before in
     let a = s .args in
-    let test : covers (a .st) (a .level) (a .m) (a .tentative) (a .rate .bp) ≡ true =
+    let test : covers (a .st) (a .tentative) (a .m) (a .level) (a .rate .bp) ≡ true =
     passed _ (c .before .covers .ensures) (c .if1 .left) in
     rw (s .pre .1 .1) at test
 
 -- and where the second is not, it is a step at least
 positive : (c : tie.Else2)
     → let a = c .before .before .before .before .args in
-    0 < levelRate (a .st) (a .level) (a .m) (a .tentative)
+    0 < levelRate (a .st) (a .tentative) (a .m) (a .level)
 positive c =
     let s = c .before .before .before .before in
     omega (arith, s .pre .1 .1, c .if2 .left)
@@ -81,7 +81,7 @@ returns-3 c =
     let covered = over .before .before in
     let s = covered .before .before in
     let a = s .args in
-    let test : c .covers2 .result ≡ covers (a .st) (a .level) (a .m) (a .tentative) (a .rate .bp - a .st .h) =
+    let test : c .covers2 .result ≡ covers (a .st) (a .tentative) (a .m) (a .level) (a .rate .bp - a .st .h) =
     c .covers2 .ensures in
     ap not (rw (s .pre .1 .1) at test) ∙ rw (s .pre .1 .1)
     (sym (a-step-below _ _ _ _ (s .pre .0) (rate-covered covered) (positive over)))

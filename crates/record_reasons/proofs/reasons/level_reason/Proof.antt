@@ -27,7 +27,7 @@ returns c =
 -- the requirement did not set it
 not-least : (c : tie.Else1)
     → let a = c .before .before .args in
-    levelSetBy (a .st) (a .level) (a .m) (a .tentative) (a .rate .bp) level.Requirement ≡ false
+    levelSetBy (a .st) (a .tentative) (a .m) (a .level) (a .rate .bp) level.Requirement ≡ false
 not-least c = sym (c .before .is-least .ensures) ∙ c .if1 .left
 
 -- the minimum that the code compares with is the level's
@@ -38,7 +38,7 @@ minimum-is c = ap (λ (x : Level). x .minimum .bp) (c .level-of .ensures)
 
 -- whether the minimum set it
 by-minimum : (st : Statics) (l m t rate low : ℕ) → low ≡ minimumOf st l
-    → levelSetBy st l m t rate level.Minimum ≡ eqb rate low
+    → levelSetBy st t m l rate level.Minimum ≡ eqb rate low
 unfolding levelSetBy
 by-minimum st l m t rate low e = rw e
 
@@ -51,7 +51,7 @@ returns-2 c =
     let s = own .before .before .before in
     let a = s .args in
     let least = not-least (own .before) in
-    let low : levelSetBy (a .st) (a .level) (a .m) (a .tentative) (a .rate .bp) level.Minimum ≡ true =
+    let low : levelSetBy (a .st) (a .tentative) (a .m) (a .level) (a .rate .bp) level.Minimum ≡ true =
     by-minimum _ _ _ _ _ _ (minimum-is own) ∙ eq-eqb _ _ (c .if2 .taken) in
     sym (level-by _ _ _ _ _ (s .pre .0 .1) ∙ rw (least, low))
 
@@ -60,7 +60,7 @@ returns-3 c =
     let own = c .before .before .before in
     let s = own .before .before .before in
     let a = s .args in
-    let low : levelSetBy (a .st) (a .level) (a .m) (a .tentative) (a .rate .bp) level.Minimum ≡ false =
+    let low : levelSetBy (a .st) (a .tentative) (a .m) (a .level) (a .rate .bp) level.Minimum ≡ false =
     by-minimum _ _ _ _ _ _ (minimum-is own) ∙ ne-eqb _ _ (c .if2 .left) in
     let least = rw (s .pre .1 .1) at (not-least (own .before)) in
     rw (s .pre .1 .1) (maximum-left _ _ _ _ (s .pre .0 .0) (s .pre .0 .1) least (rw (s .pre .1 .1) at low))
