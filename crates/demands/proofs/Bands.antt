@@ -20,7 +20,7 @@ use Rattle.paper.specs.Desk.{admitted, evaluated, quoted, moved, evaluateChecks
 use Rattle.paper.specs.History.{Event, evaluatedOn, quotedAt, movedBy}
 use Rattle.paper.specs.Sequences.{carries, LastDay, noDay, onDay, lastEvaluated, movesOf, bandNow}
 use Rattle.paper.proofs.Logic.{each-of-three, not-true, not-false}
-use Rattle.paper.proofs.LimitSizes.{LimitStatics, limit-statics}
+use Rattle.paper.proofs.LimitSizes.{LimitStatics, valid-limit-statics}
 use Rattle.paper.proofs.Bands.{moved-not-crossed}
 use Rattle.demands.proofs.Histories.{after, recordOf, eventChecks, Lawful}
 use Rattle.demands.proofs.Sequences.{three-at, one-more-noted, lawful-figures, lawful-statics}
@@ -55,4 +55,4 @@ lawful-uncrossed a (movedBy side ∷ es) (v, n) k l =
     let before : crossed (bandNow a es (lastEvaluated es) k) ≡ false =
     sym (ap crossed (lawful-figures a es v .bands k l)) ∙ lawful-uncrossed a es v k l in
     ap crossed (lawful-figures a (movedBy side ∷ es) (v, n) .bands k l)
-    ∙ now-uncrossed a es side (lastEvaluated es) k (limit-statics _ (lawful-statics a es v)) before
+    ∙ now-uncrossed a es side (lastEvaluated es) k (valid-limit-statics _ (lawful-statics a es v)) before

@@ -21,9 +21,9 @@ use Rattle.paper.specs.Sequences.{Carries, carriesFirst, carriesNext, carries}
 use Rattle.paper.specs.Exact.{exactMove, exactSquare, NearExact}
 use Rattle.demands.specs.Demands.{FiguresHold}
 use Rattle.paper.proofs.Logic.{and-left, pick-true}
-use Rattle.paper.proofs.Volatility.{weighing, move-rounded}
+use Rattle.paper.proofs.Volatility.{valid-weighs, move-rounded}
 use Rattle.paper.proofs.CarriedOn.{CarriedOn, begun, once-more, carried-near}
-use Rattle.demands.proofs.Sound.{Parts, parts-of}
+use Rattle.demands.proofs.Sound.{Parts, sound-has-parts}
 use Rattle.demands.proofs.Kept.{good-sound}
 use Rattle.demands.proofs.Histories.{recordOf, Lawful}
 use Rattle.demands.proofs.Known.{lawful-good}
@@ -52,7 +52,7 @@ prices-positive a es l =
     k = lawful-figures a es l
 
     parts : Parts r
-    parts = parts-of r (good-sound r (lawful-good a es l))
+    parts = sound-has-parts r (good-sound r (lawful-good a es l))
 
 -- with the model on, an evaluation's s is the volatility's rule
 volatility-modelled : (st : Statics) (b m s1 r s : ℕ) (old : Tentative) → st .ewma ≡ true
@@ -72,7 +72,7 @@ carried a (evaluatedOn d rows ∷ es) (l, n) on =
     let positive : PricesPositive x = prices-positive a es l in
     rw (volatility-modelled st (d .b) (d .m) (rateAt (x .rates) 0) (moveOf p (x .p1) (x .p2)) (x .s) (x .tentative) on)
     (once-more (carried a es l on) (modelOf st) (d .b) (millionthsInBp * rateAt (x .rates) 0) (moveOf p (x .p1) (x .p2))
-    (exactMove p (x .p1) (x .p2)) (weighing st (lawful-statics a es l))
+    (exactMove p (x .p1) (x .p2)) (valid-weighs st (lawful-statics a es l))
     (move-rounded (x .p1) (x .p2) p (positive .p1) (positive .p2)))
 carried a (quotedAt q ∷ es) (l, n) on = carried a es l on
 carried a (movedBy side ∷ es) (l, n) on = carried a es l on

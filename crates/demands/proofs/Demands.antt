@@ -17,8 +17,8 @@ use Rattle.paper.proofs.Slots.{found-stored, known-stands}
 use Rattle.paper.proofs.Refusals.{verdict-first, refused-step, accepted-step, refused-only, refused-always, accepted-only, accepted-always}
 use Rattle.demands.proofs.Kept.{run-sound, evaluate-knows, quote-knows, move-knows}
 use Rattle.demands.proofs.Histories.{recordOf, Lawful}
-use Rattle.demands.proofs.Known.{one-unknown, history-since, known-admitted, no-such-id, already-admitted, stays-known}
-use Rattle.paper.proofs.PinnedLaws.{bad-table}
+use Rattle.demands.proofs.Known.{one-exactly-unknown, history-since, known-admitted, no-such-id, already-admitted, stays-known}
+use Rattle.paper.proofs.PinnedLaws.{bad-table-refused}
 use Rattle.demands.proofs.Sequences.{quote-term, alerts-noted, lawful-figures, lawful-statics, rates-hold}
 use Rattle.demands.proofs.Bands.{lawful-uncrossed}
 use Rattle.demands.proofs.Carried.{lawful-near}
@@ -60,8 +60,8 @@ demand-1 c t =
       left = λ e.
           refused-step c t (ap isDone (sym (verdict-first c t)) ∙ e)
           ∙ ap (λ (v : Verdict). record { answer = saying v; table = t }) (sym (verdict-first c t));
-      not-known = one-unknown c t;
-      bad-table = bad-table c t;
+      not-known = one-exactly-unknown c t;
+      bad-table = bad-table-refused c t;
       no-such-id = λ n cs empty f made.
           subst (λ (u : List Record). Exactly (answered c u ≡ NoSuchId) (historyOf (idOf c) cs empty ≡ unknown))
           (sym made)

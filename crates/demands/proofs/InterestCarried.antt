@@ -24,8 +24,8 @@ use Rattle.paper.specs.Exact.{NearExact}
 use Rattle.paper_interest.specs.InterestExact.{Evening, noKey, keyIn, Carried, carriedFrom, answeredIn, carriedAfter, keyGiven, Follow, start, next, repoChoice, exactChange, exactRepoSquare}
 use Rattle.paper.proofs.Logic.{and-left, and-right}
 use Rattle.paper.proofs.CarriedOn.{CarriedOn, begun, once-more, carried-near}
-use Rattle.paper_interest.proofs.InterestRanges.{interest-range}
-use Rattle.paper_interest.proofs.InterestRefusals.{inRange, accepted, accepted-figures}
+use Rattle.paper_interest.proofs.InterestRanges.{valid-interest-in-range}
+use Rattle.paper_interest.proofs.InterestRefusals.{inRange, accepted-exactly, accepted-figures}
 
 -- a whole change is rounded already
 change-rounded : (k : Maturity) → RoundedUp (changeOf k) (exactChange k)
@@ -73,7 +73,7 @@ keys-most numbers v =
 module _ (e : Evening) (done : interestAnswer (e .given) (e .numbers) .pair .verdict ≡ Done)
     (there : e .place < interestAnswer (e .given) (e .numbers) .count) where
   in-range : inRange (e .given) (e .numbers) ≡ true
-  in-range = accepted (e .given) (e .numbers) .0 done .0
+  in-range = accepted-exactly (e .given) (e .numbers) .0 done .0
 
   answers : interestAnswer (e .given) (e .numbers) ≡ acceptedInterest (e .given) (maturitiesOf (e .numbers))
   answers = accepted-figures (e .given) (e .numbers) done
@@ -121,7 +121,7 @@ interest-carried {first} (next {e} {es} f done there given) =
     let ok : validInterest (e .given) ≡ true = and-left _ (validKeys (e .numbers)) (in-range e done there) in
     rw (volatility-answered e done there)
     (once-more before (e .given .model) (e .given .b) (k .tentative .bp) (changeOf k) (exactChange k)
-    (interest-range (e .given) ok .weighs) (change-rounded k))
+    (valid-interest-in-range (e .given) ok .weighs) (change-rounded k))
 
 -- Demand 3 in bp
 pub evenings-near : (first : Carried) (es : List Evening) → Follow first es

@@ -29,8 +29,8 @@ pub record Long (x n e : ℕ) : Type 0 where
   pub is-quot : quot x n e ≡ x * n / e
   pub is-rest : low x n e % e ≡ x * n % e
 
-pub long : (x n e : ℕ) → Divides x n e → Long x n e
-long x n e pre =
+pub long-division-is : (x n e : ℕ) → Divides x n e → Long x n e
+long-division-is x n e pre =
     let r-lt : x % e < e = mod-lt x (pre .positive) in
     let b-lt : high x n e % e < e = mod-lt (high x n e) (pre .positive) in
     let d-lt : low x n e % e < e = mod-lt (low x n e) (pre .positive) in

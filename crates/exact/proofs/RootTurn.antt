@@ -24,9 +24,9 @@ pub record RootTurn (factor x factor-x k : ℕ) : Type 0 where
   pub cap : factor * ((x + 2 ^ (k - 1)) * (x + 2 ^ (k - 1))) ≤ oneInTenThousandths * (2 ^ 20 * 2 ^ 20)
   pub side : factor * (x + 2 ^ (k - 1)) ≤ oneInTenThousandths * 2 ^ 20
 
-pub turn : (factor n x factor-x sq k : ℕ) → 0 < k → factor ≤ oneInTenThousandths → Found factor n x factor-x sq k
+pub turn-fits : (factor n x factor-x sq k : ℕ) → 0 < k → factor ≤ oneInTenThousandths → Found factor n x factor-x sq k
     → RootTurn factor x factor-x k
-turn factor n x factor-x sq k pos hfactor f =
+turn-fits factor n x factor-x sq k pos hfactor f =
     let one-more : 2 ^ (k - 1 + 1) ≡ 2 ^ (k - 1) * 2 = pow-add 2 (k - 1) 1 in
     let same : k ≡ k - 1 + 1 = omega arith in
     let two : 2 ^ k ≡ 2 ^ (k - 1 + 1) = ap (λ (z : ℕ). 2 ^ z) same in
@@ -40,12 +40,12 @@ turn factor n x factor-x sq k pos hfactor f =
     }
 
 -- the bit is taken: a, b, d and e are what the four shifts gave
-pub taken : (factor n x factor-x sq k a b d e : ℕ) → 0 < k → factor ≤ oneInTenThousandths
+pub taken-keeps : (factor n x factor-x sq k a b d e : ℕ) → 0 < k → factor ≤ oneInTenThousandths
     → Found factor n x factor-x sq k → a ≡ factor-x * 2 ^ (k - 1 + 1) → b ≡ factor * 2 ^ (k - 1 + (k - 1))
     → d ≡ factor * 2 ^ (k - 1) → e ≡ 1 * 2 ^ (k - 1) → sq + a + b < n
     → Found factor n (x + e) (factor-x + d) (sq + a + b) (k - 1)
-taken factor n x factor-x sq k a b d e pos hfactor f ea eb ed ee low =
-    let t = turn factor n x factor-x sq k pos hfactor f in
+taken-keeps factor n x factor-x sq k a b d e pos hfactor f ea eb ed ee low =
+    let t = turn-fits factor n x factor-x sq k pos hfactor f in
     let bit : e ≡ 2 ^ (k - 1) = omega arith in
     record {
       bits = omega (arith, f .bits);
@@ -58,11 +58,12 @@ taken factor n x factor-x sq k a b d e pos hfactor f ea eb ed ee low =
     }
 
 -- the bit is left
-pub left : (factor n x factor-x sq k a b : ℕ) → 0 < k → factor ≤ oneInTenThousandths → Found factor n x factor-x sq k
-    → a ≡ factor-x * 2 ^ (k - 1 + 1) → b ≡ factor * 2 ^ (k - 1 + (k - 1)) → n ≤ sq + a + b
+pub left-keeps : (factor n x factor-x sq k a b : ℕ) → 0 < k → factor ≤ oneInTenThousandths
+    → Found factor n x factor-x sq k → a ≡ factor-x * 2 ^ (k - 1 + 1) → b ≡ factor * 2 ^ (k - 1 + (k - 1))
+    → n ≤ sq + a + b
     → Found factor n x factor-x sq (k - 1)
-left factor n x factor-x sq k a b pos hfactor f ea eb high =
-    let t = turn factor n x factor-x sq k pos hfactor f in
+left-keeps factor n x factor-x sq k a b pos hfactor f ea eb high =
+    let t = turn-fits factor n x factor-x sq k pos hfactor f in
     record {
       bits = omega (arith, f .bits);
       top = omega (arith, f .top, t .two);

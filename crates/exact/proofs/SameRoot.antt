@@ -19,7 +19,7 @@ use Rattle.paper.specs.Rates.{modelOf, weightOf, weighted, Weighing}
 use Rattle.paper_interest.specs.Interest.{changeOf, InterestRange, KeyRange}
 use Rattle.paper.proofs.Search.{root-covers, root-least, root-unique}
 use Rattle.paper.proofs.Bounds.{mean-high}
-use Rattle.paper.proofs.Volatility.{weighing, weight-most}
+use Rattle.paper.proofs.Volatility.{valid-weighs, weight-most}
 use Rattle.paper_interest.proofs.InterestRanges.{change-high}
 use Rattle.exact.specs.RootInputs.{IsLeastRoot, meanOfSquares}
 use Rattle.exact.proofs.least_root as root
@@ -57,7 +57,7 @@ module _ (κs : Lfts 0) (exit : AtExit (endedOf 0 root.Kinds.ps root.Kinds.r) κ
   -- shares: valid statics, and a move and a volatility of at most 1,000,000 millionths
   pub root-of-shares : (st : Statics) (b r s : ℕ) → validStatics st ≡ true → r ≤ volatilityMost → s ≤ volatilityMost
       → SameRoot (modelOf st) b r s
-  root-of-shares st b r s v hr hs = same-root (modelOf st) b r s (weighing st v) (omega arith) (omega arith)
+  root-of-shares st b r s v hr hs = same-root (modelOf st) b r s (valid-weighs st v) (omega arith) (omega arith)
 
   -- the interest side: an evening and a key maturity in range, whose change and volatility are at most 19,998 bp
   pub root-of-interest : (i : Interest) (k : Maturity) → InterestRange i → KeyRange k

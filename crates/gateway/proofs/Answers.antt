@@ -12,7 +12,7 @@ use Rattle.paper.specs.declared.Verdict.the-variants.{AdmissionOutOfRange, OutO
 use Rattle.paper.specs.Ranges.{validGiven, validStatics, staticsOf}
 use Rattle.paper.specs.Verdicts.{numberOf, firstOf}
 use Rattle.paper.specs.Gateway.{gatewayChecks, gatewayAnswer}
-use Rattle.paper.proofs.Units.{gateway-four, gateway-six, gateway-figure}
+use Rattle.paper.proofs.Units.{gateway-answers-minus-four, gateway-answers-minus-six, gateway-answers-figure}
 use Rattle.inputs.proofs.Facts.{given-statics}
 
 -- the statics that a call is worked out in are valid where the test of those given passed
@@ -26,12 +26,13 @@ module _ {r : ℤ} {valid : Bool} (g : GivenStatics) (inRange : Bool) (n : ℕ) 
     (e : valid ≡ validGiven g) where
   pub four : r ≡ negℤ (pos (numberOf AdmissionOutOfRange)) → valid ≡ false
       → toZ w64 (ofZ w64 r) ≡ gatewayAnswer (firstOf (gatewayChecks g inRange)) n
-  four is t = toZ-ofZ fits ∙ is ∙ sym (gateway-four g inRange n (sym e ∙ t))
+  four is t = toZ-ofZ fits ∙ is ∙ sym (gateway-answers-minus-four g inRange n (sym e ∙ t))
 
   pub six : {inside : Bool} → r ≡ negℤ (pos (numberOf OutOfRange)) → valid ≡ true → inside ≡ inRange → inside ≡ false
       → toZ w64 (ofZ w64 r) ≡ gatewayAnswer (firstOf (gatewayChecks g inRange)) n
-  six is t f u = toZ-ofZ fits ∙ is ∙ sym (gateway-six g inRange n (sym e ∙ t) (sym f ∙ u))
+  six is t f u = toZ-ofZ fits ∙ is ∙ sym (gateway-answers-minus-six g inRange n (sym e ∙ t) (sym f ∙ u))
 
   pub figure : {inside : Bool} {k : ℕ} → r ≡ pos k → k ≡ n → valid ≡ true → inside ≡ inRange → inside ≡ true
       → toZ w64 (ofZ w64 r) ≡ gatewayAnswer (firstOf (gatewayChecks g inRange)) n
-  figure is same t f u = toZ-ofZ fits ∙ is ∙ ap pos same ∙ sym (gateway-figure g inRange n (sym e ∙ t) (sym f ∙ u))
+  figure is same t f u =
+      toZ-ofZ fits ∙ is ∙ ap pos same ∙ sym (gateway-answers-figure g inRange n (sym e ∙ t) (sym f ∙ u))

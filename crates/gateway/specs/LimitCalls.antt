@@ -17,7 +17,7 @@ use Rattle.paper.specs.Ranges.{withinZ, isPrice, isRate, isGridPrice, gridOf, v
 use Rattle.paper.specs.Limits.{rangeLimit, bandLimit}
 use Rattle.paper.specs.Verdicts.{firstOf}
 use Rattle.paper.specs.Gateway.{gatewayChecks, gatewayAnswer, rangeInRange, bandInRange}
-use Rattle.limits.specs.LimitRanges.{RangeInputs, BandInputs, range-inputs, band-inputs, limit-statics}
+use Rattle.limits.specs.LimitRanges.{RangeInputs, BandInputs, range-inputs, band-inputs, valid-limit-statics}
 use Rattle.limits.specs.LimitBounds.{range-high, band-high}
 use Rattle.gateway.specs.declared.limit.Grown.{Grown}
 use Rattle.gateway.specs.declared.limit.Asked.{Asked}
@@ -59,7 +59,7 @@ pub limit-high : (st : Statics) (asked : Asked) (side : Side) (p : Price) (rate 
 unfolding limitFigure LimitInputs
 limit-high st Range side p rate v i = omega (arith, range-high st side p rate i)
 limit-high st (Band x) side p rate v i =
-    omega (arith, band-high st side p rate (x .c) (x .k) (x .repo) (limit-statics st v) i)
+    omega (arith, band-high st side p rate (x .c) (x .k) (x .repo) (valid-limit-statics st v) i)
 
 -- what the call judges beside a price and a rate in range
 pub in-range-is : (st : Statics) (asked : Asked) (p rate side : ℕ) → isPrice p ≡ true → isRate rate ≡ true

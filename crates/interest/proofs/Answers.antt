@@ -10,7 +10,7 @@ use Rattle.paper.specs.declared.Verdict.the-variants.{OutOfRange, NotAscending}
 use Rattle.paper_interest.specs.Interest.{validInterest, validKeys, maturitiesOf, ascending, interestChecks, refusedInterest, acceptedInterest, interestAnswer}
 use Rattle.paper.specs.Verdicts.{isDone, firstOf}
 use Rattle.paper.proofs.Logic.{and-left, and-right}
-use Rattle.paper_interest.proofs.InterestRanges.{interest-range}
+use Rattle.paper_interest.proofs.InterestRanges.{valid-interest-in-range}
 use Rattle.interest_forward.specs.Pair.{PairRange}
 
 module _ (i : Interest) (numbers : List ℤ) where
@@ -22,7 +22,7 @@ module _ (i : Interest) (numbers : List ℤ) where
       → (ascending (maturitiesOf numbers) && ltb (i .ym) (i .yn)) ≡ true → PairRange i
   answer-pair e o =
       record {
-        given = interest-range i (and-left (validInterest i) (validKeys numbers) e);
+        given = valid-interest-in-range i (and-left (validInterest i) (validKeys numbers) e);
         order = ltb-true (i .ym) (i .yn) (and-right (ascending (maturitiesOf numbers)) (ltb (i .ym) (i .yn)) o);
       }
 

@@ -17,7 +17,7 @@ use Rattle.paper_interest.specs.Interest.{keyAt, validKeys, maturitiesOf, upwar
 use Rattle.paper.proofs.Logic.{pick-true, pick-false}
 use Rattle.paper.proofs.Differences.{difference-whole}
 use Rattle.paper_interest.proofs.Lifted.{lifted-is}
-use Rattle.paper_interest.proofs.InterestRanges.{key-range, figures-held}
+use Rattle.paper_interest.proofs.InterestRanges.{valid-key-in-range, figures-held}
 use Rattle.interest_maturities.specs.KeyLaws.{maturityAt, valid-key}
 use Rattle.interest_maturities.specs.Reads.{Reads}
 use Rattle.interest_repo.specs.Lift.{lift, lifted, lifted-range}
@@ -30,7 +30,7 @@ use Rattle.interest.specs.Figures.{pointOf, PointAt}
 -- a key maturity of numbers that are not refused is in range
 pub key-in-range : (numbers : List ℤ) (at : ℕ) → validKeys numbers ≡ true → at % keyNumbers ≡ 0
     → at + keyNumbers ≤ length numbers → KeyRange (maturityAt numbers at)
-key-in-range numbers at v e h = key-range (keyAt numbers at) (valid-key numbers at v e h)
+key-in-range numbers at v e h = valid-key-in-range (keyAt numbers at) (valid-key numbers at v e h)
 
 pub point-range : (i : Interest) (k : Maturity) → InterestRange i → KeyRange k → PointRange (pointOf i k)
 unfolding maturityFigures

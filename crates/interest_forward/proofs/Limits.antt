@@ -10,7 +10,7 @@ use Rattle.paper.specs.Roundings.{halfUp}
 use Rattle.paper_interest.specs.Interest.{limitFrom}
 use Rattle.paper.proofs.Roundings.{half-le}
 use Rattle.paper.proofs.Differences.{difference-times, difference-plus, difference-minus, difference-same, difference-whole}
-use Rattle.paper_interest.proofs.Lifted.{half-shift}
+use Rattle.paper_interest.proofs.Lifted.{half-shifts}
 use Rattle.interest_forward.specs.declared.Point.{Point}
 use Rattle.interest_repo.specs.Lift.{lift}
 use Rattle.interest_forward.specs.Points.{figureMost, PointRange, rateOf}
@@ -48,7 +48,7 @@ pub limit-counted : (i : Interest) (n : ℕ) → PairRange i
 unfolding limitFrom
 limit-counted i n p =
     let some : 0 < i .yn - i .ym = omega arith in
-    sym (half-shift n ((i .yn - i .ym) * i .xir) base (mul-pos some (omega arith)))
+    sym (half-shifts n ((i .yn - i .ym) * i .xir) base (mul-pos some (omega arith)))
 
 pub half-within : (n d : ℕ) → 0 < d → halfUp n d ≤ n
 half-within n d h = half-le n d n h (omega (arith, mul-le-mul-left n h))

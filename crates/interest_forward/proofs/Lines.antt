@@ -10,7 +10,7 @@ use Rattle.paper.specs.Roundings.{halfUpZ}
 use Rattle.paper_interest.specs.Interest.{interpolated}
 use Rattle.paper.proofs.Roundings.{half-le}
 use Rattle.paper.proofs.Differences.{difference-times, difference-plus, difference-same}
-use Rattle.paper_interest.proofs.Lifted.{half-shift}
+use Rattle.paper_interest.proofs.Lifted.{half-shifts}
 use Rattle.interest_forward.specs.declared.Point.{Point}
 use Rattle.interest_forward.specs.Points.{figureMost, PointRange, Line, linear, pointBetween}
 
@@ -43,7 +43,7 @@ interpolated-lifted l t a u b y h k =
     rw (difference-times (u - y) a l, difference-times (y - t) b l)
     (difference-plus ((u - y) * a) ((u - y) * l) ((y - t) * b) ((y - t) * l)
     ∙ difference-same ((u - y) * a + (y - t) * b) ((u - y) * l + (y - t) * l) n (l * (u - t)) (omega (arith, times))) in
-    ap (λ (z : ℤ). halfUpZ z (u - t)) sum ∙ half-shift n (u - t) l (omega arith)
+    ap (λ (z : ℤ). halfUpZ z (u - t)) sum ∙ half-shifts n (u - t) l (omega arith)
 
 -- a point between two is in range
 pub between-range : (a b : Point) (y : ℕ) → PointRange a → PointRange b → a .t < y → y ≤ b .t

@@ -19,7 +19,7 @@ use Rattle.paper.specs.Ranges.{validTerm, isPrice, isGridPrice, isRate}
 use Rattle.paper.specs.Limits.{countOf, oneMore}
 use Rattle.paper.specs.Gateway.{rangeInRange, bandInRange}
 use Rattle.paper.proofs.Logic.{and-left, and-right, order-trans}
-pub use Rattle.paper.proofs.LimitSizes.{LimitStatics, limit-statics}
+pub use Rattle.paper.proofs.LimitSizes.{LimitStatics, valid-limit-statics}
 use Rattle.exact.specs.SignedLaws.{repo-size}
 use Rattle.limits.specs.Sides.{repoOf}
 

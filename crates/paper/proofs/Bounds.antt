@@ -59,9 +59,9 @@ volatility-high m b last r s most h p q = go (replaces m b r last x)
 -- ---- the least step
 
 -- so many steps of w·h as n/(w·h) rounded up
-pub step-up : (h w n : ℕ) → 0 < h → 0 < w → up n (w * h) * h ≡ leastStep h w n
+pub up-is-step : (h w n : ℕ) → 0 < h → 0 < w → up n (w * h) * h ≡ leastStep h w n
 unfolding leastStep leastMultiple
-step-up h w n p q = ap (λ (k : ℕ). k * h) (sym (least-unique n covers steps few (λ _. enough) fewer))
+up-is-step h w n p q = ap (λ (k : ℕ). k * h) (sym (least-unique n covers steps few (λ _. enough) fewer))
   where
     each : 0 < w * h
     each = mul-pos q p
@@ -90,11 +90,11 @@ pub step-short : (h w n : ℕ) → 0 < h → 0 < w → w * leastStep h w n < n +
 unfolding up
 step-short h w n p q =
     let each : 0 < w * h = mul-pos q p in
-    rw (← step-up h w n p q) (omega (arith, quotient-low (n + (w * h - 1)) (w * h) each))
+    rw (← up-is-step h w n p q) (omega (arith, quotient-low (n + (w * h - 1)) (w * h) each))
 
 pub step-high : (h w n : ℕ) → 0 < h → 0 < w → up n (w * h) * h ≤ n + w * h
 step-high h w n p q =
-    rw (step-up h w n p q) (omega (arith, step-short h w n p q, mul-le-mul-left (leastStep h w n) q))
+    rw (up-is-step h w n p q) (omega (arith, step-short h w n p q, mul-le-mul-left (leastStep h w n) q))
 
 -- ---- the tentative rate
 

@@ -17,9 +17,9 @@ difference-up a b h = rw (le-ltb a b h)
 pub difference-down : (a b : ℕ) → a < b → subℕ a b ≡ negsuc (b - suc a)
 difference-down a b h = rw (lt-ltb a b h)
 
-pub negated : (n : ℕ) → negℤ (pos n) ≡ subℕ 0 n
-negated zero = refl
-negated (suc n) =
+pub negated-is : (n : ℕ) → negℤ (pos n) ≡ subℕ 0 n
+negated-is zero = refl
+negated-is (suc n) =
     let same : n ≡ suc n - 1 = omega arith in
     ap negsuc same ∙ sym (difference-down 0 (suc n) (omega arith))
 
@@ -48,7 +48,7 @@ difference-times m a b = go (le-or-lt b a)
     go (inr h) =
         let parts : m * b ≡ m * (a + suc (b - suc a)) = ap (λ (z : ℕ). m * z) (omega arith) in
         ap (λ (z : ℤ). pos m *ℤ z) (difference-down a b h)
-        ∙ negated (m * suc (b - suc a))
+        ∙ negated-is (m * suc (b - suc a))
         ∙ difference-same 0 (m * suc (b - suc a)) (m * a) (m * b) (omega arith)
 
 -- a - b < c - d is a + d < c + b
@@ -81,7 +81,7 @@ pub difference-turned : (a b : ℕ) → negℤ (subℕ a b) ≡ subℕ b a
 difference-turned a b = go (le-or-lt b a)
   where
     go : (b ≤ a) ⊎ (a < b) → negℤ (subℕ a b) ≡ subℕ b a
-    go (inl h) = ap negℤ (difference-up a b h) ∙ negated (a - b) ∙ difference-same 0 (a - b) b a (omega arith)
+    go (inl h) = ap negℤ (difference-up a b h) ∙ negated-is (a - b) ∙ difference-same 0 (a - b) b a (omega arith)
     go (inr h) =
         let same : suc (b - suc a) ≡ b - a = omega arith in
         ap negℤ (difference-down a b h) ∙ ap pos same ∙ sym (difference-up b a (omega arith))

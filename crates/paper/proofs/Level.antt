@@ -18,15 +18,15 @@ use Rattle.paper.specs.Ranges.{validStatics}
 use Rattle.paper.specs.Rates.{meetsRequirement, daysOf, minimumOf, covers, levelRate, AtLeastRoots, volatilePart, liquidPart, AtLeastRequired, HeldLeast}
 use Rattle.paper.proofs.Logic.{clash, and-left, and-right, and-both, le-or-lt, pick-true, pick-false}
 use Rattle.paper.proofs.Search.{Mono, multiple-holds, multiple-least, multiple-bound, multiple-is}
-use Rattle.paper.proofs.Roots.{roots-covered, Floor, floor-root, short-one, short-two}
+use Rattle.paper.proofs.Roots.{roots-covered, Floor, floor-root, no-room-over-sum, no-room-over-cross}
 
 -- ---- the comparison, without signs
 
 -- A ≥ 0 and A² ≥ cross, with A = have - need
-pub signed-test : (have need cross : ℕ)
+pub signed-test-is : (have need cross : ℕ)
     → (leZ (pos 0) (subℕ have need) && leZ (pos cross) (subℕ have need *ℤ subℕ have need))
     ≡ (leb need have && leb cross ((have - need) * (have - need)))
-signed-test have need cross = go (le-or-lt need have)
+signed-test-is have need cross = go (le-or-lt need have)
   where
     go : (need ≤ have) ⊎ (have < need)
         → (leZ (pos 0) (subℕ have need) && leZ (pos cross) (subℕ have need *ℤ subℕ have need))
@@ -56,7 +56,7 @@ meets-roots rh1 rh liq m tentative v =
     let x : ℕ = volatileNeed rh1 rh m tentative in
     let y : ℕ = liquidNeed rh1 rh liq in
     let cross : 4 * (rh * rh) * (tentative * tentative) * (liq * liq) * rh1 * (rh1 + m) ≡ 4 * x * y = omega arith in
-    signed-test (has rh1 v) (x + y) (4 * (rh * rh) * (tentative * tentative) * (liq * liq) * rh1 * (rh1 + m))
+    signed-test-is (has rh1 v) (x + y) (4 * (rh * rh) * (tentative * tentative) * (liq * liq) * rh1 * (rh1 + m))
     ∙ ap (λ (z : ℕ). leb (x + y) (has rh1 v) && leb z ((has rh1 v - (x + y)) * (has rh1 v - (x + y)))) cross
 
 pub within-covers : (have x y : ℕ) → rootsWithin have x y ≡ true
@@ -139,7 +139,7 @@ module _ (rh1 rh liq m tentative v : ℕ) (days : 0 < rh1) where
           let d : ℕ = 4 * W + 4 in
           let a = floor-root (X * (d * d)) in
           let b = floor-root (Y * (d * d)) in
-          short-one W X Y (a .0) (b .0) l (a .1) (b .1)
+          no-room-over-sum W X Y (a .0) (b .0) l (a .1) (b .1)
           (scaled real (4 * W + 4) (a .0) (b .0) (omega arith) (a .1) (b .1))
 
       enough : X + Y ≤ has rh1 v
@@ -158,7 +158,7 @@ module _ (rh1 rh liq m tentative v : ℕ) (days : 0 < rh1) where
           let sum : W * W ≡ X + Y + A = omega (arith, enough) in
           let a = floor-root (X * (D * D)) in
           let b = floor-root (Y * (D * D)) in
-          absurd (short-two W X Y A D (a .0) (b .0) sum h refl (a .1) (b .1)
+          absurd (no-room-over-cross W X Y A D (a .0) (b .0) sum h refl (a .1) (b .1)
           (scaled real D (a .0) (b .0) (omega arith) (a .1) (b .1)))
 
 -- ---- the rate of a level
@@ -191,8 +191,8 @@ stepping st level v =
     go false false = third
 
 -- a multiple of h is its quotient times h
-pub whole-times : (x h : ℕ) → x % h ≡ 0 → x / h * h ≡ x
-whole-times x h e = omega (arith, div-add-mod' x h)
+pub quotient-times-is : (x h : ℕ) → x % h ≡ 0 → x / h * h ≡ x
+quotient-times-is x h e = omega (arith, div-add-mod' x h)
 
 -- the rate of a level by the exact comparison
 level-rate-compared : (st : Statics) (level m tentative : ℕ) → validStatics st ≡ true
@@ -211,7 +211,7 @@ level-rate-compared st level m tentative v = go (covers st tentative m level (st
     searched = leastMultiple (st .h) (st .smax / st .h) enough
 
     most : st .smax / st .h * st .h ≡ st .smax
-    most = whole-times (st .smax) (st .h) (k .multiple)
+    most = quotient-times-is (st .smax) (st .h) (k .multiple)
 
     go : (b : Bool) → covers st tentative m level (st .smax) ≡ b
         → HeldLeast (st .h) (minimumOf st level) (st .smax) (λ w. covers st tentative m level w ≡ true)

@@ -16,10 +16,10 @@ use Rattle.paper.proofs.Slots.{found-id, found-other, stands-other, kno
 use Rattle.paper.proofs.Refusals.{verdict-first, refused-leaves, accepted-step, accepted-only}
 
 -- what holds of the table before, and after whatever the call would write, holds after the call
-pub either : (P : List Record → Type 0) (c : Call) (t : List Record) → P t
+pub holds-after-step : (P : List Record → Type 0) (c : Call) (t : List Record) → P t
     → (isDone (step c t .answer .verdict) ≡ true → NoneApplies (checksOf c t) → P (acceptedOf c t .table))
     → P (step c t .table)
-either P c t p q = go (isDone (step c t .answer .verdict)) refl
+holds-after-step P c t p q = go (isDone (step c t .answer .verdict)) refl
   where
     go : (b : Bool) → isDone (step c t .answer .verdict) ≡ b → P (step c t .table)
     go true e =
@@ -30,7 +30,7 @@ either P c t p q = go (isDone (step c t .answer .verdict)) refl
 
 pub length-stays : (c : Call) (t : List Record) → length (step c t .table) ≡ length t
 unfolding acceptedOf
-length-stays c t = either (λ u. length u ≡ length t) c t refl (λ _ _. accepted c)
+length-stays c t = holds-after-step (λ u. length u ≡ length t) c t refl (λ _ _. accepted c)
   where
     accepted : (c : Call) → length (acceptedOf c t .table) ≡ length t
     accepted (admit a) = length-set t (place t 0) _
@@ -43,7 +43,7 @@ length-stays c t = either (λ u. length u ≡ length t) c t refl (λ _ _. accept
 pub slots-stay : (c : Call) (t : List Record) (k : ℕ) → k ≢ writtenAt c t
     → getD (step c t .table) k blank ≡ getD t k blank
 unfolding acceptedOf
-slots-stay c t k n = either (λ u. getD u k blank ≡ getD t k blank) c t refl (λ _ _. accepted c n)
+slots-stay c t k n = holds-after-step (λ u. getD u k blank ≡ getD t k blank) c t refl (λ _ _. accepted c n)
   where
     accepted : (c : Call) → k ≢ writtenAt c t → getD (acceptedOf c t .table) k blank ≡ getD t k blank
     accepted (admit a) n = getD-set-other t (place t 0) k _ blank n
@@ -61,7 +61,7 @@ stored-stays id i t x e m n =
 
 pub others-stay : (c : Call) (t : List Record) (id : ℕ) → id ≢ 0 → id ≢ idOf c → Stays id t (step c t .table)
 unfolding acceptedOf checksOf evaluateChecks quoteChecks moveChecks admitted evaluated quoted moved
-others-stay c t id z n = either (Stays id t) c t (refl, refl) (λ _ w. accepted c n w)
+others-stay c t id z n = holds-after-step (Stays id t) c t (refl, refl) (λ _ w. accepted c n w)
   where
     accepted : (c : Call) → id ≢ idOf c → NoneApplies (checksOf c t) → Stays id t (acceptedOf c t .table)
     accepted (admit a) n w = (stands-other 0 (admitted a) t id z n, found-other 0 (admitted a) t id z n)

@@ -235,10 +235,10 @@ unknown-refused c t looks e = refused-always c t NoSuchId (first c looks e)
     first (read id) looks e = here refl (ap not e)
 
 -- "Where an id stands in several slots the first alone counts": no slot before it has the id
-pub first-counts : (t : List Record) (id i : ℕ) → i < place t id → getD t i blank .id ≡ id → ⊥
+pub none-before-first : (t : List Record) (id i : ℕ) → i < place t id → getD t i blank .id ≡ id → ⊥
 unfolding place
-first-counts [] id i l e = omega arith
-first-counts (r ∷ t) id i l e = go (eqb (r .id) id) refl i l e (λ i. first-counts t id i)
+none-before-first [] id i l e = omega arith
+none-before-first (r ∷ t) id i l e = go (eqb (r .id) id) refl i l e (λ i. none-before-first t id i)
   where
     go : (b : Bool) → eqb (r .id) id ≡ b → (i : ℕ) → i < pick b 0 (suc (place t id)) → getD (r ∷ t) i blank .id ≡ id
         → ((i : ℕ) → i < place t id → getD t i blank .id ≡ id → ⊥) → ⊥
@@ -253,10 +253,10 @@ unfolding known
 damaged-refused c t looks e = unknown-refused c t looks (rw e (and-no (validSlots (length t) && stands t (idOf c))))
 
 -- "A table of no slots, or over 512, is refused 4 by admit and 1 by the rest."
-pub bad-table : (c : Call) (t : List Record) → validSlots (length t) ≡ false
+pub bad-table-refused : (c : Call) (t : List Record) → validSlots (length t) ≡ false
     → numberOf (step c t .answer .verdict) ≡ pick (isAdmission c) 4 1
 unfolding checksOf admitChecks known
-bad-table c t s = go c
+bad-table-refused c t s = go c
   where
     unknown : (id : ℕ) → known t id ≡ false
     unknown id = rw s
@@ -268,13 +268,13 @@ bad-table c t s = go c
     go (move id side) = ap numberOf (unknown-refused (move id side) t refl (unknown id))
     go (read id) = ap numberOf (unknown-refused (read id) t refl (unknown id))
 
-pub no-slots : (t : List Record) → length t ≡ 0 → validSlots (length t) ≡ false
+pub no-slots-invalid : (t : List Record) → length t ≡ 0 → validSlots (length t) ≡ false
 unfolding validSlots
-no-slots t e = rw e
+no-slots-invalid t e = rw e
 
-pub slots-over-512 : (t : List Record) → 512 < length t → validSlots (length t) ≡ false
+pub slots-over-512-invalid : (t : List Record) → 512 < length t → validSlots (length t) ≡ false
 unfolding validSlots
-slots-over-512 t l = rw (lt-leb (length t) 512 l) (and-no (leb 1 (length t)))
+slots-over-512-invalid t l = rw (lt-leb (length t) 512 l) (and-no (leb 1 (length t)))
 
 -- ---- what is written and what is answered
 

@@ -48,10 +48,10 @@ room W X Y d a b p q s =
     omega (arith, p .above, q .above)
 
 -- X + Y above W²: at the scale 4·W + 4 there is no such room
-pub short-one : (W X Y a b : ℕ) → W * W < X + Y → Floor (X * ((4 * W + 4) * (4 * W + 4))) a
+pub no-room-over-sum : (W X Y a b : ℕ) → W * W < X + Y → Floor (X * ((4 * W + 4) * (4 * W + 4))) a
     → Floor (Y * ((4 * W + 4) * (4 * W + 4))) b
     → a + b ≤ W * (4 * W + 4) → ⊥
-short-one W X Y a b l p q s =
+no-room-over-sum W X Y a b l p q s =
     omega (arith, room W X Y (4 * W + 4) a b p q s, mul-le-mul-right ((4 * W + 4) * (4 * W + 4)) l)
 
 -- A² below 4·X·Y: at the scale 2·A·F + F + 1 with F = 4·W + 4 there is none either
@@ -65,9 +65,9 @@ thinner A F d h l =
     let same : d * d * (d * d) ≤ d * d * (2 * A * F * d + F * F) = omega arith in
     le-of-mul-le-mul-left same (mul-pos h h)
 
-pub short-two : (W X Y A d a b : ℕ) → W * W ≡ X + Y + A → A * A < 4 * X * Y → d ≡ 2 * A * (4 * W + 4) + (4 * W + 4) + 1
-    → Floor (X * (d * d)) a → Floor (Y * (d * d)) b → a + b ≤ W * d → ⊥
-short-two W X Y A d a b e l g p q s =
+pub no-room-over-cross : (W X Y A d a b : ℕ) → W * W ≡ X + Y + A → A * A < 4 * X * Y
+    → d ≡ 2 * A * (4 * W + 4) + (4 * W + 4) + 1 → Floor (X * (d * d)) a → Floor (Y * (d * d)) b → a + b ≤ W * d → ⊥
+no-room-over-cross W X Y A d a b e l g p q s =
     let whole : W * W * (d * d) ≡ (X + Y + A) * (d * d) = rw e refl in
     let twice : 2 * ((a + 1) * (b + 1)) ≤ A * (d * d) + (4 * W + 4) * d = omega (arith, room W X Y d a b p q s) in
     let square : 2 * ((a + 1) * (b + 1)) * (2 * ((a + 1) * (b + 1))) ≤ (A * (d * d) + (4 * W + 4) * d) *

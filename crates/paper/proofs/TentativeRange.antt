@@ -15,15 +15,15 @@ use Rattle.paper.specs.Ranges.{validStatics, tentativeTop, validTentativ
 use Rattle.paper.specs.Rates.{modelOf, leastStep, tentativeRate, tentativeRateByMove, tentativeRateOf, tentativeAfter, modelled, unmodelled, figuresOf, moveTooLarge, IsLeastStep}
 use Rattle.paper.proofs.Logic.{and-left, and-right, and-both, and-false}
 use Rattle.paper.proofs.Search.{step-is}
-use Rattle.paper.proofs.Volatility.{weighing}
-use Rattle.paper.proofs.Bounds.{volatility-high, step-up, step-short, tentative-held, tentative-multiple}
-use Rattle.paper.proofs.Level.{whole-times}
+use Rattle.paper.proofs.Volatility.{valid-weighs}
+use Rattle.paper.proofs.Bounds.{volatility-high, up-is-step, step-short, tentative-held, tentative-multiple}
+use Rattle.paper.proofs.Level.{quotient-times-is}
 
 -- ---- the top of the range
 
 top-step : (h : ℕ) → 0 < h → tentativeTop h ≡ leastStep h 1 tentativeMost
 unfolding tentativeTop
-top-step h p = let one : 1 * h ≡ h = omega arith in rw one at (step-up h 1 tentativeMost p (omega arith))
+top-step h p = let one : 1 * h ≡ h = omega arith in rw one at (up-is-step h 1 tentativeMost p (omega arith))
 
 -- it is "the least multiple of h at or above 100,000 bp"
 pub tentative-top-is : (h : ℕ) → 0 < h → IsLeastStep h 1 tentativeMost (tentativeTop h)
@@ -51,7 +51,7 @@ tentative-rate-by-move-is st r p = step-is (st .h) millionthsInBp r p (omega ari
 covered-high : (h factor n t : ℕ) → 0 < h → n ≤ factor * tentativeMost → IsLeastStep h factor n t → t ≤ tentativeTop h
 covered-high h factor n t p most is =
     let top = tentative-top-is h p in
-    let whole = whole-times (tentativeTop h) h (top .multiple) in
+    let whole = quotient-times-is (tentativeTop h) h (top .multiple) in
     let reached : tentativeMost ≤ tentativeTop h = omega (arith, top .enough) in
     let covered : n ≤ factor * tentativeTop h = le-trans most (mul-le-mul-left factor reached) in
     rw whole at (is .least (tentativeTop h / h) (rw whole covered))
@@ -106,7 +106,7 @@ unfolding modelled
 modelled-stays st b m s1 r s old v hr hs w =
     after-in (st .h) (st .wait) _ old
     (tentative-rate-in st _ r _ (step-positive st v) (multiplier-high st v) hr
-    (volatility-high (modelOf st) b (millionthsInBp * s1) r s volatilityMost (weighing st v) hs hr)) w
+    (volatility-high (modelOf st) b (millionthsInBp * s1) r s volatilityMost (valid-weighs st v) hs hr)) w
 
 -- No evaluation that is accepted takes the tentative rate out of its range
 pub tentative-stays : (st : Statics) (b m s1 r s : ℕ) (old : Tentative) → validStatics st ≡ true

@@ -38,9 +38,9 @@ unsigned-within low high (negsuc n) h = go (leb low pastEvery)
 unfoldable pub ceilingLog10 : ℕ → ℕ
 ceilingLog10 lot = least 2 (λ e. leb lot (10 ^ e))
 
-pub grid-decimals : (lot : ℕ) → lot ≤ 100 → gridOf lot ≡ 10 ^ (4 - (ceilingLog10 lot + 2))
+pub grid-is-power-of-ten : (lot : ℕ) → lot ≤ 100 → gridOf lot ≡ 10 ^ (4 - (ceilingLog10 lot + 2))
 unfolding gridOf ceilingLog10
-grid-decimals lot h = go (le-or-lt lot 1) (le-or-lt lot 10)
+grid-is-power-of-ten lot h = go (le-or-lt lot 1) (le-or-lt lot 10)
   where
     enough : ℕ → Bool
     enough e = leb lot (10 ^ e)
@@ -69,17 +69,17 @@ grid-decimals lot h = go (le-or-lt lot 1) (le-or-lt lot 10)
 
 -- ---- the gateway: "one figure, or minus the refusal number", 4 before 6
 
-pub gateway-four : (g : GivenStatics) (inRange : Bool) (figure : ℕ) → validGiven g ≡ false
+pub gateway-answers-minus-four : (g : GivenStatics) (inRange : Bool) (figure : ℕ) → validGiven g ≡ false
     → gatewayAnswer (firstOf (gatewayChecks g inRange)) figure ≡ negsuc 3
 unfolding gatewayAnswer gatewayChecks firstOf isDone
-gateway-four g inRange figure e = rw e
+gateway-answers-minus-four g inRange figure e = rw e
 
-pub gateway-six : (g : GivenStatics) (inRange : Bool) (figure : ℕ) → validGiven g ≡ true → inRange ≡ false
+pub gateway-answers-minus-six : (g : GivenStatics) (inRange : Bool) (figure : ℕ) → validGiven g ≡ true → inRange ≡ false
     → gatewayAnswer (firstOf (gatewayChecks g inRange)) figure ≡ negsuc 5
 unfolding gatewayAnswer gatewayChecks firstOf isDone
-gateway-six g inRange figure e f = rw (e, f)
+gateway-answers-minus-six g inRange figure e f = rw (e, f)
 
-pub gateway-figure : (g : GivenStatics) (inRange : Bool) (figure : ℕ) → validGiven g ≡ true → inRange ≡ true
+pub gateway-answers-figure : (g : GivenStatics) (inRange : Bool) (figure : ℕ) → validGiven g ≡ true → inRange ≡ true
     → gatewayAnswer (firstOf (gatewayChecks g inRange)) figure ≡ pos figure
 unfolding gatewayAnswer gatewayChecks firstOf isDone
-gateway-figure g inRange figure e f = rw (e, f)
+gateway-answers-figure g inRange figure e f = rw (e, f)

@@ -20,9 +20,9 @@ use Rattle.paper.proofs.Search.{root-covers, root-least, times-covers, 
 use Rattle.paper.proofs.Roundings.{up-rounded, rounded-max}
 use Rattle.paper.proofs.Drift.{weight-near, replace-near}
 
-pub weighing : (st : Statics) → validStatics st ≡ true → Weighing (modelOf st)
+pub valid-weighs : (st : Statics) → validStatics st ≡ true → Weighing (modelOf st)
 unfolding validStatics
-weighing st v =
+valid-weighs st v =
     record {
       q = leb-true _ _ (search (v, and-left, and-right) depth 40);
       aup = leb-true _ _ (search (v, and-left, and-right) depth 40);

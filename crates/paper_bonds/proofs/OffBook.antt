@@ -13,7 +13,7 @@ use Rattle.paper.specs.declared.Side.the-variants.{Upper, Lower}
 use Rattle.paper.specs.declared.Term.{Term}
 use Rattle.paper.specs.Numbers.{divisorLeast}
 use Rattle.paper.specs.Limits.{bond, inward, narrowerOf, bandBefore, bandLimitFor}
-use Rattle.paper.proofs.LimitSizes.{limit-statics}
+use Rattle.paper.proofs.LimitSizes.{valid-limit-statics}
 use Rattle.paper.proofs.KindLaws.{shifted-positive, band-positive, narrower-rounded}
 use Rattle.paper_bonds.specs.declared.Bond.{Bond}
 use Rattle.paper_bonds.specs.declared.BondLimits.{BondLimits}
@@ -51,4 +51,4 @@ pub bond-off-within : (b : Bond) (flows : List Flow) (x : Term) → validBond b 
 unfolding limitsOf
 bond-off-within b flows x v f =
     off-within-band (scaleAt b flows (x .k)) (bondStatics b) (grossOf b) (firstRate b) x f
-    (limit-statics (bondStatics b) (bond-statics-valid b v) .divisor-low)
+    (valid-limit-statics (bondStatics b) (bond-statics-valid b v) .divisor-low)

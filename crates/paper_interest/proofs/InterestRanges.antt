@@ -92,9 +92,9 @@ downward-high i k p h t liq m x r =
 -- ---- what is in range
 
 -- a rate in range lies at most 9,999 from 0
-pub repo-size : (x : ℤ) → withinZ repoLeast repoMost x ≡ true → natAbs x ≤ natAbs repoMost
-repo-size (pos n) v = leb-true n 9999 v
-repo-size (negsuc n) v = omega (arith, leb-true n 9998 (and-left (leb n 9998) true v))
+pub repo-size-high : (x : ℤ) → withinZ repoLeast repoMost x ≡ true → natAbs x ≤ natAbs repoMost
+repo-size-high (pos n) v = leb-true n 9999 v
+repo-size-high (negsuc n) v = omega (arith, leb-true n 9998 (and-left (leb n 9998) true v))
 
 -- a number in a range from 0 is read as it is
 pub unsigned-high : (x : ℤ) (most : ℕ) → withinZ (pos 0) (pos most) x ≡ true → unsigned x ≤ most
@@ -105,9 +105,9 @@ unsigned-high (negsuc n) most v = absurd (clash false v refl)
 unsigned-within : (n most : ℕ) → n ≤ most → withinZ (pos 0) (pos most) (pos n) ≡ true
 unsigned-within n most h = and-both _ _ (le-leb 0 n (omega arith)) (le-leb n most h)
 
-pub interest-range : (i : Interest) → validInterest i ≡ true → InterestRange i
+pub valid-interest-in-range : (i : Interest) → validInterest i ≡ true → InterestRange i
 unfolding validInterest
-interest-range i v =
+valid-interest-in-range i v =
     record {
       ym = leb-true _ _ (search (v, and-left, and-right) depth 40);
       yn = leb-true _ _ (search (v, and-left, and-right) depth 40);
@@ -125,19 +125,19 @@ interest-range i v =
       sec = leb-true _ _ (search (v, and-left, and-right) depth 40);
       divisor-low = leb-true _ _ (search (v, and-left, and-right) depth 40);
       divisor-high = leb-true _ _ (search (v, and-left, and-right) depth 40);
-      money = repo-size (i .money) (search (v, and-left, and-right) depth 40);
-      secrate = repo-size (i .secrate) (search (v, and-left, and-right) depth 40);
+      money = repo-size-high (i .money) (search (v, and-left, and-right) depth 40);
+      secrate = repo-size-high (i .secrate) (search (v, and-left, and-right) depth 40);
     }
 
-pub key-range : (k : LentKey) → validKey k ≡ true → KeyRange (maturityOf k)
+pub valid-key-in-range : (k : LentKey) → validKey k ≡ true → KeyRange (maturityOf k)
 unfolding validKey maturityOf
-key-range k v =
+valid-key-in-range k v =
     record {
       t = unsigned-high (k .t) maturityMost (search (v, and-left, and-right) depth 40);
-      r = repo-size (k .r) (search (v, and-left, and-right) depth 40);
-      r1 = repo-size (k .r1) (search (v, and-left, and-right) depth 40);
-      r2 = repo-size (k .r2) (search (v, and-left, and-right) depth 40);
-      index = repo-size (k .index) (search (v, and-left, and-right) depth 40);
+      r = repo-size-high (k .r) (search (v, and-left, and-right) depth 40);
+      r1 = repo-size-high (k .r1) (search (v, and-left, and-right) depth 40);
+      r2 = repo-size-high (k .r2) (search (v, and-left, and-right) depth 40);
+      index = repo-size-high (k .index) (search (v, and-left, and-right) depth 40);
       volatility = unsigned-high (k .volatility) repoVolatilityMost (search (v, and-left, and-right) depth 40);
       tentative = unsigned-high (k .tentative) repoTentativeMost (search (v, and-left, and-right) depth 40);
       age = unsigned-high (k .age) ageMost (search (v, and-left, and-right) depth 40);
@@ -173,7 +173,7 @@ module _ (i : Interest) (k : Maturity) (g : InterestRange i) (h : KeyRange k) wh
 -- of eight numbers in range
 pub accepted-held : (i : Interest) (k : LentKey) → validInterest i ≡ true → validKey k ≡ true
     → FiguresHeld (maturityFigures i (maturityOf k))
-accepted-held i k v w = figures-held i (maturityOf k) (interest-range i v) (key-range k w)
+accepted-held i k v w = figures-held i (maturityOf k) (valid-interest-in-range i v) (valid-key-in-range k w)
 
 -- of every key maturity of an evening, and of the zeros past the last
 pub all-held : (i : Interest) (numbers : List ℤ) → validInterest i ≡ true → validKeys numbers ≡ true

@@ -46,19 +46,19 @@ module _ (i : Interest) (numbers : List ℤ) where
   differ e = let z : _≡_ {A = ℕ} 6 14 = ap numberOf e in omega arith
 
   -- 6
-  pub out-of-range : Exactly (interestAnswer i numbers .pair .verdict ≡ OutOfRange) (inRange i numbers ≡ false)
+  pub out-of-range-exactly : Exactly (interestAnswer i numbers .pair .verdict ≡ OutOfRange) (inRange i numbers ≡ false)
   unfolding interestChecks isDone
-  out-of-range = (λ e. only (first-at OutOfRange refl e), λ e. at-first OutOfRange (here refl (ap not e)))
+  out-of-range-exactly = (λ e. only (first-at OutOfRange refl e), λ e. at-first OutOfRange (here refl (ap not e)))
     where
       only : FirstAt OutOfRange (interestChecks i numbers) → inRange i numbers ≡ false
       only (here w q) = not-true (inRange i numbers) q
       only (later p (here w q)) = absurd (differ (sym w))
 
   -- 14, after 6
-  pub not-ascending : Exactly (interestAnswer i numbers .pair .verdict ≡ NotAscending)
+  pub not-ascending-exactly : Exactly (interestAnswer i numbers .pair .verdict ≡ NotAscending)
       ((inRange i numbers ≡ true) × (inOrder i numbers ≡ false))
   unfolding interestChecks isDone
-  not-ascending = (
+  not-ascending-exactly = (
     λ e. only (first-at NotAscending refl e),
     λ e. at-first NotAscending (later (ap not (e .0)) (here refl (ap not (e .1)))),
   )
@@ -68,10 +68,10 @@ module _ (i : Interest) (numbers : List ℤ) where
       only (later p (here w q)) = (not-false (inRange i numbers) p, not-true (inOrder i numbers) q)
 
   -- 0, otherwise
-  pub accepted : Exactly (interestAnswer i numbers .pair .verdict ≡ Done)
+  pub accepted-exactly : Exactly (interestAnswer i numbers .pair .verdict ≡ Done)
       ((inRange i numbers ≡ true) × (inOrder i numbers ≡ true))
   unfolding interestChecks isDone refusals every
-  accepted = (
+  accepted-exactly = (
     λ e. only (done-none (interestChecks i numbers) refl (ap isDone (sym verdict-first ∙ e))),
     λ e. verdict-first ∙ none-done (interestChecks i numbers) (also (ap not (e .0)) (also (ap not (e .1)) none)),
   )

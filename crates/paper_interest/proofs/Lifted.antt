@@ -11,7 +11,7 @@ use borrow.Author.Tests.{le-ltb, lt-ltb}
 use mathlib.Core.Bool.{true, false}
 use Rattle.paper.specs.Roundings.{halfUp, halfDown, halfUpZ, grown, atLeastZero}
 use Rattle.paper.proofs.Logic.{le-or-lt}
-use Rattle.paper.proofs.Differences.{difference-up, difference-down, difference-same, difference-times, difference-order, difference-plus, difference-whole, negated}
+use Rattle.paper.proofs.Differences.{difference-up, difference-down, difference-same, difference-times, difference-order, difference-plus, difference-whole, negated-is}
 use Rattle.paper.proofs.Roundings.{quotient-low, quotient-high, half-low, half-high, half-unique}
 
 -- a rate is what its base with it is above the base
@@ -41,9 +41,9 @@ unfolding halfDown
 down-high n d h = quotient-high (2 * n + (d - 1)) (2 * d) (omega arith)
 
 -- half up of n/d - k is half up of n/d, less k
-pub half-shift : (n d k : ℕ) → 0 < d → halfUpZ (subℕ n (k * d)) d ≡ subℕ (halfUp n d) k
+pub half-shifts : (n d k : ℕ) → 0 < d → halfUpZ (subℕ n (k * d)) d ≡ subℕ (halfUp n d) k
 unfolding halfUpZ
-half-shift n d k h = go (le-or-lt (k * d) n)
+half-shifts n d k h = go (le-or-lt (k * d) n)
   where
     go : (k * d ≤ n) ⊎ (n < k * d) → halfUpZ (subℕ n (k * d)) d ≡ subℕ (halfUp n d) k
     go (inl l) =
@@ -56,7 +56,7 @@ half-shift n d k h = go (le-or-lt (k * d) n)
         ∙ difference-same (halfUp m d) 0 (halfUp n d) k (omega arith)
     go (inr l) =
         ap (λ (z : ℤ). halfUpZ z d) (difference-down n (k * d) l)
-        ∙ negated q
+        ∙ negated-is q
         ∙ difference-same 0 q (halfUp n d) k (omega (arith, below, same))
       where
         m : ℕ
@@ -113,7 +113,7 @@ half-nearest n d w = (
     is = lifted-is (k * d) n (omega (arith, mul-le-mul-left k w))
 
     rounded : halfUpZ n d ≡ subℕ h k
-    rounded = ap (λ (z : ℤ). halfUpZ z d) is ∙ half-shift a d k w
+    rounded = ap (λ (z : ℤ). halfUpZ z d) is ∙ half-shifts a d k w
 
     twice : (pos 2 *ℤ n) +ℤ pos d ≡ subℕ (2 * a + d) (2 * (k * d) + 0)
     twice =

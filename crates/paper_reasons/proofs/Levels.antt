@@ -15,7 +15,7 @@ use Rattle.paper.specs.Rates.{daysOf, minimumOf, covers, levelRate, AtLeastRequ
 use Rattle.paper.specs.Verdicts.{NoneApplies, none, also}
 use Rattle.paper.proofs.Logic.{clash, and-left, and-right, and-both, le-or-lt, pick-true, pick-false}
 use Rattle.paper.proofs.Search.{multiple-holds, multiple-least, multiple-is}
-use Rattle.paper.proofs.Level.{covers-more, meets-real, real-meets, whole-times, level-rate-is}
+use Rattle.paper.proofs.Level.{covers-more, meets-real, real-meets, quotient-times-is, level-rate-is}
 use Rattle.paper_reasons.specs.declared.LevelReason.the-variants as level
 use Rattle.paper_reasons.specs.Reasons.{inOrder, firstThatHolds, requirementStep, levelSetBy, levelReasons, levelReason}
 use Rattle.paper_reasons.proofs.First.{TrueReason, true-reason}
@@ -31,7 +31,7 @@ module _ (st : Statics) (v : validStatics st ≡ true) where
 
   most-whole : st .smax / st .h * st .h ≡ st .smax
   unfolding validStatics
-  most-whole = whole-times (st .smax) (st .h) (eqb-true _ _ (search (v, and-left, and-right) depth 40))
+  most-whole = quotient-times-is (st .smax) (st .h) (eqb-true _ _ (search (v, and-left, and-right) depth 40))
 
   minimum-whole : (l : ℕ) → minimumOf st l / st .h * st .h ≡ minimumOf st l
   unfolding validStatics minimumOf
@@ -39,15 +39,15 @@ module _ (st : Statics) (v : validStatics st ≡ true) where
     where
       go : (x y : Bool)
           → let minimum = pick x (st .min1) (pick y (st .min2) (st .min3)) in minimum / st .h * st .h ≡ minimum
-      go true y = whole-times (st .min1) (st .h) (eqb-true _ _ (search (v, and-left, and-right) depth 40))
-      go false true = whole-times (st .min2) (st .h) (eqb-true _ _ (search (v, and-left, and-right) depth 40))
-      go false false = whole-times (st .min3) (st .h) (eqb-true _ _ (search (v, and-left, and-right) depth 40))
+      go true y = quotient-times-is (st .min1) (st .h) (eqb-true _ _ (search (v, and-left, and-right) depth 40))
+      go false true = quotient-times-is (st .min2) (st .h) (eqb-true _ _ (search (v, and-left, and-right) depth 40))
+      go false false = quotient-times-is (st .min3) (st .h) (eqb-true _ _ (search (v, and-left, and-right) depth 40))
 
 -- with isEWMA yes
-pub level-by : (st : Statics) (l m t rate : ℕ) → st .ewma ≡ true
+pub level-reason-is-first : (st : Statics) (l m t rate : ℕ) → st .ewma ≡ true
     → levelReason st t m l rate ≡ firstThatHolds level.None (levelSetBy st t m l rate) levelReasons
 unfolding levelReason
-level-by st l m t rate e = pick-true (st .ewma) _ _ e
+level-reason-is-first st l m t rate e = pick-true (st .ewma) _ _ e
 
 module _ (st : Statics) (l m t : ℕ) (v : validStatics st ≡ true) where
   held : HeldLeast (st .h) (minimumOf st l) (st .smax) (AtLeastRequired st t m l) (levelRate st t m l)
@@ -83,11 +83,11 @@ module _ (st : Statics) (l m t : ℕ) (v : validStatics st ≡ true) where
       rw (sym whole) (multiple-least (st .h) (st .smax / st .h) (λ w. covers st t m l w) (w / st .h) (rw whole c))
 
   rate-whole : levelRate st t m l / st .h * st .h ≡ levelRate st t m l
-  rate-whole = whole-times (levelRate st t m l) (st .h) (held .multiple)
+  rate-whole = quotient-times-is (levelRate st t m l) (st .h) (held .multiple)
 
   -- a rate that is not 0 is a step at least
-  pub a-step : 0 < levelRate st t m l → st .h ≤ levelRate st t m l
-  a-step p = go (le-or-lt 1 (levelRate st t m l / st .h))
+  pub rate-at-least-a-step : 0 < levelRate st t m l → st .h ≤ levelRate st t m l
+  rate-at-least-a-step p = go (le-or-lt 1 (levelRate st t m l / st .h))
     where
       go : (1 ≤ levelRate st t m l / st .h) ⊎ (levelRate st t m l / st .h < 1) → st .h ≤ levelRate st t m l
       go (inl k) = omega (arith, rate-whole, mul-le-mul-right (st .h) k)
@@ -140,7 +140,7 @@ module _ (st : Statics) (l m t : ℕ) (v : validStatics st ≡ true) where
       → TrueReason (levelSetBy st t m l (levelRate st t m l)) levelReasons (levelReason st t m l (levelRate st t m l))
   level-named ewma =
       subst (TrueReason (levelSetBy st t m l (levelRate st t m l)) levelReasons)
-      (sym (level-by st l m t (levelRate st t m l) ewma))
+      (sym (level-reason-is-first st l m t (levelRate st t m l) ewma))
       (true-reason level.None (levelSetBy st t m l (levelRate st t m l)) levelReasons one-set-it)
 
   -- where neither the requirement nor the minimum set it, the maximum did
@@ -151,7 +151,7 @@ module _ (st : Statics) (l m t : ℕ) (v : validStatics st ≡ true) where
     where
       go : (b : Bool) → levelSetBy st t m l (levelRate st t m l) level.Maximum ≡ b
           → level.Maximum ≡ levelReason st t m l (levelRate st t m l)
-      go true e = sym (level-by st l m t (levelRate st t m l) ewma ∙ rw (r, low, e))
+      go true e = sym (level-reason-is-first st l m t (levelRate st t m l) ewma ∙ rw (r, low, e))
       go false e = absurd (one-set-it (also r (also low (also e none))))
 
   -- ---- whether the rate is the least that covers the requirement, by a comparison a step below it
@@ -160,9 +160,9 @@ module _ (st : Statics) (l m t : ℕ) (v : validStatics st ≡ true) where
   abbrev pub bySelf : Bool
   bySelf = levelSetBy st t m l (levelRate st t m l) level.Requirement
 
-  pub uncovered : covers st t m l (levelRate st t m l) ≡ false → bySelf ≡ false
+  pub uncovered-not-required : covers st t m l (levelRate st t m l) ≡ false → bySelf ≡ false
   unfolding levelSetBy
-  uncovered n = go (covers st t m l (st .smax)) refl
+  uncovered-not-required n = go (covers st t m l (st .smax)) refl
     where
       go : (b : Bool) → covers st t m l (st .smax) ≡ b
           → (b && eqb (levelRate st t m l) (requirementStep st t m l)) ≡ false
@@ -176,9 +176,9 @@ module _ (st : Statics) (l m t : ℕ) (v : validStatics st ≡ true) where
     step-below : requirementStep st t m l ≤ levelRate st t m l
     step-below = step-least _ rate-whole covered
 
-    pub at-zero : levelRate st t m l ≡ 0 → bySelf ≡ true
+    pub zero-required : levelRate st t m l ≡ 0 → bySelf ≡ true
     unfolding levelSetBy
-    at-zero z =
+    zero-required z =
         and-both _ _ most-covers (eq-eqb (levelRate st t m l) (requirementStep st t m l) (omega (arith, step-below)))
 
     pub a-step-below : 0 < levelRate st t m l → bySelf ≡ not (covers st t m l (levelRate st t m l - st .h))
@@ -186,7 +186,7 @@ module _ (st : Statics) (l m t : ℕ) (v : validStatics st ≡ true) where
     a-step-below p = go (covers st t m l (levelRate st t m l - st .h)) refl
       where
         below-whole : (levelRate st t m l - st .h) / st .h * st .h ≡ levelRate st t m l - st .h
-        below-whole = whole-times _ (st .h) (sym (mod-eq-sub-mod (a-step p)) ∙ held .multiple)
+        below-whole = quotient-times-is _ (st .h) (sym (mod-eq-sub-mod (rate-at-least-a-step p)) ∙ held .multiple)
 
         -- two multiples of h are a step apart
         apart : requirementStep st t m l < levelRate st t m l → requirementStep st t m l ≤ levelRate st t m l - st .h

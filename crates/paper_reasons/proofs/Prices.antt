@@ -35,23 +35,23 @@ unfolding closeOf mean
 close-untraded previous rs e = ap (mean previous) (untraded rs e)
 
 -- the price before the grid is the close, or a BID or an ASK that is present
-pub between-one : (bid close ask : ℕ) → (between bid close ask ≡ close)
+pub between-is-one-of-three : (bid close ask : ℕ) → (between bid close ask ≡ close)
     ⊎ (((0 < bid) × (between bid close ask ≡ bid)) ⊎ ((0 < ask) × (between bid close ask ≡ ask)))
 unfolding between median
-between-one zero close zero = inl refl
-between-one zero close (suc ask) = go (le-or-lt close (suc ask))
+between-is-one-of-three zero close zero = inl refl
+between-is-one-of-three zero close (suc ask) = go (le-or-lt close (suc ask))
   where
     go : (close ≤ suc ask) ⊎ (suc ask < close) → (min close (suc ask) ≡ close)
         ⊎ (((0 < 0) × (min close (suc ask) ≡ 0)) ⊎ ((0 < suc ask) × (min close (suc ask) ≡ suc ask)))
     go (inl l) = inl (omega arith)
     go (inr l) = inr (inr (omega arith, omega arith))
-between-one (suc bid) close zero = go (le-or-lt (suc bid) close)
+between-is-one-of-three (suc bid) close zero = go (le-or-lt (suc bid) close)
   where
     go : (suc bid ≤ close) ⊎ (close < suc bid) → (max close (suc bid) ≡ close)
         ⊎ (((0 < suc bid) × (max close (suc bid) ≡ suc bid)) ⊎ ((0 < 0) × (max close (suc bid) ≡ 0)))
     go (inl l) = inl (omega arith)
     go (inr l) = inr (inl (omega arith, omega arith))
-between-one (suc bid) close (suc ask) =
+between-is-one-of-three (suc bid) close (suc ask) =
     go (le-or-lt (suc bid) close) (le-or-lt (max (suc bid) close) (suc ask)) (le-or-lt (min (suc bid) close) (suc ask))
   where
     m : ℕ
@@ -72,7 +72,7 @@ module _ (previous : ℕ) (rs : List Roubles) where
   pub one-set-it : NoneApplies (inOrder (priceSetBy previous rs) priceReasons) → ⊥
   unfolding priceSetBy
   one-set-it (also a (also b (also c (also d none)))) =
-      go (between-one (bestBid rs) (closeOf previous rs) (bestAsk rs)) (isTraded rs) refl
+      go (between-is-one-of-three (bestBid rs) (closeOf previous rs) (bestAsk rs)) (isTraded rs) refl
     where
       go : (beforeGrid previous rs ≡ closeOf previous rs)
           ⊎ (((0 < bestBid rs) × (beforeGrid previous rs ≡ bestBid rs)) ⊎ ((0 < bestAsk rs) × (beforeGrid previous rs

@@ -12,7 +12,7 @@ use Rattle.paper.specs.Lists.{pick}
 use Rattle.paper.specs.Least.{least, leastMultiple}
 use Rattle.paper.specs.Rates.{meetsRequirement, daysOf, minimumOf, covers, levelRate}
 use Rattle.paper.proofs.Logic.{clash, and-left, and-right, and-both, pick-true, pick-false, le-or-lt}
-use Rattle.paper.proofs.Level.{meets-roots, within-more, covers-more, whole-times}
+use Rattle.paper.proofs.Level.{meets-roots, within-more, covers-more, quotient-times-is}
 use Rattle.paper.proofs.Search.{Mono, Between, between-hit, between-miss, between-one, least-monotone, multiple-cases, multiple-bound}
 use Rattle.rates.specs.Asked.{RateStatics}
 use Rattle.rates.proofs.Statics.{level-statics}
@@ -21,8 +21,8 @@ use Rattle.rates.specs.Level.{tentativeSquare, liquiditySquare, reaches,
 -- ---- the comparison
 
 -- four times a product is at most the square of the sum
-pub four-products : (a b : ℕ) → 4 * (a * b) ≤ (a + b) * (a + b)
-four-products a b = either (le-or-lt a b)
+pub four-products-below-square : (a b : ℕ) → 4 * (a * b) ≤ (a + b) * (a + b)
+four-products-below-square a b = either (le-or-lt a b)
   where
     apart-by : (x d : ℕ) → 4 * (x * (x + d)) ≤ (x + (x + d)) * (x + (x + d))
     apart-by x d = omega arith
@@ -124,7 +124,7 @@ rate-multiple st level m tentative e = go (covers st tentative m level (st .smax
         ∙ sym (pick-false (covers st tentative m level (st .smax)) rate (st .smax) p)
       where
         most : st .smax / st .h * st .h ≡ st .smax
-        most = whole-times (st .smax) (st .h) e
+        most = quotient-times-is (st .smax) (st .h) e
 
         below : rate ≤ st .smax
         below = omega (arith, most, multiple-bound (st .h) (st .smax / st .h) passes)
@@ -140,7 +140,7 @@ steps-from : (x h k : ℕ) → 0 < h → x % h ≡ 0 → leb (x / h) k ≡ leb x
 steps-from x h k p e = go (le-or-lt (x / h) k)
   where
     exact : x / h * h ≡ x
-    exact = whole-times x h e
+    exact = quotient-times-is x h e
 
     go : (x / h ≤ k) ⊎ (k < x / h) → leb (x / h) k ≡ leb x (k * h)
     go (inl l) = le-leb (x / h) k l ∙ sym (le-leb x (k * h) (omega (arith, exact, mul-le-mul-right h l)))
@@ -177,8 +177,8 @@ pub steps-held : (st : Statics) (level : ℕ) → RateStatics st
     → (minimumOf st level / st .h ≤ st .smax / st .h) × (st .smax / st .h * (st .h * st .rh1) ≤ reachMost)
 steps-held st level r =
     let own = level-statics st level r in
-    let most = whole-times (st .smax) (st .h) (r .most-multiple) in
-    let low = whole-times (minimumOf st level) (st .h) (own .2) in
+    let most = quotient-times-is (st .smax) (st .h) (r .most-multiple) in
+    let low = quotient-times-is (minimumOf st level) (st .h) (own .2) in
     let same : st .smax / st .h * (st .h * st .rh1) ≡ st .smax / st .h * st .h * st .rh1 = omega arith in (
       le-div-iff-mul-le {k = st .h} {x = minimumOf st level / st .h} {y = st .smax} (r .step-low) .1
           (omega (arith, low, own .1)),
@@ -191,6 +191,6 @@ rate-held st level m tentative r =
     rw (← rate-multiple st level m tentative (r .most-multiple))
     (omega (
       arith,
-      whole-times (st .smax) (st .h) (r .most-multiple),
+      quotient-times-is (st .smax) (st .h) (r .most-multiple),
       multiple-bound (st .h) (st .smax / st .h) (λ v. leb (minimumOf st level) v && covers st tentative m level v),
     ))

@@ -27,7 +27,7 @@ use Rattle.record_soundness.proofs.Facts.{sound-facts}
 use Rattle.rates.specs.Asked.{RateStatics}
 use Rattle.rates.proofs.Statics.{valid-rates, level-statics}
 use Rattle.rates.proofs.Reach.{rate-held}
-use Rattle.limits.specs.LimitRanges.{RangeInputs, TermInputs, limit-statics}
+use Rattle.limits.specs.LimitRanges.{RangeInputs, TermInputs, valid-limit-statics}
 use Rattle.limits.specs.LimitBounds.{delta-high}
 use Rattle.alerts.specs.Nearness.{NearRange}
 use Rattle.record_writing.specs.Asked.{at-three, RangesAsked, BandsAsked, ShiftsAsked}
@@ -90,7 +90,7 @@ pub shifts-asked : (r : Record) → sound r ≡ true
     → ShiftsAsked (deltaOf (r .statics) (rateAt (r .rates) 0) (r .p1 .units)) (r .ranges)
 shifts-asked r v =
     let known = sound-facts r v in
-    let held = delta-high (r .statics) _ _ (limit-statics (r .statics) (known .valid)) (sound-inputs r v) in
+    let held = delta-high (r .statics) _ _ (valid-limit-statics (r .statics) (known .valid)) (sound-inputs r v) in
     let upper = known .ranges in (
       (held, upper 0 (omega arith) .upper .most),
       (held, upper 1 (omega arith) .upper .most),

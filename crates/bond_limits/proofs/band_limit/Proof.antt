@@ -5,7 +5,7 @@ use native.Mathlib.Omega.{arith}
 use mir.Facts.{toZ-ofZ}
 use borrow.Author.Needs.{needs}
 use Rattle.paper.specs.Limits.{bond, inward, bondLimitOf, growing, farthest}
-use Rattle.paper.proofs.LimitSizes.{LimitStatics, limit-statics}
+use Rattle.paper.proofs.LimitSizes.{LimitStatics, valid-limit-statics}
 use Rattle.paper.proofs.KindLaws.{band-monitored, band-unmonitored}
 use Rattle.limits.specs.LimitLaws.{farthest-high}
 use Rattle.bond_limits.proofs.Sizes.{farthest-shifted}
@@ -13,7 +13,7 @@ use Rattle.bond_limits.proofs.band_limit.Statement.{statement}
 use Rattle.bond_limits.proofs.band_limit.Tie as tie
 
 statics : (s : tie.Start) → LimitStatics (s .args .st)
-statics s = limit-statics (s .args .st) (s .pre .1 .0)
+statics s = valid-limit-statics (s .args .st) (s .pre .1 .0)
 
 farthest-rate-requires : tie.Need-farthest-rate-requires
 farthest-rate-requires c κs = search needs

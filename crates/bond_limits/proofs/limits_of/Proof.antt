@@ -6,7 +6,7 @@ use mir.Syntax.{w64}
 use mir.Val.{toZ, ofZ}
 use Rattle.paper.specs.declared.Side.{Side}
 use Rattle.paper.specs.declared.Side.the-variants.{Upper, Lower}
-use Rattle.paper.proofs.LimitSizes.{limit-statics}
+use Rattle.paper.proofs.LimitSizes.{valid-limit-statics}
 use Rattle.limits.specs.Sides.{repoOf}
 use Rattle.limits.specs.LimitRanges.{term-repo, term-days}
 use Rattle.paper_bonds.specs.Bonds.{limitsFrom}
@@ -54,7 +54,7 @@ returns c =
     let s = c .before .before .before .before .before .before in
     let a = s .args in
     let face = s .pre .0 .face in
-    let divisor = limit-statics (a .st) (s .pre .1 .0) .divisor-low in
+    let divisor = valid-limit-statics (a .st) (s .pre .1 .0) .divisor-low in
     rw (
       c .off-limit2 .ensures,
       c .before .off-limit .ensures,

@@ -5,13 +5,13 @@ use native.Mathlib.Omega.{arith}
 use mir.Facts.{toZ-ofZ}
 use borrow.Author.Needs.{needs}
 use Rattle.paper.specs.Limits.{monitored}
-use Rattle.paper.proofs.LimitSizes.{LimitStatics, limit-statics}
+use Rattle.paper.proofs.LimitSizes.{LimitStatics, valid-limit-statics}
 use Rattle.bond_limits.proofs.Sizes.{spread-product, spread-grows}
 use Rattle.bond_limits.proofs.monitored_limit.Statement.{statement}
 use Rattle.bond_limits.proofs.monitored_limit.Tie as tie
 
 statics : (s : tie.Start) → LimitStatics (s .args .st)
-statics s = limit-statics (s .args .st) (s .pre .1 .0)
+statics s = valid-limit-statics (s .args .st) (s .pre .1 .0)
 
 inward-requires : tie.Need-inward-requires
 inward-requires c κs = search needs

@@ -1,12 +1,12 @@
 -- `divide_product` meets its contract: it is the long division of `Long.antt`. Assumes nothing.
 use native.Mathlib.Omega.{arith}
 use borrow.Author.Needs.{needs}
-use Rattle.exact.proofs.Long.{Long, long}
+use Rattle.exact.proofs.Long.{Long, long-division-is}
 use Rattle.exact.proofs.divide_product.Statement.{statement}
 use Rattle.exact.proofs.divide_product.Tie as tie
 
 known : (c : tie.Start) → Long (c .args .x) (c .args .n) (c .args .e)
-known c = long _ _ _ (c .pre)
+known c = long-division-is _ _ _ (c .pre)
 
 div-q : tie.Need-div-q
 div-q c = search needs

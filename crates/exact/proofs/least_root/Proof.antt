@@ -6,7 +6,7 @@ use native.Mathlib.Nat.{pos-of-ne-zero}
 use native.Mathlib.Omega.{arith}
 use Rattle.paper.specs.Least.{leastRoot, least, first}
 use Rattle.paper.proofs.Search.{root-one-more}
-use Rattle.exact.proofs.RootTurn.{Found, RootTurn, turn, taken, left}
+use Rattle.exact.proofs.RootTurn.{Found, RootTurn, turn-fits, taken-keeps, left-keeps}
 use Rattle.exact.proofs.least_root.Statement.{statement}
 use Rattle.exact.proofs.least_root.Tie as tie
 
@@ -20,7 +20,7 @@ abbrev μ-loop : tie.MeasureT-loop
 at : (c : tie.In-loop Inv-loop μ-loop)
     → RootTurn (c .before .before .before .args .factor) (c .before .loop .x) (c .before .loop .factor-x)
     (c .before .loop .k)
-at c = turn _ _ _ _ _ _ (c .loop-test .taken) (c .before .before .before .pre .1) (c .before .loop .inv)
+at c = turn-fits _ _ _ _ _ _ (c .loop-test .taken) (c .before .before .before .pre .1) (c .before .loop .inv)
 
 returns : tie.Need-returns Inv-loop μ-loop
 unfolding leastRoot least first
@@ -76,7 +76,7 @@ loop-less c = omega arith
 loop-again : tie.Need-loop-again Inv-loop μ-loop
 loop-again c =
     let t = c .before .before .before .before .before in
-    taken _ _ _ _ _ _ _ _ _ _ (t .loop-test .taken) (t .before .before .before .pre .1) (t .before .loop .inv)
+    taken-keeps _ _ _ _ _ _ _ _ _ _ (t .loop-test .taken) (t .before .before .before .pre .1) (t .before .loop .inv)
     (c .before .before .before .before .shl .ensures) (c .before .before .before .shl2 .ensures)
     (c .before .shl3 .ensures) (c .shl4 .ensures) (c .before .before .if2 .taken)
 
@@ -86,7 +86,7 @@ loop-less-2 c = omega arith
 loop-again-2 : tie.Need-loop-again-2 Inv-loop μ-loop
 loop-again-2 c =
     let t = c .before .before .before in
-    left _ _ _ _ _ _ _ _ (t .loop-test .taken) (t .before .before .before .pre .1) (t .before .loop .inv)
+    left-keeps _ _ _ _ _ _ _ _ (t .loop-test .taken) (t .before .before .before .pre .1) (t .before .loop .inv)
     (c .before .before .shl .ensures) (c .before .shl2 .ensures) (c .if2 .left)
 
 add-result : tie.Need-add-result Inv-loop μ-loop

@@ -4,7 +4,7 @@ use mathlib.Core.Path.{_≡_, sym, _∙_}
 use Prim.Native.Nat.{ℕ}
 use mir.Facts.{toZ-ofZ}
 use borrow.Author.Needs.{needs}
-use Rattle.limits.specs.LimitRanges.{limit-statics}
+use Rattle.limits.specs.LimitRanges.{valid-limit-statics}
 use Rattle.limits.specs.LimitLaws.{farthestLimit, farthest-high, band-monitored, band-unmonitored}
 use Rattle.limits.proofs.band_limit.Statement.{statement}
 use Rattle.limits.proofs.band_limit.Tie as tie
@@ -18,7 +18,7 @@ farthest-rate-requires c κs = search needs
 shifted-limit-requires : tie.Need-shifted-limit-requires
 shifted-limit-requires c κs =
     let s = c .before .before in
-    let v = limit-statics (s .args .st) (s .pre .0) in
+    let v = valid-limit-statics (s .args .st) (s .pre .0) in
     record {
       price = s .pre .1 .price;
       rate-high = rw (c .farthest-rate .ensures) (farthest-high (s .args .st) (s .args .side) v);
@@ -42,7 +42,7 @@ returns c =
     let m = c .before in
     let s = m .before .before .before .before .before in
     let a = s .args in
-    let v = limit-statics (a .st) (s .pre .0) in
+    let v = valid-limit-statics (a .st) (s .pre .0) in
     rw (c .narrower .ensures, far (m .before .before), m .monitored-limit .ensures, toZ-ofZ (s .fits .repo))
     (sym (band-monitored (a .st) (a .side) (a .p .units) (a .s1 .bp) (a .c) (a .k) (a .repo) v (m .before .if1 .taken)))
 

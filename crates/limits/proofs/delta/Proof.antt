@@ -3,14 +3,14 @@
 use native.Mathlib.Omega.{arith}
 use borrow.Author.Needs.{needs}
 use Rattle.paper.specs.Limits.{deltaOf, limitOf}
-use Rattle.limits.specs.LimitRanges.{LimitStatics, limit-statics}
+use Rattle.limits.specs.LimitRanges.{LimitStatics, valid-limit-statics}
 use Rattle.limits.specs.LimitLaws.{grid-range}
 use Rattle.limits.specs.LimitBounds.{DeltaSizes, delta-sizes}
 use Rattle.limits.proofs.delta.Statement.{statement}
 use Rattle.limits.proofs.delta.Tie as tie
 
 statics : (c : tie.Start) → LimitStatics (c .args .st)
-statics c = limit-statics (c .args .st) (c .pre .0)
+statics c = valid-limit-statics (c .args .st) (c .pre .0)
 
 sizes : (c : tie.Start) → DeltaSizes (c .args .st) (c .args .p) (c .args .s1)
 sizes c = delta-sizes (c .args .st) (c .args .p) (c .args .s1) (statics c) (c .pre .1)

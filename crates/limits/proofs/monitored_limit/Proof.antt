@@ -10,13 +10,13 @@ use Rattle.paper.specs.Roundings.{grown}
 use Rattle.paper.specs.Limits.{limitOf, monitored}
 use Rattle.exact.specs.SignedLaws.{grown-range}
 use Rattle.exact.specs.Wide.{yearMost}
-use Rattle.limits.specs.LimitRanges.{LimitStatics, limit-statics}
+use Rattle.limits.specs.LimitRanges.{LimitStatics, valid-limit-statics}
 use Rattle.limits.specs.LimitLaws.{grid-range, spread-high}
 use Rattle.limits.proofs.monitored_limit.Statement.{statement}
 use Rattle.limits.proofs.monitored_limit.Tie as tie
 
 statics : (c : tie.Start) → LimitStatics (c .args .st)
-statics c = limit-statics (c .args .st) (c .pre .0)
+statics c = valid-limit-statics (c .args .st) (c .pre .0)
 
 -- the days' factor and its range
 days : (c : tie.After-grow) → c .grow .result ≡ grown yearInDayBp (c .before .args .k) (c .before .args .repo)

@@ -6,7 +6,7 @@ use borrow.Author.Needs.{needs}
 use Rattle.paper.specs.declared.Statics.{Statics}
 use Rattle.paper.specs.Numbers.{oneInHundredths, rateMost, divisorMost, shiftMost, movesMost}
 use Rattle.paper.specs.Limits.{spread}
-use Rattle.limits.specs.LimitRanges.{limit-statics}
+use Rattle.limits.specs.LimitRanges.{valid-limit-statics}
 use Rattle.limits.specs.LimitLaws.{away-high}
 use Rattle.limits.proofs.spread.Statement.{statement}
 use Rattle.limits.proofs.spread.Tie as tie
@@ -18,7 +18,7 @@ record Sizes (st : Statics) (s1 c : ℕ) : Type 0 where
 
 sizes : (c : tie.Start) → Sizes (c .args .st) (c .args .s1 .bp) (c .args .c)
 sizes c =
-    let s = limit-statics (c .args .st) (c .pre .0) in
+    let s = valid-limit-statics (c .args .st) (c .pre .0) in
     record {
       middle = s .divisor-high;
       shifts = mul-le-mul (c .pre .1 .1) (s .shift-high);

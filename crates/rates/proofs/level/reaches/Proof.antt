@@ -7,7 +7,7 @@ use borrow.Author.Needs.{needs}
 use borrow.Author.Tests.{lt-leb, le-leb}
 use Rattle.paper.proofs.Level.{rootsWithin}
 use Rattle.rates.specs.Level.{reaches, reachMost}
-use Rattle.rates.proofs.Reach.{four-products}
+use Rattle.rates.proofs.Reach.{four-products-below-square}
 use Rattle.rates.proofs.level.reaches.Statement.{statement}
 use Rattle.rates.proofs.level.reaches.Tie as tie
 
@@ -23,7 +23,7 @@ small : (square a b : ℕ) → square ≤ most → a + b ≤ square → Small sq
 small square a b h l =
     let sum : a + b ≤ most = omega arith in
     let rest : square - (a + b) ≤ most = omega arith in
-    record { product = le-trans (four-products a b) (mul-le-mul sum sum); rest = mul-le-mul rest rest }
+    record { product = le-trans (four-products-below-square a b) (mul-le-mul sum sum); rest = mul-le-mul rest rest }
 
 at : (c : tie.Else1) → Small (c .before .args .x * c .before .args .x) (c .before .args .a) (c .before .args .b)
 at c = small _ _ _ (mul-le-mul (c .before .pre .0) (c .before .pre .0)) (c .if1 .left)

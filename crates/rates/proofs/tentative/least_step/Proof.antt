@@ -4,7 +4,7 @@ use native.Mathlib.Omega.{arith}
 use borrow.Author.Needs.{needs}
 use mathlib.Core.Path.{ap, _∙_}
 use Prim.Native.Nat.{ℕ, _*_}
-use Rattle.paper.proofs.Bounds.{step-up, step-high}
+use Rattle.paper.proofs.Bounds.{up-is-step, step-high}
 use Rattle.rates.proofs.tentative.least_step.Statement.{statement}
 use Rattle.rates.proofs.tentative.least_step.Tie as tie
 
@@ -24,7 +24,7 @@ mul-result c =
     ))
 
 returns : tie.Need-returns
-returns c = rw (c .up .ensures) (step-up _ _ _ (c .before .pre .0) (c .before .pre .1))
+returns c = rw (c .up .ensures) (up-is-step _ _ _ (c .before .pre .0) (c .before .pre .1))
 
 pub least-step-spec : {M : Type 1} → statement M
 least-step-spec = tie.close (tie.spec mul-up up-requires mul-result returns)

@@ -12,7 +12,7 @@ use Prim.Native.Nat.{ℕ, _-_, _≤_, _<_}
 use native.Mathlib.Omega.{arith}
 use Rattle.rates.proofs.Statics.{valid-rates}
 use Rattle.rates.proofs.Reach.{rate-held}
-use Rattle.paper_reasons.proofs.Levels.{a-step, uncovered, at-zero, a-step-below}
+use Rattle.paper_reasons.proofs.Levels.{rate-at-least-a-step, uncovered-not-required, zero-required, a-step-below}
 use Rattle.record_reasons.proofs.reasons.is_least.Statement.{statement}
 use Rattle.record_reasons.proofs.reasons.is_least.Tie as tie
 
@@ -33,7 +33,7 @@ returns c =
     let a = s .args in
     let test : covers (a .st) (a .tentative) (a .m) (a .level) (a .rate .bp) ≡ false =
     failed _ (c .before .covers .ensures) (c .if1 .taken) in
-    rw (s .pre .1 .1) (sym (uncovered _ _ _ _ (s .pre .0) (rw (s .pre .1 .1) at test)))
+    rw (s .pre .1 .1) (sym (uncovered-not-required _ _ _ _ (s .pre .0) (rw (s .pre .1 .1) at test)))
 
 -- where the first test is passed the rate covers the requirement
 rate-covered : (c : tie.Else1)
@@ -58,14 +58,15 @@ returns-2 : tie.Need-returns-2
 returns-2 c =
     let covered = c .before .before in
     let s = covered .before .before in
-    rw (s .pre .1 .1) (sym (at-zero _ _ _ _ (s .pre .0) (rate-covered covered) (sym (s .pre .1 .1) ∙ c .if2 .taken)))
+    rw (s .pre .1 .1) (sym (zero-required _ _ _ _ (s .pre .0) (rate-covered covered)
+    (sym (s .pre .1 .1) ∙ c .if2 .taken)))
 
 sub-covers : tie.Need-sub-covers
 sub-covers c =
     let over = c .before .before in
     let s = over .before .before .before .before in
     let a = s .args in
-    let step : a .st .h ≤ a .rate .bp = rw (s .pre .1 .1) (a-step _ _ _ _ (s .pre .0) (positive over)) in
+    let step : a .st .h ≤ a .rate .bp = rw (s .pre .1 .1) (rate-at-least-a-step _ _ _ _ (s .pre .0) (positive over)) in
     step
 
 covers-requires-2 : tie.Need-covers-requires-2

@@ -11,7 +11,7 @@ use mathlib.Core.Path.{_≡_, sym, ap, _∙_}
 use borrow.Author.Tests.{eq-eqb, ne-eqb}
 use Rattle.rates.proofs.Statics.{valid-rates}
 use Rattle.paper_reasons.specs.Reasons.{levelSetBy}
-use Rattle.paper_reasons.proofs.Levels.{level-by, maximum-left}
+use Rattle.paper_reasons.proofs.Levels.{level-reason-is-first, maximum-left}
 use borrow.Author.Needs.{needs}
 use Rattle.record_reasons.proofs.reasons.level_reason.Statement.{statement}
 use Rattle.record_reasons.proofs.reasons.level_reason.Tie as tie
@@ -22,7 +22,7 @@ is-least-requires c κs = search needs
 returns : tie.Need-returns
 returns c =
     let s = c .before .before in
-    sym (level-by _ _ _ _ _ (s .pre .0 .1) ∙ rw (sym (c .before .is-least .ensures) ∙ c .if1 .taken))
+    sym (level-reason-is-first _ _ _ _ _ (s .pre .0 .1) ∙ rw (sym (c .before .is-least .ensures) ∙ c .if1 .taken))
 
 -- the requirement did not set it
 not-least : (c : tie.Else1)
@@ -53,7 +53,7 @@ returns-2 c =
     let least = not-least (own .before) in
     let low : levelSetBy (a .st) (a .tentative) (a .m) (a .level) (a .rate .bp) level.Minimum ≡ true =
     by-minimum _ _ _ _ _ _ (minimum-is own) ∙ eq-eqb _ _ (c .if2 .taken) in
-    sym (level-by _ _ _ _ _ (s .pre .0 .1) ∙ rw (least, low))
+    sym (level-reason-is-first _ _ _ _ _ (s .pre .0 .1) ∙ rw (least, low))
 
 returns-3 : tie.Need-returns-3
 returns-3 c =
