@@ -1,11 +1,12 @@
 -- Laws of a lent slice that is read in parts of one width: a walk over it by place. Assumes nothing.
 use mathlib.Core.Path.{_≡_, sym, ap, _∙_}
-use mathlib.Core.Bool.{Bool, true, false}
+use mathlib.Core.Bool.{Bool, true, false, not}
 use mathlib.Core.Logic.{_⊎_, inl, inr}
 use mathlib.Core.List.{List, [], _∷_}
 use Prim.Native.Nat.{ℕ, suc, _+_, _-_, _*_, _/_, _%_, _≤_, _<_}
 use native.Mathlib.Nat.{div-add-mod', mul-le-mul-right}
 use native.Mathlib.Omega.{arith}
+use borrow.Author.Tests.{not-true, not-false}
 use lib.IntN.{ℤ}
 use lib.ListN.{length}
 use Rattle.paper.specs.Lists.{every}
@@ -73,30 +74,46 @@ module _ {A : Type 0} (read : List ℤ → ℕ → A) (width : ℕ) (numbers : L
       let none : (length numbers - at) / width ≡ 0 = ap (λ (n : ℕ). n / width) nothing ∙ omega arith in
       ap (partsFrom read width numbers at) none
 
--- ---- whether every part passes, judged one after the other
+-- ---- whether every part passes: the one walk of every loop that judges part after part
 
--- what a walk that judges each part keeps at a place: the parts that are left decide for all
+-- what the walk keeps at a place: the parts that are left decide for all
 pub record Judging {A : Type 0} (valid : A → Bool) (read : List ℤ → ℕ → A) (width : ℕ) (numbers : List ℤ)
     (all : List A) (at : ℕ) : Type 0 where
   pub place : Place width numbers at
   pub decides : every valid (partsLeft read width numbers at) ≡ every valid all
+
+-- its turn at a place before the end: there is a whole part, and by what the test says of it the answer is no, or the
+-- walk goes on behind it
+pub record Turn {A : Type 0} (valid : A → Bool) (read : List ℤ → ℕ → A) (width : ℕ) (numbers : List ℤ) (all : List A)
+    (at : ℕ) : Type 0 where
+  pub room : at + width ≤ length numbers
+  pub fails : (says : Bool) → says ≡ valid (read numbers at) → not says ≡ true → false ≡ every valid all
+  pub goes-on : (says : Bool) → says ≡ valid (read numbers at) → not says ≡ false
+      → Judging valid read width numbers all (at + width)
 
 module _ {A : Type 0} (valid : A → Bool) (read : List ℤ → ℕ → A) (width : ℕ) (numbers : List ℤ) (all : List A) where
   pub judging-first : partsLeft read width numbers 0 ≡ all → Judging valid read width numbers all 0
   judging-first e = record { place = place-first width numbers; decides = ap (every valid) e }
 
   module _ (at : ℕ) (w : 0 < width) (j : Judging valid read width numbers all at) where
-    -- one that passes leaves it to the rest, and one that does not decides it
-    pub judging-next : at + width ≤ length numbers → valid (read numbers at) ≡ true
-        → Judging valid read width numbers all (at + width)
-    judging-next h e =
+    pub judging-turn : length numbers % width ≡ 0 → at < length numbers → Turn valid read width numbers all at
+    judging-turn whole before =
         record {
-          place = place-next width numbers at (j .place) h;
-          decides = sym (every-in valid (left-here read width numbers at w h) e) ∙ j .decides;
+          room = room;
+          fails = λ says is no. sym (every-out valid here (sym is ∙ not-true says no)) ∙ j .decides;
+          goes-on =
+              λ says is yes.
+              record {
+                place = place-next width numbers at (j .place) room;
+                decides = sym (every-in valid here (sym is ∙ not-false says yes)) ∙ j .decides;
+              };
         }
+      where
+        room : at + width ≤ length numbers
+        room = place-room width numbers at whole (j .place) before
 
-    pub judging-out : at + width ≤ length numbers → valid (read numbers at) ≡ false → false ≡ every valid all
-    judging-out h e = sym (every-out valid (left-here read width numbers at w h) e) ∙ j .decides
+        here : partsLeft read width numbers at ≡ read numbers at ∷ partsLeft read width numbers (at + width)
+        here = left-here read width numbers at w room
 
     pub judging-end : length numbers ≤ at → true ≡ every valid all
     judging-end h = sym (every-nil valid (left-end read width numbers at w h)) ∙ j .decides
