@@ -3,6 +3,7 @@ pub mod Steps
 pub mod Row
 pub mod Frame
 pub mod Slots
+pub mod Lending
 pub mod Asks
 pub mod Calls
 pub mod Known

@@ -60,7 +60,8 @@ use Rattle.paper.proofs.Answer as N
 use Rattle.paper.proofs.Answer.Laws as N′
 use Rattle.desk.proofs.Row.{R, table-ty, word, S, makes-slot, turn-ty, turn-val, turn-is, typed-turn, answer-val, makes-answer}
 use Rattle.desk.proofs.Frame.{Addresses, of-types, env-of, spare, frame, enters, value}
-use Rattle.desk.proofs.Calls.{Take, Put, ℓt, Lending, rref, wref, ref, machine, Owned, taking, putting-turn, answering, takes, turned, puts-turn, answers}
+use Rattle.desk.proofs.Lending.{ℓt, Lending, rref, wref, ref, machine}
+use Rattle.desk.proofs.Calls.{Take, Put, Owned, taking, putting-turn, answering, takes, turned, puts-turn, answers}
 use Rattle.desk.proofs.Asks.{Callee, consults}
 use Rattle.desk.proofs.Steps.{promised}
 use Rattle.desk.proofs.take.Symbol.{name as #take}

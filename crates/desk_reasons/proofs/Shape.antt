@@ -51,7 +51,8 @@ use Rattle.record_calls.proofs.Slot.Laws as U′
 use Rattle.desk.proofs.Row.{R, shared-ty, word, S, makes-slot, typed-slot}
 use Rattle.desk.proofs.Frame.{Addresses, of-types, env-of, frame, enters, value, leaves}
 use Rattle.desk.proofs.Asks.{Callee, calls, says as learned}
-use Rattle.desk.proofs.Calls.{Take, ℓt, ref, machine}
+use Rattle.desk.proofs.Lending.{ℓt, ref, machine}
+use Rattle.desk.proofs.Calls.{Take}
 use Rattle.desk.proofs.Shape.{Plain, PlainLaws, row}
 use Rattle.desk.proofs.take as take
 use Rattle.desk.proofs.take.Symbol.{name as #take}

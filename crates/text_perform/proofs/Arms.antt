@@ -52,7 +52,8 @@ use Rattle.paper.proofs.Admission.Laws as B′
 use Rattle.desk.specs.Promises.{Promised}
 use Rattle.desk.proofs.Row.{R, typed-answer}
 use Rattle.desk.proofs.Frame.{Locals, holding, Within, frame}
-use Rattle.desk.proofs.Calls.{Lending, ref, machine, Owned, Kept, lent, Lends}
+use Rattle.desk.proofs.Lending.{Lending, ref, machine, lent, Lends, lends}
+use Rattle.desk.proofs.Calls.{Owned, Kept}
 use Rattle.desk.proofs.Asks.{Callee, calls, says}
 use Rattle.desk.proofs.Shape.{Plain, PlainLaws, row}
 use Rattle.desk.proofs.Shape as Shape
@@ -62,7 +63,7 @@ use Rattle.desk.proofs.admit as admit-fn
 use Rattle.desk.proofs.admit.Symbol.{name as #admit}
 use Rattle.desk.proofs.read as read-fn
 use Rattle.desk.proofs.read.Symbol.{name as #read}
-use Rattle.text_perform.proofs.Hands.{handing, lends, hands}
+use Rattle.text_perform.proofs.Hands.{handing, hands}
 
 -- the contracts of the calls: of an id and a plain value, with rows or without, of an admission, and of an id
 abbrev pub Ask : (P : Plain) (K : ℕ → P .D → Call) {M : Type 1} (𝓤 : URA M) (H : Heap 𝓤) (A : Atoms 𝓤) → Contract 𝓤
@@ -230,7 +231,7 @@ module _ {M : Type 1} (𝓤 : URA M) (H : Heap 𝓤) (A : Atoms 𝓤) (W : Given
           → Answered Γ E cs m C Λ post d rest (read id) Token
           → Sq W (frame H E cs ∷ Ours ∷ Γ) (runs C Λ E (handing t m d #read xs rest) post)
       reads known id gi os k =
-          lends 𝓤 H A γ ys W b o room t m l $ move ! (1 ∷ []) $ split ! $ fsplit ! $ drop ! $ fsplit ! $
+          lends 𝓤 H A W b o ys room t m l $ move ! (1 ∷ []) $ split ! $ fsplit ! $ drop ! $ fsplit ! $
           opens-slice ! tt R ys b o $ lft-new ! tt (λ α.
           -- [the new token; the row; the open borrow; obs; auth; the frame; …]
           move ! (1 ∷ []) $ feqI ! ℕ (length ys) (length ys) refl $ fjoin ! $

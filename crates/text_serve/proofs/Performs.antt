@@ -34,7 +34,8 @@ use denote.Triple.Spec.{tripleOf}
 use denote.Triple.Clauses.{ensured, lasts}
 use Rattle.paper.specs.declared.Record.{Record}
 use Rattle.desk.proofs.Row.{R}
-use Rattle.desk.proofs.Calls.{ref, machine, Owned}
+use Rattle.desk.proofs.Lending.{ref, machine}
+use Rattle.desk.proofs.Calls.{Owned}
 use Rattle.text_protocol.specs.declared.Performed.{Performed}
 use Rattle.text_protocol.proofs.Performed as F
 use Rattle.text_call.specs.declared.Request.{Request}

@@ -25,7 +25,8 @@ use denote.Triple.Spec.{tripleOf}
 use denote.Triple.Walked.{says}
 use Rattle.paper.specs.declared.Record.{Record}
 use Rattle.desk.proofs.Row.{R}
-use Rattle.desk.proofs.Calls.{ref, machine, Owned}
+use Rattle.desk.proofs.Lending.{ref, machine}
+use Rattle.desk.proofs.Calls.{Owned}
 use Rattle.text_input.specs.Input.{Stands}
 use Rattle.text_turn.specs.declared.State.{State}
 use Rattle.text_turn.proofs.State as G

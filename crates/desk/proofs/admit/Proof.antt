@@ -51,7 +51,8 @@ use Rattle.record_calls.proofs.Slot.Laws as U′
 use Rattle.record_calls.proofs.Effect as O
 use Rattle.desk.proofs.Row.{R, table-ty, S, makes-slot, turn-ty, turn-val, turn-is, typed-turn, answer-val, makes-answer}
 use Rattle.desk.proofs.Frame.{Addresses, of-types, env-of, spare, frame, enters, value as local′, field as field′}
-use Rattle.desk.proofs.Calls.{Take, Put, ℓt, Lending, rref, wref, ref, machine, Owned, taking, putting-turn, answering, takes, turned, puts-turn, answers}
+use Rattle.desk.proofs.Lending.{ℓt, Lending, rref, wref, ref, machine}
+use Rattle.desk.proofs.Calls.{Take, Put, Owned, taking, putting-turn, answering, takes, turned, puts-turn, answers}
 use Rattle.desk.proofs.Known.{take-known, put-known}
 use Rattle.desk.proofs.Asks.{Callee, consults}
 use Rattle.desk.proofs.Steps.{admit-steps, promised}

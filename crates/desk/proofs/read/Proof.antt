@@ -45,7 +45,8 @@ use Rattle.record_calls.specs.declared.Slot.{Slot}
 use Rattle.record_calls.specs.Effects.{slotOf, readAnswer}
 use Rattle.desk.proofs.Row.{R, shared-ty, word, S, makes-slot, typed-slot, makes-answer, typed-answer}
 use Rattle.desk.proofs.Frame.{Addresses, of-types, env-of, frame, enters, value, leaves}
-use Rattle.desk.proofs.Calls.{Take, ℓt, ref, machine}
+use Rattle.desk.proofs.Lending.{ℓt, ref, machine}
+use Rattle.desk.proofs.Calls.{Take}
 use Rattle.desk.proofs.Known.{take-known}
 use Rattle.desk.proofs.Asks.{Callee, calls, says as learned, consults}
 use Rattle.desk.proofs.Steps.{read-answers}

@@ -64,13 +64,14 @@ use Rattle.text_call.proofs.Request.Laws as B′
 use Rattle.desk.specs.Promises.{Promised}
 use Rattle.desk.proofs.Row.{R, table-ty, makes-answer, typed-answer}
 use Rattle.desk.proofs.Frame.{Addresses, of-types, env-of, Locals, held, holding, Within, spare, frame, enters, value as local′, field as field′, sets, leaves-within}
-use Rattle.desk.proofs.Calls.{ℓt, Lending, rref, wref, ref, machine, Owned, lent, Lends, Lent as Shared, lent-out, taken-back}
+use Rattle.desk.proofs.Lending.{ℓt, Lending, rref, wref, ref, machine, lent, Lends, lends}
+use Rattle.desk.proofs.Calls.{Owned, Lent as Shared, lent-out, taken-back}
 use Rattle.desk.proofs.Asks.{Callee, calls, consults, says as learned}
 use Rattle.desk_reasons.proofs.why_asked as why
 use Rattle.desk_reasons.proofs.why_asked.Symbol as why-def
 use Rattle.desk_reasons.proofs.why_asked.Met as why-thm
 use Rattle.text_perform.proofs.Requests.{request-ty}
-use Rattle.text_perform.proofs.Hands.{handing, lends, hands}
+use Rattle.text_perform.proofs.Hands.{handing, hands}
 use Rattle.text_perform.proofs.perform as perform
 use Rattle.text_perform.proofs.perform.Symbol as perform-def
 use Rattle.text_perform.proofs.perform.Met as perform-thm
@@ -356,7 +357,7 @@ module _ {M : Type 1} (𝓤 : URA M) (H : Heap 𝓤) (A : Atoms 𝓤) (W : Given
             → Sq W (frame H En (once-told w) ∷ Had) (runs C Λ En rest p))
             → Sq W (frame H En at-first ∷ Had) (runs C Λ En (code-why rest) p)
         let-why k =
-            lends 𝓤 H A γ ys W b o room ℓt for-why (refl, refl, tt, tt, tt, tt, tt) $
+            lends 𝓤 H A W b o ys room ℓt for-why (refl, refl, tt, tt, tt, tt, tt) $
             -- [the frame; t and its token; the rows' token; the rows]
             move ! (3 ∷ []) $
             use1 W (‵ Rows ⊛ ‵ Rows) (shr-slice-copy 𝓤 H A W (named 1) κ₂ i64 .twice rows (mrows ∷ [])) $ split ! $

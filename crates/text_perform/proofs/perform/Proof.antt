@@ -59,7 +59,7 @@ use Rattle.text_call.proofs.Request.Laws as B′
 use Rattle.desk.specs.Promises.{Promised}
 use Rattle.desk.proofs.Row.{R, table-ty, makes-answer}
 use Rattle.desk.proofs.Frame.{Addresses, of-types, env-of, Locals, held, spare, frame, enters, value as local′, field as field′, sets, leaves-within}
-use Rattle.desk.proofs.Calls.{ℓt, Lending, rref, wref, ref, machine}
+use Rattle.desk.proofs.Lending.{ℓt, Lending, rref, wref, ref, machine}
 use Rattle.desk.proofs.admit.Symbol as admit-def
 use Rattle.desk.proofs.admit.Met as admit-thm
 use Rattle.desk.proofs.quote.Symbol as quote-def

@@ -51,7 +51,8 @@ use Rattle.paper.specs.declared.Record.{Record}
 use Rattle.paper.proofs.Record as S
 use Rattle.paper.proofs.Record.Laws as T′
 use Rattle.desk.proofs.Row.{R, vals, tells, makes, env-of, after}
-use Rattle.desk.proofs.Calls.{wref, ref, machine, Owned}
+use Rattle.desk.proofs.Lending.{wref, ref, machine}
+use Rattle.desk.proofs.Calls.{Owned}
 use Rattle.text_perform.proofs.Gives.{gives-up, freed}
 use Rattle.text_turn.specs.declared.State.{State}
 use Rattle.text_turn.proofs.State as G

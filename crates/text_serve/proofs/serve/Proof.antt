@@ -54,7 +54,8 @@ use denote.Exit.{yes}
 use denote.Triple.Walked.{says, Stays, stay-slice, stay-none, walkOf, goes-slice, goes-none, Walks, ends-at, walked, walk-meets}
 use Rattle.paper.specs.declared.Record.{Record}
 use Rattle.desk.proofs.Row.{R, env-of, after}
-use Rattle.desk.proofs.Calls.{wref, ref, machine, Owned}
+use Rattle.desk.proofs.Lending.{wref, ref, machine}
+use Rattle.desk.proofs.Calls.{Owned}
 use Rattle.desk.proofs.Asks.{asks}
 use Rattle.io.proofs.large_buffer as buffer
 use Rattle.io.proofs.large_buffer.Symbol as buffer-def

@@ -45,7 +45,8 @@ use denote.Triple.Walked.{says, needs, Stays, gave-slice, gave-ref, stay-none, w
 use denote.Exit.{yes}
 use Rattle.paper.specs.declared.Record.{Record}
 use Rattle.desk.proofs.Row.{R, env-of, after}
-use Rattle.desk.proofs.Calls.{wref, ref, machine, Owned}
+use Rattle.desk.proofs.Lending.{wref, ref, machine}
+use Rattle.desk.proofs.Calls.{Owned}
 use Rattle.text_protocol.specs.declared.Performed.{Performed}
 use Rattle.text_protocol.proofs.Performed as F
 use Rattle.text_protocol.proofs.Performed.Laws as F′
