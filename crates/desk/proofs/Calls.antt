@@ -1,6 +1,7 @@
 -- The statements that the calls of the desk are made of, as steps of a walk, for any caller whose locals are a frame:
 --     lent-out     t is lent as `&` for a lifetime made for a call.        taken-back     it comes back as it was
 --     takes        let d = take(t, x);     t is lent as `&` and comes back
+--     takes-shared     the same of a caller that has t as `&`
 --     puts         put(t, x, y);           t is given up to `put`, and the caller has what says t's last list
 --     puts-turn    put(t, o.at, o.rec);
 --     turned       after let o = rule(…);  the fields of the turn can be read
@@ -13,7 +14,9 @@
 -- 1. Prove its rule in `record_calls`: `fn rule(s: Slot, q: Q) -> Effect` ensures that the turn is `seventhTurn s q`.
 --    Add `seventh-steps` to `Steps`: what the turn stores and answers is the paper's step, by `judged-done`, in a line.
 -- 2. Where the code is `let s = take(t, id); let o = rule(s, q); put(t, o.at, o.rec); o.answer`, no walk is to be
---    written: copy quote/Proof.antt, or evaluate/Proof.antt where rows are lent beside the table, and change the names.
+--    written, `Turn` has it: copy quote/Proof.antt, or evaluate/Proof.antt where rows are lent beside the table, and
+--    change the names. A call of the id alone takes `no-more` where `Shape` takes `and-plain P L no-more`; its file
+--    is `Shape` with one parameter less. A call that leaves the table is a case of `Telling`: copy read/Proof.antt.
 -- 3. Where the code has another statement, copy admit/Proof.antt, which has one, and change, in this order:
 --    - ℓ…, for-…: the numbers of the locals. `rt mir desk` has them in order: the result, the parameters, each `let`,
 --      and the compiler's own, which are a pair for each call that t is lent to, and the `()` of `put`.
@@ -49,7 +52,7 @@ use prog.Wp.{Heap, Env, Calls, Loops, spotOf}
 use ghost.Atoms.{Atoms, sem}
 use contract.Monad.{Fun, fact}
 use sound.WpLaws.{FmC}
-use types.Kit.{Given, Go, Item, ‵, raw, _⊛_, some as some′, later, Post, Goal, Soaks, ⋆, runs, atRet, Sq, Step, step, _$_, _∵_, !, qed, by, move, drop, use1, split, join, pick, rewrite, fsplit, fjoin, feqI, frame as framed, await, done}
+use types.Kit.{Given, Go, Item, ‵, raw, _⊛_, some as some′, later, Post, Goal, Soaks, ⋆, runs, atRet, Sq, Step, step, _$_, _∵_, !, qed, by, move, keep, drop, use1, split, join, pick, rewrite, fsplit, fjoin, feqI, frame as framed, await, done}
 use types.Run.{Opd, stop, from, of-opd, and-then, no-more, assigns}
 use types.Tokens.{lft-new, lft-end, lent-back}
 use types.Share.{arr-parts}
@@ -58,7 +61,7 @@ use denote.Memory.{shares}
 use denote.Laws.{Is}
 use denote.Plain.{uint-makes, nothing-lawful}
 use denote.Builtin.{usize, u64}
-use denote.Slice.{MutSlice, ShrSlice, Room, finally, heres, codedHoleys, at-slice}
+use denote.Slice.{MutSlice, ShrSlice, Room, shr-slice-copy, finally, heres, codedHoleys, at-slice}
 use denote.Lend.{Held, lends-shr-slice}
 use denote.Index.{opens-slice, closes-slice}
 use denote.Steps.{owned, heard, nothing}
@@ -74,9 +77,9 @@ use Rattle.record_calls.proofs.Slot.Laws as U′
 use Rattle.record_calls.proofs.Effect as O
 use Rattle.paper.proofs.Answer.Laws as N′
 use Rattle.desk.proofs.Row.{R, val, makes, S, typed-slot, turn-ty, turn-val, turn-is, turn-tells, answer-val, typed-answer}
-use Rattle.desk.proofs.Frame.{Locals, held, holding, Within, Apart, held-own, held-other, frame, value, field as field′, behind, sets, clears, leaves}
+use Rattle.desk.proofs.Frame.{Locals, held, holding, Within, held-own, frame, value, field as field′, sets, clears, leaves}
 use Rattle.desk.proofs.Lending.{Lending, ref, machine, lending, lent, Lends, lends}
-use Rattle.desk.proofs.Asks.{calls, says}
+use Rattle.desk.proofs.Asks.{calls, says, consults-lent}
 use Rattle.desk.proofs.take as take
 use Rattle.desk.proofs.take.Symbol.{name as #take}
 use Rattle.desk.proofs.put as put
@@ -127,17 +130,17 @@ returned cs m d b o ys v = holding (holding (holding (lent cs m b o ys) d (some 
 module _ {M : Type 1} (𝓤 : URA M) (H : Heap 𝓤) (A : Atoms 𝓤) (W : Given 𝓤 H A) (mem : Memory → SProp 𝓤)
     (run : Routine → Fun 𝓤) (κ : Lft) (q : Share) (b o : ℕ) (γ : GName) (ys : List Record)
     (room : Room R (length ys)) where
-  abbrev to-take : ℕ → Lft → GName → Bound 𝓤 H A take.signature
-  to-take id κ′ γ′ =
-      ((κ′, tt), (fullShare, tt), tt, (ref b o γ′ ys, (id, tt)), (machine b o ys ∷ [], (vint w64 id ∷ [], tt)))
+  abbrev to-take : ℕ → Lft → Share → GName → Bound 𝓤 H A take.signature
+  to-take id κ′ q′ γ′ =
+      ((κ′, tt), (q′, tt), tt, (ref b o γ′ ys, (id, tt)), (machine b o ys ∷ [], (vint w64 id ∷ [], tt)))
 
   abbrev pub Lent : Lft → GName → Fml
   Lent κ′ γ′ = ShrSlice (named 0) κ′ R .own (ref b o γ′ ys) (machine b o ys ∷ [])
 
-  goes-take : (id : ℕ) → id < 2 ^ 64 → (κ′ : Lft) (γ′ : GName)
-      → ent 𝓤 (sep 𝓤 (A .lft κ′ fullShare) (sem 𝓤 H A (Lent κ′ γ′))) (Take 𝓤 H A mem run .pre (to-take id κ′ γ′, tt))
-  goes-take id gd κ′ γ′ =
-      qed W (‵ (flft κ′ fullShare) ∷ ‵ (Lent κ′ γ′) ∷ []) ∵ nothing ! $ move ! (1 ∷ 0 ∷ []) $ join ! $ nothing ! $
+  goes-take : (id : ℕ) → id < 2 ^ 64 → (κ′ : Lft) (q′ : Share) (γ′ : GName)
+      → ent 𝓤 (sep 𝓤 (A .lft κ′ q′) (sem 𝓤 H A (Lent κ′ γ′))) (Take 𝓤 H A mem run .pre (to-take id κ′ q′ γ′, tt))
+  goes-take id gd κ′ q′ γ′ =
+      qed W (‵ (flft κ′ q′) ∷ ‵ (Lent κ′ γ′) ∷ []) ∵ nothing ! $ move ! (1 ∷ 0 ∷ []) $ join ! $ nothing ! $
       owned ! u64 (Is u64) (uint-makes 𝓤 H A W w64) id _ (refl, gd) $ fjoin ! $ move ! (2 ∷ 0 ∷ []) $ fjoin ! $
       move ! (1 ∷ 0 ∷ []) $ join ! $ framed ! $ done !
 
@@ -196,17 +199,41 @@ module _ {M : Type 1} (𝓤 : URA M) (H : Heap 𝓤) (A : Atoms 𝓤) (W : Given
     takes fm known t m d l in-d is-slot id gd os k =
         lends 𝓤 H A W b o ys room t m l $ move ! (1 ∷ 2 ∷ []) $ lent-out tt (λ α γ′. move ! (0 ∷ 2 ∷ []) $
         -- [the new token and the `&`; the frame; what is kept; …]
-        calls 𝓤 H A W take.ended (take.clauses 𝓤 H A mem run) (to-take id (α ∷ []) γ′) tt fm known
-        (‵ (flft (α ∷ []) fullShare) ⊛ ‵ (Lent (α ∷ []) γ′)) (goes-take id gd (α ∷ []) γ′)
+        calls 𝓤 H A W take.ended (take.clauses 𝓤 H A mem run) (to-take id (α ∷ []) fullShare γ′) tt fm known
+        (‵ (flft (α ∷ []) fullShare) ⊛ ‵ (Lent (α ∷ []) γ′)) (goes-take id gd (α ∷ []) fullShare γ′)
         (λ s v is. subst (λ (τ : Ty). T (hasTy τ v) × WT v) (sym is-slot) (typed-slot 𝓤 H A W s v is)) in-d
         (and-then ! (value ! (m .1) (slice-in E cs m (l .4))) (and-then ! (os _) (no-more !)))
         (λ s v is. use1 W (raw (fact 𝓤 (s ≡ slotOf ys id))) (says 𝓤 H A W take.ended (take.clauses 𝓤 H A mem run)
-        (to-take id (α ∷ []) γ′) tt s (s ≡ slotOf ys id) (λ e. id⊢ 𝓤 (fact 𝓤 (s ≡ slotOf ys id)))) $
+        (to-take id (α ∷ []) fullShare γ′) tt s (s ≡ slotOf ys id) (λ e. id⊢ 𝓤 (fact 𝓤 (s ≡ slotOf ys id)))) $
         heard ! (s ≡ slotOf ys id) (λ e. use1 W (‵ (flft (α ∷ []) fullShare) ⊛ ‵ ftrue)
         (id⊢ 𝓤 (sep 𝓤 (A .lft (α ∷ []) fullShare) (emp 𝓤))) $ split ! $
         -- [the new token; true; the frame; what is kept; …]
         move ! (0 ∷ 3 ∷ []) $ taken-back tt $ move ! (2 ∷ []) $ drop ! $ move ! (2 ∷ []) $ clears ! (m .0) (l .3) $
         clears ! (m .1) (l .4) $ k v (subst (λ (z : Slot). Is S z (v ∷ [])) e is))))
+
+    -- let d = take(t, x); of a caller that has t as `&`, and passes it on
+    pub takes-shared : FmC 𝓤 H (W .laws) C → Triple 𝓤 (C #take) (Take 𝓤 H A mem run) → (t d : ℕ)
+        → held E cs t ≡ some (machine b o ys) → Within E d → spotOf 𝓤 H E d .0 ≡ U′.mir → {x : Operand} (id : ℕ)
+        → id < 2 ^ 64 → ((Δ : List (Item 𝓤)) → Opd (Go {0}) W (frame H E cs ∷ Δ) E x (vint w64 id))
+        → ((v : Val) → Is S (slotOf ys id) (v ∷ [])
+        → Sq W (frame H E (holding cs d (some v)) ∷ ‵ (Lent κ γ) ∷ ‵ (flft κ q) ∷ Γ) (runs C Λ E rest post))
+        → Sq W (frame H E cs ∷ ‵ (Lent κ γ) ∷ ‵ (flft κ q) ∷ Γ)
+        (runs C Λ E (seq (call #take (copy (place t []) ∷ x ∷ []) (place d [])) rest) post)
+    takes-shared fm known t d holds in-d is-slot id gd os k =
+        nothing ! $ move ! (3 ∷ 0 ∷ []) $ join ! $ use1 W Tokens (id⊢ 𝓤 (sep 𝓤 (A .lft κ q) (emp 𝓤))) $
+        -- [the token; the frame; what t owns; …]
+        move ! (1 ∷ []) $ consults-lent 𝓤 H A W take.ended (take.clauses 𝓤 H A mem run) (to-take id κ q γ) tt fm known
+        (Lent κ γ) (shr-slice-copy 𝓤 H A W (named 0) κ R .twice (ref b o γ ys) (machine b o ys ∷ []))
+        (qed W ((‵ (flft κ q) ⊛ ‵ ftrue) ∷ ‵ (Lent κ γ) ∷ []) ∵ split ! $ keep ! (0 ∷ 2 ∷ []) $
+        by ! (goes-take id gd κ q γ)) (slotOf ys id) (λ s e. id⊢ 𝓤 _)
+        (λ s v is. subst (λ (τ : Ty). T (hasTy τ v) × WT v) (sym is-slot) (typed-slot 𝓤 H A W s v is)) in-d
+        (and-then ! (value ! t holds) (and-then ! (os _) (no-more !)))
+        (λ v is. move ! (1 ∷ []) $ use1 W (‵ (flft κ q) ⊛ ‵ ftrue) (id⊢ 𝓤 (sep 𝓤 (A .lft κ q) (emp 𝓤))) $ split ! $
+        -- [the token; true; the frame; what t owns; …]
+        move ! (1 ∷ []) $ drop ! $ move ! (1 ∷ 2 ∷ []) $ k v is)
+      where
+        Tokens : Item 𝓤
+        Tokens = raw (sep 𝓤 (A .lft κ q) (emp 𝓤))
 
     -- put(t, x, y);
     pub puts : FmC 𝓤 H (W .laws) C → Triple 𝓤 (C #put) (Put 𝓤 H A mem run) → (t : ℕ) (m : Lending) (d : ℕ)

@@ -7,6 +7,11 @@ pub mod Lending
 pub mod Asks
 pub mod Calls
 pub mod Known
+pub mod Plain
+pub mod Meeting
+pub mod Passing
+pub mod Turn
+pub mod Telling
 pub mod Shape
 pub mod ShapeWithRows
 pub mod Determined

@@ -55,7 +55,7 @@ use Rattle.desk.proofs.Frame.{Locals, holding, Within, frame}
 use Rattle.desk.proofs.Lending.{Lending, ref, machine, lent, Lends, lends}
 use Rattle.desk.proofs.Calls.{Owned, Kept}
 use Rattle.desk.proofs.Asks.{Callee, calls, says}
-use Rattle.desk.proofs.Shape.{Plain, PlainLaws, row}
+use Rattle.desk.proofs.Plain.{Plain, PlainLaws, row}
 use Rattle.desk.proofs.Shape as Shape
 use Rattle.desk.proofs.ShapeWithRows as ShapeWithRows
 use Rattle.desk.proofs.Steps.{read-leaves}
@@ -66,12 +66,13 @@ use Rattle.desk.proofs.read.Symbol.{name as #read}
 use Rattle.text_perform.proofs.Hands.{handing, hands}
 
 -- the contracts of the calls: of an id and a plain value, with rows or without, of an admission, and of an id
-abbrev pub Ask : (P : Plain) (K : ℕ → P .D → Call) {M : Type 1} (𝓤 : URA M) (H : Heap 𝓤) (A : Atoms 𝓤) → Contract 𝓤
-Ask P K 𝓤 H A = Callee 𝓤 H A (Shape.ended P) (Shape.clauses P K 𝓤)
-
-abbrev pub AskRows : (P : Plain) (K : ℕ → P .D → List ℤ → Call) {M : Type 1} (𝓤 : URA M) (H : Heap 𝓤) (A : Atoms 𝓤)
+abbrev pub Ask : (P : Plain) (L : PlainLaws P) (K : ℕ → P .D → Call) {M : Type 1} (𝓤 : URA M) (H : Heap 𝓤) (A : Atoms 𝓤)
     → Contract 𝓤
-AskRows P K 𝓤 H A = Callee 𝓤 H A (ShapeWithRows.ended P) (ShapeWithRows.clauses P K 𝓤)
+Ask P L K 𝓤 H A = Callee 𝓤 H A (Shape.ended P L) (Shape.clauses P L K 𝓤)
+
+abbrev pub AskRows : (P : Plain) (L : PlainLaws P) (K : ℕ → P .D → List ℤ → Call) {M : Type 1} (𝓤 : URA M) (H : Heap 𝓤)
+    (A : Atoms 𝓤) → Contract 𝓤
+AskRows P L K 𝓤 H A = Callee 𝓤 H A (ShapeWithRows.ended P L) (ShapeWithRows.clauses P L K 𝓤)
 
 module _ {M : Type 1} (𝓤 : URA M) (H : Heap 𝓤) (A : Atoms 𝓤) (mem : Memory → SProp 𝓤) (run : Routine → Fun 𝓤) where
   abbrev pub Admit : Contract 𝓤
@@ -95,14 +96,14 @@ module _ {M : Type 1} (𝓤 : URA M) (H : Heap 𝓤) (A : Atoms 𝓤) (W : Given
 
   -- ---- what each call is passed, and that the caller has it
 
-  abbrev to-ask : (P : Plain) → ℕ → P .D → Val → Bound 𝓤 H A (Shape.ended P .signature)
-  to-ask P id d v =
+  abbrev to-ask : (P : Plain) (L : PlainLaws P) → ℕ → P .D → Val → Bound 𝓤 H A (Shape.ended P L .signature)
+  to-ask P L id d v =
       ((κ, tt), (q, tt), tt, (ref b o γ ys, (id, (d, tt))), (machine b o ys ∷ [], (vint w64 id ∷ [], (v ∷ [], tt))))
 
-  goes-ask : (P : Plain) (K : ℕ → P .D → Call) → PlainLaws P → (id : ℕ) (d : P .D) (v : Val) → id < 2 ^ 64
-      → Is (row P) d (v ∷ []) → ent 𝓤 (sep 𝓤 (sem 𝓤 H A (Owned κ b o γ ys)) (A .lft κ q)) (Ask P K 𝓤 H A .pre
-      (to-ask P id d v, tt))
-  goes-ask P K L id d v gi is =
+  goes-ask : (P : Plain) (L : PlainLaws P) (K : ℕ → P .D → Call) → (id : ℕ) (d : P .D) (v : Val) → id < 2 ^ 64
+      → Is (row P) d (v ∷ []) → ent 𝓤 (sep 𝓤 (sem 𝓤 H A (Owned κ b o γ ys)) (A .lft κ q)) (Ask P L K 𝓤 H A .pre
+      (to-ask P L id d v, tt))
+  goes-ask P L K id d v gi is =
       qed W (‵ (Owned κ b o γ ys) ∷ ‵ (flft κ q) ∷ []) ∵ nothing ! $ move ! (2 ∷ 0 ∷ []) $ join ! $
       move ! (1 ∷ 0 ∷ []) $ nothing ! $ owned ! (row P) (Is (row P)) (L .makes 𝓤 H A W) d (v ∷ []) is $ fjoin ! $
       owned ! u64 (Is u64) (uint-makes 𝓤 H A W w64) id _ (refl, gi) $ fjoin ! $ move ! (1 ∷ 0 ∷ []) $ fjoin ! $
@@ -133,8 +134,9 @@ module _ {M : Type 1} (𝓤 : URA M) (H : Heap 𝓤) (A : Atoms 𝓤) (W : Given
     tokens-back : ent 𝓤 (sep 𝓤 (A .lft κ q) (sep 𝓤 (A .lft κ₂ q₂) (emp 𝓤))) (sep 𝓤 (A .lft κ q) (A .lft κ₂ q₂))
     tokens-back = monoR 𝓤 (A .lft κ q) (fst∗ 𝓤 (A .lft κ₂ q₂) (emp 𝓤))
 
-    abbrev to-ask-rows : (P : Plain) → ℕ → P .D → Val → Bound 𝓤 H A (ShapeWithRows.ended P .signature)
-    to-ask-rows P id d v = (
+    abbrev to-ask-rows : (P : Plain) (L : PlainLaws P) → ℕ → P .D → Val → Bound 𝓤 H A
+        (ShapeWithRows.ended P L .signature)
+    to-ask-rows P L id d v = (
       (κ, (κ₂, tt)),
       (q, (q₂, tt)),
       tt,
@@ -142,10 +144,10 @@ module _ {M : Type 1} (𝓤 : URA M) (H : Heap 𝓤) (A : Atoms 𝓤) (W : Given
       (machine b o ys ∷ [], (vint w64 id ∷ [], (v ∷ [], (mrows ∷ [], tt)))),
     )
 
-    goes-ask-rows : (P : Plain) (K : ℕ → P .D → List ℤ → Call) → PlainLaws P → (id : ℕ) (d : P .D) (v : Val)
+    goes-ask-rows : (P : Plain) (L : PlainLaws P) (K : ℕ → P .D → List ℤ → Call) → (id : ℕ) (d : P .D) (v : Val)
         → id < 2 ^ 64 → Is (row P) d (v ∷ []) → ent 𝓤 (sep 𝓤 (sep 𝓤 (sem 𝓤 H A (Owned κ b o γ ys)) (A .lft κ q))
-        (sep 𝓤 (sem 𝓤 H A Rows) (A .lft κ₂ q₂))) (AskRows P K 𝓤 H A .pre (to-ask-rows P id d v, tt))
-    goes-ask-rows P K L id d v gi is =
+        (sep 𝓤 (sem 𝓤 H A Rows) (A .lft κ₂ q₂))) (AskRows P L K 𝓤 H A .pre (to-ask-rows P L id d v, tt))
+    goes-ask-rows P L K id d v gi is =
         qed W (Ours ∷ (‵ Rows ⊛ ‵ (flft κ₂ q₂)) ∷ []) ∵ split ! $ move ! (2 ∷ []) $ split ! $
         -- [the rows; their token; t; its token]
         nothing ! $ move ! (2 ∷ 0 ∷ []) $ join ! $ move ! (3 ∷ 0 ∷ []) $ join ! $
@@ -190,28 +192,29 @@ module _ {M : Type 1} (𝓤 : URA M) (H : Heap 𝓤) (A : Atoms 𝓤) (W : Given
   module _ {Γ : List (Item 𝓤)} {E : Env 𝓤 H} {cs : Locals} {C : Calls 𝓤 H} {Λ : Loops 𝓤 H} {post : Post 𝓤 H}
       {xs : List Operand} {rest : Body} (fm : FmC 𝓤 H (W .laws) C) (t : ℕ) (m : Lending) (d : ℕ)
       (l : Lends 𝓤 H E cs t m b o ys) (in-d : Within E d) (is-answer : spotOf 𝓤 H E d .0 ≡ N′.mir) where
-    pub asks : (P : Plain) (K : ℕ → P .D → Call) → PlainLaws P → {#f : Name} → Triple 𝓤 (C #f) (Ask P K 𝓤 H A)
+    pub asks : (P : Plain) (L : PlainLaws P) (K : ℕ → P .D → Call) → {#f : Name} → Triple 𝓤 (C #f) (Ask P L K 𝓤 H A)
         → (id : ℕ) (x : P .D) (v : Val) → id < 2 ^ 64 → Is (row P) x (v ∷ [])
-        → Operands Γ E cs m (Ask P K 𝓤 H A .pre (to-ask P id x v, tt)) xs (machine b o ys ∷ vint w64 id ∷ v ∷ [])
+        → Operands Γ E cs m (Ask P L K 𝓤 H A .pre (to-ask P L id x v, tt)) xs (machine b o ys ∷ vint w64 id ∷ v ∷ [])
         → Answered Γ E cs m C Λ post d rest (K id x) Token
         → Sq W (frame H E cs ∷ Ours ∷ Γ) (runs C Λ E (handing t m d #f xs rest) post)
-    asks P K L known id x v gi is os k =
-        hands 𝓤 H A γ ys W b o room (Shape.ended P) (Shape.clauses P K 𝓤) (to-ask P id x v) tt Ours Token 2
-        (λ r zs. Promised (K id x) ys r zs) fm known (goes-ask P K L id x v gi is) token-back (λ r. id⊢ 𝓤 _) t m d l
+    asks P L K known id x v gi is os k =
+        hands 𝓤 H A γ ys W b o room (Shape.ended P L) (Shape.clauses P L K 𝓤) (to-ask P L id x v) tt Ours Token 2
+        (λ r zs. Promised (K id x) ys r zs) fm known (goes-ask P L K id x v gi is) token-back (λ r. id⊢ 𝓤 _) t m d l
         (stores _ is-answer) in-d os k
 
-    pub asks-rows : (κ₂ : Lft) (q₂ : Share) (rows : RefT (List ℤ)) (P : Plain) (K : ℕ → P .D → List ℤ → Call)
-        → PlainLaws P → {#f : Name} → Triple 𝓤 (C #f) (AskRows P K 𝓤 H A) → (id : ℕ) (x : P .D) (v : Val)
+    pub asks-rows : (κ₂ : Lft) (q₂ : Share) (rows : RefT (List ℤ)) (P : Plain) (L : PlainLaws P)
+        (K : ℕ → P .D → List ℤ → Call) → {#f : Name} → Triple 𝓤 (C #f) (AskRows P L K 𝓤 H A) → (id : ℕ) (x : P .D)
+        (v : Val)
         → id < 2 ^ 64 → Is (row P) x (v ∷ [])
-        → Operands Γ E cs m (AskRows P K 𝓤 H A .pre (to-ask-rows κ₂ q₂ rows P id x v, tt)) xs
+        → Operands Γ E cs m (AskRows P L K 𝓤 H A .pre (to-ask-rows κ₂ q₂ rows P L id x v, tt)) xs
         (machine b o ys ∷ vint w64 id ∷ v ∷ mrows κ₂ q₂ rows ∷ [])
         → Answered Γ E cs m C Λ post d rest (K id x (rows .now)) (Tokens κ₂ q₂ rows)
         → Sq W (frame H E cs ∷ (Ours ⊛ (‵ (Rows κ₂ q₂ rows) ⊛ ‵ (flft κ₂ q₂))) ∷ Γ)
         (runs C Λ E (handing t m d #f xs rest) post)
-    asks-rows κ₂ q₂ rows P K L known id x v gi is os k =
-        hands 𝓤 H A γ ys W b o room (ShapeWithRows.ended P) (ShapeWithRows.clauses P K 𝓤)
-        (to-ask-rows κ₂ q₂ rows P id x v) tt (Ours ⊛ (‵ (Rows κ₂ q₂ rows) ⊛ ‵ (flft κ₂ q₂))) (Tokens κ₂ q₂ rows) 3
-        (λ r zs. Promised (K id x (rows .now)) ys r zs) fm known (goes-ask-rows κ₂ q₂ rows P K L id x v gi is)
+    asks-rows κ₂ q₂ rows P L K known id x v gi is os k =
+        hands 𝓤 H A γ ys W b o room (ShapeWithRows.ended P L) (ShapeWithRows.clauses P L K 𝓤)
+        (to-ask-rows κ₂ q₂ rows P L id x v) tt (Ours ⊛ (‵ (Rows κ₂ q₂ rows) ⊛ ‵ (flft κ₂ q₂))) (Tokens κ₂ q₂ rows) 3
+        (λ r zs. Promised (K id x (rows .now)) ys r zs) fm known (goes-ask-rows κ₂ q₂ rows P L K id x v gi is)
         (tokens-back κ₂ q₂ rows) (λ r. id⊢ 𝓤 _) t m d l (stores _ is-answer) in-d os k
 
     module _ (mem : Memory → SProp 𝓤) (run : Routine → Fun 𝓤) where

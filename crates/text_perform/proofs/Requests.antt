@@ -1,5 +1,4 @@
--- A request's machine type, the plain values that the calls take, with their laws, and the call that each kind of
--- request is. Assumes nothing.
+-- A request's machine type, and the call that each kind of request is. Assumes nothing.
 use mathlib.Core.Path.{_≡_, refl, _∙_}
 use mathlib.Core.Bool.{Bool, true, false, not}
 use mathlib.Core.List.{List}
@@ -7,24 +6,17 @@ use Prim.Native.Nat.{ℕ}
 use lib.Dec.{T, eqb}
 use lib.IntN.{ℤ}
 use mir.Syntax.{Ty, w64, tyInt, tyStruct, tcons, tnil}
-use mir.Val.{vint}
-use denote.Builtin.{u64}
-use denote.Plain.{uint-tells, uint-lawful, uint-makes}
-use denote.Struct.Laws as LL
 use Rattle.paper.specs.declared.AskedDay.{AskedDay}
 use Rattle.paper.specs.Lists.{pick}
 use Rattle.paper.specs.Terms.{dayOf}
 use Rattle.paper.specs.Desk.{Call, admit, evaluate, quote, move, read}
 use Rattle.paper.proofs.Admission.Laws as X′
-use Rattle.paper.proofs.AskedDay as D
 use Rattle.paper.proofs.AskedDay.Laws as D′
-use Rattle.paper.proofs.Quote as Q
 use Rattle.paper.proofs.Quote.Laws as Q′
 use Rattle.text_protocol.specs.Names.{admitKind, evaluateKind, quoteKind, moveKind}
 use Rattle.text_call.specs.declared.Request.{Request}
 use Rattle.text_call.specs.Requests.{requestCall}
 use Rattle.text_call.proofs.Request as B
-use Rattle.desk.proofs.Shape.{Plain, PlainLaws, of-row}
 
 -- the machine type of a request, with the types of its fields by name
 abbrev pub request-ty : Ty
@@ -32,42 +24,9 @@ request-ty =
     tyStruct (B.struct .name) (tcons (tyInt w64) (tcons (tyInt w64)
     (tcons X′.mir (tcons D′.mir (tcons Q′.mir (tcons (tyInt w64) tnil))))))
 
-abbrev pub asked : Plain
-asked = of-row D.the-row D′.mir
-
-pub asked-laws : PlainLaws asked
-asked-laws = record {
-  val = LL.val D.the-type D′.the-laws;
-  tells = LL.tells D.the-type D′.the-laws;
-  lawful = λ 𝓤 H A W. LL.lawful D.the-type D′.the-laws 𝓤 H A W;
-  makes = λ 𝓤 H A W. LL.makes D.the-type D′.the-plain 𝓤 H A;
-}
-
 -- an evaluation of the day that is asked for
 abbrev pub evaluation : ℕ → AskedDay → List ℤ → Call
 evaluation id a rows = evaluate id (dayOf a) rows
-
-abbrev pub quoted : Plain
-quoted = of-row Q.the-row Q′.mir
-
-pub quoted-laws : PlainLaws quoted
-quoted-laws = record {
-  val = LL.val Q.the-type Q′.the-laws;
-  tells = LL.tells Q.the-type Q′.the-laws;
-  lawful = λ 𝓤 H A W. LL.lawful Q.the-type Q′.the-laws 𝓤 H A W;
-  makes = λ 𝓤 H A W. LL.makes Q.the-type Q′.the-plain 𝓤 H A;
-}
-
-abbrev pub numbered : Plain
-numbered = of-row u64 (tyInt w64)
-
-pub numbered-laws : PlainLaws numbered
-numbered-laws = record {
-  val = vint w64;
-  tells = uint-tells w64;
-  lawful = λ 𝓤 H A W. uint-lawful 𝓤 H A W w64;
-  makes = λ 𝓤 H A W. uint-makes 𝓤 H A W w64;
-}
 
 -- ---- the call that each kind of request is
 

@@ -2,14 +2,11 @@
 use contract.Running.{givenOf, tables, tablesOf}
 use denote.Triple.Spec.{tripleOf}
 use denote.Triple.Table.{entered, cited}
-use mir.Syntax.{w64, tyInt}
-use mir.Val.{vint}
-use denote.Builtin.{u64}
-use denote.Plain.{uint-tells, uint-lawful, uint-makes}
 use Rattle.paper.specs.Desk.{move}
 use Rattle.record_calls.specs.Effects.{moveEffect}
 use Rattle.desk.proofs.Known.{take-known, put-known}
-use Rattle.desk.proofs.Shape.{Plain, PlainLaws, of-row, Rule, meets}
+use Rattle.desk.proofs.Plain.{number, number-laws}
+use Rattle.desk.proofs.Shape.{Rule, meets}
 use Rattle.desk.proofs.Steps.{move-steps}
 use Rattle.record_calls.proofs.moved.Symbol as rule-def
 use Rattle.record_calls.proofs.moved.Met as rule-thm
@@ -18,25 +15,13 @@ use Rattle.desk.proofs.moved.Key as key
 use Rattle.desk.proofs.moved.Statement as stated
 use Rattle.desk.proofs.moved.Code as code
 
-abbrev P : Plain
-P = of-row u64 (tyInt w64)
-
-L : PlainLaws P
-L =
-    record {
-      val = vint w64;
-      tells = uint-tells w64;
-      lawful = λ 𝓤 H A W. uint-lawful 𝓤 H A W w64;
-      makes = λ 𝓤 H A W. uint-makes 𝓤 H A W w64;
-    }
-
 pub moved-spec : {M : Type 1} → stated.statement M
 unfolding code.routine tablesOf
 moved-spec 𝓤 H 𝓜 𝓖 𝓡 =
     entered 𝓤 H (tripleOf 𝓤 H (𝓖 .A) f.signature (f.spec 𝓤 H (𝓖 .A) (𝓜 .mem) (𝓡 .run))) (tables 𝓤 H 𝓜 𝓡 code.env .C)
     (tables 𝓤 H 𝓜 𝓡 code.env .Λ) key.name code.function (code.unfolded 𝓤 H 𝓜 𝓡)
-    (meets P L moveEffect move move-steps rule-def.name 𝓤 H (𝓖 .A) (givenOf 𝓤 H 𝓜 𝓖) (𝓜 .mem) (𝓡 .run)
+    (meets number number-laws moveEffect move move-steps rule-def.name 𝓤 H (𝓖 .A) (givenOf 𝓤 H 𝓜 𝓖) (𝓜 .mem) (𝓡 .run)
     (tablesOf 𝓤 H 𝓜 (tables 𝓤 H 𝓜 𝓡 code.env)) (take-known 𝓤 H 𝓜 𝓖 𝓡 code.env code.calls-desk·take)
-    (cited 𝓤 H (Rule P L moveEffect move move-steps rule-def.name 𝓤 H
+    (cited 𝓤 H (Rule number number-laws moveEffect move move-steps rule-def.name 𝓤 H
     (𝓖 .A)) 𝓜 𝓡 code.env rule-def.name rule-def.routine code.calls-record-calls·moved (rule-thm.met 𝓤 H 𝓜 𝓖 𝓡))
     (put-known 𝓤 H 𝓜 𝓖 𝓡 code.env code.calls-desk·put))

@@ -2,13 +2,11 @@
 use contract.Running.{givenOf, tables, tablesOf}
 use denote.Triple.Spec.{tripleOf}
 use denote.Triple.Table.{entered, cited}
-use denote.Struct.Laws as LL
-use Rattle.paper.proofs.Quote as Q
-use Rattle.paper.proofs.Quote.Laws as Q′
 use Rattle.paper.specs.Desk.{quote}
 use Rattle.record_calls.specs.Effects.{quoteEffect}
 use Rattle.desk.proofs.Known.{take-known, put-known}
-use Rattle.desk.proofs.Shape.{Plain, PlainLaws, of-row, Rule, meets}
+use Rattle.desk.proofs.Plain.{quoted, quoted-laws}
+use Rattle.desk.proofs.Shape.{Rule, meets}
 use Rattle.desk.proofs.Steps.{quote-steps}
 use Rattle.record_calls.proofs.quoted.Symbol as rule-def
 use Rattle.record_calls.proofs.quoted.Met as rule-thm
@@ -17,25 +15,13 @@ use Rattle.desk.proofs.quote.Key as key
 use Rattle.desk.proofs.quote.Statement as stated
 use Rattle.desk.proofs.quote.Code as code
 
-abbrev P : Plain
-P = of-row Q.the-row Q′.mir
-
-L : PlainLaws P
-L =
-    record {
-      val = LL.val Q.the-type Q′.the-laws;
-      tells = LL.tells Q.the-type Q′.the-laws;
-      lawful = λ 𝓤 H A W. LL.lawful Q.the-type Q′.the-laws 𝓤 H A W;
-      makes = λ 𝓤 H A W. LL.makes Q.the-type Q′.the-plain 𝓤 H A;
-    }
-
 pub quote-spec : {M : Type 1} → stated.statement M
 unfolding code.routine tablesOf
 quote-spec 𝓤 H 𝓜 𝓖 𝓡 =
     entered 𝓤 H (tripleOf 𝓤 H (𝓖 .A) f.signature (f.spec 𝓤 H (𝓖 .A) (𝓜 .mem) (𝓡 .run))) (tables 𝓤 H 𝓜 𝓡 code.env .C)
     (tables 𝓤 H 𝓜 𝓡 code.env .Λ) key.name code.function (code.unfolded 𝓤 H 𝓜 𝓡)
-    (meets P L quoteEffect quote quote-steps rule-def.name 𝓤 H (𝓖 .A) (givenOf 𝓤 H 𝓜 𝓖) (𝓜 .mem) (𝓡 .run)
+    (meets quoted quoted-laws quoteEffect quote quote-steps rule-def.name 𝓤 H (𝓖 .A) (givenOf 𝓤 H 𝓜 𝓖) (𝓜 .mem) (𝓡 .run)
     (tablesOf 𝓤 H 𝓜 (tables 𝓤 H 𝓜 𝓡 code.env)) (take-known 𝓤 H 𝓜 𝓖 𝓡 code.env code.calls-desk·take)
-    (cited 𝓤 H (Rule P L quoteEffect quote quote-steps rule-def.name 𝓤 H
+    (cited 𝓤 H (Rule quoted quoted-laws quoteEffect quote quote-steps rule-def.name 𝓤 H
     (𝓖 .A)) 𝓜 𝓡 code.env rule-def.name rule-def.routine code.calls-record-calls·quoted (rule-thm.met 𝓤 H 𝓜 𝓖 𝓡))
     (put-known 𝓤 H 𝓜 𝓖 𝓡 code.env code.calls-desk·put))
