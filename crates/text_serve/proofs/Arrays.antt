@@ -20,6 +20,8 @@ use denote.Builtin.{u8, i64}
 use denote.Ref.{RefT, MutRef}
 use denote.Steps.{only}
 use denote.Struct.Laws as LL
+use Rattle.text_protocol.specs.Line.{keptMost}
+use Rattle.text_protocol.specs.Bytes.{room as bufferRoom}
 use Rattle.text_protocol.proofs.Kept.Laws as K′
 use Rattle.text_call.proofs.Request.Laws as R′
 use Rattle.text_input.proofs.Input.Laws as I′
@@ -37,10 +39,10 @@ use Rattle.text_turn.proofs.Prepared.Laws as P′
 -- ---- the arrays
 
 abbrev pub Bytes : RattleType
-Bytes = Array u8 65536
+Bytes = Array u8 bufferRoom
 
 abbrev pub Numbers : RattleType
-Numbers = Array i64 126
+Numbers = Array i64 keptMost
 
 -- a reference to an array, as `&mut` and as `&`, whose lifetime no type names
 abbrev pub mref : RattleType → Ty

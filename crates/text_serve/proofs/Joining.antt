@@ -7,8 +7,9 @@ use mathlib.Core.List.{List, [], _∷_, _++_, append-assoc}
 use Prim.Native.Nat.{ℕ, _+_, _-_, _≤_, _<_}
 use native.Mathlib.Omega.{arith}
 use lib.ListN.{length, length-append}
+use Rattle.text_protocol.specs.Answers.{answerMost}
 use Rattle.paper.specs.declared.Record.{Record}
-use Rattle.text_protocol.specs.Bytes.{lineFeed, run}
+use Rattle.text_protocol.specs.Bytes.{lineFeed, run, room as bufferRoom}
 use Rattle.text_protocol.specs.Evening.{Evening, after, afterAll}
 use Rattle.text_input.specs.declared.Input.{Input}
 use Rattle.text_input.specs.Input.{lineLength, Unbroken, unread, Stands, Ends}
@@ -56,12 +57,12 @@ pub record Sofar (reasons : Bool) (t : List Record) (b : List ℕ) (s : State) (
   pub evening : eveningOf s t' ≡ afterAll lines (eveningOf (startState reasons) t)
   pub one-way : s .reasons ≡ reasons
   pub stands : Stands b (s .input)
-  pub room : s .waiting + 1200 ≤ 65536
+  pub room : s .waiting + answerMost ≤ bufferRoom
   pub last : s .input .left ≡ 0 → s .waiting ≡ 0
   pub are : Reached got lines b s
 
 -- at the start nothing is read
-pub none-yet : (reasons : Bool) (t : List Record) (b : List ℕ) → length b ≡ 65536
+pub none-yet : (reasons : Bool) (t : List Record) (b : List ℕ) → length b ≡ bufferRoom
     → Sofar reasons t b (startState reasons) t
 unfolding unread lineLength run Each afterAll joined
 none-yet reasons t b long =

@@ -23,6 +23,8 @@ use denote.Struct.Laws as LL
 use denote.Triple.Statement.{Contract}
 use denote.Triple.Spec.{tripleOf}
 use denote.Triple.Walked.{says}
+use Rattle.text_protocol.specs.Answers.{answerMost}
+use Rattle.text_protocol.specs.Bytes.{room as bufferRoom}
 use Rattle.paper.specs.declared.Record.{Record}
 use Rattle.desk.proofs.Row.{R}
 use Rattle.desk.proofs.Lending.{ref, machine}
@@ -60,7 +62,8 @@ module _ {M : Type 1} (𝓤 : URA M) (H : Heap 𝓤) (A : Atoms 𝓤) (mem′ : 
         α lo 0 γo os)
         ⊛ (‵ (flft α fullShare) ⊛ ‵ (flft β fullShare)))))
 
-    pub goes-one : IsState s → Stands bs (s .input) → s .waiting + 1200 ≤ 65536 → ent 𝓤 (mean 𝓤 H A Handed) (One .pre
+    pub goes-one : IsState s → Stands bs (s .input) → s .waiting + answerMost ≤ bufferRoom → ent 𝓤
+        (mean 𝓤 H A Handed) (One .pre
         to-one)
     goes-one held stands space =
         qed W (Handed ∷ []) ∵ split ! $ move ! (1 ∷ []) $ split ! $ move ! (1 ∷ []) $ split ! $ move ! (1 ∷ []) $ split

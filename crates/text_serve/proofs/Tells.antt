@@ -24,6 +24,8 @@ use denote.Triple.Statement.{Contract, Triple}
 use denote.Triple.Call.{calls-at}
 use denote.Triple.Spec.{tripleOf}
 use denote.Triple.Walked.{says}
+use Rattle.text_protocol.specs.Answers.{answerMost}
+use Rattle.text_protocol.specs.Bytes.{room as bufferRoom}
 use Rattle.text_protocol.specs.declared.Performed.{Performed}
 use Rattle.text_protocol.proofs.Performed as F
 use Rattle.text_protocol.proofs.Performed.Laws as F′
@@ -43,7 +45,7 @@ module _ {M : Type 1} (𝓤 : URA M) (H : Heap 𝓤) (A : Atoms 𝓤) (mem′ : 
 
   module _ (W : Given 𝓤 H A) (κ : Lft) (q : Share) (b o : ℕ) (γ : GName) (os : List ℕ) (p : Prepared) (held : IsHeard p)
       (a : Performed) (v : Val)
-      (ia : Is F.the-row a (v ∷ [])) (space : p .waiting + 1200 ≤ 65536) where
+      (ia : Is F.the-row a (v ∷ [])) (space : p .waiting + answerMost ≤ bufferRoom) where
     abbrev to-tell : Tell .Ghost
     to-tell = (
       ((κ, tt), (q, tt), tt, (to b o γ os, (p, (a, tt))), (vptr b o ∷ [], (heard-val p ∷ [], (v ∷ [], tt)))),

@@ -6,6 +6,7 @@ use Prim.Native.Nat.{ℕ, _≤_}
 use native.Mathlib.Omega.{arith}
 use lib.IntN.{ℤ}
 use lib.ListN.{take, drop}
+use Rattle.text_protocol.specs.Answers.{answerMost}
 use Rattle.paper.specs.declared.Record.{Record}
 use Rattle.paper.specs.Terms.{dayOf}
 use Rattle.paper.specs.Desk.{Call, read, step}
@@ -74,11 +75,11 @@ module _ {b : List ℕ} {s : State} {b' : List ℕ} {p : Prepared} {xs rows : Li
   text-is =
       ap (λ (n : ℕ). lineText (p .asked) (p .kind) n (p .beside) a) (heard .number) ∙ heard .says a t said
 
-  wrote : Wrote o (s .waiting) o' (told .end) (answer (s .reasons) (heard .line) (eveningOf s t)) 1200
+  wrote : Wrote o (s .waiting) o' (told .end) (answer (s .reasons) (heard .line) (eveningOf s t)) answerMost
   wrote =
-      subst (λ (n : ℕ). Wrote o n o' (told .end) (answer (s .reasons) (heard .line) (eveningOf s t)) 1200)
+      subst (λ (n : ℕ). Wrote o n o' (told .end) (answer (s .reasons) (heard .line) (eveningOf s t)) answerMost)
       (heard .waiting)
-      (subst (λ (u : List ℕ). Wrote o (p .waiting) o' (told .end) u 1200) text-is (told .wrote))
+      (subst (λ (u : List ℕ). Wrote o (p .waiting) o' (told .end) u answerMost) text-is (told .wrote))
 
   -- A LINE THAT IS HEARD, PERFORMED AND ANSWERED IS ONE TURN
   pub turned : Turns b s t o b' r t' o'

@@ -47,6 +47,7 @@ use denote.Triple.Call.{calls-at}
 use denote.Triple.Clauses.{ensured}
 use denote.Triple.Walked.{Stays, stay-none, onExit, walkOf, goes-none, Walks, ends-at, walked, walk-meets}
 use denote.Exit.{yes}
+use Rattle.paper.specs.Numbers.{slotsMost}
 use Rattle.paper.specs.declared.Record.{Record}
 use Rattle.paper.proofs.Record as S
 use Rattle.paper.proofs.Record.Laws as T′
@@ -73,7 +74,7 @@ use Rattle.text_serve.proofs.on.Code as code
 
 -- the table's type
 abbrev slots : ℕ
-slots = 512
+slots = slotsMost
 
 abbrev RN : RattleType
 RN = Array R slots

@@ -52,6 +52,8 @@ use denote.Triple.Table.{entered, cited}
 use denote.Triple.Clauses.{ensured, lasts}
 use denote.Exit.{yes}
 use denote.Triple.Walked.{says, Stays, stay-slice, stay-none, walkOf, goes-slice, goes-none, Walks, ends-at, walked, walk-meets}
+use Rattle.text_protocol.specs.Line.{keptMost}
+use Rattle.text_protocol.specs.Bytes.{room as bufferRoom}
 use Rattle.paper.specs.declared.Record.{Record}
 use Rattle.desk.proofs.Row.{R, env-of, after}
 use Rattle.desk.proofs.Lending.{wref, ref, machine}
@@ -92,10 +94,10 @@ abbrev slice : Ty
 slice = sliceTy (tyRef (named 0) mut (pointee (R .written)))
 
 abbrev bytes-ty : Ty
-bytes-ty = array-ty u8 65536
+bytes-ty = array-ty u8 bufferRoom
 
 abbrev numbers-ty : Ty
-numbers-ty = array-ty i64 126
+numbers-ty = array-ty i64 keptMost
 
 abbrev function : Fn
 function = record {
@@ -229,14 +231,14 @@ module _ {M : Type 1} (𝓤 : URA M) (H : Heap 𝓤) (A : Atoms 𝓤) (mem′ : 
   abbrev Buffers : List ℕ → SProp 𝓤
   Buffers = ensured 𝓤 H A buffer.ended (buffer.clauses 𝓤 H A mem′ run′) tt tt tt
 
-  buffers-of : (r : List ℕ) → ent 𝓤 (Buffers r) (fact 𝓤 (65536 ≡ length r))
-  buffers-of r = exE 𝓤 _ (λ ws. snd∗ 𝓤 (sem 𝓤 H A (lasts buffer.ended tt tt ws)) (fact 𝓤 (65536 ≡ length r)))
+  buffers-of : (r : List ℕ) → ent 𝓤 (Buffers r) (fact 𝓤 (bufferRoom ≡ length r))
+  buffers-of r = exE 𝓤 _ (λ ws. snd∗ 𝓤 (sem 𝓤 H A (lasts buffer.ended tt tt ws)) (fact 𝓤 (bufferRoom ≡ length r)))
 
   abbrev Numbered : List ℤ → SProp 𝓤
   Numbered = ensured 𝓤 H A numbers.ended (numbers.clauses 𝓤 H A mem′ run′) tt tt tt
 
-  numbered-of : (r : List ℤ) → ent 𝓤 (Numbered r) (fact 𝓤 (126 ≡ length r))
-  numbered-of r = exE 𝓤 _ (λ ws. snd∗ 𝓤 (sem 𝓤 H A (lasts numbers.ended tt tt ws)) (fact 𝓤 (126 ≡ length r)))
+  numbered-of : (r : List ℤ) → ent 𝓤 (Numbered r) (fact 𝓤 (keptMost ≡ length r))
+  numbered-of r = exE 𝓤 _ (λ ws. snd∗ 𝓤 (sem 𝓤 H A (lasts numbers.ended tt tt ws)) (fact 𝓤 (keptMost ≡ length r)))
 
 module _ {M : Type 1} (𝓤 : URA M) (H : Heap 𝓤) (A : Atoms 𝓤) (W : Given 𝓤 H A) (mem′ : Memory → SProp 𝓤) (run′ : Routine
     → Fun 𝓤) (κ : Lft) (q : Share)
@@ -279,7 +281,7 @@ module _ {M : Type 1} (𝓤 : URA M) (H : Heap 𝓤) (A : Atoms 𝓤) (W : Given
   Nearer-wf = InvImage·wf (λ (i : Stand reasons ys). i .state .input .left) (Nat·lt-wfRel .wf)
 
   -- where the loop stands at first
-  at-first : (bs : List ℕ) (xs : List ℤ) (os : List ℕ) (s : State) (w : Val) → 65536 ≡ length bs
+  at-first : (bs : List ℕ) (xs : List ℤ) (os : List ℕ) (s : State) (w : Val) → bufferRoom ≡ length bs
       → s ≡ startState reasons → Is G.the-row s (w ∷ []) → Stand reasons ys
   at-first bs xs os s w long e is =
       record {
@@ -343,9 +345,10 @@ module _ {M : Type 1} (𝓤 : URA M) (H : Heap 𝓤) (A : Atoms 𝓤) (W : Given
           (init ! turn-result refl (typed-state 𝓤 H A W s (state-val s) (i .held))) $
           returns ! (look ! turn-result refl) $ forget ! (turn-slot 6 ℓs) refl $ forget ! turn-reasons refl $
           forget ! turn-t refl $ forget ! turn-result refl $
-          back u8 65536 𝓤 H A W (uint-vals w8) (uint-tells w8) (i .bytes) l₃ (forget ! 0 refl $ move ! (1 ∷ []) $
-          back i64 126 𝓤 H A W (sint-vals w64) (sint-tells w64) (i .numbers) l₄ (forget ! 0 refl $ move ! (2 ∷ []) $
-          back u8 65536 𝓤 H A W (uint-vals w8) (uint-tells w8) (i .answers) l₅ (forget ! 0 refl $
+          back u8 bufferRoom 𝓤 H A W (uint-vals w8) (uint-tells w8) (i .bytes) l₃ (forget ! 0 refl $ move ! (1 ∷ []) $
+          back i64 keptMost 𝓤 H A W (sint-vals w64) (sint-tells w64) (i .numbers) l₄ (forget ! 0 refl $ move !
+          (2 ∷ []) $
+          back u8 bufferRoom 𝓤 H A W (uint-vals w8) (uint-tells w8) (i .answers) l₅ (forget ! 0 refl $
           -- [_5; _4; _3; obs; the borrow; the token; _14; …; _6; …; …; _2; …; _1; …; _0; …]
           keep ! (6 ∷ 7 ∷ 8 ∷ 9 ∷ 10 ∷ 11 ∷ 12 ∷ 13 ∷ 14 ∷ 15 ∷ 16 ∷ 17 ∷ 18 ∷ 19 ∷ 20 ∷ 21 ∷ 22 ∷ 23 ∷ 0 ∷ 24 ∷ 1 ∷ 25
           ∷ 2 ∷ 26 ∷ 27 ∷ 28 ∷ 29 ∷ 30
@@ -503,10 +506,10 @@ module _ {M : Type 1} (𝓤 : URA M) (H : Heap 𝓤) (A : Atoms 𝓤) (W : Given
     -- ---- the statements before the loop
 
     typed-bytes : (l : List ℕ) (u : Val) → Is Bytes l (u ∷ []) → T (hasTy bytes-ty u) × WT u
-    typed-bytes = typed-array u8 65536 𝓤 H A W (uint-lawful 𝓤 H A W w8)
+    typed-bytes = typed-array u8 bufferRoom 𝓤 H A W (uint-lawful 𝓤 H A W w8)
 
     typed-numbers : (l : List ℤ) (u : Val) → Is Numbers l (u ∷ []) → T (hasTy numbers-ty u) × WT u
-    typed-numbers = typed-array i64 126 𝓤 H A W (sint-lawful 𝓤 H A W w64)
+    typed-numbers = typed-array i64 keptMost 𝓤 H A W (sint-lawful 𝓤 H A W w64)
 
     goes-buffer : ent 𝓤 (emp 𝓤) (Buffer 𝓤 H A mem′ run′ .pre ((tt, tt, tt, tt, tt), tt))
     goes-buffer = qed W [] ∵ nothing ! $ nothing ! $ join ! $ frame ! $ done !
@@ -539,13 +542,13 @@ module _ {M : Type 1} (𝓤 : URA M) (H : Heap 𝓤) (A : Atoms 𝓤) (W : Given
       fm = fmOf 𝓤 H (W .laws) 𝓣
 
       -- let mut buf = io::large_buffer();
-      let-buf : ((bs : List ℕ) (w : Val) → 65536 ≡ length bs → Is Bytes bs (w ∷ [])
+      let-buf : ((bs : List ℕ) (w : Val) → bufferRoom ≡ length bs → Is Bytes bs (w ∷ [])
           → Sq W (In (w ∷ []) [] [] [] (w ∷ []) []) (Runs code-xs))
           → Sq W (In [] [] [] [] [] []) (Runs code-buf)
       let-buf k =
           asks 𝓤 H A W fm (Buffer 𝓤 H A mem′ run′) known-buffer ((tt, tt, tt, tt, tt), tt) goes-buffer Bytes
           (Buffers 𝓤 H A mem′ run′)
-          (λ w. id⊢ 𝓤 _) (λ r. 65536 ≡ length r) (buffers-of 𝓤 H A mem′ run′) (no-more !) (λ bs w long ib.
+          (λ w. id⊢ 𝓤 _) (λ r. bufferRoom ≡ length r) (buffers-of 𝓤 H A mem′ run′) (no-more !) (λ bs w long ib.
           land ! (from ! (stop !)) (init ! in-for-bytes refl (typed-bytes bs w ib)) $
           assigns ! (of-opd ! (load ! (from ! (stop !)) (look ! in-for-bytes refl))) (from ! (stop !))
           (init ! in-buf refl (typed-bytes bs w ib)) $ k bs w long ib)
@@ -556,7 +559,7 @@ module _ {M : Type 1} (𝓤 : URA M) (H : Heap 𝓤) (A : Atoms 𝓤) (W : Given
           → Sq W (In (w ∷ []) [] [] [] (w ∷ []) []) (Runs code-xs)
       let-xs w k =
           asks 𝓤 H A W fm (NoNumbers 𝓤 H A mem′ run′) known-numbers ((tt, tt, tt, tt, tt), tt) goes-numbers Numbers
-          (Numbered 𝓤 H A mem′ run′) (λ w. id⊢ 𝓤 _) (λ r. 126 ≡ length r) (numbered-of 𝓤 H A mem′ run′) (no-more !)
+          (Numbered 𝓤 H A mem′ run′) (λ w. id⊢ 𝓤 _) (λ r. keptMost ≡ length r) (numbered-of 𝓤 H A mem′ run′) (no-more !)
           (λ xs v _ ix.
           land ! (from ! (stop !)) (init ! in-for-numbers refl (typed-numbers xs v ix)) $
           assigns ! (of-opd ! (load ! (from ! (stop !)) (look ! in-for-numbers refl))) (from ! (stop !))
@@ -569,7 +572,7 @@ module _ {M : Type 1} (𝓤 : URA M) (H : Heap 𝓤) (A : Atoms 𝓤) (W : Given
       let-out w v k =
           asks 𝓤 H A W fm (Buffer 𝓤 H A mem′ run′) known-buffer ((tt, tt, tt, tt, tt), tt) goes-buffer Bytes
           (Buffers 𝓤 H A mem′ run′)
-          (λ w. id⊢ 𝓤 _) (λ r. 65536 ≡ length r) (buffers-of 𝓤 H A mem′ run′) (no-more !) (λ os u _ io.
+          (λ w. id⊢ 𝓤 _) (λ r. bufferRoom ≡ length r) (buffers-of 𝓤 H A mem′ run′) (no-more !) (λ os u _ io.
           land ! (from ! (stop !)) (store ! in-for-bytes refl (typed-bytes os u io)) $
           assigns ! (of-opd ! (load ! (from ! (stop !)) (look ! in-for-bytes refl))) (from ! (stop !))
           (init ! in-out refl (typed-bytes os u io)) $ k os u io)
@@ -588,19 +591,19 @@ module _ {M : Type 1} (𝓤 : URA M) (H : Heap 𝓤) (A : Atoms 𝓤) (W : Given
           forget ! in-for-numbers refl $ forget ! in-for-bytes refl $ k s z first-state is)
 
       -- while s.input.left > 0 { .. }, with the arrays in their locals as values in memory
-      loop : (bs : List ℕ) (w : Val) → 65536 ≡ length bs → Is Bytes bs (w ∷ []) → (xs : List ℤ) (v : Val)
+      loop : (bs : List ℕ) (w : Val) → bufferRoom ≡ length bs → Is Bytes bs (w ∷ []) → (xs : List ℤ) (v : Val)
           → Is Numbers xs (v ∷ []) → (os : List ℕ) (u : Val) → Is Bytes os (u ∷ []) → (s : State) (z : Val)
           → s ≡ startState reasons → Is G.the-row s (z ∷ [])
           → Sq W (In (w ∷ []) (v ∷ []) (u ∷ []) (state-val s ∷ []) [] []) (Runs code-loop)
       unfolding at-first
       loop bs w long ib xs v ix os u io s z first-state is =
           move ! (in-buf ∷ []) $
-          use1 W (‵ (mem Bytes .lies bs l₃ 0)) (apart u8 65536 𝓤 H A W (uint-makes 𝓤 H A W w8) bs w l₃ ib) $
+          use1 W (‵ (mem Bytes .lies bs l₃ 0)) (apart u8 bufferRoom 𝓤 H A W (uint-makes 𝓤 H A W w8) bs w l₃ ib) $
           -- [buf; the token; obs; the borrow; _14; …]: each local before buf stands one place further
           move ! (suc in-xs ∷ []) $
-          use1 W (‵ (mem Numbers .lies xs l₄ 0)) (apart i64 126 𝓤 H A W (sint-makes 𝓤 H A W w64) xs v l₄ ix) $
+          use1 W (‵ (mem Numbers .lies xs l₄ 0)) (apart i64 keptMost 𝓤 H A W (sint-makes 𝓤 H A W w64) xs v l₄ ix) $
           move ! (suc (suc in-out) ∷ []) $
-          use1 W (‵ (mem Bytes .lies os l₅ 0)) (apart u8 65536 𝓤 H A W (uint-makes 𝓤 H A W w8) os u l₅ io) $
+          use1 W (‵ (mem Bytes .lies os l₅ 0)) (apart u8 bufferRoom 𝓤 H A W (uint-makes 𝓤 H A W w8) os u l₅ io) $
           -- [out; xs; buf; the token; obs; the borrow; _14; …; _0; …]
           move ! (2 ∷ 1 ∷ 0 ∷ 4 ∷ 5 ∷ 3 ∷ []) $
           first ! $ blocks ! $ loops ! 𝓣 Nearer Nearer-wf At turns (at-first bs xs os s z long first-state is)

@@ -43,6 +43,8 @@ use denote.Triple.Spec.{Meets, tripleOf}
 use denote.Triple.Table.{entered, cited}
 use denote.Triple.Walked.{says, needs, Stays, gave-slice, gave-ref, stay-none, walkOf, goes-gave-slice, goes-gave-ref, goes-none, Walks, ends-at, walked, walk-meets}
 use denote.Exit.{yes}
+use Rattle.text_protocol.specs.Answers.{answerMost}
+use Rattle.text_protocol.specs.Bytes.{room as bufferRoom}
 use Rattle.paper.specs.declared.Record.{Record}
 use Rattle.desk.proofs.Row.{R, env-of, after}
 use Rattle.desk.proofs.Lending.{wref, ref, machine}
@@ -184,7 +186,7 @@ module _ {M : Type 1} (𝓤 : URA M) (H : Heap 𝓤) (A : Atoms 𝓤) (W : Given
     (q q₂ : Share) (b o : ℕ) (γ : GName) (ys : List Record) (bb ob : ℕ) (γb : GName) (bs : List ℕ) (bx ox : ℕ) (γx :
     GName) (xs : List ℤ)
     (bo oo : ℕ) (γo : GName) (os : List ℕ) (s : State) (room : Room R (length ys)) (gs : IsState s)
-    (asked : (Stands bs (s .input)) × (s .waiting + 1200 ≤ 65536)) where
+    (asked : (Stands bs (s .input)) × (s .waiting + answerMost ≤ bufferRoom)) where
   abbrev x : RefT (List Record) × (RefT (List ℕ) × (RefT (List ℤ) × (RefT (List ℕ) × (State × Unit {0}))))
   x = (ref b o γ ys, (to bb ob γb bs, (to bx ox γx xs, (to bo oo γo os, (s, tt)))))
 
@@ -283,7 +285,7 @@ module _ {M : Type 1} (𝓤 : URA M) (H : Heap 𝓤) (A : Atoms 𝓤) (W : Given
         ∷ 33 ∷ 34 ∷ 35 ∷ 0 ∷ 2 ∷ 3 ∷ 4 ∷ 5 ∷ 1 ∷ []) $
         freed 𝓤 H A W En (Last zs bs′ xs′ os′) (by ! (exits zs bs′ xs′ os′ r u l (turned heard are done′ told) ir)))
       where
-        space : p .waiting + 1200 ≤ 65536
+        space : p .waiting + answerMost ≤ bufferRoom
         space = omega (arith, heard .waiting, asked .1)
 
     -- the row figures in their local: what is known of them
@@ -459,7 +461,7 @@ module _ {M : Type 1} (𝓤 : URA M) (H : Heap 𝓤) (A : Atoms 𝓤) (W : Given
         ),
       ))
       (λ κs qs bounds a g are. needs 𝓤 ((Stands (a .1 .0 .now) (a .1 .1 .1 .1 .0 .input)) × (a .1 .1 .1 .1 .0 .waiting +
-      1200 ≤ 65536)) _ (λ asked.
+      answerMost ≤ bufferRoom)) _ (λ asked.
       walk 𝓤 H A W mem′ run (κs .0) (κs .1 .0) (qs .0) (qs .1 .0) (a .0 .ptr .0) (a .0 .ptr .1) (a .0 .name) (a .0 .now)
       (a .1 .0 .ptr .0) (a .1 .0 .ptr .1) (a .1 .0 .name) (a .1 .0 .now) (a .1 .1 .0 .ptr .0) (a .1 .1 .0 .ptr .1) (a .1
       .1 .0 .name) (a .1 .1 .0 .now)
