@@ -7,7 +7,7 @@ use paper::NearSeconds;
 use paper::ONE_IN_TEN_THOUSANDTHS;
 use paper::Side;
 ghost use mathlib.Core.Path.{_≡_};
-ghost use Rattle.paper.specs.Alerts.{isNear, nearAfter, alert, nearCleared};
+ghost use Rattle.paper_desk.specs.Alerts.{isNear, nearAfter, alert, nearCleared};
 ghost use Rattle.alerts.specs.Nearness.{NearRange, closer};
 
 // Whether to - from is strictly less than w·(PcH - PcL). A lent band may stand crossed, so that either difference may

@@ -10,9 +10,9 @@ use Rattle.paper.specs.declared.Term.{Term}
 use Rattle.paper.specs.Lists.{pick, allThree}
 use Rattle.paper.specs.Numbers.{rateMost, volatilityMost, ageMost, aheadMost, repoMost}
 use Rattle.paper.specs.Ranges.{validStatics, tentativeTop, validTentative, validTerm, termAt, rateAt}
-use Rattle.paper.specs.Rates.{tentativeRate, ratedBy, minimumOf, unmodelled, figuresByVolatility}
+use Rattle.paper_desk.specs.Rates.{tentativeRate, ratedBy, minimumOf, unmodelled, figuresByVolatility}
 use Rattle.paper.proofs.Logic.{and-left, and-right, each-of-three}
-use Rattle.paper.proofs.Level.{level-rate-is}
+use Rattle.paper_desk.proofs.Level.{level-rate-is}
 use Rattle.exact.specs.SignedLaws.{repo-le}
 use Rattle.rates.specs.Asked.{RateStatics, VolatilityRanges}
 use Rattle.rates.proofs.Statics.{valid-rates, top-within}

@@ -6,7 +6,7 @@ ghost use mathlib.Core.Bool.{true};
 ghost use Prim.Native.Nat.{_≤_};
 ghost use Rattle.paper.specs.Numbers.{rateMost};
 ghost use Rattle.paper.specs.Ranges.{validStatics};
-ghost use Rattle.paper.specs.Limits.{bond, inward, grownPrice, bondLimitOf, shifted, growing, monitored, narrowerOf, bandLimitFor};
+ghost use Rattle.paper_desk.specs.Limits.{bond, inward, grownPrice, bondLimitOf, shifted, growing, monitored, narrowerOf, bandLimitFor};
 ghost use Rattle.paper_bonds.specs.Bonds.{twentyLimit, limitsFrom, isCrossed};
 ghost use Rattle.bond_limits.specs.BondInputs.{ScaleRange, GrowthRange, PriceRange, SideRange, TermRange, grownMost, perCentOf};
 use paper::BondScale;

@@ -14,14 +14,14 @@ use Rattle.paper.specs.declared.Side.{Side}
 use Rattle.paper.specs.declared.Limits.{Limits}
 use Rattle.paper.specs.declared.Moves.{Moves}
 use Rattle.paper.specs.Ranges.{staticsOf, noLimits, termAt, rateAt}
-use Rattle.paper.specs.Limits.{bandOf, crossed}
+use Rattle.paper_desk.specs.Limits.{bandOf, crossed}
 use Rattle.paper.specs.Verdicts.{NoneApplies, none, also}
-use Rattle.paper.specs.Desk.{admitted, evaluated, quoted, moved, evaluateChecks}
-use Rattle.paper.specs.History.{Event, evaluatedOn, quotedAt, movedBy}
-use Rattle.paper.specs.Sequences.{carries, LastDay, noDay, onDay, lastEvaluated, movesOf, bandNow}
+use Rattle.paper_desk.specs.Desk.{admitted, evaluated, quoted, moved, evaluateChecks}
+use Rattle.paper_desk.specs.History.{Event, evaluatedOn, quotedAt, movedBy}
+use Rattle.paper_desk.specs.Sequences.{carries, LastDay, noDay, onDay, lastEvaluated, movesOf, bandNow}
 use Rattle.paper.proofs.Logic.{each-of-three, not-true, not-false}
-use Rattle.paper.proofs.LimitSizes.{LimitStatics, valid-limit-statics}
-use Rattle.paper.proofs.Bands.{moved-not-crossed}
+use Rattle.paper_desk.proofs.LimitSizes.{LimitStatics, valid-limit-statics}
+use Rattle.paper_desk.proofs.Bands.{moved-not-crossed}
 use Rattle.demands.proofs.Histories.{after, recordOf, eventChecks, Lawful}
 use Rattle.demands.proofs.Sequences.{three-at, one-more-noted, lawful-figures, lawful-statics}
 

@@ -15,14 +15,14 @@ use Rattle.paper.specs.declared.Day.{Day}
 use Rattle.paper.specs.Numbers.{millionthsInBp, priceMost}
 use Rattle.paper.specs.Ranges.{isPrice, isGridPrice, gridOf, staticsOf, sound, rateAt}
 use Rattle.paper.specs.declared.Figures.{Figures}
-use Rattle.paper.specs.Rates.{modelOf, moveOf, figuresOf, modelled, unmodelled, volatilityOf}
-use Rattle.paper.specs.History.{Event, evaluatedOn, quotedAt, movedBy, evaluations}
-use Rattle.paper.specs.Sequences.{Carries, carriesFirst, carriesNext, carries}
-use Rattle.paper.specs.Exact.{exactMove, exactSquare, NearExact}
+use Rattle.paper_desk.specs.Rates.{modelOf, moveOf, figuresOf, modelled, unmodelled, volatilityOf}
+use Rattle.paper_desk.specs.History.{Event, evaluatedOn, quotedAt, movedBy, evaluations}
+use Rattle.paper_desk.specs.Sequences.{Carries, carriesFirst, carriesNext, carries}
+use Rattle.paper_desk.specs.Exact.{exactMove, exactSquare, NearExact}
 use Rattle.demands.specs.Demands.{FiguresHold}
 use Rattle.paper.proofs.Logic.{and-left, pick-true}
-use Rattle.paper.proofs.Volatility.{valid-weighs, move-rounded}
-use Rattle.paper.proofs.CarriedOn.{CarriedOn, begun, once-more, carried-near}
+use Rattle.paper_desk.proofs.Volatility.{valid-weighs, move-rounded}
+use Rattle.paper_desk.proofs.CarriedOn.{CarriedOn, begun, once-more, carried-near}
 use Rattle.demands.proofs.Sound.{Parts, sound-has-parts}
 use Rattle.demands.proofs.Kept.{good-sound}
 use Rattle.demands.proofs.Histories.{recordOf, Lawful}

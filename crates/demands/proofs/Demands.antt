@@ -10,15 +10,15 @@ use Rattle.paper.specs.declared.Verdict.{Verdict}
 use Rattle.paper.specs.declared.Verdict.the-variants.{Done, NoSuchId, AlreadyAdmitted}
 use Rattle.paper.specs.Ranges.{sideOf, validAdmission}
 use Rattle.paper.specs.Verdicts.{numberOf, isDone, Check, firstOf, NoneApplies, Exactly}
-use Rattle.paper.specs.Desk.{Call, admit, evaluate, quote, move, read, idOf, Outcome, saying, showing, evaluated, moved, place, stands, found, known, checksOf, admitChecks, evaluateChecks, quoteChecks, moveChecks, readChecks, acceptedOf, step, run}
-use Rattle.paper.specs.History.{FreshTable, Event, unknown, since, historyOf, wasAdmitted, isAdmission}
+use Rattle.paper_desk.specs.Desk.{Call, admit, evaluate, quote, move, read, idOf, Outcome, saying, showing, evaluated, moved, place, stands, found, known, checksOf, admitChecks, evaluateChecks, quoteChecks, moveChecks, readChecks, acceptedOf, step, run}
+use Rattle.paper_desk.specs.History.{FreshTable, Event, unknown, since, historyOf, wasAdmitted, isAdmission}
 use Rattle.demands.specs.Demands.{answered, orderOf, Demand1, FiguresHold, answerThen, Demand2, Demand3, TableKept, BandsInOrder}
-use Rattle.paper.proofs.Slots.{found-stored, known-stands}
-use Rattle.paper.proofs.Refusals.{verdict-first, refused-step, accepted-step, refused-only, refused-always, accepted-only, accepted-always}
+use Rattle.paper_desk.proofs.Slots.{found-stored, known-stands}
+use Rattle.paper_desk.proofs.Refusals.{verdict-first, refused-step, accepted-step, refused-only, refused-always, accepted-only, accepted-always}
 use Rattle.demands.proofs.Kept.{run-sound, evaluate-knows, quote-knows, move-knows}
 use Rattle.demands.proofs.Histories.{recordOf, Lawful}
 use Rattle.demands.proofs.Known.{one-exactly-unknown, history-since, known-admitted, no-such-id, already-admitted, stays-known}
-use Rattle.paper.proofs.PinnedLaws.{bad-table-refused}
+use Rattle.paper_desk.proofs.PinnedLaws.{bad-table-refused}
 use Rattle.demands.proofs.Sequences.{quote-term, alerts-noted, lawful-figures, lawful-statics, rates-hold}
 use Rattle.demands.proofs.Bands.{lawful-uncrossed}
 use Rattle.demands.proofs.Carried.{lawful-near}

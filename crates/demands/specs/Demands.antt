@@ -16,15 +16,15 @@ use Rattle.paper.specs.declared.Verdict.{Verdict}
 use Rattle.paper.specs.declared.Verdict.the-variants.{Done, NoSuchId, AlreadyAdmitted}
 use Rattle.paper.specs.Lists.{pick}
 use Rattle.paper.specs.Ranges.{staticsOf, validAdmission, validSlots, sound, noLimits, notNear, termAt, rateAt}
-use Rattle.paper.specs.Rates.{minimumOf, AtLeastRequired, HeldLeast}
-use Rattle.paper.specs.Limits.{crossed}
-use Rattle.paper.specs.Alerts.{alert}
+use Rattle.paper_desk.specs.Rates.{minimumOf, AtLeastRequired, HeldLeast}
+use Rattle.paper_desk.specs.Limits.{crossed}
+use Rattle.paper_desk.specs.Alerts.{alert}
 use Rattle.paper.specs.Verdicts.{numberOf, isDone, Check, FirstAt, NoneApplies, Exactly}
-use Rattle.paper.specs.Desk.{Call, admit, evaluate, quote, move, read, idOf, saying, showing, alerting, found, known, checksOf, step, run}
-use Rattle.paper.specs.Kept.{everySlot}
-use Rattle.paper.specs.History.{FreshTable, Event, quotedAt, unknown, since, historyOf, wasAdmitted, isAdmission, evaluations}
-use Rattle.paper.specs.Sequences.{carries, onDay, lastEvaluated, movesOf, standingNow, termNow, rangeNow, bandNow, nearSince, nearNow, lastSecond}
-use Rattle.paper.specs.Exact.{exactSquare, NearExact}
+use Rattle.paper_desk.specs.Desk.{Call, admit, evaluate, quote, move, read, idOf, saying, showing, alerting, found, known, checksOf, step, run}
+use Rattle.paper_desk.specs.Kept.{everySlot}
+use Rattle.paper_desk.specs.History.{FreshTable, Event, quotedAt, unknown, since, historyOf, wasAdmitted, isAdmission, evaluations}
+use Rattle.paper_desk.specs.Sequences.{carries, onDay, lastEvaluated, movesOf, standingNow, termNow, rangeNow, bandNow, nearSince, nearNow, lastSecond}
+use Rattle.paper_desk.specs.Exact.{exactSquare, NearExact}
 use Rattle.paper_interest.specs.InterestExact.{Evening, Carried, carriedAfter, Follow, exactRepoSquare}
 
 -- the number, as a verdict, that a call gets from a table

@@ -11,10 +11,10 @@ use Rattle.paper.specs.declared.Rate.{Rate}
 use Rattle.paper.specs.declared.Statics.{Statics}
 use Rattle.paper.specs.declared.Tentative.{Tentative}
 use Rattle.paper.specs.Ranges.{staticsOf}
-use Rattle.paper.specs.Rates.{tentativeRate, tentativeAfter, levelRate}
-use Rattle.paper.specs.Desk.{Call, admit}
+use Rattle.paper_desk.specs.Rates.{tentativeRate, tentativeAfter, levelRate}
+use Rattle.paper_desk.specs.Desk.{Call, admit}
 use Rattle.paper.specs.PinnedValues.{_but_, qAt, adownAt, waitAt, liqAt, minimaAt, sAt, tentativeAt, givenFrom, admissionFrom, zNumbers}
-use Rattle.paper.specs.PinnedSequence.{answers, slots, dayAt}
+use Rattle.paper_desk.specs.PinnedSequence.{answers, slots, dayAt}
 
 -- Z's numbers, with q 10, a_down 0.9, n 1, liq 0, minima 100, S_max 300, s 1,000 and the tentative rate 100
 weekNumbers : List ℤ

@@ -17,7 +17,7 @@ use denote.Triple.Entry.{Args, Res}
 use denote.Triple.Clauses.{Clauses, Ended, AtExit}
 use Rattle.paper.specs.declared.Record.{Record}
 use Rattle.paper.specs.declared.Answer.{Answer}
-use Rattle.paper.specs.Desk.{Call}
+use Rattle.paper_desk.specs.Desk.{Call}
 use Rattle.desk.specs.Promises.{Promised}
 use Rattle.desk.proofs.admit as admit
 use Rattle.desk.proofs.evaluate as evaluate

@@ -12,7 +12,7 @@ use lib.ListN.{length, getD, drop, List·getD-eq-default}
 use lib.Seq.{drop-cons, drop-length}
 use Rattle.paper.specs.declared.Record.{Record}
 use Rattle.paper.specs.Lists.{pick}
-use Rattle.paper.specs.Desk.{blank, place, found}
+use Rattle.paper_desk.specs.Desk.{blank, place, found}
 use Rattle.record_calls.specs.declared.Slot.{Slot}
 use Rattle.record_calls.specs.Effects.{slotOf}
 

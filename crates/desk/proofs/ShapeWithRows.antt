@@ -26,7 +26,7 @@ use denote.Triple.Statement.{Contract, Triple}
 use denote.Triple.Spec.{Meets}
 use denote.Triple.Clauses.{Clauses, Ended, closing}
 use Rattle.paper.specs.declared.Record.{Record}
-use Rattle.paper.specs.Desk.{Call, step}
+use Rattle.paper_desk.specs.Desk.{Call, step}
 use Rattle.record_calls.specs.declared.Slot.{Slot}
 use Rattle.record_calls.specs.declared.Effect.{Effect}
 use Rattle.record_calls.specs.Effects.{slotOf, doneBy}

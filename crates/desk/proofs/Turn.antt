@@ -41,7 +41,7 @@ use denote.Triple.Bound.{passed}
 use denote.Triple.Spec.{Meets}
 use denote.Triple.Clauses.{Clauses, Ended, closing}
 use Rattle.paper.specs.declared.Record.{Record}
-use Rattle.paper.specs.Desk.{Call, step}
+use Rattle.paper_desk.specs.Desk.{Call, step}
 use Rattle.paper.proofs.Answer as N
 use Rattle.paper.proofs.Answer.Laws as N′
 use Rattle.record_calls.specs.declared.Slot.{Slot}

@@ -11,7 +11,7 @@ use record_calls::Effect;
 use record_calls::Slot;
 ghost use mathlib.Core.Path.{_≡_};
 ghost use lib.ListN.{set};
-ghost use Rattle.paper.specs.Desk.{Call, step};
+ghost use Rattle.paper_desk.specs.Desk.{Call, step};
 ghost use Rattle.paper.specs.Terms.{dayOf};
 ghost use Rattle.record_calls.specs.Effects.{slotOf, evaluateEffect};
 ghost use Rattle.desk.specs.Promises.{Promised};

@@ -14,7 +14,7 @@ use contract.Monad.{Fun}
 use Rattle.paper.specs.declared.Record.{Record}
 use Rattle.paper.specs.declared.Day.{Day}
 use Rattle.paper.specs.declared.Answer.{Answer}
-use Rattle.paper.specs.Desk.{evaluate}
+use Rattle.paper_desk.specs.Desk.{evaluate}
 use Rattle.desk.specs.Promises.{Promised}
 use Rattle.desk.proofs.Determined.{Determined, together}
 use Rattle.paper_reasons.specs.declared.Why.{Why}

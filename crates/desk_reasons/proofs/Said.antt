@@ -5,7 +5,7 @@ use Prim.Native.Nat.{ℕ}
 use lib.IntN.{ℤ}
 use Rattle.paper.specs.declared.Record.{Record}
 use Rattle.paper.specs.declared.Day.{Day}
-use Rattle.paper.specs.Desk.{stands, known}
+use Rattle.paper_desk.specs.Desk.{stands, known}
 use Rattle.paper_reasons.specs.Why.{whyOn}
 use Rattle.record_calls.specs.Effects.{slotOf, holds, isKnown}
 use Rattle.record_reasons.specs.Whys.{whySlot}

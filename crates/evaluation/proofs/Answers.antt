@@ -14,7 +14,7 @@ use Rattle.paper.specs.declared.Roubles.{Roubles}
 use Rattle.paper.specs.Lists.{pick, every}
 use Rattle.paper.specs.Roundings.{halfUp, toGrid}
 use Rattle.paper.specs.Ranges.{isPrice, priceMade}
-use Rattle.paper.specs.Evaluation.{weights, bestBid, bestAsk, roublesOf, rowFits, median, between, evaluationOf, evaluationFits}
+use Rattle.paper_desk.specs.Evaluation.{weights, bestBid, bestAsk, roublesOf, rowFits, median, between, evaluationOf, evaluationFits}
 use Rattle.paper.proofs.Roundings.{half-le}
 use Rattle.evaluation.specs.declared.Book.{Book}
 use Rattle.evaluation.specs.declared.PriceFigures.{PriceFigures}

@@ -11,7 +11,7 @@ use Rattle.paper.specs.declared.Roubles.{Roubles}
 use Rattle.paper.specs.Lists.{pick, those}
 use Rattle.paper.specs.Numbers.{rowNumbers, allNumbersMost, priceMost, volumeMost}
 use Rattle.paper.specs.Roundings.{halfUp}
-use Rattle.paper.specs.Evaluation.{traded, weights, worth, mean, closeOf, lesserAsk, bestBid, bestAsk}
+use Rattle.paper_desk.specs.Evaluation.{traded, weights, worth, mean, closeOf, lesserAsk, bestBid, bestAsk}
 use Rattle.evaluation.specs.declared.Book.{Book}
 use Rattle.evaluation.specs.Book.{Room, Bounded, added, bookOf, closeIn}
 use Rattle.evaluation.proofs.Prices.{Fitting}

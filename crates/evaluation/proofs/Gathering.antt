@@ -11,7 +11,7 @@ use Rattle.paper.specs.declared.Row.{Row}
 use Rattle.paper.specs.Lists.{every}
 use Rattle.paper.specs.Numbers.{rowNumbers}
 use Rattle.paper.specs.Ranges.{LentRow, rowAt, rowsOf, validRow, rowOf}
-use Rattle.paper.specs.Evaluation.{roublesOf, dayRows, rowFits}
+use Rattle.paper_desk.specs.Evaluation.{roublesOf, dayRows, rowFits}
 use Rattle.paper.proofs.Logic.{and-left, and-right}
 use Rattle.exact.specs.EveryLaws.{every-cons}
 use Rattle.exact.specs.LentLaws.{Place, place-first, place-next, left-here, left-end}

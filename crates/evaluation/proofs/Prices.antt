@@ -12,7 +12,7 @@ use Rattle.paper.specs.declared.Roubles.{Roubles}
 use Rattle.paper.specs.Numbers.{rouble, yearInDayBp, priceLeast, priceMost, volumeMost}
 use Rattle.paper.specs.Roundings.{halfUp, grown}
 use Rattle.paper.specs.Ranges.{isPrice}
-use Rattle.paper.specs.Evaluation.{rowPrice, rowWeight, roublesOf, priceFits, rowFits}
+use Rattle.paper_desk.specs.Evaluation.{rowPrice, rowWeight, roublesOf, priceFits, rowFits}
 use Rattle.paper.proofs.Logic.{and-left, and-right}
 use Rattle.paper.proofs.Roundings.{half-low, half-high, half-unique, half-le}
 use Rattle.exact.specs.SignedLaws.{grown-range}

@@ -3,7 +3,7 @@
 use mathlib.Core.Path.{_≡_, refl, sym, _∙_}
 use Prim.Native.Nat.{ℕ, zero, suc, _≤_, min, max}
 use native.Mathlib.Omega.{arith}
-use Rattle.paper.specs.Evaluation.{lesserAsk, median, between}
+use Rattle.paper_desk.specs.Evaluation.{lesserAsk, median, between}
 
 -- ---- the median: the close held between the lower and the upper of the two sides, whichever is the bid
 

@@ -8,7 +8,7 @@ use Rattle.paper.specs.declared.Roubles.{Roubles}
 use Rattle.paper.specs.Lists.{pick, every}
 use Rattle.paper.specs.Numbers.{priceMost, volumeMost}
 use Rattle.paper.specs.Roundings.{halfUp}
-use Rattle.paper.specs.Evaluation.{weights, worth, bestBid, lesserAsk, bestAsk, roublesOf, rowFits}
+use Rattle.paper_desk.specs.Evaluation.{weights, worth, bestBid, lesserAsk, bestAsk, roublesOf, rowFits}
 use Rattle.evaluation.specs.declared.Book.{Book}
 use Rattle.evaluation.specs.declared.PriceFigures.{PriceFigures}
 use Rattle.evaluation.specs.declared.Gathered.{Gathered}

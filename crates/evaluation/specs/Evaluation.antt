@@ -6,7 +6,7 @@ use Rattle.paper.specs.declared.Roubles.{Roubles}
 use Rattle.paper.specs.Lists.{pick}
 use Rattle.paper.specs.Numbers.{yearInDayBp, priceMost, centralMost}
 use Rattle.paper.specs.Ranges.{isPrice}
-use Rattle.paper.specs.Evaluation.{roublesOf, weights, closeOf, bestBid, bestAsk, evaluationOf, evaluationFits}
+use Rattle.paper_desk.specs.Evaluation.{roublesOf, weights, closeOf, bestBid, bestAsk, evaluationOf, evaluationFits}
 use Rattle.exact.specs.SignedLaws.{growthMost}
 use Rattle.evaluation.specs.declared.PriceFigures.{PriceFigures}
 use Rattle.evaluation.specs.declared.Priced.{Priced}

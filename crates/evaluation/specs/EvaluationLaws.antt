@@ -12,7 +12,7 @@ use Rattle.paper.specs.declared.Row.{Row}
 use Rattle.paper.specs.Lists.{pick, every}
 use Rattle.paper.specs.Roundings.{toGrid}
 use Rattle.paper.specs.Ranges.{isPrice, isGridPrice}
-use Rattle.paper.specs.Evaluation.{rowFits, evaluationOf, evaluationFits}
+use Rattle.paper_desk.specs.Evaluation.{rowFits, evaluationOf, evaluationFits}
 use Rattle.paper.proofs.Logic.{and-right, and-both}
 use Rattle.evaluation.specs.declared.Priced.{Priced}
 use Rattle.evaluation.specs.declared.Evaluation.the-variants.{Evaluated, Beyond}

@@ -7,7 +7,7 @@ ghost use Prim.Native.Nat.{_*_, _≤_};
 ghost use Rattle.paper.specs.Numbers.{oneInHundredths, rouble, yearInDayBp, priceMost};
 ghost use Rattle.paper.specs.Roundings.{halfUp, toGrid};
 ghost use Rattle.paper.specs.Ranges.{validRows};
-ghost use Rattle.paper.specs.Evaluation.{rowPrice, roublesOf, lesserAsk, median, between, dayRows, rowFits};
+ghost use Rattle.paper_desk.specs.Evaluation.{rowPrice, roublesOf, lesserAsk, median, between, dayRows, rowFits};
 ghost use Rattle.rows.specs.RowLaws.{InRange};
 ghost use Rattle.evaluation.specs.Evaluation.{Discounts, evaluationFrom, evaluationMade};
 ghost use Rattle.evaluation.specs.Book.{Room, added, closeIn, Gathers};

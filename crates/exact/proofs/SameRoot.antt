@@ -15,11 +15,11 @@ use Rattle.paper.specs.declared.Interest.{Interest}
 use Rattle.paper.specs.declared.Maturity.{Maturity}
 use Rattle.paper.specs.Numbers.{oneInTenThousandths, volatilityMost}
 use Rattle.paper.specs.Ranges.{validStatics}
-use Rattle.paper.specs.Rates.{modelOf, weightOf, weighted, Weighing}
+use Rattle.paper_desk.specs.Rates.{modelOf, weightOf, weighted, Weighing}
 use Rattle.paper_interest.specs.Interest.{changeOf, InterestRange, KeyRange}
 use Rattle.paper.proofs.Search.{root-covers, root-least, root-unique}
-use Rattle.paper.proofs.Bounds.{mean-high}
-use Rattle.paper.proofs.Volatility.{valid-weighs, weight-most}
+use Rattle.paper_desk.proofs.Bounds.{mean-high}
+use Rattle.paper_desk.proofs.Volatility.{valid-weighs, weight-most}
 use Rattle.paper_interest.proofs.InterestRanges.{change-high}
 use Rattle.exact.specs.RootInputs.{IsLeastRoot, meanOfSquares}
 use Rattle.exact.proofs.least_root as root

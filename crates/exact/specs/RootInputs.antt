@@ -3,7 +3,7 @@
 use Prim.Native.Nat.{ℕ, _+_, _-_, _*_, _≤_}
 use Rattle.paper.specs.declared.Model.{Model}
 use Rattle.paper.specs.Numbers.{oneInTenThousandths}
-use Rattle.paper.specs.Rates.{weightOf}
+use Rattle.paper_desk.specs.Rates.{weightOf}
 
 -- x is the least whole number with factor·x² ≥ n; nothing is said of how it is found
 pub record IsLeastRoot (factor n x : ℕ) : Type 0 where

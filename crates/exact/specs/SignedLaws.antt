@@ -13,7 +13,7 @@ use Rattle.paper.specs.Numbers.{oneInBp, termDaysMost, repoLeast, repoMost, pas
 use Rattle.paper.specs.Ranges.{withinZ, unsigned}
 use Rattle.paper.specs.Roundings.{grown}
 use Rattle.paper.proofs.Logic.{clash, and-left, and-right}
-use Rattle.paper.proofs.Units.{unsigned-within}
+use Rattle.paper_desk.proofs.Units.{unsigned-within}
 
 -- "-9,999..9,999 bp"
 pub repo-size : (x : ℤ) → leZ repoLeast x ≡ true → leZ x repoMost ≡ true → mag x ≤ mag repoMost

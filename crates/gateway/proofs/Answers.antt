@@ -11,8 +11,8 @@ use Rattle.paper.specs.declared.GivenStatics.{GivenStatics}
 use Rattle.paper.specs.declared.Verdict.the-variants.{AdmissionOutOfRange, OutOfRange}
 use Rattle.paper.specs.Ranges.{validGiven, validStatics, staticsOf}
 use Rattle.paper.specs.Verdicts.{numberOf, firstOf}
-use Rattle.paper.specs.Gateway.{gatewayChecks, gatewayAnswer}
-use Rattle.paper.proofs.Units.{gateway-answers-minus-four, gateway-answers-minus-six, gateway-answers-figure}
+use Rattle.paper_desk.specs.Gateway.{gatewayChecks, gatewayAnswer}
+use Rattle.paper_desk.proofs.Units.{gateway-answers-minus-four, gateway-answers-minus-six, gateway-answers-figure}
 use Rattle.inputs.proofs.Facts.{given-statics}
 
 -- the statics that a call is worked out in are valid where the test of those given passed

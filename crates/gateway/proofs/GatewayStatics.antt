@@ -7,7 +7,7 @@ use mir.Val.{SFits, toZ, ofZ}
 use mir.Facts.{toZ-ofZ}
 use Rattle.paper.specs.declared.GivenStatics.{GivenStatics}
 use Rattle.paper.specs.Ranges.{unsigned}
-use Rattle.paper.specs.Gateway.{givenOf}
+use Rattle.paper_desk.specs.Gateway.{givenOf}
 
 -- what was made unsigned of the bits was made unsigned of the number
 pub read : {r : ℕ} {x : ℤ} → SFits w64 x → r ≡ unsigned (toZ w64 (ofZ w64 x)) → r ≡ unsigned x

@@ -7,7 +7,7 @@ use Rattle.paper.specs.declared.Price.{Price}
 use Rattle.paper.specs.declared.Rate.{Rate}
 use Rattle.paper.specs.declared.Statics.{Statics}
 use Rattle.paper.specs.Ranges.{isPrice, isRate, isGridPrice}
-use Rattle.paper.specs.Gateway.{rangeInRange, bandInRange}
+use Rattle.paper_desk.specs.Gateway.{rangeInRange, bandInRange}
 use Rattle.paper.proofs.Logic.{clash, and-left, and-right, and-both}
 use Rattle.inputs.proofs.Made.{picked-first, picked-second}
 use Rattle.gateway.specs.declared.limit.Asked.{Asked}

@@ -8,10 +8,10 @@ use Rattle.paper.specs.declared.Statics.{Statics}
 use Rattle.paper.specs.Lists.{pick}
 use Rattle.paper.specs.Numbers.{aheadMost}
 use Rattle.paper.specs.Ranges.{validStatics, tentativeTop, validTentative}
-use Rattle.paper.specs.Rates.{minimumOf, levelRate, AtLeastRequired, HeldLeast}
-use Rattle.paper.specs.Gateway.{levelInRange, levelFigure}
+use Rattle.paper_desk.specs.Rates.{minimumOf, levelRate, AtLeastRequired, HeldLeast}
+use Rattle.paper_desk.specs.Gateway.{levelInRange, levelFigure}
 use Rattle.paper.proofs.Logic.{and-left, and-right}
-use Rattle.paper.proofs.Level.{level-rate-is}
+use Rattle.paper_desk.proofs.Level.{level-rate-is}
 
 -- a level's figure is at most S_max, with the model and without
 pub figure-high : (st : Statics) (tentative m level : ℕ) → validStatics st ≡ true

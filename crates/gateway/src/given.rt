@@ -1,6 +1,6 @@
 // The statics as the gateway's caller hands them over.
 ghost use mathlib.Core.Path.{_≡_};
-ghost use Rattle.paper.specs.Gateway.{givenOf};
+ghost use Rattle.paper_desk.specs.Gateway.{givenOf};
 use paper::GivenStatics;
 
 // 22 signed numbers in the order of document 01's table. One below zero becomes a number that no range holds, and so is

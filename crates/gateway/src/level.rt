@@ -4,7 +4,7 @@ ghost use mathlib.Core.Path.{_≡_};
 ghost use mathlib.Core.Bool.{true};
 ghost use Prim.Native.Nat.{_<_};
 ghost use Rattle.paper.specs.Ranges.{validStatics};
-ghost use Rattle.paper.specs.Gateway.{levelInRange, levelFigure, levelCall};
+ghost use Rattle.paper_desk.specs.Gateway.{levelInRange, levelFigure, levelCall};
 use crate::answer::figure;
 use crate::answer::refusal;
 use paper::Day;

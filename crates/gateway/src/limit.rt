@@ -5,7 +5,7 @@ ghost use mathlib.Core.Path.{_≡_};
 ghost use mathlib.Core.Bool.{true};
 ghost use Prim.Native.Nat.{ℕ};
 ghost use Rattle.paper.specs.Ranges.{isPrice, isRate, validStatics};
-ghost use Rattle.paper.specs.Gateway.{rangeCall, bandCall};
+ghost use Rattle.paper_desk.specs.Gateway.{rangeCall, bandCall};
 ghost use Rattle.gateway.specs.LimitCalls.{ownInRange, limitInRange, LimitInputs, limitFigure, limitCall};
 use crate::answer::figure;
 use crate::answer::refusal;

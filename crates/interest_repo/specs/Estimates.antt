@@ -5,7 +5,7 @@ use Prim.Native.Nat.{ℕ, _+_, max}
 use lib.IntN.{ℤ, pos, _+ℤ_, _-ℤ_}
 use Rattle.paper.specs.declared.Interest.{Interest}
 use Rattle.paper.specs.declared.Maturity.{Maturity}
-use Rattle.paper.specs.Rates.{leastStep}
+use Rattle.paper_desk.specs.Rates.{leastStep}
 use Rattle.paper.specs.Roundings.{atLeastZero}
 use Rattle.paper_interest.specs.Interest.{repoTentative, estimate, upward, downward}
 

@@ -5,7 +5,7 @@ ghost use Prim.Native.Nat.{_-_, _*_, _≤_};
 ghost use lib.IntN.{natAbs};
 ghost use Rattle.paper.specs.Numbers.{oneInHundredths, minimumMost, repoMost, repoVolatilityMost, repoTentativeMost};
 ghost use Rattle.paper.specs.Roundings.{grown, atLeastZero};
-ghost use Rattle.paper.specs.Rates.{leastStep};
+ghost use Rattle.paper_desk.specs.Rates.{leastStep};
 ghost use Rattle.paper_interest.specs.Interest.{apartZ, changeOf, repoVolatility, repoTentative, maturityFigures, InterestRange, KeyRange};
 ghost use Rattle.interest_repo.specs.Lift.{lift};
 ghost use Rattle.interest_repo.specs.Estimates.{estimateOf, securityMinimum};

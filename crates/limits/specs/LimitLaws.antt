@@ -11,9 +11,9 @@ use Rattle.paper.specs.declared.Statics.{Statics}
 use Rattle.paper.specs.declared.Side.{Side}
 use Rattle.paper.specs.declared.Side.the-variants.{Upper, Lower}
 use Rattle.paper.specs.Numbers.{oneInBp, oneInHundredths, priceMost, rateMost, shiftMost, movesMost}
-use Rattle.paper.specs.Limits.{share, limitOf, inward, shifted, farthest, spread, monitored, narrowerOf, bandLimit}
-pub use Rattle.paper.proofs.LimitSizes.{grid-range}
-use Rattle.paper.proofs.KindLaws as kinds
+use Rattle.paper_desk.specs.Limits.{share, limitOf, inward, shifted, farthest, spread, monitored, narrowerOf, bandLimit}
+pub use Rattle.paper_desk.proofs.LimitSizes.{grid-range}
+use Rattle.paper_desk.proofs.KindLaws as kinds
 use Rattle.exact.specs.Wide.{spreadMost}
 use Rattle.limits.specs.Sides.{farthestRate}
 use Rattle.limits.specs.LimitRanges.{LimitStatics, RangeInputs}

@@ -16,10 +16,10 @@ use Rattle.paper.specs.declared.Moves.{Moves}
 use Rattle.paper.specs.declared.Term.{Term}
 use Rattle.paper.specs.Numbers.{priceMost, rateMost, movesMost, termDaysMost, repoLeast, repoMost}
 use Rattle.paper.specs.Ranges.{validTerm, isPrice, isGridPrice, isRate}
-use Rattle.paper.specs.Limits.{countOf, oneMore}
-use Rattle.paper.specs.Gateway.{rangeInRange, bandInRange}
+use Rattle.paper_desk.specs.Limits.{countOf, oneMore}
+use Rattle.paper_desk.specs.Gateway.{rangeInRange, bandInRange}
 use Rattle.paper.proofs.Logic.{and-left, and-right, order-trans}
-pub use Rattle.paper.proofs.LimitSizes.{LimitStatics, valid-limit-statics}
+pub use Rattle.paper_desk.proofs.LimitSizes.{LimitStatics, valid-limit-statics}
 use Rattle.exact.specs.SignedLaws.{repo-size}
 use Rattle.limits.specs.Sides.{repoOf}
 

@@ -19,7 +19,7 @@ ghost use mathlib.Core.Bool.{true};
 ghost use Prim.Native.Nat.{_-_, _≤_};
 ghost use Rattle.paper.specs.Numbers.{rateMost, limitMost, movesMost};
 ghost use Rattle.paper.specs.Ranges.{validStatics};
-ghost use Rattle.paper.specs.Limits.{limitOf, inward, shifted, rangeLimit, rangeOf, spread, monitored, bandLimit, bandOf, narrowerOf, crossed, deltaOf, oneMore, countOf, rangeMoved, bandMoved};
+ghost use Rattle.paper_desk.specs.Limits.{limitOf, inward, shifted, rangeLimit, rangeOf, spread, monitored, bandLimit, bandOf, narrowerOf, crossed, deltaOf, oneMore, countOf, rangeMoved, bandMoved};
 ghost use Rattle.limits.specs.Sides.{farthestRate};
 ghost use Rattle.limits.specs.LimitRanges.{RangeInputs, BandInputs, TermInputs};
 ghost use Rattle.limits.specs.LimitBounds.{deltaMost};

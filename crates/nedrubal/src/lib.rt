@@ -4,7 +4,7 @@
 // hands them on; `gateway` has the calls.
 ghost use mathlib.Core.Path.{_≡_};
 ghost use Rattle.paper.specs.Ranges.{unsigned};
-ghost use Rattle.paper.specs.Gateway.{givenOf, levelCall, rangeCall, bandCall};
+ghost use Rattle.paper_desk.specs.Gateway.{givenOf, levelCall, rangeCall, bandCall};
 
 // "a level's rate from tentative, m and level".
 #[no_mangle]

@@ -3,12 +3,11 @@ use mathlib.Core.Path.{_≡_, refl, sym, _∙_}
 use mathlib.Core.Logic.{_≢_, _⊎_, inl, inr, ⊎-elim}
 use mathlib.Core.Bool.{Bool, true, false}
 use Prim.Native.Nat.{ℕ, zero, suc, _+_, _-_, _*_, _/_, _≤_, _<_}
-use native.Mathlib.Nat.{eq-or-lt-of-le, le-trans, le-antisymm, mul-le-mul, mul-le-mul-left, mul-le-mul-right, lt-of-mul-lt-mul-right, lt-irrefl, not-le-of-lt, mul-pos, mul-mod-left}
+use native.Mathlib.Nat.{eq-or-lt-of-le, le-trans, le-antisymm, mul-le-mul, mul-le-mul-left, mul-le-mul-right, lt-of-mul-lt-mul-right, lt-irrefl, not-le-of-lt}
 use native.Mathlib.Omega.{arith}
 use lib.Dec.{leb}
 use borrow.Author.Tests.{leb-true, le-leb, lt-leb}
 use Rattle.paper.specs.Least.{first, least, leastRoot, leastTimes, leastMultiple}
-use Rattle.paper.specs.Rates.{leastStep, IsLeastStep}
 use Rattle.paper.proofs.Logic.{clash, le-or-lt}
 
 -- ---- least
@@ -229,23 +228,3 @@ pub multiple-monotone : (h bound : ℕ) (p q : ℕ → Bool) → ((z : ℕ) → 
 unfolding leastMultiple
 multiple-monotone h bound p q f =
     mul-le-mul-right h (least-monotone bound (λ j. p (j * h)) (λ j. q (j * h)) (λ z t. f (z * h) t))
-
--- the least step is what its name says, for every factor w
-pub step-is : (h w n : ℕ) → 0 < h → 0 < w → IsLeastStep h w n (leastStep h w n)
-unfolding leastStep
-step-is h w n p q =
-    record {
-      multiple = rw (is .1) (mul-mod-left (is .0) h);
-      enough = leb-true n (w * leastMultiple h n covers) (multiple-holds h n covers (le-leb n (w * (n * h)) last));
-      least = λ j c. multiple-least h n covers j (le-leb n (w * (j * h)) c);
-    }
-  where
-    covers : ℕ → Bool
-    covers t = leb n (w * t)
-
-    is : (j : ℕ) × (leastMultiple h n covers ≡ j * h)
-    is = multiple-is h n covers
-
-    -- the last multiple tried is enough, since w and h are at least 1
-    last : n ≤ w * (n * h)
-    last = omega (arith, mul-le-mul-left n (mul-pos q p))

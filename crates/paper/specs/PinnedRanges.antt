@@ -10,8 +10,8 @@ use lib.ListN.{replicate}
 use Rattle.paper.specs.declared.Side.the-variants.{Upper, Lower}
 use Rattle.paper.specs.Lists.{every}
 use Rattle.paper.specs.Roundings.{up}
-use Rattle.paper.specs.Ranges.{isPrice, isRate, gridOf, isGridPrice, validStatics, staticsOf, validGiven, tentativeTop, validTentative, validAdmission, partsFrom, rowAt, rowsOf, wholeRows, validRow, validRows, validTerm, validDay, validQuote, validSide, sideOf, lastDay, isLimit, validLimits, validNear, validNearSeconds, sound, validSlots}
-use Rattle.paper.specs.PinnedValues.{_but_, lotAt, hAt, minimaAt, idAt, p1At, tentativeAt, ageAt, rangesAt, bandsAt, admissionFrom, recordFrom, dayFrom, quoteFrom}
+use Rattle.paper.specs.Ranges.{isPrice, isRate, gridOf, isGridPrice, validStatics, staticsOf, validGiven, tentativeTop, validTentative, validAdmission, partsFrom, rowAt, rowsOf, wholeRows, validRow, validRows, validTerm, validDay, validQuote, validSide, sideOf, lastDay, isLimit, validLimits, validNear, validNearSeconds, sound, validSlots, isLive}
+use Rattle.paper.specs.PinnedValues.{_but_, lotAt, hAt, minimaAt, idAt, p1At, tentativeAt, ageAt, rangesAt, bandsAt, admissionFrom, recordFrom, dayFrom, quoteFrom, liveAt}
 
 -- ---- a row of numbers with their ranges
 
@@ -318,3 +318,14 @@ others-are = refl
 pub sides : map sideOf (0 ∷ 1 ∷ []) ≡ Upper ∷ Lower ∷ []
 unfolding sideOf
 sides = refl
+
+-- "A record has a standing: admitted only, or live": live and not, and both are sound
+pub standings : List (List Bool)
+unfolding soundRow recordRow isLive
+standings =
+    let rows : List (List ℤ) = recordRow ∷ (recordRow but (liveAt, pos 0)) ∷ [] in
+    map (λ (row : List ℤ). isLive (recordFrom row .standing)) rows ∷ map soundRow rows ∷ []
+
+pub standings-are : standings ≡ (true ∷ false ∷ []) ∷ (true ∷ true ∷ []) ∷ []
+unfolding standings
+standings-are = refl

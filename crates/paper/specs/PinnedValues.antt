@@ -22,8 +22,6 @@ use Rattle.paper.specs.declared.Quote.{Quote}
 use Rattle.paper.specs.Lists.{pick, three}
 use Rattle.paper.specs.Numbers.{rouble}
 use Rattle.paper.specs.Ranges.{unsigned, staticsOf}
-use Rattle.paper.specs.Desk.{blank}
-use Rattle.paper.specs.Cases.{givenWith, admissionZ}
 
 -- ---- a row of numbers, and a change of one of them
 
@@ -244,6 +242,38 @@ closedAt close = pos 0 ∷ pos rouble ∷ pos 0 ∷ pos close ∷ pos 0 ∷ pos 
 
 -- ---- "Statics Z", "Earlier prices 1,000,000 unless given; s 20,000", tentative 600, id 7, last day 3
 
+-- "Statics Z", but for the lot
+unfoldable pub givenWith : (lot : ℕ) → GivenStatics
+givenWith lot =
+    record {
+      lot = lot;
+      h = 100;
+      q = 300;
+      aup = 1000;
+      adown = 500;
+      wait = 5;
+      rh1 = 2;
+      rh2 = 5;
+      rh3 = 8;
+      liq = 50;
+      min1 = 500;
+      min2 = 700;
+      min3 = 900;
+      smax = 4000;
+      xpr = 200;
+      shift = 25;
+      pchmax = 2000;
+      pclmax = 2000;
+      w = 1000;
+      u = 60;
+      monitoring = 1;
+      ewma = 1;
+    }
+
+-- "Earlier prices 1,000,000 unless given; s 20,000"; tentative 600
+unfoldable pub admissionZ : Admission
+admissionZ = record { id = 7; day = 3; p1 = 1000000; p2 = 1000000; s = 20000; tentative = 600; given = givenWith 10 }
+
 unfoldable pub zNumbers : List ℤ
 zNumbers =
     -- lot, h, q, a_up, a_down, n
@@ -269,8 +299,3 @@ zRecord = zNumbers ++ replicate 35 (pos 0)
 pub z-is-Z : admissionFrom zNumbers ≡ admissionZ
 unfolding zNumbers admissionFrom admissionZ givenWith
 z-is-Z = refl
-
--- "all figures 0 (flags no, nothing near, admitted only)": no number at all
-pub blank-is-zero : blank ≡ recordFrom []
-unfolding blank recordFrom
-blank-is-zero = refl

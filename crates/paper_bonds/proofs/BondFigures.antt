@@ -11,12 +11,12 @@ use Rattle.paper.specs.Lists.{forLevels}
 use Rattle.paper.specs.Numbers.{oneInPerCentHundredths}
 use Rattle.paper.specs.Roundings.{Quotient, Rounded}
 use Rattle.paper.specs.Ranges.{validStatics, validGiven, staticsOf}
-use Rattle.paper.specs.Rates.{minimumOf, levelRate, unmodelled, figuresByVolatility, AtLeastRequired, HeldLeast}
-use Rattle.paper.specs.Limits.{grownPrice, bondLimitOf}
+use Rattle.paper_desk.specs.Rates.{minimumOf, levelRate, unmodelled, figuresByVolatility, AtLeastRequired, HeldLeast}
+use Rattle.paper_desk.specs.Limits.{grownPrice, bondLimitOf}
 use Rattle.paper.proofs.Logic.{and-left, pick-true, pick-false}
-use Rattle.paper.proofs.Level.{level-rate-is}
+use Rattle.paper_desk.proofs.Level.{level-rate-is}
 use Rattle.paper.proofs.Roundings.{rounded-is, rounded-le}
-use Rattle.paper.proofs.KindLaws.{bond-limit-is}
+use Rattle.paper_desk.proofs.KindLaws.{bond-limit-is}
 use Rattle.paper_bonds.specs.declared.Bond.{Bond}
 use Rattle.paper_bonds.specs.Bonds.{givenOf, bondStatics, validBond, bondFigures}
 

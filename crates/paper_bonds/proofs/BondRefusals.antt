@@ -9,7 +9,7 @@ use Rattle.paper.specs.declared.Verdict.the-variants.{Done}
 use Rattle.paper.specs.Lists.{pick, every}
 use Rattle.paper.specs.Verdicts.{isDone, firstOf, FirstAt, NoneApplies, Exactly}
 use Rattle.paper.proofs.Logic.{pick-true, pick-false}
-use Rattle.paper.proofs.Refusals.{done-is, first-is, is-first, refusals, done-none, none-done}
+use Rattle.paper_desk.proofs.Refusals.{done-is, first-is, is-first, refusals, done-none, none-done}
 use Rattle.paper_bonds.specs.declared.Bond.{Bond}
 use Rattle.paper_bonds.specs.Bonds.{flowsOf, bondChecks, refusedBond, acceptedBond, bondAnswer}
 

@@ -12,9 +12,9 @@ use Rattle.paper.specs.declared.Side.{Side}
 use Rattle.paper.specs.declared.Side.the-variants.{Upper, Lower}
 use Rattle.paper.specs.declared.Term.{Term}
 use Rattle.paper.specs.Numbers.{divisorLeast}
-use Rattle.paper.specs.Limits.{bond, inward, narrowerOf, bandBefore, bandLimitFor}
-use Rattle.paper.proofs.LimitSizes.{valid-limit-statics}
-use Rattle.paper.proofs.KindLaws.{shifted-positive, band-positive, narrower-rounded}
+use Rattle.paper_desk.specs.Limits.{bond, inward, narrowerOf, bandBefore, bandLimitFor}
+use Rattle.paper_desk.proofs.LimitSizes.{valid-limit-statics}
+use Rattle.paper_desk.proofs.KindLaws.{shifted-positive, band-positive, narrower-rounded}
 use Rattle.paper_bonds.specs.declared.Bond.{Bond}
 use Rattle.paper_bonds.specs.declared.BondLimits.{BondLimits}
 use Rattle.paper_bonds.specs.declared.Flow.{Flow}

@@ -13,8 +13,8 @@ use Rattle.paper.specs.Lists.{pick, every, some}
 use Rattle.paper.specs.Roundings.{down, halfUp, up, toGrid, lesserOf, greaterOf, grown}
 use Rattle.paper.specs.Least.{first, least, leastMultiple}
 use Rattle.paper.specs.Ranges.{unsigned, partsFrom, isPrice, validStatics, staticsOf, validGiven, tentativeTop, validTentative, validTerm, noLimits}
-use Rattle.paper.specs.Rates.{leastStep, tentativeRate, tentativeAfter, meetsRequirement, daysOf, minimumOf, covers, levelRate, unmodelled, figuresByVolatility}
-use Rattle.paper.specs.Limits.{bondLimitOf, shifted, farthest, spread, monitored, narrower, crossed}
+use Rattle.paper_desk.specs.Rates.{leastStep, tentativeRate, tentativeAfter, meetsRequirement, daysOf, minimumOf, covers, levelRate, unmodelled, figuresByVolatility}
+use Rattle.paper_desk.specs.Limits.{bondLimitOf, shifted, farthest, spread, monitored, narrower, crossed}
 use Rattle.paper.specs.Terms.{workedRepo, repoOf, termOf}
 use Rattle.paper.specs.Verdicts.{numberOf, isDone, firstOf}
 use Rattle.paper.specs.PinnedValues.{_but_, signed, plain}

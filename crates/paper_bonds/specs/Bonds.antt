@@ -19,10 +19,10 @@ use Rattle.paper.specs.Lists.{pick, three, forLevels, allThree, every, some}
 use Rattle.paper.specs.Numbers.{volatilityMost, ageMost, aheadMost, repoLeast, repoMost, yearInDayBp, oneInPerCentHundredths}
 use Rattle.paper.specs.Roundings.{Quotient, halfUp, grown}
 use Rattle.paper.specs.Ranges.{within, withinZ, unsigned, partsFrom, isPrice, staticsOf, validGiven, validTentative, validTerm, termAt, rateAt, noRate, noLimits}
-use Rattle.paper.specs.Rates.{figuresByVolatility}
-use Rattle.paper.specs.Limits.{bond, inward, bondLimitOf, shifted, growing, narrower, bandBefore, bandLimitFor, limitFor, bandBy, crossed}
+use Rattle.paper_desk.specs.Rates.{figuresByVolatility}
+use Rattle.paper_desk.specs.Limits.{bond, inward, bondLimitOf, shifted, growing, narrower, bandBefore, bandLimitFor, limitFor, bandBy, crossed}
 use Rattle.paper.specs.Verdicts.{isDone, Check, firstOf}
-use Rattle.paper.specs.Desk.{noMoves}
+use Rattle.paper_desk.specs.Desk.{noMoves}
 use Rattle.paper.specs.Terms.{termOf}
 use Rattle.paper_bonds.specs.declared.BondStatics.{BondStatics}
 use Rattle.paper_bonds.specs.declared.Bond.{Bond}

@@ -11,10 +11,10 @@ use borrow.Author.Tests.{leb-true, le-leb}
 use Rattle.paper.specs.declared.Maturity.{Maturity}
 use Rattle.paper.specs.declared.Interest.{Interest}
 use Rattle.paper.specs.Numbers.{oneInHundredths}
-use Rattle.paper.specs.Rates.{leastStep, IsLeastStep}
+use Rattle.paper_desk.specs.Rates.{leastStep, IsLeastStep}
 use Rattle.paper.specs.Roundings.{atLeastZero}
 use Rattle.paper_interest.specs.Interest.{repoVolatility, repoTentativeRate, repoTentative, estimate, IsEstimate}
-use Rattle.paper.proofs.Search.{step-is}
+use Rattle.paper_desk.proofs.Steps.{step-is}
 
 -- t is the least multiple of h with 100·t ≥ q·σ
 pub repo-tentative-rate-is : (i : Interest) (k : Maturity) → 1 ≤ i .h

@@ -10,7 +10,7 @@ use lib.Dec.{leb}
 use lib.IntN.{ℤ, pos, negsuc, natAbs, _+ℤ_, _-ℤ_}
 use lib.ListN.{getD}
 use borrow.Author.Tests.{leb-true, le-leb}
-use Rattle.paper.specs.Rates.{Weighing}
+use Rattle.paper_desk.specs.Rates.{Weighing}
 use Rattle.paper.specs.declared.Interest.{Interest}
 use Rattle.paper.specs.declared.Maturity.{Maturity}
 use Rattle.paper.specs.declared.MaturityFigures.{MaturityFigures}
@@ -22,7 +22,7 @@ use Rattle.paper_interest.specs.Interest.{LentKey, validKey, maturityOf,
 use Rattle.paper_interest.specs.InterestExact.{carriedFrom, keyGiven}
 use Rattle.paper.proofs.Logic.{clash, and-left, and-right, and-both}
 use Rattle.paper.proofs.Differences.{sum-size, minus-size}
-use Rattle.paper.proofs.Bounds.{volatility-high, step-short, tentative-held, age-held}
+use Rattle.paper_desk.proofs.Bounds.{volatility-high, step-short, tentative-held, age-held}
 
 -- ---- each figure
 

@@ -14,7 +14,7 @@ use Rattle.paper.specs.Lists.{pick, every}
 use Rattle.paper.specs.Verdicts.{numberOf, isDone, firstOf, FirstAt, here, later, NoneApplies, none, also, Exactly}
 use Rattle.paper_interest.specs.Interest.{validInterest, validKeys, maturitiesOf, ascending, interestChecks, refusedInterest, acceptedInterest, interestAnswer}
 use Rattle.paper.proofs.Logic.{not-true, not-false, pick-true, pick-false}
-use Rattle.paper.proofs.Refusals.{done-is, first-is, is-first, refusals, done-none, none-done}
+use Rattle.paper_desk.proofs.Refusals.{done-is, first-is, is-first, refusals, done-none, none-done}
 
 -- every number that is given is in range
 abbrev pub inRange : Interest → List ℤ → Bool

@@ -21,7 +21,7 @@ use Rattle.paper.specs.Lists.{pick, eight, every}
 use Rattle.paper.specs.Numbers.{oneInHundredths, repoLeast, repoMost, behindMost, weightMost, multiplierLeast, multiplierMost, stepMost, waitMost, divisorLeast, divisorMost, ageMost, keyNumbers, allKeyNumbersMost, maturityMost, minimumMost, repoVolatilityMost, repoTentativeMost}
 use Rattle.paper.specs.Roundings.{halfUpZ, atLeastZero}
 use Rattle.paper.specs.Ranges.{within, withinZ, unsigned, partsFrom}
-use Rattle.paper.specs.Rates.{volatilityOf, leastStep, tentativeAfter, Weighing}
+use Rattle.paper_desk.specs.Rates.{volatilityOf, leastStep, tentativeAfter, Weighing}
 use Rattle.paper.specs.Verdicts.{isDone, Check, firstOf}
 
 -- ---- what is given, and its ranges

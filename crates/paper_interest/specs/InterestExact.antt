@@ -13,7 +13,7 @@ use Rattle.paper.specs.declared.Interest.{Interest}
 use Rattle.paper.specs.declared.Verdict.the-variants.{Done}
 use Rattle.paper.specs.Roundings.{Quotient}
 use Rattle.paper_interest.specs.Interest.{LentKey, keysOf, maturityOf, changeOf, noFigures, interestAnswer}
-use Rattle.paper.specs.Exact.{Choice, nextSquare, choiceOf}
+use Rattle.paper_desk.specs.Exact.{Choice, nextSquare, choiceOf}
 
 -- ---- evenings
 

@@ -3,8 +3,8 @@
 use mathlib.Core.Path.{_≡_, refl}
 use mathlib.Core.List.{List, [], _∷_}
 use Prim.Native.Nat.{ℕ}
-use Rattle.paper.specs.Exact.{nextSquare, choiceOf}
-use Rattle.paper.specs.PinnedExact.{partsOf}
+use Rattle.paper_desk.specs.Exact.{nextSquare, choiceOf}
+use Rattle.paper_desk.specs.PinnedExact.{partsOf}
 use Rattle.paper_interest.specs.InterestExact.{keyIn, repoChoice, exactChange, exactRepoSquare}
 use Rattle.paper_interest.specs.InterestCases.{oneEvening, twoEvenings, calmEvenings, firstGiven}
 

@@ -10,8 +10,8 @@ use Rattle.paper.specs.declared.Record.{Record}
 use Rattle.paper.specs.declared.Day.{Day}
 use Rattle.paper.specs.declared.Verdict.{Verdict}
 use Rattle.paper.specs.Verdicts.{FirstAt, NoneApplies}
-use Rattle.paper.specs.Desk.{evaluate, checksOf, step}
-use Rattle.paper.proofs.Refusals.{verdict-first, named-is}
+use Rattle.paper_desk.specs.Desk.{evaluate, checksOf, step}
+use Rattle.paper_desk.proofs.Refusals.{verdict-first, named-is}
 use Rattle.paper_reasons.specs.declared.Fault.{Fault}
 use Rattle.paper_reasons.specs.declared.Fault.the-variants as fault
 use Rattle.paper_reasons.specs.Faults.{faultsOf, faultOf}

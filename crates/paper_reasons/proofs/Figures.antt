@@ -16,8 +16,8 @@ use Rattle.paper.specs.Lists.{pick}
 use Rattle.paper.specs.Numbers.{ageMost}
 use Rattle.paper.specs.Roundings.{toGrid}
 use Rattle.paper.specs.Ranges.{validStatics}
-use Rattle.paper.specs.Evaluation.{roublesOf, closeOf, bestBid, bestAsk, evaluationOf}
-use Rattle.paper.specs.Rates.{weightOf, weighted, replacement, replacementWins, volatilityOf, tentativeAfter, minimumOf, covers, levelRate}
+use Rattle.paper_desk.specs.Evaluation.{roublesOf, closeOf, bestBid, bestAsk, evaluationOf}
+use Rattle.paper_desk.specs.Rates.{weightOf, weighted, replacement, replacementWins, volatilityOf, tentativeAfter, minimumOf, covers, levelRate}
 use Rattle.paper.proofs.Logic.{clash, and-right, and-both}
 use Rattle.paper_reasons.specs.declared.PriceReason.{PriceReason}
 use Rattle.paper_reasons.specs.declared.PriceReason.the-variants as price

@@ -5,7 +5,7 @@ use mathlib.Core.Logic.{_⊎_, ⊎-elim}
 use mathlib.Core.Bool.{Bool, true, false}
 use mathlib.Core.List.{List, [], _∷_}
 use Rattle.paper.specs.Verdicts.{Naming, FirstAt, here, later, NoneApplies, Exactly}
-use Rattle.paper.proofs.Refusals.{named-is, is-named}
+use Rattle.paper_desk.proofs.Refusals.{named-is, is-named}
 use Rattle.paper_reasons.specs.Reasons.{inOrder, firstThatHolds}
 
 -- the condition of the first that applies holds

@@ -11,11 +11,11 @@ use borrow.Author.Tests.{leb-true, eqb-true, eq-eqb, ne-eqb}
 use Rattle.paper.specs.declared.Statics.{Statics}
 use Rattle.paper.specs.Lists.{pick}
 use Rattle.paper.specs.Ranges.{validStatics}
-use Rattle.paper.specs.Rates.{daysOf, minimumOf, covers, levelRate, AtLeastRequired, HeldLeast}
+use Rattle.paper_desk.specs.Rates.{daysOf, minimumOf, covers, levelRate, AtLeastRequired, HeldLeast}
 use Rattle.paper.specs.Verdicts.{NoneApplies, none, also}
 use Rattle.paper.proofs.Logic.{clash, and-left, and-right, and-both, le-or-lt, pick-true, pick-false}
 use Rattle.paper.proofs.Search.{multiple-holds, multiple-least, multiple-is}
-use Rattle.paper.proofs.Level.{covers-more, meets-real, real-meets, quotient-times-is, level-rate-is}
+use Rattle.paper_desk.proofs.Level.{covers-more, meets-real, real-meets, quotient-times-is, level-rate-is}
 use Rattle.paper_reasons.specs.declared.LevelReason.the-variants as level
 use Rattle.paper_reasons.specs.Reasons.{inOrder, firstThatHolds, requirementStep, levelSetBy, levelReasons, levelReason}
 use Rattle.paper_reasons.proofs.First.{TrueReason, true-reason}

@@ -10,7 +10,7 @@ use lib.Dec.{ltb, eqb}
 use borrow.Author.Tests.{eqb-true, eq-eqb, lt-ltb}
 use Rattle.paper.specs.declared.Roubles.{Roubles}
 use Rattle.paper.specs.Lists.{pick, some, those}
-use Rattle.paper.specs.Evaluation.{traded, mean, closeOf, bestBid, bestAsk, median, between}
+use Rattle.paper_desk.specs.Evaluation.{traded, mean, closeOf, bestBid, bestAsk, median, between}
 use Rattle.paper.specs.Verdicts.{NoneApplies, none, also}
 use Rattle.paper.proofs.Logic.{clash, and-left, and-right, and-both, le-or-lt}
 use Rattle.paper_reasons.specs.declared.PriceReason.{PriceReason}

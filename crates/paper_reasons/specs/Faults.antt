@@ -13,10 +13,10 @@ use Rattle.paper.specs.declared.Verdict.{Verdict}
 use Rattle.paper.specs.declared.Verdict.the-variants.{OutOfRange, PriceOutOfRange, BandCrossed, RowCrossed}
 use Rattle.paper.specs.Lists.{pick, three}
 use Rattle.paper.specs.Ranges.{LentRow, rowsOf, wholeRows, validRow, validTerm, termAt, noLimits}
-use Rattle.paper.specs.Evaluation.{dayRows, isCrossedRow, rowFits}
-use Rattle.paper.specs.Limits.{crossed}
+use Rattle.paper_desk.specs.Evaluation.{dayRows, isCrossedRow, rowFits}
+use Rattle.paper_desk.specs.Limits.{crossed}
 use Rattle.paper.specs.Verdicts.{numberOf, Naming, firstNamed}
-use Rattle.paper.specs.Desk.{evaluated}
+use Rattle.paper_desk.specs.Desk.{evaluated}
 use Rattle.paper_reasons.specs.declared.Fault.{Fault}
 use Rattle.paper_reasons.specs.declared.Fault.the-variants as fault
 

@@ -7,8 +7,8 @@ use Rattle.paper.specs.declared.Roubles.{Roubles}
 use Rattle.paper.specs.declared.Model.{Model}
 use Rattle.paper.specs.declared.Statics.{Statics}
 use Rattle.paper.specs.declared.Tentative.{Tentative}
-use Rattle.paper.specs.Evaluation.{closeOf, bestBid, bestAsk}
-use Rattle.paper.specs.Rates.{weighted, replacement, minimumOf}
+use Rattle.paper_desk.specs.Evaluation.{closeOf, bestBid, bestAsk}
+use Rattle.paper_desk.specs.Rates.{weighted, replacement, minimumOf}
 use Rattle.paper_reasons.specs.declared.PriceReason.{PriceReason}
 use Rattle.paper_reasons.specs.declared.PriceReason.the-variants as price
 use Rattle.paper_reasons.specs.declared.WeightReason.{WeightReason}

@@ -9,8 +9,8 @@ use Rattle.paper.specs.declared.Statics.{Statics}
 use Rattle.paper.specs.declared.Tentative.{Tentative}
 use Rattle.paper.specs.Lists.{pick, some}
 use Rattle.paper.specs.Least.{leastMultiple}
-use Rattle.paper.specs.Evaluation.{closeOf, bestBid, bestAsk, between}
-use Rattle.paper.specs.Rates.{minimumOf, covers}
+use Rattle.paper_desk.specs.Evaluation.{closeOf, bestBid, bestAsk, between}
+use Rattle.paper_desk.specs.Rates.{minimumOf, covers}
 use Rattle.paper.specs.Verdicts.{Naming, firstNamed}
 use Rattle.paper_reasons.specs.declared.PriceReason.{PriceReason}
 use Rattle.paper_reasons.specs.declared.PriceReason.the-variants as price

@@ -10,10 +10,10 @@ use Rattle.paper.specs.declared.Verdict.{Verdict}
 use Rattle.paper.specs.Lists.{pick}
 use Rattle.paper.specs.Numbers.{millionthsInBp}
 use Rattle.paper.specs.Ranges.{rateAt}
-use Rattle.paper.specs.Evaluation.{roublesOf, dayRows}
-use Rattle.paper.specs.Rates.{modelOf, replacementWins, tentativeRateOf}
+use Rattle.paper_desk.specs.Evaluation.{roublesOf, dayRows}
+use Rattle.paper_desk.specs.Rates.{modelOf, replacementWins, tentativeRateOf}
 use Rattle.paper.specs.Verdicts.{isDone, firstOf}
-use Rattle.paper.specs.Desk.{moveOn, figuresOn, found, known, evaluateChecks}
+use Rattle.paper_desk.specs.Desk.{moveOn, figuresOn, found, known, evaluateChecks}
 use Rattle.paper_reasons.specs.declared.PriceReason.the-variants as price
 use Rattle.paper_reasons.specs.declared.WeightReason.the-variants as weight
 use Rattle.paper_reasons.specs.declared.ReplacementReason.the-variants as replacement

@@ -10,9 +10,9 @@ use borrow.Author.Tests.{leb-true, leb-false, le-leb, lt-leb}
 use Rattle.paper.specs.declared.Statics.{Statics}
 use Rattle.paper.specs.Lists.{pick}
 use Rattle.paper.specs.Least.{least, leastMultiple}
-use Rattle.paper.specs.Rates.{meetsRequirement, daysOf, minimumOf, covers, levelRate}
+use Rattle.paper_desk.specs.Rates.{meetsRequirement, daysOf, minimumOf, covers, levelRate}
 use Rattle.paper.proofs.Logic.{clash, and-left, and-right, and-both, pick-true, pick-false, le-or-lt}
-use Rattle.paper.proofs.Level.{meets-roots, within-more, covers-more, quotient-times-is}
+use Rattle.paper_desk.proofs.Level.{meets-roots, within-more, covers-more, quotient-times-is}
 use Rattle.paper.proofs.Search.{Mono, Between, between-hit, between-miss, between-one, least-monotone, multiple-cases, multiple-bound}
 use Rattle.rates.specs.Asked.{RateStatics}
 use Rattle.rates.proofs.Statics.{level-statics}

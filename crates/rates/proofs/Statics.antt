@@ -11,9 +11,9 @@ use Rattle.paper.specs.declared.Record.{Record}
 use Rattle.paper.specs.Numbers.{daysMost, aheadMost}
 use Rattle.paper.specs.Lists.{pick}
 use Rattle.paper.specs.Ranges.{validStatics, tentativeTop, isRate, noRate, sound}
-use Rattle.paper.specs.Rates.{modelOf, daysOf, minimumOf, Weighing}
+use Rattle.paper_desk.specs.Rates.{modelOf, daysOf, minimumOf, Weighing}
 use Rattle.paper.proofs.Logic.{and-left, and-right}
-use Rattle.paper.proofs.TentativeRange.{valid-high, tentative-top-high}
+use Rattle.paper_desk.proofs.TentativeRange.{valid-high, tentative-top-high}
 use Rattle.rates.specs.Asked.{RateStatics, FigureRanges, tentativeBound}
 
 pub valid-rates : (st : Statics) → validStatics st ≡ true → RateStatics st

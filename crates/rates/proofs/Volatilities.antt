@@ -3,7 +3,7 @@ use mathlib.Core.Path.{_≡_}
 use mathlib.Core.Bool.{Bool, true, false}
 use Prim.Native.Nat.{ℕ}
 use Rattle.paper.specs.declared.Model.{Model}
-use Rattle.paper.specs.Rates.{weightOf, weighted, replacement, replaces, replacementWins, volatilityOf}
+use Rattle.paper_desk.specs.Rates.{weightOf, weighted, replacement, replaces, replacementWins, volatilityOf}
 use Rattle.rates.specs.declared.volatility.Volatility.{Volatility}
 use Rattle.rates.specs.Chosen.{chosen}
 

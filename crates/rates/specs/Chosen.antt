@@ -1,7 +1,7 @@
 -- What the volatility's rule chooses (7.1), in the form that the code hands on. Assumes nothing.
 use Prim.Native.Nat.{ℕ}
 use Rattle.paper.specs.declared.Model.{Model}
-use Rattle.paper.specs.Rates.{volatilityOf, replacementWins}
+use Rattle.paper_desk.specs.Rates.{volatilityOf, replacementWins}
 use Rattle.rates.specs.declared.volatility.Volatility.{Volatility}
 
 -- new s, and whether it is the replacement

@@ -7,8 +7,8 @@ use lib.Dec.{leb}
 use Rattle.paper.specs.declared.Statics.{Statics}
 use Rattle.paper.specs.Least.{least}
 use Rattle.paper.specs.Numbers.{rateMost, firstDaysMost}
-use Rattle.paper.specs.Rates.{daysOf, minimumOf}
-use Rattle.paper.proofs.Level.{rootsWithin}
+use Rattle.paper_desk.specs.Rates.{daysOf, minimumOf}
+use Rattle.paper_desk.proofs.Level.{rootsWithin}
 use Rattle.rates.specs.declared.level.Level.{Level}
 
 -- rh_L and S_L_min of a level

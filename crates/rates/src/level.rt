@@ -4,7 +4,7 @@ ghost use mathlib.Core.Path.{_≡_};
 ghost use Prim.Native.Nat.{_*_, _≤_, _<_};
 ghost use Rattle.paper.specs.Lists.{forLevels};
 ghost use Rattle.paper.specs.Numbers.{rateMost, aheadMost, firstDaysMost, daysMost, liquidityMost};
-ghost use Rattle.paper.specs.Rates.{minimumOf, covers, levelRate};
+ghost use Rattle.paper_desk.specs.Rates.{minimumOf, covers, levelRate};
 ghost use Rattle.rates.specs.Asked.{RateStatics, tentativeBound};
 ghost use Rattle.rates.specs.Level.{levelOf, tentativeSquare, liquiditySquare, squareMost, reaches, reachMost, leastReach};
 use paper::Rate;

@@ -8,7 +8,7 @@ ghost use mathlib.Core.Path.{_≡_};
 ghost use mathlib.Core.Bool.{false};
 ghost use Prim.Native.Nat.{_≤_};
 ghost use Rattle.paper.specs.Numbers.{volatilityMost};
-ghost use Rattle.paper.specs.Rates.{ratedBy, modelled, unmodelled, figuresOf, figuresByVolatility, moveTooLarge};
+ghost use Rattle.paper_desk.specs.Rates.{ratedBy, modelled, unmodelled, figuresOf, figuresByVolatility, moveTooLarge};
 ghost use Rattle.rates.specs.Asked.{RateStatics, RatedRanges, VolatilityRanges, FigureRanges};
 use paper::Figures;
 use paper::MILLIONTHS_IN_BP;

@@ -4,7 +4,7 @@ ghost use mathlib.Core.Bool.{true};
 ghost use Prim.Native.Nat.{_*_, _^_, _≤_, _<_};
 ghost use Rattle.paper.specs.Numbers.{oneInTenThousandths, volatilityMost};
 ghost use Rattle.paper.specs.Ranges.{isPrice};
-ghost use Rattle.paper.specs.Rates.{modelOf, moveFrom, moveOf, weightOf, weighted, replacement, replaces, volatilityOf, Weighing};
+ghost use Rattle.paper_desk.specs.Rates.{modelOf, moveFrom, moveOf, weightOf, weighted, replacement, replaces, volatilityOf, Weighing};
 ghost use Rattle.rates.specs.Chosen.{chosen};
 use paper::Model;
 use paper::ONE_IN_HUNDREDTHS;

@@ -12,7 +12,7 @@ use Rattle.paper.specs.declared.Row.{Row}
 use Rattle.paper.specs.declared.Record.{Record}
 use Rattle.paper.specs.Lists.{pick, every}
 use Rattle.paper.specs.Ranges.{isPrice, isGridPrice, validAdmission, validDay, validRows, sound, validDayNumbers}
-use Rattle.paper.specs.Evaluation.{evaluationOf, rowFits, evaluationFits}
+use Rattle.paper_desk.specs.Evaluation.{evaluationOf, rowFits, evaluationFits}
 use Rattle.paper.proofs.Logic.{and-left, and-right}
 use Rattle.inputs.proofs.Tests.{day-in-parts}
 use Rattle.evaluation.specs.declared.Priced.{Priced}

@@ -19,13 +19,13 @@ use Rattle.paper.specs.declared.Verdict.the-variants.{Done, NoSuchId, AlreadyAd
 use Rattle.paper.specs.Lists.{pick, every, allThree}
 use Rattle.paper.specs.Numbers.{movesMost}
 use Rattle.paper.specs.Ranges.{gridOf, validSlots, validAdmission, validDay, validQuote, validSide, sideOf, isLive, lastDay, sound, noLimits}
-use Rattle.paper.specs.Evaluation.{dayRows, hasCrossedRow, evaluationFits}
-use Rattle.paper.specs.Rates.{moveTooLarge}
-use Rattle.paper.specs.Limits.{crossed, countOf}
+use Rattle.paper_desk.specs.Evaluation.{dayRows, hasCrossedRow, evaluationFits}
+use Rattle.paper_desk.specs.Rates.{moveTooLarge}
+use Rattle.paper_desk.specs.Limits.{crossed, countOf}
 use Rattle.paper.specs.Verdicts.{isDone, Check, firstOf, NoneApplies, none, also}
-use Rattle.paper.specs.Desk.{saying, showing, admitted, moveOn, evaluated, quoted, alertsOn, moved, evaluateChecks, quoteChecks, moveChecks}
+use Rattle.paper_desk.specs.Desk.{saying, showing, admitted, moveOn, evaluated, quoted, alertsOn, moved, evaluateChecks, quoteChecks, moveChecks}
 use Rattle.paper.proofs.Logic.{clash, and-right, not-true, not-false, pick-true, pick-false}
-use Rattle.paper.proofs.Refusals.{refusals, done-none}
+use Rattle.paper_desk.proofs.Refusals.{refusals, done-none}
 use Rattle.record_soundness.proofs.Facts.{sound-facts}
 use Rattle.evaluation.specs.declared.PriceFigures.{PriceFigures}
 use Rattle.record_calls.specs.declared.Slot.{Slot}

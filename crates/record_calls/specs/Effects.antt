@@ -16,7 +16,7 @@ use Rattle.paper.specs.declared.Verdict.the-variants.{Done, NoSuchId, AlreadyAd
 use Rattle.paper.specs.Lists.{pick}
 use Rattle.paper.specs.Ranges.{validSlots, validAdmission, sound, sideOf}
 use Rattle.paper.specs.Verdicts.{isDone, Check, firstOf}
-use Rattle.paper.specs.Desk.{blank, saying, showing, admitted, evaluated, quoted, alertsOn, moved, place, found, Outcome, evaluateChecks, quoteChecks, moveChecks, readChecks}
+use Rattle.paper_desk.specs.Desk.{blank, saying, showing, admitted, evaluated, quoted, alertsOn, moved, place, found, Outcome, evaluateChecks, quoteChecks, moveChecks, readChecks}
 use Rattle.record_calls.specs.declared.Slot.{Slot}
 use Rattle.record_calls.specs.declared.Effect.{Effect}
 

@@ -12,9 +12,9 @@ use Rattle.paper.specs.declared.Verdict.{Verdict}
 use Rattle.paper.specs.declared.Verdict.the-variants.{BandCrossed}
 use Rattle.paper.specs.Lists.{pick}
 use Rattle.paper.specs.Ranges.{gridOf, lastDay, validDay}
-use Rattle.paper.specs.Evaluation.{dayRows, hasCrossedRow, evaluationFits}
+use Rattle.paper_desk.specs.Evaluation.{dayRows, hasCrossedRow, evaluationFits}
 use Rattle.paper.specs.Verdicts.{numberOf, isDone, firstOf}
-use Rattle.paper.specs.Desk.{blank, evaluated, evaluateChecks}
+use Rattle.paper_desk.specs.Desk.{blank, evaluated, evaluateChecks}
 use Rattle.evaluation.specs.declared.PriceFigures.{PriceFigures}
 use Rattle.evaluation.specs.declared.Priced.{Priced}
 use Rattle.evaluation.specs.Evaluation.{pricedOf}

@@ -13,10 +13,10 @@ use Rattle.paper.specs.declared.Verdict.{Verdict}
 use Rattle.paper.specs.declared.Verdict.the-variants as verdict
 use Rattle.paper.specs.Lists.{pick, every}
 use Rattle.paper.specs.Ranges.{LentRow, rowsOf, rowOf, wholeRows, validRow, validRows, validTerm, validDay, termAt, noLimits}
-use Rattle.paper.specs.Evaluation.{dayRows, isCrossedRow, rowFits}
-use Rattle.paper.specs.Limits.{crossed}
+use Rattle.paper_desk.specs.Evaluation.{dayRows, isCrossedRow, rowFits}
+use Rattle.paper_desk.specs.Limits.{crossed}
 use Rattle.paper.specs.Verdicts.{numberOf, Naming, firstNamed, firstOf}
-use Rattle.paper.specs.Desk.{evaluated, evaluateChecks}
+use Rattle.paper_desk.specs.Desk.{evaluated, evaluateChecks}
 use Rattle.paper.proofs.Logic.{clash}
 use Rattle.record_calls.proofs.Evaluations.{day-valid}
 use Rattle.paper_reasons.specs.declared.Fault.{Fault}

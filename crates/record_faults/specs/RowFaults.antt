@@ -12,8 +12,8 @@ use Rattle.paper.specs.declared.Verdict.{Verdict}
 use Rattle.paper.specs.declared.Verdict.the-variants as verdict
 use Rattle.paper.specs.Lists.{pick}
 use Rattle.paper.specs.Ranges.{LentRow, rowsOf, rowOf, wholeRows, validRow, validRows, noLimits}
-use Rattle.paper.specs.Evaluation.{isCrossedRow, rowFits}
-use Rattle.paper.specs.Limits.{crossed}
+use Rattle.paper_desk.specs.Evaluation.{isCrossedRow, rowFits}
+use Rattle.paper_desk.specs.Limits.{crossed}
 use Rattle.paper.specs.Verdicts.{firstNamed}
 use Rattle.paper_reasons.specs.declared.Fault.{Fault}
 use Rattle.paper_reasons.specs.declared.Fault.the-variants as fault

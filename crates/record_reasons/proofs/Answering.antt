@@ -10,7 +10,7 @@ use Rattle.paper.specs.declared.Record.{Record}
 use Rattle.paper.specs.declared.Verdict.{Verdict}
 use Rattle.paper.specs.declared.Verdict.the-variants as verdict
 use Rattle.paper.specs.Verdicts.{isDone, firstOf}
-use Rattle.paper.specs.Desk.{priceOn, evaluated, evaluateChecks}
+use Rattle.paper_desk.specs.Desk.{priceOn, evaluated, evaluateChecks}
 use Rattle.paper.proofs.Logic.{pick-true, pick-false}
 use Rattle.evaluation.specs.Evaluation.{pricedOf}
 use Rattle.record_calls.specs.declared.Slot.{Slot}

@@ -18,14 +18,14 @@ use Rattle.paper.specs.declared.Tentative.{Tentative}
 use Rattle.paper.specs.declared.Figures.{Figures}
 use Rattle.paper.specs.Lists.{pick, every, some, forLevels}
 use Rattle.paper.specs.Ranges.{isPrice, gridOf, validStatics, validTentative, sound, validDay, rateAt, noRate}
-use Rattle.paper.specs.Evaluation.{roublesOf, weights, rowFits, evaluationOf, evaluationFits, dayRows}
-use Rattle.paper.specs.Rates.{moveTooLarge, levelRate, modelled, figuresOf}
+use Rattle.paper_desk.specs.Evaluation.{roublesOf, weights, rowFits, evaluationOf, evaluationFits, dayRows}
+use Rattle.paper_desk.specs.Rates.{moveTooLarge, levelRate, modelled, figuresOf}
 use Rattle.paper.specs.Numbers.{volatilityMost, aheadMost}
 use Rattle.paper.specs.Verdicts.{isDone, firstOf, NoneApplies, none, also}
-use Rattle.paper.specs.Desk.{priceOn, moveOn, figuresOn, evaluated, evaluateChecks}
+use Rattle.paper_desk.specs.Desk.{priceOn, moveOn, figuresOn, evaluated, evaluateChecks}
 use Rattle.paper.proofs.Logic.{clash, and-left, and-right, and-false, not-false, pick-true, pick-false}
-use Rattle.paper.proofs.TentativeRange.{valid-high, modelled-stays}
-use Rattle.paper.proofs.Refusals.{refusals, done-none}
+use Rattle.paper_desk.proofs.TentativeRange.{valid-high, modelled-stays}
+use Rattle.paper_desk.proofs.Refusals.{refusals, done-none}
 use Rattle.evaluation.specs.declared.PriceFigures.{PriceFigures}
 use Rattle.evaluation.specs.Evaluation.{priceFigures, pricedOf}
 use Rattle.record_soundness.proofs.Facts.{sound-facts}

@@ -9,8 +9,8 @@ use Rattle.paper.specs.declared.Day.{Day}
 use Rattle.paper.specs.declared.Figures.{Figures}
 use Rattle.paper.specs.Numbers.{millionthsInBp}
 use Rattle.paper.specs.Ranges.{isPrice, validDayNumbers, rateAt, sound}
-use Rattle.paper.specs.Evaluation.{between}
-use Rattle.paper.specs.Rates.{modelOf, replacementWins, tentativeRateOf, moveTooLarge}
+use Rattle.paper_desk.specs.Evaluation.{between}
+use Rattle.paper_desk.specs.Rates.{modelOf, replacementWins, tentativeRateOf, moveTooLarge}
 use Rattle.evaluation.specs.declared.PriceFigures.{PriceFigures}
 use Rattle.record_writing.specs.Evaluates.{moveTo, figuresAt}
 use Rattle.paper_reasons.specs.declared.PriceReason.{PriceReason}

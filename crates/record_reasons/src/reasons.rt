@@ -4,7 +4,7 @@ ghost use mathlib.Core.Bool.{true};
 ghost use Prim.Native.Nat.{_+_, _^_, _≤_, _<_};
 ghost use Rattle.paper.specs.Numbers.{aheadMost, rateMost};
 ghost use Rattle.paper.specs.Ranges.{validStatics};
-ghost use Rattle.paper.specs.Rates.{levelRate};
+ghost use Rattle.paper_desk.specs.Rates.{levelRate};
 ghost use Rattle.rates.specs.Asked.{tentativeBound};
 ghost use Rattle.paper_reasons.specs.Reasons.{firstThatHolds, weightIs, weightReasons, replacementWas, replacementReasons, tentativeDid, tentativeReasons, levelSetBy, levelReason};
 ghost use Rattle.record_reasons.specs.Reasoned.{reasonFrom, unmodelledWith, modelledWith, reasonsAt, Accepted};

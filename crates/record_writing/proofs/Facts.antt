@@ -19,8 +19,8 @@ use Rattle.paper.specs.Lists.{pick, three, forLevels, allThree}
 use Rattle.paper.specs.Numbers.{priceMost, rateMost, movesMost, quoteMost}
 use Rattle.paper.specs.Ranges.{noRate, noLimits, isPrice, validTerm, termAt, validQuote, sound, validDayNumbers, rateAt}
 use Rattle.paper.specs.declared.Figures.{Figures}
-use Rattle.paper.specs.Rates.{minimumOf, levelRate, figuresOf, modelled, unmodelled}
-use Rattle.paper.specs.Limits.{deltaOf}
+use Rattle.paper_desk.specs.Rates.{minimumOf, levelRate, figuresOf, modelled, unmodelled}
+use Rattle.paper_desk.specs.Limits.{deltaOf}
 use Rattle.paper.proofs.Logic.{and-left, and-right, each-of-three}
 use Rattle.inputs.proofs.Facts.{quote-facts}
 use Rattle.record_soundness.proofs.Facts.{sound-facts}

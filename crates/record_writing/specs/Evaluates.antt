@@ -10,8 +10,8 @@ use Rattle.paper.specs.declared.Record.{Record}
 use Rattle.paper.specs.declared.Day.{Day}
 use Rattle.paper.specs.declared.Price.{Price}
 use Rattle.paper.specs.Ranges.{isPrice, sound, validDayNumbers, rateAt}
-use Rattle.paper.specs.Rates.{moveOf, figuresOf}
-use Rattle.paper.specs.Desk.{priceOn, evaluated}
+use Rattle.paper_desk.specs.Rates.{moveOf, figuresOf}
+use Rattle.paper_desk.specs.Desk.{priceOn, evaluated}
 use Rattle.paper.specs.declared.Figures.{Figures}
 
 -- the move to P and the figures of 7.1 at P

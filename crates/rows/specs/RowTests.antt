@@ -5,7 +5,7 @@ use mathlib.Core.List.{List, [], _∷_, map}
 use lib.IntN.{ℤ}
 use Rattle.paper.specs.Lists.{every, some}
 use Rattle.paper.specs.Ranges.{LentRow, rowsOf, validRow, rowOf}
-use Rattle.paper.specs.Evaluation.{dayRows, isCrossedRow, hasCrossedRow}
+use Rattle.paper_desk.specs.Evaluation.{dayRows, isCrossedRow, hasCrossedRow}
 use Rattle.rows.specs.declared.RowTest.{RowTest}
 use Rattle.rows.specs.declared.RowTest.the-variants.{InRange, NotCrossed}
 

@@ -6,7 +6,7 @@ ghost use lib.IntN.{pos};
 ghost use Rattle.paper.specs.Lists.{every};
 ghost use Rattle.paper.specs.Numbers.{rowNumbers};
 ghost use Rattle.paper.specs.Ranges.{rowAt, rowsOf, wholeRows, closeForVolume, validRow, validRows, rowOf};
-ghost use Rattle.paper.specs.Evaluation.{dayRows, isCrossedRow, hasCrossedRow};
+ghost use Rattle.paper_desk.specs.Evaluation.{dayRows, isCrossedRow, hasCrossedRow};
 ghost use Rattle.rows.specs.RowTests.{passes};
 use paper::Price;
 use paper::Row;

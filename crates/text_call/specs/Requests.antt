@@ -10,7 +10,7 @@ use Rattle.paper.specs.declared.AskedTerm.{AskedTerm}
 use Rattle.paper.specs.declared.AskedDay.{AskedDay}
 use Rattle.paper.specs.Lists.{pick}
 use Rattle.paper.specs.Terms.{dayOf}
-use Rattle.paper.specs.Desk.{Call, admit, evaluate, quote, move, read}
+use Rattle.paper_desk.specs.Desk.{Call, admit, evaluate, quote, move, read}
 use Rattle.text_protocol.specs.declared.Kept.{Kept}
 use Rattle.text_protocol.specs.declared.Pairs.{Pairs}
 use Rattle.text_protocol.specs.Names.{ID, SIDE, evaluateNames, quoteNames, moveNames, readNames, admitKind, evaluateKind, quoteKind, moveKind, readKind}

@@ -17,7 +17,7 @@ use Rattle.paper.specs.declared.InterestAnswer.{InterestAnswer}
 use Rattle.paper.specs.Lists.{pick}
 use Rattle.paper_interest.specs.Interest.{interestAnswer}
 use Rattle.paper.specs.Terms.{dayOf}
-use Rattle.paper.specs.Desk.{Call, admit, evaluate, quote, move, read, step}
+use Rattle.paper_desk.specs.Desk.{Call, admit, evaluate, quote, move, read, step}
 use Rattle.paper_bonds.specs.declared.Bond.{Bond}
 use Rattle.paper_bonds.specs.declared.BondAnswer.{BondAnswer}
 use Rattle.paper_bonds.specs.Bonds.{bondAnswer}
@@ -27,11 +27,9 @@ use Rattle.text_protocol.specs.declared.Pairs.{Pairs}
 use Rattle.text_protocol.specs.declared.Performed.{Performed}
 use Rattle.text_protocol.specs.Kept.{keptAfter}
 use Rattle.text_protocol.specs.Names.{interestNames, bondNames, admitKind, evaluateKind, quoteKind, moveKind, readKind, interestKind, bondKind}
-use Rattle.text_protocol.specs.Line.{Said, Nothing, NoCall}
-use Rattle.text_protocol.specs.Line.{Call as saysCall}
+use Rattle.text_protocol.specs.Line.{Said, Nothing, NoCall, Call as saysCall}
 use Rattle.text_protocol.specs.Calls.{interestOf, bondOf, figuresOf, callOf, deedOf}
-use Rattle.text_protocol.specs.Answers.{callText}
-use Rattle.text_protocol.specs.Answers.{figuresOf as figuresAnswered}
+use Rattle.text_protocol.specs.Answers.{callText, figuresOf as figuresAnswered}
 use Rattle.text_protocol.specs.Evening.{keptBy, callTold, textOf}
 use Rattle.text_protocol.proofs.Spelling.{impossible}
 use Rattle.text_answer.specs.Kinds.{figuresOfKind, textOfKind}

@@ -9,7 +9,7 @@ use lib.ListN.{drop}
 use Rattle.paper.specs.declared.Record.{Record}
 use Rattle.paper.specs.Lists.{pick}
 use Rattle.paper.specs.Terms.{dayOf}
-use Rattle.paper.specs.Desk.{Call, read, step}
+use Rattle.paper_desk.specs.Desk.{Call, read, step}
 use Rattle.paper_interest.specs.Interest.{interestAnswer}
 use Rattle.paper_bonds.specs.Bonds.{bondAnswer}
 use Rattle.paper_reasons.specs.Why.{whyOn}

@@ -44,7 +44,7 @@ use denote.Triple.Bound.{Bound}
 use Rattle.paper.specs.declared.Record.{Record}
 use Rattle.paper.specs.declared.Answer.{Answer}
 use Rattle.paper.specs.declared.Admission.{Admission}
-use Rattle.paper.specs.Desk.{Call, admit, read, step}
+use Rattle.paper_desk.specs.Desk.{Call, admit, read, step}
 use Rattle.paper.proofs.Answer as N
 use Rattle.paper.proofs.Answer.Laws as N′
 use Rattle.paper.proofs.Admission as B

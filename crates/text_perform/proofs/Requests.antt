@@ -9,7 +9,7 @@ use mir.Syntax.{Ty, w64, tyInt, tyStruct, tcons, tnil}
 use Rattle.paper.specs.declared.AskedDay.{AskedDay}
 use Rattle.paper.specs.Lists.{pick}
 use Rattle.paper.specs.Terms.{dayOf}
-use Rattle.paper.specs.Desk.{Call, admit, evaluate, quote, move, read}
+use Rattle.paper_desk.specs.Desk.{Call, admit, evaluate, quote, move, read}
 use Rattle.paper.proofs.Admission.Laws as X′
 use Rattle.paper.proofs.AskedDay.Laws as D′
 use Rattle.paper.proofs.Quote.Laws as Q′

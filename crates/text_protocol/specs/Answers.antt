@@ -22,7 +22,7 @@ use Rattle.paper_bonds.specs.declared.BondAnswer.{BondAnswer}
 use Rattle.paper.specs.Lists.{pick}
 use Rattle.paper.specs.Ranges.{isLive, lastDay, noLimits, notNear, termAt, rateAt}
 use Rattle.paper.specs.Verdicts.{numberOf, isDone}
-use Rattle.paper.specs.Desk.{Call, admit, evaluate, quote, move, read}
+use Rattle.paper_desk.specs.Desk.{Call, admit, evaluate, quote, move, read}
 use Rattle.text_protocol.specs.Bytes.{space, lineFeed}
 use Rattle.text_protocol.specs.Numbers.{decimal, signed}
 

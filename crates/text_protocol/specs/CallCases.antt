@@ -8,9 +8,8 @@ use Rattle.paper.specs.declared.Verdict.the-variants.{Done}
 use Rattle.paper.specs.declared.RepoBand.the-variants as band
 use Rattle.paper.specs.Verdicts.{isDone}
 use Rattle.paper.specs.Ranges.{unsigned}
-use Rattle.paper.specs.Terms.{workedRepo, repoOf, dayOf}
-use Rattle.paper.specs.Terms.{termOf as dayTerm}
-use Rattle.paper.specs.Desk.{admit, evaluate, quote, move, read}
+use Rattle.paper.specs.Terms.{workedRepo, repoOf, dayOf, termOf as dayTerm}
+use Rattle.paper_desk.specs.Desk.{admit, evaluate, quote, move, read}
 use Rattle.text_protocol.specs.declared.Kept.{Kept}
 use Rattle.text_protocol.specs.Bytes.{isBlank, isNot, run, grow, pieces, full, words, same}
 use Rattle.text_protocol.specs.Numbers.{isDigit, sizeFrom, sizeOf, upTo, above, numberOf, slashAt}

@@ -19,13 +19,12 @@ use Rattle.paper_bonds.specs.declared.Bond.{Bond}
 use Rattle.paper.specs.Lists.{pick}
 use Rattle.paper.specs.Ranges.{unsigned}
 use Rattle.paper.specs.Terms.{dayOf}
-use Rattle.paper.specs.Desk.{Call, admit, evaluate, quote, move, read}
+use Rattle.paper_desk.specs.Desk.{Call, admit, evaluate, quote, move, read}
 use Rattle.text_protocol.specs.declared.Kept.{Kept}
 use Rattle.text_protocol.specs.declared.Pairs.{Pairs}
 use Rattle.text_protocol.specs.Kept.{foundIn}
 use Rattle.text_protocol.specs.Names.{Name, ID, DAY, P1, P2, S, TENTATIVE, LOT, H, Q, A-UP, A-DOWN, WAIT, RH1, RH2, RH3, LIQ, MIN1, MIN2, MIN3, SMAX, XPR, SHIFT, PCHMAX, PCLMAX, W, U, MONITORING, ISEWMA, B, M, K0, RRCL0, RRCH0, K1, RRCL1, RRCH1, K2, RRCL2, RRCH2, SECOND, TERM, BID, ASK, SIDE, YM, YN, MM, SEC, XIR, MONEY, SECRATE, NET, FACE, ACCRUED, REPO, AGE, admitNames, evaluateNames, quoteNames, moveNames, readNames, interestNames, bondNames, admitKind, evaluateKind, quoteKind, moveKind, readKind, interestKind, the}
-use Rattle.text_protocol.specs.Line.{Said, Nothing, NoCall}
-use Rattle.text_protocol.specs.Line.{Call as saysCall}
+use Rattle.text_protocol.specs.Line.{Said, Nothing, NoCall, Call as saysCall}
 
 -- a number that may not be below zero: one that is, is out of every range
 abbrev pub unsignedOf : List Name → List ℤ → Name → ℕ

@@ -7,7 +7,7 @@ use lib.Dec.{ltb}
 use Rattle.paper.specs.declared.Record.{Record}
 use Rattle.paper.specs.Lists.{pick}
 use Rattle.paper_interest.specs.Interest.{interestAnswer}
-use Rattle.paper.specs.Desk.{Call, admit, evaluate, quote, move, read, step}
+use Rattle.paper_desk.specs.Desk.{Call, admit, evaluate, quote, move, read, step}
 use Rattle.paper_bonds.specs.Bonds.{bondAnswer}
 use Rattle.paper_reasons.specs.Why.{whyOn}
 use Rattle.text_protocol.specs.declared.Kept.{Kept}

@@ -9,7 +9,7 @@ use lib.ListN.{take, drop}
 use Rattle.text_protocol.specs.Answers.{answerMost}
 use Rattle.paper.specs.declared.Record.{Record}
 use Rattle.paper.specs.Terms.{dayOf}
-use Rattle.paper.specs.Desk.{Call, read, step}
+use Rattle.paper_desk.specs.Desk.{Call, read, step}
 use Rattle.paper_reasons.specs.Why.{whyOn}
 use Rattle.desk.specs.Promises.{Promised}
 use Rattle.desk.proofs.Steps.{read-leaves}

@@ -3,7 +3,7 @@
 ghost use mathlib.Core.Path.{_≡_};
 ghost use Prim.Native.Nat.{_+_, _≤_};
 ghost use lib.ListN.{length, take, drop, replicate};
-ghost use Rattle.paper.specs.Desk.{blank};
+ghost use Rattle.paper_desk.specs.Desk.{blank};
 ghost use Rattle.text_input.specs.Input.{Stands};
 ghost use Rattle.text_turn.specs.Turn.{Prepares};
 ghost use Rattle.text_serve.specs.Serve.{Turns, Serves};

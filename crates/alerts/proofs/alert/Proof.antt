@@ -8,7 +8,7 @@ use native.Mathlib.Omega.{arith}
 use lib.Dec.{leb}
 use borrow.Author.Needs.{needs}
 use borrow.Author.Tests.{le-leb, lt-leb}
-use Rattle.paper.specs.Alerts.{alert}
+use Rattle.paper_desk.specs.Alerts.{alert}
 use Rattle.paper.proofs.Logic.{le-or-lt}
 use Rattle.alerts.proofs.alert.Statement.{statement}
 use Rattle.alerts.proofs.alert.Tie as tie

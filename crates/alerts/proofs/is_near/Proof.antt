@@ -1,7 +1,7 @@
 -- `alerts::is_near` meets its contract: the distance of each side is the difference that `is_closer` compares. Assumes
 -- nothing.
 use borrow.Author.Needs.{needs}
-use Rattle.paper.specs.Alerts.{isNear, distance}
+use Rattle.paper_desk.specs.Alerts.{isNear, distance}
 use Rattle.alerts.specs.Nearness.{closer}
 use Rattle.alerts.proofs.is_near.Statement.{statement}
 use Rattle.alerts.proofs.is_near.Tie as tie

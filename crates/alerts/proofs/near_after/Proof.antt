@@ -1,6 +1,6 @@
 -- `alerts::near_after` meets its contract, by the cases of the definition. Assumes nothing.
 use borrow.Author.Needs.{needs}
-use Rattle.paper.specs.Alerts.{nearAfter, keptSince}
+use Rattle.paper_desk.specs.Alerts.{nearAfter, keptSince}
 use Rattle.alerts.proofs.near_after.Statement.{statement}
 use Rattle.alerts.proofs.near_after.Tie as tie
 

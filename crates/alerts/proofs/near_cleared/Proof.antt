@@ -1,6 +1,6 @@
 -- `alerts::near_cleared` meets its contract, by the cases of the definition. Assumes nothing.
 use borrow.Author.Needs.{needs}
-use Rattle.paper.specs.Alerts.{nearCleared}
+use Rattle.paper_desk.specs.Alerts.{nearCleared}
 use Rattle.alerts.proofs.near_cleared.Statement.{statement}
 use Rattle.alerts.proofs.near_cleared.Tie as tie
 

@@ -4,9 +4,9 @@ use mathlib.Core.Path.{_≡_, sym, _∙_}
 use native.Mathlib.Omega.{arith}
 use mir.Facts.{toZ-ofZ}
 use borrow.Author.Needs.{needs}
-use Rattle.paper.specs.Limits.{bond, inward, bondLimitOf, growing, farthest}
-use Rattle.paper.proofs.LimitSizes.{LimitStatics, valid-limit-statics}
-use Rattle.paper.proofs.KindLaws.{band-monitored, band-unmonitored}
+use Rattle.paper_desk.specs.Limits.{bond, inward, bondLimitOf, growing, farthest}
+use Rattle.paper_desk.proofs.LimitSizes.{LimitStatics, valid-limit-statics}
+use Rattle.paper_desk.proofs.KindLaws.{band-monitored, band-unmonitored}
 use Rattle.limits.specs.LimitLaws.{farthest-high}
 use Rattle.bond_limits.proofs.Sizes.{farthest-shifted}
 use Rattle.bond_limits.proofs.band_limit.Statement.{statement}

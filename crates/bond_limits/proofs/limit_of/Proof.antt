@@ -3,8 +3,8 @@ use mathlib.Core.Path.{_≡_, sym, _∙_}
 use native.Mathlib.Omega.{arith}
 use mir.Facts.{toZ-ofZ}
 use borrow.Author.Needs.{needs}
-use Rattle.paper.specs.Limits.{grownPrice, growing}
-use Rattle.paper.proofs.KindLaws.{bond-limit-is}
+use Rattle.paper_desk.specs.Limits.{grownPrice, growing}
+use Rattle.paper_desk.proofs.KindLaws.{bond-limit-is}
 use Rattle.bond_limits.proofs.Sizes.{grown-high}
 use Rattle.bond_limits.proofs.limit_of.Statement.{statement}
 use Rattle.bond_limits.proofs.limit_of.Tie as tie

@@ -6,7 +6,7 @@ use mir.Syntax.{w64}
 use mir.Val.{toZ, ofZ}
 use Rattle.paper.specs.declared.Side.{Side}
 use Rattle.paper.specs.declared.Side.the-variants.{Upper, Lower}
-use Rattle.paper.proofs.LimitSizes.{valid-limit-statics}
+use Rattle.paper_desk.proofs.LimitSizes.{valid-limit-statics}
 use Rattle.limits.specs.Sides.{repoOf}
 use Rattle.limits.specs.LimitRanges.{term-repo, term-days}
 use Rattle.paper_bonds.specs.Bonds.{limitsFrom}

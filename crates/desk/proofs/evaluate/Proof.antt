@@ -2,7 +2,7 @@
 use contract.Running.{givenOf, tables, tablesOf}
 use denote.Triple.Spec.{tripleOf}
 use denote.Triple.Table.{entered, cited}
-use Rattle.paper.specs.Desk.{evaluate}
+use Rattle.paper_desk.specs.Desk.{evaluate}
 use Rattle.record_calls.specs.Effects.{evaluateEffect}
 use Rattle.desk.proofs.Known.{take-known, put-known}
 use Rattle.desk.proofs.Plain.{day, day-laws}

@@ -9,7 +9,7 @@ use denote.Triple.Spec.{tripleOf}
 use denote.Triple.Table.{entered, cited}
 use Rattle.paper.specs.declared.AskedDay.{AskedDay}
 use Rattle.paper.specs.declared.Record.{Record}
-use Rattle.paper.specs.Desk.{Call, evaluate, step}
+use Rattle.paper_desk.specs.Desk.{Call, evaluate, step}
 use Rattle.paper.specs.Terms.{dayOf}
 use Rattle.record_calls.specs.declared.Slot.{Slot}
 use Rattle.record_calls.specs.declared.Effect.{Effect}

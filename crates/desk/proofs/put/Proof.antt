@@ -45,7 +45,7 @@ use denote.Triple.Table.{entered}
 use denote.Triple.Walked.{says, Stays, stay-slice, stay-none, walkOf, goes-slice, goes-none, Walks, ends-at, walked, walk-meets}
 use denote.Exit.{yes}
 use Rattle.paper.specs.declared.Record.{Record}
-use Rattle.paper.specs.Desk.{blank}
+use Rattle.paper_desk.specs.Desk.{blank}
 use Rattle.desk.proofs.Frame.{Addresses, of-types, env-of, frame, enters, value, field, whole, sets, leaves}
 use Rattle.desk.proofs.Row.{R, word, vals, val, tells, makes, typed, table-ty}
 use Rattle.desk.proofs.Slots.{finding, finds}

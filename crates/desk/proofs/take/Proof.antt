@@ -52,7 +52,7 @@ use denote.Triple.Walked.{says, Stays, stay-none-slice, stay-none, walkOf, goes-
 use denote.Exit.{yes}
 use Rattle.paper.specs.declared.Record.{Record}
 use Rattle.record_calls.specs.declared.Slot.{Slot}
-use Rattle.paper.specs.Desk.{blank}
+use Rattle.paper_desk.specs.Desk.{blank}
 use Rattle.record_calls.specs.Effects.{slotOf}
 use Rattle.paper.proofs.Record.Laws as T′
 use Rattle.record_calls.proofs.Slot.Laws as U′

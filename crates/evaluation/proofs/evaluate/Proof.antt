@@ -4,7 +4,7 @@ use mathlib.Core.Path.{refl}
 use Prim.Native.Nat.{_≤_}
 use borrow.Author.Needs.{needs}
 use Rattle.paper.specs.Numbers.{priceMost}
-use Rattle.paper.specs.Evaluation.{dayRows}
+use Rattle.paper_desk.specs.Evaluation.{dayRows}
 use Rattle.evaluation.specs.declared.Gathered.the-variants.{Whole}
 use Rattle.evaluation.specs.Book.{Gathers}
 use Rattle.evaluation.proofs.Answers.{made-beyond, made-book, close-le, between-le}

@@ -6,7 +6,7 @@ use native.Mathlib.Omega.{arith}
 use borrow.Author.Tests.{not-true, not-false}
 use lib.ListN.{length}
 use Rattle.paper.specs.Numbers.{rowNumbers}
-use Rattle.paper.specs.Evaluation.{rowFits}
+use Rattle.paper_desk.specs.Evaluation.{rowFits}
 use Rattle.exact.specs.LentLaws.{place-room}
 use Rattle.rows.specs.RowLaws.{valid-sevens, valid-short, valid-whole, valid-every, InRange}
 use Rattle.evaluation.proofs.Prices.{fitting}

@@ -3,7 +3,7 @@
 use native.Mathlib.Nat.{mul-le-mul}
 use native.Mathlib.Omega.{arith}
 use borrow.Author.Needs.{needs}
-use Rattle.paper.specs.Evaluation.{roublesOf, rowWeight}
+use Rattle.paper_desk.specs.Evaluation.{roublesOf, rowWeight}
 use Rattle.evaluation.proofs.in_roubles.Statement.{statement}
 use Rattle.evaluation.proofs.in_roubles.Tie as tie
 

@@ -1,6 +1,6 @@
 -- `evaluation::median` meets its contract: the lesser and the greater of two numbers are the definition's. Assumes
 -- nothing.
-use Rattle.paper.specs.Evaluation.{median}
+use Rattle.paper_desk.specs.Evaluation.{median}
 use borrow.Author.Needs.{needs}
 use Rattle.evaluation.proofs.median.Statement.{statement}
 use Rattle.evaluation.proofs.median.Tie as tie

@@ -1,7 +1,7 @@
 -- `evaluation::row_fits` meets its contract: its tests are the paper's, of the row's figures in roubles. Assumes
 -- nothing.
 use borrow.Author.Needs.{needs}
-use Rattle.paper.specs.Evaluation.{roublesOf, rowFits}
+use Rattle.paper_desk.specs.Evaluation.{roublesOf, rowFits}
 use Rattle.evaluation.proofs.row_fits.Statement.{statement}
 use Rattle.evaluation.proofs.row_fits.Tie as tie
 

@@ -10,7 +10,7 @@ use mir.Facts.{toZ-ofZ}
 use borrow.Author.Needs.{needs}
 use Rattle.paper.specs.Numbers.{rouble, yearInDayBp, priceMost, centralMost}
 use Rattle.paper.specs.Roundings.{halfUp, grown}
-use Rattle.paper.specs.Evaluation.{rowPrice}
+use Rattle.paper_desk.specs.Evaluation.{rowPrice}
 use Rattle.exact.specs.SignedLaws.{grown-range}
 use Rattle.evaluation.proofs.Prices.{none-stays}
 use Rattle.evaluation.proofs.row_price.Statement.{statement}

@@ -1,6 +1,6 @@
 -- `limits::band_moved` meets its contract, by the cases of the definition. Assumes nothing.
 use borrow.Author.Needs.{needs}
-use Rattle.paper.specs.Limits.{bandMoved}
+use Rattle.paper_desk.specs.Limits.{bandMoved}
 use Rattle.limits.proofs.band_moved.Statement.{statement}
 use Rattle.limits.proofs.band_moved.Tie as tie
 

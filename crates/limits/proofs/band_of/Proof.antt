@@ -12,7 +12,7 @@ use Rattle.paper.specs.declared.Side.the-variants.{Upper, Lower}
 use Rattle.paper.specs.declared.Moves.{Moves}
 use Rattle.paper.specs.declared.Term.{Term}
 use Rattle.paper.specs.Ranges.{validTerm}
-use Rattle.paper.specs.Limits.{bandOf, countOf}
+use Rattle.paper_desk.specs.Limits.{bandOf, countOf}
 use Rattle.limits.specs.Sides.{repoOf}
 use Rattle.limits.specs.LimitRanges.{BandInputs, TermInputs, side-inputs, term-repo}
 use Rattle.limits.proofs.band_of.Statement.{statement}

@@ -2,7 +2,7 @@
 -- Assumes nothing.
 use native.Mathlib.Omega.{arith}
 use borrow.Author.Needs.{needs}
-use Rattle.paper.specs.Limits.{deltaOf, limitOf}
+use Rattle.paper_desk.specs.Limits.{deltaOf, limitOf}
 use Rattle.limits.specs.LimitRanges.{LimitStatics, valid-limit-statics}
 use Rattle.limits.specs.LimitLaws.{grid-range}
 use Rattle.limits.specs.LimitBounds.{DeltaSizes, delta-sizes}

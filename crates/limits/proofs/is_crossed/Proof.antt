@@ -1,6 +1,6 @@
 -- `limits::is_crossed` meets its contract: the code's test is the definition's. Assumes nothing.
 use mathlib.Core.Path.{refl}
-use Rattle.paper.specs.Limits.{crossed}
+use Rattle.paper_desk.specs.Limits.{crossed}
 use Rattle.limits.proofs.is_crossed.Statement.{statement}
 use Rattle.limits.proofs.is_crossed.Tie as tie
 

@@ -7,7 +7,7 @@ use mir.Facts.{toZ-ofZ}
 use borrow.Author.Needs.{needs}
 use Rattle.paper.specs.Numbers.{yearInDayBp}
 use Rattle.paper.specs.Roundings.{grown}
-use Rattle.paper.specs.Limits.{limitOf, monitored}
+use Rattle.paper_desk.specs.Limits.{limitOf, monitored}
 use Rattle.exact.specs.SignedLaws.{grown-range}
 use Rattle.exact.specs.Wide.{yearMost}
 use Rattle.limits.specs.LimitRanges.{LimitStatics, valid-limit-statics}

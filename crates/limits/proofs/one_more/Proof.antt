@@ -1,7 +1,7 @@
 -- `limits::one_more` meets its contract, by the cases of the definition. Assumes nothing.
 use native.Mathlib.Omega.{arith}
 use borrow.Author.Needs.{needs}
-use Rattle.paper.specs.Limits.{oneMore}
+use Rattle.paper_desk.specs.Limits.{oneMore}
 use Rattle.limits.proofs.one_more.Statement.{statement}
 use Rattle.limits.proofs.one_more.Tie as tie
 

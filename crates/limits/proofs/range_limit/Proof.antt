@@ -1,6 +1,6 @@
 -- `limits::range_limit` meets its contract: it is the shifted limit, half up. Assumes nothing.
 use borrow.Author.Needs.{needs}
-use Rattle.paper.specs.Limits.{rangeLimit}
+use Rattle.paper_desk.specs.Limits.{rangeLimit}
 use Rattle.limits.proofs.range_limit.Statement.{statement}
 use Rattle.limits.proofs.range_limit.Tie as tie
 

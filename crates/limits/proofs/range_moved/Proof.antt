@@ -1,6 +1,6 @@
 -- `limits::range_moved` meets its contract, by the cases of the definition. Assumes nothing.
 use borrow.Author.Needs.{needs}
-use Rattle.paper.specs.Limits.{rangeMoved}
+use Rattle.paper_desk.specs.Limits.{rangeMoved}
 use Rattle.limits.proofs.range_moved.Statement.{statement}
 use Rattle.limits.proofs.range_moved.Tie as tie
 

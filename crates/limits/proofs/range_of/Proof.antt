@@ -1,6 +1,6 @@
 -- `limits::range_of` meets its contract, side by side. Assumes nothing.
 use borrow.Author.Needs.{needs}
-use Rattle.paper.specs.Limits.{rangeOf}
+use Rattle.paper_desk.specs.Limits.{rangeOf}
 use Rattle.limits.proofs.range_of.Statement.{statement}
 use Rattle.limits.proofs.range_of.Tie as tie
 

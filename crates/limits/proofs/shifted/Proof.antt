@@ -3,7 +3,7 @@
 use native.Mathlib.Omega.{arith}
 use borrow.Author.Needs.{needs}
 use Rattle.paper.specs.declared.Side.the-variants.{Upper, Lower}
-use Rattle.paper.specs.Limits.{shifted}
+use Rattle.paper_desk.specs.Limits.{shifted}
 use Rattle.limits.specs.LimitLaws.{shifted-high}
 use Rattle.limits.proofs.shifted.Statement.{statement}
 use Rattle.limits.proofs.shifted.Tie as tie

@@ -1,7 +1,7 @@
 -- `limits::shifted_limit` meets its contract: the quotient, rounded once to the grid of the lot. Assumes nothing.
 use native.Mathlib.Omega.{arith}
 use borrow.Author.Needs.{needs}
-use Rattle.paper.specs.Limits.{limitOf}
+use Rattle.paper_desk.specs.Limits.{limitOf}
 use Rattle.limits.specs.LimitLaws.{grid-range, shifted-den, shifted-high}
 use Rattle.limits.proofs.shifted_limit.Statement.{statement}
 use Rattle.limits.proofs.shifted_limit.Tie as tie

@@ -5,7 +5,7 @@ use native.Mathlib.Omega.{arith}
 use borrow.Author.Needs.{needs}
 use Rattle.paper.specs.declared.Statics.{Statics}
 use Rattle.paper.specs.Numbers.{oneInHundredths, rateMost, divisorMost, shiftMost, movesMost}
-use Rattle.paper.specs.Limits.{spread}
+use Rattle.paper_desk.specs.Limits.{spread}
 use Rattle.limits.specs.LimitRanges.{valid-limit-statics}
 use Rattle.limits.specs.LimitLaws.{away-high}
 use Rattle.limits.proofs.spread.Statement.{statement}

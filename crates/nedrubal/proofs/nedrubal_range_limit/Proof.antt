@@ -4,7 +4,7 @@ use mir.Syntax.{w64}
 use mir.Val.{SFits}
 use mir.Facts.{toZ-ofZ}
 use borrow.Author.Needs.{needs}
-use Rattle.paper.specs.Gateway.{rangeCall}
+use Rattle.paper_desk.specs.Gateway.{rangeCall}
 use Rattle.gateway.proofs.GatewayStatics.{read, read-given}
 use Rattle.nedrubal.proofs.nedrubal_range_limit.Statement.{statement}
 use Rattle.nedrubal.proofs.nedrubal_range_limit.Tie as tie

@@ -4,9 +4,9 @@ use mathlib.Core.Bool.{false}
 use Prim.Native.Nat.{ℕ, _≤_}
 use native.Mathlib.Omega.{arith}
 use Rattle.paper.specs.declared.Statics.{Statics}
-use Rattle.paper.specs.Rates.{tentativeRate, tentativeRateOf, figuresByVolatility}
+use Rattle.paper_desk.specs.Rates.{tentativeRate, tentativeRateOf, figuresByVolatility}
 use Rattle.paper.specs.Numbers.{volatilityMost}
-use Rattle.paper.proofs.TentativeRange.{valid-high, tentative-rate-in}
+use Rattle.paper_desk.proofs.TentativeRange.{valid-high, tentative-rate-in}
 use Rattle.paper.proofs.Logic.{pick-false}
 use Rattle.rates.specs.Asked.{RateStatics, tentativeBound}
 use Rattle.rates.proofs.Statics.{top-within}

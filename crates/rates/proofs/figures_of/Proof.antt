@@ -6,7 +6,7 @@ use borrow.Author.Needs.{needs}
 use borrow.Author.Tests.{ltb-false}
 use Rattle.paper.specs.declared.Statics.{Statics}
 use Rattle.paper.specs.Numbers.{volatilityMost}
-use Rattle.paper.specs.Rates.{figuresOf, moveTooLarge}
+use Rattle.paper_desk.specs.Rates.{figuresOf, moveTooLarge}
 use Rattle.paper.proofs.Logic.{and-false, pick-true, pick-false}
 use Rattle.rates.proofs.figures_of.Statement.{statement}
 use Rattle.rates.proofs.figures_of.Tie as tie

@@ -4,9 +4,9 @@ use Prim.Native.Nat.{_≤_}
 use native.Mathlib.Omega.{arith}
 use borrow.Author.Needs.{needs}
 use Rattle.paper.specs.Numbers.{volatilityMost}
-use Rattle.paper.specs.Rates.{modelled, Weighing}
-use Rattle.paper.proofs.Bounds.{volatility-high}
-use Rattle.paper.proofs.TentativeRange.{valid-high, tentative-rate-in}
+use Rattle.paper_desk.specs.Rates.{modelled, Weighing}
+use Rattle.paper_desk.proofs.Bounds.{volatility-high}
+use Rattle.paper_desk.proofs.TentativeRange.{valid-high, tentative-rate-in}
 use Rattle.rates.specs.Asked.{tentativeBound}
 use Rattle.rates.proofs.Statics.{rates-weighing, top-within}
 use Rattle.rates.proofs.modelled.Statement.{statement}

@@ -1,6 +1,6 @@
 -- `move_too_large` meets its contract: the test of the code is the definition's. Assumes nothing.
 use mathlib.Core.Path.{refl}
-use Rattle.paper.specs.Rates.{moveTooLarge}
+use Rattle.paper_desk.specs.Rates.{moveTooLarge}
 use Rattle.rates.proofs.move_too_large.Statement.{statement}
 use Rattle.rates.proofs.move_too_large.Tie as tie
 

@@ -1,7 +1,7 @@
 -- `rated` meets its contract: the rates are those of the tentative rate that t makes, which stays in their range.
 -- Assumes nothing.
 use native.Mathlib.Omega.{arith}
-use Rattle.paper.proofs.Bounds.{tentative-held}
+use Rattle.paper_desk.proofs.Bounds.{tentative-held}
 use Rattle.rates.proofs.rated.Statement.{statement}
 use Rattle.rates.proofs.rated.Tie as tie
 

@@ -1,6 +1,6 @@
 -- `unmodelled` meets its contract: the minima, and the other figures as they were. Assumes nothing.
 use borrow.Author.Needs.{needs}
-use Rattle.paper.specs.Rates.{unmodelled}
+use Rattle.paper_desk.specs.Rates.{unmodelled}
 use Rattle.rates.proofs.unmodelled.Statement.{statement}
 use Rattle.rates.proofs.unmodelled.Tie as tie
 

@@ -2,7 +2,7 @@
 -- nothing. `record_calls::alerts_on` meets its contract: each side's alert is of its near second after the quote.
 -- Assumes nothing.
 use borrow.Author.Needs.{needs}
-use Rattle.paper.specs.Desk.{alerting, alertsOn}
+use Rattle.paper_desk.specs.Desk.{alerting, alertsOn}
 use Rattle.record_calls.proofs.alerts_on.Statement.{statement}
 use Rattle.record_calls.proofs.alerts_on.Tie as tie
 

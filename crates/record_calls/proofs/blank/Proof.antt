@@ -1,6 +1,6 @@
 -- `record_calls::blank` meets its contract: every figure is the definition's. Assumes nothing.
 use mathlib.Core.Path.{refl}
-use Rattle.paper.specs.Desk.{blank}
+use Rattle.paper_desk.specs.Desk.{blank}
 use Rattle.record_calls.proofs.blank.Statement.{statement}
 use Rattle.record_calls.proofs.blank.Tie as tie
 

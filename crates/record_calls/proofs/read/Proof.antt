@@ -2,7 +2,7 @@
 use mathlib.Core.Path.{_≡_, sym, _∙_}
 use mathlib.Core.Bool.{true, false}
 use Rattle.paper.specs.Verdicts.{isDone, firstOf}
-use Rattle.paper.specs.Desk.{readChecks}
+use Rattle.paper_desk.specs.Desk.{readChecks}
 use Rattle.paper.proofs.Logic.{not-true, not-false}
 use Rattle.record_calls.specs.Effects.{isKnown, readAnswer}
 use borrow.Author.Needs.{needs}

@@ -1,6 +1,6 @@
 -- `record_calls::saying` meets its contract: the verdict, with the blank for its record. Assumes nothing.
 use borrow.Author.Needs.{needs}
-use Rattle.paper.specs.Desk.{saying}
+use Rattle.paper_desk.specs.Desk.{saying}
 use Rattle.record_calls.proofs.saying.Statement.{statement}
 use Rattle.record_calls.proofs.saying.Tie as tie
 

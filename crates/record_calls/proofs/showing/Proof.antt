@@ -1,6 +1,6 @@
 -- `record_calls::showing` meets its contract: the record stands in the answer as it is. Assumes nothing.
 use mathlib.Core.Path.{refl}
-use Rattle.paper.specs.Desk.{showing}
+use Rattle.paper_desk.specs.Desk.{showing}
 use Rattle.record_calls.proofs.showing.Statement.{statement}
 use Rattle.record_calls.proofs.showing.Tie as tie
 

@@ -4,9 +4,9 @@ use mathlib.Core.Path.{_≡_, sym, ap, _∙_}
 use mathlib.Core.Bool.{true, false}
 use lib.Dec.{leb}
 use borrow.Author.Tests.{le-leb, lt-leb}
-use Rattle.paper.proofs.LimitSizes.{grid-range}
+use Rattle.paper_desk.proofs.LimitSizes.{grid-range}
 use Rattle.paper.specs.Ranges.{gridOf, lastDay, validDay}
-use Rattle.paper.specs.Evaluation.{dayRows}
+use Rattle.paper_desk.specs.Evaluation.{dayRows}
 use Rattle.record_soundness.proofs.Facts.{sound-facts}
 use Rattle.rows.specs.RowLaws.{valid-sevens, valid-whole}
 use Rattle.evaluation.specs.Evaluation.{evaluationMade}

@@ -3,8 +3,8 @@
 use mathlib.Core.Path.{_≡_, sym, ap, _∙_}
 use mathlib.Core.List.{List}
 use lib.IntN.{ℤ}
-use Rattle.paper.specs.Rates.{moveTooLarge}
-use Rattle.paper.specs.Desk.{priceOn, moveOn}
+use Rattle.paper_desk.specs.Rates.{moveTooLarge}
+use Rattle.paper_desk.specs.Desk.{priceOn, moveOn}
 use Rattle.evaluation.specs.declared.Priced.{Priced}
 use Rattle.evaluation.specs.Evaluation.{pricedOf}
 use Rattle.record_calls.specs.Workings.{pricedOn}

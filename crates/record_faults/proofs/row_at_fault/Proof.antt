@@ -1,5 +1,5 @@
 -- `row_at_fault` meets its contract: each test of the code is the one of its name. Assumes nothing.
-use Rattle.paper.specs.Evaluation.{rowFits}
+use Rattle.paper_desk.specs.Evaluation.{rowFits}
 use mathlib.Core.Path.{_≡_, ap, _∙_}
 use mathlib.Core.Bool.{not}
 use Rattle.rows.specs.RowLaws.{in-range}

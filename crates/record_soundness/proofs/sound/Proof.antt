@@ -1,7 +1,7 @@
 -- `record_soundness::sound` meets its contract: the definition is the figures, then each part as its function judges
 -- it. The grid of any lot is above 0. Assumes nothing.
 use borrow.Author.Needs.{needs}
-use Rattle.paper.proofs.LimitSizes.{grid-range}
+use Rattle.paper_desk.proofs.LimitSizes.{grid-range}
 use Rattle.paper.specs.Ranges.{sound, soundFigures}
 use Rattle.record_soundness.proofs.sound.Statement.{statement}
 use Rattle.record_soundness.proofs.sound.Tie as tie

@@ -1,7 +1,7 @@
 -- `record_writing::admitted` meets its contract: the statics are those given, the rates their minima, the two prices
 -- those given, and all else is at 0. Assumes nothing.
 use borrow.Author.Needs.{needs}
-use Rattle.paper.specs.Desk.{admitted}
+use Rattle.paper_desk.specs.Desk.{admitted}
 use Rattle.inputs.proofs.Facts.{admission-facts}
 use Rattle.rates.proofs.Statics.{valid-rates}
 use Rattle.record_writing.proofs.admitted.Statement.{statement}

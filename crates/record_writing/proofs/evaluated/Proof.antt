@@ -7,7 +7,7 @@ use native.Mathlib.Omega.{arith}
 use lib.ListN.{length, getD, length-map}
 use Rattle.paper.specs.Numbers.{rateMost}
 use Rattle.paper.specs.Ranges.{noRate, noTerm}
-use Rattle.paper.specs.Desk.{figuresOn, moveOn, evaluated}
+use Rattle.paper_desk.specs.Desk.{figuresOn, moveOn, evaluated}
 use Rattle.inputs.proofs.Facts.{price-facts}
 use Rattle.record_soundness.proofs.Facts.{sound-facts}
 use Rattle.limits.specs.LimitRanges.{RangeInputs}

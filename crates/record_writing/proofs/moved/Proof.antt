@@ -1,7 +1,7 @@
 -- `record_writing::moved` meets its contract: each part of the record is that part's rule, and a sound record with a
 -- move left is in their ranges. Assumes nothing.
 use borrow.Author.Needs.{needs}
-use Rattle.paper.specs.Desk.{moved}
+use Rattle.paper_desk.specs.Desk.{moved}
 use Rattle.record_soundness.proofs.Facts.{sound-facts}
 use Rattle.limits.specs.LimitRanges.{one-more-high}
 use Rattle.record_writing.proofs.Facts.{bands-asked, sound-terms, sound-inputs, shifts-asked}

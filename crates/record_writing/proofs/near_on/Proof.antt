@@ -2,7 +2,7 @@
 -- Assumes nothing.
 use native.Mathlib.Omega.{arith}
 use borrow.Author.Needs.{needs}
-use Rattle.paper.specs.Desk.{nearOn}
+use Rattle.paper_desk.specs.Desk.{nearOn}
 use Rattle.inputs.proofs.Facts.{quote-facts}
 use Rattle.record_writing.proofs.Facts.{quote-place, band-near}
 use Rattle.record_writing.proofs.near_on.Statement.{statement}

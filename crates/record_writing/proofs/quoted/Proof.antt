@@ -1,7 +1,7 @@
 -- `record_writing::quoted` meets its contract: of the record only the quote's term and the last quote second change.
 -- Assumes nothing.
 use native.Mathlib.Omega.{arith}
-use Rattle.paper.specs.Desk.{quoted}
+use Rattle.paper_desk.specs.Desk.{quoted}
 use Rattle.record_writing.proofs.Facts.{quote-place}
 use Rattle.record_writing.proofs.quoted.Statement.{statement}
 use Rattle.record_writing.proofs.quoted.Tie as tie

@@ -1,7 +1,7 @@
 -- `rows::row_crossed` meets its contract: the bid and the ask stand at their places of the row, and its three tests are
 -- the definition's. Assumes nothing.
 use Rattle.paper.specs.Ranges.{rowOf, rowAt}
-use Rattle.paper.specs.Evaluation.{isCrossedRow}
+use Rattle.paper_desk.specs.Evaluation.{isCrossedRow}
 use borrow.Author.Needs.{needs}
 use Rattle.rows.proofs.row_crossed.Statement.{statement}
 use Rattle.rows.proofs.row_crossed.Tie as tie

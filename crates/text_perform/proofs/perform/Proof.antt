@@ -42,7 +42,7 @@ use denote.Triple.Walked.{says, Stays, gave-slice, stay-none, stay-none-slice, w
 use denote.Exit.{yes}
 use Rattle.paper.specs.declared.Record.{Record}
 use Rattle.paper.specs.declared.Answer.{Answer}
-use Rattle.paper.specs.Desk.{Call, quote, move as moving}
+use Rattle.paper_desk.specs.Desk.{Call, quote, move as moving}
 use Rattle.paper.proofs.Answer as N
 use Rattle.paper.proofs.Answer.Laws as N′
 use Rattle.paper.proofs.Admission as X

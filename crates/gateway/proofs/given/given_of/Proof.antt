@@ -1,6 +1,6 @@
 -- `given::given_of` meets its contract: each number is read back from its bits and made unsigned, field by field.
 -- Assumes nothing.
-use Rattle.paper.specs.Gateway.{givenOf}
+use Rattle.paper_desk.specs.Gateway.{givenOf}
 use Rattle.gateway.proofs.GatewayStatics.{read}
 use Rattle.gateway.proofs.given.given_of.Statement.{statement}
 use Rattle.gateway.proofs.given.given_of.Tie as tie

@@ -5,7 +5,7 @@ use mathlib.Core.Bool.{true}
 use native.Mathlib.Omega.{arith}
 use borrow.Author.Needs.{needs}
 use Rattle.paper.specs.Ranges.{validStatics}
-use Rattle.paper.specs.Gateway.{levelCall}
+use Rattle.paper_desk.specs.Gateway.{levelCall}
 use Rattle.inputs.proofs.Facts.{statics-step, statics-facts}
 use Rattle.gateway.specs.GatewayLaws.{figure-high}
 use Rattle.gateway.proofs.Answers.{made-valid, four, six, figure}

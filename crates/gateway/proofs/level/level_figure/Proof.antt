@@ -2,7 +2,7 @@
 -- Assumes nothing.
 use mathlib.Core.Path.{sym, _∙_}
 use borrow.Author.Needs.{needs}
-use Rattle.paper.specs.Gateway.{levelFigure}
+use Rattle.paper_desk.specs.Gateway.{levelFigure}
 use Rattle.paper.proofs.Logic.{pick-true, pick-false}
 use Rattle.rates.proofs.Statics.{valid-rates, top-within}
 use Rattle.gateway.specs.GatewayLaws.{level-inputs}

@@ -1,6 +1,6 @@
 -- `level::level_in_range` meets its contract: its tests are the definition's. Assumes nothing.
 use borrow.Author.Needs.{needs}
-use Rattle.paper.specs.Gateway.{levelInRange}
+use Rattle.paper_desk.specs.Gateway.{levelInRange}
 use Rattle.gateway.proofs.level.level_in_range.Statement.{statement}
 use Rattle.gateway.proofs.level.level_in_range.Tie as tie
 

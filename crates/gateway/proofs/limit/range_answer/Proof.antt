@@ -2,7 +2,7 @@
 use mathlib.Core.Path.{_∙_}
 use mir.Facts.{toZ-ofZ}
 use borrow.Author.Needs.{needs}
-use Rattle.paper.specs.Gateway.{rangeCall}
+use Rattle.paper_desk.specs.Gateway.{rangeCall}
 use Rattle.gateway.specs.LimitCalls.{limitInRange, limitFigure, limitCall}
 use Rattle.gateway.proofs.limit.range_answer.Statement.{statement}
 use Rattle.gateway.proofs.limit.range_answer.Tie as tie

@@ -1,7 +1,7 @@
 -- `inputs::valid_figures` meets its contract: the grid of any lot is above 0, and each test is the one that the
 -- definition names. Assumes nothing.
 use borrow.Author.Needs.{needs}
-use Rattle.paper.proofs.LimitSizes.{grid-range}
+use Rattle.paper_desk.proofs.LimitSizes.{grid-range}
 use Rattle.paper.specs.Ranges.{validFigures}
 use Rattle.inputs.proofs.calls.valid_figures.Statement.{statement}
 use Rattle.inputs.proofs.calls.valid_figures.Tie as tie

@@ -7,7 +7,7 @@ use borrow.Author.Needs.{needs}
 use Rattle.paper.specs.Numbers.{tentativeMost}
 use Rattle.paper.specs.Ranges.{tentativeTop}
 use Rattle.paper.proofs.Logic.{le-or-lt}
-use Rattle.paper.proofs.TentativeRange.{tentative-top-is, tentative-top-high}
+use Rattle.paper_desk.proofs.TentativeRange.{tentative-top-is, tentative-top-high}
 use Rattle.inputs.proofs.statics.tentative_top.Statement.{statement}
 use Rattle.inputs.proofs.statics.tentative_top.Tie as tie
 

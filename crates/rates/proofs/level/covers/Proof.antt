@@ -5,7 +5,7 @@ use native.Mathlib.Nat.{mul-le-mul}
 use native.Mathlib.Omega.{arith}
 use borrow.Author.Needs.{needs}
 use Rattle.paper.specs.Numbers.{rateMost, firstDaysMost, daysMost}
-use Rattle.paper.specs.Rates.{covers}
+use Rattle.paper_desk.specs.Rates.{covers}
 use Rattle.rates.proofs.Statics.{level-statics}
 use Rattle.rates.proofs.Reach.{meets-reaches}
 use Rattle.rates.proofs.level.covers.Statement.{statement}

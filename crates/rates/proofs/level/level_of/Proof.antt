@@ -2,7 +2,7 @@
 -- rate. Assumes nothing.
 use borrow.Author.Needs.{needs}
 use borrow.Author.Tests.{eq-eqb, ne-eqb}
-use Rattle.paper.specs.Rates.{daysOf, minimumOf}
+use Rattle.paper_desk.specs.Rates.{daysOf, minimumOf}
 use Rattle.rates.proofs.level.level_of.Statement.{statement}
 use Rattle.rates.proofs.level.level_of.Tie as tie
 

@@ -6,7 +6,7 @@ use native.Mathlib.Nat.{mul-le-mul}
 use native.Mathlib.Omega.{arith}
 use borrow.Author.Needs.{needs}
 use Rattle.paper.specs.Numbers.{rateMost, daysMost}
-use Rattle.paper.specs.Rates.{levelRate}
+use Rattle.paper_desk.specs.Rates.{levelRate}
 use Rattle.rates.proofs.Statics.{level-statics}
 use Rattle.rates.proofs.Reach.{steps-held, reach-rate, rate-held}
 use Rattle.rates.proofs.level.level_rate.Statement.{statement}

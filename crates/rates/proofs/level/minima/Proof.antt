@@ -1,7 +1,7 @@
 -- `level::minima` meets its contract: the definition, computed at the three levels; each minimum is a rate. Assumes
 -- nothing.
 use borrow.Author.Needs.{needs}
-use Rattle.paper.specs.Rates.{minimumOf}
+use Rattle.paper_desk.specs.Rates.{minimumOf}
 use Rattle.rates.proofs.level.minima.Statement.{statement}
 use Rattle.rates.proofs.level.minima.Tie as tie
 

@@ -4,7 +4,7 @@ use native.Mathlib.Omega.{arith}
 use borrow.Author.Needs.{needs}
 use mathlib.Core.Path.{ap, _∙_}
 use Prim.Native.Nat.{ℕ, _*_}
-use Rattle.paper.proofs.Bounds.{up-is-step, step-high}
+use Rattle.paper_desk.proofs.Bounds.{up-is-step, step-high}
 use Rattle.rates.proofs.tentative.least_step.Statement.{statement}
 use Rattle.rates.proofs.tentative.least_step.Tie as tie
 

@@ -4,7 +4,7 @@ use Prim.Native.Nat.{_+_, _≤_}
 use native.Mathlib.Omega.{arith}
 use borrow.Author.Needs.{needs}
 use borrow.Author.Tests.{leb-true, le-leb, lt-leb}
-use Rattle.paper.specs.Rates.{tentativeAfter}
+use Rattle.paper_desk.specs.Rates.{tentativeAfter}
 use Rattle.paper.proofs.Logic.{and-left}
 use Rattle.rates.proofs.tentative.tentative_after.Statement.{statement}
 use Rattle.rates.proofs.tentative.tentative_after.Tie as tie

@@ -1,7 +1,7 @@
 -- `tentative::tentative_rate` meets its contract: q·s is at most 1,000 times the greatest volatility. Assumes nothing.
 use native.Mathlib.Nat.{mul-le-mul}
 use native.Mathlib.Omega.{arith}
-use Rattle.paper.specs.Rates.{tentativeRate}
+use Rattle.paper_desk.specs.Rates.{tentativeRate}
 use Rattle.rates.proofs.tentative.tentative_rate.Statement.{statement}
 use Rattle.rates.proofs.tentative.tentative_rate.Tie as tie
 

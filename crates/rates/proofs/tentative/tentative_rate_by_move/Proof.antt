@@ -1,6 +1,6 @@
 -- `tentative::tentative_rate_by_move` meets its contract: r and a step's worth fit. Assumes nothing.
 use native.Mathlib.Omega.{arith}
-use Rattle.paper.specs.Rates.{tentativeRateByMove}
+use Rattle.paper_desk.specs.Rates.{tentativeRateByMove}
 use Rattle.rates.proofs.tentative.tentative_rate_by_move.Statement.{statement}
 use Rattle.rates.proofs.tentative.tentative_rate_by_move.Tie as tie
 

@@ -1,7 +1,7 @@
 -- `tentative::tentative_rate_of` meets its contract: the branch of the code is the definition's. Assumes nothing.
 use mathlib.Core.Path.{_∙_, sym}
 use borrow.Author.Needs.{needs}
-use Rattle.paper.specs.Rates.{tentativeRateOf}
+use Rattle.paper_desk.specs.Rates.{tentativeRateOf}
 use Rattle.paper.proofs.Logic.{pick-true, pick-false}
 use Rattle.rates.proofs.tentative.tentative_rate_of.Statement.{statement}
 use Rattle.rates.proofs.tentative.tentative_rate_of.Tie as tie

@@ -4,8 +4,8 @@ use mathlib.Core.Path.{_≡_}
 use Prim.Native.Nat.{ℕ, _≤_}
 use native.Mathlib.Omega.{arith}
 use borrow.Author.Needs.{needs}
-use Rattle.paper.specs.Rates.{weightOf, weighted}
-use Rattle.paper.proofs.Volatility.{weight-most}
+use Rattle.paper_desk.specs.Rates.{weightOf, weighted}
+use Rattle.paper_desk.proofs.Volatility.{weight-most}
 use Rattle.rates.proofs.Volatilities.{replaced, not-replaced}
 use Rattle.rates.proofs.volatility.choose.Statement.{statement}
 use Rattle.rates.proofs.volatility.choose.Tie as tie

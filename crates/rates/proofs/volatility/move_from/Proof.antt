@@ -10,7 +10,7 @@ use borrow.Author.Tests.{leb-true}
 use Rattle.paper.specs.Numbers.{priceLeast, priceMost}
 use Rattle.paper.specs.Roundings.{apart}
 use Rattle.paper.specs.Ranges.{isPrice}
-use Rattle.paper.specs.Rates.{moveFrom}
+use Rattle.paper_desk.specs.Rates.{moveFrom}
 use Rattle.paper.proofs.Logic.{and-left, and-right}
 use Rattle.rates.proofs.volatility.move_from.Statement.{statement}
 use Rattle.rates.proofs.volatility.move_from.Tie as tie

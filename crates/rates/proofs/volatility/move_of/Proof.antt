@@ -1,6 +1,6 @@
 -- `volatility::move_of` meets its contract: the greater of the two moves. Assumes nothing.
 use borrow.Author.Needs.{needs}
-use Rattle.paper.specs.Rates.{moveOf}
+use Rattle.paper_desk.specs.Rates.{moveOf}
 use Rattle.rates.proofs.volatility.move_of.Statement.{statement}
 use Rattle.rates.proofs.volatility.move_of.Tie as tie
 

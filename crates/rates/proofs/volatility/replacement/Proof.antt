@@ -1,7 +1,7 @@
 -- `volatility::replacement` meets its contract: the least y with y·q ≥ 100·r is 100·r/q rounded up. Assumes nothing.
 use mathlib.Core.Path.{sym, _∙_}
 use borrow.Author.Needs.{needs}
-use Rattle.paper.specs.Rates.{replacement}
+use Rattle.paper_desk.specs.Rates.{replacement}
 use Rattle.paper.proofs.Roundings.{times-up}
 use Rattle.rates.proofs.volatility.replacement.Statement.{statement}
 use Rattle.rates.proofs.volatility.replacement.Tie as tie

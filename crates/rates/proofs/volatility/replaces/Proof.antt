@@ -1,6 +1,6 @@
 -- `volatility::replaces` meets its contract: the test of the code is the definition's. Assumes nothing.
 use borrow.Author.Needs.{needs}
-use Rattle.paper.specs.Rates.{replaces}
+use Rattle.paper_desk.specs.Rates.{replaces}
 use Rattle.rates.proofs.volatility.replaces.Statement.{statement}
 use Rattle.rates.proofs.volatility.replaces.Tie as tie
 

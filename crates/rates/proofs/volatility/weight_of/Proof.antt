@@ -1,6 +1,6 @@
 -- `volatility::weight_of` meets its contract: the tests of the code are the definition's. Assumes nothing.
 use borrow.Author.Tests.{lt-ltb, le-ltb}
-use Rattle.paper.specs.Rates.{weightOf}
+use Rattle.paper_desk.specs.Rates.{weightOf}
 use Rattle.rates.proofs.volatility.weight_of.Statement.{statement}
 use Rattle.rates.proofs.volatility.weight_of.Tie as tie
 

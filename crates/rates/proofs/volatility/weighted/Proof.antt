@@ -5,8 +5,8 @@ use native.Mathlib.Nat.{mul-le-mul, mul-le-mul-left}
 use native.Mathlib.Omega.{arith}
 use borrow.Author.Needs.{needs}
 use Rattle.paper.specs.Numbers.{oneInTenThousandths}
-use Rattle.paper.specs.Rates.{weighted}
-use Rattle.paper.proofs.Bounds.{mean-high}
+use Rattle.paper_desk.specs.Rates.{weighted}
+use Rattle.paper_desk.proofs.Bounds.{mean-high}
 use Rattle.rates.proofs.volatility.weighted.Statement.{statement}
 use Rattle.rates.proofs.volatility.weighted.Tie as tie
 

@@ -4,7 +4,7 @@ use Rattle.paper.specs.declared.Statics.{Statics}
 use Rattle.paper.specs.declared.Rate.{Rate}
 use Rattle.paper.specs.Numbers.{rateMost}
 use Rattle.paper.specs.Ranges.{validStatics}
-use Rattle.paper.specs.Rates.{covers, levelRate}
+use Rattle.paper_desk.specs.Rates.{covers, levelRate}
 use Rattle.record_calls.proofs.Judging.{passed, failed}
 use mathlib.Core.Path.{_≡_, sym, ap, _∙_}
 use mathlib.Core.Bool.{true, false, not}

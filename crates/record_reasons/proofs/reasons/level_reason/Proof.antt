@@ -4,7 +4,7 @@ use mathlib.Core.Bool.{true, false}
 use Prim.Native.Nat.{ℕ}
 use lib.Dec.{eqb}
 use Rattle.paper.specs.declared.Statics.{Statics}
-use Rattle.paper.specs.Rates.{minimumOf}
+use Rattle.paper_desk.specs.Rates.{minimumOf}
 use Rattle.rates.specs.declared.level.Level.{Level}
 use Rattle.paper_reasons.specs.declared.LevelReason.the-variants as level
 use mathlib.Core.Path.{_≡_, sym, ap, _∙_}

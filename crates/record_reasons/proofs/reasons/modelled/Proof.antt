@@ -1,11 +1,11 @@
 -- `reasons::modelled` meets its contract: each reason is that of the figures in hand. Assumes nothing.
 use Rattle.paper.specs.Numbers.{millionthsInBp, volatilityMost}
-use Rattle.paper.specs.Rates.{modelOf, modelled, Weighing}
+use Rattle.paper_desk.specs.Rates.{modelOf, modelled, Weighing}
 use Rattle.paper.specs.Ranges.{rateAt}
 use Rattle.rates.specs.declared.volatility.Volatility.{Volatility}
 use Rattle.rates.specs.Chosen.{chosen}
-use Rattle.paper.proofs.Bounds.{volatility-high}
-use Rattle.paper.proofs.TentativeRange.{valid-high, tentative-rate-in}
+use Rattle.paper_desk.proofs.Bounds.{volatility-high}
+use Rattle.paper_desk.proofs.TentativeRange.{valid-high, tentative-rate-in}
 use Rattle.rates.specs.Asked.{tentativeBound}
 use Rattle.rates.proofs.Statics.{rates-weighing, top-within}
 use Rattle.record_writing.specs.Evaluates.{moveTo}

@@ -1,0 +1,17 @@
+pub mod Steps
+pub mod Units
+pub mod Slots
+pub mod Refusals
+pub mod Others
+pub mod Drift
+pub mod Volatility
+pub mod Bounds
+pub mod KindLaws
+pub mod LimitSizes
+pub mod Bands
+pub mod CarriedOn
+pub mod Roots
+pub mod Level
+pub mod TentativeRange
+pub mod PinnedLaws
+pub mod Admissions

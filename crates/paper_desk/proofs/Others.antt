@@ -1,0 +1,73 @@
+-- A call about one id leaves every other slot as it was, and the table as long as it was. Assumes nothing.
+use mathlib.Core.Path.{_≡_, refl, sym, _∙_, ap}
+use mathlib.Core.Logic.{_≢_}
+use mathlib.Core.Bool.{Bool, true, false}
+use mathlib.Core.List.{List, [], _∷_}
+use Prim.Native.Nat.{ℕ}
+use lib.ListN.{length, getD, set, length-set}
+use lib.Seq.{getD-set-other}
+use Rattle.paper.specs.declared.Record.{Record}
+use Rattle.paper.specs.Ranges.{sideOf}
+use Rattle.paper.specs.Verdicts.{isDone, firstOf, NoneApplies, none, also}
+use Rattle.paper_desk.specs.Desk.{Call, admit, evaluate, quote, move, read, idOf, Outcome, blank, admitted, evaluated, quoted, moved, place, stands, found, known, checksOf, admitChecks, evaluateChecks, quoteChecks, moveChecks, acceptedOf, step}
+use Rattle.paper_desk.specs.Kept.{writtenAt, Stays}
+use Rattle.paper.proofs.Logic.{not-false}
+use Rattle.paper_desk.proofs.Slots.{found-id, found-other, stands-other, known-stands}
+use Rattle.paper_desk.proofs.Refusals.{verdict-first, refused-leaves, accepted-step, accepted-only}
+
+-- what holds of the table before, and after whatever the call would write, holds after the call
+pub holds-after-step : (P : List Record → Type 0) (c : Call) (t : List Record) → P t
+    → (isDone (step c t .answer .verdict) ≡ true → NoneApplies (checksOf c t) → P (acceptedOf c t .table))
+    → P (step c t .table)
+holds-after-step P c t p q = go (isDone (step c t .answer .verdict)) refl
+  where
+    go : (b : Bool) → isDone (step c t .answer .verdict) ≡ b → P (step c t .table)
+    go true e =
+        let done : isDone (firstOf (checksOf c t)) ≡ true = ap isDone (sym (verdict-first c t)) ∙ e in
+        let same : step c t .table ≡ acceptedOf c t .table = ap (λ (o : Outcome). o .table) (accepted-step c t done) in
+        rw same (q e (accepted-only c t e))
+    go false e = rw (refused-leaves c t e .0) p
+
+pub length-stays : (c : Call) (t : List Record) → length (step c t .table) ≡ length t
+unfolding acceptedOf
+length-stays c t = holds-after-step (λ u. length u ≡ length t) c t refl (λ _ _. accepted c)
+  where
+    accepted : (c : Call) → length (acceptedOf c t .table) ≡ length t
+    accepted (admit a) = length-set t (place t 0) _
+    accepted (evaluate id d rows) = length-set t (place t id) _
+    accepted (quote id q) = length-set t (place t id) _
+    accepted (move id side) = length-set t (place t id) _
+    accepted (read id) = refl
+
+-- every other slot, whatever it holds
+pub slots-stay : (c : Call) (t : List Record) (k : ℕ) → k ≢ writtenAt c t
+    → getD (step c t .table) k blank ≡ getD t k blank
+unfolding acceptedOf
+slots-stay c t k n = holds-after-step (λ u. getD u k blank ≡ getD t k blank) c t refl (λ _ _. accepted c n)
+  where
+    accepted : (c : Call) → k ≢ writtenAt c t → getD (acceptedOf c t .table) k blank ≡ getD t k blank
+    accepted (admit a) n = getD-set-other t (place t 0) k _ blank n
+    accepted (evaluate id d rows) n = getD-set-other t (place t id) k _ blank n
+    accepted (quote id q) n = getD-set-other t (place t id) k _ blank n
+    accepted (move id side) n = getD-set-other t (place t id) k _ blank n
+    accepted (read id) n = refl
+
+stored-stays : (id i : ℕ) (t : List Record) (x : Record) → known t i ≡ true → x .id ≡ found t i .id → id ≢ i
+    → Stays id t (set t (place t i) x)
+stored-stays id i t x e m n =
+    let mine : x .id ≡ i = m ∙ found-id t i (known-stands t i e) in
+    let other : id ≢ x .id = λ (w : id ≡ x .id). n (w ∙ mine) in
+    (stands-other i x t id n other, found-other i x t id n other)
+
+pub others-stay : (c : Call) (t : List Record) (id : ℕ) → id ≢ 0 → id ≢ idOf c → Stays id t (step c t .table)
+unfolding acceptedOf checksOf evaluateChecks quoteChecks moveChecks admitted evaluated quoted moved
+others-stay c t id z n = holds-after-step (Stays id t) c t (refl, refl) (λ _ w. accepted c n w)
+  where
+    accepted : (c : Call) → id ≢ idOf c → NoneApplies (checksOf c t) → Stays id t (acceptedOf c t .table)
+    accepted (admit a) n w = (stands-other 0 (admitted a) t id z n, found-other 0 (admitted a) t id z n)
+    accepted (evaluate i d rows) n (also q w) =
+        stored-stays id i t (evaluated (found t i) d rows) (not-false (known t i) q) refl n
+    accepted (quote i q) n (also v w) = stored-stays id i t (quoted (found t i) q) (not-false (known t i) v) refl n
+    accepted (move i side) n (also v w) =
+        stored-stays id i t (moved (found t i) (sideOf side)) (not-false (known t i) v) refl n
+    accepted (read i) n w = (refl, refl)

@@ -1,0 +1,346 @@
+-- General sentences of document 01, as laws of the definitions: what a quote, a move and an evaluation change and
+-- leave, what a refusal and a read answer, who is refused with 1. Their figures stand in the tables of specs/Pinned...
+-- It may use every definition of document 01, and the laws of Slots and Refusals. Assumes nothing.
+use mathlib.Core.Path.{_≡_, refl, sym, _∙_, ap}
+use mathlib.Core.Logic.{_≢_, _⊎_, inl, inr}
+use mathlib.Core.Bool.{Bool, true, false, not, _&&_}
+use mathlib.Core.List.{List, [], _∷_}
+use Prim.Native.Nat.{ℕ, zero, suc, _+_, _-_, _≤_, _<_}
+use native.Mathlib.Omega.{arith}
+use lib.Dec.{leb, eqb}
+use lib.IntN.{ℤ}
+use lib.ListN.{length, getD, set}
+use lib.Seq.{getD-set-other}
+use borrow.Author.Tests.{eqb-false, le-leb, lt-leb}
+use Rattle.paper.specs.declared.Standing.the-variants.{Live}
+use Rattle.paper.specs.declared.Side.{Side}
+use Rattle.paper.specs.declared.Side.the-variants.{Upper, Lower}
+use Rattle.paper.specs.declared.Limits.{Limits}
+use Rattle.paper.specs.declared.Near.{Near}
+use Rattle.paper.specs.declared.Near.the-variants.{Not, Since}
+use Rattle.paper.specs.declared.Admission.{Admission}
+use Rattle.paper.specs.declared.Day.{Day}
+use Rattle.paper.specs.declared.Quote.{Quote}
+use Rattle.paper.specs.declared.Record.{Record}
+use Rattle.paper.specs.declared.Answer.{Answer}
+use Rattle.paper.specs.declared.Verdict.{Verdict}
+use Rattle.paper.specs.declared.Verdict.the-variants.{NoSuchId, AdmissionOutOfRange}
+use Rattle.paper.specs.Lists.{pick, three}
+use Rattle.paper.specs.Ranges.{noLimits, notNear, termAt, sideOf, validSlots, sound, rateAt}
+use Rattle.paper_desk.specs.Limits.{bandLimit, bandOf, oneMore, countOf, rangeMoved, bandMoved}
+use Rattle.paper_desk.specs.Alerts.{isNear, keptSince, nearAfter, alert, nearCleared}
+use Rattle.paper.specs.Verdicts.{numberOf, isDone, firstOf, FirstAt, here, NoneApplies, also}
+use Rattle.paper_desk.specs.Desk.{blank, saying, showing, alerting, alertsOn, evaluated, priceOn, quoted, moved, place, stands, found, known, Call, admit, evaluate, quote, move, read, idOf, checksOf, admitChecks, evaluateChecks, quoteChecks, moveChecks, readChecks, Outcome, judged, acceptedOf, step}
+use Rattle.paper.specs.PinnedValues.{recordFrom}
+use Rattle.paper_desk.specs.PinnedSequence.{blank-is-zero}
+use Rattle.paper_desk.specs.History.{isAdmission}
+use Rattle.paper_desk.specs.Sides.{other, limitOn, nearSecondOn, repoOn, deltaFor, shows}
+use Rattle.paper.proofs.Logic.{not-false}
+use Rattle.paper_desk.proofs.Slots.{found-stored, known-stands}
+use Rattle.paper_desk.proofs.Refusals.{verdict-first, refused-always, refused-leaves, accepted-step, accepted-only}
+
+and-no : (a : Bool) → (a && false) ≡ false
+and-no true = refl
+and-no false = refl
+
+-- each of three is what is made for its place
+three-at : {A : Type 0} (f : ℕ → A) (default : A) (i : ℕ) → i < 3 → getD (three f) i default ≡ f i
+three-at f default zero l = refl
+three-at f default (suc zero) l = refl
+three-at f default (suc (suc zero)) l = refl
+three-at f default (suc (suc (suc i))) l = absurd (omega arith)
+
+-- ---- near sides and alerts
+
+-- "bid present", "likewise" the ask
+pub missing-not-near : (side : Side) (w : ℕ) (x : Limits) → isNear side w x 0 ≡ false
+unfolding isNear
+missing-not-near side w x = refl
+
+-- "A near side keeps the second at which it became near"
+pub near-begins : (second : ℕ) → nearAfter true Not second ≡ Since second
+unfolding nearAfter keptSince
+near-begins second = refl
+
+pub near-kept : (earlier second : ℕ) → nearAfter true (Since earlier) second ≡ Since earlier
+unfolding nearAfter keptSince
+near-kept earlier second = refl
+
+-- "a quote that isn't near clears it"
+pub near-cleared : (old : Near) (second : ℕ) → nearAfter false old second ≡ Not
+unfolding nearAfter
+near-cleared old second = refl
+
+-- "near, and at least u seconds since that second"
+pub alert-from-u : (u since second : ℕ) → since + u ≤ second → alert u (Since since) second ≡ true
+unfolding alert
+alert-from-u u since second l = le-leb (since + u) second l
+
+pub no-alert-before-u : (u since second : ℕ) → second < since + u → alert u (Since since) second ≡ false
+unfolding alert
+no-alert-before-u u since second l = lt-leb (since + u) second l
+
+pub no-alert-unless-near : (u second : ℕ) → alert u Not second ≡ false
+unfolding alert
+no-alert-unless-near u second = refl
+
+-- "One quote touches one term only."
+pub one-quote-one-term : (r : Record) (q : Quote) (k : ℕ) → k ≢ q .term
+    → getD (quoted r q .near) k notNear ≡ getD (r .near) k notNear
+unfolding quoted
+one-quote-one-term r q k n = getD-set-other (r .near) (q .term) k _ notNear n
+
+-- a quote leaves the limits, the counts and the standing, and its second is the last
+pub quote-leaves : (r : Record) (q : Quote)
+    → (quoted r q .ranges ≡ r .ranges)
+    × (quoted r q .terms ≡ r .terms)
+    × (quoted r q .bands ≡ r .bands)
+    × (quoted r q .moves ≡ r .moves)
+    × (quoted r q .standing ≡ r .standing)
+    × (quoted r q .second ≡ q .second)
+unfolding quoted
+quote-leaves r q = (refl, refl, refl, refl, refl, refl)
+
+-- ---- moves
+
+-- "It adds one to c", "c the moves of that side"
+pub move-counts : (r : Record) (side : Side) → countOf side (moved r side .moves) ≡ countOf side (r .moves) + 1
+unfolding moved oneMore
+move-counts r Upper = refl
+move-counts r Lower = refl
+
+pub move-leaves-count : (r : Record) (side : Side)
+    → countOf (other side) (moved r side .moves) ≡ countOf (other side) (r .moves)
+unfolding moved oneMore
+move-leaves-count r Upper = refl
+move-leaves-count r Lower = refl
+
+-- a level's range, a term's band and its near seconds after a move
+range-after : (r : Record) (side : Side) (i : ℕ) → i < 3
+    → getD (moved r side .ranges) i noLimits ≡ rangeMoved side (deltaFor r) (getD (r .ranges) i noLimits)
+unfolding moved
+range-after r side i l = three-at (λ i. rangeMoved side (deltaFor r) (getD (r .ranges) i noLimits)) noLimits i l
+
+band-after : (r : Record) (side : Side) (k : ℕ) → k < 3
+    → getD (moved r side .bands) k noLimits
+    ≡ bandMoved side
+    (bandOf (r .statics) (r .p1 .units) (rateAt (r .rates) 0) (moved r side .moves) (termAt (r .terms) k))
+    (getD (r .bands) k noLimits)
+unfolding moved
+band-after r side k l =
+    three-at
+    (λ k. bandMoved side
+    (bandOf (r .statics) (r .p1 .units) (rateAt (r .rates) 0) (oneMore side (r .moves)) (termAt (r .terms) k))
+    (getD (r .bands) k noLimits))
+    noLimits k l
+
+near-after : (r : Record) (side : Side) (k : ℕ) → k < 3
+    → getD (moved r side .near) k notNear ≡ nearCleared side (getD (r .near) k notNear)
+unfolding moved
+near-after r side k l = three-at (λ k. nearCleared side (getD (r .near) k notNear)) notNear k l
+
+-- "remakes that side's three band limits": by one move more of that side
+pub move-remakes : (r : Record) (side : Side) (k : ℕ) → k < 3
+    → limitOn side (getD (moved r side .bands) k noLimits)
+    ≡ bandLimit (r .statics) (r .p1 .units) (rateAt (r .rates) 0) (termAt (r .terms) k .k)
+    (repoOn side (termAt (r .terms) k)) (countOf side (r .moves) + 1) side
+unfolding moved bandMoved bandOf oneMore
+move-remakes r Upper k l = ap (limitOn Upper) (band-after r Upper k l)
+move-remakes r Lower k l = ap (limitOn Lower) (band-after r Lower k l)
+
+pub move-leaves-band : (r : Record) (side : Side) (k : ℕ) → k < 3
+    → limitOn (other side) (getD (moved r side .bands) k noLimits) ≡ limitOn (other side) (getD (r .bands) k noLimits)
+unfolding bandMoved
+move-leaves-band r Upper k l = ap (limitOn Lower) (band-after r Upper k l)
+move-leaves-band r Lower k l = ap (limitOn Upper) (band-after r Lower k l)
+
+-- "shifts its three range limits by delta": the upper ones up
+pub upper-moves-up : (r : Record) (i : ℕ) → i < 3
+    → getD (moved r Upper .ranges) i noLimits .upper ≡ getD (r .ranges) i noLimits .upper + deltaFor r
+unfolding rangeMoved
+upper-moves-up r i l = ap (limitOn Upper) (range-after r Upper i l)
+
+-- the lower ones down, "lower ones stopping at 0 (18.4)"
+pub lower-moves-down : (r : Record) (i : ℕ) → i < 3 → deltaFor r ≤ getD (r .ranges) i noLimits .lower
+    → getD (moved r Lower .ranges) i noLimits .lower + deltaFor r ≡ getD (r .ranges) i noLimits .lower
+unfolding rangeMoved
+lower-moves-down r i l enough = omega (arith, ap (limitOn Lower) (range-after r Lower i l))
+
+pub lower-stops-at-zero : (r : Record) (i : ℕ) → i < 3 → getD (r .ranges) i noLimits .lower ≤ deltaFor r
+    → getD (moved r Lower .ranges) i noLimits .lower ≡ 0
+unfolding rangeMoved
+lower-stops-at-zero r i l short = omega (arith, ap (limitOn Lower) (range-after r Lower i l))
+
+pub move-leaves-range : (r : Record) (side : Side) (i : ℕ) → i < 3
+    → limitOn (other side) (getD (moved r side .ranges) i noLimits) ≡ limitOn (other side) (getD (r .ranges) i noLimits)
+unfolding rangeMoved
+move-leaves-range r Upper i l = ap (limitOn Lower) (range-after r Upper i l)
+move-leaves-range r Lower i l = ap (limitOn Upper) (range-after r Lower i l)
+
+-- "It clears that side's near seconds in all terms."
+pub move-clears : (r : Record) (side : Side) (k : ℕ) → k < 3
+    → nearSecondOn side (getD (moved r side .near) k notNear) ≡ Not
+unfolding nearCleared
+move-clears r Upper k l = ap (nearSecondOn Upper) (near-after r Upper k l)
+move-clears r Lower k l = ap (nearSecondOn Lower) (near-after r Lower k l)
+
+pub move-leaves-near : (r : Record) (side : Side) (k : ℕ) → k < 3
+    → nearSecondOn (other side) (getD (moved r side .near) k notNear)
+    ≡ nearSecondOn (other side) (getD (r .near) k notNear)
+unfolding nearCleared
+move-leaves-near r Upper k l = ap (nearSecondOn Lower) (near-after r Upper k l)
+move-leaves-near r Lower k l = ap (nearSecondOn Upper) (near-after r Lower k l)
+
+-- a move leaves the evaluation, the rates, the terms, the standing and the last quote second
+pub move-leaves : (r : Record) (side : Side)
+    → (moved r side .p1 ≡ r .p1)
+    × (moved r side .rates ≡ r .rates)
+    × (moved r side .terms ≡ r .terms)
+    × (moved r side .standing ≡ r .standing)
+    × (moved r side .second ≡ r .second)
+unfolding moved
+move-leaves r side = (refl, refl, refl, refl, refl)
+
+-- ---- evaluations
+
+-- "An evaluation clears both counts, all near seconds and the last quote second (to 0)."
+pub evaluation-clears : (r : Record) (d : Day) (rows : List ℤ)
+    → (evaluated r d rows .moves .upper ≡ 0)
+    × (evaluated r d rows .moves .lower ≡ 0)
+    × (evaluated r d rows .near ≡ three (λ k. notNear))
+    × (evaluated r d rows .second ≡ 0)
+unfolding evaluated
+evaluation-clears r d rows = (refl, refl, refl, refl)
+
+-- "live with its day number", and "the two latest evaluations" are then this one and the one before it
+pub evaluation-is-latest : (r : Record) (d : Day) (rows : List ℤ)
+    → (evaluated r d rows .standing ≡ Live (d .day))
+    × (evaluated r d rows .p1 .units ≡ priceOn r rows)
+    × (evaluated r d rows .p2 ≡ r .p1)
+unfolding evaluated
+evaluation-is-latest r d rows = (refl, refl, refl)
+
+-- ---- who is refused with 1, and the tables that every call refuses
+
+-- a security that is not known is refused with 1 whatever else holds
+pub unknown-refused : (c : Call) (t : List Record) → isAdmission c ≡ false → known t (idOf c) ≡ false
+    → step c t .answer .verdict ≡ NoSuchId
+unfolding checksOf evaluateChecks quoteChecks moveChecks readChecks
+unknown-refused c t looks e = refused-always c t NoSuchId (first c looks e)
+  where
+    first : (c : Call) → isAdmission c ≡ false → known t (idOf c) ≡ false → FirstAt NoSuchId (checksOf c t)
+    first (admit a) looks e = absurd (let z : _≡_ {A = ℕ} 0 1 = cc in omega arith)
+    first (evaluate id d rows) looks e = here refl (ap not e)
+    first (quote id q) looks e = here refl (ap not e)
+    first (move id side) looks e = here refl (ap not e)
+    first (read id) looks e = here refl (ap not e)
+
+-- "Where an id stands in several slots the first alone counts": no slot before it has the id
+pub none-before-first : (t : List Record) (id i : ℕ) → i < place t id → getD t i blank .id ≡ id → ⊥
+unfolding place
+none-before-first [] id i l e = omega arith
+none-before-first (r ∷ t) id i l e = go (eqb (r .id) id) refl i l e (λ i. none-before-first t id i)
+  where
+    go : (b : Bool) → eqb (r .id) id ≡ b → (i : ℕ) → i < pick b 0 (suc (place t id)) → getD (r ∷ t) i blank .id ≡ id
+        → ((i : ℕ) → i < place t id → getD t i blank .id ≡ id → ⊥) → ⊥
+    go true q i l e rest = omega arith
+    go false q zero l e rest = eqb-false (r .id) id q e
+    go false q (suc i) l e rest = rest i (omega arith) e
+
+-- "even if it is damaged": it is found, and refused with 1, whatever stands behind it
+pub damaged-refused : (c : Call) (t : List Record) → isAdmission c ≡ false → sound (found t (idOf c)) ≡ false
+    → step c t .answer .verdict ≡ NoSuchId
+unfolding known
+damaged-refused c t looks e = unknown-refused c t looks (rw e (and-no (validSlots (length t) && stands t (idOf c))))
+
+-- "A table of no slots, or over 512, is refused 4 by admit and 1 by the rest."
+pub bad-table-refused : (c : Call) (t : List Record) → validSlots (length t) ≡ false
+    → numberOf (step c t .answer .verdict) ≡ pick (isAdmission c) 4 1
+unfolding checksOf admitChecks known
+bad-table-refused c t s = go c
+  where
+    unknown : (id : ℕ) → known t id ≡ false
+    unknown id = rw s
+
+    go : (c : Call) → numberOf (step c t .answer .verdict) ≡ pick (isAdmission c) 4 1
+    go (admit a) = ap numberOf (refused-always (admit a) t AdmissionOutOfRange (here refl (rw s)))
+    go (evaluate id d rows) = ap numberOf (unknown-refused (evaluate id d rows) t refl (unknown id))
+    go (quote id q) = ap numberOf (unknown-refused (quote id q) t refl (unknown id))
+    go (move id side) = ap numberOf (unknown-refused (move id side) t refl (unknown id))
+    go (read id) = ap numberOf (unknown-refused (read id) t refl (unknown id))
+
+pub no-slots-invalid : (t : List Record) → length t ≡ 0 → validSlots (length t) ≡ false
+unfolding validSlots
+no-slots-invalid t e = rw e
+
+pub slots-over-512-invalid : (t : List Record) → 512 < length t → validSlots (length t) ≡ false
+unfolding validSlots
+slots-over-512-invalid t l = rw (lt-leb (length t) 512 l) (and-no (leb 1 (length t)))
+
+-- ---- what is written and what is answered
+
+-- "An accepted call writes one record, except a read, which writes none."
+pub read-writes-nothing : (id : ℕ) (t : List Record) → step (read id) t .table ≡ t
+unfolding step judged acceptedOf
+read-writes-nothing id t = go (isDone (firstOf (checksOf (read id) t)))
+  where
+    go : (b : Bool)
+        → pick {A = Outcome} b (record { answer = showing (found t id); table = t })
+        (record { answer = saying (firstOf (checksOf (read id) t)); table = t }) .table
+        ≡ t
+    go true = refl
+    go false = refl
+
+-- "A refusal returns its number with all figures 0 (flags no, nothing near, admitted only)": no number but 0
+pub refused-zero : (c : Call) (t : List Record) → isDone (step c t .answer .verdict) ≡ false
+    → (step c t .answer .rec ≡ recordFrom []) × (step c t .answer .top ≡ false) × (step c t .answer .bottom ≡ false)
+unfolding saying
+refused-zero c t e =
+    let zeros : step c t .answer ≡ saying (step c t .answer .verdict) = refused-leaves c t e .1 in
+    let shown : step c t .answer .rec ≡ blank = ap (λ (a : Answer). a .rec) zeros in
+    (shown ∙ blank-is-zero, ap (λ (a : Answer). a .top) zeros, ap (λ (a : Answer). a .bottom) zeros)
+
+-- "Accepted evaluations, moves and reads return the record as it then stands"
+pub shown-stands : (c : Call) (t : List Record) → shows c ≡ true → isDone (step c t .answer .verdict) ≡ true
+    → found (step c t .table) (idOf c) ≡ step c t .answer .rec
+unfolding acceptedOf showing checksOf evaluateChecks moveChecks evaluated moved
+shown-stands c t s e =
+    let done : isDone (firstOf (checksOf c t)) ≡ true = ap isDone (sym (verdict-first c t)) ∙ e in
+    rw (accepted-step c t done) (accepted c s (accepted-only c t e))
+  where
+    accepted : (c : Call) → shows c ≡ true → NoneApplies (checksOf c t)
+        → found (acceptedOf c t .table) (idOf c) ≡ acceptedOf c t .answer .rec
+    accepted (admit a) s w = absurd (let z : _≡_ {A = ℕ} 0 1 = cc in omega arith)
+    accepted (evaluate id d rows) s (also q w) =
+        found-stored t id (evaluated (found t id) d rows) (known-stands t id (not-false (known t id) q)) refl
+    accepted (quote id q) s w = absurd (let z : _≡_ {A = ℕ} 0 1 = cc in omega arith)
+    accepted (move id side) s (also q w) =
+        found-stored t id (moved (found t id) (sideOf side)) (known-stands t id (not-false (known t id) q)) refl
+    accepted (read id) s w = refl
+
+-- "a quote its two alerts, an admission the number 0 alone": neither shows a record
+pub no-record-shown : (c : Call) (t : List Record) → shows c ≡ false → step c t .answer .rec ≡ recordFrom []
+unfolding step judged acceptedOf saying alertsOn alerting
+no-record-shown c t s = go c s (firstOf (checksOf c t)) (isDone (firstOf (checksOf c t))) ∙ blank-is-zero
+  where
+    go : (c : Call) → shows c ≡ false → (v : Verdict) (b : Bool)
+        → pick b (acceptedOf c t) (record { answer = saying v; table = t }) .answer .rec ≡ blank
+    go (admit a) s v true = refl
+    go (admit a) s v false = refl
+    go (evaluate id d rows) s v b = absurd (let z : _≡_ {A = ℕ} 0 1 = cc in omega arith)
+    go (quote id q) s v true = refl
+    go (quote id q) s v false = refl
+    go (move id side) s v b = absurd (let z : _≡_ {A = ℕ} 0 1 = cc in omega arith)
+    go (read id) s v b = absurd (let z : _≡_ {A = ℕ} 0 1 = cc in omega arith)
+
+-- an admission gives no alert either
+pub admission-number-alone : (a : Admission) (t : List Record)
+    → step (admit a) t .answer ≡ saying (step (admit a) t .answer .verdict)
+unfolding step judged acceptedOf saying
+admission-number-alone a t = go (firstOf (checksOf (admit a) t)) (isDone (firstOf (checksOf (admit a) t)))
+  where
+    go : (v : Verdict) (b : Bool)
+        → pick b (acceptedOf (admit a) t) (record { answer = saying v; table = t }) .answer
+        ≡ saying (pick b (acceptedOf (admit a) t) (record { answer = saying v; table = t }) .answer .verdict)
+    go v true = refl
+    go v false = refl

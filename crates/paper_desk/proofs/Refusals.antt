@@ -1,0 +1,163 @@
+-- Demand 1: each number is given exactly when its condition holds and no earlier one in the paper's order does; a
+-- refused call leaves the table as it was, and answers its number with every figure 0. Assumes nothing.
+use mathlib.Core.Path.{_≡_, refl, sym, _∙_, ap}
+use mathlib.Core.Logic.{_⊎_, inl, inr, ⊎-elim}
+use mathlib.Core.Bool.{Bool, true, false, not, _&&_}
+use mathlib.Core.List.{List, [], _∷_}
+use Prim.Native.Nat.{ℕ}
+use native.Mathlib.Omega.{arith}
+use lib.Dec.{eqb}
+use lib.IntN.{ℤ}
+use lib.ListN.{length}
+use Rattle.paper.specs.declared.Record.{Record}
+use Rattle.paper.specs.declared.Admission.{Admission}
+use Rattle.paper.specs.declared.Day.{Day}
+use Rattle.paper.specs.declared.Quote.{Quote}
+use Rattle.paper.specs.declared.Answer.{Answer}
+use Rattle.paper.specs.declared.Verdict.{Verdict}
+use Rattle.paper.specs.declared.Verdict.the-variants.{Done, NoSuchId, AlreadyAdmitted, NoEmptySlot, AdmissionOutOfRange, DayNotAfter, OutOfRange, PriceOutOfRange, MoveTooLarge, BandCrossed, NotLive, NotMonitored, MovesUsedUp, SecondEarlier, NotAscending, BadLine, RowCrossed, NoFaceValue}
+use Rattle.paper.specs.Lists.{pick, every}
+use Rattle.paper.specs.Verdicts.{numberOf, isDone, Naming, Check, firstNamed, firstOf, FirstAt, here, later, NoneApplies, none, also}
+use Rattle.paper_desk.specs.Desk.{Call, admit, evaluate, quote, move, read, admitChecks, evaluateChecks, quoteChecks, moveChecks, readChecks, checksOf, Outcome, saying, showing, alerting, alertsOn, judged, acceptedOf, step}
+use Rattle.paper.proofs.Logic.{clash, and-left, and-right, pick-true, pick-false}
+
+-- ---- the first check that applies
+
+pub done-is : (v : Verdict) → isDone v ≡ true → v ≡ Done
+unfolding isDone
+done-is Done e = refl
+done-is NoSuchId e = absurd (clash false e refl)
+done-is AlreadyAdmitted e = absurd (clash false e refl)
+done-is NoEmptySlot e = absurd (clash false e refl)
+done-is AdmissionOutOfRange e = absurd (clash false e refl)
+done-is DayNotAfter e = absurd (clash false e refl)
+done-is OutOfRange e = absurd (clash false e refl)
+done-is PriceOutOfRange e = absurd (clash false e refl)
+done-is MoveTooLarge e = absurd (clash false e refl)
+done-is BandCrossed e = absurd (clash false e refl)
+done-is NotLive e = absurd (clash false e refl)
+done-is NotMonitored e = absurd (clash false e refl)
+done-is MovesUsedUp e = absurd (clash false e refl)
+done-is SecondEarlier e = absurd (clash false e refl)
+done-is NotAscending e = absurd (clash false e refl)
+done-is BadLine e = absurd (clash false e refl)
+done-is RowCrossed e = absurd (clash false e refl)
+done-is NoFaceValue e = absurd (clash false e refl)
+
+-- what is named is what the first that applies names; or none applies, and it is what stands otherwise
+pub named-is : {A : Type 0} (otherwise : A) (cs : List (Naming A)) (v : A) → firstNamed otherwise cs ≡ v
+    → FirstAt v cs ⊎ ((otherwise ≡ v) × NoneApplies cs)
+named-is otherwise [] v e = inr (e, none)
+named-is otherwise (c ∷ cs) v e = go (c .applies) refl e (named-is otherwise cs v)
+  where
+    go : (b : Bool) → c .applies ≡ b → pick b (c .verdict) (firstNamed otherwise cs) ≡ v
+        → (firstNamed otherwise cs ≡ v → FirstAt v cs ⊎ ((otherwise ≡ v) × NoneApplies cs))
+        → FirstAt v (c ∷ cs) ⊎ ((otherwise ≡ v) × NoneApplies (c ∷ cs))
+    go true q w rest = inl (here w q)
+    go false q w rest = ⊎-elim (λ f. inl (later q f)) (λ n. inr (n .0, also q (n .1))) (rest w)
+
+-- and it is named wherever it is the first that applies
+pub is-named : {A : Type 0} (otherwise : A) (cs : List (Naming A)) (v : A) → FirstAt v cs
+    → firstNamed otherwise cs ≡ v
+is-named otherwise (c ∷ cs) v (here w q) = rw q w
+is-named otherwise (c ∷ cs) v (later q rest) = rw q (is-named otherwise cs v rest)
+
+pub none-named : {A : Type 0} (otherwise : A) (cs : List (Naming A)) → NoneApplies cs
+    → firstNamed otherwise cs ≡ otherwise
+none-named otherwise [] none = refl
+none-named otherwise (c ∷ cs) (also q rest) = rw q (none-named otherwise cs rest)
+
+-- a number that is not 0 is given only where it is the first that applies
+pub first-is : (cs : List Check) (v : Verdict) → isDone v ≡ false → firstOf cs ≡ v → FirstAt v cs
+unfolding firstOf isDone
+first-is cs v n e =
+    ⊎-elim (λ f. f) (λ o. absurd (clash (isDone Done) refl (ap isDone (o .0) ∙ n))) (named-is Done cs v e)
+
+-- and wherever it is
+pub is-first : (cs : List Check) (v : Verdict) → FirstAt v cs → firstOf cs ≡ v
+unfolding firstOf
+is-first cs v f = is-named Done cs v f
+
+-- every check names a refusal
+unfoldable pub refusals : List Check → Bool
+refusals cs = every (λ (c : Check). not (isDone (c .verdict))) cs
+
+-- where every check names a refusal, 0 is given exactly where none applies
+pub done-none : (cs : List Check) → refusals cs ≡ true → isDone (firstOf cs) ≡ true → NoneApplies cs
+unfolding refusals every firstOf
+done-none [] r e = none
+done-none (c ∷ cs) r e = go (c .applies) refl e (done-none cs (and-right (not (isDone (c .verdict))) _ r))
+  where
+    go : (b : Bool) → c .applies ≡ b → isDone (pick b (c .verdict) (firstOf cs)) ≡ true
+        → (isDone (firstOf cs) ≡ true → NoneApplies cs) → NoneApplies (c ∷ cs)
+    go true q w rest =
+        absurd (clash (not (isDone (c .verdict))) (and-left (not (isDone (c .verdict))) _ r) (ap not w))
+    go false q w rest = also q (rest w)
+
+pub none-done : (cs : List Check) → NoneApplies cs → firstOf cs ≡ Done
+unfolding firstOf
+none-done cs n = none-named Done cs n
+
+-- ---- each call
+
+all-refusals : (c : Call) (t : List Record) → refusals (checksOf c t) ≡ true
+unfolding checksOf admitChecks evaluateChecks quoteChecks moveChecks readChecks refusals every isDone
+all-refusals (admit a) t = refl
+all-refusals (evaluate id d rows) t = refl
+all-refusals (quote id q) t = refl
+all-refusals (move id side) t = refl
+all-refusals (read id) t = refl
+
+accepted-done : (c : Call) (t : List Record) → acceptedOf c t .answer .verdict ≡ Done
+unfolding acceptedOf saying showing alertsOn alerting
+accepted-done (admit a) t = refl
+accepted-done (evaluate id d rows) t = refl
+accepted-done (quote id q) t = refl
+accepted-done (move id side) t = refl
+accepted-done (read id) t = refl
+
+-- what is answered carries the first number that applies
+pub verdict-first : (c : Call) (t : List Record) → step c t .answer .verdict ≡ firstOf (checksOf c t)
+unfolding step judged saying
+verdict-first c t = go (firstOf (checksOf c t)) (isDone (firstOf (checksOf c t))) refl
+  where
+    go : (v : Verdict) (b : Bool) → isDone v ≡ b
+        → pick b (acceptedOf c t) (record { answer = saying v; table = t }) .answer .verdict ≡ v
+    go v true e = accepted-done c t ∙ sym (done-is v e)
+    go v false e = refl
+
+-- a call that is refused, and one that is accepted
+pub refused-step : (c : Call) (t : List Record) → isDone (firstOf (checksOf c t)) ≡ false
+    → step c t ≡ record { answer = saying (firstOf (checksOf c t)); table = t }
+unfolding step judged
+refused-step c t e = pick-false (isDone (firstOf (checksOf c t))) _ _ e
+
+pub accepted-step : (c : Call) (t : List Record) → isDone (firstOf (checksOf c t)) ≡ true → step c t ≡ acceptedOf c t
+unfolding step judged
+accepted-step c t e = pick-true (isDone (firstOf (checksOf c t))) _ _ e
+
+-- Demand 1. A refusal v is answered exactly when v is the first that applies, in the paper's order; 0 exactly when none
+-- applies
+pub refused-only : (c : Call) (t : List Record) (v : Verdict) → isDone v ≡ false → step c t .answer .verdict ≡ v
+    → FirstAt v (checksOf c t)
+refused-only c t v n e = first-is (checksOf c t) v n (sym (verdict-first c t) ∙ e)
+
+pub refused-always : (c : Call) (t : List Record) (v : Verdict) → FirstAt v (checksOf c t)
+    → step c t .answer .verdict ≡ v
+refused-always c t v f = verdict-first c t ∙ is-first (checksOf c t) v f
+
+pub accepted-only : (c : Call) (t : List Record) → isDone (step c t .answer .verdict) ≡ true
+    → NoneApplies (checksOf c t)
+accepted-only c t e = done-none (checksOf c t) (all-refusals c t) (ap isDone (sym (verdict-first c t)) ∙ e)
+
+pub accepted-always : (c : Call) (t : List Record) → NoneApplies (checksOf c t) → step c t .answer .verdict ≡ Done
+accepted-always c t n = verdict-first c t ∙ none-done (checksOf c t) n
+
+-- a refused call leaves the table as it was, and answers its number with every figure 0
+pub refused-leaves : (c : Call) (t : List Record) → isDone (step c t .answer .verdict) ≡ false
+    → (step c t .table ≡ t) × (step c t .answer ≡ saying (step c t .answer .verdict))
+unfolding saying
+refused-leaves c t e =
+    let r : isDone (firstOf (checksOf c t)) ≡ false = ap isDone (sym (verdict-first c t)) ∙ e in
+    let s = refused-step c t r in
+    (ap (λ (o : Outcome). o .table) s, ap (λ (o : Outcome). o .answer) s ∙ ap saying (sym (verdict-first c t)))

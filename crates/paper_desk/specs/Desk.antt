@@ -1,0 +1,350 @@
+-- Document 01, "What the desk covers" and "Numbers a member may see": the five calls over the table, and sequences of
+-- them. Assumes nothing.
+use mathlib.Core.Bool.{Bool, true, false, not, _&&_, _||_}
+use mathlib.Core.List.{List, [], _∷_}
+use Prim.Native.Nat.{ℕ, zero, suc, _+_, _-_}
+use lib.Dec.{leb, ltb, eqb}
+use lib.ListN.{length, getD, set}
+use lib.IntN.{ℤ, pos}
+use Rattle.paper.specs.declared.Statics.{Statics}
+use Rattle.paper.specs.declared.Tentative.{Tentative}
+use Rattle.paper.specs.declared.Standing.{Standing}
+use Rattle.paper.specs.declared.Standing.the-variants.{Admitted, Live}
+use Rattle.paper.specs.declared.Side.{Side}
+use Rattle.paper.specs.declared.Side.the-variants.{Upper, Lower}
+use Rattle.paper.specs.declared.Moves.{Moves}
+use Rattle.paper.specs.declared.Limits.{Limits}
+use Rattle.paper.specs.declared.NearSeconds.{NearSeconds}
+use Rattle.paper.specs.declared.Near.{Near}
+use Rattle.paper.specs.declared.Record.{Record}
+use Rattle.paper.specs.declared.Admission.{Admission}
+use Rattle.paper.specs.declared.Day.{Day}
+use Rattle.paper.specs.declared.Quote.{Quote}
+use Rattle.paper.specs.declared.Answer.{Answer}
+use Rattle.paper.specs.declared.Verdict.{Verdict}
+use Rattle.paper.specs.declared.Verdict.the-variants.{Done, NoSuchId, AlreadyAdmitted, NoEmptySlot, AdmissionOutOfRange, DayNotAfter, OutOfRange, PriceOutOfRange, MoveTooLarge, BandCrossed, NotLive, NotMonitored, MovesUsedUp, SecondEarlier, RowCrossed}
+use Rattle.paper.specs.Lists.{pick, three, forLevels, allThree, every}
+use Rattle.paper.specs.Numbers.{movesMost}
+use Rattle.paper.specs.Ranges.{gridOf, staticsOf, validAdmission, validDay, validQuote, validSide, sideOf, isLive, lastDay, sound, validSlots, noRate, noLimits, notNear, noTerm, termAt, rateAt}
+use Rattle.paper_desk.specs.Evaluation.{dayRows, evaluationOf, hasCrossedRow, evaluationFits}
+use Rattle.paper.specs.declared.Figures.{Figures}
+use Rattle.paper_desk.specs.Rates.{moveOf, minimumOf, figuresOf, moveTooLarge}
+use Rattle.paper_desk.specs.Limits.{rangeOf, bandOf, crossed, deltaOf, oneMore, countOf, rangeMoved, bandMoved}
+use Rattle.paper_desk.specs.Alerts.{isNear, nearAfter, alert, nearCleared}
+use Rattle.paper.specs.Verdicts.{isDone, Check, firstOf}
+
+-- ---- records and answers
+
+abbrev pub noMoves : Moves
+noMoves = record { upper = 0; lower = 0 }
+
+abbrev pub noStatics : Statics
+noStatics =
+    record {
+      lot = 0;
+      h = 0;
+      q = 0;
+      aup = 0;
+      adown = 0;
+      wait = 0;
+      rh1 = 0;
+      rh2 = 0;
+      rh3 = 0;
+      liq = 0;
+      min1 = 0;
+      min2 = 0;
+      min3 = 0;
+      smax = 0;
+      xpr = 0;
+      shift = 0;
+      pchmax = 0;
+      pclmax = 0;
+      w = 0;
+      u = 0;
+      monitoring = false;
+      ewma = false;
+    }
+
+-- "all figures 0 (flags no, nothing near, admitted only)"
+unfoldable pub blank : Record
+blank =
+    record {
+      id = 0;
+      statics = noStatics;
+      standing = Admitted 0;
+      p1 = record { units = 0 };
+      p2 = record { units = 0 };
+      s = 0;
+      tentative = record { bp = 0; age = 0 };
+      rates = three (λ i. noRate);
+      ranges = three (λ i. noLimits);
+      terms = three (λ k. noTerm);
+      bands = three (λ k. noLimits);
+      moves = noMoves;
+      near = three (λ k. notNear);
+      second = 0;
+    }
+
+-- "A refusal returns its number with all figures 0"; "an admission the number 0 alone"
+unfoldable pub saying : Verdict → Answer
+saying v = record { verdict = v; rec = blank; top = false; bottom = false }
+
+-- "Accepted evaluations, moves and reads return the record as it then stands"
+unfoldable pub showing : Record → Answer
+showing r = record { verdict = Done; rec = r; top = false; bottom = false }
+
+-- "a quote its two alerts"
+unfoldable pub alerting : (top bottom : Bool) → Answer
+alerting top bottom = record { verdict = Done; rec = blank; top = top; bottom = bottom }
+
+-- ---- what each call writes
+
+-- "The three rates start at their minima; age, limits, counts, terms and the last quote second at 0, with no near
+-- seconds."
+unfoldable pub admitted : Admission → Record
+admitted a =
+    record {
+      id = a .id;
+      statics = staticsOf (a .given);
+      standing = Admitted (a .day);
+      p1 = record { units = a .p1 };
+      p2 = record { units = a .p2 };
+      s = a .s;
+      tentative = record { bp = a .tentative; age = 0 };
+      rates = forLevels (λ l. record { bp = minimumOf (staticsOf (a .given)) l });
+      ranges = three (λ i. noLimits);
+      terms = three (λ k. noTerm);
+      bands = three (λ k. noLimits);
+      moves = noMoves;
+      near = three (λ k. notNear);
+      second = 0;
+    }
+
+-- the evaluation P of a day, the move r to it, and the figures of 7.1
+unfoldable pub priceOn : Record → (rows : List ℤ) → ℕ
+priceOn r rows = evaluationOf (gridOf (r .statics .lot)) (r .p1 .units) (dayRows rows)
+
+unfoldable pub moveOn : Record → (rows : List ℤ) → ℕ
+moveOn r rows = moveOf (priceOn r rows) (r .p1 .units) (r .p2 .units)
+
+unfoldable pub figuresOn : Record → Day → (rows : List ℤ) → Figures
+figuresOn r d rows =
+    figuresOf (r .statics) (d .b) (d .m) (rateAt (r .rates) 0) (moveOn r rows) (r .s) (r .tentative)
+
+-- "An evaluation clears both counts, all near seconds and the last quote second (to 0)." The security is then live
+unfoldable pub evaluated : Record → Day → (rows : List ℤ) → Record
+evaluated r d rows =
+    let f : Figures = figuresOn r d rows in
+    let p : ℕ = priceOn r rows in
+    record {
+      id = r .id;
+      statics = r .statics;
+      standing = Live (d .day);
+      p1 = record { units = p };
+      p2 = r .p1;
+      s = f .s;
+      tentative = f .tentative;
+      rates = f .rates;
+      ranges = three (λ i. rangeOf (r .statics) p (rateAt (f .rates) i));
+      terms = three (λ k. termAt (d .terms) k);
+      bands = three (λ k. bandOf (r .statics) p (rateAt (f .rates) 0) noMoves (termAt (d .terms) k));
+      moves = noMoves;
+      near = three (λ k. notNear);
+      second = 0;
+    }
+
+-- "One quote touches one term only."
+unfoldable pub nearOn : Record → Quote → NearSeconds
+nearOn r q =
+    let x : Limits = getD (r .bands) (q .term) noLimits in
+    let n : NearSeconds = getD (r .near) (q .term) notNear in
+    record {
+      top = nearAfter (isNear Upper (r .statics .w) x (q .bid)) (n .top) (q .second);
+      bottom = nearAfter (isNear Lower (r .statics .w) x (q .ask)) (n .bottom) (q .second);
+    }
+
+unfoldable pub quoted : Record → Quote → Record
+quoted r q =
+    record {
+      id = r .id;
+      statics = r .statics;
+      standing = r .standing;
+      p1 = r .p1;
+      p2 = r .p2;
+      s = r .s;
+      tentative = r .tentative;
+      rates = r .rates;
+      ranges = r .ranges;
+      terms = r .terms;
+      bands = r .bands;
+      moves = r .moves;
+      near = set (r .near) (q .term) (nearOn r q);
+      second = q .second;
+    }
+
+-- "The answer has two yes/no alerts, one for the top and one for the bottom"
+unfoldable pub alertsOn : Record → Quote → Answer
+alertsOn r q =
+    alerting (alert (r .statics .u) (nearOn r q .top) (q .second))
+    (alert (r .statics .u) (nearOn r q .bottom) (q .second))
+
+-- "It adds one to c, remakes that side's three band limits, and shifts its three range limits by delta. It clears that
+-- side's near seconds in all terms."
+unfoldable pub moved : Record → Side → Record
+moved r side =
+    let c : Moves = oneMore side (r .moves) in
+    let s1 : ℕ = rateAt (r .rates) 0 in
+    record {
+      id = r .id;
+      statics = r .statics;
+      standing = r .standing;
+      p1 = r .p1;
+      p2 = r .p2;
+      s = r .s;
+      tentative = r .tentative;
+      rates = r .rates;
+      ranges = three (λ i. rangeMoved side (deltaOf (r .statics) s1 (r .p1 .units)) (getD (r .ranges) i noLimits));
+      terms = r .terms;
+      bands =
+          three (λ k. bandMoved side (bandOf (r .statics) (r .p1 .units) s1 c (termAt (r .terms) k))
+          (getD (r .bands) k noLimits));
+      moves = c;
+      near = three (λ k. nearCleared side (getD (r .near) k notNear));
+      second = r .second;
+    }
+
+-- ---- the table
+
+-- the place of the first slot with an id, or the number of slots: "Where an id stands in several slots the first alone
+-- counts"
+unfoldable pub place : List Record → (id : ℕ) → ℕ
+place [] id = 0
+place (r ∷ t) id = pick (eqb (r .id) id) 0 (suc (place t id))
+
+unfoldable pub stands : List Record → (id : ℕ) → Bool
+stands t id = ltb (place t id) (length t)
+
+unfoldable pub found : List Record → (id : ℕ) → Record
+found t id = getD t (place t id) blank
+
+-- 1: "no such id (0 included)", a damaged record, a table of no slots or over 512
+unfoldable pub known : List Record → (id : ℕ) → Bool
+known t id = validSlots (length t) && stands t id && sound (found t id)
+
+-- ---- the calls: "First that applies"
+
+pub data Call : Type 0 where
+  admit : Admission → Call
+  evaluate : (id : ℕ) → Day → List ℤ → Call
+  quote : (id : ℕ) → Quote → Call
+  move : (id : ℕ) → (side : ℕ) → Call
+  read : (id : ℕ) → Call
+
+-- the id that a call is about
+abbrev pub idOf : Call → ℕ
+idOf (admit a) = a .id
+idOf (evaluate id d rows) = id
+idOf (quote id q) = id
+idOf (move id side) = id
+idOf (read id) = id
+
+-- "admit 4, 2, 3"
+unfoldable pub admitChecks : List Record → Admission → List Check
+admitChecks t a =
+    record { verdict = AdmissionOutOfRange; applies = not (validSlots (length t) && validAdmission a) }
+    ∷ record { verdict = AlreadyAdmitted; applies = stands t (a .id) }
+    ∷ record { verdict = NoEmptySlot; applies = not (stands t 0) }
+    ∷ []
+
+-- "evaluate 1, 6, 5, 7, 8, 9"; W-205: "16, after 6 and before 5 in an evaluation"
+unfoldable pub evaluateChecks : (there : Bool) → Record → Day → (rows : List ℤ) → List Check
+evaluateChecks there r d rows =
+    record { verdict = NoSuchId; applies = not there }
+    ∷ record { verdict = OutOfRange; applies = not (validDay d rows) }
+    ∷ record { verdict = RowCrossed; applies = hasCrossedRow (dayRows rows) }
+    ∷ record { verdict = DayNotAfter; applies = leb (d .day) (lastDay (r .standing)) }
+    ∷ record {
+      verdict = PriceOutOfRange;
+      applies =
+          not (evaluationFits (gridOf (r .statics .lot)) (r .p1 .units) (dayRows rows));
+    }
+    ∷ record { verdict = MoveTooLarge; applies = moveTooLarge (r .statics) (moveOn r rows) }
+    ∷ record {
+      verdict = BandCrossed;
+      applies =
+          not (allThree (λ k. not (crossed (getD (evaluated r d rows .bands) k noLimits))));
+    }
+    ∷ []
+
+-- "quote 1, 6, 10, 11, 13"
+unfoldable pub quoteChecks : (there : Bool) → Record → Quote → List Check
+quoteChecks there r q =
+    record { verdict = NoSuchId; applies = not there }
+    ∷ record { verdict = OutOfRange; applies = not (validQuote q) }
+    ∷ record { verdict = NotLive; applies = not (isLive (r .standing)) }
+    ∷ record { verdict = NotMonitored; applies = not (r .statics .monitoring) }
+    ∷ record { verdict = SecondEarlier; applies = ltb (q .second) (r .second) }
+    ∷ []
+
+-- "move 1, 6, 10, 11, 12"
+unfoldable pub moveChecks : (there : Bool) → Record → (side : ℕ) → List Check
+moveChecks there r side =
+    record { verdict = NoSuchId; applies = not there }
+    ∷ record { verdict = OutOfRange; applies = not (validSide side) }
+    ∷ record { verdict = NotLive; applies = not (isLive (r .standing)) }
+    ∷ record { verdict = NotMonitored; applies = not (r .statics .monitoring) }
+    ∷ record { verdict = MovesUsedUp; applies = eqb (countOf (sideOf side) (r .moves)) movesMost }
+    ∷ []
+
+-- "read 1"
+unfoldable pub readChecks : (there : Bool) → List Check
+readChecks there = record { verdict = NoSuchId; applies = not there } ∷ []
+
+unfoldable pub checksOf : Call → List Record → List Check
+checksOf (admit a) t = admitChecks t a
+checksOf (evaluate id d rows) t = evaluateChecks (known t id) (found t id) d rows
+checksOf (quote id q) t = quoteChecks (known t id) (found t id) q
+checksOf (move id side) t = moveChecks (known t id) (found t id) side
+checksOf (read id) t = readChecks (known t id)
+
+-- ---- what a call answers, and the table after it
+
+pub record Outcome : Type 0 where
+  pub answer : Answer
+  pub table : List Record
+
+-- "A refusal returns its number with all figures 0 and writes nothing."
+unfoldable pub judged : Verdict → List Record → Outcome → Outcome
+judged v t accepted = pick (isDone v) accepted (record { answer = saying v; table = t })
+
+-- "An accepted call writes one record, except a read, which writes none." "Admission takes the first empty slot."
+unfoldable pub acceptedOf : Call → List Record → Outcome
+acceptedOf (admit a) t = record { answer = saying Done; table = set t (place t 0) (admitted a) }
+acceptedOf (evaluate id d rows) t =
+    record {
+      answer = showing (evaluated (found t id) d rows);
+      table =
+          set t (place t id) (evaluated (found t id) d rows);
+    }
+acceptedOf (quote id q) t =
+    record { answer = alertsOn (found t id) q; table = set t (place t id) (quoted (found t id) q) }
+acceptedOf (move id side) t =
+    record {
+      answer = showing (moved (found t id) (sideOf side));
+      table =
+          set t (place t id) (moved (found t id) (sideOf side));
+    }
+acceptedOf (read id) t = record { answer = showing (found t id); table = t }
+
+-- one call
+unfoldable pub step : Call → List Record → Outcome
+step c t = judged (firstOf (checksOf c t)) t (acceptedOf c t)
+
+-- a sequence of calls
+unfoldable pub run : List Call → List Record → List Record
+run [] t = t
+run (c ∷ cs) t = run cs (step c t .table)
+
+-- "A fresh table has every slot empty."
+unfoldable pub fresh : List Record → Bool
+fresh t = every (λ r. eqb (r .id) 0) t

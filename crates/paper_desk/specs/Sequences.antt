@@ -1,0 +1,172 @@
+-- The figures of a security from its history: from its admission, its accepted evaluations, and its accepted quotes and
+-- moves since the last of them. Assumes nothing.
+use mathlib.Core.Bool.{Bool, true, false}
+use mathlib.Core.List.{List, [], _∷_}
+use Prim.Native.Nat.{ℕ, _+_, _-_, _*_}
+use lib.Dec.{eqb}
+use lib.ListN.{getD}
+use lib.IntN.{ℤ}
+use Rattle.paper.specs.declared.Rate.{Rate}
+use Rattle.paper.specs.declared.Statics.{Statics}
+use Rattle.paper.specs.declared.Tentative.{Tentative}
+use Rattle.paper.specs.declared.Standing.{Standing}
+use Rattle.paper.specs.declared.Standing.the-variants.{Admitted, Live}
+use Rattle.paper.specs.declared.Side.{Side}
+use Rattle.paper.specs.declared.Side.the-variants.{Upper, Lower}
+use Rattle.paper.specs.declared.Moves.{Moves}
+use Rattle.paper.specs.declared.Limits.{Limits}
+use Rattle.paper.specs.declared.Near.{Near}
+use Rattle.paper.specs.declared.Near.the-variants.{Not, Since}
+use Rattle.paper.specs.declared.NearSeconds.{NearSeconds}
+use Rattle.paper.specs.declared.Term.{Term}
+use Rattle.paper.specs.declared.Admission.{Admission}
+use Rattle.paper.specs.declared.Day.{Day}
+use Rattle.paper.specs.declared.Quote.{Quote}
+use Rattle.paper.specs.Lists.{pick, forLevels}
+use Rattle.paper.specs.Ranges.{gridOf, staticsOf, noLimits, noTerm, termAt, rateAt}
+use Rattle.paper_desk.specs.Evaluation.{dayRows, evaluationOf}
+use Rattle.paper.specs.declared.Figures.{Figures}
+use Rattle.paper_desk.specs.Rates.{moveOf, minimumOf, figuresOf}
+use Rattle.paper_desk.specs.Limits.{rangeLimit, bandOf, deltaOf}
+use Rattle.paper_desk.specs.Alerts.{isNear}
+use Rattle.paper_desk.specs.History.{Event, evaluatedOn, quotedAt, movedBy}
+
+-- ---- what the evaluations carry on
+
+-- the two latest evaluations, the volatility, the tentative rate with its age, and the three rates
+pub record Carries : Type 0 where
+  pub p1 : ℕ
+  pub p2 : ℕ
+  pub s : ℕ
+  pub tentative : Tentative
+  pub rates : List Rate
+
+-- "Admission also gives .. the two latest evaluations .., s, and the tentative rate". "The three rates start at their
+-- minima; age .. at 0"
+unfoldable pub carriesFirst : Admission → Carries
+carriesFirst a =
+    record {
+      p1 = a .p1;
+      p2 = a .p2;
+      s = a .s;
+      tentative = record { bp = a .tentative; age = 0 };
+      rates = forLevels (λ l. record { bp = minimumOf (staticsOf (a .given)) l });
+    }
+
+-- the evaluation of the day (6.1), and its figures (7.1), from the two earlier evaluations, the last rate S_1, s and
+-- tentative
+unfoldable pub carriesNext : Statics → Day → (rows : List ℤ) → Carries → Carries
+carriesNext st d rows x =
+    let p : ℕ = evaluationOf (gridOf (st .lot)) (x .p1) (dayRows rows) in
+    let r : ℕ = moveOf p (x .p1) (x .p2) in
+    let f : Figures = figuresOf st (d .b) (d .m) (rateAt (x .rates) 0) r (x .s) (x .tentative) in
+    record { p1 = p; p2 = x .p1; s = f .s; tentative = f .tentative; rates = f .rates }
+
+-- quotes and moves carry nothing on
+unfoldable pub carries : Admission → List Event → Carries
+carries a [] = carriesFirst a
+carries a (evaluatedOn d rows ∷ es) = carriesNext (staticsOf (a .given)) d rows (carries a es)
+carries a (quotedAt q ∷ es) = carries a es
+carries a (movedBy side ∷ es) = carries a es
+
+-- ---- the last accepted evaluation, and the accepted moves since it
+
+pub data LastDay : Type 0 where
+  noDay : LastDay
+  onDay : Day → LastDay
+
+unfoldable pub lastEvaluated : List Event → LastDay
+lastEvaluated [] = noDay
+lastEvaluated (evaluatedOn d rows ∷ es) = onDay d
+lastEvaluated (quotedAt q ∷ es) = lastEvaluated es
+lastEvaluated (movedBy side ∷ es) = lastEvaluated es
+
+abbrev pub sameSide : Side → Side → Bool
+sameSide Upper Upper = true
+sameSide Upper Lower = false
+sameSide Lower Upper = false
+sameSide Lower Lower = true
+
+-- "c the moves of that side since the evaluation"
+unfoldable pub movesSince : Side → List Event → ℕ
+movesSince side [] = 0
+movesSince side (evaluatedOn d rows ∷ es) = 0
+movesSince side (quotedAt q ∷ es) = movesSince side es
+movesSince side (movedBy x ∷ es) = pick (sameSide x side) (movesSince side es + 1) (movesSince side es)
+
+abbrev pub movesOf : List Event → Moves
+movesOf es = record { lower = movesSince Lower es; upper = movesSince Upper es }
+
+-- ---- the standing and the terms, the ranges and the bands: by the last evaluation and the moves since
+
+-- "A record has a standing: admitted only, or live with its day number, which is then the last day."
+unfoldable pub standingNow : Admission → LastDay → Standing
+standingNow a noDay = Admitted (a .day)
+standingNow a (onDay d) = Live (d .day)
+
+-- a term, 0 before the first evaluation
+unfoldable pub termNow : LastDay → (term : ℕ) → Term
+termNow noDay k = noTerm
+termNow (onDay d) k = termAt (d .terms) k
+
+-- "Range of level L: P·(1 ± S_L)"; each move "shifts its three range limits by delta .., lower ones stopping at 0"
+unfoldable pub rangeAfter : Statics → (p s1 rate : ℕ) → Moves → Limits
+rangeAfter st p s1 rate c =
+    record {
+      lower = rangeLimit st p rate Lower - c .lower * deltaOf st s1 p;
+      upper = rangeLimit st p rate Upper + c .upper * deltaOf st s1 p;
+    }
+
+-- the range of the level i + 1, 0 before the first evaluation
+unfoldable pub rangeNow : Admission → List Event → LastDay → (i : ℕ) → Limits
+rangeNow a es noDay i = noLimits
+rangeNow a es (onDay d) i =
+    let x : Carries = carries a es in
+    rangeAfter (staticsOf (a .given)) (x .p1) (rateAt (x .rates) 0) (rateAt (x .rates) i) (movesOf es)
+
+-- a term's band, made with the moves since the evaluation; 0 before the first evaluation
+unfoldable pub bandNow : Admission → List Event → LastDay → (term : ℕ) → Limits
+bandNow a es noDay k = noLimits
+bandNow a es (onDay d) k =
+    let x : Carries = carries a es in
+    bandOf (staticsOf (a .given)) (x .p1) (rateAt (x .rates) 0) (movesOf es) (termAt (d .terms) k)
+
+-- ---- the near seconds, from the quotes since the last evaluation
+
+-- the bid is held against the top, the ask against the bottom
+abbrev pub quotedPrice : Side → Quote → ℕ
+quotedPrice Upper q = q .bid
+quotedPrice Lower q = q .ask
+
+-- whether a quote after these calls is near a side of its term's band
+unfoldable pub nearIn : Admission → List Event → Side → Quote → Bool
+nearIn a es side q = isNear side (a .given .w) (bandNow a es (lastEvaluated es) (q .term)) (quotedPrice side q)
+
+-- the seconds of a side's near quotes in a term, unbroken up to now, the latest first. They break off at "a quote that
+-- isn't near", at a move of that side ("It clears that side's near seconds in all terms") and at an evaluation. "One
+-- quote touches one term only."
+unfoldable pub nearQuotes : Admission → Side → (term : ℕ) → List Event → List ℕ
+nearQuotes a side k [] = []
+nearQuotes a side k (evaluatedOn d rows ∷ es) = []
+nearQuotes a side k (quotedAt q ∷ es) =
+    pick (eqb (q .term) k) (pick (nearIn a es side q) (q .second ∷ nearQuotes a side k es) []) (nearQuotes a side k es)
+nearQuotes a side k (movedBy x ∷ es) = pick (sameSide x side) [] (nearQuotes a side k es)
+
+-- "A near side keeps the second at which it became near": that of the first of them
+unfoldable pub firstOfThem : (seconds : List ℕ) → Near
+firstOfThem [] = Not
+firstOfThem (second ∷ []) = Since second
+firstOfThem (second ∷ earlier ∷ rest) = firstOfThem (earlier ∷ rest)
+
+abbrev pub nearSince : Admission → Side → (term : ℕ) → List Event → Near
+nearSince a side k es = firstOfThem (nearQuotes a side k es)
+
+abbrev pub nearNow : Admission → List Event → (term : ℕ) → NearSeconds
+nearNow a es k = record { top = nearSince a Upper k es; bottom = nearSince a Lower k es }
+
+-- "An evaluation clears .. the last quote second (to 0)."
+unfoldable pub lastSecond : List Event → ℕ
+lastSecond [] = 0
+lastSecond (evaluatedOn d rows ∷ es) = 0
+lastSecond (quotedAt q ∷ es) = q .second
+lastSecond (movedBy x ∷ es) = lastSecond es
