@@ -70,11 +70,11 @@ use denote.Triple.Bound.{Bound}
 use denote.Triple.Spec.{tripleOf}
 use denote.Triple.Clauses.{ensured, lasts}
 use Rattle.paper.specs.declared.Record.{Record}
-use Rattle.record_calls.specs.declared.Slot.{Slot}
-use Rattle.record_calls.specs.declared.Effect.{Effect}
-use Rattle.record_calls.specs.Effects.{slotOf}
-use Rattle.record_calls.proofs.Slot.Laws as U′
-use Rattle.record_calls.proofs.Effect as O
+use Rattle.record_answers.specs.declared.Slot.{Slot}
+use Rattle.record_answers.specs.declared.Effect.{Effect}
+use Rattle.record_answers.specs.Effects.{slotOf}
+use Rattle.record_answers.proofs.Slot.Laws as U′
+use Rattle.record_answers.proofs.Effect as O
 use Rattle.paper.proofs.Answer.Laws as N′
 use Rattle.desk.proofs.Row.{R, val, makes, S, typed-slot, turn-ty, turn-val, turn-is, turn-tells, answer-val, typed-answer}
 use Rattle.desk.proofs.Frame.{Locals, held, holding, Within, held-own, frame, value, field as field′, sets, clears, leaves}

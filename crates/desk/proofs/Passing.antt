@@ -27,7 +27,7 @@ use denote.Triple.Statement.{Contract}
 use denote.Triple.Bound.{Bound}
 use denote.Triple.Clauses.{Clauses, Ended}
 use denote.Exit.{yes}
-use Rattle.record_calls.specs.declared.Slot.{Slot}
+use Rattle.record_answers.specs.declared.Slot.{Slot}
 use Rattle.desk.proofs.Row.{S, makes-slot}
 use Rattle.desk.proofs.Plain.{Plain, PlainLaws, number, number-laws}
 use Rattle.desk.proofs.Meeting.{Staying}

@@ -13,8 +13,8 @@ use lib.Seq.{drop-cons, drop-length}
 use Rattle.paper.specs.declared.Record.{Record}
 use Rattle.paper.specs.Lists.{pick}
 use Rattle.paper_desk.specs.Desk.{blank, place, found}
-use Rattle.record_calls.specs.declared.Slot.{Slot}
-use Rattle.record_calls.specs.Effects.{slotOf}
+use Rattle.record_answers.specs.declared.Slot.{Slot}
+use Rattle.record_answers.specs.Effects.{slotOf}
 
 abbrev pub Passed : List Record → ℕ → ℕ → Type 0
 Passed t id i = place t id ≡ i + place (drop i t) id

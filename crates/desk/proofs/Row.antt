@@ -25,12 +25,12 @@ use Rattle.paper.proofs.Record as T
 use Rattle.paper.proofs.Record.Laws as T′
 use Rattle.paper.proofs.Answer as N
 use Rattle.paper.proofs.Answer.Laws as N′
-use Rattle.record_calls.specs.declared.Slot.{Slot}
-use Rattle.record_calls.specs.declared.Effect.{Effect}
-use Rattle.record_calls.proofs.Slot as U
-use Rattle.record_calls.proofs.Slot.Laws as U′
-use Rattle.record_calls.proofs.Effect as O
-use Rattle.record_calls.proofs.Effect.Laws as O′
+use Rattle.record_answers.specs.declared.Slot.{Slot}
+use Rattle.record_answers.specs.declared.Effect.{Effect}
+use Rattle.record_answers.proofs.Slot as U
+use Rattle.record_answers.proofs.Slot.Laws as U′
+use Rattle.record_answers.proofs.Effect as O
+use Rattle.record_answers.proofs.Effect.Laws as O′
 
 -- ---- a record
 

@@ -27,10 +27,10 @@ use denote.Triple.Spec.{Meets}
 use denote.Triple.Clauses.{Clauses, Ended, closing}
 use Rattle.paper.specs.declared.Record.{Record}
 use Rattle.paper_desk.specs.Desk.{Call, step}
-use Rattle.record_calls.specs.declared.Slot.{Slot}
-use Rattle.record_calls.specs.declared.Effect.{Effect}
-use Rattle.record_calls.specs.Effects.{slotOf, doneBy}
-use Rattle.record_calls.proofs.Effect as O
+use Rattle.record_answers.specs.declared.Slot.{Slot}
+use Rattle.record_answers.specs.declared.Effect.{Effect}
+use Rattle.record_answers.specs.Effects.{slotOf, doneBy}
+use Rattle.record_answers.proofs.Effect as O
 use Rattle.desk.proofs.Frame.{value}
 use Rattle.desk.proofs.Calls.{Take, Put}
 use Rattle.desk.proofs.Plain.{Plain, PlainLaws}

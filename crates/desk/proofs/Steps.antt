@@ -17,8 +17,8 @@ use Rattle.paper.specs.declared.Verdict.{Verdict}
 use Rattle.paper.specs.Lists.{pick}
 use Rattle.paper.specs.Verdicts.{isDone, firstOf}
 use Rattle.paper_desk.specs.Desk.{Call, admit, evaluate, quote, move, read, Outcome, blank, saying, showing, stands, known, found, admitChecks, readChecks, checksOf, judged, acceptedOf, step}
-use Rattle.record_calls.specs.declared.Effect.{Effect}
-use Rattle.record_calls.specs.Effects.{slotOf, holds, isKnown, refusedEffect, judgedEffect, admitChecksOf, admitEffect, evaluateEffect, quoteEffect, moveEffect, readAnswer, doneBy}
+use Rattle.record_answers.specs.declared.Effect.{Effect}
+use Rattle.record_answers.specs.Effects.{slotOf, holds, isKnown, refusedEffect, judgedEffect, admitChecksOf, admitEffect, evaluateEffect, quoteEffect, moveEffect, readAnswer, doneBy}
 use Rattle.desk.specs.Promises.{Promised}
 
 judged-done : (t : List Record) (v : Verdict) (o : Effect) → doneBy t (judgedEffect (length t) v o)

@@ -38,9 +38,9 @@ use denote.Triple.Bound.{passed}
 use denote.Triple.Spec.{Meets}
 use denote.Triple.Clauses.{Clauses, Ended, closing}
 use Rattle.paper.specs.declared.Record.{Record}
-use Rattle.record_calls.specs.declared.Slot.{Slot}
-use Rattle.record_calls.specs.Effects.{slotOf}
-use Rattle.record_calls.proofs.Slot.Laws as U′
+use Rattle.record_answers.specs.declared.Slot.{Slot}
+use Rattle.record_answers.specs.Effects.{slotOf}
+use Rattle.record_answers.proofs.Slot.Laws as U′
 use Rattle.desk.proofs.Row.{R, shared-ty, word, S}
 use Rattle.desk.proofs.Frame.{Addresses, Locals, of-types, env-of, ParamsFit, entry, held, holding, Within, held-own, frame, value, leaves}
 use Rattle.desk.proofs.Plain.{Plain, PlainLaws, row}

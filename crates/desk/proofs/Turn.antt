@@ -44,11 +44,11 @@ use Rattle.paper.specs.declared.Record.{Record}
 use Rattle.paper_desk.specs.Desk.{Call, step}
 use Rattle.paper.proofs.Answer as N
 use Rattle.paper.proofs.Answer.Laws as N′
-use Rattle.record_calls.specs.declared.Slot.{Slot}
-use Rattle.record_calls.specs.declared.Effect.{Effect}
-use Rattle.record_calls.specs.Effects.{slotOf, doneBy}
-use Rattle.record_calls.proofs.Slot.Laws as U′
-use Rattle.record_calls.proofs.Effect as O
+use Rattle.record_answers.specs.declared.Slot.{Slot}
+use Rattle.record_answers.specs.declared.Effect.{Effect}
+use Rattle.record_answers.specs.Effects.{slotOf, doneBy}
+use Rattle.record_answers.proofs.Slot.Laws as U′
+use Rattle.record_answers.proofs.Effect as O
 use Rattle.desk.specs.Promises.{Promised}
 use Rattle.desk.proofs.Row.{R, table-ty, word, S, turn-ty, turn-val, turn-is, typed-turn, answer-val, makes-answer}
 use Rattle.desk.proofs.Frame.{Addresses, Locals, of-types, env-of, ParamsFit, entry, held, holding, Within as In-frame, frame, value}

@@ -7,13 +7,13 @@ use paper::AskedDay;
 use paper::Day;
 use paper::Quote;
 use paper::Record;
-use record_calls::Effect;
-use record_calls::Slot;
+use record_answers::Effect;
+use record_answers::Slot;
 ghost use mathlib.Core.Path.{_≡_};
 ghost use lib.ListN.{set};
 ghost use Rattle.paper_desk.specs.Desk.{Call, step};
 ghost use Rattle.paper.specs.Terms.{dayOf};
-ghost use Rattle.record_calls.specs.Effects.{slotOf, evaluateEffect};
+ghost use Rattle.record_answers.specs.Effects.{slotOf, evaluateEffect};
 ghost use Rattle.desk.specs.Promises.{Promised};
 
 // "id 0 marks an empty slot"
@@ -34,7 +34,7 @@ pub fn take(t: &[Record], id: u64) -> Slot
         }
         i = i + 1;
     }
-    record_calls::absent(i)
+    record_answers::absent(i)
 }
 
 // The record is stored at a place. Past the end nothing is.
@@ -61,7 +61,7 @@ pub fn evaluate(t: &mut [Record], id: u64, d: Day, rows: &[i64]) -> Answer
     ensures { λ r. ⌜ Promised (Call.evaluate id d (now (rows .entry))) (now (t .entry)) r (now (t .exit)) ⌝ }
 {
     let s = take(t, id);
-    let o = record_calls::evaluated(s, d, rows);
+    let o = record_evaluation::evaluated(s, d, rows);
     put(t, o.at, o.rec);
     o.answer
 }
@@ -71,7 +71,7 @@ fn asked(s: Slot, a: AskedDay, rows: &[i64]) -> Effect
     ensures { λ o. ⌜ o ≡ evaluateEffect s (dayOf a) (now (rows .entry)) ⌝ }
 {
     let d = interest_terms::day_of(a);
-    record_calls::evaluated(s, d, rows)
+    record_evaluation::evaluated(s, d, rows)
 }
 
 // W-201: "The security's evaluation may take these limits or given ones."

@@ -7,7 +7,7 @@ use Rattle.paper.specs.declared.Record.{Record}
 use Rattle.paper.specs.declared.Day.{Day}
 use Rattle.paper_desk.specs.Desk.{stands, known}
 use Rattle.paper_reasons.specs.Why.{whyOn}
-use Rattle.record_calls.specs.Effects.{slotOf, holds, isKnown}
+use Rattle.record_answers.specs.Effects.{slotOf, holds, isKnown}
 use Rattle.record_reasons.specs.Whys.{whySlot}
 
 pub slot-said : (t : List Record) (id : ℕ) (d : Day) (rows : List ℤ) → whySlot (slotOf t id) d rows ≡ whyOn t id d rows

@@ -27,8 +27,8 @@ use Rattle.paper.specs.declared.Record.{Record}
 use Rattle.paper_reasons.specs.declared.Why.{Why}
 use Rattle.paper_reasons.proofs.Why as Y
 use Rattle.paper_reasons.proofs.Why.Laws as Y′
-use Rattle.record_calls.specs.declared.Slot.{Slot}
-use Rattle.record_calls.specs.Effects.{slotOf}
+use Rattle.record_answers.specs.declared.Slot.{Slot}
+use Rattle.record_answers.specs.Effects.{slotOf}
 use Rattle.desk.proofs.Frame.{value}
 use Rattle.desk.proofs.Calls.{Take}
 use Rattle.desk.proofs.Plain.{Plain, PlainLaws, of-row, row}

@@ -5,7 +5,7 @@ use paper::AskedDay;
 use paper::Day;
 use paper::Record;
 use paper_reasons::Why;
-use record_calls::Slot;
+use record_answers::Slot;
 ghost use mathlib.Core.Path.{_≡_};
 ghost use Rattle.paper.specs.Terms.{dayOf};
 ghost use Rattle.paper_reasons.specs.Why.{whyOn};

@@ -18,7 +18,7 @@ use Rattle.paper_desk.specs.Limits.{crossed}
 use Rattle.paper.specs.Verdicts.{numberOf, Naming, firstNamed, firstOf}
 use Rattle.paper_desk.specs.Desk.{evaluated, evaluateChecks}
 use Rattle.paper.proofs.Logic.{clash}
-use Rattle.record_calls.proofs.Evaluations.{day-valid}
+use Rattle.record_evaluation.proofs.Evaluations.{day-valid}
 use Rattle.paper_reasons.specs.declared.Fault.{Fault}
 use Rattle.paper_reasons.specs.declared.Fault.the-variants as fault
 use Rattle.paper_reasons.specs.Faults.{rowsAtFault, firstRow, termsAtFault, outOfRange, isSame, faultsOf, faultOf}

@@ -13,11 +13,11 @@ use Rattle.paper.specs.Verdicts.{isDone, firstOf}
 use Rattle.paper_desk.specs.Desk.{priceOn, evaluated, evaluateChecks}
 use Rattle.paper.proofs.Logic.{pick-true, pick-false}
 use Rattle.evaluation.specs.Evaluation.{pricedOf}
-use Rattle.record_calls.specs.declared.Slot.{Slot}
-use Rattle.record_calls.specs.declared.Working.{Working}
-use Rattle.record_calls.specs.Effects.{isKnown}
-use Rattle.record_calls.specs.Workings.{madeWith, isMade, workedOf}
-use Rattle.record_calls.proofs.Judging.{worked-verdict, worked-made}
+use Rattle.record_answers.specs.declared.Slot.{Slot}
+use Rattle.record_evaluation.specs.declared.Working.{Working}
+use Rattle.record_answers.specs.Effects.{isKnown}
+use Rattle.record_evaluation.specs.Workings.{madeWith, isMade, workedOf}
+use Rattle.record_evaluation.proofs.Judging.{worked-verdict, worked-made}
 use Rattle.paper_reasons.specs.declared.Fault.{Fault}
 use Rattle.paper_reasons.specs.declared.Reasons.{Reasons}
 use Rattle.paper_reasons.specs.Faults.{isSame, faultOf}

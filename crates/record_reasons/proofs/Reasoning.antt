@@ -33,11 +33,11 @@ use Rattle.inputs.proofs.Facts.{day-facts}
 use Rattle.rates.specs.Asked.{FigureRanges, tentativeBound}
 use Rattle.rates.proofs.Statics.{sound-ranges, top-within}
 use Rattle.record_writing.specs.Evaluates.{moveTo, figuresAt}
-use Rattle.record_calls.specs.declared.Slot.{Slot}
-use Rattle.record_calls.specs.Effects.{isKnown}
-use Rattle.record_calls.specs.Workings.{pricedOn}
-use Rattle.record_calls.proofs.Judging.{known-sound}
-use Rattle.record_calls.proofs.Evaluations.{day-valid}
+use Rattle.record_answers.specs.declared.Slot.{Slot}
+use Rattle.record_answers.specs.Effects.{isKnown}
+use Rattle.record_evaluation.specs.Workings.{pricedOn}
+use Rattle.record_answers.proofs.Tests.{known-sound}
+use Rattle.record_evaluation.proofs.Evaluations.{day-valid}
 use Rattle.paper_reasons.specs.declared.PriceReason.{PriceReason}
 use Rattle.paper_reasons.specs.declared.WeightReason.the-variants as weight
 use Rattle.paper_reasons.specs.declared.ReplacementReason.the-variants as replacement

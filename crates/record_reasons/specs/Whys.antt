@@ -2,8 +2,8 @@
 use mathlib.Core.List.{List}
 use lib.IntN.{ℤ}
 use Rattle.paper.specs.declared.Day.{Day}
-use Rattle.record_calls.specs.declared.Slot.{Slot}
-use Rattle.record_calls.specs.Effects.{isKnown}
+use Rattle.record_answers.specs.declared.Slot.{Slot}
+use Rattle.record_answers.specs.Effects.{isKnown}
 use Rattle.paper_reasons.specs.declared.Why.{Why}
 use Rattle.paper_reasons.specs.Why.{whyOf}
 

@@ -1,5 +1,5 @@
 // W-207, "Say why", by value: the slot found and the inputs in, why an evaluation of them is answered as it is out. The
-// evaluation itself is worked out once, by the rule that `evaluate` has (`record_calls::worked`).
+// evaluation itself is worked out once, by the rule that `evaluate` has (`record_evaluation::worked`).
 pub mod reasons; // which figure set each of the record's
 
 ghost use mathlib.Core.Path.{_≡_};
@@ -14,7 +14,7 @@ use paper_reasons::ReplacementReason;
 use paper_reasons::TentativeReason;
 use paper_reasons::WeightReason;
 use paper_reasons::Why;
-use record_calls::Slot;
+use record_answers::Slot;
 use record_faults::fault_of;
 
 // Of a refused evaluation no figure has a reason.
@@ -37,7 +37,7 @@ pub fn why(s: Slot, d: Day, rows: &[i64]) -> Why
     ensures { λ y. ⌜ y ≡ whySlot s d (now (rows .entry)) ⌝ }
 {
     let old = s.rec;
-    let w = record_calls::worked(s, d, rows);
+    let w = record_evaluation::worked(s, d, rows);
     let verdict = w.verdict;
     let new = w.rec;
     let figures = w.figures;

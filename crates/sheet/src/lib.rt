@@ -14,7 +14,7 @@ use paper_reasons::ReplacementReason;
 use paper_reasons::TentativeReason;
 use paper_reasons::WeightReason;
 use paper_reasons::Why;
-use record_calls::Slot;
+use record_answers::Slot;
 
 // The slots of the table that the security would stand in.
 const SLOTS: usize = 512;
@@ -84,8 +84,8 @@ fn first(r: Record) -> Slot {
 
 fn admitted(x: &[i64; 28]) -> Record {
     let a = admission_of(x);
-    let empty = first(record_calls::blank());
-    let turn = record_calls::admitted(record_calls::absent(SLOTS), empty, a);
+    let empty = first(record_answers::blank());
+    let turn = record_calls::admitted(record_answers::absent(SLOTS), empty, a);
     turn.rec
 }
 
@@ -165,7 +165,7 @@ pub extern "C" fn nedrubal_days(x: &[i64; 28], y: &[i64; 6], rows: &[i64], days:
     let mut sum: u64 = 0;
     let mut i: u64 = 0;
     while i < days {
-        let turn = record_calls::evaluated(first(r), day_of(y, i), rows);
+        let turn = record_evaluation::evaluated(first(r), day_of(y, i), rows);
         r = turn.rec;
         sum = std::num::wrapping_add_u64(sum, figure(r));
         i += 1;
@@ -185,7 +185,7 @@ pub extern "C" fn nedrubal_evaluations(
     let mut sum: u64 = 0;
     let mut i: u64 = 0;
     while i < days {
-        let turn = record_calls::evaluated(first(r), day_of(y, i), rows);
+        let turn = record_evaluation::evaluated(first(r), day_of(y, i), rows);
         sum = std::num::wrapping_add_u64(sum, figure(turn.rec));
         i += 1;
     }

@@ -80,7 +80,7 @@ pub fn serve(t: &mut [Record], reasons: bool) -> State
 pub fn fresh() -> [Record; Record::SLOTS_MOST]
     ensures { λ r. ⌜ r ≡ replicate 512 blank ⌝ }
 {
-    let e = record_calls::blank();
+    let e = record_answers::blank();
     [e; Record::SLOTS_MOST]
 }
 

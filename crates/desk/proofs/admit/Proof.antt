@@ -44,11 +44,11 @@ use Rattle.paper.proofs.Answer.Laws as N′
 use Rattle.paper.proofs.Admission as B
 use Rattle.paper.proofs.Admission.Laws as B′
 use Rattle.paper.proofs.GivenStatics.Laws as G′
-use Rattle.record_calls.specs.declared.Slot.{Slot}
-use Rattle.record_calls.specs.declared.Effect.{Effect}
-use Rattle.record_calls.specs.Effects.{slotOf, admitEffect}
-use Rattle.record_calls.proofs.Slot.Laws as U′
-use Rattle.record_calls.proofs.Effect as O
+use Rattle.record_answers.specs.declared.Slot.{Slot}
+use Rattle.record_answers.specs.declared.Effect.{Effect}
+use Rattle.record_answers.specs.Effects.{slotOf, admitEffect}
+use Rattle.record_answers.proofs.Slot.Laws as U′
+use Rattle.record_answers.proofs.Effect as O
 use Rattle.desk.proofs.Row.{R, table-ty, S, makes-slot, turn-ty, turn-val, turn-is, typed-turn, answer-val, makes-answer}
 use Rattle.desk.proofs.Frame.{Addresses, of-types, env-of, spare, frame, enters, value as local′, field as field′}
 use Rattle.desk.proofs.Lending.{ℓt, Lending, rref, wref, ref, machine}

@@ -3,13 +3,13 @@ use contract.Running.{givenOf, tables, tablesOf}
 use denote.Triple.Spec.{tripleOf}
 use denote.Triple.Table.{entered, cited}
 use Rattle.paper_desk.specs.Desk.{evaluate}
-use Rattle.record_calls.specs.Effects.{evaluateEffect}
+use Rattle.record_answers.specs.Effects.{evaluateEffect}
 use Rattle.desk.proofs.Known.{take-known, put-known}
 use Rattle.desk.proofs.Plain.{day, day-laws}
 use Rattle.desk.proofs.ShapeWithRows.{Rule, meets}
 use Rattle.desk.proofs.Steps.{evaluate-steps}
-use Rattle.record_calls.proofs.evaluated.Symbol as rule-def
-use Rattle.record_calls.proofs.evaluated.Met as rule-thm
+use Rattle.record_evaluation.proofs.evaluated.Symbol as rule-def
+use Rattle.record_evaluation.proofs.evaluated.Met as rule-thm
 use Rattle.desk.proofs.evaluate as f
 use Rattle.desk.proofs.evaluate.Key as key
 use Rattle.desk.proofs.evaluate.Statement as stated
@@ -24,5 +24,5 @@ evaluate-spec 𝓤 H 𝓜 𝓖 𝓡 =
     (𝓡 .run)
     (tablesOf 𝓤 H 𝓜 (tables 𝓤 H 𝓜 𝓡 code.env)) (take-known 𝓤 H 𝓜 𝓖 𝓡 code.env code.calls-desk·take)
     (cited 𝓤 H (Rule day day-laws evaluateEffect evaluate evaluate-steps rule-def.name 𝓤 H
-    (𝓖 .A)) 𝓜 𝓡 code.env rule-def.name rule-def.routine code.calls-record-calls·evaluated (rule-thm.met 𝓤 H 𝓜 𝓖 𝓡))
+    (𝓖 .A)) 𝓜 𝓡 code.env rule-def.name rule-def.routine code.calls-record-evaluation·evaluated (rule-thm.met 𝓤 H 𝓜 𝓖 𝓡))
     (put-known 𝓤 H 𝓜 𝓖 𝓡 code.env code.calls-desk·put))

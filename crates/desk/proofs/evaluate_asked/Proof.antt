@@ -11,9 +11,9 @@ use Rattle.paper.specs.declared.AskedDay.{AskedDay}
 use Rattle.paper.specs.declared.Record.{Record}
 use Rattle.paper_desk.specs.Desk.{Call, evaluate, step}
 use Rattle.paper.specs.Terms.{dayOf}
-use Rattle.record_calls.specs.declared.Slot.{Slot}
-use Rattle.record_calls.specs.declared.Effect.{Effect}
-use Rattle.record_calls.specs.Effects.{slotOf, evaluateEffect, doneBy}
+use Rattle.record_answers.specs.declared.Slot.{Slot}
+use Rattle.record_answers.specs.declared.Effect.{Effect}
+use Rattle.record_answers.specs.Effects.{slotOf, evaluateEffect, doneBy}
 use Rattle.desk.proofs.Known.{take-known, put-known}
 use Rattle.desk.proofs.Plain.{asked, asked-laws}
 use Rattle.desk.proofs.ShapeWithRows.{Rule, meets}

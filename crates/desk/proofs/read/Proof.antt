@@ -7,7 +7,7 @@ use types.Run.{and-then, no-more as no-operand}
 use denote.Triple.Spec.{tripleOf}
 use denote.Triple.Table.{entered, cited}
 use Rattle.paper_desk.specs.Desk.{read, step}
-use Rattle.record_calls.specs.Effects.{readAnswer}
+use Rattle.record_answers.specs.Effects.{readAnswer}
 use Rattle.record_calls.proofs.read.Symbol as rule-def
 use Rattle.record_calls.proofs.read.Met as rule-thm
 use Rattle.desk.proofs.Frame.{value}

@@ -51,20 +51,20 @@ use denote.Triple.Table.{entered, cited}
 use denote.Triple.Walked.{says, Stays, stay-none-slice, stay-none, walkOf, goes-none-slice, goes-none, Walks, ends-at, walked, walk-meets}
 use denote.Exit.{yes}
 use Rattle.paper.specs.declared.Record.{Record}
-use Rattle.record_calls.specs.declared.Slot.{Slot}
+use Rattle.record_answers.specs.declared.Slot.{Slot}
 use Rattle.paper_desk.specs.Desk.{blank}
-use Rattle.record_calls.specs.Effects.{slotOf}
+use Rattle.record_answers.specs.Effects.{slotOf}
 use Rattle.paper.proofs.Record.Laws as T′
-use Rattle.record_calls.proofs.Slot.Laws as U′
+use Rattle.record_answers.proofs.Slot.Laws as U′
 use Rattle.desk.proofs.Row.{R, shared-ty, word, bytes, vals, val, tells, copied, typed, id-fits, S, makes-slot, typed-slot, slot-val, slot-is}
 use Rattle.desk.proofs.Frame.{Addresses, of-types, env-of, Locals, spare, frame, enters, value, field, whole, sets, clears, leaves, leaves-within}
 use Rattle.desk.proofs.Slots.{finding, finds, address}
 use Rattle.desk.proofs.Asks.{Callee, consults}
 use Rattle.desk.proofs.Places.{Passed, passed-none, passed-more, absentOf, slot-here, slot-absent}
-use Rattle.record_calls.proofs.absent as absent
-use Rattle.record_calls.proofs.absent.Symbol as absent-def
-use Rattle.record_calls.proofs.absent.Symbol.{name as #absent}
-use Rattle.record_calls.proofs.absent.Met as absent-thm
+use Rattle.record_answers.proofs.absent as absent
+use Rattle.record_answers.proofs.absent.Symbol as absent-def
+use Rattle.record_answers.proofs.absent.Symbol.{name as #absent}
+use Rattle.record_answers.proofs.absent.Met as absent-thm
 use Rattle.desk.proofs.take.Key.{name as #take}
 use Rattle.desk.proofs.take as f
 use Rattle.desk.proofs.take.Statement as stated
@@ -138,7 +138,7 @@ code-found =
 abbrev code-next : Body
 code-next = assign (place ℓi []) (op2 (add unsigned) (copy (place ℓi [])) (int w64 1))
 
--- record_calls::absent(i)
+-- record_answers::absent(i)
 abbrev code-absent : Body
 code-absent = seq (call #absent (copy (place ℓi []) ∷ []) (place 0 [])) return
 
@@ -345,7 +345,7 @@ module _ {M : Type 1} (𝓤 : URA M) (H : Heap 𝓤) (A : Atoms 𝓤) (W : Given
           next : Upto
           next = (i .0 + 1, (add-one-le l, passed-more ys id (i .0) (i .1 .1) l other))
 
-      -- record_calls::absent(i), past the end
+      -- record_answers::absent(i), past the end
       returns-absent : T (not (ltb (i .0) n)) → Sq W Tested (Runs code-absent)
       returns-absent over =
           consults 𝓤 H A W absent.ended (absent.clauses 𝓤 H A mem run) (to-absent (i .0)) tt
@@ -405,5 +405,5 @@ take-spec 𝓤 H 𝓜 𝓖 𝓡 =
     (tables 𝓤 H 𝓜 𝓡 code.env .Λ) #take code.function (code.unfolded 𝓤 H 𝓜 𝓡)
     (meets 𝓤 H (𝓖 .A) (givenOf 𝓤 H 𝓜 𝓖) (𝓜 .mem) (𝓡 .run) (tablesOf 𝓤 H 𝓜 (tables 𝓤 H 𝓜 𝓡 code.env))
     (cited 𝓤 H (Absent 𝓤 H (𝓖 .A) (𝓜 .mem) (𝓡 .run)) 𝓜 𝓡 code.env #absent absent-def.routine
-    code.calls-record-calls·absent
+    code.calls-record-answers·absent
     (absent-thm.met 𝓤 H 𝓜 𝓖 𝓡)))

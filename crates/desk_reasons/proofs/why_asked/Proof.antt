@@ -12,8 +12,8 @@ use Rattle.paper.specs.declared.Record.{Record}
 use Rattle.paper.specs.Terms.{dayOf}
 use Rattle.paper_reasons.specs.declared.Why.{Why}
 use Rattle.paper_reasons.specs.Why.{whyOn}
-use Rattle.record_calls.specs.declared.Slot.{Slot}
-use Rattle.record_calls.specs.Effects.{slotOf}
+use Rattle.record_answers.specs.declared.Slot.{Slot}
+use Rattle.record_answers.specs.Effects.{slotOf}
 use Rattle.record_reasons.specs.Whys.{whySlot}
 use Rattle.desk.proofs.Known.{take-known}
 use Rattle.desk.proofs.Plain.{asked, asked-laws}

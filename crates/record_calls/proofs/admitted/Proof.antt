@@ -3,8 +3,7 @@
 use mathlib.Core.Path.{_≡_, sym, _∙_}
 use Rattle.paper.proofs.Logic.{clash}
 use Rattle.inputs.proofs.Made.{price-made, price-unmade}
-use Rattle.record_calls.proofs.Judging.{admission-invalid}
-use Rattle.record_calls.proofs.Evaluations.{admission-prices}
+use Rattle.record_calls.proofs.Judging.{admission-invalid, admission-prices}
 use borrow.Author.Needs.{needs}
 use Rattle.record_calls.proofs.admitted.Statement.{statement}
 use Rattle.record_calls.proofs.admitted.Tie as tie

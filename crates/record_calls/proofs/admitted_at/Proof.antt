@@ -4,8 +4,9 @@ use mathlib.Core.Path.{_≡_, sym, _∙_}
 use mathlib.Core.Bool.{true, false, _&&_}
 use Rattle.paper.specs.Ranges.{validSlots, validAdmission}
 use Rattle.paper.proofs.Logic.{and-right}
-use Rattle.record_calls.specs.Effects.{holds}
-use Rattle.record_calls.proofs.Judging.{passed, failed, admission-out, admission-again, admission-full, admission-accepted}
+use Rattle.record_answers.specs.Effects.{holds}
+use Rattle.record_answers.proofs.Tests.{passed, failed}
+use Rattle.record_calls.proofs.Judging.{admission-out, admission-again, admission-full, admission-accepted}
 use borrow.Author.Needs.{needs}
 use Rattle.record_calls.proofs.admitted_at.Statement.{statement}
 use Rattle.record_calls.proofs.admitted_at.Tie as tie

@@ -3,9 +3,10 @@ use mathlib.Core.Path.{_≡_, ap, _∙_}
 use borrow.Author.Tests.{eq-eqb, ne-eqb}
 use Rattle.paper.specs.Ranges.{validSide, sideOf}
 use Rattle.paper.specs.Verdicts.{isDone, firstOf}
-use Rattle.record_calls.specs.Effects.{isKnown, refusedEffect}
+use Rattle.record_answers.specs.Effects.{isKnown, refusedEffect}
 use Rattle.record_calls.specs.Openings.{openingChecks}
-use Rattle.record_calls.proofs.Judging.{passed, failed, known-sound, Opened, opened, move-stopped, move-used-up, move-accepted, move-left}
+use Rattle.record_answers.proofs.Tests.{passed, failed, known-sound}
+use Rattle.record_calls.proofs.Judging.{Opened, opened, move-stopped, move-used-up, move-accepted, move-left}
 use borrow.Author.Needs.{needs}
 use Rattle.record_calls.proofs.moved.Statement.{statement}
 use Rattle.record_calls.proofs.moved.Tie as tie

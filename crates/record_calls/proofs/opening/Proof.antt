@@ -5,9 +5,9 @@ use mathlib.Core.Bool.{true}
 use Rattle.paper.specs.Ranges.{isLive}
 use Rattle.paper.specs.Verdicts.{firstOf}
 use Rattle.paper.proofs.Logic.{not-true, not-false}
-use Rattle.record_calls.specs.Effects.{isKnown}
+use Rattle.record_answers.specs.Effects.{isKnown}
 use Rattle.record_calls.specs.Openings.{openingChecks}
-use Rattle.record_calls.proofs.Judging.{passed, failed}
+use Rattle.record_answers.proofs.Tests.{passed, failed}
 use borrow.Author.Needs.{needs}
 use Rattle.record_calls.proofs.opening.Statement.{statement}
 use Rattle.record_calls.proofs.opening.Tie as tie

@@ -4,9 +4,10 @@ use mathlib.Core.Path.{_≡_, ap, _∙_}
 use borrow.Author.Tests.{lt-ltb, le-ltb}
 use Rattle.paper.specs.Ranges.{validQuote}
 use Rattle.paper.specs.Verdicts.{isDone, firstOf}
-use Rattle.record_calls.specs.Effects.{isKnown, refusedEffect}
+use Rattle.record_answers.specs.Effects.{isKnown, refusedEffect}
 use Rattle.record_calls.specs.Openings.{openingChecks}
-use Rattle.record_calls.proofs.Judging.{passed, failed, known-sound, Opened, opened, quote-stopped, quote-earlier, quote-accepted}
+use Rattle.record_answers.proofs.Tests.{passed, failed, known-sound}
+use Rattle.record_calls.proofs.Judging.{Opened, opened, quote-stopped, quote-earlier, quote-accepted}
 use borrow.Author.Needs.{needs}
 use Rattle.record_calls.proofs.quoted.Statement.{statement}
 use Rattle.record_calls.proofs.quoted.Tie as tie

@@ -4,7 +4,7 @@ use mathlib.Core.Bool.{true, false}
 use Rattle.paper.specs.Verdicts.{isDone, firstOf}
 use Rattle.paper_desk.specs.Desk.{readChecks}
 use Rattle.paper.proofs.Logic.{not-true, not-false}
-use Rattle.record_calls.specs.Effects.{isKnown, readAnswer}
+use Rattle.record_answers.specs.Effects.{isKnown, readAnswer}
 use borrow.Author.Needs.{needs}
 use Rattle.record_calls.proofs.read.Statement.{statement}
 use Rattle.record_calls.proofs.read.Tie as tie

@@ -1,6 +1,6 @@
 -- `whole_row` meets its contract: only whole rows are looked at. Assumes nothing.
 use Rattle.rows.specs.RowLaws.{valid-sevens}
-use Rattle.record_calls.proofs.Judging.{passed, failed}
+use Rattle.record_answers.proofs.Tests.{passed, failed}
 use Rattle.record_faults.proofs.AtFault.{every-true}
 use borrow.Author.Needs.{needs}
 use Rattle.record_faults.proofs.whole_row.Statement.{statement}

@@ -3,8 +3,8 @@
 use mathlib.Core.Path.{_≡_}
 use mathlib.Core.Bool.{true}
 use Rattle.paper.specs.Verdicts.{isDone}
-use Rattle.record_calls.specs.Workings.{workedOf}
-use Rattle.record_calls.proofs.Judging.{passed, failed}
+use Rattle.record_evaluation.specs.Workings.{workedOf}
+use Rattle.record_answers.proofs.Tests.{passed, failed}
 use Rattle.record_reasons.proofs.Answering.{rows-refused, why-refused, was-accepted, why-accepted}
 use borrow.Author.Needs.{needs}
 use Rattle.record_reasons.proofs.why.Statement.{statement}

@@ -5,7 +5,7 @@ use Rattle.paper.specs.declared.Rate.{Rate}
 use Rattle.paper.specs.Numbers.{rateMost}
 use Rattle.paper.specs.Ranges.{validStatics}
 use Rattle.paper_desk.specs.Rates.{covers, levelRate}
-use Rattle.record_calls.proofs.Judging.{passed, failed}
+use Rattle.record_answers.proofs.Tests.{passed, failed}
 use mathlib.Core.Path.{_≡_, sym, ap, _∙_}
 use mathlib.Core.Bool.{true, false, not}
 use Prim.Native.Nat.{ℕ, _-_, _≤_, _<_}

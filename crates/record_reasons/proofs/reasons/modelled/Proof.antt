@@ -9,7 +9,7 @@ use Rattle.paper_desk.proofs.TentativeRange.{valid-high, tentative-rate-in}
 use Rattle.rates.specs.Asked.{tentativeBound}
 use Rattle.rates.proofs.Statics.{rates-weighing, top-within}
 use Rattle.record_writing.specs.Evaluates.{moveTo}
-use Rattle.record_calls.proofs.Evaluations.{sound-prices}
+use Rattle.record_evaluation.proofs.Evaluations.{sound-prices}
 use Rattle.record_reasons.proofs.Reasoning.{near-move, figures-modelled, ranges, level-asked, rate-asked, level-at, weight-by, replacement-by, tentative-by}
 use mathlib.Core.Path.{_≡_, sym, ap, _∙_}
 use Prim.Native.Nat.{_*_, _≤_}

@@ -1,0 +1,62 @@
+-- What an evaluation in hand says of 7, and what a day and a record in range are to the prices. Assumes nothing.
+use mathlib.Core.Path.{_≡_, refl, sym, subst, _∙_}
+use mathlib.Core.Bool.{Bool, true, false, _&&_}
+use mathlib.Core.List.{List}
+use Prim.Native.Nat.{ℕ}
+use native.Mathlib.Omega.{arith}
+use lib.IntN.{ℤ}
+use Rattle.paper.specs.declared.Day.{Day}
+use Rattle.paper.specs.declared.Row.{Row}
+use Rattle.paper.specs.declared.Record.{Record}
+use Rattle.paper.specs.Lists.{pick, every}
+use Rattle.paper.specs.Ranges.{isPrice, isGridPrice, validDay, validRows, sound, validDayNumbers}
+use Rattle.paper_desk.specs.Evaluation.{evaluationOf, rowFits, evaluationFits}
+use Rattle.paper.proofs.Logic.{and-left, and-right}
+use Rattle.inputs.proofs.Tests.{day-in-parts}
+use Rattle.evaluation.specs.declared.Priced.{Priced}
+use Rattle.evaluation.specs.declared.Evaluation.the-variants.{Evaluated, Beyond}
+use Rattle.evaluation.specs.Evaluation.{pricedOf, evaluationMade}
+
+pub sound-prices : (r : Record) → sound r ≡ true → (isPrice (r .p1 .units) ≡ true) × (isPrice (r .p2 .units) ≡ true)
+unfolding sound isGridPrice
+sound-prices r v = (search (v, and-left, and-right) depth 40, search (v, and-left, and-right) depth 40)
+
+pub day-valid : (d : Day) (rows : List ℤ) → validDay d rows ≡ true
+    → (validDayNumbers d ≡ true) × (validRows rows ≡ true)
+day-valid d rows v =
+    let both = sym (day-in-parts d rows) ∙ v in
+    (and-left (validDayNumbers d) (validRows rows) both, and-right (validDayNumbers d) (validRows rows) both)
+
+pub beyond : (g previous : ℕ) (rows : List Row) → evaluationMade g previous rows ≡ Beyond
+    → evaluationFits g previous rows ≡ false
+unfolding evaluationMade
+beyond g previous rows e = go (evaluationFits g previous rows) e
+  where
+    go : (b : Bool) → pick b (Evaluated (pricedOf g previous rows)) Beyond ≡ Beyond → b ≡ false
+    go true q = let z : _≡_ {A = ℕ} 0 1 = cc in absurd (omega arith)
+    go false q = refl
+
+-- an evaluation that was made is the paper's, and fits
+pub record Made (g previous : ℕ) (rows : List Row) (e : Priced) : Type 0 where
+  pub fits : evaluationFits g previous rows ≡ true
+  pub is : pricedOf g previous rows ≡ e
+  pub price : isPrice (e .price .units) ≡ true
+
+pub made : (g previous : ℕ) (rows : List Row) (e : Priced) → evaluationMade g previous rows ≡ Evaluated e
+    → Made g previous rows e
+unfolding evaluationMade evaluationFits pricedOf
+made g previous rows e m = go (evaluationFits g previous rows) refl m
+  where
+    go : (b : Bool) → evaluationFits g previous rows ≡ b → pick b (Evaluated (pricedOf g previous rows)) Beyond
+        ≡ Evaluated e
+        → Made g previous rows e
+    go true f q =
+        let same : pricedOf g previous rows ≡ e = cc in
+        record {
+          fits = f;
+          is = same;
+          price =
+              subst (λ (z : Priced). isPrice (z .price .units) ≡ true) same
+              (and-right (every rowFits rows) (isPrice (evaluationOf g previous rows)) f);
+        }
+    go false f q = let z : _≡_ {A = ℕ} 0 1 = cc in absurd (omega arith)

@@ -1,0 +1,38 @@
+-- `record_evaluation::evaluated` meets its contract: what the day comes to is a refusal, or stored and answered.
+-- Assumes nothing.
+use mathlib.Core.Path.{sym, ap, _∙_}
+use Rattle.paper.specs.Verdicts.{isDone}
+use Rattle.record_answers.proofs.Tests.{passed, failed}
+use Rattle.record_evaluation.proofs.Judging.{day-refused, day-stored}
+use borrow.Author.Needs.{needs}
+use Rattle.record_evaluation.proofs.evaluated.Statement.{statement}
+use Rattle.record_evaluation.proofs.evaluated.Tie as tie
+
+worked-requires : tie.Need-worked-requires
+worked-requires c κs = search needs
+
+is-done-requires : tie.Need-is-done-requires
+is-done-requires c κs = search needs
+
+refused-requires : tie.Need-refused-requires
+refused-requires c κs = search needs
+
+returns : tie.Need-returns
+returns c =
+    let w = c .before .before .before in
+    let refused = failed _ (rw (w .worked .ensures) at (c .before .before .is-done .ensures)) (c .before .if1 .taken) in
+    c .refused .ensures ∙ rw (w .worked .ensures) (day-refused _ _ _ refused)
+
+written-requires : tie.Need-written-requires
+written-requires c κs = search needs
+
+returns-2 : tie.Need-returns-2
+returns-2 c =
+    let w = c .before .before .before .before in
+    let done = passed _ (rw (w .worked .ensures) at (c .before .before .before .is-done .ensures))
+    (c .before .before .if1 .left) in
+    c .written .ensures ∙ rw (w .worked .ensures) (day-stored _ _ _ done)
+
+pub evaluated-spec : {M : Type 1} → statement M
+evaluated-spec =
+    tie.close (tie.spec worked-requires is-done-requires refused-requires returns written-requires returns-2)

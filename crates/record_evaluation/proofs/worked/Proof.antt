@@ -1,0 +1,168 @@
+-- `record_evaluation::worked` meets its contract: each return is the first check that applies, 1, 6, 16, 5 or 7; after
+-- them the evaluation and its figures are all that the rest takes. Assumes nothing.
+use mathlib.Core.Path.{_≡_, sym, ap, _∙_}
+use mathlib.Core.Bool.{true, false}
+use lib.Dec.{leb}
+use borrow.Author.Tests.{le-leb, lt-leb}
+use Rattle.paper_desk.proofs.LimitSizes.{grid-range}
+use Rattle.paper.specs.Ranges.{gridOf, lastDay, validDay}
+use Rattle.paper_desk.specs.Evaluation.{dayRows}
+use Rattle.record_soundness.proofs.Facts.{sound-facts}
+use Rattle.rows.specs.RowLaws.{valid-sevens, valid-whole}
+use Rattle.evaluation.specs.Evaluation.{evaluationMade}
+use Rattle.record_answers.specs.Effects.{isKnown}
+use Rattle.record_evaluation.specs.Workings.{Begun}
+use Rattle.record_answers.proofs.Tests.{passed, failed, known-sound}
+use Rattle.record_evaluation.proofs.Judging.{day-unknown, day-out, day-row-crossed, day-not-after, day-beyond}
+use Rattle.record_evaluation.proofs.Evaluations.{day-valid, beyond, Made, made}
+use borrow.Author.Needs.{needs}
+use Rattle.record_evaluation.proofs.worked.Statement.{statement}
+use Rattle.record_evaluation.proofs.worked.Tie as tie
+
+known : (c : tie.Else1) → isKnown (c .before .before .before .args .s) ≡ true
+known c = passed _ (c .before .is-known .ensures) (c .if1 .left)
+
+valid : (c : tie.Else2) → validDay (c .before .before .before .before .before .args .d)
+    (c .before .before .before .before .before .args .rows .now) ≡ true
+valid c = passed _ (c .before .valid-day .ensures) (c .if2 .left)
+
+begun : (c : tie.Else3)
+    → let a = c .before .before .before .before .before .before .before .args in
+    Begun (a .s) (a .d) (a .rows .now)
+begun c =
+    record {
+      known = known (c .before .before .before .before);
+      valid = valid (c .before .before);
+      uncrossed = sym (c .before .has-crossed-row .ensures) ∙ c .if3 .left;
+    }
+
+after : (c : tie.Else4)
+    → let a = c .before .before .before .before .before .before .before .before .before .before .args in
+    leb (a .d .day) (lastDay (a .s .rec .standing)) ≡ false
+after c = lt-leb _ _ (rw (c .before .before .last-day .ensures) at (c .if4 .left))
+
+-- the evaluation is that of the record's grid
+evaluation : (c : tie.After-evaluate)
+    → let a = c .before .before .before .before .before .before .before .before .before .before .before .before .before
+    .args in
+    let r = a .s .rec in
+    evaluationMade (gridOf (r .statics .lot)) (r .p1 .units) (dayRows (a .rows .now)) ≡ c .evaluate .result
+evaluation c = rw (← c .before .before .grid-of .ensures) (sym (c .evaluate .ensures))
+
+price : (c : tie.After-evaluation)
+    → let e = c .before .before in
+    let a = e .before .before .before .before .before .before .before .before .before .before .before .before .before
+    .args in
+    Made (gridOf (a .s .rec .statics .lot)) (a .s .rec .p1 .units) (dayRows (a .rows .now)) (c .evaluation .given .0 .0)
+price c = made _ _ _ _ (evaluation (c .before .before) ∙ c .evaluation .given .1)
+
+is-known-requires : tie.Need-is-known-requires
+is-known-requires c κs = search needs
+
+unmade-requires : tie.Need-unmade-requires
+unmade-requires c κs = search needs
+
+returns : tie.Need-returns
+returns c = c .unmade .ensures
+    ∙ day-unknown _ _ _ (failed _ (c .before .before .is-known .ensures) (c .before .if1 .taken))
+
+valid-day-requires : tie.Need-valid-day-requires
+valid-day-requires c κs = search needs
+
+unmade-requires-2 : tie.Need-unmade-requires-2
+unmade-requires-2 c κs = search needs
+
+returns-2 : tie.Need-returns-2
+returns-2 c =
+    c .unmade2 .ensures ∙ day-out _ _ _ (known (c .before .before .before))
+    (failed _ (c .before .before .valid-day .ensures) (c .before .if2 .taken))
+
+has-crossed-row-requires : tie.Need-has-crossed-row-requires
+has-crossed-row-requires c κs = valid-sevens _ (valid-whole _ (day-valid _ _ (valid c) .1))
+
+unmade-requires-3 : tie.Need-unmade-requires-3
+unmade-requires-3 c κs = search needs
+
+returns-3 : tie.Need-returns-3
+returns-3 c =
+    let e = c .before .before .before in
+    c .unmade3 .ensures ∙ day-row-crossed _ _ _ (known (e .before .before)) (valid e)
+    (sym (c .before .before .has-crossed-row .ensures) ∙ c .before .if3 .taken)
+
+last-day-requires : tie.Need-last-day-requires
+last-day-requires c κs = search needs
+
+unmade-requires-4 : tie.Need-unmade-requires-4
+unmade-requires-4 c κs = search needs
+
+returns-4 : tie.Need-returns-4
+returns-4 c =
+    let test = le-leb _ _ (rw (c .before .before .before .last-day .ensures) at (c .before .if4 .taken)) in
+    c .unmade4 .ensures ∙ day-not-after _ _ _ (begun (c .before .before .before .before)) test
+
+grid-of-requires : tie.Need-grid-of-requires
+grid-of-requires c κs = search needs
+
+evaluate-requires : tie.Need-evaluate-requires
+evaluate-requires c κs =
+    let g = c .before in
+    let e = g .before in
+    let b = begun (e .before .before .before) in
+    let s = e .before .before .before .before .before .before .before .before .before .before in
+    let grid = rw (← g .grid-of .ensures) at (grid-range (s .args .s .rec .statics .lot)) in (
+      day-valid _ _ (b .valid) .1,
+      (sound-facts _ (known-sound _ (b .known)) .figures .later .price .most, grid .0, grid .1),
+    )
+
+enum-told : tie.Need-enum-told
+enum-told c = search needs
+
+unmade-requires-5 : tie.Need-unmade-requires-5
+unmade-requires-5 c κs = search needs
+
+enum-known-evaluation : tie.Need-enum-known-evaluation
+enum-known-evaluation c = search needs
+
+worked-at-requires : tie.Need-worked-at-requires
+worked-at-requires c κs =
+    let b = begun (c .before .before .before .before .before .before .before .before .before) in
+    (known-sound _ (b .known), (day-valid _ _ (b .valid) .0, price (c .before) .price))
+
+returns-5 : tie.Need-returns-5
+returns-5 c =
+    let e = c .before .before .before .before .before .before in
+    let test = beyond _ _ _ (evaluation (c .before .before .before) ∙ c .before .enum-told .given .1) in
+    c .unmade5 .ensures ∙ day-beyond _ _ _ (begun (e .before .before .before)) (after e) test
+
+returns-6 : tie.Need-returns-6
+returns-6 c =
+    let e = c .before .before .before .before .before .before .before in
+    let p = price (c .before .before) in
+    c .worked-at .ensures _
+    (record { begun = begun (e .before .before .before); later = after e; fits = p .fits })
+    (p .is)
+
+pub worked-spec : {M : Type 1} → statement M
+worked-spec =
+    tie.close
+    (tie.spec
+    is-known-requires
+    unmade-requires
+    returns
+    valid-day-requires
+    unmade-requires-2
+    returns-2
+    has-crossed-row-requires
+    unmade-requires-3
+    returns-3
+    last-day-requires
+    unmade-requires-4
+    returns-4
+    grid-of-requires
+    evaluate-requires
+    enum-told
+    unmade-requires-5
+    enum-known-evaluation
+    worked-at-requires
+    returns-5
+    returns-6)

@@ -1,0 +1,135 @@
+// The rule of an evaluation, by value: the slot found, the day and its rows in, a turn out. It judges the refusals in
+// the paper's order.
+ghost use mathlib.Core.Path.{_≡_};
+ghost use mathlib.Core.Bool.{true, not};
+ghost use lib.ListN.{getD};
+ghost use Rattle.paper.specs.Lists.{allThree};
+ghost use Rattle.paper.specs.Ranges.{isPrice, validDay, noLimits, sound, validDayNumbers};
+ghost use Rattle.paper_desk.specs.Limits.{crossed};
+ghost use Rattle.record_answers.specs.Effects.{evaluateEffect};
+ghost use Rattle.record_evaluation.specs.Workings.{unmadeBy, workedOf, Prices};
+use evaluation::Evaluation;
+use evaluation::PriceFigures;
+use evaluation::Priced;
+use paper::Day;
+use paper::Limits;
+use paper::Record;
+use paper::Verdict;
+use record_answers::Effect;
+use record_answers::Slot;
+
+// 6 of a day: its numbers and its rows.
+fn valid_day(d: Day, rows: &[i64]) -> bool
+    ensures { λ t. ⌜ t ≡ validDay d (now (rows .entry)) ⌝ }
+{
+    inputs::valid_day_numbers(d) & rows::rows_valid(rows)
+}
+
+// Whether no band is crossed (9).
+fn in_order(bands: [Limits; Record::TERMS]) -> bool
+    ensures { λ t. ⌜ t ≡ allThree (λ k. not (crossed (getD bands k noLimits))) ⌝ }
+{
+    !limits::is_crossed(bands[0]) & !limits::is_crossed(bands[1]) & !limits::is_crossed(bands[2])
+}
+
+// What an evaluation comes to before it is answered: the first number that applies, or done, and where that is done or
+// 9 the record that was made, with the figures that its price was chosen from; else a blank and zeros.
+pub struct Working {
+    pub verdict: Verdict,
+    pub rec: Record,
+    pub figures: PriceFigures,
+}
+
+// What a number before 9 leaves: nothing is made.
+fn unmade(first: Verdict) -> Working
+    ensures { λ w. ⌜ w ≡ unmadeBy first ⌝ }
+{
+    let rec = record_answers::blank();
+    Working {
+        verdict: first,
+        rec,
+        figures: PriceFigures {
+            weight: 0,
+            close: 0,
+            bid: 0,
+            ask: 0,
+        },
+    }
+}
+
+// 8, 9 and the record that is made, at the evaluation of a day that is not refused before.
+fn worked_at(s: Slot, d: Day, e: Priced) -> Working
+    requires { ⌜ sound (s .rec) ≡ true ⌝ }
+    requires { ⌜ validDayNumbers d ≡ true ⌝ }
+    requires { ⌜ isPrice (e .price .units) ≡ true ⌝ }
+    ensures { λ w. ⌜ Prices s d e w ⌝ }
+{
+    let r = s.rec;
+    let st = r.statics;
+    let rates = r.rates;
+    let tentative = r.tentative;
+    let p1 = r.p1;
+    let p2 = r.p2;
+    let p = e.price;
+    let figures = e.figures;
+    let change = rates::volatility::move_of(p1, p2, p);
+    if rates::move_too_large(st, change) {
+        return unmade(Verdict::MoveTooLarge);
+    }
+    let made = rates::figures_of(st, d.b, d.m, rates[0], change, r.s, tentative);
+    let rec = record_writing::evaluated(r, d, p, made);
+    let bands = rec.bands;
+    if !in_order(bands) {
+        return Working {
+            verdict: Verdict::BandCrossed,
+            rec,
+            figures,
+        };
+    }
+    Working {
+        verdict: Verdict::Done,
+        rec,
+        figures,
+    }
+}
+
+// "evaluate 1, 6, 5, 7, 8, 9"; W-205: "16, after 6 and before 5".
+pub fn worked(s: Slot, d: Day, rows: &[i64]) -> Working
+    ensures { λ w. ⌜ w ≡ workedOf s d (now (rows .entry)) ⌝ }
+{
+    let r = s.rec;
+    let standing = r.standing;
+    if !record_answers::is_known(s) {
+        return unmade(Verdict::NoSuchId);
+    }
+    if !valid_day(d, rows) {
+        return unmade(Verdict::OutOfRange);
+    }
+    if rows::has_crossed_row(rows) {
+        return unmade(Verdict::RowCrossed);
+    }
+    if d.day <= record_soundness::last_day(standing) {
+        return unmade(Verdict::DayNotAfter);
+    }
+    let g = inputs::grid_of(r.statics.lot);
+    let previous = r.p1;
+    let evaluation = evaluation::evaluate(rows, previous, g);
+    match evaluation {
+        Evaluation::Beyond => unmade(Verdict::PriceOutOfRange),
+        Evaluation::Evaluated(e) => worked_at(s, d, e),
+    }
+}
+
+// The record that an evaluation makes is stored and answered, unless a number applies.
+pub fn evaluated(s: Slot, d: Day, rows: &[i64]) -> Effect
+    ensures { λ o. ⌜ o ≡ evaluateEffect s d (now (rows .entry)) ⌝ }
+{
+    let count = s.count;
+    let w = worked(s, d, rows);
+    let v = w.verdict;
+    if !v.is_done() {
+        return record_answers::refused(count, v);
+    }
+    let rec = w.rec;
+    record_answers::written(s.at, rec)
+}
