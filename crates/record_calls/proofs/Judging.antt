@@ -24,7 +24,7 @@ use Rattle.record_soundness.proofs.Facts.{sound-facts}
 use Rattle.record_answers.specs.declared.Slot.{Slot}
 use Rattle.record_answers.specs.declared.Effect.{Effect}
 use Rattle.record_answers.specs.Effects.{holds, isKnown, refusedEffect, judgedEffect, admitChecksOf, admitEffect, quoteEffect, moveEffect}
-use Rattle.record_calls.specs.Openings.{openingChecks}
+use Rattle.record_calls.specs.SharedChecks.{sharedChecks}
 
 -- ---- admit 4, 2, 3
 
@@ -79,32 +79,32 @@ turn-stays count cs more accepted n =
     rw (first-stays cs more n) (sym (pick-false (isDone (firstOf cs)) accepted (refusedEffect count (firstOf cs)) n))
 
 -- 1, 6, 10 and 11 do not apply
-pub record Opened (there inRange : Bool) (r : Record) : Type 0 where
+pub record Passed (there inRange : Bool) (r : Record) : Type 0 where
   pub known : there ≡ true
   pub valid : inRange ≡ true
   pub live : isLive (r .standing) ≡ true
   pub monitored : r .statics .monitoring ≡ true
 
-pub opened : (there inRange : Bool) (r : Record) → isDone (firstOf (openingChecks there inRange r)) ≡ true
-    → Opened there inRange r
-unfolding openingChecks refusals every isDone
-opened there inRange r e = go (done-none (openingChecks there inRange r) refl e)
+pub past-shared : (there inRange : Bool) (r : Record) → isDone (firstOf (sharedChecks there inRange r)) ≡ true
+    → Passed there inRange r
+unfolding sharedChecks refusals every isDone
+past-shared there inRange r e = go (done-none (sharedChecks there inRange r) refl e)
   where
-    go : NoneApplies (openingChecks there inRange r) → Opened there inRange r
+    go : NoneApplies (sharedChecks there inRange r) → Passed there inRange r
     go (also a (also b (also c (also d none)))) =
         record { known = not-false _ a; valid = not-false _ b; live = not-false _ c; monitored = not-false _ d }
 
 module _ (s : Slot) (q : Quote) where
-  pub quote-stopped : isDone (firstOf (openingChecks (isKnown s) (validQuote q) (s .rec))) ≡ false
-      → refusedEffect (s .count) (firstOf (openingChecks (isKnown s) (validQuote q) (s .rec))) ≡ quoteEffect s q
-  unfolding quoteEffect quoteChecks openingChecks
+  pub quote-stopped : isDone (firstOf (sharedChecks (isKnown s) (validQuote q) (s .rec))) ≡ false
+      → refusedEffect (s .count) (firstOf (sharedChecks (isKnown s) (validQuote q) (s .rec))) ≡ quoteEffect s q
+  unfolding quoteEffect quoteChecks sharedChecks
   quote-stopped n =
-      turn-stays (s .count) (openingChecks (isKnown s) (validQuote q) (s .rec))
+      turn-stays (s .count) (sharedChecks (isKnown s) (validQuote q) (s .rec))
       (record { verdict = SecondEarlier; applies = ltb (q .second) (s .rec .second) } ∷ [])
       (record { at = s .at; rec = quoted (s .rec) q; answer = alertsOn (s .rec) q })
       n
 
-  module _ (o : Opened (isKnown s) (validQuote q) (s .rec)) where
+  module _ (o : Passed (isKnown s) (validQuote q) (s .rec)) where
     pub quote-earlier : ltb (q .second) (s .rec .second) ≡ true → refusedEffect (s .count) SecondEarlier
         ≡ quoteEffect s q
     unfolding quoteEffect quoteChecks judgedEffect firstOf isDone
@@ -116,16 +116,16 @@ module _ (s : Slot) (q : Quote) where
     quote-accepted t = rw (o .known, o .valid, o .live, o .monitored, t)
 
 module _ (s : Slot) (side : ℕ) where
-  pub move-stopped : isDone (firstOf (openingChecks (isKnown s) (validSide side) (s .rec))) ≡ false
-      → refusedEffect (s .count) (firstOf (openingChecks (isKnown s) (validSide side) (s .rec))) ≡ moveEffect s side
-  unfolding moveEffect moveChecks openingChecks
+  pub move-stopped : isDone (firstOf (sharedChecks (isKnown s) (validSide side) (s .rec))) ≡ false
+      → refusedEffect (s .count) (firstOf (sharedChecks (isKnown s) (validSide side) (s .rec))) ≡ moveEffect s side
+  unfolding moveEffect moveChecks sharedChecks
   move-stopped n =
-      turn-stays (s .count) (openingChecks (isKnown s) (validSide side) (s .rec))
+      turn-stays (s .count) (sharedChecks (isKnown s) (validSide side) (s .rec))
       (record { verdict = MovesUsedUp; applies = eqb (countOf (sideOf side) (s .rec .moves)) movesMost } ∷ [])
       (record { at = s .at; rec = moved (s .rec) (sideOf side); answer = showing (moved (s .rec) (sideOf side)) })
       n
 
-  module _ (o : Opened (isKnown s) (validSide side) (s .rec)) where
+  module _ (o : Passed (isKnown s) (validSide side) (s .rec)) where
     pub move-used-up : eqb (countOf (sideOf side) (s .rec .moves)) movesMost ≡ true
         → refusedEffect (s .count) MovesUsedUp ≡ moveEffect s side
     unfolding moveEffect moveChecks judgedEffect firstOf isDone

@@ -4,7 +4,7 @@ ghost use mathlib.Core.Path.{_≡_};
 ghost use Rattle.paper.specs.Verdicts.{firstOf};
 ghost use Rattle.paper_desk.specs.Desk.{nearOn, alertsOn};
 ghost use Rattle.record_answers.specs.Effects.{isKnown, admitEffect, quoteEffect, moveEffect, readAnswer};
-ghost use Rattle.record_calls.specs.Openings.{openingChecks};
+ghost use Rattle.record_calls.specs.SharedChecks.{sharedChecks};
 use paper::Admission;
 use paper::Answer;
 use paper::MadePrice;
@@ -78,8 +78,8 @@ pub fn admitted(s: Slot, e: Slot, a: Admission) -> Effect
 }
 
 // 1, 6, 10 and 11, which a quote and a move have in this order: the first that applies, or done.
-fn opening(s: Slot, in_range: bool) -> Verdict
-    ensures { λ v. ⌜ v ≡ firstOf (openingChecks (isKnown s) «in_range» (s .rec)) ⌝ }
+fn shared_checks(s: Slot, in_range: bool) -> Verdict
+    ensures { λ v. ⌜ v ≡ firstOf (sharedChecks (isKnown s) «in_range» (s .rec)) ⌝ }
 {
     let r = s.rec;
     let standing = r.standing;
@@ -104,7 +104,7 @@ pub fn quoted(s: Slot, q: Quote) -> Effect
 {
     let count = s.count;
     let r = s.rec;
-    let v = opening(s, inputs::valid_quote(q));
+    let v = shared_checks(s, inputs::valid_quote(q));
     if !v.is_done() {
         return record_answers::refused(count, v);
     }
@@ -128,7 +128,7 @@ pub fn moved(s: Slot, side: u64) -> Effect
     let count = s.count;
     let r = s.rec;
     let moves = r.moves;
-    let v = opening(s, inputs::valid_side(side));
+    let v = shared_checks(s, inputs::valid_side(side));
     if !v.is_done() {
         return record_answers::refused(count, v);
     }

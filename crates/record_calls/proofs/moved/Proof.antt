@@ -1,33 +1,33 @@
--- `record_calls::moved` meets its contract: the opening refuses, or 12 does, or the move is written. Assumes nothing.
+-- `record_calls::moved` meets its contract: a shared check refuses, or 12 does, or the move is written. Assumes nothing.
 use mathlib.Core.Path.{_≡_, ap, _∙_}
 use borrow.Author.Tests.{eq-eqb, ne-eqb}
 use Rattle.paper.specs.Ranges.{validSide, sideOf}
 use Rattle.paper.specs.Verdicts.{isDone, firstOf}
 use Rattle.record_answers.specs.Effects.{isKnown, refusedEffect}
-use Rattle.record_calls.specs.Openings.{openingChecks}
+use Rattle.record_calls.specs.SharedChecks.{sharedChecks}
 use Rattle.record_answers.proofs.Tests.{passed, failed, known-sound}
-use Rattle.record_calls.proofs.Judging.{Opened, opened, move-stopped, move-used-up, move-accepted, move-left}
+use Rattle.record_calls.proofs.Judging.{Passed, past-shared, move-stopped, move-used-up, move-accepted, move-left}
 use borrow.Author.Needs.{needs}
 use Rattle.record_calls.proofs.moved.Statement.{statement}
 use Rattle.record_calls.proofs.moved.Tie as tie
 
--- the opening, of the definition's tests
-verdict : (c : tie.After-opening)
-    → c .opening .result ≡ firstOf
-    (openingChecks (isKnown (c .before .before .before .before .args .s))
+-- the shared checks, of the definition's tests
+verdict : (c : tie.After-shared-checks)
+    → c .shared-checks .result ≡ firstOf
+    (sharedChecks (isKnown (c .before .before .before .before .args .s))
     (validSide (c .before .before .before .before .args .side)) (c .before .before .before .before .args .s .rec))
-verdict c = rw (c .before .valid-side .ensures) at (c .opening .ensures)
+verdict c = rw (c .before .valid-side .ensures) at (c .shared-checks .ensures)
 
-past : (c : tie.Else1) → Opened (isKnown (c .before .before .before .before .before .before .args .s))
+past : (c : tie.Else1) → Passed (isKnown (c .before .before .before .before .before .before .args .s))
     (validSide (c .before .before .before .before .before .before .args .side))
     (c .before .before .before .before .before .before .args .s .rec)
-past c = opened _ _ _ (passed _ (c .before .is-done .ensures ∙ ap isDone (verdict (c .before .before))) (c .if1 .left))
+past c = past-shared _ _ _ (passed _ (c .before .is-done .ensures ∙ ap isDone (verdict (c .before .before))) (c .if1 .left))
 
 valid-side-requires : tie.Need-valid-side-requires
 valid-side-requires c κs = search needs
 
-opening-requires : tie.Need-opening-requires
-opening-requires c κs = search needs
+shared-checks-requires : tie.Need-shared-checks-requires
+shared-checks-requires c κs = search needs
 
 is-done-requires : tie.Need-is-done-requires
 is-done-requires c κs = search needs
@@ -77,7 +77,7 @@ moved-spec =
     tie.close
     (tie.spec
     valid-side-requires
-    opening-requires
+    shared-checks-requires
     is-done-requires
     refused-requires
     returns

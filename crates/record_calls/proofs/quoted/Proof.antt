@@ -1,34 +1,34 @@
--- `record_calls::quoted` meets its contract: the opening refuses, or 13 does, or the quote is written and its alerts
+-- `record_calls::quoted` meets its contract: a shared check refuses, or 13 does, or the quote is written and its alerts
 -- answered. Assumes nothing.
 use mathlib.Core.Path.{_≡_, ap, _∙_}
 use borrow.Author.Tests.{lt-ltb, le-ltb}
 use Rattle.paper.specs.Ranges.{validQuote}
 use Rattle.paper.specs.Verdicts.{isDone, firstOf}
 use Rattle.record_answers.specs.Effects.{isKnown, refusedEffect}
-use Rattle.record_calls.specs.Openings.{openingChecks}
+use Rattle.record_calls.specs.SharedChecks.{sharedChecks}
 use Rattle.record_answers.proofs.Tests.{passed, failed, known-sound}
-use Rattle.record_calls.proofs.Judging.{Opened, opened, quote-stopped, quote-earlier, quote-accepted}
+use Rattle.record_calls.proofs.Judging.{Passed, past-shared, quote-stopped, quote-earlier, quote-accepted}
 use borrow.Author.Needs.{needs}
 use Rattle.record_calls.proofs.quoted.Statement.{statement}
 use Rattle.record_calls.proofs.quoted.Tie as tie
 
--- the opening, of the definition's tests
-verdict : (c : tie.After-opening)
-    → c .opening .result ≡ firstOf
-    (openingChecks (isKnown (c .before .before .before .args .s)) (validQuote (c .before .before .before .args .q))
+-- the shared checks, of the definition's tests
+verdict : (c : tie.After-shared-checks)
+    → c .shared-checks .result ≡ firstOf
+    (sharedChecks (isKnown (c .before .before .before .args .s)) (validQuote (c .before .before .before .args .q))
     (c .before .before .before .args .s .rec))
-verdict c = rw (c .before .valid-quote .ensures) at (c .opening .ensures)
+verdict c = rw (c .before .valid-quote .ensures) at (c .shared-checks .ensures)
 
-past : (c : tie.Else1) → Opened (isKnown (c .before .before .before .before .before .args .s))
+past : (c : tie.Else1) → Passed (isKnown (c .before .before .before .before .before .args .s))
     (validQuote (c .before .before .before .before .before .args .q))
     (c .before .before .before .before .before .args .s .rec)
-past c = opened _ _ _ (passed _ (c .before .is-done .ensures ∙ ap isDone (verdict (c .before .before))) (c .if1 .left))
+past c = past-shared _ _ _ (passed _ (c .before .is-done .ensures ∙ ap isDone (verdict (c .before .before))) (c .if1 .left))
 
 valid-quote-requires : tie.Need-valid-quote-requires
 valid-quote-requires c κs = search needs
 
-opening-requires : tie.Need-opening-requires
-opening-requires c κs = search needs
+shared-checks-requires : tie.Need-shared-checks-requires
+shared-checks-requires c κs = search needs
 
 is-done-requires : tie.Need-is-done-requires
 is-done-requires c κs = search needs
@@ -71,7 +71,7 @@ quoted-spec =
     tie.close
     (tie.spec
     valid-quote-requires
-    opening-requires
+    shared-checks-requires
     is-done-requires
     refused-requires
     returns

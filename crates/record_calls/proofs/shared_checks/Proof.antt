@@ -1,4 +1,4 @@
--- `record_calls::opening` meets its contract: each return is the first check that applies, in the order 1, 6, 10, 11,
+-- `record_calls::shared_checks` meets its contract: each return is the first check that applies, in the order 1, 6, 10, 11,
 -- or none. Assumes nothing.
 use mathlib.Core.Path.{_≡_}
 use mathlib.Core.Bool.{true}
@@ -6,11 +6,11 @@ use Rattle.paper.specs.Ranges.{isLive}
 use Rattle.paper.specs.Verdicts.{firstOf}
 use Rattle.paper.proofs.Logic.{not-true, not-false}
 use Rattle.record_answers.specs.Effects.{isKnown}
-use Rattle.record_calls.specs.Openings.{openingChecks}
+use Rattle.record_calls.specs.SharedChecks.{sharedChecks}
 use Rattle.record_answers.proofs.Tests.{passed, failed}
 use borrow.Author.Needs.{needs}
-use Rattle.record_calls.proofs.opening.Statement.{statement}
-use Rattle.record_calls.proofs.opening.Tie as tie
+use Rattle.record_calls.proofs.shared_checks.Statement.{statement}
+use Rattle.record_calls.proofs.shared_checks.Tie as tie
 
 known : (c : tie.Else1) → isKnown (c .before .before .before .args .s) ≡ true
 known c = passed _ (c .before .is-known .ensures) (c .if1 .left)
@@ -22,18 +22,18 @@ is-known-requires : tie.Need-is-known-requires
 is-known-requires c κs = search needs
 
 returns : tie.Need-returns
-unfolding openingChecks firstOf
+unfolding sharedChecks firstOf
 returns c = rw (failed _ (c .before .is-known .ensures) (c .if1 .taken))
 
 returns-2 : tie.Need-returns-2
-unfolding openingChecks firstOf
+unfolding sharedChecks firstOf
 returns-2 c = rw (known (c .before), not-true (c .before .before .before .before .args .in-range) (c .if2 .taken))
 
 is-live-requires : tie.Need-is-live-requires
 is-live-requires c κs = search needs
 
 returns-3 : tie.Need-returns-3
-unfolding openingChecks firstOf
+unfolding sharedChecks firstOf
 returns-3 c =
     let e = c .before .before in
     rw (
@@ -43,7 +43,7 @@ returns-3 c =
     )
 
 returns-4 : tie.Need-returns-4
-unfolding openingChecks firstOf
+unfolding sharedChecks firstOf
 returns-4 c =
     let l = c .before .before in
     let e = l .before .before in
@@ -56,7 +56,7 @@ returns-4 c =
     )
 
 returns-5 : tie.Need-returns-5
-unfolding openingChecks firstOf
+unfolding sharedChecks firstOf
 returns-5 c =
     let l = c .before .before in
     let e = l .before .before in
@@ -68,7 +68,7 @@ returns-5 c =
           (c .if4 .left),
     )
 
-pub opening-spec : {M : Type 1} → statement M
-opening-spec =
+pub shared-checks-spec : {M : Type 1} → statement M
+shared-checks-spec =
     tie.close
     (tie.spec is-known-requires returns returns-2 is-live-requires returns-3 returns-4 returns-5)

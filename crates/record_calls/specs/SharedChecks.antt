@@ -7,8 +7,8 @@ use Rattle.paper.specs.Ranges.{isLive}
 use Rattle.paper.specs.Verdicts.{Check}
 
 -- 1, 6, 10 and 11, where `inRange` is whether the call's own numbers are in range
-unfoldable pub openingChecks : (there inRange : Bool) → Record → List Check
-openingChecks there inRange r =
+unfoldable pub sharedChecks : (there inRange : Bool) → Record → List Check
+sharedChecks there inRange r =
     record { verdict = NoSuchId; applies = not there }
     ∷ record { verdict = OutOfRange; applies = not inRange }
     ∷ record { verdict = NotLive; applies = not (isLive (r .standing)) }
