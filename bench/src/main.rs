@@ -9,33 +9,36 @@ use std::time::Instant;
 
 use reference::record::Record;
 use reference::security::{admitted, evaluated, Admission, Day, RepoTerm};
+use reference::statics::STATICS;
 
 extern "C" {
     fn nedrubal_days(
-        x: *const [i64; 28],
+        x: *const [i64; ADMISSION],
         y: *const [i64; 6],
         rows: *const i64,
         rows_len: usize,
         days: u64,
     ) -> u64;
     fn nedrubal_evaluations(
-        x: *const [i64; 28],
+        x: *const [i64; ADMISSION],
         y: *const [i64; 6],
         rows: *const i64,
         rows_len: usize,
         days: u64,
     ) -> u64;
     fn nedrubal_whys(
-        x: *const [i64; 28],
+        x: *const [i64; ADMISSION],
         y: *const [i64; 6],
         rows: *const i64,
         rows_len: usize,
         days: u64,
     ) -> u64;
-    fn nedrubal_reads(x: *const [i64; 28], times: u64) -> u64;
+    fn nedrubal_reads(x: *const [i64; ADMISSION], times: u64) -> u64;
     fn nedrubal_root(n: u64) -> u64;
 }
 
+/// Numbers of an admission: six before the statics.
+const ADMISSION: usize = 6 + STATICS;
 const SECURITIES: usize = 512;
 const ROWS: usize = 16;
 const DAYS: u64 = 40;
@@ -46,10 +49,10 @@ const IS_EWMA: usize = 27;
 /// What an accepted evaluation counts in the sum of `nedrubal_whys`.
 const ACCEPTED: u64 = 8;
 
-/// The numbers of one security: `admit`'s 28, a day's DAY B M K RRCL RRCH, and the rows.
+/// The numbers of one security: `admit`'s 31, a day's DAY B M K RRCL RRCH, and the rows.
 #[derive(Clone)]
 struct Security {
-    admit: [i64; 28],
+    admit: [i64; ADMISSION],
     day: [i64; 6],
     rows: Vec<i64>,
 }
@@ -68,7 +71,7 @@ impl Random {
 
 fn security(id: i64, random: &mut Random) -> Security {
     let p1 = 10 * (50_000 + random.below(500_000));
-    let mut admit = [0; 28];
+    let mut admit = [0; ADMISSION];
     admit[..6].copy_from_slice(&[
         id,
         3,
@@ -79,7 +82,7 @@ fn security(id: i64, random: &mut Random) -> Security {
     ]);
     admit[6..].copy_from_slice(&[
         10, 100, 300, 1000, 500, 5, 2, 5, 8, 50, 500, 700, 900, 4000, 200, 25, 2000, 2000, 1000,
-        60, 1, 1,
+        60, 1, 1, 120, 1, 2,
     ]);
     let mut rows = Vec::new();
     for row in 0..ROWS {
@@ -117,7 +120,7 @@ fn sheet(securities: usize) -> Vec<Security> {
 
 /// A call of the archive over so many days of a security.
 type OverDays =
-    unsafe extern "C" fn(*const [i64; 28], *const [i64; 6], *const i64, usize, u64) -> u64;
+    unsafe extern "C" fn(*const [i64; ADMISSION], *const [i64; 6], *const i64, usize, u64) -> u64;
 
 fn over_days(call: OverDays, security: &Security, days: u64) -> u64 {
     unsafe {
@@ -151,7 +154,7 @@ fn figure(record: &Record) -> u64 {
 
 fn theirs(security: &Security, days: u64) -> u64 {
     let [id, day, p1, p2, s, tentative, ..] = security.admit;
-    let mut statics = [0; 22];
+    let mut statics = [0; STATICS];
     statics.copy_from_slice(&security.admit[6..]);
     let mut record = admitted(&Admission {
         id,

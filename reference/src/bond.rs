@@ -14,7 +14,7 @@ use crate::statics::{
     STEP, WAIT, WEIGHT, X_PR,
 };
 use crate::units::{
-    Range, AGE, BOND_MONEY, DAYS_AHEAD, DAYS_CLOSED, FLOW_DAY, NET,
+    Range, AGE, BOND_MONEY, DAYS_AHEAD, DAYS_CLOSED, EVENING_MOVES, FLOW_DAY, NET,
     ONE_IN_HUNDREDTHS_OF_A_PER_CENT, PRICE, RATE, REPO_RATE, TENTATIVE, VOLATILITY,
 };
 
@@ -171,6 +171,9 @@ fn statics(numbers: &[i64]) -> Option<Statics> {
         near_seconds: *NEAR_SECONDS.start(),
         monitoring: monitoring == 1,
         is_ewma: is_ewma == 1,
+        evening_seconds: *NEAR_SECONDS.start(),
+        autochange: false,
+        evening_maximum: *EVENING_MOVES.start(),
     };
     statics.is_sound().then_some(statics)
 }

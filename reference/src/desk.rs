@@ -1,9 +1,10 @@
-//! The five calls on a lent table (document 01, "What the desk covers" and
-//! "Numbers a member may see"). A refusal writes nothing.
+//! The six calls on a lent table (document 01, "What the desk covers" and
+//! "Numbers a member may see"; opening the evening is W-210's). A refusal
+//! writes nothing.
 
 use crate::record::Record;
 use crate::refusal::Refusal;
-use crate::security::{admitted, evaluated, moved, quoted, Admission, Alerts, Day, Quote};
+use crate::security::{admitted, evaluated, moved, opened, quoted, Admission, Alerts, Day, Quote};
 
 /// The most slots a table may have.
 pub const SLOTS_MAX: usize = 512;
@@ -64,7 +65,14 @@ pub fn quote(table: &mut [Record], id: i64, quote: &Quote) -> Result<Alerts, Ref
     Ok(alerts)
 }
 
-/// Moves one side, 0 upper or 1 lower: refused 1, 6, 10, 11, 12.
+/// Opens the evening: refused 1, 10, 19.
+pub fn open(table: &mut [Record], id: i64) -> Result<&Record, Refusal> {
+    let slot = find(table, id)?;
+    table[slot] = opened(&table[slot])?;
+    Ok(&table[slot])
+}
+
+/// Moves one side, 0 upper or 1 lower: refused 1, 6, 10, 11, 18, 12.
 pub fn move_side(table: &mut [Record], id: i64, side: i64) -> Result<&Record, Refusal> {
     let slot = find(table, id)?;
     table[slot] = moved(&table[slot], side)?;

@@ -1,5 +1,5 @@
 //! The independent second opinion on document 01 and on W-201 to W-203 and
-//! W-205 to W-209 of document 02: the parameter desk's rules in exact 128-bit
+//! W-205 to W-210 of document 02: the parameter desk's rules in exact 128-bit
 //! integers and the reading of the exchange's text, written from the papers alone.
 //!
 //! A quotient stays a numerator and a denominator until one of the paper's
@@ -14,6 +14,7 @@ pub mod count_exchange;
 pub mod count_interest;
 pub mod count_inward;
 pub mod count_replacement;
+pub mod count_session;
 pub mod count_tentative;
 pub mod count_why;
 pub mod desk;

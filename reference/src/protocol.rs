@@ -134,6 +134,7 @@ pub fn perform(
             Some(answered(desk::quote(table, id, &quote)))
         }
         (b"move", &[id, side]) => Some(answered(desk::move_side(table, id, side))),
+        (b"open", &[id]) => Some(answered(desk::open(table, id))),
         (b"read", &[id]) => Some(answered(desk::read(table, id))),
         (b"interest", numbers) => {
             let (values, maturities) = split_first(numbers)?;

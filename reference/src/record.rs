@@ -1,14 +1,16 @@
-//! A security's record (document 01, "What the desk covers").
+//! A security's record (document 01, "What the desk covers"; its session is
+//! W-210's).
 
 use crate::ewma::Volatility;
 use crate::exact::Way;
 use crate::statics::Statics;
 use crate::units::{
-    AGE, DAYS_AHEAD, DAY_NUMBER, ID, LIMIT, MOVE_COUNT, PRICE, RATE, REPO_RATE, SECOND, VOLATILITY,
+    AGE, DAYS_AHEAD, DAY_NUMBER, EVENING_MOVES, ID, LIMIT, MOVE_COUNT, PRICE, RATE, REPO_RATE,
+    SECOND, VOLATILITY,
 };
 
 /// How many figures a record shows.
-pub const FIGURES: usize = 41;
+pub const FIGURES: usize = 43;
 
 /// How a near second is shown where there is none.
 const NOT_NEAR: i64 = -1;
@@ -46,6 +48,40 @@ impl Side {
 pub enum Standing {
     Admitted(i64),
     Live(i64),
+}
+
+/// A record's session.
+#[derive(Clone, Copy, Debug, PartialEq, Eq)]
+pub enum Session {
+    Main,
+    /// With the moves made in it, of both sides together.
+    Evening(i64),
+}
+
+impl Session {
+    /// Whether the moves that an evening carries are so many as it may have.
+    fn is_sound(self) -> bool {
+        match self {
+            Session::Main => true,
+            Session::Evening(moves) => EVENING_MOVES.contains(&moves),
+        }
+    }
+
+    /// The session after one move more.
+    pub fn moved(self) -> Session {
+        match self {
+            Session::Main => Session::Main,
+            Session::Evening(moves) => Session::Evening(moves + 1),
+        }
+    }
+
+    /// How it is shown: 0 main or 1 evening, and the evening's moves.
+    fn figures(self) -> [i64; 2] {
+        match self {
+            Session::Main => [0, 0],
+            Session::Evening(moves) => [1, moves],
+        }
+    }
 }
 
 /// A term: its days, its repo band and its band limits, and the seconds at
@@ -88,6 +124,7 @@ pub struct Record {
     pub moves_upper: i64,
     pub moves_lower: i64,
     pub last_second: i64,
+    pub session: Session,
 }
 
 impl Record {
@@ -108,10 +145,19 @@ impl Record {
         moves_upper: 0,
         moves_lower: 0,
         last_second: 0,
+        session: Session::Main,
     };
 
     pub fn is_live(&self) -> bool {
         matches!(self.standing, Standing::Live(_))
+    }
+
+    /// The seconds for which a side is near before its alert: u of the session.
+    pub fn near_seconds(&self) -> i64 {
+        match self.session {
+            Session::Main => self.statics.near_seconds,
+            Session::Evening(_) => self.statics.evening_seconds,
+        }
     }
 
     /// What an evaluation carries on from the day before.
@@ -148,6 +194,7 @@ impl Record {
             && MOVE_COUNT.contains(&self.moves_upper)
             && MOVE_COUNT.contains(&self.moves_lower)
             && SECOND.contains(&self.last_second)
+            && self.session.is_sound()
     }
 
     fn is_limit(&self, limit: i64) -> bool {
@@ -181,7 +228,8 @@ impl Record {
         for (place, term) in figures[17..38].chunks_exact_mut(7).zip(&self.terms) {
             place.copy_from_slice(&term.figures());
         }
-        figures[38..].copy_from_slice(&[self.moves_upper, self.moves_lower, self.last_second]);
+        figures[38..41].copy_from_slice(&[self.moves_upper, self.moves_lower, self.last_second]);
+        figures[41..].copy_from_slice(&self.session.figures());
         figures
     }
 }

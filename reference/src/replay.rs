@@ -1,14 +1,35 @@
-//! Performs an evening's script again and shows its evaluations, its
-//! admissions or its moves, for the counts of edges that these meet.
+//! Performs an evening's script again and shows its calls, or its evaluations,
+//! its admissions or its moves alone, for the counts of edges that these meet.
 
 use std::io::{self, BufRead};
 
 use crate::desk::{self, fresh_table, SLOTS_MAX};
 use crate::kept::Kept;
-use crate::protocol::{admission, perform, Asked};
+use crate::protocol::{admission, perform, Answer, Asked};
 use crate::record::{Record, Side};
 use crate::security::Admission;
-use crate::words::{hear, number_or_pair, words, Heard, EVENING_LINE_MAX};
+use crate::words::{hear, number_or_pair, Word, EVENING_LINE_MAX};
+
+/// A call of a script.
+pub struct Call<'a> {
+    pub verb: &'a [u8],
+    pub words: &'a [Word],
+    pub answer: Answer,
+    /// What is kept after it.
+    kept: &'a Kept,
+    /// The record of its first number before it; none where that is no id of the
+    /// table.
+    pub before: Option<Record>,
+    /// The record of its first number after it.
+    pub after: Option<Record>,
+}
+
+impl Call<'_> {
+    /// The numbers among its words.
+    pub fn numbers(&self) -> Vec<i64> {
+        self.words.iter().filter_map(|word| word.number()).collect()
+    }
+}
 
 /// An evaluation of a script.
 pub struct Evaluation {
@@ -21,89 +42,74 @@ pub struct Evaluation {
     pub after: Option<Record>,
 }
 
-/// Shows every admission of a script, in order, with the number of its answer.
-pub fn admissions(input: impl BufRead, mut see: impl FnMut(&Admission, i64)) -> io::Result<()> {
+/// Shows every call of a script, in order.
+pub fn calls(input: impl BufRead, mut see: impl FnMut(&Call)) -> io::Result<()> {
     let mut table = fresh_table(SLOTS_MAX);
     let mut kept = Kept::default();
     let mut heard = Vec::new();
     for line in input.split(b'\n') {
-        let line = line?;
-        let is_admission = words(&line).next() == Some(b"admit");
-        let said = hear(
-            &line,
+        let perform = |verb: &[u8], words: &[Word]| {
+            let id = words.first()?.number()?;
+            let before = desk::read(&table, id).ok().copied();
+            let answer = perform(&mut table, &mut kept, verb, words)?;
+            see(&Call {
+                verb,
+                words,
+                answer,
+                kept: &kept,
+                before,
+                after: desk::read(&table, id).ok().copied(),
+            });
+            Some(answer)
+        };
+        hear(
+            &line?,
             EVENING_LINE_MAX,
             &mut heard,
             number_or_pair,
-            |verb, words| perform(&mut table, &mut kept, verb, words),
+            perform,
         );
-        let numbers: Vec<i64> = heard.iter().filter_map(|word| word.number()).collect();
-        match (said, admission(&numbers)) {
-            (Heard::Answer(answer), Some(given)) if is_admission => see(&given, answer.number()),
-            _ => {}
-        }
     }
     Ok(())
+}
+
+/// Shows every admission of a script, in order, with the number of its answer.
+pub fn admissions(input: impl BufRead, mut see: impl FnMut(&Admission, i64)) -> io::Result<()> {
+    calls(input, |call| {
+        if let (b"admit", Some(given)) = (call.verb, admission(&call.numbers())) {
+            see(&given, call.answer.number());
+        }
+    })
 }
 
 /// Shows every accepted move of a script, in order: its side and the record
 /// after it.
 pub fn moves(input: impl BufRead, mut see: impl FnMut(Side, &Record)) -> io::Result<()> {
-    let mut table = fresh_table(SLOTS_MAX);
-    let mut kept = Kept::default();
-    let mut heard = Vec::new();
-    for line in input.split(b'\n') {
-        let line = line?;
-        let is_move = words(&line).next() == Some(b"move");
-        let said = hear(
-            &line,
-            EVENING_LINE_MAX,
-            &mut heard,
-            number_or_pair,
-            |verb, words| perform(&mut table, &mut kept, verb, words),
-        );
-        let is_done = matches!(said, Heard::Answer(answer) if answer.number() == 0);
-        let numbers: Vec<i64> = heard.iter().filter_map(|word| word.number()).collect();
-        if let (true, &[id, side]) = (is_move && is_done, &numbers[..]) {
-            if let (Ok(after), Some(side)) = (desk::read(&table, id), Side::from_number(side)) {
-                see(side, after);
-            }
+    calls(input, |call| {
+        if call.verb != b"move" || call.answer.number() != 0 {
+            return;
         }
-    }
-    Ok(())
+        let side = call.numbers().get(1).copied().and_then(Side::from_number);
+        if let (Some(after), Some(side)) = (&call.after, side) {
+            see(side, after);
+        }
+    })
 }
 
 /// Shows every evaluation of a script, in order.
 pub fn evaluations(input: impl BufRead, mut see: impl FnMut(&Evaluation)) -> io::Result<()> {
-    let mut table = fresh_table(SLOTS_MAX);
-    let mut kept = Kept::default();
-    let mut heard = Vec::new();
-    for line in input.split(b'\n') {
-        let line = line?;
-        let is_evaluation = words(&line).next() == Some(b"evaluate");
-        let mut seen = None;
-        let said = hear(
-            &line,
-            EVENING_LINE_MAX,
-            &mut heard,
-            number_or_pair,
-            |verb, words| {
-                if is_evaluation {
-                    let asked = Asked::from_words(&kept, words)?;
-                    let before = desk::read(&table, asked.id).ok().copied();
-                    seen = Some((asked, before));
-                }
-                perform(&mut table, &mut kept, verb, words)
-            },
-        );
-        if let (Some((asked, before)), Heard::Answer(answer)) = (seen, said) {
-            let after = desk::read(&table, asked.id).ok().copied();
+    calls(input, |call| {
+        if call.verb != b"evaluate" {
+            return;
+        }
+        // An evaluation changes nothing that is kept.
+        if let Some(asked) = Asked::from_words(call.kept, call.words) {
             see(&Evaluation {
                 asked,
-                before,
-                number: answer.number(),
-                after,
+                before: call.before,
+                number: call.answer.number(),
+                after: call.after,
             });
         }
-    }
-    Ok(())
+    })
 }

@@ -6,7 +6,7 @@ use crate::ewma::Volatility;
 use crate::exact::wide;
 use crate::limits::{band_limit, delta, range_limit, BandInputs};
 use crate::rates::{after_day, level_rates, DayMove};
-use crate::record::{is_price, is_repo_term, is_tentative, Record, Side, Standing, Term};
+use crate::record::{is_price, is_repo_term, is_tentative, Record, Session, Side, Standing, Term};
 use crate::refusal::Refusal;
 use crate::statics::{Statics, STATICS};
 use crate::units::{
@@ -129,7 +129,7 @@ pub fn worked_out(record: &Record, day: &Day) -> Result<Record, Refusal> {
 
 /// The record that a day in range makes, its bands crossed perhaps: refused 7,
 /// 8. An evaluation clears both counts, all near seconds and the last quote
-/// second.
+/// second, and puts the record back in the main session.
 pub fn made(record: &Record, day: &Day) -> Result<Record, Refusal> {
     let statics = &record.statics;
     let p = evaluation(day.rows, record.p1, statics.grid()).ok_or(Refusal::EvaluationOutOfRange)?;
@@ -153,6 +153,7 @@ pub fn made(record: &Record, day: &Day) -> Result<Record, Refusal> {
         moves_upper: 0,
         moves_lower: 0,
         last_second: 0,
+        session: Session::Main,
     })
 }
 
@@ -236,8 +237,8 @@ pub fn quoted(record: &Record, quote: &Quote) -> Result<(Record, Alerts), Refusa
         quote,
     );
     let alerts = Alerts {
-        top: is_alert(term.near_top, quote, record.statics.near_seconds),
-        bottom: is_alert(term.near_bottom, quote, record.statics.near_seconds),
+        top: is_alert(term.near_top, quote, record.near_seconds()),
+        bottom: is_alert(term.near_bottom, quote, record.near_seconds()),
     };
     after.last_second = quote.second;
     Ok((after, alerts))
@@ -265,13 +266,44 @@ fn near_since(since: Option<i64>, near: bool, quote: &Quote) -> Option<i64> {
     near.then(|| since.unwrap_or(quote.second))
 }
 
-/// Near, and at least u seconds since that second.
+/// Near, and at least u seconds of the session since that second.
 fn is_alert(since: Option<i64>, quote: &Quote, near_seconds: i64) -> bool {
     since.map_or(false, |since| quote.second - since >= near_seconds)
 }
 
-/// The record after a move of one side: refused 6, 10, 11, 12, the first that
-/// applies.
+/// The record after its evening is opened: refused 10, 19, the first that
+/// applies. It clears all near seconds and keeps all else: the limits, c and the
+/// last quote second.
+pub fn opened(record: &Record) -> Result<Record, Refusal> {
+    if !record.is_live() {
+        return Err(Refusal::NotLive);
+    }
+    if record.session != Session::Main {
+        return Err(Refusal::OpenedTwice);
+    }
+    Ok(Record {
+        terms: record.terms.map(|term| Term {
+            near_top: None,
+            near_bottom: None,
+            ..term
+        }),
+        session: Session::Evening(0),
+        ..*record
+    })
+}
+
+/// Whether the session has a move (17.4): an evening has one with Autochange
+/// yes, until its maximum is reached.
+fn has_move(record: &Record) -> bool {
+    let statics = &record.statics;
+    match record.session {
+        Session::Main => true,
+        Session::Evening(made) => statics.autochange && made < statics.evening_maximum,
+    }
+}
+
+/// The record after a move of one side: refused 6, 10, 11, 18, 12, the first
+/// that applies.
 pub fn moved(record: &Record, side: i64) -> Result<Record, Refusal> {
     let side = Side::from_number(side).ok_or(Refusal::ValueOutOfRange)?;
     if !record.is_live() {
@@ -280,6 +312,9 @@ pub fn moved(record: &Record, side: i64) -> Result<Record, Refusal> {
     if !record.statics.monitoring {
         return Err(Refusal::NotMonitored);
     }
+    if !has_move(record) {
+        return Err(Refusal::NoEveningMove);
+    }
     let moves = match side {
         Side::Upper => record.moves_upper,
         Side::Lower => record.moves_lower,
@@ -287,9 +322,13 @@ pub fn moved(record: &Record, side: i64) -> Result<Record, Refusal> {
     if moves == *MOVE_COUNT.end() {
         return Err(Refusal::MovesExhausted);
     }
-    Ok(match side {
+    let after = match side {
         Side::Upper => moved_up(record, moves + 1),
         Side::Lower => moved_down(record, moves + 1),
+    };
+    Ok(Record {
+        session: record.session.moved(),
+        ..after
     })
 }
 

@@ -1,10 +1,11 @@
-//! A security's statics and their ranges (document 01, "Units and ranges").
+//! A security's statics and their ranges (document 01, "Units and ranges"; the
+//! evening's three are W-210's).
 
 use crate::ewma::Model;
-use crate::units::{Range, RATE, TARGET_MAX};
+use crate::units::{Range, EVENING_MOVES, RATE, TARGET_MAX};
 
 /// How many statics there are.
-pub const STATICS: usize = 22;
+pub const STATICS: usize = 25;
 
 pub const LOT: Range = 1..=100;
 pub const STEP: Range = 1..=1_000;
@@ -18,12 +19,14 @@ pub const X_PR: Range = 50..=1_000;
 pub const SHIFT: Range = 1..=100;
 pub const BAND_MAXIMUM: Range = 0..=10_000;
 pub const NEARNESS: Range = 0..=5_000;
+/// u, and u of the evening (W-210).
 pub const NEAR_SECONDS: Range = 1..=3_600;
 
 /// Grid (10.1): for each greatest lot, the units of its price step.
 const GRIDS: [(i64, i64); 3] = [(1, 100), (10, 10), (100, 1)];
 
-/// The statics of a security, in the order of the paper's table.
+/// The statics of a security, in the order of the paper's table, the evening's
+/// behind them.
 #[derive(Clone, Copy, Debug, PartialEq, Eq)]
 pub struct Statics {
     pub lot: i64,
@@ -51,6 +54,12 @@ pub struct Statics {
     pub near_seconds: i64,
     pub monitoring: bool,
     pub is_ewma: bool,
+    /// u of the evening, in seconds (17.5).
+    pub evening_seconds: i64,
+    /// Whether the evening has moves (17.4).
+    pub autochange: bool,
+    /// The most moves of an evening (17.4).
+    pub evening_maximum: i64,
 }
 
 impl Statics {
@@ -74,6 +83,9 @@ impl Statics {
         near_seconds: 0,
         monitoring: false,
         is_ewma: false,
+        evening_seconds: 0,
+        autochange: false,
+        evening_maximum: 0,
     };
 
     /// The statics given by plain numbers, flags 1 for yes and 0 for no;
@@ -99,6 +111,9 @@ impl Statics {
             near_seconds: n[19],
             monitoring: flag(n[20])?,
             is_ewma: flag(n[21])?,
+            evening_seconds: n[22],
+            autochange: flag(n[23])?,
+            evening_maximum: n[24],
         };
         statics.is_sound().then_some(statics)
     }
@@ -128,6 +143,9 @@ impl Statics {
             self.near_seconds,
             i64::from(self.monitoring),
             i64::from(self.is_ewma),
+            self.evening_seconds,
+            i64::from(self.autochange),
+            self.evening_maximum,
         ]
     }
 
@@ -148,6 +166,8 @@ impl Statics {
             && BAND_MAXIMUM.contains(&self.pcl_max)
             && NEARNESS.contains(&self.nearness)
             && NEAR_SECONDS.contains(&self.near_seconds)
+            && NEAR_SECONDS.contains(&self.evening_seconds)
+            && EVENING_MOVES.contains(&self.evening_maximum)
     }
 
     /// rh_1 ≤ rh_2 ≤ rh_3, rh_1 in 1..5, the others to 30.

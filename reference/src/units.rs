@@ -24,8 +24,10 @@ pub const ID: Range = 1..=1_000_000_000;
 pub const DAY_NUMBER: Range = 0..=1_000_000;
 /// A second of the session.
 pub const SECOND: Range = 0..=86_399;
-/// The moves of one side since the evaluation, c.
+/// The moves of one side since the evaluation, c, of both sessions together.
 pub const MOVE_COUNT: Range = 0..=50;
+/// Moves of an evening, of both sides together, and the most of them (W-210).
+pub const EVENING_MOVES: Range = 0..=10;
 /// Trading days since the tentative rate last changed.
 pub const AGE: Range = 0..=250;
 /// Days of a term, k, and days of a row, T.

@@ -4,8 +4,9 @@ mod common;
 
 use common::{z_with, IS_EWMA, LOT, MONITORING, Z};
 use reference::gateway::{gateway, perform};
+use reference::statics::STATICS;
 
-fn call(verb: &str, values: &[i64], statics: &[i64; 22]) -> i64 {
+fn call(verb: &str, values: &[i64], statics: &[i64; STATICS]) -> i64 {
     let numbers = [values, statics].concat();
     perform(verb.as_bytes(), &numbers).expect("a call")
 }

@@ -9,6 +9,7 @@ use reference::count_crossed::count_crossed;
 use reference::count_interest::count_interest;
 use reference::count_inward::count_inward;
 use reference::count_replacement::count_replacement;
+use reference::count_session::count_session;
 use reference::count_tentative::count_tentative;
 use reference::count_why::count_why;
 use reference::gateway::gateway;
@@ -18,7 +19,7 @@ use reference::script;
 /// A count of the edges that a script meets.
 type CountOf = fn(&[u8]) -> io::Result<Count>;
 
-const COUNTS: [(&str, CountOf); 7] = [
+const COUNTS: [(&str, CountOf); 8] = [
     ("interest", |script| count_interest(script)),
     ("replacement", |script| count_replacement(script)),
     ("crossed", |script| count_crossed(script)),
@@ -26,6 +27,7 @@ const COUNTS: [(&str, CountOf); 7] = [
     ("why", |script| count_why(script)),
     ("tentative", |script| count_tentative(script)),
     ("inward", |script| count_inward(script)),
+    ("session", |script| count_session(script)),
 ];
 
 fn lines(text: &[u8]) -> usize {

@@ -254,14 +254,17 @@ fn said(script: &[u8]) -> Vec<String> {
 #[test]
 fn the_program() {
     let script = "admit 7 0 1000000 1000000 20000 600 10 100 300 1000 500 5 2 5 8 50 \
-500 700 900 4000 200 25 2000 2000 1000 60 1 1
+500 700 900 4000 200 25 2000 2000 1000 60 1 1 120 1 2
 evaluate 7 1 0 0 0 0 0 0 0 0 0 0 0 0 10000 0 1030000 0 0 1
 evaluate 7 1 0 0 0 0 0 0 0 0 0 0 0
 evaluate 7 2 0 0 0 0 0 0 0/1 0 0 0
 evaluate 8 2 0 0 0 0 0 0 0/1 0 0 0
 evaluate 7 2
 move 7 2
-quote 7 0 0 0 0";
+quote 7 0 0 0 0
+open 8
+open 7
+open 7";
     let expected = [
         "0",
         "0 price close weight up replacement no tentative rose \
@@ -272,6 +275,11 @@ level1 requirement level2 requirement level3 requirement",
         "bad 6",
         "6",
         "0 0 0",
+        "1",
+        "0 7 1 1 1030000 1000000 21214 700 0 800 1200 1500 \
+1112400 1153600 1184500 947600 906400 875500 0 0 0 988800 1071200 -1 -1 \
+0 0 0 988800 1071200 -1 -1 0 0 0 988800 1071200 -1 -1 0 0 0 1 0",
+        "19",
     ];
     assert_eq!(said(script.as_bytes()), expected);
 }

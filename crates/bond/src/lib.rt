@@ -29,7 +29,8 @@ use paper_bonds::BondStatics;
 
 // ---- what is given
 
-// A bond's statics among the shares': no rule of a bond reads the lot, the weights, shift, w or u.
+// A bond's statics among the shares': no rule of a bond reads the lot, the weights, shift, w, u or what the evening has
+// of its own.
 fn given_of(g: BondStatics) -> GivenStatics
     ensures { λ r. ⌜ r ≡ givenOf g ⌝ }
 {
@@ -56,6 +57,9 @@ fn given_of(g: BondStatics) -> GivenStatics
         u: 1,
         monitoring: g.monitoring,
         ewma: g.ewma,
+        uevening: 1,
+        autochange: 0,
+        eveningmax: 0,
     }
 }
 

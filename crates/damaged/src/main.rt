@@ -8,6 +8,7 @@ use paper::NearSeconds;
 use paper::Price;
 use paper::Rate;
 use paper::Record;
+use paper::Session;
 use paper::Standing;
 use paper::Statics;
 use paper::Tentative;
@@ -37,11 +38,14 @@ fn statics() -> Statics {
         u: 60,
         monitoring: true,
         ewma: true,
+        uevening: 60,
+        autochange: true,
+        eveningmax: 10,
     }
 }
 
-// Case 1's security after its evaluation, with an id: a sound record.
-fn sound(id: u64) -> Record {
+// Case 1's security after its evaluation, with an id, in a session: a sound record, where the session is.
+fn in_session(id: u64, session: Session) -> Record {
     Record {
         id,
         statics: statics(),
@@ -70,7 +74,12 @@ fn sound(id: u64) -> Record {
             bottom: Near::Not,
         }; Record::TERMS],
         second: 0,
+        session,
     }
+}
+
+fn sound(id: u64) -> Record {
+    in_session(id, Session::Main)
 }
 
 // One static out of its range, order or step.
@@ -192,33 +201,35 @@ fn with_three(slot: usize, r: Record) -> Record {
 
 // A sound record at the ends of its ranges, its bands crossed: what lies one past each of them stands in the slots
 // before.
-fn at_the_ends(id: u64) -> Record {
-    let r = with_tentative(sound(id), 4_000, Record::AGE_MOST);
+fn at_the_ends(id: u64, session: Session) -> Record {
+    let r = with_tentative(in_session(id, session), 4_000, Record::AGE_MOST);
     let r = with_moves(r, Record::MOVES_MOST, Record::MOVES_MOST);
     let r = with_bands(r, Limit::MOST_UNITS, 0);
     with_second(r, Record::SECOND_LAST)
 }
 
-// Slots 0 to 21 hold one damage each, under the ids 100 to 121; then duplicates of 700 and 701, an id past its range,
-// and the ends.
+// Slots 0 to 22 hold one damage each, under the ids 100 to 122; then duplicates of 700 and 701, an id past its range,
+// and the ends, in the main session and in the evening.
 fn record_of(slot: usize) -> Record {
     match slot {
         0..=5 => with_statics(slot, sound(100 + slot as u64)),
         6..=14 => with_figure(slot, sound(100 + slot as u64)),
         15..=21 => with_three(slot, sound(100 + slot as u64)),
-        22 => with_figure(9, sound(700)),
-        23 => sound(700),
-        24 => sound(701),
-        25 => at_the_ends(701),
-        26 => sound(Record::ID_MOST + 1),
-        _ => at_the_ends(702),
+        22 => in_session(122, Session::Evening(Statics::EVENING_MOVES_MOST + 1)),
+        23 => with_figure(9, sound(700)),
+        24 => sound(700),
+        25 => sound(701),
+        26 => at_the_ends(701, Session::Main),
+        27 => sound(Record::ID_MOST + 1),
+        28 => at_the_ends(702, Session::Main),
+        _ => at_the_ends(703, Session::Evening(Statics::EVENING_MOVES_MOST)),
     }
 }
 
 fn table() -> [Record; Record::SLOTS_MOST] {
     let mut t = text_serve::fresh();
     let mut slot: usize = 0;
-    while slot < 28 {
+    while slot < 30 {
         let r = record_of(slot);
         t[slot] = r;
         slot += 1;

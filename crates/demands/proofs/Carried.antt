@@ -16,7 +16,7 @@ use Rattle.paper.specs.Numbers.{millionthsInBp, priceMost}
 use Rattle.paper.specs.Ranges.{isPrice, isGridPrice, gridOf, staticsOf, sound, rateAt}
 use Rattle.paper.specs.declared.Figures.{Figures}
 use Rattle.paper_desk.specs.Rates.{modelOf, moveOf, figuresOf, modelled, unmodelled, volatilityOf}
-use Rattle.paper_desk.specs.History.{Event, evaluatedOn, quotedAt, movedBy, evaluations}
+use Rattle.paper_desk.specs.History.{Event, evaluatedOn, quotedAt, movedBy, opening, evaluations}
 use Rattle.paper_desk.specs.Sequences.{Carries, carriesFirst, carriesNext, carries}
 use Rattle.paper_desk.specs.Exact.{exactMove, exactSquare, NearExact}
 use Rattle.demands.specs.Demands.{FiguresHold}
@@ -76,6 +76,7 @@ carried a (evaluatedOn d rows ∷ es) (l, n) on =
     (move-rounded (x .p1) (x .p2) p (positive .p1) (positive .p2)))
 carried a (quotedAt q ∷ es) (l, n) on = carried a es l on
 carried a (movedBy side ∷ es) (l, n) on = carried a es l on
+carried a (opening ∷ es) (l, n) on = carried a es l on
 
 pub lawful-near : (a : Admission) (es : List Event) → Lawful a es → staticsOf (a .given) .ewma ≡ true
     → NearExact (evaluations es) (recordOf a es .s) (exactSquare a es)

@@ -10,12 +10,12 @@ use Rattle.paper.specs.declared.Verdict.{Verdict}
 use Rattle.paper.specs.declared.Verdict.the-variants.{Done, NoSuchId, AlreadyAdmitted}
 use Rattle.paper.specs.Ranges.{sideOf, validAdmission}
 use Rattle.paper.specs.Verdicts.{numberOf, isDone, Check, firstOf, NoneApplies, Exactly}
-use Rattle.paper_desk.specs.Desk.{Call, admit, evaluate, quote, move, read, idOf, Outcome, saying, showing, evaluated, moved, place, stands, found, known, checksOf, admitChecks, evaluateChecks, quoteChecks, moveChecks, readChecks, acceptedOf, step, run}
+use Rattle.paper_desk.specs.Desk.{Call, admit, evaluate, quote, move, read, openEvening, idOf, Outcome, saying, showing, evaluated, moved, eveningOpened, place, stands, found, known, checksOf, admitChecks, evaluateChecks, quoteChecks, moveChecks, readChecks, openChecks, acceptedOf, step, run}
 use Rattle.paper_desk.specs.History.{FreshTable, Event, unknown, since, historyOf, wasAdmitted, isAdmission}
 use Rattle.demands.specs.Demands.{answered, orderOf, Demand1, FiguresHold, answerThen, Demand2, Demand3, TableKept, BandsInOrder}
 use Rattle.paper_desk.proofs.Slots.{found-stored, known-stands}
 use Rattle.paper_desk.proofs.Refusals.{verdict-first, refused-step, accepted-step, refused-only, refused-always, accepted-only, accepted-always}
-use Rattle.demands.proofs.Kept.{run-sound, evaluate-knows, quote-knows, move-knows}
+use Rattle.demands.proofs.Kept.{run-sound, call-knows}
 use Rattle.demands.proofs.Histories.{recordOf, Lawful}
 use Rattle.demands.proofs.Known.{one-exactly-unknown, history-since, known-admitted, no-such-id, already-admitted, stays-known}
 use Rattle.paper_desk.proofs.PinnedLaws.{bad-table-refused}
@@ -43,12 +43,13 @@ bands-in-order id cs t f a es e =
 -- ---- Demand 1
 
 in-order : (c : Call) (t : List Record) → map (λ (x : Check). numberOf (x .verdict)) (checksOf c t) ≡ orderOf c
-unfolding checksOf admitChecks evaluateChecks quoteChecks moveChecks readChecks
+unfolding checksOf admitChecks evaluateChecks quoteChecks moveChecks readChecks openChecks
 in-order (admit a) t = refl
 in-order (evaluate id d rows) t = refl
 in-order (quote id q) t = refl
 in-order (move id side) t = refl
 in-order (read id) t = refl
+in-order (openEvening id) t = refl
 
 pub demand-1 : (c : Call) (t : List Record) → Demand1 c t
 unfolding isDone
@@ -76,20 +77,25 @@ demand-1 c t =
 
 -- ---- Demand 2
 
--- the record that a call writes in its own slot is the one that is then found
 module _ (a : Admission) (es : List Event) (t : List Record) where
+  -- the record that a call writes in its own slot is the one that is then found
+  shown : (id : ℕ) (x : Record) → known t id ≡ true → x .id ≡ found t id .id
+      → showing x ≡ showing (found (set t (place t id) x) id)
+  shown id x there same = ap showing (sym (found-stored t id x (known-stands t id there) same))
+
   accepted-answers : (c : Call) → FiguresHold a es (found t (idOf c)) → NoneApplies (checksOf c t)
       → acceptedOf c t .answer ≡ answerThen a es c (acceptedOf c t .table)
-  unfolding acceptedOf checksOf evaluated moved
+  unfolding acceptedOf checksOf evaluated moved eveningOpened
   accepted-answers (admit b) k n = refl
   accepted-answers (evaluate id d rows) k n =
-      let there : known t id ≡ true = evaluate-knows (known t id) (found t id) d rows n in
-      ap showing (sym (found-stored t id (evaluated (found t id) d rows) (known-stands t id there) refl))
-  accepted-answers (quote id q) k n = alerts-noted a es (found t id) q k (quote-term (known t id) (found t id) q n)
+      shown id (evaluated (found t id) d rows) (call-knows (evaluate id d rows) t refl n) refl
+  accepted-answers (quote id q) k n =
+      alerts-noted a es (found t id) q k (quote-term (known t id) (found t id) q n) id t
   accepted-answers (move id side) k n =
-      let there : known t id ≡ true = move-knows (known t id) (found t id) side n in
-      ap showing (sym (found-stored t id (moved (found t id) (sideOf side)) (known-stands t id there) refl))
+      shown id (moved (found t id) (sideOf side)) (call-knows (move id side) t refl n) refl
   accepted-answers (read id) k n = refl
+  accepted-answers (openEvening id) k n =
+      shown id (eveningOpened (found t id)) (call-knows (openEvening id) t refl n) refl
 
   next-answers : (c : Call) → FiguresHold a es (found t (idOf c)) → answered c t ≡ Done
       → step c t .answer ≡ answerThen a es c (step c t .table)

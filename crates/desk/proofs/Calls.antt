@@ -15,8 +15,8 @@
 --    Add `seventh-steps` to `Steps`: what the turn stores and answers is the paper's step, by `judged-done`, in a line.
 -- 2. Where the code is `let s = take(t, id); let o = rule(s, q); put(t, o.at, o.rec); o.answer`, no walk is to be
 --    written, `Turn` has it: copy quote/Proof.antt, or evaluate/Proof.antt where rows are lent beside the table, and
---    change the names. A call of the id alone takes `no-more` where `Shape` takes `and-plain P L no-more`; its file
---    is `Shape` with one parameter less. A call that leaves the table is a case of `Telling`: copy read/Proof.antt.
+--    change the names; where nothing stands beside the id, open_evening/Proof.antt. A call that leaves the table is a
+--    case of `Telling`: copy read/Proof.antt.
 -- 3. Where the code has another statement, copy admit/Proof.antt, which has one, and change, in this order:
 --    - ℓ…, for-…: the numbers of the locals. `rt mir desk` has them in order: the result, the parameters, each `let`,
 --      and the compiler's own, which are a pair for each call that t is lent to, and the `()` of `put`.

@@ -16,9 +16,9 @@ use Rattle.paper.specs.declared.Answer.{Answer}
 use Rattle.paper.specs.declared.Verdict.{Verdict}
 use Rattle.paper.specs.Lists.{pick}
 use Rattle.paper.specs.Verdicts.{isDone, firstOf}
-use Rattle.paper_desk.specs.Desk.{Call, admit, evaluate, quote, move, read, Outcome, blank, saying, showing, stands, known, found, admitChecks, readChecks, checksOf, judged, acceptedOf, step}
+use Rattle.paper_desk.specs.Desk.{Call, admit, evaluate, quote, move, read, openEvening, Outcome, blank, saying, showing, stands, known, found, admitChecks, readChecks, checksOf, judged, acceptedOf, step}
 use Rattle.record_answers.specs.declared.Effect.{Effect}
-use Rattle.record_answers.specs.Effects.{slotOf, holds, isKnown, refusedEffect, judgedEffect, admitChecksOf, admitEffect, evaluateEffect, quoteEffect, moveEffect, readAnswer, doneBy}
+use Rattle.record_answers.specs.Effects.{slotOf, holds, isKnown, refusedEffect, judgedEffect, admitChecksOf, admitEffect, evaluateEffect, quoteEffect, moveEffect, openEffect, readAnswer, doneBy}
 use Rattle.desk.specs.Promises.{Promised}
 
 judged-done : (t : List Record) (v : Verdict) (o : Effect) → doneBy t (judgedEffect (length t) v o)
@@ -49,6 +49,10 @@ quote-steps t id q = judged-done t _ _
 pub move-steps : (t : List Record) (id side : ℕ) → doneBy t (moveEffect (slotOf t id) side) ≡ step (move id side) t
 unfolding slotOf holds isKnown moveEffect doneBy stands known checksOf acceptedOf step
 move-steps t id side = judged-done t _ _
+
+pub open-steps : (t : List Record) (id : ℕ) → doneBy t (openEffect (slotOf t id)) ≡ step (openEvening id) t
+unfolding slotOf holds isKnown openEffect doneBy stands known checksOf acceptedOf step
+open-steps t id = judged-done t _ _
 
 pub read-answers : (t : List Record) (id : ℕ) → readAnswer (slotOf t id) ≡ step (read id) t .answer
 unfolding slotOf holds isKnown readAnswer stands known checksOf acceptedOf judged step

@@ -103,6 +103,16 @@ pub fn moved(t: &mut [Record], id: u64, side: u64) -> Answer
     o.answer
 }
 
+// W-210: "Opening the evening clears the near seconds and keeps c".
+pub fn open_evening(t: &mut [Record], id: u64) -> Answer
+    ensures { λ r. ⌜ Promised (Call.openEvening id) (now (t .entry)) r (now (t .exit)) ⌝ }
+{
+    let s = take(t, id);
+    let o = record_calls::opened(s);
+    put(t, o.at, o.rec);
+    o.answer
+}
+
 // A read leaves the table: it is lent as `&`.
 pub fn read(t: &[Record], id: u64) -> Answer
     ensures { λ r. ⌜ r ≡ step (Call.read id) (now (t .entry)) .answer ⌝ }

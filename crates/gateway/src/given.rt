@@ -3,8 +3,8 @@ ghost use mathlib.Core.Path.{_≡_};
 ghost use Rattle.paper_desk.specs.Gateway.{givenOf};
 use paper::GivenStatics;
 
-// 22 signed numbers in the order of document 01's table. One below zero becomes a number that no range holds, and so is
-// refused as it is there.
+// 25 signed numbers, in the order of document 01's table and then W-210's three. One below zero becomes a number that
+// no range holds, and so is refused as it is there.
 pub fn given_of(
     lot: i64,
     h: i64,
@@ -28,6 +28,9 @@ pub fn given_of(
     u: i64,
     monitoring: i64,
     ewma: i64,
+    uevening: i64,
+    autochange: i64,
+    eveningmax: i64,
 ) -> GivenStatics
     ensures { λ r. ⌜ r ≡ givenOf (record {
       lot = lot;
@@ -52,6 +55,9 @@ pub fn given_of(
       u = u;
       monitoring = monitoring;
       ewma = ewma;
+      uevening = uevening;
+      autochange = autochange;
+      eveningmax = eveningmax;
     }) ⌝ }
 {
     GivenStatics {
@@ -77,5 +83,8 @@ pub fn given_of(
         u: exact::unsigned(u),
         monitoring: exact::unsigned(monitoring),
         ewma: exact::unsigned(ewma),
+        uevening: exact::unsigned(uevening),
+        autochange: exact::unsigned(autochange),
+        eveningmax: exact::unsigned(eveningmax),
     }
 }

@@ -16,7 +16,7 @@ use Rattle.paper.specs.declared.Admission.{Admission}
 use Rattle.paper.specs.declared.Day.{Day}
 use Rattle.paper.specs.declared.Quote.{Quote}
 use Rattle.paper.specs.Lists.{allThree}
-use Rattle.paper.specs.Numbers.{priceLeast, priceMost, rateMost, volatilityMost, lotMost, stepMost, multiplierLeast, multiplierMost, weightMost, waitMost, firstDaysMost, daysMost, liquidityMost, divisorLeast, divisorMost, shiftMost, nearnessMost, secondsMost, idMost, dayMost, secondLast, behindMost, aheadMost, termDaysMost, repoLeast, repoMost, termLast, quoteMost}
+use Rattle.paper.specs.Numbers.{priceLeast, priceMost, rateMost, volatilityMost, lotMost, stepMost, multiplierLeast, multiplierMost, weightMost, waitMost, firstDaysMost, daysMost, liquidityMost, divisorLeast, divisorMost, shiftMost, nearnessMost, secondsMost, eveningMovesMost, idMost, dayMost, secondLast, behindMost, aheadMost, termDaysMost, repoLeast, repoMost, termLast, quoteMost}
 use Rattle.paper.specs.Ranges.{within, isPrice, isRate, gridOf, isGridPrice, validStatics, staticsOf, validGiven, tentativeTop, validTentative, validAdmission, validTerm, termAt, validQuote, validSide, validDayNumbers}
 use Rattle.paper.proofs.Logic.{and-left, and-right, each-of-three, order-trans}
 
@@ -97,6 +97,8 @@ pub record StaticsFacts (st : Statics) : Type 0 where
   pub pclmax : st .pclmax ≤ rateMost
   pub w : st .w ≤ nearnessMost
   pub u : Within 1 secondsMost (st .u)
+  pub uevening : Within 1 secondsMost (st .uevening)
+  pub eveningmax : st .eveningmax ≤ eveningMovesMost
 
 pub statics-facts : (st : Statics) → validStatics st ≡ true → StaticsFacts st
 unfolding validStatics
@@ -127,6 +129,8 @@ statics-facts st v =
       pclmax = leb-true _ _ (search (v, and-left, and-right) depth 40);
       w = leb-true _ _ (search (v, and-left, and-right) depth 40);
       u = within-facts _ _ _ (search (v, and-left, and-right) depth 40);
+      uevening = within-facts _ _ _ (search (v, and-left, and-right) depth 40);
+      eveningmax = leb-true _ _ (search (v, and-left, and-right) depth 40);
     }
 
 pub statics-step : (st : Statics) → validStatics st ≡ true → 0 < st .h
@@ -134,7 +138,7 @@ statics-step st v = statics-facts st v .h .least
 
 pub given-statics : (g : GivenStatics) → validGiven g ≡ true → validStatics (staticsOf g) ≡ true
 unfolding validGiven
-given-statics g v = and-left _ _ (and-left _ _ v)
+given-statics g v = and-left _ _ (and-left _ _ (and-left _ _ v))
 
 pub tentative-facts : (h tentative : ℕ) → validTentative h tentative ≡ true → MultipleTo (tentativeTop h) h tentative
 unfolding validTentative

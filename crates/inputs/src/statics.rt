@@ -1,4 +1,4 @@
-// The table of statics, and the tentative rate, whose range the step decides.
+// The table of statics with W-210's, and the tentative rate, whose range the step decides.
 ghost use mathlib.Core.Path.{_≡_};
 ghost use Prim.Native.Nat.{_<_};
 ghost use Rattle.paper.specs.Ranges.{validStatics, staticsOf, validGiven, tentativeTop, validTentative, orderedStatics, multiplesOfStep};
@@ -46,7 +46,9 @@ pub fn valid_statics(st: Statics) -> bool
             & (st.pchmax <= Rate::MOST_BP)
             & (st.pclmax <= Rate::MOST_BP)
             & (st.w <= Statics::NEARNESS_MOST)
-            & ((1 <= st.u) & (st.u <= Statics::SECONDS_MOST));
+            & ((1 <= st.u) & (st.u <= Statics::SECONDS_MOST))
+            & ((1 <= st.uevening) & (st.uevening <= Statics::SECONDS_MOST))
+            & (st.eveningmax <= Statics::EVENING_MOVES_MOST);
     }
     false
 }
@@ -78,6 +80,9 @@ pub fn statics_of(g: GivenStatics) -> Statics
         u: g.u,
         monitoring: g.monitoring == 1,
         ewma: g.ewma == 1,
+        uevening: g.uevening,
+        autochange: g.autochange == 1,
+        eveningmax: g.eveningmax,
     }
 }
 
@@ -85,7 +90,7 @@ pub fn statics_of(g: GivenStatics) -> Statics
 pub fn valid_given(g: GivenStatics) -> bool
     ensures { λ r. ⌜ r ≡ validGiven g ⌝ }
 {
-    valid_statics(statics_of(g)) & (g.monitoring <= 1) & (g.ewma <= 1)
+    valid_statics(statics_of(g)) & (g.monitoring <= 1) & (g.ewma <= 1) & (g.autochange <= 1)
 }
 
 // W-208: "the least multiple of h at or above 100,000 bp".

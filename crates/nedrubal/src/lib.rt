@@ -1,7 +1,7 @@
 // What C links: document 01, "What the desk covers", "The C gateway reaches the rate rules and the limit rules with
-// plain numbers". Each function takes its own numbers and then the 22 statics in the order of document 01's table, all
-// signed, of any value, and answers one figure, or minus the refusal number. It only makes the numbers unsigned and
-// hands them on; `gateway` has the calls.
+// plain numbers". Each function takes its own numbers and then the 25 statics, in the order of document 01's table and
+// then W-210's three, all signed, of any value, and answers one figure, or minus the refusal number. It only makes the
+// numbers unsigned and hands them on; `gateway` has the calls.
 ghost use mathlib.Core.Path.{_≡_};
 ghost use Rattle.paper.specs.Ranges.{unsigned};
 ghost use Rattle.paper_desk.specs.Gateway.{givenOf, levelCall, rangeCall, bandCall};
@@ -34,6 +34,9 @@ pub extern "C" fn nedrubal_level_rate(
     u: i64,
     monitoring: i64,
     ewma: i64,
+    uevening: i64,
+    autochange: i64,
+    eveningmax: i64,
 ) -> i64
     ensures { λ r. ⌜ r ≡ levelCall (givenOf (record {
       lot = lot;
@@ -58,6 +61,9 @@ pub extern "C" fn nedrubal_level_rate(
       u = u;
       monitoring = monitoring;
       ewma = ewma;
+      uevening = uevening;
+      autochange = autochange;
+      eveningmax = eveningmax;
     }))
         (unsigned tentative) (unsigned m) (unsigned level) ⌝ }
 {
@@ -84,6 +90,9 @@ pub extern "C" fn nedrubal_level_rate(
         u,
         monitoring,
         ewma,
+        uevening,
+        autochange,
+        eveningmax,
     );
     gateway::level_answer(
         given,
@@ -121,6 +130,9 @@ pub extern "C" fn nedrubal_range_limit(
     u: i64,
     monitoring: i64,
     ewma: i64,
+    uevening: i64,
+    autochange: i64,
+    eveningmax: i64,
 ) -> i64
     ensures { λ r. ⌜ r ≡ rangeCall (givenOf (record {
       lot = lot;
@@ -145,6 +157,9 @@ pub extern "C" fn nedrubal_range_limit(
       u = u;
       monitoring = monitoring;
       ewma = ewma;
+      uevening = uevening;
+      autochange = autochange;
+      eveningmax = eveningmax;
     }))
         (unsigned p) (unsigned rate) (unsigned side) ⌝ }
 {
@@ -171,6 +186,9 @@ pub extern "C" fn nedrubal_range_limit(
         u,
         monitoring,
         ewma,
+        uevening,
+        autochange,
+        eveningmax,
     );
     gateway::range_answer(
         given,
@@ -211,6 +229,9 @@ pub extern "C" fn nedrubal_band_limit(
     u: i64,
     monitoring: i64,
     ewma: i64,
+    uevening: i64,
+    autochange: i64,
+    eveningmax: i64,
 ) -> i64
     ensures { λ r. ⌜ r ≡ bandCall (givenOf (record {
       lot = lot;
@@ -236,6 +257,9 @@ pub extern "C" fn nedrubal_band_limit(
       u = u;
       monitoring = monitoring;
       ewma = ewma;
+      uevening = uevening;
+      autochange = autochange;
+      eveningmax = eveningmax;
     })) (unsigned p)
         (unsigned s1) (unsigned k) repo (unsigned c) (unsigned side) ⌝ }
 {
@@ -262,6 +286,9 @@ pub extern "C" fn nedrubal_band_limit(
         u,
         monitoring,
         ewma,
+        uevening,
+        autochange,
+        eveningmax,
     );
     gateway::band_answer(
         given,

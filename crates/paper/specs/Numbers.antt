@@ -117,9 +117,13 @@ shiftMost = 100
 abbrev pub nearnessMost : ℕ
 nearnessMost = 5000
 
--- u, in seconds
+-- u and u_evening, in seconds
 abbrev pub secondsMost : ℕ
 secondsMost = 3600
+
+-- the evening maximum, and the evening moves made (W-210)
+abbrev pub eveningMovesMost : ℕ
+eveningMovesMost = 10
 
 -- ---- records and the table
 

@@ -10,8 +10,8 @@ use lib.ListN.{replicate}
 use Rattle.paper.specs.declared.Side.the-variants.{Upper, Lower}
 use Rattle.paper.specs.Lists.{every}
 use Rattle.paper.specs.Roundings.{up}
-use Rattle.paper.specs.Ranges.{isPrice, isRate, gridOf, isGridPrice, validStatics, staticsOf, validGiven, tentativeTop, validTentative, validAdmission, partsFrom, rowAt, rowsOf, wholeRows, validRow, validRows, validTerm, validDay, validQuote, validSide, sideOf, lastDay, isLimit, validLimits, validNear, validNearSeconds, sound, validSlots, isLive}
-use Rattle.paper.specs.PinnedValues.{_but_, lotAt, hAt, minimaAt, idAt, p1At, tentativeAt, ageAt, rangesAt, bandsAt, admissionFrom, recordFrom, dayFrom, quoteFrom, liveAt}
+use Rattle.paper.specs.Ranges.{isPrice, isRate, gridOf, isGridPrice, validStatics, staticsOf, validGiven, tentativeTop, validTentative, validAdmission, partsFrom, rowAt, rowsOf, wholeRows, validRow, validRows, validTerm, validDay, validQuote, validSide, sideOf, lastDay, isLimit, validLimits, validNear, validNearSeconds, validSession, sound, validSlots, isLive}
+use Rattle.paper.specs.PinnedValues.{_but_, lotAt, hAt, minimaAt, ueveningAt, eveningmaxAt, idAt, p1At, tentativeAt, ageAt, rangesAt, bandsAt, admissionFrom, recordFrom, dayFrom, quoteFrom, liveAt}
 
 -- ---- a row of numbers with their ranges
 
@@ -80,6 +80,10 @@ staticRanges =
 flagRanges : List Ranged
 flagRanges = range 1 0 1 ∷ range 1 0 1 ∷ []
 
+-- W-210: "u_evening 1..3,600 seconds, Autochange yes/no, the evening maximum 0..10"
+eveningRanges : List Ranged
+eveningRanges = range 120 1 3600 ∷ range 1 0 1 ∷ range 2 0 10 ∷ []
+
 -- "id (1..10^9), last day number (0..10^6, as every day number), the two latest evaluations (on the grid, in range), s,
 -- and the tentative rate", which W-208 takes to 100,000 where h is 1; "Price: .. 1 to 10^10"; "Volatility s: .. 0 to
 -- 1,000,000"
@@ -105,7 +109,8 @@ threeTerms : List Ranged
 unfolding termRanges
 threeTerms = termRanges ++ (termRanges ++ termRanges)
 
--- "age 0..250", "rates 0..10,000", "move counts 0..50", "seconds 0..86,399"; a near second is spelled by one more
+-- "age 0..250", "rates 0..10,000", "move counts 0..50", "seconds 0..86,399"; a near second is spelled by one more, and
+-- so are the evening moves made, 0..10 (W-210)
 recordRanges : List Ranged
 unfolding limitRanges threeTerms
 recordRanges =
@@ -113,12 +118,13 @@ recordRanges =
     ∷ (replicate 3 (range 0 0 10000)
     ++ (limitRanges
     ++ (threeTerms
-    ++ (limitRanges ++ (replicate 2 (range 0 0 50) ++ (replicate 6 (range 0 0 86400) ++ (range 0 0 86399 ∷ [])))))))
+    ++ (limitRanges
+    ++ (replicate 2 (range 0 0 50) ++ (replicate 6 (range 0 0 86400) ++ (range 0 0 86399 ∷ range 0 0 11 ∷ [])))))))
 
 -- an admission, and a live record
 admissionRow : List ℤ
-unfolding staticRanges flagRanges admissionRanges valuesOf
-admissionRow = valuesOf (staticRanges ++ (flagRanges ++ admissionRanges))
+unfolding staticRanges flagRanges eveningRanges admissionRanges valuesOf
+admissionRow = valuesOf (staticRanges ++ (flagRanges ++ (eveningRanges ++ admissionRanges)))
 
 recordRow : List ℤ
 unfolding admissionRow recordRanges
@@ -131,14 +137,15 @@ validAdmissionRow row = validAdmission (admissionFrom row)
 
 soundRow : (row : List ℤ) → Bool
 unfolding sound validStatics isGridPrice isPrice isRate gridOf tentativeTop validTentative up lastDay validTerm
-    isLimit validLimits validNear validNearSeconds recordFrom
+    isLimit validLimits validNear validNearSeconds validSession recordFrom
 soundRow row = sound (recordFrom row)
 
 pub admission-ends : List (List Bool)
 unfolding straddles validAdmissionRow admissionRow
-admission-ends = straddles validAdmissionRow admissionRow 0 (staticRanges ++ (flagRanges ++ admissionRanges))
+admission-ends =
+    straddles validAdmissionRow admissionRow 0 (staticRanges ++ (flagRanges ++ (eveningRanges ++ admissionRanges)))
 
-pub admission-ends-are : admission-ends ≡ atTheEndsAlone 28
+pub admission-ends-are : admission-ends ≡ atTheEndsAlone 31
 unfolding admission-ends atTheEndsAlone
 admission-ends-are = refl
 
@@ -148,9 +155,12 @@ pub record-ends : List (List Bool)
 unfolding straddles soundRow recordRow
 record-ends =
     straddles soundRow recordRow 0 staticRanges
+    -- Autochange is yes or no in a record, with no number out of range
+    ++ (straddles soundRow recordRow ueveningAt (range 120 1 3600 ∷ [])
+    ++ straddles soundRow recordRow eveningmaxAt (range 2 0 10 ∷ []))
     ++ (straddles soundRow recordRow idAt admissionRanges ++ straddles soundRow recordRow ageAt recordRanges)
 
-pub record-ends-are : record-ends ≡ atTheEndsAlone 60
+pub record-ends-are : record-ends ≡ atTheEndsAlone 63
 unfolding record-ends atTheEndsAlone
 record-ends-are = refl
 

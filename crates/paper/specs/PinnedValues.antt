@@ -11,6 +11,8 @@ use lib.ListN.{getD, set, replicate}
 use Rattle.paper.specs.declared.GivenStatics.{GivenStatics}
 use Rattle.paper.specs.declared.Standing.{Standing}
 use Rattle.paper.specs.declared.Standing.the-variants.{Admitted, Live}
+use Rattle.paper.specs.declared.Session.{Session}
+use Rattle.paper.specs.declared.Session.the-variants.{Main, Evening}
 use Rattle.paper.specs.declared.Near.{Near}
 use Rattle.paper.specs.declared.Near.the-variants.{Not, Since}
 use Rattle.paper.specs.declared.Limits.{Limits}
@@ -70,60 +72,76 @@ pchmaxAt = 16
 abbrev pub pclmaxAt : ℕ
 pclmaxAt = 17
 
+abbrev pub uAt : ℕ
+uAt = 19
+
 abbrev pub monitoringAt : ℕ
 monitoringAt = 20
 
 abbrev pub ewmaAt : ℕ
 ewmaAt = 21
 
+abbrev pub ueveningAt : ℕ
+ueveningAt = 22
+
+abbrev pub autochangeAt : ℕ
+autochangeAt = 23
+
+abbrev pub eveningmaxAt : ℕ
+eveningmaxAt = 24
+
 abbrev pub idAt : ℕ
-idAt = 22
+idAt = 25
 
 abbrev pub dayAt : ℕ
-dayAt = 23
+dayAt = 26
 
 abbrev pub p1At : ℕ
-p1At = 24
+p1At = 27
 
 abbrev pub sAt : ℕ
-sAt = 26
+sAt = 29
 
 abbrev pub tentativeAt : ℕ
-tentativeAt = 27
+tentativeAt = 30
 
 -- 0 admitted only, 1 live
 abbrev pub liveAt : ℕ
-liveAt = 28
+liveAt = 31
 
 abbrev pub ageAt : ℕ
-ageAt = 29
+ageAt = 32
 
 -- three rates, then the lower and the upper limit of three ranges
 abbrev pub ratesAt : ℕ
-ratesAt = 30
+ratesAt = 33
 
 abbrev pub rangesAt : ℕ
-rangesAt = 33
+rangesAt = 36
 
 -- k, RRcL and RRcH of three terms, then the lower and the upper limit of their bands
 abbrev pub termsAt : ℕ
-termsAt = 39
+termsAt = 42
 
 abbrev pub bandsAt : ℕ
-bandsAt = 48
+bandsAt = 51
 
 abbrev pub upperMovesAt : ℕ
-upperMovesAt = 54
+upperMovesAt = 57
 
 abbrev pub lowerMovesAt : ℕ
-lowerMovesAt = 55
+lowerMovesAt = 58
 
 -- top and bottom of three terms: 0 not near, one more than the second otherwise
 abbrev pub nearAt : ℕ
-nearAt = 56
+nearAt = 59
 
 abbrev pub secondAt : ℕ
-secondAt = 62
+secondAt = 65
+
+-- 0 main, one more than the evening moves made otherwise
+abbrev pub sessionAt : ℕ
+sessionAt = 66
 
 -- ---- what the numbers spell
 
@@ -150,9 +168,12 @@ givenFrom xs =
       pchmax = plain xs pchmaxAt;
       pclmax = plain xs pclmaxAt;
       w = plain xs 18;
-      u = plain xs 19;
+      u = plain xs uAt;
       monitoring = plain xs monitoringAt;
       ewma = plain xs ewmaAt;
+      uevening = plain xs ueveningAt;
+      autochange = plain xs autochangeAt;
+      eveningmax = plain xs eveningmaxAt;
     }
 
 unfoldable pub admissionFrom : (xs : List ℤ) → Admission
@@ -175,6 +196,10 @@ unfoldable pub nearFrom : ℕ → Near
 nearFrom zero = Not
 nearFrom (suc second) = Since second
 
+unfoldable pub sessionFrom : ℕ → Session
+sessionFrom zero = Main
+sessionFrom (suc made) = Evening made
+
 unfoldable pub limitsFrom : (xs : List ℤ) → (place : ℕ) → Limits
 unfolding unsigned
 limitsFrom xs place = record { lower = plain xs place; upper = plain xs (place + 1) }
@@ -184,7 +209,7 @@ unfolding unsigned
 termFrom xs place = record { k = plain xs place; low = signed xs (place + 1); high = signed xs (place + 2) }
 
 unfoldable pub recordFrom : (xs : List ℤ) → Record
-unfolding givenFrom staticsOf standingFrom nearFrom limitsFrom termFrom
+unfolding givenFrom staticsOf standingFrom nearFrom sessionFrom limitsFrom termFrom
 recordFrom xs =
     record {
       id = plain xs idAt;
@@ -206,6 +231,7 @@ recordFrom xs =
             bottom = nearFrom (plain xs (nearAt + 2 * k + 1));
           });
       second = plain xs secondAt;
+      session = sessionFrom (plain xs sessionAt);
     }
 
 -- a day number, b, m, and three terms
@@ -242,7 +268,8 @@ closedAt close = pos 0 ∷ pos rouble ∷ pos 0 ∷ pos close ∷ pos 0 ∷ pos 
 
 -- ---- "Statics Z", "Earlier prices 1,000,000 unless given; s 20,000", tentative 600, id 7, last day 3
 
--- "Statics Z", but for the lot
+-- "Statics Z", but for the lot; of W-210's three, which Z does not have, u_evening is twice u, and the evening has two
+-- moves
 unfoldable pub givenWith : (lot : ℕ) → GivenStatics
 givenWith lot =
     record {
@@ -268,6 +295,9 @@ givenWith lot =
       u = 60;
       monitoring = 1;
       ewma = 1;
+      uevening = 120;
+      autochange = 1;
+      eveningmax = 2;
     }
 
 -- "Earlier prices 1,000,000 unless given; s 20,000"; tentative 600
@@ -286,6 +316,8 @@ zNumbers =
     ∷ pos 200 ∷ pos 25 ∷ pos 2000 ∷ pos 2000 ∷ pos 1000 ∷ pos 60
     -- Monitoring, isEWMA
     ∷ pos 1 ∷ pos 1
+    -- u_evening, Autochange, the evening maximum (W-210)
+    ∷ pos 120 ∷ pos 1 ∷ pos 2
     -- id, day, p1, p2, s, tentative
     ∷ pos 7 ∷ pos 3 ∷ pos 1000000 ∷ pos 1000000 ∷ pos 20000 ∷ pos 600
     ∷ []
@@ -293,7 +325,7 @@ zNumbers =
 -- the record of Z once it is admitted, but for its rates, which are 0 here
 unfoldable pub zRecord : List ℤ
 unfolding zNumbers
-zRecord = zNumbers ++ replicate 35 (pos 0)
+zRecord = zNumbers ++ replicate 36 (pos 0)
 
 -- the numbers spell the admission of the starred cases
 pub z-is-Z : admissionFrom zNumbers ≡ admissionZ

@@ -1,5 +1,5 @@
--- Document 01, "Units and ranges", with W-208's tentative rate: what is in range and on the grid, and what a sound
--- record is. Assumes nothing.
+-- Document 01, "Units and ranges", with W-208's tentative rate and W-210's session: what is in range and on the grid,
+-- and what a sound record is. Assumes nothing.
 use mathlib.Core.Bool.{Bool, true, false, _&&_, _||_}
 use mathlib.Core.List.{List, [], _∷_}
 use Prim.Native.Nat.{ℕ, zero, suc, _+_, _*_, _/_, _%_}
@@ -20,6 +20,8 @@ use Rattle.paper.specs.declared.Statics.{Statics}
 use Rattle.paper.specs.declared.GivenStatics.{GivenStatics}
 use Rattle.paper.specs.declared.Standing.{Standing}
 use Rattle.paper.specs.declared.Standing.the-variants.{Admitted, Live}
+use Rattle.paper.specs.declared.Session.{Session}
+use Rattle.paper.specs.declared.Session.the-variants.{Main, Evening}
 use Rattle.paper.specs.declared.Side.{Side}
 use Rattle.paper.specs.declared.Side.the-variants.{Upper, Lower}
 use Rattle.paper.specs.declared.Near.{Near}
@@ -33,7 +35,7 @@ use Rattle.paper.specs.declared.Day.{Day}
 use Rattle.paper.specs.declared.Row.{Row}
 use Rattle.paper.specs.declared.Quote.{Quote}
 use Rattle.paper.specs.Lists.{pick, allThree, every}
-use Rattle.paper.specs.Numbers.{priceLeast, priceMost, rateMost, volatilityMost, tentativeMost, lotMost, stepMost, multiplierLeast, multiplierMost, weightMost, waitMost, firstDaysMost, daysMost, liquidityMost, divisorLeast, divisorMost, shiftMost, nearnessMost, secondsMost, idMost, dayMost, ageMost, limitMost, movesMost, secondLast, slotsMost, behindMost, aheadMost, termDaysMost, repoLeast, repoMost, rowNumbers, allNumbersMost, rowTermMost, centralMost, volumeMost, termLast, quoteMost, pastEvery}
+use Rattle.paper.specs.Numbers.{priceLeast, priceMost, rateMost, volatilityMost, tentativeMost, lotMost, stepMost, multiplierLeast, multiplierMost, weightMost, waitMost, firstDaysMost, daysMost, liquidityMost, divisorLeast, divisorMost, shiftMost, nearnessMost, secondsMost, eveningMovesMost, idMost, dayMost, ageMost, limitMost, movesMost, secondLast, slotsMost, behindMost, aheadMost, termDaysMost, repoLeast, repoMost, rowNumbers, allNumbersMost, rowTermMost, centralMost, volumeMost, termLast, quoteMost, pastEvery}
 use Rattle.paper.specs.Roundings.{up}
 
 -- "low..high"
@@ -114,6 +116,8 @@ validStatics st =
     && leb (st .pclmax) rateMost
     && leb (st .w) nearnessMost
     && within 1 secondsMost (st .u)
+    && within 1 secondsMost (st .uevening)
+    && leb (st .eveningmax) eveningMovesMost
 
 -- the statics that are given as numbers: "yes 1, no 0"
 unfoldable pub staticsOf : GivenStatics → Statics
@@ -141,10 +145,13 @@ staticsOf g =
       u = g .u;
       monitoring = eqb (g .monitoring) 1;
       ewma = eqb (g .ewma) 1;
+      uevening = g .uevening;
+      autochange = eqb (g .autochange) 1;
+      eveningmax = g .eveningmax;
     }
 
 unfoldable pub validGiven : GivenStatics → Bool
-validGiven g = validStatics (staticsOf g) && leb (g .monitoring) 1 && leb (g .ewma) 1
+validGiven g = validStatics (staticsOf g) && leb (g .monitoring) 1 && leb (g .ewma) 1 && leb (g .autochange) 1
 
 -- ---- the tentative rate
 
@@ -320,6 +327,11 @@ validNear (Since second) = leb second secondLast
 unfoldable pub validNearSeconds : NearSeconds → Bool
 validNearSeconds n = validNear (n .top) && validNear (n .bottom)
 
+-- W-210: "its session: main, or evening with the evening moves made", which the evening maximum's range holds
+unfoldable pub validSession : Session → Bool
+validSession Main = true
+validSession (Evening made) = leb made eveningMovesMost
+
 -- a record's id, its statics, the figures that an admission gives too, and the age
 abbrev pub soundFigures : Record → Bool
 soundFigures r =
@@ -342,6 +354,7 @@ sound r =
     && leb (r .moves .lower) movesMost
     && allThree (λ k. validNearSeconds (getD (r .near) k notNear))
     && leb (r .second) secondLast
+    && validSession (r .session)
 
 -- "1 to 512 slots"
 unfoldable pub validSlots : (count : ℕ) → Bool

@@ -158,6 +158,9 @@ pub struct Statics {
     pub u: u64, // seconds, 1 to 3,600
     pub monitoring: bool, // yes or no
     pub ewma: bool, // yes or no
+    pub uevening: u64, // seconds, 1 to 3,600: u in the evening (W-210)
+    pub autochange: bool, // yes or no
+    pub eveningmax: u64, // evening moves, 0 to 10
 }
 
 impl Statics {
@@ -188,6 +191,8 @@ impl Statics {
     pub const NEARNESS_MOST: u64 = 5_000;
 
     pub const SECONDS_MOST: u64 = 3_600;
+
+    pub const EVENING_MOVES_MOST: u64 = 10;
 }
 
 // The statics as they are given: the same numbers, with yes as 1 and no as 0.
@@ -214,12 +219,21 @@ pub struct GivenStatics {
     pub u: u64,
     pub monitoring: u64,
     pub ewma: u64,
+    pub uevening: u64,
+    pub autochange: u64,
+    pub eveningmax: u64,
 }
 
 // "A record has a standing: admitted only, or live with its day number." Either holds the last day.
 pub enum Standing {
     Admitted(u64),
     Live(u64),
+}
+
+// "A record carries its session: main, or evening with the evening moves made" (W-210).
+pub enum Session {
+    Main,
+    Evening(u64),
 }
 
 // W-209, "The shared rounding rule now says which way it goes": to the whole number that is not above, to the nearest
@@ -306,6 +320,7 @@ pub struct Record {
     pub moves: Moves,
     pub near: [NearSeconds; Record::TERMS],
     pub second: u64,
+    pub session: Session,
 }
 
 impl Record {
@@ -421,6 +436,8 @@ pub enum Verdict {
     BadLine,
     RowCrossed,
     NoFaceValue,
+    NoEveningMove,
+    OpenedTwice,
 }
 
 impl Verdict {
@@ -447,6 +464,8 @@ impl Verdict {
             Verdict::BadLine => 15,
             Verdict::RowCrossed => 16,
             Verdict::NoFaceValue => 17,
+            Verdict::NoEveningMove => 18,
+            Verdict::OpenedTwice => 19,
         }
     }
 

@@ -33,8 +33,8 @@ use Rattle.paper_bonds.specs.BondNumbers.{netMost, moneyMost, flowNumber
 
 -- ---- the statics
 
--- a bond's statics among the shares': no rule of a bond reads the lot, the weights, shift, w or u, which stand at the
--- least of their ranges
+-- a bond's statics among the shares': no rule of a bond reads the lot, the weights, shift, w, u or what the evening has
+-- of its own, which stand at the least of their ranges
 unfoldable pub givenOf : BondStatics → GivenStatics
 givenOf g =
     record {
@@ -60,6 +60,9 @@ givenOf g =
       u = 1;
       monitoring = g .monitoring;
       ewma = g .ewma;
+      uevening = 1;
+      autochange = 0;
+      eveningmax = 0;
     }
 
 abbrev pub bondStatics : Bond → Statics

@@ -18,7 +18,7 @@ use Rattle.paper.specs.Lists.{pick, three, every, some, those}
 use Rattle.paper.specs.Numbers.{millionthsInBp}
 use Rattle.paper.specs.Roundings.{down, up, halfUp, toGrid, lesserOf, greaterOf, grown, apart}
 use Rattle.paper.specs.Least.{first, least, leastRoot, leastTimes, leastMultiple}
-use Rattle.paper.specs.Ranges.{isPrice, isRate, isGridPrice, validStatics, tentativeTop, validTentative, validRow, wholeRows, validRows, validTerm, validDay, lastDay, isLimit, validLimits, validNear, validNearSeconds, sound, validSlots, gridOf, staticsOf, rowAt, partsFrom, rowsOf, rowOf, unsigned, noTerm, noLimits, rateAt}
+use Rattle.paper.specs.Ranges.{isPrice, isRate, isGridPrice, validStatics, tentativeTop, validTentative, validRow, wholeRows, validRows, validTerm, validDay, lastDay, isLimit, validLimits, validNear, validNearSeconds, validSession, sound, validSlots, gridOf, staticsOf, rowAt, partsFrom, rowsOf, rowOf, unsigned, noTerm, noLimits, rateAt}
 use Rattle.paper_desk.specs.Evaluation.{rowPrice, rowWeight, roublesOf, traded, weights, worth, mean, closeOf, bestBid, lesserAsk, bestAsk, median, between, evaluationOf, dayRows, isCrossedRow, hasCrossedRow, rowFits, evaluationFits}
 use Rattle.paper_desk.specs.Rates.{modelOf, moveFrom, moveOf, weightOf, weighted, replacement, replaces, volatilityOf, leastStep, tentativeRate, tentativeRateByMove, tentativeRateOf, tentativeAfter, meetsRequirement, daysOf, minimumOf, covers, levelRate, modelled, unmodelled, figuresOf, moveTooLarge}
 use Rattle.paper_desk.specs.Limits.{limitOf, shifted, rangeLimit, rangeOf, farthest, spread, monitored, narrower, bandLimit, bandOf, crossed, deltaOf, oneMore, rangeMoved, bandMoved}
@@ -73,10 +73,10 @@ rows11 close = roublesRow close 1010000 0 1 (roublesRow 0 0 1000000 0 [])
 
 -- the number that an evaluation of rows gets, once Z is admitted
 dayAnswer : (rows : List ℤ) → ℕ
-unfolding after step judged firstOf isDone checksOf evaluateChecks acceptedOf saying showing known found stands place
-    validSlots sound validStatics isGridPrice isPrice isRate validTentative isLimit validLimits validNear
-    validNearSeconds lastDay validDay validTerm validRows wholeRows validRow every some isCrossedRow hasCrossedRow
-    evaluationFits rowFits moveTooLarge crossed
+unfolding after step judged firstOf isDone checksOf evaluateChecks acceptedOf saying showing known found stands
+    place validSlots sound validStatics isGridPrice isPrice isRate validTentative isLimit validLimits validNear
+    validNearSeconds validSession lastDay validDay validTerm validRows wholeRows validRow every some isCrossedRow
+    hasCrossedRow evaluationFits rowFits moveTooLarge crossed
 dayAnswer rows = numberOf (step (evaluate 7 (dayWith 0 noTerm) rows) (admitted admissionZ ∷ []) .answer .verdict)
 
 -- what the definitions give

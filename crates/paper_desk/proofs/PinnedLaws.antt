@@ -13,6 +13,7 @@ use lib.ListN.{length, getD, set}
 use lib.Seq.{getD-set-other}
 use borrow.Author.Tests.{eqb-false, le-leb, lt-leb}
 use Rattle.paper.specs.declared.Standing.the-variants.{Live}
+use Rattle.paper.specs.declared.Session.the-variants.{Main, Evening}
 use Rattle.paper.specs.declared.Side.{Side}
 use Rattle.paper.specs.declared.Side.the-variants.{Upper, Lower}
 use Rattle.paper.specs.declared.Limits.{Limits}
@@ -29,8 +30,9 @@ use Rattle.paper.specs.Lists.{pick, three}
 use Rattle.paper.specs.Ranges.{noLimits, notNear, termAt, sideOf, validSlots, sound, rateAt}
 use Rattle.paper_desk.specs.Limits.{bandLimit, bandOf, oneMore, countOf, rangeMoved, bandMoved}
 use Rattle.paper_desk.specs.Alerts.{isNear, keptSince, nearAfter, alert, nearCleared}
+use Rattle.paper_desk.specs.Evening.{sessionMoved}
 use Rattle.paper.specs.Verdicts.{numberOf, isDone, firstOf, FirstAt, here, NoneApplies, also}
-use Rattle.paper_desk.specs.Desk.{blank, saying, showing, alerting, alertsOn, evaluated, priceOn, quoted, moved, place, stands, found, known, Call, admit, evaluate, quote, move, read, idOf, checksOf, admitChecks, evaluateChecks, quoteChecks, moveChecks, readChecks, Outcome, judged, acceptedOf, step}
+use Rattle.paper_desk.specs.Desk.{blank, saying, showing, alerting, alertsOn, evaluated, priceOn, quoted, moved, eveningOpened, place, stands, found, known, Call, admit, evaluate, quote, move, read, openEvening, idOf, checksOf, admitChecks, evaluateChecks, quoteChecks, moveChecks, readChecks, openChecks, Outcome, judged, acceptedOf, step}
 use Rattle.paper.specs.PinnedValues.{recordFrom}
 use Rattle.paper_desk.specs.PinnedSequence.{blank-is-zero}
 use Rattle.paper_desk.specs.History.{isAdmission}
@@ -90,16 +92,17 @@ pub one-quote-one-term : (r : Record) (q : Quote) (k : ℕ) → k ≢ q .term
 unfolding quoted
 one-quote-one-term r q k n = getD-set-other (r .near) (q .term) k _ notNear n
 
--- a quote leaves the limits, the counts and the standing, and its second is the last
+-- a quote leaves the limits, the counts, the standing and the session, and its second is the last
 pub quote-leaves : (r : Record) (q : Quote)
     → (quoted r q .ranges ≡ r .ranges)
     × (quoted r q .terms ≡ r .terms)
     × (quoted r q .bands ≡ r .bands)
     × (quoted r q .moves ≡ r .moves)
     × (quoted r q .standing ≡ r .standing)
+    × (quoted r q .session ≡ r .session)
     × (quoted r q .second ≡ q .second)
 unfolding quoted
-quote-leaves r q = (refl, refl, refl, refl, refl, refl)
+quote-leaves r q = (refl, refl, refl, refl, refl, refl, refl)
 
 -- ---- moves
 
@@ -201,6 +204,42 @@ pub move-leaves : (r : Record) (side : Side)
 unfolding moved
 move-leaves r side = (refl, refl, refl, refl, refl)
 
+-- W-210: "the evening moves made" are one more after a move of either side, and in main there are none
+pub evening-move-counts : (r : Record) (side : Side) (made : ℕ) → r .session ≡ Evening made
+    → moved r side .session ≡ Evening (made + 1)
+unfolding moved sessionMoved
+evening-move-counts r side made e = rw e
+
+pub main-move-stays : (r : Record) (side : Side) → r .session ≡ Main → moved r side .session ≡ Main
+unfolding moved sessionMoved
+main-move-stays r side e = rw e
+
+-- ---- the opening of the evening
+
+-- W-210: "Opening the evening clears the near seconds", and no evening move is made yet
+pub opening-clears : (r : Record)
+    → (eveningOpened r .near ≡ three (λ k. notNear)) × (eveningOpened r .session ≡ Evening 0)
+unfolding eveningOpened
+opening-clears r = (refl, refl)
+
+-- "and keeps c", "The evening keeps the main session's limits (11.3)": it leaves everything else
+pub opening-leaves : (r : Record)
+    → (eveningOpened r .moves ≡ r .moves)
+    × (eveningOpened r .ranges ≡ r .ranges)
+    × (eveningOpened r .bands ≡ r .bands)
+    × (eveningOpened r .terms ≡ r .terms)
+    × (eveningOpened r .rates ≡ r .rates)
+    × (eveningOpened r .second ≡ r .second)
+    × (eveningOpened r .id ≡ r .id)
+    × (eveningOpened r .statics ≡ r .statics)
+    × (eveningOpened r .standing ≡ r .standing)
+    × (eveningOpened r .p1 ≡ r .p1)
+    × (eveningOpened r .p2 ≡ r .p2)
+    × (eveningOpened r .s ≡ r .s)
+    × (eveningOpened r .tentative ≡ r .tentative)
+unfolding eveningOpened
+opening-leaves r = (refl, refl, refl, refl, refl, refl, refl, refl, refl, refl, refl, refl, refl)
+
 -- ---- evaluations
 
 -- "An evaluation clears both counts, all near seconds and the last quote second (to 0)."
@@ -211,6 +250,11 @@ pub evaluation-clears : (r : Record) (d : Day) (rows : List ℤ)
     × (evaluated r d rows .second ≡ 0)
 unfolding evaluated
 evaluation-clears r d rows = (refl, refl, refl, refl)
+
+-- W-210: "An evaluation puts the record back in main."
+pub evaluation-in-main : (r : Record) (d : Day) (rows : List ℤ) → evaluated r d rows .session ≡ Main
+unfolding evaluated
+evaluation-in-main r d rows = refl
 
 -- "live with its day number", and "the two latest evaluations" are then this one and the one before it
 pub evaluation-is-latest : (r : Record) (d : Day) (rows : List ℤ)
@@ -225,7 +269,7 @@ evaluation-is-latest r d rows = (refl, refl, refl)
 -- a security that is not known is refused with 1 whatever else holds
 pub unknown-refused : (c : Call) (t : List Record) → isAdmission c ≡ false → known t (idOf c) ≡ false
     → step c t .answer .verdict ≡ NoSuchId
-unfolding checksOf evaluateChecks quoteChecks moveChecks readChecks
+unfolding checksOf evaluateChecks quoteChecks moveChecks readChecks openChecks
 unknown-refused c t looks e = refused-always c t NoSuchId (first c looks e)
   where
     first : (c : Call) → isAdmission c ≡ false → known t (idOf c) ≡ false → FirstAt NoSuchId (checksOf c t)
@@ -234,6 +278,7 @@ unknown-refused c t looks e = refused-always c t NoSuchId (first c looks e)
     first (quote id q) looks e = here refl (ap not e)
     first (move id side) looks e = here refl (ap not e)
     first (read id) looks e = here refl (ap not e)
+    first (openEvening id) looks e = here refl (ap not e)
 
 -- "Where an id stands in several slots the first alone counts": no slot before it has the id
 pub none-before-first : (t : List Record) (id i : ℕ) → i < place t id → getD t i blank .id ≡ id → ⊥
@@ -268,6 +313,7 @@ bad-table-refused c t s = go c
     go (quote id q) = ap numberOf (unknown-refused (quote id q) t refl (unknown id))
     go (move id side) = ap numberOf (unknown-refused (move id side) t refl (unknown id))
     go (read id) = ap numberOf (unknown-refused (read id) t refl (unknown id))
+    go (openEvening id) = ap numberOf (unknown-refused (openEvening id) t refl (unknown id))
 
 pub no-slots-invalid : (t : List Record) → length t ≡ 0 → validSlots (length t) ≡ false
 unfolding validSlots
@@ -303,7 +349,7 @@ refused-zero c t e =
 -- "Accepted evaluations, moves and reads return the record as it then stands"
 pub shown-stands : (c : Call) (t : List Record) → shows c ≡ true → isDone (step c t .answer .verdict) ≡ true
     → found (step c t .table) (idOf c) ≡ step c t .answer .rec
-unfolding acceptedOf showing checksOf evaluateChecks moveChecks evaluated moved
+unfolding acceptedOf showing checksOf evaluateChecks moveChecks openChecks evaluated moved eveningOpened
 shown-stands c t s e =
     let done : isDone (firstOf (checksOf c t)) ≡ true = ap isDone (sym (verdict-first c t)) ∙ e in
     rw (accepted-step c t done) (accepted c s (accepted-only c t e))
@@ -317,6 +363,8 @@ shown-stands c t s e =
     accepted (move id side) s (also q w) =
         found-stored t id (moved (found t id) (sideOf side)) (known-stands t id (not-false (known t id) q)) refl
     accepted (read id) s w = refl
+    accepted (openEvening id) s (also q w) =
+        found-stored t id (eveningOpened (found t id)) (known-stands t id (not-false (known t id) q)) refl
 
 -- "a quote its two alerts, an admission the number 0 alone": neither shows a record
 pub no-record-shown : (c : Call) (t : List Record) → shows c ≡ false → step c t .answer .rec ≡ recordFrom []
@@ -332,6 +380,7 @@ no-record-shown c t s = go c s (firstOf (checksOf c t)) (isDone (firstOf (checks
     go (quote id q) s v false = refl
     go (move id side) s v b = absurd (let z : _≡_ {A = ℕ} 0 1 = cc in omega arith)
     go (read id) s v b = absurd (let z : _≡_ {A = ℕ} 0 1 = cc in omega arith)
+    go (openEvening id) s v b = absurd (let z : _≡_ {A = ℕ} 0 1 = cc in omega arith)
 
 -- an admission gives no alert either
 pub admission-number-alone : (a : Admission) (t : List Record)

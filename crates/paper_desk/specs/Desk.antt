@@ -1,4 +1,4 @@
--- Document 01, "What the desk covers" and "Numbers a member may see": the five calls over the table, and sequences of
+-- Document 01, "What the desk covers" and "Numbers a member may see": the calls over the table, and sequences of
 -- them. Assumes nothing.
 use mathlib.Core.Bool.{Bool, true, false, not, _&&_, _||_}
 use mathlib.Core.List.{List, [], _∷_}
@@ -10,6 +10,8 @@ use Rattle.paper.specs.declared.Statics.{Statics}
 use Rattle.paper.specs.declared.Tentative.{Tentative}
 use Rattle.paper.specs.declared.Standing.{Standing}
 use Rattle.paper.specs.declared.Standing.the-variants.{Admitted, Live}
+use Rattle.paper.specs.declared.Session.{Session}
+use Rattle.paper.specs.declared.Session.the-variants.{Main, Evening}
 use Rattle.paper.specs.declared.Side.{Side}
 use Rattle.paper.specs.declared.Side.the-variants.{Upper, Lower}
 use Rattle.paper.specs.declared.Moves.{Moves}
@@ -22,7 +24,7 @@ use Rattle.paper.specs.declared.Day.{Day}
 use Rattle.paper.specs.declared.Quote.{Quote}
 use Rattle.paper.specs.declared.Answer.{Answer}
 use Rattle.paper.specs.declared.Verdict.{Verdict}
-use Rattle.paper.specs.declared.Verdict.the-variants.{Done, NoSuchId, AlreadyAdmitted, NoEmptySlot, AdmissionOutOfRange, DayNotAfter, OutOfRange, PriceOutOfRange, MoveTooLarge, BandCrossed, NotLive, NotMonitored, MovesUsedUp, SecondEarlier, RowCrossed}
+use Rattle.paper.specs.declared.Verdict.the-variants.{Done, NoSuchId, AlreadyAdmitted, NoEmptySlot, AdmissionOutOfRange, DayNotAfter, OutOfRange, PriceOutOfRange, MoveTooLarge, BandCrossed, NotLive, NotMonitored, MovesUsedUp, SecondEarlier, RowCrossed, NoEveningMove, OpenedTwice}
 use Rattle.paper.specs.Lists.{pick, three, forLevels, allThree, every}
 use Rattle.paper.specs.Numbers.{movesMost}
 use Rattle.paper.specs.Ranges.{gridOf, staticsOf, validAdmission, validDay, validQuote, validSide, sideOf, isLive, lastDay, sound, validSlots, noRate, noLimits, notNear, noTerm, termAt, rateAt}
@@ -31,6 +33,7 @@ use Rattle.paper.specs.declared.Figures.{Figures}
 use Rattle.paper_desk.specs.Rates.{moveOf, minimumOf, figuresOf, moveTooLarge}
 use Rattle.paper_desk.specs.Limits.{rangeOf, bandOf, crossed, deltaOf, oneMore, countOf, rangeMoved, bandMoved}
 use Rattle.paper_desk.specs.Alerts.{isNear, nearAfter, alert, nearCleared}
+use Rattle.paper_desk.specs.Evening.{isEvening, alertSeconds, moveAllowed, sessionMoved}
 use Rattle.paper.specs.Verdicts.{isDone, Check, firstOf}
 
 -- ---- records and answers
@@ -63,9 +66,12 @@ noStatics =
       u = 0;
       monitoring = false;
       ewma = false;
+      uevening = 0;
+      autochange = false;
+      eveningmax = 0;
     }
 
--- "all figures 0 (flags no, nothing near, admitted only)"
+-- "all figures 0 (flags no, nothing near, admitted only)", in the main session
 unfoldable pub blank : Record
 blank =
     record {
@@ -83,13 +89,15 @@ blank =
       moves = noMoves;
       near = three (λ k. notNear);
       second = 0;
+      session = Main;
     }
 
 -- "A refusal returns its number with all figures 0"; "an admission the number 0 alone"
 unfoldable pub saying : Verdict → Answer
 saying v = record { verdict = v; rec = blank; top = false; bottom = false }
 
--- "Accepted evaluations, moves and reads return the record as it then stands"
+-- "Accepted evaluations, moves and reads return the record as it then stands"; W-210: "An accepted opening returns the
+-- record."
 unfoldable pub showing : Record → Answer
 showing r = record { verdict = Done; rec = r; top = false; bottom = false }
 
@@ -118,6 +126,7 @@ admitted a =
       moves = noMoves;
       near = three (λ k. notNear);
       second = 0;
+      session = Main;
     }
 
 -- the evaluation P of a day, the move r to it, and the figures of 7.1
@@ -131,7 +140,8 @@ unfoldable pub figuresOn : Record → Day → (rows : List ℤ) → Figures
 figuresOn r d rows =
     figuresOf (r .statics) (d .b) (d .m) (rateAt (r .rates) 0) (moveOn r rows) (r .s) (r .tentative)
 
--- "An evaluation clears both counts, all near seconds and the last quote second (to 0)." The security is then live
+-- "An evaluation clears both counts, all near seconds and the last quote second (to 0)." The security is then live;
+-- W-210: "An evaluation puts the record back in main."
 unfoldable pub evaluated : Record → Day → (rows : List ℤ) → Record
 evaluated r d rows =
     let f : Figures = figuresOn r d rows in
@@ -151,6 +161,7 @@ evaluated r d rows =
       moves = noMoves;
       near = three (λ k. notNear);
       second = 0;
+      session = Main;
     }
 
 -- "One quote touches one term only."
@@ -180,13 +191,15 @@ quoted r q =
       moves = r .moves;
       near = set (r .near) (q .term) (nearOn r q);
       second = q .second;
+      session = r .session;
     }
 
--- "The answer has two yes/no alerts, one for the top and one for the bottom"
+-- "The answer has two yes/no alerts, one for the top and one for the bottom"; W-210: in the evening by "its own seconds
+-- u"
 unfoldable pub alertsOn : Record → Quote → Answer
 alertsOn r q =
-    alerting (alert (r .statics .u) (nearOn r q .top) (q .second))
-    (alert (r .statics .u) (nearOn r q .bottom) (q .second))
+    let u : ℕ = alertSeconds (r .statics) (r .session) in
+    alerting (alert u (nearOn r q .top) (q .second)) (alert u (nearOn r q .bottom) (q .second))
 
 -- "It adds one to c, remakes that side's three band limits, and shifts its three range limits by delta. It clears that
 -- side's near seconds in all terms."
@@ -211,6 +224,29 @@ moved r side =
       moves = c;
       near = three (λ k. nearCleared side (getD (r .near) k notNear));
       second = r .second;
+      session = sessionMoved (r .session);
+    }
+
+-- W-210: "Opening the evening clears the near seconds and keeps c"; "The evening keeps the main session's limits
+-- (11.3)"
+unfoldable pub eveningOpened : Record → Record
+eveningOpened r =
+    record {
+      id = r .id;
+      statics = r .statics;
+      standing = r .standing;
+      p1 = r .p1;
+      p2 = r .p2;
+      s = r .s;
+      tentative = r .tentative;
+      rates = r .rates;
+      ranges = r .ranges;
+      terms = r .terms;
+      bands = r .bands;
+      moves = r .moves;  -- "keeps c"
+      near = three (λ k. notNear);
+      second = r .second;
+      session = Evening 0;
     }
 
 -- ---- the table
@@ -239,6 +275,7 @@ pub data Call : Type 0 where
   quote : (id : ℕ) → Quote → Call
   move : (id : ℕ) → (side : ℕ) → Call
   read : (id : ℕ) → Call
+  openEvening : (id : ℕ) → Call
 
 -- the id that a call is about
 abbrev pub idOf : Call → ℕ
@@ -247,6 +284,7 @@ idOf (evaluate id d rows) = id
 idOf (quote id q) = id
 idOf (move id side) = id
 idOf (read id) = id
+idOf (openEvening id) = id
 
 -- "admit 4, 2, 3"
 unfoldable pub admitChecks : List Record → Admission → List Check
@@ -286,13 +324,14 @@ quoteChecks there r q =
     ∷ record { verdict = SecondEarlier; applies = ltb (q .second) (r .second) }
     ∷ []
 
--- "move 1, 6, 10, 11, 12"
+-- "move 1, 6, 10, 11, 12"; W-210: "18, evening moves not allowed or used up, after 11 and before 12"
 unfoldable pub moveChecks : (there : Bool) → Record → (side : ℕ) → List Check
 moveChecks there r side =
     record { verdict = NoSuchId; applies = not there }
     ∷ record { verdict = OutOfRange; applies = not (validSide side) }
     ∷ record { verdict = NotLive; applies = not (isLive (r .standing)) }
     ∷ record { verdict = NotMonitored; applies = not (r .statics .monitoring) }
+    ∷ record { verdict = NoEveningMove; applies = not (moveAllowed (r .statics) (r .session)) }
     ∷ record { verdict = MovesUsedUp; applies = eqb (countOf (sideOf side) (r .moves)) movesMost }
     ∷ []
 
@@ -300,12 +339,21 @@ moveChecks there r side =
 unfoldable pub readChecks : (there : Bool) → List Check
 readChecks there = record { verdict = NoSuchId; applies = not there } ∷ []
 
+-- W-210, the opening: 1 and 10 as in document 01; "19, evening opened twice, after 10"
+unfoldable pub openChecks : (there : Bool) → Record → List Check
+openChecks there r =
+    record { verdict = NoSuchId; applies = not there }
+    ∷ record { verdict = NotLive; applies = not (isLive (r .standing)) }
+    ∷ record { verdict = OpenedTwice; applies = isEvening (r .session) }
+    ∷ []
+
 unfoldable pub checksOf : Call → List Record → List Check
 checksOf (admit a) t = admitChecks t a
 checksOf (evaluate id d rows) t = evaluateChecks (known t id) (found t id) d rows
 checksOf (quote id q) t = quoteChecks (known t id) (found t id) q
 checksOf (move id side) t = moveChecks (known t id) (found t id) side
 checksOf (read id) t = readChecks (known t id)
+checksOf (openEvening id) t = openChecks (known t id) (found t id)
 
 -- ---- what a call answers, and the table after it
 
@@ -335,6 +383,12 @@ acceptedOf (move id side) t =
           set t (place t id) (moved (found t id) (sideOf side));
     }
 acceptedOf (read id) t = record { answer = showing (found t id); table = t }
+acceptedOf (openEvening id) t =
+    record {
+      answer = showing (eveningOpened (found t id));
+      table =
+          set t (place t id) (eveningOpened (found t id));
+    }
 
 -- one call
 unfoldable pub step : Call → List Record → Outcome

@@ -16,7 +16,8 @@ use Rattle.paper_desk.specs.Rates.{levelRate, minimumOf}
 use Rattle.paper_desk.specs.Limits.{rangeLimit, bandLimit}
 use Rattle.paper.specs.Verdicts.{numberOf, isDone, Check, firstOf}
 
--- the statics as the gateway hands them over: 22 signed numbers, by the names of document 01's table
+-- the statics as the gateway hands them over: 25 signed numbers, by the names of document 01's table and of
+-- W-210
 pub record GatewayStatics : Type 0 where
   pub lot : ℤ
   pub h : ℤ
@@ -40,6 +41,9 @@ pub record GatewayStatics : Type 0 where
   pub u : ℤ
   pub monitoring : ℤ
   pub ewma : ℤ
+  pub uevening : ℤ
+  pub autochange : ℤ
+  pub eveningmax : ℤ
 
 unfoldable pub givenOf : GatewayStatics → GivenStatics
 givenOf x =
@@ -66,6 +70,9 @@ givenOf x =
       u = unsigned (x .u);
       monitoring = unsigned (x .monitoring);
       ewma = unsigned (x .ewma);
+      uevening = unsigned (x .uevening);
+      autochange = unsigned (x .autochange);
+      eveningmax = unsigned (x .eveningmax);
     }
 
 -- "gateway 4 (a static out of range), 6 (another value out of range or off the grid)"

@@ -14,7 +14,7 @@ use Rattle.paper.specs.declared.Quote.{Quote}
 use Rattle.paper.specs.Lists.{pick}
 use Rattle.paper.specs.Ranges.{validSlots, sideOf}
 use Rattle.paper.specs.Verdicts.{isDone}
-use Rattle.paper_desk.specs.Desk.{Call, admit, evaluate, quote, move, read, idOf, step, fresh}
+use Rattle.paper_desk.specs.Desk.{Call, admit, evaluate, quote, move, read, openEvening, idOf, step, fresh}
 
 -- "1 to 512 slots" and "A fresh table has every slot empty."
 pub record FreshTable (t : List Record) : Type 0 where
@@ -23,11 +23,13 @@ pub record FreshTable (t : List Record) : Type 0 where
 
 -- ---- the history of a security, from the calls and their numbers alone
 
--- an accepted call that writes: an evaluation with its day and rows, a quote, or a move of a side
+-- an accepted call that writes: an evaluation with its day and rows, a quote, a move of a side, or the opening of the
+-- evening
 pub data Event : Type 0 where
   evaluatedOn : Day → List ℤ → Event
   quotedAt : Quote → Event
   movedBy : Side → Event
+  opening : Event
 
 -- not admitted, or admitted so, with its accepted calls, the latest first
 pub data History : Type 0 where
@@ -49,6 +51,7 @@ noted id (evaluate i d rows) t h = pick (counts id (evaluate i d rows) t) (longe
 noted id (quote i q) t h = pick (counts id (quote i q) t) (longer h (quotedAt q)) h
 noted id (move i side) t h = pick (counts id (move i side) t) (longer h (movedBy (sideOf side))) h
 noted id (read i) t h = h
+noted id (openEvening i) t h = pick (counts id (openEvening i) t) (longer h opening) h
 
 -- the history of one id after a sequence of calls more
 unfoldable pub history : (id : ℕ) → List Call → List Record → History → History
@@ -69,6 +72,7 @@ isAdmission (evaluate i d rows) = false
 isAdmission (quote i q) = false
 isAdmission (move i side) = false
 isAdmission (read i) = false
+isAdmission (openEvening i) = false
 
 -- the number of accepted evaluations
 unfoldable pub evaluations : List Event → ℕ
@@ -76,3 +80,4 @@ evaluations [] = 0
 evaluations (evaluatedOn d rows ∷ es) = suc (evaluations es)
 evaluations (quotedAt q ∷ es) = evaluations es
 evaluations (movedBy side ∷ es) = evaluations es
+evaluations (opening ∷ es) = evaluations es

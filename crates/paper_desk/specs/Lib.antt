@@ -2,6 +2,7 @@ pub mod Evaluation
 pub mod Rates
 pub mod Limits
 pub mod Alerts
+pub mod Evening
 pub mod Desk
 pub mod Gateway
 pub mod History
@@ -14,6 +15,7 @@ pub mod PinnedSequence
 pub mod PinnedErrors
 pub mod PinnedOrders
 pub mod PinnedSession
+pub mod PinnedEvening
 pub mod PinnedEvaluation
 pub mod PinnedReplacement
 pub mod PinnedExact

@@ -12,7 +12,7 @@ use Rattle.paper_desk.specs.PinnedSequence.{numbers}
 
 -- ---- "all statics with each, yes 1, no 0"
 
--- the statics handed over from a row of numbers in the order of document 01's table
+-- the statics handed over from a row of numbers in the order of document 01's table, with W-210's behind
 unfoldable pub gatewayStaticsFrom : (xs : List ℤ) → GatewayStatics
 gatewayStaticsFrom xs =
     record {
@@ -38,6 +38,9 @@ gatewayStaticsFrom xs =
       u = signed xs 19;
       monitoring = signed xs 20;
       ewma = signed xs 21;
+      uevening = signed xs 22;
+      autochange = signed xs 23;
+      eveningmax = signed xs 24;
     }
 
 -- each static is the number in its own place, whatever the numbers are

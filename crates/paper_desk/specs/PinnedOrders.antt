@@ -10,8 +10,8 @@ use Rattle.paper.specs.declared.Limits.{Limits}
 use Rattle.paper.specs.Lists.{those}
 use Rattle.paper_desk.specs.Limits.{crossed}
 use Rattle.paper.specs.Verdicts.{numberOf, Check}
-use Rattle.paper_desk.specs.Desk.{blank, Call, admit, evaluate, quote, move, read, checksOf, run}
-use Rattle.paper.specs.PinnedValues.{_but_, minimaAt, p1At, centralAt, rowBidAt, rowAskAt, volumeAt, aupAt, adownAt, liqAt, pchmaxAt, monitoringAt, ewmaAt, idAt, dayAt, sAt, tentativeAt, liveAt, ageAt, upperMovesAt, lowerMovesAt, secondAt, admissionFrom, recordFrom, dayFrom, quoteFrom, closedAt, zNumbers, zRecord, yesNo}
+use Rattle.paper_desk.specs.Desk.{blank, Call, admit, evaluate, quote, move, read, openEvening, checksOf, run}
+use Rattle.paper.specs.PinnedValues.{_but_, minimaAt, p1At, centralAt, rowBidAt, rowAskAt, volumeAt, aupAt, adownAt, liqAt, pchmaxAt, monitoringAt, ewmaAt, idAt, dayAt, sAt, tentativeAt, liveAt, ageAt, upperMovesAt, lowerMovesAt, secondAt, sessionAt, autochangeAt, admissionFrom, recordFrom, dayFrom, quoteFrom, closedAt, zNumbers, zRecord, yesNo}
 use Rattle.paper_desk.specs.PinnedSequence.{numbers}
 
 -- ---- "First that applies"
@@ -33,10 +33,12 @@ calm =
     zRecord but (pchmaxAt, pos 0) but (aupAt, pos 0) but (adownAt, pos 0) but (liqAt, pos 0) but (sAt, pos 0)
     but (tentativeAt, pos 0) but (liveAt, pos 1)
 
--- Z admitted only, Monitoring no, with a last quote second and all the moves of the lower side used up
+-- Z admitted only, Monitoring no, with a last quote second and all the moves of the lower side used up, in the evening
+-- with both moves of its maximum made
 idle : List ℤ
 unfolding zRecord
-idle = zRecord but (monitoringAt, pos 0) but (secondAt, pos 100) but (lowerMovesAt, pos 50)
+idle =
+    zRecord but (monitoringAt, pos 0) but (secondAt, pos 100) but (lowerMovesAt, pos 50) but (sessionAt, pos 3)
 
 -- a damaged record: its age is past every age
 damaged : (row : List ℤ) → List ℤ
@@ -89,13 +91,15 @@ orders =
     ∷ judgement (quoteAt 99 2) (holding (idle but (liveAt, pos 1)))
     ∷ judgement (quoteAt 99 2) (holding (idle but (liveAt, pos 1) but (monitoringAt, pos 1)))
     ∷ judgement (quoteAt 100 2) (holding (idle but (liveAt, pos 1) but (monitoringAt, pos 1)))
-    -- "move 1, 6, 10, 11, 12"
+    -- "move 1, 6, 10, 11, 12"; W-210: "18 .. after 11 and before 12"
     ∷ judgement (move 7 2) (holding (damaged idle))
     ∷ judgement (move 7 2) (holding idle)
     ∷ judgement (move 7 1) (holding idle)
     ∷ judgement (move 7 1) (holding (idle but (liveAt, pos 1)))
     ∷ judgement (move 7 1) (holding (idle but (liveAt, pos 1) but (monitoringAt, pos 1)))
-    ∷ judgement (move 7 1) (holding (idle but (liveAt, pos 1) but (monitoringAt, pos 1) but (lowerMovesAt, pos 49)))
+    ∷ judgement (move 7 1) (holding (idle but (liveAt, pos 1) but (monitoringAt, pos 1) but (sessionAt, pos 2)))
+    ∷ judgement (move 7 1)
+    (holding (idle but (liveAt, pos 1) but (monitoringAt, pos 1) but (sessionAt, pos 2) but (lowerMovesAt, pos 49)))
     -- "admit 4, 2, 3"
     ∷ judgement (admit (admissionFrom (zNumbers but (dayAt, pos 1000001)))) (holding idle)
     ∷ judgement (admit (admissionFrom zNumbers)) (holding idle)
@@ -104,6 +108,11 @@ orders =
     -- "read 1"
     ∷ judgement (read 7) (holding (damaged idle))
     ∷ judgement (read 7) (holding idle)
+    -- W-210, the opening: 1, 10, and "19 .. after 10"
+    ∷ judgement (openEvening 7) (holding (damaged idle))
+    ∷ judgement (openEvening 7) (holding idle)
+    ∷ judgement (openEvening 7) (holding (idle but (liveAt, pos 1)))
+    ∷ judgement (openEvening 7) (holding (idle but (liveAt, pos 1) but (sessionAt, pos 0)))
     ∷ []
 
 pub orders-are : orders
@@ -121,10 +130,11 @@ pub orders-are : orders
     ∷ (11 ∷ 11 ∷ 13 ∷ [])
     ∷ (13 ∷ 13 ∷ [])
     ∷ (0 ∷ [])
-    ∷ (1 ∷ 1 ∷ 6 ∷ 10 ∷ 11 ∷ 12 ∷ [])
-    ∷ (6 ∷ 6 ∷ 10 ∷ 11 ∷ 12 ∷ [])
-    ∷ (10 ∷ 10 ∷ 11 ∷ 12 ∷ [])
-    ∷ (11 ∷ 11 ∷ 12 ∷ [])
+    ∷ (1 ∷ 1 ∷ 6 ∷ 10 ∷ 11 ∷ 18 ∷ 12 ∷ [])
+    ∷ (6 ∷ 6 ∷ 10 ∷ 11 ∷ 18 ∷ 12 ∷ [])
+    ∷ (10 ∷ 10 ∷ 11 ∷ 18 ∷ 12 ∷ [])
+    ∷ (11 ∷ 11 ∷ 18 ∷ 12 ∷ [])
+    ∷ (18 ∷ 18 ∷ 12 ∷ [])
     ∷ (12 ∷ 12 ∷ [])
     ∷ (0 ∷ [])
     ∷ (4 ∷ 4 ∷ 2 ∷ 3 ∷ [])
@@ -132,6 +142,10 @@ pub orders-are : orders
     ∷ (3 ∷ 3 ∷ [])
     ∷ (0 ∷ [])
     ∷ (1 ∷ 1 ∷ [])
+    ∷ (0 ∷ [])
+    ∷ (1 ∷ 1 ∷ 10 ∷ 19 ∷ [])
+    ∷ (10 ∷ 10 ∷ 19 ∷ [])
+    ∷ (19 ∷ 19 ∷ [])
     ∷ (0 ∷ [])
     ∷ []
 unfolding orders
@@ -216,7 +230,15 @@ conditions =
     ∷ [])
     (holding plainZ)
     -- 1 "no such id (0 included)": another id, and 0 where a slot is empty
-    ∷ numbers (read 8 ∷ read 0 ∷ []) (holding plainZ ++ (blank ∷ []))
+    ∷ numbers (read 8 ∷ read 0 ∷ openEvening 8 ∷ openEvening 0 ∷ []) (holding plainZ ++ (blank ∷ []))
+    -- 18 "evening moves not allowed or used up": of two moves the second and a third; Autochange no, in the evening and
+    -- in main
+    ∷ (numbers (move 7 0 ∷ move 7 0 ∷ []) (holding (plainZ but (sessionAt, pos 2)))
+    ++ numbers (move 7 0 ∷ []) (holding (plainZ but (autochangeAt, pos 0) but (sessionAt, pos 1)))
+    ++ numbers (move 7 0 ∷ []) (holding (plainZ but (autochangeAt, pos 0))))
+    -- 19 "evening opened twice"; 10 "not live": admitted only
+    ∷ (numbers (openEvening 7 ∷ openEvening 7 ∷ []) (holding plainZ)
+    ++ numbers (openEvening 7 ∷ []) (holding (plainZ but (liveAt, pos 0))))
     ∷ []
 
 pub conditions-are : conditions
@@ -230,7 +252,9 @@ pub conditions-are : conditions
     ∷ (0 ∷ 9 ∷ 0 ∷ 9 ∷ 0 ∷ 9 ∷ [])
     ∷ (0 ∷ 12 ∷ 0 ∷ 12 ∷ [])
     ∷ (0 ∷ 13 ∷ 13 ∷ 0 ∷ 0 ∷ 0 ∷ 13 ∷ [])
-    ∷ (1 ∷ 1 ∷ [])
+    ∷ (1 ∷ 1 ∷ 1 ∷ 1 ∷ [])
+    ∷ (0 ∷ 18 ∷ 18 ∷ 0 ∷ [])
+    ∷ (0 ∷ 19 ∷ 10 ∷ [])
     ∷ []
 unfolding conditions
 conditions-are = refl

@@ -1,6 +1,6 @@
 -- What the calls of a list answer, from a table on; and one list of calls that is answered
--- every number 0 to 13, and 16 (W-205). So the definitions
--- are not empty.
+-- every number 0 to 13, 16
+-- (W-205), 18 and 19 (W-210). So the definitions are not empty.
 -- It may use every definition of document 01, and the values of PinnedValues. Assumes nothing.
 use mathlib.Core.Path.{_≡_, refl}
 use mathlib.Core.Bool.{true}
@@ -13,13 +13,14 @@ use Rattle.paper.specs.declared.Answer.{Answer}
 use Rattle.paper.specs.Lists.{every, some, those}
 use Rattle.paper.specs.Roundings.{down, up, halfUp, toGrid, lesserOf, greaterOf, grown, apart}
 use Rattle.paper.specs.Least.{first, least, leastRoot, leastTimes, leastMultiple}
-use Rattle.paper.specs.Ranges.{unsigned, isPrice, isRate, gridOf, isGridPrice, validStatics, staticsOf, validGiven, tentativeTop, validTentative, validAdmission, partsFrom, rowAt, rowsOf, wholeRows, validRow, validRows, rowOf, validTerm, validDay, validQuote, validSide, sideOf, isLive, lastDay, isLimit, validLimits, validNear, validNearSeconds, sound, validSlots}
+use Rattle.paper.specs.Ranges.{unsigned, isPrice, isRate, gridOf, isGridPrice, validStatics, staticsOf, validGiven, tentativeTop, validTentative, validAdmission, partsFrom, rowAt, rowsOf, wholeRows, validRow, validRows, rowOf, validTerm, validDay, validQuote, validSide, sideOf, isLive, lastDay, isLimit, validLimits, validNear, validNearSeconds, validSession, sound, validSlots}
 use Rattle.paper_desk.specs.Evaluation.{rowPrice, rowWeight, roublesOf, traded, weights, worth, mean, closeOf, bestBid, lesserAsk, bestAsk, median, between, evaluationOf, dayRows, isCrossedRow, hasCrossedRow, rowFits, evaluationFits}
 use Rattle.paper_desk.specs.Rates.{moveFrom, moveOf, weightOf, weighted, replacement, replaces, volatilityOf, leastStep, tentativeRate, tentativeRateByMove, tentativeRateOf, tentativeAfter, meetsRequirement, daysOf, minimumOf, covers, levelRate, modelled, unmodelled, figuresOf, moveTooLarge}
 use Rattle.paper_desk.specs.Limits.{limitOf, shifted, rangeLimit, rangeOf, farthest, spread, monitored, narrower, bandLimit, bandOf, crossed, deltaOf, oneMore, rangeMoved, bandMoved}
 use Rattle.paper_desk.specs.Alerts.{distance, isNear, keptSince, nearAfter, alert, nearCleared}
 use Rattle.paper.specs.Verdicts.{numberOf, isDone, firstOf}
-use Rattle.paper_desk.specs.Desk.{blank, saying, showing, alerting, admitted, priceOn, moveOn, figuresOn, evaluated, nearOn, quoted, alertsOn, moved, place, stands, found, known, Call, admit, evaluate, quote, move, read, admitChecks, evaluateChecks, quoteChecks, moveChecks, readChecks, checksOf, Outcome, judged, acceptedOf, step, run, fresh}
+use Rattle.paper_desk.specs.Evening.{isEvening, alertSeconds, moveAllowed, sessionMoved}
+use Rattle.paper_desk.specs.Desk.{blank, saying, showing, alerting, admitted, priceOn, moveOn, figuresOn, evaluated, nearOn, quoted, alertsOn, moved, eveningOpened, place, stands, found, known, Call, admit, evaluate, quote, move, read, openEvening, admitChecks, evaluateChecks, quoteChecks, moveChecks, readChecks, openChecks, checksOf, Outcome, judged, acceptedOf, step, run, fresh}
 use Rattle.paper.specs.PinnedValues.{_but_, rowBidAt, rowAskAt, pchmaxAt, monitoringAt, ewmaAt, idAt, sAt, aupAt, adownAt, admissionFrom, dayFrom, quoteFrom, closedAt, zNumbers, recordFrom}
 
 -- what the calls of a list answer, each on the table that those before it leave. It opens every definition that a call
@@ -27,16 +28,17 @@ use Rattle.paper.specs.PinnedValues.{_but_, rowBidAt, rowAskAt, pchmaxAt, monit
 unfoldable pub answers : List Call → List Record → List Answer
 unfolding unsigned isPrice isRate gridOf isGridPrice validStatics staticsOf validGiven validTentative validAdmission
     partsFrom rowAt rowsOf wholeRows validRow validRows rowOf validTerm validDay validQuote validSide sideOf isLive
-    lastDay isLimit validLimits validNear validNearSeconds sound validSlots rowPrice rowWeight roublesOf traded
-    weights worth mean closeOf bestBid lesserAsk bestAsk median between evaluationOf dayRows isCrossedRow
-    hasCrossedRow rowFits evaluationFits moveFrom moveOf weightOf weighted replacement replaces volatilityOf
-    leastStep tentativeTop tentativeRate tentativeRateByMove tentativeRateOf tentativeAfter meetsRequirement daysOf
-    minimumOf covers levelRate modelled unmodelled figuresOf moveTooLarge limitOf shifted rangeLimit rangeOf
-    farthest spread monitored narrower bandLimit bandOf crossed deltaOf oneMore rangeMoved bandMoved distance isNear
-    keptSince nearAfter alert nearCleared isDone firstOf blank saying showing alerting admitted priceOn moveOn
-    figuresOn evaluated nearOn quoted alertsOn moved place stands found known admitChecks evaluateChecks quoteChecks
-    moveChecks readChecks checksOf judged acceptedOf step run every some those up down halfUp toGrid lesserOf greaterOf
-    grown apart first least leastRoot leastTimes leastMultiple
+    lastDay isLimit validLimits validNear validNearSeconds validSession sound validSlots rowPrice rowWeight
+    roublesOf traded weights worth mean closeOf bestBid lesserAsk bestAsk median between evaluationOf dayRows
+    isCrossedRow hasCrossedRow rowFits evaluationFits moveFrom moveOf weightOf weighted replacement replaces
+    volatilityOf leastStep tentativeTop tentativeRate tentativeRateByMove tentativeRateOf tentativeAfter
+    meetsRequirement daysOf minimumOf covers levelRate modelled unmodelled figuresOf moveTooLarge limitOf shifted
+    rangeLimit rangeOf farthest spread monitored narrower bandLimit bandOf crossed deltaOf oneMore rangeMoved
+    bandMoved distance isNear keptSince nearAfter alert nearCleared isDone firstOf blank saying showing alerting
+    admitted priceOn moveOn figuresOn evaluated nearOn quoted isEvening alertSeconds moveAllowed sessionMoved
+    alertsOn moved eveningOpened place stands found known admitChecks evaluateChecks quoteChecks moveChecks
+    readChecks openChecks checksOf judged acceptedOf step run every some those up down halfUp toGrid lesserOf
+    greaterOf grown apart first least leastRoot leastTimes leastMultiple
 answers [] t = []
 answers (c ∷ cs) t =
     let o : Outcome = step c t in
@@ -114,6 +116,12 @@ numbered =
     ∷ bidAt 7 99 990000
     ∷ (replicate 50 (move 7 0)
     ++ (move 7 0
+    -- 0 the evening is opened; 19 opened twice; the two evening moves of its maximum, and 18
+    ∷ openEvening 7
+    ∷ openEvening 7
+    ∷ move 7 1
+    ∷ move 7 1
+    ∷ move 7 1
     -- 0 done; 8 r of 1,000,010; 0 done; 11 Monitoring no
     ∷ still 8
     ∷ dayAt 8 4 2000010
@@ -125,6 +133,7 @@ numbered =
     ∷ []))
 
 pub every-number : numbers numbered (slots 3)
-    ≡ 1 ∷ 4 ∷ 0 ∷ 2 ∷ 10 ∷ 5 ∷ 6 ∷ 16 ∷ 7 ∷ 9 ∷ 0 ∷ 0 ∷ 13 ∷ (replicate 50 0 ++ (12 ∷ 0 ∷ 8 ∷ 0 ∷ 11 ∷ 0 ∷ 3 ∷ []))
+    ≡ 1 ∷ 4 ∷ 0 ∷ 2 ∷ 10 ∷ 5 ∷ 6 ∷ 16 ∷ 7 ∷ 9 ∷ 0 ∷ 0 ∷ 13
+    ∷ (replicate 50 0 ++ (12 ∷ 0 ∷ 19 ∷ 0 ∷ 0 ∷ 18 ∷ 0 ∷ 8 ∷ 0 ∷ 11 ∷ 0 ∷ 3 ∷ []))
 unfolding numbers numbered slots
 every-number = refl

@@ -20,9 +20,9 @@ use Rattle.paper.specs.PinnedValues.{_but_, ewmaAt, p1At, upperMovesAt, lowerMo
 use Rattle.paper_desk.specs.PinnedSequence.{answers}
 
 -- case 1's security after its evaluation, with isEWMA no from then on
-evening : List ℤ
+unfoldable pub liveZ : List ℤ
 unfolding zNumbers
-evening =
+liveZ =
     (zNumbers but (ewmaAt, pos 0) but (p1At, pos 1030000))
     -- live, age 0, the rates
     ++ (pos 1 ∷ pos 0 ∷ pos 800 ∷ pos 1200 ∷ pos 1500
@@ -32,25 +32,34 @@ evening =
     ∷ pos 0 ∷ pos 0 ∷ pos 0 ∷ pos 0 ∷ pos 0 ∷ pos 0 ∷ pos 0 ∷ pos 0 ∷ pos 0
     -- the bands
     ∷ pos 988800 ∷ pos 1071200 ∷ pos 988800 ∷ pos 1071200 ∷ pos 988800 ∷ pos 1071200
-    -- the moves, the near seconds, the last quote second
+    -- the moves, the near seconds, the last quote second, the session
     ∷ pos 0 ∷ pos 0 ∷ pos 0 ∷ pos 0 ∷ pos 0 ∷ pos 0 ∷ pos 0 ∷ pos 0 ∷ pos 0
+    ∷ pos 0
     ∷ [])
 
 -- ---- near, and the alert
 
 -- a quote of the security
-quoteAt : (second term bid ask : ℕ) → Call
+unfoldable pub quoteAt : (second term bid ask : ℕ) → Call
 unfolding quoteFrom
 quoteAt second term bid ask = quote 7 (quoteFrom (pos second ∷ pos term ∷ pos bid ∷ pos ask ∷ []))
 
--- the alerts at the top, or at the bottom, that a list of quotes is answered
+-- the alerts at the top, or at the bottom, that a list of calls is answered from a record on
+unfoldable pub topsOf : (row : List ℤ) → List Call → List ℕ
+unfolding answers recordFrom yesNo
+topsOf row calls = map (λ (a : Answer). yesNo (a .top)) (answers calls (recordFrom row ∷ []))
+
+unfoldable pub bottomsOf : (row : List ℤ) → List Call → List ℕ
+unfolding answers recordFrom yesNo
+bottomsOf row calls = map (λ (a : Answer). yesNo (a .bottom)) (answers calls (recordFrom row ∷ []))
+
 tops : List Call → List ℕ
-unfolding answers evening recordFrom yesNo
-tops quotes = map (λ (a : Answer). yesNo (a .top)) (answers quotes (recordFrom evening ∷ []))
+unfolding topsOf liveZ
+tops quotes = topsOf liveZ quotes
 
 bottoms : List Call → List ℕ
-unfolding answers evening recordFrom yesNo
-bottoms quotes = map (λ (a : Answer). yesNo (a .bottom)) (answers quotes (recordFrom evening ∷ []))
+unfolding bottomsOf liveZ
+bottoms quotes = bottomsOf liveZ quotes
 
 pub alerts : List (List ℕ)
 unfolding tops bottoms quoteAt yesNo
@@ -142,7 +151,7 @@ nearNumber (Since second) = suc second
 
 -- the upper and the lower limits of the bands and of the ranges; the moves of each side; the near seconds at the top
 -- and at the bottom; the last quote second
-limitsOf : Record → List (List ℕ)
+unfoldable pub limitsOf : Record → List (List ℕ)
 unfolding nearNumber
 limitsOf r =
     map (λ (x : Limits). x .upper) (r .bands)
@@ -156,15 +165,15 @@ limitsOf r =
     ∷ []
 
 -- the record that a list of calls leaves in a table of one slot
-left : List Call → (row : List ℤ) → Record
+unfoldable pub left : List Call → (row : List ℤ) → Record
 unfolding answers recordFrom
 left calls row = getD (run calls (recordFrom row ∷ [])) 0 blank
 
 -- the security near at 300 on every side, the last quote at 400, after 1 upper and 2 lower moves counted but not remade
-counted : List ℤ
-unfolding evening
+unfoldable pub counted : List ℤ
+unfolding liveZ
 counted =
-    evening but (upperMovesAt, pos 1) but (lowerMovesAt, pos 2) but (nearAt, pos 301) but (nearAt + 1, pos 301)
+    liveZ but (upperMovesAt, pos 1) but (lowerMovesAt, pos 2) but (nearAt, pos 301) but (nearAt + 1, pos 301)
     but (nearAt + 2, pos 301) but (nearAt + 3, pos 301) but (nearAt + 4, pos 301) but (nearAt + 5, pos 301)
     but (secondAt, pos 400)
 

@@ -1,5 +1,5 @@
--- The figures of a security from its history: from its admission, its accepted evaluations, and its accepted quotes and
--- moves since the last of them. Assumes nothing.
+-- The figures of a security from its history: from its admission, its accepted evaluations, and its accepted quotes,
+-- moves and openings of the evening since the last of them. Assumes nothing.
 use mathlib.Core.Bool.{Bool, true, false}
 use mathlib.Core.List.{List, [], _∷_}
 use Prim.Native.Nat.{ℕ, _+_, _-_, _*_}
@@ -11,6 +11,8 @@ use Rattle.paper.specs.declared.Statics.{Statics}
 use Rattle.paper.specs.declared.Tentative.{Tentative}
 use Rattle.paper.specs.declared.Standing.{Standing}
 use Rattle.paper.specs.declared.Standing.the-variants.{Admitted, Live}
+use Rattle.paper.specs.declared.Session.{Session}
+use Rattle.paper.specs.declared.Session.the-variants.{Main, Evening}
 use Rattle.paper.specs.declared.Side.{Side}
 use Rattle.paper.specs.declared.Side.the-variants.{Upper, Lower}
 use Rattle.paper.specs.declared.Moves.{Moves}
@@ -29,7 +31,8 @@ use Rattle.paper.specs.declared.Figures.{Figures}
 use Rattle.paper_desk.specs.Rates.{moveOf, minimumOf, figuresOf}
 use Rattle.paper_desk.specs.Limits.{rangeLimit, bandOf, deltaOf}
 use Rattle.paper_desk.specs.Alerts.{isNear}
-use Rattle.paper_desk.specs.History.{Event, evaluatedOn, quotedAt, movedBy}
+use Rattle.paper_desk.specs.Evening.{sessionMoved}
+use Rattle.paper_desk.specs.History.{Event, evaluatedOn, quotedAt, movedBy, opening}
 
 -- ---- what the evaluations carry on
 
@@ -62,12 +65,13 @@ carriesNext st d rows x =
     let f : Figures = figuresOf st (d .b) (d .m) (rateAt (x .rates) 0) r (x .s) (x .tentative) in
     record { p1 = p; p2 = x .p1; s = f .s; tentative = f .tentative; rates = f .rates }
 
--- quotes and moves carry nothing on
+-- quotes, moves and openings carry nothing on
 unfoldable pub carries : Admission → List Event → Carries
 carries a [] = carriesFirst a
 carries a (evaluatedOn d rows ∷ es) = carriesNext (staticsOf (a .given)) d rows (carries a es)
 carries a (quotedAt q ∷ es) = carries a es
 carries a (movedBy side ∷ es) = carries a es
+carries a (opening ∷ es) = carries a es
 
 -- ---- the last accepted evaluation, and the accepted moves since it
 
@@ -80,6 +84,7 @@ lastEvaluated [] = noDay
 lastEvaluated (evaluatedOn d rows ∷ es) = onDay d
 lastEvaluated (quotedAt q ∷ es) = lastEvaluated es
 lastEvaluated (movedBy side ∷ es) = lastEvaluated es
+lastEvaluated (opening ∷ es) = lastEvaluated es
 
 abbrev pub sameSide : Side → Side → Bool
 sameSide Upper Upper = true
@@ -87,12 +92,13 @@ sameSide Upper Lower = false
 sameSide Lower Upper = false
 sameSide Lower Lower = true
 
--- "c the moves of that side since the evaluation"
+-- "c the moves of that side since the evaluation"; W-210: the opening "keeps c"
 unfoldable pub movesSince : Side → List Event → ℕ
 movesSince side [] = 0
 movesSince side (evaluatedOn d rows ∷ es) = 0
 movesSince side (quotedAt q ∷ es) = movesSince side es
 movesSince side (movedBy x ∷ es) = pick (sameSide x side) (movesSince side es + 1) (movesSince side es)
+movesSince side (opening ∷ es) = movesSince side es
 
 abbrev pub movesOf : List Event → Moves
 movesOf es = record { lower = movesSince Lower es; upper = movesSince Upper es }
@@ -143,14 +149,15 @@ unfoldable pub nearIn : Admission → List Event → Side → Quote → Bool
 nearIn a es side q = isNear side (a .given .w) (bandNow a es (lastEvaluated es) (q .term)) (quotedPrice side q)
 
 -- the seconds of a side's near quotes in a term, unbroken up to now, the latest first. They break off at "a quote that
--- isn't near", at a move of that side ("It clears that side's near seconds in all terms") and at an evaluation. "One
--- quote touches one term only."
+-- isn't near", at a move of that side ("It clears that side's near seconds in all terms"), at an evaluation and at an
+-- opening of the evening (W-210). "One quote touches one term only."
 unfoldable pub nearQuotes : Admission → Side → (term : ℕ) → List Event → List ℕ
 nearQuotes a side k [] = []
 nearQuotes a side k (evaluatedOn d rows ∷ es) = []
 nearQuotes a side k (quotedAt q ∷ es) =
     pick (eqb (q .term) k) (pick (nearIn a es side q) (q .second ∷ nearQuotes a side k es) []) (nearQuotes a side k es)
 nearQuotes a side k (movedBy x ∷ es) = pick (sameSide x side) [] (nearQuotes a side k es)
+nearQuotes a side k (opening ∷ es) = []
 
 -- "A near side keeps the second at which it became near": that of the first of them
 unfoldable pub firstOfThem : (seconds : List ℕ) → Near
@@ -170,3 +177,15 @@ lastSecond [] = 0
 lastSecond (evaluatedOn d rows ∷ es) = 0
 lastSecond (quotedAt q ∷ es) = q .second
 lastSecond (movedBy x ∷ es) = lastSecond es
+lastSecond (opening ∷ es) = lastSecond es
+
+-- ---- the session (W-210)
+
+-- "main, or evening with the evening moves made": the evening since the opening, if no evaluation came after it, with
+-- the moves since
+unfoldable pub sessionNow : List Event → Session
+sessionNow [] = Main
+sessionNow (evaluatedOn d rows ∷ es) = Main
+sessionNow (quotedAt q ∷ es) = sessionNow es
+sessionNow (movedBy side ∷ es) = sessionMoved (sessionNow es)
+sessionNow (opening ∷ es) = Evening 0

@@ -14,7 +14,7 @@ use Rattle.paper.specs.declared.Term.{Term}
 use Rattle.paper.specs.declared.Record.{Record}
 use Rattle.paper.specs.Ranges.{rateAt}
 use Rattle.paper_desk.specs.Limits.{deltaOf}
-use Rattle.paper_desk.specs.Desk.{Call, admit, evaluate, quote, move, read}
+use Rattle.paper_desk.specs.Desk.{Call, admit, evaluate, quote, move, read, openEvening}
 
 abbrev pub other : Side → Side
 other Upper = Lower
@@ -46,3 +46,4 @@ shows (evaluate id d rows) = true
 shows (quote id q) = false
 shows (move id side) = true
 shows (read id) = true
+shows (openEvening id) = true

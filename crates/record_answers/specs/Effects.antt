@@ -16,7 +16,7 @@ use Rattle.paper.specs.declared.Verdict.the-variants.{Done, NoSuchId, AlreadyAd
 use Rattle.paper.specs.Lists.{pick}
 use Rattle.paper.specs.Ranges.{validSlots, validAdmission, sound, sideOf}
 use Rattle.paper.specs.Verdicts.{isDone, Check, firstOf}
-use Rattle.paper_desk.specs.Desk.{blank, saying, showing, admitted, evaluated, quoted, alertsOn, moved, place, found, Outcome, evaluateChecks, quoteChecks, moveChecks, readChecks}
+use Rattle.paper_desk.specs.Desk.{blank, saying, showing, admitted, evaluated, quoted, alertsOn, moved, eveningOpened, place, found, Outcome, evaluateChecks, quoteChecks, moveChecks, readChecks, openChecks}
 use Rattle.record_answers.specs.declared.Slot.{Slot}
 use Rattle.record_answers.specs.declared.Effect.{Effect}
 
@@ -65,6 +65,11 @@ unfoldable pub moveEffect : Slot → ℕ → Effect
 moveEffect s side =
     judgedEffect (s .count) (firstOf (moveChecks (isKnown s) (s .rec) side))
     (record { at = s .at; rec = moved (s .rec) (sideOf side); answer = showing (moved (s .rec) (sideOf side)) })
+
+unfoldable pub openEffect : Slot → Effect
+openEffect s =
+    judgedEffect (s .count) (firstOf (openChecks (isKnown s) (s .rec)))
+    (record { at = s .at; rec = eveningOpened (s .rec); answer = showing (eveningOpened (s .rec)) })
 
 unfoldable pub readAnswer : Slot → Answer
 readAnswer s = pick (isDone (firstOf (readChecks (isKnown s)))) (showing (s .rec))

@@ -11,6 +11,7 @@ use paper::NearSeconds;
 use paper::Price;
 use paper::Rate;
 use paper::Record;
+use paper::Session;
 use paper::Standing;
 use paper::Statics;
 use paper::Tentative;
@@ -32,8 +33,8 @@ pub struct Effect {
     pub answer: Answer,
 }
 
-// "all figures 0 (flags no, nothing near, admitted only)": a price of 0 is none of document 01's range, so no
-// constructor makes it.
+// "all figures 0 (flags no, nothing near, admitted only)", in the main session. A price of 0 is none of document 01's
+// range, so no constructor makes it.
 pub fn blank() -> Record
     ensures { λ r. ⌜ r ≡ blank ⌝ }
 {
@@ -64,6 +65,9 @@ pub fn blank() -> Record
             u: 0,
             monitoring: false,
             ewma: false,
+            uevening: 0,
+            autochange: false,
+            eveningmax: 0,
         },
         standing: Standing::Admitted(0),
         p1: price,
@@ -84,6 +88,7 @@ pub fn blank() -> Record
             bottom: Near::Not,
         }; Record::TERMS],
         second: 0,
+        session: Session::Main,
     }
 }
 
@@ -114,7 +119,8 @@ pub fn saying(v: Verdict) -> Answer
     }
 }
 
-// "Accepted evaluations, moves and reads return the record as it then stands".
+// "Accepted evaluations, moves and reads return the record as it then stands"; W-210: "An accepted opening returns the
+// record."
 pub fn showing(r: Record) -> Answer
     ensures { λ a. ⌜ a ≡ showing r ⌝ }
 {

@@ -1,7 +1,7 @@
 -- How a rule judges: the first check that applies refuses, and where none applies the call is accepted. Assumes
 -- nothing.
 use mathlib.Core.Path.{_≡_, refl, sym}
-use mathlib.Core.Bool.{Bool, true, false, _&&_}
+use mathlib.Core.Bool.{Bool, true, false, not, _&&_}
 use mathlib.Core.List.{List, [], _∷_, _++_}
 use Prim.Native.Nat.{ℕ, _<_}
 use native.Mathlib.Omega.{arith}
@@ -11,19 +11,20 @@ use Rattle.paper.specs.declared.Quote.{Quote}
 use Rattle.paper.specs.declared.Record.{Record}
 use Rattle.paper.specs.declared.Side.{Side}
 use Rattle.paper.specs.declared.Side.the-variants.{Upper, Lower}
-use Rattle.paper.specs.declared.Verdict.the-variants.{Done, AlreadyAdmitted, NoEmptySlot, AdmissionOutOfRange, MovesUsedUp, SecondEarlier}
+use Rattle.paper.specs.declared.Verdict.the-variants.{Done, NoSuchId, AlreadyAdmitted, NoEmptySlot, AdmissionOutOfRange, NotLive, MovesUsedUp, SecondEarlier, NoEveningMove, OpenedTwice}
 use Rattle.paper.specs.Lists.{pick, every}
 use Rattle.paper.specs.Numbers.{movesMost}
 use Rattle.paper.specs.Ranges.{validSlots, validAdmission, validQuote, validSide, sideOf, isLive, sound, isPrice, isGridPrice}
 use Rattle.paper_desk.specs.Limits.{countOf}
+use Rattle.paper_desk.specs.Evening.{isEvening, moveAllowed}
 use Rattle.paper.specs.Verdicts.{isDone, Check, firstOf, NoneApplies, none, also}
-use Rattle.paper_desk.specs.Desk.{saying, showing, admitted, quoted, alertsOn, moved, quoteChecks, moveChecks}
+use Rattle.paper_desk.specs.Desk.{saying, showing, admitted, quoted, alertsOn, moved, eveningOpened, quoteChecks, moveChecks, openChecks}
 use Rattle.paper.proofs.Logic.{clash, and-right, not-false, pick-false, and-left}
 use Rattle.paper_desk.proofs.Refusals.{refusals, done-none}
 use Rattle.record_soundness.proofs.Facts.{sound-facts}
 use Rattle.record_answers.specs.declared.Slot.{Slot}
 use Rattle.record_answers.specs.declared.Effect.{Effect}
-use Rattle.record_answers.specs.Effects.{holds, isKnown, refusedEffect, judgedEffect, admitChecksOf, admitEffect, quoteEffect, moveEffect}
+use Rattle.record_answers.specs.Effects.{holds, isKnown, refusedEffect, judgedEffect, admitChecksOf, admitEffect, quoteEffect, moveEffect, openEffect}
 use Rattle.record_calls.specs.SharedChecks.{sharedChecks}
 
 -- ---- admit 4, 2, 3
@@ -58,7 +59,7 @@ module _ (s e : Slot) (a : Admission) where
     unfolding admitEffect admitChecksOf judgedEffect firstOf isDone
     admission-accepted new t = rw (valid, new, t)
 
--- ---- quote 1, 6, 10, 11, 13; move 1, 6, 10, 11, 12
+-- ---- quote 1, 6, 10, 11, 13; move 1, 6, 10, 11, 18, 12
 
 -- a refusal of the first checks is that of all
 first-stays : (cs more : List Check) → isDone (firstOf cs) ≡ false → firstOf (cs ++ more) ≡ firstOf cs
@@ -121,27 +122,57 @@ module _ (s : Slot) (side : ℕ) where
   unfolding moveEffect moveChecks sharedChecks
   move-stopped n =
       turn-stays (s .count) (sharedChecks (isKnown s) (validSide side) (s .rec))
-      (record { verdict = MovesUsedUp; applies = eqb (countOf (sideOf side) (s .rec .moves)) movesMost } ∷ [])
+      (record { verdict = NoEveningMove; applies = not (moveAllowed (s .rec .statics) (s .rec .session)) }
+      ∷ record { verdict = MovesUsedUp; applies = eqb (countOf (sideOf side) (s .rec .moves)) movesMost }
+      ∷ [])
       (record { at = s .at; rec = moved (s .rec) (sideOf side); answer = showing (moved (s .rec) (sideOf side)) })
       n
 
   module _ (o : Passed (isKnown s) (validSide side) (s .rec)) where
-    pub move-used-up : eqb (countOf (sideOf side) (s .rec .moves)) movesMost ≡ true
-        → refusedEffect (s .count) MovesUsedUp ≡ moveEffect s side
+    pub move-not-allowed : moveAllowed (s .rec .statics) (s .rec .session) ≡ false
+        → refusedEffect (s .count) NoEveningMove ≡ moveEffect s side
     unfolding moveEffect moveChecks judgedEffect firstOf isDone
-    move-used-up t = rw (o .known, o .valid, o .live, o .monitored, t)
+    move-not-allowed t = rw (t, o .known, o .valid, o .live, o .monitored)
 
-    pub move-accepted : eqb (countOf (sideOf side) (s .rec .moves)) movesMost ≡ false
-        → record { at = s .at; rec = moved (s .rec) (sideOf side); answer = showing (moved (s .rec) (sideOf side)) }
-        ≡ moveEffect s side
-    unfolding moveEffect moveChecks judgedEffect firstOf isDone
-    move-accepted t = rw (o .known, o .valid, o .live, o .monitored, t)
+    module _ (allowed : moveAllowed (s .rec .statics) (s .rec .session) ≡ true) where
+      pub move-used-up : eqb (countOf (sideOf side) (s .rec .moves)) movesMost ≡ true
+          → refusedEffect (s .count) MovesUsedUp ≡ moveEffect s side
+      unfolding moveEffect moveChecks judgedEffect firstOf isDone
+      move-used-up t = rw (allowed, o .known, o .valid, o .live, o .monitored, t)
+
+      pub move-accepted : eqb (countOf (sideOf side) (s .rec .moves)) movesMost ≡ false
+          → record { at = s .at; rec = moved (s .rec) (sideOf side); answer = showing (moved (s .rec) (sideOf side)) }
+          ≡ moveEffect s side
+      unfolding moveEffect moveChecks judgedEffect firstOf isDone
+      move-accepted t = rw (allowed, o .known, o .valid, o .live, o .monitored, t)
 
 -- c is not 50, so a move is left
 pub move-left : (r : Record) (side : Side) → sound r ≡ true → (countOf side (r .moves) ≡ movesMost → ⊥)
     → countOf side (r .moves) < movesMost
 move-left r Upper v n = omega (arith, sound-facts r v .moves-upper)
 move-left r Lower v n = omega (arith, sound-facts r v .moves-lower)
+
+-- ---- the opening of the evening: 1, 10, 19
+
+module _ (s : Slot) where
+  pub open-unknown : isKnown s ≡ false → refusedEffect (s .count) NoSuchId ≡ openEffect s
+  unfolding openEffect openChecks judgedEffect firstOf isDone
+  open-unknown t = rw t
+
+  module _ (known : isKnown s ≡ true) where
+    pub open-not-live : isLive (s .rec .standing) ≡ false → refusedEffect (s .count) NotLive ≡ openEffect s
+    unfolding openEffect openChecks judgedEffect firstOf isDone
+    open-not-live t = rw (known, t)
+
+    pub open-twice : isLive (s .rec .standing) ≡ true → isEvening (s .rec .session) ≡ true
+        → refusedEffect (s .count) OpenedTwice ≡ openEffect s
+    unfolding openEffect openChecks judgedEffect firstOf isDone
+    open-twice live t = rw (known, live, t)
+
+    pub open-accepted : isLive (s .rec .standing) ≡ true → isEvening (s .rec .session) ≡ false
+        → record { at = s .at; rec = eveningOpened (s .rec); answer = showing (eveningOpened (s .rec)) } ≡ openEffect s
+    unfolding openEffect openChecks judgedEffect firstOf isDone
+    open-accepted live t = rw (known, live, t)
 
 pub admission-prices : (a : Admission) → validAdmission a ≡ true → (isPrice (a .p1) ≡ true) × (isPrice (a .p2) ≡ true)
 unfolding validAdmission isGridPrice

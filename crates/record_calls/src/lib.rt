@@ -3,7 +3,7 @@
 ghost use mathlib.Core.Path.{_≡_};
 ghost use Rattle.paper.specs.Verdicts.{firstOf};
 ghost use Rattle.paper_desk.specs.Desk.{nearOn, alertsOn};
-ghost use Rattle.record_answers.specs.Effects.{isKnown, admitEffect, quoteEffect, moveEffect, readAnswer};
+ghost use Rattle.record_answers.specs.Effects.{isKnown, admitEffect, quoteEffect, moveEffect, openEffect, readAnswer};
 ghost use Rattle.record_calls.specs.SharedChecks.{sharedChecks};
 use paper::Admission;
 use paper::Answer;
@@ -18,7 +18,7 @@ use record_answers::Slot;
 
 // ---- answers and turns
 
-// "a quote its two alerts": of the near seconds after it.
+// "a quote its two alerts": of the near seconds after it, by the session's own seconds.
 fn alerts_on(r: Record, q: Quote, n: NearSeconds) -> Answer
     requires { ⌜ n ≡ nearOn r q ⌝ }
     ensures { λ a. ⌜ a ≡ alertsOn r q ⌝ }
@@ -26,11 +26,14 @@ fn alerts_on(r: Record, q: Quote, n: NearSeconds) -> Answer
     let rec = record_answers::blank();
     let top = n.top;
     let bottom = n.bottom;
+    let statics = r.statics;
+    let session = r.session;
+    let u = session::alert_seconds(statics, session);
     Answer {
         verdict: Verdict::Done,
         rec,
-        top: alerts::alert(r.statics.u, top, q.second),
-        bottom: alerts::alert(r.statics.u, bottom, q.second),
+        top: alerts::alert(u, top, q.second),
+        bottom: alerts::alert(u, bottom, q.second),
     }
 }
 
@@ -121,22 +124,47 @@ pub fn quoted(s: Slot, q: Quote) -> Effect
     }
 }
 
-// "move 1, 6, 10, 11, 12".
+// "move 1, 6, 10, 11, 12"; W-210: "18, .. after 11 and before 12".
 pub fn moved(s: Slot, side: u64) -> Effect
     ensures { λ o. ⌜ o ≡ moveEffect s side ⌝ }
 {
     let count = s.count;
     let r = s.rec;
     let moves = r.moves;
+    let statics = r.statics;
+    let session = r.session;
     let v = shared_checks(s, inputs::valid_side(side));
     if !v.is_done() {
         return record_answers::refused(count, v);
+    }
+    if !session::move_allowed(statics, session) {
+        return record_answers::refused(count, Verdict::NoEveningMove);
     }
     let named = inputs::side_of(side);
     if limits::count_of(named, moves) == Record::MOVES_MOST {
         return record_answers::refused(count, Verdict::MovesUsedUp);
     }
     record_answers::written(s.at, record_writing::moved(r, named))
+}
+
+// W-210, the opening of the evening: 1, 10, "19, evening opened twice, after 10".
+pub fn opened(s: Slot) -> Effect
+    ensures { λ o. ⌜ o ≡ openEffect s ⌝ }
+{
+    let count = s.count;
+    let r = s.rec;
+    let standing = r.standing;
+    let session = r.session;
+    if !record_answers::is_known(s) {
+        return record_answers::refused(count, Verdict::NoSuchId);
+    }
+    if !record_soundness::is_live(standing) {
+        return record_answers::refused(count, Verdict::NotLive);
+    }
+    if session::is_evening(session) {
+        return record_answers::refused(count, Verdict::OpenedTwice);
+    }
+    record_answers::written(s.at, record_writing::opened(r))
 }
 
 // "read 1".

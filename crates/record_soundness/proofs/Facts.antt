@@ -12,7 +12,7 @@ use Rattle.paper.specs.declared.Limits.{Limits}
 use Rattle.paper.specs.declared.Record.{Record}
 use Rattle.paper.specs.Lists.{allThree}
 use Rattle.paper.specs.Numbers.{rateMost, idMost, ageMost, limitMost, movesMost, secondLast, slotsMost}
-use Rattle.paper.specs.Ranges.{gridOf, isRate, validStatics, lastDay, termAt, isLimit, validLimits, noLimits, validNear, validNearSeconds, notNear, sound, validSlots, rateAt}
+use Rattle.paper.specs.Ranges.{gridOf, isRate, validStatics, lastDay, termAt, isLimit, validLimits, noLimits, validNear, validNearSeconds, notNear, validSession, sound, validSlots, rateAt}
 use Rattle.paper.proofs.Logic.{and-left, and-right, each-of-three}
 use Rattle.inputs.proofs.Facts.{Within, within-facts, MultipleTo, multiple-facts, grid-price-facts, rate-most, StaticsFacts, statics-facts, tentative-facts, FiguresFacts, TermFacts, terms-facts}
 
@@ -79,6 +79,7 @@ pub record SoundRecord (r : Record) : Type 0 where
   pub moves-lower : r .moves .lower ≤ movesMost
   pub near : (k : ℕ) → k < 3 → NearFacts (getD (r .near) k notNear)
   pub second-last : r .second ≤ secondLast
+  pub session : validSession (r .session) ≡ true
 
 pub sound-facts : (r : Record) → sound r ≡ true → SoundRecord r
 unfolding sound
@@ -104,6 +105,7 @@ sound-facts r v =
       moves-lower = leb-true _ _ (search (v, and-left, and-right) depth 40);
       near = three-near-facts (r .near) (search (v, and-left, and-right) depth 40);
       second-last = leb-true _ _ (search (v, and-left, and-right) depth 40);
+      session = search (v, and-left, and-right) depth 40;
     }
 
 -- ---- the table

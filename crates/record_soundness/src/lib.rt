@@ -4,7 +4,7 @@ ghost use mathlib.Core.Path.{_≡_};
 ghost use Prim.Native.Nat.{_<_};
 ghost use lib.ListN.{getD};
 ghost use Rattle.paper.specs.Lists.{allThree};
-ghost use Rattle.paper.specs.Ranges.{isLive, lastDay, isRate, noRate, isLimit, validLimits, noLimits, validNear, validNearSeconds, notNear, sound, validSlots, soundFigures};
+ghost use Rattle.paper.specs.Ranges.{isLive, lastDay, isRate, noRate, isLimit, validLimits, noLimits, validNear, validNearSeconds, notNear, validSession, sound, validSlots, soundFigures};
 use inputs::grid_of;
 use inputs::is_rate;
 use inputs::valid_figures;
@@ -18,7 +18,9 @@ use paper::Near;
 use paper::NearSeconds;
 use paper::Rate;
 use paper::Record;
+use paper::Session;
 use paper::Standing;
+use paper::Statics;
 
 pub fn is_live(standing: Standing) -> bool
     ensures { λ r. ⌜ r ≡ isLive standing ⌝ }
@@ -98,6 +100,16 @@ fn valid_three_near(near: [NearSeconds; Record::TERMS]) -> bool
     valid_near_seconds(first) & valid_near_seconds(second) & valid_near_seconds(third)
 }
 
+// W-210: "main, or evening with the evening moves made", which the evening maximum's range holds.
+fn valid_session(session: Session) -> bool
+    ensures { λ r. ⌜ r ≡ validSession session ⌝ }
+{
+    match session {
+        Session::Main => true,
+        Session::Evening(made) => made <= Statics::EVENING_MOVES_MOST,
+    }
+}
+
 // The id, the statics and the figures that an admission gives too, with the age. Where the statics are damaged nothing
 // is divided by their step.
 fn sound_figures(r: Record) -> bool
@@ -122,6 +134,7 @@ pub fn sound(r: Record) -> bool
     let terms = r.terms;
     let bands = r.bands;
     let near = r.near;
+    let session = r.session;
     sound_figures(r)
         & valid_rates(rates)
         & valid_three_limits(g, ranges)
@@ -131,6 +144,7 @@ pub fn sound(r: Record) -> bool
         & (r.moves.lower <= Record::MOVES_MOST)
         & valid_three_near(near)
         & (r.second <= Record::SECOND_LAST)
+        & valid_session(session)
 }
 
 // "1 to 512 slots": a call refuses any other table.

@@ -1,5 +1,5 @@
-// What each call writes: the record after an admission, an evaluation, a quote or a move, made anew in one function for
-// each.
+// What each call writes: the record after an admission, an evaluation, a quote, a move or an opening of the evening,
+// made anew in one function for each.
 ghost use mathlib.Core.Path.{_≡_};
 ghost use mathlib.Core.Bool.{true};
 ghost use Prim.Native.Nat.{_<_};
@@ -9,7 +9,7 @@ ghost use Rattle.paper.specs.Numbers.{movesMost};
 ghost use Rattle.paper.specs.Ranges.{validStatics, validQuote, sound, noRate, noLimits, notNear, termAt};
 ghost use Rattle.paper_desk.specs.Limits.{rangeOf, bandOf, countOf, rangeMoved, bandMoved};
 ghost use Rattle.paper_desk.specs.Alerts.{nearCleared};
-ghost use Rattle.paper_desk.specs.Desk.{admitted, nearOn, quoted, moved};
+ghost use Rattle.paper_desk.specs.Desk.{admitted, nearOn, quoted, moved, eveningOpened};
 ghost use Rattle.record_writing.specs.Asked.{Admitting, RangesAsked, BandsAsked, ShiftsAsked};
 ghost use Rattle.record_writing.specs.Evaluates.{Evaluating, Evaluates};
 use paper::Admission;
@@ -23,6 +23,7 @@ use paper::Price;
 use paper::Quote;
 use paper::Rate;
 use paper::Record;
+use paper::Session;
 use paper::Side;
 use paper::Standing;
 use paper::Statics;
@@ -65,6 +66,7 @@ pub fn admitted(a: Admission, p1: Price, p2: Price) -> Record
             bottom: Near::Not,
         }; Record::TERMS],
         second: 0,
+        session: Session::Main,
     }
 }
 
@@ -170,6 +172,7 @@ pub fn evaluated(r: Record, d: Day, p: Price, f: Figures) -> Record
             bottom: Near::Not,
         }; Record::TERMS],
         second: 0,
+        session: Session::Main, // W-210: "An evaluation puts the record back in main."
     }
 }
 
@@ -218,30 +221,86 @@ fn near_cleared(side: Side, near: [NearSeconds; Record::TERMS]) -> [NearSeconds;
 }
 
 // "It adds one to c, remakes that side's three band limits, and shifts its three range limits by delta. It clears that
-// side's near seconds in all terms."
+// side's near seconds in all terms." W-210: in the evening it is one of the evening moves made.
 pub fn moved(r: Record, side: Side) -> Record
     requires { ⌜ sound r ≡ true ⌝ }
     requires { ⌜ countOf side (r .moves) < movesMost ⌝ }
     ensures { λ o. ⌜ o ≡ moved r side ⌝ }
 {
-    let st = r.statics;
+    let statics = r.statics;
+    let standing = r.standing;
+    let tentative = r.tentative;
     let rates = r.rates;
     let terms = r.terms;
     let ranges = r.ranges;
     let bands = r.bands;
     let near = r.near;
     let moves = r.moves;
-    let p = r.p1;
+    let session = r.session;
+    let p1 = r.p1;
+    let p2 = r.p2;
     let s1 = rates[0];
     let c = limits::one_more(side, moves);
-    let fresh = bands_of(st, p, s1, c, terms);
-    let shifted = ranges_moved(side, limits::delta(st, p, s1), ranges);
+    let fresh = bands_of(statics, p1, s1, c, terms);
+    let shifted = ranges_moved(side, limits::delta(statics, p1, s1), ranges);
     let remade = bands_moved(side, fresh, bands);
     let cleared = near_cleared(side, near);
-    let mut o = r;
-    o.ranges = shifted;
-    o.bands = remade;
-    o.moves = c;
-    o.near = cleared;
-    o
+    let counted = session::session_moved(session);
+    Record {
+        id: r.id,
+        statics,
+        standing,
+        p1,
+        p2,
+        s: r.s,
+        tentative,
+        rates,
+        ranges: shifted,
+        terms,
+        bands: remade,
+        moves: c,
+        near: cleared,
+        second: r.second,
+        session: counted,
+    }
+}
+
+// ---- an opening of the evening
+
+// W-210: "Opening the evening clears the near seconds and keeps c".
+pub fn opened(r: Record) -> Record
+    ensures { λ o. ⌜ o ≡ eveningOpened r ⌝ }
+{
+    let statics = r.statics;
+    let standing = r.standing;
+    let p1 = r.p1;
+    let p2 = r.p2;
+    let tentative = r.tentative;
+    let rates = r.rates;
+    let ranges = r.ranges;
+    let terms = r.terms;
+    let bands = r.bands;
+    let kept = r.moves;
+    let none = NearSeconds {
+        top: Near::Not,
+        bottom: Near::Not,
+    };
+    let near = [none; Record::TERMS];
+    Record {
+        id: r.id,
+        statics,
+        standing,
+        p1,
+        p2,
+        s: r.s,
+        tentative,
+        rates,
+        ranges,
+        terms,
+        bands,
+        moves: kept,
+        near,
+        second: r.second,
+        session: Session::Evening(0),
+    }
 }

@@ -23,7 +23,7 @@ const SLOTS: usize = 512;
 const ACCEPTED: u64 = 8;
 
 // The numbers of one security, in the order of the evening's `admit`.
-fn admission_of(x: &[i64; 28]) -> Admission {
+fn admission_of(x: &[i64; 31]) -> Admission {
     let given = gateway::given_of(
         x[6],
         x[7],
@@ -47,6 +47,9 @@ fn admission_of(x: &[i64; 28]) -> Admission {
         x[25],
         x[26],
         x[27],
+        x[28],
+        x[29],
+        x[30],
     );
     Admission {
         id: unsigned(x[0]),
@@ -82,7 +85,7 @@ fn first(r: Record) -> Slot {
     }
 }
 
-fn admitted(x: &[i64; 28]) -> Record {
+fn admitted(x: &[i64; 31]) -> Record {
     let a = admission_of(x);
     let empty = first(record_answers::blank());
     let turn = record_calls::admitted(record_answers::absent(SLOTS), empty, a);
@@ -160,7 +163,7 @@ fn lasts(why: Why) -> u64 {
 
 // One security evaluated on so many days.
 #[no_mangle]
-pub extern "C" fn nedrubal_days(x: &[i64; 28], y: &[i64; 6], rows: &[i64], days: u64) -> u64 {
+pub extern "C" fn nedrubal_days(x: &[i64; 31], y: &[i64; 6], rows: &[i64], days: u64) -> u64 {
     let mut r = admitted(x);
     let mut sum: u64 = 0;
     let mut i: u64 = 0;
@@ -176,7 +179,7 @@ pub extern "C" fn nedrubal_days(x: &[i64; 28], y: &[i64; 6], rows: &[i64], days:
 // One security evaluated on so many days, each time as it was admitted: what asking is measured beside.
 #[no_mangle]
 pub extern "C" fn nedrubal_evaluations(
-    x: &[i64; 28],
+    x: &[i64; 31],
     y: &[i64; 6],
     rows: &[i64],
     days: u64,
@@ -194,7 +197,7 @@ pub extern "C" fn nedrubal_evaluations(
 
 // Why each of those evaluations is answered as it is.
 #[no_mangle]
-pub extern "C" fn nedrubal_whys(x: &[i64; 28], y: &[i64; 6], rows: &[i64], days: u64) -> u64 {
+pub extern "C" fn nedrubal_whys(x: &[i64; 31], y: &[i64; 6], rows: &[i64], days: u64) -> u64 {
     let r = admitted(x);
     let mut sum: u64 = 0;
     let mut i: u64 = 0;
@@ -208,7 +211,7 @@ pub extern "C" fn nedrubal_whys(x: &[i64; 28], y: &[i64; 6], rows: &[i64], days:
 
 // The record's soundness judged and the record copied, so many times.
 #[no_mangle]
-pub extern "C" fn nedrubal_reads(x: &[i64; 28], times: u64) -> u64 {
+pub extern "C" fn nedrubal_reads(x: &[i64; 31], times: u64) -> u64 {
     let mut r = admitted(x);
     let mut sum: u64 = 0;
     let mut i: u64 = 0;

@@ -6,7 +6,7 @@ ghost use Prim.Native.Nat.{_+_, _*_, _≤_};
 ghost use lib.IntN.{pos, negsuc};
 ghost use lib.ListN.{getD};
 ghost use Rattle.paper.specs.Verdicts.{numberOf};
-ghost use Rattle.text_protocol.specs.Answers.{next, answerText, badText, flag, standingNumbers, nearNumber, figureNumbers, ratesNumbers, rangesNumbers, termNumbers, lastNumbers, recordNumbers, maturityNumbers, maturitiesNumbers, interestNumbers, interestText, answerMost};
+ghost use Rattle.text_protocol.specs.Answers.{next, answerText, badText, flag, standingNumbers, nearNumber, figureNumbers, ratesNumbers, rangesNumbers, termNumbers, lastNumbers, sessionNumbers, recordNumbers, maturityNumbers, maturitiesNumbers, interestNumbers, interestText, answerMost};
 ghost use Rattle.text_out.specs.Wrote.{Wrote};
 ghost use Rattle.text_answer.specs.Told.{Told};
 ghost use Rattle.text_answer.specs.Kinds.{textOfKind};
@@ -20,6 +20,7 @@ use paper::Near;
 use paper::NearSeconds;
 use paper::Rate;
 use paper::Record;
+use paper::Session;
 use paper::Standing;
 use paper::Term;
 use text_out::put_byte;
@@ -152,22 +153,41 @@ fn put_last(out: &mut [u8; ROOM], len: usize, r: Record) -> usize
     put_next(out, n, r.second)
 }
 
+// SESSION EVENINGMOVES: the main session has no evening moves.
+fn put_session(out: &mut [u8; ROOM], len: usize, session: Session) -> usize
+    requires { ⌜ len + 42 ≤ room ⌝ }
+    ensures { λ r. ⌜ Told (now (out .entry)) len (now (out .exit)) r (sessionNumbers session) 42 ⌝ }
+{
+    match session {
+        Session::Main => {
+            let n = put_next(out, len, 0);
+            put_next(out, n, 0)
+        }
+        Session::Evening(made) => {
+            let n = put_next(out, len, 1);
+            put_next(out, n, made)
+        }
+    }
+}
+
 fn put_record(out: &mut [u8; ROOM], len: usize, r: Record) -> usize
-    requires { ⌜ len + 873 ≤ room ⌝ }
-    ensures { λ n. ⌜ Told (now (out .entry)) len (now (out .exit)) n (recordNumbers r) 873 ⌝ }
+    requires { ⌜ len + 915 ≤ room ⌝ }
+    ensures { λ n. ⌜ Told (now (out .entry)) len (now (out .exit)) n (recordNumbers r) 915 ⌝ }
 {
     let rates = r.rates;
     let ranges = r.ranges;
     let terms = r.terms;
     let bands = r.bands;
     let near = r.near;
+    let session = r.session;
     let n = put_figures(out, len, r);
     let n = put_rates(out, n, rates);
     let n = put_ranges(out, n, ranges);
     let n = put_term(out, n, terms[0], bands[0], near[0]);
     let n = put_term(out, n, terms[1], bands[1], near[1]);
     let n = put_term(out, n, terms[2], bands[2], near[2]);
-    put_last(out, n, r)
+    let n = put_last(out, n, r);
+    put_session(out, n, session)
 }
 
 // ---- an interest line's answer

@@ -9,7 +9,8 @@ use Rattle.paper.specs.Ranges.{unsigned}
 use Rattle.text_protocol.specs.Calls.{givenOf}
 use Rattle.text_protocol.specs.Names.{the, placeOf, admitNames, code}
 
-pub given-is : (zs : List ℤ) {x6 x7 x8 x9 x10 x11 x12 x13 x14 x15 x16 x17 x18 x19 x20 x21 x22 x23 x24 x25 x26 x27 : ℕ}
+pub given-is : (zs : List ℤ) {x6 x7 x8 x9 x10 x11 x12 x13 x14 x15 x16 x17 x18 x19 x20 x21 x22 x23 x24 x25 x26 x27 x28
+    x29 x30 : ℕ}
     → x6 ≡ unsigned (getD zs 6 (pos 0))
     → x7 ≡ unsigned (getD zs 7 (pos 0))
     → x8 ≡ unsigned (getD zs 8 (pos 0))
@@ -32,6 +33,9 @@ pub given-is : (zs : List ℤ) {x6 x7 x8 x9 x10 x11 x12 x13 x14 x15 x16 x17 x18 
     → x25 ≡ unsigned (getD zs 25 (pos 0))
     → x26 ≡ unsigned (getD zs 26 (pos 0))
     → x27 ≡ unsigned (getD zs 27 (pos 0))
+    → x28 ≡ unsigned (getD zs 28 (pos 0))
+    → x29 ≡ unsigned (getD zs 29 (pos 0))
+    → x30 ≡ unsigned (getD zs 30 (pos 0))
     → record {
       lot = x6;
       h = x7;
@@ -55,7 +59,36 @@ pub given-is : (zs : List ℤ) {x6 x7 x8 x9 x10 x11 x12 x13 x14 x15 x16 x17 x18 
       u = x25;
       monitoring = x26;
       ewma = x27;
+      uevening = x28;
+      autochange = x29;
+      eveningmax = x30;
     } ≡ givenOf zs
 unfolding givenOf the placeOf admitNames code
-given-is zs e6 e7 e8 e9 e10 e11 e12 e13 e14 e15 e16 e17 e18 e19 e20 e21 e22 e23 e24 e25 e26 e27 =
-    rw (e6, e7, e8, e9, e10, e11, e12, e13, e14, e15, e16, e17, e18, e19, e20, e21, e22, e23, e24, e25, e26, e27)
+given-is zs e6 e7 e8 e9 e10 e11 e12 e13 e14 e15 e16 e17 e18 e19 e20 e21 e22 e23 e24 e25 e26 e27 e28 e29 e30 =
+    rw (
+      e6,
+      e7,
+      e8,
+      e9,
+      e10,
+      e11,
+      e12,
+      e13,
+      e14,
+      e15,
+      e16,
+      e17,
+      e18,
+      e19,
+      e20,
+      e21,
+      e22,
+      e23,
+      e24,
+      e25,
+      e26,
+      e27,
+      e28,
+      e29,
+      e30,
+    )

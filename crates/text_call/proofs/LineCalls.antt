@@ -12,7 +12,7 @@ use Rattle.paper.specs.declared.Quote.{Quote}
 use Rattle.paper.specs.Ranges.{unsigned}
 use Rattle.text_protocol.specs.declared.Kept.{Kept}
 use Rattle.text_protocol.specs.declared.Pairs.{Pairs}
-use Rattle.text_protocol.specs.Names.{the, placeOf, code, evaluateNames, quoteNames, moveNames, readNames, admitKind, evaluateKind, quoteKind, moveKind, readKind}
+use Rattle.text_protocol.specs.Names.{the, placeOf, code, evaluateNames, quoteNames, moveNames, readNames, openNames, admitKind, evaluateKind, quoteKind, moveKind, readKind, openKind}
 use Rattle.text_protocol.specs.Calls.{admissionOf, quoteOf, askedOf, figuresOf}
 use Rattle.text_call.specs.declared.Request.{Request}
 use Rattle.text_call.specs.Requests.{requestCall, lineCall, noAdmission, noDay, noQuote}
@@ -48,6 +48,11 @@ module _ (k : Kept) (kind : ℕ) (zs : List ℤ) (p : Pairs) where
     unfolding lineCall the placeOf code readNames
     read-line e f = rw (is, e, f)
 
+    pub open-line : kind ≡ openKind → id ≡ unsigned (getD zs 0 (pos 0))
+        → requestCall r (drop 13 zs) ≡ lineCall k kind zs p
+    unfolding lineCall the placeOf code openNames
+    open-line e f = rw (is, e, f)
+
   pub other-line : (r : Request) (q : Quote) → r ≡ record {
     kind = readKind;
     id = 0;
@@ -57,10 +62,10 @@ module _ (k : Kept) (kind : ℕ) (zs : List ℤ) (p : Pairs) where
     side = 0;
   }
       → (kind ≡ admitKind → ⊥) → (kind ≡ evaluateKind → ⊥) → (kind ≡ quoteKind → ⊥) → (kind ≡ moveKind → ⊥)
-      → (kind ≡ readKind → ⊥)
+      → (kind ≡ readKind → ⊥) → (kind ≡ openKind → ⊥)
       → requestCall r (drop 13 zs) ≡ lineCall k kind zs p
   unfolding lineCall
-  other-line r q is a b c d e =
+  other-line r q is a b c d e f =
       rw (
         is,
         ne-eqb kind admitKind a,
@@ -68,4 +73,5 @@ module _ (k : Kept) (kind : ℕ) (zs : List ℤ) (p : Pairs) where
         ne-eqb kind quoteKind c,
         ne-eqb kind moveKind d,
         ne-eqb kind readKind e,
+        ne-eqb kind openKind f,
       )

@@ -10,10 +10,10 @@ use Rattle.paper.specs.declared.AskedTerm.{AskedTerm}
 use Rattle.paper.specs.declared.AskedDay.{AskedDay}
 use Rattle.paper.specs.Lists.{pick}
 use Rattle.paper.specs.Terms.{dayOf}
-use Rattle.paper_desk.specs.Desk.{Call, admit, evaluate, quote, move, read}
+use Rattle.paper_desk.specs.Desk.{Call, admit, evaluate, quote, move, read, openEvening}
 use Rattle.text_protocol.specs.declared.Kept.{Kept}
 use Rattle.text_protocol.specs.declared.Pairs.{Pairs}
-use Rattle.text_protocol.specs.Names.{ID, SIDE, evaluateNames, quoteNames, moveNames, readNames, admitKind, evaluateKind, quoteKind, moveKind, readKind}
+use Rattle.text_protocol.specs.Names.{ID, SIDE, evaluateNames, quoteNames, moveNames, readNames, openNames, admitKind, evaluateKind, quoteKind, moveKind, readKind, openKind}
 use Rattle.text_protocol.specs.Calls.{unsignedOf, admissionOf, quoteOf, askedOf, figuresOf}
 use Rattle.text_call.specs.declared.Request.{Request}
 
@@ -22,7 +22,8 @@ requestCall c rows =
     pick (eqb (c .kind) admitKind) (admit (c .admission))
     (pick (eqb (c .kind) evaluateKind) (evaluate (c .id) (dayOf (c .day)) rows)
     (pick (eqb (c .kind) quoteKind) (quote (c .id) (c .quote))
-    (pick (eqb (c .kind) moveKind) (move (c .id) (c .side)) (read (c .id)))))
+    (pick (eqb (c .kind) moveKind) (move (c .id) (c .side))
+    (pick (eqb (c .kind) openKind) (openEvening (c .id)) (read (c .id))))))
 
 -- ---- what a request leaves empty: an admission, as a line of no numbers gives it, a day and a quote
 
@@ -48,4 +49,5 @@ lineCall k kind zs p =
     evaluateNames zs))
     (pick (eqb kind quoteKind) (quote (unsignedOf quoteNames zs ID) (quoteOf zs))
     (pick (eqb kind moveKind) (move (unsignedOf moveNames zs ID) (unsignedOf moveNames zs SIDE))
-    (pick (eqb kind readKind) (read (unsignedOf readNames zs ID)) (read 0)))))
+    (pick (eqb kind readKind) (read (unsignedOf readNames zs ID))
+    (pick (eqb kind openKind) (openEvening (unsignedOf openNames zs ID)) (read 0))))))

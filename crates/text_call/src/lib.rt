@@ -79,6 +79,9 @@ fn given_of(zs: &[i64]) -> GivenStatics
         u: unsigned_at(zs, 25),
         monitoring: unsigned_at(zs, 26),
         ewma: unsigned_at(zs, 27),
+        uevening: unsigned_at(zs, 28),
+        autochange: unsigned_at(zs, 29),
+        eveningmax: unsigned_at(zs, 30),
     }
 }
 
@@ -225,6 +228,9 @@ fn no_admission() -> Admission
             u: 0,
             monitoring: 0,
             ewma: 0,
+            uevening: 0,
+            autochange: 0,
+            eveningmax: 0,
         },
     }
 }
@@ -315,6 +321,9 @@ pub fn request_of(zs: &[i64], kind: u64, p: Pairs, k: Kept) -> Request
         return of_id(kind, unsigned_at(zs, 0), no_quote(), unsigned_at(zs, 1));
     }
     if kind == Kind::READ {
+        return of_id(kind, unsigned_at(zs, 0), no_quote(), 0);
+    }
+    if kind == Kind::OPEN {
         return of_id(kind, unsigned_at(zs, 0), no_quote(), 0);
     }
     of_id(Kind::READ, 0, no_quote(), 0)

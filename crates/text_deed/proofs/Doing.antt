@@ -17,7 +17,7 @@ use Rattle.paper.specs.declared.InterestAnswer.{InterestAnswer}
 use Rattle.paper.specs.Lists.{pick}
 use Rattle.paper_interest.specs.Interest.{interestAnswer}
 use Rattle.paper.specs.Terms.{dayOf}
-use Rattle.paper_desk.specs.Desk.{Call, admit, evaluate, quote, move, read, step}
+use Rattle.paper_desk.specs.Desk.{Call, admit, evaluate, quote, move, read, openEvening, step}
 use Rattle.paper_bonds.specs.declared.Bond.{Bond}
 use Rattle.paper_bonds.specs.declared.BondAnswer.{BondAnswer}
 use Rattle.paper_bonds.specs.Bonds.{bondAnswer}
@@ -26,7 +26,7 @@ use Rattle.text_protocol.specs.declared.Kept.{Kept}
 use Rattle.text_protocol.specs.declared.Pairs.{Pairs}
 use Rattle.text_protocol.specs.declared.Performed.{Performed}
 use Rattle.text_protocol.specs.Kept.{keptAfter}
-use Rattle.text_protocol.specs.Names.{interestNames, bondNames, admitKind, evaluateKind, quoteKind, moveKind, readKind, interestKind, bondKind}
+use Rattle.text_protocol.specs.Names.{interestNames, bondNames, admitKind, evaluateKind, quoteKind, moveKind, readKind, openKind, interestKind, bondKind}
 use Rattle.text_protocol.specs.Line.{Said, Nothing, NoCall, Call as saysCall}
 use Rattle.text_protocol.specs.Calls.{interestOf, bondOf, figuresOf, callOf, deedOf}
 use Rattle.text_protocol.specs.Answers.{callText, figuresOf as figuresAnswered}
@@ -56,6 +56,7 @@ data LineKind : ℕ → Type 0 where
   quotes : LineKind quoteKind
   moves : LineKind moveKind
   reads : LineKind readKind
+  opens : LineKind openKind
   asks-interest : LineKind interestKind
   asks-bond : LineKind bondKind
   is-blank : LineKind blankKind
@@ -68,11 +69,12 @@ line-kind (suc (suc zero)) h g = evaluates
 line-kind (suc (suc (suc zero))) h g = quotes
 line-kind (suc (suc (suc (suc zero)))) h g = moves
 line-kind (suc (suc (suc (suc (suc zero))))) h g = reads
-line-kind (suc (suc (suc (suc (suc (suc zero)))))) h g = asks-interest
-line-kind (suc (suc (suc (suc (suc (suc (suc zero))))))) h g = asks-bond
-line-kind (suc (suc (suc (suc (suc (suc (suc (suc zero)))))))) h g = is-blank
-line-kind (suc (suc (suc (suc (suc (suc (suc (suc (suc zero))))))))) h g = is-bad
-line-kind (suc (suc (suc (suc (suc (suc (suc (suc (suc (suc j)))))))))) h g = let z : ⊥ = omega arith in absurd z
+line-kind (suc (suc (suc (suc (suc (suc zero)))))) h g = opens
+line-kind (suc (suc (suc (suc (suc (suc (suc zero))))))) h g = asks-interest
+line-kind (suc (suc (suc (suc (suc (suc (suc (suc zero)))))))) h g = asks-bond
+line-kind (suc (suc (suc (suc (suc (suc (suc (suc (suc zero))))))))) h g = is-blank
+line-kind (suc (suc (suc (suc (suc (suc (suc (suc (suc (suc zero)))))))))) h g = is-bad
+line-kind (suc (suc (suc (suc (suc (suc (suc (suc (suc (suc (suc j))))))))))) h g = let z : ⊥ = omega arith in absurd z
 
 -- ---- why
 
@@ -82,26 +84,28 @@ no-reasons true = refl
 no-reasons false = refl
 
 -- a request that is an evaluation is of its id and of its day
-evaluates-as : (is-admit is-evaluate is-quote is-move : Bool) (g : Admission) (id id' side : ℕ) (d d' : Day) (q : Quote)
-    (rows rows' : List ℤ) (t : List Record)
+evaluates-as : (is-admit is-evaluate is-quote is-move is-open : Bool) (g : Admission) (id id' side : ℕ) (d d' : Day)
+    (q : Quote) (rows rows' : List ℤ) (t : List Record)
     → pick is-admit (admit g) (pick is-evaluate (evaluate id d rows) (pick is-quote (quote id q)
-    (pick is-move (move id side) (read id)))) ≡ evaluate id' d' rows'
+    (pick is-move (move id side) (pick is-open (openEvening id) (read id))))) ≡ evaluate id' d' rows'
     → whyOn t id d rows ≡ whyOn t id' d' rows'
-evaluates-as true b c e g id id' side d d' q rows rows' t h = impossible cc
-evaluates-as false true c e g id id' side d d' q rows rows' t h =
+evaluates-as true b c e o g id id' side d d' q rows rows' t h = impossible cc
+evaluates-as false true c e o g id id' side d d' q rows rows' t h =
     let i : id ≡ id' = cc in
     let j : d ≡ d' = cc in
     let k : rows ≡ rows' = cc in
     rw (i, j, k)
-evaluates-as false false true e g id id' side d d' q rows rows' t h = impossible cc
-evaluates-as false false false true g id id' side d d' q rows rows' t h = impossible cc
-evaluates-as false false false false g id id' side d d' q rows rows' t h = impossible cc
+evaluates-as false false true e o g id id' side d d' q rows rows' t h = impossible cc
+evaluates-as false false false true o g id id' side d d' q rows rows' t h = impossible cc
+evaluates-as false false false false true g id id' side d d' q rows rows' t h = impossible cc
+evaluates-as false false false false false g id id' side d d' q rows rows' t h = impossible cc
 
 why-of : (r : Request) (rows : List ℤ) (t : List Record) {id : ℕ} {d : Day} {rows' : List ℤ}
     → requestCall r rows ≡ evaluate id d rows' → whyOn t (r .id) (dayOf (r .day)) rows ≡ whyOn t id d rows'
 why-of r rows t {id} {d} {rows'} h =
     evaluates-as (eqb (r .kind) admitKind) (eqb (r .kind) evaluateKind) (eqb (r .kind) quoteKind)
-    (eqb (r .kind) moveKind) (r .admission) (r .id) id (r .side) (dayOf (r .day)) d (r .quote) rows rows' t h
+    (eqb (r .kind) moveKind) (eqb (r .kind) openKind) (r .admission) (r .id) id (r .side) (dayOf (r .day)) d (r .quote)
+    rows rows' t h
 
 module _ (k : Kept) (zs : List ℤ) (p : Pairs) where
   abbrev worked : InterestAnswer
@@ -117,6 +121,7 @@ module _ (k : Kept) (zs : List ℤ) (p : Pairs) where
   asks-kind quotes = refl
   asks-kind moves = refl
   asks-kind reads = refl
+  asks-kind opens = refl
   asks-kind asks-interest = refl
   asks-kind asks-bond = refl
   asks-kind is-blank = refl
@@ -131,6 +136,7 @@ module _ (k : Kept) (zs : List ℤ) (p : Pairs) where
   keeps-kind kept quotes e f = f (λ q. omega arith)
   keeps-kind kept moves e f = f (λ q. omega arith)
   keeps-kind kept reads e f = f (λ q. omega arith)
+  keeps-kind kept opens e f = f (λ q. omega arith)
   keeps-kind kept asks-interest e f = e refl
   keeps-kind kept asks-bond e f = f (λ q. omega arith)
   keeps-kind kept is-blank e f = f (λ q. omega arith)
@@ -149,6 +155,7 @@ module _ (k : Kept) (zs : List ℤ) (p : Pairs) where
   says-kind reasons n b r rows a t quotes f g asks e = rw (no-reasons reasons, e .answer)
   says-kind reasons n b r rows a t moves f g asks e = rw (no-reasons reasons, e .answer)
   says-kind reasons n b r rows a t reads f g asks e = rw (no-reasons reasons, e .answer)
+  says-kind reasons n b r rows a t opens f g asks e = rw (no-reasons reasons, e .answer)
   says-kind reasons n b r rows a t asks-interest f g asks e = rw (no-reasons reasons, f refl)
   says-kind reasons n b r rows a t asks-bond f g asks e = rw (no-reasons reasons, g refl)
   says-kind reasons n b r rows a t is-blank f g asks e = rw (no-reasons reasons)

@@ -84,6 +84,7 @@ fn kind_of(p: &[u8]) -> u64
 {
     let k = kind_if(p, b"bond", Kind::BOND, 0);
     let k = kind_if(p, b"interest", Kind::INTEREST, k);
+    let k = kind_if(p, b"open", Kind::OPEN, k);
     let k = kind_if(p, b"read", Kind::READ, k);
     let k = kind_if(p, b"move", Kind::MOVE, k);
     let k = kind_if(p, b"quote", Kind::QUOTE, k);
@@ -97,11 +98,12 @@ fn takes(kind: u64, count: usize) -> bool
     ensures { λ r. ⌜ r ≡ takes kind count ⌝ }
 {
     match kind {
-        Kind::ADMIT => count == 28,
+        Kind::ADMIT => count == 31,
         Kind::EVALUATE => 13 <= count,
         Kind::QUOTE => count == 5,
         Kind::MOVE => count == 2,
         Kind::READ => count == 1,
+        Kind::OPEN => count == 1,
         Kind::INTEREST => 14 <= count,
         Kind::BOND => 33 <= count,
         _ => false,

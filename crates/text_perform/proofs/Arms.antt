@@ -1,7 +1,7 @@
 -- The calls that `perform` makes of the public calls, as steps of a walk whose locals are a frame:
 --     asks         let d = f(t, id, q);          f is a call of an id and a plain value, whatever the call is
 --     asks-rows    let d = f(t, id, q, rows);    the rows are lent on as the `&` that they are
---     admits       let d = admit(t, a);
+--     asks-one     let d = f(t, a);              f is a call of a plain value: an admission, or an id
 --     reads        let d = read(t, id);          t is lent as `&` for a lifetime that is made for the call
 -- After each the caller has t's last list, and knows that it and the answer are promised. In the first three t is given
 -- up to the call, as `Hands` has it.
@@ -32,23 +32,22 @@ use types.Share.{arr-parts}
 use denote.Memory.{shares}
 use denote.Laws.{Is}
 use denote.Plain.{uint-makes}
-use denote.Builtin.{u64, i64}
-use denote.Ref.{RefT}
+use denote.Builtin.{u64, i64, SliceRefMutOf}
+use denote.Ref.{RefT, now}
 use denote.Slice.{sliceVal, ShrSlice, Room, finally, res-finally, heres, codedHoleys}
 use denote.Lend.{lends-shr-slice}
 use denote.Index.{opens-slice, closes-slice}
 use denote.Steps.{owned, heard, nothing}
-use denote.Struct.Laws as LL
 use denote.Triple.Statement.{Contract, Triple}
 use denote.Triple.Bound.{Bound}
+use denote.Triple.Clauses.{Clauses, Ended}
+use denote.Signature.{plain}
+use denote.Exit.{yes}
 use Rattle.paper.specs.declared.Record.{Record}
 use Rattle.paper.specs.declared.Answer.{Answer}
-use Rattle.paper.specs.declared.Admission.{Admission}
-use Rattle.paper_desk.specs.Desk.{Call, admit, read, step}
+use Rattle.paper_desk.specs.Desk.{Call, read, step}
 use Rattle.paper.proofs.Answer as N
 use Rattle.paper.proofs.Answer.Laws as N′
-use Rattle.paper.proofs.Admission as B
-use Rattle.paper.proofs.Admission.Laws as B′
 use Rattle.desk.specs.Promises.{Promised}
 use Rattle.desk.proofs.Row.{R, typed-answer}
 use Rattle.desk.proofs.Frame.{Locals, holding, Within, frame}
@@ -59,13 +58,30 @@ use Rattle.desk.proofs.Plain.{Plain, PlainLaws, row}
 use Rattle.desk.proofs.Shape as Shape
 use Rattle.desk.proofs.ShapeWithRows as ShapeWithRows
 use Rattle.desk.proofs.Steps.{read-leaves}
-use Rattle.desk.proofs.admit as admit-fn
-use Rattle.desk.proofs.admit.Symbol.{name as #admit}
 use Rattle.desk.proofs.read as read-fn
 use Rattle.desk.proofs.read.Symbol.{name as #read}
 use Rattle.text_perform.proofs.Hands.{handing, hands}
 
--- the contracts of the calls: of an id and a plain value, with rows or without, of an admission, and of an id
+-- a call of one plain value: its signature and its contract
+abbrev one-ended : Plain → Ended
+one-ended P = record {
+  signature = record {
+    lifetimes = 1;
+    outlives = [];
+    params = SliceRefMutOf (0 ∷ []) tt (plain (λ κs. R)) (λ κs. tt) ∷ plain (λ κs. row P) ∷ [];
+    result = plain (λ κs. N.the-row);
+  };
+  kept = (yes, (yes, tt));
+}
+
+abbrev one-clauses : (P : Plain) → (P .D → Call) → {M : Type 1} (𝓤 : URA M) → Clauses 𝓤 (one-ended P)
+one-clauses P K 𝓤 κs a = record {
+  ghost = Unit {0};
+  requires = λ _. emp 𝓤;
+  ensures = λ _ r e. fact 𝓤 (Promised (K (a .1 .0)) (now (a .0)) r (now (e .0)));
+}
+
+-- the contracts of the calls: of an id and a plain value, with rows or without, of a plain value, and of a read
 abbrev pub Ask : (P : Plain) (L : PlainLaws P) (K : ℕ → P .D → Call) {M : Type 1} (𝓤 : URA M) (H : Heap 𝓤) (A : Atoms 𝓤)
     → Contract 𝓤
 Ask P L K 𝓤 H A = Callee 𝓤 H A (Shape.ended P L) (Shape.clauses P L K 𝓤)
@@ -74,10 +90,10 @@ abbrev pub AskRows : (P : Plain) (L : PlainLaws P) (K : ℕ → P .D → List �
     (A : Atoms 𝓤) → Contract 𝓤
 AskRows P L K 𝓤 H A = Callee 𝓤 H A (ShapeWithRows.ended P L) (ShapeWithRows.clauses P L K 𝓤)
 
-module _ {M : Type 1} (𝓤 : URA M) (H : Heap 𝓤) (A : Atoms 𝓤) (mem : Memory → SProp 𝓤) (run : Routine → Fun 𝓤) where
-  abbrev pub Admit : Contract 𝓤
-  Admit = Callee 𝓤 H A admit-fn.ended (admit-fn.clauses 𝓤 H A mem run)
+abbrev pub AskOne : (P : Plain) (K : P .D → Call) {M : Type 1} (𝓤 : URA M) (H : Heap 𝓤) (A : Atoms 𝓤) → Contract 𝓤
+AskOne P K 𝓤 H A = Callee 𝓤 H A (one-ended P) (one-clauses P K 𝓤)
 
+module _ {M : Type 1} (𝓤 : URA M) (H : Heap 𝓤) (A : Atoms 𝓤) (mem : Memory → SProp 𝓤) (run : Routine → Fun 𝓤) where
   abbrev pub Read : Contract 𝓤
   Read = Callee 𝓤 H A read-fn.ended (read-fn.clauses 𝓤 H A mem run)
 
@@ -109,15 +125,15 @@ module _ {M : Type 1} (𝓤 : URA M) (H : Heap 𝓤) (A : Atoms 𝓤) (W : Given
       owned ! u64 (Is u64) (uint-makes 𝓤 H A W w64) id _ (refl, gi) $ fjoin ! $ move ! (1 ∷ 0 ∷ []) $ fjoin ! $
       move ! (1 ∷ 0 ∷ []) $ join ! $ framed ! $ done !
 
-  abbrev to-admit : Admission → Val → Bound 𝓤 H A admit-fn.signature
-  to-admit a v = ((κ, tt), (q, tt), tt, (ref b o γ ys, (a, tt)), (machine b o ys ∷ [], (v ∷ [], tt)))
+  abbrev to-ask-one : (P : Plain) → P .D → Val → Bound 𝓤 H A (one-ended P .signature)
+  to-ask-one P a v = ((κ, tt), (q, tt), tt, (ref b o γ ys, (a, tt)), (machine b o ys ∷ [], (v ∷ [], tt)))
 
-  goes-admit : (mem : Memory → SProp 𝓤) (run : Routine → Fun 𝓤) (a : Admission) (v : Val) → Is B.the-row a (v ∷ [])
-      → ent 𝓤 (sep 𝓤 (sem 𝓤 H A (Owned κ b o γ ys)) (A .lft κ q)) (Admit 𝓤 H A mem run .pre (to-admit a v, tt))
-  goes-admit mem run a v is =
+  goes-ask-one : (P : Plain) (K : P .D → Call) → PlainLaws P → (a : P .D) (v : Val) → Is (row P) a (v ∷ [])
+      → ent 𝓤 (sep 𝓤 (sem 𝓤 H A (Owned κ b o γ ys)) (A .lft κ q)) (AskOne P K 𝓤 H A .pre (to-ask-one P a v, tt))
+  goes-ask-one P K L a v is =
       qed W (‵ (Owned κ b o γ ys) ∷ ‵ (flft κ q) ∷ []) ∵ nothing ! $ move ! (2 ∷ 0 ∷ []) $ join ! $
       move ! (1 ∷ 0 ∷ []) $ nothing ! $
-      owned ! B.the-row (Is B.the-row) (LL.makes B.the-type B′.the-plain 𝓤 H A) a (v ∷ []) is $ fjoin ! $
+      owned ! (row P) (Is (row P)) (L .makes 𝓤 H A W) a (v ∷ []) is $ fjoin ! $
       move ! (1 ∷ 0 ∷ []) $ fjoin ! $ move ! (1 ∷ 0 ∷ []) $ join ! $ framed ! $ done !
 
   -- the rows, whose lifetime is κ₂
@@ -217,16 +233,17 @@ module _ {M : Type 1} (𝓤 : URA M) (H : Heap 𝓤) (A : Atoms 𝓤) (W : Given
         (λ r zs. Promised (K id x (rows .now)) ys r zs) fm known (goes-ask-rows κ₂ q₂ rows P L K id x v gi is)
         (tokens-back κ₂ q₂ rows) (λ r. id⊢ 𝓤 _) t m d l (stores _ is-answer) in-d os k
 
-    module _ (mem : Memory → SProp 𝓤) (run : Routine → Fun 𝓤) where
-      pub admits : Triple 𝓤 (C #admit) (Admit 𝓤 H A mem run) → (a : Admission) (v : Val) → Is B.the-row a (v ∷ [])
-          → Operands Γ E cs m (Admit 𝓤 H A mem run .pre (to-admit a v, tt)) xs (machine b o ys ∷ v ∷ [])
-          → Answered Γ E cs m C Λ post d rest (admit a) Token
-          → Sq W (frame H E cs ∷ Ours ∷ Γ) (runs C Λ E (handing t m d #admit xs rest) post)
-      admits known a v is os k =
-          hands 𝓤 H A γ ys W b o room admit-fn.ended (admit-fn.clauses 𝓤 H A mem run) (to-admit a v) tt Ours Token 1
-          (λ r zs. Promised (admit a) ys r zs) fm known (goes-admit mem run a v is) token-back (λ r. id⊢ 𝓤 _) t m d l
-          (stores _ is-answer) in-d os k
+    pub asks-one : (P : Plain) (K : P .D → Call) → PlainLaws P → {#f : Name} → Triple 𝓤 (C #f) (AskOne P K 𝓤 H A)
+        → (a : P .D) (v : Val) → Is (row P) a (v ∷ [])
+        → Operands Γ E cs m (AskOne P K 𝓤 H A .pre (to-ask-one P a v, tt)) xs (machine b o ys ∷ v ∷ [])
+        → Answered Γ E cs m C Λ post d rest (K a) Token
+        → Sq W (frame H E cs ∷ Ours ∷ Γ) (runs C Λ E (handing t m d #f xs rest) post)
+    asks-one P K L known a v is os k =
+        hands 𝓤 H A γ ys W b o room (one-ended P) (one-clauses P K 𝓤) (to-ask-one P a v) tt Ours Token 1
+        (λ r zs. Promised (K a) ys r zs) fm known (goes-ask-one P K L a v is) token-back (λ r. id⊢ 𝓤 _) t m d l
+        (stores _ is-answer) in-d os k
 
+    module _ (mem : Memory → SProp 𝓤) (run : Routine → Fun 𝓤) where
       pub reads : Triple 𝓤 (C #read) (Read 𝓤 H A mem run) → (id : ℕ) → id < 2 ^ 64
           → ((κ′ : Lft) (γ′ : GName)
           → Opds (Go {0}) W (frame H E (lent cs m b o ys) ∷ raw (Read 𝓤 H A mem run .pre (to-read id κ′ γ′, tt))

@@ -9,11 +9,11 @@ use mir.Syntax.{Ty, w64, tyInt, tyStruct, tcons, tnil}
 use Rattle.paper.specs.declared.AskedDay.{AskedDay}
 use Rattle.paper.specs.Lists.{pick}
 use Rattle.paper.specs.Terms.{dayOf}
-use Rattle.paper_desk.specs.Desk.{Call, admit, evaluate, quote, move, read}
+use Rattle.paper_desk.specs.Desk.{Call, admit, evaluate, quote, move, read, openEvening}
 use Rattle.paper.proofs.Admission.Laws as X′
 use Rattle.paper.proofs.AskedDay.Laws as D′
 use Rattle.paper.proofs.Quote.Laws as Q′
-use Rattle.text_protocol.specs.Names.{admitKind, evaluateKind, quoteKind, moveKind}
+use Rattle.text_protocol.specs.Names.{admitKind, evaluateKind, quoteKind, moveKind, openKind}
 use Rattle.text_call.specs.declared.Request.{Request}
 use Rattle.text_call.specs.Requests.{requestCall}
 use Rattle.text_call.proofs.Request as B
@@ -43,15 +43,19 @@ quotes-is c rows e = rw e
 pub moves-is : (c : Request) (rows : List ℤ) → c .kind ≡ 4 → requestCall c rows ≡ move (c .id) (c .side)
 moves-is c rows e = rw e
 
+pub opens-is : (c : Request) (rows : List ℤ) → c .kind ≡ 6 → requestCall c rows ≡ openEvening (c .id)
+opens-is c rows e = rw e
+
 passed : {A : Type 0} (b : Bool) (x y : A) → T (not b) → pick b x y ≡ y
 passed true x y n = absurd n
 passed false x y n = refl
 
--- a request of none of the first four kinds is a read
+-- a request of none of these five kinds is a read
 pub else-reads :
     (c : Request) (rows : List ℤ) → T (not (eqb (c .kind) admitKind)) → T (not (eqb (c .kind) evaluateKind))
-    → T (not (eqb (c .kind) quoteKind)) → T (not (eqb (c .kind) moveKind)) → requestCall c rows ≡ read (c .id)
-else-reads c rows a e q m =
+    → T (not (eqb (c .kind) quoteKind)) → T (not (eqb (c .kind) moveKind)) → T (not (eqb (c .kind) openKind))
+    → requestCall c rows ≡ read (c .id)
+else-reads c rows a e q m o =
     passed (eqb (c .kind) admitKind) _ _ a ∙ passed (eqb (c .kind) evaluateKind) _ _ e ∙ passed (eqb (c .kind)
     quoteKind) _ _ q
-    ∙ passed (eqb (c .kind) moveKind) _ _ m
+    ∙ passed (eqb (c .kind) moveKind) _ _ m ∙ passed (eqb (c .kind) openKind) _ _ o

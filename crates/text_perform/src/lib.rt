@@ -3,6 +3,7 @@
 use desk::admit;
 use desk::evaluate_asked;
 use desk::moved;
+use desk::open_evening;
 use desk::quote;
 use desk::read;
 use paper::Answer;
@@ -13,7 +14,7 @@ ghost use mathlib.Core.Path.{_≡_};
 ghost use Rattle.desk.specs.Promises.{Promised};
 ghost use Rattle.text_call.specs.Requests.{requestCall};
 
-// Whatever is none of the first four kinds is a read; a line that is no call of the desk is a read of id 0, which
+// Whatever is none of these five kinds is a read; a line that is no call of the desk is a read of id 0, which
 // stores nothing.
 pub fn perform(t: &mut [Record], c: Request, rows: &[i64]) -> Answer
     ensures { λ r. ⌜ Promised (requestCall c (now (rows .entry))) (now (t .entry)) r (now (t .exit)) ⌝ }
@@ -29,6 +30,9 @@ pub fn perform(t: &mut [Record], c: Request, rows: &[i64]) -> Answer
     }
     if c.kind == Kind::MOVE {
         return moved(t, c.id, c.side);
+    }
+    if c.kind == Kind::OPEN {
+        return open_evening(t, c.id);
     }
     read(t, c.id)
 }

@@ -6,6 +6,8 @@ use Prim.Native.Nat.{ℕ, zero, suc}
 use lib.IntN.{ℤ, pos, negsuc}
 use lib.ListN.{getD}
 use Rattle.paper.specs.declared.Standing.{Standing}
+use Rattle.paper.specs.declared.Session.{Session}
+use Rattle.paper.specs.declared.Session.the-variants as session
 use Rattle.paper.specs.declared.Rate.{Rate}
 use Rattle.paper.specs.declared.Tentative.{Tentative}
 use Rattle.paper.specs.declared.Limits.{Limits}
@@ -22,7 +24,7 @@ use Rattle.paper_bonds.specs.declared.BondAnswer.{BondAnswer}
 use Rattle.paper.specs.Lists.{pick}
 use Rattle.paper.specs.Ranges.{isLive, lastDay, noLimits, notNear, termAt, rateAt}
 use Rattle.paper.specs.Verdicts.{numberOf, isDone}
-use Rattle.paper_desk.specs.Desk.{Call, admit, evaluate, quote, move, read}
+use Rattle.paper_desk.specs.Desk.{Call, admit, evaluate, quote, move, read, openEvening}
 use Rattle.text_protocol.specs.Bytes.{space, lineFeed}
 use Rattle.text_protocol.specs.Numbers.{decimal, signed}
 
@@ -117,11 +119,16 @@ termNumbersAt r k = termNumbers (termAt (r .terms) k) (getD (r .bands) k noLimit
 unfoldable pub lastNumbers : Record → List ℤ
 lastNumbers r = pos (r .moves .upper) ∷ pos (r .moves .lower) ∷ pos (r .second) ∷ []
 
+-- SESSION EVENINGMOVES (W-210): the main session is 0 and has no evening moves
+unfoldable pub sessionNumbers : Session → List ℤ
+sessionNumbers session.Main = pos 0 ∷ pos 0 ∷ []
+sessionNumbers (session.Evening made) = pos 1 ∷ pos made ∷ []
+
 -- a record
 unfoldable pub recordNumbers : Record → List ℤ
 recordNumbers r =
     figureNumbers r ++ ratesNumbers (r .rates) ++ rangesNumbers (r .ranges)
-    ++ termNumbersAt r 0 ++ termNumbersAt r 1 ++ termNumbersAt r 2 ++ lastNumbers r
+    ++ termNumbersAt r 0 ++ termNumbersAt r 1 ++ termNumbersAt r 2 ++ lastNumbers r ++ sessionNumbers (r .session)
 
 -- ---- what a call answers
 
@@ -132,6 +139,7 @@ figuresOf (evaluate id d rows) a = recordNumbers (a .rec)
 figuresOf (quote id q) a = flag (a .top) ∷ flag (a .bottom) ∷ []
 figuresOf (move id side) a = recordNumbers (a .rec)
 figuresOf (read id) a = recordNumbers (a .rec)
+figuresOf (openEvening id) a = recordNumbers (a .rec)
 
 -- a refusal's number stands alone
 unfoldable pub callText : Call → Answer → List ℕ

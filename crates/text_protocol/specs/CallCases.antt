@@ -9,11 +9,11 @@ use Rattle.paper.specs.declared.RepoBand.the-variants as band
 use Rattle.paper.specs.Verdicts.{isDone}
 use Rattle.paper.specs.Ranges.{unsigned}
 use Rattle.paper.specs.Terms.{workedRepo, repoOf, dayOf, termOf as dayTerm}
-use Rattle.paper_desk.specs.Desk.{admit, evaluate, quote, move, read}
+use Rattle.paper_desk.specs.Desk.{admit, evaluate, quote, move, read, openEvening}
 use Rattle.text_protocol.specs.declared.Kept.{Kept}
 use Rattle.text_protocol.specs.Bytes.{isBlank, isNot, run, grow, pieces, full, words, same}
 use Rattle.text_protocol.specs.Numbers.{isDigit, sizeFrom, sizeOf, upTo, above, numberOf, slashAt}
-use Rattle.text_protocol.specs.Names.{code, admitNames, evaluateNames, quoteNames, moveNames, readNames, interestNames, bondNames, forms, kindFrom, kindOf, countFits, takesIn, takes, placeOf, the}
+use Rattle.text_protocol.specs.Names.{code, admitNames, evaluateNames, quoteNames, moveNames, readNames, openNames, interestNames, bondNames, forms, kindFrom, kindOf, countFits, takesIn, takes, placeOf, the}
 use Rattle.text_protocol.specs.Line.{oneOf, twoOf, itemOf, hasTerms, placeIn, pairFits, withPair, more, taking, onWith, finished, fill, called, meaning}
 use Rattle.text_protocol.specs.LineCases.{bytes, naturals}
 use Rattle.text_protocol.specs.Kept.{noPair, foundIn}
@@ -32,7 +32,7 @@ unfoldable pub deedBy : String → Deed
 deedBy text = deedOf keptLimits (meaning (bytes text))
 
 -- EACH NUMBER OF A LINE IS THE ONE OF ITS NAME; a pair of terms that is kept is its limits
-pub asked : (deedBy "admit 1 2 3 4 5 6 7 8 9 10 11 12 13 14 15 16 17 18 19 20 21 22 23 24 25 26 27 28"
+pub asked : (deedBy "admit 1 2 3 4 5 6 7 8 9 10 11 12 13 14 15 16 17 18 19 20 21 22 23 24 25 26 27 28 29 30 31"
     ≡ call (admit (record {
       id = 1;
       day = 2;
@@ -63,6 +63,9 @@ pub asked : (deedBy "admit 1 2 3 4 5 6 7 8 9 10 11 12 13 14 15 16 17 18 19 20 21
         u = 26;
         monitoring = 27;
         ewma = 28;
+        uevening = 29;
+        autochange = 30;
+        eveningmax = 31;
       };
     })))
     × (deedBy "evaluate 1 2 3 4 5 6 7 8 9 10 11 12 13 14 15"
@@ -84,6 +87,7 @@ pub asked : (deedBy "admit 1 2 3 4 5 6 7 8 9 10 11 12 13 14 15 16 17 18 19 20 21
     × (deedBy "quote 1 2 3 4 5" ≡ call (quote 1 (record { second = 2; term = 3; bid = 4; ask = 5 })))
     × (deedBy "move 1 2" ≡ call (move 1 2))
     × (deedBy "read 1" ≡ call (read 1))
+    × (deedBy "open 1" ≡ call (openEvening 1))
     × (deedBy "interest 1 2 3 4 5 6 7 8 9 10 11 12 13 14 15 16"
     ≡ interest (record {
       b = 1;
@@ -132,7 +136,7 @@ pub asked : (deedBy "admit 1 2 3 4 5 6 7 8 9 10 11 12 13 14 15 16 17 18 19 20 21
     }) (naturals (34 ∷ 35 ∷ [])))
 unfolding deedBy keptLimits bytes isDone unsigned workedRepo repoOf dayOf dayTerm isBlank isNot run grow
     pieces full words same isDigit sizeFrom sizeOf upTo above numberOf slashAt code admitNames evaluateNames quoteNames
-    moveNames readNames interestNames bondNames forms kindFrom kindOf countFits takesIn takes placeOf the oneOf twoOf
-    itemOf hasTerms placeIn pairFits withPair more taking onWith finished fill called meaning foundIn givenOf
+    moveNames readNames openNames interestNames bondNames forms kindFrom kindOf countFits takesIn takes placeOf the
+    oneOf twoOf itemOf hasTerms placeIn pairFits withPair more taking onWith finished fill called meaning foundIn givenOf
     admissionOf quoteOf interestOf bandOf termOf askedOf bondStaticsOf bondOf figuresOf callOf deedOf
-asked = (refl, refl, refl, refl, refl, refl, refl, refl)
+asked = (refl, refl, refl, refl, refl, refl, refl, refl, refl)

@@ -19,11 +19,11 @@ use Rattle.paper_bonds.specs.declared.Bond.{Bond}
 use Rattle.paper.specs.Lists.{pick}
 use Rattle.paper.specs.Ranges.{unsigned}
 use Rattle.paper.specs.Terms.{dayOf}
-use Rattle.paper_desk.specs.Desk.{Call, admit, evaluate, quote, move, read}
+use Rattle.paper_desk.specs.Desk.{Call, admit, evaluate, quote, move, read, openEvening}
 use Rattle.text_protocol.specs.declared.Kept.{Kept}
 use Rattle.text_protocol.specs.declared.Pairs.{Pairs}
 use Rattle.text_protocol.specs.Kept.{foundIn}
-use Rattle.text_protocol.specs.Names.{Name, ID, DAY, P1, P2, S, TENTATIVE, LOT, H, Q, A-UP, A-DOWN, WAIT, RH1, RH2, RH3, LIQ, MIN1, MIN2, MIN3, SMAX, XPR, SHIFT, PCHMAX, PCLMAX, W, U, MONITORING, ISEWMA, B, M, K0, RRCL0, RRCH0, K1, RRCL1, RRCH1, K2, RRCL2, RRCH2, SECOND, TERM, BID, ASK, SIDE, YM, YN, MM, SEC, XIR, MONEY, SECRATE, NET, FACE, ACCRUED, REPO, AGE, admitNames, evaluateNames, quoteNames, moveNames, readNames, interestNames, bondNames, admitKind, evaluateKind, quoteKind, moveKind, readKind, interestKind, the}
+use Rattle.text_protocol.specs.Names.{Name, ID, DAY, P1, P2, S, TENTATIVE, LOT, H, Q, A-UP, A-DOWN, WAIT, RH1, RH2, RH3, LIQ, MIN1, MIN2, MIN3, SMAX, XPR, SHIFT, PCHMAX, PCLMAX, W, U, MONITORING, ISEWMA, B, M, K0, RRCL0, RRCH0, K1, RRCL1, RRCH1, K2, RRCL2, RRCH2, SECOND, TERM, BID, ASK, SIDE, YM, YN, MM, SEC, XIR, MONEY, SECRATE, NET, FACE, ACCRUED, REPO, AGE, U-EVENING, AUTOCHANGE, EVENINGMAX, admitNames, evaluateNames, quoteNames, moveNames, readNames, openNames, interestNames, bondNames, admitKind, evaluateKind, quoteKind, moveKind, readKind, openKind, interestKind, the}
 use Rattle.text_protocol.specs.Line.{Said, Nothing, NoCall, Call as saysCall}
 
 -- a number that may not be below zero: one that is, is out of every range
@@ -55,6 +55,9 @@ givenOf zs =
       u = unsignedOf admitNames zs U;
       monitoring = unsignedOf admitNames zs MONITORING;
       ewma = unsignedOf admitNames zs ISEWMA;
+      uevening = unsignedOf admitNames zs U-EVENING;
+      autochange = unsignedOf admitNames zs AUTOCHANGE;
+      eveningmax = unsignedOf admitNames zs EVENINGMAX;
     }
 
 unfoldable pub admissionOf : List ℤ → Admission
@@ -187,8 +190,9 @@ callOf k kind zs p =
     (pick (eqb kind quoteKind) (call (quote (unsignedOf quoteNames zs ID) (quoteOf zs)))
     (pick (eqb kind moveKind) (call (move (unsignedOf moveNames zs ID) (unsignedOf moveNames zs SIDE)))
     (pick (eqb kind readKind) (call (read (unsignedOf readNames zs ID)))
+    (pick (eqb kind openKind) (call (openEvening (unsignedOf openNames zs ID)))
     (pick (eqb kind interestKind) (interest (interestOf zs) (figuresOf interestNames zs))
-    (bond (bondOf k zs p) (figuresOf bondNames zs)))))))
+    (bond (bondOf k zs p) (figuresOf bondNames zs))))))))
 
 unfoldable pub deedOf : Kept → Said → Deed
 deedOf k Nothing = nothing

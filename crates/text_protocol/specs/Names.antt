@@ -66,6 +66,9 @@ pub data Name : Type 0 where
   ACCRUED : Name
   REPO : Name
   AGE : Name
+  U-EVENING : Name
+  AUTOCHANGE : Name
+  EVENINGMAX : Name
 
 -- a number for each name, by which names are told apart
 unfoldable pub code : Name → ℕ
@@ -125,6 +128,9 @@ code FACE = 52
 code ACCRUED = 53
 code REPO = 54
 code AGE = 55
+code U-EVENING = 56
+code AUTOCHANGE = 57
+code EVENINGMAX = 58
 
 -- ---- the calls
 
@@ -138,7 +144,7 @@ pub record Form : Type 0 where
 unfoldable pub admitNames : List Name
 admitNames =
     ID ∷ DAY ∷ P1 ∷ P2 ∷ S ∷ TENTATIVE ∷ LOT ∷ H ∷ Q ∷ A-UP ∷ A-DOWN ∷ WAIT ∷ RH1 ∷ RH2 ∷ RH3 ∷ LIQ ∷ MIN1 ∷ MIN2 ∷ MIN3
-    ∷ SMAX ∷ XPR ∷ SHIFT ∷ PCHMAX ∷ PCLMAX ∷ W ∷ U ∷ MONITORING ∷ ISEWMA ∷ []
+    ∷ SMAX ∷ XPR ∷ SHIFT ∷ PCHMAX ∷ PCLMAX ∷ W ∷ U ∷ MONITORING ∷ ISEWMA ∷ U-EVENING ∷ AUTOCHANGE ∷ EVENINGMAX ∷ []
 
 -- a pair of terms stands for two numbers: in place of each RRCL RRCH a pair YM/YN may stand
 unfoldable pub evaluateNames : List Name
@@ -152,6 +158,10 @@ moveNames = ID ∷ SIDE ∷ []
 
 unfoldable pub readNames : List Name
 readNames = ID ∷ []
+
+-- the opening of the evening (W-210)
+unfoldable pub openNames : List Name
+openNames = ID ∷ []
 
 unfoldable pub interestNames : List Name
 interestNames = B ∷ YM ∷ YN ∷ A-UP ∷ A-DOWN ∷ Q ∷ H ∷ WAIT ∷ LIQ ∷ MM ∷ SEC ∷ XIR ∷ MONEY ∷ SECRATE ∷ []
@@ -179,6 +189,9 @@ moveWord = 109 ∷ 111 ∷ 118 ∷ 101 ∷ []  -- "move"
 abbrev pub readWord : List ℕ
 readWord = 114 ∷ 101 ∷ 97 ∷ 100 ∷ []  -- "read"
 
+abbrev pub openWord : List ℕ
+openWord = 111 ∷ 112 ∷ 101 ∷ 110 ∷ []  -- "open"
+
 abbrev pub interestWord : List ℕ
 interestWord = 105 ∷ 110 ∷ 116 ∷ 101 ∷ 114 ∷ 101 ∷ 115 ∷ 116 ∷ []  -- "interest"
 
@@ -193,6 +206,7 @@ forms =
     ∷ record { word = quoteWord; names = quoteNames; more = false }
     ∷ record { word = moveWord; names = moveNames; more = false }
     ∷ record { word = readWord; names = readNames; more = false }
+    ∷ record { word = openWord; names = openNames; more = false }
     ∷ record { word = interestWord; names = interestNames; more = true }
     ∷ record { word = bondWord; names = bondNames; more = true }
     ∷ []
@@ -212,11 +226,14 @@ moveKind = 4
 abbrev pub readKind : ℕ
 readKind = 5
 
+abbrev pub openKind : ℕ
+openKind = 6
+
 abbrev pub interestKind : ℕ
-interestKind = 6
+interestKind = 7
 
 abbrev pub bondKind : ℕ
-bondKind = 7
+bondKind = 8
 
 -- ---- a word's call, and a name's number
 

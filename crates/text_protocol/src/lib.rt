@@ -28,14 +28,16 @@ impl Kind {
 
     pub const READ: u64 = 5;
 
-    pub const INTEREST: u64 = 6;
+    pub const OPEN: u64 = 6;
 
-    pub const BOND: u64 = 7;
+    pub const INTEREST: u64 = 7;
+
+    pub const BOND: u64 = 8;
 
     // No call: a line with no word, and one that says no call.
-    pub const BLANK: u64 = 8;
+    pub const BLANK: u64 = 9;
 
-    pub const BAD: u64 = 9;
+    pub const BAD: u64 = 10;
 }
 
 // What digits spell: a size, or no number.

@@ -16,7 +16,7 @@ pub const fn ends(range: &RangeInclusive<i64>) -> Ends {
 
 const FLAG: Ends = (0, 1);
 
-/// The ends of the statics, in the order of the paper's table.
+/// The ends of the statics, in their order.
 pub const STATICS: [Ends; s::STATICS] = [
     ends(&s::LOT),
     ends(&s::STEP),
@@ -40,6 +40,9 @@ pub const STATICS: [Ends; s::STATICS] = [
     ends(&s::NEAR_SECONDS),
     FLAG,
     FLAG,
+    ends(&s::NEAR_SECONDS),
+    FLAG,
+    ends(&u::EVENING_MOVES),
 ];
 
 /// The ends of an admission's numbers before the statics.

@@ -2,6 +2,7 @@
 //! that most calls are about admitted securities and meet their edges.
 
 mod bonds;
+mod sessions;
 mod sheets;
 
 use crate::desk::{self, fresh_table, SLOTS_MAX};
@@ -54,9 +55,10 @@ const ALSO_REFUSED: [Refusal; 8] = [
     Refusal::BandCrossed,
 ];
 /// After how many of a hundred lines each spell comes.
-const SPELLS: [(usize, Spell); 7] = [
+const SPELLS: [(usize, Spell); 8] = [
     (8, Spell::Falls),
     (11, Spell::Replaced),
+    (13, Spell::Sessions),
     (14, Spell::Stays),
     (17, Spell::Reasoned),
     (20, Spell::Widest),
@@ -82,6 +84,8 @@ enum Spell {
     Inward,
     /// Many, each with a tentative rate beside S_max, above it or at its top.
     Uncapped,
+    /// Many, each with a main session and an evening made for their moves.
+    Sessions,
 }
 
 /// A script of so many lines. Scripts of odd seeds lack the last line's end.
@@ -220,9 +224,10 @@ impl Author {
             340..=459 => self.day_at_an_edge(),
             460..=539 => self.unsettled_day(),
             540..=679 => self.quote(),
-            680..=709 => self.unsettled_quote(),
-            710..=729 => self.alerts(),
-            730..=809 => self.move_side(),
+            680..=704 => self.unsettled_quote(),
+            705..=729 => self.alerts(),
+            730..=789 => self.move_side(),
+            790..=809 => self.open(),
             810..=819 => self.unsettled_move(),
             820..=849 => self.read(),
             850..=869 => self.admission(),
@@ -445,6 +450,7 @@ impl Author {
             Spell::Uncapped => (0..tentative::SHARES).for_each(|turn| self.uncapped_security(turn)),
             Spell::Inward => (0..inward::SHARES).for_each(|turn| self.inward_security(turn)),
             Spell::Reasoned => (0..why::SHARES).for_each(|turn| self.reasoned_security(turn)),
+            Spell::Sessions => self.every_plan(),
         }
     }
 
@@ -581,7 +587,8 @@ impl Author {
         self.say("quote", &numbers);
     }
 
-    /// Near quotes one second short of u, at u, and beyond; then not near.
+    /// Near quotes one second short of u, at u, and beyond; then not near. Now
+    /// and then u is that of the other session.
     fn alerts(&mut self) {
         let record = self.live_record();
         let term = self.random.below(record.terms.len());
@@ -589,7 +596,7 @@ impl Author {
         let ask = quote::near_ask(&record, term) + self.random.between(0, 1);
         let sides = self.random.pick(&[(1, 1), (1, 0), (0, 1)]);
         let start = record.last_second + self.random.between(0, 5);
-        let wait = record.statics.near_seconds;
+        let wait = quote::wait(&mut self.random, &record);
         for after in [0, wait - 1, wait, wait, wait + 1] {
             let numbers = [
                 record.id,
@@ -670,11 +677,12 @@ impl Author {
     fn any_desk_call(&mut self) -> (&'static str, Vec<i64>) {
         let record = self.record();
         let random = &mut self.random;
-        match random.below(5) {
+        match random.below(6) {
             0 => ("admit", share::admission(random, record.id)),
             1 => ("evaluate", day::numbers(random, &record)),
             2 => ("quote", quote::numbers(random, &record).to_vec()),
             3 => ("move", vec![record.id, random.between(0, 1)]),
+            4 => ("open", vec![record.id]),
             _ => ("read", vec![record.id]),
         }
     }

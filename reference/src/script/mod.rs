@@ -11,6 +11,7 @@ mod interest;
 mod inward;
 mod quote;
 mod replacement;
+mod session;
 mod share;
 mod spelling;
 mod tentative;

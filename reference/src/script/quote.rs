@@ -1,5 +1,5 @@
 //! Quotes for a given record: bids and asks beside the edge of nearness,
-//! seconds beside u.
+//! seconds beside u of the session.
 
 use crate::exact::wide;
 use crate::random::Random;
@@ -56,12 +56,20 @@ pub fn numbers(random: &mut Random, record: &Record) -> [i64; 5] {
     [record.id, second, index as i64, held(bid), held(ask)]
 }
 
+/// u of the record's session; now and then the other's.
+pub fn wait(random: &mut Random, record: &Record) -> i64 {
+    let statics = &record.statics;
+    let other = random.pick(&[statics.near_seconds, statics.evening_seconds]);
+    random.pick(&[record.near_seconds(), record.near_seconds(), other])
+}
+
 /// A second: soon after the last, u after a near second or one less, or
 /// earlier than the last.
 fn second(random: &mut Random, record: &Record, term: &Term) -> i64 {
     let last = record.last_second;
     let near = random.pick(&[term.near_top, term.near_bottom]);
-    let due = near.map_or(last, |since| since + record.statics.near_seconds);
+    let wait = wait(random, record);
+    let due = near.map_or(last, |since| since + wait);
     let second = match random.below(24) {
         0..=2 => last,
         3 => last - 1,

@@ -8,7 +8,7 @@ use crate::units::{DAY_NUMBER, ONE_IN_TEN_THOUSANDTHS, PRICE, RATE, VOLATILITY};
 /// The place of the tentative rate among an admission's numbers.
 const TENTATIVE: usize = 5;
 
-/// The paper's statics Z.
+/// The paper's statics Z, with an evening's.
 pub const Z: Statics = Statics {
     lot: 10,
     step: 100,
@@ -28,6 +28,9 @@ pub const Z: Statics = Statics {
     near_seconds: 60,
     monitoring: true,
     is_ewma: true,
+    evening_seconds: 120,
+    autochange: true,
+    evening_maximum: 2,
 };
 
 /// Horizons whose quotients by rh_1 are squares, so that requirements are
@@ -53,6 +56,7 @@ pub fn statics(random: &mut Random) -> Statics {
         return Statics {
             monitoring: random.chance(85),
             is_ewma: random.chance(85),
+            autochange: random.chance(85),
             ..Z
         };
     }
@@ -75,10 +79,18 @@ pub fn statics(random: &mut Random) -> Statics {
         pch_max: band_maximum(random),
         pcl_max: band_maximum(random),
         nearness: either(random, &[0, 1, 1_000, 1_000, 4_999, 5_000], (0, 5_000)),
-        near_seconds: either(random, &[1, 2, 60, 60, 3_599, 3_600], (1, 300)),
+        near_seconds: near_seconds(random),
         monitoring: random.chance(85),
         is_ewma: random.chance(85),
+        evening_seconds: near_seconds(random),
+        autochange: random.chance(85),
+        evening_maximum: either(random, &[0, 1, 1, 2, 9, 10], (0, 10)),
     }
+}
+
+/// u, or u of the evening.
+fn near_seconds(random: &mut Random) -> i64 {
+    either(random, &[1, 2, 60, 60, 3_599, 3_600], (1, 300))
 }
 
 /// The statics of the volatility model.

@@ -1,14 +1,17 @@
-//! What the tests share: the paper's statics Z, and securities with them.
+//! What the tests share: the paper's statics Z with an evening's, and
+//! securities with them.
 
 #![allow(dead_code)]
 
 use reference::record::Record;
 use reference::security::{admitted, Admission, Day, Quote, RepoTerm};
+use reference::statics::STATICS;
 
-/// Statics Z of document 01, in the order of its table.
-pub const Z: [i64; 22] = [
+/// Statics Z of document 01, in the order of its table; then 120 seconds, moves
+/// in the evening, and at most two of them.
+pub const Z: [i64; STATICS] = [
     10, 100, 300, 1000, 500, 5, 2, 5, 8, 50, 500, 700, 900, 4000, 200, 25, 2000, 2000, 1000, 60, 1,
-    1,
+    1, 120, 1, 2,
 ];
 
 /// Places of the statics in Z.
@@ -16,6 +19,9 @@ pub const LOT: usize = 0;
 pub const PCL_MAX: usize = 17;
 pub const MONITORING: usize = 20;
 pub const IS_EWMA: usize = 21;
+pub const EVENING_SECONDS: usize = 22;
+pub const AUTOCHANGE: usize = 23;
+pub const EVENING_MAXIMUM: usize = 24;
 
 /// A repo band of 0.
 pub const NO_REPO: RepoTerm = RepoTerm {
@@ -24,7 +30,7 @@ pub const NO_REPO: RepoTerm = RepoTerm {
     rrch: 0,
 };
 
-pub fn z_with(changes: &[(usize, i64)]) -> [i64; 22] {
+pub fn z_with(changes: &[(usize, i64)]) -> [i64; STATICS] {
     let mut statics = Z;
     for (place, value) in changes {
         statics[*place] = *value;

@@ -1,6 +1,5 @@
--- `record_calls::alerts_on` meets its contract: each alert is that of its side's near second after the quote. Assumes
--- nothing. `record_calls::alerts_on` meets its contract: each side's alert is of its near second after the quote.
--- Assumes nothing.
+-- `record_calls::alerts_on` meets its contract: each side's alert is of its near second after the quote, by the
+-- session's seconds. Assumes nothing.
 use borrow.Author.Needs.{needs}
 use Rattle.paper_desk.specs.Desk.{alerting, alertsOn}
 use Rattle.record_calls.proofs.alerts_on.Statement.{statement}
@@ -8,6 +7,9 @@ use Rattle.record_calls.proofs.alerts_on.Tie as tie
 
 blank-requires : tie.Need-blank-requires
 blank-requires c κs = search needs
+
+alert-seconds-requires : tie.Need-alert-seconds-requires
+alert-seconds-requires c κs = search needs
 
 alert-requires : tie.Need-alert-requires
 alert-requires c κs = search needs
@@ -20,9 +22,11 @@ unfolding alertsOn alerting
 returns c = rw (
   c .alert2 .ensures,
   c .before .alert .ensures,
-  c .before .before .blank .ensures,
-  c .before .before .before .pre,
+  c .before .before .alert-seconds .ensures,
+  c .before .before .before .before .blank .ensures,
+  c .before .before .before .before .before .pre,
 )
 
 pub alerts-on-spec : {M : Type 1} → statement M
-alerts-on-spec = tie.close (tie.spec blank-requires alert-requires alert-requires-2 returns)
+alerts-on-spec =
+    tie.close (tie.spec blank-requires alert-seconds-requires alert-requires alert-requires-2 returns)

@@ -29,10 +29,14 @@ valid-three-limits-requires-2 c κs =
 valid-three-near-requires : tie.Need-valid-three-near-requires
 valid-three-near-requires c κs = search needs
 
+valid-session-requires : tie.Need-valid-session-requires
+valid-session-requires c κs = search needs
+
 returns : tie.Need-returns
 unfolding sound
 returns c =
-    let bands = c .before .before .before .before in
+    let near = c .before .before in
+    let bands = near .before .before .before in
     let figures = bands .before .before .before .before in
     let grid = figures .before .before .before .before .before .before in
     rw (
@@ -41,7 +45,8 @@ returns c =
       bands .before .before .valid-three-limits .ensures,
       bands .before .valid-terms .ensures,
       bands .valid-three-limits2 .ensures,
-      c .before .valid-three-near .ensures,
+      near .valid-three-near .ensures,
+      c .valid-session .ensures,
       grid .grid-of .ensures,
     )
 
@@ -56,4 +61,5 @@ sound-spec =
     valid-terms-requires
     valid-three-limits-requires-2
     valid-three-near-requires
+    valid-session-requires
     returns)

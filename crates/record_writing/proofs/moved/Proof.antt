@@ -16,7 +16,8 @@ one-more-requires c κs = search needs
 
 bands-of-requires : tie.Need-bands-of-requires
 bands-of-requires c κs =
-    let s = c .before .before .before .before .before .before .before .before .before .before in
+    let s =
+    c .before .before .before .before .before .before .before .before .before .before .before .before in
     let r = s .args .r in
     let v = s .pre .0 in
     let known = sound-facts r v in
@@ -25,12 +26,14 @@ bands-of-requires c κs =
 
 delta-requires : tie.Need-delta-requires
 delta-requires c κs =
-    let s = c .before .before .before .before .before .before .before .before .before .before .before in
+    let s =
+    c .before .before .before .before .before .before .before .before .before .before .before .before .before in
     (sound-facts _ (s .pre .0) .valid, sound-inputs _ (s .pre .0))
 
 ranges-moved-requires : tie.Need-ranges-moved-requires
 ranges-moved-requires c κs =
-    let s = c .before .before .before .before .before .before .before .before .before .before .before .before in
+    let s =
+    c .before .before .before .before .before .before .before .before .before .before .before .before .before .before in
     rw (c .delta .ensures) (shifts-asked (s .args .r) (s .pre .0))
 
 bands-moved-requires : tie.Need-bands-moved-requires
@@ -39,16 +42,23 @@ bands-moved-requires c κs = search needs
 near-cleared-requires : tie.Need-near-cleared-requires
 near-cleared-requires c κs = search needs
 
+session-moved-requires : tie.Need-session-moved-requires
+session-moved-requires c κs =
+    let s = c .before .before .before .before .before .before .before .before .before .before .before .before .before
+    .before .before .before .before in
+    sound-facts _ (s .pre .0) .session
+
 returns : tie.Need-returns
 unfolding moved
 returns c =
     rw (
-      c .near-cleared .ensures,
-      c .before .bands-moved .ensures,
-      c .before .before .ranges-moved .ensures,
-      c .before .before .before .delta .ensures,
-      c .before .before .before .before .bands-of .ensures,
-      c .before .before .before .before .before .one-more .ensures,
+      c .session-moved .ensures,
+      c .before .near-cleared .ensures,
+      c .before .before .bands-moved .ensures,
+      c .before .before .before .ranges-moved .ensures,
+      c .before .before .before .before .delta .ensures,
+      c .before .before .before .before .before .bands-of .ensures,
+      c .before .before .before .before .before .before .one-more .ensures,
     )
 
 pub moved-spec : {M : Type 1} → statement M
@@ -62,4 +72,5 @@ moved-spec =
     ranges-moved-requires
     bands-moved-requires
     near-cleared-requires
+    session-moved-requires
     returns)

@@ -10,6 +10,7 @@ use Rattle.text_answer.proofs.put_figures.Reads as put-figures-reads
 use Rattle.text_answer.proofs.put_last.Reads as put-last-reads
 use Rattle.text_answer.proofs.put_ranges.Reads as put-ranges-reads
 use Rattle.text_answer.proofs.put_rates.Reads as put-rates-reads
+use Rattle.text_answer.proofs.put_session.Reads as put-session-reads
 use Rattle.text_answer.proofs.put_term.Reads as put-term-reads
 
 put-figures-requires : tie.Need-put-figures-requires
@@ -60,17 +61,22 @@ put-term-requires-3 c κs = search needs
 put-last-requires : tie.Need-put-last-requires
 put-last-requires c κs = search needs
 
+put-session-requires : tie.Need-put-session-requires
+put-session-requires c κs = search needs
+
 returns : tie.Need-returns
 unfolding recordNumbers
 returns c =
-    let c2 = c .before .before in
+    let c1 = c .before .before in
+    let c2 = c1 .before .before in
     let c7 = c2 .before .before .before .before .before in
     let c12 = c7 .before .before .before .before .before in
     let c17 = c12 .before .before .before .before .before in
     let c19 = c17 .before .before in
     let c21 = c19 .before .before in
-    both (both (both (both (both (both (c21 .put-figures .ensures) (c19 .put-rates .ensures)) (c17 .put-ranges
-    .ensures)) (c12 .put-term .ensures)) (c7 .put-term2 .ensures)) (c2 .put-term3 .ensures)) (c .put-last .ensures)
+    both (both (both (both (both (both (both (c21 .put-figures .ensures) (c19 .put-rates .ensures)) (c17 .put-ranges
+    .ensures)) (c12 .put-term .ensures)) (c7 .put-term2 .ensures)) (c2 .put-term3 .ensures)) (c1 .put-last .ensures))
+    (c .put-session .ensures)
 
 pub put-record-spec : {M : Type 1} → statement M
 put-record-spec =
@@ -92,4 +98,5 @@ put-record-spec =
     array-copy-out-put-term-9
     put-term-requires-3
     put-last-requires
+    put-session-requires
     returns)

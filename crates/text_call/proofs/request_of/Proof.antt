@@ -1,5 +1,5 @@
 -- `text_call::request_of` meets its contract: what a line of a kind asks of the desk. Assumes nothing.
-use Rattle.text_call.proofs.LineCalls.{admit-line, evaluate-line, quote-line, move-line, read-line, other-line}
+use Rattle.text_call.proofs.LineCalls.{admit-line, evaluate-line, quote-line, move-line, read-line, open-line, other-line}
 use borrow.Author.Needs.{needs}
 use Rattle.text_call.proofs.request_of.Statement.{statement}
 use Rattle.text_call.proofs.request_of.Tie as tie
@@ -84,6 +84,9 @@ returns-5 : tie.Need-returns-5
 returns-5 c = read-line _ _ _ _ _ _ _ _ (c .of-id3 .ensures) (c .before .before .before .if5 .taken) (c .before .before
     .unsigned-at5 .ensures)
 
+unsigned-at-requires-6 : tie.Need-unsigned-at-requires-6
+unsigned-at-requires-6 c κs = search needs
+
 no-quote-requires-5 : tie.Need-no-quote-requires-5
 no-quote-requires-5 c κs = search needs
 
@@ -91,11 +94,25 @@ of-id-requires-4 : tie.Need-of-id-requires-4
 of-id-requires-4 c κs = search needs
 
 returns-6 : tie.Need-returns-6
-returns-6 c =
-    let at-if2 = c .before .before .before .before .before in
+returns-6 c = open-line _ _ _ _ _ _ _ _ (c .of-id4 .ensures) (c .before .before .before .if6 .taken) (c .before .before
+    .unsigned-at6 .ensures)
+
+no-quote-requires-6 : tie.Need-no-quote-requires-6
+no-quote-requires-6 c κs = search needs
+
+of-id-requires-5 : tie.Need-of-id-requires-5
+of-id-requires-5 c κs = search needs
+
+returns-7 : tie.Need-returns-7
+returns-7 c =
+    let at-if6 = c .before .before in
+    let at-if5 = at-if6 .before in
+    let at-if4 = at-if5 .before in
+    let at-if3 = at-if4 .before in
+    let at-if2 = at-if3 .before in
     let at-if1 = at-if2 .before in
-    other-line _ _ _ _ _ _ (c .of-id4 .ensures) (at-if1 .if1 .left) (at-if2 .if2 .left) (c .before .before .before
-    .before .if3 .left) (c .before .before .before .if4 .left) (c .before .before .if5 .left)
+    other-line _ _ _ _ _ _ (c .of-id5 .ensures) (at-if1 .if1 .left) (at-if2 .if2 .left) (at-if3 .if3 .left)
+    (at-if4 .if4 .left) (at-if5 .if5 .left) (at-if6 .if6 .left)
 
 pub request-of-spec : {M : Type 1} → statement M
 request-of-spec =
@@ -123,6 +140,10 @@ request-of-spec =
     no-quote-requires-4
     of-id-requires-3
     returns-5
+    unsigned-at-requires-6
     no-quote-requires-5
     of-id-requires-4
-    returns-6)
+    returns-6
+    no-quote-requires-6
+    of-id-requires-5
+    returns-7)

@@ -50,17 +50,25 @@ slice-aggregate-kind-if-7 c = search needs
 kind-if-requires-7 : tie.Need-kind-if-requires-7
 kind-if-requires-7 c κs = search needs
 
+slice-aggregate-kind-if-8 : tie.Need-slice-aggregate-kind-if-8
+slice-aggregate-kind-if-8 c = search needs
+
+kind-if-requires-8 : tie.Need-kind-if-requires-8
+kind-if-requires-8 c κs = search needs
+
 returns : tie.Need-returns
 unfolding kindOf kindFrom forms
 returns c =
-    let c6 = c .before .before in
+    let c7 = c .before .before in
+    let c6 = c7 .before .before in
     let c5 = c6 .before .before in
     let c4 = c5 .before .before in
     let c3 = c4 .before .before in
     let c2 = c3 .before .before in
     let c1 = c2 .before .before in
     rw (
-      c .kind-if7 .ensures,
+      c .kind-if8 .ensures,
+      c7 .kind-if7 .ensures,
       c6 .kind-if6 .ensures,
       c5 .kind-if5 .ensures,
       c4 .kind-if4 .ensures,
@@ -87,4 +95,6 @@ kind-of-spec =
     kind-if-requires-6
     slice-aggregate-kind-if-7
     kind-if-requires-7
+    slice-aggregate-kind-if-8
+    kind-if-requires-8
     returns)

@@ -1,7 +1,7 @@
 -- `text_perform::perform` meets its contract. Each arm gives the row up to one public call and returns what that
 -- promises, and the request is that call by its kind. The rows go to the evaluation as the `&` that they are.
--- The walk has a step for each test (`decides`) and one for each arm: `admit-it`, `evaluate-it`, `quote-it`, `move-it`
--- and `read-it`.
+-- The walk has a step for each test (`decides`) and one for each arm: `admit-it`, `evaluate-it`, `quote-it`, `move-it`,
+-- `open-it` and `read-it`.
 -- Assumes nothing.
 use mathlib.Core.Path.{_≡_, refl, sym, subst}
 use mathlib.Core.Bool.{not}
@@ -42,7 +42,7 @@ use denote.Triple.Walked.{says, Stays, gave-slice, stay-none, stay-none-slice, w
 use denote.Exit.{yes}
 use Rattle.paper.specs.declared.Record.{Record}
 use Rattle.paper.specs.declared.Answer.{Answer}
-use Rattle.paper_desk.specs.Desk.{Call, quote, move as moving}
+use Rattle.paper_desk.specs.Desk.{Call, admit, quote, move as moving, openEvening}
 use Rattle.paper.proofs.Answer as N
 use Rattle.paper.proofs.Answer.Laws as N′
 use Rattle.paper.proofs.Admission as X
@@ -51,7 +51,7 @@ use Rattle.paper.proofs.AskedDay as D
 use Rattle.paper.proofs.AskedDay.Laws as D′
 use Rattle.paper.proofs.Quote as Q
 use Rattle.paper.proofs.Quote.Laws as Q′
-use Rattle.text_protocol.specs.Names.{admitKind, evaluateKind, quoteKind, moveKind}
+use Rattle.text_protocol.specs.Names.{admitKind, evaluateKind, quoteKind, moveKind, openKind}
 use Rattle.text_call.specs.declared.Request.{Request}
 use Rattle.text_call.specs.Requests.{requestCall}
 use Rattle.text_call.proofs.Request as B
@@ -66,14 +66,16 @@ use Rattle.desk.proofs.quote.Symbol as quote-def
 use Rattle.desk.proofs.quote.Met as quote-thm
 use Rattle.desk.proofs.moved.Symbol as moved-def
 use Rattle.desk.proofs.moved.Met as moved-thm
+use Rattle.desk.proofs.open_evening.Symbol as open-def
+use Rattle.desk.proofs.open_evening.Met as open-thm
 use Rattle.desk.proofs.read.Symbol as read-def
 use Rattle.desk.proofs.read.Met as read-thm
 use Rattle.desk.proofs.evaluate_asked.Symbol as evaluate-def
 use Rattle.desk.proofs.evaluate_asked.Met as evaluate-thm
-use Rattle.desk.proofs.Plain.{number, number-laws, asked, asked-laws, quoted, quoted-laws}
-use Rattle.text_perform.proofs.Requests.{request-ty, evaluation, admits-is, evaluates-is, quotes-is, moves-is, else-reads}
+use Rattle.desk.proofs.Plain.{number, number-laws, admission, admission-laws, asked, asked-laws, quoted, quoted-laws}
+use Rattle.text_perform.proofs.Requests.{request-ty, evaluation, admits-is, evaluates-is, quotes-is, moves-is, opens-is, else-reads}
 use Rattle.text_perform.proofs.Hands.{handing}
-use Rattle.text_perform.proofs.Arms.{Ask, AskRows, Admit, Read, Ours, asks, asks-rows, admits, reads}
+use Rattle.text_perform.proofs.Arms.{Ask, AskRows, AskOne, Read, Ours, asks, asks-rows, asks-one, reads}
 use Rattle.text_perform.proofs.perform as f
 use Rattle.text_perform.proofs.perform.Key as key
 use Rattle.text_perform.proofs.perform.Statement as stated
@@ -108,8 +110,11 @@ for-quote = (9, 10)
 abbrev for-move : Lending
 for-move = (11, 12)
 
+abbrev for-open : Lending
+for-open = (13, 14)
+
 abbrev for-read : Lending
-for-read = (13, 14)
+for-read = (15, 16)
 
 -- the fields of a request, in its order
 abbrev kind-of : Operand
@@ -141,6 +146,10 @@ code-quote = handing ℓt for-quote 0 quote-def.name (id-of ∷ copy (place ℓc
 abbrev code-move : Body
 code-move = handing ℓt for-move 0 moved-def.name (id-of ∷ copy (place ℓc (field 5 ∷ [])) ∷ []) return
 
+-- return open_evening(t, c.id);
+abbrev code-open : Body
+code-open = handing ℓt for-open 0 open-def.name (id-of ∷ []) return
+
 -- read(t, c.id)
 abbrev code-read : Body
 code-read = handing ℓt for-read 0 read-def.name (id-of ∷ []) return
@@ -152,8 +161,8 @@ function = record {
   params = 3;
   locals =
       of-types (N′.mir ∷ table-ty ∷ request-ty ∷ sliceTy (tyRef (named 1) imm (pointee (i64 .written))) ∷ tyBool
-      ∷ wref ∷ sliceTy wref ∷ wref ∷ sliceTy wref ∷ wref ∷ sliceTy wref ∷ wref ∷ sliceTy wref ∷ rref ∷ sliceTy rref
-      ∷ []);
+      ∷ wref ∷ sliceTy wref ∷ wref ∷ sliceTy wref ∷ wref ∷ sliceTy wref ∷ wref ∷ sliceTy wref ∷ wref ∷ sliceTy wref
+      ∷ rref ∷ sliceTy rref ∷ []);
   body = code.function .body;
 }
 
@@ -194,8 +203,11 @@ module _ {M : Type 1} (𝓤 : URA M) (H : Heap 𝓤) (A : Atoms 𝓤) (W : Given
       move ! (1 ∷ 0 ∷ []) $ done !
 
   -- what is known of the request's fields
+  id-is : Is u64 (l .id) (vint w64 (l .id) ∷ [])
+  id-is = LL.owed B.the-type B′.the-laws l (value l ∷ []) gl .1 .0
+
   id-fits : l .id < 2 ^ 64
-  id-fits = LL.owed B.the-type B′.the-laws l (value l ∷ []) gl .1 .0 .1
+  id-fits = id-is .1
 
   admission-is : Is X.the-row (l .admission) (LL.vals X.the-type X′.the-laws (l .admission))
   admission-is = LL.owed B.the-type B′.the-laws l (value l ∷ []) gl .1 .1 .0
@@ -210,10 +222,11 @@ module _ {M : Type 1} (𝓤 : URA M) (H : Heap 𝓤) (A : Atoms 𝓤) (W : Given
   side-is = LL.owed B.the-type B′.the-laws l (value l ∷ []) gl .1 .1 .1 .1 .1 .0
 
   module _ (C : Calls 𝓤 H) (Λ : Loops 𝓤 H) (fm : FmC 𝓤 H (W .laws) C)
-      (known-admit : Triple 𝓤 (C admit-def.name) (Admit 𝓤 H A mem run))
+      (known-admit : Triple 𝓤 (C admit-def.name) (AskOne admission admit 𝓤 H A))
       (known-evaluate : Triple 𝓤 (C evaluate-def.name) (AskRows asked asked-laws evaluation 𝓤 H A))
       (known-quote : Triple 𝓤 (C quote-def.name) (Ask quoted quoted-laws quote 𝓤 H A))
       (known-moved : Triple 𝓤 (C moved-def.name) (Ask number number-laws moving 𝓤 H A))
+      (known-open : Triple 𝓤 (C open-def.name) (AskOne number openEvening 𝓤 H A))
       (known-read : Triple 𝓤 (C read-def.name) (Read 𝓤 H A mem run)) where
     module _ (ls : Addresses (function .locals)) where
       abbrev En : Env 𝓤 H
@@ -225,7 +238,7 @@ module _ {M : Type 1} (𝓤 : URA M) (H : Heap 𝓤) (A : Atoms 𝓤) (W : Given
 
       -- where the walk stands: what the test's local holds beside t, c and the rows
       abbrev In : Option Val → Item 𝓤
-      In test = frame H En (none ∷ some (machine b o ys) ∷ some (value l) ∷ some mrows ∷ test ∷ spare 10)
+      In test = frame H En (none ∷ some (machine b o ys) ∷ some (value l) ∷ some mrows ∷ test ∷ spare 12)
 
       -- the table is ours; the rows' token, and the rows
       abbrev Had : List (Item 𝓤)
@@ -261,8 +274,8 @@ module _ {M : Type 1} (𝓤 : URA M) (H : Heap 𝓤) (A : Atoms 𝓤) (W : Given
         -- return admit(t, c.admission);
         admit-it : l .kind ≡ admitKind → Sq W (In (some test) ∷ Had) (runs C Λ En code-admit p)
         admit-it e =
-            admits 𝓤 H A W κ q b o γ ys room fm ℓt for-admit 0 (refl, refl, tt, tt, tt, tt, tt) tt refl mem run
-            known-admit (l .admission) (LL.val X.the-type X′.the-laws (l .admission)) admission-is
+            asks-one 𝓤 H A W κ q b o γ ys room fm ℓt for-admit 0 (refl, refl, tt, tt, tt, tt, tt) tt refl admission admit
+            admission-laws known-admit (l .admission) (LL.val X.the-type X′.the-laws (l .admission)) admission-is
             (and-then ! (local′ ! (for-admit .1) refl) (and-then ! (field′ ! ℓc 2 refl refl refl) (no-more !)))
             (λ zs r v as-long kept is. returned arm (admits-is l (rows .now) e) zs r v refl as-long kept is)
 
@@ -298,16 +311,25 @@ module _ {M : Type 1} (𝓤 : URA M) (H : Heap 𝓤) (A : Atoms 𝓤) (W : Given
             (and-then ! (field′ ! ℓc 5 refl refl refl) (no-more !))))
             (λ zs r v as-long kept is. returned arm (moves-is l (rows .now) e) zs r v refl as-long kept is)
 
+        -- return open_evening(t, c.id);
+        open-it : l .kind ≡ openKind → Sq W (In (some test) ∷ Had) (runs C Λ En code-open p)
+        open-it e =
+            asks-one 𝓤 H A W κ q b o γ ys room fm ℓt for-open 0 (refl, refl, tt, tt, tt, tt, tt) tt refl number
+            openEvening number-laws known-open (l .id) (vint w64 (l .id)) id-is
+            (and-then ! (local′ ! (for-open .1) refl) (and-then ! (field′ ! ℓc 1 refl refl refl) (no-more !)))
+            (λ zs r v as-long kept is. returned arm (opens-is l (rows .now) e) zs r v refl as-long kept is)
+
         -- read(t, c.id)
         read-it : T (not (eqb (l .kind) admitKind)) → T (not (eqb (l .kind) evaluateKind))
-            → T (not (eqb (l .kind) quoteKind)) → T (not (eqb (l .kind) moveKind))
+            → T (not (eqb (l .kind) quoteKind)) → T (not (eqb (l .kind) moveKind)) → T (not (eqb (l .kind) openKind))
             → Sq W (In (some test) ∷ Had) (runs C Λ En code-read p)
-        read-it no-admit no-evaluate no-quote no-move =
+        read-it no-admit no-evaluate no-quote no-move no-open =
             reads 𝓤 H A W κ q b o γ ys room fm ℓt for-read 0 (refl, refl, tt, tt, tt, tt, tt) tt refl mem run known-read
             (l .id) id-fits (λ κ′ γ′. and-then ! (local′ ! (for-read .1) refl)
             (and-then ! (field′ ! ℓc 1 refl refl refl) (no-more !)))
             (λ zs r v as-long kept is.
-            returned arm (else-reads l (rows .now) no-admit no-evaluate no-quote no-move) zs r v refl as-long kept is)
+            returned arm (else-reads l (rows .now) no-admit no-evaluate no-quote no-move no-open) zs r v refl as-long
+            kept is)
 
     walk : ent 𝓤 (onEntry 𝓤 H A f.signature (κ, (κ₂, tt)) (q, (q₂, tt)) x at)
         (WpFn 𝓤 H C Λ function (machine b o ys ∷ value l ∷ mrows ∷ []) Post)
@@ -332,15 +354,17 @@ module _ {M : Type 1} (𝓤 : URA M) (H : Heap 𝓤) (A : Atoms 𝓤) (W : Given
         decides ls evaluateKind tt (evaluate-it ls _) (λ no-evaluate.
         decides ls quoteKind tt (quote-it ls _) (λ no-quote.
         decides ls moveKind tt (move-it ls _) (λ no-move.
-        read-it ls _ _ refl no-admit no-evaluate no-quote no-move)))))
+        decides ls openKind tt (open-it ls _) (λ no-open.
+        read-it ls _ _ refl no-admit no-evaluate no-quote no-move no-open))))))
 
 module _ {M : Type 1} (𝓤 : URA M) (H : Heap 𝓤) (A : Atoms 𝓤) (W : Given 𝓤 H A) (mem : Memory → SProp 𝓤) (run : Routine
     → Fun 𝓤) (𝓣 : Tables 𝓤 H)
-    (known-admit : Triple 𝓤 (𝓣 .C admit-def.name) (Admit 𝓤 H A mem run))
+    (known-admit : Triple 𝓤 (𝓣 .C admit-def.name) (AskOne admission admit 𝓤 H A))
     (known-evaluate : Triple 𝓤 (𝓣 .C evaluate-def.name) (AskRows asked asked-laws evaluation 𝓤 H A))
     (known-quote : Triple 𝓤 (𝓣 .C quote-def.name) (Ask quoted quoted-laws quote 𝓤 H A))
-    (known-moved : Triple 𝓤 (𝓣 .C moved-def.name) (Ask number number-laws moving 𝓤 H A)) (known-read : Triple 𝓤 (𝓣 .C
-    read-def.name) (Read 𝓤 H A mem run)) where
+    (known-moved : Triple 𝓤 (𝓣 .C moved-def.name) (Ask number number-laws moving 𝓤 H A))
+    (known-open : Triple 𝓤 (𝓣 .C open-def.name) (AskOne number openEvening 𝓤 H A))
+    (known-read : Triple 𝓤 (𝓣 .C read-def.name) (Read 𝓤 H A mem run)) where
   walks : Walks 𝓤 H A f.ended stayed (WpFn 𝓤 H (𝓣 .C) (𝓣 .Λ) function) (f.clauses 𝓤 H A mem run)
   walks = walked 𝓤 H A f.ended stayed (f.clauses 𝓤 H A mem run) (WpFn 𝓤 H (𝓣 .C) (𝓣 .Λ) function)
       (λ κs. (slice-vals, (LL.vals B.the-type B′.the-laws, (slice-vals, tt))))
@@ -359,7 +383,7 @@ module _ {M : Type 1} (𝓤 : URA M) (H : Heap 𝓤) (A : Atoms 𝓤) (W : Given
       (walk 𝓤 H A W mem run (κs .0) (κs .1 .0) (qs .0) (qs .1 .0) (a .0 .ptr .0) (a .0 .ptr .1) (a .0 .name) (a .0
       .now) (a .1 .0) (a .1 .1 .0)
       (are .0 .0 .1) (are .1 .0) (are .1 .1 .0 .0 .1) (𝓣 .C) (𝓣 .Λ)
-      (fmOf 𝓤 H (W .laws) 𝓣) known-admit known-evaluate known-quote known-moved known-read))
+      (fmOf 𝓤 H (W .laws) 𝓣) known-admit known-evaluate known-quote known-moved known-open known-read))
 
   meets : Meets 𝓤 H A f.signature (WpFn 𝓤 H (𝓣 .C) (𝓣 .Λ) function) (f.spec 𝓤 H A mem run)
   meets =
@@ -379,7 +403,7 @@ perform-spec 𝓤 H 𝓜 𝓖 𝓡 =
     entered 𝓤 H (tripleOf 𝓤 H (𝓖 .A) f.signature (f.spec 𝓤 H (𝓖 .A) (𝓜 .mem) (𝓡 .run)))
     (tables 𝓤 H 𝓜 𝓡 code.env .C) (tables 𝓤 H 𝓜 𝓡 code.env .Λ) key.name code.function (code.unfolded 𝓤 H 𝓜 𝓡)
     (meets 𝓤 H (𝓖 .A) (givenOf 𝓤 H 𝓜 𝓖) (𝓜 .mem) (𝓡 .run) (tablesOf 𝓤 H 𝓜 (tables 𝓤 H 𝓜 𝓡 code.env))
-    (cited 𝓤 H (Admit 𝓤 H (𝓖 .A) (𝓜 .mem) (𝓡 .run)) 𝓜 𝓡 code.env admit-def.name admit-def.routine code.calls-desk·admit
+    (cited 𝓤 H (AskOne admission admit 𝓤 H (𝓖 .A)) 𝓜 𝓡 code.env admit-def.name admit-def.routine code.calls-desk·admit
     (admit-thm.met 𝓤 H 𝓜 𝓖 𝓡))
     (cited 𝓤 H (AskRows asked asked-laws evaluation 𝓤 H (𝓖 .A)) 𝓜 𝓡 code.env evaluate-def.name evaluate-def.routine
     code.calls-desk·evaluate-asked
@@ -390,5 +414,7 @@ perform-spec 𝓤 H 𝓜 𝓖 𝓡 =
     (cited 𝓤 H (Ask number number-laws moving 𝓤 H (𝓖 .A)) 𝓜 𝓡 code.env moved-def.name moved-def.routine
     code.calls-desk·moved
     (moved-thm.met 𝓤 H 𝓜 𝓖 𝓡))
+    (cited 𝓤 H (AskOne number openEvening 𝓤 H (𝓖 .A)) 𝓜 𝓡 code.env open-def.name open-def.routine
+    code.calls-desk·open-evening (open-thm.met 𝓤 H 𝓜 𝓖 𝓡))
     (cited 𝓤 H (Read 𝓤 H (𝓖 .A) (𝓜 .mem) (𝓡 .run)) 𝓜 𝓡 code.env read-def.name read-def.routine code.calls-desk·read
     (read-thm.met 𝓤 H 𝓜 𝓖 𝓡)))

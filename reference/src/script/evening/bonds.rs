@@ -14,10 +14,10 @@ impl Author {
     /// One thing of bonds, by its weight among a hundred.
     pub(super) fn bond_turn(&mut self) {
         match self.random.below(100) {
-            0..=54 => self.bond_at_an_aim(),
-            55..=66 => self.fresh_bond(),
-            67..=76 => self.bond_at_an_edge(),
-            77..=86 => self.unsettled_bond(),
+            0..=61 => self.bond_at_an_aim(),
+            62..=71 => self.fresh_bond(),
+            72..=79 => self.bond_at_an_edge(),
+            80..=87 => self.unsettled_bond(),
             _ => self.paired_bond(),
         }
     }

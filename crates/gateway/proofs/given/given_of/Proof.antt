@@ -8,7 +8,10 @@ use Rattle.gateway.proofs.given.given_of.Tie as tie
 returns : tie.Need-returns
 unfolding givenOf
 returns c =
-    let c22 = c in
+    let c25 = c in
+    let c24 = c25 .before in
+    let c23 = c24 .before in
+    let c22 = c23 .before in
     let c21 = c22 .before in
     let c20 = c21 .before in
     let c19 = c20 .before in
@@ -54,12 +57,18 @@ returns c =
       u = read (f .u) (c20 .unsigned20 .ensures) i;
       monitoring = read (f .monitoring) (c21 .unsigned21 .ensures) i;
       ewma = read (f .ewma) (c22 .unsigned22 .ensures) i;
+      uevening = read (f .uevening) (c23 .unsigned23 .ensures) i;
+      autochange = read (f .autochange) (c24 .unsigned24 .ensures) i;
+      eveningmax = read (f .eveningmax) (c25 .unsigned25 .ensures) i;
     }
 
 pub given-of-spec : {M : Type 1} → statement M
 given-of-spec =
     tie.close
     (tie.spec
+    (λ c κs. tt)
+    (λ c κs. tt)
+    (λ c κs. tt)
     (λ c κs. tt)
     (λ c κs. tt)
     (λ c κs. tt)

@@ -13,7 +13,9 @@ valid-statics-requires c κs = search needs
 
 returns : tie.Need-returns
 unfolding validGiven
-returns c = rw (c .before .before .valid-statics .ensures, c .before .before .before .statics-of .ensures)
+returns c =
+    let judged = c .before .before .before in
+    rw (judged .valid-statics .ensures, judged .before .statics-of .ensures)
 
 pub valid-given-spec : {M : Type 1} → statement M
 valid-given-spec = tie.close (tie.spec statics-of-requires valid-statics-requires returns)

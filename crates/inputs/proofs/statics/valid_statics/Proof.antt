@@ -21,7 +21,7 @@ multiples-of-step-requires c κs = ordered-step (c .before .before .args .st) (o
 returns : tie.Need-returns
 unfolding validStatics
 returns c =
-    let after = c .before .before .before .before .before .before .before .before .before in
+    let after = c .before .before .before .before .before .before .before .before .before .before .before .before in
     rw (after .multiples-of-step .ensures, ordered (after .before))
 
 returns-2 : tie.Need-returns-2

@@ -76,10 +76,20 @@ returns-18 : tie.Need-returns-18
 unfolding numberOf
 returns-18 c = rw (c .enum-told18 .given .1)
 
+returns-19 : tie.Need-returns-19
+unfolding numberOf
+returns-19 c = rw (c .enum-told19 .given .1)
+
+returns-20 : tie.Need-returns-20
+unfolding numberOf
+returns-20 c = rw (c .enum-told20 .given .1)
+
 pub number-spec : {M : Type 1} → statement M
 number-spec =
     tie.close
     (tie.spec
+    (λ c. search needs)
+    (λ c. search needs)
     (λ c. search needs)
     (λ c. search needs)
     (λ c. search needs)
@@ -115,4 +125,6 @@ number-spec =
     returns-15
     returns-16
     returns-17
-    returns-18)
+    returns-18
+    returns-19
+    returns-20)

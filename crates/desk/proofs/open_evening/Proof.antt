@@ -1,0 +1,60 @@
+-- `desk::open_evening` meets its contract: it has the shape that `Turn` proves once, with nothing beside the id.
+-- Assumes nothing.
+use mathlib.Core.Path.{refl}
+use types.Kit.{ ! }
+use types.Run.{and-then, no-more as no-operand}
+use contract.Running.{givenOf, tables, tablesOf}
+use denote.Triple.Spec.{tripleOf}
+use denote.Triple.Table.{entered, cited}
+use Rattle.paper_desk.specs.Desk.{openEvening}
+use Rattle.record_answers.specs.Effects.{openEffect}
+use Rattle.record_answers.proofs.Effect as O
+use Rattle.desk.proofs.Frame.{value}
+use Rattle.desk.proofs.Known.{take-known, put-known}
+use Rattle.desk.proofs.Passing.{Passing, OfSlot, no-more, Rule}
+use Rattle.desk.proofs.Turn as Turn
+use Rattle.desk.proofs.Steps.{open-steps}
+use Rattle.record_calls.proofs.opened.Symbol as rule-def
+use Rattle.record_calls.proofs.opened.Met as rule-thm
+use Rattle.desk.proofs.open_evening as f
+use Rattle.desk.proofs.open_evening.Key as key
+use Rattle.desk.proofs.open_evening.Statement as stated
+use Rattle.desk.proofs.open_evening.Code as code
+
+abbrev taken : Passing 0
+taken = no-more
+
+abbrev said : Turn.Said taken
+said κs id a = openEvening id
+
+abbrev turns : OfSlot taken O.the-row
+turns κs s a = openEffect s
+
+pub open-evening-spec : {M : Type 1} → stated.statement M
+unfolding code.routine tablesOf
+open-evening-spec 𝓤 H 𝓜 𝓖 𝓡 =
+    entered 𝓤 H (tripleOf 𝓤 H (𝓖 .A) f.signature (f.spec 𝓤 H (𝓖 .A) (𝓜 .mem) (𝓡 .run))) (tables 𝓤 H 𝓜 𝓡 code.env .C)
+    (tables 𝓤 H 𝓜 𝓡 code.env .Λ) key.name code.function (code.unfolded 𝓤 H 𝓜 𝓡)
+    (Turn.meets taken turns said (λ t κs id a. open-steps t id) rule-def.name 𝓤 H (𝓖 .A) (givenOf 𝓤 H 𝓜 𝓖) (𝓜 .mem)
+    (𝓡 .run) (tablesOf 𝓤 H 𝓜 (tables 𝓤 H 𝓜 𝓡 code.env)) (take-known 𝓤 H 𝓜 𝓖 𝓡 code.env code.calls-desk·take)
+    (cited 𝓤 H (Rule taken O.the-row turns 𝓤 H (𝓖 .A)) 𝓜 𝓡 code.env rule-def.name rule-def.routine
+    code.calls-record-calls·opened (rule-thm.met 𝓤 H 𝓜 𝓖 𝓡))
+    (put-known 𝓤 H 𝓜 𝓖 𝓡 code.env code.calls-desk·put) (record {
+      fits = λ κs x id a room gi are ls. ((tt, (tt, (record { fits = room .0 }, tt))), ((tt, record { fits = gi }), tt));
+      stands = λ κs x id a ls r. record {
+        lends-s = (refl, refl, tt, tt, tt, tt, tt);
+        s-in = tt;
+        s-slot = refl;
+        id-held = refl;
+        o-in = tt;
+        o-turn = refl;
+        lends-put = λ w. (refl, refl, tt, tt, tt, tt, tt);
+        unit-in = tt;
+        unit-is = refl;
+        o-held = λ w. refl;
+        o-kept = λ w u. refl;
+        answer-in = tt;
+        answer-is = refl;
+      };
+      operands = λ κs qs x id a ls w Δ. and-then ! (value ! 3 refl) (no-operand !);
+    }))

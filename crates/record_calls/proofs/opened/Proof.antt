@@ -1,0 +1,83 @@
+-- `record_calls::opened` meets its contract: each return is the first check that applies, in the order 1, 10, 19, or
+-- the evening is opened. Assumes nothing.
+use mathlib.Core.Path.{_≡_, sym, _∙_}
+use mathlib.Core.Bool.{true}
+use Rattle.paper.specs.Ranges.{isLive}
+use Rattle.record_answers.specs.Effects.{isKnown}
+use Rattle.record_answers.proofs.Tests.{passed, failed}
+use Rattle.record_calls.proofs.Judging.{open-unknown, open-not-live, open-twice, open-accepted}
+use borrow.Author.Needs.{needs}
+use Rattle.record_calls.proofs.opened.Statement.{statement}
+use Rattle.record_calls.proofs.opened.Tie as tie
+
+known : (c : tie.Else1) → isKnown (c .before .before .before .args .s) ≡ true
+known c = passed _ (c .before .is-known .ensures) (c .if1 .left)
+
+live : (c : tie.Else2) → isLive (c .before .before .before .before .before .args .s .rec .standing) ≡ true
+live c = passed _ (c .before .is-live .ensures) (c .if2 .left)
+
+is-known-requires : tie.Need-is-known-requires
+is-known-requires c κs = search needs
+
+refused-requires : tie.Need-refused-requires
+refused-requires c κs = search needs
+
+returns : tie.Need-returns
+returns c = c .refused .ensures
+    ∙ open-unknown _ (failed _ (c .before .before .is-known .ensures) (c .before .if1 .taken))
+
+is-live-requires : tie.Need-is-live-requires
+is-live-requires c κs = search needs
+
+refused-requires-2 : tie.Need-refused-requires-2
+refused-requires-2 c κs = search needs
+
+returns-2 : tie.Need-returns-2
+returns-2 c =
+    let test = c .before .before in
+    c .refused2 .ensures
+    ∙ open-not-live _ (known (test .before)) (failed _ (test .is-live .ensures) (c .before .if2 .taken))
+
+is-evening-requires : tie.Need-is-evening-requires
+is-evening-requires c κs = search needs
+
+refused-requires-3 : tie.Need-refused-requires-3
+refused-requires-3 c κs = search needs
+
+returns-3 : tie.Need-returns-3
+returns-3 c =
+    let test = c .before .before in
+    let l = test .before in
+    c .refused3 .ensures
+    ∙ open-twice _ (known (l .before .before)) (live l) (sym (test .is-evening .ensures) ∙ c .before .if3 .taken)
+
+opened-requires : tie.Need-opened-requires
+opened-requires c κs = search needs
+
+written-requires : tie.Need-written-requires
+written-requires c κs = search needs
+
+returns-4 : tie.Need-returns-4
+returns-4 c =
+    let e = c .before .before in
+    let test = e .before in
+    let l = test .before in
+    rw (c .written .ensures, c .before .opened .ensures)
+    (open-accepted _ (known (l .before .before)) (live l) (sym (test .is-evening .ensures) ∙ e .if3 .left))
+
+pub opened-spec : {M : Type 1} → statement M
+opened-spec =
+    tie.close
+    (tie.spec
+    is-known-requires
+    refused-requires
+    returns
+    is-live-requires
+    refused-requires-2
+    returns-2
+    is-evening-requires
+    refused-requires-3
+    returns-3
+    opened-requires
+    written-requires
+    returns-4)
