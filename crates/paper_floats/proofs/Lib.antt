@@ -1,0 +1,4 @@
+pub mod ExactValues
+pub mod BitLaws
+pub mod ByValue
+pub mod EveryPattern
