@@ -137,6 +137,7 @@ pub asked : (deedBy "admit 1 2 3 4 5 6 7 8 9 10 11 12 13 14 15 16 17 18 19 20 21
 unfolding deedBy keptLimits bytes isDone unsigned workedRepo repoOf dayOf dayTerm isBlank isNot run grow
     pieces full words same isDigit sizeFrom sizeOf upTo above numberOf slashAt code admitNames evaluateNames quoteNames
     moveNames readNames openNames interestNames bondNames forms kindFrom kindOf countFits takesIn takes placeOf the
-    oneOf twoOf itemOf hasTerms placeIn pairFits withPair more taking onWith finished fill called meaning foundIn givenOf
+    oneOf twoOf itemOf hasTerms placeIn pairFits withPair more taking onWith finished fill called meaning foundIn
+    givenOf
     admissionOf quoteOf interestOf bandOf termOf askedOf bondStaticsOf bondOf figuresOf callOf deedOf
 asked = (refl, refl, refl, refl, refl, refl, refl, refl, refl)

@@ -40,7 +40,8 @@ open-evening-spec 𝓤 H 𝓜 𝓖 𝓡 =
     (cited 𝓤 H (Rule taken O.the-row turns 𝓤 H (𝓖 .A)) 𝓜 𝓡 code.env rule-def.name rule-def.routine
     code.calls-record-calls·opened (rule-thm.met 𝓤 H 𝓜 𝓖 𝓡))
     (put-known 𝓤 H 𝓜 𝓖 𝓡 code.env code.calls-desk·put) (record {
-      fits = λ κs x id a room gi are ls. ((tt, (tt, (record { fits = room .0 }, tt))), ((tt, record { fits = gi }), tt));
+      fits = λ κs x id a room gi are ls.
+          ((tt, (tt, (record { fits = room .0 }, tt))), ((tt, record { fits = gi }), tt));
       stands = λ κs x id a ls r. record {
         lends-s = (refl, refl, tt, tt, tt, tt, tt);
         s-in = tt;

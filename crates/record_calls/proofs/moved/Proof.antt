@@ -23,7 +23,8 @@ verdict c = rw (c .before .valid-side .ensures) at (c .shared-checks .ensures)
 past : (c : tie.Else1)
     → let a = c .before .before .before .before .before .before .before .args in
     Passed (isKnown (a .s)) (validSide (a .side)) (a .s .rec)
-past c = past-shared _ _ _ (passed _ (c .before .is-done .ensures ∙ ap isDone (verdict (c .before .before))) (c .if1 .left))
+past c =
+    past-shared _ _ _ (passed _ (c .before .is-done .ensures ∙ ap isDone (verdict (c .before .before))) (c .if1 .left))
 
 allowed : (c : tie.Else2)
     → let r = c .before .before .before .before .before .before .before .before .before .args .s .rec in

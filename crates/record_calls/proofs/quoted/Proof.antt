@@ -22,7 +22,8 @@ verdict c = rw (c .before .valid-quote .ensures) at (c .shared-checks .ensures)
 past : (c : tie.Else1) → Passed (isKnown (c .before .before .before .before .before .args .s))
     (validQuote (c .before .before .before .before .before .args .q))
     (c .before .before .before .before .before .args .s .rec)
-past c = past-shared _ _ _ (passed _ (c .before .is-done .ensures ∙ ap isDone (verdict (c .before .before))) (c .if1 .left))
+past c =
+    past-shared _ _ _ (passed _ (c .before .is-done .ensures ∙ ap isDone (verdict (c .before .before))) (c .if1 .left))
 
 valid-quote-requires : tie.Need-valid-quote-requires
 valid-quote-requires c κs = search needs

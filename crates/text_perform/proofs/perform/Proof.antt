@@ -274,8 +274,8 @@ module _ {M : Type 1} (𝓤 : URA M) (H : Heap 𝓤) (A : Atoms 𝓤) (W : Given
         -- return admit(t, c.admission);
         admit-it : l .kind ≡ admitKind → Sq W (In (some test) ∷ Had) (runs C Λ En code-admit p)
         admit-it e =
-            asks-one 𝓤 H A W κ q b o γ ys room fm ℓt for-admit 0 (refl, refl, tt, tt, tt, tt, tt) tt refl admission admit
-            admission-laws known-admit (l .admission) (LL.val X.the-type X′.the-laws (l .admission)) admission-is
+            asks-one 𝓤 H A W κ q b o γ ys room fm ℓt for-admit 0 (refl, refl, tt, tt, tt, tt, tt) tt refl admission
+            admit admission-laws known-admit (l .admission) (LL.val X.the-type X′.the-laws (l .admission)) admission-is
             (and-then ! (local′ ! (for-admit .1) refl) (and-then ! (field′ ! ℓc 2 refl refl refl) (no-more !)))
             (λ zs r v as-long kept is. returned arm (admits-is l (rows .now) e) zs r v refl as-long kept is)
 
