@@ -3,10 +3,10 @@
 -- lines that may still be heard. Assumes nothing.
 use mathlib.Core.Path.{_≡_, refl, sym, _∙_, ap, subst}
 use mathlib.Core.Bool.{Bool, true, false, not}
-use Prim.Native.Nat.{ℕ, suc, _<_, _≤_}
+use Prim.Native.Nat.{ℕ, suc, _-_, _<_, _≤_}
 use native.Mathlib.Omega.{arith}
 use mathlib.Core.WellFounded.{WellFounded, InvImage·wf}
-use mathlib.Core.List.{List, [], _∷_}
+use mathlib.Core.List.{List, [], _∷_, _++_}
 use lib.WfN.{Nat·lt-wfRel}
 use lib.Dec.{T, ltb, ltb→lt}
 use lib.IntN.{ℤ}
@@ -73,7 +73,7 @@ use Rattle.text_perform.proofs.Gives.{freed}
 use Rattle.text_serve.specs.Serve.{Serves}
 use Rattle.text_serve.proofs.Joining.{Sofar, none-yet, one-more, fewer, served}
 use Rattle.text_serve.proofs.Arrays.{Bytes, Numbers, mref, Lent, state-ty, state-val, IsState, state-tells, state-is, typed-state}
-use Rattle.text_serve.proofs.Held.{held as locals, place-of}
+use Rattle.text_serve.proofs.Held.{held as locals, place-of, behind-all, entries}
 use Rattle.text_serve.proofs.Buffers.{array-ty, typed-array, apart, back}
 use Rattle.text_serve.proofs.Steps.{One, to-one, Handed, goes-one, comes-back}
 use Rattle.text_serve.proofs.no_numbers as numbers
@@ -137,32 +137,30 @@ body = after (after turn-1)
 abbrev behind : Code
 behind = after code-loop
 
--- where each local stands in the context of the statements before the loop: behind the token, obs and the borrow, the
--- last local first
-abbrev in-for-numbers : ℕ
-in-for-numbers = place-of 3 14 8
+-- the locals, by the names of the code; those from `for-bytes` on are the compiler's own
+abbrev ℓt : ℕ
+ℓt = 1
 
-abbrev in-for-bytes : ℕ
-in-for-bytes = place-of 3 14 7
+abbrev ℓreasons : ℕ
+ℓreasons = 2
 
-abbrev in-s : ℕ
-in-s = place-of 3 14 6
+abbrev ℓbuf : ℕ
+ℓbuf = 3
 
-abbrev in-out : ℕ
-in-out = place-of 3 14 5
+abbrev ℓxs : ℕ
+ℓxs = 4
 
-abbrev in-xs : ℕ
-in-xs = place-of 3 14 4
+abbrev ℓout : ℕ
+ℓout = 5
 
-abbrev in-buf : ℕ
-in-buf = place-of 3 14 3
-
-abbrev in-reasons : ℕ
-in-reasons = place-of 3 14 2
-
--- the locals of a turn, by the names of the code; those from `ℓtest` on are the compiler's own
 abbrev ℓs : ℕ
 ℓs = 6
+
+abbrev for-bytes : ℕ
+for-bytes = 7
+
+abbrev for-numbers : ℕ
+for-numbers = 8
 
 abbrev ℓtest : ℕ
 ℓtest = 9
@@ -179,19 +177,31 @@ for-xs = 13
 abbrev for-out : ℕ
 for-out = 14
 
--- where they stand in the context of a turn, behind k other entries. The arrays' cells are lent, so that `reasons`, t
--- and the result, which stand behind them, are three entries nearer
-abbrev turn-slot : (k local : ℕ) → ℕ
-turn-slot k i = place-of k 14 i
+-- where a local stands in a walk's context, behind k other entries: the last local first
+abbrev slot : (k local : ℕ) → ℕ
+slot k i = place-of k for-out i
 
-abbrev turn-reasons : ℕ
-turn-reasons = 27
+-- before the loop it stands behind the token, obs and the borrow
+abbrev first-slot : (local : ℕ) → ℕ
+first-slot i = slot 3 i
 
-abbrev turn-t : ℕ
-turn-t = 29
+-- in a turn it stands behind the three arrays in memory, obs, the borrow and the token. The arrays' cells are away, so
+-- that `reasons`, t and the result, which stand behind them, are three entries nearer, and of the arrays' own entries
+-- the right to free them is left
+abbrev turn-slot : (local : ℕ) → ℕ
+turn-slot i = slot 6 i
 
-abbrev turn-result : ℕ
-turn-result = 31
+abbrev turn-slot-behind : (local : ℕ) → ℕ
+turn-slot-behind i = turn-slot i - 3
+
+abbrev frees-out : ℕ
+frees-out = turn-slot ℓout
+
+abbrev frees-xs : ℕ
+frees-xs = suc frees-out
+
+abbrev frees-buf : ℕ
+frees-buf = suc frees-xs
 
 -- where the loop stands: the table, what the three arrays hold and the state, and what is known of them
 record Stand (reasons : Bool) (ys : List Record) : Type 0 where
@@ -341,18 +351,18 @@ module _ {M : Type 1} (𝓤 : URA M) (H : Heap 𝓤) (A : Atoms 𝓤) (W : Given
       -- the arrays are given up, and the function returns `s`
       ends : T (not (ltb 0 (s .input .left))) → Sq W (At i) (runs C Λ En behind (atRet En Post))
       ends over =
-          assigns ! (of-opd ! (load ! (from ! (stop !)) (look ! (turn-slot 6 ℓs) refl))) (from ! (stop !))
-          (init ! turn-result refl (typed-state 𝓤 H A W s (state-val s) (i .held))) $
-          returns ! (look ! turn-result refl) $ forget ! (turn-slot 6 ℓs) refl $ forget ! turn-reasons refl $
-          forget ! turn-t refl $ forget ! turn-result refl $
+          assigns ! (of-opd ! (load ! (from ! (stop !)) (look ! (turn-slot ℓs) refl))) (from ! (stop !))
+          (init ! (turn-slot-behind 0) refl (typed-state 𝓤 H A W s (state-val s) (i .held))) $
+          returns ! (look ! (turn-slot-behind 0) refl) $ forget ! (turn-slot ℓs) refl $
+          forget ! (turn-slot-behind ℓreasons) refl $
+          forget ! (turn-slot-behind ℓt) refl $ forget ! (turn-slot-behind 0) refl $
           back u8 bufferRoom 𝓤 H A W (uint-vals w8) (uint-tells w8) (i .bytes) l₃ (forget ! 0 refl $ move ! (1 ∷ []) $
           back i64 keptMost 𝓤 H A W (sint-vals w64) (sint-tells w64) (i .numbers) l₄ (forget ! 0 refl $ move !
           (2 ∷ []) $
           back u8 bufferRoom 𝓤 H A W (uint-vals w8) (uint-tells w8) (i .answers) l₅ (forget ! 0 refl $
           -- [_5; _4; _3; obs; the borrow; the token; _14; …; _6; …; …; _2; …; _1; …; _0; …]
-          keep ! (6 ∷ 7 ∷ 8 ∷ 9 ∷ 10 ∷ 11 ∷ 12 ∷ 13 ∷ 14 ∷ 15 ∷ 16 ∷ 17 ∷ 18 ∷ 19 ∷ 20 ∷ 21 ∷ 22 ∷ 23 ∷ 0 ∷ 24 ∷ 1 ∷ 25
-          ∷ 2 ∷ 26 ∷ 27 ∷ 28 ∷ 29 ∷ 30
-          ∷ 31 ∷ 32 ∷ 3 ∷ 4 ∷ 5 ∷ []) $
+          -- each array's room goes back to its place
+          move ! (entries 6 (slot 0 ℓout) ++ 0 ∷ frees-out ∷ 1 ∷ frees-xs ∷ 2 ∷ entries frees-buf 7) $
           freed 𝓤 H A W En (Obs zs ∷ Bor zs ∷ ‵ (flft κ q) ∷ [])
           (by ! (exits zs s (i .long) (served (i .came) (none-left (s .input .left) over)) (i .held))))))
 
@@ -430,19 +440,19 @@ module _ {M : Type 1} (𝓤 : URA M) (H : Heap 𝓤) (A : Atoms 𝓤) (W : Given
           (goes-one 𝓤 H A mem′ run′ W (α ∷ []) (β ∷ []) b o γ′ zs l₃ γb (i .bytes) l₄ γx (i .numbers) l₅ γo
           (i .answers) s (i .held) (i .came .stands) (i .came .room)) $
           calls-at-last ! (fmOf 𝓤 H (W .laws) 𝓣) (One 𝓤 H A mem′ run′) known-one (there α β γ′ γb γx γo)
-          (and-then ! (load ! (from ! (stop !)) (look ! (turn-slot 8 (for-t .1)) refl))
-          (and-then ! (load ! (from ! (stop !)) (look ! (turn-slot 8 for-buf) refl))
-          (and-then ! (load ! (from ! (stop !)) (look ! (turn-slot 8 for-xs) refl))
-          (and-then ! (load ! (from ! (stop !)) (look ! (turn-slot 8 for-out) refl))
-          (and-then ! (load ! (from ! (stop !)) (look ! (turn-slot 8 ℓs) refl)) (no-more !)))))) (λ w.
+          (and-then ! (load ! (from ! (stop !)) (look ! (slot 8 (for-t .1)) refl))
+          (and-then ! (load ! (from ! (stop !)) (look ! (slot 8 for-buf) refl))
+          (and-then ! (load ! (from ! (stop !)) (look ! (slot 8 for-xs) refl))
+          (and-then ! (load ! (from ! (stop !)) (look ! (slot 8 for-out) refl))
+          (and-then ! (load ! (from ! (stop !)) (look ! (slot 8 ℓs) refl)) (no-more !)))))) (λ w.
           comes-back 𝓤 H A mem′ run′ W (α ∷ []) (β ∷ []) b o γ′ zs l₃ γb (i .bytes) l₄ γx (i .numbers) l₅ γo
           (i .answers) s tt w (λ us bs′ xs′ os′ r l e is. taken-back tt α β γ′ γb γx γo us bs′ xs′ os′ l (
-          land-last ! (from ! (stop !)) (store ! (turn-slot 6 ℓs) refl (typed-state 𝓤 H A W r w is)) $
-          rewrite ! (turn-slot 6 ℓs) (λ (z : Val). ‵ (fat fullShare state-ty l₆ 0 z)) (state-tells r w is) refl $
-          rewrite ! turn-t (λ (m : ℕ). ‵ (fat fullShare slice l₁ 0 (sliceVal (b, o) m))) (sym l) refl $
-          forget ! (turn-slot 6 for-out) refl $ forget ! (turn-slot 6 for-xs) refl $
-          forget ! (turn-slot 6 for-buf) refl $ forget ! (turn-slot 6 (for-t .1)) refl $
-          forget ! (turn-slot 6 (for-t .0)) refl $
+          land-last ! (from ! (stop !)) (store ! (turn-slot ℓs) refl (typed-state 𝓤 H A W r w is)) $
+          rewrite ! (turn-slot ℓs) (λ (z : Val). ‵ (fat fullShare state-ty l₆ 0 z)) (state-tells r w is) refl $
+          rewrite ! (turn-slot-behind ℓt) (λ (m : ℕ). ‵ (fat fullShare slice l₁ 0 (sliceVal (b, o) m))) (sym l) refl $
+          forget ! (turn-slot for-out) refl $ forget ! (turn-slot for-xs) refl $
+          forget ! (turn-slot for-buf) refl $ forget ! (turn-slot (for-t .1)) refl $
+          forget ! (turn-slot (for-t .0)) refl $
           again ! Nearer At i (record {
             table = us;
             bytes = bs′;
@@ -487,21 +497,22 @@ module _ {M : Type 1} (𝓤 : URA M) (H : Heap 𝓤) (A : Atoms 𝓤) (W : Given
       turns =
           -- `s.input.left > 0`
           assigns ! (bin ! (lit ! tt) (load ! (from ! (fld ! refl (fld ! refl (stop !))))
-          (look-in ! (turn-slot 6 ℓs) (sub ! 3 refl (sub ! 0 refl (whole !))))) tt)
-          (from ! (stop !)) (init ! (turn-slot 6 ℓtest) refl (tt, tt)) $
-          first ! $ branches ! (load ! (from ! (stop !)) (look ! (turn-slot 6 ℓtest) refl))
-          (λ more. skips ! $ exec ! C Λ En body (anyQ (Turned i)) $ forget ! (turn-slot 6 ℓtest) refl $
+          (look-in ! (turn-slot ℓs) (sub ! 3 refl (sub ! 0 refl (whole !))))) tt)
+          (from ! (stop !)) (init ! (turn-slot ℓtest) refl (tt, tt)) $
+          first ! $ branches ! (load ! (from ! (stop !)) (look ! (turn-slot ℓtest) refl))
+          (λ more. skips ! $ exec ! C Λ En body (anyQ (Turned i)) $ forget ! (turn-slot ℓtest) refl $
           -- `t`, `&mut buf`, `&mut xs` and `&mut out`
-          assigns ! (addr ! (from ! (fld ! refl (hop ! (look-in ! turn-t (sub ! 0 refl (whole !))) (stop !)))))
-          (from ! (stop !)) (init ! (turn-slot 6 (for-t .0)) refl (tt, tt)) $
-          assigns ! (agg ! (and-then ! (load ! (from ! (stop !)) (look ! (turn-slot 6 (for-t .0)) refl))
-          (and-then ! (load ! (from ! (fld ! refl (stop !))) (look-in ! turn-t (sub ! 1 refl (whole !)))) (no-more !))))
-          (from ! (stop !)) (init ! (turn-slot 6 (for-t .1)) refl (tt, (tt, (record { fits = room′ .0 }, tt)))) $
-          assigns ! (addr ! (from ! (stop !))) (from ! (stop !)) (init ! (turn-slot 6 for-buf) refl (tt, tt)) $
-          assigns ! (addr ! (from ! (stop !))) (from ! (stop !)) (init ! (turn-slot 6 for-xs) refl (tt, tt)) $
-          assigns ! (addr ! (from ! (stop !))) (from ! (stop !)) (init ! (turn-slot 6 for-out) refl (tt, tt)) $
+          assigns ! (addr ! (from ! (fld ! refl (hop ! (look-in ! (turn-slot-behind ℓt) (sub ! 0 refl (whole !)))
+          (stop !))))) (from ! (stop !)) (init ! (turn-slot (for-t .0)) refl (tt, tt)) $
+          assigns ! (agg ! (and-then ! (load ! (from ! (stop !)) (look ! (turn-slot (for-t .0)) refl))
+          (and-then ! (load ! (from ! (fld ! refl (stop !)))
+          (look-in ! (turn-slot-behind ℓt) (sub ! 1 refl (whole !)))) (no-more !))))
+          (from ! (stop !)) (init ! (turn-slot (for-t .1)) refl (tt, (tt, (record { fits = room′ .0 }, tt)))) $
+          assigns ! (addr ! (from ! (stop !))) (from ! (stop !)) (init ! (turn-slot for-buf) refl (tt, tt)) $
+          assigns ! (addr ! (from ! (stop !))) (from ! (stop !)) (init ! (turn-slot for-xs) refl (tt, tt)) $
+          assigns ! (addr ! (from ! (stop !))) (from ! (stop !)) (init ! (turn-slot for-out) refl (tt, tt)) $
           lending more)
-          (λ over. jumps ! $ exec ! C Λ En behind (atRet En Post) $ forget ! (turn-slot 6 ℓtest) refl $ ends over)
+          (λ over. jumps ! $ exec ! C Λ En behind (atRet En Post) $ forget ! (turn-slot ℓtest) refl $ ends over)
 
     -- ---- the statements before the loop
 
@@ -549,9 +560,9 @@ module _ {M : Type 1} (𝓤 : URA M) (H : Heap 𝓤) (A : Atoms 𝓤) (W : Given
           asks 𝓤 H A W fm (Buffer 𝓤 H A mem′ run′) known-buffer ((tt, tt, tt, tt, tt), tt) goes-buffer Bytes
           (Buffers 𝓤 H A mem′ run′)
           (λ w. id⊢ 𝓤 _) (λ r. bufferRoom ≡ length r) (buffers-of 𝓤 H A mem′ run′) (no-more !) (λ bs w long ib.
-          land ! (from ! (stop !)) (init ! in-for-bytes refl (typed-bytes bs w ib)) $
-          assigns ! (of-opd ! (load ! (from ! (stop !)) (look ! in-for-bytes refl))) (from ! (stop !))
-          (init ! in-buf refl (typed-bytes bs w ib)) $ k bs w long ib)
+          land ! (from ! (stop !)) (init ! (first-slot for-bytes) refl (typed-bytes bs w ib)) $
+          assigns ! (of-opd ! (load ! (from ! (stop !)) (look ! (first-slot for-bytes) refl))) (from ! (stop !))
+          (init ! (first-slot ℓbuf) refl (typed-bytes bs w ib)) $ k bs w long ib)
 
       -- let mut xs = no_numbers();
       let-xs : (w : Val) → ((xs : List ℤ) (v : Val) → Is Numbers xs (v ∷ [])
@@ -561,9 +572,9 @@ module _ {M : Type 1} (𝓤 : URA M) (H : Heap 𝓤) (A : Atoms 𝓤) (W : Given
           asks 𝓤 H A W fm (NoNumbers 𝓤 H A mem′ run′) known-numbers ((tt, tt, tt, tt, tt), tt) goes-numbers Numbers
           (Numbered 𝓤 H A mem′ run′) (λ w. id⊢ 𝓤 _) (λ r. keptMost ≡ length r) (numbered-of 𝓤 H A mem′ run′) (no-more !)
           (λ xs v _ ix.
-          land ! (from ! (stop !)) (init ! in-for-numbers refl (typed-numbers xs v ix)) $
-          assigns ! (of-opd ! (load ! (from ! (stop !)) (look ! in-for-numbers refl))) (from ! (stop !))
-          (init ! in-xs refl (typed-numbers xs v ix)) $ k xs v ix)
+          land ! (from ! (stop !)) (init ! (first-slot for-numbers) refl (typed-numbers xs v ix)) $
+          assigns ! (of-opd ! (load ! (from ! (stop !)) (look ! (first-slot for-numbers) refl))) (from ! (stop !))
+          (init ! (first-slot ℓxs) refl (typed-numbers xs v ix)) $ k xs v ix)
 
       -- let mut out = io::large_buffer();
       let-out : (w v : Val) → ((os : List ℕ) (u : Val) → Is Bytes os (u ∷ [])
@@ -573,9 +584,9 @@ module _ {M : Type 1} (𝓤 : URA M) (H : Heap 𝓤) (A : Atoms 𝓤) (W : Given
           asks 𝓤 H A W fm (Buffer 𝓤 H A mem′ run′) known-buffer ((tt, tt, tt, tt, tt), tt) goes-buffer Bytes
           (Buffers 𝓤 H A mem′ run′)
           (λ w. id⊢ 𝓤 _) (λ r. bufferRoom ≡ length r) (buffers-of 𝓤 H A mem′ run′) (no-more !) (λ os u _ io.
-          land ! (from ! (stop !)) (store ! in-for-bytes refl (typed-bytes os u io)) $
-          assigns ! (of-opd ! (load ! (from ! (stop !)) (look ! in-for-bytes refl))) (from ! (stop !))
-          (init ! in-out refl (typed-bytes os u io)) $ k os u io)
+          land ! (from ! (stop !)) (store ! (first-slot for-bytes) refl (typed-bytes os u io)) $
+          assigns ! (of-opd ! (load ! (from ! (stop !)) (look ! (first-slot for-bytes) refl))) (from ! (stop !))
+          (init ! (first-slot ℓout) refl (typed-bytes os u io)) $ k os u io)
 
       -- let mut s = start(reasons);
       let-s : (w v u : Val) → ((s : State) (z : Val) → s ≡ startState reasons → Is G.the-row s (z ∷ [])
@@ -585,10 +596,10 @@ module _ {M : Type 1} (𝓤 : URA M) (H : Heap 𝓤) (A : Atoms 𝓤) (W : Given
           asks 𝓤 H A W fm (Start 𝓤 H A mem′ run′) known-start to-start goes-start G.the-row
           (Starts 𝓤 H A mem′ run′ reasons)
           (λ w. id⊢ 𝓤 _) (λ r. r ≡ startState reasons) (starts-of 𝓤 H A mem′ run′ reasons)
-          (and-then ! (load ! (from ! (stop !)) (look ! (suc in-reasons) refl)) (no-more !)) (λ s z first-state is.
-          land ! (from ! (stop !)) (init ! in-s refl (typed-state 𝓤 H A W s z is)) $
-          rewrite ! in-s (λ (y : Val). ‵ (fat fullShare state-ty l₆ 0 y)) (state-tells s z is) refl $
-          forget ! in-for-numbers refl $ forget ! in-for-bytes refl $ k s z first-state is)
+          (and-then ! (load ! (from ! (stop !)) (look ! (slot 4 ℓreasons) refl)) (no-more !)) (λ s z first-state is.
+          land ! (from ! (stop !)) (init ! (first-slot ℓs) refl (typed-state 𝓤 H A W s z is)) $
+          rewrite ! (first-slot ℓs) (λ (y : Val). ‵ (fat fullShare state-ty l₆ 0 y)) (state-tells s z is) refl $
+          forget ! (first-slot for-numbers) refl $ forget ! (first-slot for-bytes) refl $ k s z first-state is)
 
       -- while s.input.left > 0 { .. }, with the arrays in their locals as values in memory
       loop : (bs : List ℕ) (w : Val) → bufferRoom ≡ length bs → Is Bytes bs (w ∷ []) → (xs : List ℤ) (v : Val)
@@ -597,12 +608,12 @@ module _ {M : Type 1} (𝓤 : URA M) (H : Heap 𝓤) (A : Atoms 𝓤) (W : Given
           → Sq W (In (w ∷ []) (v ∷ []) (u ∷ []) (state-val s ∷ []) [] []) (Runs code-loop)
       unfolding at-first
       loop bs w long ib xs v ix os u io s z first-state is =
-          move ! (in-buf ∷ []) $
+          move ! (first-slot ℓbuf ∷ []) $
           use1 W (‵ (mem Bytes .lies bs l₃ 0)) (apart u8 bufferRoom 𝓤 H A W (uint-makes 𝓤 H A W w8) bs w l₃ ib) $
           -- [buf; the token; obs; the borrow; _14; …]: each local before buf stands one place further
-          move ! (suc in-xs ∷ []) $
+          move ! (slot 4 ℓxs ∷ []) $
           use1 W (‵ (mem Numbers .lies xs l₄ 0)) (apart i64 keptMost 𝓤 H A W (sint-makes 𝓤 H A W w64) xs v l₄ ix) $
-          move ! (suc (suc in-out) ∷ []) $
+          move ! (slot 5 ℓout ∷ []) $
           use1 W (‵ (mem Bytes .lies os l₅ 0)) (apart u8 bufferRoom 𝓤 H A W (uint-makes 𝓤 H A W w8) os u l₅ io) $
           -- [out; xs; buf; the token; obs; the borrow; _14; …; _0; …]
           move ! (2 ∷ 1 ∷ 0 ∷ 4 ∷ 5 ∷ 3 ∷ []) $
@@ -625,11 +636,11 @@ module _ {M : Type 1} (𝓤 : URA M) (H : Heap 𝓤) (A : Atoms 𝓤) (W : Given
         alloc1 ! (λ l₀. alloc1 ! (λ l₁. alloc1 ! (λ l₂. alloc1 ! (λ l₃. alloc1 ! (λ l₄. alloc1 ! (λ l₅. alloc1 ! (λ l₆.
         alloc1 ! (λ l₇. alloc1 ! (λ l₈. alloc1 ! (λ l₉. alloc1 ! (λ l₁₀. alloc1 ! (λ l₁₁. alloc1 ! (λ l₁₂.
         alloc1 ! (λ l₁₃. alloc1 ! (λ l₁₄. alloc0 ! $ params1 ! $
-        pass1 ! (init ! 26 refl (tt, (tt, (record { fits = room .0 }, tt)))) $
-        pass1 ! (init ! 24 refl (tt, tt)) $ pass0 ! $
+        pass1 ! (init ! (slot 0 ℓt) refl (tt, (tt, (record { fits = room .0 }, tt)))) $
+        pass1 ! (init ! (slot 0 ℓreasons) refl (tt, tt)) $ pass0 ! $
         -- [_14; …; _0; …; the token; what t and `reasons` own]
-        move ! (31 ∷ []) $ fsplit ! $ fsplit ! $ drop ! $ fsplit ! $ move ! (2 ∷ []) $ drop ! $
-        move ! (32 ∷ []) $ split ! $ move ! (1 ∷ []) $ drop ! $
+        move ! (behind-all 1 for-out ∷ []) $ fsplit ! $ fsplit ! $ drop ! $ fsplit ! $ move ! (2 ∷ []) $ drop ! $
+        move ! (behind-all 2 for-out ∷ []) $ split ! $ move ! (1 ∷ []) $ drop ! $
         statements 𝓣 known-one l₀ l₁ l₂ l₃ l₄ l₅ l₆ l₇ l₈ l₉ l₁₀ l₁₁ l₁₂ l₁₃ l₁₄ known-buffer known-numbers
         known-start)))))))))))))))
 
