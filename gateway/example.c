@@ -1,12 +1,13 @@
 /*
  * Document 01, cases 1, 3 and 4: the three rates of statics Z, their ranges at P 1,030,000, and the band. The evening of
- * Z has 120 seconds, Autochange yes and two moves.
+ * Z has 120 seconds, Autochange yes and two moves; UseEXTERNAL is no.
  */
 #include "nedrubal.h"
 #include <inttypes.h>
 #include <stdio.h>
 
-#define Z 10, 100, 300, 1000, 500, 5, 2, 5, 8, 50, 500, 700, 900, 4000, 200, 25, 2000, 2000, 1000, 60, 1, 1, 120, 1, 2
+#define Z \
+    10, 100, 300, 1000, 500, 5, 2, 5, 8, 50, 500, 700, 900, 4000, 200, 25, 2000, 2000, 1000, 60, 1, 1, 120, 1, 2, 0
 
 int main(void) {
     const int64_t p = 1030000;

@@ -11,7 +11,7 @@
  *
  * Units. A price and a limit: ten-thousandths of a rouble (1,000,000 is 100 roubles). A rate and a repo rate: basis points (10,000 is 100 per cent).
  *
- * The statics come last in every call, all 25, in this order (name here, name in document 01 where it differs, unit, range):
+ * The statics come last in every call, all 26, in this order (name here, name in document 01 where it differs, unit, range):
  *
  *     lot                                     pieces            1..100
  *     h                  step                 basis points      1..1,000
@@ -32,11 +32,13 @@
  *     uevening           u_evening            seconds           1..3,600
  *     autochange         Autochange           no 0, yes 1
  *     eveningmax         evening maximum      moves             0..10
+ *     useexternal        UseEXTERNAL          no 0, yes 1
  *
- * The last three are the evening session's (document 02, W-210; clauses 17.4 and 17.5 of the methodology). No figure
- * here depends on them, but each is judged: one out of its range is -4. Before W-210 every call took the 22 statics
- * before them, and each call has kept its name: a program that was compiled with an older nedrubal.h must be compiled
- * again with this one and give the three in its calls. Linked without that, it would pass three numbers too few.
+ * The last four are the evening session's (document 02, W-210; clauses 17.4 and 17.5 of the methodology) and that of
+ * external prices (W-211; clause 6.1). No figure here depends on them, but each is judged: one out of its range is -4.
+ * Before W-210 every call took the 22 statics before them, before W-211 all but useexternal, and each call has kept its
+ * name: a program that was compiled with an older nedrubal.h must be compiled again with this one and give all 26 in its
+ * calls. Linked without that, it would pass too few numbers.
  *
  * The price grid follows the lot: a price and a limit are multiples of 100 for lot 1, of 10 for lots 2..10, of 1 for lots 11..100.
  *
@@ -63,7 +65,7 @@ int64_t nedrubal_level_rate(
     int64_t tentative, int64_t m, int64_t level,
     int64_t lot, int64_t h, int64_t q, int64_t a_up, int64_t a_down, int64_t wait, int64_t rh1, int64_t rh2, int64_t rh3, int64_t liq,
     int64_t min1, int64_t min2, int64_t min3, int64_t smax, int64_t xpr, int64_t shift, int64_t pchmax, int64_t pclmax, int64_t w, int64_t u,
-    int64_t monitoring, int64_t ewma, int64_t uevening, int64_t autochange, int64_t eveningmax);
+    int64_t monitoring, int64_t ewma, int64_t uevening, int64_t autochange, int64_t eveningmax, int64_t useexternal);
 
 /*
  * A fresh range limit, p raised or lowered by a rate and rounded half up to the grid, 0..2 * 10^10.
@@ -76,7 +78,7 @@ int64_t nedrubal_range_limit(
     int64_t p, int64_t rate, int64_t side,
     int64_t lot, int64_t h, int64_t q, int64_t a_up, int64_t a_down, int64_t wait, int64_t rh1, int64_t rh2, int64_t rh3, int64_t liq,
     int64_t min1, int64_t min2, int64_t min3, int64_t smax, int64_t xpr, int64_t shift, int64_t pchmax, int64_t pclmax, int64_t w, int64_t u,
-    int64_t monitoring, int64_t ewma, int64_t uevening, int64_t autochange, int64_t eveningmax);
+    int64_t monitoring, int64_t ewma, int64_t uevening, int64_t autochange, int64_t eveningmax, int64_t useexternal);
 
 /*
  * A band limit of one side, rounded inward to the grid, the upper down and the lower up, 0..2 * 10^10. With monitoring 0 it is p raised by pchmax or
@@ -93,7 +95,7 @@ int64_t nedrubal_band_limit(
     int64_t p, int64_t s1, int64_t k, int64_t repo, int64_t c, int64_t side,
     int64_t lot, int64_t h, int64_t q, int64_t a_up, int64_t a_down, int64_t wait, int64_t rh1, int64_t rh2, int64_t rh3, int64_t liq,
     int64_t min1, int64_t min2, int64_t min3, int64_t smax, int64_t xpr, int64_t shift, int64_t pchmax, int64_t pclmax, int64_t w, int64_t u,
-    int64_t monitoring, int64_t ewma, int64_t uevening, int64_t autochange, int64_t eveningmax);
+    int64_t monitoring, int64_t ewma, int64_t uevening, int64_t autochange, int64_t eveningmax, int64_t useexternal);
 
 #ifdef __cplusplus
 }

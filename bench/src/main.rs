@@ -49,7 +49,7 @@ const IS_EWMA: usize = 27;
 /// What an accepted evaluation counts in the sum of `nedrubal_whys`.
 const ACCEPTED: u64 = 8;
 
-/// The numbers of one security: `admit`'s 31, a day's DAY B M K RRCL RRCH, and the rows.
+/// The numbers of one security: `admit`'s 32, a day's DAY B M K RRCL RRCH, and the rows.
 #[derive(Clone)]
 struct Security {
     admit: [i64; ADMISSION],
@@ -82,7 +82,7 @@ fn security(id: i64, random: &mut Random) -> Security {
     ]);
     admit[6..].copy_from_slice(&[
         10, 100, 300, 1000, 500, 5, 2, 5, 8, 50, 500, 700, 900, 4000, 200, 25, 2000, 2000, 1000,
-        60, 1, 1, 120, 1, 2,
+        60, 1, 1, 120, 1, 2, 0,
     ]);
     let mut rows = Vec::new();
     for row in 0..ROWS {

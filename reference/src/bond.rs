@@ -174,6 +174,7 @@ fn statics(numbers: &[i64]) -> Option<Statics> {
         evening_seconds: *NEAR_SECONDS.start(),
         autochange: false,
         evening_maximum: *EVENING_MOVES.start(),
+        use_external: false,
     };
     statics.is_sound().then_some(statics)
 }

@@ -89,9 +89,9 @@ mod tests {
         let counted = count(&said[..], Answers::Evening).unwrap();
         assert_eq!(
             counted.line,
-            "answers: 0=2 1=0 2=0 3=0 4=1 5=0 6=0 7=0 8=0 9=0 10=0 11=0 12=0 13=1 14=0 16=0 17=0 18=0 19=0 bad=1"
+            "answers: 0=2 1=0 2=0 3=0 4=1 5=0 6=0 7=0 8=0 9=0 10=0 11=0 12=0 13=1 14=0 16=0 17=0 18=0 19=0 20=0 bad=1"
         );
-        assert_eq!(counted.missing.len(), 16);
+        assert_eq!(counted.missing.len(), 17);
     }
 
     #[test]

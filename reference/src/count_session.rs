@@ -6,14 +6,13 @@ use std::collections::HashMap;
 use std::io::{self, BufRead};
 
 use crate::count::Count;
-use crate::protocol::admission;
 use crate::record::{Record, Session, Side, Term};
 use crate::refusal::Refusal;
 use crate::replay::{calls, Call};
-use crate::security::{admitted, Admission};
+use crate::static_ends::{StaticEnds, FLAG};
 use crate::statics::{Statics, NEAR_SECONDS};
 use crate::tally::{names, Edge, Tally};
-use crate::units::{Range, EVENING_MOVES, MOVE_COUNT};
+use crate::units::{EVENING_MOVES, MOVE_COUNT};
 
 /// What came before a call about an id.
 #[derive(Clone, Copy, Default)]
@@ -426,45 +425,12 @@ fn alert_edges() -> impl Iterator<Item = String> {
     (0..32).map(|n| alert_edge(n / 16, n / 8 % 2, n / 4 % 2, n % 4))
 }
 
-/// The evening's statics: their places among an admission's and their ranges.
-const STATICS: [(&str, usize, Range); 3] = [
-    ("UEVENING", 22, NEAR_SECONDS),
-    ("AUTOCHANGE", 23, 0..=1),
-    ("EVENINGMAX", 24, EVENING_MOVES),
+/// The evening's statics.
+const STATICS: [StaticEnds; 3] = [
+    StaticEnds::new("UEVENING", 22, NEAR_SECONDS),
+    StaticEnds::new("AUTOCHANGE", 23, FLAG),
+    StaticEnds::new("EVENINGMAX", 24, EVENING_MOVES),
 ];
-const AT_LEAST: &str = "at its least";
-const AT_MOST: &str = "at its most";
-const ONE_BELOW: &str = "4: one below";
-const ONE_ABOVE: &str = "4: one above";
-
-fn static_edge(name: &str, place: &str) -> String {
-    format!("{name} {place}")
-}
-
-fn static_edges() -> impl Iterator<Item = String> {
-    let places = [AT_LEAST, AT_MOST, ONE_BELOW, ONE_ABOVE];
-    let edges = STATICS.map(|(name, _, _)| places.map(|place| static_edge(name, place)));
-    edges.into_iter().flatten()
-}
-
-fn look_at_admission(tally: &mut Tally, given: &Admission, number: i64) {
-    for (name, place, range) in STATICS {
-        let (value, least, most) = (given.statics[place], *range.start(), *range.end());
-        let mut mended = *given;
-        mended.statics[place] = least;
-        let is_alone = number == 4 && admitted(&mended).is_some();
-        for (place, is_met) in [
-            (AT_LEAST, number == 0 && value == least),
-            (AT_MOST, number == 0 && value == most),
-            (ONE_BELOW, is_alone && value == least - 1),
-            (ONE_ABOVE, is_alone && value == most + 1),
-        ] {
-            if is_met {
-                tally.meet(&static_edge(name, place));
-            }
-        }
-    }
-}
 
 fn look_at_quote(tally: &mut Tally, quote: &SeenQuote) {
     tally.look(&QUOTES, quote);
@@ -480,7 +446,7 @@ pub fn count_session(input: impl BufRead) -> io::Result<Count> {
         .chain(names(MOVES.to_vec()))
         .chain(names(QUOTES.to_vec()))
         .chain(alert_edges())
-        .chain(static_edges());
+        .chain(STATICS.iter().flat_map(StaticEnds::edges));
     let mut tally = Tally::new(edges);
     let mut pasts: HashMap<i64, Past> = HashMap::new();
     calls(input, |call| {
@@ -502,9 +468,7 @@ pub fn count_session(input: impl BufRead) -> io::Result<Count> {
                 }
             }
             b"admit" => {
-                if let Some(given) = admission(&numbers) {
-                    look_at_admission(&mut tally, &given, call.answer.number());
-                }
+                STATICS.iter().for_each(|ends| ends.look(&mut tally, call));
             }
             _ => {}
         }

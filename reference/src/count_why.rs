@@ -67,7 +67,7 @@ impl SeenWhy {
 
     fn see(&mut self, before: &Record, after: &Record) {
         let statics = &before.statics;
-        self.settled = settled(&self.asked.rows, before.p1);
+        self.settled = settled(&self.asked.rows, before.taken_outside(), before.p1);
         let settled = &self.settled;
         let holds = |reason: &Price| {
             let settled = settled.as_ref();

@@ -1,10 +1,13 @@
-//! The six calls on a lent table (document 01, "What the desk covers" and
-//! "Numbers a member may see"; opening the evening is W-210's). A refusal
-//! writes nothing.
+//! The nine calls on a lent table (document 01, "What the desk covers" and
+//! "Numbers a member may see"; opening the evening is W-210's, the three calls
+//! of outside prices are W-211's). A refusal writes nothing.
 
 use crate::record::Record;
 use crate::refusal::Refusal;
-use crate::security::{admitted, evaluated, moved, opened, quoted, Admission, Alerts, Day, Quote};
+use crate::security::{
+    admitted, evaluated, moved, noticed, opened, quoted, sent, withdrawn, Admission, Alerts, Day,
+    Quote,
+};
 
 /// The most slots a table may have.
 pub const SLOTS_MAX: usize = 512;
@@ -76,6 +79,28 @@ pub fn open(table: &mut [Record], id: i64) -> Result<&Record, Refusal> {
 pub fn move_side(table: &mut [Record], id: i64, side: i64) -> Result<&Record, Refusal> {
     let slot = find(table, id)?;
     table[slot] = moved(&table[slot], side)?;
+    Ok(&table[slot])
+}
+
+/// Takes an outside bid and ask, the bits of two floats: refused 1, 20.
+pub fn send(table: &mut [Record], id: i64, bid: i64, ask: i64) -> Result<&Record, Refusal> {
+    let slot = find(table, id)?;
+    table[slot] = sent(&table[slot], bid, ask)?;
+    Ok(&table[slot])
+}
+
+/// Takes a notice of one side, 0 a bid or 1 an ask, and the bits of a float:
+/// refused 1, 6, 20.
+pub fn notice(table: &mut [Record], id: i64, side: i64, bits: i64) -> Result<&Record, Refusal> {
+    let slot = find(table, id)?;
+    table[slot] = noticed(&table[slot], side, bits)?;
+    Ok(&table[slot])
+}
+
+/// Takes a withdrawal: refused 1.
+pub fn withdraw(table: &mut [Record], id: i64) -> Result<&Record, Refusal> {
+    let slot = find(table, id)?;
+    table[slot] = withdrawn(&table[slot]);
     Ok(&table[slot])
 }
 

@@ -2,6 +2,7 @@
 //! (6.1)").
 
 use crate::exact::{narrow, wide, Quotient};
+use crate::outside::Outside;
 use crate::units::{
     CENTRAL_RATE, DAYS_AHEAD, ONE_IN_TEN_THOUSANDTHS, PRICE, REPO_RATE, ROW_PRICE, ROW_VOLUME,
     YEAR_IN_DAY_BP,
@@ -88,10 +89,23 @@ struct Market {
     /// The sum of close times weight, over rows with weight.
     turnover: i128,
     weight: i128,
-    /// BID, the greatest row bid.
+    /// BID: the greatest row bid, then the greater of it and the outside one.
     bid: Option<i64>,
-    /// ASK, the least row ask.
+    /// ASK: the least row ask, then the lesser of it and the outside one.
     ask: Option<i64>,
+}
+
+/// The lesser of two prices, where both are present; else the one that is.
+fn lesser(one: Option<i64>, other: Option<i64>) -> Option<i64> {
+    match (one, other) {
+        (Some(one), Some(other)) => Some(one.min(other)),
+        (one, other) => one.or(other),
+    }
+}
+
+/// A price where it is present.
+fn present(price: i64) -> Option<i64> {
+    Some(price).filter(|price| *price != MISSING)
 }
 
 impl Market {
@@ -106,11 +120,14 @@ impl Market {
             self.weight += wide(weight);
         }
         self.bid = self.bid.max(bid);
-        self.ask = match (self.ask, ask) {
-            (Some(least), Some(ask)) => Some(least.min(ask)),
-            (least, ask) => least.or(ask),
-        };
+        self.ask = lesser(self.ask, ask);
         Some(())
+    }
+
+    /// Takes outside prices in (W-211): they are roubles, and have no weight.
+    fn take_outside(&mut self, outside: Outside) {
+        self.bid = self.bid.max(present(outside.bid));
+        self.ask = lesser(self.ask, present(outside.ask));
     }
 
     /// Place (c): the weighted close; none where no row has a weight.
@@ -190,8 +207,8 @@ fn market(rows: &[i64]) -> Option<Market> {
     Some(market)
 }
 
-/// BID and ASK of rows in range, where they are present; none where a rounded
-/// figure is out of range.
+/// The book's BID and ASK of rows in range, where they are present; none where a
+/// rounded figure is out of range.
 pub fn sides_in_roubles(rows: &[i64]) -> Option<(Option<i64>, Option<i64>)> {
     market(rows).map(|market| (market.bid, market.ask))
 }
@@ -209,10 +226,11 @@ pub struct Settled {
     pub ask: Option<i64>,
 }
 
-/// The price before the grid from rows in range; none where a rounded figure is
-/// out of range.
-pub fn settled(rows: &[i64], previous: i64) -> Option<Settled> {
-    let market = market(rows)?;
+/// The price before the grid from rows in range and the outside prices that are
+/// taken; none where a rounded figure of a row is out of range.
+pub fn settled(rows: &[i64], outside: Outside, previous: i64) -> Option<Settled> {
+    let mut market = market(rows)?;
+    market.take_outside(outside);
     Some(Settled {
         price: market.settled(market.close(previous)),
         close: market.weighted_close(),
@@ -221,12 +239,12 @@ pub fn settled(rows: &[i64], previous: i64) -> Option<Settled> {
     })
 }
 
-/// The day's evaluation from rows in range, place (d): half up to the grid.
-/// None where a rounded row price, the evaluation or a rounded row volume
-/// falls outside its range (number 7).
-pub fn evaluation(rows: &[i64], previous: i64, grid: i64) -> Option<i64> {
+/// The day's evaluation from rows in range and the outside prices that are
+/// taken, place (d): half up to the grid. None where a rounded row price, the
+/// evaluation or a rounded row volume falls outside its range (number 7).
+pub fn evaluation(rows: &[i64], outside: Outside, previous: i64, grid: i64) -> Option<i64> {
     let settled = Quotient {
-        numerator: wide(settled(rows, previous)?.price),
+        numerator: wide(settled(rows, outside, previous)?.price),
         denominator: 1,
     };
     let price = settled.half_up_to(grid);

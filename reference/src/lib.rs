@@ -1,5 +1,5 @@
 //! The independent second opinion on document 01 and on W-201 to W-203 and
-//! W-205 to W-210 of document 02: the parameter desk's rules in exact 128-bit
+//! W-205 to W-211 of document 02: the parameter desk's rules in exact 128-bit
 //! integers and the reading of the exchange's text, written from the papers alone.
 //!
 //! A quotient stays a numerator and a denominator until one of the paper's
@@ -13,6 +13,7 @@ pub mod count_crossed;
 pub mod count_exchange;
 pub mod count_interest;
 pub mod count_inward;
+pub mod count_outside;
 pub mod count_replacement;
 pub mod count_session;
 pub mod count_tentative;
@@ -26,6 +27,7 @@ pub mod gateway;
 pub mod interest;
 pub mod kept;
 pub mod limits;
+pub mod outside;
 pub mod protocol;
 pub mod random;
 pub mod rates;
@@ -35,6 +37,7 @@ pub mod replay;
 pub mod script;
 pub mod security;
 pub mod slices;
+pub mod static_ends;
 pub mod statics;
 pub mod tally;
 pub mod units;

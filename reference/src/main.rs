@@ -8,14 +8,14 @@ use std::process::ExitCode;
 
 use reference::{
     compare, count, count_bond, count_crossed, count_exchange, count_interest, count_inward,
-    count_replacement, count_session, count_tentative, count_why, exchange, gateway, protocol,
-    script, why,
+    count_outside, count_replacement, count_session, count_tentative, count_why, exchange, gateway,
+    protocol, script, why,
 };
 
 const USAGE: &str = "usage: reference evening | why | gateway | exchange ID | exchange-index | \
 script-evening SEED LINES | script-gateway SEED LINES | script-exchange SEED TEXTS FOLDER | \
 count [gateway | interest | replacement | exchange | crossed | bond | why | tentative | inward | \
-session] | compare FILE_A FILE_B SCRIPT";
+session | outside] | compare FILE_A FILE_B SCRIPT";
 /// The exit code of a comparison that fails or a count with a gap.
 const DIFFERENT: u8 = 1;
 /// The exit code of a command that cannot be run.
@@ -68,6 +68,7 @@ fn run(words: &[&str]) -> io::Result<ExitCode> {
         ["count", "tentative"] => return told(&count_tentative::count_tentative(input)?),
         ["count", "inward"] => return told(&count_inward::count_inward(input)?),
         ["count", "session"] => return told(&count_session::count_session(input)?),
+        ["count", "outside"] => return told(&count_outside::count_outside(input)?),
         ["count", "why"] => return told(&count_why::count_why(input)?),
         ["count", "exchange"] => return told(&count_exchange::count_exchange(input)?),
         ["compare", first, second, script] => return compared(first, second, script),

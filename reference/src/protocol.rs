@@ -135,6 +135,9 @@ pub fn perform(
         }
         (b"move", &[id, side]) => Some(answered(desk::move_side(table, id, side))),
         (b"open", &[id]) => Some(answered(desk::open(table, id))),
+        (b"outside", &[id, bid, ask]) => Some(answered(desk::send(table, id, bid, ask))),
+        (b"notice", &[id, side, bits]) => Some(answered(desk::notice(table, id, side, bits))),
+        (b"withdraw", &[id]) => Some(answered(desk::withdraw(table, id))),
         (b"read", &[id]) => Some(answered(desk::read(table, id))),
         (b"interest", numbers) => {
             let (values, maturities) = split_first(numbers)?;

@@ -1,8 +1,9 @@
 //! A security's record (document 01, "What the desk covers"; its session is
-//! W-210's).
+//! W-210's, its outside prices are W-211's).
 
 use crate::ewma::Volatility;
 use crate::exact::Way;
+use crate::outside::Outside;
 use crate::statics::Statics;
 use crate::units::{
     AGE, DAYS_AHEAD, DAY_NUMBER, EVENING_MOVES, ID, LIMIT, MOVE_COUNT, PRICE, RATE, REPO_RATE,
@@ -10,7 +11,7 @@ use crate::units::{
 };
 
 /// How many figures a record shows.
-pub const FIGURES: usize = 43;
+pub const FIGURES: usize = 45;
 
 /// How a near second is shown where there is none.
 const NOT_NEAR: i64 = -1;
@@ -125,6 +126,7 @@ pub struct Record {
     pub moves_lower: i64,
     pub last_second: i64,
     pub session: Session,
+    pub outside: Outside,
 }
 
 impl Record {
@@ -146,6 +148,7 @@ impl Record {
         moves_lower: 0,
         last_second: 0,
         session: Session::Main,
+        outside: Outside::NONE,
     };
 
     pub fn is_live(&self) -> bool {
@@ -157,6 +160,16 @@ impl Record {
         match self.session {
             Session::Main => self.statics.near_seconds,
             Session::Evening(_) => self.statics.evening_seconds,
+        }
+    }
+
+    /// The outside prices that an evaluation takes: those kept, with UseEXTERNAL
+    /// yes.
+    pub fn taken_outside(&self) -> Outside {
+        if self.statics.use_external {
+            self.outside
+        } else {
+            Outside::NONE
         }
     }
 
@@ -195,6 +208,7 @@ impl Record {
             && MOVE_COUNT.contains(&self.moves_lower)
             && SECOND.contains(&self.last_second)
             && self.session.is_sound()
+            && self.outside.is_sound()
     }
 
     fn is_limit(&self, limit: i64) -> bool {
@@ -229,7 +243,8 @@ impl Record {
             place.copy_from_slice(&term.figures());
         }
         figures[38..41].copy_from_slice(&[self.moves_upper, self.moves_lower, self.last_second]);
-        figures[41..].copy_from_slice(&self.session.figures());
+        figures[41..43].copy_from_slice(&self.session.figures());
+        figures[43..].copy_from_slice(&[self.outside.bid, self.outside.ask]);
         figures
     }
 }

@@ -1,5 +1,5 @@
 //! The refusals (document 01, "Numbers a member may see"; 14 is W-201's, 15
-//! W-203's, 16 W-205's, 17 W-206's, 18 and 19 W-210's).
+//! W-203's, 16 W-205's, 17 W-206's, 18 and 19 W-210's, 20 W-211's).
 
 /// Why a call is refused; each carries the paper's number.
 #[derive(Clone, Copy, Debug, PartialEq, Eq)]
@@ -23,11 +23,12 @@ pub enum Refusal {
     NoFaceValue = 17,
     NoEveningMove = 18,
     OpenedTwice = 19,
+    NoOutsidePrice = 20,
 }
 
 impl Refusal {
     /// The greatest number a member may see.
-    pub const LAST: i64 = Refusal::OpenedTwice.number();
+    pub const LAST: i64 = Refusal::NoOutsidePrice.number();
 
     /// The number a member sees.
     pub const fn number(self) -> i64 {

@@ -29,6 +29,15 @@ impl Call<'_> {
     pub fn numbers(&self) -> Vec<i64> {
         self.words.iter().filter_map(|word| word.number()).collect()
     }
+
+    /// What an evaluation is asked, of which nothing that is kept changes; none
+    /// where the call is another.
+    pub fn asked(&self) -> Option<Asked> {
+        if self.verb != b"evaluate" {
+            return None;
+        }
+        Asked::from_words(self.kept, self.words)
+    }
 }
 
 /// An evaluation of a script.
@@ -99,11 +108,7 @@ pub fn moves(input: impl BufRead, mut see: impl FnMut(Side, &Record)) -> io::Res
 /// Shows every evaluation of a script, in order.
 pub fn evaluations(input: impl BufRead, mut see: impl FnMut(&Evaluation)) -> io::Result<()> {
     calls(input, |call| {
-        if call.verb != b"evaluate" {
-            return;
-        }
-        // An evaluation changes nothing that is kept.
-        if let Some(asked) = Asked::from_words(call.kept, call.words) {
+        if let Some(asked) = call.asked() {
             see(&Evaluation {
                 asked,
                 before: call.before,

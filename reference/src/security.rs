@@ -5,6 +5,7 @@ use crate::evaluation::{evaluation, has_crossed_row, rows_are_in_range};
 use crate::ewma::Volatility;
 use crate::exact::wide;
 use crate::limits::{band_limit, delta, range_limit, BandInputs};
+use crate::outside::{price_of, Outside, Quoted};
 use crate::rates::{after_day, level_rates, DayMove};
 use crate::record::{is_price, is_repo_term, is_tentative, Record, Session, Side, Standing, Term};
 use crate::refusal::Refusal;
@@ -71,7 +72,7 @@ pub struct Alerts {
 }
 
 /// The record of an admission; none where a value is out of range. The three
-/// rates start at their minima, all else at 0.
+/// rates start at their minima, all else at 0, with no outside price.
 pub fn admitted(admission: &Admission) -> Option<Record> {
     let statics = Statics::from_numbers(&admission.statics)?;
     let in_range = ID.contains(&admission.id)
@@ -129,10 +130,13 @@ pub fn worked_out(record: &Record, day: &Day) -> Result<Record, Refusal> {
 
 /// The record that a day in range makes, its bands crossed perhaps: refused 7,
 /// 8. An evaluation clears both counts, all near seconds and the last quote
-/// second, and puts the record back in the main session.
+/// second, puts the record back in the main session and leaves the outside
+/// prices.
 pub fn made(record: &Record, day: &Day) -> Result<Record, Refusal> {
     let statics = &record.statics;
-    let p = evaluation(day.rows, record.p1, statics.grid()).ok_or(Refusal::EvaluationOutOfRange)?;
+    let outside = record.taken_outside();
+    let p = evaluation(day.rows, outside, record.p1, statics.grid())
+        .ok_or(Refusal::EvaluationOutOfRange)?;
     let volatility = volatility_after(record, day, p)?;
     let rates = level_rates(statics, volatility.tentative, day.days_closed);
     Ok(Record {
@@ -154,6 +158,7 @@ pub fn made(record: &Record, day: &Day) -> Result<Record, Refusal> {
         moves_lower: 0,
         last_second: 0,
         session: Session::Main,
+        outside: record.outside,
     })
 }
 
@@ -371,4 +376,30 @@ fn remade(record: &Record, term: &Term, repo_rate: i64, moves: i64, side: Side) 
         moves,
     };
     band_limit(&record.statics, &inputs, side)
+}
+
+/// The record after a bid and an ask sent together, which replace the pair:
+/// refused 20, and then the pair stays.
+pub fn sent(record: &Record, bid: i64, ask: i64) -> Result<Record, Refusal> {
+    let outside = Outside::from_bits(bid, ask).ok_or(Refusal::NoOutsidePrice)?;
+    Ok(Record { outside, ..*record })
+}
+
+/// The record after a notice of a bid, 0, or of an ask, 1: refused 6, 20, the
+/// first that applies.
+pub fn noticed(record: &Record, side: i64, bits: i64) -> Result<Record, Refusal> {
+    let side = Quoted::from_number(side).ok_or(Refusal::ValueOutOfRange)?;
+    let price = price_of(bits).ok_or(Refusal::NoOutsidePrice)?;
+    Ok(Record {
+        outside: side.changed(record.outside, price),
+        ..*record
+    })
+}
+
+/// The record after a withdrawal, which clears both sides.
+pub fn withdrawn(record: &Record) -> Record {
+    Record {
+        outside: Outside::NONE,
+        ..*record
+    }
 }

@@ -1,11 +1,11 @@
 //! A security's statics and their ranges (document 01, "Units and ranges"; the
-//! evening's three are W-210's).
+//! evening's three are W-210's, the last one is W-211's).
 
 use crate::ewma::Model;
 use crate::units::{Range, EVENING_MOVES, RATE, TARGET_MAX};
 
 /// How many statics there are.
-pub const STATICS: usize = 25;
+pub const STATICS: usize = 26;
 
 pub const LOT: Range = 1..=100;
 pub const STEP: Range = 1..=1_000;
@@ -26,7 +26,7 @@ pub const NEAR_SECONDS: Range = 1..=3_600;
 const GRIDS: [(i64, i64); 3] = [(1, 100), (10, 10), (100, 1)];
 
 /// The statics of a security, in the order of the paper's table, the evening's
-/// behind them.
+/// and UseEXTERNAL behind them.
 #[derive(Clone, Copy, Debug, PartialEq, Eq)]
 pub struct Statics {
     pub lot: i64,
@@ -60,6 +60,8 @@ pub struct Statics {
     pub autochange: bool,
     /// The most moves of an evening (17.4).
     pub evening_maximum: i64,
+    /// UseEXTERNAL: whether an evaluation takes outside prices (6.1).
+    pub use_external: bool,
 }
 
 impl Statics {
@@ -86,6 +88,7 @@ impl Statics {
         evening_seconds: 0,
         autochange: false,
         evening_maximum: 0,
+        use_external: false,
     };
 
     /// The statics given by plain numbers, flags 1 for yes and 0 for no;
@@ -114,6 +117,7 @@ impl Statics {
             evening_seconds: n[22],
             autochange: flag(n[23])?,
             evening_maximum: n[24],
+            use_external: flag(n[25])?,
         };
         statics.is_sound().then_some(statics)
     }
@@ -146,6 +150,7 @@ impl Statics {
             self.evening_seconds,
             i64::from(self.autochange),
             self.evening_maximum,
+            i64::from(self.use_external),
         ]
     }
 

@@ -59,6 +59,8 @@ pub const NET: Range = 1..=30_000;
 pub const BOND_MONEY: Range = 0..=10_000_000_000;
 /// The day of a cash flow.
 pub const FLOW_DAY: Range = 1..=30;
+/// An outside bid or ask that a record keeps; 0 means none (W-211).
+pub const OUTSIDE_PRICE: Range = 0..=10_000_000_000;
 /// A range or band limit that a record may hold.
 pub const LIMIT: Range = 0..=2_020_000_000_000;
 

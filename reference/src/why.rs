@@ -166,7 +166,8 @@ pub fn why(record: Option<&Record>, day: &Day) -> Why {
 
 fn reasons(before: &Record, day: &Day, after: &Record) -> Reasons {
     let statics = &before.statics;
-    let settled = settled(day.rows, before.p1).expect("the day is accepted");
+    let outside = before.taken_outside();
+    let settled = settled(day.rows, outside, before.p1).expect("the day is accepted");
     let covering = |level: usize| least_covering(statics, level, after.tentative, day.days_closed);
     Reasons {
         price: first(&Price::ALL, |reason| reason.holds(&settled, before.p1)),

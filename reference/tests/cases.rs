@@ -2,8 +2,7 @@
 
 mod common;
 
-use common::{day, quote, security, traded, NO_REPO};
-use reference::evaluation::evaluation;
+use common::{day, evaluation, quote, security, traded, NO_REPO};
 use reference::rates::price_move;
 use reference::record::Record;
 use reference::refusal::Refusal;

@@ -1,10 +1,13 @@
 //! W-203: the exchange's evening text, each sentence on both sides.
 
+mod common;
+
 use std::io::Write;
 use std::process::{Command, Output, Stdio};
 
+use common::evaluation;
 use reference::count_exchange::count_exchange;
-use reference::evaluation::{evaluation, rows_are_in_range};
+use reference::evaluation::rows_are_in_range;
 use reference::exchange::{asked_id, plain, read, BadLine, Printed, Reading, TEXT_MAX};
 use reference::random::Random;
 use reference::script;

@@ -100,6 +100,8 @@ fn a_static_out_of_range_is_4_before_all_else() {
         (13, 10_100),
         (20, 2),
         (21, -1),
+        (25, 2),
+        (25, -1),
         (19, i64::MAX),
     ] {
         let statics = z_with(&[(place, value)]);

@@ -3,11 +3,11 @@
 use reference::protocol::evening;
 
 const ADMIT: &str = "admit 7 0 1000000 1000000 20000 600 10 100 300 1000 500 5 2 5 8 50 \
-500 700 900 4000 200 25 2000 2000 1000 60 1 1 120 1 2";
+500 700 900 4000 200 25 2000 2000 1000 60 1 1 120 1 2 0";
 const CASE_1: &str = "evaluate 7 1 0 0 0 0 0 2 -730 1460 0 0 0 0 10000 0 1030000 0 0 1";
 const AFTER_CASE_1: &str = "0 7 1 1 1030000 1000000 21214 700 0 800 1200 1500 \
 1112400 1153600 1184500 947600 906400 875500 \
-0 0 0 988800 1071200 -1 -1 2 -730 1460 988410 1072050 -1 -1 0 0 0 988800 1071200 -1 -1 0 0 0 0 0";
+0 0 0 988800 1071200 -1 -1 2 -730 1460 988410 1072050 -1 -1 0 0 0 988800 1071200 -1 -1 0 0 0 0 0 0 0";
 
 fn said(script: impl AsRef<[u8]>) -> Vec<String> {
     let mut output = Vec::new();
@@ -34,7 +34,7 @@ fn an_evening() {
     .join("\n");
     let moved = "0 7 1 1 1030000 1000000 21214 700 0 800 1200 1500 \
 1133000 1174200 1205100 947600 906400 875500 \
-0 0 0 988800 1091800 -1 160 2 -730 1460 988410 1092670 -1 -1 0 0 0 988800 1091800 -1 -1 1 0 160 0 0";
+0 0 0 988800 1091800 -1 160 2 -730 1460 988410 1092670 -1 -1 0 0 0 988800 1091800 -1 -1 1 0 160 0 0 0 0";
     let expected = [
         "1",
         "0",
@@ -79,6 +79,18 @@ fn lines_that_are_no_call_are_bad() {
         "open 1 2",
         "Open 1",
         "open 1/2",
+        "outside 1 2",
+        "outside 1 2 3 4",
+        "outside 1 103.25 103.5",
+        "outside 1 2/3",
+        "Outside 1 2 3",
+        "notice 1 0",
+        "notice 1 0 2 3",
+        "notice 1",
+        "notice 1 0 NaN",
+        "notice 1 0 18446744073709551615",
+        "withdraw",
+        "withdraw 1 2",
         "quote 1 2 3 4",
         "quote 1 2 3 4 5 6",
         "evaluate 1 1 0 0 0 0 0 0 0 0 0 0",
@@ -91,8 +103,8 @@ fn lines_that_are_no_call_are_bad() {
         assert_eq!(said(line), ["bad 1"], "{line}");
     }
     assert_eq!(said(format!("{ADMIT} 0")), ["bad 1"]);
-    assert_eq!(said(ADMIT.trim_end_matches(" 2")), ["bad 1"]);
-    assert_eq!(said(ADMIT.trim_end_matches(" 120 1 2")), ["bad 1"]);
+    assert_eq!(said(ADMIT.trim_end_matches(" 0")), ["bad 1"]);
+    assert_eq!(said(ADMIT.trim_end_matches(" 120 1 2 0")), ["bad 1"]);
     assert_eq!(
         said(b"read \xff\n\xffread 1\nread 1"),
         ["bad 1", "bad 2", "1"]
@@ -109,6 +121,9 @@ fn odd_spellings_are_calls() {
         "read -1",
         "read -9223372036854775808",
         "read 9223372036854775807",
+        "outside 1 -9223372036854775808 9223372036854775807",
+        "notice 1 5 0",
+        "withdraw 1",
         "evaluate 1 1 0 0 0 0 0 0 0 0 0 0 0",
         "evaluate 1 1 0 0 0 0 0 0 0 0 0 0 0 9 9",
     ] {

@@ -53,7 +53,7 @@ fn both_sides((low, high): Ends, refusal: i64, number: impl Fn(i64) -> i64) {
 
 #[test]
 fn statics_out_of_range_are_4() {
-    let ends: [(usize, Ends); 20] = [
+    let ends: [(usize, Ends); 21] = [
         (0, (1, 100)),
         (2, (100, 1_000)),
         (3, (0, 10_000)),
@@ -74,6 +74,7 @@ fn statics_out_of_range_are_4() {
         (22, (1, 3_600)),
         (23, (0, 1)),
         (24, (0, 10)),
+        (25, (0, 1)),
     ];
     for (place, ends) in ends {
         both_sides(ends, 4, |value| {

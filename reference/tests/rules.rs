@@ -2,8 +2,7 @@
 
 mod common;
 
-use common::{admission, day, quote, security, traded, z_with, IS_EWMA, NO_REPO};
-use reference::evaluation::evaluation;
+use common::{admission, day, evaluation, quote, security, traded, z_with, IS_EWMA, NO_REPO};
 use reference::record::Record;
 use reference::security::{admitted, evaluated, moved, quoted, Day, RepoTerm};
 
@@ -18,7 +17,7 @@ fn an_admission_starts_at_the_minima() {
         record.figures(),
         [
             7, 0, 0, 1_000_000, 1_000_000, 20_000, 600, 0, 500, 700, 900, 0, 0, 0, 0, 0, 0, 0, 0,
-            0, 0, 0, -1, -1, 0, 0, 0, 0, 0, -1, -1, 0, 0, 0, 0, 0, -1, -1, 0, 0, 0, 0, 0
+            0, 0, 0, -1, -1, 0, 0, 0, 0, 0, -1, -1, 0, 0, 0, 0, 0, -1, -1, 0, 0, 0, 0, 0, 0, 0
         ]
     );
 }

@@ -8,6 +8,7 @@ use reference::count_bond::count_bond;
 use reference::count_crossed::count_crossed;
 use reference::count_interest::count_interest;
 use reference::count_inward::count_inward;
+use reference::count_outside::count_outside;
 use reference::count_replacement::count_replacement;
 use reference::count_session::count_session;
 use reference::count_tentative::count_tentative;
@@ -19,7 +20,7 @@ use reference::script;
 /// A count of the edges that a script meets.
 type CountOf = fn(&[u8]) -> io::Result<Count>;
 
-const COUNTS: [(&str, CountOf); 8] = [
+const COUNTS: [(&str, CountOf); 9] = [
     ("interest", |script| count_interest(script)),
     ("replacement", |script| count_replacement(script)),
     ("crossed", |script| count_crossed(script)),
@@ -28,6 +29,7 @@ const COUNTS: [(&str, CountOf); 8] = [
     ("tentative", |script| count_tentative(script)),
     ("inward", |script| count_inward(script)),
     ("session", |script| count_session(script)),
+    ("outside", |script| count_outside(script)),
 ];
 
 fn lines(text: &[u8]) -> usize {

@@ -60,6 +60,7 @@ fn given_of(g: BondStatics) -> GivenStatics
         uevening: 1,
         autochange: 0,
         eveningmax: 0,
+        useexternal: 0,
     }
 }
 

@@ -1,5 +1,6 @@
 // Damaged and duplicate records, which no line of text can make: a table that is lent as it stands, with one damage to
 // a slot, and then the calls on it.
+use paper::External;
 use paper::Limit;
 use paper::Limits;
 use paper::Moves;
@@ -41,6 +42,7 @@ fn statics() -> Statics {
         uevening: 60,
         autochange: true,
         eveningmax: 10,
+        useexternal: false,
     }
 }
 
@@ -75,6 +77,7 @@ fn in_session(id: u64, session: Session) -> Record {
         }; Record::TERMS],
         second: 0,
         session,
+        external: External { bid: 0, ask: 0 },
     }
 }
 
@@ -130,6 +133,13 @@ fn with_volatility(r: Record, s: u64) -> Record {
 fn with_second(r: Record, second: u64) -> Record {
     let mut o = r;
     o.second = second;
+    o
+}
+
+fn with_external(r: Record, bid: u64, ask: u64) -> Record {
+    let external = External { bid, ask };
+    let mut o = r;
+    o.external = external;
     o
 }
 
@@ -205,10 +215,11 @@ fn at_the_ends(id: u64, session: Session) -> Record {
     let r = with_tentative(in_session(id, session), 4_000, Record::AGE_MOST);
     let r = with_moves(r, Record::MOVES_MOST, Record::MOVES_MOST);
     let r = with_bands(r, Limit::MOST_UNITS, 0);
+    let r = with_external(r, Price::MOST_UNITS, Price::MOST_UNITS);
     with_second(r, Record::SECOND_LAST)
 }
 
-// Slots 0 to 22 hold one damage each, under the ids 100 to 122; then duplicates of 700 and 701, an id past its range,
+// Slots 0 to 23 hold one damage each, under the ids 100 to 123; then duplicates of 700 and 701, an id past its range,
 // and the ends, in the main session and in the evening.
 fn record_of(slot: usize) -> Record {
     match slot {
@@ -216,12 +227,13 @@ fn record_of(slot: usize) -> Record {
         6..=14 => with_figure(slot, sound(100 + slot as u64)),
         15..=21 => with_three(slot, sound(100 + slot as u64)),
         22 => in_session(122, Session::Evening(Statics::EVENING_MOVES_MOST + 1)),
-        23 => with_figure(9, sound(700)),
-        24 => sound(700),
-        25 => sound(701),
-        26 => at_the_ends(701, Session::Main),
-        27 => sound(Record::ID_MOST + 1),
-        28 => at_the_ends(702, Session::Main),
+        23 => with_external(sound(123), 0, Price::MOST_UNITS + 1),
+        24 => with_figure(9, sound(700)),
+        25 => sound(700),
+        26 => sound(701),
+        27 => at_the_ends(701, Session::Main),
+        28 => sound(Record::ID_MOST + 1),
+        29 => at_the_ends(702, Session::Main),
         _ => at_the_ends(703, Session::Evening(Statics::EVENING_MOVES_MOST)),
     }
 }
@@ -229,7 +241,7 @@ fn record_of(slot: usize) -> Record {
 fn table() -> [Record; Record::SLOTS_MOST] {
     let mut t = text_serve::fresh();
     let mut slot: usize = 0;
-    while slot < 30 {
+    while slot < 31 {
         let r = record_of(slot);
         t[slot] = r;
         slot += 1;

@@ -16,8 +16,8 @@ use Rattle.paper.specs.declared.Moves.{Moves}
 use Rattle.paper.specs.Ranges.{staticsOf, noLimits, termAt, rateAt}
 use Rattle.paper_desk.specs.Limits.{bandOf, crossed}
 use Rattle.paper.specs.Verdicts.{NoneApplies, none, also}
-use Rattle.paper_desk.specs.Desk.{admitted, evaluated, quoted, moved, eveningOpened, evaluateChecks}
-use Rattle.paper_desk.specs.History.{Event, evaluatedOn, quotedAt, movedBy, opening}
+use Rattle.paper_desk.specs.Desk.{admitted, evaluated, quoted, moved, eveningOpened, received, evaluateChecks}
+use Rattle.paper_desk.specs.History.{Event, evaluatedOn, quotedAt, movedBy, opening, receipt}
 use Rattle.paper_desk.specs.Sequences.{carries, LastDay, noDay, onDay, lastEvaluated, movesOf, bandNow}
 use Rattle.paper.proofs.Logic.{each-of-three, not-true, not-false}
 use Rattle.paper_desk.proofs.LimitSizes.{LimitStatics, valid-limit-statics}
@@ -47,7 +47,7 @@ now-uncrossed a es side (onDay d) k s e =
 
 pub lawful-uncrossed : (a : Admission) (es : List Event) → Lawful a es → (k : ℕ) → k < 3
     → crossed (getD (recordOf a es .bands) k noLimits) ≡ false
-unfolding recordOf after eventChecks admitted quoted eveningOpened crossed lastEvaluated
+unfolding recordOf after eventChecks admitted quoted eveningOpened received crossed lastEvaluated
 lawful-uncrossed a [] v k l = ap crossed (three-at (λ i. noLimits) noLimits k l)
 lawful-uncrossed a (evaluatedOn d rows ∷ es) (v, n) k l = evaluated-uncrossed true (recordOf a es) d rows n k l
 lawful-uncrossed a (quotedAt q ∷ es) (v, n) k l = lawful-uncrossed a es v k l
@@ -57,3 +57,4 @@ lawful-uncrossed a (movedBy side ∷ es) (v, n) k l =
     ap crossed (lawful-figures a (movedBy side ∷ es) (v, n) .bands k l)
     ∙ now-uncrossed a es side (lastEvaluated es) k (valid-limit-statics _ (lawful-statics a es v)) before
 lawful-uncrossed a (opening ∷ es) (v, n) k l = lawful-uncrossed a es v k l
+lawful-uncrossed a (receipt x ∷ es) (v, n) k l = lawful-uncrossed a es v k l

@@ -16,8 +16,9 @@ use Rattle.paper.specs.Numbers.{millionthsInBp, priceMost}
 use Rattle.paper.specs.Ranges.{isPrice, isGridPrice, gridOf, staticsOf, sound, rateAt}
 use Rattle.paper.specs.declared.Figures.{Figures}
 use Rattle.paper_desk.specs.Rates.{modelOf, moveOf, figuresOf, modelled, unmodelled, volatilityOf}
-use Rattle.paper_desk.specs.History.{Event, evaluatedOn, quotedAt, movedBy, opening, evaluations}
-use Rattle.paper_desk.specs.Sequences.{Carries, carriesFirst, carriesNext, carries}
+use Rattle.paper_desk.specs.History.{Event, evaluatedOn, quotedAt, movedBy, opening, receipt, evaluations}
+use Rattle.paper_desk.specs.Evaluation.{usedPair}
+use Rattle.paper_desk.specs.Sequences.{Carries, carriesFirst, carriesNext, carries, externalNow}
 use Rattle.paper_desk.specs.Exact.{exactMove, exactSquare, NearExact}
 use Rattle.demands.specs.Demands.{FiguresHold}
 use Rattle.paper.proofs.Logic.{and-left, pick-true}
@@ -68,7 +69,7 @@ carried a [] l on = begun (a .s)
 carried a (evaluatedOn d rows ∷ es) (l, n) on =
     let st : Statics = staticsOf (a .given) in
     let x : Carries = carries a es in
-    let p : ℕ = carriesNext st d rows x .p1 in
+    let p : ℕ = carriesNext st d rows (usedPair st (externalNow es)) x .p1 in
     let positive : PricesPositive x = prices-positive a es l in
     rw (volatility-modelled st (d .b) (d .m) (rateAt (x .rates) 0) (moveOf p (x .p1) (x .p2)) (x .s) (x .tentative) on)
     (once-more (carried a es l on) (modelOf st) (d .b) (millionthsInBp * rateAt (x .rates) 0) (moveOf p (x .p1) (x .p2))
@@ -77,6 +78,7 @@ carried a (evaluatedOn d rows ∷ es) (l, n) on =
 carried a (quotedAt q ∷ es) (l, n) on = carried a es l on
 carried a (movedBy side ∷ es) (l, n) on = carried a es l on
 carried a (opening ∷ es) (l, n) on = carried a es l on
+carried a (receipt x ∷ es) (l, n) on = carried a es l on
 
 pub lawful-near : (a : Admission) (es : List Event) → Lawful a es → staticsOf (a .given) .ewma ≡ true
     → NearExact (evaluations es) (recordOf a es .s) (exactSquare a es)

@@ -10,7 +10,7 @@ use Rattle.paper.specs.declared.Verdict.{Verdict}
 use Rattle.paper.specs.declared.Verdict.the-variants.{Done, NoSuchId, AlreadyAdmitted}
 use Rattle.paper.specs.Ranges.{sideOf, validAdmission}
 use Rattle.paper.specs.Verdicts.{numberOf, isDone, Check, firstOf, NoneApplies, Exactly}
-use Rattle.paper_desk.specs.Desk.{Call, admit, evaluate, quote, move, read, openEvening, idOf, Outcome, saying, showing, evaluated, moved, eveningOpened, place, stands, found, known, checksOf, admitChecks, evaluateChecks, quoteChecks, moveChecks, readChecks, openChecks, acceptedOf, step, run}
+use Rattle.paper_desk.specs.Desk.{Call, admit, evaluate, quote, move, read, openEvening, receive, idOf, Outcome, saying, showing, evaluated, moved, eveningOpened, received, place, stands, found, known, checksOf, admitChecks, evaluateChecks, quoteChecks, moveChecks, readChecks, openChecks, receiveChecks, acceptedOf, step, run}
 use Rattle.paper_desk.specs.History.{FreshTable, Event, unknown, since, historyOf, wasAdmitted, isAdmission}
 use Rattle.demands.specs.Demands.{answered, orderOf, Demand1, FiguresHold, answerThen, Demand2, Demand3, TableKept, BandsInOrder}
 use Rattle.paper_desk.proofs.Slots.{found-stored, known-stands}
@@ -43,13 +43,14 @@ bands-in-order id cs t f a es e =
 -- ---- Demand 1
 
 in-order : (c : Call) (t : List Record) → map (λ (x : Check). numberOf (x .verdict)) (checksOf c t) ≡ orderOf c
-unfolding checksOf admitChecks evaluateChecks quoteChecks moveChecks readChecks openChecks
+unfolding checksOf admitChecks evaluateChecks quoteChecks moveChecks readChecks openChecks receiveChecks
 in-order (admit a) t = refl
 in-order (evaluate id d rows) t = refl
 in-order (quote id q) t = refl
 in-order (move id side) t = refl
 in-order (read id) t = refl
 in-order (openEvening id) t = refl
+in-order (receive id x) t = refl
 
 pub demand-1 : (c : Call) (t : List Record) → Demand1 c t
 unfolding isDone
@@ -85,7 +86,7 @@ module _ (a : Admission) (es : List Event) (t : List Record) where
 
   accepted-answers : (c : Call) → FiguresHold a es (found t (idOf c)) → NoneApplies (checksOf c t)
       → acceptedOf c t .answer ≡ answerThen a es c (acceptedOf c t .table)
-  unfolding acceptedOf checksOf evaluated moved eveningOpened
+  unfolding acceptedOf checksOf evaluated moved eveningOpened received
   accepted-answers (admit b) k n = refl
   accepted-answers (evaluate id d rows) k n =
       shown id (evaluated (found t id) d rows) (call-knows (evaluate id d rows) t refl n) refl
@@ -96,6 +97,8 @@ module _ (a : Admission) (es : List Event) (t : List Record) where
   accepted-answers (read id) k n = refl
   accepted-answers (openEvening id) k n =
       shown id (eveningOpened (found t id)) (call-knows (openEvening id) t refl n) refl
+  accepted-answers (receive id x) k n =
+      shown id (received (found t id) x) (call-knows (receive id x) t refl n) refl
 
   next-answers : (c : Call) → FiguresHold a es (found t (idOf c)) → answered c t ≡ Done
       → step c t .answer ≡ answerThen a es c (step c t .table)

@@ -21,10 +21,10 @@ use Rattle.paper_desk.specs.Limits.{crossed}
 use Rattle.paper_desk.specs.Alerts.{alert}
 use Rattle.paper_desk.specs.Evening.{alertSeconds}
 use Rattle.paper.specs.Verdicts.{numberOf, isDone, Check, FirstAt, NoneApplies, Exactly}
-use Rattle.paper_desk.specs.Desk.{Call, admit, evaluate, quote, move, read, openEvening, idOf, saying, showing, alerting, found, known, checksOf, step, run}
+use Rattle.paper_desk.specs.Desk.{Call, admit, evaluate, quote, move, read, openEvening, receive, idOf, saying, showing, alerting, found, known, checksOf, step, run}
 use Rattle.paper_desk.specs.Kept.{everySlot}
 use Rattle.paper_desk.specs.History.{FreshTable, Event, quotedAt, unknown, since, historyOf, wasAdmitted, isAdmission, evaluations}
-use Rattle.paper_desk.specs.Sequences.{carries, onDay, lastEvaluated, movesOf, standingNow, termNow, rangeNow, bandNow, nearSince, nearNow, lastSecond, sessionNow}
+use Rattle.paper_desk.specs.Sequences.{carries, onDay, lastEvaluated, movesOf, standingNow, termNow, rangeNow, bandNow, nearSince, nearNow, lastSecond, sessionNow, externalNow}
 use Rattle.paper_desk.specs.Exact.{exactSquare, NearExact}
 use Rattle.paper_interest.specs.InterestExact.{Evening, Carried, carriedAfter, Follow, exactRepoSquare}
 
@@ -35,7 +35,8 @@ answered c t = step c t .answer .verdict
 -- ---- Demand 1
 
 -- "First that applies: admit 4, 2, 3; evaluate 1, 6, 5, 7, 8, 9; quote 1, 6, 10, 11, 13; move 1, 6, 10, 11, 12; read
--- 1"; W-205: "16, after 6 and before 5 in an evaluation"; W-210: "18 .. after 11 and before 12; 19 .. after 10"
+-- 1"; W-205: "16, after 6 and before 5 in an evaluation"; W-210: "18 .. after 11 and before 12; 19 .. after 10";
+-- W-211: "20 .. on receipt, after 1"
 abbrev pub orderOf : Call → List ℕ
 orderOf (admit a) = 4 ∷ 2 ∷ 3 ∷ []
 orderOf (evaluate id d rows) = 1 ∷ 6 ∷ 16 ∷ 5 ∷ 7 ∷ 8 ∷ 9 ∷ []
@@ -43,6 +44,7 @@ orderOf (quote id q) = 1 ∷ 6 ∷ 10 ∷ 11 ∷ 13 ∷ []
 orderOf (move id side) = 1 ∷ 6 ∷ 10 ∷ 11 ∷ 18 ∷ 12 ∷ []
 orderOf (read id) = 1 ∷ []
 orderOf (openEvening id) = 1 ∷ 10 ∷ 19 ∷ []
+orderOf (receive id x) = 1 ∷ 20 ∷ []
 
 -- "Any input gets an answer. Every call refuses by a number from document 01's list, exactly when the list says so; a
 -- refused call leaves the table as it found it." Of any call, with any values, on any table at all: of no slots or of
@@ -94,6 +96,8 @@ pub record FiguresHold (a : Admission) (es : List Event) (r : Record) : Type 0 w
   pub second : r .second ≡ lastSecond es
   -- main, or the evening with its moves since it was opened
   pub session : r .session ≡ sessionNow es
+  -- the outside prices that were received last
+  pub external : r .external ≡ externalNow es
 
 -- "A rate set with the model on is the least multiple of the step that covers the requirement and the minimum, held at
 -- the maximum": with m non-trading days ahead, each level's; covering the requirement is the inequality of real
@@ -106,7 +110,7 @@ pub record RatesHold (st : Statics) (m : ℕ) (r : Record) : Type 0 where
 
 -- "Accepted evaluations, moves and reads return the record as it then stands, a quote its two alerts, an admission the
 -- number 0 alone": t is the table then. An alert is "near, and at least u seconds since that second"; W-210: in the
--- evening by "its own seconds u", and "An accepted opening returns the record."
+-- evening by "its own seconds u", and "An accepted opening returns the record."; W-211: so does each receipt
 abbrev pub answerThen : Admission → List Event → Call → List Record → Answer
 answerThen a es (admit b) t = saying Done
 answerThen a es (evaluate id d rows) t = showing (found t id)
@@ -117,10 +121,11 @@ answerThen a es (quote id q) t =
 answerThen a es (move id side) t = showing (found t id)
 answerThen a es (read id) t = showing (found t id)
 answerThen a es (openEvening id) t = showing (found t id)
+answerThen a es (receive id x) t = showing (found t id)
 
 -- "Each evaluation, rate, range and band is the one document 01 defines. .. For every sequence of admissions,
--- evaluations, quotes and moves"; W-210: "over sequences that contain openings". Of a security whose history in the
--- calls that made the table t is its admission a and its accepted calls es
+-- evaluations, quotes and moves"; W-210: "over sequences that contain openings"; W-211: "these calls too". Of a security
+-- whose history in the calls that made the table t is its admission a and its accepted calls es
 pub record Demand2 (id : ℕ) (a : Admission) (es : List Event) (t : List Record) : Type 0 where
   pub is-known : known t id ≡ true
   pub figures : FiguresHold a es (found t id)

@@ -25,6 +25,8 @@ use Rattle.desk.proofs.evaluate_asked as evaluate-asked
 use Rattle.desk.proofs.quote as quote
 use Rattle.desk.proofs.moved as moved
 use Rattle.desk.proofs.open_evening as open-evening
+use Rattle.desk.proofs.receive as receive
+use Rattle.desk.proofs.notify as notify
 use Rattle.desk.proofs.read as read
 
 -- a call promises one answer and one table
@@ -67,6 +69,12 @@ module _ {M : Type 1} (𝓤 : URA M) where
     pub open-evening-determined : Determined open-evening.ended (open-evening.clauses 𝓤 H A mem run)
         (λ κs e. now (e .0))
     open-evening-determined κs a g r r′ e e′ = together _ _ _ (promised-same _ _ r r′ (now (e .0)) (now (e′ .0)))
+
+    pub receive-determined : Determined receive.ended (receive.clauses 𝓤 H A mem run) (λ κs e. now (e .0))
+    receive-determined κs a g r r′ e e′ = together _ _ _ (promised-same _ _ r r′ (now (e .0)) (now (e′ .0)))
+
+    pub notify-determined : Determined notify.ended (notify.clauses 𝓤 H A mem run) (λ κs e. now (e .0))
+    notify-determined κs a g r r′ e e′ = together _ _ _ (promised-same _ _ r r′ (now (e .0)) (now (e′ .0)))
 
     -- a read leaves no table to speak of: its table is lent as `&`, and the paper's read leaves it (`Steps`'
     -- `read-leaves`)

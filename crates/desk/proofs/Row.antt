@@ -49,7 +49,7 @@ word = tyInt w64
 
 -- the bytes of a slot of the row
 abbrev pub bytes : ℕ
-bytes = 584
+bytes = 608
 
 pub bytes-is : mem R .size ≡ bytes
 bytes-is = refl

@@ -1,5 +1,5 @@
--- `quote` and `moved` meet their contracts: they have the shape that `Turn` proves once, with a plain value beside
--- the id:
+-- `quote`, `moved`, `receive` and `notify` meet their contracts: they have the shape that `Turn` proves once, with a
+-- plain value beside the id:
 --     fn call(t: &mut [Record], id: u64, q: Q) -> Answer
 --     ended, clauses    its signature, and what it promises.        Rule    the rule's contract
 --     meets             it meets its contract, where the rule's turn is the call's step

@@ -16,9 +16,11 @@ use Rattle.paper.specs.declared.Answer.{Answer}
 use Rattle.paper.specs.declared.Verdict.{Verdict}
 use Rattle.paper.specs.Lists.{pick}
 use Rattle.paper.specs.Verdicts.{isDone, firstOf}
-use Rattle.paper_desk.specs.Desk.{Call, admit, evaluate, quote, move, read, openEvening, Outcome, blank, saying, showing, stands, known, found, admitChecks, readChecks, checksOf, judged, acceptedOf, step}
+use Rattle.paper_desk.specs.External.{Told}
+use Rattle.paper_desk.specs.Desk.{Call, admit, evaluate, quote, move, read, openEvening, receive, Outcome, blank, saying, showing, stands, known, found, admitChecks, readChecks, checksOf, judged, acceptedOf, step}
+use Rattle.record_answers.specs.declared.Slot.{Slot}
 use Rattle.record_answers.specs.declared.Effect.{Effect}
-use Rattle.record_answers.specs.Effects.{slotOf, holds, isKnown, refusedEffect, judgedEffect, admitChecksOf, admitEffect, evaluateEffect, quoteEffect, moveEffect, openEffect, readAnswer, doneBy}
+use Rattle.record_answers.specs.Effects.{slotOf, holds, isKnown, refusedEffect, judgedEffect, admitChecksOf, admitEffect, evaluateEffect, quoteEffect, moveEffect, openEffect, receiveEffect, readAnswer, doneBy}
 use Rattle.desk.specs.Promises.{Promised}
 
 judged-done : (t : List Record) (v : Verdict) (o : Effect) → doneBy t (judgedEffect (length t) v o)
@@ -53,6 +55,19 @@ move-steps t id side = judged-done t _ _
 pub open-steps : (t : List Record) (id : ℕ) → doneBy t (openEffect (slotOf t id)) ≡ step (openEvening id) t
 unfolding slotOf holds isKnown openEffect doneBy stands known checksOf acceptedOf step
 open-steps t id = judged-done t _ _
+
+-- what is received is told in one of two forms
+module _ {D : Type 0} (told : D → Told) where
+  abbrev pub receiveTold : Slot → D → Effect
+  receiveTold s x = receiveEffect s (told x)
+
+  abbrev pub callTold : ℕ → D → Call
+  callTold id x = receive id (told x)
+
+  pub receive-steps : (t : List Record) (id : ℕ) (x : D) → doneBy t (receiveTold (slotOf t id) x)
+      ≡ step (callTold id x) t
+  unfolding slotOf holds isKnown receiveEffect doneBy stands known checksOf acceptedOf step
+  receive-steps t id x = judged-done t _ _
 
 pub read-answers : (t : List Record) (id : ℕ) → readAnswer (slotOf t id) ≡ step (read id) t .answer
 unfolding slotOf holds isKnown readAnswer stands known checksOf acceptedOf judged step

@@ -5,12 +5,15 @@ use paper::Admission;
 use paper::Answer;
 use paper::AskedDay;
 use paper::Day;
+use paper::Notice;
+use paper::Outside;
 use paper::Quote;
 use paper::Record;
 use record_answers::Effect;
 use record_answers::Slot;
 ghost use mathlib.Core.Path.{_≡_};
 ghost use lib.ListN.{set};
+ghost use Rattle.paper_desk.specs.External.{Told};
 ghost use Rattle.paper_desk.specs.Desk.{Call, step};
 ghost use Rattle.paper.specs.Terms.{dayOf};
 ghost use Rattle.record_answers.specs.Effects.{slotOf, evaluateEffect};
@@ -109,6 +112,26 @@ pub fn open_evening(t: &mut [Record], id: u64) -> Answer
 {
     let s = take(t, id);
     let o = record_calls::opened(s);
+    put(t, o.at, o.rec);
+    o.answer
+}
+
+// W-211: "Both sent together replace the kept pair".
+pub fn receive(t: &mut [Record], id: u64, sent: Outside) -> Answer
+    ensures { λ r. ⌜ Promised (Call.receive id (Told.together sent)) (now (t .entry)) r (now (t .exit)) ⌝ }
+{
+    let s = take(t, id);
+    let o = record_calls::received(s, sent);
+    put(t, o.at, o.rec);
+    o.answer
+}
+
+// W-211: "a notice changes one side, a withdrawal clears both".
+pub fn notify(t: &mut [Record], id: u64, n: Notice) -> Answer
+    ensures { λ r. ⌜ Promised (Call.receive id (Told.notice n)) (now (t .entry)) r (now (t .exit)) ⌝ }
+{
+    let s = take(t, id);
+    let o = record_calls::notified(s, n);
     put(t, o.at, o.rec);
     o.answer
 }

@@ -7,6 +7,7 @@ use native.Mathlib.Nat.{pos-of-ne-zero, max-le, le-trans, min-le-left, min-le-ri
 use native.Mathlib.Omega.{arith}
 use lib.Dec.{eqb}
 use borrow.Author.Tests.{eqb-false}
+use Rattle.paper.specs.declared.External.{External}
 use Rattle.paper.specs.declared.Price.{Price}
 use Rattle.paper.specs.declared.MadePrice.the-variants as made
 use Rattle.paper.specs.declared.Row.{Row}
@@ -14,7 +15,7 @@ use Rattle.paper.specs.declared.Roubles.{Roubles}
 use Rattle.paper.specs.Lists.{pick, every}
 use Rattle.paper.specs.Roundings.{halfUp, toGrid}
 use Rattle.paper.specs.Ranges.{isPrice, priceMade}
-use Rattle.paper_desk.specs.Evaluation.{weights, bestBid, bestAsk, roublesOf, rowFits, median, between, evaluationOf, evaluationFits}
+use Rattle.paper_desk.specs.Evaluation.{weights, bidOf, askOf, roublesOf, rowFits, median, between, evaluationOf, evaluationFits}
 use Rattle.paper.proofs.Roundings.{half-le}
 use Rattle.evaluation.specs.declared.Book.{Book}
 use Rattle.evaluation.specs.declared.PriceFigures.{PriceFigures}
@@ -24,46 +25,49 @@ use Rattle.evaluation.specs.Evaluation.{priceFigures, pricedOf, evaluati
 use Rattle.evaluation.specs.Book.{bookOf, closeIn, figuresIn, gatheredOf}
 use Rattle.evaluation.proofs.Books.{close-of-book}
 
-module _ (g previous : ℕ) (rows : List Row) where
+module _ (g previous : ℕ) (used : External) (rows : List Row) where
+  -- the price that a book's figures give
+  abbrev pub chosenIn : Book → ℕ
+  chosenIn b = between (figuresIn previous used b .bid) (closeIn previous b) (figuresIn previous used b .ask)
+
   -- the evaluation from the book
-  of-book : (b : Book) → b ≡ bookOf (map roublesOf rows) → toGrid g (between (b .bid) (closeIn previous b) (b .ask)) 1
-      ≡ evaluationOf g previous rows
-  unfolding evaluationOf bookOf
+  of-book : (b : Book) → b ≡ bookOf (map roublesOf rows) → toGrid g (chosenIn b) 1 ≡ evaluationOf g previous used rows
+  unfolding evaluationOf bookOf bidOf askOf
   of-book b p =
       let rs : List Roubles = map roublesOf rows in
-      (λ i. toGrid g (between (p i .bid) (closeIn previous (p i)) (p i .ask)) 1)
-      ∙ ap (λ (z : ℕ). toGrid g (between (bestBid rs) z (bestAsk rs)) 1) (close-of-book previous rs)
+      ap (λ (z : Book). toGrid g (chosenIn z) 1) p
+      ∙ ap (λ (z : ℕ). toGrid g (between (bidOf used rs) z (askOf used rs)) 1) (close-of-book previous rs)
 
   -- the figures that it is chosen from
   figures-of-book : (b : Book) → b ≡ bookOf (map roublesOf rows)
-      → figuresIn previous b ≡ priceFigures previous (map roublesOf rows)
-  unfolding bookOf priceFigures
+      → figuresIn previous used b ≡ priceFigures previous used (map roublesOf rows)
+  unfolding bookOf priceFigures bidOf askOf
   figures-of-book b p =
       let rs : List Roubles = map roublesOf rows in
-      ap (figuresIn previous) p
-      ∙ ap (λ (z : ℕ). record { weight = weights rs; close = z; bid = bestBid rs; ask = bestAsk rs })
+      ap (figuresIn previous used) p
+      ∙ ap (λ (z : ℕ). record { weight = weights rs; close = z; bid = bidOf used rs; ask = askOf used rs })
       (close-of-book previous rs)
 
   -- 7 for a row
-  pub made-beyond : gathered.Beyond ≡ gatheredOf rows → Beyond ≡ evaluationMade g previous rows
+  pub made-beyond : gathered.Beyond ≡ gatheredOf rows → Beyond ≡ evaluationMade g previous used rows
   unfolding evaluationMade evaluationFits gatheredOf
   made-beyond k = step (every rowFits rows) k
     where
       step : (t : Bool) → gathered.Beyond ≡ pick t (gathered.Whole (bookOf (map roublesOf rows))) gathered.Beyond
-          → Beyond ≡ pick (t && isPrice (evaluationOf g previous rows)) (Evaluated (pricedOf g previous rows)) Beyond
+          → Beyond
+          ≡ pick (t && isPrice (evaluationOf g previous used rows)) (Evaluated (pricedOf g previous used rows)) Beyond
       step true p = absurd (let z : _≡_ {A = ℕ} 0 1 = cc in omega arith)
       step false p = refl
 
   -- the evaluation, or 7 for it
   pub made-book : (b : Book) → gathered.Whole b ≡ gatheredOf rows
-      → evaluationFrom (toGrid g (between (b .bid) (closeIn previous b) (b .ask)) 1) (figuresIn previous b)
-      ≡ evaluationMade g previous rows
+      → evaluationFrom (toGrid g (chosenIn b) 1) (figuresIn previous used b) ≡ evaluationMade g previous used rows
   unfolding evaluationMade evaluationFits evaluationFrom gatheredOf pricedOf
   made-book b k = step (every rowFits rows) k
     where
       step : (t : Bool) → gathered.Whole b ≡ pick t (gathered.Whole (bookOf (map roublesOf rows))) gathered.Beyond
-          → evaluationFrom (toGrid g (between (b .bid) (closeIn previous b) (b .ask)) 1) (figuresIn previous b)
-          ≡ pick (t && isPrice (evaluationOf g previous rows)) (Evaluated (pricedOf g previous rows)) Beyond
+          → evaluationFrom (toGrid g (chosenIn b) 1) (figuresIn previous used b)
+          ≡ pick (t && isPrice (evaluationOf g previous used rows)) (Evaluated (pricedOf g previous used rows)) Beyond
       step true p = rw (of-book b (cc), figures-of-book b (cc))
       step false p = absurd (let z : _≡_ {A = ℕ} 0 1 = cc in omega arith)
 

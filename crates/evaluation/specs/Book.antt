@@ -3,6 +3,7 @@ use mathlib.Core.Path.{_≡_}
 use mathlib.Core.List.{List, map}
 use Prim.Native.Nat.{ℕ, _+_, _*_, _≤_, max}
 use lib.Dec.{eqb}
+use Rattle.paper.specs.declared.External.{External}
 use Rattle.paper.specs.declared.Row.{Row}
 use Rattle.paper.specs.declared.Roubles.{Roubles}
 use Rattle.paper.specs.Lists.{pick, every}
@@ -39,9 +40,15 @@ pub record Room (b : Book) (r : Roubles) : Type 0 where
 unfoldable pub closeIn : ℕ → Book → ℕ
 closeIn previous b = pick (eqb (b .weight) 0) previous (halfUp (b .worth) (b .weight))
 
--- the figures that a price is chosen from, from a book
-abbrev pub figuresIn : ℕ → Book → PriceFigures
-figuresIn previous b = record { weight = b .weight; close = closeIn previous b; bid = b .bid; ask = b .ask }
+-- the figures that a price is chosen from, from a book and the outside prices that count
+abbrev pub figuresIn : ℕ → External → Book → PriceFigures
+figuresIn previous used b =
+    record {
+      weight = b .weight;
+      close = closeIn previous b;
+      bid = max (b .bid) (used .bid);
+      ask = lesserAsk (b .ask) (used .ask);
+    }
 
 -- the book, unless 7 refuses a row
 unfoldable pub gatheredOf : List Row → Gathered

@@ -1,35 +1,37 @@
 -- What an evaluation (6.1) answers: the paper's figure, or that 7 refuses it. Assumes nothing.
 use mathlib.Core.List.{List, map}
 use Prim.Native.Nat.{ℕ, _+_, _-_, _*_, _≤_}
+use Rattle.paper.specs.declared.External.{External}
 use Rattle.paper.specs.declared.Row.{Row}
 use Rattle.paper.specs.declared.Roubles.{Roubles}
 use Rattle.paper.specs.Lists.{pick}
 use Rattle.paper.specs.Numbers.{yearInDayBp, priceMost, centralMost}
 use Rattle.paper.specs.Ranges.{isPrice}
-use Rattle.paper_desk.specs.Evaluation.{roublesOf, weights, closeOf, bestBid, bestAsk, evaluationOf, evaluationFits}
+use Rattle.paper_desk.specs.Evaluation.{roublesOf, weights, closeOf, bidOf, askOf, evaluationOf, evaluationFits}
 use Rattle.exact.specs.SignedLaws.{growthMost}
 use Rattle.evaluation.specs.declared.PriceFigures.{PriceFigures}
 use Rattle.evaluation.specs.declared.Priced.{Priced}
 use Rattle.evaluation.specs.declared.Evaluation.{Evaluation}
 use Rattle.evaluation.specs.declared.Evaluation.the-variants.{Evaluated, Beyond}
 
--- the figures that a price is chosen from
-unfoldable pub priceFigures : (previous : ℕ) → List Roubles → PriceFigures
-priceFigures previous rs =
-    record { weight = weights rs; close = closeOf previous rs; bid = bestBid rs; ask = bestAsk rs }
+-- the figures that a price is chosen from: BID and ASK with the outside prices that count (W-211)
+unfoldable pub priceFigures : (previous : ℕ) → (used : External) → List Roubles → PriceFigures
+priceFigures previous used rs =
+    record { weight = weights rs; close = closeOf previous rs; bid = bidOf used rs; ask = askOf used rs }
 
 -- the evaluation, and the figures that it was chosen from
-unfoldable pub pricedOf : ℕ → ℕ → List Row → Priced
-pricedOf g previous rows =
+unfoldable pub pricedOf : ℕ → ℕ → External → List Row → Priced
+pricedOf g previous used rows =
     record {
-      price = record { units = evaluationOf g previous rows };
-      figures = priceFigures previous (map roublesOf rows);
+      price = record { units = evaluationOf g previous used rows };
+      figures = priceFigures previous used (map roublesOf rows);
     }
 
 -- 7: "a rounded row price, or the evaluation, is 0 or above 10^10; a rounded row volume is above 10^8"; else the
 -- evaluation
-unfoldable pub evaluationMade : ℕ → ℕ → List Row → Evaluation
-evaluationMade g previous rows = pick (evaluationFits g previous rows) (Evaluated (pricedOf g previous rows)) Beyond
+unfoldable pub evaluationMade : ℕ → ℕ → External → List Row → Evaluation
+evaluationMade g previous used rows =
+    pick (evaluationFits g previous used rows) (Evaluated (pricedOf g previous used rows)) Beyond
 
 -- the same of the evaluation alone, where every row's figures are in range
 unfoldable pub evaluationFrom : ℕ → PriceFigures → Evaluation

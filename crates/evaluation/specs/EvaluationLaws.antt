@@ -8,6 +8,7 @@ use native.Mathlib.Nat.{mul-mod-left}
 use native.Mathlib.Omega.{arith}
 use lib.Dec.{eqb}
 use borrow.Author.Tests.{eq-eqb}
+use Rattle.paper.specs.declared.External.{External}
 use Rattle.paper.specs.declared.Row.{Row}
 use Rattle.paper.specs.Lists.{pick, every}
 use Rattle.paper.specs.Roundings.{toGrid}
@@ -18,41 +19,43 @@ use Rattle.evaluation.specs.declared.Priced.{Priced}
 use Rattle.evaluation.specs.declared.Evaluation.the-variants.{Evaluated, Beyond}
 use Rattle.evaluation.specs.Evaluation.{pricedOf, evaluationMade}
 
-module _ (g previous : ℕ) (rows : List Row) where
-  pub evaluated-fits : (p : Priced) → Evaluated p ≡ evaluationMade g previous rows
-      → evaluationFits g previous rows ≡ true
+module _ (g previous : ℕ) (used : External) (rows : List Row) where
+  pub evaluated-fits : (p : Priced) → Evaluated p ≡ evaluationMade g previous used rows
+      → evaluationFits g previous used rows ≡ true
   unfolding evaluationMade
-  evaluated-fits p e = step (evaluationFits g previous rows) e
+  evaluated-fits p e = step (evaluationFits g previous used rows) e
     where
-      step : (t : Bool) → Evaluated p ≡ pick t (Evaluated (pricedOf g previous rows)) Beyond → t ≡ true
+      step : (t : Bool) → Evaluated p ≡ pick t (Evaluated (pricedOf g previous used rows)) Beyond → t ≡ true
       step true q = refl
       step false q = absurd (let z : _≡_ {A = ℕ} 0 1 = cc in omega arith)
 
-  pub evaluated-is : (p : Priced) → Evaluated p ≡ evaluationMade g previous rows → p ≡ pricedOf g previous rows
+  pub evaluated-is : (p : Priced) → Evaluated p ≡ evaluationMade g previous used rows
+      → p ≡ pricedOf g previous used rows
   unfolding evaluationMade
-  evaluated-is p e = step (evaluationFits g previous rows) e
+  evaluated-is p e = step (evaluationFits g previous used rows) e
     where
-      step : (t : Bool) → Evaluated p ≡ pick t (Evaluated (pricedOf g previous rows)) Beyond
-          → p ≡ pricedOf g previous rows
+      step : (t : Bool) → Evaluated p ≡ pick t (Evaluated (pricedOf g previous used rows)) Beyond
+          → p ≡ pricedOf g previous used rows
       step true q = cc
       step false q = absurd (let z : _≡_ {A = ℕ} 0 1 = cc in omega arith)
 
-  pub beyond-refused : Beyond ≡ evaluationMade g previous rows → evaluationFits g previous rows ≡ false
+  pub beyond-refused : Beyond ≡ evaluationMade g previous used rows → evaluationFits g previous used rows ≡ false
   unfolding evaluationMade
-  beyond-refused e = step (evaluationFits g previous rows) e
+  beyond-refused e = step (evaluationFits g previous used rows) e
     where
-      step : (t : Bool) → Beyond ≡ pick t (Evaluated (pricedOf g previous rows)) Beyond → t ≡ false
+      step : (t : Bool) → Beyond ≡ pick t (Evaluated (pricedOf g previous used rows)) Beyond → t ≡ false
       step true q = absurd (let z : _≡_ {A = ℕ} 0 1 = cc in omega arith)
       step false q = refl
 
-  whole : evaluationOf g previous rows % g ≡ 0
+  whole : evaluationOf g previous used rows % g ≡ 0
   unfolding evaluationOf toGrid
   whole = mul-mod-left _ g
 
   -- an evaluation that is not refused can stand in a record
-  pub evaluation-sound : evaluationFits g previous rows ≡ true → isGridPrice g (evaluationOf g previous rows) ≡ true
+  pub evaluation-sound : evaluationFits g previous used rows ≡ true
+      → isGridPrice g (evaluationOf g previous used rows) ≡ true
   unfolding evaluationFits isGridPrice
   evaluation-sound e =
-      and-both (isPrice (evaluationOf g previous rows)) (eqb (evaluationOf g previous rows % g) 0)
-      (and-right (every rowFits rows) (isPrice (evaluationOf g previous rows)) e)
-      (eq-eqb (evaluationOf g previous rows % g) 0 whole)
+      and-both (isPrice (evaluationOf g previous used rows)) (eqb (evaluationOf g previous used rows % g) 0)
+      (and-right (every rowFits rows) (isPrice (evaluationOf g previous used rows)) e)
+      (eq-eqb (evaluationOf g previous used rows % g) 0 whole)

@@ -12,6 +12,7 @@ ghost use Rattle.rows.specs.RowLaws.{InRange};
 ghost use Rattle.evaluation.specs.Evaluation.{Discounts, evaluationFrom, evaluationMade};
 ghost use Rattle.evaluation.specs.Book.{Room, added, closeIn, Gathers};
 use inputs::is_price;
+use paper::External;
 use paper::MadePrice;
 use paper::Price;
 use paper::Roubles;
@@ -37,7 +38,8 @@ enum Gathered {
     Beyond,
 }
 
-// The figures that a price is chosen from: the weights of the rows together, the close, BID and ASK, in units.
+// The figures that a price is chosen from: the weights of the rows together, the close, and BID and ASK with the
+// outside prices that count (W-211), in units.
 pub struct PriceFigures {
     pub weight: u64,
     pub close: u64,
@@ -216,24 +218,28 @@ fn on_grid(g: u64, p: u64, figures: PriceFigures) -> Evaluation
     }
 }
 
-// The evaluation of rows that are in range.
-pub fn evaluate(rows: &[i64], previous: Price, g: u64) -> Evaluation
+// The evaluation of rows that are in range. `used` is the outside pair that counts (W-211): "BID is the greater of the
+// book's and the outside one, ASK the lesser (6.1); a missing side leaves the book's."
+pub fn evaluate(rows: &[i64], previous: Price, used: External, g: u64) -> Evaluation
     requires { ⌜ validRows (now rows) ≡ true ⌝ }
     requires { ⌜ (previous .units ≤ priceMost) × (1 ≤ g) × (g ≤ oneInHundredths) ⌝ }
-    ensures { λ r. ⌜ r ≡ evaluationMade g (previous .units) (dayRows (now (rows .entry))) ⌝ }
+    requires { ⌜ (used .bid ≤ priceMost) × (used .ask ≤ priceMost) ⌝ }
+    ensures { λ r. ⌜ r ≡ evaluationMade g (previous .units) used (dayRows (now (rows .entry))) ⌝ }
 {
     let gathered = gather(rows);
     match gathered {
         Gathered::Beyond => Evaluation::Beyond,
         Gathered::Whole(book) => {
             let close = close_of(book, previous);
+            let bid = exact::greater(book.bid, used.bid);
+            let ask = lesser_ask(book.ask, used.ask);
             let figures = PriceFigures {
                 weight: book.weight,
                 close,
-                bid: book.bid,
-                ask: book.ask,
+                bid,
+                ask,
             };
-            on_grid(g, between(book.bid, close, book.ask), figures)
+            on_grid(g, between(bid, close, ask), figures)
         }
     }
 }

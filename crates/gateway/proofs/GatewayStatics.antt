@@ -13,15 +13,15 @@ use Rattle.paper_desk.specs.Gateway.{givenOf}
 pub read : {r : ℕ} {x : ℤ} → SFits w64 x → r ≡ unsigned (toZ w64 (ofZ w64 x)) → r ≡ unsigned x
 read f e = e ∙ ap unsigned (toZ-ofZ f)
 
--- the statics that were made of the bits of 25 numbers were made of the numbers
+-- the statics that were made of the bits of 26 numbers were made of the numbers
 pub read-given : {g : GivenStatics}
     {lot h q aup adown wait rh1 rh2 rh3 liq min1 min2 min3 smax xpr shift pchmax pclmax w u monitoring ewma
-    uevening autochange eveningmax : ℤ}
+    uevening autochange eveningmax useexternal : ℤ}
     → SFits w64 lot → SFits w64 h → SFits w64 q → SFits w64 aup → SFits w64 adown → SFits w64 wait
     → SFits w64 rh1 → SFits w64 rh2 → SFits w64 rh3 → SFits w64 liq → SFits w64 min1 → SFits w64 min2
     → SFits w64 min3 → SFits w64 smax → SFits w64 xpr → SFits w64 shift → SFits w64 pchmax → SFits w64 pclmax
     → SFits w64 w → SFits w64 u → SFits w64 monitoring → SFits w64 ewma → SFits w64 uevening
-    → SFits w64 autochange → SFits w64 eveningmax
+    → SFits w64 autochange → SFits w64 eveningmax → SFits w64 useexternal
     → g ≡ givenOf
     (record {
       lot = toZ w64 (ofZ w64 lot);
@@ -49,6 +49,7 @@ pub read-given : {g : GivenStatics}
       uevening = toZ w64 (ofZ w64 uevening);
       autochange = toZ w64 (ofZ w64 autochange);
       eveningmax = toZ w64 (ofZ w64 eveningmax);
+      useexternal = toZ w64 (ofZ w64 useexternal);
     })
     → g ≡ givenOf
     (record {
@@ -77,8 +78,9 @@ pub read-given : {g : GivenStatics}
       uevening = uevening;
       autochange = autochange;
       eveningmax = eveningmax;
+      useexternal = useexternal;
     })
-read-given f1 f2 f3 f4 f5 f6 f7 f8 f9 f10 f11 f12 f13 f14 f15 f16 f17 f18 f19 f20 f21 f22 f23 f24 f25 e =
+read-given f1 f2 f3 f4 f5 f6 f7 f8 f9 f10 f11 f12 f13 f14 f15 f16 f17 f18 f19 f20 f21 f22 f23 f24 f25 f26 e =
     e
     ∙ (λ i. givenOf
     (record {
@@ -107,4 +109,5 @@ read-given f1 f2 f3 f4 f5 f6 f7 f8 f9 f10 f11 f12 f13 f14 f15 f16 f17 f18 f19 f2
       uevening = toZ-ofZ f23 i;
       autochange = toZ-ofZ f24 i;
       eveningmax = toZ-ofZ f25 i;
+      useexternal = toZ-ofZ f26 i;
     }))

@@ -3,8 +3,8 @@ ghost use mathlib.Core.Path.{_≡_};
 ghost use Rattle.paper_desk.specs.Gateway.{givenOf};
 use paper::GivenStatics;
 
-// 25 signed numbers, in the order of document 01's table and then W-210's three. One below zero becomes a number that
-// no range holds, and so is refused as it is there.
+// 26 signed numbers, in the order of document 01's table, then W-210's three and W-211's. One below zero becomes a
+// number that no range holds, and so is refused as it is there.
 pub fn given_of(
     lot: i64,
     h: i64,
@@ -31,6 +31,7 @@ pub fn given_of(
     uevening: i64,
     autochange: i64,
     eveningmax: i64,
+    useexternal: i64,
 ) -> GivenStatics
     ensures { λ r. ⌜ r ≡ givenOf (record {
       lot = lot;
@@ -58,6 +59,7 @@ pub fn given_of(
       uevening = uevening;
       autochange = autochange;
       eveningmax = eveningmax;
+      useexternal = useexternal;
     }) ⌝ }
 {
     GivenStatics {
@@ -86,5 +88,6 @@ pub fn given_of(
         uevening: exact::unsigned(uevening),
         autochange: exact::unsigned(autochange),
         eveningmax: exact::unsigned(eveningmax),
+        useexternal: exact::unsigned(useexternal),
     }
 }

@@ -138,7 +138,7 @@ statics-step st v = statics-facts st v .h .least
 
 pub given-statics : (g : GivenStatics) → validGiven g ≡ true → validStatics (staticsOf g) ≡ true
 unfolding validGiven
-given-statics g v = and-left _ _ (and-left _ _ (and-left _ _ v))
+given-statics g v = and-left _ _ (and-left _ _ (and-left _ _ (and-left _ _ v)))
 
 pub tentative-facts : (h tentative : ℕ) → validTentative h tentative ≡ true → MultipleTo (tentativeTop h) h tentative
 unfolding validTentative

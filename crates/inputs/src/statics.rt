@@ -1,4 +1,4 @@
-// The table of statics with W-210's, and the tentative rate, whose range the step decides.
+// The table of statics with W-210's and W-211's, and the tentative rate, whose range the step decides.
 ghost use mathlib.Core.Path.{_≡_};
 ghost use Prim.Native.Nat.{_<_};
 ghost use Rattle.paper.specs.Ranges.{validStatics, staticsOf, validGiven, tentativeTop, validTentative, orderedStatics, multiplesOfStep};
@@ -83,6 +83,7 @@ pub fn statics_of(g: GivenStatics) -> Statics
         uevening: g.uevening,
         autochange: g.autochange == 1,
         eveningmax: g.eveningmax,
+        useexternal: g.useexternal == 1,
     }
 }
 
@@ -90,7 +91,11 @@ pub fn statics_of(g: GivenStatics) -> Statics
 pub fn valid_given(g: GivenStatics) -> bool
     ensures { λ r. ⌜ r ≡ validGiven g ⌝ }
 {
-    valid_statics(statics_of(g)) & (g.monitoring <= 1) & (g.ewma <= 1) & (g.autochange <= 1)
+    valid_statics(statics_of(g))
+        & (g.monitoring <= 1)
+        & (g.ewma <= 1)
+        & (g.autochange <= 1)
+        & (g.useexternal <= 1)
 }
 
 // W-208: "the least multiple of h at or above 100,000 bp".

@@ -1,7 +1,7 @@
 // What C links: document 01, "What the desk covers", "The C gateway reaches the rate rules and the limit rules with
-// plain numbers". Each function takes its own numbers and then the 25 statics, in the order of document 01's table and
-// then W-210's three, all signed, of any value, and answers one figure, or minus the refusal number. It only makes the
-// numbers unsigned and hands them on; `gateway` has the calls.
+// plain numbers". Each function takes its own numbers and then the 26 statics, in the order of document 01's table and
+// then W-210's three and W-211's, all signed, of any value, and answers one figure, or minus the refusal number. It
+// only makes the numbers unsigned and hands them on; `gateway` has the calls.
 ghost use mathlib.Core.Path.{_≡_};
 ghost use Rattle.paper.specs.Ranges.{unsigned};
 ghost use Rattle.paper_desk.specs.Gateway.{givenOf, levelCall, rangeCall, bandCall};
@@ -37,6 +37,7 @@ pub extern "C" fn nedrubal_level_rate(
     uevening: i64,
     autochange: i64,
     eveningmax: i64,
+    useexternal: i64,
 ) -> i64
     ensures { λ r. ⌜ r ≡ levelCall (givenOf (record {
       lot = lot;
@@ -64,6 +65,7 @@ pub extern "C" fn nedrubal_level_rate(
       uevening = uevening;
       autochange = autochange;
       eveningmax = eveningmax;
+      useexternal = useexternal;
     }))
         (unsigned tentative) (unsigned m) (unsigned level) ⌝ }
 {
@@ -93,6 +95,7 @@ pub extern "C" fn nedrubal_level_rate(
         uevening,
         autochange,
         eveningmax,
+        useexternal,
     );
     gateway::level_answer(
         given,
@@ -133,6 +136,7 @@ pub extern "C" fn nedrubal_range_limit(
     uevening: i64,
     autochange: i64,
     eveningmax: i64,
+    useexternal: i64,
 ) -> i64
     ensures { λ r. ⌜ r ≡ rangeCall (givenOf (record {
       lot = lot;
@@ -160,6 +164,7 @@ pub extern "C" fn nedrubal_range_limit(
       uevening = uevening;
       autochange = autochange;
       eveningmax = eveningmax;
+      useexternal = useexternal;
     }))
         (unsigned p) (unsigned rate) (unsigned side) ⌝ }
 {
@@ -189,6 +194,7 @@ pub extern "C" fn nedrubal_range_limit(
         uevening,
         autochange,
         eveningmax,
+        useexternal,
     );
     gateway::range_answer(
         given,
@@ -232,6 +238,7 @@ pub extern "C" fn nedrubal_band_limit(
     uevening: i64,
     autochange: i64,
     eveningmax: i64,
+    useexternal: i64,
 ) -> i64
     ensures { λ r. ⌜ r ≡ bandCall (givenOf (record {
       lot = lot;
@@ -260,6 +267,7 @@ pub extern "C" fn nedrubal_band_limit(
       uevening = uevening;
       autochange = autochange;
       eveningmax = eveningmax;
+      useexternal = useexternal;
     })) (unsigned p)
         (unsigned s1) (unsigned k) repo (unsigned c) (unsigned side) ⌝ }
 {
@@ -289,6 +297,7 @@ pub extern "C" fn nedrubal_band_limit(
         uevening,
         autochange,
         eveningmax,
+        useexternal,
     );
     gateway::band_answer(
         given,

@@ -10,7 +10,7 @@ use lib.ListN.{replicate}
 use Rattle.paper.specs.declared.Side.the-variants.{Upper, Lower}
 use Rattle.paper.specs.Lists.{every}
 use Rattle.paper.specs.Roundings.{up}
-use Rattle.paper.specs.Ranges.{isPrice, isRate, gridOf, isGridPrice, validStatics, staticsOf, validGiven, tentativeTop, validTentative, validAdmission, partsFrom, rowAt, rowsOf, wholeRows, validRow, validRows, validTerm, validDay, validQuote, validSide, sideOf, lastDay, isLimit, validLimits, validNear, validNearSeconds, validSession, sound, validSlots, isLive}
+use Rattle.paper.specs.Ranges.{isPrice, isRate, gridOf, isGridPrice, validStatics, staticsOf, validGiven, tentativeTop, validTentative, validAdmission, partsFrom, rowAt, rowsOf, wholeRows, validRow, validRows, validTerm, validDay, validQuote, validSide, sideOf, lastDay, isLimit, validLimits, validNear, validNearSeconds, validSession, validExternal, sound, validSlots, isLive}
 use Rattle.paper.specs.PinnedValues.{_but_, lotAt, hAt, minimaAt, ueveningAt, eveningmaxAt, idAt, p1At, tentativeAt, ageAt, rangesAt, bandsAt, admissionFrom, recordFrom, dayFrom, quoteFrom, liveAt}
 
 -- ---- a row of numbers with their ranges
@@ -84,6 +84,15 @@ flagRanges = range 1 0 1 ∷ range 1 0 1 ∷ []
 eveningRanges : List Ranged
 eveningRanges = range 120 1 3600 ∷ range 1 0 1 ∷ range 2 0 10 ∷ []
 
+-- W-211: "UseEXTERNAL yes/no"
+externalRanges : List Ranged
+externalRanges = range 0 0 1 ∷ []
+
+-- the statics behind isEWMA, in their order
+laterRanges : List Ranged
+unfolding eveningRanges externalRanges
+laterRanges = eveningRanges ++ externalRanges
+
 -- "id (1..10^9), last day number (0..10^6, as every day number), the two latest evaluations (on the grid, in range), s,
 -- and the tentative rate", which W-208 takes to 100,000 where h is 1; "Price: .. 1 to 10^10"; "Volatility s: .. 0 to
 -- 1,000,000"
@@ -110,7 +119,7 @@ unfolding termRanges
 threeTerms = termRanges ++ (termRanges ++ termRanges)
 
 -- "age 0..250", "rates 0..10,000", "move counts 0..50", "seconds 0..86,399"; a near second is spelled by one more, and
--- so are the evening moves made, 0..10 (W-210)
+-- so are the evening moves made, 0..10 (W-210); an outside bid and ask are 0..10^10 (W-211)
 recordRanges : List Ranged
 unfolding limitRanges threeTerms
 recordRanges =
@@ -119,12 +128,14 @@ recordRanges =
     ++ (limitRanges
     ++ (threeTerms
     ++ (limitRanges
-    ++ (replicate 2 (range 0 0 50) ++ (replicate 6 (range 0 0 86400) ++ (range 0 0 86399 ∷ range 0 0 11 ∷ [])))))))
+    ++ (replicate 2 (range 0 0 50)
+    ++ (replicate 6 (range 0 0 86400)
+    ++ (range 0 0 86399 ∷ range 0 0 11 ∷ replicate 2 (range 0 0 10000000000))))))))
 
 -- an admission, and a live record
 admissionRow : List ℤ
-unfolding staticRanges flagRanges eveningRanges admissionRanges valuesOf
-admissionRow = valuesOf (staticRanges ++ (flagRanges ++ (eveningRanges ++ admissionRanges)))
+unfolding staticRanges flagRanges laterRanges admissionRanges valuesOf
+admissionRow = valuesOf (staticRanges ++ (flagRanges ++ (laterRanges ++ admissionRanges)))
 
 recordRow : List ℤ
 unfolding admissionRow recordRanges
@@ -137,15 +148,15 @@ validAdmissionRow row = validAdmission (admissionFrom row)
 
 soundRow : (row : List ℤ) → Bool
 unfolding sound validStatics isGridPrice isPrice isRate gridOf tentativeTop validTentative up lastDay validTerm
-    isLimit validLimits validNear validNearSeconds validSession recordFrom
+    isLimit validLimits validNear validNearSeconds validSession validExternal recordFrom
 soundRow row = sound (recordFrom row)
 
 pub admission-ends : List (List Bool)
 unfolding straddles validAdmissionRow admissionRow
 admission-ends =
-    straddles validAdmissionRow admissionRow 0 (staticRanges ++ (flagRanges ++ (eveningRanges ++ admissionRanges)))
+    straddles validAdmissionRow admissionRow 0 (staticRanges ++ (flagRanges ++ (laterRanges ++ admissionRanges)))
 
-pub admission-ends-are : admission-ends ≡ atTheEndsAlone 31
+pub admission-ends-are : admission-ends ≡ atTheEndsAlone 32
 unfolding admission-ends atTheEndsAlone
 admission-ends-are = refl
 
@@ -155,12 +166,12 @@ pub record-ends : List (List Bool)
 unfolding straddles soundRow recordRow
 record-ends =
     straddles soundRow recordRow 0 staticRanges
-    -- Autochange is yes or no in a record, with no number out of range
+    -- Autochange and UseEXTERNAL are yes or no in a record, with no number out of range
     ++ (straddles soundRow recordRow ueveningAt (range 120 1 3600 ∷ [])
     ++ straddles soundRow recordRow eveningmaxAt (range 2 0 10 ∷ []))
     ++ (straddles soundRow recordRow idAt admissionRanges ++ straddles soundRow recordRow ageAt recordRanges)
 
-pub record-ends-are : record-ends ≡ atTheEndsAlone 63
+pub record-ends-are : record-ends ≡ atTheEndsAlone 65
 unfolding record-ends atTheEndsAlone
 record-ends-are = refl
 

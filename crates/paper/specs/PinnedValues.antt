@@ -90,58 +90,65 @@ autochangeAt = 23
 abbrev pub eveningmaxAt : ℕ
 eveningmaxAt = 24
 
+abbrev pub useexternalAt : ℕ
+useexternalAt = 25
+
 abbrev pub idAt : ℕ
-idAt = 25
+idAt = 26
 
 abbrev pub dayAt : ℕ
-dayAt = 26
+dayAt = 27
 
 abbrev pub p1At : ℕ
-p1At = 27
+p1At = 28
 
 abbrev pub sAt : ℕ
-sAt = 29
+sAt = 30
 
 abbrev pub tentativeAt : ℕ
-tentativeAt = 30
+tentativeAt = 31
 
 -- 0 admitted only, 1 live
 abbrev pub liveAt : ℕ
-liveAt = 31
+liveAt = 32
 
 abbrev pub ageAt : ℕ
-ageAt = 32
+ageAt = 33
 
 -- three rates, then the lower and the upper limit of three ranges
 abbrev pub ratesAt : ℕ
-ratesAt = 33
+ratesAt = 34
 
 abbrev pub rangesAt : ℕ
-rangesAt = 36
+rangesAt = 37
 
 -- k, RRcL and RRcH of three terms, then the lower and the upper limit of their bands
 abbrev pub termsAt : ℕ
-termsAt = 42
+termsAt = 43
 
 abbrev pub bandsAt : ℕ
-bandsAt = 51
+bandsAt = 52
 
 abbrev pub upperMovesAt : ℕ
-upperMovesAt = 57
+upperMovesAt = 58
 
 abbrev pub lowerMovesAt : ℕ
-lowerMovesAt = 58
+lowerMovesAt = 59
 
 -- top and bottom of three terms: 0 not near, one more than the second otherwise
 abbrev pub nearAt : ℕ
-nearAt = 59
+nearAt = 60
 
 abbrev pub secondAt : ℕ
-secondAt = 65
+secondAt = 66
 
 -- 0 main, one more than the evening moves made otherwise
 abbrev pub sessionAt : ℕ
-sessionAt = 66
+sessionAt = 67
+
+-- the outside bid, then the ask
+abbrev pub externalAt : ℕ
+externalAt = 68
 
 -- ---- what the numbers spell
 
@@ -174,6 +181,7 @@ givenFrom xs =
       uevening = plain xs ueveningAt;
       autochange = plain xs autochangeAt;
       eveningmax = plain xs eveningmaxAt;
+      useexternal = plain xs useexternalAt;
     }
 
 unfoldable pub admissionFrom : (xs : List ℤ) → Admission
@@ -232,6 +240,7 @@ recordFrom xs =
           });
       second = plain xs secondAt;
       session = sessionFrom (plain xs sessionAt);
+      external = record { bid = plain xs externalAt; ask = plain xs (externalAt + 1) };
     }
 
 -- a day number, b, m, and three terms
@@ -298,6 +307,7 @@ givenWith lot =
       uevening = 120;
       autochange = 1;
       eveningmax = 2;
+      useexternal = 0;
     }
 
 -- "Earlier prices 1,000,000 unless given; s 20,000"; tentative 600
@@ -316,8 +326,8 @@ zNumbers =
     ∷ pos 200 ∷ pos 25 ∷ pos 2000 ∷ pos 2000 ∷ pos 1000 ∷ pos 60
     -- Monitoring, isEWMA
     ∷ pos 1 ∷ pos 1
-    -- u_evening, Autochange, the evening maximum (W-210)
-    ∷ pos 120 ∷ pos 1 ∷ pos 2
+    -- u_evening, Autochange, the evening maximum (W-210), UseEXTERNAL (W-211)
+    ∷ pos 120 ∷ pos 1 ∷ pos 2 ∷ pos 0
     -- id, day, p1, p2, s, tentative
     ∷ pos 7 ∷ pos 3 ∷ pos 1000000 ∷ pos 1000000 ∷ pos 20000 ∷ pos 600
     ∷ []
@@ -325,7 +335,7 @@ zNumbers =
 -- the record of Z once it is admitted, but for its rates, which are 0 here
 unfoldable pub zRecord : List ℤ
 unfolding zNumbers
-zRecord = zNumbers ++ replicate 36 (pos 0)
+zRecord = zNumbers ++ replicate 38 (pos 0)
 
 -- the numbers spell the admission of the starred cases
 pub z-is-Z : admissionFrom zNumbers ≡ admissionZ

@@ -22,6 +22,7 @@ use Rattle.paper.specs.declared.Standing.{Standing}
 use Rattle.paper.specs.declared.Standing.the-variants.{Admitted, Live}
 use Rattle.paper.specs.declared.Session.{Session}
 use Rattle.paper.specs.declared.Session.the-variants.{Main, Evening}
+use Rattle.paper.specs.declared.External.{External}
 use Rattle.paper.specs.declared.Side.{Side}
 use Rattle.paper.specs.declared.Side.the-variants.{Upper, Lower}
 use Rattle.paper.specs.declared.Near.{Near}
@@ -148,10 +149,13 @@ staticsOf g =
       uevening = g .uevening;
       autochange = eqb (g .autochange) 1;
       eveningmax = g .eveningmax;
+      useexternal = eqb (g .useexternal) 1;
     }
 
 unfoldable pub validGiven : GivenStatics → Bool
-validGiven g = validStatics (staticsOf g) && leb (g .monitoring) 1 && leb (g .ewma) 1 && leb (g .autochange) 1
+validGiven g =
+    validStatics (staticsOf g) && leb (g .monitoring) 1 && leb (g .ewma) 1 && leb (g .autochange) 1
+    && leb (g .useexternal) 1
 
 -- ---- the tentative rate
 
@@ -332,6 +336,13 @@ unfoldable pub validSession : Session → Bool
 validSession Main = true
 validSession (Evening made) = leb made eveningMovesMost
 
+-- W-211: an outside bid or ask, where there is one, is a price; 0 is none
+unfoldable pub validExternal : External → Bool
+validExternal x = leb (x .bid) priceMost && leb (x .ask) priceMost
+
+abbrev pub noExternal : External
+noExternal = record { bid = 0; ask = 0 }
+
 -- a record's id, its statics, the figures that an admission gives too, and the age
 abbrev pub soundFigures : Record → Bool
 soundFigures r =
@@ -355,6 +366,7 @@ sound r =
     && allThree (λ k. validNearSeconds (getD (r .near) k notNear))
     && leb (r .second) secondLast
     && validSession (r .session)
+    && validExternal (r .external)
 
 -- "1 to 512 slots"
 unfoldable pub validSlots : (count : ℕ) → Bool

@@ -161,6 +161,7 @@ pub struct Statics {
     pub uevening: u64, // seconds, 1 to 3,600: u in the evening (W-210)
     pub autochange: bool, // yes or no
     pub eveningmax: u64, // evening moves, 0 to 10
+    pub useexternal: bool, // yes or no (W-211)
 }
 
 impl Statics {
@@ -222,6 +223,7 @@ pub struct GivenStatics {
     pub uevening: u64,
     pub autochange: u64,
     pub eveningmax: u64,
+    pub useexternal: u64,
 }
 
 // "A record has a standing: admitted only, or live with its day number." Either holds the last day.
@@ -234,6 +236,25 @@ pub enum Standing {
 pub enum Session {
     Main,
     Evening(u64),
+}
+
+// W-211, "our outside source sends a bid and an ask as 64-bit floats": in roubles.
+pub struct Outside {
+    pub bid: f64,
+    pub ask: f64,
+}
+
+// W-211, "a notice that is a bid, an ask, or a withdrawal".
+pub enum Notice {
+    Bid(f64),
+    Ask(f64),
+    Withdrawal,
+}
+
+// The outside bid and ask that a record keeps, in units; 0 is none.
+pub struct External {
+    pub bid: u64,
+    pub ask: u64,
 }
 
 // W-209, "The shared rounding rule now says which way it goes": to the whole number that is not above, to the nearest
@@ -321,6 +342,7 @@ pub struct Record {
     pub near: [NearSeconds; Record::TERMS],
     pub second: u64,
     pub session: Session,
+    pub external: External,
 }
 
 impl Record {
@@ -438,6 +460,7 @@ pub enum Verdict {
     NoFaceValue,
     NoEveningMove,
     OpenedTwice,
+    BadFloat,
 }
 
 impl Verdict {
@@ -466,6 +489,7 @@ impl Verdict {
             Verdict::NoFaceValue => 17,
             Verdict::NoEveningMove => 18,
             Verdict::OpenedTwice => 19,
+            Verdict::BadFloat => 20,
         }
     }
 

@@ -63,6 +63,7 @@ givenOf g =
       uevening = 1;
       autochange = 0;
       eveningmax = 0;
+      useexternal = 0;
     }
 
 abbrev pub bondStatics : Bond → Statics

@@ -18,13 +18,13 @@ use Rattle.paper.specs.Lists.{pick, three, every, some, those}
 use Rattle.paper.specs.Numbers.{millionthsInBp}
 use Rattle.paper.specs.Roundings.{down, up, halfUp, toGrid, lesserOf, greaterOf, grown, apart}
 use Rattle.paper.specs.Least.{first, least, leastRoot, leastTimes, leastMultiple}
-use Rattle.paper.specs.Ranges.{isPrice, isRate, isGridPrice, validStatics, tentativeTop, validTentative, validRow, wholeRows, validRows, validTerm, validDay, lastDay, isLimit, validLimits, validNear, validNearSeconds, validSession, sound, validSlots, gridOf, staticsOf, rowAt, partsFrom, rowsOf, rowOf, unsigned, noTerm, noLimits, rateAt}
-use Rattle.paper_desk.specs.Evaluation.{rowPrice, rowWeight, roublesOf, traded, weights, worth, mean, closeOf, bestBid, lesserAsk, bestAsk, median, between, evaluationOf, dayRows, isCrossedRow, hasCrossedRow, rowFits, evaluationFits}
+use Rattle.paper.specs.Ranges.{isPrice, isRate, isGridPrice, validStatics, tentativeTop, validTentative, validRow, wholeRows, validRows, validTerm, validDay, lastDay, isLimit, validLimits, validNear, validNearSeconds, validSession, validExternal, sound, validSlots, gridOf, staticsOf, rowAt, partsFrom, rowsOf, rowOf, unsigned, noTerm, noLimits, rateAt, noExternal}
+use Rattle.paper_desk.specs.Evaluation.{rowPrice, rowWeight, roublesOf, traded, weights, worth, mean, closeOf, bestBid, lesserAsk, bestAsk, usedPair, bidOf, askOf, median, between, evaluationOf, dayRows, isCrossedRow, hasCrossedRow, rowFits, evaluationFits}
 use Rattle.paper_desk.specs.Rates.{modelOf, moveFrom, moveOf, weightOf, weighted, replacement, replaces, volatilityOf, leastStep, tentativeRate, tentativeRateByMove, tentativeRateOf, tentativeAfter, meetsRequirement, daysOf, minimumOf, covers, levelRate, modelled, unmodelled, figuresOf, moveTooLarge}
 use Rattle.paper_desk.specs.Limits.{limitOf, shifted, rangeLimit, rangeOf, farthest, spread, monitored, narrower, bandLimit, bandOf, crossed, deltaOf, oneMore, rangeMoved, bandMoved}
 use Rattle.paper_desk.specs.Alerts.{distance, isNear, nearCleared}
 use Rattle.paper.specs.Verdicts.{numberOf, isDone, firstOf}
-use Rattle.paper_desk.specs.Desk.{saying, showing, admitted, priceOn, moveOn, figuresOn, evaluated, moved, place, stands, found, known, evaluate, evaluateChecks, checksOf, judged, acceptedOf, step}
+use Rattle.paper_desk.specs.Desk.{saying, showing, admitted, usedBy, priceOn, moveOn, figuresOn, evaluated, moved, place, stands, found, known, evaluate, evaluateChecks, checksOf, judged, acceptedOf, step}
 use Rattle.paper.specs.PinnedValues.{givenWith, admissionZ}
 
 unfoldable pub Z : Statics
@@ -42,12 +42,12 @@ dayWith m x = record { day = 4; b = 0; m = m; terms = three (λ k. x) }
 -- cases 1 to 6: the record after an evaluation at 1,030,000
 unfoldable pub after : (m : ℕ) → Term → Record
 unfolding admissionZ givenWith roublesRow dayWith staticsOf admitted minimumOf evaluated figuresOn figuresOf modelled
-    unmodelled moveOn priceOn moveOf moveFrom up apart volatilityOf weightOf weighted replaces replacement leastStep
-    tentativeTop tentativeRate tentativeRateByMove tentativeRateOf tentativeAfter levelRate covers meetsRequirement
-    daysOf least first leastRoot
-    leastTimes leastMultiple evaluationOf dayRows rowsOf partsFrom rowAt rowOf unsigned roublesOf rowPrice rowWeight
-    down halfUp toGrid grown closeOf mean traded those weights worth bestBid bestAsk lesserAsk between median gridOf
-    rangeOf rangeLimit limitOf shifted bandOf bandLimit farthest narrower lesserOf greaterOf monitored spread
+    unmodelled usedBy moveOn priceOn moveOf moveFrom up apart volatilityOf weightOf weighted replaces replacement
+    leastStep tentativeTop tentativeRate tentativeRateByMove tentativeRateOf tentativeAfter levelRate covers
+    meetsRequirement daysOf least first leastRoot leastTimes leastMultiple evaluationOf dayRows rowsOf partsFrom rowAt
+    rowOf unsigned roublesOf rowPrice rowWeight down halfUp toGrid grown closeOf mean traded those weights worth
+    bestBid bestAsk lesserAsk usedPair bidOf askOf between median gridOf rangeOf rangeLimit limitOf shifted bandOf
+    bandLimit farthest narrower lesserOf greaterOf monitored spread
 after m x = evaluated (admitted admissionZ) (dayWith m x) (roublesRow 1030000 0 0 5 [])
 
 upperAt : Record → (i : ℕ) → ℕ
@@ -73,10 +73,10 @@ rows11 close = roublesRow close 1010000 0 1 (roublesRow 0 0 1000000 0 [])
 
 -- the number that an evaluation of rows gets, once Z is admitted
 dayAnswer : (rows : List ℤ) → ℕ
-unfolding after step judged firstOf isDone checksOf evaluateChecks acceptedOf saying showing known found stands
-    place validSlots sound validStatics isGridPrice isPrice isRate validTentative isLimit validLimits validNear
-    validNearSeconds validSession lastDay validDay validTerm validRows wholeRows validRow every some isCrossedRow
-    hasCrossedRow evaluationFits rowFits moveTooLarge crossed
+unfolding after step judged firstOf isDone checksOf evaluateChecks acceptedOf saying showing known found stands place
+    validSlots sound validStatics isGridPrice isPrice isRate validTentative isLimit validLimits validNear
+    validNearSeconds validSession validExternal lastDay validDay validTerm validRows wholeRows validRow every some
+    isCrossedRow hasCrossedRow evaluationFits rowFits moveTooLarge crossed
 dayAnswer rows = numberOf (step (evaluate 7 (dayWith 0 noTerm) rows) (admitted admissionZ ∷ []) .answer .verdict)
 
 -- what the definitions give
@@ -131,11 +131,13 @@ results =
     ∷ tentativeAfter (Z .h) (Z .wait) (tentativeRate Z 3333) (record { bp = 700; age = 4 }) .bp
     ∷ [])
     -- 10: the close and the evaluation
-    ∷ (closeOf 1000000 (map roublesOf (dayRows rows10)) ∷ evaluationOf (gridOf (Z .lot)) 1000000 (dayRows rows10) ∷ [])
+    ∷ (closeOf 1000000 (map roublesOf (dayRows rows10))
+    ∷ evaluationOf (gridOf (Z .lot)) 1000000 noExternal (dayRows rows10)
+    ∷ [])
     -- 11: BID 1,010,000, ASK 1,000,000, with the close 1,005,000 and with 990,000; by W-205 the numbers that the first
     -- gets of two rows and of one
-    ∷ (evaluationOf (gridOf (Z .lot)) 1000000 (dayRows (rows11 1005000))
-    ∷ evaluationOf (gridOf (Z .lot)) 1000000 (dayRows (rows11 990000))
+    ∷ (evaluationOf (gridOf (Z .lot)) 1000000 noExternal (dayRows (rows11 1005000))
+    ∷ evaluationOf (gridOf (Z .lot)) 1000000 noExternal (dayRows (rows11 990000))
     ∷ dayAnswer (rows11 1005000)
     ∷ dayAnswer (roublesRow 1005000 1010000 1000000 1 [])
     ∷ [])

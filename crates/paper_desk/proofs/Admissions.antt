@@ -15,7 +15,7 @@ use Rattle.paper.specs.declared.Record.{Record}
 use Rattle.paper.specs.declared.Verdict.the-variants.{Done}
 use Rattle.paper.specs.Lists.{pick, every}
 use Rattle.paper.specs.Numbers.{idMost, dayMost, volatilityMost, rateMost}
-use Rattle.paper.specs.Ranges.{within, gridOf, isRate, isLimit, validLimits, noLimits, validStatics, validGiven, validFigures, validAdmission, validTerm, validNear, validNearSeconds, validSession, staticsOf, lastDay, sound, validSlots}
+use Rattle.paper.specs.Ranges.{within, gridOf, isRate, isLimit, validLimits, noLimits, validStatics, validGiven, validFigures, validAdmission, validTerm, validNear, validNearSeconds, validSession, validExternal, staticsOf, lastDay, sound, validSlots}
 use Rattle.paper_desk.specs.Rates.{minimumOf}
 use Rattle.paper.specs.Verdicts.{numberOf, isDone, firstOf, NoneApplies, none, also}
 use Rattle.paper_desk.specs.Desk.{admitted, stands, place, known, fresh, admit, checksOf, admitChecks, acceptedOf, step}
@@ -56,7 +56,7 @@ minima st v =
 -- what an admission in range gives is a sound record
 pub admitted-sound : (a : Admission) → validAdmission a ≡ true → sound (admitted a) ≡ true
 unfolding validAdmission validGiven sound admitted staticsOf isRate minimumOf lastDay validTerm validNearSeconds
-    validNear validSession
+    validNear validSession validExternal
 admitted-sound a v =
     let statics : validStatics (staticsOf (a .given)) ≡ true = search (v, and-left, and-right) depth 40 in
     let m : Minima (staticsOf (a .given)) = minima (staticsOf (a .given)) statics in
@@ -68,7 +68,8 @@ admitted-sound a v =
     let rates = and-both _ _ (and-both _ _ (m .first) (m .second)) (m .third) in
     let tentative = and-both _ _ (and-both _ _ (and-both _ _ id statics) figures) refl in
     let bands = and-both _ _ (and-both _ _ (and-both _ _ (and-both _ _ tentative rates) limits) refl) limits in
-    and-both _ _ (and-both _ _ (and-both _ _ (and-both _ _ (and-both _ _ bands refl) refl) refl) refl) refl
+    let counts = and-both _ _ (and-both _ _ (and-both _ _ bands refl) refl) refl in
+    and-both _ _ (and-both _ _ (and-both _ _ counts refl) refl) refl
 
 -- ---- on a fresh table
 

@@ -9,7 +9,7 @@ use lib.Seq.{getD-set-other}
 use Rattle.paper.specs.declared.Record.{Record}
 use Rattle.paper.specs.Ranges.{sideOf}
 use Rattle.paper.specs.Verdicts.{isDone, firstOf, NoneApplies, none, also}
-use Rattle.paper_desk.specs.Desk.{Call, admit, evaluate, quote, move, read, openEvening, idOf, Outcome, blank, admitted, evaluated, quoted, moved, eveningOpened, place, stands, found, known, checksOf, admitChecks, evaluateChecks, quoteChecks, moveChecks, openChecks, acceptedOf, step}
+use Rattle.paper_desk.specs.Desk.{Call, admit, evaluate, quote, move, read, openEvening, receive, idOf, Outcome, blank, admitted, evaluated, quoted, moved, eveningOpened, received, place, stands, found, known, checksOf, admitChecks, evaluateChecks, quoteChecks, moveChecks, openChecks, receiveChecks, acceptedOf, step}
 use Rattle.paper_desk.specs.Kept.{writtenAt, Stays}
 use Rattle.paper.proofs.Logic.{not-false}
 use Rattle.paper_desk.proofs.Slots.{found-id, found-other, stands-other, known-stands}
@@ -39,6 +39,7 @@ length-stays c t = holds-after-step (λ u. length u ≡ length t) c t refl (λ _
     accepted (move id side) = length-set t (place t id) _
     accepted (read id) = refl
     accepted (openEvening id) = length-set t (place t id) _
+    accepted (receive id x) = length-set t (place t id) _
 
 -- every other slot, whatever it holds
 pub slots-stay : (c : Call) (t : List Record) (k : ℕ) → k ≢ writtenAt c t
@@ -53,6 +54,7 @@ slots-stay c t k n = holds-after-step (λ u. getD u k blank ≡ getD t k blank) 
     accepted (move id side) n = getD-set-other t (place t id) k _ blank n
     accepted (read id) n = refl
     accepted (openEvening id) n = getD-set-other t (place t id) k _ blank n
+    accepted (receive id x) n = getD-set-other t (place t id) k _ blank n
 
 stored-stays : (id i : ℕ) (t : List Record) (x : Record) → known t i ≡ true → x .id ≡ found t i .id → id ≢ i
     → Stays id t (set t (place t i) x)
@@ -62,8 +64,8 @@ stored-stays id i t x e m n =
     (stands-other i x t id n other, found-other i x t id n other)
 
 pub others-stay : (c : Call) (t : List Record) (id : ℕ) → id ≢ 0 → id ≢ idOf c → Stays id t (step c t .table)
-unfolding acceptedOf checksOf evaluateChecks quoteChecks moveChecks openChecks admitted evaluated quoted moved
-    eveningOpened
+unfolding acceptedOf checksOf evaluateChecks quoteChecks moveChecks openChecks receiveChecks admitted evaluated quoted
+    moved eveningOpened received
 others-stay c t id z n = holds-after-step (Stays id t) c t (refl, refl) (λ _ w. accepted c n w)
   where
     accepted : (c : Call) → id ≢ idOf c → NoneApplies (checksOf c t) → Stays id t (acceptedOf c t .table)
@@ -76,3 +78,5 @@ others-stay c t id z n = holds-after-step (Stays id t) c t (refl, refl) (λ _ w.
     accepted (read i) n w = (refl, refl)
     accepted (openEvening i) n (also v w) =
         stored-stays id i t (eveningOpened (found t i)) (not-false (known t i) v) refl n
+    accepted (receive i x) n (also v w) =
+        stored-stays id i t (received (found t i) x) (not-false (known t i) v) refl n

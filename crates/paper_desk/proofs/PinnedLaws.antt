@@ -31,15 +31,17 @@ use Rattle.paper.specs.Ranges.{noLimits, notNear, termAt, sideOf, validSlots, s
 use Rattle.paper_desk.specs.Limits.{bandLimit, bandOf, oneMore, countOf, rangeMoved, bandMoved}
 use Rattle.paper_desk.specs.Alerts.{isNear, keptSince, nearAfter, alert, nearCleared}
 use Rattle.paper_desk.specs.Evening.{sessionMoved}
+use Rattle.paper_desk.specs.External.{Told, keptAfter}
 use Rattle.paper.specs.Verdicts.{numberOf, isDone, firstOf, FirstAt, here, NoneApplies, also}
-use Rattle.paper_desk.specs.Desk.{blank, saying, showing, alerting, alertsOn, evaluated, priceOn, quoted, moved, eveningOpened, place, stands, found, known, Call, admit, evaluate, quote, move, read, openEvening, idOf, checksOf, admitChecks, evaluateChecks, quoteChecks, moveChecks, readChecks, openChecks, Outcome, judged, acceptedOf, step}
+use Rattle.paper_desk.specs.Desk.{blank, saying, showing, alerting, alertsOn, evaluated, priceOn, quoted, moved, eveningOpened, received, place, stands, found, known, Call, admit, evaluate, quote, move, read, openEvening, receive, idOf, checksOf, admitChecks, evaluateChecks, quoteChecks, moveChecks, readChecks, openChecks, receiveChecks, Outcome, judged, acceptedOf, step}
 use Rattle.paper.specs.PinnedValues.{recordFrom}
 use Rattle.paper_desk.specs.PinnedSequence.{blank-is-zero}
 use Rattle.paper_desk.specs.History.{isAdmission}
-use Rattle.paper_desk.specs.Sides.{other, limitOn, nearSecondOn, repoOn, deltaFor, shows}
+use Rattle.paper_desk.specs.Sides.{other, limitOn, nearSecondOn, repoOn, deltaFor, shows, isReceipt}
 use Rattle.paper.proofs.Logic.{not-false}
 use Rattle.paper_desk.proofs.Slots.{found-stored, known-stands}
 use Rattle.paper_desk.proofs.Refusals.{verdict-first, refused-always, refused-leaves, accepted-step, accepted-only}
+use Rattle.paper_desk.proofs.Others.{holds-after-step}
 
 and-no : (a : Bool) → (a && false) ≡ false
 and-no true = refl
@@ -240,6 +242,55 @@ pub opening-leaves : (r : Record)
 unfolding eveningOpened
 opening-leaves r = (refl, refl, refl, refl, refl, refl, refl, refl, refl, refl, refl, refl, refl)
 
+-- ---- the receipt of outside prices
+
+-- W-211: it changes the kept pair, and leaves everything else
+pub receipt-leaves : (r : Record) (x : Told)
+    → (received r x .external ≡ keptAfter (r .external) x)
+    × (received r x .id ≡ r .id)
+    × (received r x .statics ≡ r .statics)
+    × (received r x .standing ≡ r .standing)
+    × (received r x .p1 ≡ r .p1)
+    × (received r x .p2 ≡ r .p2)
+    × (received r x .s ≡ r .s)
+    × (received r x .tentative ≡ r .tentative)
+    × (received r x .rates ≡ r .rates)
+    × (received r x .ranges ≡ r .ranges)
+    × (received r x .terms ≡ r .terms)
+    × (received r x .bands ≡ r .bands)
+    × (received r x .moves ≡ r .moves)
+    × (received r x .near ≡ r .near)
+    × (received r x .second ≡ r .second)
+    × (received r x .session ≡ r .session)
+unfolding received
+receipt-leaves r x = (refl, refl, refl, refl, refl, refl, refl, refl, refl, refl, refl, refl, refl, refl, refl, refl)
+
+-- and no call on a record but a receipt changes the pair, accepted or refused
+pub pair-left : (c : Call) (t : List Record) → isAdmission c ≡ false → isReceipt c ≡ false
+    → found (step c t .table) (idOf c) .external ≡ found t (idOf c) .external
+unfolding acceptedOf checksOf evaluateChecks quoteChecks moveChecks openChecks evaluated quoted moved eveningOpened
+pair-left c t looks s =
+    holds-after-step (λ u. found u (idOf c) .external ≡ found t (idOf c) .external) c t refl
+    (λ _ n. accepted c looks s n)
+  where
+    -- what is written in the slot of a known id is what is then found there
+    written : (id : ℕ) (x : Record) → not (known t id) ≡ false → x .id ≡ found t id .id
+        → x .external ≡ found t id .external
+        → found (set t (place t id) x) id .external ≡ found t id .external
+    written id x q same pair =
+        ap (λ (r : Record). r .external) (found-stored t id x (known-stands t id (not-false (known t id) q)) same)
+        ∙ pair
+
+    accepted : (c : Call) → isAdmission c ≡ false → isReceipt c ≡ false → NoneApplies (checksOf c t)
+        → found (acceptedOf c t .table) (idOf c) .external ≡ found t (idOf c) .external
+    accepted (admit a) looks s n = absurd (let z : _≡_ {A = ℕ} 0 1 = cc in omega arith)
+    accepted (evaluate id d rows) looks s (also q n) = written id (evaluated (found t id) d rows) q refl refl
+    accepted (quote id x) looks s (also q n) = written id (quoted (found t id) x) q refl refl
+    accepted (move id side) looks s (also q n) = written id (moved (found t id) (sideOf side)) q refl refl
+    accepted (read id) looks s n = refl
+    accepted (openEvening id) looks s (also q n) = written id (eveningOpened (found t id)) q refl refl
+    accepted (receive id x) looks s n = absurd (let z : _≡_ {A = ℕ} 0 1 = cc in omega arith)
+
 -- ---- evaluations
 
 -- "An evaluation clears both counts, all near seconds and the last quote second (to 0)."
@@ -269,7 +320,7 @@ evaluation-is-latest r d rows = (refl, refl, refl)
 -- a security that is not known is refused with 1 whatever else holds
 pub unknown-refused : (c : Call) (t : List Record) → isAdmission c ≡ false → known t (idOf c) ≡ false
     → step c t .answer .verdict ≡ NoSuchId
-unfolding checksOf evaluateChecks quoteChecks moveChecks readChecks openChecks
+unfolding checksOf evaluateChecks quoteChecks moveChecks readChecks openChecks receiveChecks
 unknown-refused c t looks e = refused-always c t NoSuchId (first c looks e)
   where
     first : (c : Call) → isAdmission c ≡ false → known t (idOf c) ≡ false → FirstAt NoSuchId (checksOf c t)
@@ -279,6 +330,7 @@ unknown-refused c t looks e = refused-always c t NoSuchId (first c looks e)
     first (move id side) looks e = here refl (ap not e)
     first (read id) looks e = here refl (ap not e)
     first (openEvening id) looks e = here refl (ap not e)
+    first (receive id x) looks e = here refl (ap not e)
 
 -- "Where an id stands in several slots the first alone counts": no slot before it has the id
 pub none-before-first : (t : List Record) (id i : ℕ) → i < place t id → getD t i blank .id ≡ id → ⊥
@@ -314,6 +366,7 @@ bad-table-refused c t s = go c
     go (move id side) = ap numberOf (unknown-refused (move id side) t refl (unknown id))
     go (read id) = ap numberOf (unknown-refused (read id) t refl (unknown id))
     go (openEvening id) = ap numberOf (unknown-refused (openEvening id) t refl (unknown id))
+    go (receive id x) = ap numberOf (unknown-refused (receive id x) t refl (unknown id))
 
 pub no-slots-invalid : (t : List Record) → length t ≡ 0 → validSlots (length t) ≡ false
 unfolding validSlots
@@ -349,7 +402,8 @@ refused-zero c t e =
 -- "Accepted evaluations, moves and reads return the record as it then stands"
 pub shown-stands : (c : Call) (t : List Record) → shows c ≡ true → isDone (step c t .answer .verdict) ≡ true
     → found (step c t .table) (idOf c) ≡ step c t .answer .rec
-unfolding acceptedOf showing checksOf evaluateChecks moveChecks openChecks evaluated moved eveningOpened
+unfolding acceptedOf showing checksOf evaluateChecks moveChecks openChecks receiveChecks evaluated moved
+    eveningOpened received
 shown-stands c t s e =
     let done : isDone (firstOf (checksOf c t)) ≡ true = ap isDone (sym (verdict-first c t)) ∙ e in
     rw (accepted-step c t done) (accepted c s (accepted-only c t e))
@@ -365,6 +419,8 @@ shown-stands c t s e =
     accepted (read id) s w = refl
     accepted (openEvening id) s (also q w) =
         found-stored t id (eveningOpened (found t id)) (known-stands t id (not-false (known t id) q)) refl
+    accepted (receive id x) s (also q w) =
+        found-stored t id (received (found t id) x) (known-stands t id (not-false (known t id) q)) refl
 
 -- "a quote its two alerts, an admission the number 0 alone": neither shows a record
 pub no-record-shown : (c : Call) (t : List Record) → shows c ≡ false → step c t .answer .rec ≡ recordFrom []
@@ -381,6 +437,7 @@ no-record-shown c t s = go c s (firstOf (checksOf c t)) (isDone (firstOf (checks
     go (move id side) s v b = absurd (let z : _≡_ {A = ℕ} 0 1 = cc in omega arith)
     go (read id) s v b = absurd (let z : _≡_ {A = ℕ} 0 1 = cc in omega arith)
     go (openEvening id) s v b = absurd (let z : _≡_ {A = ℕ} 0 1 = cc in omega arith)
+    go (receive id x) s v b = absurd (let z : _≡_ {A = ℕ} 0 1 = cc in omega arith)
 
 -- an admission gives no alert either
 pub admission-number-alone : (a : Admission) (t : List Record)

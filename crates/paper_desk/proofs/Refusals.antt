@@ -15,10 +15,10 @@ use Rattle.paper.specs.declared.Day.{Day}
 use Rattle.paper.specs.declared.Quote.{Quote}
 use Rattle.paper.specs.declared.Answer.{Answer}
 use Rattle.paper.specs.declared.Verdict.{Verdict}
-use Rattle.paper.specs.declared.Verdict.the-variants.{Done, NoSuchId, AlreadyAdmitted, NoEmptySlot, AdmissionOutOfRange, DayNotAfter, OutOfRange, PriceOutOfRange, MoveTooLarge, BandCrossed, NotLive, NotMonitored, MovesUsedUp, SecondEarlier, NotAscending, BadLine, RowCrossed, NoFaceValue, NoEveningMove, OpenedTwice}
+use Rattle.paper.specs.declared.Verdict.the-variants.{Done, NoSuchId, AlreadyAdmitted, NoEmptySlot, AdmissionOutOfRange, DayNotAfter, OutOfRange, PriceOutOfRange, MoveTooLarge, BandCrossed, NotLive, NotMonitored, MovesUsedUp, SecondEarlier, NotAscending, BadLine, RowCrossed, NoFaceValue, NoEveningMove, OpenedTwice, BadFloat}
 use Rattle.paper.specs.Lists.{pick, every}
 use Rattle.paper.specs.Verdicts.{numberOf, isDone, Naming, Check, firstNamed, firstOf, FirstAt, here, later, NoneApplies, none, also}
-use Rattle.paper_desk.specs.Desk.{Call, admit, evaluate, quote, move, read, openEvening, admitChecks, evaluateChecks, quoteChecks, moveChecks, readChecks, openChecks, checksOf, Outcome, saying, showing, alerting, alertsOn, judged, acceptedOf, step}
+use Rattle.paper_desk.specs.Desk.{Call, admit, evaluate, quote, move, read, openEvening, receive, admitChecks, evaluateChecks, quoteChecks, moveChecks, readChecks, openChecks, receiveChecks, checksOf, Outcome, saying, showing, alerting, alertsOn, judged, acceptedOf, step}
 use Rattle.paper.proofs.Logic.{clash, and-left, and-right, pick-true, pick-false}
 
 -- ---- the first check that applies
@@ -45,6 +45,7 @@ done-is RowCrossed e = absurd (clash false e refl)
 done-is NoFaceValue e = absurd (clash false e refl)
 done-is NoEveningMove e = absurd (clash false e refl)
 done-is OpenedTwice e = absurd (clash false e refl)
+done-is BadFloat e = absurd (clash false e refl)
 
 -- what is named is what the first that applies names; or none applies, and it is what stands otherwise
 pub named-is : {A : Type 0} (otherwise : A) (cs : List (Naming A)) (v : A) → firstNamed otherwise cs ≡ v
@@ -103,13 +104,15 @@ none-done cs n = none-named Done cs n
 -- ---- each call
 
 all-refusals : (c : Call) (t : List Record) → refusals (checksOf c t) ≡ true
-unfolding checksOf admitChecks evaluateChecks quoteChecks moveChecks readChecks openChecks refusals every isDone
+unfolding checksOf admitChecks evaluateChecks quoteChecks moveChecks readChecks openChecks receiveChecks refusals every
+    isDone
 all-refusals (admit a) t = refl
 all-refusals (evaluate id d rows) t = refl
 all-refusals (quote id q) t = refl
 all-refusals (move id side) t = refl
 all-refusals (read id) t = refl
 all-refusals (openEvening id) t = refl
+all-refusals (receive id x) t = refl
 
 accepted-done : (c : Call) (t : List Record) → acceptedOf c t .answer .verdict ≡ Done
 unfolding acceptedOf saying showing alertsOn alerting
@@ -119,6 +122,7 @@ accepted-done (quote id q) t = refl
 accepted-done (move id side) t = refl
 accepted-done (read id) t = refl
 accepted-done (openEvening id) t = refl
+accepted-done (receive id x) t = refl
 
 -- what is answered carries the first number that applies
 pub verdict-first : (c : Call) (t : List Record) → step c t .answer .verdict ≡ firstOf (checksOf c t)

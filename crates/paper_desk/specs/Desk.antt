@@ -12,6 +12,7 @@ use Rattle.paper.specs.declared.Standing.{Standing}
 use Rattle.paper.specs.declared.Standing.the-variants.{Admitted, Live}
 use Rattle.paper.specs.declared.Session.{Session}
 use Rattle.paper.specs.declared.Session.the-variants.{Main, Evening}
+use Rattle.paper.specs.declared.External.{External}
 use Rattle.paper.specs.declared.Side.{Side}
 use Rattle.paper.specs.declared.Side.the-variants.{Upper, Lower}
 use Rattle.paper.specs.declared.Moves.{Moves}
@@ -24,11 +25,12 @@ use Rattle.paper.specs.declared.Day.{Day}
 use Rattle.paper.specs.declared.Quote.{Quote}
 use Rattle.paper.specs.declared.Answer.{Answer}
 use Rattle.paper.specs.declared.Verdict.{Verdict}
-use Rattle.paper.specs.declared.Verdict.the-variants.{Done, NoSuchId, AlreadyAdmitted, NoEmptySlot, AdmissionOutOfRange, DayNotAfter, OutOfRange, PriceOutOfRange, MoveTooLarge, BandCrossed, NotLive, NotMonitored, MovesUsedUp, SecondEarlier, RowCrossed, NoEveningMove, OpenedTwice}
+use Rattle.paper.specs.declared.Verdict.the-variants.{Done, NoSuchId, AlreadyAdmitted, NoEmptySlot, AdmissionOutOfRange, DayNotAfter, OutOfRange, PriceOutOfRange, MoveTooLarge, BandCrossed, NotLive, NotMonitored, MovesUsedUp, SecondEarlier, RowCrossed, NoEveningMove, OpenedTwice, BadFloat}
 use Rattle.paper.specs.Lists.{pick, three, forLevels, allThree, every}
 use Rattle.paper.specs.Numbers.{movesMost}
-use Rattle.paper.specs.Ranges.{gridOf, staticsOf, validAdmission, validDay, validQuote, validSide, sideOf, isLive, lastDay, sound, validSlots, noRate, noLimits, notNear, noTerm, termAt, rateAt}
-use Rattle.paper_desk.specs.Evaluation.{dayRows, evaluationOf, hasCrossedRow, evaluationFits}
+use Rattle.paper.specs.Ranges.{gridOf, staticsOf, validAdmission, validDay, validQuote, validSide, sideOf, isLive, lastDay, sound, validSlots, noRate, noLimits, notNear, noTerm, termAt, rateAt, noExternal}
+use Rattle.paper_desk.specs.Evaluation.{dayRows, evaluationOf, hasCrossedRow, evaluationFits, usedPair}
+use Rattle.paper_desk.specs.External.{Told, isBad, keptAfter}
 use Rattle.paper.specs.declared.Figures.{Figures}
 use Rattle.paper_desk.specs.Rates.{moveOf, minimumOf, figuresOf, moveTooLarge}
 use Rattle.paper_desk.specs.Limits.{rangeOf, bandOf, crossed, deltaOf, oneMore, countOf, rangeMoved, bandMoved}
@@ -69,6 +71,7 @@ noStatics =
       uevening = 0;
       autochange = false;
       eveningmax = 0;
+      useexternal = false;
     }
 
 -- "all figures 0 (flags no, nothing near, admitted only)", in the main session
@@ -90,6 +93,7 @@ blank =
       near = three (λ k. notNear);
       second = 0;
       session = Main;
+      external = noExternal;
     }
 
 -- "A refusal returns its number with all figures 0"; "an admission the number 0 alone"
@@ -97,7 +101,7 @@ unfoldable pub saying : Verdict → Answer
 saying v = record { verdict = v; rec = blank; top = false; bottom = false }
 
 -- "Accepted evaluations, moves and reads return the record as it then stands"; W-210: "An accepted opening returns the
--- record."
+-- record", and so does each receipt of outside prices (W-211)
 unfoldable pub showing : Record → Answer
 showing r = record { verdict = Done; rec = r; top = false; bottom = false }
 
@@ -127,11 +131,16 @@ admitted a =
       near = three (λ k. notNear);
       second = 0;
       session = Main;
+      external = noExternal;
     }
 
--- the evaluation P of a day, the move r to it, and the figures of 7.1
+-- the outside prices that count in an evaluation (W-211); the evaluation P of a day, the move r to it, and the figures
+-- of 7.1
+unfoldable pub usedBy : Record → External
+usedBy r = usedPair (r .statics) (r .external)
+
 unfoldable pub priceOn : Record → (rows : List ℤ) → ℕ
-priceOn r rows = evaluationOf (gridOf (r .statics .lot)) (r .p1 .units) (dayRows rows)
+priceOn r rows = evaluationOf (gridOf (r .statics .lot)) (r .p1 .units) (usedBy r) (dayRows rows)
 
 unfoldable pub moveOn : Record → (rows : List ℤ) → ℕ
 moveOn r rows = moveOf (priceOn r rows) (r .p1 .units) (r .p2 .units)
@@ -162,6 +171,7 @@ evaluated r d rows =
       near = three (λ k. notNear);
       second = 0;
       session = Main;
+      external = r .external;
     }
 
 -- "One quote touches one term only."
@@ -192,6 +202,7 @@ quoted r q =
       near = set (r .near) (q .term) (nearOn r q);
       second = q .second;
       session = r .session;
+      external = r .external;
     }
 
 -- "The answer has two yes/no alerts, one for the top and one for the bottom"; W-210: in the evening by "its own seconds
@@ -225,6 +236,7 @@ moved r side =
       near = three (λ k. nearCleared side (getD (r .near) k notNear));
       second = r .second;
       session = sessionMoved (r .session);
+      external = r .external;
     }
 
 -- W-210: "Opening the evening clears the near seconds and keeps c"; "The evening keeps the main session's limits
@@ -247,6 +259,29 @@ eveningOpened r =
       near = three (λ k. notNear);
       second = r .second;
       session = Evening 0;
+      external = r .external;
+    }
+
+-- W-211: what is received changes the kept pair alone
+unfoldable pub received : Record → Told → Record
+received r x =
+    record {
+      id = r .id;
+      statics = r .statics;
+      standing = r .standing;
+      p1 = r .p1;
+      p2 = r .p2;
+      s = r .s;
+      tentative = r .tentative;
+      rates = r .rates;
+      ranges = r .ranges;
+      terms = r .terms;
+      bands = r .bands;
+      moves = r .moves;
+      near = r .near;
+      second = r .second;
+      session = r .session;
+      external = keptAfter (r .external) x;
     }
 
 -- ---- the table
@@ -276,6 +311,7 @@ pub data Call : Type 0 where
   move : (id : ℕ) → (side : ℕ) → Call
   read : (id : ℕ) → Call
   openEvening : (id : ℕ) → Call
+  receive : (id : ℕ) → Told → Call
 
 -- the id that a call is about
 abbrev pub idOf : Call → ℕ
@@ -285,6 +321,7 @@ idOf (quote id q) = id
 idOf (move id side) = id
 idOf (read id) = id
 idOf (openEvening id) = id
+idOf (receive id x) = id
 
 -- "admit 4, 2, 3"
 unfoldable pub admitChecks : List Record → Admission → List Check
@@ -304,7 +341,7 @@ evaluateChecks there r d rows =
     ∷ record {
       verdict = PriceOutOfRange;
       applies =
-          not (evaluationFits (gridOf (r .statics .lot)) (r .p1 .units) (dayRows rows));
+          not (evaluationFits (gridOf (r .statics .lot)) (r .p1 .units) (usedBy r) (dayRows rows));
     }
     ∷ record { verdict = MoveTooLarge; applies = moveTooLarge (r .statics) (moveOn r rows) }
     ∷ record {
@@ -347,6 +384,11 @@ openChecks there r =
     ∷ record { verdict = OpenedTwice; applies = isEvening (r .session) }
     ∷ []
 
+-- W-211: "20 .. on receipt, after 1"
+unfoldable pub receiveChecks : (there : Bool) → Told → List Check
+receiveChecks there x =
+    record { verdict = NoSuchId; applies = not there } ∷ record { verdict = BadFloat; applies = isBad x } ∷ []
+
 unfoldable pub checksOf : Call → List Record → List Check
 checksOf (admit a) t = admitChecks t a
 checksOf (evaluate id d rows) t = evaluateChecks (known t id) (found t id) d rows
@@ -354,6 +396,7 @@ checksOf (quote id q) t = quoteChecks (known t id) (found t id) q
 checksOf (move id side) t = moveChecks (known t id) (found t id) side
 checksOf (read id) t = readChecks (known t id)
 checksOf (openEvening id) t = openChecks (known t id) (found t id)
+checksOf (receive id x) t = receiveChecks (known t id) x
 
 -- ---- what a call answers, and the table after it
 
@@ -388,6 +431,12 @@ acceptedOf (openEvening id) t =
       answer = showing (eveningOpened (found t id));
       table =
           set t (place t id) (eveningOpened (found t id));
+    }
+acceptedOf (receive id x) t =
+    record {
+      answer = showing (received (found t id) x);
+      table =
+          set t (place t id) (received (found t id) x);
     }
 
 -- one call

@@ -4,12 +4,14 @@ use mathlib.Core.List.{List, [], _∷_, map}
 use Prim.Native.Nat.{ℕ, zero, suc, _+_, _*_, min, max}
 use lib.Dec.{leb, ltb, eqb}
 use lib.IntN.{ℤ}
+use Rattle.paper.specs.declared.Statics.{Statics}
+use Rattle.paper.specs.declared.External.{External}
 use Rattle.paper.specs.declared.Row.{Row}
 use Rattle.paper.specs.declared.Roubles.{Roubles}
-use Rattle.paper.specs.Lists.{every, some, those}
+use Rattle.paper.specs.Lists.{pick, every, some, those}
 use Rattle.paper.specs.Numbers.{rouble, yearInDayBp, volumeMost}
 use Rattle.paper.specs.Roundings.{halfUp, toGrid, grown}
-use Rattle.paper.specs.Ranges.{isPrice, rowsOf, rowOf}
+use Rattle.paper.specs.Ranges.{isPrice, rowsOf, rowOf, noExternal}
 
 -- (a) "Each present row price is price·Rc/10^4 · 3,650,000/(3,650,000 + T·rate), rounded once, half up, to a unit." A
 -- missing price, 0, stays 0
@@ -65,6 +67,17 @@ unfoldable pub bestAsk : List Roubles → ℕ
 bestAsk [] = 0
 bestAsk (r ∷ rs) = lesserAsk (r .ask) (bestAsk rs)
 
+-- W-211: "With UseEXTERNAL yes, BID is the greater of the book's and the outside one, ASK the lesser (6.1); a missing
+-- side leaves the book's." The pair that counts is none with no
+unfoldable pub usedPair : Statics → External → External
+usedPair st kept = pick (st .useexternal) kept noExternal
+
+unfoldable pub bidOf : (used : External) → List Roubles → ℕ
+bidOf used rs = max (bestBid rs) (used .bid)
+
+unfoldable pub askOf : (used : External) → List Roubles → ℕ
+askOf used rs = lesserAsk (bestAsk rs) (used .ask)
+
 unfoldable pub median : (a b c : ℕ) → ℕ
 median a b c = max (min a b) (min (max a b) c)
 
@@ -77,10 +90,10 @@ between (suc bid) close zero = max close (suc bid)
 between (suc bid) close (suc ask) = median (suc bid) close (suc ask)
 
 -- (d) "The evaluation, half up to the grid"
-unfoldable pub evaluationOf : (g previous : ℕ) → List Row → ℕ
-evaluationOf g previous rows =
+unfoldable pub evaluationOf : (g previous : ℕ) → (used : External) → List Row → ℕ
+evaluationOf g previous used rows =
     let rs : List Roubles = map roublesOf rows in
-    toGrid g (between (bestBid rs) (closeOf previous rs) (bestAsk rs)) 1
+    toGrid g (between (bidOf used rs) (closeOf previous rs) (askOf used rs)) 1
 
 -- the day's rows, taken from the numbers lent
 unfoldable pub dayRows : (numbers : List ℤ) → List Row
@@ -109,5 +122,5 @@ rowFits row =
     && priceFits (row .ask) (rowPrice row (row .ask))
     && leb (rowWeight row) volumeMost
 
-unfoldable pub evaluationFits : (g previous : ℕ) → List Row → Bool
-evaluationFits g previous rows = every rowFits rows && isPrice (evaluationOf g previous rows)
+unfoldable pub evaluationFits : (g previous : ℕ) → (used : External) → List Row → Bool
+evaluationFits g previous used rows = every rowFits rows && isPrice (evaluationOf g previous used rows)

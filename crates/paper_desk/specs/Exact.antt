@@ -10,7 +10,7 @@ use Rattle.paper.specs.Numbers.{oneInTenThousandths, oneInMillionths, millionth
 use Rattle.paper.specs.Roundings.{Quotient, greaterOf, apart}
 use Rattle.paper.specs.Ranges.{staticsOf, rateAt}
 use Rattle.paper_desk.specs.Rates.{modelOf, moveOf, weightOf, replacementWins}
-use Rattle.paper_desk.specs.History.{Event, evaluatedOn, quotedAt, movedBy, opening}
+use Rattle.paper_desk.specs.History.{Event, evaluatedOn, quotedAt, movedBy, opening, receipt}
 use Rattle.paper_desk.specs.Sequences.{Carries, carries}
 
 -- which figure the carried volatility chose: the mean by a weight, or the replacement
@@ -41,7 +41,8 @@ unfoldable pub choiceOf : Model → (b r last s : ℕ) → Choice
 choiceOf m b r last s = pick (replacementWins m b r last s) replaced (byWeight (weightOf m b r s))
 
 -- the exact square in square millionths: from the s of the admission, by the move of each accepted evaluation as it is,
--- not rounded, and by the choice that the carried figure made in it. Quotes, moves and openings carry nothing on
+-- not rounded, and by the choice that the carried figure made in it. Quotes, moves, openings and receipts carry
+-- nothing on
 unfoldable pub exactSquare : Admission → List Event → Quotient
 exactSquare a [] = record { num = a .s * a .s; den = 1 }
 exactSquare a (evaluatedOn d rows ∷ es) =
@@ -53,6 +54,7 @@ exactSquare a (evaluatedOn d rows ∷ es) =
 exactSquare a (quotedAt q ∷ es) = exactSquare a es
 exactSquare a (movedBy side ∷ es) = exactSquare a es
 exactSquare a (opening ∷ es) = exactSquare a es
+exactSquare a (receipt x ∷ es) = exactSquare a es
 
 -- ---- the promise
 

@@ -16,8 +16,8 @@ use Rattle.paper_desk.specs.Rates.{levelRate, minimumOf}
 use Rattle.paper_desk.specs.Limits.{rangeLimit, bandLimit}
 use Rattle.paper.specs.Verdicts.{numberOf, isDone, Check, firstOf}
 
--- the statics as the gateway hands them over: 25 signed numbers, by the names of document 01's table and of
--- W-210
+-- the statics as the gateway hands them over: 26 signed numbers, by the names of document 01's table, of W-210 and of
+-- W-211
 pub record GatewayStatics : Type 0 where
   pub lot : ℤ
   pub h : ℤ
@@ -44,6 +44,7 @@ pub record GatewayStatics : Type 0 where
   pub uevening : ℤ
   pub autochange : ℤ
   pub eveningmax : ℤ
+  pub useexternal : ℤ
 
 unfoldable pub givenOf : GatewayStatics → GivenStatics
 givenOf x =
@@ -73,6 +74,7 @@ givenOf x =
       uevening = unsigned (x .uevening);
       autochange = unsigned (x .autochange);
       eveningmax = unsigned (x .eveningmax);
+      useexternal = unsigned (x .useexternal);
     }
 
 -- "gateway 4 (a static out of range), 6 (another value out of range or off the grid)"

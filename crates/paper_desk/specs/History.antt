@@ -14,7 +14,8 @@ use Rattle.paper.specs.declared.Quote.{Quote}
 use Rattle.paper.specs.Lists.{pick}
 use Rattle.paper.specs.Ranges.{validSlots, sideOf}
 use Rattle.paper.specs.Verdicts.{isDone}
-use Rattle.paper_desk.specs.Desk.{Call, admit, evaluate, quote, move, read, openEvening, idOf, step, fresh}
+use Rattle.paper_desk.specs.External.{Told}
+use Rattle.paper_desk.specs.Desk.{Call, admit, evaluate, quote, move, read, openEvening, receive, idOf, step, fresh}
 
 -- "1 to 512 slots" and "A fresh table has every slot empty."
 pub record FreshTable (t : List Record) : Type 0 where
@@ -23,13 +24,14 @@ pub record FreshTable (t : List Record) : Type 0 where
 
 -- ---- the history of a security, from the calls and their numbers alone
 
--- an accepted call that writes: an evaluation with its day and rows, a quote, a move of a side, or the opening of the
--- evening
+-- an accepted call that writes: an evaluation with its day and rows, a quote, a move of a side, the opening of the
+-- evening, or a receipt of outside prices
 pub data Event : Type 0 where
   evaluatedOn : Day → List ℤ → Event
   quotedAt : Quote → Event
   movedBy : Side → Event
   opening : Event
+  receipt : Told → Event
 
 -- not admitted, or admitted so, with its accepted calls, the latest first
 pub data History : Type 0 where
@@ -52,6 +54,7 @@ noted id (quote i q) t h = pick (counts id (quote i q) t) (longer h (quotedAt q)
 noted id (move i side) t h = pick (counts id (move i side) t) (longer h (movedBy (sideOf side))) h
 noted id (read i) t h = h
 noted id (openEvening i) t h = pick (counts id (openEvening i) t) (longer h opening) h
+noted id (receive i x) t h = pick (counts id (receive i x) t) (longer h (receipt x)) h
 
 -- the history of one id after a sequence of calls more
 unfoldable pub history : (id : ℕ) → List Call → List Record → History → History
@@ -73,6 +76,7 @@ isAdmission (quote i q) = false
 isAdmission (move i side) = false
 isAdmission (read i) = false
 isAdmission (openEvening i) = false
+isAdmission (receive i x) = false
 
 -- the number of accepted evaluations
 unfoldable pub evaluations : List Event → ℕ
@@ -81,3 +85,4 @@ evaluations (evaluatedOn d rows ∷ es) = suc (evaluations es)
 evaluations (quotedAt q ∷ es) = evaluations es
 evaluations (movedBy side ∷ es) = evaluations es
 evaluations (opening ∷ es) = evaluations es
+evaluations (receipt x ∷ es) = evaluations es

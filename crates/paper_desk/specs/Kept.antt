@@ -10,7 +10,7 @@ use Rattle.paper.specs.declared.Record.{Record}
 use Rattle.paper.specs.Lists.{allThree, every}
 use Rattle.paper.specs.Numbers.{priceMost}
 use Rattle.paper.specs.Ranges.{sound, noLimits}
-use Rattle.paper_desk.specs.Desk.{Call, admit, evaluate, quote, move, read, openEvening, place, stands, found}
+use Rattle.paper_desk.specs.Desk.{Call, admit, evaluate, quote, move, read, openEvening, receive, place, stands, found}
 
 -- the most that a fresh limit can be: P·(1 + rate) at the greatest price and the greatest rate, 2·10^10
 abbrev pub freshMost : ℕ
@@ -43,6 +43,7 @@ writtenAt (quote id q) t = place t id
 writtenAt (move id side) t = place t id
 writtenAt (read id) t = place t id
 writtenAt (openEvening id) t = place t id
+writtenAt (receive id x) t = place t id
 
 -- every other id: it stands where it stood, with the record that it had
 abbrev pub Stays : (id : ℕ) → List Record → List Record → Type 0

@@ -1,4 +1,5 @@
 pub mod Evaluation
+pub mod External
 pub mod Rates
 pub mod Limits
 pub mod Alerts
@@ -17,6 +18,7 @@ pub mod PinnedOrders
 pub mod PinnedSession
 pub mod PinnedEvening
 pub mod PinnedEvaluation
+pub mod PinnedExternal
 pub mod PinnedReplacement
 pub mod PinnedExact
 pub mod PinnedGateway

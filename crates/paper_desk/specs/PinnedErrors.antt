@@ -8,7 +8,7 @@ use lib.IntN.{ℤ, pos}
 use lib.ListN.{getD}
 use Rattle.paper.specs.declared.Side.the-variants.{Upper}
 use Rattle.paper.specs.declared.Record.{Record}
-use Rattle.paper.specs.Ranges.{staticsOf}
+use Rattle.paper.specs.Ranges.{staticsOf, noExternal}
 use Rattle.paper_desk.specs.Evaluation.{evaluationOf, dayRows}
 use Rattle.paper_desk.specs.Limits.{bandLimit}
 use Rattle.paper_desk.specs.Desk.{blank, Call, admit, quote, place, run}
@@ -50,7 +50,9 @@ straddles =
     -- "Where an id stands in several slots the first alone counts"
     ∷ (place (blank ∷ recordFrom zRecord ∷ recordFrom zRecord ∷ []) 7 ∷ [])
     -- "the median of BID, close, ASK", where BID is above ASK: the close between them, and below both
-    ∷ (evaluationOf 10 1000000 (dayRows (rows11 1005000)) ∷ evaluationOf 10 1000000 (dayRows (rows11 990000)) ∷ [])
+    ∷ (evaluationOf 10 1000000 noExternal (dayRows (rows11 1005000))
+    ∷ evaluationOf 10 1000000 noExternal (dayRows (rows11 990000))
+    ∷ [])
     ∷ []
 
 pub straddled : straddles

@@ -13,7 +13,7 @@ use Rattle.paper.specs.declared.Side.{Side}
 use Rattle.paper.specs.declared.Side.the-variants.{Upper, Lower}
 use Rattle.paper.specs.declared.Row.{Row}
 use Rattle.paper.specs.declared.Record.{Record}
-use Rattle.paper.specs.Ranges.{staticsOf, noLimits}
+use Rattle.paper.specs.Ranges.{staticsOf, noLimits, noExternal}
 use Rattle.paper_desk.specs.Evaluation.{rowPrice, rowWeight, evaluationOf, dayRows}
 use Rattle.paper_desk.specs.Rates.{modelOf, moveOf, weightOf, replaces, volatilityOf, tentativeRate, tentativeAfter, levelRate}
 use Rattle.paper_desk.specs.Limits.{rangeLimit, bandLimit, deltaOf}
@@ -26,10 +26,10 @@ use Rattle.paper_desk.specs.PinnedSequence.{numbers}
 -- the evaluation to a unit after 700, of rows of seven numbers
 evaluationAt : (rows : List ℤ) → ℕ
 unfolding numbers
-evaluationAt rows = evaluationOf 1 700 (dayRows rows)
+evaluationAt rows = evaluationOf 1 700 noExternal (dayRows rows)
 
 -- a row in roubles today
-row : (close bid ask volume : ℕ) → List ℤ
+unfoldable pub row : (close bid ask volume : ℕ) → List ℤ
 row close bid ask volume = pos 0 ∷ pos 10000 ∷ pos 0 ∷ pos close ∷ pos bid ∷ pos ask ∷ pos volume ∷ []
 
 -- a row with a price of a currency at a central rate, T and a repo rate
@@ -72,7 +72,7 @@ evaluations =
     -- "Both present: the median of BID, close, ASK": the close between, below and above
     ∷ (evaluationAt (row 10 9 11 1) ∷ evaluationAt (row 10 11 12 1) ∷ evaluationAt (row 10 8 9 1) ∷ [])
     -- (d) "The evaluation, half up to the grid": the grid 10, a half and less
-    ∷ (evaluationOf 10 1005 [] ∷ evaluationOf 10 1004 [] ∷ [])
+    ∷ (evaluationOf 10 1005 noExternal [] ∷ evaluationOf 10 1004 noExternal [] ∷ [])
     ∷ []
 
 pub evaluations-are : evaluations

@@ -9,7 +9,7 @@ use Rattle.paper.specs.declared.Side.the-variants.{Upper}
 use Rattle.paper.specs.declared.Admission.{Admission}
 use Rattle.paper.specs.Roundings.{Quotient}
 use Rattle.paper_desk.specs.History.{Event, evaluatedOn, quotedAt, movedBy}
-use Rattle.paper_desk.specs.Sequences.{carries, carriesFirst, carriesNext}
+use Rattle.paper_desk.specs.Sequences.{carries, carriesFirst, carriesNext, externalNow}
 use Rattle.paper_desk.specs.Exact.{exactMove, nextSquare, choiceOf, exactSquare}
 use Rattle.paper.specs.PinnedValues.{_but_, hAt, liqAt, minimaAt, p1At, sAt, tentativeAt, admissionFrom, dayFrom, quoteFrom, closedAt, zNumbers}
 use Rattle.paper_desk.specs.PinnedSequence.{numbers}
@@ -60,8 +60,8 @@ unfolding replacedDay
 dayAfter = closing 5 0 3000400 ∷ replacedDay
 
 pub exact-squares : List (List ℕ)
-unfolding numbers security oneDay twoDays threeDays dayAtLine replacedDay dayAfter partsOf exactMove nextSquare choiceOf
-    exactSquare carries carriesFirst carriesNext
+unfolding numbers security oneDay twoDays threeDays dayAtLine replacedDay dayAfter partsOf exactMove nextSquare
+    choiceOf exactSquare carries carriesFirst carriesNext externalNow
 exact-squares =
     -- the move as it is, up and down; by P2 and by P1: in thirds of a millionth
     partsOf 3 (exactMove 3000010 3000000 3000000)

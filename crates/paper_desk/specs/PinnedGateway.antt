@@ -41,6 +41,7 @@ gatewayStaticsFrom xs =
       uevening = signed xs 22;
       autochange = signed xs 23;
       eveningmax = signed xs 24;
+      useexternal = signed xs 25;
     }
 
 -- each static is the number in its own place, whatever the numbers are

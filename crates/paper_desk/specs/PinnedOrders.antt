@@ -4,13 +4,16 @@
 use mathlib.Core.Path.{_≡_, refl}
 use mathlib.Core.List.{List, [], _∷_, _++_, map}
 use Prim.Native.Nat.{ℕ, zero, suc, _+_}
+use lib.Ieee.{binary64, ofBits}
 use lib.IntN.{ℤ, pos}
+use Rattle.paper.specs.declared.Notice.the-variants.{Ask}
 use Rattle.paper.specs.declared.Record.{Record}
 use Rattle.paper.specs.declared.Limits.{Limits}
 use Rattle.paper.specs.Lists.{those}
 use Rattle.paper_desk.specs.Limits.{crossed}
 use Rattle.paper.specs.Verdicts.{numberOf, Check}
-use Rattle.paper_desk.specs.Desk.{blank, Call, admit, evaluate, quote, move, read, openEvening, checksOf, run}
+use Rattle.paper_desk.specs.External.{notice}
+use Rattle.paper_desk.specs.Desk.{blank, Call, admit, evaluate, quote, move, read, openEvening, receive, checksOf, run}
 use Rattle.paper.specs.PinnedValues.{_but_, minimaAt, p1At, centralAt, rowBidAt, rowAskAt, volumeAt, aupAt, adownAt, liqAt, pchmaxAt, monitoringAt, ewmaAt, idAt, dayAt, sAt, tentativeAt, liveAt, ageAt, upperMovesAt, lowerMovesAt, secondAt, sessionAt, autochangeAt, admissionFrom, recordFrom, dayFrom, quoteFrom, closedAt, zNumbers, zRecord, yesNo}
 use Rattle.paper_desk.specs.PinnedSequence.{numbers}
 
@@ -71,9 +74,14 @@ quoteAt : (second term : ℕ) → Call
 unfolding quoteFrom
 quoteAt second term = quote 7 (quoteFrom (pos second ∷ pos term ∷ []))
 
+-- a notice of the outside ask with these bits
+askOfBits : (bits : ℕ) → Call
+unfolding ofBits
+askOfBits bits = receive 7 (notice (Ask (ofBits binary64 bits)))
+
 -- in each call a line takes away the first number that applies in the line before it
 pub orders : List (List ℕ)
-unfolding judgement calm idle damaged holding crossingDay crossedTooHigh dayFrom quoteAt admissionFrom
+unfolding judgement calm idle damaged holding crossingDay crossedTooHigh dayFrom quoteAt admissionFrom askOfBits
 orders =
     -- "evaluate 1, 6, 5, 7, 8, 9"; W-205: "16, after 6 and before 5"
     judgement (evaluate 7 (dayFrom (crossingDay 3 11)) crossedTooHigh) (holding (damaged calm))
@@ -113,6 +121,10 @@ orders =
     ∷ judgement (openEvening 7) (holding idle)
     ∷ judgement (openEvening 7) (holding (idle but (liveAt, pos 1)))
     ∷ judgement (openEvening 7) (holding (idle but (liveAt, pos 1) but (sessionAt, pos 0)))
+    -- W-211: "20 .. on receipt, after 1": the float of zero, and that of 1/32
+    ∷ judgement (askOfBits 0x0000_0000_0000_0000) (holding (damaged idle))
+    ∷ judgement (askOfBits 0x0000_0000_0000_0000) (holding idle)
+    ∷ judgement (askOfBits 0x3fa0_0000_0000_0000) (holding idle)
     ∷ []
 
 pub orders-are : orders
@@ -146,6 +158,9 @@ pub orders-are : orders
     ∷ (1 ∷ 1 ∷ 10 ∷ 19 ∷ [])
     ∷ (10 ∷ 10 ∷ 19 ∷ [])
     ∷ (19 ∷ 19 ∷ [])
+    ∷ (0 ∷ [])
+    ∷ (1 ∷ 1 ∷ 20 ∷ [])
+    ∷ (20 ∷ 20 ∷ [])
     ∷ (0 ∷ [])
     ∷ []
 unfolding orders

@@ -1,44 +1,49 @@
--- What the calls of a list answer, from a table on; and one list of calls that is answered
--- every number 0 to 13, 16
--- (W-205), 18 and 19 (W-210). So the definitions are not empty.
+-- What the calls of a list answer, from a table on; and one list of calls that is answered every number 0 to 13, 16
+-- (W-205), 18 and 19 (W-210), and 20 (W-211). So the definitions are not empty.
 -- It may use every definition of document 01, and the values of PinnedValues. Assumes nothing.
 use mathlib.Core.Path.{_≡_, refl}
 use mathlib.Core.Bool.{true}
 use mathlib.Core.List.{List, [], _∷_, _++_, map}
 use Prim.Native.Nat.{ℕ, zero, suc, _+_}
+use lib.Ieee.{binary64, isNan, toBits, ofBits}
 use lib.IntN.{ℤ, pos}
 use lib.ListN.{replicate}
+use Rattle.paper.specs.declared.Notice.the-variants.{Bid}
 use Rattle.paper.specs.declared.Record.{Record}
 use Rattle.paper.specs.declared.Answer.{Answer}
 use Rattle.paper.specs.Lists.{every, some, those}
 use Rattle.paper.specs.Roundings.{down, up, halfUp, toGrid, lesserOf, greaterOf, grown, apart}
 use Rattle.paper.specs.Least.{first, least, leastRoot, leastTimes, leastMultiple}
-use Rattle.paper.specs.Ranges.{unsigned, isPrice, isRate, gridOf, isGridPrice, validStatics, staticsOf, validGiven, tentativeTop, validTentative, validAdmission, partsFrom, rowAt, rowsOf, wholeRows, validRow, validRows, rowOf, validTerm, validDay, validQuote, validSide, sideOf, isLive, lastDay, isLimit, validLimits, validNear, validNearSeconds, validSession, sound, validSlots}
-use Rattle.paper_desk.specs.Evaluation.{rowPrice, rowWeight, roublesOf, traded, weights, worth, mean, closeOf, bestBid, lesserAsk, bestAsk, median, between, evaluationOf, dayRows, isCrossedRow, hasCrossedRow, rowFits, evaluationFits}
+use Rattle.paper.specs.Ranges.{unsigned, isPrice, priceMade, isRate, gridOf, isGridPrice, validStatics, staticsOf, validGiven, tentativeTop, validTentative, validAdmission, partsFrom, rowAt, rowsOf, wholeRows, validRow, validRows, rowOf, validTerm, validDay, validQuote, validSide, sideOf, isLive, lastDay, isLimit, validLimits, validNear, validNearSeconds, validSession, validExternal, sound, validSlots}
+use Rattle.paper_floats.specs.Floats.{significand, exactValue, isAboveZero, unitsOf, priceOfBits, priceOf}
+use Rattle.paper_desk.specs.Evaluation.{rowPrice, rowWeight, roublesOf, traded, weights, worth, mean, closeOf, bestBid, lesserAsk, bestAsk, usedPair, bidOf, askOf, median, between, evaluationOf, dayRows, isCrossedRow, hasCrossedRow, rowFits, evaluationFits}
 use Rattle.paper_desk.specs.Rates.{moveFrom, moveOf, weightOf, weighted, replacement, replaces, volatilityOf, leastStep, tentativeRate, tentativeRateByMove, tentativeRateOf, tentativeAfter, meetsRequirement, daysOf, minimumOf, covers, levelRate, modelled, unmodelled, figuresOf, moveTooLarge}
 use Rattle.paper_desk.specs.Limits.{limitOf, shifted, rangeLimit, rangeOf, farthest, spread, monitored, narrower, bandLimit, bandOf, crossed, deltaOf, oneMore, rangeMoved, bandMoved}
 use Rattle.paper_desk.specs.Alerts.{distance, isNear, keptSince, nearAfter, alert, nearCleared}
 use Rattle.paper.specs.Verdicts.{numberOf, isDone, firstOf}
+use Rattle.paper_desk.specs.External.{notice, hasNone, isBad, unitsMade, keptAfter}
 use Rattle.paper_desk.specs.Evening.{isEvening, alertSeconds, moveAllowed, sessionMoved}
-use Rattle.paper_desk.specs.Desk.{blank, saying, showing, alerting, admitted, priceOn, moveOn, figuresOn, evaluated, nearOn, quoted, alertsOn, moved, eveningOpened, place, stands, found, known, Call, admit, evaluate, quote, move, read, openEvening, admitChecks, evaluateChecks, quoteChecks, moveChecks, readChecks, openChecks, checksOf, Outcome, judged, acceptedOf, step, run, fresh}
+use Rattle.paper_desk.specs.Desk.{blank, saying, showing, alerting, admitted, usedBy, priceOn, moveOn, figuresOn, evaluated, nearOn, quoted, alertsOn, moved, eveningOpened, received, place, stands, found, known, Call, admit, evaluate, quote, move, read, openEvening, receive, admitChecks, evaluateChecks, quoteChecks, moveChecks, readChecks, openChecks, receiveChecks, checksOf, Outcome, judged, acceptedOf, step, run, fresh}
 use Rattle.paper.specs.PinnedValues.{_but_, rowBidAt, rowAskAt, pchmaxAt, monitoringAt, ewmaAt, idAt, sAt, aupAt, adownAt, admissionFrom, dayFrom, quoteFrom, closedAt, zNumbers, recordFrom}
 
 -- what the calls of a list answer, each on the table that those before it leave. It opens every definition that a call
 -- computes with, so that a table opens this one alone
 unfoldable pub answers : List Call → List Record → List Answer
-unfolding unsigned isPrice isRate gridOf isGridPrice validStatics staticsOf validGiven validTentative validAdmission
-    partsFrom rowAt rowsOf wholeRows validRow validRows rowOf validTerm validDay validQuote validSide sideOf isLive
-    lastDay isLimit validLimits validNear validNearSeconds validSession sound validSlots rowPrice rowWeight
-    roublesOf traded weights worth mean closeOf bestBid lesserAsk bestAsk median between evaluationOf dayRows
-    isCrossedRow hasCrossedRow rowFits evaluationFits moveFrom moveOf weightOf weighted replacement replaces
-    volatilityOf leastStep tentativeTop tentativeRate tentativeRateByMove tentativeRateOf tentativeAfter
-    meetsRequirement daysOf minimumOf covers levelRate modelled unmodelled figuresOf moveTooLarge limitOf shifted
-    rangeLimit rangeOf farthest spread monitored narrower bandLimit bandOf crossed deltaOf oneMore rangeMoved
-    bandMoved distance isNear keptSince nearAfter alert nearCleared isDone firstOf blank saying showing alerting
-    admitted priceOn moveOn figuresOn evaluated nearOn quoted isEvening alertSeconds moveAllowed sessionMoved
-    alertsOn moved eveningOpened place stands found known admitChecks evaluateChecks quoteChecks moveChecks
-    readChecks openChecks checksOf judged acceptedOf step run every some those up down halfUp toGrid lesserOf
-    greaterOf grown apart first least leastRoot leastTimes leastMultiple
+unfolding unsigned isPrice priceMade isRate gridOf isGridPrice validStatics staticsOf validGiven validTentative
+    validAdmission partsFrom rowAt rowsOf wholeRows validRow validRows rowOf validTerm validDay validQuote validSide
+    sideOf isLive lastDay isLimit validLimits validNear validNearSeconds validSession validExternal sound validSlots
+    rowPrice rowWeight roublesOf traded weights worth mean closeOf bestBid lesserAsk bestAsk usedPair bidOf askOf
+    median between evaluationOf dayRows isCrossedRow hasCrossedRow rowFits evaluationFits moveFrom moveOf weightOf
+    weighted replacement replaces volatilityOf leastStep tentativeTop tentativeRate tentativeRateByMove
+    tentativeRateOf tentativeAfter meetsRequirement daysOf minimumOf covers levelRate modelled unmodelled figuresOf
+    moveTooLarge limitOf shifted rangeLimit rangeOf farthest spread monitored narrower bandLimit bandOf crossed
+    deltaOf oneMore rangeMoved bandMoved distance isNear keptSince nearAfter alert nearCleared isDone firstOf blank
+    saying showing alerting admitted usedBy priceOn moveOn figuresOn evaluated nearOn quoted isNan toBits significand
+    exactValue isAboveZero unitsOf priceOfBits priceOf hasNone isBad unitsMade keptAfter isEvening alertSeconds
+    moveAllowed sessionMoved alertsOn moved eveningOpened received place stands found known admitChecks
+    evaluateChecks quoteChecks moveChecks readChecks openChecks receiveChecks checksOf judged acceptedOf step run
+    every some those up down halfUp toGrid lesserOf greaterOf grown apart first least leastRoot leastTimes
+    leastMultiple
 answers [] t = []
 answers (c ∷ cs) t =
     let o : Outcome = step c t in
@@ -95,13 +100,14 @@ unfoldable pub crossing : List ℤ
 crossing = pos 30 ∷ pos 9999 ∷ pos 9999 ∷ []
 
 unfoldable pub numbered : List Call
-unfolding quiet still crossing dayAt bidAt dayFrom closedAt
+unfolding quiet still crossing dayAt bidAt dayFrom closedAt ofBits
 numbered =
-    -- 1 no such id; 4 id 0; 0 done; 2 already admitted; 10 not live
+    -- 1 no such id; 4 id 0; 0 done; 2 already admitted; 20 an outside bid of zero; 10 not live
     read 7
     ∷ quiet 0
     ∷ quiet 7
     ∷ quiet 7
+    ∷ receive 7 (notice (Bid (ofBits binary64 0)))
     ∷ bidAt 7 100 990000
     -- 5 the last day; 6 volume without a close; 16 a row whose bid is above its ask; 7 an evaluation of 0; 9 bands that
     -- cross; 0 done
@@ -133,7 +139,7 @@ numbered =
     ∷ []))
 
 pub every-number : numbers numbered (slots 3)
-    ≡ 1 ∷ 4 ∷ 0 ∷ 2 ∷ 10 ∷ 5 ∷ 6 ∷ 16 ∷ 7 ∷ 9 ∷ 0 ∷ 0 ∷ 13
+    ≡ 1 ∷ 4 ∷ 0 ∷ 2 ∷ 20 ∷ 10 ∷ 5 ∷ 6 ∷ 16 ∷ 7 ∷ 9 ∷ 0 ∷ 0 ∷ 13
     ∷ (replicate 50 0 ++ (12 ∷ 0 ∷ 19 ∷ 0 ∷ 0 ∷ 18 ∷ 0 ∷ 8 ∷ 0 ∷ 11 ∷ 0 ∷ 3 ∷ []))
 unfolding numbers numbered slots
 every-number = refl

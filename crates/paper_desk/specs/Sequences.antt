@@ -1,5 +1,5 @@
--- The figures of a security from its history: from its admission, its accepted evaluations, and its accepted quotes,
--- moves and openings of the evening since the last of them. Assumes nothing.
+-- The figures of a security from its history: from its admission, its accepted evaluations and receipts of outside
+-- prices, and its accepted quotes, moves and openings of the evening since the last evaluation. Assumes nothing.
 use mathlib.Core.Bool.{Bool, true, false}
 use mathlib.Core.List.{List, [], _∷_}
 use Prim.Native.Nat.{ℕ, _+_, _-_, _*_}
@@ -13,6 +13,7 @@ use Rattle.paper.specs.declared.Standing.{Standing}
 use Rattle.paper.specs.declared.Standing.the-variants.{Admitted, Live}
 use Rattle.paper.specs.declared.Session.{Session}
 use Rattle.paper.specs.declared.Session.the-variants.{Main, Evening}
+use Rattle.paper.specs.declared.External.{External}
 use Rattle.paper.specs.declared.Side.{Side}
 use Rattle.paper.specs.declared.Side.the-variants.{Upper, Lower}
 use Rattle.paper.specs.declared.Moves.{Moves}
@@ -25,14 +26,15 @@ use Rattle.paper.specs.declared.Admission.{Admission}
 use Rattle.paper.specs.declared.Day.{Day}
 use Rattle.paper.specs.declared.Quote.{Quote}
 use Rattle.paper.specs.Lists.{pick, forLevels}
-use Rattle.paper.specs.Ranges.{gridOf, staticsOf, noLimits, noTerm, termAt, rateAt}
-use Rattle.paper_desk.specs.Evaluation.{dayRows, evaluationOf}
+use Rattle.paper.specs.Ranges.{gridOf, staticsOf, noLimits, noTerm, termAt, rateAt, noExternal}
+use Rattle.paper_desk.specs.Evaluation.{dayRows, evaluationOf, usedPair}
+use Rattle.paper_desk.specs.External.{keptAfter}
 use Rattle.paper.specs.declared.Figures.{Figures}
 use Rattle.paper_desk.specs.Rates.{moveOf, minimumOf, figuresOf}
 use Rattle.paper_desk.specs.Limits.{rangeLimit, bandOf, deltaOf}
 use Rattle.paper_desk.specs.Alerts.{isNear}
 use Rattle.paper_desk.specs.Evening.{sessionMoved}
-use Rattle.paper_desk.specs.History.{Event, evaluatedOn, quotedAt, movedBy, opening}
+use Rattle.paper_desk.specs.History.{Event, evaluatedOn, quotedAt, movedBy, opening, receipt}
 
 -- ---- what the evaluations carry on
 
@@ -56,22 +58,37 @@ carriesFirst a =
       rates = forLevels (λ l. record { bp = minimumOf (staticsOf (a .given)) l });
     }
 
--- the evaluation of the day (6.1), and its figures (7.1), from the two earlier evaluations, the last rate S_1, s and
--- tentative
-unfoldable pub carriesNext : Statics → Day → (rows : List ℤ) → Carries → Carries
-carriesNext st d rows x =
-    let p : ℕ = evaluationOf (gridOf (st .lot)) (x .p1) (dayRows rows) in
+-- ---- the outside prices (W-211)
+
+-- the pair that is kept: none at admission; evaluations, quotes, moves and openings leave it
+unfoldable pub externalNow : List Event → External
+externalNow [] = noExternal
+externalNow (evaluatedOn d rows ∷ es) = externalNow es
+externalNow (quotedAt q ∷ es) = externalNow es
+externalNow (movedBy side ∷ es) = externalNow es
+externalNow (opening ∷ es) = externalNow es
+externalNow (receipt x ∷ es) = keptAfter (externalNow es) x
+
+-- ---- the evaluations
+
+-- the evaluation of the day (6.1), with the outside prices that count, and its figures (7.1), from the two earlier
+-- evaluations, the last rate S_1, s and tentative
+unfoldable pub carriesNext : Statics → Day → (rows : List ℤ) → (used : External) → Carries → Carries
+carriesNext st d rows used x =
+    let p : ℕ = evaluationOf (gridOf (st .lot)) (x .p1) used (dayRows rows) in
     let r : ℕ = moveOf p (x .p1) (x .p2) in
     let f : Figures = figuresOf st (d .b) (d .m) (rateAt (x .rates) 0) r (x .s) (x .tentative) in
     record { p1 = p; p2 = x .p1; s = f .s; tentative = f .tentative; rates = f .rates }
 
--- quotes, moves and openings carry nothing on
+-- quotes, moves, openings and receipts carry nothing on
 unfoldable pub carries : Admission → List Event → Carries
 carries a [] = carriesFirst a
-carries a (evaluatedOn d rows ∷ es) = carriesNext (staticsOf (a .given)) d rows (carries a es)
+carries a (evaluatedOn d rows ∷ es) =
+    carriesNext (staticsOf (a .given)) d rows (usedPair (staticsOf (a .given)) (externalNow es)) (carries a es)
 carries a (quotedAt q ∷ es) = carries a es
 carries a (movedBy side ∷ es) = carries a es
 carries a (opening ∷ es) = carries a es
+carries a (receipt x ∷ es) = carries a es
 
 -- ---- the last accepted evaluation, and the accepted moves since it
 
@@ -85,6 +102,7 @@ lastEvaluated (evaluatedOn d rows ∷ es) = onDay d
 lastEvaluated (quotedAt q ∷ es) = lastEvaluated es
 lastEvaluated (movedBy side ∷ es) = lastEvaluated es
 lastEvaluated (opening ∷ es) = lastEvaluated es
+lastEvaluated (receipt x ∷ es) = lastEvaluated es
 
 abbrev pub sameSide : Side → Side → Bool
 sameSide Upper Upper = true
@@ -99,6 +117,7 @@ movesSince side (evaluatedOn d rows ∷ es) = 0
 movesSince side (quotedAt q ∷ es) = movesSince side es
 movesSince side (movedBy x ∷ es) = pick (sameSide x side) (movesSince side es + 1) (movesSince side es)
 movesSince side (opening ∷ es) = movesSince side es
+movesSince side (receipt x ∷ es) = movesSince side es
 
 abbrev pub movesOf : List Event → Moves
 movesOf es = record { lower = movesSince Lower es; upper = movesSince Upper es }
@@ -158,6 +177,7 @@ nearQuotes a side k (quotedAt q ∷ es) =
     pick (eqb (q .term) k) (pick (nearIn a es side q) (q .second ∷ nearQuotes a side k es) []) (nearQuotes a side k es)
 nearQuotes a side k (movedBy x ∷ es) = pick (sameSide x side) [] (nearQuotes a side k es)
 nearQuotes a side k (opening ∷ es) = []
+nearQuotes a side k (receipt x ∷ es) = nearQuotes a side k es
 
 -- "A near side keeps the second at which it became near": that of the first of them
 unfoldable pub firstOfThem : (seconds : List ℕ) → Near
@@ -178,6 +198,7 @@ lastSecond (evaluatedOn d rows ∷ es) = 0
 lastSecond (quotedAt q ∷ es) = q .second
 lastSecond (movedBy x ∷ es) = lastSecond es
 lastSecond (opening ∷ es) = lastSecond es
+lastSecond (receipt x ∷ es) = lastSecond es
 
 -- ---- the session (W-210)
 
@@ -189,3 +210,4 @@ sessionNow (evaluatedOn d rows ∷ es) = Main
 sessionNow (quotedAt q ∷ es) = sessionNow es
 sessionNow (movedBy side ∷ es) = sessionMoved (sessionNow es)
 sessionNow (opening ∷ es) = Evening 0
+sessionNow (receipt x ∷ es) = sessionNow es

@@ -1,5 +1,5 @@
 -- What belongs to one side: its limit, its near second, its repo rate; and the other side. Which calls answer a
--- record. The laws of proofs/PinnedLaws speak of them.
+-- record, and which are receipts of outside prices. The laws of proofs/PinnedLaws speak of them.
 -- It may use the kinds of src/lib.rt, delta and the calls of Desk. Assumes nothing.
 use mathlib.Core.Bool.{Bool, true, false}
 use Prim.Native.Nat.{ℕ}
@@ -14,7 +14,7 @@ use Rattle.paper.specs.declared.Term.{Term}
 use Rattle.paper.specs.declared.Record.{Record}
 use Rattle.paper.specs.Ranges.{rateAt}
 use Rattle.paper_desk.specs.Limits.{deltaOf}
-use Rattle.paper_desk.specs.Desk.{Call, admit, evaluate, quote, move, read, openEvening}
+use Rattle.paper_desk.specs.Desk.{Call, admit, evaluate, quote, move, read, openEvening, receive}
 
 abbrev pub other : Side → Side
 other Upper = Lower
@@ -47,3 +47,14 @@ shows (quote id q) = false
 shows (move id side) = true
 shows (read id) = true
 shows (openEvening id) = true
+shows (receive id x) = true
+
+-- W-211: both prices sent together, or a notice
+abbrev pub isReceipt : Call → Bool
+isReceipt (admit a) = false
+isReceipt (evaluate id d rows) = false
+isReceipt (quote id q) = false
+isReceipt (move id side) = false
+isReceipt (read id) = false
+isReceipt (openEvening id) = false
+isReceipt (receive id x) = true

@@ -8,6 +8,7 @@ use native.Mathlib.Omega.{arith}
 use lib.Dec.{leb, ltb, eqb}
 use borrow.Author.Tests.{eqb-true, ltb-false, leb-false, le-leb, lt-ltb}
 use Rattle.paper.specs.declared.Row.{Row}
+use Rattle.paper.specs.declared.External.{External}
 use Rattle.paper.specs.declared.Roubles.{Roubles}
 use Rattle.paper.specs.declared.Model.{Model}
 use Rattle.paper.specs.declared.Statics.{Statics}
@@ -16,7 +17,7 @@ use Rattle.paper.specs.Lists.{pick}
 use Rattle.paper.specs.Numbers.{ageMost}
 use Rattle.paper.specs.Roundings.{toGrid}
 use Rattle.paper.specs.Ranges.{validStatics}
-use Rattle.paper_desk.specs.Evaluation.{roublesOf, closeOf, bestBid, bestAsk, evaluationOf}
+use Rattle.paper_desk.specs.Evaluation.{roublesOf, closeOf, bidOf, askOf, evaluationOf}
 use Rattle.paper_desk.specs.Rates.{weightOf, weighted, replacement, replacementWins, volatilityOf, tentativeAfter, minimumOf, covers, levelRate}
 use Rattle.paper.proofs.Logic.{clash, and-right, and-both}
 use Rattle.paper_reasons.specs.declared.PriceReason.{PriceReason}
@@ -32,23 +33,24 @@ use Rattle.paper_reasons.proofs.Prices.{price-named}
 use Rattle.paper_reasons.proofs.Levels.{level-named}
 
 -- the figure whose condition holds is the price before the grid
-set-by : (previous : ℕ) (rs : List Roubles) (x : PriceReason) → priceSetBy previous rs x ≡ true
-    → beforeGrid previous rs ≡ priceFigure previous rs x
+set-by : (previous : ℕ) (used : External) (rs : List Roubles) (x : PriceReason) → priceSetBy previous used rs x ≡ true
+    → beforeGrid previous used rs ≡ priceFigure previous used rs x
 unfolding priceSetBy priceFigure
-set-by previous rs price.None e = absurd (clash false e refl)
-set-by previous rs price.Close e = eqb-true _ _ (and-right (isTraded rs) _ e)
-set-by previous rs price.Bid e = eqb-true _ _ (and-right (ltb 0 (bestBid rs)) _ e)
-set-by previous rs price.Ask e = eqb-true _ _ (and-right (ltb 0 (bestAsk rs)) _ e)
-set-by previous rs price.Yesterday e = eqb-true _ _ (and-right (not (isTraded rs)) _ e)
+set-by previous used rs price.None e = absurd (clash false e refl)
+set-by previous used rs price.Close e = eqb-true _ _ (and-right (isTraded rs) _ e)
+set-by previous used rs price.Bid e = eqb-true _ _ (and-right (ltb 0 (bidOf used rs)) _ e)
+set-by previous used rs price.Ask e = eqb-true _ _ (and-right (ltb 0 (askOf used rs)) _ e)
+set-by previous used rs price.Yesterday e = eqb-true _ _ (and-right (not (isTraded rs)) _ e)
 
 -- PRICE CLOSE: the evaluation is the close on the grid; and so for the others
-pub price-is : (g previous : ℕ) (rows : List Row)
+pub price-is : (g previous : ℕ) (used : External) (rows : List Row)
     → let rs : List Roubles = map roublesOf rows in
-    evaluationOf g previous rows ≡ toGrid g (priceFigure previous rs (priceReason previous rs)) 1
+    evaluationOf g previous used rows ≡ toGrid g (priceFigure previous used rs (priceReason previous used rs)) 1
 unfolding evaluationOf
-price-is g previous rows =
+price-is g previous used rows =
     let rs : List Roubles = map roublesOf rows in
-    ap (λ (x : ℕ). toGrid g x 1) (set-by previous rs (priceReason previous rs) (price-named previous rs .condition))
+    ap (λ (x : ℕ). toGrid g x 1)
+    (set-by previous used rs (priceReason previous used rs) (price-named previous used rs .condition))
 
 -- With isEWMA yes:
 module _ (st : Statics) (ewma : st .ewma ≡ true) where

@@ -8,9 +8,10 @@ use Prim.Native.Nat.{ℕ, zero, suc, _≤_, _<_, min, max}
 use native.Mathlib.Omega.{arith}
 use lib.Dec.{ltb, eqb}
 use borrow.Author.Tests.{eqb-true, eq-eqb, lt-ltb}
+use Rattle.paper.specs.declared.External.{External}
 use Rattle.paper.specs.declared.Roubles.{Roubles}
 use Rattle.paper.specs.Lists.{pick, some, those}
-use Rattle.paper_desk.specs.Evaluation.{traded, mean, closeOf, bestBid, bestAsk, median, between}
+use Rattle.paper_desk.specs.Evaluation.{traded, mean, closeOf, bidOf, askOf, median, between}
 use Rattle.paper.specs.Verdicts.{NoneApplies, none, also}
 use Rattle.paper.proofs.Logic.{clash, and-left, and-right, and-both, le-or-lt}
 use Rattle.paper_reasons.specs.declared.PriceReason.{PriceReason}
@@ -67,22 +68,22 @@ between-is-one-of-three (suc bid) close (suc ask) =
     go (inr l) (inr k) (inl j) = inr (inr (omega arith, omega arith))
     go (inr l) (inr k) (inr j) = inl (omega arith)
 
-module _ (previous : ℕ) (rs : List Roubles) where
+module _ (previous : ℕ) (used : External) (rs : List Roubles) where
   -- one of the four conditions holds
-  pub one-set-it : NoneApplies (inOrder (priceSetBy previous rs) priceReasons) → ⊥
+  pub one-set-it : NoneApplies (inOrder (priceSetBy previous used rs) priceReasons) → ⊥
   unfolding priceSetBy
   one-set-it (also a (also b (also c (also d none)))) =
-      go (between-is-one-of-three (bestBid rs) (closeOf previous rs) (bestAsk rs)) (isTraded rs) refl
+      go (between-is-one-of-three (bidOf used rs) (closeOf previous rs) (askOf used rs)) (isTraded rs) refl
     where
-      go : (beforeGrid previous rs ≡ closeOf previous rs)
-          ⊎ (((0 < bestBid rs) × (beforeGrid previous rs ≡ bestBid rs)) ⊎ ((0 < bestAsk rs) × (beforeGrid previous rs
-          ≡ bestAsk rs)))
+      go : (beforeGrid previous used rs ≡ closeOf previous rs)
+          ⊎ (((0 < bidOf used rs) × (beforeGrid previous used rs ≡ bidOf used rs))
+          ⊎ ((0 < askOf used rs) × (beforeGrid previous used rs ≡ askOf used rs)))
           → (t : Bool) → isTraded rs ≡ t → ⊥
       go (inl e) true t = clash _ (and-both _ _ t (eq-eqb _ _ e)) a
       go (inl e) false t = clash _ (and-both _ _ (ap not t) (eq-eqb _ _ (e ∙ close-untraded previous rs t))) d
       go (inr (inl (l, e))) t q = clash _ (and-both _ _ (lt-ltb _ _ l) (eq-eqb _ _ e)) b
       go (inr (inr (l, e))) t q = clash _ (and-both _ _ (lt-ltb _ _ l) (eq-eqb _ _ e)) c
 
-  pub price-named : TrueReason (priceSetBy previous rs) priceReasons (priceReason previous rs)
+  pub price-named : TrueReason (priceSetBy previous used rs) priceReasons (priceReason previous used rs)
   unfolding priceReason
-  price-named = true-reason price.None (priceSetBy previous rs) priceReasons one-set-it
+  price-named = true-reason price.None (priceSetBy previous used rs) priceReasons one-set-it

@@ -3,11 +3,12 @@
 use mathlib.Core.Bool.{Bool}
 use mathlib.Core.List.{List}
 use Prim.Native.Nat.{ℕ, _-_}
+use Rattle.paper.specs.declared.External.{External}
 use Rattle.paper.specs.declared.Roubles.{Roubles}
 use Rattle.paper.specs.declared.Model.{Model}
 use Rattle.paper.specs.declared.Statics.{Statics}
 use Rattle.paper.specs.declared.Tentative.{Tentative}
-use Rattle.paper_desk.specs.Evaluation.{closeOf, bestBid, bestAsk}
+use Rattle.paper_desk.specs.Evaluation.{closeOf, bidOf, askOf}
 use Rattle.paper_desk.specs.Rates.{weighted, replacement, minimumOf}
 use Rattle.paper_reasons.specs.declared.PriceReason.{PriceReason}
 use Rattle.paper_reasons.specs.declared.PriceReason.the-variants as price
@@ -22,12 +23,12 @@ use Rattle.paper_reasons.specs.declared.LevelReason.the-variants as leve
 use Rattle.paper_reasons.specs.Reasons.{requirementStep}
 
 -- the close, BID, ASK, or the previous evaluation
-unfoldable pub priceFigure : (previous : ℕ) → List Roubles → PriceReason → ℕ
-priceFigure previous rs price.None = 0
-priceFigure previous rs price.Close = closeOf previous rs
-priceFigure previous rs price.Bid = bestBid rs
-priceFigure previous rs price.Ask = bestAsk rs
-priceFigure previous rs price.Yesterday = previous
+unfoldable pub priceFigure : (previous : ℕ) → (used : External) → List Roubles → PriceReason → ℕ
+priceFigure previous used rs price.None = 0
+priceFigure previous used rs price.Close = closeOf previous rs
+priceFigure previous used rs price.Bid = bidOf used rs
+priceFigure previous used rs price.Ask = askOf used rs
+priceFigure previous used rs price.Yesterday = previous
 
 -- 0, a_up or a_down
 unfoldable pub weightFigure : Model → WeightReason → ℕ

@@ -8,12 +8,12 @@ use lib.IntN.{ℤ, pos, negsuc}
 use Rattle.paper.specs.Lists.{every, some, those}
 use Rattle.paper.specs.Roundings.{down, up, halfUp, toGrid, lesserOf, greaterOf, grown, apart}
 use Rattle.paper.specs.Least.{first, least, leastRoot, leastTimes, leastMultiple}
-use Rattle.paper.specs.Ranges.{unsigned, isPrice, isRate, gridOf, isGridPrice, validStatics, staticsOf, tentativeTop, validTentative, partsFrom, rowAt, rowsOf, wholeRows, validRow, validRows, rowOf, validTerm, validDay, lastDay, isLimit, validLimits, validNear, validNearSeconds, validSession, sound, validSlots}
-use Rattle.paper_desk.specs.Evaluation.{rowPrice, rowWeight, roublesOf, traded, weights, worth, mean, closeOf, bestBid, lesserAsk, bestAsk, median, between, evaluationOf, dayRows, isCrossedRow, hasCrossedRow, rowFits, evaluationFits}
+use Rattle.paper.specs.Ranges.{unsigned, isPrice, isRate, gridOf, isGridPrice, validStatics, staticsOf, tentativeTop, validTentative, partsFrom, rowAt, rowsOf, wholeRows, validRow, validRows, rowOf, validTerm, validDay, lastDay, isLimit, validLimits, validNear, validNearSeconds, validSession, validExternal, sound, validSlots}
+use Rattle.paper_desk.specs.Evaluation.{rowPrice, rowWeight, roublesOf, traded, weights, worth, mean, closeOf, bestBid, lesserAsk, bestAsk, usedPair, bidOf, askOf, median, between, evaluationOf, dayRows, isCrossedRow, hasCrossedRow, rowFits, evaluationFits}
 use Rattle.paper_desk.specs.Rates.{moveFrom, moveOf, weightOf, weighted, replacement, replaces, volatilityOf, leastStep, tentativeRate, tentativeRateByMove, tentativeRateOf, tentativeAfter, meetsRequirement, daysOf, minimumOf, covers, levelRate, modelled, unmodelled, figuresOf, moveTooLarge}
 use Rattle.paper_desk.specs.Limits.{limitOf, shifted, rangeLimit, rangeOf, farthest, spread, monitored, narrower, bandLimit, bandOf, crossed}
 use Rattle.paper.specs.Verdicts.{numberOf, isDone, firstOf}
-use Rattle.paper_desk.specs.Desk.{blank, priceOn, moveOn, figuresOn, evaluated, place, stands, found, known, evaluateChecks}
+use Rattle.paper_desk.specs.Desk.{blank, usedBy, priceOn, moveOn, figuresOn, evaluated, place, stands, found, known, evaluateChecks}
 use Rattle.paper.specs.PinnedValues.{_but_, minimaAt, aupAt, adownAt, liqAt, pchmaxAt, ewmaAt, p1At, sAt, tentativeAt, ageAt, ratesAt, centralAt, rowBidAt, rowAskAt, volumeAt, givenFrom, standingFrom, nearFrom, sessionFrom, limitsFrom, termFrom, recordFrom, dayFrom, closedAt, zNumbers, zRecord}
 use Rattle.paper_reasons.specs.declared.Why.{Why}
 use Rattle.paper_reasons.specs.Reasons.{isTraded, priceSetBy, priceReason, weightIs, weightReason, replacementWas, replacementReason, tentativeDid, tentativeReason, requirementStep, levelSetBy, levelReason}
@@ -27,17 +27,18 @@ use Rattle.paper_reasons.specs.Words.{priceNumber, weightNumber, replace
 said : (admitted day rows : List ℤ) → List ℕ
 unfolding unsigned isPrice isRate gridOf isGridPrice validStatics staticsOf tentativeTop validTentative partsFrom
     rowAt rowsOf wholeRows validRow validRows rowOf validTerm validDay lastDay isLimit validLimits validNear
-    validNearSeconds validSession sound validSlots rowPrice rowWeight roublesOf traded weights worth mean closeOf
-    bestBid lesserAsk bestAsk median between evaluationOf dayRows isCrossedRow hasCrossedRow rowFits evaluationFits
-    moveFrom moveOf weightOf weighted replacement replaces volatilityOf leastStep tentativeRate tentativeRateByMove
-    tentativeRateOf tentativeAfter meetsRequirement daysOf minimumOf covers levelRate modelled unmodelled figuresOf
-    moveTooLarge limitOf shifted rangeLimit rangeOf farthest spread monitored narrower bandLimit bandOf crossed
-    isDone firstOf blank priceOn moveOn figuresOn evaluated place stands found known evaluateChecks every some those
-    down up halfUp toGrid lesserOf greaterOf grown apart first least leastRoot leastTimes leastMultiple givenFrom
-    standingFrom nearFrom sessionFrom limitsFrom termFrom recordFrom dayFrom isTraded priceSetBy priceReason
-    weightIs weightReason replacementWas replacementReason tentativeDid tentativeReason requirementStep levelSetBy
-    levelReason rowsAtFault outOfRange isSame faultsOf faultOf replacedOn stepOn levelOn reasonsOf whyOf whyOn
-    priceNumber weightNumber replacementNumber tentativeNumber levelNumber faultNumbers
+    validNearSeconds validSession validExternal sound validSlots rowPrice rowWeight roublesOf traded weights worth
+    mean closeOf bestBid lesserAsk bestAsk usedPair bidOf askOf median between evaluationOf dayRows isCrossedRow
+    hasCrossedRow rowFits evaluationFits moveFrom moveOf weightOf weighted replacement replaces volatilityOf leastStep
+    tentativeRate tentativeRateByMove tentativeRateOf tentativeAfter meetsRequirement daysOf minimumOf covers
+    levelRate modelled unmodelled figuresOf moveTooLarge limitOf shifted rangeLimit rangeOf farthest spread monitored
+    narrower bandLimit bandOf crossed isDone firstOf blank usedBy priceOn moveOn figuresOn evaluated place stands
+    found known evaluateChecks every some those down up halfUp toGrid lesserOf greaterOf grown apart first least
+    leastRoot leastTimes leastMultiple givenFrom standingFrom nearFrom sessionFrom limitsFrom termFrom recordFrom
+    dayFrom isTraded priceSetBy priceReason weightIs weightReason replacementWas replacementReason tentativeDid
+    tentativeReason requirementStep levelSetBy levelReason rowsAtFault outOfRange isSame faultsOf faultOf replacedOn
+    stepOn levelOn reasonsOf whyOf whyOn priceNumber weightNumber replacementNumber tentativeNumber levelNumber
+    faultNumbers
 said admitted day rows =
     let y : Why = whyOn (recordFrom admitted ∷ []) 7 (dayFrom day) rows in
     numberOf (y .verdict)

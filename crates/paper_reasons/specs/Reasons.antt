@@ -4,12 +4,13 @@ use mathlib.Core.Bool.{Bool, true, false, not, _&&_}
 use mathlib.Core.List.{List, [], _∷_}
 use Prim.Native.Nat.{ℕ, _+_, _/_}
 use lib.Dec.{leb, ltb, eqb}
+use Rattle.paper.specs.declared.External.{External}
 use Rattle.paper.specs.declared.Roubles.{Roubles}
 use Rattle.paper.specs.declared.Statics.{Statics}
 use Rattle.paper.specs.declared.Tentative.{Tentative}
 use Rattle.paper.specs.Lists.{pick, some}
 use Rattle.paper.specs.Least.{leastMultiple}
-use Rattle.paper_desk.specs.Evaluation.{closeOf, bestBid, bestAsk, between}
+use Rattle.paper_desk.specs.Evaluation.{closeOf, bidOf, askOf, between}
 use Rattle.paper_desk.specs.Rates.{minimumOf, covers}
 use Rattle.paper.specs.Verdicts.{Naming, firstNamed}
 use Rattle.paper_reasons.specs.declared.PriceReason.{PriceReason}
@@ -41,24 +42,25 @@ unfoldable pub isTraded : List Roubles → Bool
 isTraded rs = some (λ (r : Roubles). ltb 0 (r .weight)) rs
 
 -- the price before place (d) rounds it to the grid
-abbrev pub beforeGrid : (previous : ℕ) → List Roubles → ℕ
-beforeGrid previous rs = between (bestBid rs) (closeOf previous rs) (bestAsk rs)
+abbrev pub beforeGrid : (previous : ℕ) → (used : External) → List Roubles → ℕ
+beforeGrid previous used rs = between (bidOf used rs) (closeOf previous rs) (askOf used rs)
 
 -- "which figure set the price": the one that it equals. The close is of the rows with a weight, and yesterday the
--- previous evaluation where there is no such row; BID and ASK are present
-unfoldable pub priceSetBy : (previous : ℕ) → List Roubles → PriceReason → Bool
-priceSetBy previous rs price.None = false
-priceSetBy previous rs price.Close = isTraded rs && eqb (beforeGrid previous rs) (closeOf previous rs)
-priceSetBy previous rs price.Bid = ltb 0 (bestBid rs) && eqb (beforeGrid previous rs) (bestBid rs)
-priceSetBy previous rs price.Ask = ltb 0 (bestAsk rs) && eqb (beforeGrid previous rs) (bestAsk rs)
-priceSetBy previous rs price.Yesterday = not (isTraded rs) && eqb (beforeGrid previous rs) previous
+-- previous evaluation where there is no such row; BID and ASK are present, and formed with the outside prices that count
+-- (W-211)
+unfoldable pub priceSetBy : (previous : ℕ) → (used : External) → List Roubles → PriceReason → Bool
+priceSetBy previous used rs price.None = false
+priceSetBy previous used rs price.Close = isTraded rs && eqb (beforeGrid previous used rs) (closeOf previous rs)
+priceSetBy previous used rs price.Bid = ltb 0 (bidOf used rs) && eqb (beforeGrid previous used rs) (bidOf used rs)
+priceSetBy previous used rs price.Ask = ltb 0 (askOf used rs) && eqb (beforeGrid previous used rs) (askOf used rs)
+priceSetBy previous used rs price.Yesterday = not (isTraded rs) && eqb (beforeGrid previous used rs) previous
 
 -- "(close, bid, ask, or yesterday)"
 abbrev pub priceReasons : List PriceReason
 priceReasons = price.Close ∷ price.Bid ∷ price.Ask ∷ price.Yesterday ∷ []
 
-unfoldable pub priceReason : (previous : ℕ) → List Roubles → PriceReason
-priceReason previous rs = firstThatHolds price.None (priceSetBy previous rs) priceReasons
+unfoldable pub priceReason : (previous : ℕ) → (used : External) → List Roubles → PriceReason
+priceReason previous used rs = firstThatHolds price.None (priceSetBy previous used rs) priceReasons
 
 -- ---- the weight (7.1)
 

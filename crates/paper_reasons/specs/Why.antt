@@ -13,7 +13,7 @@ use Rattle.paper.specs.Ranges.{rateAt}
 use Rattle.paper_desk.specs.Evaluation.{roublesOf, dayRows}
 use Rattle.paper_desk.specs.Rates.{modelOf, replacementWins, tentativeRateOf}
 use Rattle.paper.specs.Verdicts.{isDone, firstOf}
-use Rattle.paper_desk.specs.Desk.{moveOn, figuresOn, found, known, evaluateChecks}
+use Rattle.paper_desk.specs.Desk.{moveOn, figuresOn, found, known, evaluateChecks, usedBy}
 use Rattle.paper_reasons.specs.declared.PriceReason.the-variants as price
 use Rattle.paper_reasons.specs.declared.WeightReason.the-variants as weight
 use Rattle.paper_reasons.specs.declared.ReplacementReason.the-variants as replacement
@@ -56,7 +56,7 @@ levelOn r d rows level place =
 unfoldable pub reasonsOf : Record → Day → (rows : List ℤ) → Reasons
 reasonsOf r d rows =
     record {
-      price = priceReason (r .p1 .units) (map roublesOf (dayRows rows));
+      price = priceReason (r .p1 .units) (usedBy r) (map roublesOf (dayRows rows));
       weight = weightReason (r .statics) (d .b) (moveOn r rows) (r .s);
       replacement = replacementReason (r .statics) (replacedOn r d rows);
       tentative = tentativeReason (r .statics) (stepOn r d rows) (r .tentative);

@@ -16,7 +16,8 @@ use Rattle.paper.specs.declared.Verdict.the-variants.{Done, NoSuchId, AlreadyAd
 use Rattle.paper.specs.Lists.{pick}
 use Rattle.paper.specs.Ranges.{validSlots, validAdmission, sound, sideOf}
 use Rattle.paper.specs.Verdicts.{isDone, Check, firstOf}
-use Rattle.paper_desk.specs.Desk.{blank, saying, showing, admitted, evaluated, quoted, alertsOn, moved, eveningOpened, place, found, Outcome, evaluateChecks, quoteChecks, moveChecks, readChecks, openChecks}
+use Rattle.paper_desk.specs.External.{Told}
+use Rattle.paper_desk.specs.Desk.{blank, saying, showing, admitted, evaluated, quoted, alertsOn, moved, eveningOpened, received, place, found, Outcome, evaluateChecks, quoteChecks, moveChecks, readChecks, openChecks, receiveChecks}
 use Rattle.record_answers.specs.declared.Slot.{Slot}
 use Rattle.record_answers.specs.declared.Effect.{Effect}
 
@@ -70,6 +71,11 @@ unfoldable pub openEffect : Slot → Effect
 openEffect s =
     judgedEffect (s .count) (firstOf (openChecks (isKnown s) (s .rec)))
     (record { at = s .at; rec = eveningOpened (s .rec); answer = showing (eveningOpened (s .rec)) })
+
+unfoldable pub receiveEffect : Slot → Told → Effect
+receiveEffect s x =
+    judgedEffect (s .count) (firstOf (receiveChecks (isKnown s) x))
+    (record { at = s .at; rec = received (s .rec) x; answer = showing (received (s .rec) x) })
 
 unfoldable pub readAnswer : Slot → Answer
 readAnswer s = pick (isDone (firstOf (readChecks (isKnown s)))) (showing (s .rec))

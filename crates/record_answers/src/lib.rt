@@ -4,6 +4,7 @@ ghost use mathlib.Core.Path.{_≡_};
 ghost use Rattle.paper_desk.specs.Desk.{blank, saying, showing};
 ghost use Rattle.record_answers.specs.Effects.{holds, isKnown, refusedEffect};
 use paper::Answer;
+use paper::External;
 use paper::Limits;
 use paper::Moves;
 use paper::Near;
@@ -68,6 +69,7 @@ pub fn blank() -> Record
             uevening: 0,
             autochange: false,
             eveningmax: 0,
+            useexternal: false,
         },
         standing: Standing::Admitted(0),
         p1: price,
@@ -89,6 +91,7 @@ pub fn blank() -> Record
         }; Record::TERMS],
         second: 0,
         session: Session::Main,
+        external: External { bid: 0, ask: 0 },
     }
 }
 
@@ -120,7 +123,7 @@ pub fn saying(v: Verdict) -> Answer
 }
 
 // "Accepted evaluations, moves and reads return the record as it then stands"; W-210: "An accepted opening returns the
-// record."
+// record", and so does each receipt of outside prices (W-211).
 pub fn showing(r: Record) -> Answer
     ensures { λ a. ⌜ a ≡ showing r ⌝ }
 {

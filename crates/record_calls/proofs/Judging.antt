@@ -5,26 +5,31 @@ use mathlib.Core.Bool.{Bool, true, false, not, _&&_}
 use mathlib.Core.List.{List, [], _∷_, _++_}
 use Prim.Native.Nat.{ℕ, _<_}
 use native.Mathlib.Omega.{arith}
-use lib.Dec.{ltb, eqb}
+use lib.Dec.{leb, ltb, eqb}
+use lib.Ieee.{Float, binary64, isNan, toBits}
+use borrow.Author.Tests.{leb-true, ne-eqb}
 use Rattle.paper.specs.declared.Admission.{Admission}
+use Rattle.paper.specs.declared.MadePrice.the-variants.{Made, OutOfRange}
 use Rattle.paper.specs.declared.Quote.{Quote}
 use Rattle.paper.specs.declared.Record.{Record}
 use Rattle.paper.specs.declared.Side.{Side}
 use Rattle.paper.specs.declared.Side.the-variants.{Upper, Lower}
-use Rattle.paper.specs.declared.Verdict.the-variants.{Done, NoSuchId, AlreadyAdmitted, NoEmptySlot, AdmissionOutOfRange, NotLive, MovesUsedUp, SecondEarlier, NoEveningMove, OpenedTwice}
+use Rattle.paper.specs.declared.Verdict.the-variants.{Done, NoSuchId, AlreadyAdmitted, NoEmptySlot, AdmissionOutOfRange, NotLive, MovesUsedUp, SecondEarlier, NoEveningMove, OpenedTwice, BadFloat}
 use Rattle.paper.specs.Lists.{pick, every}
-use Rattle.paper.specs.Numbers.{movesMost}
-use Rattle.paper.specs.Ranges.{validSlots, validAdmission, validQuote, validSide, sideOf, isLive, sound, isPrice, isGridPrice}
+use Rattle.paper.specs.Numbers.{priceLeast, priceMost, movesMost}
+use Rattle.paper.specs.Ranges.{validSlots, validAdmission, validQuote, validSide, sideOf, isLive, sound, isPrice, isGridPrice, priceMade}
+use Rattle.paper_floats.specs.Floats.{exactValue, isFinite, isAboveZero, unitsOf, priceOfBits, priceOf}
+use Rattle.paper_desk.specs.External.{Told, hasNone, isBad, unitsMade}
 use Rattle.paper_desk.specs.Limits.{countOf}
 use Rattle.paper_desk.specs.Evening.{isEvening, moveAllowed}
 use Rattle.paper.specs.Verdicts.{isDone, Check, firstOf, NoneApplies, none, also}
-use Rattle.paper_desk.specs.Desk.{saying, showing, admitted, quoted, alertsOn, moved, eveningOpened, quoteChecks, moveChecks, openChecks}
+use Rattle.paper_desk.specs.Desk.{saying, showing, admitted, quoted, alertsOn, moved, eveningOpened, received, quoteChecks, moveChecks, openChecks, receiveChecks}
 use Rattle.paper.proofs.Logic.{clash, and-right, not-false, pick-false, and-left}
 use Rattle.paper_desk.proofs.Refusals.{refusals, done-none}
 use Rattle.record_soundness.proofs.Facts.{sound-facts}
 use Rattle.record_answers.specs.declared.Slot.{Slot}
 use Rattle.record_answers.specs.declared.Effect.{Effect}
-use Rattle.record_answers.specs.Effects.{holds, isKnown, refusedEffect, judgedEffect, admitChecksOf, admitEffect, quoteEffect, moveEffect, openEffect}
+use Rattle.record_answers.specs.Effects.{holds, isKnown, refusedEffect, judgedEffect, admitChecksOf, admitEffect, quoteEffect, moveEffect, openEffect, receiveEffect}
 use Rattle.record_calls.specs.SharedChecks.{sharedChecks}
 
 -- ---- admit 4, 2, 3
@@ -173,6 +178,44 @@ module _ (s : Slot) where
         → record { at = s .at; rec = eveningOpened (s .rec); answer = showing (eveningOpened (s .rec)) } ≡ openEffect s
     unfolding openEffect openChecks judgedEffect firstOf isDone
     open-accepted live t = rw (known, live, t)
+
+-- ---- a receipt of outside prices: 1, 20
+
+module _ (s : Slot) (x : Told) where
+  pub receipt-unknown : isKnown s ≡ false → refusedEffect (s .count) NoSuchId ≡ receiveEffect s x
+  unfolding receiveEffect receiveChecks judgedEffect firstOf isDone
+  receipt-unknown t = rw t
+
+  pub receipt-bad : isKnown s ≡ true → isBad x ≡ true → refusedEffect (s .count) BadFloat ≡ receiveEffect s x
+  unfolding receiveEffect receiveChecks judgedEffect firstOf isDone
+  receipt-bad known t = rw (known, t)
+
+  pub receipt-accepted : isKnown s ≡ true → isBad x ≡ false
+      → record { at = s .at; rec = received (s .rec) x; answer = showing (received (s .rec) x) } ≡ receiveEffect s x
+  unfolding receiveEffect receiveChecks judgedEffect firstOf isDone
+  receipt-accepted known t = rw (known, t)
+
+-- a float has no price exactly where the units of its price are 0
+pub none-zero : (x : Float) → hasNone (priceOf x) ≡ eqb (unitsMade (priceOf x)) 0
+unfolding priceOf priceOfBits priceMade isPrice hasNone unitsMade
+none-zero x =
+    let bits = toBits binary64 x in
+    by-price (isNan x) (isFinite bits && isAboveZero bits) (unitsOf (exactValue bits))
+  where
+    by-units : (units : ℕ) (t : Bool) → (leb priceLeast units && leb units priceMost) ≡ t
+        → hasNone (pick t (Made (record { units = units })) OutOfRange)
+        ≡ eqb (unitsMade (pick t (Made (record { units = units })) OutOfRange)) 0
+    by-units units true e =
+        let least = leb-true priceLeast units (and-left (leb priceLeast units) (leb units priceMost) e) in
+        sym (ne-eqb units 0 (λ (z : units ≡ 0). omega (arith, least)))
+    by-units units false e = refl
+
+    by-price : (nan above : Bool) (units : ℕ)
+        → hasNone (pick nan OutOfRange (pick above (priceMade units) OutOfRange))
+        ≡ eqb (unitsMade (pick nan OutOfRange (pick above (priceMade units) OutOfRange))) 0
+    by-price true above units = refl
+    by-price false false units = refl
+    by-price false true units = by-units units (leb priceLeast units && leb units priceMost) refl
 
 pub admission-prices : (a : Admission) → validAdmission a ≡ true → (isPrice (a .p1) ≡ true) × (isPrice (a .p2) ≡ true)
 unfolding validAdmission isGridPrice

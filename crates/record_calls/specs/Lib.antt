@@ -1,1 +1,2 @@
 pub mod SharedChecks
+pub mod Receipts

@@ -2,13 +2,19 @@
 // out. Each judges the refusals in the paper's order.
 ghost use mathlib.Core.Path.{_≡_};
 ghost use Rattle.paper.specs.Verdicts.{firstOf};
+ghost use Rattle.paper_floats.specs.Floats.{priceOf};
+ghost use Rattle.paper_desk.specs.External.{Told, unitsMade};
 ghost use Rattle.paper_desk.specs.Desk.{nearOn, alertsOn};
-ghost use Rattle.record_answers.specs.Effects.{isKnown, admitEffect, quoteEffect, moveEffect, openEffect, readAnswer};
+ghost use Rattle.record_answers.specs.Effects.{isKnown, admitEffect, quoteEffect, moveEffect, openEffect, receiveEffect, readAnswer};
 ghost use Rattle.record_calls.specs.SharedChecks.{sharedChecks};
+ghost use Rattle.record_calls.specs.Receipts.{Receives};
 use paper::Admission;
 use paper::Answer;
+use paper::External;
 use paper::MadePrice;
 use paper::NearSeconds;
+use paper::Notice;
+use paper::Outside;
 use paper::Price;
 use paper::Quote;
 use paper::Record;
@@ -165,6 +171,63 @@ pub fn opened(s: Slot) -> Effect
         return record_answers::refused(count, Verdict::OpenedTwice);
     }
     record_answers::written(s.at, record_writing::opened(r))
+}
+
+// ---- a receipt of outside prices (W-211)
+
+// The units of a float's price, and 0 where it has none.
+fn units_of(x: f64) -> u64
+    ensures { λ r. ⌜ r ≡ unitsMade (priceOf x) ⌝ }
+{
+    let made = floats::price_of(x);
+    match made {
+        MadePrice::Made(price) => price.units,
+        MadePrice::OutOfRange => 0,
+    }
+}
+
+// 1, 20 and what is written. `bad` says whether a float that was received has no price, and `kept` is the pair that the
+// record keeps where none is bad.
+fn received_as(s: Slot, bad: bool, kept: External) -> Effect
+    ensures { λ o. ⌜ Receives s «bad» kept o ⌝ }
+{
+    let count = s.count;
+    let r = s.rec;
+    if !record_answers::is_known(s) {
+        return record_answers::refused(count, Verdict::NoSuchId);
+    }
+    if bad {
+        return record_answers::refused(count, Verdict::BadFloat);
+    }
+    record_answers::written(s.at, record_writing::received(r, kept))
+}
+
+// "Both sent together replace the kept pair": one bad float of two refuses both.
+pub fn received(s: Slot, sent: Outside) -> Effect
+    ensures { λ o. ⌜ o ≡ receiveEffect s (Told.together sent) ⌝ }
+{
+    let bid = units_of(sent.bid);
+    let ask = units_of(sent.ask);
+    received_as(s, (bid == 0) | (ask == 0), External { bid, ask })
+}
+
+// "a notice changes one side, a withdrawal clears both".
+pub fn notified(s: Slot, n: Notice) -> Effect
+    ensures { λ o. ⌜ o ≡ receiveEffect s (Told.notice n) ⌝ }
+{
+    let r = s.rec;
+    let kept = r.external;
+    match n {
+        Notice::Bid(x) => {
+            let bid = units_of(x);
+            received_as(s, bid == 0, External { bid, ask: kept.ask })
+        }
+        Notice::Ask(x) => {
+            let ask = units_of(x);
+            received_as(s, ask == 0, External { bid: kept.bid, ask })
+        }
+        Notice::Withdrawal => received_as(s, false, External { bid: 0, ask: 0 }),
+    }
 }
 
 // "read 1".

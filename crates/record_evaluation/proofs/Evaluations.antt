@@ -2,17 +2,21 @@
 use mathlib.Core.Path.{_≡_, refl, sym, subst, _∙_}
 use mathlib.Core.Bool.{Bool, true, false, _&&_}
 use mathlib.Core.List.{List}
-use Prim.Native.Nat.{ℕ}
+use Prim.Native.Nat.{ℕ, _≤_}
 use native.Mathlib.Omega.{arith}
 use lib.IntN.{ℤ}
 use Rattle.paper.specs.declared.Day.{Day}
+use Rattle.paper.specs.declared.External.{External}
 use Rattle.paper.specs.declared.Row.{Row}
 use Rattle.paper.specs.declared.Record.{Record}
 use Rattle.paper.specs.Lists.{pick, every}
-use Rattle.paper.specs.Ranges.{isPrice, isGridPrice, validDay, validRows, sound, validDayNumbers}
-use Rattle.paper_desk.specs.Evaluation.{evaluationOf, rowFits, evaluationFits}
+use Rattle.paper.specs.Numbers.{priceMost}
+use Rattle.paper.specs.Ranges.{isPrice, isGridPrice, validDay, validRows, sound, validDayNumbers, noExternal}
+use Rattle.paper_desk.specs.Evaluation.{evaluationOf, rowFits, evaluationFits, usedPair}
+use Rattle.paper_desk.specs.Desk.{usedBy}
 use Rattle.paper.proofs.Logic.{and-left, and-right}
 use Rattle.inputs.proofs.Tests.{day-in-parts}
+use Rattle.record_soundness.proofs.Facts.{sound-facts}
 use Rattle.evaluation.specs.declared.Priced.{Priced}
 use Rattle.evaluation.specs.declared.Evaluation.the-variants.{Evaluated, Beyond}
 use Rattle.evaluation.specs.Evaluation.{pricedOf, evaluationMade}
@@ -27,36 +31,45 @@ day-valid d rows v =
     let both = sym (day-in-parts d rows) ∙ v in
     (and-left (validDayNumbers d) (validRows rows) both, and-right (validDayNumbers d) (validRows rows) both)
 
-pub beyond : (g previous : ℕ) (rows : List Row) → evaluationMade g previous rows ≡ Beyond
-    → evaluationFits g previous rows ≡ false
-unfolding evaluationMade
-beyond g previous rows e = go (evaluationFits g previous rows) e
+-- the outside prices that count are prices, or none
+pub used-prices : (r : Record) → sound r ≡ true → (usedBy r .bid ≤ priceMost) × (usedBy r .ask ≤ priceMost)
+unfolding usedBy usedPair
+used-prices r v = go (r .statics .useexternal)
   where
-    go : (b : Bool) → pick b (Evaluated (pricedOf g previous rows)) Beyond ≡ Beyond → b ≡ false
+    go : (b : Bool)
+        → (pick b (r .external) noExternal .bid ≤ priceMost) × (pick b (r .external) noExternal .ask ≤ priceMost)
+    go true = let kept = sound-facts r v .external in (kept .bid, kept .ask)
+    go false = (omega arith, omega arith)
+
+pub beyond : (g previous : ℕ) (used : External) (rows : List Row) → evaluationMade g previous used rows ≡ Beyond
+    → evaluationFits g previous used rows ≡ false
+unfolding evaluationMade
+beyond g previous used rows e = go (evaluationFits g previous used rows) e
+  where
+    go : (b : Bool) → pick b (Evaluated (pricedOf g previous used rows)) Beyond ≡ Beyond → b ≡ false
     go true q = let z : _≡_ {A = ℕ} 0 1 = cc in absurd (omega arith)
     go false q = refl
 
 -- an evaluation that was made is the paper's, and fits
-pub record Made (g previous : ℕ) (rows : List Row) (e : Priced) : Type 0 where
-  pub fits : evaluationFits g previous rows ≡ true
-  pub is : pricedOf g previous rows ≡ e
+pub record Made (g previous : ℕ) (used : External) (rows : List Row) (e : Priced) : Type 0 where
+  pub fits : evaluationFits g previous used rows ≡ true
+  pub is : pricedOf g previous used rows ≡ e
   pub price : isPrice (e .price .units) ≡ true
 
-pub made : (g previous : ℕ) (rows : List Row) (e : Priced) → evaluationMade g previous rows ≡ Evaluated e
-    → Made g previous rows e
+pub made : (g previous : ℕ) (used : External) (rows : List Row) (e : Priced)
+    → evaluationMade g previous used rows ≡ Evaluated e → Made g previous used rows e
 unfolding evaluationMade evaluationFits pricedOf
-made g previous rows e m = go (evaluationFits g previous rows) refl m
+made g previous used rows e m = go (evaluationFits g previous used rows) refl m
   where
-    go : (b : Bool) → evaluationFits g previous rows ≡ b → pick b (Evaluated (pricedOf g previous rows)) Beyond
-        ≡ Evaluated e
-        → Made g previous rows e
+    go : (b : Bool) → evaluationFits g previous used rows ≡ b
+        → pick b (Evaluated (pricedOf g previous used rows)) Beyond ≡ Evaluated e → Made g previous used rows e
     go true f q =
-        let same : pricedOf g previous rows ≡ e = cc in
+        let same : pricedOf g previous used rows ≡ e = cc in
         record {
           fits = f;
           is = same;
           price =
               subst (λ (z : Priced). isPrice (z .price .units) ≡ true) same
-              (and-right (every rowFits rows) (isPrice (evaluationOf g previous rows)) f);
+              (and-right (every rowFits rows) (isPrice (evaluationOf g previous used rows)) f);
         }
     go false f q = let z : _≡_ {A = ℕ} 0 1 = cc in absurd (omega arith)

@@ -16,7 +16,7 @@ use Rattle.paper_desk.specs.Evaluation.{dayRows, hasCrossedRow, evaluationFits}
 use Rattle.paper_desk.specs.Rates.{moveTooLarge}
 use Rattle.paper_desk.specs.Limits.{crossed}
 use Rattle.paper.specs.Verdicts.{isDone, firstOf}
-use Rattle.paper_desk.specs.Desk.{showing, moveOn, evaluated, evaluateChecks}
+use Rattle.paper_desk.specs.Desk.{showing, usedBy, moveOn, evaluated, evaluateChecks}
 use Rattle.paper.proofs.Logic.{pick-true, pick-false}
 use Rattle.evaluation.specs.declared.PriceFigures.{PriceFigures}
 use Rattle.record_answers.specs.declared.Slot.{Slot}
@@ -47,7 +47,7 @@ module _ (s : Slot) (d : Day) (rows : List ℤ) where
     day-not-after t = rw (b .known, b .valid, b .uncrossed, t)
 
     pub day-beyond : leb (d .day) (lastDay (s .rec .standing)) ≡ false
-        → evaluationFits (gridOf (s .rec .statics .lot)) (s .rec .p1 .units) (dayRows rows) ≡ false
+        → evaluationFits (gridOf (s .rec .statics .lot)) (s .rec .p1 .units) (usedBy (s .rec)) (dayRows rows) ≡ false
         → unmadeBy PriceOutOfRange ≡ workedOf s d rows
     unfolding workedOf evaluateChecks firstOf isDone isMade
     day-beyond after t = rw (b .known, b .valid, b .uncrossed, after, t)

@@ -14,7 +14,7 @@ use Rattle.paper.specs.Lists.{pick}
 use Rattle.paper.specs.Ranges.{gridOf, lastDay, validDay}
 use Rattle.paper_desk.specs.Evaluation.{dayRows, hasCrossedRow, evaluationFits}
 use Rattle.paper.specs.Verdicts.{numberOf, isDone, firstOf}
-use Rattle.paper_desk.specs.Desk.{blank, evaluated, evaluateChecks}
+use Rattle.paper_desk.specs.Desk.{blank, usedBy, evaluated, evaluateChecks}
 use Rattle.evaluation.specs.declared.PriceFigures.{PriceFigures}
 use Rattle.evaluation.specs.declared.Priced.{Priced}
 use Rattle.evaluation.specs.Evaluation.{pricedOf}
@@ -24,7 +24,7 @@ use Rattle.record_answers.specs.Effects.{isKnown}
 
 -- the evaluation of the rows on the record's grid, and the figures that it was chosen from
 abbrev pub pricedOn : Record → List ℤ → Priced
-pricedOn r rows = pricedOf (gridOf (r .statics .lot)) (r .p1 .units) (dayRows rows)
+pricedOn r rows = pricedOf (gridOf (r .statics .lot)) (r .p1 .units) (usedBy r) (dayRows rows)
 
 abbrev pub noFigures : PriceFigures
 noFigures = record { weight = 0; close = 0; bid = 0; ask = 0 }
@@ -57,7 +57,7 @@ pub record Begun (s : Slot) (d : Day) (rows : List ℤ) : Type 0 where
 pub record Evaluates (s : Slot) (d : Day) (rows : List ℤ) : Type 0 where
   pub begun : Begun s d rows
   pub later : leb (d .day) (lastDay (s .rec .standing)) ≡ false
-  pub fits : evaluationFits (gridOf (s .rec .statics .lot)) (s .rec .p1 .units) (dayRows rows) ≡ true
+  pub fits : evaluationFits (gridOf (s .rec .statics .lot)) (s .rec .p1 .units) (usedBy (s .rec)) (dayRows rows) ≡ true
 
 -- w is what a day of any rows comes to whose evaluation is e: of the rows only the evaluation and its figures are used
 abbrev pub Prices : Slot → Day → Priced → Working → Type 0

@@ -6,12 +6,14 @@ ghost use lib.ListN.{getD};
 ghost use Rattle.paper.specs.Lists.{allThree};
 ghost use Rattle.paper.specs.Ranges.{isPrice, validDay, noLimits, sound, validDayNumbers};
 ghost use Rattle.paper_desk.specs.Limits.{crossed};
+ghost use Rattle.paper_desk.specs.Desk.{usedBy};
 ghost use Rattle.record_answers.specs.Effects.{evaluateEffect};
 ghost use Rattle.record_evaluation.specs.Workings.{unmadeBy, workedOf, Prices};
 use evaluation::Evaluation;
 use evaluation::PriceFigures;
 use evaluation::Priced;
 use paper::Day;
+use paper::External;
 use paper::Limits;
 use paper::Record;
 use paper::Verdict;
@@ -23,6 +25,17 @@ fn valid_day(d: Day, rows: &[i64]) -> bool
     ensures { λ t. ⌜ t ≡ validDay d (now (rows .entry)) ⌝ }
 {
     inputs::valid_day_numbers(d) & rows::rows_valid(rows)
+}
+
+// W-211: the outside prices that count in an evaluation, none where UseEXTERNAL is no.
+fn used_by(r: Record) -> External
+    ensures { λ x. ⌜ x ≡ usedBy r ⌝ }
+{
+    let kept = r.external;
+    if r.statics.useexternal {
+        return kept;
+    }
+    External { bid: 0, ask: 0 }
 }
 
 // Whether no band is crossed (9).
@@ -113,7 +126,8 @@ pub fn worked(s: Slot, d: Day, rows: &[i64]) -> Working
     }
     let g = inputs::grid_of(r.statics.lot);
     let previous = r.p1;
-    let evaluation = evaluation::evaluate(rows, previous, g);
+    let used = used_by(r);
+    let evaluation = evaluation::evaluate(rows, previous, used, g);
     match evaluation {
         Evaluation::Beyond => unmade(Verdict::PriceOutOfRange),
         Evaluation::Evaluated(e) => worked_at(s, d, e),

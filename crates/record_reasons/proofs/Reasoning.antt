@@ -11,6 +11,7 @@ use lib.ListN.{getD}
 use borrow.Author.Tests.{ltb-true, ltb-false, lt-ltb}
 use Rattle.paper.specs.declared.Record.{Record}
 use Rattle.paper.specs.declared.Day.{Day}
+use Rattle.paper.specs.declared.External.{External}
 use Rattle.paper.specs.declared.Roubles.{Roubles}
 use Rattle.paper.specs.declared.Rate.{Rate}
 use Rattle.paper.specs.declared.Statics.{Statics}
@@ -22,7 +23,7 @@ use Rattle.paper_desk.specs.Evaluation.{roublesOf, weights, rowFits, evaluation
 use Rattle.paper_desk.specs.Rates.{moveTooLarge, levelRate, modelled, figuresOf}
 use Rattle.paper.specs.Numbers.{volatilityMost, aheadMost}
 use Rattle.paper.specs.Verdicts.{isDone, firstOf, NoneApplies, none, also}
-use Rattle.paper_desk.specs.Desk.{priceOn, moveOn, figuresOn, evaluated, evaluateChecks}
+use Rattle.paper_desk.specs.Desk.{usedBy, priceOn, moveOn, figuresOn, evaluated, evaluateChecks}
 use Rattle.paper.proofs.Logic.{clash, and-left, and-right, and-false, not-false, pick-true, pick-false}
 use Rattle.paper_desk.proofs.TentativeRange.{valid-high, modelled-stays}
 use Rattle.paper_desk.proofs.Refusals.{refusals, done-none}
@@ -59,17 +60,17 @@ weights-traded (r ∷ rs) = go (ltb 0 (r .weight)) refl (ltb 0 (weights rs)) ref
         let same : r .weight + weights rs ≡ weights rs = omega (arith, ltb-false 0 (r .weight) h) in
         rw same e
 
-reason-from : (previous : ℕ) (rs : List Roubles) → reasonFrom previous (priceFigures previous rs)
-    ≡ priceReason previous rs
+reason-from : (previous : ℕ) (used : External) (rs : List Roubles)
+    → reasonFrom previous (priceFigures previous used rs) ≡ priceReason previous used rs
 unfolding reasonFrom priceReason setBy priceSetBy priceFigures
-reason-from previous rs = rw (weights-traded rs)
+reason-from previous used rs = rw (weights-traded rs)
 
 -- THE REASONS of the rows of a day
 pub reasons-are : (r : Record) (d : Day) (rows : List ℤ)
     → reasonsAt r d (priceOn r rows) (pricedOn r rows .figures) ≡ reasonsOf r d rows
 unfolding pricedOf modelledWith reasonsOf moveTo moveOn figuresAt figuresOn replacedAt replacedOn stepAt stepOn levelAt
     levelOn
-reasons-are r d rows = rw (reason-from (r .p1 .units) (map roublesOf (dayRows rows)))
+reasons-are r d rows = rw (reason-from (r .p1 .units) (usedBy r) (map roublesOf (dayRows rows)))
 
 -- WHERE NO NUMBER APPLIES
 pub accepted : (s : Slot) (d : Day) (rows : List ℤ)

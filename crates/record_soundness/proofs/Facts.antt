@@ -3,16 +3,18 @@ use mathlib.Core.Path.{_≡_}
 use mathlib.Core.Bool.{true}
 use mathlib.Core.List.{List}
 use Prim.Native.Nat.{ℕ, _≤_, _<_}
+use lib.Dec.{leb}
 use lib.ListN.{getD}
 use borrow.Author.Tests.{leb-true}
 use Rattle.paper.specs.declared.Near.the-variants.{Since}
 use Rattle.paper.specs.declared.NearSeconds.{NearSeconds}
 use Rattle.paper.specs.declared.Rate.{Rate}
+use Rattle.paper.specs.declared.External.{External}
 use Rattle.paper.specs.declared.Limits.{Limits}
 use Rattle.paper.specs.declared.Record.{Record}
 use Rattle.paper.specs.Lists.{allThree}
-use Rattle.paper.specs.Numbers.{rateMost, idMost, ageMost, limitMost, movesMost, secondLast, slotsMost}
-use Rattle.paper.specs.Ranges.{gridOf, isRate, validStatics, lastDay, termAt, isLimit, validLimits, noLimits, validNear, validNearSeconds, notNear, validSession, sound, validSlots, rateAt}
+use Rattle.paper.specs.Numbers.{priceMost, rateMost, idMost, ageMost, limitMost, movesMost, secondLast, slotsMost}
+use Rattle.paper.specs.Ranges.{gridOf, isRate, validStatics, lastDay, termAt, isLimit, validLimits, noLimits, validNear, validNearSeconds, notNear, validSession, validExternal, sound, validSlots, rateAt}
 use Rattle.paper.proofs.Logic.{and-left, and-right, each-of-three}
 use Rattle.inputs.proofs.Facts.{Within, within-facts, MultipleTo, multiple-facts, grid-price-facts, rate-most, StaticsFacts, statics-facts, tentative-facts, FiguresFacts, TermFacts, terms-facts}
 
@@ -58,6 +60,20 @@ pub three-near-facts : (near : List NearSeconds) → allThree (λ k. validNearSe
     → (k : ℕ) → k < 3 → NearFacts (getD near k notNear)
 three-near-facts near v k l = near-facts _ (each-of-three (λ k. validNearSeconds (getD near k notNear)) v k l)
 
+-- ---- the outside prices
+
+pub record ExternalFacts (x : External) : Type 0 where
+  pub bid : x .bid ≤ priceMost
+  pub ask : x .ask ≤ priceMost
+
+pub external-facts : (x : External) → validExternal x ≡ true → ExternalFacts x
+unfolding validExternal
+external-facts x v =
+    record {
+      bid = leb-true _ _ (and-left _ (leb (x .ask) priceMost) v);
+      ask = leb-true _ _ (and-right (leb (x .bid) priceMost) _ v);
+    }
+
 -- ---- a record
 
 pub rates-facts : (rates : List Rate) → allThree (λ i. isRate (rateAt rates i)) ≡ true → (i : ℕ) → i < 3
@@ -80,6 +96,7 @@ pub record SoundRecord (r : Record) : Type 0 where
   pub near : (k : ℕ) → k < 3 → NearFacts (getD (r .near) k notNear)
   pub second-last : r .second ≤ secondLast
   pub session : validSession (r .session) ≡ true
+  pub external : ExternalFacts (r .external)
 
 pub sound-facts : (r : Record) → sound r ≡ true → SoundRecord r
 unfolding sound
@@ -106,6 +123,7 @@ sound-facts r v =
       near = three-near-facts (r .near) (search (v, and-left, and-right) depth 40);
       second-last = leb-true _ _ (search (v, and-left, and-right) depth 40);
       session = search (v, and-left, and-right) depth 40;
+      external = external-facts (r .external) (search (v, and-left, and-right) depth 40);
     }
 
 -- ---- the table

@@ -4,18 +4,20 @@ ghost use mathlib.Core.Path.{_≡_};
 ghost use Prim.Native.Nat.{_<_};
 ghost use lib.ListN.{getD};
 ghost use Rattle.paper.specs.Lists.{allThree};
-ghost use Rattle.paper.specs.Ranges.{isLive, lastDay, isRate, noRate, isLimit, validLimits, noLimits, validNear, validNearSeconds, notNear, validSession, sound, validSlots, soundFigures};
+ghost use Rattle.paper.specs.Ranges.{isLive, lastDay, isRate, noRate, isLimit, validLimits, noLimits, validNear, validNearSeconds, notNear, validSession, validExternal, sound, validSlots, soundFigures};
 use inputs::grid_of;
 use inputs::is_rate;
 use inputs::valid_figures;
 use inputs::valid_id;
 use inputs::valid_statics;
 use inputs::valid_terms;
+use paper::External;
 use paper::Limit;
 use paper::Limits;
 use paper::MadeLimit;
 use paper::Near;
 use paper::NearSeconds;
+use paper::Price;
 use paper::Rate;
 use paper::Record;
 use paper::Session;
@@ -110,6 +112,13 @@ fn valid_session(session: Session) -> bool
     }
 }
 
+// W-211: an outside bid or ask is a price, or 0 where there is none.
+fn valid_external(x: External) -> bool
+    ensures { λ r. ⌜ r ≡ validExternal x ⌝ }
+{
+    (x.bid <= Price::MOST_UNITS) & (x.ask <= Price::MOST_UNITS)
+}
+
 // The id, the statics and the figures that an admission gives too, with the age. Where the statics are damaged nothing
 // is divided by their step.
 fn sound_figures(r: Record) -> bool
@@ -135,6 +144,7 @@ pub fn sound(r: Record) -> bool
     let bands = r.bands;
     let near = r.near;
     let session = r.session;
+    let external = r.external;
     sound_figures(r)
         & valid_rates(rates)
         & valid_three_limits(g, ranges)
@@ -145,6 +155,7 @@ pub fn sound(r: Record) -> bool
         & valid_three_near(near)
         & (r.second <= Record::SECOND_LAST)
         & valid_session(session)
+        & valid_external(external)
 }
 
 // "1 to 512 slots": a call refuses any other table.

@@ -1,5 +1,5 @@
-// What each call writes: the record after an admission, an evaluation, a quote, a move or an opening of the evening,
-// made anew in one function for each.
+// What each call writes: the record after an admission, an evaluation, a quote, a move, an opening of the evening or a
+// receipt of outside prices, made anew in one function for each.
 ghost use mathlib.Core.Path.{_≡_};
 ghost use mathlib.Core.Bool.{true};
 ghost use Prim.Native.Nat.{_<_};
@@ -12,8 +12,10 @@ ghost use Rattle.paper_desk.specs.Alerts.{nearCleared};
 ghost use Rattle.paper_desk.specs.Desk.{admitted, nearOn, quoted, moved, eveningOpened};
 ghost use Rattle.record_writing.specs.Asked.{Admitting, RangesAsked, BandsAsked, ShiftsAsked};
 ghost use Rattle.record_writing.specs.Evaluates.{Evaluating, Evaluates};
+ghost use Rattle.record_writing.specs.Receives.{Receives};
 use paper::Admission;
 use paper::Day;
+use paper::External;
 use paper::Figures;
 use paper::Limits;
 use paper::Moves;
@@ -67,6 +69,7 @@ pub fn admitted(a: Admission, p1: Price, p2: Price) -> Record
         }; Record::TERMS],
         second: 0,
         session: Session::Main,
+        external: External { bid: 0, ask: 0 },
     }
 }
 
@@ -147,6 +150,7 @@ pub fn evaluated(r: Record, d: Day, p: Price, f: Figures) -> Record
     ensures { λ o. ⌜ Evaluates r d (p .units) o ⌝ }
 {
     let statics = r.statics;
+    let external = r.external;
     let earlier = r.p1;
     let tentative = f.tentative;
     let rates = f.rates;
@@ -173,6 +177,7 @@ pub fn evaluated(r: Record, d: Day, p: Price, f: Figures) -> Record
         }; Record::TERMS],
         second: 0,
         session: Session::Main, // W-210: "An evaluation puts the record back in main."
+        external,
     }
 }
 
@@ -237,6 +242,7 @@ pub fn moved(r: Record, side: Side) -> Record
     let near = r.near;
     let moves = r.moves;
     let session = r.session;
+    let external = r.external;
     let p1 = r.p1;
     let p2 = r.p2;
     let s1 = rates[0];
@@ -262,6 +268,7 @@ pub fn moved(r: Record, side: Side) -> Record
         near: cleared,
         second: r.second,
         session: counted,
+        external,
     }
 }
 
@@ -281,6 +288,7 @@ pub fn opened(r: Record) -> Record
     let terms = r.terms;
     let bands = r.bands;
     let kept = r.moves;
+    let external = r.external;
     let none = NearSeconds {
         top: Near::Not,
         bottom: Near::Not,
@@ -302,5 +310,17 @@ pub fn opened(r: Record) -> Record
         near,
         second: r.second,
         session: Session::Evening(0),
+        external,
     }
+}
+
+// ---- a receipt of outside prices
+
+// W-211: what is received changes the kept pair alone.
+pub fn received(r: Record, kept: External) -> Record
+    ensures { λ o. ⌜ Receives r kept o ⌝ }
+{
+    let mut o = r;
+    o.external = kept;
+    o
 }

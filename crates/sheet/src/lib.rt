@@ -23,7 +23,7 @@ const SLOTS: usize = 512;
 const ACCEPTED: u64 = 8;
 
 // The numbers of one security, in the order of the evening's `admit`.
-fn admission_of(x: &[i64; 31]) -> Admission {
+fn admission_of(x: &[i64; 32]) -> Admission {
     let given = gateway::given_of(
         x[6],
         x[7],
@@ -50,6 +50,7 @@ fn admission_of(x: &[i64; 31]) -> Admission {
         x[28],
         x[29],
         x[30],
+        x[31],
     );
     Admission {
         id: unsigned(x[0]),
@@ -85,7 +86,7 @@ fn first(r: Record) -> Slot {
     }
 }
 
-fn admitted(x: &[i64; 31]) -> Record {
+fn admitted(x: &[i64; 32]) -> Record {
     let a = admission_of(x);
     let empty = first(record_answers::blank());
     let turn = record_calls::admitted(record_answers::absent(SLOTS), empty, a);
@@ -163,7 +164,7 @@ fn lasts(why: Why) -> u64 {
 
 // One security evaluated on so many days.
 #[no_mangle]
-pub extern "C" fn nedrubal_days(x: &[i64; 31], y: &[i64; 6], rows: &[i64], days: u64) -> u64 {
+pub extern "C" fn nedrubal_days(x: &[i64; 32], y: &[i64; 6], rows: &[i64], days: u64) -> u64 {
     let mut r = admitted(x);
     let mut sum: u64 = 0;
     let mut i: u64 = 0;
@@ -179,7 +180,7 @@ pub extern "C" fn nedrubal_days(x: &[i64; 31], y: &[i64; 6], rows: &[i64], days:
 // One security evaluated on so many days, each time as it was admitted: what asking is measured beside.
 #[no_mangle]
 pub extern "C" fn nedrubal_evaluations(
-    x: &[i64; 31],
+    x: &[i64; 32],
     y: &[i64; 6],
     rows: &[i64],
     days: u64,
@@ -197,7 +198,7 @@ pub extern "C" fn nedrubal_evaluations(
 
 // Why each of those evaluations is answered as it is.
 #[no_mangle]
-pub extern "C" fn nedrubal_whys(x: &[i64; 31], y: &[i64; 6], rows: &[i64], days: u64) -> u64 {
+pub extern "C" fn nedrubal_whys(x: &[i64; 32], y: &[i64; 6], rows: &[i64], days: u64) -> u64 {
     let r = admitted(x);
     let mut sum: u64 = 0;
     let mut i: u64 = 0;
@@ -211,7 +212,7 @@ pub extern "C" fn nedrubal_whys(x: &[i64; 31], y: &[i64; 6], rows: &[i64], days:
 
 // The record's soundness judged and the record copied, so many times.
 #[no_mangle]
-pub extern "C" fn nedrubal_reads(x: &[i64; 31], times: u64) -> u64 {
+pub extern "C" fn nedrubal_reads(x: &[i64; 32], times: u64) -> u64 {
     let mut r = admitted(x);
     let mut sum: u64 = 0;
     let mut i: u64 = 0;

@@ -1,17 +1,18 @@
 // The answers of the evening's text, appended to a lent buffer. Each contract is a list of numbers, and each proof the
 // one law `both`.
 ghost use mathlib.Core.Path.{_≡_};
-ghost use mathlib.Core.List.{[], _∷_};
+ghost use mathlib.Core.List.{[], _∷_, _++_};
 ghost use Prim.Native.Nat.{_+_, _*_, _≤_};
 ghost use lib.IntN.{pos, negsuc};
 ghost use lib.ListN.{getD};
 ghost use Rattle.paper.specs.Verdicts.{numberOf};
-ghost use Rattle.text_protocol.specs.Answers.{next, answerText, badText, flag, standingNumbers, nearNumber, figureNumbers, ratesNumbers, rangesNumbers, termNumbers, lastNumbers, sessionNumbers, recordNumbers, maturityNumbers, maturitiesNumbers, interestNumbers, interestText, answerMost};
+ghost use Rattle.text_protocol.specs.Answers.{next, answerText, badText, flag, standingNumbers, nearNumber, figureNumbers, ratesNumbers, rangesNumbers, termNumbers, lastNumbers, sessionNumbers, externalNumbers, recordNumbers, maturityNumbers, maturitiesNumbers, interestNumbers, interestText, answerMost};
 ghost use Rattle.text_out.specs.Wrote.{Wrote};
 ghost use Rattle.text_answer.specs.Told.{Told};
 ghost use Rattle.text_answer.specs.Kinds.{textOfKind};
 ghost use Rattle.text_protocol.specs.Bytes.{room};
 use paper::Answer;
+use paper::External;
 use paper::InterestAnswer;
 use paper::Limits;
 use paper::Maturity;
@@ -170,24 +171,44 @@ fn put_session(out: &mut [u8; ROOM], len: usize, session: Session) -> usize
     }
 }
 
-fn put_record(out: &mut [u8; ROOM], len: usize, r: Record) -> usize
-    requires { ⌜ len + 915 ≤ room ⌝ }
-    ensures { λ n. ⌜ Told (now (out .entry)) len (now (out .exit)) n (recordNumbers r) 915 ⌝ }
+// EXTBID EXTASK: 0 is none.
+fn put_external(out: &mut [u8; ROOM], len: usize, external: External) -> usize
+    requires { ⌜ len + 42 ≤ room ⌝ }
+    ensures { λ r. ⌜ Told (now (out .entry)) len (now (out .exit)) r (externalNumbers external) 42 ⌝ }
+{
+    let n = put_next(out, len, external.bid);
+    put_next(out, n, external.ask)
+}
+
+// The figures of a record before those of its terms.
+fn put_levels(out: &mut [u8; ROOM], len: usize, r: Record) -> usize
+    requires { ⌜ len + 357 ≤ room ⌝ }
+    ensures { λ n. ⌜ Told (now (out .entry)) len (now (out .exit)) n
+        (figureNumbers r ++ ratesNumbers (r .rates) ++ rangesNumbers (r .ranges)) 357 ⌝ }
 {
     let rates = r.rates;
     let ranges = r.ranges;
+    let n = put_figures(out, len, r);
+    let n = put_rates(out, n, rates);
+    put_ranges(out, n, ranges)
+}
+
+fn put_record(out: &mut [u8; ROOM], len: usize, r: Record) -> usize
+    requires { ⌜ len + 957 ≤ room ⌝ }
+    ensures { λ n. ⌜ Told (now (out .entry)) len (now (out .exit)) n (recordNumbers r) 957 ⌝ }
+{
     let terms = r.terms;
     let bands = r.bands;
     let near = r.near;
     let session = r.session;
-    let n = put_figures(out, len, r);
-    let n = put_rates(out, n, rates);
-    let n = put_ranges(out, n, ranges);
+    let external = r.external;
+    let n = put_levels(out, len, r);
     let n = put_term(out, n, terms[0], bands[0], near[0]);
     let n = put_term(out, n, terms[1], bands[1], near[1]);
     let n = put_term(out, n, terms[2], bands[2], near[2]);
     let n = put_last(out, n, r);
-    put_session(out, n, session)
+    let n = put_session(out, n, session);
+    put_external(out, n, external)
 }
 
 // ---- an interest line's answer

@@ -10,7 +10,7 @@ use Rattle.text_protocol.specs.Calls.{givenOf}
 use Rattle.text_protocol.specs.Names.{the, placeOf, admitNames, code}
 
 pub given-is : (zs : List ℤ) {x6 x7 x8 x9 x10 x11 x12 x13 x14 x15 x16 x17 x18 x19 x20 x21 x22 x23 x24 x25 x26 x27 x28
-    x29 x30 : ℕ}
+    x29 x30 x31 : ℕ}
     → x6 ≡ unsigned (getD zs 6 (pos 0))
     → x7 ≡ unsigned (getD zs 7 (pos 0))
     → x8 ≡ unsigned (getD zs 8 (pos 0))
@@ -36,6 +36,7 @@ pub given-is : (zs : List ℤ) {x6 x7 x8 x9 x10 x11 x12 x13 x14 x15 x16 x17 x18 
     → x28 ≡ unsigned (getD zs 28 (pos 0))
     → x29 ≡ unsigned (getD zs 29 (pos 0))
     → x30 ≡ unsigned (getD zs 30 (pos 0))
+    → x31 ≡ unsigned (getD zs 31 (pos 0))
     → record {
       lot = x6;
       h = x7;
@@ -62,9 +63,10 @@ pub given-is : (zs : List ℤ) {x6 x7 x8 x9 x10 x11 x12 x13 x14 x15 x16 x17 x18 
       uevening = x28;
       autochange = x29;
       eveningmax = x30;
+      useexternal = x31;
     } ≡ givenOf zs
 unfolding givenOf the placeOf admitNames code
-given-is zs e6 e7 e8 e9 e10 e11 e12 e13 e14 e15 e16 e17 e18 e19 e20 e21 e22 e23 e24 e25 e26 e27 e28 e29 e30 =
+given-is zs e6 e7 e8 e9 e10 e11 e12 e13 e14 e15 e16 e17 e18 e19 e20 e21 e22 e23 e24 e25 e26 e27 e28 e29 e30 e31 =
     rw (
       e6,
       e7,
@@ -91,4 +93,5 @@ given-is zs e6 e7 e8 e9 e10 e11 e12 e13 e14 e15 e16 e17 e18 e19 e20 e21 e22 e23 
       e28,
       e29,
       e30,
+      e31,
     )

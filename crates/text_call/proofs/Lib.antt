@@ -1,3 +1,4 @@
+mod Bits
 mod Given
 mod Rest
 mod LineCalls

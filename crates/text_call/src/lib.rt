@@ -1,19 +1,23 @@
 // What a call is given, from the numbers of its line. Each number is read at the place of its name
-// (text_protocol/specs/Names.antt).
+// (text_protocol/specs/Names.antt). A float is made of the 64 bits that a number has.
 ghost use mathlib.Core.Path.{_≡_};
 ghost use Prim.Native.Nat.{_≤_, min};
+ghost use lib.Ieee.{binary64, ofBits};
 ghost use lib.IntN.{pos};
 ghost use lib.ListN.{drop, getD};
 ghost use Rattle.paper.specs.Ranges.{unsigned};
-ghost use Rattle.text_protocol.specs.Calls.{givenOf, admissionOf, quoteOf, interestOf, bandOf, askedOf};
+ghost use Rattle.text_protocol.specs.Calls.{givenOf, admissionOf, quoteOf, bitsOf, floatOf, outsideOf, interestOf, bandOf, askedOf};
 ghost use Rattle.text_call.specs.Terms.{termAtPlace};
-ghost use Rattle.text_call.specs.Requests.{requestCall, lineCall, noAdmission, noTerm, noDay, noQuote};
+ghost use Rattle.text_call.specs.Requests.{requestCall, lineCall, noAdmission, noTerm, noDay, noQuote, noOutside, noticeLine};
+ghost use Rattle.paper.specs.declared.Notice.the-variants.{Withdrawal};
 use paper::Admission;
 use paper::AskedDay;
 use paper::AskedTerm;
 use paper::GivenStatics;
 use paper::Interest;
 use paper::Model;
+use paper::Notice;
+use paper::Outside;
 use paper::Quote;
 use paper::RepoBand;
 use paper::RepoLimits;
@@ -22,8 +26,16 @@ use text_protocol::Kept;
 use text_protocol::Kind;
 use text_protocol::Pairs;
 
-// What a call of the desk is given, whichever of the calls it is: `kind` says which of the fields count. A line that
-// is no call of the desk is a read of id 0,
+// The number whose 64 bits are all 1: those of -1.
+const ALL_ONES: u64 = 18_446_744_073_709_551_615;
+
+// The bit of a float's sign; and the bits of the infinity, above which, the sign aside, none are a number's.
+const SIGN_BIT: u64 = 9_223_372_036_854_775_808;
+
+const INFINITY_BITS: u64 = 9_218_868_437_227_405_312;
+
+// What a call of the desk is given, whichever of the calls it is: `kind` says which of the fields count. A withdrawal
+// is a notice, a notice of no side is a move of no side, and a line that is no call of the desk is a read of id 0,
 // which stores nothing.
 pub struct Request {
     pub kind: u64,
@@ -32,6 +44,8 @@ pub struct Request {
     pub day: AskedDay,
     pub quote: Quote,
     pub side: u64,
+    pub outside: Outside,
+    pub notice: Notice,
 }
 
 // The number at a place; 0 where there is none.
@@ -82,6 +96,7 @@ fn given_of(zs: &[i64]) -> GivenStatics
         uevening: unsigned_at(zs, 28),
         autochange: unsigned_at(zs, 29),
         eveningmax: unsigned_at(zs, 30),
+        useexternal: unsigned_at(zs, 31),
     }
 }
 
@@ -147,6 +162,47 @@ pub fn quote_of(zs: &[i64]) -> Quote
         term: unsigned_at(zs, 2),
         bid: unsigned_at(zs, 3),
         ask: unsigned_at(zs, 4),
+    }
+}
+
+// ---- what the outside source sends
+
+// The 64 bits of a number, as a number without a sign.
+fn bits_of(z: i64) -> u64
+    ensures { λ r. ⌜ r ≡ bitsOf z ⌝ }
+{
+    let size = exact::magnitude(z);
+    if z < 0 {
+        return ALL_ONES - size;
+    }
+    size
+}
+
+// The float of the 64 bits of a number. Bits that are no number's are a NaN, and 0 / 0 is one.
+fn float_of(z: i64) -> f64
+    ensures { λ r. ⌜ r ≡ floatOf z ⌝ }
+{
+    let bits = bits_of(z);
+    if bits % SIGN_BIT > INFINITY_BITS {
+        let zero = 0.0;
+        return zero / zero;
+    }
+    f64::from_bits(bits)
+}
+
+// The float whose bits are those of the number at a place.
+fn float_at(zs: &[i64], i: usize) -> f64
+    ensures { λ r. ⌜ r ≡ floatOf (getD (now (zs .entry)) i (pos 0)) ⌝ }
+{
+    float_of(number_at(zs, i))
+}
+
+fn outside_of(zs: &[i64]) -> Outside
+    ensures { λ r. ⌜ r ≡ outsideOf (now (zs .entry)) ⌝ }
+{
+    Outside {
+        bid: float_at(zs, 1),
+        ask: float_at(zs, 2),
     }
 }
 
@@ -231,6 +287,7 @@ fn no_admission() -> Admission
             uevening: 0,
             autochange: 0,
             eveningmax: 0,
+            useexternal: 0,
         },
     }
 }
@@ -268,6 +325,12 @@ fn no_quote() -> Quote
     }
 }
 
+fn no_outside() -> Outside
+    ensures { λ r. ⌜ r ≡ noOutside ⌝ }
+{
+    Outside { bid: 0.0, ask: 0.0 }
+}
+
 // A request that names an id, and a side where it has one.
 fn of_id(kind: u64, id: u64, quote: Quote, side: u64) -> Request
     ensures { λ r. ⌜ r ≡ record {
@@ -276,8 +339,9 @@ fn of_id(kind: u64, id: u64, quote: Quote, side: u64) -> Request
       admission = noAdmission;
       day = noDay;
       quote = quote;
-      side =
-          side;
+      side = side;
+      outside = noOutside;
+      notice = Withdrawal;
     } ⌝ }
 {
     Request {
@@ -287,7 +351,50 @@ fn of_id(kind: u64, id: u64, quote: Quote, side: u64) -> Request
         day: no_day(),
         quote,
         side,
+        outside: no_outside(),
+        notice: Notice::Withdrawal,
     }
+}
+
+// A request that gives an id what the outside source sent.
+fn of_outside(kind: u64, id: u64, outside: Outside, notice: Notice) -> Request
+    ensures { λ r. ⌜ r ≡ record {
+      kind = kind;
+      id = id;
+      admission = noAdmission;
+      day = noDay;
+      quote = noQuote;
+      side = 0;
+      outside = outside;
+      notice = notice;
+    } ⌝ }
+{
+    Request {
+        kind,
+        id,
+        admission: no_admission(),
+        day: no_day(),
+        quote: no_quote(),
+        side: 0,
+        outside,
+        notice,
+    }
+}
+
+// The request of a notice: 0 is a bid, 1 an ask, and another side is a move of that side, which no move has.
+fn notice_of(zs: &[i64]) -> Request
+    ensures { λ r. ⌜ requestCall r (drop 13 (now (zs .entry))) ≡ noticeLine (now (zs .entry)) ⌝ }
+{
+    let id = unsigned_at(zs, 0);
+    let side = unsigned_at(zs, 1);
+    let x = float_at(zs, 2);
+    if side == 0 {
+        return of_outside(Kind::NOTICE, id, no_outside(), Notice::Bid(x));
+    }
+    if side == 1 {
+        return of_outside(Kind::NOTICE, id, no_outside(), Notice::Ask(x));
+    }
+    of_id(Kind::MOVE, id, no_quote(), side)
 }
 
 // What a line of a kind asks of the desk: its call, or a read of id 0 where it asks nothing of it.
@@ -302,6 +409,8 @@ pub fn request_of(zs: &[i64], kind: u64, p: Pairs, k: Kept) -> Request
             day: no_day(),
             quote: no_quote(),
             side: 0,
+            outside: no_outside(),
+            notice: Notice::Withdrawal,
         };
     }
     if kind == Kind::EVALUATE {
@@ -312,6 +421,8 @@ pub fn request_of(zs: &[i64], kind: u64, p: Pairs, k: Kept) -> Request
             day: asked_of(k, p, zs),
             quote: no_quote(),
             side: 0,
+            outside: no_outside(),
+            notice: Notice::Withdrawal,
         };
     }
     if kind == Kind::QUOTE {
@@ -325,6 +436,20 @@ pub fn request_of(zs: &[i64], kind: u64, p: Pairs, k: Kept) -> Request
     }
     if kind == Kind::OPEN {
         return of_id(kind, unsigned_at(zs, 0), no_quote(), 0);
+    }
+    if kind == Kind::OUTSIDE {
+        return of_outside(kind, unsigned_at(zs, 0), outside_of(zs), Notice::Withdrawal);
+    }
+    if kind == Kind::NOTICE {
+        return notice_of(zs);
+    }
+    if kind == Kind::WITHDRAW {
+        return of_outside(
+            Kind::NOTICE,
+            unsigned_at(zs, 0),
+            no_outside(),
+            Notice::Withdrawal,
+        );
     }
     of_id(Kind::READ, 0, no_quote(), 0)
 }

@@ -6,18 +6,23 @@ use mathlib.Core.List.{List}
 use Prim.Native.Nat.{ℕ, zero, suc, _≤_, _<_}
 use native.Mathlib.Omega.{arith}
 use lib.Dec.{eqb}
+use lib.Ieee.{Float}
 use lib.IntN.{ℤ}
 use lib.ListN.{take, drop}
 use Rattle.paper.specs.declared.Record.{Record}
 use Rattle.paper.specs.declared.Admission.{Admission}
 use Rattle.paper.specs.declared.Day.{Day}
 use Rattle.paper.specs.declared.Quote.{Quote}
+use Rattle.paper.specs.declared.Outside.{Outside}
+use Rattle.paper.specs.declared.Notice.{Notice}
+use Rattle.paper.specs.declared.Notice.the-variants.{Bid, Ask}
 use Rattle.paper.specs.declared.Interest.{Interest}
 use Rattle.paper.specs.declared.InterestAnswer.{InterestAnswer}
 use Rattle.paper.specs.Lists.{pick}
 use Rattle.paper_interest.specs.Interest.{interestAnswer}
 use Rattle.paper.specs.Terms.{dayOf}
-use Rattle.paper_desk.specs.Desk.{Call, admit, evaluate, quote, move, read, openEvening, step}
+use Rattle.paper_desk.specs.Desk.{Call, admit, evaluate, quote, move, read, openEvening, receive, step}
+use Rattle.paper_desk.specs.External.{together, notice}
 use Rattle.paper_bonds.specs.declared.Bond.{Bond}
 use Rattle.paper_bonds.specs.declared.BondAnswer.{BondAnswer}
 use Rattle.paper_bonds.specs.Bonds.{bondAnswer}
@@ -26,9 +31,9 @@ use Rattle.text_protocol.specs.declared.Kept.{Kept}
 use Rattle.text_protocol.specs.declared.Pairs.{Pairs}
 use Rattle.text_protocol.specs.declared.Performed.{Performed}
 use Rattle.text_protocol.specs.Kept.{keptAfter}
-use Rattle.text_protocol.specs.Names.{interestNames, bondNames, admitKind, evaluateKind, quoteKind, moveKind, readKind, openKind, interestKind, bondKind}
+use Rattle.text_protocol.specs.Names.{ID, SIDE, BITS, noticeNames, the, interestNames, bondNames, admitKind, evaluateKind, quoteKind, moveKind, readKind, openKind, outsideKind, noticeKind, withdrawKind, interestKind, bondKind}
 use Rattle.text_protocol.specs.Line.{Said, Nothing, NoCall, Call as saysCall}
-use Rattle.text_protocol.specs.Calls.{interestOf, bondOf, figuresOf, callOf, deedOf}
+use Rattle.text_protocol.specs.Calls.{unsignedOf, floatOf, noticeCall, interestOf, bondOf, figuresOf, callOf, deedOf}
 use Rattle.text_protocol.specs.Answers.{callText, figuresOf as figuresAnswered}
 use Rattle.text_protocol.specs.Evening.{keptBy, callTold, textOf}
 use Rattle.text_protocol.proofs.Spelling.{impossible}
@@ -36,7 +41,7 @@ use Rattle.text_answer.specs.Kinds.{figuresOfKind, textOfKind}
 use Rattle.text_line.specs.declared.Line.{Line}
 use Rattle.text_line.specs.Heard.{blankKind, badKind, said, Heard}
 use Rattle.text_call.specs.declared.Request.{Request}
-use Rattle.text_call.specs.Requests.{requestCall, lineCall}
+use Rattle.text_call.specs.Requests.{requestCall, noticeLine, lineCall}
 use Rattle.text_deed.specs.declared.Beside.{Beside}
 use Rattle.text_deed.specs.declared.Wanted.{Wanted}
 use Rattle.text_deed.specs.Deeds.{callIn, asksWhy, lineText, Said as SaidBy, Wants, Does}
@@ -57,6 +62,9 @@ data LineKind : ℕ → Type 0 where
   moves : LineKind moveKind
   reads : LineKind readKind
   opens : LineKind openKind
+  sends : LineKind outsideKind
+  notices : LineKind noticeKind
+  withdraws : LineKind withdrawKind
   asks-interest : LineKind interestKind
   asks-bond : LineKind bondKind
   is-blank : LineKind blankKind
@@ -70,11 +78,15 @@ line-kind (suc (suc (suc zero))) h g = quotes
 line-kind (suc (suc (suc (suc zero)))) h g = moves
 line-kind (suc (suc (suc (suc (suc zero))))) h g = reads
 line-kind (suc (suc (suc (suc (suc (suc zero)))))) h g = opens
-line-kind (suc (suc (suc (suc (suc (suc (suc zero))))))) h g = asks-interest
-line-kind (suc (suc (suc (suc (suc (suc (suc (suc zero)))))))) h g = asks-bond
-line-kind (suc (suc (suc (suc (suc (suc (suc (suc (suc zero))))))))) h g = is-blank
-line-kind (suc (suc (suc (suc (suc (suc (suc (suc (suc (suc zero)))))))))) h g = is-bad
-line-kind (suc (suc (suc (suc (suc (suc (suc (suc (suc (suc (suc j))))))))))) h g = let z : ⊥ = omega arith in absurd z
+line-kind (suc (suc (suc (suc (suc (suc (suc zero))))))) h g = sends
+line-kind (suc (suc (suc (suc (suc (suc (suc (suc zero)))))))) h g = notices
+line-kind (suc (suc (suc (suc (suc (suc (suc (suc (suc zero))))))))) h g = withdraws
+line-kind (suc (suc (suc (suc (suc (suc (suc (suc (suc (suc zero)))))))))) h g = asks-interest
+line-kind (suc (suc (suc (suc (suc (suc (suc (suc (suc (suc (suc zero))))))))))) h g = asks-bond
+line-kind (suc (suc (suc (suc (suc (suc (suc (suc (suc (suc (suc (suc zero)))))))))))) h g = is-blank
+line-kind (suc (suc (suc (suc (suc (suc (suc (suc (suc (suc (suc (suc (suc zero))))))))))))) h g = is-bad
+line-kind (suc (suc (suc (suc (suc (suc (suc (suc (suc (suc (suc (suc (suc (suc j)))))))))))))) h g =
+    let z : ⊥ = omega arith in absurd z
 
 -- ---- why
 
@@ -84,28 +96,48 @@ no-reasons true = refl
 no-reasons false = refl
 
 -- a request that is an evaluation is of its id and of its day
-evaluates-as : (is-admit is-evaluate is-quote is-move is-open : Bool) (g : Admission) (id id' side : ℕ) (d d' : Day)
-    (q : Quote) (rows rows' : List ℤ) (t : List Record)
+evaluates-as : (is-admit is-evaluate is-quote is-move is-open is-outside is-notice : Bool) (g : Admission)
+    (id id' side : ℕ)
+    (d d' : Day) (q : Quote) (x : Outside) (y : Notice) (rows rows' : List ℤ) (t : List Record)
     → pick is-admit (admit g) (pick is-evaluate (evaluate id d rows) (pick is-quote (quote id q)
-    (pick is-move (move id side) (pick is-open (openEvening id) (read id))))) ≡ evaluate id' d' rows'
+    (pick is-move (move id side) (pick is-open (openEvening id) (pick is-outside (receive id (together x))
+    (pick is-notice (receive id (notice y)) (read id))))))) ≡ evaluate id' d' rows'
     → whyOn t id d rows ≡ whyOn t id' d' rows'
-evaluates-as true b c e o g id id' side d d' q rows rows' t h = impossible cc
-evaluates-as false true c e o g id id' side d d' q rows rows' t h =
+evaluates-as true b c e o u v g id id' side d d' q x y rows rows' t h = impossible cc
+evaluates-as false true c e o u v g id id' side d d' q x y rows rows' t h =
     let i : id ≡ id' = cc in
     let j : d ≡ d' = cc in
     let k : rows ≡ rows' = cc in
     rw (i, j, k)
-evaluates-as false false true e o g id id' side d d' q rows rows' t h = impossible cc
-evaluates-as false false false true o g id id' side d d' q rows rows' t h = impossible cc
-evaluates-as false false false false true g id id' side d d' q rows rows' t h = impossible cc
-evaluates-as false false false false false g id id' side d d' q rows rows' t h = impossible cc
+evaluates-as false false true e o u v g id id' side d d' q x y rows rows' t h = impossible cc
+evaluates-as false false false true o u v g id id' side d d' q x y rows rows' t h = impossible cc
+evaluates-as false false false false true u v g id id' side d d' q x y rows rows' t h = impossible cc
+evaluates-as false false false false false true v g id id' side d d' q x y rows rows' t h = impossible cc
+evaluates-as false false false false false false true g id id' side d d' q x y rows rows' t h = impossible cc
+evaluates-as false false false false false false false g id id' side d d' q x y rows rows' t h = impossible cc
 
 why-of : (r : Request) (rows : List ℤ) (t : List Record) {id : ℕ} {d : Day} {rows' : List ℤ}
     → requestCall r rows ≡ evaluate id d rows' → whyOn t (r .id) (dayOf (r .day)) rows ≡ whyOn t id d rows'
 why-of r rows t {id} {d} {rows'} h =
     evaluates-as (eqb (r .kind) admitKind) (eqb (r .kind) evaluateKind) (eqb (r .kind) quoteKind)
-    (eqb (r .kind) moveKind) (eqb (r .kind) openKind) (r .admission) (r .id) id (r .side) (dayOf (r .day)) d (r .quote)
-    rows rows' t h
+    (eqb (r .kind) moveKind) (eqb (r .kind) openKind) (eqb (r .kind) outsideKind) (eqb (r .kind) noticeKind)
+    (r .admission) (r .id) id (r .side) (dayOf (r .day)) d (r .quote) (r .outside) (r .notice) rows rows' t h
+
+-- a notice of any side is answered with the record: `a` and `b` are whether it is a bid and whether it is an ask
+abbrev noticed : (a b : Bool) → (id side : ℕ) → Float → Call
+noticed a b id side x = pick a (receive id (notice (Bid x))) (pick b (receive id (notice (Ask x))) (move id side))
+
+noticed-said : (reasons a b : Bool) (id side : ℕ) (x : Float) (t : List Record)
+    → textOfKind noticeKind (step (noticed a b id side x) t .answer) ≡ callTold reasons (noticed a b id side x) t
+unfolding callTold callText textOfKind figuresOfKind figuresAnswered
+noticed-said reasons true b id side x t = refl
+noticed-said reasons false true id side x t = refl
+noticed-said reasons false false id side x t = refl
+
+notice-said : (reasons : Bool) (id side : ℕ) (x : Float) (t : List Record)
+    → textOfKind noticeKind (step (noticeCall id side x) t .answer) ≡ callTold reasons (noticeCall id side x) t
+unfolding noticeCall
+notice-said reasons id side x t = noticed-said reasons (eqb side 0) (eqb side 1) id side x t
 
 module _ (k : Kept) (zs : List ℤ) (p : Pairs) where
   abbrev worked : InterestAnswer
@@ -115,13 +147,16 @@ module _ (k : Kept) (zs : List ℤ) (p : Pairs) where
   workedBond = bondAnswer (bondOf k zs p) (figuresOf bondNames zs)
 
   asks-kind : {kind : ℕ} → LineKind kind → lineCall k kind zs p ≡ callIn (deedOf k (saidKind kind zs p))
-  unfolding lineCall callIn deedOf callOf
+  unfolding lineCall noticeLine callIn deedOf callOf
   asks-kind admits = refl
   asks-kind evaluates = refl
   asks-kind quotes = refl
   asks-kind moves = refl
   asks-kind reads = refl
   asks-kind opens = refl
+  asks-kind sends = refl
+  asks-kind notices = refl
+  asks-kind withdraws = refl
   asks-kind asks-interest = refl
   asks-kind asks-bond = refl
   asks-kind is-blank = refl
@@ -137,6 +172,9 @@ module _ (k : Kept) (zs : List ℤ) (p : Pairs) where
   keeps-kind kept moves e f = f (λ q. omega arith)
   keeps-kind kept reads e f = f (λ q. omega arith)
   keeps-kind kept opens e f = f (λ q. omega arith)
+  keeps-kind kept sends e f = f (λ q. omega arith)
+  keeps-kind kept notices e f = f (λ q. omega arith)
+  keeps-kind kept withdraws e f = f (λ q. omega arith)
   keeps-kind kept asks-interest e f = e refl
   keeps-kind kept asks-bond e f = f (λ q. omega arith)
   keeps-kind kept is-blank e f = f (λ q. omega arith)
@@ -156,6 +194,12 @@ module _ (k : Kept) (zs : List ℤ) (p : Pairs) where
   says-kind reasons n b r rows a t moves f g asks e = rw (no-reasons reasons, e .answer)
   says-kind reasons n b r rows a t reads f g asks e = rw (no-reasons reasons, e .answer)
   says-kind reasons n b r rows a t opens f g asks e = rw (no-reasons reasons, e .answer)
+  says-kind reasons n b r rows a t sends f g asks e = rw (no-reasons reasons, e .answer)
+  says-kind reasons n b r rows a t notices f g asks e =
+      rw (no-reasons reasons, e .answer)
+      (notice-said reasons (unsignedOf noticeNames zs ID) (unsignedOf noticeNames zs SIDE) (floatOf (the noticeNames zs
+      BITS)) t)
+  says-kind reasons n b r rows a t withdraws f g asks e = rw (no-reasons reasons, e .answer)
   says-kind reasons n b r rows a t asks-interest f g asks e = rw (no-reasons reasons, f refl)
   says-kind reasons n b r rows a t asks-bond f g asks e = rw (no-reasons reasons, g refl)
   says-kind reasons n b r rows a t is-blank f g asks e = rw (no-reasons reasons)

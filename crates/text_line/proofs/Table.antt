@@ -24,32 +24,33 @@ takes-behind (f ∷ fs) (suc k) n h = takes-behind fs k n (omega arith)
 past : {k c : ℕ} → (k ≡ c → ⊥) → c ≤ k → suc c ≤ k
 past n h = omega arith
 
--- there are eight calls
+-- there are eleven calls
 pub takes-none : (k n : ℕ) → (k ≡ 1 → ⊥) → (k ≡ 2 → ⊥) → (k ≡ 3 → ⊥) → (k ≡ 4 → ⊥) → (k ≡ 5 → ⊥) → (k ≡ 6 → ⊥)
-    → (k ≡ 7 → ⊥) → (k ≡ 8 → ⊥) → false ≡ takes k n
+    → (k ≡ 7 → ⊥) → (k ≡ 8 → ⊥) → (k ≡ 9 → ⊥) → (k ≡ 10 → ⊥) → (k ≡ 11 → ⊥) → false ≡ takes k n
 unfolding takes forms
-takes-none zero n a b c d e f g h = refl
-takes-none (suc k) n a b c d e f g h =
-    sym (takes-behind forms k n (less (past h (past g (past f (past e (past d (past c (past b (past a (some k)))))))))))
+takes-none zero n a b c d e f g h i j l = refl
+takes-none (suc k) n a b c d e f g h i j l =
+    sym (takes-behind forms k n (less (past l (past j (past i (past h (past g (past f (past e (past d (past c (past b
+    (past a (some k))))))))))))))
   where
     some : (k : ℕ) → 1 ≤ suc k
     some k = omega arith
 
-    less : {k : ℕ} → 9 ≤ suc k → 8 ≤ k
+    less : {k : ℕ} → 12 ≤ suc k → 11 ≤ k
     less h = omega arith
 
-pub takes-call : (k n : ℕ) → takes k n ≡ true → (0 < k) × (k ≤ 8)
+pub takes-call : (k n : ℕ) → takes k n ≡ true → (0 < k) × (k ≤ 11)
 unfolding takes forms
 takes-call zero n e = let z : _≡_ {A = ℕ} 0 1 = cc in let y : ⊥ = omega arith in absurd y
-takes-call (suc k) n e = go (leb 8 k) refl
+takes-call (suc k) n e = go (leb 11 k) refl
   where
-    go : (x : Bool) → leb 8 k ≡ x → (0 < suc k) × (suc k ≤ 8)
+    go : (x : Bool) → leb 11 k ≡ x → (0 < suc k) × (suc k ≤ 11)
     go true h =
-        let t : takesIn forms k n ≡ false = takes-behind forms k n (leb-true 8 k h) in
+        let t : takesIn forms k n ≡ false = takes-behind forms k n (leb-true 11 k h) in
         let z : _≡_ {A = ℕ} 0 1 = cc in
         let y : ⊥ = omega arith in
         absurd y
-    go false h = (omega arith, omega (arith, leb-false 8 k h))
+    go false h = (omega arith, omega (arith, leb-false 11 k h))
 
 module _ (k n : ℕ) (p : Pairs) (t : Bool) (is : t ≡ takes k n) where
   pub finish-call : t ≡ true → record { kind = k; count = n; pairs = p } ≡ lineOf k n p

@@ -15,10 +15,10 @@ use Rattle.text_line.specs.declared.Taken.{Taken}
 
 -- the kinds behind those of the calls
 abbrev pub blankKind : ℕ
-blankKind = 9
+blankKind = 12
 
 abbrev pub badKind : ℕ
-badKind = 10
+badKind = 13
 
 abbrev pub blankLine : Line
 blankLine = record { kind = blankKind; count = 0; pairs = noPairs }
@@ -32,7 +32,7 @@ said l xs =
     (pick (eqb (l .kind) badKind) NoCall (Call (l .kind) (take (l .count) xs) (l .pairs)))
 
 -- the reader's promise: the line says s, its numbers are the first of xs, xs is as long as it was, and the kind is one
--- of the ten
+-- of the thirteen
 pub record Heard (s : Said) (l : Line) (xs : List ℤ) : Type 0 where
   pub says : said l xs ≡ s
   pub long : length xs ≡ 126

@@ -84,6 +84,9 @@ fn kind_of(p: &[u8]) -> u64
 {
     let k = kind_if(p, b"bond", Kind::BOND, 0);
     let k = kind_if(p, b"interest", Kind::INTEREST, k);
+    let k = kind_if(p, b"withdraw", Kind::WITHDRAW, k);
+    let k = kind_if(p, b"notice", Kind::NOTICE, k);
+    let k = kind_if(p, b"outside", Kind::OUTSIDE, k);
     let k = kind_if(p, b"open", Kind::OPEN, k);
     let k = kind_if(p, b"read", Kind::READ, k);
     let k = kind_if(p, b"move", Kind::MOVE, k);
@@ -98,12 +101,15 @@ fn takes(kind: u64, count: usize) -> bool
     ensures { λ r. ⌜ r ≡ takes kind count ⌝ }
 {
     match kind {
-        Kind::ADMIT => count == 31,
+        Kind::ADMIT => count == 32,
         Kind::EVALUATE => 13 <= count,
         Kind::QUOTE => count == 5,
         Kind::MOVE => count == 2,
         Kind::READ => count == 1,
         Kind::OPEN => count == 1,
+        Kind::OUTSIDE => count == 3,
+        Kind::NOTICE => count == 3,
+        Kind::WITHDRAW => count == 1,
         Kind::INTEREST => 14 <= count,
         Kind::BOND => 33 <= count,
         _ => false,

@@ -3,9 +3,11 @@
 use desk::admit;
 use desk::evaluate_asked;
 use desk::moved;
+use desk::notify;
 use desk::open_evening;
 use desk::quote;
 use desk::read;
+use desk::receive;
 use paper::Answer;
 use paper::Record;
 use text_call::Request;
@@ -14,7 +16,7 @@ ghost use mathlib.Core.Path.{_≡_};
 ghost use Rattle.desk.specs.Promises.{Promised};
 ghost use Rattle.text_call.specs.Requests.{requestCall};
 
-// Whatever is none of these five kinds is a read; a line that is no call of the desk is a read of id 0, which
+// Whatever is none of these seven kinds is a read; a line that is no call of the desk is a read of id 0, which
 // stores nothing.
 pub fn perform(t: &mut [Record], c: Request, rows: &[i64]) -> Answer
     ensures { λ r. ⌜ Promised (requestCall c (now (rows .entry))) (now (t .entry)) r (now (t .exit)) ⌝ }
@@ -33,6 +35,12 @@ pub fn perform(t: &mut [Record], c: Request, rows: &[i64]) -> Answer
     }
     if c.kind == Kind::OPEN {
         return open_evening(t, c.id);
+    }
+    if c.kind == Kind::OUTSIDE {
+        return receive(t, c.id, c.outside);
+    }
+    if c.kind == Kind::NOTICE {
+        return notify(t, c.id, c.notice);
     }
     read(t, c.id)
 }

@@ -17,9 +17,9 @@ use Rattle.text_protocol.specs.declared.Item.the-variants as item
 use Rattle.text_protocol.specs.declared.Pairs.{Pairs}
 use Rattle.text_protocol.specs.Bytes.{isBlank, slash, digitZero, isNot, run, words, same}
 use Rattle.text_protocol.specs.Numbers.{numberOf, slashAt}
-use Rattle.text_protocol.specs.Names.{kindFrom, kindOf, forms, takes, admitWord, evaluateWord, quoteWord, moveWord, readWord, openWord, interestWord, bondWord}
+use Rattle.text_protocol.specs.Names.{kindFrom, kindOf, forms, takes, admitWord, evaluateWord, quoteWord, moveWord, readWord, openWord, outsideWord, noticeWord, withdrawWord, interestWord, bondWord}
 use Rattle.text_protocol.specs.Line.{NoCall, Call, oneOf, twoOf, itemOf, noPairs, pairFits, withPair, more, finished, fill, called, longest, meaning}
-use Rattle.text_protocol.specs.Written.{Blanks, no-blank, blank, Digits, no-digit, digit, Spells, plain, minus, CallWord, admit, evaluate, quote, move, read, openEvening, interest, bond, Numbers, done, one, two, Says, says}
+use Rattle.text_protocol.specs.Written.{Blanks, no-blank, blank, Digits, no-digit, digit, Spells, plain, minus, CallWord, admit, evaluate, quote, move, read, openEvening, outside, notice, withdraw, interest, bond, Numbers, done, one, two, Says, says}
 use Rattle.text_protocol.proofs.Words.{Solid, solid, Ends, end, parted, solid-append, words-blanks, words-solid, words-none, high-solid, allHigh, letters, Split, last, word, SplitOf, split-words, split, word-not-here}
 use Rattle.text_protocol.proofs.Spelling.{impossible, spells-reads, spells-solid, spells-some, reads-spells}
 use Rattle.text_protocol.proofs.Filling.{fill-none, fill-one, fill-two, fill-no-pair, fill-neither}
@@ -109,6 +109,9 @@ word-solid {w} quote = letters w refl
 word-solid {w} move = letters w refl
 word-solid {w} read = letters w refl
 word-solid {w} openEvening = letters w refl
+word-solid {w} outside = letters w refl
+word-solid {w} notice = letters w refl
+word-solid {w} withdraw = letters w refl
 word-solid {w} interest = letters w refl
 word-solid {w} bond = letters w refl
 
@@ -119,6 +122,9 @@ word-some quote = omega arith
 word-some move = omega arith
 word-some read = omega arith
 word-some openEvening = omega arith
+word-some outside = omega arith
+word-some notice = omega arith
+word-some withdraw = omega arith
 word-some interest = omega arith
 word-some bond = omega arith
 
@@ -130,6 +136,9 @@ word-called ws quote = refl
 word-called ws move = refl
 word-called ws read = refl
 word-called ws openEvening = refl
+word-called ws outside = refl
+word-called ws notice = refl
+word-called ws withdraw = refl
 word-called ws interest = refl
 word-called ws bond = refl
 
@@ -313,23 +322,35 @@ word-back : (w : List ℕ) → eqb (kindOf w) 0 ≡ false → CallWord w (kindOf
 unfolding kindOf kindFrom forms
 word-back w e =
     go (same w admitWord) (same w evaluateWord) (same w quoteWord) (same w moveWord) (same w readWord) (same w openWord)
-    (same w interestWord) (same w bondWord)
-    refl refl refl refl refl refl refl refl e
+    (same w outsideWord) (same w noticeWord) (same w withdrawWord) (same w interestWord) (same w bondWord)
+    refl refl refl refl refl refl refl refl refl refl refl e
   where
-    go : (a b c d f o g h : Bool) → same w admitWord ≡ a → same w evaluateWord ≡ b → same w quoteWord ≡ c
-        → same w moveWord ≡ d → same w readWord ≡ f → same w openWord ≡ o → same w interestWord ≡ g
-        → same w bondWord ≡ h
-        → eqb (pick a 1 (pick b 2 (pick c 3 (pick d 4 (pick f 5 (pick o 6 (pick g 7 (pick h 8 0)))))))) 0 ≡ false
-        → CallWord w (pick a 1 (pick b 2 (pick c 3 (pick d 4 (pick f 5 (pick o 6 (pick g 7 (pick h 8 0))))))))
-    go true b c d f o g h ha hb hc hd hf ho hg hh e = rw (same-is w admitWord ha) admit
-    go false true c d f o g h ha hb hc hd hf ho hg hh e = rw (same-is w evaluateWord hb) evaluate
-    go false false true d f o g h ha hb hc hd hf ho hg hh e = rw (same-is w quoteWord hc) quote
-    go false false false true f o g h ha hb hc hd hf ho hg hh e = rw (same-is w moveWord hd) move
-    go false false false false true o g h ha hb hc hd hf ho hg hh e = rw (same-is w readWord hf) read
-    go false false false false false true g h ha hb hc hd hf ho hg hh e = rw (same-is w openWord ho) openEvening
-    go false false false false false false true h ha hb hc hd hf ho hg hh e = rw (same-is w interestWord hg) interest
-    go false false false false false false false true ha hb hc hd hf ho hg hh e = rw (same-is w bondWord hh) bond
-    go false false false false false false false false ha hb hc hd hf ho hg hh e = impossible cc
+    go : (a b c d f o x y z g h : Bool) → same w admitWord ≡ a → same w evaluateWord ≡ b → same w quoteWord ≡ c
+        → same w moveWord ≡ d → same w readWord ≡ f → same w openWord ≡ o → same w outsideWord ≡ x
+        → same w noticeWord ≡ y → same w withdrawWord ≡ z → same w interestWord ≡ g → same w bondWord ≡ h
+        → eqb (pick a 1 (pick b 2 (pick c 3 (pick d 4 (pick f 5 (pick o 6 (pick x 7 (pick y 8 (pick z 9 (pick g 10 (pick
+        h 11 0))))))))))) 0 ≡ false
+        → CallWord w (pick a 1 (pick b 2 (pick c 3 (pick d 4 (pick f 5 (pick o 6 (pick x 7 (pick y 8 (pick z 9 (pick g
+        10 (pick h 11 0)))))))))))
+    go true b c d f o x y z g h ha hb hc hd hf ho hx hy hz hg hh e = rw (same-is w admitWord ha) admit
+    go false true c d f o x y z g h ha hb hc hd hf ho hx hy hz hg hh e = rw (same-is w evaluateWord hb) evaluate
+    go false false true d f o x y z g h ha hb hc hd hf ho hx hy hz hg hh e = rw (same-is w quoteWord hc) quote
+    go false false false true f o x y z g h ha hb hc hd hf ho hx hy hz hg hh e = rw (same-is w moveWord hd) move
+    go false false false false true o x y z g h ha hb hc hd hf ho hx hy hz hg hh e = rw (same-is w readWord hf) read
+    go false false false false false true x y z g h ha hb hc hd hf ho hx hy hz hg hh e =
+        rw (same-is w openWord ho) openEvening
+    go false false false false false false true y z g h ha hb hc hd hf ho hx hy hz hg hh e =
+        rw (same-is w outsideWord hx) outside
+    go false false false false false false false true z g h ha hb hc hd hf ho hx hy hz hg hh e =
+        rw (same-is w noticeWord hy) notice
+    go false false false false false false false false true g h ha hb hc hd hf ho hx hy hz hg hh e =
+        rw (same-is w withdrawWord hz) withdraw
+    go false false false false false false false false false true h ha hb hc hd hf ho hx hy hz hg hh e =
+        rw (same-is w interestWord hg) interest
+    go false false false false false false false false false false true ha hb hc hd hf ho hx hy hz hg hh e =
+        rw (same-is w bondWord hh) bond
+    go false false false false false false false false false false false ha hb hc hd hf ho hx hy hz hg hh e =
+        impossible cc
 
 line-back : {l : List ℕ} {ws : List (List ℕ)} (k : ℕ) (zs : List ℤ) (p : Pairs) → Split l ws → length l ≤ longest
     → called ws ≡ Call k zs p → Says l k zs p

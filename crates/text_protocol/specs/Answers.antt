@@ -8,6 +8,7 @@ use lib.ListN.{getD}
 use Rattle.paper.specs.declared.Standing.{Standing}
 use Rattle.paper.specs.declared.Session.{Session}
 use Rattle.paper.specs.declared.Session.the-variants as session
+use Rattle.paper.specs.declared.External.{External}
 use Rattle.paper.specs.declared.Rate.{Rate}
 use Rattle.paper.specs.declared.Tentative.{Tentative}
 use Rattle.paper.specs.declared.Limits.{Limits}
@@ -24,7 +25,7 @@ use Rattle.paper_bonds.specs.declared.BondAnswer.{BondAnswer}
 use Rattle.paper.specs.Lists.{pick}
 use Rattle.paper.specs.Ranges.{isLive, lastDay, noLimits, notNear, termAt, rateAt}
 use Rattle.paper.specs.Verdicts.{numberOf, isDone}
-use Rattle.paper_desk.specs.Desk.{Call, admit, evaluate, quote, move, read, openEvening}
+use Rattle.paper_desk.specs.Desk.{Call, admit, evaluate, quote, move, read, openEvening, receive}
 use Rattle.text_protocol.specs.Bytes.{space, lineFeed}
 use Rattle.text_protocol.specs.Numbers.{decimal, signed}
 
@@ -124,11 +125,16 @@ unfoldable pub sessionNumbers : Session → List ℤ
 sessionNumbers session.Main = pos 0 ∷ pos 0 ∷ []
 sessionNumbers (session.Evening made) = pos 1 ∷ pos made ∷ []
 
+-- EXTBID EXTASK (W-211): 0 is none
+unfoldable pub externalNumbers : External → List ℤ
+externalNumbers x = pos (x .bid) ∷ pos (x .ask) ∷ []
+
 -- a record
 unfoldable pub recordNumbers : Record → List ℤ
 recordNumbers r =
     figureNumbers r ++ ratesNumbers (r .rates) ++ rangesNumbers (r .ranges)
     ++ termNumbersAt r 0 ++ termNumbersAt r 1 ++ termNumbersAt r 2 ++ lastNumbers r ++ sessionNumbers (r .session)
+    ++ externalNumbers (r .external)
 
 -- ---- what a call answers
 
@@ -140,6 +146,7 @@ figuresOf (quote id q) a = flag (a .top) ∷ flag (a .bottom) ∷ []
 figuresOf (move id side) a = recordNumbers (a .rec)
 figuresOf (read id) a = recordNumbers (a .rec)
 figuresOf (openEvening id) a = recordNumbers (a .rec)
+figuresOf (receive id x) a = recordNumbers (a .rec)
 
 -- a refusal's number stands alone
 unfoldable pub callText : Call → Answer → List ℕ

@@ -3,21 +3,25 @@
 use mathlib.Core.Path.{_≡_, refl}
 use mathlib.Core.List.{[], _∷_}
 use Prim.Native.String.{String}
+use lib.Ieee.{Float, binary64, ofBits}
 use lib.IntN.{pos}
+use Prim.Native.Nat.{ℕ}
 use Rattle.paper.specs.declared.Verdict.the-variants.{Done}
 use Rattle.paper.specs.declared.RepoBand.the-variants as band
+use Rattle.paper.specs.declared.Notice.the-variants.{Bid, Ask, Withdrawal}
 use Rattle.paper.specs.Verdicts.{isDone}
 use Rattle.paper.specs.Ranges.{unsigned}
 use Rattle.paper.specs.Terms.{workedRepo, repoOf, dayOf, termOf as dayTerm}
-use Rattle.paper_desk.specs.Desk.{admit, evaluate, quote, move, read, openEvening}
+use Rattle.paper_desk.specs.Desk.{admit, evaluate, quote, move, read, openEvening, receive}
+use Rattle.paper_desk.specs.External.{together, notice}
 use Rattle.text_protocol.specs.declared.Kept.{Kept}
 use Rattle.text_protocol.specs.Bytes.{isBlank, isNot, run, grow, pieces, full, words, same}
-use Rattle.text_protocol.specs.Numbers.{isDigit, sizeFrom, sizeOf, upTo, above, numberOf, slashAt}
-use Rattle.text_protocol.specs.Names.{code, admitNames, evaluateNames, quoteNames, moveNames, readNames, openNames, interestNames, bondNames, forms, kindFrom, kindOf, countFits, takesIn, takes, placeOf, the}
+use Rattle.text_protocol.specs.Numbers.{isDigit, sizeFrom, sizeOf, upTo, above, below, numberOf, slashAt}
+use Rattle.text_protocol.specs.Names.{code, admitNames, evaluateNames, quoteNames, moveNames, readNames, openNames, outsideNames, noticeNames, withdrawNames, interestNames, bondNames, forms, kindFrom, kindOf, countFits, takesIn, takes, placeOf, the}
 use Rattle.text_protocol.specs.Line.{oneOf, twoOf, itemOf, hasTerms, placeIn, pairFits, withPair, more, taking, onWith, finished, fill, called, meaning}
 use Rattle.text_protocol.specs.LineCases.{bytes, naturals}
 use Rattle.text_protocol.specs.Kept.{noPair, foundIn}
-use Rattle.text_protocol.specs.Calls.{Deed, call, interest, bond, givenOf, admissionOf, quoteOf, interestOf, bandOf, termOf, askedOf, bondStaticsOf, bondOf, figuresOf, callOf, deedOf}
+use Rattle.text_protocol.specs.Calls.{Deed, call, interest, bond, givenOf, admissionOf, quoteOf, bitsOf, floatOf, outsideOf, noticeCall, interestOf, bandOf, termOf, askedOf, bondStaticsOf, bondOf, figuresOf, callOf, deedOf}
 
 -- of the pair 6/7 the limits 60 and 70 are kept, of no other pair any
 unfoldable pub keptLimits : Kept
@@ -28,11 +32,15 @@ keptLimits =
       oldest = noPair;
     }
 
+-- the float of 64 bits
+unfoldable pub floatAt : ℕ → Float
+floatAt bits = ofBits binary64 bits
+
 unfoldable pub deedBy : String → Deed
 deedBy text = deedOf keptLimits (meaning (bytes text))
 
 -- EACH NUMBER OF A LINE IS THE ONE OF ITS NAME; a pair of terms that is kept is its limits
-pub asked : (deedBy "admit 1 2 3 4 5 6 7 8 9 10 11 12 13 14 15 16 17 18 19 20 21 22 23 24 25 26 27 28 29 30 31"
+pub asked : (deedBy "admit 1 2 3 4 5 6 7 8 9 10 11 12 13 14 15 16 17 18 19 20 21 22 23 24 25 26 27 28 29 30 31 32"
     ≡ call (admit (record {
       id = 1;
       day = 2;
@@ -66,6 +74,7 @@ pub asked : (deedBy "admit 1 2 3 4 5 6 7 8 9 10 11 12 13 14 15 16 17 18 19 20 21
         uevening = 29;
         autochange = 30;
         eveningmax = 31;
+        useexternal = 32;
       };
     })))
     × (deedBy "evaluate 1 2 3 4 5 6 7 8 9 10 11 12 13 14 15"
@@ -88,6 +97,14 @@ pub asked : (deedBy "admit 1 2 3 4 5 6 7 8 9 10 11 12 13 14 15 16 17 18 19 20 21
     × (deedBy "move 1 2" ≡ call (move 1 2))
     × (deedBy "read 1" ≡ call (read 1))
     × (deedBy "open 1" ≡ call (openEvening 1))
+    × (deedBy "outside 1 2 3" ≡ call (receive 1 (together (record { bid = floatAt 2; ask = floatAt 3 }))))
+    × (deedBy "notice 1 0 2" ≡ call (receive 1 (notice (Bid (floatAt 2)))))
+    × (deedBy "notice 1 1 4637300241308057600" ≡ call (receive 1 (notice (Ask (floatAt 0x405b_0000_0000_0000)))))
+    -- of a number below zero: the zero that has a minus, and -1, whose bits are all 1
+    × (deedBy "notice 1 0 -9223372036854775808" ≡ call (receive 1 (notice (Bid (floatAt 0x8000_0000_0000_0000)))))
+    × (deedBy "notice 1 0 -1" ≡ call (receive 1 (notice (Bid (floatAt 0xffff_ffff_ffff_ffff)))))
+    × (deedBy "notice 1 2 3" ≡ call (move 1 2))
+    × (deedBy "withdraw 1" ≡ call (receive 1 (notice Withdrawal)))
     × (deedBy "interest 1 2 3 4 5 6 7 8 9 10 11 12 13 14 15 16"
     ≡ interest (record {
       b = 1;
@@ -134,10 +151,13 @@ pub asked : (deedBy "admit 1 2 3 4 5 6 7 8 9 10 11 12 13 14 15 16 17 18 19 20 21
       third = record { k = 15; band = band.Given (record { low = pos 16; high = pos 17 }) };
       repo = pos 5;
     }) (naturals (34 ∷ 35 ∷ [])))
-unfolding deedBy keptLimits bytes isDone unsigned workedRepo repoOf dayOf dayTerm isBlank isNot run grow
-    pieces full words same isDigit sizeFrom sizeOf upTo above numberOf slashAt code admitNames evaluateNames quoteNames
-    moveNames readNames openNames interestNames bondNames forms kindFrom kindOf countFits takesIn takes placeOf the
+unfolding floatAt deedBy keptLimits bytes isDone unsigned workedRepo repoOf dayOf dayTerm isBlank isNot run grow
+    pieces full words same isDigit sizeFrom sizeOf upTo above below numberOf slashAt code admitNames evaluateNames
+    quoteNames
+    moveNames readNames openNames outsideNames noticeNames withdrawNames interestNames bondNames forms kindFrom kindOf
+    countFits takesIn takes placeOf the
     oneOf twoOf itemOf hasTerms placeIn pairFits withPair more taking onWith finished fill called meaning foundIn
     givenOf
-    admissionOf quoteOf interestOf bandOf termOf askedOf bondStaticsOf bondOf figuresOf callOf deedOf
-asked = (refl, refl, refl, refl, refl, refl, refl, refl, refl)
+    admissionOf quoteOf bitsOf floatOf outsideOf noticeCall interestOf bandOf termOf askedOf bondStaticsOf bondOf
+    figuresOf callOf deedOf
+asked = (refl, refl, refl, refl, refl, refl, refl, refl, refl, refl, refl, refl, refl, refl, refl, refl)

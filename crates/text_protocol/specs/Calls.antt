@@ -1,14 +1,17 @@
 -- docs/EVENING.md, "The calls": what each call is given, by the names of its numbers; and the call of document 01 (or
--- of W-201, or of W-206) that a line is. Assumes nothing.
+-- of W-201, W-206, W-210 or W-211) that a line is. Assumes nothing.
 use mathlib.Core.Bool.{Bool, true, false}
 use mathlib.Core.List.{List}
-use Prim.Native.Nat.{ℕ}
+use Prim.Native.Nat.{ℕ, _-_}
 use lib.Dec.{eqb}
-use lib.IntN.{ℤ}
+use lib.Ieee.{Float, binary64, ofBits}
+use lib.IntN.{ℤ, pos, negsuc}
 use lib.ListN.{length, drop}
 use Rattle.paper.specs.declared.GivenStatics.{GivenStatics}
 use Rattle.paper.specs.declared.Admission.{Admission}
 use Rattle.paper.specs.declared.Quote.{Quote}
+use Rattle.paper.specs.declared.Outside.{Outside}
+use Rattle.paper.specs.declared.Notice.the-variants.{Bid, Ask, Withdrawal}
 use Rattle.paper.specs.declared.Interest.{Interest}
 use Rattle.paper.specs.declared.RepoBand.{RepoBand}
 use Rattle.paper.specs.declared.RepoBand.the-variants as band
@@ -19,11 +22,12 @@ use Rattle.paper_bonds.specs.declared.Bond.{Bond}
 use Rattle.paper.specs.Lists.{pick}
 use Rattle.paper.specs.Ranges.{unsigned}
 use Rattle.paper.specs.Terms.{dayOf}
-use Rattle.paper_desk.specs.Desk.{Call, admit, evaluate, quote, move, read, openEvening}
+use Rattle.paper_desk.specs.Desk.{Call, admit, evaluate, quote, move, read, openEvening, receive}
+use Rattle.paper_desk.specs.External.{together, notice}
 use Rattle.text_protocol.specs.declared.Kept.{Kept}
 use Rattle.text_protocol.specs.declared.Pairs.{Pairs}
 use Rattle.text_protocol.specs.Kept.{foundIn}
-use Rattle.text_protocol.specs.Names.{Name, ID, DAY, P1, P2, S, TENTATIVE, LOT, H, Q, A-UP, A-DOWN, WAIT, RH1, RH2, RH3, LIQ, MIN1, MIN2, MIN3, SMAX, XPR, SHIFT, PCHMAX, PCLMAX, W, U, MONITORING, ISEWMA, B, M, K0, RRCL0, RRCH0, K1, RRCL1, RRCH1, K2, RRCL2, RRCH2, SECOND, TERM, BID, ASK, SIDE, YM, YN, MM, SEC, XIR, MONEY, SECRATE, NET, FACE, ACCRUED, REPO, AGE, U-EVENING, AUTOCHANGE, EVENINGMAX, admitNames, evaluateNames, quoteNames, moveNames, readNames, openNames, interestNames, bondNames, admitKind, evaluateKind, quoteKind, moveKind, readKind, openKind, interestKind, the}
+use Rattle.text_protocol.specs.Names.{Name, ID, DAY, P1, P2, S, TENTATIVE, LOT, H, Q, A-UP, A-DOWN, WAIT, RH1, RH2, RH3, LIQ, MIN1, MIN2, MIN3, SMAX, XPR, SHIFT, PCHMAX, PCLMAX, W, U, MONITORING, ISEWMA, B, M, K0, RRCL0, RRCH0, K1, RRCL1, RRCH1, K2, RRCL2, RRCH2, SECOND, TERM, BID, ASK, SIDE, YM, YN, MM, SEC, XIR, MONEY, SECRATE, NET, FACE, ACCRUED, REPO, AGE, U-EVENING, AUTOCHANGE, EVENINGMAX, USEEXTERNAL, BIDBITS, ASKBITS, BITS, admitNames, evaluateNames, quoteNames, moveNames, readNames, openNames, outsideNames, noticeNames, withdrawNames, interestNames, bondNames, admitKind, evaluateKind, quoteKind, moveKind, readKind, openKind, outsideKind, noticeKind, withdrawKind, interestKind, the}
 use Rattle.text_protocol.specs.Line.{Said, Nothing, NoCall, Call as saysCall}
 
 -- a number that may not be below zero: one that is, is out of every range
@@ -58,6 +62,7 @@ givenOf zs =
       uevening = unsignedOf admitNames zs U-EVENING;
       autochange = unsignedOf admitNames zs AUTOCHANGE;
       eveningmax = unsignedOf admitNames zs EVENINGMAX;
+      useexternal = unsignedOf admitNames zs USEEXTERNAL;
     }
 
 unfoldable pub admissionOf : List ℤ → Admission
@@ -80,6 +85,32 @@ quoteOf zs =
       bid = unsignedOf quoteNames zs BID;
       ask = unsignedOf quoteNames zs ASK;
     }
+
+-- ---- what the outside source sends
+
+-- the 64 bits that a signed number stands for, as a number: those of -1 are all 1, and those of -(n + 1) are n less
+abbrev pub allOnes : ℕ
+allOnes = 18446744073709551615
+
+unfoldable pub bitsOf : ℤ → ℕ
+bitsOf (pos n) = n
+bitsOf (negsuc n) = allOnes - n
+
+-- THE FLOAT of 64 bits that stand as a signed number
+unfoldable pub floatOf : ℤ → Float
+floatOf z = ofBits binary64 (bitsOf z)
+
+unfoldable pub outsideOf : List ℤ → Outside
+outsideOf zs =
+    record { bid = floatOf (the outsideNames zs BIDBITS); ask = floatOf (the outsideNames zs ASKBITS) }
+
+-- a notice of a side: 0 is a bid and 1 an ask. Another side is the move of that side, which no move has: it is refused
+-- with 1, then with 6
+unfoldable pub noticeCall : (id side : ℕ) → Float → Call
+noticeCall id side x =
+    pick (eqb side 0) (receive id (notice (Bid x))) (pick (eqb side 1) (receive id (notice (Ask x))) (move id side))
+
+-- ---- an evening's interest side
 
 unfoldable pub interestOf : List ℤ → Interest
 interestOf zs =
@@ -191,8 +222,12 @@ callOf k kind zs p =
     (pick (eqb kind moveKind) (call (move (unsignedOf moveNames zs ID) (unsignedOf moveNames zs SIDE)))
     (pick (eqb kind readKind) (call (read (unsignedOf readNames zs ID)))
     (pick (eqb kind openKind) (call (openEvening (unsignedOf openNames zs ID)))
+    (pick (eqb kind outsideKind) (call (receive (unsignedOf outsideNames zs ID) (together (outsideOf zs))))
+    (pick (eqb kind noticeKind) (call (noticeCall (unsignedOf noticeNames zs ID) (unsignedOf noticeNames zs SIDE)
+    (floatOf (the noticeNames zs BITS))))
+    (pick (eqb kind withdrawKind) (call (receive (unsignedOf withdrawNames zs ID) (notice Withdrawal)))
     (pick (eqb kind interestKind) (interest (interestOf zs) (figuresOf interestNames zs))
-    (bond (bondOf k zs p) (figuresOf bondNames zs))))))))
+    (bond (bondOf k zs p) (figuresOf bondNames zs)))))))))))
 
 unfoldable pub deedOf : Kept → Said → Deed
 deedOf k Nothing = nothing

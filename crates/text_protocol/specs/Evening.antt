@@ -7,7 +7,7 @@ use lib.Dec.{ltb}
 use Rattle.paper.specs.declared.Record.{Record}
 use Rattle.paper.specs.Lists.{pick}
 use Rattle.paper_interest.specs.Interest.{interestAnswer}
-use Rattle.paper_desk.specs.Desk.{Call, admit, evaluate, quote, move, read, openEvening, step}
+use Rattle.paper_desk.specs.Desk.{Call, admit, evaluate, quote, move, read, openEvening, receive, step}
 use Rattle.paper_bonds.specs.Bonds.{bondAnswer}
 use Rattle.paper_reasons.specs.Why.{whyOn}
 use Rattle.text_protocol.specs.declared.Kept.{Kept}
@@ -55,6 +55,7 @@ callTold reasons (quote id q) t = answerTo (quote id q) t
 callTold reasons (move id side) t = answerTo (move id side) t
 callTold reasons (read id) t = answerTo (read id) t
 callTold reasons (openEvening id) t = answerTo (openEvening id) t
+callTold reasons (receive id x) t = answerTo (receive id x) t
 
 -- the answer to the n-th line; a blank line has none
 unfoldable pub textOf : (reasons : Bool) → (n : ℕ) → Deed → List Record → List ℕ

@@ -11,7 +11,7 @@ use lib.IntN.{ℤ, pos, negsuc}
 use lib.ListN.{replicate}
 use Rattle.text_protocol.specs.Bytes.{isBlank, isLineFeed, isNot, run, grow, pieces, full, ended, words, lines, same}
 use Rattle.text_protocol.specs.Numbers.{isDigit, sizeFrom, sizeOf, upTo, above, below, numberOf, slashAt}
-use Rattle.text_protocol.specs.Names.{admitKind, evaluateKind, quoteKind, moveKind, readKind, openKind, interestKind, bondKind, admitNames, evaluateNames, quoteNames, moveNames, readNames, openNames, interestNames, bondNames, forms, kindFrom, kindOf, countFits, takesIn, takes, placeOf}
+use Rattle.text_protocol.specs.Names.{admitKind, evaluateKind, quoteKind, moveKind, readKind, openKind, outsideKind, noticeKind, withdrawKind, interestKind, bondKind, admitNames, evaluateNames, quoteNames, moveNames, readNames, openNames, outsideNames, noticeNames, withdrawNames, interestNames, bondNames, forms, kindFrom, kindOf, countFits, takesIn, takes, placeOf}
 use Rattle.text_protocol.specs.Names.{code as codeOf}
 use Rattle.text_protocol.specs.Line.{Said, Nothing, NoCall, Call, oneOf, twoOf, itemOf, noPairs, keptMost, hasTerms, placeIn, pairFits, withPair, more, taking, onWith, finished, fill, called, meaning}
 
@@ -37,9 +37,9 @@ unfoldable pub lineCases : List LineCase
 lineCases =
     -- lines of examples/evening.txt: a line of each call, numbers below zero, pairs of terms
     line
-    "admit 15 3 10 10 20000 600 10 100 300 1000 500 5 2 5 8 50 500 700 900 4000 200 25 2000 2000 1000 60 1 1 120 1 2"
+    "admit 15 3 10 10 20000 600 10 100 300 1000 500 5 2 5 8 50 500 700 900 4000 200 25 2000 2000 1000 60 1 1 120 1 2 0"
     (Call admitKind (naturals (15 ∷ 3 ∷ 10 ∷ 10 ∷ 20000 ∷ 600 ∷ 10 ∷ 100 ∷ 300 ∷ 1000 ∷ 500 ∷ 5 ∷ 2
-    ∷ 5 ∷ 8 ∷ 50 ∷ 500 ∷ 700 ∷ 900 ∷ 4000 ∷ 200 ∷ 25 ∷ 2000 ∷ 2000 ∷ 1000 ∷ 60 ∷ 1 ∷ 1 ∷ 120 ∷ 1 ∷ 2 ∷ [])) noPairs)
+    ∷ 5 ∷ 8 ∷ 50 ∷ 500 ∷ 700 ∷ 900 ∷ 4000 ∷ 200 ∷ 25 ∷ 2000 ∷ 2000 ∷ 1000 ∷ 60 ∷ 1 ∷ 1 ∷ 120 ∷ 1 ∷ 2 ∷ 0 ∷ [])) noPairs)
     ∷ line "evaluate 7 4 0 0 0 0 0 0 0 0 0 0 0 0 10000 0 1030000 0 0 5"
     (Call evaluateKind (naturals (7 ∷ 4 ∷ 0 ∷ 0 ∷ 0 ∷ 0 ∷ 0 ∷ 0 ∷ 0 ∷ 0 ∷ 0 ∷ 0 ∷ 0 ∷ 0 ∷ 10000 ∷ 0 ∷ 1030000
     ∷ 0 ∷ 0 ∷ 5 ∷ [])) noPairs)
@@ -51,6 +51,10 @@ lineCases =
     ∷ line "move 7 0" (Call moveKind (naturals (7 ∷ 0 ∷ [])) noPairs)
     ∷ line "read 9" (Call readKind (naturals (9 ∷ [])) noPairs)
     ∷ line "open 16" (Call openKind (naturals (16 ∷ [])) noPairs)
+    ∷ line "outside 18 4636702106982547456 4636965989773213696"
+    (Call outsideKind (naturals (18 ∷ 4636702106982547456 ∷ 4636965989773213696 ∷ [])) noPairs)
+    ∷ line "notice 18 1 9221120237041090560" (Call noticeKind (naturals (18 ∷ 1 ∷ 9221120237041090560 ∷ [])) noPairs)
+    ∷ line "withdraw 18" (Call withdrawKind (naturals (18 ∷ [])) noPairs)
     ∷ line "evaluate 7 7 0 0 1 0/1 2 0/2 0 0 0 0 10000 0 1010000 0 0 5"
     (Call evaluateKind (naturals (7 ∷ 7 ∷ 0 ∷ 0 ∷ 1 ∷ 0 ∷ 1 ∷ 2 ∷ 0 ∷ 2 ∷ 0 ∷ 0 ∷ 0 ∷ 0 ∷ 10000 ∷ 0 ∷ 1010000
     ∷ 0 ∷ 0 ∷ 5 ∷ [])) (record { first = true; second = true; third = false }))
@@ -105,15 +109,19 @@ lineCases =
     ∷ line "read 7.0" NoCall
     ∷ line "read 7;" NoCall
     ∷ line "move 7 0;read 9" NoCall
-    -- too few numbers and too many; an admission without the evening's three
+    -- too few numbers and too many; an admission without USEEXTERNAL
     ∷ line "read" NoCall
     ∷ line "open" NoCall
     ∷ line "open 7 0" NoCall
     ∷ line "move 7" NoCall
     ∷ line "move 7 0 0" NoCall
     ∷ line
-    "admit 15 3 10 10 20000 600 10 100 300 1000 500 5 2 5 8 50 500 700 900 4000 200 25 2000 2000 1000 60 1 1"
+    "admit 15 3 10 10 20000 600 10 100 300 1000 500 5 2 5 8 50 500 700 900 4000 200 25 2000 2000 1000 60 1 1 120 1 2"
     NoCall
+    ∷ line "outside 18 1" NoCall
+    ∷ line "outside 18 103.25 103.5" NoCall
+    ∷ line "notice 18 0" NoCall
+    ∷ line "withdraw 18 0" NoCall
     -- a word in other letters, and a word's part
     ∷ line "Read 7" NoCall
     ∷ line "reads 7" NoCall
@@ -133,6 +141,7 @@ pub meanings : (map heard lineCases ≡ map meant lineCases)
     × (lines (bytes "move 7 0\nread 9\n") ≡ bytes "move 7 0" ∷ bytes "read 9" ∷ [])
 unfolding lineCases heard meant bytes ones isBlank isLineFeed isNot run grow pieces full ended words lines same isDigit
     sizeFrom sizeOf upTo above below numberOf slashAt admitNames evaluateNames quoteNames moveNames readNames
-    openNames interestNames bondNames forms kindFrom kindOf countFits takesIn takes placeOf codeOf oneOf twoOf itemOf
+    openNames outsideNames noticeNames withdrawNames interestNames bondNames forms kindFrom kindOf countFits takesIn
+    takes placeOf codeOf oneOf twoOf itemOf
     hasTerms placeIn pairFits withPair more taking onWith finished fill called meaning
 meanings = (refl, refl, refl, refl)

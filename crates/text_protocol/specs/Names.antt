@@ -69,6 +69,10 @@ pub data Name : Type 0 where
   U-EVENING : Name
   AUTOCHANGE : Name
   EVENINGMAX : Name
+  USEEXTERNAL : Name
+  BIDBITS : Name
+  ASKBITS : Name
+  BITS : Name
 
 -- a number for each name, by which names are told apart
 unfoldable pub code : Name → ℕ
@@ -131,6 +135,10 @@ code AGE = 55
 code U-EVENING = 56
 code AUTOCHANGE = 57
 code EVENINGMAX = 58
+code USEEXTERNAL = 59
+code BIDBITS = 60
+code ASKBITS = 61
+code BITS = 62
 
 -- ---- the calls
 
@@ -144,7 +152,8 @@ pub record Form : Type 0 where
 unfoldable pub admitNames : List Name
 admitNames =
     ID ∷ DAY ∷ P1 ∷ P2 ∷ S ∷ TENTATIVE ∷ LOT ∷ H ∷ Q ∷ A-UP ∷ A-DOWN ∷ WAIT ∷ RH1 ∷ RH2 ∷ RH3 ∷ LIQ ∷ MIN1 ∷ MIN2 ∷ MIN3
-    ∷ SMAX ∷ XPR ∷ SHIFT ∷ PCHMAX ∷ PCLMAX ∷ W ∷ U ∷ MONITORING ∷ ISEWMA ∷ U-EVENING ∷ AUTOCHANGE ∷ EVENINGMAX ∷ []
+    ∷ SMAX ∷ XPR ∷ SHIFT ∷ PCHMAX ∷ PCLMAX ∷ W ∷ U ∷ MONITORING ∷ ISEWMA ∷ U-EVENING ∷ AUTOCHANGE ∷ EVENINGMAX
+    ∷ USEEXTERNAL ∷ []
 
 -- a pair of terms stands for two numbers: in place of each RRCL RRCH a pair YM/YN may stand
 unfoldable pub evaluateNames : List Name
@@ -162,6 +171,17 @@ readNames = ID ∷ []
 -- the opening of the evening (W-210)
 unfoldable pub openNames : List Name
 openNames = ID ∷ []
+
+-- what the outside source sends (W-211): a bid and an ask together, a notice of one side, the withdrawal of both. BITS
+-- are the 64 bits of a float, as a signed number
+unfoldable pub outsideNames : List Name
+outsideNames = ID ∷ BIDBITS ∷ ASKBITS ∷ []
+
+unfoldable pub noticeNames : List Name
+noticeNames = ID ∷ SIDE ∷ BITS ∷ []
+
+unfoldable pub withdrawNames : List Name
+withdrawNames = ID ∷ []
 
 unfoldable pub interestNames : List Name
 interestNames = B ∷ YM ∷ YN ∷ A-UP ∷ A-DOWN ∷ Q ∷ H ∷ WAIT ∷ LIQ ∷ MM ∷ SEC ∷ XIR ∷ MONEY ∷ SECRATE ∷ []
@@ -192,6 +212,15 @@ readWord = 114 ∷ 101 ∷ 97 ∷ 100 ∷ []  -- "read"
 abbrev pub openWord : List ℕ
 openWord = 111 ∷ 112 ∷ 101 ∷ 110 ∷ []  -- "open"
 
+abbrev pub outsideWord : List ℕ
+outsideWord = 111 ∷ 117 ∷ 116 ∷ 115 ∷ 105 ∷ 100 ∷ 101 ∷ []  -- "outside"
+
+abbrev pub noticeWord : List ℕ
+noticeWord = 110 ∷ 111 ∷ 116 ∷ 105 ∷ 99 ∷ 101 ∷ []  -- "notice"
+
+abbrev pub withdrawWord : List ℕ
+withdrawWord = 119 ∷ 105 ∷ 116 ∷ 104 ∷ 100 ∷ 114 ∷ 97 ∷ 119 ∷ []  -- "withdraw"
+
 abbrev pub interestWord : List ℕ
 interestWord = 105 ∷ 110 ∷ 116 ∷ 101 ∷ 114 ∷ 101 ∷ 115 ∷ 116 ∷ []  -- "interest"
 
@@ -207,6 +236,9 @@ forms =
     ∷ record { word = moveWord; names = moveNames; more = false }
     ∷ record { word = readWord; names = readNames; more = false }
     ∷ record { word = openWord; names = openNames; more = false }
+    ∷ record { word = outsideWord; names = outsideNames; more = false }
+    ∷ record { word = noticeWord; names = noticeNames; more = false }
+    ∷ record { word = withdrawWord; names = withdrawNames; more = false }
     ∷ record { word = interestWord; names = interestNames; more = true }
     ∷ record { word = bondWord; names = bondNames; more = true }
     ∷ []
@@ -229,11 +261,20 @@ readKind = 5
 abbrev pub openKind : ℕ
 openKind = 6
 
+abbrev pub outsideKind : ℕ
+outsideKind = 7
+
+abbrev pub noticeKind : ℕ
+noticeKind = 8
+
+abbrev pub withdrawKind : ℕ
+withdrawKind = 9
+
 abbrev pub interestKind : ℕ
-interestKind = 7
+interestKind = 10
 
 abbrev pub bondKind : ℕ
-bondKind = 8
+bondKind = 11
 
 -- ---- a word's call, and a name's number
 

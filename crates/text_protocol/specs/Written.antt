@@ -10,7 +10,7 @@ use lib.ListN.{length}
 use Rattle.text_protocol.specs.declared.Pairs.{Pairs}
 use Rattle.text_protocol.specs.Bytes.{isBlank, minusSign, slash, digitZero, digitNine}
 use Rattle.text_protocol.specs.Numbers.{greatest, least}
-use Rattle.text_protocol.specs.Names.{admitWord, evaluateWord, quoteWord, moveWord, readWord, openWord, interestWord, bondWord, admitKind, evaluateKind, quoteKind, moveKind, readKind, openKind, interestKind, bondKind, takes}
+use Rattle.text_protocol.specs.Names.{admitWord, evaluateWord, quoteWord, moveWord, readWord, openWord, outsideWord, noticeWord, withdrawWord, interestWord, bondWord, admitKind, evaluateKind, quoteKind, moveKind, readKind, openKind, outsideKind, noticeKind, withdrawKind, interestKind, bondKind, takes}
 use Rattle.text_protocol.specs.Line.{noPairs, pairFits, withPair, more, longest}
 
 pub data Blanks : List ℕ → Type 0 where
@@ -46,6 +46,9 @@ pub data CallWord : List ℕ → ℕ → Type 0 where
   move : CallWord moveWord moveKind
   read : CallWord readWord readKind
   openEvening : CallWord openWord openKind
+  outside : CallWord outsideWord outsideKind
+  notice : CallWord noticeWord noticeKind
+  withdraw : CallWord withdrawWord withdrawKind
   interest : CallWord interestWord interestKind
   bond : CallWord bondWord bondKind
 

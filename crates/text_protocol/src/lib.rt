@@ -30,14 +30,20 @@ impl Kind {
 
     pub const OPEN: u64 = 6;
 
-    pub const INTEREST: u64 = 7;
+    pub const OUTSIDE: u64 = 7;
 
-    pub const BOND: u64 = 8;
+    pub const NOTICE: u64 = 8;
+
+    pub const WITHDRAW: u64 = 9;
+
+    pub const INTEREST: u64 = 10;
+
+    pub const BOND: u64 = 11;
 
     // No call: a line with no word, and one that says no call.
-    pub const BLANK: u64 = 9;
+    pub const BLANK: u64 = 12;
 
-    pub const BAD: u64 = 10;
+    pub const BAD: u64 = 13;
 }
 
 // What digits spell: a size, or no number.

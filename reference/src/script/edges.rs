@@ -43,6 +43,7 @@ pub const STATICS: [Ends; s::STATICS] = [
     ends(&s::NEAR_SECONDS),
     FLAG,
     ends(&u::EVENING_MOVES),
+    FLAG,
 ];
 
 /// The ends of an admission's numbers before the statics.

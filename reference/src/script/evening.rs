@@ -2,6 +2,7 @@
 //! that most calls are about admitted securities and meet their edges.
 
 mod bonds;
+mod outsides;
 mod sessions;
 mod sheets;
 
@@ -16,7 +17,9 @@ use crate::units::{Range, ID, MOVE_COUNT};
 use crate::words::{hear, number_or_pair, Word, EVENING_LINE_MAX};
 
 use super::edges::{edge, neighbours, unsettled_count, Ends};
-use super::{crossed, day, edges, inward, quote, replacement, share, spelling, tentative, why};
+use super::{
+    crossed, day, edges, inward, outside, quote, replacement, share, spelling, tentative, why,
+};
 
 /// Securities that the author works on at a time.
 const FOCUS: usize = 24;
@@ -55,7 +58,8 @@ const ALSO_REFUSED: [Refusal; 8] = [
     Refusal::BandCrossed,
 ];
 /// After how many of a hundred lines each spell comes.
-const SPELLS: [(usize, Spell); 8] = [
+const SPELLS: [(usize, Spell); 9] = [
+    (6, Spell::Outside),
     (8, Spell::Falls),
     (11, Spell::Replaced),
     (13, Spell::Sessions),
@@ -86,6 +90,8 @@ enum Spell {
     Uncapped,
     /// Many, each with a main session and an evening made for their moves.
     Sessions,
+    /// Many, each with outside prices of every kind.
+    Outside,
 }
 
 /// A script of so many lines. Scripts of odd seeds lack the last line's end.
@@ -214,9 +220,9 @@ impl Author {
         }
     }
 
-    /// One thing of the desk, by its weight among a thousand.
+    /// One thing of the desk, by its weight.
     fn desk_turn(&mut self) {
-        match self.random.below(1_000) {
+        match self.random.below(1_050) {
             0..=159 => self.day(),
             160..=234 => self.reasoned_day(),
             235..=294 => self.replaced_day(),
@@ -239,7 +245,8 @@ impl Author {
             965..=979 => self.blank(),
             980..=981 => self.long_line(),
             982..=984 => self.all_moves(),
-            _ => self.days(),
+            985..=999 => self.days(),
+            _ => self.outside_turn(),
         }
     }
 
@@ -451,6 +458,7 @@ impl Author {
             Spell::Inward => (0..inward::SHARES).for_each(|turn| self.inward_security(turn)),
             Spell::Reasoned => (0..why::SHARES).for_each(|turn| self.reasoned_security(turn)),
             Spell::Sessions => self.every_plan(),
+            Spell::Outside => self.outside_spell(),
         }
     }
 
@@ -677,12 +685,22 @@ impl Author {
     fn any_desk_call(&mut self) -> (&'static str, Vec<i64>) {
         let record = self.record();
         let random = &mut self.random;
-        match random.below(6) {
+        match random.below(9) {
             0 => ("admit", share::admission(random, record.id)),
             1 => ("evaluate", day::numbers(random, &record)),
             2 => ("quote", quote::numbers(random, &record).to_vec()),
             3 => ("move", vec![record.id, random.between(0, 1)]),
             4 => ("open", vec![record.id]),
+            5 => ("withdraw", vec![record.id]),
+            6 => {
+                let bits = outside::any(random, record.p1);
+                ("notice", vec![record.id, random.between(0, 1), bits])
+            }
+            7 => {
+                let bid = outside::any(random, record.p1);
+                let ask = outside::any(random, record.p1);
+                ("outside", vec![record.id, bid, ask])
+            }
             _ => ("read", vec![record.id]),
         }
     }

@@ -9,6 +9,7 @@ pub mod exchange;
 pub mod gateway;
 mod interest;
 mod inward;
+mod outside;
 mod quote;
 mod replacement;
 mod session;

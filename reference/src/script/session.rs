@@ -3,11 +3,12 @@
 
 use crate::random::Random;
 use crate::record::Side;
-use crate::statics::{Statics, STATICS};
+use crate::statics::Statics;
 
 use super::{edges, share};
 
-/// How many statics are the evening's, behind all others.
+/// The place of the evening's statics, and how many they are.
+const EVENING: usize = 22;
 const OF_EVENING: usize = 3;
 
 /// The sides of an evening's moves.
@@ -137,7 +138,7 @@ impl Plan {
 /// An admission with one of the evening's statics just past an end of its range,
 /// each in its turn.
 pub fn refused(admission: &[i64], turn: usize) -> Vec<i64> {
-    let place = STATICS - OF_EVENING + turn / 2 % OF_EVENING;
+    let place = EVENING + turn / 2 % OF_EVENING;
     let (low, high) = edges::STATICS[place];
     let mut refused = admission.to_vec();
     refused[edges::ADMISSION.len() + place] = [low - 1, high + 1][turn % 2];

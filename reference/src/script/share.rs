@@ -31,6 +31,7 @@ pub const Z: Statics = Statics {
     evening_seconds: 120,
     autochange: true,
     evening_maximum: 2,
+    use_external: false,
 };
 
 /// Horizons whose quotients by rh_1 are squares, so that requirements are
@@ -57,6 +58,7 @@ pub fn statics(random: &mut Random) -> Statics {
             monitoring: random.chance(85),
             is_ewma: random.chance(85),
             autochange: random.chance(85),
+            use_external: random.chance(50),
             ..Z
         };
     }
@@ -85,6 +87,7 @@ pub fn statics(random: &mut Random) -> Statics {
         evening_seconds: near_seconds(random),
         autochange: random.chance(85),
         evening_maximum: either(random, &[0, 1, 1, 2, 9, 10], (0, 10)),
+        use_external: random.chance(50),
     }
 }
 

@@ -56,7 +56,7 @@ const NO_PAIRS: [&[u8]; 20] = [
     b"0/1\0",
 ];
 
-const NO_VERBS: [&[u8]; 20] = [
+const NO_VERBS: [&[u8]; 26] = [
     b"Admit",
     b"READ",
     b"rea",
@@ -77,6 +77,12 @@ const NO_VERBS: [&[u8]; 20] = [
     b"Bond",
     b"bonds",
     b"bon",
+    b"Outside",
+    b"outsides",
+    b"notic",
+    b"Notice",
+    b"withdrawn",
+    b"withdra",
 ];
 
 const BLANK_LINES: [&[u8]; 5] = [b"", b" ", b"\t", b"\r", b"  \t \r"];

@@ -1,17 +1,19 @@
-//! What the tests share: the paper's statics Z with an evening's, and
-//! securities with them.
+//! What the tests share: the paper's statics Z with an evening's and without
+//! outside prices, and securities with them.
 
 #![allow(dead_code)]
 
+use reference::evaluation;
+use reference::outside::Outside;
 use reference::record::Record;
 use reference::security::{admitted, Admission, Day, Quote, RepoTerm};
 use reference::statics::STATICS;
 
 /// Statics Z of document 01, in the order of its table; then 120 seconds, moves
-/// in the evening, and at most two of them.
+/// in the evening, and at most two of them; UseEXTERNAL no.
 pub const Z: [i64; STATICS] = [
     10, 100, 300, 1000, 500, 5, 2, 5, 8, 50, 500, 700, 900, 4000, 200, 25, 2000, 2000, 1000, 60, 1,
-    1, 120, 1, 2,
+    1, 120, 1, 2, 0,
 ];
 
 /// Places of the statics in Z.
@@ -22,6 +24,7 @@ pub const IS_EWMA: usize = 21;
 pub const EVENING_SECONDS: usize = 22;
 pub const AUTOCHANGE: usize = 23;
 pub const EVENING_MAXIMUM: usize = 24;
+pub const USE_EXTERNAL: usize = 25;
 
 /// A repo band of 0.
 pub const NO_REPO: RepoTerm = RepoTerm {
@@ -58,6 +61,11 @@ pub fn security(earlier: i64, tentative: i64) -> Record {
 /// A rouble row that trades at a price.
 pub fn traded(price: i64) -> [i64; 7] {
     [0, 10_000, 0, price, 0, 0, 1]
+}
+
+/// The evaluation of rows without outside prices.
+pub fn evaluation(rows: &[i64], previous: i64, grid: i64) -> Option<i64> {
+    evaluation::evaluation(rows, Outside::NONE, previous, grid)
 }
 
 pub fn day(number: i64, rows: &[i64]) -> Day<'_> {

@@ -7,10 +7,10 @@ use Rattle.damaged.proofs.table.Statement.{statement}
 use Rattle.damaged.proofs.table.Tie as tie
 
 abbrev Inv-loop : tie.InvT-loop
-Inv-loop t₀ slot₀ t slot = (slot ≤ 30) × (length t ≡ 512)
+Inv-loop t₀ slot₀ t slot = (slot ≤ 31) × (length t ≡ 512)
 
 abbrev μ-loop : tie.MeasureT-loop
-μ-loop t₀ slot₀ t slot = 30 - slot
+μ-loop t₀ slot₀ t slot = 31 - slot
 
 fresh-requires : tie.Need-fresh-requires Inv-loop μ-loop
 fresh-requires c κs = search needs

@@ -2,11 +2,13 @@
 -- within a price. Assumes nothing.
 use mathlib.Core.Path.{refl}
 use Prim.Native.Nat.{_≤_}
+use native.Mathlib.Omega.{arith}
 use borrow.Author.Needs.{needs}
 use Rattle.paper.specs.Numbers.{priceMost}
 use Rattle.paper_desk.specs.Evaluation.{dayRows}
 use Rattle.evaluation.specs.declared.Gathered.the-variants.{Whole}
 use Rattle.evaluation.specs.Book.{Gathers}
+use Rattle.evaluation.proofs.Sides.{lesser-le}
 use Rattle.evaluation.proofs.Answers.{made-beyond, made-book, close-le, between-le}
 use Rattle.evaluation.proofs.evaluate.Statement.{statement}
 use Rattle.evaluation.proofs.evaluate.Tie as tie
@@ -23,6 +25,12 @@ enum-known-gathered c = search needs
 close-of-requires : tie.Need-close-of-requires
 close-of-requires c κs = search needs
 
+greater-requires : tie.Need-greater-requires
+greater-requires c κs = search needs
+
+lesser-ask-requires : tie.Need-lesser-ask-requires
+lesser-ask-requires c κs = search needs
+
 between-requires : tie.Need-between-requires
 between-requires c κs = search needs
 
@@ -33,24 +41,37 @@ whole c = rw (c .gathered .given .1) at (c .before .before .gather .ensures)
 
 on-grid-requires : tie.Need-on-grid-requires
 on-grid-requires c κs =
-    let k = c .before .before .before in
+    let sides = c .before in
+    let closed = sides .before .before in
+    let k = closed .before .before in
     let s = k .before .before .before in
     let bounds = whole k .bounded (k .gathered .given .0 .0) refl in
-    let close : c .before .close-of .result ≤ priceMost =
-    rw (c .before .close-of .ensures) (close-le _ _ _ (s .pre .1 .0) (bounds .mean)) in
-    (s .pre .1 .1, s .pre .1 .2, rw (c .between .ensures) (between-le _ _ _ _ (bounds .bid) close (bounds .ask)))
+    let close : closed .close-of .result ≤ priceMost =
+    rw (closed .close-of .ensures) (close-le _ _ _ (s .pre .1 .0 .0) (bounds .mean)) in
+    let bid : sides .before .greater .result ≤ priceMost =
+    rw (sides .before .greater .ensures) (omega (arith, bounds .bid, s .pre .1 .1 .0)) in
+    let ask : sides .lesser-ask .result ≤ priceMost =
+    rw (sides .lesser-ask .ensures) (lesser-le _ _ _ (bounds .ask) (s .pre .1 .1 .1)) in
+    (s .pre .1 .0 .1, s .pre .1 .0 .2, rw (c .between .ensures) (between-le _ _ _ _ bid close ask))
 
 returns : tie.Need-returns
-returns c = made-beyond _ _ _ ((rw (c .enum-told .given .1) at (c .before .before .gather .ensures)) .is)
+returns c = made-beyond _ _ _ _ ((rw (c .enum-told .given .1) at (c .before .before .gather .ensures)) .is)
 
 returns-2 : tie.Need-returns-2
 returns-2 c =
-    let k = c .before .before .before .before in
-    rw (c .on-grid .ensures, c .before .between .ensures, c .before .before .close-of .ensures)
-    (made-book _ _ _ (k .gathered .given .0 .0) (whole k .is))
+    let sides = c .before .before in
+    let k = sides .before .before .before .before in
+    rw (
+      c .on-grid .ensures,
+      c .before .between .ensures,
+      sides .lesser-ask .ensures,
+      sides .before .greater .ensures,
+      sides .before .before .close-of .ensures,
+    )
+    (made-book _ _ _ _ (k .gathered .given .0 .0) (whole k .is))
 
 pub evaluate-spec : {M : Type 1} → statement M
 evaluate-spec =
     tie.close
-    (tie.spec gather-requires enum-told enum-known-gathered close-of-requires between-requires on-grid-requires returns
-    returns-2)
+    (tie.spec gather-requires enum-told enum-known-gathered close-of-requires greater-requires lesser-ask-requires
+    between-requires on-grid-requires returns returns-2)

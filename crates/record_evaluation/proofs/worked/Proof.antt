@@ -7,6 +7,7 @@ use borrow.Author.Tests.{le-leb, lt-leb}
 use Rattle.paper_desk.proofs.LimitSizes.{grid-range}
 use Rattle.paper.specs.Ranges.{gridOf, lastDay, validDay}
 use Rattle.paper_desk.specs.Evaluation.{dayRows}
+use Rattle.paper_desk.specs.Desk.{usedBy}
 use Rattle.record_soundness.proofs.Facts.{sound-facts}
 use Rattle.rows.specs.RowLaws.{valid-sevens, valid-whole}
 use Rattle.evaluation.specs.Evaluation.{evaluationMade}
@@ -14,7 +15,7 @@ use Rattle.record_answers.specs.Effects.{isKnown}
 use Rattle.record_evaluation.specs.Workings.{Begun}
 use Rattle.record_answers.proofs.Tests.{passed, failed, known-sound}
 use Rattle.record_evaluation.proofs.Judging.{day-unknown, day-out, day-row-crossed, day-not-after, day-beyond}
-use Rattle.record_evaluation.proofs.Evaluations.{day-valid, beyond, Made, made}
+use Rattle.record_evaluation.proofs.Evaluations.{day-valid, used-prices, beyond, Made, made}
 use borrow.Author.Needs.{needs}
 use Rattle.record_evaluation.proofs.worked.Statement.{statement}
 use Rattle.record_evaluation.proofs.worked.Tie as tie
@@ -44,17 +45,19 @@ after c = lt-leb _ _ (rw (c .before .before .last-day .ensures) at (c .if4 .left
 -- the evaluation is that of the record's grid
 evaluation : (c : tie.After-evaluate)
     → let a = c .before .before .before .before .before .before .before .before .before .before .before .before .before
-    .args in
+    .before .args in
     let r = a .s .rec in
-    evaluationMade (gridOf (r .statics .lot)) (r .p1 .units) (dayRows (a .rows .now)) ≡ c .evaluate .result
-evaluation c = rw (← c .before .before .grid-of .ensures) (sym (c .evaluate .ensures))
+    evaluationMade (gridOf (r .statics .lot)) (r .p1 .units) (usedBy r) (dayRows (a .rows .now)) ≡ c .evaluate .result
+evaluation c =
+    rw (← c .before .before .before .grid-of .ensures, ← c .before .used-by .ensures) (sym (c .evaluate .ensures))
 
 price : (c : tie.After-evaluation)
     → let e = c .before .before in
     let a = e .before .before .before .before .before .before .before .before .before .before .before .before .before
-    .args in
-    Made (gridOf (a .s .rec .statics .lot)) (a .s .rec .p1 .units) (dayRows (a .rows .now)) (c .evaluation .given .0 .0)
-price c = made _ _ _ _ (evaluation (c .before .before) ∙ c .evaluation .given .1)
+    .before .args in
+    let r = a .s .rec in
+    Made (gridOf (r .statics .lot)) (r .p1 .units) (usedBy r) (dayRows (a .rows .now)) (c .evaluation .given .0 .0)
+price c = made _ _ _ _ _ (evaluation (c .before .before) ∙ c .evaluation .given .1)
 
 is-known-requires : tie.Need-is-known-requires
 is-known-requires c κs = search needs
@@ -103,15 +106,22 @@ returns-4 c =
 grid-of-requires : tie.Need-grid-of-requires
 grid-of-requires c κs = search needs
 
+used-by-requires : tie.Need-used-by-requires
+used-by-requires c κs = search needs
+
 evaluate-requires : tie.Need-evaluate-requires
 evaluate-requires c κs =
-    let g = c .before in
+    let g = c .before .before in
     let e = g .before in
     let b = begun (e .before .before .before) in
     let s = e .before .before .before .before .before .before .before .before .before .before in
-    let grid = rw (← g .grid-of .ensures) at (grid-range (s .args .s .rec .statics .lot)) in (
+    let grid = rw (← g .grid-of .ensures) at (grid-range (s .args .s .rec .statics .lot)) in
+    let sound = known-sound _ (b .known) in (
       day-valid _ _ (b .valid) .1,
-      (sound-facts _ (known-sound _ (b .known)) .figures .later .price .most, grid .0, grid .1),
+      (
+        (sound-facts _ sound .figures .later .price .most, grid .0, grid .1),
+        rw (c .used-by .ensures) (used-prices _ sound),
+      ),
     )
 
 enum-told : tie.Need-enum-told
@@ -125,18 +135,18 @@ enum-known-evaluation c = search needs
 
 worked-at-requires : tie.Need-worked-at-requires
 worked-at-requires c κs =
-    let b = begun (c .before .before .before .before .before .before .before .before .before) in
+    let b = begun (c .before .before .before .before .before .before .before .before .before .before) in
     (known-sound _ (b .known), (day-valid _ _ (b .valid) .0, price (c .before) .price))
 
 returns-5 : tie.Need-returns-5
 returns-5 c =
-    let e = c .before .before .before .before .before .before in
-    let test = beyond _ _ _ (evaluation (c .before .before .before) ∙ c .before .enum-told .given .1) in
+    let e = c .before .before .before .before .before .before .before in
+    let test = beyond _ _ _ _ (evaluation (c .before .before .before) ∙ c .before .enum-told .given .1) in
     c .unmade5 .ensures ∙ day-beyond _ _ _ (begun (e .before .before .before)) (after e) test
 
 returns-6 : tie.Need-returns-6
 returns-6 c =
-    let e = c .before .before .before .before .before .before .before in
+    let e = c .before .before .before .before .before .before .before .before in
     let p = price (c .before .before) in
     c .worked-at .ensures _
     (record { begun = begun (e .before .before .before); later = after e; fits = p .fits })
@@ -159,6 +169,7 @@ worked-spec =
     unmade-requires-4
     returns-4
     grid-of-requires
+    used-by-requires
     evaluate-requires
     enum-told
     unmade-requires-5

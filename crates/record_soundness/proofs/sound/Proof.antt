@@ -17,14 +17,15 @@ valid-rates-requires c κs = search needs
 
 valid-three-limits-requires : tie.Need-valid-three-limits-requires
 valid-three-limits-requires c κs =
-    rw (c .before .before .before .before .before .before .before .grid-of .ensures) (grid-range _ .0)
+    rw (c .before .before .before .before .before .before .before .before .grid-of .ensures) (grid-range _ .0)
 
 valid-terms-requires : tie.Need-valid-terms-requires
 valid-terms-requires c κs = search needs
 
 valid-three-limits-requires-2 : tie.Need-valid-three-limits-requires-2
 valid-three-limits-requires-2 c κs =
-    rw (c .before .before .before .before .before .before .before .before .before .grid-of .ensures) (grid-range _ .0)
+    rw (c .before .before .before .before .before .before .before .before .before .before .grid-of .ensures)
+    (grid-range _ .0)
 
 valid-three-near-requires : tie.Need-valid-three-near-requires
 valid-three-near-requires c κs = search needs
@@ -32,13 +33,16 @@ valid-three-near-requires c κs = search needs
 valid-session-requires : tie.Need-valid-session-requires
 valid-session-requires c κs = search needs
 
+valid-external-requires : tie.Need-valid-external-requires
+valid-external-requires c κs = search needs
+
 returns : tie.Need-returns
 unfolding sound
 returns c =
-    let near = c .before .before in
+    let near = c .before .before .before in
     let bands = near .before .before .before in
     let figures = bands .before .before .before .before in
-    let grid = figures .before .before .before .before .before .before in
+    let grid = figures .before .before .before .before .before .before .before in
     rw (
       figures .sound-figures .ensures,
       bands .before .before .before .valid-rates .ensures,
@@ -46,7 +50,8 @@ returns c =
       bands .before .valid-terms .ensures,
       bands .valid-three-limits2 .ensures,
       near .valid-three-near .ensures,
-      c .valid-session .ensures,
+      c .before .valid-session .ensures,
+      c .valid-external .ensures,
       grid .grid-of .ensures,
     )
 
@@ -62,4 +67,5 @@ sound-spec =
     valid-three-limits-requires-2
     valid-three-near-requires
     valid-session-requires
+    valid-external-requires
     returns)

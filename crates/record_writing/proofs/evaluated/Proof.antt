@@ -19,9 +19,10 @@ use Rattle.record_writing.proofs.evaluated.Tie as tie
 
 -- the evaluation and a rate of the figures
 rated : (c : tie.After-terms) (i : ℕ) → i < 3
-    → let a = c .before .before .before .before .before .args in RangeInputs (a .p) (getD (a .f .rates) i noRate)
+    → let a = c .before .before .before .before .before .before .args in
+    RangeInputs (a .p) (getD (a .f .rates) i noRate)
 rated c i l =
-    let known = c .before .before .before .before .before .pre in
+    let known = c .before .before .before .before .before .before .pre in
     record {
       price = price-facts _ (known .price) .most;
       rate-high =
@@ -36,7 +37,7 @@ array-copy-out-bands-of c = search needs
 
 bands-of-requires : tie.Need-bands-of-requires
 bands-of-requires c κs =
-    let s = c .before .before .before .before .before .before .before in
+    let s = c .before .before .before .before .before .before .before .before in
     let price-and-rate = rated (c .before .before) 0 (omega arith) in (
       sound-facts _ (s .pre .sound-record) .valid,
       bands-asked _ _ _ (s .args .d .terms) price-and-rate (omega arith, omega arith)
@@ -46,7 +47,7 @@ bands-of-requires c κs =
 returns : tie.Need-returns
 unfolding evaluated figuresOn moveOn figuresAt moveTo
 returns c rows e =
-    let s = c .before .before .before .before .before .before .before .before in
+    let s = c .before .before .before .before .before .before .before .before .before in
     let terms : length (s .args .d .terms) ≡ 3 = rw length-map at (s .good .1 .0 .1 .1 .1 .1 .1 .0 .1 .0 .1) in
     rw (
       e,

@@ -17,7 +17,7 @@ one-more-requires c κs = search needs
 bands-of-requires : tie.Need-bands-of-requires
 bands-of-requires c κs =
     let s =
-    c .before .before .before .before .before .before .before .before .before .before .before .before in
+    c .before .before .before .before .before .before .before .before .before .before .before .before .before in
     let r = s .args .r in
     let v = s .pre .0 in
     let known = sound-facts r v in
@@ -27,13 +27,13 @@ bands-of-requires c κs =
 delta-requires : tie.Need-delta-requires
 delta-requires c κs =
     let s =
-    c .before .before .before .before .before .before .before .before .before .before .before .before .before in
+    c .before .before .before .before .before .before .before .before .before .before .before .before .before .before in
     (sound-facts _ (s .pre .0) .valid, sound-inputs _ (s .pre .0))
 
 ranges-moved-requires : tie.Need-ranges-moved-requires
 ranges-moved-requires c κs =
-    let s =
-    c .before .before .before .before .before .before .before .before .before .before .before .before .before .before in
+    let s = c .before .before .before .before .before .before .before .before .before .before .before .before .before
+    .before .before in
     rw (c .delta .ensures) (shifts-asked (s .args .r) (s .pre .0))
 
 bands-moved-requires : tie.Need-bands-moved-requires
@@ -45,7 +45,7 @@ near-cleared-requires c κs = search needs
 session-moved-requires : tie.Need-session-moved-requires
 session-moved-requires c κs =
     let s = c .before .before .before .before .before .before .before .before .before .before .before .before .before
-    .before .before .before .before in
+    .before .before .before .before .before in
     sound-facts _ (s .pre .0) .session
 
 returns : tie.Need-returns

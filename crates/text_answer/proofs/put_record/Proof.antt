@@ -6,21 +6,14 @@ use Rattle.text_answer.proofs.put_record.Statement.{statement}
 use Rattle.text_answer.proofs.put_record.Tie as tie
 use Rattle.text_answer.proofs.put_record.Reads as reads
 use Rattle.text_answer.proofs.put_record.Lts as lts
-use Rattle.text_answer.proofs.put_figures.Reads as put-figures-reads
+use Rattle.text_answer.proofs.put_external.Reads as put-external-reads
 use Rattle.text_answer.proofs.put_last.Reads as put-last-reads
-use Rattle.text_answer.proofs.put_ranges.Reads as put-ranges-reads
-use Rattle.text_answer.proofs.put_rates.Reads as put-rates-reads
+use Rattle.text_answer.proofs.put_levels.Reads as put-levels-reads
 use Rattle.text_answer.proofs.put_session.Reads as put-session-reads
 use Rattle.text_answer.proofs.put_term.Reads as put-term-reads
 
-put-figures-requires : tie.Need-put-figures-requires
-put-figures-requires c κs = search needs
-
-put-rates-requires : tie.Need-put-rates-requires
-put-rates-requires c κs = search needs
-
-put-ranges-requires : tie.Need-put-ranges-requires
-put-ranges-requires c κs = search needs
+put-levels-requires : tie.Need-put-levels-requires
+put-levels-requires c κs = search needs
 
 array-copy-out-put-term : tie.Need-array-copy-out-put-term
 array-copy-out-put-term c = search needs
@@ -64,27 +57,27 @@ put-last-requires c κs = search needs
 put-session-requires : tie.Need-put-session-requires
 put-session-requires c κs = search needs
 
+put-external-requires : tie.Need-put-external-requires
+put-external-requires c κs = search needs
+
 returns : tie.Need-returns
 unfolding recordNumbers
 returns c =
-    let c1 = c .before .before in
+    let c0 = c .before .before in
+    let c1 = c0 .before .before in
     let c2 = c1 .before .before in
     let c7 = c2 .before .before .before .before .before in
     let c12 = c7 .before .before .before .before .before in
     let c17 = c12 .before .before .before .before .before in
-    let c19 = c17 .before .before in
-    let c21 = c19 .before .before in
-    both (both (both (both (both (both (both (c21 .put-figures .ensures) (c19 .put-rates .ensures)) (c17 .put-ranges
-    .ensures)) (c12 .put-term .ensures)) (c7 .put-term2 .ensures)) (c2 .put-term3 .ensures)) (c1 .put-last .ensures))
-    (c .put-session .ensures)
+    both (both (both (both (both (both (c17 .put-levels .ensures) (c12 .put-term .ensures)) (c7 .put-term2 .ensures))
+    (c2 .put-term3 .ensures)) (c1 .put-last .ensures))
+    (c0 .put-session .ensures)) (c .put-external .ensures)
 
 pub put-record-spec : {M : Type 1} → statement M
 put-record-spec =
     tie.close
     (tie.spec
-    put-figures-requires
-    put-rates-requires
-    put-ranges-requires
+    put-levels-requires
     array-copy-out-put-term
     array-copy-out-put-term-2
     array-copy-out-put-term-3
@@ -99,4 +92,5 @@ put-record-spec =
     put-term-requires-3
     put-last-requires
     put-session-requires
+    put-external-requires
     returns)

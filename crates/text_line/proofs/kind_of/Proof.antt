@@ -56,10 +56,31 @@ slice-aggregate-kind-if-8 c = search needs
 kind-if-requires-8 : tie.Need-kind-if-requires-8
 kind-if-requires-8 c κs = search needs
 
+slice-aggregate-kind-if-9 : tie.Need-slice-aggregate-kind-if-9
+slice-aggregate-kind-if-9 c = search needs
+
+kind-if-requires-9 : tie.Need-kind-if-requires-9
+kind-if-requires-9 c κs = search needs
+
+slice-aggregate-kind-if-10 : tie.Need-slice-aggregate-kind-if-10
+slice-aggregate-kind-if-10 c = search needs
+
+kind-if-requires-10 : tie.Need-kind-if-requires-10
+kind-if-requires-10 c κs = search needs
+
+slice-aggregate-kind-if-11 : tie.Need-slice-aggregate-kind-if-11
+slice-aggregate-kind-if-11 c = search needs
+
+kind-if-requires-11 : tie.Need-kind-if-requires-11
+kind-if-requires-11 c κs = search needs
+
 returns : tie.Need-returns
 unfolding kindOf kindFrom forms
 returns c =
-    let c7 = c .before .before in
+    let c10 = c .before .before in
+    let c9 = c10 .before .before in
+    let c8 = c9 .before .before in
+    let c7 = c8 .before .before in
     let c6 = c7 .before .before in
     let c5 = c6 .before .before in
     let c4 = c5 .before .before in
@@ -67,7 +88,10 @@ returns c =
     let c2 = c3 .before .before in
     let c1 = c2 .before .before in
     rw (
-      c .kind-if8 .ensures,
+      c .kind-if11 .ensures,
+      c10 .kind-if10 .ensures,
+      c9 .kind-if9 .ensures,
+      c8 .kind-if8 .ensures,
       c7 .kind-if7 .ensures,
       c6 .kind-if6 .ensures,
       c5 .kind-if5 .ensures,
@@ -97,4 +121,10 @@ kind-of-spec =
     kind-if-requires-7
     slice-aggregate-kind-if-8
     kind-if-requires-8
+    slice-aggregate-kind-if-9
+    kind-if-requires-9
+    slice-aggregate-kind-if-10
+    kind-if-requires-10
+    slice-aggregate-kind-if-11
+    kind-if-requires-11
     returns)

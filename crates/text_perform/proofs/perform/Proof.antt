@@ -1,7 +1,7 @@
 -- `text_perform::perform` meets its contract. Each arm gives the row up to one public call and returns what that
 -- promises, and the request is that call by its kind. The rows go to the evaluation as the `&` that they are.
 -- The walk has a step for each test (`decides`) and one for each arm: `admit-it`, `evaluate-it`, `quote-it`, `move-it`,
--- `open-it` and `read-it`.
+-- `open-it`, `receive-it`, `notify-it` and `read-it`.
 -- Assumes nothing.
 use mathlib.Core.Path.{_≡_, refl, sym, subst}
 use mathlib.Core.Bool.{not}
@@ -34,6 +34,7 @@ use denote.Slice.{sliceTy, sliceVal, MutSlice, ShrSlice, Room, slice-vals, mut-s
 use denote.Signature.{plain}
 use denote.Steps.{owned, nothing}
 use denote.Struct.Laws as LL
+use denote.Enum.Laws as EL
 use denote.Triple.Statement.{Triple}
 use denote.Triple.Entry.{Vals, onEntry}
 use denote.Triple.Spec.{Meets, tripleOf}
@@ -51,7 +52,11 @@ use Rattle.paper.proofs.AskedDay as D
 use Rattle.paper.proofs.AskedDay.Laws as D′
 use Rattle.paper.proofs.Quote as Q
 use Rattle.paper.proofs.Quote.Laws as Q′
-use Rattle.text_protocol.specs.Names.{admitKind, evaluateKind, quoteKind, moveKind, openKind}
+use Rattle.paper.proofs.Outside as O
+use Rattle.paper.proofs.Outside.Laws as O′
+use Rattle.paper.proofs.Notice as E
+use Rattle.paper.proofs.Notice.Laws as E′
+use Rattle.text_protocol.specs.Names.{admitKind, evaluateKind, quoteKind, moveKind, openKind, outsideKind, noticeKind}
 use Rattle.text_call.specs.declared.Request.{Request}
 use Rattle.text_call.specs.Requests.{requestCall}
 use Rattle.text_call.proofs.Request as B
@@ -68,12 +73,16 @@ use Rattle.desk.proofs.moved.Symbol as moved-def
 use Rattle.desk.proofs.moved.Met as moved-thm
 use Rattle.desk.proofs.open_evening.Symbol as open-def
 use Rattle.desk.proofs.open_evening.Met as open-thm
+use Rattle.desk.proofs.receive.Symbol as receive-def
+use Rattle.desk.proofs.receive.Met as receive-thm
+use Rattle.desk.proofs.notify.Symbol as notify-def
+use Rattle.desk.proofs.notify.Met as notify-thm
 use Rattle.desk.proofs.read.Symbol as read-def
 use Rattle.desk.proofs.read.Met as read-thm
 use Rattle.desk.proofs.evaluate_asked.Symbol as evaluate-def
 use Rattle.desk.proofs.evaluate_asked.Met as evaluate-thm
-use Rattle.desk.proofs.Plain.{number, number-laws, admission, admission-laws, asked, asked-laws, quoted, quoted-laws}
-use Rattle.text_perform.proofs.Requests.{request-ty, evaluation, admits-is, evaluates-is, quotes-is, moves-is, opens-is, else-reads}
+use Rattle.desk.proofs.Plain.{number, number-laws, admission, admission-laws, asked, asked-laws, quoted, quoted-laws, outside, outside-laws, notice, notice-laws}
+use Rattle.text_perform.proofs.Requests.{request-ty, evaluation, sending, notifying, admits-is, evaluates-is, quotes-is, moves-is, opens-is, sends-is, notifies-is, else-reads}
 use Rattle.text_perform.proofs.Hands.{handing}
 use Rattle.text_perform.proofs.Arms.{Ask, AskRows, AskOne, Read, Ours, asks, asks-rows, asks-one, reads}
 use Rattle.text_perform.proofs.perform as f
@@ -113,8 +122,14 @@ for-move = (11, 12)
 abbrev for-open : Lending
 for-open = (13, 14)
 
+abbrev for-receive : Lending
+for-receive = (15, 16)
+
+abbrev for-notify : Lending
+for-notify = (17, 18)
+
 abbrev for-read : Lending
-for-read = (15, 16)
+for-read = (19, 20)
 
 -- the fields of a request, in its order
 abbrev kind-of : Operand
@@ -150,6 +165,14 @@ code-move = handing ℓt for-move 0 moved-def.name (id-of ∷ copy (place ℓc (
 abbrev code-open : Body
 code-open = handing ℓt for-open 0 open-def.name (id-of ∷ []) return
 
+-- return receive(t, c.id, c.outside);
+abbrev code-receive : Body
+code-receive = handing ℓt for-receive 0 receive-def.name (id-of ∷ copy (place ℓc (field 6 ∷ [])) ∷ []) return
+
+-- return notify(t, c.id, c.notice);
+abbrev code-notify : Body
+code-notify = handing ℓt for-notify 0 notify-def.name (id-of ∷ copy (place ℓc (field 7 ∷ [])) ∷ []) return
+
 -- read(t, c.id)
 abbrev code-read : Body
 code-read = handing ℓt for-read 0 read-def.name (id-of ∷ []) return
@@ -162,7 +185,7 @@ function = record {
   locals =
       of-types (N′.mir ∷ table-ty ∷ request-ty ∷ sliceTy (tyRef (named 1) imm (pointee (i64 .written))) ∷ tyBool
       ∷ wref ∷ sliceTy wref ∷ wref ∷ sliceTy wref ∷ wref ∷ sliceTy wref ∷ wref ∷ sliceTy wref ∷ wref ∷ sliceTy wref
-      ∷ rref ∷ sliceTy rref ∷ []);
+      ∷ wref ∷ sliceTy wref ∷ wref ∷ sliceTy wref ∷ rref ∷ sliceTy rref ∷ []);
   body = code.function .body;
 }
 
@@ -221,12 +244,20 @@ module _ {M : Type 1} (𝓤 : URA M) (H : Heap 𝓤) (A : Atoms 𝓤) (W : Given
   side-is : Is u64 (l .side) (vint w64 (l .side) ∷ [])
   side-is = LL.owed B.the-type B′.the-laws l (value l ∷ []) gl .1 .1 .1 .1 .1 .0
 
+  outside-is : Is O.the-row (l .outside) (LL.vals O.the-type O′.the-laws (l .outside))
+  outside-is = LL.owed B.the-type B′.the-laws l (value l ∷ []) gl .1 .1 .1 .1 .1 .1 .0
+
+  notice-is : Is E.the-row (l .notice) (EL.val E.the-type E′.the-laws (l .notice) ∷ [])
+  notice-is = LL.owed B.the-type B′.the-laws l (value l ∷ []) gl .1 .1 .1 .1 .1 .1 .1 .0
+
   module _ (C : Calls 𝓤 H) (Λ : Loops 𝓤 H) (fm : FmC 𝓤 H (W .laws) C)
       (known-admit : Triple 𝓤 (C admit-def.name) (AskOne admission admit 𝓤 H A))
       (known-evaluate : Triple 𝓤 (C evaluate-def.name) (AskRows asked asked-laws evaluation 𝓤 H A))
       (known-quote : Triple 𝓤 (C quote-def.name) (Ask quoted quoted-laws quote 𝓤 H A))
       (known-moved : Triple 𝓤 (C moved-def.name) (Ask number number-laws moving 𝓤 H A))
       (known-open : Triple 𝓤 (C open-def.name) (AskOne number openEvening 𝓤 H A))
+      (known-receive : Triple 𝓤 (C receive-def.name) (Ask outside outside-laws sending 𝓤 H A))
+      (known-notify : Triple 𝓤 (C notify-def.name) (Ask notice notice-laws notifying 𝓤 H A))
       (known-read : Triple 𝓤 (C read-def.name) (Read 𝓤 H A mem run)) where
     module _ (ls : Addresses (function .locals)) where
       abbrev En : Env 𝓤 H
@@ -238,7 +269,7 @@ module _ {M : Type 1} (𝓤 : URA M) (H : Heap 𝓤) (A : Atoms 𝓤) (W : Given
 
       -- where the walk stands: what the test's local holds beside t, c and the rows
       abbrev In : Option Val → Item 𝓤
-      In test = frame H En (none ∷ some (machine b o ys) ∷ some (value l) ∷ some mrows ∷ test ∷ spare 12)
+      In test = frame H En (none ∷ some (machine b o ys) ∷ some (value l) ∷ some mrows ∷ test ∷ spare 16)
 
       -- the table is ours; the rows' token, and the rows
       abbrev Had : List (Item 𝓤)
@@ -275,7 +306,8 @@ module _ {M : Type 1} (𝓤 : URA M) (H : Heap 𝓤) (A : Atoms 𝓤) (W : Given
         admit-it : l .kind ≡ admitKind → Sq W (In (some test) ∷ Had) (runs C Λ En code-admit p)
         admit-it e =
             asks-one 𝓤 H A W κ q b o γ ys room fm ℓt for-admit 0 (refl, refl, tt, tt, tt, tt, tt) tt refl admission
-            admit admission-laws known-admit (l .admission) (LL.val X.the-type X′.the-laws (l .admission)) admission-is
+            admit
+            admission-laws known-admit (l .admission) (LL.val X.the-type X′.the-laws (l .admission)) admission-is
             (and-then ! (local′ ! (for-admit .1) refl) (and-then ! (field′ ! ℓc 2 refl refl refl) (no-more !)))
             (λ zs r v as-long kept is. returned arm (admits-is l (rows .now) e) zs r v refl as-long kept is)
 
@@ -319,17 +351,38 @@ module _ {M : Type 1} (𝓤 : URA M) (H : Heap 𝓤) (A : Atoms 𝓤) (W : Given
             (and-then ! (local′ ! (for-open .1) refl) (and-then ! (field′ ! ℓc 1 refl refl refl) (no-more !)))
             (λ zs r v as-long kept is. returned arm (opens-is l (rows .now) e) zs r v refl as-long kept is)
 
+        -- return receive(t, c.id, c.outside);
+        receive-it : l .kind ≡ outsideKind → Sq W (In (some test) ∷ Had) (runs C Λ En code-receive p)
+        receive-it e =
+            asks 𝓤 H A W κ q b o γ ys room fm ℓt for-receive 0 (refl, refl, tt, tt, tt, tt, tt) tt refl outside
+            outside-laws sending known-receive (l .id) (l .outside) (LL.val O.the-type O′.the-laws (l .outside)) id-fits
+            outside-is
+            (and-then ! (local′ ! (for-receive .1) refl) (and-then ! (field′ ! ℓc 1 refl refl refl)
+            (and-then ! (field′ ! ℓc 6 refl refl refl) (no-more !))))
+            (λ zs r v as-long kept is. returned arm (sends-is l (rows .now) e) zs r v refl as-long kept is)
+
+        -- return notify(t, c.id, c.notice);
+        notify-it : l .kind ≡ noticeKind → Sq W (In (some test) ∷ Had) (runs C Λ En code-notify p)
+        notify-it e =
+            asks 𝓤 H A W κ q b o γ ys room fm ℓt for-notify 0 (refl, refl, tt, tt, tt, tt, tt) tt refl notice
+            notice-laws notifying known-notify (l .id) (l .notice) (EL.val E.the-type E′.the-laws (l .notice)) id-fits
+            notice-is
+            (and-then ! (local′ ! (for-notify .1) refl) (and-then ! (field′ ! ℓc 1 refl refl refl)
+            (and-then ! (field′ ! ℓc 7 refl refl refl) (no-more !))))
+            (λ zs r v as-long kept is. returned arm (notifies-is l (rows .now) e) zs r v refl as-long kept is)
+
         -- read(t, c.id)
         read-it : T (not (eqb (l .kind) admitKind)) → T (not (eqb (l .kind) evaluateKind))
             → T (not (eqb (l .kind) quoteKind)) → T (not (eqb (l .kind) moveKind)) → T (not (eqb (l .kind) openKind))
+            → T (not (eqb (l .kind) outsideKind)) → T (not (eqb (l .kind) noticeKind))
             → Sq W (In (some test) ∷ Had) (runs C Λ En code-read p)
-        read-it no-admit no-evaluate no-quote no-move no-open =
+        read-it no-admit no-evaluate no-quote no-move no-open no-outside no-notice =
             reads 𝓤 H A W κ q b o γ ys room fm ℓt for-read 0 (refl, refl, tt, tt, tt, tt, tt) tt refl mem run known-read
             (l .id) id-fits (λ κ′ γ′. and-then ! (local′ ! (for-read .1) refl)
             (and-then ! (field′ ! ℓc 1 refl refl refl) (no-more !)))
             (λ zs r v as-long kept is.
-            returned arm (else-reads l (rows .now) no-admit no-evaluate no-quote no-move no-open) zs r v refl as-long
-            kept is)
+            returned arm (else-reads l (rows .now) no-admit no-evaluate no-quote no-move no-open no-outside no-notice)
+            zs r v refl as-long kept is)
 
     walk : ent 𝓤 (onEntry 𝓤 H A f.signature (κ, (κ₂, tt)) (q, (q₂, tt)) x at)
         (WpFn 𝓤 H C Λ function (machine b o ys ∷ value l ∷ mrows ∷ []) Post)
@@ -355,7 +408,9 @@ module _ {M : Type 1} (𝓤 : URA M) (H : Heap 𝓤) (A : Atoms 𝓤) (W : Given
         decides ls quoteKind tt (quote-it ls _) (λ no-quote.
         decides ls moveKind tt (move-it ls _) (λ no-move.
         decides ls openKind tt (open-it ls _) (λ no-open.
-        read-it ls _ _ refl no-admit no-evaluate no-quote no-move no-open))))))
+        decides ls outsideKind tt (receive-it ls _) (λ no-outside.
+        decides ls noticeKind tt (notify-it ls _) (λ no-notice.
+        read-it ls _ _ refl no-admit no-evaluate no-quote no-move no-open no-outside no-notice))))))))
 
 module _ {M : Type 1} (𝓤 : URA M) (H : Heap 𝓤) (A : Atoms 𝓤) (W : Given 𝓤 H A) (mem : Memory → SProp 𝓤) (run : Routine
     → Fun 𝓤) (𝓣 : Tables 𝓤 H)
@@ -364,6 +419,8 @@ module _ {M : Type 1} (𝓤 : URA M) (H : Heap 𝓤) (A : Atoms 𝓤) (W : Given
     (known-quote : Triple 𝓤 (𝓣 .C quote-def.name) (Ask quoted quoted-laws quote 𝓤 H A))
     (known-moved : Triple 𝓤 (𝓣 .C moved-def.name) (Ask number number-laws moving 𝓤 H A))
     (known-open : Triple 𝓤 (𝓣 .C open-def.name) (AskOne number openEvening 𝓤 H A))
+    (known-receive : Triple 𝓤 (𝓣 .C receive-def.name) (Ask outside outside-laws sending 𝓤 H A))
+    (known-notify : Triple 𝓤 (𝓣 .C notify-def.name) (Ask notice notice-laws notifying 𝓤 H A))
     (known-read : Triple 𝓤 (𝓣 .C read-def.name) (Read 𝓤 H A mem run)) where
   walks : Walks 𝓤 H A f.ended stayed (WpFn 𝓤 H (𝓣 .C) (𝓣 .Λ) function) (f.clauses 𝓤 H A mem run)
   walks = walked 𝓤 H A f.ended stayed (f.clauses 𝓤 H A mem run) (WpFn 𝓤 H (𝓣 .C) (𝓣 .Λ) function)
@@ -383,7 +440,8 @@ module _ {M : Type 1} (𝓤 : URA M) (H : Heap 𝓤) (A : Atoms 𝓤) (W : Given
       (walk 𝓤 H A W mem run (κs .0) (κs .1 .0) (qs .0) (qs .1 .0) (a .0 .ptr .0) (a .0 .ptr .1) (a .0 .name) (a .0
       .now) (a .1 .0) (a .1 .1 .0)
       (are .0 .0 .1) (are .1 .0) (are .1 .1 .0 .0 .1) (𝓣 .C) (𝓣 .Λ)
-      (fmOf 𝓤 H (W .laws) 𝓣) known-admit known-evaluate known-quote known-moved known-open known-read))
+      (fmOf 𝓤 H (W .laws) 𝓣) known-admit known-evaluate known-quote known-moved known-open known-receive
+      known-notify known-read))
 
   meets : Meets 𝓤 H A f.signature (WpFn 𝓤 H (𝓣 .C) (𝓣 .Λ) function) (f.spec 𝓤 H A mem run)
   meets =
@@ -416,5 +474,9 @@ perform-spec 𝓤 H 𝓜 𝓖 𝓡 =
     (moved-thm.met 𝓤 H 𝓜 𝓖 𝓡))
     (cited 𝓤 H (AskOne number openEvening 𝓤 H (𝓖 .A)) 𝓜 𝓡 code.env open-def.name open-def.routine
     code.calls-desk·open-evening (open-thm.met 𝓤 H 𝓜 𝓖 𝓡))
+    (cited 𝓤 H (Ask outside outside-laws sending 𝓤 H (𝓖 .A)) 𝓜 𝓡 code.env receive-def.name receive-def.routine
+    code.calls-desk·receive (receive-thm.met 𝓤 H 𝓜 𝓖 𝓡))
+    (cited 𝓤 H (Ask notice notice-laws notifying 𝓤 H (𝓖 .A)) 𝓜 𝓡 code.env notify-def.name notify-def.routine
+    code.calls-desk·notify (notify-thm.met 𝓤 H 𝓜 𝓖 𝓡))
     (cited 𝓤 H (Read 𝓤 H (𝓖 .A) (𝓜 .mem) (𝓡 .run)) 𝓜 𝓡 code.env read-def.name read-def.routine code.calls-desk·read
     (read-thm.met 𝓤 H 𝓜 𝓖 𝓡)))

@@ -8,7 +8,8 @@ use Rattle.gateway.proofs.given.given_of.Tie as tie
 returns : tie.Need-returns
 unfolding givenOf
 returns c =
-    let c25 = c in
+    let c26 = c in
+    let c25 = c26 .before in
     let c24 = c25 .before in
     let c23 = c24 .before in
     let c22 = c23 .before in
@@ -60,12 +61,14 @@ returns c =
       uevening = read (f .uevening) (c23 .unsigned23 .ensures) i;
       autochange = read (f .autochange) (c24 .unsigned24 .ensures) i;
       eveningmax = read (f .eveningmax) (c25 .unsigned25 .ensures) i;
+      useexternal = read (f .useexternal) (c26 .unsigned26 .ensures) i;
     }
 
 pub given-of-spec : {M : Type 1} → statement M
 given-of-spec =
     tie.close
     (tie.spec
+    (λ c κs. tt)
     (λ c κs. tt)
     (λ c κs. tt)
     (λ c κs. tt)

@@ -14,7 +14,7 @@ valid-statics-requires c κs = search needs
 returns : tie.Need-returns
 unfolding validGiven
 returns c =
-    let judged = c .before .before .before in
+    let judged = c .before .before .before .before in
     rw (judged .valid-statics .ensures, judged .before .statics-of .ensures)
 
 pub valid-given-spec : {M : Type 1} → statement M

@@ -1,0 +1,54 @@
+-- `record_calls::received_as` meets its contract: each return is the first check that applies, in the order 1, 20, or the
+-- pair is kept. Assumes nothing.
+use mathlib.Core.Path.{_≡_, sym, _∙_}
+use mathlib.Core.Bool.{true}
+use Rattle.record_answers.specs.Effects.{isKnown}
+use Rattle.record_answers.proofs.Tests.{passed, failed}
+use Rattle.record_calls.proofs.Judging.{receipt-unknown, receipt-bad, receipt-accepted}
+use borrow.Author.Needs.{needs}
+use Rattle.record_calls.proofs.received_as.Statement.{statement}
+use Rattle.record_calls.proofs.received_as.Tie as tie
+
+known : (c : tie.Else1) → isKnown (c .before .before .before .args .s) ≡ true
+known c = passed _ (c .before .is-known .ensures) (c .if1 .left)
+
+is-known-requires : tie.Need-is-known-requires
+is-known-requires c κs = search needs
+
+refused-requires : tie.Need-refused-requires
+refused-requires c κs = search needs
+
+returns : tie.Need-returns
+returns c x b k = c .refused .ensures
+    ∙ receipt-unknown _ x (failed _ (c .before .before .is-known .ensures) (c .before .if1 .taken))
+
+refused-requires-2 : tie.Need-refused-requires-2
+refused-requires-2 c κs = search needs
+
+returns-2 : tie.Need-returns-2
+returns-2 c x b k = c .refused2 .ensures ∙ receipt-bad _ x (known (c .before .before)) (b ∙ c .before .if2 .taken)
+
+received-requires : tie.Need-received-requires
+received-requires c κs = search needs
+
+written-requires : tie.Need-written-requires
+written-requires c κs = search needs
+
+returns-3 : tie.Need-returns-3
+returns-3 c x b k =
+    let e = c .before .before in
+    rw (c .written .ensures, c .before .received .ensures x k)
+    (receipt-accepted _ x (known (e .before)) (b ∙ e .if2 .left))
+
+pub received-as-spec : {M : Type 1} → statement M
+received-as-spec =
+    tie.close
+    (tie.spec
+    is-known-requires
+    refused-requires
+    returns
+    refused-requires-2
+    returns-2
+    received-requires
+    written-requires
+    returns-3)

@@ -1,0 +1,14 @@
+-- What a receipt of outside prices comes to (W-211), by whether a float of it is bad and the pair that is kept after it: of
+-- what was received nothing else is used. Assumes nothing.
+use mathlib.Core.Path.{_≡_}
+use mathlib.Core.Bool.{Bool}
+use Rattle.paper.specs.declared.External.{External}
+use Rattle.paper_desk.specs.External.{Told, isBad, keptAfter}
+use Rattle.record_answers.specs.declared.Slot.{Slot}
+use Rattle.record_answers.specs.declared.Effect.{Effect}
+use Rattle.record_answers.specs.Effects.{receiveEffect}
+
+-- o is the effect of any receipt that is as bad as this, and leaves this pair
+abbrev pub Receives : Slot → (bad : Bool) → External → Effect → Type 0
+Receives s bad kept o =
+    (x : Told) → isBad x ≡ bad → keptAfter (s .rec .external) x ≡ kept → o ≡ receiveEffect s x
