@@ -1,13 +1,15 @@
 /*
- * Calls the gateway as a customer's program does: one call a line on standard input, one figure a line on standard output.
+ * Calls the gateway as a customer's program does: one call a line on standard input, one figure a line on standard
+ * output.
  *
  *     rate   TENTATIVE M LEVEL       STATICS
  *     range  P RATE SIDE             STATICS
  *     band   P S1 K REPO C SIDE      STATICS
  *
- * STATICS are the 26 numbers of nedrubal.h, in its order. Words are split by space, tab or carriage return; a number is an optional '-' and one or more
- * digits, and fits 64 bits. A line of no words is skipped. Any other line that is no call prints `bad` and its number, counted from 1. A line is read byte
- * by byte and never held whole, so it may be of any length; the last one may lack its end.
+ * STATICS are the 26 numbers of nedrubal.h, in its order. Words are split by space, tab or carriage return; a number
+ * is an optional '-' and one or more digits, and fits 64 bits. A line of no words is skipped. Any other line that is
+ * no call prints `bad` and its number, counted from 1. A line is read byte by byte and never held whole, so it may be
+ * of any length; the last one may lack its end.
  */
 #include "nedrubal.h"
 #include <inttypes.h>
@@ -18,7 +20,8 @@
 enum { STATICS = 26, OWN_MOST = 6, NUMBERS_MOST = OWN_MOST + STATICS, VERB_MOST = 5 };
 
 #define EACH(s) \
-    (s)[0], (s)[1], (s)[2], (s)[3], (s)[4], (s)[5], (s)[6], (s)[7], (s)[8], (s)[9], (s)[10], (s)[11], (s)[12], (s)[13], (s)[14], (s)[15], (s)[16], (s)[17], \
+    (s)[0], (s)[1], (s)[2], (s)[3], (s)[4], (s)[5], (s)[6], (s)[7], (s)[8], (s)[9], (s)[10], (s)[11], (s)[12], \
+    (s)[13], (s)[14], (s)[15], (s)[16], (s)[17], \
         (s)[18], (s)[19], (s)[20], (s)[21], (s)[22], (s)[23], (s)[24], (s)[25]
 
 /* The word that is being read, as a number: gathered below zero, where the least one has room. */

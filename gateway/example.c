@@ -1,6 +1,6 @@
 /*
- * Document 01, cases 1, 3 and 4: the three rates of statics Z, their ranges at P 1,030,000, and the band. The evening of
- * Z has 120 seconds, Autochange yes and two moves; UseEXTERNAL is no.
+ * Document 01, cases 1, 3 and 4: the three rates of statics Z, their ranges at P 1,030,000, and the band. The evening
+ * of Z has 120 seconds, Autochange yes and two moves; UseEXTERNAL is no.
  */
 #include "nedrubal.h"
 #include <inttypes.h>
@@ -17,7 +17,8 @@ int main(void) {
     printf("%" PRId64 " %" PRId64 " %" PRId64 "\n", rate[0], rate[1], rate[2]);
     for (int side = 0; side < 2; side++)
         for (int level = 0; level < 3; level++)
-            printf("%" PRId64 "%c", nedrubal_range_limit(p, rate[level], side, Z), side == 1 && level == 2 ? '\n' : ' ');
+            printf("%" PRId64 "%c", nedrubal_range_limit(p, rate[level], side, Z),
+                   side == 1 && level == 2 ? '\n' : ' ');
     printf("%" PRId64 " ", nedrubal_band_limit(p, rate[0], 0, 0, 0, 1, Z));
     printf("%" PRId64 "\n", nedrubal_band_limit(p, rate[0], 0, 0, 0, 0, Z));
     return 0;

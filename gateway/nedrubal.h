@@ -1,17 +1,21 @@
 /*
  * The clearing house's rate rules and limit rules, for C: one figure a call, from plain numbers.
  *
- * Every parameter and every result is a signed 64-bit integer. A call answers 0 or more, the figure, or less than 0, minus the refusal number:
+ * Every parameter and every result is a signed 64-bit integer. A call answers 0 or more, the figure, or less than 0,
+ * minus the refusal number:
  *
  *     -4   a static is out of its range, order or step: looked at before all else
  *     -6   another value is out of its range, off the price grid, or (tentative) no multiple of h
  *
- * 0 is a figure. Any value may be given, negative or extreme: what no range holds is refused, and no input is wrapped, cut or clamped. A call keeps no
- * state, changes no memory, takes no lock and always returns, so it may be made from any thread. The same numbers give the same answer.
+ * 0 is a figure. Any value may be given, negative or extreme: what no range holds is refused, and no input is wrapped,
+ * cut or clamped. A call keeps no state, changes no memory, takes no lock and always returns, so it may be made from
+ * any thread. The same numbers give the same answer.
  *
- * Units. A price and a limit: ten-thousandths of a rouble (1,000,000 is 100 roubles). A rate and a repo rate: basis points (10,000 is 100 per cent).
+ * Units. A price and a limit: ten-thousandths of a rouble (1,000,000 is 100 roubles). A rate and a repo rate: basis
+ * points (10,000 is 100 per cent).
  *
- * The statics come last in every call, all 26, in this order (name here, name in document 01 where it differs, unit, range):
+ * The statics come last in every call, all 26, in this order (name here, name in document 01 where it differs, unit,
+ * range):
  *
  *     lot                                     pieces            1..100
  *     h                  step                 basis points      1..1,000
@@ -36,11 +40,12 @@
  *
  * The last four are the evening session's (document 02, W-210; clauses 17.4 and 17.5 of the methodology) and that of
  * external prices (W-211; clause 6.1). No figure here depends on them, but each is judged: one out of its range is -4.
- * Before W-210 every call took the 22 statics before them, before W-211 all but useexternal, and each call has kept its
- * name: a program that was compiled with an older nedrubal.h must be compiled again with this one and give all 26 in its
- * calls. Linked without that, it would pass too few numbers.
+ * Before W-210 every call took the 22 statics before them, before W-211 all but useexternal, and each call has kept
+ * its name: a program that was compiled with an older nedrubal.h must be compiled again with this one and give all 26
+ * in its calls. Linked without that, it would pass too few numbers.
  *
- * The price grid follows the lot: a price and a limit are multiples of 100 for lot 1, of 10 for lots 2..10, of 1 for lots 11..100.
+ * The price grid follows the lot: a price and a limit are multiples of 100 for lot 1, of 10 for lots 2..10, of 1 for
+ * lots 11..100.
  *
  * The archive is libnedrubal.a, for x86-64 Linux. It needs no other library.
  */
@@ -63,8 +68,9 @@ extern "C" {
  */
 int64_t nedrubal_level_rate(
     int64_t tentative, int64_t m, int64_t level,
-    int64_t lot, int64_t h, int64_t q, int64_t a_up, int64_t a_down, int64_t wait, int64_t rh1, int64_t rh2, int64_t rh3, int64_t liq,
-    int64_t min1, int64_t min2, int64_t min3, int64_t smax, int64_t xpr, int64_t shift, int64_t pchmax, int64_t pclmax, int64_t w, int64_t u,
+    int64_t lot, int64_t h, int64_t q, int64_t a_up, int64_t a_down, int64_t wait,
+    int64_t rh1, int64_t rh2, int64_t rh3, int64_t liq, int64_t min1, int64_t min2, int64_t min3, int64_t smax,
+    int64_t xpr, int64_t shift, int64_t pchmax, int64_t pclmax, int64_t w, int64_t u,
     int64_t monitoring, int64_t ewma, int64_t uevening, int64_t autochange, int64_t eveningmax, int64_t useexternal);
 
 /*
@@ -76,13 +82,14 @@ int64_t nedrubal_level_rate(
  */
 int64_t nedrubal_range_limit(
     int64_t p, int64_t rate, int64_t side,
-    int64_t lot, int64_t h, int64_t q, int64_t a_up, int64_t a_down, int64_t wait, int64_t rh1, int64_t rh2, int64_t rh3, int64_t liq,
-    int64_t min1, int64_t min2, int64_t min3, int64_t smax, int64_t xpr, int64_t shift, int64_t pchmax, int64_t pclmax, int64_t w, int64_t u,
+    int64_t lot, int64_t h, int64_t q, int64_t a_up, int64_t a_down, int64_t wait,
+    int64_t rh1, int64_t rh2, int64_t rh3, int64_t liq, int64_t min1, int64_t min2, int64_t min3, int64_t smax,
+    int64_t xpr, int64_t shift, int64_t pchmax, int64_t pclmax, int64_t w, int64_t u,
     int64_t monitoring, int64_t ewma, int64_t uevening, int64_t autochange, int64_t eveningmax, int64_t useexternal);
 
 /*
- * A band limit of one side, rounded inward to the grid, the upper down and the lower up, 0..2 * 10^10. With monitoring 0 it is p raised by pchmax or
- * lowered by pclmax; s1, k, repo and c must be in range all the same.
+ * A band limit of one side, rounded inward to the grid, the upper down and the lower up, 0..2 * 10^10. With monitoring
+ * 0 it is p raised by pchmax or lowered by pclmax; s1, k, repo and c must be in range all the same.
  *
  *     p            the evaluation: 1..10^10, on the grid
  *     s1           the rate of level 1: 0..10,000
@@ -93,8 +100,9 @@ int64_t nedrubal_range_limit(
  */
 int64_t nedrubal_band_limit(
     int64_t p, int64_t s1, int64_t k, int64_t repo, int64_t c, int64_t side,
-    int64_t lot, int64_t h, int64_t q, int64_t a_up, int64_t a_down, int64_t wait, int64_t rh1, int64_t rh2, int64_t rh3, int64_t liq,
-    int64_t min1, int64_t min2, int64_t min3, int64_t smax, int64_t xpr, int64_t shift, int64_t pchmax, int64_t pclmax, int64_t w, int64_t u,
+    int64_t lot, int64_t h, int64_t q, int64_t a_up, int64_t a_down, int64_t wait,
+    int64_t rh1, int64_t rh2, int64_t rh3, int64_t liq, int64_t min1, int64_t min2, int64_t min3, int64_t smax,
+    int64_t xpr, int64_t shift, int64_t pchmax, int64_t pclmax, int64_t w, int64_t u,
     int64_t monitoring, int64_t ewma, int64_t uevening, int64_t autochange, int64_t eveningmax, int64_t useexternal);
 
 #ifdef __cplusplus
