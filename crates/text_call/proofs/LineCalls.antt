@@ -16,7 +16,7 @@ use Rattle.paper.specs.declared.Notice.the-variants.{Bid, Ask, Withdrawal}
 use Rattle.paper.specs.Ranges.{unsigned}
 use Rattle.text_protocol.specs.declared.Kept.{Kept}
 use Rattle.text_protocol.specs.declared.Pairs.{Pairs}
-use Rattle.text_protocol.specs.Names.{the, placeOf, code, evaluateNames, quoteNames, moveNames, readNames, openNames, outsideNames, noticeNames, withdrawNames, admitKind, evaluateKind, quoteKind, moveKind, readKind, openKind, outsideKind, noticeKind, withdrawKind}
+use Rattle.text_protocol.specs.Names.{the, placeOf, code, evaluateNames, quoteNames, moveNames, readNames, openNames, outsideNames, noticeNames, withdrawNames, admitKind, evaluateKind, quoteKind, moveKind, readKind, openKind, outsideKind, noticeKind, withdrawKind, evaluateCount}
 use Rattle.text_protocol.specs.Calls.{admissionOf, quoteOf, floatOf, outsideOf, noticeCall, askedOf, figuresOf}
 use Rattle.text_call.specs.declared.Request.{Request}
 use Rattle.text_call.specs.Requests.{requestCall, noticeLine, lineCall, noAdmission, noDay, noQuote, noOutside}
@@ -33,7 +33,7 @@ module _ (k : Kept) (kind : ℕ) (zs : List ℤ) (p : Pairs) where
         side = 0;
         outside = x;
         notice = y;
-      }) (drop 13 zs) ≡
+      }) (drop evaluateCount zs) ≡
       lineCall k kind zs p
   unfolding lineCall
   admit-line a d q x y e f = rw (e, f)
@@ -50,7 +50,7 @@ module _ (k : Kept) (kind : ℕ) (zs : List ℤ) (p : Pairs) where
         side = 0;
         outside = x;
         notice = y;
-      }) (drop 13 zs) ≡
+      }) (drop evaluateCount zs) ≡
       lineCall k kind zs p
   unfolding lineCall figuresOf the placeOf code evaluateNames
   evaluate-line id a d q x y e f g = rw (e, f, g)
@@ -68,22 +68,22 @@ module _ (k : Kept) (kind : ℕ) (zs : List ℤ) (p : Pairs) where
         notice = Withdrawal;
       }) where
     pub quote-line : kind ≡ quoteKind → id ≡ unsigned (getD zs 0 (pos 0)) → q ≡ quoteOf zs
-        → requestCall r (drop 13 zs) ≡ lineCall k kind zs p
+        → requestCall r (drop evaluateCount zs) ≡ lineCall k kind zs p
     unfolding lineCall the placeOf code quoteNames
     quote-line e f g = rw (is, e, f, g)
 
     pub move-line : kind ≡ moveKind → id ≡ unsigned (getD zs 0 (pos 0)) → side ≡ unsigned (getD zs 1 (pos 0))
-        → requestCall r (drop 13 zs) ≡ lineCall k kind zs p
+        → requestCall r (drop evaluateCount zs) ≡ lineCall k kind zs p
     unfolding lineCall the placeOf code moveNames
     move-line e f g = rw (is, e, f, g)
 
     pub read-line : kind ≡ readKind → id ≡ unsigned (getD zs 0 (pos 0))
-        → requestCall r (drop 13 zs) ≡ lineCall k kind zs p
+        → requestCall r (drop evaluateCount zs) ≡ lineCall k kind zs p
     unfolding lineCall the placeOf code readNames
     read-line e f = rw (is, e, f)
 
     pub open-line : kind ≡ openKind → id ≡ unsigned (getD zs 0 (pos 0))
-        → requestCall r (drop 13 zs) ≡ lineCall k kind zs p
+        → requestCall r (drop evaluateCount zs) ≡ lineCall k kind zs p
     unfolding lineCall the placeOf code openNames
     open-line e f = rw (is, e, f)
 
@@ -98,12 +98,12 @@ module _ (k : Kept) (kind : ℕ) (zs : List ℤ) (p : Pairs) where
     notice = y;
   }
       → kind ≡ outsideKind → id ≡ unsigned (getD zs 0 (pos 0)) → x ≡ outsideOf zs
-      → requestCall r (drop 13 zs) ≡ lineCall k kind zs p
+      → requestCall r (drop evaluateCount zs) ≡ lineCall k kind zs p
   unfolding lineCall the placeOf code outsideNames
   outside-line r id x y is e f g = rw (is, e, f, g)
 
-  pub notice-line : (r : Request) → kind ≡ noticeKind → requestCall r (drop 13 zs) ≡ noticeLine zs
-      → requestCall r (drop 13 zs) ≡ lineCall k kind zs p
+  pub notice-line : (r : Request) → kind ≡ noticeKind → requestCall r (drop evaluateCount zs) ≡ noticeLine zs
+      → requestCall r (drop evaluateCount zs) ≡ lineCall k kind zs p
   unfolding lineCall
   notice-line r e f = rw e f
 
@@ -117,7 +117,8 @@ module _ (k : Kept) (kind : ℕ) (zs : List ℤ) (p : Pairs) where
     outside = x;
     notice = Withdrawal;
   }
-      → kind ≡ withdrawKind → id ≡ unsigned (getD zs 0 (pos 0)) → requestCall r (drop 13 zs) ≡ lineCall k kind zs p
+      → kind ≡ withdrawKind → id ≡ unsigned (getD zs 0 (pos 0))
+      → requestCall r (drop evaluateCount zs) ≡ lineCall k kind zs p
   unfolding lineCall the placeOf code withdrawNames
   withdraw-line r id x is e f = rw (is, e, f)
 
@@ -134,7 +135,7 @@ module _ (k : Kept) (kind : ℕ) (zs : List ℤ) (p : Pairs) where
       → (kind ≡ admitKind → ⊥) → (kind ≡ evaluateKind → ⊥) → (kind ≡ quoteKind → ⊥) → (kind ≡ moveKind → ⊥)
       → (kind ≡ readKind → ⊥) → (kind ≡ openKind → ⊥) → (kind ≡ outsideKind → ⊥) → (kind ≡ noticeKind → ⊥)
       → (kind ≡ withdrawKind → ⊥)
-      → requestCall r (drop 13 zs) ≡ lineCall k kind zs p
+      → requestCall r (drop evaluateCount zs) ≡ lineCall k kind zs p
   unfolding lineCall
   other-line r q is a b c d e f g h i =
       rw (
@@ -164,7 +165,7 @@ module _ (zs : List ℤ) (id side : ℕ) (f : Float) (at-id : id ≡ unsigned (g
     outside = x;
     notice = Bid f;
   }
-      → side ≡ 0 → requestCall r (drop 13 zs) ≡ noticeLine zs
+      → side ≡ 0 → requestCall r (drop evaluateCount zs) ≡ noticeLine zs
   unfolding noticeLine noticeCall the placeOf code noticeNames
   bid-line x is e = rw (is, at-id, at-bits, sym at-side ∙ e)
 
@@ -178,7 +179,7 @@ module _ (zs : List ℤ) (id side : ℕ) (f : Float) (at-id : id ≡ unsigned (g
     outside = x;
     notice = Ask f;
   }
-      → side ≡ 1 → requestCall r (drop 13 zs) ≡ noticeLine zs
+      → side ≡ 1 → requestCall r (drop evaluateCount zs) ≡ noticeLine zs
   unfolding noticeLine noticeCall the placeOf code noticeNames
   ask-line x is e = rw (is, at-id, at-bits, sym at-side ∙ e)
 
@@ -192,6 +193,6 @@ module _ (zs : List ℤ) (id side : ℕ) (f : Float) (at-id : id ≡ unsigned (g
     outside = noOutside;
     notice = Withdrawal;
   }
-      → (side ≡ 0 → ⊥) → (side ≡ 1 → ⊥) → requestCall r (drop 13 zs) ≡ noticeLine zs
+      → (side ≡ 0 → ⊥) → (side ≡ 1 → ⊥) → requestCall r (drop evaluateCount zs) ≡ noticeLine zs
   unfolding noticeLine noticeCall the placeOf code noticeNames
   side-line q is n m = rw (is, at-id, ← at-side, ne-eqb side 0 n, ne-eqb side 1 m)

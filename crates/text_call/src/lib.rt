@@ -10,6 +10,7 @@ ghost use Rattle.text_protocol.specs.Calls.{givenOf, admissionOf, quoteOf, bits
 ghost use Rattle.text_call.specs.Terms.{termAtPlace};
 ghost use Rattle.text_call.specs.Requests.{requestCall, lineCall, noAdmission, noTerm, noDay, noQuote, noOutside, noticeLine};
 ghost use Rattle.paper.specs.declared.Notice.the-variants.{Withdrawal};
+ghost use Rattle.text_protocol.specs.Names.{evaluateCount};
 use paper::Admission;
 use paper::AskedDay;
 use paper::AskedTerm;
@@ -383,7 +384,7 @@ fn of_outside(kind: u64, id: u64, outside: Outside, notice: Notice) -> Request
 
 // The request of a notice: 0 is a bid, 1 an ask, and another side is a move of that side, which no move has.
 fn notice_of(zs: &[i64]) -> Request
-    ensures { λ r. ⌜ requestCall r (drop 13 (now (zs .entry))) ≡ noticeLine (now (zs .entry)) ⌝ }
+    ensures { λ r. ⌜ requestCall r (drop evaluateCount (now (zs .entry))) ≡ noticeLine (now (zs .entry)) ⌝ }
 {
     let id = unsigned_at(zs, 0);
     let side = unsigned_at(zs, 1);
@@ -399,7 +400,7 @@ fn notice_of(zs: &[i64]) -> Request
 
 // What a line of a kind asks of the desk: its call, or a read of id 0 where it asks nothing of it.
 pub fn request_of(zs: &[i64], kind: u64, p: Pairs, k: Kept) -> Request
-    ensures { λ r. ⌜ requestCall r (drop 13 (now (zs .entry))) ≡ lineCall k kind (now (zs .entry)) p ⌝ }
+    ensures { λ r. ⌜ requestCall r (drop evaluateCount (now (zs .entry))) ≡ lineCall k kind (now (zs .entry)) p ⌝ }
 {
     if kind == Kind::ADMIT {
         return Request {

@@ -31,7 +31,7 @@ use Rattle.text_protocol.specs.declared.Kept.{Kept}
 use Rattle.text_protocol.specs.declared.Pairs.{Pairs}
 use Rattle.text_protocol.specs.declared.Performed.{Performed}
 use Rattle.text_protocol.specs.Kept.{keptAfter}
-use Rattle.text_protocol.specs.Names.{ID, SIDE, BITS, noticeNames, the, interestNames, bondNames, admitKind, evaluateKind, quoteKind, moveKind, readKind, openKind, outsideKind, noticeKind, withdrawKind, interestKind, bondKind}
+use Rattle.text_protocol.specs.Names.{ID, SIDE, BITS, noticeNames, the, interestNames, bondNames, admitKind, evaluateKind, quoteKind, moveKind, readKind, openKind, outsideKind, noticeKind, withdrawKind, interestKind, bondKind, evaluateCount, interestCount, bondCount}
 use Rattle.text_protocol.specs.Line.{Said, Nothing, NoCall, Call as saysCall}
 use Rattle.text_protocol.specs.Calls.{unsignedOf, floatOf, noticeCall, interestOf, bondOf, figuresOf, callOf, deedOf}
 use Rattle.text_protocol.specs.Answers.{callText, figuresOf as figuresAnswered}
@@ -207,14 +207,14 @@ module _ (k : Kept) (zs : List ℤ) (p : Pairs) where
 
 -- ---- what is wanted of a line
 
-module _ (k : Kept) (kind : ℕ) (zs : List ℤ) (p : Pairs) (r : Request) (asks : requestCall r (drop 13 zs) ≡ lineCall k
-    kind zs p) (b : Beside) where
+module _ (k : Kept) (kind : ℕ) (zs : List ℤ) (p : Pairs) (r : Request)
+    (asks : requestCall r (drop evaluateCount zs) ≡ lineCall k kind zs p) (b : Beside) where
   pub wants-interest : (given : Interest) (fs : List ℤ) (i : InterestAnswer) (kept : Kept) → given ≡ interestOf zs
-      → fs ≡ drop 14 zs → i ≡ interestAnswer given fs → b .interest ≡ i → kept ≡ keptAfter k given i
+      → fs ≡ drop interestCount zs → i ≡ interestAnswer given fs → b .interest ≡ i → kept ≡ keptAfter k given i
       → kind ≡ interestKind → Wants k kind zs p (record { request = r; beside = b; kept = kept })
   unfolding figuresOf interestNames
   wants-interest given fs i kept e f g said h is =
-      let w : i ≡ interestAnswer (interestOf zs) (drop 14 zs) = g ∙ rw (e, f) in
+      let w : i ≡ interestAnswer (interestOf zs) (drop interestCount zs) = g ∙ rw (e, f) in
       record {
         asks = asks;
         works = λ q. said ∙ w;
@@ -223,7 +223,7 @@ module _ (k : Kept) (kind : ℕ) (zs : List ℤ) (p : Pairs) (r : Request) (asks
         stays = λ q. absurd (q is);
       }
 
-  pub wants-bond : (given : Bond) (fs : List ℤ) (a : BondAnswer) → given ≡ bondOf k zs p → fs ≡ drop 33 zs
+  pub wants-bond : (given : Bond) (fs : List ℤ) (a : BondAnswer) → given ≡ bondOf k zs p → fs ≡ drop bondCount zs
       → a ≡ bondAnswer given fs → b .bond ≡ a
       → kind ≡ bondKind → Wants k kind zs p (record { request = r; beside = b; kept = k })
   unfolding figuresOf bondNames
@@ -254,12 +254,12 @@ wants-does l xs s k w h q =
     let zs : List ℤ = take (l .count) xs in
     let e : saidKind (l .kind) zs (l .pairs) ≡ s = said-kind l xs (h .says) in
     let is : LineKind (l .kind) = line-kind (l .kind) (h .low) (h .high) in
-    let asks : requestCall (w .request) (drop 13 zs) ≡ callIn (deedOf k (saidKind (l .kind) zs (l .pairs))) =
-    q .asks ∙ asks-kind k zs (l .pairs) is in
+    let asks : requestCall (w .request) (drop evaluateCount zs)
+    ≡ callIn (deedOf k (saidKind (l .kind) zs (l .pairs))) = q .asks ∙ asks-kind k zs (l .pairs) is in
     record {
       asks = rw (← e) asks;
       kept = rw (← e) (keeps-kind k zs (l .pairs) (w .kept) is (q .keeps) (q .stays));
       says = λ reasons n a t f.
-          rw (← e) (says-kind k zs (l .pairs) reasons n (w .beside) (w .request) (drop 13 zs) a t is (q .works)
-          (q .bonds) asks (rw (← e) at f));
+          rw (← e) (says-kind k zs (l .pairs) reasons n (w .beside) (w .request) (drop evaluateCount zs) a t is
+          (q .works) (q .bonds) asks (rw (← e) at f));
     }

@@ -17,7 +17,7 @@ use Rattle.text_protocol.specs.declared.Kept.{Kept}
 use Rattle.text_protocol.specs.declared.Pairs.{Pairs}
 use Rattle.text_protocol.specs.declared.Performed.{Performed}
 use Rattle.text_protocol.specs.Kept.{keptAfter}
-use Rattle.text_protocol.specs.Names.{evaluateKind, interestKind, bondKind, interestNames, bondNames}
+use Rattle.text_protocol.specs.Names.{evaluateKind, interestKind, bondKind, interestNames, bondNames, evaluateCount}
 use Rattle.text_protocol.specs.Calls.{Deed, nothing, noCall, call, interest, bond, interestOf, bondOf, figuresOf}
 use Rattle.text_protocol.specs.Answers.{badText, interestText, bondText}
 use Rattle.text_protocol.specs.Reasons.{whyText}
@@ -57,7 +57,7 @@ pub record Said (asked : Bool) (r : Request) (rows : List ℤ) (c : Call) (t : L
 
 -- what the code makes of a line of a kind, of the numbers zs and the pairs p
 pub record Wants (k : Kept) (kind : ℕ) (zs : List ℤ) (p : Pairs) (r : Wanted) : Type 0 where
-  pub asks : requestCall (r .request) (drop 13 zs) ≡ lineCall k kind zs p
+  pub asks : requestCall (r .request) (drop evaluateCount zs) ≡ lineCall k kind zs p
   pub works : kind ≡ interestKind → r .beside .interest ≡ interestAnswer (interestOf zs) (figuresOf interestNames zs)
   pub bonds : kind ≡ bondKind → r .beside .bond ≡ bondAnswer (bondOf k zs p) (figuresOf bondNames zs)
   pub keeps : kind ≡ interestKind → r .kept ≡ keptAfter k (interestOf zs) (interestAnswer (interestOf zs) (figuresOf
@@ -67,8 +67,8 @@ pub record Wants (k : Kept) (kind : ℕ) (zs : List ℤ) (p : Pairs) (r : Wanted
 -- WHAT THE CODE MAKES OF A LINE IS THE DEED d: its call of the desk, what is kept after it, and the text of its answer,
 -- where the desk says what it says to that call, and however evaluations are answered
 pub record Does (k : Kept) (d : Deed) (kind : ℕ) (zs : List ℤ) (r : Wanted) : Type 0 where
-  pub asks : requestCall (r .request) (drop 13 zs) ≡ callIn d
+  pub asks : requestCall (r .request) (drop evaluateCount zs) ≡ callIn d
   pub kept : r .kept ≡ keptBy d k
   pub says : (reasons : Bool) (n : ℕ) (a : Performed) (t : List Record)
-      → Said (asksWhy reasons kind) (r .request) (drop 13 zs) (callIn d) t a
+      → Said (asksWhy reasons kind) (r .request) (drop evaluateCount zs) (callIn d) t a
       → lineText (asksWhy reasons kind) kind n (r .beside) a ≡ textOf reasons n d t

@@ -20,6 +20,8 @@ use text_call::interest_of;
 use text_call::request_of;
 use text_kept::kept_after;
 use text_line::Line;
+use text_protocol::BOND_COUNT;
+use text_protocol::INTEREST_COUNT;
 use text_protocol::Kept;
 use text_protocol::Kind;
 use text_protocol::Performed;
@@ -69,7 +71,7 @@ pub fn wanted_by(zs: &[i64], l: Line, k: Kept) -> Wanted
     let request = request_of(zs, kind, pairs, k);
     if kind == Kind::INTEREST {
         let given = interest_of(zs);
-        let i = interest::answer(given, figures(zs, 14));
+        let i = interest::answer(given, figures(zs, INTEREST_COUNT));
         return Wanted {
             request,
             beside: of_interest(i),
@@ -77,7 +79,7 @@ pub fn wanted_by(zs: &[i64], l: Line, k: Kept) -> Wanted
         };
     }
     if kind == Kind::BOND {
-        let b = bond::answer(bond_of(k, pairs, zs), figures(zs, 33));
+        let b = bond::answer(bond_of(k, pairs, zs), figures(zs, BOND_COUNT));
         return Wanted {
             request,
             beside: of_bond(b),

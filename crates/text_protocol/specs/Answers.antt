@@ -2,7 +2,7 @@
 -- Assumes nothing.
 use mathlib.Core.Bool.{Bool, true, false}
 use mathlib.Core.List.{List, [], _∷_, _++_}
-use Prim.Native.Nat.{ℕ, zero, suc}
+use Prim.Native.Nat.{ℕ, zero, suc, _-_}
 use lib.IntN.{ℤ, pos, negsuc}
 use lib.ListN.{getD}
 use Rattle.paper.specs.declared.Standing.{Standing}
@@ -26,7 +26,7 @@ use Rattle.paper.specs.Lists.{pick}
 use Rattle.paper.specs.Ranges.{isLive, lastDay, noLimits, notNear, termAt, rateAt}
 use Rattle.paper.specs.Verdicts.{numberOf, isDone}
 use Rattle.paper_desk.specs.Desk.{Call, admit, evaluate, quote, move, read, openEvening, receive}
-use Rattle.text_protocol.specs.Bytes.{space, lineFeed}
+use Rattle.text_protocol.specs.Bytes.{room, space, lineFeed}
 use Rattle.text_protocol.specs.Numbers.{decimal, signed}
 
 -- ---- numbers as text
@@ -43,6 +43,10 @@ spaced (z ∷ zs) = next z ++ spaced zs
 -- no answer is longer
 abbrev pub answerMost : ℕ
 answerMost = 1200
+
+-- where so many bytes of answers wait at most, one more has room behind them
+abbrev pub waitingMost : ℕ
+waitingMost = room - answerMost
 
 -- the numbers of an answer, the verdict's first
 abbrev pub numbersOf : ℕ → List ℤ → List ℤ

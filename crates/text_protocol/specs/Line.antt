@@ -1,11 +1,12 @@
 -- docs/EVENING.md, "Which line is which call": what a line of the evening's text says. Assumes nothing.
 use mathlib.Core.Bool.{Bool, false, _&&_, _||_}
 use mathlib.Core.List.{List, [], _∷_, _++_}
-use Prim.Native.Nat.{ℕ, suc}
+use Prim.Native.Nat.{ℕ, suc, _+_}
 use lib.Dec.{leb, ltb, eqb}
 use lib.IntN.{ℤ}
 use lib.ListN.{length, take, drop}
 use Rattle.paper.specs.Lists.{pick}
+use Rattle.paper.specs.Numbers.{allNumbersMost}
 use Rattle.text_protocol.specs.declared.Number.{Number}
 use Rattle.text_protocol.specs.declared.Number.the-variants as number
 use Rattle.text_protocol.specs.declared.Item.{Item}
@@ -13,7 +14,7 @@ use Rattle.text_protocol.specs.declared.Item.the-variants as item
 use Rattle.text_protocol.specs.declared.Pairs.{Pairs}
 use Rattle.text_protocol.specs.Bytes.{words}
 use Rattle.text_protocol.specs.Numbers.{numberOf, slashAt}
-use Rattle.text_protocol.specs.Names.{Name, evaluateKind, bondKind, evaluateNames, bondNames, placeOf, RRCL0, RRCL1, RRCL2, kindOf, takes}
+use Rattle.text_protocol.specs.Names.{Name, evaluateKind, bondKind, evaluateNames, evaluateCount, bondNames, placeOf, RRCL0, RRCL1, RRCL2, kindOf, takes}
 
 unfoldable pub oneOf : Number → Item
 oneOf (number.Is z) = item.One z
@@ -63,10 +64,10 @@ withPair k n p =
       third = p .third || eqb n (placeIn k RRCL2);
     }
 
--- A line keeps the thirteen numbers of an evaluation and 113 figures, one more than a day may have: with so many it is
--- out of range, whatever follows. What follows has to be numbers, and is dropped
+-- A line keeps the numbers of an evaluation and its row figures, one more of them than a day may have: with so many it
+-- is out of range, whatever follows. What follows has to be numbers, and is dropped
 abbrev pub keptMost : ℕ
-keptMost = 126
+keptMost = evaluateCount + allNumbersMost + 1
 
 -- a number more
 unfoldable pub more : List ℤ → ℤ → List ℤ

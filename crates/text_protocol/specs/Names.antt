@@ -1,5 +1,6 @@
 -- docs/EVENING.md, "The calls": the word of each call, and the names of the numbers that follow it, in their order. A
 -- call more is a line more of `forms`. Assumes nothing.
+use mathlib.Core.Path.{_≡_, refl}
 use mathlib.Core.Bool.{Bool, true, false}
 use mathlib.Core.List.{List, [], _∷_}
 use Prim.Native.Nat.{ℕ, zero, suc}
@@ -192,6 +193,22 @@ bondNames =
     M ∷ NET ∷ FACE ∷ ACCRUED ∷ REPO ∷ S ∷ TENTATIVE ∷ AGE ∷ K0 ∷ RRCL0 ∷ RRCH0 ∷ K1 ∷ RRCL1 ∷ RRCH1 ∷ K2 ∷ RRCL2 ∷ RRCH2
     ∷ H ∷ Q ∷ WAIT ∷ RH1 ∷ RH2 ∷ RH3 ∷ LIQ ∷ MIN1 ∷ MIN2 ∷ MIN3 ∷ SMAX ∷ XPR ∷ PCHMAX ∷ PCLMAX ∷ MONITORING ∷ ISEWMA
     ∷ []
+
+-- how many numbers stand before the row figures of an evaluation, before the key maturities of an interest line and
+-- before the cash flows of a bond: as many as they have names
+abbrev pub evaluateCount : ℕ
+evaluateCount = 13
+
+abbrev pub interestCount : ℕ
+interestCount = 14
+
+abbrev pub bondCount : ℕ
+bondCount = 33
+
+pub counts-are-of-the-names : (length evaluateNames ≡ evaluateCount) × (length interestNames ≡ interestCount)
+    × (length bondNames ≡ bondCount)
+unfolding evaluateNames interestNames bondNames
+counts-are-of-the-names = (refl, refl, refl)
 
 -- the words, as bytes
 abbrev pub admitWord : List ℕ

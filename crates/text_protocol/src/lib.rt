@@ -2,15 +2,29 @@
 // function: the definitions say what a line of text means and what is printed, and every other crate of the text is
 // proved equal to them.
 use paper::Answer;
+use paper::Row;
 use paper::WorkedBand;
 use paper_reasons::Why;
 
 // The bytes of each buffer: of what is read, and of the answers that wait.
 pub const ROOM: usize = 65_536;
 
-// The numbers that a line keeps: the thirteen of `evaluate` and its row figures, with one figure more than a day may
-// have.
-pub const KEPT: usize = 126;
+// The bytes of an answer at most.
+pub const ANSWER_MOST: usize = 1_200;
+
+// Where so many bytes of answers wait at most, one more has room behind them.
+pub const WAITING_MOST: usize = ROOM - ANSWER_MOST;
+
+// How many numbers stand before the row figures of an evaluation, before the key maturities of an interest line and
+// before the cash flows of a bond.
+pub const EVALUATE_COUNT: usize = 13;
+
+pub const INTEREST_COUNT: usize = 14;
+
+pub const BOND_COUNT: usize = 33;
+
+// The numbers that a line keeps: those of an evaluation and its row figures, with one figure more than a day may have.
+pub const KEPT: usize = EVALUATE_COUNT + Row::ALL_NUMBERS_MOST + 1;
 
 // What kind of line a line is, by its number (specs/Names.antt).
 pub struct Kind {

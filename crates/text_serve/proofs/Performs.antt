@@ -54,6 +54,7 @@ use Rattle.text_ask.proofs.ask.Symbol as ask-def
 use Rattle.text_serve.proofs.Arrays.{Numbers, to, typed-performed}
 use Rattle.text_serve.proofs.rows_in as rows
 use Rattle.text_serve.proofs.rows_in.Symbol as rows-def
+use Rattle.text_protocol.specs.Names.{evaluateCount}
 
 abbrev request-val : Request → Val
 request-val = LL.val B.the-type B′.the-laws
@@ -129,16 +130,16 @@ module _ {M : Type 1} (𝓤 : URA M) (H : Heap 𝓤) (A : Atoms 𝓤) (mem′ : 
     abbrev Cut : RefT (List ℤ) → SProp 𝓤
     Cut f = ensured 𝓤 H A rows.ended (rows.clauses 𝓤 H A mem′ run) (α, tt) (to bx ox δ xs, (count, tt)) tt f
 
-    cut-of : (f : RefT (List ℤ)) → ent 𝓤 (Cut f) (fact 𝓤 (f .now ≡ from-at 13 (take count xs)))
+    cut-of : (f : RefT (List ℤ)) → ent 𝓤 (Cut f) (fact 𝓤 (f .now ≡ from-at evaluateCount (take count xs)))
     cut-of f =
         exE 𝓤 _ (λ ws. snd∗ 𝓤 (sem 𝓤 H A (lasts rows.ended (α, tt) (to bx ox δ xs, (count, tt)) ws)) (fact 𝓤 (f .now ≡
-        from-at 13 (take count xs))))
+        from-at evaluateCount (take count xs))))
 
     module _ {Γ : List (Item 𝓤)} {E : Env 𝓤 H} {cs : Locals} {C : Calls 𝓤 H} {Λ : Loops 𝓤 H} {post : Post 𝓤 H}
         {args : List Operand} {d : ℕ} {rest : Code} where
       pub cuts : FmC 𝓤 H (W .laws) C → Triple 𝓤 (C rows-def.name) Rows → Within E d → spotOf 𝓤 H E d .0 ≡ figures-ty
           → ((Δ : List (Item 𝓤)) → Opds (Go {0}) W (frame H E cs ∷ Δ) E args (vptr bx ox ∷ vint w64 count ∷ []))
-          → ((f : RefT (List ℤ)) → f .now ≡ from-at 13 (take count xs)
+          → ((f : RefT (List ℤ)) → f .now ≡ from-at evaluateCount (take count xs)
           → Sq W (frame H E (holding cs d (some (figures-val f))) ∷ ‵ (Figures 0 α f (figures-val f))
           ∷ ‵ (flft α fullShare) ∷ Γ) (runs C Λ E rest post))
           → Sq W (frame H E cs ∷ ‵ (Shared α bx ox δ xs) ∷ ‵ (flft α fullShare) ∷ Γ)
@@ -149,8 +150,8 @@ module _ {M : Type 1} (𝓤 : URA M) (H : Heap 𝓤) (A : Atoms 𝓤) (mem′ : 
           use1 W (later (some′ (λ (f : RefT (List ℤ)). ((‵ (flft α fullShare) ⊛ ‵ ftrue) ⊛ ‵ (Figures 0 α f w))
           ⊛ raw (Cut f)))) (id⊢ 𝓤 _) $ await ! tt $
           pick ! (λ f. split ! $ move ! (1 ∷ []) $
-          use1 W (raw (fact 𝓤 (f .now ≡ from-at 13 (take count xs)))) (cut-of f) $
-          heard ! (f .now ≡ from-at 13 (take count xs)) (λ e. split ! $ move ! (1 ∷ []) $
+          use1 W (raw (fact 𝓤 (f .now ≡ from-at evaluateCount (take count xs)))) (cut-of f) $
+          heard ! (f .now ≡ from-at evaluateCount (take count xs)) (λ e. split ! $ move ! (1 ∷ []) $
           use1 W (‵ (Figures 0 α f w) ⊛ ‵ (Figures 0 α f w)) (shr-slice-copy 𝓤 H A W (named 0) α i64 .twice f (w ∷ []))
           $ split ! $
           facts ! (ShrSlice (named 0) α i64) (Is (ShrSlice (named 0) α i64)) (shows 𝓤 H A (ShrSlice (named 0) α i64)) f

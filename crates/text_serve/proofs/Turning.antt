@@ -28,6 +28,7 @@ use Rattle.text_deed.specs.Deeds.{callIn, lineText, Said}
 use Rattle.text_turn.specs.Turn.{Prepares, Tells}
 use Rattle.text_ask.specs.Asked.{Asks}
 use Rattle.text_serve.specs.Serve.{eveningOf, Turns}
+use Rattle.text_protocol.specs.Names.{evaluateCount}
 
 -- ---- the table: a line that is no call of the desk is a read, which leaves it
 
@@ -42,7 +43,7 @@ table-of (bond b flows) t = sym (read-leaves t 0)
 -- ---- the turn
 
 module _ {b : List ℕ} {s : State} {b' : List ℕ} {p : Prepared} {xs rows : List ℤ} {t t' : List Record} {a : Performed}
-    {o o' : List ℕ} {r : State} (heard : Prepares b s b' p xs) (are : rows ≡ drop 13 (take (p .count) xs))
+    {o o' : List ℕ} {r : State} (heard : Prepares b s b' p xs) (are : rows ≡ drop evaluateCount (take (p .count) xs))
     (done : Asks (p .asked) (p .request) rows t a t')
     (told : Tells o p a o' r) where
   abbrev deed : Deed
@@ -54,7 +55,7 @@ module _ {b : List ℕ} {s : State} {b' : List ℕ} {p : Prepared} {xs rows : Li
   performed : Promised (callIn deed) t (a .answer) t'
   performed = subst (λ (c : Call). Promised c t (a .answer) t') same-call (done .performed)
 
-  said : Said (p .asked) (p .request) (drop 13 (take (p .count) xs)) (callIn deed) t a
+  said : Said (p .asked) (p .request) (drop evaluateCount (take (p .count) xs)) (callIn deed) t a
   said =
       record {
         answer = performed .answer;

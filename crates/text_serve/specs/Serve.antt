@@ -6,13 +6,14 @@ use mathlib.Core.List.{List, [], _∷_, _++_}
 use Prim.Native.Nat.{ℕ, _+_, _≤_}
 use lib.ListN.{length}
 use Rattle.paper.specs.declared.Record.{Record}
-use Rattle.text_protocol.specs.Bytes.{lineFeed}
-use Rattle.text_protocol.specs.Evening.{Evening, after, answer, afterAll}
+use Rattle.text_protocol.specs.Bytes.{lineFeed, room}
+use Rattle.text_protocol.specs.Evening.{Evening, after, answer, afterAll, lastNumber}
 use Rattle.text_out.specs.Wrote.{Wrote}
 use Rattle.text_input.specs.declared.Input.{Input}
 use Rattle.text_input.specs.Input.{Unbroken, Next}
 use Rattle.text_turn.specs.declared.State.{State}
 use Rattle.text_turn.specs.Turn.{halted, startState}
+use Rattle.text_protocol.specs.Answers.{answerMost}
 
 -- the evening that a state and a table are
 abbrev pub eveningOf : State → List Record → Evening
@@ -24,7 +25,7 @@ eveningOf s t = record { number = s .number; kept = s .kept; table = t }
 -- them were handed to `write`
 pub record Answers (o : List ℕ) (n : ℕ) (o' : List ℕ) (n' : ℕ) (text : List ℕ) : Type 0 where
   pub end : ℕ
-  pub wrote : Wrote o n o' end text 1200
+  pub wrote : Wrote o n o' end text answerMost
   pub waits : (n' ≡ end) ⊎ (n' ≡ 0)
 
 -- ONE TURN, from the buffer b, the state s, the table t and the answers o: `line` is the next line of the input,
@@ -40,7 +41,7 @@ pub record Turns (b : List ℕ) (s : State) (t : List Record) (o b' : List ℕ) 
   pub evening : eveningOf r t' ≡ after line (eveningOf s t)
   pub answers : Answers o (s .waiting) o' (r .waiting) (answer (s .reasons) line (eveningOf s t))
   pub reasons : r .reasons ≡ s .reasons
-  pub room : r .waiting + 1200 ≤ 65536
+  pub room : r .waiting + answerMost ≤ room
   pub prompt : r .input .len ≤ r .input .end → r .waiting ≡ 0
   pub last : r .input .left ≡ 0 → r .waiting ≡ 0
 
@@ -58,7 +59,7 @@ joined (l ∷ ls) u = l ++ lineFeed ∷ joined ls u
 
 -- as many lines as one run hears at most: 2^64 - 1, the most that its counter holds
 abbrev pub mostLines : ℕ
-mostLines = 18446744073709551615
+mostLines = lastNumber
 
 -- THE LINES OF THE BYTES `got`, and why no more of them was heard: a line feed ends each line of `whole`, and `behind`
 -- stands behind the last one. Where the input has ended, `behind` is the last line, and every line was heard. Where it

@@ -10,6 +10,8 @@ ghost use Rattle.text_serve.specs.Serve.{Turns, Serves};
 ghost use Rattle.text_protocol.specs.Bytes.{room};
 ghost use Rattle.text_protocol.specs.Answers.{answerMost};
 ghost use Rattle.text_protocol.specs.Line.{keptMost};
+ghost use Rattle.text_protocol.specs.Names.{evaluateCount};
+ghost use Rattle.paper.specs.Numbers.{slotsMost};
 use libc::STDERR_FILENO;
 use paper::Record;
 use text_ask::ask;
@@ -32,7 +34,7 @@ fn hear_in(buf: &mut [u8; ROOM], xs: &mut [i64; KEPT], s: State) -> Prepared
 
 // The row figures of a line of so many numbers.
 fn rows_in(xs: &[i64; KEPT], count: usize) -> &[i64]
-    ensures { λ r. ⌜ now r ≡ drop 13 (take count (now (xs .entry))) ⌝ }
+    ensures { λ r. ⌜ now r ≡ drop evaluateCount (take count (now (xs .entry))) ⌝ }
 {
     rows_of(xs, count)
 }
@@ -78,7 +80,7 @@ pub fn serve(t: &mut [Record], reasons: bool) -> State
 
 // "A fresh table has every slot empty."
 pub fn fresh() -> [Record; Record::SLOTS_MOST]
-    ensures { λ r. ⌜ r ≡ replicate 512 blank ⌝ }
+    ensures { λ r. ⌜ r ≡ replicate slotsMost blank ⌝ }
 {
     let e = record_answers::blank();
     [e; Record::SLOTS_MOST]

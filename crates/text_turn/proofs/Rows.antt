@@ -11,6 +11,7 @@ use lib.ListN.{length, take, drop, drop-of-length-le}
 use lib.Seq.{take-all, length-take-le}
 use borrow.Author.Tests.{leb-true, leb-false}
 use Rattle.text_input.proofs.Turns.{drop-take-of}
+use Rattle.text_protocol.specs.Names.{evaluateCount}
 
 cut : (xs : List ℤ) (n : ℕ) → take (min n (length xs)) xs ≡ take n xs
 cut xs n = go (leb n (length xs)) refl
@@ -22,20 +23,21 @@ cut xs n = go (leb n (length xs)) refl
         let o : length xs ≤ length xs = omega arith in
         rw (min-eq-right h, take-all (length xs) xs o, take-all n xs h)
 
-behind : (xs : List ℤ) (end : ℕ) → end ≤ length xs → take (end - min 13 end) (drop (min 13 end) xs) ≡ drop 13 (take end
-    xs)
-behind xs end h = go (leb 13 end) refl
+-- what stands behind the first n, up to `end`
+behind : (n : ℕ) (xs : List ℤ) (end : ℕ) → end ≤ length xs
+    → take (end - min n end) (drop (min n end) xs) ≡ drop n (take end xs)
+behind n xs end h = go (leb n end) refl
   where
-    go : (x : Bool) → leb 13 end ≡ x → take (end - min 13 end) (drop (min 13 end) xs) ≡ drop 13 (take end xs)
-    go true e = rw (min-eq-left (leb-true 13 end e)) (sym (drop-take-of 13 end xs))
+    go : (x : Bool) → leb n end ≡ x → take (end - min n end) (drop (min n end) xs) ≡ drop n (take end xs)
+    go true e = rw (min-eq-left (leb-true n end e)) (sym (drop-take-of n end xs))
     go false e =
-        let k : end ≤ 13 = omega (arith, leb-false 13 end e) in
+        let k : end ≤ n = omega (arith, leb-false n end e) in
         let z : end - end ≡ zero = omega arith in
-        let l : length (take end xs) ≤ 13 = rw (length-take-le end xs h) k in
+        let l : length (take end xs) ≤ n = rw (length-take-le end xs h) k in
         rw (min-eq-right k, z, drop-of-length-le (take end xs) l)
 
-pub rows-are : (xs : List ℤ) (count start end : ℕ) → end ≡ min count (length xs) → start ≡ min 13 end → end ≤ length xs
-    → take (end - start) (drop start xs) ≡ drop 13 (take count xs)
+pub rows-are : (xs : List ℤ) (count start end : ℕ) → end ≡ min count (length xs) → start ≡ min evaluateCount end
+    → end ≤ length xs → take (end - start) (drop start xs) ≡ drop evaluateCount (take count xs)
 rows-are xs count start end e s h =
     let c : take end xs ≡ take count xs = rw e (cut xs count) in
-    rw (s, ← c) (behind xs end h)
+    rw (s, ← c) (behind evaluateCount xs end h)

@@ -9,14 +9,16 @@ use borrow.Author.Tests.{ltb-false}
 use Rattle.paper.specs.Lists.{pick}
 use Rattle.text_input.specs.declared.Input.{Input}
 use Rattle.text_turn.specs.Turn.{halted}
+use Rattle.text_protocol.specs.Answers.{answerMost, waitingMost}
+use Rattle.text_protocol.specs.Bytes.{room}
 
 some-left : (left : ℕ) → (left ≡ 0 → ⊥) → 0 < left
 some-left zero h = absurd (h refl)
 some-left (suc left) h = omega arith
 
-pub not-due : (n end len left : ℕ) → (left ≡ 0 → ⊥) → end < len → ltb 64336 n ≡ false
-    → (n + 1200 ≤ 65536) × (end < len) × (0 < left)
-not-due n end len left s h e = let k : n ≤ 64336 = ltb-false 64336 n e in (omega arith, h, some-left left s)
+pub not-due : (n end len left : ℕ) → (left ≡ 0 → ⊥) → end < len → ltb waitingMost n ≡ false
+    → (n + answerMost ≤ room) × (end < len) × (0 < left)
+not-due n end len left s h e = let k : n ≤ waitingMost = ltb-false waitingMost n e in (omega arith, h, some-left left s)
 
 pub always-due : {A : Type 0} → true ≡ false → A
 always-due e = let z : _≡_ {A = ℕ} 0 1 = cc in let y : ⊥ = omega arith in absurd y

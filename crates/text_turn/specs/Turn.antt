@@ -11,7 +11,7 @@ use Rattle.text_protocol.specs.declared.Performed.{Performed}
 use Rattle.text_protocol.specs.Kept.{noneKept}
 use Rattle.text_protocol.specs.Line.{meaning}
 use Rattle.text_protocol.specs.Calls.{deedOf}
-use Rattle.text_protocol.specs.Evening.{keptBy, textOf, numberAfter}
+use Rattle.text_protocol.specs.Evening.{keptBy, textOf, numberAfter, lastNumber}
 use Rattle.text_out.specs.Wrote.{Wrote}
 use Rattle.text_call.specs.Requests.{requestCall}
 use Rattle.text_input.specs.declared.Input.{Input}
@@ -19,15 +19,20 @@ use Rattle.text_input.specs.Input.{Stands, Next}
 use Rattle.text_deed.specs.Deeds.{callIn, lineText, Said}
 use Rattle.text_turn.specs.declared.State.{State}
 use Rattle.text_turn.specs.declared.Prepared.{Prepared}
+use Rattle.text_protocol.specs.Names.{evaluateCount}
+use Rattle.text_protocol.specs.Answers.{answerMost}
+use Rattle.text_protocol.specs.Bytes.{room}
 
 -- BEFORE THE TABLE IS ASKED: the next line is heard, and what it asks for is known
 pub record Prepares (b : List ℕ) (s : State) (b' : List ℕ) (r : Prepared) (xs : List ℤ) : Type 0 where
   pub line : List ℕ
   pub next : Next b (s .input) b' (r .input) line
-  pub asks : requestCall (r .request) (drop 13 (take (r .count) xs)) ≡ callIn (deedOf (s .kept) (meaning line))
+  pub asks : requestCall (r .request) (drop evaluateCount (take (r .count) xs))
+      ≡ callIn (deedOf (s .kept) (meaning line))
   pub kept : r .kept ≡ keptBy (deedOf (s .kept) (meaning line)) (s .kept)
   pub says : (a : Performed) (t : List Record)
-      → Said (r .asked) (r .request) (drop 13 (take (r .count) xs)) (callIn (deedOf (s .kept) (meaning line))) t a
+      → Said (r .asked) (r .request) (drop evaluateCount (take (r .count) xs))
+      (callIn (deedOf (s .kept) (meaning line))) t a
       → lineText (r .asked) (r .kind) (s .number) (r .beside) a
       ≡ textOf (s .reasons) (s .number) (deedOf (s .kept) (meaning line)) t
   pub reasons : r .reasons ≡ s .reasons
@@ -43,9 +48,9 @@ halted i = record { at = i .at; end = i .end; len = i .len; left = 0; ok = false
 -- hear. The input goes on as it was, unless a write failed: `ok` says so
 pub record Tells (b : List ℕ) (p : Prepared) (a : Performed) (b' : List ℕ) (r : State) : Type 0 where
   pub end : ℕ
-  pub wrote : Wrote b (p .waiting) b' end (lineText (p .asked) (p .kind) (p .number) (p .beside) a) 1200
+  pub wrote : Wrote b (p .waiting) b' end (lineText (p .asked) (p .kind) (p .number) (p .beside) a) answerMost
   pub waits : (r .waiting ≡ end) ⊎ (r .waiting ≡ 0)
-  pub room : r .waiting + 1200 ≤ 65536
+  pub room : r .waiting + answerMost ≤ room
   pub prompt : r .input .len ≤ r .input .end → r .waiting ≡ 0
   pub last : r .input .left ≡ 0 → r .waiting ≡ 0
   pub kept : r .kept ≡ p .kept
@@ -58,7 +63,7 @@ pub record Tells (b : List ℕ) (p : Prepared) (a : Performed) (b' : List ℕ) (
 abbrev pub startState : (reasons : Bool) → State
 startState reasons =
     record {
-      input = record { at = 0; end = 0; len = 0; left = 18446744073709551615; ok = true };
+      input = record { at = 0; end = 0; len = 0; left = lastNumber; ok = true };
       number = 1;
       kept = noneKept;
       waiting = 0;

@@ -11,6 +11,7 @@ ghost use Rattle.text_turn.specs.Turn.{Prepares, halted, Tells, startSta
 ghost use Rattle.text_protocol.specs.Bytes.{room};
 ghost use Rattle.text_protocol.specs.Answers.{answerMost};
 ghost use Rattle.text_protocol.specs.Line.{keptMost};
+ghost use Rattle.text_protocol.specs.Names.{evaluateCount};
 use libc::STDOUT_FILENO;
 use text_call::Request;
 use text_call::least;
@@ -19,10 +20,12 @@ use text_deed::say;
 use text_deed::wanted_by;
 use text_input::Input;
 use text_input::hear;
+use text_protocol::EVALUATE_COUNT;
 use text_protocol::Kept;
 use text_protocol::Kind;
 use text_protocol::Performed;
 use text_protocol::ROOM;
+use text_protocol::WAITING_MOST;
 
 // What goes on from line to line: what is left of the input, the number of the next line, what is kept of the interest
 // lines, how many bytes of answers wait to be written, whether every read and write went well, and whether evaluations
@@ -88,10 +91,10 @@ pub fn prepare(buf: &mut [u8], xs: &mut [i64], s: State) -> Prepared
 
 // The row figures of a line of so many numbers.
 pub fn rows_of(xs: &[i64], count: usize) -> &[i64]
-    ensures { λ r. ⌜ now r ≡ drop 13 (take count (now (xs .entry))) ⌝ }
+    ensures { λ r. ⌜ now r ≡ drop evaluateCount (take count (now (xs .entry))) ⌝ }
 {
     let end = least(count, xs.len());
-    let start = least(13, end);
+    let start = least(EVALUATE_COUNT, end);
     &xs[start..end]
 }
 
@@ -171,7 +174,7 @@ fn is_due(i: Input, n: usize) -> bool
         return true;
     }
     if i.end < i.len {
-        return 64_336 < n;
+        return WAITING_MOST < n;
     }
     true
 }

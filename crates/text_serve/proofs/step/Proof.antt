@@ -80,6 +80,7 @@ use Rattle.text_serve.proofs.step as f
 use Rattle.text_serve.proofs.step.Key as key
 use Rattle.text_serve.proofs.step.Statement as stated
 use Rattle.text_serve.proofs.step.Code as code
+use Rattle.text_protocol.specs.Names.{evaluateCount}
 
 abbrev stayed : Stays (f.ended .signature .params) (f.ended .kept)
 stayed = (
@@ -314,7 +315,7 @@ module _ {M : Type 1} (𝓤 : URA M) (H : Heap 𝓤) (A : Atoms 𝓤) (W : Given
     -- let a = ask(t, p.request, rows_in(xs, p.count), p.asked);
     let-a : (bs′ : List ℕ) (xs′ : List ℤ) (p : Prepared) → IsHeard p
         → ((fs : RefT (List ℤ)) (zs : List Record) (a : Performed) (v : Val)
-        → fs .now ≡ from-at 13 (take (p .count) xs′) → Asks (p .asked) (p .request) (fs .now) ys a zs
+        → fs .now ≡ from-at evaluateCount (take (p .count) xs′) → Asks (p .asked) (p .request) (fs .now) ys a zs
         → length zs ≡ length ys → Is F.the-row a (v ∷ [])
         → Sq W (frame H En (with-a p (figures-val fs) v) ∷ Token ∷ Heard bs′ ∷ ‵ (finally R γ zs)
         ∷ Opened xs′ (Answers ∷ [])) (Runs code-tell))
@@ -347,7 +348,7 @@ module _ {M : Type 1} (𝓤 : URA M) (H : Heap 𝓤) (A : Atoms 𝓤) (W : Given
 
     -- tell(out, p, a)
     tell : {bs′ : List ℕ} {xs′ : List ℤ} {zs : List Record} (fs : RefT (List ℤ)) (p : Prepared) (a : Performed)
-        (v : Val) → Prepares bs s bs′ p xs′ → IsHeard p → fs .now ≡ from-at 13 (take (p .count) xs′)
+        (v : Val) → Prepares bs s bs′ p xs′ → IsHeard p → fs .now ≡ from-at evaluateCount (take (p .count) xs′)
         → Asks (p .asked) (p .request) (fs .now) ys a zs → length zs ≡ length ys → Is F.the-row a (v ∷ [])
         → Sq W (frame H En (with-a p (figures-val fs) v) ∷ Token ∷ Heard bs′ ∷ ‵ (finally R γ zs)
         ∷ Opened xs′ (Answers ∷ [])) (Runs code-tell)

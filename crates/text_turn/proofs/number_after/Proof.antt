@@ -1,5 +1,5 @@
 -- `text_turn::number_after` meets its contract: the number of the line behind the n-th. Assumes nothing.
-use Rattle.text_protocol.specs.Evening.{numberAfter}
+use Rattle.text_protocol.specs.Evening.{numberAfter, lastNumber}
 use borrow.Author.Tests.{lt-ltb, le-ltb}
 use borrow.Author.Needs.{needs}
 use Rattle.text_turn.proofs.number_after.Statement.{statement}
@@ -12,11 +12,11 @@ add-result c = search needs
 
 returns : tie.Need-returns
 unfolding numberAfter
-returns c = rw (lt-ltb _ 18446744073709551615 (c .if1 .taken))
+returns c = rw (lt-ltb _ lastNumber (c .if1 .taken))
 
 returns-2 : tie.Need-returns-2
 unfolding numberAfter
-returns-2 c = rw (le-ltb _ 18446744073709551615 (c .if1 .left))
+returns-2 c = rw (le-ltb _ lastNumber (c .if1 .left))
 
 pub number-after-spec : {M : Type 1} → statement M
 number-after-spec = tie.close (tie.spec add-result returns returns-2)
