@@ -46,8 +46,8 @@ abbrev pub beforeGrid : (previous : ℕ) → (used : External) → List Roubles 
 beforeGrid previous used rs = between (bidOf used rs) (closeOf previous rs) (askOf used rs)
 
 -- "which figure set the price": the one that it equals. The close is of the rows with a weight, and yesterday the
--- previous evaluation where there is no such row; BID and ASK are present, and formed with the outside prices that count
--- (W-211)
+-- previous evaluation where there is no such row; BID and ASK are present, and formed with the outside prices that
+-- count (W-211)
 unfoldable pub priceSetBy : (previous : ℕ) → (used : External) → List Roubles → PriceReason → Bool
 priceSetBy previous used rs price.None = false
 priceSetBy previous used rs price.Close = isTraded rs && eqb (beforeGrid previous used rs) (closeOf previous rs)

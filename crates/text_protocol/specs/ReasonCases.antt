@@ -73,8 +73,10 @@ answersWhy =
     ∷ []
 
 pub answers-why-are : answersWhy
-    ≡ bytes "0 price close weight up replacement no tentative rose level1 requirement level2 requirement level3 minimum\n"
-    ∷ bytes "0 price yesterday weight none replacement none tentative none level1 minimum level2 minimum level3 minimum\n"
+    ≡ (bytes "0 price close weight up replacement no tentative rose"
+    ++ bytes " level1 requirement level2 requirement level3 minimum\n")
+    ∷ (bytes "0 price yesterday weight none replacement none tentative none"
+    ++ bytes " level1 minimum level2 minimum level3 minimum\n")
     ∷ bytes "6 row 3\n"
     ∷ bytes "16 row 16\n"
     ∷ bytes "9 term 1\n"

@@ -1,5 +1,5 @@
--- `interest_maturities::every_key_valid` meets its contract: it is the walk of LentLaws over the key maturities. Assumes
--- nothing.
+-- `interest_maturities::every_key_valid` meets its contract: it is the walk of LentLaws over the key maturities.
+-- Assumes nothing.
 use Prim.Native.Nat.{_-_}
 use native.Mathlib.Omega.{arith}
 use lib.ListN.{length}
