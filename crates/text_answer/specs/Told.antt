@@ -2,7 +2,7 @@
 -- list of numbers. Assumes nothing.
 use mathlib.Core.Path.{_≡_, refl, sym, ap, _∙_}
 use mathlib.Core.List.{List, [], _∷_, _++_, append-nil, append-assoc}
-use Prim.Native.Nat.{ℕ, zero, suc, _+_, _≤_}
+use Prim.Native.Nat.{ℕ, zero, suc, _+_, _*_, _≤_}
 use native.Mathlib.Omega.{arith}
 use lib.IntN.{ℤ}
 use lib.ListN.{length}
@@ -11,6 +11,20 @@ use Rattle.text_protocol.specs.Bytes.{lineFeed}
 use Rattle.text_protocol.specs.Numbers.{decimal}
 use Rattle.text_protocol.specs.Answers.{next, spaced, answerText, answerMost}
 use Rattle.text_out.specs.Wrote.{Wrote, then, wider}
+use Rattle.text_out.specs.Places.{numberBytes, nextBytes, nextSignedBytes}
+
+-- the bytes at most of the numbers of a term, of a record, of a key maturity, and of eight key maturities
+abbrev pub termBytes : ℕ
+termBytes = 3 * nextBytes + 4 * nextSignedBytes
+
+abbrev pub recordBytes : ℕ
+recordBytes = 24 * nextBytes + 3 * termBytes
+
+abbrev pub keyBytes : ℕ
+keyBytes = 6 * nextBytes
+
+abbrev pub keysBytes : ℕ
+keysBytes = 8 * keyBytes
 
 -- b' is b with the numbers zs at n, and n' is where they end, at most m bytes further
 pub record Told (b : List ℕ) (n : ℕ) (b' : List ℕ) (n' : ℕ) (zs : List ℤ) (m : ℕ) : Type 0 where
@@ -63,5 +77,6 @@ answered v h p q r = wider (then (then p (wrote q)) r) h
 
 -- a number alone
 pub answered-alone : {b : List ℕ} {n : ℕ} {b' : List ℕ} {n' : ℕ} {c : List ℕ} {e : ℕ} (v : ℕ)
-    → Wrote b n b' n' (decimal v) 20 → Wrote b' n' c e (lineFeed ∷ []) 1 → Wrote b n c e (answerText v []) answerMost
+    → Wrote b n b' n' (decimal v) numberBytes → Wrote b' n' c e (lineFeed ∷ []) 1
+    → Wrote b n c e (answerText v []) answerMost
 answered-alone {b' = b'} {n' = n'} v p q = answered v (omega arith) p (told-none b' n') q

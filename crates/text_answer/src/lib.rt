@@ -8,9 +8,10 @@ ghost use lib.ListN.{getD};
 ghost use Rattle.paper.specs.Verdicts.{numberOf};
 ghost use Rattle.text_protocol.specs.Answers.{next, answerText, badText, flag, standingNumbers, nearNumber, figureNumbers, ratesNumbers, rangesNumbers, termNumbers, lastNumbers, sessionNumbers, externalNumbers, recordNumbers, maturityNumbers, maturitiesNumbers, interestNumbers, interestText, answerMost};
 ghost use Rattle.text_out.specs.Wrote.{Wrote};
-ghost use Rattle.text_answer.specs.Told.{Told};
+ghost use Rattle.text_answer.specs.Told.{Told, termBytes, recordBytes, keyBytes, keysBytes};
 ghost use Rattle.text_answer.specs.Kinds.{textOfKind};
 ghost use Rattle.text_protocol.specs.Bytes.{room};
+ghost use Rattle.text_out.specs.Places.{nextBytes, nextSignedBytes};
 use paper::Answer;
 use paper::External;
 use paper::InterestAnswer;
@@ -34,8 +35,8 @@ use text_protocol::ROOM;
 
 // A blank, and a number.
 pub fn put_next(out: &mut [u8; ROOM], len: usize, x: u64) -> usize
-    requires { ⌜ len + 21 ≤ room ⌝ }
-    ensures { λ r. ⌜ Told (now (out .entry)) len (now (out .exit)) r (pos x ∷ []) 21 ⌝ }
+    requires { ⌜ len + nextBytes ≤ room ⌝ }
+    ensures { λ r. ⌜ Told (now (out .entry)) len (now (out .exit)) r (pos x ∷ []) nextBytes ⌝ }
 {
     let n = put_byte(out, len, b' ');
     put_number(out, n, x)
@@ -43,16 +44,16 @@ pub fn put_next(out: &mut [u8; ROOM], len: usize, x: u64) -> usize
 
 // A blank, and a signed number.
 pub fn put_next_signed(out: &mut [u8; ROOM], len: usize, x: i64) -> usize
-    requires { ⌜ len + 22 ≤ room ⌝ }
-    ensures { λ r. ⌜ Told (now (out .entry)) len (now (out .exit)) r (x ∷ []) 22 ⌝ }
+    requires { ⌜ len + nextSignedBytes ≤ room ⌝ }
+    ensures { λ r. ⌜ Told (now (out .entry)) len (now (out .exit)) r (x ∷ []) nextSignedBytes ⌝ }
 {
     let n = put_byte(out, len, b' ');
     put_signed(out, n, x)
 }
 
 fn put_flag(out: &mut [u8; ROOM], len: usize, yes: bool) -> usize
-    requires { ⌜ len + 21 ≤ room ⌝ }
-    ensures { λ r. ⌜ Told (now (out .entry)) len (now (out .exit)) r (flag yes ∷ []) 21 ⌝ }
+    requires { ⌜ len + nextBytes ≤ room ⌝ }
+    ensures { λ r. ⌜ Told (now (out .entry)) len (now (out .exit)) r (flag yes ∷ []) nextBytes ⌝ }
 {
     if yes {
         return put_next(out, len, 1);
@@ -62,8 +63,8 @@ fn put_flag(out: &mut [u8; ROOM], len: usize, yes: bool) -> usize
 
 // "near: the second, or -1"
 fn put_near(out: &mut [u8; ROOM], len: usize, near: Near) -> usize
-    requires { ⌜ len + 22 ≤ room ⌝ }
-    ensures { λ r. ⌜ Told (now (out .entry)) len (now (out .exit)) r (nearNumber near ∷ []) 22 ⌝ }
+    requires { ⌜ len + nextSignedBytes ≤ room ⌝ }
+    ensures { λ r. ⌜ Told (now (out .entry)) len (now (out .exit)) r (nearNumber near ∷ []) nextSignedBytes ⌝ }
 {
     match near {
         Near::Since(second) => put_next(out, len, second),
@@ -75,8 +76,8 @@ fn put_near(out: &mut [u8; ROOM], len: usize, near: Near) -> usize
 
 // LIVE DAY
 fn put_standing(out: &mut [u8; ROOM], len: usize, standing: Standing) -> usize
-    requires { ⌜ len + 42 ≤ room ⌝ }
-    ensures { λ r. ⌜ Told (now (out .entry)) len (now (out .exit)) r (standingNumbers standing) 42 ⌝ }
+    requires { ⌜ len + 2 * nextBytes ≤ room ⌝ }
+    ensures { λ r. ⌜ Told (now (out .entry)) len (now (out .exit)) r (standingNumbers standing) (2 * nextBytes) ⌝ }
 {
     match standing {
         Standing::Admitted(day) => {
@@ -92,8 +93,8 @@ fn put_standing(out: &mut [u8; ROOM], len: usize, standing: Standing) -> usize
 
 // ID LIVE DAY P1 P2 S TENTATIVE AGE
 fn put_figures(out: &mut [u8; ROOM], len: usize, r: Record) -> usize
-    requires { ⌜ len + 168 ≤ room ⌝ }
-    ensures { λ n. ⌜ Told (now (out .entry)) len (now (out .exit)) n (figureNumbers r) 168 ⌝ }
+    requires { ⌜ len + 8 * nextBytes ≤ room ⌝ }
+    ensures { λ n. ⌜ Told (now (out .entry)) len (now (out .exit)) n (figureNumbers r) (8 * nextBytes) ⌝ }
 {
     let standing = r.standing;
     let n = put_next(out, len, r.id);
@@ -107,8 +108,8 @@ fn put_figures(out: &mut [u8; ROOM], len: usize, r: Record) -> usize
 
 // S1 S2 S3
 pub fn put_rates(out: &mut [u8; ROOM], len: usize, rates: [Rate; Record::LEVELS]) -> usize
-    requires { ⌜ len + 63 ≤ room ⌝ }
-    ensures { λ r. ⌜ Told (now (out .entry)) len (now (out .exit)) r (ratesNumbers rates) 63 ⌝ }
+    requires { ⌜ len + 3 * nextBytes ≤ room ⌝ }
+    ensures { λ r. ⌜ Told (now (out .entry)) len (now (out .exit)) r (ratesNumbers rates) (3 * nextBytes) ⌝ }
 {
     let n = put_next(out, len, rates[0].bp);
     let n = put_next(out, n, rates[1].bp);
@@ -117,8 +118,8 @@ pub fn put_rates(out: &mut [u8; ROOM], len: usize, rates: [Rate; Record::LEVELS]
 
 // UPPER1 UPPER2 UPPER3 LOWER1 LOWER2 LOWER3
 fn put_ranges(out: &mut [u8; ROOM], len: usize, ranges: [Limits; Record::LEVELS]) -> usize
-    requires { ⌜ len + 126 ≤ room ⌝ }
-    ensures { λ r. ⌜ Told (now (out .entry)) len (now (out .exit)) r (rangesNumbers ranges) 126 ⌝ }
+    requires { ⌜ len + 6 * nextBytes ≤ room ⌝ }
+    ensures { λ r. ⌜ Told (now (out .entry)) len (now (out .exit)) r (rangesNumbers ranges) (6 * nextBytes) ⌝ }
 {
     let n = put_next(out, len, ranges[0].upper);
     let n = put_next(out, n, ranges[1].upper);
@@ -130,8 +131,8 @@ fn put_ranges(out: &mut [u8; ROOM], len: usize, ranges: [Limits; Record::LEVELS]
 
 // K RRCL RRCH BANDLOWER BANDUPPER NEARTOP NEARBOTTOM
 fn put_term(out: &mut [u8; ROOM], len: usize, term: Term, band: Limits, near: NearSeconds) -> usize
-    requires { ⌜ len + 151 ≤ room ⌝ }
-    ensures { λ r. ⌜ Told (now (out .entry)) len (now (out .exit)) r (termNumbers term band near) 151 ⌝ }
+    requires { ⌜ len + termBytes ≤ room ⌝ }
+    ensures { λ r. ⌜ Told (now (out .entry)) len (now (out .exit)) r (termNumbers term band near) termBytes ⌝ }
 {
     let top = near.top;
     let bottom = near.bottom;
@@ -146,8 +147,8 @@ fn put_term(out: &mut [u8; ROOM], len: usize, term: Term, band: Limits, near: Ne
 
 // MOVESUPPER MOVESLOWER LASTSECOND
 fn put_last(out: &mut [u8; ROOM], len: usize, r: Record) -> usize
-    requires { ⌜ len + 63 ≤ room ⌝ }
-    ensures { λ n. ⌜ Told (now (out .entry)) len (now (out .exit)) n (lastNumbers r) 63 ⌝ }
+    requires { ⌜ len + 3 * nextBytes ≤ room ⌝ }
+    ensures { λ n. ⌜ Told (now (out .entry)) len (now (out .exit)) n (lastNumbers r) (3 * nextBytes) ⌝ }
 {
     let n = put_next(out, len, r.moves.upper);
     let n = put_next(out, n, r.moves.lower);
@@ -156,8 +157,8 @@ fn put_last(out: &mut [u8; ROOM], len: usize, r: Record) -> usize
 
 // SESSION EVENINGMOVES: the main session has no evening moves.
 fn put_session(out: &mut [u8; ROOM], len: usize, session: Session) -> usize
-    requires { ⌜ len + 42 ≤ room ⌝ }
-    ensures { λ r. ⌜ Told (now (out .entry)) len (now (out .exit)) r (sessionNumbers session) 42 ⌝ }
+    requires { ⌜ len + 2 * nextBytes ≤ room ⌝ }
+    ensures { λ r. ⌜ Told (now (out .entry)) len (now (out .exit)) r (sessionNumbers session) (2 * nextBytes) ⌝ }
 {
     match session {
         Session::Main => {
@@ -173,8 +174,8 @@ fn put_session(out: &mut [u8; ROOM], len: usize, session: Session) -> usize
 
 // EXTBID EXTASK: 0 is none.
 fn put_external(out: &mut [u8; ROOM], len: usize, external: External) -> usize
-    requires { ⌜ len + 42 ≤ room ⌝ }
-    ensures { λ r. ⌜ Told (now (out .entry)) len (now (out .exit)) r (externalNumbers external) 42 ⌝ }
+    requires { ⌜ len + 2 * nextBytes ≤ room ⌝ }
+    ensures { λ r. ⌜ Told (now (out .entry)) len (now (out .exit)) r (externalNumbers external) (2 * nextBytes) ⌝ }
 {
     let n = put_next(out, len, external.bid);
     put_next(out, n, external.ask)
@@ -182,9 +183,9 @@ fn put_external(out: &mut [u8; ROOM], len: usize, external: External) -> usize
 
 // The figures of a record before those of its terms.
 fn put_levels(out: &mut [u8; ROOM], len: usize, r: Record) -> usize
-    requires { ⌜ len + 357 ≤ room ⌝ }
+    requires { ⌜ len + 17 * nextBytes ≤ room ⌝ }
     ensures { λ n. ⌜ Told (now (out .entry)) len (now (out .exit)) n
-        (figureNumbers r ++ ratesNumbers (r .rates) ++ rangesNumbers (r .ranges)) 357 ⌝ }
+        (figureNumbers r ++ ratesNumbers (r .rates) ++ rangesNumbers (r .ranges)) (17 * nextBytes) ⌝ }
 {
     let rates = r.rates;
     let ranges = r.ranges;
@@ -194,8 +195,8 @@ fn put_levels(out: &mut [u8; ROOM], len: usize, r: Record) -> usize
 }
 
 fn put_record(out: &mut [u8; ROOM], len: usize, r: Record) -> usize
-    requires { ⌜ len + 957 ≤ room ⌝ }
-    ensures { λ n. ⌜ Told (now (out .entry)) len (now (out .exit)) n (recordNumbers r) 957 ⌝ }
+    requires { ⌜ len + recordBytes ≤ room ⌝ }
+    ensures { λ n. ⌜ Told (now (out .entry)) len (now (out .exit)) n (recordNumbers r) recordBytes ⌝ }
 {
     let terms = r.terms;
     let bands = r.bands;
@@ -215,8 +216,8 @@ fn put_record(out: &mut [u8; ROOM], len: usize, r: Record) -> usize
 
 // CHANGE VOLATILITY TENTATIVE AGE UP DOWN
 fn put_maturity(out: &mut [u8; ROOM], len: usize, f: MaturityFigures) -> usize
-    requires { ⌜ len + 126 ≤ room ⌝ }
-    ensures { λ r. ⌜ Told (now (out .entry)) len (now (out .exit)) r (maturityNumbers f) 126 ⌝ }
+    requires { ⌜ len + keyBytes ≤ room ⌝ }
+    ensures { λ r. ⌜ Told (now (out .entry)) len (now (out .exit)) r (maturityNumbers f) keyBytes ⌝ }
 {
     let n = put_next(out, len, f.change);
     let n = put_next(out, n, f.volatility);
@@ -233,12 +234,12 @@ fn put_maturities(
     figures: [MaturityFigures; Maturity::COUNT_MOST],
     count: u64,
 ) -> usize
-    requires { ⌜ len + 1008 ≤ room ⌝ }
-    ensures { λ r. ⌜ Told (now (out .entry)) len (now (out .exit)) r (maturitiesNumbers count figures) 1008 ⌝ }
+    requires { ⌜ len + keysBytes ≤ room ⌝ }
+    ensures { λ r. ⌜ Told (now (out .entry)) len (now (out .exit)) r (maturitiesNumbers count figures) keysBytes ⌝ }
 {
     let mut n = len;
     let mut i: usize = 0;
-    while i < 8 {
+    while i < Maturity::COUNT_MOST {
         if count <= i as u64 {
             return n;
         }

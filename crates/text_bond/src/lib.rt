@@ -2,12 +2,13 @@
 // appended to a lent buffer. How a bond is worked out is the crate `bond`'s; nothing here depends on it.
 ghost use mathlib.Core.Path.{_≡_};
 ghost use mathlib.Core.List.{_++_};
-ghost use Prim.Native.Nat.{_+_, _≤_};
+ghost use Prim.Native.Nat.{_+_, _*_, _≤_};
 ghost use Rattle.text_protocol.specs.Bytes.{room};
 ghost use Rattle.text_protocol.specs.Calls.{bondStaticsOf, bondOf};
 ghost use Rattle.text_protocol.specs.Answers.{answerText, bondFiguresNumbers, bondLimitsNumbers, bondNumbers, bondText, answerMost};
 ghost use Rattle.text_out.specs.Wrote.{Wrote};
 ghost use Rattle.text_answer.specs.Told.{Told};
+ghost use Rattle.text_out.specs.Places.{nextBytes};
 use paper::Tentative;
 use paper_bonds::Bond;
 use paper_bonds::BondAnswer;
@@ -76,8 +77,9 @@ pub fn bond_of(k: Kept, p: Pairs, zs: &[i64]) -> Bond
 
 // P TENTATIVE AGE
 fn put_figures(out: &mut [u8; ROOM], len: usize, gross: u64, tentative: Tentative) -> usize
-    requires { ⌜ len + 63 ≤ room ⌝ }
-    ensures { λ r. ⌜ Told (now (out .entry)) len (now (out .exit)) r (bondFiguresNumbers gross tentative) 63 ⌝ }
+    requires { ⌜ len + 3 * nextBytes ≤ room ⌝ }
+    ensures { λ r. ⌜ Told (now (out .entry)) len (now (out .exit)) r (bondFiguresNumbers gross tentative)
+        (3 * nextBytes) ⌝ }
 {
     let n = put_next(out, len, gross);
     let n = put_next(out, n, tentative.bp);
@@ -86,8 +88,8 @@ fn put_figures(out: &mut [u8; ROOM], len: usize, gross: u64, tentative: Tentativ
 
 // LOWER UPPER OFFLOWER OFFUPPER
 fn put_limits(out: &mut [u8; ROOM], len: usize, x: BondLimits) -> usize
-    requires { ⌜ len + 84 ≤ room ⌝ }
-    ensures { λ r. ⌜ Told (now (out .entry)) len (now (out .exit)) r (bondLimitsNumbers x) 84 ⌝ }
+    requires { ⌜ len + 4 * nextBytes ≤ room ⌝ }
+    ensures { λ r. ⌜ Told (now (out .entry)) len (now (out .exit)) r (bondLimitsNumbers x) (4 * nextBytes) ⌝ }
 {
     let n = put_next(out, len, x.band.lower);
     let n = put_next(out, n, x.band.upper);

@@ -12,6 +12,8 @@ ghost use Rattle.text_protocol.specs.Numbers.{isDigit};
 ghost use Rattle.text_table.specs.Scan.{front, starts, numberMost, digits, pastZeros, behindZeros, decimals, number, cell};
 ghost use Rattle.text_cell.specs.Placed.{Stops, Took, Numbered, Celled};
 use paper::Price;
+use text_protocol::DIGIT_NINE;
+use text_protocol::DIGIT_ZERO;
 use text_table::Column;
 
 // A number in front of a text, and where it ends.
@@ -52,7 +54,7 @@ fn is_digit_at(t: &[u8], at: usize) -> bool
 {
     if at < t.len() {
         let b = wide(t[at]);
-        return (48 <= b) & (b <= 57);
+        return (DIGIT_ZERO <= b) & (b <= DIGIT_NINE);
     }
     false
 }
@@ -79,13 +81,13 @@ fn digits(t: &[u8], from: usize, most: usize, x: u64) -> Part
     let mut n = x;
     while i < stop {
         let b = wide(t[i]);
-        if b < 48 {
+        if b < DIGIT_ZERO {
             return Part::Is(n, i);
         }
-        if 57 < b {
+        if DIGIT_NINE < b {
             return Part::Is(n, i);
         }
-        let y = 10 * n + (b - 48);
+        let y = 10 * n + (b - DIGIT_ZERO);
         if NUMBER_MOST < y {
             return Part::Bad;
         }
@@ -165,7 +167,7 @@ fn number(t: &[u8], from: usize, c: Column) -> Part
     ensures { λ r. ⌜ Numbered (now (t .entry)) r (number c (drop from (now (t .entry)))) ⌝ }
 {
     let places = c.places;
-    let first = wide(t[from]) - 48;
+    let first = wide(t[from]) - DIGIT_ZERO;
     let part = digits(t, from + 1, t.len() - (from + 1), first);
     let Part::Is(n, e) = part else {
         return Part::Bad;

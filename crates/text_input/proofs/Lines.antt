@@ -11,8 +11,8 @@ use lib.ListN.{length, take, drop, getD, length-append, length-drop}
 use lib.Seq.{split-at, take-take, drop-drop, length-take-le}
 use borrow.Author.Tests.{eqb-true, eqb-false}
 use Rattle.paper.specs.Lists.{pick}
-use Rattle.text_protocol.specs.Bytes.{lineFeed, isNot, run}
-use Rattle.text_protocol.specs.Line.{meaning}
+use Rattle.text_protocol.specs.Bytes.{lineFeed, isNot, run, room}
+use Rattle.text_protocol.specs.Line.{meaning, keptMost, longest}
 use Rattle.text_line.specs.declared.Line.{Line}
 use Rattle.text_line.specs.Heard.{badLine, Heard as Said}
 use Rattle.text_line.proofs.Turns.{long-line}
@@ -24,25 +24,27 @@ use Rattle.text_input.proofs.Turns.{unbroken-both, drop-take, line-le}
 
 -- ---- the first line feed of a text
 
-run-ends : (t : List ℕ) → run (isNot 10) t < length t → getD t (run (isNot 10) t) 0 ≡ 10
+run-ends : (t : List ℕ) → run (isNot lineFeed) t < length t → getD t (run (isNot lineFeed) t) 0 ≡ lineFeed
 unfolding run isNot
 run-ends [] h = let z : ⊥ = omega arith in absurd z
-run-ends (b ∷ t) h = go (eqb b 10) refl h (λ k. run-ends t k)
+run-ends (b ∷ t) h = go (eqb b lineFeed) refl h (λ k. run-ends t k)
   where
-    go : (x : Bool) → eqb b 10 ≡ x → pick (not x) (suc (run (isNot 10) t)) 0 < suc (length t)
-        → (run (isNot 10) t < length t → getD t (run (isNot 10) t) 0 ≡ 10) → getD (b ∷ t) (pick (not x) (suc (run
-        (isNot 10) t)) 0) 0 ≡ 10
-    go true e k f = eqb-true b 10 e
+    go : (x : Bool) → eqb b lineFeed ≡ x → pick (not x) (suc (run (isNot lineFeed) t)) 0 < suc (length t)
+        → (run (isNot lineFeed) t < length t → getD t (run (isNot lineFeed) t) 0 ≡ lineFeed)
+        → getD (b ∷ t) (pick (not x) (suc (run (isNot lineFeed) t)) 0) 0 ≡ lineFeed
+    go true e k f = eqb-true b lineFeed e
     go false e k f = f (omega arith)
 
-run-unbroken : (t : List ℕ) → run (isNot 10) (take (run (isNot 10) t) t) ≡ length (take (run (isNot 10) t) t)
+run-unbroken : (t : List ℕ)
+    → run (isNot lineFeed) (take (run (isNot lineFeed) t) t) ≡ length (take (run (isNot lineFeed) t) t)
 unfolding run
 run-unbroken [] = refl
-run-unbroken (b ∷ t) = go (isNot 10 b) refl (run-unbroken t)
+run-unbroken (b ∷ t) = go (isNot lineFeed b) refl (run-unbroken t)
   where
-    go : (x : Bool) → isNot 10 b ≡ x → run (isNot 10) (take (run (isNot 10) t) t) ≡ length (take (run (isNot 10) t) t)
-        → run (isNot 10) (take (pick x (suc (run (isNot 10) t)) 0) (b ∷ t)) ≡ length (take (pick x (suc (run (isNot 10)
-        t)) 0) (b ∷ t))
+    go : (x : Bool) → isNot lineFeed b ≡ x
+        → run (isNot lineFeed) (take (run (isNot lineFeed) t) t) ≡ length (take (run (isNot lineFeed) t) t)
+        → run (isNot lineFeed) (take (pick x (suc (run (isNot lineFeed) t)) 0) (b ∷ t))
+        ≡ length (take (pick x (suc (run (isNot lineFeed) t)) 0) (b ∷ t))
     go true e f = rw e (ap suc f)
     go false e f = refl
 
@@ -51,11 +53,12 @@ unfolding lineLength
 line-unbroken t = run-unbroken t
 
 -- THE LAW: a text with a line feed is its first line, the line feed, and the rest
-pub line-split : (t : List ℕ) → lineLength t < length t → t ≡ take (lineLength t) t ++ 10 ∷ drop (suc (lineLength t)) t
+pub line-split : (t : List ℕ) → lineLength t < length t
+    → t ≡ take (lineLength t) t ++ lineFeed ∷ drop (suc (lineLength t)) t
 unfolding lineLength
 line-split t h =
-    let s : t ≡ take (run (isNot 10) t) t ++ getD t (run (isNot 10) t) 0 ∷ drop (suc (run (isNot 10) t)) t = split-at t
-    (run (isNot 10) t) 0 h in
+    let n : ℕ = run (isNot lineFeed) t in
+    let s : t ≡ take n t ++ getD t n 0 ∷ drop (suc n) t = split-at t n 0 h in
     rw (run-ends t h) at s
 
 -- nothing stands between a place and itself
@@ -99,8 +102,8 @@ module _ (b : List ℕ) (i : Input) (p : Stands b i) where
     next-whole =
         let o : lineLength (unread b i) < length (unread b i) = omega (arith, first, size, p .low) in
         let u : Unbroken (take (lineLength (unread b i)) (unread b i)) = line-unbroken (unread b i) in
-        let e : unread b i ≡ take (lineLength (unread b i)) (unread b i) ++ 10 ∷ drop (suc (lineLength (unread b i)))
-        (unread b i) =
+        let e : unread b i ≡ take (lineLength (unread b i)) (unread b i) ++ lineFeed ∷
+        drop (suc (lineLength (unread b i))) (unread b i) =
         line-split (unread b i) o in
         record {
           got = [];
@@ -153,11 +156,11 @@ module _ (b : List ℕ) (i : Input) (p : Stands b i) where
 
     -- ---- a line that is longer than the buffer
 
-    module _ (z : i .at ≡ 0) (o : 65535 < i .len) (b' : List ℕ) (r : Input) (q : LongPassed b' (i .left) r) where
+    module _ (z : i .at ≡ 0) (o : longest < i .len) (b' : List ℕ) (r : Input) (q : LongPassed b' (i .left) r) where
       abbrev long : List ℕ
       long = unread b i ++ q .rest
 
-      long-size : 65536 ≤ length long
+      long-size : room ≤ length long
       long-size = omega (arith, length-append (unread b i) (q .rest), size, z, o)
 
       pub next-long : Next b i b' r long
@@ -167,7 +170,7 @@ module _ (b : List ℕ) (i : Input) (p : Stands b i) where
             unbroken = unbroken-both (unread b i) (q .rest) unbroken-all (q .unbroken);
             are =
                 ⊎-elim
-                (λ e. inl (more (e .0) ∙ sym (append-assoc (unread b i) (q .rest) (10 ∷ unread b' r)), e .1))
+                (λ e. inl (more (e .0) ∙ sym (append-assoc (unread b i) (q .rest) (lineFeed ∷ unread b' r)), e .1))
                 (λ e. inr (more (e .0), record { none = e .1; used = e .2; from = 0; last = inr long-size }))
                 (q .are);
             stands = q .stands;
@@ -176,7 +179,7 @@ module _ (b : List ℕ) (i : Input) (p : Stands b i) where
           more : {t : List ℕ} → q .got ≡ t → unread b i ++ q .got ≡ unread b i ++ t
           more e = ap (λ (t : List ℕ). unread b i ++ t) e
 
-      pub long-says : (l : Line) (xs : List ℤ) → length xs ≡ 126 → l ≡ badLine → Said (meaning long) l xs
+      pub long-says : (l : Line) (xs : List ℤ) → length xs ≡ keptMost → l ≡ badLine → Said (meaning long) l xs
       long-says l xs x e = long-line long l xs x (omega (arith, long-size)) e
 
 -- ---- the input that was made ready
@@ -239,7 +242,7 @@ module _ (b : List ℕ) (p : Passed) (q : Passes b p) (left : ℕ) (r : Input) w
         let t : List ℕ = take (p .len) b in
         let o : length t ≡ p .len = length-take-le (p .len) b (omega (arith, q .in-b, q .long)) in
         let h : lineLength t < length t = omega (arith, found .1, o) in
-        let u : t ≡ take (lineLength t) t ++ 10 ∷ drop (suc (lineLength t)) t = line-split t h in
+        let u : t ≡ take (lineLength t) t ++ lineFeed ∷ drop (suc (lineLength t)) t = line-split t h in
         let v : drop (suc (lineLength t)) t ≡ unread b r = behind-is in
         record {
           rest = q .before ++ take (lineLength t) t;
@@ -248,7 +251,7 @@ module _ (b : List ℕ) (p : Passed) (q : Passes b p) (left : ℕ) (r : Input) w
           are =
               inl (
                 ap (λ (x : List ℕ). q .before ++ x) (u ∙ rw v)
-                    ∙ sym (append-assoc (q .before) (take (lineLength t) t) (10 ∷ unread b r)),
+                    ∙ sym (append-assoc (q .before) (take (lineLength t) t) (lineFeed ∷ unread b r)),
                 fewer,
               );
           stands = s;

@@ -73,11 +73,11 @@ run-past q (b ∷ t) (suc k) h e = go (q b) e (λ f. run-past q t k (omega arith
 pub record Waiting (b₀ : List ℕ) (have : ℕ) (b : List ℕ) (len : ℕ) : Type 0 where
   pub got : List ℕ
   pub are : take len b ≡ take have b₀ ++ got
-  pub in-b : len ≤ 65536
-  pub long : length b ≡ 65536
+  pub in-b : len ≤ room
+  pub long : length b ≡ room
   pub unbroken : Unbroken (take len b)
 
-pub waiting-none : (b : List ℕ) (have : ℕ) → length b ≡ 65536 → have ≤ 65536 → Unbroken (take have b) → Waiting b have
+pub waiting-none : (b : List ℕ) (have : ℕ) → length b ≡ room → have ≤ room → Unbroken (take have b) → Waiting b have
     b have
 waiting-none b have l h u = record { got = []; are = sym (append-nil (take have b)); in-b = h; long = l; unbroken = u }
 
@@ -86,12 +86,12 @@ module _ (b₀ : List ℕ) (have : ℕ) (b : List ℕ) (len : ℕ) (p : Waiting 
   taken = length-take-le len b (omega (arith, p .in-b, p .long))
 
   -- nothing more comes
-  pub waiting-stop : (b' : List ℕ) (ok : Bool) → take len b' ≡ take len b → length b' ≡ 65536 → Waits b₀ have b'
+  pub waiting-stop : (b' : List ℕ) (ok : Bool) → take len b' ≡ take len b → length b' ≡ room → Waits b₀ have b'
       (record { len = len; end = len; ok = ok })
   waiting-stop b' ok e l =
       record { got = p .got; are = e ∙ p .are; in-b = p .in-b; long = l; is = sym (rw e (p .unbroken ∙ taken)) }
 
-  module _ (b' : List ℕ) (n : ℕ) (e : take len b' ≡ take len b) (l : length b' ≡ 65536) (h : len ≤ n) (k : n ≤ 65536)
+  module _ (b' : List ℕ) (n : ℕ) (e : take len b' ≡ take len b) (l : length b' ≡ room) (h : len ≤ n) (k : n ≤ room)
     where
       part : take len (take n b') ≡ take len b
       part = take-take len n b' h ∙ e
@@ -106,12 +106,12 @@ module _ (b₀ : List ℕ) (have : ℕ) (b : List ℕ) (len : ℕ) (p : Waiting 
       long-part = length-take-le n b' (omega (arith, l))
 
       -- where the first line feed stands
-      module _ (f : ℕ) (is : f ≡ len + run (isNot 10) (drop len (take n b'))) where
+      module _ (f : ℕ) (is : f ≡ len + run (isNot lineFeed) (drop len (take n b'))) where
         seen : f ≡ lineLength (take n b')
         unfolding lineLength
         seen =
             let o : len ≤ length (take n b') = omega (arith, long-part) in
-            is ∙ sym (run-past (isNot 10) (take n b') len o (rw part (p .unbroken ∙ taken)))
+            is ∙ sym (run-past (isNot lineFeed) (take n b') len o (rw part (p .unbroken ∙ taken)))
 
         pub waiting-found : (ok : Bool) → Waits b₀ have b' (record { len = n; end = f; ok = ok })
         waiting-found ok = record {
@@ -148,24 +148,24 @@ run-le q (b ∷ t) = go (q b) (run-le q t)
 pub unbroken-both : (s t : List ℕ) → Unbroken s → Unbroken t → Unbroken (s ++ t)
 unfolding lineLength run
 unbroken-both [] t p q = q
-unbroken-both (b ∷ s) t p q = go (isNot 10 b) p (λ h. unbroken-both s t h q)
+unbroken-both (b ∷ s) t p q = go (isNot lineFeed b) p (λ h. unbroken-both s t h q)
   where
-    go : (x : Bool) → pick x (suc (run (isNot 10) s)) 0 ≡ suc (length s)
-        → (run (isNot 10) s ≡ length s → run (isNot 10) (s ++ t) ≡ length (s ++ t))
-        → pick x (suc (run (isNot 10) (s ++ t))) 0 ≡ suc (length (s ++ t))
+    go : (x : Bool) → pick x (suc (run (isNot lineFeed) s)) 0 ≡ suc (length s)
+        → (run (isNot lineFeed) s ≡ length s → run (isNot lineFeed) (s ++ t) ≡ length (s ++ t))
+        → pick x (suc (run (isNot lineFeed) (s ++ t))) 0 ≡ suc (length (s ++ t))
     go true h f = ap suc (f (omega arith))
     go false h f = let z : ⊥ = omega arith in absurd z
 
 pub record Passing (b : List ℕ) : Type 0 where
   pub before : List ℕ
   pub unbroken : Unbroken before
-  pub long : length b ≡ 65536
+  pub long : length b ≡ room
 
-pub passing-none : (b : List ℕ) → length b ≡ 65536 → Passing b
+pub passing-none : (b : List ℕ) → length b ≡ room → Passing b
 unfolding lineLength run
 passing-none b l = record { before = []; unbroken = refl; long = l }
 
-module _ (b : List ℕ) (p : Passing b) (b' : List ℕ) (l : length b' ≡ 65536) where
+module _ (b : List ℕ) (p : Passing b) (b' : List ℕ) (l : length b' ≡ room) where
   pub passing-end : (ok : Bool) → Passes b' (record { at = 0; len = 0; ended = true; ok = ok })
   passing-end ok =
       record {
@@ -178,7 +178,7 @@ module _ (b : List ℕ) (p : Passing b) (b' : List ℕ) (l : length b' ≡ 65536
             refl;
       }
 
-  module _ (n e : ℕ) (k : n ≤ 65536) (is : e ≡ 0 + run (isNot 10) (drop 0 (take n b'))) where
+  module _ (n e : ℕ) (k : n ≤ room) (is : e ≡ 0 + run (isNot lineFeed) (drop 0 (take n b'))) where
     seen-at : e ≡ lineLength (take n b')
     unfolding lineLength
     seen-at = omega (arith, is)
@@ -214,8 +214,8 @@ drop-take-of (suc f) (suc n) (x ∷ b) = let e : suc n - suc f ≡ n - f = omega
 pub drop-take : (f n : ℕ) (b : List ℕ) → drop f (take n b) ≡ take (n - f) (drop f b)
 drop-take f n b = drop-take-of f n b
 
-pub stands-from : (b : List ℕ) (at len end left : ℕ) (ok : Bool) → at ≤ len → len ≤ 65536 → length b ≡ 65536
-    → end ≡ at + run (isNot 10) (drop at (take len b)) → end ≤ length (take len b)
+pub stands-from : (b : List ℕ) (at len end left : ℕ) (ok : Bool) → at ≤ len → len ≤ room → length b ≡ room
+    → end ≡ at + run (isNot lineFeed) (drop at (take len b)) → end ≤ length (take len b)
     → Stands b (record { at = at; end = end; len = len; left = left; ok = ok })
 unfolding lineLength unread
 stands-from b at len end left ok h k l is m =
@@ -230,7 +230,7 @@ unread-front b end len left ok = let e : len - 0 ≡ len = omega arith in rw e
 
 pub line-le : (t : List ℕ) → lineLength t ≤ length t
 unfolding lineLength
-line-le t = run-le (isNot 10) t
+line-le t = run-le (isNot lineFeed) t
 
 -- ---- a line that is whole, or all that there is
 

@@ -16,7 +16,7 @@ use Rattle.text_protocol.specs.declared.Item.the-variants as item
 use Rattle.text_protocol.specs.declared.Pairs.{Pairs}
 use Rattle.text_protocol.specs.Bytes.{isBlank, run, words}
 use Rattle.text_protocol.specs.Names.{kindOf, takes}
-use Rattle.text_protocol.specs.Line.{Said, Nothing, NoCall, Call, noPairs, pairFits, withPair, more, Reading, read, spoilt, taking, onWith, finished, itemOf, fill, called, meaning}
+use Rattle.text_protocol.specs.Line.{Said, Nothing, NoCall, Call, noPairs, pairFits, withPair, more, Reading, read, spoilt, taking, onWith, finished, itemOf, fill, called, meaning, keptMost, longest}
 use Rattle.text_word.specs.Parts.{isSolid}
 use Rattle.text_word.proofs.Words.{words-part, words-end}
 use Rattle.text_line.specs.declared.Line.{Line}
@@ -26,26 +26,30 @@ use Rattle.text_line.specs.Heard.{blankKind, badKind, blankLine, badLine
 
 -- ---- one number more
 
-pub keeps-room : (xs : List ℤ) (n : ℕ) (z : ℤ) → length xs ≡ 126 → n < 126 → Keeps xs n z (set xs n z) (n + 1)
+pub keeps-room : (xs : List ℤ) (n : ℕ) (z : ℤ) → length xs ≡ keptMost → n < keptMost → Keeps xs n z (set xs n z) (n + 1)
 unfolding more
 keeps-room xs n z l h =
     let f : n + 1 ≡ suc n = omega arith in
     let i : n < length xs = omega arith in
     let t : length (take n xs) ≡ n = length-take-le n xs (omega arith) in
-    let m : length (take n xs ++ (z ∷ [])) ≤ 126 = rw (length-append (take n xs) (z ∷ []), t) (omega arith) in
+    let m : length (take n xs ++ (z ∷ [])) ≤ keptMost = rw (length-append (take n xs) (z ∷ []), t) (omega arith) in
     record {
-      are = rw (f, take-suc-set xs n z i, take-all 126 (take n xs ++ (z ∷ [])) m);
+      are = rw (f, take-suc-set xs n z i, take-all keptMost (take n xs ++ (z ∷ [])) m);
       long = length-set xs n z ∙ l;
       most = omega arith;
     }
 
-pub keeps-full : (xs : List ℤ) (n : ℕ) (z : ℤ) → length xs ≡ 126 → n ≤ 126 → 126 ≤ n → Keeps xs n z xs n
+pub keeps-full : (xs : List ℤ) (n : ℕ) (z : ℤ) → length xs ≡ keptMost → n ≤ keptMost → keptMost ≤ n → Keeps xs n z xs n
 unfolding more
 keeps-full xs n z l m h =
-    let e : n ≡ 126 = omega arith in
+    let e : n ≡ keptMost = omega arith in
     let t : length (take n xs) ≡ n = length-take-le n xs (omega arith) in
-    let a : 126 ≤ length (take n xs) = omega arith in
-    record { are = sym (rw (take-append-le 126 (take n xs) (z ∷ []) a, take-take 126 n xs h, e)); long = l; most = m }
+    let a : keptMost ≤ length (take n xs) = omega arith in
+    record {
+      are = sym (rw (take-append-le keptMost (take n xs) (z ∷ []) a, take-take keptMost n xs h, e));
+      long = l;
+      most = m;
+    }
 
 -- ---- one word more
 
@@ -63,7 +67,8 @@ module _ (k : ℕ) (xs : List ℤ) (n : ℕ) (p : Pairs) (w : Item) where
   takes-two ym yn xs₁ n₁ xs' n' ps fits e l f t s q r =
       record { are = rw (e, length-take-le n xs l, ← f, t, r .are, q .are, s); long = r .long; most = r .most }
 
-  module _ (r : Taken) (is : r ≡ record { ok = false; count = n; pairs = p }) (l : length xs ≡ 126) (m : n ≤ 126) where
+  module _ (r : Taken) (is : r ≡ record { ok = false; count = n; pairs = p }) (l : length xs ≡ keptMost)
+      (m : n ≤ keptMost) where
     spoils : taking k (take n xs) p w ≡ spoilt → Takes (taking k (take n xs) p w) r xs
     unfolding readingOf
     spoils e = rw (is, e) (record { are = refl; long = l; most = m })
@@ -83,12 +88,12 @@ module _ (k : ℕ) (xs : List ℤ) (n : ℕ) (p : Pairs) (w : Item) where
 
 pub record Filling (l : List ℕ) (k : ℕ) (goal : Said) (xs : List ℤ) (s n : ℕ) (p : Pairs) : Type 0 where
   pub in-l : s ≤ length l
-  pub in-xs : n ≤ 126
-  pub long : length xs ≡ 126
+  pub in-xs : n ≤ keptMost
+  pub long : length xs ≡ keptMost
   pub rest : fill k (take n xs) p (words (drop s l)) ≡ goal
 
-pub filling-none : (l : List ℕ) (k : ℕ) (xs : List ℤ) (from : ℕ) (p : Pairs) → from ≤ length l → length xs ≡ 126 → p ≡
-    noPairs
+pub filling-none : (l : List ℕ) (k : ℕ) (xs : List ℤ) (from : ℕ) (p : Pairs) → from ≤ length l
+    → length xs ≡ keptMost → p ≡ noPairs
     → Filling l k (fill k [] noPairs (words (drop from l))) xs from 0 p
 filling-none l k xs from p h e q = record { in-l = h; in-xs = omega arith; long = e; rest = rw q }
 
@@ -155,10 +160,10 @@ module _ (l : List ℕ) (k : ℕ) (goal : Said) (xs : List ℤ) (s n : ℕ) (p :
 
 -- ---- the line
 
-pub long-line : (l : List ℕ) (r : Line) (xs : List ℤ) → length xs ≡ 126 → 65535 < length l → r ≡ badLine → Heard
-    (meaning l) r xs
+pub long-line : (l : List ℕ) (r : Line) (xs : List ℤ) → length xs ≡ keptMost → longest < length l → r ≡ badLine
+    → Heard (meaning l) r xs
 unfolding meaning
-long-line l r xs e h b = rw (b, lt-leb (length l) 65535 h) (record {
+long-line l r xs e h b = rw (b, lt-leb (length l) longest h) (record {
   says = bad-says xs;
   long = e;
   most = omega arith;
@@ -166,11 +171,12 @@ long-line l r xs e h b = rw (b, lt-leb (length l) 65535 h) (record {
   high = omega arith;
 })
 
-module _ (l : List ℕ) (short : length l ≤ 65535) (a : ℕ) (skip : a ≡ 0 + run isBlank (drop 0 l)) where
-  pub blank-line : (r : Line) (xs : List ℤ) → length xs ≡ 126 → length l ≤ a → r ≡ blankLine → Heard (meaning l) r xs
+module _ (l : List ℕ) (short : length l ≤ longest) (a : ℕ) (skip : a ≡ 0 + run isBlank (drop 0 l)) where
+  pub blank-line : (r : Line) (xs : List ℤ) → length xs ≡ keptMost → length l ≤ a → r ≡ blankLine
+      → Heard (meaning l) r xs
   unfolding meaning called
   blank-line r xs e h b =
-      rw (b, le-leb (length l) 65535 short, words-end l 0 a skip h) (record {
+      rw (b, le-leb (length l) longest short, words-end l 0 a skip h) (record {
         says = blank-says xs;
         long = e;
         most =
@@ -183,9 +189,9 @@ module _ (l : List ℕ) (short : length l ≤ 65535) (a : ℕ) (skip : a ≡ 0 +
       a l))) where
     meant : meaning l ≡ pick (eqb k 0) NoCall (fill k [] noPairs (words (drop e l)))
     unfolding meaning called
-    meant = rw (le-leb (length l) 65535 short, words-part l 0 a skip e h word, ← kind)
+    meant = rw (le-leb (length l) longest short, words-part l 0 a skip e h word, ← kind)
 
-    pub no-call : (r : Line) (xs : List ℤ) → length xs ≡ 126 → k ≡ 0 → r ≡ badLine → Heard (meaning l) r xs
+    pub no-call : (r : Line) (xs : List ℤ) → length xs ≡ keptMost → k ≡ 0 → r ≡ badLine → Heard (meaning l) r xs
     no-call r xs x z b = rw (b, meant, eq-eqb k 0 z) (record {
       says = bad-says xs;
       long = x;

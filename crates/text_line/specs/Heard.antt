@@ -9,7 +9,7 @@ use lib.ListN.{length, take}
 use Rattle.paper.specs.Lists.{pick}
 use Rattle.text_protocol.specs.declared.Pairs.{Pairs}
 use Rattle.text_protocol.specs.Names.{RRCL0, RRCL1, RRCL2, takes}
-use Rattle.text_protocol.specs.Line.{Said, Nothing, NoCall, Call, Reading, read, spoilt, noPairs, placeIn, more}
+use Rattle.text_protocol.specs.Line.{Said, Nothing, NoCall, Call, Reading, read, spoilt, noPairs, placeIn, more, keptMost}
 use Rattle.text_line.specs.declared.Line.{Line}
 use Rattle.text_line.specs.declared.Taken.{Taken}
 
@@ -35,8 +35,8 @@ said l xs =
 -- of the thirteen
 pub record Heard (s : Said) (l : Line) (xs : List ℤ) : Type 0 where
   pub says : said l xs ≡ s
-  pub long : length xs ≡ 126
-  pub most : l .count ≤ 126
+  pub long : length xs ≡ keptMost
+  pub most : l .count ≤ keptMost
   pub low : 0 < l .kind
   pub high : l .kind ≤ badKind
 
@@ -54,8 +54,8 @@ pub record LowsAt (k at : ℕ) : Type 0 where
 -- one number more among those that are kept
 pub record Keeps (xs : List ℤ) (n : ℕ) (z : ℤ) (xs' : List ℤ) (n' : ℕ) : Type 0 where
   pub are : take n' xs' ≡ more (take n xs) z
-  pub long : length xs' ≡ 126
-  pub most : n' ≤ 126
+  pub long : length xs' ≡ keptMost
+  pub most : n' ≤ keptMost
 
 -- what is read with a word more
 unfoldable pub readingOf : Taken → List ℤ → Reading
@@ -63,5 +63,5 @@ readingOf r xs = pick (r .ok) (read (take (r .count) xs) (r .pairs)) spoilt
 
 pub record Takes (goal : Reading) (r : Taken) (xs : List ℤ) : Type 0 where
   pub are : readingOf r xs ≡ goal
-  pub long : length xs ≡ 126
-  pub most : r .count ≤ 126
+  pub long : length xs ≡ keptMost
+  pub most : r .count ≤ keptMost

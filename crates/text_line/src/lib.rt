@@ -9,17 +9,21 @@ ghost use Rattle.text_protocol.specs.Bytes.{words, same};
 ghost use Rattle.text_protocol.specs.Names.{kindOf, takes};
 ghost use Rattle.text_protocol.specs.Line.{noPairs, hasTerms, pairFits, withPair, taking, fill, meaning, keptMost};
 ghost use Rattle.text_line.specs.Heard.{blankLine, badLine, Heard, lineOf, LowsAt, Keeps, Takes};
+use text_protocol::BOND_COUNT;
+use text_protocol::EVALUATE_COUNT;
+use text_protocol::INTEREST_COUNT;
 use text_protocol::Item;
 use text_protocol::KEPT;
 use text_protocol::Kind;
 use text_protocol::Pairs;
+use text_protocol::ROOM;
 use text_word::item_of;
 use text_word::past_blanks;
 use text_word::past_word;
 use text_word::same_bytes;
 
-// A line of more bytes is no call.
-pub const LONGEST: usize = 65_535;
+// A line of more bytes is no call: the buffer has no room for a line feed behind them.
+pub const LONGEST: usize = ROOM - 1;
 
 // The place of the first RRCL of an evaluation and of a bond, where a pair may stand.
 const EVALUATE_LOW: usize = 5;
@@ -102,7 +106,7 @@ fn takes(kind: u64, count: usize) -> bool
 {
     match kind {
         Kind::ADMIT => count == 32,
-        Kind::EVALUATE => 13 <= count,
+        Kind::EVALUATE => EVALUATE_COUNT <= count,
         Kind::QUOTE => count == 5,
         Kind::MOVE => count == 2,
         Kind::READ => count == 1,
@@ -110,8 +114,8 @@ fn takes(kind: u64, count: usize) -> bool
         Kind::OUTSIDE => count == 3,
         Kind::NOTICE => count == 3,
         Kind::WITHDRAW => count == 1,
-        Kind::INTEREST => 14 <= count,
-        Kind::BOND => 33 <= count,
+        Kind::INTEREST => INTEREST_COUNT <= count,
+        Kind::BOND => BOND_COUNT <= count,
         _ => false,
     }
 }

@@ -10,11 +10,13 @@ use borrow.Author.Tests.{lt-ltb, le-ltb}
 use Rattle.text_protocol.specs.Numbers.{spelt, decimal}
 use Rattle.text_protocol.proofs.Decimals.{less}
 use Rattle.text_out.specs.Places.{last, Places}
+use Rattle.text_protocol.specs.Bytes.{digitZero}
 
 pub last-length : (k n : ℕ) → length (last k n) ≡ k
 unfolding last
 last-length zero n = refl
-last-length (suc k) n = rw (length-append (last k (n / 10)) ((48 + n % 10) ∷ []), last-length k (n / 10)) (omega arith)
+last-length (suc k) n =
+    rw (length-append (last k (n / 10)) ((digitZero + n % 10) ∷ []), last-length k (n / 10)) (omega arith)
 
 -- enough steps
 spelt-last : (f k n : ℕ) → n < f → n < 10 ^ suc k → 10 ^ k ≤ n + (1 - n) → spelt f n ≡ last (suc k) n

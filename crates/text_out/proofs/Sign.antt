@@ -11,6 +11,8 @@ use lib.Dec.{T}
 use lib.IntN.{ℤ, pos, negsuc}
 use lib.Signed.{mag, ltZ}
 use borrow.Author.Tests.{ltb-true}
+use Rattle.text_protocol.specs.Bytes.{minusSign}
+use Rattle.text_out.specs.Places.{numberBytes, signedBytes}
 
 -- no natural number is below 0
 none : (n : ℕ) → ltZ (pos n) (pos 0) ≡ true → ⊥
@@ -21,7 +23,7 @@ some n e = subst T e tt
 
 -- ---- the text of a signed number, by the test
 
-below-text : (x : ℤ) (m : ℕ) → m ≡ mag x → ltZ x (pos 0) ≡ true → 45 ∷ decimal (m + 1) ≡ signed x
+below-text : (x : ℤ) (m : ℕ) → m ≡ mag x → ltZ x (pos 0) ≡ true → minusSign ∷ decimal (m + 1) ≡ signed x
 unfolding signed
 below-text (pos k) m i e = absurd (none k e)
 below-text (negsuc k) m i e = rw (i, add-one k)
@@ -32,11 +34,12 @@ above-text (pos k) m i e = rw i
 above-text (negsuc k) m i e = absurd (some k e)
 
 module _ {b : List ℕ} {n : ℕ} {b' : List ℕ} {n' : ℕ} (x : ℤ) (m : ℕ) (is : m ≡ mag x) where
-  pub below-wrote : {b'' : List ℕ} {n'' : ℕ} → ltZ x (pos 0) ≡ true → Wrote b n b' n' (45 ∷ []) 1 → Wrote b' n' b'' n''
-      (decimal (m + 1)) 20 → Wrote b n b'' n'' (signed x) 21
+  pub below-wrote : {b'' : List ℕ} {n'' : ℕ} → ltZ x (pos 0) ≡ true → Wrote b n b' n' (minusSign ∷ []) 1
+      → Wrote b' n' b'' n'' (decimal (m + 1)) numberBytes → Wrote b n b'' n'' (signed x) signedBytes
   below-wrote e p q = rw (below-text x m is e) at (then p q)
 
-  pub above-wrote : ltZ x (pos 0) ≡ false → Wrote b n b' n' (decimal m) 20 → Wrote b n b' n' (signed x) 21
+  pub above-wrote : ltZ x (pos 0) ≡ false → Wrote b n b' n' (decimal m) numberBytes
+      → Wrote b n b' n' (signed x) signedBytes
   above-wrote e p = record {
     bytes = p .bytes ∙ rw (above-text x m is e);
     long = p .long ∙ rw (above-text x m is e);

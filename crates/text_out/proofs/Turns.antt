@@ -6,9 +6,10 @@ use native.Mathlib.Omega.{arith}
 use lib.ListN.{length, set}
 use lib.Seq.{sets, set-comm}
 use Rattle.text_protocol.specs.Numbers.{decimal}
-use Rattle.text_out.specs.Places.{last, Places}
+use Rattle.text_out.specs.Places.{last, Places, numberBytes}
 use Rattle.text_out.specs.Wrote.{Wrote, sets-more}
 use Rattle.text_out.proofs.Digits.{last-length, decimal-last}
+use Rattle.text_protocol.specs.Bytes.{digitZero}
 
 -- a store behind a run of stores may come first
 sets-after : (s b : List ℕ) (at i d : ℕ) → at + length s ≤ i → sets (set b i d) at s ≡ set (sets b at s) i d
@@ -32,24 +33,24 @@ spelling-none b len k x =
     record { low = omega arith; high = omega arith; left = rw e }
 
 pub spelling-more : (b₀ : List ℕ) (len k x : ℕ) (b : List ℕ) (i rest : ℕ) → Spelling b₀ len k x b i rest → len < i
-    → Spelling b₀ len k x (set b (i - 1) (48 + rest % 10)) (i - 1) (rest / 10)
+    → Spelling b₀ len k x (set b (i - 1) (digitZero + rest % 10)) (i - 1) (rest / 10)
 unfolding last
 spelling-more b₀ len k x b i rest p h =
     let e : i - len ≡ suc (i - 1 - len) = omega arith in
     let f : len + (i - 1 - len) ≡ i - 1 = omega arith in
     let s : List ℕ = last (i - 1 - len) (rest / 10) in
     let l : length s ≡ i - 1 - len = last-length (i - 1 - len) (rest / 10) in
-    let m : sets b len (s ++ ((48 + rest % 10) ∷ [])) ≡ set (sets b len s) (i - 1) (48 + rest % 10) = rw (l, f) at
-    (sets-more s ((48 + rest % 10) ∷ []) b len) in
+    let m : sets b len (s ++ ((digitZero + rest % 10) ∷ [])) ≡ set (sets b len s) (i - 1) (digitZero + rest % 10) =
+    rw (l, f) at (sets-more s ((digitZero + rest % 10) ∷ []) b len) in
     record {
       low = omega arith;
       high = omega (arith, p .high);
-      left = sets-after s b len (i - 1) (48 + rest % 10) (omega arith) ∙ sym m ∙ (rw e at (p .left));
+      left = sets-after s b len (i - 1) (digitZero + rest % 10) (omega arith) ∙ sym m ∙ (rw e at (p .left));
     }
 
 pub spelling-all : (b₀ : List ℕ) (len k x : ℕ) (b : List ℕ) (i rest : ℕ) → Spelling b₀ len k x b i rest → i ≤ len →
     Places x k
-    → Wrote b₀ len b (len + k) (decimal x) 20
+    → Wrote b₀ len b (len + k) (decimal x) numberBytes
 unfolding last
 spelling-all b₀ len k x b i rest p h q =
     let e : i - len ≡ zero = omega arith in

@@ -4,10 +4,11 @@ ghost use mathlib.Core.Path.{_≡_};
 ghost use mathlib.Core.List.{[], _∷_, _++_};
 ghost use Prim.Native.Nat.{_+_, _-_, _≤_, _<_, _^_};
 ghost use Rattle.text_protocol.specs.Numbers.{decimal, signed};
-ghost use Rattle.text_out.specs.Places.{Places};
+ghost use Rattle.text_out.specs.Places.{Places, numberBytes, signedBytes};
 ghost use Rattle.text_out.specs.Wrote.{Wrote};
 ghost use Rattle.text_protocol.specs.Bytes.{room};
 use exact::magnitude;
+use text_protocol::DIGIT_ZERO;
 use text_protocol::ROOM;
 
 // How many decimal digits x has.
@@ -85,8 +86,8 @@ pub fn put_byte(out: &mut [u8; ROOM], len: usize, b: u8) -> usize
 
 // The decimal digits of x, the most significant first.
 pub fn put_number(out: &mut [u8; ROOM], len: usize, x: u64) -> usize
-    requires { ⌜ len + 20 ≤ room ⌝ }
-    ensures { λ r. ⌜ Wrote (now (out .entry)) len (now (out .exit)) r (decimal x) 20 ⌝ }
+    requires { ⌜ len + numberBytes ≤ room ⌝ }
+    ensures { λ r. ⌜ Wrote (now (out .entry)) len (now (out .exit)) r (decimal x) numberBytes ⌝ }
 {
     let k = places(x);
     let end = len + k;
@@ -94,7 +95,7 @@ pub fn put_number(out: &mut [u8; ROOM], len: usize, x: u64) -> usize
     let mut rest = x;
     while len < i {
         i -= 1;
-        out[i] = (48 + rest % 10) as u8;
+        out[i] = (DIGIT_ZERO + rest % 10) as u8;
         rest = rest / 10;
     }
     end
@@ -102,8 +103,8 @@ pub fn put_number(out: &mut [u8; ROOM], len: usize, x: u64) -> usize
 
 // A minus where x is below 0, and its size in decimal.
 pub fn put_signed(out: &mut [u8; ROOM], len: usize, x: i64) -> usize
-    requires { ⌜ len + 21 ≤ room ⌝ }
-    ensures { λ r. ⌜ Wrote (now (out .entry)) len (now (out .exit)) r (signed x) 21 ⌝ }
+    requires { ⌜ len + signedBytes ≤ room ⌝ }
+    ensures { λ r. ⌜ Wrote (now (out .entry)) len (now (out .exit)) r (signed x) signedBytes ⌝ }
 {
     if x < 0 {
         let n = put_byte(out, len, b'-');

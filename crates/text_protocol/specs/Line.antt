@@ -1,7 +1,7 @@
 -- docs/EVENING.md, "Which line is which call": what a line of the evening's text says. Assumes nothing.
 use mathlib.Core.Bool.{Bool, false, _&&_, _||_}
 use mathlib.Core.List.{List, [], _∷_, _++_}
-use Prim.Native.Nat.{ℕ, suc, _+_}
+use Prim.Native.Nat.{ℕ, suc, _+_, _-_}
 use lib.Dec.{leb, ltb, eqb}
 use lib.IntN.{ℤ}
 use lib.ListN.{length, take, drop}
@@ -12,7 +12,7 @@ use Rattle.text_protocol.specs.declared.Number.the-variants as number
 use Rattle.text_protocol.specs.declared.Item.{Item}
 use Rattle.text_protocol.specs.declared.Item.the-variants as item
 use Rattle.text_protocol.specs.declared.Pairs.{Pairs}
-use Rattle.text_protocol.specs.Bytes.{words}
+use Rattle.text_protocol.specs.Bytes.{room, words}
 use Rattle.text_protocol.specs.Numbers.{numberOf, slashAt}
 use Rattle.text_protocol.specs.Names.{Name, evaluateKind, bondKind, evaluateNames, evaluateCount, bondNames, placeOf, RRCL0, RRCL1, RRCL2, kindOf, takes}
 
@@ -102,9 +102,9 @@ unfoldable pub called : List (List ℕ) → Said
 called [] = Nothing
 called (w ∷ ws) = pick (eqb (kindOf w) 0) NoCall (fill (kindOf w) [] noPairs ws)
 
--- a line of more bytes is no call
+-- a line of more bytes is no call: a buffer has no room for a line feed behind them
 abbrev pub longest : ℕ
-longest = 65535
+longest = room - 1
 
 -- THE MEANING OF A LINE
 unfoldable pub meaning : List ℕ → Said

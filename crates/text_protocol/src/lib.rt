@@ -9,6 +9,11 @@ use paper_reasons::Why;
 // The bytes of each buffer: of what is read, and of the answers that wait.
 pub const ROOM: usize = 65_536;
 
+// The digits, as bytes.
+pub const DIGIT_ZERO: u64 = 48;
+
+pub const DIGIT_NINE: u64 = 57;
+
 // The bytes of an answer at most.
 pub const ANSWER_MOST: usize = 1_200;
 

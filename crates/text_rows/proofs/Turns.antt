@@ -10,7 +10,7 @@ use lib.ListN.{length, take, drop, getD, drop-of-length-le}
 use lib.Seq.{drop-cons}
 use borrow.Author.Tests.{le-leb, lt-leb, leb-false, eq-eqb, ne-eqb}
 use Rattle.paper.specs.Lists.{pick}
-use Rattle.paper.specs.Numbers.{idMost}
+use Rattle.paper.specs.Numbers.{idMost, allNumbersMost, rowNumbers}
 use Rattle.paper.specs.Verdicts.{numberOf, isDone}
 use Rattle.text_protocol.specs.Bytes.{lineFeed, digitZero, digitNine}
 use Rattle.text_protocol.specs.declared.Size.{Size}
@@ -23,7 +23,8 @@ use Rattle.text_answer.specs.Told.{Told, both, wrote, told, wrote-one}
 use Rattle.text_table.specs.declared.Reading.{Reading}
 use Rattle.text_rows.specs.declared.Asked.{Asked}
 use Rattle.text_rows.specs.declared.Asked.the-variants as asked
-use Rattle.text_rows.specs.Rows.{settled, askedOf, grown, readingNumbers, readingText}
+use Rattle.text_rows.specs.Rows.{settled, askedOf, grown, readingNumbers, readingText, rowsBytes, readingMost}
+use Rattle.text_out.specs.Places.{numberBytes, nextBytes, nextSignedBytes}
 
 -- ---- the argument
 
@@ -60,7 +61,7 @@ grown-over n d h = rw (lt-leb (10 * n + d) idMost h)
 
 pub record Asking (p : List ℕ) (i n : ℕ) : Type 0 where
   pub in-p : i ≤ length p
-  pub most : n ≤ 1000000001
+  pub most : n ≤ suc idMost
   pub rest : settled (sizeFrom n (drop i p)) ≡ askedOf p
 
 pub none-asked : (p : List ℕ) → length p ≡ 0 → asked.Bad ≡ askedOf p
@@ -97,7 +98,7 @@ module _ (p : List ℕ) (i n : ℕ) (a : Asking p i n) where
     pub asking-high : digitNine < b → asked.Bad ≡ askedOf p
     asking-high k = no-digit (high-no-digit b k)
 
-    pub asking-more : digitZero ≤ b → b ≤ digitNine → (m : ℕ) → (m ≡ grown n (b - digitZero)) × (m ≤ 1000000001)
+    pub asking-more : digitZero ≤ b → b ≤ digitNine → (m : ℕ) → (m ≡ grown n (b - digitZero)) × (m ≤ suc idMost)
         → Asking p (i + 1) m
     asking-more lo hi m g =
         let f : i + 1 ≡ suc i = omega arith in
@@ -111,36 +112,40 @@ module _ (p : List ℕ) (i n : ℕ) (a : Asking p i n) where
 -- ---- the answer
 
 abbrev pub Telling : List ℕ → ℕ → List ℤ → List ℕ → ℕ → ℕ → Type 0
-Telling b₀ n₀ zs b n i = Left b₀ n₀ (spaced zs) 2464 b n (spaced (drop i zs)) (22 * (112 - i))
+Telling b₀ n₀ zs b n i =
+    Left b₀ n₀ (spaced zs) rowsBytes b n (spaced (drop i zs)) (nextSignedBytes * (allNumbersMost - i))
 
 pub telling-none : (b : List ℕ) (n : ℕ) (zs : List ℤ) → Telling b n zs b n 0
-telling-none b n zs = left-none b n (spaced zs) 2464 2464 (omega arith)
+telling-none b n zs = left-none b n (spaced zs) rowsBytes rowsBytes (omega arith)
 
 module _ (b₀ : List ℕ) (n₀ : ℕ) (zs : List ℤ) (b : List ℕ) (n i : ℕ) (p : Telling b₀ n₀ zs b n i) where
-  pub telling-more : (b' : List ℕ) (n' : ℕ) → i < length zs → i < 112 → Told b n b' n' (getD zs i (pos 0) ∷ []) 22
+  pub telling-more : (b' : List ℕ) (n' : ℕ) → i < length zs → i < allNumbersMost
+      → Told b n b' n' (getD zs i (pos 0) ∷ []) nextSignedBytes
       → Telling b₀ n₀ zs b' n' (i + 1)
   unfolding spaced
   telling-more b' n' h j q =
-      let m : 22 * (112 - i) ≡ 22 + 22 * (112 - (i + 1)) = omega arith in
+      let m : nextSignedBytes * (allNumbersMost - i)
+      ≡ nextSignedBytes + nextSignedBytes * (allNumbersMost - (i + 1)) = omega arith in
       let f : i + 1 ≡ suc i = omega arith in
       rw f (left-more (rw (m, drop-cons zs i (pos 0) h, f) at p) (wrote-one q))
 
-  pub telling-all : length zs ≤ i → Told b₀ n₀ b n zs 2464
+  pub telling-all : length zs ≤ i → Told b₀ n₀ b n zs rowsBytes
   unfolding spaced
   telling-all h = told refl (left-all (rw (drop-of-length-le zs h) at p))
 
 -- a bad line, and rows
 module _ (r : Reading) (b : List ℕ) (n : ℕ) {b' b'' c : List ℕ} {n' n'' e : ℕ} (no' : ℕ)
-    (is : no' ≡ numberOf (r .verdict)) (p : Wrote b n b' n' (decimal no') 20) where
-  pub say-bad-line : (no' ≡ 0 → ⊥) → Told b' n' b'' n'' (pos (r .line) ∷ []) 21 → Wrote b'' n'' c e (lineFeed ∷ []) 1
-      → Wrote b n c e (readingText r) 2600
+    (is : no' ≡ numberOf (r .verdict)) (p : Wrote b n b' n' (decimal no') numberBytes) where
+  pub say-bad-line : (no' ≡ 0 → ⊥) → Told b' n' b'' n'' (pos (r .line) ∷ []) nextBytes
+      → Wrote b'' n'' c e (lineFeed ∷ []) 1
+      → Wrote b n c e (readingText r) readingMost
   unfolding readingText readingNumbers answerText isDone
   say-bad-line h q w =
       rw (← is, ne-eqb no' 0 h) (wider (then (then p (wrote q)) w) (omega arith))
 
-  pub say-rows : {d : List ℕ} {m : ℕ} → no' ≡ 0 → Told b' n' b'' n'' (pos (r .count) ∷ []) 21
-      → Told b'' n'' d m (take (7 * r .count) (r .rows)) 2464 → Wrote d m c e (lineFeed ∷ []) 1
-      → Wrote b n c e (readingText r) 2600
+  pub say-rows : {d : List ℕ} {m : ℕ} → no' ≡ 0 → Told b' n' b'' n'' (pos (r .count) ∷ []) nextBytes
+      → Told b'' n'' d m (take (rowNumbers * r .count) (r .rows)) rowsBytes → Wrote d m c e (lineFeed ∷ []) 1
+      → Wrote b n c e (readingText r) readingMost
   unfolding readingText readingNumbers answerText isDone
   say-rows h q k w =
       rw (← is, eq-eqb no' 0 h) (wider (then (then p (wrote (both q k))) w) (omega arith))

@@ -6,8 +6,10 @@ ghost use lib.ListN.{length};
 ghost use Rattle.text_table.specs.Scan.{reading};
 ghost use Rattle.text_out.specs.Wrote.{Wrote};
 ghost use Rattle.text_answer.specs.Told.{Told};
-ghost use Rattle.text_rows.specs.Rows.{grown, askedOf, readingText};
+ghost use Rattle.text_rows.specs.Rows.{grown, askedOf, readingText, rowsBytes, readingMost};
 ghost use Rattle.text_protocol.specs.Bytes.{room};
+ghost use Rattle.paper.specs.Numbers.{allNumbersMost};
+ghost use Rattle.text_table.specs.Exchange.{rowsMost};
 use paper::Record;
 use paper::Row;
 use text_answer::put_next;
@@ -18,6 +20,8 @@ use text_input::Got;
 use text_input::fill;
 use text_out::put_byte;
 use text_out::put_number;
+use text_protocol::DIGIT_NINE;
+use text_protocol::DIGIT_ZERO;
 use text_protocol::ROOM;
 use text_table::Reading;
 
@@ -59,13 +63,13 @@ pub fn id_of(p: &[u8]) -> Asked
     let mut n: u64 = 0;
     while i < p.len() {
         let b = wide(p[i]);
-        if b < 48 {
+        if b < DIGIT_ZERO {
             return Asked::Bad;
         }
-        if 57 < b {
+        if DIGIT_NINE < b {
             return Asked::Bad;
         }
-        n = grown(n, b - 48);
+        n = grown(n, b - DIGIT_ZERO);
         i += 1;
     }
     if Record::ID_MOST < n {
@@ -104,8 +108,8 @@ pub fn take_in(buf: &mut [u8]) -> Got
 
 // Numbers, a blank before each.
 fn put_rows(out: &mut [u8; ROOM], len: usize, zs: &[i64]) -> usize
-    requires { ⌜ (len + 2464 ≤ room) × (length (now zs) ≤ 112) ⌝ }
-    ensures { λ r. ⌜ Told (now (out .entry)) len (now (out .exit)) r (now (zs .entry)) 2464 ⌝ }
+    requires { ⌜ (len + rowsBytes ≤ room) × (length (now zs) ≤ allNumbersMost) ⌝ }
+    ensures { λ r. ⌜ Told (now (out .entry)) len (now (out .exit)) r (now (zs .entry)) rowsBytes ⌝ }
 {
     let mut n = len;
     let mut i = 0;
@@ -118,8 +122,8 @@ fn put_rows(out: &mut [u8; ROOM], len: usize, zs: &[i64]) -> usize
 
 // `0 COUNT` and the numbers of the rows; or `15 LINE`.
 fn say_reading(out: &mut [u8; ROOM], len: usize, r: Reading) -> usize
-    requires { ⌜ (len + 2600 ≤ room) × (r .count ≤ 16) × (length (r .rows) ≡ 112) ⌝ }
-    ensures { λ n. ⌜ Wrote (now (out .entry)) len (now (out .exit)) n (readingText r) 2600 ⌝ }
+    requires { ⌜ (len + readingMost ≤ room) × (r .count ≤ rowsMost) × (length (r .rows) ≡ allNumbersMost) ⌝ }
+    ensures { λ n. ⌜ Wrote (now (out .entry)) len (now (out .exit)) n (readingText r) readingMost ⌝ }
 {
     let verdict = r.verdict;
     let rows = r.rows;
@@ -138,7 +142,8 @@ fn say_reading(out: &mut [u8; ROOM], len: usize, r: Reading) -> usize
 
 // What the program answers to a text, of the security that it is asked for.
 pub fn answer(t: &[u8], id: u64, out: &mut [u8; ROOM]) -> usize
-    ensures { λ r. ⌜ Wrote (now (out .entry)) 0 (now (out .exit)) r (readingText (reading id (now (t .entry)))) 2600 ⌝ }
+    ensures { λ r. ⌜ Wrote (now (out .entry)) 0 (now (out .exit)) r (readingText (reading id (now (t .entry))))
+        readingMost ⌝ }
 {
     let r = read_exchange(t, id);
     say_reading(out, 0, r)

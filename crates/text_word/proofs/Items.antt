@@ -16,31 +16,32 @@ use Rattle.text_protocol.specs.declared.Size.{Size}
 use Rattle.text_protocol.specs.declared.Size.the-variants as size
 use Rattle.text_protocol.specs.declared.Item.{Item}
 use Rattle.text_protocol.specs.declared.Item.the-variants as item
-use Rattle.text_protocol.specs.Bytes.{isNot, run}
-use Rattle.text_protocol.specs.Numbers.{isDigit, sizeFrom, sizeOf, upTo, above, below, numberOf, slashAt}
+use Rattle.text_protocol.specs.Bytes.{isNot, run, digitZero, digitNine, minusSign, slash}
+use Rattle.text_protocol.specs.Numbers.{isDigit, sizeFrom, sizeOf, upTo, above, below, numberOf, slashAt, greatest, least}
 use Rattle.text_protocol.specs.Line.{oneOf, twoOf, itemOf}
 
 -- ---- a number has no slash
 
-digit-no-slash : (b : ℕ) → isDigit b ≡ true → isNot 47 b ≡ true
+digit-no-slash : (b : ℕ) → isDigit b ≡ true → isNot slash b ≡ true
 unfolding isDigit isNot
-digit-no-slash b e = ap not (ne-eqb b 47 (λ q. apart (leb-true 48 b (first (leb 48 b) (leb b 57) e)) q))
+digit-no-slash b e =
+    ap not (ne-eqb b slash (λ q. apart (leb-true digitZero b (first (leb digitZero b) (leb b digitNine) e)) q))
   where
     first : (x y : Bool) → (x && y) ≡ true → x ≡ true
     first true y h = refl
     first false y h = h
 
-    apart : 48 ≤ b → b ≡ 47 → ⊥
+    apart : digitZero ≤ b → b ≡ slash → ⊥
     apart h q = omega arith
 
-size-no-slash : (n : ℕ) (t : List ℕ) (m : ℕ) → sizeFrom n t ≡ size.Is m → run (isNot 47) t ≡ length t
+size-no-slash : (n : ℕ) (t : List ℕ) (m : ℕ) → sizeFrom n t ≡ size.Is m → run (isNot slash) t ≡ length t
 unfolding sizeFrom run
 size-no-slash n [] m e = refl
-size-no-slash n (b ∷ t) m e = go (isDigit b) refl e (λ h. size-no-slash (10 * n + (b - 48)) t m h)
+size-no-slash n (b ∷ t) m e = go (isDigit b) refl e (λ h. size-no-slash (10 * n + (b - digitZero)) t m h)
   where
-    go : (x : Bool) → isDigit b ≡ x → pick x (sizeFrom (10 * n + (b - 48)) t) size.Bad ≡ size.Is m
-        → (sizeFrom (10 * n + (b - 48)) t ≡ size.Is m → run (isNot 47) t ≡ length t)
-        → pick (isNot 47 b) (suc (run (isNot 47) t)) 0 ≡ suc (length t)
+    go : (x : Bool) → isDigit b ≡ x → pick x (sizeFrom (10 * n + (b - digitZero)) t) size.Bad ≡ size.Is m
+        → (sizeFrom (10 * n + (b - digitZero)) t ≡ size.Is m → run (isNot slash) t ≡ length t)
+        → pick (isNot slash b) (suc (run (isNot slash) t)) 0 ≡ suc (length t)
     go true d h f = rw (digit-no-slash b d) (ap suc (f h))
     go false d h f = let z : _≡_ {A = ℕ} 0 1 = cc in let y : ⊥ = omega arith in absurd y
 
@@ -69,36 +70,34 @@ below-sized (size.Is zero) z e = record { count = 0; is = refl }
 below-sized (size.Is (suc n)) z e = record { count = suc n; is = refl }
 below-sized size.Bad z e = let q : _≡_ {A = ℕ} 0 1 = cc in let y : ⊥ = omega arith in absurd y
 
-sized-no-slash : (most : ℕ) (t : List ℕ) → Sized (upTo most (sizeOf t)) → run (isNot 47) t ≡ length t
+sized-no-slash : (most : ℕ) (t : List ℕ) → Sized (upTo most (sizeOf t)) → run (isNot slash) t ≡ length t
 unfolding sizeOf run
 sized-no-slash most [] s = refl
 sized-no-slash most (b ∷ t) s = size-no-slash 0 (b ∷ t) (s .count) (upTo-is most (sizeFrom 0 (b ∷ t)) (s .count) (s
     .is))
 
-minus-no-slash : (b : ℕ) → eqb b 45 ≡ true → isNot 47 b ≡ true
+minus-no-slash : (b : ℕ) → eqb b minusSign ≡ true → isNot slash b ≡ true
 unfolding isNot
-minus-no-slash b e = ap not (ne-eqb b 47 (apart (eqb-true b 45 e)))
+minus-no-slash b e = ap not (ne-eqb b slash (apart (eqb-true b minusSign e)))
   where
-    apart : b ≡ 45 → b ≡ 47 → ⊥
+    apart : b ≡ minusSign → b ≡ slash → ⊥
     apart p q = omega arith
 
-minus-first : (b : ℕ) (t : List ℕ) → eqb b 45 ≡ true → run (isNot 47) t ≡ length t → run (isNot 47) (b ∷ t) ≡ suc
-    (length t)
+minus-first : (b : ℕ) (t : List ℕ) → eqb b minusSign ≡ true → run (isNot slash) t ≡ length t
+    → run (isNot slash) (b ∷ t) ≡ suc (length t)
 unfolding run
 minus-first b t d h = rw (minus-no-slash b d) (ap suc h)
 
 number-no-slash : (w : List ℕ) (z : ℤ) → numberOf w ≡ number.Is z → slashAt w ≡ length w
 unfolding numberOf slashAt
 number-no-slash [] z e = let q : _≡_ {A = ℕ} 0 1 = cc in let y : ⊥ = omega arith in absurd y
-number-no-slash (b ∷ t) z e = go (eqb b 45) refl e
+number-no-slash (b ∷ t) z e = go (eqb b minusSign) refl e
   where
-    go : (x : Bool) → eqb b 45 ≡ x → pick x (below (upTo 9223372036854775808 (sizeOf t))) (above (upTo
-        9223372036854775807 (sizeOf (b ∷ t)))) ≡ number.Is z
-        → run (isNot 47) (b ∷ t) ≡ suc (length t)
-    go true d h = minus-first b t d (sized-no-slash 9223372036854775808 t (below-sized (upTo 9223372036854775808
-        (sizeOf t)) z h))
-    go false d h = sized-no-slash 9223372036854775807 (b ∷ t) (above-sized (upTo 9223372036854775807 (sizeOf (b ∷ t)))
-        z h)
+    go : (x : Bool) → eqb b minusSign ≡ x
+        → pick x (below (upTo least (sizeOf t))) (above (upTo greatest (sizeOf (b ∷ t)))) ≡ number.Is z
+        → run (isNot slash) (b ∷ t) ≡ suc (length t)
+    go true d h = minus-first b t d (sized-no-slash least t (below-sized (upTo least (sizeOf t)) z h))
+    go false d h = sized-no-slash greatest (b ∷ t) (above-sized (upTo greatest (sizeOf (b ∷ t))) z h)
 
 -- ---- the pair
 
@@ -129,7 +128,7 @@ module _ (w : List ℕ) where
       let h : length w ≤ slashAt w = omega arith in
       rw (le-ltb (slashAt w) (length w) h, e)
 
-  module _ (at : ℕ) (is : at ≡ 0 + run (isNot 47) (drop 0 w)) where
+  module _ (at : ℕ) (is : at ≡ 0 + run (isNot slash) (drop 0 w)) where
     found : at ≡ slashAt w
     unfolding slashAt
     found = omega (arith, is)

@@ -18,8 +18,8 @@ use Rattle.text_protocol.specs.declared.Number.{Number}
 use Rattle.text_protocol.specs.declared.Number.the-variants as number
 use Rattle.text_protocol.specs.declared.Size.{Size}
 use Rattle.text_protocol.specs.declared.Size.the-variants as size
-use Rattle.text_protocol.specs.Bytes.{run, same}
-use Rattle.text_protocol.specs.Numbers.{isDigit, sizeFrom, sizeOf, upTo, above, below, numberOf}
+use Rattle.text_protocol.specs.Bytes.{run, same, digitZero, digitNine, minusSign}
+use Rattle.text_protocol.specs.Numbers.{isDigit, sizeFrom, sizeOf, upTo, above, below, numberOf, greatest, least}
 use Rattle.text_protocol.proofs.Spelling.{digit-is, low-no-digit, high-no-digit}
 use Rattle.text_word.specs.Parts.{Capped}
 
@@ -58,10 +58,10 @@ module _ (q : ℕ → Bool) (t : List ℕ) (from i : ℕ) (p : Running q t from 
 number-over : (hi n : ℕ) (t : List ℕ) → hi < n → upTo hi (sizeFrom n t) ≡ size.Bad
 unfolding sizeFrom upTo
 number-over hi n [] h = rw (lt-leb n hi h)
-number-over hi n (b ∷ t) h = go (isDigit b) (number-over hi (10 * n + (b - 48)) t (omega arith))
+number-over hi n (b ∷ t) h = go (isDigit b) (number-over hi (10 * n + (b - digitZero)) t (omega arith))
   where
-    go : (x : Bool) → upTo hi (sizeFrom (10 * n + (b - 48)) t) ≡ size.Bad → upTo hi (pick x (sizeFrom (10 * n + (b -
-        48)) t) size.Bad) ≡ size.Bad
+    go : (x : Bool) → upTo hi (sizeFrom (10 * n + (b - digitZero)) t) ≡ size.Bad
+        → upTo hi (pick x (sizeFrom (10 * n + (b - digitZero)) t) size.Bad) ≡ size.Bad
     go true e = e
     go false e = refl
 
@@ -76,22 +76,24 @@ counting-none t from hi h = record { in-t = h; below = omega arith; rest = refl 
 
 module _ (t : List ℕ) (hi : ℕ) (goal : Size) (i x : ℕ) (p : Counting t hi goal i x) (h : i < length t) (b : ℕ) (e : b ≡
     getD t i 0) where
-  here : upTo hi (pick (isDigit b) (sizeFrom (10 * x + (b - 48)) (drop (suc i) t)) size.Bad) ≡ goal
+  here : upTo hi (pick (isDigit b) (sizeFrom (10 * x + (b - digitZero)) (drop (suc i) t)) size.Bad) ≡ goal
   unfolding sizeFrom
   here = rw e (rw (drop-cons t i 0 h) at (p .rest))
 
-  pub counting-low : b < 48 → size.Bad ≡ goal
+  pub counting-low : b < digitZero → size.Bad ≡ goal
   unfolding upTo
   counting-low q = rw (low-no-digit b q) at here
 
-  pub counting-high : 57 < b → size.Bad ≡ goal
+  pub counting-high : digitNine < b → size.Bad ≡ goal
   unfolding upTo
   counting-high q = rw (high-no-digit b q) at here
 
-  pub counting-over : 48 ≤ b → b ≤ 57 → hi < 10 * x + (b - 48) → size.Bad ≡ goal
-  counting-over lo up o = sym (number-over hi (10 * x + (b - 48)) (drop (suc i) t) o) ∙ (rw (digit-is b lo up) at here)
+  pub counting-over : digitZero ≤ b → b ≤ digitNine → hi < 10 * x + (b - digitZero) → size.Bad ≡ goal
+  counting-over lo up o =
+      sym (number-over hi (10 * x + (b - digitZero)) (drop (suc i) t) o) ∙ (rw (digit-is b lo up) at here)
 
-  pub counting-more : 48 ≤ b → b ≤ 57 → 10 * x + (b - 48) ≤ hi → Counting t hi goal (i + 1) (10 * x + (b - 48))
+  pub counting-more : digitZero ≤ b → b ≤ digitNine → 10 * x + (b - digitZero) ≤ hi
+      → Counting t hi goal (i + 1) (10 * x + (b - digitZero))
   counting-more lo up o =
       let f : i + 1 ≡ suc i = omega arith in
       record { in-t = omega arith; below = o; rest = rw f (rw (digit-is b lo up) at here) }
@@ -115,30 +117,30 @@ module _ (v : ℕ) (n : Size) (e : n ≡ size.Is v) where
   unfolding Capped
   capped-is hi h = rw e at h
 
-  pub plus-fits : Capped 9223372036854775807 n → SFits w64 (pos v)
-  plus-fits h = record { sfits = omega (arith, capped-is 9223372036854775807 h) }
+  pub plus-fits : Capped greatest n → SFits w64 (pos v)
+  plus-fits h = record { sfits = omega (arith, capped-is greatest h) }
 
-  pub plus-is : Capped 9223372036854775807 n → number.Is (toZ w64 v) ≡ above n
+  pub plus-is : Capped greatest n → number.Is (toZ w64 v) ≡ above n
   unfolding above
-  plus-is h = rw (e, toZ-pos w64 v (omega (arith, capped-is 9223372036854775807 h)))
+  plus-is h = rw (e, toZ-pos w64 v (omega (arith, capped-is greatest h)))
 
   pub minus-zero : v ≡ 0 → number.Is (pos 0) ≡ below n
   unfolding below
   minus-zero z = rw (e, z)
 
-  pub less-fits : Capped 9223372036854775808 n → 0 < v → SFits w64 (pos (v - 1))
-  less-fits h z = record { sfits = omega (arith, capped-is 9223372036854775808 h) }
+  pub less-fits : Capped least n → 0 < v → SFits w64 (pos (v - 1))
+  less-fits h z = record { sfits = omega (arith, capped-is least h) }
 
-  pub turned-of : Capped 9223372036854775808 n → 0 < v → SFits w64 (negsuc 0 -ℤ toZ w64 (v - 1))
+  pub turned-of : Capped least n → 0 < v → SFits w64 (negsuc 0 -ℤ toZ w64 (v - 1))
   turned-of h z =
-      let l : v - 1 < 2 ^ 63 = omega (arith, capped-is 9223372036854775808 h) in
+      let l : v - 1 < 2 ^ 63 = omega (arith, capped-is least h) in
       rw (toZ-pos w64 (v - 1) l) (turned-fits (v - 1) l)
 
-  pub minus-is : Capped 9223372036854775808 n → 0 < v → number.Is (toZ w64 (ofZ w64 (negsuc 0 -ℤ toZ w64 (v - 1)))) ≡
+  pub minus-is : Capped least n → 0 < v → number.Is (toZ w64 (ofZ w64 (negsuc 0 -ℤ toZ w64 (v - 1)))) ≡
       below n
   unfolding below
   minus-is h z =
-      let l : v - 1 < 2 ^ 63 = omega (arith, capped-is 9223372036854775808 h) in
+      let l : v - 1 < 2 ^ 63 = omega (arith, capped-is least h) in
       let o : v ≡ suc (v - 1) = omega arith in
       rw (toZ-pos w64 (v - 1) l, toZ-ofZ (turned-fits (v - 1) l), turned (v - 1), e) (by (v - 1) o)
     where
@@ -169,24 +171,24 @@ unfolding numberOf
 signed-none [] h = refl
 signed-none (b ∷ t) h = let z : ⊥ = omega arith in absurd z
 
-pub signed-bare : (t : List ℕ) → getD t 0 0 ≡ 45 → length t ≡ 1 → number.Bad ≡ numberOf t
+pub signed-bare : (t : List ℕ) → getD t 0 0 ≡ minusSign → length t ≡ 1 → number.Bad ≡ numberOf t
 unfolding numberOf sizeOf upTo below
 signed-bare [] e h = refl
-signed-bare (b ∷ []) e h = rw (eq-eqb b 45 e)
+signed-bare (b ∷ []) e h = rw (eq-eqb b minusSign e)
 signed-bare (b ∷ d ∷ t) e h = let z : ⊥ = omega arith in absurd z
 
-pub signed-minus : (t : List ℕ) (r : Number) (n : Size) → getD t 0 0 ≡ 45 → (length t ≡ 0 → ⊥) → (length t ≡ 1 → ⊥) → n
-    ≡ upTo 9223372036854775808 (sizeFrom 0 (drop 1 t)) → r ≡ below n → r ≡ numberOf t
+pub signed-minus : (t : List ℕ) (r : Number) (n : Size) → getD t 0 0 ≡ minusSign → (length t ≡ 0 → ⊥)
+    → (length t ≡ 1 → ⊥) → n ≡ upTo least (sizeFrom 0 (drop 1 t)) → r ≡ below n → r ≡ numberOf t
 unfolding numberOf sizeOf
 signed-minus [] r n e o h q s = absurd (o refl)
 signed-minus (b ∷ []) r n e o h q s = absurd (h refl)
-signed-minus (b ∷ d ∷ t) r n e o h q s = rw (eq-eqb b 45 e, ← q) s
+signed-minus (b ∷ d ∷ t) r n e o h q s = rw (eq-eqb b minusSign e, ← q) s
 
-pub signed-plus : (t : List ℕ) (r : Number) (n : Size) → (getD t 0 0 ≡ 45 → ⊥) → (length t ≡ 0 → ⊥) → n ≡ upTo
-    9223372036854775807 (sizeFrom 0 (drop 0 t)) → r ≡ above n → r ≡ numberOf t
+pub signed-plus : (t : List ℕ) (r : Number) (n : Size) → (getD t 0 0 ≡ minusSign → ⊥) → (length t ≡ 0 → ⊥)
+    → n ≡ upTo greatest (sizeFrom 0 (drop 0 t)) → r ≡ above n → r ≡ numberOf t
 unfolding numberOf sizeOf
 signed-plus [] r n e o q s = absurd (o refl)
-signed-plus (b ∷ t) r n e o q s = rw (ne-eqb b 45 e, ← q) s
+signed-plus (b ∷ t) r n e o q s = rw (ne-eqb b minusSign e, ← q) s
 
 -- ---- two words
 

@@ -3,9 +3,11 @@ ghost use mathlib.Core.Path.{_≡_};
 ghost use Prim.Native.Nat.{_+_, _≤_, _<_, _^_};
 ghost use lib.ListN.{length, take, drop};
 ghost use Rattle.text_protocol.specs.Bytes.{isBlank, isNot, run, same};
-ghost use Rattle.text_protocol.specs.Numbers.{sizeFrom, upTo, above, below, numberOf};
+ghost use Rattle.text_protocol.specs.Numbers.{sizeFrom, upTo, above, below, numberOf, greatest, least};
 ghost use Rattle.text_protocol.specs.Line.{twoOf, itemOf};
 ghost use Rattle.text_word.specs.Parts.{isSolid, Capped};
+use text_protocol::DIGIT_NINE;
+use text_protocol::DIGIT_ZERO;
 use text_protocol::Item;
 use text_protocol::Number;
 use text_protocol::Size;
@@ -112,16 +114,16 @@ fn number_from(p: &[u8], from: usize, most: u64) -> Size
     let mut x: u64 = 0;
     while i < p.len() {
         let b = wide(p[i]);
-        if b < 48 {
+        if b < DIGIT_ZERO {
             return Size::Bad;
         }
-        if 57 < b {
+        if DIGIT_NINE < b {
             return Size::Bad;
         }
         if ROOM < x {
             return Size::Bad;
         }
-        let y = 10 * x + (b - 48);
+        let y = 10 * x + (b - DIGIT_ZERO);
         if most < y {
             return Size::Bad;
         }
@@ -133,7 +135,7 @@ fn number_from(p: &[u8], from: usize, most: u64) -> Size
 
 // A size below zero.
 fn below(n: Size) -> Number
-    requires { ⌜ Capped 9223372036854775808 n ⌝ }
+    requires { ⌜ Capped least n ⌝ }
     ensures { λ r. ⌜ r ≡ below n ⌝ }
 {
     match n {
@@ -149,7 +151,7 @@ fn below(n: Size) -> Number
 }
 
 fn above(n: Size) -> Number
-    requires { ⌜ Capped 9223372036854775807 n ⌝ }
+    requires { ⌜ Capped greatest n ⌝ }
     ensures { λ r. ⌜ r ≡ above n ⌝ }
 {
     match n {

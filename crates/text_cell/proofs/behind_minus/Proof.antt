@@ -6,6 +6,7 @@ use borrow.Author.Needs.{needs}
 use Rattle.text_cell.proofs.Turns.{starts-in}
 use Rattle.text_cell.proofs.behind_minus.Statement.{statement}
 use Rattle.text_cell.proofs.behind_minus.Tie as tie
+use Rattle.text_protocol.specs.Bytes.{minusSign}
 
 is-at-requires : tie.Need-is-at-requires
 is-at-requires c κs = search needs
@@ -20,7 +21,7 @@ returns c =
     let at-start = at-if1 .before .before in
     let there = sym (c .if2 .taken) ∙ at-is-at .is-at .ensures in (
       rw (at-if1 .if1 .taken, ← there),
-      omega (arith, starts-in (λ x. eqb x 45) (at-start .args .t .now) (at-start .args .from) there),
+      omega (arith, starts-in (λ x. eqb x minusSign) (at-start .args .t .now) (at-start .args .from) there),
     )
 
 returns-2 : tie.Need-returns-2

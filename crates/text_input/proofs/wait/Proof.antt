@@ -13,12 +13,13 @@ use Rattle.text_input.proofs.wait.Reads as reads
 use Rattle.text_input.proofs.wait.Lts as lts
 use Rattle.text_input.proofs.fill.Reads as fill-reads
 use Rattle.text_word.proofs.find.Reads as find-reads
+use Rattle.text_protocol.specs.Bytes.{room}
 
 abbrev Inv-loop : tie.InvT-loop
 Inv-loop buf₀ have len₀ ok₀ buf len ok = Waiting buf₀ have buf len
 
 abbrev μ-loop : tie.MeasureT-loop
-μ-loop buf₀ have len₀ ok₀ buf len ok = 65536 - len
+μ-loop buf₀ have len₀ ok₀ buf len ok = room - len
 
 loop-holds : tie.Need-loop-holds Inv-loop μ-loop
 loop-holds c = waiting-none _ _ (c .before .pre .0) (c .before .pre .1) (c .before .pre .2)

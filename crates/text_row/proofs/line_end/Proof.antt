@@ -7,6 +7,7 @@ use Rattle.text_cell.proofs.Turns.{starts-in}
 use Rattle.text_row.proofs.Turns.{end-cr, end-lf}
 use Rattle.text_row.proofs.line_end.Statement.{statement}
 use Rattle.text_row.proofs.line_end.Tie as tie
+use Rattle.text_protocol.specs.Bytes.{carriageReturn}
 
 is-at-requires : tie.Need-is-at-requires
 is-at-requires c κs = search needs
@@ -20,8 +21,8 @@ pass-requires c κs =
     let at-start = at-is-at .before .before in
     omega (
       arith,
-      starts-in (λ x. eqb x 13) (at-start .args .t .now) (at-start .args .at) (sym (c .if1 .taken) ∙ at-is-at
-          .is-at .ensures),
+      starts-in (λ x. eqb x carriageReturn) (at-start .args .t .now) (at-start .args .at)
+          (sym (c .if1 .taken) ∙ at-is-at .is-at .ensures),
     )
 
 returns : tie.Need-returns

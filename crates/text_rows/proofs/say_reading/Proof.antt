@@ -8,6 +8,7 @@ use borrow.Author.Needs.{needs}
 use Rattle.text_rows.proofs.Turns.{say-bad-line, say-rows}
 use Rattle.text_rows.proofs.say_reading.Statement.{statement}
 use Rattle.text_rows.proofs.say_reading.Tie as tie
+use Rattle.paper.specs.Numbers.{rowNumbers}
 
 number-requires : tie.Need-number-requires
 number-requires c κs = search needs
@@ -51,14 +52,14 @@ put-rows-requires : tie.Need-put-rows-requires
 put-rows-requires c κs =
     let at-start = c .before .before .before .before .before .before .before .before .before in (
       search needs,
-      let h : 7 * at-start .args .r .count ≤ length (at-start .args .r .rows) = omega (
+      let h : rowNumbers * at-start .args .r .count ≤ length (at-start .args .r .rows) = omega (
         arith,
         at-start
             .pre .2,
         at-start .pre .1,
       ) in omega (
         arith,
-        length-take-le (7 * at-start .args .r .count) (at-start .args .r
+        length-take-le (rowNumbers * at-start .args .r .count) (at-start .args .r
             .rows) h,
         at-start .pre .1,
       ),
