@@ -56,7 +56,7 @@ amount-high f v =
 
 -- ---- the cash flows from a place on
 
-abbrev pub restOf : List ℤ → ℕ → List LentFlow
+abbrev pub restOf : List ℤ → (at : ℕ) → List LentFlow
 restOf numbers at = partsLeft flowAt flowNumbers numbers at
 
 pub rest-first : (numbers : List ℤ) → restOf numbers 0 ≡ lentFlows numbers

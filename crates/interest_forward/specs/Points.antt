@@ -33,7 +33,7 @@ unfoldable pub linear : (t f u g y : ℕ) → ℕ
 linear t f u g y = halfUp (f * (u - y) + g * (y - t)) (u - t)
 
 -- each figure between those of two points
-unfoldable pub pointBetween : Point → Point → ℕ → Point
+unfoldable pub pointBetween : (earlier later : Point) → (days : ℕ) → Point
 pointBetween a b y =
     record {
       t = y;

@@ -36,18 +36,18 @@ isKnown s = validSlots (s .count) && holds s && sound (s .rec)
 unfoldable pub refusedEffect : ℕ → Verdict → Effect
 refusedEffect count v = record { at = count; rec = blank; answer = saying v }
 
-unfoldable pub judgedEffect : ℕ → Verdict → Effect → Effect
+unfoldable pub judgedEffect : (count : ℕ) → Verdict → Effect → Effect
 judgedEffect count v accepted = pick (isDone v) accepted (refusedEffect count v)
 
 -- of the slot with the id, and the first empty one
-unfoldable pub admitChecksOf : Slot → Slot → Admission → List Check
+unfoldable pub admitChecksOf : (its-own first-empty : Slot) → Admission → List Check
 admitChecksOf s e a =
     record { verdict = AdmissionOutOfRange; applies = not (validSlots (s .count) && validAdmission a) }
     ∷ record { verdict = AlreadyAdmitted; applies = holds s }
     ∷ record { verdict = NoEmptySlot; applies = not (holds e) }
     ∷ []
 
-unfoldable pub admitEffect : Slot → Slot → Admission → Effect
+unfoldable pub admitEffect : (its-own first-empty : Slot) → Admission → Effect
 admitEffect s e a =
     judgedEffect (s .count) (firstOf (admitChecksOf s e a))
     (record { at = e .at; rec = admitted a; answer = saying Done })

@@ -18,7 +18,7 @@ use Rattle.paper.specs.declared.Figures.{Figures}
 unfoldable pub moveTo : Record → ℕ → ℕ
 moveTo r p = moveOf p (r .p1 .units) (r .p2 .units)
 
-unfoldable pub figuresAt : Record → Day → ℕ → Figures
+unfoldable pub figuresAt : Record → Day → (price : ℕ) → Figures
 figuresAt r d p = figuresOf (r .statics) (d .b) (d .m) (rateAt (r .rates) 0) (moveTo r p) (r .s) (r .tentative)
 
 -- what is known when a record is written: 1, 6 and 7 do not apply, and the figures are those at P
@@ -29,5 +29,5 @@ pub record Evaluating (r : Record) (d : Day) (p : Price) (f : Figures) : Type 0 
   pub figures : f ≡ figuresAt r d (p .units)
 
 -- o is the record after a day of any rows whose evaluation is p
-abbrev pub Evaluates : Record → Day → ℕ → Record → Type 0
+abbrev pub Evaluates : (before : Record) → Day → (price : ℕ) → (after : Record) → Type 0
 Evaluates r d p o = (rows : List ℤ) → priceOn r rows ≡ p → o ≡ evaluated r d rows

@@ -7,5 +7,5 @@ use Rattle.paper_desk.specs.External.{Told, keptAfter}
 use Rattle.paper_desk.specs.Desk.{received}
 
 -- o is the record after any receipt that leaves this pair
-abbrev pub Receives : Record → External → Record → Type 0
+abbrev pub Receives : (before : Record) → External → (after : Record) → Type 0
 Receives r kept o = (x : Told) → keptAfter (r .external) x ≡ kept → o ≡ received r x

@@ -9,7 +9,7 @@ use Rattle.paper.specs.Ranges.{unsigned}
 use Rattle.text_protocol.specs.declared.Kept.{Kept}
 use Rattle.text_protocol.specs.Calls.{bandOf}
 
-abbrev pub termAtPlace : Kept → Bool → List ℤ → ℕ → AskedTerm
+abbrev pub termAtPlace : Kept → (pair : Bool) → List ℤ → (at : ℕ) → AskedTerm
 termAtPlace k pair zs at =
     record {
       k = unsigned (getD zs at (pos 0));

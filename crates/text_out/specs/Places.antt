@@ -18,10 +18,10 @@ abbrev pub nextSignedBytes : ℕ
 nextSignedBytes = signedBytes + 1
 
 -- the last k digits of n
-unfoldable pub last : ℕ → ℕ → List ℕ
+unfoldable pub last : (k n : ℕ) → List ℕ
 last zero n = []
 last (suc k) n = last k (n / 10) ++ ((digitZero + n % 10) ∷ [])
 
 -- k digits hold x, and no fewer do; 0 has one
-abbrev pub Places : ℕ → ℕ → Type 0
+abbrev pub Places : (x k : ℕ) → Type 0
 Places x k = (0 < k) × (k ≤ numberBytes) × (x < 10 ^ k) × (10 ^ (k - 1) ≤ x + (1 - x))

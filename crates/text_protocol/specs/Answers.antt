@@ -49,15 +49,15 @@ abbrev pub waitingMost : ℕ
 waitingMost = room - answerMost
 
 -- the numbers of an answer, the verdict's first
-abbrev pub numbersOf : ℕ → List ℤ → List ℤ
+abbrev pub numbersOf : (verdict : ℕ) → (figures : List ℤ) → List ℤ
 numbersOf v zs = pos v ∷ zs
 
 -- THE BYTES OF AN ANSWER: the number of the verdict, the figures behind it, the end of the line
-unfoldable pub answerText : ℕ → List ℤ → List ℕ
+unfoldable pub answerText : (verdict : ℕ) → (figures : List ℤ) → List ℕ
 answerText v zs = decimal v ++ spaced zs ++ (lineFeed ∷ [])
 
 -- "bad" and the line's number: the answer to a line that is no call
-unfoldable pub badText : ℕ → List ℕ
+unfoldable pub badText : (line : ℕ) → List ℕ
 badText n = (98 ∷ 97 ∷ 100 ∷ []) ++ next (pos n) ++ (lineFeed ∷ [])
 
 -- ---- a record's numbers

@@ -31,11 +31,11 @@ keptAfter k i a =
     (record { newest = record { ym = i .ym; yn = i .yn; worked = a .pair }; middle = k .newest; oldest = k .middle })
     k
 
-abbrev pub isOf : Pair → ℕ → ℕ → Bool
+abbrev pub isOf : Pair → (ym yn : ℕ) → Bool
 isOf p ym yn = eqb (p .ym) ym && eqb (p .yn) yn
 
 -- the newest answer of a pair of terms
-unfoldable pub foundIn : Kept → ℕ → ℕ → WorkedBand
+unfoldable pub foundIn : Kept → (ym yn : ℕ) → WorkedBand
 foundIn k ym yn =
     pick (isOf (k .newest) ym yn) (k .newest .worked)
     (pick (isOf (k .middle) ym yn) (k .middle .worked)

@@ -295,12 +295,12 @@ bondKind = 11
 
 -- ---- a word's call, and a name's number
 
-unfoldable pub kindFrom : ℕ → List Form → List ℕ → ℕ
+unfoldable pub kindFrom : (kind : ℕ) → List Form → (word : List ℕ) → ℕ
 kindFrom k [] w = 0
 kindFrom k (f ∷ fs) w = pick (same w (f .word)) k (kindFrom (suc k) fs w)
 
 -- the kind of the call whose word this is, 0 where it is no call's word
-unfoldable pub kindOf : List ℕ → ℕ
+unfoldable pub kindOf : (word : List ℕ) → ℕ
 kindOf w = kindFrom 1 forms w
 
 unfoldable pub countFits : Form → ℕ → Bool

@@ -20,7 +20,7 @@ pub data Decimal : ℕ → List ℕ → Type 0 where
   more : {n d : ℕ} {t : List ℕ} → 0 < n → d < 10 → Decimal n t → Decimal (10 * n + d) (t ++ ((digitZero + d) ∷ []))
 
 -- the same, computed: `f` is a number of steps that is enough
-unfoldable pub spelt : ℕ → ℕ → List ℕ
+unfoldable pub spelt : (f n : ℕ) → List ℕ
 spelt zero n = []
 spelt (suc f) n = pick (ltb n 10) ((digitZero + n) ∷ []) (spelt f (n / 10) ++ ((digitZero + n % 10) ∷ []))
 
@@ -38,7 +38,7 @@ unfoldable pub isDigit : ℕ → Bool
 isDigit b = leb digitZero b && leb b digitNine
 
 -- the number that digits spell behind those of n
-unfoldable pub sizeFrom : ℕ → List ℕ → Size
+unfoldable pub sizeFrom : (n : ℕ) → (digits : List ℕ) → Size
 sizeFrom n [] = size.Is n
 sizeFrom n (b ∷ t) = pick (isDigit b) (sizeFrom (10 * n + (b - digitZero)) t) size.Bad
 
@@ -59,7 +59,7 @@ pub data Fitting : List ℤ → Type 0 where
   none-fits : Fitting []
   also-fits : {z : ℤ} {zs : List ℤ} → mag z < least → Fitting zs → Fitting (z ∷ zs)
 
-unfoldable pub upTo : ℕ → Size → Size
+unfoldable pub upTo : (most : ℕ) → Size → Size
 upTo most (size.Is n) = pick (leb n most) (size.Is n) size.Bad
 upTo most size.Bad = size.Bad
 

@@ -24,7 +24,7 @@ pub data Digits : List ℕ → Type 0 where
   digit : {b : ℕ} {t : List ℕ} → digitZero ≤ b → b ≤ digitNine → Digits t → Digits (b ∷ t)
 
 -- the number that digits spell behind those of n
-unfoldable pub value : ℕ → List ℕ → ℕ
+unfoldable pub value : (n : ℕ) → (digits : List ℕ) → ℕ
 value n [] = n
 value n (b ∷ t) = value (10 * n + (b - digitZero)) t
 

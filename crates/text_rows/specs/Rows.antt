@@ -32,7 +32,7 @@ pub record Asks (r : Asked) : Type 0 where
   pub is : r ≡ askedOf word
 
 -- a digit more, where all numbers above the greatest id are one
-unfoldable pub grown : ℕ → ℕ → ℕ
+unfoldable pub grown : (n digit : ℕ) → ℕ
 grown n d = pick (leb (10 * n + d) idMost) (10 * n + d) (suc idMost)
 
 -- the bytes at most of the numbers of a day's rows, and of an answer: a verdict, a count or a line, the numbers, the

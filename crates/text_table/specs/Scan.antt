@@ -52,7 +52,7 @@ abbrev pub behindZeros : Column → List ℕ → List ℕ
 behindZeros c t = pick (c .zeros) (pastZeros t) t
 
 -- behind the point
-unfoldable pub decimals : Column → ℕ → List ℕ → Front ℕ
+unfoldable pub decimals : Column → (whole : ℕ) → List ℕ → Front ℕ
 decimals c n t =
     then (digits (c .places) n t)
     (λ v rest. pick (ltb (length (behindZeros c rest)) (length t))
@@ -60,7 +60,7 @@ decimals c n t =
     none)
 
 -- behind the digits of n
-unfoldable pub behindWhole : Column → ℕ → List ℕ → Front ℕ
+unfoldable pub behindWhole : Column → (whole : ℕ) → List ℕ → Front ℕ
 behindWhole c n t = pick (starts (λ b. eqb b point) t) (decimals c n (drop 1 t)) (front (n * 10 ^ c .places) t)
 
 unfoldable pub number : Column → List ℕ → Front ℕ
@@ -112,7 +112,7 @@ unfoldable pub line : List ℕ → Front (List ℤ)
 line t = then (cells columns [] t) (λ zs rest. pick (inRange zs) (front zs rest) none)
 
 -- whether a line's eight numbers are of the security
-unfoldable pub isOf : ℕ → List ℤ → Bool
+unfoldable pub isOf : (id : ℕ) → List ℤ → Bool
 isOf id zs = eqb (unsigned (getD zs 0 (pos 0))) id
 
 unfoldable pub orBad : Front (List ℤ) → ℕ → (List ℤ → Reading) → Reading
@@ -130,5 +130,5 @@ collect id n rows (p ∷ q ∷ ps) =
     (collect id (suc n) rows (q ∷ ps)))
 
 -- THE READING OF A TEXT
-unfoldable pub reading : ℕ → List ℕ → Reading
+unfoldable pub reading : (id : ℕ) → List ℕ → Reading
 reading id t = pick (leb (length t) textMost) (collect id 1 [] (pieces isLineFeed t)) (refused 0)
