@@ -17,20 +17,20 @@ use Rattle.paper_bonds.specs.Bonds.{validBond, validFlows, flowsOf, grossOf, al
 use Rattle.bond.specs.Priced.{Priced}
 
 module _ (b : Bond) (numbers : List ℤ) where
-  pub answer-range : (validBond b && validFlows numbers) ≡ false → refusedBond OutOfRange ≡ bondAnswer b numbers
+  pub answers-out-of-range : (validBond b && validFlows numbers) ≡ false → refusedBond OutOfRange ≡ bondAnswer b numbers
   unfolding bondAnswer bondChecks firstOf isDone
-  answer-range e = rw e
+  answers-out-of-range e = rw e
 
-  pub answer-face : (validBond b && validFlows numbers) ≡ true → eqb (b .face) 0 ≡ true
+  pub answers-no-face-value : (validBond b && validFlows numbers) ≡ true → eqb (b .face) 0 ≡ true
       → refusedBond NoFaceValue ≡ bondAnswer b numbers
   unfolding bondAnswer bondChecks firstOf isDone
-  answer-face e o = rw (e, o)
+  answers-no-face-value e o = rw (e, o)
 
-  pub answer-price : (validBond b && validFlows numbers) ≡ true → eqb (b .face) 0 ≡ false
+  pub answers-price-out-of-range : (validBond b && validFlows numbers) ≡ true → eqb (b .face) 0 ≡ false
       → isPrice (grossOf b) ≡ false
       → refusedBond PriceOutOfRange ≡ bondAnswer b numbers
   unfolding bondAnswer bondChecks firstOf isDone
-  answer-price e o p = rw (e, o, p)
+  answers-price-out-of-range e o p = rw (e, o, p)
 
   module _ (p : Priced b numbers) where
     valid : (validBond b && validFlows numbers) ≡ true
@@ -39,12 +39,12 @@ module _ (b : Bond) (numbers : List ℤ) where
     faced : eqb (b .face) 0 ≡ false
     faced = ne-eqb (b .face) 0 (λ e. omega (arith, p .face))
 
-    pub answer-crossed : some isCrossed (allLimits b (flowsOf numbers)) ≡ true
+    pub answers-band-crossed : some isCrossed (allLimits b (flowsOf numbers)) ≡ true
         → refusedBond BandCrossed ≡ bondAnswer b numbers
     unfolding bondAnswer bondChecks firstOf isDone
-    answer-crossed e = rw (valid, faced, p .price, e)
+    answers-band-crossed e = rw (valid, faced, p .price, e)
 
-    pub answer-figures : some isCrossed (allLimits b (flowsOf numbers)) ≡ false
+    pub answers-figures : some isCrossed (allLimits b (flowsOf numbers)) ≡ false
         → acceptedBond b (flowsOf numbers) ≡ bondAnswer b numbers
     unfolding bondAnswer bondChecks firstOf isDone
-    answer-figures e = rw (valid, faced, p .price, e)
+    answers-figures e = rw (valid, faced, p .price, e)

@@ -52,9 +52,9 @@ bond-facts b v =
       repo = repo-le (b .repo) (search (v, and-right));
     }
 
-pub bond-terms : (b : Bond) → validBond b ≡ true → (k : ℕ) → k < 3 → validTerm (termAt (termsOf b) k) ≡ true
+pub bond-terms-valid : (b : Bond) → validBond b ≡ true → (k : ℕ) → k < 3 → validTerm (termAt (termsOf b) k) ≡ true
 unfolding validBond
-bond-terms b v k h =
+bond-terms-valid b v k h =
     each-of-three (λ k. validTerm (termAt (termsOf b) k)) (search (v, and-left, and-right) depth 10) k h
 
 -- ---- what the rates ask

@@ -39,9 +39,9 @@ pub valid-every : (numbers : List ℤ) → validFlows numbers ≡ true → every
 unfolding validFlows
 valid-every numbers v = and-right (wholeFlows numbers) (every validFlow (lentFlows numbers)) v
 
-pub whole-twos : (numbers : List ℤ) → wholeFlows numbers ≡ true → length numbers % flowNumbers ≡ 0
+pub whole-in-twos : (numbers : List ℤ) → wholeFlows numbers ≡ true → length numbers % flowNumbers ≡ 0
 unfolding wholeFlows
-whole-twos numbers v = eqb-true (length numbers % flowNumbers) 0 (search (v, and-left))
+whole-in-twos numbers v = eqb-true (length numbers % flowNumbers) 0 (search (v, and-left))
 
 pub whole-short : (numbers : List ℤ) → wholeFlows numbers ≡ true → length numbers ≤ allFlowNumbersMost
 unfolding wholeFlows

@@ -26,8 +26,8 @@ use Rattle.limits.specs.LimitLaws.{shifted-high}
 use Rattle.bond_limits.specs.BondInputs.{GrowthRange, PriceRange, SideRange, grownMost}
 
 -- a repo rate is its own bits read back
-pub rate-bits : (x : ℤ) → mag x ≤ mag repoMost → toZ w64 (ofZ w64 x) ≡ x
-rate-bits x h = toZ-ofZ (record { sfits = omega arith })
+pub rate-kept-in-bits : (x : ℤ) → mag x ≤ mag repoMost → toZ w64 (ofZ w64 x) ≡ x
+rate-kept-in-bits x h = toZ-ofZ (record { sfits = omega arith })
 
 -- ---- the growth
 
@@ -79,9 +79,10 @@ unfolding spread
 spread-reach st Upper s1 h l = omega arith
 spread-reach st Lower s1 h l = omega arith
 
-pub spread-product : (st : Statics) (side : Side) (p s1 : ℕ) → divisorLeast ≤ st .xpr → p ≤ priceMost → s1 ≤ rateMost
+pub spread-product-high : (st : Statics) (side : Side) (p s1 : ℕ) → divisorLeast ≤ st .xpr → p ≤ priceMost
+    → s1 ≤ rateMost
     → p * spread st side s1 0 ≤ priceMost * (3 * (oneInBp * st .xpr))
-spread-product st side p s1 h l m = mul-le-mul l (spread-reach st side s1 h m)
+spread-product-high st side p s1 h l m = mul-le-mul l (spread-reach st side s1 h m)
 
 pub spread-grows : (st : Statics) (side : Side) (p : Price) (s1 : Rate) (k : ℕ) (repo : ℤ) → LimitStatics st
     → SideRange p s1 k repo
@@ -90,13 +91,14 @@ spread-grows st side p s1 k repo s r =
     record {
       positive = omega (arith, s .divisor-low);
       divisor = omega (arith, s .divisor-high);
-      reach = omega (arith, spread-product st side (p .units) (s1 .bp) (s .divisor-low) (r .price) (r .rate-high));
+      reach = omega (arith, spread-product-high st side (p .units) (s1 .bp) (s .divisor-low) (r .price) (r .rate-high));
       days = r .days;
       rate = r .repo-high;
     }
 
 -- the farthest quotient of a share, which a bond's grows from, is P·(1 ± the side's maximum)
-pub farthest-shifted : (st : Statics) (side : Side) (p : ℕ) → farthest st side p ≡ shifted side p (farthestRate st side)
+pub farthest-is-shifted : (st : Statics) (side : Side) (p : ℕ) → farthest st side p
+    ≡ shifted side p (farthestRate st side)
 unfolding farthest
-farthest-shifted st Upper p = refl
-farthest-shifted st Lower p = refl
+farthest-is-shifted st Upper p = refl
+farthest-is-shifted st Lower p = refl

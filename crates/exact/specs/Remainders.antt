@@ -10,7 +10,7 @@ use borrow.Author.Tests.{leb-true, leb-false, ltb-true, ltb-false}
 use Rattle.paper.specs.declared.Way.{Way}
 use Rattle.paper.specs.declared.Way.the-variants.{Down, HalfUp, Up}
 use Rattle.paper.specs.Roundings.{Quotient, rounded, Rounded}
-use Rattle.paper.proofs.Logic.{clash}
+use Rattle.paper.proofs.Logic.{not-true-and-false}
 use Rattle.paper.proofs.Roundings.{rounded-is, rounded-unique}
 
 -- whether n/d goes on to the next whole number, of the remainder n % d
@@ -21,7 +21,7 @@ goesUp Up rest d = ltb 0 rest
 
 -- it never does where the division is exact, so a divisor of 1 adds nothing
 pub goes-up-some : (way : Way) (rest d : ℕ) → rest < d → goesUp way rest d ≡ true → 0 < rest
-goes-up-some Down rest d l e = absurd (clash false e refl)
+goes-up-some Down rest d l e = absurd (not-true-and-false false e refl)
 goes-up-some HalfUp rest d l e = omega (arith, leb-true (d - rest) rest e)
 goes-up-some Up rest d l e = ltb-true 0 rest e
 
@@ -34,7 +34,7 @@ pub rounded-next : (way : Way) (n d : ℕ) → 0 < d → goesUp way (n % d) d �
 rounded-next way n d h e = one-rounding way n d (n / d + 1) h (next way e)
   where
     next : (way : Way) → goesUp way (n % d) d ≡ true → Rounded way (n / d + 1) (record { num = n; den = d })
-    next Down e = absurd (clash false e refl)
+    next Down e = absurd (not-true-and-false false e refl)
     next HalfUp e =
         record {
           positive = h;

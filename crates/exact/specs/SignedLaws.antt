@@ -12,7 +12,7 @@ use borrow.Author.Tests.{leb-true, le-leb}
 use Rattle.paper.specs.Numbers.{oneInBp, termDaysMost, repoLeast, repoMost, pastEvery}
 use Rattle.paper.specs.Ranges.{withinZ, unsigned}
 use Rattle.paper.specs.Roundings.{grown}
-use Rattle.paper.proofs.Logic.{clash, and-left, and-right}
+use Rattle.paper.proofs.Logic.{not-true-and-false, and-left, and-right}
 use Rattle.paper_desk.proofs.Units.{unsigned-within}
 
 -- "-9,999..9,999 bp"

@@ -10,8 +10,8 @@ use Rattle.paper.specs.Ranges.{unsigned}
 use Rattle.paper_desk.specs.Gateway.{givenOf}
 
 -- what was made unsigned of the bits was made unsigned of the number
-pub read : {r : ℕ} {x : ℤ} → SFits w64 x → r ≡ unsigned (toZ w64 (ofZ w64 x)) → r ≡ unsigned x
-read f e = e ∙ ap unsigned (toZ-ofZ f)
+pub read-is-unsigned : {r : ℕ} {x : ℤ} → SFits w64 x → r ≡ unsigned (toZ w64 (ofZ w64 x)) → r ≡ unsigned x
+read-is-unsigned f e = e ∙ ap unsigned (toZ-ofZ f)
 
 -- the statics that were made of the bits of 26 numbers were made of the numbers
 pub read-given : {g : GivenStatics}

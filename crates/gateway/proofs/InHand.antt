@@ -8,7 +8,7 @@ use Rattle.paper.specs.declared.Rate.{Rate}
 use Rattle.paper.specs.declared.Statics.{Statics}
 use Rattle.paper.specs.Ranges.{isPrice, isRate, isGridPrice}
 use Rattle.paper_desk.specs.Gateway.{rangeInRange, bandInRange}
-use Rattle.paper.proofs.Logic.{clash, and-left, and-right, and-both}
+use Rattle.paper.proofs.Logic.{not-true-and-false, and-left, and-right, and-both}
 use Rattle.inputs.proofs.Made.{picked-first, picked-second}
 use Rattle.gateway.specs.declared.limit.Asked.{Asked}
 use Rattle.gateway.specs.declared.limit.Asked.the-variants.{Range, Band}
@@ -44,7 +44,7 @@ module _ (p rate : ℕ) (e : pricedAt p rate ≡ OutOfRange) where
   out = picked-second (isPrice p && isRate rate) _ _ (priced-apart (record { units = p }) (record { bp = rate })) e
 
   fails : (test : Bool) → (test ≡ true → (isPrice p ≡ true) × (isRate rate ≡ true)) → test ≡ false
-  fails true f = absurd (clash (isPrice p && isRate rate) (and-both _ _ (f refl .0) (f refl .1)) out)
+  fails true f = absurd (not-true-and-false (isPrice p && isRate rate) (and-both _ _ (f refl .0) (f refl .1)) out)
   fails false f = refl
 
   pub limit-out : (st : Statics) (asked : Asked) (side : ℕ) → limitInRange st asked p rate side ≡ false

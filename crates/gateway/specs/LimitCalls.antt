@@ -77,11 +77,12 @@ in-range-is st (Band x) p rate side hp hr = rw (hp, hr) (go (eqb (p % gridOf (st
     go false = refl
 
 -- what the rule asks, once it is known which limit is asked for
-pub of-range : {asked : Asked} {p : Price} {rate : Rate} → asked ≡ Range → LimitInputs asked p rate → RangeInputs p rate
+pub range-has-inputs : {asked : Asked} {p : Price} {rate : Rate} → asked ≡ Range → LimitInputs asked p rate
+    → RangeInputs p rate
 unfolding LimitInputs
-of-range e i = rw e at i
+range-has-inputs e i = rw e at i
 
-pub of-band : {asked : Asked} {x : Grown} {p : Price} {rate : Rate} → asked ≡ Band x → LimitInputs asked p rate
+pub band-has-inputs : {asked : Asked} {x : Grown} {p : Price} {rate : Rate} → asked ≡ Band x → LimitInputs asked p rate
     → BandInputs p rate (x .c) (x .k) (x .repo)
 unfolding LimitInputs
-of-band e i = rw e at i
+band-has-inputs e i = rw e at i

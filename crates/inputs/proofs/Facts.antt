@@ -64,9 +64,9 @@ grid-price-facts g p v =
       multiple = eqb-true _ _ (and-right (isPrice p) _ v);
     }
 
-pub rate-most : (bp : ℕ) → isRate bp ≡ true → bp ≤ rateMost
+pub rate-within-most : (bp : ℕ) → isRate bp ≡ true → bp ≤ rateMost
 unfolding isRate
-rate-most bp v = leb-true _ _ v
+rate-within-most bp v = leb-true _ _ v
 
 -- ---- statics
 
@@ -133,12 +133,12 @@ statics-facts st v =
       eveningmax = leb-true _ _ (search (v, and-left, and-right) depth 40);
     }
 
-pub statics-step : (st : Statics) → validStatics st ≡ true → 0 < st .h
-statics-step st v = statics-facts st v .h .least
+pub statics-step-positive : (st : Statics) → validStatics st ≡ true → 0 < st .h
+statics-step-positive st v = statics-facts st v .h .least
 
-pub given-statics : (g : GivenStatics) → validGiven g ≡ true → validStatics (staticsOf g) ≡ true
+pub given-statics-valid : (g : GivenStatics) → validGiven g ≡ true → validStatics (staticsOf g) ≡ true
 unfolding validGiven
-given-statics g v = and-left _ _ (and-left _ _ (and-left _ _ (and-left _ _ v)))
+given-statics-valid g v = and-left _ _ (and-left _ _ (and-left _ _ (and-left _ _ v)))
 
 pub tentative-facts : (h tentative : ℕ) → validTentative h tentative ≡ true → MultipleTo (tentativeTop h) h tentative
 unfolding validTentative
@@ -163,7 +163,7 @@ pub record AdmissionFacts (a : Admission) : Type 0 where
 pub admission-facts : (a : Admission) → validAdmission a ≡ true → AdmissionFacts a
 unfolding validAdmission staticsOf
 admission-facts a v =
-    let valid = given-statics (a .given) (search (v, and-left, and-right) depth 40) in
+    let valid = given-statics-valid (a .given) (search (v, and-left, and-right) depth 40) in
     record {
       id = within-facts _ _ _ (search (v, and-left, and-right) depth 40);
       valid = valid;

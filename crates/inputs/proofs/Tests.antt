@@ -13,19 +13,19 @@ use Rattle.paper.proofs.Logic.{and-left, and-right}
 -- ---- three of a kind
 
 -- three tests that are those of the definition
-pub all-three : {a b c x y z : Bool} → a ≡ x → b ≡ y → c ≡ z → (a && b && c) ≡ (x && y && z)
-all-three f s t = rw (f, s, t)
+pub three-tests-same : {a b c x y z : Bool} → a ≡ x → b ≡ y → c ≡ z → (a && b && c) ≡ (x && y && z)
+three-tests-same f s t = rw (f, s, t)
 
 -- ---- two of a kind
 
 -- two tests that are those of the definition, with the outcome that the code saw
-pub two-tests : {a b x y t : Bool} → a ≡ x → b ≡ y → (a && b) ≡ t → (x && y) ≡ t
-two-tests f s e = rw (← f, ← s) e
+pub two-tests-same : {a b x y t : Bool} → a ≡ x → b ≡ y → (a && b) ≡ t → (x && y) ≡ t
+two-tests-same f s e = rw (← f, ← s) e
 
 -- ---- the step
 
-pub ordered-step : (st : Statics) → orderedStatics st ≡ true → 0 < st .h
-ordered-step st v = leb-true _ _ (search (v, and-left, and-right) depth 40)
+pub ordered-step-positive : (st : Statics) → orderedStatics st ≡ true → 0 < st .h
+ordered-step-positive st v = leb-true _ _ (search (v, and-left, and-right) depth 40)
 
 -- ---- a day
 

@@ -15,30 +15,30 @@ use Rattle.interest_forward.specs.Pair.{PairRange}
 
 module _ (i : Interest) (numbers : List ℤ) where
   -- what is not refused gives the ranges that the rules ask for
-  pub answer-keys : (validInterest i && validKeys numbers) ≡ true → validKeys numbers ≡ true
-  answer-keys e = and-right (validInterest i) (validKeys numbers) e
+  pub answered-keys-valid : (validInterest i && validKeys numbers) ≡ true → validKeys numbers ≡ true
+  answered-keys-valid e = and-right (validInterest i) (validKeys numbers) e
 
-  pub answer-pair : (validInterest i && validKeys numbers) ≡ true
+  pub answered-pair-in-range : (validInterest i && validKeys numbers) ≡ true
       → (ascending (maturitiesOf numbers) && ltb (i .ym) (i .yn)) ≡ true → PairRange i
-  answer-pair e o =
+  answered-pair-in-range e o =
       record {
         given = valid-interest-in-range i (and-left (validInterest i) (validKeys numbers) e);
         order = ltb-true (i .ym) (i .yn) (and-right (ascending (maturitiesOf numbers)) (ltb (i .ym) (i .yn)) o);
       }
 
-  pub answer-range : (validInterest i && validKeys numbers) ≡ false
+  pub answers-out-of-range : (validInterest i && validKeys numbers) ≡ false
       → refusedInterest OutOfRange ≡ interestAnswer i numbers
   unfolding interestAnswer interestChecks firstOf isDone
-  answer-range e = rw e
+  answers-out-of-range e = rw e
 
-  pub answer-order : (validInterest i && validKeys numbers) ≡ true
+  pub answers-not-ascending : (validInterest i && validKeys numbers) ≡ true
       → (ascending (maturitiesOf numbers) && ltb (i .ym) (i .yn)) ≡ false
       → refusedInterest NotAscending ≡ interestAnswer i numbers
   unfolding interestAnswer interestChecks firstOf isDone
-  answer-order e o = rw (e, o)
+  answers-not-ascending e o = rw (e, o)
 
-  pub answer-figures : (validInterest i && validKeys numbers) ≡ true
+  pub answers-figures : (validInterest i && validKeys numbers) ≡ true
       → (ascending (maturitiesOf numbers) && ltb (i .ym) (i .yn)) ≡ true
       → acceptedInterest i (maturitiesOf numbers) ≡ interestAnswer i numbers
   unfolding interestAnswer interestChecks firstOf isDone
-  answer-figures e o = rw (e, o)
+  answers-figures e o = rw (e, o)

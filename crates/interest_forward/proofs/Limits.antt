@@ -9,7 +9,7 @@ use Rattle.paper.specs.Numbers.{oneInHundredths, maturityMost, divisorMost}
 use Rattle.paper.specs.Roundings.{halfUp}
 use Rattle.paper_interest.specs.Interest.{limitFrom}
 use Rattle.paper.proofs.Roundings.{half-le}
-use Rattle.paper.proofs.Differences.{difference-times, difference-plus, difference-minus, difference-same, difference-whole}
+use Rattle.paper.proofs.Differences.{difference-times, difference-plus, difference-minus, differences-equal, whole-is-difference}
 use Rattle.paper_interest.proofs.Lifted.{half-shifts}
 use Rattle.interest_forward.specs.declared.Point.{Point}
 use Rattle.interest_repo.specs.Lift.{lift}
@@ -34,7 +34,7 @@ risen-is i m n p a b =
     let s = rises i m n p a b in
     record {
       is =
-          difference-same _ (base * (i .yn - i .ym)) (i .yn * n .rate + i .ym * lift) (i .yn * lift + i .ym * m .rate)
+          differences-equal _ (base * (i .yn - i .ym)) (i .yn * n .rate + i .ym * lift) (i .yn * lift + i .ym * m .rate)
           (omega arith)
           ∙ sym (difference-minus (i .yn * n .rate) (i .yn * lift) (i .ym * m .rate) (i .ym * lift))
           ∙ sym (rw (difference-times (i .yn) (n .rate) lift, difference-times (i .ym) (m .rate) lift));
@@ -85,9 +85,9 @@ module _ (i : Interest) (m n : Point) (r : ℕ) (s : Risen i m n r) where
   upper-counted h =
       let den : ℕ = base * ((i .yn - i .ym) * i .xir) in
       let sum : subℕ (i .xir * r) den +ℤ pos (marginOf i h) ≡ subℕ (i .xir * r + marginOf i h) den =
-      ap (λ (z : ℤ). subℕ (i .xir * r) den +ℤ z) (difference-whole (marginOf i h))
+      ap (λ (z : ℤ). subℕ (i .xir * r) den +ℤ z) (whole-is-difference (marginOf i h))
       ∙ difference-plus (i .xir * r) den (marginOf i h) 0
-      ∙ difference-same (i .xir * r + marginOf i h) (den + 0) (i .xir * r + marginOf i h) den (omega arith) in
+      ∙ differences-equal (i .xir * r + marginOf i h) (den + 0) (i .xir * r + marginOf i h) den (omega arith) in
       sym (ap (λ (z : ℤ). limitFrom i (z +ℤ pos (marginOf i h))) multiplied ∙ ap (limitFrom i) sum)
 
   pub lower-counted : (l : ℕ) → marginOf i l ≤ i .xir * r
@@ -97,7 +97,7 @@ module _ (i : Interest) (m n : Point) (r : ℕ) (s : Risen i m n r) where
   lower-counted l k =
       let den : ℕ = base * ((i .yn - i .ym) * i .xir) in
       let sum : subℕ (i .xir * r) den -ℤ pos (marginOf i l) ≡ subℕ (i .xir * r - marginOf i l) den =
-      ap (λ (z : ℤ). subℕ (i .xir * r) den -ℤ z) (difference-whole (marginOf i l))
+      ap (λ (z : ℤ). subℕ (i .xir * r) den -ℤ z) (whole-is-difference (marginOf i l))
       ∙ difference-minus (i .xir * r) den (marginOf i l) 0
-      ∙ difference-same (i .xir * r + 0) (den + marginOf i l) (i .xir * r - marginOf i l) den (omega arith) in
+      ∙ differences-equal (i .xir * r + 0) (den + marginOf i l) (i .xir * r - marginOf i l) den (omega arith) in
       sym (ap (λ (z : ℤ). limitFrom i (z -ℤ pos (marginOf i l))) multiplied ∙ ap (limitFrom i) sum)

@@ -9,15 +9,15 @@ use Rattle.paper.specs.Numbers.{maturityMost}
 use Rattle.paper.specs.Roundings.{halfUpZ}
 use Rattle.paper_interest.specs.Interest.{interpolated}
 use Rattle.paper.proofs.Roundings.{half-le}
-use Rattle.paper.proofs.Differences.{difference-times, difference-plus, difference-same}
+use Rattle.paper.proofs.Differences.{difference-times, difference-plus, differences-equal}
 use Rattle.paper_interest.proofs.Lifted.{half-shifts}
 use Rattle.interest_forward.specs.declared.Point.{Point}
 use Rattle.interest_forward.specs.Points.{figureMost, PointRange, Line, linear, pointBetween}
 
 -- the products of the sum
-pub line-parts : (t f u g y : ℕ) → Line t f u g y → (f * (u - y) ≤ figureMost * maturityMost)
+pub line-parts-within : (t f u g y : ℕ) → Line t f u g y → (f * (u - y) ≤ figureMost * maturityMost)
     × (g * (y - t) ≤ figureMost * maturityMost)
-line-parts t f u g y l =
+line-parts-within t f u g y l =
     let first : u - y ≤ maturityMost = omega arith in
     let second : y - t ≤ maturityMost = omega arith in (
       mul-le-mul (l .first) first,
@@ -42,14 +42,15 @@ interpolated-lifted l t a u b y h k =
     let sum : (pos (u - y) *ℤ subℕ a l) +ℤ (pos (y - t) *ℤ subℕ b l) ≡ subℕ n (l * (u - t)) =
     rw (difference-times (u - y) a l, difference-times (y - t) b l)
     (difference-plus ((u - y) * a) ((u - y) * l) ((y - t) * b) ((y - t) * l)
-    ∙ difference-same ((u - y) * a + (y - t) * b) ((u - y) * l + (y - t) * l) n (l * (u - t)) (omega (arith, times))) in
+    ∙ differences-equal ((u - y) * a + (y - t) * b) ((u - y) * l + (y - t) * l) n (l * (u - t)) (omega (arith, times)))
+    in
     ap (λ (z : ℤ). halfUpZ z (u - t)) sum ∙ half-shifts n (u - t) l (omega arith)
 
 -- a point between two is in range
-pub between-range : (a b : Point) (y : ℕ) → PointRange a → PointRange b → a .t < y → y ≤ b .t
+pub point-between-in-range : (a b : Point) (y : ℕ) → PointRange a → PointRange b → a .t < y → y ≤ b .t
     → PointRange (pointBetween a b y)
 unfolding pointBetween
-between-range a b y p q h k =
+point-between-in-range a b y p q h k =
     record {
       days = omega arith;
       rate = linear-le (a .t) (a .rate) (b .t) (b .rate) y figureMost h k (p .rate) (q .rate);

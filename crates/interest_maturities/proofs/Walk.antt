@@ -15,7 +15,7 @@ use Rattle.paper.specs.Numbers.{keyNumbers}
 use Rattle.paper_interest.specs.Interest.{keyAt, maturityOf, maturitiesOf, ascending, ascendingFrom, figureAt, figureAfter}
 use Rattle.paper.proofs.Logic.{le-or-lt}
 use Rattle.exact.specs.LentLaws.{Place, place-first, place-next, left-here as part-here, left-end as parts-end}
-use Rattle.interest_maturities.specs.KeyLaws.{maturityAt, restOf, rest-first, place-eights}
+use Rattle.interest_maturities.specs.KeyLaws.{maturityAt, restOf, rest-first, place-in-eights}
 use Rattle.interest_maturities.specs.Reads.{Reads}
 
 -- ---- the key maturities from a place on
@@ -38,7 +38,7 @@ left-end numbers at h = ap (map maturityOf) (parts-end keyAt keyNumbers numbers 
 pub next-room : (numbers : List ℤ) (at : ℕ) → length numbers % keyNumbers ≡ 0 → Place keyNumbers numbers at
     → keyNumbers < length numbers - at
     → at + keyNumbers + keyNumbers ≤ length numbers
-next-room numbers at e p h = omega (arith, place-eights numbers at p)
+next-room numbers at e p h = omega (arith, place-in-eights numbers at p)
 
 -- ---- "strictly ascending"
 
@@ -69,7 +69,7 @@ module _ (numbers : List ℤ) (at : ℕ) where
     where
       go : (at + keyNumbers ≤ length numbers) ⊎ (length numbers < at + keyNumbers) → ascending (left numbers at) ≡ true
       go (inl one) = rw (left-here numbers at one, left-end numbers (at + keyNumbers) (omega arith))
-      go (inr none) = rw (left-end numbers at (omega (arith, place-eights numbers at p)))
+      go (inr none) = rw (left-end numbers at (omega (arith, place-in-eights numbers at p)))
 
 -- ---- the figures for a term of y days
 
@@ -136,8 +136,9 @@ module _ (numbers : List ℤ) (y : ℕ) where
         record {
           inside-before = p .room;
           inside-after = h;
-          whole-before = place-eights numbers at (p .place);
-          whole-after = place-eights numbers (at + keyNumbers) (place-next keyNumbers numbers at (p .place) (p .room));
+          whole-before = place-in-eights numbers at (p .place);
+          whole-after = place-in-eights numbers (at + keyNumbers)
+              (place-next keyNumbers numbers at (p .place) (p .room));
           between = inr (p .before, e);
           reads = λ f. stepped f h ∙ rw (le-leb y _ e, ne-eqb at (at + keyNumbers) (λ q. omega arith));
         }
@@ -148,8 +149,8 @@ module _ (numbers : List ℤ) (y : ℕ) where
         record {
           inside-before = p .room;
           inside-after = p .room;
-          whole-before = place-eights numbers at (p .place);
-          whole-after = place-eights numbers at (p .place);
+          whole-before = place-in-eights numbers at (p .place);
+          whole-after = place-in-eights numbers at (p .place);
           between = inl refl;
           reads = λ f. p .figure f ∙ rw (left-end numbers (at + keyNumbers) (omega arith), eq-eqb at at refl);
         }

@@ -31,8 +31,8 @@ unfolding keysOf
 rest-first numbers = left-first keyAt keyNumbers numbers
 
 -- a place is a whole number of key maturities on
-pub place-eights : (numbers : List ℤ) (at : ℕ) → Place keyNumbers numbers at → at % keyNumbers ≡ 0
-place-eights numbers at p = omega (arith, p .is)
+pub place-in-eights : (numbers : List ℤ) (at : ℕ) → Place keyNumbers numbers at → at % keyNumbers ≡ 0
+place-in-eights numbers at p = omega (arith, p .is)
 
 -- ---- the key maturity of a number
 
@@ -79,17 +79,17 @@ pub valid-whole : (numbers : List ℤ) → validKeys numbers ≡ true → wholeK
 unfolding validKeys
 valid-whole numbers v = search (v, and-left)
 
-pub valid-eights : (numbers : List ℤ) → wholeKeys numbers ≡ true → length numbers % keyNumbers ≡ 0
+pub whole-in-eights : (numbers : List ℤ) → wholeKeys numbers ≡ true → length numbers % keyNumbers ≡ 0
 unfolding wholeKeys
-valid-eights numbers v = eqb-true (length numbers % keyNumbers) 0 (search (v, and-left))
+whole-in-eights numbers v = eqb-true (length numbers % keyNumbers) 0 (search (v, and-left))
 
-pub valid-one : (numbers : List ℤ) → wholeKeys numbers ≡ true → keyNumbers ≤ length numbers
+pub whole-has-one : (numbers : List ℤ) → wholeKeys numbers ≡ true → keyNumbers ≤ length numbers
 unfolding wholeKeys
-valid-one numbers v = leb-true keyNumbers (length numbers) (search (v, and-left, and-right))
+whole-has-one numbers v = leb-true keyNumbers (length numbers) (search (v, and-left, and-right))
 
-pub valid-short : (numbers : List ℤ) → wholeKeys numbers ≡ true → length numbers ≤ allKeyNumbersMost
+pub whole-within-most : (numbers : List ℤ) → wholeKeys numbers ≡ true → length numbers ≤ allKeyNumbersMost
 unfolding wholeKeys
-valid-short numbers v = leb-true (length numbers) allKeyNumbersMost (search (v, and-left, and-right))
+whole-within-most numbers v = leb-true (length numbers) allKeyNumbersMost (search (v, and-left, and-right))
 
 pub valid-key : (numbers : List ℤ) (at : ℕ) → validKeys numbers ≡ true → at % keyNumbers ≡ 0
     → at + keyNumbers ≤ length numbers

@@ -10,9 +10,9 @@ use mir.Facts.{toZ-ofZ}
 use Rattle.paper.specs.Numbers.{repoMost}
 
 -- a rate's size, as a signed number of 64 bits has it, is at most how far it is from 0
-pub rate-size : (x : ℤ) → natAbs x ≤ natAbs repoMost → mag x ≤ mag repoMost
-rate-size (pos n) h = h
-rate-size (negsuc n) h = omega arith
+pub mag-within-repo-most : (x : ℤ) → natAbs x ≤ natAbs repoMost → mag x ≤ mag repoMost
+mag-within-repo-most (pos n) h = h
+mag-within-repo-most (negsuc n) h = omega arith
 
-pub rate-bits : (x : ℤ) → natAbs x ≤ natAbs repoMost → toZ w64 (ofZ w64 x) ≡ x
-rate-bits x h = toZ-ofZ (record { sfits = omega (arith, rate-size x h) })
+pub rate-kept-in-bits : (x : ℤ) → natAbs x ≤ natAbs repoMost → toZ w64 (ofZ w64 x) ≡ x
+rate-kept-in-bits x h = toZ-ofZ (record { sfits = omega (arith, mag-within-repo-most x h) })

@@ -18,7 +18,7 @@ use Rattle.paper_interest.specs.Interest.{maturitiesOf, lowerLimit, upperLimit,
 use Rattle.paper.specs.Ranges.{validTerm, validRows, validDay}
 use Rattle.paper.specs.Terms.{workedRepo, repoOf, termOf, dayOf}
 use Rattle.paper.specs.Verdicts.{isDone, firstOf}
-use Rattle.paper.proofs.Logic.{clash, not-true}
+use Rattle.paper.proofs.Logic.{not-true-and-false, not-true}
 
 -- a term with a pair that was worked out
 abbrev pub withPair : ℕ → WorkedBand → AskedTerm
@@ -58,7 +58,7 @@ refused-out x e = go (x .band) e
   where
     go : (b : RepoBand) → isRefused b ≡ true
         → validTerm (record { k = x .k; low = repoOf b .low; high = repoOf b .high }) ≡ false
-    go (band.Given r) e = absurd (clash false e refl)
+    go (band.Given r) e = absurd (not-true-and-false false e refl)
     go (band.Worked w) e = rw (not-true (isDone (w .verdict)) e) (one-fails (leb (x .k) termDaysMost && true) true)
 
 -- the pair that the interest side refuses is such a band
@@ -92,4 +92,4 @@ refused-day a rows e =
     any true y z {p} {q} {r} e f g h = rw (f refl) refl
     any false true z {p} {q} {r} e f g h = rw (g refl) (one-fails p r)
     any false false true {p} {q} {r} e f g h = rw (h refl) (last-fails (p && q))
-    any false false false e f g h = absurd (clash false e refl)
+    any false false false e f g h = absurd (not-true-and-false false e refl)

@@ -11,29 +11,29 @@ use Rattle.paper.specs.Roundings.{apart}
 use Rattle.paper.proofs.Logic.{le-or-lt}
 
 -- a - b where b is no more than a, and where it is more
-pub difference-up : (a b : ℕ) → b ≤ a → subℕ a b ≡ pos (a - b)
-difference-up a b h = rw (le-ltb a b h)
+pub difference-is-pos : (a b : ℕ) → b ≤ a → subℕ a b ≡ pos (a - b)
+difference-is-pos a b h = rw (le-ltb a b h)
 
-pub difference-down : (a b : ℕ) → a < b → subℕ a b ≡ negsuc (b - suc a)
-difference-down a b h = rw (lt-ltb a b h)
+pub difference-is-negsuc : (a b : ℕ) → a < b → subℕ a b ≡ negsuc (b - suc a)
+difference-is-negsuc a b h = rw (lt-ltb a b h)
 
 pub negated-is : (n : ℕ) → negℤ (pos n) ≡ subℕ 0 n
 negated-is zero = refl
 negated-is (suc n) =
     let same : n ≡ suc n - 1 = omega arith in
-    ap negsuc same ∙ sym (difference-down 0 (suc n) (omega arith))
+    ap negsuc same ∙ sym (difference-is-negsuc 0 (suc n) (omega arith))
 
 -- a - b is c - d where a + d is c + b
-pub difference-same : (a b c d : ℕ) → a + d ≡ c + b → subℕ a b ≡ subℕ c d
-difference-same a b c d e = go (le-or-lt b a)
+pub differences-equal : (a b c d : ℕ) → a + d ≡ c + b → subℕ a b ≡ subℕ c d
+differences-equal a b c d e = go (le-or-lt b a)
   where
     go : (b ≤ a) ⊎ (a < b) → subℕ a b ≡ subℕ c d
     go (inl h) =
         let same : a - b ≡ c - d = omega arith in
-        difference-up a b h ∙ ap pos same ∙ sym (difference-up c d (omega arith))
+        difference-is-pos a b h ∙ ap pos same ∙ sym (difference-is-pos c d (omega arith))
     go (inr h) =
         let same : b - suc a ≡ d - suc c = omega arith in
-        difference-down a b h ∙ ap negsuc same ∙ sym (difference-down c d (omega arith))
+        difference-is-negsuc a b h ∙ ap negsuc same ∙ sym (difference-is-negsuc c d (omega arith))
 
 -- m·(a - b) is m·a - m·b
 pub difference-times : (m a b : ℕ) → pos m *ℤ subℕ a b ≡ subℕ (m * a) (m * b)
@@ -43,13 +43,13 @@ difference-times m a b = go (le-or-lt b a)
     go (inl h) =
         let parts : m * a ≡ m * (b + (a - b)) = ap (λ (z : ℕ). m * z) (omega arith) in
         let same : m * (a - b) ≡ m * a - m * b = omega arith in
-        ap (λ (z : ℤ). pos m *ℤ z) (difference-up a b h) ∙ ap pos same
-        ∙ sym (difference-up (m * a) (m * b) (omega arith))
+        ap (λ (z : ℤ). pos m *ℤ z) (difference-is-pos a b h) ∙ ap pos same
+        ∙ sym (difference-is-pos (m * a) (m * b) (omega arith))
     go (inr h) =
         let parts : m * b ≡ m * (a + suc (b - suc a)) = ap (λ (z : ℕ). m * z) (omega arith) in
-        ap (λ (z : ℤ). pos m *ℤ z) (difference-down a b h)
+        ap (λ (z : ℤ). pos m *ℤ z) (difference-is-negsuc a b h)
         ∙ negated-is (m * suc (b - suc a))
-        ∙ difference-same 0 (m * suc (b - suc a)) (m * a) (m * b) (omega arith)
+        ∙ differences-equal 0 (m * suc (b - suc a)) (m * a) (m * b) (omega arith)
 
 -- a - b < c - d is a + d < c + b
 pub difference-order : (a b c d : ℕ) → ltZ (subℕ a b) (subℕ c d) ≡ ltb (a + d) (c + b)
@@ -81,10 +81,10 @@ pub difference-turned : (a b : ℕ) → negℤ (subℕ a b) ≡ subℕ b a
 difference-turned a b = go (le-or-lt b a)
   where
     go : (b ≤ a) ⊎ (a < b) → negℤ (subℕ a b) ≡ subℕ b a
-    go (inl h) = ap negℤ (difference-up a b h) ∙ negated-is (a - b) ∙ difference-same 0 (a - b) b a (omega arith)
+    go (inl h) = ap negℤ (difference-is-pos a b h) ∙ negated-is (a - b) ∙ differences-equal 0 (a - b) b a (omega arith)
     go (inr h) =
         let same : suc (b - suc a) ≡ b - a = omega arith in
-        ap negℤ (difference-down a b h) ∙ ap pos same ∙ sym (difference-up b a (omega arith))
+        ap negℤ (difference-is-negsuc a b h) ∙ ap pos same ∙ sym (difference-is-pos b a (omega arith))
 
 -- (a - b) + (c - d) is (a + c) - (b + d)
 pub difference-plus : (a b c d : ℕ) → subℕ a b +ℤ subℕ c d ≡ subℕ (a + c) (b + d)
@@ -93,51 +93,52 @@ difference-plus a b c d = go (le-or-lt b a) (le-or-lt d c)
     go : (b ≤ a) ⊎ (a < b) → (d ≤ c) ⊎ (c < d) → subℕ a b +ℤ subℕ c d ≡ subℕ (a + c) (b + d)
     go (inl h) (inl k) =
         let same : a - b + (c - d) ≡ a + c - (b + d) = omega arith in
-        rw (difference-up a b h, difference-up c d k) (ap pos same ∙ sym (difference-up (a + c) (b + d) (omega arith)))
+        rw (difference-is-pos a b h, difference-is-pos c d k)
+        (ap pos same ∙ sym (difference-is-pos (a + c) (b + d) (omega arith)))
     go (inl h) (inr k) =
-        rw (difference-up a b h, difference-down c d k)
-        (difference-same (a - b) (suc (d - suc c)) (a + c) (b + d) (omega arith))
+        rw (difference-is-pos a b h, difference-is-negsuc c d k)
+        (differences-equal (a - b) (suc (d - suc c)) (a + c) (b + d) (omega arith))
     go (inr h) (inl k) =
-        rw (difference-down a b h, difference-up c d k)
-        (difference-same (c - d) (suc (b - suc a)) (a + c) (b + d) (omega arith))
+        rw (difference-is-negsuc a b h, difference-is-pos c d k)
+        (differences-equal (c - d) (suc (b - suc a)) (a + c) (b + d) (omega arith))
     go (inr h) (inr k) =
         let same : suc (b - suc a + (d - suc c)) ≡ b + d - suc (a + c) = omega arith in
-        rw (difference-down a b h, difference-down c d k) (ap negsuc same
-        ∙ sym (difference-down (a + c) (b + d) (omega arith)))
+        rw (difference-is-negsuc a b h, difference-is-negsuc c d k) (ap negsuc same
+        ∙ sym (difference-is-negsuc (a + c) (b + d) (omega arith)))
 
 -- (a - b) - (c - d) is (a + d) - (b + c)
 pub difference-minus : (a b c d : ℕ) → subℕ a b -ℤ subℕ c d ≡ subℕ (a + d) (b + c)
 difference-minus a b c d = ap (λ (z : ℤ). subℕ a b +ℤ z) (difference-turned c d) ∙ difference-plus a b d c
 
 -- |a - b|
-pub difference-size : (a b : ℕ) → natAbs (subℕ a b) ≡ apart a b
+pub difference-size-is-apart : (a b : ℕ) → natAbs (subℕ a b) ≡ apart a b
 unfolding apart
-difference-size a b = go (le-or-lt b a)
+difference-size-is-apart a b = go (le-or-lt b a)
   where
     go : (b ≤ a) ⊎ (a < b) → natAbs (subℕ a b) ≡ a - b + (b - a)
-    go (inl h) = ap natAbs (difference-up a b h) ∙ omega arith
-    go (inr h) = ap natAbs (difference-down a b h) ∙ omega arith
+    go (inl h) = ap natAbs (difference-is-pos a b h) ∙ omega arith
+    go (inr h) = ap natAbs (difference-is-negsuc a b h) ∙ omega arith
 
 -- a natural number is a difference
-pub difference-whole : (n : ℕ) → pos n ≡ subℕ n 0
-difference-whole n = let same : n ≡ n - 0 = omega arith in ap pos same ∙ sym (difference-up n 0 (omega arith))
+pub whole-is-difference : (n : ℕ) → pos n ≡ subℕ n 0
+whole-is-difference n = let same : n ≡ n - 0 = omega arith in ap pos same ∙ sym (difference-is-pos n 0 (omega arith))
 
 -- ---- sizes
 
 -- a - b is no further from 0 than a and b together
 difference-within : (a b : ℕ) → natAbs (subℕ a b) ≤ a + b
 unfolding apart
-difference-within a b = omega (arith, difference-size a b)
+difference-within a b = omega (arith, difference-size-is-apart a b)
 
 -- neither is a sum or a difference of two numbers of either sign
-pub sum-size : (x y : ℤ) → natAbs (x +ℤ y) ≤ natAbs x + natAbs y
-sum-size (pos a) (pos b) = omega arith
-sum-size (pos a) (negsuc b) = difference-within a (suc b)
-sum-size (negsuc a) (pos b) = omega (arith, difference-within b (suc a))
-sum-size (negsuc a) (negsuc b) = omega arith
+pub sum-size-within : (x y : ℤ) → natAbs (x +ℤ y) ≤ natAbs x + natAbs y
+sum-size-within (pos a) (pos b) = omega arith
+sum-size-within (pos a) (negsuc b) = difference-within a (suc b)
+sum-size-within (negsuc a) (pos b) = omega (arith, difference-within b (suc a))
+sum-size-within (negsuc a) (negsuc b) = omega arith
 
-pub minus-size : (x y : ℤ) → natAbs (x -ℤ y) ≤ natAbs x + natAbs y
-minus-size x y = rw (← negated-size y) (sum-size x (negℤ y))
+pub minus-size-within : (x y : ℤ) → natAbs (x -ℤ y) ≤ natAbs x + natAbs y
+minus-size-within x y = rw (← negated-size y) (sum-size-within x (negℤ y))
   where
     negated-size : (y : ℤ) → natAbs (negℤ y) ≡ natAbs y
     negated-size (pos zero) = refl

@@ -11,8 +11,8 @@ use lib.Signed.{leZ}
 use borrow.Author.Tests.{leb-true, le-leb}
 use Rattle.paper.specs.Lists.{pick, allThree}
 
-pub clash : (b : Bool) → b ≡ true → b ≡ false → ⊥
-clash b p q = let z : _≡_ {A = ℕ} 0 1 = cc in omega arith
+pub not-true-and-false : (b : Bool) → b ≡ true → b ≡ false → ⊥
+not-true-and-false b p q = let z : _≡_ {A = ℕ} 0 1 = cc in omega arith
 
 pub and-left : (a b : Bool) → (a && b) ≡ true → a ≡ true
 and-left true b e = refl
@@ -20,7 +20,7 @@ and-left false b e = e
 
 pub and-right : (a b : Bool) → (a && b) ≡ true → b ≡ true
 and-right true b e = e
-and-right false b e = absurd (clash false e refl)
+and-right false b e = absurd (not-true-and-false false e refl)
 
 pub and-both : (a b : Bool) → a ≡ true → b ≡ true → (a && b) ≡ true
 and-both true b p q = q
@@ -33,7 +33,7 @@ _&_ {a} {b} p q = and-both a b p q
 
 pub and-false : (a b : Bool) → (a && b) ≡ false → a ≡ true → b ≡ false
 and-false true b e p = e
-and-false false b e p = absurd (clash false p refl)
+and-false false b e p = absurd (not-true-and-false false p refl)
 
 pub not-true : (a : Bool) → not a ≡ true → a ≡ false
 not-true true e = sym e
@@ -45,10 +45,10 @@ not-false false e = sym e
 
 pub pick-true : {A : Type 0} (b : Bool) (x y : A) → b ≡ true → pick b x y ≡ x
 pick-true true x y e = refl
-pick-true false x y e = absurd (clash false e refl)
+pick-true false x y e = absurd (not-true-and-false false e refl)
 
 pub pick-false : {A : Type 0} (b : Bool) (x y : A) → b ≡ false → pick b x y ≡ y
-pick-false true x y e = absurd (clash true refl e)
+pick-false true x y e = absurd (not-true-and-false true refl e)
 pick-false false x y e = refl
 
 -- every two numbers are in order
@@ -73,7 +73,7 @@ each-of-three p v (suc (suc (suc i))) l = absurd (omega arith)
 pub order-trans : (a b c : ℤ) → leZ a b ≡ true → leZ b c ≡ true → leZ a c ≡ true
 order-trans (pos a) (pos b) (pos c) p q = le-leb a c (le-trans (leb-true a b p) (leb-true b c q))
 order-trans (pos a) (pos b) (negsuc c) p q = q
-order-trans (pos a) (negsuc b) c p q = absurd (clash false p refl)
+order-trans (pos a) (negsuc b) c p q = absurd (not-true-and-false false p refl)
 order-trans (negsuc a) b (pos c) p q = refl
-order-trans (negsuc a) (pos b) (negsuc c) p q = absurd (clash false q refl)
+order-trans (negsuc a) (pos b) (negsuc c) p q = absurd (not-true-and-false false q refl)
 order-trans (negsuc a) (negsuc b) (negsuc c) p q = le-leb c a (le-trans (leb-true c b q) (leb-true b a p))

@@ -163,18 +163,18 @@ rounded-max q r x y u v l =
         le-of-mul-le-mul-left fits (u .positive)
 
 -- the least y with y·d ≥ n is n/d rounded up
-pub times-up : (n d : ℕ) → 0 < d → leastTimes d n ≡ up n d
-times-up n d h = times-unique d n (up n d) h (up-covers n d h) (λ z k. up-least n d z h k)
+pub times-is-up : (n d : ℕ) → 0 < d → leastTimes d n ≡ up n d
+times-is-up n d h = times-unique d n (up n d) h (up-covers n d h) (λ z k. up-least n d z h k)
 
 -- ---- multiples of one number
 
-pub less-multiple : (g a b : ℕ) → a % g ≡ 0 → b % g ≡ 0 → (a - b) % g ≡ 0
-less-multiple g a b e f =
+pub difference-is-multiple : (g a b : ℕ) → a % g ≡ 0 → b % g ≡ 0 → (a - b) % g ≡ 0
+difference-is-multiple g a b e f =
     let z : g * (a / g - b / g) ≡ a - b = omega (arith, mul-sub g (a / g) (b / g), div-add-mod a g, div-add-mod b g) in
     rw (← z) (mul-mod-right g (a / g - b / g))
 
-pub more-multiple : (g a b : ℕ) → a % g ≡ 0 → b % g ≡ 0 → (a + b) % g ≡ 0
-more-multiple g a b e f = add-mod a b g ∙ rw (e, f) (zero-mod g)
+pub sum-is-multiple : (g a b : ℕ) → a % g ≡ 0 → b % g ≡ 0 → (a + b) % g ≡ 0
+sum-is-multiple g a b e f = add-mod a b g ∙ rw (e, f) (zero-mod g)
 
 -- ---- half up: n/d - 1/2 < halfUp ≤ n/d + 1/2, and only it: the nearest, and of two the upper
 

@@ -8,7 +8,7 @@ use native.Mathlib.Omega.{arith}
 use lib.Dec.{leb}
 use borrow.Author.Tests.{leb-true, le-leb, lt-leb}
 use Rattle.paper.specs.Least.{first, least, leastRoot, leastTimes, leastMultiple}
-use Rattle.paper.proofs.Logic.{clash, le-or-lt}
+use Rattle.paper.proofs.Logic.{not-true-and-false, le-or-lt}
 
 -- ---- least
 
@@ -94,7 +94,7 @@ least-unique bound p x l t f = go (le-or-lt x (least bound p)) (eq-or-lt-of-le l
       where
         short : (least bound p ≡ bound) ⊎ (p (least bound p) ≡ true) → ⊥
         short (inl e) = omega arith
-        short (inr h) = clash (p (least bound p)) h (f (least bound p) k)
+        short (inr h) = not-true-and-false (p (least bound p)) h (f (least bound p) k)
 
 -- a test that passes where another does is passed no later
 pub least-monotone : (bound : ℕ) (p q : ℕ → Bool) → ((z : ℕ) → q z ≡ true → p z ≡ true) → least bound p ≤ least bound q
@@ -117,13 +117,14 @@ pub record Between (p : ℕ → Bool) (bound low high : ℕ) : Type 0 where
   pub before : (z : ℕ) → z < low → p z ≡ false
   pub here : high < bound → p high ≡ true
 
-pub between-hit : (p : ℕ → Bool) (bound low high mid : ℕ) → Between p bound low high → low ≤ mid → mid < high
+pub between-below-hit : (p : ℕ → Bool) (bound low high mid : ℕ) → Between p bound low high → low ≤ mid → mid < high
     → p mid ≡ true → Between p bound low mid
-between-hit p bound low high mid s u v e = record { order = u; inside = omega arith; before = s .before; here = λ _. e }
+between-below-hit p bound low high mid s u v e = record
+    { order = u; inside = omega arith; before = s .before; here = λ _. e }
 
-pub between-miss : (p : ℕ → Bool) (bound low high mid : ℕ) → Mono p → Between p bound low high → mid < high
+pub between-above-miss : (p : ℕ → Bool) (bound low high mid : ℕ) → Mono p → Between p bound low high → mid < high
     → p mid ≡ false → Between p bound (mid + 1) high
-between-miss p bound low high mid mono s v e =
+between-above-miss p bound low high mid mono s v e =
     record {
       order = omega arith;
       inside = s .inside;
@@ -133,11 +134,12 @@ between-miss p bound low high mid mono s v e =
     }
   where
     not-before : (z : ℕ) → z ≤ mid → (t : Bool) → p z ≡ t → t ≡ false
-    not-before z l true q = absurd (clash (p mid) (mono z mid l q) e)
+    not-before z l true q = absurd (not-true-and-false (p mid) (mono z mid l q) e)
     not-before z l false q = refl
 
-pub between-one : (p : ℕ → Bool) (bound low high : ℕ) → Between p bound low high → high ≤ low → least bound p ≡ low
-between-one p bound low high s h =
+pub between-one-is-least : (p : ℕ → Bool) (bound low high : ℕ) → Between p bound low high → high ≤ low → least bound p
+    ≡ low
+between-one-is-least p bound low high s h =
     let same : low ≡ high = omega arith in
     least-unique bound p low (omega arith) (λ u. rw same (s .here (omega arith))) (s .before)
 
@@ -196,10 +198,10 @@ times-monotone q n m h l = times-least q n (leastTimes q m) (le-trans l (times-c
 -- ---- the least multiple
 
 -- either every multiple was tried, or what is found passes
-pub multiple-cases : (h bound : ℕ) (p : ℕ → Bool) → (leastMultiple h bound p ≡ bound * h)
+pub multiple-holds-or-is-last : (h bound : ℕ) (p : ℕ → Bool) → (leastMultiple h bound p ≡ bound * h)
     ⊎ (p (leastMultiple h bound p) ≡ true)
 unfolding leastMultiple
-multiple-cases h bound p = go (least-cases bound (λ j. p (j * h)))
+multiple-holds-or-is-last h bound p = go (least-cases bound (λ j. p (j * h)))
   where
     go : (least bound (λ j. p (j * h)) ≡ bound) ⊎ (p (least bound (λ j. p (j * h)) * h) ≡ true)
         → (least bound (λ j. p (j * h)) * h ≡ bound * h) ⊎ (p (least bound (λ j. p (j * h)) * h) ≡ true)
@@ -214,14 +216,14 @@ pub multiple-least : (h bound : ℕ) (p : ℕ → Bool) (j : ℕ) → p (j * h) 
 unfolding leastMultiple
 multiple-least h bound p j t = mul-le-mul-right h (least-least bound (λ j. p (j * h)) j t)
 
-pub multiple-bound : (h bound : ℕ) (p : ℕ → Bool) → leastMultiple h bound p ≤ bound * h
+pub multiple-within-bound : (h bound : ℕ) (p : ℕ → Bool) → leastMultiple h bound p ≤ bound * h
 unfolding leastMultiple
-multiple-bound h bound p = mul-le-mul-right h (least-bound bound (λ j. p (j * h)))
+multiple-within-bound h bound p = mul-le-mul-right h (least-bound bound (λ j. p (j * h)))
 
 -- what is found is a multiple of h
-pub multiple-is : (h bound : ℕ) (p : ℕ → Bool) → (j : ℕ) × (leastMultiple h bound p ≡ j * h)
+pub multiple-is-multiple : (h bound : ℕ) (p : ℕ → Bool) → (j : ℕ) × (leastMultiple h bound p ≡ j * h)
 unfolding leastMultiple
-multiple-is h bound p = (least bound (λ j. p (j * h)), refl)
+multiple-is-multiple h bound p = (least bound (λ j. p (j * h)), refl)
 
 pub multiple-monotone : (h bound : ℕ) (p q : ℕ → Bool) → ((z : ℕ) → q z ≡ true → p z ≡ true)
     → leastMultiple h bound p ≤ leastMultiple h bound q

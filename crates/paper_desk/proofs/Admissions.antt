@@ -19,7 +19,7 @@ use Rattle.paper.specs.Ranges.{within, gridOf, isRate, isLimit, validLimits, no
 use Rattle.paper_desk.specs.Rates.{minimumOf}
 use Rattle.paper.specs.Verdicts.{numberOf, isDone, firstOf, NoneApplies, none, also}
 use Rattle.paper_desk.specs.Desk.{admitted, stands, place, known, fresh, admit, checksOf, admitChecks, acceptedOf, step}
-use Rattle.paper.proofs.Logic.{clash, and-left, and-right, and-both}
+use Rattle.paper.proofs.Logic.{not-true-and-false, and-left, and-right, and-both}
 use Rattle.paper_desk.proofs.Slots.{fresh-empty, stands-written, found-written}
 use Rattle.paper_desk.proofs.Refusals.{none-done, accepted-step, accepted-always}
 
@@ -76,7 +76,7 @@ admitted-sound a v =
 -- its first slot is empty
 first-empty : (t : List Record) → validSlots (length t) ≡ true → fresh t ≡ true → stands t 0 ≡ true
 unfolding validSlots stands place fresh every
-first-empty [] slots f = absurd (clash false slots refl)
+first-empty [] slots f = absurd (not-true-and-false false slots refl)
 first-empty (r ∷ t) slots f =
     let empty : eqb (r .id) 0 ≡ true = and-left (eqb (r .id) 0) _ f in
     rw empty (lt-ltb 0 (suc (length t)) (omega arith))

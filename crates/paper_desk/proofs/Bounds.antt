@@ -17,7 +17,7 @@ use Rattle.paper.specs.Roundings.{up}
 use Rattle.paper_desk.specs.Rates.{weightOf, weighted, replacement, replaces, volatilityOf, leastStep, tentativeAfter, Weighing}
 use Rattle.paper.proofs.Logic.{le-or-lt}
 use Rattle.paper.proofs.Search.{root-least, times-least, least-unique}
-use Rattle.paper.proofs.Roundings.{up-covers, up-least, quotient-low, less-multiple}
+use Rattle.paper.proofs.Roundings.{up-covers, up-least, quotient-low, difference-is-multiple}
 use Rattle.paper_desk.proofs.Volatility.{weight-most}
 
 -- ---- the volatility
@@ -123,7 +123,7 @@ tentative-multiple h wait t old p q = go (leb (old .bp + h) t) (leb (t + h) (old
   where
     go : (rise fall : Bool) → after h t old rise fall .bp % h ≡ 0
     go true fall = p
-    go false true = less-multiple h (old .bp) h q (mod-self h)
+    go false true = difference-is-multiple h (old .bp) h q (mod-self h)
     go false false = q
 
 -- the age is held, whatever it was

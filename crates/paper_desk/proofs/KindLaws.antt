@@ -21,7 +21,7 @@ use Rattle.paper.specs.Roundings.{Quotient, rounded, mirrored, roundedZ, atLeas
 use Rattle.paper.specs.Ranges.{gridOf}
 use Rattle.paper_desk.specs.Limits.{inward, Kind, share, bond, limitOf, grownPrice, bondLimitOf, limitFor, shifted, farthest, growing, farthestFor, monitored, narrower, narrowerOf, bandBefore, bandLimitFor}
 use Rattle.paper.proofs.Logic.{le-or-lt, pick-true, pick-false}
-use Rattle.paper.proofs.Differences.{difference-up, difference-down, difference-times}
+use Rattle.paper.proofs.Differences.{difference-is-pos, difference-is-negsuc, difference-times}
 use Rattle.paper.proofs.Roundings.{rounded-le, rounded-monotone, grid-monotone, KeepsOrder, lesser-rounded, greater-rounded}
 
 -- ---- a share's grid
@@ -47,10 +47,10 @@ rounded-part way a b d p = go (le-or-lt b a)
     never (suc n) = refl
 
     go : (b ≤ a) ⊎ (a < b) → atLeastZero (roundedZ way (subℕ a b) d) ≡ rounded way (a - b) d
-    go (inl h) = ap (λ (z : ℤ). atLeastZero (roundedZ way z d)) (difference-up a b h)
+    go (inl h) = ap (λ (z : ℤ). atLeastZero (roundedZ way z d)) (difference-is-pos a b h)
     go (inr h) =
         let nothing : a - b ≤ 0 * d = omega arith in
-        ap (λ (z : ℤ). atLeastZero (roundedZ way z d)) (difference-down a b h)
+        ap (λ (z : ℤ). atLeastZero (roundedZ way z d)) (difference-is-negsuc a b h)
         ∙ never (mirrored way (suc (b - suc a)) d)
         ∙ omega (arith, rounded-le way (a - b) d 0 p nothing)
 

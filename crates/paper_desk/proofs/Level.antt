@@ -16,8 +16,8 @@ use Rattle.paper.specs.Roundings.{Quotient}
 use Rattle.paper.specs.Least.{leastMultiple}
 use Rattle.paper.specs.Ranges.{validStatics}
 use Rattle.paper_desk.specs.Rates.{meetsRequirement, daysOf, minimumOf, covers, levelRate, AtLeastRoots, volatilePart, liquidPart, AtLeastRequired, HeldLeast}
-use Rattle.paper.proofs.Logic.{clash, and-left, and-right, and-both, le-or-lt, pick-true, pick-false}
-use Rattle.paper.proofs.Search.{Mono, multiple-holds, multiple-least, multiple-bound, multiple-is}
+use Rattle.paper.proofs.Logic.{not-true-and-false, and-left, and-right, and-both, le-or-lt, pick-true, pick-false}
+use Rattle.paper.proofs.Search.{Mono, multiple-holds, multiple-least, multiple-within-bound, multiple-is-multiple}
 use Rattle.paper_desk.proofs.Roots.{roots-covered, Floor, floor-root, no-room-over-sum, no-room-over-cross}
 
 -- ---- the comparison, without signs
@@ -220,11 +220,11 @@ level-rate-compared st level m tentative v = go (covers st tentative m level (st
         let at-most : enough (st .smax / st .h * st .h) ≡ true =
         rw most (and-both _ _ (le-leb (minimumOf st level) (st .smax) (k .low)) e) in
         let holds : enough searched ≡ true = multiple-holds (st .h) (st .smax / st .h) enough at-most in
-        let is = multiple-is (st .h) (st .smax / st .h) enough in
+        let is = multiple-is-multiple (st .h) (st .smax / st .h) enough in
         record {
           multiple = rw (is .1) (mul-mod-left (is .0) (st .h));
           low = leb-true (minimumOf st level) searched (and-left (leb (minimumOf st level) searched) _ holds);
-          held = omega (arith, multiple-bound (st .h) (st .smax / st .h) enough, most);
+          held = omega (arith, multiple-within-bound (st .h) (st .smax / st .h) enough, most);
           covers-or-held = inl (and-right (leb (minimumOf st level) searched) _ holds);
           least = λ j l c. multiple-least (st .h) (st .smax / st .h) enough j
               (and-both _ _ (le-leb (minimumOf st level) (j * st .h) l) c);
@@ -234,7 +234,7 @@ level-rate-compared st level m tentative v = go (covers st tentative m level (st
           multiple = k .multiple;
           low = k .low;
           held = omega arith;
-          covers-or-held = inr (refl, λ c. clash (covers st tentative m level (st .smax)) c e);
+          covers-or-held = inr (refl, λ c. not-true-and-false (covers st tentative m level (st .smax)) c e);
           least = λ j l c. over j c (le-or-lt (st .smax) (j * st .h));
         }
       where
@@ -242,7 +242,7 @@ level-rate-compared st level m tentative v = go (covers st tentative m level (st
             → (st .smax ≤ j * st .h) ⊎ (j * st .h < st .smax) → st .smax ≤ j * st .h
         over j c (inl l) = l
         over j c (inr l) =
-            absurd (clash (covers st tentative m level (st .smax))
+            absurd (not-true-and-false (covers st tentative m level (st .smax))
             (covers-more st level m tentative (j * st .h) (st .smax) (omega arith) c) e)
 
 -- what is covered exactly where something else is may stand for it

@@ -21,7 +21,7 @@ use Rattle.paper.specs.Roundings.{Quotient, rounded, roundedTo, grown}
 use Rattle.paper.specs.Ranges.{gridOf, isLimit, validLimits, validStatics, validTerm}
 use Rattle.paper_desk.specs.Limits.{limitOf, inward, shifted, rangeLimit, rangeOf, farthest, spread, monitored, narrower, narrowerOf, share, bandLimit, bandOf, deltaOf}
 use Rattle.paper_desk.specs.Kept.{freshMost, deltaMost}
-use Rattle.paper.proofs.Logic.{clash, and-left, and-right, and-both, order-trans}
+use Rattle.paper.proofs.Logic.{not-true-and-false, and-left, and-right, and-both, order-trans}
 use Rattle.paper.proofs.Roundings.{rounded-le}
 pub use Rattle.paper_desk.proofs.KindLaws.{grid-range}
 use Rattle.paper_desk.proofs.KindLaws.{narrower-rounded, monitored-positive}

@@ -19,33 +19,33 @@ use Rattle.paper.specs.declared.Verdict.the-variants.{Done, NoSuchId, AlreadyAd
 use Rattle.paper.specs.Lists.{pick, every}
 use Rattle.paper.specs.Verdicts.{numberOf, isDone, Naming, Check, firstNamed, firstOf, FirstAt, here, later, NoneApplies, none, also}
 use Rattle.paper_desk.specs.Desk.{Call, admit, evaluate, quote, move, read, openEvening, receive, admitChecks, evaluateChecks, quoteChecks, moveChecks, readChecks, openChecks, receiveChecks, checksOf, Outcome, saying, showing, alerting, alertsOn, judged, acceptedOf, step}
-use Rattle.paper.proofs.Logic.{clash, and-left, and-right, pick-true, pick-false}
+use Rattle.paper.proofs.Logic.{not-true-and-false, and-left, and-right, pick-true, pick-false}
 
 -- ---- the first check that applies
 
 pub done-is : (v : Verdict) → isDone v ≡ true → v ≡ Done
 unfolding isDone
 done-is Done e = refl
-done-is NoSuchId e = absurd (clash false e refl)
-done-is AlreadyAdmitted e = absurd (clash false e refl)
-done-is NoEmptySlot e = absurd (clash false e refl)
-done-is AdmissionOutOfRange e = absurd (clash false e refl)
-done-is DayNotAfter e = absurd (clash false e refl)
-done-is OutOfRange e = absurd (clash false e refl)
-done-is PriceOutOfRange e = absurd (clash false e refl)
-done-is MoveTooLarge e = absurd (clash false e refl)
-done-is BandCrossed e = absurd (clash false e refl)
-done-is NotLive e = absurd (clash false e refl)
-done-is NotMonitored e = absurd (clash false e refl)
-done-is MovesUsedUp e = absurd (clash false e refl)
-done-is SecondEarlier e = absurd (clash false e refl)
-done-is NotAscending e = absurd (clash false e refl)
-done-is BadLine e = absurd (clash false e refl)
-done-is RowCrossed e = absurd (clash false e refl)
-done-is NoFaceValue e = absurd (clash false e refl)
-done-is NoEveningMove e = absurd (clash false e refl)
-done-is OpenedTwice e = absurd (clash false e refl)
-done-is BadFloat e = absurd (clash false e refl)
+done-is NoSuchId e = absurd (not-true-and-false false e refl)
+done-is AlreadyAdmitted e = absurd (not-true-and-false false e refl)
+done-is NoEmptySlot e = absurd (not-true-and-false false e refl)
+done-is AdmissionOutOfRange e = absurd (not-true-and-false false e refl)
+done-is DayNotAfter e = absurd (not-true-and-false false e refl)
+done-is OutOfRange e = absurd (not-true-and-false false e refl)
+done-is PriceOutOfRange e = absurd (not-true-and-false false e refl)
+done-is MoveTooLarge e = absurd (not-true-and-false false e refl)
+done-is BandCrossed e = absurd (not-true-and-false false e refl)
+done-is NotLive e = absurd (not-true-and-false false e refl)
+done-is NotMonitored e = absurd (not-true-and-false false e refl)
+done-is MovesUsedUp e = absurd (not-true-and-false false e refl)
+done-is SecondEarlier e = absurd (not-true-and-false false e refl)
+done-is NotAscending e = absurd (not-true-and-false false e refl)
+done-is BadLine e = absurd (not-true-and-false false e refl)
+done-is RowCrossed e = absurd (not-true-and-false false e refl)
+done-is NoFaceValue e = absurd (not-true-and-false false e refl)
+done-is NoEveningMove e = absurd (not-true-and-false false e refl)
+done-is OpenedTwice e = absurd (not-true-and-false false e refl)
+done-is BadFloat e = absurd (not-true-and-false false e refl)
 
 -- what is named is what the first that applies names; or none applies, and it is what stands otherwise
 pub named-is : {A : Type 0} (otherwise : A) (cs : List (Naming A)) (v : A) → firstNamed otherwise cs ≡ v
@@ -74,7 +74,7 @@ none-named otherwise (c ∷ cs) (also q rest) = rw q (none-named otherwise cs re
 pub first-is : (cs : List Check) (v : Verdict) → isDone v ≡ false → firstOf cs ≡ v → FirstAt v cs
 unfolding firstOf isDone
 first-is cs v n e =
-    ⊎-elim (λ f. f) (λ o. absurd (clash (isDone Done) refl (ap isDone (o .0) ∙ n))) (named-is Done cs v e)
+    ⊎-elim (λ f. f) (λ o. absurd (not-true-and-false (isDone Done) refl (ap isDone (o .0) ∙ n))) (named-is Done cs v e)
 
 -- and wherever it is
 pub is-first : (cs : List Check) (v : Verdict) → FirstAt v cs → firstOf cs ≡ v
@@ -94,7 +94,7 @@ done-none (c ∷ cs) r e = go (c .applies) refl e (done-none cs (and-right (not 
     go : (b : Bool) → c .applies ≡ b → isDone (pick b (c .verdict) (firstOf cs)) ≡ true
         → (isDone (firstOf cs) ≡ true → NoneApplies cs) → NoneApplies (c ∷ cs)
     go true q w rest =
-        absurd (clash (not (isDone (c .verdict))) (and-left (not (isDone (c .verdict))) _ r) (ap not w))
+        absurd (not-true-and-false (not (isDone (c .verdict))) (and-left (not (isDone (c .verdict))) _ r) (ap not w))
     go false q w rest = also q (rest w)
 
 pub none-done : (cs : List Check) → NoneApplies cs → firstOf cs ≡ Done

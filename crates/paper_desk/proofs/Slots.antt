@@ -13,12 +13,12 @@ use Rattle.paper.specs.declared.Record.{Record}
 use Rattle.paper.specs.Lists.{pick, every}
 use Rattle.paper.specs.Ranges.{validSlots, sound}
 use Rattle.paper_desk.specs.Desk.{blank, place, stands, found, known, fresh}
-use Rattle.paper.proofs.Logic.{clash, and-left, and-right}
+use Rattle.paper.proofs.Logic.{not-true-and-false, and-left, and-right}
 
 -- what is found has the id
 pub found-id : (t : List Record) (id : ℕ) → stands t id ≡ true → found t id .id ≡ id
 unfolding stands found place
-found-id [] id e = absurd (clash false e refl)
+found-id [] id e = absurd (not-true-and-false false e refl)
 found-id (r ∷ t) id e = go (eqb (r .id) id) refl (ltb-true _ _ e) (λ k. found-id t id (lt-ltb _ _ k))
   where
     go : (b : Bool) → eqb (r .id) id ≡ b → pick b 0 (suc (place t id)) < suc (length t)
@@ -69,7 +69,7 @@ module _ (i : ℕ) (x : Record) where
   pub place-written : (t : List Record) → stands t i ≡ true → ((x .id ≡ i → ⊥) → stands t (x .id) ≡ false)
       → place (set t (place t i) x) (x .id) ≡ place t i
   unfolding stands place
-  place-written [] e f = absurd (clash false e refl)
+  place-written [] e f = absurd (not-true-and-false false e refl)
   place-written (r ∷ t) e f = go (eqb (r .id) i) refl (ltb-true _ _ e)
       (λ l g. place-written t (lt-ltb _ _ l) g)
     where
@@ -87,7 +87,7 @@ module _ (i : ℕ) (x : Record) where
           differs w =
               let here : eqb (r .id) (x .id) ≡ true = eq-eqb (r .id) (x .id) w in
               let same : x .id ≡ i → ⊥ = λ v. eqb-false (r .id) i q (w ∙ v) in
-              clash (ltb (pick (eqb (r .id) (x .id)) 0 (suc (place t (x .id)))) (suc (length t)))
+              not-true-and-false (ltb (pick (eqb (r .id) (x .id)) 0 (suc (place t (x .id)))) (suc (length t)))
               (rw here (lt-ltb 0 (suc (length t)) (omega arith))) (f same)
 
           gone : (x .id ≡ i → ⊥) → ltb (place t (x .id)) (length t) ≡ false

@@ -8,7 +8,7 @@ use lib.Dec.{leb}
 use borrow.Author.Tests.{leb-true, le-leb}
 use Rattle.paper.specs.Least.{least, leastMultiple}
 use Rattle.paper_desk.specs.Rates.{leastStep, IsLeastStep}
-use Rattle.paper.proofs.Search.{multiple-holds, multiple-least, multiple-is}
+use Rattle.paper.proofs.Search.{multiple-holds, multiple-least, multiple-is-multiple}
 
 -- the least step is what its name says, for every factor w
 pub step-is : (h w n : ℕ) → 0 < h → 0 < w → IsLeastStep h w n (leastStep h w n)
@@ -24,7 +24,7 @@ step-is h w n p q =
     covers t = leb n (w * t)
 
     is : (j : ℕ) × (leastMultiple h n covers ≡ j * h)
-    is = multiple-is h n covers
+    is = multiple-is-multiple h n covers
 
     -- the last multiple tried is enough, since w and h are at least 1
     last : n ≤ w * (n * h)

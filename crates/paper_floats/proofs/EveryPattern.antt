@@ -18,7 +18,7 @@ use Rattle.paper.specs.declared.MadePrice.{MadePrice}
 use Rattle.paper.specs.declared.MadePrice.the-variants.{Made, OutOfRange}
 use Rattle.paper.specs.Lists.{pick}
 use Rattle.paper.specs.Ranges.{isPrice, priceMade}
-use Rattle.paper.proofs.Logic.{clash, and-left, and-right, and-both}
+use Rattle.paper.proofs.Logic.{not-true-and-false, and-left, and-right, and-both}
 use Rattle.paper.proofs.Roundings.{rounded-is, rounded-unique}
 use Rattle.paper_floats.specs.Floats.{signBit, sign, significand, power, exactValue, isFinite, isAboveZero, inTenThousandths, unitsOf, priceOfBits, priceOf, RightUnits, RightPrice}
 use Rattle.paper_floats.proofs.ExactValues.{exact-value}
@@ -48,9 +48,9 @@ bits-right bits = go (isFinite bits && isAboveZero bits) (isPrice (unitsOf (exac
           nearest = rounded-is HalfUp (inTenThousandths (exactValue bits) .num) (exactValue bits .den) (scale-pos bits);
           in-range = i;
         }
-    go true false f i = λ units r. clash (isPrice units) (r .in-range) (rw (units-are bits units r) i)
+    go true false f i = λ units r. not-true-and-false (isPrice units) (r .in-range) (rw (units-are bits units r) i)
     go false u f i =
-        λ units r. clash (isFinite bits && isAboveZero bits)
+        λ units r. not-true-and-false (isFinite bits && isAboveZero bits)
         (and-both (isFinite bits) (isAboveZero bits) (r .finite) (r .above-zero)) f
 
 -- ---- and so for the float of every pattern
@@ -58,8 +58,8 @@ bits-right bits = go (isFinite bits && isAboveZero bits) (isPrice (unitsOf (exac
 is-nan : (x : Float) → isNan x ≡ true → x ≡ nan
 unfolding isNan
 is-nan nan h = refl
-is-nan (inf s) h = absurd (clash false h refl)
-is-nan (fin s m e) h = absurd (clash false h refl)
+is-nan (inf s) h = absurd (not-true-and-false false h refl)
+is-nan (fin s m e) h = absurd (not-true-and-false false h refl)
 
 no-number : (bits : ℕ) → isNan (ofBits binary64 bits) ≡ true → (t : Bool) → isFinite bits ≡ t → isFinite bits ≡ false
 no-number bits h true f =

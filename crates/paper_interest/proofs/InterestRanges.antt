@@ -20,8 +20,8 @@ use Rattle.paper.specs.Ranges.{withinZ, unsigned}
 use Rattle.paper.specs.Roundings.{atLeastZero}
 use Rattle.paper_interest.specs.Interest.{LentKey, validKey, maturityOf, validInterest, apartZ, changeOf, repoVolatility, repoTentativeRate, repoTentative, estimate, upward, downward, maturityFigures, wholeKeys, validKeys, keysOf, maturitiesOf, noFigures, InterestRange, KeyRange, FiguresHeld, estimateMost}
 use Rattle.paper_interest.specs.InterestExact.{carriedFrom, keyGiven}
-use Rattle.paper.proofs.Logic.{clash, and-left, and-right, and-both}
-use Rattle.paper.proofs.Differences.{sum-size, minus-size}
+use Rattle.paper.proofs.Logic.{not-true-and-false, and-left, and-right, and-both}
+use Rattle.paper.proofs.Differences.{sum-size-within, minus-size-within}
 use Rattle.paper_desk.proofs.Bounds.{volatility-high, step-short, tentative-held, age-held}
 
 -- ---- each figure
@@ -31,7 +31,7 @@ pub change-high : (k : Maturity) → natAbs (k .r) ≤ natAbs repoMost → natAb
     → natAbs (k .r2) ≤ natAbs repoMost
     → changeOf k ≤ repoVolatilityMost
 unfolding changeOf apartZ
-change-high k r r1 r2 = omega (arith, minus-size (k .r) (k .r1), minus-size (k .r) (k .r2))
+change-high k r r1 r2 = omega (arith, minus-size-within (k .r) (k .r1), minus-size-within (k .r) (k .r2))
 
 pub repo-volatility-high : (i : Interest) (k : Maturity) → Weighing (i .model) → k .volatility ≤ repoVolatilityMost
     → changeOf k ≤ repoVolatilityMost
@@ -87,7 +87,7 @@ pub downward-high : (i : Interest) (k : Maturity) → 0 < i .h → i .h ≤ step
 unfolding downward
 downward-high i k p h t liq m x r =
     estimate-high i k ((k .index -ℤ k .r) +ℤ pos (i .sec)) p h t liq
-    (omega (arith, sum-size (k .index -ℤ k .r) (pos (i .sec)), minus-size (k .index) (k .r)))
+    (omega (arith, sum-size-within (k .index -ℤ k .r) (pos (i .sec)), minus-size-within (k .index) (k .r)))
 
 -- ---- what is in range
 
@@ -100,7 +100,7 @@ repo-size-high (negsuc n) v = omega (arith, leb-true n 9998 (and-left (leb n 999
 pub unsigned-high : (x : ℤ) (most : ℕ) → withinZ (pos 0) (pos most) x ≡ true → unsigned x ≤ most
 unfolding unsigned
 unsigned-high (pos n) most v = leb-true n most (and-right (leb 0 n) _ v)
-unsigned-high (negsuc n) most v = absurd (clash false v refl)
+unsigned-high (negsuc n) most v = absurd (not-true-and-false false v refl)
 
 unsigned-within : (n most : ℕ) → n ≤ most → withinZ (pos 0) (pos most) (pos n) ≡ true
 unsigned-within n most h = and-both _ _ (le-leb 0 n (omega arith)) (le-leb n most h)

@@ -11,25 +11,25 @@ use borrow.Author.Tests.{le-ltb, lt-ltb}
 use mathlib.Core.Bool.{true, false}
 use Rattle.paper.specs.Roundings.{halfUp, halfDown, halfUpZ, grown, atLeastZero}
 use Rattle.paper.proofs.Logic.{le-or-lt}
-use Rattle.paper.proofs.Differences.{difference-up, difference-down, difference-same, difference-times, difference-order, difference-plus, difference-whole, negated-is}
+use Rattle.paper.proofs.Differences.{difference-is-pos, difference-is-negsuc, differences-equal, difference-times, difference-order, difference-plus, whole-is-difference, negated-is}
 use Rattle.paper.proofs.Roundings.{quotient-low, quotient-high, half-low, half-high, half-unique}
 
 -- a rate is what its base with it is above the base
 pub lifted-is : (base : ℕ) (x : ℤ) → natAbs x ≤ base → x ≡ subℕ (grown base 1 x) base
 unfolding grown
 lifted-is base (pos n) h = let same : n ≡ base + 1 * n - base = omega arith in ap pos same
-    ∙ sym (difference-up (base + 1 * n) base (omega arith))
+    ∙ sym (difference-is-pos (base + 1 * n) base (omega arith))
 lifted-is base (negsuc n) h =
     let same : n ≡ base - suc (base - 1 * suc n) = omega arith in
-    ap negsuc same ∙ sym (difference-down (base - 1 * suc n) base (omega arith))
+    ap negsuc same ∙ sym (difference-is-negsuc (base - 1 * suc n) base (omega arith))
 
 -- of a difference, no less than 0
-pub difference-part : (a b : ℕ) → atLeastZero (subℕ a b) ≡ a - b
-difference-part a b = go (le-or-lt b a)
+pub difference-at-least-zero : (a b : ℕ) → atLeastZero (subℕ a b) ≡ a - b
+difference-at-least-zero a b = go (le-or-lt b a)
   where
     go : (b ≤ a) ⊎ (a < b) → atLeastZero (subℕ a b) ≡ a - b
-    go (inl h) = ap atLeastZero (difference-up a b h)
-    go (inr h) = ap atLeastZero (difference-down a b h) ∙ omega arith
+    go (inl h) = ap atLeastZero (difference-is-pos a b h)
+    go (inr h) = ap atLeastZero (difference-is-negsuc a b h) ∙ omega arith
 
 -- half down: n/d - 1/2 ≤ halfDown < n/d + 1/2
 down-low : (n d : ℕ) → 0 < d → halfDown n d * (2 * d) ≤ 2 * n + (d - 1)
@@ -51,13 +51,13 @@ half-shifts n d k h = go (le-or-lt (k * d) n)
         let parts : n ≡ k * d + m = omega arith in
         let same : k + halfUp m d ≡ halfUp n d =
         half-unique n d (k + halfUp m d) h (omega (arith, half-low m d h)) (omega (arith, half-high m d h)) in
-        ap (λ (z : ℤ). halfUpZ z d) (difference-up n (k * d) l)
-        ∙ difference-whole (halfUp m d)
-        ∙ difference-same (halfUp m d) 0 (halfUp n d) k (omega arith)
+        ap (λ (z : ℤ). halfUpZ z d) (difference-is-pos n (k * d) l)
+        ∙ whole-is-difference (halfUp m d)
+        ∙ differences-equal (halfUp m d) 0 (halfUp n d) k (omega arith)
     go (inr l) =
-        ap (λ (z : ℤ). halfUpZ z d) (difference-down n (k * d) l)
+        ap (λ (z : ℤ). halfUpZ z d) (difference-is-negsuc n (k * d) l)
         ∙ negated-is q
-        ∙ difference-same 0 q (halfUp n d) k (omega (arith, below, same))
+        ∙ differences-equal 0 q (halfUp n d) k (omega (arith, below, same))
       where
         m : ℕ
         m = suc (k * d - suc n)
@@ -93,7 +93,7 @@ half-nearest n d w = (
   rw (twice, rounded, difference-times (2 * d) h k)
       (difference-order (2 * a + d) (2 * (k * d) + 0) (2 * d * h) (2 * d * k)
       ∙ le-ltb (2 * a + d + 2 * d * k) (2 * d * h + (2 * (k * d) + 0)) (omega (arith, half-low a d w))),
-  rw (twice, rounded, difference-whole 1, difference-plus h k 1 0, difference-times (2 * d) (h + 1) (k + 0))
+  rw (twice, rounded, whole-is-difference 1, difference-plus h k 1 0, difference-times (2 * d) (h + 1) (k + 0))
       (difference-order (2 * a + d) (2 * (k * d) + 0) (2 * d * (h + 1)) (2 * d * (k + 0))
       ∙ lt-ltb (2 * a + d + 2 * d * (k + 0)) (2 * d * (h + 1) + (2 * (k * d) + 0))
       (omega (arith, half-high a d w))),
@@ -119,5 +119,5 @@ half-nearest n d w = (
     twice =
         ap (λ (z : ℤ). (pos 2 *ℤ z) +ℤ pos d) is
         ∙ ap (λ (z : ℤ). z +ℤ pos d) (difference-times 2 a (k * d))
-        ∙ ap (λ (z : ℤ). subℕ (2 * a) (2 * (k * d)) +ℤ z) (difference-whole d)
+        ∙ ap (λ (z : ℤ). subℕ (2 * a) (2 * (k * d)) +ℤ z) (whole-is-difference d)
         ∙ difference-plus (2 * a) (2 * (k * d)) d 0

@@ -19,7 +19,7 @@ use Rattle.paper.specs.Roundings.{toGrid}
 use Rattle.paper.specs.Ranges.{validStatics}
 use Rattle.paper_desk.specs.Evaluation.{roublesOf, closeOf, bidOf, askOf, evaluationOf}
 use Rattle.paper_desk.specs.Rates.{weightOf, weighted, replacement, replacementWins, volatilityOf, tentativeAfter, minimumOf, covers, levelRate}
-use Rattle.paper.proofs.Logic.{clash, and-right, and-both}
+use Rattle.paper.proofs.Logic.{not-true-and-false, and-right, and-both}
 use Rattle.paper_reasons.specs.declared.PriceReason.{PriceReason}
 use Rattle.paper_reasons.specs.declared.PriceReason.the-variants as price
 use Rattle.paper_reasons.specs.declared.WeightReason.the-variants as weight
@@ -36,7 +36,7 @@ use Rattle.paper_reasons.proofs.Levels.{level-named}
 set-by : (previous : ℕ) (used : External) (rs : List Roubles) (x : PriceReason) → priceSetBy previous used rs x ≡ true
     → beforeGrid previous used rs ≡ priceFigure previous used rs x
 unfolding priceSetBy priceFigure
-set-by previous used rs price.None e = absurd (clash false e refl)
+set-by previous used rs price.None e = absurd (not-true-and-false false e refl)
 set-by previous used rs price.Close e = eqb-true _ _ (and-right (isTraded rs) _ e)
 set-by previous used rs price.Bid e = eqb-true _ _ (and-right (ltb 0 (bidOf used rs)) _ e)
 set-by previous used rs price.Ask e = eqb-true _ _ (and-right (ltb 0 (askOf used rs)) _ e)
@@ -109,7 +109,7 @@ module _ (st : Statics) (ewma : st .ewma ≡ true) where
 level-set-by : (st : Statics) (l m t rate : ℕ) (x : LevelReason) → levelSetBy st t m l rate x ≡ true
     → rate ≡ levelFigure st t m l x
 unfolding levelSetBy levelFigure
-level-set-by st l m t rate level.None e = absurd (clash false e refl)
+level-set-by st l m t rate level.None e = absurd (not-true-and-false false e refl)
 level-set-by st l m t rate level.Requirement e = eqb-true _ _ (and-right (covers st t m l (st .smax)) _ e)
 level-set-by st l m t rate level.Minimum e = eqb-true _ _ e
 level-set-by st l m t rate level.Maximum e = eqb-true _ _ e

@@ -13,8 +13,8 @@ use Rattle.paper.specs.Lists.{pick}
 use Rattle.paper.specs.Ranges.{validStatics}
 use Rattle.paper_desk.specs.Rates.{daysOf, minimumOf, covers, levelRate, AtLeastRequired, HeldLeast}
 use Rattle.paper.specs.Verdicts.{NoneApplies, none, also}
-use Rattle.paper.proofs.Logic.{clash, and-left, and-right, and-both, le-or-lt, pick-true, pick-false}
-use Rattle.paper.proofs.Search.{multiple-holds, multiple-least, multiple-is}
+use Rattle.paper.proofs.Logic.{not-true-and-false, and-left, and-right, and-both, le-or-lt, pick-true, pick-false}
+use Rattle.paper.proofs.Search.{multiple-holds, multiple-least, multiple-is-multiple}
 use Rattle.paper_desk.proofs.Level.{covers-more, meets-real, real-meets, quotient-times-is, level-rate-is}
 use Rattle.paper_reasons.specs.declared.LevelReason.the-variants as level
 use Rattle.paper_reasons.specs.Reasons.{inOrder, firstThatHolds, requirementStep, levelSetBy, levelReasons, levelReason}
@@ -97,7 +97,7 @@ module _ (st : Statics) (l m t : ℕ) (v : validStatics st ≡ true) where
 
   step-whole : (j : ℕ) × (requirementStep st t m l ≡ j * st .h)
   unfolding requirementStep
-  step-whole = multiple-is (st .h) (st .smax / st .h) (λ w. covers st t m l w)
+  step-whole = multiple-is-multiple (st .h) (st .smax / st .h) (λ w. covers st t m l w)
 
   -- a step that is not below the minimum is the rate
   step-is-rate : covers st t m l (st .smax) ≡ true → minimumOf st l ≤ requirementStep st t m l
@@ -129,12 +129,12 @@ module _ (st : Statics) (l m t : ℕ) (v : validStatics st ≡ true) where
     where
       set : covers st t m l (st .smax) ≡ true
           → (minimumOf st l ≤ requirementStep st t m l) ⊎ (requirementStep st t m l < minimumOf st l) → ⊥
-      set e (inl low) = clash _ (and-both _ _ e (eq-eqb _ _ (step-is-rate e low))) a
-      set e (inr short) = clash _ (eq-eqb _ _ (minimum-is-rate e short)) b
+      set e (inl low) = not-true-and-false _ (and-both _ _ e (eq-eqb _ _ (step-is-rate e low))) a
+      set e (inr short) = not-true-and-false _ (eq-eqb _ _ (minimum-is-rate e short)) b
 
       go : (covered : Bool) → covers st t m l (st .smax) ≡ covered → ⊥
       go true e = set e (le-or-lt (minimumOf st l) (requirementStep st t m l))
-      go false e = clash _ (eq-eqb _ _ (most-is-rate e)) c
+      go false e = not-true-and-false _ (eq-eqb _ _ (most-is-rate e)) c
 
   pub level-named : st .ewma ≡ true
       → TrueReason (levelSetBy st t m l (levelRate st t m l)) levelReasons (levelReason st t m l (levelRate st t m l))
@@ -166,7 +166,7 @@ module _ (st : Statics) (l m t : ℕ) (v : validStatics st ≡ true) where
     where
       go : (b : Bool) → covers st t m l (st .smax) ≡ b
           → (b && eqb (levelRate st t m l) (requirementStep st t m l)) ≡ false
-      go true e = absurd (clash _ (rate-covers e) n)
+      go true e = absurd (not-true-and-false _ (rate-covers e) n)
       go false e = refl
 
   module _ (covered : covers st t m l (levelRate st t m l) ≡ true) where
@@ -211,4 +211,4 @@ module _ (st : Statics) (l m t : ℕ) (v : validStatics st ≡ true) where
                 → eqb (levelRate st t m l) (requirementStep st t m l) ≡ true
             same (inl k) = eq-eqb _ _ (le-antisymm k step-below)
             same (inr k) =
-                absurd (clash _ (covers-more st l m t _ _ (apart k) (step-covers most-covers)) e)
+                absurd (not-true-and-false _ (covers-more st l m t _ _ (apart k) (step-covers most-covers)) e)

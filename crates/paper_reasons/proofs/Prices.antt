@@ -13,7 +13,7 @@ use Rattle.paper.specs.declared.Roubles.{Roubles}
 use Rattle.paper.specs.Lists.{pick, some, those}
 use Rattle.paper_desk.specs.Evaluation.{traded, mean, closeOf, bidOf, askOf, median, between}
 use Rattle.paper.specs.Verdicts.{NoneApplies, none, also}
-use Rattle.paper.proofs.Logic.{clash, and-left, and-right, and-both, le-or-lt}
+use Rattle.paper.proofs.Logic.{not-true-and-false, and-left, and-right, and-both, le-or-lt}
 use Rattle.paper_reasons.specs.declared.PriceReason.{PriceReason}
 use Rattle.paper_reasons.specs.declared.PriceReason.the-variants as price
 use Rattle.paper_reasons.specs.Reasons.{inOrder, isTraded, beforeGrid, priceSetBy, priceReasons, priceReason}
@@ -27,7 +27,7 @@ untraded (r ∷ rs) e = go (ltb 0 (r .weight)) e (untraded rs)
   where
     go : (b : Bool) → (b || isTraded rs) ≡ false → (isTraded rs ≡ false → traded rs ≡ [])
         → pick b (r ∷ traded rs) (traded rs) ≡ []
-    go true e rest = absurd (clash true refl e)
+    go true e rest = absurd (not-true-and-false true refl e)
     go false e rest = rest e
 
 -- "With no such row it is the previous evaluation."
@@ -79,10 +79,11 @@ module _ (previous : ℕ) (used : External) (rs : List Roubles) where
           ⊎ (((0 < bidOf used rs) × (beforeGrid previous used rs ≡ bidOf used rs))
           ⊎ ((0 < askOf used rs) × (beforeGrid previous used rs ≡ askOf used rs)))
           → (t : Bool) → isTraded rs ≡ t → ⊥
-      go (inl e) true t = clash _ (and-both _ _ t (eq-eqb _ _ e)) a
-      go (inl e) false t = clash _ (and-both _ _ (ap not t) (eq-eqb _ _ (e ∙ close-untraded previous rs t))) d
-      go (inr (inl (l, e))) t q = clash _ (and-both _ _ (lt-ltb _ _ l) (eq-eqb _ _ e)) b
-      go (inr (inr (l, e))) t q = clash _ (and-both _ _ (lt-ltb _ _ l) (eq-eqb _ _ e)) c
+      go (inl e) true t = not-true-and-false _ (and-both _ _ t (eq-eqb _ _ e)) a
+      go (inl e) false t = not-true-and-false _ (and-both _ _ (ap not t)
+          (eq-eqb _ _ (e ∙ close-untraded previous rs t))) d
+      go (inr (inl (l, e))) t q = not-true-and-false _ (and-both _ _ (lt-ltb _ _ l) (eq-eqb _ _ e)) b
+      go (inr (inr (l, e))) t q = not-true-and-false _ (and-both _ _ (lt-ltb _ _ l) (eq-eqb _ _ e)) c
 
   pub price-named : TrueReason (priceSetBy previous used rs) priceReasons (priceReason previous used rs)
   unfolding priceReason

@@ -9,7 +9,7 @@ use borrow.Author.Tests.{le-leb, lt-ltb}
 use Rattle.paper.specs.declared.Statics.{Statics}
 use Rattle.paper.specs.declared.Tentative.{Tentative}
 use Rattle.paper.specs.Verdicts.{NoneApplies, none, also}
-use Rattle.paper.proofs.Logic.{clash, and-both, le-or-lt, pick-true}
+use Rattle.paper.proofs.Logic.{not-true-and-false, and-both, le-or-lt, pick-true}
 use Rattle.paper_reasons.specs.declared.WeightReason.the-variants as weight
 use Rattle.paper_reasons.specs.declared.ReplacementReason.the-variants as replacement
 use Rattle.paper_reasons.specs.declared.TentativeReason.the-variants as tentative
@@ -26,8 +26,8 @@ module _ (st : Statics) (ewma : st .ewma ≡ true) where
       some (also x (also y (also z none))) = go (le-or-lt r s)
         where
           go : (r ≤ s) ⊎ (s < r) → ⊥
-          go (inl l) = clash _ (le-leb r s l) z
-          go (inr l) = clash _ (lt-ltb s r l) y
+          go (inl l) = not-true-and-false _ (le-leb r s l) z
+          go (inr l) = not-true-and-false _ (lt-ltb s r l) y
 
   pub replacement-named : (won : Bool)
       → TrueReason (replacementWas won) replacementReasons (replacementReason st won)
@@ -35,8 +35,8 @@ module _ (st : Statics) (ewma : st .ewma ≡ true) where
   replacement-named won = rw ewma (true-reason replacement.None (replacementWas won) replacementReasons (some won))
     where
       some : (won : Bool) → NoneApplies (inOrder (replacementWas won) replacementReasons) → ⊥
-      some true (also x (also y none)) = clash true refl x
-      some false (also x (also y none)) = clash true refl y
+      some true (also x (also y none)) = not-true-and-false true refl x
+      some false (also x (also y none)) = not-true-and-false true refl y
 
   pub tentative-named : (t : ℕ) (old : Tentative)
       → TrueReason (tentativeDid (st .h) (st .wait) t old) tentativeReasons (tentativeReason st t old)
@@ -49,6 +49,6 @@ module _ (st : Statics) (ewma : st .ewma ≡ true) where
           go (le-or-lt (old .bp + st .h) t) (le-or-lt (t + st .h) (old .bp))
         where
           go : (old .bp + st .h ≤ t) ⊎ (t < old .bp + st .h) → (t + st .h ≤ old .bp) ⊎ (old .bp < t + st .h) → ⊥
-          go (inl l) k = clash _ (le-leb _ _ l) w
-          go (inr l) (inl k) = clash _ (le-leb _ _ k) y
-          go (inr l) (inr k) = clash _ (and-both _ _ (lt-ltb _ _ l) (lt-ltb _ _ k)) z
+          go (inl l) k = not-true-and-false _ (le-leb _ _ l) w
+          go (inr l) (inl k) = not-true-and-false _ (le-leb _ _ k) y
+          go (inr l) (inr k) = not-true-and-false _ (and-both _ _ (lt-ltb _ _ l) (lt-ltb _ _ k)) z

@@ -11,9 +11,9 @@ use Rattle.paper.specs.declared.Statics.{Statics}
 use Rattle.paper.specs.Lists.{pick}
 use Rattle.paper.specs.Least.{least, leastMultiple}
 use Rattle.paper_desk.specs.Rates.{meetsRequirement, daysOf, minimumOf, covers, levelRate}
-use Rattle.paper.proofs.Logic.{clash, and-left, and-right, and-both, pick-true, pick-false, le-or-lt}
+use Rattle.paper.proofs.Logic.{not-true-and-false, and-left, and-right, and-both, pick-true, pick-false, le-or-lt}
 use Rattle.paper_desk.proofs.Level.{meets-roots, within-more, covers-more, quotient-times-is}
-use Rattle.paper.proofs.Search.{Mono, Between, between-hit, between-miss, between-one, least-monotone, multiple-cases, multiple-bound}
+use Rattle.paper.proofs.Search.{Mono, Between, between-below-hit, between-above-miss, between-one-is-least, least-monotone, multiple-holds-or-is-last, multiple-within-bound}
 use Rattle.rates.specs.Asked.{RateStatics}
 use Rattle.rates.proofs.Statics.{level-statics}
 use Rattle.rates.specs.Level.{tentativeSquare, liquiditySquare, reaches, reachMost, leastReach}
@@ -83,19 +83,19 @@ module _ (low high step a b from to k : ℕ) (h : Halved low high step a b from 
 
   pub halved-hit : reaches (k * step) a b ≡ true → Halved low high step a b from k
   halved-hit e =
-      record { above = h .above; between = between-hit _ high from to k (h .between) u v (tested true e) }
+      record { above = h .above; between = between-below-hit _ high from to k (h .between) u v (tested true e) }
 
   pub halved-miss : reaches (k * step) a b ≡ false → Halved low high step a b (k + 1) to
   halved-miss e =
       record {
         above = omega arith;
-        between = between-miss _ high from to k (reach-monotone low step a b) (h .between) v (tested false e);
+        between = between-above-miss _ high from to k (reach-monotone low step a b) (h .between) v (tested false e);
       }
 
 pub halved-one : (low high step a b from to : ℕ) → Halved low high step a b from to → to ≤ from
     → from ≡ leastReach low high step a b
 unfolding leastReach
-halved-one low high step a b from to h e = sym (between-one _ high from to (h .between) e)
+halved-one low high step a b from to h e = sym (between-one-is-least _ high from to (h .between) e)
 
 -- ---- what it finds is the rate of the level
 
@@ -120,19 +120,19 @@ rate-multiple st level m tentative e = go (covers st tentative m level (st .smax
     go : (t : Bool) → covers st tentative m level (st .smax) ≡ t
         → rate ≡ pick (covers st tentative m level (st .smax)) rate (st .smax)
     go true p = sym (pick-true (covers st tentative m level (st .smax)) rate (st .smax) p)
-    go false p = none (multiple-cases (st .h) (st .smax / st .h) passes)
+    go false p = none (multiple-holds-or-is-last (st .h) (st .smax / st .h) passes)
         ∙ sym (pick-false (covers st tentative m level (st .smax)) rate (st .smax) p)
       where
         most : st .smax / st .h * st .h ≡ st .smax
         most = quotient-times-is (st .smax) (st .h) e
 
         below : rate ≤ st .smax
-        below = omega (arith, most, multiple-bound (st .h) (st .smax / st .h) passes)
+        below = omega (arith, most, multiple-within-bound (st .h) (st .smax / st .h) passes)
 
         none : (rate ≡ st .smax / st .h * st .h) ⊎ (passes rate ≡ true) → rate ≡ st .smax
         none (inl q) = q ∙ most
         none (inr q) =
-            absurd (clash (covers st tentative m level (st .smax))
+            absurd (not-true-and-false (covers st tentative m level (st .smax))
             (covers-more st level m tentative rate (st .smax) below (and-right (leb (minimumOf st level) rate) _ q)) p)
 
 -- a number of steps is at least the minimum's where it is, in steps, at least the minimum
@@ -192,5 +192,6 @@ rate-held st level m tentative r =
     (omega (
       arith,
       quotient-times-is (st .smax) (st .h) (r .most-multiple),
-      multiple-bound (st .h) (st .smax / st .h) (λ v. leb (minimumOf st level) v && covers st tentative m level v),
+      multiple-within-bound (st .h) (st .smax / st .h)
+          (λ v. leb (minimumOf st level) v && covers st tentative m level v),
     ))

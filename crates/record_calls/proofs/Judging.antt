@@ -24,7 +24,7 @@ use Rattle.paper_desk.specs.Limits.{countOf}
 use Rattle.paper_desk.specs.Evening.{isEvening, moveAllowed}
 use Rattle.paper.specs.Verdicts.{isDone, Check, firstOf, NoneApplies, none, also}
 use Rattle.paper_desk.specs.Desk.{saying, showing, admitted, quoted, alertsOn, moved, eveningOpened, received, quoteChecks, moveChecks, openChecks, receiveChecks}
-use Rattle.paper.proofs.Logic.{clash, and-right, not-false, pick-false, and-left}
+use Rattle.paper.proofs.Logic.{not-true-and-false, and-right, not-false, pick-false, and-left}
 use Rattle.paper_desk.proofs.Refusals.{refusals, done-none}
 use Rattle.record_soundness.proofs.Facts.{sound-facts}
 use Rattle.record_answers.specs.declared.Slot.{Slot}
@@ -69,7 +69,7 @@ module _ (s e : Slot) (a : Admission) where
 -- a refusal of the first checks is that of all
 first-stays : (cs more : List Check) → isDone (firstOf cs) ≡ false → firstOf (cs ++ more) ≡ firstOf cs
 unfolding firstOf isDone
-first-stays [] more n = absurd (clash true refl n)
+first-stays [] more n = absurd (not-true-and-false true refl n)
 first-stays (c ∷ cs) more n = go (c .applies) n (first-stays cs more)
   where
     go : (b : Bool) → isDone (pick b (c .verdict) (firstOf cs)) ≡ false
@@ -152,10 +152,10 @@ module _ (s : Slot) (side : ℕ) where
       move-accepted t = rw (allowed, o .known, o .valid, o .live, o .monitored, t)
 
 -- c is not 50, so a move is left
-pub move-left : (r : Record) (side : Side) → sound r ≡ true → (countOf side (r .moves) ≡ movesMost → ⊥)
+pub a-move-is-left : (r : Record) (side : Side) → sound r ≡ true → (countOf side (r .moves) ≡ movesMost → ⊥)
     → countOf side (r .moves) < movesMost
-move-left r Upper v n = omega (arith, sound-facts r v .moves-upper)
-move-left r Lower v n = omega (arith, sound-facts r v .moves-lower)
+a-move-is-left r Upper v n = omega (arith, sound-facts r v .moves-upper)
+a-move-is-left r Lower v n = omega (arith, sound-facts r v .moves-lower)
 
 -- ---- the opening of the evening: 1, 10, 19
 
@@ -217,6 +217,7 @@ none-zero x =
     by-price false false units = refl
     by-price false true units = by-units units (leb priceLeast units && leb units priceMost) refl
 
-pub admission-prices : (a : Admission) → validAdmission a ≡ true → (isPrice (a .p1) ≡ true) × (isPrice (a .p2) ≡ true)
+pub admission-prices-valid : (a : Admission) → validAdmission a ≡ true → (isPrice (a .p1) ≡ true)
+    × (isPrice (a .p2) ≡ true)
 unfolding validAdmission isGridPrice
-admission-prices a v = (search (v, and-left, and-right) depth 40, search (v, and-left, and-right) depth 40)
+admission-prices-valid a v = (search (v, and-left, and-right) depth 40, search (v, and-left, and-right) depth 40)

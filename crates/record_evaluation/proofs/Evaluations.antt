@@ -21,30 +21,32 @@ use Rattle.evaluation.specs.declared.Priced.{Priced}
 use Rattle.evaluation.specs.declared.Evaluation.the-variants.{Evaluated, Beyond}
 use Rattle.evaluation.specs.Evaluation.{pricedOf, evaluationMade}
 
-pub sound-prices : (r : Record) → sound r ≡ true → (isPrice (r .p1 .units) ≡ true) × (isPrice (r .p2 .units) ≡ true)
+pub sound-prices-valid : (r : Record) → sound r ≡ true → (isPrice (r .p1 .units) ≡ true)
+    × (isPrice (r .p2 .units) ≡ true)
 unfolding sound isGridPrice
-sound-prices r v = (search (v, and-left, and-right) depth 40, search (v, and-left, and-right) depth 40)
+sound-prices-valid r v = (search (v, and-left, and-right) depth 40, search (v, and-left, and-right) depth 40)
 
-pub day-valid : (d : Day) (rows : List ℤ) → validDay d rows ≡ true
+pub day-valid-parts : (d : Day) (rows : List ℤ) → validDay d rows ≡ true
     → (validDayNumbers d ≡ true) × (validRows rows ≡ true)
-day-valid d rows v =
+day-valid-parts d rows v =
     let both = sym (day-in-parts d rows) ∙ v in
     (and-left (validDayNumbers d) (validRows rows) both, and-right (validDayNumbers d) (validRows rows) both)
 
 -- the outside prices that count are prices, or none
-pub used-prices : (r : Record) → sound r ≡ true → (usedBy r .bid ≤ priceMost) × (usedBy r .ask ≤ priceMost)
+pub used-prices-within-most : (r : Record) → sound r ≡ true → (usedBy r .bid ≤ priceMost) × (usedBy r .ask ≤ priceMost)
 unfolding usedBy usedPair
-used-prices r v = go (r .statics .useexternal)
+used-prices-within-most r v = go (r .statics .useexternal)
   where
     go : (b : Bool)
         → (pick b (r .external) noExternal .bid ≤ priceMost) × (pick b (r .external) noExternal .ask ≤ priceMost)
     go true = let kept = sound-facts r v .external in (kept .bid, kept .ask)
     go false = (omega arith, omega arith)
 
-pub beyond : (g previous : ℕ) (used : External) (rows : List Row) → evaluationMade g previous used rows ≡ Beyond
+pub beyond-does-not-fit : (g previous : ℕ) (used : External) (rows : List Row) → evaluationMade g previous used rows
+    ≡ Beyond
     → evaluationFits g previous used rows ≡ false
 unfolding evaluationMade
-beyond g previous used rows e = go (evaluationFits g previous used rows) e
+beyond-does-not-fit g previous used rows e = go (evaluationFits g previous used rows) e
   where
     go : (b : Bool) → pick b (Evaluated (pricedOf g previous used rows)) Beyond ≡ Beyond → b ≡ false
     go true q = let z : _≡_ {A = ℕ} 0 1 = cc in absurd (omega arith)

@@ -17,8 +17,8 @@ use Rattle.paper_desk.specs.Evaluation.{dayRows, isCrossedRow, rowFits}
 use Rattle.paper_desk.specs.Limits.{crossed}
 use Rattle.paper.specs.Verdicts.{numberOf, Naming, firstNamed, firstOf}
 use Rattle.paper_desk.specs.Desk.{evaluated, evaluateChecks}
-use Rattle.paper.proofs.Logic.{clash}
-use Rattle.record_evaluation.proofs.Evaluations.{day-valid}
+use Rattle.paper.proofs.Logic.{not-true-and-false}
+use Rattle.record_evaluation.proofs.Evaluations.{day-valid-parts}
 use Rattle.paper_reasons.specs.declared.Fault.{Fault}
 use Rattle.paper_reasons.specs.declared.Fault.the-variants as fault
 use Rattle.paper_reasons.specs.Faults.{rowsAtFault, firstRow, termsAtFault, outOfRange, isSame, faultsOf, faultOf}
@@ -111,14 +111,14 @@ module _ (known : Bool) (r : Record) (d : Day) (rows : List ℤ) where
     where
       go : (k b : Bool) (rest : Verdict)
           → isSame (pick (not k) verdict.NoSuchId (pick (not b) verdict.OutOfRange rest)) w ≡ true → b ≡ true
-      go false b rest e = absurd (clash _ e no-id)
-      go true false rest e = absurd (clash _ e out)
+      go false b rest e = absurd (not-true-and-false _ e no-id)
+      go true false rest e = absurd (not-true-and-false _ e out)
       go true true rest e = refl
 
   pub refused-rows : Refused (firstOf (evaluateChecks known r d rows)) rows
   unfolding isSame
   refused-rows =
       record {
-        crossed = λ e. day-valid d rows (valid-before verdict.RowCrossed refl refl e) .1;
-        beyond = λ e. day-valid d rows (valid-before verdict.PriceOutOfRange refl refl e) .1;
+        crossed = λ e. day-valid-parts d rows (valid-before verdict.RowCrossed refl refl e) .1;
+        beyond = λ e. day-valid-parts d rows (valid-before verdict.PriceOutOfRange refl refl e) .1;
       }

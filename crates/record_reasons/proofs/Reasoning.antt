@@ -24,7 +24,7 @@ use Rattle.paper_desk.specs.Rates.{moveTooLarge, levelRate, modelled, figuresOf
 use Rattle.paper.specs.Numbers.{volatilityMost, aheadMost}
 use Rattle.paper.specs.Verdicts.{isDone, firstOf, NoneApplies, none, also}
 use Rattle.paper_desk.specs.Desk.{usedBy, priceOn, moveOn, figuresOn, evaluated, evaluateChecks}
-use Rattle.paper.proofs.Logic.{clash, and-left, and-right, and-false, not-false, pick-true, pick-false}
+use Rattle.paper.proofs.Logic.{not-true-and-false, and-left, and-right, and-false, not-false, pick-true, pick-false}
 use Rattle.paper_desk.proofs.TentativeRange.{valid-high, modelled-stays}
 use Rattle.paper_desk.proofs.Refusals.{refusals, done-none}
 use Rattle.evaluation.specs.declared.PriceFigures.{PriceFigures}
@@ -38,7 +38,7 @@ use Rattle.record_answers.specs.declared.Slot.{Slot}
 use Rattle.record_answers.specs.Effects.{isKnown}
 use Rattle.record_evaluation.specs.Workings.{pricedOn}
 use Rattle.record_answers.proofs.Tests.{known-sound}
-use Rattle.record_evaluation.proofs.Evaluations.{day-valid}
+use Rattle.record_evaluation.proofs.Evaluations.{day-valid-parts}
 use Rattle.paper_reasons.specs.declared.PriceReason.{PriceReason}
 use Rattle.paper_reasons.specs.declared.WeightReason.the-variants as weight
 use Rattle.paper_reasons.specs.declared.ReplacementReason.the-variants as replacement
@@ -81,7 +81,7 @@ accepted s d rows e = go (done-none (evaluateChecks (isKnown s) (s .rec) d rows)
   where
     go : NoneApplies (evaluateChecks (isKnown s) (s .rec) d rows) → Accepted (s .rec) d (evaluated (s .rec) d rows)
     go (also k (also v (also c (also l (also f (also m (also b none))))))) =
-        let valid = day-valid d rows (not-false _ v) in
+        let valid = day-valid-parts d rows (not-false _ v) in
         record {
           sound-record = known-sound s (not-false _ k);
           day = valid .0;
@@ -95,9 +95,9 @@ accepted s d rows e = go (done-none (evaluateChecks (isKnown s) (s .rec) d rows)
 -- ---- with isEWMA yes
 
 -- 8 does not apply, so the move is in range
-pub near-move : (st : Statics) (r : ℕ) → st .ewma ≡ true → moveTooLarge st r ≡ false → r ≤ volatilityMost
+pub allowed-move-within-most : (st : Statics) (r : ℕ) → st .ewma ≡ true → moveTooLarge st r ≡ false → r ≤ volatilityMost
 unfolding moveTooLarge
-near-move st r on e = ltb-false volatilityMost r (and-false (st .ewma) (ltb volatilityMost r) e on)
+allowed-move-within-most st r on e = ltb-false volatilityMost r (and-false (st .ewma) (ltb volatilityMost r) e on)
 
 -- the figures are those of the model
 pub figures-modelled : (r : Record) (d : Day) (p : ℕ) → r .statics .ewma ≡ true → figuresAt r d p
@@ -128,7 +128,8 @@ module _ (old : Record) (d : Day) (new : Record) (a : Accepted old d new) (on : 
   tentative-high =
       let stays =
       modelled-stays (old .statics) (d .b) (d .m) _ _ (old .s) (old .tentative)
-      (sound-facts old (a .sound-record) .valid) (near-move (old .statics) _ on (a .near)) (ranges .volatility)
+      (sound-facts old (a .sound-record) .valid) (allowed-move-within-most (old .statics) _ on (a .near))
+      (ranges .volatility)
       (tentative-valid old (a .sound-record)) in
       rw tentative-is (top-within (ranges .statics) (valid-high _ _ stays))
 

@@ -16,7 +16,7 @@ use Rattle.paper.specs.Lists.{allThree}
 use Rattle.paper.specs.Numbers.{priceMost, rateMost, idMost, ageMost, limitMost, movesMost, secondLast, slotsMost}
 use Rattle.paper.specs.Ranges.{gridOf, isRate, validStatics, lastDay, termAt, isLimit, validLimits, noLimits, validNear, validNearSeconds, notNear, validSession, validExternal, sound, validSlots, rateAt}
 use Rattle.paper.proofs.Logic.{and-left, and-right, each-of-three}
-use Rattle.inputs.proofs.Facts.{Within, within-facts, MultipleTo, multiple-facts, grid-price-facts, rate-most, StaticsFacts, statics-facts, tentative-facts, FiguresFacts, TermFacts, terms-facts}
+use Rattle.inputs.proofs.Facts.{Within, within-facts, MultipleTo, multiple-facts, grid-price-facts, rate-within-most, StaticsFacts, statics-facts, tentative-facts, FiguresFacts, TermFacts, terms-facts}
 
 -- ---- limits
 
@@ -78,7 +78,7 @@ external-facts x v =
 
 pub rates-facts : (rates : List Rate) → allThree (λ i. isRate (rateAt rates i)) ≡ true → (i : ℕ) → i < 3
     → rateAt rates i ≤ rateMost
-rates-facts rates v i l = rate-most _ (each-of-three (λ i. isRate (rateAt rates i)) v i l)
+rates-facts rates v i l = rate-within-most _ (each-of-three (λ i. isRate (rateAt rates i)) v i l)
 
 pub record SoundRecord (r : Record) : Type 0 where
   pub id : Within 1 idMost (r .id)

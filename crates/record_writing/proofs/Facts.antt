@@ -34,24 +34,24 @@ use Rattle.record_writing.specs.Asked.{at-three, RangesAsked, BandsAsked
 use Rattle.record_writing.specs.Evaluates.{moveTo, figuresAt}
 
 -- three places are a list of three
-pub three-places : {A : Type 0} (l : List A) (z : A) → length l ≡ 3 → l ≡ three (λ i. getD l i z)
-three-places [] z e = absurd (omega arith)
-three-places (x ∷ []) z e = absurd (omega arith)
-three-places (x ∷ y ∷ []) z e = absurd (omega arith)
-three-places (x ∷ y ∷ w ∷ []) z e = refl
-three-places (x ∷ y ∷ w ∷ v ∷ l) z e = absurd (omega arith)
+pub list-of-three-is : {A : Type 0} (l : List A) (z : A) → length l ≡ 3 → l ≡ three (λ i. getD l i z)
+list-of-three-is [] z e = absurd (omega arith)
+list-of-three-is (x ∷ []) z e = absurd (omega arith)
+list-of-three-is (x ∷ y ∷ []) z e = absurd (omega arith)
+list-of-three-is (x ∷ y ∷ w ∷ []) z e = refl
+list-of-three-is (x ∷ y ∷ w ∷ v ∷ l) z e = absurd (omega arith)
 
 -- ---- a quote
 
-pub quote-place : (q : Quote) → validQuote q ≡ true → q .term < 3
-quote-place q v = omega (arith, quote-facts q v .term-last)
+pub quoted-term-below-three : (q : Quote) → validQuote q ≡ true → q .term < 3
+quoted-term-below-three q v = omega (arith, quote-facts q v .term-last)
 
 -- the near test of a term's band
-pub band-near : (r : Record) (q : Quote) (price : ℕ) → sound r ≡ true → validQuote q ≡ true → price ≤ quoteMost
+pub band-near-in-range : (r : Record) (q : Quote) (price : ℕ) → sound r ≡ true → validQuote q ≡ true → price ≤ quoteMost
     → NearRange (r .statics .w) (getD (r .bands) (q .term) noLimits) price
-band-near r q price s v h =
+band-near-in-range r q price s v h =
     let known = sound-facts r s in
-    let band = known .bands (q .term) (quote-place q v) in
+    let band = known .bands (q .term) (quoted-term-below-three q v) in
     record { nearness = known .statics .w; lower = band .lower .most; upper = band .upper .most; within = omega arith }
 
 -- ---- bands
@@ -71,18 +71,18 @@ bands-asked p s1 c terms r m v = at-three (λ k. TermInputs p s1 c (termAt terms
           term = each-of-three (λ k. validTerm (termAt terms k)) v k l;
         }
 
-pub sound-terms : (r : Record) → sound r ≡ true → allThree (λ k. validTerm (termAt (r .terms) k)) ≡ true
+pub sound-terms-valid : (r : Record) → sound r ≡ true → allThree (λ k. validTerm (termAt (r .terms) k)) ≡ true
 unfolding sound
-sound-terms r v = search (v, and-left, and-right) depth 40
+sound-terms-valid r v = search (v, and-left, and-right) depth 40
 
-pub day-terms : (d : Day) → validDayNumbers d ≡ true → allThree (λ k. validTerm (termAt (d .terms) k)) ≡ true
-day-terms d v = search (v, and-left, and-right)
+pub day-terms-valid : (d : Day) → validDayNumbers d ≡ true → allThree (λ k. validTerm (termAt (d .terms) k)) ≡ true
+day-terms-valid d v = search (v, and-left, and-right)
 
 -- ---- a move
 
 -- the evaluation and S_1 of a record
-pub sound-inputs : (r : Record) → sound r ≡ true → RangeInputs (r .p1) (getD (r .rates) 0 noRate)
-sound-inputs r v =
+pub sound-range-inputs : (r : Record) → sound r ≡ true → RangeInputs (r .p1) (getD (r .rates) 0 noRate)
+sound-range-inputs r v =
     let known = sound-facts r v in
     record { price = known .figures .later .price .most; rate-high = known .rates 0 (omega arith) }
 
@@ -90,7 +90,7 @@ pub shifts-asked : (r : Record) → sound r ≡ true
     → ShiftsAsked (deltaOf (r .statics) (rateAt (r .rates) 0) (r .p1 .units)) (r .ranges)
 shifts-asked r v =
     let known = sound-facts r v in
-    let held = delta-high (r .statics) _ _ (valid-limit-statics (r .statics) (known .valid)) (sound-inputs r v) in
+    let held = delta-high (r .statics) _ _ (valid-limit-statics (r .statics) (known .valid)) (sound-range-inputs r v) in
     let upper = known .ranges in (
       (held, upper 0 (omega arith) .upper .most),
       (held, upper 1 (omega arith) .upper .most),

@@ -29,12 +29,12 @@ is-nan nan h = refl
 is-nan (inf s) h = absurd (true≢false (sym h))
 is-nan (fin s m e) h = absurd (true≢false (sym h))
 
-pub above : (n : ℕ) → 9218868437227405312 < n % 2 ^ 63 → nan ≡ ofBits binary64 n
-above n h =
+pub nan-above : (n : ℕ) → 9218868437227405312 < n % 2 ^ 63 → nan ≡ ofBits binary64 n
+nan-above n h =
     is-nan _ (sym (nanBits-is binary64 n) ∙ nanBits-above binary64 n ∙ lt-ltb 9218868437227405312 (n % 2 ^ 63) h)
 
-pub up-to : (n : ℕ) → n % 2 ^ 63 ≤ 9218868437227405312 → nanBits binary64 n ≡ false
-up-to n h = nanBits-above binary64 n ∙ le-ltb 9218868437227405312 (n % 2 ^ 63) h
+pub no-nan-up-to : (n : ℕ) → n % 2 ^ 63 ≤ 9218868437227405312 → nanBits binary64 n ≡ false
+no-nan-up-to n h = nanBits-above binary64 n ∙ le-ltb 9218868437227405312 (n % 2 ^ 63) h
 
 pub zero-by-zero : div binary64 (ofBits binary64 0) (ofBits binary64 0) ≡ nan
 unfolding div ofBits

@@ -16,11 +16,11 @@ use mir.ValLaws.{toZ-pos}
 use mir.Facts.{toZ-ofZ}
 use borrow.Author.Tests.{le-leb, lt-leb, lt-ltb, le-ltb, eq-eqb, ne-eqb, eqb-true}
 use Rattle.paper.specs.Lists.{pick}
-use Rattle.paper.proofs.Logic.{clash, and-left, and-right, le-or-lt}
+use Rattle.paper.proofs.Logic.{not-true-and-false, and-left, and-right, le-or-lt}
 use Rattle.text_protocol.specs.Bytes.{minusSign, digitZero, digitNine}
 use Rattle.text_protocol.specs.Numbers.{isDigit}
 use Rattle.text_protocol.specs.Written.{negated}
-use Rattle.text_protocol.proofs.Spelling.{impossible, digit-is, is-digit, low-no-digit, high-no-digit}
+use Rattle.text_protocol.proofs.Spelling.{impossible, within-is-digit, digit-is-within, low-no-digit, high-no-digit}
 use Rattle.text_table.specs.declared.Column.{Column}
 use Rattle.text_table.specs.Exchange.{point}
 use Rattle.text_table.specs.Scan.{Front, front, none, then, starts, numberMost, digits, pastZeros, behindZeros, decimals, behindWhole, number, positive, turned, cell}
@@ -131,7 +131,11 @@ module _ (t : List ℕ) (from most stop : ℕ) (goal : Front ℕ) (i n : ℕ) (c
       pub counting-over : numberMost < 10 * n + (b - digitZero) → Took t from most part.Bad goal
       unfolding partFront PartNear
       counting-over k =
-          record { is = rw (digit-is b lo hi, lt-leb (10 * n + (b - digitZero)) numberMost k) at opened; near = tt }
+          record {
+            is = rw (within-is-digit b lo hi, lt-leb (10 * n + (b - digitZero)) numberMost k) at opened;
+            near =
+                tt;
+          }
 
       pub counting-more : 10 * n + (b - digitZero) ≤ numberMost
           → Counting t from most stop goal (i + 1) (10 * n + (b - digitZero))
@@ -142,7 +146,7 @@ module _ (t : List ℕ) (from most stop : ℕ) (goal : Front ℕ) (i n : ℕ) (c
             behind = omega (arith, c .behind);
             in-stop = omega arith;
             small = k;
-            rest = rw f at (rw (digit-is b lo hi, le-leb (10 * n + (b - digitZero)) numberMost k) at opened);
+            rest = rw f at (rw (within-is-digit b lo hi, le-leb (10 * n + (b - digitZero)) numberMost k) at opened);
           }
 
 -- ---- zeros
@@ -246,7 +250,7 @@ module _ (t : List ℕ) (c : Column) (n from : ℕ) where
 module _ (t : List ℕ) (from b : ℕ) (e : b ≡ getD t from 0) (first : true ≡ starts isDigit (drop from t)) where
   pub first-digit : (digitZero ≤ b) × (b ≤ digitNine)
   first-digit =
-      is-digit b (ap isDigit e ∙ starts-at isDigit t from (starts-in isDigit t from first) ∙ sym first)
+      digit-is-within b (ap isDigit e ∙ starts-at isDigit t from (starts-in isDigit t from first) ∙ sym first)
 
   abbrev whole : Front ℕ
   whole = digits (length t - (from + 1)) (b - digitZero) (drop (from + 1) t)
@@ -263,7 +267,7 @@ module _ (t : List ℕ) (from b : ℕ) (e : b ≡ getD t from 0) (first : true �
         m,
         drop-cons t from 0 l,
         ← e,
-        digit-is b (first-digit .0) (first-digit .1),
+        within-is-digit b (first-digit .0) (first-digit .1),
         z,
         le-leb (b - digitZero) numberMost k,
         f,
@@ -376,7 +380,7 @@ and-not true = refl
 and-not false = refl
 
 no-and : (a b : Bool) → a ≡ false → (a && b) ≡ false
-no-and true b e = absurd (clash true refl e)
+no-and true b e = absurd (not-true-and-false true refl e)
 no-and false b e = refl
 
 module _ (t : List ℕ) (c : Column) (from start : ℕ) where

@@ -18,7 +18,7 @@ use Rattle.text_protocol.proofs.Pieces.{Free, pieces-none, pieces-more, Parted,
 use Rattle.text_table.specs.declared.Reading.{Reading}
 use Rattle.text_table.specs.Exchange.{Ended, rowsMost, textMost, inOne, accepted, refused, Says, too-long}
 use Rattle.text_table.specs.Scan.{Front, front, none, line}
-use Rattle.text_table.proofs.Lines.{ended-reads, Rowed, line-back, row-long}
+use Rattle.text_table.proofs.Lines.{ended-reads, Rowed, line-back, row-has-seven}
 use Rattle.text_table.proofs.Walk.{Sofar, none-yet, own-row, other-row, ends-no-row, ends-seventeenth, ends-unended, ends-good}
 use Rattle.text_row.specs.declared.Place.{Place}
 use Rattle.text_row.specs.declared.Place.the-variants as place
@@ -244,7 +244,7 @@ module _ (id : ℕ) (t : List ℕ) (array zs : List ℤ) (from number count : �
               let c : count ≡ length (s .rows) = s .counts in
               let m : length (s .rows ++ found .row ∷ []) ≡ length (s .rows) + 1 =
               length-append (s .rows) (found .row ∷ []) in
-              let w : length (found .row) ≡ 7 = row-long ended in
+              let w : length (found .row) ≡ 7 = row-has-seven ended in
               let i : drop 1 ys ≡ found .row = ap (λ (x : List ℤ). drop 1 x) (found .numbers) in
               let j : inOne (s .rows ++ found .row ∷ []) ≡ inOne (s .rows) ++ found .row =
               in-one-more (s .rows) (found .row) in

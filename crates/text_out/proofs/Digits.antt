@@ -8,7 +8,7 @@ use native.Mathlib.Omega.{arith}
 use lib.ListN.{length, length-append}
 use borrow.Author.Tests.{lt-ltb, le-ltb}
 use Rattle.text_protocol.specs.Numbers.{spelt, decimal}
-use Rattle.text_protocol.proofs.Decimals.{less}
+use Rattle.text_protocol.proofs.Decimals.{tenth-is-less}
 use Rattle.text_out.specs.Places.{last, Places}
 use Rattle.text_protocol.specs.Bytes.{digitZero}
 
@@ -33,7 +33,7 @@ spelt-last (suc f) (suc k) n h lo hi =
     let a : n / 10 < 10 ^ suc k = div-lt-iff-lt-mul {k = 10} {x = n} {y = 10 ^ suc k} o .1 (rw (pow-suc 10 (suc k)) at
     lo) in
     let b : 10 ^ k ≤ n / 10 = le-div-iff-mul-le {k = 10} {x = 10 ^ k} {y = n} o .1 (omega arith) in
-    let c : n / 10 < f = omega (arith, less n g) in
+    let c : n / 10 < f = omega (arith, tenth-is-less n g) in
     rw (le-ltb n 10 g, spelt-last f k (n / 10) c a (omega arith))
 
 pub decimal-last : (x k : ℕ) → Places x k → last k x ≡ decimal x

@@ -12,8 +12,8 @@ use Rattle.paper.specs.Lists.{pick}
 use Rattle.text_protocol.specs.Bytes.{digitZero}
 use Rattle.text_protocol.specs.Numbers.{Decimal, one, more, spelt, decimal}
 
-pub less : (n : ℕ) → 10 ≤ n → n / 10 < n
-less n h = omega (arith, div-add-mod' n 10)
+pub tenth-is-less : (n : ℕ) → 10 ≤ n → n / 10 < n
+tenth-is-less n h = omega (arith, div-add-mod' n 10)
 
 -- the steps do not matter, once there are enough
 spelt-same : (f g n : ℕ) → n < f → n < g → spelt f n ≡ spelt g n
@@ -27,7 +27,7 @@ spelt-same (suc f) (suc g) n h k = go (ltb n 10) refl (λ a b. spelt-same f g (n
         ≡ pick t ((digitZero + n) ∷ []) (spelt g (n / 10) ++ ((digitZero + n % 10) ∷ []))
     go true e rest = refl
     go false e rest =
-        let l : n / 10 < n = less n (ltb-false n 10 e) in
+        let l : n / 10 < n = tenth-is-less n (ltb-false n 10 e) in
         rw (rest (omega arith) (omega arith))
 
 -- what is a text of n is `decimal n`
@@ -56,7 +56,7 @@ spelt-is (suc f) n h = go (ltb n 10) refl (λ k. spelt-is f (n / 10) k)
         let l : n % 10 < 10 = mod-lt n o in
         let d : 10 * (n / 10) + n % 10 ≡ n = omega (arith, div-add-mod' n 10) in
         let p : 0 < n / 10 = omega (arith, div-add-mod' n 10) in
-        let z : n / 10 < f = omega (arith, less n g) in
+        let z : n / 10 < f = omega (arith, tenth-is-less n g) in
         rw d at (more p l (rest z))
 
 pub decimal-is : (n : ℕ) → Decimal n (decimal n)

@@ -19,13 +19,13 @@ use Rattle.text_protocol.specs.Answers.{badText}
 use Rattle.text_protocol.specs.Evening.{Evening, tableAfter, keptBy, textOf, after, answer, passedOver}
 use Rattle.text_protocol.proofs.Words.{Split, last, word, SplitOf, split, split-words, words-none}
 use Rattle.text_protocol.proofs.Spelling.{impossible}
-use Rattle.text_protocol.proofs.Reading.{within, reads-says}
+use Rattle.text_protocol.proofs.Reading.{short-line-is-called, reads-says}
 
 -- ---- a line says nothing where it is blanks, and there alone
 
 blanks-say-nothing : {l : List ℕ} → Blanks l → length l ≤ longest → meaning l ≡ Nothing
 unfolding called
-blanks-say-nothing {l} b h = within l h ∙ ap called (words-none b)
+blanks-say-nothing {l} b h = short-line-is-called l h ∙ ap called (words-none b)
 
 -- behind a call's word a line is a call or none
 fill-says : {A : Type 0} (k : ℕ) (zs : List ℤ) (p : Pairs) (ws : List (List ℕ)) → fill k zs p ws ≡ Nothing → A

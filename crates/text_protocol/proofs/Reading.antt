@@ -20,7 +20,7 @@ use Rattle.text_protocol.specs.Numbers.{numberOf, slashAt}
 use Rattle.text_protocol.specs.Names.{kindFrom, kindOf, forms, takes, admitWord, evaluateWord, quoteWord, moveWord, readWord, openWord, outsideWord, noticeWord, withdrawWord, interestWord, bondWord}
 use Rattle.text_protocol.specs.Line.{NoCall, Call, oneOf, twoOf, itemOf, noPairs, pairFits, withPair, more, finished, fill, called, longest, meaning}
 use Rattle.text_protocol.specs.Written.{Blanks, no-blank, blank, Digits, no-digit, digit, Spells, plain, minus, CallWord, admit, evaluate, quote, move, read, openEvening, outside, notice, withdraw, interest, bond, Numbers, done, one, two, Says, says}
-use Rattle.text_protocol.proofs.Words.{Solid, solid, Ends, end, parted, solid-append, words-blanks, words-solid, words-none, high-solid, allHigh, letters, Split, last, word, SplitOf, split-words, split, word-not-here}
+use Rattle.text_protocol.proofs.Words.{Solid, solid, Ends, end, parted, solid-append, words-blanks, words-solid, words-none, high-solid, allHigh, letters-are-solid, Split, last, word, SplitOf, split-words, split, word-not-here}
 use Rattle.text_protocol.proofs.Spelling.{impossible, spells-reads, spells-solid, spells-some, reads-spells}
 use Rattle.text_protocol.proofs.Filling.{fill-none, fill-one, fill-two, fill-no-pair, fill-neither}
 
@@ -103,17 +103,17 @@ numbers-fill {k} {ys} {q} (two {b = b} {t} {v} {w} {rest} h bs s u f n) =
 
 word-solid : {w : List ℕ} {k : ℕ} → CallWord w k → Solid w
 unfolding allHigh
-word-solid {w} admit = letters w refl
-word-solid {w} evaluate = letters w refl
-word-solid {w} quote = letters w refl
-word-solid {w} move = letters w refl
-word-solid {w} read = letters w refl
-word-solid {w} openEvening = letters w refl
-word-solid {w} outside = letters w refl
-word-solid {w} notice = letters w refl
-word-solid {w} withdraw = letters w refl
-word-solid {w} interest = letters w refl
-word-solid {w} bond = letters w refl
+word-solid {w} admit = letters-are-solid w refl
+word-solid {w} evaluate = letters-are-solid w refl
+word-solid {w} quote = letters-are-solid w refl
+word-solid {w} move = letters-are-solid w refl
+word-solid {w} read = letters-are-solid w refl
+word-solid {w} openEvening = letters-are-solid w refl
+word-solid {w} outside = letters-are-solid w refl
+word-solid {w} notice = letters-are-solid w refl
+word-solid {w} withdraw = letters-are-solid w refl
+word-solid {w} interest = letters-are-solid w refl
+word-solid {w} bond = letters-are-solid w refl
 
 word-some : {w : List ℕ} {k : ℕ} → CallWord w k → 0 < length w
 word-some admit = omega arith
@@ -147,14 +147,14 @@ unfolding finished
 finished-right k zs p h = rw h
 
 -- a line that is not too long means what its words do
-pub within : (l : List ℕ) → length l ≤ longest → meaning l ≡ called (words l)
+pub short-line-is-called : (l : List ℕ) → length l ≤ longest → meaning l ≡ called (words l)
 unfolding meaning
-within l h = rw (le-leb (length l) longest h)
+short-line-is-called l h = rw (le-leb (length l) longest h)
 
 -- WHAT IS WRITTEN IS READ
 pub says-reads : {l : List ℕ} {k : ℕ} {zs : List ℤ} {p : Pairs} → Says l k zs p → meaning l ≡ Call k zs p
 says-reads (says {t} {w} {rest} {k} {zs} {p} bs x n h o) =
-    within (t ++ (w ++ rest)) o
+    short-line-is-called (t ++ (w ++ rest)) o
     ∙ ap called (words-blanks (w ++ rest) bs ∙ words-solid w (word-solid x) (word-some x) (numbers-ends n))
     ∙ word-called (words rest) x
     ∙ numbers-fill n

@@ -28,9 +28,9 @@ digits-solid : {t : List ℕ} → Digits t → Solid t
 digits-solid no-digit = nil
 digits-solid (digit {b} h k d) = solid (high-solid b (omega arith)) (digits-solid d)
 
-pub digit-is : (b : ℕ) → digitZero ≤ b → b ≤ digitNine → isDigit b ≡ true
+pub within-is-digit : (b : ℕ) → digitZero ≤ b → b ≤ digitNine → isDigit b ≡ true
 unfolding isDigit
-digit-is b h k = rw (le-leb digitZero b h, le-leb b digitNine k)
+within-is-digit b h k = rw (le-leb digitZero b h, le-leb b digitNine k)
 
 pub low-no-digit : (b : ℕ) → b < digitZero → isDigit b ≡ false
 unfolding isDigit
@@ -43,7 +43,7 @@ high-no-digit b h = let k : digitZero ≤ b = omega arith in rw (le-leb digitZer
 size-digits : (n : ℕ) {t : List ℕ} → Digits t → sizeFrom n t ≡ size.Is (value n t)
 unfolding sizeFrom value
 size-digits n no-digit = refl
-size-digits n (digit {b} h k d) = rw (digit-is b h k) (size-digits (10 * n + (b - digitZero)) d)
+size-digits n (digit {b} h k d) = rw (within-is-digit b h k) (size-digits (10 * n + (b - digitZero)) d)
 
 size-is : (t : List ℕ) → Digits t → 0 < length t → sizeOf t ≡ size.Is (value 0 t)
 unfolding sizeOf
@@ -88,9 +88,9 @@ spells-some (minus d h k) = omega arith
 
 -- ---- what is read is spelt
 
-pub is-digit : (b : ℕ) → isDigit b ≡ true → (digitZero ≤ b) × (b ≤ digitNine)
+pub digit-is-within : (b : ℕ) → isDigit b ≡ true → (digitZero ≤ b) × (b ≤ digitNine)
 unfolding isDigit
-is-digit b h = (
+digit-is-within b h = (
   leb-true digitZero b (and-left (leb digitZero b) (leb b digitNine) h),
   leb-true b digitNine (and-right (leb digitZero b) (leb b digitNine) h),
 )
@@ -110,7 +110,7 @@ size-back n (b ∷ t) v e = go (isDigit b) refl e (λ f. size-back (10 * n + (b 
         → Sized n (b ∷ t) v
     go true h f k =
         let r : Sized (10 * n + (b - digitZero)) t v = k f in
-        record { digits = digit (is-digit b h .0) (is-digit b h .1) (r .digits); is = r .is }
+        record { digits = digit (digit-is-within b h .0) (digit-is-within b h .1) (r .digits); is = r .is }
     go false h f k = impossible cc
 
 size-of-back : (t : List ℕ) (v : ℕ) → sizeOf t ≡ size.Is v → Sized 0 t v × (0 < length t)

@@ -7,7 +7,7 @@ use native.Mathlib.Omega.{arith}
 use lib.Dec.{leb}
 use lib.ListN.{length}
 use borrow.Author.Tests.{leb-true, ne-eqb}
-use Rattle.paper.proofs.Logic.{clash, and-left, and-right}
+use Rattle.paper.proofs.Logic.{not-true-and-false, and-left, and-right}
 use Rattle.text_protocol.specs.Bytes.{isBlank, space, tab, carriageReturn, minusSign, grow, pieces, full, words}
 use Rattle.text_protocol.specs.Written.{Blanks, no-blank, blank}
 
@@ -67,12 +67,12 @@ unfoldable pub allHigh : List ℕ → Bool
 allHigh [] = true
 allHigh (b ∷ t) = leb minusSign b && allHigh t
 
-pub letters : (t : List ℕ) → allHigh t ≡ true → Solid t
+pub letters-are-solid : (t : List ℕ) → allHigh t ≡ true → Solid t
 unfolding allHigh
-letters [] e = nil
-letters (b ∷ t) e =
+letters-are-solid [] e = nil
+letters-are-solid (b ∷ t) e =
     solid (high-solid b (leb-true minusSign b (and-left (leb minusSign b) (allHigh t) e)))
-    (letters t (and-right (leb minusSign b) (allHigh t) e))
+    (letters-are-solid t (and-right (leb minusSign b) (allHigh t) e))
 
 -- ---- a line is blanks and words
 
@@ -130,4 +130,4 @@ ends-head (parted g) = g
 -- a word does not stand where a word ends
 pub word-not-here : {A : Type 0} {w : List ℕ} (rest : List ℕ) → Solid w → 0 < length w → Ends (w ++ rest) → A
 word-not-here rest nil h e = let z : ⊥ = omega arith in absurd z
-word-not-here rest (solid {b} g s) h e = absurd (clash (isBlank b) (ends-head e) g)
+word-not-here rest (solid {b} g s) h e = absurd (not-true-and-false (isBlank b) (ends-head e) g)

@@ -12,7 +12,7 @@ use lib.ListN.{length, take, drop, getD, set, length-set, drop-of-length-le}
 use lib.Seq.{drop-cons, drop-drop, take-all, take-suc-set}
 use borrow.Author.Tests.{le-leb, leb-true}
 use Rattle.paper.specs.Lists.{pick}
-use Rattle.paper.proofs.Logic.{clash, and-left, and-right, and-both, le-or-lt}
+use Rattle.paper.proofs.Logic.{not-true-and-false, and-left, and-right, and-both, le-or-lt}
 use Rattle.text_protocol.specs.Bytes.{lineFeed, carriageReturn}
 use Rattle.text_table.specs.declared.Column.{Column}
 use Rattle.text_table.specs.Exchange.{semicolon, columns, wholeNumber, exchangeRate, repoRate, price}
@@ -107,7 +107,7 @@ module _ (k : ℕ) where
       between : k ≤ 6 → 1 < k → ⊥
       between h j =
           let i : 4 ≤ k = omega arith in
-          clash (leb 4 k && leb k 6) (and-both (leb 4 k) (leb k 6) (le-leb 4 k i) (le-leb k 6 h)) e
+          not-true-and-false (leb 4 k && leb k 6) (and-both (leb 4 k) (leb k 6) (le-leb 4 k i) (le-leb k 6 h)) e
 
       go : (k ≤ 0) ⊎ (0 < k) → (k ≤ 1) ⊎ (1 < k) → (k ≤ 6) ⊎ (6 < k) → wholeNumber ≡ getD columns k wholeNumber
       go (inl h) j i = at-place 0 wholeNumber refl (omega arith)

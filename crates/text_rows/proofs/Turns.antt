@@ -17,7 +17,7 @@ use Rattle.text_protocol.specs.declared.Size.{Size}
 use Rattle.text_protocol.specs.declared.Size.the-variants as size
 use Rattle.text_protocol.specs.Numbers.{decimal, isDigit, sizeFrom, sizeOf}
 use Rattle.text_protocol.specs.Answers.{next, spaced, answerText}
-use Rattle.text_protocol.proofs.Spelling.{digit-is, low-no-digit, high-no-digit}
+use Rattle.text_protocol.proofs.Spelling.{within-is-digit, low-no-digit, high-no-digit}
 use Rattle.text_out.specs.Wrote.{Wrote, then, wider, Left, left-none, left-more, left-all}
 use Rattle.text_answer.specs.Told.{Told, both, wrote, told, wrote-one}
 use Rattle.text_table.specs.declared.Reading.{Reading}
@@ -106,7 +106,7 @@ module _ (p : List ℕ) (i n : ℕ) (a : Asking p i n) where
           in-p = omega arith;
           most = g .1;
           rest =
-              rw (f, g .0) (grown-same n (b - digitZero) (drop (suc i) p) ∙ (rw (digit-is b lo hi) at opened));
+              rw (f, g .0) (grown-same n (b - digitZero) (drop (suc i) p) ∙ (rw (within-is-digit b lo hi) at opened));
         }
 
 -- ---- the answer

@@ -13,7 +13,7 @@ use Rattle.paper.proofs.Logic.{and-left, and-right}
 use Rattle.text_protocol.specs.Bytes.{minusSign, digitZero, digitNine}
 use Rattle.text_protocol.specs.Numbers.{isDigit}
 use Rattle.text_protocol.specs.Written.{Digits, no-digit, digit, negated}
-use Rattle.text_protocol.proofs.Spelling.{impossible, digit-is}
+use Rattle.text_protocol.proofs.Spelling.{impossible, within-is-digit}
 use Rattle.text_protocol.proofs.Pieces.{Free, free-none, free, free-append}
 use Rattle.text_table.specs.declared.Column.{Column}
 use Rattle.text_table.specs.Exchange.{point, Decimal, whole, pointed, Field, missing, plain, negative}
@@ -52,7 +52,11 @@ record Digital (t : List ℕ) : Type 0 where
 digits-first : {w : List ℕ} (u : List ℕ) → Digits w → 0 < length w → Digital (w ++ u)
 unfolding starts
 digits-first u no-digit h = let z : ⊥ = omega arith in absurd z
-digits-first u (digit {b} lo hi d) h = record { digit = digit-is b lo hi; minus = ne-eqb b minusSign (apart b lo) }
+digits-first u (digit {b} lo hi d) h = record {
+  digit = within-is-digit b lo hi;
+  minus = ne-eqb b minusSign
+      (apart b lo);
+}
   where
     apart : (b : ℕ) → digitZero ≤ b → b ≡ minusSign → ⊥
     apart b h e = omega arith

@@ -15,11 +15,11 @@ use Rattle.paper.specs.Lists.{pick}
 use Rattle.text_protocol.specs.Bytes.{minusSign, digitZero, digitNine}
 use Rattle.text_protocol.specs.Numbers.{isDigit}
 use Rattle.text_protocol.specs.Written.{Digits, no-digit, digit, value}
-use Rattle.text_protocol.proofs.Spelling.{impossible, digit-is, is-digit}
+use Rattle.text_protocol.proofs.Spelling.{impossible, within-is-digit, digit-is-within}
 use Rattle.text_table.specs.declared.Column.{Column}
 use Rattle.text_table.specs.Exchange.{point, Decimal, whole, pointed}
 use Rattle.text_table.specs.Scan.{Front, front, none, then, starts, numberMost, digits, pastZeros, behindZeros, decimals, behindWhole, number}
-use Rattle.text_table.proofs.Values.{ten-pos, value-split, value-lt, value-more, value-up, cancel, exact}
+use Rattle.text_table.proofs.Values.{ten-pos, value-split, value-lt, value-more, value-not-below, cancelled-equal, whole-without-rest}
 
 -- ---- digits that are written are read
 
@@ -30,9 +30,9 @@ unfolding digits value
 digits-over k n rest no-digit h = let e : 0 + k ≡ k = omega arith in rw e
 digits-over k n rest (digit {b} {t} lo hi d) h =
     let y : ℕ = 10 * n + (b - digitZero) in
-    let o : y ≤ numberMost = omega (arith, value-up y t) in
+    let o : y ≤ numberMost = omega (arith, value-not-below y t) in
     let e : suc (length t) + k ≡ suc (length t + k) = omega arith in
-    rw (e, digit-is b lo hi, le-leb y numberMost o) (digits-over k y rest d h)
+    rw (e, within-is-digit b lo hi, le-leb y numberMost o) (digits-over k y rest d h)
 
 digits-stop : (k n : ℕ) (rest : List ℕ) → starts isDigit rest ≡ false → digits k n rest ≡ front n rest
 unfolding digits starts
@@ -59,7 +59,8 @@ zeros-over rest no-digit e = refl
 zeros-over rest (digit {b} {t} lo hi d) e =
     let s : value (10 * 0 + (b - digitZero)) t ≡ (10 * 0 + (b - digitZero)) * 10 ^ length t + value 0 t
     = value-split (10 * 0 + (b - digitZero)) t in
-    let u : 10 * 0 + (b - digitZero) ≤ value (10 * 0 + (b - digitZero)) t = value-up (10 * 0 + (b - digitZero)) t in
+    let u : 10 * 0 + (b - digitZero) ≤ value (10 * 0 + (b - digitZero)) t = value-not-below
+    (10 * 0 + (b - digitZero)) t in
     let z : b ≡ digitZero = omega arith in
     let r : value 0 t ≡ 0 = omega arith in
     rw (eq-eqb b digitZero z) (zeros-over rest d r)
@@ -149,7 +150,7 @@ module _ (c : Column) (n v : ℕ) {f : List ℕ} (rest : List ℕ) (d : Digits f
       let i : v * 10 ^ length f ≡ (value n f * 10 ^ k) * 10 ^ length f =
       e ∙ ap (λ (x : ℕ). value n f * 10 ^ x) g ∙ ap (λ (x : ℕ). value n f * x) (pow-add 10 k (length f))
       ∙ sym (mul-assoc (value n f) (10 ^ k) (10 ^ length f)) in
-      let j : v ≡ value n f * 10 ^ k = cancel v (value n f * 10 ^ k) (10 ^ length f) (ten-pos (length f)) i in
+      let j : v ≡ value n f * 10 ^ k = cancelled-equal v (value n f * 10 ^ k) (10 ^ length f) (ten-pos (length f)) i in
       let o : value n f ≤ numberMost = omega (arith, le-mul-of-pos-right (value n f) (ten-pos k)) in
       rw (
         digits-all (c .places) n rest d o h s,
@@ -169,11 +170,11 @@ module _ (c : Column) (n v : ℕ) {f : List ℕ} (rest : List ℕ) (d : Digits f
       mul-assoc v (10 ^ length b) (10 ^ c .places)
       ∙ ap (λ (x : ℕ). v * x) (sym (pow-add 10 (length b) (c .places)) ∙ ap (λ (x : ℕ). 10 ^ x) (sym g)) ∙ e in
       let j : v * 10 ^ length b ≡ value n f =
-      cancel (v * 10 ^ length b) (value n f) (10 ^ c .places) (ten-pos (c .places)) i in
+      cancelled-equal (v * 10 ^ length b) (value n f) (10 ^ c .places) (ten-pos (c .places)) i in
       let k : v * 10 ^ length b ≡ value n a * 10 ^ length b + value 0 b =
       j ∙ ap (value n) (q .is) ∙ value-more n a b ∙ value-split (value n a) b in
       let x : (v ≡ value n a) × (value 0 b ≡ 0) =
-      exact v (value n a) (value 0 b) (10 ^ length b) (value-lt (q .second)) k in
+      whole-without-rest v (value n a) (value 0 b) (10 ^ length b) (value-lt (q .second)) k in
       let o : value n a ≤ numberMost = omega (arith, x .0) in
       ap (λ (x : List ℕ). decimals c n (x ++ rest)) (q .is)
       ∙ ap (decimals c n) (append-assoc a b rest)
@@ -259,7 +260,7 @@ digits-back (suc m) n (b ∷ t) v rest e =
     go true false h f back = impossible cc
     go true true h f back =
         let r : Digited (10 * n + (b - digitZero)) t m v rest = back f in
-        let d : (digitZero ≤ b) × (b ≤ digitNine) = is-digit b h in
+        let d : (digitZero ≤ b) × (b ≤ digitNine) = digit-is-within b h in
         record {
           p = b ∷ r .p;
           is = ap (λ (x : List ℕ). b ∷ x) (r .is);

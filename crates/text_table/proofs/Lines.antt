@@ -11,7 +11,7 @@ use borrow.Author.Tests.{leb-true, eqb-true, ne-eqb}
 use Rattle.paper.specs.Lists.{pick}
 use Rattle.paper.specs.Numbers.{idMost, repoLeast, repoMost, rowTermMost, centralMost, priceMost, volumeMost}
 use Rattle.paper.specs.Ranges.{within, withinZ, LentRow, rowAt, closeForVolume, validRow}
-use Rattle.paper.proofs.Logic.{clash, and-left, and-right, and-both}
+use Rattle.paper.proofs.Logic.{not-true-and-false, and-left, and-right, and-both}
 use Rattle.text_protocol.specs.Bytes.{lineFeed, carriageReturn, minusSign, digitNine, isLineFeed, pieces}
 use Rattle.text_protocol.specs.Numbers.{isDigit}
 use Rattle.text_protocol.proofs.Spelling.{impossible}
@@ -241,7 +241,7 @@ cells-back c (d ∷ cs) acc u zs rest e =
 
 within-small : (low most : ℕ) (z : ℤ) → withinZ (pos low) (pos most) z ≡ true → natAbs z ≤ most
 within-small low most (pos n) e = leb-true n most (and-right (leb low n) (leb n most) e)
-within-small low most (negsuc n) e = absurd (clash false e refl)
+within-small low most (negsuc n) e = absurd (not-true-and-false false e refl)
 
 repo-small : (z : ℤ) → withinZ repoLeast repoMost z ≡ true → natAbs z ≤ 9999
 repo-small (pos n) e = leb-true n 9999 e
@@ -291,11 +291,12 @@ record Whole (z : ℤ) : Type 0 where
 whole-pos : {p : List ℕ} {z : ℤ} → Field wholeNumber p z → Whole z
 whole-pos (missing e) = record { n = 0; is = refl }
 whole-pos (plain {v = v} d) = record { n = v; is = refl }
-whole-pos (negative e d) = absurd (clash false e refl)
+whole-pos (negative e d) = absurd (not-true-and-false false e refl)
 
-pub eight : {ps : List (List ℕ)} {zs : List ℤ} → Fields columns ps zs → Eight zs
+pub fields-are-eight : {ps : List (List ℕ)} {zs : List ℤ} → Fields columns ps zs → Eight zs
 unfolding columns
-eight (field {z = z₀} f (field {z = z₁} f₁ (field {z = z₂} f₂ (field {z = z₃} f₃ (field {z = z₄} f₄ (field {z = z₅} f₅
+fields-are-eight (field {z = z₀} f (field {z = z₁} f₁
+    (field {z = z₂} f₂ (field {z = z₃} f₃ (field {z = z₄} f₄ (field {z = z₅} f₅
     (field {z = z₆} f₆ (field {z = z₇} f₇ no-field)))))))) =
     let w : Whole z₀ = whole-pos f in
     record {
@@ -352,7 +353,7 @@ unfolding line
 line-reads {l} {id} {row} {e} {rest} a g =
     let r : inRange (pos id ∷ row) ≡ true =
     range-is id row ∙ and-both (within 1 idMost id) (validRow (rowAt row 0)) (a .known) (a .valid) in
-    let s : Small (pos id ∷ row) = range-small (pos id ∷ row) (eight (a .fields)) r in
+    let s : Small (pos id ∷ row) = range-small (pos id ∷ row) (fields-are-eight (a .fields)) r in
     rw (columns-read l (pieces isSemicolon l) refl (a .fields) s g, r)
 
 pub ended-reads : {p : List ℕ} {id : ℕ} {row : List ℤ} (rest : List ℕ) → Ended p id row
@@ -430,8 +431,8 @@ line-back u zs rest e = go (cells columns [] u) refl e
         let k : r ≡ rest = cc in
         let i : b .xs ≡ zs = b .numbers ∙ j in
         let g : Fields columns (pieces isSemicolon (b .l)) zs = rw i at (b .fields) in
-        rowed u (b .l) (b .e) zs rest (b .is) (rw k at (b .ending)) (b .unbroken) (eight g)
-        (line-of (b .l) zs (eight g) g (rw j at h))
+        rowed u (b .l) (b .e) zs rest (b .is) (rw k at (b .ending)) (b .unbroken) (fields-are-eight g)
+        (line-of (b .l) zs (fields-are-eight g) g (rw j at h))
 
     go : (x : Front (List ℤ)) → cells columns [] u ≡ x
         → then x (λ zs rest. pick (inRange zs) (front zs rest) none) ≡ front zs rest → Rowed u zs rest
@@ -442,8 +443,8 @@ line-back u zs rest e = go (cells columns [] u) refl e
 
 -- seven numbers stand behind the id
 line-long : {l : List ℕ} {id : ℕ} {row : List ℤ} → Line l id row → length row ≡ 7
-line-long a = let e = ap length (eight (a .fields) .are) in omega arith
+line-long a = let e = ap length (fields-are-eight (a .fields) .are) in omega arith
 
-pub row-long : {p : List ℕ} {id : ℕ} {row : List ℤ} → Ended p id row → length row ≡ 7
-row-long (by-lf a) = line-long a
-row-long (by-cr-lf a) = line-long a
+pub row-has-seven : {p : List ℕ} {id : ℕ} {row : List ℤ} → Ended p id row → length row ≡ 7
+row-has-seven (by-lf a) = line-long a
+row-has-seven (by-cr-lf a) = line-long a

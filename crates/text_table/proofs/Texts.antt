@@ -14,14 +14,14 @@ use Rattle.paper.specs.declared.Verdict.the-variants.{Done, BadLine}
 use Rattle.paper.specs.Numbers.{idMost, allNumbersMost}
 use Rattle.paper.specs.Ranges.{within, unsigned}
 use Rattle.paper.specs.Verdicts.{Exactly}
-use Rattle.paper.proofs.Logic.{clash, le-or-lt}
+use Rattle.paper.proofs.Logic.{not-true-and-false, le-or-lt}
 use Rattle.text_protocol.specs.Bytes.{lineFeed, isLineFeed, pieces}
 use Rattle.text_protocol.proofs.Spelling.{impossible}
 use Rattle.text_protocol.proofs.Pieces.{Free, pieces-none, pieces-more, AllFree, piece, pieces-free, pieces-some}
 use Rattle.text_table.specs.declared.Reading.{Reading}
 use Rattle.text_table.specs.Exchange.{Ended, by-lf, by-cr-lf, rowsMost, textMost, Bad, unended, no-row, seventeenth, RowsOf, no-line, its-own, another's, inOne, accepted, refused, Says, too-long, bad-at, good}
 use Rattle.text_table.specs.Scan.{Front, front, none, line, isOf, orBad, collect, reading}
-use Rattle.text_table.proofs.Lines.{ended-reads, reading-unique, Rowed, line-back, row-long}
+use Rattle.text_table.proofs.Lines.{ended-reads, reading-unique, Rowed, line-back, row-has-seven}
 use Rattle.text_table.proofs.Walk.{Sofar, none-yet, own-row, other-row, ends-no-row, ends-seventeenth, ends-unended, ends-good}
 
 -- ---- one thing at most
@@ -231,18 +231,19 @@ module _ (id j : ℕ) (out : within 1 idMost id ≡ false) (out' : within 1 idMo
   bad-outside : (ls : List (List ℕ)) (n : ℕ) → Bad id ls n → Bad j ls n
   bad-outside ls n (unended h g) = unended h g
   bad-outside ls n (no-row h g) = no-row h g
-  bad-outside ls n (seventeenth h e g) = absurd (clash (within 1 idMost id) (ended-known e) out)
+  bad-outside ls n (seventeenth h e g) = absurd (not-true-and-false (within 1 idMost id) (ended-known e) out)
 
   rows-outside : {ls : List (List ℕ)} {rows : List (List ℤ)} → RowsOf id ls rows → RowsOf j ls rows
   rows-outside no-line = no-line
-  rows-outside (its-own e r) = absurd (clash (within 1 idMost id) (ended-known e) out)
+  rows-outside (its-own e r) = absurd (not-true-and-false (within 1 idMost id) (ended-known e) out)
   rows-outside (another's {i = i} e n r) =
-      another's e (λ q. clash (within 1 idMost i) (ended-known e) (ap (within 1 idMost) q ∙ out')) (rows-outside r)
+      another's e (λ q. not-true-and-false (within 1 idMost i) (ended-known e) (ap (within 1 idMost) q ∙ out'))
+      (rows-outside r)
 
 pub none-outside : {id : ℕ} {ls : List (List ℕ)} {rows : List (List ℤ)} → within 1 idMost id ≡ false → RowsOf id ls rows
     → rows ≡ []
 none-outside out no-line = refl
-none-outside {id} out (its-own e r) = absurd (clash (within 1 idMost id) (ended-known e) out)
+none-outside {id} out (its-own e r) = absurd (not-true-and-false (within 1 idMost id) (ended-known e) out)
 none-outside out (another's e n r) = none-outside out r
 
 pub says-outside : (id j : ℕ) {t : List ℕ} {r : Reading} → within 1 idMost id ≡ false → within 1 idMost j ≡ false
@@ -260,7 +261,7 @@ pub rows-sevens : {id : ℕ} {ls : List (List ℕ)} {rows : List (List ℤ)} →
 unfolding inOne
 rows-sevens no-line = refl
 rows-sevens (its-own {row = row} {rows} e r) =
-    length-append row (inOne rows) ∙ omega (arith, row-long e, rows-sevens r)
+    length-append row (inOne rows) ∙ omega (arith, row-has-seven e, rows-sevens r)
 rows-sevens (another's e n r) = rows-sevens r
 
 -- 112 NUMBERS, zeros past the last row

@@ -16,7 +16,7 @@ use Rattle.paper.specs.Ranges.{partsFrom, rowAt, rowsOf, wholeRows, validRow, v
 use Rattle.paper.proofs.Logic.{and-both}
 use Rattle.text_table.specs.declared.Reading.{Reading}
 use Rattle.text_table.specs.Exchange.{Ended, by-lf, by-cr-lf, rowsMost, RowsOf, no-line, its-own, another's, inOne, accepted, refused, Says, too-long, bad-at, good}
-use Rattle.text_table.proofs.Lines.{row-long}
+use Rattle.text_table.proofs.Lines.{row-has-seven}
 use Rattle.text_table.proofs.Texts.{says-few, rows-sevens}
 
 ended-valid : {p : List ℕ} {id : ℕ} {row : List ℤ} → Ended p id row → validRow (rowAt row 0) ≡ true
@@ -49,11 +49,11 @@ every-valid : {id : ℕ} {ls : List (List ℕ)} {rows : List (List ℤ)} (a : Li
 unfolding every partsFrom inOne
 every-valid a no-line = refl
 every-valid a (its-own {row = row} {rows} e r) =
-    let s : length (a ++ row) ≡ length a + 7 = length-append a row ∙ ap (λ (n : ℕ). length a + n) (row-long e) in
+    let s : length (a ++ row) ≡ length a + 7 = length-append a row ∙ ap (λ (n : ℕ). length a + n) (row-has-seven e) in
     let b : List ℤ = inOne rows in
     let i : every validRow (partsFrom rowAt rowNumbers (a ++ (row ++ b)) (length a + 7) (length rows)) ≡ true =
     rw (← s, ← append-assoc a row b) (every-valid (a ++ row) r) in
-    rw (row-at a row b (row-long e), ended-valid e) i
+    rw (row-at a row b (row-has-seven e), ended-valid e) i
 every-valid a (another's e n r) = every-valid a r
 
 rows-valid : {id : ℕ} {ls : List (List ℕ)} {rows : List (List ℤ)} → RowsOf id ls rows → length rows ≤ rowsMost

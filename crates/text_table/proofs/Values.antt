@@ -36,15 +36,15 @@ value-more n [] f = refl
 value-more n (b ∷ w) f = value-more (10 * n + (b - digitZero)) w f
 
 -- a digit more makes no number less
-pub value-up : (n : ℕ) (t : List ℕ) → n ≤ value n t
-value-up n t = rw (value-split n t) (omega (arith, le-mul-of-pos-right n (ten-pos (length t))))
+pub value-not-below : (n : ℕ) (t : List ℕ) → n ≤ value n t
+value-not-below n t = rw (value-split n t) (omega (arith, le-mul-of-pos-right n (ten-pos (length t))))
 
-pub cancel : (a b m : ℕ) → 0 < m → a * m ≡ b * m → a ≡ b
-cancel a b m h e = sym (mul-div-cancel a h) ∙ ap (λ (x : ℕ). x / m) e ∙ mul-div-cancel b h
+pub cancelled-equal : (a b m : ℕ) → 0 < m → a * m ≡ b * m → a ≡ b
+cancelled-equal a b m h e = sym (mul-div-cancel a h) ∙ ap (λ (x : ℕ). x / m) e ∙ mul-div-cancel b h
 
 -- a multiple of m that is q·m and less than m more is q·m
-pub exact : (a q r m : ℕ) → r < m → a * m ≡ q * m + r → (a ≡ q) × (r ≡ 0)
-exact a q r m h e =
+pub whole-without-rest : (a q r m : ℕ) → r < m → a * m ≡ q * m + r → (a ≡ q) × (r ≡ 0)
+whole-without-rest a q r m h e =
     let p : 0 < m = omega arith in
     let s : a ≡ q = sym (mul-div-cancel a p) ∙ ap (λ (x : ℕ). x / m) e ∙ digits-div q h in
     (s, omega (arith, ap (λ (x : ℕ). x * m) s))

@@ -20,7 +20,7 @@ use Rattle.text_protocol.specs.declared.Size.{Size}
 use Rattle.text_protocol.specs.declared.Size.the-variants as size
 use Rattle.text_protocol.specs.Bytes.{run, same, digitZero, digitNine, minusSign}
 use Rattle.text_protocol.specs.Numbers.{isDigit, sizeFrom, sizeOf, upTo, above, below, numberOf, greatest, least}
-use Rattle.text_protocol.proofs.Spelling.{digit-is, low-no-digit, high-no-digit}
+use Rattle.text_protocol.proofs.Spelling.{within-is-digit, low-no-digit, high-no-digit}
 use Rattle.text_word.specs.Parts.{Capped}
 
 -- ---- a run of bytes that pass a test
@@ -90,13 +90,13 @@ module _ (t : List ℕ) (hi : ℕ) (goal : Size) (i x : ℕ) (p : Counting t hi 
 
   pub counting-over : digitZero ≤ b → b ≤ digitNine → hi < 10 * x + (b - digitZero) → size.Bad ≡ goal
   counting-over lo up o =
-      sym (number-over hi (10 * x + (b - digitZero)) (drop (suc i) t) o) ∙ (rw (digit-is b lo up) at here)
+      sym (number-over hi (10 * x + (b - digitZero)) (drop (suc i) t) o) ∙ (rw (within-is-digit b lo up) at here)
 
   pub counting-more : digitZero ≤ b → b ≤ digitNine → 10 * x + (b - digitZero) ≤ hi
       → Counting t hi goal (i + 1) (10 * x + (b - digitZero))
   counting-more lo up o =
       let f : i + 1 ≡ suc i = omega arith in
-      record { in-t = omega arith; below = o; rest = rw f (rw (digit-is b lo up) at here) }
+      record { in-t = omega arith; below = o; rest = rw f (rw (within-is-digit b lo up) at here) }
 
 pub counting-all : (t : List ℕ) (hi : ℕ) (goal : Size) (i x : ℕ) → Counting t hi goal i x → length t ≤ i → size.Is x ≡
     goal

@@ -6,7 +6,7 @@ use native.Mathlib.Omega.{arith}
 use lib.ListN.{getD}
 use borrow.Author.Needs.{needs}
 use Rattle.paper.specs.Ranges.{validTerm, noTerm}
-use Rattle.bond.proofs.Facts.{bond-terms}
+use Rattle.bond.proofs.Facts.{bond-terms-valid}
 use Rattle.bond.proofs.all_limits.Statement.{statement}
 use Rattle.bond.proofs.all_limits.Tie as tie
 
@@ -18,7 +18,7 @@ array-copy-out-term-limits c = search needs
 
 -- what each term asks
 term : (c : tie.After-terms-of) (k : ℕ) → k < 3 → validTerm (getD (c .terms-of .result) k noTerm) ≡ true
-term c k h = rw (c .terms-of .ensures) (bond-terms (c .before .args .b) (c .before .pre .0 .valid) k h)
+term c k h = rw (c .terms-of .ensures) (bond-terms-valid (c .before .args .b) (c .before .pre .0 .valid) k h)
 
 term-limits-requires : tie.Need-term-limits-requires
 term-limits-requires c κs =

@@ -8,7 +8,7 @@ use Rattle.paper.specs.declared.Price.{Price}
 use Rattle.paper.proofs.Logic.{not-true, not-false, and-left, and-right}
 use Rattle.inputs.proofs.Made.{price-made, price-unmade}
 use Rattle.paper_bonds.specs.Bonds.{validBond, validFlows}
-use Rattle.bond.proofs.Answers.{answer-range, answer-face, answer-price}
+use Rattle.bond.proofs.Answers.{answers-out-of-range, answers-no-face-value, answers-price-out-of-range}
 use Rattle.bond.proofs.answer.Statement.{statement}
 use Rattle.bond.proofs.answer.Tie as tie
 
@@ -29,7 +29,7 @@ refused-requires c κs = search needs
 
 returns : tie.Need-returns
 returns c = c .refused .ensures
-    ∙ answer-range _ _ (not-true _ (rw (rule (c .before .before)) at (c .before .if1 .taken)))
+    ∙ answers-out-of-range _ _ (not-true _ (rw (rule (c .before .before)) at (c .before .if1 .taken)))
 
 -- the test of 6 passed
 ruled : (c : tie.Else1)
@@ -42,7 +42,7 @@ refused-requires-2 c κs = search needs
 
 returns-2 : tie.Need-returns-2
 returns-2 c = c .refused2 .ensures
-    ∙ answer-face _ _ (ruled (c .before .before .before)) (eq-eqb _ _ (c .before .if2 .taken))
+    ∙ answers-no-face-value _ _ (ruled (c .before .before .before)) (eq-eqb _ _ (c .before .if2 .taken))
 
 gross-of-requires : tie.Need-gross-of-requires
 gross-of-requires c κs =
@@ -83,7 +83,7 @@ returns-3 c =
     let f = n .before .before in
     let out = price-unmade _ (sym (n .new .ensures) ∙ c .before .enum-told .given .1) in
     c .refused3 .ensures
-    ∙ answer-price _ _ (ruled (f .before .before)) (ne-eqb _ _ (f .if2 .left))
+    ∙ answers-price-out-of-range _ _ (ruled (f .before .before)) (ne-eqb _ _ (f .if2 .left))
     (rw (n .before .gross-of .ensures) at out)
 
 returns-4 : tie.Need-returns-4

@@ -5,7 +5,7 @@ use mathlib.Core.Bool.{true}
 use mir.Facts.{toZ-ofZ}
 use borrow.Author.Needs.{needs}
 use Rattle.paper.specs.Ranges.{validGiven}
-use Rattle.inputs.proofs.Facts.{statics-step, given-statics}
+use Rattle.inputs.proofs.Facts.{statics-step-positive, given-statics-valid}
 use Rattle.paper_bonds.specs.Bonds.{givenOf, bondStatics, validBond}
 use Rattle.bond.proofs.bond_valid.Statement.{statement}
 use Rattle.bond.proofs.bond_valid.Tie as tie
@@ -29,7 +29,7 @@ statics c = rw (c .before .before .before .given-of .ensures) at (c .statics-of 
 
 valid-numbers-requires : tie.Need-valid-numbers-requires
 valid-numbers-requires c κs =
-    (statics c, rw (statics c) (statics-step _ (given-statics _ (passed (c .before)))))
+    (statics c, rw (statics c) (statics-step-positive _ (given-statics-valid _ (passed (c .before)))))
 
 terms-of-requires : tie.Need-terms-of-requires
 terms-of-requires c κs = search needs

@@ -6,7 +6,7 @@ use Rattle.paper.specs.Lists.{some}
 use Rattle.paper.specs.Ranges.{rateAt}
 use Rattle.paper_bonds.specs.Bonds.{bondStatics, flowsOf, bondFigures, allLimits, isCrossed, acceptedBond}
 use Rattle.bond.proofs.Facts.{volatility-ranges}
-use Rattle.bond.proofs.Answers.{answer-crossed, answer-figures}
+use Rattle.bond.proofs.Answers.{answers-band-crossed, answers-figures}
 use Rattle.bond.proofs.priced.Statement.{statement}
 use Rattle.bond.proofs.priced.Tie as tie
 
@@ -62,7 +62,7 @@ returns : tie.Need-returns
 returns c =
     let t = c .before .before in
     let s = t .before .before .before .before .before .before .before .before .before .before in
-    c .refused .ensures ∙ answer-crossed _ _ (s .pre .0) (sym (tested t) ∙ c .before .if1 .taken)
+    c .refused .ensures ∙ answers-band-crossed _ _ (s .pre .0) (sym (tested t) ∙ c .before .if1 .taken)
 
 returns-2 : tie.Need-returns-2
 unfolding acceptedBond
@@ -71,7 +71,7 @@ returns-2 c =
     let f = t .before .before .before .before .before in
     let s = f .before .before .before .before .before in
     rw (s .pre .1, figured f, t .before .all-limits .ensures)
-    (answer-figures _ _ (s .pre .0) (sym (tested t) ∙ c .if1 .left))
+    (answers-figures _ _ (s .pre .0) (sym (tested t) ∙ c .if1 .left))
 
 pub priced-spec : {M : Type 1} → statement M
 priced-spec =

@@ -7,7 +7,7 @@ use Rattle.limits.specs.LimitRanges.{term-days}
 use Rattle.paper_bonds.specs.Bonds.{flowsOf, carryOf, limitsOf}
 use Rattle.paper_bonds.proofs.BondFigures.{bond-statics-valid}
 use Rattle.bond_flows.specs.FlowLaws.{CarryInputs, carry-most}
-use Rattle.bond_limits.proofs.Sizes.{rate-bits}
+use Rattle.bond_limits.proofs.Sizes.{rate-kept-in-bits}
 use Rattle.bond.proofs.Facts.{BondFacts, bond-facts, first-rate-high}
 use Rattle.bond.proofs.term_limits.Statement.{statement}
 use Rattle.bond.proofs.term_limits.Tie as tie
@@ -17,7 +17,7 @@ facts s = bond-facts (s .args .b) (s .pre .0 .valid)
 
 -- REPORate is its own bits read back
 bits : (s : tie.Start) → toZ w64 (ofZ w64 (s .args .b .repo)) ≡ s .args .b .repo
-bits s = rate-bits (s .args .b .repo) (facts s .repo)
+bits s = rate-kept-in-bits (s .args .b .repo) (facts s .repo)
 
 inputs : (s : tie.Start) → CarryInputs (s .args .x .k) (s .args .b .repo)
 inputs s = record { days = term-days (s .args .x) (s .pre .1 .1); rate = facts s .repo }

@@ -11,7 +11,7 @@ use lib.ListN.{length}
 use Rattle.exact.specs.LentLaws.{place-room}
 use Rattle.paper_bonds.specs.BondNumbers.{flowNumbers}
 use Rattle.paper_bonds.specs.Bonds.{flowAt, flowOf, carryDue, carryOf}
-use Rattle.bond_flows.specs.FlowLaws.{CarryInputs, Summing, valid-whole, whole-twos, carry-most, summing-first, summing-amount, summing-next, summing-end}
+use Rattle.bond_flows.specs.FlowLaws.{CarryInputs, Summing, valid-whole, whole-in-twos, carry-most, summing-first, summing-amount, summing-next, summing-end}
 use Rattle.bond_flows.proofs.carry_of.Statement.{statement}
 use Rattle.bond_flows.proofs.carry_of.Tie as tie
 
@@ -28,7 +28,7 @@ loop-holds c = summing-first _ _ _ (c .pre .1)
 room : (c : tie.In-loop Inv-loop μ-loop)
     → c .before .loop .at + flowNumbers ≤ length (c .before .before .args .numbers .now)
 room c =
-    place-room _ _ _ (whole-twos _ (valid-whole _ (c .before .before .pre .1))) (c .before .loop .inv .place)
+    place-room _ _ _ (whole-in-twos _ (valid-whole _ (c .before .before .pre .1))) (c .before .loop .inv .place)
     (c .loop-test .taken)
 
 -- REPORate as the loop has it: its bits read back

@@ -5,7 +5,7 @@ use mathlib.Core.Bool.{true}
 use borrow.Author.Needs.{needs}
 use borrow.Author.Tests.{not-true, not-false}
 use Rattle.paper_bonds.specs.Bonds.{validFlows, wholeFlows}
-use Rattle.bond_flows.specs.FlowLaws.{whole-twos}
+use Rattle.bond_flows.specs.FlowLaws.{whole-in-twos}
 use Rattle.bond_flows.proofs.flows_valid.Statement.{statement}
 use Rattle.bond_flows.proofs.flows_valid.Tie as tie
 
@@ -20,7 +20,7 @@ full : (c : tie.Else1) → wholeFlows (c .before .before .args .numbers .now) �
 full c = sym (c .before .whole-flows .ensures) ∙ not-false _ (c .if1 .left)
 
 every-flow-valid-requires : tie.Need-every-flow-valid-requires
-every-flow-valid-requires c κs = whole-twos _ (full c)
+every-flow-valid-requires c κs = whole-in-twos _ (full c)
 
 returns-2 : tie.Need-returns-2
 unfolding validFlows

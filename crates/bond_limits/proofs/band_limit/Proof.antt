@@ -8,7 +8,7 @@ use Rattle.paper_desk.specs.Limits.{bond, inward, bondLimitOf, growing, farthes
 use Rattle.paper_desk.proofs.LimitSizes.{LimitStatics, valid-limit-statics}
 use Rattle.paper_desk.proofs.KindLaws.{band-monitored, band-unmonitored}
 use Rattle.limits.specs.LimitLaws.{farthest-high}
-use Rattle.bond_limits.proofs.Sizes.{farthest-shifted}
+use Rattle.bond_limits.proofs.Sizes.{farthest-is-shifted}
 use Rattle.bond_limits.proofs.band_limit.Statement.{statement}
 use Rattle.bond_limits.proofs.band_limit.Tie as tie
 
@@ -37,7 +37,7 @@ far : (c : tie.After-shifted-limit)
     (farthest (c .before .before .args .st) (c .before .before .args .side) (c .before .before .args .p .units)))
 far c =
     let a = c .before .before .args in
-    rw (farthest-shifted (a .st) (a .side) (a .p .units), ← c .before .farthest-rate .ensures)
+    rw (farthest-is-shifted (a .st) (a .side) (a .p .units), ← c .before .farthest-rate .ensures)
     (c .shifted-limit .ensures)
 
 monitored-limit-requires : tie.Need-monitored-limit-requires

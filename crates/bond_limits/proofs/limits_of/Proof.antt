@@ -12,13 +12,13 @@ use Rattle.limits.specs.LimitRanges.{term-repo, term-days}
 use Rattle.paper_bonds.specs.Bonds.{limitsFrom}
 use Rattle.paper_bonds.proofs.OffBook.{off-is}
 use Rattle.bond_limits.specs.BondInputs.{PriceRange, SideRange}
-use Rattle.bond_limits.proofs.Sizes.{rate-bits}
+use Rattle.bond_limits.proofs.Sizes.{rate-kept-in-bits}
 use Rattle.bond_limits.proofs.limits_of.Statement.{statement}
 use Rattle.bond_limits.proofs.limits_of.Tie as tie
 
 -- a repo rate is its own bits read back
 bits : (s : tie.Start) (side : Side) → toZ w64 (ofZ w64 (repoOf side (s .args .x))) ≡ repoOf side (s .args .x)
-bits s side = rate-bits (repoOf side (s .args .x)) (term-repo side (s .args .x) (s .pre .1 .1 .term))
+bits s side = rate-kept-in-bits (repoOf side (s .args .x)) (term-repo side (s .args .x) (s .pre .1 .1 .term))
 
 -- what each side asks
 inputs : (s : tie.Start) (side : Side)

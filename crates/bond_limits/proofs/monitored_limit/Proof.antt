@@ -6,7 +6,7 @@ use mir.Facts.{toZ-ofZ}
 use borrow.Author.Needs.{needs}
 use Rattle.paper_desk.specs.Limits.{monitored}
 use Rattle.paper_desk.proofs.LimitSizes.{LimitStatics, valid-limit-statics}
-use Rattle.bond_limits.proofs.Sizes.{spread-product, spread-grows}
+use Rattle.bond_limits.proofs.Sizes.{spread-product-high, spread-grows}
 use Rattle.bond_limits.proofs.monitored_limit.Statement.{statement}
 use Rattle.bond_limits.proofs.monitored_limit.Tie as tie
 
@@ -28,7 +28,8 @@ mul-limit-of c =
     (omega (
       arith,
       statics s,
-      spread-product (a .st) (a .side) (a .p .units) (a .s1 .bp) (statics s .divisor-low) (r .price) (r .rate-high),
+      spread-product-high (a .st) (a .side) (a .p .units) (a .s1 .bp) (statics s .divisor-low) (r .price)
+          (r .rate-high),
     ))
 
 mul-limit-of-2 : tie.Need-mul-limit-of-2

@@ -3,7 +3,7 @@ use mathlib.Core.Path.{_≡_}
 use native.Mathlib.Omega.{arith}
 use borrow.Author.Needs.{needs}
 use Rattle.limits.specs.LimitLaws.{shifted-den}
-use Rattle.bond_limits.proofs.Sizes.{rate-bits, shifted-grows}
+use Rattle.bond_limits.proofs.Sizes.{rate-kept-in-bits, shifted-grows}
 use Rattle.bond_limits.proofs.shifted_limit.Statement.{statement}
 use Rattle.bond_limits.proofs.shifted_limit.Tie as tie
 
@@ -21,7 +21,7 @@ limit-of-requires c κs =
     let a = s .args in
     let repo = s .pre .0 .repo in (
       s .pre .0,
-      rw (c .before .shifted .ensures, rate-bits (a .b .repo) repo)
+      rw (c .before .shifted .ensures, rate-kept-in-bits (a .b .repo) repo)
           (shifted-grows (a .side) (a .p) (a .rate) (a .k) (a .b .repo) (s .pre .1 .0) (s .pre .1 .1) repo),
     )
 
@@ -32,7 +32,7 @@ returns c =
     rw (
       c .limit-of .ensures,
       c .before .before .before .inward .ensures,
-      rate-bits (a .b .repo) (s .pre .0 .repo),
+      rate-kept-in-bits (a .b .repo) (s .pre .0 .repo),
       c .before .before .shifted .ensures,
       shifted-den (a .side) (a .p .units) (a .rate .bp),
     )

@@ -7,7 +7,7 @@ use lib.Ieee.{Float, nan, inf, fin, ne, isNan, binary64, toBits}
 use lib.Ieee.Compare.{differs-from-itself, nan-differs}
 use borrow.Author.Needs.{needs}
 use Rattle.paper.specs.declared.MadePrice.the-variants.{OutOfRange}
-use Rattle.paper.proofs.Logic.{clash}
+use Rattle.paper.proofs.Logic.{not-true-and-false}
 use Rattle.paper_floats.specs.Floats.{priceOfBits, priceOf}
 use Rattle.paper_floats.proofs.ByValue.{nan-refused}
 use Rattle.floats.proofs.price_of.Statement.{statement}
@@ -19,7 +19,7 @@ differs-refused x h = rw (differs-from-itself x (subst T (sym h) tt)) nan-refuse
 -- a float that is itself is a number or an infinity
 no-nan : (x : Float) → ne x x ≡ false → isNan x ≡ false
 unfolding isNan
-no-nan nan h = absurd (clash (ne nan nan) nan-differs h)
+no-nan nan h = absurd (not-true-and-false (ne nan nan) nan-differs h)
 no-nan (inf s) h = refl
 no-nan (fin s m e) h = refl
 

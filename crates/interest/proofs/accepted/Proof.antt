@@ -9,7 +9,7 @@ use Rattle.paper.specs.declared.RepoLimits.{RepoLimits}
 use Rattle.paper.specs.declared.Verdict.the-variants.{Done}
 use Rattle.paper_interest.specs.Interest.{acceptedInterest}
 use Rattle.interest_maturities.specs.KeyLaws.{count-is}
-use Rattle.interest.proofs.Terms.{band-at}
+use Rattle.interest.proofs.Terms.{band-held-is-of-limits}
 use Rattle.interest.proofs.accepted.Statement.{statement}
 use Rattle.interest.proofs.accepted.Tie as tie
 
@@ -32,7 +32,7 @@ returns c =
     let n = f .before .before in
     let m = n .before in
     let band = f .before .band-of in
-    let is = band .ensures ∙ band-at _ _ _ _ (m .point-at .ensures) (n .point-at2 .ensures) in
+    let is = band .ensures ∙ band-held-is-of-limits _ _ _ _ (m .point-at .ensures) (n .point-at2 .ensures) in
     let low : SFits w64 (band .result .low) = search (needs, band .ok) in
     let high : SFits w64 (band .result .high) = search (needs, band .ok) in
     λ j. record {

@@ -5,8 +5,8 @@ use lib.Dec.{ltb}
 use borrow.Author.Needs.{needs}
 use Rattle.paper_interest.specs.Interest.{validInterest, validKeys, maturitiesOf, ascending}
 use Rattle.paper.proofs.Logic.{not-true, not-false}
-use Rattle.interest_maturities.specs.KeyLaws.{valid-whole, valid-eights}
-use Rattle.interest.proofs.Answers.{answer-keys, answer-pair, answer-range, answer-order, answer-figures}
+use Rattle.interest_maturities.specs.KeyLaws.{valid-whole, whole-in-eights}
+use Rattle.interest.proofs.Answers.{answered-keys-valid, answered-pair-in-range, answers-out-of-range, answers-not-ascending, answers-figures}
 use Rattle.interest.proofs.answer.Statement.{statement}
 use Rattle.interest.proofs.answer.Tie as tie
 
@@ -37,25 +37,28 @@ refused-requires c κs = search needs
 
 returns : tie.Need-returns
 returns c = c .refused .ensures
-    ∙ answer-range _ _ (not-true _ (rw (rule (c .before .before)) at (c .before .if1 .taken)))
+    ∙ answers-out-of-range _ _ (not-true _ (rw (rule (c .before .before)) at (c .before .if1 .taken)))
 
 in-order-requires : tie.Need-in-order-requires
-in-order-requires c κs = let keys = answer-keys _ _ (ruled c) in valid-eights _ (valid-whole _ keys)
+in-order-requires c κs = let keys = answered-keys-valid _ _ (ruled c) in whole-in-eights _ (valid-whole _ keys)
 
 refused-requires-2 : tie.Need-refused-requires-2
 refused-requires-2 c κs = search needs
 
 returns-2 : tie.Need-returns-2
 returns-2 c = c .refused2 .ensures
-    ∙ answer-order _ _ (ruled (c .before .before .before))
+    ∙ answers-not-ascending _ _ (ruled (c .before .before .before))
     (not-true _ (rw (c .before .before .in-order .ensures) at (c .before .if2 .taken)))
 
 accepted-requires : tie.Need-accepted-requires
 accepted-requires c κs =
-    let valid = ruled (c .before .before) in (answer-pair _ _ valid (ordered c), answer-keys _ _ valid)
+    let valid = ruled (c .before .before) in (
+      answered-pair-in-range _ _ valid (ordered c),
+      answered-keys-valid _ _ valid,
+    )
 
 returns-3 : tie.Need-returns-3
-returns-3 c = c .accepted .ensures ∙ answer-figures _ _ (ruled (c .before .before .before)) (ordered (c .before))
+returns-3 c = c .accepted .ensures ∙ answers-figures _ _ (ruled (c .before .before .before)) (ordered (c .before))
 
 pub answer-spec : {M : Type 1} → statement M
 answer-spec =

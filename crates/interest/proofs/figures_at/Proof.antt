@@ -7,13 +7,13 @@ use lib.ListN.{length}
 use borrow.Author.Needs.{needs}
 use Rattle.paper.specs.Numbers.{keyNumbers}
 use Rattle.paper_interest.specs.Interest.{maturityFigures, noFigures}
-use Rattle.interest_maturities.specs.KeyLaws.{valid-whole, valid-eights, figure-here, figure-past}
+use Rattle.interest_maturities.specs.KeyLaws.{valid-whole, whole-in-eights, figure-here, figure-past}
 use Rattle.interest.proofs.Terms.{key-in-range}
 use Rattle.interest.proofs.figures_at.Statement.{statement}
 use Rattle.interest.proofs.figures_at.Tie as tie
 
 eights : (c : tie.Start) → length (c .args .numbers .now) % keyNumbers ≡ 0
-eights c = valid-eights _ (valid-whole _ (c .pre .1 .0))
+eights c = whole-in-eights _ (valid-whole _ (c .pre .1 .0))
 
 room : (c : tie.Then1) → keyNumbers * c .before .args .n + keyNumbers ≤ length (c .before .args .numbers .now)
 room c = omega (arith, eights (c .before), c .if1 .taken)

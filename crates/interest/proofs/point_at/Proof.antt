@@ -3,8 +3,8 @@
 use mathlib.Core.Path.{_≡_}
 use mathlib.Core.Logic.{_⊎_, inl, inr}
 use Prim.Native.Nat.{ℕ}
-use Rattle.interest_maturities.specs.KeyLaws.{valid-whole, valid-eights, valid-one}
-use Rattle.interest.proofs.Terms.{point-range, before-range, after-range, point-here, point-between}
+use Rattle.interest_maturities.specs.KeyLaws.{valid-whole, whole-in-eights, whole-has-one}
+use Rattle.interest.proofs.Terms.{point-in-range, key-before-in-range, key-after-in-range, point-here, point-between}
 use Rattle.interest.proofs.point_at.Statement.{statement}
 use Rattle.interest.proofs.point_at.Tie as tie
 
@@ -14,7 +14,7 @@ beside (inl e) n = absurd (n e)
 beside (inr h) n = h
 
 neighbours-requires : tie.Need-neighbours-requires
-neighbours-requires c κs = let w = valid-whole _ (c .pre .1) in (valid-eights _ w, valid-one _ w)
+neighbours-requires c κs = let w = valid-whole _ (c .pre .1) in (whole-in-eights _ w, whole-has-one _ w)
 
 point-of-requires : tie.Need-point-of-requires
 point-of-requires c κs =
@@ -41,8 +41,8 @@ between-requires c κs =
     let reads = p .before .neighbours .ensures in
     let apart = beside (reads .between) (c .before .if1 .left) in
     rw (p .point-of .ensures, c .point-of2 .ensures) (
-      point-range _ _ (s .pre .0) (before-range _ _ (s .args .y) _ _ (s .pre .0) (s .pre .1) reads),
-      (point-range _ _ (s .pre .0) (after-range _ _ (s .args .y) _ _ (s .pre .0) (s .pre .1) reads), apart),
+      point-in-range _ _ (s .pre .0) (key-before-in-range _ _ (s .args .y) _ _ (s .pre .0) (s .pre .1) reads),
+      (point-in-range _ _ (s .pre .0) (key-after-in-range _ _ (s .args .y) _ _ (s .pre .0) (s .pre .1) reads), apart),
     )
 
 returns-2 : tie.Need-returns-2

@@ -1,7 +1,7 @@
 -- `interest::point_of` meets its contract: the figures of the key maturity, and its rate lifted. Assumes nothing.
 use borrow.Author.Needs.{needs}
 use Rattle.paper_interest.specs.Interest.{maturityFigures, KeyRange}
-use Rattle.interest_repo.proofs.Bits.{rate-bits}
+use Rattle.interest_repo.proofs.Bits.{rate-kept-in-bits}
 use Rattle.interest.proofs.Terms.{key-in-range}
 use Rattle.interest.proofs.point_of.Statement.{statement}
 use Rattle.interest.proofs.point_of.Tie as tie
@@ -18,7 +18,7 @@ figures-of-requires : tie.Need-figures-of-requires
 figures-of-requires c κs = (c .before .pre .0, known c)
 
 lifted-requires : tie.Need-lifted-requires
-lifted-requires c κs = rw (rate-bits _ (known (c .before .before) .r)) (known (c .before .before) .r)
+lifted-requires c κs = rw (rate-kept-in-bits _ (known (c .before .before) .r)) (known (c .before .before) .r)
 
 returns : tie.Need-returns
 unfolding maturityFigures
@@ -27,7 +27,7 @@ returns c =
     rw (
       c .lifted .ensures,
       c .before .before .figures-of .ensures,
-      rate-bits (k .maturity-at .result .r) (known k .r),
+      rate-kept-in-bits (k .maturity-at .result .r) (known k .r),
       k .maturity-at .ensures,
     )
 

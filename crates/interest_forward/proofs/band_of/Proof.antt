@@ -3,7 +3,7 @@ use mir.Syntax.{w64}
 use mir.Val.{SFits}
 use mir.Facts.{toZ-ofZ}
 use borrow.Author.Needs.{needs}
-use Rattle.interest_repo.proofs.Bits.{rate-bits}
+use Rattle.interest_repo.proofs.Bits.{rate-kept-in-bits}
 use Rattle.interest_forward.specs.Pair.{bandHeld}
 use Rattle.interest_forward.proofs.band_of.Statement.{statement}
 use Rattle.interest_forward.proofs.band_of.Tie as tie
@@ -33,8 +33,8 @@ returns c =
     let high : SFits w64 (c .lesser .result) = search needs in
     let lower : SFits w64 (h .before .before .lower-worked .result) = search needs in
     let upper : SFits w64 (h .before .upper-worked .result) = search needs in
-    let secrate = rate-bits (s .args .i .secrate) (s .pre .0 .given .secrate) in
-    let money = rate-bits (s .args .i .money) (s .pre .0 .given .money) in
+    let secrate = rate-kept-in-bits (s .args .i .secrate) (s .pre .0 .given .secrate) in
+    let money = rate-kept-in-bits (s .args .i .money) (s .pre .0 .given .money) in
     rw (
       toZ-ofZ low,
       toZ-ofZ high,

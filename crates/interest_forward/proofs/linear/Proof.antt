@@ -5,14 +5,14 @@ use native.Mathlib.Omega.{arith}
 use borrow.Author.Needs.{needs}
 use Rattle.paper.specs.Numbers.{maturityMost}
 use Rattle.interest_forward.specs.Points.{figureMost, linear}
-use Rattle.interest_forward.proofs.Lines.{line-parts}
+use Rattle.interest_forward.proofs.Lines.{line-parts-within}
 use Rattle.interest_forward.proofs.linear.Statement.{statement}
 use Rattle.interest_forward.proofs.linear.Tie as tie
 
 parts : (c : tie.Start)
     → (c .args .f * (c .args .u - c .args .y) ≤ figureMost * maturityMost)
     × (c .args .g * (c .args .y - c .args .t) ≤ figureMost * maturityMost)
-parts c = line-parts (c .args .t) (c .args .f) (c .args .u) (c .args .g) (c .args .y) (c .pre)
+parts c = line-parts-within (c .args .t) (c .args .f) (c .args .u) (c .args .g) (c .args .y) (c .pre)
 
 sub-half-up : tie.Need-sub-half-up
 sub-half-up c = search needs

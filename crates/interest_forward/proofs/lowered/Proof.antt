@@ -11,23 +11,23 @@ use mir.ValLaws.{toZ-pos}
 use mir.Facts.{toZ-ofZ}
 use borrow.Author.Needs.{needs}
 use Rattle.paper.proofs.Logic.{le-or-lt}
-use Rattle.paper.proofs.Differences.{difference-up, difference-down, difference-whole, difference-minus, difference-same}
+use Rattle.paper.proofs.Differences.{difference-is-pos, difference-is-negsuc, whole-is-difference, difference-minus, differences-equal}
 use Rattle.interest_forward.proofs.lowered.Statement.{statement}
 use Rattle.interest_forward.proofs.lowered.Tie as tie
 
 less : (n m : ℕ) → pos n -ℤ pos m ≡ subℕ n m
 less n m =
-    ap (λ (z : ℤ). z -ℤ pos m) (difference-whole n)
-    ∙ ap (λ (z : ℤ). subℕ n 0 -ℤ z) (difference-whole m)
+    ap (λ (z : ℤ). z -ℤ pos m) (whole-is-difference n)
+    ∙ ap (λ (z : ℤ). subℕ n 0 -ℤ z) (whole-is-difference m)
     ∙ difference-minus n 0 m 0
-    ∙ difference-same (n + 0) (0 + m) n m (omega arith)
+    ∙ differences-equal (n + 0) (0 + m) n m (omega arith)
 
 less-fits : (n m : ℕ) → n < 2 ^ 62 → m < 2 ^ 62 → SFits w64 (pos n -ℤ pos m)
 less-fits n m h k = rw (less n m) (go (le-or-lt m n))
   where
     go : (m ≤ n) ⊎ (n < m) → SFits w64 (subℕ n m)
-    go (inl l) = rw (difference-up n m l) (record { sfits = omega arith })
-    go (inr l) = rw (difference-down n m l) (record { sfits = omega arith })
+    go (inl l) = rw (difference-is-pos n m l) (record { sfits = omega arith })
+    go (inr l) = rw (difference-is-negsuc n m l) (record { sfits = omega arith })
 
 cast-result : tie.Need-cast-result
 cast-result c = search needs

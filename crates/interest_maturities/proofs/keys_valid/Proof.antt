@@ -5,7 +5,7 @@ use mathlib.Core.Bool.{true}
 use borrow.Author.Needs.{needs}
 use borrow.Author.Tests.{not-true, not-false}
 use Rattle.paper_interest.specs.Interest.{validKeys, wholeKeys}
-use Rattle.interest_maturities.specs.KeyLaws.{valid-eights}
+use Rattle.interest_maturities.specs.KeyLaws.{whole-in-eights}
 use Rattle.interest_maturities.proofs.keys_valid.Statement.{statement}
 use Rattle.interest_maturities.proofs.keys_valid.Tie as tie
 
@@ -20,7 +20,7 @@ full : (c : tie.Else1) → wholeKeys (c .before .before .args .numbers .now) ≡
 full c = sym (c .before .whole-keys .ensures) ∙ not-false _ (c .if1 .left)
 
 every-key-valid-requires : tie.Need-every-key-valid-requires
-every-key-valid-requires c κs = valid-eights _ (full c)
+every-key-valid-requires c κs = whole-in-eights _ (full c)
 
 returns-2 : tie.Need-returns-2
 unfolding validKeys

@@ -1,7 +1,7 @@
 -- `change_of` meets its contract: the greater of the two distances. Assumes nothing.
 use borrow.Author.Needs.{needs}
 use Rattle.paper_interest.specs.Interest.{changeOf}
-use Rattle.interest_repo.proofs.Bits.{rate-bits}
+use Rattle.interest_repo.proofs.Bits.{rate-kept-in-bits}
 use Rattle.interest_repo.proofs.change_of.Statement.{statement}
 use Rattle.interest_repo.proofs.change_of.Tie as tie
 
@@ -20,7 +20,12 @@ returns c =
     let start = c .before .before .before .before .before .before .before in
     let k = start .args .k in
     rw (c .greater .ensures, c .before .apart2 .ensures, c .before .before .before .before .apart .ensures)
-    (simp (rate-bits (k .r) (start .pre .r), rate-bits (k .r1) (start .pre .r1), rate-bits (k .r2) (start .pre .r2)))
+    (simp (
+      rate-kept-in-bits (k .r) (start .pre .r),
+      rate-kept-in-bits (k .r1) (start .pre .r1),
+      rate-kept-in-bits
+          (k .r2) (start .pre .r2),
+    ))
 
 pub change-of-spec : {M : Type 1} → statement M
 change-of-spec = tie.close (tie.spec apart-requires apart-requires-2 greater-requires returns)

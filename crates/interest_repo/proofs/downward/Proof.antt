@@ -1,6 +1,6 @@
 -- `downward` meets its contract: the estimate with that minimum. Assumes nothing.
 use borrow.Author.Needs.{needs}
-use Rattle.interest_repo.proofs.Bits.{rate-bits}
+use Rattle.interest_repo.proofs.Bits.{rate-kept-in-bits}
 use Rattle.interest_repo.proofs.downward.Statement.{statement}
 use Rattle.interest_repo.proofs.downward.Tie as tie
 
@@ -15,7 +15,7 @@ returns c =
     let start = c .before .before .before .before in
     let k = start .args .k in
     rw (c .estimate .ensures, c .before .security-minimum .ensures .0)
-    (simp (rate-bits (k .index) (start .pre .1 .0 .index), rate-bits (k .r) (start .pre .1 .0 .r)))
+    (simp (rate-kept-in-bits (k .index) (start .pre .1 .0 .index), rate-kept-in-bits (k .r) (start .pre .1 .0 .r)))
 
 pub downward-spec : {M : Type 1} → statement M
 downward-spec = tie.close (tie.spec security-minimum-requires estimate-requires returns)

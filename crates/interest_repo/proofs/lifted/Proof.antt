@@ -1,12 +1,12 @@
 -- `lifted` meets its contract: the base is one that `grow` takes. Assumes nothing.
 use mir.Facts.{toZ-ofZ}
 use borrow.Author.Needs.{needs}
-use Rattle.interest_repo.proofs.Bits.{rate-size}
+use Rattle.interest_repo.proofs.Bits.{mag-within-repo-most}
 use Rattle.interest_repo.proofs.lifted.Statement.{statement}
 use Rattle.interest_repo.proofs.lifted.Tie as tie
 
 grow-requires : tie.Need-grow-requires
-grow-requires c κs = let size = rate-size (c .args .x) (c .pre) in search (needs, size)
+grow-requires c κs = let size = mag-within-repo-most (c .args .x) (c .pre) in search (needs, size)
 
 returns : tie.Need-returns
 returns c = rw (toZ-ofZ (c .before .fits .x)) at (c .grow .ensures)

@@ -5,7 +5,7 @@ use Prim.Native.Nat.{_+_, _-_}
 use native.Mathlib.Omega.{arith}
 use mir.Facts.{toZ-ofZ}
 use borrow.Author.Needs.{needs}
-use Rattle.interest_repo.specs.Lift.{lifted, lifted-range, lifted-part}
+use Rattle.interest_repo.specs.Lift.{lifted, lifted-within, lifted-part}
 use Rattle.interest_repo.proofs.security_minimum.Statement.{statement}
 use Rattle.interest_repo.proofs.security_minimum.Tie as tie
 
@@ -22,7 +22,7 @@ rate-is c = rw (toZ-ofZ (c .before .before .fits .rate)) at (c .lifted2 .ensures
 add-less : tie.Need-add-less
 add-less c =
     let start = c .before in
-    omega (arith, index-is c, lifted-range (start .args .index) (start .pre .0) .0, start .pre .2)
+    omega (arith, index-is c, lifted-within (start .args .index) (start .pre .0) .0, start .pre .2)
 
 lifted-requires-2 : tie.Need-lifted-requires-2
 lifted-requires-2 c κs = search needs
@@ -40,8 +40,8 @@ returns c =
       omega (
         arith,
         is,
-        lifted-range (a .index) (start .pre .0) .0,
-        lifted-range (a .rate) (start .pre .1) .1,
+        lifted-within (a .index) (start .pre .0) .0,
+        lifted-within (a .rate) (start .pre .1) .1,
         start .pre .2,
       ),
     )

@@ -5,7 +5,7 @@ use mir.Val.{SFits}
 use mir.Facts.{toZ-ofZ}
 use borrow.Author.Needs.{needs}
 use Rattle.paper_desk.specs.Gateway.{bandCall}
-use Rattle.gateway.proofs.GatewayStatics.{read, read-given}
+use Rattle.gateway.proofs.GatewayStatics.{read-is-unsigned, read-given}
 use Rattle.nedrubal.proofs.nedrubal_band_limit.Statement.{statement}
 use Rattle.nedrubal.proofs.nedrubal_band_limit.Tie as tie
 
@@ -21,12 +21,12 @@ returns c =
     (f .min2) (f .min3) (f .smax) (f .xpr)
     (f .shift) (f .pchmax) (f .pclmax) (f .w) (f .u) (f .monitoring) (f .ewma) (f .uevening) (f .autochange)
     (f .eveningmax) (f .useexternal) (g .given-of .ensures) i)
-    (read (f .p) (c .before .before .before .before .before .unsigned .ensures) i)
-    (read (f .s1) (c .before .before .before .before .unsigned2 .ensures) i)
-    (read (f .k) (c .before .before .before .unsigned3 .ensures) i)
+    (read-is-unsigned (f .p) (c .before .before .before .before .before .unsigned .ensures) i)
+    (read-is-unsigned (f .s1) (c .before .before .before .before .unsigned2 .ensures) i)
+    (read-is-unsigned (f .k) (c .before .before .before .unsigned3 .ensures) i)
     (toZ-ofZ (f .repo) i)
-    (read (f .c) (c .before .before .unsigned4 .ensures) i)
-    (read (f .side) (c .before .unsigned5 .ensures) i))
+    (read-is-unsigned (f .c) (c .before .before .unsigned4 .ensures) i)
+    (read-is-unsigned (f .side) (c .before .unsigned5 .ensures) i))
 
 pub nedrubal-band-limit-spec : {M : Type 1} → statement M
 nedrubal-band-limit-spec =

@@ -1,9 +1,9 @@
 -- `record_calls::admitted` meets its contract: an admission with a price that is not made is refused 4, and with both
 -- made it is `admitted_at`'s. Assumes nothing.
 use mathlib.Core.Path.{_≡_, sym, _∙_}
-use Rattle.paper.proofs.Logic.{clash}
+use Rattle.paper.proofs.Logic.{not-true-and-false}
 use Rattle.inputs.proofs.Made.{price-made, price-unmade}
-use Rattle.record_calls.proofs.Judging.{admission-invalid, admission-prices}
+use Rattle.record_calls.proofs.Judging.{admission-invalid, admission-prices-valid}
 use borrow.Author.Needs.{needs}
 use Rattle.record_calls.proofs.admitted.Statement.{statement}
 use Rattle.record_calls.proofs.admitted.Tie as tie
@@ -45,13 +45,13 @@ returns : tie.Need-returns
 returns c =
     let n = c .before .before .before in
     let out = price-unmade _ (sym (n .before .new .ensures) ∙ c .before .enum-told .given .1) in
-    c .refused .ensures ∙ admission-invalid _ _ _ (λ v. clash _ (admission-prices _ v .0) out)
+    c .refused .ensures ∙ admission-invalid _ _ _ (λ v. not-true-and-false _ (admission-prices-valid _ v .0) out)
 
 returns-2 : tie.Need-returns-2
 returns-2 c =
     let n = c .before .before .before .before .before .before in
     let out = price-unmade _ (sym (n .new2 .ensures) ∙ c .before .enum-told2 .given .1) in
-    c .refused2 .ensures ∙ admission-invalid _ _ _ (λ v. clash _ (admission-prices _ v .1) out)
+    c .refused2 .ensures ∙ admission-invalid _ _ _ (λ v. not-true-and-false _ (admission-prices-valid _ v .1) out)
 
 returns-3 : tie.Need-returns-3
 returns-3 c = search needs

@@ -9,7 +9,7 @@ use Rattle.paper.specs.Verdicts.{isDone, firstOf}
 use Rattle.record_answers.specs.Effects.{isKnown, refusedEffect}
 use Rattle.record_calls.specs.SharedChecks.{sharedChecks}
 use Rattle.record_answers.proofs.Tests.{passed, failed, known-sound}
-use Rattle.record_calls.proofs.Judging.{Passed, past-shared, move-stopped, move-not-allowed, move-used-up, move-accepted, move-left}
+use Rattle.record_calls.proofs.Judging.{Passed, past-shared, move-stopped, move-not-allowed, move-used-up, move-accepted, a-move-is-left}
 use borrow.Author.Needs.{needs}
 use Rattle.record_calls.proofs.moved.Statement.{statement}
 use Rattle.record_calls.proofs.moved.Tie as tie
@@ -80,7 +80,7 @@ returns-3 c =
 moved-requires : tie.Need-moved-requires
 moved-requires c κs =
     let v = known-sound _ (past (c .before .before .before .before .before) .known) in
-    (v, move-left _ (c .before .before .side-of .result) v (rw (c .before .count-of .ensures) at (c .if3 .left)))
+    (v, a-move-is-left _ (c .before .before .side-of .result) v (rw (c .before .count-of .ensures) at (c .if3 .left)))
 
 written-requires : tie.Need-written-requires
 written-requires c κs = search needs

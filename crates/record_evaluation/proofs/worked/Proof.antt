@@ -15,7 +15,7 @@ use Rattle.record_answers.specs.Effects.{isKnown}
 use Rattle.record_evaluation.specs.Workings.{Begun}
 use Rattle.record_answers.proofs.Tests.{passed, failed, known-sound}
 use Rattle.record_evaluation.proofs.Judging.{day-unknown, day-out, day-row-crossed, day-not-after, day-beyond}
-use Rattle.record_evaluation.proofs.Evaluations.{day-valid, used-prices, beyond, Made, made}
+use Rattle.record_evaluation.proofs.Evaluations.{day-valid-parts, used-prices-within-most, beyond-does-not-fit, Made, made}
 use borrow.Author.Needs.{needs}
 use Rattle.record_evaluation.proofs.worked.Statement.{statement}
 use Rattle.record_evaluation.proofs.worked.Tie as tie
@@ -81,7 +81,7 @@ returns-2 c =
     (failed _ (c .before .before .valid-day .ensures) (c .before .if2 .taken))
 
 has-crossed-row-requires : tie.Need-has-crossed-row-requires
-has-crossed-row-requires c κs = valid-sevens _ (valid-whole _ (day-valid _ _ (valid c) .1))
+has-crossed-row-requires c κs = valid-sevens _ (valid-whole _ (day-valid-parts _ _ (valid c) .1))
 
 unmade-requires-3 : tie.Need-unmade-requires-3
 unmade-requires-3 c κs = search needs
@@ -117,10 +117,10 @@ evaluate-requires c κs =
     let s = e .before .before .before .before .before .before .before .before .before .before in
     let grid = rw (← g .grid-of .ensures) at (grid-range (s .args .s .rec .statics .lot)) in
     let sound = known-sound _ (b .known) in (
-      day-valid _ _ (b .valid) .1,
+      day-valid-parts _ _ (b .valid) .1,
       (
         (sound-facts _ sound .figures .later .price .most, grid .0, grid .1),
-        rw (c .used-by .ensures) (used-prices _ sound),
+        rw (c .used-by .ensures) (used-prices-within-most _ sound),
       ),
     )
 
@@ -136,12 +136,12 @@ enum-known-evaluation c = search needs
 worked-at-requires : tie.Need-worked-at-requires
 worked-at-requires c κs =
     let b = begun (c .before .before .before .before .before .before .before .before .before .before) in
-    (known-sound _ (b .known), (day-valid _ _ (b .valid) .0, price (c .before) .price))
+    (known-sound _ (b .known), (day-valid-parts _ _ (b .valid) .0, price (c .before) .price))
 
 returns-5 : tie.Need-returns-5
 returns-5 c =
     let e = c .before .before .before .before .before .before .before in
-    let test = beyond _ _ _ _ (evaluation (c .before .before .before) ∙ c .before .enum-told .given .1) in
+    let test = beyond-does-not-fit _ _ _ _ (evaluation (c .before .before .before) ∙ c .before .enum-told .given .1) in
     c .unmade5 .ensures ∙ day-beyond _ _ _ (begun (e .before .before .before)) (after e) test
 
 returns-6 : tie.Need-returns-6

@@ -12,7 +12,7 @@ use Rattle.inputs.proofs.Facts.{day-facts}
 use Rattle.rates.proofs.Statics.{sound-ranges}
 use Rattle.record_writing.specs.Evaluates.{moveTo, figuresAt}
 use Rattle.record_evaluation.proofs.Judging.{day-moved-far, day-crossed, day-accepted}
-use Rattle.record_evaluation.proofs.Evaluations.{sound-prices}
+use Rattle.record_evaluation.proofs.Evaluations.{sound-prices-valid}
 use borrow.Author.Needs.{needs}
 use Rattle.record_evaluation.proofs.worked_at.Statement.{statement}
 use Rattle.record_evaluation.proofs.worked_at.Tie as tie
@@ -35,7 +35,7 @@ move-tested c rows e = rw (price-is (c .before) rows e, ← c .before .move-of .
 move-of-requires : tie.Need-move-of-requires
 move-of-requires c κs =
     let s = c .before .before .before .before .before .before .before .before in
-    let both = sound-prices _ (s .pre .0) in
+    let both = sound-prices-valid _ (s .pre .0) in
     (both .0, both .1, s .pre .1 .1)
 
 move-too-large-requires : tie.Need-move-too-large-requires

@@ -7,8 +7,8 @@ use borrow.Author.Needs.{needs}
 use Rattle.paper.specs.Numbers.{idMost}
 use Rattle.paper.specs.Ranges.{within, validStatics, validFigures, soundFigures}
 use Rattle.paper.proofs.Logic.{and-right}
-use Rattle.inputs.proofs.Tests.{two-tests}
-use Rattle.inputs.proofs.Facts.{statics-step}
+use Rattle.inputs.proofs.Tests.{two-tests-same}
+use Rattle.inputs.proofs.Facts.{statics-step-positive}
 use Rattle.record_soundness.proofs.sound_figures.Statement.{statement}
 use Rattle.record_soundness.proofs.sound_figures.Tie as tie
 
@@ -24,12 +24,12 @@ last-day-requires c κs = search needs
 passed : (c : tie.Then1)
     → (within 1 idMost (c .before .before .before .before .args .r .id)
     && validStatics (c .before .before .before .before .args .r .statics)) ≡ true
-passed c = two-tests (c .before .before .valid-id .ensures) (c .before .valid-statics .ensures) (c .if1 .taken)
+passed c = two-tests-same (c .before .before .valid-id .ensures) (c .before .valid-statics .ensures) (c .if1 .taken)
 
 valid-figures-requires : tie.Need-valid-figures-requires
 valid-figures-requires c κs =
     let id = within 1 idMost (c .before .before .before .before .before .args .r .id) in
-    statics-step _ (and-right id _ (passed (c .before)))
+    statics-step-positive _ (and-right id _ (passed (c .before)))
 
 returns : tie.Need-returns
 returns c = rw (
@@ -39,7 +39,8 @@ returns c = rw (
 )
 
 returns-2 : tie.Need-returns-2
-returns-2 c = rw (two-tests (c .before .before .valid-id .ensures) (c .before .valid-statics .ensures) (c .if1 .left))
+returns-2 c = rw (two-tests-same (c .before .before .valid-id .ensures) (c .before .valid-statics .ensures)
+    (c .if1 .left))
 
 pub sound-figures-spec : {M : Type 1} → statement M
 sound-figures-spec =

@@ -1,6 +1,6 @@
 -- `record_soundness::valid_rates` meets its contract: one test at each of the three places. Assumes nothing.
 use borrow.Author.Needs.{needs}
-use Rattle.inputs.proofs.Tests.{all-three}
+use Rattle.inputs.proofs.Tests.{three-tests-same}
 use Rattle.record_soundness.proofs.valid_rates.Statement.{statement}
 use Rattle.record_soundness.proofs.valid_rates.Tie as tie
 
@@ -23,7 +23,7 @@ is-rate-requires-3 : tie.Need-is-rate-requires-3
 is-rate-requires-3 c κs = search needs
 
 returns : tie.Need-returns
-returns c = all-three (c .before .before .is-rate .ensures) (c .before .is-rate2 .ensures) (c .is-rate3 .ensures)
+returns c = three-tests-same (c .before .before .is-rate .ensures) (c .before .is-rate2 .ensures) (c .is-rate3 .ensures)
 
 pub valid-rates-spec : {M : Type 1} → statement M
 valid-rates-spec =

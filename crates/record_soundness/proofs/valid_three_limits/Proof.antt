@@ -1,6 +1,6 @@
 -- `record_soundness::valid_three_limits` meets its contract: one test at each of the three places. Assumes nothing.
 use borrow.Author.Needs.{needs}
-use Rattle.inputs.proofs.Tests.{all-three}
+use Rattle.inputs.proofs.Tests.{three-tests-same}
 use Rattle.record_soundness.proofs.valid_three_limits.Statement.{statement}
 use Rattle.record_soundness.proofs.valid_three_limits.Tie as tie
 
@@ -23,7 +23,7 @@ valid-limits-requires-3 : tie.Need-valid-limits-requires-3
 valid-limits-requires-3 c κs = search needs
 
 returns : tie.Need-returns
-returns c = all-three (c .before .before .before .before .valid-limits .ensures)
+returns c = three-tests-same (c .before .before .before .before .valid-limits .ensures)
     (c .before .before .valid-limits2 .ensures) (c .valid-limits3 .ensures)
 
 pub valid-three-limits-spec : {M : Type 1} → statement M

@@ -1,6 +1,6 @@
 -- `record_soundness::valid_three_near` meets its contract: one test at each of the three places. Assumes nothing.
 use borrow.Author.Needs.{needs}
-use Rattle.inputs.proofs.Tests.{all-three}
+use Rattle.inputs.proofs.Tests.{three-tests-same}
 use Rattle.record_soundness.proofs.valid_three_near.Statement.{statement}
 use Rattle.record_soundness.proofs.valid_three_near.Tie as tie
 
@@ -23,7 +23,7 @@ valid-near-seconds-requires-3 : tie.Need-valid-near-seconds-requires-3
 valid-near-seconds-requires-3 c κs = search needs
 
 returns : tie.Need-returns
-returns c = all-three (c .before .before .valid-near-seconds .ensures) (c .before .valid-near-seconds2 .ensures)
+returns c = three-tests-same (c .before .before .valid-near-seconds .ensures) (c .before .valid-near-seconds2 .ensures)
     (c .valid-near-seconds3 .ensures)
 
 pub valid-three-near-spec : {M : Type 1} → statement M

@@ -13,7 +13,7 @@ use Rattle.record_soundness.proofs.Facts.{sound-facts}
 use Rattle.limits.specs.LimitRanges.{RangeInputs}
 use Rattle.record_writing.specs.Asked.{at-three}
 use Rattle.record_writing.specs.Evaluates.{moveTo, figuresAt}
-use Rattle.record_writing.proofs.Facts.{three-places, bands-asked, day-terms, rates-held}
+use Rattle.record_writing.proofs.Facts.{list-of-three-is, bands-asked, day-terms-valid, rates-held}
 use Rattle.record_writing.proofs.evaluated.Statement.{statement}
 use Rattle.record_writing.proofs.evaluated.Tie as tie
 
@@ -41,7 +41,7 @@ bands-of-requires c κs =
     let price-and-rate = rated (c .before .before) 0 (omega arith) in (
       sound-facts _ (s .pre .sound-record) .valid,
       bands-asked _ _ _ (s .args .d .terms) price-and-rate (omega arith, omega arith)
-          (day-terms (s .args .d) (s .pre .day)),
+          (day-terms-valid (s .args .d) (s .pre .day)),
     )
 
 returns : tie.Need-returns
@@ -54,7 +54,7 @@ returns c rows e =
       c .bands-of .ensures,
       c .before .before .ranges-of .ensures,
       s .pre .figures,
-      three-places (s .args .d .terms) noTerm terms,
+      list-of-three-is (s .args .d .terms) noTerm terms,
     )
 
 pub evaluated-spec : {M : Type 1} → statement M

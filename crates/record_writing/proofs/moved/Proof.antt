@@ -4,7 +4,7 @@ use borrow.Author.Needs.{needs}
 use Rattle.paper_desk.specs.Desk.{moved}
 use Rattle.record_soundness.proofs.Facts.{sound-facts}
 use Rattle.limits.specs.LimitRanges.{one-more-high}
-use Rattle.record_writing.proofs.Facts.{bands-asked, sound-terms, sound-inputs, shifts-asked}
+use Rattle.record_writing.proofs.Facts.{bands-asked, sound-terms-valid, sound-range-inputs, shifts-asked}
 use Rattle.record_writing.proofs.moved.Statement.{statement}
 use Rattle.record_writing.proofs.moved.Tie as tie
 
@@ -21,14 +21,17 @@ bands-of-requires c κs =
     let r = s .args .r in
     let v = s .pre .0 in
     let known = sound-facts r v in
-    let counts = one-more-high (s .args .side) (r .moves) (known .moves-upper) (known .moves-lower) (s .pre .1) in
-    (known .valid, rw (c .one-more .ensures) (bands-asked _ _ _ (r .terms) (sound-inputs r v) counts (sound-terms r v)))
+    let counts = one-more-high (s .args .side) (r .moves) (known .moves-upper) (known .moves-lower) (s .pre .1) in (
+      known .valid,
+      rw (c .one-more .ensures) (bands-asked _ _ _ (r .terms) (sound-range-inputs r v) counts
+          (sound-terms-valid r v)),
+    )
 
 delta-requires : tie.Need-delta-requires
 delta-requires c κs =
     let s =
     c .before .before .before .before .before .before .before .before .before .before .before .before .before .before in
-    (sound-facts _ (s .pre .0) .valid, sound-inputs _ (s .pre .0))
+    (sound-facts _ (s .pre .0) .valid, sound-range-inputs _ (s .pre .0))
 
 ranges-moved-requires : tie.Need-ranges-moved-requires
 ranges-moved-requires c κs =

@@ -2,15 +2,15 @@
 -- Assumes nothing.
 use native.Mathlib.Omega.{arith}
 use Rattle.paper_desk.specs.Desk.{quoted}
-use Rattle.record_writing.proofs.Facts.{quote-place}
+use Rattle.record_writing.proofs.Facts.{quoted-term-below-three}
 use Rattle.record_writing.proofs.quoted.Statement.{statement}
 use Rattle.record_writing.proofs.quoted.Tie as tie
 
 mul-near : tie.Need-mul-near
-mul-near c = record { fits = omega (arith, quote-place _ (c .before .pre .0)) }
+mul-near c = record { fits = omega (arith, quoted-term-below-three _ (c .before .pre .0)) }
 
 array-set-from-near : tie.Need-array-set-from-near
-array-set-from-near c = quote-place _ (c .before .pre .0)
+array-set-from-near c = quoted-term-below-three _ (c .before .pre .0)
 
 returns : tie.Need-returns
 unfolding quoted

@@ -3,7 +3,7 @@ use mathlib.Core.Path.{_≡_, refl, sym, ap, _∙_}
 use lib.Ieee.{binary64, ofBits}
 use mir.Facts.{toZ-ofZ}
 use Rattle.text_protocol.specs.Calls.{bitsOf, floatOf}
-use Rattle.text_call.proofs.Bits.{above, up-to, zero-by-zero}
+use Rattle.text_call.proofs.Bits.{nan-above, no-nan-up-to, zero-by-zero}
 use borrow.Author.Needs.{needs}
 use Rattle.text_call.proofs.float_of.Statement.{statement}
 use Rattle.text_call.proofs.float_of.Tie as tie
@@ -19,10 +19,10 @@ unfolding floatOf
 bits-are c = ap (ofBits binary64) (rw (toZ-ofZ (c .before .fits .z)) at (c .bits-of .ensures))
 
 returns : tie.Need-returns
-returns c = zero-by-zero ∙ above _ (c .if1 .taken) ∙ bits-are (c .before)
+returns c = zero-by-zero ∙ nan-above _ (c .if1 .taken) ∙ bits-are (c .before)
 
 float-from-bits-result : tie.Need-float-from-bits-result
-float-from-bits-result c = rw (up-to (c .before .bits-of .result) (c .if1 .left)) tt
+float-from-bits-result c = rw (no-nan-up-to (c .before .bits-of .result) (c .if1 .left)) tt
 
 returns-2 : tie.Need-returns-2
 returns-2 c = bits-are (c .before)

@@ -4,7 +4,7 @@ use mathlib.Core.Bool.{true}
 use Prim.Native.Nat.{_-_, _≤_}
 use lib.ListN.{length}
 use borrow.Author.Needs.{needs}
-use Rattle.paper.proofs.Logic.{clash}
+use Rattle.paper.proofs.Logic.{not-true-and-false}
 use Rattle.text_rows.proofs.take_in.Statement.{statement}
 use Rattle.text_rows.proofs.take_in.Tie as tie
 
@@ -21,7 +21,7 @@ same-length : tie.Need-same-length Inv-loop μ-loop
 same-length c = search needs
 
 returns : tie.Need-returns Inv-loop μ-loop
-returns c = (search needs, search needs, λ e. absurd (clash true refl e))
+returns c = (search needs, search needs, λ e. absurd (not-true-and-false true refl e))
 
 fill-requires : tie.Need-fill-requires Inv-loop μ-loop
 fill-requires c κs = search needs

@@ -6,9 +6,9 @@ use native.Mathlib.Omega.{arith}
 use borrow.Author.Needs.{needs}
 use Rattle.paper.specs.Ranges.{validStatics}
 use Rattle.paper_desk.specs.Gateway.{levelCall}
-use Rattle.inputs.proofs.Facts.{statics-step, statics-facts}
+use Rattle.inputs.proofs.Facts.{statics-step-positive, statics-facts}
 use Rattle.gateway.specs.GatewayLaws.{figure-high}
-use Rattle.gateway.proofs.Answers.{made-valid, four, six, figure}
+use Rattle.gateway.proofs.Answers.{made-valid, answers-minus-four, answers-minus-six, answers-figure}
 use Rattle.gateway.proofs.level.level_answer.Statement.{statement}
 use Rattle.gateway.proofs.level.level_answer.Tie as tie
 
@@ -22,7 +22,7 @@ statics-of-requires : tie.Need-statics-of-requires
 statics-of-requires c κs = search needs
 
 level-in-range-requires : tie.Need-level-in-range-requires
-level-in-range-requires c κs = statics-step _ (valid c)
+level-in-range-requires c κs = statics-step-positive _ (valid c)
 
 level-figure-requires : tie.Need-level-figure-requires
 level-figure-requires c κs = (valid (c .before .before), sym (c .before .level-in-range .ensures) ∙ c .if2 .taken)
@@ -40,7 +40,7 @@ returns c =
     let r = c .before .before .before in
     let s = r .before in
     rw (← s .statics-of .ensures)
-    (figure _ _ _ (search needs) (s .before .before .valid-given .ensures) (c .figure .ensures)
+    (answers-figure _ _ _ (search needs) (s .before .before .valid-given .ensures) (c .figure .ensures)
     (c .before .level-figure .ensures)
     (s .before .if1 .taken) (r .level-in-range .ensures) (c .before .before .if2 .taken))
 
@@ -53,7 +53,8 @@ returns-2 c =
     let r = c .before .before in
     let s = r .before in
     rw (← s .statics-of .ensures)
-    (six _ _ _ (search needs) (s .before .before .valid-given .ensures) (c .refusal .ensures) (s .before .if1 .taken)
+    (answers-minus-six _ _ _ (search needs) (s .before .before .valid-given .ensures) (c .refusal .ensures)
+    (s .before .if1 .taken)
     (r .level-in-range .ensures) (c .before .if2 .left))
 
 refusal-requires-2 : tie.Need-refusal-requires-2
@@ -61,7 +62,7 @@ refusal-requires-2 c κs = search needs
 
 returns-3 : tie.Need-returns-3
 unfolding levelCall
-returns-3 c = four _ _ _ (search needs) (c .before .before .valid-given .ensures) (c .refusal2 .ensures)
+returns-3 c = answers-minus-four _ _ _ (search needs) (c .before .before .valid-given .ensures) (c .refusal2 .ensures)
     (c .before .if1 .left)
 
 pub level-answer-spec : {M : Type 1} → statement M

@@ -6,7 +6,7 @@ use borrow.Author.Needs.{needs}
 use mathlib.Core.Bool.{true}
 use Rattle.paper.specs.Ranges.{validStatics}
 use Rattle.gateway.specs.LimitCalls.{limitInRange, LimitInputs, limitFigure, limitCall, limit-inputs, limit-high}
-use Rattle.gateway.proofs.Answers.{made-valid, four, six, figure}
+use Rattle.gateway.proofs.Answers.{made-valid, answers-minus-four, answers-minus-six, answers-figure}
 use Rattle.gateway.proofs.InHand.{Held, held, limit-out}
 use Rattle.gateway.proofs.limit.limit_answer.Statement.{statement}
 use Rattle.gateway.proofs.limit.limit_answer.Tie as tie
@@ -70,7 +70,7 @@ returns c =
     let out = limit-out _ _ none (s .statics-of .result) _ _ in
     let given = s .before .before .valid-given .ensures in
     rw (← s .statics-of .ensures)
-    (six _ _ _ (search needs) given (c .refusal .ensures) (s .before .if1 .taken) refl out)
+    (answers-minus-six _ _ _ (search needs) given (c .refusal .ensures) (s .before .if1 .taken) refl out)
 
 limit-in-range-requires : tie.Need-limit-in-range-requires
 limit-in-range-requires c κs = rw (in-hand c .of-price) (in-hand c .price)
@@ -99,7 +99,7 @@ returns-2 c =
     let s = t .before .before .before .before .before .before in
     let given = s .before .before .valid-given .ensures in
     rw (← s .statics-of .ensures, ← c .before .before .side-of .ensures)
-    (figure _ _ _ (search needs) given (c .figure .ensures) (limited (c .before))
+    (answers-figure _ _ _ (search needs) given (c .figure .ensures) (limited (c .before))
     (s .before .if1 .taken) (tested (t .before)) (t .if2 .taken))
 
 refusal-requires-2 : tie.Need-refusal-requires-2
@@ -112,7 +112,8 @@ returns-3 c =
     let s = t .before .before .before .before .before .before in
     let given = s .before .before .valid-given .ensures in
     rw (← s .statics-of .ensures)
-    (six _ _ _ (search needs) given (c .refusal2 .ensures) (s .before .if1 .taken) (tested (t .before)) (t .if2 .left))
+    (answers-minus-six _ _ _ (search needs) given (c .refusal2 .ensures) (s .before .if1 .taken) (tested (t .before))
+    (t .if2 .left))
 
 refusal-requires-3 : tie.Need-refusal-requires-3
 refusal-requires-3 c κs = search needs
@@ -121,7 +122,7 @@ returns-4 : tie.Need-returns-4
 unfolding limitCall
 returns-4 c =
     let given = c .before .before .valid-given .ensures in
-    four _ _ _ (search needs) given (c .refusal3 .ensures) (c .before .if1 .left)
+    answers-minus-four _ _ _ (search needs) given (c .refusal3 .ensures) (c .before .if1 .left)
 
 pub limit-answer-spec : {M : Type 1} → statement M
 limit-answer-spec =

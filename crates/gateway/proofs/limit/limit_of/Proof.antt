@@ -3,7 +3,7 @@ use mathlib.Core.Path.{_≡_, sym, _∙_}
 use mir.Syntax.{w64}
 use mir.Facts.{toZ-ofZ}
 use borrow.Author.Needs.{needs}
-use Rattle.gateway.specs.LimitCalls.{limitFigure, of-range, of-band}
+use Rattle.gateway.specs.LimitCalls.{limitFigure, range-has-inputs, band-has-inputs}
 use Rattle.gateway.proofs.limit.limit_of.Statement.{statement}
 use Rattle.gateway.proofs.limit.limit_of.Tie as tie
 
@@ -11,7 +11,7 @@ enum-told : tie.Need-enum-told
 enum-told c = search needs
 
 range-limit-requires : tie.Need-range-limit-requires
-range-limit-requires c κs = of-range (c .enum-told .given .1) (c .before .before .pre .1)
+range-limit-requires c κs = range-has-inputs (c .enum-told .given .1) (c .before .before .pre .1)
 
 enum-known-asked : tie.Need-enum-known-asked
 enum-known-asked c = search needs
@@ -22,7 +22,7 @@ band-limit-requires c κs =
     let s = k .before .before in
     let x = k .asked .given .0 .0 in
     rw (toZ-ofZ {z = x .repo} (record { sfits = c .struct-told .given .1 .0 .1 }))
-    (s .pre .0, of-band (k .asked .given .1) (s .pre .1))
+    (s .pre .0, band-has-inputs (k .asked .given .1) (s .pre .1))
 
 returns : tie.Need-returns
 unfolding limitFigure

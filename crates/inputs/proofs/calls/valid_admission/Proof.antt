@@ -6,8 +6,8 @@ use borrow.Author.Needs.{needs}
 use Rattle.paper.specs.Numbers.{idMost}
 use Rattle.paper.specs.Ranges.{within, staticsOf, validGiven, validAdmission, validFigures}
 use Rattle.paper.proofs.Logic.{and-right}
-use Rattle.inputs.proofs.Tests.{two-tests}
-use Rattle.inputs.proofs.Facts.{statics-step, given-statics}
+use Rattle.inputs.proofs.Tests.{two-tests-same}
+use Rattle.inputs.proofs.Facts.{statics-step-positive, given-statics-valid}
 use Rattle.inputs.proofs.calls.valid_admission.Statement.{statement}
 use Rattle.inputs.proofs.calls.valid_admission.Tie as tie
 
@@ -23,12 +23,12 @@ statics-of-requires c κs = search needs
 passed : (c : tie.Then1)
     → (within 1 idMost (c .before .before .before .before .args .a .id)
     && validGiven (c .before .before .before .before .args .a .given)) ≡ true
-passed c = two-tests (c .before .before .valid-id .ensures) (c .before .valid-given .ensures) (c .if1 .taken)
+passed c = two-tests-same (c .before .before .valid-id .ensures) (c .before .valid-given .ensures) (c .if1 .taken)
 
 valid-figures-requires : tie.Need-valid-figures-requires
 valid-figures-requires c κs =
     let id = within 1 idMost (c .before .before .before .before .before .args .a .id) in
-    rw (c .statics-of .ensures) (statics-step _ (given-statics _ (and-right id _ (passed (c .before)))))
+    rw (c .statics-of .ensures) (statics-step-positive _ (given-statics-valid _ (and-right id _ (passed (c .before)))))
 
 returns : tie.Need-returns
 unfolding validAdmission staticsOf
@@ -36,7 +36,8 @@ returns c = c .valid-figures .ensures ∙ rw (c .before .statics-of .ensures, pa
 
 returns-2 : tie.Need-returns-2
 unfolding validAdmission
-returns-2 c = rw (two-tests (c .before .before .valid-id .ensures) (c .before .valid-given .ensures) (c .if1 .left))
+returns-2 c = rw (two-tests-same (c .before .before .valid-id .ensures) (c .before .valid-given .ensures)
+    (c .if1 .left))
 
 pub valid-admission-spec : {M : Type 1} → statement M
 valid-admission-spec =

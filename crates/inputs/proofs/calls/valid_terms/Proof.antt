@@ -1,6 +1,6 @@
 -- `inputs::valid_terms` meets its contract: one test at each of the three places. Assumes nothing.
 use borrow.Author.Needs.{needs}
-use Rattle.inputs.proofs.Tests.{all-three}
+use Rattle.inputs.proofs.Tests.{three-tests-same}
 use Rattle.inputs.proofs.calls.valid_terms.Statement.{statement}
 use Rattle.inputs.proofs.calls.valid_terms.Tie as tie
 
@@ -23,7 +23,7 @@ valid-term-requires-3 : tie.Need-valid-term-requires-3
 valid-term-requires-3 c κs = search needs
 
 returns : tie.Need-returns
-returns c = all-three (c .before .before .before .before .valid-term .ensures)
+returns c = three-tests-same (c .before .before .before .before .valid-term .ensures)
     (c .before .before .valid-term2 .ensures) (c .valid-term3 .ensures)
 
 pub valid-terms-spec : {M : Type 1} → statement M

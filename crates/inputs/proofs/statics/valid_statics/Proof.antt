@@ -5,7 +5,7 @@ use mathlib.Core.Path.{_≡_, sym, _∙_}
 use mathlib.Core.Bool.{true}
 use borrow.Author.Needs.{needs}
 use Rattle.paper.specs.Ranges.{validStatics, orderedStatics, multiplesOfStep}
-use Rattle.inputs.proofs.Tests.{ordered-step}
+use Rattle.inputs.proofs.Tests.{ordered-step-positive}
 use Rattle.inputs.proofs.statics.valid_statics.Statement.{statement}
 use Rattle.inputs.proofs.statics.valid_statics.Tie as tie
 
@@ -16,7 +16,7 @@ ordered : (c : tie.Then1) → orderedStatics (c .before .before .args .st) ≡ t
 ordered c = sym (c .before .ordered-statics .ensures) ∙ c .if1 .taken
 
 multiples-of-step-requires : tie.Need-multiples-of-step-requires
-multiples-of-step-requires c κs = ordered-step (c .before .before .args .st) (ordered c)
+multiples-of-step-requires c κs = ordered-step-positive (c .before .before .args .st) (ordered c)
 
 returns : tie.Need-returns
 unfolding validStatics

@@ -9,8 +9,8 @@ use Rattle.paper_desk.proofs.TentativeRange.{valid-high, tentative-rate-in}
 use Rattle.rates.specs.Asked.{tentativeBound}
 use Rattle.rates.proofs.Statics.{rates-weighing, top-within}
 use Rattle.record_writing.specs.Evaluates.{moveTo}
-use Rattle.record_evaluation.proofs.Evaluations.{sound-prices}
-use Rattle.record_reasons.proofs.Reasoning.{near-move, figures-modelled, ranges, level-asked, rate-asked, level-at, weight-by, replacement-by, tentative-by}
+use Rattle.record_evaluation.proofs.Evaluations.{sound-prices-valid}
+use Rattle.record_reasons.proofs.Reasoning.{allowed-move-within-most, figures-modelled, ranges, level-asked, rate-asked, level-at, weight-by, replacement-by, tentative-by}
 use mathlib.Core.Path.{_≡_, sym, ap, _∙_}
 use Prim.Native.Nat.{_*_, _≤_}
 use native.Mathlib.Omega.{arith}
@@ -22,7 +22,7 @@ use Rattle.record_reasons.proofs.reasons.modelled.Tie as tie
 move-of-requires : tie.Need-move-of-requires
 move-of-requires c κs =
     let a = c .before .before .before .before .before .before .before .before .pre .0 in
-    let both = sound-prices _ (a .sound-record) in
+    let both = sound-prices-valid _ (a .sound-record) in
     (both .0, both .1, a .price)
 
 model-of-requires : tie.Need-model-of-requires
@@ -36,7 +36,7 @@ move-high : (c : tie.After-move-of) → c .move-of .result ≤ volatilityMost
 unfolding moveTo
 move-high c =
     let s = c .before .before .before .before .before .before .before .before .before in
-    rw (c .move-of .ensures) (near-move _ _ (s .pre .1) (s .pre .0 .near))
+    rw (c .move-of .ensures) (allowed-move-within-most _ _ (s .pre .1) (s .pre .0 .near))
 
 -- the weights and the multiplier are in range
 weighs : (c : tie.After-model-of) → Weighing (c .model-of .result)
