@@ -14,6 +14,7 @@ use paper::Standing;
 use paper::Statics;
 use paper::Tentative;
 use paper::Term;
+use text_protocol::Telling;
 
 fn statics() -> Statics {
     Statics {
@@ -250,5 +251,5 @@ fn table() -> [Record; Record::SLOTS_MOST] {
 }
 
 fn main() {
-    text_serve::on(table(), false);
+    text_serve::on(table(), Telling::Answers);
 }

@@ -1,7 +1,7 @@
 -- What a line of each kind asks for, what is kept of it and what is answered to it: the definition's, by the code's
 -- kinds. Assumes nothing.
 use mathlib.Core.Path.{_≡_, refl, _∙_}
-use mathlib.Core.Bool.{Bool, true, false, _&&_}
+use mathlib.Core.Bool.{Bool, true, false}
 use mathlib.Core.List.{List}
 use Prim.Native.Nat.{ℕ, zero, suc, _≤_, _<_}
 use native.Mathlib.Omega.{arith}
@@ -26,16 +26,20 @@ use Rattle.paper_desk.specs.External.{together, notice}
 use Rattle.paper_bonds.specs.declared.Bond.{Bond}
 use Rattle.paper_bonds.specs.declared.BondAnswer.{BondAnswer}
 use Rattle.paper_bonds.specs.Bonds.{bondAnswer}
+use Rattle.paper_reasons.specs.declared.Why.{Why}
 use Rattle.paper_reasons.specs.Why.{whyOn}
 use Rattle.text_protocol.specs.declared.Kept.{Kept}
 use Rattle.text_protocol.specs.declared.Pairs.{Pairs}
 use Rattle.text_protocol.specs.declared.Performed.{Performed}
+use Rattle.text_protocol.specs.declared.Telling.{Telling}
+use Rattle.text_protocol.specs.declared.Telling.the-variants.{Answers, Reasons}
 use Rattle.text_protocol.specs.Kept.{keptAfter}
 use Rattle.text_protocol.specs.Names.{ID, SIDE, BITS, noticeNames, the, interestNames, bondNames, admitKind, evaluateKind, quoteKind, moveKind, readKind, openKind, outsideKind, noticeKind, withdrawKind, interestKind, bondKind, evaluateCount, interestCount, bondCount}
 use Rattle.text_protocol.specs.Line.{Said, Nothing, NoCall, Call as saysCall}
-use Rattle.text_protocol.specs.Calls.{unsignedOf, floatOf, noticeCall, interestOf, bondOf, figuresOf, callOf, deedOf}
+use Rattle.text_protocol.specs.Calls.{Deed, unsignedOf, floatOf, noticeCall, interestOf, bondOf, figuresOf, callOf, deedOf}
 use Rattle.text_protocol.specs.Answers.{callText, figuresOf as figuresAnswered}
-use Rattle.text_protocol.specs.Evening.{keptBy, callTold, textOf}
+use Rattle.text_protocol.specs.Reasons.{whyText}
+use Rattle.text_protocol.specs.Evening.{keptBy, answerTo, reasonTo, callTold, textOf}
 use Rattle.text_protocol.proofs.Spelling.{impossible}
 use Rattle.text_answer.specs.Kinds.{figuresOfKind, textOfKind}
 use Rattle.text_line.specs.declared.Line.{Line}
@@ -44,7 +48,7 @@ use Rattle.text_call.specs.declared.Request.{Request}
 use Rattle.text_call.specs.Requests.{requestCall, noticeLine, lineCall}
 use Rattle.text_deed.specs.declared.Beside.{Beside}
 use Rattle.text_deed.specs.declared.Wanted.{Wanted}
-use Rattle.text_deed.specs.Deeds.{callIn, asksWhy, lineText, Said as SaidBy, Wants, Does}
+use Rattle.text_deed.specs.Deeds.{callIn, asksWhy, plainText, lineText, Said as SaidBy, Wants, Does}
 
 -- what a line of a kind says
 abbrev saidKind : ℕ → List ℤ → Pairs → Said
@@ -90,11 +94,6 @@ line-kind (suc (suc (suc (suc (suc (suc (suc (suc (suc (suc (suc (suc (suc (suc 
 
 -- ---- why
 
--- a line of another kind is not asked why
-no-reasons : (reasons : Bool) → (reasons && false) ≡ false
-no-reasons true = refl
-no-reasons false = refl
-
 -- a request that is an evaluation is of its id and of its day
 evaluates-as : (is-admit is-evaluate is-quote is-move is-open is-outside is-notice : Bool) (g : Admission)
     (id id' side : ℕ)
@@ -127,17 +126,30 @@ why-of r rows t {id} {d} {rows'} h =
 abbrev noticed : (a b : Bool) → (id side : ℕ) → Float → Call
 noticed a b id side x = pick a (receive id (notice (Bid x))) (pick b (receive id (notice (Ask x))) (move id side))
 
-noticed-said : (reasons a b : Bool) (id side : ℕ) (x : Float) (t : List Record)
-    → textOfKind noticeKind (step (noticed a b id side x) t .answer) ≡ callTold reasons (noticed a b id side x) t
-unfolding callTold callText textOfKind figuresOfKind figuresAnswered
-noticed-said reasons true b id side x t = refl
-noticed-said reasons false true id side x t = refl
-noticed-said reasons false false id side x t = refl
+noticed-said : (a b : Bool) (id side : ℕ) (x : Float) (t : List Record)
+    → textOfKind noticeKind (step (noticed a b id side x) t .answer) ≡ answerTo (noticed a b id side x) t
+unfolding callText textOfKind figuresOfKind figuresAnswered
+noticed-said true b id side x t = refl
+noticed-said false true id side x t = refl
+noticed-said false false id side x t = refl
 
-notice-said : (reasons : Bool) (id side : ℕ) (x : Float) (t : List Record)
-    → textOfKind noticeKind (step (noticeCall id side x) t .answer) ≡ callTold reasons (noticeCall id side x) t
+notice-said : (id side : ℕ) (x : Float) (t : List Record)
+    → textOfKind noticeKind (step (noticeCall id side x) t .answer) ≡ answerTo (noticeCall id side x) t
 unfolding noticeCall
-notice-said reasons id side x t = noticed-said reasons (eqb side 0) (eqb side 1) id side x t
+notice-said id side x t = noticed-said (eqb side 0) (eqb side 1) id side x t
+
+-- nor is why asked to it
+noticed-plain : (a b : Bool) (id side : ℕ) (x : Float) (t : List Record)
+    → answerTo (noticed a b id side x) t ≡ reasonTo (noticed a b id side x) t
+unfolding reasonTo
+noticed-plain true b id side x t = refl
+noticed-plain false true id side x t = refl
+noticed-plain false false id side x t = refl
+
+notice-plain : (id side : ℕ) (x : Float) (t : List Record)
+    → answerTo (noticeCall id side x) t ≡ reasonTo (noticeCall id side x) t
+unfolding noticeCall
+notice-plain id side x t = noticed-plain (eqb side 0) (eqb side 1) id side x t
 
 module _ (k : Kept) (zs : List ℤ) (p : Pairs) where
   abbrev worked : InterestAnswer
@@ -180,30 +192,63 @@ module _ (k : Kept) (zs : List ℤ) (p : Pairs) where
   keeps-kind kept is-blank e f = f (λ q. omega arith)
   keeps-kind kept is-bad e f = f (λ q. omega arith)
 
-  says-kind : (reasons : Bool) (n : ℕ) (b : Beside) (r : Request) (rows : List ℤ) (a : Performed) (t : List Record)
+  -- the deed that a line of a kind is
+  abbrev deed : ℕ → Deed
+  deed kind = deedOf k (saidKind kind zs p)
+
+  -- what is answered to it
+  answers-kind : (n : ℕ) (b : Beside) (a : Performed) (t : List Record) {kind : ℕ} → LineKind kind
+      → (kind ≡ interestKind → b .interest ≡ worked) → (kind ≡ bondKind → b .bond ≡ workedBond)
+      → a .answer ≡ step (callIn (deed kind)) t .answer
+      → plainText kind n b a ≡ textOf Answers n (deed kind) t
+  unfolding plainText textOf callTold deedOf callOf callIn callText textOfKind figuresOfKind figuresAnswered
+  answers-kind n b a t admits f g e = rw e
+  answers-kind n b a t evaluates f g e = rw e
+  answers-kind n b a t quotes f g e = rw e
+  answers-kind n b a t moves f g e = rw e
+  answers-kind n b a t reads f g e = rw e
+  answers-kind n b a t opens f g e = rw e
+  answers-kind n b a t sends f g e = rw e
+  answers-kind n b a t notices f g e =
+      rw e
+      (notice-said (unsignedOf noticeNames zs ID) (unsignedOf noticeNames zs SIDE) (floatOf (the noticeNames zs BITS)) t)
+  answers-kind n b a t withdraws f g e = rw e
+  answers-kind n b a t asks-interest f g e = rw (f refl)
+  answers-kind n b a t asks-bond f g e = rw (g refl)
+  answers-kind n b a t is-blank f g e = refl
+  answers-kind n b a t is-bad f g e = refl
+
+  -- with reasons, an evaluation is told why, and every other line as without them
+  reasons-kind : (n : ℕ) (r : Request) (rows : List ℤ) (y : Why) (t : List Record) {kind : ℕ} → LineKind kind
+      → requestCall r rows ≡ callIn (deed kind)
+      → (eqb kind evaluateKind ≡ true → y ≡ whyOn t (r .id) (dayOf (r .day)) rows)
+      → pick (eqb kind evaluateKind) (whyText y) (textOf Answers n (deed kind) t) ≡ textOf Reasons n (deed kind) t
+  unfolding textOf callTold reasonTo deedOf callOf callIn
+  reasons-kind n r rows y t admits asks e = refl
+  reasons-kind n r rows y t evaluates asks e = rw (e refl, why-of r rows t asks)
+  reasons-kind n r rows y t quotes asks e = refl
+  reasons-kind n r rows y t moves asks e = refl
+  reasons-kind n r rows y t reads asks e = refl
+  reasons-kind n r rows y t opens asks e = refl
+  reasons-kind n r rows y t sends asks e = refl
+  reasons-kind n r rows y t notices asks e =
+      notice-plain (unsignedOf noticeNames zs ID) (unsignedOf noticeNames zs SIDE) (floatOf (the noticeNames zs BITS)) t
+  reasons-kind n r rows y t withdraws asks e = refl
+  reasons-kind n r rows y t asks-interest asks e = refl
+  reasons-kind n r rows y t asks-bond asks e = refl
+  reasons-kind n r rows y t is-blank asks e = refl
+  reasons-kind n r rows y t is-bad asks e = refl
+
+  says-kind : (telling : Telling) (n : ℕ) (b : Beside) (r : Request) (rows : List ℤ) (a : Performed) (t : List Record)
       {kind : ℕ} → LineKind kind
       → (kind ≡ interestKind → b .interest ≡ worked) → (kind ≡ bondKind → b .bond ≡ workedBond)
-      → requestCall r rows ≡ callIn (deedOf k (saidKind kind zs p))
-      → SaidBy (asksWhy reasons kind) r rows (callIn (deedOf k (saidKind kind zs p))) t a
-      → lineText (asksWhy reasons kind) kind n b a ≡ textOf reasons n (deedOf k (saidKind kind zs p)) t
-  unfolding lineText textOf callTold deedOf callOf callIn callText textOfKind figuresOfKind figuresAnswered
-  says-kind reasons n b r rows a t admits f g asks e = rw (no-reasons reasons, e .answer)
-  says-kind true n b r rows a t evaluates f g asks e = rw (e .why refl, why-of r rows t asks)
-  says-kind false n b r rows a t evaluates f g asks e = rw (e .answer)
-  says-kind reasons n b r rows a t quotes f g asks e = rw (no-reasons reasons, e .answer)
-  says-kind reasons n b r rows a t moves f g asks e = rw (no-reasons reasons, e .answer)
-  says-kind reasons n b r rows a t reads f g asks e = rw (no-reasons reasons, e .answer)
-  says-kind reasons n b r rows a t opens f g asks e = rw (no-reasons reasons, e .answer)
-  says-kind reasons n b r rows a t sends f g asks e = rw (no-reasons reasons, e .answer)
-  says-kind reasons n b r rows a t notices f g asks e =
-      rw (no-reasons reasons, e .answer)
-      (notice-said reasons (unsignedOf noticeNames zs ID) (unsignedOf noticeNames zs SIDE) (floatOf (the noticeNames zs
-      BITS)) t)
-  says-kind reasons n b r rows a t withdraws f g asks e = rw (no-reasons reasons, e .answer)
-  says-kind reasons n b r rows a t asks-interest f g asks e = rw (no-reasons reasons, f refl)
-  says-kind reasons n b r rows a t asks-bond f g asks e = rw (no-reasons reasons, g refl)
-  says-kind reasons n b r rows a t is-blank f g asks e = rw (no-reasons reasons)
-  says-kind reasons n b r rows a t is-bad f g asks e = rw (no-reasons reasons)
+      → requestCall r rows ≡ callIn (deed kind)
+      → SaidBy (asksWhy telling kind) r rows (callIn (deed kind)) t a
+      → lineText telling kind n b a ≡ textOf telling n (deed kind) t
+  unfolding lineText asksWhy
+  says-kind Answers n b r rows a t is f g asks e = answers-kind n b a t is f g (e .answer)
+  says-kind Reasons n b r rows a t {kind} is f g asks e =
+      rw (answers-kind n b a t is f g (e .answer)) (reasons-kind n r rows (a .why) t is asks (e .why))
 
 -- ---- what is wanted of a line
 
@@ -259,7 +304,7 @@ wants-does l xs s k w h q =
     record {
       asks = rw (← e) asks;
       kept = rw (← e) (keeps-kind k zs (l .pairs) (w .kept) is (q .keeps) (q .stays));
-      says = λ reasons n a t f.
-          rw (← e) (says-kind k zs (l .pairs) reasons n (w .beside) (w .request) (drop evaluateCount zs) a t is
+      says = λ telling n a t f.
+          rw (← e) (says-kind k zs (l .pairs) telling n (w .beside) (w .request) (drop evaluateCount zs) a t is
           (q .works) (q .bonds) asks (rw (← e) at f));
     }

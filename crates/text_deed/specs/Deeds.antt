@@ -1,6 +1,6 @@
 -- What a line asks for, as the code has it: by the line's kind. Assumes nothing.
 use mathlib.Core.Path.{_≡_}
-use mathlib.Core.Bool.{Bool, true, _&&_}
+use mathlib.Core.Bool.{Bool, true, false}
 use mathlib.Core.List.{List, []}
 use Prim.Native.Nat.{ℕ}
 use lib.Dec.{eqb}
@@ -16,6 +16,8 @@ use Rattle.paper_reasons.specs.Why.{whyOn}
 use Rattle.text_protocol.specs.declared.Kept.{Kept}
 use Rattle.text_protocol.specs.declared.Pairs.{Pairs}
 use Rattle.text_protocol.specs.declared.Performed.{Performed}
+use Rattle.text_protocol.specs.declared.Telling.{Telling}
+use Rattle.text_protocol.specs.declared.Telling.the-variants.{Answers, Reasons}
 use Rattle.text_protocol.specs.Kept.{keptAfter}
 use Rattle.text_protocol.specs.Names.{evaluateKind, interestKind, bondKind, interestNames, bondNames, evaluateCount}
 use Rattle.text_protocol.specs.Calls.{Deed, nothing, noCall, call, interest, bond, interestOf, bondOf, figuresOf}
@@ -37,18 +39,23 @@ callIn (call c) = c
 callIn (interest i keys) = read 0
 callIn (bond b flows) = read 0
 
--- a line of a kind is answered with why, where evaluations are: it is one
-abbrev pub asksWhy : (reasons : Bool) → (kind : ℕ) → Bool
-asksWhy reasons k = reasons && eqb k evaluateKind
+-- whether why is asked to a line of a kind: to an evaluation, where lines are told with reasons
+unfoldable pub asksWhy : Telling → (kind : ℕ) → Bool
+asksWhy Answers k = false
+asksWhy Reasons k = eqb k evaluateKind
 
--- the text of an answer, as the code has it: why, where `asked`; else by the line's kind
-unfoldable pub lineText : (asked : Bool) → (kind number : ℕ) → Beside → Performed → List ℕ
-lineText asked k n b p =
-    pick asked (whyText (p .why))
-    (pick (eqb k blankKind) []
+-- the text of an answer, as the code has it: by the line's kind
+unfoldable pub plainText : (kind number : ℕ) → Beside → Performed → List ℕ
+plainText k n b p =
+    pick (eqb k blankKind) []
     (pick (eqb k badKind) (badText n)
     (pick (eqb k interestKind) (interestText (b .interest))
-    (pick (eqb k bondKind) (bondText (b .bond)) (textOfKind k (p .answer))))))
+    (pick (eqb k bondKind) (bondText (b .bond)) (textOfKind k (p .answer)))))
+
+-- what a line is told as, as the code has it
+unfoldable pub lineText : Telling → (kind number : ℕ) → Beside → Performed → List ℕ
+lineText Answers k n b p = plainText k n b p
+lineText Reasons k n b p = pick (eqb k evaluateKind) (whyText (p .why)) (plainText k n b p)
 
 -- WHAT THE DESK SAYS to a request on the table t, whose call is c: what c answers, and why, where that is asked for
 pub record Said (asked : Bool) (r : Request) (rows : List ℤ) (c : Call) (t : List Record) (p : Performed) : Type 0 where
@@ -64,11 +71,11 @@ pub record Wants (k : Kept) (kind : ℕ) (zs : List ℤ) (p : Pairs) (r : Wanted
       interestNames zs))
   pub stays : (kind ≡ interestKind → ⊥) → r .kept ≡ k
 
--- WHAT THE CODE MAKES OF A LINE IS THE DEED d: its call of the desk, what is kept after it, and the text of its answer,
--- where the desk says what it says to that call, and however evaluations are answered
+-- WHAT THE CODE MAKES OF A LINE IS THE DEED d: its call of the desk, what is kept after it, and what it is told as,
+-- where the desk says what it says to that call, and however lines are told
 pub record Does (k : Kept) (d : Deed) (kind : ℕ) (zs : List ℤ) (r : Wanted) : Type 0 where
   pub asks : requestCall (r .request) (drop evaluateCount zs) ≡ callIn d
   pub kept : r .kept ≡ keptBy d k
-  pub says : (reasons : Bool) (n : ℕ) (a : Performed) (t : List Record)
-      → Said (asksWhy reasons kind) (r .request) (drop evaluateCount zs) (callIn d) t a
-      → lineText (asksWhy reasons kind) kind n (r .beside) a ≡ textOf reasons n d t
+  pub says : (telling : Telling) (n : ℕ) (a : Performed) (t : List Record)
+      → Said (asksWhy telling kind) (r .request) (drop evaluateCount zs) (callIn d) t a
+      → lineText telling kind n (r .beside) a ≡ textOf telling n d t

@@ -1,11 +1,12 @@
 // What a line asks for: of the desk, as a request, or beside the table, where it is answered at once; and the text of
-// its answer. A kind of line more is a branch more of each.
+// its answer, in each way that lines are told. A kind of line more is a branch more of `wanted_by` and of `say_plain`, a
+// way of telling more is a case more of `asks_why` and of `say`.
 ghost use mathlib.Core.Path.{_≡_};
 ghost use Prim.Native.Nat.{_+_, _≤_};
 ghost use Rattle.text_protocol.specs.Bytes.{room};
 ghost use Rattle.text_protocol.specs.Answers.{answerMost};
 ghost use Rattle.text_out.specs.Wrote.{Wrote};
-ghost use Rattle.text_deed.specs.Deeds.{lineText, Wants};
+ghost use Rattle.text_deed.specs.Deeds.{asksWhy, plainText, lineText, Wants};
 use paper::InterestAnswer;
 use paper::Verdict;
 use paper_bonds::BondAnswer;
@@ -26,6 +27,7 @@ use text_protocol::Kept;
 use text_protocol::Kind;
 use text_protocol::Performed;
 use text_protocol::ROOM;
+use text_protocol::Telling;
 use text_why::say_why;
 
 // What the calls beside the table answer to a line, the interest side's and a bond's: only the one that the line asks
@@ -93,23 +95,28 @@ pub fn wanted_by(zs: &[i64], l: Line, k: Kept) -> Wanted
     }
 }
 
-// Appends the answer to a line of a kind; `asked` is whether it says why.
-pub fn say(
+// Whether why is asked to a line of a kind.
+pub fn asks_why(telling: Telling, kind: u64) -> bool
+    ensures { λ r. ⌜ r ≡ asksWhy telling kind ⌝ }
+{
+    match telling {
+        Telling::Answers => false,
+        Telling::Reasons => kind == Kind::EVALUATE,
+    }
+}
+
+// Appends the answer to a line of a kind, in its plain words.
+fn say_plain(
     out: &mut [u8; ROOM],
     len: usize,
-    asked: bool,
     kind: u64,
     number: u64,
     b: Beside,
     p: Performed,
 ) -> usize
     requires { ⌜ len + answerMost ≤ room ⌝ }
-    ensures { λ r. ⌜ Wrote (now (out .entry)) len (now (out .exit)) r (lineText asked kind number b p) answerMost ⌝ }
+    ensures { λ r. ⌜ Wrote (now (out .entry)) len (now (out .exit)) r (plainText kind number b p) answerMost ⌝ }
 {
-    if asked {
-        let why = p.why;
-        return say_why(out, len, why);
-    }
     if kind == Kind::BLANK {
         return len;
     }
@@ -126,4 +133,29 @@ pub fn say(
     }
     let answer = p.answer;
     say_answer(out, len, kind, answer)
+}
+
+// Appends what a line of a kind is told as.
+pub fn say(
+    out: &mut [u8; ROOM],
+    len: usize,
+    telling: Telling,
+    kind: u64,
+    number: u64,
+    b: Beside,
+    p: Performed,
+) -> usize
+    requires { ⌜ len + answerMost ≤ room ⌝ }
+    ensures { λ r. ⌜ Wrote (now (out .entry)) len (now (out .exit)) r (lineText telling kind number b p) answerMost ⌝ }
+{
+    match telling {
+        Telling::Answers => say_plain(out, len, kind, number, b, p),
+        Telling::Reasons => {
+            if kind == Kind::EVALUATE {
+                let why = p.why;
+                return say_why(out, len, why);
+            }
+            say_plain(out, len, kind, number, b, p)
+        }
+    }
 }

@@ -10,6 +10,7 @@ use lib.IntN.{ℤ}
 use lib.ListN.{length}
 use Rattle.paper.specs.Lists.{pick}
 use Rattle.text_protocol.specs.declared.Pairs.{Pairs}
+use Rattle.text_protocol.specs.declared.Telling.{Telling}
 use Rattle.text_protocol.specs.Bytes.{words}
 use Rattle.text_protocol.specs.Names.{kindOf, takes}
 use Rattle.text_protocol.specs.Line.{Said, Nothing, NoCall, Call, Reading, read, spoilt, noPairs, itemOf, taking, onWith, finished, fill, called, longest, meaning}
@@ -61,32 +62,32 @@ nothing-is-blanks l e = go (leb (length l) longest) e
 
 -- ---- what is answered
 
-module _ (reasons : Bool) (l : List ℕ) (e : Evening) where
-  pub no-call-answers-bad : meaning l ≡ NoCall → (after l e ≡ passedOver e) × (answer reasons l e ≡ badText (e .number))
+module _ (telling : Telling) (l : List ℕ) (e : Evening) where
+  pub no-call-answers-bad : meaning l ≡ NoCall → (after l e ≡ passedOver e) × (answer telling l e ≡ badText (e .number))
   unfolding after answer deedOf tableAfter keptBy textOf
   no-call-answers-bad h = (rw h, rw h)
 
-  nothing-answers-nothing : meaning l ≡ Nothing → (after l e ≡ passedOver e) × (answer reasons l e ≡ [])
+  nothing-answers-nothing : meaning l ≡ Nothing → (after l e ≡ passedOver e) × (answer telling l e ≡ [])
   unfolding after answer deedOf tableAfter keptBy textOf
   nothing-answers-nothing h = (rw h, rw h)
 
   -- A LINE OF BLANKS CHANGES NOTHING AND HAS NO ANSWER
-  pub blanks-have-no-answer : Blanks l → length l ≤ longest → (after l e ≡ passedOver e) × (answer reasons l e ≡ [])
+  pub blanks-have-no-answer : Blanks l → length l ≤ longest → (after l e ≡ passedOver e) × (answer telling l e ≡ [])
   blanks-have-no-answer b h = nothing-answers-nothing (blanks-say-nothing b h)
 
   -- A LINE THAT SAYS NO CALL CHANGES NOTHING: its answer is "bad" and its number, or none where it is blanks
   pub unsaid-changes-nothing : ((k : ℕ) (zs : List ℤ) (p : Pairs) → Says l k zs p → ⊥)
       → (after l e ≡ passedOver e)
-      × ((answer reasons l e ≡ badText (e .number)) ⊎ (Blanks l × (answer reasons l e ≡ [])))
+      × ((answer telling l e ≡ badText (e .number)) ⊎ (Blanks l × (answer telling l e ≡ [])))
   unsaid-changes-nothing unsaid = go (meaning l) refl
     where
       go : (s : Said) → meaning l ≡ s
           → (after l e ≡ passedOver e)
-          × ((answer reasons l e ≡ badText (e .number)) ⊎ (Blanks l × (answer reasons l e ≡ [])))
+          × ((answer telling l e ≡ badText (e .number)) ⊎ (Blanks l × (answer telling l e ≡ [])))
       go Nothing h =
-          let r : (after l e ≡ passedOver e) × (answer reasons l e ≡ []) = nothing-answers-nothing h in
+          let r : (after l e ≡ passedOver e) × (answer telling l e ≡ []) = nothing-answers-nothing h in
           (r .0, inr (nothing-is-blanks l h, r .1))
       go NoCall h =
-          let r : (after l e ≡ passedOver e) × (answer reasons l e ≡ badText (e .number)) = no-call-answers-bad h in
+          let r : (after l e ≡ passedOver e) × (answer telling l e ≡ badText (e .number)) = no-call-answers-bad h in
           (r .0, inl (r .1))
       go (Call k zs p) h = absurd (unsaid k zs p (reads-says l k zs p h))

@@ -1,6 +1,5 @@
 -- docs/EVENING.md, "An evening": what lines do, one after the other, to the table and to what is kept, and what
 -- is answered to them. Assumes nothing.
-use mathlib.Core.Bool.{Bool}
 use mathlib.Core.List.{List, [], _∷_, _++_}
 use Prim.Native.Nat.{ℕ, _+_}
 use lib.Dec.{ltb}
@@ -11,6 +10,8 @@ use Rattle.paper_desk.specs.Desk.{Call, admit, evaluate, quote, move, read, ope
 use Rattle.paper_bonds.specs.Bonds.{bondAnswer}
 use Rattle.paper_reasons.specs.Why.{whyOn}
 use Rattle.text_protocol.specs.declared.Kept.{Kept}
+use Rattle.text_protocol.specs.declared.Telling.{Telling}
+use Rattle.text_protocol.specs.declared.Telling.the-variants.{Answers, Reasons}
 use Rattle.text_protocol.specs.Kept.{keptAfter}
 use Rattle.text_protocol.specs.Line.{meaning}
 use Rattle.text_protocol.specs.Calls.{Deed, nothing, noCall, call, interest, bond, deedOf}
@@ -45,25 +46,28 @@ keptBy (bond b flows) k = k
 abbrev pub answerTo : Call → List Record → List ℕ
 answerTo c t = callText c (step c t .answer)
 
--- `reasons` is how evaluations are answered: with the record, as the program `evening` does, or with why it is what it
--- is, as the program `why` does. Every other call is answered alike
-unfoldable pub callTold : (reasons : Bool) → Call → List Record → List ℕ
-callTold reasons (admit g) t = answerTo (admit g) t
-callTold reasons (evaluate id d rows) t =
-    pick reasons (whyText (whyOn t id d rows)) (answerTo (evaluate id d rows) t)
-callTold reasons (quote id q) t = answerTo (quote id q) t
-callTold reasons (move id side) t = answerTo (move id side) t
-callTold reasons (read id) t = answerTo (read id) t
-callTold reasons (openEvening id) t = answerTo (openEvening id) t
-callTold reasons (receive id x) t = answerTo (receive id x) t
+-- the same, but an evaluation is answered with why it is what it is
+unfoldable pub reasonTo : Call → List Record → List ℕ
+reasonTo (admit g) t = answerTo (admit g) t
+reasonTo (evaluate id d rows) t = whyText (whyOn t id d rows)
+reasonTo (quote id q) t = answerTo (quote id q) t
+reasonTo (move id side) t = answerTo (move id side) t
+reasonTo (read id) t = answerTo (read id) t
+reasonTo (openEvening id) t = answerTo (openEvening id) t
+reasonTo (receive id x) t = answerTo (receive id x) t
 
--- the answer to the n-th line; a blank line has none
-unfoldable pub textOf : (reasons : Bool) → (n : ℕ) → Deed → List Record → List ℕ
-textOf reasons n nothing t = []
-textOf reasons n noCall t = badText n
-textOf reasons n (call c) t = callTold reasons c t
-textOf reasons n (interest i keys) t = interestText (interestAnswer i keys)
-textOf reasons n (bond b flows) t = bondText (bondAnswer b flows)
+-- what a call is told as: with its answer, as the program `evening` does, or with why, as the program `why` does
+unfoldable pub callTold : Telling → Call → List Record → List ℕ
+callTold Answers c t = answerTo c t
+callTold Reasons c t = reasonTo c t
+
+-- what the n-th line is told as; a blank line is told nothing
+unfoldable pub textOf : Telling → (n : ℕ) → Deed → List Record → List ℕ
+textOf telling n nothing t = []
+textOf telling n noCall t = badText n
+textOf telling n (call c) t = callTold telling c t
+textOf telling n (interest i keys) t = interestText (interestAnswer i keys)
+textOf telling n (bond b flows) t = bondText (bondAnswer b flows)
 
 -- lines are counted from 1, blank ones too, up to the greatest number of 64 bits
 abbrev pub lastNumber : ℕ
@@ -86,8 +90,8 @@ after l e =
     }
 
 -- THE ANSWER TO A LINE
-unfoldable pub answer : (reasons : Bool) → List ℕ → Evening → List ℕ
-answer reasons l e = textOf reasons (e .number) (askedBy l e) (e .table)
+unfoldable pub answer : Telling → List ℕ → Evening → List ℕ
+answer telling l e = textOf telling (e .number) (askedBy l e) (e .table)
 
 -- the evening after a line that asks for nothing, or is no call: only the number of the line goes on
 abbrev pub passedOver : Evening → Evening
@@ -101,6 +105,6 @@ afterAll [] e = e
 afterAll (l ∷ ls) e = afterAll ls (after l e)
 
 -- THE ANSWERS TO LINES
-unfoldable pub answers : (reasons : Bool) → List (List ℕ) → Evening → List ℕ
-answers reasons [] e = []
-answers reasons (l ∷ ls) e = answer reasons l e ++ answers reasons ls (after l e)
+unfoldable pub answers : Telling → List (List ℕ) → Evening → List ℕ
+answers telling [] e = []
+answers telling (l ∷ ls) e = answer telling l e ++ answers telling ls (after l e)

@@ -1,4 +1,5 @@
--- The types and the machine values of the lent arrays, of a state, of a line that was heard and of what the desk said.
+-- The types and the machine values of the lent arrays, of a way of telling, of a state, of a line that was heard and of
+-- what the desk said.
 -- Assumes nothing.
 use mathlib.Core.Path.{_≡_, ap, subst}
 use mathlib.Core.List.{List, [], _∷_}
@@ -19,9 +20,14 @@ use denote.Memory.{pointee}
 use denote.Builtin.{u8, i64}
 use denote.Ref.{RefT, MutRef}
 use denote.Steps.{only}
+use denote.Enum.Laws as EL
 use denote.Struct.Laws as LL
 use Rattle.text_protocol.specs.Line.{keptMost}
 use Rattle.text_protocol.specs.Bytes.{room as bufferRoom}
+use Rattle.text_protocol.specs.declared.Telling.{Telling}
+use Rattle.text_protocol.specs.declared.Telling.the-variants.{Answers, Reasons}
+use Rattle.text_protocol.proofs.Telling as E
+use Rattle.text_protocol.proofs.Telling.Laws as E′
 use Rattle.text_protocol.proofs.Kept.Laws as K′
 use Rattle.text_call.proofs.Request.Laws as R′
 use Rattle.text_input.proofs.Input.Laws as I′
@@ -58,17 +64,26 @@ to b o γ x = record { ptr = (b, o); name = γ; now = x }
 abbrev pub Lent : (X : RattleType) → ℕ → Lft → ℕ → ℕ → GName → X .Denot → Fml
 Lent X n κ b o γ x = MutRef (named n) κ X .own (to b o γ x) (vptr b o ∷ [])
 
+-- ---- a way of telling
+
+abbrev pub telling-val : Telling → Val
+telling-val = EL.val E.the-type E′.the-laws
+
+pub telling-is : (x : Telling) → Is E.the-row x (telling-val x ∷ [])
+telling-is Answers = EL.owes E.the-type E′.the-laws Answers tt
+telling-is Reasons = EL.owes E.the-type E′.the-laws Reasons tt
+
 -- ---- a state and a line that was heard
 
 -- their machine types, with the types of their fields by name
 abbrev pub state-ty : Ty
 state-ty = tyStruct (G.struct .name) (tcons I′.mir (tcons (tyInt w64) (tcons K′.mir (tcons (tyInt w64) (tcons tyBool
-    (tcons tyBool tnil))))))
+    (tcons E′.mir tnil))))))
 
 abbrev pub heard-ty : Ty
 heard-ty = tyStruct (P.struct .name) (tcons I′.mir (tcons (tyInt w64) (tcons K′.mir (tcons (tyInt w64) (tcons tyBool
     (tcons (tyInt w64) (tcons (tyInt w64)
-    (tcons R′.mir (tcons B′.mir (tcons tyBool (tcons tyBool tnil)))))))))))
+    (tcons R′.mir (tcons B′.mir (tcons E′.mir (tcons tyBool tnil)))))))))))
 
 abbrev pub state-val : State → Val
 state-val = LL.val G.the-type G′.the-laws
@@ -95,6 +110,9 @@ pub heard-is : (p : Prepared) (w : Val) → Is P.the-row p (w ∷ []) → IsHear
 heard-is p w is = subst (Is P.the-row p) (LL.tells P.the-type P′.the-laws p (w ∷ []) is) is
 
 module _ {M : Type 1} (𝓤 : URA M) (H : Heap 𝓤) (A : Atoms 𝓤) (W : Given 𝓤 H A) where
+  pub typed-telling : (x : Telling) → T (hasTy E′.mir (telling-val x)) × WT (telling-val x)
+  typed-telling x = EL.lawful E.the-type E′.the-laws 𝓤 H A W tt .typed x (telling-val x ∷ []) (telling-is x) .0
+
   pub typed-state : (s : State) (w : Val) → Is G.the-row s (w ∷ []) → T (hasTy state-ty w) × WT w
   typed-state s w is = LL.lawful G.the-type G′.the-laws 𝓤 H A W .typed s (w ∷ []) is .0
 

@@ -2,11 +2,12 @@
 -- nothing.
 use mathlib.Core.Path.{_≡_, refl, sym, ap, _∙_}
 use mathlib.Core.Logic.{_⊎_, inl, inr}
-use mathlib.Core.Bool.{Bool, false}
+use mathlib.Core.Bool.{false}
 use mathlib.Core.List.{List, [], _∷_, _++_, append-assoc}
 use Prim.Native.Nat.{ℕ, _+_, _-_, _≤_, _<_}
 use native.Mathlib.Omega.{arith}
 use lib.ListN.{length, length-append}
+use Rattle.text_protocol.specs.declared.Telling.{Telling}
 use Rattle.text_protocol.specs.Answers.{answerMost}
 use Rattle.paper.specs.declared.Record.{Record}
 use Rattle.text_protocol.specs.Bytes.{lineFeed, run, room as bufferRoom}
@@ -49,23 +50,23 @@ Reached got lines b s =
     ((got ≡ joined lines (unread b (s .input))) × (length lines + s .input .left ≡ mostLines))
     ⊎ ((s .input .left ≡ 0) × Cut got lines (s .ok))
 
--- where the loop stands, from the table t on, where evaluations are answered in one way
-pub record Sofar (reasons : Bool) (t : List Record) (b : List ℕ) (s : State) (t' : List Record) : Type 0 where
+-- where the loop stands, from the table t on, where lines are told in one way
+pub record Sofar (telling : Telling) (t : List Record) (b : List ℕ) (s : State) (t' : List Record) : Type 0 where
   pub got : List ℕ
   pub lines : List (List ℕ)
   pub unbroken : Each lines
-  pub evening : eveningOf s t' ≡ afterAll lines (eveningOf (startState reasons) t)
-  pub one-way : s .reasons ≡ reasons
+  pub evening : eveningOf s t' ≡ afterAll lines (eveningOf (startState telling) t)
+  pub one-way : s .telling ≡ telling
   pub stands : Stands b (s .input)
   pub room : s .waiting + answerMost ≤ bufferRoom
   pub last : s .input .left ≡ 0 → s .waiting ≡ 0
   pub are : Reached got lines b s
 
 -- at the start nothing is read
-pub none-yet : (reasons : Bool) (t : List Record) (b : List ℕ) → length b ≡ bufferRoom
-    → Sofar reasons t b (startState reasons) t
+pub none-yet : (telling : Telling) (t : List Record) (b : List ℕ) → length b ≡ bufferRoom
+    → Sofar telling t b (startState telling) t
 unfolding unread lineLength run Each afterAll joined
-none-yet reasons t b long =
+none-yet telling t b long =
     record {
       got = [];
       lines = [];
@@ -84,8 +85,8 @@ unfolding unread
 stands-halted b i s = record { low = s .low; high = s .high; in-b = s .in-b; long = s .long; is = s .is }
 
 -- ONE TURN MORE
-module _ {reasons : Bool} {t : List Record} {b : List ℕ} {s : State} {u : List Record} {o b' : List ℕ} {r : State}
-    {u' : List Record} {o' : List ℕ} (so : Sofar reasons t b s u) (more : 0 < s .input .left)
+module _ {telling : Telling} {t : List Record} {b : List ℕ} {s : State} {u : List Record} {o b' : List ℕ} {r : State}
+    {u' : List Record} {o' : List ℕ} (so : Sofar telling t b s u) (more : 0 < s .input .left)
     (turn : Turns b s u o b' r u' o') where
   abbrev all : List (List ℕ)
   all = so .lines ++ turn .line ∷ []
@@ -157,15 +158,15 @@ module _ {reasons : Bool} {t : List Record} {b : List ℕ} {s : State} {u : List
   stands-on (inl e) = rw e (turn .next .stands)
   stands-on (inr e) = rw (e .1) (stands-halted b' (turn .behind) (turn .next .stands))
 
-  pub one-more : Sofar reasons t b' r u'
+  pub one-more : Sofar telling t b' r u'
   one-more =
       record {
         got = all-got;
         lines = all;
         unbroken = each;
         evening = turn .evening ∙ ap (after (turn .line)) (so .evening) ∙ sym (after-one (so .lines) (turn .line)
-            (eveningOf (startState reasons) t));
-        one-way = turn .reasons ∙ so .one-way;
+            (eveningOf (startState telling) t));
+        one-way = turn .telling ∙ so .one-way;
         stands = stands-on (turn .goes-on);
         room = turn .room;
         last = turn .last;
@@ -184,7 +185,7 @@ module _ {reasons : Bool} {t : List Record} {b : List ℕ} {s : State} {u : List
   fewer = fewer-still (turn .goes-on) (fewer-behind (turn .next .are))
 
 -- AT THE END: no line is left to hear, so that either the run's most lines were heard, or it is over already
-module _ {reasons : Bool} {t : List Record} {b : List ℕ} {s : State} {u : List Record} (so : Sofar reasons t b s u)
+module _ {telling : Telling} {t : List Record} {b : List ℕ} {s : State} {u : List Record} (so : Sofar telling t b s u)
     (over : s .input .left ≡ 0) where
   cut : Reached (so .got) (so .lines) b s → Cut (so .got) (so .lines) (s .ok)
   cut (inl e) =
@@ -197,7 +198,7 @@ module _ {reasons : Bool} {t : List Record} {b : List ℕ} {s : State} {u : List
       }
   cut (inr e) = e .1
 
-  pub served : Serves reasons t s u
+  pub served : Serves telling t s u
   served =
       record {
         got = so .got;

@@ -71,14 +71,14 @@ module _ {b : List ℕ} {s : State} {b' : List ℕ} {p : Prepared} {xs rows : Li
       let table : t' ≡ tableAfter deed t = performed .table ∙ sym (table-of deed t) in
       λ i. record { number = number i; kept = kept i; table = table i }
 
-  text-is : lineText (p .asked) (p .kind) (p .number) (p .beside) a ≡ answer (s .reasons) (heard .line) (eveningOf s t)
+  text-is : lineText (p .telling) (p .kind) (p .number) (p .beside) a ≡ answer (s .telling) (heard .line) (eveningOf s t)
   unfolding answer
   text-is =
-      ap (λ (n : ℕ). lineText (p .asked) (p .kind) n (p .beside) a) (heard .number) ∙ heard .says a t said
+      ap (λ (n : ℕ). lineText (p .telling) (p .kind) n (p .beside) a) (heard .number) ∙ heard .says a t said
 
-  wrote : Wrote o (s .waiting) o' (told .end) (answer (s .reasons) (heard .line) (eveningOf s t)) answerMost
+  wrote : Wrote o (s .waiting) o' (told .end) (answer (s .telling) (heard .line) (eveningOf s t)) answerMost
   wrote =
-      subst (λ (n : ℕ). Wrote o n o' (told .end) (answer (s .reasons) (heard .line) (eveningOf s t)) answerMost)
+      subst (λ (n : ℕ). Wrote o n o' (told .end) (answer (s .telling) (heard .line) (eveningOf s t)) answerMost)
       (heard .waiting)
       (subst (λ (u : List ℕ). Wrote o (p .waiting) o' (told .end) u answerMost) text-is (told .wrote))
 
@@ -91,7 +91,7 @@ module _ {b : List ℕ} {s : State} {b' : List ℕ} {p : Prepared} {xs rows : Li
         next = heard .next;
         goes-on = told .goes-on;
         evening = evening-is;
-        reasons = told .reasons ∙ heard .reasons;
+        telling = told .telling ∙ heard .telling;
         answers = record { end = told .end; wrote = wrote; waits = told .waits };
         room = told .room;
         prompt = told .prompt;

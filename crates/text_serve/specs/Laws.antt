@@ -9,6 +9,7 @@ use native.Mathlib.Omega.{arith}
 use lib.Dec.{eqb}
 use lib.ListN.{length}
 use Rattle.paper.specs.Lists.{pick}
+use Rattle.text_protocol.specs.declared.Telling.{Telling}
 use Rattle.text_protocol.specs.Bytes.{lineFeed, isLineFeed, isNot, run, grow, pieces, full, words, ended, lines}
 use Rattle.text_protocol.specs.Line.{meaning, called}
 use Rattle.text_protocol.specs.Calls.{deedOf}
@@ -79,12 +80,12 @@ ended-table ([] ∷ q ∷ ps) e = ended-table (q ∷ ps) (after [] e)
 ended-table ((b ∷ p) ∷ q ∷ ps) e = ended-table (q ∷ ps) (after (b ∷ p) e)
 
 -- AND THE TABLE AT THE END IS THE TABLE AFTER THE LINES OF ALL THAT WAS DELIVERED
-pub served-table : {reasons : Bool} {t : List Record} {r : State} {t' : List Record} (s : Serves reasons t r t')
+pub served-table : {telling : Telling} {t : List Record} {r : State} {t' : List Record} (s : Serves telling t r t')
     → r .ok ≡ true → length (s .lines) < mostLines
-    → t' ≡ afterAll (lines (s .got)) (eveningOf (startState reasons) t) .table
+    → t' ≡ afterAll (lines (s .got)) (eveningOf (startState telling) t) .table
 unfolding lines
-served-table {reasons} {t} {r} {t'} s well few =
+served-table {telling} {t} {r} {t'} s well few =
     ap (λ (z : Evening). z .table) (s .evening)
-    ∙ ap (λ (ls : List (List ℕ)). afterAll ls (eveningOf (startState reasons) t) .table)
+    ∙ ap (λ (ls : List (List ℕ)). afterAll ls (eveningOf (startState telling) t) .table)
     (served-pieces (s .cut) well few)
-    ∙ ended-table (pieces isLineFeed (s .got)) (eveningOf (startState reasons) t)
+    ∙ ended-table (pieces isLineFeed (s .got)) (eveningOf (startState telling) t)

@@ -6,6 +6,7 @@ use mathlib.Core.List.{List, [], _∷_, _++_}
 use Prim.Native.Nat.{ℕ, _+_, _≤_}
 use lib.ListN.{length}
 use Rattle.paper.specs.declared.Record.{Record}
+use Rattle.text_protocol.specs.declared.Telling.{Telling}
 use Rattle.text_protocol.specs.Bytes.{lineFeed, room}
 use Rattle.text_protocol.specs.Evening.{Evening, after, answer, afterAll, lastNumber}
 use Rattle.text_out.specs.Wrote.{Wrote}
@@ -30,8 +31,8 @@ pub record Answers (o : List ℕ) (n : ℕ) (o' : List ℕ) (n' : ℕ) (text : L
 
 -- ONE TURN, from the buffer b, the state s, the table t and the answers o: `line` is the next line of the input,
 -- whatever pieces `read` delivered it in, and `behind` is the input behind it, which goes on unless a write failed;
--- the evening behind it is the one that the definition has, and so is its answer, with why or without it as the state
--- says. Answers wait only while a whole line stands in the buffer, and none waits where no line is left to hear
+-- the evening behind it is the one that the definition has, and so is its answer, told in the way that the state has.
+-- Answers wait only while a whole line stands in the buffer, and none waits where no line is left to hear
 pub record Turns (b : List ℕ) (s : State) (t : List Record) (o b' : List ℕ) (r : State) (t' : List Record) (o' : List ℕ)
     : Type 0 where
   pub line : List ℕ
@@ -39,8 +40,8 @@ pub record Turns (b : List ℕ) (s : State) (t : List Record) (o b' : List ℕ) 
   pub next : Next b (s .input) b' behind line
   pub goes-on : (r .input ≡ behind) ⊎ ((r .ok ≡ false) × (r .input ≡ halted behind))
   pub evening : eveningOf r t' ≡ after line (eveningOf s t)
-  pub answers : Answers o (s .waiting) o' (r .waiting) (answer (s .reasons) line (eveningOf s t))
-  pub reasons : r .reasons ≡ s .reasons
+  pub answers : Answers o (s .waiting) o' (r .waiting) (answer (s .telling) line (eveningOf s t))
+  pub telling : r .telling ≡ s .telling
   pub room : r .waiting + answerMost ≤ room
   pub prompt : r .input .len ≤ r .input .end → r .waiting ≡ 0
   pub last : r .input .left ≡ 0 → r .waiting ≡ 0
@@ -73,13 +74,13 @@ pub record Cut (got : List ℕ) (lines : List (List ℕ)) (ok : Bool) : Type 0 w
   pub heard : (lines ≡ whole ++ behind ∷ []) ⊎ ((lines ≡ whole) × ((ok ≡ false) ⊎ (length lines ≡ mostLines)))
 
 -- EVERY TURN: `got` is what `read` delivered, in order, and `lines` are its lines. The evening at the end is the one
--- after these lines, and no answer waits: the last one, too, was handed to `write`. Evaluations are answered in one way
--- from the start to the end: with their records (`evening`), or with why (`why`)
-pub record Serves (reasons : Bool) (t : List Record) (r : State) (t' : List Record) : Type 0 where
+-- after these lines, and no answer waits: the last one, too, was handed to `write`. Lines are told in one way from the
+-- start to the end: with their answers (`evening`), or with reasons (`why`)
+pub record Serves (telling : Telling) (t : List Record) (r : State) (t' : List Record) : Type 0 where
   pub got : List ℕ
   pub lines : List (List ℕ)
   pub cut : Cut got lines (r .ok)
-  pub evening : eveningOf r t' ≡ afterAll lines (eveningOf (startState reasons) t)
-  pub one-way : r .reasons ≡ reasons
+  pub evening : eveningOf r t' ≡ afterAll lines (eveningOf (startState telling) t)
+  pub one-way : r .telling ≡ telling
   pub over : r .input .left ≡ 0
   pub told : r .waiting ≡ 0

@@ -17,6 +17,7 @@ use paper::Record;
 use text_ask::ask;
 use text_protocol::KEPT;
 use text_protocol::ROOM;
+use text_protocol::Telling;
 use text_turn::Prepared;
 use text_turn::State;
 use text_turn::prepare;
@@ -63,15 +64,14 @@ fn no_numbers() -> [i64; KEPT]
     [0; KEPT]
 }
 
-// Every line of standard input; `reasons` is whether evaluations are answered with why. The state at the end says
-// whether every read and write went well.
-pub fn serve(t: &mut [Record], reasons: bool) -> State
-    ensures { λ r. ⌜ Serves reasons (now (t .entry)) r (now (t .exit)) ⌝ }
+// Every line of standard input, told in one way. The state at the end says whether every read and write went well.
+pub fn serve(t: &mut [Record], telling: Telling) -> State
+    ensures { λ r. ⌜ Serves telling (now (t .entry)) r (now (t .exit)) ⌝ }
 {
     let mut buf = io::large_buffer();
     let mut xs = no_numbers();
     let mut out = io::large_buffer();
-    let mut s = start(reasons);
+    let mut s = start(telling);
     while s.input.left > 0 {
         s = step(t, &mut buf, &mut xs, &mut out, s);
     }
@@ -92,17 +92,17 @@ fn report(s: State) {
     if s.ok & input.ok {
         return;
     }
-    if s.reasons {
-        io::write_all(STDERR_FILENO, b"why: could not read or write\n");
-        return;
+    let telling = s.telling;
+    match telling {
+        Telling::Answers => io::write_all(STDERR_FILENO, b"evening: could not read or write\n"),
+        Telling::Reasons => io::write_all(STDERR_FILENO, b"why: could not read or write\n"),
     }
-    io::write_all(STDERR_FILENO, b"evening: could not read or write\n");
+    ;
 }
 
-// A table by value, lent once to every line of standard input: `evening`, and `why` where evaluations are answered with
-// why.
-pub fn on(t: [Record; Record::SLOTS_MOST], reasons: bool) {
+// A table by value, lent once to every line of standard input: `evening` and `why` are this, told in two ways.
+pub fn on(t: [Record; Record::SLOTS_MOST], telling: Telling) {
     let mut u = t;
-    let s = serve(&mut u, reasons);
+    let s = serve(&mut u, telling);
     report(s);
 }

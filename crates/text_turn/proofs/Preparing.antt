@@ -1,5 +1,6 @@
 -- A line that was heard, and what is wanted of it: what `prepare` promises. Assumes nothing.
-use mathlib.Core.Path.{refl}
+use mathlib.Core.Path.{_≡_, refl}
+use mathlib.Core.Bool.{Bool}
 use mathlib.Core.List.{List}
 use Prim.Native.Nat.{ℕ}
 use lib.IntN.{ℤ}
@@ -14,9 +15,10 @@ use Rattle.text_deed.proofs.Doing.{wants-does}
 use Rattle.text_turn.specs.declared.State.{State}
 use Rattle.text_turn.specs.Turn.{Prepares}
 
-pub prepared : (b : List ℕ) (s : State) (b' : List ℕ) (h : Heard) (xs : List ℤ) (w : Wanted) → Hears b (s .input) b' h
-    xs
+pub prepared : (b : List ℕ) (s : State) (b' : List ℕ) (h : Heard) (xs : List ℤ) (w : Wanted) (asked : Bool)
+    → Hears b (s .input) b' h xs
     → Wants (s .kept) (h .line .kind) (take (h .line .count) xs) (h .line .pairs) w
+    → asked ≡ asksWhy (s .telling) (h .line .kind)
     → Prepares b s b'
     (record {
       input = h .input;
@@ -28,10 +30,10 @@ pub prepared : (b : List ℕ) (s : State) (b' : List ℕ) (h : Heard) (xs : List
       count = h .line .count;
       request = w .request;
       beside = w .beside;
-      reasons = s .reasons;
-      asked = asksWhy (s .reasons) (h .line .kind);
+      telling = s .telling;
+      asked = asked;
     }) xs
-prepared b s b' h xs w p q =
+prepared b s b' h xs w asked p q e =
     let d : Does (s .kept) (deedOf (s .kept) (meaning (p .line))) (h .line .kind) (take (h .line .count) xs) w =
     wants-does (h .line) xs (meaning (p .line)) (s .kept) w (p .says) q in
     record {
@@ -39,8 +41,8 @@ prepared b s b' h xs w p q =
       next = p .next;
       asks = d .asks;
       kept = d .kept;
-      says = d .says (s .reasons) (s .number);
-      reasons = refl;
+      says = λ a t f. d .says (s .telling) (s .number) a t (rw e at f);
+      telling = refl;
       number = refl;
       waiting = refl;
     }

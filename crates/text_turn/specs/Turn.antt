@@ -1,13 +1,14 @@
 -- The two halves of a turn, before and after the table is asked. Assumes nothing.
 use mathlib.Core.Path.{_≡_}
 use mathlib.Core.Logic.{_⊎_}
-use mathlib.Core.Bool.{Bool, true, false}
+use mathlib.Core.Bool.{true, false}
 use mathlib.Core.List.{List}
 use Prim.Native.Nat.{ℕ, _+_, _≤_}
 use lib.IntN.{ℤ}
 use lib.ListN.{take, drop}
 use Rattle.paper.specs.declared.Record.{Record}
 use Rattle.text_protocol.specs.declared.Performed.{Performed}
+use Rattle.text_protocol.specs.declared.Telling.{Telling}
 use Rattle.text_protocol.specs.Kept.{noneKept}
 use Rattle.text_protocol.specs.Line.{meaning}
 use Rattle.text_protocol.specs.Calls.{deedOf}
@@ -33,9 +34,9 @@ pub record Prepares (b : List ℕ) (s : State) (b' : List ℕ) (r : Prepared) (x
   pub says : (a : Performed) (t : List Record)
       → Said (r .asked) (r .request) (drop evaluateCount (take (r .count) xs))
       (callIn (deedOf (s .kept) (meaning line))) t a
-      → lineText (r .asked) (r .kind) (s .number) (r .beside) a
-      ≡ textOf (s .reasons) (s .number) (deedOf (s .kept) (meaning line)) t
-  pub reasons : r .reasons ≡ s .reasons
+      → lineText (r .telling) (r .kind) (s .number) (r .beside) a
+      ≡ textOf (s .telling) (s .number) (deedOf (s .kept) (meaning line)) t
+  pub telling : r .telling ≡ s .telling
   pub number : r .number ≡ s .number
   pub waiting : r .waiting ≡ s .waiting
 
@@ -48,25 +49,25 @@ halted i = record { at = i .at; end = i .end; len = i .len; left = 0; ok = false
 -- hear. The input goes on as it was, unless a write failed: `ok` says so
 pub record Tells (b : List ℕ) (p : Prepared) (a : Performed) (b' : List ℕ) (r : State) : Type 0 where
   pub end : ℕ
-  pub wrote : Wrote b (p .waiting) b' end (lineText (p .asked) (p .kind) (p .number) (p .beside) a) answerMost
+  pub wrote : Wrote b (p .waiting) b' end (lineText (p .telling) (p .kind) (p .number) (p .beside) a) answerMost
   pub waits : (r .waiting ≡ end) ⊎ (r .waiting ≡ 0)
   pub room : r .waiting + answerMost ≤ room
   pub prompt : r .input .len ≤ r .input .end → r .waiting ≡ 0
   pub last : r .input .left ≡ 0 → r .waiting ≡ 0
   pub kept : r .kept ≡ p .kept
-  pub reasons : r .reasons ≡ p .reasons
+  pub telling : r .telling ≡ p .telling
   pub number : r .number ≡ numberAfter (p .number)
   pub goes-on : (r .input ≡ p .input) ⊎ ((r .ok ≡ false) × (r .input ≡ halted (p .input)))
 
--- at the start nothing is read, nothing is kept and nothing waits, and the first line is the next; `reasons` is how
--- evaluations are answered, from the start to the end
-abbrev pub startState : (reasons : Bool) → State
-startState reasons =
+-- at the start nothing is read, nothing is kept and nothing waits, and the first line is the next; `telling` is how
+-- lines are told, from the start to the end
+abbrev pub startState : Telling → State
+startState telling =
     record {
       input = record { at = 0; end = 0; len = 0; left = lastNumber; ok = true };
       number = 1;
       kept = noneKept;
       waiting = 0;
       ok = true;
-      reasons = reasons;
+      telling = telling;
     }

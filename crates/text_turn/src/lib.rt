@@ -16,31 +16,31 @@ use libc::STDOUT_FILENO;
 use text_call::Request;
 use text_call::least;
 use text_deed::Beside;
+use text_deed::asks_why;
 use text_deed::say;
 use text_deed::wanted_by;
 use text_input::Input;
 use text_input::hear;
 use text_protocol::EVALUATE_COUNT;
 use text_protocol::Kept;
-use text_protocol::Kind;
 use text_protocol::Performed;
 use text_protocol::ROOM;
+use text_protocol::Telling;
 use text_protocol::WAITING_MOST;
 
 // What goes on from line to line: what is left of the input, the number of the next line, what is kept of the interest
-// lines, how many bytes of answers wait to be written, whether every read and write went well, and whether evaluations
-// are answered with why.
+// lines, how many bytes of answers wait to be written, whether every read and write went well, and how lines are told.
 pub struct State {
     pub input: Input,
     pub number: u64,
     pub kept: Kept,
     pub waiting: usize,
     pub ok: bool,
-    pub reasons: bool,
+    pub telling: Telling,
 }
 
 // A line that was heard: its kind and how many numbers it has, what it asks of the desk, what is answered to it beside
-// the table, and whether it is answered with why.
+// the table, how it is told, and whether why is asked to it.
 pub struct Prepared {
     pub input: Input,
     pub number: u64,
@@ -51,7 +51,7 @@ pub struct Prepared {
     pub count: usize,
     pub request: Request,
     pub beside: Beside,
-    pub reasons: bool,
+    pub telling: Telling,
     pub asked: bool,
 }
 
@@ -65,6 +65,7 @@ pub fn prepare(buf: &mut [u8], xs: &mut [i64], s: State) -> Prepared
 {
     let input = s.input;
     let kept = s.kept;
+    let telling = s.telling;
     let h = hear(buf, xs, input);
     let line = h.line;
     let count = line.count;
@@ -84,8 +85,8 @@ pub fn prepare(buf: &mut [u8], xs: &mut [i64], s: State) -> Prepared
         count,
         request,
         beside,
-        reasons: s.reasons,
-        asked: s.reasons & (kind == Kind::EVALUATE),
+        telling,
+        asked: asks_why(telling, kind),
     }
 }
 
@@ -100,8 +101,8 @@ pub fn rows_of(xs: &[i64], count: usize) -> &[i64]
 
 // At the start nothing is read and nothing waits. Nothing says that the input ends, so the lines are counted down from
 // a number that no run uses up.
-pub fn start(reasons: bool) -> State
-    ensures { λ r. ⌜ r ≡ startState reasons ⌝ }
+pub fn start(telling: Telling) -> State
+    ensures { λ r. ⌜ r ≡ startState telling ⌝ }
 {
     State {
         input: Input {
@@ -115,7 +116,7 @@ pub fn start(reasons: bool) -> State
         kept: text_kept::none(),
         waiting: 0,
         ok: true,
-        reasons,
+        telling,
     }
 }
 
@@ -187,7 +188,8 @@ pub fn tell(out: &mut [u8; ROOM], p: Prepared, a: Performed) -> State
     let i = p.input;
     let kept = p.kept;
     let beside = p.beside;
-    let n = say(out, p.waiting, p.asked, p.kind, p.number, beside, a);
+    let telling = p.telling;
+    let n = say(out, p.waiting, telling, p.kind, p.number, beside, a);
     let number = number_after(p.number);
     if is_due(i, n) {
         let ok = flush(out, n) == n;
@@ -197,7 +199,7 @@ pub fn tell(out: &mut [u8; ROOM], p: Prepared, a: Performed) -> State
             kept,
             waiting: 0,
             ok: p.ok & ok,
-            reasons: p.reasons,
+            telling,
         };
     }
     State {
@@ -206,6 +208,6 @@ pub fn tell(out: &mut [u8; ROOM], p: Prepared, a: Performed) -> State
         kept,
         waiting: n,
         ok: p.ok,
-        reasons: p.reasons,
+        telling,
     }
 }

@@ -9,6 +9,7 @@ use Rattle.text_turn.proofs.prepare.Tie as tie
 use Rattle.text_turn.proofs.prepare.Reads as reads
 use Rattle.text_turn.proofs.prepare.Lts as lts
 use Rattle.text_input.proofs.hear.Reads as hear-reads
+use Rattle.text_deed.proofs.asks_why.Reads as asks-why-reads
 use Rattle.text_deed.proofs.wanted_by.Reads as wanted-by-reads
 
 hear-requires : tie.Need-hear-requires
@@ -24,6 +25,9 @@ slice-aggregate-wanted-by c = let p = c .before .before .before .before .before 
 wanted-by-requires : tie.Need-wanted-by-requires
 wanted-by-requires c κs = search needs
 
+asks-why-requires : tie.Need-asks-why-requires
+asks-why-requires c κs = search needs
+
 same-length : tie.Need-same-length
 same-length c = search needs
 
@@ -32,10 +36,11 @@ same-length-2 c = search needs
 
 returns : tie.Need-returns
 returns c =
-    let asked = c .before .before .before .before .before in
-    let heard = asked .before .before .before .before .before .before in
+    let wanted = c .before .before .before .before .before in
+    let heard = wanted .before .before .before .before .before .before in
     let entered = heard .before .before .before .before .before .before in (
-      prepared _ (entered .args .s) _ _ _ _ (heard .hear .ensures) (asked .wanted-by .ensures),
+      prepared _ (entered .args .s) _ _ _ _ _ (heard .hear .ensures) (wanted .wanted-by .ensures)
+          (c .asks-why .ensures),
       heard .hear .ensures .says .long,
     )
 
@@ -47,6 +52,7 @@ prepare-spec =
     slice-reshare-prefix-wanted-by
     slice-aggregate-wanted-by
     wanted-by-requires
+    asks-why-requires
     same-length
     same-length-2
     returns)

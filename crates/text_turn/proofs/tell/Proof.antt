@@ -45,7 +45,7 @@ returns c =
       prompt = λ h. refl;
       last = λ h. refl;
       kept = refl;
-      reasons = refl;
+      telling = refl;
       number = counted .number-after .ensures;
       goes-on = goes-on (entered .args .p .ok) took (c .before .stopped .ensures);
     }
@@ -63,7 +63,7 @@ returns-2 c =
       prompt = a-line-is-whole (on .1);
       last = a-line-is-left (on .2);
       kept = refl;
-      reasons = refl;
+      telling = refl;
       number = c .before .before .number-after .ensures;
       goes-on = inl refl;
     }
