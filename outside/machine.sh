@@ -58,7 +58,7 @@ toolchain() {
     echo "$kit/on/$(uname -m)/toolchain"
 }
 
-# ---- what else is needed: a C compiler for x86-64, make, a reader of x86-64 machine code, and cargo
+# ---- what else is needed: a C compiler for x86-64, make, a reader of x86-64 machine code, cargo and python3
 
 case $(uname -m) in
 x86_64)
@@ -114,6 +114,13 @@ need_rust() {
     has cargo && return
     install_packages "cargo is missing" cargo
     has cargo || cannot "there is still no cargo"
+}
+
+# The member's reader of messages runs by it (examples/listen.py).
+need_python() {
+    has python3 && return
+    install_packages "python3 is missing" python3
+    has python3 || cannot "there is still no python3"
 }
 
 # ---- what is built: from the present sources or not at all
@@ -192,7 +199,7 @@ need_program() { # NAME
     cannot "$1 is not proved; see target/log/$1.check"
 }
 
-# Runs a proved program on the lines of a file, or of standard input, from the folder `top` on.
+# Runs a proved program on the lines, or the messages, of a file or of standard input, from the folder `top` on.
 serve_lines() { # NAME [FILE]
     served=$1
     shift

@@ -22,7 +22,7 @@ pub struct Count {
 fn kinds(answers: Answers) -> Vec<String> {
     match answers {
         // An evening has no exchange's text.
-        Answers::Evening => (0..=Refusal::LAST)
+        Answers::Evening => (0..=Refusal::EVENING_LAST)
             .filter(|number| *number != Refusal::BadLine.number())
             .map(|number| number.to_string())
             .collect(),

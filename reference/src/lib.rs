@@ -1,11 +1,13 @@
 //! The independent second opinion on document 01 and on W-201 to W-203 and
-//! W-205 to W-211 of document 02: the parameter desk's rules in exact 128-bit
-//! integers and the reading of the exchange's text, written from the papers alone.
+//! W-205 to W-212 of document 02: the parameter desk's rules in exact 128-bit
+//! integers, the reading of the exchange's text and the messages to members,
+//! written from the papers alone.
 //!
 //! A quotient stays a numerator and a denominator until one of the paper's
 //! places of rounding (a) to (g), or W-201's own.
 
 pub mod bond;
+pub mod broadcast;
 pub mod compare;
 pub mod count;
 pub mod count_bond;
@@ -13,6 +15,7 @@ pub mod count_crossed;
 pub mod count_exchange;
 pub mod count_interest;
 pub mod count_inward;
+pub mod count_listen;
 pub mod count_outside;
 pub mod count_replacement;
 pub mod count_session;
@@ -27,6 +30,8 @@ pub mod gateway;
 pub mod interest;
 pub mod kept;
 pub mod limits;
+pub mod listen;
+pub mod message;
 pub mod outside;
 pub mod protocol;
 pub mod random;

@@ -7,15 +7,16 @@ use std::path::Path;
 use std::process::ExitCode;
 
 use reference::{
-    compare, count, count_bond, count_crossed, count_exchange, count_interest, count_inward,
-    count_outside, count_replacement, count_session, count_tentative, count_why, exchange, gateway,
-    protocol, script, why,
+    broadcast, compare, count, count_bond, count_crossed, count_exchange, count_interest,
+    count_inward, count_listen, count_outside, count_replacement, count_session, count_tentative,
+    count_why, exchange, gateway, listen, protocol, script, why,
 };
 
 const USAGE: &str = "usage: reference evening | why | gateway | exchange ID | exchange-index | \
-script-evening SEED LINES | script-gateway SEED LINES | script-exchange SEED TEXTS FOLDER | \
+broadcast | listen | listen-index | script-evening SEED LINES | script-gateway SEED LINES | \
+script-exchange SEED TEXTS FOLDER | script-listen SEED STREAMS FOLDER | \
 count [gateway | interest | replacement | exchange | crossed | bond | why | tentative | inward | \
-session | outside] | compare FILE_A FILE_B SCRIPT";
+session | outside | listen] | compare FILE_A FILE_B SCRIPT";
 /// The exit code of a comparison that fails or a count with a gap.
 const DIFFERENT: u8 = 1;
 /// The exit code of a command that cannot be run.
@@ -48,8 +49,14 @@ fn run(words: &[&str]) -> io::Result<ExitCode> {
             output.flush()?;
         }
         ["exchange-index"] => exchange::index::answer(input, output)?,
+        ["broadcast"] => broadcast::broadcast(input, output)?,
+        ["listen"] => listen::listen(input, output)?,
+        ["listen-index"] => listen::listen_index(input, output)?,
         ["script-exchange", seed, texts, folder] => {
             script::exchange::write(parsed(seed)?, parsed(texts)?, Path::new(folder), output)?;
+        }
+        ["script-listen", seed, streams, folder] => {
+            script::listen::write(parsed(seed)?, parsed(streams)?, Path::new(folder), output)?;
         }
         ["script-evening", seed, lines] => {
             output.write_all(&script::evening::script(parsed(seed)?, parsed(lines)?))?;
@@ -71,6 +78,7 @@ fn run(words: &[&str]) -> io::Result<ExitCode> {
         ["count", "outside"] => return told(&count_outside::count_outside(input)?),
         ["count", "why"] => return told(&count_why::count_why(input)?),
         ["count", "exchange"] => return told(&count_exchange::count_exchange(input)?),
+        ["count", "listen"] => return told(&count_listen::count_listen(input)?),
         ["compare", first, second, script] => return compared(first, second, script),
         _ => return Err(unusable(USAGE)),
     }

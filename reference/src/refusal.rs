@@ -1,7 +1,8 @@
 //! The refusals (document 01, "Numbers a member may see"; 14 is W-201's, 15
-//! W-203's, 16 W-205's, 17 W-206's, 18 and 19 W-210's, 20 W-211's).
+//! W-203's, 16 W-205's, 17 W-206's, 18 and 19 W-210's, 20 W-211's, 21 to 24
+//! W-212's).
 
-/// Why a call is refused; each carries the paper's number.
+/// Why a call or a message is refused; each carries the paper's number.
 #[derive(Clone, Copy, Debug, PartialEq, Eq)]
 pub enum Refusal {
     NoSuchId = 1,
@@ -24,11 +25,15 @@ pub enum Refusal {
     NoEveningMove = 18,
     OpenedTwice = 19,
     NoOutsidePrice = 20,
+    MessageCut = 21,
+    LengthWrong = 22,
+    FieldOutOfRange = 23,
+    NoRoom = 24,
 }
 
 impl Refusal {
-    /// The greatest number a member may see.
-    pub const LAST: i64 = Refusal::NoOutsidePrice.number();
+    /// The greatest number that an evening answers.
+    pub const EVENING_LAST: i64 = Refusal::NoOutsidePrice.number();
 
     /// The number a member sees.
     pub const fn number(self) -> i64 {

@@ -14,7 +14,7 @@ use paper::Standing;
 use paper::Statics;
 use paper::Tentative;
 use paper::Term;
-use text_protocol::Telling;
+use text_evening::Telling;
 
 fn statics() -> Statics {
     Statics {

@@ -5,7 +5,7 @@ use mathlib.Core.List.{List, [], _∷_}
 use Prim.Native.Nat.{ℕ}
 use lib.Dec.{eqb}
 use Rattle.paper.specs.declared.Verdict.{Verdict}
-use Rattle.paper.specs.declared.Verdict.the-variants.{Done, NoSuchId, AlreadyAdmitted, NoEmptySlot, AdmissionOutOfRange, DayNotAfter, OutOfRange, PriceOutOfRange, MoveTooLarge, BandCrossed, NotLive, NotMonitored, MovesUsedUp, SecondEarlier, NotAscending, BadLine, RowCrossed, NoFaceValue, NoEveningMove, OpenedTwice, BadFloat}
+use Rattle.paper.specs.declared.Verdict.the-variants.{Done, NoSuchId, AlreadyAdmitted, NoEmptySlot, AdmissionOutOfRange, DayNotAfter, OutOfRange, PriceOutOfRange, MoveTooLarge, BandCrossed, NotLive, NotMonitored, MovesUsedUp, SecondEarlier, NotAscending, BadLine, RowCrossed, NoFaceValue, NoEveningMove, OpenedTwice, BadFloat, CutShort, WrongLength, FieldOutOfRange, NoRoom}
 use Rattle.paper.specs.Lists.{pick}
 
 -- the table's numbers, in its order
@@ -31,6 +31,10 @@ numberOf NoFaceValue = 17
 numberOf NoEveningMove = 18
 numberOf OpenedTwice = 19
 numberOf BadFloat = 20
+numberOf CutShort = 21
+numberOf WrongLength = 22
+numberOf FieldOutOfRange = 23
+numberOf NoRoom = 24
 
 unfoldable pub isDone : Verdict → Bool
 isDone v = eqb (numberOf v) 0

@@ -461,6 +461,10 @@ pub enum Verdict {
     NoEveningMove,
     OpenedTwice,
     BadFloat,
+    CutShort,
+    WrongLength,
+    FieldOutOfRange,
+    NoRoom,
 }
 
 impl Verdict {
@@ -490,6 +494,10 @@ impl Verdict {
             Verdict::NoEveningMove => 18,
             Verdict::OpenedTwice => 19,
             Verdict::BadFloat => 20,
+            Verdict::CutShort => 21,
+            Verdict::WrongLength => 22,
+            Verdict::FieldOutOfRange => 23,
+            Verdict::NoRoom => 24,
         }
     }
 

@@ -15,7 +15,7 @@ use Rattle.paper.specs.declared.Day.{Day}
 use Rattle.paper.specs.declared.Quote.{Quote}
 use Rattle.paper.specs.declared.Answer.{Answer}
 use Rattle.paper.specs.declared.Verdict.{Verdict}
-use Rattle.paper.specs.declared.Verdict.the-variants.{Done, NoSuchId, AlreadyAdmitted, NoEmptySlot, AdmissionOutOfRange, DayNotAfter, OutOfRange, PriceOutOfRange, MoveTooLarge, BandCrossed, NotLive, NotMonitored, MovesUsedUp, SecondEarlier, NotAscending, BadLine, RowCrossed, NoFaceValue, NoEveningMove, OpenedTwice, BadFloat}
+use Rattle.paper.specs.declared.Verdict.the-variants.{Done, NoSuchId, AlreadyAdmitted, NoEmptySlot, AdmissionOutOfRange, DayNotAfter, OutOfRange, PriceOutOfRange, MoveTooLarge, BandCrossed, NotLive, NotMonitored, MovesUsedUp, SecondEarlier, NotAscending, BadLine, RowCrossed, NoFaceValue, NoEveningMove, OpenedTwice, BadFloat, CutShort, WrongLength, FieldOutOfRange, NoRoom}
 use Rattle.paper.specs.Lists.{pick, every}
 use Rattle.paper.specs.Verdicts.{numberOf, isDone, Naming, Check, firstNamed, firstOf, FirstAt, here, later, NoneApplies, none, also}
 use Rattle.paper_desk.specs.Desk.{Call, admit, evaluate, quote, move, read, openEvening, receive, admitChecks, evaluateChecks, quoteChecks, moveChecks, readChecks, openChecks, receiveChecks, checksOf, Outcome, saying, showing, alerting, alertsOn, judged, acceptedOf, step}
@@ -46,6 +46,10 @@ done-is NoFaceValue e = absurd (not-true-and-false false e refl)
 done-is NoEveningMove e = absurd (not-true-and-false false e refl)
 done-is OpenedTwice e = absurd (not-true-and-false false e refl)
 done-is BadFloat e = absurd (not-true-and-false false e refl)
+done-is CutShort e = absurd (not-true-and-false false e refl)
+done-is WrongLength e = absurd (not-true-and-false false e refl)
+done-is FieldOutOfRange e = absurd (not-true-and-false false e refl)
+done-is NoRoom e = absurd (not-true-and-false false e refl)
 
 -- what is named is what the first that applies names; or none applies, and it is what stands otherwise
 pub named-is : {A : Type 0} (otherwise : A) (cs : List (Naming A)) (v : A) → firstNamed otherwise cs ≡ v

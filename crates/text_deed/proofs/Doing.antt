@@ -1,16 +1,18 @@
 -- What a line of each kind asks for, what is kept of it and what is answered to it: the definition's, by the code's
 -- kinds. Assumes nothing.
-use mathlib.Core.Path.{_≡_, refl, _∙_}
+use mathlib.Core.Path.{_≡_, refl, sym, subst, _∙_}
 use mathlib.Core.Bool.{Bool, true, false}
-use mathlib.Core.List.{List}
+use mathlib.Core.List.{List, []}
 use Prim.Native.Nat.{ℕ, zero, suc, _≤_, _<_}
 use native.Mathlib.Omega.{arith}
 use lib.Dec.{eqb}
+use borrow.Author.Tests.{eqb-false, lt-leb}
 use lib.Ieee.{Float}
 use lib.IntN.{ℤ}
 use lib.ListN.{take, drop}
 use Rattle.paper.specs.declared.Record.{Record}
 use Rattle.paper.specs.declared.Admission.{Admission}
+use Rattle.paper.specs.declared.Answer.{Answer}
 use Rattle.paper.specs.declared.Day.{Day}
 use Rattle.paper.specs.declared.Quote.{Quote}
 use Rattle.paper.specs.declared.Outside.{Outside}
@@ -19,9 +21,12 @@ use Rattle.paper.specs.declared.Notice.the-variants.{Bid, Ask}
 use Rattle.paper.specs.declared.Interest.{Interest}
 use Rattle.paper.specs.declared.InterestAnswer.{InterestAnswer}
 use Rattle.paper.specs.Lists.{pick}
+use Rattle.paper.specs.Ranges.{validSide}
+use Rattle.paper.specs.Verdicts.{isDone, firstOf}
 use Rattle.paper_interest.specs.Interest.{interestAnswer}
 use Rattle.paper.specs.Terms.{dayOf}
-use Rattle.paper_desk.specs.Desk.{Call, admit, evaluate, quote, move, read, openEvening, receive, step}
+use Rattle.paper_desk.specs.Desk.{Call, admit, evaluate, quote, move, read, openEvening, receive, known, found, moveChecks, checksOf, step}
+use Rattle.paper_desk.proofs.Refusals.{verdict-first}
 use Rattle.paper_desk.specs.External.{together, notice}
 use Rattle.paper_bonds.specs.declared.Bond.{Bond}
 use Rattle.paper_bonds.specs.declared.BondAnswer.{BondAnswer}
@@ -31,17 +36,18 @@ use Rattle.paper_reasons.specs.Why.{whyOn}
 use Rattle.text_protocol.specs.declared.Kept.{Kept}
 use Rattle.text_protocol.specs.declared.Pairs.{Pairs}
 use Rattle.text_protocol.specs.declared.Performed.{Performed}
-use Rattle.text_protocol.specs.declared.Telling.{Telling}
-use Rattle.text_protocol.specs.declared.Telling.the-variants.{Answers, Reasons}
+use Rattle.text_evening.specs.declared.Telling.{Telling}
+use Rattle.text_evening.specs.declared.Telling.the-variants.{Answers, Reasons, Messages}
 use Rattle.text_protocol.specs.Kept.{keptAfter}
 use Rattle.text_protocol.specs.Names.{ID, SIDE, BITS, noticeNames, the, interestNames, bondNames, admitKind, evaluateKind, quoteKind, moveKind, readKind, openKind, outsideKind, noticeKind, withdrawKind, interestKind, bondKind, evaluateCount, interestCount, bondCount}
 use Rattle.text_protocol.specs.Line.{Said, Nothing, NoCall, Call as saysCall}
 use Rattle.text_protocol.specs.Calls.{Deed, unsignedOf, floatOf, noticeCall, interestOf, bondOf, figuresOf, callOf, deedOf}
 use Rattle.text_protocol.specs.Answers.{callText, figuresOf as figuresAnswered}
 use Rattle.text_protocol.specs.Reasons.{whyText}
-use Rattle.text_protocol.specs.Evening.{keptBy, answerTo, reasonTo, callTold, textOf}
-use Rattle.text_protocol.proofs.Spelling.{impossible}
+use Rattle.text_evening.specs.Broadcast.{messagesOf, allSent, broadcastOf}
+use Rattle.text_evening.specs.Evening.{keptBy, answerTo, reasonTo, callTold, worded, textOf}
 use Rattle.text_answer.specs.Kinds.{figuresOfKind, textOfKind}
+use Rattle.text_broadcast.specs.Kinds.{messagesOfKind, broadcastOfKind}
 use Rattle.text_line.specs.declared.Line.{Line}
 use Rattle.text_line.specs.Heard.{blankKind, badKind, said, Heard}
 use Rattle.text_call.specs.declared.Request.{Request}
@@ -94,33 +100,44 @@ line-kind (suc (suc (suc (suc (suc (suc (suc (suc (suc (suc (suc (suc (suc (suc 
 
 -- ---- why
 
--- a request that is an evaluation is of its id and of its day
-evaluates-as : (is-admit is-evaluate is-quote is-move is-open is-outside is-notice : Bool) (g : Admission)
-    (id id' side : ℕ)
-    (d d' : Day) (q : Quote) (x : Outside) (y : Notice) (rows rows' : List ℤ) (t : List Record)
-    → pick is-admit (admit g) (pick is-evaluate (evaluate id d rows) (pick is-quote (quote id q)
-    (pick is-move (move id side) (pick is-open (openEvening id) (pick is-outside (receive id (together x))
-    (pick is-notice (receive id (notice y)) (read id))))))) ≡ evaluate id' d' rows'
-    → whyOn t id d rows ≡ whyOn t id' d' rows'
-evaluates-as true b c e o u v g id id' side d d' q x y rows rows' t h = impossible cc
-evaluates-as false true c e o u v g id id' side d d' q x y rows rows' t h =
-    let i : id ≡ id' = cc in
-    let j : d ≡ d' = cc in
-    let k : rows ≡ rows' = cc in
-    rw (i, j, k)
-evaluates-as false false true e o u v g id id' side d d' q x y rows rows' t h = impossible cc
-evaluates-as false false false true o u v g id id' side d d' q x y rows rows' t h = impossible cc
-evaluates-as false false false false true u v g id id' side d d' q x y rows rows' t h = impossible cc
-evaluates-as false false false false false true v g id id' side d d' q x y rows rows' t h = impossible cc
-evaluates-as false false false false false false true g id id' side d d' q x y rows rows' t h = impossible cc
-evaluates-as false false false false false false false g id id' side d d' q x y rows rows' t h = impossible cc
+-- what a request has in common with a call: an admission, an evaluation and a move are of what it gives
+Fits : (g : Admission) (id side : ℕ) → Day → (rows : List ℤ) → Call → Type 0
+Fits g id side d rows (admit g') = g ≡ g'
+Fits g id side d rows (evaluate id' d' rows') = (id ≡ id') × (d ≡ d') × (rows ≡ rows')
+Fits g id side d rows (quote id' q) = Unit {0}
+Fits g id side d rows (move id' side') = side ≡ side'
+Fits g id side d rows (read id') = Unit {0}
+Fits g id side d rows (openEvening id') = Unit {0}
+Fits g id side d rows (receive id' x) = Unit {0}
 
+call-fits : (is-admit is-evaluate is-quote is-move is-open is-outside is-notice : Bool) (g : Admission) (id side : ℕ)
+    (d : Day) (q : Quote) (x : Outside) (y : Notice) (rows : List ℤ)
+    → Fits g id side d rows (pick is-admit (admit g) (pick is-evaluate (evaluate id d rows) (pick is-quote (quote id q)
+    (pick is-move (move id side) (pick is-open (openEvening id) (pick is-outside (receive id (together x))
+    (pick is-notice (receive id (notice y)) (read id))))))))
+unfolding Fits
+call-fits true b c e o u v g id side d q x y rows = refl
+call-fits false true c e o u v g id side d q x y rows = (refl, refl, refl)
+call-fits false false true e o u v g id side d q x y rows = tt
+call-fits false false false true o u v g id side d q x y rows = refl
+call-fits false false false false true u v g id side d q x y rows = tt
+call-fits false false false false false true v g id side d q x y rows = tt
+call-fits false false false false false false true g id side d q x y rows = tt
+call-fits false false false false false false false g id side d q x y rows = tt
+
+request-fits : (r : Request) (rows : List ℤ) {c : Call} → requestCall r rows ≡ c
+    → Fits (r .admission) (r .id) (r .side) (dayOf (r .day)) rows c
+request-fits r rows e =
+    subst (Fits (r .admission) (r .id) (r .side) (dayOf (r .day)) rows) e
+    (call-fits (eqb (r .kind) admitKind) (eqb (r .kind) evaluateKind) (eqb (r .kind) quoteKind) (eqb (r .kind) moveKind)
+    (eqb (r .kind) openKind) (eqb (r .kind) outsideKind) (eqb (r .kind) noticeKind) (r .admission) (r .id) (r .side)
+    (dayOf (r .day)) (r .quote) (r .outside) (r .notice) rows)
+
+-- so why is asked of the evaluation
 why-of : (r : Request) (rows : List ℤ) (t : List Record) {id : ℕ} {d : Day} {rows' : List ℤ}
     → requestCall r rows ≡ evaluate id d rows' → whyOn t (r .id) (dayOf (r .day)) rows ≡ whyOn t id d rows'
-why-of r rows t {id} {d} {rows'} h =
-    evaluates-as (eqb (r .kind) admitKind) (eqb (r .kind) evaluateKind) (eqb (r .kind) quoteKind)
-    (eqb (r .kind) moveKind) (eqb (r .kind) openKind) (eqb (r .kind) outsideKind) (eqb (r .kind) noticeKind)
-    (r .admission) (r .id) id (r .side) (dayOf (r .day)) d (r .quote) (r .outside) (r .notice) rows rows' t h
+unfolding Fits
+why-of r rows t h = let same = request-fits r rows h in rw (same .0, same .1, same .2)
 
 -- a notice of any side is answered with the record: `a` and `b` are whether it is a bid and whether it is an ask
 abbrev noticed : (a b : Bool) → (id side : ℕ) → Float → Call
@@ -150,6 +167,41 @@ notice-plain : (id side : ℕ) (x : Float) (t : List Record)
     → answerTo (noticeCall id side x) t ≡ reasonTo (noticeCall id side x) t
 unfolding noticeCall
 notice-plain id side x t = noticed-plain (eqb side 0) (eqb side 1) id side x t
+
+-- nor is it told as a message: a side that is none is a move that is refused
+pick-same : {A : Type 0} (b : Bool) (x : A) → pick b x x ≡ x
+pick-same true x = refl
+pick-same false x = refl
+
+no-side-refused : (id side : ℕ) (t : List Record) → eqb side 0 ≡ false → eqb side 1 ≡ false
+    → isDone (step (move id side) t .answer .verdict) ≡ false
+unfolding checksOf moveChecks firstOf validSide isDone
+no-side-refused id side t e f = rw (verdict-first (move id side) t) (go (known t id))
+  where
+    high : 1 < side
+    high = other side (eqb-false side 0 e) (eqb-false side 1 f)
+      where
+        other : (n : ℕ) → (n ≡ 0 → ⊥) → (n ≡ 1 → ⊥) → 1 < n
+        other zero h k = absurd (h refl)
+        other (suc zero) h k = absurd (k refl)
+        other (suc (suc n)) h k = omega arith
+
+    go : (there : Bool) → isDone (firstOf (moveChecks there (found t id) side)) ≡ false
+    go true = rw (lt-leb side 1 high)
+    go false = refl
+
+noticed-silent : (a b : Bool) (id side : ℕ) (x : Float) (t : List Record) → eqb side 0 ≡ a → eqb side 1 ≡ b
+    → [] ≡ broadcastOf (noticed a b id side x) (step (noticed a b id side x) t .answer)
+unfolding broadcastOf messagesOf allSent
+noticed-silent true b id side x t e f = sym (pick-same {A = List ℕ} (isDone (step (noticed true b id side x) t .answer .verdict)) [])
+noticed-silent false true id side x t e f =
+    sym (pick-same {A = List ℕ} (isDone (step (noticed false true id side x) t .answer .verdict)) [])
+noticed-silent false false id side x t e f = rw (no-side-refused id side t e f)
+
+notice-silent : (id side : ℕ) (x : Float) (t : List Record)
+    → [] ≡ broadcastOf (noticeCall id side x) (step (noticeCall id side x) t .answer)
+unfolding noticeCall
+notice-silent id side x t = noticed-silent (eqb side 0) (eqb side 1) id side x t refl refl
 
 module _ (k : Kept) (zs : List ℤ) (p : Pairs) where
   abbrev worked : InterestAnswer
@@ -201,7 +253,7 @@ module _ (k : Kept) (zs : List ℤ) (p : Pairs) where
       → (kind ≡ interestKind → b .interest ≡ worked) → (kind ≡ bondKind → b .bond ≡ workedBond)
       → a .answer ≡ step (callIn (deed kind)) t .answer
       → plainText kind n b a ≡ textOf Answers n (deed kind) t
-  unfolding plainText textOf callTold deedOf callOf callIn callText textOfKind figuresOfKind figuresAnswered
+  unfolding plainText textOf worded callTold deedOf callOf callIn callText textOfKind figuresOfKind figuresAnswered
   answers-kind n b a t admits f g e = rw e
   answers-kind n b a t evaluates f g e = rw e
   answers-kind n b a t quotes f g e = rw e
@@ -223,7 +275,7 @@ module _ (k : Kept) (zs : List ℤ) (p : Pairs) where
       → requestCall r rows ≡ callIn (deed kind)
       → (eqb kind evaluateKind ≡ true → y ≡ whyOn t (r .id) (dayOf (r .day)) rows)
       → pick (eqb kind evaluateKind) (whyText y) (textOf Answers n (deed kind) t) ≡ textOf Reasons n (deed kind) t
-  unfolding textOf callTold reasonTo deedOf callOf callIn
+  unfolding textOf worded callTold reasonTo deedOf callOf callIn
   reasons-kind n r rows y t admits asks e = refl
   reasons-kind n r rows y t evaluates asks e = rw (e refl, why-of r rows t asks)
   reasons-kind n r rows y t quotes asks e = refl
@@ -239,16 +291,39 @@ module _ (k : Kept) (zs : List ℤ) (p : Pairs) where
   reasons-kind n r rows y t is-blank asks e = refl
   reasons-kind n r rows y t is-bad asks e = refl
 
+  -- as messages, an admission, an evaluation and a move are told, and nothing else
+  messages-kind : (n : ℕ) (r : Request) (rows : List ℤ) (a : Answer) (t : List Record) {kind : ℕ} → LineKind kind
+      → requestCall r rows ≡ callIn (deed kind) → a ≡ step (callIn (deed kind)) t .answer
+      → broadcastOfKind kind (r .admission) (r .side) a ≡ textOf Messages n (deed kind) t
+  unfolding Fits broadcastOfKind messagesOfKind broadcastOf messagesOf allSent textOf worded callTold deedOf callOf callIn
+  messages-kind n r rows a t admits asks e = rw (e, request-fits r rows asks)
+  messages-kind n r rows a t evaluates asks e = rw e
+  messages-kind n r rows a t quotes asks e = rw e
+  messages-kind n r rows a t moves asks e = rw (e, request-fits r rows asks)
+  messages-kind n r rows a t reads asks e = rw e
+  messages-kind n r rows a t opens asks e = rw e
+  messages-kind n r rows a t sends asks e = rw e
+  messages-kind n r rows a t notices asks e =
+      rw (pick-same {A = List ℕ} (isDone (a .verdict)) [])
+      (notice-silent (unsignedOf noticeNames zs ID) (unsignedOf noticeNames zs SIDE) (floatOf (the noticeNames zs BITS))
+      t)
+  messages-kind n r rows a t withdraws asks e = rw e
+  messages-kind n r rows a t asks-interest asks e = pick-same {A = List ℕ} (isDone (a .verdict)) []
+  messages-kind n r rows a t asks-bond asks e = pick-same {A = List ℕ} (isDone (a .verdict)) []
+  messages-kind n r rows a t is-blank asks e = pick-same {A = List ℕ} (isDone (a .verdict)) []
+  messages-kind n r rows a t is-bad asks e = pick-same {A = List ℕ} (isDone (a .verdict)) []
+
   says-kind : (telling : Telling) (n : ℕ) (b : Beside) (r : Request) (rows : List ℤ) (a : Performed) (t : List Record)
       {kind : ℕ} → LineKind kind
       → (kind ≡ interestKind → b .interest ≡ worked) → (kind ≡ bondKind → b .bond ≡ workedBond)
       → requestCall r rows ≡ callIn (deed kind)
       → SaidBy (asksWhy telling kind) r rows (callIn (deed kind)) t a
-      → lineText telling kind n b a ≡ textOf telling n (deed kind) t
+      → lineText telling kind n r b a ≡ textOf telling n (deed kind) t
   unfolding lineText asksWhy
   says-kind Answers n b r rows a t is f g asks e = answers-kind n b a t is f g (e .answer)
   says-kind Reasons n b r rows a t {kind} is f g asks e =
       rw (answers-kind n b a t is f g (e .answer)) (reasons-kind n r rows (a .why) t is asks (e .why))
+  says-kind Messages n b r rows a t is f g asks e = messages-kind n r rows (a .answer) t is asks (e .answer)
 
 -- ---- what is wanted of a line
 

@@ -16,15 +16,16 @@ use Rattle.paper_reasons.specs.Why.{whyOn}
 use Rattle.text_protocol.specs.declared.Kept.{Kept}
 use Rattle.text_protocol.specs.declared.Pairs.{Pairs}
 use Rattle.text_protocol.specs.declared.Performed.{Performed}
-use Rattle.text_protocol.specs.declared.Telling.{Telling}
-use Rattle.text_protocol.specs.declared.Telling.the-variants.{Answers, Reasons}
+use Rattle.text_evening.specs.declared.Telling.{Telling}
+use Rattle.text_evening.specs.declared.Telling.the-variants.{Answers, Reasons, Messages}
 use Rattle.text_protocol.specs.Kept.{keptAfter}
 use Rattle.text_protocol.specs.Names.{evaluateKind, interestKind, bondKind, interestNames, bondNames, evaluateCount}
 use Rattle.text_protocol.specs.Calls.{Deed, nothing, noCall, call, interest, bond, interestOf, bondOf, figuresOf}
 use Rattle.text_protocol.specs.Answers.{badText, interestText, bondText}
 use Rattle.text_protocol.specs.Reasons.{whyText}
-use Rattle.text_protocol.specs.Evening.{keptBy, textOf}
+use Rattle.text_evening.specs.Evening.{keptBy, textOf}
 use Rattle.text_answer.specs.Kinds.{textOfKind}
+use Rattle.text_broadcast.specs.Kinds.{broadcastOfKind}
 use Rattle.text_line.specs.Heard.{blankKind, badKind}
 use Rattle.text_call.specs.declared.Request.{Request}
 use Rattle.text_call.specs.Requests.{requestCall, lineCall}
@@ -43,6 +44,7 @@ callIn (bond b flows) = read 0
 unfoldable pub asksWhy : Telling → (kind : ℕ) → Bool
 asksWhy Answers k = false
 asksWhy Reasons k = eqb k evaluateKind
+asksWhy Messages k = false
 
 -- the text of an answer, as the code has it: by the line's kind
 unfoldable pub plainText : (kind number : ℕ) → Beside → Performed → List ℕ
@@ -53,9 +55,10 @@ plainText k n b p =
     (pick (eqb k bondKind) (bondText (b .bond)) (textOfKind k (p .answer)))))
 
 -- what a line is told as, as the code has it
-unfoldable pub lineText : Telling → (kind number : ℕ) → Beside → Performed → List ℕ
-lineText Answers k n b p = plainText k n b p
-lineText Reasons k n b p = pick (eqb k evaluateKind) (whyText (p .why)) (plainText k n b p)
+unfoldable pub lineText : Telling → (kind number : ℕ) → Request → Beside → Performed → List ℕ
+lineText Answers k n r b p = plainText k n b p
+lineText Reasons k n r b p = pick (eqb k evaluateKind) (whyText (p .why)) (plainText k n b p)
+lineText Messages k n r b p = broadcastOfKind k (r .admission) (r .side) (p .answer)
 
 -- WHAT THE DESK SAYS to a request on the table t, whose call is c: what c answers, and why, where that is asked for
 pub record Said (asked : Bool) (r : Request) (rows : List ℤ) (c : Call) (t : List Record) (p : Performed) : Type 0 where
@@ -78,4 +81,4 @@ pub record Does (k : Kept) (d : Deed) (kind : ℕ) (zs : List ℤ) (r : Wanted) 
   pub kept : r .kept ≡ keptBy d k
   pub says : (telling : Telling) (n : ℕ) (a : Performed) (t : List Record)
       → Said (asksWhy telling kind) (r .request) (drop evaluateCount zs) (callIn d) t a
-      → lineText telling kind n (r .beside) a ≡ textOf telling n d t
+      → lineText telling kind n (r .request) (r .beside) a ≡ textOf telling n d t

@@ -15,10 +15,12 @@ use text_answer::say_bad;
 use text_answer::say_interest;
 use text_bond::bond_of;
 use text_bond::say_bond;
+use text_broadcast::say_messages;
 use text_call::Request;
 use text_call::figures;
 use text_call::interest_of;
 use text_call::request_of;
+use text_evening::Telling;
 use text_kept::kept_after;
 use text_line::Line;
 use text_protocol::BOND_COUNT;
@@ -27,7 +29,6 @@ use text_protocol::Kept;
 use text_protocol::Kind;
 use text_protocol::Performed;
 use text_protocol::ROOM;
-use text_protocol::Telling;
 use text_why::say_why;
 
 // What the calls beside the table answer to a line, the interest side's and a bond's: only the one that the line asks
@@ -102,6 +103,7 @@ pub fn asks_why(telling: Telling, kind: u64) -> bool
     match telling {
         Telling::Answers => false,
         Telling::Reasons => kind == Kind::EVALUATE,
+        Telling::Messages => false,
     }
 }
 
@@ -142,11 +144,12 @@ pub fn say(
     telling: Telling,
     kind: u64,
     number: u64,
+    r: Request,
     b: Beside,
     p: Performed,
 ) -> usize
     requires { ⌜ len + answerMost ≤ room ⌝ }
-    ensures { λ r. ⌜ Wrote (now (out .entry)) len (now (out .exit)) r (lineText telling kind number b p) answerMost ⌝ }
+    ensures { λ n. ⌜ Wrote (now (out .entry)) len (now (out .exit)) n (lineText telling kind number r b p) answerMost ⌝ }
 {
     match telling {
         Telling::Answers => say_plain(out, len, kind, number, b, p),
@@ -156,6 +159,11 @@ pub fn say(
                 return say_why(out, len, why);
             }
             say_plain(out, len, kind, number, b, p)
+        }
+        Telling::Messages => {
+            let admission = r.admission;
+            let answer = p.answer;
+            say_messages(out, len, kind, admission, r.side, answer)
         }
     }
 }

@@ -40,7 +40,7 @@ pub struct Passed {
 }
 
 // The bytes from `from` to `to`, moved to the front.
-fn shift(buf: &mut [u8], from: usize, to: usize) -> usize
+pub fn shift(buf: &mut [u8], from: usize, to: usize) -> usize
     requires { ⌜ (from ≤ to) × (to ≤ length (now buf)) ⌝ }
     ensures { λ r. ⌜ (r ≡ to - from) × (take (to - from) (now (buf .exit)) ≡ take (to - from) (drop from (now (buf
         .entry)))) × (length (now (buf .exit)) ≡ length (now (buf .entry))) ⌝ }

@@ -4,5 +4,4 @@ pub mod Spelling
 pub mod Pieces
 pub mod Filling
 pub mod Reading
-pub mod NoCall
 pub mod RoundTrip

@@ -10,4 +10,3 @@ pub mod CallCases
 pub mod Answers
 pub mod Reasons
 pub mod ReasonCases
-pub mod Evening

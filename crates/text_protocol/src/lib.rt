@@ -105,13 +105,6 @@ pub struct Pairs {
     pub third: bool,
 }
 
-// How the lines of an evening are told: each with its answer (the program `evening`), or an evaluation with why it is
-// what it is, and every other line with its answer (`why`).
-pub enum Telling {
-    Answers,
-    Reasons,
-}
-
 // What the desk says to a line: what its call answers, and why, which counts only where that is asked for.
 pub struct Performed {
     pub answer: Answer,

@@ -16,10 +16,10 @@ use Rattle.text_protocol.specs.Bytes.{lineFeed, digitZero, digitNine}
 use Rattle.text_protocol.specs.declared.Size.{Size}
 use Rattle.text_protocol.specs.declared.Size.the-variants as size
 use Rattle.text_protocol.specs.Numbers.{decimal, isDigit, sizeFrom, sizeOf}
-use Rattle.text_protocol.specs.Answers.{next, spaced, answerText}
+use Rattle.text_protocol.specs.Answers.{answerText}
 use Rattle.text_protocol.proofs.Spelling.{within-is-digit, low-no-digit, high-no-digit}
-use Rattle.text_out.specs.Wrote.{Wrote, then, wider, Left, left-none, left-more, left-all}
-use Rattle.text_answer.specs.Told.{Told, both, wrote, told, wrote-one}
+use Rattle.text_out.specs.Wrote.{Wrote, then, wider}
+use Rattle.text_answer.specs.Told.{Told, both, wrote}
 use Rattle.text_table.specs.declared.Reading.{Reading}
 use Rattle.text_rows.specs.declared.Asked.{Asked}
 use Rattle.text_rows.specs.declared.Asked.the-variants as asked
@@ -110,28 +110,6 @@ module _ (p : List ℕ) (i n : ℕ) (a : Asking p i n) where
         }
 
 -- ---- the answer
-
-abbrev pub Telling : List ℕ → ℕ → List ℤ → List ℕ → ℕ → ℕ → Type 0
-Telling b₀ n₀ zs b n i =
-    Left b₀ n₀ (spaced zs) rowsBytes b n (spaced (drop i zs)) (nextSignedBytes * (allNumbersMost - i))
-
-pub telling-none : (b : List ℕ) (n : ℕ) (zs : List ℤ) → Telling b n zs b n 0
-telling-none b n zs = left-none b n (spaced zs) rowsBytes rowsBytes (omega arith)
-
-module _ (b₀ : List ℕ) (n₀ : ℕ) (zs : List ℤ) (b : List ℕ) (n i : ℕ) (p : Telling b₀ n₀ zs b n i) where
-  pub telling-more : (b' : List ℕ) (n' : ℕ) → i < length zs → i < allNumbersMost
-      → Told b n b' n' (getD zs i (pos 0) ∷ []) nextSignedBytes
-      → Telling b₀ n₀ zs b' n' (i + 1)
-  unfolding spaced
-  telling-more b' n' h j q =
-      let m : nextSignedBytes * (allNumbersMost - i)
-      ≡ nextSignedBytes + nextSignedBytes * (allNumbersMost - (i + 1)) = omega arith in
-      let f : i + 1 ≡ suc i = omega arith in
-      rw f (left-more (rw (m, drop-cons zs i (pos 0) h, f) at p) (wrote-one q))
-
-  pub telling-all : length zs ≤ i → Told b₀ n₀ b n zs rowsBytes
-  unfolding spaced
-  telling-all h = told refl (left-all (rw (drop-of-length-le zs h) at p))
 
 -- a bad line, and rows
 module _ (r : Reading) (b : List ℕ) (n : ℕ) {b' b'' c : List ℕ} {n' n'' e : ℕ} (no' : ℕ)

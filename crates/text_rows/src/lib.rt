@@ -5,15 +5,13 @@ ghost use Prim.Native.Nat.{_+_, _*_, _≤_, _<_};
 ghost use lib.ListN.{length};
 ghost use Rattle.text_table.specs.Scan.{reading};
 ghost use Rattle.text_out.specs.Wrote.{Wrote};
-ghost use Rattle.text_answer.specs.Told.{Told};
-ghost use Rattle.text_rows.specs.Rows.{grown, askedOf, readingText, rowsBytes, readingMost};
+ghost use Rattle.text_rows.specs.Rows.{grown, askedOf, readingText, readingMost};
 ghost use Rattle.text_protocol.specs.Bytes.{room};
 ghost use Rattle.paper.specs.Numbers.{allNumbersMost};
 ghost use Rattle.text_table.specs.Exchange.{rowsMost};
 use paper::Record;
 use paper::Row;
 use text_answer::put_next;
-use text_answer::put_next_signed;
 use text_exchange::TEXT_MOST;
 use text_exchange::read_exchange;
 use text_input::Got;
@@ -23,6 +21,7 @@ use text_out::put_number;
 use text_protocol::DIGIT_NINE;
 use text_protocol::DIGIT_ZERO;
 use text_protocol::ROOM;
+use text_put::put_numbers;
 use text_table::Reading;
 
 // ---- the argument
@@ -106,20 +105,6 @@ pub fn take_in(buf: &mut [u8]) -> Got
 
 // ---- the answer
 
-// Numbers, a blank before each.
-fn put_rows(out: &mut [u8; ROOM], len: usize, zs: &[i64]) -> usize
-    requires { ⌜ (len + rowsBytes ≤ room) × (length (now zs) ≤ allNumbersMost) ⌝ }
-    ensures { λ r. ⌜ Told (now (out .entry)) len (now (out .exit)) r (now (zs .entry)) rowsBytes ⌝ }
-{
-    let mut n = len;
-    let mut i = 0;
-    while i < zs.len() {
-        n = put_next_signed(out, n, zs[i]);
-        i += 1;
-    }
-    n
-}
-
 // `0 COUNT` and the numbers of the rows; or `15 LINE`.
 fn say_reading(out: &mut [u8; ROOM], len: usize, r: Reading) -> usize
     requires { ⌜ (len + readingMost ≤ room) × (r .count ≤ rowsMost) × (length (r .rows) ≡ allNumbersMost) ⌝ }
@@ -136,7 +121,7 @@ fn say_reading(out: &mut [u8; ROOM], len: usize, r: Reading) -> usize
     }
     let n = put_next(out, n, count as u64);
     let numbers = Row::NUMBERS * count;
-    let n = put_rows(out, n, &rows[..numbers]);
+    let n = put_numbers(out, n, &rows[..numbers]);
     put_byte(out, n, b'\n')
 }
 

@@ -24,10 +24,10 @@ use denote.Enum.Laws as EL
 use denote.Struct.Laws as LL
 use Rattle.text_protocol.specs.Line.{keptMost}
 use Rattle.text_protocol.specs.Bytes.{room as bufferRoom}
-use Rattle.text_protocol.specs.declared.Telling.{Telling}
-use Rattle.text_protocol.specs.declared.Telling.the-variants.{Answers, Reasons}
-use Rattle.text_protocol.proofs.Telling as E
-use Rattle.text_protocol.proofs.Telling.Laws as E′
+use Rattle.text_evening.specs.declared.Telling.{Telling}
+use Rattle.text_evening.specs.declared.Telling.the-variants.{Answers, Reasons, Messages}
+use Rattle.text_evening.proofs.Telling as E
+use Rattle.text_evening.proofs.Telling.Laws as E′
 use Rattle.text_protocol.proofs.Kept.Laws as K′
 use Rattle.text_call.proofs.Request.Laws as R′
 use Rattle.text_input.proofs.Input.Laws as I′
@@ -72,6 +72,7 @@ telling-val = EL.val E.the-type E′.the-laws
 pub telling-is : (x : Telling) → Is E.the-row x (telling-val x ∷ [])
 telling-is Answers = EL.owes E.the-type E′.the-laws Answers tt
 telling-is Reasons = EL.owes E.the-type E′.the-laws Reasons tt
+telling-is Messages = EL.owes E.the-type E′.the-laws Messages tt
 
 -- ---- a state and a line that was heard
 

@@ -7,11 +7,11 @@ use mathlib.Core.List.{List, [], _∷_, _++_, append-assoc}
 use Prim.Native.Nat.{ℕ, _+_, _-_, _≤_, _<_}
 use native.Mathlib.Omega.{arith}
 use lib.ListN.{length, length-append}
-use Rattle.text_protocol.specs.declared.Telling.{Telling}
+use Rattle.text_evening.specs.declared.Telling.{Telling}
 use Rattle.text_protocol.specs.Answers.{answerMost}
 use Rattle.paper.specs.declared.Record.{Record}
 use Rattle.text_protocol.specs.Bytes.{lineFeed, run, room as bufferRoom}
-use Rattle.text_protocol.specs.Evening.{Evening, after, afterAll}
+use Rattle.text_evening.specs.Evening.{Evening, after, afterAll}
 use Rattle.text_input.specs.declared.Input.{Input}
 use Rattle.text_input.specs.Input.{lineLength, Unbroken, unread, Stands, Ends}
 use Rattle.text_turn.specs.declared.State.{State}

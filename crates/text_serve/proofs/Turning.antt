@@ -17,7 +17,7 @@ use Rattle.text_protocol.specs.Bytes.{lineFeed}
 use Rattle.text_protocol.specs.declared.Performed.{Performed}
 use Rattle.text_protocol.specs.Line.{meaning}
 use Rattle.text_protocol.specs.Calls.{Deed, nothing, noCall, call, interest, bond, deedOf}
-use Rattle.text_protocol.specs.Evening.{Evening, tableAfter, numberAfter, after, answer}
+use Rattle.text_evening.specs.Evening.{Evening, tableAfter, numberAfter, after, answer}
 use Rattle.text_out.specs.Wrote.{Wrote}
 use Rattle.text_call.specs.Requests.{requestCall}
 use Rattle.text_input.specs.declared.Input.{Input}
@@ -71,10 +71,10 @@ module _ {b : List ℕ} {s : State} {b' : List ℕ} {p : Prepared} {xs rows : Li
       let table : t' ≡ tableAfter deed t = performed .table ∙ sym (table-of deed t) in
       λ i. record { number = number i; kept = kept i; table = table i }
 
-  text-is : lineText (p .telling) (p .kind) (p .number) (p .beside) a ≡ answer (s .telling) (heard .line) (eveningOf s t)
+  text-is : lineText (p .telling) (p .kind) (p .number) (p .request) (p .beside) a ≡ answer (s .telling) (heard .line) (eveningOf s t)
   unfolding answer
   text-is =
-      ap (λ (n : ℕ). lineText (p .telling) (p .kind) n (p .beside) a) (heard .number) ∙ heard .says a t said
+      ap (λ (n : ℕ). lineText (p .telling) (p .kind) n (p .request) (p .beside) a) (heard .number) ∙ heard .says a t said
 
   wrote : Wrote o (s .waiting) o' (told .end) (answer (s .telling) (heard .line) (eveningOf s t)) answerMost
   wrote =

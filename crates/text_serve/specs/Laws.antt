@@ -9,11 +9,11 @@ use native.Mathlib.Omega.{arith}
 use lib.Dec.{eqb}
 use lib.ListN.{length}
 use Rattle.paper.specs.Lists.{pick}
-use Rattle.text_protocol.specs.declared.Telling.{Telling}
+use Rattle.text_evening.specs.declared.Telling.{Telling}
 use Rattle.text_protocol.specs.Bytes.{lineFeed, isLineFeed, isNot, run, grow, pieces, full, words, ended, lines}
 use Rattle.text_protocol.specs.Line.{meaning, called}
 use Rattle.text_protocol.specs.Calls.{deedOf}
-use Rattle.text_protocol.specs.Evening.{Evening, tableAfter, after, afterAll}
+use Rattle.text_evening.specs.Evening.{Evening, tableAfter, after, afterAll}
 use Rattle.paper.specs.declared.Record.{Record}
 use Rattle.text_turn.specs.declared.State.{State}
 use Rattle.text_turn.specs.Turn.{startState}

@@ -6,9 +6,9 @@ use mathlib.Core.List.{List, [], _∷_, _++_}
 use Prim.Native.Nat.{ℕ, _+_, _≤_}
 use lib.ListN.{length}
 use Rattle.paper.specs.declared.Record.{Record}
-use Rattle.text_protocol.specs.declared.Telling.{Telling}
+use Rattle.text_evening.specs.declared.Telling.{Telling}
 use Rattle.text_protocol.specs.Bytes.{lineFeed, room}
-use Rattle.text_protocol.specs.Evening.{Evening, after, answer, afterAll, lastNumber}
+use Rattle.text_evening.specs.Evening.{Evening, after, answer, afterAll, lastNumber}
 use Rattle.text_out.specs.Wrote.{Wrote}
 use Rattle.text_input.specs.declared.Input.{Input}
 use Rattle.text_input.specs.Input.{Unbroken, Next}
@@ -75,7 +75,7 @@ pub record Cut (got : List ℕ) (lines : List (List ℕ)) (ok : Bool) : Type 0 w
 
 -- EVERY TURN: `got` is what `read` delivered, in order, and `lines` are its lines. The evening at the end is the one
 -- after these lines, and no answer waits: the last one, too, was handed to `write`. Lines are told in one way from the
--- start to the end: with their answers (`evening`), or with reasons (`why`)
+-- start to the end: with their answers (`evening`), with reasons (`why`), or with messages (`broadcast`)
 pub record Serves (telling : Telling) (t : List Record) (r : State) (t' : List Record) : Type 0 where
   pub got : List ℕ
   pub lines : List (List ℕ)

@@ -15,9 +15,9 @@ ghost use Rattle.paper.specs.Numbers.{slotsMost};
 use libc::STDERR_FILENO;
 use paper::Record;
 use text_ask::ask;
+use text_evening::Telling;
 use text_protocol::KEPT;
 use text_protocol::ROOM;
-use text_protocol::Telling;
 use text_turn::Prepared;
 use text_turn::State;
 use text_turn::prepare;
@@ -96,11 +96,13 @@ fn report(s: State) {
     match telling {
         Telling::Answers => io::write_all(STDERR_FILENO, b"evening: could not read or write\n"),
         Telling::Reasons => io::write_all(STDERR_FILENO, b"why: could not read or write\n"),
+        Telling::Messages => io::write_all(STDERR_FILENO, b"broadcast: could not read or write\n"),
     }
     ;
 }
 
-// A table by value, lent once to every line of standard input: `evening` and `why` are this, told in two ways.
+// A table by value, lent once to every line of standard input: `evening`, `why` and `broadcast` are this, told in three
+// ways.
 pub fn on(t: [Record; Record::SLOTS_MOST], telling: Telling) {
     let mut u = t;
     let s = serve(&mut u, telling);

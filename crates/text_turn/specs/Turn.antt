@@ -8,11 +8,11 @@ use lib.IntN.{ℤ}
 use lib.ListN.{take, drop}
 use Rattle.paper.specs.declared.Record.{Record}
 use Rattle.text_protocol.specs.declared.Performed.{Performed}
-use Rattle.text_protocol.specs.declared.Telling.{Telling}
+use Rattle.text_evening.specs.declared.Telling.{Telling}
 use Rattle.text_protocol.specs.Kept.{noneKept}
 use Rattle.text_protocol.specs.Line.{meaning}
 use Rattle.text_protocol.specs.Calls.{deedOf}
-use Rattle.text_protocol.specs.Evening.{keptBy, textOf, numberAfter, lastNumber}
+use Rattle.text_evening.specs.Evening.{keptBy, textOf, numberAfter, lastNumber}
 use Rattle.text_out.specs.Wrote.{Wrote}
 use Rattle.text_call.specs.Requests.{requestCall}
 use Rattle.text_input.specs.declared.Input.{Input}
@@ -34,7 +34,7 @@ pub record Prepares (b : List ℕ) (s : State) (b' : List ℕ) (r : Prepared) (x
   pub says : (a : Performed) (t : List Record)
       → Said (r .asked) (r .request) (drop evaluateCount (take (r .count) xs))
       (callIn (deedOf (s .kept) (meaning line))) t a
-      → lineText (r .telling) (r .kind) (s .number) (r .beside) a
+      → lineText (r .telling) (r .kind) (s .number) (r .request) (r .beside) a
       ≡ textOf (s .telling) (s .number) (deedOf (s .kept) (meaning line)) t
   pub telling : r .telling ≡ s .telling
   pub number : r .number ≡ s .number
@@ -49,7 +49,7 @@ halted i = record { at = i .at; end = i .end; len = i .len; left = 0; ok = false
 -- hear. The input goes on as it was, unless a write failed: `ok` says so
 pub record Tells (b : List ℕ) (p : Prepared) (a : Performed) (b' : List ℕ) (r : State) : Type 0 where
   pub end : ℕ
-  pub wrote : Wrote b (p .waiting) b' end (lineText (p .telling) (p .kind) (p .number) (p .beside) a) answerMost
+  pub wrote : Wrote b (p .waiting) b' end (lineText (p .telling) (p .kind) (p .number) (p .request) (p .beside) a) answerMost
   pub waits : (r .waiting ≡ end) ⊎ (r .waiting ≡ 0)
   pub room : r .waiting + answerMost ≤ room
   pub prompt : r .input .len ≤ r .input .end → r .waiting ≡ 0

@@ -5,7 +5,7 @@ ghost use mathlib.Core.Bool.{false};
 ghost use Prim.Native.Nat.{_+_, _≤_, _<_};
 ghost use lib.ListN.{length, take, drop};
 ghost use Rattle.text_input.specs.Input.{Stands};
-ghost use Rattle.text_protocol.specs.Evening.{numberAfter};
+ghost use Rattle.text_evening.specs.Evening.{numberAfter};
 ghost use Rattle.paper.specs.Lists.{pick};
 ghost use Rattle.text_turn.specs.Turn.{Prepares, halted, Tells, startState};
 ghost use Rattle.text_protocol.specs.Bytes.{room};
@@ -19,13 +19,13 @@ use text_deed::Beside;
 use text_deed::asks_why;
 use text_deed::say;
 use text_deed::wanted_by;
+use text_evening::Telling;
 use text_input::Input;
 use text_input::hear;
 use text_protocol::EVALUATE_COUNT;
 use text_protocol::Kept;
 use text_protocol::Performed;
 use text_protocol::ROOM;
-use text_protocol::Telling;
 use text_protocol::WAITING_MOST;
 
 // What goes on from line to line: what is left of the input, the number of the next line, what is kept of the interest
@@ -189,7 +189,17 @@ pub fn tell(out: &mut [u8; ROOM], p: Prepared, a: Performed) -> State
     let kept = p.kept;
     let beside = p.beside;
     let telling = p.telling;
-    let n = say(out, p.waiting, telling, p.kind, p.number, beside, a);
+    let request = p.request;
+    let n = say(
+        out,
+        p.waiting,
+        telling,
+        p.kind,
+        p.number,
+        request,
+        beside,
+        a,
+    );
     let number = number_after(p.number);
     if is_due(i, n) {
         let ok = flush(out, n) == n;

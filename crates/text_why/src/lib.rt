@@ -22,20 +22,7 @@ use text_answer::put_next;
 use text_out::put_byte;
 use text_out::put_number;
 use text_protocol::ROOM;
-
-// The bytes of a word. None has more than eleven.
-fn put_bytes(out: &mut [u8; ROOM], len: usize, word: &[u8]) -> usize
-    requires { ⌜ (len + 11 ≤ room) × (length (now word) ≤ 11) ⌝ }
-    ensures { λ r. ⌜ Wrote (now (out .entry)) len (now (out .exit)) r (now (word .entry)) 11 ⌝ }
-{
-    let mut n = len;
-    let mut i = 0;
-    while i < word.len() {
-        n = put_byte(out, n, word[i]);
-        i += 1;
-    }
-    n
-}
+use text_put::put_bytes;
 
 // A blank, and a word.
 fn put_word(out: &mut [u8; ROOM], len: usize, word: &[u8]) -> usize

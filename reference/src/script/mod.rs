@@ -9,6 +9,7 @@ pub mod exchange;
 pub mod gateway;
 mod interest;
 mod inward;
+pub mod listen;
 mod outside;
 mod quote;
 mod replacement;

@@ -43,13 +43,13 @@ array-share-prefix-rows c =
     let at-start = c .before .before .before .before .before .before .before .before in
     omega (arith, at-start .pre .2, at-start .pre .1)
 
-slice-aggregate-put-rows : tie.Need-slice-aggregate-put-rows
-slice-aggregate-put-rows c =
+slice-aggregate-put-numbers : tie.Need-slice-aggregate-put-numbers
+slice-aggregate-put-numbers c =
     let at-start = c .before .before .before .before .before .before .before .before .before in
     sym (length-take-le _ _ (omega (arith, at-start .pre .2, at-start .pre .1)))
 
-put-rows-requires : tie.Need-put-rows-requires
-put-rows-requires c κs =
+put-numbers-requires : tie.Need-put-numbers-requires
+put-numbers-requires c κs =
     let at-start = c .before .before .before .before .before .before .before .before .before in (
       search needs,
       let h : rowNumbers * at-start .args .r .count ≤ length (at-start .args .r .rows) = omega (
@@ -70,14 +70,14 @@ put-byte-requires-2 c κs = search needs
 
 returns-2 : tie.Need-returns-2
 returns-2 c =
-    let at-put-rows = c .before .before in
-    let at-put-next2 = at-put-rows .before .before .before in
+    let at-put-numbers = c .before .before in
+    let at-put-next2 = at-put-numbers .before .before .before in
     let at-if1 = at-put-next2 .before .before in
     let at-put-number = at-if1 .before in
     let at-number = at-put-number .before .before in
     let at-start = at-number .before .before in
     say-rows (at-start .args .r) _ _ _ (at-number .number .ensures) (at-put-number .put-number .ensures)
-    (at-if1 .if1 .left) (at-put-next2 .put-next2 .ensures) (at-put-rows .put-rows .ensures) (c .put-byte2 .ensures)
+    (at-if1 .if1 .left) (at-put-next2 .put-next2 .ensures) (at-put-numbers .put-numbers .ensures) (c .put-byte2 .ensures)
 
 pub say-reading-spec : {M : Type 1} → statement M
 say-reading-spec =
@@ -91,7 +91,7 @@ say-reading-spec =
     put-next-requires-2
     mul-numbers
     array-share-prefix-rows
-    slice-aggregate-put-rows
-    put-rows-requires
+    slice-aggregate-put-numbers
+    put-numbers-requires
     put-byte-requires-2
     returns-2)

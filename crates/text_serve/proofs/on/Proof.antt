@@ -55,9 +55,9 @@ use Rattle.desk.proofs.Row.{R, vals, tells, makes, env-of, after}
 use Rattle.desk.proofs.Lending.{wref, ref, machine}
 use Rattle.desk.proofs.Calls.{Owned}
 use Rattle.text_perform.proofs.Gives.{gives-up, freed}
-use Rattle.text_protocol.specs.declared.Telling.{Telling}
-use Rattle.text_protocol.proofs.Telling as E
-use Rattle.text_protocol.proofs.Telling.Laws as E′
+use Rattle.text_evening.specs.declared.Telling.{Telling}
+use Rattle.text_evening.proofs.Telling as E
+use Rattle.text_evening.proofs.Telling.Laws as E′
 use Rattle.text_turn.specs.declared.State.{State}
 use Rattle.text_turn.proofs.State as G
 use Rattle.text_turn.proofs.State.Laws as G′

@@ -63,9 +63,9 @@ use Rattle.desk.proofs.Asks.{asks}
 use Rattle.io.proofs.large_buffer as buffer
 use Rattle.io.proofs.large_buffer.Symbol as buffer-def
 use Rattle.io.proofs.large_buffer.Met as buffer-thm
-use Rattle.text_protocol.specs.declared.Telling.{Telling}
-use Rattle.text_protocol.proofs.Telling as E
-use Rattle.text_protocol.proofs.Telling.Laws as E′
+use Rattle.text_evening.specs.declared.Telling.{Telling}
+use Rattle.text_evening.proofs.Telling as E
+use Rattle.text_evening.proofs.Telling.Laws as E′
 use Rattle.text_turn.specs.declared.State.{State}
 use Rattle.text_turn.specs.Turn.{startState}
 use Rattle.text_turn.proofs.State as G

@@ -1,5 +1,5 @@
 -- `text_turn::number_after` meets its contract: the number of the line behind the n-th. Assumes nothing.
-use Rattle.text_protocol.specs.Evening.{numberAfter, lastNumber}
+use Rattle.text_evening.specs.Evening.{numberAfter, lastNumber}
 use borrow.Author.Tests.{lt-ltb, le-ltb}
 use borrow.Author.Needs.{needs}
 use Rattle.text_turn.proofs.number_after.Statement.{statement}

@@ -34,7 +34,7 @@ stopped-requires c κs = search needs
 returns : tie.Need-returns
 returns c =
     let counted = c .before .before .before .before .before .before .before in
-    let entered = counted .before .before .before .before .before .before in
+    let entered = counted .before .before .before .before .before .before .before in
     let said = counted .before .say in
     let took = eqb (c .before .before .flush .result) (said .result) in
     record {

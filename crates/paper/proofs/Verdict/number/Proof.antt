@@ -88,10 +88,30 @@ returns-21 : tie.Need-returns-21
 unfolding numberOf
 returns-21 c = rw (c .enum-told21 .given .1)
 
+returns-22 : tie.Need-returns-22
+unfolding numberOf
+returns-22 c = rw (c .enum-told22 .given .1)
+
+returns-23 : tie.Need-returns-23
+unfolding numberOf
+returns-23 c = rw (c .enum-told23 .given .1)
+
+returns-24 : tie.Need-returns-24
+unfolding numberOf
+returns-24 c = rw (c .enum-told24 .given .1)
+
+returns-25 : tie.Need-returns-25
+unfolding numberOf
+returns-25 c = rw (c .enum-told25 .given .1)
+
 pub number-spec : {M : Type 1} → statement M
 number-spec =
     tie.close
     (tie.spec
+    (λ c. search needs)
+    (λ c. search needs)
+    (λ c. search needs)
+    (λ c. search needs)
     (λ c. search needs)
     (λ c. search needs)
     (λ c. search needs)
@@ -133,4 +153,8 @@ number-spec =
     returns-18
     returns-19
     returns-20
-    returns-21)
+    returns-21
+    returns-22
+    returns-23
+    returns-24
+    returns-25)

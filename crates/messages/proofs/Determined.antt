@@ -1,0 +1,17 @@
+-- Any two outcomes that a promise allows are equal. Assumes nothing.
+use mathlib.Core.Path.{_≡_, sym, _∙_}
+use mathlib.Core.List.{List}
+use Prim.Native.Nat.{ℕ}
+use Rattle.paper_messages.specs.declared.Message.{Message}
+use Rattle.paper_messages.specs.declared.Wrote.{Wrote}
+use Rattle.paper_messages.specs.declared.Heard.{Heard}
+use Rattle.paper_messages.specs.Messages.{heardAt}
+use Rattle.messages.specs.Promises.{Writes}
+
+pub write-determined : (b : List ℕ) (m : Message) (r r′ : Wrote) (after after′ : List ℕ) → Writes b m r after
+    → Writes b m r′ after′
+    → (r ≡ r′) × (after ≡ after′)
+write-determined b m r r′ after after′ p q = (p .answers ∙ sym (q .answers), p .leaves ∙ sym (q .leaves))
+
+pub read-determined : (b : List ℕ) (at : ℕ) (r r′ : Heard) → r ≡ heardAt b at → r′ ≡ heardAt b at → r ≡ r′
+read-determined b at r r′ p q = p ∙ sym q

@@ -1,0 +1,145 @@
+-- Where the reader's tests lead, on plain values: what is heard at a place, by the first check that applies. Assumes
+-- nothing.
+use mathlib.Core.Path.{_≡_, refl, sym, _∙_}
+use mathlib.Core.Bool.{true, false, not, _&&_}
+use mathlib.Core.List.{List}
+use Prim.Native.Nat.{ℕ, _+_, _-_, _≤_, _<_}
+use native.Mathlib.Omega.{arith}
+use lib.IntN.{ℤ}
+use lib.ListN.{length, take, drop, length-drop}
+use lib.Seq.{drop-drop}
+use lib.Dec.{eqb}
+use borrow.Author.Tests.{lt-ltb, le-ltb, le-leb, ne-eqb, eq-eqb}
+use Rattle.paper.specs.declared.Verdict.{Verdict}
+use Rattle.paper.specs.declared.Verdict.the-variants.{Done, CutShort, WrongLength, FieldOutOfRange}
+use Rattle.paper.specs.Lists.{pick}
+use Rattle.paper.specs.Ranges.{within}
+use Rattle.paper.specs.Verdicts.{firstOf, isDone}
+use Rattle.paper.proofs.Logic.{pick-false}
+use Rattle.paper_messages.specs.Bytes.{spelled}
+use Rattle.paper_messages.specs.Fields.{placesOf}
+use Rattle.paper_messages.specs.Messages.{lengthWidth, kindWidth, lengthLeast, lengthMost, lengthAt, kindAt, lengthOf, isKnown, valid, valuesAt, messageAt, noMessage, readChecks, refusedHeard, acceptedHeard, heardAt}
+use Rattle.paper_messages.proofs.FieldLaws.{kinds-hold}
+use Rattle.message_bytes.specs.Asked.{Room}
+use Rattle.messages.specs.Promises.{Whole}
+
+module _ (b : List ℕ) (at : ℕ) where
+  -- a refusal is heard where it is the first that applies
+  refuses : (v : Verdict) → isDone v ≡ false → firstOf (readChecks (drop at b)) ≡ v → refusedHeard v ≡ heardAt b at
+  unfolding heardAt
+  refuses v n e = rw e (sym (pick-false (isDone v) (acceptedHeard at (drop at b)) (refusedHeard v) n))
+
+  accepts : firstOf (readChecks (drop at b)) ≡ Done → acceptedHeard at (drop at b) ≡ heardAt b at
+  unfolding heardAt isDone
+  accepts e = rw e
+
+  -- how many bytes are left
+  left-is : length (drop at b) ≡ length b - at
+  left-is = length-drop at b
+
+  pub no-length : length b < at + lengthWidth → refusedHeard CutShort ≡ heardAt b at
+  unfolding readChecks firstOf isDone
+  no-length h =
+      let few : length (drop at b) < lengthWidth = rw left-is (omega arith) in
+      refuses CutShort refl (rw (lt-ltb (length (drop at b)) lengthWidth few))
+
+  module _ (said : ℕ) (told : said ≡ lengthAt (drop at b)) (there : at + lengthWidth ≤ length b) where
+    four : lengthWidth ≤ length (drop at b)
+    four = rw left-is (omega arith)
+
+    pub bad-length : within lengthLeast lengthMost said ≡ false → refusedHeard WrongLength ≡ heardAt b at
+    unfolding readChecks firstOf isDone
+    bad-length h =
+        refuses WrongLength refl
+        (rw (le-ltb (length (drop at b)) lengthWidth four, ← told, h))
+
+    pub cut-body : within lengthLeast lengthMost said ≡ true → length b < at + (lengthWidth + said)
+        → refusedHeard CutShort ≡ heardAt b at
+    unfolding readChecks firstOf isDone
+    cut-body w h =
+        let few : length (drop at b) < lengthWidth + said = rw left-is (omega arith) in
+        refuses CutShort refl
+        (rw (
+          le-ltb (length (drop at b)) lengthWidth four,
+          ← told,
+          w,
+          lt-ltb (length (drop at b)) (lengthWidth + said) few,
+        ))
+
+  -- ---- a message that stands whole
+
+  module _ (said kind : ℕ) (whole : Whole b at said) (is : kind ≡ spelled (take kindWidth (drop (at + lengthWidth) b)))
+    where
+      kind-is : kind ≡ kindAt (drop at b)
+      kind-is = rw (drop-drop lengthWidth at b) is
+
+      -- only the kind's own checks are left
+      past-head : firstOf (readChecks (drop at b))
+          ≡ pick (isKnown kind && not (eqb said (lengthOf kind))) WrongLength
+          (pick (isKnown kind && not (valid (messageAt (drop at b)))) FieldOutOfRange Done)
+      unfolding readChecks firstOf
+      past-head =
+          let n : ℕ = length (drop at b) in
+          let four : lengthWidth ≤ n = rw left-is (omega (arith, whole .follows)) in
+          let all : lengthWidth + said ≤ n = rw left-is (omega (arith, whole .follows)) in
+          rw (
+            le-ltb n lengthWidth four,
+            ← (whole .told),
+            le-leb lengthLeast said (whole .least),
+            le-leb said lengthMost (whole .most),
+            le-ltb n (lengthWidth + said) all,
+            ← kind-is,
+          )
+
+      pub skipped : isKnown kind ≡ false
+          → record {
+            verdict = Done;
+            known = false;
+            kind = kind;
+            length = said;
+            next = at + (lengthWidth + said);
+            message = noMessage;
+          }
+          ≡ heardAt b at
+      unfolding acceptedHeard
+      skipped k = sym (rw (← (whole .told), ← kind-is, k)) ∙ accepts (past-head ∙ rw k)
+
+      module _ (k : isKnown kind ≡ true) where
+        pub wrong-length : (said ≡ lengthOf kind → ⊥) → refusedHeard WrongLength ≡ heardAt b at
+        unfolding isDone
+        wrong-length n = refuses WrongLength refl (past-head ∙ rw (k, ne-eqb said (lengthOf kind) n))
+
+        module _ (right : said ≡ lengthOf kind) (values : List ℤ)
+            (read : values ≡ valuesAt (placesOf kind) (drop (at + (lengthWidth + kindWidth)) b)) where
+          message-is : messageAt (drop at b) ≡ record { kind = kind; fields = values }
+          unfolding messageAt
+          message-is = rw (← kind-is, drop-drop (lengthWidth + kindWidth) at b, ← read)
+
+          pub out-of-range : valid (record { kind = kind; fields = values }) ≡ false
+              → refusedHeard FieldOutOfRange ≡ heardAt b at
+          unfolding isDone
+          out-of-range v =
+              refuses FieldOutOfRange refl
+              (past-head ∙ rw (k, eq-eqb said (lengthOf kind) right, message-is, v))
+
+          pub heard : valid (record { kind = kind; fields = values }) ≡ true
+              → record {
+                verdict = Done;
+                known = true;
+                kind = kind;
+                length = said;
+                next = at + (lengthWidth + said);
+                message = record { kind = kind; fields = values };
+              }
+              ≡ heardAt b at
+          unfolding acceptedHeard
+          heard v =
+              sym (rw (← (whole .told), ← kind-is, k, message-is))
+              ∙ accepts (past-head ∙ rw (k, eq-eqb said (lengthOf kind) right, message-is, v))
+
+-- the fields of a whole message of the right length have their room
+pub room-for : (b : List ℕ) (at said kind : ℕ) → Whole b at said → said ≡ lengthOf kind
+    → Room (at + (lengthWidth + kindWidth)) (placesOf kind) b
+unfolding lengthOf
+room-for b at said kind whole right =
+    record { room = omega (arith, whole .follows); holds = kinds-hold kind }

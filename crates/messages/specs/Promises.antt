@@ -1,0 +1,20 @@
+-- What the writer promises, and what the reader of a whole message asks of the reader that calls it. Assumes nothing.
+use mathlib.Core.Path.{_≡_}
+use mathlib.Core.List.{List}
+use Prim.Native.Nat.{ℕ, _+_, _≤_}
+use lib.ListN.{length, drop}
+use Rattle.paper_messages.specs.declared.Message.{Message}
+use Rattle.paper_messages.specs.declared.Wrote.{Wrote}
+use Rattle.paper_messages.specs.Messages.{lengthWidth, lengthLeast, lengthMost, lengthAt, wroteOf, written}
+
+-- the writer: what it answers, and the whole buffer after it
+pub record Writes (buffer : List ℕ) (m : Message) (answer : Wrote) (after : List ℕ) : Type 0 where
+  pub answers : answer ≡ wroteOf buffer m
+  pub leaves : after ≡ written buffer m
+
+-- a message stands whole at a place: its length is said there, is from 2 to 4,096, and so many bytes follow it
+pub record Whole (buffer : List ℕ) (at said : ℕ) : Type 0 where
+  pub told : said ≡ lengthAt (drop at buffer)
+  pub least : lengthLeast ≤ said
+  pub most : said ≤ lengthMost
+  pub follows : at + (lengthWidth + said) ≤ length buffer

@@ -1,0 +1,151 @@
+-- The laws of the encoding, once over the list of fields: values in range read back from their bytes, whatever follows
+-- them; bytes are the only writing of the values that they say; and every kind's widths hold its ranges. Assumes
+-- nothing.
+use mathlib.Core.Path.{_≡_, refl, sym, ap}
+use mathlib.Core.Bool.{Bool, true, false, _&&_}
+use mathlib.Core.List.{List, [], _∷_, _++_, append-assoc}
+use Prim.Native.Nat.{ℕ, suc, _+_, _<_, _≤_}
+use native.Mathlib.Omega.{arith}
+use lib.Dec.{eqb, leb}
+use lib.IntN.{ℤ}
+use lib.ListN.{length, take, drop, length-append, length-drop}
+use lib.Seq.{take-at, drop-at, take-add, length-take-le}
+use borrow.Author.Tests.{leb-true}
+use Rattle.paper.specs.Lists.{pick, every}
+use Rattle.paper.specs.Ranges.{within, withinZ}
+use Rattle.paper.proofs.Logic.{not-true-and-false, and-left, and-right}
+use Rattle.paper_messages.specs.declared.Field.{Field}
+use Rattle.paper_messages.specs.Bytes.{inWidth, widthMost, fitsWidth, bytesOf, spelled, complement}
+use Rattle.paper_messages.specs.Fields.{staticsFields, ratesFields, bandsFields, moveFields, fieldsOf, places, filled, noField, placesOf, staticsKind, ratesKind, bandsKind, moveKind}
+use Rattle.paper_messages.specs.Messages.{kindWidth, lengthLeast, lengthMost, bodyOf, total, lengthOf, inRanges, holdsRange, valuesAt}
+use Rattle.paper_messages.proofs.ByteLaws.{Bytes, take-bytes, drop-bytes, bytes-length, bytes-back, bytes-only, spelled-lt, complement-lt, complement-back, complement-only, fits-between}
+
+-- ---- one field
+
+-- a width is at most eight bytes, and has every value of the field's range
+pub holds-width : (f : Field) → holdsRange f ≡ true → f .width ≤ widthMost
+unfolding holdsRange
+holds-width f h =
+    leb-true (f .width) widthMost
+    (and-left (leb (f .width) widthMost) _ (and-left _ (fitsWidth (f .width) (f .high)) h))
+
+pub holds-value : (f : Field) (z : ℤ) → holdsRange f ≡ true → withinZ (f .low) (f .high) z ≡ true
+    → fitsWidth (f .width) z ≡ true
+unfolding holdsRange
+holds-value f z h w =
+    let both = and-left (leb (f .width) widthMost && fitsWidth (f .width) (f .low)) _ h in
+    fits-between (f .width) (f .low) (f .high) z (and-right (leb (f .width) widthMost) _ both)
+    (and-right (leb (f .width) widthMost && fitsWidth (f .width) (f .low)) _ h) w
+
+-- ---- a list of fields
+
+pub body-length : (fields : List Field) (values : List ℤ) → length fields ≤ length values
+    → length (bodyOf fields values) ≡ total fields
+unfolding bodyOf total
+body-length [] values h = refl
+body-length (f ∷ fields) [] h = let z : ⊥ = omega arith in absurd z
+body-length (f ∷ fields) (z ∷ values) h =
+    rw (
+      length-append (bytesOf (f .width) (complement (f .width) z)) (bodyOf fields values),
+      bytes-length (f .width) (complement (f .width) z),
+      body-length fields values (omega arith),
+    )
+
+-- values in range are at least as many as the fields
+pub ranges-length : (fields : List Field) (values : List ℤ) → inRanges fields values ≡ true
+    → length fields ≤ length values
+unfolding inRanges
+ranges-length [] values r = omega arith
+ranges-length (f ∷ fields) [] r = absurd (not-true-and-false false r refl)
+ranges-length (f ∷ fields) (z ∷ values) r =
+    let more = ranges-length fields values (and-right (withinZ (f .low) (f .high) z) _ r) in omega arith
+
+-- values in range read back, whatever stands behind them
+pub body-back : (fields : List Field) (values : List ℤ) → length fields ≡ length values
+    → every holdsRange fields ≡ true
+    → inRanges fields values ≡ true
+    → (rest : List ℕ)
+    → valuesAt fields (bodyOf fields values ++ rest) ≡ values
+unfolding bodyOf valuesAt every inRanges
+body-back [] [] n h r rest = refl
+body-back [] (z ∷ values) n h r rest = let x : ⊥ = omega arith in absurd x
+body-back (f ∷ fields) [] n h r rest = let x : ⊥ = omega arith in absurd x
+body-back (f ∷ fields) (z ∷ values) n h r rest =
+    let w : ℕ = f .width in
+    let own : List ℕ = bytesOf w (complement w z) in
+    let more : List ℕ = bodyOf fields values ++ rest in
+    let fits : fitsWidth w z ≡ true =
+    holds-value f z (and-left (holdsRange f) _ h) (and-left (withinZ (f .low) (f .high) z) _ r) in
+    let long : length own ≡ w = bytes-length w (complement w z) in
+    rw (
+      append-assoc own (bodyOf fields values) rest,
+      take-at own more w long,
+      drop-at own more w long,
+      bytes-back w (complement w z) (complement-lt w z fits),
+      complement-back w z fits,
+      body-back fields values (omega arith) (and-right (holdsRange f) _ h)
+          (and-right (withinZ (f .low) (f .high) z) _ r) rest,
+    )
+
+-- bytes are the only writing of the values that they say
+pub body-only : (fields : List Field) (bytes : List ℕ) → Bytes bytes → total fields ≤ length bytes
+    → bodyOf fields (valuesAt fields bytes) ≡ take (total fields) bytes
+unfolding bodyOf valuesAt total
+body-only [] bytes b h = refl
+body-only (f ∷ fields) bytes b h =
+    let w : ℕ = f .width in
+    let own : List ℕ = take w bytes in
+    let long : length own ≡ w = length-take-le w bytes (omega arith) in
+    let small : spelled own < inWidth w = rw long at (spelled-lt own (take-bytes w bytes b)) in
+    let here : bytesOf w (spelled own) ≡ own = rw long at (bytes-only own (take-bytes w bytes b)) in
+    let left : total fields ≤ length (drop w bytes) = rw (length-drop w bytes) (omega arith) in
+    rw (
+      complement-only w (spelled own) small,
+      here,
+      body-only fields (drop w bytes) (drop-bytes w bytes b) left,
+    ) (sym (take-add w (total fields) bytes))
+
+-- the values that are read are as many as the fields, and look no further than the fields reach
+pub values-length : (fields : List Field) (bytes : List ℕ) → length (valuesAt fields bytes) ≡ length fields
+unfolding valuesAt
+values-length [] bytes = refl
+values-length (f ∷ fields) bytes = ap suc (values-length fields (drop (f .width) bytes))
+
+-- ---- the kinds
+
+-- what holds of each kind's places, and of those of no kind, holds of every kind's
+of-every-kind : (P : List Field → Type 0) → P (filled noField staticsFields) → P (filled noField ratesFields)
+    → P (filled noField bandsFields)
+    → P (filled noField moveFields)
+    → P (filled noField [])
+    → (kind : ℕ)
+    → P (placesOf kind)
+unfolding placesOf fieldsOf
+of-every-kind P statics rates bands move none kind =
+    go (eqb kind staticsKind) (eqb kind ratesKind) (eqb kind bandsKind) (eqb kind moveKind)
+  where
+    go : (a b c d : Bool)
+        → P (filled noField
+        (pick a staticsFields (pick b ratesFields (pick c bandsFields (pick d moveFields [])))))
+    go true b c d = statics
+    go false true c d = rates
+    go false false true d = bands
+    go false false false true = move
+    go false false false false = none
+
+-- every kind's widths hold its ranges
+pub kinds-hold : (kind : ℕ) → every holdsRange (placesOf kind) ≡ true
+unfolding every holdsRange fitsWidth filled staticsFields ratesFields bandsFields moveFields
+kinds-hold kind = of-every-kind (λ fields. every holdsRange fields ≡ true) refl refl refl refl refl kind
+
+-- every kind has 27 places
+pub kinds-places : (kind : ℕ) → length (placesOf kind) ≡ places
+unfolding filled staticsFields ratesFields bandsFields moveFields
+kinds-places kind = of-every-kind (λ fields. length fields ≡ places) refl refl refl refl refl kind
+
+-- every kind's length is one that a message may have
+pub kinds-length : (kind : ℕ) → within lengthLeast lengthMost (lengthOf kind) ≡ true
+unfolding lengthOf total filled staticsFields ratesFields bandsFields moveFields
+kinds-length kind =
+    of-every-kind (λ fields. within lengthLeast lengthMost (kindWidth + total fields) ≡ true) refl refl refl refl refl
+    kind

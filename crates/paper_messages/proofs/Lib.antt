@@ -1,0 +1,5 @@
+pub mod ByteLaws
+pub mod FieldLaws
+pub mod MessageLaws
+pub mod Refusals
+pub mod OwnBytes

@@ -1,0 +1,167 @@
+-- W-212: the fields of each kind of message, in the order, at the widths and with the ranges that docs/BROADCAST.md
+-- lists; "prices, limits and volatility eight bytes, ids, rates and other numbers four, yes/no one (0 or 1)".
+-- Assumes nothing.
+use mathlib.Core.List.{List, [], _∷_, _++_}
+use Prim.Native.Nat.{ℕ, _+_, _-_}
+use lib.Dec.{eqb}
+use lib.IntN.{ℤ, pos}
+use lib.ListN.{length, replicate}
+use Rattle.paper.specs.Lists.{pick}
+use Rattle.paper.specs.Numbers.{priceLeast, priceMost, rateMost, volatilityMost, tentativeMost, lotMost, stepMost, multiplierLeast, multiplierMost, weightMost, waitMost, firstDaysMost, daysMost, liquidityMost, divisorLeast, divisorMost, shiftMost, nearnessMost, secondsMost, eveningMovesMost, idMost, dayMost, ageMost, limitMost, movesMost, termDaysMost, repoLeast, repoMost}
+use Rattle.paper_messages.specs.declared.Field.{Field}
+
+-- "Kinds: 1 statics, 2 rates and ranges, 3 bands, 4 move."
+abbrev pub staticsKind : ℕ
+staticsKind = 1
+
+abbrev pub ratesKind : ℕ
+ratesKind = 2
+
+abbrev pub bandsKind : ℕ
+bandsKind = 3
+
+abbrev pub moveKind : ℕ
+moveKind = 4
+
+-- ---- widths
+
+-- "prices, limits and volatility eight bytes"
+abbrev pub eightBytes : (low high : ℤ) → Field
+eightBytes low high = record { width = 8; low = low; high = high }
+
+-- "ids, rates and other numbers four"
+abbrev pub fourBytes : (low high : ℤ) → Field
+fourBytes low high = record { width = 4; low = low; high = high }
+
+-- "yes/no one (0 or 1)"
+abbrev pub yesNo : Field
+yesNo = record { width = 1; low = pos 0; high = pos 1 }
+
+-- ---- fields that more than one kind has
+
+abbrev pub idField : Field
+idField = fourBytes (pos 1) (pos idMost)
+
+abbrev pub dayField : Field
+dayField = fourBytes (pos 0) (pos dayMost)
+
+abbrev pub rateField : Field
+rateField = fourBytes (pos 0) (pos rateMost)
+
+abbrev pub limitField : Field
+limitField = eightBytes (pos 0) (pos limitMost)
+
+abbrev pub daysField : Field
+daysField = fourBytes (pos 1) (pos daysMost)
+
+abbrev pub secondsField : Field
+secondsField = fourBytes (pos 1) (pos secondsMost)
+
+-- the tentative rate: 0 to the least multiple of the greatest step, 1,000, at or above 100,000, less one
+abbrev pub tentativeLast : ℕ
+tentativeLast = tentativeMost + stepMost - 1
+
+-- ---- the kinds
+
+unfoldable pub staticsFields : List Field
+staticsFields =
+    idField  -- ID
+    ∷ fourBytes (pos 1) (pos lotMost)  -- LOT
+    ∷ fourBytes (pos 1) (pos stepMost)  -- H
+    ∷ fourBytes (pos multiplierLeast) (pos multiplierMost)  -- Q
+    ∷ fourBytes (pos 0) (pos weightMost)  -- A_UP
+    ∷ fourBytes (pos 0) (pos weightMost)  -- A_DOWN
+    ∷ fourBytes (pos 1) (pos waitMost)  -- WAIT
+    ∷ fourBytes (pos 1) (pos firstDaysMost)  -- RH1
+    ∷ daysField  -- RH2
+    ∷ daysField  -- RH3
+    ∷ fourBytes (pos 0) (pos liquidityMost)  -- LIQ
+    ∷ rateField  -- MIN1
+    ∷ rateField  -- MIN2
+    ∷ rateField  -- MIN3
+    ∷ rateField  -- SMAX
+    ∷ fourBytes (pos divisorLeast) (pos divisorMost)  -- XPR
+    ∷ fourBytes (pos 1) (pos shiftMost)  -- SHIFT
+    ∷ rateField  -- PCHMAX
+    ∷ rateField  -- PCLMAX
+    ∷ fourBytes (pos 0) (pos nearnessMost)  -- W
+    ∷ secondsField  -- U
+    ∷ yesNo  -- MONITORING
+    ∷ yesNo  -- ISEWMA
+    ∷ secondsField  -- UEVENING
+    ∷ yesNo  -- AUTOCHANGE
+    ∷ fourBytes (pos 0) (pos eveningMovesMost)  -- EVENINGMAX
+    ∷ yesNo  -- USEEXTERNAL
+    ∷ []
+
+unfoldable pub ratesFields : List Field
+ratesFields =
+    idField  -- ID
+    ∷ dayField  -- DAY
+    ∷ eightBytes (pos priceLeast) (pos priceMost)  -- P
+    ∷ eightBytes (pos 0) (pos volatilityMost)  -- S
+    ∷ fourBytes (pos 0) (pos tentativeLast)  -- TENTATIVE
+    ∷ fourBytes (pos 0) (pos ageMost)  -- AGE
+    ∷ rateField  -- S1
+    ∷ rateField  -- S2
+    ∷ rateField  -- S3
+    ∷ limitField  -- UPPER1
+    ∷ limitField  -- UPPER2
+    ∷ limitField  -- UPPER3
+    ∷ limitField  -- LOWER1
+    ∷ limitField  -- LOWER2
+    ∷ limitField  -- LOWER3
+    ∷ []
+
+-- of one term
+abbrev pub termFields : List Field
+termFields =
+    fourBytes (pos 0) (pos termDaysMost)  -- K
+    ∷ fourBytes repoLeast repoMost  -- RRCL
+    ∷ fourBytes repoLeast repoMost  -- RRCH
+    ∷ limitField  -- LOWER
+    ∷ limitField  -- UPPER
+    ∷ []
+
+unfoldable pub bandsFields : List Field
+bandsFields =
+    idField  -- ID
+    ∷ dayField  -- DAY
+    ∷ (termFields ++ termFields ++ termFields)
+
+unfoldable pub moveFields : List Field
+moveFields =
+    idField  -- ID
+    ∷ fourBytes (pos 0) (pos 1)  -- SIDE
+    ∷ fourBytes (pos 0) (pos movesMost)  -- COUNT
+    ∷ limitField  -- the side's range limits, 1 to 3
+    ∷ limitField
+    ∷ limitField
+    ∷ limitField  -- the side's band limits, of the three terms
+    ∷ limitField
+    ∷ limitField
+    ∷ []
+
+-- the fields of a kind; an unknown kind has none that we know
+unfoldable pub fieldsOf : (kind : ℕ) → List Field
+fieldsOf kind =
+    pick (eqb kind staticsKind) staticsFields
+    (pick (eqb kind ratesKind) ratesFields
+    (pick (eqb kind bandsKind) bandsFields (pick (eqb kind moveKind) moveFields [])))
+
+-- ---- the places of a message
+
+-- a message has as many places as the kind with most fields
+abbrev pub places : ℕ
+places = 27
+
+-- a list, filled up to that many
+unfoldable pub filled : {A : Type 0} → A → List A → List A
+filled x xs = xs ++ replicate (places - length xs) x
+
+-- past the last field a place has no bytes, and holds 0
+abbrev pub noField : Field
+noField = record { width = 0; low = pos 0; high = pos 0 }
+
+unfoldable pub placesOf : (kind : ℕ) → List Field
+placesOf kind = filled noField (fieldsOf kind)

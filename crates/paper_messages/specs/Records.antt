@@ -1,0 +1,136 @@
+-- W-212: the message of each record. Kind 1 is of an admission's id and statics, 2 and 3 of a record after an
+-- evaluation, 4 of a record after a move of a side. Assumes nothing.
+use mathlib.Core.Bool.{Bool, true, false}
+use mathlib.Core.List.{List, [], _∷_, _++_, map}
+use Prim.Native.Nat.{ℕ}
+use lib.Dec.{ltb}
+use lib.IntN.{ℤ, pos, negsuc}
+use lib.ListN.{getD}
+use Rattle.paper.specs.declared.Statics.{Statics}
+use Rattle.paper.specs.declared.Record.{Record}
+use Rattle.paper.specs.declared.Side.{Side}
+use Rattle.paper.specs.declared.Side.the-variants.{Upper, Lower}
+use Rattle.paper.specs.Lists.{pick}
+use Rattle.paper.specs.Ranges.{lastDay, rateAt, noLimits, termAt}
+use Rattle.paper_desk.specs.Limits.{countOf}
+use Rattle.paper_desk.specs.Sides.{limitOn}
+use Rattle.paper_messages.specs.declared.Message.{Message}
+use Rattle.paper_messages.specs.Fields.{staticsKind, ratesKind, bandsKind, moveKind, filled}
+
+-- the first number past the signed 64-bit ones
+abbrev pub pastSigned : ℕ
+pastSigned = 9223372036854775808
+
+-- a number as a field's value. One past the signed numbers is out of every range, and stands as -1, which is out of
+-- every range that begins at 0 or above
+unfoldable pub valueOf : ℕ → ℤ
+valueOf n = pick (ltb n pastSigned) (pos n) (negsuc 0)
+
+-- "yes/no one (0 or 1)"
+abbrev pub flagOf : Bool → ℕ
+flagOf true = 1
+flagOf false = 0
+
+-- "0 upper or 1 lower"
+abbrev pub sideNumber : Side → ℕ
+sideNumber Upper = 0
+sideNumber Lower = 1
+
+unfoldable pub message : (kind : ℕ) → (values : List ℤ) → Message
+message kind values = record { kind = kind; fields = filled (pos 0) values }
+
+abbrev pub staticsNumbers : (id : ℕ) → Statics → List ℕ
+staticsNumbers id st =
+    id
+    ∷ st .lot
+    ∷ st .h
+    ∷ st .q
+    ∷ st .aup
+    ∷ st .adown
+    ∷ st .wait
+    ∷ st .rh1
+    ∷ st .rh2
+    ∷ st .rh3
+    ∷ st .liq
+    ∷ st .min1
+    ∷ st .min2
+    ∷ st .min3
+    ∷ st .smax
+    ∷ st .xpr
+    ∷ st .shift
+    ∷ st .pchmax
+    ∷ st .pclmax
+    ∷ st .w
+    ∷ st .u
+    ∷ flagOf (st .monitoring)
+    ∷ flagOf (st .ewma)
+    ∷ st .uevening
+    ∷ flagOf (st .autochange)
+    ∷ st .eveningmax
+    ∷ flagOf (st .useexternal)
+    ∷ []
+
+unfoldable pub staticsMessage : (id : ℕ) → Statics → Message
+staticsMessage id st = message staticsKind (map valueOf (staticsNumbers id st))
+
+-- the limits of a record on a side
+abbrev pub rangeLimit : Record → Side → (level : ℕ) → ℕ
+rangeLimit r side level = limitOn side (getD (r .ranges) level noLimits)
+
+abbrev pub bandLimit : Record → Side → (term : ℕ) → ℕ
+bandLimit r side term = limitOn side (getD (r .bands) term noLimits)
+
+abbrev pub ratesNumbers : Record → List ℕ
+ratesNumbers r =
+    r .id
+    ∷ lastDay (r .standing)
+    ∷ r .p1 .units
+    ∷ r .s
+    ∷ r .tentative .bp
+    ∷ r .tentative .age
+    ∷ rateAt (r .rates) 0
+    ∷ rateAt (r .rates) 1
+    ∷ rateAt (r .rates) 2
+    ∷ rangeLimit r Upper 0
+    ∷ rangeLimit r Upper 1
+    ∷ rangeLimit r Upper 2
+    ∷ rangeLimit r Lower 0
+    ∷ rangeLimit r Lower 1
+    ∷ rangeLimit r Lower 2
+    ∷ []
+
+unfoldable pub ratesMessage : Record → Message
+ratesMessage r = message ratesKind (map valueOf (ratesNumbers r))
+
+abbrev pub termValues : Record → (term : ℕ) → List ℤ
+termValues r term =
+    valueOf (termAt (r .terms) term .k)
+    ∷ termAt (r .terms) term .low
+    ∷ termAt (r .terms) term .high
+    ∷ valueOf (bandLimit r Lower term)
+    ∷ valueOf (bandLimit r Upper term)
+    ∷ []
+
+unfoldable pub bandsMessage : Record → Message
+bandsMessage r =
+    message bandsKind
+    (valueOf (r .id)
+    ∷ valueOf (lastDay (r .standing))
+    ∷ (termValues r 0 ++ termValues r 1 ++ termValues r 2))
+
+-- after a move of a side: "that side's three range limits and that side's three band limits"
+abbrev pub moveNumbers : Record → Side → List ℕ
+moveNumbers r side =
+    r .id
+    ∷ sideNumber side
+    ∷ countOf side (r .moves)
+    ∷ rangeLimit r side 0
+    ∷ rangeLimit r side 1
+    ∷ rangeLimit r side 2
+    ∷ bandLimit r side 0
+    ∷ bandLimit r side 1
+    ∷ bandLimit r side 2
+    ∷ []
+
+unfoldable pub moveMessage : Record → Side → Message
+moveMessage r side = message moveKind (map valueOf (moveNumbers r side))

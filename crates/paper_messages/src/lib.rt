@@ -1,0 +1,73 @@
+// What W-212 speaks of: a field, a message, what the writer answers and what the reader hears. What is right is said
+// over them in specs/, and what is proved of that stands in proofs/.
+use paper::Verdict;
+
+// A field of a message: how many bytes it has, and its range.
+pub struct Field {
+    pub width: usize,
+    pub low: i64,
+    pub high: i64,
+}
+
+// A message: its kind, 1 to 4, and its fields in the order of docs/BROADCAST.md. Past the kind's last field stand
+// zeros.
+pub struct Message {
+    pub kind: u64,
+    pub fields: [i64; Message::PLACES],
+}
+
+impl Message {
+    // "Kinds: 1 statics, 2 rates and ranges, 3 bands, 4 move."
+    pub const STATICS: u64 = 1;
+
+    pub const RATES: u64 = 2;
+
+    pub const BANDS: u64 = 3;
+
+    pub const MOVE: u64 = 4;
+
+    // The most fields that a kind has.
+    pub const PLACES: usize = 27;
+
+    // "a four-byte length of what follows", "a two-byte kind"
+    pub const LENGTH_WIDTH: usize = 4;
+
+    pub const KIND_WIDTH: usize = 2;
+
+    // The bytes before the first field.
+    pub const HEAD: usize = Message::LENGTH_WIDTH + Message::KIND_WIDTH;
+
+    // "its length, 2 to 4,096"
+    pub const LENGTH_LEAST: u64 = 2;
+
+    pub const LENGTH_MOST: u64 = 4_096;
+
+    // The length of each kind's messages: of the kind and the fields.
+    pub const STATICS_LENGTH: u64 = 98;
+
+    pub const RATES_LENGTH: u64 = 94;
+
+    pub const BANDS_LENGTH: u64 = 94;
+
+    pub const MOVE_LENGTH: u64 = 62;
+
+    // The longest message of a known kind, whole: a buffer of so many bytes takes every message.
+    pub const BYTES_MOST: usize = 102;
+}
+
+// What the writer answers: the number, and how many bytes it wrote, 0 where it refused.
+pub struct Wrote {
+    pub verdict: Verdict,
+    pub length: usize,
+}
+
+// What the reader hears at a place: a message of a known kind, or one of an unknown kind, which it skips; either with
+// the kind, the length that the message gives, and the place behind it. A refusal has its verdict and zeros.
+pub struct Heard {
+    pub verdict: Verdict,
+    pub known: bool,
+    pub kind: u64,
+    pub length: u64,
+    pub next: usize,
+    pub message: Message,
+}

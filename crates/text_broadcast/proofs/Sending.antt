@@ -1,0 +1,116 @@
+-- What the writer left in a part of the buffer is the message, appended; and what is sent of a call, by its kind. Assumes
+-- nothing.
+use mathlib.Core.Path.{_≡_, refl, sym, ap, _∙_}
+use mathlib.Core.Bool.{Bool, true, false, not}
+use mathlib.Core.List.{List, [], _∷_, _++_, append-nil, append-assoc}
+use Prim.Native.Nat.{ℕ, _+_, _-_, _≤_, _<_}
+use native.Mathlib.Omega.{arith}
+use lib.Dec.{ltb, eqb}
+use lib.ListN.{length, take, drop, length-drop, take-append-drop, drop-of-length-le}
+use lib.Seq.{sets, sets-eq, drop-drop, take-all}
+use borrow.Author.Tests.{le-ltb, eq-eqb, ne-eqb}
+use Rattle.paper.specs.declared.Verdict.the-variants.{Done, FieldOutOfRange, NoRoom}
+use Rattle.paper.specs.declared.Admission.{Admission}
+use Rattle.paper.specs.declared.Answer.{Answer}
+use Rattle.paper.specs.Lists.{pick}
+use Rattle.paper.specs.Verdicts.{numberOf, isDone, firstOf}
+use Rattle.paper_messages.specs.declared.Message.{Message}
+use Rattle.paper_messages.specs.declared.Wrote.{Wrote as Answered}
+use Rattle.paper_messages.specs.Fields.{staticsKind, ratesKind, bandsKind, moveKind, staticsFields, ratesFields, bandsFields, moveFields, noField, fieldsOf, filled, placesOf}
+use Rattle.paper_messages.specs.Messages.{lengthWidth, kindWidth, total, lengthOf, encode, valid, writeChecks, wroteOf, written}
+use Rattle.paper_messages.proofs.MessageLaws.{encode-length}
+use Rattle.messages.specs.Promises.{Writes}
+use Rattle.text_protocol.specs.Bytes.{room}
+use Rattle.text_protocol.specs.Answers.{answerMost}
+use Rattle.text_evening.specs.Broadcast.{messageMost, sent, allSent}
+use Rattle.text_out.specs.Wrote.{Wrote, then, wider, nothing}
+use Rattle.text_broadcast.specs.Kinds.{messagesOfKind, broadcastOfKind}
+
+-- no kind's message is longer
+kind-short : (kind : ℕ) → lengthWidth + lengthOf kind ≤ messageMost
+unfolding lengthOf total placesOf filled fieldsOf staticsFields ratesFields bandsFields moveFields
+kind-short kind = go (eqb kind staticsKind) (eqb kind ratesKind) (eqb kind bandsKind) (eqb kind moveKind)
+  where
+    go : (a b c d : Bool)
+        → lengthWidth + (kindWidth + total (filled noField (pick a staticsFields (pick b ratesFields (pick c bandsFields
+        (pick d moveFields [])))))) ≤ messageMost
+    go true b c d = omega arith
+    go false true c d = omega arith
+    go false false true d = omega arith
+    go false false false true = omega arith
+    go false false false false = omega arith
+
+module _ (b : List ℕ) (len : ℕ) (m : Message) (w : Answered) (after : List ℕ) (fits : len + messageMost ≤ room)
+    (long : length b ≡ room) (writes : Writes (drop len b) m w after) where
+  -- a message with a field out of its range is not written
+  not-sent : valid m ≡ false → Wrote b len (take len b ++ after) (len + w .length) (sent m) messageMost
+  unfolding sent wroteOf written writeChecks firstOf isDone
+  not-sent e =
+      let none : w .length ≡ 0 = ap (λ (x : Answered). x .length) (writes .answers) ∙ rw e in
+      let left : after ≡ drop len b = writes .leaves ∙ rw e in
+      record {
+        bytes = rw (e, left) (take-append-drop len b);
+        long = rw (e, none);
+        most = rw none (omega arith);
+      }
+
+  -- every other message is, since there is room for it
+  is-sent : valid m ≡ true → Wrote b len (take len b ++ after) (len + w .length) (sent m) messageMost
+  unfolding sent wroteOf written writeChecks firstOf isDone
+  is-sent e =
+      let short : length (encode m) ≤ messageMost = rw (encode-length m e) (kind-short (m .kind)) in
+      let room-left : ltb (length (drop len b)) (length (encode m)) ≡ false =
+      le-ltb (length (drop len b)) (length (encode m)) (omega (arith, length-drop len b, long, fits, short)) in
+      let size : w .length ≡ length (encode m) =
+      ap (λ (x : Answered). x .length) (writes .answers) ∙ rw (e, room-left) in
+      let left : after ≡ encode m ++ drop (length (encode m)) (drop len b) = writes .leaves ∙ rw (e, room-left) in
+      record {
+        bytes =
+            rw (e, left, sets-eq (encode m) b len (omega (arith, long, fits, short)), drop-drop)
+            (sym (append-assoc (take len b) (encode m) (drop (len + length (encode m)) b)));
+        long = rw (e, size);
+        most = rw size (omega (arith, short));
+      }
+
+  -- WHAT IS APPENDED is what is sent of the message
+  pub appended : Wrote b len (take len b ++ after) (len + w .length) (sent m) messageMost
+  appended = go (valid m) refl
+    where
+      go : (x : Bool) → valid m ≡ x → Wrote b len (take len b ++ after) (len + w .length) (sent m) messageMost
+      go true e = is-sent e
+      go false e = not-sent e
+
+-- the part of the buffer from `len` on is all that stands there, and nothing stands behind it
+pub appended-to-part : (b : List ℕ) (len : ℕ) (m : Message) (w : Answered) (after : List ℕ)
+    → len + messageMost ≤ room → length b ≡ room
+    → Writes (take (length b - len) (drop len b)) m w after
+    → Wrote b len (take len b ++ (after ++ drop (length b - len) (drop len b))) (len + w .length) (sent m) messageMost
+appended-to-part b len m w after fits long writes =
+    let size : length (drop len b) ≤ length b - len = omega (arith, length-drop len b) in
+    rw (drop-of-length-le (drop len b) size, append-nil after)
+    (appended b len m w after fits long (rw (take-all (length b - len) (drop len b) size) at writes))
+
+-- ---- the messages of a call, by its kind
+
+module _ (kind : ℕ) (g : Admission) (side : ℕ) (a : Answer) (no : ℕ) (is : no ≡ numberOf (a .verdict)) where
+  -- a refused call sends nothing
+  pub refused-sends : (b : List ℕ) (n : ℕ) → (no ≡ 0 → ⊥) → Wrote b n b n (broadcastOfKind kind g side a) answerMost
+  unfolding broadcastOfKind isDone
+  refused-sends b n z = rw (← is, ne-eqb no 0 z) (nothing b n answerMost)
+
+  module _ (z : no ≡ 0) where
+    pub one-sent : {b c : List ℕ} {n e : ℕ} (m : Message) → messagesOfKind kind g side a ≡ m ∷ [] → Wrote b n c e (sent m) messageMost
+        → Wrote b n c e (broadcastOfKind kind g side a) answerMost
+    unfolding broadcastOfKind allSent isDone
+    one-sent m are p = rw (← is, eq-eqb no 0 z, are, append-nil (sent m)) (wider p (omega arith))
+
+    pub two-sent : {b b' c : List ℕ} {n n' e : ℕ} (m m' : Message) → messagesOfKind kind g side a ≡ m ∷ m' ∷ []
+        → Wrote b n b' n' (sent m) messageMost → Wrote b' n' c e (sent m') messageMost
+        → Wrote b n c e (broadcastOfKind kind g side a) answerMost
+    unfolding broadcastOfKind allSent isDone
+    two-sent m m' are p q =
+        rw (← is, eq-eqb no 0 z, are, append-nil (sent m')) (wider (then p q) (omega arith))
+
+    pub none-sent : (b : List ℕ) (n : ℕ) → messagesOfKind kind g side a ≡ [] → Wrote b n b n (broadcastOfKind kind g side a) answerMost
+    unfolding broadcastOfKind allSent isDone
+    none-sent b n are = rw (← is, eq-eqb no 0 z, are) (nothing b n answerMost)

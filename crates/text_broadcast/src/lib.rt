@@ -1,0 +1,64 @@
+// What a line is broadcast as (document 02, W-212): the messages of its call, appended to a lent buffer by the writer of
+// the library. Nothing here depends on how a message is encoded.
+ghost use mathlib.Core.Path.{_≡_};
+ghost use Prim.Native.Nat.{_+_, _≤_};
+ghost use lib.ListN.{length};
+ghost use Rattle.text_protocol.specs.Bytes.{room};
+ghost use Rattle.text_protocol.specs.Answers.{answerMost};
+ghost use Rattle.text_evening.specs.Broadcast.{messageMost, sent};
+ghost use Rattle.text_out.specs.Wrote.{Wrote};
+ghost use Rattle.text_broadcast.specs.Kinds.{broadcastOfKind};
+use inputs::side_of;
+use inputs::statics_of;
+use message_records::bands_message;
+use message_records::move_message;
+use message_records::rates_message;
+use message_records::statics_message;
+use messages::write;
+use paper::Admission;
+use paper::Answer;
+use paper_messages::Message;
+use text_protocol::Kind;
+use text_protocol::ROOM;
+
+// One message: nothing, where the writer refuses it for a field out of its range.
+fn send(out: &mut [u8], len: usize, m: Message) -> usize
+    requires { ⌜ (len + messageMost ≤ room) × (length (now out) ≡ room) ⌝ }
+    ensures { λ r. ⌜ Wrote (now (out .entry)) len (now (out .exit)) r (sent m) messageMost ⌝ }
+{
+    let w = write(&mut out[len..], m);
+    len + w.length
+}
+
+// What an accepted call of a kind sends: kind 1 of an admission, 2 and 3 of an evaluation, 4 of a move. A refused call
+// sends nothing.
+pub fn say_messages(
+    out: &mut [u8; ROOM],
+    len: usize,
+    kind: u64,
+    admission: Admission,
+    side: u64,
+    answer: Answer,
+) -> usize
+    requires { ⌜ len + answerMost ≤ room ⌝ }
+    ensures { λ r. ⌜ Wrote (now (out .entry)) len (now (out .exit)) r (broadcastOfKind kind admission side answer)
+        answerMost ⌝ }
+{
+    let verdict = answer.verdict;
+    let rec = answer.rec;
+    if verdict.number() != 0 {
+        return len;
+    }
+    if kind == Kind::ADMIT {
+        let given = admission.given;
+        return send(out, len, statics_message(admission.id, statics_of(given)));
+    }
+    if kind == Kind::EVALUATE {
+        let n = send(out, len, rates_message(rec));
+        return send(out, n, bands_message(rec));
+    }
+    if kind == Kind::MOVE {
+        return send(out, len, move_message(rec, side_of(side)));
+    }
+    len
+}

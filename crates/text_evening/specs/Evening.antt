@@ -1,0 +1,119 @@
+-- docs/EVENING.md, "An evening": what lines do, one after the other, to the table and to what is kept, and what
+-- is answered to them. Assumes nothing.
+use mathlib.Core.List.{List, [], _∷_, _++_}
+use Prim.Native.Nat.{ℕ, _+_}
+use lib.Dec.{ltb}
+use Rattle.paper.specs.declared.Record.{Record}
+use Rattle.paper.specs.Lists.{pick}
+use Rattle.paper_interest.specs.Interest.{interestAnswer}
+use Rattle.paper_desk.specs.Desk.{Call, admit, evaluate, quote, move, read, openEvening, receive, step}
+use Rattle.paper_bonds.specs.Bonds.{bondAnswer}
+use Rattle.paper_reasons.specs.Why.{whyOn}
+use Rattle.text_protocol.specs.declared.Kept.{Kept}
+use Rattle.text_evening.specs.declared.Telling.{Telling}
+use Rattle.text_evening.specs.declared.Telling.the-variants.{Answers, Reasons, Messages}
+use Rattle.text_protocol.specs.Kept.{keptAfter}
+use Rattle.text_protocol.specs.Line.{meaning}
+use Rattle.text_protocol.specs.Calls.{Deed, nothing, noCall, call, interest, bond, deedOf}
+use Rattle.text_protocol.specs.Answers.{badText, callText, interestText, bondText}
+use Rattle.text_protocol.specs.Reasons.{whyText}
+use Rattle.text_evening.specs.Broadcast.{broadcastOf}
+
+-- the number of the line that comes next, what is kept of the interest lines, and the table
+pub record Evening : Type 0 where
+  pub number : ℕ
+  pub kept : Kept
+  pub table : List Record
+
+-- ---- one line
+
+-- only a call of document 01 changes the table
+unfoldable pub tableAfter : Deed → List Record → List Record
+tableAfter nothing t = t
+tableAfter noCall t = t
+tableAfter (call c) t = step c t .table
+tableAfter (interest i keys) t = t
+tableAfter (bond b flows) t = t
+
+-- only an interest line changes what is kept
+unfoldable pub keptBy : Deed → Kept → Kept
+keptBy nothing k = k
+keptBy noCall k = k
+keptBy (call c) k = k
+keptBy (interest i keys) k = keptAfter k i (interestAnswer i keys)
+keptBy (bond b flows) k = k
+
+-- what a call of document 01 answers
+abbrev pub answerTo : Call → List Record → List ℕ
+answerTo c t = callText c (step c t .answer)
+
+-- the same, but an evaluation is answered with why it is what it is
+unfoldable pub reasonTo : Call → List Record → List ℕ
+reasonTo (admit g) t = answerTo (admit g) t
+reasonTo (evaluate id d rows) t = whyText (whyOn t id d rows)
+reasonTo (quote id q) t = answerTo (quote id q) t
+reasonTo (move id side) t = answerTo (move id side) t
+reasonTo (read id) t = answerTo (read id) t
+reasonTo (openEvening id) t = answerTo (openEvening id) t
+reasonTo (receive id x) t = answerTo (receive id x) t
+
+-- what a call is told as: with its answer, as the program `evening` does, with why, as the program `why` does, or with
+-- the messages that members get of it, as the program `broadcast` does
+unfoldable pub callTold : Telling → Call → List Record → List ℕ
+callTold Answers c t = answerTo c t
+callTold Reasons c t = reasonTo c t
+callTold Messages c t = broadcastOf c (step c t .answer)
+
+-- a text that is no message: nothing is told of it where messages are
+unfoldable pub worded : Telling → List ℕ → List ℕ
+worded Answers text = text
+worded Reasons text = text
+worded Messages text = []
+
+-- what the n-th line is told as; a blank line is told nothing
+unfoldable pub textOf : Telling → (n : ℕ) → Deed → List Record → List ℕ
+textOf telling n nothing t = []
+textOf telling n noCall t = worded telling (badText n)
+textOf telling n (call c) t = callTold telling c t
+textOf telling n (interest i keys) t = worded telling (interestText (interestAnswer i keys))
+textOf telling n (bond b flows) t = worded telling (bondText (bondAnswer b flows))
+
+-- lines are counted from 1, blank ones too, up to the greatest number of 64 bits
+abbrev pub lastNumber : ℕ
+lastNumber = 18446744073709551615
+
+unfoldable pub numberAfter : ℕ → ℕ
+numberAfter n = pick (ltb n lastNumber) (n + 1) n
+
+-- what the line l asks for on an evening
+abbrev pub askedBy : List ℕ → Evening → Deed
+askedBy l e = deedOf (e .kept) (meaning l)
+
+-- THE EVENING AFTER A LINE
+unfoldable pub after : List ℕ → Evening → Evening
+after l e =
+    record {
+      number = numberAfter (e .number);
+      kept = keptBy (askedBy l e) (e .kept);
+      table = tableAfter (askedBy l e) (e .table);
+    }
+
+-- THE ANSWER TO A LINE
+unfoldable pub answer : Telling → List ℕ → Evening → List ℕ
+answer telling l e = textOf telling (e .number) (askedBy l e) (e .table)
+
+-- the evening after a line that asks for nothing, or is no call: only the number of the line goes on
+abbrev pub passedOver : Evening → Evening
+passedOver e = record { number = numberAfter (e .number); kept = e .kept; table = e .table }
+
+-- ---- lines
+
+-- THE EVENING AFTER LINES
+unfoldable pub afterAll : List (List ℕ) → Evening → Evening
+afterAll [] e = e
+afterAll (l ∷ ls) e = afterAll ls (after l e)
+
+-- THE ANSWERS TO LINES
+unfoldable pub answers : Telling → List (List ℕ) → Evening → List ℕ
+answers telling [] e = []
+answers telling (l ∷ ls) e = answer telling l e ++ answers telling ls (after l e)

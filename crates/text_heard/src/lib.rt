@@ -1,0 +1,100 @@
+// The line of what is heard (document 02, W-212), appended to a lent buffer. Nothing here depends on how a message is
+// read.
+ghost use mathlib.Core.Path.{_≡_};
+ghost use mathlib.Core.List.{[], _∷_, _++_};
+ghost use Prim.Native.Nat.{_+_, _≤_};
+ghost use lib.IntN.{pos};
+ghost use lib.ListN.{length};
+ghost use Rattle.paper_messages.specs.Fields.{places, fieldsOf};
+ghost use Rattle.text_protocol.specs.Bytes.{room};
+ghost use Rattle.text_out.specs.Wrote.{Wrote};
+ghost use Rattle.text_heard.specs.Lines.{kindWord, wordLine, fieldsIn, lineOf, lineMost};
+use paper_messages::Heard;
+use paper_messages::Message;
+use text_answer::put_next;
+use text_out::put_byte;
+use text_protocol::ROOM;
+use text_put::put_bytes;
+use text_put::put_numbers;
+
+// No line is longer.
+pub const LINE_MOST: usize = 2_476;
+
+// How many fields a kind has.
+fn field_count(kind: u64) -> usize
+    ensures { λ r. ⌜ (r ≡ length (fieldsOf kind)) × (r ≤ places) ⌝ }
+{
+    if kind == Message::STATICS {
+        return 27;
+    }
+    if kind == Message::RATES {
+        return 15;
+    }
+    if kind == Message::BANDS {
+        return 17;
+    }
+    if kind == Message::MOVE {
+        return 9;
+    }
+    0
+}
+
+// The word of a kind.
+fn put_kind(out: &mut [u8; ROOM], len: usize, kind: u64) -> usize
+    requires { ⌜ len + 11 ≤ room ⌝ }
+    ensures { λ r. ⌜ Wrote (now (out .entry)) len (now (out .exit)) r (kindWord kind) 11 ⌝ }
+{
+    if kind == Message::STATICS {
+        return put_bytes(out, len, b"statics");
+    }
+    if kind == Message::RATES {
+        return put_bytes(out, len, b"rates");
+    }
+    if kind == Message::BANDS {
+        return put_bytes(out, len, b"bands");
+    }
+    put_bytes(out, len, b"move")
+}
+
+// A message of a known kind: its word and its fields.
+fn say_message(out: &mut [u8; ROOM], len: usize, m: Message) -> usize
+    requires { ⌜ (len + lineMost ≤ room) × (length (m .fields) ≡ places) ⌝ }
+    ensures { λ r. ⌜ Wrote (now (out .entry)) len (now (out .exit)) r (wordLine (kindWord (m .kind)) (fieldsIn m))
+        lineMost ⌝ }
+{
+    let kind = m.kind;
+    let fields = m.fields;
+    let count = field_count(kind);
+    let n = put_kind(out, len, kind);
+    let n = put_numbers(out, n, &fields[..count]);
+    put_byte(out, n, b'\n')
+}
+
+// A word and two numbers.
+fn say_two(out: &mut [u8; ROOM], len: usize, word: &[u8], x: u64, y: u64) -> usize
+    requires { ⌜ (len + lineMost ≤ room) × (length (now word) ≤ 11) ⌝ }
+    ensures { λ r. ⌜ Wrote (now (out .entry)) len (now (out .exit)) r (wordLine (now (word .entry)) (pos x ∷ pos y
+        ∷ [])) lineMost ⌝ }
+{
+    let n = put_bytes(out, len, word);
+    let n = put_next(out, n, x);
+    let n = put_next(out, n, y);
+    put_byte(out, n, b'\n')
+}
+
+// What is heard at a place of the input.
+pub fn say_heard(out: &mut [u8; ROOM], len: usize, place: u64, h: Heard) -> usize
+    requires { ⌜ (len + lineMost ≤ room) × (length (h .message .fields) ≡ places) ⌝ }
+    ensures { λ r. ⌜ Wrote (now (out .entry)) len (now (out .exit)) r (lineOf place h) lineMost ⌝ }
+{
+    let verdict = h.verdict;
+    let message = h.message;
+    let no = verdict.number();
+    if no != 0 {
+        return say_two(out, len, b"refused", no, place);
+    }
+    if h.known {
+        return say_message(out, len, message);
+    }
+    say_two(out, len, b"unknown", h.kind, h.length)
+}

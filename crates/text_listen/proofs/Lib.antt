@@ -1,0 +1,4 @@
+mod Places
+mod Turns
+mod Whole
+pub mod Lines

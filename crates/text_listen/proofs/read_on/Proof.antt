@@ -1,0 +1,57 @@
+-- `text_listen::read_on` meets its contract: the lines are written, and more is read. Assumes nothing.
+use Rattle.text_listen.proofs.Turns.{write-failed, count-used-up, reads-more}
+use borrow.Author.Needs.{needs}
+use Rattle.text_listen.proofs.read_on.Statement.{statement}
+use Rattle.text_listen.proofs.read_on.Tie as tie
+use Rattle.text_listen.proofs.read_on.Reads as reads
+use Rattle.text_listen.proofs.read_on.Lts as lts
+use Rattle.text_listen.proofs.more.Reads as more-reads
+use Rattle.text_listen.proofs.used_up.Reads as used-up-reads
+use Rattle.text_listen.proofs.write_out.Reads as write-out-reads
+
+write-out-requires : tie.Need-write-out-requires
+write-out-requires c κs = search needs
+
+returns : tie.Need-returns
+returns c =
+    let at-write = c .before in
+    let at-start = at-write .before .before .before in
+    write-failed _ (at-start .args .s) (at-start .pre .0) (at-start .pre .1) _ (at-write .write-out .ensures)
+    (c .if1 .taken)
+
+used-up-requires : tie.Need-used-up-requires
+used-up-requires c κs = search needs
+
+returns-2 : tie.Need-returns-2
+returns-2 c =
+    let at-write = c .before .before .before .before in
+    let at-start = at-write .before .before .before in
+    count-used-up _ (at-start .args .s) (at-start .pre .0) (at-start .pre .1) _ (at-write .write-out .ensures) _
+    (c .used-up .ensures)
+
+more-requires : tie.Need-more-requires
+more-requires c κs = search needs
+
+same-length : tie.Need-same-length
+same-length c = search needs
+
+returns-3 : tie.Need-returns-3
+returns-3 c =
+    let at-more = c .before .before in
+    let at-if1 = at-more .before .before .before .before in
+    let at-write = at-if1 .before in
+    let at-start = at-write .before .before .before in
+    reads-more _ (at-start .args .s) (at-start .pre .0) (at-start .pre .1) _ (at-write .write-out .ensures) _ _
+    (at-if1 .if1 .left) (at-more .more .ensures .0) (at-more .more .ensures .1)
+
+pub read-on-spec : {M : Type 1} → statement M
+read-on-spec =
+    tie.close
+    (tie.spec
+    write-out-requires
+    returns
+    used-up-requires
+    returns-2
+    more-requires
+    same-length
+    returns-3)

@@ -1,0 +1,111 @@
+-- `text_listen::step` meets its contract: what is heard is told, or more is read, or it is over. Assumes nothing.
+use mathlib.Core.Path.{sym}
+use native.Mathlib.Omega.{arith}
+use lib.Seq.{length-take-le}
+use Rattle.paper.proofs.Logic.{not-true, not-false}
+use Rattle.text_listen.proofs.Turns.{steps-whole, steps-cut, steps-on, steps-end}
+use borrow.Author.Needs.{needs}
+use Rattle.text_listen.proofs.step.Statement.{statement}
+use Rattle.text_listen.proofs.step.Tie as tie
+use Rattle.text_listen.proofs.step.Reads as reads
+use Rattle.text_listen.proofs.step.Lts as lts
+use Rattle.messages.proofs.read.Reads as read-reads
+use Rattle.paper.proofs.Verdict.number.Reads as number-reads
+use Rattle.text_listen.proofs.read_on.Reads as read-on-reads
+use Rattle.text_listen.proofs.tell.Reads as tell-reads
+use Rattle.text_listen.proofs.write_out.Reads as write-out-reads
+
+slice-reshare-prefix-read : tie.Need-slice-reshare-prefix-read
+slice-reshare-prefix-read c = search needs
+
+slice-aggregate-read : tie.Need-slice-aggregate-read
+slice-aggregate-read c =
+    let at-start = c .before .before in
+    sym (length-take-le _ _ (omega (arith, at-start .pre .0 .in-b, at-start .pre .0 .long)))
+
+read-requires : tie.Need-read-requires
+read-requires c κs = search needs
+
+number-requires : tie.Need-number-requires
+number-requires c κs = search needs
+
+tell-requires : tie.Need-tell-requires
+tell-requires c κs = search needs
+
+same-length : tie.Need-same-length
+same-length c = search needs
+
+returns : tie.Need-returns
+returns c =
+    let at-if1 = c .before .before in
+    let at-number = at-if1 .before in
+    let at-read = at-number .before in
+    let at-start = at-read .before .before .before in
+    steps-whole _ (at-start .args .s) _ (at-start .pre .0) (at-start .pre .1) _ (at-read .read .ensures) _
+    (at-number .number .ensures) _ _ (at-if1 .if1 .taken) (c .tell .ensures)
+
+read-on-requires : tie.Need-read-on-requires
+read-on-requires c κs = search needs
+
+same-length-2 : tie.Need-same-length-2
+same-length-2 c = search needs
+
+returns-2 : tie.Need-returns-2
+returns-2 c =
+    let at-if1 = c .before .before .before .before .before .before .before .before in
+    let at-number = at-if1 .before in
+    let at-read = at-number .before in
+    let at-start = at-read .before .before .before in
+    steps-on _ (at-start .args .s) _ (at-start .pre .0) (at-start .pre .1) _ (at-read .read .ensures) _
+    (at-number .number .ensures) _ _ (at-if1 .if1 .left) (not-true _ (c .before .before .before .before .before .before .if2 .taken)) (c .before .before .read-on .ensures)
+
+write-out-requires : tie.Need-write-out-requires
+write-out-requires c κs = search needs
+
+same-length-3 : tie.Need-same-length-3
+same-length-3 c = search needs
+
+returns-3 : tie.Need-returns-3
+returns-3 c =
+    let at-if1 = c .before .before .before .before .before .before in
+    let at-number = at-if1 .before in
+    let at-read = at-number .before in
+    let at-start = at-read .before .before .before in
+    steps-end _ (at-start .args .s) _ (at-start .pre .0) (at-start .pre .1) _ (at-read .read .ensures) _
+    (at-number .number .ensures) _ (not-false _ (c .before .before .before .before .if2 .left)) (c .before .before .before .if3 .taken) (c .write-out .ensures)
+
+tell-requires-2 : tie.Need-tell-requires-2
+tell-requires-2 c κs = search needs
+
+same-length-4 : tie.Need-same-length-4
+same-length-4 c = search needs
+
+returns-4 : tie.Need-returns-4
+returns-4 c =
+    let at-if1 = c .before .before .before .before .before in
+    let at-number = at-if1 .before in
+    let at-read = at-number .before in
+    let at-start = at-read .before .before .before in
+    steps-cut _ (at-start .args .s) _ (at-start .pre .0) (at-start .pre .1) _ (at-read .read .ensures) _
+    (at-number .number .ensures) _ _ (not-false _ (c .before .before .before .if2 .left)) (c .before .before .if3 .left) (c .tell2 .ensures)
+
+pub step-spec : {M : Type 1} → statement M
+step-spec =
+    tie.close
+    (tie.spec
+    slice-reshare-prefix-read
+    slice-aggregate-read
+    read-requires
+    number-requires
+    tell-requires
+    same-length
+    returns
+    read-on-requires
+    same-length-2
+    returns-2
+    write-out-requires
+    same-length-3
+    returns-3
+    tell-requires-2
+    same-length-4
+    returns-4)

@@ -1,0 +1,75 @@
+-- `text_listen::tell` meets its contract: the line is gathered, and written where it has to be. Assumes nothing.
+use native.Mathlib.Omega.{arith}
+use Rattle.text_listen.proofs.Turns.{told-refused, told-written, told-waits}
+use borrow.Author.Needs.{needs}
+use Rattle.text_listen.proofs.tell.Statement.{statement}
+use Rattle.text_listen.proofs.tell.Tie as tie
+use Rattle.text_listen.proofs.tell.Reads as reads
+use Rattle.text_listen.proofs.tell.Lts as lts
+use Rattle.paper.proofs.Verdict.number.Reads as number-reads
+use Rattle.text_heard.proofs.say_heard.Reads as say-heard-reads
+use Rattle.text_listen.proofs.place_of.Reads as place-of-reads
+use Rattle.text_listen.proofs.write_out.Reads as write-out-reads
+
+place-of-requires : tie.Need-place-of-requires
+place-of-requires c κs = search needs
+
+say-heard-requires : tie.Need-say-heard-requires
+say-heard-requires c κs = search needs
+
+number-requires : tie.Need-number-requires
+number-requires c κs = search needs
+
+write-out-requires : tie.Need-write-out-requires
+write-out-requires c κs = search needs
+
+returns : tie.Need-returns
+returns c =
+    let at-if1 = c .before .before .before in
+    let at-number = at-if1 .before in
+    let at-line = at-number .before in
+    let at-place = at-line .before in
+    let at-start = at-place .before .before in
+    told-refused (at-start .args .s) (at-start .args .h) _ _ _ _ _ (at-place .place-of .ensures)
+    (at-number .number .ensures) (at-line .say-heard .ensures) _ (at-if1 .if1 .taken) (c .write-out .ensures)
+
+sub-if2 : tie.Need-sub-if2
+sub-if2 c = search needs
+
+write-out-requires-2 : tie.Need-write-out-requires-2
+write-out-requires-2 c κs = search needs
+
+returns-2 : tie.Need-returns-2
+returns-2 c =
+    let at-if1 = c .before .before .before .before in
+    let at-number = at-if1 .before in
+    let at-line = at-number .before in
+    let at-place = at-line .before in
+    let at-start = at-place .before .before in
+    told-written (at-start .args .s) (at-start .args .h) _ _ _ _ _ (at-place .place-of .ensures)
+    (at-number .number .ensures) (at-line .say-heard .ensures) (at-if1 .if1 .left) _ (c .write-out2 .ensures)
+
+returns-3 : tie.Need-returns-3
+returns-3 c =
+    let at-if1 = c .before in
+    let at-number = at-if1 .before in
+    let at-line = at-number .before in
+    let at-place = at-line .before in
+    let at-start = at-place .before .before in
+    told-waits (at-start .args .s) (at-start .args .h) _ _ _ _ _ (at-place .place-of .ensures)
+    (at-number .number .ensures) (at-line .say-heard .ensures) (at-if1 .if1 .left) (at-start .pre .3)
+    (omega (arith, c .if2 .left))
+
+pub tell-spec : {M : Type 1} → statement M
+tell-spec =
+    tie.close
+    (tie.spec
+    place-of-requires
+    say-heard-requires
+    number-requires
+    write-out-requires
+    returns
+    sub-if2
+    write-out-requires-2
+    returns-2
+    returns-3)
