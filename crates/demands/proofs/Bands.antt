@@ -1,37 +1,21 @@
 -- W-209: after every sequence of calls on a fresh table no band is crossed. An evaluation is refused where one would be
 -- (9), a quote and an opening leave the bands, and a move takes its side outward. Assumes nothing.
-use mathlib.Core.Path.{_≡_, refl, sym, _∙_, ap}
-use mathlib.Core.Bool.{Bool, true, false, not}
+use mathlib.Core.Path.{_≡_, sym, _∙_, ap}
+use mathlib.Core.Bool.{true, false}
 use mathlib.Core.List.{List, [], _∷_}
 use Prim.Native.Nat.{ℕ, _<_}
-use native.Mathlib.Omega.{arith}
-use lib.IntN.{ℤ}
 use lib.ListN.{getD}
-use Rattle.paper.specs.declared.Record.{Record}
 use Rattle.paper.specs.declared.Admission.{Admission}
-use Rattle.paper.specs.declared.Day.{Day}
 use Rattle.paper.specs.declared.Side.{Side}
-use Rattle.paper.specs.declared.Limits.{Limits}
-use Rattle.paper.specs.declared.Moves.{Moves}
 use Rattle.paper.specs.Ranges.{staticsOf, noLimits, termAt, rateAt}
-use Rattle.paper_desk.specs.Limits.{bandOf, crossed}
-use Rattle.paper.specs.Verdicts.{NoneApplies, none, also}
-use Rattle.paper_desk.specs.Desk.{admitted, evaluated, quoted, moved, eveningOpened, received, evaluateChecks}
+use Rattle.paper_desk.specs.Limits.{crossed}
+use Rattle.paper_desk.specs.Desk.{admitted, quoted, eveningOpened, received}
 use Rattle.paper_desk.specs.History.{Event, evaluatedOn, quotedAt, movedBy, opening, receipt}
 use Rattle.paper_desk.specs.Sequences.{carries, LastDay, noDay, onDay, lastEvaluated, movesOf, bandNow}
-use Rattle.paper.proofs.Logic.{each-of-three, not-true, not-false}
 use Rattle.paper_desk.proofs.LimitSizes.{LimitStatics, valid-limit-statics}
-use Rattle.paper_desk.proofs.Bands.{moved-not-crossed}
+use Rattle.paper_desk.proofs.Bands.{evaluated-uncrossed, moved-not-crossed}
 use Rattle.demands.proofs.Histories.{after, recordOf, eventChecks, Lawful}
 use Rattle.demands.proofs.Sequences.{three-at, one-more-noted, lawful-figures, lawful-statics}
-
--- 9 does not apply to an accepted evaluation
-evaluated-uncrossed : (there : Bool) (r : Record) (d : Day) (rows : List ℤ)
-    → NoneApplies (evaluateChecks there r d rows)
-    → (k : ℕ) → k < 3 → crossed (getD (evaluated r d rows .bands) k noLimits) ≡ false
-unfolding evaluateChecks
-evaluated-uncrossed there r d rows (also n (also v (also x (also y (also p (also m (also c none))))))) k l =
-    not-true _ (each-of-three (λ k. not (crossed (getD (evaluated r d rows .bands) k noLimits))) (not-false _ c) k l)
 
 -- a move keeps what the definitions give uncrossed
 now-uncrossed : (a : Admission) (es : List Event) (side : Side) (x : LastDay) (k : ℕ)

@@ -1,12 +1,15 @@
--- W-209: where a band limit stands. It is never outside the exact band; and a move never takes its side inward, so that
--- a moved band crosses only if it was crossed before. Assumes nothing.
+-- W-209: where a band limit stands. It is never outside the exact band; an accepted evaluation writes no band that is
+-- crossed; and a move never takes its side inward, so that a moved band crosses only if it was crossed before. Assumes
+-- nothing.
 use mathlib.Core.Path.{_≡_, refl}
-use mathlib.Core.Bool.{Bool, true, false}
+use mathlib.Core.Bool.{Bool, true, false, not}
+use mathlib.Core.List.{List}
 use Prim.Native.Nat.{ℕ, _+_, _-_, _*_, _≤_, _<_}
 use native.Mathlib.Nat.{le-trans, mul-pos, mul-le-mul-left, mul-le-mul-right}
 use native.Mathlib.Omega.{arith}
 use lib.Dec.{leb}
 use lib.IntN.{ℤ}
+use lib.ListN.{getD}
 use borrow.Author.Tests.{ltb-false, le-ltb}
 use Rattle.paper.specs.declared.Statics.{Statics}
 use Rattle.paper.specs.declared.Side.{Side}
@@ -17,11 +20,16 @@ use Rattle.paper.specs.declared.Way.the-variants.{Down, Up}
 use Rattle.paper.specs.declared.Moves.{Moves}
 use Rattle.paper.specs.declared.Limits.{Limits}
 use Rattle.paper.specs.declared.Term.{Term}
+use Rattle.paper.specs.declared.Record.{Record}
+use Rattle.paper.specs.declared.Day.{Day}
 use Rattle.paper.specs.Lists.{pick}
 use Rattle.paper.specs.Numbers.{oneInBp, oneInHundredths, yearInDayBp, oneInPerCentHundredths}
 use Rattle.paper.specs.Roundings.{Quotient, roundedTo, lesserOf, greaterOf, grown}
-use Rattle.paper.specs.Ranges.{gridOf}
+use Rattle.paper.specs.Ranges.{gridOf, noLimits}
+use Rattle.paper.specs.Verdicts.{NoneApplies, none, also}
 use Rattle.paper_desk.specs.Limits.{share, limitOf, inward, Inside, grownPrice, bondLimitOf, shifted, farthest, spread, monitored, narrower, narrowerOf, bandBefore, bandLimit, bandOf, crossed, oneMore}
+use Rattle.paper_desk.specs.Desk.{evaluated, evaluateChecks}
+use Rattle.paper.proofs.Logic.{each-of-three, not-true, not-false}
 use Rattle.paper.proofs.Roundings.{KeepsOrder, down-not-above, up-not-below}
 use Rattle.paper_desk.proofs.KindLaws.{bond-limit-is, limit-monotone, narrower-rounded, farthest-positive, monitored-positive, band-positive}
 use Rattle.paper_desk.proofs.LimitSizes.{LimitStatics, grid-range}
@@ -49,6 +57,16 @@ pub bond-inside : (side : Side) (b : BondScale) (x : Quotient) → 0 < b .face
     (record { num = oneInPerCentHundredths * (grownPrice x - (b .carry + b .accrued)); den = b .face })
 bond-inside Upper b x f = rw (bond-limit-is Down b x f) (down-not-above _ (b .face) f)
 bond-inside Lower b x f = rw (bond-limit-is Up b x f) (up-not-below _ (b .face) f)
+
+-- ---- 9
+
+-- 9 does not apply to an accepted evaluation, so that no band of its three terms is crossed
+pub evaluated-uncrossed : (there : Bool) (r : Record) (d : Day) (rows : List ℤ)
+    → NoneApplies (evaluateChecks there r d rows)
+    → (k : ℕ) → k < 3 → crossed (getD (evaluated r d rows .bands) k noLimits) ≡ false
+unfolding evaluateChecks
+evaluated-uncrossed there r d rows (also n (also v (also x (also y (also p (also m (also c none))))))) k l =
+    not-true _ (each-of-three (λ k. not (crossed (getD (evaluated r d rows .bands) k noLimits))) (not-false _ c) k l)
 
 -- ---- a move takes its side outward
 

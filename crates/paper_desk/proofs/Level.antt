@@ -163,17 +163,20 @@ module _ (rh1 rh liq m tentative v : ℕ) (days : 0 < rh1) where
 
 -- ---- the rate of a level
 
-record Stepping (st : Statics) (level : ℕ) : Type 0 where
-  low : minimumOf st level ≤ st .smax
-  multiple : st .smax % st .h ≡ 0
+-- the minimum of a level is at most S_max, and both are multiples of h
+pub record Stepping (st : Statics) (level : ℕ) : Type 0 where
+  pub low : minimumOf st level ≤ st .smax
+  pub multiple : st .smax % st .h ≡ 0
+  pub minimum : minimumOf st level % st .h ≡ 0
 
-stepping : (st : Statics) (level : ℕ) → validStatics st ≡ true → Stepping st level
+pub stepping : (st : Statics) (level : ℕ) → validStatics st ≡ true → Stepping st level
 unfolding validStatics minimumOf
 stepping st level v =
     record {
       low = go (eqb level 1) (eqb level 2);
       multiple =
           eqb-true (st .smax % st .h) 0 (search (v, and-left, and-right) depth 40);
+      minimum = whole (eqb level 1) (eqb level 2);
     }
   where
     third : st .min3 ≤ st .smax
@@ -189,6 +192,11 @@ stepping st level v =
     go true y = first
     go false true = second
     go false false = third
+
+    whole : (x y : Bool) → pick x (st .min1) (pick y (st .min2) (st .min3)) % st .h ≡ 0
+    whole true y = eqb-true (st .min1 % st .h) 0 (search (v, and-left, and-right) depth 40)
+    whole false true = eqb-true (st .min2 % st .h) 0 (search (v, and-left, and-right) depth 40)
+    whole false false = eqb-true (st .min3 % st .h) 0 (search (v, and-left, and-right) depth 40)
 
 -- a multiple of h is its quotient times h
 pub quotient-times-is : (x h : ℕ) → x % h ≡ 0 → x / h * h ≡ x

@@ -22,7 +22,7 @@ use Rattle.paper.specs.Ranges.{gridOf, isLimit, validLimits, validStatics, vali
 use Rattle.paper_desk.specs.Limits.{limitOf, inward, shifted, rangeLimit, rangeOf, farthest, spread, monitored, narrower, narrowerOf, share, bandLimit, bandOf, deltaOf}
 use Rattle.paper_desk.specs.Kept.{freshMost, deltaMost}
 use Rattle.paper.proofs.Logic.{not-true-and-false, and-left, and-right, and-both, order-trans}
-use Rattle.paper.proofs.Roundings.{rounded-le}
+use Rattle.paper.proofs.Roundings.{rounded-le, rounded-ge}
 pub use Rattle.paper_desk.proofs.KindLaws.{grid-range}
 use Rattle.paper_desk.proofs.KindLaws.{narrower-rounded, monitored-positive}
 
@@ -58,16 +58,31 @@ on-every-grid lot m = go (leb lot 1) (leb lot 10)
     go false true = (m * 10, omega arith)
     go false false = (m * coarsestGrid, omega arith)
 
+-- a quotient of at most a multiple of the grid is rounded to at most that, and one of at least such a multiple to at
+-- least that
+pub limit-le : (way : Way) (st : Statics) (x : Quotient) (k : ℕ) → 0 < x .den
+    → x .num ≤ k * gridOf (st .lot) * x .den → limitOf way st x ≤ k * gridOf (st .lot)
+unfolding limitOf
+limit-le way st x k p h =
+    let g : ℕ = gridOf (st .lot) in
+    let fits : x .num ≤ k * (x .den * g) = omega arith in
+    mul-le-mul-right g (rounded-le way (x .num) (x .den * g) k (mul-pos p (grid-range (st .lot) .0)) fits)
+
+pub limit-ge : (way : Way) (st : Statics) (x : Quotient) (k : ℕ) → 0 < x .den
+    → k * gridOf (st .lot) * x .den ≤ x .num → k * gridOf (st .lot) ≤ limitOf way st x
+unfolding limitOf
+limit-ge way st x k p h =
+    let g : ℕ = gridOf (st .lot) in
+    let fits : k * (x .den * g) ≤ x .num = omega arith in
+    mul-le-mul-right g (rounded-ge way (x .num) (x .den * g) k (mul-pos p (grid-range (st .lot) .0)) fits)
+
 -- a quotient of at most a multiple of 100 is rounded to at most that
 pub limit-high : (way : Way) (st : Statics) (x : Quotient) (m : ℕ) → 0 < x .den
     → x .num ≤ m * coarsestGrid * x .den → limitOf way st x ≤ m * coarsestGrid
-unfolding limitOf
 limit-high way st x m p h =
-    let g : ℕ = gridOf (st .lot) in
     let k : ℕ = on-every-grid (st .lot) m .0 in
-    let e : k * g ≡ m * coarsestGrid = on-every-grid (st .lot) m .1 in
-    let fits : x .num ≤ k * (x .den * g) = omega (arith, h, ap (λ (z : ℕ). z * x .den) e) in
-    rw (sym e) (mul-le-mul-right g (rounded-le way (x .num) (x .den * g) k (mul-pos p (grid-range (st .lot) .0)) fits))
+    let e : k * gridOf (st .lot) ≡ m * coarsestGrid = on-every-grid (st .lot) m .1 in
+    rw (sym e) (limit-le way st x k p (omega (arith, h, ap (λ (z : ℕ). z * x .den) e)))
 
 pub limit-on-grid : (way : Way) (st : Statics) (x : Quotient) → limitOf way st x % gridOf (st .lot) ≡ 0
 unfolding limitOf
