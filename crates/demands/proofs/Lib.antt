@@ -6,4 +6,6 @@ pub mod Known
 pub mod Sequences
 pub mod Bands
 pub mod Carried
+pub mod SlotHistories
+pub mod Order
 pub mod Demands

@@ -1,2 +1,4 @@
 pub mod Demands
+pub mod Order
+pub mod OrderCases
 pub mod WorkedWeek

@@ -12,6 +12,7 @@ pub mod Bands
 pub mod CarriedOn
 pub mod Roots
 pub mod Level
+pub mod Order
 pub mod TentativeRange
 pub mod PinnedLaws
 pub mod Admissions

@@ -1,12 +1,15 @@
 -- A call about one id leaves every other slot as it was, and the table as long as it was. Assumes nothing.
 use mathlib.Core.Path.{_≡_, refl, sym, _∙_, ap}
-use mathlib.Core.Logic.{_≢_}
+use mathlib.Core.Logic.{_≢_, _⊎_, inl, inr}
 use mathlib.Core.Bool.{Bool, true, false}
 use mathlib.Core.List.{List, [], _∷_}
-use Prim.Native.Nat.{ℕ}
+use Prim.Native.Nat.{ℕ, suc}
+use lib.Dec.{eqb}
 use lib.ListN.{length, getD, set, length-set}
 use lib.Seq.{getD-set-other}
+use borrow.Author.Tests.{eqb-true}
 use Rattle.paper.specs.declared.Record.{Record}
+use Rattle.paper.specs.Lists.{pick}
 use Rattle.paper.specs.Ranges.{sideOf}
 use Rattle.paper.specs.Verdicts.{isDone, firstOf, NoneApplies, none, also}
 use Rattle.paper_desk.specs.Desk.{Call, admit, evaluate, quote, move, read, openEvening, receive, idOf, Outcome, blank, admitted, evaluated, quoted, moved, eveningOpened, received, place, stands, found, known, checksOf, admitChecks, evaluateChecks, quoteChecks, moveChecks, openChecks, receiveChecks, acceptedOf, step}
@@ -33,13 +36,13 @@ unfolding acceptedOf
 length-stays c t = holds-after-step (λ u. length u ≡ length t) c t refl (λ _ _. accepted c)
   where
     accepted : (c : Call) → length (acceptedOf c t .table) ≡ length t
-    accepted (admit a) = length-set t (place t 0) _
-    accepted (evaluate id d rows) = length-set t (place t id) _
-    accepted (quote id q) = length-set t (place t id) _
-    accepted (move id side) = length-set t (place t id) _
+    accepted (admit a) = length-set t _ _
+    accepted (evaluate id d rows) = length-set t _ _
+    accepted (quote id q) = length-set t _ _
+    accepted (move id side) = length-set t _ _
     accepted (read id) = refl
-    accepted (openEvening id) = length-set t (place t id) _
-    accepted (receive id x) = length-set t (place t id) _
+    accepted (openEvening id) = length-set t _ _
+    accepted (receive id x) = length-set t _ _
 
 -- every other slot, whatever it holds
 pub slots-stay : (c : Call) (t : List Record) (k : ℕ) → k ≢ writtenAt c t
@@ -48,13 +51,48 @@ unfolding acceptedOf
 slots-stay c t k n = holds-after-step (λ u. getD u k blank ≡ getD t k blank) c t refl (λ _ _. accepted c n)
   where
     accepted : (c : Call) → k ≢ writtenAt c t → getD (acceptedOf c t .table) k blank ≡ getD t k blank
-    accepted (admit a) n = getD-set-other t (place t 0) k _ blank n
-    accepted (evaluate id d rows) n = getD-set-other t (place t id) k _ blank n
-    accepted (quote id q) n = getD-set-other t (place t id) k _ blank n
-    accepted (move id side) n = getD-set-other t (place t id) k _ blank n
+    accepted (admit a) n = getD-set-other t _ k _ blank n
+    accepted (evaluate id d rows) n = getD-set-other t _ k _ blank n
+    accepted (quote id q) n = getD-set-other t _ k _ blank n
+    accepted (move id side) n = getD-set-other t _ k _ blank n
     accepted (read id) n = refl
-    accepted (openEvening id) n = getD-set-other t (place t id) k _ blank n
-    accepted (receive id x) n = getD-set-other t (place t id) k _ blank n
+    accepted (openEvening id) n = getD-set-other t _ k _ blank n
+    accepted (receive id x) n = getD-set-other t _ k _ blank n
+
+-- what stands in the slot that a call may write has the id that the call looks for there, or the slot is empty
+found-or-empty : (t : List Record) (id : ℕ) → (found t id .id ≡ id) ⊎ (found t id .id ≡ 0)
+unfolding found place blank
+found-or-empty [] id = inr refl
+found-or-empty (r ∷ t) id = go (eqb (r .id) id) refl (found-or-empty t id)
+  where
+    go : (b : Bool) → eqb (r .id) id ≡ b
+        → (getD t (place t id) blank .id ≡ id) ⊎ (getD t (place t id) blank .id ≡ 0)
+        → (getD (r ∷ t) (pick b 0 (suc (place t id))) blank .id ≡ id)
+        ⊎ (getD (r ∷ t) (pick b 0 (suc (place t id))) blank .id ≡ 0)
+    go true e rest = inl (eqb-true (r .id) id e)
+    go false e rest = rest
+
+-- W-213, "Records of other ids are the same before and after": on any table, in whichever slot the record stands
+pub other-records-stay : (c : Call) (t : List Record) (k : ℕ) → getD t k blank .id ≢ 0 → getD t k blank .id ≢ idOf c
+    → getD (step c t .table) k blank ≡ getD t k blank
+unfolding found
+other-records-stay c t k full other = slots-stay c t k (differs c other)
+  where
+    not-at : (id : ℕ) → getD t k blank .id ≢ id → k ≢ place t id
+    not-at id n e = go (found-or-empty t id)
+      where
+        go : (found t id .id ≡ id) ⊎ (found t id .id ≡ 0) → ⊥
+        go (inl w) = n (ap (λ (j : ℕ). getD t j blank .id) e ∙ w)
+        go (inr w) = full (ap (λ (j : ℕ). getD t j blank .id) e ∙ w)
+
+    differs : (c : Call) → getD t k blank .id ≢ idOf c → k ≢ writtenAt c t
+    differs (admit a) n = not-at 0 full
+    differs (evaluate id d rows) n = not-at id n
+    differs (quote id q) n = not-at id n
+    differs (move id side) n = not-at id n
+    differs (read id) n = not-at id n
+    differs (openEvening id) n = not-at id n
+    differs (receive id x) n = not-at id n
 
 stored-stays : (id i : ℕ) (t : List Record) (x : Record) → known t i ≡ true → x .id ≡ found t i .id → id ≢ i
     → Stays id t (set t (place t i) x)

@@ -1,0 +1,101 @@
+-- Whatever slot of a table that calls made of a fresh one is full, its record has a history: an admission in range and
+-- calls that were accepted in their turn (Histories). Assumes nothing.
+use mathlib.Core.Path.{_≡_, refl, ap, subst}
+use mathlib.Core.Logic.{_≢_}
+use mathlib.Core.Bool.{Bool, true}
+use mathlib.Core.List.{List, [], _∷_}
+use Prim.Native.Nat.{ℕ, zero, suc}
+use native.Mathlib.Omega.{arith}
+use lib.Dec.{leb, eqb}
+use lib.ListN.{length, set}
+use borrow.Author.Tests.{leb-true, eqb-true}
+use Rattle.paper.specs.declared.Record.{Record}
+use Rattle.paper.specs.declared.Admission.{Admission}
+use Rattle.paper.specs.Lists.{every}
+use Rattle.paper.specs.Numbers.{idMost}
+use Rattle.paper.specs.Ranges.{validAdmission, validSlots, sideOf}
+use Rattle.paper.specs.Verdicts.{NoneApplies, also}
+use Rattle.paper_desk.specs.Desk.{Call, admit, evaluate, quote, move, read, openEvening, receive, blank, place, found, known, checksOf, admitChecks, acceptedOf, step, run, fresh}
+use Rattle.paper_desk.specs.History.{FreshTable, Event, evaluatedOn, quotedAt, movedBy, opening, receipt}
+use Rattle.demands.specs.Order.{slotAt}
+use Rattle.paper.proofs.Logic.{and-left, and-right, not-false}
+use Rattle.paper_desk.proofs.Others.{holds-after-step}
+use Rattle.paper_desk.proofs.Slots.{known-sound}
+use Rattle.demands.proofs.Sound.{sound-has-parts, stored-holds}
+use Rattle.demands.proofs.Kept.{call-knows}
+use Rattle.demands.proofs.Histories.{after, recordOf, eventChecks, move-checks, Lawful}
+
+pub record Made (r : Record) : Type 0 where
+  pub admission : Admission
+  pub events : List Event
+  pub same : r ≡ recordOf admission events
+  pub lawful : Lawful admission events
+
+abbrev SlotsMade : List Record → Type 0
+SlotsMade t = (slot : ℕ) → slotAt t slot .id ≢ 0 → Made (slotAt t slot)
+
+-- every slot of a fresh table is empty
+fresh-slot : (t : List Record) (slot : ℕ) → fresh t ≡ true → slotAt t slot .id ≡ 0
+unfolding fresh every blank
+fresh-slot [] slot f = refl
+fresh-slot (r ∷ t) zero f = eqb-true (r .id) 0 (and-left (eqb (r .id) 0) _ f)
+fresh-slot (r ∷ t) (suc slot) f = fresh-slot t slot (and-right (eqb (r .id) 0) _ f)
+
+-- a known id is not 0, so that its slot is full
+pub known-full : (t : List Record) (i : ℕ) → known t i ≡ true → found t i .id ≢ 0
+known-full t i e w =
+    let low : leb 1 (found t i .id) ≡ true =
+    and-left (leb 1 (found t i .id)) (leb (found t i .id) idMost)
+    (sound-has-parts (found t i) (known-sound t i e) .id) in
+    omega (arith, leb-true 1 (found t i .id) low)
+
+-- one more accepted call
+made-after : (r : Record) (e : Event) → Made r → NoneApplies (eventChecks true r e) → Made (after r e)
+unfolding recordOf
+made-after r e k n =
+    record {
+      admission = k .admission;
+      events = e ∷ k .events;
+      same = ap (λ (x : Record). after x e) (k .same);
+      lawful = (k .lawful, subst (λ (x : Record). NoneApplies (eventChecks true x e)) (k .same) n);
+    }
+
+made-kept : (c : Call) (t : List Record) → SlotsMade t → SlotsMade (step c t .table)
+unfolding acceptedOf checksOf admitChecks eventChecks after recordOf found
+made-kept c t w = holds-after-step SlotsMade c t w (λ _ n. accepted c n)
+  where
+    stored : (j : ℕ) (x : Record) → Made x → SlotsMade (set t j x)
+    stored j x k slot = stored-holds (λ (r : Record). r .id ≢ 0 → Made r) t j x blank slot (λ _. k) (w slot)
+
+    event : (i : ℕ) (e : Event) → known t i ≡ true → NoneApplies (eventChecks (known t i) (found t i) e)
+        → SlotsMade (set t (place t i) (after (found t i) e))
+    event i e there n =
+        stored (place t i) (after (found t i) e)
+        (made-after (found t i) e (w (place t i) (known-full t i there))
+        (subst (λ (b : Bool). NoneApplies (eventChecks b (found t i) e)) there n))
+
+    accepted : (c : Call) → NoneApplies (checksOf c t) → SlotsMade (acceptedOf c t .table)
+    accepted (admit a) (also v rest) =
+        stored (place t 0) _
+        (record {
+          admission = a;
+          events = [];
+          same = refl;
+          lawful = and-right (validSlots (length t)) (validAdmission a) (not-false _ v);
+        })
+    accepted (evaluate i d rows) n = event i (evaluatedOn d rows) (call-knows (evaluate i d rows) t refl n) n
+    accepted (quote i q) n = event i (quotedAt q) (call-knows (quote i q) t refl n) n
+    accepted (move i side) n =
+        event i (movedBy (sideOf side)) (call-knows (move i side) t refl n) (move-checks (known t i) (found t i) side n)
+    accepted (read i) n = w
+    accepted (openEvening i) n = event i opening (call-knows (openEvening i) t refl n) n
+    accepted (receive i x) n = event i (receipt x) (call-knows (receive i x) t refl n) n
+
+run-made : (cs : List Call) (t : List Record) → SlotsMade t → SlotsMade (run cs t)
+unfolding run
+run-made [] t w = w
+run-made (c ∷ cs) t w = run-made cs (step c t .table) (made-kept c t w)
+
+pub slot-made : (cs : List Call) (t : List Record) → FreshTable t → (slot : ℕ) → slotAt (run cs t) slot .id ≢ 0
+    → Made (slotAt (run cs t) slot)
+slot-made cs t f = run-made cs t (λ slot full. absurd (full (fresh-slot t slot (f .empty))))
