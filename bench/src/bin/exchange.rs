@@ -7,6 +7,7 @@ use std::fs::File;
 use std::process::{Command, Stdio};
 use std::time::Instant;
 
+use bench::opaque;
 use reference::exchange::{asked_id, read};
 
 const RUNS: usize = 301;
@@ -45,7 +46,7 @@ fn main() {
         [text, id, ours, theirs] => (text, id, [ours, theirs]),
         _ => panic!("exchange TEXT ID OURS THEIRS"),
     };
-    let mut times = vec![Vec::with_capacity(RUNS); TEXTS * SIDES];
+    let mut times = vec![Vec::new(); TEXTS * SIDES];
     for _ in 0..RUNS {
         for (which, text) in [text.as_str(), "/dev/null"].iter().enumerate() {
             let (ours, said) = run(commands[0], id, text);
@@ -70,7 +71,7 @@ fn main() {
     let mut alone: Vec<f64> = (0..RUNS)
         .map(|_| {
             let start = Instant::now();
-            let _ = std::hint::black_box(read(std::hint::black_box(&text), id));
+            let _ = opaque(read(opaque(&text), id));
             start.elapsed().as_nanos() as f64 / 1e3
         })
         .collect();
