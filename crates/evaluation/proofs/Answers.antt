@@ -6,6 +6,7 @@ use Prim.Native.Nat.{ℕ, zero, suc, _*_, _≤_, max}
 use native.Mathlib.Nat.{pos-of-ne-zero, max-le, le-trans, min-le-left, min-le-right}
 use native.Mathlib.Omega.{arith}
 use lib.Dec.{eqb}
+use lib.IntN.{ℤ}
 use borrow.Author.Tests.{eqb-false}
 use Rattle.paper.specs.declared.External.{External}
 use Rattle.paper.specs.declared.Price.{Price}
@@ -14,16 +15,28 @@ use Rattle.paper.specs.declared.Row.{Row}
 use Rattle.paper.specs.declared.Roubles.{Roubles}
 use Rattle.paper.specs.Lists.{pick, every}
 use Rattle.paper.specs.Roundings.{halfUp, toGrid}
-use Rattle.paper.specs.Ranges.{isPrice, priceMade}
-use Rattle.paper_desk.specs.Evaluation.{weights, bidOf, askOf, roublesOf, rowFits, median, between, evaluationOf, evaluationFits}
+use Rattle.paper.specs.Ranges.{isPrice, validRows, priceMade}
+use Rattle.paper_desk.specs.Evaluation.{weights, bidOf, askOf, roublesOf, dayRows, hasCrossedRow, rowFits, median, between, evaluationOf, evaluationFits}
+use Rattle.paper.proofs.Logic.{not-true-and-false}
 use Rattle.paper.proofs.Roundings.{half-le}
 use Rattle.evaluation.specs.declared.Book.{Book}
 use Rattle.evaluation.specs.declared.PriceFigures.{PriceFigures}
+use Rattle.evaluation.specs.declared.Gathered.{Gathered}
 use Rattle.evaluation.specs.declared.Gathered.the-variants as gathered
 use Rattle.evaluation.specs.declared.Evaluation.the-variants.{Evaluated, Beyond}
 use Rattle.evaluation.specs.Evaluation.{priceFigures, pricedOf, evaluationFrom, evaluationMade}
-use Rattle.evaluation.specs.Book.{bookOf, closeIn, figuresIn, gatheredOf}
+use Rattle.evaluation.specs.Book.{bookOf, closeIn, figuresIn, gatheredOf, isBook}
 use Rattle.evaluation.proofs.Books.{close-of-book}
+
+-- what is gathered where neither 6 nor 16 refuses
+abbrev fittedOf : List Row → Gathered
+fittedOf rows = pick (every rowFits rows) (gathered.Whole (bookOf (map roublesOf rows))) gathered.Beyond
+
+pub gathered-fitted : (numbers : List ℤ) (r : Gathered) → r ≡ gatheredOf numbers → validRows numbers ≡ true
+    → hasCrossedRow (dayRows numbers) ≡ false
+    → r ≡ fittedOf (dayRows numbers)
+unfolding gatheredOf
+gathered-fitted numbers r e v c = rw (v, c) at e
 
 module _ (g previous : ℕ) (used : External) (rows : List Row) where
   -- the price that a book's figures give
@@ -49,20 +62,20 @@ module _ (g previous : ℕ) (used : External) (rows : List Row) where
       (close-of-book previous rs)
 
   -- 7 for a row
-  pub made-beyond : gathered.Beyond ≡ gatheredOf rows → Beyond ≡ evaluationMade g previous used rows
-  unfolding evaluationMade evaluationFits gatheredOf
-  made-beyond k = step (every rowFits rows) k
+  pub made-beyond : (r : Gathered) → isBook r ≡ false → r ≡ fittedOf rows → Beyond ≡ evaluationMade g previous used rows
+  unfolding evaluationMade evaluationFits
+  made-beyond r n k = step (every rowFits rows) k
     where
-      step : (t : Bool) → gathered.Beyond ≡ pick t (gathered.Whole (bookOf (map roublesOf rows))) gathered.Beyond
+      step : (t : Bool) → r ≡ pick t (gathered.Whole (bookOf (map roublesOf rows))) gathered.Beyond
           → Beyond
           ≡ pick (t && isPrice (evaluationOf g previous used rows)) (Evaluated (pricedOf g previous used rows)) Beyond
-      step true p = absurd (let z : _≡_ {A = ℕ} 0 1 = cc in omega arith)
+      step true p = absurd (not-true-and-false (isBook r) (ap isBook p) n)
       step false p = refl
 
   -- the evaluation, or 7 for it
-  pub made-book : (b : Book) → gathered.Whole b ≡ gatheredOf rows
+  pub made-book : (b : Book) → gathered.Whole b ≡ fittedOf rows
       → evaluationFrom (toGrid g (chosenIn b) 1) (figuresIn previous used b) ≡ evaluationMade g previous used rows
-  unfolding evaluationMade evaluationFits evaluationFrom gatheredOf pricedOf
+  unfolding evaluationMade evaluationFits evaluationFrom pricedOf
   made-book b k = step (every rowFits rows) k
     where
       step : (t : Bool) → gathered.Whole b ≡ pick t (gathered.Whole (bookOf (map roublesOf rows))) gathered.Beyond

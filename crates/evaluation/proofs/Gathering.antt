@@ -1,24 +1,26 @@
--- What `gather` keeps at each row: the book so far, joined with the rows still to come, is the book of all rows.
--- Assumes nothing.
-use mathlib.Core.Path.{_≡_, sym, ap, _∙_}
-use mathlib.Core.Bool.{Bool, true, false, _&&_}
-use mathlib.Core.List.{List, _∷_, map}
+-- What `gather` keeps at each row: the book so far, joined with the rows still to come, is the book of all rows, and the
+-- rows still to come decide whether all are in range and taken. Assumes nothing.
+use mathlib.Core.Path.{_≡_, refl, sym, ap, _∙_}
+use mathlib.Core.Bool.{Bool, true, false, not, _&&_, _||_}
+use mathlib.Core.List.{List, [], _∷_, map}
 use Prim.Native.Nat.{ℕ, _+_, _≤_}
 use native.Mathlib.Omega.{arith}
+use borrow.Author.Tests.{not-true}
 use lib.IntN.{ℤ}
 use lib.ListN.{length}
 use Rattle.paper.specs.declared.Row.{Row}
-use Rattle.paper.specs.Lists.{every}
+use Rattle.paper.specs.Lists.{every, some}
 use Rattle.paper.specs.Numbers.{rowNumbers}
-use Rattle.paper.specs.Ranges.{LentRow, rowAt, rowsOf, validRow, rowOf}
-use Rattle.paper_desk.specs.Evaluation.{roublesOf, dayRows, rowFits}
-use Rattle.paper.proofs.Logic.{and-left, and-right}
-use Rattle.exact.specs.EveryLaws.{every-cons}
+use Rattle.paper.specs.Ranges.{LentRow, rowAt, rowsOf, wholeRows, validRow, validRows, rowOf}
+use Rattle.paper_desk.specs.Evaluation.{roublesOf, dayRows, isCrossedRow, hasCrossedRow, rowFits}
+use Rattle.paper.proofs.Logic.{not-true-and-false, and-left, and-right}
+use Rattle.exact.specs.EveryLaws.{every-cons, every-in, every-out, every-nil}
 use Rattle.exact.specs.LentLaws.{Place, place-first, place-next, left-here, left-end}
-use Rattle.rows.specs.RowLaws.{restOf, rest-first, InRange, in-range}
+use Rattle.rows.specs.RowLaws.{restOf, rest-first, in-range}
 use Rattle.evaluation.specs.declared.Book.{Book}
-use Rattle.evaluation.specs.declared.Gathered.the-variants.{Whole, Beyond}
-use Rattle.evaluation.specs.Book.{added, bookOf, gatheredOf, Gathers}
+use Rattle.evaluation.specs.declared.Gathered.{Gathered}
+use Rattle.evaluation.specs.declared.Gathered.the-variants.{OutOfRange, Crossed, Beyond, Whole}
+use Rattle.evaluation.specs.Book.{added, bookOf, isTaken, gatheredOf, isBook, Gathers}
 use Rattle.evaluation.proofs.Prices.{fitting}
 use Rattle.evaluation.proofs.Books.{joined, empty, joined-first, joined-next, joined-none, Filled, filled-first, filled-next}
 
@@ -28,8 +30,8 @@ rowsLeft numbers at = map rowOf (restOf numbers at)
 
 pub record Gathering (numbers : List ℤ) (at : ℕ) (b : Book) : Type 0 where
   pub place : Place rowNumbers numbers at
-  pub range : every validRow (restOf numbers at) ≡ true
-  pub fit : every rowFits (rowsLeft numbers at) ≡ every rowFits (dayRows numbers)
+  pub valid : every validRow (restOf numbers at) ≡ every validRow (rowsOf numbers)
+  pub taken : every isTaken (rowsLeft numbers at) ≡ every isTaken (dayRows numbers)
   pub book : joined b (map roublesOf (rowsLeft numbers at)) ≡ bookOf (map roublesOf (dayRows numbers))
   pub filled : Filled at b
 
@@ -37,73 +39,119 @@ left-first : (numbers : List ℤ) → rowsLeft numbers 0 ≡ dayRows numbers
 unfolding rowsLeft dayRows
 left-first numbers = ap (map rowOf) (rest-first numbers)
 
-pub gathering-first : (numbers : List ℤ) → every validRow (rowsOf numbers) ≡ true → Gathering numbers 0 empty
-gathering-first numbers e =
+pub gathering-first : (numbers : List ℤ) → Gathering numbers 0 empty
+gathering-first numbers =
     record {
       place = place-first rowNumbers numbers;
-      range = ap (every validRow) (rest-first numbers) ∙ e;
-      fit = ap (every rowFits) (left-first numbers);
+      valid = ap (every validRow) (rest-first numbers);
+      taken = ap (every isTaken) (left-first numbers);
       book = joined-first _ ∙ ap (λ (ws : List Row). bookOf (map roublesOf ws)) (left-first numbers);
       filled = filled-first;
     }
+
+-- ---- which of 6, 16 and 7 refuses
+
+-- all rows are taken where none is crossed and all fit
+taken-splits : (rows : List Row) → every isTaken rows ≡ (not (hasCrossedRow rows) && every rowFits rows)
+unfolding every some hasCrossedRow
+taken-splits [] = refl
+taken-splits (row ∷ rows) = step (isCrossedRow row) (rowFits row) _ _ _ (taken-splits rows)
+  where
+    step : (c f cs fs rest : Bool) → rest ≡ (not cs && fs) → ((not c && f) && rest) ≡ (not (c || cs) && (f && fs))
+    step true f cs fs rest e = refl
+    step false true cs fs rest e = e
+    step false false true fs rest e = refl
+    step false false false fs rest e = refl
+
+pub gathered-out : (numbers : List ℤ) → validRows numbers ≡ false → OutOfRange ≡ gatheredOf numbers
+unfolding gatheredOf
+gathered-out numbers v = rw v
+
+pub gathered-crossed : (numbers : List ℤ) → validRows numbers ≡ true → hasCrossedRow (dayRows numbers) ≡ true
+    → Crossed ≡ gatheredOf numbers
+unfolding gatheredOf
+gathered-crossed numbers v c = rw (v, c)
+
+pub gathered-beyond : (numbers : List ℤ) → validRows numbers ≡ true → hasCrossedRow (dayRows numbers) ≡ false
+    → every isTaken (dayRows numbers) ≡ false → Beyond ≡ gatheredOf numbers
+unfolding gatheredOf
+gathered-beyond numbers v c t =
+    let no : every rowFits (dayRows numbers) ≡ false = rw c at (sym (taken-splits (dayRows numbers)) ∙ t) in
+    rw (v, c, no)
+
+-- what is no book has no bounds to keep
+pub no-book : (numbers : List ℤ) (r : Gathered) → isBook r ≡ false → r ≡ gatheredOf numbers → Gathers numbers r
+no-book numbers r n e =
+    record { is = e; bound = record { bounded = λ b q. absurd (not-true-and-false (isBook r) (ap isBook q) n) } }
+
+-- rows that are not whole are out of range
+pub torn-out : (numbers : List ℤ) → wholeRows numbers ≡ false → validRows numbers ≡ false
+unfolding validRows
+torn-out numbers e = rw e
+
+-- ---- a turn
 
 module _ (numbers : List ℤ) (at : ℕ) (b : Book) (room : at + rowNumbers ≤ length numbers)
     (g : Gathering numbers at b) where
   here : restOf numbers at ≡ rowAt numbers at ∷ restOf numbers (at + rowNumbers)
   here = left-here rowAt rowNumbers numbers at (omega arith) room
 
-  both : (validRow (rowAt numbers at) && every validRow (restOf numbers (at + rowNumbers))) ≡ true
-  both = sym (every-cons validRow here) ∙ g .range
-
   left : rowsLeft numbers at ≡ rowOf (rowAt numbers at) ∷ rowsLeft numbers (at + rowNumbers)
   unfolding rowsLeft rowOf
   left = ap (map rowOf) here
 
-  -- the row at hand is in range
-  pub gathering-range : InRange (rowOf (rowAt numbers at))
-  gathering-range = in-range (rowAt numbers at)
-      (and-left (validRow (rowAt numbers at)) (every validRow (restOf numbers (at + rowNumbers))) both)
+  -- a row that is out of range decides
+  pub gathering-out : wholeRows numbers ≡ true → validRow (rowAt numbers at) ≡ false → validRows numbers ≡ false
+  unfolding validRows
+  gathering-out whole e =
+      let no : every validRow (rowsOf numbers) ≡ false = sym (g .valid) ∙ every-out validRow here e in
+      rw (whole, no)
 
   module _ (row : Row) (is : row ≡ rowOf (rowAt numbers at)) where
-    split : every rowFits (rowsLeft numbers at) ≡ (rowFits row && every rowFits (rowsLeft numbers (at + rowNumbers)))
-    unfolding every
-    split = rw is (ap (every rowFits) left)
+    split : every isTaken (rowsLeft numbers at) ≡ (isTaken row && every isTaken (rowsLeft numbers (at + rowNumbers)))
+    split = rw is (every-cons isTaken left)
 
     -- one row more
-    pub gathering-next : rowFits row ≡ true → Gathering numbers (at + rowNumbers) (added b (roublesOf row))
+    pub gathering-next : validRow (rowAt numbers at) ≡ true → isTaken row ≡ true
+        → Gathering numbers (at + rowNumbers) (added b (roublesOf row))
     unfolding roublesOf
-    gathering-next e =
+    gathering-next v e =
         record {
           place = place-next rowNumbers numbers at (g .place) room;
-          range = and-right (validRow (rowAt numbers at)) (every validRow (restOf numbers (at + rowNumbers))) both;
-          fit = sym (split ∙ ap (λ (t : Bool). t && every rowFits (rowsLeft numbers (at + rowNumbers))) e) ∙ g .fit;
+          valid = sym (every-in validRow here v) ∙ g .valid;
+          taken =
+              sym (split ∙ ap (λ (t : Bool). t && every isTaken (rowsLeft numbers (at + rowNumbers))) e) ∙ g .taken;
           book = rw is
               (sym (joined-next b (roublesOf (rowOf (rowAt numbers at)))
               (map roublesOf (rowsLeft numbers (at + rowNumbers))))
               ∙ sym (ap (λ (ws : List Row). joined b (map roublesOf ws)) left)
               ∙ g .book);
-          filled = filled-next at b (roublesOf row) (g .filled) (fitting row (rw is gathering-range) e);
+          filled =
+              filled-next at b (roublesOf row) (g .filled)
+              (fitting row (rw is (in-range (rowAt numbers at) v)) (and-right (not (isCrossedRow row)) (rowFits row) e));
         }
 
-    -- a row that does not fit decides
-    pub gathering-beyond : rowFits row ≡ false → Gathers (dayRows numbers) Beyond
-    unfolding gatheredOf
-    gathering-beyond e =
-        let no : every rowFits (dayRows numbers) ≡ false = sym (g .fit) ∙ split
-        ∙ ap (λ (t : Bool). t && every rowFits (rowsLeft numbers (at + rowNumbers))) e in
-        record { is = rw no; bounded = λ c q. absurd (let z : _≡_ {A = ℕ} 0 1 = cc in omega arith) }
+    -- a row that is not taken decides
+    pub gathering-refused : isTaken row ≡ false → every isTaken (dayRows numbers) ≡ false
+    gathering-refused e = sym (g .taken) ∙ split
+        ∙ ap (λ (t : Bool). t && every isTaken (rowsLeft numbers (at + rowNumbers))) e
 
 -- at the end the book is that of all rows
-pub gathering-end : (numbers : List ℤ) (at : ℕ) (b : Book) → length numbers ≤ at → Gathering numbers at b
-    → Gathers (dayRows numbers) (Whole b)
-unfolding gatheredOf rowsLeft rowOf roublesOf every rowFits
-gathering-end numbers at b h g =
+pub gathering-end : (numbers : List ℤ) (at : ℕ) (b : Book) → wholeRows numbers ≡ true → length numbers ≤ at
+    → Gathering numbers at b
+    → Gathers numbers (Whole b)
+unfolding gatheredOf validRows rowsLeft
+gathering-end numbers at b whole h g =
     let none = left-end rowAt rowNumbers numbers at (omega arith) h in
-    let yes : every rowFits (dayRows numbers) ≡ true = sym (g .fit)
-    ∙ ap (λ (ws : List LentRow). every rowFits (map rowOf ws)) none in
+    let valid : every validRow (rowsOf numbers) ≡ true = sym (g .valid) ∙ every-nil validRow none in
+    let all : (not (hasCrossedRow (dayRows numbers)) && every rowFits (dayRows numbers)) ≡ true =
+    sym (taken-splits (dayRows numbers)) ∙ sym (g .taken) ∙ every-nil isTaken (ap (map rowOf) none) in
+    let uncrossed : hasCrossedRow (dayRows numbers) ≡ false =
+    not-true _ (and-left (not (hasCrossedRow (dayRows numbers))) (every rowFits (dayRows numbers)) all) in
+    let fit = and-right (not (hasCrossedRow (dayRows numbers))) (every rowFits (dayRows numbers)) all in
     let same : b ≡ bookOf (map roublesOf (dayRows numbers)) = sym (joined-none b)
     ∙ sym (ap (λ (ws : List LentRow). joined b (map roublesOf (map rowOf ws))) none) ∙ g .book in
     record {
-      is = rw yes (ap Whole same);
-      bounded = λ c q. let e : b ≡ c = cc in rw e at (g .filled .bounded);
+      is = rw (whole, valid, uncrossed, fit) (ap Whole same);
+      bound = record { bounded = λ c q. let e : b ≡ c = cc in rw e at (g .filled .bounded) };
     }

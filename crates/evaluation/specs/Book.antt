@@ -1,19 +1,24 @@
 -- The book that the code keeps of the rows, row by row, and what of it the evaluation asks for. Assumes nothing.
 use mathlib.Core.Path.{_≡_}
+use mathlib.Core.Bool.{Bool, true, false, not, _&&_}
 use mathlib.Core.List.{List, map}
 use Prim.Native.Nat.{ℕ, _+_, _*_, _≤_, max}
 use lib.Dec.{eqb}
+use lib.IntN.{ℤ}
 use Rattle.paper.specs.declared.External.{External}
 use Rattle.paper.specs.declared.Row.{Row}
 use Rattle.paper.specs.declared.Roubles.{Roubles}
 use Rattle.paper.specs.Lists.{pick, every}
 use Rattle.paper.specs.Numbers.{priceMost, volumeMost}
 use Rattle.paper.specs.Roundings.{halfUp}
-use Rattle.paper_desk.specs.Evaluation.{weights, worth, bestBid, lesserAsk, bestAsk, roublesOf, rowFits}
+use Rattle.paper.specs.Ranges.{validRows}
+use Rattle.paper_desk.specs.Evaluation.{weights, worth, bestBid, lesserAsk, bestAsk, roublesOf, dayRows, isCrossedRow, hasCrossedRow, rowFits}
 use Rattle.evaluation.specs.declared.Book.{Book}
 use Rattle.evaluation.specs.declared.PriceFigures.{PriceFigures}
 use Rattle.evaluation.specs.declared.Gathered.{Gathered}
-use Rattle.evaluation.specs.declared.Gathered.the-variants.{Whole, Beyond}
+use Rattle.evaluation.specs.declared.Gathered.the-variants.{OutOfRange, Crossed, Beyond, Whole}
+use Rattle.evaluation.specs.declared.Evaluation.{Evaluation}
+use Rattle.evaluation.specs.Evaluation.{evaluationMade}
 
 -- the book of all rows
 unfoldable pub bookOf : List Roubles → Book
@@ -50,9 +55,37 @@ figuresIn previous used b =
       ask = lesserAsk (b .ask) (used .ask);
     }
 
--- the book, unless 7 refuses a row
-unfoldable pub gatheredOf : List Row → Gathered
-gatheredOf rows = pick (every rowFits rows) (Whole (bookOf (map roublesOf rows))) Beyond
+-- a row that neither 16 nor 7 refuses
+abbrev pub isTaken : Row → Bool
+isTaken row = not (isCrossedRow row) && rowFits row
+
+-- what the rows come to: the first of 6, 16 and 7 that refuses them, else their book
+unfoldable pub gatheredOf : (numbers : List ℤ) → Gathered
+gatheredOf numbers =
+    let rows : List Row = dayRows numbers in
+    pick (validRows numbers)
+    (pick (hasCrossedRow rows) Crossed (pick (every rowFits rows) (Whole (bookOf (map roublesOf rows))) Beyond))
+    OutOfRange
+
+-- whether 6 does not refuse them, and whether 16 does
+abbrev pub isInRange : Gathered → Bool
+isInRange OutOfRange = false
+isInRange Crossed = true
+isInRange Beyond = true
+isInRange (Whole b) = true
+
+abbrev pub isCrossed : Gathered → Bool
+isCrossed OutOfRange = false
+isCrossed Crossed = true
+isCrossed Beyond = false
+isCrossed (Whole b) = false
+
+-- whether none does
+abbrev pub isBook : Gathered → Bool
+isBook OutOfRange = false
+isBook Crossed = false
+isBook Beyond = false
+isBook (Whole b) = true
 
 -- what a book's figures keep to
 pub record Bounded (b : Book) : Type 0 where
@@ -60,6 +93,15 @@ pub record Bounded (b : Book) : Type 0 where
   pub bid : b .bid ≤ priceMost
   pub ask : b .ask ≤ priceMost
 
-pub record Gathers (rows : List Row) (r : Gathered) : Type 0 where
-  pub is : r ≡ gatheredOf rows
+pub record Bound (r : Gathered) : Type 0 where
   pub bounded : (b : Book) → r ≡ Whole b → Bounded b
+
+pub record Gathers (numbers : List ℤ) (r : Gathered) : Type 0 where
+  pub is : r ≡ gatheredOf numbers
+  pub bound : Bound r
+
+-- e is the evaluation of any rows that were gathered so and that neither 6 nor 16 refuses
+abbrev pub EvaluatesTo : ℕ → ℕ → External → Gathered → Evaluation → Type 0
+EvaluatesTo g previous used r e =
+    (numbers : List ℤ) → r ≡ gatheredOf numbers → validRows numbers ≡ true → hasCrossedRow (dayRows numbers) ≡ false
+    → e ≡ evaluationMade g previous used (dayRows numbers)

@@ -1,11 +1,13 @@
 -- What an evaluation (6.1) answers: the paper's figure, or that 7 refuses it. Assumes nothing.
+use mathlib.Core.Bool.{Bool, _&&_}
 use mathlib.Core.List.{List, map}
 use Prim.Native.Nat.{ℕ, _+_, _-_, _*_, _≤_}
+use lib.Dec.{eqb}
 use Rattle.paper.specs.declared.External.{External}
 use Rattle.paper.specs.declared.Row.{Row}
 use Rattle.paper.specs.declared.Roubles.{Roubles}
 use Rattle.paper.specs.Lists.{pick}
-use Rattle.paper.specs.Numbers.{yearInDayBp, priceMost, centralMost}
+use Rattle.paper.specs.Numbers.{rouble, yearInDayBp, priceMost, centralMost}
 use Rattle.paper.specs.Ranges.{isPrice}
 use Rattle.paper_desk.specs.Evaluation.{roublesOf, weights, closeOf, bidOf, askOf, evaluationOf, evaluationFits}
 use Rattle.exact.specs.SignedLaws.{growthMost}
@@ -41,5 +43,27 @@ evaluationFrom units figures =
 -- the ranges of a price times its central rate, and of a year's days with the repo rate of T of them
 pub record Discounts (x days : ℕ) : Type 0 where
   pub product : x ≤ priceMost * centralMost
+  pub low : yearInDayBp - growthMost ≤ days
+  pub high : days ≤ yearInDayBp + growthMost
+
+-- ---- W-214: which way a row is converted. Each way gives the row's figures in roubles as document 01 defines them
+
+-- the days of a year: 3,650,000/10^4
+abbrev pub yearDays : ℕ
+yearDays = 365
+
+-- a row in roubles today, whose numbers (a) and (b) leave as they are
+abbrev pub isRoubleToday : Row → Bool
+isRoubleToday row = eqb (row .central) rouble && eqb (row .t) 0
+
+-- the greatest central rate with which a price is converted by one quotient
+abbrev pub onceCentralMost : ℕ
+onceCentralMost = 5000000
+
+-- the ranges of a price, of 365 times its central rate, and of a year's days with the repo rate of T of them, so that
+-- the first two multiplied, with half of the third, fit 64 bits
+pub record Once (p f days : ℕ) : Type 0 where
+  pub price : p ≤ priceMost
+  pub factor : f ≤ onceCentralMost * yearDays
   pub low : yearInDayBp - growthMost ≤ days
   pub high : days ≤ yearInDayBp + growthMost

@@ -2,15 +2,15 @@
 // prices. The prices of the rows, and what is made of them before 7 has judged it, are bare numbers of units: 0 is
 // missing there, and a figure may be beyond a price's range.
 ghost use mathlib.Core.Path.{_≡_};
-ghost use mathlib.Core.Bool.{true};
+ghost use mathlib.Core.Bool.{true, false};
 ghost use Prim.Native.Nat.{_*_, _≤_};
+ghost use Rattle.paper.specs.Lists.{every};
 ghost use Rattle.paper.specs.Numbers.{oneInHundredths, rouble, yearInDayBp, priceMost};
-ghost use Rattle.paper.specs.Roundings.{halfUp, toGrid};
-ghost use Rattle.paper.specs.Ranges.{validRows};
-ghost use Rattle.paper_desk.specs.Evaluation.{rowPrice, roublesOf, lesserAsk, median, between, dayRows, rowFits};
+ghost use Rattle.paper.specs.Roundings.{halfUp, toGrid, grown};
+ghost use Rattle.paper_desk.specs.Evaluation.{rowPrice, roublesOf, lesserAsk, median, between, dayRows, isCrossedRow, rowFits};
 ghost use Rattle.rows.specs.RowLaws.{InRange};
-ghost use Rattle.evaluation.specs.Evaluation.{Discounts, evaluationFrom, evaluationMade};
-ghost use Rattle.evaluation.specs.Book.{Room, added, closeIn, Gathers};
+ghost use Rattle.evaluation.specs.Evaluation.{Discounts, Once, isRoubleToday, onceCentralMost, evaluationFrom};
+ghost use Rattle.evaluation.specs.Book.{Room, added, closeIn, isTaken, Bound, Gathers, isInRange, isCrossed, EvaluatesTo};
 use inputs::is_price;
 use paper::External;
 use paper::MadePrice;
@@ -24,18 +24,24 @@ const YEAR_DAYS: u64 = YEAR_IN_DAY_BP / Row::ROUBLE;
 // The greatest number of which 365 times fits 64 bits.
 const NARROW_MOST: u64 = u64::MAX / YEAR_DAYS;
 
+// The greatest central rate of a row whose prices are converted by one quotient each (W-214), as a round number: a price
+// of 10^10 times 365 times it, with half of a year's days, fits 64 bits.
+const ONCE_CENTRAL_MOST: u64 = 5_000_000;
+
 // What the rows come to: their weights, their closes times their weights, the greatest bid and the least ask.
-struct Book {
+pub struct Book {
     weight: u64,
     worth: u64,
     bid: u64,
     ask: u64,
 }
 
-// The book of all rows, or that a row's rounded price or volume is beyond its range.
-enum Gathered {
-    Whole(Book),
+// What one walk over the rows gives (W-214): the first of 6, 16 and 7 that refuses them, else their book.
+pub enum Gathered {
+    OutOfRange,
+    Crossed,
     Beyond,
+    Whole(Book),
 }
 
 // The figures that a price is chosen from: the weights of the rows together, the close, and BID and ASK with the
@@ -72,6 +78,14 @@ fn discounted(x: u64, days: u64) -> u64
     }
 }
 
+// A year's days with the repo rate of the row's T of them: the divisor of place (a).
+fn days_of(row: Row) -> u64
+    requires { ⌜ InRange row ⌝ }
+    ensures { λ r. ⌜ r ≡ grown yearInDayBp (row .t) (row .repo) ⌝ }
+{
+    exact::grow(YEAR_IN_DAY_BP, row.t, row.repo)
+}
+
 // A price of a row in roubles today: place (a). A missing price, 0, stays missing.
 fn row_price(row: Row, price: u64) -> u64
     requires { ⌜ InRange row ⌝ }
@@ -81,14 +95,11 @@ fn row_price(row: Row, price: u64) -> u64
     if price == 0 {
         return 0;
     }
-    discounted(
-        price * row.central,
-        exact::grow(YEAR_IN_DAY_BP, row.t, row.repo),
-    )
+    discounted(price * row.central, days_of(row))
 }
 
-// A row after places (a) and (b).
-fn in_roubles(row: Row) -> Roubles
+// A row after places (a) and (b), the plain way: each figure as the paper has it, for every row in range.
+fn plainly(row: Row) -> Roubles
     requires { ⌜ InRange row ⌝ }
     ensures { λ r. ⌜ r ≡ roublesOf row ⌝ }
 {
@@ -100,11 +111,83 @@ fn in_roubles(row: Row) -> Roubles
     }
 }
 
-// Whether no rounded figure of a row is refused 7.
+// Whether a row is in roubles today (W-214): half of real rows are.
+fn is_rouble_today(row: Row) -> bool
+    ensures { λ b. ⌜ b ≡ isRoubleToday row ⌝ }
+{
+    (row.central == Row::ROUBLE) & (row.t == 0)
+}
+
+// Such a row after places (a) and (b): its numbers stay as they are.
+fn as_given(row: Row) -> Roubles
+    requires { ⌜ isRoubleToday row ≡ true ⌝ }
+    ensures { λ r. ⌜ r ≡ roublesOf row ⌝ }
+{
+    Roubles {
+        weight: row.volume,
+        close: row.close,
+        bid: row.bid,
+        ask: row.ask,
+    }
+}
+
+// A price of a row by one quotient (W-214), where factor is 365 times the central rate. No price is tested for being
+// there: half of the days is below the days, so that 0 stays 0.
+fn once(price: u64, factor: u64, days: u64) -> u64
+    requires { ⌜ Once price factor days ⌝ }
+    ensures { λ r. ⌜ r ≡ halfUp (price * factor) days ⌝ }
+{
+    exact::half_up_once(price * factor, days)
+}
+
+// A row after places (a) and (b), by one quotient a figure: one test of the central rate serves all of them.
+fn by_one_quotient(row: Row) -> Roubles
+    requires { ⌜ InRange row ⌝ }
+    requires { ⌜ row .central ≤ onceCentralMost ⌝ }
+    ensures { λ r. ⌜ r ≡ roublesOf row ⌝ }
+{
+    let factor = row.central * YEAR_DAYS;
+    let days = days_of(row);
+    Roubles {
+        weight: exact::half_up_once(row.volume * row.central, Row::ROUBLE),
+        close: once(row.close, factor, days),
+        bid: once(row.bid, factor, days),
+        ask: once(row.ask, factor, days),
+    }
+}
+
+// A row after places (a) and (b), by the quickest way that its central rate and its day allow (W-214).
+fn in_roubles(row: Row) -> Roubles
+    requires { ⌜ InRange row ⌝ }
+    ensures { λ r. ⌜ r ≡ roublesOf row ⌝ }
+{
+    if is_rouble_today(row) {
+        return as_given(row);
+    }
+    if row.central <= ONCE_CENTRAL_MOST {
+        return by_one_quotient(row);
+    }
+    // The row is handed on as a value of its own, so that the ways above need it in no memory.
+    plainly(Row {
+        t: row.t,
+        central: row.central,
+        repo: row.repo,
+        close: row.close,
+        bid: row.bid,
+        ask: row.ask,
+        volume: row.volume,
+    })
+}
+
+// Whether no rounded figure of a row is refused 7. Those of a row in roubles today are in range already.
 fn row_fits(row: Row, r: Roubles) -> bool
+    requires { ⌜ InRange row ⌝ }
     requires { ⌜ r ≡ roublesOf row ⌝ }
     ensures { λ b. ⌜ b ≡ rowFits row ⌝ }
 {
+    if is_rouble_today(row) {
+        return true;
+    }
     ((row.close == 0) | is_price(r.close))
         & ((row.bid == 0) | is_price(r.bid))
         & ((row.ask == 0) | is_price(r.ask))
@@ -116,7 +199,7 @@ pub fn fits(row: Row) -> bool
     requires { ⌜ InRange row ⌝ }
     ensures { λ b. ⌜ b ≡ rowFits row ⌝ }
 {
-    let r = in_roubles(row);
+    let r = plainly(row);
     row_fits(row, r)
 }
 
@@ -146,11 +229,44 @@ fn add(book: Book, r: Roubles) -> Book
     }
 }
 
-// The rows' book, unless a row's figure is beyond its range.
-fn gather(rows: &[i64]) -> Gathered
-    requires { ⌜ validRows (now rows) ≡ true ⌝ }
-    ensures { λ r. ⌜ Gathers (dayRows (now (rows .entry))) r ⌝ }
+// W-205: "a row whose bid and ask are both present and the bid is above the ask".
+fn is_crossed_row(row: Row) -> bool
+    ensures { λ b. ⌜ b ≡ isCrossedRow row ⌝ }
 {
+    (0 < row.bid) & (0 < row.ask) & (row.ask < row.bid)
+}
+
+// Whether neither 16 nor 7 refuses a row.
+fn row_taken(row: Row, r: Roubles) -> bool
+    requires { ⌜ InRange row ⌝ }
+    requires { ⌜ r ≡ roublesOf row ⌝ }
+    ensures { λ b. ⌜ b ≡ isTaken row ⌝ }
+{
+    !is_crossed_row(row) & row_fits(row, r)
+}
+
+// What refuses rows of which one is not taken. It is rare, and rows behind that one may still be out of range or
+// crossed, so all of them are judged, in the order of 6, 16 and 7.
+fn refused(rows: &[i64]) -> Gathered
+    requires { ⌜ every isTaken (dayRows (now rows)) ≡ false ⌝ }
+    ensures { λ r. ⌜ Gathers (now (rows .entry)) r ⌝ }
+{
+    if !rows::rows_valid(rows) {
+        return Gathered::OutOfRange;
+    }
+    if rows::has_crossed_row(rows) {
+        return Gathered::Crossed;
+    }
+    Gathered::Beyond
+}
+
+// The rows judged, converted and weighed in one walk.
+pub fn gather(rows: &[i64]) -> Gathered
+    ensures { λ r. ⌜ Gathers (now (rows .entry)) r ⌝ }
+{
+    if !rows::whole_rows(rows) {
+        return Gathered::OutOfRange;
+    }
     let mut book = Book {
         weight: 0,
         worth: 0,
@@ -159,15 +275,42 @@ fn gather(rows: &[i64]) -> Gathered
     };
     let mut at = 0;
     while at < rows.len() {
+        if !rows::row_valid(rows, at) {
+            return Gathered::OutOfRange;
+        }
         let row = rows::row_at(rows, at);
         let r = in_roubles(row);
-        if !row_fits(row, r) {
-            return Gathered::Beyond;
+        if !row_taken(row, r) {
+            return refused(rows);
         }
         book = add(book, r);
         at += Row::NUMBERS;
     }
     Gathered::Whole(book)
+}
+
+// Whether 6 does not refuse the rows.
+pub fn in_range(gathered: Gathered) -> bool
+    ensures { λ b. ⌜ b ≡ isInRange gathered ⌝ }
+{
+    match gathered {
+        Gathered::OutOfRange => false,
+        Gathered::Crossed => true,
+        Gathered::Beyond => true,
+        Gathered::Whole(_) => true,
+    }
+}
+
+// Whether 16 refuses rows that 6 does not.
+pub fn is_crossed(gathered: Gathered) -> bool
+    ensures { λ b. ⌜ b ≡ isCrossed gathered ⌝ }
+{
+    match gathered {
+        Gathered::OutOfRange => false,
+        Gathered::Crossed => true,
+        Gathered::Beyond => false,
+        Gathered::Whole(_) => false,
+    }
 }
 
 // The weighted close, place (c), or with no weight the previous evaluation.
@@ -218,17 +361,16 @@ fn on_grid(g: u64, p: u64, figures: PriceFigures) -> Evaluation
     }
 }
 
-// The evaluation of rows that are in range. `used` is the outside pair that counts (W-211): "BID is the greater of the
-// book's and the outside one, ASK the lesser (6.1); a missing side leaves the book's."
-pub fn evaluate(rows: &[i64], previous: Price, used: External, g: u64) -> Evaluation
-    requires { ⌜ validRows (now rows) ≡ true ⌝ }
+// The evaluation of rows as they were gathered, where neither 6 nor 16 refuses them. `used` is the outside pair that
+// counts (W-211): "BID is the greater of the book's and the outside one, ASK the lesser (6.1); a missing side leaves the
+// book's."
+pub fn evaluate(gathered: Gathered, previous: Price, used: External, g: u64) -> Evaluation
+    requires { ⌜ Bound gathered ⌝ }
     requires { ⌜ (previous .units ≤ priceMost) × (1 ≤ g) × (g ≤ oneInHundredths) ⌝ }
     requires { ⌜ (used .bid ≤ priceMost) × (used .ask ≤ priceMost) ⌝ }
-    ensures { λ r. ⌜ r ≡ evaluationMade g (previous .units) used (dayRows (now (rows .entry))) ⌝ }
+    ensures { λ r. ⌜ EvaluatesTo g (previous .units) used gathered r ⌝ }
 {
-    let gathered = gather(rows);
     match gathered {
-        Gathered::Beyond => Evaluation::Beyond,
         Gathered::Whole(book) => {
             let close = close_of(book, previous);
             let bid = exact::greater(book.bid, used.bid);
@@ -241,5 +383,8 @@ pub fn evaluate(rows: &[i64], previous: Price, used: External, g: u64) -> Evalua
             };
             on_grid(g, between(bid, close, ask), figures)
         }
+        Gathered::OutOfRange => Evaluation::Beyond,
+        Gathered::Crossed => Evaluation::Beyond,
+        Gathered::Beyond => Evaluation::Beyond,
     }
 }

@@ -1,5 +1,5 @@
--- How the code rounds: by the remainder, which takes the quotient to the next whole number or leaves it. One law each
--- over the way. Assumes nothing.
+-- How the code rounds: by the remainder, which takes the quotient to the next whole number or leaves it, one law each
+-- over the way; and half up by one quotient alone. Assumes nothing.
 use mathlib.Core.Path.{_≡_, refl}
 use mathlib.Core.Bool.{Bool, true, false}
 use Prim.Native.Nat.{ℕ, _+_, _-_, _*_, _/_, _%_, _≤_, _<_}
@@ -9,9 +9,9 @@ use lib.Dec.{leb, ltb}
 use borrow.Author.Tests.{leb-true, leb-false, ltb-true, ltb-false}
 use Rattle.paper.specs.declared.Way.{Way}
 use Rattle.paper.specs.declared.Way.the-variants.{Down, HalfUp, Up}
-use Rattle.paper.specs.Roundings.{Quotient, rounded, Rounded}
+use Rattle.paper.specs.Roundings.{Quotient, halfUp, rounded, Rounded}
 use Rattle.paper.proofs.Logic.{not-true-and-false}
-use Rattle.paper.proofs.Roundings.{rounded-is, rounded-unique}
+use Rattle.paper.proofs.Roundings.{quotient-low, quotient-high, half-unique, rounded-is, rounded-unique}
 
 -- whether n/d goes on to the next whole number, of the remainder n % d
 abbrev pub goesUp : Way → (rest d : ℕ) → Bool
@@ -70,3 +70,11 @@ rounded-stays way n d h e = one-rounding way n d (n / d) h (stays way e)
           not-above = omega (arith, div-add-mod' n d);
           not-below = omega (arith, div-add-mod' n d, ltb-false 0 (n % d) e);
         }
+
+-- half up by one quotient: half of d, rounded down, is added to n first. Where d is odd there is no tie, and what the
+-- rounding of the half takes away decides nothing
+pub one-quotient-is-half-up : (n d : ℕ) → 0 < d → (n + d / 2) / d ≡ halfUp n d
+one-quotient-is-half-up n d h =
+    half-unique n d ((n + d / 2) / d) h
+    (omega (arith, quotient-low (n + d / 2) d h))
+    (omega (arith, quotient-high (n + d / 2) d h))

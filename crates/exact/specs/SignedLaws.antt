@@ -7,8 +7,8 @@ use native.Mathlib.Nat.{mul-le-mul, le-trans}
 use native.Mathlib.Omega.{arith}
 use lib.Dec.{leb}
 use lib.IntN.{ℤ, pos, negsuc}
-use lib.Signed.{mag, leZ}
-use borrow.Author.Tests.{leb-true, le-leb}
+use lib.Signed.{mag, leZ, ltZ}
+use borrow.Author.Tests.{leb-true, le-leb, le-ltb}
 use Rattle.paper.specs.Numbers.{oneInBp, termDaysMost, repoLeast, repoMost, pastEvery}
 use Rattle.paper.specs.Ranges.{withinZ, unsigned}
 use Rattle.paper.specs.Roundings.{grown}
@@ -34,6 +34,11 @@ pub unsigned-le : (low most : ℕ) (x : ℤ) → most < pastEvery → withinZ (p
 unsigned-le low most x h e =
     leb-true (unsigned x) most
     (and-right (leb low (unsigned x)) (leb (unsigned x) most) (unsigned-within low most x h ∙ e))
+
+-- and is not below zero
+pub within-not-below-zero : (low : ℕ) (high x : ℤ) → withinZ (pos low) high x ≡ true → ltZ x (pos 0) ≡ false
+within-not-below-zero low high (pos n) e = le-ltb n 0 (omega arith)
+within-not-below-zero low high (negsuc n) e = absurd (not-true-and-false false e refl)
 
 -- ---- base + k·rate
 

@@ -3,10 +3,11 @@
 // callers can have.
 use paper::Way;
 ghost use mathlib.Core.Path.{_≡_};
+ghost use mathlib.Core.Bool.{false};
 ghost use Prim.Native.Nat.{_+_, _-_, _*_, _/_, _%_, _^_, _≤_, _<_, min, max};
 ghost use lib.IntN.{pos};
 ghost use lib.ListN.{length, getD};
-ghost use lib.Signed.{mag};
+ghost use lib.Signed.{mag, ltZ};
 ghost use Rattle.paper.specs.Numbers.{oneInTenThousandths};
 ghost use Rattle.paper.specs.Roundings.{up, halfUp, rounded, roundedTo, toGrid, grown, apart};
 ghost use Rattle.paper.specs.Least.{leastRoot};
@@ -53,6 +54,15 @@ pub fn half_up(n: u64, d: u64) -> u64
     ensures { λ r. ⌜ r ≡ halfUp n d ⌝ }
 {
     rounded(Way::HalfUp, n, d)
+}
+
+// The same by one quotient and no remainder, where half of d can be added to n (W-214). Of an odd d the half is rounded
+// down, and nothing is lost: an odd d has no tie.
+pub fn half_up_once(n: u64, d: u64) -> u64
+    requires { ⌜ (0 < d) × (n + d / 2 < 2 ^ 64) ⌝ }
+    ensures { λ r. ⌜ r ≡ halfUp n d ⌝ }
+{
+    (n + d / 2) / d
 }
 
 // n/d rounded that way to a multiple of g, as at place (g).
@@ -212,6 +222,15 @@ pub fn unsigned_at(numbers: &[i64], i: usize) -> u64
     ensures { λ r. ⌜ r ≡ unsigned (getD (now (numbers .entry)) i (pos 0)) ⌝ }
 {
     unsigned(numbers[i])
+}
+
+// The number at i, which is not below zero and so is read as it is (W-214).
+pub fn natural_at(numbers: &[i64], i: usize) -> u64
+    requires { ⌜ i < length (now numbers) ⌝ }
+    requires { ⌜ ltZ (getD (now numbers) i (pos 0)) (pos 0) ≡ false ⌝ }
+    ensures { λ r. ⌜ r ≡ unsigned (getD (now (numbers .entry)) i (pos 0)) ⌝ }
+{
+    numbers[i] as u64
 }
 
 // Whether the number at i is from low to high.

@@ -12,14 +12,17 @@ use Rattle.paper.specs.declared.Record.{Record}
 use Rattle.paper.specs.Lists.{pick, every}
 use Rattle.paper.specs.Numbers.{priceMost}
 use Rattle.paper.specs.Ranges.{isPrice, isGridPrice, validDay, validRows, sound, validDayNumbers, noExternal}
-use Rattle.paper_desk.specs.Evaluation.{evaluationOf, rowFits, evaluationFits, usedPair}
+use Rattle.paper_desk.specs.Evaluation.{evaluationOf, dayRows, hasCrossedRow, rowFits, evaluationFits, usedPair}
 use Rattle.paper_desk.specs.Desk.{usedBy}
 use Rattle.paper.proofs.Logic.{and-left, and-right}
 use Rattle.inputs.proofs.Tests.{day-in-parts}
 use Rattle.record_soundness.proofs.Facts.{sound-facts}
+use Rattle.evaluation.specs.declared.Gathered.{Gathered}
 use Rattle.evaluation.specs.declared.Priced.{Priced}
 use Rattle.evaluation.specs.declared.Evaluation.the-variants.{Evaluated, Beyond}
 use Rattle.evaluation.specs.Evaluation.{pricedOf, evaluationMade}
+use Rattle.evaluation.specs.Book.{gatheredOf, isInRange, isCrossed}
+use Rattle.evaluation.specs.EvaluationLaws.{in-range-is, crossed-is}
 
 pub sound-prices-valid : (r : Record) → sound r ≡ true → (isPrice (r .p1 .units) ≡ true)
     × (isPrice (r .p2 .units) ≡ true)
@@ -31,6 +34,15 @@ pub day-valid-parts : (d : Day) (rows : List ℤ) → validDay d rows ≡ true
 day-valid-parts d rows v =
     let both = sym (day-in-parts d rows) ∙ v in
     (and-left (validDayNumbers d) (validRows rows) both, and-right (validDayNumbers d) (validRows rows) both)
+
+-- what was gathered says what 6 and 16 ask of the rows (W-214)
+pub day-gathered : (d : Day) (rows : List ℤ) (r : Gathered) → r ≡ gatheredOf rows
+    → (validDayNumbers d && isInRange r) ≡ validDay d rows
+day-gathered d rows r e = rw (e, in-range-is rows) (sym (day-in-parts d rows))
+
+pub crossed-gathered : (rows : List ℤ) (r : Gathered) → r ≡ gatheredOf rows → validRows rows ≡ true
+    → isCrossed r ≡ hasCrossedRow (dayRows rows)
+crossed-gathered rows r e v = rw e (crossed-is rows v)
 
 -- the outside prices that count are prices, or none
 pub used-prices-within-most : (r : Record) → sound r ≡ true → (usedBy r .bid ≤ priceMost) × (usedBy r .ask ≤ priceMost)

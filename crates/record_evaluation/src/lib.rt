@@ -1,15 +1,17 @@
 // The rule of an evaluation, by value: the slot found, the day and its rows in, a turn out. It judges the refusals in
 // the paper's order.
 ghost use mathlib.Core.Path.{_≡_};
-ghost use mathlib.Core.Bool.{true, not};
+ghost use mathlib.Core.Bool.{true, not, _&&_};
 ghost use lib.ListN.{getD};
 ghost use Rattle.paper.specs.Lists.{allThree};
-ghost use Rattle.paper.specs.Ranges.{isPrice, validDay, noLimits, sound, validDayNumbers};
+ghost use Rattle.paper.specs.Ranges.{isPrice, noLimits, sound, validDayNumbers};
 ghost use Rattle.paper_desk.specs.Limits.{crossed};
 ghost use Rattle.paper_desk.specs.Desk.{usedBy};
+ghost use Rattle.evaluation.specs.Book.{isInRange};
 ghost use Rattle.record_answers.specs.Effects.{evaluateEffect};
 ghost use Rattle.record_evaluation.specs.Workings.{unmadeBy, workedOf, Prices};
 use evaluation::Evaluation;
+use evaluation::Gathered;
 use evaluation::PriceFigures;
 use evaluation::Priced;
 use paper::Day;
@@ -20,11 +22,11 @@ use paper::Verdict;
 use record_answers::Effect;
 use record_answers::Slot;
 
-// 6 of a day: its numbers and its rows.
-fn valid_day(d: Day, rows: &[i64]) -> bool
-    ensures { λ t. ⌜ t ≡ validDay d (now (rows .entry)) ⌝ }
+// 6 of a day: its numbers, and its rows as they were gathered.
+fn valid_day(d: Day, gathered: Gathered) -> bool
+    ensures { λ t. ⌜ t ≡ (validDayNumbers d && isInRange gathered) ⌝ }
 {
-    inputs::valid_day_numbers(d) & rows::rows_valid(rows)
+    inputs::valid_day_numbers(d) & evaluation::in_range(gathered)
 }
 
 // W-211: the outside prices that count in an evaluation, none where UseEXTERNAL is no.
@@ -106,7 +108,8 @@ fn worked_at(s: Slot, d: Day, e: Priced) -> Working
     }
 }
 
-// "evaluate 1, 6, 5, 7, 8, 9"; W-205: "16, after 6 and before 5".
+// "evaluate 1, 6, 5, 7, 8, 9"; W-205: "16, after 6 and before 5". One walk over the rows says what 6, 16 and 7 ask of
+// them (W-214).
 pub fn worked(s: Slot, d: Day, rows: &[i64]) -> Working
     ensures { λ w. ⌜ w ≡ workedOf s d (now (rows .entry)) ⌝ }
 {
@@ -115,10 +118,11 @@ pub fn worked(s: Slot, d: Day, rows: &[i64]) -> Working
     if !record_answers::is_known(s) {
         return unmade(Verdict::NoSuchId);
     }
-    if !valid_day(d, rows) {
+    let gathered = evaluation::gather(rows);
+    if !valid_day(d, gathered) {
         return unmade(Verdict::OutOfRange);
     }
-    if rows::has_crossed_row(rows) {
+    if evaluation::is_crossed(gathered) {
         return unmade(Verdict::RowCrossed);
     }
     if d.day <= record_soundness::last_day(standing) {
@@ -127,7 +131,7 @@ pub fn worked(s: Slot, d: Day, rows: &[i64]) -> Working
     let g = inputs::grid_of(r.statics.lot);
     let previous = r.p1;
     let used = used_by(r);
-    let evaluation = evaluation::evaluate(rows, previous, used, g);
+    let evaluation = evaluation::evaluate(gathered, previous, used, g);
     match evaluation {
         Evaluation::Beyond => unmade(Verdict::PriceOutOfRange),
         Evaluation::Evaluated(e) => worked_at(s, d, e),

@@ -1,13 +1,13 @@
 -- Laws of the day's rows: those from a place on, and what a row in range gives. Assumes nothing.
 use mathlib.Core.Path.{_≡_}
-use mathlib.Core.Bool.{true}
+use mathlib.Core.Bool.{true, false}
 use mathlib.Core.List.{List}
 use Prim.Native.Nat.{ℕ, _%_, _≤_}
 use native.Mathlib.Omega.{arith}
 use lib.Dec.{leb, eqb}
-use lib.IntN.{ℤ}
+use lib.IntN.{ℤ, pos}
 use lib.ListN.{length}
-use lib.Signed.{mag}
+use lib.Signed.{mag, ltZ}
 use borrow.Author.Tests.{leb-true, eqb-true}
 use Rattle.paper.specs.declared.Row.{Row}
 use Rattle.paper.specs.Lists.{every}
@@ -15,7 +15,7 @@ use Rattle.paper.specs.Numbers.{rowNumbers, allNumbersMost, rowTermMost, centra
 use Rattle.paper.specs.Ranges.{LentRow, rowAt, rowsOf, wholeRows, validRows, validRow, rowOf}
 use Rattle.paper.proofs.Logic.{and-left, and-right}
 use Rattle.exact.specs.LentLaws.{partsLeft, left-first}
-use Rattle.exact.specs.SignedLaws.{unsigned-le, repo-le}
+use Rattle.exact.specs.SignedLaws.{unsigned-le, within-not-below-zero, repo-le}
 
 -- ---- the rows from a place on
 
@@ -70,4 +70,25 @@ in-range row e =
       bid = unsigned-le 0 priceMost (row .bid) (omega arith) (search (e, and-left, and-right) depth 40);
       ask = unsigned-le 0 priceMost (row .ask) (omega arith) (search (e, and-left, and-right) depth 40);
       volume = unsigned-le 0 volumeMost (row .volume) (omega arith) (search (e, and-left, and-right) depth 40);
+    }
+
+-- none of its numbers but the repo rate is below zero
+pub record Natural (row : LentRow) : Type 0 where
+  pub t : ltZ (row .t) (pos 0) ≡ false
+  pub central : ltZ (row .central) (pos 0) ≡ false
+  pub close : ltZ (row .close) (pos 0) ≡ false
+  pub bid : ltZ (row .bid) (pos 0) ≡ false
+  pub ask : ltZ (row .ask) (pos 0) ≡ false
+  pub volume : ltZ (row .volume) (pos 0) ≡ false
+
+pub valid-not-below-zero : (row : LentRow) → validRow row ≡ true → Natural row
+unfolding validRow
+valid-not-below-zero row e =
+    record {
+      t = within-not-below-zero 0 (pos rowTermMost) (row .t) (search (e, and-left, and-right) depth 40);
+      central = within-not-below-zero 1 (pos centralMost) (row .central) (search (e, and-left, and-right) depth 40);
+      close = within-not-below-zero 0 (pos priceMost) (row .close) (search (e, and-left, and-right) depth 40);
+      bid = within-not-below-zero 0 (pos priceMost) (row .bid) (search (e, and-left, and-right) depth 40);
+      ask = within-not-below-zero 0 (pos priceMost) (row .ask) (search (e, and-left, and-right) depth 40);
+      volume = within-not-below-zero 0 (pos volumeMost) (row .volume) (search (e, and-left, and-right) depth 40);
     }

@@ -1,5 +1,6 @@
 // The day's rows (document 01, "Units and ranges"): seven signed numbers each, lent in one slice, checked and read.
 ghost use mathlib.Core.Path.{_≡_};
+ghost use mathlib.Core.Bool.{true};
 ghost use Prim.Native.Nat.{_+_, _%_, _≤_, _<_};
 ghost use lib.ListN.{length, getD};
 ghost use lib.IntN.{pos};
@@ -48,19 +49,21 @@ pub fn row_valid(rows: &[i64], at: usize) -> bool
         & close_for_volume(rows, at + 6, at + 3)
 }
 
-// The row that begins at a place. Its numbers are the paper's where the row is in range.
+// The row that begins at a place and is in range: no number of it but the repo rate is below zero, so each is read as
+// it is (W-214).
 pub fn row_at(rows: &[i64], at: usize) -> Row
     requires { ⌜ at + rowNumbers ≤ length (now rows) ⌝ }
+    requires { ⌜ validRow (rowAt (now rows) at) ≡ true ⌝ }
     ensures { λ r. ⌜ r ≡ rowOf (rowAt (now (rows .entry)) at) ⌝ }
 {
     Row {
-        t: exact::unsigned_at(rows, at),
-        central: exact::unsigned_at(rows, at + 1),
+        t: exact::natural_at(rows, at),
+        central: exact::natural_at(rows, at + 1),
         repo: rows[at + 2],
-        close: exact::unsigned_at(rows, at + 3),
-        bid: exact::unsigned_at(rows, at + 4),
-        ask: exact::unsigned_at(rows, at + 5),
-        volume: exact::unsigned_at(rows, at + 6),
+        close: exact::natural_at(rows, at + 3),
+        bid: exact::natural_at(rows, at + 4),
+        ask: exact::natural_at(rows, at + 5),
+        volume: exact::natural_at(rows, at + 6),
     }
 }
 

@@ -1,9 +1,17 @@
--- `evaluation::row_fits` meets its contract: its tests are the paper's, of the row's figures in roubles. Assumes
--- nothing.
+-- `evaluation::row_fits` meets its contract: a row in roubles today fits, and of any other the tests are the paper's, of
+-- the row's figures in roubles. Assumes nothing.
+use mathlib.Core.Path.{sym, _∙_}
 use borrow.Author.Needs.{needs}
 use Rattle.paper_desk.specs.Evaluation.{roublesOf, rowFits}
+use Rattle.evaluation.proofs.Prices.{today-fits}
 use Rattle.evaluation.proofs.row_fits.Statement.{statement}
 use Rattle.evaluation.proofs.row_fits.Tie as tie
+
+is-rouble-today-requires : tie.Need-is-rouble-today-requires
+is-rouble-today-requires c κs = search needs
+
+returns : tie.Need-returns
+returns c = today-fits _ (sym (c .before .is-rouble-today .ensures) ∙ c .if1 .taken) (c .before .before .pre .0)
 
 is-price-requires : tie.Need-is-price-requires
 is-price-requires c κs = search needs
@@ -14,17 +22,24 @@ is-price-requires-2 c κs = search needs
 is-price-requires-3 : tie.Need-is-price-requires-3
 is-price-requires-3 c κs = search needs
 
-returns : tie.Need-returns
+returns-2 : tie.Need-returns-2
 unfolding rowFits roublesOf
-returns c =
-    let s = c .before .before .before .before .before .before .before in
+returns-2 c =
+    let s = c .before .before .before .before .before .before .before .before .before in
     rw (
       c .before .is-price3 .ensures,
       c .before .before .before .is-price2 .ensures,
       c .before .before .before .before .before .is-price .ensures,
-      s .pre,
+      s .pre .1,
     )
 
 pub row-fits-spec : {M : Type 1} → statement M
 row-fits-spec =
-    tie.close (tie.spec is-price-requires is-price-requires-2 is-price-requires-3 returns)
+    tie.close
+    (tie.spec
+    is-rouble-today-requires
+    returns
+    is-price-requires
+    is-price-requires-2
+    is-price-requires-3
+    returns-2)

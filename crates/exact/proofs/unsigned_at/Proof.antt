@@ -1,4 +1,4 @@
--- `natural_at` meets its contract: it is `natural` of the number at i as its bits are read back. Assumes nothing.
+-- `unsigned_at` meets its contract: it is `unsigned` of the number at i as its bits are read back. Assumes nothing.
 use mir.Syntax.{w64}
 use mir.Facts.{toZ-ofZ}
 use borrow.Author.Needs.{needs}

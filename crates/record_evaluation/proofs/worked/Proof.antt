@@ -6,16 +6,15 @@ use lib.Dec.{leb}
 use borrow.Author.Tests.{le-leb, lt-leb}
 use Rattle.paper_desk.proofs.LimitSizes.{grid-range}
 use Rattle.paper.specs.Ranges.{gridOf, lastDay, validDay}
-use Rattle.paper_desk.specs.Evaluation.{dayRows}
+use Rattle.paper_desk.specs.Evaluation.{dayRows, hasCrossedRow}
 use Rattle.paper_desk.specs.Desk.{usedBy}
 use Rattle.record_soundness.proofs.Facts.{sound-facts}
-use Rattle.rows.specs.RowLaws.{valid-sevens, valid-whole}
 use Rattle.evaluation.specs.Evaluation.{evaluationMade}
 use Rattle.record_answers.specs.Effects.{isKnown}
 use Rattle.record_evaluation.specs.Workings.{Begun}
 use Rattle.record_answers.proofs.Tests.{passed, failed, known-sound}
 use Rattle.record_evaluation.proofs.Judging.{day-unknown, day-out, day-row-crossed, day-not-after, day-beyond}
-use Rattle.record_evaluation.proofs.Evaluations.{day-valid-parts, used-prices-within-most, beyond-does-not-fit, Made, made}
+use Rattle.record_evaluation.proofs.Evaluations.{day-valid-parts, day-gathered, crossed-gathered, used-prices-within-most, beyond-does-not-fit, Made, made}
 use borrow.Author.Needs.{needs}
 use Rattle.record_evaluation.proofs.worked.Statement.{statement}
 use Rattle.record_evaluation.proofs.worked.Tie as tie
@@ -23,38 +22,58 @@ use Rattle.record_evaluation.proofs.worked.Tie as tie
 known : (c : tie.Else1) → isKnown (c .before .before .before .args .s) ≡ true
 known c = passed _ (c .before .is-known .ensures) (c .if1 .left)
 
-valid : (c : tie.Else2) → validDay (c .before .before .before .before .before .args .d)
-    (c .before .before .before .before .before .args .rows .now) ≡ true
-valid c = passed _ (c .before .valid-day .ensures) (c .if2 .left)
+-- 6, of what was gathered
+day : (c : tie.After-valid-day)
+    → let a = c .before .before .before .before .before .args in
+    c .valid-day .result ≡ validDay (a .d) (a .rows .now)
+day c = c .valid-day .ensures ∙ day-gathered _ _ _ (c .before .gather .ensures .is)
+
+valid : (c : tie.Else2)
+    → let a = c .before .before .before .before .before .before .args in
+    validDay (a .d) (a .rows .now) ≡ true
+valid c = passed _ (day (c .before)) (c .if2 .left)
+
+-- 16, of what was gathered
+crossed : (c : tie.After-is-crossed)
+    → let a = c .before .before .before .before .before .before .before .args in
+    c .is-crossed .result ≡ hasCrossedRow (dayRows (a .rows .now))
+crossed c =
+    c .is-crossed .ensures
+    ∙ crossed-gathered _ _ (c .before .before .before .gather .ensures .is) (day-valid-parts _ _ (valid (c .before)) .1)
 
 begun : (c : tie.Else3)
-    → let a = c .before .before .before .before .before .before .before .args in
+    → let a = c .before .before .before .before .before .before .before .before .args in
     Begun (a .s) (a .d) (a .rows .now)
 begun c =
     record {
-      known = known (c .before .before .before .before);
+      known = known (c .before .before .before .before .before);
       valid = valid (c .before .before);
-      uncrossed = sym (c .before .has-crossed-row .ensures) ∙ c .if3 .left;
+      uncrossed = sym (crossed (c .before)) ∙ c .if3 .left;
     }
 
 after : (c : tie.Else4)
-    → let a = c .before .before .before .before .before .before .before .before .before .before .args in
+    → let a = c .before .before .before .before .before .before .before .before .before .before .before .args in
     leb (a .d .day) (lastDay (a .s .rec .standing)) ≡ false
 after c = lt-leb _ _ (rw (c .before .before .last-day .ensures) at (c .if4 .left))
 
 -- the evaluation is that of the record's grid
 evaluation : (c : tie.After-evaluate)
     → let a = c .before .before .before .before .before .before .before .before .before .before .before .before .before
-    .before .args in
+    .before .before .args in
     let r = a .s .rec in
     evaluationMade (gridOf (r .statics .lot)) (r .p1 .units) (usedBy r) (dayRows (a .rows .now)) ≡ c .evaluate .result
 evaluation c =
-    rw (← c .before .before .before .grid-of .ensures, ← c .before .used-by .ensures) (sym (c .evaluate .ensures))
+    let e = c .before .before .before .before .before .before .before in
+    let b = begun e in
+    rw (← c .before .before .before .grid-of .ensures, ← c .before .used-by .ensures)
+    (sym
+    (c .evaluate .ensures _ (e .before .before .before .before .gather .ensures .is) (day-valid-parts _ _ (b .valid) .1)
+    (b .uncrossed)))
 
 price : (c : tie.After-evaluation)
     → let e = c .before .before in
     let a = e .before .before .before .before .before .before .before .before .before .before .before .before .before
-    .before .args in
+    .before .before .args in
     let r = a .s .rec in
     Made (gridOf (r .statics .lot)) (r .p1 .units) (usedBy r) (dayRows (a .rows .now)) (c .evaluation .given .0 .0)
 price c = made _ _ _ _ _ (evaluation (c .before .before) ∙ c .evaluation .given .1)
@@ -69,6 +88,9 @@ returns : tie.Need-returns
 returns c = c .unmade .ensures
     ∙ day-unknown _ _ _ (failed _ (c .before .before .is-known .ensures) (c .before .if1 .taken))
 
+gather-requires : tie.Need-gather-requires
+gather-requires c κs = search needs
+
 valid-day-requires : tie.Need-valid-day-requires
 valid-day-requires c κs = search needs
 
@@ -77,11 +99,11 @@ unmade-requires-2 c κs = search needs
 
 returns-2 : tie.Need-returns-2
 returns-2 c =
-    c .unmade2 .ensures ∙ day-out _ _ _ (known (c .before .before .before))
-    (failed _ (c .before .before .valid-day .ensures) (c .before .if2 .taken))
+    c .unmade2 .ensures ∙ day-out _ _ _ (known (c .before .before .before .before))
+    (failed _ (day (c .before .before)) (c .before .if2 .taken))
 
-has-crossed-row-requires : tie.Need-has-crossed-row-requires
-has-crossed-row-requires c κs = valid-sevens _ (valid-whole _ (day-valid-parts _ _ (valid c) .1))
+is-crossed-requires : tie.Need-is-crossed-requires
+is-crossed-requires c κs = search needs
 
 unmade-requires-3 : tie.Need-unmade-requires-3
 unmade-requires-3 c κs = search needs
@@ -89,8 +111,8 @@ unmade-requires-3 c κs = search needs
 returns-3 : tie.Need-returns-3
 returns-3 c =
     let e = c .before .before .before in
-    c .unmade3 .ensures ∙ day-row-crossed _ _ _ (known (e .before .before)) (valid e)
-    (sym (c .before .before .has-crossed-row .ensures) ∙ c .before .if3 .taken)
+    c .unmade3 .ensures ∙ day-row-crossed _ _ _ (known (e .before .before .before)) (valid e)
+    (sym (crossed (c .before .before)) ∙ c .before .if3 .taken)
 
 last-day-requires : tie.Need-last-day-requires
 last-day-requires c κs = search needs
@@ -114,10 +136,10 @@ evaluate-requires c κs =
     let g = c .before .before in
     let e = g .before in
     let b = begun (e .before .before .before) in
-    let s = e .before .before .before .before .before .before .before .before .before .before in
+    let s = e .before .before .before .before .before .before .before .before .before .before .before in
     let grid = rw (← g .grid-of .ensures) at (grid-range (s .args .s .rec .statics .lot)) in
     let sound = known-sound _ (b .known) in (
-      day-valid-parts _ _ (b .valid) .1,
+      e .before .before .before .before .before .before .before .gather .ensures .bound,
       (
         (sound-facts _ sound .figures .later .price .most, grid .0, grid .1),
         rw (c .used-by .ensures) (used-prices-within-most _ sound),
@@ -159,10 +181,11 @@ worked-spec =
     is-known-requires
     unmade-requires
     returns
+    gather-requires
     valid-day-requires
     unmade-requires-2
     returns-2
-    has-crossed-row-requires
+    is-crossed-requires
     unmade-requires-3
     returns-3
     last-day-requires

@@ -23,7 +23,7 @@ enum-told-3 : tie.Need-enum-told-3
 enum-told-3 c = search needs
 
 row-at-requires : tie.Need-row-at-requires
-row-at-requires c κs = search needs
+row-at-requires c κs = (search needs, rw (c .enum-told3 .given .1) at (c .before .before .pre .1))
 
 fits-requires : tie.Need-fits-requires
 fits-requires c κs =
