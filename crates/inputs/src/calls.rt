@@ -4,7 +4,6 @@ ghost use Prim.Native.Nat.{_<_};
 ghost use Rattle.paper.specs.Lists.{allThree};
 ghost use Rattle.paper.specs.Numbers.{idMost};
 ghost use Rattle.paper.specs.Ranges.{within, validAdmission, validTerm, termAt, validQuote, validSide, sideOf, validFigures, validDayNumbers};
-use crate::prices::grid_of;
 use crate::prices::is_grid_price;
 use crate::statics::statics_of;
 use crate::statics::valid_given;
@@ -30,10 +29,9 @@ pub fn valid_figures(st: Statics, day: u64, p1: u64, p2: u64, s: u64, tentative:
     requires { ⌜ 0 < st .h ⌝ }
     ensures { λ r. ⌜ r ≡ validFigures st day p1 p2 s tentative ⌝ }
 {
-    let g = grid_of(st.lot);
     (day <= Record::DAY_MOST)
-        & is_grid_price(g, p1)
-        & is_grid_price(g, p2)
+        & is_grid_price(st.lot, p1)
+        & is_grid_price(st.lot, p2)
         & (s <= Record::VOLATILITY_MOST)
         & valid_tentative(st.h, tentative)
 }

@@ -1,7 +1,7 @@
 // The table of statics with W-210's and W-211's, and the tentative rate, whose range the step decides.
 ghost use mathlib.Core.Path.{_≡_};
 ghost use Prim.Native.Nat.{_<_};
-ghost use Rattle.paper.specs.Ranges.{validStatics, staticsOf, validGiven, tentativeTop, validTentative, orderedStatics, multiplesOfStep};
+ghost use Rattle.paper.specs.Ranges.{validStatics, staticsOf, validGiven, validTentative, orderedStatics, multiplesOfStep};
 use paper::GivenStatics;
 use paper::Rate;
 use paper::Statics;
@@ -98,18 +98,12 @@ pub fn valid_given(g: GivenStatics) -> bool
         & (g.useexternal <= 1)
 }
 
-// W-208: "the least multiple of h at or above 100,000 bp".
-fn tentative_top(h: u64) -> u64
-    requires { ⌜ 0 < h ⌝ }
-    ensures { λ r. ⌜ r ≡ tentativeTop h ⌝ }
-{
-    exact::up(Tentative::MOST_BP, h) * h
-}
-
-// From 0 to the top, a multiple of h: of a share's tentative rate, and of whatever else has one.
+// From 0 to the top, a multiple of h: of a share's tentative rate, and of whatever else has one. The top is "the least
+// multiple of h at or above 100,000 bp" (W-208): a multiple of h is at most that one exactly where a step less is below
+// 100,000 bp, which asks for no division.
 pub fn valid_tentative(h: u64, tentative: u64) -> bool
     requires { ⌜ 0 < h ⌝ }
     ensures { λ r. ⌜ r ≡ validTentative h tentative ⌝ }
 {
-    (tentative <= tentative_top(h)) & (tentative % h == 0)
+    (exact::less(tentative, h) < Tentative::MOST_BP) & (tentative % h == 0)
 }

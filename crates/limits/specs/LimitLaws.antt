@@ -1,8 +1,8 @@
 -- Laws of a share's limits: how far their parts reach, and what a band limit is made of. Assumes nothing.
-use mathlib.Core.Path.{_≡_, refl, sym, ap, _∙_}
+use mathlib.Core.Path.{_≡_, refl}
 use mathlib.Core.Bool.{true, false}
 use Prim.Native.Nat.{ℕ, _+_, _-_, _*_, _≤_, _<_}
-use native.Mathlib.Nat.{mul-le-mul}
+use native.Mathlib.Nat.{mul-le-mul, le-antisymm}
 use native.Mathlib.Omega.{arith}
 use lib.IntN.{ℤ}
 use Rattle.paper.specs.declared.Price.{Price}
@@ -10,15 +10,25 @@ use Rattle.paper.specs.declared.Rate.{Rate}
 use Rattle.paper.specs.declared.Statics.{Statics}
 use Rattle.paper.specs.declared.Side.{Side}
 use Rattle.paper.specs.declared.Side.the-variants.{Upper, Lower}
-use Rattle.paper.specs.Numbers.{oneInBp, oneInHundredths, priceMost, rateMost, shiftMost, movesMost}
+use Rattle.paper.specs.declared.Way.{Way}
+use Rattle.paper.specs.Numbers.{oneInBp, oneInHundredths, yearInDayBp, rateMost, divisorMost, shiftMost, movesMost}
+use Rattle.paper.specs.Ranges.{gridOf}
+use Rattle.paper.specs.Roundings.{roundedTo, grown}
 use Rattle.paper_desk.specs.Limits.{share, limitOf, inward, shifted, farthest, spread, monitored, narrowerOf, bandLimit}
+use Rattle.paper.proofs.Roundings.{grid-monotone}
 pub use Rattle.paper_desk.proofs.LimitSizes.{grid-range}
 use Rattle.paper_desk.proofs.KindLaws as kinds
 use Rattle.exact.specs.Wide.{spreadMost}
-use Rattle.limits.specs.Sides.{farthestRate}
-use Rattle.limits.specs.LimitRanges.{LimitStatics, RangeInputs}
+use Rattle.limits.specs.Sides.{farthestRate, farthestLimit, unmovedSpread}
+use Rattle.limits.specs.LimitRanges.{LimitStatics, RangeInputs, shiftedMost}
 
 -- ---- quotients
+
+-- two ways to write one quotient are rounded alike
+same-quotient-rounds-alike : (way : Way) (g n d m e : ℕ) → 0 < g → 0 < d → 0 < e → n * e ≡ m * d
+    → roundedTo way g n d ≡ roundedTo way g m e
+same-quotient-rounds-alike way g n d m e p q r same =
+    le-antisymm (grid-monotone way g n d m e p q r (omega arith)) (grid-monotone way g m e n d p r q (omega arith))
 
 pub shifted-den : (side : Side) (p rate : ℕ) → shifted side p rate .den ≡ oneInBp
 unfolding shifted
@@ -26,7 +36,7 @@ shifted-den Upper p rate = refl
 shifted-den Lower p rate = refl
 
 pub shifted-high : (side : Side) (p : Price) (rate : Rate) → RangeInputs p rate
-    → shifted side (p .units) (rate .bp) .num ≤ priceMost * (oneInBp + rateMost)
+    → shifted side (p .units) (rate .bp) .num ≤ shiftedMost
 unfolding shifted
 shifted-high Upper p rate r =
     let h : oneInBp + rate .bp ≤ oneInBp + rateMost = omega (arith, r .rate-high) in mul-le-mul (r .price) h
@@ -37,7 +47,7 @@ farthest-high st Upper s = s .upper-high
 farthest-high st Lower s = s .lower-high
 
 -- the farthest limit before it is rounded, by its rate
-farthest-is : (st : Statics) (side : Side) (p : ℕ) → shifted side p (farthestRate st side) ≡ farthest st side p
+pub farthest-is : (st : Statics) (side : Side) (p : ℕ) → shifted side p (farthestRate st side) ≡ farthest st side p
 unfolding farthest
 farthest-is st Upper p = refl
 farthest-is st Lower p = refl
@@ -58,27 +68,45 @@ unfolding spread
 spread-high st Upper s1 c s r m = omega (arith, s .divisor-high, away-high st s1 c s r m)
 spread-high st Lower s1 c s r m = omega (arith, s .divisor-high)
 
+-- ---- before the first move
+
+-- a hundred goes out of the spread
+spread-is-hundred-unmoved : (st : Statics) (side : Side) (s1 : ℕ)
+    → spread st side s1 0 ≡ oneInHundredths * unmovedSpread st side s1
+unfolding spread
+spread-is-hundred-unmoved st Upper s1 = omega arith
+spread-is-hundred-unmoved st Lower s1 = omega arith
+
+pub unmoved-spread-high : (st : Statics) (side : Side) (s1 : ℕ) → LimitStatics st → s1 ≤ rateMost
+    → unmovedSpread st side s1 ≤ oneInHundredths * divisorMost + rateMost
+unmoved-spread-high st Upper s1 s r = omega (arith, s .divisor-high)
+unmoved-spread-high st Lower s1 s r = omega (arith, s .divisor-high)
+
+-- and out of its divisor: the quotient is the same, and so is each rounding of it
+pub unmoved-is-monitored-limit : (way : Way) (st : Statics) (side : Side) (p s1 k : ℕ) (repo : ℤ) → LimitStatics st
+    → roundedTo way (gridOf (st .lot)) (p * unmovedSpread st side s1 * grown yearInDayBp k repo)
+    (oneInHundredths * st .xpr * yearInDayBp)
+    ≡ limitOf way st (monitored st p s1 k repo 0 side)
+unfolding limitOf monitored
+unmoved-is-monitored-limit way st side p s1 k repo s =
+    let u : ℕ = unmovedSpread st side s1 in
+    let b : ℕ = grown yearInDayBp k repo in
+    let d : ℕ = oneInHundredths * st .xpr * yearInDayBp in
+    let e : ℕ = oneInBp * st .xpr * yearInDayBp in
+    rw (spread-is-hundred-unmoved st side s1)
+    (same-quotient-rounds-alike way (gridOf (st .lot)) (p * u * b) d (p * (oneInHundredths * u) * b) e
+    (grid-range (st .lot) .0) (omega (arith, s .divisor-low)) (omega (arith, s .divisor-low)) (omega arith))
+
 -- ---- a share's band limit: with monitoring the narrower of two, without it the farthest
-
--- the farthest limit, rounded inward
-abbrev pub farthestLimit : Statics → Side → (p : ℕ) → ℕ
-farthestLimit st side p = limitOf (inward side) st (shifted side p (farthestRate st side))
-
-farthest-limit : (st : Statics) (side : Side) (p : ℕ)
-    → farthestLimit st side p ≡ limitOf (inward side) st (farthest st side p)
-farthest-limit st side p = ap (limitOf (inward side) st) (farthest-is st side p)
 
 pub band-monitored : (st : Statics) (side : Side) (p s1 c k : ℕ) (repo : ℤ) → LimitStatics st → st .monitoring ≡ true
     → bandLimit st p s1 k repo c side
     ≡ narrowerOf side (farthestLimit st side p) (limitOf (inward side) st (monitored st p s1 k repo c side))
 unfolding bandLimit
 band-monitored st side p s1 c k repo s e =
-    let near : ℕ = limitOf (inward side) st (monitored st p s1 k repo c side) in
     kinds.band-monitored share st side p s1 c k repo (omega arith) (s .divisor-low) e
-    ∙ ap (λ (z : ℕ). narrowerOf side z near) (sym (farthest-limit st side p))
 
 pub band-unmonitored : (st : Statics) (side : Side) (p s1 c k : ℕ) (repo : ℤ) → st .monitoring ≡ false
     → bandLimit st p s1 k repo c side ≡ farthestLimit st side p
 unfolding bandLimit
-band-unmonitored st side p s1 c k repo e =
-    kinds.band-unmonitored share st side p s1 c k repo e ∙ sym (farthest-limit st side p)
+band-unmonitored st side p s1 c k repo e = kinds.band-unmonitored share st side p s1 c k repo e

@@ -2,7 +2,7 @@
 -- the paper. Assumes nothing.
 use mathlib.Core.Path.{_≡_}
 use mathlib.Core.Bool.{true}
-use Prim.Native.Nat.{ℕ, _≤_, _<_}
+use Prim.Native.Nat.{ℕ, _+_, _*_, _≤_, _<_}
 use native.Mathlib.Omega.{arith}
 use lib.IntN.{ℤ}
 use lib.Signed.{mag}
@@ -14,7 +14,7 @@ use Rattle.paper.specs.declared.Side.{Side}
 use Rattle.paper.specs.declared.Side.the-variants.{Upper, Lower}
 use Rattle.paper.specs.declared.Moves.{Moves}
 use Rattle.paper.specs.declared.Term.{Term}
-use Rattle.paper.specs.Numbers.{priceMost, rateMost, movesMost, termDaysMost, repoLeast, repoMost}
+use Rattle.paper.specs.Numbers.{oneInBp, priceMost, rateMost, movesMost, termDaysMost, repoLeast, repoMost}
 use Rattle.paper.specs.Ranges.{validTerm, isPrice, isGridPrice, isRate}
 use Rattle.paper_desk.specs.Limits.{countOf, oneMore}
 use Rattle.paper_desk.specs.Gateway.{rangeInRange, bandInRange}
@@ -29,6 +29,10 @@ use Rattle.limits.specs.Sides.{repoOf}
 pub record RangeInputs (p : Price) (rate : Rate) : Type 0 where
   pub price : p .units ≤ priceMost
   pub rate-high : rate .bp ≤ rateMost
+
+-- P·(1 + rate) over the whole, at its most
+abbrev pub shiftedMost : ℕ
+shiftedMost = priceMost * (oneInBp + rateMost)
 
 -- of a band limit: the evaluation P, S_1, the moves c, the days k and that side's repo rate
 pub record BandInputs (p : Price) (s1 : Rate) (c k : ℕ) (repo : ℤ) : Type 0 where

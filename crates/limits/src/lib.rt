@@ -2,6 +2,8 @@
 // and what a move makes of them. P is a price; S_L, S_1 and the two maxima are rates. A limit and delta are bare
 // numbers of units, and a repo rate is one of basis points: neither is a price or a rate, since a repo rate may be
 // negative, and a limit 0 or above every price.
+use inputs::GRID_OF_ONE;
+use inputs::GRID_TO_TEN;
 use inputs::grid_of;
 use paper::Limits;
 use paper::Moves;
@@ -17,11 +19,12 @@ use paper::YEAR_IN_DAY_BP;
 ghost use mathlib.Core.Path.{_≡_};
 ghost use mathlib.Core.Bool.{true};
 ghost use Prim.Native.Nat.{_-_, _≤_};
-ghost use Rattle.paper.specs.Numbers.{rateMost, limitMost, movesMost};
-ghost use Rattle.paper.specs.Ranges.{validStatics};
+ghost use Rattle.paper.specs.Numbers.{oneInBp, priceMost, rateMost, limitMost, movesMost};
+ghost use Rattle.paper.specs.Ranges.{validStatics, gridOf};
+ghost use Rattle.paper.specs.Roundings.{roundedTo};
 ghost use Rattle.paper_desk.specs.Limits.{limitOf, inward, shifted, rangeLimit, rangeOf, spread, monitored, bandLimit, bandOf, narrowerOf, crossed, deltaOf, oneMore, countOf, rangeMoved, bandMoved};
-ghost use Rattle.limits.specs.Sides.{farthestRate};
-ghost use Rattle.limits.specs.LimitRanges.{RangeInputs, BandInputs, TermInputs};
+ghost use Rattle.limits.specs.Sides.{farthestRate, farthestLimit, farthestOf, unmovedSpread};
+ghost use Rattle.limits.specs.LimitRanges.{RangeInputs, BandInputs, TermInputs, shiftedMost};
 ghost use Rattle.limits.specs.LimitBounds.{deltaMost};
 
 // ---- ranges
@@ -37,12 +40,27 @@ pub fn shifted(side: Side, p: Price, rate: Rate) -> u64
     }
 }
 
+// So many ten-thousandths of a unit to the lot's grid, rounded that way. Each grid has an arm of its own, in which the
+// machine divides by a constant.
+fn bp_to_grid(way: Way, lot: u64, n: u64) -> u64
+    requires { ⌜ n ≤ shiftedMost ⌝ }
+    ensures { λ r. ⌜ r ≡ roundedTo way (gridOf lot) n oneInBp ⌝ }
+{
+    if lot <= 1 {
+        return exact::rounded_to(way, GRID_OF_ONE, n, ONE_IN_BP);
+    }
+    if lot <= 10 {
+        return exact::rounded_to(way, GRID_TO_TEN, n, ONE_IN_BP);
+    }
+    exact::rounded_to(way, 1, n, ONE_IN_BP)
+}
+
 // P·(1 ± rate), rounded once, that way.
 fn shifted_limit(way: Way, st: Statics, side: Side, p: Price, rate: Rate) -> u64
     requires { ⌜ RangeInputs p rate ⌝ }
     ensures { λ r. ⌜ r ≡ limitOf way st (shifted side (p .units) (rate .bp)) ⌝ }
 {
-    exact::rounded_to(way, grid_of(st.lot), shifted(side, p, rate), ONE_IN_BP)
+    bp_to_grid(way, st.lot, shifted(side, p, rate))
 }
 
 // "Range of level L: P·(1 ± S_L)."; W-209: "ranges .. keep half up".
@@ -100,22 +118,40 @@ pub fn spread(st: Statics, side: Side, s1: Rate, c: u64) -> u64
     }
 }
 
+// The same before the first move, where e is 1: x_pr ± S_1 in basis points, a hundredth of the spread.
+fn unmoved_spread(st: Statics, side: Side, s1: Rate) -> u64
+    requires { ⌜ validStatics st ≡ true ⌝ }
+    requires { ⌜ s1 .bp ≤ rateMost ⌝ }
+    ensures { λ r. ⌜ r ≡ unmovedSpread st side (s1 .bp) ⌝ }
+{
+    let middle = ONE_IN_HUNDREDTHS * st.xpr;
+    match side {
+        Side::Upper => middle + s1.bp,
+        Side::Lower => exact::less(middle, s1.bp),
+    }
+}
+
+// The greatest P·(x_pr ± S_1) that is multiplied with the days' factor in 64 bits.
+const WHOLE_PRODUCT_MOST: u64 = 4_000_000_000_000;
+
 // "P·(1 + e·S_1/x_pr)·(1 + RRcH·k/36500)" above, "P·max(0, 1 - e·S_1/x_pr)·(1 + RRcL·k/36500)" below, rounded once,
-// inward.
+// inward. Where 64 bits hold the product, as before the first move they do of every price to 3,600 roubles, one
+// division makes the limit (W-214); the wide product makes every other one.
 fn monitored_limit(st: Statics, side: Side, p: Price, s1: Rate, c: u64, k: u64, repo: i64) -> u64
     requires { ⌜ validStatics st ≡ true ⌝ }
     requires { ⌜ BandInputs p s1 c k repo ⌝ }
     ensures { λ r. ⌜ r ≡ limitOf (inward side) st (monitored st (p .units) (s1 .bp) k repo c side) ⌝ }
 {
+    let way = inward(side);
+    let g = grid_of(st.lot);
     let days = exact::grow(YEAR_IN_DAY_BP, k, repo);
-    exact::product_to_grid(
-        inward(side),
-        grid_of(st.lot),
-        p.units,
-        spread(st, side, s1, c),
-        days,
-        ONE_IN_BP * st.xpr * YEAR_IN_DAY_BP,
-    )
+    let unmoved = p.units * unmoved_spread(st, side, s1);
+    if (c == 0) & (unmoved <= WHOLE_PRODUCT_MOST) {
+        let divisor = ONE_IN_HUNDREDTHS * st.xpr * YEAR_IN_DAY_BP;
+        return exact::rounded_to(way, g, unmoved * days, divisor);
+    }
+    let divisor = ONE_IN_BP * st.xpr * YEAR_IN_DAY_BP;
+    exact::product_to_grid(way, g, p.units, spread(st, side, s1, c), days, divisor)
 }
 
 // The lesser of two upper limits, the greater of two lower ones.
@@ -128,14 +164,44 @@ pub fn narrower(side: Side, x: u64, y: u64) -> u64
     }
 }
 
-// Each of the two is rounded and then one is taken: a rounding keeps order, so that this is the one that the paper
-// takes, rounded once.
-pub fn band_limit(st: Statics, side: Side, p: Price, s1: Rate, c: u64, k: u64, repo: i64) -> u64
+// "P·(1 + PcH_max)" above, "P·(1 - PcL_max)" below, rounded inward.
+fn farthest_limit(st: Statics, side: Side, p: Price) -> u64
+    requires { ⌜ validStatics st ≡ true ⌝ }
+    requires { ⌜ p .units ≤ priceMost ⌝ }
+    ensures { λ r. ⌜ r ≡ farthestLimit st side (p .units) ⌝ }
+{
+    shifted_limit(inward(side), st, side, p, farthest_rate(st, side))
+}
+
+// Both: they are the same in every term, so that the bands of three terms make them once.
+pub fn farthest_of(st: Statics, p: Price) -> Limits
+    requires { ⌜ validStatics st ≡ true ⌝ }
+    requires { ⌜ p .units ≤ priceMost ⌝ }
+    ensures { λ r. ⌜ r ≡ farthestOf st (p .units) ⌝ }
+{
+    Limits {
+        lower: farthest_limit(st, Side::Lower, p),
+        upper: farthest_limit(st, Side::Upper, p),
+    }
+}
+
+// A band limit, by the farthest of its side. Each of the two is rounded and then one is taken: a rounding keeps order,
+// so that this is the one that the paper takes, rounded once.
+fn limit_within(
+    st: Statics,
+    side: Side,
+    farthest: u64,
+    p: Price,
+    s1: Rate,
+    c: u64,
+    k: u64,
+    repo: i64,
+) -> u64
     requires { ⌜ validStatics st ≡ true ⌝ }
     requires { ⌜ BandInputs p s1 c k repo ⌝ }
+    requires { ⌜ farthest ≡ farthestLimit st side (p .units) ⌝ }
     ensures { λ r. ⌜ r ≡ bandLimit st (p .units) (s1 .bp) k repo c side ⌝ }
 {
-    let farthest = shifted_limit(inward(side), st, side, p, farthest_rate(st, side));
     if st.monitoring {
         narrower(side, farthest, monitored_limit(st, side, p, s1, c, k, repo))
     } else {
@@ -143,15 +209,24 @@ pub fn band_limit(st: Statics, side: Side, p: Price, s1: Rate, c: u64, k: u64, r
     }
 }
 
-// A term's band: "c the moves of that side since the evaluation".
-pub fn band_of(st: Statics, p: Price, s1: Rate, c: Moves, x: Term) -> Limits
+pub fn band_limit(st: Statics, side: Side, p: Price, s1: Rate, c: u64, k: u64, repo: i64) -> u64
     requires { ⌜ validStatics st ≡ true ⌝ }
+    requires { ⌜ BandInputs p s1 c k repo ⌝ }
+    ensures { λ r. ⌜ r ≡ bandLimit st (p .units) (s1 .bp) k repo c side ⌝ }
+{
+    limit_within(st, side, farthest_limit(st, side, p), p, s1, c, k, repo)
+}
+
+// A term's band, by the farthest limits: "c the moves of that side since the evaluation".
+pub fn band_of(st: Statics, farthest: Limits, p: Price, s1: Rate, c: Moves, x: Term) -> Limits
+    requires { ⌜ validStatics st ≡ true ⌝ }
+    requires { ⌜ farthest ≡ farthestOf st (p .units) ⌝ }
     requires { ⌜ TermInputs p s1 c x ⌝ }
     ensures { λ r. ⌜ r ≡ bandOf st (p .units) (s1 .bp) c x ⌝ }
 {
     Limits {
-        lower: band_limit(st, Side::Lower, p, s1, c.lower, x.k, x.low),
-        upper: band_limit(st, Side::Upper, p, s1, c.upper, x.k, x.high),
+        lower: limit_within(st, Side::Lower, farthest.lower, p, s1, c.lower, x.k, x.low),
+        upper: limit_within(st, Side::Upper, farthest.upper, p, s1, c.upper, x.k, x.high),
     }
 }
 

@@ -1,9 +1,9 @@
 -- Laws of the least rate that reaches a level's requirement. Assumes nothing.
 use mathlib.Core.Path.{_≡_, refl, ap, sym, subst, _∙_}
 use mathlib.Core.Logic.{_⊎_, inl, inr}
-use mathlib.Core.Bool.{Bool, true, false, _&&_}
-use Prim.Native.Nat.{ℕ, _+_, _-_, _*_, _/_, _%_, _≤_, _<_}
-use native.Mathlib.Nat.{mul-le-mul, mul-le-mul-right, le-trans, le-dest, le-of-lt, le-antisymm, mul-lt-mul-of-pos-right, le-div-iff-mul-le}
+use mathlib.Core.Bool.{Bool, true, false, not, _&&_, _||_}
+use Prim.Native.Nat.{ℕ, _+_, _-_, _*_, _/_, _%_, _≤_, _<_, min, max}
+use native.Mathlib.Nat.{mul-le-mul, mul-le-mul-right, le-trans, le-dest, le-of-lt, le-antisymm, mul-lt-mul-of-pos-right, le-div-iff-mul-le, mul-mod-left, mod-eq-of-lt}
 use native.Mathlib.Omega.{arith}
 use lib.Dec.{leb}
 use borrow.Author.Tests.{leb-true, leb-false, le-leb, lt-leb}
@@ -11,12 +11,12 @@ use Rattle.paper.specs.declared.Statics.{Statics}
 use Rattle.paper.specs.Lists.{pick}
 use Rattle.paper.specs.Least.{least, leastMultiple}
 use Rattle.paper_desk.specs.Rates.{meetsRequirement, daysOf, minimumOf, covers, levelRate}
-use Rattle.paper.proofs.Logic.{not-true-and-false, and-left, and-right, and-both, pick-true, pick-false, le-or-lt}
+use Rattle.paper.proofs.Logic.{not-true-and-false, and-left, and-right, and-both, not-true, pick-true, pick-false, le-or-lt}
 use Rattle.paper_desk.proofs.Level.{meets-roots, within-more, covers-more, quotient-times-is}
 use Rattle.paper.proofs.Search.{Mono, Between, between-below-hit, between-above-miss, between-one-is-least, least-monotone, multiple-holds-or-is-last, multiple-within-bound}
 use Rattle.rates.specs.Asked.{RateStatics}
 use Rattle.rates.proofs.Statics.{level-statics}
-use Rattle.rates.specs.Level.{tentativeSquare, liquiditySquare, reaches, reachMost, leastReach}
+use Rattle.rates.specs.Level.{tentativeSquare, liquiditySquare, reaches, reachMost, leastReach, Tried, enough, noLess}
 
 -- ---- the comparison
 
@@ -184,6 +184,130 @@ steps-held st level r =
           (omega (arith, low, own .1)),
       rw (same, most) (mul-le-mul (r .most-high) (r .first-high)),
     )
+
+-- ---- a guess that is tried from both sides is the rate (W-214)
+
+-- a number of steps is the least that reaches where it does or is the last, and one less does not or is before the
+-- first
+tried-is-least-reach : (low high step a b k : ℕ) → low ≤ k → k ≤ high → (k < high → reaches (k * step) a b ≡ true)
+    → (low < k → reaches ((k - 1) * step) a b ≡ false) → k ≡ leastReach low high step a b
+tried-is-least-reach low high step a b k l h hit miss = from (le-or-lt k low)
+  where
+    up : Halved low high step a b k high → k ≡ leastReach low high step a b
+    up x = go (le-or-lt high k)
+      where
+        go : (high ≤ k) ⊎ (k < high) → k ≡ leastReach low high step a b
+        go (inl e) = halved-one low high step a b k high x e
+        go (inr e) =
+            halved-one low high step a b k k (halved-hit low high step a b k high k x (omega arith) e (hit e))
+            (omega arith)
+
+    from : (k ≤ low) ⊎ (low < k) → k ≡ leastReach low high step a b
+    from (inl e) =
+        let same : k ≡ low = omega arith in
+        up (rw same (halved-start low high step a b (omega arith)))
+    from (inr e) =
+        let next : k - 1 + 1 ≡ k = omega arith in
+        up (rw next at (halved-miss low high step a b low high (k - 1) (halved-start low high step a b (omega arith))
+        (omega arith) (omega arith) (miss e)))
+
+or-right : (a b : Bool) → a ≡ false → (a || b) ≡ true → b ≡ true
+or-right true b p e = absurd (not-true-and-false true refl p)
+or-right false b p e = e
+
+pub tried-is-level-rate : (st : Statics) (level m tentative v : ℕ) → RateStatics st → Tried st (minimumOf st level) v
+    → enough st (tentativeSquare (st .rh1) (daysOf st level) m tentative)
+    (liquiditySquare (st .rh1) (daysOf st level) (st .liq)) v ≡ true
+    → noLess st (minimumOf st level) (tentativeSquare (st .rh1) (daysOf st level) m tentative)
+    (liquiditySquare (st .rh1) (daysOf st level) (st .liq)) v ≡ true
+    → v ≡ levelRate st tentative m level
+tried-is-level-rate st level m tentative v r t e n =
+    sym whole ∙ ap (λ (z : ℕ). z * st .h) (tried-is-least-reach low high step a b k low-k k-high hit miss)
+    ∙ reach-rate st level m tentative r
+  where
+    a : ℕ
+    a = tentativeSquare (st .rh1) (daysOf st level) m tentative
+
+    b : ℕ
+    b = liquiditySquare (st .rh1) (daysOf st level) (st .liq)
+
+    k : ℕ
+    k = v / st .h
+
+    low : ℕ
+    low = minimumOf st level / st .h
+
+    high : ℕ
+    high = st .smax / st .h
+
+    step : ℕ
+    step = st .h * st .rh1
+
+    whole : k * st .h ≡ v
+    whole = quotient-times-is v (st .h) (t .multiple)
+
+    low-whole : low * st .h ≡ minimumOf st level
+    low-whole = quotient-times-is (minimumOf st level) (st .h) (level-statics st level r .2)
+
+    high-whole : high * st .h ≡ st .smax
+    high-whole = quotient-times-is (st .smax) (st .h) (r .most-multiple)
+
+    low-k : low ≤ k
+    low-k = le-div-iff-mul-le {k = st .h} {x = low} {y = v} (r .step-low) .1 (omega (arith, low-whole, t .low))
+
+    k-high : k ≤ high
+    k-high = le-div-iff-mul-le {k = st .h} {x = k} {y = st .smax} (r .step-low) .1 (omega (arith, whole, t .high))
+
+    hit : k < high → reaches (k * step) a b ≡ true
+    hit l =
+        let below : v < st .smax = omega (arith, whole, high-whole, mul-lt-mul-of-pos-right l (r .step-low)) in
+        let same : k * step ≡ v * st .rh1 = omega (arith, ap (λ (z : ℕ). z * st .rh1) whole) in
+        rw same (or-right (leb (st .smax) v) _ (lt-leb (st .smax) v below) e)
+
+    miss : low < k → reaches ((k - 1) * step) a b ≡ false
+    miss l =
+        let above : minimumOf st level < v =
+        omega (arith, whole, low-whole, mul-lt-mul-of-pos-right l (r .step-low)) in
+        let less : ℕ = k - 1 in
+        let next : k ≡ less + 1 = omega arith in
+        let times : k * st .h ≡ (less + 1) * st .h = ap (λ (z : ℕ). z * st .h) next in
+        let step-less : less * st .h ≡ v - st .h = omega (arith, whole) in
+        let same : less * step ≡ (v - st .h) * st .rh1 = omega (arith, ap (λ (z : ℕ). z * st .rh1) step-less) in
+        rw same (not-true _ (or-right (leb v (minimumOf st level)) _ (lt-leb v (minimumOf st level) above) n))
+
+-- a multiple of h that is not 0 is at least a step
+pub multiple-is-at-least-step : (h v : ℕ) → 0 < v → v % h ≡ 0 → h ≤ v
+multiple-is-at-least-step h v p e = go (le-or-lt h v)
+  where
+    go : (h ≤ v) ⊎ (v < h) → h ≤ v
+    go (inl l) = l
+    go (inr l) = absurd (omega (arith, mod-eq-of-lt l))
+
+-- the greater and the lesser of two multiples are multiples
+greater-is-multiple : (h x y : ℕ) → x % h ≡ 0 → y % h ≡ 0 → max x y % h ≡ 0
+greater-is-multiple h x y p q = go (le-or-lt x y)
+  where
+    go : (x ≤ y) ⊎ (y < x) → max x y % h ≡ 0
+    go (inl l) = let e : max x y ≡ y = omega arith in rw e q
+    go (inr l) = let e : max x y ≡ x = omega arith in rw e p
+
+lesser-is-multiple : (h x y : ℕ) → x % h ≡ 0 → y % h ≡ 0 → min x y % h ≡ 0
+lesser-is-multiple h x y p q = go (le-or-lt x y)
+  where
+    go : (x ≤ y) ⊎ (y < x) → min x y % h ≡ 0
+    go (inl l) = let e : min x y ≡ x = omega arith in rw e p
+    go (inr l) = let e : min x y ≡ y = omega arith in rw e q
+
+pub held-tried : (st : Statics) (minimum steps : ℕ) → RateStatics st → minimum ≤ st .smax → minimum % st .h ≡ 0
+    → Tried st minimum (max minimum (min (st .smax) (steps * st .h)))
+held-tried st minimum steps r l e =
+    record {
+      multiple =
+          greater-is-multiple (st .h) minimum (min (st .smax) (steps * st .h)) e
+          (lesser-is-multiple (st .h) (st .smax) (steps * st .h) (r .most-multiple) (mul-mod-left steps (st .h)));
+      low = omega arith;
+      high = omega arith;
+    }
 
 -- "S_max if the requirement exceeds it": no rate is above it
 pub rate-held : (st : Statics) (level m tentative : ℕ) → RateStatics st → levelRate st tentative m level ≤ st .smax

@@ -26,6 +26,7 @@ valid-rates st v =
       multiplier-high = leb-true _ _ (search (v, and-left, and-right) depth 40);
       up-high = leb-true _ _ (search (v, and-left, and-right) depth 40);
       down-high = leb-true _ _ (search (v, and-left, and-right) depth 40);
+      first-low = leb-true _ _ (search (v, and-left, and-right) depth 40);
       first-high = leb-true _ _ (search (v, and-left, and-right) depth 40);
       second-days = leb-true _ _ (search (v, and-left, and-right) depth 40);
       third-high = leb-true _ _ (search (v, and-left, and-right) depth 40);

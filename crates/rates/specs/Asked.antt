@@ -14,6 +14,7 @@ pub record RateStatics (st : Statics) : Type 0 where
   pub multiplier-high : st .q ≤ multiplierMost
   pub up-high : st .aup ≤ weightMost
   pub down-high : st .adown ≤ weightMost
+  pub first-low : 1 ≤ st .rh1
   pub first-high : st .rh1 ≤ firstDaysMost
   pub second-days : st .rh2 ≤ st .rh3
   pub third-high : st .rh3 ≤ daysMost

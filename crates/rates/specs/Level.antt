@@ -1,15 +1,17 @@
 -- The rate of a level (7.1), as the code finds it: with both sides times rh_1, v ≥
 -- sqrt(rh_L/rh_1)·(tentative·sqrt((rh_1 + m)/rh_1) + liq) says that v·rh_1 is at least the sum of the roots of two
 -- whole numbers. Assumes nothing.
-use mathlib.Core.Bool.{Bool, _&&_}
-use Prim.Native.Nat.{ℕ, _+_, _*_, _^_}
+use mathlib.Core.Path.{_≡_}
+use mathlib.Core.Bool.{Bool, not, _&&_, _||_}
+use Prim.Native.Nat.{ℕ, _+_, _-_, _*_, _%_, _^_, _≤_}
 use lib.Dec.{leb}
 use Rattle.paper.specs.declared.Statics.{Statics}
 use Rattle.paper.specs.Least.{least}
-use Rattle.paper.specs.Numbers.{rateMost, firstDaysMost}
+use Rattle.paper.specs.Numbers.{rateMost, firstDaysMost, liquidityMost}
 use Rattle.paper_desk.specs.Rates.{daysOf, minimumOf}
 use Rattle.paper_desk.proofs.Level.{rootsWithin}
 use Rattle.rates.specs.declared.level.Level.{Level}
+use Rattle.rates.specs.Asked.{tentativeBound}
 
 -- rh_L and S_L_min of a level
 abbrev pub levelOf : Statics → ℕ → Level
@@ -37,3 +39,29 @@ reachMost = rateMost * firstDaysMost
 -- the least k from low on with k·step ≥ sqrt(a) + sqrt(b); high where none below it is
 unfoldable pub leastReach : (low high step a b : ℕ) → ℕ
 leastReach low high step a b = least high (λ k. leb low k && reaches (k * step) a b)
+
+-- ---- a guess that is tried (W-214)
+
+-- above every root that is looked up, the most that a guess is made of, and above every number of steps that is guessed
+abbrev pub rootBound : ℕ
+rootBound = 2 ^ 16
+
+abbrev pub guessMost : ℕ
+guessMost = (tentativeBound + liquidityMost) * rootBound
+
+abbrev pub stepsBound : ℕ
+stepsBound = 2 ^ 25
+
+-- what is tried: a multiple of h from the minimum to S_max
+pub record Tried (st : Statics) (minimum v : ℕ) : Type 0 where
+  pub multiple : v % st .h ≡ 0
+  pub low : minimum ≤ v
+  pub high : v ≤ st .smax
+
+-- it covers the requirement, or is S_max
+abbrev pub enough : Statics → (a b v : ℕ) → Bool
+enough st a b v = leb (st .smax) v || reaches (v * st .rh1) a b
+
+-- a step less does not cover it, or is below the minimum
+abbrev pub noLess : Statics → (minimum a b v : ℕ) → Bool
+noLess st minimum a b v = leb v minimum || not (reaches ((v - st .h) * st .rh1) a b)

@@ -1,12 +1,14 @@
 // The rate of a level (7.1). It and the level's minimum are rates; the tentative rate that it is made of is a bare
 // number, whose range is its own.
 ghost use mathlib.Core.Path.{_≡_};
-ghost use Prim.Native.Nat.{_*_, _≤_, _<_};
+ghost use Prim.Native.Nat.{_*_, _%_, _≤_, _<_};
 ghost use Rattle.paper.specs.Lists.{forLevels};
 ghost use Rattle.paper.specs.Numbers.{rateMost, aheadMost, firstDaysMost, daysMost, liquidityMost};
 ghost use Rattle.paper_desk.specs.Rates.{minimumOf, covers, levelRate};
 ghost use Rattle.rates.specs.Asked.{RateStatics, tentativeBound};
-ghost use Rattle.rates.specs.Level.{levelOf, tentativeSquare, liquiditySquare, squareMost, reaches, reachMost, leastReach};
+ghost use Rattle.rates.specs.Level.{levelOf, tentativeSquare, liquiditySquare, squareMost, reaches, reachMost, leastReach, guessMost, stepsBound, Tried, enough, noLess};
+use crate::guess::guess_of;
+use crate::guess::guessed_steps;
 use paper::Rate;
 use paper::Record;
 use paper::Statics;
@@ -86,8 +88,8 @@ fn least_reach(low: u64, high: u64, step: u64, a: u64, b: u64) -> u64
 }
 
 // S_max where the requirement exceeds it, else the least multiple of h from S_L_min on that covers it, found by its
-// number of steps.
-pub fn level_rate(st: Statics, level: u64, m: u64, tentative: u64) -> Rate
+// number of steps: the plain search.
+fn searched_rate(st: Statics, level: u64, m: u64, tentative: u64) -> Rate
     requires { ⌜ RateStatics st ⌝ }
     requires { ⌜ (m ≤ aheadMost) × (tentative ≤ tentativeBound) ⌝ }
     ensures { λ r. ⌜ r .bp ≡ levelRate st tentative m level ⌝ }
@@ -97,6 +99,66 @@ pub fn level_rate(st: Statics, level: u64, m: u64, tentative: u64) -> Rate
     let b = liquidity_square(st.rh1, own.days, st.liq);
     let steps = least_reach(own.minimum.bp / st.h, st.smax / st.h, st.h * st.rh1, a, b);
     Rate::of(steps * st.h)
+}
+
+// So many steps, from the minimum to S_max.
+fn held_steps(st: Statics, minimum: u64, steps: u64) -> u64
+    requires { ⌜ RateStatics st ⌝ }
+    requires { ⌜ (minimum ≤ st .smax) × (minimum % st .h ≡ 0) × (steps < stepsBound) ⌝ }
+    ensures { λ r. ⌜ Tried st minimum r ⌝ }
+{
+    exact::greater(minimum, exact::lesser(st.smax, steps * st.h))
+}
+
+// Whether v covers the requirement or is S_max.
+fn is_enough(st: Statics, a: u64, b: u64, v: u64) -> bool
+    requires { ⌜ RateStatics st ⌝ }
+    requires { ⌜ (a ≤ squareMost) × (b ≤ squareMost) × (v ≤ st .smax) ⌝ }
+    ensures { λ r. ⌜ r ≡ enough st a b v ⌝ }
+{
+    if st.smax <= v {
+        return true;
+    }
+    reaches(v * st.rh1, a, b)
+}
+
+// Whether a step less does not cover the requirement or is below the minimum.
+fn is_least(st: Statics, minimum: u64, a: u64, b: u64, v: u64) -> bool
+    requires { ⌜ RateStatics st ⌝ }
+    requires { ⌜ (a ≤ squareMost) × (b ≤ squareMost) ⌝ }
+    requires { ⌜ Tried st minimum v ⌝ }
+    ensures { λ r. ⌜ r ≡ noLess st minimum a b v ⌝ }
+{
+    if v <= minimum {
+        return true;
+    }
+    !reaches((v - st.h) * st.rh1, a, b)
+}
+
+// The rate of a level: a guess of it, tried from both sides, and where it is not the rate the one that the plain search
+// finds (W-214: "a second search may stand beside the plain one").
+fn rate_near(st: Statics, level: u64, m: u64, tentative: u64, guess: u64) -> Rate
+    requires { ⌜ RateStatics st ⌝ }
+    requires { ⌜ (m ≤ aheadMost) × (tentative ≤ tentativeBound) × (guess ≤ guessMost) ⌝ }
+    ensures { λ r. ⌜ r .bp ≡ levelRate st tentative m level ⌝ }
+{
+    let own = level_of(st, level);
+    let minimum = own.minimum.bp;
+    let a = tentative_square(st.rh1, own.days, m, tentative);
+    let b = liquidity_square(st.rh1, own.days, st.liq);
+    let v = held_steps(st, minimum, guessed_steps(guess, own.days));
+    if is_enough(st, a, b, v) & is_least(st, minimum, a, b, v) {
+        return Rate::of(v);
+    }
+    searched_rate(st, level, m, tentative)
+}
+
+pub fn level_rate(st: Statics, level: u64, m: u64, tentative: u64) -> Rate
+    requires { ⌜ RateStatics st ⌝ }
+    requires { ⌜ (m ≤ aheadMost) × (tentative ≤ tentativeBound) ⌝ }
+    ensures { λ r. ⌜ r .bp ≡ levelRate st tentative m level ⌝ }
+{
+    rate_near(st, level, m, tentative, guess_of(st, m, tentative))
 }
 
 // Whether a rate of v basis points covers the requirement of a level.
@@ -117,10 +179,11 @@ pub fn rates_of(st: Statics, m: u64, tentative: u64) -> [Rate; Record::LEVELS]
     requires { ⌜ (m ≤ aheadMost) × (tentative ≤ tentativeBound) ⌝ }
     ensures { λ r. ⌜ r ≡ forLevels (λ l. record { bp = levelRate st tentative m l }) ⌝ }
 {
+    let guess = guess_of(st, m, tentative);
     [
-        level_rate(st, 1, m, tentative),
-        level_rate(st, 2, m, tentative),
-        level_rate(st, 3, m, tentative),
+        rate_near(st, 1, m, tentative, guess),
+        rate_near(st, 2, m, tentative, guess),
+        rate_near(st, 3, m, tentative, guess),
     ]
 }
 

@@ -1,5 +1,6 @@
 // The rates (7.1): from the move of a day to its volatility, the tentative rate, and a rate for each level. The rules
 // take statics and figures, and no security.
+mod guess; // a guess of that rate
 pub mod level; // the rate of a level
 pub mod tentative; // the tentative rate
 pub mod volatility; // the move and the volatility

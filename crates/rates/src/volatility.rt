@@ -75,12 +75,16 @@ pub fn replacement(q: u64, r: u64) -> u64
     exact::up(ONE_IN_HUNDREDTHS * r, q)
 }
 
-// Whether y is chosen over x. The last rate is in the unit of the move.
+// Whether y is chosen over x. The last rate is in the unit of the move; where the move is not above it no y is worked
+// out.
 pub fn replaces(m: Model, b: u64, last: u64, r: u64, x: u64) -> bool
     requires { ⌜ (0 < m .q) × (r ≤ volatilityMost) ⌝ }
     ensures { λ y. ⌜ y ≡ replaces m b r last x ⌝ }
 {
-    (b <= 1) & (r > last) & (x < replacement(m.q, r))
+    if (b <= 1) & (r > last) {
+        return x < replacement(m.q, r);
+    }
+    false
 }
 
 // New s, and whether it is the replacement.

@@ -1,11 +1,10 @@
 // Document 01, "What the desk covers": a record with a field outside its range, order, multiple of h or grid "counts as
 // no such id". `sound` is judged whatever a lent table holds.
 ghost use mathlib.Core.Path.{_≡_};
-ghost use Prim.Native.Nat.{_<_};
 ghost use lib.ListN.{getD};
 ghost use Rattle.paper.specs.Lists.{allThree};
-ghost use Rattle.paper.specs.Ranges.{isLive, lastDay, isRate, noRate, isLimit, validLimits, noLimits, validNear, validNearSeconds, notNear, validSession, validExternal, sound, validSlots, soundFigures};
-use inputs::grid_of;
+ghost use Rattle.paper.specs.Ranges.{isLive, lastDay, isRate, noRate, gridOf, isLimit, validLimits, noLimits, validNear, validNearSeconds, notNear, validSession, validExternal, sound, validSlots, soundFigures};
+use inputs::is_on_grid;
 use inputs::is_rate;
 use inputs::valid_figures;
 use inputs::valid_id;
@@ -50,30 +49,27 @@ fn valid_rates(rates: [Rate; Record::LEVELS]) -> bool
 }
 
 // "limits on the grid 0..2·10^12 + 2·10^10"
-fn is_limit(g: u64, x: u64) -> bool
-    requires { ⌜ 0 < g ⌝ }
-    ensures { λ r. ⌜ r ≡ isLimit g x ⌝ }
+fn is_limit(lot: u64, x: u64) -> bool
+    ensures { λ r. ⌜ r ≡ isLimit (gridOf lot) x ⌝ }
 {
     let made = Limit::new(x);
     match made {
-        MadeLimit::Made(limit) => limit.units % g == 0,
+        MadeLimit::Made(limit) => is_on_grid(lot, limit.units),
         MadeLimit::OutOfRange => false,
     }
 }
 
-pub fn valid_limits(g: u64, x: Limits) -> bool
-    requires { ⌜ 0 < g ⌝ }
-    ensures { λ r. ⌜ r ≡ validLimits g x ⌝ }
+pub fn valid_limits(lot: u64, x: Limits) -> bool
+    ensures { λ r. ⌜ r ≡ validLimits (gridOf lot) x ⌝ }
 {
-    is_limit(g, x.lower) & is_limit(g, x.upper)
+    is_limit(lot, x.lower) & is_limit(lot, x.upper)
 }
 
 // Three ranges, or three bands.
-fn valid_three_limits(g: u64, limits: [Limits; Record::TERMS]) -> bool
-    requires { ⌜ 0 < g ⌝ }
-    ensures { λ r. ⌜ r ≡ allThree (λ i. validLimits g (getD limits i noLimits)) ⌝ }
+fn valid_three_limits(lot: u64, limits: [Limits; Record::TERMS]) -> bool
+    ensures { λ r. ⌜ r ≡ allThree (λ i. validLimits (gridOf lot) (getD limits i noLimits)) ⌝ }
 {
-    valid_limits(g, limits[0]) & valid_limits(g, limits[1]) & valid_limits(g, limits[2])
+    valid_limits(lot, limits[0]) & valid_limits(lot, limits[1]) & valid_limits(lot, limits[2])
 }
 
 fn valid_near(near: Near) -> bool
@@ -137,7 +133,7 @@ fn sound_figures(r: Record) -> bool
 pub fn sound(r: Record) -> bool
     ensures { λ t. ⌜ t ≡ sound r ⌝ }
 {
-    let g = grid_of(r.statics.lot);
+    let lot = r.statics.lot;
     let rates = r.rates;
     let ranges = r.ranges;
     let terms = r.terms;
@@ -147,9 +143,9 @@ pub fn sound(r: Record) -> bool
     let external = r.external;
     sound_figures(r)
         & valid_rates(rates)
-        & valid_three_limits(g, ranges)
+        & valid_three_limits(lot, ranges)
         & valid_terms(terms)
-        & valid_three_limits(g, bands)
+        & valid_three_limits(lot, bands)
         & (r.moves.upper <= Record::MOVES_MOST)
         & (r.moves.lower <= Record::MOVES_MOST)
         & valid_three_near(near)

@@ -135,10 +135,11 @@ fn bands_of(
     requires { ⌜ BandsAsked p s1 c terms ⌝ }
     ensures { λ r. ⌜ r ≡ three (λ k. bandOf st (p .units) (s1 .bp) c (termAt terms k)) ⌝ }
 {
+    let farthest = limits::farthest_of(st, p);
     [
-        limits::band_of(st, p, s1, c, terms[0]),
-        limits::band_of(st, p, s1, c, terms[1]),
-        limits::band_of(st, p, s1, c, terms[2]),
+        limits::band_of(st, farthest, p, s1, c, terms[0]),
+        limits::band_of(st, farthest, p, s1, c, terms[1]),
+        limits::band_of(st, farthest, p, s1, c, terms[2]),
     ]
 }
 

@@ -1,5 +1,6 @@
--- `limits::band_of` meets its contract, side by side, each with its own moves and repo rate. Assumes nothing.
-use mathlib.Core.Path.{_≡_}
+-- `limits::band_of` meets its contract, side by side, each with its own farthest limit, moves and repo rate. Assumes
+-- nothing.
+use mathlib.Core.Path.{_≡_, ap}
 use mathlib.Core.Bool.{true}
 use native.Mathlib.Omega.{arith}
 use mir.Syntax.{w64}
@@ -9,6 +10,7 @@ use Rattle.paper.specs.declared.Price.{Price}
 use Rattle.paper.specs.declared.Rate.{Rate}
 use Rattle.paper.specs.declared.Side.{Side}
 use Rattle.paper.specs.declared.Side.the-variants.{Upper, Lower}
+use Rattle.paper.specs.declared.Limits.{Limits}
 use Rattle.paper.specs.declared.Moves.{Moves}
 use Rattle.paper.specs.declared.Term.{Term}
 use Rattle.paper.specs.Ranges.{validTerm}
@@ -26,29 +28,31 @@ inputs : (p : Price) (s1 : Rate) (side : Side) (c : Moves) (x : Term) → TermIn
     → BandInputs p s1 (countOf side c) (x .k) (toZ w64 (ofZ w64 (repoOf side x)))
 inputs p s1 side c x r = rw (bits side x (r .term)) (side-inputs p s1 side c x r)
 
-band-limit-requires : tie.Need-band-limit-requires
-band-limit-requires c κs =
+limit-within-requires : tie.Need-limit-within-requires
+limit-within-requires c κs =
     let s = c .before in
     let a = s .args in
-    (s .pre .0, inputs (a .p) (a .s1) Lower (a .c) (a .x) (s .pre .1))
+    let far = ap (λ (z : Limits). z .lower) (s .pre .1 .0) in
+    (s .pre .0, (inputs (a .p) (a .s1) Lower (a .c) (a .x) (s .pre .1 .1), far))
 
-band-limit-requires-2 : tie.Need-band-limit-requires-2
-band-limit-requires-2 c κs =
+limit-within-requires-2 : tie.Need-limit-within-requires-2
+limit-within-requires-2 c κs =
     let s = c .before .before .before in
     let a = s .args in
-    (s .pre .0, inputs (a .p) (a .s1) Upper (a .c) (a .x) (s .pre .1))
+    let far = ap (λ (z : Limits). z .upper) (s .pre .1 .0) in
+    (s .pre .0, (inputs (a .p) (a .s1) Upper (a .c) (a .x) (s .pre .1 .1), far))
 
 returns : tie.Need-returns
 unfolding bandOf
 returns c =
     let s = c .before .before .before .before in
-    let v = s .pre .1 .term in
+    let v = s .pre .1 .1 .term in
     rw (
-      c .before .before .band-limit .ensures,
-      c .band-limit2 .ensures,
+      c .before .before .limit-within .ensures,
+      c .limit-within2 .ensures,
       bits Lower (s .args .x) v,
       bits Upper (s .args .x) v,
     )
 
 pub band-of-spec : {M : Type 1} → statement M
-band-of-spec = tie.close (tie.spec band-limit-requires band-limit-requires-2 returns)
+band-of-spec = tie.close (tie.spec limit-within-requires limit-within-requires-2 returns)

@@ -1,5 +1,5 @@
 -- `record_soundness::is_limit` meets its contract: the limit is made exactly where the definition's first test passes,
--- and the grid is above 0. Assumes nothing.
+-- and its grid is judged by `is_on_grid`. Assumes nothing.
 use mathlib.Core.Path.{_≡_, sym, _∙_}
 use Prim.Native.Nat.{ℕ}
 use native.Mathlib.Omega.{arith}
@@ -22,8 +22,8 @@ new-requires c κs = search needs
 enum-known-made : tie.Need-enum-known-made
 enum-known-made c = search needs
 
-rem-result : tie.Need-rem-result
-rem-result c = search needs
+is-on-grid-requires : tie.Need-is-on-grid-requires
+is-on-grid-requires c κs = search needs
 
 enum-told : tie.Need-enum-told
 enum-told c = search needs
@@ -38,7 +38,7 @@ returns c =
     let is : limitMade x ≡ Made l = sym (n .new .ensures) ∙ k .made .given .1 in
     let made = picked-first (leb x limitMost) _ (Made l) OutOfRange (λ q. limit-apart l (cc)) is in
     let same : _≡_ {A = Limit} l (record { units = x }) = cc in
-    rw (made .0, same)
+    rw (c .is-on-grid .ensures, made .0, same)
 
 returns-2 : tie.Need-returns-2
 unfolding isLimit limitMade
@@ -49,4 +49,4 @@ returns-2 c =
     rw (picked-second (leb x limitMost) _ OutOfRange (limit-apart (record { units = x })) is)
 
 pub is-limit-spec : {M : Type 1} → statement M
-is-limit-spec = tie.close (tie.spec new-requires enum-known-made rem-result enum-told returns returns-2)
+is-limit-spec = tie.close (tie.spec new-requires enum-known-made is-on-grid-requires enum-told returns returns-2)

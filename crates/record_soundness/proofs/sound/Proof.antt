@@ -1,13 +1,9 @@
 -- `record_soundness::sound` meets its contract: the definition is the figures, then each part as its function judges
--- it. The grid of any lot is above 0. Assumes nothing.
+-- it. Assumes nothing.
 use borrow.Author.Needs.{needs}
-use Rattle.paper_desk.proofs.LimitSizes.{grid-range}
 use Rattle.paper.specs.Ranges.{sound, soundFigures}
 use Rattle.record_soundness.proofs.sound.Statement.{statement}
 use Rattle.record_soundness.proofs.sound.Tie as tie
-
-grid-of-requires : tie.Need-grid-of-requires
-grid-of-requires c κs = search needs
 
 sound-figures-requires : tie.Need-sound-figures-requires
 sound-figures-requires c κs = search needs
@@ -16,16 +12,13 @@ valid-rates-requires : tie.Need-valid-rates-requires
 valid-rates-requires c κs = search needs
 
 valid-three-limits-requires : tie.Need-valid-three-limits-requires
-valid-three-limits-requires c κs =
-    rw (c .before .before .before .before .before .before .before .before .grid-of .ensures) (grid-range _ .0)
+valid-three-limits-requires c κs = search needs
 
 valid-terms-requires : tie.Need-valid-terms-requires
 valid-terms-requires c κs = search needs
 
 valid-three-limits-requires-2 : tie.Need-valid-three-limits-requires-2
-valid-three-limits-requires-2 c κs =
-    rw (c .before .before .before .before .before .before .before .before .before .before .grid-of .ensures)
-    (grid-range _ .0)
+valid-three-limits-requires-2 c κs = search needs
 
 valid-three-near-requires : tie.Need-valid-three-near-requires
 valid-three-near-requires c κs = search needs
@@ -42,7 +35,6 @@ returns c =
     let near = c .before .before .before in
     let bands = near .before .before .before in
     let figures = bands .before .before .before .before in
-    let grid = figures .before .before .before .before .before .before .before in
     rw (
       figures .sound-figures .ensures,
       bands .before .before .before .valid-rates .ensures,
@@ -52,14 +44,12 @@ returns c =
       near .valid-three-near .ensures,
       c .before .valid-session .ensures,
       c .valid-external .ensures,
-      grid .grid-of .ensures,
     )
 
 pub sound-spec : {M : Type 1} → statement M
 sound-spec =
     tie.close
     (tie.spec
-    grid-of-requires
     sound-figures-requires
     valid-rates-requires
     valid-three-limits-requires

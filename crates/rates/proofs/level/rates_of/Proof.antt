@@ -1,23 +1,29 @@
--- `rates::level::rates_of` meets its contract: the three rates. Assumes nothing.
+-- `level::rates_of` meets its contract, level by level, each from the one guess. Assumes nothing.
 use borrow.Author.Needs.{needs}
 use Rattle.rates.proofs.level.rates_of.Statement.{statement}
 use Rattle.rates.proofs.level.rates_of.Tie as tie
-use Rattle.rates.proofs.level.rates_of.Reads as reads
-use Rattle.rates.proofs.level.rates_of.Lts as lts
-use Rattle.rates.proofs.level.level_rate.Reads as level-rate-reads
 
-level-rate-requires : tie.Need-level-rate-requires
-level-rate-requires c κs = search needs
+guess-of-requires : tie.Need-guess-of-requires
+guess-of-requires c κs = search needs
 
-level-rate-requires-2 : tie.Need-level-rate-requires-2
-level-rate-requires-2 c κs = search needs
+rate-near-requires : tie.Need-rate-near-requires
+rate-near-requires c κs = search needs
 
-level-rate-requires-3 : tie.Need-level-rate-requires-3
-level-rate-requires-3 c κs = search needs
+rate-near-requires-2 : tie.Need-rate-near-requires-2
+rate-near-requires-2 c κs = search needs
+
+rate-near-requires-3 : tie.Need-rate-near-requires-3
+rate-near-requires-3 c κs = search needs
 
 returns : tie.Need-returns
-returns c = rw (c .level-rate3 .ensures, c .before .level-rate2 .ensures, c .before .before .level-rate .ensures)
+returns c = rw (c .rate-near3 .ensures, c .before .rate-near2 .ensures, c .before .before .rate-near .ensures)
 
 pub rates-of-spec : {M : Type 1} → statement M
 rates-of-spec =
-    tie.close (tie.spec level-rate-requires level-rate-requires-2 level-rate-requires-3 returns)
+    tie.close
+    (tie.spec
+    guess-of-requires
+    rate-near-requires
+    rate-near-requires-2
+    rate-near-requires-3
+    returns)

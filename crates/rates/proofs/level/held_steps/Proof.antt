@@ -1,0 +1,26 @@
+-- `level::held_steps` meets its contract: the minimum, S_max and every number of steps are multiples of h. Assumes
+-- nothing.
+use native.Mathlib.Nat.{mul-le-mul, le-of-lt}
+use native.Mathlib.Omega.{arith}
+use borrow.Author.Needs.{needs}
+use Rattle.rates.proofs.Reach.{held-tried}
+use Rattle.rates.proofs.level.held_steps.Statement.{statement}
+use Rattle.rates.proofs.level.held_steps.Tie as tie
+
+mul-lesser : tie.Need-mul-lesser
+mul-lesser c = omega (arith, mul-le-mul (le-of-lt (c .before .pre .1 .2)) (c .before .pre .0 .step-high))
+
+lesser-requires : tie.Need-lesser-requires
+lesser-requires c κs = search needs
+
+greater-requires : tie.Need-greater-requires
+greater-requires c κs = search needs
+
+returns : tie.Need-returns
+returns c =
+    let s = c .before .before .before in
+    rw (c .greater .ensures, c .before .lesser .ensures)
+    (held-tried (s .args .st) (s .args .minimum) (s .args .steps) (s .pre .0) (s .pre .1 .0) (s .pre .1 .1))
+
+pub held-steps-spec : {M : Type 1} → statement M
+held-steps-spec = tie.close (tie.spec mul-lesser lesser-requires greater-requires returns)
