@@ -9,6 +9,7 @@ pub mod Calls
 pub mod Known
 pub mod Plain
 pub mod Meeting
+pub mod Looking
 pub mod Passing
 pub mod Turn
 pub mod Telling

@@ -2,9 +2,9 @@
 -- at i. Assumes nothing.
 use mathlib.Core.Path.{_≡_, refl, sym, _∙_, ap}
 use mathlib.Core.Bool.{Bool, true, false, not}
-use mathlib.Core.List.{List, _∷_}
-use Prim.Native.Nat.{ℕ, suc, _+_, _<_}
-use native.Mathlib.Nat.{add-zero, zero-add, le-refl}
+use mathlib.Core.List.{List, [], _∷_}
+use Prim.Native.Nat.{ℕ, suc, _+_, _<_, _≤_, zero-le}
+use native.Mathlib.Nat.{add-zero, zero-add, le-antisymm}
 use native.Mathlib.Numerals.{add-one}
 use native.Mathlib.Omega.{arith}
 use lib.Dec.{T, eqb}
@@ -42,27 +42,40 @@ module _ (t : List Record) (id i : ℕ) (p : Passed t id i) (l : i < length t) w
   from-here : place t id ≡ i + place (getD t i blank ∷ drop (suc i) t) id
   from-here = p ∙ ap (λ (u : List Record). i + place u id) (drop-cons t i blank l)
 
-  found-here : T (eqb (getD t i blank .id) id) → i ≡ place t id
+  pub found-here : T (eqb (getD t i blank .id) id) → i ≡ place t id
   found-here h = omega (arith, from-here, place-first (getD t i blank) (drop (suc i) t) id h)
 
   pub passed-more : T (not (eqb (getD t i blank .id) id)) → Passed t id (i + 1)
   passed-more h = rw add-one (omega (arith, from-here, place-later (getD t i blank) (drop (suc i) t) id h))
 
-  -- the slot that is handed out where the id is found
-  pub slot-here : T (eqb (getD t i blank .id) id) → record { count = length t; at = i; rec = getD t i blank }
-      ≡ slotOf t id
-  unfolding slotOf found
-  slot-here h = ap (λ (k : ℕ). record { count = length t; at = k; rec = getD t k blank }) (found-here h)
+-- where all slots are passed, the place is their number
+pub place-absent : (t : List Record) (id : ℕ) → Passed t id (length t) → length t ≡ place t id
+unfolding place
+place-absent t id p =
+    sym (p ∙ ap (λ (u : List Record). length t + place u id) (drop-length t) ∙ add-zero (length t))
+
+place-within : (t : List Record) (id : ℕ) → place t id ≤ length t
+unfolding place
+place-within [] id = zero-le
+place-within (r ∷ t) id = go (eqb (r .id) id) (place-within t id)
+  where
+    go : (b : Bool) → place t id ≤ length t → pick b 0 (suc (place t id)) ≤ suc (length t)
+    go true h = zero-le
+    go false h = omega (arith, h)
+
+-- the slot that is handed out where the id is found
+pub slot-at-place : (t : List Record) (id : ℕ)
+    → record { count = length t; at = place t id; rec = getD t (place t id) blank } ≡ slotOf t id
+unfolding slotOf found
+slot-at-place t id = refl
 
 -- what is handed out where none of n slots has the id
 abbrev pub absentOf : ℕ → Slot
 absentOf n = record { count = n; at = n; rec = blank }
 
-pub slot-absent : (t : List Record) (id : ℕ) → Passed t id (length t) → absentOf (length t) ≡ slotOf t id
-unfolding place slotOf found
-slot-absent t id p =
-    ap (λ (r : Record). record { count = length t; at = length t; rec = r })
-    (sym (List·getD-eq-default t blank (le-refl (length t))))
-    ∙ ap (λ (k : ℕ). record { count = length t; at = k; rec = getD t k blank })
-    (sym (p ∙ ap (λ (u : List Record). length t + place u id)
-    (drop-length t) ∙ add-zero (length t)))
+pub slot-absent : (t : List Record) (id : ℕ) → length t ≤ place t id → absentOf (place t id) ≡ slotOf t id
+unfolding slotOf found
+slot-absent t id past =
+    ap (λ (n : ℕ). record { count = n; at = place t id; rec = blank }) (le-antisymm (place-within t id) past)
+    ∙ ap (λ (r : Record). record { count = length t; at = place t id; rec = r })
+    (sym (List·getD-eq-default t blank past))

@@ -1,6 +1,6 @@
-// The calls over the table, a lent row of records. Only `take` and `put` touch the row. Each call takes the slot, asks
-// its rule by value and stores what the rule says, with no branch of its own: a refusal is stored past the end, where
-// nothing is.
+// The calls over the table, a lent row of records. Only `place_of`, `take` and `put` touch the row. Each call takes the
+// slot, asks its rule by value and stores what the rule says, with no branch of its own: a refusal is stored past the
+// end, where nothing is.
 use paper::Admission;
 use paper::Answer;
 use paper::AskedDay;
@@ -14,7 +14,7 @@ use record_answers::Slot;
 ghost use mathlib.Core.Path.{_≡_};
 ghost use lib.ListN.{set};
 ghost use Rattle.paper_desk.specs.External.{Told};
-ghost use Rattle.paper_desk.specs.Desk.{Call, step};
+ghost use Rattle.paper_desk.specs.Desk.{Call, place, step};
 ghost use Rattle.paper.specs.Terms.{dayOf};
 ghost use Rattle.record_answers.specs.Effects.{slotOf, evaluateEffect};
 ghost use Rattle.desk.specs.Promises.{Promised};
@@ -22,20 +22,32 @@ ghost use Rattle.desk.specs.Promises.{Promised};
 // "id 0 marks an empty slot"
 const EMPTY: u64 = 0;
 
-// The first slot with an id: "Where an id stands in several slots the first alone counts".
-pub fn take(t: &[Record], id: u64) -> Slot
-    ensures { λ r. ⌜ r ≡ slotOf (now (t .entry)) id ⌝ }
+// The place of the first slot with an id, or the number of slots: "Where an id stands in several slots the first alone
+// counts". The walk is a function of its own, because its loop stays small where it does not hold the copy of a record.
+pub fn place_of(t: &[Record], id: u64) -> usize
+    ensures { λ r. ⌜ r ≡ place (now (t .entry)) id ⌝ }
 {
     let mut i = 0;
     while i < t.len() {
         if t[i].id == id {
-            return Slot {
-                count: t.len(),
-                at: i,
-                rec: t[i],
-            };
+            return i;
         }
         i = i + 1;
+    }
+    i
+}
+
+// The first slot with an id, and the record in it.
+pub fn take(t: &[Record], id: u64) -> Slot
+    ensures { λ r. ⌜ r ≡ slotOf (now (t .entry)) id ⌝ }
+{
+    let i = place_of(t, id);
+    if i < t.len() {
+        return Slot {
+            count: t.len(),
+            at: i,
+            rec: t[i],
+        };
     }
     record_answers::absent(i)
 }
