@@ -1,5 +1,5 @@
-/* For bench/from-bitcode alone: the toolchain has its C functions of a program's arguments for x86-64 only, so a program
- * that is compiled for another machine, for a measurement, takes these three in their place. */
+/* For bench/from-bitcode alone: the toolchain has its C functions of a program's arguments for x86-64 only, so a
+ * program that is compiled for another machine, for a measurement, takes these three in their place. */
 #include <errno.h>
 #include <stddef.h>
 #include <string.h>

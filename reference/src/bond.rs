@@ -150,8 +150,10 @@ fn flows_are_in_range(flows: &[i64]) -> bool {
 
 /// A bond's statics among a share's.
 fn statics(numbers: &[i64]) -> Option<Statics> {
-    let &[step, multiplier, wait, rh1, rh2, rh3, liq, min1, min2, min3, s_max, x_pr, pch_max, pcl_max, monitoring, is_ewma] =
-        <&[i64; STATICS]>::try_from(numbers).ok()?;
+    let numbers = <&[i64; STATICS]>::try_from(numbers).ok()?;
+    let &[step, multiplier, wait, rh1, rh2, rh3, liq, min1, min2, min3, s_max, ref others @ ..] =
+        numbers;
+    let &[x_pr, pch_max, pcl_max, monitoring, is_ewma] = others;
     let statics = Statics {
         lot: 1,
         step,

@@ -33,5 +33,5 @@ near-range st g x price v l p =
     }
 
 -- "to - from strictly less than w·(PcH - PcL)"
-unfoldable pub closer : ℕ → Limits → (from to : ℕ) → Bool
+unfoldable pub closer : (w : ℕ) → Limits → (from to : ℕ) → Bool
 closer w x from to = ltZ (pos oneInTenThousandths *ℤ subℕ to from) (pos w *ℤ subℕ (x .upper) (x .lower))

@@ -13,9 +13,9 @@ use Rattle.paper.specs.Ranges.{validStatics, tentativeTop, validTentative, vali
 use Rattle.paper_desk.specs.Rates.{tentativeRate, ratedBy, minimumOf, unmodelled, figuresByVolatility}
 use Rattle.paper.proofs.Logic.{and-left, and-right, each-of-three}
 use Rattle.paper_desk.proofs.Level.{level-rate-is}
-use Rattle.exact.specs.SignedLaws.{repo-le}
+use Rattle.exact.specs.SignedLaws.{repo-within-most}
 use Rattle.rates.specs.Asked.{RateStatics, VolatilityRanges}
-use Rattle.rates.proofs.Statics.{valid-rates, top-within}
+use Rattle.rates.proofs.Statics.{valid-are-rate-statics, within-tentative-bound}
 use Rattle.paper_bonds.specs.declared.Bond.{Bond}
 use Rattle.paper_bonds.specs.BondNumbers.{netMost, moneyMost}
 use Rattle.paper_bonds.specs.Bonds.{bondStatics, termsOf, validNumbers, validBond, bondFigures, firstRate}
@@ -49,7 +49,7 @@ bond-facts b v =
       volatility = leb-true _ _ (search (n, and-left, and-right) depth 20);
       tentative = leb-true _ _ (search (n, and-left, and-right) depth 20);
       age = leb-true _ _ (search (n, and-left, and-right) depth 20);
-      repo = repo-le (b .repo) (search (v, and-right));
+      repo = repo-within-most (b .repo) (search (v, and-right));
     }
 
 pub bond-terms-valid : (b : Bond) → validBond b ≡ true → (k : ℕ) → k < 3 → validTerm (termAt (termsOf b) k) ≡ true
@@ -63,12 +63,12 @@ pub volatility-ranges : (b : Bond) → validBond b ≡ true
     → VolatilityRanges (bondStatics b) (b .m) (b .s) (b .tentative)
 volatility-ranges b v =
     let facts = bond-facts b v in
-    let statics : RateStatics (bondStatics b) = valid-rates (bondStatics b) (bond-statics-valid b v) in
+    let statics : RateStatics (bondStatics b) = valid-are-rate-statics (bondStatics b) (bond-statics-valid b v) in
     record {
       statics = statics;
       ahead = facts .ahead;
       volatility = facts .volatility;
-      tentative = top-within statics (facts .tentative);
+      tentative = within-tentative-bound statics (facts .tentative);
       age = facts .age;
     }
 
@@ -81,7 +81,7 @@ first-rate-high b v = go (bondStatics b .ewma)
     valid = bond-statics-valid b v
 
     statics : RateStatics (bondStatics b)
-    statics = valid-rates (bondStatics b) valid
+    statics = valid-are-rate-statics (bondStatics b) valid
 
     by-model : Figures
     by-model = ratedBy (bondStatics b) (b .m) (tentativeRate (bondStatics b) (b .s)) (b .s) (b .tentative)

@@ -17,7 +17,7 @@ use Rattle.paper.specs.Ranges.{withinZ, unsigned, partsFrom}
 use Rattle.paper.specs.Roundings.{halfUp, grown}
 use Rattle.paper.proofs.Logic.{and-left, and-right}
 use Rattle.paper.proofs.Roundings.{half-le}
-use Rattle.exact.specs.SignedLaws.{growthMost, grown-range, unsigned-le}
+use Rattle.exact.specs.SignedLaws.{growthMost, grown-near-base, unsigned-le}
 use Rattle.exact.specs.LentLaws.{Place, partsLeft, left-first, left-here, left-end}
 use Rattle.paper_bonds.specs.declared.Flow.{Flow}
 use Rattle.paper_bonds.specs.BondNumbers.{moneyMost, flowNumbers, allFlowNumbersMost, flowDayLeast, flowDayMost}
@@ -56,7 +56,7 @@ amount-high f v =
 
 -- ---- the cash flows from a place on
 
-abbrev pub restOf : List ℤ → (at : ℕ) → List LentFlow
+abbrev pub restOf : (numbers : List ℤ) → (at : ℕ) → List LentFlow
 restOf numbers at = partsLeft flowAt flowNumbers numbers at
 
 pub rest-first : (numbers : List ℤ) → restOf numbers 0 ≡ lentFlows numbers
@@ -76,7 +76,7 @@ carryMost = 4 * carryTermMost
 pub year-high : (k : ℕ) (repo : ℤ) (day : ℕ) → CarryInputs k repo → grown yearInDayBp (k - day) repo ≤ 2 * yearInDayBp
 year-high k repo day i =
     let days : k - day ≤ termDaysMost = omega (arith, i .days) in
-    omega (arith, grown-range yearInDayBp (k - day) repo days (i .rate) .0)
+    omega (arith, grown-near-base yearInDayBp (k - day) repo days (i .rate) .0)
 
 pub term-high : (k : ℕ) (repo : ℤ) (f : Flow) → CarryInputs k repo → f .amount ≤ moneyMost
     → carryTerm repo k f ≤ carryTermMost

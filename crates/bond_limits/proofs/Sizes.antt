@@ -19,7 +19,7 @@ use Rattle.paper.specs.Roundings.{grown}
 use Rattle.paper_desk.specs.Limits.{grownPrice, growing, shifted, farthest, spread}
 use Rattle.paper_desk.proofs.LimitSizes.{LimitStatics}
 use Rattle.paper.proofs.Roundings.{half-le}
-use Rattle.exact.specs.SignedLaws.{growthMost, grown-range}
+use Rattle.exact.specs.SignedLaws.{growthMost, grown-near-base}
 use Rattle.exact.specs.Wide.{Divides}
 use Rattle.limits.specs.Sides.{farthestRate}
 use Rattle.limits.specs.LimitLaws.{shifted-high}
@@ -34,7 +34,7 @@ rate-kept-in-bits x h = toZ-ofZ (record { sfits = omega arith })
 -- a year with the days of a term: at most 3,950,000
 pub year-high : (k : ℕ) (repo : ℤ) → k ≤ termDaysMost → mag repo ≤ mag repoMost
     → grown yearInDayBp k repo ≤ yearInDayBp + growthMost
-year-high k repo d r = grown-range yearInDayBp k repo d r .0
+year-high k repo d r = grown-near-base yearInDayBp k repo d r .0
 
 module _ (x whole k : ℕ) (repo : ℤ) (g : GrowthRange x whole k repo) where
   abbrev year : ℕ

@@ -15,7 +15,7 @@ use Rattle.paper_desk.specs.Sequences.{carries, LastDay, noDay, onDay, lastEval
 use Rattle.paper_desk.proofs.LimitSizes.{LimitStatics, valid-limit-statics}
 use Rattle.paper_desk.proofs.Bands.{evaluated-uncrossed, moved-not-crossed}
 use Rattle.demands.proofs.Histories.{after, recordOf, eventChecks, Lawful}
-use Rattle.demands.proofs.Sequences.{three-at, one-more-noted, lawful-figures, lawful-statics}
+use Rattle.demands.proofs.Sequences.{three-gives-each, one-more-noted, lawful-figures, lawful-statics}
 
 -- a move keeps what the definitions give uncrossed
 now-uncrossed : (a : Admission) (es : List Event) (side : Side) (x : LastDay) (k : ℕ)
@@ -32,7 +32,7 @@ now-uncrossed a es side (onDay d) k s e =
 pub lawful-uncrossed : (a : Admission) (es : List Event) → Lawful a es → (k : ℕ) → k < 3
     → crossed (getD (recordOf a es .bands) k noLimits) ≡ false
 unfolding recordOf after eventChecks admitted quoted eveningOpened received crossed lastEvaluated
-lawful-uncrossed a [] v k l = ap crossed (three-at (λ i. noLimits) noLimits k l)
+lawful-uncrossed a [] v k l = ap crossed (three-gives-each (λ i. noLimits) noLimits k l)
 lawful-uncrossed a (evaluatedOn d rows ∷ es) (v, n) k l = evaluated-uncrossed true (recordOf a es) d rows n k l
 lawful-uncrossed a (quotedAt q ∷ es) (v, n) k l = lawful-uncrossed a es v k l
 lawful-uncrossed a (movedBy side ∷ es) (v, n) k l =

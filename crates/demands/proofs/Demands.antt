@@ -19,7 +19,7 @@ use Rattle.demands.proofs.Kept.{run-sound, call-knows}
 use Rattle.demands.proofs.Histories.{recordOf, Lawful}
 use Rattle.demands.proofs.Known.{one-exactly-unknown, history-since, known-admitted, no-such-id, already-admitted, stays-known}
 use Rattle.paper_desk.proofs.PinnedLaws.{bad-table-refused}
-use Rattle.demands.proofs.Sequences.{quote-term, alerts-noted, lawful-figures, lawful-statics, rates-hold}
+use Rattle.demands.proofs.Sequences.{accepted-term-below-three, alerts-noted, lawful-figures, lawful-statics, rates-hold}
 use Rattle.demands.proofs.Bands.{lawful-uncrossed}
 use Rattle.demands.proofs.Carried.{lawful-near}
 use Rattle.demands.proofs.InterestCarried.{evenings-near}
@@ -91,7 +91,7 @@ module _ (a : Admission) (es : List Event) (t : List Record) where
   accepted-answers (evaluate id d rows) k n =
       shown id (evaluated (found t id) d rows) (call-knows (evaluate id d rows) t refl n) refl
   accepted-answers (quote id q) k n =
-      alerts-noted a es (found t id) q k (quote-term (known t id) (found t id) q n) id t
+      alerts-noted a es (found t id) q k (accepted-term-below-three (known t id) (found t id) q n) id t
   accepted-answers (move id side) k n =
       shown id (moved (found t id) (sideOf side)) (call-knows (move id side) t refl n) refl
   accepted-answers (read id) k n = refl

@@ -46,7 +46,7 @@ use Rattle.demands.proofs.Histories.{recordOf, Lawful}
 use Rattle.demands.proofs.Known.{lawful-good, stays-known}
 use Rattle.demands.proofs.Sequences.{lawful-figures, lawful-statics, rates-hold}
 use Rattle.demands.proofs.Bands.{lawful-uncrossed}
-use Rattle.demands.proofs.SlotHistories.{known-full, slot-made}
+use Rattle.demands.proofs.SlotHistories.{known-has-id, full-slot-made}
 
 -- ---- a live record's figures, from its own
 
@@ -61,19 +61,19 @@ record Worked (r : Record) (m : ℕ) : Type 0 where
       → bandAt r k ≡ bandOf (r .statics) (r .p1 .units) (rateAt (r .rates) 0) (r .moves) (termAt (r .terms) k)
   uncrossed : BandsInOrder r
 
-live-on : (a : Admission) (x : LastDay) → isLive (standingNow a x) ≡ true → (d : Day) × (x ≡ onDay d)
+live-has-day : (a : Admission) (x : LastDay) → isLive (standingNow a x) ≡ true → (d : Day) × (x ≡ onDay d)
 unfolding standingNow isLive
-live-on a noDay live = absurd (not-true-and-false false live refl)
-live-on a (onDay d) live = (d, refl)
+live-has-day a noDay live = absurd (not-true-and-false false live refl)
+live-has-day a (onDay d) live = (d, refl)
 
 module _ (a : Admission) (es : List Event) (l : Lawful a es) where
-  figures : FiguresHold a es (recordOf a es)
-  figures = lawful-figures a es l
+  figures-hold : FiguresHold a es (recordOf a es)
+  figures-hold = lawful-figures a es l
 
   worked-on : (d : Day) → lastEvaluated es ≡ onDay d → Worked (recordOf a es) (d .m)
   unfolding rangeNow bandNow termNow
   worked-on d e =
-      let k : FiguresHold a es (recordOf a es) = figures in
+      let k : FiguresHold a es (recordOf a es) = figures-hold in
       record {
         parts = sound-has-parts (recordOf a es) (good-sound (recordOf a es) (lawful-good a es l));
         rates =
@@ -87,7 +87,7 @@ module _ (a : Admission) (es : List Event) (l : Lawful a es) where
 
   live-worked : isLive (recordOf a es .standing) ≡ true → (m : ℕ) × Worked (recordOf a es) m
   live-worked live =
-      let on = live-on a (lastEvaluated es) (sym (ap isLive (figures .standing)) ∙ live) in
+      let on = live-has-day a (lastEvaluated es) (sym (ap isLive (figures-hold .standing)) ∙ live) in
       (on .0 .m, worked-on (on .0) (on .1))
 
 -- ---- the lines
@@ -99,13 +99,14 @@ record Between (st : Statics) (level rate : ℕ) : Type 0 where
   multiple : rate % st .h ≡ 0
 
 -- numbers that ascend: the last of them, and one more before them
-last : (x : ℕ) → ascending (x ∷ []) ≡ true
+one-is-ascending : (x : ℕ) → ascending (x ∷ []) ≡ true
 unfolding ascending
-last x = refl
+one-is-ascending x = refl
 
-more : (x y : ℕ) (rest : List ℕ) → x ≤ y → ascending (y ∷ rest) ≡ true → ascending (x ∷ y ∷ rest) ≡ true
+lesser-first-is-ascending : (x y : ℕ) (rest : List ℕ) → x ≤ y → ascending (y ∷ rest) ≡ true
+    → ascending (x ∷ y ∷ rest) ≡ true
 unfolding ascending
-more x y rest l v = and-both (leb x y) (ascending (y ∷ rest)) (le-leb x y l) v
+lesser-first-is-ascending x y rest l v = and-both (leb x y) (ascending (y ∷ rest)) (le-leb x y l) v
 
 module _ (r : Record) (m : ℕ) (w : Worked r m) where
   on-grid : r .p1 .units % gridOf (r .statics .lot) ≡ 0
@@ -113,8 +114,8 @@ module _ (r : Record) (m : ℕ) (w : Worked r m) where
   on-grid = eqb-true _ _ (and-right (isPrice (r .p1 .units)) _ (w .parts .p1))
 
   -- the rate of the next level is not the lesser
-  next-rate : (i : ℕ) → i < 2 → rateAt (r .rates) i ≤ rateAt (r .rates) (i + 1)
-  next-rate i l = go (r .statics .ewma) refl
+  next-rate-not-less : (i : ℕ) → i < 2 → rateAt (r .rates) i ≤ rateAt (r .rates) (i + 1)
+  next-rate-not-less i l = go (r .statics .ewma) refl
     where
       go : (on : Bool) → r .statics .ewma ≡ on → rateAt (r .rates) i ≤ rateAt (r .rates) (i + 1)
       go true on =
@@ -131,10 +132,11 @@ module _ (r : Record) (m : ℕ) (w : Worked r m) where
 
   rates-in-order : ascending (ratesOf r) ≡ true
   rates-in-order =
-      more _ _ _ (next-rate 0 (omega arith)) (more _ _ _ (next-rate 1 (omega arith)) (last _))
+      lesser-first-is-ascending _ _ _ (next-rate-not-less 0 (omega arith))
+      (lesser-first-is-ascending _ _ _ (next-rate-not-less 1 (omega arith)) (one-is-ascending _))
 
-  between : (i : ℕ) → i < 3 → Between (r .statics) (i + 1) (rateAt (r .rates) i)
-  between i l = go (r .statics .ewma) refl
+  rate-between : (i : ℕ) → i < 3 → Between (r .statics) (i + 1) (rateAt (r .rates) i)
+  rate-between i l = go (r .statics .ewma) refl
     where
       go : (on : Bool) → r .statics .ewma ≡ on → Between (r .statics) (i + 1) (rateAt (r .rates) i)
       go true on =
@@ -145,32 +147,32 @@ module _ (r : Record) (m : ℕ) (w : Worked r m) where
           rw (w .rates .minima off i l) (record { low = omega arith; high = k .low; multiple = k .minimum })
 
   -- the ranges, on either side
-  next-range : (side : Side) (i : ℕ) → i < 2
+  next-range-outward : (side : Side) (i : ℕ) → i < 2
       → Outward side (limitOn side (rangeAt r (i + 1))) (limitOn side (rangeAt r i))
-  next-range side i l =
+  next-range-outward side i l =
       rw (w .ranges i (omega arith), w .ranges (i + 1) (omega arith))
       (moved-range-outward (r .statics) side (r .p1 .units) (rateAt (r .rates) 0) (rateAt (r .rates) i)
-      (rateAt (r .rates) (i + 1)) (r .moves) (next-rate i l))
+      (rateAt (r .rates) (i + 1)) (r .moves) (next-rate-not-less i l))
 
-  first-range : (side : Side) → Outward side (limitOn side (rangeAt r 0)) (r .p1 .units)
-  first-range side =
+  first-range-around : (side : Side) → Outward side (limitOn side (rangeAt r 0)) (r .p1 .units)
+  first-range-around side =
       rw (w .ranges 0 (omega arith))
       (moved-range-around (r .statics) side (r .p1 .units) (rateAt (r .rates) 0) (rateAt (r .rates) 0) (r .moves)
       on-grid)
 
   ranges-in-order : ascending (rangesAround r) ≡ true
   ranges-in-order =
-      more _ _ _ (next-range Lower 1 (omega arith))
-      (more _ _ _ (next-range Lower 0 (omega arith))
-      (more _ _ _ (first-range Lower)
-      (more _ _ _ (first-range Upper)
-      (more _ _ _ (next-range Upper 0 (omega arith))
-      (more _ _ _ (next-range Upper 1 (omega arith)) (last _))))))
+      lesser-first-is-ascending _ _ _ (next-range-outward Lower 1 (omega arith))
+      (lesser-first-is-ascending _ _ _ (next-range-outward Lower 0 (omega arith))
+      (lesser-first-is-ascending _ _ _ (first-range-around Lower)
+      (lesser-first-is-ascending _ _ _ (first-range-around Upper)
+      (lesser-first-is-ascending _ _ _ (next-range-outward Upper 0 (omega arith))
+      (lesser-first-is-ascending _ _ _ (next-range-outward Upper 1 (omega arith)) (one-is-ascending _))))))
 
   -- the evaluation lies on the inner side of each limit
-  band-holds : (k : ℕ) → k < 3 → holdsZero (termAt (r .terms) k) ≡ true
+  band-holds-price : (k : ℕ) → k < 3 → holdsZero (termAt (r .terms) k) ≡ true
       → within (bandAt r k .lower) (bandAt r k .upper) (r .p1 .units) ≡ true
-  band-holds k l z =
+  band-holds-price k l z =
       rw (w .bands k l)
       (and-both _ _
       (le-leb _ _ (one Lower (and-left (leZ (x .low) (pos 0)) _ z)))
@@ -198,11 +200,11 @@ module _ (r : Record) (m : ℕ) (w : Worked r m) where
   worked-in-order t slot others =
       record {
         rates-ascend = rates-in-order;
-        rates-between = λ i l. and-both _ _ (le-leb _ _ (between i l .low)) (le-leb _ _ (between i l .high));
-        rates-multiples = λ i l. between i l .multiple;
+        rates-between = λ i l. and-both _ _ (le-leb _ _ (rate-between i l .low)) (le-leb _ _ (rate-between i l .high));
+        rates-multiples = λ i l. rate-between i l .multiple;
         ranges-ascend = ranges-in-order;
         bands = w .uncrossed;
-        evaluation-within = band-holds;
+        evaluation-within = band-holds-price;
         ranges-most = λ i l.
             limits-at-most (rangeAt r i)
             (each-of-three (λ i. validLimits (gridOf (r .statics .lot)) (rangeAt r i)) (w .parts .ranges) i l);
@@ -217,7 +219,7 @@ module _ (r : Record) (m : ℕ) (w : Worked r m) where
 pub live-in-order : (cs : List Call) (t : List Record) → FreshTable t → (slot : ℕ) → HoldsLive (run cs t) slot
     → InOrder (run cs t) slot (slotAt (run cs t) slot)
 live-in-order cs t f slot k =
-    let made = slot-made cs t f slot (k .full) in
+    let made = full-slot-made cs t f slot (k .full) in
     let live : isLive (recordOf (made .admission) (made .events) .standing) ≡ true =
     sym (ap (λ (r : Record). isLive (r .standing)) (made .same)) ∙ k .live in
     let w = live-worked (made .admission) (made .events) (made .lawful) live in
@@ -231,7 +233,7 @@ found-in-order : (cs : List Call) (t : List Record) → FreshTable t → (id : �
     → InOrder (run cs t) (place (run cs t) id) (found (run cs t) id)
 unfolding found
 found-in-order cs t f id there live =
-    live-in-order cs t f (place (run cs t) id) (record { full = known-full (run cs t) id there; live = live })
+    live-in-order cs t f (place (run cs t) id) (record { full = known-has-id (run cs t) id there; live = live })
 
 -- ---- what a member sees
 

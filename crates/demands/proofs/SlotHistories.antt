@@ -35,15 +35,15 @@ abbrev SlotsMade : List Record → Type 0
 SlotsMade t = (slot : ℕ) → slotAt t slot .id ≢ 0 → Made (slotAt t slot)
 
 -- every slot of a fresh table is empty
-fresh-slot : (t : List Record) (slot : ℕ) → fresh t ≡ true → slotAt t slot .id ≡ 0
+fresh-slot-empty : (t : List Record) (slot : ℕ) → fresh t ≡ true → slotAt t slot .id ≡ 0
 unfolding fresh every blank
-fresh-slot [] slot f = refl
-fresh-slot (r ∷ t) zero f = eqb-true (r .id) 0 (and-left (eqb (r .id) 0) _ f)
-fresh-slot (r ∷ t) (suc slot) f = fresh-slot t slot (and-right (eqb (r .id) 0) _ f)
+fresh-slot-empty [] slot f = refl
+fresh-slot-empty (r ∷ t) zero f = eqb-true (r .id) 0 (and-left (eqb (r .id) 0) _ f)
+fresh-slot-empty (r ∷ t) (suc slot) f = fresh-slot-empty t slot (and-right (eqb (r .id) 0) _ f)
 
 -- a known id is not 0, so that its slot is full
-pub known-full : (t : List Record) (i : ℕ) → known t i ≡ true → found t i .id ≢ 0
-known-full t i e w =
+pub known-has-id : (t : List Record) (i : ℕ) → known t i ≡ true → found t i .id ≢ 0
+known-has-id t i e w =
     let low : leb 1 (found t i .id) ≡ true =
     and-left (leb 1 (found t i .id)) (leb (found t i .id) idMost)
     (sound-has-parts (found t i) (known-sound t i e) .id) in
@@ -71,7 +71,7 @@ made-kept c t w = holds-after-step SlotsMade c t w (λ _ n. accepted c n)
         → SlotsMade (set t (place t i) (after (found t i) e))
     event i e there n =
         stored (place t i) (after (found t i) e)
-        (made-after (found t i) e (w (place t i) (known-full t i there))
+        (made-after (found t i) e (w (place t i) (known-has-id t i there))
         (subst (λ (b : Bool). NoneApplies (eventChecks b (found t i) e)) there n))
 
     accepted : (c : Call) → NoneApplies (checksOf c t) → SlotsMade (acceptedOf c t .table)
@@ -96,6 +96,6 @@ unfolding run
 run-made [] t w = w
 run-made (c ∷ cs) t w = run-made cs (step c t .table) (made-kept c t w)
 
-pub slot-made : (cs : List Call) (t : List Record) → FreshTable t → (slot : ℕ) → slotAt (run cs t) slot .id ≢ 0
+pub full-slot-made : (cs : List Call) (t : List Record) → FreshTable t → (slot : ℕ) → slotAt (run cs t) slot .id ≢ 0
     → Made (slotAt (run cs t) slot)
-slot-made cs t f = run-made cs t (λ slot full. absurd (full (fresh-slot t slot (f .empty))))
+full-slot-made cs t f = run-made cs t (λ slot full. absurd (full (fresh-slot-empty t slot (f .empty))))

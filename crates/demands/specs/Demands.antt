@@ -124,8 +124,8 @@ answerThen a es (openEvening id) t = showing (found t id)
 answerThen a es (receive id x) t = showing (found t id)
 
 -- "Each evaluation, rate, range and band is the one document 01 defines. .. For every sequence of admissions,
--- evaluations, quotes and moves"; W-210: "over sequences that contain openings"; W-211: "these calls too". Of a security
--- whose history in the calls that made the table t is its admission a and its accepted calls es
+-- evaluations, quotes and moves"; W-210: "over sequences that contain openings"; W-211: "these calls too". Of a
+-- security whose history in the calls that made the table t is its admission a and its accepted calls es
 pub record Demand2 (id : ℕ) (a : Admission) (es : List Event) (t : List Record) : Type 0 where
   pub is-known : known t id ≡ true
   pub figures : FiguresHold a es (found t id)

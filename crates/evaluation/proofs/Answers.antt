@@ -44,9 +44,10 @@ module _ (g previous : ℕ) (used : External) (rows : List Row) where
   chosenIn b = between (figuresIn previous used b .bid) (closeIn previous b) (figuresIn previous used b .ask)
 
   -- the evaluation from the book
-  of-book : (b : Book) → b ≡ bookOf (map roublesOf rows) → toGrid g (chosenIn b) 1 ≡ evaluationOf g previous used rows
+  book-gives-evaluation : (b : Book) → b ≡ bookOf (map roublesOf rows)
+      → toGrid g (chosenIn b) 1 ≡ evaluationOf g previous used rows
   unfolding evaluationOf bookOf bidOf askOf
-  of-book b p =
+  book-gives-evaluation b p =
       let rs : List Roubles = map roublesOf rows in
       ap (λ (z : Book). toGrid g (chosenIn z) 1) p
       ∙ ap (λ (z : ℕ). toGrid g (between (bidOf used rs) z (askOf used rs)) 1) (close-of-book previous rs)
@@ -62,9 +63,10 @@ module _ (g previous : ℕ) (used : External) (rows : List Row) where
       (close-of-book previous rs)
 
   -- 7 for a row
-  pub made-beyond : (r : Gathered) → isBook r ≡ false → r ≡ fittedOf rows → Beyond ≡ evaluationMade g previous used rows
+  pub no-book-makes-beyond : (r : Gathered) → isBook r ≡ false → r ≡ fittedOf rows
+      → Beyond ≡ evaluationMade g previous used rows
   unfolding evaluationMade evaluationFits
-  made-beyond r n k = step (every rowFits rows) k
+  no-book-makes-beyond r n k = step (every rowFits rows) k
     where
       step : (t : Bool) → r ≡ pick t (gathered.Whole (bookOf (map roublesOf rows))) gathered.Beyond
           → Beyond
@@ -73,22 +75,22 @@ module _ (g previous : ℕ) (used : External) (rows : List Row) where
       step false p = refl
 
   -- the evaluation, or 7 for it
-  pub made-book : (b : Book) → gathered.Whole b ≡ fittedOf rows
+  pub book-makes-evaluation : (b : Book) → gathered.Whole b ≡ fittedOf rows
       → evaluationFrom (toGrid g (chosenIn b) 1) (figuresIn previous used b) ≡ evaluationMade g previous used rows
   unfolding evaluationMade evaluationFits evaluationFrom pricedOf
-  made-book b k = step (every rowFits rows) k
+  book-makes-evaluation b k = step (every rowFits rows) k
     where
       step : (t : Bool) → gathered.Whole b ≡ pick t (gathered.Whole (bookOf (map roublesOf rows))) gathered.Beyond
           → evaluationFrom (toGrid g (chosenIn b) 1) (figuresIn previous used b)
           ≡ pick (t && isPrice (evaluationOf g previous used rows)) (Evaluated (pricedOf g previous used rows)) Beyond
-      step true p = rw (of-book b (cc), figures-of-book b (cc))
+      step true p = rw (book-gives-evaluation b (cc), figures-of-book b (cc))
       step false p = absurd (let z : _≡_ {A = ℕ} 0 1 = cc in omega arith)
 
 -- the evaluation as the price's constructor has it
-pub from-made : (units : ℕ) (p : Price) (f : PriceFigures) → made.Made p ≡ priceMade units
+pub made-price-is-evaluated : (units : ℕ) (p : Price) (f : PriceFigures) → made.Made p ≡ priceMade units
     → Evaluated (record { price = p; figures = f }) ≡ evaluationFrom units f
 unfolding priceMade evaluationFrom
-from-made units p f k = step (isPrice units) k
+made-price-is-evaluated units p f k = step (isPrice units) k
   where
     step : (t : Bool) → made.Made p ≡ pick t (made.Made (record { units = units })) made.OutOfRange
         → Evaluated (record { price = p; figures = f })
@@ -96,9 +98,10 @@ from-made units p f k = step (isPrice units) k
     step true q = let same : p ≡ record { units = units } = cc in rw same
     step false q = absurd (let z : _≡_ {A = ℕ} 0 1 = cc in omega arith)
 
-pub from-out : (units : ℕ) (f : PriceFigures) → made.OutOfRange ≡ priceMade units → Beyond ≡ evaluationFrom units f
+pub price-out-of-range-is-beyond : (units : ℕ) (f : PriceFigures) → made.OutOfRange ≡ priceMade units
+    → Beyond ≡ evaluationFrom units f
 unfolding priceMade evaluationFrom
-from-out units f k = step (isPrice units) k
+price-out-of-range-is-beyond units f k = step (isPrice units) k
   where
     step : (t : Bool) → made.OutOfRange ≡ pick t (made.Made (record { units = units })) made.OutOfRange
         → Beyond ≡ pick t (Evaluated (record { price = record { units = units }; figures = f })) Beyond

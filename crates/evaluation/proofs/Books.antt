@@ -15,7 +15,7 @@ use Rattle.paper_desk.specs.Evaluation.{traded, weights, worth, mean, closeOf, 
 use Rattle.evaluation.specs.declared.Book.{Book}
 use Rattle.evaluation.specs.Book.{Room, Bounded, added, bookOf, closeIn}
 use Rattle.evaluation.proofs.Prices.{Fitting}
-use Rattle.evaluation.proofs.Sides.{second-missing, lesser-le, lesser-assoc}
+use Rattle.evaluation.proofs.Sides.{lesser-is-first, lesser-le, lesser-assoc}
 
 -- ---- a book, joined with the rows that are still to come
 
@@ -65,7 +65,7 @@ joined-none b =
       worth = second i;
       bid = max-zero (b .bid) i;
       ask =
-          sym (second-missing (b .ask) 0 refl) i;
+          sym (lesser-is-first (b .ask) 0 refl) i;
     }
 
 -- ---- the close: a row of weight 0 adds nothing, so the sums over all rows are those over the rows with weight

@@ -1,5 +1,5 @@
--- What `gather` keeps at each row: the book so far, joined with the rows still to come, is the book of all rows, and the
--- rows still to come decide whether all are in range and taken. Assumes nothing.
+-- What `gather` keeps at each row: the book so far, joined with the rows still to come, is the book of all rows, and
+-- the rows still to come decide whether all are in range and taken. Assumes nothing.
 use mathlib.Core.Path.{_≡_, refl, sym, ap, _∙_}
 use mathlib.Core.Bool.{Bool, true, false, not, _&&_, _||_}
 use mathlib.Core.List.{List, [], _∷_, map}
@@ -16,12 +16,12 @@ use Rattle.paper_desk.specs.Evaluation.{roublesOf, dayRows, isCrossedRow, hasCr
 use Rattle.paper.proofs.Logic.{not-true-and-false, and-left, and-right}
 use Rattle.exact.specs.EveryLaws.{every-cons, every-in, every-out, every-nil}
 use Rattle.exact.specs.LentLaws.{Place, place-first, place-next, left-here, left-end}
-use Rattle.rows.specs.RowLaws.{restOf, rest-first, in-range}
+use Rattle.rows.specs.RowLaws.{restOf, rest-first, valid-row-in-range}
 use Rattle.evaluation.specs.declared.Book.{Book}
 use Rattle.evaluation.specs.declared.Gathered.{Gathered}
 use Rattle.evaluation.specs.declared.Gathered.the-variants.{OutOfRange, Crossed, Beyond, Whole}
 use Rattle.evaluation.specs.Book.{added, bookOf, isTaken, gatheredOf, isBook, Gathers}
-use Rattle.evaluation.proofs.Prices.{fitting}
+use Rattle.evaluation.proofs.Prices.{roubles-are-fitting}
 use Rattle.evaluation.proofs.Books.{joined, empty, joined-first, joined-next, joined-none, Filled, filled-first, filled-next}
 
 -- the day's rows from a place on
@@ -80,14 +80,14 @@ gathered-beyond numbers v c t =
     rw (v, c, no)
 
 -- what is no book has no bounds to keep
-pub no-book : (numbers : List ℤ) (r : Gathered) → isBook r ≡ false → r ≡ gatheredOf numbers → Gathers numbers r
-no-book numbers r n e =
+pub no-book-gathers : (numbers : List ℤ) (r : Gathered) → isBook r ≡ false → r ≡ gatheredOf numbers → Gathers numbers r
+no-book-gathers numbers r n e =
     record { is = e; bound = record { bounded = λ b q. absurd (not-true-and-false (isBook r) (ap isBook q) n) } }
 
 -- rows that are not whole are out of range
-pub torn-out : (numbers : List ℤ) → wholeRows numbers ≡ false → validRows numbers ≡ false
+pub torn-rows-not-valid : (numbers : List ℤ) → wholeRows numbers ≡ false → validRows numbers ≡ false
 unfolding validRows
-torn-out numbers e = rw e
+torn-rows-not-valid numbers e = rw e
 
 -- ---- a turn
 
@@ -101,9 +101,10 @@ module _ (numbers : List ℤ) (at : ℕ) (b : Book) (room : at + rowNumbers ≤ 
   left = ap (map rowOf) here
 
   -- a row that is out of range decides
-  pub gathering-out : wholeRows numbers ≡ true → validRow (rowAt numbers at) ≡ false → validRows numbers ≡ false
+  pub row-out-of-range-not-valid : wholeRows numbers ≡ true → validRow (rowAt numbers at) ≡ false
+      → validRows numbers ≡ false
   unfolding validRows
-  gathering-out whole e =
+  row-out-of-range-not-valid whole e =
       let no : every validRow (rowsOf numbers) ≡ false = sym (g .valid) ∙ every-out validRow here e in
       rw (whole, no)
 
@@ -128,20 +129,21 @@ module _ (numbers : List ℤ) (at : ℕ) (b : Book) (room : at + rowNumbers ≤ 
               ∙ g .book);
           filled =
               filled-next at b (roublesOf row) (g .filled)
-              (fitting row (rw is (in-range (rowAt numbers at) v)) (and-right (not (isCrossedRow row)) (rowFits row) e));
+              (roubles-are-fitting row (rw is (valid-row-in-range (rowAt numbers at) v))
+              (and-right (not (isCrossedRow row)) (rowFits row) e));
         }
 
     -- a row that is not taken decides
-    pub gathering-refused : isTaken row ≡ false → every isTaken (dayRows numbers) ≡ false
-    gathering-refused e = sym (g .taken) ∙ split
+    pub row-refused-not-all-taken : isTaken row ≡ false → every isTaken (dayRows numbers) ≡ false
+    row-refused-not-all-taken e = sym (g .taken) ∙ split
         ∙ ap (λ (t : Bool). t && every isTaken (rowsLeft numbers (at + rowNumbers))) e
 
 -- at the end the book is that of all rows
-pub gathering-end : (numbers : List ℤ) (at : ℕ) (b : Book) → wholeRows numbers ≡ true → length numbers ≤ at
+pub walked-rows-gather : (numbers : List ℤ) (at : ℕ) (b : Book) → wholeRows numbers ≡ true → length numbers ≤ at
     → Gathering numbers at b
     → Gathers numbers (Whole b)
 unfolding gatheredOf validRows rowsLeft
-gathering-end numbers at b whole h g =
+walked-rows-gather numbers at b whole h g =
     let none = left-end rowAt rowNumbers numbers at (omega arith) h in
     let valid : every validRow (rowsOf numbers) ≡ true = sym (g .valid) ∙ every-nil validRow none in
     let all : (not (hasCrossedRow (dayRows numbers)) && every rowFits (dayRows numbers)) ≡ true =

@@ -17,39 +17,40 @@ use Rattle.paper.specs.Ranges.{isPrice}
 use Rattle.paper_desk.specs.Evaluation.{rowPrice, rowWeight, roublesOf, priceFits, rowFits}
 use Rattle.paper.proofs.Logic.{and-left, and-right, and-both}
 use Rattle.paper.proofs.Roundings.{rounded-exact, half-low, half-high, half-unique, half-le}
-use Rattle.exact.specs.SignedLaws.{growthMost, grown-range}
+use Rattle.exact.specs.SignedLaws.{growthMost, grown-near-base}
 use Rattle.rows.specs.RowLaws.{InRange}
 use Rattle.evaluation.specs.Evaluation.{yearDays, isRoubleToday, onceCentralMost, Once}
 
 -- ---- half up
 
 -- a factor of both the number and the divisor counts for nothing
-pub half-scale : (n d k : ℕ) → 0 < d → 0 < k → halfUp n d ≡ halfUp (n * k) (d * k)
-half-scale n d k p q =
+pub scaled-half-up-same : (n d k : ℕ) → 0 < d → 0 < k → halfUp n d ≡ halfUp (n * k) (d * k)
+scaled-half-up-same n d k p q =
     half-unique (n * k) (d * k) (halfUp n d) (mul-pos p q)
     (omega (arith, mul-le-mul-right k (half-low n d p)))
     (omega (arith, mul-lt-mul-of-pos-right (half-high n d p) q))
 
 -- ---- a price discounted
 
-pub discounted-narrow : (x days : ℕ) → 0 < days → halfUp (x * yearDays) days ≡ halfUp (x * yearInDayBp) (rouble * days)
-discounted-narrow x days p =
+pub narrow-discount-same : (x days : ℕ) → 0 < days
+    → halfUp (x * yearDays) days ≡ halfUp (x * yearInDayBp) (rouble * days)
+narrow-discount-same x days p =
     let times : x * yearDays * rouble ≡ x * yearInDayBp = omega arith in
     let turned : days * rouble ≡ rouble * days = omega arith in
-    half-scale (x * yearDays) days rouble p (omega arith) ∙ (λ i. halfUp (times i) (turned i))
+    scaled-half-up-same (x * yearDays) days rouble p (omega arith) ∙ (λ i. halfUp (times i) (turned i))
 
 -- the divisor is within a term's days of a year
 pub days-in-range : (row : Row) → InRange row
     → (yearInDayBp - growthMost ≤ grown yearInDayBp (row .t) (row .repo))
     × (grown yearInDayBp (row .t) (row .repo) ≤ yearInDayBp + growthMost)
 days-in-range row r =
-    let range = grown-range yearInDayBp (row .t) (row .repo) (r .t) (r .repo) in
+    let range = grown-near-base yearInDayBp (row .t) (row .repo) (r .t) (r .repo) in
     (omega (arith, range .1), range .0)
 
 -- a missing price stays missing
-pub none-stays : (row : Row) → InRange row → 0 ≡ rowPrice row 0
+pub price-of-none-is-none : (row : Row) → InRange row → 0 ≡ rowPrice row 0
 unfolding rowPrice
-none-stays row r =
+price-of-none-is-none row r =
     let low = days-in-range row r .0 in
     let none : rowPrice row 0 ≤ 0 =
     half-le (0 * row .central * yearInDayBp) (rouble * grown yearInDayBp (row .t) (row .repo)) 0 (omega arith)
@@ -65,7 +66,8 @@ module _ (row : Row) (r : InRange row) (days : ℕ) (is : days ≡ grown yearInD
   once-is-row-price price =
       let low = days-in-range row r .0 in
       let times : price * (row .central * yearDays) ≡ price * row .central * yearDays = omega arith in
-      rw (is, times) (discounted-narrow (price * row .central) (grown yearInDayBp (row .t) (row .repo)) (omega arith))
+      rw (is, times) (narrow-discount-same (price * row .central) (grown yearInDayBp (row .t) (row .repo))
+      (omega arith))
 
   pub once-in-range : row .central ≤ onceCentralMost → (price : ℕ) → price ≤ priceMost
       → Once price (row .central * yearDays) days
@@ -157,13 +159,13 @@ unfolding isPrice
 price-le row r price e = step (eqb price 0) refl e
   where
     step : (t : Bool) → eqb price 0 ≡ t → (t || isPrice (rowPrice row price)) ≡ true → rowPrice row price ≤ priceMost
-    step true q p = rw (eqb-true price 0 q) (omega (arith, none-stays row r))
+    step true q p = rw (eqb-true price 0 q) (omega (arith, price-of-none-is-none row r))
     step false q p = leb-true (rowPrice row price) priceMost
         (and-right (leb priceLeast (rowPrice row price)) (leb (rowPrice row price) priceMost) p)
 
-pub fitting : (row : Row) → InRange row → rowFits row ≡ true → Fitting (roublesOf row)
+pub roubles-are-fitting : (row : Row) → InRange row → rowFits row ≡ true → Fitting (roublesOf row)
 unfolding rowFits roublesOf
-fitting row r e =
+roubles-are-fitting row r e =
     record {
       weight = leb-true (rowWeight row) volumeMost (search (e, and-left, and-right) depth 40);
       close = price-le row r (row .close) (search (e, and-left, and-right) depth 40);

@@ -17,42 +17,43 @@ median-crossed bid close ask h = omega arith
 
 -- ---- the sides that are present
 
-pub no-side : (bid close ask : ℕ) → bid ≡ 0 → ask ≡ 0 → close ≡ between bid close ask
+pub between-none-is-close : (bid close ask : ℕ) → bid ≡ 0 → ask ≡ 0 → close ≡ between bid close ask
 unfolding between
-no-side bid close ask p q = rw (p, q)
+between-none-is-close bid close ask p q = rw (p, q)
 
-pub ask-only : (bid close ask : ℕ) → bid ≡ 0 → (ask ≡ 0 → ⊥) → min close ask ≡ between bid close ask
+pub between-ask-alone-is-min : (bid close ask : ℕ) → bid ≡ 0 → (ask ≡ 0 → ⊥) → min close ask ≡ between bid close ask
 unfolding between
-ask-only bid close zero p f = absurd (f refl)
-ask-only bid close (suc ask) p f = rw p
+between-ask-alone-is-min bid close zero p f = absurd (f refl)
+between-ask-alone-is-min bid close (suc ask) p f = rw p
 
-pub bid-only : (bid close ask : ℕ) → (bid ≡ 0 → ⊥) → ask ≡ 0 → max close bid ≡ between bid close ask
+pub between-bid-alone-is-max : (bid close ask : ℕ) → (bid ≡ 0 → ⊥) → ask ≡ 0 → max close bid ≡ between bid close ask
 unfolding between
-bid-only zero close ask f q = absurd (f refl)
-bid-only (suc bid) close ask f q = rw q
+between-bid-alone-is-max zero close ask f q = absurd (f refl)
+between-bid-alone-is-max (suc bid) close ask f q = rw q
 
-pub both-sides : (bid close ask : ℕ) → (bid ≡ 0 → ⊥) → (ask ≡ 0 → ⊥) → median bid close ask ≡ between bid close ask
+pub between-both-is-median : (bid close ask : ℕ) → (bid ≡ 0 → ⊥) → (ask ≡ 0 → ⊥)
+    → median bid close ask ≡ between bid close ask
 unfolding between
-both-sides zero close ask f g = absurd (f refl)
-both-sides (suc bid) close zero f g = absurd (g refl)
-both-sides (suc bid) close (suc ask) f g = refl
+between-both-is-median zero close ask f g = absurd (f refl)
+between-both-is-median (suc bid) close zero f g = absurd (g refl)
+between-both-is-median (suc bid) close (suc ask) f g = refl
 
 -- ---- the lesser of two asks, of which 0 is missing
 
-pub first-missing : (a b : ℕ) → a ≡ 0 → b ≡ lesserAsk a b
+pub lesser-is-second : (a b : ℕ) → a ≡ 0 → b ≡ lesserAsk a b
 unfolding lesserAsk
-first-missing a b p = rw p
+lesser-is-second a b p = rw p
 
-pub second-missing : (a b : ℕ) → b ≡ 0 → a ≡ lesserAsk a b
+pub lesser-is-first : (a b : ℕ) → b ≡ 0 → a ≡ lesserAsk a b
 unfolding lesserAsk
-second-missing zero b q = sym q
-second-missing (suc a) b q = rw q
+lesser-is-first zero b q = sym q
+lesser-is-first (suc a) b q = rw q
 
-pub none-missing : (a b : ℕ) → (a ≡ 0 → ⊥) → (b ≡ 0 → ⊥) → min a b ≡ lesserAsk a b
+pub lesser-is-min : (a b : ℕ) → (a ≡ 0 → ⊥) → (b ≡ 0 → ⊥) → min a b ≡ lesserAsk a b
 unfolding lesserAsk
-none-missing zero b f g = absurd (f refl)
-none-missing (suc a) zero f g = absurd (g refl)
-none-missing (suc a) (suc b) f g = refl
+lesser-is-min zero b f g = absurd (f refl)
+lesser-is-min (suc a) zero f g = absurd (g refl)
+lesser-is-min (suc a) (suc b) f g = refl
 
 pub lesser-le : (a b n : ℕ) → a ≤ n → b ≤ n → lesserAsk a b ≤ n
 unfolding lesserAsk
@@ -67,11 +68,11 @@ pub lesser-assoc : (a b c : ℕ) → lesserAsk (lesserAsk a b) c ≡ lesserAsk a
 unfolding lesserAsk
 lesser-assoc zero b c = refl
 lesser-assoc (suc a) zero c = refl
-lesser-assoc (suc a) (suc b) zero = sym (second-missing (min (suc a) (suc b)) 0 refl)
+lesser-assoc (suc a) (suc b) zero = sym (lesser-is-first (min (suc a) (suc b)) 0 refl)
 lesser-assoc (suc a) (suc b) (suc c) =
     let f : min (suc a) (suc b) ≡ 0 → ⊥ = λ e. omega arith in
     let g : min (suc b) (suc c) ≡ 0 → ⊥ = λ e. omega arith in
     let s : suc a ≡ 0 → ⊥ = λ e. omega arith in
     let t : suc c ≡ 0 → ⊥ = λ e. omega arith in
-    sym (none-missing (min (suc a) (suc b)) (suc c) f t) ∙ min-assoc (suc a) (suc b) (suc c)
-    ∙ none-missing (suc a) (min (suc b) (suc c)) s g
+    sym (lesser-is-min (min (suc a) (suc b)) (suc c) f t) ∙ min-assoc (suc a) (suc b) (suc c)
+    ∙ lesser-is-min (suc a) (min (suc b) (suc c)) s g

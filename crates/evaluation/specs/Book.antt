@@ -42,11 +42,11 @@ pub record Room (b : Book) (r : Roubles) : Type 0 where
   pub close : r .close ≤ priceMost
 
 -- the close from a book: "With no such row it is the previous evaluation"
-unfoldable pub closeIn : ℕ → Book → ℕ
+unfoldable pub closeIn : (previous : ℕ) → Book → ℕ
 closeIn previous b = pick (eqb (b .weight) 0) previous (halfUp (b .worth) (b .weight))
 
 -- the figures that a price is chosen from, from a book and the outside prices that count
-abbrev pub figuresIn : ℕ → External → Book → PriceFigures
+abbrev pub figuresIn : (previous : ℕ) → (used : External) → Book → PriceFigures
 figuresIn previous used b =
     record {
       weight = b .weight;
@@ -101,7 +101,7 @@ pub record Gathers (numbers : List ℤ) (r : Gathered) : Type 0 where
   pub bound : Bound r
 
 -- e is the evaluation of any rows that were gathered so and that neither 6 nor 16 refuses
-abbrev pub EvaluatesTo : ℕ → ℕ → External → Gathered → Evaluation → Type 0
+abbrev pub EvaluatesTo : (g previous : ℕ) → (used : External) → Gathered → Evaluation → Type 0
 EvaluatesTo g previous used r e =
     (numbers : List ℤ) → r ≡ gatheredOf numbers → validRows numbers ≡ true → hasCrossedRow (dayRows numbers) ≡ false
     → e ≡ evaluationMade g previous used (dayRows numbers)

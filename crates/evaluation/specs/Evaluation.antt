@@ -22,7 +22,7 @@ priceFigures previous used rs =
     record { weight = weights rs; close = closeOf previous rs; bid = bidOf used rs; ask = askOf used rs }
 
 -- the evaluation, and the figures that it was chosen from
-unfoldable pub pricedOf : ℕ → ℕ → External → List Row → Priced
+unfoldable pub pricedOf : (g previous : ℕ) → (used : External) → List Row → Priced
 pricedOf g previous used rows =
     record {
       price = record { units = evaluationOf g previous used rows };
@@ -31,12 +31,12 @@ pricedOf g previous used rows =
 
 -- 7: "a rounded row price, or the evaluation, is 0 or above 10^10; a rounded row volume is above 10^8"; else the
 -- evaluation
-unfoldable pub evaluationMade : ℕ → ℕ → External → List Row → Evaluation
+unfoldable pub evaluationMade : (g previous : ℕ) → (used : External) → List Row → Evaluation
 evaluationMade g previous used rows =
     pick (evaluationFits g previous used rows) (Evaluated (pricedOf g previous used rows)) Beyond
 
 -- the same of the evaluation alone, where every row's figures are in range
-unfoldable pub evaluationFrom : ℕ → PriceFigures → Evaluation
+unfoldable pub evaluationFrom : (units : ℕ) → PriceFigures → Evaluation
 evaluationFrom units figures =
     pick (isPrice units) (Evaluated (record { price = record { units = units }; figures = figures })) Beyond
 

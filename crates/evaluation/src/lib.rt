@@ -24,8 +24,8 @@ const YEAR_DAYS: u64 = YEAR_IN_DAY_BP / Row::ROUBLE;
 // The greatest number of which 365 times fits 64 bits.
 const NARROW_MOST: u64 = u64::MAX / YEAR_DAYS;
 
-// The greatest central rate of a row whose prices are converted by one quotient each (W-214), as a round number: a price
-// of 10^10 times 365 times it, with half of a year's days, fits 64 bits.
+// The greatest central rate of a row whose prices are converted by one quotient each (W-214), as a round number: a
+// price of 10^10 times 365 times it, with half of a year's days, fits 64 bits.
 const ONCE_CENTRAL_MOST: u64 = 5_000_000;
 
 // What the rows come to: their weights, their closes times their weights, the greatest bid and the least ask.
@@ -362,8 +362,8 @@ fn on_grid(g: u64, p: u64, figures: PriceFigures) -> Evaluation
 }
 
 // The evaluation of rows as they were gathered, where neither 6 nor 16 refuses them. `used` is the outside pair that
-// counts (W-211): "BID is the greater of the book's and the outside one, ASK the lesser (6.1); a missing side leaves the
-// book's."
+// counts (W-211): "BID is the greater of the book's and the outside one, ASK the lesser (6.1); a missing side leaves
+// the book's."
 pub fn evaluate(gathered: Gathered, previous: Price, used: External, g: u64) -> Evaluation
     requires { ⌜ Bound gathered ⌝ }
     requires { ⌜ (previous .units ≤ priceMost) × (1 ≤ g) × (g ≤ oneInHundredths) ⌝ }

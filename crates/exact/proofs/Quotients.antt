@@ -11,5 +11,5 @@ pub at-most-half : (n d : ℕ) → 2 ≤ d → n / d * 2 ≤ n
 at-most-half n d two = le-trans (mul-le-mul-left (n / d) two) (quotient-low n d (omega arith))
 
 -- a figure on the grid is less than a step above the quotient
-pub grid-low : (way : Way) (g n d : ℕ) → 0 < g → 0 < d → roundedTo way g n d * d < n + d * g
-grid-low way g n d p q = omega (arith, rounded-near way n (d * g) (mul-pos q p))
+pub rounded-below-next-step : (way : Way) (g n d : ℕ) → 0 < g → 0 < d → roundedTo way g n d * d < n + d * g
+rounded-below-next-step way g n d p q = omega (arith, rounded-near way n (d * g) (mul-pos q p))

@@ -18,7 +18,7 @@ use Rattle.paper.specs.Ranges.{validStatics}
 use Rattle.paper_desk.specs.Rates.{modelOf, weightOf, weighted, Weighing}
 use Rattle.paper_interest.specs.Interest.{changeOf, InterestRange, KeyRange}
 use Rattle.paper.proofs.Search.{root-covers, root-least, root-unique}
-use Rattle.paper_desk.proofs.Bounds.{mean-high}
+use Rattle.paper_desk.proofs.Bounds.{mean-of-squares-within}
 use Rattle.paper_desk.proofs.Volatility.{valid-weighs, weight-most}
 use Rattle.paper_interest.proofs.InterestRanges.{change-high}
 use Rattle.exact.specs.RootInputs.{IsLeastRoot, meanOfSquares}
@@ -48,7 +48,7 @@ module _ (κs : Lfts 0) (exit : AtExit (endedOf 0 root.Kinds.ps root.Kinds.r) κ
   unfolding weighted
   same-root m b r s w hr hs =
       record {
-        asks = (omega arith, omega arith, mean-high _ s r (2 ^ 20) (weight-most m b r s w) hs hr);
+        asks = (omega arith, omega arith, mean-of-squares-within _ s r (2 ^ 20) (weight-most m b r s w) hs hr);
         weighted = λ x p. p;
         least = λ x p. rw p (record { covers = root-covers _ _ (omega arith); least = root-least _ _ });
         same = λ x y p l. p ∙ root-unique _ _ y (omega arith) (l .covers) (l .least);

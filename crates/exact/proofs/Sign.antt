@@ -32,14 +32,14 @@ pub record Arm (z x : ℤ) : Type 0 where
 flipped : (n : ℕ) → negsuc 0 -ℤ negsuc n ≡ pos n
 flipped n = rw (le-ltb (suc n) 1 (omega arith)) (ap pos (omega arith))
 
-pub size-below : (x : ℤ) → SFits w64 x → ltZ x (pos 0) ≡ true → Arm (negsuc 0 -ℤ x) x
-size-below (pos n) f e = absurd (none n e)
-size-below (negsuc n) f e =
+pub below-zero-takes-its-arm : (x : ℤ) → SFits w64 x → ltZ x (pos 0) ≡ true → Arm (negsuc 0 -ℤ x) x
+below-zero-takes-its-arm (pos n) f e = absurd (none n e)
+below-zero-takes-its-arm (negsuc n) f e =
     rw (flipped n) (record { signed = record { sfits = f .sfits }; cast = (tt, omega (arith, f .sfits)); is = refl })
 
-pub size-above : (x : ℤ) → SFits w64 x → ltZ x (pos 0) ≡ false → Arm x x
-size-above (pos n) f e = record { signed = f; cast = (tt, omega (arith, f .sfits)); is = refl }
-size-above (negsuc n) f e = absurd (some n e)
+pub not-below-zero-takes-its-arm : (x : ℤ) → SFits w64 x → ltZ x (pos 0) ≡ false → Arm x x
+not-below-zero-takes-its-arm (pos n) f e = record { signed = f; cast = (tt, omega (arith, f .sfits)); is = refl }
+not-below-zero-takes-its-arm (negsuc n) f e = absurd (some n e)
 
 -- ---- the definitions by the test
 

@@ -43,7 +43,7 @@ place-next width numbers at p h = record { inside = h; parts = p .parts + 1; is 
 
 -- ---- the parts from a place on
 
-unfoldable pub partsLeft : {A : Type 0} → (List ℤ → ℕ → A) → ℕ → List ℤ → ℕ → List A
+unfoldable pub partsLeft : {A : Type 0} → (read : List ℤ → ℕ → A) → (width : ℕ) → (numbers : List ℤ) → (at : ℕ) → List A
 partsLeft read width numbers at = partsFrom read width numbers at ((length numbers - at) / width)
 
 module _ {A : Type 0} (read : List ℤ → ℕ → A) (width : ℕ) (numbers : List ℤ) where

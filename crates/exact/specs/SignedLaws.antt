@@ -16,17 +16,17 @@ use Rattle.paper.proofs.Logic.{not-true-and-false, and-left, and-right}
 use Rattle.paper_desk.proofs.Units.{unsigned-within}
 
 -- "-9,999..9,999 bp"
-pub repo-size : (x : ℤ) → leZ repoLeast x ≡ true → leZ x repoMost ≡ true → mag x ≤ mag repoMost
-repo-size (pos n) low high = leb-true n 9999 high
-repo-size (negsuc n) low high = let l : n ≤ 9998 = leb-true n 9998 low in omega arith
+pub between-repo-ends-within-most : (x : ℤ) → leZ repoLeast x ≡ true → leZ x repoMost ≡ true → mag x ≤ mag repoMost
+between-repo-ends-within-most (pos n) low high = leb-true n 9999 high
+between-repo-ends-within-most (negsuc n) low high = let l : n ≤ 9998 = leb-true n 9998 low in omega arith
 
 -- and the other way round, of its end
-pub size-repo : (x : ℤ) → mag x ≤ mag repoMost → leZ x repoMost ≡ true
-size-repo (pos n) h = le-leb n 9999 h
-size-repo (negsuc n) h = refl
+pub within-most-is-at-most : (x : ℤ) → mag x ≤ mag repoMost → leZ x repoMost ≡ true
+within-most-is-at-most (pos n) h = le-leb n 9999 h
+within-most-is-at-most (negsuc n) h = refl
 
-pub repo-le : (x : ℤ) → withinZ repoLeast repoMost x ≡ true → mag x ≤ mag repoMost
-repo-le x e = repo-size x (and-left (leZ repoLeast x) (leZ x repoMost) e)
+pub repo-within-most : (x : ℤ) → withinZ repoLeast repoMost x ≡ true → mag x ≤ mag repoMost
+repo-within-most x e = between-repo-ends-within-most x (and-left (leZ repoLeast x) (leZ x repoMost) e)
     (and-right (leZ repoLeast x) (leZ x repoMost) e)
 
 -- a number of a range that begins at 0 or above is at most the range's end
@@ -54,10 +54,10 @@ pub record Grows (base k : ℕ) (rate : ℤ) : Type 0 where
   pub most : base ≤ 2 ^ 62
 
 -- k·rate moves base by at most 300,000 either way
-pub grown-range : (base k : ℕ) (x : ℤ) → k ≤ termDaysMost → mag x ≤ mag repoMost
+pub grown-near-base : (base k : ℕ) (x : ℤ) → k ≤ termDaysMost → mag x ≤ mag repoMost
     → (grown base k x ≤ base + growthMost) × (base ≤ grown base k x + growthMost)
 unfolding grown
-grown-range base k (pos n) hk h = omega (arith, mul-le-mul hk h)
-grown-range base k (negsuc n) hk h =
+grown-near-base base k (pos n) hk h = omega (arith, mul-le-mul hk h)
+grown-near-base base k (negsuc n) hk h =
     let more : suc n ≤ oneInBp = omega arith in
     omega (arith, mul-le-mul hk more)

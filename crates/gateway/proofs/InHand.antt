@@ -26,9 +26,9 @@ pub record Held (p rate : ℕ) (x : Price) (y : Rate) : Type 0 where
   pub of-price : x ≡ record { units = p }
   pub of-rate : y ≡ record { bp = rate }
 
-pub held : (p rate : ℕ) (x : Price) (y : Rate) → pricedAt p rate ≡ At x y → Held p rate x y
+pub priced-at-is-held : (p rate : ℕ) (x : Price) (y : Rate) → pricedAt p rate ≡ At x y → Held p rate x y
 unfolding pricedAt
-held p rate x y e =
+priced-at-is-held p rate x y e =
     let made = picked-first (isPrice p && isRate rate) _ _ OutOfRange (λ q. priced-apart x y (cc)) e in
     record {
       price = and-left (isPrice p) (isRate rate) (made .0);

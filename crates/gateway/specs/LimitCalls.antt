@@ -17,7 +17,7 @@ use Rattle.paper.specs.Ranges.{withinZ, isPrice, isRate, isGridPrice, gridOf, v
 use Rattle.paper_desk.specs.Limits.{rangeLimit, bandLimit}
 use Rattle.paper.specs.Verdicts.{firstOf}
 use Rattle.paper_desk.specs.Gateway.{gatewayChecks, gatewayAnswer, rangeInRange, bandInRange}
-use Rattle.limits.specs.LimitRanges.{RangeInputs, BandInputs, range-inputs, band-inputs, valid-limit-statics}
+use Rattle.limits.specs.LimitRanges.{RangeInputs, BandInputs, range-has-range-inputs, band-has-band-inputs, valid-limit-statics}
 use Rattle.limits.specs.LimitBounds.{range-high, band-high}
 use Rattle.gateway.specs.declared.limit.Grown.{Grown}
 use Rattle.gateway.specs.declared.limit.Asked.{Asked}
@@ -50,8 +50,8 @@ LimitInputs (Band x) p rate = BandInputs p rate (x .c) (x .k) (x .repo)
 pub limit-inputs : (st : Statics) (asked : Asked) (p : Price) (rate : Rate) (side : ℕ)
     → limitInRange st asked (p .units) (rate .bp) side ≡ true → LimitInputs asked p rate
 unfolding limitInRange LimitInputs
-limit-inputs st Range p rate side v = range-inputs st p rate side v
-limit-inputs st (Band x) p rate side v = band-inputs st p rate (x .k) (x .repo) (x .c) side v
+limit-inputs st Range p rate side v = range-has-range-inputs st p rate side v
+limit-inputs st (Band x) p rate side v = band-has-band-inputs st p rate (x .k) (x .repo) (x .c) side v
 
 -- a limit fits, since it is at most twice the price
 pub limit-high : (st : Statics) (asked : Asked) (side : Side) (p : Price) (rate : Rate) → validStatics st ≡ true

@@ -54,7 +54,7 @@ band-is i ks = refl
 -- ---- the same on natural numbers
 
 -- 100·(Yn - Ym)·Δ
-abbrev pub marginOf : Interest → ℕ → ℕ
+abbrev pub marginOf : Interest → (estimate : ℕ) → ℕ
 marginOf i estimate = oneInHundredths * (i .yn - i .ym) * estimate
 
 -- a margin is at most that of the greatest figure

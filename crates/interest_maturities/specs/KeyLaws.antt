@@ -18,12 +18,12 @@ use Rattle.exact.specs.EveryLaws.{every-at}
 use Rattle.exact.specs.LentLaws.{Place, partsLeft, left-first}
 
 -- the key maturity that begins at a place
-abbrev pub maturityAt : List ℤ → (at : ℕ) → Maturity
+abbrev pub maturityAt : (numbers : List ℤ) → (at : ℕ) → Maturity
 maturityAt numbers at = maturityOf (keyAt numbers at)
 
 -- ---- the key maturities from a place on
 
-abbrev pub restOf : List ℤ → (at : ℕ) → List LentKey
+abbrev pub restOf : (numbers : List ℤ) → (at : ℕ) → List LentKey
 restOf numbers at = partsLeft keyAt keyNumbers numbers at
 
 pub rest-first : (numbers : List ℤ) → restOf numbers 0 ≡ keysOf numbers

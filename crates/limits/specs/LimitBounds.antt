@@ -12,8 +12,8 @@ use Rattle.paper.specs.Ranges.{gridOf}
 use Rattle.paper_desk.specs.Limits.{rangeLimit, bandLimit, deltaOf}
 pub use Rattle.paper_desk.specs.Kept.{freshMost, deltaMost}
 use Rattle.paper_desk.proofs.LimitSizes as sizes
-use Rattle.paper_desk.proofs.LimitSizes.{LimitStatics, grid-range}
-use Rattle.exact.specs.SignedLaws.{size-repo}
+use Rattle.paper_desk.proofs.LimitSizes.{LimitStatics, grid-in-range}
+use Rattle.exact.specs.SignedLaws.{within-most-is-at-most}
 use Rattle.limits.specs.LimitRanges.{RangeInputs, BandInputs}
 
 pub range-high : (st : Statics) (side : Side) (p : Price) (rate : Rate) → RangeInputs p rate
@@ -23,7 +23,8 @@ range-high st side p rate r = sizes.range-high st side (p .units) (rate .bp) (r 
 pub band-high : (st : Statics) (side : Side) (p : Price) (s1 : Rate) (c k : ℕ) (repo : ℤ) → LimitStatics st
     → BandInputs p s1 c k repo → bandLimit st (p .units) (s1 .bp) k repo c side ≤ freshMost
 band-high st side p s1 c k repo s r =
-    sizes.band-high st side (p .units) (s1 .bp) c k repo s (r .price) (r .days) (size-repo repo (r .repo-high))
+    sizes.band-high st side (p .units) (s1 .bp) c k repo s (r .price) (r .days)
+    (within-most-is-at-most repo (r .repo-high))
 
 -- ---- delta
 
@@ -41,7 +42,7 @@ delta-sizes st p s1 s r =
       shift = s .shift-high;
       rates = rates;
       num = mul-le-mul rates (r .price);
-      den = mul-le-mul (s .divisor-high) (grid-range (st .lot) .1);
+      den = mul-le-mul (s .divisor-high) (grid-in-range (st .lot) .1);
     }
 
 pub delta-high : (st : Statics) (p : Price) (s1 : Rate) → LimitStatics st → RangeInputs p s1

@@ -16,7 +16,7 @@ use Rattle.paper.specs.Ranges.{gridOf}
 use Rattle.paper.specs.Roundings.{roundedTo, grown}
 use Rattle.paper_desk.specs.Limits.{share, limitOf, inward, shifted, farthest, spread, monitored, narrowerOf, bandLimit}
 use Rattle.paper.proofs.Roundings.{grid-monotone}
-pub use Rattle.paper_desk.proofs.LimitSizes.{grid-range}
+pub use Rattle.paper_desk.proofs.LimitSizes.{grid-in-range}
 use Rattle.paper_desk.proofs.KindLaws as kinds
 use Rattle.exact.specs.Wide.{spreadMost}
 use Rattle.limits.specs.Sides.{farthestRate, farthestLimit, unmovedSpread}
@@ -30,10 +30,10 @@ same-quotient-rounds-alike : (way : Way) (g n d m e : ℕ) → 0 < g → 0 < d �
 same-quotient-rounds-alike way g n d m e p q r same =
     le-antisymm (grid-monotone way g n d m e p q r (omega arith)) (grid-monotone way g m e n d p r q (omega arith))
 
-pub shifted-den : (side : Side) (p rate : ℕ) → shifted side p rate .den ≡ oneInBp
+pub shifted-den-is-one : (side : Side) (p rate : ℕ) → shifted side p rate .den ≡ oneInBp
 unfolding shifted
-shifted-den Upper p rate = refl
-shifted-den Lower p rate = refl
+shifted-den-is-one Upper p rate = refl
+shifted-den-is-one Lower p rate = refl
 
 pub shifted-high : (side : Side) (p : Price) (rate : Rate) → RangeInputs p rate
     → shifted side (p .units) (rate .bp) .num ≤ shiftedMost
@@ -47,10 +47,11 @@ farthest-high st Upper s = s .upper-high
 farthest-high st Lower s = s .lower-high
 
 -- the farthest limit before it is rounded, by its rate
-pub farthest-is : (st : Statics) (side : Side) (p : ℕ) → shifted side p (farthestRate st side) ≡ farthest st side p
+pub farthest-is-shifted : (st : Statics) (side : Side) (p : ℕ)
+    → shifted side p (farthestRate st side) ≡ farthest st side p
 unfolding farthest
-farthest-is st Upper p = refl
-farthest-is st Lower p = refl
+farthest-is-shifted st Upper p = refl
+farthest-is-shifted st Lower p = refl
 
 -- ---- the spread
 
@@ -95,18 +96,18 @@ unmoved-is-monitored-limit way st side p s1 k repo s =
     let e : ℕ = oneInBp * st .xpr * yearInDayBp in
     rw (spread-is-hundred-unmoved st side s1)
     (same-quotient-rounds-alike way (gridOf (st .lot)) (p * u * b) d (p * (oneInHundredths * u) * b) e
-    (grid-range (st .lot) .0) (omega (arith, s .divisor-low)) (omega (arith, s .divisor-low)) (omega arith))
+    (grid-in-range (st .lot) .0) (omega (arith, s .divisor-low)) (omega (arith, s .divisor-low)) (omega arith))
 
 -- ---- a share's band limit: with monitoring the narrower of two, without it the farthest
 
-pub band-monitored : (st : Statics) (side : Side) (p s1 c k : ℕ) (repo : ℤ) → LimitStatics st → st .monitoring ≡ true
+pub band-is-narrower : (st : Statics) (side : Side) (p s1 c k : ℕ) (repo : ℤ) → LimitStatics st → st .monitoring ≡ true
     → bandLimit st p s1 k repo c side
     ≡ narrowerOf side (farthestLimit st side p) (limitOf (inward side) st (monitored st p s1 k repo c side))
 unfolding bandLimit
-band-monitored st side p s1 c k repo s e =
+band-is-narrower st side p s1 c k repo s e =
     kinds.band-monitored share st side p s1 c k repo (omega arith) (s .divisor-low) e
 
-pub band-unmonitored : (st : Statics) (side : Side) (p s1 c k : ℕ) (repo : ℤ) → st .monitoring ≡ false
+pub band-is-farthest : (st : Statics) (side : Side) (p s1 c k : ℕ) (repo : ℤ) → st .monitoring ≡ false
     → bandLimit st p s1 k repo c side ≡ farthestLimit st side p
 unfolding bandLimit
-band-unmonitored st side p s1 c k repo e = kinds.band-unmonitored share st side p s1 c k repo e
+band-is-farthest st side p s1 c k repo e = kinds.band-unmonitored share st side p s1 c k repo e

@@ -20,7 +20,7 @@ use Rattle.paper_desk.specs.Limits.{countOf, oneMore}
 use Rattle.paper_desk.specs.Gateway.{rangeInRange, bandInRange}
 use Rattle.paper.proofs.Logic.{and-left, and-right, order-trans}
 pub use Rattle.paper_desk.proofs.LimitSizes.{LimitStatics, valid-limit-statics}
-use Rattle.exact.specs.SignedLaws.{repo-size}
+use Rattle.exact.specs.SignedLaws.{between-repo-ends-within-most}
 use Rattle.limits.specs.Sides.{repoOf}
 
 -- ---- the ranges
@@ -52,34 +52,34 @@ pub record TermInputs (p : Price) (s1 : Rate) (c : Moves) (x : Term) : Type 0 wh
 
 -- ---- each side of a term's band is a band limit in range
 
-pub term-repo : (side : Side) (x : Term) → validTerm x ≡ true → mag (repoOf side x) ≤ mag repoMost
+pub term-repo-within-most : (side : Side) (x : Term) → validTerm x ≡ true → mag (repoOf side x) ≤ mag repoMost
 unfolding validTerm
-term-repo Upper x v =
-    repo-size (x .high)
+term-repo-within-most Upper x v =
+    between-repo-ends-within-most (x .high)
     (order-trans repoLeast (x .low) (x .high) (search (v, and-left, and-right)) (search (v, and-left, and-right)))
     (search (v, and-left, and-right))
-term-repo Lower x v =
-    repo-size (x .low) (search (v, and-left, and-right))
+term-repo-within-most Lower x v =
+    between-repo-ends-within-most (x .low) (search (v, and-left, and-right))
     (order-trans (x .low) (x .high) repoMost (search (v, and-left, and-right)) (search (v, and-left, and-right)))
 
-pub term-days : (x : Term) → validTerm x ≡ true → x .k ≤ termDaysMost
+pub term-days-within-most : (x : Term) → validTerm x ≡ true → x .k ≤ termDaysMost
 unfolding validTerm
-term-days x v = leb-true _ _ (search (v, and-left, and-right))
+term-days-within-most x v = leb-true _ _ (search (v, and-left, and-right))
 
 moves-high : (p : Price) (s1 : Rate) (side : Side) (c : Moves) (x : Term) → TermInputs p s1 c x
     → countOf side c ≤ movesMost
 moves-high p s1 Upper c x r = r .upper-moves
 moves-high p s1 Lower c x r = r .lower-moves
 
-pub side-inputs : (p : Price) (s1 : Rate) (side : Side) (c : Moves) (x : Term) → TermInputs p s1 c x
+pub term-has-band-inputs : (p : Price) (s1 : Rate) (side : Side) (c : Moves) (x : Term) → TermInputs p s1 c x
     → BandInputs p s1 (countOf side c) (x .k) (repoOf side x)
-side-inputs p s1 side c x r =
+term-has-band-inputs p s1 side c x r =
     record {
       price = r .price;
       rate-high = r .rate-high;
       moves-high = moves-high p s1 side c x r;
-      days = term-days x (r .term);
-      repo-high = term-repo side x (r .term);
+      days = term-days-within-most x (r .term);
+      repo-high = term-repo-within-most side x (r .term);
     }
 
 -- ---- a move below the fiftieth leaves both counts in range
@@ -92,23 +92,24 @@ one-more-high Lower c u l h = (u, omega arith)
 
 -- ---- what the gateway tests is what its limits ask
 
-pub range-inputs : (st : Statics) (p : Price) (rate : Rate) (side : ℕ)
+pub range-has-range-inputs : (st : Statics) (p : Price) (rate : Rate) (side : ℕ)
     → rangeInRange st (p .units) (rate .bp) side ≡ true → RangeInputs p rate
 unfolding rangeInRange isGridPrice isPrice isRate
-range-inputs st p rate side v =
+range-has-range-inputs st p rate side v =
     record {
       price = leb-true (p .units) priceMost (search (v, and-left, and-right));
       rate-high = leb-true (rate .bp) rateMost (search (v, and-left, and-right));
     }
 
-pub band-inputs : (st : Statics) (p : Price) (s1 : Rate) (k : ℕ) (repo : ℤ) (c side : ℕ)
+pub band-has-band-inputs : (st : Statics) (p : Price) (s1 : Rate) (k : ℕ) (repo : ℤ) (c side : ℕ)
     → bandInRange st (p .units) (s1 .bp) k repo c side ≡ true → BandInputs p s1 c k repo
 unfolding bandInRange isGridPrice isPrice isRate
-band-inputs st p s1 k repo c side v =
+band-has-band-inputs st p s1 k repo c side v =
     record {
       price = leb-true (p .units) priceMost (search (v, and-left, and-right) depth 10);
       rate-high = leb-true (s1 .bp) rateMost (search (v, and-left, and-right));
       moves-high = leb-true c movesMost (search (v, and-left, and-right));
       days = leb-true k termDaysMost (search (v, and-left, and-right));
-      repo-high = repo-size repo (search (v, and-left, and-right)) (search (v, and-left, and-right));
+      repo-high = between-repo-ends-within-most repo (search (v, and-left, and-right))
+          (search (v, and-left, and-right));
     }

@@ -18,20 +18,20 @@ use Rattle.message_bytes.specs.Asked.{greatestOf}
 pub width-fits : (width : ℕ) → width ≤ widthMost → inWidth width ≤ 2 ^ 64
 width-fits width h = let o : 0 < 256 = omega arith in pow-le-pow-right {n = 256} o h
 
-pub of-negative : (width : ℕ) (z : ℤ) → ltZ z (pos 0) ≡ true → greatestOf width - mag z ≡ complement width z
+pub rest-is-complement : (width : ℕ) (z : ℤ) → ltZ z (pos 0) ≡ true → greatestOf width - mag z ≡ complement width z
 unfolding complement
-of-negative width (pos n) e = let l : n < 0 = ltb-true n 0 e in absurd (omega arith)
-of-negative width (negsuc n) e = omega arith
+rest-is-complement width (pos n) e = let l : n < 0 = ltb-true n 0 e in absurd (omega arith)
+rest-is-complement width (negsuc n) e = omega arith
 
-pub of-other : (width : ℕ) (z : ℤ) → ltZ z (pos 0) ≡ false → mag z ≡ complement width z
+pub mag-is-complement : (width : ℕ) (z : ℤ) → ltZ z (pos 0) ≡ false → mag z ≡ complement width z
 unfolding complement
-of-other width (pos n) e = refl
-of-other width (negsuc n) e = absurd (not-true-and-false true refl e)
+mag-is-complement width (pos n) e = refl
+mag-is-complement width (negsuc n) e = absurd (not-true-and-false true refl e)
 
 -- -1 - n
-pub down : (n : ℕ) → negsuc 0 -ℤ pos n ≡ negsuc n
-down zero = refl
-down (suc n) = ap negsuc (omega arith)
+pub minus-one-less-is-negsuc : (n : ℕ) → negsuc 0 -ℤ pos n ≡ negsuc n
+minus-one-less-is-negsuc zero = refl
+minus-one-less-is-negsuc (suc n) = ap negsuc (omega arith)
 
 module _ (width number : ℕ) (narrow : width ≤ widthMost) (small : number < inWidth width) where
   -- the lower half
@@ -39,9 +39,9 @@ module _ (width number : ℕ) (narrow : width ≤ widthMost) (small : number < i
     pub lower-fits : number < 2 ^ 63
     lower-fits = omega (arith, width-fits width narrow)
 
-    pub lower-is : pos number ≡ signedOf width number
+    pub lower-is-signed : pos number ≡ signedOf width number
     unfolding signedOf
-    lower-is = rw (lt-ltb (number + number) (inWidth width) (omega arith))
+    lower-is-signed = rw (lt-ltb (number + number) (inWidth width) (omega arith))
 
   -- the upper half
   module _ (high : greatestOf width / 2 < number) where
@@ -51,9 +51,9 @@ module _ (width number : ℕ) (narrow : width ≤ widthMost) (small : number < i
     pub upper-fits : SFits w64 (negsuc (greatestOf width - number))
     upper-fits = record { sfits = upper-small }
 
-    pub upper-is : negsuc (greatestOf width - number) ≡ signedOf width number
+    pub upper-is-signed : negsuc (greatestOf width - number) ≡ signedOf width number
     unfolding signedOf
-    upper-is =
+    upper-is-signed =
         let e : greatestOf width - number ≡ inWidth width - suc number = omega arith in
         rw (le-ltb (number + number) (inWidth width) (omega arith), e)
 
@@ -62,5 +62,5 @@ module _ (width number : ℕ) (narrow : width ≤ widthMost) (small : number < i
   signed-fits = go (le-or-lt number (greatestOf width / 2))
     where
       go : (number ≤ greatestOf width / 2) ⊎ (greatestOf width / 2 < number) → SFits w64 (signedOf width number)
-      go (inl low) = rw (sym (lower-is low)) (record { sfits = lower-fits low })
-      go (inr high) = rw (sym (upper-is high)) (upper-fits high)
+      go (inl low) = rw (sym (lower-is-signed low)) (record { sfits = lower-fits low })
+      go (inr high) = rw (sym (upper-is-signed high)) (upper-fits high)

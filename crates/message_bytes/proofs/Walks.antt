@@ -16,16 +16,16 @@ use Rattle.paper_messages.specs.declared.Field.{Field}
 use Rattle.paper_messages.specs.Bytes.{inWidth, widthMost, bytesOf, spelled, complement, signedOf}
 use Rattle.paper_messages.specs.Fields.{noField}
 use Rattle.paper_messages.specs.Messages.{bodyOf, total, inRanges, holdsRange, valuesAt}
-use Rattle.paper_messages.proofs.ByteLaws.{bytes-length, fits-mag}
-use Rattle.paper_messages.proofs.FieldLaws.{holds-width, holds-value, values-length}
+use Rattle.paper_messages.proofs.ByteLaws.{bytes-length, fitting-mag-in-width}
+use Rattle.paper_messages.proofs.FieldLaws.{held-width-within-most, held-value-fits, values-length}
 use Rattle.message_bytes.specs.Asked.{Room, Holding}
 
 -- a run of stores, and then another behind it
-pub sets-more : (xs ys b : List ℕ) (i : ℕ) → sets b i (xs ++ ys) ≡ sets (sets b i xs) (i + length xs) ys
-sets-more [] ys b i = let e : i + 0 ≡ i = omega arith in rw e
-sets-more (x ∷ xs) ys b i =
+pub sets-of-both : (xs ys b : List ℕ) (i : ℕ) → sets b i (xs ++ ys) ≡ sets (sets b i xs) (i + length xs) ys
+sets-of-both [] ys b i = let e : i + 0 ≡ i = omega arith in rw e
+sets-of-both (x ∷ xs) ys b i =
     let e : i + suc (length xs) ≡ suc i + length xs = omega arith in
-    rw e (sets-more xs ys (set b i x) (suc i))
+    rw e (sets-of-both xs ys (set b i x) (suc i))
 
 -- ---- room for the field at hand, and for those behind it
 
@@ -36,7 +36,7 @@ record Here (at : ℕ) (f : Field) (b : List ℕ) : Type 0 where
 room-here : (at : ℕ) (f : Field) (fields : List Field) (b : List ℕ) → Room at (f ∷ fields) b → Here at f b
 unfolding total every
 room-here at f fields b r =
-    record { room = omega (arith, r .room); narrow = holds-width f (and-left (holdsRange f) _ (r .holds)) }
+    record { room = omega (arith, r .room); narrow = held-width-within-most f (and-left (holdsRange f) _ (r .holds)) }
 
 room-behind : (at : ℕ) (f : Field) (fields : List Field) (b c : List ℕ) → Room at (f ∷ fields) b → length c ≡ length b
     → Room (at + f .width) fields c
@@ -83,13 +83,13 @@ module _ (b₀ : List ℕ) (at : ℕ) (fields : List Field) (values : List ℤ) 
     unfolding inRanges
     ranged = rw (drop-cons fields i noField h, drop-cons values i (pos 0) in-values) at (p .in-range)
 
-    pub packing-mag : mag (getD values i (pos 0)) < inWidth (getD fields i noField .width)
+    pub packed-mag-in-width : mag (getD values i (pos 0)) < inWidth (getD fields i noField .width)
     unfolding every
-    packing-mag =
+    packed-mag-in-width =
         let f : Field = getD fields i noField in
         let z : ℤ = getD values i (pos 0) in
-        fits-mag (f .width) z
-        (holds-value f z (and-left (holdsRange f) _ (here .holds))
+        fitting-mag-in-width (f .width) z
+        (held-value-fits f z (and-left (holdsRange f) _ (here .holds))
         (and-left (withinZ (f .low) (f .high) z) _ ranged))
 
     -- the bytes of the field at hand
@@ -112,7 +112,7 @@ module _ (b₀ : List ℕ) (at : ℕ) (fields : List Field) (values : List ℤ) 
           same-length = length-sets b to own ∙ p .same-length;
           room = rw e (room-behind to f (drop (suc i) fields) b (sets b to own) here (length-sets b to own));
           in-range = rw e (and-right (withinZ (f .low) (f .high) z) _ ranged);
-          left = rw e (sym (rw long at (sets-more own more b to)) ∙ r);
+          left = rw e (sym (rw long at (sets-of-both own more b to)) ∙ r);
         }
 
   pub packing-all : length fields ≤ i → b ≡ sets b₀ at (bodyOf fields values)

@@ -25,40 +25,41 @@ use Rattle.messages.specs.Promises.{Whole}
 
 module _ (b : List ℕ) (at : ℕ) where
   -- a refusal is heard where it is the first that applies
-  refuses : (v : Verdict) → isDone v ≡ false → firstOf (readChecks (drop at b)) ≡ v → refusedHeard v ≡ heardAt b at
+  heard-is-refused : (v : Verdict) → isDone v ≡ false → firstOf (readChecks (drop at b)) ≡ v
+      → refusedHeard v ≡ heardAt b at
   unfolding heardAt
-  refuses v n e = rw e (sym (pick-false (isDone v) (acceptedHeard at (drop at b)) (refusedHeard v) n))
+  heard-is-refused v n e = rw e (sym (pick-false (isDone v) (acceptedHeard at (drop at b)) (refusedHeard v) n))
 
-  accepts : firstOf (readChecks (drop at b)) ≡ Done → acceptedHeard at (drop at b) ≡ heardAt b at
+  heard-is-accepted : firstOf (readChecks (drop at b)) ≡ Done → acceptedHeard at (drop at b) ≡ heardAt b at
   unfolding heardAt isDone
-  accepts e = rw e
+  heard-is-accepted e = rw e
 
   -- how many bytes are left
-  left-is : length (drop at b) ≡ length b - at
-  left-is = length-drop at b
+  left-is-difference : length (drop at b) ≡ length b - at
+  left-is-difference = length-drop at b
 
-  pub no-length : length b < at + lengthWidth → refusedHeard CutShort ≡ heardAt b at
+  pub no-length-is-cut-short : length b < at + lengthWidth → refusedHeard CutShort ≡ heardAt b at
   unfolding readChecks firstOf isDone
-  no-length h =
-      let few : length (drop at b) < lengthWidth = rw left-is (omega arith) in
-      refuses CutShort refl (rw (lt-ltb (length (drop at b)) lengthWidth few))
+  no-length-is-cut-short h =
+      let few : length (drop at b) < lengthWidth = rw left-is-difference (omega arith) in
+      heard-is-refused CutShort refl (rw (lt-ltb (length (drop at b)) lengthWidth few))
 
   module _ (said : ℕ) (told : said ≡ lengthAt (drop at b)) (there : at + lengthWidth ≤ length b) where
     four : lengthWidth ≤ length (drop at b)
-    four = rw left-is (omega arith)
+    four = rw left-is-difference (omega arith)
 
-    pub bad-length : within lengthLeast lengthMost said ≡ false → refusedHeard WrongLength ≡ heardAt b at
+    pub bad-length-is-wrong : within lengthLeast lengthMost said ≡ false → refusedHeard WrongLength ≡ heardAt b at
     unfolding readChecks firstOf isDone
-    bad-length h =
-        refuses WrongLength refl
+    bad-length-is-wrong h =
+        heard-is-refused WrongLength refl
         (rw (le-ltb (length (drop at b)) lengthWidth four, ← told, h))
 
-    pub cut-body : within lengthLeast lengthMost said ≡ true → length b < at + (lengthWidth + said)
+    pub cut-body-is-cut-short : within lengthLeast lengthMost said ≡ true → length b < at + (lengthWidth + said)
         → refusedHeard CutShort ≡ heardAt b at
     unfolding readChecks firstOf isDone
-    cut-body w h =
-        let few : length (drop at b) < lengthWidth + said = rw left-is (omega arith) in
-        refuses CutShort refl
+    cut-body-is-cut-short w h =
+        let few : length (drop at b) < lengthWidth + said = rw left-is-difference (omega arith) in
+        heard-is-refused CutShort refl
         (rw (
           le-ltb (length (drop at b)) lengthWidth four,
           ← told,
@@ -80,8 +81,8 @@ module _ (b : List ℕ) (at : ℕ) where
       unfolding readChecks firstOf
       past-head =
           let n : ℕ = length (drop at b) in
-          let four : lengthWidth ≤ n = rw left-is (omega (arith, whole .follows)) in
-          let all : lengthWidth + said ≤ n = rw left-is (omega (arith, whole .follows)) in
+          let four : lengthWidth ≤ n = rw left-is-difference (omega (arith, whole .follows)) in
+          let all : lengthWidth + said ≤ n = rw left-is-difference (omega (arith, whole .follows)) in
           rw (
             le-ltb n lengthWidth four,
             ← (whole .told),
@@ -102,12 +103,12 @@ module _ (b : List ℕ) (at : ℕ) where
           }
           ≡ heardAt b at
       unfolding acceptedHeard
-      skipped k = sym (rw (← (whole .told), ← kind-is, k)) ∙ accepts (past-head ∙ rw k)
+      skipped k = sym (rw (← (whole .told), ← kind-is, k)) ∙ heard-is-accepted (past-head ∙ rw k)
 
       module _ (k : isKnown kind ≡ true) where
-        pub wrong-length : (said ≡ lengthOf kind → ⊥) → refusedHeard WrongLength ≡ heardAt b at
+        pub other-length-is-wrong : (said ≡ lengthOf kind → ⊥) → refusedHeard WrongLength ≡ heardAt b at
         unfolding isDone
-        wrong-length n = refuses WrongLength refl (past-head ∙ rw (k, ne-eqb said (lengthOf kind) n))
+        other-length-is-wrong n = heard-is-refused WrongLength refl (past-head ∙ rw (k, ne-eqb said (lengthOf kind) n))
 
         module _ (right : said ≡ lengthOf kind) (values : List ℤ)
             (read : values ≡ valuesAt (placesOf kind) (drop (at + (lengthWidth + kindWidth)) b)) where
@@ -119,7 +120,7 @@ module _ (b : List ℕ) (at : ℕ) where
               → refusedHeard FieldOutOfRange ≡ heardAt b at
           unfolding isDone
           out-of-range v =
-              refuses FieldOutOfRange refl
+              heard-is-refused FieldOutOfRange refl
               (past-head ∙ rw (k, eq-eqb said (lengthOf kind) right, message-is, v))
 
           pub heard : valid (record { kind = kind; fields = values }) ≡ true
@@ -135,7 +136,7 @@ module _ (b : List ℕ) (at : ℕ) where
           unfolding acceptedHeard
           heard v =
               sym (rw (← (whole .told), ← kind-is, k, message-is))
-              ∙ accepts (past-head ∙ rw (k, eq-eqb said (lengthOf kind) right, message-is, v))
+              ∙ heard-is-accepted (past-head ∙ rw (k, eq-eqb said (lengthOf kind) right, message-is, v))
 
 -- the fields of a whole message of the right length have their room
 pub room-for : (b : List ℕ) (at said kind : ℕ) → Whole b at said → said ≡ lengthOf kind

@@ -17,31 +17,31 @@ use Rattle.paper_messages.specs.Bytes.{bytesOf}
 use Rattle.paper_messages.specs.Fields.{placesOf}
 use Rattle.paper_messages.specs.Messages.{lengthWidth, kindWidth, lengthLeast, lengthMost, bodyOf, lengthOf, encode, valid, writeChecks, wroteOf, written}
 use Rattle.paper_messages.proofs.ByteLaws.{bytes-length}
-use Rattle.paper_messages.proofs.FieldLaws.{kinds-hold, kinds-length}
-use Rattle.paper_messages.proofs.MessageLaws.{valid-ranges, encode-length}
+use Rattle.paper_messages.proofs.FieldLaws.{kinds-hold, kinds-length-in-range}
+use Rattle.paper_messages.proofs.MessageLaws.{valid-is-in-ranges, encode-length}
 use Rattle.message_bytes.specs.Asked.{Room, Holding}
-use Rattle.message_bytes.proofs.Walks.{sets-more}
+use Rattle.message_bytes.proofs.Walks.{sets-of-both}
 use Rattle.messages.specs.Promises.{Writes}
 
 -- a kind's length is small
-pub length-most : (kind : ℕ) → lengthOf kind ≤ lengthMost
-length-most kind = leb-true (lengthOf kind) lengthMost
-    (and-right (leb lengthLeast (lengthOf kind)) (leb (lengthOf kind) lengthMost) (kinds-length kind))
+pub length-within-most : (kind : ℕ) → lengthOf kind ≤ lengthMost
+length-within-most kind = leb-true (lengthOf kind) lengthMost
+    (and-right (leb lengthLeast (lengthOf kind)) (leb (lengthOf kind) lengthMost) (kinds-length-in-range kind))
 
-pub length-least : (kind : ℕ) → lengthLeast ≤ lengthOf kind
-length-least kind =
+pub length-at-least-least : (kind : ℕ) → lengthLeast ≤ lengthOf kind
+length-at-least-least kind =
     leb-true lengthLeast (lengthOf kind)
-    (and-left (leb lengthLeast (lengthOf kind)) (leb (lengthOf kind) lengthMost) (kinds-length kind))
+    (and-left (leb lengthLeast (lengthOf kind)) (leb (lengthOf kind) lengthMost) (kinds-length-in-range kind))
 
 -- three stores one behind the other are one of the whole message
-stores : (b : List ℕ) (m : Message)
+stores-are-encode : (b : List ℕ) (m : Message)
     → sets
     (sets (sets b 0 (bytesOf lengthWidth (lengthOf (m .kind)))) lengthWidth (bytesOf kindWidth (m .kind)))
     (lengthWidth + kindWidth)
     (bodyOf (placesOf (m .kind)) (m .fields))
     ≡ sets b 0 (encode m)
 unfolding encode
-stores b m =
+stores-are-encode b m =
     let head : List ℕ = bytesOf lengthWidth (lengthOf (m .kind)) in
     let kind : List ℕ = bytesOf kindWidth (m .kind) in
     let body : List ℕ = bodyOf (placesOf (m .kind)) (m .fields) in
@@ -50,14 +50,14 @@ stores b m =
       length-append head kind,
       bytes-length lengthWidth (lengthOf (m .kind)),
       bytes-length kindWidth (m .kind),
-    ) at (sets-more (head ++ kind) body b 0) in
+    ) at (sets-of-both (head ++ kind) body b 0) in
     let two : sets b 0 (head ++ kind) ≡ sets (sets b 0 head) lengthWidth kind =
-    rw (bytes-length lengthWidth (lengthOf (m .kind))) at (sets-more head kind b 0) in
+    rw (bytes-length lengthWidth (lengthOf (m .kind))) at (sets-of-both head kind b 0) in
     sym (all ∙ ap (λ (l : List ℕ). sets l (lengthWidth + kindWidth) body) two)
 
 -- stores from the first byte on, and what stays behind them
-front : (b xs : List ℕ) → length xs ≤ length b → sets b 0 xs ≡ xs ++ drop (length xs) b
-front b xs h =
+set-at-front : (b xs : List ℕ) → length xs ≤ length b → sets b 0 xs ≡ xs ++ drop (length xs) b
+set-at-front b xs h =
     let none : 0 + length xs ≡ length xs = omega arith in
     rw none at (sets-eq xs b 0 (omega arith))
 
@@ -82,7 +82,7 @@ module _ (b : List ℕ) (m : Message) where
       unfolding lengthOf
       fields-room places c p e = rw p (
         record { room = rw e (omega arith); holds = kinds-hold (m .kind) },
-        record { in-range = valid-ranges m v },
+        record { in-range = valid-is-in-ranges m v },
       )
 
       -- the three stores are the message, and the rest stays
@@ -96,5 +96,5 @@ module _ (b : List ℕ) (m : Message) where
           let e = le-ltb (length b) (length (encode m)) room in
           record {
             answers = rw (v, e, encode-length m v);
-            leaves = rw (v, e) (rw (e₂, e₁) at e₃ ∙ stores b m ∙ front b (encode m) room);
+            leaves = rw (v, e) (rw (e₂, e₁) at e₃ ∙ stores-are-encode b m ∙ set-at-front b (encode m) room);
           }

@@ -190,7 +190,8 @@ validAdmission a =
 -- ---- a day
 
 -- so many parts of a lent slice from a place on, each of the same width and read off where it begins
-unfoldable pub partsFrom : {A : Type 0} → (read : List ℤ → ℕ → A) → (width : ℕ) → List ℤ → (at count : ℕ) → List A
+unfoldable pub partsFrom : {A : Type 0} → (read : List ℤ → ℕ → A) → (width : ℕ) → (numbers : List ℤ)
+    → (at count : ℕ) → List A
 partsFrom read width numbers at zero = []
 partsFrom read width numbers at (suc more) = read numbers at ∷ partsFrom read width numbers (at + width) more
 

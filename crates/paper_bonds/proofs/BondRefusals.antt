@@ -9,7 +9,7 @@ use Rattle.paper.specs.declared.Verdict.the-variants.{Done}
 use Rattle.paper.specs.Lists.{pick, every}
 use Rattle.paper.specs.Verdicts.{isDone, firstOf, FirstAt, NoneApplies, Exactly}
 use Rattle.paper.proofs.Logic.{pick-true, pick-false}
-use Rattle.paper_desk.proofs.Refusals.{done-is, first-is, is-first, refusals, done-none, none-done}
+use Rattle.paper_desk.proofs.Refusals.{done-is, given-is-first, first-is-given, refusals, done-means-none-applies, none-applies-gives-done}
 use Rattle.paper_bonds.specs.declared.Bond.{Bond}
 use Rattle.paper_bonds.specs.Bonds.{flowsOf, bondChecks, refusedBond, acceptedBond, bondAnswer}
 
@@ -28,16 +28,16 @@ module _ (b : Bond) (numbers : List ℤ) where
   pub refused-exactly : (v : Verdict) → isDone v ≡ false
       → Exactly (bondAnswer b numbers .verdict ≡ v) (FirstAt v (bondChecks b numbers))
   refused-exactly v n = (
-    λ e. first-is (bondChecks b numbers) v n (sym verdict-first ∙ e),
-    λ f. verdict-first ∙ is-first (bondChecks b numbers) v f,
+    λ e. given-is-first (bondChecks b numbers) v n (sym verdict-first ∙ e),
+    λ f. verdict-first ∙ first-is-given (bondChecks b numbers) v f,
   )
 
   -- 0 exactly when none applies
   pub accepted-exactly : Exactly (bondAnswer b numbers .verdict ≡ Done) (NoneApplies (bondChecks b numbers))
   unfolding bondChecks isDone refusals every
   accepted-exactly = (
-    λ e. done-none (bondChecks b numbers) refl (ap isDone (sym verdict-first ∙ e)),
-    λ n. verdict-first ∙ none-done (bondChecks b numbers) n,
+    λ e. done-means-none-applies (bondChecks b numbers) refl (ap isDone (sym verdict-first ∙ e)),
+    λ n. verdict-first ∙ none-applies-gives-done (bondChecks b numbers) n,
   )
 
   -- a refusal has its number and every figure 0

@@ -21,7 +21,7 @@ use Rattle.paper.specs.Verdicts.{numberOf, isDone, firstOf, NoneApplies, none, 
 use Rattle.paper_desk.specs.Desk.{admitted, stands, place, known, fresh, admit, checksOf, admitChecks, acceptedOf, step}
 use Rattle.paper.proofs.Logic.{not-true-and-false, and-left, and-right, and-both}
 use Rattle.paper_desk.proofs.Slots.{fresh-empty, stands-written, found-written}
-use Rattle.paper_desk.proofs.Refusals.{none-done, accepted-step, accepted-always}
+use Rattle.paper_desk.proofs.Refusals.{none-applies-gives-done, accepted-step, accepted-always}
 
 -- the limits 0 are on every grid
 no-limits-valid : (lot : ℕ) → validLimits (gridOf lot) noLimits ≡ true
@@ -103,7 +103,8 @@ module _ (a : Admission) (t : List Record) (f : fresh t ≡ true) (slots : valid
   pub admitted-known : known (step (admit a) t .table) (a .id) ≡ true
   unfolding known acceptedOf admitted isDone
   admitted-known =
-      let done : firstOf (checksOf (admit a) t) ≡ Done = none-done (checksOf (admit a) t) no-check-applies in
+      let done : firstOf (checksOf (admit a) t) ≡ Done = none-applies-gives-done
+      (checksOf (admit a) t) no-check-applies in
       let after : step (admit a) t ≡ acceptedOf (admit a) t = accepted-step (admit a) t (ap isDone done) in
       let there = stands-written 0 (admitted a) t (first-empty t slots f) (λ _. absent) in
       let mine = found-written 0 (admitted a) t (first-empty t slots f) (λ _. absent) in

@@ -32,16 +32,16 @@ use Rattle.paper_desk.specs.Desk.{evaluated, evaluateChecks}
 use Rattle.paper.proofs.Logic.{each-of-three, not-true, not-false}
 use Rattle.paper.proofs.Roundings.{KeepsOrder, down-not-above, up-not-below}
 use Rattle.paper_desk.proofs.KindLaws.{bond-limit-is, limit-monotone, narrower-rounded, farthest-positive, monitored-positive, band-positive}
-use Rattle.paper_desk.proofs.LimitSizes.{LimitStatics, grid-range}
+use Rattle.paper_desk.proofs.LimitSizes.{LimitStatics, grid-in-range}
 
 -- ---- inward
 
 pub limit-inside : (st : Statics) (side : Side) (x : Quotient) → 0 < x .den → Inside side (limitOf (inward side) st x) x
 unfolding limitOf
 limit-inside st Upper x p =
-    omega (arith, down-not-above (x .num) (x .den * gridOf (st .lot)) (mul-pos p (grid-range (st .lot) .0)))
+    omega (arith, down-not-above (x .num) (x .den * gridOf (st .lot)) (mul-pos p (grid-in-range (st .lot) .0)))
 limit-inside st Lower x p =
-    omega (arith, up-not-below (x .num) (x .den * gridOf (st .lot)) (mul-pos p (grid-range (st .lot) .0)))
+    omega (arith, up-not-below (x .num) (x .den * gridOf (st .lot)) (mul-pos p (grid-in-range (st .lot) .0)))
 
 -- a band limit is never outside the exact band
 pub band-inside : (st : Statics) (side : Side) (p s1 c k : ℕ) (repo : ℤ) → LimitStatics st

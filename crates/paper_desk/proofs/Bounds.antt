@@ -23,9 +23,9 @@ use Rattle.paper_desk.proofs.Volatility.{weight-most}
 -- ---- the volatility
 
 -- a mean, by weights, of squares up to a bound's is at most the bound's
-pub mean-high : (a s r most : ℕ) → a ≤ oneInTenThousandths → s ≤ most → r ≤ most
+pub mean-of-squares-within : (a s r most : ℕ) → a ≤ oneInTenThousandths → s ≤ most → r ≤ most
     → (oneInTenThousandths - a) * (s * s) + a * (r * r) ≤ oneInTenThousandths * (most * most)
-mean-high a s r most h p q =
+mean-of-squares-within a s r most h p q =
     let all : oneInTenThousandths - a + a ≡ oneInTenThousandths = omega arith in
     omega (
       arith,
@@ -38,7 +38,8 @@ mean-high a s r most h p q =
 pub weighted-high : (a s r most : ℕ) → a ≤ oneInTenThousandths → s ≤ most → r ≤ most → weighted a s r ≤ most
 unfolding weighted
 weighted-high a s r most h p q =
-    root-least oneInTenThousandths ((oneInTenThousandths - a) * (s * s) + a * (r * r)) most (mean-high a s r most h p q)
+    root-least oneInTenThousandths ((oneInTenThousandths - a) * (s * s) + a * (r * r)) most
+    (mean-of-squares-within a s r most h p q)
 
 pub replacement-high : (q r : ℕ) → oneInHundredths ≤ q → replacement q r ≤ r
 unfolding replacement
@@ -86,15 +87,15 @@ up-is-step h w n p q = ap (λ (k : ℕ). k * h) (sym (least-unique n covers step
         go (inr c) = lt-leb n (w * (k * h)) c
 
 -- it passes n by less than a step
-pub step-short : (h w n : ℕ) → 0 < h → 0 < w → w * leastStep h w n < n + w * h
+pub least-step-within-a-step : (h w n : ℕ) → 0 < h → 0 < w → w * leastStep h w n < n + w * h
 unfolding up
-step-short h w n p q =
+least-step-within-a-step h w n p q =
     let each : 0 < w * h = mul-pos q p in
     rw (← up-is-step h w n p q) (omega (arith, quotient-low (n + (w * h - 1)) (w * h) each))
 
-pub step-high : (h w n : ℕ) → 0 < h → 0 < w → up n (w * h) * h ≤ n + w * h
-step-high h w n p q =
-    rw (up-is-step h w n p q) (omega (arith, step-short h w n p q, mul-le-mul-left (leastStep h w n) q))
+pub up-within-a-step : (h w n : ℕ) → 0 < h → 0 < w → up n (w * h) * h ≤ n + w * h
+up-within-a-step h w n p q =
+    rw (up-is-step h w n p q) (omega (arith, least-step-within-a-step h w n p q, mul-le-mul-left (leastStep h w n) q))
 
 -- ---- the tentative rate
 

@@ -11,8 +11,8 @@ use Rattle.paper.proofs.Logic.{le-or-lt}
 use Rattle.paper.proofs.Roundings.{rounded-below}
 
 -- a square is not above another: neither is its side
-pub side-le : (x y : ℕ) → x * x ≤ y * y → x ≤ y
-side-le x y h = go (le-or-lt x y)
+pub le-of-squares-le : (x y : ℕ) → x * x ≤ y * y → x ≤ y
+le-of-squares-le x y h = go (le-or-lt x y)
   where
     go : (x ≤ y) ⊎ (y < x) → x ≤ y
     go (inl l) = l
@@ -73,7 +73,8 @@ mean-shift : (b a c x y u s r : ℕ) → s ≤ x + c → r ≤ y + c → b * (x 
     → b * (s * s) + a * (r * r) ≤ (b + a) * ((u + c) * (u + c))
 mean-shift b a c x y u s r hs hr m =
     let l : b * x + a * y ≤ (b + a) * u =
-    side-le (b * x + a * y) ((b + a) * u) (le-trans (cauchy b a x y) (omega (arith, mul-le-mul-left (b + a) m))) in
+    le-of-squares-le (b * x + a * y) ((b + a) * u)
+    (le-trans (cauchy b a x y) (omega (arith, mul-le-mul-left (b + a) m))) in
     omega (
       arith,
       mul-le-mul-left b (mul-le-mul hs hs),
@@ -173,7 +174,7 @@ replace-near k n q r x move rounded hq kq covers least =
         go (inr l) (inr e) = inr e
         go (inr l) (inl e) =
             let d : k * move .num ≤ u * (move .den * q) =
-            side-le (k * move .num) (u * (move .den * q)) (le-trans e (omega arith)) in
+            le-of-squares-le (k * move .num) (u * (move .den * q)) (le-trans e (omega arith)) in
             let f : move .den * (k * (r - 1)) ≤ move .den * (u * q) =
             omega (arith, mul-le-mul-left k (rounded-below r move rounded)) in
             let g : k * (r - 1) ≤ u * q = le-of-mul-le-mul-left f (rounded .positive) in

@@ -27,9 +27,9 @@ use Rattle.paper.proofs.Roundings.{rounded-le, rounded-monotone, grid-monotone,
 -- ---- a share's grid
 
 -- g is 1, 10 or 100
-pub grid-range : (lot : ℕ) → (0 < gridOf lot) × (gridOf lot ≤ coarsestGrid)
+pub grid-in-range : (lot : ℕ) → (0 < gridOf lot) × (gridOf lot ≤ coarsestGrid)
 unfolding gridOf
-grid-range lot = go (leb lot 1) (leb lot 10)
+grid-in-range lot = go (leb lot 1) (leb lot 10)
   where
     go : (a b : Bool) → (0 < pick a 100 (pick b 10 1)) × (pick a 100 (pick b 10 1) ≤ coarsestGrid)
     go true b = omega arith
@@ -77,7 +77,7 @@ unfolding limitOf
 limit-monotone way share st f =
     record {
       keeps = λ x y p q l.
-          grid-monotone way (gridOf (st .lot)) (x .num) (x .den) (y .num) (y .den) (grid-range (st .lot) .0) p q l;
+          grid-monotone way (gridOf (st .lot)) (x .num) (x .den) (y .num) (y .den) (grid-in-range (st .lot) .0) p q l;
     }
 limit-monotone way (bond b) st f = record { keeps = keeps }
   where

@@ -18,7 +18,7 @@ use Rattle.paper.specs.Ranges.{validStatics}
 use Rattle.paper_desk.specs.Rates.{meetsRequirement, daysOf, minimumOf, covers, levelRate, AtLeastRoots, volatilePart, liquidPart, AtLeastRequired, HeldLeast}
 use Rattle.paper.proofs.Logic.{not-true-and-false, and-left, and-right, and-both, le-or-lt, pick-true, pick-false}
 use Rattle.paper.proofs.Search.{Mono, multiple-holds, multiple-least, multiple-within-bound, multiple-is-multiple}
-use Rattle.paper_desk.proofs.Roots.{roots-covered, Floor, floor-root, no-room-over-sum, no-room-over-cross}
+use Rattle.paper_desk.proofs.Roots.{roots-covered, Floor, root-has-floor, no-room-over-sum, no-room-over-cross}
 
 -- ---- the comparison, without signs
 
@@ -137,8 +137,8 @@ module _ (rh1 rh liq m tentative v : ℕ) (days : 0 < rh1) where
       no-less : W * W < X + Y → ⊥
       no-less l =
           let d : ℕ = 4 * W + 4 in
-          let a = floor-root (X * (d * d)) in
-          let b = floor-root (Y * (d * d)) in
+          let a = root-has-floor (X * (d * d)) in
+          let b = root-has-floor (Y * (d * d)) in
           no-room-over-sum W X Y (a .0) (b .0) l (a .1) (b .1)
           (scaled real (4 * W + 4) (a .0) (b .0) (omega arith) (a .1) (b .1))
 
@@ -156,8 +156,8 @@ module _ (rh1 rh liq m tentative v : ℕ) (days : 0 < rh1) where
       cross (inl h) = h
       cross (inr h) =
           let sum : W * W ≡ X + Y + A = omega (arith, enough) in
-          let a = floor-root (X * (D * D)) in
-          let b = floor-root (Y * (D * D)) in
+          let a = root-has-floor (X * (D * D)) in
+          let b = root-has-floor (Y * (D * D)) in
           absurd (no-room-over-cross W X Y A D (a .0) (b .0) sum h refl (a .1) (b .1)
           (scaled real D (a .0) (b .0) (omega arith) (a .1) (b .1)))
 

@@ -23,7 +23,7 @@ use Rattle.paper_desk.specs.Limits.{limitOf, inward, shifted, rangeLimit
 use Rattle.paper_desk.specs.Kept.{freshMost, deltaMost}
 use Rattle.paper.proofs.Logic.{not-true-and-false, and-left, and-right, and-both, order-trans}
 use Rattle.paper.proofs.Roundings.{rounded-le, rounded-ge}
-pub use Rattle.paper_desk.proofs.KindLaws.{grid-range}
+pub use Rattle.paper_desk.proofs.KindLaws.{grid-in-range}
 use Rattle.paper_desk.proofs.KindLaws.{narrower-rounded, monitored-positive}
 
 -- ---- the statics that a limit is worked out in
@@ -66,7 +66,7 @@ unfolding limitOf
 limit-le way st x k p h =
     let g : ℕ = gridOf (st .lot) in
     let fits : x .num ≤ k * (x .den * g) = omega arith in
-    mul-le-mul-right g (rounded-le way (x .num) (x .den * g) k (mul-pos p (grid-range (st .lot) .0)) fits)
+    mul-le-mul-right g (rounded-le way (x .num) (x .den * g) k (mul-pos p (grid-in-range (st .lot) .0)) fits)
 
 pub limit-ge : (way : Way) (st : Statics) (x : Quotient) (k : ℕ) → 0 < x .den
     → k * gridOf (st .lot) * x .den ≤ x .num → k * gridOf (st .lot) ≤ limitOf way st x
@@ -74,7 +74,7 @@ unfolding limitOf
 limit-ge way st x k p h =
     let g : ℕ = gridOf (st .lot) in
     let fits : k * (x .den * g) ≤ x .num = omega arith in
-    mul-le-mul-right g (rounded-ge way (x .num) (x .den * g) k (mul-pos p (grid-range (st .lot) .0)) fits)
+    mul-le-mul-right g (rounded-ge way (x .num) (x .den * g) k (mul-pos p (grid-in-range (st .lot) .0)) fits)
 
 -- a quotient of at most a multiple of 100 is rounded to at most that
 pub limit-high : (way : Way) (st : Statics) (x : Quotient) (m : ℕ) → 0 < x .den

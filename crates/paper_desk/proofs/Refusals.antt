@@ -52,10 +52,11 @@ done-is FieldOutOfRange e = absurd (not-true-and-false false e refl)
 done-is NoRoom e = absurd (not-true-and-false false e refl)
 
 -- what is named is what the first that applies names; or none applies, and it is what stands otherwise
-pub named-is : {A : Type 0} (otherwise : A) (cs : List (Naming A)) (v : A) → firstNamed otherwise cs ≡ v
+pub named-is-first-or-otherwise : {A : Type 0} (otherwise : A) (cs : List (Naming A)) (v : A)
+    → firstNamed otherwise cs ≡ v
     → FirstAt v cs ⊎ ((otherwise ≡ v) × NoneApplies cs)
-named-is otherwise [] v e = inr (e, none)
-named-is otherwise (c ∷ cs) v e = go (c .applies) refl e (named-is otherwise cs v)
+named-is-first-or-otherwise otherwise [] v e = inr (e, none)
+named-is-first-or-otherwise otherwise (c ∷ cs) v e = go (c .applies) refl e (named-is-first-or-otherwise otherwise cs v)
   where
     go : (b : Bool) → c .applies ≡ b → pick b (c .verdict) (firstNamed otherwise cs) ≡ v
         → (firstNamed otherwise cs ≡ v → FirstAt v cs ⊎ ((otherwise ≡ v) × NoneApplies cs))
@@ -64,10 +65,10 @@ named-is otherwise (c ∷ cs) v e = go (c .applies) refl e (named-is otherwise c
     go false q w rest = ⊎-elim (λ f. inl (later q f)) (λ n. inr (n .0, also q (n .1))) (rest w)
 
 -- and it is named wherever it is the first that applies
-pub is-named : {A : Type 0} (otherwise : A) (cs : List (Naming A)) (v : A) → FirstAt v cs
+pub first-is-named : {A : Type 0} (otherwise : A) (cs : List (Naming A)) (v : A) → FirstAt v cs
     → firstNamed otherwise cs ≡ v
-is-named otherwise (c ∷ cs) v (here w q) = rw q w
-is-named otherwise (c ∷ cs) v (later q rest) = rw q (is-named otherwise cs v rest)
+first-is-named otherwise (c ∷ cs) v (here w q) = rw q w
+first-is-named otherwise (c ∷ cs) v (later q rest) = rw q (first-is-named otherwise cs v rest)
 
 pub none-named : {A : Type 0} (otherwise : A) (cs : List (Naming A)) → NoneApplies cs
     → firstNamed otherwise cs ≡ otherwise
@@ -75,25 +76,27 @@ none-named otherwise [] none = refl
 none-named otherwise (c ∷ cs) (also q rest) = rw q (none-named otherwise cs rest)
 
 -- a number that is not 0 is given only where it is the first that applies
-pub first-is : (cs : List Check) (v : Verdict) → isDone v ≡ false → firstOf cs ≡ v → FirstAt v cs
+pub given-is-first : (cs : List Check) (v : Verdict) → isDone v ≡ false → firstOf cs ≡ v → FirstAt v cs
 unfolding firstOf isDone
-first-is cs v n e =
-    ⊎-elim (λ f. f) (λ o. absurd (not-true-and-false (isDone Done) refl (ap isDone (o .0) ∙ n))) (named-is Done cs v e)
+given-is-first cs v n e =
+    ⊎-elim (λ f. f) (λ o. absurd (not-true-and-false (isDone Done) refl (ap isDone (o .0) ∙ n)))
+    (named-is-first-or-otherwise Done cs v e)
 
 -- and wherever it is
-pub is-first : (cs : List Check) (v : Verdict) → FirstAt v cs → firstOf cs ≡ v
+pub first-is-given : (cs : List Check) (v : Verdict) → FirstAt v cs → firstOf cs ≡ v
 unfolding firstOf
-is-first cs v f = is-named Done cs v f
+first-is-given cs v f = first-is-named Done cs v f
 
 -- every check names a refusal
 unfoldable pub refusals : List Check → Bool
 refusals cs = every (λ (c : Check). not (isDone (c .verdict))) cs
 
 -- where every check names a refusal, 0 is given exactly where none applies
-pub done-none : (cs : List Check) → refusals cs ≡ true → isDone (firstOf cs) ≡ true → NoneApplies cs
+pub done-means-none-applies : (cs : List Check) → refusals cs ≡ true → isDone (firstOf cs) ≡ true → NoneApplies cs
 unfolding refusals every firstOf
-done-none [] r e = none
-done-none (c ∷ cs) r e = go (c .applies) refl e (done-none cs (and-right (not (isDone (c .verdict))) _ r))
+done-means-none-applies [] r e = none
+done-means-none-applies (c ∷ cs) r e = go (c .applies) refl e
+    (done-means-none-applies cs (and-right (not (isDone (c .verdict))) _ r))
   where
     go : (b : Bool) → c .applies ≡ b → isDone (pick b (c .verdict) (firstOf cs)) ≡ true
         → (isDone (firstOf cs) ≡ true → NoneApplies cs) → NoneApplies (c ∷ cs)
@@ -101,9 +104,9 @@ done-none (c ∷ cs) r e = go (c .applies) refl e (done-none cs (and-right (not 
         absurd (not-true-and-false (not (isDone (c .verdict))) (and-left (not (isDone (c .verdict))) _ r) (ap not w))
     go false q w rest = also q (rest w)
 
-pub none-done : (cs : List Check) → NoneApplies cs → firstOf cs ≡ Done
+pub none-applies-gives-done : (cs : List Check) → NoneApplies cs → firstOf cs ≡ Done
 unfolding firstOf
-none-done cs n = none-named Done cs n
+none-applies-gives-done cs n = none-named Done cs n
 
 -- ---- each call
 
@@ -152,18 +155,19 @@ accepted-step c t e = pick-true (isDone (firstOf (checksOf c t))) _ _ e
 -- applies
 pub refused-only : (c : Call) (t : List Record) (v : Verdict) → isDone v ≡ false → step c t .answer .verdict ≡ v
     → FirstAt v (checksOf c t)
-refused-only c t v n e = first-is (checksOf c t) v n (sym (verdict-first c t) ∙ e)
+refused-only c t v n e = given-is-first (checksOf c t) v n (sym (verdict-first c t) ∙ e)
 
 pub refused-always : (c : Call) (t : List Record) (v : Verdict) → FirstAt v (checksOf c t)
     → step c t .answer .verdict ≡ v
-refused-always c t v f = verdict-first c t ∙ is-first (checksOf c t) v f
+refused-always c t v f = verdict-first c t ∙ first-is-given (checksOf c t) v f
 
 pub accepted-only : (c : Call) (t : List Record) → isDone (step c t .answer .verdict) ≡ true
     → NoneApplies (checksOf c t)
-accepted-only c t e = done-none (checksOf c t) (all-refusals c t) (ap isDone (sym (verdict-first c t)) ∙ e)
+accepted-only c t e = done-means-none-applies (checksOf c t) (all-refusals c t)
+    (ap isDone (sym (verdict-first c t)) ∙ e)
 
 pub accepted-always : (c : Call) (t : List Record) → NoneApplies (checksOf c t) → step c t .answer .verdict ≡ Done
-accepted-always c t n = verdict-first c t ∙ none-done (checksOf c t) n
+accepted-always c t n = verdict-first c t ∙ none-applies-gives-done (checksOf c t) n
 
 -- a refused call leaves the table as it was, and answers its number with every figure 0
 pub refused-leaves : (c : Call) (t : List Record) → isDone (step c t .answer .verdict) ≡ false

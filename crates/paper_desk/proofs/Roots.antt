@@ -8,7 +8,7 @@ use native.Mathlib.Omega.{arith}
 use Rattle.paper.specs.Least.{leastRoot}
 use Rattle.paper.proofs.Logic.{le-or-lt}
 use Rattle.paper.proofs.Search.{root-covers, root-least}
-use Rattle.paper_desk.proofs.Drift.{side-le}
+use Rattle.paper_desk.proofs.Drift.{le-of-squares-le}
 
 -- ---- where the test passes, every two fractions below the roots have a sum that W covers
 
@@ -17,9 +17,9 @@ pub roots-covered : (W X Y A a b d : ℕ) → W * W ≡ X + Y + A → 4 * X * Y 
 roots-covered W X Y A a b d e h p q =
     let both : (a * a) * (b * b) ≤ X * (d * d) * (Y * (d * d)) = mul-le-mul p q in
     let cross : 4 * X * Y * (d * d * (d * d)) ≤ A * A * (d * d * (d * d)) = mul-le-mul-right (d * d * (d * d)) h in
-    let twice : 2 * (a * b) ≤ A * (d * d) = side-le (2 * (a * b)) (A * (d * d)) (omega arith) in
+    let twice : 2 * (a * b) ≤ A * (d * d) = le-of-squares-le (2 * (a * b)) (A * (d * d)) (omega arith) in
     let whole : W * W * (d * d) ≡ (X + Y + A) * (d * d) = rw e refl in
-    side-le (a + b) (W * d) (omega arith)
+    le-of-squares-le (a + b) (W * d) (omega arith)
 
 -- ---- where it does not pass, two fractions have a sum above W
 
@@ -28,8 +28,8 @@ pub record Floor (n a : ℕ) : Type 0 where
   pub below : a * a ≤ n
   pub above : n < (a + 1) * (a + 1)
 
-pub floor-root : (n : ℕ) → (a : ℕ) × Floor n a
-floor-root n = go (leastRoot 1 (n + 1)) (root-covers 1 (n + 1) (omega arith)) (root-least 1 (n + 1))
+pub root-has-floor : (n : ℕ) → (a : ℕ) × Floor n a
+root-has-floor n = go (leastRoot 1 (n + 1)) (root-covers 1 (n + 1) (omega arith)) (root-least 1 (n + 1))
   where
     go : (x : ℕ) → n + 1 ≤ 1 * (x * x) → ((z : ℕ) → n + 1 ≤ 1 * (z * z) → x ≤ z) → (a : ℕ) × Floor n a
     go zero c l = absurd (omega arith)

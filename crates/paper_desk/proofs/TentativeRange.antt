@@ -16,7 +16,7 @@ use Rattle.paper_desk.specs.Rates.{modelOf, leastStep, tentativeRate, te
 use Rattle.paper.proofs.Logic.{and-left, and-right, and-both, and-false}
 use Rattle.paper_desk.proofs.Steps.{step-is}
 use Rattle.paper_desk.proofs.Volatility.{valid-weighs}
-use Rattle.paper_desk.proofs.Bounds.{volatility-high, up-is-step, step-short, tentative-held, tentative-multiple}
+use Rattle.paper_desk.proofs.Bounds.{volatility-high, up-is-step, least-step-within-a-step, tentative-held, tentative-multiple}
 use Rattle.paper_desk.proofs.Level.{quotient-times-is}
 
 -- ---- the top of the range
@@ -31,7 +31,7 @@ tentative-top-is h p = rw (top-step h p) (step-is h 1 tentativeMost p (omega ari
 
 -- so it is less than a step above them
 pub tentative-top-high : (h : ℕ) → 0 < h → tentativeTop h < tentativeMost + h
-tentative-top-high h p = rw (top-step h p) (omega (arith, step-short h 1 tentativeMost p (omega arith)))
+tentative-top-high h p = rw (top-step h p) (omega (arith, least-step-within-a-step h 1 tentativeMost p (omega arith)))
 
 -- ---- t
 
@@ -75,9 +75,9 @@ tentative-rate-in st false r s p q hr hs =
 -- ---- an evaluation
 
 -- what a number in the range is
-pub valid-high : (h t : ℕ) → validTentative h t ≡ true → t ≤ tentativeTop h
+pub valid-tentative-within-top : (h t : ℕ) → validTentative h t ≡ true → t ≤ tentativeTop h
 unfolding validTentative
-valid-high h t v = leb-true _ _ (and-left (leb t (tentativeTop h)) _ v)
+valid-tentative-within-top h t v = leb-true _ _ (and-left (leb t (tentativeTop h)) _ v)
 
 valid-multiple : (h t : ℕ) → validTentative h t ≡ true → t % h ≡ 0
 unfolding validTentative
@@ -87,7 +87,8 @@ valid-multiple h t v = eqb-true _ _ (and-right (leb t (tentativeTop h)) _ v)
 pub after-in : (h wait t : ℕ) (old : Tentative) → validTentative h t ≡ true → validTentative h (old .bp) ≡ true
     → validTentative h (tentativeAfter h wait t old .bp) ≡ true
 after-in h wait t old v w =
-    in-range h _ (tentative-held h wait t old (tentativeTop h) (valid-high h t v) (valid-high h (old .bp) w))
+    in-range h _ (tentative-held h wait t old (tentativeTop h) (valid-tentative-within-top h t v)
+    (valid-tentative-within-top h (old .bp) w))
     (tentative-multiple h wait t old (valid-multiple h t v) (valid-multiple h (old .bp) w))
 
 step-positive : (st : Statics) → validStatics st ≡ true → 0 < st .h

@@ -46,5 +46,5 @@ writtenAt (openEvening id) t = place t id
 writtenAt (receive id x) t = place t id
 
 -- every other id: it stands where it stood, with the record that it had
-abbrev pub Stays : (id : ℕ) → List Record → List Record → Type 0
+abbrev pub Stays : (id : ℕ) → (before after : List Record) → Type 0
 Stays id t u = (stands u id ≡ stands t id) × (found u id ≡ found t id)

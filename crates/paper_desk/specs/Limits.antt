@@ -154,6 +154,6 @@ rangeMoved Upper delta x = record { lower = x .lower; upper = x .upper + delta }
 rangeMoved Lower delta x = record { lower = x .lower - delta; upper = x .upper }
 
 -- "remakes that side's three band limits": that side anew, the other as it stands
-unfoldable pub bandMoved : Side → Limits → Limits → Limits
+unfoldable pub bandMoved : Side → (fresh x : Limits) → Limits
 bandMoved Upper fresh x = record { lower = x .lower; upper = fresh .upper }
 bandMoved Lower fresh x = record { lower = fresh .lower; upper = x .upper }

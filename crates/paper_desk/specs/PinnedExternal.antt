@@ -1,7 +1,7 @@
--- Document 02, W-211, "External prices": the pair that each receipt leaves, the floats that are refused with 20, and BID
--- and ASK with the outside prices and without, on both sides of the book's. The general sentences are laws
--- (proofs/PinnedLaws), and the roundings of floats stand in `paper_floats`.
--- It may use every definition of document 01, and the values of PinnedValues and PinnedSession. Assumes nothing.
+-- Document 02, W-211, "External prices": the pair that each receipt leaves, the floats that are refused with 20, and
+-- BID and ASK with the outside prices and without, on both sides of the book's. The general sentences are laws
+-- (proofs/PinnedLaws), and the roundings of floats stand in `paper_floats`. It may use every definition of document 01,
+-- and the values of PinnedValues and PinnedSession. Assumes nothing.
 use mathlib.Core.Path.{_≡_, refl}
 use mathlib.Core.List.{List, [], _∷_, _++_, map}
 use Prim.Native.Nat.{ℕ}
@@ -165,8 +165,8 @@ pub other-calls-are : otherCalls
 unfolding otherCalls
 other-calls-are = refl
 
--- ---- "With UseEXTERNAL yes, BID is the greater of the book's and the outside one, ASK the lesser (6.1); a missing side
--- leaves the book's."
+-- ---- "With UseEXTERNAL yes, BID is the greater of the book's and the outside one, ASK the lesser (6.1); a missing
+-- side leaves the book's."
 
 -- the evaluation to a unit after 700, of rows and of a kept pair, with UseEXTERNAL yes and with no
 prices : (bid ask : ℕ) → (rows : List ℤ) → List ℕ

@@ -22,7 +22,7 @@ use Rattle.paper_interest.specs.Interest.{LentKey, validKey, maturityOf,
 use Rattle.paper_interest.specs.InterestExact.{carriedFrom, keyGiven}
 use Rattle.paper.proofs.Logic.{not-true-and-false, and-left, and-right, and-both}
 use Rattle.paper.proofs.Differences.{sum-size-within, minus-size-within}
-use Rattle.paper_desk.proofs.Bounds.{volatility-high, step-short, tentative-held, age-held}
+use Rattle.paper_desk.proofs.Bounds.{volatility-high, least-step-within-a-step, tentative-held, age-held}
 
 -- ---- each figure
 
@@ -45,7 +45,11 @@ pub repo-tentative-rate-high : (i : Interest) (k : Maturity) → 0 < i .h → i 
     → repoTentativeRate i k ≤ repoTentativeMost
 unfolding repoTentativeRate
 repo-tentative-rate-high i k p h q s =
-    omega (arith, step-short (i .h) oneInHundredths (i .model .q * repoVolatility i k) p (omega arith), mul-le-mul q s)
+    omega (
+      arith,
+      least-step-within-a-step (i .h) oneInHundredths (i .model .q * repoVolatility i k) p (omega arith),
+      mul-le-mul q s,
+    )
 
 pub repo-tentative-high : (i : Interest) (k : Maturity) → repoTentativeRate i k ≤ repoTentativeMost
     → k .tentative .bp ≤ repoTentativeMost
@@ -66,7 +70,7 @@ unfolding estimate
 estimate-high i k minimum p h t liq m =
     omega (
       arith,
-      step-short (i .h) 1 (max (repoTentative i k .bp + i .liq) (atLeastZero minimum)) p (omega arith),
+      least-step-within-a-step (i .h) 1 (max (repoTentative i k .bp + i .liq) (atLeastZero minimum)) p (omega arith),
       size minimum,
     )
   where

@@ -14,7 +14,7 @@ use Rattle.paper.specs.Lists.{pick, every}
 use Rattle.paper.specs.Verdicts.{numberOf, isDone, firstOf, FirstAt, here, later, NoneApplies, none, also, Exactly}
 use Rattle.paper_interest.specs.Interest.{validInterest, validKeys, maturitiesOf, ascending, interestChecks, refusedInterest, acceptedInterest, interestAnswer}
 use Rattle.paper.proofs.Logic.{not-true, not-false, pick-true, pick-false}
-use Rattle.paper_desk.proofs.Refusals.{done-is, first-is, is-first, refusals, done-none, none-done}
+use Rattle.paper_desk.proofs.Refusals.{done-is, given-is-first, first-is-given, refusals, done-means-none-applies, none-applies-gives-done}
 
 -- every number that is given is in range
 abbrev pub inRange : Interest → List ℤ → Bool
@@ -37,10 +37,10 @@ module _ (i : Interest) (numbers : List ℤ) where
 
   first-at : (v : Verdict) → isDone v ≡ false → interestAnswer i numbers .pair .verdict ≡ v
       → FirstAt v (interestChecks i numbers)
-  first-at v n e = first-is (interestChecks i numbers) v n (sym verdict-first ∙ e)
+  first-at v n e = given-is-first (interestChecks i numbers) v n (sym verdict-first ∙ e)
 
   at-first : (v : Verdict) → FirstAt v (interestChecks i numbers) → interestAnswer i numbers .pair .verdict ≡ v
-  at-first v f = verdict-first ∙ is-first (interestChecks i numbers) v f
+  at-first v f = verdict-first ∙ first-is-given (interestChecks i numbers) v f
 
   differ : OutOfRange ≡ NotAscending → ⊥
   differ e = let z : _≡_ {A = ℕ} 6 14 = ap numberOf e in omega arith
@@ -72,8 +72,9 @@ module _ (i : Interest) (numbers : List ℤ) where
       ((inRange i numbers ≡ true) × (inOrder i numbers ≡ true))
   unfolding interestChecks isDone refusals every
   accepted-exactly = (
-    λ e. only (done-none (interestChecks i numbers) refl (ap isDone (sym verdict-first ∙ e))),
-    λ e. verdict-first ∙ none-done (interestChecks i numbers) (also (ap not (e .0)) (also (ap not (e .1)) none)),
+    λ e. only (done-means-none-applies (interestChecks i numbers) refl (ap isDone (sym verdict-first ∙ e))),
+    λ e. verdict-first ∙ none-applies-gives-done (interestChecks i numbers)
+        (also (ap not (e .0)) (also (ap not (e .1)) none)),
   )
     where
       only : NoneApplies (interestChecks i numbers) → (inRange i numbers ≡ true) × (inOrder i numbers ≡ true)

@@ -62,23 +62,23 @@ bytes-only (b ∷ bytes) (byte h k) =
     low = omega arith
 
 -- what bytes spell is within their width
-pub spelled-lt : (bytes : List ℕ) → Bytes bytes → spelled bytes < inWidth (length bytes)
+pub spelled-in-width : (bytes : List ℕ) → Bytes bytes → spelled bytes < inWidth (length bytes)
 unfolding spelled
-spelled-lt [] h = omega arith
-spelled-lt (b ∷ bytes) (byte h k) = rw (pow-suc 256 (length bytes)) (omega (arith, spelled-lt bytes k))
+spelled-in-width [] h = omega arith
+spelled-in-width (b ∷ bytes) (byte h k) = rw (pow-suc 256 (length bytes)) (omega (arith, spelled-in-width bytes k))
 
 -- ---- two's complement
 
 -- a number that the width has is less than the width's numbers, either way
-pub fits-mag : (width : ℕ) (z : ℤ) → fitsWidth width z ≡ true → mag z < inWidth width
+pub fitting-mag-in-width : (width : ℕ) (z : ℤ) → fitsWidth width z ≡ true → mag z < inWidth width
 unfolding fitsWidth
-fits-mag width (pos n) h = omega (arith, ltb-true (n + n) (inWidth width) h)
-fits-mag width (negsuc n) h = omega (arith, ltb-true (n + suc n) (inWidth width) h)
+fitting-mag-in-width width (pos n) h = omega (arith, ltb-true (n + n) (inWidth width) h)
+fitting-mag-in-width width (negsuc n) h = omega (arith, ltb-true (n + suc n) (inWidth width) h)
 
-pub complement-lt : (width : ℕ) (z : ℤ) → fitsWidth width z ≡ true → complement width z < inWidth width
+pub complement-in-width : (width : ℕ) (z : ℤ) → fitsWidth width z ≡ true → complement width z < inWidth width
 unfolding fitsWidth complement
-complement-lt width (pos n) h = omega (arith, ltb-true (n + n) (inWidth width) h)
-complement-lt width (negsuc n) h = omega (arith, ltb-true (n + suc n) (inWidth width) h)
+complement-in-width width (pos n) h = omega (arith, ltb-true (n + n) (inWidth width) h)
+complement-in-width width (negsuc n) h = omega (arith, ltb-true (n + suc n) (inWidth width) h)
 
 -- a number that the width has reads back
 pub complement-back : (width : ℕ) (z : ℤ) → fitsWidth width z ≡ true → signedOf width (complement width z) ≡ z

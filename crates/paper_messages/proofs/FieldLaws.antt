@@ -18,21 +18,21 @@ use Rattle.paper_messages.specs.declared.Field.{Field}
 use Rattle.paper_messages.specs.Bytes.{inWidth, widthMost, fitsWidth, bytesOf, spelled, complement}
 use Rattle.paper_messages.specs.Fields.{staticsFields, ratesFields, bandsFields, moveFields, fieldsOf, places, filled, noField, placesOf, staticsKind, ratesKind, bandsKind, moveKind}
 use Rattle.paper_messages.specs.Messages.{kindWidth, lengthLeast, lengthMost, bodyOf, total, lengthOf, inRanges, holdsRange, valuesAt}
-use Rattle.paper_messages.proofs.ByteLaws.{Bytes, take-bytes, drop-bytes, bytes-length, bytes-back, bytes-only, spelled-lt, complement-lt, complement-back, complement-only, fits-between}
+use Rattle.paper_messages.proofs.ByteLaws.{Bytes, take-bytes, drop-bytes, bytes-length, bytes-back, bytes-only, spelled-in-width, complement-in-width, complement-back, complement-only, fits-between}
 
 -- ---- one field
 
 -- a width is at most eight bytes, and has every value of the field's range
-pub holds-width : (f : Field) → holdsRange f ≡ true → f .width ≤ widthMost
+pub held-width-within-most : (f : Field) → holdsRange f ≡ true → f .width ≤ widthMost
 unfolding holdsRange
-holds-width f h =
+held-width-within-most f h =
     leb-true (f .width) widthMost
     (and-left (leb (f .width) widthMost) _ (and-left _ (fitsWidth (f .width) (f .high)) h))
 
-pub holds-value : (f : Field) (z : ℤ) → holdsRange f ≡ true → withinZ (f .low) (f .high) z ≡ true
+pub held-value-fits : (f : Field) (z : ℤ) → holdsRange f ≡ true → withinZ (f .low) (f .high) z ≡ true
     → fitsWidth (f .width) z ≡ true
 unfolding holdsRange
-holds-value f z h w =
+held-value-fits f z h w =
     let both = and-left (leb (f .width) widthMost && fitsWidth (f .width) (f .low)) _ h in
     fits-between (f .width) (f .low) (f .high) z (and-right (leb (f .width) widthMost) _ both)
     (and-right (leb (f .width) widthMost && fitsWidth (f .width) (f .low)) _ h) w
@@ -52,13 +52,13 @@ body-length (f ∷ fields) (z ∷ values) h =
     )
 
 -- values in range are at least as many as the fields
-pub ranges-length : (fields : List Field) (values : List ℤ) → inRanges fields values ≡ true
+pub in-ranges-has-values : (fields : List Field) (values : List ℤ) → inRanges fields values ≡ true
     → length fields ≤ length values
 unfolding inRanges
-ranges-length [] values r = omega arith
-ranges-length (f ∷ fields) [] r = absurd (not-true-and-false false r refl)
-ranges-length (f ∷ fields) (z ∷ values) r =
-    let more = ranges-length fields values (and-right (withinZ (f .low) (f .high) z) _ r) in omega arith
+in-ranges-has-values [] values r = omega arith
+in-ranges-has-values (f ∷ fields) [] r = absurd (not-true-and-false false r refl)
+in-ranges-has-values (f ∷ fields) (z ∷ values) r =
+    let more = in-ranges-has-values fields values (and-right (withinZ (f .low) (f .high) z) _ r) in omega arith
 
 -- values in range read back, whatever stands behind them
 pub body-back : (fields : List Field) (values : List ℤ) → length fields ≡ length values
@@ -75,13 +75,13 @@ body-back (f ∷ fields) (z ∷ values) n h r rest =
     let own : List ℕ = bytesOf w (complement w z) in
     let more : List ℕ = bodyOf fields values ++ rest in
     let fits : fitsWidth w z ≡ true =
-    holds-value f z (and-left (holdsRange f) _ h) (and-left (withinZ (f .low) (f .high) z) _ r) in
+    held-value-fits f z (and-left (holdsRange f) _ h) (and-left (withinZ (f .low) (f .high) z) _ r) in
     let long : length own ≡ w = bytes-length w (complement w z) in
     rw (
       append-assoc own (bodyOf fields values) rest,
       take-at own more w long,
       drop-at own more w long,
-      bytes-back w (complement w z) (complement-lt w z fits),
+      bytes-back w (complement w z) (complement-in-width w z fits),
       complement-back w z fits,
       body-back fields values (omega arith) (and-right (holdsRange f) _ h)
           (and-right (withinZ (f .low) (f .high) z) _ r) rest,
@@ -96,7 +96,7 @@ body-only (f ∷ fields) bytes b h =
     let w : ℕ = f .width in
     let own : List ℕ = take w bytes in
     let long : length own ≡ w = length-take-le w bytes (omega arith) in
-    let small : spelled own < inWidth w = rw long at (spelled-lt own (take-bytes w bytes b)) in
+    let small : spelled own < inWidth w = rw long at (spelled-in-width own (take-bytes w bytes b)) in
     let here : bytesOf w (spelled own) ≡ own = rw long at (bytes-only own (take-bytes w bytes b)) in
     let left : total fields ≤ length (drop w bytes) = rw (length-drop w bytes) (omega arith) in
     rw (
@@ -139,13 +139,13 @@ unfolding every holdsRange fitsWidth filled staticsFields ratesFields bandsField
 kinds-hold kind = of-every-kind (λ fields. every holdsRange fields ≡ true) refl refl refl refl refl kind
 
 -- every kind has 27 places
-pub kinds-places : (kind : ℕ) → length (placesOf kind) ≡ places
+pub kinds-have-places : (kind : ℕ) → length (placesOf kind) ≡ places
 unfolding filled staticsFields ratesFields bandsFields moveFields
-kinds-places kind = of-every-kind (λ fields. length fields ≡ places) refl refl refl refl refl kind
+kinds-have-places kind = of-every-kind (λ fields. length fields ≡ places) refl refl refl refl refl kind
 
 -- every kind's length is one that a message may have
-pub kinds-length : (kind : ℕ) → within lengthLeast lengthMost (lengthOf kind) ≡ true
+pub kinds-length-in-range : (kind : ℕ) → within lengthLeast lengthMost (lengthOf kind) ≡ true
 unfolding lengthOf total filled staticsFields ratesFields bandsFields moveFields
-kinds-length kind =
+kinds-length-in-range kind =
     of-every-kind (λ fields. within lengthLeast lengthMost (kindWidth + total fields) ≡ true) refl refl refl refl refl
     kind

@@ -15,26 +15,26 @@ use Rattle.paper.specs.Lists.{pick, every}
 use Rattle.paper.specs.Ranges.{within}
 use Rattle.paper.specs.Verdicts.{firstOf, isDone, NoneApplies, none, also}
 use Rattle.paper.proofs.Logic.{and-left, and-right, and-false}
-use Rattle.paper_desk.proofs.Refusals.{done-is, done-none, refusals}
+use Rattle.paper_desk.proofs.Refusals.{done-is, done-means-none-applies, refusals}
 use Rattle.paper_messages.specs.declared.Message.{Message}
 use Rattle.paper_messages.specs.declared.Heard.{Heard}
 use Rattle.paper_messages.specs.Bytes.{bytesOf, spelled}
 use Rattle.paper_messages.specs.Fields.{places, placesOf}
 use Rattle.paper_messages.specs.Messages.{lengthWidth, kindWidth, bodyOf, total, lengthOf, encode, isKnown, inRanges, valid, lengthLeast, lengthMost, lengthAt, kindAt, messageAt, valuesAt, readChecks, acceptedHeard, refusedHeard, heardAt}
 use Rattle.paper_messages.proofs.ByteLaws.{Bytes, take-bytes, drop-bytes, bytes-length, bytes-back, bytes-only}
-use Rattle.paper_messages.proofs.FieldLaws.{body-length, ranges-length, body-back, body-only, kinds-hold, kinds-places, kinds-length}
+use Rattle.paper_messages.proofs.FieldLaws.{body-length, in-ranges-has-values, body-back, body-only, kinds-hold, kinds-have-places, kinds-length-in-range}
 
 -- ---- what a valid message is
 
 module _ (m : Message) (v : valid m ≡ true) where
-  pub valid-known : isKnown (m .kind) ≡ true
+  pub valid-is-known : isKnown (m .kind) ≡ true
   unfolding valid
-  valid-known =
+  valid-is-known =
       and-left (isKnown (m .kind)) _ (and-left (isKnown (m .kind) && inRanges (placesOf (m .kind)) (m .fields)) _ v)
 
-  pub valid-ranges : inRanges (placesOf (m .kind)) (m .fields) ≡ true
+  pub valid-is-in-ranges : inRanges (placesOf (m .kind)) (m .fields) ≡ true
   unfolding valid
-  valid-ranges =
+  valid-is-in-ranges =
       and-right (isKnown (m .kind)) _ (and-left (isKnown (m .kind) && inRanges (placesOf (m .kind)) (m .fields)) _ v)
 
   -- four bytes of length, and so many as it says
@@ -42,7 +42,7 @@ module _ (m : Message) (v : valid m ≡ true) where
   unfolding encode lengthOf bytesOf total
   encode-length =
       let body : List ℕ = bodyOf (placesOf (m .kind)) (m .fields) in
-      let enough = ranges-length (placesOf (m .kind)) (m .fields) valid-ranges in
+      let enough = in-ranges-has-values (placesOf (m .kind)) (m .fields) valid-is-in-ranges in
       let head : List ℕ = bytesOf lengthWidth (kindWidth + total (placesOf (m .kind))) in
       let kind : List ℕ = bytesOf kindWidth (m .kind) in
       rw (
@@ -92,14 +92,15 @@ module _ (m : Message) (v : valid m ≡ true) (full : length (m .fields) ≡ pla
   length-said =
       let small : lengthOf (m .kind) ≤ lengthMost =
       leb-true (lengthOf (m .kind)) lengthMost
-      (and-right (leb lengthLeast (lengthOf (m .kind))) _ (kinds-length (m .kind))) in
+      (and-right (leb lengthLeast (lengthOf (m .kind))) _ (kinds-length-in-range (m .kind))) in
       rw (parts, take-at head (tag ++ (body ++ rest)) lengthWidth (bytes-length lengthWidth (lengthOf (m .kind))))
       (bytes-back lengthWidth (lengthOf (m .kind)) (omega arith))
 
   kind-said : kindAt (encode m ++ rest) ≡ m .kind
   unfolding head tag isKnown
   kind-said =
-      let most : m .kind ≤ 4 = leb-true (m .kind) 4 (and-right (leb 1 (m .kind)) (leb (m .kind) 4) (valid-known m v)) in
+      let most : m .kind ≤ 4 = leb-true (m .kind) 4
+      (and-right (leb 1 (m .kind)) (leb (m .kind) 4) (valid-is-known m v)) in
       rw (
         parts,
         drop-at head (tag ++ (body ++ rest)) lengthWidth (bytes-length lengthWidth (lengthOf (m .kind))),
@@ -121,8 +122,8 @@ module _ (m : Message) (v : valid m ≡ true) (full : length (m .fields) ≡ pla
   unfolding messageAt body
   message-said =
       let values : valuesAt (placesOf (m .kind)) (body ++ rest) ≡ m .fields =
-      body-back (placesOf (m .kind)) (m .fields) (kinds-places (m .kind) ∙ sym full) (kinds-hold (m .kind))
-      (valid-ranges m v) rest in
+      body-back (placesOf (m .kind)) (m .fields) (kinds-have-places (m .kind) ∙ sym full) (kinds-hold (m .kind))
+      (valid-is-in-ranges m v) rest in
       rw (kind-said, body-behind, values)
 
   -- no check applies to it
@@ -137,10 +138,10 @@ module _ (m : Message) (v : valid m ≡ true) (full : length (m .fields) ≡ pla
       rw (
         le-ltb n lengthWidth four,
         length-said,
-        kinds-length (m .kind),
+        kinds-length-in-range (m .kind),
         le-ltb n (lengthWidth + lengthOf (m .kind)) all,
         kind-said,
-        valid-known m v,
+        valid-is-known m v,
         eq-eqb (lengthOf (m .kind)) (lengthOf (m .kind)) refl,
         message-said,
         v,
@@ -157,7 +158,7 @@ module _ (m : Message) (v : valid m ≡ true) (full : length (m .fields) ≡ pla
         message = m;
       }
   unfolding acceptedHeard
-  accepted-is place = rw (length-said, kind-said, valid-known m v, message-said, encode-length m v)
+  accepted-is place = rw (length-said, kind-said, valid-is-known m v, message-said, encode-length m v)
 
   -- it is heard at any place, whatever stands before it and behind it
   pub reads-back : (front : List ℕ)
@@ -199,7 +200,7 @@ pub record Accepted (bytes : List ℕ) : Type 0 where
 
 pub accepted : (bytes : List ℕ) → firstOf (readChecks bytes) ≡ Done → Accepted bytes
 unfolding readChecks refusals every isDone
-accepted bytes e = of (done-none (readChecks bytes) refl (ap isDone e))
+accepted bytes e = of (done-means-none-applies (readChecks bytes) refl (ap isDone e))
   where
     of : NoneApplies (readChecks bytes) → Accepted bytes
     of (also a (also b (also c (also d (also f none))))) =

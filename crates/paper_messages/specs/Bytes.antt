@@ -30,12 +30,12 @@ abbrev pub widthMost : ℕ
 widthMost = 8
 
 -- whether a width has a signed number: the lower half of its numbers are not negative, and the upper half are
-unfoldable pub fitsWidth : (width : ℕ) → ℤ → Bool
+unfoldable pub fitsWidth : (width : ℕ) → (number : ℤ) → Bool
 fitsWidth width (pos n) = ltb (n + n) (inWidth width)
 fitsWidth width (negsuc n) = ltb (n + suc n) (inWidth width)
 
 -- the number that stands for a signed one at a width: -1 is the greatest
-unfoldable pub complement : (width : ℕ) → ℤ → ℕ
+unfoldable pub complement : (width : ℕ) → (number : ℤ) → ℕ
 complement width (pos n) = n
 complement width (negsuc n) = inWidth width - suc n
 

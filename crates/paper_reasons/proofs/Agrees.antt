@@ -11,7 +11,7 @@ use Rattle.paper.specs.declared.Day.{Day}
 use Rattle.paper.specs.declared.Verdict.{Verdict}
 use Rattle.paper.specs.Verdicts.{FirstAt, NoneApplies}
 use Rattle.paper_desk.specs.Desk.{evaluate, checksOf, step}
-use Rattle.paper_desk.proofs.Refusals.{verdict-first, named-is}
+use Rattle.paper_desk.proofs.Refusals.{verdict-first, named-is-first-or-otherwise}
 use Rattle.paper_reasons.specs.declared.Fault.{Fault}
 use Rattle.paper_reasons.specs.declared.Fault.the-variants as fault
 use Rattle.paper_reasons.specs.Faults.{faultsOf, faultOf}
@@ -27,4 +27,4 @@ number-agrees t id d rows = sym (verdict-first (evaluate id d rows) t)
 pub fault-is : (v : Verdict) (r : Record) (d : Day) (rows : List ℤ) (x : Fault) → faultOf v r d rows ≡ x
     → FirstAt x (faultsOf v r d rows) ⊎ ((fault.None ≡ x) × NoneApplies (faultsOf v r d rows))
 unfolding faultOf
-fault-is v r d rows x e = named-is fault.None (faultsOf v r d rows) x e
+fault-is v r d rows x e = named-is-first-or-otherwise fault.None (faultsOf v r d rows) x e

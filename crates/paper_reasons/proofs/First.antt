@@ -5,7 +5,7 @@ use mathlib.Core.Logic.{_⊎_, ⊎-elim}
 use mathlib.Core.Bool.{Bool, true, false}
 use mathlib.Core.List.{List, [], _∷_}
 use Rattle.paper.specs.Verdicts.{Naming, FirstAt, here, later, NoneApplies, Exactly}
-use Rattle.paper_desk.proofs.Refusals.{named-is, is-named}
+use Rattle.paper_desk.proofs.Refusals.{named-is-first-or-otherwise, first-is-named}
 use Rattle.paper_reasons.specs.Reasons.{inOrder, firstThatHolds}
 
 -- the condition of the first that applies holds
@@ -26,9 +26,9 @@ pub true-reason : {A : Type 0} (none : A) (holds : A → Bool) (order : List A)
     → (NoneApplies (inOrder holds order) → ⊥) → TrueReason holds order (firstThatHolds none holds order)
 true-reason {A} none holds order some =
     record {
-      exactly = λ v. (only-first v, λ f. is-named none (inOrder holds order) v f);
+      exactly = λ v. (only-first v, λ f. first-is-named none (inOrder holds order) v f);
       condition = first-holds holds order named (only-first named refl);
-      only = λ v f. sym (is-named none (inOrder holds order) v f);
+      only = λ v f. sym (first-is-named none (inOrder holds order) v f);
     }
   where
     named : A
@@ -36,4 +36,4 @@ true-reason {A} none holds order some =
 
     only-first : (v : A) → firstThatHolds none holds order ≡ v → FirstAt v (inOrder holds order)
     only-first v e =
-        ⊎-elim (λ f. f) (λ o. absurd (some (o .1))) (named-is none (inOrder holds order) v e)
+        ⊎-elim (λ f. f) (λ o. absurd (some (o .1))) (named-is-first-or-otherwise none (inOrder holds order) v e)

@@ -92,10 +92,10 @@ module _ (low high step a b from to k : ℕ) (h : Halved low high step a b from 
         between = between-above-miss _ high from to k (reach-monotone low step a b) (h .between) v (tested false e);
       }
 
-pub halved-one : (low high step a b from to : ℕ) → Halved low high step a b from to → to ≤ from
+pub halved-end-is-least-reach : (low high step a b from to : ℕ) → Halved low high step a b from to → to ≤ from
     → from ≡ leastReach low high step a b
 unfolding leastReach
-halved-one low high step a b from to h e = sym (between-one-is-least _ high from to (h .between) e)
+halved-end-is-least-reach low high step a b from to h e = sym (between-one-is-least _ high from to (h .between) e)
 
 -- ---- what it finds is the rate of the level
 
@@ -105,11 +105,11 @@ least-same bound p q f =
     le-antisymm (least-monotone bound p q (λ z e. f z ∙ e)) (least-monotone bound q p (λ z e. sym (f z) ∙ e))
 
 -- where S_max does not cover, no multiple below it does: the search alone gives the rate
-rate-multiple : (st : Statics) (level m tentative : ℕ) → st .smax % st .h ≡ 0
+least-multiple-is-level-rate : (st : Statics) (level m tentative : ℕ) → st .smax % st .h ≡ 0
     → leastMultiple (st .h) (st .smax / st .h) (λ v. leb (minimumOf st level) v && covers st tentative m level v)
     ≡ levelRate st tentative m level
 unfolding levelRate
-rate-multiple st level m tentative e = go (covers st tentative m level (st .smax)) refl
+least-multiple-is-level-rate st level m tentative e = go (covers st tentative m level (st .smax)) refl
   where
     passes : ℕ → Bool
     passes v = leb (minimumOf st level) v && covers st tentative m level v
@@ -146,15 +146,15 @@ steps-from x h k p e = go (le-or-lt (x / h) k)
     go (inl l) = le-leb (x / h) k l ∙ sym (le-leb x (k * h) (omega (arith, exact, mul-le-mul-right h l)))
     go (inr l) = lt-leb (x / h) k l ∙ sym (lt-leb x (k * h) (omega (arith, exact, mul-lt-mul-of-pos-right l p)))
 
-pub reach-rate : (st : Statics) (level m tentative : ℕ) → RateStatics st
+pub least-reach-is-level-rate : (st : Statics) (level m tentative : ℕ) → RateStatics st
     → leastReach (minimumOf st level / st .h) (st .smax / st .h) (st .h * st .rh1)
     (tentativeSquare (st .rh1) (daysOf st level) m tentative) (liquiditySquare (st .rh1) (daysOf st level) (st .liq)) *
     st .h
     ≡ levelRate st tentative m level
 unfolding leastReach leastMultiple covers
-reach-rate st level m tentative r =
+least-reach-is-level-rate st level m tentative r =
     ap (λ (k : ℕ). k * st .h) (least-same (st .smax / st .h) _ _ same)
-    ∙ rate-multiple st level m tentative (r .most-multiple)
+    ∙ least-multiple-is-level-rate st level m tentative (r .most-multiple)
   where
     rh : ℕ
     rh = daysOf st level
@@ -173,9 +173,9 @@ reach-rate st level m tentative r =
         )
 
 -- the numbers of steps that the search is given are in order, and reach no further than a rate may
-pub steps-held : (st : Statics) (level : ℕ) → RateStatics st
+pub steps-within-reach : (st : Statics) (level : ℕ) → RateStatics st
     → (minimumOf st level / st .h ≤ st .smax / st .h) × (st .smax / st .h * (st .h * st .rh1) ≤ reachMost)
-steps-held st level r =
+steps-within-reach st level r =
     let own = level-statics st level r in
     let most = quotient-times-is (st .smax) (st .h) (r .most-multiple) in
     let low = quotient-times-is (minimumOf st level) (st .h) (own .2) in
@@ -197,9 +197,10 @@ tried-is-least-reach low high step a b k l h hit miss = from (le-or-lt k low)
     up x = go (le-or-lt high k)
       where
         go : (high ≤ k) ⊎ (k < high) → k ≡ leastReach low high step a b
-        go (inl e) = halved-one low high step a b k high x e
+        go (inl e) = halved-end-is-least-reach low high step a b k high x e
         go (inr e) =
-            halved-one low high step a b k k (halved-hit low high step a b k high k x (omega arith) e (hit e))
+            halved-end-is-least-reach low high step a b k k
+            (halved-hit low high step a b k high k x (omega arith) e (hit e))
             (omega arith)
 
     from : (k ≤ low) ⊎ (low < k) → k ≡ leastReach low high step a b
@@ -223,7 +224,7 @@ pub tried-is-level-rate : (st : Statics) (level m tentative v : ℕ) → RateSta
     → v ≡ levelRate st tentative m level
 tried-is-level-rate st level m tentative v r t e n =
     sym whole ∙ ap (λ (z : ℕ). z * st .h) (tried-is-least-reach low high step a b k low-k k-high hit miss)
-    ∙ reach-rate st level m tentative r
+    ∙ least-reach-is-level-rate st level m tentative r
   where
     a : ℕ
     a = tentativeSquare (st .rh1) (daysOf st level) m tentative
@@ -298,9 +299,9 @@ lesser-is-multiple h x y p q = go (le-or-lt x y)
     go (inl l) = let e : min x y ≡ x = omega arith in rw e p
     go (inr l) = let e : min x y ≡ y = omega arith in rw e q
 
-pub held-tried : (st : Statics) (minimum steps : ℕ) → RateStatics st → minimum ≤ st .smax → minimum % st .h ≡ 0
+pub held-is-tried : (st : Statics) (minimum steps : ℕ) → RateStatics st → minimum ≤ st .smax → minimum % st .h ≡ 0
     → Tried st minimum (max minimum (min (st .smax) (steps * st .h)))
-held-tried st minimum steps r l e =
+held-is-tried st minimum steps r l e =
     record {
       multiple =
           greater-is-multiple (st .h) minimum (min (st .smax) (steps * st .h)) e
@@ -310,9 +311,10 @@ held-tried st minimum steps r l e =
     }
 
 -- "S_max if the requirement exceeds it": no rate is above it
-pub rate-held : (st : Statics) (level m tentative : ℕ) → RateStatics st → levelRate st tentative m level ≤ st .smax
-rate-held st level m tentative r =
-    rw (← rate-multiple st level m tentative (r .most-multiple))
+pub level-rate-within-most : (st : Statics) (level m tentative : ℕ) → RateStatics st
+    → levelRate st tentative m level ≤ st .smax
+level-rate-within-most st level m tentative r =
+    rw (← least-multiple-is-level-rate st level m tentative (r .most-multiple))
     (omega (
       arith,
       quotient-times-is (st .smax) (st .h) (r .most-multiple),

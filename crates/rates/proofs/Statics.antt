@@ -13,12 +13,12 @@ use Rattle.paper.specs.Lists.{pick}
 use Rattle.paper.specs.Ranges.{validStatics, tentativeTop, isRate, noRate, sound}
 use Rattle.paper_desk.specs.Rates.{modelOf, daysOf, minimumOf, Weighing}
 use Rattle.paper.proofs.Logic.{and-left, and-right}
-use Rattle.paper_desk.proofs.TentativeRange.{valid-high, tentative-top-high}
+use Rattle.paper_desk.proofs.TentativeRange.{valid-tentative-within-top, tentative-top-high}
 use Rattle.rates.specs.Asked.{RateStatics, FigureRanges, tentativeBound}
 
-pub valid-rates : (st : Statics) → validStatics st ≡ true → RateStatics st
+pub valid-are-rate-statics : (st : Statics) → validStatics st ≡ true → RateStatics st
 unfolding validStatics
-valid-rates st v =
+valid-are-rate-statics st v =
     record {
       step-low = leb-true _ _ (search (v, and-left, and-right) depth 40);
       step-high = leb-true _ _ (search (v, and-left, and-right) depth 40);
@@ -59,21 +59,23 @@ level-statics st level r = go (eqb level 1) (eqb level 2)
     go false false = (omega arith, omega arith, r .third-multiple)
 
 -- a tentative rate up to its top is one that the rules are proved for
-pub top-within : {st : Statics} {t : ℕ} → RateStatics st → t ≤ tentativeTop (st .h) → t ≤ tentativeBound
-top-within {st} {t} r high = omega (arith, tentative-top-high (st .h) (r .step-low))
+pub within-tentative-bound : {st : Statics} {t : ℕ} → RateStatics st → t ≤ tentativeTop (st .h) → t ≤ tentativeBound
+within-tentative-bound {st} {t} r high = omega (arith, tentative-top-high (st .h) (r .step-low))
 
 -- a sound record's figures are in the ranges of an evaluation
-pub sound-ranges : (r : Record) (m : ℕ) → sound r ≡ true → m ≤ aheadMost
+pub sound-figures-in-ranges : (r : Record) (m : ℕ) → sound r ≡ true → m ≤ aheadMost
     → FigureRanges (r .statics) m (getD (r .rates) 0 noRate) (r .s) (r .tentative)
 unfolding sound isRate
-sound-ranges r m v h =
-    let statics : RateStatics (r .statics) = valid-rates (r .statics) (search (v, and-left, and-right) depth 40) in
-    let high = valid-high (r .statics .h) (r .tentative .bp) (search (v, and-left, and-right) depth 40) in
+sound-figures-in-ranges r m v h =
+    let statics : RateStatics (r .statics) = valid-are-rate-statics (r .statics)
+    (search (v, and-left, and-right) depth 40) in
+    let high = valid-tentative-within-top (r .statics .h) (r .tentative .bp)
+    (search (v, and-left, and-right) depth 40) in
     record {
       statics = statics;
       ahead = h;
       last-rate = leb-true _ _ (search (v, and-left, and-right) depth 40);
       volatility = leb-true _ _ (search (v, and-left, and-right) depth 40);
-      tentative = top-within statics high;
+      tentative = within-tentative-bound statics high;
       age = leb-true _ _ (search (v, and-left, and-right) depth 40);
     }

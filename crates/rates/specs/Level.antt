@@ -14,7 +14,7 @@ use Rattle.rates.specs.declared.level.Level.{Level}
 use Rattle.rates.specs.Asked.{tentativeBound}
 
 -- rh_L and S_L_min of a level
-abbrev pub levelOf : Statics → ℕ → Level
+abbrev pub levelOf : Statics → (level : ℕ) → Level
 levelOf st level = record { days = daysOf st level; minimum = record { bp = minimumOf st level } }
 
 -- the two numbers under the roots

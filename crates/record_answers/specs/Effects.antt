@@ -22,7 +22,7 @@ use Rattle.record_answers.specs.declared.Slot.{Slot}
 use Rattle.record_answers.specs.declared.Effect.{Effect}
 
 -- the first slot with an id: the number of slots, its place, and its record; past the end, a blank
-unfoldable pub slotOf : List Record → ℕ → Slot
+unfoldable pub slotOf : List Record → (id : ℕ) → Slot
 slotOf t id = record { count = length t; at = place t id; rec = found t id }
 
 -- whether the slot holds an id, and whether that is a known one
@@ -33,7 +33,7 @@ unfoldable pub isKnown : Slot → Bool
 isKnown s = validSlots (s .count) && holds s && sound (s .rec)
 
 -- a refusal stores past the end, where nothing is stored
-unfoldable pub refusedEffect : ℕ → Verdict → Effect
+unfoldable pub refusedEffect : (count : ℕ) → Verdict → Effect
 refusedEffect count v = record { at = count; rec = blank; answer = saying v }
 
 unfoldable pub judgedEffect : (count : ℕ) → Verdict → Effect → Effect
@@ -52,7 +52,7 @@ admitEffect s e a =
     judgedEffect (s .count) (firstOf (admitChecksOf s e a))
     (record { at = e .at; rec = admitted a; answer = saying Done })
 
-unfoldable pub evaluateEffect : Slot → Day → List ℤ → Effect
+unfoldable pub evaluateEffect : Slot → Day → (rows : List ℤ) → Effect
 evaluateEffect s d rows =
     judgedEffect (s .count) (firstOf (evaluateChecks (isKnown s) (s .rec) d rows))
     (record { at = s .at; rec = evaluated (s .rec) d rows; answer = showing (evaluated (s .rec) d rows) })
@@ -62,7 +62,7 @@ quoteEffect s q =
     judgedEffect (s .count) (firstOf (quoteChecks (isKnown s) (s .rec) q))
     (record { at = s .at; rec = quoted (s .rec) q; answer = alertsOn (s .rec) q })
 
-unfoldable pub moveEffect : Slot → ℕ → Effect
+unfoldable pub moveEffect : Slot → (side : ℕ) → Effect
 moveEffect s side =
     judgedEffect (s .count) (firstOf (moveChecks (isKnown s) (s .rec) side))
     (record { at = s .at; rec = moved (s .rec) (sideOf side); answer = showing (moved (s .rec) (sideOf side)) })

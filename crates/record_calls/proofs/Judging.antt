@@ -25,7 +25,7 @@ use Rattle.paper_desk.specs.Evening.{isEvening, moveAllowed}
 use Rattle.paper.specs.Verdicts.{isDone, Check, firstOf, NoneApplies, none, also}
 use Rattle.paper_desk.specs.Desk.{saying, showing, admitted, quoted, alertsOn, moved, eveningOpened, received, quoteChecks, moveChecks, openChecks, receiveChecks}
 use Rattle.paper.proofs.Logic.{not-true-and-false, and-right, not-false, pick-false, and-left}
-use Rattle.paper_desk.proofs.Refusals.{refusals, done-none}
+use Rattle.paper_desk.proofs.Refusals.{refusals, done-means-none-applies}
 use Rattle.record_soundness.proofs.Facts.{sound-facts}
 use Rattle.record_answers.specs.declared.Slot.{Slot}
 use Rattle.record_answers.specs.declared.Effect.{Effect}
@@ -94,7 +94,7 @@ pub record Passed (there inRange : Bool) (r : Record) : Type 0 where
 pub past-shared : (there inRange : Bool) (r : Record) → isDone (firstOf (sharedChecks there inRange r)) ≡ true
     → Passed there inRange r
 unfolding sharedChecks refusals every isDone
-past-shared there inRange r e = go (done-none (sharedChecks there inRange r) refl e)
+past-shared there inRange r e = go (done-means-none-applies (sharedChecks there inRange r) refl e)
   where
     go : NoneApplies (sharedChecks there inRange r) → Passed there inRange r
     go (also a (also b (also c (also d none)))) =

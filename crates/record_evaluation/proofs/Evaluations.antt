@@ -70,10 +70,10 @@ pub record Made (g previous : ℕ) (used : External) (rows : List Row) (e : Pric
   pub is : pricedOf g previous used rows ≡ e
   pub price : isPrice (e .price .units) ≡ true
 
-pub made : (g previous : ℕ) (used : External) (rows : List Row) (e : Priced)
+pub evaluated-is-made : (g previous : ℕ) (used : External) (rows : List Row) (e : Priced)
     → evaluationMade g previous used rows ≡ Evaluated e → Made g previous used rows e
 unfolding evaluationMade evaluationFits pricedOf
-made g previous used rows e m = go (evaluationFits g previous used rows) refl m
+evaluated-is-made g previous used rows e m = go (evaluationFits g previous used rows) refl m
   where
     go : (b : Bool) → evaluationFits g previous used rows ≡ b
         → pick b (Evaluated (pricedOf g previous used rows)) Beyond ≡ Evaluated e → Made g previous used rows e

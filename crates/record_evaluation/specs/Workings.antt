@@ -23,7 +23,7 @@ use Rattle.record_evaluation.specs.declared.Working.{Working}
 use Rattle.record_answers.specs.Effects.{isKnown}
 
 -- the evaluation of the rows on the record's grid, and the figures that it was chosen from
-abbrev pub pricedOn : Record → List ℤ → Priced
+abbrev pub pricedOn : Record → (rows : List ℤ) → Priced
 pricedOn r rows = pricedOf (gridOf (r .statics .lot)) (r .p1 .units) (usedBy r) (dayRows rows)
 
 abbrev pub noFigures : PriceFigures
@@ -34,7 +34,7 @@ abbrev pub unmadeBy : Verdict → Working
 unmadeBy v = record { verdict = v; rec = blank; figures = noFigures }
 
 -- and behind it the record stands, whether its bands are crossed or not
-abbrev pub madeWith : Slot → Day → List ℤ → Verdict → Working
+abbrev pub madeWith : Slot → Day → (rows : List ℤ) → Verdict → Working
 madeWith s d rows v =
     record { verdict = v; rec = evaluated (s .rec) d rows; figures = pricedOn (s .rec) rows .figures }
 
@@ -42,7 +42,7 @@ madeWith s d rows v =
 unfoldable pub isMade : Verdict → Bool
 isMade v = isDone v || eqb (numberOf v) (numberOf BandCrossed)
 
-unfoldable pub workedOf : Slot → Day → List ℤ → Working
+unfoldable pub workedOf : Slot → Day → (rows : List ℤ) → Working
 workedOf s d rows =
     let v : Verdict = firstOf (evaluateChecks (isKnown s) (s .rec) d rows) in
     pick (isMade v) (madeWith s d rows v) (unmadeBy v)

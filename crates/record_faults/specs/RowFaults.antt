@@ -47,13 +47,13 @@ termFault first second third =
     pick first (fault.Term 0) (pick second (fault.Term 1) (pick third (fault.Term 2) fault.None))
 
 -- the first fault, and where there is none the second
-unfoldable pub orElse : Fault → Fault → Fault
+unfoldable pub orElse : (row term : Fault) → Fault
 orElse fault.None term = term
 orElse (fault.Row n) term = fault.Row n
 orElse (fault.Term k) term = fault.Term k
 
 -- what is at fault in a refusal, of the bands that were made
-unfoldable pub faultWith : Verdict → Day → List ℤ → List Limits → Fault
+unfoldable pub faultWith : Verdict → Day → (rows : List ℤ) → (bands : List Limits) → Fault
 faultWith v d rows bands =
     pick (isSame v verdict.OutOfRange) (firstNamed fault.None (outOfRange d rows))
     (pick (isSame v verdict.RowCrossed) (rowFault Crossed (rowsOf rows))

@@ -25,14 +25,14 @@ use Rattle.paper.specs.Numbers.{volatilityMost, aheadMost}
 use Rattle.paper.specs.Verdicts.{isDone, firstOf, NoneApplies, none, also}
 use Rattle.paper_desk.specs.Desk.{usedBy, priceOn, moveOn, figuresOn, evaluated, evaluateChecks}
 use Rattle.paper.proofs.Logic.{not-true-and-false, and-left, and-right, and-false, not-false, pick-true, pick-false}
-use Rattle.paper_desk.proofs.TentativeRange.{valid-high, modelled-stays}
-use Rattle.paper_desk.proofs.Refusals.{refusals, done-none}
+use Rattle.paper_desk.proofs.TentativeRange.{valid-tentative-within-top, modelled-stays}
+use Rattle.paper_desk.proofs.Refusals.{refusals, done-means-none-applies}
 use Rattle.evaluation.specs.declared.PriceFigures.{PriceFigures}
 use Rattle.evaluation.specs.Evaluation.{priceFigures, pricedOf}
 use Rattle.record_soundness.proofs.Facts.{sound-facts}
 use Rattle.inputs.proofs.Facts.{day-facts}
 use Rattle.rates.specs.Asked.{FigureRanges, tentativeBound}
-use Rattle.rates.proofs.Statics.{sound-ranges, top-within}
+use Rattle.rates.proofs.Statics.{sound-figures-in-ranges, within-tentative-bound}
 use Rattle.record_writing.specs.Evaluates.{moveTo, figuresAt}
 use Rattle.record_answers.specs.declared.Slot.{Slot}
 use Rattle.record_answers.specs.Effects.{isKnown}
@@ -77,7 +77,7 @@ pub accepted : (s : Slot) (d : Day) (rows : List ℤ)
     → isDone (firstOf (evaluateChecks (isKnown s) (s .rec) d rows)) ≡ true
     → Accepted (s .rec) d (evaluated (s .rec) d rows)
 unfolding evaluateChecks refusals every isDone evaluationFits priceOn evaluated moveTo moveOn figuresAt figuresOn
-accepted s d rows e = go (done-none (evaluateChecks (isKnown s) (s .rec) d rows) refl e)
+accepted s d rows e = go (done-means-none-applies (evaluateChecks (isKnown s) (s .rec) d rows) refl e)
   where
     go : NoneApplies (evaluateChecks (isKnown s) (s .rec) d rows) → Accepted (s .rec) d (evaluated (s .rec) d rows)
     go (also k (also v (also c (also l (also f (also m (also b none))))))) =
@@ -118,8 +118,8 @@ module _ (old : Record) (d : Day) (new : Record) (a : Accepted old d new) (on : 
   is-made : figuresAt old d (new .p1 .units) ≡ made
   is-made = figures-modelled old d (new .p1 .units) on
 
-  pub ranges : FigureRanges (old .statics) (d .m) (getD (old .rates) 0 noRate) (old .s) (old .tentative)
-  ranges = sound-ranges old (d .m) (a .sound-record) (day-facts d (a .day) .m-most)
+  pub figures-in-ranges : FigureRanges (old .statics) (d .m) (getD (old .rates) 0 noRate) (old .s) (old .tentative)
+  figures-in-ranges = sound-figures-in-ranges old (d .m) (a .sound-record) (day-facts d (a .day) .m-most)
 
   tentative-is : new .tentative ≡ made .tentative
   tentative-is = a .tentative ∙ ap (λ (f : Figures). f .tentative) is-made
@@ -129,9 +129,9 @@ module _ (old : Record) (d : Day) (new : Record) (a : Accepted old d new) (on : 
       let stays =
       modelled-stays (old .statics) (d .b) (d .m) _ _ (old .s) (old .tentative)
       (sound-facts old (a .sound-record) .valid) (allowed-move-within-most (old .statics) _ on (a .near))
-      (ranges .volatility)
+      (figures-in-ranges .volatility)
       (tentative-valid old (a .sound-record)) in
-      rw tentative-is (top-within (ranges .statics) (valid-high _ _ stays))
+      rw tentative-is (within-tentative-bound (figures-in-ranges .statics) (valid-tentative-within-top _ _ stays))
 
   -- the rate of each level, of the tentative rate that was made
   pub rates-made : new .rates
@@ -140,13 +140,13 @@ module _ (old : Record) (d : Day) (new : Record) (a : Accepted old d new) (on : 
   rates-made = rw tentative-is (a .rates ∙ ap (λ (f : Figures). f .rates) is-made)
 
   -- what is asked of each level
-  pub level-asked : ((validStatics (old .statics) ≡ true) × (old .statics .ewma ≡ true))
+  pub levels-may-be-asked : ((validStatics (old .statics) ≡ true) × (old .statics .ewma ≡ true))
       × ((d .m ≤ aheadMost) × (new .tentative .bp ≤ tentativeBound))
-  level-asked = ((sound-facts old (a .sound-record) .valid, on), (ranges .ahead, tentative-high))
+  levels-may-be-asked = ((sound-facts old (a .sound-record) .valid, on), (figures-in-ranges .ahead, tentative-high))
 
-  pub rate-asked : (i : ℕ) → getD (new .rates) i noRate .bp
+  pub rates-are-level-rates : (i : ℕ) → getD (new .rates) i noRate .bp
       ≡ getD (forLevels (λ l. record { bp = levelRate (old .statics) (new .tentative .bp) (d .m) l })) i noRate .bp
-  rate-asked i = ap (λ (rs : List Rate). getD rs i noRate .bp) rates-made
+  rates-are-level-rates i = ap (λ (rs : List Rate). getD rs i noRate .bp) rates-made
 
 -- the reason of a level, of the record that was made
 pub level-at : (old : Record) (d : Day) (new : Record) → Accepted old d new → (l i : ℕ)

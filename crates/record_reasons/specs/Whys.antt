@@ -7,5 +7,5 @@ use Rattle.record_answers.specs.Effects.{isKnown}
 use Rattle.paper_reasons.specs.declared.Why.{Why}
 use Rattle.paper_reasons.specs.Why.{whyOf}
 
-unfoldable pub whySlot : Slot → Day → List ℤ → Why
+unfoldable pub whySlot : Slot → Day → (rows : List ℤ) → Why
 whySlot s d rows = whyOf (isKnown s) (s .rec) d rows

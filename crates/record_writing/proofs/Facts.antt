@@ -25,8 +25,8 @@ use Rattle.paper.proofs.Logic.{and-left, and-right, each-of-three}
 use Rattle.inputs.proofs.Facts.{quote-facts}
 use Rattle.record_soundness.proofs.Facts.{sound-facts}
 use Rattle.rates.specs.Asked.{RateStatics}
-use Rattle.rates.proofs.Statics.{valid-rates, level-statics}
-use Rattle.rates.proofs.Reach.{rate-held}
+use Rattle.rates.proofs.Statics.{valid-are-rate-statics, level-statics}
+use Rattle.rates.proofs.Reach.{level-rate-within-most}
 use Rattle.limits.specs.LimitRanges.{RangeInputs, TermInputs, valid-limit-statics}
 use Rattle.limits.specs.LimitBounds.{delta-high}
 use Rattle.alerts.specs.Nearness.{NearRange}
@@ -113,7 +113,7 @@ unfolding figuresAt figuresOf modelled unmodelled
 rates-held r d p v i k = go (r .statics .ewma)
   where
     st : RateStatics (r .statics)
-    st = valid-rates (r .statics) (sound-facts r v .valid)
+    st = valid-are-rate-statics (r .statics) (sound-facts r v .valid)
 
     by-model : Figures
     by-model = modelled (r .statics) (d .b) (d .m) (rateAt (r .rates) 0) (moveTo r p) (r .s) (r .tentative)
@@ -121,6 +121,6 @@ rates-held r d p v i k = go (r .statics .ewma)
     go : (b : Bool) → getD (pick b by-model (unmodelled (r .statics) (r .s) (r .tentative)) .rates) i noRate .bp ≤
         rateMost
     go true = levels-held (λ l. levelRate (r .statics) (by-model .tentative .bp) (d .m) l) rateMost
-        (λ l. le-trans (rate-held (r .statics) l (d .m) (by-model .tentative .bp) st) (st .most-high)) i k
+        (λ l. le-trans (level-rate-within-most (r .statics) l (d .m) (by-model .tentative .bp) st) (st .most-high)) i k
     go false = levels-held (minimumOf (r .statics)) rateMost
         (λ l. le-trans (level-statics (r .statics) l st .1) (st .most-high)) i k

@@ -39,5 +39,5 @@ abbrev pub BandsAsked : Price → Rate → Moves → List Term → Type 0
 BandsAsked p s1 c terms = EachOfThree (λ k. TermInputs p s1 c (termAt terms k))
 
 -- of three ranges that are shifted: delta and each upper limit
-abbrev pub ShiftsAsked : ℕ → List Limits → Type 0
+abbrev pub ShiftsAsked : (delta : ℕ) → (ranges : List Limits) → Type 0
 ShiftsAsked delta ranges = EachOfThree (λ i. (delta ≤ deltaMost) × (getD ranges i noLimits .upper ≤ limitMost))

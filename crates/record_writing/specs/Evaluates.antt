@@ -15,7 +15,7 @@ use Rattle.paper_desk.specs.Desk.{priceOn, evaluated}
 use Rattle.paper.specs.declared.Figures.{Figures}
 
 -- the move to P and the figures of 7.1 at P
-unfoldable pub moveTo : Record → ℕ → ℕ
+unfoldable pub moveTo : Record → (p : ℕ) → ℕ
 moveTo r p = moveOf p (r .p1 .units) (r .p2 .units)
 
 unfoldable pub figuresAt : Record → Day → (price : ℕ) → Figures

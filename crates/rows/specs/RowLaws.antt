@@ -15,11 +15,11 @@ use Rattle.paper.specs.Numbers.{rowNumbers, allNumbersMost, rowTermMost, centra
 use Rattle.paper.specs.Ranges.{LentRow, rowAt, rowsOf, wholeRows, validRows, validRow, rowOf}
 use Rattle.paper.proofs.Logic.{and-left, and-right}
 use Rattle.exact.specs.LentLaws.{partsLeft, left-first}
-use Rattle.exact.specs.SignedLaws.{unsigned-le, within-not-below-zero, repo-le}
+use Rattle.exact.specs.SignedLaws.{unsigned-le, within-not-below-zero, repo-within-most}
 
 -- ---- the rows from a place on
 
-abbrev pub restOf : List ℤ → ℕ → List LentRow
+abbrev pub restOf : (numbers : List ℤ) → (at : ℕ) → List LentRow
 restOf numbers at = partsLeft rowAt rowNumbers numbers at
 
 pub rest-first : (numbers : List ℤ) → restOf numbers 0 ≡ rowsOf numbers
@@ -28,15 +28,15 @@ rest-first numbers = left-first rowAt rowNumbers numbers
 
 -- ---- what numbers that are not refused give
 
-pub valid-sevens : (numbers : List ℤ) → wholeRows numbers ≡ true → length numbers % rowNumbers ≡ 0
+pub whole-in-sevens : (numbers : List ℤ) → wholeRows numbers ≡ true → length numbers % rowNumbers ≡ 0
 unfolding wholeRows
-valid-sevens numbers e =
+whole-in-sevens numbers e =
     eqb-true (length numbers % rowNumbers) 0
     (and-left (eqb (length numbers % rowNumbers) 0) (leb (length numbers) allNumbersMost) e)
 
-pub valid-short : (numbers : List ℤ) → wholeRows numbers ≡ true → length numbers ≤ allNumbersMost
+pub whole-within-most : (numbers : List ℤ) → wholeRows numbers ≡ true → length numbers ≤ allNumbersMost
 unfolding wholeRows
-valid-short numbers e = leb-true (length numbers) allNumbersMost
+whole-within-most numbers e = leb-true (length numbers) allNumbersMost
     (and-right (eqb (length numbers % rowNumbers) 0) (leb (length numbers) allNumbersMost) e)
 
 pub valid-whole : (numbers : List ℤ) → validRows numbers ≡ true → wholeRows numbers ≡ true
@@ -59,13 +59,13 @@ pub record InRange (row : Row) : Type 0 where
   pub ask : row .ask ≤ priceMost
   pub volume : row .volume ≤ volumeMost
 
-pub in-range : (row : LentRow) → validRow row ≡ true → InRange (rowOf row)
+pub valid-row-in-range : (row : LentRow) → validRow row ≡ true → InRange (rowOf row)
 unfolding validRow rowOf
-in-range row e =
+valid-row-in-range row e =
     record {
       t = unsigned-le 0 rowTermMost (row .t) (omega arith) (search (e, and-left, and-right) depth 40);
       central = unsigned-le 1 centralMost (row .central) (omega arith) (search (e, and-left, and-right) depth 40);
-      repo = repo-le (row .repo) (search (e, and-left, and-right) depth 40);
+      repo = repo-within-most (row .repo) (search (e, and-left, and-right) depth 40);
       close = unsigned-le 0 priceMost (row .close) (omega arith) (search (e, and-left, and-right) depth 40);
       bid = unsigned-le 0 priceMost (row .bid) (omega arith) (search (e, and-left, and-right) depth 40);
       ask = unsigned-le 0 priceMost (row .ask) (omega arith) (search (e, and-left, and-right) depth 40);

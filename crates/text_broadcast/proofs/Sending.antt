@@ -1,5 +1,5 @@
--- What the writer left in a part of the buffer is the message, appended; and what is sent of a call, by its kind. Assumes
--- nothing.
+-- What the writer left in a part of the buffer is the message, appended; and what is sent of a call, by its kind.
+-- Assumes nothing.
 use mathlib.Core.Path.{_≡_, refl, sym, ap, _∙_}
 use mathlib.Core.Bool.{Bool, true, false, not}
 use mathlib.Core.List.{List, [], _∷_, _++_, append-nil, append-assoc}
@@ -27,9 +27,9 @@ use Rattle.text_out.specs.Wrote.{Wrote, then, wider, nothing}
 use Rattle.text_broadcast.specs.Kinds.{messagesOfKind, broadcastOfKind}
 
 -- no kind's message is longer
-kind-short : (kind : ℕ) → lengthWidth + lengthOf kind ≤ messageMost
+kind-within-message-most : (kind : ℕ) → lengthWidth + lengthOf kind ≤ messageMost
 unfolding lengthOf total placesOf filled fieldsOf staticsFields ratesFields bandsFields moveFields
-kind-short kind = go (eqb kind staticsKind) (eqb kind ratesKind) (eqb kind bandsKind) (eqb kind moveKind)
+kind-within-message-most kind = go (eqb kind staticsKind) (eqb kind ratesKind) (eqb kind bandsKind) (eqb kind moveKind)
   where
     go : (a b c d : Bool)
         → lengthWidth + (kindWidth + total (filled noField (pick a staticsFields (pick b ratesFields (pick c bandsFields
@@ -43,9 +43,9 @@ kind-short kind = go (eqb kind staticsKind) (eqb kind ratesKind) (eqb kind bands
 module _ (b : List ℕ) (len : ℕ) (m : Message) (w : Answered) (after : List ℕ) (fits : len + messageMost ≤ room)
     (long : length b ≡ room) (writes : Writes (drop len b) m w after) where
   -- a message with a field out of its range is not written
-  not-sent : valid m ≡ false → Wrote b len (take len b ++ after) (len + w .length) (sent m) messageMost
+  refused-is-not-sent : valid m ≡ false → Wrote b len (take len b ++ after) (len + w .length) (sent m) messageMost
   unfolding sent wroteOf written writeChecks firstOf isDone
-  not-sent e =
+  refused-is-not-sent e =
       let none : w .length ≡ 0 = ap (λ (x : Answered). x .length) (writes .answers) ∙ rw e in
       let left : after ≡ drop len b = writes .leaves ∙ rw e in
       record {
@@ -55,10 +55,10 @@ module _ (b : List ℕ) (len : ℕ) (m : Message) (w : Answered) (after : List �
       }
 
   -- every other message is, since there is room for it
-  is-sent : valid m ≡ true → Wrote b len (take len b ++ after) (len + w .length) (sent m) messageMost
+  valid-is-sent : valid m ≡ true → Wrote b len (take len b ++ after) (len + w .length) (sent m) messageMost
   unfolding sent wroteOf written writeChecks firstOf isDone
-  is-sent e =
-      let short : length (encode m) ≤ messageMost = rw (encode-length m e) (kind-short (m .kind)) in
+  valid-is-sent e =
+      let short : length (encode m) ≤ messageMost = rw (encode-length m e) (kind-within-message-most (m .kind)) in
       let room-left : ltb (length (drop len b)) (length (encode m)) ≡ false =
       le-ltb (length (drop len b)) (length (encode m)) (omega (arith, length-drop len b, long, fits, short)) in
       let size : w .length ≡ length (encode m) =
@@ -77,8 +77,8 @@ module _ (b : List ℕ) (len : ℕ) (m : Message) (w : Answered) (after : List �
   appended = go (valid m) refl
     where
       go : (x : Bool) → valid m ≡ x → Wrote b len (take len b ++ after) (len + w .length) (sent m) messageMost
-      go true e = is-sent e
-      go false e = not-sent e
+      go true e = valid-is-sent e
+      go false e = refused-is-not-sent e
 
 -- the part of the buffer from `len` on is all that stands there, and nothing stands behind it
 pub appended-to-part : (b : List ℕ) (len : ℕ) (m : Message) (w : Answered) (after : List ℕ)
@@ -94,12 +94,14 @@ appended-to-part b len m w after fits long writes =
 
 module _ (kind : ℕ) (g : Admission) (side : ℕ) (a : Answer) (no : ℕ) (is : no ≡ numberOf (a .verdict)) where
   -- a refused call sends nothing
-  pub refused-sends : (b : List ℕ) (n : ℕ) → (no ≡ 0 → ⊥) → Wrote b n b n (broadcastOfKind kind g side a) answerMost
+  pub refusal-sends-nothing : (b : List ℕ) (n : ℕ) → (no ≡ 0 → ⊥)
+      → Wrote b n b n (broadcastOfKind kind g side a) answerMost
   unfolding broadcastOfKind isDone
-  refused-sends b n z = rw (← is, ne-eqb no 0 z) (nothing b n answerMost)
+  refusal-sends-nothing b n z = rw (← is, ne-eqb no 0 z) (nothing b n answerMost)
 
   module _ (z : no ≡ 0) where
-    pub one-sent : {b c : List ℕ} {n e : ℕ} (m : Message) → messagesOfKind kind g side a ≡ m ∷ [] → Wrote b n c e (sent m) messageMost
+    pub one-sent : {b c : List ℕ} {n e : ℕ} (m : Message) → messagesOfKind kind g side a ≡ m ∷ []
+        → Wrote b n c e (sent m) messageMost
         → Wrote b n c e (broadcastOfKind kind g side a) answerMost
     unfolding broadcastOfKind allSent isDone
     one-sent m are p = rw (← is, eq-eqb no 0 z, are, append-nil (sent m)) (wider p (omega arith))
@@ -111,6 +113,7 @@ module _ (kind : ℕ) (g : Admission) (side : ℕ) (a : Answer) (no : ℕ) (is :
     two-sent m m' are p q =
         rw (← is, eq-eqb no 0 z, are, append-nil (sent m')) (wider (then p q) (omega arith))
 
-    pub none-sent : (b : List ℕ) (n : ℕ) → messagesOfKind kind g side a ≡ [] → Wrote b n b n (broadcastOfKind kind g side a) answerMost
+    pub none-sent : (b : List ℕ) (n : ℕ) → messagesOfKind kind g side a ≡ []
+        → Wrote b n b n (broadcastOfKind kind g side a) answerMost
     unfolding broadcastOfKind allSent isDone
     none-sent b n are = rw (← is, eq-eqb no 0 z, are) (nothing b n answerMost)

@@ -1,5 +1,5 @@
-// What a line is broadcast as (document 02, W-212): the messages of its call, appended to a lent buffer by the writer of
-// the library. Nothing here depends on how a message is encoded.
+// What a line is broadcast as (document 02, W-212): the messages of its call, appended to a lent buffer by the writer
+// of the library. Nothing here depends on how a message is encoded.
 ghost use mathlib.Core.Path.{_≡_};
 ghost use Prim.Native.Nat.{_+_, _≤_};
 ghost use lib.ListN.{length};

@@ -21,7 +21,7 @@ use Rattle.text_protocol.specs.Names.{ID, SIDE, BITS, the, evaluateNames, quote
 use Rattle.text_protocol.specs.Calls.{unsignedOf, admissionOf, quoteOf, floatOf, outsideOf, noticeCall, askedOf, figuresOf}
 use Rattle.text_call.specs.declared.Request.{Request}
 
-abbrev pub requestCall : Request → List ℤ → Call
+abbrev pub requestCall : Request → (rows : List ℤ) → Call
 requestCall c rows =
     pick (eqb (c .kind) admitKind) (admit (c .admission))
     (pick (eqb (c .kind) evaluateKind) (evaluate (c .id) (dayOf (c .day)) rows)

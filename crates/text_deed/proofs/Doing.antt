@@ -193,7 +193,8 @@ no-side-refused id side t e f = rw (verdict-first (move id side) t) (go (known t
 noticed-silent : (a b : Bool) (id side : ℕ) (x : Float) (t : List Record) → eqb side 0 ≡ a → eqb side 1 ≡ b
     → [] ≡ broadcastOf (noticed a b id side x) (step (noticed a b id side x) t .answer)
 unfolding broadcastOf messagesOf allSent
-noticed-silent true b id side x t e f = sym (pick-same {A = List ℕ} (isDone (step (noticed true b id side x) t .answer .verdict)) [])
+noticed-silent true b id side x t e f = sym (pick-same {A = List ℕ}
+    (isDone (step (noticed true b id side x) t .answer .verdict)) [])
 noticed-silent false true id side x t e f =
     sym (pick-same {A = List ℕ} (isDone (step (noticed false true id side x) t .answer .verdict)) [])
 noticed-silent false false id side x t e f = rw (no-side-refused id side t e f)
@@ -263,7 +264,8 @@ module _ (k : Kept) (zs : List ℤ) (p : Pairs) where
   answers-kind n b a t sends f g e = rw e
   answers-kind n b a t notices f g e =
       rw e
-      (notice-said (unsignedOf noticeNames zs ID) (unsignedOf noticeNames zs SIDE) (floatOf (the noticeNames zs BITS)) t)
+      (notice-said (unsignedOf noticeNames zs ID) (unsignedOf noticeNames zs SIDE)
+      (floatOf (the noticeNames zs BITS)) t)
   answers-kind n b a t withdraws f g e = rw e
   answers-kind n b a t asks-interest f g e = rw (f refl)
   answers-kind n b a t asks-bond f g e = rw (g refl)
@@ -295,7 +297,8 @@ module _ (k : Kept) (zs : List ℤ) (p : Pairs) where
   messages-kind : (n : ℕ) (r : Request) (rows : List ℤ) (a : Answer) (t : List Record) {kind : ℕ} → LineKind kind
       → requestCall r rows ≡ callIn (deed kind) → a ≡ step (callIn (deed kind)) t .answer
       → broadcastOfKind kind (r .admission) (r .side) a ≡ textOf Messages n (deed kind) t
-  unfolding Fits broadcastOfKind messagesOfKind broadcastOf messagesOf allSent textOf worded callTold deedOf callOf callIn
+  unfolding Fits broadcastOfKind messagesOfKind broadcastOf messagesOf allSent textOf worded callTold deedOf callOf
+      callIn
   messages-kind n r rows a t admits asks e = rw (e, request-fits r rows asks)
   messages-kind n r rows a t evaluates asks e = rw e
   messages-kind n r rows a t quotes asks e = rw e

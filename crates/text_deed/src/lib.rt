@@ -1,6 +1,6 @@
 // What a line asks for: of the desk, as a request, or beside the table, where it is answered at once; and the text of
-// its answer, in each way that lines are told. A kind of line more is a branch more of `wanted_by` and of `say_plain`, a
-// way of telling more is a case more of `asks_why` and of `say`.
+// its answer, in each way that lines are told. A kind of line more is a branch more of `wanted_by` and of `say_plain`,
+// a way of telling more is a case more of `asks_why` and of `say`.
 ghost use mathlib.Core.Path.{_≡_};
 ghost use Prim.Native.Nat.{_+_, _≤_};
 ghost use Rattle.text_protocol.specs.Bytes.{room};
@@ -149,7 +149,8 @@ pub fn say(
     p: Performed,
 ) -> usize
     requires { ⌜ len + answerMost ≤ room ⌝ }
-    ensures { λ n. ⌜ Wrote (now (out .entry)) len (now (out .exit)) n (lineText telling kind number r b p) answerMost ⌝ }
+    ensures { λ n. ⌜ Wrote (now (out .entry)) len (now (out .exit)) n (lineText telling kind number r b p)
+        answerMost ⌝ }
 {
     match telling {
         Telling::Answers => say_plain(out, len, kind, number, b, p),

@@ -65,7 +65,7 @@ callTold Reasons c t = reasonTo c t
 callTold Messages c t = broadcastOf c (step c t .answer)
 
 -- a text that is no message: nothing is told of it where messages are
-unfoldable pub worded : Telling → List ℕ → List ℕ
+unfoldable pub worded : Telling → (text : List ℕ) → List ℕ
 worded Answers text = text
 worded Reasons text = text
 worded Messages text = []
@@ -86,11 +86,11 @@ unfoldable pub numberAfter : ℕ → ℕ
 numberAfter n = pick (ltb n lastNumber) (n + 1) n
 
 -- what the line l asks for on an evening
-abbrev pub askedBy : List ℕ → Evening → Deed
+abbrev pub askedBy : (line : List ℕ) → Evening → Deed
 askedBy l e = deedOf (e .kept) (meaning l)
 
 -- THE EVENING AFTER A LINE
-unfoldable pub after : List ℕ → Evening → Evening
+unfoldable pub after : (line : List ℕ) → Evening → Evening
 after l e =
     record {
       number = numberAfter (e .number);
@@ -99,7 +99,7 @@ after l e =
     }
 
 -- THE ANSWER TO A LINE
-unfoldable pub answer : Telling → List ℕ → Evening → List ℕ
+unfoldable pub answer : Telling → (line : List ℕ) → Evening → List ℕ
 answer telling l e = textOf telling (e .number) (askedBy l e) (e .table)
 
 -- the evening after a line that asks for nothing, or is no call: only the number of the line goes on
@@ -109,11 +109,11 @@ passedOver e = record { number = numberAfter (e .number); kept = e .kept; table 
 -- ---- lines
 
 -- THE EVENING AFTER LINES
-unfoldable pub afterAll : List (List ℕ) → Evening → Evening
+unfoldable pub afterAll : (lines : List (List ℕ)) → Evening → Evening
 afterAll [] e = e
 afterAll (l ∷ ls) e = afterAll ls (after l e)
 
 -- THE ANSWERS TO LINES
-unfoldable pub answers : Telling → List (List ℕ) → Evening → List ℕ
+unfoldable pub answers : Telling → (lines : List (List ℕ)) → Evening → List ℕ
 answers telling [] e = []
 answers telling (l ∷ ls) e = answer telling l e ++ answers telling ls (after l e)

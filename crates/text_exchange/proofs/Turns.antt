@@ -11,12 +11,13 @@ use lib.ListN.{length, take, drop, getD, set, replicate, length-replicate, lengt
 use lib.Seq.{sets, sets-eq, drop-cons, take-at, drop-append-add}
 use borrow.Author.Tests.{eqb-true}
 use Rattle.paper.specs.declared.Verdict.the-variants.{Done}
+use Rattle.paper.specs.Numbers.{rowNumbers, allNumbersMost}
 use Rattle.paper.specs.Ranges.{unsigned}
 use Rattle.text_protocol.specs.Bytes.{lineFeed, isLineFeed, pieces}
 use Rattle.text_protocol.proofs.Spelling.{impossible}
 use Rattle.text_protocol.proofs.Pieces.{Free, pieces-none, pieces-more, Parted, all, more, parted, pieces-some}
 use Rattle.text_table.specs.declared.Reading.{Reading}
-use Rattle.text_table.specs.Exchange.{Ended, rowsMost, textMost, inOne, accepted, refused, Says, too-long}
+use Rattle.text_table.specs.Exchange.{Ended, lineNumbers, rowsMost, textMost, inOne, accepted, refused, Says, too-long}
 use Rattle.text_table.specs.Scan.{Front, front, none, line}
 use Rattle.text_table.proofs.Lines.{ended-reads, Rowed, line-back, row-has-seven}
 use Rattle.text_table.proofs.Walk.{Sofar, none-yet, own-row, other-row, ends-no-row, ends-seventeenth, ends-unended, ends-good}
@@ -27,20 +28,21 @@ use Rattle.text_row.specs.Lines.{placeFront, PlaceIn, Lined}
 -- ---- a row is stored
 
 pub record Storing (at : ℕ) (zs rows out : List ℤ) (j : ℕ) : Type 0 where
-  pub in-seven : j ≤ 7
-  pub long : length zs ≡ 8
-  pub rest : sets out (7 * at + j) (drop (j + 1) zs) ≡ sets rows (7 * at) (drop 1 zs)
+  pub in-seven : j ≤ rowNumbers
+  pub long : length zs ≡ lineNumbers
+  pub rest : sets out (rowNumbers * at + j) (drop (j + 1) zs) ≡ sets rows (rowNumbers * at) (drop 1 zs)
 
-pub storing-none : (at : ℕ) (zs rows : List ℤ) → length zs ≡ 8 → Storing at zs rows rows 0
+pub storing-none : (at : ℕ) (zs rows : List ℤ) → length zs ≡ lineNumbers → Storing at zs rows rows 0
 storing-none at zs rows h =
-    let e : 7 * at + 0 ≡ 7 * at = omega arith in
+    let e : rowNumbers * at + 0 ≡ rowNumbers * at = omega arith in
     record { in-seven = omega arith; long = h; rest = rw e }
 
 module _ (at : ℕ) (zs rows out : List ℤ) (j : ℕ) (p : Storing at zs rows out j) where
-  pub storing-more : j < 7 → Storing at zs rows (set out (7 * at + j) (getD zs (j + 1) (pos 0))) (j + 1)
+  pub storing-more : j < rowNumbers → Storing at zs rows (set out (rowNumbers * at + j) (getD zs (j + 1) (pos 0)))
+      (j + 1)
   storing-more h =
       let l : j + 1 < length zs = omega (arith, p .long) in
-      let f : 7 * at + (j + 1) ≡ suc (7 * at + j) = omega arith in
+      let f : rowNumbers * at + (j + 1) ≡ suc (rowNumbers * at + j) = omega arith in
       let g : j + 1 + 1 ≡ suc (j + 1) = omega arith in
       record {
         in-seven = omega arith;
@@ -48,7 +50,7 @@ module _ (at : ℕ) (zs rows out : List ℤ) (j : ℕ) (p : Storing at zs rows o
         rest = rw (f, g) (rw (drop-cons zs (j + 1) (pos 0) l) at (p .rest));
       }
 
-  pub storing-all : 7 ≤ j → out ≡ sets rows (7 * at) (drop 1 zs)
+  pub storing-all : rowNumbers ≤ j → out ≡ sets rows (rowNumbers * at) (drop 1 zs)
   storing-all h =
       let l : length zs ≤ j + 1 = omega (arith, p .long) in
       rw (drop-of-length-le zs l) at (p .rest)
@@ -102,13 +104,13 @@ pub record Reads (id : ℕ) (t : List ℕ) (array zs : List ℤ) (from number co
   pub few-lines : k ≤ from
   pub next : number ≡ suc k
   pub counts : count ≡ length rows
-  pub sevens : length (inOne rows) ≡ 7 * length rows
-  pub holds : array ≡ inOne rows ++ replicate (112 - 7 * length rows) (pos 0)
-  pub long : length zs ≡ 8
+  pub sevens : length (inOne rows) ≡ rowNumbers * length rows
+  pub holds : array ≡ inOne rows ++ replicate (allNumbersMost - rowNumbers * length rows) (pos 0)
+  pub long : length zs ≡ lineNumbers
   pub sofar : Sofar id (pieces isLineFeed t) (pieces isLineFeed (drop from t)) k rows
 
 pub reads-none : (id : ℕ) (t : List ℕ) → length t ≤ textMost
-    → Reads id t (replicate 112 (pos 0)) (replicate 8 (pos 0)) 0 1 0
+    → Reads id t (replicate allNumbersMost (pos 0)) (replicate lineNumbers (pos 0)) 0 1 0
 unfolding inOne
 reads-none id t h =
     record {
@@ -135,15 +137,15 @@ drop-zeros zero m = let e : 0 + m ≡ m = omega arith in rw e
 drop-zeros (suc n) m = let e : suc n + m ≡ suc (n + m) = omega arith in rw e (drop-zeros n m)
 
 -- a row stored behind those that are there
-stored : (a row : List ℤ) (n m : ℕ) → length a ≡ n → length row ≡ 7
-    → sets (a ++ replicate (7 + m) (pos 0)) n row ≡ (a ++ row) ++ replicate m (pos 0)
+stored : (a row : List ℤ) (n m : ℕ) → length a ≡ n → length row ≡ rowNumbers
+    → sets (a ++ replicate (rowNumbers + m) (pos 0)) n row ≡ (a ++ row) ++ replicate m (pos 0)
 stored a row n m h l =
-    let z : List ℤ = replicate (7 + m) (pos 0) in
+    let z : List ℤ = replicate (rowNumbers + m) (pos 0) in
     let o : n + length row ≤ length (a ++ z) =
-    rw (length-append a z, length-replicate (7 + m) (pos 0)) (omega arith) in
-    let i : n + length row ≡ length a + 7 = omega arith in
+    rw (length-append a z, length-replicate (rowNumbers + m) (pos 0)) (omega arith) in
+    let i : n + length row ≡ length a + rowNumbers = omega arith in
     let d : drop (n + length row) (a ++ z) ≡ replicate m (pos 0) =
-    ap (λ (x : ℕ). drop x (a ++ z)) i ∙ drop-append-add a z 7 ∙ drop-zeros 7 m in
+    ap (λ (x : ℕ). drop x (a ++ z)) i ∙ drop-append-add a z rowNumbers ∙ drop-zeros rowNumbers m in
     sets-eq row (a ++ z) n o
     ∙ ap₂ (λ (x y : List ℤ). (x ++ row) ++ y) (take-at a z n h) d
 
@@ -238,19 +240,20 @@ module _ (id : ℕ) (t : List ℕ) (array zs : List ℤ) (from number count : �
               (full-step id t (drop from t) (drop next t) (found .p) (s .k) (s .rows) (s .sofar) piece (s .fits) ended
               (omega (arith, s .counts)))
 
-          pub reads-own : count < rowsMost → (after : List ℤ) → after ≡ sets array (7 * count) (drop 1 ys)
+          pub reads-own : count < rowsMost → (after : List ℤ) → after ≡ sets array (rowNumbers * count) (drop 1 ys)
               → Reads id t after ys next (number + 1) (count + 1)
           reads-own g after e =
               let c : count ≡ length (s .rows) = s .counts in
               let m : length (s .rows ++ found .row ∷ []) ≡ length (s .rows) + 1 =
               length-append (s .rows) (found .row ∷ []) in
-              let w : length (found .row) ≡ 7 = row-has-seven ended in
+              let w : length (found .row) ≡ rowNumbers = row-has-seven ended in
               let i : drop 1 ys ≡ found .row = ap (λ (x : List ℤ). drop 1 x) (found .numbers) in
               let j : inOne (s .rows ++ found .row ∷ []) ≡ inOne (s .rows) ++ found .row =
               in-one-more (s .rows) (found .row) in
-              let n : ℕ = 112 - 7 * (length (s .rows) + 1) in
-              let o : 112 - 7 * length (s .rows) ≡ 7 + n = omega arith in
-              let a : length (inOne (s .rows)) ≡ 7 * count = s .sevens ∙ ap (λ (x : ℕ). 7 * x) (sym c) in
+              let n : ℕ = allNumbersMost - rowNumbers * (length (s .rows) + 1) in
+              let o : allNumbersMost - rowNumbers * length (s .rows) ≡ rowNumbers + n = omega arith in
+              let a : length (inOne (s .rows)) ≡ rowNumbers * count = s .sevens
+              ∙ ap (λ (x : ℕ). rowNumbers * x) (sym c) in
               record {
                 rows = s .rows ++ found .row ∷ [];
                 k = suc (s .k);
@@ -261,11 +264,13 @@ module _ (id : ℕ) (t : List ℕ) (array zs : List ℤ) (from number count : �
                 counts = omega (arith, c, m);
                 sevens = ap length j ∙ length-append (inOne (s .rows)) (found .row) ∙ omega (arith, s .sevens, w, m);
                 holds =
-                    e ∙ ap (λ (x : List ℤ). sets x (7 * count) (drop 1 ys))
+                    e ∙ ap (λ (x : List ℤ). sets x (rowNumbers * count) (drop 1 ys))
                     (s .holds ∙ ap (λ (x : ℕ). inOne (s .rows) ++ replicate x (pos 0)) o)
-                    ∙ ap (λ (x : List ℤ). sets (inOne (s .rows) ++ replicate (7 + n) (pos 0)) (7 * count) x) i
-                    ∙ stored (inOne (s .rows)) (found .row) (7 * count) n a w
-                    ∙ ap₂ (λ (x : List ℤ) (y : ℕ). x ++ replicate (112 - 7 * y) (pos 0)) (sym j) (sym m);
+                    ∙ ap (λ (x : List ℤ). sets (inOne (s .rows) ++ replicate (rowNumbers + n) (pos 0))
+                    (rowNumbers * count) x) i
+                    ∙ stored (inOne (s .rows)) (found .row) (rowNumbers * count) n a w
+                    ∙ ap₂ (λ (x : List ℤ) (y : ℕ). x ++ replicate (allNumbersMost - rowNumbers * y) (pos 0)) (sym j)
+                    (sym m);
                 long = l .long;
                 sofar =
                     own-step id t (drop from t) (drop next t) (found .p) (s .k) (s .rows) (s .sofar) piece ended

@@ -4,10 +4,11 @@ ghost use mathlib.Core.Path.{_≡_};
 ghost use Prim.Native.Nat.{_*_, _≤_, _<_};
 ghost use lib.ListN.{length, drop};
 ghost use lib.Seq.{sets};
-ghost use Rattle.text_table.specs.Exchange.{refused, Says};
-use paper::Maturity;
+ghost use Rattle.paper.specs.Numbers.{rowNumbers};
+ghost use Rattle.text_table.specs.Exchange.{lineNumbers, rowsMost, refused, Says};
 use paper::Row;
 use paper::Verdict;
+use text_row::FIELDS;
 use text_row::Place;
 use text_row::read_line;
 use text_table::Reading;
@@ -33,8 +34,8 @@ fn refused(line: u64) -> Reading
 
 // The seven numbers of a line behind its id, as the row `at`.
 fn put_row(rows: &mut [i64; Row::ALL_NUMBERS_MOST], at: usize, zs: &[i64])
-    requires { ⌜ (at < 16) × (length (now zs) ≡ 8) ⌝ }
-    ensures { λ _. ⌜ now (rows .exit) ≡ sets (now (rows .entry)) (7 * at) (drop 1 (now (zs .entry))) ⌝ }
+    requires { ⌜ (at < rowsMost) × (length (now zs) ≡ lineNumbers) ⌝ }
+    ensures { λ _. ⌜ now (rows .exit) ≡ sets (now (rows .entry)) (rowNumbers * at) (drop 1 (now (zs .entry))) ⌝ }
 {
     let first = Row::NUMBERS * at;
     let mut j = 0;
@@ -52,7 +53,7 @@ pub fn read_exchange(t: &[u8], id: u64) -> Reading
         return refused(0);
     }
     let mut rows: [i64; Row::ALL_NUMBERS_MOST] = [0; Row::ALL_NUMBERS_MOST];
-    let mut zs: [i64; Maturity::COUNT_MOST] = [0; Maturity::COUNT_MOST];
+    let mut zs: [i64; FIELDS] = [0; FIELDS];
     let mut from = 0;
     let mut number: u64 = 1;
     let mut count: usize = 0;

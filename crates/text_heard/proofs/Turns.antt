@@ -18,34 +18,35 @@ use Rattle.text_answer.specs.Told.{Told, wrote}
 use Rattle.text_heard.specs.Lines.{kindWord, unknownWord, refusedWord, wordLine, fieldsIn, lineOf, lineMost}
 
 -- a word, numbers and the end of the line
-pub lined : {b : List ℕ} {n : ℕ} {b' : List ℕ} {n' : ℕ} {b'' : List ℕ} {n'' : ℕ} {c : List ℕ} {e : ℕ} {word : List ℕ}
+pub word-line-written : {b : List ℕ} {n : ℕ} {b' : List ℕ} {n' : ℕ} {b'' : List ℕ} {n'' : ℕ} {c : List ℕ} {e : ℕ}
+    {word : List ℕ}
     {zs : List ℤ} {k m : ℕ} → Wrote b n b' n' word k → Told b' n' b'' n'' zs m → Wrote b'' n'' c e (lineFeed ∷ []) 1
     → k + m + 1 ≤ lineMost → Wrote b n c e (wordLine word zs) lineMost
 unfolding wordLine
-lined p q r h = wider (then (then p (wrote q)) r) h
+word-line-written p q r h = wider (then (then p (wrote q)) r) h
 
 -- the fields of a message are the first of its places
-pub fields-lined : (m : Message) (count : ℕ) {b c : List ℕ} {n e : ℕ} → count ≡ length (fieldsOf (m .kind))
+pub fields-line-written : (m : Message) (count : ℕ) {b c : List ℕ} {n e : ℕ} → count ≡ length (fieldsOf (m .kind))
     → Wrote b n c e (wordLine (kindWord (m .kind)) (take count (m .fields))) lineMost
     → Wrote b n c e (wordLine (kindWord (m .kind)) (fieldsIn m)) lineMost
 unfolding fieldsIn
-fields-lined m count h p = rw h at p
+fields-line-written m count h p = rw h at p
 
 -- ---- the line of what is heard
 module _ (h : Heard) (no place : ℕ) (is : no ≡ numberOf (h .verdict)) {b c : List ℕ} {n e : ℕ} where
-  pub refused-line : (no ≡ 0 → ⊥) → Wrote b n c e (wordLine refusedWord (pos no ∷ pos place ∷ [])) lineMost
+  pub refused-line-written : (no ≡ 0 → ⊥) → Wrote b n c e (wordLine refusedWord (pos no ∷ pos place ∷ [])) lineMost
       → Wrote b n c e (lineOf place h) lineMost
   unfolding lineOf isDone
-  refused-line z p = rw (← is, ne-eqb no 0 z) p
+  refused-line-written z p = rw (← is, ne-eqb no 0 z) p
 
-  pub known-line : no ≡ 0 → h .known ≡ true
+  pub known-line-written : no ≡ 0 → h .known ≡ true
       → Wrote b n c e (wordLine (kindWord (h .message .kind)) (fieldsIn (h .message))) lineMost
       → Wrote b n c e (lineOf place h) lineMost
   unfolding lineOf isDone
-  known-line z k p = rw (← is, eq-eqb no 0 z, k) p
+  known-line-written z k p = rw (← is, eq-eqb no 0 z, k) p
 
-  pub unknown-line : no ≡ 0 → h .known ≡ false
+  pub unknown-line-written : no ≡ 0 → h .known ≡ false
       → Wrote b n c e (wordLine unknownWord (pos (h .kind) ∷ pos (h .length) ∷ [])) lineMost
       → Wrote b n c e (lineOf place h) lineMost
   unfolding lineOf isDone
-  unknown-line z k p = rw (← is, eq-eqb no 0 z, k) p
+  unknown-line-written z k p = rw (← is, eq-eqb no 0 z, k) p

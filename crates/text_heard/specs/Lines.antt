@@ -1,6 +1,6 @@
 -- W-212, the program `listen`: the line of what is heard at a place of the input. Assumes nothing.
 use mathlib.Core.List.{List, [], _∷_, _++_}
-use Prim.Native.Nat.{ℕ}
+use Prim.Native.Nat.{ℕ, _+_}
 use lib.Dec.{eqb}
 use lib.IntN.{ℤ, pos}
 use lib.ListN.{length, take}
@@ -11,6 +11,7 @@ use Rattle.paper_messages.specs.declared.Heard.{Heard}
 use Rattle.paper_messages.specs.Fields.{staticsKind, ratesKind, bandsKind, fieldsOf}
 use Rattle.text_protocol.specs.Bytes.{lineFeed}
 use Rattle.text_protocol.specs.Answers.{spaced}
+use Rattle.text_put.specs.Sizes.{wordBytes, rowsBytes}
 
 -- "statics", "rates", "bands", "move"
 unfoldable pub kindWord : (kind : ℕ) → List ℕ
@@ -27,7 +28,7 @@ abbrev pub refusedWord : List ℕ
 refusedWord = 114 ∷ 101 ∷ 102 ∷ 117 ∷ 115 ∷ 101 ∷ 100 ∷ []
 
 -- a word, numbers with a blank before each, and the end of the line
-unfoldable pub wordLine : (word : List ℕ) → List ℤ → List ℕ
+unfoldable pub wordLine : (word : List ℕ) → (numbers : List ℤ) → List ℕ
 wordLine word zs = word ++ spaced zs ++ (lineFeed ∷ [])
 
 -- the fields of a message, in their order
@@ -43,6 +44,6 @@ lineOf place h =
     (wordLine unknownWord (pos (h .kind) ∷ pos (h .length) ∷ [])))
     (wordLine refusedWord (pos (numberOf (h .verdict)) ∷ pos place ∷ []))
 
--- no line is longer
+-- no line is longer: a word, numbers and the line feed
 abbrev pub lineMost : ℕ
-lineMost = 2476
+lineMost = wordBytes + rowsBytes + 1

@@ -8,6 +8,7 @@ ghost use lib.ListN.{length};
 ghost use Rattle.paper_messages.specs.Fields.{places, fieldsOf};
 ghost use Rattle.text_protocol.specs.Bytes.{room};
 ghost use Rattle.text_out.specs.Wrote.{Wrote};
+ghost use Rattle.text_put.specs.Sizes.{wordBytes};
 ghost use Rattle.text_heard.specs.Lines.{kindWord, wordLine, fieldsIn, lineOf, lineMost};
 use paper_messages::Heard;
 use paper_messages::Message;
@@ -41,8 +42,8 @@ fn field_count(kind: u64) -> usize
 
 // The word of a kind.
 fn put_kind(out: &mut [u8; ROOM], len: usize, kind: u64) -> usize
-    requires { ⌜ len + 11 ≤ room ⌝ }
-    ensures { λ r. ⌜ Wrote (now (out .entry)) len (now (out .exit)) r (kindWord kind) 11 ⌝ }
+    requires { ⌜ len + wordBytes ≤ room ⌝ }
+    ensures { λ r. ⌜ Wrote (now (out .entry)) len (now (out .exit)) r (kindWord kind) wordBytes ⌝ }
 {
     if kind == Message::STATICS {
         return put_bytes(out, len, b"statics");
@@ -72,7 +73,7 @@ fn say_message(out: &mut [u8; ROOM], len: usize, m: Message) -> usize
 
 // A word and two numbers.
 fn say_two(out: &mut [u8; ROOM], len: usize, word: &[u8], x: u64, y: u64) -> usize
-    requires { ⌜ (len + lineMost ≤ room) × (length (now word) ≤ 11) ⌝ }
+    requires { ⌜ (len + lineMost ≤ room) × (length (now word) ≤ wordBytes) ⌝ }
     ensures { λ r. ⌜ Wrote (now (out .entry)) len (now (out .exit)) r (wordLine (now (word .entry)) (pos x ∷ pos y
         ∷ [])) lineMost ⌝ }
 {

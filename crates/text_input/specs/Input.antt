@@ -23,7 +23,7 @@ abbrev pub Unbroken : List ℕ → Type 0
 Unbroken t = lineLength t ≡ length t
 
 -- the bytes that were delivered and are not used
-unfoldable pub unread : List ℕ → Input → List ℕ
+unfoldable pub unread : (buffer : List ℕ) → Input → List ℕ
 unread b s = take (s .len - s .at) (drop (s .at) b)
 
 -- how the buffer stands between lines: `end` is where the next line ends, or `len` where no line is whole

@@ -38,9 +38,12 @@ turns-enough (suc n) (suc m) input place h k =
     (λ i j. turns-enough n m input (heardAt input place .next) i j)
   where
     go : (over : Bool) → leb (length input) place ≡ over → (done : Bool) → isDone (heardAt input place .verdict) ≡ done
-        → (length input - heardAt input place .next ≤ n → length input - heardAt input place .next ≤ m → listenFrom n input (heardAt input place .next) ≡ listenFrom m input (heardAt input place .next))
-        → pick over [] (lineOf place (heardAt input place) ++ pick done (listenFrom n input (heardAt input place .next)) [])
-        ≡ pick over [] (lineOf place (heardAt input place) ++ pick done (listenFrom m input (heardAt input place .next)) [])
+        → (length input - heardAt input place .next ≤ n → length input - heardAt input place .next ≤ m
+        → listenFrom n input (heardAt input place .next) ≡ listenFrom m input (heardAt input place .next))
+        → pick over [] (lineOf place (heardAt input place) ++ pick done
+        (listenFrom n input (heardAt input place .next)) [])
+        ≡ pick over [] (lineOf place (heardAt input place) ++ pick done
+        (listenFrom m input (heardAt input place .next)) [])
     go true e done f again = refl
     go false e false f again = refl
     go false e true f again =
@@ -148,8 +151,8 @@ cut-at-end buffer place h = rw (drop-of-length-le buffer h) refl
 
 -- ---- the run
 
--- where a run stands: what is not heard yet is what stands behind the place in all that was delivered, and the lines are
--- those before the place, whatever comes later; nothing does where the input has ended
+-- where a run stands: what is not heard yet is what stands behind the place in all that was delivered, and the lines
+-- are those before the place, whatever comes later; nothing does where the input has ended
 record Sofar (b : List ℕ) (s : Listening) (got text : List ℕ) : Type 0 where
   within : placeOf s ≤ length got
   behind : drop (placeOf s) got ≡ unheard b s
@@ -187,7 +190,11 @@ module _ {b : List ℕ} {s : Listening} {got text : List ℕ} (so : Sofar b s go
           absurd
           (not-true-and-false (isCut (heardIn b s))
           (cut-at-end (take (s .len) b) (s .at)
-          (omega (arith, leb-true (s .len) (s .at) e, length-take-le (s .len) b (omega (arith, stands .in-b, stands .long)))))
+          (omega (
+            arith,
+            leb-true (s .len) (s .at) e,
+            length-take-le (s .len) b (omega (arith, stands .in-b, stands .long)),
+          )))
           whole)
 
   abbrev Sure : Type 0
@@ -252,7 +259,8 @@ module _ {b : List ℕ} {s : Listening} {got text : List ℕ} (so : Sofar b s go
               alike b s stands (got ++ later) later (placeOf s) (behind-later later)
               (which later sure (λ e. last (t .ended ∙ e))) in
               told-line later (λ e. last (t .ended ∙ e)) sure
-              ∙ rw (done, same .size done, ← place-behind) (sym (append-assoc text (lineOf (placeOf s) (heardIn b s)) (rest
+              ∙ rw (done, same .size done, ← place-behind)
+              (sym (append-assoc text (lineOf (placeOf s) (heardIn b s)) (rest
               (got ++ later) (placeOf r))));
         }
       where
@@ -287,7 +295,8 @@ module _ {b : List ℕ} {s : Listening} {got text : List ℕ} (so : Sofar b s go
       → r .over ≡ false → Sofar b' r (got ++ []) (text ++ lineOf (placeOf s) (heardIn b s))
   sofar-tells {o} {b'} {r} {o'} sure same t going = go (isDone (heardIn b s .verdict)) refl
     where
-      go : (d : Bool) → isDone (heardIn b s .verdict) ≡ d → Sofar b' r (got ++ []) (text ++ lineOf (placeOf s) (heardIn b s))
+      go : (d : Bool) → isDone (heardIn b s .verdict) ≡ d
+          → Sofar b' r (got ++ []) (text ++ lineOf (placeOf s) (heardIn b s))
       go true e = rw (same, append-nil got) (sofar-told so stands sure t e)
       go false e = absurd (not-true-and-false (r .over) (t .refused e .1) going)
 

@@ -19,19 +19,20 @@ use Rattle.text_listen.specs.declared.Listening.{Listening}
 use Rattle.text_listen.specs.Steps.{unheard, Stands}
 
 -- a message that is not refused is whole
-whole-of : (few out short : Bool) (rest : Verdict)
+done-is-not-short : (few out short : Bool) (rest : Verdict)
     → isDone (pick few CutShort (pick out WrongLength (pick short CutShort rest))) ≡ true → short ≡ false
 unfolding isDone
-whole-of true out short rest e = absurd (not-true-and-false false e refl)
-whole-of false true short rest e = absurd (not-true-and-false false e refl)
-whole-of false false true rest e = absurd (not-true-and-false false e refl)
-whole-of false false false rest e = refl
+done-is-not-short true out short rest e = absurd (not-true-and-false false e refl)
+done-is-not-short false true short rest e = absurd (not-true-and-false false e refl)
+done-is-not-short false false true rest e = absurd (not-true-and-false false e refl)
+done-is-not-short false false false rest e = refl
 
-whole : (bytes : List ℕ) → isDone (firstOf (readChecks bytes)) ≡ true → lengthWidth + lengthAt bytes ≤ length bytes
+done-is-whole : (bytes : List ℕ) → isDone (firstOf (readChecks bytes)) ≡ true
+    → lengthWidth + lengthAt bytes ≤ length bytes
 unfolding readChecks firstOf
-whole bytes e =
+done-is-whole bytes e =
     ltb-false (length bytes) (lengthWidth + lengthAt bytes)
-    (whole-of (ltb (length bytes) lengthWidth) (not (within lengthLeast lengthMost (lengthAt bytes)))
+    (done-is-not-short (ltb (length bytes) lengthWidth) (not (within lengthLeast lengthMost (lengthAt bytes)))
     (ltb (length bytes) (lengthWidth + lengthAt bytes)) _ e)
 
 -- THE PLACE BEHIND A MESSAGE is behind its own, and not past the buffer
@@ -41,11 +42,12 @@ unfolding heardAt acceptedHeard refusedHeard
 next-within b at = go (isDone (firstOf (readChecks (drop at b)))) refl
   where
     go : (x : Bool) → isDone (firstOf (readChecks (drop at b))) ≡ x
-        → isDone (pick x (acceptedHeard at (drop at b)) (refusedHeard (firstOf (readChecks (drop at b)))) .verdict) ≡ true
+        → isDone (pick x (acceptedHeard at (drop at b)) (refusedHeard (firstOf (readChecks (drop at b)))) .verdict)
+        ≡ true
         → (at < pick x (acceptedHeard at (drop at b)) (refusedHeard (firstOf (readChecks (drop at b)))) .next)
         × (pick x (acceptedHeard at (drop at b)) (refusedHeard (firstOf (readChecks (drop at b)))) .next ≤ length b)
     go true e h =
-        let w : lengthWidth + lengthAt (drop at b) ≤ length b - at = rw length-drop at (whole (drop at b) e) in
+        let w : lengthWidth + lengthAt (drop at b) ≤ length b - at = rw length-drop at (done-is-whole (drop at b) e) in
         (omega arith, omega arith)
     go false e h = absurd (not-true-and-false false (sym e ∙ h) refl)
 

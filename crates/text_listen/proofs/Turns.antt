@@ -22,8 +22,8 @@ use Rattle.text_listen.proofs.Places.{next-within, unheard-length}
 -- ---- more is delivered
 
 -- nothing is delivered where the end is where it was
-ended-is : (have end : ℕ) → have ≤ end → eqb end have ≡ eqb (end - have) 0
-ended-is have end h = go (eqb end have) refl
+ended-is-none-left : (have end : ℕ) → have ≤ end → eqb end have ≡ eqb (end - have) 0
+ended-is-none-left have end h = go (eqb end have) refl
   where
     go : (x : Bool) → eqb end have ≡ x → x ≡ eqb (end - have) 0
     go true e =
@@ -32,7 +32,8 @@ ended-is have end h = go (eqb end have) refl
     go false e = sym (ne-eqb (end - have) 0 (λ z. eqb-false end have e (omega arith)))
 
 module _ (b b' b'' : List ℕ) (s : Listening) (have end : ℕ) (ok : Bool) (stands : Stands b s) (enough : room ≤ s .left)
-    (is : have ≡ s .len - s .at) (moved : take have b' ≡ take have (drop (s .at) b)) (kept : take have b'' ≡ take have b')
+    (is : have ≡ s .len - s .at) (moved : take have b' ≡ take have (drop (s .at) b))
+    (kept : take have b'' ≡ take have b')
     (low : have ≤ end) (high : end ≤ length b'') (long : length b'' ≡ room) where
   abbrev behind : Listening
   behind =
@@ -61,7 +62,7 @@ module _ (b b' b'' : List ℕ) (s : Listening) (have end : ℕ) (ok : Bool) (sta
         are =
             rw (← is, front, ← moved, ← kept, ← take-take have end b'' low) (take-append-drop have (take end b''));
         left = rw fresh-length (omega (arith, enough, long));
-        ended = rw fresh-length (ended-is have end low);
+        ended = rw fresh-length (ended-is-none-left have end low);
         over = refl;
       }
 
@@ -167,12 +168,12 @@ module _ (b : List ℕ) (s : Listening) (stands : Stands b s) (going : s .over �
   -- a line is told
   module _ (h : Heard) (o : List ℕ) (r : Listening) (o' : List ℕ) (tells : Tells s h o r o')
       (within : isDone (h .verdict) ≡ true → (s .at < h .next) × (h .next ≤ s .len)) where
-    told-at : (x : Bool) → isDone (h .verdict) ≡ x → (s .at ≤ r .at) × (r .at ≤ s .len)
-    told-at true e = let q = within e in rw (tells .accepted e .0) (omega (arith, q .0), q .1)
-    told-at false e = rw (tells .refused e .0) (omega arith, stands .low)
+    told-place-within : (x : Bool) → isDone (h .verdict) ≡ x → (s .at ≤ r .at) × (r .at ≤ s .len)
+    told-place-within true e = let q = within e in rw (tells .accepted e .0) (omega (arith, q .0), q .1)
+    told-place-within false e = rw (tells .refused e .0) (omega arith, stands .low)
 
     abbrev place-is : (s .at ≤ r .at) × (r .at ≤ s .len)
-    place-is = told-at (isDone (h .verdict)) refl
+    place-is = told-place-within (isDone (h .verdict)) refl
 
     pub told-stands : Stands b r
     told-stands =

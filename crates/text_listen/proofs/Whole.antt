@@ -92,7 +92,8 @@ module _ (u later : List ℕ) (not-cut : eqb (numberOf (firstOf (readChecks u)))
 
   abbrev Same : Type 0
   Same = (firstOf (readChecks (u ++ later)) ≡ firstOf (readChecks u))
-      × (isDone (firstOf (readChecks u)) ≡ true → (place : ℕ) → acceptedHeard place (u ++ later) ≡ acceptedHeard place u)
+      × (isDone (firstOf (readChecks u)) ≡ true → (place : ℕ)
+      → acceptedHeard place (u ++ later) ≡ acceptedHeard place u)
 
   -- a length that no message has is seen at once
   same-out : out u ≡ true → Same

@@ -1,5 +1,5 @@
--- W-212, the program `listen`, step by step: a step hears the message at its place, or reads on where the message is not
--- whole yet, or is the last. Assumes nothing.
+-- W-212, the program `listen`, step by step: a step hears the message at its place, or reads on where the message is
+-- not whole yet, or is the last. Assumes nothing.
 use mathlib.Core.Path.{_≡_}
 use mathlib.Core.Logic.{_⊎_}
 use mathlib.Core.Bool.{Bool, true, false}
@@ -24,7 +24,7 @@ abbrev pub startListening : Listening
 startListening = record { at = 0; len = 0; left = mostBytes; waiting = 0; ended = false; over = false; ok = true }
 
 -- the bytes that are delivered and not heard yet
-unfoldable pub unheard : List ℕ → Listening → List ℕ
+unfoldable pub unheard : (buffer : List ℕ) → Listening → List ℕ
 unheard b s = take (s .len - s .at) (drop (s .at) b)
 
 -- where they begin in the input, from 0
@@ -32,7 +32,7 @@ abbrev pub placeOf : Listening → ℕ
 placeOf s = mostBytes - s .left - (s .len - s .at)
 
 -- what is heard there, of what is delivered
-abbrev pub heardIn : List ℕ → Listening → Heard
+abbrev pub heardIn : (buffer : List ℕ) → Listening → Heard
 heardIn b s = heardAt (take (s .len) b) (s .at)
 
 -- a message that is cut short: more bytes may make it whole
@@ -91,8 +91,8 @@ pub record Written (s : Listening) (over : Bool) (r : Listening) : Type 0 where
   pub ended : r .ended ≡ s .ended
   pub goes-on : (r .over ≡ over) ⊎ ((r .over ≡ true) × (r .ok ≡ false))
 
--- READING ON: more is delivered, once the lines that wait are written; or nothing more is heard, since a write failed or
--- no byte more is counted
+-- READING ON: more is delivered, once the lines that wait are written; or nothing more is heard, since a write failed
+-- or no byte more is counted
 pub record ReadsOn (b : List ℕ) (s : Listening) (b' : List ℕ) (r : Listening) : Type 0 where
   pub is : Delivers b s b' r ⊎ ((b' ≡ b) × (r .ok ≡ false) × Over s r)
   pub stands : Stands b' r
@@ -105,9 +105,9 @@ one false = 1
 abbrev pub toGo : Listening → ℕ
 toGo s = 2 * s .left + (s .len - s .at) + one (s .ended) + one (s .over)
 
--- THE THREE STEPS. A message is told that is whole, or that the input has ended in. More is delivered where a message is
--- cut short and the input has not ended. And nothing more is heard where the input has ended between two messages, where
--- a write failed, or where no byte more is counted: `ok` says so of the last two
+-- THE THREE STEPS. A message is told that is whole, or that the input has ended in. More is delivered where a message
+-- is cut short and the input has not ended. And nothing more is heard where the input has ended between two messages,
+-- where a write failed, or where no byte more is counted: `ok` says so of the last two
 pub data Step (b : List ℕ) (s : Listening) (o b' : List ℕ) (r : Listening) (o' : List ℕ) : Type 0 where
   tells : (isCut (heardIn b s) ≡ false) ⊎ ((s .ended ≡ true) × (s .at < s .len)) → b' ≡ b
       → Tells s (heardIn b s) o r o' → Step b s o b' r o'

@@ -22,8 +22,9 @@ use text_protocol::ROOM;
 const CUT_SHORT: u64 = 21;
 
 // How far the input is listened to: the bytes of the buffer from `at` to `len` are delivered and not heard yet, and so
-// many bytes may still be delivered as `left` says. So many bytes of lines wait to be written as `waiting` says. `ended`
-// is whether the input has ended, `over` whether nothing more is heard, and `ok` whether every read and write went well.
+// many bytes may still be delivered as `left` says. So many bytes of lines wait to be written as `waiting` says.
+// `ended` is whether the input has ended, `over` whether nothing more is heard, and `ok` whether every read and write
+// went well.
 pub struct Listening {
     pub at: usize,
     pub len: usize,
@@ -111,8 +112,8 @@ fn place_of(s: Listening) -> u64
     (u64::MAX - s.left) - ((s.len - s.at) as u64)
 }
 
-// Gathers the line of what is heard. The lines are written where nothing more is heard, and where the buffer has no room
-// for one more.
+// Gathers the line of what is heard. The lines are written where nothing more is heard, and where the buffer has no
+// room for one more.
 fn tell(out: &mut [u8; ROOM], s: Listening, h: Heard) -> Listening
     requires { ⌜ (s .at ≤ s .len) × (s .len - s .at + s .left ≤ mostBytes) × (s .waiting + lineMost ≤ room)
         × (s .over ≡ false) × (length (h .message .fields) ≡ places) ⌝ }

@@ -117,7 +117,7 @@ termNumbers x band n =
     ∷ []
 
 -- of the term k of a record
-abbrev pub termNumbersAt : Record → ℕ → List ℤ
+abbrev pub termNumbersAt : Record → (k : ℕ) → List ℤ
 termNumbersAt r k = termNumbers (termAt (r .terms) k) (getD (r .bands) k noLimits) (getD (r .near) k notNear)
 
 -- MOVESUPPER MOVESLOWER LASTSECOND
@@ -170,7 +170,7 @@ maturityNumbers f =
     ∷ []
 
 -- of each of the first n key maturities
-unfoldable pub maturitiesNumbers : ℕ → List MaturityFigures → List ℤ
+unfoldable pub maturitiesNumbers : (count : ℕ) → List MaturityFigures → List ℤ
 maturitiesNumbers zero fs = []
 maturitiesNumbers (suc n) [] = []
 maturitiesNumbers (suc n) (f ∷ fs) = maturityNumbers f ++ maturitiesNumbers n fs
@@ -191,7 +191,7 @@ bondLimitsNumbers x =
     pos (x .band .lower) ∷ pos (x .band .upper) ∷ pos (x .off .lower) ∷ pos (x .off .upper) ∷ []
 
 -- of the term k of a bond
-abbrev pub bondLimitsAt : List BondLimits → ℕ → List ℤ
+abbrev pub bondLimitsAt : List BondLimits → (k : ℕ) → List ℤ
 bondLimitsAt limits k = bondLimitsNumbers (getD limits k (record { band = noLimits; off = noLimits }))
 
 -- P TENTATIVE AGE

@@ -48,19 +48,19 @@ unfoldable pub isNot : (c b : ℕ) → Bool
 isNot c b = not (eqb b c)
 
 -- how many bytes in front pass a test
-unfoldable pub run : (ℕ → Bool) → List ℕ → ℕ
+unfoldable pub run : (passes : ℕ → Bool) → (text : List ℕ) → ℕ
 run passes [] = 0
 run passes (b ∷ t) = pick (passes b) (suc (run passes t)) 0
 
 -- ---- the pieces of a text between the bytes that part it
 
 -- a byte more in front of the first piece
-unfoldable pub grow : ℕ → List (List ℕ) → List (List ℕ)
+unfoldable pub grow : (b : ℕ) → List (List ℕ) → List (List ℕ)
 grow b [] = []
 grow b (p ∷ ps) = (b ∷ p) ∷ ps
 
 -- the pieces, empty ones too: there is one more than there are bytes that part
-unfoldable pub pieces : (ℕ → Bool) → List ℕ → List (List ℕ)
+unfoldable pub pieces : (parts : ℕ → Bool) → (text : List ℕ) → List (List ℕ)
 pieces parts [] = [] ∷ []
 pieces parts (b ∷ t) = pick (parts b) ([] ∷ pieces parts t) (grow b (pieces parts t))
 

@@ -15,7 +15,7 @@ use Rattle.paper.specs.Lists.{pick}
 use Rattle.paper.proofs.Logic.{not-true-and-false, and-left, and-right, and-both, le-or-lt}
 use Rattle.text_protocol.specs.Bytes.{lineFeed, carriageReturn}
 use Rattle.text_table.specs.declared.Column.{Column}
-use Rattle.text_table.specs.Exchange.{semicolon, columns, wholeNumber, exchangeRate, repoRate, price}
+use Rattle.text_table.specs.Exchange.{semicolon, columns, lineNumbers, wholeNumber, exchangeRate, repoRate, price}
 use Rattle.text_table.specs.Scan.{Front, front, none, then, starts, cell, Passed, passed, pass, lineEnd, fieldEnd, cells, inRange, line}
 use Rattle.text_cell.specs.declared.Cell.{Cell}
 use Rattle.text_cell.specs.declared.Cell.the-variants as cell-is
@@ -52,17 +52,18 @@ module _ (t : List ℕ) (at : ℕ) where
     unfolding lineEnd
     end-lf e p = record { is = rw (← e) (p .is); inside = p .inside }
 
-columns-long : length columns ≡ 8
+columns-long : length columns ≡ lineNumbers
 unfolding columns
 columns-long = refl
 
 module _ (t : List ℕ) (at k : ℕ) (r : Place) where
-  pub end-more : k + 1 < 8 → Passes t r (pass semicolon (drop at t))
+  pub end-more : k + 1 < lineNumbers → Passes t r (pass semicolon (drop at t))
       → Passes t r (fieldEnd (drop (k + 1) columns) (drop at t))
   unfolding fieldEnd
   end-more h p = rw (drop-cons columns (k + 1) wholeNumber (rw columns-long h)) p
 
-  pub end-last : 8 ≤ k + 1 → Passes t r (lineEnd (drop at t)) → Passes t r (fieldEnd (drop (k + 1) columns) (drop at t))
+  pub end-last : lineNumbers ≤ k + 1 → Passes t r (lineEnd (drop at t))
+      → Passes t r (fieldEnd (drop (k + 1) columns) (drop at t))
   unfolding fieldEnd
   end-last h p =
       let l : length columns ≤ k + 1 = rw columns-long h in
@@ -100,7 +101,7 @@ module _ (k : ℕ) where
       go (inr h) (inl j) = at-place 5 price refl (omega arith)
       go (inr h) (inr j) = at-place 6 price refl (omega (arith, high))
 
-  pub column-whole : k < 8 → (k ≡ 2 → ⊥) → (k ≡ 3 → ⊥) → (leb 4 k && leb k 6) ≡ false → Is wholeNumber
+  pub column-whole : k < lineNumbers → (k ≡ 2 → ⊥) → (k ≡ 3 → ⊥) → (leb 4 k && leb k 6) ≡ false → Is wholeNumber
   unfolding columns
   column-whole l a b e = (go (le-or-lt k 0) (le-or-lt k 1) (le-or-lt k 6), omega arith)
     where
@@ -139,12 +140,13 @@ unfolding placeFront
 no-pass q k = rw q at (k .is)
 
 pub record Filling (t : List ℕ) (from : ℕ) (out : List ℤ) (k at : ℕ) : Type 0 where
-  pub in-eight : k ≤ 8
+  pub in-eight : k ≤ lineNumbers
   pub in-t : at ≤ length t
-  pub long : length out ≡ 8
+  pub long : length out ≡ lineNumbers
   pub rest : cells (drop k columns) (take k out) (drop at t) ≡ cells columns [] (drop from t)
 
-pub filling-none : (t : List ℕ) (from : ℕ) (out : List ℤ) → from ≤ length t → length out ≡ 8 → Filling t from out 0 from
+pub filling-none : (t : List ℕ) (from : ℕ) (out : List ℤ) → from ≤ length t → length out ≡ lineNumbers
+    → Filling t from out 0 from
 filling-none t from out h l = record { in-eight = omega arith; in-t = h; long = l; rest = refl }
 
 module _ (t : List ℕ) (from : ℕ) (out : List ℤ) (k at : ℕ) (f : Filling t from out k at) where
@@ -155,7 +157,7 @@ module _ (t : List ℕ) (from : ℕ) (out : List ℤ) (k at : ℕ) (f : Filling 
   unfolding placeFront PlaceIn
   bad e = record { is = e; inside = tt; long = f .long }
 
-  module _ (h : k < 8) where
+  module _ (h : k < lineNumbers) where
     opened : then (cell (getD columns k wholeNumber) (drop at t))
         (λ z rest. then (fieldEnd (drop (k + 1) columns) rest)
         (λ u behind. cells (drop (k + 1) columns) (take k out ++ z ∷ []) behind)) ≡ goal
@@ -186,7 +188,7 @@ module _ (t : List ℕ) (from : ℕ) (out : List ℤ) (k at : ℕ) (f : Filling 
             rest = rw j (rw (← g .is, ← q .is) at opened);
           }
 
-  pub filling-all : 8 ≤ k → Lined t out (place.At at) goal
+  pub filling-all : lineNumbers ≤ k → Lined t out (place.At at) goal
   unfolding placeFront PlaceIn cells
   filling-all h =
       let l : length columns ≤ k = rw columns-long h in

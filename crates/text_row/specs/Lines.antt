@@ -4,15 +4,16 @@ use mathlib.Core.List.{List}
 use Prim.Native.Nat.{ℕ, _≤_}
 use lib.IntN.{ℤ}
 use lib.ListN.{length, drop}
+use Rattle.text_table.specs.Exchange.{lineNumbers}
 use Rattle.text_table.specs.Scan.{Front, front, none, Passed, passed}
 use Rattle.text_row.specs.declared.Place.{Place}
 use Rattle.text_row.specs.declared.Place.the-variants as place
 
-unfoldable pub placeFront : {A : Type 0} → List ℕ → A → Place → Front A
+unfoldable pub placeFront : {A : Type 0} → (text : List ℕ) → A → Place → Front A
 placeFront t x (place.At e) = front x (drop e t)
 placeFront t x place.Bad = none
 
-unfoldable pub PlaceIn : List ℕ → Place → Type 0
+unfoldable pub PlaceIn : (text : List ℕ) → Place → Type 0
 PlaceIn t (place.At e) = e ≤ length t
 PlaceIn t place.Bad = Unit {0}
 
@@ -25,4 +26,4 @@ pub record Passes (t : List ℕ) (r : Place) (x : Front Passed) : Type 0 where
 pub record Lined (t : List ℕ) (zs : List ℤ) (r : Place) (x : Front (List ℤ)) : Type 0 where
   pub is : placeFront t zs r ≡ x
   pub inside : PlaceIn t r
-  pub long : length zs ≡ 8
+  pub long : length zs ≡ lineNumbers

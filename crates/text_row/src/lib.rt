@@ -4,10 +4,11 @@ ghost use mathlib.Core.Path.{_≡_};
 ghost use mathlib.Core.List.{[]};
 ghost use Prim.Native.Nat.{_+_, _≤_, _<_};
 ghost use lib.ListN.{length, drop, getD};
-ghost use Rattle.text_table.specs.Exchange.{wholeNumber, columns};
+ghost use Rattle.text_table.specs.Exchange.{wholeNumber, columns, lineNumbers};
 ghost use Rattle.text_table.specs.Scan.{pass, lineEnd, fieldEnd, cells, inRange, line};
 ghost use Rattle.text_row.specs.Lines.{Passes, Lined};
 use paper::Record;
+use paper::Row;
 use text_cell::Cell;
 use text_cell::is_at;
 use text_cell::read_cell;
@@ -19,8 +20,8 @@ pub enum Place {
     Bad,
 }
 
-// The numbers of a line.
-const FIELDS: usize = 8;
+// The numbers of a line: the id, and those of a row.
+pub const FIELDS: usize = 1 + Row::NUMBERS;
 
 const ID_MOST: i64 = Record::ID_MOST as i64;
 
@@ -50,7 +51,7 @@ fn line_end(t: &[u8], at: usize) -> Place
 
 // Behind the k-th field.
 fn field_end(t: &[u8], at: usize, k: usize) -> Place
-    requires { ⌜ (at ≤ length (now t)) × (k < 8) ⌝ }
+    requires { ⌜ (at ≤ length (now t)) × (k < lineNumbers) ⌝ }
     ensures { λ r. ⌜ Passes (now (t .entry)) r (fieldEnd (drop (k + 1) columns) (drop at (now (t .entry)))) ⌝ }
 {
     if k + 1 < FIELDS {
@@ -63,7 +64,7 @@ fn field_end(t: &[u8], at: usize, k: usize) -> Place
 
 // How the k-th field is written: the id, T, central rate, repo rate, close, bid, ask, volume.
 fn column_of(k: usize) -> Column
-    requires { ⌜ k < 8 ⌝ }
+    requires { ⌜ k < lineNumbers ⌝ }
     ensures { λ r. ⌜ (r ≡ getD columns k wholeNumber) × (r .places ≤ 4) ⌝ }
 {
     if k == 2 {
@@ -100,7 +101,7 @@ fn column_of(k: usize) -> Column
 
 // The eight fields from `from` on, each with what stands behind it; their numbers go to `out`.
 fn fields(t: &[u8], from: usize, out: &mut [i64]) -> Place
-    requires { ⌜ (from ≤ length (now t)) × (length (now out) ≡ 8) ⌝ }
+    requires { ⌜ (from ≤ length (now t)) × (length (now out) ≡ lineNumbers) ⌝ }
     ensures { λ r. ⌜ Lined (now (t .entry)) (now (out .exit)) r (cells columns [] (drop from (now (t .entry)))) ⌝ }
 {
     let mut k = 0;
@@ -123,7 +124,7 @@ fn fields(t: &[u8], from: usize, out: &mut [i64]) -> Place
 
 // Document 01's ranges, of the eight numbers.
 fn in_range(zs: &[i64]) -> bool
-    requires { ⌜ length (now zs) ≡ 8 ⌝ }
+    requires { ⌜ length (now zs) ≡ lineNumbers ⌝ }
     ensures { λ r. ⌜ r ≡ inRange (now (zs .entry)) ⌝ }
 {
     exact::within_at(zs, 0, 1, ID_MOST) & rows::row_valid(zs, 1)
@@ -131,7 +132,7 @@ fn in_range(zs: &[i64]) -> bool
 
 // The line that begins at `from`, with what ends it; its eight numbers go to `out`.
 pub fn read_line(t: &[u8], from: usize, out: &mut [i64]) -> Place
-    requires { ⌜ (from ≤ length (now t)) × (length (now out) ≡ 8) ⌝ }
+    requires { ⌜ (from ≤ length (now t)) × (length (now out) ≡ lineNumbers) ⌝ }
     ensures { λ r. ⌜ Lined (now (t .entry)) (now (out .exit)) r (line (drop from (now (t .entry)))) ⌝ }
 {
     let place = fields(t, from, out);

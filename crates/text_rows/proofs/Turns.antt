@@ -23,7 +23,8 @@ use Rattle.text_answer.specs.Told.{Told, both, wrote}
 use Rattle.text_table.specs.declared.Reading.{Reading}
 use Rattle.text_rows.specs.declared.Asked.{Asked}
 use Rattle.text_rows.specs.declared.Asked.the-variants as asked
-use Rattle.text_rows.specs.Rows.{settled, askedOf, grown, readingNumbers, readingText, rowsBytes, readingMost}
+use Rattle.text_rows.specs.Rows.{settled, askedOf, grown, readingNumbers, readingText, readingMost}
+use Rattle.text_put.specs.Sizes.{rowsBytes}
 use Rattle.text_out.specs.Places.{numberBytes, nextBytes, nextSignedBytes}
 
 -- ---- the argument

@@ -7,7 +7,7 @@ use lib.Dec.{leb}
 use lib.IntN.{ℤ, pos}
 use lib.ListN.{take}
 use Rattle.paper.specs.Lists.{pick}
-use Rattle.paper.specs.Numbers.{idMost, rowNumbers, allNumbersMost}
+use Rattle.paper.specs.Numbers.{idMost, rowNumbers}
 use Rattle.paper.specs.Verdicts.{numberOf, isDone}
 use Rattle.text_protocol.specs.declared.Size.{Size}
 use Rattle.text_protocol.specs.declared.Size.the-variants as size
@@ -16,7 +16,8 @@ use Rattle.text_protocol.specs.Answers.{answerText}
 use Rattle.text_table.specs.declared.Reading.{Reading}
 use Rattle.text_rows.specs.declared.Asked.{Asked}
 use Rattle.text_rows.specs.declared.Asked.the-variants as asked
-use Rattle.text_out.specs.Places.{numberBytes, nextBytes, nextSignedBytes}
+use Rattle.text_out.specs.Places.{numberBytes, nextBytes}
+use Rattle.text_put.specs.Sizes.{rowsBytes}
 
 -- one digit or more, zeros may lead; a number above the greatest id asks as 0 does, for a security that is in no text
 unfoldable pub settled : Size → Asked
@@ -35,11 +36,7 @@ pub record Asks (r : Asked) : Type 0 where
 unfoldable pub grown : (n digit : ℕ) → ℕ
 grown n d = pick (leb (10 * n + d) idMost) (10 * n + d) (suc idMost)
 
--- the bytes at most of the numbers of a day's rows, and of an answer: a verdict, a count or a line, the numbers, the
--- line feed
-abbrev pub rowsBytes : ℕ
-rowsBytes = allNumbersMost * nextSignedBytes
-
+-- the bytes at most of an answer: a verdict, a count or a line, the numbers of a day's rows, the line feed
 abbrev pub readingMost : ℕ
 readingMost = numberBytes + nextBytes + rowsBytes + 1
 

@@ -71,10 +71,12 @@ module _ {b : List ℕ} {s : State} {b' : List ℕ} {p : Prepared} {xs rows : Li
       let table : t' ≡ tableAfter deed t = performed .table ∙ sym (table-of deed t) in
       λ i. record { number = number i; kept = kept i; table = table i }
 
-  text-is : lineText (p .telling) (p .kind) (p .number) (p .request) (p .beside) a ≡ answer (s .telling) (heard .line) (eveningOf s t)
+  text-is : lineText (p .telling) (p .kind) (p .number) (p .request) (p .beside) a ≡ answer (s .telling) (heard .line)
+      (eveningOf s t)
   unfolding answer
   text-is =
-      ap (λ (n : ℕ). lineText (p .telling) (p .kind) n (p .request) (p .beside) a) (heard .number) ∙ heard .says a t said
+      ap (λ (n : ℕ). lineText (p .telling) (p .kind) n (p .request) (p .beside) a) (heard .number)
+      ∙ heard .says a t said
 
   wrote : Wrote o (s .waiting) o' (told .end) (answer (s .telling) (heard .line) (eveningOf s t)) answerMost
   wrote =

@@ -9,7 +9,7 @@ use lib.IntN.{ℤ, pos, negsuc, natAbs}
 use lib.ListN.{length, drop, getD}
 use borrow.Author.Tests.{leb-true, eqb-true, ne-eqb}
 use Rattle.paper.specs.Lists.{pick}
-use Rattle.paper.specs.Numbers.{idMost, repoLeast, repoMost, rowTermMost, centralMost, priceMost, volumeMost}
+use Rattle.paper.specs.Numbers.{idMost, rowNumbers, repoLeast, repoMost, rowTermMost, centralMost, priceMost, volumeMost}
 use Rattle.paper.specs.Ranges.{within, withinZ, LentRow, rowAt, closeForVolume, validRow}
 use Rattle.paper.proofs.Logic.{not-true-and-false, and-left, and-right, and-both}
 use Rattle.text_protocol.specs.Bytes.{lineFeed, carriageReturn, minusSign, digitNine, isLineFeed, pieces}
@@ -442,9 +442,9 @@ line-back u zs rest e = go (cells columns [] u) refl e
         (cells-back wholeNumber (drop 1 columns) [] u ys r i) (inRange ys) refl f
 
 -- seven numbers stand behind the id
-line-long : {l : List ℕ} {id : ℕ} {row : List ℤ} → Line l id row → length row ≡ 7
+line-long : {l : List ℕ} {id : ℕ} {row : List ℤ} → Line l id row → length row ≡ rowNumbers
 line-long a = let e = ap length (fields-are-eight (a .fields) .are) in omega arith
 
-pub row-has-seven : {p : List ℕ} {id : ℕ} {row : List ℤ} → Ended p id row → length row ≡ 7
+pub row-has-seven : {p : List ℕ} {id : ℕ} {row : List ℤ} → Ended p id row → length row ≡ rowNumbers
 row-has-seven (by-lf a) = line-long a
 row-has-seven (by-cr-lf a) = line-long a

@@ -11,7 +11,7 @@ use lib.ListN.{length, take, drop, replicate, length-append, length-replicate}
 use borrow.Author.Tests.{leb-true, leb-false, ltb-true, ltb-false, eqb-true, eqb-false, eq-eqb, ne-eqb}
 use Rattle.paper.specs.Lists.{pick}
 use Rattle.paper.specs.declared.Verdict.the-variants.{Done, BadLine}
-use Rattle.paper.specs.Numbers.{idMost, allNumbersMost}
+use Rattle.paper.specs.Numbers.{idMost, rowNumbers, allNumbersMost}
 use Rattle.paper.specs.Ranges.{within, unsigned}
 use Rattle.paper.specs.Verdicts.{Exactly}
 use Rattle.paper.proofs.Logic.{not-true-and-false, le-or-lt}
@@ -257,7 +257,7 @@ says-outside id j {t} out out' (good h f r) =
 
 -- seven numbers to a row
 pub rows-sevens : {id : ℕ} {ls : List (List ℕ)} {rows : List (List ℤ)} → RowsOf id ls rows
-    → length (inOne rows) ≡ 7 * length rows
+    → length (inOne rows) ≡ rowNumbers * length rows
 unfolding inOne
 rows-sevens no-line = refl
 rows-sevens (its-own {row = row} {rows} e r) =
@@ -270,8 +270,8 @@ unfolding accepted refused
 says-long (too-long h) = length-replicate allNumbersMost (pos 0)
 says-long (bad-at h b f) = length-replicate allNumbersMost (pos 0)
 says-long {id} {t} (good {rows = rows} h f r) =
-    length-append (inOne rows) (replicate (112 - 7 * length rows) (pos 0))
-    ∙ omega (arith, rows-sevens r, length-replicate (112 - 7 * length rows) (pos 0), few)
+    length-append (inOne rows) (replicate (allNumbersMost - rowNumbers * length rows) (pos 0))
+    ∙ omega (arith, rows-sevens r, length-replicate (allNumbersMost - rowNumbers * length rows) (pos 0), few)
   where
     few : length rows ≤ rowsMost
     few = says-few {id = id} {t = t} (good h f r)

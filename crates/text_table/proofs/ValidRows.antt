@@ -24,8 +24,8 @@ ended-valid (by-lf a) = a .valid
 ended-valid (by-cr-lf a) = a .valid
 
 -- a row in the midst of others
-module _ (a row rest : List ℤ) (long : length row ≡ 7) where
-  at-place : (i : ℕ) → i < 7 → getD (a ++ (row ++ rest)) (length a + i) (pos 0) ≡ getD row i (pos 0)
+module _ (a row rest : List ℤ) (long : length row ≡ rowNumbers) where
+  at-place : (i : ℕ) → i < rowNumbers → getD (a ++ (row ++ rest)) (length a + i) (pos 0) ≡ getD row i (pos 0)
   at-place i h = getD-append-add a (row ++ rest) i (pos 0) ∙ List·getD-append row rest (pos 0) i (omega arith)
 
   row-at : rowAt (a ++ (row ++ rest)) (length a) ≡ rowAt row 0
@@ -49,9 +49,10 @@ every-valid : {id : ℕ} {ls : List (List ℕ)} {rows : List (List ℤ)} (a : Li
 unfolding every partsFrom inOne
 every-valid a no-line = refl
 every-valid a (its-own {row = row} {rows} e r) =
-    let s : length (a ++ row) ≡ length a + 7 = length-append a row ∙ ap (λ (n : ℕ). length a + n) (row-has-seven e) in
+    let s : length (a ++ row) ≡ length a + rowNumbers = length-append a row
+    ∙ ap (λ (n : ℕ). length a + n) (row-has-seven e) in
     let b : List ℤ = inOne rows in
-    let i : every validRow (partsFrom rowAt rowNumbers (a ++ (row ++ b)) (length a + 7) (length rows)) ≡ true =
+    let i : every validRow (partsFrom rowAt rowNumbers (a ++ (row ++ b)) (length a + rowNumbers) (length rows)) ≡ true =
     rw (← s, ← append-assoc a row b) (every-valid (a ++ row) r) in
     rw (row-at a row b (row-has-seven e), ended-valid e) i
 every-valid a (another's e n r) = every-valid a r
@@ -60,12 +61,12 @@ rows-valid : {id : ℕ} {ls : List (List ℕ)} {rows : List (List ℤ)} → Rows
     → validRows (inOne rows) ≡ true
 unfolding validRows wholeRows rowsOf
 rows-valid {rows = rows} r h =
-    let l : length (inOne rows) ≡ length rows * 7 + 0 = rows-sevens r ∙ omega arith in
-    let o : 0 < 7 = omega arith in
-    let m : (length rows * 7 + 0) % 7 ≡ 0 = digits-mod (length rows) o in
-    let d : (length rows * 7 + 0) / 7 ≡ length rows = digits-div (length rows) o in
-    let b : length rows * 7 + 0 ≤ 112 = omega arith in
-    rw (l, m, d, le-leb (length rows * 7 + 0) 112 b) (every-valid [] r)
+    let l : length (inOne rows) ≡ length rows * rowNumbers + 0 = rows-sevens r ∙ omega arith in
+    let o : 0 < rowNumbers = omega arith in
+    let m : (length rows * rowNumbers + 0) % rowNumbers ≡ 0 = digits-mod (length rows) o in
+    let d : (length rows * rowNumbers + 0) / rowNumbers ≡ length rows = digits-div (length rows) o in
+    let b : length rows * rowNumbers + 0 ≤ allNumbersMost = omega arith in
+    rw (l, m, d, le-leb (length rows * rowNumbers + 0) allNumbersMost b) (every-valid [] r)
 
 -- THE ROWS THAT A TEXT GIVES ARE A DAY'S ROWS (a refusal's are none)
 pub says-valid : {id : ℕ} {t : List ℕ} {r : Reading} → Says id t r
@@ -75,7 +76,7 @@ says-valid (too-long h) = refl
 says-valid (bad-at h b f) = refl
 says-valid {id} {t} (good {rows = rows} h f r) =
     ap validRows
-    (take-at (inOne rows) (replicate (allNumbersMost - rowNumbers * length rows) (pos 0)) (7 * length rows)
+    (take-at (inOne rows) (replicate (allNumbersMost - rowNumbers * length rows) (pos 0)) (rowNumbers * length rows)
     (rows-sevens r))
     ∙ rows-valid r few
   where

@@ -66,6 +66,10 @@ price = record { places = 4; zeros = true; empty = true; minus = false }
 unfoldable pub columns : List Column
 columns = wholeNumber ∷ wholeNumber ∷ exchangeRate ∷ repoRate ∷ price ∷ price ∷ price ∷ wholeNumber ∷ []
 
+-- the numbers of a line: the id, and those of a row
+abbrev pub lineNumbers : ℕ
+lineNumbers = 1 + rowNumbers
+
 -- each field by its column, as many fields as columns
 pub data Fields : List Column → List (List ℕ) → List ℤ → Type 0 where
   no-field : Fields [] [] []

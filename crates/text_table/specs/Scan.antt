@@ -26,7 +26,7 @@ then (front x rest) f = f x rest
 then none f = none
 
 -- whether the first byte passes a test
-unfoldable pub starts : (ℕ → Bool) → List ℕ → Bool
+unfoldable pub starts : (passes : ℕ → Bool) → (text : List ℕ) → Bool
 starts passes [] = false
 starts passes (b ∷ t) = passes b
 
@@ -35,7 +35,7 @@ abbrev pub numberMost : ℕ
 numberMost = priceMost
 
 -- at most m digits, behind those of n
-unfoldable pub digits : (m n : ℕ) → List ℕ → Front ℕ
+unfoldable pub digits : (m n : ℕ) → (text : List ℕ) → Front ℕ
 digits zero n t = front n t
 digits (suc m) n [] = front n []
 digits (suc m) n (b ∷ t) =
@@ -85,7 +85,7 @@ pub data Passed : Type 0 where
   passed : Passed
 
 -- the byte b
-unfoldable pub pass : (b : ℕ) → List ℕ → Front Passed
+unfoldable pub pass : (b : ℕ) → (text : List ℕ) → Front Passed
 pass b t = pick (starts (λ x. eqb x b) t) (front passed (drop 1 t)) none
 
 -- what ends a line
@@ -98,7 +98,7 @@ fieldEnd [] t = lineEnd t
 fieldEnd (c ∷ cs) t = pass semicolon t
 
 -- the fields of so many columns, behind those that are read
-unfoldable pub cells : List Column → List ℤ → List ℕ → Front (List ℤ)
+unfoldable pub cells : List Column → (zs : List ℤ) → (text : List ℕ) → Front (List ℤ)
 cells [] zs t = front zs t
 cells (c ∷ cs) zs t =
     then (cell c t) (λ z rest. then (fieldEnd cs rest) (λ u behind. cells cs (zs ++ z ∷ []) behind))
@@ -115,7 +115,7 @@ line t = then (cells columns [] t) (λ zs rest. pick (inRange zs) (front zs rest
 unfoldable pub isOf : (id : ℕ) → List ℤ → Bool
 isOf id zs = eqb (unsigned (getD zs 0 (pos 0))) id
 
-unfoldable pub orBad : Front (List ℤ) → ℕ → (List ℤ → Reading) → Reading
+unfoldable pub orBad : Front (List ℤ) → (line : ℕ) → (List ℤ → Reading) → Reading
 orBad (front zs rest) n f = f zs
 orBad none n f = refused n
 

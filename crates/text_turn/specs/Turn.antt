@@ -49,7 +49,8 @@ halted i = record { at = i .at; end = i .end; len = i .len; left = 0; ok = false
 -- hear. The input goes on as it was, unless a write failed: `ok` says so
 pub record Tells (b : List ℕ) (p : Prepared) (a : Performed) (b' : List ℕ) (r : State) : Type 0 where
   pub end : ℕ
-  pub wrote : Wrote b (p .waiting) b' end (lineText (p .telling) (p .kind) (p .number) (p .request) (p .beside) a) answerMost
+  pub wrote : Wrote b (p .waiting) b' end (lineText (p .telling) (p .kind) (p .number) (p .request) (p .beside) a)
+      answerMost
   pub waits : (r .waiting ≡ end) ⊎ (r .waiting ≡ 0)
   pub room : r .waiting + answerMost ≤ room
   pub prompt : r .input .len ≤ r .input .end → r .waiting ≡ 0

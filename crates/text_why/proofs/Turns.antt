@@ -11,23 +11,27 @@ use Rattle.text_protocol.specs.Bytes.{space, lineFeed}
 use Rattle.text_protocol.specs.Numbers.{decimal}
 use Rattle.text_protocol.specs.Answers.{answerMost}
 use Rattle.text_protocol.specs.Reasons.{reasonWords, faultWords, spelled, wordsText, whyText}
+use Rattle.text_out.specs.Places.{numberBytes}
 use Rattle.text_out.specs.Wrote.{Wrote, then, wider}
+use Rattle.text_put.specs.Sizes.{nextWordBytes}
+use Rattle.text_why.specs.Sizes.{faultBytes, reasonsBytes}
 
 -- ---- the word of a reason, of any of the five kinds: an arm appends the word of the variant v that it knows x to be
 pub named : {R : Type 0} (word : R → List ℕ) {x v : R} {b b' : List ℕ} {n n' : ℕ} → x ≡ v
-    → Wrote b n b' n' (space ∷ word v) 12 → Wrote b n b' n' (space ∷ word x) 12
+    → Wrote b n b' n' (space ∷ word v) nextWordBytes → Wrote b n b' n' (space ∷ word x) nextWordBytes
 named word e p = rw e p
 
 -- ---- the answer, by the verdict's number
 module _ (y : Why) (no : ℕ) (is : no ≡ numberOf (y .verdict)) {b : List ℕ} {n : ℕ} {b' : List ℕ} {n' : ℕ} {b'' : List ℕ}
-    {n'' : ℕ} {c : List ℕ} {e : ℕ} (p : Wrote b n b' n' (decimal no) 20) (end : Wrote b'' n'' c e (lineFeed ∷ []) 1)
+    {n'' : ℕ} {c : List ℕ} {e : ℕ} (p : Wrote b n b' n' (decimal no) numberBytes)
+    (end : Wrote b'' n'' c e (lineFeed ∷ []) 1)
   where
-    pub accepted : no ≡ 0 → Wrote b' n' b'' n'' (spelled (reasonWords (y .reasons))) 168
+    pub accepted : no ≡ 0 → Wrote b' n' b'' n'' (spelled (reasonWords (y .reasons))) reasonsBytes
         → Wrote b n c e (whyText y) answerMost
     unfolding whyText wordsText isDone
     accepted h q = rw (← is, eq-eqb no 0 h) (wider (then (then p q) end) (omega arith))
 
-    pub refused : (no ≡ 0 → ⊥) → Wrote b' n' b'' n'' (spelled (faultWords (y .fault))) 33
+    pub refused : (no ≡ 0 → ⊥) → Wrote b' n' b'' n'' (spelled (faultWords (y .fault))) faultBytes
         → Wrote b n c e (whyText y) answerMost
     unfolding whyText wordsText isDone
     refused h q = rw (← is, ne-eqb no 0 h) (wider (then (then p q) end) (omega arith))

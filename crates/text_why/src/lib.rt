@@ -10,6 +10,8 @@ ghost use Rattle.text_protocol.specs.Numbers.{decimal};
 ghost use Rattle.text_protocol.specs.Answers.{answerMost};
 ghost use Rattle.text_protocol.specs.Reasons.{levelName, reasonWords, faultWords, spelled, whyText};
 ghost use Rattle.text_out.specs.Wrote.{Wrote};
+ghost use Rattle.text_put.specs.Sizes.{wordBytes, nextWordBytes};
+ghost use Rattle.text_why.specs.Sizes.{faultBytes, levelsBytes, reasonsBytes};
 use paper_reasons::Fault;
 use paper_reasons::LevelReason;
 use paper_reasons::PriceReason;
@@ -26,8 +28,8 @@ use text_put::put_bytes;
 
 // A blank, and a word.
 fn put_word(out: &mut [u8; ROOM], len: usize, word: &[u8]) -> usize
-    requires { ⌜ (len + 12 ≤ room) × (length (now word) ≤ 11) ⌝ }
-    ensures { λ r. ⌜ Wrote (now (out .entry)) len (now (out .exit)) r (space ∷ now (word .entry)) 12 ⌝ }
+    requires { ⌜ (len + nextWordBytes ≤ room) × (length (now word) ≤ wordBytes) ⌝ }
+    ensures { λ r. ⌜ Wrote (now (out .entry)) len (now (out .exit)) r (space ∷ now (word .entry)) nextWordBytes ⌝ }
 {
     let n = put_byte(out, len, b' ');
     put_bytes(out, n, word)
@@ -36,8 +38,8 @@ fn put_word(out: &mut [u8; ROOM], len: usize, word: &[u8]) -> usize
 // ---- the word of a reason
 
 fn put_price(out: &mut [u8; ROOM], len: usize, reason: PriceReason) -> usize
-    requires { ⌜ len + 12 ≤ room ⌝ }
-    ensures { λ r. ⌜ Wrote (now (out .entry)) len (now (out .exit)) r (space ∷ priceWord reason) 12 ⌝ }
+    requires { ⌜ len + nextWordBytes ≤ room ⌝ }
+    ensures { λ r. ⌜ Wrote (now (out .entry)) len (now (out .exit)) r (space ∷ priceWord reason) nextWordBytes ⌝ }
 {
     match reason {
         PriceReason::None => put_word(out, len, b"none"),
@@ -49,8 +51,8 @@ fn put_price(out: &mut [u8; ROOM], len: usize, reason: PriceReason) -> usize
 }
 
 fn put_weight(out: &mut [u8; ROOM], len: usize, reason: WeightReason) -> usize
-    requires { ⌜ len + 12 ≤ room ⌝ }
-    ensures { λ r. ⌜ Wrote (now (out .entry)) len (now (out .exit)) r (space ∷ weightWord reason) 12 ⌝ }
+    requires { ⌜ len + nextWordBytes ≤ room ⌝ }
+    ensures { λ r. ⌜ Wrote (now (out .entry)) len (now (out .exit)) r (space ∷ weightWord reason) nextWordBytes ⌝ }
 {
     match reason {
         WeightReason::None => put_word(out, len, b"none"),
@@ -61,8 +63,8 @@ fn put_weight(out: &mut [u8; ROOM], len: usize, reason: WeightReason) -> usize
 }
 
 fn put_replacement(out: &mut [u8; ROOM], len: usize, reason: ReplacementReason) -> usize
-    requires { ⌜ len + 12 ≤ room ⌝ }
-    ensures { λ r. ⌜ Wrote (now (out .entry)) len (now (out .exit)) r (space ∷ replacementWord reason) 12 ⌝ }
+    requires { ⌜ len + nextWordBytes ≤ room ⌝ }
+    ensures { λ r. ⌜ Wrote (now (out .entry)) len (now (out .exit)) r (space ∷ replacementWord reason) nextWordBytes ⌝ }
 {
     match reason {
         ReplacementReason::None => put_word(out, len, b"none"),
@@ -72,8 +74,8 @@ fn put_replacement(out: &mut [u8; ROOM], len: usize, reason: ReplacementReason) 
 }
 
 fn put_tentative(out: &mut [u8; ROOM], len: usize, reason: TentativeReason) -> usize
-    requires { ⌜ len + 12 ≤ room ⌝ }
-    ensures { λ r. ⌜ Wrote (now (out .entry)) len (now (out .exit)) r (space ∷ tentativeWord reason) 12 ⌝ }
+    requires { ⌜ len + nextWordBytes ≤ room ⌝ }
+    ensures { λ r. ⌜ Wrote (now (out .entry)) len (now (out .exit)) r (space ∷ tentativeWord reason) nextWordBytes ⌝ }
 {
     match reason {
         TentativeReason::None => put_word(out, len, b"none"),
@@ -85,8 +87,8 @@ fn put_tentative(out: &mut [u8; ROOM], len: usize, reason: TentativeReason) -> u
 }
 
 fn put_level(out: &mut [u8; ROOM], len: usize, reason: LevelReason) -> usize
-    requires { ⌜ len + 12 ≤ room ⌝ }
-    ensures { λ r. ⌜ Wrote (now (out .entry)) len (now (out .exit)) r (space ∷ levelWord reason) 12 ⌝ }
+    requires { ⌜ len + nextWordBytes ≤ room ⌝ }
+    ensures { λ r. ⌜ Wrote (now (out .entry)) len (now (out .exit)) r (space ∷ levelWord reason) nextWordBytes ⌝ }
 {
     match reason {
         LevelReason::None => put_word(out, len, b"none"),
@@ -106,9 +108,9 @@ fn put_levels(
     level2: LevelReason,
     level3: LevelReason,
 ) -> usize
-    requires { ⌜ len + 72 ≤ room ⌝ }
+    requires { ⌜ len + levelsBytes ≤ room ⌝ }
     ensures { λ r. ⌜ Wrote (now (out .entry)) len (now (out .exit)) r (spelled (levelName 49 ∷ levelWord level1
-        ∷ levelName 50 ∷ levelWord level2 ∷ levelName 51 ∷ levelWord level3 ∷ [])) 72 ⌝ }
+        ∷ levelName 50 ∷ levelWord level2 ∷ levelName 51 ∷ levelWord level3 ∷ [])) levelsBytes ⌝ }
 {
     let n = put_word(out, len, b"level1");
     let n = put_level(out, n, level1);
@@ -120,8 +122,8 @@ fn put_levels(
 
 // What is named of an accepted evaluation, each with its reason.
 fn put_reasons(out: &mut [u8; ROOM], len: usize, r: Reasons) -> usize
-    requires { ⌜ len + 168 ≤ room ⌝ }
-    ensures { λ n. ⌜ Wrote (now (out .entry)) len (now (out .exit)) n (spelled (reasonWords r)) 168 ⌝ }
+    requires { ⌜ len + reasonsBytes ≤ room ⌝ }
+    ensures { λ n. ⌜ Wrote (now (out .entry)) len (now (out .exit)) n (spelled (reasonWords r)) reasonsBytes ⌝ }
 {
     let price = r.price;
     let weight = r.weight;
@@ -143,9 +145,9 @@ fn put_reasons(out: &mut [u8; ROOM], len: usize, r: Reasons) -> usize
 
 // A word, and a number.
 fn put_numbered(out: &mut [u8; ROOM], len: usize, word: &[u8], number: u64) -> usize
-    requires { ⌜ (len + 33 ≤ room) × (length (now word) ≤ 11) ⌝ }
+    requires { ⌜ (len + faultBytes ≤ room) × (length (now word) ≤ wordBytes) ⌝ }
     ensures { λ r. ⌜ Wrote (now (out .entry)) len (now (out .exit)) r (spelled (now (word .entry) ∷ decimal number
-        ∷ [])) 33 ⌝ }
+        ∷ [])) faultBytes ⌝ }
 {
     let n = put_word(out, len, word);
     put_next(out, n, number)
@@ -153,8 +155,8 @@ fn put_numbered(out: &mut [u8; ROOM], len: usize, word: &[u8], number: u64) -> u
 
 // What is at fault in a refused evaluation: a row, a term, or none.
 fn put_fault(out: &mut [u8; ROOM], len: usize, fault: Fault) -> usize
-    requires { ⌜ len + 33 ≤ room ⌝ }
-    ensures { λ r. ⌜ Wrote (now (out .entry)) len (now (out .exit)) r (spelled (faultWords fault)) 33 ⌝ }
+    requires { ⌜ len + faultBytes ≤ room ⌝ }
+    ensures { λ r. ⌜ Wrote (now (out .entry)) len (now (out .exit)) r (spelled (faultWords fault)) faultBytes ⌝ }
 {
     match fault {
         Fault::None => put_word(out, len, b"none"),

@@ -10,6 +10,6 @@ unfoldable pub isSolid : ℕ → Bool
 isSolid b = not (isBlank b)
 
 -- a size that is at most `most`
-unfoldable pub Capped : ℕ → Size → Type 0
+unfoldable pub Capped : (most : ℕ) → Size → Type 0
 Capped most (size.Is n) = n ≤ most
 Capped most size.Bad = Unit {0}

@@ -52,10 +52,8 @@ refused-requires c κs = search needs
 
 -- whether a term is crossed is what the paper asks
 tested : (c : tie.After-some-crossed)
-    → c .some-crossed .result
-    ≡ some isCrossed
-    (allLimits (c .before .before .before .before .before .before .before .before .before .before .args .b)
-    (flowsOf (c .before .before .before .before .before .before .before .before .before .before .args .flows .now)))
+    → let start = c .before .before .before .before .before .before .before .before .before .before in
+    c .some-crossed .result ≡ some isCrossed (allLimits (start .args .b) (flowsOf (start .args .flows .now)))
 tested c = rw (c .before .all-limits .ensures) at (c .some-crossed .ensures)
 
 returns : tie.Need-returns

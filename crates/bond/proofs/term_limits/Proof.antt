@@ -3,7 +3,7 @@ use mathlib.Core.Path.{_≡_}
 use mir.Syntax.{w64}
 use mir.Val.{toZ, ofZ}
 use Rattle.inputs.proofs.Facts.{price-facts}
-use Rattle.limits.specs.LimitRanges.{term-days}
+use Rattle.limits.specs.LimitRanges.{term-days-within-most}
 use Rattle.paper_bonds.specs.Bonds.{flowsOf, carryOf, limitsOf}
 use Rattle.paper_bonds.proofs.BondFigures.{bond-statics-valid}
 use Rattle.bond_flows.specs.FlowLaws.{CarryInputs, carry-most}
@@ -20,7 +20,7 @@ bits : (s : tie.Start) → toZ w64 (ofZ w64 (s .args .b .repo)) ≡ s .args .b .
 bits s = rate-kept-in-bits (s .args .b .repo) (facts s .repo)
 
 inputs : (s : tie.Start) → CarryInputs (s .args .x .k) (s .args .b .repo)
-inputs s = record { days = term-days (s .args .x) (s .pre .1 .1); rate = facts s .repo }
+inputs s = record { days = term-days-within-most (s .args .x) (s .pre .1 .1); rate = facts s .repo }
 
 carry-of-requires : tie.Need-carry-of-requires
 carry-of-requires c κs = let s = c .before in (rw (bits s) (inputs s), s .pre .0 .flows)

@@ -8,7 +8,7 @@ use Rattle.paper.specs.declared.Side.{Side}
 use Rattle.paper.specs.declared.Side.the-variants.{Upper, Lower}
 use Rattle.paper_desk.proofs.LimitSizes.{valid-limit-statics}
 use Rattle.limits.specs.Sides.{repoOf}
-use Rattle.limits.specs.LimitRanges.{term-repo, term-days}
+use Rattle.limits.specs.LimitRanges.{term-repo-within-most, term-days-within-most}
 use Rattle.paper_bonds.specs.Bonds.{limitsFrom}
 use Rattle.paper_bonds.proofs.OffBook.{off-is}
 use Rattle.bond_limits.specs.BondInputs.{PriceRange, SideRange}
@@ -18,7 +18,8 @@ use Rattle.bond_limits.proofs.limits_of.Tie as tie
 
 -- a repo rate is its own bits read back
 bits : (s : tie.Start) (side : Side) → toZ w64 (ofZ w64 (repoOf side (s .args .x))) ≡ repoOf side (s .args .x)
-bits s side = rate-kept-in-bits (repoOf side (s .args .x)) (term-repo side (s .args .x) (s .pre .1 .1 .term))
+bits s side = rate-kept-in-bits (repoOf side (s .args .x))
+    (term-repo-within-most side (s .args .x) (s .pre .1 .1 .term))
 
 -- what each side asks
 inputs : (s : tie.Start) (side : Side)
@@ -29,12 +30,12 @@ inputs s side =
     (record {
       price = r .price;
       rate-high = r .rate-high;
-      days = term-days (s .args .x) (r .term);
-      repo-high = term-repo side (s .args .x) (r .term);
+      days = term-days-within-most (s .args .x) (r .term);
+      repo-high = term-repo-within-most side (s .args .x) (r .term);
     })
 
 prices : (s : tie.Start) → PriceRange (s .args .p) (s .args .x .k)
-prices s = record { price = s .pre .1 .1 .price; days = term-days (s .args .x) (s .pre .1 .1 .term) }
+prices s = record { price = s .pre .1 .1 .price; days = term-days-within-most (s .args .x) (s .pre .1 .1 .term) }
 
 band-limit-requires : tie.Need-band-limit-requires
 band-limit-requires c κs = let s = c .before in (s .pre .0, (s .pre .1 .0, inputs s Lower))

@@ -2,7 +2,7 @@
 use mathlib.Core.Path.{_≡_}
 use native.Mathlib.Omega.{arith}
 use borrow.Author.Needs.{needs}
-use Rattle.limits.specs.LimitLaws.{shifted-den}
+use Rattle.limits.specs.LimitLaws.{shifted-den-is-one}
 use Rattle.bond_limits.proofs.Sizes.{rate-kept-in-bits, shifted-grows}
 use Rattle.bond_limits.proofs.shifted_limit.Statement.{statement}
 use Rattle.bond_limits.proofs.shifted_limit.Tie as tie
@@ -34,7 +34,7 @@ returns c =
       c .before .before .before .inward .ensures,
       rate-kept-in-bits (a .b .repo) (s .pre .0 .repo),
       c .before .before .shifted .ensures,
-      shifted-den (a .side) (a .p .units) (a .rate .bp),
+      shifted-den-is-one (a .side) (a .p .units) (a .rate .bp),
     )
 
 pub shifted-limit-spec : {M : Type 1} → statement M

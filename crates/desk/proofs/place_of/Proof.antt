@@ -124,7 +124,8 @@ module _ {M : Type 1} (𝓤 : URA M) (H : Heap 𝓤) (A : Atoms 𝓤) (W : Given
 
   exits : (i : ℕ) → i ≡ place-in ys id → i < 2 ^ 64 → ent 𝓤 (⋆ 𝓤 H A Ours) (Post (vint w64 i))
   exits i e gi =
-      Meeting.exits reads taken usize (says usize place-in) 𝓤 H A W (κ, tt) (ref b o γ ys) (id, tt) (q, tt) (uint-makes 𝓤 H A W w64)
+      Meeting.exits reads taken usize (says usize place-in) 𝓤 H A W (κ, tt) (ref b o γ ys) (id, tt) (q, tt)
+      (uint-makes 𝓤 H A W w64)
       tt i (vint w64 i) tt e (refl, gi)
 
   abbrev Upto : Type 0

@@ -1,7 +1,7 @@
 -- `evaluation::between` meets its contract: one law for each pair of sides. Assumes nothing.
 use mathlib.Core.Path.{_∙_}
 use borrow.Author.Needs.{needs}
-use Rattle.evaluation.proofs.Sides.{no-side, ask-only, bid-only, both-sides}
+use Rattle.evaluation.proofs.Sides.{between-none-is-close, between-ask-alone-is-min, between-bid-alone-is-max, between-both-is-median}
 use Rattle.evaluation.proofs.between.Statement.{statement}
 use Rattle.evaluation.proofs.between.Tie as tie
 
@@ -15,16 +15,17 @@ median-requires : tie.Need-median-requires
 median-requires c κs = search needs
 
 returns : tie.Need-returns
-returns c = no-side _ _ _ (c .before .if1 .taken) (c .if2 .taken)
+returns c = between-none-is-close _ _ _ (c .before .if1 .taken) (c .if2 .taken)
 
 returns-2 : tie.Need-returns-2
-returns-2 c = c .lesser .ensures ∙ ask-only _ _ _ (c .before .before .if1 .taken) (c .before .if2 .left)
+returns-2 c = c .lesser .ensures ∙ between-ask-alone-is-min _ _ _ (c .before .before .if1 .taken) (c .before .if2 .left)
 
 returns-3 : tie.Need-returns-3
-returns-3 c = c .greater .ensures ∙ bid-only _ _ _ (c .before .before .if1 .left) (c .before .if3 .taken)
+returns-3 c = c .greater .ensures ∙ between-bid-alone-is-max _ _ _ (c .before .before .if1 .left)
+    (c .before .if3 .taken)
 
 returns-4 : tie.Need-returns-4
-returns-4 c = c .median .ensures ∙ both-sides _ _ _ (c .before .before .if1 .left) (c .before .if3 .left)
+returns-4 c = c .median .ensures ∙ between-both-is-median _ _ _ (c .before .before .if1 .left) (c .before .if3 .left)
 
 pub between-spec : {M : Type 1} → statement M
 between-spec =

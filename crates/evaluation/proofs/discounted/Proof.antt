@@ -3,7 +3,7 @@
 use mathlib.Core.Path.{_∙_}
 use native.Mathlib.Omega.{arith}
 use borrow.Author.Needs.{needs}
-use Rattle.evaluation.proofs.Prices.{discounted-narrow}
+use Rattle.evaluation.proofs.Prices.{narrow-discount-same}
 use Rattle.evaluation.proofs.discounted.Statement.{statement}
 use Rattle.evaluation.proofs.discounted.Tie as tie
 
@@ -20,7 +20,7 @@ half-up-wide-requires : tie.Need-half-up-wide-requires
 half-up-wide-requires c κs = search needs
 
 returns : tie.Need-returns
-returns c = c .half-up .ensures ∙ discounted-narrow _ _ (omega arith)
+returns c = c .half-up .ensures ∙ narrow-discount-same _ _ (omega arith)
 
 returns-2 : tie.Need-returns-2
 returns-2 c = c .half-up-wide .ensures

@@ -6,7 +6,7 @@ use native.Mathlib.Omega.{arith}
 use borrow.Author.Needs.{needs}
 use Rattle.paper.specs.Numbers.{priceMost}
 use Rattle.evaluation.proofs.Sides.{lesser-le}
-use Rattle.evaluation.proofs.Answers.{gathered-fitted, made-beyond, made-book, close-le, between-le}
+use Rattle.evaluation.proofs.Answers.{gathered-fitted, no-book-makes-beyond, book-makes-evaluation, close-le, between-le}
 use Rattle.evaluation.proofs.evaluate.Statement.{statement}
 use Rattle.evaluation.proofs.evaluate.Tie as tie
 
@@ -61,19 +61,20 @@ returns c =
       sides .before .greater .ensures,
       sides .before .before .close-of .ensures,
     )
-    (made-book _ _ _ _ (k .gathered .given .0 .0) (sym (k .gathered .given .1) ∙ gathered-fitted numbers _ e v x))
+    (book-makes-evaluation _ _ _ _ (k .gathered .given .0 .0)
+    (sym (k .gathered .given .1) ∙ gathered-fitted numbers _ e v x))
 
 returns-2 : tie.Need-returns-2
 returns-2 c = λ numbers e v x.
-    made-beyond _ _ _ _ _ refl (sym (c .enum-told .given .1) ∙ gathered-fitted numbers _ e v x)
+    no-book-makes-beyond _ _ _ _ _ refl (sym (c .enum-told .given .1) ∙ gathered-fitted numbers _ e v x)
 
 returns-3 : tie.Need-returns-3
 returns-3 c = λ numbers e v x.
-    made-beyond _ _ _ _ _ refl (sym (c .enum-told2 .given .1) ∙ gathered-fitted numbers _ e v x)
+    no-book-makes-beyond _ _ _ _ _ refl (sym (c .enum-told2 .given .1) ∙ gathered-fitted numbers _ e v x)
 
 returns-4 : tie.Need-returns-4
 returns-4 c = λ numbers e v x.
-    made-beyond _ _ _ _ _ refl (sym (c .enum-told3 .given .1) ∙ gathered-fitted numbers _ e v x)
+    no-book-makes-beyond _ _ _ _ _ refl (sym (c .enum-told3 .given .1) ∙ gathered-fitted numbers _ e v x)
 
 pub evaluate-spec : {M : Type 1} → statement M
 evaluate-spec =

@@ -11,11 +11,11 @@ use Rattle.paper.specs.Ranges.{rowAt, wholeRows, validRow}
 use Rattle.paper_desk.specs.Evaluation.{isCrossedRow, rowFits}
 use Rattle.paper.proofs.Logic.{and-right}
 use Rattle.exact.specs.LentLaws.{place-room}
-use Rattle.rows.specs.RowLaws.{valid-sevens, valid-short, InRange, in-range}
+use Rattle.rows.specs.RowLaws.{whole-in-sevens, whole-within-most, InRange, valid-row-in-range}
 use Rattle.evaluation.specs.Book.{isTaken}
-use Rattle.evaluation.proofs.Prices.{fitting}
+use Rattle.evaluation.proofs.Prices.{roubles-are-fitting}
 use Rattle.evaluation.proofs.Books.{filled-room}
-use Rattle.evaluation.proofs.Gathering.{Gathering, no-book, gathered-out, torn-out, gathering-first, gathering-out, gathering-refused, gathering-next, gathering-end}
+use Rattle.evaluation.proofs.Gathering.{Gathering, no-book-gathers, gathered-out, torn-rows-not-valid, gathering-first, row-out-of-range-not-valid, row-refused-not-all-taken, gathering-next, walked-rows-gather}
 use Rattle.evaluation.proofs.gather.Statement.{statement}
 use Rattle.evaluation.proofs.gather.Tie as tie
 
@@ -30,7 +30,8 @@ whole-rows-requires c κs = search needs
 
 returns : tie.Need-returns Inv-loop μ-loop
 returns c =
-    no-book _ _ refl (gathered-out _ (torn-out _ (sym (c .before .whole-rows .ensures) ∙ not-true _ (c .if1 .taken))))
+    no-book-gathers _ _ refl (gathered-out _ (torn-rows-not-valid _
+    (sym (c .before .whole-rows .ensures) ∙ not-true _ (c .if1 .taken))))
 
 loop-holds : tie.Need-loop-holds Inv-loop μ-loop
 loop-holds c = gathering-first _
@@ -40,7 +41,8 @@ whole c = sym (c .before .whole-rows .ensures) ∙ not-false _ (c .if1 .left)
 
 room : (c : tie.In-loop Inv-loop μ-loop)
     → c .before .loop .at + rowNumbers ≤ length (c .before .before .before .before .args .rows .now)
-room c = place-room _ _ _ (valid-sevens _ (whole (c .before .before))) (c .before .loop .inv .place) (c .loop-test .taken)
+room c = place-room _ _ _ (whole-in-sevens _ (whole (c .before .before))) (c .before .loop .inv .place)
+    (c .loop-test .taken)
 
 row-valid-requires : tie.Need-row-valid-requires Inv-loop μ-loop
 row-valid-requires c κs = room c
@@ -48,9 +50,9 @@ row-valid-requires c κs = room c
 returns-2 : tie.Need-returns-2 Inv-loop μ-loop
 returns-2 c =
     let l = c .before .before in
-    no-book _ _ refl
+    no-book-gathers _ _ refl
     (gathered-out _
-    (gathering-out _ _ _ (room l) (l .before .loop .inv) (whole (l .before .before))
+    (row-out-of-range-not-valid _ _ _ (room l) (l .before .loop .inv) (whole (l .before .before))
     (sym (c .before .row-valid .ensures) ∙ not-true _ (c .if2 .taken))))
 
 valid : (c : tie.Else2 Inv-loop μ-loop)
@@ -63,7 +65,7 @@ row-at-requires c κs = (room (c .before .before), valid c)
 
 -- the row at hand is in range
 range : (c : tie.After-row-at Inv-loop μ-loop) → InRange (c .row-at .result)
-range c = rw (c .row-at .ensures) (in-range _ (valid (c .before)))
+range c = rw (c .row-at .ensures) (valid-row-in-range _ (valid (c .before)))
 
 in-roubles-requires : tie.Need-in-roubles-requires Inv-loop μ-loop
 in-roubles-requires c κs = range c
@@ -75,7 +77,7 @@ refused-requires : tie.Need-refused-requires Inv-loop μ-loop
 refused-requires c κs =
     let m = c .before in
     let l = m .before .before .before .before .before in
-    gathering-refused _ _ _ (room l) (l .before .loop .inv) _ (m .before .before .row-at .ensures)
+    row-refused-not-all-taken _ _ _ (room l) (l .before .loop .inv) _ (m .before .before .row-at .ensures)
     (sym (m .row-taken .ensures) ∙ not-true _ (c .if3 .taken))
 
 returns-3 : tie.Need-returns-3 Inv-loop μ-loop
@@ -91,8 +93,8 @@ add-requires c κs =
     let l = m .before .before .before .before .before in
     rw (m .before .in-roubles .ensures)
     (filled-room (l .before .loop .at) _ _
-    (omega (arith, room l, valid-short _ (whole (l .before .before)))) (l .before .loop .inv .filled)
-    (fitting _ (range (m .before .before)) (and-right (not (isCrossedRow row)) (rowFits row) (fine c))))
+    (omega (arith, room l, whole-within-most _ (whole (l .before .before)))) (l .before .loop .inv .filled)
+    (roubles-are-fitting _ (range (m .before .before)) (and-right (not (isCrossedRow row)) (rowFits row) (fine c))))
 
 add-at : tie.Need-add-at Inv-loop μ-loop
 add-at c = omega (arith, room (c .before .before .before .before .before .before .before))
@@ -110,7 +112,7 @@ loop-again c =
     (fine (c .before)))
 
 returns-4 : tie.Need-returns-4 Inv-loop μ-loop
-returns-4 c = gathering-end _ _ _ (whole (c .before .before)) (c .loop-test .left) (c .before .loop .inv)
+returns-4 c = walked-rows-gather _ _ _ (whole (c .before .before)) (c .loop-test .left) (c .before .loop .inv)
 
 pub gather-spec : {M : Type 1} → statement M
 gather-spec =

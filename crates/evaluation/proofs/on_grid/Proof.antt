@@ -3,7 +3,7 @@ use mathlib.Core.Path.{_≡_, sym, ap, _∙_}
 use borrow.Author.Needs.{needs}
 use Rattle.paper.specs.Roundings.{toGrid}
 use Rattle.paper.specs.Ranges.{priceMade}
-use Rattle.evaluation.proofs.Answers.{from-made, from-out}
+use Rattle.evaluation.proofs.Answers.{made-price-is-evaluated, price-out-of-range-is-beyond}
 use Rattle.evaluation.proofs.on_grid.Statement.{statement}
 use Rattle.evaluation.proofs.on_grid.Tie as tie
 
@@ -25,10 +25,10 @@ asked : (c : tie.After-new)
 asked c = c .new .ensures ∙ ap priceMade (c .before .to-grid .ensures)
 
 returns : tie.Need-returns
-returns c = from-made _ _ _ (sym (c .before .made .given .1) ∙ asked (c .before .before .before))
+returns c = made-price-is-evaluated _ _ _ (sym (c .before .made .given .1) ∙ asked (c .before .before .before))
 
 returns-2 : tie.Need-returns-2
-returns-2 c = from-out _ _ (sym (c .enum-told .given .1) ∙ asked (c .before .before))
+returns-2 c = price-out-of-range-is-beyond _ _ (sym (c .enum-told .given .1) ∙ asked (c .before .before))
 
 pub on-grid-spec : {M : Type 1} → statement M
 on-grid-spec =

@@ -6,12 +6,12 @@ use native.Mathlib.Omega.{arith}
 use borrow.Author.Needs.{needs}
 use Rattle.paper.specs.Numbers.{priceMost, centralMost}
 use Rattle.paper_desk.specs.Evaluation.{rowPrice}
-use Rattle.evaluation.proofs.Prices.{days-in-range, none-stays}
+use Rattle.evaluation.proofs.Prices.{days-in-range, price-of-none-is-none}
 use Rattle.evaluation.proofs.row_price.Statement.{statement}
 use Rattle.evaluation.proofs.row_price.Tie as tie
 
 returns : tie.Need-returns
-returns c = rw (c .if1 .taken) (none-stays _ (c .before .pre .0))
+returns c = rw (c .if1 .taken) (price-of-none-is-none _ (c .before .pre .0))
 
 product : (c : tie.Start) → c .args .price * c .args .row .central ≤ priceMost * centralMost
 product c = mul-le-mul (c .pre .1) (c .pre .0 .central)

@@ -2,15 +2,15 @@
 -- nothing.
 use lib.IntN.{negsuc, _-ℤ_}
 use mir.Facts.{toZ-ofZ}
-use Rattle.exact.proofs.Sign.{Arm, size-below, size-above}
+use Rattle.exact.proofs.Sign.{Arm, below-zero-takes-its-arm, not-below-zero-takes-its-arm}
 use Rattle.exact.proofs.magnitude.Statement.{statement}
 use Rattle.exact.proofs.magnitude.Tie as tie
 
 below : (c : tie.Then1) → Arm (negsuc 0 -ℤ c .before .args .x) (c .before .args .x)
-below c = size-below _ (c .before .fits .x) (rw (toZ-ofZ (c .before .fits .x)) at (c .if1 .taken))
+below c = below-zero-takes-its-arm _ (c .before .fits .x) (rw (toZ-ofZ (c .before .fits .x)) at (c .if1 .taken))
 
 above : (c : tie.Else1) → Arm (c .before .args .x) (c .before .args .x)
-above c = size-above _ (c .before .fits .x) (rw (toZ-ofZ (c .before .fits .x)) at (c .if1 .left))
+above c = not-below-zero-takes-its-arm _ (c .before .fits .x) (rw (toZ-ofZ (c .before .fits .x)) at (c .if1 .left))
 
 sub-result : tie.Need-sub-result
 sub-result c = rw (toZ-ofZ (c .before .fits .x)) (below c .signed)

@@ -7,7 +7,7 @@ use mir.Syntax.{w64}
 use mir.Val.{SFits}
 use mir.Facts.{toZ-ofZ}
 use borrow.Author.Needs.{needs}
-use Rattle.exact.proofs.Sign.{Arm, size-above, unsigned-above}
+use Rattle.exact.proofs.Sign.{Arm, not-below-zero-takes-its-arm, unsigned-above}
 use Rattle.exact.proofs.natural_at.Statement.{statement}
 use Rattle.exact.proofs.natural_at.Tie as tie
 
@@ -25,7 +25,7 @@ fits : (c : tie.After-result) → SFits w64 (given c)
 fits c = record { sfits = c .result .given }
 
 as-it-is : (c : tie.After-result) → Arm (given c) (given c)
-as-it-is c = size-above (given c) (fits c) (c .before .pre .1)
+as-it-is c = not-below-zero-takes-its-arm (given c) (fits c) (c .before .pre .1)
 
 cast-result : tie.Need-cast-result
 cast-result c = rw (toZ-ofZ (fits c)) (as-it-is c .cast)

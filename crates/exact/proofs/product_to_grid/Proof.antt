@@ -6,7 +6,7 @@ use native.Mathlib.Omega.{arith}
 use Rattle.paper.specs.Numbers.{coarsestGrid, priceMost}
 use Rattle.paper.specs.Roundings.{rounded}
 use Rattle.exact.specs.Wide.{spreadMost, yearMost, scaleLeast, scaleMost}
-use Rattle.exact.proofs.Quotients.{grid-low}
+use Rattle.exact.proofs.Quotients.{rounded-below-next-step}
 use Rattle.exact.proofs.product_to_grid.Statement.{statement}
 use Rattle.exact.proofs.product_to_grid.Tie as tie
 
@@ -42,7 +42,7 @@ mul-result c =
     let g = s .args .g in
     let n : ℕ = s .args .p * s .args .a * s .args .b in
     let d = s .args .d in
-    let low = grid-low (s .args .way) g n d (s .pre .grid) (omega (arith, s .pre .low)) in
+    let low = rounded-below-next-step (s .args .way) g n d (s .pre .grid) (omega (arith, s .pre .low)) in
     let small : rounded (s .args .way) n (d * g) * g < 2 ^ 63 =
     lt-of-mul-lt-mul-right d {m = rounded (s .args .way) n (d * g) * g} {n = 2 ^ 63} (omega (arith, bounds s)) in
     rw (c .rounded-wide .ensures) (omega arith)

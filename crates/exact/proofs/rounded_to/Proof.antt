@@ -4,7 +4,7 @@ use native.Mathlib.Nat.{mul-pos, le-mul-of-pos-right}
 use native.Mathlib.Omega.{arith}
 use borrow.Author.Needs.{needs}
 use Rattle.paper.specs.Roundings.{rounded}
-use Rattle.exact.proofs.Quotients.{grid-low}
+use Rattle.exact.proofs.Quotients.{rounded-below-next-step}
 use Rattle.exact.proofs.rounded_to.Statement.{statement}
 use Rattle.exact.proofs.rounded_to.Tie as tie
 
@@ -21,7 +21,7 @@ mul-result c =
     let n = s .args .n in
     let d = s .args .d in
     let more = le-mul-of-pos-right (rounded (s .args .way) n (d * g) * g) (s .pre .1) in
-    rw (c .rounded .ensures) (omega (arith, grid-low (s .args .way) g n d (s .pre .0) (s .pre .1)))
+    rw (c .rounded .ensures) (omega (arith, rounded-below-next-step (s .args .way) g n d (s .pre .0) (s .pre .1)))
 
 returns : tie.Need-returns
 returns c = rw (c .rounded .ensures)

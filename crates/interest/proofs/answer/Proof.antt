@@ -21,9 +21,8 @@ ruled : (c : tie.Else1) → (validInterest (c .before .before .before .args .i)
 ruled c = sym (rule (c .before)) ∙ not-false _ (c .if1 .left)
 
 ordered : (c : tie.Else2)
-    → (ascending (maturitiesOf (c .before .before .before .before .before .args .numbers .now))
-    && ltb (c .before .before .before .before .before .args .i .ym)
-    (c .before .before .before .before .before .args .i .yn)) ≡ true
+    → let start = c .before .before .before .before .before in
+    (ascending (maturitiesOf (start .args .numbers .now)) && ltb (start .args .i .ym) (start .args .i .yn)) ≡ true
 ordered c = sym (c .before .in-order .ensures) ∙ not-false _ (c .if2 .left)
 
 interest-valid-requires : tie.Need-interest-valid-requires

@@ -16,17 +16,17 @@ use Rattle.paper.specs.declared.Term.{Term}
 use Rattle.paper.specs.Ranges.{validTerm}
 use Rattle.paper_desk.specs.Limits.{bandOf, countOf}
 use Rattle.limits.specs.Sides.{repoOf}
-use Rattle.limits.specs.LimitRanges.{BandInputs, TermInputs, side-inputs, term-repo}
+use Rattle.limits.specs.LimitRanges.{BandInputs, TermInputs, term-has-band-inputs, term-repo-within-most}
 use Rattle.limits.proofs.band_of.Statement.{statement}
 use Rattle.limits.proofs.band_of.Tie as tie
 
 -- a repo rate is its own bits read back
 bits : (side : Side) (x : Term) → validTerm x ≡ true → toZ w64 (ofZ w64 (repoOf side x)) ≡ repoOf side x
-bits side x v = toZ-ofZ (record { sfits = omega (arith, term-repo side x v) })
+bits side x v = toZ-ofZ (record { sfits = omega (arith, term-repo-within-most side x v) })
 
 inputs : (p : Price) (s1 : Rate) (side : Side) (c : Moves) (x : Term) → TermInputs p s1 c x
     → BandInputs p s1 (countOf side c) (x .k) (toZ w64 (ofZ w64 (repoOf side x)))
-inputs p s1 side c x r = rw (bits side x (r .term)) (side-inputs p s1 side c x r)
+inputs p s1 side c x r = rw (bits side x (r .term)) (term-has-band-inputs p s1 side c x r)
 
 limit-within-requires : tie.Need-limit-within-requires
 limit-within-requires c κs =

@@ -4,7 +4,7 @@ use native.Mathlib.Omega.{arith}
 use borrow.Author.Needs.{needs}
 use Rattle.paper_desk.specs.Limits.{deltaOf, limitOf}
 use Rattle.limits.specs.LimitRanges.{LimitStatics, valid-limit-statics}
-use Rattle.limits.specs.LimitLaws.{grid-range}
+use Rattle.limits.specs.LimitLaws.{grid-in-range}
 use Rattle.limits.specs.LimitBounds.{DeltaSizes, delta-sizes}
 use Rattle.limits.proofs.delta.Statement.{statement}
 use Rattle.limits.proofs.delta.Tie as tie
@@ -34,7 +34,7 @@ rounded-to-requires : tie.Need-rounded-to-requires
 rounded-to-requires c κs =
     let g = c .before .before .before .before in
     let s = g .before in
-    rw (g .grid-of .ensures) (omega (arith, grid-range (s .args .st .lot), statics s, sizes s))
+    rw (g .grid-of .ensures) (omega (arith, grid-in-range (s .args .st .lot), statics s, sizes s))
 
 returns : tie.Need-returns
 unfolding deltaOf limitOf

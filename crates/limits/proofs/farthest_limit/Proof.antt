@@ -2,7 +2,7 @@
 -- nothing.
 use borrow.Author.Needs.{needs}
 use Rattle.limits.specs.LimitRanges.{valid-limit-statics}
-use Rattle.limits.specs.LimitLaws.{farthest-high, farthest-is}
+use Rattle.limits.specs.LimitLaws.{farthest-high, farthest-is-shifted}
 use Rattle.limits.proofs.farthest_limit.Statement.{statement}
 use Rattle.limits.proofs.farthest_limit.Tie as tie
 
@@ -28,7 +28,7 @@ returns c =
       c .shifted-limit .ensures,
       c .before .before .inward .ensures,
       c .before .farthest-rate .ensures,
-      farthest-is (a .st) (a .side) (a .p .units),
+      farthest-is-shifted (a .st) (a .side) (a .p .units),
     )
 
 pub farthest-limit-spec : {M : Type 1} → statement M

@@ -4,7 +4,7 @@ use mathlib.Core.Path.{sym, _∙_}
 use mir.Facts.{toZ-ofZ}
 use borrow.Author.Needs.{needs}
 use Rattle.limits.specs.LimitRanges.{valid-limit-statics}
-use Rattle.limits.specs.LimitLaws.{band-monitored, band-unmonitored}
+use Rattle.limits.specs.LimitLaws.{band-is-narrower, band-is-farthest}
 use Rattle.limits.proofs.limit_within.Statement.{statement}
 use Rattle.limits.proofs.limit_within.Tie as tie
 
@@ -21,14 +21,15 @@ returns c =
     let a = s .args in
     let v = valid-limit-statics (a .st) (s .pre .0) in
     rw (c .narrower .ensures, s .pre .1 .1, m .monitored-limit .ensures, toZ-ofZ (s .fits .repo))
-    (sym (band-monitored (a .st) (a .side) (a .p .units) (a .s1 .bp) (a .c) (a .k) (a .repo) v (m .before .if1 .taken)))
+    (sym (band-is-narrower (a .st) (a .side) (a .p .units) (a .s1 .bp) (a .c) (a .k) (a .repo) v
+    (m .before .if1 .taken)))
 
 returns-2 : tie.Need-returns-2
 returns-2 c =
     let s = c .before in
     let a = s .args in
     s .pre .1 .1
-    ∙ sym (band-unmonitored (a .st) (a .side) (a .p .units) (a .s1 .bp) (a .c) (a .k) (a .repo) (c .if1 .left))
+    ∙ sym (band-is-farthest (a .st) (a .side) (a .p .units) (a .s1 .bp) (a .c) (a .k) (a .repo) (c .if1 .left))
 
 pub limit-within-spec : {M : Type 1} → statement M
 limit-within-spec =

@@ -13,10 +13,10 @@ use Rattle.paper.specs.Numbers.{yearInDayBp}
 use Rattle.paper.specs.Roundings.{grown}
 use Rattle.paper.proofs.Logic.{and-left, and-right}
 use Rattle.paper_desk.specs.Limits.{limitOf, inward, monitored}
-use Rattle.exact.specs.SignedLaws.{grown-range}
+use Rattle.exact.specs.SignedLaws.{grown-near-base}
 use Rattle.exact.specs.Wide.{yearMost}
 use Rattle.limits.specs.LimitRanges.{LimitStatics, valid-limit-statics}
-use Rattle.limits.specs.LimitLaws.{grid-range, spread-high, unmoved-spread-high, unmoved-is-monitored-limit}
+use Rattle.limits.specs.LimitLaws.{grid-in-range, spread-high, unmoved-spread-high, unmoved-is-monitored-limit}
 use Rattle.limits.proofs.monitored_limit.Statement.{statement}
 use Rattle.limits.proofs.monitored_limit.Tie as tie
 
@@ -34,7 +34,7 @@ days-high c =
     omega (
       arith,
       days c,
-      grown-range yearInDayBp (s .args .k) (s .args .repo) (s .pre .1 .days)
+      grown-near-base yearInDayBp (s .args .k) (s .args .repo) (s .pre .1 .days)
           (s .pre .1 .repo-high) .0,
     )
 
@@ -85,7 +85,7 @@ rounded-to-requires c κs =
     let st = g .before .before .args .st in
     let v = statics (g .before .before) in
     rw (g .grid-of .ensures)
-    (omega (arith, whole-fits c, v, grid-range (st .lot), mul-le-mul (v .divisor-high) (grid-range (st .lot) .1)))
+    (omega (arith, whole-fits c, v, grid-in-range (st .lot), mul-le-mul (v .divisor-high) (grid-in-range (st .lot) .1)))
 
 returns : tie.Need-returns
 returns c =
@@ -123,7 +123,7 @@ product-to-grid-requires c κs =
     let b = s .pre .1 in
     let most = spread-high (a .st) (a .side) (a .s1 .bp) (a .c) (statics s) (b .rate-high) (b .moves-high) in
     rw (grow .before .grid-of .ensures, c .spread .ensures)
-    (omega (arith, grid-range (a .st .lot), most, statics s, days-high grow))
+    (omega (arith, grid-in-range (a .st .lot), most, statics s, days-high grow))
 
 returns-2 : tie.Need-returns-2
 unfolding limitOf monitored

@@ -1,7 +1,7 @@
 -- `limits::shifted_limit` meets its contract: the quotient, rounded once to the grid of the lot. Assumes nothing.
 use borrow.Author.Needs.{needs}
 use Rattle.paper_desk.specs.Limits.{limitOf}
-use Rattle.limits.specs.LimitLaws.{shifted-den, shifted-high}
+use Rattle.limits.specs.LimitLaws.{shifted-den-is-one, shifted-high}
 use Rattle.limits.proofs.shifted_limit.Statement.{statement}
 use Rattle.limits.proofs.shifted_limit.Tie as tie
 
@@ -20,7 +20,7 @@ returns c =
     rw (
       c .bp-to-grid .ensures,
       c .before .shifted .ensures,
-      shifted-den (a .side) (a .p .units) (a .rate .bp),
+      shifted-den-is-one (a .side) (a .p .units) (a .rate .bp),
     )
 
 pub shifted-limit-spec : {M : Type 1} → statement M

@@ -3,7 +3,7 @@ use mathlib.Core.Path.{_≡_}
 use native.Mathlib.Omega.{arith}
 use lib.Signed.{mag}
 use mir.Facts.{toZ-ofZ}
-use Rattle.message_bytes.proofs.Halves.{of-negative, of-other}
+use Rattle.message_bytes.proofs.Halves.{rest-is-complement, mag-is-complement}
 use borrow.Author.Needs.{needs}
 use Rattle.message_bytes.proofs.complement.Statement.{statement}
 use Rattle.message_bytes.proofs.complement.Tie as tie
@@ -24,11 +24,11 @@ sub-result c = let m = sized (c .before .before) in omega (arith, m, c .greatest
 returns : tie.Need-returns
 returns c =
     rw (sized (c .before .before), c .greatest .ensures)
-    (of-negative _ _ (rw (toZ-ofZ (c .before .before .before .fits .value)) at (c .before .if1 .taken)))
+    (rest-is-complement _ _ (rw (toZ-ofZ (c .before .before .before .fits .value)) at (c .before .if1 .taken)))
 
 returns-2 : tie.Need-returns-2
 returns-2 c =
-    rw (sized (c .before)) (of-other _ _ (rw (toZ-ofZ (c .before .before .fits .value)) at (c .if1 .left)))
+    rw (sized (c .before)) (mag-is-complement _ _ (rw (toZ-ofZ (c .before .before .fits .value)) at (c .if1 .left)))
 
 pub complement-spec : {M : Type 1} → statement M
 complement-spec =

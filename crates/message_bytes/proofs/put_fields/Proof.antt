@@ -4,7 +4,7 @@ use mir.Syntax.{w64}
 use Prim.Native.Nat.{_-_}
 use native.Mathlib.Omega.{arith}
 use borrow.Author.Needs.{needs}
-use Rattle.message_bytes.proofs.Walks.{Packing, packing-none, packing-room, packing-mag, packing-more, packing-all}
+use Rattle.message_bytes.proofs.Walks.{Packing, packing-none, packing-room, packed-mag-in-width, packing-more, packing-all}
 use Rattle.message_bytes.proofs.put_fields.Statement.{statement}
 use Rattle.message_bytes.proofs.put_fields.Tie as tie
 
@@ -34,7 +34,7 @@ complement-requires c κs =
     let l = c .before .before .before .before in (
       packing-room _ _ _ _ _ _ _ (l .loop .inv) (omega arith) .1,
       rw (toZ-ofZ {w = w64} (record { sfits = c .complement-arg .given }))
-          (packing-mag _ _ _ _ _ _ _ (l .loop .inv) (omega arith)),
+          (packed-mag-in-width _ _ _ _ _ _ _ (l .loop .inv) (omega arith)),
     )
 
 put-number-requires : tie.Need-put-number-requires Inv-loop μ-loop

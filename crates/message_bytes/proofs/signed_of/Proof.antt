@@ -4,7 +4,7 @@ use mir.Facts.{toZ-ofZ, toZ-pos}
 use mir.Syntax.{w64}
 use Rattle.paper_messages.specs.Bytes.{inWidth, widthMost}
 use Rattle.message_bytes.specs.Asked.{greatestOf}
-use Rattle.message_bytes.proofs.Halves.{lower-fits, lower-is, down, upper-small, upper-fits, upper-is}
+use Rattle.message_bytes.proofs.Halves.{lower-fits, lower-is-signed, minus-one-less-is-negsuc, upper-small, upper-fits, upper-is-signed}
 use borrow.Author.Needs.{needs}
 use Rattle.message_bytes.proofs.signed_of.Statement.{statement}
 use Rattle.message_bytes.proofs.signed_of.Tie as tie
@@ -32,14 +32,14 @@ high c = rw (c .before .greatest .ensures) at (c .if1 .left)
 sub-result-2 : tie.Need-sub-result-2
 sub-result-2 c =
     let k = high c in
-    rw (c .before .greatest .ensures, toZ-pos w64 (upper-small _ _ (pre c .0) (pre c .1) k), down _)
+    rw (c .before .greatest .ensures, toZ-pos w64 (upper-small _ _ (pre c .0) (pre c .1) k), minus-one-less-is-negsuc _)
     (upper-fits _ _ (pre c .0) (pre c .1) k)
 
 returns : tie.Need-returns
 returns c =
     let low = rw (c .before .greatest .ensures) at (c .if1 .taken) in
     let p = c .before .before .pre in
-    rw (toZ-pos w64 (lower-fits _ _ (p .0) (p .1) low)) (lower-is _ _ (p .0) (p .1) low)
+    rw (toZ-pos w64 (lower-fits _ _ (p .0) (p .1) low)) (lower-is-signed _ _ (p .0) (p .1) low)
 
 returns-2 : tie.Need-returns-2
 returns-2 c =
@@ -47,9 +47,9 @@ returns-2 c =
     rw (
       c .before .greatest .ensures,
       toZ-pos w64 (upper-small _ _ (pre c .0) (pre c .1) k),
-      down _,
+      minus-one-less-is-negsuc _,
       toZ-ofZ (upper-fits _ _ (pre c .0) (pre c .1) k),
-    ) (upper-is _ _ (pre c .0) (pre c .1) k)
+    ) (upper-is-signed _ _ (pre c .0) (pre c .1) k)
 
 pub signed-of-spec : {M : Type 1} → statement M
 signed-of-spec =

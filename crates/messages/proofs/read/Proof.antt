@@ -3,7 +3,7 @@ use mathlib.Core.Path.{_∙_}
 use native.Mathlib.Omega.{arith}
 use borrow.Author.Tests.{le-leb, lt-leb}
 use Rattle.paper_messages.specs.Messages.{lengthLeast, lengthMost}
-use Rattle.messages.proofs.Reading.{no-length, bad-length, cut-body}
+use Rattle.messages.proofs.Reading.{no-length-is-cut-short, bad-length-is-wrong, cut-body-is-cut-short}
 use borrow.Author.Needs.{needs}
 use Rattle.messages.proofs.read.Statement.{statement}
 use Rattle.messages.proofs.read.Tie as tie
@@ -12,7 +12,7 @@ refused-requires : tie.Need-refused-requires
 refused-requires c κs = search needs
 
 returns : tie.Need-returns
-returns c = c .refused .ensures ∙ no-length _ _ (omega arith)
+returns c = c .refused .ensures ∙ no-length-is-cut-short _ _ (omega arith)
 
 sub-if2 : tie.Need-sub-if2
 sub-if2 c = search needs
@@ -21,7 +21,7 @@ refused-requires-2 : tie.Need-refused-requires-2
 refused-requires-2 c κs = search needs
 
 returns-2 : tie.Need-returns-2
-returns-2 c = c .refused2 .ensures ∙ no-length _ _ (omega arith)
+returns-2 c = c .refused2 .ensures ∙ no-length-is-cut-short _ _ (omega arith)
 
 get-number-requires : tie.Need-get-number-requires
 get-number-requires c κs = search needs
@@ -32,7 +32,7 @@ refused-requires-3 c κs = search needs
 returns-3 : tie.Need-returns-3
 returns-3 c =
     c .refused3 .ensures
-    ∙ bad-length _ _ _ (c .before .before .get-number .ensures .0) (omega arith)
+    ∙ bad-length-is-wrong _ _ _ (c .before .before .get-number .ensures .0) (omega arith)
     (rw (lt-leb lengthLeast _ (c .before .if3 .taken)))
 
 refused-requires-4 : tie.Need-refused-requires-4
@@ -41,7 +41,7 @@ refused-requires-4 c κs = search needs
 returns-4 : tie.Need-returns-4
 returns-4 c =
     c .refused4 .ensures
-    ∙ bad-length _ _ _ (c .before .before .before .get-number .ensures .0) (omega arith)
+    ∙ bad-length-is-wrong _ _ _ (c .before .before .before .get-number .ensures .0) (omega arith)
     (rw (le-leb lengthLeast _ (c .before .before .if3 .left), lt-leb _ lengthMost (c .before .if4 .taken)))
 
 sub-if5 : tie.Need-sub-if5
@@ -56,7 +56,7 @@ refused-requires-5 c κs = search needs
 returns-5 : tie.Need-returns-5
 returns-5 c =
     c .refused5 .ensures
-    ∙ cut-body _ _ _ (c .before .before .before .before .get-number .ensures .0) (omega arith)
+    ∙ cut-body-is-cut-short _ _ _ (c .before .before .before .before .get-number .ensures .0) (omega arith)
     (rw (
       le-leb lengthLeast _ (c .before .before .before .if3 .left),
       le-leb _ lengthMost (c .before .before .if4 .left),

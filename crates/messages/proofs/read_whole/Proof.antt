@@ -7,7 +7,7 @@ use lib.ListN.{drop}
 use Rattle.paper_messages.specs.Fields.{placesOf}
 use Rattle.paper_messages.specs.Messages.{lengthWidth, kindWidth, lengthOf, isKnown, valuesAt}
 use borrow.Author.Tests.{not-true, not-false}
-use Rattle.messages.proofs.Reading.{skipped, wrong-length, out-of-range, heard, room-for}
+use Rattle.messages.proofs.Reading.{skipped, other-length-is-wrong, out-of-range, heard, room-for}
 use borrow.Author.Needs.{needs}
 use Rattle.messages.proofs.read_whole.Statement.{statement}
 use Rattle.messages.proofs.read_whole.Tie as tie
@@ -58,7 +58,7 @@ returns-2 c =
     let s = named .before .before .before .before in
     let n = c .before .before .length-of .ensures in
     c .refused .ensures
-    ∙ wrong-length _ _ _ _ (s .pre) (named .before .before .get-number .ensures .0) (known named)
+    ∙ other-length-is-wrong _ _ _ _ (s .pre) (named .before .before .get-number .ensures .0) (known named)
     (λ e. c .before .if2 .taken (e ∙ sym n))
 
 add-get-fields : tie.Need-add-get-fields

@@ -9,7 +9,7 @@ use Rattle.paper_messages.specs.Bytes.{bytesOf}
 use native.Mathlib.Omega.{arith}
 use borrow.Author.Tests.{not-true, not-false}
 use Rattle.paper_messages.specs.Messages.{lengthWidth, kindWidth, lengthOf, valid}
-use Rattle.messages.proofs.Writing.{length-most, length-least, out-of-range, no-room, fields-room, wrote}
+use Rattle.messages.proofs.Writing.{length-within-most, length-at-least-least, out-of-range, no-room, fields-room, wrote}
 use borrow.Author.Needs.{needs}
 use Rattle.messages.proofs.write.Statement.{statement}
 use Rattle.messages.proofs.write.Tie as tie
@@ -29,7 +29,7 @@ length-of-requires c κs = search needs
 add-whole : tie.Need-add-whole
 add-whole c =
     let s = c .before .before .before .before .before in
-    omega (arith, c .length-of .ensures, length-most (s .args .m .kind))
+    omega (arith, c .length-of .ensures, length-within-most (s .args .m .kind))
 
 returns-2 : tie.Need-returns-2
 returns-2 c = no-room _ _ (good (c .before .before .before)) (omega (arith, c .before .length-of .ensures))
@@ -70,7 +70,7 @@ put-number-requires-2 c κs =
     let stored = c .before .before .before in
     let s = stored .before .before .before .before .before .before .before .before in
     let fits = enough (stored .before .before) in
-    omega (arith, first-length stored, fits, length-least (s .args .m .kind))
+    omega (arith, first-length stored, fits, length-at-least-least (s .args .m .kind))
 
 places-of-requires : tie.Need-places-of-requires
 places-of-requires c κs = search needs

@@ -6,10 +6,10 @@ use native.Mathlib.Omega.{arith}
 use Rattle.paper.specs.declared.Statics.{Statics}
 use Rattle.paper_desk.specs.Rates.{tentativeRate, tentativeRateOf, figuresByVolatility}
 use Rattle.paper.specs.Numbers.{volatilityMost}
-use Rattle.paper_desk.proofs.TentativeRange.{valid-high, tentative-rate-in}
+use Rattle.paper_desk.proofs.TentativeRange.{valid-tentative-within-top, tentative-rate-in}
 use Rattle.paper.proofs.Logic.{pick-false}
 use Rattle.rates.specs.Asked.{RateStatics, tentativeBound}
-use Rattle.rates.proofs.Statics.{top-within}
+use Rattle.rates.proofs.Statics.{within-tentative-bound}
 use Rattle.rates.proofs.figures_by_volatility.Statement.{statement}
 use Rattle.rates.proofs.figures_by_volatility.Tie as tie
 
@@ -18,7 +18,7 @@ t-high : (st : Statics) (s : ℕ) → RateStatics st → s ≤ volatilityMost �
 unfolding tentativeRateOf
 t-high st s r h =
     let in-range = tentative-rate-in st false 0 s (r .step-low) (r .multiplier-high) (omega arith) h in
-    top-within r (valid-high _ _ in-range)
+    within-tentative-bound r (valid-tentative-within-top _ _ in-range)
 
 tentative-rate-requires : tie.Need-tentative-rate-requires
 tentative-rate-requires c κs = (c .before .pre .statics, c .before .pre .volatility)

@@ -6,9 +6,9 @@ use borrow.Author.Needs.{needs}
 use Rattle.paper.specs.Numbers.{volatilityMost}
 use Rattle.paper_desk.specs.Rates.{modelled, Weighing}
 use Rattle.paper_desk.proofs.Bounds.{volatility-high}
-use Rattle.paper_desk.proofs.TentativeRange.{valid-high, tentative-rate-in}
+use Rattle.paper_desk.proofs.TentativeRange.{valid-tentative-within-top, tentative-rate-in}
 use Rattle.rates.specs.Asked.{tentativeBound}
-use Rattle.rates.proofs.Statics.{rates-weighing, top-within}
+use Rattle.rates.proofs.Statics.{rates-weighing, within-tentative-bound}
 use Rattle.rates.proofs.modelled.Statement.{statement}
 use Rattle.rates.proofs.modelled.Tie as tie
 
@@ -44,7 +44,7 @@ t-high c =
     let st = start .pre .0 .statics in
     let in-range = tentative-rate-in _ _ _ _ (st .step-low) (st .multiplier-high) (start .pre .1) (s-high
     (c .before)) in
-    rw (c .tentative-rate-of .ensures) (top-within st (valid-high _ _ in-range))
+    rw (c .tentative-rate-of .ensures) (within-tentative-bound st (valid-tentative-within-top _ _ in-range))
 
 rated-requires : tie.Need-rated-requires
 rated-requires c κs =

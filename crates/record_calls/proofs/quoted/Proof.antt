@@ -19,9 +19,9 @@ verdict : (c : tie.After-shared-checks)
     (c .before .before .before .args .s .rec))
 verdict c = rw (c .before .valid-quote .ensures) at (c .shared-checks .ensures)
 
-past : (c : tie.Else1) → Passed (isKnown (c .before .before .before .before .before .args .s))
-    (validQuote (c .before .before .before .before .before .args .q))
-    (c .before .before .before .before .before .args .s .rec)
+past : (c : tie.Else1)
+    → let start = c .before .before .before .before .before in
+    Passed (isKnown (start .args .s)) (validQuote (start .args .q)) (start .args .s .rec)
 past c =
     past-shared _ _ _ (passed _ (c .before .is-done .ensures ∙ ap isDone (verdict (c .before .before))) (c .if1 .left))
 

@@ -4,7 +4,7 @@ use mathlib.Core.Path.{_≡_, sym, ap, _∙_}
 use mathlib.Core.Bool.{true, false}
 use lib.Dec.{leb}
 use borrow.Author.Tests.{le-leb, lt-leb}
-use Rattle.paper_desk.proofs.LimitSizes.{grid-range}
+use Rattle.paper_desk.proofs.LimitSizes.{grid-in-range}
 use Rattle.paper.specs.Ranges.{gridOf, lastDay, validDay}
 use Rattle.paper_desk.specs.Evaluation.{dayRows, hasCrossedRow}
 use Rattle.paper_desk.specs.Desk.{usedBy}
@@ -14,7 +14,7 @@ use Rattle.record_answers.specs.Effects.{isKnown}
 use Rattle.record_evaluation.specs.Workings.{Begun}
 use Rattle.record_answers.proofs.Tests.{passed, failed, known-sound}
 use Rattle.record_evaluation.proofs.Judging.{day-unknown, day-out, day-row-crossed, day-not-after, day-beyond}
-use Rattle.record_evaluation.proofs.Evaluations.{day-valid-parts, day-gathered, crossed-gathered, used-prices-within-most, beyond-does-not-fit, Made, made}
+use Rattle.record_evaluation.proofs.Evaluations.{day-valid-parts, day-gathered, crossed-gathered, used-prices-within-most, beyond-does-not-fit, Made, evaluated-is-made}
 use borrow.Author.Needs.{needs}
 use Rattle.record_evaluation.proofs.worked.Statement.{statement}
 use Rattle.record_evaluation.proofs.worked.Tie as tie
@@ -76,7 +76,7 @@ price : (c : tie.After-evaluation)
     .before .before .args in
     let r = a .s .rec in
     Made (gridOf (r .statics .lot)) (r .p1 .units) (usedBy r) (dayRows (a .rows .now)) (c .evaluation .given .0 .0)
-price c = made _ _ _ _ _ (evaluation (c .before .before) ∙ c .evaluation .given .1)
+price c = evaluated-is-made _ _ _ _ _ (evaluation (c .before .before) ∙ c .evaluation .given .1)
 
 is-known-requires : tie.Need-is-known-requires
 is-known-requires c κs = search needs
@@ -137,7 +137,7 @@ evaluate-requires c κs =
     let e = g .before in
     let b = begun (e .before .before .before) in
     let s = e .before .before .before .before .before .before .before .before .before .before .before in
-    let grid = rw (← g .grid-of .ensures) at (grid-range (s .args .s .rec .statics .lot)) in
+    let grid = rw (← g .grid-of .ensures) at (grid-in-range (s .args .s .rec .statics .lot)) in
     let sound = known-sound _ (b .known) in (
       e .before .before .before .before .before .before .before .gather .ensures .bound,
       (

@@ -9,7 +9,7 @@ use Rattle.evaluation.specs.declared.Priced.{Priced}
 use Rattle.evaluation.specs.Evaluation.{pricedOf}
 use Rattle.record_evaluation.specs.Workings.{pricedOn}
 use Rattle.inputs.proofs.Facts.{day-facts}
-use Rattle.rates.proofs.Statics.{sound-ranges}
+use Rattle.rates.proofs.Statics.{sound-figures-in-ranges}
 use Rattle.record_writing.specs.Evaluates.{moveTo, figuresAt}
 use Rattle.record_evaluation.proofs.Judging.{day-moved-far, day-crossed, day-accepted}
 use Rattle.record_evaluation.proofs.Evaluations.{sound-prices-valid}
@@ -56,7 +56,7 @@ figures-of-requires : tie.Need-figures-of-requires
 figures-of-requires c κs =
     let s = c .before .before .before .before .before .before .before .before .before .before .before .before in
     let test = c .before in
-    let ranges = sound-ranges _ _ (s .pre .0) (day-facts (s .args .d) (s .pre .1 .0) .m-most) in
+    let ranges = sound-figures-in-ranges _ _ (s .pre .0) (day-facts (s .args .d) (s .pre .1 .0) .m-most) in
     (ranges, sym (test .before .move-too-large .ensures) ∙ test .if1 .left)
 
 evaluated-requires : tie.Need-evaluated-requires

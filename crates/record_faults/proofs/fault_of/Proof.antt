@@ -1,6 +1,6 @@
 -- `fault_of` meets its contract: each test of the code is the definition's, in its order. Assumes nothing.
 use mathlib.Core.Path.{_≡_, sym, _∙_}
-use Rattle.rows.specs.RowLaws.{valid-sevens, valid-whole, valid-every}
+use Rattle.rows.specs.RowLaws.{whole-in-sevens, valid-whole, valid-every}
 use Rattle.record_faults.specs.RowFaults.{faultWith}
 use Rattle.record_faults.proofs.AtFault.{every-true}
 use borrow.Author.Needs.{needs}
@@ -24,7 +24,7 @@ first-row-requires : tie.Need-first-row-requires
 first-row-requires c κs =
     let valid = c .before .before .before .before .before .pre .crossed (sym (c .before .is-same2 .ensures) ∙ c .if2
     .taken) in
-    (valid-sevens _ (valid-whole _ valid), every-true _)
+    (whole-in-sevens _ (valid-whole _ valid), every-true _)
 
 returns-2 : tie.Need-returns-2
 unfolding faultWith
@@ -42,7 +42,7 @@ first-row-requires-2 : tie.Need-first-row-requires-2
 first-row-requires-2 c κs =
     let valid = c .before .before .before .before .before .before .before .pre .beyond (sym (c .before .is-same3
     .ensures) ∙ c .if3 .taken) in
-    (valid-sevens _ (valid-whole _ valid), valid-every _ valid)
+    (whole-in-sevens _ (valid-whole _ valid), valid-every _ valid)
 
 returns-3 : tie.Need-returns-3
 unfolding faultWith

@@ -2,7 +2,7 @@
 use Rattle.paper_desk.specs.Evaluation.{rowFits}
 use mathlib.Core.Path.{_≡_, ap, _∙_}
 use mathlib.Core.Bool.{not}
-use Rattle.rows.specs.RowLaws.{in-range}
+use Rattle.rows.specs.RowLaws.{valid-row-in-range}
 use borrow.Author.Needs.{needs}
 use Rattle.record_faults.proofs.row_at_fault.Statement.{statement}
 use Rattle.record_faults.proofs.row_at_fault.Tie as tie
@@ -28,7 +28,7 @@ row-at-requires c κs = (search needs, rw (c .enum-told3 .given .1) at (c .befor
 fits-requires : tie.Need-fits-requires
 fits-requires c κs =
     let told = c .before in
-    rw (c .row-at .ensures) (in-range _ (rw (told .enum-told3 .given .1) at (told .before .before .pre .1)))
+    rw (c .row-at .ensures) (valid-row-in-range _ (rw (told .enum-told3 .given .1) at (told .before .before .pre .1)))
 
 returns : tie.Need-returns
 returns c = rw (c .before .enum-told .given .1) (ap not (c .row-valid .ensures))

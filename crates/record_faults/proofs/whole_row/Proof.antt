@@ -1,5 +1,5 @@
 -- `whole_row` meets its contract: only whole rows are looked at. Assumes nothing.
-use Rattle.rows.specs.RowLaws.{valid-sevens}
+use Rattle.rows.specs.RowLaws.{whole-in-sevens}
 use Rattle.record_answers.proofs.Tests.{passed, failed}
 use Rattle.record_faults.proofs.AtFault.{every-true}
 use borrow.Author.Needs.{needs}
@@ -14,7 +14,7 @@ returns c = rw (failed _ (c .before .whole-rows .ensures) (c .if1 .taken))
 
 first-row-requires : tie.Need-first-row-requires
 first-row-requires c κs =
-    (valid-sevens _ (passed _ (c .before .whole-rows .ensures) (c .if1 .left)), every-true _)
+    (whole-in-sevens _ (passed _ (c .before .whole-rows .ensures) (c .if1 .left)), every-true _)
 
 returns-2 : tie.Need-returns-2
 returns-2 c =

@@ -3,7 +3,7 @@
 use borrow.Author.Needs.{needs}
 use Rattle.paper_desk.specs.Desk.{admitted}
 use Rattle.inputs.proofs.Facts.{admission-facts}
-use Rattle.rates.proofs.Statics.{valid-rates}
+use Rattle.rates.proofs.Statics.{valid-are-rate-statics}
 use Rattle.record_writing.proofs.admitted.Statement.{statement}
 use Rattle.record_writing.proofs.admitted.Tie as tie
 
@@ -13,7 +13,7 @@ statics-of-requires c κs = search needs
 minima-requires : tie.Need-minima-requires
 minima-requires c κs =
     let known = admission-facts _ (c .before .before .pre .valid) in
-    rw (c .statics-of .ensures) (valid-rates _ (known .valid))
+    rw (c .statics-of .ensures) (valid-are-rate-statics _ (known .valid))
 
 returns : tie.Need-returns
 unfolding admitted

@@ -5,7 +5,7 @@ use mathlib.Core.Bool.{true}
 use borrow.Author.Needs.{needs}
 use borrow.Author.Tests.{not-true, not-false}
 use Rattle.paper.specs.Ranges.{validRows, wholeRows}
-use Rattle.rows.specs.RowLaws.{valid-sevens}
+use Rattle.rows.specs.RowLaws.{whole-in-sevens}
 use Rattle.rows.proofs.rows_valid.Statement.{statement}
 use Rattle.rows.proofs.rows_valid.Tie as tie
 
@@ -20,7 +20,7 @@ full : (c : tie.Else1) → wholeRows (c .before .before .args .rows .now) ≡ tr
 full c = sym (c .before .whole-rows .ensures) ∙ not-false _ (c .if1 .left)
 
 every-row-passes-requires : tie.Need-every-row-passes-requires
-every-row-passes-requires c κs = valid-sevens _ (full c)
+every-row-passes-requires c κs = whole-in-sevens _ (full c)
 
 returns-2 : tie.Need-returns-2
 unfolding validRows

@@ -2,7 +2,7 @@
 use borrow.Author.Tests.{ne-eqb}
 use Rattle.text_protocol.specs.Names.{admitKind, evaluateKind, moveKind}
 use Rattle.text_broadcast.specs.Kinds.{messagesOfKind}
-use Rattle.text_broadcast.proofs.Sending.{refused-sends, one-sent, two-sent, none-sent}
+use Rattle.text_broadcast.proofs.Sending.{refusal-sends-nothing, one-sent, two-sent, none-sent}
 use borrow.Author.Needs.{needs}
 use Rattle.text_broadcast.proofs.say_messages.Statement.{statement}
 use Rattle.text_broadcast.proofs.say_messages.Tie as tie
@@ -24,7 +24,7 @@ returns : tie.Need-returns
 returns c =
     let at-number = c .before in
     let at-start = at-number .before .before in
-    refused-sends _ _ _ (at-start .args .answer) _ (at-number .number .ensures) _ _ (c .if1 .taken)
+    refusal-sends-nothing _ _ _ (at-start .args .answer) _ (at-number .number .ensures) _ _ (c .if1 .taken)
 
 statics-of-requires : tie.Need-statics-of-requires
 statics-of-requires c κs = search needs

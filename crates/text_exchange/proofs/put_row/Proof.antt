@@ -5,6 +5,7 @@ use lib.IntN.{pos}
 use mir.Facts.{toZ-ofZ}
 use mir.Syntax.{w64}
 use borrow.Author.Needs.{needs}
+use Rattle.paper.specs.Numbers.{rowNumbers}
 use Rattle.text_exchange.proofs.Turns.{Storing, storing-none, storing-more, storing-all}
 use Rattle.text_exchange.proofs.put_row.Statement.{statement}
 use Rattle.text_exchange.proofs.put_row.Tie as tie
@@ -13,7 +14,7 @@ abbrev Inv-loop : tie.InvT-loop
 Inv-loop rows₀ at zs first j₀ rows j = Storing at zs rows₀ rows j
 
 abbrev μ-loop : tie.MeasureT-loop
-μ-loop rows₀ at zs first j₀ rows j = 7 - j
+μ-loop rows₀ at zs first j₀ rows j = rowNumbers - j
 
 mul-first : tie.Need-mul-first Inv-loop μ-loop
 mul-first c = search needs

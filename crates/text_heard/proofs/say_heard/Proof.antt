@@ -1,5 +1,5 @@
 -- `text_heard::say_heard` meets its contract: the line of what is heard, by the verdict's number. Assumes nothing.
-use Rattle.text_heard.proofs.Turns.{refused-line, known-line, unknown-line}
+use Rattle.text_heard.proofs.Turns.{refused-line-written, known-line-written, unknown-line-written}
 use borrow.Author.Needs.{needs}
 use Rattle.text_heard.proofs.say_heard.Statement.{statement}
 use Rattle.text_heard.proofs.say_heard.Tie as tie
@@ -23,7 +23,7 @@ returns c =
     let at-if1 = c .before .before .before in
     let at-number = at-if1 .before in
     let at-start = at-number .before .before in
-    refused-line (at-start .args .h) _ (at-start .args .place) (at-number .number .ensures) (at-if1 .if1 .taken)
+    refused-line-written (at-start .args .h) _ (at-start .args .place) (at-number .number .ensures) (at-if1 .if1 .taken)
     (c .say-two .ensures)
 
 say-message-requires : tie.Need-say-message-requires
@@ -35,7 +35,7 @@ returns-2 c =
     let at-if1 = at-if2 .before in
     let at-number = at-if1 .before in
     let at-start = at-number .before .before in
-    known-line (at-start .args .h) _ (at-start .args .place) (at-number .number .ensures) (at-if1 .if1 .left)
+    known-line-written (at-start .args .h) _ (at-start .args .place) (at-number .number .ensures) (at-if1 .if1 .left)
     (at-if2 .if2 .taken) (c .say-message .ensures)
 
 slice-aggregate-say-two-2 : tie.Need-slice-aggregate-say-two-2
@@ -50,7 +50,7 @@ returns-3 c =
     let at-if1 = at-if2 .before in
     let at-number = at-if1 .before in
     let at-start = at-number .before .before in
-    unknown-line (at-start .args .h) _ (at-start .args .place) (at-number .number .ensures) (at-if1 .if1 .left)
+    unknown-line-written (at-start .args .h) _ (at-start .args .place) (at-number .number .ensures) (at-if1 .if1 .left)
     (at-if2 .if2 .left) (c .say-two2 .ensures)
 
 pub say-heard-spec : {M : Type 1} → statement M

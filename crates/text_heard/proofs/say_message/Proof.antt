@@ -2,7 +2,7 @@
 use mathlib.Core.Path.{sym}
 use native.Mathlib.Omega.{arith}
 use lib.Seq.{length-take-le}
-use Rattle.text_heard.proofs.Turns.{lined, fields-lined}
+use Rattle.text_heard.proofs.Turns.{word-line-written, fields-line-written}
 use borrow.Author.Needs.{needs}
 use Rattle.text_heard.proofs.say_message.Statement.{statement}
 use Rattle.text_heard.proofs.say_message.Tie as tie
@@ -50,8 +50,9 @@ returns c =
     let at-kind = at-numbers .before .before .before in
     let at-count = at-kind .before .before in
     let at-start = at-count .before .before in
-    fields-lined (at-start .args .m) (at-count .field-count .result) (at-count .field-count .ensures .0)
-    (lined (at-kind .put-kind .ensures) (at-numbers .put-numbers .ensures) (c .put-byte .ensures) (omega arith))
+    fields-line-written (at-start .args .m) (at-count .field-count .result) (at-count .field-count .ensures .0)
+    (word-line-written (at-kind .put-kind .ensures) (at-numbers .put-numbers .ensures) (c .put-byte .ensures)
+    (omega arith))
 
 pub say-message-spec : {M : Type 1} → statement M
 say-message-spec =

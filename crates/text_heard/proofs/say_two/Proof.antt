@@ -1,7 +1,7 @@
 -- `text_heard::say_two` meets its contract: the word, the two numbers and the end of the line. Assumes nothing.
 use native.Mathlib.Omega.{arith}
 use Rattle.text_answer.specs.Told.{both}
-use Rattle.text_heard.proofs.Turns.{lined}
+use Rattle.text_heard.proofs.Turns.{word-line-written}
 use borrow.Author.Needs.{needs}
 use Rattle.text_heard.proofs.say_two.Statement.{statement}
 use Rattle.text_heard.proofs.say_two.Tie as tie
@@ -28,7 +28,7 @@ returns c =
     let at-second = c .before .before in
     let at-first = at-second .before .before in
     let at-word = at-first .before .before in
-    lined (at-word .put-bytes .ensures) (both (at-first .put-next .ensures) (at-second .put-next2 .ensures))
+    word-line-written (at-word .put-bytes .ensures) (both (at-first .put-next .ensures) (at-second .put-next2 .ensures))
     (c .put-byte .ensures) (omega arith)
 
 pub say-two-spec : {M : Type 1} → statement M

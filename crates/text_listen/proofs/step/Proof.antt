@@ -57,7 +57,8 @@ returns-2 c =
     let at-read = at-number .before in
     let at-start = at-read .before .before .before in
     steps-on _ (at-start .args .s) _ (at-start .pre .0) (at-start .pre .1) _ (at-read .read .ensures) _
-    (at-number .number .ensures) _ _ (at-if1 .if1 .left) (not-true _ (c .before .before .before .before .before .before .if2 .taken)) (c .before .before .read-on .ensures)
+    (at-number .number .ensures) _ _ (at-if1 .if1 .left)
+    (not-true _ (c .before .before .before .before .before .before .if2 .taken)) (c .before .before .read-on .ensures)
 
 write-out-requires : tie.Need-write-out-requires
 write-out-requires c κs = search needs
@@ -72,7 +73,8 @@ returns-3 c =
     let at-read = at-number .before in
     let at-start = at-read .before .before .before in
     steps-end _ (at-start .args .s) _ (at-start .pre .0) (at-start .pre .1) _ (at-read .read .ensures) _
-    (at-number .number .ensures) _ (not-false _ (c .before .before .before .before .if2 .left)) (c .before .before .before .if3 .taken) (c .write-out .ensures)
+    (at-number .number .ensures) _ (not-false _ (c .before .before .before .before .if2 .left))
+    (c .before .before .before .if3 .taken) (c .write-out .ensures)
 
 tell-requires-2 : tie.Need-tell-requires-2
 tell-requires-2 c κs = search needs
@@ -87,7 +89,8 @@ returns-4 c =
     let at-read = at-number .before in
     let at-start = at-read .before .before .before in
     steps-cut _ (at-start .args .s) _ (at-start .pre .0) (at-start .pre .1) _ (at-read .read .ensures) _
-    (at-number .number .ensures) _ _ (not-false _ (c .before .before .before .if2 .left)) (c .before .before .if3 .left) (c .tell2 .ensures)
+    (at-number .number .ensures) _ _ (not-false _ (c .before .before .before .if2 .left)) (c .before .before .if3 .left)
+    (c .tell2 .ensures)
 
 pub step-spec : {M : Type 1} → statement M
 step-spec =

@@ -20,10 +20,9 @@ magnitude-requires c κs = search needs
 
 add-put-number : tie.Need-add-put-number
 add-put-number c =
-    let f = c .before .before .before .before .before .fits .x in
-    let e : c .magnitude .result ≡ mag (c .before .before .before .before .before .args .x) =
-    rw (toZ-ofZ f) at (c .magnitude
-    .ensures) in
+    let start = c .before .before .before .before .before in
+    let f = start .fits .x in
+    let e : c .magnitude .result ≡ mag (start .args .x) = rw (toZ-ofZ f) at (c .magnitude .ensures) in
     omega (arith, f .sfits)
 
 put-number-requires : tie.Need-put-number-requires

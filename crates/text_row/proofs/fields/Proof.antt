@@ -4,6 +4,7 @@ use Prim.Native.Nat.{_-_}
 use mir.Facts.{toZ-ofZ}
 use mir.Syntax.{w64}
 use borrow.Author.Needs.{needs}
+use Rattle.text_table.specs.Exchange.{lineNumbers}
 use Rattle.text_row.proofs.Turns.{Filling, filling-none, filling-wrong, filling-cut, filling-more, filling-all, celled, no-cell, passes, no-pass}
 use Rattle.text_row.proofs.fields.Statement.{statement}
 use Rattle.text_row.proofs.fields.Tie as tie
@@ -12,7 +13,7 @@ abbrev Inv-loop : tie.InvT-loop
 Inv-loop t from out₀ k₀ at₀ out k at = Filling t from out k at
 
 abbrev μ-loop : tie.MeasureT-loop
-μ-loop t from out₀ k₀ at₀ out k at = 8 - k
+μ-loop t from out₀ k₀ at₀ out k at = lineNumbers - k
 
 loop-holds : tie.Need-loop-holds Inv-loop μ-loop
 loop-holds c = filling-none _ _ _ (c .before .pre .0) (c .before .pre .1)

@@ -77,7 +77,8 @@ returns-2 c =
     let at-number = at-put-number .before .before in
     let at-start = at-number .before .before in
     say-rows (at-start .args .r) _ _ _ (at-number .number .ensures) (at-put-number .put-number .ensures)
-    (at-if1 .if1 .left) (at-put-next2 .put-next2 .ensures) (at-put-numbers .put-numbers .ensures) (c .put-byte2 .ensures)
+    (at-if1 .if1 .left) (at-put-next2 .put-next2 .ensures) (at-put-numbers .put-numbers .ensures)
+    (c .put-byte2 .ensures)
 
 pub say-reading-spec : {M : Type 1} → statement M
 say-reading-spec =

@@ -203,7 +203,8 @@ module _ {M : Type 1} (𝓤 : URA M) (H : Heap 𝓤) (A : Atoms 𝓤) (W : Given
         vunit tt (tt, (tt, tt)) (tt, (tt, tt))) $
         suffices ! Ends (via 𝓤 (sep 𝓤 (emp 𝓤) Ends) (emp∗ 𝓤 Ends) (comm∗ 𝓤 (emp 𝓤) Ends)) $
         feqI ! (List Val) (vunit ∷ []) (vunit ∷ []) refl $ nothing ! $
-        owned ! E.the-row (Is E.the-row) (EL.makes E.the-type E′.the-plain 𝓤 H A) telling (telling-val telling ∷ []) (telling-is telling) $ fjoin ! $
+        owned ! E.the-row (Is E.the-row) (EL.makes E.the-type E′.the-plain 𝓤 H A) telling (telling-val telling ∷ [])
+        (telling-is telling) $ fjoin ! $
         owned ! RN (Is RN) (array-makes 𝓤 H A W R (makes 𝓤 H A) slots) ts (w ∷ []) is $
         fjoin ! $ nothing ! $ done !
 
@@ -225,7 +226,8 @@ module _ {M : Type 1} (𝓤 : URA M) (H : Heap 𝓤) (A : Atoms 𝓤) (W : Given
     goes-serve κ b γ =
         qed W (‵ (Owned κ b 0 γ ts) ∷ ‵ (flft κ fullShare) ∷ []) ∵ nothing ! $ move ! (2 ∷ 0 ∷ []) $ join ! $
         move ! (1 ∷ 0 ∷ []) $
-        nothing ! $ owned ! E.the-row (Is E.the-row) (EL.makes E.the-type E′.the-plain 𝓤 H A) telling (telling-val telling ∷ []) (telling-is telling) $ fjoin ! $
+        nothing ! $ owned ! E.the-row (Is E.the-row) (EL.makes E.the-type E′.the-plain 𝓤 H A) telling
+        (telling-val telling ∷ []) (telling-is telling) $ fjoin ! $
         move ! (1 ∷ 0 ∷ []) $ fjoin ! $ move ! (1 ∷ 0 ∷ []) $ join ! $ frame ! $ done !
 
     abbrev to-report : State → Report 𝓤 H A mem′ run′ .Ghost

@@ -284,7 +284,8 @@ module _ {M : Type 1} (𝓤 : URA M) (H : Heap 𝓤) (A : Atoms 𝓤) (W : Given
             l),
         subst (Room R) (sym l) room,
       ) $
-      fjoin ! $ nothing ! $ owned ! E.the-row (Is E.the-row) (EL.makes E.the-type E′.the-plain 𝓤 H A) telling (telling-val telling ∷ []) (telling-is telling) $ fjoin ! $
+      fjoin ! $ nothing ! $ owned ! E.the-row (Is E.the-row) (EL.makes E.the-type E′.the-plain 𝓤 H A) telling
+      (telling-val telling ∷ []) (telling-is telling) $ fjoin ! $
       move ! (1 ∷ 0 ∷ []) $ fjoin ! $
       owned ! G.the-row (Is G.the-row) (LL.makes G.the-type G′.the-plain 𝓤 H A) r _ is $ move ! (1 ∷ 0 ∷ []) $ done !
 
@@ -537,7 +538,8 @@ module _ {M : Type 1} (𝓤 : URA M) (H : Heap 𝓤) (A : Atoms 𝓤) (W : Given
 
     goes-start : ent 𝓤 (emp 𝓤) (Start 𝓤 H A mem′ run′ .pre to-start)
     goes-start =
-        qed W [] ∵ nothing ! $ owned ! E.the-row (Is E.the-row) (EL.makes E.the-type E′.the-plain 𝓤 H A) telling (telling-val telling ∷ []) (telling-is telling) $ fjoin ! $
+        qed W [] ∵ nothing ! $ owned ! E.the-row (Is E.the-row) (EL.makes E.the-type E′.the-plain 𝓤 H A) telling
+        (telling-val telling ∷ []) (telling-is telling) $ fjoin ! $
         nothing ! $ join ! $ frame ! $ done !
 
     -- the code c runs to the end, where the contract is met

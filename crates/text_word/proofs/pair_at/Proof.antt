@@ -58,13 +58,19 @@ returns-2 c = second-bad _ _ _ (sym (c .before .before .before .before .before .
     .enum-told2 .given .1)
 
 returns-3 : tie.Need-returns-3
-returns-3 c = let first = toZ-ofZ {w = w64} {z = c .before .before .before .before .before .before .first .given .0 .0}
-    (record { sfits = c .before .before .before .before .before .known-told .given .0 .1 }) in let second = toZ-ofZ {w
-    = w64} {z = c .before .second .given .0 .0} (record { sfits = c .known-told2 .given .0 .1 }) in rw (first, second)
-    (two-numbers _ _ _ (sym (c .before .before .before .before .before .before .before .before .number-of .ensures) ∙ c
-    .before .before .before .before .before .before .first .given .1) _ (sym (rw (behind (c .before .before .before
-    .before .before .before .before .before .before .before .before .args .p .now) _) at (c .before .before .before
-    .number-of2 .ensures)) ∙ c .before .second .given .1))
+returns-3 c =
+    let at-told = c .before .before .before .before .before in
+    let at-first = at-told .before in
+    let at-number = at-first .before .before in
+    let start = at-number .before .before .before in
+    let first = toZ-ofZ {w = w64} {z = at-first .first .given .0 .0}
+    (record { sfits = at-told .known-told .given .0 .1 }) in
+    let second = toZ-ofZ {w = w64} {z = c .before .second .given .0 .0}
+    (record { sfits = c .known-told2 .given .0 .1 }) in
+    rw (first, second)
+    (two-numbers _ _ _ (sym (at-number .number-of .ensures) ∙ at-first .first .given .1) _
+    (sym (rw (behind (start .args .p .now) _) at (c .before .before .before .number-of2 .ensures))
+    ∙ c .before .second .given .1))
 
 pub pair-at-spec : {M : Type 1} → statement M
 pair-at-spec =

@@ -1,7 +1,7 @@
 -- `limit::limit_in_range` meets its contract: its tests are those of the definition that a price and a rate in range
 -- leave, and the grid is above 0. Assumes nothing.
 use borrow.Author.Needs.{needs}
-use Rattle.limits.specs.LimitLaws.{grid-range}
+use Rattle.limits.specs.LimitLaws.{grid-in-range}
 use Rattle.gateway.specs.LimitCalls.{in-range-is}
 use Rattle.gateway.proofs.limit.limit_in_range.Statement.{statement}
 use Rattle.gateway.proofs.limit.limit_in_range.Tie as tie
@@ -10,7 +10,7 @@ grid-of-requires : tie.Need-grid-of-requires
 grid-of-requires c κs = search needs
 
 rem-result : tie.Need-rem-result
-rem-result c = rw (c .before .grid-of .ensures) (grid-range _ .0)
+rem-result c = rw (c .before .grid-of .ensures) (grid-in-range _ .0)
 
 own-in-range-requires : tie.Need-own-in-range-requires
 own-in-range-requires c κs = search needs

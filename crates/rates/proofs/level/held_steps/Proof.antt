@@ -3,7 +3,7 @@
 use native.Mathlib.Nat.{mul-le-mul, le-of-lt}
 use native.Mathlib.Omega.{arith}
 use borrow.Author.Needs.{needs}
-use Rattle.rates.proofs.Reach.{held-tried}
+use Rattle.rates.proofs.Reach.{held-is-tried}
 use Rattle.rates.proofs.level.held_steps.Statement.{statement}
 use Rattle.rates.proofs.level.held_steps.Tie as tie
 
@@ -20,7 +20,7 @@ returns : tie.Need-returns
 returns c =
     let s = c .before .before .before in
     rw (c .greater .ensures, c .before .lesser .ensures)
-    (held-tried (s .args .st) (s .args .minimum) (s .args .steps) (s .pre .0) (s .pre .1 .0) (s .pre .1 .1))
+    (held-is-tried (s .args .st) (s .args .minimum) (s .args .steps) (s .pre .0) (s .pre .1 .0) (s .pre .1 .1))
 
 pub held-steps-spec : {M : Type 1} → statement M
 held-steps-spec = tie.close (tie.spec mul-lesser lesser-requires greater-requires returns)

@@ -5,7 +5,7 @@ use Prim.Native.Nat.{ℕ, _+_, _-_, _*_, _/_, _≤_, _<_}
 use native.Mathlib.Nat.{le-trans, mul-le-mul-right}
 use native.Mathlib.Omega.{arith}
 use Rattle.rates.specs.Level.{reachMost}
-use Rattle.rates.proofs.Reach.{Halved, halved-start, halved-hit, halved-miss, halved-one}
+use Rattle.rates.proofs.Reach.{Halved, halved-start, halved-hit, halved-miss, halved-end-is-least-reach}
 use Rattle.rates.proofs.level.least_reach.Statement.{statement}
 use Rattle.rates.proofs.level.least_reach.Tie as tie
 
@@ -64,7 +64,7 @@ loop-again-2 c =
     (sym (c .before .reaches .ensures) ∙ c .if1 .left)
 
 returns : tie.Need-returns Inv-loop μ-loop
-returns c = halved-one _ _ _ _ _ _ _ (c .before .loop .inv) (c .loop-test .left)
+returns c = halved-end-is-least-reach _ _ _ _ _ _ _ (c .before .loop .inv) (c .loop-test .left)
 
 pub least-reach-spec : {M : Type 1} → statement M
 least-reach-spec =

@@ -8,7 +8,7 @@ use borrow.Author.Needs.{needs}
 use Rattle.paper.specs.Numbers.{rateMost, daysMost}
 use Rattle.paper_desk.specs.Rates.{levelRate}
 use Rattle.rates.proofs.Statics.{level-statics}
-use Rattle.rates.proofs.Reach.{steps-held, reach-rate, rate-held}
+use Rattle.rates.proofs.Reach.{steps-within-reach, least-reach-is-level-rate, level-rate-within-most}
 use Rattle.rates.proofs.level.searched_rate.Statement.{statement}
 use Rattle.rates.proofs.level.searched_rate.Tie as tie
 
@@ -38,7 +38,7 @@ mul-least-reach c =
 least-reach-requires : tie.Need-least-reach-requires
 least-reach-requires c κs =
     let start = c .before .before .before .before .before .before .before in
-    let held = steps-held (start .args .st) (start .args .level) (start .pre .0) in
+    let held = steps-within-reach (start .args .st) (start .args .level) (start .pre .0) in
     rw (c .before .before .before .before .before .before .level-of .ensures) (
       held .0,
       held .1,
@@ -64,12 +64,12 @@ is-rate c =
       squared .before .tentative-square .ensures .0,
       squared .before .before .level-of .ensures,
     )
-    (reach-rate (s .args .st) (s .args .level) (s .args .m) (s .args .tentative) (s .pre .0))
+    (least-reach-is-level-rate (s .args .st) (s .args .level) (s .args .m) (s .args .tentative) (s .pre .0))
 
 rate-high : (c : tie.After-struct-known5) → made c ≤ rateMost
 rate-high c =
     let s = c .before .before .before .before .before .before .before .before .before in
-    let held = rate-held (s .args .st) (s .args .level) (s .args .m) (s .args .tentative) (s .pre .0) in
+    let held = level-rate-within-most (s .args .st) (s .args .level) (s .args .m) (s .args .tentative) (s .pre .0) in
     omega (arith, is-rate c, s .pre .0 .most-high)
 
 mul-of : tie.Need-mul-of

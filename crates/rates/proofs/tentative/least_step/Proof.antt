@@ -4,7 +4,7 @@ use native.Mathlib.Omega.{arith}
 use borrow.Author.Needs.{needs}
 use mathlib.Core.Path.{ap, _∙_}
 use Prim.Native.Nat.{ℕ, _*_}
-use Rattle.paper_desk.proofs.Bounds.{up-is-step, step-high}
+use Rattle.paper_desk.proofs.Bounds.{up-is-step, up-within-a-step}
 use Rattle.rates.proofs.tentative.least_step.Statement.{statement}
 use Rattle.rates.proofs.tentative.least_step.Tie as tie
 
@@ -19,7 +19,7 @@ mul-result c =
     rw (c .up .ensures)
     (omega (
       arith,
-      step-high (c .before .args .h) (c .before .args .factor) (c .before .args .n) (c .before .pre .0)
+      up-within-a-step (c .before .args .h) (c .before .args .factor) (c .before .args .n) (c .before .pre .0)
           (c .before .pre .1),
     ))
 

@@ -6,7 +6,7 @@ use native.Mathlib.Omega.{arith}
 use borrow.Author.Needs.{needs}
 use Rattle.paper.specs.Numbers.{oneInTenThousandths}
 use Rattle.paper_desk.specs.Rates.{weighted}
-use Rattle.paper_desk.proofs.Bounds.{mean-high}
+use Rattle.paper_desk.proofs.Bounds.{mean-of-squares-within}
 use Rattle.rates.proofs.volatility.weighted.Statement.{statement}
 use Rattle.rates.proofs.volatility.weighted.Tie as tie
 
@@ -20,7 +20,7 @@ sizes c =
     record {
       old = mul-le-mul (c .pre .1) (c .pre .1);
       new = mul-le-mul (c .pre .2) (c .pre .2);
-      mean = mean-high _ _ _ (2 ^ 20) (c .pre .0) (c .pre .1) (c .pre .2);
+      mean = mean-of-squares-within _ _ _ (2 ^ 20) (c .pre .0) (c .pre .1) (c .pre .2);
     }
 
 sub-least-root : tie.Need-sub-least-root

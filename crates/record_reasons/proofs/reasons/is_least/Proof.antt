@@ -10,8 +10,8 @@ use mathlib.Core.Path.{_≡_, sym, ap, _∙_}
 use mathlib.Core.Bool.{true, false, not}
 use Prim.Native.Nat.{ℕ, _-_, _≤_, _<_}
 use native.Mathlib.Omega.{arith}
-use Rattle.rates.proofs.Statics.{valid-rates}
-use Rattle.rates.proofs.Reach.{rate-held}
+use Rattle.rates.proofs.Statics.{valid-are-rate-statics}
+use Rattle.rates.proofs.Reach.{level-rate-within-most}
 use Rattle.paper_reasons.proofs.Levels.{rate-at-least-a-step, uncovered-not-required, zero-required, a-step-below}
 use Rattle.record_reasons.proofs.reasons.is_least.Statement.{statement}
 use Rattle.record_reasons.proofs.reasons.is_least.Tie as tie
@@ -20,12 +20,19 @@ use Rattle.record_reasons.proofs.reasons.is_least.Tie as tie
 rate-high : (st : Statics) (level m tentative : ℕ) (rate : Rate) → validStatics st ≡ true
     → rate .bp ≡ levelRate st tentative m level → rate .bp ≤ rateMost
 rate-high st level m tentative rate v is =
-    let given = valid-rates st v in
-    omega (arith, is, rate-held st level m tentative given, given .most-high)
+    let given = valid-are-rate-statics st v in
+    omega (arith, is, level-rate-within-most st level m tentative given, given .most-high)
 
 covers-requires : tie.Need-covers-requires
-covers-requires c κs =
-    (valid-rates _ (c .pre .0), (c .pre .1 .0 .0, c .pre .1 .0 .1, rate-high _ _ _ _ _ (c .pre .0) (c .pre .1 .1)))
+covers-requires c κs = (
+  valid-are-rate-statics _ (c .pre .0),
+  (
+    c .pre .1 .0 .0,
+    c .pre .1 .0 .1,
+    rate-high _ _ _ _ _ (c .pre .0)
+        (c .pre .1 .1),
+  ),
+)
 
 returns : tie.Need-returns
 returns c =
@@ -74,7 +81,7 @@ covers-requires-2 c κs =
     let s = c .before .before .before .before .before .before in
     let a = s .args in
     let low : a .rate .bp - a .st .h ≤ rateMost = omega (arith, rate-high _ _ _ _ _ (s .pre .0) (s .pre .1 .1)) in
-    (valid-rates _ (s .pre .0), (s .pre .1 .0 .0, s .pre .1 .0 .1, low))
+    (valid-are-rate-statics _ (s .pre .0), (s .pre .1 .0 .0, s .pre .1 .0 .1, low))
 
 returns-3 : tie.Need-returns-3
 returns-3 c =

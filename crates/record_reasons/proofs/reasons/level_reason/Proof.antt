@@ -9,7 +9,7 @@ use Rattle.rates.specs.declared.level.Level.{Level}
 use Rattle.paper_reasons.specs.declared.LevelReason.the-variants as level
 use mathlib.Core.Path.{_≡_, sym, ap, _∙_}
 use borrow.Author.Tests.{eq-eqb, ne-eqb}
-use Rattle.rates.proofs.Statics.{valid-rates}
+use Rattle.rates.proofs.Statics.{valid-are-rate-statics}
 use Rattle.paper_reasons.specs.Reasons.{levelSetBy}
 use Rattle.paper_reasons.proofs.Levels.{level-reason-is-first, maximum-left}
 use borrow.Author.Needs.{needs}
@@ -43,7 +43,7 @@ unfolding levelSetBy
 by-minimum st l m t rate low e = rw e
 
 level-of-requires : tie.Need-level-of-requires
-level-of-requires c κs = valid-rates _ (c .before .before .pre .0 .0)
+level-of-requires c κs = valid-are-rate-statics _ (c .before .before .pre .0 .0)
 
 returns-2 : tie.Need-returns-2
 returns-2 c =

@@ -5,12 +5,12 @@ use Rattle.paper.specs.Ranges.{rateAt}
 use Rattle.rates.specs.declared.volatility.Volatility.{Volatility}
 use Rattle.rates.specs.Chosen.{chosen}
 use Rattle.paper_desk.proofs.Bounds.{volatility-high}
-use Rattle.paper_desk.proofs.TentativeRange.{valid-high, tentative-rate-in}
+use Rattle.paper_desk.proofs.TentativeRange.{valid-tentative-within-top, tentative-rate-in}
 use Rattle.rates.specs.Asked.{tentativeBound}
-use Rattle.rates.proofs.Statics.{rates-weighing, top-within}
+use Rattle.rates.proofs.Statics.{rates-weighing, within-tentative-bound}
 use Rattle.record_writing.specs.Evaluates.{moveTo}
 use Rattle.record_evaluation.proofs.Evaluations.{sound-prices-valid}
-use Rattle.record_reasons.proofs.Reasoning.{allowed-move-within-most, figures-modelled, ranges, level-asked, rate-asked, level-at, weight-by, replacement-by, tentative-by}
+use Rattle.record_reasons.proofs.Reasoning.{allowed-move-within-most, figures-modelled, figures-in-ranges, levels-may-be-asked, rates-are-level-rates, level-at, weight-by, replacement-by, tentative-by}
 use mathlib.Core.Path.{_≡_, sym, ap, _∙_}
 use Prim.Native.Nat.{_*_, _≤_}
 use native.Mathlib.Omega.{arith}
@@ -42,39 +42,39 @@ move-high c =
 weighs : (c : tie.After-model-of) → Weighing (c .model-of .result)
 weighs c =
     let s = c .before .before .before .before .before .before .before .before .before .before in
-    rw (c .model-of .ensures) (rates-weighing _ (ranges _ _ _ (s .pre .0) (s .pre .1) .statics))
+    rw (c .model-of .ensures) (rates-weighing _ (figures-in-ranges _ _ _ (s .pre .0) (s .pre .1) .statics))
 
 mul-choose : tie.Need-mul-choose
 mul-choose c =
     let s = c .before .before .before .before .before .before .before .before .before .before in
-    omega (arith, ranges _ _ _ (s .pre .0) (s .pre .1) .last-rate)
+    omega (arith, figures-in-ranges _ _ _ (s .pre .0) (s .pre .1) .last-rate)
 
 choose-requires : tie.Need-choose-requires
 choose-requires c κs =
     let s = c .before .before .before .before .before .before .before .before .before .before in
-    (weighs c, (move-high (c .before), ranges _ _ _ (s .pre .0) (s .pre .1) .volatility))
+    (weighs c, (move-high (c .before), figures-in-ranges _ _ _ (s .pre .0) (s .pre .1) .volatility))
 
 -- new s is a volatility
 s-high : (c : tie.After-choose) → c .choose .result .s ≤ volatilityMost
 s-high c =
     let s = c .before .before .before .before .before .before .before .before .before .before .before in
-    let given = ranges _ _ _ (s .pre .0) (s .pre .1) in
+    let given = figures-in-ranges _ _ _ (s .pre .0) (s .pre .1) in
     let r = move-high (c .before .before) in
     rw (c .choose .ensures) (volatility-high _ _ _ _ _ _ (weighs (c .before)) (given .volatility) r)
 
 tentative-rate-of-requires : tie.Need-tentative-rate-of-requires
 tentative-rate-of-requires c κs =
     let s = c .before .before .before .before .before .before .before .before .before .before .before in
-    (ranges _ _ _ (s .pre .0) (s .pre .1) .statics, (move-high (c .before .before), s-high c))
+    (figures-in-ranges _ _ _ (s .pre .0) (s .pre .1) .statics, (move-high (c .before .before), s-high c))
 
 -- t is in the tentative rate's range
 t-high : (c : tie.After-tentative-rate-of) → c .tentative-rate-of .result ≤ tentativeBound
 t-high c =
     let s = c .before .before .before .before .before .before .before .before .before .before .before .before in
-    let st = ranges _ _ _ (s .pre .0) (s .pre .1) .statics in
+    let st = figures-in-ranges _ _ _ (s .pre .0) (s .pre .1) .statics in
     let moved = move-high (c .before .before .before) in
     let in-range = tentative-rate-in _ _ _ _ (st .step-low) (st .multiplier-high) moved (s-high (c .before)) in
-    rw (c .tentative-rate-of .ensures) (top-within st (valid-high _ _ in-range))
+    rw (c .tentative-rate-of .ensures) (within-tentative-bound st (valid-tentative-within-top _ _ in-range))
 
 weight-reason-requires : tie.Need-weight-reason-requires
 weight-reason-requires c κs = search needs
@@ -86,7 +86,7 @@ tentative-reason-requires : tie.Need-tentative-reason-requires
 tentative-reason-requires c κs =
     let s = c .before .before .before .before .before .before .before .before .before .before .before .before .before
     .before in
-    let given = ranges _ _ _ (s .pre .0) (s .pre .1) in
+    let given = figures-in-ranges _ _ _ (s .pre .0) (s .pre .1) in
     omega (arith, t-high (c .before .before), given, given .statics)
 
 array-copy-out-level-reason : tie.Need-array-copy-out-level-reason
@@ -96,8 +96,8 @@ level-reason-requires : tie.Need-level-reason-requires
 level-reason-requires c κs =
     let s = c .before .before .before .before .before .before .before .before .before .before .before .before .before
     .before .before .before in
-    let asked = level-asked _ _ _ (s .pre .0) (s .pre .1) in
-    (asked .0, (asked .1, rate-asked _ _ _ (s .pre .0) (s .pre .1) 0))
+    let asked = levels-may-be-asked _ _ _ (s .pre .0) (s .pre .1) in
+    (asked .0, (asked .1, rates-are-level-rates _ _ _ (s .pre .0) (s .pre .1) 0))
 
 array-copy-out-level-reason-2 : tie.Need-array-copy-out-level-reason-2
 array-copy-out-level-reason-2 c = search needs
@@ -106,8 +106,8 @@ level-reason-requires-2 : tie.Need-level-reason-requires-2
 level-reason-requires-2 c κs =
     let s = c .before .before .before .before .before .before .before .before .before .before .before .before .before
     .before .before .before .before .before in
-    let asked = level-asked _ _ _ (s .pre .0) (s .pre .1) in
-    (asked .0, (asked .1, rate-asked _ _ _ (s .pre .0) (s .pre .1) 1))
+    let asked = levels-may-be-asked _ _ _ (s .pre .0) (s .pre .1) in
+    (asked .0, (asked .1, rates-are-level-rates _ _ _ (s .pre .0) (s .pre .1) 1))
 
 array-copy-out-level-reason-3 : tie.Need-array-copy-out-level-reason-3
 array-copy-out-level-reason-3 c = search needs
@@ -116,8 +116,8 @@ level-reason-requires-3 : tie.Need-level-reason-requires-3
 level-reason-requires-3 c κs =
     let s = c .before .before .before .before .before .before .before .before .before .before .before .before .before
     .before .before .before .before .before .before .before in
-    let asked = level-asked _ _ _ (s .pre .0) (s .pre .1) in
-    (asked .0, (asked .1, rate-asked _ _ _ (s .pre .0) (s .pre .1) 2))
+    let asked = levels-may-be-asked _ _ _ (s .pre .0) (s .pre .1) in
+    (asked .0, (asked .1, rates-are-level-rates _ _ _ (s .pre .0) (s .pre .1) 2))
 
 -- the move, whether the replacement won, new s and t are those at P
 moved-to : (c : tie.After-move-of)

@@ -1,0 +1,16 @@
+-- How many bytes the parts of the answer that says why may take. Assumes nothing.
+use Prim.Native.Nat.{ℕ, _+_, _*_}
+use Rattle.text_out.specs.Places.{nextBytes}
+use Rattle.text_put.specs.Sizes.{nextWordBytes}
+
+-- what is at fault: a word and a number
+abbrev pub faultBytes : ℕ
+faultBytes = nextWordBytes + nextBytes
+
+-- what set the rates of the three levels: the name of each and its reason
+abbrev pub levelsBytes : ℕ
+levelsBytes = 6 * nextWordBytes
+
+-- the four names before the levels, each with its reason, and the levels
+abbrev pub reasonsBytes : ℕ
+reasonsBytes = 8 * nextWordBytes + levelsBytes
