@@ -237,7 +237,7 @@ found-in-order cs t f id there live =
 
 -- ---- what a member sees
 
-run-one-more : (cs : List Call) (c : Call) (t : List Record) → run (cs ++ (c ∷ [])) t ≡ step c (run cs t) .table
+pub run-one-more : (cs : List Call) (c : Call) (t : List Record) → run (cs ++ (c ∷ [])) t ≡ step c (run cs t) .table
 unfolding run
 run-one-more [] c t = refl
 run-one-more (d ∷ cs) c t = run-one-more cs c (step d t .table)
@@ -248,7 +248,7 @@ unfolding recordFrom isLive
 not-live r e live = not-true-and-false false (sym (ap (λ (x : Record). isLive (x .standing)) e) ∙ live) refl
 
 -- a call that shows a record is no admission
-no-admission-shows : (c : Call) → shows c ≡ true → isAdmission c ≡ false
+pub no-admission-shows : (c : Call) → shows c ≡ true → isAdmission c ≡ false
 no-admission-shows (admit a) e = absurd (not-true-and-false false e refl)
 no-admission-shows (evaluate id d rows) e = refl
 no-admission-shows (quote id q) e = refl
