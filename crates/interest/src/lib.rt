@@ -1,6 +1,6 @@
 // The interest side (document 02, W-201): an evening's key maturities, lent in one slice, to the figures of each and to
-// the repo band of a pair of terms. The rules are those of `repo` and `interest_forward`; this crate judges what is
-// given, asks them, and puts the answer together.
+// the repo band of a pair of terms. The rules are those of `interest_repo` and `interest_forward`; this crate judges
+// what is given, asks them, and puts the answer together.
 ghost use mathlib.Core.Path.{_≡_};
 ghost use mathlib.Core.Bool.{true, _&&_};
 ghost use mathlib.Core.List.{map};
