@@ -1,6 +1,5 @@
-// The values that document 01 speaks of, in the forms that it names. What is right is said over them in specs/, a file
-// a clause, and what is proved of that stands in proofs/. Every number of the paper has one name here and one in
-// specs/Numbers.antt.
+// The values that document 01 speaks of, in the forms that it names. specs/ defines what is right, a file a clause;
+// proofs/ proves it. Every number of the paper has one name here and one in specs/Numbers.antt. It uses no other crate.
 ghost use mathlib.Core.Path.{_≡_};
 ghost use Prim.Native.Nat.{_≤_};
 ghost use Rattle.paper.specs.Numbers.{rateMost};

@@ -1,6 +1,6 @@
-// The values of document 02, W-206, bonds: what is given, and what is answered. What is right is said over them in
-// specs/Bonds.antt, worked bonds stand in specs/BondCases.antt, and what is proved of that in proofs/. A net evaluation
-// and a limit are in hundredths of a per cent of the face value; money is in units, as a price is.
+// The values of document 02, W-206, bonds: what is given, and what is answered. specs/ defines what is right, with
+// worked bonds in BondCases.antt; proofs/ proves it. A net evaluation and a limit are in hundredths of a per cent of
+// the face value; money is in units, as a price is. It may use `paper` and `paper_desk`.
 use paper::AskedTerm;
 use paper::Limits;
 use paper::Rate;

@@ -1,5 +1,5 @@
-// What W-212 speaks of: a field, a message, what the writer answers and what the reader hears. What is right is said
-// over them in specs/, and what is proved of that stands in proofs/.
+// What W-212 speaks of: a field, a message, what the writer answers and what the reader hears. specs/ defines what is
+// right; proofs/ proves it. It may use `paper` and `paper_desk`.
 use paper::Verdict;
 
 // A field of a message: how many bytes it has, and its range.

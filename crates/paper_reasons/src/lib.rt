@@ -1,5 +1,5 @@
-// W-207, "Say why": the values that a reason is said with. What is right is said over them in specs/, and what is
-// proved of that stands in proofs/. `None` is the word `none`: where there is nothing to name. It may use `paper`.
+// W-207, "Say why": the values that a reason is said with. specs/ defines what is right; proofs/ proves it. `None` is
+// the word `none`: where there is nothing to name. It may use `paper` and `paper_desk`.
 use paper::Verdict;
 
 // "which figure set the price (close, bid, ask, or yesterday)"
