@@ -1,6 +1,7 @@
 /*
- * Document 01, cases 1, 3 and 4: the three rates of statics Z, their ranges at P 1,030,000, and the band. The evening
- * of Z has 120 seconds, Autochange yes and two moves; UseEXTERNAL is no.
+ * Calls the gateway for document 01's cases 1, 3 and 4, and prints the three rates of statics Z, their ranges at
+ * P 1,030,000, and the band. The evening of Z has 120 seconds, Autochange yes and two moves; UseEXTERNAL is no. It uses
+ * nedrubal.h and the C library.
  */
 #include "nedrubal.h"
 #include <inttypes.h>

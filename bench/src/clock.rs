@@ -1,4 +1,4 @@
-//! The clock: several sides by turns, and what their times scatter over.
+//! The clock: measures several sides by turns, and says what their times scatter over.
 
 use bench::opaque;
 

@@ -1,4 +1,4 @@
-//! The least root by the proved code, which does not divide (W-204), and by Newton's method, which does.
+//! Measures the least root by the proved code, which does not divide (W-204), and by Newton's method, which does.
 
 use bench::opaque;
 
