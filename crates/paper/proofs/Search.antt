@@ -146,36 +146,40 @@ between-one-is-least p bound low high s h =
 -- ---- the least root
 
 -- a number is covered by its own square
-own-square : (w n : ℕ) → 0 < w → n ≤ w * (n * n)
-own-square w zero h = omega arith
-own-square w (suc m) h =
-    let a : 1 * (suc m * 1) ≤ w * (suc m * suc m) = mul-le-mul h (mul-le-mul-left (suc m) (omega arith)) in
+own-square : (factor n : ℕ) → 0 < factor → n ≤ factor * (n * n)
+own-square factor zero h = omega arith
+own-square factor (suc m) h =
+    let a : 1 * (suc m * 1) ≤ factor * (suc m * suc m) = mul-le-mul h (mul-le-mul-left (suc m) (omega arith)) in
     omega arith
 
-pub root-covers : (w n : ℕ) → 0 < w → n ≤ w * (leastRoot w n * leastRoot w n)
+pub root-covers : (factor n : ℕ) → 0 < factor → n ≤ factor * (leastRoot factor n * leastRoot factor n)
 unfolding leastRoot
-root-covers w n h = leb-true _ _ (least-holds n (λ x. leb n (w * (x * x))) (le-leb n (w * (n * n)) (own-square w n h)))
+root-covers factor n h =
+    leb-true _ _
+    (least-holds n (λ x. leb n (factor * (x * x))) (le-leb n (factor * (n * n)) (own-square factor n h)))
 
-pub root-least : (w n z : ℕ) → n ≤ w * (z * z) → leastRoot w n ≤ z
+pub root-least : (factor n z : ℕ) → n ≤ factor * (z * z) → leastRoot factor n ≤ z
 unfolding leastRoot
-root-least w n z h = least-least n (λ x. leb n (w * (x * x))) z (le-leb _ _ h)
+root-least factor n z h = least-least n (λ x. leb n (factor * (x * x))) z (le-leb _ _ h)
 
-pub root-unique : (w n x : ℕ) → 0 < w → n ≤ w * (x * x) → ((z : ℕ) → n ≤ w * (z * z) → x ≤ z) → leastRoot w n ≡ x
-root-unique w n x h c l = le-antisymm (root-least w n x c) (l (leastRoot w n) (root-covers w n h))
+pub root-unique : (factor n x : ℕ) → 0 < factor → n ≤ factor * (x * x) → ((z : ℕ) → n ≤ factor * (z * z) → x ≤ z)
+    → leastRoot factor n ≡ x
+root-unique factor n x h c l = le-antisymm (root-least factor n x c) (l (leastRoot factor n) (root-covers factor n h))
 
-pub root-monotone : (w n m : ℕ) → 0 < w → n ≤ m → leastRoot w n ≤ leastRoot w m
-root-monotone w n m h l = root-least w n (leastRoot w m) (le-trans l (root-covers w m h))
+pub root-monotone : (factor n m : ℕ) → 0 < factor → n ≤ m → leastRoot factor n ≤ leastRoot factor m
+root-monotone factor n m h l = root-least factor n (leastRoot factor m) (le-trans l (root-covers factor m h))
 
 -- the root is at most a number whose square covers, and one more than a number whose square does not
-pub root-one-more : (w n r : ℕ) → 0 < w → w * (r * r) < n → n ≤ w * ((r + 1) * (r + 1)) → leastRoot w n ≡ r + 1
-root-one-more w n r h low high = root-unique w n (r + 1) h high above
+pub root-one-more : (factor n r : ℕ) → 0 < factor → factor * (r * r) < n → n ≤ factor * ((r + 1) * (r + 1))
+    → leastRoot factor n ≡ r + 1
+root-one-more factor n r h low high = root-unique factor n (r + 1) h high above
   where
-    above : (z : ℕ) → n ≤ w * (z * z) → r + 1 ≤ z
+    above : (z : ℕ) → n ≤ factor * (z * z) → r + 1 ≤ z
     above z c = go (le-or-lt (r + 1) z)
       where
         go : (r + 1 ≤ z) ⊎ (z < r + 1) → r + 1 ≤ z
         go (inl k) = k
-        go (inr k) = let k′ : z ≤ r = omega arith in absurd (omega (arith, mul-le-mul-left w (mul-le-mul k′ k′)))
+        go (inr k) = let k′ : z ≤ r = omega arith in absurd (omega (arith, mul-le-mul-left factor (mul-le-mul k′ k′)))
 
 -- ---- the least y with y·q ≥ n
 

@@ -12,7 +12,7 @@ first (suc d) x p = elim (p x) [ true ↦ x | false ↦ first d (suc x) p ]
 unfoldable pub least : (bound : ℕ) → (ℕ → Bool) → ℕ
 least bound p = first bound 0 p
 
--- the least whole x with factor·x² ≥ n; where w is above 0, n itself is such an x
+-- the least whole x with factor·x² ≥ n; where factor is above 0, n itself is such an x
 unfoldable pub leastRoot : (factor n : ℕ) → ℕ
 leastRoot factor n = least n (λ x. leb n (factor * (x * x)))
 
