@@ -116,8 +116,8 @@ impl Limit {
 // The tentative rate (7.1), in basis points, and the days since it changed. It is no `Rate`: no maximum holds it,
 // and it runs as far as the multiplier and the volatility take it (W-208).
 pub struct Tentative {
-    pub bp: u64,
-    pub age: u64,
+    pub bp: u64, // bp; of a share 0 to the least multiple of h at or above 100,000
+    pub age: u64, // trading days, 0 to 250
 }
 
 impl Tentative {
@@ -128,9 +128,9 @@ impl Tentative {
 // What the volatility's rule takes, for shares and for interest alike: the weight where the move is above the
 // volatility, the weight where it is not, and the multiplier.
 pub struct Model {
-    pub aup: u64,
-    pub adown: u64,
-    pub q: u64,
+    pub aup: u64, // ten-thousandths, 0 to 10,000
+    pub adown: u64, // ten-thousandths, 0 to 10,000
+    pub q: u64, // hundredths, 100 to 1,000
 }
 
 // What a security is admitted with, by the names of document 01's table.
@@ -164,38 +164,39 @@ pub struct Statics {
 }
 
 impl Statics {
-    pub const LOT_MOST: u64 = 100;
+    pub const LOT_MOST: u64 = 100; // pieces
 
-    pub const STEP_MOST: u64 = 1_000;
+    pub const STEP_MOST: u64 = 1_000; // h, in bp
 
-    pub const MULTIPLIER_LEAST: u64 = 100;
+    pub const MULTIPLIER_LEAST: u64 = 100; // q, in hundredths
 
-    pub const MULTIPLIER_MOST: u64 = 1_000;
+    pub const MULTIPLIER_MOST: u64 = 1_000; // q, in hundredths
 
-    pub const WEIGHT_MOST: u64 = 10_000;
+    pub const WEIGHT_MOST: u64 = 10_000; // aup and adown, in ten-thousandths
 
-    pub const WAIT_MOST: u64 = 250;
+    pub const WAIT_MOST: u64 = 250; // trading days
 
-    pub const FIRST_DAYS_MOST: u64 = 5;
+    pub const FIRST_DAYS_MOST: u64 = 5; // rh1
 
-    pub const DAYS_MOST: u64 = 30;
+    pub const DAYS_MOST: u64 = 30; // rh2 and rh3
 
-    pub const LIQUIDITY_MOST: u64 = 500;
+    pub const LIQUIDITY_MOST: u64 = 500; // liq, in bp
 
-    pub const DIVISOR_LEAST: u64 = 50;
+    pub const DIVISOR_LEAST: u64 = 50; // xpr, and xir of the interest side, in hundredths
 
-    pub const DIVISOR_MOST: u64 = 1_000;
+    pub const DIVISOR_MOST: u64 = 1_000; // xpr, and xir of the interest side, in hundredths
 
-    pub const SHIFT_MOST: u64 = 100;
+    pub const SHIFT_MOST: u64 = 100; // hundredths
 
-    pub const NEARNESS_MOST: u64 = 5_000;
+    pub const NEARNESS_MOST: u64 = 5_000; // w, in ten-thousandths
 
-    pub const SECONDS_MOST: u64 = 3_600;
+    pub const SECONDS_MOST: u64 = 3_600; // u and uevening
 
     pub const EVENING_MOVES_MOST: u64 = 10;
 }
 
-// The statics as they are given: the same numbers, with yes as 1 and no as 0.
+// The statics as they are given: each has the unit and the range of the field of `Statics` with its name, and yes is 1,
+// no 0.
 pub struct GivenStatics {
     pub lot: u64,
     pub h: u64,
@@ -227,14 +228,14 @@ pub struct GivenStatics {
 
 // "A record has a standing: admitted only, or live with its day number." Either holds the last day.
 pub enum Standing {
-    Admitted(u64),
-    Live(u64),
+    Admitted(u64), // a day number, 0 to 10^6
+    Live(u64), // a day number, 0 to 10^6
 }
 
 // "A record carries its session: main, or evening with the evening moves made" (W-210).
 pub enum Session {
     Main,
-    Evening(u64),
+    Evening(u64), // evening moves, 0 to 10
 }
 
 // W-211, "our outside source sends a bid and an ask as 64-bit floats": in roubles.
@@ -250,10 +251,10 @@ pub enum Notice {
     Withdrawal,
 }
 
-// The outside bid and ask that a record keeps, in units; 0 is none.
+// The outside bid and ask that a record keeps; 0 is none.
 pub struct External {
-    pub bid: u64,
-    pub ask: u64,
+    pub bid: u64, // units, 0 to 10^10
+    pub ask: u64, // units, 0 to 10^10
 }
 
 // W-209, "The shared rounding rule now says which way it goes": to the whole number that is not above, to the nearest
@@ -264,10 +265,10 @@ pub enum Way {
     Up,
 }
 
-// A lower and an upper limit, in units: a level's range, or a term's band.
+// A lower and an upper limit: a level's range, or a term's band. A bond's are in hundredths of a per cent (W-206).
 pub struct Limits {
-    pub lower: u64,
-    pub upper: u64,
+    pub lower: u64, // of a share units, 0 to 2·10^12 + 2·10^10, on the grid
+    pub upper: u64, // of a share units, 0 to 2·10^12 + 2·10^10, on the grid
 }
 
 pub enum Side {
@@ -278,7 +279,7 @@ pub enum Side {
 // A side is near since a second, or not near.
 pub enum Near {
     Not,
-    Since(u64),
+    Since(u64), // seconds of the day, 0 to 86,399
 }
 
 // The near seconds of one term.
@@ -289,49 +290,48 @@ pub struct NearSeconds {
 
 // The moves of each side since the evaluation: the c of document 01.
 pub struct Moves {
-    pub upper: u64,
-    pub lower: u64,
+    pub upper: u64, // moves, 0 to 50
+    pub lower: u64, // moves, 0 to 50
 }
 
-// A term's days k and its repo band RRcL ≤ RRcH, in basis points.
+// A term's days k and its repo band RRcL ≤ RRcH.
 pub struct Term {
-    pub k: u64,
-    pub low: i64,
-    pub high: i64,
+    pub k: u64, // days, 0 to 30
+    pub low: i64, // bp, -9,999 to high
+    pub high: i64, // bp, low to 9,999
 }
 
 impl Term {
     pub const DAYS_MOST: u64 = 30;
 
-    pub const REPO_LEAST: i64 = -9_999;
+    pub const REPO_LEAST: i64 = -9_999; // bp
 
-    pub const REPO_MOST: i64 = 9_999;
+    pub const REPO_MOST: i64 = 9_999; // bp
 }
 
-// What the limits of a bond take beside its statics, for one term (11.1): money is in units, the rate in basis points.
+// What the limits of a bond take beside its statics, for one term (11.1).
 pub struct BondScale {
-    pub carry: u64, // Carry, of the cash flows up to the term
-    pub accrued: u64, // the accrued interest
-    pub face: u64, // the face value
-    pub repo: i64, // REPORate
+    pub carry: u64, // units: Carry, of the cash flows up to the term
+    pub accrued: u64, // units, 0 to 10^10: the accrued interest
+    pub face: u64, // units, 1 to 10^10: the face value
+    pub repo: i64, // bp, -9,999 to 9,999: REPORate
 }
 
-// What an evaluation gives beside its price (7.1): the volatility in millionths, the tentative rate, and a rate a
-// level.
+// What an evaluation gives beside its price (7.1): the volatility, the tentative rate, and a rate a level.
 pub struct Figures {
-    pub s: u64,
+    pub s: u64, // millionths, 0 to 1,000,000
     pub tentative: Tentative,
     pub rates: [Rate; Record::LEVELS],
 }
 
 // One security. The slot is empty where id is 0. Of the two latest evaluations p1 is the later.
 pub struct Record {
-    pub id: u64,
+    pub id: u64, // 1 to 10^9, or 0
     pub statics: Statics,
     pub standing: Standing,
     pub p1: Price,
     pub p2: Price,
-    pub s: u64,
+    pub s: u64, // millionths, 0 to 1,000,000
     pub tentative: Tentative,
     pub rates: [Rate; Record::LEVELS],
     pub ranges: [Limits; Record::LEVELS],
@@ -339,7 +339,7 @@ pub struct Record {
     pub bands: [Limits; Record::TERMS],
     pub moves: Moves,
     pub near: [NearSeconds; Record::TERMS],
-    pub second: u64,
+    pub second: u64, // seconds of the day, 0 to 86,399: the last accepted quote's
     pub session: Session,
     pub external: External,
 }
@@ -354,52 +354,52 @@ impl Record {
 
     pub const DAY_MOST: u64 = 1_000_000;
 
-    pub const VOLATILITY_MOST: u64 = 1_000_000;
+    pub const VOLATILITY_MOST: u64 = 1_000_000; // millionths
 
-    pub const AGE_MOST: u64 = 250;
+    pub const AGE_MOST: u64 = 250; // trading days
 
-    pub const MOVES_MOST: u64 = 50;
+    pub const MOVES_MOST: u64 = 50; // of one side
 
-    pub const SECOND_LAST: u64 = 86_399;
+    pub const SECOND_LAST: u64 = 86_399; // of the day
 
     pub const SLOTS_MOST: usize = 512;
 }
 
 // What an admission gives.
 pub struct Admission {
-    pub id: u64,
-    pub day: u64,
-    pub p1: u64,
-    pub p2: u64,
-    pub s: u64,
-    pub tentative: u64,
+    pub id: u64, // 1 to 10^9
+    pub day: u64, // 0 to 10^6: the last day number
+    pub p1: u64, // units, 1 to 10^10, on the grid: the later evaluation
+    pub p2: u64, // units, 1 to 10^10, on the grid
+    pub s: u64, // millionths, 0 to 1,000,000
+    pub tentative: u64, // bp, 0 to the least multiple of h at or above 100,000, a multiple of h
     pub given: GivenStatics,
 }
 
 // What a day gives beside its rows.
 pub struct Day {
-    pub day: u64,
-    pub b: u64,
-    pub m: u64,
+    pub day: u64, // 0 to 10^6
+    pub b: u64, // non-trading days between days i-2 and i, 0 to 30
+    pub m: u64, // non-trading days ahead, 0 to 10
     pub terms: [Term; Record::TERMS],
 }
 
 impl Day {
-    pub const BEHIND_MOST: u64 = 30;
+    pub const BEHIND_MOST: u64 = 30; // b, in days
 
-    pub const AHEAD_MOST: u64 = 10;
+    pub const AHEAD_MOST: u64 = 10; // m, in days
 }
 
 // A row of the day, its numbers in range; only the repo rate may be negative. Close, bid or ask 0 is missing, volume 0
 // is no trade.
 pub struct Row {
-    pub t: u64,
-    pub central: u64,
-    pub repo: i64,
-    pub close: u64,
-    pub bid: u64,
-    pub ask: u64,
-    pub volume: u64,
+    pub t: u64, // days, 0 to 30
+    pub central: u64, // ten-thousandths of a rouble, 1 to 10^7
+    pub repo: i64, // bp, -9,999 to 9,999
+    pub close: u64, // ten-thousandths of its currency, 0 to 10^10
+    pub bid: u64, // ten-thousandths of its currency, 0 to 10^10
+    pub ask: u64, // ten-thousandths of its currency, 0 to 10^10
+    pub volume: u64, // thousands of its currency, 0 to 10^8
 }
 
 impl Row {
@@ -407,34 +407,35 @@ impl Row {
 
     pub const ALL_NUMBERS_MOST: usize = 112;
 
-    pub const TERM_MOST: i64 = 30;
+    pub const TERM_MOST: i64 = 30; // t, in days
 
-    pub const CENTRAL_MOST: i64 = 10_000_000;
+    pub const CENTRAL_MOST: i64 = 10_000_000; // ten-thousandths of a rouble
 
-    pub const VOLUME_MOST: u64 = 100_000_000;
+    pub const VOLUME_MOST: u64 = 100_000_000; // thousands
 
-    pub const ROUBLE: u64 = 10_000;
+    pub const ROUBLE: u64 = 10_000; // its central rate, in ten-thousandths
 }
 
 // A row after places (a) and (b): its prices in roubles today, and its weight.
 pub struct Roubles {
-    pub weight: u64,
-    pub close: u64,
-    pub bid: u64,
-    pub ask: u64,
+    pub weight: u64, // thousands of roubles, 0 to 10^8
+    pub close: u64, // units, 0 to 10^10
+    pub bid: u64, // units, 0 to 10^10
+    pub ask: u64, // units, 0 to 10^10
 }
 
+// A quote of one term; bid or ask 0 is missing.
 pub struct Quote {
-    pub second: u64,
-    pub term: u64,
-    pub bid: u64,
-    pub ask: u64,
+    pub second: u64, // seconds of the day, 0 to 86,399
+    pub term: u64, // 0 to 2
+    pub bid: u64, // units, 0 to 10^11
+    pub ask: u64, // units, 0 to 10^11
 }
 
 impl Quote {
     pub const TERM_LAST: u64 = 2;
 
-    pub const PRICE_MOST: u64 = 100_000_000_000;
+    pub const PRICE_MOST: u64 = 100_000_000_000; // units
 }
 
 // "Numbers a member may see", by name; `number` gives the number: 0 to 13 are document 01's, later ones document 02's.
@@ -519,15 +520,15 @@ pub struct Answer {
 // ---- the interest side (W-201)
 
 // A key maturity as an evening gives it: its days, the repo rate of this evening and of the two before, the repo index,
-// and the volatility and the tentative rate of the evening before. Rates and volatility are in basis points.
+// and the volatility and the tentative rate of the evening before.
 pub struct Maturity {
-    pub t: u64,
-    pub r: i64,
-    pub r1: i64,
-    pub r2: i64,
-    pub index: i64,
-    pub volatility: u64,
-    pub tentative: Tentative,
+    pub t: u64, // days, 0 to 365
+    pub r: i64, // bp, -9,999 to 9,999
+    pub r1: i64, // bp, -9,999 to 9,999
+    pub r2: i64, // bp, -9,999 to 9,999
+    pub index: i64, // bp, -9,999 to 9,999
+    pub volatility: u64, // bp, 0 to 19,998
+    pub tentative: Tentative, // bp 0 to 200,979, age 0 to 250
 }
 
 impl Maturity {
@@ -537,49 +538,49 @@ impl Maturity {
 
     pub const COUNT_MOST: usize = 8;
 
-    pub const DAYS_MOST: u64 = 365;
+    pub const DAYS_MOST: u64 = 365; // of a key maturity, or of a term of a pair
 
-    pub const VOLATILITY_MOST: u64 = 19_998;
+    pub const VOLATILITY_MOST: u64 = 19_998; // bp
 
-    pub const TENTATIVE_MOST: u64 = 200_979;
+    pub const TENTATIVE_MOST: u64 = 200_979; // bp
 }
 
 // What an evening gives beside its key maturities: the holidays b, the pair of terms Ym/Yn, the statics, and the
 // rollover rates of money and of the security.
 pub struct Interest {
-    pub b: u64,
-    pub ym: u64,
-    pub yn: u64,
+    pub b: u64, // days, 0 to 30
+    pub ym: u64, // days, 0 to 365, less than yn
+    pub yn: u64, // days, 0 to 365
     pub model: Model,
-    pub h: u64,
-    pub wait: u64,
-    pub liq: u64,
-    pub mm: u64,
-    pub sec: u64,
-    pub xir: u64,
-    pub money: i64,
-    pub secrate: i64,
+    pub h: u64, // bp, 1 to 1,000
+    pub wait: u64, // trading days, 1 to 250
+    pub liq: u64, // bp, 0 to 9,999
+    pub mm: u64, // bp, 0 to 9,999: MMΔ
+    pub sec: u64, // bp, 0 to 9,999: SECΔ
+    pub xir: u64, // hundredths, 50 to 1,000
+    pub money: i64, // bp, -9,999 to 9,999
+    pub secrate: i64, // bp, -9,999 to 9,999
 }
 
 impl Interest {
-    pub const MINIMUM_MOST: u64 = 9_999;
+    pub const MINIMUM_MOST: u64 = 9_999; // liq, mm and sec, in bp
 }
 
 // The figures of a key maturity: the change of its rate, the volatility, the tentative rate, and the upward and the
 // downward estimate.
 pub struct MaturityFigures {
-    pub change: u64,
-    pub volatility: u64,
-    pub tentative: Tentative,
-    pub up: u64,
-    pub down: u64,
+    pub change: u64, // bp, 0 to 19,998
+    pub volatility: u64, // bp, 0 to 19,998
+    pub tentative: Tentative, // bp 0 to 200,979, age 0 to 250
+    pub up: u64, // bp, 0 to 211,977
+    pub down: u64, // bp, 0 to 211,977
 }
 
 // A pair of terms worked out: the limits of its repo band, where the verdict is done.
 pub struct WorkedBand {
     pub verdict: Verdict,
-    pub lower: i64,
-    pub upper: i64,
+    pub lower: i64, // bp
+    pub upper: i64, // bp
 }
 
 // What the interest side answers: the pair, how many key maturities there are, and the figures of each; zeros past the
@@ -592,8 +593,8 @@ pub struct InterestAnswer {
 
 // A repo band as two numbers give it.
 pub struct RepoLimits {
-    pub low: i64,
-    pub high: i64,
+    pub low: i64, // bp
+    pub high: i64, // bp
 }
 
 // Where a term's repo band comes from: it is given, or a pair of terms was worked out.
@@ -603,11 +604,11 @@ pub enum RepoBand {
 }
 
 pub struct AskedTerm {
-    pub k: u64,
+    pub k: u64, // days, 0 to 30
     pub band: RepoBand,
 }
 
-// A day as it is asked for, with either kind of band in each of its terms.
+// A day as it is asked for, with either kind of band in each of its terms; its numbers are those of `Day`.
 pub struct AskedDay {
     pub day: u64,
     pub b: u64,

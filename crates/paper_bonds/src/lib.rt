@@ -44,18 +44,18 @@ pub struct Bond {
 }
 
 impl Bond {
-    pub const NET_MOST: u64 = 30_000;
+    pub const NET_MOST: u64 = 30_000; // hundredths of a per cent
 
-    pub const MONEY_MOST: u64 = 10_000_000_000;
+    pub const MONEY_MOST: u64 = 10_000_000_000; // units
 
     // "their 20 per cent": how far a limit off the book may be from the evaluation, in basis points.
     pub const OFF_BOOK_BP: u64 = 2_000;
 }
 
-// A cash flow, its numbers in range: so many days ahead, in units.
+// A cash flow, its numbers in range.
 pub struct Flow {
-    pub day: u64,
-    pub amount: u64,
+    pub day: u64, // days ahead, 1 to 30
+    pub amount: u64, // units, 0 to 10^10
 }
 
 impl Flow {
@@ -63,9 +63,9 @@ impl Flow {
 
     pub const ALL_NUMBERS_MOST: usize = 8;
 
-    pub const DAY_LEAST: i64 = 1;
+    pub const DAY_LEAST: i64 = 1; // days ahead
 
-    pub const DAY_MOST: i64 = 30;
+    pub const DAY_MOST: i64 = 30; // days ahead
 }
 
 // The limits of a term, in hundredths of a per cent: on the book, and for trades off it.
@@ -74,11 +74,11 @@ pub struct BondLimits {
     pub off: Limits,
 }
 
-// What the call answers: the gross evaluation in units, the tentative rate, a rate a level, and limits a term. A
-// refusal has its verdict and every figure 0.
+// What the call answers: the gross evaluation, the tentative rate, a rate a level, and limits a term. A refusal has its
+// verdict and every figure 0.
 pub struct BondAnswer {
     pub verdict: Verdict,
-    pub gross: u64,
+    pub gross: u64, // units
     pub tentative: Tentative,
     pub rates: [Rate; Record::LEVELS],
     pub limits: [BondLimits; Record::TERMS],

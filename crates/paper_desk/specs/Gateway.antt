@@ -17,7 +17,7 @@ use Rattle.paper_desk.specs.Limits.{rangeLimit, bandLimit}
 use Rattle.paper.specs.Verdicts.{numberOf, isDone, Check, firstOf}
 
 -- the statics as the gateway hands them over: 26 signed numbers, by the names of document 01's table, of W-210 and of
--- W-211
+-- W-211. Each has the unit and the range of the field of `Statics` with its name, and yes is 1, no 0
 pub record GatewayStatics : Type 0 where
   pub lot : ℤ
   pub h : ℤ
