@@ -22,13 +22,13 @@ use Rattle.paper.proofs.Logic.{not-true-and-false, not-true}
 
 -- a term with a pair that was worked out
 abbrev pub withPair : ℕ → WorkedBand → AskedTerm
-withPair k w = record { k = k; band = band.Worked w }
+withPair k w = record { k = k; band = band.WorkedOut w }
 
 -- ---- a pair that was accepted
 
 -- its limits are judged as given ones are: they make the same term
 pub worked-as-given : (k : ℕ) (w : WorkedBand) → w .verdict ≡ Done
-    → termOf (withPair k w) ≡ termOf (record { k = k; band = band.Given (record { low = w .lower; high = w .upper }) })
+    → termOf (withPair k w) ≡ termOf (record { k = k; band = band.AsGiven (record { low = w .lower; high = w .upper }) })
 unfolding termOf repoOf workedRepo isDone
 worked-as-given k w e = rw e
 
@@ -43,8 +43,8 @@ accepted-limits k i numbers e = rw e
 
 -- whether a band is a pair that was refused
 abbrev pub isRefused : RepoBand → Bool
-isRefused (band.Given x) = false
-isRefused (band.Worked w) = not (isDone (w .verdict))
+isRefused (band.AsGiven x) = false
+isRefused (band.WorkedOut w) = not (isDone (w .verdict))
 
 -- where one test fails, all of them do
 one-fails : (p q : Bool) → (p && false && q) ≡ false
@@ -58,12 +58,12 @@ refused-out x e = go (x .band) e
   where
     go : (b : RepoBand) → isRefused b ≡ true
         → validTerm (record { k = x .k; low = repoOf b .low; high = repoOf b .high }) ≡ false
-    go (band.Given r) e = absurd (not-true-and-false false e refl)
-    go (band.Worked w) e = rw (not-true (isDone (w .verdict)) e) (one-fails (leb (x .k) termDaysMost && true) true)
+    go (band.AsGiven r) e = absurd (not-true-and-false false e refl)
+    go (band.WorkedOut w) e = rw (not-true (isDone (w .verdict)) e) (one-fails (leb (x .k) termDaysMost && true) true)
 
 -- the pair that the interest side refuses is such a band
 pub refused-pair : (i : Interest) (numbers : List ℤ) → isDone (firstOf (interestChecks i numbers)) ≡ false
-    → isRefused (band.Worked (interestAnswer i numbers .pair)) ≡ true
+    → isRefused (band.WorkedOut (interestAnswer i numbers .pair)) ≡ true
 unfolding interestAnswer refusedInterest
 refused-pair i numbers e = rw (e, e)
 

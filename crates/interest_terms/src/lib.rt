@@ -30,8 +30,8 @@ fn repo_of(band: RepoBand) -> RepoLimits
     ensures { λ r. ⌜ r ≡ repoOf band ⌝ }
 {
     match band {
-        RepoBand::Given(repo) => repo,
-        RepoBand::Worked(pair) => worked_repo(pair),
+        RepoBand::AsGiven(repo) => repo,
+        RepoBand::WorkedOut(pair) => worked_repo(pair),
     }
 }
 

@@ -21,11 +21,11 @@ noRepo = record { low = pos 1; high = pos 0 }
 
 -- the limits of a pair that was worked out, as they are; a pair that was refused has none
 unfoldable pub workedRepo : WorkedBand → RepoLimits
-workedRepo w = pick (isDone (w .verdict)) (record { low = w .lower; high = w .upper }) noRepo
+workedRepo pair = pick (isDone (pair .verdict)) (record { low = pair .lower; high = pair .upper }) noRepo
 
 unfoldable pub repoOf : RepoBand → RepoLimits
-repoOf (band.Given x) = x
-repoOf (band.Worked w) = workedRepo w
+repoOf (band.AsGiven x) = x
+repoOf (band.WorkedOut pair) = workedRepo pair
 
 unfoldable pub termOf : AskedTerm → Term
 termOf x = record { k = x .k; low = repoOf (x .band) .low; high = repoOf (x .band) .high }

@@ -597,10 +597,10 @@ pub struct RepoLimits {
     pub high: i64, // bp
 }
 
-// Where a term's repo band comes from: it is given, or a pair of terms was worked out.
+// Where a term's repo band comes from: it stands as given, or a pair of terms was worked out.
 pub enum RepoBand {
-    Given(RepoLimits),
-    Worked(WorkedBand),
+    AsGiven(RepoLimits),
+    WorkedOut(WorkedBand),
 }
 
 pub struct AskedTerm {

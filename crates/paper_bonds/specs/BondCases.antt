@@ -78,7 +78,7 @@ ewmaAt = 32
 termFrom : (xs : List ℤ) → (at : ℕ) → AskedTerm
 unfolding unsigned
 termFrom xs at =
-    record { k = plain xs at; band = band.Given (record { low = signed xs (at + 1); high = signed xs (at + 2) }) }
+    record { k = plain xs at; band = band.AsGiven (record { low = signed xs (at + 1); high = signed xs (at + 2) }) }
 
 unfoldable pub bondFrom : (xs : List ℤ) → Bond
 unfolding unsigned termFrom

@@ -148,7 +148,7 @@ unfolding bondFrom plainBond
 workedBond v low high =
     let b : Bond = bondFrom plainBond in
     let term : AskedTerm =
-    record { k = 2; band = band.Worked (record { verdict = v; lower = low; upper = high }) } in
+    record { k = 2; band = band.WorkedOut (record { verdict = v; lower = low; upper = high }) } in
     record {
       m = b .m;
       net = b .net;

@@ -37,7 +37,7 @@ abbrev pub noAdmission : Admission
 noAdmission = admissionOf []
 
 abbrev pub noTerm : AskedTerm
-noTerm = record { k = 0; band = band.Given (record { low = pos 0; high = pos 0 }) }
+noTerm = record { k = 0; band = band.AsGiven (record { low = pos 0; high = pos 0 }) }
 
 abbrev pub noDay : AskedDay
 noDay = record { day = 0; b = 0; m = 0; first = noTerm; second = noTerm; third = noTerm }

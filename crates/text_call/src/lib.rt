@@ -123,9 +123,9 @@ fn band_of(k: Kept, pair: bool, low: i64, high: i64) -> RepoBand
     ensures { λ r. ⌜ r ≡ bandOf k pair low high ⌝ }
 {
     if pair {
-        return RepoBand::Worked(found(k, exact::unsigned(low), exact::unsigned(high)));
+        return RepoBand::WorkedOut(found(k, exact::unsigned(low), exact::unsigned(high)));
     }
-    RepoBand::Given(RepoLimits { low, high })
+    RepoBand::AsGiven(RepoLimits { low, high })
 }
 
 // The term whose days stand at a place, and its band behind them: of an evaluation or of a bond.
@@ -298,7 +298,7 @@ fn no_term() -> AskedTerm
 {
     AskedTerm {
         k: 0,
-        band: RepoBand::Given(RepoLimits { low: 0, high: 0 }),
+        band: RepoBand::AsGiven(RepoLimits { low: 0, high: 0 }),
     }
 }
 

@@ -146,9 +146,9 @@ pub asked : (deedBy "admit 1 2 3 4 5 6 7 8 9 10 11 12 13 14 15 16 17 18 19 20 21
         monitoring = 32;
         ewma = 33;
       };
-      first = record { k = 9; band = band.Given (record { low = pos 10; high = pos 11 }) };
-      second = record { k = 12; band = band.Worked (record { verdict = Done; lower = pos 60; upper = pos 70 }) };
-      third = record { k = 15; band = band.Given (record { low = pos 16; high = pos 17 }) };
+      first = record { k = 9; band = band.AsGiven (record { low = pos 10; high = pos 11 }) };
+      second = record { k = 12; band = band.WorkedOut (record { verdict = Done; lower = pos 60; upper = pos 70 }) };
+      third = record { k = 15; band = band.AsGiven (record { low = pos 16; high = pos 17 }) };
       repo = pos 5;
     }) (naturals (34 ∷ 35 ∷ [])))
 unfolding floatAt deedBy keptLimits bytes isDone unsigned workedRepo repoOf dayOf dayTerm isBlank isNot run grow

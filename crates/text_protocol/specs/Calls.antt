@@ -139,8 +139,8 @@ interestOf zs =
 -- where a pair stands in a term, the two numbers are Ym and Yn, and the band is the newest kept answer of that pair;
 -- else they are the band
 unfoldable pub bandOf : Kept → (pair : Bool) → (low high : ℤ) → RepoBand
-bandOf k true low high = band.Worked (foundIn k (unsigned low) (unsigned high))
-bandOf k false low high = band.Given (record { low = low; high = high })
+bandOf k true low high = band.WorkedOut (foundIn k (unsigned low) (unsigned high))
+bandOf k false low high = band.AsGiven (record { low = low; high = high })
 
 unfoldable pub termOf : (names : List Name) → Kept → (zs : List ℤ) → (pair : Bool) → (days low high : Name) → AskedTerm
 termOf names k zs pair days low high =
