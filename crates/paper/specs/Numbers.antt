@@ -40,9 +40,22 @@ yearInDayBp = 3650000
 abbrev pub oneInPerCentHundredths : ℕ
 oneInPerCentHundredths = 10000
 
--- the coarsest of the three grids, in units
+-- ---- the grid
+
+-- "g = 100 units for lot 1, 10 for 2..10, 1 for 11..100": the greatest lot of the second grid, and the first two grids,
+-- in units
+abbrev pub lotToTen : ℕ
+lotToTen = 10
+
+abbrev pub gridOfOne : ℕ
+gridOfOne = 100
+
+abbrev pub gridToTen : ℕ
+gridToTen = 10
+
+-- the coarsest of the three is that of lot 1
 abbrev pub coarsestGrid : ℕ
-coarsestGrid = 100
+coarsestGrid = gridOfOne
 
 -- ---- prices, rates, volatility
 
@@ -150,6 +163,10 @@ movesMost = 50
 -- a second of the session
 abbrev pub secondLast : ℕ
 secondLast = 86399
+
+-- the last of the three levels, which count from 1
+abbrev pub levelLast : ℕ
+levelLast = 3
 
 -- the slots of a table
 abbrev pub slotsMost : ℕ

@@ -36,7 +36,7 @@ use Rattle.paper.specs.declared.Day.{Day}
 use Rattle.paper.specs.declared.Row.{Row}
 use Rattle.paper.specs.declared.Quote.{Quote}
 use Rattle.paper.specs.Lists.{pick, allThree, every}
-use Rattle.paper.specs.Numbers.{priceLeast, priceMost, rateMost, volatilityMost, tentativeMost, lotMost, stepMost, multiplierLeast, multiplierMost, weightMost, waitMost, firstDaysMost, daysMost, liquidityMost, divisorLeast, divisorMost, shiftMost, nearnessMost, secondsMost, eveningMovesMost, idMost, dayMost, ageMost, limitMost, movesMost, secondLast, slotsMost, behindMost, aheadMost, termDaysMost, repoLeast, repoMost, rowNumbers, allNumbersMost, rowTermMost, centralMost, volumeMost, termLast, quoteMost, pastEvery}
+use Rattle.paper.specs.Numbers.{lotToTen, gridOfOne, gridToTen, priceLeast, priceMost, rateMost, volatilityMost, tentativeMost, lotMost, stepMost, multiplierLeast, multiplierMost, weightMost, waitMost, firstDaysMost, daysMost, liquidityMost, divisorLeast, divisorMost, shiftMost, nearnessMost, secondsMost, eveningMovesMost, idMost, dayMost, ageMost, limitMost, movesMost, secondLast, slotsMost, behindMost, aheadMost, termDaysMost, repoLeast, repoMost, rowNumbers, allNumbersMost, rowTermMost, centralMost, volumeMost, termLast, quoteMost, pastEvery}
 use Rattle.paper.specs.Roundings.{up}
 
 -- "low..high"
@@ -74,7 +74,7 @@ limitMade units = pick (leb units limitMost) (made-limit.Made (record { units = 
 
 -- "Grid (10.1): ceiling(log10 lot) + 2 decimals. So g = 100 units for lot 1, 10 for 2..10, 1 for 11..100."
 unfoldable pub gridOf : (lot : ℕ) → ℕ
-gridOf lot = pick (leb lot 1) 100 (pick (leb lot 10) 10 1)
+gridOf lot = pick (leb lot 1) gridOfOne (pick (leb lot lotToTen) gridToTen 1)
 
 -- "on the grid, in range"
 unfoldable pub isGridPrice : (g p : ℕ) → Bool

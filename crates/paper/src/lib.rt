@@ -30,6 +30,14 @@ pub const YEAR_IN_DAY_BP: u64 = 3_650_000;
 // One, in the hundredths of a per cent in which a net evaluation and the limits of a bond are given.
 pub const ONE_IN_PER_CENT_HUNDREDTHS: u64 = 10_000;
 
+// "g = 100 units for lot 1, 10 for 2..10, 1 for 11..100": the greatest lot of the second grid, and the first two grids,
+// in units.
+pub const LOT_TO_TEN: u64 = 10;
+
+pub const GRID_OF_ONE: u64 = 100;
+
+pub const GRID_TO_TEN: u64 = 10;
+
 // A price, in ten-thousandths of a rouble.
 pub struct Price {
     pub units: u64,
