@@ -4,7 +4,7 @@ use mathlib.Core.List.{List, [], _∷_}
 use Prim.Native.Nat.{ℕ}
 
 -- a where the test passes, else b
-abbrev pub pick {ℓ} : {A : Type ℓ} → Bool → A → A → A
+abbrev pub pick {ℓ} : {A : Type ℓ} → (test : Bool) → (a b : A) → A
 pick true a b = a
 pick false a b = b
 

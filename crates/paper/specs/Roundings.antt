@@ -98,10 +98,10 @@ atLeastZero (negsuc n) = 0
 -- ---- quotients and sums that are not rounded
 
 -- the lesser and the greater of two quotients, exactly
-unfoldable pub lesserOf : Quotient → Quotient → Quotient
+unfoldable pub lesserOf : (x y : Quotient) → Quotient
 lesserOf x y = pick (leb (x .num * y .den) (y .num * x .den)) x y
 
-unfoldable pub greaterOf : Quotient → Quotient → Quotient
+unfoldable pub greaterOf : (x y : Quotient) → Quotient
 greaterOf x y = pick (leb (x .num * y .den) (y .num * x .den)) y x
 
 -- base + k·rate for a rate of either sign; the paper's ranges keep it above 0

@@ -40,7 +40,7 @@ unfoldable pub isDone : Verdict → Bool
 isDone v = eqb (numberOf v) 0
 
 -- one holds where the other does, and nowhere else
-abbrev pub Exactly : Type 0 → Type 0 → Type 0
+abbrev pub Exactly : (a b : Type 0) → Type 0
 Exactly a b = (a → b) × (b → a)
 
 -- what is named, and when it applies: a number that a member may see, or a reason (W-207)
