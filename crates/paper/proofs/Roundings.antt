@@ -13,7 +13,7 @@ use Rattle.paper.specs.declared.Way.{Way}
 use Rattle.paper.specs.declared.Way.the-variants.{Down, HalfUp, Up}
 use Rattle.paper.specs.Lists.{pick}
 use Rattle.paper.specs.Least.{leastTimes}
-use Rattle.paper.specs.Roundings.{Quotient, down, halfUp, up, rounded, roundedTo, above, below, Rounded, RoundedUp, lesserOf, greaterOf}
+use Rattle.paper.specs.Roundings.{Quotient, down, halfUp, up, rounded, roundedTo, above, below, Rounded, RoundedUp, KeepsOrder, lesserOf, greaterOf}
 use Rattle.paper.proofs.Logic.{le-or-lt}
 use Rattle.paper.proofs.Search.{times-unique}
 
@@ -215,11 +215,6 @@ grid-exact way g k d p q =
     rw same (ap (λ (z : ℕ). z * g) (rounded-exact way k (d * g) (mul-pos q p)))
 
 -- ---- the lesser and the greater of two quotients, rounded once, are the lesser and the greater of the two rounded
-
--- a rounding that keeps order: that of a grid does, whichever way it goes, and so does what each kind of security makes
--- of a limit
-pub record KeepsOrder (f : Quotient → ℕ) : Type 0 where
-  pub keeps : (x y : Quotient) → 0 < x .den → 0 < y .den → x .num * y .den ≤ y .num * x .den → f x ≤ f y
 
 module _ (f : Quotient → ℕ) (o : KeepsOrder f) (x y : Quotient) (p : 0 < x .den) (q : 0 < y .den) where
   pub lesser-rounded : f (lesserOf x y) ≡ min (f x) (f y)

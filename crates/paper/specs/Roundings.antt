@@ -69,6 +69,11 @@ pub record RoundedUp (r : ℕ) (x : Quotient) : Type 0 where
   pub least : (z : ℕ) → x .num ≤ z * x .den → r ≤ z
   pub positive : 0 < x .den
 
+-- a rounding that keeps order: that of a grid does, whichever way it goes, and so does what each kind of security makes
+-- of a limit
+pub record KeepsOrder (f : Quotient → ℕ) : Type 0 where
+  pub keeps : (x y : Quotient) → 0 < x .den → 0 < y .den → x .num * y .den ≤ y .num * x .den → f x ≤ f y
+
 -- ---- numbers below zero
 
 -- to nearest, ties down: how the size of a number below zero is rounded where the number is rounded half up

@@ -24,13 +24,13 @@ use Rattle.paper.specs.declared.Record.{Record}
 use Rattle.paper.specs.declared.Day.{Day}
 use Rattle.paper.specs.Lists.{pick}
 use Rattle.paper.specs.Numbers.{oneInBp, oneInHundredths, yearInDayBp, oneInPerCentHundredths}
-use Rattle.paper.specs.Roundings.{Quotient, roundedTo, lesserOf, greaterOf, grown}
+use Rattle.paper.specs.Roundings.{Quotient, roundedTo, KeepsOrder, lesserOf, greaterOf, grown}
 use Rattle.paper.specs.Ranges.{gridOf, noLimits}
 use Rattle.paper.specs.Verdicts.{NoneApplies, none, also}
 use Rattle.paper_desk.specs.Limits.{share, limitOf, inward, Inside, grownPrice, bondLimitOf, shifted, farthest, spread, monitored, narrower, narrowerOf, bandBefore, bandLimit, bandOf, crossed, oneMore}
 use Rattle.paper_desk.specs.Desk.{evaluated, evaluateChecks}
 use Rattle.paper.proofs.Logic.{each-of-three, not-true, not-false}
-use Rattle.paper.proofs.Roundings.{KeepsOrder, down-not-above, up-not-below}
+use Rattle.paper.proofs.Roundings.{down-not-above, up-not-below}
 use Rattle.paper_desk.proofs.KindLaws.{bond-limit-is, limit-monotone, narrower-rounded, farthest-positive, monitored-positive, band-positive}
 use Rattle.paper_desk.proofs.LimitSizes.{LimitStatics, grid-in-range}
 
