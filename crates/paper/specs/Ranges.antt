@@ -315,6 +315,13 @@ rateAt rates i = getD rates i noRate .bp
 abbrev pub noLimits : Limits
 noLimits = record { lower = 0; upper = 0 }
 
+-- the range of the level i + 1, and the band of a term
+abbrev pub rangeAt : Record → (i : ℕ) → Limits
+rangeAt r i = getD (r .ranges) i noLimits
+
+abbrev pub bandAt : Record → (k : ℕ) → Limits
+bandAt r k = getD (r .bands) k noLimits
+
 abbrev pub notNear : NearSeconds
 notNear = record { top = Not; bottom = Not }
 
@@ -359,9 +366,9 @@ unfoldable pub sound : Record → Bool
 sound r =
     soundFigures r
     && allThree (λ i. isRate (rateAt (r .rates) i))
-    && allThree (λ i. validLimits (gridOf (r .statics .lot)) (getD (r .ranges) i noLimits))
+    && allThree (λ i. validLimits (gridOf (r .statics .lot)) (rangeAt r i))
     && allThree (λ k. validTerm (termAt (r .terms) k))
-    && allThree (λ k. validLimits (gridOf (r .statics .lot)) (getD (r .bands) k noLimits))
+    && allThree (λ k. validLimits (gridOf (r .statics .lot)) (bandAt r k))
     && leb (r .moves .upper) movesMost
     && leb (r .moves .lower) movesMost
     && allThree (λ k. validNearSeconds (getD (r .near) k notNear))
