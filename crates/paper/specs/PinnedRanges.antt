@@ -251,9 +251,9 @@ unfolding multiples offThenOn
 multiples-are = refl
 
 -- "So g = 100 units for lot 1, 10 for 2..10, 1 for 11..100."
-pub grids : map gridOf (1 ∷ 2 ∷ 10 ∷ 11 ∷ 100 ∷ []) ≡ 100 ∷ 10 ∷ 10 ∷ 1 ∷ 1 ∷ []
+pub grids-are : map gridOf (1 ∷ 2 ∷ 10 ∷ 11 ∷ 100 ∷ []) ≡ 100 ∷ 10 ∷ 10 ∷ 1 ∷ 1 ∷ []
 unfolding gridOf
-grids = refl
+grids-are = refl
 
 -- ---- a day, its rows, a quote
 
@@ -336,9 +336,9 @@ pub others-are : others
 unfolding others
 others-are = refl
 
-pub sides : map sideOf (0 ∷ 1 ∷ []) ≡ Upper ∷ Lower ∷ []
+pub sides-are : map sideOf (0 ∷ 1 ∷ []) ≡ Upper ∷ Lower ∷ []
 unfolding sideOf
-sides = refl
+sides-are = refl
 
 -- "A record has a standing: admitted only, or live": live and not, and both are sound
 pub standings : List (List Bool)
