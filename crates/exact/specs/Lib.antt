@@ -1,3 +1,4 @@
+-- The ranges that the contracts of whole-number arithmetic ask for, and laws for those who call it.
 pub mod EveryLaws
 pub mod LentLaws
 pub mod Remainders

@@ -1,3 +1,4 @@
+-- The definitions of the paper's values, each file after those that it stands on; the files named Pinned have tables.
 pub mod Lists
 pub mod Numbers
 pub mod Roundings

@@ -1,3 +1,4 @@
+-- The definitions of messages to members (W-212), from the byte to the record, then the tables that pin them.
 pub mod Bytes
 pub mod Fields
 pub mod Messages
