@@ -9,7 +9,7 @@ ghost use lib.Dec.{ltb};
 ghost use lib.ListN.{length, getD};
 ghost use Rattle.paper.specs.Lists.{eight};
 ghost use Rattle.paper.specs.Numbers.{keyNumbers};
-ghost use Rattle.paper_interest.specs.Interest.{validInterest, validKeys, maturitiesOf, ascending, maturityFigures, noFigures, refusedInterest, acceptedInterest, interestAnswer, InterestRange};
+ghost use Rattle.paper_interest.specs.Interest.{validInterest, validKeys, maturitiesOf, strictlyAscending, maturityFigures, noFigures, refusedInterest, acceptedInterest, interestAnswer, InterestRange};
 ghost use Rattle.interest_maturities.specs.KeyLaws.{maturityAt};
 ghost use Rattle.interest_forward.specs.Pair.{PairRange};
 ghost use Rattle.interest.specs.Figures.{pointOf, PointAt};
@@ -50,7 +50,7 @@ fn interest_valid(i: Interest) -> bool
 // The key maturities ascend and the pair's second term is after its first, else the evening is refused 14.
 fn in_order(i: Interest, numbers: &[i64]) -> bool
     requires { ⌜ length (now numbers) % keyNumbers ≡ 0 ⌝ }
-    ensures { λ r. ⌜ r ≡ (ascending (maturitiesOf (now (numbers .entry))) && ltb (i .ym) (i .yn)) ⌝ }
+    ensures { λ r. ⌜ r ≡ (strictlyAscending (maturitiesOf (now (numbers .entry))) && ltb (i .ym) (i .yn)) ⌝ }
 {
     interest_maturities::is_ascending(numbers) & (i.ym < i.yn)
 }

@@ -12,7 +12,7 @@ use lib.ListN.{length}
 use borrow.Author.Tests.{lt-ltb, le-ltb, le-leb, lt-leb, eq-eqb, ne-eqb}
 use Rattle.paper.specs.declared.Maturity.{Maturity}
 use Rattle.paper.specs.Numbers.{keyNumbers}
-use Rattle.paper_interest.specs.Interest.{keyAt, maturityOf, maturitiesOf, ascending, ascendingFrom, figureAt, figureAfter}
+use Rattle.paper_interest.specs.Interest.{keyAt, maturityOf, maturitiesOf, strictlyAscending, strictlyAscendingFrom, figureAt, figureAfter}
 use Rattle.paper.proofs.Logic.{le-or-lt}
 use Rattle.exact.specs.LentLaws.{Place, place-first, place-next, left-here as part-here, left-end as parts-end}
 use Rattle.interest_maturities.specs.KeyLaws.{maturityAt, restOf, rest-first, place-in-eights}
@@ -44,30 +44,31 @@ next-room numbers at e p h = omega (arith, place-in-eights numbers at p)
 
 module _ (numbers : List ℤ) (at : ℕ) where
   ascending-first : at + keyNumbers + keyNumbers ≤ length numbers
-      → ascending (left numbers at)
+      → strictlyAscending (left numbers at)
       ≡ (ltb (maturityAt numbers at .t) (maturityAt numbers (at + keyNumbers) .t)
-      && ascending (left numbers (at + keyNumbers)))
-  unfolding ascending ascendingFrom
+      && strictlyAscending (left numbers (at + keyNumbers)))
+  unfolding strictlyAscending strictlyAscendingFrom
   ascending-first h = rw (left-here numbers at (omega arith), left-here numbers (at + keyNumbers) h)
 
   -- one that is before the next leaves it to the rest, and one that is not decides it
   pub ascending-in : at + keyNumbers + keyNumbers ≤ length numbers
       → maturityAt numbers at .t < maturityAt numbers (at + keyNumbers) .t
-      → ascending (left numbers at) ≡ ascending (left numbers (at + keyNumbers))
+      → strictlyAscending (left numbers at) ≡ strictlyAscending (left numbers (at + keyNumbers))
   ascending-in h e = ascending-first h ∙ rw (lt-ltb _ _ e)
 
   pub ascending-out : at + keyNumbers + keyNumbers ≤ length numbers
       → maturityAt numbers (at + keyNumbers) .t ≤ maturityAt numbers at .t
-      → ascending (left numbers at) ≡ false
+      → strictlyAscending (left numbers at) ≡ false
   ascending-out h e = ascending-first h ∙ rw (le-ltb _ _ e)
 
   -- one or none is in order
   pub ascending-end : length numbers % keyNumbers ≡ 0 → Place keyNumbers numbers at → length numbers - at ≤ keyNumbers
-      → ascending (left numbers at) ≡ true
-  unfolding ascending ascendingFrom
+      → strictlyAscending (left numbers at) ≡ true
+  unfolding strictlyAscending strictlyAscendingFrom
   ascending-end e p h = go (le-or-lt (at + keyNumbers) (length numbers))
     where
-      go : (at + keyNumbers ≤ length numbers) ⊎ (length numbers < at + keyNumbers) → ascending (left numbers at) ≡ true
+      go : (at + keyNumbers ≤ length numbers) ⊎ (length numbers < at + keyNumbers)
+          → strictlyAscending (left numbers at) ≡ true
       go (inl one) = rw (left-here numbers at one, left-end numbers (at + keyNumbers) (omega arith))
       go (inr none) = rw (left-end numbers at (omega (arith, place-in-eights numbers at p)))
 

@@ -5,7 +5,7 @@ ghost use Prim.Native.Nat.{_+_, _%_, _≤_};
 ghost use lib.ListN.{length};
 ghost use Rattle.paper.specs.Lists.{every};
 ghost use Rattle.paper.specs.Numbers.{keyNumbers};
-ghost use Rattle.paper_interest.specs.Interest.{keyAt, keysOf, wholeKeys, validKey, validKeys, maturityOf, maturitiesOf, ascending};
+ghost use Rattle.paper_interest.specs.Interest.{keyAt, keysOf, wholeKeys, validKey, validKeys, maturityOf, maturitiesOf, strictlyAscending};
 ghost use Rattle.interest_maturities.specs.Reads.{Reads};
 use paper::Maturity;
 use paper::Record;
@@ -95,7 +95,7 @@ pub fn maturity_at(numbers: &[i64], at: usize) -> Maturity
 // "key maturities .. strictly ascending": each is before the next, else the evening is refused 14.
 pub fn is_ascending(numbers: &[i64]) -> bool
     requires { ⌜ length (now numbers) % keyNumbers ≡ 0 ⌝ }
-    ensures { λ r. ⌜ r ≡ ascending (maturitiesOf (now (numbers .entry))) ⌝ }
+    ensures { λ r. ⌜ r ≡ strictlyAscending (maturitiesOf (now (numbers .entry))) ⌝ }
 {
     let mut at = 0;
     while Maturity::NUMBERS < numbers.len() - at {

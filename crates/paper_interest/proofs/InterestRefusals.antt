@@ -12,7 +12,7 @@ use Rattle.paper.specs.declared.Verdict.{Verdict}
 use Rattle.paper.specs.declared.Verdict.the-variants.{Done, OutOfRange, NotAscending}
 use Rattle.paper.specs.Lists.{pick, every}
 use Rattle.paper.specs.Verdicts.{numberOf, isDone, firstOf, FirstAt, here, later, NoneApplies, none, also, Exactly}
-use Rattle.paper_interest.specs.Interest.{validInterest, validKeys, maturitiesOf, ascending, interestChecks, refusedInterest, acceptedInterest, interestAnswer}
+use Rattle.paper_interest.specs.Interest.{validInterest, validKeys, maturitiesOf, strictlyAscending, interestChecks, refusedInterest, acceptedInterest, interestAnswer}
 use Rattle.paper.proofs.Logic.{not-true, not-false, pick-true, pick-false}
 use Rattle.paper_desk.proofs.Refusals.{done-is, given-is-first, first-is-given, refusals, done-means-none-applies, none-applies-gives-done}
 
@@ -22,7 +22,7 @@ inRange i numbers = validInterest i && validKeys numbers
 
 -- the key maturities ascend strictly, and so do the two terms
 abbrev pub inOrder : Interest → List ℤ → Bool
-inOrder i numbers = ascending (maturitiesOf numbers) && ltb (i .ym) (i .yn)
+inOrder i numbers = strictlyAscending (maturitiesOf numbers) && ltb (i .ym) (i .yn)
 
 module _ (i : Interest) (numbers : List ℤ) where
   -- what is answered carries the first number that applies

@@ -214,20 +214,20 @@ lowerLimit i ks = pick (isHeld i) (greaterZ (lowerWorked i ks) (i .secrate)) (lo
 -- ---- the call
 
 -- "key maturities .. strictly ascending"
-unfoldable pub ascendingFrom : (t : ℕ) → List Maturity → Bool
-ascendingFrom t [] = true
-ascendingFrom t (k ∷ ks) = ltb t (k .t) && ascendingFrom (k .t) ks
+unfoldable pub strictlyAscendingFrom : (t : ℕ) → List Maturity → Bool
+strictlyAscendingFrom t [] = true
+strictlyAscendingFrom t (k ∷ ks) = ltb t (k .t) && strictlyAscendingFrom (k .t) ks
 
-unfoldable pub ascending : List Maturity → Bool
-ascending [] = true
-ascending (k ∷ ks) = ascendingFrom (k .t) ks
+unfoldable pub strictlyAscending : List Maturity → Bool
+strictlyAscending [] = true
+strictlyAscending (k ∷ ks) = strictlyAscendingFrom (k .t) ks
 
 -- "or the answer is 6"; "14, key maturities not strictly ascending or the pair's second term not after its first, after
 -- 6"
 unfoldable pub interestChecks : Interest → (numbers : List ℤ) → List Check
 interestChecks i numbers =
     record { verdict = OutOfRange; applies = not (validInterest i && validKeys numbers) }
-    ∷ record { verdict = NotAscending; applies = not (ascending (maturitiesOf numbers) && ltb (i .ym) (i .yn)) }
+    ∷ record { verdict = NotAscending; applies = not (strictlyAscending (maturitiesOf numbers) && ltb (i .ym) (i .yn)) }
     ∷ []
 
 abbrev pub noFigures : MaturityFigures

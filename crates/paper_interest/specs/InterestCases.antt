@@ -15,7 +15,7 @@ use Rattle.paper.specs.Least.{first, least, leastRoot, leastTimes, leastMultipl
 use Rattle.paper.specs.Ranges.{unsigned, partsFrom}
 use Rattle.paper_desk.specs.Rates.{weightOf, weighted, replacement, replaces, volatilityOf, leastStep, tentativeAfter}
 use Rattle.paper.specs.Verdicts.{numberOf, isDone, firstOf}
-use Rattle.paper_interest.specs.Interest.{keyAt, keysOf, wholeKeys, validKey, validKeys, maturityOf, maturitiesOf, validInterest, apartZ, changeOf, repoVolatility, repoTentativeRate, repoTentative, estimate, upward, downward, maturityFigures, interpolated, figureAfter, figureAt, forward, margin, limitFrom, upperWorked, lowerWorked, isHeld, upperLimit, lowerLimit, ascendingFrom, ascending, interestChecks, noFigures, refusedInterest, acceptedInterest, interestAnswer}
+use Rattle.paper_interest.specs.Interest.{keyAt, keysOf, wholeKeys, validKey, validKeys, maturityOf, maturitiesOf, validInterest, apartZ, changeOf, repoVolatility, repoTentativeRate, repoTentative, estimate, upward, downward, maturityFigures, interpolated, figureAfter, figureAt, forward, margin, limitFrom, upperWorked, lowerWorked, isHeld, upperLimit, lowerLimit, strictlyAscendingFrom, strictlyAscending, interestChecks, noFigures, refusedInterest, acceptedInterest, interestAnswer}
 use Rattle.paper_interest.specs.InterestExact.{Evening, Carried, keyIn, answeredIn, carriedAfter, keyGiven, Follow, start, next}
 
 -- the statics of every case, with b, a pair of terms and the two rollover rates
@@ -76,8 +76,8 @@ unfolding halfUp halfDown halfUpZ first least leastRoot leastTimes leastMultiple
     replaces volatilityOf leastStep tentativeAfter isDone firstOf every keyAt partsFrom keysOf wholeKeys
     validKey validKeys maturityOf maturitiesOf validInterest apartZ changeOf repoVolatility repoTentativeRate
     repoTentative estimate upward downward maturityFigures interpolated figureAfter figureAt forward margin
-    limitFrom upperWorked lowerWorked isHeld upperLimit lowerLimit ascendingFrom ascending interestChecks
-    refusedInterest acceptedInterest interestAnswer
+    limitFrom upperWorked lowerWorked isHeld upperLimit lowerLimit strictlyAscendingFrom strictlyAscending
+    interestChecks refusedInterest acceptedInterest interestAnswer
 answered i numbers = interestAnswer i numbers
 
 -- the verdict, the two limits, and the six figures of a key maturity

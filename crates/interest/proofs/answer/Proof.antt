@@ -3,7 +3,7 @@ use mathlib.Core.Path.{_≡_, sym, _∙_}
 use mathlib.Core.Bool.{true, _&&_}
 use lib.Dec.{ltb}
 use borrow.Author.Needs.{needs}
-use Rattle.paper_interest.specs.Interest.{validInterest, validKeys, maturitiesOf, ascending}
+use Rattle.paper_interest.specs.Interest.{validInterest, validKeys, maturitiesOf, strictlyAscending}
 use Rattle.paper.proofs.Logic.{not-true, not-false}
 use Rattle.interest_maturities.specs.KeyLaws.{valid-whole, whole-in-eights}
 use Rattle.interest.proofs.Answers.{answered-keys-valid, answered-pair-in-range, answers-out-of-range, answers-not-ascending, answers-figures}
@@ -22,7 +22,8 @@ ruled c = sym (rule (c .before)) ∙ not-false _ (c .if1 .left)
 
 ordered : (c : tie.Else2)
     → let start = c .before .before .before .before .before in
-    (ascending (maturitiesOf (start .args .numbers .now)) && ltb (start .args .i .ym) (start .args .i .yn)) ≡ true
+    (strictlyAscending (maturitiesOf (start .args .numbers .now)) && ltb (start .args .i .ym) (start .args .i .yn))
+    ≡ true
 ordered c = sym (c .before .in-order .ensures) ∙ not-false _ (c .if2 .left)
 
 interest-valid-requires : tie.Need-interest-valid-requires

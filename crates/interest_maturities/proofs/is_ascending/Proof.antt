@@ -5,20 +5,21 @@ use Prim.Native.Nat.{_+_, _-_, _≤_}
 use native.Mathlib.Omega.{arith}
 use lib.ListN.{length}
 use Rattle.paper.specs.Numbers.{keyNumbers}
-use Rattle.paper_interest.specs.Interest.{keyAt, maturityOf, maturitiesOf, ascending}
+use Rattle.paper_interest.specs.Interest.{keyAt, maturityOf, maturitiesOf, strictlyAscending}
 use Rattle.exact.specs.LentLaws.{Place, place-first, place-next}
 use Rattle.interest_maturities.proofs.Walk.{left, left-first, next-room, ascending-in, ascending-out, ascending-end}
 use Rattle.interest_maturities.proofs.is_ascending.Statement.{statement}
 use Rattle.interest_maturities.proofs.is_ascending.Tie as tie
 
 abbrev Inv-loop : tie.InvT-loop
-Inv-loop numbers at₀ at = Place keyNumbers numbers at × (ascending (left numbers at) ≡ ascending (maturitiesOf numbers))
+Inv-loop numbers at₀ at =
+    Place keyNumbers numbers at × (strictlyAscending (left numbers at) ≡ strictlyAscending (maturitiesOf numbers))
 
 abbrev μ-loop : tie.MeasureT-loop
 μ-loop numbers at₀ at = length numbers - at
 
 loop-holds : tie.Need-loop-holds Inv-loop μ-loop
-loop-holds c = (place-first _ _, ap ascending (left-first _))
+loop-holds c = (place-first _ _, ap strictlyAscending (left-first _))
 
 -- the key maturity at hand and the next
 room : (c : tie.In-loop Inv-loop μ-loop)
