@@ -19,18 +19,16 @@ use Rattle.paper.specs.Ranges.{validTerm, validRows, validDay}
 use Rattle.paper.specs.Terms.{workedRepo, repoOf, termOf, dayOf}
 use Rattle.paper.specs.Verdicts.{isDone, firstOf}
 use Rattle.paper.proofs.Logic.{not-true-and-false, not-true}
-
--- a term with a pair that was worked out
-abbrev pub withPair : ℕ → WorkedBand → AskedTerm
-withPair k w = record { k = k; band = band.WorkedOut w }
+use Rattle.interest_terms.specs.Pairs.{withPair, isRefused}
 
 -- ---- a pair that was accepted
 
 -- its limits are judged as given ones are: they make the same term
-pub worked-as-given : (k : ℕ) (w : WorkedBand) → w .verdict ≡ Done
-    → termOf (withPair k w) ≡ termOf (record { k = k; band = band.AsGiven (record { low = w .lower; high = w .upper }) })
+pub worked-as-given : (k : ℕ) (pair : WorkedBand) → pair .verdict ≡ Done
+    → termOf (withPair k pair)
+    ≡ termOf (record { k = k; band = band.AsGiven (record { low = pair .lower; high = pair .upper }) })
 unfolding termOf repoOf workedRepo isDone
-worked-as-given k w e = rw e
+worked-as-given k pair e = rw e
 
 -- what the interest side accepts has exactly the limits of clause 16.2
 pub accepted-limits : (k : ℕ) (i : Interest) (numbers : List ℤ) → firstOf (interestChecks i numbers) ≡ Done
@@ -40,11 +38,6 @@ unfolding termOf repoOf workedRepo isDone interestAnswer acceptedInterest
 accepted-limits k i numbers e = rw e
 
 -- ---- a pair that was refused
-
--- whether a band is a pair that was refused
-abbrev pub isRefused : RepoBand → Bool
-isRefused (band.AsGiven x) = false
-isRefused (band.WorkedOut w) = not (isDone (w .verdict))
 
 -- where one test fails, all of them do
 one-fails : (p q : Bool) → (p && false && q) ≡ false
@@ -59,7 +52,8 @@ refused-out x e = go (x .band) e
     go : (b : RepoBand) → isRefused b ≡ true
         → validTerm (record { k = x .k; low = repoOf b .low; high = repoOf b .high }) ≡ false
     go (band.AsGiven r) e = absurd (not-true-and-false false e refl)
-    go (band.WorkedOut w) e = rw (not-true (isDone (w .verdict)) e) (one-fails (leb (x .k) termDaysMost && true) true)
+    go (band.WorkedOut pair) e =
+        rw (not-true (isDone (pair .verdict)) e) (one-fails (leb (x .k) termDaysMost && true) true)
 
 -- the pair that the interest side refuses is such a band
 pub refused-pair : (i : Interest) (numbers : List ℤ) → isDone (firstOf (interestChecks i numbers)) ≡ false

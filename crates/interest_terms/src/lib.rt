@@ -12,14 +12,14 @@ ghost use Rattle.paper.specs.Terms.{workedRepo, repoOf, termOf, dayOf};
 
 // The limits of a pair that was worked out. One that was refused has no band: its low is above its high, which the
 // range test (6) refuses.
-fn worked_repo(w: WorkedBand) -> RepoLimits
-    ensures { λ r. ⌜ r ≡ workedRepo w ⌝ }
+fn worked_repo(pair: WorkedBand) -> RepoLimits
+    ensures { λ r. ⌜ r ≡ workedRepo pair ⌝ }
 {
-    let verdict = w.verdict;
+    let verdict = pair.verdict;
     if verdict.is_done() {
         RepoLimits {
-            low: w.lower,
-            high: w.upper,
+            low: pair.lower,
+            high: pair.upper,
         }
     } else {
         RepoLimits { low: 1, high: 0 }

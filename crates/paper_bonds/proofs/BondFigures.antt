@@ -18,7 +18,7 @@ use Rattle.paper_desk.proofs.Level.{level-rate-is}
 use Rattle.paper.proofs.Roundings.{rounded-is, rounded-le}
 use Rattle.paper_desk.proofs.KindLaws.{bond-limit-is}
 use Rattle.paper_bonds.specs.declared.Bond.{Bond}
-use Rattle.paper_bonds.specs.Bonds.{givenOf, bondStatics, validBond, bondFigures}
+use Rattle.paper_bonds.specs.Bonds.{givenOf, bondStatics, validBond, bondFigures, IsPerCent}
 
 -- ---- the rates
 
@@ -50,11 +50,6 @@ unfolding bondFigures figuresByVolatility unmodelled
 bond-rates-stay b e = (rw e, rw e)
 
 -- ---- a limit
-
--- x is what is left, in hundredths of a per cent of the face value, rounded that way, and 0 where nothing is left
-pub record IsPerCent (way : Way) (face grown off x : ℕ) : Type 0 where
-  pub rounded : off ≤ grown → Rounded way x (record { num = oneInPerCentHundredths * (grown - off); den = face })
-  pub negative : grown < off → x ≡ 0
 
 pub bond-limit-rounded : (way : Way) (b : BondScale) (x : Quotient) → 0 < b .face
     → IsPerCent way (b .face) (grownPrice x) (b .carry + b .accrued) (bondLimitOf way b x)

@@ -19,7 +19,7 @@ use Rattle.paper_bonds.specs.declared.Bond.{Bond}
 use Rattle.paper_bonds.specs.declared.BondLimits.{BondLimits}
 use Rattle.paper_bonds.specs.declared.Flow.{Flow}
 use Rattle.paper_bonds.specs.BondNumbers.{offBook}
-use Rattle.paper_bonds.specs.Bonds.{bondStatics, validBond, grossOf, firstRate, scaleAt, twentyBefore, twentyLimit, offLimit, limitsFrom, limitsOf}
+use Rattle.paper_bonds.specs.Bonds.{bondStatics, validBond, grossOf, firstRate, scaleAt, twentyBefore, twentyLimit, offLimit, limitsFrom, limitsOf, WithinBand}
 use Rattle.paper_bonds.proofs.BondFigures.{bond-statics-valid}
 
 pub off-is : (b : BondScale) (st : Statics) (side : Side) (p s1 c k : ℕ) (repo : ℤ) → 0 < b .face
@@ -30,11 +30,6 @@ off-is b st side p s1 c k repo f d =
     narrower-rounded (inward side) (bond b) st side (bandBefore (bond b) st p s1 k repo c side)
     (twentyBefore b side p k) f (band-positive (bond b) st side p s1 c k repo d)
     (omega (arith, shifted-positive side p offBook))
-
--- off the book the lower limit is not below the band's, nor the upper above it
-pub record WithinBand (x : BondLimits) : Type 0 where
-  pub lower : x .band .lower ≤ x .off .lower
-  pub upper : x .off .upper ≤ x .band .upper
 
 pub off-within-band : (b : BondScale) (st : Statics) (p s1 : ℕ) (x : Term) → 0 < b .face → divisorLeast ≤ st .xpr
     → WithinBand (limitsFrom b st p s1 x)

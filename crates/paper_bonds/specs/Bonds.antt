@@ -1,8 +1,9 @@
 -- Document 02, W-206: clauses 8.10 and 11.1 of source document 001. What bonds share with shares is in `paper`, over
 -- the kind of security (Limits) and over statics (Rates); here stands what is a bond's own. Assumes nothing.
+use mathlib.Core.Path.{_≡_}
 use mathlib.Core.Bool.{Bool, true, false, not, _&&_, _||_}
 use mathlib.Core.List.{List, [], _∷_, map}
-use Prim.Native.Nat.{ℕ, _+_, _-_, _*_, _/_, _%_}
+use Prim.Native.Nat.{ℕ, _+_, _-_, _*_, _/_, _%_, _≤_, _<_}
 use lib.Dec.{leb, eqb}
 use lib.IntN.{ℤ, pos}
 use lib.ListN.{length, getD}
@@ -13,11 +14,12 @@ use Rattle.paper.specs.declared.Figures.{Figures}
 use Rattle.paper.specs.declared.Limits.{Limits}
 use Rattle.paper.specs.declared.Side.{Side}
 use Rattle.paper.specs.declared.Term.{Term}
+use Rattle.paper.specs.declared.Way.{Way}
 use Rattle.paper.specs.declared.Verdict.{Verdict}
 use Rattle.paper.specs.declared.Verdict.the-variants.{Done, OutOfRange, PriceOutOfRange, BandCrossed, NoFaceValue}
 use Rattle.paper.specs.Lists.{pick, three, forLevels, allThree, every, some}
 use Rattle.paper.specs.Numbers.{volatilityMost, ageMost, aheadMost, repoLeast, repoMost, yearInDayBp, oneInPerCentHundredths}
-use Rattle.paper.specs.Roundings.{Quotient, halfUp, grown}
+use Rattle.paper.specs.Roundings.{Quotient, Rounded, halfUp, grown}
 use Rattle.paper.specs.Ranges.{within, withinZ, unsigned, partsFrom, isPrice, staticsOf, validGiven, validTentative, validTerm, termAt, rateAt, noRate, noLimits}
 use Rattle.paper_desk.specs.Rates.{figuresByVolatility}
 use Rattle.paper_desk.specs.Limits.{bond, inward, bondLimitOf, shifted, growing, narrower, bandBefore, bandLimitFor, limitFor, bandBy, crossed}
@@ -176,6 +178,12 @@ offBefore scale st p s1 k repo c side =
 abbrev pub offLimit : BondScale → Statics → (p s1 k : ℕ) → (repo : ℤ) → (c : ℕ) → Side → ℕ
 offLimit scale st p s1 k repo c side = limitFor (inward side) (bond scale) st (offBefore scale st p s1 k repo c side)
 
+-- what a limit is: x is what is left of the grown price, in hundredths of a per cent of the face value, rounded that
+-- way, and 0 where nothing is left
+pub record IsPerCent (way : Way) (face grown off x : ℕ) : Type 0 where
+  pub rounded : off ≤ grown → Rounded way x (record { num = oneInPerCentHundredths * (grown - off); den = face })
+  pub negative : grown < off → x ≡ 0
+
 -- the limits of a term, from P and S_1: a bond's do not move
 unfoldable pub limitsFrom : BondScale → Statics → (p s1 : ℕ) → Term → BondLimits
 limitsFrom scale st p s1 x =
@@ -186,6 +194,11 @@ limitsFrom scale st p s1 x =
 
 unfoldable pub limitsOf : Bond → List Flow → Term → BondLimits
 limitsOf b flows x = limitsFrom (scaleAt b flows (x .k)) (bondStatics b) (grossOf b) (firstRate b) x
+
+-- off the book the lower limit is not below the band's, nor the upper above it
+pub record WithinBand (x : BondLimits) : Type 0 where
+  pub lower : x .band .lower ≤ x .off .lower
+  pub upper : x .off .upper ≤ x .band .upper
 
 -- "The band is crossed by the same test": on the book or off it, where it may cross alone (W-209)
 unfoldable pub isCrossed : BondLimits → Bool

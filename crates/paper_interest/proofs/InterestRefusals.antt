@@ -1,28 +1,19 @@
 -- The numbers of an interest call (W-201): each is given exactly when its condition holds, 6 before 14, and a refusal
 -- has every figure 0. Assumes nothing.
 use mathlib.Core.Path.{_≡_, refl, sym, _∙_, ap}
-use mathlib.Core.Bool.{Bool, true, false, not, _&&_}
+use mathlib.Core.Bool.{Bool, true, false, not}
 use mathlib.Core.List.{List}
 use Prim.Native.Nat.{ℕ}
 use native.Mathlib.Omega.{arith}
-use lib.Dec.{ltb}
 use lib.IntN.{ℤ}
 use Rattle.paper.specs.declared.Interest.{Interest}
 use Rattle.paper.specs.declared.Verdict.{Verdict}
 use Rattle.paper.specs.declared.Verdict.the-variants.{Done, OutOfRange, NotAscending}
 use Rattle.paper.specs.Lists.{pick, every}
 use Rattle.paper.specs.Verdicts.{numberOf, isDone, firstOf, FirstAt, here, later, NoneApplies, none, also, Exactly}
-use Rattle.paper_interest.specs.Interest.{validInterest, validKeys, maturitiesOf, strictlyAscending, interestChecks, refusedInterest, acceptedInterest, interestAnswer}
+use Rattle.paper_interest.specs.Interest.{maturitiesOf, inRange, inOrder, interestChecks, refusedInterest, acceptedInterest, interestAnswer}
 use Rattle.paper.proofs.Logic.{not-true, not-false, pick-true, pick-false}
 use Rattle.paper_desk.proofs.Refusals.{done-is, given-is-first, first-is-given, refusals, done-means-none-applies, none-applies-gives-done}
-
--- every number that is given is in range
-abbrev pub inRange : Interest → List ℤ → Bool
-inRange i numbers = validInterest i && validKeys numbers
-
--- the key maturities ascend strictly, and so do the two terms
-abbrev pub inOrder : Interest → List ℤ → Bool
-inOrder i numbers = strictlyAscending (maturitiesOf numbers) && ltb (i .ym) (i .yn)
 
 module _ (i : Interest) (numbers : List ℤ) where
   -- what is answered carries the first number that applies

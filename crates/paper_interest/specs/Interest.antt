@@ -222,12 +222,20 @@ unfoldable pub strictlyAscending : List Maturity → Bool
 strictlyAscending [] = true
 strictlyAscending (k ∷ ks) = strictlyAscendingFrom (k .t) ks
 
+-- every number that is given is in range
+abbrev pub inRange : Interest → (numbers : List ℤ) → Bool
+inRange i numbers = validInterest i && validKeys numbers
+
+-- the key maturities ascend strictly, and so do the two terms
+abbrev pub inOrder : Interest → (numbers : List ℤ) → Bool
+inOrder i numbers = strictlyAscending (maturitiesOf numbers) && ltb (i .ym) (i .yn)
+
 -- "or the answer is 6"; "14, key maturities not strictly ascending or the pair's second term not after its first, after
 -- 6"
 unfoldable pub interestChecks : Interest → (numbers : List ℤ) → List Check
 interestChecks i numbers =
-    record { verdict = OutOfRange; applies = not (validInterest i && validKeys numbers) }
-    ∷ record { verdict = NotAscending; applies = not (strictlyAscending (maturitiesOf numbers) && ltb (i .ym) (i .yn)) }
+    record { verdict = OutOfRange; applies = not (inRange i numbers) }
+    ∷ record { verdict = NotAscending; applies = not (inOrder i numbers) }
     ∷ []
 
 abbrev pub noFigures : MaturityFigures

@@ -15,14 +15,9 @@ use borrow.Author.Tests.{leb-true, ltb-true, lt-ltb, le-ltb}
 use Rattle.paper.specs.Lists.{pick}
 use Rattle.paper.specs.Ranges.{withinZ}
 use Rattle.paper.proofs.Logic.{not-true-and-false, and-left, and-right}
-use Rattle.paper_messages.specs.Bytes.{inByte, inWidth, bytesOf, spelled, fitsWidth, complement, signedOf}
+use Rattle.paper_messages.specs.Bytes.{inByte, Bytes, no-byte, byte, inWidth, bytesOf, spelled, fitsWidth, complement, signedOf}
 
 -- ---- bytes
-
--- every one of them is a byte
-pub data Bytes : List ℕ → Type 0 where
-  no-byte : Bytes []
-  byte : {b : ℕ} {bytes : List ℕ} → b < inByte → Bytes bytes → Bytes (b ∷ bytes)
 
 pub take-bytes : (n : ℕ) (bytes : List ℕ) → Bytes bytes → Bytes (take n bytes)
 take-bytes zero bytes h = no-byte

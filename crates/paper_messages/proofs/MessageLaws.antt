@@ -18,10 +18,10 @@ use Rattle.paper.proofs.Logic.{and-left, and-right, and-false}
 use Rattle.paper_desk.proofs.Refusals.{done-is, done-means-none-applies, refusals}
 use Rattle.paper_messages.specs.declared.Message.{Message}
 use Rattle.paper_messages.specs.declared.Heard.{Heard}
-use Rattle.paper_messages.specs.Bytes.{bytesOf, spelled}
+use Rattle.paper_messages.specs.Bytes.{Bytes, bytesOf, spelled}
 use Rattle.paper_messages.specs.Fields.{places, placesOf}
-use Rattle.paper_messages.specs.Messages.{lengthWidth, kindWidth, bodyOf, total, lengthOf, encode, isKnown, inRanges, valid, lengthLeast, lengthMost, lengthAt, kindAt, messageAt, valuesAt, readChecks, acceptedHeard, refusedHeard, heardAt}
-use Rattle.paper_messages.proofs.ByteLaws.{Bytes, take-bytes, drop-bytes, bytes-length, bytes-back, bytes-only}
+use Rattle.paper_messages.specs.Messages.{lengthWidth, kindWidth, bodyOf, total, lengthOf, encode, isKnown, inRanges, valid, lengthLeast, lengthMost, lengthAt, kindAt, messageAt, valuesAt, readChecks, AcceptedBytes, acceptedHeard, refusedHeard, heardAt}
+use Rattle.paper_messages.proofs.ByteLaws.{take-bytes, drop-bytes, bytes-length, bytes-back, bytes-only}
 use Rattle.paper_messages.proofs.FieldLaws.{body-length, in-ranges-has-values, body-back, body-only, kinds-hold, kinds-have-places, kinds-length-in-range}
 
 -- ---- what a valid message is
@@ -191,18 +191,11 @@ module _ (m : Message) (v : valid m ≡ true) (full : length (m .fields) ≡ pla
 
 -- ---- an accepted message is the only encoding of its fields
 
--- what no check applies to: a whole message, and of a known kind one of its length, with valid fields
-pub record Accepted (bytes : List ℕ) : Type 0 where
-  pub follows : lengthWidth + lengthAt bytes ≤ length bytes
-  pub in-length : within lengthLeast lengthMost (lengthAt bytes) ≡ true
-  pub right : isKnown (kindAt bytes) ≡ true → lengthAt bytes ≡ lengthOf (kindAt bytes)
-  pub in-range : isKnown (kindAt bytes) ≡ true → valid (messageAt bytes) ≡ true
-
-pub accepted : (bytes : List ℕ) → firstOf (readChecks bytes) ≡ Done → Accepted bytes
+pub accepted : (bytes : List ℕ) → firstOf (readChecks bytes) ≡ Done → AcceptedBytes bytes
 unfolding readChecks refusals every isDone
 accepted bytes e = of (done-means-none-applies (readChecks bytes) refl (ap isDone e))
   where
-    of : NoneApplies (readChecks bytes) → Accepted bytes
+    of : NoneApplies (readChecks bytes) → AcceptedBytes bytes
     of (also a (also b (also c (also d (also f none))))) =
         record {
           follows = ltb-false (length bytes) (lengthWidth + lengthAt bytes) c;
@@ -221,7 +214,7 @@ three-parts a b c s =
     let e : a + (b + c) ≡ a + b + c = omega arith in
     rw e (sym (take-add (a + b) c s ∙ ap (λ (l : List ℕ). l ++ take c (drop (a + b) s)) (take-add a b s)))
 
-module _ (bytes : List ℕ) (all : Bytes bytes) (a : Accepted bytes) (k : isKnown (kindAt bytes) ≡ true) where
+module _ (bytes : List ℕ) (all : Bytes bytes) (a : AcceptedBytes bytes) (k : isKnown (kindAt bytes) ≡ true) where
   number-back : (width : ℕ) (part : List ℕ) → Bytes part → width ≤ length part
       → bytesOf width (spelled (take width part)) ≡ take width part
   number-back width part b h =
@@ -257,7 +250,7 @@ heard-only b at all e known =
     let first : firstOf (readChecks bytes) ≡ Done = sym (heard-verdict b at) ∙ e in
     let is : heardAt b at ≡ acceptedHeard at bytes = heard-accepted b at first in
     let k : isKnown (kindAt bytes) ≡ true = sym (ap (λ (h : Heard). h .known) is) ∙ known in
-    let a : Accepted bytes = accepted bytes first in
+    let a : AcceptedBytes bytes = accepted bytes first in
     let m-is : heardAt b at .message ≡ messageAt bytes = ap (λ (h : Heard). h .message) is ∙ said k in
     let only : encode (messageAt bytes) ≡ take (lengthWidth + lengthAt bytes) bytes =
     only-encoding bytes (drop-bytes at b all) a k in

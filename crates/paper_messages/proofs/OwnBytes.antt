@@ -17,8 +17,8 @@ use Rattle.paper_messages.specs.declared.Field.{Field}
 use Rattle.paper_messages.specs.declared.Heard.{Heard}
 use Rattle.paper_messages.specs.Bytes.{spelled}
 use Rattle.paper_messages.specs.Fields.{placesOf}
-use Rattle.paper_messages.specs.Messages.{lengthWidth, kindWidth, lengthLeast, total, lengthOf, isKnown, valid, valuesAt, lengthAt, kindAt, messageAt, noMessage, readChecks, acceptedHeard, heardAt}
-use Rattle.paper_messages.proofs.MessageLaws.{heard-accepted, heard-verdict, Accepted, accepted}
+use Rattle.paper_messages.specs.Messages.{lengthWidth, kindWidth, lengthLeast, total, lengthOf, isKnown, valid, valuesAt, lengthAt, kindAt, messageAt, noMessage, readChecks, AcceptedBytes, acceptedHeard, heardAt}
+use Rattle.paper_messages.proofs.MessageLaws.{heard-accepted, heard-verdict, accepted}
 
 -- ---- equal beginnings
 
@@ -49,7 +49,7 @@ values-same (f ∷ fields) s t e =
 
 -- ---- a message
 
-module _ (s t : List ℕ) (a : Accepted s) (n : ℕ) (is : lengthAt s ≡ kindWidth + n)
+module _ (s t : List ℕ) (a : AcceptedBytes s) (n : ℕ) (is : lengthAt s ≡ kindWidth + n)
     (same : take (lengthWidth + (kindWidth + n)) s ≡ take (lengthWidth + (kindWidth + n)) t) where
   length-same : lengthAt t ≡ lengthAt s
   length-same = sym (ap spelled (first-same lengthWidth (kindWidth + n) s t same))
@@ -134,7 +134,7 @@ heard-same b c at e same =
     let s : List ℕ = drop at b in
     let t : List ℕ = drop at c in
     let first : firstOf (readChecks s) ≡ Done = sym (heard-verdict b at) ∙ e in
-    let a : Accepted s = accepted s first in
+    let a : AcceptedBytes s = accepted s first in
     let least : lengthLeast ≤ lengthAt s =
     leb-true lengthLeast (lengthAt s) (and-left (leb lengthLeast (lengthAt s)) _ (a .in-length)) in
     let n : ℕ = lengthAt s - kindWidth in

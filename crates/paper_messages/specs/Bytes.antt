@@ -2,7 +2,7 @@
 -- a number of so many bytes. Assumes nothing.
 use mathlib.Core.Bool.{Bool}
 use mathlib.Core.List.{List, [], _∷_}
-use Prim.Native.Nat.{ℕ, zero, suc, _+_, _-_, _*_, _/_, _%_, _^_}
+use Prim.Native.Nat.{ℕ, zero, suc, _+_, _-_, _*_, _/_, _%_, _^_, _<_}
 use lib.Dec.{ltb}
 use lib.IntN.{ℤ, pos, negsuc}
 use Rattle.paper.specs.Lists.{pick}
@@ -10,6 +10,11 @@ use Rattle.paper.specs.Lists.{pick}
 -- how many numbers a byte has
 abbrev pub inByte : ℕ
 inByte = 256
+
+-- every one of them is a byte
+pub data Bytes : List ℕ → Type 0 where
+  no-byte : Bytes []
+  byte : {b : ℕ} {bytes : List ℕ} → b < inByte → Bytes bytes → Bytes (b ∷ bytes)
 
 -- the bytes of a number at a width, the lowest first
 unfoldable pub bytesOf : (width number : ℕ) → List ℕ

@@ -1,9 +1,10 @@
 -- W-212: "Send each record as a message: a four-byte length of what follows, little-endian, a two-byte kind, then the
 -- fields at fixed widths". What a message's bytes are, when a message is valid, what the writer answers and leaves, and
 -- what the reader hears. Assumes nothing.
+use mathlib.Core.Path.{_≡_}
 use mathlib.Core.Bool.{Bool, true, false, not, _&&_}
 use mathlib.Core.List.{List, [], _∷_, _++_}
-use Prim.Native.Nat.{ℕ, _+_}
+use Prim.Native.Nat.{ℕ, _+_, _≤_}
 use lib.Dec.{leb, ltb, eqb}
 use lib.IntN.{ℤ, pos}
 use lib.ListN.{length, take, drop, getD, replicate}
@@ -175,6 +176,13 @@ readChecks bytes =
     }
     ∷ record { verdict = FieldOutOfRange; applies = isKnown (kindAt bytes) && not (valid (messageAt bytes)) }
     ∷ []
+
+-- what no check applies to: a whole message, and of a known kind one of its length, with valid fields
+pub record AcceptedBytes (bytes : List ℕ) : Type 0 where
+  pub follows : lengthWidth + lengthAt bytes ≤ length bytes
+  pub in-length : within lengthLeast lengthMost (lengthAt bytes) ≡ true
+  pub right : isKnown (kindAt bytes) ≡ true → lengthAt bytes ≡ lengthOf (kindAt bytes)
+  pub in-range : isKnown (kindAt bytes) ≡ true → valid (messageAt bytes) ≡ true
 
 abbrev pub noMessage : Message
 noMessage = record { kind = 0; fields = replicate places (pos 0) }

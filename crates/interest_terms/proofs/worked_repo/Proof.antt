@@ -12,11 +12,11 @@ is-done-requires c κs = search needs
 returns : tie.Need-returns
 unfolding workedRepo
 returns c =
-    let w = c .before .before .before .args .w in
+    let pair = c .before .before .before .args .pair in
     let is = c .struct-told .given in
     rw (
-      toZ-ofZ {z = w .lower} (record { sfits = is .1 .0 .1 }),
-      toZ-ofZ {z = w .upper} (record { sfits = is .1 .1 .0 .1 }),
+      toZ-ofZ {z = pair .lower} (record { sfits = is .1 .0 .1 }),
+      toZ-ofZ {z = pair .upper} (record { sfits = is .1 .1 .0 .1 }),
       sym (c .before .before .is-done .ensures)
           ∙ c .before .if1 .taken,
     )
