@@ -27,7 +27,7 @@ use Rattle.inputs.proofs.Facts.{within-facts, StaticsFacts, statics-facts, give
 use Rattle.record_soundness.proofs.Facts.{LimitsFacts, SoundRecord, sound-facts}
 use Rattle.paper_messages.specs.Fields.{staticsFields, ratesFields, bandsFields, moveFields, fieldsOf, staticsKind, places, tentativeLast, filled, placesOf}
 use Rattle.paper_messages.specs.Messages.{isKnown, inRanges, numberAt, givenIn, asAdmission, valid}
-use Rattle.paper_messages.specs.Records.{pastSigned, valueOf, flagOf, sideNumber, message, staticsNumbers, staticsMessage, ratesMessage, bandsMessage, moveMessage, rangeLimit, bandLimit}
+use Rattle.paper_messages.specs.Records.{pastSigned, valueOf, flagOf, sideNumber, message, staticsNumbers, staticsMessage, ratesMessage, bandsMessage, moveMessage, rangeShown, bandShown}
 
 -- ---- values in range
 
@@ -51,10 +51,10 @@ module _ (r : Record) (sound-record : sound r ≡ true) where
   known : SoundRecord r
   known = sound-facts r sound-record
 
-  range-in : (side : Side) (i : ℕ) → i < 3 → withinZ (pos 0) (pos limitMost) (valueOf (rangeLimit r side i)) ≡ true
+  range-in : (side : Side) (i : ℕ) → i < 3 → withinZ (pos 0) (pos limitMost) (valueOf (rangeShown r side i)) ≡ true
   range-in side i l = limit-in (known .ranges i l) side
 
-  band-in : (side : Side) (k : ℕ) → k < 3 → withinZ (pos 0) (pos limitMost) (valueOf (bandLimit r side k)) ≡ true
+  band-in : (side : Side) (k : ℕ) → k < 3 → withinZ (pos 0) (pos limitMost) (valueOf (bandShown r side k)) ≡ true
   band-in side k l = limit-in (known .bands k l) side
 
   rate-in : (i : ℕ) → i < 3 → withinZ (pos 0) (pos rateMost) (valueOf (getD (r .rates) i noRate .bp)) ≡ true
@@ -99,8 +99,8 @@ module _ (r : Record) (sound-record : sound r ≡ true) where
       → (withinZ (pos 0) (pos termDaysMost) (valueOf (termAt (r .terms) k .k))
       && (withinZ repoLeast repoMost (termAt (r .terms) k .low)
       && (withinZ repoLeast repoMost (termAt (r .terms) k .high)
-      && (withinZ (pos 0) (pos limitMost) (valueOf (bandLimit r Lower k))
-      && (withinZ (pos 0) (pos limitMost) (valueOf (bandLimit r Upper k)) && rest)))))
+      && (withinZ (pos 0) (pos limitMost) (valueOf (bandShown r Lower k))
+      && (withinZ (pos 0) (pos limitMost) (valueOf (bandShown r Upper k)) && rest)))))
       ≡ true
   term-in k l rest e =
       let term = known .terms k l in

@@ -5,13 +5,12 @@ use mathlib.Core.List.{List, [], _∷_, _++_, map}
 use Prim.Native.Nat.{ℕ}
 use lib.Dec.{ltb}
 use lib.IntN.{ℤ, pos, negsuc}
-use lib.ListN.{getD}
 use Rattle.paper.specs.declared.Statics.{Statics}
 use Rattle.paper.specs.declared.Record.{Record}
 use Rattle.paper.specs.declared.Side.{Side}
 use Rattle.paper.specs.declared.Side.the-variants.{Upper, Lower}
 use Rattle.paper.specs.Lists.{pick}
-use Rattle.paper.specs.Ranges.{lastDay, rateAt, noLimits, termAt}
+use Rattle.paper.specs.Ranges.{lastDay, rateAt, termAt, rangeAt, bandAt}
 use Rattle.paper_desk.specs.Limits.{countOf}
 use Rattle.paper_desk.specs.Sides.{limitOn}
 use Rattle.paper_messages.specs.declared.Message.{Message}
@@ -73,12 +72,12 @@ staticsNumbers id st =
 unfoldable pub staticsMessage : (id : ℕ) → Statics → Message
 staticsMessage id st = message staticsKind (map valueOf (staticsNumbers id st))
 
--- the limits of a record on a side
-abbrev pub rangeLimit : Record → Side → (level : ℕ) → ℕ
-rangeLimit r side level = limitOn side (getD (r .ranges) level noLimits)
+-- what a message shows of a record on a side: the limit of the range of level i + 1, and that of the band of term k
+abbrev pub rangeShown : Record → Side → (i : ℕ) → ℕ
+rangeShown r side i = limitOn side (rangeAt r i)
 
-abbrev pub bandLimit : Record → Side → (term : ℕ) → ℕ
-bandLimit r side term = limitOn side (getD (r .bands) term noLimits)
+abbrev pub bandShown : Record → Side → (k : ℕ) → ℕ
+bandShown r side k = limitOn side (bandAt r k)
 
 abbrev pub ratesNumbers : Record → List ℕ
 ratesNumbers r =
@@ -91,12 +90,12 @@ ratesNumbers r =
     ∷ rateAt (r .rates) 0
     ∷ rateAt (r .rates) 1
     ∷ rateAt (r .rates) 2
-    ∷ rangeLimit r Upper 0
-    ∷ rangeLimit r Upper 1
-    ∷ rangeLimit r Upper 2
-    ∷ rangeLimit r Lower 0
-    ∷ rangeLimit r Lower 1
-    ∷ rangeLimit r Lower 2
+    ∷ rangeShown r Upper 0
+    ∷ rangeShown r Upper 1
+    ∷ rangeShown r Upper 2
+    ∷ rangeShown r Lower 0
+    ∷ rangeShown r Lower 1
+    ∷ rangeShown r Lower 2
     ∷ []
 
 unfoldable pub ratesMessage : Record → Message
@@ -107,8 +106,8 @@ termValues r term =
     valueOf (termAt (r .terms) term .k)
     ∷ termAt (r .terms) term .low
     ∷ termAt (r .terms) term .high
-    ∷ valueOf (bandLimit r Lower term)
-    ∷ valueOf (bandLimit r Upper term)
+    ∷ valueOf (bandShown r Lower term)
+    ∷ valueOf (bandShown r Upper term)
     ∷ []
 
 unfoldable pub bandsMessage : Record → Message
@@ -124,12 +123,12 @@ moveNumbers r side =
     r .id
     ∷ sideNumber side
     ∷ countOf side (r .moves)
-    ∷ rangeLimit r side 0
-    ∷ rangeLimit r side 1
-    ∷ rangeLimit r side 2
-    ∷ bandLimit r side 0
-    ∷ bandLimit r side 1
-    ∷ bandLimit r side 2
+    ∷ rangeShown r side 0
+    ∷ rangeShown r side 1
+    ∷ rangeShown r side 2
+    ∷ bandShown r side 0
+    ∷ bandShown r side 1
+    ∷ bandShown r side 2
     ∷ []
 
 unfoldable pub moveMessage : Record → Side → Message
