@@ -293,6 +293,10 @@ validSide side = leb side 1
 unfoldable pub sideOf : (side : ℕ) → Side
 sideOf side = pick (eqb side 0) Upper Lower
 
+abbrev pub sideNumber : Side → ℕ
+sideNumber Upper = 0
+sideNumber Lower = 1
+
 -- ---- a record
 
 unfoldable pub isLive : Standing → Bool

@@ -10,7 +10,7 @@ use Rattle.paper.specs.declared.Record.{Record}
 use Rattle.paper.specs.declared.Side.{Side}
 use Rattle.paper.specs.declared.Side.the-variants.{Upper, Lower}
 use Rattle.paper.specs.Lists.{pick}
-use Rattle.paper.specs.Ranges.{lastDay, rateAt, termAt, rangeAt, bandAt}
+use Rattle.paper.specs.Ranges.{sideNumber, lastDay, rateAt, termAt, rangeAt, bandAt}
 use Rattle.paper_desk.specs.Limits.{countOf}
 use Rattle.paper_desk.specs.Sides.{limitOn}
 use Rattle.paper_messages.specs.declared.Message.{Message}
@@ -29,11 +29,6 @@ valueOf n = pick (ltb n pastSigned) (pos n) (negsuc 0)
 abbrev pub flagOf : Bool → ℕ
 flagOf true = 1
 flagOf false = 0
-
--- "0 upper or 1 lower"
-abbrev pub sideNumber : Side → ℕ
-sideNumber Upper = 0
-sideNumber Lower = 1
 
 unfoldable pub message : (kind : ℕ) → (values : List ℤ) → Message
 message kind values = record { kind = kind; fields = filled (pos 0) values }
