@@ -1,7 +1,7 @@
 -- W-201, "The security's evaluation may take these limits or given ones": what the band of a term is where a pair was
 -- worked out, and that a pair that was refused makes its day out of range (6). Assumes nothing.
 use mathlib.Core.Path.{_≡_, refl}
-use mathlib.Core.Bool.{Bool, true, false, not, _&&_, _||_}
+use mathlib.Core.Bool.{Bool, true, false, _&&_, _||_}
 use mathlib.Core.List.{List}
 use Prim.Native.Nat.{ℕ}
 use lib.Dec.{leb}

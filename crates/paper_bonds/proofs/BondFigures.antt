@@ -3,13 +3,13 @@
 -- price, rounded the way it says, and 0 where nothing is. Assumes nothing.
 use mathlib.Core.Path.{_≡_, ap, sym, _∙_}
 use mathlib.Core.Bool.{true, false, _&&_}
-use Prim.Native.Nat.{ℕ, _+_, _-_, _*_, _≤_, _<_}
+use Prim.Native.Nat.{ℕ, _+_, _-_, _*_, _<_}
 use native.Mathlib.Omega.{arith}
 use Rattle.paper.specs.declared.BondScale.{BondScale}
 use Rattle.paper.specs.declared.Way.{Way}
 use Rattle.paper.specs.Lists.{forLevels}
 use Rattle.paper.specs.Numbers.{oneInPerCentHundredths}
-use Rattle.paper.specs.Roundings.{Quotient, Rounded}
+use Rattle.paper.specs.Roundings.{Quotient}
 use Rattle.paper.specs.Ranges.{validStatics, validGiven, staticsOf}
 use Rattle.paper_desk.specs.Rates.{minimumOf, levelRate, unmodelled, figuresByVolatility, AtLeastRequired, HeldLeast}
 use Rattle.paper_desk.specs.Limits.{grownPrice, bondLimitOf}

@@ -16,7 +16,6 @@ use Rattle.paper_desk.specs.Limits.{bond, inward, narrowerOf, bandBefore, bandL
 use Rattle.paper_desk.proofs.LimitSizes.{valid-limit-statics}
 use Rattle.paper_desk.proofs.KindLaws.{shifted-positive, band-positive, narrower-rounded}
 use Rattle.paper_bonds.specs.declared.Bond.{Bond}
-use Rattle.paper_bonds.specs.declared.BondLimits.{BondLimits}
 use Rattle.paper_bonds.specs.declared.Flow.{Flow}
 use Rattle.paper_bonds.specs.BondNumbers.{offBook}
 use Rattle.paper_bonds.specs.Bonds.{bondStatics, validBond, grossOf, firstRate, scaleAt, twentyBefore, twentyLimit, offLimit, limitsFrom, limitsOf, WithinBand}
