@@ -40,8 +40,8 @@ module _ (x whole k : ℕ) (repo : ℤ) (g : GrowthRange x whole k repo) where
   abbrev year : ℕ
   year = grown yearInDayBp k repo
 
-  product : x * year ≤ 3 * priceMost * whole * (yearInDayBp + growthMost)
-  product = mul-le-mul (g .reach) (year-high k repo (g .days) (g .rate))
+  product-high : x * year ≤ 3 * priceMost * whole * (yearInDayBp + growthMost)
+  product-high = mul-le-mul (g .reach) (year-high k repo (g .days) (g .rate))
 
   -- the wide division takes it
   pub growth-divides : Divides x (grown yearInDayBp k repo) (whole * yearInDayBp)
@@ -50,12 +50,12 @@ module _ (x whole k : ℕ) (repo : ℤ) (g : GrowthRange x whole k repo) where
         positive = omega (arith, g .positive);
         divisor = omega (arith, g .divisor);
         factor = omega (arith, year-high k repo (g .days) (g .rate));
-        quotient = omega (arith, g .positive, product);
+        quotient = omega (arith, g .positive, product-high);
       }
 
   pub grown-high : grownPrice (growing k repo (record { num = x; den = whole })) ≤ grownMost
   grown-high =
-      half-le (x * year) (whole * yearInDayBp) grownMost (omega (arith, g .positive)) (omega (arith, product))
+      half-le (x * year) (whole * yearInDayBp) grownMost (omega (arith, g .positive)) (omega (arith, product-high))
 
 -- ---- what grows
 

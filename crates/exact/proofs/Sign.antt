@@ -14,12 +14,12 @@ use Rattle.paper.specs.Numbers.{pastEvery}
 use Rattle.paper.specs.Roundings.{grown}
 use Rattle.paper.specs.Ranges.{unsigned}
 
--- no natural number is below 0
-none : (n : ℕ) → ltZ (pos n) (pos 0) ≡ true → ⊥
-none n e = let h : n < 0 = ltb-true n 0 e in omega arith
+-- no natural number is below 0, and every other number is
+natural-not-below-zero : (n : ℕ) → ltZ (pos n) (pos 0) ≡ true → ⊥
+natural-not-below-zero n e = let h : n < 0 = ltb-true n 0 e in omega arith
 
-some : (n : ℕ) → ltZ (negsuc n) (pos 0) ≡ false → ⊥
-some n e = subst T e tt
+negative-below-zero : (n : ℕ) → ltZ (negsuc n) (pos 0) ≡ false → ⊥
+negative-below-zero n e = subst T e tt
 
 -- ---- the size: what an arm asks and gives, where z is the number that it casts
 
@@ -29,36 +29,36 @@ pub record Arm (z x : ℤ) : Type 0 where
   pub is : natAbs z ≡ mag x
 
 -- -1 - x for x = -(n + 1)
-flipped : (n : ℕ) → negsuc 0 -ℤ negsuc n ≡ pos n
-flipped n = rw (le-ltb (suc n) 1 (omega arith)) (ap pos (omega arith))
+flipped-is : (n : ℕ) → negsuc 0 -ℤ negsuc n ≡ pos n
+flipped-is n = rw (le-ltb (suc n) 1 (omega arith)) (ap pos (omega arith))
 
 pub below-zero-takes-its-arm : (x : ℤ) → SFits w64 x → ltZ x (pos 0) ≡ true → Arm (negsuc 0 -ℤ x) x
-below-zero-takes-its-arm (pos n) f e = absurd (none n e)
+below-zero-takes-its-arm (pos n) f e = absurd (natural-not-below-zero n e)
 below-zero-takes-its-arm (negsuc n) f e =
-    rw (flipped n) (record { signed = record { sfits = f .sfits }; cast = (tt, omega (arith, f .sfits)); is = refl })
+    rw (flipped-is n) (record { signed = record { sfits = f .sfits }; cast = (tt, omega (arith, f .sfits)); is = refl })
 
 pub not-below-zero-takes-its-arm : (x : ℤ) → SFits w64 x → ltZ x (pos 0) ≡ false → Arm x x
 not-below-zero-takes-its-arm (pos n) f e = record { signed = f; cast = (tt, omega (arith, f .sfits)); is = refl }
-not-below-zero-takes-its-arm (negsuc n) f e = absurd (some n e)
+not-below-zero-takes-its-arm (negsuc n) f e = absurd (negative-below-zero n e)
 
 -- ---- the definitions by the test
 
 pub unsigned-below : (x : ℤ) → ltZ x (pos 0) ≡ true → unsigned x ≡ pastEvery
 unfolding unsigned
-unsigned-below (pos n) e = absurd (none n e)
+unsigned-below (pos n) e = absurd (natural-not-below-zero n e)
 unsigned-below (negsuc n) e = refl
 
 pub unsigned-above : (x : ℤ) → ltZ x (pos 0) ≡ false → unsigned x ≡ mag x
 unfolding unsigned
 unsigned-above (pos n) e = refl
-unsigned-above (negsuc n) e = absurd (some n e)
+unsigned-above (negsuc n) e = absurd (negative-below-zero n e)
 
 pub grown-below : (base k : ℕ) (x : ℤ) → ltZ x (pos 0) ≡ true → grown base k x ≡ base - k * (mag x + 1)
 unfolding grown
-grown-below base k (pos n) e = absurd (none n e)
+grown-below base k (pos n) e = absurd (natural-not-below-zero n e)
 grown-below base k (negsuc n) e = rw (add-one n)
 
 pub grown-above : (base k : ℕ) (x : ℤ) → ltZ x (pos 0) ≡ false → grown base k x ≡ base + k * mag x
 unfolding grown
 grown-above base k (pos n) e = refl
-grown-above base k (negsuc n) e = absurd (some n e)
+grown-above base k (negsuc n) e = absurd (negative-below-zero n e)

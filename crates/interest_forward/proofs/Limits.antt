@@ -21,8 +21,8 @@ pub record Rises (i : Interest) (m n : Point) : Type 0 where
   pub first : m .rate * i .ym ≤ figureMost * (maturityMost - 1)
   pub second : n .rate * i .yn ≤ figureMost * maturityMost
 
-pub rises : (i : Interest) (m n : Point) → PairRange i → PointRange m → PointRange n → Rises i m n
-rises i m n p a b =
+pub rises-in-range : (i : Interest) (m n : Point) → PairRange i → PointRange m → PointRange n → Rises i m n
+rises-in-range i m n p a b =
     let early : i .ym ≤ maturityMost - 1 = omega arith in
     record { first = mul-le-mul (a .rate) early; second = mul-le-mul (b .rate) (p .given .yn) }
 
@@ -31,7 +31,7 @@ pub risen-is : (i : Interest) (m n : Point) → PairRange i → PointRange m →
     → Risen i m n (n .rate * i .yn + (base - lift) * (i .yn - i .ym) - m .rate * i .ym)
 unfolding forwardOf
 risen-is i m n p a b =
-    let s = rises i m n p a b in
+    let s = rises-in-range i m n p a b in
     record {
       is =
           differences-equal _ (base * (i .yn - i .ym)) (i .yn * n .rate + i .ym * lift) (i .yn * lift + i .ym * m .rate)
@@ -61,8 +61,8 @@ pub record Sums (i : Interest) (r : ℕ) : Type 0 where
   pub margin : marginOf i figureMost ≤ oneInHundredths * maturityMost * figureMost
   pub less : marginOf i figureMost ≤ i .xir * r
 
-pub sums : (i : Interest) (m n : Point) (r : ℕ) → PairRange i → Risen i m n r → Sums i r
-sums i m n r p s =
+pub sums-in-range : (i : Interest) (m n : Point) (r : ℕ) → PairRange i → Risen i m n r → Sums i r
+sums-in-range i m n r p s =
     let one : 1 ≤ i .xir = omega arith in
     record {
       product = mul-le-mul (p .given .divisor-high) (s .high);
@@ -72,8 +72,9 @@ sums i m n r p s =
 
 module _ (i : Interest) (m n : Point) (r : ℕ) (s : Risen i m n r) where
   -- x_IR·forward, over the denominator of the limits
-  multiplied : pos (i .xir) *ℤ forwardOf i (rateOf m) (rateOf n) ≡ subℕ (i .xir * r) (base * ((i .yn - i .ym) * i .xir))
-  multiplied =
+  multiplied-is : pos (i .xir) *ℤ forwardOf i (rateOf m) (rateOf n)
+      ≡ subℕ (i .xir * r) (base * ((i .yn - i .ym) * i .xir))
+  multiplied-is =
       ap (λ (z : ℤ). pos (i .xir) *ℤ z) (sym (s .is))
       ∙ difference-times (i .xir) r (base * (i .yn - i .ym))
       ∙ ap (λ (z : ℕ). subℕ (i .xir * r) z) (omega arith)
@@ -88,7 +89,7 @@ module _ (i : Interest) (m n : Point) (r : ℕ) (s : Risen i m n r) where
       ap (λ (z : ℤ). subℕ (i .xir * r) den +ℤ z) (whole-is-difference (marginOf i h))
       ∙ difference-plus (i .xir * r) den (marginOf i h) 0
       ∙ differences-equal (i .xir * r + marginOf i h) (den + 0) (i .xir * r + marginOf i h) den (omega arith) in
-      sym (ap (λ (z : ℤ). limitFrom i (z +ℤ pos (marginOf i h))) multiplied ∙ ap (limitFrom i) sum)
+      sym (ap (λ (z : ℤ). limitFrom i (z +ℤ pos (marginOf i h))) multiplied-is ∙ ap (limitFrom i) sum)
 
   pub lower-counted : (l : ℕ) → marginOf i l ≤ i .xir * r
       → limitFrom i (subℕ (i .xir * r - marginOf i l) (base * ((i .yn - i .ym) * i .xir)))
@@ -100,4 +101,4 @@ module _ (i : Interest) (m n : Point) (r : ℕ) (s : Risen i m n r) where
       ap (λ (z : ℤ). subℕ (i .xir * r) den -ℤ z) (whole-is-difference (marginOf i l))
       ∙ difference-minus (i .xir * r) den (marginOf i l) 0
       ∙ differences-equal (i .xir * r + 0) (den + marginOf i l) (i .xir * r - marginOf i l) den (omega arith) in
-      sym (ap (λ (z : ℤ). limitFrom i (z -ℤ pos (marginOf i l))) multiplied ∙ ap (limitFrom i) sum)
+      sym (ap (λ (z : ℤ). limitFrom i (z -ℤ pos (marginOf i l))) multiplied-is ∙ ap (limitFrom i) sum)

@@ -83,9 +83,9 @@ pub record Passed (numbers : List ℤ) (y at : ℕ) : Type 0 where
       → figureAt f (maturitiesOf numbers) y ≡ figureAfter f (maturityAt numbers at) (left numbers (at + keyNumbers)) y
 
 module _ (numbers : List ℤ) (y : ℕ) where
-  opened : (f : Maturity → ℤ) → keyNumbers ≤ length numbers
+  opened-is : (f : Maturity → ℤ) → keyNumbers ≤ length numbers
       → figureAt f (maturitiesOf numbers) y ≡ figureAt f (maturityAt numbers 0 ∷ left numbers keyNumbers) y
-  opened f one = ap (λ (ks : List Maturity). figureAt f ks y) (sym (left-first numbers) ∙ left-here numbers 0 one)
+  opened-is f one = ap (λ (ks : List Maturity). figureAt f ks y) (sym (left-first numbers) ∙ left-here numbers 0 one)
 
   pub passed-first : keyNumbers ≤ length numbers → maturityAt numbers 0 .t < y → Passed numbers y 0
   unfolding figureAt
@@ -94,7 +94,7 @@ module _ (numbers : List ℤ) (y : ℕ) where
         place = place-first keyNumbers numbers;
         room = one;
         before = h;
-        figure = λ f. opened f one ∙ rw (lt-leb y _ h);
+        figure = λ f. opened-is f one ∙ rw (lt-leb y _ h);
       }
 
   pub read-first : keyNumbers ≤ length numbers → y ≤ maturityAt numbers 0 .t → Reads numbers y 0 0
@@ -106,16 +106,16 @@ module _ (numbers : List ℤ) (y : ℕ) where
         whole-before = refl;
         whole-after = refl;
         between = inl refl;
-        reads = λ f. opened f one ∙ rw (le-leb y _ h);
+        reads = λ f. opened-is f one ∙ rw (le-leb y _ h);
       }
 
   module _ (at : ℕ) (p : Passed numbers y at) where
     -- with the next one at hand too
-    stepped : (f : Maturity → ℤ) → at + keyNumbers + keyNumbers ≤ length numbers
+    stepped-is : (f : Maturity → ℤ) → at + keyNumbers + keyNumbers ≤ length numbers
         → figureAt f (maturitiesOf numbers) y
         ≡ figureAfter f (maturityAt numbers at)
         (maturityAt numbers (at + keyNumbers) ∷ left numbers (at + keyNumbers + keyNumbers)) y
-    stepped f h = p .figure f
+    stepped-is f h = p .figure f
         ∙ ap (λ (ks : List Maturity). figureAfter f (maturityAt numbers at) ks y)
         (left-here numbers (at + keyNumbers) h)
 
@@ -127,7 +127,7 @@ module _ (numbers : List ℤ) (y : ℕ) where
           place = place-next keyNumbers numbers at (p .place) (p .room);
           room = h;
           before = e;
-          figure = λ f. stepped f h ∙ rw (lt-leb y _ e);
+          figure = λ f. stepped-is f h ∙ rw (lt-leb y _ e);
         }
 
     pub read-between : at + keyNumbers + keyNumbers ≤ length numbers → y ≤ maturityAt numbers (at + keyNumbers) .t
@@ -141,7 +141,7 @@ module _ (numbers : List ℤ) (y : ℕ) where
           whole-after = place-in-eights numbers (at + keyNumbers)
               (place-next keyNumbers numbers at (p .place) (p .room));
           between = inr (p .before, e);
-          reads = λ f. stepped f h ∙ rw (le-leb y _ e, ne-eqb at (at + keyNumbers) (λ q. omega arith));
+          reads = λ f. stepped-is f h ∙ rw (le-leb y _ e, ne-eqb at (at + keyNumbers) (λ q. omega arith));
         }
 
     pub read-last : length numbers - at ≤ keyNumbers → Reads numbers y at at

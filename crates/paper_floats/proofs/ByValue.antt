@@ -25,17 +25,17 @@ value-told bits m s e h =
     subst (λ (y : Float). HasValue y (leb signBit bits) (exactValue bits .num) (exactValue bits .den)) h
     (exact-value bits (number-finite bits m s e h))
 
-positive : (bits m : ℕ) (e : ℤ) → ofBits binary64 bits ≡ fin false m e
+positive-is-made : (bits m : ℕ) (e : ℤ) → ofBits binary64 bits ≡ fin false m e
     → priceOfBits bits ≡ priceMade (unitsOf (record { num = m * up e; den = down e }))
-positive bits m e h =
+positive-is-made bits m e h =
     let told = value-told bits m false e h in
     plus-price bits (number-finite bits m false e h) (leb-false signBit bits (sym (told .0)))
     ∙ ap priceMade
     (units-same (exactValue bits) (record { num = m * up e; den = down e }) (scale-pos bits) (down-pos e)
     (sym (told .1)))
 
-negative : (bits m : ℕ) (e : ℤ) → ofBits binary64 bits ≡ fin true m e → priceOfBits bits ≡ OutOfRange
-negative bits m e h = minus-refused bits (leb-true signBit bits (sym (value-told bits m true e h .0)))
+negative-is-refused : (bits m : ℕ) (e : ℤ) → ofBits binary64 bits ≡ fin true m e → priceOfBits bits ≡ OutOfRange
+negative-is-refused bits m e h = minus-refused bits (leb-true signBit bits (sym (value-told bits m true e h .0)))
 
 -- ---- the whole rule
 
@@ -44,8 +44,10 @@ unfolding priceOf priceOfBits priceOfValue isNan toBits
 by-value nan h = refl
 by-value (inf true) h = refl
 by-value (inf false) h = refl
-by-value (fin true m e) h = negative (toBits binary64 (fin true m e)) m e (ofBits-toBits binary64 (fin true m e) h)
-by-value (fin false m e) h = positive (toBits binary64 (fin false m e)) m e (ofBits-toBits binary64 (fin false m e) h)
+by-value (fin true m e) h =
+    negative-is-refused (toBits binary64 (fin true m e)) m e (ofBits-toBits binary64 (fin true m e) h)
+by-value (fin false m e) h =
+    positive-is-made (toBits binary64 (fin false m e)) m e (ofBits-toBits binary64 (fin false m e) h)
 
 -- ---- "isn't finite, isn't above zero"
 

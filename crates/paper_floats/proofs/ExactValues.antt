@@ -16,10 +16,10 @@ use Rattle.paper.proofs.Logic.{le-or-lt}
 use Rattle.paper_floats.specs.Floats.{leadingOne, exponents, signBit, scale, exponent, fraction, significand, exactValue, isFinite}
 
 -- a fraction with both its numbers doubled is the same value
-doubled : (y : Float) (s : Bool) (a c : ℕ) → HasValue y s a c → HasValue y s (2 * a) (2 * c)
-doubled nan s a c h = h
-doubled (inf t) s a c h = h
-doubled (fin t m e) s a c h = (h .0, cross (m * up e) (down e) (h .1))
+doubled-has-value : (y : Float) (s : Bool) (a c : ℕ) → HasValue y s a c → HasValue y s (2 * a) (2 * c)
+doubled-has-value nan s a c h = h
+doubled-has-value (inf t) s a c h = h
+doubled-has-value (fin t m e) s a c h = (h .0, cross (m * up e) (down e) (h .1))
   where
     cross : (x d : ℕ) → x * c ≡ a * d → x * (2 * c) ≡ 2 * a * d
     cross x d k = omega arith
@@ -30,14 +30,14 @@ fields-value : (s : Bool) (x t : ℕ) → x < exponents - 1
 unfolding ofFields
 fields-value s zero t h =
     subst (λ (a : ℕ). HasValue (ofFields binary64 s zero t) s a (2 ^ scale)) (first t)
-    (doubled (ofFields binary64 s zero t) s (t * 2 ^ 0) (2 ^ 1074) (odd-sign 53 s t 0 1074))
+    (doubled-has-value (ofFields binary64 s zero t) s (t * 2 ^ 0) (2 ^ 1074) (odd-sign 53 s t 0 1074))
   where
     first : (t : ℕ) → 2 * (t * 2 ^ 0) ≡ (0 + t) * 2 ^ 1
     first t = omega arith
 fields-value s (suc x) t h =
     rw (ne-eqb (suc x) 2047 (λ (e : suc x ≡ 2047). omega arith), eqb·suc-zero x, next x)
     (subst (λ (a : ℕ). HasValue (odd 53 s (leadingOne + t) x 1074) s a (2 ^ scale)) (twice (leadingOne + t) (2 ^ x))
-    (doubled (odd 53 s (leadingOne + t) x 1074) s ((leadingOne + t) * 2 ^ x) (2 ^ 1074)
+    (doubled-has-value (odd 53 s (leadingOne + t) x 1074) s ((leadingOne + t) * 2 ^ x) (2 ^ 1074)
     (odd-sign 53 s (leadingOne + t) x 1074)))
   where
     next : (x : ℕ) → 2 ^ max (suc x) 1 ≡ 2 * 2 ^ x

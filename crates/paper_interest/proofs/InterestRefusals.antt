@@ -33,8 +33,8 @@ module _ (i : Interest) (numbers : List ℤ) where
   at-first : (v : Verdict) → FirstAt v (interestChecks i numbers) → interestAnswer i numbers .pair .verdict ≡ v
   at-first v f = verdict-first ∙ first-is-given (interestChecks i numbers) v f
 
-  differ : OutOfRange ≡ NotAscending → ⊥
-  differ e = let z : _≡_ {A = ℕ} 6 14 = ap numberOf e in omega arith
+  six-is-not-fourteen : OutOfRange ≡ NotAscending → ⊥
+  six-is-not-fourteen e = let z : _≡_ {A = ℕ} 6 14 = ap numberOf e in omega arith
 
   -- 6
   pub out-of-range-exactly : Exactly (interestAnswer i numbers .pair .verdict ≡ OutOfRange) (inRange i numbers ≡ false)
@@ -43,7 +43,7 @@ module _ (i : Interest) (numbers : List ℤ) where
     where
       only : FirstAt OutOfRange (interestChecks i numbers) → inRange i numbers ≡ false
       only (here w q) = not-true (inRange i numbers) q
-      only (later p (here w q)) = absurd (differ (sym w))
+      only (later p (here w q)) = absurd (six-is-not-fourteen (sym w))
 
   -- 14, after 6
   pub not-ascending-exactly : Exactly (interestAnswer i numbers .pair .verdict ≡ NotAscending)
@@ -55,7 +55,7 @@ module _ (i : Interest) (numbers : List ℤ) where
   )
     where
       only : FirstAt NotAscending (interestChecks i numbers) → (inRange i numbers ≡ true) × (inOrder i numbers ≡ false)
-      only (here w q) = absurd (differ w)
+      only (here w q) = absurd (six-is-not-fourteen w)
       only (later p (here w q)) = (not-false (inRange i numbers) p, not-true (inOrder i numbers) q)
 
   -- 0, otherwise

@@ -83,9 +83,9 @@ module _ (m : Message) (v : valid m ≡ true) (full : length (m .fields) ≡ pla
   body : List ℕ
   body = bodyOf (placesOf (m .kind)) (m .fields)
 
-  parts : encode m ++ rest ≡ head ++ (tag ++ (body ++ rest))
+  encode-in-parts : encode m ++ rest ≡ head ++ (tag ++ (body ++ rest))
   unfolding encode head tag body
-  parts = simp append-assoc
+  encode-in-parts = simp append-assoc
 
   length-said : lengthAt (encode m ++ rest) ≡ lengthOf (m .kind)
   unfolding head
@@ -93,7 +93,10 @@ module _ (m : Message) (v : valid m ≡ true) (full : length (m .fields) ≡ pla
       let small : lengthOf (m .kind) ≤ lengthMost =
       leb-true (lengthOf (m .kind)) lengthMost
       (and-right (leb lengthLeast (lengthOf (m .kind))) _ (kinds-length-in-range (m .kind))) in
-      rw (parts, take-at head (tag ++ (body ++ rest)) lengthWidth (bytes-length lengthWidth (lengthOf (m .kind))))
+      rw (
+        encode-in-parts,
+        take-at head (tag ++ (body ++ rest)) lengthWidth (bytes-length lengthWidth (lengthOf (m .kind))),
+      )
       (bytes-back lengthWidth (lengthOf (m .kind)) (omega arith))
 
   kind-said : kindAt (encode m ++ rest) ≡ m .kind
@@ -102,7 +105,7 @@ module _ (m : Message) (v : valid m ≡ true) (full : length (m .fields) ≡ pla
       let most : m .kind ≤ 4 = leb-true (m .kind) 4
       (and-right (leb 1 (m .kind)) (leb (m .kind) 4) (valid-is-known m v)) in
       rw (
-        parts,
+        encode-in-parts,
         drop-at head (tag ++ (body ++ rest)) lengthWidth (bytes-length lengthWidth (lengthOf (m .kind))),
         take-at tag (body ++ rest) kindWidth (bytes-length kindWidth (m .kind)),
       ) (bytes-back kindWidth (m .kind) (omega arith))
@@ -113,7 +116,7 @@ module _ (m : Message) (v : valid m ≡ true) (full : length (m .fields) ≡ pla
       let six : length (head ++ tag) ≡ lengthWidth + kindWidth =
       rw (length-append head tag, bytes-length lengthWidth (lengthOf (m .kind)), bytes-length kindWidth (m .kind)) in
       rw (
-        parts,
+        encode-in-parts,
         ← (append-assoc head tag (body ++ rest)),
         drop-at (head ++ tag) (body ++ rest) (lengthWidth + kindWidth) six,
       )
@@ -191,9 +194,9 @@ module _ (m : Message) (v : valid m ≡ true) (full : length (m .fields) ≡ pla
 
 -- ---- an accepted message is the only encoding of its fields
 
-pub accepted : (bytes : List ℕ) → firstOf (readChecks bytes) ≡ Done → AcceptedBytes bytes
+pub done-means-accepted : (bytes : List ℕ) → firstOf (readChecks bytes) ≡ Done → AcceptedBytes bytes
 unfolding readChecks refusals every isDone
-accepted bytes e = of (done-means-none-applies (readChecks bytes) refl (ap isDone e))
+done-means-accepted bytes e = of (done-means-none-applies (readChecks bytes) refl (ap isDone e))
   where
     of : NoneApplies (readChecks bytes) → AcceptedBytes bytes
     of (also a (also b (also c (also d (also f none))))) =
@@ -250,7 +253,7 @@ heard-only b at all e known =
     let first : firstOf (readChecks bytes) ≡ Done = sym (heard-verdict b at) ∙ e in
     let is : heardAt b at ≡ acceptedHeard at bytes = heard-accepted b at first in
     let k : isKnown (kindAt bytes) ≡ true = sym (ap (λ (h : Heard). h .known) is) ∙ known in
-    let a : AcceptedBytes bytes = accepted bytes first in
+    let a : AcceptedBytes bytes = done-means-accepted bytes first in
     let m-is : heardAt b at .message ≡ messageAt bytes = ap (λ (h : Heard). h .message) is ∙ said k in
     let only : encode (messageAt bytes) ≡ take (lengthWidth + lengthAt bytes) bytes =
     only-encoding bytes (drop-bytes at b all) a k in

@@ -18,7 +18,7 @@ use Rattle.paper_messages.specs.declared.Heard.{Heard}
 use Rattle.paper_messages.specs.Bytes.{spelled}
 use Rattle.paper_messages.specs.Fields.{placesOf}
 use Rattle.paper_messages.specs.Messages.{lengthWidth, kindWidth, lengthLeast, total, lengthOf, isKnown, valid, valuesAt, lengthAt, kindAt, messageAt, noMessage, readChecks, AcceptedBytes, acceptedHeard, heardAt}
-use Rattle.paper_messages.proofs.MessageLaws.{heard-accepted, heard-verdict, accepted}
+use Rattle.paper_messages.proofs.MessageLaws.{heard-accepted, heard-verdict, done-means-accepted}
 
 -- ---- equal beginnings
 
@@ -95,8 +95,8 @@ module _ (s t : List ℕ) (a : AcceptedBytes s) (n : ℕ) (is : lengthAt s ≡ k
       of true e = rw (message-same e)
       of false e = refl
 
-  long : lengthWidth + lengthAt s ≤ length t
-  long =
+  long-enough : lengthWidth + lengthAt s ≤ length t
+  long-enough =
       let short : lengthWidth + (kindWidth + n) ≤ length s = rw is at (a .follows) in
       let as-long = sym (ap length same) ∙ length-take-le (lengthWidth + (kindWidth + n)) s short in
       rw is (reaches (lengthWidth + (kindWidth + n)) t as-long)
@@ -110,10 +110,10 @@ module _ (s t : List ℕ) (a : AcceptedBytes s) (n : ℕ) (is : lengthAt s ≡ k
   unfolding readChecks firstOf
   first-same-done =
       rw (
-        le-ltb (length t) lengthWidth (omega (arith, long)),
+        le-ltb (length t) lengthWidth (omega (arith, long-enough)),
         length-same,
         a .in-length,
-        le-ltb (length t) (lengthWidth + lengthAt s) long,
+        le-ltb (length t) (lengthWidth + lengthAt s) long-enough,
         kind-same,
       ) (of (isKnown (kindAt s)) refl)
     where
@@ -134,7 +134,7 @@ heard-same b c at e same =
     let s : List ℕ = drop at b in
     let t : List ℕ = drop at c in
     let first : firstOf (readChecks s) ≡ Done = sym (heard-verdict b at) ∙ e in
-    let a : AcceptedBytes s = accepted s first in
+    let a : AcceptedBytes s = done-means-accepted s first in
     let least : lengthLeast ≤ lengthAt s =
     leb-true lengthLeast (lengthAt s) (and-left (leb lengthLeast (lengthAt s)) _ (a .in-length)) in
     let n : ℕ = lengthAt s - kindWidth in

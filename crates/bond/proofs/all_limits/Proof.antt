@@ -17,13 +17,13 @@ array-copy-out-term-limits : tie.Need-array-copy-out-term-limits
 array-copy-out-term-limits c = search needs
 
 -- what each term asks
-term : (c : tie.After-terms-of) (k : ℕ) → k < 3 → validTerm (getD (c .terms-of .result) k noTerm) ≡ true
-term c k h = rw (c .terms-of .ensures) (bond-terms-valid (c .before .args .b) (c .before .pre .0 .valid) k h)
+term-valid : (c : tie.After-terms-of) (k : ℕ) → k < 3 → validTerm (getD (c .terms-of .result) k noTerm) ≡ true
+term-valid c k h = rw (c .terms-of .ensures) (bond-terms-valid (c .before .args .b) (c .before .pre .0 .valid) k h)
 
 term-limits-requires : tie.Need-term-limits-requires
 term-limits-requires c κs =
     let t = c .before in
-    (t .before .pre .0, (t .before .pre .1, term t 0 (omega arith)))
+    (t .before .pre .0, (t .before .pre .1, term-valid t 0 (omega arith)))
 
 array-copy-out-term-limits-2 : tie.Need-array-copy-out-term-limits-2
 array-copy-out-term-limits-2 c = search needs
@@ -31,7 +31,7 @@ array-copy-out-term-limits-2 c = search needs
 term-limits-requires-2 : tie.Need-term-limits-requires-2
 term-limits-requires-2 c κs =
     let t = c .before .before .before in
-    (t .before .pre .0, (t .before .pre .1, term t 1 (omega arith)))
+    (t .before .pre .0, (t .before .pre .1, term-valid t 1 (omega arith)))
 
 array-copy-out-term-limits-3 : tie.Need-array-copy-out-term-limits-3
 array-copy-out-term-limits-3 c = search needs
@@ -39,7 +39,7 @@ array-copy-out-term-limits-3 c = search needs
 term-limits-requires-3 : tie.Need-term-limits-requires-3
 term-limits-requires-3 c κs =
     let t = c .before .before .before .before .before in
-    (t .before .pre .0, (t .before .pre .1, term t 2 (omega arith)))
+    (t .before .pre .0, (t .before .pre .1, term-valid t 2 (omega arith)))
 
 returns : tie.Need-returns
 returns c =

@@ -19,35 +19,35 @@ flows-valid-requires : tie.Need-flows-valid-requires
 flows-valid-requires c κs = search needs
 
 -- the test of 6
-rule : (c : tie.After-flows-valid)
+tested-is : (c : tie.After-flows-valid)
     → (c .before .bond-valid .result && c .flows-valid .result)
     ≡ (validBond (c .before .before .args .b) && validFlows (c .before .before .args .flows .now))
-rule c = rw (c .before .bond-valid .ensures, c .flows-valid .ensures)
+tested-is c = rw (c .before .bond-valid .ensures, c .flows-valid .ensures)
 
 refused-requires : tie.Need-refused-requires
 refused-requires c κs = search needs
 
 returns : tie.Need-returns
 returns c = c .refused .ensures
-    ∙ answers-out-of-range _ _ (not-true _ (rw (rule (c .before .before)) at (c .before .if1 .taken)))
+    ∙ answers-out-of-range _ _ (not-true _ (rw (tested-is (c .before .before)) at (c .before .if1 .taken)))
 
 -- the test of 6 passed
-ruled : (c : tie.Else1)
+in-range-known : (c : tie.Else1)
     → (validBond (c .before .before .before .args .b)
     && validFlows (c .before .before .before .args .flows .now)) ≡ true
-ruled c = sym (rule (c .before)) ∙ not-false _ (c .if1 .left)
+in-range-known c = sym (tested-is (c .before)) ∙ not-false _ (c .if1 .left)
 
 refused-requires-2 : tie.Need-refused-requires-2
 refused-requires-2 c κs = search needs
 
 returns-2 : tie.Need-returns-2
 returns-2 c = c .refused2 .ensures
-    ∙ answers-no-face-value _ _ (ruled (c .before .before .before)) (eq-eqb _ _ (c .before .if2 .taken))
+    ∙ answers-no-face-value _ _ (in-range-known (c .before .before .before)) (eq-eqb _ _ (c .before .if2 .taken))
 
 gross-of-requires : tie.Need-gross-of-requires
 gross-of-requires c κs =
     let e = c .before .before in
-    and-left _ (validFlows (e .before .before .before .args .flows .now)) (ruled e)
+    and-left _ (validFlows (e .before .before .before .args .flows .now)) (in-range-known e)
 
 new-requires : tie.Need-new-requires
 new-requires c κs = search needs
@@ -69,8 +69,8 @@ priced-requires c κs =
     let s = e .before .before .before in
     let made = price-made _ _ (sym (n .new .ensures) ∙ c .before .gross .given .1) in (
       record {
-        valid = and-left _ (validFlows (s .args .flows .now)) (ruled e);
-        flows = and-right (validBond (s .args .b)) _ (ruled e);
+        valid = and-left _ (validFlows (s .args .flows .now)) (in-range-known e);
+        flows = and-right (validBond (s .args .b)) _ (in-range-known e);
         face = pos-of-ne-zero (f .if2 .left);
         price = rw (n .before .gross-of .ensures) at (made .0);
       },
@@ -83,7 +83,7 @@ returns-3 c =
     let f = n .before .before in
     let out = price-unmade _ (sym (n .new .ensures) ∙ c .before .enum-told .given .1) in
     c .refused3 .ensures
-    ∙ answers-price-out-of-range _ _ (ruled (f .before .before)) (ne-eqb _ _ (f .if2 .left))
+    ∙ answers-price-out-of-range _ _ (in-range-known (f .before .before)) (ne-eqb _ _ (f .if2 .left))
     (rw (n .before .gross-of .ensures) at out)
 
 returns-4 : tie.Need-returns-4

@@ -20,16 +20,16 @@ statics-of-requires : tie.Need-statics-of-requires
 statics-of-requires c κs = search needs
 
 -- the statics are in range, and what they are
-passed : (c : tie.Then1) → validGiven (givenOf (c .before .before .before .before .args .b .statics)) ≡ true
-passed c = rw (c .before .before .given-of .ensures) at (sym (c .before .valid-given .ensures) ∙ c .if1 .taken)
+given-passed : (c : tie.Then1) → validGiven (givenOf (c .before .before .before .before .args .b .statics)) ≡ true
+given-passed c = rw (c .before .before .given-of .ensures) at (sym (c .before .valid-given .ensures) ∙ c .if1 .taken)
 
-statics : (c : tie.After-statics-of)
+statics-are : (c : tie.After-statics-of)
     → c .statics-of .result ≡ bondStatics (c .before .before .before .before .before .args .b)
-statics c = rw (c .before .before .before .given-of .ensures) at (c .statics-of .ensures)
+statics-are c = rw (c .before .before .before .given-of .ensures) at (c .statics-of .ensures)
 
 valid-numbers-requires : tie.Need-valid-numbers-requires
 valid-numbers-requires c κs =
-    (statics c, rw (statics c) (statics-step-positive _ (given-statics-valid _ (passed (c .before)))))
+    (statics-are c, rw (statics-are c) (statics-step-positive _ (given-statics-valid _ (given-passed (c .before)))))
 
 terms-of-requires : tie.Need-terms-of-requires
 terms-of-requires c κs = search needs
@@ -51,7 +51,7 @@ returns c =
       terms .valid-terms .ensures,
       terms .before .terms-of .ensures,
       numbers .valid-numbers .ensures,
-      passed (numbers .before .before),
+      given-passed (numbers .before .before),
     )
 
 returns-2 : tie.Need-returns-2

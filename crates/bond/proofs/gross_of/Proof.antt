@@ -11,14 +11,14 @@ use Rattle.bond.proofs.Facts.{BondFacts, bond-facts}
 use Rattle.bond.proofs.gross_of.Statement.{statement}
 use Rattle.bond.proofs.gross_of.Tie as tie
 
-facts : (s : tie.Start) → BondFacts (s .args .b)
-facts s = bond-facts (s .args .b) (s .pre)
+facts-known : (s : tie.Start) → BondFacts (s .args .b)
+facts-known s = bond-facts (s .args .b) (s .pre)
 
-product : (s : tie.Start) → s .args .b .net * s .args .b .face ≤ netMost * moneyMost
-product s = mul-le-mul (facts s .net) (facts s .face)
+product-high : (s : tie.Start) → s .args .b .net * s .args .b .face ≤ netMost * moneyMost
+product-high s = mul-le-mul (facts-known s .net) (facts-known s .face)
 
 mul-half-up : tie.Need-mul-half-up
-mul-half-up c = omega (arith, product (c .before))
+mul-half-up c = omega (arith, product-high (c .before))
 
 half-up-requires : tie.Need-half-up-requires
 half-up-requires c κs = search needs
@@ -27,8 +27,8 @@ add-result : tie.Need-add-result
 add-result c =
     let s = c .before .before .before in
     let rounded = half-le (s .args .b .net * s .args .b .face) oneInPerCentHundredths (3 * moneyMost) (omega arith)
-    (omega (arith, product s)) in
-    rw (c .before .half-up .ensures) (omega (arith, rounded, facts s .accrued))
+    (omega (arith, product-high s)) in
+    rw (c .before .half-up .ensures) (omega (arith, rounded, facts-known s .accrued))
 
 returns : tie.Need-returns
 unfolding grossOf

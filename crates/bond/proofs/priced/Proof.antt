@@ -16,18 +16,18 @@ given-of-requires c κs = search needs
 statics-of-requires : tie.Need-statics-of-requires
 statics-of-requires c κs = search needs
 
-statics : (c : tie.After-statics-of) → c .statics-of .result ≡ bondStatics (c .before .before .before .args .b)
-statics c = rw (c .before .given-of .ensures) at (c .statics-of .ensures)
+statics-are : (c : tie.After-statics-of) → c .statics-of .result ≡ bondStatics (c .before .before .before .args .b)
+statics-are c = rw (c .before .given-of .ensures) at (c .statics-of .ensures)
 
 figures-by-volatility-requires : tie.Need-figures-by-volatility-requires
 figures-by-volatility-requires c κs =
     let s = c .before .before .before .before in
-    rw (statics (c .before)) (volatility-ranges (s .args .b) (s .pre .0 .valid))
+    rw (statics-are (c .before)) (volatility-ranges (s .args .b) (s .pre .0 .valid))
 
-figured : (c : tie.After-figures-by-volatility)
+figures-are : (c : tie.After-figures-by-volatility)
     → c .figures-by-volatility .result ≡ bondFigures (c .before .before .before .before .before .args .b)
 unfolding bondFigures
-figured c = rw (statics (c .before .before)) at (c .figures-by-volatility .ensures)
+figures-are c = rw (statics-are (c .before .before)) at (c .figures-by-volatility .ensures)
 
 array-copy-out-all-limits : tie.Need-array-copy-out-all-limits
 array-copy-out-all-limits c = search needs
@@ -38,9 +38,9 @@ all-limits-requires c κs =
     let s = f .before .before .before .before .before in (
       s .pre .0,
       record {
-        statics = statics (f .before .before);
+        statics = statics-are (f .before .before);
         price = s .pre .1;
-        rate = ap (λ (x : Figures). rateAt (x .rates) 0) (figured f);
+        rate = ap (λ (x : Figures). rateAt (x .rates) 0) (figures-are f);
       },
     )
 
@@ -51,16 +51,16 @@ refused-requires : tie.Need-refused-requires
 refused-requires c κs = search needs
 
 -- whether a term is crossed is what the paper asks
-tested : (c : tie.After-some-crossed)
+crossed-is : (c : tie.After-some-crossed)
     → let start = c .before .before .before .before .before .before .before .before .before .before in
     c .some-crossed .result ≡ some isCrossed (allLimits (start .args .b) (flowsOf (start .args .flows .now)))
-tested c = rw (c .before .all-limits .ensures) at (c .some-crossed .ensures)
+crossed-is c = rw (c .before .all-limits .ensures) at (c .some-crossed .ensures)
 
 returns : tie.Need-returns
 returns c =
     let t = c .before .before in
     let s = t .before .before .before .before .before .before .before .before .before .before in
-    c .refused .ensures ∙ answers-band-crossed _ _ (s .pre .0) (sym (tested t) ∙ c .before .if1 .taken)
+    c .refused .ensures ∙ answers-band-crossed _ _ (s .pre .0) (sym (crossed-is t) ∙ c .before .if1 .taken)
 
 returns-2 : tie.Need-returns-2
 unfolding acceptedBond
@@ -68,8 +68,8 @@ returns-2 c =
     let t = c .before in
     let f = t .before .before .before .before .before in
     let s = f .before .before .before .before .before in
-    rw (s .pre .1, figured f, t .before .all-limits .ensures)
-    (answers-figures _ _ (s .pre .0) (sym (tested t) ∙ c .if1 .left))
+    rw (s .pre .1, figures-are f, t .before .all-limits .ensures)
+    (answers-figures _ _ (s .pre .0) (sym (crossed-is t) ∙ c .if1 .left))
 
 pub priced-spec : {M : Type 1} → statement M
 priced-spec =

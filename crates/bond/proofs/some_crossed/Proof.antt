@@ -25,18 +25,18 @@ is-crossed-requires-3 : tie.Need-is-crossed-requires-3
 is-crossed-requires-3 c κs = search needs
 
 -- one of three, whichever two are looked at first
-regrouped : (x y z : Bool) → ((x || y) || z) ≡ (x || (y || (z || false)))
-regrouped true y z = refl
-regrouped false true z = refl
-regrouped false false true = refl
-regrouped false false false = refl
+regrouped-is : (x y z : Bool) → ((x || y) || z) ≡ (x || (y || (z || false)))
+regrouped-is true y z = refl
+regrouped-is false true z = refl
+regrouped-is false false true = refl
+regrouped-is false false false = refl
 
 returns : tie.Need-returns
 unfolding some
 returns c =
     let second = c .before .before in
     let first = second .before .before in
-    regrouped (first .is-crossed .result) (second .is-crossed2 .result) (c .is-crossed3 .result)
+    regrouped-is (first .is-crossed .result) (second .is-crossed2 .result) (c .is-crossed3 .result)
     ∙ rw (c .is-crossed3 .ensures, second .is-crossed2 .ensures, first .is-crossed .ensures)
 
 pub some-crossed-spec : {M : Type 1} → statement M

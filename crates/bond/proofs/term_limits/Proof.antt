@@ -12,24 +12,24 @@ use Rattle.bond.proofs.Facts.{BondFacts, bond-facts, first-rate-high}
 use Rattle.bond.proofs.term_limits.Statement.{statement}
 use Rattle.bond.proofs.term_limits.Tie as tie
 
-facts : (s : tie.Start) → BondFacts (s .args .b)
-facts s = bond-facts (s .args .b) (s .pre .0 .valid)
+facts-known : (s : tie.Start) → BondFacts (s .args .b)
+facts-known s = bond-facts (s .args .b) (s .pre .0 .valid)
 
 -- REPORate is its own bits read back
-bits : (s : tie.Start) → toZ w64 (ofZ w64 (s .args .b .repo)) ≡ s .args .b .repo
-bits s = rate-kept-in-bits (s .args .b .repo) (facts s .repo)
+bits-read-back : (s : tie.Start) → toZ w64 (ofZ w64 (s .args .b .repo)) ≡ s .args .b .repo
+bits-read-back s = rate-kept-in-bits (s .args .b .repo) (facts-known s .repo)
 
-inputs : (s : tie.Start) → CarryInputs (s .args .x .k) (s .args .b .repo)
-inputs s = record { days = term-days-within-most (s .args .x) (s .pre .1 .1); rate = facts s .repo }
+inputs-in-range : (s : tie.Start) → CarryInputs (s .args .x .k) (s .args .b .repo)
+inputs-in-range s = record { days = term-days-within-most (s .args .x) (s .pre .1 .1); rate = facts-known s .repo }
 
 carry-of-requires : tie.Need-carry-of-requires
-carry-of-requires c κs = let s = c .before in (rw (bits s) (inputs s), s .pre .0 .flows)
+carry-of-requires c κs = let s = c .before in (rw (bits-read-back s) (inputs-in-range s), s .pre .0 .flows)
 
-carried : (c : tie.After-carry-of)
+carry-is : (c : tie.After-carry-of)
     → c .carry-of .result
     ≡ carryOf (c .before .before .args .b .repo) (c .before .before .args .x .k)
     (flowsOf (c .before .before .args .flows .now))
-carried c = rw (bits (c .before .before)) at (c .carry-of .ensures)
+carry-is c = rw (bits-read-back (c .before .before)) at (c .carry-of .ensures)
 
 limits-of-requires : tie.Need-limits-of-requires
 limits-of-requires c κs =
@@ -37,10 +37,10 @@ limits-of-requires c κs =
     let b = s .args .b in
     let figured = s .pre .1 .0 in (
       record {
-        carry = rw (carried (c .before)) (carry-most _ _ _ (inputs s) (s .pre .0 .flows));
-        accrued = facts s .accrued;
+        carry = rw (carry-is (c .before)) (carry-most _ _ _ (inputs-in-range s) (s .pre .0 .flows));
+        accrued = facts-known s .accrued;
         face = s .pre .0 .face;
-        repo = rw (bits s) (facts s .repo);
+        repo = rw (bits-read-back s) (facts-known s .repo);
       },
       (
         rw (figured .statics) (bond-statics-valid b (s .pre .0 .valid)),
@@ -59,8 +59,8 @@ returns c =
     let figured = s .pre .1 .0 in
     rw (
       c .limits-of .ensures,
-      bits s,
-      carried (c .before .before),
+      bits-read-back s,
+      carry-is (c .before .before),
       figured .statics,
       figured .price,
       figured .rate,

@@ -25,9 +25,9 @@ loop-holds : tie.Need-loop-holds Inv-loop μ-loop
 loop-holds c = summing-first _ _ _ (c .pre .1)
 
 -- where the cash flow at hand stands
-room : (c : tie.In-loop Inv-loop μ-loop)
+flow-fits : (c : tie.In-loop Inv-loop μ-loop)
     → c .before .loop .at + flowNumbers ≤ length (c .before .before .args .numbers .now)
-room c =
+flow-fits c =
     place-room _ _ _ (whole-in-twos _ (valid-whole _ (c .before .before .pre .1))) (c .before .loop .inv .place)
     (c .loop-test .taken)
 
@@ -35,47 +35,49 @@ room c =
 abbrev Rate : tie.Start Inv-loop μ-loop → ℤ
 Rate s = toZ w64 (ofZ w64 (s .args .repo))
 
-inputs : (s : tie.Start Inv-loop μ-loop) → CarryInputs (s .args .k) (Rate s)
-inputs s = rw (toZ-ofZ (s .fits .repo)) (s .pre .0)
+inputs-in-range : (s : tie.Start Inv-loop μ-loop) → CarryInputs (s .args .k) (Rate s)
+inputs-in-range s = rw (toZ-ofZ (s .fits .repo)) (s .pre .0)
 
 flow-at-requires : tie.Need-flow-at-requires Inv-loop μ-loop
-flow-at-requires c κs = room c
+flow-at-requires c κs = flow-fits c
 
 carry-due-requires : tie.Need-carry-due-requires Inv-loop μ-loop
 carry-due-requires c κs =
     let l = c .before .before in
-    (inputs (l .before), rw (c .flow-at .ensures) (summing-amount _ _ _ _ _ (l .loop .inv) (room (c .before))))
+    let amount = summing-amount _ _ _ _ _ (l .loop .inv) (flow-fits (c .before)) in
+    (inputs-in-range (l .before), rw (c .flow-at .ensures) amount)
 
 -- what the cash flow at hand adds
-due : (c : tie.After-carry-due Inv-loop μ-loop)
+due-is : (c : tie.After-carry-due Inv-loop μ-loop)
     → c .carry-due .result
     ≡ carryDue (Rate (c .before .before .before .before)) (c .before .before .before .before .args .k)
     (flowOf (flowAt (c .before .before .before .before .args .numbers .now) (c .before .before .before .loop .at)))
-due c = rw (c .before .flow-at .ensures) at (c .carry-due .ensures)
+due-is c = rw (c .before .flow-at .ensures) at (c .carry-due .ensures)
 
-next : (c : tie.After-carry-due Inv-loop μ-loop)
+next-sums : (c : tie.After-carry-due Inv-loop μ-loop)
     → Summing (c .before .before .before .before .args .numbers .now) (c .before .before .before .before .args .k)
     (Rate (c .before .before .before .before))
     (c .before .before .before .loop .total + c .carry-due .result) (c .before .before .before .loop .at + flowNumbers)
-next c = rw (due c) (summing-next _ _ _ _ _ (c .before .before .before .loop .inv) (room (c .before .before)))
+next-sums c =
+    rw (due-is c) (summing-next _ _ _ _ _ (c .before .before .before .loop .inv) (flow-fits (c .before .before)))
 
 add-total : tie.Need-add-total Inv-loop μ-loop
 add-total c =
     let s = c .before .before .before .before in
     omega (
       arith,
-      next c .sums,
-      carry-most (s .args .numbers .now) (s .args .k) (Rate s) (inputs s) (s .pre .1),
+      next-sums c .sums,
+      carry-most (s .args .numbers .now) (s .args .k) (Rate s) (inputs-in-range s) (s .pre .1),
     )
 
 add-at : tie.Need-add-at Inv-loop μ-loop
-add-at c = omega (arith, room (c .before .before))
+add-at c = omega (arith, flow-fits (c .before .before))
 
 loop-less : tie.Need-loop-less Inv-loop μ-loop
-loop-less c = omega (arith, room (c .before .before))
+loop-less c = omega (arith, flow-fits (c .before .before))
 
 loop-again : tie.Need-loop-again Inv-loop μ-loop
-loop-again c = next c
+loop-again c = next-sums c
 
 returns : tie.Need-returns Inv-loop μ-loop
 returns c =

@@ -22,16 +22,16 @@ grow-requires c κs =
     (record { days = omega (arith, s .pre .0 .days); size = s .pre .0 .rate; least = omega arith; most = omega arith })
 
 -- the days' factor
-days : (c : tie.After-grow)
+days-are : (c : tie.After-grow)
     → c .grow .result
     ≡ grown yearInDayBp (c .before .before .args .k - c .before .before .args .f .day) (c .before .before .args .repo)
-days c = rw (toZ-ofZ (c .before .before .fits .repo), c .before .less .ensures) at (c .grow .ensures)
+days-are c = rw (toZ-ofZ (c .before .before .fits .repo), c .before .less .ensures) at (c .grow .ensures)
 
 mul-half-up : tie.Need-mul-half-up
 mul-half-up c =
     let s = c .before .before .before in
     let year : c .before .grow .result ≤ 2 * yearInDayBp =
-    rw (days (c .before)) (year-high (s .args .k) (s .args .repo) (s .args .f .day) (s .pre .0)) in
+    rw (days-are (c .before)) (year-high (s .args .k) (s .args .repo) (s .args .f .day) (s .pre .0)) in
     omega (arith, mul-le-mul (s .pre .1) year)
 
 half-up-requires : tie.Need-half-up-requires
@@ -39,7 +39,7 @@ half-up-requires c κs = search needs
 
 returns : tie.Need-returns
 unfolding carryTerm
-returns c = rw (c .half-up .ensures, days (c .before .before))
+returns c = rw (c .half-up .ensures, days-are (c .before .before))
 
 pub carry-term-spec : {M : Type 1} → statement M
 carry-term-spec = tie.close (tie.spec less-requires grow-requires mul-half-up half-up-requires returns)

@@ -16,15 +16,15 @@ returns : tie.Need-returns
 unfolding validFlows
 returns c = rw (sym (c .before .whole-flows .ensures) ∙ not-true _ (c .if1 .taken))
 
-full : (c : tie.Else1) → wholeFlows (c .before .before .args .numbers .now) ≡ true
-full c = sym (c .before .whole-flows .ensures) ∙ not-false _ (c .if1 .left)
+flows-are-whole : (c : tie.Else1) → wholeFlows (c .before .before .args .numbers .now) ≡ true
+flows-are-whole c = sym (c .before .whole-flows .ensures) ∙ not-false _ (c .if1 .left)
 
 every-flow-valid-requires : tie.Need-every-flow-valid-requires
-every-flow-valid-requires c κs = whole-in-twos _ (full c)
+every-flow-valid-requires c κs = whole-in-twos _ (flows-are-whole c)
 
 returns-2 : tie.Need-returns-2
 unfolding validFlows
-returns-2 c = rw (full (c .before)) (c .every-flow-valid .ensures)
+returns-2 c = rw (flows-are-whole (c .before)) (c .every-flow-valid .ensures)
 
 pub flows-valid-spec : {M : Type 1} → statement M
 flows-valid-spec = tie.close (tie.spec whole-flows-requires returns every-flow-valid-requires returns-2)

@@ -12,8 +12,8 @@ use Rattle.bond_limits.proofs.Sizes.{farthest-is-shifted}
 use Rattle.bond_limits.proofs.band_limit.Statement.{statement}
 use Rattle.bond_limits.proofs.band_limit.Tie as tie
 
-statics : (s : tie.Start) → LimitStatics (s .args .st)
-statics s = valid-limit-statics (s .args .st) (s .pre .1 .0)
+statics-in-range : (s : tie.Start) → LimitStatics (s .args .st)
+statics-in-range s = valid-limit-statics (s .args .st) (s .pre .1 .0)
 
 farthest-rate-requires : tie.Need-farthest-rate-requires
 farthest-rate-requires c κs = search needs
@@ -25,17 +25,17 @@ shifted-limit-requires c κs =
       s .pre .0,
       (
         record { price = r .price; days = r .days },
-        rw (c .farthest-rate .ensures) (farthest-high (s .args .st) (s .args .side) (statics s)),
+        rw (c .farthest-rate .ensures) (farthest-high (s .args .st) (s .args .side) (statics-in-range s)),
       ),
     )
 
 -- the farthest limit
-far : (c : tie.After-shifted-limit)
+farthest-is : (c : tie.After-shifted-limit)
     → c .shifted-limit .result
     ≡ bondLimitOf (inward (c .before .before .args .side)) (c .before .before .args .b)
     (growing (c .before .before .args .k) (c .before .before .args .b .repo)
     (farthest (c .before .before .args .st) (c .before .before .args .side) (c .before .before .args .p .units)))
-far c =
+farthest-is c =
     let a = c .before .before .args in
     rw (farthest-is-shifted (a .st) (a .side) (a .p .units), ← c .before .farthest-rate .ensures)
     (c .shifted-limit .ensures)
@@ -51,15 +51,15 @@ returns c =
     let m = c .before in
     let s = m .before .before .before .before in
     let a = s .args in
-    rw (c .narrower .ensures, far (m .before .before), m .monitored-limit .ensures, toZ-ofZ (s .fits .repo))
+    rw (c .narrower .ensures, farthest-is (m .before .before), m .monitored-limit .ensures, toZ-ofZ (s .fits .repo))
     (sym
     (band-monitored (bond (a .b)) (a .st) (a .side) (a .p .units) (a .s1 .bp) 0 (a .k) (a .repo) (s .pre .0 .face)
-    (statics s .divisor-low) (m .before .if1 .taken)))
+    (statics-in-range s .divisor-low) (m .before .if1 .taken)))
 
 returns-2 : tie.Need-returns-2
 returns-2 c =
     let a = c .before .before .before .args in
-    far (c .before)
+    farthest-is (c .before)
     ∙ sym (band-unmonitored (bond (a .b)) (a .st) (a .side) (a .p .units) (a .s1 .bp) 0 (a .k) (a .repo) (c .if1 .left))
 
 pub band-limit-spec : {M : Type 1} → statement M

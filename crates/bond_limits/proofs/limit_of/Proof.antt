@@ -12,22 +12,22 @@ use Rattle.bond_limits.proofs.limit_of.Tie as tie
 grown-price-requires : tie.Need-grown-price-requires
 grown-price-requires c κs = search needs
 
-grown : (c : tie.After-grown-price)
+grown-is : (c : tie.After-grown-price)
     → c .grown-price .result
     ≡ grownPrice
     (growing (c .before .args .k) (c .before .args .repo)
     (record { num = c .before .args .x; den = c .before .args .whole }))
-grown c = rw (toZ-ofZ (c .before .fits .repo)) at (c .grown-price .ensures)
+grown-is c = rw (toZ-ofZ (c .before .fits .repo)) at (c .grown-price .ensures)
 
 in-per-cent-requires : tie.Need-in-per-cent-requires
 in-per-cent-requires c κs =
     let s = c .before in
-    (s .pre .0, rw (grown c) (grown-high (s .args .x) (s .args .whole) (s .args .k) (s .args .repo) (s .pre .1)))
+    (s .pre .0, rw (grown-is c) (grown-high (s .args .x) (s .args .whole) (s .args .k) (s .args .repo) (s .pre .1)))
 
 returns : tie.Need-returns
 returns c =
     let s = c .before .before in
-    rw (c .in-per-cent .ensures, grown (c .before)) (sym (bond-limit-is (s .args .way) (s .args .b) _
+    rw (c .in-per-cent .ensures, grown-is (c .before)) (sym (bond-limit-is (s .args .way) (s .args .b) _
     (s .pre .0 .face)))
 
 pub limit-of-spec : {M : Type 1} → statement M

@@ -17,16 +17,16 @@ use Rattle.bond_limits.proofs.limits_of.Statement.{statement}
 use Rattle.bond_limits.proofs.limits_of.Tie as tie
 
 -- a repo rate is its own bits read back
-bits : (s : tie.Start) (side : Side) → toZ w64 (ofZ w64 (repoOf side (s .args .x))) ≡ repoOf side (s .args .x)
-bits s side = rate-kept-in-bits (repoOf side (s .args .x))
+bits-read-back : (s : tie.Start) (side : Side) → toZ w64 (ofZ w64 (repoOf side (s .args .x))) ≡ repoOf side (s .args .x)
+bits-read-back s side = rate-kept-in-bits (repoOf side (s .args .x))
     (term-repo-within-most side (s .args .x) (s .pre .1 .1 .term))
 
 -- what each side asks
-inputs : (s : tie.Start) (side : Side)
+side-in-range : (s : tie.Start) (side : Side)
     → SideRange (s .args .p) (s .args .s1) (s .args .x .k) (toZ w64 (ofZ w64 (repoOf side (s .args .x))))
-inputs s side =
+side-in-range s side =
     let r = s .pre .1 .1 in
-    rw (bits s side)
+    rw (bits-read-back s side)
     (record {
       price = r .price;
       rate-high = r .rate-high;
@@ -34,20 +34,21 @@ inputs s side =
       repo-high = term-repo-within-most side (s .args .x) (r .term);
     })
 
-prices : (s : tie.Start) → PriceRange (s .args .p) (s .args .x .k)
-prices s = record { price = s .pre .1 .1 .price; days = term-days-within-most (s .args .x) (s .pre .1 .1 .term) }
+price-in-range : (s : tie.Start) → PriceRange (s .args .p) (s .args .x .k)
+price-in-range s =
+    record { price = s .pre .1 .1 .price; days = term-days-within-most (s .args .x) (s .pre .1 .1 .term) }
 
 band-limit-requires : tie.Need-band-limit-requires
-band-limit-requires c κs = let s = c .before in (s .pre .0, (s .pre .1 .0, inputs s Lower))
+band-limit-requires c κs = let s = c .before in (s .pre .0, (s .pre .1 .0, side-in-range s Lower))
 
 band-limit-requires-2 : tie.Need-band-limit-requires-2
-band-limit-requires-2 c κs = let s = c .before .before .before in (s .pre .0, (s .pre .1 .0, inputs s Upper))
+band-limit-requires-2 c κs = let s = c .before .before .before in (s .pre .0, (s .pre .1 .0, side-in-range s Upper))
 
 off-limit-requires : tie.Need-off-limit-requires
-off-limit-requires c κs = let s = c .before .before .before .before in (s .pre .0, prices s)
+off-limit-requires c κs = let s = c .before .before .before .before in (s .pre .0, price-in-range s)
 
 off-limit-requires-2 : tie.Need-off-limit-requires-2
-off-limit-requires-2 c κs = let s = c .before .before .before .before .before in (s .pre .0, prices s)
+off-limit-requires-2 c κs = let s = c .before .before .before .before .before in (s .pre .0, price-in-range s)
 
 returns : tie.Need-returns
 unfolding limitsFrom
@@ -61,8 +62,8 @@ returns c =
       c .before .off-limit .ensures,
       c .before .before .band-limit2 .ensures,
       c .before .before .before .before .band-limit .ensures,
-      bits s Lower,
-      bits s Upper,
+      bits-read-back s Lower,
+      bits-read-back s Upper,
       off-is (a .b) (a .st) Lower (a .p .units) (a .s1 .bp) 0 (a .x .k) (a .x .low) face divisor,
       off-is (a .b) (a .st) Upper (a .p .units) (a .s1 .bp) 0 (a .x .k) (a .x .high) face divisor,
     )

@@ -10,8 +10,8 @@ use Rattle.bond_limits.proofs.Sizes.{spread-product-high, spread-grows}
 use Rattle.bond_limits.proofs.monitored_limit.Statement.{statement}
 use Rattle.bond_limits.proofs.monitored_limit.Tie as tie
 
-statics : (s : tie.Start) → LimitStatics (s .args .st)
-statics s = valid-limit-statics (s .args .st) (s .pre .1 .0)
+statics-in-range : (s : tie.Start) → LimitStatics (s .args .st)
+statics-in-range s = valid-limit-statics (s .args .st) (s .pre .1 .0)
 
 inward-requires : tie.Need-inward-requires
 inward-requires c κs = search needs
@@ -27,13 +27,13 @@ mul-limit-of c =
     rw (c .before .spread .ensures)
     (omega (
       arith,
-      statics s,
-      spread-product-high (a .st) (a .side) (a .p .units) (a .s1 .bp) (statics s .divisor-low) (r .price)
+      statics-in-range s,
+      spread-product-high (a .st) (a .side) (a .p .units) (a .s1 .bp) (statics-in-range s .divisor-low) (r .price)
           (r .rate-high),
     ))
 
 mul-limit-of-2 : tie.Need-mul-limit-of-2
-mul-limit-of-2 c = omega (arith, statics (c .before .before .before .before))
+mul-limit-of-2 c = omega (arith, statics-in-range (c .before .before .before .before))
 
 limit-of-requires : tie.Need-limit-of-requires
 limit-of-requires c κs =
@@ -41,7 +41,7 @@ limit-of-requires c κs =
     let a = s .args in (
       s .pre .0,
       rw (c .before .before .spread .ensures, toZ-ofZ (s .fits .repo))
-          (spread-grows (a .st) (a .side) (a .p) (a .s1) (a .k) (a .repo) (statics s) (s .pre .1 .1)),
+          (spread-grows (a .st) (a .side) (a .p) (a .s1) (a .k) (a .repo) (statics-in-range s) (s .pre .1 .1)),
     )
 
 returns : tie.Need-returns

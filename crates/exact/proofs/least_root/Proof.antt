@@ -17,10 +17,10 @@ abbrev μ-loop : tie.MeasureT-loop
 μ-loop factor n x₀ factor-x₀ sq₀ k₀ x factor-x sq k = k
 
 -- what is known at the head of a turn
-at : (c : tie.In-loop Inv-loop μ-loop)
+turn-at : (c : tie.In-loop Inv-loop μ-loop)
     → RootTurn (c .before .before .before .args .factor) (c .before .loop .x) (c .before .loop .factor-x)
     (c .before .loop .k)
-at c = turn-fits _ _ _ _ _ _ (c .loop-test .taken) (c .before .before .before .pre .1) (c .before .loop .inv)
+turn-at c = turn-fits _ _ _ _ _ _ (c .loop-test .taken) (c .before .before .before .pre .1) (c .before .loop .inv)
 
 returns : tie.Need-returns Inv-loop μ-loop
 unfolding leastRoot least first
@@ -44,31 +44,31 @@ add-shl : tie.Need-add-shl Inv-loop μ-loop
 add-shl c = omega arith
 
 shl-requires : tie.Need-shl-requires Inv-loop μ-loop
-shl-requires c κs = omega (arith, at c)
+shl-requires c κs = omega (arith, turn-at c)
 
 add-next : tie.Need-add-next Inv-loop μ-loop
-add-next c = omega (arith, at (c .before))
+add-next c = omega (arith, turn-at (c .before))
 
 add-shl-2 : tie.Need-add-shl-2 Inv-loop μ-loop
 add-shl-2 c = omega arith
 
 shl-requires-2 : tie.Need-shl-requires-2 Inv-loop μ-loop
-shl-requires-2 c κs = omega (arith, at (c .before))
+shl-requires-2 c κs = omega (arith, turn-at (c .before))
 
 add-next-2 : tie.Need-add-next-2 Inv-loop μ-loop
-add-next-2 c = omega (arith, at (c .before .before))
+add-next-2 c = omega (arith, turn-at (c .before .before))
 
 shl-requires-3 : tie.Need-shl-requires-3 Inv-loop μ-loop
-shl-requires-3 c κs = omega (arith, at (c .before .before .before))
+shl-requires-3 c κs = omega (arith, turn-at (c .before .before .before))
 
 add-factor-x : tie.Need-add-factor-x Inv-loop μ-loop
-add-factor-x c = omega (arith, at (c .before .before .before .before))
+add-factor-x c = omega (arith, turn-at (c .before .before .before .before))
 
 shl-requires-4 : tie.Need-shl-requires-4 Inv-loop μ-loop
-shl-requires-4 c κs = omega (arith, at (c .before .before .before .before))
+shl-requires-4 c κs = omega (arith, turn-at (c .before .before .before .before))
 
 add-x : tie.Need-add-x Inv-loop μ-loop
-add-x c = omega (arith, at (c .before .before .before .before .before))
+add-x c = omega (arith, turn-at (c .before .before .before .before .before))
 
 loop-less : tie.Need-loop-less Inv-loop μ-loop
 loop-less c = omega arith

@@ -21,17 +21,17 @@ shared-slice-copy-out-result c = search needs
 abbrev given : tie.After-result → ℤ
 given c = getD (c .before .args .numbers .now) (c .before .args .i) (pos 0)
 
-fits : (c : tie.After-result) → SFits w64 (given c)
-fits c = record { sfits = c .result .given }
+given-fits : (c : tie.After-result) → SFits w64 (given c)
+given-fits c = record { sfits = c .result .given }
 
 as-it-is : (c : tie.After-result) → Arm (given c) (given c)
-as-it-is c = not-below-zero-takes-its-arm (given c) (fits c) (c .before .pre .1)
+as-it-is c = not-below-zero-takes-its-arm (given c) (given-fits c) (c .before .pre .1)
 
 cast-result : tie.Need-cast-result
-cast-result c = rw (toZ-ofZ (fits c)) (as-it-is c .cast)
+cast-result c = rw (toZ-ofZ (given-fits c)) (as-it-is c .cast)
 
 returns : tie.Need-returns
-returns c = rw (toZ-ofZ (fits c)) (as-it-is c .is ∙ sym (unsigned-above (given c) (c .before .pre .1)))
+returns c = rw (toZ-ofZ (given-fits c)) (as-it-is c .is ∙ sym (unsigned-above (given c) (c .before .pre .1)))
 
 pub natural-at-spec : {M : Type 1} → statement M
 natural-at-spec = tie.close (tie.spec mul-result shared-slice-copy-out-result cast-result returns)

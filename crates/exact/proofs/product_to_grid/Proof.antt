@@ -17,8 +17,8 @@ record Bounds (g p a b d : ℕ) : Type 0 where
   dg : d * g ≤ scaleMost * coarsestGrid
   dg-low : scaleLeast * 1 ≤ d * g
 
-bounds : (c : tie.Start) → Bounds (c .args .g) (c .args .p) (c .args .a) (c .args .b) (c .args .d)
-bounds c =
+product-bounded : (c : tie.Start) → Bounds (c .args .g) (c .args .p) (c .args .a) (c .args .b) (c .args .d)
+product-bounded c =
     let r = c .pre in
     record {
       pa = mul-le-mul (r .price) (r .first);
@@ -28,13 +28,13 @@ bounds c =
     }
 
 mul-rounded-wide : tie.Need-mul-rounded-wide
-mul-rounded-wide c = omega (arith, bounds c)
+mul-rounded-wide c = omega (arith, product-bounded c)
 
 mul-rounded-wide-2 : tie.Need-mul-rounded-wide-2
-mul-rounded-wide-2 c = omega (arith, bounds c)
+mul-rounded-wide-2 c = omega (arith, product-bounded c)
 
 rounded-wide-requires : tie.Need-rounded-wide-requires
-rounded-wide-requires c κs = omega (arith, bounds c)
+rounded-wide-requires c κs = omega (arith, product-bounded c)
 
 mul-result : tie.Need-mul-result
 mul-result c =
@@ -44,7 +44,8 @@ mul-result c =
     let d = s .args .d in
     let low = rounded-below-next-step (s .args .way) g n d (s .pre .grid) (omega (arith, s .pre .low)) in
     let small : rounded (s .args .way) n (d * g) * g < 2 ^ 63 =
-    lt-of-mul-lt-mul-right d {m = rounded (s .args .way) n (d * g) * g} {n = 2 ^ 63} (omega (arith, bounds s)) in
+    lt-of-mul-lt-mul-right d {m = rounded (s .args .way) n (d * g) * g} {n = 2 ^ 63}
+    (omega (arith, product-bounded s)) in
     rw (c .rounded-wide .ensures) (omega arith)
 
 returns : tie.Need-returns

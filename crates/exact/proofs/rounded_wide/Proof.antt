@@ -17,12 +17,12 @@ goes-up-requires c κs =
     rw (c .divide-product .ensures .1) (mod-lt (a .x * a .n) (c .before .pre .positive))
 
 -- what the rest says is what the remainder of the whole product says
-chosen : (c : tie.After-goes-up)
+goes-up-is : (c : tie.After-goes-up)
     → c .goes-up .result
     ≡ goesUp (c .before .before .args .way) (c .before .before .args .x * c .before .before .args .n
     % c .before .before .args .e)
     (c .before .before .args .e)
-chosen c =
+goes-up-is c =
     let a = c .before .before .args in
     c .goes-up .ensures ∙ ap (λ (z : ℕ). goesUp (a .way) z (a .e)) (c .before .divide-product .ensures .1)
 
@@ -41,7 +41,7 @@ returns c =
     let s = g .before .before in
     ap (λ (q : ℕ). q + 1) (g .before .divide-product .ensures .0)
     ∙ rounded-next (s .args .way) (s .args .x * s .args .n) (s .args .e) (s .pre .positive)
-    (sym (chosen g) ∙ c .before .if1 .taken)
+    (sym (goes-up-is g) ∙ c .before .if1 .taken)
 
 returns-2 : tie.Need-returns-2
 returns-2 c =
@@ -49,7 +49,7 @@ returns-2 c =
     let s = g .before .before in
     g .before .divide-product .ensures .0
     ∙ rounded-stays (s .args .way) (s .args .x * s .args .n) (s .args .e) (s .pre .positive)
-    (sym (chosen g) ∙ c .if1 .left)
+    (sym (goes-up-is g) ∙ c .if1 .left)
 
 pub rounded-wide-spec : {M : Type 1} → statement M
 rounded-wide-spec = tie.close (tie.spec divide-product-requires goes-up-requires add-result returns returns-2)

@@ -8,33 +8,33 @@ use Rattle.interest.proofs.all_figures.Statement.{statement}
 use Rattle.interest.proofs.all_figures.Tie as tie
 
 -- what each call asks
-asked : (c : tie.Start) (n : ℕ) → n < 8
+place-in-range : (c : tie.Start) (n : ℕ) → n < 8
     → InterestRange (c .args .i) × ((validKeys (c .args .numbers .now) ≡ true) × (n < 8))
-asked c n h = (c .pre .0, (c .pre .1, h))
+place-in-range c n h = (c .pre .0, (c .pre .1, h))
 
 figures-at-requires : tie.Need-figures-at-requires
-figures-at-requires c κs = asked c 0 (omega arith)
+figures-at-requires c κs = place-in-range c 0 (omega arith)
 
 figures-at-requires-2 : tie.Need-figures-at-requires-2
-figures-at-requires-2 c κs = asked (c .before) 1 (omega arith)
+figures-at-requires-2 c κs = place-in-range (c .before) 1 (omega arith)
 
 figures-at-requires-3 : tie.Need-figures-at-requires-3
-figures-at-requires-3 c κs = asked (c .before .before) 2 (omega arith)
+figures-at-requires-3 c κs = place-in-range (c .before .before) 2 (omega arith)
 
 figures-at-requires-4 : tie.Need-figures-at-requires-4
-figures-at-requires-4 c κs = asked (c .before .before .before) 3 (omega arith)
+figures-at-requires-4 c κs = place-in-range (c .before .before .before) 3 (omega arith)
 
 figures-at-requires-5 : tie.Need-figures-at-requires-5
-figures-at-requires-5 c κs = asked (c .before .before .before .before) 4 (omega arith)
+figures-at-requires-5 c κs = place-in-range (c .before .before .before .before) 4 (omega arith)
 
 figures-at-requires-6 : tie.Need-figures-at-requires-6
-figures-at-requires-6 c κs = asked (c .before .before .before .before .before) 5 (omega arith)
+figures-at-requires-6 c κs = place-in-range (c .before .before .before .before .before) 5 (omega arith)
 
 figures-at-requires-7 : tie.Need-figures-at-requires-7
-figures-at-requires-7 c κs = asked (c .before .before .before .before .before .before) 6 (omega arith)
+figures-at-requires-7 c κs = place-in-range (c .before .before .before .before .before .before) 6 (omega arith)
 
 figures-at-requires-8 : tie.Need-figures-at-requires-8
-figures-at-requires-8 c κs = asked (c .before .before .before .before .before .before .before) 7 (omega arith)
+figures-at-requires-8 c κs = place-in-range (c .before .before .before .before .before .before .before) 7 (omega arith)
 
 returns : tie.Need-returns
 returns c =

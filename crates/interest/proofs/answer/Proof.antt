@@ -11,20 +11,20 @@ use Rattle.interest.proofs.answer.Statement.{statement}
 use Rattle.interest.proofs.answer.Tie as tie
 
 -- the test of 6, and that it passed; the test of 14 passed
-rule : (c : tie.After-keys-valid)
+tested-is : (c : tie.After-keys-valid)
     → (c .before .interest-valid .result && c .keys-valid .result)
     ≡ (validInterest (c .before .before .args .i) && validKeys (c .before .before .args .numbers .now))
-rule c = rw (c .before .interest-valid .ensures, c .keys-valid .ensures)
+tested-is c = rw (c .before .interest-valid .ensures, c .keys-valid .ensures)
 
-ruled : (c : tie.Else1) → (validInterest (c .before .before .before .args .i)
+in-range-known : (c : tie.Else1) → (validInterest (c .before .before .before .args .i)
     && validKeys (c .before .before .before .args .numbers .now)) ≡ true
-ruled c = sym (rule (c .before)) ∙ not-false _ (c .if1 .left)
+in-range-known c = sym (tested-is (c .before)) ∙ not-false _ (c .if1 .left)
 
-ordered : (c : tie.Else2)
+in-order-known : (c : tie.Else2)
     → let start = c .before .before .before .before .before in
     (strictlyAscending (maturitiesOf (start .args .numbers .now)) && ltb (start .args .i .ym) (start .args .i .yn))
     ≡ true
-ordered c = sym (c .before .in-order .ensures) ∙ not-false _ (c .if2 .left)
+in-order-known c = sym (c .before .in-order .ensures) ∙ not-false _ (c .if2 .left)
 
 interest-valid-requires : tie.Need-interest-valid-requires
 interest-valid-requires c κs = search needs
@@ -37,28 +37,30 @@ refused-requires c κs = search needs
 
 returns : tie.Need-returns
 returns c = c .refused .ensures
-    ∙ answers-out-of-range _ _ (not-true _ (rw (rule (c .before .before)) at (c .before .if1 .taken)))
+    ∙ answers-out-of-range _ _ (not-true _ (rw (tested-is (c .before .before)) at (c .before .if1 .taken)))
 
 in-order-requires : tie.Need-in-order-requires
-in-order-requires c κs = let keys = answered-keys-valid _ _ (ruled c) in whole-in-eights _ (valid-whole _ keys)
+in-order-requires c κs = let keys = answered-keys-valid _ _ (in-range-known c) in whole-in-eights _ (valid-whole _ keys)
 
 refused-requires-2 : tie.Need-refused-requires-2
 refused-requires-2 c κs = search needs
 
 returns-2 : tie.Need-returns-2
 returns-2 c = c .refused2 .ensures
-    ∙ answers-not-ascending _ _ (ruled (c .before .before .before))
+    ∙ answers-not-ascending _ _ (in-range-known (c .before .before .before))
     (not-true _ (rw (c .before .before .in-order .ensures) at (c .before .if2 .taken)))
 
 accepted-requires : tie.Need-accepted-requires
 accepted-requires c κs =
-    let valid = ruled (c .before .before) in (
-      answered-pair-in-range _ _ valid (ordered c),
+    let valid = in-range-known (c .before .before) in (
+      answered-pair-in-range _ _ valid (in-order-known c),
       answered-keys-valid _ _ valid,
     )
 
 returns-3 : tie.Need-returns-3
-returns-3 c = c .accepted .ensures ∙ answers-figures _ _ (ruled (c .before .before .before)) (ordered (c .before))
+returns-3 c =
+    c .accepted .ensures
+    ∙ answers-figures _ _ (in-range-known (c .before .before .before)) (in-order-known (c .before))
 
 pub answer-spec : {M : Type 1} → statement M
 answer-spec =

@@ -12,23 +12,23 @@ use Rattle.interest.proofs.Terms.{key-in-range}
 use Rattle.interest.proofs.figures_at.Statement.{statement}
 use Rattle.interest.proofs.figures_at.Tie as tie
 
-eights : (c : tie.Start) → length (c .args .numbers .now) % keyNumbers ≡ 0
-eights c = whole-in-eights _ (valid-whole _ (c .pre .1 .0))
+in-eights : (c : tie.Start) → length (c .args .numbers .now) % keyNumbers ≡ 0
+in-eights c = whole-in-eights _ (valid-whole _ (c .pre .1 .0))
 
-room : (c : tie.Then1) → keyNumbers * c .before .args .n + keyNumbers ≤ length (c .before .args .numbers .now)
-room c = omega (arith, eights (c .before), c .if1 .taken)
+key-fits : (c : tie.Then1) → keyNumbers * c .before .args .n + keyNumbers ≤ length (c .before .args .numbers .now)
+key-fits c = omega (arith, in-eights (c .before), c .if1 .taken)
 
 mul-at : tie.Need-mul-at
 mul-at c = search needs
 
 maturity-at-requires : tie.Need-maturity-at-requires
-maturity-at-requires c κs = room c
+maturity-at-requires c κs = key-fits c
 
 figures-of-requires : tie.Need-figures-of-requires
 figures-of-requires c κs =
     let s = c .before .before in (
       s .pre .0,
-      rw (c .maturity-at .ensures) (key-in-range _ _ (s .pre .1 .0) (omega arith) (room (c .before))),
+      rw (c .maturity-at .ensures) (key-in-range _ _ (s .pre .1 .0) (omega arith) (key-fits (c .before))),
     )
 
 no-figures-requires : tie.Need-no-figures-requires
@@ -39,13 +39,13 @@ returns c =
     let s = c .before .before .before in
     c .figures-of .ensures
     ∙ ap (maturityFigures (s .args .i)) (c .before .maturity-at .ensures)
-    ∙ sym (figure-here (maturityFigures (s .args .i)) noFigures _ (s .args .n) (room (c .before .before)))
+    ∙ sym (figure-here (maturityFigures (s .args .i)) noFigures _ (s .args .n) (key-fits (c .before .before)))
 
 returns-2 : tie.Need-returns-2
 returns-2 c =
     let s = c .before .before in
     c .no-figures .ensures
-    ∙ sym (figure-past (maturityFigures (s .args .i)) noFigures _ (s .args .n) (eights s)
+    ∙ sym (figure-past (maturityFigures (s .args .i)) noFigures _ (s .args .n) (in-eights s)
     (omega (arith, c .before .if1 .left)))
 
 pub figures-at-spec : {M : Type 1} → statement M

@@ -9,9 +9,9 @@ use Rattle.interest.proofs.point_at.Statement.{statement}
 use Rattle.interest.proofs.point_at.Tie as tie
 
 -- where the neighbours are two, the term is between them
-beside : {before after : ℕ} {A : Type 0} → (before ≡ after) ⊎ A → (before ≡ after → ⊥) → A
-beside (inl e) n = absurd (n e)
-beside (inr h) n = h
+not-first-so-second : {before after : ℕ} {A : Type 0} → (before ≡ after) ⊎ A → (before ≡ after → ⊥) → A
+not-first-so-second (inl e) n = absurd (n e)
+not-first-so-second (inr h) n = h
 
 neighbours-requires : tie.Need-neighbours-requires
 neighbours-requires c κs = let w = valid-whole _ (c .pre .1) in (whole-in-eights _ w, whole-has-one _ w)
@@ -39,7 +39,7 @@ between-requires c κs =
     let p = c .before .before .before in
     let s = p .before .before in
     let reads = p .before .neighbours .ensures in
-    let apart = beside (reads .between) (c .before .if1 .left) in
+    let apart = not-first-so-second (reads .between) (c .before .if1 .left) in
     rw (p .point-of .ensures, c .point-of2 .ensures) (
       point-in-range _ _ (s .pre .0) (key-before-in-range _ _ (s .args .y) _ _ (s .pre .0) (s .pre .1) reads),
       (point-in-range _ _ (s .pre .0) (key-after-in-range _ _ (s .args .y) _ _ (s .pre .0) (s .pre .1) reads), apart),
@@ -51,7 +51,7 @@ returns-2 c =
     let s = p .before .before in
     let reads = p .before .neighbours .ensures in
     let left = c .before .before .if1 .left in
-    let apart = beside (reads .between) left in
+    let apart = not-first-so-second (reads .between) left in
     rw (c .between .ensures, p .point-of .ensures, c .before .point-of2 .ensures)
     (point-between _ _ (s .args .y) _ _ (s .pre .0) (s .pre .1) reads left (apart .0) (apart .1))
 

@@ -6,8 +6,8 @@ use Rattle.interest.proofs.Terms.{key-in-range}
 use Rattle.interest.proofs.point_of.Statement.{statement}
 use Rattle.interest.proofs.point_of.Tie as tie
 
-known : (c : tie.After-maturity-at) → KeyRange (c .maturity-at .result)
-known c =
+maturity-in-range : (c : tie.After-maturity-at) → KeyRange (c .maturity-at .result)
+maturity-in-range c =
     let s = c .before in
     rw (c .maturity-at .ensures) (key-in-range _ _ (s .pre .1 .0) (s .pre .1 .1 .0) (s .pre .1 .1 .1))
 
@@ -15,10 +15,12 @@ maturity-at-requires : tie.Need-maturity-at-requires
 maturity-at-requires c κs = search needs
 
 figures-of-requires : tie.Need-figures-of-requires
-figures-of-requires c κs = (c .before .pre .0, known c)
+figures-of-requires c κs = (c .before .pre .0, maturity-in-range c)
 
 lifted-requires : tie.Need-lifted-requires
-lifted-requires c κs = rw (rate-kept-in-bits _ (known (c .before .before) .r)) (known (c .before .before) .r)
+lifted-requires c κs =
+    let k = maturity-in-range (c .before .before) in
+    rw (rate-kept-in-bits _ (k .r)) (k .r)
 
 returns : tie.Need-returns
 unfolding maturityFigures
@@ -27,7 +29,7 @@ returns c =
     rw (
       c .lifted .ensures,
       c .before .before .figures-of .ensures,
-      rate-kept-in-bits (k .maturity-at .result .r) (known k .r),
+      rate-kept-in-bits (k .maturity-at .result .r) (maturity-in-range k .r),
       k .maturity-at .ensures,
     )
 

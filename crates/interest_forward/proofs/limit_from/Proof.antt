@@ -15,8 +15,8 @@ use Rattle.interest_forward.proofs.Limits.{limit-counted, half-within}
 use Rattle.interest_forward.proofs.limit_from.Statement.{statement}
 use Rattle.interest_forward.proofs.limit_from.Tie as tie
 
-some : (c : tie.Start) → 0 < (c .args .i .yn - c .args .i .ym) * c .args .i .xir
-some c =
+divisor-positive : (c : tie.Start) → 0 < (c .args .i .yn - c .args .i .ym) * c .args .i .xir
+divisor-positive c =
     let days : 0 < c .args .i .yn - c .args .i .ym = omega (arith, c .pre .0 .order) in
     mul-pos days (omega (arith, c .pre .0 .given .divisor-low))
 
@@ -30,12 +30,12 @@ mul-half-up c =
     omega (arith, mul-le-mul days (s .pre .0 .given .divisor-high))
 
 half-up-requires : tie.Need-half-up-requires
-half-up-requires c κs = some (c .before .before)
+half-up-requires c κs = divisor-positive (c .before .before)
 
 lowered-requires : tie.Need-lowered-requires
 lowered-requires c κs =
     let s = c .before .before .before in
-    omega (arith, c .half-up .ensures, half-within (s .args .n) _ (some s), s .pre .1)
+    omega (arith, c .half-up .ensures, half-within (s .args .n) _ (divisor-positive s), s .pre .1)
 
 returns : tie.Need-returns
 returns c =

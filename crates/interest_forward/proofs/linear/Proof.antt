@@ -9,25 +9,25 @@ use Rattle.interest_forward.proofs.Lines.{line-parts-within}
 use Rattle.interest_forward.proofs.linear.Statement.{statement}
 use Rattle.interest_forward.proofs.linear.Tie as tie
 
-parts : (c : tie.Start)
+parts-fit : (c : tie.Start)
     → (c .args .f * (c .args .u - c .args .y) ≤ figureMost * maturityMost)
     × (c .args .g * (c .args .y - c .args .t) ≤ figureMost * maturityMost)
-parts c = line-parts-within (c .args .t) (c .args .f) (c .args .u) (c .args .g) (c .args .y) (c .pre)
+parts-fit c = line-parts-within (c .args .t) (c .args .f) (c .args .u) (c .args .g) (c .args .y) (c .pre)
 
 sub-half-up : tie.Need-sub-half-up
 sub-half-up c = search needs
 
 mul-half-up : tie.Need-mul-half-up
-mul-half-up c = omega (arith, parts c)
+mul-half-up c = omega (arith, parts-fit c)
 
 sub-half-up-2 : tie.Need-sub-half-up-2
 sub-half-up-2 c = search needs
 
 mul-half-up-2 : tie.Need-mul-half-up-2
-mul-half-up-2 c = omega (arith, parts c)
+mul-half-up-2 c = omega (arith, parts-fit c)
 
 add-half-up : tie.Need-add-half-up
-add-half-up c = omega (arith, parts c)
+add-half-up c = omega (arith, parts-fit c)
 
 sub-half-up-3 : tie.Need-sub-half-up-3
 sub-half-up-3 c = search needs

@@ -10,34 +10,34 @@ use mir.Facts.{toZ-ofZ}
 use borrow.Author.Needs.{needs}
 use Rattle.paper_interest.specs.Interest.{limitFrom}
 use Rattle.interest_forward.specs.Pair.{base, marginOf}
-use Rattle.interest_forward.proofs.Limits.{Sums, sums, lower-counted}
+use Rattle.interest_forward.proofs.Limits.{Sums, sums-in-range, lower-counted}
 use Rattle.interest_forward.proofs.lower_worked.Statement.{statement}
 use Rattle.interest_forward.proofs.lower_worked.Tie as tie
 
-known : (c : tie.After-risen) → Sums (c .before .args .i) (c .risen .result)
-known c = sums _ _ _ _ (c .before .pre .0) (c .risen .ensures)
+sums-known : (c : tie.After-risen) → Sums (c .before .args .i) (c .risen .result)
+sums-known c = sums-in-range _ _ _ _ (c .before .pre .0) (c .risen .ensures)
 
 -- the margin of the downward estimate is one of those
-taken : (c : tie.After-margin)
+margin-fits : (c : tie.After-margin)
     → marginOf (c .before .before .before .args .i) (c .before .before .before .args .n .down)
     ≤ c .before .before .before .args .i .xir * c .before .before .risen .result
-taken c = omega (arith, c .margin .ensures .is, c .margin .ensures .high, known (c .before .before) .less)
+margin-fits c = omega (arith, c .margin .ensures .is, c .margin .ensures .high, sums-known (c .before .before) .less)
 
 risen-requires : tie.Need-risen-requires
 risen-requires c κs = search needs
 
 mul-limit-from : tie.Need-mul-limit-from
-mul-limit-from c = omega (arith, known (c .before))
+mul-limit-from c = omega (arith, sums-known (c .before))
 
 margin-requires : tie.Need-margin-requires
 margin-requires c κs = search needs
 
 sub-limit-from : tie.Need-sub-limit-from
-sub-limit-from c = omega (arith, known (c .before .before), c .margin .ensures .high)
+sub-limit-from c = omega (arith, sums-known (c .before .before), c .margin .ensures .high)
 
 limit-from-requires : tie.Need-limit-from-requires
 limit-from-requires c κs =
-    (c .before .before .before .pre .0, omega (arith, known (c .before .before), c .margin .ensures .high))
+    (c .before .before .before .pre .0, omega (arith, sums-known (c .before .before), c .margin .ensures .high))
 
 returns : tie.Need-returns
 returns c =
@@ -49,7 +49,7 @@ returns c =
     ∙ c .limit-from .ensures
     ∙ ap (λ (z : ℕ). limitFrom i (subℕ (i .xir * r .result - z) (base * ((i .yn - i .ym) * i .xir))))
     (c .before .margin .ensures .is)
-    ∙ lower-counted _ _ _ _ (r .ensures) (s .args .n .down) (taken (c .before))
+    ∙ lower-counted _ _ _ _ (r .ensures) (s .args .n .down) (margin-fits (c .before))
 
 pub lower-worked-spec : {M : Type 1} → statement M
 lower-worked-spec =

@@ -15,15 +15,15 @@ use Rattle.paper.proofs.Differences.{difference-is-pos, difference-is-negsuc, w
 use Rattle.interest_forward.proofs.lowered.Statement.{statement}
 use Rattle.interest_forward.proofs.lowered.Tie as tie
 
-less : (n m : ℕ) → pos n -ℤ pos m ≡ subℕ n m
-less n m =
+difference-is : (n m : ℕ) → pos n -ℤ pos m ≡ subℕ n m
+difference-is n m =
     ap (λ (z : ℤ). z -ℤ pos m) (whole-is-difference n)
     ∙ ap (λ (z : ℤ). subℕ n 0 -ℤ z) (whole-is-difference m)
     ∙ difference-minus n 0 m 0
     ∙ differences-equal (n + 0) (0 + m) n m (omega arith)
 
 less-fits : (n m : ℕ) → n < 2 ^ 62 → m < 2 ^ 62 → SFits w64 (pos n -ℤ pos m)
-less-fits n m h k = rw (less n m) (go (le-or-lt m n))
+less-fits n m h k = rw (difference-is n m) (go (le-or-lt m n))
   where
     go : (m ≤ n) ⊎ (n < m) → SFits w64 (subℕ n m)
     go (inl l) = rw (difference-is-pos n m l) (record { sfits = omega arith })
@@ -46,7 +46,7 @@ returns c =
     let n = c .args .n in
     let m = c .args .from in
     rw (toZ-pos w64 n (omega arith), toZ-pos w64 m (omega arith), toZ-ofZ (less-fits n m (c .pre .0) (c .pre .1)))
-    (less n m)
+    (difference-is n m)
 
 pub lowered-spec : {M : Type 1} → statement M
 lowered-spec = tie.close (tie.spec cast-result cast-result-2 sub-result returns)

@@ -11,8 +11,8 @@ use Rattle.interest_forward.proofs.margin.Statement.{statement}
 use Rattle.interest_forward.proofs.margin.Tie as tie
 
 -- the product is at most that of the greatest figure
-high : (c : tie.Start) → marginOf (c .args .i) (c .args .estimate) ≤ marginOf (c .args .i) figureMost
-high c = mul-le-mul-left (oneInHundredths * (c .args .i .yn - c .args .i .ym)) (c .pre .1)
+margin-high : (c : tie.Start) → marginOf (c .args .i) (c .args .estimate) ≤ marginOf (c .args .i) figureMost
+margin-high c = mul-le-mul-left (oneInHundredths * (c .args .i .yn - c .args .i .ym)) (c .pre .1)
 
 sub-result : tie.Need-sub-result
 sub-result c = search needs
@@ -21,10 +21,10 @@ mul-result : tie.Need-mul-result
 mul-result c = search needs
 
 mul-result-2 : tie.Need-mul-result-2
-mul-result-2 c = omega (arith, high (c .before), c .before .pre .0 .given .yn)
+mul-result-2 c = omega (arith, margin-high (c .before), c .before .pre .0 .given .yn)
 
 returns : tie.Need-returns
-returns c = record { is = refl; high = high (c .before) }
+returns c = record { is = refl; high = margin-high (c .before) }
 
 pub margin-spec : {M : Type 1} → statement M
 margin-spec = tie.close (tie.spec sub-result mul-result mul-result-2 returns)

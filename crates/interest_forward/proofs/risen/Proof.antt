@@ -2,15 +2,15 @@
 -- part. Assumes nothing.
 use native.Mathlib.Omega.{arith}
 use borrow.Author.Needs.{needs}
-use Rattle.interest_forward.proofs.Limits.{Rises, rises, risen-is}
+use Rattle.interest_forward.proofs.Limits.{Rises, rises-in-range, risen-is}
 use Rattle.interest_forward.proofs.risen.Statement.{statement}
 use Rattle.interest_forward.proofs.risen.Tie as tie
 
-known : (c : tie.Start) → Rises (c .args .i) (c .args .m) (c .args .n)
-known c = rises _ _ _ (c .pre .0) (c .pre .1 .0) (c .pre .1 .1)
+rises-known : (c : tie.Start) → Rises (c .args .i) (c .args .m) (c .args .n)
+rises-known c = rises-in-range _ _ _ (c .pre .0) (c .pre .1 .0) (c .pre .1 .1)
 
 mul-result : tie.Need-mul-result
-mul-result c = omega (arith, known (c .before .before))
+mul-result c = omega (arith, rises-known (c .before .before))
 
 sub-result : tie.Need-sub-result
 sub-result c = search needs
@@ -22,15 +22,15 @@ mul-result-2 : tie.Need-mul-result-2
 mul-result-2 c = search needs
 
 add-result : tie.Need-add-result
-add-result c = omega (arith, known (c .before .before .before))
+add-result c = omega (arith, rises-known (c .before .before .before))
 
 mul-result-3 : tie.Need-mul-result-3
-mul-result-3 c = omega (arith, known (c .before .before .before .before .before))
+mul-result-3 c = omega (arith, rises-known (c .before .before .before .before .before))
 
 sub-result-3 : tie.Need-sub-result-3
 sub-result-3 c =
     let s = c .before .before .before .before .before in
-    omega (arith, known s, s .pre .0 .order)
+    omega (arith, rises-known s, s .pre .0 .order)
 
 returns : tie.Need-returns
 returns c =

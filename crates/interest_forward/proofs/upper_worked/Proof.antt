@@ -10,28 +10,28 @@ use mir.Facts.{toZ-ofZ}
 use borrow.Author.Needs.{needs}
 use Rattle.paper_interest.specs.Interest.{limitFrom}
 use Rattle.interest_forward.specs.Pair.{base}
-use Rattle.interest_forward.proofs.Limits.{Sums, sums, upper-counted}
+use Rattle.interest_forward.proofs.Limits.{Sums, sums-in-range, upper-counted}
 use Rattle.interest_forward.proofs.upper_worked.Statement.{statement}
 use Rattle.interest_forward.proofs.upper_worked.Tie as tie
 
-known : (c : tie.After-risen) → Sums (c .before .args .i) (c .risen .result)
-known c = sums _ _ _ _ (c .before .pre .0) (c .risen .ensures)
+sums-known : (c : tie.After-risen) → Sums (c .before .args .i) (c .risen .result)
+sums-known c = sums-in-range _ _ _ _ (c .before .pre .0) (c .risen .ensures)
 
 risen-requires : tie.Need-risen-requires
 risen-requires c κs = search needs
 
 mul-limit-from : tie.Need-mul-limit-from
-mul-limit-from c = omega (arith, known (c .before))
+mul-limit-from c = omega (arith, sums-known (c .before))
 
 margin-requires : tie.Need-margin-requires
 margin-requires c κs = search needs
 
 add-limit-from : tie.Need-add-limit-from
-add-limit-from c = omega (arith, known (c .before .before), c .margin .ensures .high)
+add-limit-from c = omega (arith, sums-known (c .before .before), c .margin .ensures .high)
 
 limit-from-requires : tie.Need-limit-from-requires
 limit-from-requires c κs =
-    (c .before .before .before .pre .0, omega (arith, known (c .before .before), c .margin .ensures .high))
+    (c .before .before .before .pre .0, omega (arith, sums-known (c .before .before), c .margin .ensures .high))
 
 returns : tie.Need-returns
 returns c =

@@ -22,38 +22,38 @@ loop-holds : tie.Need-loop-holds Inv-loop μ-loop
 loop-holds c = (place-first _ _, ap strictlyAscending (left-first _))
 
 -- the key maturity at hand and the next
-room : (c : tie.In-loop Inv-loop μ-loop)
+next-fits : (c : tie.In-loop Inv-loop μ-loop)
     → c .before .loop .at + keyNumbers + keyNumbers ≤ length (c .before .before .args .numbers .now)
-room c = next-room _ _ (c .before .before .pre) (c .before .loop .inv .0) (c .loop-test .taken)
+next-fits c = next-room _ _ (c .before .before .pre) (c .before .loop .inv .0) (c .loop-test .taken)
 
 sub-loop : tie.Need-sub-loop Inv-loop μ-loop
 sub-loop c = c .loop .inv .0 .inside
 
 add-next : tie.Need-add-next Inv-loop μ-loop
-add-next c = omega (arith, room c)
+add-next c = omega (arith, next-fits c)
 
 unsigned-at-requires : tie.Need-unsigned-at-requires Inv-loop μ-loop
-unsigned-at-requires c κs = omega (arith, room c)
+unsigned-at-requires c κs = omega (arith, next-fits c)
 
 unsigned-at-requires-2 : tie.Need-unsigned-at-requires-2 Inv-loop μ-loop
-unsigned-at-requires-2 c κs = omega (arith, room (c .before))
+unsigned-at-requires-2 c κs = omega (arith, next-fits (c .before))
 
 returns : tie.Need-returns Inv-loop μ-loop
 unfolding maturityOf keyAt
 returns c =
     let l = c .before .before .before in
-    sym (ascending-out _ _ (room l) (omega arith))
+    sym (ascending-out _ _ (next-fits l) (omega arith))
     ∙ l .before .loop .inv .1
 
 loop-less : tie.Need-loop-less Inv-loop μ-loop
-loop-less c = omega (arith, room (c .before .before .before))
+loop-less c = omega (arith, next-fits (c .before .before .before))
 
 loop-again : tie.Need-loop-again Inv-loop μ-loop
 unfolding maturityOf keyAt
 loop-again c =
     let l = c .before .before .before in (
-      place-next _ _ _ (l .before .loop .inv .0) (omega (arith, room l)),
-      sym (ascending-in _ _ (room l) (omega arith))
+      place-next _ _ _ (l .before .loop .inv .0) (omega (arith, next-fits l)),
+      sym (ascending-in _ _ (next-fits l) (omega arith))
           ∙ l .before .loop .inv .1,
     )
 

@@ -16,15 +16,15 @@ returns : tie.Need-returns
 unfolding validKeys
 returns c = rw (sym (c .before .whole-keys .ensures) ∙ not-true _ (c .if1 .taken))
 
-full : (c : tie.Else1) → wholeKeys (c .before .before .args .numbers .now) ≡ true
-full c = sym (c .before .whole-keys .ensures) ∙ not-false _ (c .if1 .left)
+keys-are-whole : (c : tie.Else1) → wholeKeys (c .before .before .args .numbers .now) ≡ true
+keys-are-whole c = sym (c .before .whole-keys .ensures) ∙ not-false _ (c .if1 .left)
 
 every-key-valid-requires : tie.Need-every-key-valid-requires
-every-key-valid-requires c κs = whole-in-eights _ (full c)
+every-key-valid-requires c κs = whole-in-eights _ (keys-are-whole c)
 
 returns-2 : tie.Need-returns-2
 unfolding validKeys
-returns-2 c = rw (full (c .before)) (c .every-key-valid .ensures)
+returns-2 c = rw (keys-are-whole (c .before)) (c .every-key-valid .ensures)
 
 pub keys-valid-spec : {M : Type 1} → statement M
 keys-valid-spec = tie.close (tie.spec whole-keys-requires returns every-key-valid-requires returns-2)

@@ -27,33 +27,34 @@ unfolding maturityOf keyAt
 loop-holds c = passed-first _ _ (c .before .before .pre .1) (omega arith)
 
 -- the key maturity at hand and the next
-room : (c : tie.In-loop Inv-loop μ-loop)
+next-fits : (c : tie.In-loop Inv-loop μ-loop)
     → c .before .loop .at + keyNumbers + keyNumbers ≤ length (c .before .before .before .before .args .numbers .now)
-room c = next-room _ _ (c .before .before .before .before .pre .0) (c .before .loop .inv .place) (c .loop-test .taken)
+next-fits c =
+    next-room _ _ (c .before .before .before .before .pre .0) (c .before .loop .inv .place) (c .loop-test .taken)
 
 sub-loop : tie.Need-sub-loop Inv-loop μ-loop
 sub-loop c = c .loop .inv .place .inside
 
 add-next : tie.Need-add-next Inv-loop μ-loop
-add-next c = omega (arith, room c)
+add-next c = omega (arith, next-fits c)
 
 unsigned-at-requires-2 : tie.Need-unsigned-at-requires-2 Inv-loop μ-loop
-unsigned-at-requires-2 c κs = omega (arith, room c)
+unsigned-at-requires-2 c κs = omega (arith, next-fits c)
 
 returns-2 : tie.Need-returns-2 Inv-loop μ-loop
 unfolding maturityOf keyAt
 returns-2 c =
     let l = c .before .before in
-    read-between _ _ _ (l .before .loop .inv) (room l) (omega arith)
+    read-between _ _ _ (l .before .loop .inv) (next-fits l) (omega arith)
 
 loop-less : tie.Need-loop-less Inv-loop μ-loop
-loop-less c = omega (arith, room (c .before .before))
+loop-less c = omega (arith, next-fits (c .before .before))
 
 loop-again : tie.Need-loop-again Inv-loop μ-loop
 unfolding maturityOf keyAt
 loop-again c =
     let l = c .before .before in
-    passed-next _ _ _ (l .before .loop .inv) (room l) (omega arith)
+    passed-next _ _ _ (l .before .loop .inv) (next-fits l) (omega arith)
 
 returns-3 : tie.Need-returns-3 Inv-loop μ-loop
 returns-3 c = read-last _ _ _ (c .before .loop .inv) (c .loop-test .left)

@@ -18,16 +18,16 @@ volatility-of-requires c κs = search needs
 tentative-of-requires : tie.Need-tentative-of-requires
 tentative-of-requires c κs = search needs
 
-held : (c : tie.After-tentative-of) → c .tentative-of .result .bp ≤ repoTentativeMost
-held c = let start = c .before .before .before in
+tentative-held : (c : tie.After-tentative-of) → c .tentative-of .result .bp ≤ repoTentativeMost
+tentative-held c = let start = c .before .before .before in
     rw (c .tentative-of .ensures) (repo-tentative-held _ _ (start .pre .0) (start .pre .1))
 
 upward-requires : tie.Need-upward-requires
-upward-requires c κs = (c .before .before .before .pre .0, held c)
+upward-requires c κs = (c .before .before .before .pre .0, tentative-held c)
 
 downward-requires : tie.Need-downward-requires
 downward-requires c κs = let start = c .before .before .before .before in
-    (start .pre .0, (start .pre .1, held (c .before)))
+    (start .pre .0, (start .pre .1, tentative-held (c .before)))
 
 returns : tie.Need-returns
 unfolding maturityFigures
