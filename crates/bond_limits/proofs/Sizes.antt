@@ -36,15 +36,15 @@ pub year-high : (k : ℕ) (repo : ℤ) → k ≤ termDaysMost → mag repo ≤ m
     → grown yearInDayBp k repo ≤ yearInDayBp + growthMost
 year-high k repo d r = grown-near-base yearInDayBp k repo d r .0
 
-module _ (x whole k : ℕ) (repo : ℤ) (g : GrowthRange x whole k repo) where
+module _ (x den k : ℕ) (repo : ℤ) (g : GrowthRange x den k repo) where
   abbrev year : ℕ
   year = grown yearInDayBp k repo
 
-  product-high : x * year ≤ 3 * priceMost * whole * (yearInDayBp + growthMost)
+  product-high : x * year ≤ 3 * priceMost * den * (yearInDayBp + growthMost)
   product-high = mul-le-mul (g .reach) (year-high k repo (g .days) (g .rate))
 
   -- the wide division takes it
-  pub growth-divides : Divides x (grown yearInDayBp k repo) (whole * yearInDayBp)
+  pub growth-divides : Divides x (grown yearInDayBp k repo) (den * yearInDayBp)
   growth-divides =
       record {
         positive = omega (arith, g .positive);
@@ -53,9 +53,9 @@ module _ (x whole k : ℕ) (repo : ℤ) (g : GrowthRange x whole k repo) where
         quotient = omega (arith, g .positive, product-high);
       }
 
-  pub grown-high : grownPrice (growing k repo (record { num = x; den = whole })) ≤ grownMost
+  pub grown-high : grownPrice (growing k repo (record { num = x; den = den })) ≤ grownMost
   grown-high =
-      half-le (x * year) (whole * yearInDayBp) grownMost (omega (arith, g .positive)) (omega (arith, product-high))
+      half-le (x * year) (den * yearInDayBp) grownMost (omega (arith, g .positive)) (omega (arith, product-high))
 
 -- ---- what grows
 

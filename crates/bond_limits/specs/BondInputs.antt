@@ -23,10 +23,10 @@ pub record ScaleRange (b : BondScale) : Type 0 where
   pub repo : mag (b .repo) ≤ mag repoMost
 
 -- a quotient that grows: at most three times the greatest price, as x_pr is at least a half and S_1 at most one
-pub record GrowthRange (x whole k : ℕ) (repo : ℤ) : Type 0 where
-  pub positive : 0 < whole
-  pub divisor : whole ≤ oneInBp * divisorMost
-  pub reach : x ≤ 3 * priceMost * whole
+pub record GrowthRange (x den k : ℕ) (repo : ℤ) : Type 0 where
+  pub positive : 0 < den
+  pub divisor : den ≤ oneInBp * divisorMost
+  pub reach : x ≤ 3 * priceMost * den
   pub days : k ≤ termDaysMost
   pub rate : mag repo ≤ mag repoMost
 

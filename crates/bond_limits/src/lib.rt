@@ -25,15 +25,15 @@ use paper_bonds::BondLimits;
 
 // ---- one limit
 
-// x/whole grown over k days at a repo rate, half up to a unit.
-fn grown_price(x: u64, whole: u64, k: u64, repo: i64) -> u64
-    requires { ⌜ GrowthRange x whole k repo ⌝ }
-    ensures { λ r. ⌜ r ≡ grownPrice (growing k repo (record { num = x; den = whole })) ⌝ }
+// x/den grown over k days at a repo rate, half up to a unit.
+fn grown_price(x: u64, den: u64, k: u64, repo: i64) -> u64
+    requires { ⌜ GrowthRange x den k repo ⌝ }
+    ensures { λ r. ⌜ r ≡ grownPrice (growing k repo (record { num = x; den = den })) ⌝ }
 {
     exact::half_up_wide(
         x,
         exact::grow(YEAR_IN_DAY_BP, k, repo),
-        whole * YEAR_IN_DAY_BP,
+        den * YEAR_IN_DAY_BP,
     )
 }
 
@@ -50,12 +50,12 @@ fn in_per_cent(way: Way, b: BondScale, grown: u64) -> u64
     )
 }
 
-fn limit_of(way: Way, b: BondScale, x: u64, whole: u64, k: u64, repo: i64) -> u64
+fn limit_of(way: Way, b: BondScale, x: u64, den: u64, k: u64, repo: i64) -> u64
     requires { ⌜ ScaleRange b ⌝ }
-    requires { ⌜ GrowthRange x whole k repo ⌝ }
-    ensures { λ r. ⌜ r ≡ bondLimitOf way b (growing k repo (record { num = x; den = whole })) ⌝ }
+    requires { ⌜ GrowthRange x den k repo ⌝ }
+    ensures { λ r. ⌜ r ≡ bondLimitOf way b (growing k repo (record { num = x; den = den })) ⌝ }
 {
-    in_per_cent(way, b, grown_price(x, whole, k, repo))
+    in_per_cent(way, b, grown_price(x, den, k, repo))
 }
 
 // P·(1 ± rate), which grows with REPORate: the farthest limit, and that of the 20 per cent off the book.

@@ -21,7 +21,7 @@ mul-half-up-wide c = search needs
 half-up-wide-requires : tie.Need-half-up-wide-requires
 half-up-wide-requires c κs =
     let s = c .before in
-    rw (days-are c) (growth-divides (s .args .x) (s .args .whole) (s .args .k) (s .args .repo) (s .pre))
+    rw (days-are c) (growth-divides (s .args .x) (s .args .den) (s .args .k) (s .args .repo) (s .pre))
 
 returns : tie.Need-returns
 returns c = rw (c .half-up-wide .ensures, days-are (c .before))

@@ -16,13 +16,13 @@ grown-is : (c : tie.After-grown-price)
     → c .grown-price .result
     ≡ grownPrice
     (growing (c .before .args .k) (c .before .args .repo)
-    (record { num = c .before .args .x; den = c .before .args .whole }))
+    (record { num = c .before .args .x; den = c .before .args .den }))
 grown-is c = rw (toZ-ofZ (c .before .fits .repo)) at (c .grown-price .ensures)
 
 in-per-cent-requires : tie.Need-in-per-cent-requires
 in-per-cent-requires c κs =
     let s = c .before in
-    (s .pre .0, rw (grown-is c) (grown-high (s .args .x) (s .args .whole) (s .args .k) (s .args .repo) (s .pre .1)))
+    (s .pre .0, rw (grown-is c) (grown-high (s .args .x) (s .args .den) (s .args .k) (s .args .repo) (s .pre .1)))
 
 returns : tie.Need-returns
 returns c =
