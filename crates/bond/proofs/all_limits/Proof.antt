@@ -22,24 +22,24 @@ term-valid c k h = rw (c .terms-of .ensures) (bond-terms-valid (c .before .args 
 
 term-limits-requires : tie.Need-term-limits-requires
 term-limits-requires c κs =
-    let t = c .before in
-    (t .before .pre .0, (t .before .pre .1, term-valid t 0 (omega arith)))
+    let terms = c .before in
+    (terms .before .pre .0, (terms .before .pre .1, term-valid terms 0 (omega arith)))
 
 array-copy-out-term-limits-2 : tie.Need-array-copy-out-term-limits-2
 array-copy-out-term-limits-2 c = search needs
 
 term-limits-requires-2 : tie.Need-term-limits-requires-2
 term-limits-requires-2 c κs =
-    let t = c .before .before .before in
-    (t .before .pre .0, (t .before .pre .1, term-valid t 1 (omega arith)))
+    let terms = c .before .before .before in
+    (terms .before .pre .0, (terms .before .pre .1, term-valid terms 1 (omega arith)))
 
 array-copy-out-term-limits-3 : tie.Need-array-copy-out-term-limits-3
 array-copy-out-term-limits-3 c = search needs
 
 term-limits-requires-3 : tie.Need-term-limits-requires-3
 term-limits-requires-3 c κs =
-    let t = c .before .before .before .before .before in
-    (t .before .pre .0, (t .before .pre .1, term-valid t 2 (omega arith)))
+    let terms = c .before .before .before .before .before in
+    (terms .before .pre .0, (terms .before .pre .1, term-valid terms 2 (omega arith)))
 
 returns : tie.Need-returns
 returns c =

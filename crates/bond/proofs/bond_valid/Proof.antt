@@ -24,7 +24,8 @@ given-passed : (c : tie.Then1) → validGiven (givenOf (c .before .before .befor
 given-passed c = rw (c .before .before .given-of .ensures) at (sym (c .before .valid-given .ensures) ∙ c .if1 .taken)
 
 statics-are : (c : tie.After-statics-of)
-    → c .statics-of .result ≡ bondStatics (c .before .before .before .before .before .args .b)
+    → let start = c .before .before .before .before .before in
+    c .statics-of .result ≡ bondStatics (start .args .b)
 statics-are c = rw (c .before .before .before .given-of .ensures) at (c .statics-of .ensures)
 
 valid-numbers-requires : tie.Need-valid-numbers-requires

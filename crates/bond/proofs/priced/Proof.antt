@@ -21,11 +21,12 @@ statics-are c = rw (c .before .given-of .ensures) at (c .statics-of .ensures)
 
 figures-by-volatility-requires : tie.Need-figures-by-volatility-requires
 figures-by-volatility-requires c κs =
-    let s = c .before .before .before .before in
-    rw (statics-are (c .before)) (volatility-ranges (s .args .b) (s .pre .0 .valid))
+    let start = c .before .before .before .before in
+    rw (statics-are (c .before)) (volatility-ranges (start .args .b) (start .pre .0 .valid))
 
 figures-are : (c : tie.After-figures-by-volatility)
-    → c .figures-by-volatility .result ≡ bondFigures (c .before .before .before .before .before .args .b)
+    → let start = c .before .before .before .before .before in
+    c .figures-by-volatility .result ≡ bondFigures (start .args .b)
 unfolding bondFigures
 figures-are c = rw (statics-are (c .before .before)) at (c .figures-by-volatility .ensures)
 
@@ -34,13 +35,13 @@ array-copy-out-all-limits c = search needs
 
 all-limits-requires : tie.Need-all-limits-requires
 all-limits-requires c κs =
-    let f = c .before .before .before in
-    let s = f .before .before .before .before .before in (
-      s .pre .0,
+    let figures = c .before .before .before in
+    let start = figures .before .before .before .before .before in (
+      start .pre .0,
       record {
-        statics = statics-are (f .before .before);
-        price = s .pre .1;
-        rate = ap (λ (x : Figures). rateAt (x .rates) 0) (figures-are f);
+        statics = statics-are (figures .before .before);
+        price = start .pre .1;
+        rate = ap (λ (x : Figures). rateAt (x .rates) 0) (figures-are figures);
       },
     )
 
@@ -58,18 +59,19 @@ crossed-is c = rw (c .before .all-limits .ensures) at (c .some-crossed .ensures)
 
 returns : tie.Need-returns
 returns c =
-    let t = c .before .before in
-    let s = t .before .before .before .before .before .before .before .before .before .before in
-    c .refused .ensures ∙ answers-band-crossed _ _ (s .pre .0) (sym (crossed-is t) ∙ c .before .if1 .taken)
+    let crossed = c .before .before in
+    let figures = crossed .before .before .before .before .before in
+    let start = figures .before .before .before .before .before in
+    c .refused .ensures ∙ answers-band-crossed _ _ (start .pre .0) (sym (crossed-is crossed) ∙ c .before .if1 .taken)
 
 returns-2 : tie.Need-returns-2
 unfolding acceptedBond
 returns-2 c =
-    let t = c .before in
-    let f = t .before .before .before .before .before in
-    let s = f .before .before .before .before .before in
-    rw (s .pre .1, figures-are f, t .before .all-limits .ensures)
-    (answers-figures _ _ (s .pre .0) (sym (crossed-is t) ∙ c .if1 .left))
+    let crossed = c .before in
+    let figures = crossed .before .before .before .before .before in
+    let start = figures .before .before .before .before .before in
+    rw (start .pre .1, figures-are figures, crossed .before .all-limits .ensures)
+    (answers-figures _ _ (start .pre .0) (sym (crossed-is crossed) ∙ c .if1 .left))
 
 pub priced-spec : {M : Type 1} → statement M
 priced-spec =

@@ -10,8 +10,8 @@ valid-tentative-requires c κs = search needs
 returns : tie.Need-returns
 unfolding validNumbers
 returns c =
-    let s = c .before .before .before .before .before .before .before .before in
-    rw (c .before .valid-tentative .ensures, s .pre .0)
+    let start = c .before .before .before .before .before .before .before .before in
+    rw (c .before .valid-tentative .ensures, start .pre .0)
 
 pub valid-numbers-spec : {M : Type 1} → statement M
 valid-numbers-spec = tie.close (tie.spec valid-tentative-requires returns)

@@ -45,25 +45,27 @@ band-limit-requires-2 : tie.Need-band-limit-requires-2
 band-limit-requires-2 c κs = let s = c .before .before .before in (s .pre .0, (s .pre .1 .0, side-in-range s Upper))
 
 off-limit-requires : tie.Need-off-limit-requires
-off-limit-requires c κs = let s = c .before .before .before .before in (s .pre .0, price-in-range s)
+off-limit-requires c κs = let start = c .before .before .before .before in (start .pre .0, price-in-range start)
 
 off-limit-requires-2 : tie.Need-off-limit-requires-2
-off-limit-requires-2 c κs = let s = c .before .before .before .before .before in (s .pre .0, price-in-range s)
+off-limit-requires-2 c κs =
+    let start = c .before .before .before .before .before in
+    (start .pre .0, price-in-range start)
 
 returns : tie.Need-returns
 unfolding limitsFrom
 returns c =
-    let s = c .before .before .before .before .before .before in
-    let a = s .args in
-    let face = s .pre .0 .face in
-    let divisor = valid-limit-statics (a .st) (s .pre .1 .0) .divisor-low in
+    let start = c .before .before .before .before .before .before in
+    let a = start .args in
+    let face = start .pre .0 .face in
+    let divisor = valid-limit-statics (a .st) (start .pre .1 .0) .divisor-low in
     rw (
       c .off-limit2 .ensures,
       c .before .off-limit .ensures,
       c .before .before .band-limit2 .ensures,
       c .before .before .before .before .band-limit .ensures,
-      bits-read-back s Lower,
-      bits-read-back s Upper,
+      bits-read-back start Lower,
+      bits-read-back start Upper,
       off-is (a .b) (a .st) Lower (a .p .units) (a .s1 .bp) 0 (a .x .k) (a .x .low) face divisor,
       off-is (a .b) (a .st) Upper (a .p .units) (a .s1 .bp) 0 (a .x .k) (a .x .high) face divisor,
     )

@@ -47,12 +47,13 @@ limit-of-requires c κs =
 returns : tie.Need-returns
 unfolding monitored
 returns c =
-    let s = c .before .before .before .before .before in
+    let spread = c .before .before .before in
+    let start = spread .before .before in
     rw (
       c .limit-of .ensures,
-      c .before .before .before .before .inward .ensures,
-      toZ-ofZ (s .fits .repo),
-      c .before .before .before .spread .ensures,
+      spread .before .inward .ensures,
+      toZ-ofZ (start .fits .repo),
+      spread .spread .ensures,
     )
 
 pub monitored-limit-spec : {M : Type 1} → statement M

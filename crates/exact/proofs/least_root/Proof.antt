@@ -68,26 +68,28 @@ shl-requires-4 : tie.Need-shl-requires-4 Inv-loop μ-loop
 shl-requires-4 c κs = omega (arith, turn-at (c .before .before .before .before))
 
 add-x : tie.Need-add-x Inv-loop μ-loop
-add-x c = omega (arith, turn-at (c .before .before .before .before .before))
+add-x c = let head = c .before .before .before .before .before in omega (arith, turn-at head)
 
 loop-less : tie.Need-loop-less Inv-loop μ-loop
 loop-less c = omega arith
 
 loop-again : tie.Need-loop-again Inv-loop μ-loop
 loop-again c =
-    let t = c .before .before .before .before .before in
-    taken-keeps _ _ _ _ _ _ _ _ _ _ (t .loop-test .taken) (t .before .before .before .pre .1) (t .before .loop .inv)
-    (c .before .before .before .before .shl .ensures) (c .before .before .before .shl2 .ensures)
-    (c .before .shl3 .ensures) (c .shl4 .ensures) (c .before .before .if2 .taken)
+    let taken = c .before .before in
+    let next = taken .before in
+    let head = next .before .before in
+    taken-keeps _ _ _ _ _ _ _ _ _ _ (head .loop-test .taken) (head .before .before .before .pre .1)
+    (head .before .loop .inv) (next .before .shl .ensures) (next .shl2 .ensures) (c .before .shl3 .ensures)
+    (c .shl4 .ensures) (taken .if2 .taken)
 
 loop-less-2 : tie.Need-loop-less-2 Inv-loop μ-loop
 loop-less-2 c = omega arith
 
 loop-again-2 : tie.Need-loop-again-2 Inv-loop μ-loop
 loop-again-2 c =
-    let t = c .before .before .before in
-    left-keeps _ _ _ _ _ _ _ _ (t .loop-test .taken) (t .before .before .before .pre .1) (t .before .loop .inv)
-    (c .before .before .shl .ensures) (c .before .shl2 .ensures) (c .if2 .left)
+    let head = c .before .before .before in
+    left-keeps _ _ _ _ _ _ _ _ (head .loop-test .taken) (head .before .before .before .pre .1)
+    (head .before .loop .inv) (c .before .before .shl .ensures) (c .before .shl2 .ensures) (c .if2 .left)
 
 add-result : tie.Need-add-result Inv-loop μ-loop
 add-result c = omega arith

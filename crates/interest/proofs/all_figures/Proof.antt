@@ -28,13 +28,19 @@ figures-at-requires-5 : tie.Need-figures-at-requires-5
 figures-at-requires-5 c κs = place-in-range (c .before .before .before .before) 4 (omega arith)
 
 figures-at-requires-6 : tie.Need-figures-at-requires-6
-figures-at-requires-6 c κs = place-in-range (c .before .before .before .before .before) 5 (omega arith)
+figures-at-requires-6 c κs =
+    let start = c .before .before .before .before .before in
+    place-in-range start 5 (omega arith)
 
 figures-at-requires-7 : tie.Need-figures-at-requires-7
-figures-at-requires-7 c κs = place-in-range (c .before .before .before .before .before .before) 6 (omega arith)
+figures-at-requires-7 c κs =
+    let start = c .before .before .before .before .before .before in
+    place-in-range start 6 (omega arith)
 
 figures-at-requires-8 : tie.Need-figures-at-requires-8
-figures-at-requires-8 c κs = place-in-range (c .before .before .before .before .before .before .before) 7 (omega arith)
+figures-at-requires-8 c κs =
+    let start = c .before .before .before .before .before .before .before in
+    place-in-range start 7 (omega arith)
 
 returns : tie.Need-returns
 returns c =

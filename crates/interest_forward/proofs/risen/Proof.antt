@@ -25,17 +25,17 @@ add-result : tie.Need-add-result
 add-result c = omega (arith, rises-known (c .before .before .before))
 
 mul-result-3 : tie.Need-mul-result-3
-mul-result-3 c = omega (arith, rises-known (c .before .before .before .before .before))
+mul-result-3 c = let start = c .before .before .before .before .before in omega (arith, rises-known start)
 
 sub-result-3 : tie.Need-sub-result-3
 sub-result-3 c =
-    let s = c .before .before .before .before .before in
-    omega (arith, rises-known s, s .pre .0 .order)
+    let start = c .before .before .before .before .before in
+    omega (arith, rises-known start, start .pre .0 .order)
 
 returns : tie.Need-returns
 returns c =
-    let s = c .before .before .before .before .before in
-    risen-is _ _ _ (s .pre .0) (s .pre .1 .0) (s .pre .1 .1)
+    let start = c .before .before .before .before .before in
+    risen-is _ _ _ (start .pre .0) (start .pre .1 .0) (start .pre .1 .1)
 
 pub risen-spec : {M : Type 1} → statement M
 risen-spec =

@@ -53,15 +53,20 @@ within-at-requires-8 c κs = search needs
 returns : tie.Need-returns
 unfolding validKey keyAt
 returns c =
+    let volatility = c .before .before in
+    let index = volatility .before in
+    let r2 = index .before in
+    let r1 = r2 .before in
+    let r = r1 .before in
     rw (
       c .within-at8 .ensures,
       c .before .within-at7 .ensures,
-      c .before .before .within-at6 .ensures,
-      c .before .before .before .within-at5 .ensures,
-      c .before .before .before .before .within-at4 .ensures,
-      c .before .before .before .before .before .within-at3 .ensures,
-      c .before .before .before .before .before .before .within-at2 .ensures,
-      c .before .before .before .before .before .before .before .within-at .ensures,
+      volatility .within-at6 .ensures,
+      index .within-at5 .ensures,
+      r2 .within-at4 .ensures,
+      r1 .within-at3 .ensures,
+      r .within-at2 .ensures,
+      r .before .within-at .ensures,
     )
 
 pub key-valid-spec : {M : Type 1} → statement M
