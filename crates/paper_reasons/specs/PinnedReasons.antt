@@ -14,7 +14,7 @@ use Rattle.paper_desk.specs.Rates.{moveFrom, moveOf, weightOf, weighted, replac
 use Rattle.paper_desk.specs.Limits.{limitOf, shifted, rangeLimit, rangeOf, farthest, spread, monitored, narrower, bandLimit, bandOf, crossed}
 use Rattle.paper.specs.Verdicts.{numberOf, isDone, firstOf}
 use Rattle.paper_desk.specs.Desk.{blank, usedBy, priceOn, moveOn, figuresOn, evaluated, place, stands, found, known, evaluateChecks}
-use Rattle.paper.specs.PinnedValues.{_but_, minimaAt, aupAt, adownAt, liqAt, pchmaxAt, ewmaAt, p1At, sAt, tentativeAt, ageAt, ratesAt, centralAt, rowBidAt, rowAskAt, volumeAt, givenFrom, standingFrom, nearFrom, sessionFrom, limitsFrom, termFrom, recordFrom, dayFrom, closedAt, zNumbers, zRecord}
+use Rattle.paper.specs.PinnedValues.{_but_, minimaAt, aupAt, adownAt, liqAt, pchmaxAt, ewmaAt, useexternalAt, p1At, sAt, tentativeAt, ageAt, ratesAt, externalAt, centralAt, rowBidAt, rowAskAt, volumeAt, givenFrom, standingFrom, nearFrom, sessionFrom, limitsFrom, termFrom, recordFrom, dayFrom, closedAt, zNumbers, zRecord}
 use Rattle.paper_reasons.specs.declared.Why.{Why}
 use Rattle.paper_reasons.specs.Reasons.{isTraded, priceSetBy, priceReason, weightIs, weightReason, replacementWas, replacementReason, tentativeDid, tentativeReason, requirementStep, levelSetBy, levelReason}
 use Rattle.paper_reasons.specs.Faults.{rowsAtFault, outOfRange, isSame, faultsOf, faultOf}
@@ -57,6 +57,12 @@ calm =
 today : List ℤ
 today = pos 4 ∷ []
 
+-- that security with UseEXTERNAL no (0) or yes (1), and an outside bid and ask that it keeps (W-211)
+outside : (useexternal bid ask : ℕ) → List ℤ
+unfolding calm
+outside useexternal bid ask =
+    calm but (useexternalAt, pos useexternal) but (externalAt, pos bid) but (externalAt + 1, pos ask)
+
 -- a row with no trade
 quoted : (bid ask : ℕ) → List ℤ
 unfolding closedAt
@@ -65,7 +71,7 @@ quoted bid ask = closedAt 0 but (rowBidAt, pos bid) but (rowAskAt, pos ask) but 
 -- ---- the price
 
 pub prices : List (List ℕ)
-unfolding said calm today quoted closedAt zRecord zNumbers
+unfolding said calm today outside quoted closedAt zRecord zNumbers
 prices =
     -- the close alone; the close and BID; the close and ASK; the close is yesterday's price
     said calm today (closedAt 1010000)
@@ -81,6 +87,16 @@ prices =
     ∷ said calm today (quoted 1000000 0)
     ∷ said calm today (quoted 0 1000000)
     ∷ said calm today (quoted 1010000 0)
+    -- the outside bid is above the close, with UseEXTERNAL yes and no; it is the close; the ask is below it, yes and no
+    ∷ said (outside 1 1020000 0) today (closedAt 1010000)
+    ∷ said (outside 0 1020000 0) today (closedAt 1010000)
+    ∷ said (outside 1 1010000 0) today (closedAt 1010000)
+    ∷ said (outside 1 0 990000) today (closedAt 1010000)
+    ∷ said (outside 0 0 990000) today (closedAt 1010000)
+    -- no row: the outside bid is yesterday's price, with UseEXTERNAL yes and no; the outside ask is
+    ∷ said (outside 1 1000000 0) today []
+    ∷ said (outside 0 1000000 0) today []
+    ∷ said (outside 1 0 1000000) today []
     ∷ []
 
 pub prices-are : prices
@@ -95,6 +111,14 @@ pub prices-are : prices
     ∷ (0 ∷ 0 ∷ 2 ∷ 3 ∷ 2 ∷ 4 ∷ 2 ∷ 2 ∷ 2 ∷ [])
     ∷ (0 ∷ 0 ∷ 3 ∷ 3 ∷ 2 ∷ 4 ∷ 2 ∷ 2 ∷ 2 ∷ [])
     ∷ (0 ∷ 0 ∷ 2 ∷ 2 ∷ 2 ∷ 4 ∷ 2 ∷ 2 ∷ 2 ∷ [])
+    ∷ (0 ∷ 0 ∷ 2 ∷ 2 ∷ 2 ∷ 4 ∷ 2 ∷ 2 ∷ 2 ∷ [])
+    ∷ (0 ∷ 0 ∷ 1 ∷ 2 ∷ 2 ∷ 4 ∷ 2 ∷ 2 ∷ 2 ∷ [])
+    ∷ (0 ∷ 0 ∷ 1 ∷ 2 ∷ 2 ∷ 4 ∷ 2 ∷ 2 ∷ 2 ∷ [])
+    ∷ (0 ∷ 0 ∷ 3 ∷ 2 ∷ 2 ∷ 4 ∷ 2 ∷ 2 ∷ 2 ∷ [])
+    ∷ (0 ∷ 0 ∷ 1 ∷ 2 ∷ 2 ∷ 4 ∷ 2 ∷ 2 ∷ 2 ∷ [])
+    ∷ (0 ∷ 0 ∷ 2 ∷ 3 ∷ 2 ∷ 4 ∷ 2 ∷ 2 ∷ 2 ∷ [])
+    ∷ (0 ∷ 0 ∷ 4 ∷ 3 ∷ 2 ∷ 4 ∷ 2 ∷ 2 ∷ 2 ∷ [])
+    ∷ (0 ∷ 0 ∷ 3 ∷ 3 ∷ 2 ∷ 4 ∷ 2 ∷ 2 ∷ 2 ∷ [])
     ∷ []
 unfolding prices
 prices-are = refl
