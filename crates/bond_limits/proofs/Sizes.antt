@@ -16,8 +16,7 @@ use Rattle.paper.specs.declared.Side.the-variants.{Upper, Lower}
 use Rattle.paper.specs.declared.Statics.{Statics}
 use Rattle.paper.specs.Numbers.{oneInBp, yearInDayBp, priceMost, rateMost, divisorLeast, divisorMost, termDaysMost, repoMost}
 use Rattle.paper.specs.Roundings.{grown}
-use Rattle.paper_desk.specs.Limits.{grownPrice, growing, shifted, farthest, spread}
-use Rattle.paper_desk.proofs.LimitSizes.{LimitStatics}
+use Rattle.paper_desk.specs.Limits.{grownPrice, growing, shifted, farthest, spread, LimitStatics}
 use Rattle.paper.proofs.Roundings.{half-le}
 use Rattle.exact.specs.SignedLaws.{growthMost, grown-near-base}
 use Rattle.exact.specs.Wide.{Divides}

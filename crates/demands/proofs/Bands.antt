@@ -8,11 +8,11 @@ use lib.ListN.{getD}
 use Rattle.paper.specs.declared.Admission.{Admission}
 use Rattle.paper.specs.declared.Side.{Side}
 use Rattle.paper.specs.Ranges.{staticsOf, noLimits, termAt, rateAt}
-use Rattle.paper_desk.specs.Limits.{crossed}
+use Rattle.paper_desk.specs.Limits.{crossed, LimitStatics}
 use Rattle.paper_desk.specs.Desk.{admitted, quoted, eveningOpened, received}
 use Rattle.paper_desk.specs.History.{Event, evaluatedOn, quotedAt, movedBy, opening, receipt}
 use Rattle.paper_desk.specs.Sequences.{carries, LastDay, noDay, onDay, lastEvaluated, movesOf, bandNow}
-use Rattle.paper_desk.proofs.LimitSizes.{LimitStatics, valid-limit-statics}
+use Rattle.paper_desk.proofs.LimitSizes.{valid-limit-statics}
 use Rattle.paper_desk.proofs.Bands.{evaluated-uncrossed, moved-not-crossed}
 use Rattle.demands.proofs.Histories.{after, recordOf, eventChecks, Lawful}
 use Rattle.demands.proofs.Sequences.{three-gives-each, one-more-noted, lawful-figures, lawful-statics}

@@ -19,11 +19,11 @@ use Rattle.paper_desk.specs.Rates.{modelOf, moveOf, figuresOf, modelled, unmode
 use Rattle.paper_desk.specs.History.{Event, evaluatedOn, quotedAt, movedBy, opening, receipt, evaluations}
 use Rattle.paper_desk.specs.Evaluation.{usedPair}
 use Rattle.paper_desk.specs.Sequences.{Carries, carriesFirst, carriesNext, carries, externalNow}
-use Rattle.paper_desk.specs.Exact.{exactMove, exactSquare, NearExact}
+use Rattle.paper_desk.specs.Exact.{exactMove, exactSquare, NearExact, CarriedOn, begun, once-more}
 use Rattle.demands.specs.Demands.{FiguresHold}
 use Rattle.paper.proofs.Logic.{and-left, pick-true}
 use Rattle.paper_desk.proofs.Volatility.{valid-weighs, move-rounded}
-use Rattle.paper_desk.proofs.CarriedOn.{CarriedOn, begun, once-more, carried-near}
+use Rattle.paper_desk.proofs.CarriedOn.{carried-near}
 use Rattle.demands.proofs.Sound.{Parts, sound-has-parts}
 use Rattle.demands.proofs.Kept.{good-sound}
 use Rattle.demands.proofs.Histories.{recordOf, Lawful}

@@ -20,10 +20,10 @@ use Rattle.paper.specs.Numbers.{keyNumbers, allKeyNumbersMost}
 use Rattle.paper.specs.Ranges.{partsFrom, unsigned}
 use Rattle.paper.specs.Roundings.{RoundedUp}
 use Rattle.paper_interest.specs.Interest.{LentKey, keyAt, keysOf, wholeKeys, validInterest, validKeys, maturityOf, maturitiesOf, inRange, changeOf, repoVolatility, maturityFigures, noFigures, acceptedInterest, interestAnswer}
-use Rattle.paper_desk.specs.Exact.{NearExact}
+use Rattle.paper_desk.specs.Exact.{NearExact, CarriedOn, begun, once-more}
 use Rattle.paper_interest.specs.InterestExact.{Evening, noKey, keyIn, Carried, carriedFrom, answeredIn, carriedAfter, keyGiven, Follow, start, next, repoChoice, exactChange, exactRepoSquare}
 use Rattle.paper.proofs.Logic.{and-left, and-right}
-use Rattle.paper_desk.proofs.CarriedOn.{CarriedOn, begun, once-more, carried-near}
+use Rattle.paper_desk.proofs.CarriedOn.{carried-near}
 use Rattle.paper_interest.proofs.InterestRanges.{valid-interest-in-range}
 use Rattle.paper_interest.proofs.InterestRefusals.{accepted-exactly, accepted-figures}
 

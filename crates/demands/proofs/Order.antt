@@ -23,10 +23,10 @@ use Rattle.paper.specs.declared.Answer.{Answer}
 use Rattle.paper.specs.Numbers.{limitMost}
 use Rattle.paper.specs.Ranges.{within, gridOf, isPrice, isGridPrice, isLive, validLimits, isLimit, termAt, rateAt}
 use Rattle.paper_desk.specs.Rates.{minimumOf}
-use Rattle.paper_desk.specs.Limits.{bandOf}
+use Rattle.paper_desk.specs.Limits.{bandOf, Outward}
 use Rattle.paper.specs.PinnedValues.{recordFrom}
 use Rattle.paper.specs.Verdicts.{isDone}
-use Rattle.paper_desk.specs.Sides.{limitOn, repoOn, shows}
+use Rattle.paper_desk.specs.Sides.{limitOn, repoOn, shows, PastZero}
 use Rattle.paper_desk.specs.Desk.{Call, admit, evaluate, quote, move, read, openEvening, receive, idOf, place, found, known, step, run}
 use Rattle.paper_desk.specs.History.{FreshTable, Event, isAdmission}
 use Rattle.paper_desk.specs.Sequences.{LastDay, noDay, onDay, lastEvaluated, standingNow, termNow, rangeAfter, rangeNow, bandNow}
@@ -34,9 +34,8 @@ use Rattle.demands.specs.Demands.{FiguresHold, RatesHold, BandsInOrder}
 use Rattle.demands.specs.Order.{ascending, rangeAt, bandAt, ratesOf, rangesAround, holdsZero, atMost, slotAt, HoldsLive, InOrder}
 use Rattle.paper.proofs.Logic.{not-true-and-false, and-left, and-right, and-both, each-of-three}
 use Rattle.paper_desk.proofs.LimitSizes.{valid-limit-statics}
-use Rattle.paper_desk.proofs.Bands.{Outward}
 use Rattle.paper_desk.proofs.Level.{stepping}
-use Rattle.paper_desk.proofs.Order.{levels-in-order, level-rates-ascend, moved-range-around, moved-range-outward, PastZero, band-around}
+use Rattle.paper_desk.proofs.Order.{levels-in-order, level-rates-ascend, moved-range-around, moved-range-outward, band-around}
 use Rattle.paper_desk.proofs.Others.{other-records-stay}
 use Rattle.paper_desk.proofs.PinnedLaws.{refused-zero, shown-stands, no-record-shown}
 use Rattle.paper_desk.proofs.Refusals.{accepted-only}

@@ -9,10 +9,10 @@ use Rattle.paper.specs.declared.Statics.{Statics}
 use Rattle.paper.specs.declared.Side.{Side}
 use Rattle.paper.specs.Numbers.{coarsestGrid, priceMost, rateMost, shiftMost, divisorMost}
 use Rattle.paper.specs.Ranges.{gridOf}
-use Rattle.paper_desk.specs.Limits.{rangeLimit, bandLimit, deltaOf}
+use Rattle.paper_desk.specs.Limits.{rangeLimit, bandLimit, deltaOf, LimitStatics}
 pub use Rattle.paper_desk.specs.Kept.{freshMost, deltaMost}
 use Rattle.paper_desk.proofs.LimitSizes as sizes
-use Rattle.paper_desk.proofs.LimitSizes.{LimitStatics, grid-in-range}
+use Rattle.paper_desk.proofs.LimitSizes.{grid-in-range}
 use Rattle.exact.specs.SignedLaws.{within-most-is-at-most}
 use Rattle.limits.specs.LimitRanges.{RangeInputs, BandInputs}
 

@@ -18,8 +18,9 @@ use Rattle.paper.specs.Numbers.{oneInBp, priceMost, rateMost, movesMost, termDa
 use Rattle.paper.specs.Ranges.{validTerm, isPrice, isGridPrice, isRate}
 use Rattle.paper_desk.specs.Limits.{countOf, oneMore}
 use Rattle.paper_desk.specs.Gateway.{rangeInRange, bandInRange}
+pub use Rattle.paper_desk.specs.Limits.{LimitStatics}
 use Rattle.paper.proofs.Logic.{and-left, and-right, order-trans}
-pub use Rattle.paper_desk.proofs.LimitSizes.{LimitStatics, valid-limit-statics}
+pub use Rattle.paper_desk.proofs.LimitSizes.{valid-limit-statics}
 use Rattle.exact.specs.SignedLaws.{between-repo-ends-within-most}
 use Rattle.limits.specs.Sides.{repoOf}
 

@@ -27,12 +27,12 @@ use Rattle.paper.specs.Numbers.{oneInBp, oneInHundredths, yearInDayBp, oneInPer
 use Rattle.paper.specs.Roundings.{Quotient, roundedTo, KeepsOrder, lesserOf, greaterOf, grown}
 use Rattle.paper.specs.Ranges.{gridOf, noLimits}
 use Rattle.paper.specs.Verdicts.{NoneApplies, none, also}
-use Rattle.paper_desk.specs.Limits.{share, limitOf, inward, Inside, grownPrice, bondLimitOf, shifted, farthest, spread, monitored, narrower, narrowerOf, bandBefore, bandLimit, bandOf, crossed, oneMore}
+use Rattle.paper_desk.specs.Limits.{share, limitOf, inward, Inside, grownPrice, bondLimitOf, shifted, farthest, spread, monitored, narrower, narrowerOf, bandBefore, bandLimit, bandOf, crossed, oneMore, LimitStatics, Outward}
 use Rattle.paper_desk.specs.Desk.{evaluated, evaluateChecks}
 use Rattle.paper.proofs.Logic.{each-of-three, not-true, not-false}
 use Rattle.paper.proofs.Roundings.{down-not-above, up-not-below}
 use Rattle.paper_desk.proofs.KindLaws.{bond-limit-is, limit-monotone, narrower-rounded, farthest-positive, monitored-positive, band-positive}
-use Rattle.paper_desk.proofs.LimitSizes.{LimitStatics, grid-in-range}
+use Rattle.paper_desk.proofs.LimitSizes.{grid-in-range}
 
 -- ---- inward
 
@@ -69,11 +69,6 @@ evaluated-uncrossed there r d rows (also n (also v (also x (also y (also p (also
     not-true _ (each-of-three (λ k. not (crossed (getD (evaluated r d rows .bands) k noLimits))) (not-false _ c) k l)
 
 -- ---- a move takes its side outward
-
--- x lies no farther in than y
-abbrev pub Outward : Side → (x y : ℕ) → Type 0
-Outward Upper x y = y ≤ x
-Outward Lower x y = x ≤ y
 
 same-outward : (side : Side) (x : ℕ) → Outward side x x
 same-outward Upper x = omega arith

@@ -19,7 +19,7 @@ use Rattle.paper.specs.Lists.{pick}
 use Rattle.paper.specs.Numbers.{coarsestGrid, divisorLeast, oneInPerCentHundredths}
 use Rattle.paper.specs.Roundings.{Quotient, rounded, KeepsOrder, mirrored, roundedZ, atLeastZero, lesserOf, greaterOf}
 use Rattle.paper.specs.Ranges.{gridOf}
-use Rattle.paper_desk.specs.Limits.{inward, Kind, share, bond, limitOf, grownPrice, bondLimitOf, limitFor, shifted, farthest, growing, farthestFor, monitored, narrower, narrowerOf, bandBefore, bandLimitFor}
+use Rattle.paper_desk.specs.Limits.{inward, Kind, share, bond, limitOf, grownPrice, bondLimitOf, limitFor, shifted, farthest, growing, farthestFor, monitored, narrower, narrowerOf, bandBefore, bandLimitFor, HasFace}
 use Rattle.paper.proofs.Logic.{le-or-lt, pick-true, pick-false}
 use Rattle.paper.proofs.Differences.{difference-is-pos, difference-is-negsuc, difference-times}
 use Rattle.paper.proofs.Roundings.{rounded-le, rounded-monotone, grid-monotone, lesser-rounded, greater-rounded}
@@ -66,11 +66,6 @@ bond-limit-is way b x p =
     ∙ ap (λ (n : ℕ). rounded way n (b .face)) same
 
 -- ---- a limit keeps order
-
--- a bond without a face value has no limits (17)
-abbrev pub HasFace : Kind → Type 0
-HasFace share = 0 < 1
-HasFace (bond b) = 0 < b .face
 
 pub limit-monotone : (way : Way) (kind : Kind) (st : Statics) → HasFace kind → KeepsOrder (limitFor way kind st)
 unfolding limitOf

@@ -15,7 +15,7 @@ use Rattle.paper.specs.Lists.{pick}
 use Rattle.paper.specs.Roundings.{Quotient}
 use Rattle.paper.specs.Least.{leastMultiple}
 use Rattle.paper.specs.Ranges.{validStatics}
-use Rattle.paper_desk.specs.Rates.{meetsRequirement, daysOf, minimumOf, covers, levelRate, AtLeastRoots, volatilePart, liquidPart, AtLeastRequired, HeldLeast}
+use Rattle.paper_desk.specs.Rates.{meetsRequirement, daysOf, minimumOf, covers, levelRate, AtLeastRoots, volatilePart, liquidPart, AtLeastRequired, HeldLeast, has, volatileNeed, liquidNeed, rootsWithin}
 use Rattle.paper.proofs.Logic.{not-true-and-false, and-left, and-right, and-both, le-or-lt, pick-true, pick-false}
 use Rattle.paper.proofs.Search.{Mono, multiple-holds, multiple-least, multiple-within-bound, multiple-is-multiple}
 use Rattle.paper_desk.proofs.Roots.{roots-covered, Floor, root-has-floor, no-room-over-sum, no-room-over-cross}
@@ -33,20 +33,6 @@ signed-test-is have need cross = go (le-or-lt need have)
         ≡ (leb need have && leb cross ((have - need) * (have - need)))
     go (inl h) = rw (le-ltb have need h, le-leb need have h, leb·zero)
     go (inr h) = rw (lt-ltb have need h, lt-leb need have h)
-
--- what a rate has, and what the requirement needs of it; both times rh_1²
-abbrev pub has : (rh1 v : ℕ) → ℕ
-has rh1 v = v * v * (rh1 * rh1)
-
-abbrev pub volatileNeed : (rh1 rh m tentative : ℕ) → ℕ
-volatileNeed rh1 rh m tentative = rh * (tentative * tentative) * (rh1 + m)
-
-abbrev pub liquidNeed : (rh1 rh liq : ℕ) → ℕ
-liquidNeed rh1 rh liq = rh * rh1 * (liq * liq)
-
--- √have ≥ √x + √y on whole numbers
-unfoldable pub rootsWithin : ℕ → ℕ → ℕ → Bool
-rootsWithin have x y = leb (x + y) have && leb (4 * x * y) ((have - (x + y)) * (have - (x + y)))
 
 pub meets-roots : (rh1 rh liq m tentative v : ℕ)
     → meetsRequirement rh1 rh liq tentative m v

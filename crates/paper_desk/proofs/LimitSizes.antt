@@ -16,10 +16,10 @@ use Rattle.paper.specs.declared.Way.{Way}
 use Rattle.paper.specs.declared.Moves.{Moves}
 use Rattle.paper.specs.declared.Term.{Term}
 use Rattle.paper.specs.Lists.{pick}
-use Rattle.paper.specs.Numbers.{oneInBp, coarsestGrid, yearInDayBp, priceMost, rateMost, divisorLeast, divisorMost, shiftMost, limitMost, termDaysMost, repoMost}
+use Rattle.paper.specs.Numbers.{oneInBp, coarsestGrid, yearInDayBp, priceMost, rateMost, limitMost, termDaysMost, repoMost}
 use Rattle.paper.specs.Roundings.{Quotient, rounded, roundedTo, grown}
 use Rattle.paper.specs.Ranges.{gridOf, isLimit, validLimits, validStatics, validTerm}
-use Rattle.paper_desk.specs.Limits.{limitOf, inward, shifted, rangeLimit, rangeOf, farthest, spread, monitored, narrower, narrowerOf, share, bandLimit, bandOf, deltaOf}
+use Rattle.paper_desk.specs.Limits.{limitOf, inward, shifted, rangeLimit, rangeOf, farthest, spread, monitored, narrower, narrowerOf, share, bandLimit, bandOf, deltaOf, LimitStatics}
 use Rattle.paper_desk.specs.Kept.{freshMost, deltaMost}
 use Rattle.paper.proofs.Logic.{not-true-and-false, and-left, and-right, and-both, order-trans}
 use Rattle.paper.proofs.Roundings.{rounded-le, rounded-ge}
@@ -27,13 +27,6 @@ pub use Rattle.paper_desk.proofs.KindLaws.{grid-in-range}
 use Rattle.paper_desk.proofs.KindLaws.{narrower-rounded, monitored-positive}
 
 -- ---- the statics that a limit is worked out in
-
-pub record LimitStatics (st : Statics) : Type 0 where
-  pub divisor-low : divisorLeast ≤ st .xpr
-  pub divisor-high : st .xpr ≤ divisorMost
-  pub shift-high : st .shift ≤ shiftMost
-  pub upper-high : st .pchmax ≤ rateMost
-  pub lower-high : st .pclmax ≤ rateMost
 
 pub valid-limit-statics : (st : Statics) → validStatics st ≡ true → LimitStatics st
 unfolding validStatics

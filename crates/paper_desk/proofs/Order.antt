@@ -10,7 +10,6 @@ use native.Mathlib.Nat.{le-trans, mul-le-mul, mul-le-mul-left, mul-le-mul-right}
 use native.Mathlib.Omega.{arith}
 use lib.Dec.{leb}
 use lib.IntN.{ℤ, pos, negsuc}
-use lib.Signed.{leZ}
 use borrow.Author.Tests.{leb-true, le-ltb}
 use Rattle.paper.specs.declared.Statics.{Statics}
 use Rattle.paper.specs.declared.Side.{Side}
@@ -23,22 +22,16 @@ use Rattle.paper.specs.Lists.{pick}
 use Rattle.paper.specs.Numbers.{oneInBp, yearInDayBp}
 use Rattle.paper.specs.Roundings.{Quotient, lesserOf, greaterOf, grown}
 use Rattle.paper.specs.Ranges.{gridOf, validStatics}
-use Rattle.paper_desk.specs.Rates.{daysOf, minimumOf, AtLeastRequired, HeldLeast}
-use Rattle.paper_desk.specs.Limits.{share, limitOf, inward, Inside, shifted, rangeLimit, farthest, spread, monitored, narrower, bandBefore, bandLimit, bandOf, crossed}
+use Rattle.paper_desk.specs.Rates.{daysOf, minimumOf, AtLeastRequired, HeldLeast, LevelsInOrder}
+use Rattle.paper_desk.specs.Limits.{share, limitOf, inward, Inside, shifted, rangeLimit, farthest, spread, monitored, narrower, bandBefore, bandLimit, bandOf, crossed, LimitStatics, Outward}
 use Rattle.paper_desk.specs.Sequences.{rangeAfter}
-use Rattle.paper_desk.specs.Sides.{limitOn, repoOn}
+use Rattle.paper_desk.specs.Sides.{limitOn, repoOn, PastZero}
 use Rattle.paper.proofs.Logic.{not-true-and-false, and-left, and-right}
 use Rattle.paper_desk.proofs.KindLaws.{limit-monotone, shifted-positive, band-positive}
-use Rattle.paper_desk.proofs.LimitSizes.{LimitStatics, limit-le, limit-ge}
-use Rattle.paper_desk.proofs.Bands.{Outward}
+use Rattle.paper_desk.proofs.LimitSizes.{limit-le, limit-ge}
 use Rattle.paper_desk.proofs.Level.{quotient-times-is}
 
 -- ---- the rates
-
--- a level and the next: no fewer days, and no lesser minimum
-pub record LevelsInOrder (st : Statics) (level next : ℕ) : Type 0 where
-  pub days : daysOf st level ≤ daysOf st next
-  pub minima : minimumOf st level ≤ minimumOf st next
 
 pub levels-in-order : (st : Statics) (i : ℕ) → validStatics st ≡ true → i < 2 → LevelsInOrder st (i + 1) (i + 1 + 1)
 unfolding validStatics daysOf minimumOf
@@ -146,11 +139,6 @@ moved-range-outward st Upper p s1 rate greater c l = omega (arith, range-outward
 moved-range-outward st Lower p s1 rate greater c l = omega (arith, range-outward st Lower p rate greater l)
 
 -- ---- the bands
-
--- a repo rate on the side's own side of 0: "RRcL ≤ 0 ≤ RRcH"
-abbrev pub PastZero : Side → (repo : ℤ) → Type 0
-PastZero Upper repo = leZ (pos 0) repo ≡ true
-PastZero Lower repo = leZ repo (pos 0) ≡ true
 
 grown-outward : (side : Side) (k : ℕ) (repo : ℤ) → PastZero side repo
     → Outward side (grown yearInDayBp k repo) yearInDayBp

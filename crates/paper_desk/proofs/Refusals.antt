@@ -18,7 +18,7 @@ use Rattle.paper.specs.declared.Verdict.{Verdict}
 use Rattle.paper.specs.declared.Verdict.the-variants.{Done, NoSuchId, AlreadyAdmitted, NoEmptySlot, AdmissionOutOfRange, DayNotAfter, OutOfRange, PriceOutOfRange, MoveTooLarge, BandCrossed, NotLive, NotMonitored, MovesUsedUp, SecondEarlier, NotAscending, BadLine, RowCrossed, NoFaceValue, NoEveningMove, OpenedTwice, BadFloat, CutShort, WrongLength, FieldOutOfRange, NoRoom}
 use Rattle.paper.specs.Lists.{pick, every}
 use Rattle.paper.specs.Verdicts.{numberOf, isDone, Naming, Check, firstNamed, firstOf, FirstAt, here, later, NoneApplies, none, also}
-use Rattle.paper_desk.specs.Desk.{Call, admit, evaluate, quote, move, read, openEvening, receive, admitChecks, evaluateChecks, quoteChecks, moveChecks, readChecks, openChecks, receiveChecks, checksOf, Outcome, saying, showing, alerting, alertsOn, judged, acceptedOf, step}
+use Rattle.paper_desk.specs.Desk.{Call, admit, evaluate, quote, move, read, openEvening, receive, admitChecks, evaluateChecks, quoteChecks, moveChecks, readChecks, openChecks, receiveChecks, checksOf, Outcome, saying, showing, alerting, alertsOn, judged, acceptedOf, step, refusals}
 use Rattle.paper.proofs.Logic.{not-true-and-false, and-left, and-right, pick-true, pick-false}
 
 -- ---- the first check that applies
@@ -86,10 +86,6 @@ given-is-first cs v n e =
 pub first-is-given : (cs : List Check) (v : Verdict) → FirstAt v cs → firstOf cs ≡ v
 unfolding firstOf
 first-is-given cs v f = first-is-named Done cs v f
-
--- every check names a refusal
-unfoldable pub refusals : List Check → Bool
-refusals cs = every (λ (c : Check). not (isDone (c .verdict))) cs
 
 -- where every check names a refusal, 0 is given exactly where none applies
 pub done-means-none-applies : (cs : List Check) → refusals cs ≡ true → isDone (firstOf cs) ≡ true → NoneApplies cs

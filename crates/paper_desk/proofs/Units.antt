@@ -16,6 +16,7 @@ use Rattle.paper.specs.Least.{least}
 use Rattle.paper.specs.Ranges.{within, withinZ, unsigned, gridOf, validGiven}
 use Rattle.paper.specs.Verdicts.{numberOf, isDone, firstOf}
 use Rattle.paper_desk.specs.Gateway.{gatewayChecks, gatewayAnswer}
+use Rattle.paper_desk.specs.Grid.{ceilingLog10}
 use Rattle.paper.proofs.Logic.{le-or-lt}
 use Rattle.paper.proofs.Search.{least-unique}
 
@@ -32,11 +33,6 @@ unsigned-within low high (negsuc n) h = go (leb low pastEvery)
     go : (b : Bool) → (b && leb pastEvery high) ≡ false
     go true = past
     go false = refl
-
--- "ceiling(log10 lot) + 2 decimals" of a rouble of 10^4 units: the least e with 10^e ≥ lot, and a grid of 10^(4 - (e +
--- 2)) units
-unfoldable pub ceilingLog10 : ℕ → ℕ
-ceilingLog10 lot = least 2 (λ e. leb lot (10 ^ e))
 
 pub grid-is-power-of-ten : (lot : ℕ) → lot ≤ 100 → gridOf lot ≡ 10 ^ (4 - (ceilingLog10 lot + 2))
 unfolding gridOf ceilingLog10

@@ -2,14 +2,14 @@
 use mathlib.Core.Path.{_≡_}
 use mathlib.Core.Logic.{_⊎_}
 use mathlib.Core.List.{List, [], _∷_}
-use Prim.Native.Nat.{ℕ, _+_, _-_, _*_, _≤_, _<_}
+use Prim.Native.Nat.{ℕ, suc, _+_, _-_, _*_, _≤_, _<_}
 use Rattle.paper.specs.declared.Model.{Model}
 use Rattle.paper.specs.declared.Admission.{Admission}
 use Rattle.paper.specs.Lists.{pick}
 use Rattle.paper.specs.Numbers.{oneInTenThousandths, oneInMillionths, millionthsInBp, oneInHundredths}
-use Rattle.paper.specs.Roundings.{Quotient, greaterOf, apart}
+use Rattle.paper.specs.Roundings.{Quotient, RoundedUp, greaterOf, apart}
 use Rattle.paper.specs.Ranges.{staticsOf, rateAt}
-use Rattle.paper_desk.specs.Rates.{modelOf, moveOf, weightOf, replacementWins}
+use Rattle.paper_desk.specs.Rates.{modelOf, Weighing, moveOf, weightOf, replacementWins, volatilityOf}
 use Rattle.paper_desk.specs.History.{Event, evaluatedOn, quotedAt, movedBy, opening, receipt}
 use Rattle.paper_desk.specs.Sequences.{Carries, carries}
 
@@ -39,6 +39,14 @@ nextSquare q x r replaced =
 -- the choice that the volatility's rule makes in an evaluation
 unfoldable pub choiceOf : Model → (b r last s : ℕ) → Choice
 choiceOf m b r last s = pick (replacementWins m b r last s) replaced (byWeight (weightOf m b r s))
+
+-- s was carried on n times by the volatility's rule, and x is the exact square by the same choices. Each time has its
+-- own weights and multiplier, its own last rate and a move that is rounded up
+pub data CarriedOn : (n s : ℕ) → Quotient → Type 0 where
+  begun : (s : ℕ) → CarriedOn 0 s (record { num = s * s; den = 1 })
+  once-more : {n s : ℕ} {x : Quotient} → CarriedOn n s x → (m : Model) (b last r : ℕ) (move : Quotient) → Weighing m
+      → RoundedUp r move
+      → CarriedOn (suc n) (volatilityOf m b r last s) (nextSquare (m .q) x move (choiceOf m b r last s))
 
 -- the exact square in square millionths: from the s of the admission, by the move of each accepted evaluation as it is,
 -- not rounded, and by the choice that the carried figure made in it. Quotes, moves, openings and receipts carry

@@ -1,3 +1,4 @@
+pub mod Grid
 pub mod Evaluation
 pub mod External
 pub mod Rates

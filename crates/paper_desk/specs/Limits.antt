@@ -1,7 +1,7 @@
 -- Document 01, "Ranges, bands, alerts, moves" (10.1, 11.2, 17.8, 18): the limits, rounded by (g); document 02, W-206
 -- (11.1): those of a bond. What the two kinds of security share is said over the kind. Assumes nothing.
 use mathlib.Core.Bool.{Bool, true, false}
-use Prim.Native.Nat.{ℕ, zero, suc, _+_, _-_, _*_, _≤_, min, max}
+use Prim.Native.Nat.{ℕ, zero, suc, _+_, _-_, _*_, _≤_, _<_, min, max}
 use lib.Dec.{ltb}
 use lib.IntN.{ℤ, pos, subℕ, _*ℤ_}
 use Rattle.paper.specs.declared.Statics.{Statics}
@@ -14,7 +14,7 @@ use Rattle.paper.specs.declared.Limits.{Limits}
 use Rattle.paper.specs.declared.Moves.{Moves}
 use Rattle.paper.specs.declared.Term.{Term}
 use Rattle.paper.specs.Lists.{pick}
-use Rattle.paper.specs.Numbers.{oneInBp, oneInHundredths, yearInDayBp, oneInPerCentHundredths}
+use Rattle.paper.specs.Numbers.{oneInBp, oneInHundredths, yearInDayBp, oneInPerCentHundredths, rateMost, divisorLeast, divisorMost, shiftMost}
 use Rattle.paper.specs.Roundings.{Quotient, halfUp, roundedTo, roundedZ, atLeastZero, lesserOf, greaterOf, grown}
 use Rattle.paper.specs.Ranges.{gridOf}
 
@@ -24,6 +24,19 @@ use Rattle.paper.specs.Ranges.{gridOf}
 pub data Kind : Type 0 where
   share : Kind
   bond : BondScale → Kind
+
+-- a bond without a face value has no limits (17)
+abbrev pub HasFace : Kind → Type 0
+HasFace share = 0 < 1
+HasFace (bond b) = 0 < b .face
+
+-- the statics that a limit is worked out in, within the ends that bound it
+pub record LimitStatics (st : Statics) : Type 0 where
+  pub divisor-low : divisorLeast ≤ st .xpr
+  pub divisor-high : st .xpr ≤ divisorMost
+  pub shift-high : st .shift ≤ shiftMost
+  pub upper-high : st .pchmax ≤ rateMost
+  pub lower-high : st .pclmax ≤ rateMost
 
 -- ---- a limit, rounded
 
@@ -40,6 +53,11 @@ inward Lower = Up
 abbrev pub Inside : Side → (limit : ℕ) → Quotient → Type 0
 Inside Upper limit x = limit * x .den ≤ x .num
 Inside Lower limit x = x .num ≤ limit * x .den
+
+-- x lies no farther in than y
+abbrev pub Outward : Side → (x y : ℕ) → Type 0
+Outward Upper x y = y ≤ x
+Outward Lower x y = x ≤ y
 
 -- W-206: "the grown price half up to a unit"
 abbrev pub grownPrice : Quotient → ℕ

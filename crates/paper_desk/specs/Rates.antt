@@ -99,12 +99,31 @@ meetsRequirement rh1 rh liq tentative m v =
     let A : ℤ = subℕ (v * v * (rh1 * rh1)) (rh * (tentative * tentative) * (rh1 + m) + rh * rh1 * (liq * liq)) in
     leZ (pos 0) A && leZ (pos (4 * (rh * rh) * (tentative * tentative) * (liq * liq) * rh1 * (rh1 + m))) (A *ℤ A)
 
+-- what a rate has, and what the requirement needs of it, both times rh_1²; proofs/Level compares them without signs
+abbrev pub has : (rh1 v : ℕ) → ℕ
+has rh1 v = v * v * (rh1 * rh1)
+
+abbrev pub volatileNeed : (rh1 rh m tentative : ℕ) → ℕ
+volatileNeed rh1 rh m tentative = rh * (tentative * tentative) * (rh1 + m)
+
+abbrev pub liquidNeed : (rh1 rh liq : ℕ) → ℕ
+liquidNeed rh1 rh liq = rh * rh1 * (liq * liq)
+
+-- √have ≥ √x + √y on whole numbers
+unfoldable pub rootsWithin : (have x y : ℕ) → Bool
+rootsWithin have x y = leb (x + y) have && leb (4 * x * y) ((have - (x + y)) * (have - (x + y)))
+
 -- rh_L and S_L_min of the levels 1, 2, 3
 unfoldable pub daysOf : Statics → (level : ℕ) → ℕ
 daysOf st level = pick (eqb level 1) (st .rh1) (pick (eqb level 2) (st .rh2) (st .rh3))
 
 unfoldable pub minimumOf : Statics → (level : ℕ) → ℕ
 minimumOf st level = pick (eqb level 1) (st .min1) (pick (eqb level 2) (st .min2) (st .min3))
+
+-- a level and the next: no fewer days, and no lesser minimum
+pub record LevelsInOrder (st : Statics) (level next : ℕ) : Type 0 where
+  pub days : daysOf st level ≤ daysOf st next
+  pub minima : minimumOf st level ≤ minimumOf st next
 
 -- whether a rate v covers the requirement of a level
 unfoldable pub covers : Statics → (tentative m level v : ℕ) → Bool

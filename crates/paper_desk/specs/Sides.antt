@@ -1,10 +1,12 @@
 -- What belongs to one side: its limit, its near second, its repo rate; and the other side. Which calls answer a
 -- record, and which are receipts of outside prices. The laws of proofs/PinnedLaws speak of them.
 -- It may use the kinds of src/lib.rt, delta and the calls of Desk. Assumes nothing.
+use mathlib.Core.Path.{_≡_}
 use mathlib.Core.Bool.{Bool, true, false}
 use Prim.Native.Nat.{ℕ}
-use lib.IntN.{ℤ}
+use lib.IntN.{ℤ, pos}
 use lib.ListN.{getD}
+use lib.Signed.{leZ}
 use Rattle.paper.specs.declared.Side.{Side}
 use Rattle.paper.specs.declared.Side.the-variants.{Upper, Lower}
 use Rattle.paper.specs.declared.Limits.{Limits}
@@ -33,6 +35,11 @@ nearSecondOn Lower n = n .bottom
 abbrev pub repoOn : Side → Term → ℤ
 repoOn Upper x = x .high
 repoOn Lower x = x .low
+
+-- a repo rate on the side's own side of 0: "RRcL ≤ 0 ≤ RRcH"
+abbrev pub PastZero : Side → (repo : ℤ) → Type 0
+PastZero Upper repo = leZ (pos 0) repo ≡ true
+PastZero Lower repo = leZ repo (pos 0) ≡ true
 
 -- the delta of a move: by the record's own P and S_1
 abbrev pub deltaFor : Record → ℕ

@@ -11,9 +11,10 @@ use Rattle.paper.specs.declared.Verdict.{Verdict}
 use Rattle.paper.specs.declared.Verdict.the-variants.{Done, OutOfRange, NotAscending}
 use Rattle.paper.specs.Lists.{pick, every}
 use Rattle.paper.specs.Verdicts.{numberOf, isDone, firstOf, FirstAt, here, later, NoneApplies, none, also, Exactly}
+use Rattle.paper_desk.specs.Desk.{refusals}
 use Rattle.paper_interest.specs.Interest.{maturitiesOf, inRange, inOrder, interestChecks, refusedInterest, acceptedInterest, interestAnswer}
 use Rattle.paper.proofs.Logic.{not-true, not-false, pick-true, pick-false}
-use Rattle.paper_desk.proofs.Refusals.{done-is, given-is-first, first-is-given, refusals, done-means-none-applies, none-applies-gives-done}
+use Rattle.paper_desk.proofs.Refusals.{done-is, given-is-first, first-is-given, done-means-none-applies, none-applies-gives-done}
 
 module _ (i : Interest) (numbers : List ℤ) where
   -- what is answered carries the first number that applies

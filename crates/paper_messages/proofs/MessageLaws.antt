@@ -14,8 +14,9 @@ use Rattle.paper.specs.declared.Verdict.the-variants.{Done}
 use Rattle.paper.specs.Lists.{pick, every}
 use Rattle.paper.specs.Ranges.{within}
 use Rattle.paper.specs.Verdicts.{firstOf, isDone, NoneApplies, none, also}
+use Rattle.paper_desk.specs.Desk.{refusals}
 use Rattle.paper.proofs.Logic.{and-left, and-right, and-false}
-use Rattle.paper_desk.proofs.Refusals.{done-is, done-means-none-applies, refusals}
+use Rattle.paper_desk.proofs.Refusals.{done-is, done-means-none-applies}
 use Rattle.paper_messages.specs.declared.Message.{Message}
 use Rattle.paper_messages.specs.declared.Heard.{Heard}
 use Rattle.paper_messages.specs.Bytes.{Bytes, bytesOf, spelled}

@@ -10,8 +10,9 @@ use Rattle.paper.specs.declared.Verdict.{Verdict}
 use Rattle.paper.specs.declared.Verdict.the-variants.{Done}
 use Rattle.paper.specs.Lists.{every}
 use Rattle.paper.specs.Verdicts.{Check, isDone, firstOf, FirstAt, NoneApplies, Exactly}
+use Rattle.paper_desk.specs.Desk.{refusals}
 use Rattle.paper.proofs.Logic.{pick-false}
-use Rattle.paper_desk.proofs.Refusals.{given-is-first, first-is-given, refusals, done-means-none-applies, none-applies-gives-done}
+use Rattle.paper_desk.proofs.Refusals.{given-is-first, first-is-given, done-means-none-applies, none-applies-gives-done}
 use Rattle.paper_messages.specs.declared.Message.{Message}
 use Rattle.paper_messages.specs.Messages.{writeChecks, wroteOf, written, readChecks, refusedHeard, heardAt}
 use Rattle.paper_messages.proofs.MessageLaws.{heard-verdict}

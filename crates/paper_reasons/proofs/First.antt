@@ -4,9 +4,9 @@ use mathlib.Core.Path.{_≡_, refl, sym, _∙_}
 use mathlib.Core.Logic.{_⊎_, ⊎-elim}
 use mathlib.Core.Bool.{Bool, true, false}
 use mathlib.Core.List.{List, [], _∷_}
-use Rattle.paper.specs.Verdicts.{Naming, FirstAt, here, later, NoneApplies, Exactly}
+use Rattle.paper.specs.Verdicts.{FirstAt, here, later, NoneApplies}
 use Rattle.paper_desk.proofs.Refusals.{named-is-first-or-otherwise, first-is-named}
-use Rattle.paper_reasons.specs.Reasons.{inOrder, firstThatHolds}
+use Rattle.paper_reasons.specs.Reasons.{inOrder, firstThatHolds, TrueReason}
 
 -- the condition of the first that applies holds
 pub first-holds : {A : Type 0} (holds : A → Bool) (order : List A) (v : A) → FirstAt v (inOrder holds order)
@@ -14,14 +14,7 @@ pub first-holds : {A : Type 0} (holds : A → Bool) (order : List A) (v : A) →
 first-holds holds (x ∷ xs) v (here e q) = rw e at q
 first-holds holds (x ∷ xs) v (later q rest) = first-holds holds xs v rest
 
--- WHAT IS NAMED IS THE TRUE REASON: each reason is named exactly when its condition holds and no earlier one's does;
--- the condition of the one named holds, and it is the only one so named
-pub record TrueReason {A : Type 0} (holds : A → Bool) (order : List A) (named : A) : Type 0 where
-  pub exactly : (v : A) → Exactly (named ≡ v) (FirstAt v (inOrder holds order))
-  pub condition : holds named ≡ true
-  pub only : (v : A) → FirstAt v (inOrder holds order) → v ≡ named
-
--- where the conditions leave out no case
+-- WHAT IS NAMED IS THE TRUE REASON, where the conditions leave out no case
 pub true-reason : {A : Type 0} (none : A) (holds : A → Bool) (order : List A)
     → (NoneApplies (inOrder holds order) → ⊥) → TrueReason holds order (firstThatHolds none holds order)
 true-reason {A} none holds order some =

@@ -1,5 +1,6 @@
 -- Document 02, W-207: which reason is named for each figure of an accepted evaluation. Each reason has its condition,
 -- in the words of document 01, and the first that holds is named. Assumes nothing.
+use mathlib.Core.Path.{_≡_}
 use mathlib.Core.Bool.{Bool, true, false, not, _&&_}
 use mathlib.Core.List.{List, [], _∷_}
 use Prim.Native.Nat.{ℕ, _+_, _/_}
@@ -12,7 +13,7 @@ use Rattle.paper.specs.Lists.{pick, some}
 use Rattle.paper.specs.Least.{leastMultiple}
 use Rattle.paper_desk.specs.Evaluation.{closeOf, bidOf, askOf, between}
 use Rattle.paper_desk.specs.Rates.{minimumOf, covers}
-use Rattle.paper.specs.Verdicts.{Naming, firstNamed}
+use Rattle.paper.specs.Verdicts.{Naming, firstNamed, FirstAt, Exactly}
 use Rattle.paper_reasons.specs.declared.PriceReason.{PriceReason}
 use Rattle.paper_reasons.specs.declared.PriceReason.the-variants as price
 use Rattle.paper_reasons.specs.declared.WeightReason.{WeightReason}
@@ -34,6 +35,13 @@ inOrder holds (x ∷ xs) = record { verdict = x; applies = holds x } ∷ inOrder
 -- the first whose condition holds, by the definition that the refusals have; `none` where none holds
 abbrev pub firstThatHolds : {A : Type 0} → (none : A) → (holds : A → Bool) → List A → A
 firstThatHolds none holds order = firstNamed none (inOrder holds order)
+
+-- WHAT IS NAMED IS THE TRUE REASON: each reason is named exactly when its condition holds and no earlier one's does;
+-- the condition of the one named holds, and it is the only one so named
+pub record TrueReason {A : Type 0} (holds : A → Bool) (order : List A) (named : A) : Type 0 where
+  pub exactly : (v : A) → Exactly (named ≡ v) (FirstAt v (inOrder holds order))
+  pub condition : holds named ≡ true
+  pub only : (v : A) → FirstAt v (inOrder holds order) → v ≡ named
 
 -- ---- the price (6.1)
 

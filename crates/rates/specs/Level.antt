@@ -8,8 +8,7 @@ use lib.Dec.{leb}
 use Rattle.paper.specs.declared.Statics.{Statics}
 use Rattle.paper.specs.Least.{least}
 use Rattle.paper.specs.Numbers.{rateMost, firstDaysMost, liquidityMost}
-use Rattle.paper_desk.specs.Rates.{daysOf, minimumOf}
-use Rattle.paper_desk.proofs.Level.{rootsWithin}
+use Rattle.paper_desk.specs.Rates.{daysOf, minimumOf, rootsWithin}
 use Rattle.rates.specs.declared.level.Level.{Level}
 use Rattle.rates.specs.Asked.{tentativeBound}
 

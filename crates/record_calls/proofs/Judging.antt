@@ -23,9 +23,9 @@ use Rattle.paper_desk.specs.External.{Told, hasNone, isBad, unitsMade}
 use Rattle.paper_desk.specs.Limits.{countOf}
 use Rattle.paper_desk.specs.Evening.{isEvening, moveAllowed}
 use Rattle.paper.specs.Verdicts.{isDone, Check, firstOf, NoneApplies, none, also}
-use Rattle.paper_desk.specs.Desk.{saying, showing, admitted, quoted, alertsOn, moved, eveningOpened, received, quoteChecks, moveChecks, openChecks, receiveChecks}
+use Rattle.paper_desk.specs.Desk.{saying, showing, admitted, quoted, alertsOn, moved, eveningOpened, received, quoteChecks, moveChecks, openChecks, receiveChecks, refusals}
 use Rattle.paper.proofs.Logic.{not-true-and-false, and-right, not-false, pick-false, and-left}
-use Rattle.paper_desk.proofs.Refusals.{refusals, done-means-none-applies}
+use Rattle.paper_desk.proofs.Refusals.{done-means-none-applies}
 use Rattle.record_soundness.proofs.Facts.{sound-facts}
 use Rattle.record_answers.specs.declared.Slot.{Slot}
 use Rattle.record_answers.specs.declared.Effect.{Effect}

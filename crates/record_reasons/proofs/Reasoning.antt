@@ -23,10 +23,10 @@ use Rattle.paper_desk.specs.Evaluation.{roublesOf, weights, rowFits, evaluation
 use Rattle.paper_desk.specs.Rates.{moveTooLarge, levelRate, modelled, figuresOf}
 use Rattle.paper.specs.Numbers.{volatilityMost, aheadMost}
 use Rattle.paper.specs.Verdicts.{isDone, firstOf, NoneApplies, none, also}
-use Rattle.paper_desk.specs.Desk.{usedBy, priceOn, moveOn, figuresOn, evaluated, evaluateChecks}
+use Rattle.paper_desk.specs.Desk.{usedBy, priceOn, moveOn, figuresOn, evaluated, evaluateChecks, refusals}
 use Rattle.paper.proofs.Logic.{not-true-and-false, and-left, and-right, and-false, not-false, pick-true, pick-false}
 use Rattle.paper_desk.proofs.TentativeRange.{valid-tentative-within-top, modelled-stays}
-use Rattle.paper_desk.proofs.Refusals.{refusals, done-means-none-applies}
+use Rattle.paper_desk.proofs.Refusals.{done-means-none-applies}
 use Rattle.evaluation.specs.declared.PriceFigures.{PriceFigures}
 use Rattle.evaluation.specs.Evaluation.{priceFigures, pricedOf}
 use Rattle.record_soundness.proofs.Facts.{sound-facts}

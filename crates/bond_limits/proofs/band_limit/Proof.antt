@@ -4,8 +4,8 @@ use mathlib.Core.Path.{_≡_, sym, _∙_}
 use native.Mathlib.Omega.{arith}
 use mir.Facts.{toZ-ofZ}
 use borrow.Author.Needs.{needs}
-use Rattle.paper_desk.specs.Limits.{bond, inward, bondLimitOf, growing, farthest}
-use Rattle.paper_desk.proofs.LimitSizes.{LimitStatics, valid-limit-statics}
+use Rattle.paper_desk.specs.Limits.{bond, inward, bondLimitOf, growing, farthest, LimitStatics}
+use Rattle.paper_desk.proofs.LimitSizes.{valid-limit-statics}
 use Rattle.paper_desk.proofs.KindLaws.{band-monitored, band-unmonitored}
 use Rattle.limits.specs.LimitLaws.{farthest-high}
 use Rattle.bond_limits.proofs.Sizes.{farthest-is-shifted}

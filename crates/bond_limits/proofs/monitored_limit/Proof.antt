@@ -4,8 +4,8 @@ use mathlib.Core.Path.{_≡_}
 use native.Mathlib.Omega.{arith}
 use mir.Facts.{toZ-ofZ}
 use borrow.Author.Needs.{needs}
-use Rattle.paper_desk.specs.Limits.{monitored}
-use Rattle.paper_desk.proofs.LimitSizes.{LimitStatics, valid-limit-statics}
+use Rattle.paper_desk.specs.Limits.{monitored, LimitStatics}
+use Rattle.paper_desk.proofs.LimitSizes.{valid-limit-statics}
 use Rattle.bond_limits.proofs.Sizes.{spread-product-high, spread-grows}
 use Rattle.bond_limits.proofs.monitored_limit.Statement.{statement}
 use Rattle.bond_limits.proofs.monitored_limit.Tie as tie

@@ -5,7 +5,7 @@ use native.Mathlib.Nat.{mul-le-mul, le-trans}
 use native.Mathlib.Omega.{arith}
 use borrow.Author.Needs.{needs}
 use borrow.Author.Tests.{lt-leb, le-leb}
-use Rattle.paper_desk.proofs.Level.{rootsWithin}
+use Rattle.paper_desk.specs.Rates.{rootsWithin}
 use Rattle.rates.specs.Level.{reaches, reachMost}
 use Rattle.rates.proofs.Reach.{four-products-below-square}
 use Rattle.rates.proofs.level.reaches.Statement.{statement}
