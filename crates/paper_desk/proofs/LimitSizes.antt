@@ -118,7 +118,7 @@ range-valid st p rate h l = and-both _ _ (one Lower) (one Upper)
 
 -- ---- a band limit: at most twice the greatest price, whatever the moves
 
--- a term's days at less than the whole each bring a year to at most 3,950,000
+-- a term's days at less than 10,000 bp each bring a year to at most 3,950,000
 grown-high : (k : ℕ) (x : ℤ) → k ≤ termDaysMost → leZ x repoMost ≡ true
     → grown yearInDayBp k x ≤ yearInDayBp + termDaysMost * oneInBp
 unfolding grown

@@ -306,7 +306,7 @@ known t id = validSlots (length t) && stands t id && sound (found t id)
 
 pub data Call : Type 0 where
   admit : Admission → Call
-  evaluate : (id : ℕ) → Day → List ℤ → Call
+  evaluate : (id : ℕ) → Day → (rows : List ℤ) → Call
   quote : (id : ℕ) → Quote → Call
   move : (id : ℕ) → (side : ℕ) → Call
   read : (id : ℕ) → Call

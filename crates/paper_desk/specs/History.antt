@@ -27,7 +27,7 @@ pub record FreshTable (t : List Record) : Type 0 where
 -- an accepted call that writes: an evaluation with its day and rows, a quote, a move of a side, the opening of the
 -- evening, or a receipt of outside prices
 pub data Event : Type 0 where
-  evaluatedOn : Day → List ℤ → Event
+  evaluatedOn : Day → (rows : List ℤ) → Event
   quotedAt : Quote → Event
   movedBy : Side → Event
   opening : Event

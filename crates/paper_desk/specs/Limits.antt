@@ -116,7 +116,7 @@ monitored st p s1 k repo c side =
     growing k repo (record { num = p * spread st side s1 c; den = oneInBp * st .xpr })
 
 -- "the upper is the lesser of that and ..; the lower the greater of that and .."
-unfoldable pub narrower : Side → Quotient → Quotient → Quotient
+unfoldable pub narrower : Side → (x y : Quotient) → Quotient
 narrower Upper x y = lesserOf x y
 narrower Lower x y = greaterOf x y
 
@@ -140,7 +140,7 @@ unfoldable pub bandLimit : Statics → (p s1 k : ℕ) → (repo : ℤ) → (c : 
 bandLimit st p s1 k repo c side = bandLimitFor share st p s1 k repo c side
 
 -- a term's band, from its limits: "c the moves of that side since the evaluation"
-abbrev pub bandBy : ((k : ℕ) → ℤ → (c : ℕ) → Side → ℕ) → Moves → Term → Limits
+abbrev pub bandBy : (limit : (k : ℕ) → (repo : ℤ) → (c : ℕ) → Side → ℕ) → Moves → Term → Limits
 bandBy limit c x =
     record { lower = limit (x .k) (x .low) (c .lower) Lower; upper = limit (x .k) (x .high) (c .upper) Upper }
 

@@ -222,11 +222,11 @@ evaluated-records =
     -- "Monitoring yes: the upper is the lesser of that ..; the lower the greater": S_1 within the maxima, and past them
     ∷ bandOf0 (evaluatedAt (zRecord but (ewmaAt, pos 0)) 1000000)
     ∷ bandOf0 (evaluatedAt (zRecord but (ewmaAt, pos 0) but (pchmaxAt, pos 100) but (pclmaxAt, pos 200)) 1000000)
-    -- "P·max(0, 1 - e·S_1/x_pr)": with c 50 nothing is left but P·(1 - PcL_max); with PcL_max the whole, 0
+    -- "P·max(0, 1 - e·S_1/x_pr)": with c 50 nothing is left but P·(1 - PcL_max); with PcL_max 10,000 bp, 0
     ∷ (bandLimit (staticsBut zNumbers) 1000000 800 0 (pos 0) 50 Lower
     ∷ bandLimit (staticsBut (zNumbers but (pclmaxAt, pos 10000))) 1000000 800 0 (pos 0) 50 Lower
     ∷ [])
-    -- "Range of level L: P·(1 ± S_L).", S_L the whole; half up to the grid
+    -- "Range of level L: P·(1 ± S_L).", S_L 10,000 bp; half up to the grid
     ∷ (rangeLimit (staticsBut zNumbers) 1000000 10000 Lower
     ∷ rangeLimit (staticsBut zNumbers) 1000000 10000 Upper
     ∷ rangeLimit (staticsBut zNumbers) 1050 100 Upper

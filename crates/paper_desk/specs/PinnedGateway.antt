@@ -145,7 +145,7 @@ unfolding range case1Range triedAt zNumbers
 ranges =
     -- the side: case 3's upper and lower limit, 2, below 0
     triedAt (range zNumbers) case1Range 2 (pos 0 ∷ pos 1 ∷ pos 2 ∷ negsuc 0 ∷ [])
-    -- the rate: below 0, 0, no multiple of h, the whole, one more
+    -- the rate: below 0, 0, no multiple of h, 10,000 bp, one more
     ∷ triedAt (range zNumbers) case1Range 1 (negsuc 0 ∷ pos 0 ∷ pos 850 ∷ pos 10000 ∷ pos 10001 ∷ [])
     -- P on the grid 10: 0, the least, the greatest, a step more; off the grid; below 0
     ∷ triedAt (range zNumbers) case1Range 0
@@ -185,7 +185,7 @@ bands =
     ∷ triedAt (band zNumbers) (roundBand but (repoAt, pos 3650)) kAt (negsuc 0 ∷ pos 0 ∷ pos 30 ∷ pos 31 ∷ [])
     -- c with S_1 100: below 0, 0, the most, one more
     ∷ triedAt (band zNumbers) (roundBand but (s1At, pos 100)) cAt (negsuc 0 ∷ pos 0 ∷ pos 50 ∷ pos 51 ∷ [])
-    -- S_1 with PcH_max 10,000: below 0, 0, the whole, one more
+    -- S_1 with PcH_max 10,000: below 0, 0, 10,000 bp, one more
     ∷ triedAt (band (zNumbers but (pchmaxAt, pos 10000))) roundBand s1At (negsuc 0 ∷ pos 0 ∷ pos 10000 ∷ pos 10001 ∷ [])
     -- P: 0, the least, the greatest, a step more; off the grid
     ∷ triedAt (band zNumbers) roundBand 0 (pos 0 ∷ pos 10 ∷ pos 10000000000 ∷ pos 10000000010 ∷ pos 1000005 ∷ [])

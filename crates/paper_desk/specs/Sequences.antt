@@ -104,7 +104,7 @@ lastEvaluated (movedBy side ∷ es) = lastEvaluated es
 lastEvaluated (opening ∷ es) = lastEvaluated es
 lastEvaluated (receipt x ∷ es) = lastEvaluated es
 
-abbrev pub sameSide : Side → Side → Bool
+abbrev pub sameSide : (x y : Side) → Bool
 sameSide Upper Upper = true
 sameSide Upper Lower = false
 sameSide Lower Upper = false

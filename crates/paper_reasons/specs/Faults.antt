@@ -41,7 +41,7 @@ outOfRange d rows =
     ++ termsAtFault (λ k. not (validTerm (termAt (d .terms) k)))
 
 -- whether two verdicts have one number
-unfoldable pub isSame : Verdict → Verdict → Bool
+unfoldable pub isSame : (v w : Verdict) → Bool
 isSame v w = eqb (numberOf v) (numberOf w)
 
 -- what may be at fault in a refusal, rows before terms. 16: "the first crossed row"; 7: "the first row whose rounded
