@@ -14,8 +14,9 @@ use Rattle.paper_desk.specs.History.{Event, evaluatedOn, quotedAt, movedBy, ope
 use Rattle.paper_desk.specs.Sequences.{carries, LastDay, noDay, onDay, lastEvaluated, movesOf, bandNow}
 use Rattle.paper_desk.proofs.LimitSizes.{valid-limit-statics}
 use Rattle.paper_desk.proofs.Bands.{evaluated-uncrossed, moved-not-crossed}
+use Rattle.paper_desk.proofs.PinnedLaws.{three-gives-each}
 use Rattle.demands.proofs.Histories.{after, recordOf, eventChecks, Lawful}
-use Rattle.demands.proofs.Sequences.{three-gives-each, one-more-noted, lawful-figures, lawful-statics}
+use Rattle.demands.proofs.Sequences.{one-more-noted, lawful-figures, lawful-statics}
 
 -- a move keeps what the definitions give uncrossed
 now-uncrossed : (a : Admission) (es : List Event) (side : Side) (x : LastDay) (k : ℕ)

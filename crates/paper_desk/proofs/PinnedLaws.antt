@@ -48,11 +48,11 @@ and-no true = refl
 and-no false = refl
 
 -- each of three is what is made for its place
-three-at : {A : Type 0} (f : ℕ → A) (default : A) (i : ℕ) → i < 3 → getD (three f) i default ≡ f i
-three-at f default zero l = refl
-three-at f default (suc zero) l = refl
-three-at f default (suc (suc zero)) l = refl
-three-at f default (suc (suc (suc i))) l = absurd (omega arith)
+pub three-gives-each : {A : Type 0} (f : ℕ → A) (default : A) (i : ℕ) → i < 3 → getD (three f) i default ≡ f i
+three-gives-each f default zero l = refl
+three-gives-each f default (suc zero) l = refl
+three-gives-each f default (suc (suc zero)) l = refl
+three-gives-each f default (suc (suc (suc i))) l = absurd (omega arith)
 
 -- ---- near sides and alerts
 
@@ -124,7 +124,7 @@ move-leaves-count r Lower = refl
 range-after : (r : Record) (side : Side) (i : ℕ) → i < 3
     → getD (moved r side .ranges) i noLimits ≡ rangeMoved side (deltaFor r) (getD (r .ranges) i noLimits)
 unfolding moved
-range-after r side i l = three-at (λ i. rangeMoved side (deltaFor r) (getD (r .ranges) i noLimits)) noLimits i l
+range-after r side i l = three-gives-each (λ i. rangeMoved side (deltaFor r) (getD (r .ranges) i noLimits)) noLimits i l
 
 band-after : (r : Record) (side : Side) (k : ℕ) → k < 3
     → getD (moved r side .bands) k noLimits
@@ -133,7 +133,7 @@ band-after : (r : Record) (side : Side) (k : ℕ) → k < 3
     (getD (r .bands) k noLimits)
 unfolding moved
 band-after r side k l =
-    three-at
+    three-gives-each
     (λ k. bandMoved side
     (bandOf (r .statics) (r .p1 .units) (rateAt (r .rates) 0) (oneMore side (r .moves)) (termAt (r .terms) k))
     (getD (r .bands) k noLimits))
@@ -142,7 +142,7 @@ band-after r side k l =
 near-after : (r : Record) (side : Side) (k : ℕ) → k < 3
     → getD (moved r side .near) k notNear ≡ nearCleared side (getD (r .near) k notNear)
 unfolding moved
-near-after r side k l = three-at (λ k. nearCleared side (getD (r .near) k notNear)) notNear k l
+near-after r side k l = three-gives-each (λ k. nearCleared side (getD (r .near) k notNear)) notNear k l
 
 -- "remakes that side's three band limits": by one move more of that side
 pub move-remakes : (r : Record) (side : Side) (k : ℕ) → k < 3
