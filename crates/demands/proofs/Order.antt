@@ -31,7 +31,7 @@ use Rattle.paper_desk.specs.Desk.{Call, admit, evaluate, quote, move, read, ope
 use Rattle.paper_desk.specs.History.{FreshTable, Event, isAdmission}
 use Rattle.paper_desk.specs.Sequences.{LastDay, noDay, onDay, lastEvaluated, standingNow, termNow, rangeAfter, rangeNow, bandNow}
 use Rattle.demands.specs.Demands.{FiguresHold, RatesHold, BandsInOrder}
-use Rattle.demands.specs.Order.{ascending, rangeAt, bandAt, ratesOf, rangesAround, holdsZero, atMost, slotAt, HoldsLive, InOrder}
+use Rattle.demands.specs.Order.{neverFalls, rangeAt, bandAt, ratesOf, rangesAround, holdsZero, atMost, slotAt, HoldsLive, InOrder}
 use Rattle.paper.proofs.Logic.{not-true-and-false, and-left, and-right, and-both, each-of-three}
 use Rattle.paper_desk.proofs.LimitSizes.{valid-limit-statics}
 use Rattle.paper_desk.proofs.Level.{stepping}
@@ -97,15 +97,15 @@ record Between (st : Statics) (level rate : ℕ) : Type 0 where
   high : rate ≤ st .smax
   multiple : rate % st .h ≡ 0
 
--- numbers that ascend: the last of them, and one more before them
-one-is-ascending : (x : ℕ) → ascending (x ∷ []) ≡ true
-unfolding ascending
-one-is-ascending x = refl
+-- numbers that never fall: the last of them, and one more before them
+one-never-falls : (x : ℕ) → neverFalls (x ∷ []) ≡ true
+unfolding neverFalls
+one-never-falls x = refl
 
-lesser-first-is-ascending : (x y : ℕ) (rest : List ℕ) → x ≤ y → ascending (y ∷ rest) ≡ true
-    → ascending (x ∷ y ∷ rest) ≡ true
-unfolding ascending
-lesser-first-is-ascending x y rest l v = and-both (leb x y) (ascending (y ∷ rest)) (le-leb x y l) v
+lesser-first-never-falls : (x y : ℕ) (rest : List ℕ) → x ≤ y → neverFalls (y ∷ rest) ≡ true
+    → neverFalls (x ∷ y ∷ rest) ≡ true
+unfolding neverFalls
+lesser-first-never-falls x y rest l v = and-both (leb x y) (neverFalls (y ∷ rest)) (le-leb x y l) v
 
 module _ (r : Record) (m : ℕ) (w : Worked r m) where
   on-grid : r .p1 .units % gridOf (r .statics .lot) ≡ 0
@@ -129,10 +129,10 @@ module _ (r : Record) (m : ℕ) (w : Worked r m) where
             w .rates .minima off (i + 1) (omega arith),
           )
 
-  rates-in-order : ascending (ratesOf r) ≡ true
+  rates-in-order : neverFalls (ratesOf r) ≡ true
   rates-in-order =
-      lesser-first-is-ascending _ _ _ (next-rate-not-less 0 (omega arith))
-      (lesser-first-is-ascending _ _ _ (next-rate-not-less 1 (omega arith)) (one-is-ascending _))
+      lesser-first-never-falls _ _ _ (next-rate-not-less 0 (omega arith))
+      (lesser-first-never-falls _ _ _ (next-rate-not-less 1 (omega arith)) (one-never-falls _))
 
   rate-between : (i : ℕ) → i < 3 → Between (r .statics) (i + 1) (rateAt (r .rates) i)
   rate-between i l = go (r .statics .ewma) refl
@@ -159,14 +159,14 @@ module _ (r : Record) (m : ℕ) (w : Worked r m) where
       (moved-range-around (r .statics) side (r .p1 .units) (rateAt (r .rates) 0) (rateAt (r .rates) 0) (r .moves)
       on-grid)
 
-  ranges-in-order : ascending (rangesAround r) ≡ true
+  ranges-in-order : neverFalls (rangesAround r) ≡ true
   ranges-in-order =
-      lesser-first-is-ascending _ _ _ (next-range-outward Lower 1 (omega arith))
-      (lesser-first-is-ascending _ _ _ (next-range-outward Lower 0 (omega arith))
-      (lesser-first-is-ascending _ _ _ (first-range-around Lower)
-      (lesser-first-is-ascending _ _ _ (first-range-around Upper)
-      (lesser-first-is-ascending _ _ _ (next-range-outward Upper 0 (omega arith))
-      (lesser-first-is-ascending _ _ _ (next-range-outward Upper 1 (omega arith)) (one-is-ascending _))))))
+      lesser-first-never-falls _ _ _ (next-range-outward Lower 1 (omega arith))
+      (lesser-first-never-falls _ _ _ (next-range-outward Lower 0 (omega arith))
+      (lesser-first-never-falls _ _ _ (first-range-around Lower)
+      (lesser-first-never-falls _ _ _ (first-range-around Upper)
+      (lesser-first-never-falls _ _ _ (next-range-outward Upper 0 (omega arith))
+      (lesser-first-never-falls _ _ _ (next-range-outward Upper 1 (omega arith)) (one-never-falls _))))))
 
   -- the evaluation lies on the inner side of each limit
   band-holds-price : (k : ℕ) → k < 3 → holdsZero (termAt (r .terms) k) ≡ true

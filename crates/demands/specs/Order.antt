@@ -22,11 +22,11 @@ use Rattle.demands.specs.Demands.{BandsInOrder}
 
 -- ---- the words
 
--- each number is at most the one behind it
-unfoldable pub ascending : List ℕ → Bool
-ascending [] = true
-ascending (x ∷ []) = true
-ascending (x ∷ y ∷ rest) = leb x y && ascending (y ∷ rest)
+-- "ascend": each number is at most the one behind it, and two may be equal
+unfoldable pub neverFalls : (numbers : List ℕ) → Bool
+neverFalls [] = true
+neverFalls (x ∷ []) = true
+neverFalls (x ∷ y ∷ rest) = leb x y && neverFalls (y ∷ rest)
 
 -- the range of the level i + 1, and the band of a term
 abbrev pub rangeAt : Record → (i : ℕ) → Limits
@@ -70,12 +70,12 @@ pub record HoldsLive (t : List Record) (slot : ℕ) : Type 0 where
 -- of the live record r in a slot of the table t
 pub record InOrder (t : List Record) (slot : ℕ) (r : Record) : Type 0 where
   -- "the three rates ascend, lie between minimum and maximum and are multiples of h": the minimum of its own level
-  pub rates-ascend : ascending (ratesOf r) ≡ true
+  pub rates-ascend : neverFalls (ratesOf r) ≡ true
   pub rates-between : (i : ℕ) → i < 3
       → within (minimumOf (r .statics) (i + 1)) (r .statics .smax) (rateAt (r .rates) i) ≡ true
   pub rates-multiples : (i : ℕ) → i < 3 → rateAt (r .rates) i % r .statics .h ≡ 0
   -- "lower ranges 3, 2, 1, the evaluation, and upper ranges 1, 2, 3 ascend"
-  pub ranges-ascend : ascending (rangesAround r) ≡ true
+  pub ranges-ascend : neverFalls (rangesAround r) ≡ true
   -- "each band's lower limit isn't above its upper"
   pub bands : BandsInOrder r
   -- "Where RRcL ≤ 0 ≤ RRcH for a term, the evaluation lies within that term's band."

@@ -22,7 +22,7 @@ use Rattle.paper_desk.specs.Desk.{admit, evaluate, move, read, openEvening, noM
 use Rattle.paper_desk.specs.Sequences.{rangeAfter}
 use Rattle.paper.specs.PinnedValues.{_but_, lotAt, minimaAt, pchmaxAt, pclmaxAt, ewmaAt, givenFrom, admissionFrom, dayFrom, zNumbers}
 use Rattle.paper_desk.specs.PinnedSequence.{answers, numbers, slots}
-use Rattle.demands.specs.Order.{ascending, bandAt, rangesAround, slotAt}
+use Rattle.demands.specs.Order.{neverFalls, bandAt, rangesAround, slotAt}
 
 -- the statics that a row of numbers spells; the places of rh_1 to rh_3, x_pr and shift in it
 staticsFrom : (xs : List ℤ) → Statics
@@ -97,9 +97,9 @@ upperRangesWith st = map (λ (rate : ℕ). rangeOf st 1000000 rate .upper) (rate
 
 -- rh_3 of 4 days below the 5 of rh_2: 650·sqrt(2/2) is 650, 650·sqrt(5/2) 1,027.8 and 650·sqrt(4/2) 919.3
 pub days-order-needed : (validStatics (withDays 4) ≡ false)
-    × (ratesWith (withDays 4) ≡ 700 ∷ 1100 ∷ 1000 ∷ []) × (ascending (ratesWith (withDays 4)) ≡ false)
+    × (ratesWith (withDays 4) ≡ 700 ∷ 1100 ∷ 1000 ∷ []) × (neverFalls (ratesWith (withDays 4)) ≡ false)
     × (upperRangesWith (withDays 4) ≡ 1070000 ∷ 1110000 ∷ 1100000 ∷ [])
-unfolding withDays ratesWith upperRangesWith ascending
+unfolding withDays ratesWith upperRangesWith neverFalls
 days-order-needed = (refl, refl, refl, refl)
 
 -- at 5 days the statics are in range, so that nothing else was wrong with them
@@ -109,8 +109,8 @@ days-in-order = (refl, refl)
 
 -- S_3_min of 600 below the 700 of S_2_min, and both again in order
 pub minima-order-needed : (validStatics (withMinimum 600) ≡ false)
-    × (ratesWith (withMinimum 600) ≡ 500 ∷ 700 ∷ 600 ∷ []) × (ascending (ratesWith (withMinimum 600)) ≡ false)
-unfolding withMinimum ratesWith ascending
+    × (ratesWith (withMinimum 600) ≡ 500 ∷ 700 ∷ 600 ∷ []) × (neverFalls (ratesWith (withMinimum 600)) ≡ false)
+unfolding withMinimum ratesWith neverFalls
 minima-order-needed = (refl, refl, refl)
 
 pub minima-in-order : (validStatics (withMinimum 700) ≡ true) × (ratesWith (withMinimum 700) ≡ 500 ∷ 700 ∷ 700 ∷ [])
