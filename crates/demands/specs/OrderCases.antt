@@ -20,7 +20,7 @@ use Rattle.paper_desk.specs.Rates.{figuresOf}
 use Rattle.paper_desk.specs.Limits.{rangeOf, bandOf}
 use Rattle.paper_desk.specs.Desk.{admit, evaluate, move, read, openEvening, noMoves, admitted, evaluated, run}
 use Rattle.paper_desk.specs.Sequences.{rangeAfter}
-use Rattle.paper.specs.PinnedValues.{_but_, lotAt, minimaAt, pchmaxAt, pclmaxAt, ewmaAt, givenFrom, admissionFrom, dayFrom, zNumbers}
+use Rattle.paper.specs.PinnedValues.{_but_, lotAt, minimaAt, pchmaxAt, pclmaxAt, monitoringAt, ewmaAt, givenFrom, admissionFrom, dayFrom, zNumbers}
 use Rattle.paper_desk.specs.PinnedSequence.{answers, numbers, slots}
 use Rattle.demands.specs.Order.{neverFalls, bandAt, rangesAround, slotAt}
 
@@ -131,30 +131,42 @@ maximum-in-order = (refl, refl)
 
 -- ---- the ranges and the bands hold the evaluation by the grid
 
--- Z with lot 1, so that the grid is 100 units, and PcH_max and PcL_max 0
-pub coarse : Statics
+-- Z with lot 1, so that the grid is 100 units, Monitoring no or yes, a PcH_max and PcL_max 0
+pub coarse : (monitoring pchmax : ℕ) → Statics
 unfolding zNumbers staticsFrom
-coarse = staticsFrom (zNumbers but (lotAt, pos 1) but (pchmaxAt, pos 0) but (pclmaxAt, pos 0))
+coarse monitoring pchmax =
+    staticsFrom
+    (zNumbers but (lotAt, pos 1) but (monitoringAt, pos monitoring) but (pchmaxAt, pos pchmax) but (pclmaxAt, pos 0))
 
--- the lower limit, the price and the upper limit of the range at a rate of 0, and of the band of a term of no days
+-- the lower limit, the price and the upper limit of the range at a rate of 0, and of the band of a term of no days,
+-- whose repo limits are 0
 pub rangeAround : (p : ℕ) → List ℕ
 unfolding coarse answers
-rangeAround p = let x : Limits = rangeOf coarse p 0 in x .lower ∷ p ∷ x .upper ∷ []
+rangeAround p = let x : Limits = rangeOf (coarse 1 0) p 0 in x .lower ∷ p ∷ x .upper ∷ []
 
-pub bandAround : (p : ℕ) → List ℕ
+pub bandAround : (monitoring pchmax p : ℕ) → List ℕ
 unfolding coarse answers
-bandAround p = let x : Limits = bandOf coarse p 0 noMoves noTerm in x .lower ∷ p ∷ x .upper ∷ []
+bandAround monitoring pchmax p =
+    let x : Limits = bandOf (coarse monitoring pchmax) p 0 noMoves noTerm in x .lower ∷ p ∷ x .upper ∷ []
 
--- a range limit passes 149 and 150, which are no multiples of 100, and not 200; a band's limits leave 150 out, and
--- are crossed besides
+-- a range limit passes 149 and 150, which are no multiples of 100. With Monitoring no and PcH_max 5,000 the band goes
+-- from 150 up, to 200, to 225 down, to 200: it is not crossed, so that 9 would not refuse it, and leaves 150 out
 pub grid-needed : (rangeAround 149 ≡ 100 ∷ 149 ∷ 100 ∷ []) × (rangeAround 150 ≡ 200 ∷ 150 ∷ 200 ∷ [])
-    × (bandAround 150 ≡ 200 ∷ 150 ∷ 100 ∷ [])
+    × (bandAround 0 5000 150 ≡ 200 ∷ 150 ∷ 200 ∷ [])
 unfolding rangeAround bandAround
 grid-needed = (refl, refl, refl)
 
-pub on-the-grid : (rangeAround 200 ≡ 200 ∷ 200 ∷ 200 ∷ []) × (bandAround 200 ≡ 200 ∷ 200 ∷ 200 ∷ [])
-unfolding rangeAround bandAround
-on-the-grid = (refl, refl)
+-- with PcH_max 0 the band of 150 is crossed: without the grid a term with 0 between its repo limits would need 9 too
+pub grid-needed-for-bands : bandAround 1 0 150 ≡ 200 ∷ 150 ∷ 100 ∷ []
+unfolding bandAround
+grid-needed-for-bands = refl
+
+-- the statics are in range, and no limit passes 200, which is on the grid
+pub on-the-grid : (validStatics (coarse 1 0) ≡ true) × (validStatics (coarse 0 5000) ≡ true)
+    × (rangeAround 200 ≡ 200 ∷ 200 ∷ 200 ∷ []) × (bandAround 1 0 200 ≡ 200 ∷ 200 ∷ 200 ∷ [])
+    × (bandAround 0 5000 200 ≡ 200 ∷ 200 ∷ 300 ∷ [])
+unfolding coarse rangeAround bandAround
+on-the-grid = (refl, refl, refl, refl, refl)
 
 -- ---- the bands are in order by the refusal 9, and hold the evaluation where 0 lies between their repo limits
 
