@@ -146,7 +146,7 @@ const BID: [bool; 2] = [true, false];
 const ASK: [bool; 2] = [false, true];
 const BOTH: [bool; 2] = [true, true];
 
-const CALLS: [Edge<SeenCall>; 36] = [
+const CALLS: [Edge<SeenCall>; 41] = [
     ("a pair, nothing kept", |c| {
         c.is_done_over(Verb::Outside, NONE)
     }),
@@ -179,6 +179,21 @@ const CALLS: [Edge<SeenCall>; 36] = [
     }),
     ("20: a pair's ask alone, an ask kept", |c| {
         c.is_bad_pair(BID, ASK)
+    }),
+    ("20: a pair's bid alone, an ask kept", |c| {
+        c.is_bad_pair(ASK, ASK)
+    }),
+    ("20: a pair's ask alone, a bid kept", |c| {
+        c.is_bad_pair(BID, BID)
+    }),
+    ("20: both of a pair, nothing kept", |c| {
+        c.is_bad_pair(NONE, NONE)
+    }),
+    ("20: both of a pair, a bid kept", |c| {
+        c.is_bad_pair(NONE, BID)
+    }),
+    ("20: both of a pair, an ask kept", |c| {
+        c.is_bad_pair(NONE, ASK)
     }),
     ("a bid, nothing kept", |c| {
         c.is_done() && c.is_notice(Quoted::Bid, NONE)
