@@ -234,6 +234,11 @@ evaluated-records =
     -- W-209 "ranges .. keep half up": 1,515 and 1,584
     ∷ rangeLimit (staticsBut zNumbers) 1500 100 Upper
     ∷ rangeLimit (staticsBut zNumbers) 1600 100 Lower
+    -- to the grid of the lot: 1,518.03 and 1,487.97 on the grid 1, 1,515 and 1,485 on the grid 100
+    ∷ rangeLimit (staticsBut (zNumbers but (lotAt, pos 100))) 1503 100 Upper
+    ∷ rangeLimit (staticsBut (zNumbers but (lotAt, pos 100))) 1503 100 Lower
+    ∷ rangeLimit (staticsBut (zNumbers but (lotAt, pos 1))) 1500 100 Upper
+    ∷ rangeLimit (staticsBut (zNumbers but (lotAt, pos 1))) 1500 100 Lower
     ∷ [])
     -- r by P2: P1 is 1,000,010, P2 1,000,000, s 0 and S_1 500
     ∷ ratesOf (evaluatedAt (zRecord but (p1At, pos 1000010) but (sAt, pos 0) but (ratesAt, pos 500)) 1000020)
@@ -253,7 +258,7 @@ pub evaluated-records-are : evaluated-records
     ∷ (975000 ∷ 1025000 ∷ [])
     ∷ (980000 ∷ 1010000 ∷ [])
     ∷ (800000 ∷ 0 ∷ [])
-    ∷ (0 ∷ 2000000 ∷ 1060 ∷ 1040 ∷ 1520 ∷ 1580 ∷ [])
+    ∷ (0 ∷ 2000000 ∷ 1060 ∷ 1040 ∷ 1520 ∷ 1580 ∷ 1518 ∷ 1488 ∷ 1500 ∷ 1500 ∷ [])
     -- r is 20: 0.1·20² is 40, and 7² covers it (by P1 r would be 10, and s 4)
     ∷ (7 ∷ 600 ∷ 1 ∷ 700 ∷ 1100 ∷ 1300 ∷ [])
     -- 4.975, 5, 14.975, 15; 49.75, 50; 0.4975, 0.5
