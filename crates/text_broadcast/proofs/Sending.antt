@@ -8,12 +8,13 @@ use native.Mathlib.Omega.{arith}
 use lib.Dec.{ltb, eqb}
 use lib.ListN.{length, take, drop, length-drop, take-append-drop, drop-of-length-le}
 use lib.Seq.{sets, sets-eq, drop-drop, take-all}
-use borrow.Author.Tests.{le-ltb, eq-eqb, ne-eqb}
+use borrow.Author.Tests.{le-ltb}
 use Rattle.paper.specs.declared.Verdict.the-variants.{Done, FieldOutOfRange, NoRoom}
 use Rattle.paper.specs.declared.Admission.{Admission}
 use Rattle.paper.specs.declared.Answer.{Answer}
 use Rattle.paper.specs.Lists.{pick}
-use Rattle.paper.specs.Verdicts.{numberOf, isDone, firstOf}
+use Rattle.paper.specs.Verdicts.{isDone, firstOf}
+use Rattle.paper.proofs.Logic.{not-true, not-false}
 use Rattle.paper_messages.specs.declared.Message.{Message}
 use Rattle.paper_messages.specs.declared.Wrote.{Wrote as Answered}
 use Rattle.paper_messages.specs.Fields.{staticsKind, ratesKind, bandsKind, moveKind, staticsFields, ratesFields, bandsFields, moveFields, noField, fieldsOf, filled, placesOf}
@@ -92,28 +93,28 @@ appended-to-part b len m w after fits long writes =
 
 -- ---- the messages of a call, by its kind
 
-module _ (kind : ℕ) (g : Admission) (side : ℕ) (a : Answer) (no : ℕ) (is : no ≡ numberOf (a .verdict)) where
+module _ (kind : ℕ) (g : Admission) (side : ℕ) (a : Answer) (done : Bool) (is : done ≡ isDone (a .verdict)) where
   -- a refused call sends nothing
-  pub refusal-sends-nothing : (b : List ℕ) (n : ℕ) → (no ≡ 0 → ⊥)
+  pub refusal-sends-nothing : (b : List ℕ) (n : ℕ) → not done ≡ true
       → Wrote b n b n (broadcastOfKind kind g side a) answerMost
-  unfolding broadcastOfKind isDone
-  refusal-sends-nothing b n z = rw (← is, ne-eqb no 0 z) (nothing b n answerMost)
+  unfolding broadcastOfKind
+  refusal-sends-nothing b n refused = rw (← is, not-true done refused) (nothing b n answerMost)
 
-  module _ (z : no ≡ 0) where
+  module _ (accepted : not done ≡ false) where
     pub one-sent : {b c : List ℕ} {n e : ℕ} (m : Message) → messagesOfKind kind g side a ≡ m ∷ []
         → Wrote b n c e (sent m) messageMost
         → Wrote b n c e (broadcastOfKind kind g side a) answerMost
-    unfolding broadcastOfKind allSent isDone
-    one-sent m are p = rw (← is, eq-eqb no 0 z, are, append-nil (sent m)) (wider p (omega arith))
+    unfolding broadcastOfKind allSent
+    one-sent m are p = rw (← is, not-false done accepted, are, append-nil (sent m)) (wider p (omega arith))
 
     pub two-sent : {b b' c : List ℕ} {n n' e : ℕ} (m m' : Message) → messagesOfKind kind g side a ≡ m ∷ m' ∷ []
         → Wrote b n b' n' (sent m) messageMost → Wrote b' n' c e (sent m') messageMost
         → Wrote b n c e (broadcastOfKind kind g side a) answerMost
-    unfolding broadcastOfKind allSent isDone
+    unfolding broadcastOfKind allSent
     two-sent m m' are p q =
-        rw (← is, eq-eqb no 0 z, are, append-nil (sent m')) (wider (then p q) (omega arith))
+        rw (← is, not-false done accepted, are, append-nil (sent m')) (wider (then p q) (omega arith))
 
     pub none-sent : (b : List ℕ) (n : ℕ) → messagesOfKind kind g side a ≡ []
         → Wrote b n b n (broadcastOfKind kind g side a) answerMost
-    unfolding broadcastOfKind allSent isDone
-    none-sent b n are = rw (← is, eq-eqb no 0 z, are) (nothing b n answerMost)
+    unfolding broadcastOfKind allSent
+    none-sent b n are = rw (← is, not-false done accepted, are) (nothing b n answerMost)

@@ -46,7 +46,7 @@ pub fn say_messages(
 {
     let verdict = answer.verdict;
     let rec = answer.rec;
-    if verdict.number() != 0 {
+    if !verdict.is_done() {
         return len;
     }
     if kind == Kind::ADMIT {

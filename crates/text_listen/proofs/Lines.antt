@@ -12,6 +12,7 @@ use lib.Seq.{drop-append-le, drop-drop, length-take-le}
 use borrow.Author.Tests.{le-leb, leb-true, leb-false, lt-leb, eqb-true}
 use Rattle.paper.specs.declared.Verdict.{Verdict}
 use Rattle.paper.specs.Lists.{pick}
+use Rattle.paper.specs.declared.Verdict.the-variants.{CutShort}
 use Rattle.paper.specs.Verdicts.{numberOf, isDone, firstOf}
 use Rattle.paper.proofs.Logic.{not-true-and-false}
 use Rattle.paper_messages.specs.declared.Heard.{Heard}
@@ -137,8 +138,8 @@ module _ (b : List ℕ) (s : Listening) (stands : Stands b s) (input later : Lis
     where
       cut-of : (d : Bool) → isDone (first (unheard b s)) ≡ d
           → eqb (numberOf (pick (isDone (first (unheard b s))) (acceptedHeard (s .at) (unheard b s)) (refusedHeard
-          (first (unheard b s))) .verdict)) 21 ≡ false
-          → eqb (numberOf (first (unheard b s))) 21 ≡ false
+          (first (unheard b s))) .verdict)) (numberOf CutShort) ≡ false
+          → eqb (numberOf (first (unheard b s))) (numberOf CutShort) ≡ false
       cut-of true e h = rw (eqb-true (numberOf (first (unheard b s))) 0 e) refl
       cut-of false e h = rw e at h
   alike (inr none) =

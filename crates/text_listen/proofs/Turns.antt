@@ -1,6 +1,6 @@
 -- What the functions need, on plain values. Assumes nothing.
 use mathlib.Core.Path.{_≡_, refl, sym, ap, _∙_}
-use mathlib.Core.Bool.{Bool, true, false}
+use mathlib.Core.Bool.{Bool, true, false, not}
 use mathlib.Core.Logic.{_⊎_, inl, inr}
 use mathlib.Core.List.{List, [], _++_}
 use Prim.Native.Nat.{ℕ, zero, suc, _+_, _-_, _≤_, _<_}
@@ -9,8 +9,8 @@ use lib.Dec.{eqb, ltb}
 use lib.ListN.{length, take, drop, length-append, length-drop, take-append-drop}
 use lib.Seq.{length-take-le, take-take}
 use borrow.Author.Tests.{ltb-true, ltb-false, eqb-true, eqb-false, eq-eqb, ne-eqb}
-use Rattle.paper.specs.Verdicts.{numberOf, isDone}
-use Rattle.paper.proofs.Logic.{not-true-and-false}
+use Rattle.paper.specs.Verdicts.{isDone}
+use Rattle.paper.proofs.Logic.{not-true-and-false, not-true, not-false}
 use Rattle.paper_messages.specs.declared.Heard.{Heard}
 use Rattle.text_protocol.specs.Bytes.{room}
 use Rattle.text_out.specs.Wrote.{Wrote}
@@ -109,15 +109,14 @@ goes-or-fails s w p = go (p .goes-on)
     go (inl e) = inl e
     go (inr e) = inr (e .1)
 
-module _ (s : Listening) (h : Heard) (o o' : List ℕ) (n place no : ℕ) (where-is : place ≡ placeOf s)
-    (is : no ≡ numberOf (h .verdict)) (wrote : Wrote o (s .waiting) o' n (lineOf place h) lineMost) where
+module _ (s : Listening) (h : Heard) (o o' : List ℕ) (n place : ℕ) (accepted : Bool) (where-is : place ≡ placeOf s)
+    (is : accepted ≡ isDone (h .verdict)) (wrote : Wrote o (s .waiting) o' n (lineOf place h) lineMost) where
   line : Wrote o (s .waiting) o' n (lineOf (placeOf s) h) lineMost
   line = rw where-is at wrote
 
-  pub told-refused : (w : Listening) → (no ≡ 0 → ⊥) → Written (gathered s n (s .at)) true w → Tells s h o w o'
-  unfolding isDone
-  told-refused w z p =
-      let not-done : isDone (h .verdict) ≡ false = rw (← is) (ne-eqb no 0 z) in
+  pub told-refused : (w : Listening) → not accepted ≡ true → Written (gathered s n (s .at)) true w → Tells s h o w o'
+  told-refused w refused p =
+      let not-done : isDone (h .verdict) ≡ false = sym is ∙ not-true accepted refused in
       record {
         line = record { end = n; wrote = line; waits = inr (p .written) };
         accepted = λ e. absurd (not-true-and-false (isDone (h .verdict)) e not-done);
@@ -128,10 +127,9 @@ module _ (s : Listening) (h : Heard) (o o' : List ℕ) (n place no : ℕ) (where
         space = rw (p .written) (omega arith);
       }
 
-  module _ (z : no ≡ 0) where
+  module _ (not-refused : not accepted ≡ false) where
     done : isDone (h .verdict) ≡ true
-    unfolding isDone
-    done = rw (← is) (eq-eqb no 0 z)
+    done = sym is ∙ not-false accepted not-refused
 
     pub told-written : (w : Listening) → Written (gathered s n (h .next)) false w → Tells s h o w o'
     told-written w p =
@@ -294,8 +292,8 @@ module _ (b : List ℕ) (s : Listening) (stands : Stands b s) (going : s .over �
 -- ---- the steps
 
 module _ (b : List ℕ) (s : Listening) (o : List ℕ) (stands : Stands b s) (going : s .over ≡ false) (h : Heard)
-    (heard : h ≡ heardIn b s) (no : ℕ) (is : no ≡ numberOf (h .verdict)) where
-  cut-is : isCut (heardIn b s) ≡ eqb no 21
+    (heard : h ≡ heardIn b s) (cut : Bool) (is : cut ≡ isCut h) where
+  cut-is : isCut (heardIn b s) ≡ cut
   cut-is = rw (is, heard)
 
   -- the place behind a message
@@ -319,8 +317,8 @@ module _ (b : List ℕ) (s : Listening) (o : List ℕ) (stands : Stands b s) (go
         nearer = told-nearer b s stands going h o r o' t within;
       }
 
-  pub steps-whole : (r : Listening) (o' : List ℕ) → (no ≡ 21 → ⊥) → Tells s h o r o' → Steps b s o b r o'
-  steps-whole r o' z t = told r o' (inl (rw cut-is (ne-eqb no 21 z))) t
+  pub steps-whole : (r : Listening) (o' : List ℕ) → not cut ≡ true → Tells s h o r o' → Steps b s o b r o'
+  steps-whole r o' whole t = told r o' (inl (cut-is ∙ not-true cut whole)) t
 
   pub steps-cut : (r : Listening) (o' : List ℕ) → s .ended ≡ true → (s .at ≡ s .len → ⊥) → Tells s h o r o'
       → Steps b s o b r o'
@@ -333,13 +331,13 @@ module _ (b : List ℕ) (s : Listening) (o : List ℕ) (stands : Stands b s) (go
           go true f = ltb-true x y f
           go false f = let u : y ≤ x = ltb-false x y f in absurd (n (omega arith))
 
-  pub steps-on : (b' : List ℕ) (r : Listening) → no ≡ 21 → s .ended ≡ false → ReadsOn b s b' r → Steps b s o b' r o
-  steps-on b' r z not-ended q = go (q .is)
+  pub steps-on : (b' : List ℕ) (r : Listening) → not cut ≡ false → s .ended ≡ false → ReadsOn b s b' r → Steps b s o b' r o
+  steps-on b' r cut-short not-ended q = go (q .is)
     where
       go : Delivers b s b' r ⊎ ((b' ≡ b) × (r .ok ≡ false) × Over s r) → Steps b s o b' r o
       go (inl d) =
           record {
-            is = delivers (rw cut-is (eq-eqb no 21 z)) not-ended refl d;
+            is = delivers (cut-is ∙ not-false cut cut-short) not-ended refl d;
             stands = q .stands;
             nearer = delivers-nearer b s stands going b' r d (q .stands) (d .over ∙ going) not-ended;
           }

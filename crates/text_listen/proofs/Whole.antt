@@ -40,11 +40,11 @@ verdict few out short wrong bad =
     pick few CutShort (pick out WrongLength (pick short CutShort (pick wrong WrongLength (pick bad FieldOutOfRange
     Done))))
 
-not-few : (few out short wrong bad : Bool) → eqb (numberOf (verdict few out short wrong bad)) 21 ≡ false → few ≡ false
+not-few : (few out short wrong bad : Bool) → eqb (numberOf (verdict few out short wrong bad)) (numberOf CutShort) ≡ false → few ≡ false
 not-few true out short wrong bad e = absurd (not-true-and-false true refl e)
 not-few false out short wrong bad e = refl
 
-not-short : (out short wrong bad : Bool) → eqb (numberOf (verdict false out short wrong bad)) 21 ≡ false
+not-short : (out short wrong bad : Bool) → eqb (numberOf (verdict false out short wrong bad)) (numberOf CutShort) ≡ false
     → out ≡ false → short ≡ false
 not-short true short wrong bad e f = absurd (not-true-and-false true refl f)
 not-short false true wrong bad e f = absurd (not-true-and-false true refl e)
@@ -71,8 +71,8 @@ first-is : (bytes : List ℕ)
 unfolding readChecks firstOf
 first-is bytes = refl
 
-module _ (u later : List ℕ) (not-cut : eqb (numberOf (firstOf (readChecks u))) 21 ≡ false) where
-  told : eqb (numberOf (verdict (few u) (out u) (short u) (wrong u) (bad u))) 21 ≡ false
+module _ (u later : List ℕ) (not-cut : eqb (numberOf (firstOf (readChecks u))) (numberOf CutShort) ≡ false) where
+  told : eqb (numberOf (verdict (few u) (out u) (short u) (wrong u) (bad u))) (numberOf CutShort) ≡ false
   told = rw (first-is u) at not-cut
 
   longer : length u ≤ length (u ++ later)

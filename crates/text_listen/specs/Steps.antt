@@ -7,6 +7,7 @@ use mathlib.Core.List.{List, [], _++_}
 use Prim.Native.Nat.{ℕ, _+_, _-_, _*_, _≤_, _<_}
 use lib.Dec.{eqb}
 use lib.ListN.{length, take, drop}
+use Rattle.paper.specs.declared.Verdict.the-variants.{CutShort}
 use Rattle.paper.specs.Verdicts.{numberOf, isDone}
 use Rattle.paper_messages.specs.declared.Heard.{Heard}
 use Rattle.paper_messages.specs.Messages.{heardAt}
@@ -37,7 +38,7 @@ heardIn b s = heardAt (take (s .len) b) (s .at)
 
 -- a message that is cut short: more bytes may make it whole
 abbrev pub isCut : Heard → Bool
-isCut h = eqb (numberOf (h .verdict)) 21
+isCut h = eqb (numberOf (h .verdict)) (numberOf CutShort)
 
 -- how the two buffers stand between steps
 pub record Stands (b : List ℕ) (s : Listening) : Type 0 where

@@ -7,19 +7,17 @@ ghost use lib.ListN.{length};
 ghost use Rattle.paper_messages.specs.Fields.{places};
 ghost use Rattle.text_protocol.specs.Bytes.{room};
 ghost use Rattle.text_heard.specs.Lines.{lineMost};
-ghost use Rattle.text_listen.specs.Steps.{mostBytes, startListening, placeOf, Stands, Tells, Delivers, ReadsOn, Written, Steps, Listens};
+ghost use Rattle.text_listen.specs.Steps.{mostBytes, startListening, placeOf, isCut, Stands, Tells, Delivers, ReadsOn, Written, Steps, Listens};
 use libc::STDERR_FILENO;
 use libc::STDOUT_FILENO;
 use messages::read;
+use paper::Verdict;
 use paper_messages::Heard;
 use text_heard::LINE_MOST;
 use text_heard::say_heard;
 use text_input::fill;
 use text_input::shift;
 use text_protocol::ROOM;
-
-// "21, message cut short": more bytes may make it whole.
-const CUT_SHORT: u64 = 21;
 
 // How far the input is listened to: the bytes of the buffer from `at` to `len` are delivered and not heard yet, and so
 // many bytes may still be delivered as `left` says. So many bytes of lines wait to be written as `waiting` says.
@@ -121,7 +119,7 @@ fn tell(out: &mut [u8; ROOM], s: Listening, h: Heard) -> Listening
 {
     let verdict = h.verdict;
     let n = say_heard(out, s.waiting, place_of(s), h);
-    if verdict.number() != 0 {
+    if !verdict.is_done() {
         let r = Listening {
             at: s.at,
             len: s.len,
@@ -149,6 +147,15 @@ fn tell(out: &mut [u8; ROOM], s: Listening, h: Heard) -> Listening
 }
 
 // ---- steps
+
+// "21, message cut short": more bytes may make it whole.
+fn is_cut(h: Heard) -> bool
+    ensures { λ t. ⌜ t ≡ isCut h ⌝ }
+{
+    let verdict = h.verdict;
+    let cut = Verdict::CutShort;
+    verdict.number() == cut.number()
+}
 
 // No byte more is counted: nothing more is heard, and that is not how an input ends.
 fn used_up(s: Listening) -> Listening
@@ -198,8 +205,7 @@ pub fn step(buf: &mut [u8], out: &mut [u8; ROOM], s: Listening) -> Listening
     let at = s.at;
     let len = s.len;
     let h = read(&buf[..len], at);
-    let verdict = h.verdict;
-    if verdict.number() != CUT_SHORT {
+    if !is_cut(h) {
         return tell(out, s, h);
     }
     if !s.ended {

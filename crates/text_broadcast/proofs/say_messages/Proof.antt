@@ -14,17 +14,17 @@ use Rattle.message_records.proofs.bands_message.Reads as bands-message-reads
 use Rattle.message_records.proofs.move_message.Reads as move-message-reads
 use Rattle.message_records.proofs.rates_message.Reads as rates-message-reads
 use Rattle.message_records.proofs.statics_message.Reads as statics-message-reads
-use Rattle.paper.proofs.Verdict.number.Reads as number-reads
+use Rattle.paper.proofs.Verdict.is_done.Reads as is-done-reads
 use Rattle.text_broadcast.proofs.send.Reads as send-reads
 
-number-requires : tie.Need-number-requires
-number-requires c κs = search needs
+is-done-requires : tie.Need-is-done-requires
+is-done-requires c κs = search needs
 
 returns : tie.Need-returns
 returns c =
-    let at-number = c .before in
-    let at-start = at-number .before .before in
-    refusal-sends-nothing _ _ _ (at-start .args .answer) _ (at-number .number .ensures) _ _ (c .if1 .taken)
+    let at-done = c .before in
+    let at-start = at-done .before .before in
+    refusal-sends-nothing _ _ _ (at-start .args .answer) _ (at-done .is-done .ensures) _ _ (c .if1 .taken)
 
 statics-of-requires : tie.Need-statics-of-requires
 statics-of-requires c κs = search needs
@@ -42,9 +42,9 @@ returns-2 c =
     let at-statics = at-message .before in
     let at-if2 = at-statics .before .before .before in
     let at-if1 = at-if2 .before in
-    let at-number = at-if1 .before in
-    let at-start = at-number .before .before in
-    one-sent _ _ _ (at-start .args .answer) _ (at-number .number .ensures) (at-if1 .if1 .left) _
+    let at-done = at-if1 .before in
+    let at-start = at-done .before .before in
+    one-sent _ _ _ (at-start .args .answer) _ (at-done .is-done .ensures) (at-if1 .if1 .left) _
     (rw (at-if2 .if2 .taken, at-message .statics-message .ensures, at-statics .statics-of .ensures)) (c .send .ensures)
 
 rates-message-requires : tie.Need-rates-message-requires
@@ -68,9 +68,9 @@ returns-3 c =
     let at-if3 = at-rates .before .before in
     let at-if2 = at-if3 .before in
     let at-if1 = at-if2 .before in
-    let at-number = at-if1 .before in
-    let at-start = at-number .before .before in
-    two-sent _ _ _ (at-start .args .answer) _ (at-number .number .ensures) (at-if1 .if1 .left) _ _
+    let at-done = at-if1 .before in
+    let at-start = at-done .before .before in
+    two-sent _ _ _ (at-start .args .answer) _ (at-done .is-done .ensures) (at-if1 .if1 .left) _ _
     (rw (at-if3 .if3 .taken, at-rates .rates-message .ensures, at-bands .bands-message .ensures))
     (at-first .send2 .ensures) (c .send3 .ensures)
 
@@ -92,9 +92,9 @@ returns-4 c =
     let at-if3 = at-if4 .before in
     let at-if2 = at-if3 .before in
     let at-if1 = at-if2 .before in
-    let at-number = at-if1 .before in
-    let at-start = at-number .before .before in
-    one-sent _ _ _ (at-start .args .answer) _ (at-number .number .ensures) (at-if1 .if1 .left) _
+    let at-done = at-if1 .before in
+    let at-start = at-done .before .before in
+    one-sent _ _ _ (at-start .args .answer) _ (at-done .is-done .ensures) (at-if1 .if1 .left) _
     (rw (at-if4 .if4 .taken, at-message .move-message .ensures, at-side .side-of .ensures)) (c .send4 .ensures)
 
 returns-5 : tie.Need-returns-5
@@ -103,9 +103,9 @@ returns-5 c =
     let at-if3 = c .before in
     let at-if2 = at-if3 .before in
     let at-if1 = at-if2 .before in
-    let at-number = at-if1 .before in
-    let at-start = at-number .before .before in
-    none-sent _ _ _ (at-start .args .answer) _ (at-number .number .ensures) (at-if1 .if1 .left) _ _
+    let at-done = at-if1 .before in
+    let at-start = at-done .before .before in
+    none-sent _ _ _ (at-start .args .answer) _ (at-done .is-done .ensures) (at-if1 .if1 .left) _ _
     (rw (
       ne-eqb _ admitKind (at-if2 .if2 .left),
       ne-eqb _ evaluateKind (at-if3 .if3 .left),
@@ -116,7 +116,7 @@ pub say-messages-spec : {M : Type 1} → statement M
 say-messages-spec =
     tie.close
     (tie.spec
-    number-requires
+    is-done-requires
     returns
     statics-of-requires
     statics-message-requires

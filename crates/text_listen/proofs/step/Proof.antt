@@ -10,7 +10,7 @@ use Rattle.text_listen.proofs.step.Tie as tie
 use Rattle.text_listen.proofs.step.Reads as reads
 use Rattle.text_listen.proofs.step.Lts as lts
 use Rattle.messages.proofs.read.Reads as read-reads
-use Rattle.paper.proofs.Verdict.number.Reads as number-reads
+use Rattle.text_listen.proofs.is_cut.Reads as is-cut-reads
 use Rattle.text_listen.proofs.read_on.Reads as read-on-reads
 use Rattle.text_listen.proofs.tell.Reads as tell-reads
 use Rattle.text_listen.proofs.write_out.Reads as write-out-reads
@@ -26,8 +26,8 @@ slice-aggregate-read c =
 read-requires : tie.Need-read-requires
 read-requires c κs = search needs
 
-number-requires : tie.Need-number-requires
-number-requires c κs = search needs
+is-cut-requires : tie.Need-is-cut-requires
+is-cut-requires c κs = search needs
 
 tell-requires : tie.Need-tell-requires
 tell-requires c κs = search needs
@@ -38,11 +38,11 @@ same-length c = search needs
 returns : tie.Need-returns
 returns c =
     let at-if1 = c .before .before in
-    let at-number = at-if1 .before in
-    let at-read = at-number .before in
+    let at-cut = at-if1 .before in
+    let at-read = at-cut .before in
     let at-start = at-read .before .before .before in
     steps-whole _ (at-start .args .s) _ (at-start .pre .0) (at-start .pre .1) _ (at-read .read .ensures) _
-    (at-number .number .ensures) _ _ (at-if1 .if1 .taken) (c .tell .ensures)
+    (at-cut .is-cut .ensures) _ _ (at-if1 .if1 .taken) (c .tell .ensures)
 
 read-on-requires : tie.Need-read-on-requires
 read-on-requires c κs = search needs
@@ -53,11 +53,11 @@ same-length-2 c = search needs
 returns-2 : tie.Need-returns-2
 returns-2 c =
     let at-if1 = c .before .before .before .before .before .before .before .before in
-    let at-number = at-if1 .before in
-    let at-read = at-number .before in
+    let at-cut = at-if1 .before in
+    let at-read = at-cut .before in
     let at-start = at-read .before .before .before in
     steps-on _ (at-start .args .s) _ (at-start .pre .0) (at-start .pre .1) _ (at-read .read .ensures) _
-    (at-number .number .ensures) _ _ (at-if1 .if1 .left)
+    (at-cut .is-cut .ensures) _ _ (at-if1 .if1 .left)
     (not-true _ (c .before .before .before .before .before .before .if2 .taken)) (c .before .before .read-on .ensures)
 
 write-out-requires : tie.Need-write-out-requires
@@ -69,11 +69,11 @@ same-length-3 c = search needs
 returns-3 : tie.Need-returns-3
 returns-3 c =
     let at-if1 = c .before .before .before .before .before .before in
-    let at-number = at-if1 .before in
-    let at-read = at-number .before in
+    let at-cut = at-if1 .before in
+    let at-read = at-cut .before in
     let at-start = at-read .before .before .before in
     steps-end _ (at-start .args .s) _ (at-start .pre .0) (at-start .pre .1) _ (at-read .read .ensures) _
-    (at-number .number .ensures) _ (not-false _ (c .before .before .before .before .if2 .left))
+    (at-cut .is-cut .ensures) _ (not-false _ (c .before .before .before .before .if2 .left))
     (c .before .before .before .if3 .taken) (c .write-out .ensures)
 
 tell-requires-2 : tie.Need-tell-requires-2
@@ -85,11 +85,11 @@ same-length-4 c = search needs
 returns-4 : tie.Need-returns-4
 returns-4 c =
     let at-if1 = c .before .before .before .before .before in
-    let at-number = at-if1 .before in
-    let at-read = at-number .before in
+    let at-cut = at-if1 .before in
+    let at-read = at-cut .before in
     let at-start = at-read .before .before .before in
     steps-cut _ (at-start .args .s) _ (at-start .pre .0) (at-start .pre .1) _ (at-read .read .ensures) _
-    (at-number .number .ensures) _ _ (not-false _ (c .before .before .before .if2 .left)) (c .before .before .if3 .left)
+    (at-cut .is-cut .ensures) _ _ (not-false _ (c .before .before .before .if2 .left)) (c .before .before .if3 .left)
     (c .tell2 .ensures)
 
 pub step-spec : {M : Type 1} → statement M
@@ -99,7 +99,7 @@ step-spec =
     slice-reshare-prefix-read
     slice-aggregate-read
     read-requires
-    number-requires
+    is-cut-requires
     tell-requires
     same-length
     returns

@@ -6,7 +6,7 @@ use Rattle.text_listen.proofs.tell.Statement.{statement}
 use Rattle.text_listen.proofs.tell.Tie as tie
 use Rattle.text_listen.proofs.tell.Reads as reads
 use Rattle.text_listen.proofs.tell.Lts as lts
-use Rattle.paper.proofs.Verdict.number.Reads as number-reads
+use Rattle.paper.proofs.Verdict.is_done.Reads as is-done-reads
 use Rattle.text_heard.proofs.say_heard.Reads as say-heard-reads
 use Rattle.text_listen.proofs.place_of.Reads as place-of-reads
 use Rattle.text_listen.proofs.write_out.Reads as write-out-reads
@@ -17,8 +17,8 @@ place-of-requires c κs = search needs
 say-heard-requires : tie.Need-say-heard-requires
 say-heard-requires c κs = search needs
 
-number-requires : tie.Need-number-requires
-number-requires c κs = search needs
+is-done-requires : tie.Need-is-done-requires
+is-done-requires c κs = search needs
 
 write-out-requires : tie.Need-write-out-requires
 write-out-requires c κs = search needs
@@ -26,12 +26,12 @@ write-out-requires c κs = search needs
 returns : tie.Need-returns
 returns c =
     let at-if1 = c .before .before .before in
-    let at-number = at-if1 .before in
-    let at-line = at-number .before in
+    let at-done = at-if1 .before in
+    let at-line = at-done .before in
     let at-place = at-line .before in
     let at-start = at-place .before .before in
     told-refused (at-start .args .s) (at-start .args .h) _ _ _ _ _ (at-place .place-of .ensures)
-    (at-number .number .ensures) (at-line .say-heard .ensures) _ (at-if1 .if1 .taken) (c .write-out .ensures)
+    (at-done .is-done .ensures) (at-line .say-heard .ensures) _ (at-if1 .if1 .taken) (c .write-out .ensures)
 
 sub-if2 : tie.Need-sub-if2
 sub-if2 c = search needs
@@ -42,22 +42,22 @@ write-out-requires-2 c κs = search needs
 returns-2 : tie.Need-returns-2
 returns-2 c =
     let at-if1 = c .before .before .before .before in
-    let at-number = at-if1 .before in
-    let at-line = at-number .before in
+    let at-done = at-if1 .before in
+    let at-line = at-done .before in
     let at-place = at-line .before in
     let at-start = at-place .before .before in
     told-written (at-start .args .s) (at-start .args .h) _ _ _ _ _ (at-place .place-of .ensures)
-    (at-number .number .ensures) (at-line .say-heard .ensures) (at-if1 .if1 .left) _ (c .write-out2 .ensures)
+    (at-done .is-done .ensures) (at-line .say-heard .ensures) (at-if1 .if1 .left) _ (c .write-out2 .ensures)
 
 returns-3 : tie.Need-returns-3
 returns-3 c =
     let at-if1 = c .before in
-    let at-number = at-if1 .before in
-    let at-line = at-number .before in
+    let at-done = at-if1 .before in
+    let at-line = at-done .before in
     let at-place = at-line .before in
     let at-start = at-place .before .before in
     told-waits (at-start .args .s) (at-start .args .h) _ _ _ _ _ (at-place .place-of .ensures)
-    (at-number .number .ensures) (at-line .say-heard .ensures) (at-if1 .if1 .left) (at-start .pre .3)
+    (at-done .is-done .ensures) (at-line .say-heard .ensures) (at-if1 .if1 .left) (at-start .pre .3)
     (omega (arith, c .if2 .left))
 
 pub tell-spec : {M : Type 1} → statement M
@@ -66,7 +66,7 @@ tell-spec =
     (tie.spec
     place-of-requires
     say-heard-requires
-    number-requires
+    is-done-requires
     write-out-requires
     returns
     sub-if2
