@@ -15,8 +15,11 @@ use paper_messages::Message;
 // How many numbers a byte has.
 const IN_BYTE: u64 = 256;
 
-// The greatest number of each width, from none to eight bytes: 256^width - 1.
-const GREATEST: [u64; 9] = [
+// The widest number, of 64 bits, has so many bytes.
+const WIDTH_MOST: usize = 8;
+
+// The greatest number of each width, from none to the widest: 256^width - 1.
+const GREATEST: [u64; WIDTH_MOST + 1] = [
     0,
     255,
     65_535,

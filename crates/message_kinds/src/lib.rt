@@ -18,71 +18,77 @@ use paper_messages::Message;
 
 // ---- fields
 
+// "prices, limits and volatility eight bytes, ids, rates and other numbers four, yes/no one (0 or 1)"
+const PRICE_WIDTH: usize = 8;
+
+const NUMBER_WIDTH: usize = 4;
+
+const YES_NO_WIDTH: usize = 1;
+
 const NONE: Field = Field {
     width: 0,
     low: 0,
     high: 0,
 };
 
-// "yes/no one (0 or 1)"
 const YES: i64 = 1;
 
 const YES_NO: Field = Field {
-    width: 1,
+    width: YES_NO_WIDTH,
     low: 0,
     high: YES,
 };
 
 const ID: Field = Field {
-    width: 4,
+    width: NUMBER_WIDTH,
     low: 1,
     high: Record::ID_MOST as i64,
 };
 
 const DAY: Field = Field {
-    width: 4,
+    width: NUMBER_WIDTH,
     low: 0,
     high: Record::DAY_MOST as i64,
 };
 
 const RATE: Field = Field {
-    width: 4,
+    width: NUMBER_WIDTH,
     low: 0,
     high: Rate::MOST_BP as i64,
 };
 
 const WEIGHT: Field = Field {
-    width: 4,
+    width: NUMBER_WIDTH,
     low: 0,
     high: Statics::WEIGHT_MOST as i64,
 };
 
 const DAYS: Field = Field {
-    width: 4,
+    width: NUMBER_WIDTH,
     low: 1,
     high: Statics::DAYS_MOST as i64,
 };
 
 const SECONDS: Field = Field {
-    width: 4,
+    width: NUMBER_WIDTH,
     low: 1,
     high: Statics::SECONDS_MOST as i64,
 };
 
 const LIMIT: Field = Field {
-    width: 8,
+    width: PRICE_WIDTH,
     low: 0,
     high: Limit::MOST_UNITS as i64,
 };
 
 const TERM_DAYS: Field = Field {
-    width: 4,
+    width: NUMBER_WIDTH,
     low: 0,
     high: Term::DAYS_MOST as i64,
 };
 
 const REPO: Field = Field {
-    width: 4,
+    width: NUMBER_WIDTH,
     low: Term::REPO_LEAST,
     high: Term::REPO_MOST,
 };
@@ -94,36 +100,36 @@ const REPO: Field = Field {
 const STATICS: [Field; Message::PLACES] = [
     ID,
     Field {
-        width: 4,
+        width: NUMBER_WIDTH,
         low: 1,
         high: Statics::LOT_MOST as i64,
     },
     Field {
-        width: 4,
+        width: NUMBER_WIDTH,
         low: 1,
         high: Statics::STEP_MOST as i64,
     },
     Field {
-        width: 4,
+        width: NUMBER_WIDTH,
         low: Statics::MULTIPLIER_LEAST as i64,
         high: Statics::MULTIPLIER_MOST as i64,
     },
     WEIGHT,
     WEIGHT,
     Field {
-        width: 4,
+        width: NUMBER_WIDTH,
         low: 1,
         high: Statics::WAIT_MOST as i64,
     },
     Field {
-        width: 4,
+        width: NUMBER_WIDTH,
         low: 1,
         high: Statics::FIRST_DAYS_MOST as i64,
     },
     DAYS,
     DAYS,
     Field {
-        width: 4,
+        width: NUMBER_WIDTH,
         low: 0,
         high: Statics::LIQUIDITY_MOST as i64,
     },
@@ -132,19 +138,19 @@ const STATICS: [Field; Message::PLACES] = [
     RATE,
     RATE,
     Field {
-        width: 4,
+        width: NUMBER_WIDTH,
         low: Statics::DIVISOR_LEAST as i64,
         high: Statics::DIVISOR_MOST as i64,
     },
     Field {
-        width: 4,
+        width: NUMBER_WIDTH,
         low: 1,
         high: Statics::SHIFT_MOST as i64,
     },
     RATE,
     RATE,
     Field {
-        width: 4,
+        width: NUMBER_WIDTH,
         low: 0,
         high: Statics::NEARNESS_MOST as i64,
     },
@@ -154,7 +160,7 @@ const STATICS: [Field; Message::PLACES] = [
     SECONDS,
     YES_NO,
     Field {
-        width: 4,
+        width: NUMBER_WIDTH,
         low: 0,
         high: Statics::EVENING_MOVES_MOST as i64,
     },
@@ -166,22 +172,22 @@ const RATES: [Field; Message::PLACES] = [
     ID,
     DAY,
     Field {
-        width: 8,
+        width: PRICE_WIDTH,
         low: Price::LEAST_UNITS as i64,
         high: Price::MOST_UNITS as i64,
     },
     Field {
-        width: 8,
+        width: PRICE_WIDTH,
         low: 0,
         high: Record::VOLATILITY_MOST as i64,
     },
     Field {
-        width: 4,
+        width: NUMBER_WIDTH,
         low: 0,
         high: (Tentative::MOST_BP + Statics::STEP_MOST - 1) as i64,
     },
     Field {
-        width: 4,
+        width: NUMBER_WIDTH,
         low: 0,
         high: Record::AGE_MOST as i64,
     },
@@ -243,12 +249,12 @@ const BANDS: [Field; Message::PLACES] = [
 const MOVE: [Field; Message::PLACES] = [
     ID,
     Field {
-        width: 4,
+        width: NUMBER_WIDTH,
         low: 0,
         high: 1,
     },
     Field {
-        width: 4,
+        width: NUMBER_WIDTH,
         low: 0,
         high: Record::MOVES_MOST as i64,
     },

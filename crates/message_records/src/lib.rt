@@ -6,6 +6,7 @@ ghost use Prim.Native.Nat.{_+_, _<_};
 ghost use lib.ListN.{set};
 ghost use Rattle.paper_desk.specs.Sides.{limitOn};
 ghost use Rattle.paper.specs.Ranges.{sideNumber};
+ghost use Rattle.paper_messages.specs.Fields.{places};
 ghost use Rattle.paper_messages.specs.Records.{valueOf, flagOf, staticsMessage, ratesMessage, bandsMessage, moveMessage};
 use paper::Limits;
 use paper::Record;
@@ -16,6 +17,16 @@ use paper_messages::Message;
 
 // The first number past the signed 64-bit ones.
 const PAST_SIGNED: u64 = 9_223_372_036_854_775_808;
+
+// Where the RRCL of each term stands in a message of kind 3: behind ID, DAY and the first K, and each other behind a
+// term's numbers K RRCL RRCH LOWER UPPER.
+const TERM_NUMBERS: usize = 5;
+
+const FIRST_LOW: usize = 3;
+
+const SECOND_LOW: usize = FIRST_LOW + TERM_NUMBERS;
+
+const THIRD_LOW: usize = SECOND_LOW + TERM_NUMBERS;
 
 // A number as a field's value: one past the signed numbers is out of every range, and stands as -1.
 fn value_of(n: u64) -> i64
@@ -148,7 +159,7 @@ pub fn rates_message(r: Record) -> Message
 
 // A term's repo band at its two places: these numbers are signed already.
 fn with_repo(fields: [i64; Message::PLACES], at: usize, term: Term) -> [i64; Message::PLACES]
-    requires { ⌜ at < 26 ⌝ }
+    requires { ⌜ at + 1 < places ⌝ }
     ensures { λ r. ⌜ r ≡ set (set fields at (term .low)) (at + 1) (term .high) ⌝ }
 {
     let low = term.low;
@@ -195,9 +206,9 @@ pub fn bands_message(r: Record) -> Message
         0,
         0,
     ]);
-    let fields = with_repo(fields, 3, terms[0]);
-    let fields = with_repo(fields, 8, terms[1]);
-    let fields = with_repo(fields, 13, terms[2]);
+    let fields = with_repo(fields, FIRST_LOW, terms[0]);
+    let fields = with_repo(fields, SECOND_LOW, terms[1]);
+    let fields = with_repo(fields, THIRD_LOW, terms[2]);
     Message {
         kind: Message::BANDS,
         fields,

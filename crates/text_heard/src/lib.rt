@@ -10,6 +10,7 @@ ghost use Rattle.text_protocol.specs.Bytes.{room};
 ghost use Rattle.text_out.specs.Wrote.{Wrote};
 ghost use Rattle.text_put.specs.Sizes.{wordBytes};
 ghost use Rattle.text_heard.specs.Lines.{kindWord, wordLine, fieldsIn, lineOf, lineMost};
+use paper::Row;
 use paper_messages::Heard;
 use paper_messages::Message;
 use text_answer::put_next;
@@ -18,24 +19,38 @@ use text_protocol::ROOM;
 use text_put::put_bytes;
 use text_put::put_numbers;
 
-// No line is longer.
-pub const LINE_MOST: usize = 2_476;
+// The bytes of a word at most, and of a signed number with the blank before it.
+const WORD_BYTES: usize = 11;
+
+const NEXT_SIGNED_BYTES: usize = 22;
+
+// No line is longer: a word, as many numbers as any line has, and the line feed.
+pub const LINE_MOST: usize = WORD_BYTES + Row::ALL_NUMBERS_MOST * NEXT_SIGNED_BYTES + 1;
+
+// How many fields each kind has. The statics have one at every place.
+const STATICS_FIELDS: usize = Message::PLACES;
+
+const RATES_FIELDS: usize = 15;
+
+const BANDS_FIELDS: usize = 17;
+
+const MOVE_FIELDS: usize = 9;
 
 // How many fields a kind has.
 fn field_count(kind: u64) -> usize
     ensures { λ r. ⌜ (r ≡ length (fieldsOf kind)) × (r ≤ places) ⌝ }
 {
     if kind == Message::STATICS {
-        return 27;
+        return STATICS_FIELDS;
     }
     if kind == Message::RATES {
-        return 15;
+        return RATES_FIELDS;
     }
     if kind == Message::BANDS {
-        return 17;
+        return BANDS_FIELDS;
     }
     if kind == Message::MOVE {
-        return 9;
+        return MOVE_FIELDS;
     }
     0
 }

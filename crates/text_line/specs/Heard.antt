@@ -2,7 +2,7 @@
 use mathlib.Core.Path.{_≡_}
 use mathlib.Core.Bool.{Bool, true, false}
 use mathlib.Core.List.{List, [], _∷_, _++_}
-use Prim.Native.Nat.{ℕ, _+_, _≤_, _<_}
+use Prim.Native.Nat.{ℕ, _+_, _*_, _≤_, _<_}
 use lib.Dec.{eqb}
 use lib.IntN.{ℤ}
 use lib.ListN.{length, take}
@@ -44,12 +44,20 @@ pub record Heard (s : Said) (l : Line) (xs : List ℤ) : Type 0 where
 unfoldable pub lineOf : (kind count : ℕ) → Pairs → Line
 lineOf k n p = pick (takes k n) (record { kind = k; count = n; pairs = p }) badLine
 
+-- the numbers K RRCL RRCH of a term
+abbrev pub termNumbers : ℕ
+termNumbers = 3
+
+-- the place of the first RRCL of a bond, the farthest
+abbrev pub bondLow : ℕ
+bondLow = 9
+
 -- where the RRCL of each term stands in a call with terms: the first at a place, each other behind a term's numbers
 pub record LowsAt (k at : ℕ) : Type 0 where
   pub first : at ≡ placeIn k RRCL0
-  pub second : at + 3 ≡ placeIn k RRCL1
-  pub third : at + 6 ≡ placeIn k RRCL2
-  pub small : at ≤ 9
+  pub second : at + termNumbers ≡ placeIn k RRCL1
+  pub third : at + 2 * termNumbers ≡ placeIn k RRCL2
+  pub small : at ≤ bondLow
 
 -- one number more among those that are kept
 pub record Keeps (xs : List ℤ) (n : ℕ) (z : ℤ) (xs' : List ℤ) (n' : ℕ) : Type 0 where

@@ -9,14 +9,22 @@ ghost use Rattle.text_protocol.specs.Bytes.{words, same};
 ghost use Rattle.text_protocol.specs.Names.{kindOf, takes};
 ghost use Rattle.text_protocol.specs.Line.{noPairs, hasTerms, pairFits, withPair, taking, fill, meaning, keptMost};
 ghost use Rattle.text_line.specs.Heard.{blankLine, badLine, Heard, lineOf, LowsAt, Keeps, Takes};
+use text_protocol::ADMIT_COUNT;
 use text_protocol::BOND_COUNT;
 use text_protocol::EVALUATE_COUNT;
 use text_protocol::INTEREST_COUNT;
 use text_protocol::Item;
 use text_protocol::KEPT;
 use text_protocol::Kind;
+use text_protocol::MOVE_COUNT;
+use text_protocol::NOTICE_COUNT;
+use text_protocol::OPEN_COUNT;
+use text_protocol::OUTSIDE_COUNT;
 use text_protocol::Pairs;
+use text_protocol::QUOTE_COUNT;
+use text_protocol::READ_COUNT;
 use text_protocol::ROOM;
+use text_protocol::WITHDRAW_COUNT;
 use text_word::item_of;
 use text_word::past_blanks;
 use text_word::past_word;
@@ -105,15 +113,15 @@ fn takes(kind: u64, count: usize) -> bool
     ensures { λ r. ⌜ r ≡ takes kind count ⌝ }
 {
     match kind {
-        Kind::ADMIT => count == 32,
+        Kind::ADMIT => count == ADMIT_COUNT,
         Kind::EVALUATE => EVALUATE_COUNT <= count,
-        Kind::QUOTE => count == 5,
-        Kind::MOVE => count == 2,
-        Kind::READ => count == 1,
-        Kind::OPEN => count == 1,
-        Kind::OUTSIDE => count == 3,
-        Kind::NOTICE => count == 3,
-        Kind::WITHDRAW => count == 1,
+        Kind::QUOTE => count == QUOTE_COUNT,
+        Kind::MOVE => count == MOVE_COUNT,
+        Kind::READ => count == READ_COUNT,
+        Kind::OPEN => count == OPEN_COUNT,
+        Kind::OUTSIDE => count == OUTSIDE_COUNT,
+        Kind::NOTICE => count == NOTICE_COUNT,
+        Kind::WITHDRAW => count == WITHDRAW_COUNT,
         Kind::INTEREST => INTEREST_COUNT <= count,
         Kind::BOND => BOND_COUNT <= count,
         _ => false,

@@ -194,10 +194,34 @@ bondNames =
     ∷ H ∷ Q ∷ WAIT ∷ RH1 ∷ RH2 ∷ RH3 ∷ LIQ ∷ MIN1 ∷ MIN2 ∷ MIN3 ∷ SMAX ∷ XPR ∷ PCHMAX ∷ PCLMAX ∷ MONITORING ∷ ISEWMA
     ∷ []
 
--- how many numbers stand before the row figures of an evaluation, before the key maturities of an interest line and
--- before the cash flows of a bond: as many as they have names
+-- how many numbers each call has; of an evaluation, an interest line and a bond, how many stand before its row figures,
+-- its key maturities and its cash flows: as many as they have names
+abbrev pub admitCount : ℕ
+admitCount = 32
+
 abbrev pub evaluateCount : ℕ
 evaluateCount = 13
+
+abbrev pub quoteCount : ℕ
+quoteCount = 5
+
+abbrev pub moveCount : ℕ
+moveCount = 2
+
+abbrev pub readCount : ℕ
+readCount = 1
+
+abbrev pub openCount : ℕ
+openCount = 1
+
+abbrev pub outsideCount : ℕ
+outsideCount = 3
+
+abbrev pub noticeCount : ℕ
+noticeCount = 3
+
+abbrev pub withdrawCount : ℕ
+withdrawCount = 1
 
 abbrev pub interestCount : ℕ
 interestCount = 14
@@ -205,10 +229,20 @@ interestCount = 14
 abbrev pub bondCount : ℕ
 bondCount = 33
 
-pub counts-are-of-the-names : (length evaluateNames ≡ evaluateCount) × (length interestNames ≡ interestCount)
+pub counts-are-of-the-names : (length admitNames ≡ admitCount)
+    × (length evaluateNames ≡ evaluateCount)
+    × (length quoteNames ≡ quoteCount)
+    × (length moveNames ≡ moveCount)
+    × (length readNames ≡ readCount)
+    × (length openNames ≡ openCount)
+    × (length outsideNames ≡ outsideCount)
+    × (length noticeNames ≡ noticeCount)
+    × (length withdrawNames ≡ withdrawCount)
+    × (length interestNames ≡ interestCount)
     × (length bondNames ≡ bondCount)
-unfolding evaluateNames interestNames bondNames
-counts-are-of-the-names = (refl, refl, refl)
+unfolding admitNames evaluateNames quoteNames moveNames readNames openNames
+    outsideNames noticeNames withdrawNames interestNames bondNames
+counts-are-of-the-names = (refl, refl, refl, refl, refl, refl, refl, refl, refl, refl, refl)
 
 -- the words, as bytes
 abbrev pub admitWord : List ℕ

@@ -20,9 +20,25 @@ pub const ANSWER_MOST: usize = 1_200;
 // Where so many bytes of answers wait at most, one more has room behind them.
 pub const WAITING_MOST: usize = ROOM - ANSWER_MOST;
 
-// How many numbers stand before the row figures of an evaluation, before the key maturities of an interest line and
-// before the cash flows of a bond.
+// How many numbers each call has; of an evaluation, an interest line and a bond, how many stand before its row figures,
+// its key maturities and its cash flows.
+pub const ADMIT_COUNT: usize = 32;
+
 pub const EVALUATE_COUNT: usize = 13;
+
+pub const QUOTE_COUNT: usize = 5;
+
+pub const MOVE_COUNT: usize = 2;
+
+pub const READ_COUNT: usize = 1;
+
+pub const OPEN_COUNT: usize = 1;
+
+pub const OUTSIDE_COUNT: usize = 3;
+
+pub const NOTICE_COUNT: usize = 3;
+
+pub const WITHDRAW_COUNT: usize = 1;
 
 pub const INTEREST_COUNT: usize = 14;
 

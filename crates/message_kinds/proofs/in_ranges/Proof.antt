@@ -5,7 +5,7 @@ use mir.Syntax.{w64}
 use lib.IntN.{pos}
 use lib.ListN.{getD}
 use Rattle.paper.specs.Ranges.{withinZ}
-use Rattle.paper_messages.specs.Fields.{noField}
+use Rattle.paper_messages.specs.Fields.{noField, places as placeCount}
 use Prim.Native.Nat.{_-_}
 use native.Mathlib.Omega.{arith}
 use borrow.Author.Needs.{needs}
@@ -17,7 +17,7 @@ abbrev Inv-loop : tie.InvT-loop
 Inv-loop places values i₀ i = Judging places values i
 
 abbrev μ-loop : tie.MeasureT-loop
-μ-loop places values i₀ i = 27 - i
+μ-loop places values i₀ i = placeCount - i
 
 loop-holds : tie.Need-loop-holds Inv-loop μ-loop
 loop-holds c = judging-none _ _ (omega arith)

@@ -1,6 +1,7 @@
 -- `values_of` meets its contract. Assumes nothing.
 use Prim.Native.Nat.{_-_}
 use native.Mathlib.Omega.{arith}
+use Rattle.paper_messages.specs.Fields.{places as placeCount}
 use borrow.Author.Needs.{needs}
 use lib.ListN.{getD}
 use mir.Facts.{toZ-ofZ}
@@ -12,7 +13,7 @@ abbrev Inv-loop : tie.InvT-loop
 Inv-loop numbers values₀ i₀ values i = Valuing numbers values i
 
 abbrev μ-loop : tie.MeasureT-loop
-μ-loop numbers values₀ i₀ values i = 27 - i
+μ-loop numbers values₀ i₀ values i = placeCount - i
 
 loop-holds : tie.Need-loop-holds Inv-loop μ-loop
 loop-holds c = valuing-none _ _ (omega arith)
