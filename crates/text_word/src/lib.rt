@@ -13,12 +13,12 @@ use text_protocol::Number;
 use text_protocol::Size;
 
 // The sizes of the greatest and of the least number of 64 bits with a sign.
-const GREATEST: u64 = 9_223_372_036_854_775_807;
+const GREATEST_SIZE: u64 = 9_223_372_036_854_775_807;
 
-const LEAST: u64 = 9_223_372_036_854_775_808;
+const LEAST_SIZE: u64 = 9_223_372_036_854_775_808;
 
 // The greatest number that takes one digit more and may still be within them.
-const ROOM: u64 = 922_337_203_685_477_580;
+const SIZE_BEFORE_ONE_MORE_DIGIT: u64 = 922_337_203_685_477_580;
 
 // ---- where words begin and end
 
@@ -120,7 +120,7 @@ fn number_from(p: &[u8], from: usize, most: u64) -> Size
         if DIGIT_NINE < b {
             return Size::Bad;
         }
-        if ROOM < x {
+        if SIZE_BEFORE_ONE_MORE_DIGIT < x {
             return Size::Bad;
         }
         let y = 10 * x + (b - DIGIT_ZERO);
@@ -171,9 +171,9 @@ pub fn number_of(p: &[u8]) -> Number
         if p.len() == 1 {
             return Number::Bad;
         }
-        return below(number_from(p, 1, LEAST));
+        return below(number_from(p, 1, LEAST_SIZE));
     }
-    above(number_from(p, 0, GREATEST))
+    above(number_from(p, 0, GREATEST_SIZE))
 }
 
 // The two numbers of a pair Ym/Yn, whose slash stands at `at`.
