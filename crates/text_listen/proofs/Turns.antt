@@ -302,8 +302,7 @@ module _ (b : List ℕ) (s : Listening) (o : List ℕ) (stands : Stands b s) (go
       let length-is : length (take (s .len) b) ≡ s .len = length-take-le (s .len) b (omega (
         arith,
         stands .in-b,
-        stands
-            .long,
+        stands .long,
       )) in
       let q = next-within (take (s .len) b) (s .at) (rw heard at e) in
       rw heard (q .0, rw length-is at (q .1))
@@ -331,7 +330,8 @@ module _ (b : List ℕ) (s : Listening) (o : List ℕ) (stands : Stands b s) (go
           go true f = ltb-true x y f
           go false f = let u : y ≤ x = ltb-false x y f in absurd (n (omega arith))
 
-  pub steps-on : (b' : List ℕ) (r : Listening) → not cut ≡ false → s .ended ≡ false → ReadsOn b s b' r → Steps b s o b' r o
+  pub steps-on : (b' : List ℕ) (r : Listening) → not cut ≡ false → s .ended ≡ false → ReadsOn b s b' r
+      → Steps b s o b' r o
   steps-on b' r cut-short not-ended q = go (q .is)
     where
       go : Delivers b s b' r ⊎ ((b' ≡ b) × (r .ok ≡ false) × Over s r) → Steps b s o b' r o

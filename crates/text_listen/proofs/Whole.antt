@@ -20,6 +20,7 @@ use Rattle.paper_messages.specs.declared.Field.{Field}
 use Rattle.paper_messages.specs.Bytes.{signedOf, spelled}
 use Rattle.paper_messages.specs.Fields.{placesOf}
 use Rattle.paper_messages.specs.Messages.{lengthWidth, kindWidth, lengthLeast, lengthMost, lengthAt, kindAt, isKnown, total, lengthOf, valid, messageAt, valuesAt, readChecks, noMessage, acceptedHeard}
+use Rattle.text_listen.specs.Listen.{SameHeard}
 
 -- the values of fields are in the bytes that the fields take
 values-more : (fields : List Field) (u later : List ℕ) → total fields ≤ length u
@@ -40,12 +41,13 @@ verdict few out short wrong bad =
     pick few CutShort (pick out WrongLength (pick short CutShort (pick wrong WrongLength (pick bad FieldOutOfRange
     Done))))
 
-not-few : (few out short wrong bad : Bool) → eqb (numberOf (verdict few out short wrong bad)) (numberOf CutShort) ≡ false → few ≡ false
+not-few : (few out short wrong bad : Bool)
+    → eqb (numberOf (verdict few out short wrong bad)) (numberOf CutShort) ≡ false → few ≡ false
 not-few true out short wrong bad e = absurd (not-true-and-false true refl e)
 not-few false out short wrong bad e = refl
 
-not-short : (out short wrong bad : Bool) → eqb (numberOf (verdict false out short wrong bad)) (numberOf CutShort) ≡ false
-    → out ≡ false → short ≡ false
+not-short : (out short wrong bad : Bool)
+    → eqb (numberOf (verdict false out short wrong bad)) (numberOf CutShort) ≡ false → out ≡ false → short ≡ false
 not-short true short wrong bad e f = absurd (not-true-and-false true refl f)
 not-short false true wrong bad e f = absurd (not-true-and-false true refl e)
 not-short false false wrong bad e f = refl
@@ -90,13 +92,8 @@ module _ (u later : List ℕ) (not-cut : eqb (numberOf (firstOf (readChecks u)))
   same-length : lengthAt (u ++ later) ≡ lengthAt u
   same-length = ap spelled (take-append-le lengthWidth u later has-length)
 
-  abbrev Same : Type 0
-  Same = (firstOf (readChecks (u ++ later)) ≡ firstOf (readChecks u))
-      × (isDone (firstOf (readChecks u)) ≡ true → (place : ℕ)
-      → acceptedHeard place (u ++ later) ≡ acceptedHeard place u)
-
   -- a length that no message has is seen at once
-  same-out : out u ≡ true → Same
+  same-out : out u ≡ true → SameHeard u later
   unfolding isDone
   same-out e = (
     rw (first-is (u ++ later), first-is u, few-all, few-is, same-length, e) refl,
@@ -137,7 +134,8 @@ module _ (u later : List ℕ) (not-cut : eqb (numberOf (firstOf (readChecks u)))
               (omega (arith, length-drop (lengthWidth + kindWidth) u, has-all, e)),
         )
 
-    same-in : (known right : Bool) → isKnown (kindAt u) ≡ known → eqb (lengthAt u) (lengthOf (kindAt u)) ≡ right → Same
+    same-in : (known right : Bool) → isKnown (kindAt u) ≡ known → eqb (lengthAt u) (lengthOf (kindAt u)) ≡ right
+        → SameHeard u later
     unfolding isDone acceptedHeard
     same-in false right k e = (
       rw (first-is (u ++ later), first-is u, few-all, few-is, short-all, short-is, same-length, same-kind, k) refl,
@@ -155,9 +153,9 @@ module _ (u later : List ℕ) (not-cut : eqb (numberOf (firstOf (readChecks u)))
         )
 
   -- WHAT IS HEARD WHOLE is heard so whatever stands behind it
-  pub heard-whole : Same
+  pub heard-whole : SameHeard u later
   heard-whole = go (out u) refl
     where
-      go : (x : Bool) → out u ≡ x → Same
+      go : (x : Bool) → out u ≡ x → SameHeard u later
       go true e = same-out e
       go false e = same-in e (isKnown (kindAt u)) (eqb (lengthAt u) (lengthOf (kindAt u))) refl refl

@@ -5,12 +5,8 @@ use mathlib.Core.List.{List, [], _∷_, _++_}
 use Prim.Native.Nat.{ℕ}
 use Rattle.paper.specs.Lists.{pick}
 use Rattle.text_protocol.specs.Bytes.{grow, pieces}
+use Rattle.text_protocol.specs.Split.{Free, free-none, free, AllFree, no-piece, piece, Joined, last, before}
 use Rattle.text_protocol.proofs.Spelling.{impossible}
-
--- no byte parts
-pub data Free (parts : ℕ → Bool) : List ℕ → Type 0 where
-  free-none : Free parts []
-  free : {b : ℕ} {t : List ℕ} → parts b ≡ false → Free parts t → Free parts (b ∷ t)
 
 pub free-append : {parts : ℕ → Bool} {s t : List ℕ} → Free parts s → Free parts t → Free parts (s ++ t)
 free-append free-none g = g
@@ -55,37 +51,28 @@ module _ (parts : ℕ → Bool) where
       go _ (more {p} u f h) e = let z : p ∷ pieces parts u ≡ [] = sym (pieces-more u f h) ∙ e in impossible cc
 
   -- no piece has a byte that parts
-  pub data AllFree : List (List ℕ) → Type 0 where
-    no-piece : AllFree []
-    piece : {p : List ℕ} {ps : List (List ℕ)} → Free parts p → AllFree ps → AllFree (p ∷ ps)
-
-  grow-free : (b : ℕ) {ps : List (List ℕ)} → parts b ≡ false → AllFree ps → AllFree (grow b ps)
+  grow-free : (b : ℕ) {ps : List (List ℕ)} → parts b ≡ false → AllFree parts ps → AllFree parts (grow b ps)
   unfolding grow
   grow-free b e no-piece = no-piece
   grow-free b e (piece f g) = piece (free e f) g
 
-  pub pieces-free : (t : List ℕ) → AllFree (pieces parts t)
+  pub pieces-free : (t : List ℕ) → AllFree parts (pieces parts t)
   unfolding pieces
   pieces-free [] = piece free-none no-piece
   pieces-free (b ∷ t) = go (parts b) refl (pieces-free t)
     where
-      go : (x : Bool) → parts b ≡ x → AllFree (pieces parts t)
-          → AllFree (pick x ([] ∷ pieces parts t) (grow b (pieces parts t)))
+      go : (x : Bool) → parts b ≡ x → AllFree parts (pieces parts t)
+          → AllFree parts (pick x ([] ∷ pieces parts t) (grow b (pieces parts t)))
       go true e g = piece free-none g
       go false e g = grow-free b e g
 
-  -- pieces with a byte between each two
-  pub data Joined (b : ℕ) : List (List ℕ) → List ℕ → Type 0 where
-    last : {p : List ℕ} → Joined b (p ∷ []) p
-    before : {p t : List ℕ} {ps : List (List ℕ)} → Joined b ps t → Joined b (p ∷ ps) (p ++ b ∷ t)
-
-  joined-pieces : {b : ℕ} {ps : List (List ℕ)} {t : List ℕ} → parts b ≡ true → AllFree ps → Joined b ps t
+  joined-pieces : {b : ℕ} {ps : List (List ℕ)} {t : List ℕ} → parts b ≡ true → AllFree parts ps → Joined b ps t
       → pieces parts t ≡ ps
   joined-pieces h (piece f no-piece) last = pieces-none f
   joined-pieces h (piece {p} f g) (before {t = t} j) =
       pieces-more t f h ∙ ap (λ (ps : List (List ℕ)). p ∷ ps) (joined-pieces h g j)
 
   -- A TEXT IS SPLIT IN ONE WAY
-  pub split-once : {b : ℕ} {ps qs : List (List ℕ)} {t : List ℕ} → parts b ≡ true → AllFree ps → AllFree qs
+  pub split-once : {b : ℕ} {ps qs : List (List ℕ)} {t : List ℕ} → parts b ≡ true → AllFree parts ps → AllFree parts qs
       → Joined b ps t → Joined b qs t → ps ≡ qs
   split-once h f g j k = sym (joined-pieces h f j) ∙ joined-pieces h g k

@@ -1,4 +1,5 @@
 pub mod Bytes
+pub mod Split
 pub mod Numbers
 pub mod Names
 pub mod Line

@@ -14,11 +14,12 @@ use Rattle.text_protocol.specs.Bytes.{minusSign, digitZero, digitNine}
 use Rattle.text_protocol.specs.Numbers.{isDigit}
 use Rattle.text_protocol.specs.Written.{Digits, no-digit, digit, negated}
 use Rattle.text_protocol.proofs.Spelling.{impossible, within-is-digit}
-use Rattle.text_protocol.proofs.Pieces.{Free, free-none, free, free-append}
+use Rattle.text_protocol.specs.Split.{Free, free-none, free}
+use Rattle.text_protocol.proofs.Pieces.{free-append}
 use Rattle.text_table.specs.declared.Column.{Column}
 use Rattle.text_table.specs.Exchange.{point, Decimal, whole, pointed, Field, missing, plain, negative}
-use Rattle.text_table.specs.Scan.{Front, front, none, then, starts, numberMost, number, positive, turned, cell}
-use Rattle.text_table.proofs.Decimals.{Stops, decimal-reads, Fronted, starts-back, decimal-back}
+use Rattle.text_table.specs.Scan.{Front, front, none, then, starts, NumberEnds, numberMost, number, positive, turned, cell}
+use Rattle.text_table.proofs.Decimals.{decimal-reads, Fronted, starts-back, decimal-back}
 
 -- ---- the bytes of a field
 
@@ -72,8 +73,8 @@ abs-negated zero = refl
 abs-negated (suc v) = refl
 
 -- A FIELD THAT IS WRITTEN IS READ
-pub field-reads : (c : Column) {p : List ℕ} {z : ℤ} (rest : List ℕ) → Field c p z → natAbs z ≤ numberMost → Stops rest
-    → cell c (p ++ rest) ≡ front z rest
+pub field-reads : (c : Column) {p : List ℕ} {z : ℤ} (rest : List ℕ) → Field c p z → natAbs z ≤ numberMost
+    → NumberEnds rest → cell c (p ++ rest) ≡ front z rest
 unfolding cell positive turned starts
 field-reads c rest (missing e) most s = rw (s .minus, and-false (c .minus), e, s .digit)
 field-reads c rest (plain {p} {v} d) most s =

@@ -18,7 +18,7 @@ use Rattle.text_protocol.specs.Written.{Digits, no-digit, digit, value}
 use Rattle.text_protocol.proofs.Spelling.{impossible, within-is-digit, digit-is-within}
 use Rattle.text_table.specs.declared.Column.{Column}
 use Rattle.text_table.specs.Exchange.{point, Decimal, whole, pointed}
-use Rattle.text_table.specs.Scan.{Front, front, none, then, starts, numberMost, digits, pastZeros, behindZeros, decimals, behindWhole, number}
+use Rattle.text_table.specs.Scan.{Front, front, none, then, starts, NumberEnds, numberMost, digits, pastZeros, behindZeros, decimals, behindWhole, number}
 use Rattle.text_table.proofs.Values.{ten-pos, value-split, value-lt, value-more, value-not-below, cancelled-equal, whole-without-rest}
 
 -- ---- digits that are written are read
@@ -193,12 +193,6 @@ module _ (c : Column) (n v : ℕ) {f : List ℕ} (rest : List ℕ) (d : Digits f
 
 -- ---- a decimal
 
--- no byte of a number follows
-pub record Stops (t : List ℕ) : Type 0 where
-  pub digit : starts isDigit t ≡ false
-  pub point : starts (λ b. eqb b point) t ≡ false
-  pub minus : starts (λ b. eqb b minusSign) t ≡ false
-
 -- the whole part is no more than the number
 whole-le : (c : Column) (n v : ℕ) (f : List ℕ) → value n f * 10 ^ c .places ≡ v * 10 ^ length f → n ≤ v
 whole-le c n v f e =
@@ -207,7 +201,7 @@ whole-le c n v f e =
     le-of-mul-le-mul-right a (ten-pos (length f))
 
 -- A DECIMAL THAT IS WRITTEN IS READ
-pub decimal-reads : (c : Column) {p : List ℕ} {v : ℕ} (rest : List ℕ) → Decimal c p v → v ≤ numberMost → Stops rest
+pub decimal-reads : (c : Column) {p : List ℕ} {v : ℕ} (rest : List ℕ) → Decimal c p v → v ≤ numberMost → NumberEnds rest
     → number c (p ++ rest) ≡ front v rest
 unfolding number behindWhole starts isDigit
 decimal-reads c rest (whole {t} d some) most s =

@@ -15,11 +15,12 @@ use Rattle.paper.proofs.Logic.{not-true-and-false, and-left, and-right, and-bot
 use Rattle.text_protocol.specs.Bytes.{lineFeed, carriageReturn, minusSign, digitNine, isLineFeed, pieces}
 use Rattle.text_protocol.specs.Numbers.{isDigit}
 use Rattle.text_protocol.proofs.Spelling.{impossible}
-use Rattle.text_protocol.proofs.Pieces.{Free, free-none, free, free-append, pieces-none, pieces-more, Parted, all, more, parted, pieces-some}
+use Rattle.text_protocol.specs.Split.{Free, free-none, free}
+use Rattle.text_protocol.proofs.Pieces.{free-append, pieces-none, pieces-more, Parted, all, more, parted, pieces-some}
 use Rattle.text_table.specs.declared.Column.{Column}
 use Rattle.text_table.specs.Exchange.{point, semicolon, isSemicolon, Decimal, Field, missing, plain, negative, columns, wholeNumber, Fields, no-field, field, Line, Ended, by-lf, by-cr-lf}
-use Rattle.text_table.specs.Scan.{Front, front, none, then, starts, numberMost, cell, Passed, passed, pass, lineEnd, fieldEnd, cells, inRange, line}
-use Rattle.text_table.proofs.Decimals.{Stops, starts-back}
+use Rattle.text_table.specs.Scan.{Front, front, none, then, starts, NumberEnds, numberMost, cell, Passed, passed, pass, lineEnd, fieldEnd, cells, inRange, line}
+use Rattle.text_table.proofs.Decimals.{starts-back}
 use Rattle.text_table.proofs.Cells.{field-free, field-reads, Celled, field-back}
 
 -- ---- what ends a field and a line
@@ -29,11 +30,12 @@ pub data Ending : List ℕ → List ℕ → Type 0 where
   lf : {rest : List ℕ} → Ending (lineFeed ∷ rest) rest
   cr-lf : {rest : List ℕ} → Ending (carriageReturn ∷ lineFeed ∷ rest) rest
 
-stops : (b : ℕ) (rest : List ℕ) → isDigit b ≡ false → eqb b point ≡ false → eqb b minusSign ≡ false → Stops (b ∷ rest)
+stops : (b : ℕ) (rest : List ℕ) → isDigit b ≡ false → eqb b point ≡ false → eqb b minusSign ≡ false
+    → NumberEnds (b ∷ rest)
 unfolding starts
 stops b rest d p m = record { digit = d; point = p; minus = m }
 
-ending-stops : {e rest : List ℕ} → Ending e rest → Stops e
+ending-stops : {e rest : List ℕ} → Ending e rest → NumberEnds e
 unfolding isDigit
 ending-stops (lf {rest}) = stops lineFeed rest refl refl refl
 ending-stops (cr-lf {rest}) = stops carriageReturn (lineFeed ∷ rest) refl refl refl
@@ -100,7 +102,7 @@ pub data Small : List ℤ → Type 0 where
   none-small : Small []
   small : {z : ℤ} {zs : List ℤ} → natAbs z ≤ numberMost → Small zs → Small (z ∷ zs)
 
-semicolon-stops : (rest : List ℕ) → Stops (semicolon ∷ rest)
+semicolon-stops : (rest : List ℕ) → NumberEnds (semicolon ∷ rest)
 unfolding isDigit
 semicolon-stops rest = stops semicolon rest refl refl refl
 

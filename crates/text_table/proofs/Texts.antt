@@ -17,7 +17,8 @@ use Rattle.paper.specs.Verdicts.{Exactly}
 use Rattle.paper.proofs.Logic.{not-true-and-false, le-or-lt}
 use Rattle.text_protocol.specs.Bytes.{lineFeed, isLineFeed, pieces}
 use Rattle.text_protocol.proofs.Spelling.{impossible}
-use Rattle.text_protocol.proofs.Pieces.{Free, pieces-none, pieces-more, AllFree, piece, pieces-free, pieces-some}
+use Rattle.text_protocol.specs.Split.{Free, AllFree, piece}
+use Rattle.text_protocol.proofs.Pieces.{pieces-none, pieces-more, pieces-free, pieces-some}
 use Rattle.text_table.specs.declared.Reading.{Reading}
 use Rattle.text_table.specs.Exchange.{Ended, by-lf, by-cr-lf, rowsMost, textMost, Bad, unended, no-row, seventeenth, RowsOf, no-line, its-own, another's, inOne, accepted, refused, Says, too-long, bad-at, good}
 use Rattle.text_table.specs.Scan.{Front, front, none, line, isOf, orBad, collect, reading}

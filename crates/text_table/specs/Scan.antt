@@ -1,5 +1,6 @@
 -- How a text is read in one pass, from its front on: what stands in front of a text, and what is left behind it. The
 -- code reads so; proofs/ proves that it is what the definitions of Exchange say. Assumes nothing.
+use mathlib.Core.Path.{_≡_}
 use mathlib.Core.Bool.{Bool, true, false, _&&_, not}
 use mathlib.Core.List.{List, [], _∷_, _++_}
 use Prim.Native.Nat.{ℕ, zero, suc, _+_, _-_, _*_, _^_}
@@ -29,6 +30,12 @@ then none f = none
 unfoldable pub starts : (passes : ℕ → Bool) → (text : List ℕ) → Bool
 starts passes [] = false
 starts passes (b ∷ t) = passes b
+
+-- no byte of a number follows
+pub record NumberEnds (t : List ℕ) : Type 0 where
+  pub digit : starts isDigit t ≡ false
+  pub point : starts (λ b. eqb b point) t ≡ false
+  pub minus : starts (λ b. eqb b minusSign) t ≡ false
 
 -- no range holds a greater number than this
 abbrev pub numberMost : ℕ
