@@ -32,6 +32,9 @@ pub within-is-digit : (b : ℕ) → digitZero ≤ b → b ≤ digitNine → isDi
 unfolding isDigit
 within-is-digit b h k = rw (le-leb digitZero b h, le-leb b digitNine k)
 
+pub digit-is-no-minus : (b : ℕ) → digitZero ≤ b → b ≡ minusSign → ⊥
+digit-is-no-minus b h e = omega arith
+
 pub low-no-digit : (b : ℕ) → b < digitZero → isDigit b ≡ false
 unfolding isDigit
 low-no-digit b h = rw (lt-leb digitZero b h)
@@ -64,13 +67,10 @@ unfolding numberOf above
 plain-reads [] d h k = let z : ⊥ = omega arith in absurd z
 plain-reads (b ∷ t) (digit lo up d) h k =
     rw (
-      ne-eqb b minusSign (λ e. apart b lo e),
+      ne-eqb b minusSign (digit-is-no-minus b lo),
       size-is (b ∷ t) (digit lo up d) h,
       up-to greatest (value 0 (b ∷ t)) k,
     )
-  where
-    apart : (b : ℕ) → digitZero ≤ b → b ≡ minusSign → ⊥
-    apart b h e = omega arith
 
 -- THE NUMBER THAT A WORD SPELLS IS THE ONE THAT IS READ
 pub spells-reads : {w : List ℕ} {z : ℤ} → Spells w z → numberOf w ≡ number.Is z

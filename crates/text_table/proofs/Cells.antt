@@ -13,7 +13,7 @@ use Rattle.paper.proofs.Logic.{and-left, and-right}
 use Rattle.text_protocol.specs.Bytes.{minusSign, digitZero, digitNine}
 use Rattle.text_protocol.specs.Numbers.{isDigit}
 use Rattle.text_protocol.specs.Written.{Digits, no-digit, digit, negated}
-use Rattle.text_protocol.proofs.Spelling.{impossible, within-is-digit}
+use Rattle.text_protocol.proofs.Spelling.{impossible, within-is-digit, digit-is-no-minus}
 use Rattle.text_protocol.specs.Split.{Free, free-none, free}
 use Rattle.text_protocol.proofs.Pieces.{free-append}
 use Rattle.text_table.specs.declared.Column.{Column}
@@ -55,12 +55,8 @@ unfolding starts
 digits-first u no-digit h = let z : ⊥ = omega arith in absurd z
 digits-first u (digit {b} lo hi d) h = record {
   digit = within-is-digit b lo hi;
-  minus = ne-eqb b minusSign
-      (apart b lo);
+  minus = ne-eqb b minusSign (digit-is-no-minus b lo);
 }
-  where
-    apart : (b : ℕ) → digitZero ≤ b → b ≡ minusSign → ⊥
-    apart b h e = omega arith
 
 decimal-first : {c : Column} {p : List ℕ} {v : ℕ} (rest : List ℕ) → Decimal c p v → Digital (p ++ rest)
 decimal-first rest (whole d h) = digits-first rest d h
