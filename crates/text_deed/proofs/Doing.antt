@@ -53,8 +53,8 @@ use Rattle.text_line.specs.Heard.{blankKind, badKind, said, Heard}
 use Rattle.text_call.specs.declared.Request.{Request}
 use Rattle.text_call.specs.Requests.{requestCall, noticeLine, lineCall}
 use Rattle.text_deed.specs.declared.Beside.{Beside}
-use Rattle.text_deed.specs.declared.Wanted.{Wanted}
-use Rattle.text_deed.specs.Deeds.{callIn, asksWhy, plainText, lineText, Said as SaidBy, Wants, Does}
+use Rattle.text_deed.specs.declared.LineDeed.{LineDeed}
+use Rattle.text_deed.specs.Deeds.{callIn, asksWhy, plainText, lineText, Said as SaidBy, AsksFor, Does}
 
 -- what a line of a kind says
 abbrev saidKind : ℕ → List ℤ → Pairs → Said
@@ -328,52 +328,52 @@ module _ (k : Kept) (zs : List ℤ) (p : Pairs) where
       rw (answers-kind n b a t is f g (e .answer)) (reasons-kind n r rows (a .why) t is asks (e .why))
   says-kind Messages n b r rows a t is f g asks e = messages-kind n r rows (a .answer) t is asks (e .answer)
 
--- ---- what is wanted of a line
+-- ---- what a line asks for
 
 module _ (k : Kept) (kind : ℕ) (zs : List ℤ) (p : Pairs) (r : Request)
     (asks : requestCall r (drop evaluateCount zs) ≡ lineCall k kind zs p) (b : Beside) where
-  pub wants-interest : (given : Interest) (fs : List ℤ) (i : InterestAnswer) (kept : Kept) → given ≡ interestOf zs
+  pub asks-for-interest : (given : Interest) (fs : List ℤ) (i : InterestAnswer) (kept : Kept) → given ≡ interestOf zs
       → fs ≡ drop interestCount zs → i ≡ interestAnswer given fs → b .interest ≡ i → kept ≡ keptAfter k given i
-      → kind ≡ interestKind → Wants k kind zs p (record { request = r; beside = b; kept = kept })
+      → kind ≡ interestKind → AsksFor k kind zs p (record { request = r; beside = b; kept = kept })
   unfolding figuresOf interestNames
-  wants-interest given fs i kept e f g said h is =
+  asks-for-interest given fs i kept e f g said h is =
       let w : i ≡ interestAnswer (interestOf zs) (drop interestCount zs) = g ∙ rw (e, f) in
       record {
         asks = asks;
-        works = λ q. said ∙ w;
-        bonds = λ q. let z : ⊥ = omega arith in absurd z;
+        interest-answered = λ q. said ∙ w;
+        bond-answered = λ q. let z : ⊥ = omega arith in absurd z;
         keeps = λ q. h ∙ rw (e, w);
         stays = λ q. absurd (q is);
       }
 
-  pub wants-bond : (given : Bond) (fs : List ℤ) (a : BondAnswer) → given ≡ bondOf k zs p → fs ≡ drop bondCount zs
+  pub asks-for-bond : (given : Bond) (fs : List ℤ) (a : BondAnswer) → given ≡ bondOf k zs p → fs ≡ drop bondCount zs
       → a ≡ bondAnswer given fs → b .bond ≡ a
-      → kind ≡ bondKind → Wants k kind zs p (record { request = r; beside = b; kept = k })
+      → kind ≡ bondKind → AsksFor k kind zs p (record { request = r; beside = b; kept = k })
   unfolding figuresOf bondNames
-  wants-bond given fs a e f g said is =
+  asks-for-bond given fs a e f g said is =
       record {
         asks = asks;
-        works = λ q. let z : ⊥ = omega arith in absurd z;
-        bonds = λ q. said ∙ g ∙ rw (e, f);
+        interest-answered = λ q. let z : ⊥ = omega arith in absurd z;
+        bond-answered = λ q. said ∙ g ∙ rw (e, f);
         keeps = λ q. let z : ⊥ = omega arith in absurd z;
         stays = λ q. refl;
       }
 
-  pub wants-other : (kind ≡ interestKind → ⊥) → (kind ≡ bondKind → ⊥)
-      → Wants k kind zs p (record { request = r; beside = b; kept = k })
-  wants-other n m =
+  pub asks-for-other : (kind ≡ interestKind → ⊥) → (kind ≡ bondKind → ⊥)
+      → AsksFor k kind zs p (record { request = r; beside = b; kept = k })
+  asks-for-other n m =
       record {
         asks = asks;
-        works = λ q. absurd (n q);
-        bonds = λ q. absurd (m q);
+        interest-answered = λ q. absurd (n q);
+        bond-answered = λ q. absurd (m q);
         keeps = λ q. absurd (n q);
         stays = λ q. refl;
       }
 
--- WHAT IS WANTED OF A LINE IS THE DEED THAT IT SAYS
-pub wants-does : (l : Line) (xs : List ℤ) (s : Said) (k : Kept) (w : Wanted) → Heard s l xs
-    → Wants k (l .kind) (take (l .count) xs) (l .pairs) w → Does k (deedOf k s) (l .kind) (take (l .count) xs) w
-wants-does l xs s k w h q =
+-- WHAT A LINE ASKS FOR IS THE DEED THAT IT SAYS
+pub asked-is-the-deed : (l : Line) (xs : List ℤ) (s : Said) (k : Kept) (w : LineDeed) → Heard s l xs
+    → AsksFor k (l .kind) (take (l .count) xs) (l .pairs) w → Does k (deedOf k s) (l .kind) (take (l .count) xs) w
+asked-is-the-deed l xs s k w h q =
     let zs : List ℤ = take (l .count) xs in
     let e : saidKind (l .kind) zs (l .pairs) ≡ s = said-kind l xs (h .says) in
     let is : LineKind (l .kind) = line-kind (l .kind) (h .low) (h .high) in
@@ -384,5 +384,5 @@ wants-does l xs s k w h q =
       kept = rw (← e) (keeps-kind k zs (l .pairs) (w .kept) is (q .keeps) (q .stays));
       says = λ telling n a t f.
           rw (← e) (says-kind k zs (l .pairs) telling n (w .beside) (w .request) (drop evaluateCount zs) a t is
-          (q .works) (q .bonds) asks (rw (← e) at f));
+          (q .interest-answered) (q .bond-answered) asks (rw (← e) at f));
     }

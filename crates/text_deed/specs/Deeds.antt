@@ -30,7 +30,7 @@ use Rattle.text_line.specs.Heard.{blankKind, badKind}
 use Rattle.text_call.specs.declared.Request.{Request}
 use Rattle.text_call.specs.Requests.{requestCall, lineCall}
 use Rattle.text_deed.specs.declared.Beside.{Beside}
-use Rattle.text_deed.specs.declared.Wanted.{Wanted}
+use Rattle.text_deed.specs.declared.LineDeed.{LineDeed}
 
 -- the call of the desk that a line asks for: a read of id 0, which changes nothing, where it asks for none
 unfoldable pub callIn : Deed → Call
@@ -65,18 +65,19 @@ pub record Said (asked : Bool) (r : Request) (rows : List ℤ) (c : Call) (t : L
   pub answer : p .answer ≡ step c t .answer
   pub why : asked ≡ true → p .why ≡ whyOn t (r .id) (dayOf (r .day)) rows
 
--- what the code makes of a line of a kind, of the numbers zs and the pairs p
-pub record Wants (k : Kept) (kind : ℕ) (zs : List ℤ) (p : Pairs) (r : Wanted) : Type 0 where
+-- WHAT A LINE of a kind, with the numbers zs and the pairs p, ASKS FOR, as the code has it
+pub record AsksFor (k : Kept) (kind : ℕ) (zs : List ℤ) (p : Pairs) (r : LineDeed) : Type 0 where
   pub asks : requestCall (r .request) (drop evaluateCount zs) ≡ lineCall k kind zs p
-  pub works : kind ≡ interestKind → r .beside .interest ≡ interestAnswer (interestOf zs) (figuresOf interestNames zs)
-  pub bonds : kind ≡ bondKind → r .beside .bond ≡ bondAnswer (bondOf k zs p) (figuresOf bondNames zs)
+  pub interest-answered : kind ≡ interestKind
+      → r .beside .interest ≡ interestAnswer (interestOf zs) (figuresOf interestNames zs)
+  pub bond-answered : kind ≡ bondKind → r .beside .bond ≡ bondAnswer (bondOf k zs p) (figuresOf bondNames zs)
   pub keeps : kind ≡ interestKind → r .kept ≡ keptAfter k (interestOf zs) (interestAnswer (interestOf zs) (figuresOf
       interestNames zs))
   pub stays : (kind ≡ interestKind → ⊥) → r .kept ≡ k
 
 -- WHAT THE CODE MAKES OF A LINE IS THE DEED d: its call of the desk, what is kept after it, and what it is told as,
 -- where the desk says what it says to that call, and however lines are told
-pub record Does (k : Kept) (d : Deed) (kind : ℕ) (zs : List ℤ) (r : Wanted) : Type 0 where
+pub record Does (k : Kept) (d : Deed) (kind : ℕ) (zs : List ℤ) (r : LineDeed) : Type 0 where
   pub asks : requestCall (r .request) (drop evaluateCount zs) ≡ callIn d
   pub kept : r .kept ≡ keptBy d k
   pub says : (telling : Telling) (n : ℕ) (a : Performed) (t : List Record)

@@ -1,12 +1,12 @@
 // What a line asks for: of the desk, as a request, or beside the table, where it is answered at once; and the text of
-// its answer, in each way that lines are told. A kind of line more is a branch more of `wanted_by` and of `say_plain`,
+// its answer, in each way that lines are told. A kind of line more is a branch more of `deed_of` and of `say_plain`,
 // a way of telling more is a case more of `asks_why` and of `say`.
 ghost use mathlib.Core.Path.{_≡_};
 ghost use Prim.Native.Nat.{_+_, _≤_};
 ghost use Rattle.text_protocol.specs.Bytes.{room};
 ghost use Rattle.text_protocol.specs.Answers.{answerMost};
 ghost use Rattle.text_out.specs.Wrote.{Wrote};
-ghost use Rattle.text_deed.specs.Deeds.{asksWhy, plainText, lineText, Wants};
+ghost use Rattle.text_deed.specs.Deeds.{asksWhy, plainText, lineText, AsksFor};
 use paper::InterestAnswer;
 use paper::Verdict;
 use paper_bonds::BondAnswer;
@@ -39,7 +39,7 @@ pub struct Beside {
 }
 
 // What a line asks of the desk, what is answered to it beside the table, and what is kept of the interest lines then.
-pub struct Wanted {
+pub struct LineDeed {
     pub request: Request,
     pub beside: Beside,
     pub kept: Kept,
@@ -65,9 +65,9 @@ fn of_bond(bond: BondAnswer) -> Beside
     }
 }
 
-// What is wanted of a line with the numbers `zs`, where `k` is kept of the interest lines before it.
-pub fn wanted_by(zs: &[i64], l: Line, k: Kept) -> Wanted
-    ensures { λ r. ⌜ Wants k (l .kind) (now (zs .entry)) (l .pairs) r ⌝ }
+// What a line with the numbers `zs` asks for, where `k` is kept of the interest lines before it.
+pub fn deed_of(zs: &[i64], l: Line, k: Kept) -> LineDeed
+    ensures { λ r. ⌜ AsksFor k (l .kind) (now (zs .entry)) (l .pairs) r ⌝ }
 {
     let kind = l.kind;
     let pairs = l.pairs;
@@ -75,7 +75,7 @@ pub fn wanted_by(zs: &[i64], l: Line, k: Kept) -> Wanted
     if kind == Kind::INTEREST {
         let given = interest_of(zs);
         let i = interest::answer(given, figures(zs, INTEREST_COUNT));
-        return Wanted {
+        return LineDeed {
             request,
             beside: of_interest(i),
             kept: kept_after(k, given, i),
@@ -83,13 +83,13 @@ pub fn wanted_by(zs: &[i64], l: Line, k: Kept) -> Wanted
     }
     if kind == Kind::BOND {
         let b = bond::answer(bond_of(k, pairs, zs), figures(zs, BOND_COUNT));
-        return Wanted {
+        return LineDeed {
             request,
             beside: of_bond(b),
             kept: k,
         };
     }
-    Wanted {
+    LineDeed {
         request,
         beside: of_bond(bond::refused(Verdict::OutOfRange)),
         kept: k,

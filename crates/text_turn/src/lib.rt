@@ -17,8 +17,8 @@ use text_call::Request;
 use text_call::least;
 use text_deed::Beside;
 use text_deed::asks_why;
+use text_deed::deed_of;
 use text_deed::say;
-use text_deed::wanted_by;
 use text_evening::Telling;
 use text_input::Input;
 use text_input::hear;
@@ -70,11 +70,11 @@ pub fn prepare(buf: &mut [u8], xs: &mut [i64], s: State) -> Prepared
     let line = h.line;
     let count = line.count;
     let kind = line.kind;
-    let w = wanted_by(&xs[..count], line, kept);
+    let deed = deed_of(&xs[..count], line, kept);
     let input = h.input;
-    let kept = w.kept;
-    let request = w.request;
-    let beside = w.beside;
+    let kept = deed.kept;
+    let request = deed.request;
+    let beside = deed.beside;
     Prepared {
         input,
         number: s.number,

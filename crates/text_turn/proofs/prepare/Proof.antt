@@ -10,20 +10,20 @@ use Rattle.text_turn.proofs.prepare.Reads as reads
 use Rattle.text_turn.proofs.prepare.Lts as lts
 use Rattle.text_input.proofs.hear.Reads as hear-reads
 use Rattle.text_deed.proofs.asks_why.Reads as asks-why-reads
-use Rattle.text_deed.proofs.wanted_by.Reads as wanted-by-reads
+use Rattle.text_deed.proofs.deed_of.Reads as deed-of-reads
 
 hear-requires : tie.Need-hear-requires
 hear-requires c κs = search needs
 
-slice-reshare-prefix-wanted-by : tie.Need-slice-reshare-prefix-wanted-by
-slice-reshare-prefix-wanted-by c = search needs
+slice-reshare-prefix-deed-of : tie.Need-slice-reshare-prefix-deed-of
+slice-reshare-prefix-deed-of c = search needs
 
-slice-aggregate-wanted-by : tie.Need-slice-aggregate-wanted-by
-slice-aggregate-wanted-by c = let p = c .before .before .before .before .before .hear .ensures in sym (length-take-le _
+slice-aggregate-deed-of : tie.Need-slice-aggregate-deed-of
+slice-aggregate-deed-of c = let p = c .before .before .before .before .before .hear .ensures in sym (length-take-le _
     _ (omega (arith, p .says .long, p .says .most)))
 
-wanted-by-requires : tie.Need-wanted-by-requires
-wanted-by-requires c κs = search needs
+deed-of-requires : tie.Need-deed-of-requires
+deed-of-requires c κs = search needs
 
 asks-why-requires : tie.Need-asks-why-requires
 asks-why-requires c κs = search needs
@@ -36,10 +36,10 @@ same-length-2 c = search needs
 
 returns : tie.Need-returns
 returns c =
-    let wanted = c .before .before .before .before .before in
-    let heard = wanted .before .before .before .before .before .before in
+    let at-deed = c .before .before .before .before .before in
+    let heard = at-deed .before .before .before .before .before .before in
     let entered = heard .before .before .before .before .before .before in (
-      prepared _ (entered .args .s) _ _ _ _ _ (heard .hear .ensures) (wanted .wanted-by .ensures)
+      prepared _ (entered .args .s) _ _ _ _ _ (heard .hear .ensures) (at-deed .deed-of .ensures)
           (c .asks-why .ensures),
       heard .hear .ensures .says .long,
     )
@@ -49,9 +49,9 @@ prepare-spec =
     tie.close
     (tie.spec
     hear-requires
-    slice-reshare-prefix-wanted-by
-    slice-aggregate-wanted-by
-    wanted-by-requires
+    slice-reshare-prefix-deed-of
+    slice-aggregate-deed-of
+    deed-of-requires
     asks-why-requires
     same-length
     same-length-2

@@ -1,10 +1,10 @@
--- `text_deed::wanted_by` meets its contract. Assumes nothing.
-use Rattle.text_deed.proofs.Doing.{wants-interest, wants-bond, wants-other}
+-- `text_deed::deed_of` meets its contract. Assumes nothing.
+use Rattle.text_deed.proofs.Doing.{asks-for-interest, asks-for-bond, asks-for-other}
 use borrow.Author.Needs.{needs}
-use Rattle.text_deed.proofs.wanted_by.Statement.{statement}
-use Rattle.text_deed.proofs.wanted_by.Tie as tie
-use Rattle.text_deed.proofs.wanted_by.Reads as reads
-use Rattle.text_deed.proofs.wanted_by.Lts as lts
+use Rattle.text_deed.proofs.deed_of.Statement.{statement}
+use Rattle.text_deed.proofs.deed_of.Tie as tie
+use Rattle.text_deed.proofs.deed_of.Reads as reads
+use Rattle.text_deed.proofs.deed_of.Lts as lts
 use Rattle.bond.proofs.answer.Reads as answer-reads
 use Rattle.bond.proofs.refused.Reads as refused-reads
 use Rattle.interest.proofs.answer.Reads as answer-reads′
@@ -41,7 +41,7 @@ returns c =
     let at-figures = at-answer .before in
     let at-interest-of = at-figures .before in
     let at-if1 = at-interest-of .before in
-    wants-interest _ _ _ _ _ (at-if1 .before .request-of .ensures) _ _ _ _ _ (at-interest-of .interest-of .ensures)
+    asks-for-interest _ _ _ _ _ (at-if1 .before .request-of .ensures) _ _ _ _ _ (at-interest-of .interest-of .ensures)
     (at-figures .figures .ensures) (at-answer .answer .ensures) (at-of-interest .of-interest .ensures)
     (c .kept-after .ensures) (at-if1 .if1 .taken)
 
@@ -63,7 +63,7 @@ returns-2 c =
     let at-figures = at-answer .before in
     let at-bond-of = at-figures .before in
     let at-if2 = at-bond-of .before in
-    wants-bond _ _ _ _ _ (at-if2 .before .before .request-of .ensures) _ _ _ _ (at-bond-of .bond-of .ensures)
+    asks-for-bond _ _ _ _ _ (at-if2 .before .before .request-of .ensures) _ _ _ _ (at-bond-of .bond-of .ensures)
     (at-figures .figures2 .ensures) (at-answer .answer2 .ensures) (c .of-bond .ensures) (at-if2 .if2 .taken)
 
 refused-requires : tie.Need-refused-requires
@@ -76,10 +76,10 @@ returns-3 : tie.Need-returns-3
 returns-3 c =
     let at-if2 = c .before .before in
     let at-if1 = at-if2 .before in
-    wants-other _ _ _ _ _ (at-if1 .before .request-of .ensures) _ (at-if1 .if1 .left) (at-if2 .if2 .left)
+    asks-for-other _ _ _ _ _ (at-if1 .before .request-of .ensures) _ (at-if1 .if1 .left) (at-if2 .if2 .left)
 
-pub wanted-by-spec : {M : Type 1} → statement M
-wanted-by-spec =
+pub deed-of-spec : {M : Type 1} → statement M
+deed-of-spec =
     tie.close
     (tie.spec
     request-of-requires
