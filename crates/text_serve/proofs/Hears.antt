@@ -62,13 +62,13 @@ module _ {M : Type 1} (𝓤 : URA M) (H : Heap 𝓤) (A : Atoms 𝓤) (mem′ : 
     )
 
     -- the buffer and the numbers, each with the token of its lifetime
-    abbrev Handed : Lft → GName → Item 𝓤
-    Handed α δ =
+    abbrev HandedToHear : Lft → GName → Item 𝓤
+    HandedToHear α δ =
         (‵ (Lent Bytes 0 κ b o γ bs) ⊛ ‵ (flft κ q)) ⊛ (‵ (Lent Numbers 1 α bx ox δ xs) ⊛ ‵ (flft α fullShare))
 
-    goes-hear : (α : Lft) (δ : GName) → ent 𝓤 (mean 𝓤 H A (Handed α δ)) (Hear .pre (to-hear α δ, tt))
+    goes-hear : (α : Lft) (δ : GName) → ent 𝓤 (mean 𝓤 H A (HandedToHear α δ)) (Hear .pre (to-hear α δ, tt))
     goes-hear α δ =
-        qed W (Handed α δ ∷ []) ∵ split ! $
+        qed W (HandedToHear α δ ∷ []) ∵ split ! $
         split ! $ move ! (2 ∷ []) $ split ! $
         -- [the numbers; their token; the buffer; its token]
         says ! stands $ nothing ! $ move ! (2 ∷ 0 ∷ []) $ join ! $ move ! (3 ∷ 0 ∷ []) $ join ! $ framed ! $
@@ -104,8 +104,8 @@ module _ {M : Type 1} (𝓤 : URA M) (H : Heap 𝓤) (A : Atoms 𝓤) (mem′ : 
           move ! (4 ∷ 5 ∷ []) $ join ! $ move ! (1 ∷ 3 ∷ []) $ join ! $ move ! (1 ∷ 0 ∷ []) $ join ! $
           move ! (0 ∷ 2 ∷ []) $
           -- [what is handed over; the frame; what is lent; …]
-          calls 𝓤 H A W hear.ended (hear.clauses 𝓤 H A mem′ run) (to-hear (α ∷ []) δ) tt fm known (Handed (α ∷ []) δ)
-          (goes-hear (α ∷ []) δ)
+          calls 𝓤 H A W hear.ended (hear.clauses 𝓤 H A mem′ run) (to-hear (α ∷ []) δ) tt fm known
+          (HandedToHear (α ∷ []) δ) (goes-hear (α ∷ []) δ)
           (λ p v is. subst (λ (τ : Ty). T (hasTy τ v) × WT v) (sym is-heard) (typed-heard 𝓤 H A W p v is)) in-d (os _)
           (λ p v is. use1 W (Ensured δ p) (id⊢ 𝓤 _) $ pick ! (λ zs. split ! $ move ! (1 ∷ []) $
           heard ! (Prepares bs s (zs .0) p (zs .1 .0)) (λ e. fsplit ! $ move ! (1 ∷ []) $ fsplit ! $ move ! (1 ∷ []) $

@@ -176,13 +176,13 @@ module _ {M : Type 1} (𝓤 : URA M) (H : Heap 𝓤) (A : Atoms 𝓤) (mem′ : 
     )
 
     -- the table and the row figures, each with the token of its lifetime
-    abbrev Handed : Item 𝓤
-    Handed =
+    abbrev HandedToAsk : Item 𝓤
+    HandedToAsk =
         (‵ (Owned κ b o γ ys) ⊛ ‵ (flft κ q)) ⊛ (‵ (Figures 1 α f (figures-val f)) ⊛ ‵ (flft α fullShare))
 
-    goes-ask : ent 𝓤 (mean 𝓤 H A Handed) (Ask .pre (to-ask, tt))
+    goes-ask : ent 𝓤 (mean 𝓤 H A HandedToAsk) (Ask .pre (to-ask, tt))
     goes-ask =
-        qed W (Handed ∷ []) ∵ split ! $
+        qed W (HandedToAsk ∷ []) ∵ split ! $
         split ! $ move ! (2 ∷ []) $ split ! $
         -- [the figures; their token; t; its token]
         nothing ! $ move ! (2 ∷ 0 ∷ []) $ join ! $ move ! (3 ∷ 0 ∷ []) $ join ! $
@@ -212,7 +212,7 @@ module _ {M : Type 1} (𝓤 : URA M) (H : Heap 𝓤) (A : Atoms 𝓤) (mem′ : 
           ∷ ‵ (flft α fullShare) ∷ Γ) (runs C Λ E (seq (call ask-def.name args (place d [])) rest) post)
       asks fm known in-d is-said os k =
           move ! (1 ∷ 2 ∷ []) $ join ! $ move ! (2 ∷ 3 ∷ []) $ join ! $ move ! (1 ∷ 0 ∷ []) $ join ! $
-          calls 𝓤 H A W ask.ended (ask.clauses 𝓤 H A mem′ run) to-ask tt fm known Handed goes-ask
+          calls 𝓤 H A W ask.ended (ask.clauses 𝓤 H A mem′ run) to-ask tt fm known HandedToAsk goes-ask
           (λ a w is. subst (λ (τ : Ty). T (hasTy τ w) × WT w) (sym is-said) (typed-performed 𝓤 H A W a w is)) in-d
           (os _) (λ a w is. use1 W (Ensured a) (id⊢ 𝓤 _) $ pick ! (λ zs. split ! $ move ! (1 ∷ []) $
           heard ! (Asks asked l (f .now) ys a (zs .0)) (λ e. fsplit ! $ fsplit ! $ move ! (1 ∷ []) $ feqL !

@@ -57,17 +57,17 @@ module _ {M : Type 1} (𝓤 : URA M) (H : Heap 𝓤) (A : Atoms 𝓤) (mem′ : 
     )
 
     -- what is lent, and the two tokens
-    abbrev pub Handed : Item 𝓤
-    Handed = ‵ (Owned α b o γ ys) ⊛ (‵ (Lent Bytes 0 α lb 0 γb bs) ⊛ (‵ (Lent Numbers 1 β lx 0 γx xs) ⊛ (‵ (Lent Bytes 0
-        α lo 0 γo os)
-        ⊛ (‵ (flft α fullShare) ⊛ ‵ (flft β fullShare)))))
+    abbrev pub HandedToStep : Item 𝓤
+    HandedToStep =
+        ‵ (Owned α b o γ ys) ⊛ (‵ (Lent Bytes 0 α lb 0 γb bs) ⊛ (‵ (Lent Numbers 1 β lx 0 γx xs)
+        ⊛ (‵ (Lent Bytes 0 α lo 0 γo os) ⊛ (‵ (flft α fullShare) ⊛ ‵ (flft β fullShare)))))
 
     pub goes-one : IsState s → Stands bs (s .input) → s .waiting + answerMost ≤ bufferRoom → ent 𝓤
-        (mean 𝓤 H A Handed) (One .pre
+        (mean 𝓤 H A HandedToStep) (One .pre
         to-one)
     goes-one held stands space =
-        qed W (Handed ∷ []) ∵ split ! $ move ! (1 ∷ []) $ split ! $ move ! (1 ∷ []) $ split ! $ move ! (1 ∷ []) $ split
-        ! $ move ! (1 ∷ []) $ split ! $
+        qed W (HandedToStep ∷ []) ∵ split ! $ move ! (1 ∷ []) $ split ! $ move ! (1 ∷ []) $ split ! $
+        move ! (1 ∷ []) $ split ! $ move ! (1 ∷ []) $ split ! $
         -- [α's token; β's token; the answers; the numbers; the buffer; t]
         says ! (stands, space) $ nothing ! $ move ! (2 ∷ 0 ∷ []) $ join ! $ move ! (1 ∷ 0 ∷ []) $ join ! $ frame ! $
         -- [the answers; the numbers; the buffer; t]

@@ -60,12 +60,12 @@ module _ {M : Type 1} (𝓤 : URA M) (H : Heap 𝓤) (A : Atoms 𝓤) (mem′ : 
     )
 
     -- the answers, with the token of their lifetime
-    abbrev Handed : Item 𝓤
-    Handed = ‵ (Lent Bytes 0 κ b o γ os) ⊛ ‵ (flft κ q)
+    abbrev HandedToTell : Item 𝓤
+    HandedToTell = ‵ (Lent Bytes 0 κ b o γ os) ⊛ ‵ (flft κ q)
 
-    goes-tell : ent 𝓤 (mean 𝓤 H A Handed) (Tell .pre (to-tell, tt))
+    goes-tell : ent 𝓤 (mean 𝓤 H A HandedToTell) (Tell .pre (to-tell, tt))
     goes-tell =
-        qed W (Handed ∷ []) ∵ split ! $ says ! space $ nothing ! $ move ! (2 ∷ 0 ∷ []) $ join ! $ framed ! $
+        qed W (HandedToTell ∷ []) ∵ split ! $ says ! space $ nothing ! $ move ! (2 ∷ 0 ∷ []) $ join ! $ framed ! $
         nothing ! $ owned ! F.the-row (Is F.the-row) (LL.makes F.the-type F′.the-plain 𝓤 H A) a (v ∷ []) ia $
         fjoin ! $
         owned ! P.the-row (Is P.the-row) (LL.makes P.the-type P′.the-plain 𝓤 H A) p (heard-val p ∷ []) held $ fjoin ! $
@@ -89,7 +89,7 @@ module _ {M : Type 1} (𝓤 : URA M) (H : Heap 𝓤) (A : Atoms 𝓤) (mem′ : 
           (runs C Λ E (seq (call tell-def.name args (place d [])) rest) post)
       tells fm known in-d is-state ops k =
           move ! (1 ∷ 2 ∷ []) $ join ! $
-          calls 𝓤 H A W tell.ended (tell.clauses 𝓤 H A mem′ run) to-tell tt fm known Handed goes-tell
+          calls 𝓤 H A W tell.ended (tell.clauses 𝓤 H A mem′ run) to-tell tt fm known HandedToTell goes-tell
           (λ r w is. subst (λ (τ : Ty). T (hasTy τ w) × WT w) (sym is-state) (typed-state 𝓤 H A W r w is)) in-d (ops _)
           (λ r w is. use1 W (Ensured r) (id⊢ 𝓤 _) $ pick ! (λ zs. split ! $ move ! (1 ∷ []) $
           heard ! (Tells os p a (zs .0) r) (λ e. fsplit ! $ move ! (1 ∷ []) $ drop ! $

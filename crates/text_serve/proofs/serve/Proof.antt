@@ -79,7 +79,7 @@ use Rattle.text_serve.proofs.Joining.{Sofar, none-yet, one-more, fewer,
 use Rattle.text_serve.proofs.Arrays.{Bytes, Numbers, mref, Lent, telling-val, telling-is, typed-telling, state-ty, state-val, IsState, state-tells, state-is, typed-state}
 use Rattle.text_serve.proofs.Held.{held as locals, place-of, behind-all, entries}
 use Rattle.text_serve.proofs.Buffers.{array-ty, typed-array, apart, back}
-use Rattle.text_serve.proofs.Steps.{One, to-one, Handed, goes-one, comes-back}
+use Rattle.text_serve.proofs.Steps.{One, to-one, HandedToStep, goes-one, comes-back}
 use Rattle.text_serve.proofs.no_numbers as numbers
 use Rattle.text_serve.proofs.no_numbers.Symbol as numbers-def
 use Rattle.text_serve.proofs.no_numbers.Met as numbers-thm
@@ -436,7 +436,7 @@ module _ {M : Type 1} (𝓤 : URA M) (H : Heap 𝓤) (A : Atoms 𝓤) (W : Given
 
       -- `s = step(t, &mut buf, &mut xs, &mut out, s);`, with all that it takes lent
       calling : T (ltb 0 (s .input .left)) → (α β : ℕ) (γ′ γb γx γo : GName)
-          → Sq W (Handed 𝓤 H A mem′ run′ W (α ∷ []) (β ∷ []) b o γ′ zs l₃ γb (i .bytes) l₄ γx (i .numbers) l₅ γo
+          → Sq W (HandedToStep 𝓤 H A mem′ run′ W (α ∷ []) (β ∷ []) b o γ′ zs l₃ γb (i .bytes) l₄ γx (i .numbers) l₅ γo
           (i .answers) s ∷ Kept α β γ′ γb γx γo Called)
           (runs C Λ En (after (after (after (after (after body))))) (anyQ (Turned i)))
       unfolding afterTurn there
