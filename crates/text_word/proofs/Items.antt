@@ -1,6 +1,6 @@
 -- What a word behind the call's is, on plain values. A word that spells a number has no slash. Assumes nothing.
 use mathlib.Core.Path.{_≡_, refl, sym, ap, _∙_}
-use mathlib.Core.Bool.{Bool, true, false, _&&_, not}
+use mathlib.Core.Bool.{Bool, true, false, not}
 use mathlib.Core.List.{List, [], _∷_}
 use Prim.Native.Nat.{ℕ, zero, suc, _+_, _-_, _*_, _≤_, _<_}
 use native.Mathlib.Omega.{arith}
@@ -10,6 +10,7 @@ use lib.ListN.{length, take, drop, length-drop}
 use lib.Seq.{take-all}
 use borrow.Author.Tests.{leb-true, lt-ltb, le-ltb, eqb-true, ne-eqb}
 use Rattle.paper.specs.Lists.{pick}
+use Rattle.paper.proofs.Logic.{and-left}
 use Rattle.text_protocol.specs.declared.Number.{Number}
 use Rattle.text_protocol.specs.declared.Number.the-variants as number
 use Rattle.text_protocol.specs.declared.Size.{Size}
@@ -25,12 +26,8 @@ use Rattle.text_protocol.specs.Line.{oneOf, twoOf, itemOf}
 digit-no-slash : (b : ℕ) → isDigit b ≡ true → isNot slash b ≡ true
 unfolding isDigit isNot
 digit-no-slash b e =
-    ap not (ne-eqb b slash (λ q. apart (leb-true digitZero b (first (leb digitZero b) (leb b digitNine) e)) q))
+    ap not (ne-eqb b slash (λ q. apart (leb-true digitZero b (and-left (leb digitZero b) (leb b digitNine) e)) q))
   where
-    first : (x y : Bool) → (x && y) ≡ true → x ≡ true
-    first true y h = refl
-    first false y h = h
-
     apart : digitZero ≤ b → b ≡ slash → ⊥
     apart h q = omega arith
 
