@@ -224,8 +224,7 @@ module _ (b : List ℕ) (p : Passed) (q : Passes b p) (left : ℕ) (r : Input) w
         high = omega arith;
         in-b = q .in-b;
         long = q .long;
-        is = empty-end b (p
-            .len) ok;
+        is = empty-end b (p .len) ok;
       }
 
   module _ (no : p .ended ≡ false) (at : r .at ≡ p .at) (len : r .len ≡ p .len) (fewer : r .left ≡ left - 1) (s :

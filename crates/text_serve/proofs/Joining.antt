@@ -104,8 +104,8 @@ module _ {telling : Telling} {t : List Record} {b : List ℕ} {s : State} {u : L
   going (inr e) = let z : ⊥ = omega (arith, more, e .0) in absurd z
 
   delivered : all-got ≡ joined (so .lines) (unread b (s .input) ++ turn .next .got)
-  delivered = ap (λ (z : List ℕ). z ++ turn .next .got) (going (so .are) .0) ∙ joined-more (so .lines) (unread b (s
-      .input)) (turn .next .got)
+  delivered = ap (λ (z : List ℕ). z ++ turn .next .got) (going (so .are) .0) ∙ joined-more (so .lines) (unread b
+      (s .input)) (turn .next .got)
 
   counted : turn .behind .left ≡ s .input .left - 1 → length all + turn .behind .left ≡ mostLines
   counted e = omega (arith, e, going (so .are) .1, more, length-one (so .lines) (turn .line))
@@ -113,8 +113,8 @@ module _ {telling : Telling} {t : List Record} {b : List ℕ} {s : State} {u : L
   -- a line feed stands behind the line: the rest of the buffer stands behind it, and is heard on unless a write failed
   ended-line : unread b (s .input) ++ turn .next .got ≡ turn .line ++ lineFeed ∷ unread b' (turn .behind)
       → all-got ≡ joined all (unread b' (turn .behind))
-  ended-line e = delivered ∙ ap (joined (so .lines)) e ∙ sym (joined-one (so .lines) (turn .line) (unread b' (turn
-      .behind)))
+  ended-line e = delivered ∙ ap (joined (so .lines)) e ∙ sym (joined-one (so .lines) (turn .line) (unread b'
+      (turn .behind)))
 
   -- none stands there: it is the last line
   last-line : unread b (s .input) ++ turn .next .got ≡ turn .line → Cut all-got all (r .ok)

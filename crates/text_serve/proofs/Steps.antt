@@ -81,8 +81,8 @@ module _ {M : Type 1} (𝓤 : URA M) (H : Heap 𝓤) (A : Atoms 𝓤) (mem′ : 
     Back w = later (some (λ (r : State). ((‵ (flft α fullShare) ⊛ (‵ (flft β fullShare) ⊛ ‵ ftrue)) ⊛ ‵ (G.the-row .own
         r (w ∷ [])))
         ⊛ some (λ (zs : List Record × (List ℕ × (List ℤ × (List ℕ × (Unit {0} × Unit {0}))))).
-        ‵ (fsep (fsep (finally R γ (zs .0)) (feq ℕ (length (zs .0)) (length ys))) (fsep (fres γb (Bytes .coded .code (zs
-        .1 .0)))
+        ‵ (fsep (fsep (finally R γ (zs .0)) (feq ℕ (length (zs .0)) (length ys))) (fsep (fres γb (Bytes .coded .code
+        (zs .1 .0)))
         (fsep (fres γx (Numbers .coded .code (zs .1 .1 .0))) (fsep (fres γo (Bytes .coded .code (zs .1 .1 .1 .0))) (fsep
         ftrue ftrue)))))
         ⊛ raw (fact 𝓤 (Turns bs s ys os (zs .1 .0) r (zs .0) (zs .1 .1 .1 .0))))))

@@ -70,8 +70,8 @@ below-sized size.Bad z e = let q : _≡_ {A = ℕ} 0 1 = cc in let y : ⊥ = ome
 sized-no-slash : (most : ℕ) (t : List ℕ) → Sized (upTo most (sizeOf t)) → run (isNot slash) t ≡ length t
 unfolding sizeOf run
 sized-no-slash most [] s = refl
-sized-no-slash most (b ∷ t) s = size-no-slash 0 (b ∷ t) (s .count) (upTo-is most (sizeFrom 0 (b ∷ t)) (s .count) (s
-    .is))
+sized-no-slash most (b ∷ t) s = size-no-slash 0 (b ∷ t) (s .count) (upTo-is most (sizeFrom 0 (b ∷ t)) (s .count)
+    (s .is))
 
 minus-no-slash : (b : ℕ) → eqb b minusSign ≡ true → isNot slash b ≡ true
 unfolding isNot

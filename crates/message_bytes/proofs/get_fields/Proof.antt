@@ -3,6 +3,7 @@ use mir.Facts.{toZ-ofZ}
 use Rattle.message_bytes.proofs.Halves.{signed-fits}
 use Prim.Native.Nat.{_-_}
 use native.Mathlib.Omega.{arith}
+use Rattle.paper_messages.specs.Fields.{places as placeCount}
 use borrow.Author.Needs.{needs}
 use Rattle.message_bytes.proofs.Walks.{Unpacking, unpacking-none, unpacking-room, unpacking-more, unpacking-all}
 use Rattle.message_bytes.proofs.get_fields.Statement.{statement}
@@ -12,7 +13,7 @@ abbrev Inv-loop : tie.InvT-loop
 Inv-loop buf at places values₀ i₀ from₀ values i from = Unpacking buf at places values i from
 
 abbrev μ-loop : tie.MeasureT-loop
-μ-loop buf at places values₀ i₀ from₀ values i from = 27 - i
+μ-loop buf at places values₀ i₀ from₀ values i from = placeCount - i
 
 loop-holds : tie.Need-loop-holds Inv-loop μ-loop
 loop-holds c = unpacking-none _ _ _ _ (omega arith) (c .before .pre)
@@ -38,10 +39,12 @@ array-set-from-values c = search needs
 
 add-from : tie.Need-add-from Inv-loop μ-loop
 add-from c =
+    let at-loop = c .before .before .before .before in
+    let at-good = at-loop .before .before in
     omega (
       arith,
-      unpacking-room _ _ _ _ _ _ (c .before .before .before .before .loop .inv) (omega arith) .0,
-      c .before .before .before .before .before .before .good,
+      unpacking-room _ _ _ _ _ _ (at-loop .loop .inv) (omega arith) .0,
+      at-good .good,
     )
 
 add-i : tie.Need-add-i Inv-loop μ-loop

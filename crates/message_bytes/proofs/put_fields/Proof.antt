@@ -3,6 +3,7 @@ use mir.Facts.{toZ-ofZ}
 use mir.Syntax.{w64}
 use Prim.Native.Nat.{_-_}
 use native.Mathlib.Omega.{arith}
+use Rattle.paper_messages.specs.Fields.{places as placeCount}
 use borrow.Author.Needs.{needs}
 use Rattle.message_bytes.proofs.Walks.{Packing, packing-none, packing-room, packed-mag-in-width, packing-more, packing-all}
 use Rattle.message_bytes.proofs.put_fields.Statement.{statement}
@@ -12,7 +13,7 @@ abbrev Inv-loop : tie.InvT-loop
 Inv-loop buf₀ at places values i₀ to₀ buf i to = Packing buf₀ at places values buf i to
 
 abbrev μ-loop : tie.MeasureT-loop
-μ-loop buf₀ at places values i₀ to₀ buf i to = 27 - i
+μ-loop buf₀ at places values i₀ to₀ buf i to = placeCount - i
 
 loop-holds : tie.Need-loop-holds Inv-loop μ-loop
 loop-holds c = packing-none _ _ _ _ (omega arith) (c .before .pre .0) (c .before .pre .1)
@@ -39,7 +40,8 @@ complement-requires c κs =
 
 put-number-requires : tie.Need-put-number-requires Inv-loop μ-loop
 put-number-requires c κs =
-    packing-room _ _ _ _ _ _ _ (c .before .before .before .before .before .loop .inv) (omega arith) .0
+    let at-loop = c .before .before .before .before .before in
+    packing-room _ _ _ _ _ _ _ (at-loop .loop .inv) (omega arith) .0
 
 add-to : tie.Need-add-to Inv-loop μ-loop
 add-to c =

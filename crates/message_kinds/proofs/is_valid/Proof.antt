@@ -42,8 +42,10 @@ as-admission-requires c κs = search needs
 returns-3 : tie.Need-returns-3
 unfolding valid
 returns-3 c =
-    let ranged = ranges (c .before .before .before) ∙ not-false _ (c .before .before .if2 .left) in
-    rw (known (c .before .before .before .before .before), ranged, eq-eqb _ 1 (c .before .if3 .taken))
+    let at-ranges = c .before .before .before in
+    let at-known = at-ranges .before .before in
+    let ranged = ranges at-ranges ∙ not-false _ (c .before .before .if2 .left) in
+    rw (known at-known, ranged, eq-eqb _ 1 (c .before .if3 .taken))
     (c .as-admission .ensures)
 
 returns-4 : tie.Need-returns-4

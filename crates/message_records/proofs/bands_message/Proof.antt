@@ -59,12 +59,16 @@ with-repo-requires-3 c κs = search needs
 returns : tie.Need-returns
 unfolding bandsMessage message filled valueOf
 returns c =
+    let at-with-repo2 = c .before .before in
+    let at-with-repo = at-with-repo2 .before .before in
+    let at-values-of = at-with-repo .before .before in
+    let at-last-day = at-values-of .before .before .before in
     rw (
       c .with-repo3 .ensures,
-      c .before .before .with-repo2 .ensures,
-      c .before .before .before .before .with-repo .ensures,
-      c .before .before .before .before .before .before .values-of .ensures,
-      c .before .before .before .before .before .before .before .before .before .last-day .ensures,
+      at-with-repo2 .with-repo2 .ensures,
+      at-with-repo .with-repo .ensures,
+      at-values-of .values-of .ensures,
+      at-last-day .last-day .ensures,
     )
 
 pub bands-message-spec : {M : Type 1} → statement M

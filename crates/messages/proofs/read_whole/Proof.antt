@@ -74,9 +74,10 @@ get-fields-requires c κs =
 
 -- the values that are read are those of the kind's fields
 values : (c : tie.After-get-fields)
-    → let s = c .before .before .before .before .before .before .before .before in
+    → let at-kind = c .before .before .before .before .before .before in
+    let s = at-kind .before .before in
     c .get-fields .result
-    ≡ valuesAt (placesOf (c .before .before .before .before .before .before .get-number .result))
+    ≡ valuesAt (placesOf (at-kind .get-number .result))
     (drop (s .args .at + (lengthWidth + kindWidth)) (now (s .args .buf)))
 values c = rw (c .before .places-of .ensures) at (c .get-fields .ensures)
 

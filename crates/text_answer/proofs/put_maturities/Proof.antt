@@ -40,10 +40,14 @@ loop-less : tie.Need-loop-less Inv-loop μ-loop
 loop-less c = search needs
 
 loop-again : tie.Need-loop-again Inv-loop μ-loop
-loop-again c = let s = c .before .before .before .before .before .before in let l : length (s .args .t3) ≡ 8 = s .good
-    .1 .1 .0 .1 .0 .1 in telling-more _ _ _ _ _ _ _ (c .before .before .before .before .before .loop .inv) _ _ (omega
-    (arith, l, c .before .before .before .before .loop-test .taken)) (c .before .before .before .before .loop-test
-    .taken) (c .before .before .before .if1 .left) (c .put-maturity .ensures)
+loop-again c =
+    let at-if1 = c .before .before .before in
+    let at-loop-test = at-if1 .before in
+    let at-loop = at-loop-test .before in
+    let at-start = at-loop .before in
+    let l : length (at-start .args .t3) ≡ 8 = at-start .good .1 .1 .0 .1 .0 .1 in
+    telling-more _ _ _ _ _ _ _ (at-loop .loop .inv) _ _ (omega (arith, l, at-loop-test .loop-test .taken))
+    (at-loop-test .loop-test .taken) (at-if1 .if1 .left) (c .put-maturity .ensures)
 
 returns-2 : tie.Need-returns-2 Inv-loop μ-loop
 returns-2 c = let s = c .before .before in let l : length (s .args .t3) ≡ 8 = s .good .1 .1 .0 .1 .0 .1 in telling-all

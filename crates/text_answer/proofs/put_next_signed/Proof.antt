@@ -19,8 +19,8 @@ put-signed-requires c κs = search needs
 
 returns : tie.Need-returns
 unfolding next
-returns c = rw (toZ-ofZ (c .before .before .before .before .fits .x)) at (told-one (then (c .before .before .put-byte
-    .ensures) (c .put-signed .ensures)))
+returns c = rw (toZ-ofZ (c .before .before .before .before .fits .x)) at (told-one (then
+    (c .before .before .put-byte .ensures) (c .put-signed .ensures)))
 
 pub put-next-signed-spec : {M : Type 1} → statement M
 put-next-signed-spec = tie.close (tie.spec put-byte-requires put-signed-requires returns)

@@ -28,13 +28,15 @@ put-next-requires-4 c κs = search needs
 
 returns : tie.Need-returns
 unfolding sessionNumbers
-returns c = rw (c .before .before .before .before .enum-told .given .1) (both (c .before .before .put-next .ensures) (c
-    .put-next2 .ensures))
+returns c = rw (c .before .before .before .before .enum-told .given .1) (both (c .before .before .put-next .ensures)
+    (c .put-next2 .ensures))
 
 returns-2 : tie.Need-returns-2
 unfolding sessionNumbers
-returns-2 c = rw (c .before .before .before .before .before .session .given .1) (both (c .before .before .put-next3
-    .ensures) (c .put-next4 .ensures))
+returns-2 c =
+    let at-put-next3 = c .before .before in
+    let at-session = at-put-next3 .before .before .before in
+    rw (at-session .session .given .1) (both (at-put-next3 .put-next3 .ensures) (c .put-next4 .ensures))
 
 pub put-session-spec : {M : Type 1} → statement M
 put-session-spec =

@@ -30,13 +30,17 @@ put-next-requires-4 c κs = search needs
 
 returns : tie.Need-returns
 unfolding standingNumbers isLive lastDay flag
-returns c = rw (c .before .before .before .before .before .standing .given .1) (both (c .before .before .put-next
-    .ensures) (c .put-next2 .ensures))
+returns c =
+    let at-put-next = c .before .before in
+    let at-standing = at-put-next .before .before .before in
+    rw (at-standing .standing .given .1) (both (at-put-next .put-next .ensures) (c .put-next2 .ensures))
 
 returns-2 : tie.Need-returns-2
 unfolding standingNumbers isLive lastDay flag
-returns-2 c = rw (c .before .before .before .before .before .standing2 .given .1) (both (c .before .before .put-next3
-    .ensures) (c .put-next4 .ensures))
+returns-2 c =
+    let at-put-next3 = c .before .before in
+    let at-standing2 = at-put-next3 .before .before .before in
+    rw (at-standing2 .standing2 .given .1) (both (at-put-next3 .put-next3 .ensures) (c .put-next4 .ensures))
 
 pub put-standing-spec : {M : Type 1} → statement M
 put-standing-spec =

@@ -36,18 +36,21 @@ put-near-requires-2 c κs = search needs
 returns : tie.Need-returns
 unfolding termNumbers
 returns c =
-    let c2 = c .before .before in
-    let c4 = c2 .before .before in
-    let c6 = c4 .before .before in
-    let c8 = c6 .before .before in
-    let c11 = c8 .before .before .before in
-    let c14 = c11 .before .before .before in
-    both (both (both (both (both (both (c14 .put-next .ensures) (rw (toZ-ofZ {w = w64} {z = c11 .before .before .before
-    .before .before .args .term .low} (record { sfits = c11 .before .struct-told .given .1 .0 .1 })) at (c11
-    .put-next-signed .ensures))) (rw (toZ-ofZ {w = w64} {z = c8 .before .before .before .before .before .before
-    .before .before .args .term .high} (record { sfits = c8 .before .struct-told2 .given .1 .1 .0 .1 })) at (c8
-    .put-next-signed2 .ensures))) (c6 .put-next2 .ensures)) (c4 .put-next3 .ensures)) (c2 .put-near .ensures)) (c
-    .put-near2 .ensures)
+    let at-put-near = c .before .before in
+    let at-put-next3 = at-put-near .before .before in
+    let at-put-next2 = at-put-next3 .before .before in
+    let at-high = at-put-next2 .before .before in
+    let at-low = at-high .before .before .before in
+    let at-put-next = at-low .before .before .before in
+    let term = at-put-next .before .before .args .term in
+    let low = toZ-ofZ {w = w64} {z = term .low} (record { sfits = at-low .before .struct-told .given .1 .0 .1 }) in
+    let high = toZ-ofZ {w = w64} {z = term .high} (record {
+      sfits = at-high .before .struct-told2 .given .1 .1 .0 .1;
+    }) in
+    let days-to-low = both (at-put-next .put-next .ensures) (rw low at (at-low .put-next-signed .ensures)) in
+    let to-high = both days-to-low (rw high at (at-high .put-next-signed2 .ensures)) in
+    let to-limits = both (both to-high (at-put-next2 .put-next2 .ensures)) (at-put-next3 .put-next3 .ensures) in
+    both (both to-limits (at-put-near .put-near .ensures)) (c .put-near2 .ensures)
 
 pub put-term-spec : {M : Type 1} → statement M
 put-term-spec =

@@ -23,8 +23,12 @@ put-byte-requires : tie.Need-put-byte-requires
 put-byte-requires c κs = search needs
 
 returns : tie.Need-returns
-returns c = answered _ (omega arith) (c .before .before .before .before .before .before .put-number .ensures) (both (c
-    .before .before .before .before .put-flag .ensures) (c .before .before .put-flag2 .ensures)) (c .put-byte .ensures)
+returns c =
+    let at-put-flag2 = c .before .before in
+    let at-put-flag = at-put-flag2 .before .before in
+    let at-put-number = at-put-flag .before .before in
+    answered _ (omega arith) (at-put-number .put-number .ensures)
+    (both (at-put-flag .put-flag .ensures) (at-put-flag2 .put-flag2 .ensures)) (c .put-byte .ensures)
 
 pub say-alerts-spec : {M : Type 1} → statement M
 say-alerts-spec =

@@ -17,8 +17,9 @@ say-number-requires : tie.Need-say-number-requires
 say-number-requires c κs = search needs
 
 returns : tie.Need-returns
-returns c = rw (refused-kind (c .before .before .before .before .args .kind) (c .before .before .before .before .args
-    .a) _ (c .before .before .before .number .ensures) (c .before .before .if1 .taken)) at (c .say-number .ensures)
+returns c = rw (refused-kind (c .before .before .before .before .args .kind)
+    (c .before .before .before .before .args .a) _ (c .before .before .before .number .ensures)
+    (c .before .before .if1 .taken)) at (c .say-number .ensures)
 
 say-number-requires-2 : tie.Need-say-number-requires-2
 say-number-requires-2 c κs = search needs

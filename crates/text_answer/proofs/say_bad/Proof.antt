@@ -28,10 +28,14 @@ put-byte-requires-4 c κs = search needs
 
 returns : tie.Need-returns
 unfolding badText
-returns c = wider (then (then (then (then (c .before .before .before .before .before .before .before .before .put-byte
-    .ensures) (c .before .before .before .before .before .before .put-byte2 .ensures)) (c .before .before .before
-    .before .put-byte3 .ensures)) (wrote-one (c .before .before .put-next .ensures))) (c .put-byte4 .ensures)) (omega
-    arith)
+returns c =
+    let at-put-next = c .before .before in
+    let at-put-byte3 = at-put-next .before .before in
+    let at-put-byte2 = at-put-byte3 .before .before in
+    let at-put-byte = at-put-byte2 .before .before in
+    let word = then (then (at-put-byte .put-byte .ensures) (at-put-byte2 .put-byte2 .ensures))
+    (at-put-byte3 .put-byte3 .ensures) in
+    wider (then (then word (wrote-one (at-put-next .put-next .ensures))) (c .put-byte4 .ensures)) (omega arith)
 
 pub say-bad-spec : {M : Type 1} → statement M
 say-bad-spec =

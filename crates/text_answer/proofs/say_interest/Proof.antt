@@ -18,18 +18,26 @@ say-worked-requires c κs = search needs
 
 returns : tie.Need-returns
 unfolding interestText
-returns c = let a = c .before .before .before .before .before .args .a in rw (done-text (a .pair .verdict) _
-    (interestNumbers a) (c .before .before .before .number .ensures) (c .before .before .if1 .taken)) at (c .say-worked
-    .ensures)
+returns c =
+    let at-if1 = c .before .before in
+    let at-number = at-if1 .before in
+    let at-start = at-number .before .before in
+    let a = at-start .args .a in
+    rw (done-text (a .pair .verdict) _ (interestNumbers a) (at-number .number .ensures) (at-if1 .if1 .taken)) at
+    (c .say-worked .ensures)
 
 say-number-requires : tie.Need-say-number-requires
 say-number-requires c κs = search needs
 
 returns-2 : tie.Need-returns-2
 unfolding interestText
-returns-2 c = let a = c .before .before .before .before .before .args .a in rw (refused-text (a .pair .verdict) _
-    (interestNumbers a) (c .before .before .before .number .ensures) (c .before .before .if1 .left)) at (c .say-number
-    .ensures)
+returns-2 c =
+    let at-if1 = c .before .before in
+    let at-number = at-if1 .before in
+    let at-start = at-number .before .before in
+    let a = at-start .args .a in
+    rw (refused-text (a .pair .verdict) _ (interestNumbers a) (at-number .number .ensures) (at-if1 .if1 .left)) at
+    (c .say-number .ensures)
 
 pub say-interest-spec : {M : Type 1} → statement M
 say-interest-spec =

@@ -20,8 +20,11 @@ put-byte-requires : tie.Need-put-byte-requires
 put-byte-requires c κs = search needs
 
 returns : tie.Need-returns
-returns c = answered _ (omega arith) (c .before .before .before .before .put-number .ensures) (c .before .before
-    .put-record .ensures) (c .put-byte .ensures)
+returns c =
+    let at-put-record = c .before .before in
+    let at-put-number = at-put-record .before .before in
+    answered _ (omega arith) (at-put-number .put-number .ensures) (at-put-record .put-record .ensures)
+    (c .put-byte .ensures)
 
 pub say-record-spec : {M : Type 1} → statement M
 say-record-spec =

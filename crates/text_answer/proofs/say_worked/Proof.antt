@@ -32,16 +32,21 @@ put-byte-requires c κs = search needs
 
 returns : tie.Need-returns
 unfolding interestNumbers
-returns c = let a = c .before .before .before .before .before .before .before .before .before .before .before .before
-    .before .before .args .a in let low = toZ-ofZ {w = w64} {z = a .pair .lower} (record {
-      sfits = c .before .before
-          .before .before .before .before .before .before .struct-told .given .1 .0 .1;
-    }) in let high = toZ-ofZ {w = w64} {z
-    = a .pair .upper} (record { sfits = c .before .before .before .before .before .struct-told2 .given .1 .1 .0 .1 })
-    in answered _ (omega arith) (c .before .before .before .before .before .before .before .before .before .before
-    .put-number .ensures) (both (both (rw low at (c .before .before .before .before .before .before .before
-    .put-next-signed .ensures)) (rw high at (c .before .before .before .before .put-next-signed2 .ensures))) (c .before
-    .before .put-maturities .ensures)) (c .put-byte .ensures)
+returns c =
+    let at-put-maturities = c .before .before in
+    let at-high = at-put-maturities .before .before in
+    let at-low = at-high .before .before .before in
+    let at-put-number = at-low .before .before .before in
+    let a = at-put-number .before .before .before .before .args .a in
+    let low = toZ-ofZ {w = w64} {z = a .pair .lower} (record {
+      sfits = at-low .before .struct-told .given .1 .0 .1;
+    }) in
+    let high = toZ-ofZ {w = w64} {z = a .pair .upper} (record {
+      sfits = at-high .before .struct-told2 .given .1 .1 .0 .1;
+    }) in
+    let band = both (rw low at (at-low .put-next-signed .ensures)) (rw high at (at-high .put-next-signed2 .ensures)) in
+    answered _ (omega arith) (at-put-number .put-number .ensures)
+    (both band (at-put-maturities .put-maturities .ensures)) (c .put-byte .ensures)
 
 pub say-worked-spec : {M : Type 1} → statement M
 say-worked-spec =

@@ -25,9 +25,9 @@ found-requires c κs = search needs
 
 returns : tie.Need-returns
 unfolding bandOf
-returns c = let low = rw (toZ-ofZ (c .before .before .before .before .fits .low)) at (c .before .before .unsigned
-    .ensures) in let high = rw (toZ-ofZ (c .before .before .before .before .fits .high)) at (c .before .unsigned2
-    .ensures) in rw (c .before .before .before .if1 .taken, c .found .ensures, low, high)
+returns c = let low = rw (toZ-ofZ (c .before .before .before .before .fits .low)) at
+    (c .before .before .unsigned .ensures) in let high = rw (toZ-ofZ (c .before .before .before .before .fits .high)) at
+    (c .before .unsigned2 .ensures) in rw (c .before .before .before .if1 .taken, c .found .ensures, low, high)
 
 returns-2 : tie.Need-returns-2
 unfolding bandOf

@@ -42,22 +42,22 @@ of-id-requires c κs = search needs
 returns : tie.Need-returns
 returns c =
     let at = c .before .before .before in
-    bid-line _ _ _ _ (at .before .before .unsigned-at .ensures) (at .before .unsigned-at2 .ensures) (at .float-at
-    .ensures) _ _ (c .of-outside .ensures) (c .before .before .if1 .taken)
+    bid-line _ _ _ _ (at .before .before .unsigned-at .ensures) (at .before .unsigned-at2 .ensures)
+    (at .float-at .ensures) _ _ (c .of-outside .ensures) (c .before .before .if1 .taken)
 
 returns-2 : tie.Need-returns-2
 returns-2 c =
     let at = c .before .before .before .before in
-    ask-line _ _ _ _ (at .before .before .unsigned-at .ensures) (at .before .unsigned-at2 .ensures) (at .float-at
-    .ensures) _ _ (c .of-outside2 .ensures) (c .before .before .if2 .taken)
+    ask-line _ _ _ _ (at .before .before .unsigned-at .ensures) (at .before .unsigned-at2 .ensures)
+    (at .float-at .ensures) _ _ (c .of-outside2 .ensures) (c .before .before .if2 .taken)
 
 returns-3 : tie.Need-returns-3
 returns-3 c =
     let at-if2 = c .before .before in
     let at-if1 = at-if2 .before in
     let at = at-if1 .before in
-    side-line _ _ _ _ (at .before .before .unsigned-at .ensures) (at .before .unsigned-at2 .ensures) (at .float-at
-    .ensures) _ _ (c .of-id .ensures) (at-if1 .if1 .left) (at-if2 .if2 .left)
+    side-line _ _ _ _ (at .before .before .unsigned-at .ensures) (at .before .unsigned-at2 .ensures)
+    (at .float-at .ensures) _ _ (c .of-id .ensures) (at-if1 .if1 .left) (at-if2 .if2 .left)
 
 pub notice-of-spec : {M : Type 1} → statement M
 notice-of-spec =

@@ -23,13 +23,15 @@ unsigned-at-requires-4 c κs = search needs
 
 returns : tie.Need-returns
 unfolding quoteOf the placeOf quoteNames code
-returns c = rw (
-  c .before .before .before .unsigned-at .ensures,
-  c .before .before .unsigned-at2 .ensures,
-  c .before
-      .unsigned-at3 .ensures,
-  c .unsigned-at4 .ensures,
-)
+returns c =
+    let at-unsigned-at2 = c .before .before in
+    let at-unsigned-at = at-unsigned-at2 .before in
+    rw (
+      at-unsigned-at .unsigned-at .ensures,
+      at-unsigned-at2 .unsigned-at2 .ensures,
+      c .before .unsigned-at3 .ensures,
+      c .unsigned-at4 .ensures,
+    )
 
 pub quote-of-spec : {M : Type 1} → statement M
 quote-of-spec =

@@ -31,8 +31,10 @@ no-outside-requires : tie.Need-no-outside-requires
 no-outside-requires c κs = search needs
 
 returns : tie.Need-returns
-returns c = admit-line _ _ _ _ _ _ _ _ _ (c .before .before .before .before .if1 .taken) (c .before .before .before
-    .admission-of .ensures)
+returns c =
+    let at-admission-of = c .before .before .before in
+    let at-if1 = at-admission-of .before in
+    admit-line _ _ _ _ _ _ _ _ _ (at-if1 .if1 .taken) (at-admission-of .admission-of .ensures)
 
 unsigned-at-requires : tie.Need-unsigned-at-requires
 unsigned-at-requires c κs = search needs
@@ -51,8 +53,11 @@ no-outside-requires-2 c κs = search needs
 
 returns-2 : tie.Need-returns-2
 returns-2 c =
-    evaluate-line _ _ _ _ _ _ _ _ _ _ (c .before .before .before .before .before .if2 .taken) (c .before .before
-    .before .before .unsigned-at .ensures) (c .before .before .asked-of .ensures)
+    let at-asked-of = c .before .before in
+    let at-unsigned-at = at-asked-of .before .before in
+    let at-if2 = at-unsigned-at .before in
+    evaluate-line _ _ _ _ _ _ _ _ _ _ (at-if2 .if2 .taken) (at-unsigned-at .unsigned-at .ensures)
+    (at-asked-of .asked-of .ensures)
 
 unsigned-at-requires-2 : tie.Need-unsigned-at-requires-2
 unsigned-at-requires-2 c κs = search needs
@@ -64,8 +69,11 @@ of-id-requires : tie.Need-of-id-requires
 of-id-requires c κs = search needs
 
 returns-3 : tie.Need-returns-3
-returns-3 c = quote-line _ _ _ _ _ _ _ _ (c .of-id .ensures) (c .before .before .before .if3 .taken) (c .before .before
-    .unsigned-at2 .ensures) (c .before .quote-of .ensures)
+returns-3 c =
+    let at-unsigned-at2 = c .before .before in
+    let at-if3 = at-unsigned-at2 .before in
+    quote-line _ _ _ _ _ _ _ _ (c .of-id .ensures) (at-if3 .if3 .taken) (at-unsigned-at2 .unsigned-at2 .ensures)
+    (c .before .quote-of .ensures)
 
 unsigned-at-requires-3 : tie.Need-unsigned-at-requires-3
 unsigned-at-requires-3 c κs = search needs
@@ -80,8 +88,11 @@ of-id-requires-2 : tie.Need-of-id-requires-2
 of-id-requires-2 c κs = search needs
 
 returns-4 : tie.Need-returns-4
-returns-4 c = move-line _ _ _ _ _ _ _ _ (c .of-id2 .ensures) (c .before .before .before .before .if4 .taken) (c .before
-    .before .before .unsigned-at3 .ensures) (c .before .unsigned-at4 .ensures)
+returns-4 c =
+    let at-unsigned-at3 = c .before .before .before in
+    let at-if4 = at-unsigned-at3 .before in
+    move-line _ _ _ _ _ _ _ _ (c .of-id2 .ensures) (at-if4 .if4 .taken) (at-unsigned-at3 .unsigned-at3 .ensures)
+    (c .before .unsigned-at4 .ensures)
 
 unsigned-at-requires-5 : tie.Need-unsigned-at-requires-5
 unsigned-at-requires-5 c κs = search needs
@@ -93,8 +104,10 @@ of-id-requires-3 : tie.Need-of-id-requires-3
 of-id-requires-3 c κs = search needs
 
 returns-5 : tie.Need-returns-5
-returns-5 c = read-line _ _ _ _ _ _ _ _ (c .of-id3 .ensures) (c .before .before .before .if5 .taken) (c .before .before
-    .unsigned-at5 .ensures)
+returns-5 c =
+    let at-unsigned-at5 = c .before .before in
+    let at-if5 = at-unsigned-at5 .before in
+    read-line _ _ _ _ _ _ _ _ (c .of-id3 .ensures) (at-if5 .if5 .taken) (at-unsigned-at5 .unsigned-at5 .ensures)
 
 unsigned-at-requires-6 : tie.Need-unsigned-at-requires-6
 unsigned-at-requires-6 c κs = search needs
@@ -106,8 +119,10 @@ of-id-requires-4 : tie.Need-of-id-requires-4
 of-id-requires-4 c κs = search needs
 
 returns-6 : tie.Need-returns-6
-returns-6 c = open-line _ _ _ _ _ _ _ _ (c .of-id4 .ensures) (c .before .before .before .if6 .taken) (c .before .before
-    .unsigned-at6 .ensures)
+returns-6 c =
+    let at-unsigned-at6 = c .before .before in
+    let at-if6 = at-unsigned-at6 .before in
+    open-line _ _ _ _ _ _ _ _ (c .of-id4 .ensures) (at-if6 .if6 .taken) (at-unsigned-at6 .unsigned-at6 .ensures)
 
 unsigned-at-requires-7 : tie.Need-unsigned-at-requires-7
 unsigned-at-requires-7 c κs = search needs
@@ -119,8 +134,11 @@ of-outside-requires : tie.Need-of-outside-requires
 of-outside-requires c κs = search needs
 
 returns-7 : tie.Need-returns-7
-returns-7 c = outside-line _ _ _ _ _ _ _ _ (c .of-outside .ensures) (c .before .before .before .if7 .taken) (c .before
-    .before .unsigned-at7 .ensures) (c .before .outside-of .ensures)
+returns-7 c =
+    let at-unsigned-at7 = c .before .before in
+    let at-if7 = at-unsigned-at7 .before in
+    outside-line _ _ _ _ _ _ _ _ (c .of-outside .ensures) (at-if7 .if7 .taken) (at-unsigned-at7 .unsigned-at7 .ensures)
+    (c .before .outside-of .ensures)
 
 notice-of-requires : tie.Need-notice-of-requires
 notice-of-requires c κs = search needs
@@ -138,8 +156,10 @@ of-outside-requires-2 : tie.Need-of-outside-requires-2
 of-outside-requires-2 c κs = search needs
 
 returns-9 : tie.Need-returns-9
-returns-9 c = withdraw-line _ _ _ _ _ _ _ (c .of-outside2 .ensures) (c .before .before .before .if9 .taken) (c .before
-    .before .unsigned-at8 .ensures)
+returns-9 c =
+    let at-unsigned-at8 = c .before .before in
+    let at-if9 = at-unsigned-at8 .before in
+    withdraw-line _ _ _ _ _ _ _ (c .of-outside2 .ensures) (at-if9 .if9 .taken) (at-unsigned-at8 .unsigned-at8 .ensures)
 
 no-quote-requires-6 : tie.Need-no-quote-requires-6
 no-quote-requires-6 c κs = search needs
@@ -159,8 +179,8 @@ returns-10 c =
     let at-if2 = at-if3 .before in
     let at-if1 = at-if2 .before in
     other-line _ _ _ _ _ _ (c .of-id5 .ensures) (at-if1 .if1 .left) (at-if2 .if2 .left) (at-if3 .if3 .left)
-    (at-if4 .if4 .left) (at-if5 .if5 .left) (at-if6 .if6 .left) (at-if7 .if7 .left) (at-if8 .if8 .left) (at-if9 .if9
-    .left)
+    (at-if4 .if4 .left) (at-if5 .if5 .left) (at-if6 .if6 .left) (at-if7 .if7 .left) (at-if8 .if8 .left)
+    (at-if9 .if9 .left)
 
 pub request-of-spec : {M : Type 1} → statement M
 request-of-spec =

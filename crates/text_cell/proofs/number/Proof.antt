@@ -82,8 +82,8 @@ decimals-requires c κs =
     let at-start = at-digits .before .before .before .before in (
       omega (
         arith,
-        starts-in (λ x. eqb x 46) (at-start .args .t .now) (at-part .part .given .0 .1 .0) (sym (c .if1
-            .taken) ∙ at-is-at .is-at .ensures),
+        starts-in (λ x. eqb x 46) (at-start .args .t .now) (at-part .part .given .0 .1 .0) (sym
+            (c .if1 .taken) ∙ at-is-at .is-at .ensures),
       ),
       found _ _ (at-part .part .given .1) (at-digits .digits .ensures) .small,
       at-start .pre .2,

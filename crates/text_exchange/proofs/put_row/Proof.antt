@@ -53,8 +53,7 @@ loop-again c =
     let at-start = at-loop .before in
     rw
     (toZ-ofZ {w = w64} {z = getD (at-start .args .zs .now) (at-loop .loop .j + 1) (pos 0)} (record {
-      sfits = c .rows
-          .given;
+      sfits = c .rows .given;
     }))
     (storing-more _ _ _ _ _ (at-loop .loop .inv) (at-loop-test .loop-test .taken))
 

@@ -47,8 +47,8 @@ returns-2 c =
     let at-loop-test = at-read-line .before .before in
     let at-loop = at-loop-test .before in
     rw (c .refused2 .ensures)
-    (reads-bad _ _ _ _ _ _ _ (at-loop .loop .inv) (at-loop-test .loop-test .taken) _ _ (at-read-line .read-line
-    .ensures) (at-enum-told .enum-told .given .1))
+    (reads-bad _ _ _ _ _ _ _ (at-loop .loop .inv) (at-loop-test .loop-test .taken) _ _
+    (at-read-line .read-line .ensures) (at-enum-told .enum-told .given .1))
 
 slice-aggregate-unsigned-at : tie.Need-slice-aggregate-unsigned-at Inv-loop μ-loop
 slice-aggregate-unsigned-at c = search needs
@@ -69,9 +69,9 @@ returns-3 c =
     let at-loop-test = at-read-line .before .before in
     let at-loop = at-loop-test .before in
     rw (c .refused3 .ensures)
-    (reads-seventeenth _ _ _ _ _ _ _ (at-loop .loop .inv) (at-loop-test .loop-test .taken) _ _ (at-read-line
-    .read-line .ensures) _ (at-place .place .given .1) (sym (at-unsigned-at .unsigned-at .ensures) ∙ at-if2 .if2
-    .taken) (at-if3 .if3 .taken))
+    (reads-seventeenth _ _ _ _ _ _ _ (at-loop .loop .inv) (at-loop-test .loop-test .taken) _ _
+    (at-read-line .read-line .ensures) _ (at-place .place .given .1)
+    (sym (at-unsigned-at .unsigned-at .ensures) ∙ at-if2 .if2 .taken) (at-if3 .if3 .taken))
 
 slice-aggregate-put-row : tie.Need-slice-aggregate-put-row Inv-loop μ-loop
 slice-aggregate-put-row c = search needs
@@ -93,8 +93,8 @@ loop-less c =
     let at-loop = at-loop-test .before in
     omega (
       arith,
-      further _ _ _ _ _ _ _ (at-loop .loop .inv) (at-loop-test .loop-test .taken) _ _ (at-read-line .read-line
-          .ensures) _ (at-place .place .given .1),
+      further _ _ _ _ _ _ _ (at-loop .loop .inv) (at-loop-test .loop-test .taken) _ _
+          (at-read-line .read-line .ensures) _ (at-place .place .given .1),
     )
 
 loop-again : tie.Need-loop-again Inv-loop μ-loop
@@ -121,8 +121,8 @@ loop-less-2 c =
     let at-loop = at-loop-test .before in
     omega (
       arith,
-      further _ _ _ _ _ _ _ (at-loop .loop .inv) (at-loop-test .loop-test .taken) _ _ (at-read-line .read-line
-          .ensures) _ (at-place .place .given .1),
+      further _ _ _ _ _ _ _ (at-loop .loop .inv) (at-loop-test .loop-test .taken) _ _
+          (at-read-line .read-line .ensures) _ (at-place .place .given .1),
     )
 
 loop-again-2 : tie.Need-loop-again-2 Inv-loop μ-loop

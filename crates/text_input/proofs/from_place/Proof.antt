@@ -17,21 +17,24 @@ slice-aggregate-find : tie.Need-slice-aggregate-find
 slice-aggregate-find c = sym (length-take-le _ _ (omega arith))
 
 find-requires : tie.Need-find-requires
-find-requires c κs = let l : length (take (c .before .before .args .len) (c .before .before .args .buf .now)) ≡ c
-    .before .before .args .len = length-take-le _ _ (omega arith) in omega (arith, l)
+find-requires c κs =
+    let at-start = c .before .before in
+    let l : length (take (at-start .args .len) (at-start .args .buf .now)) ≡ at-start .args .len =
+    length-take-le _ _ (omega arith) in
+    omega (arith, l)
 
 one-less-requires : tie.Need-one-less-requires
 one-less-requires c κs = search needs
 
 returns : tie.Need-returns
-returns c = (
-  refl,
-  refl,
-  c .one-less .ensures,
-  stands-from _ _ _ _ _ _ (c .before .before .before .before .pre .0) (c
-      .before .before .before .before .pre .1) (c .before .before .before .before .pre .2) (c .before .find .ensures .0)
-      (c .before .find .ensures .1),
-)
+returns c =
+    let at-start = c .before .before .before .before in (
+      refl,
+      refl,
+      c .one-less .ensures,
+      stands-from _ _ _ _ _ _ (at-start .pre .0) (at-start .pre .1) (at-start .pre .2) (c .before .find .ensures .0)
+          (c .before .find .ensures .1),
+    )
 
 pub from-place-spec : {M : Type 1} → statement M
 from-place-spec = tie.close (tie.spec slice-aggregate-find find-requires one-less-requires returns)

@@ -34,20 +34,21 @@ same-length c = search needs
 
 returns : tie.Need-returns Inv-loop μ-loop
 returns c =
-    let looping = c .before .before .before .before .before .before in
-    passing-end _ (looping .loop .inv) _ (c .before .before .before
-    .fill .ensures .0 ∙ looping .loop .inv .long) _
+    let at-fill = c .before .before .before in
+    let looping = at-fill .before .before .before in
+    passing-end _ (looping .loop .inv) _ (at-fill .fill .ensures .0 ∙ looping .loop .inv .long) _
 
 slice-reshare-prefix-find : tie.Need-slice-reshare-prefix-find Inv-loop μ-loop
 slice-reshare-prefix-find c = search needs
 
 slice-aggregate-find : tie.Need-slice-aggregate-find Inv-loop μ-loop
-slice-aggregate-find c = sym (length-take-le _ _ (omega (
-  arith,
-  c .before .before .before .before .fill .ensures .0,
-  c
-      .before .before .before .before .fill .ensures .3,
-)))
+slice-aggregate-find c =
+    let at-fill = c .before .before .before .before in
+    sym (length-take-le _ _ (omega (
+      arith,
+      at-fill .fill .ensures .0,
+      at-fill .fill .ensures .3,
+    )))
 
 find-requires : tie.Need-find-requires Inv-loop μ-loop
 find-requires c κs = search needs
@@ -64,8 +65,8 @@ returns-2 c =
     let looping = at-fill .before .before .before in
     let f = at-fill .fill .ensures in
     let i = looping .loop .inv in
-    passing-found _ i _ (f .0 ∙ i .long) _ _ (omega (arith, f .3, i .long)) (c .before .find .ensures .0) _ (c .if2
-    .taken)
+    passing-found _ i _ (f .0 ∙ i .long) _ _ (omega (arith, f .3, i .long)) (c .before .find .ensures .0) _
+    (c .if2 .taken)
 
 loop-less : tie.Need-loop-less Inv-loop μ-loop
 loop-less c = search needs
@@ -76,8 +77,8 @@ loop-again c =
     let looping = at-fill .before .before .before in
     let f = at-fill .fill .ensures in
     let i = looping .loop .inv in
-    passing-more _ i _ (f .0 ∙ i .long) _ _ (omega (arith, f .3, i .long)) (c .before .find .ensures .0) (c .if2
-    .left) (c .before .find .ensures .1)
+    passing-more _ i _ (f .0 ∙ i .long) _ _ (omega (arith, f .3, i .long)) (c .before .find .ensures .0)
+    (c .if2 .left) (c .before .find .ensures .1)
 
 same-length-3 : tie.Need-same-length-3 Inv-loop μ-loop
 same-length-3 c = search needs

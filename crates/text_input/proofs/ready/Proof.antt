@@ -28,8 +28,7 @@ wait-requires c κs =
     let p = entered .pre in (
       f .2 ∙ p .long,
       omega (arith, f .0, p .in-b),
-      unbroken-now _ _ p (at-if1 .if1
-          .left) _ _ (f .0) (f .1),
+      unbroken-now _ _ p (at-if1 .if1 .left) _ _ (f .0) (f .1),
     )
 
 same-length : tie.Need-same-length
@@ -40,8 +39,8 @@ returns-2 c =
     let at-shift = c .before .before .before .before .before .before in
     let at-if1 = at-shift .before .before in
     let entered = at-if1 .before .before .before in
-    readied-later _ _ (entered .pre) (at-if1 .if1 .left) _ _ (at-shift .shift .ensures .0) (at-shift .shift .ensures
-    .1) _ _ (c .before .before .wait .ensures)
+    readied-later _ _ (entered .pre) (at-if1 .if1 .left) _ _ (at-shift .shift .ensures .0)
+    (at-shift .shift .ensures .1) _ _ (c .before .before .wait .ensures)
 
 pub ready-spec : {M : Type 1} → statement M
 ready-spec = tie.close (tie.spec returns shift-requires wait-requires same-length returns-2)

@@ -38,25 +38,30 @@ same-length-2 c = search needs
 
 returns-2 : tie.Need-returns-2 Inv-loop μ-loop
 returns-2 c =
-    let looping = c .before .before .before .before .before .before in
-    waiting-stop _ _ _ _ (looping .loop .inv) _ _ (c .before
-    .before .before .fill .ensures .1) (c .before .before .before .fill .ensures .0 ∙ looping .loop .inv .long)
+    let at-fill = c .before .before .before in
+    let looping = at-fill .before .before .before in
+    waiting-stop _ _ _ _ (looping .loop .inv) _ _ (at-fill .fill .ensures .1)
+    (at-fill .fill .ensures .0 ∙ looping .loop .inv .long)
 
 slice-reshare-prefix-find : tie.Need-slice-reshare-prefix-find Inv-loop μ-loop
 slice-reshare-prefix-find c = search needs
 
 slice-aggregate-find : tie.Need-slice-aggregate-find Inv-loop μ-loop
-slice-aggregate-find c = sym (length-take-le _ _ (omega (
-  arith,
-  c .before .before .before .before .fill .ensures .0,
-  c
-      .before .before .before .before .fill .ensures .3,
-)))
+slice-aggregate-find c =
+    let at-fill = c .before .before .before .before in
+    sym (length-take-le _ _ (omega (
+      arith,
+      at-fill .fill .ensures .0,
+      at-fill .fill .ensures .3,
+    )))
 
 find-requires : tie.Need-find-requires Inv-loop μ-loop
-find-requires c κs = let f = c .before .before .before .before .fill .ensures in let l : length (take (c .before
-    .before .before .before .fill .result .end) (c .before .before .before .before .fill .last .0)) ≡ c .before .before
-    .before .before .fill .result .end = length-take-le _ _ (omega (arith, f .0, f .3)) in omega (arith, l, f .2)
+find-requires c κs =
+    let at-fill = c .before .before .before .before in
+    let f = at-fill .fill .ensures in
+    let l : length (take (at-fill .fill .result .end) (at-fill .fill .last .0)) ≡ at-fill .fill .result .end =
+    length-take-le _ _ (omega (arith, f .0, f .3)) in
+    omega (arith, l, f .2)
 
 same-length-3 : tie.Need-same-length-3 Inv-loop μ-loop
 same-length-3 c = search needs
@@ -67,8 +72,8 @@ returns-3 c =
     let looping = at-fill .before .before .before in
     let f = at-fill .fill .ensures in
     let i = looping .loop .inv in
-    waiting-found _ _ _ _ i _ _ (f .1) (f .0 ∙ i .long) (f .2) (omega (arith, f .3, i .long)) _ (c .before .find
-    .ensures .0) _
+    waiting-found _ _ _ _ i _ _ (f .1) (f .0 ∙ i .long) (f .2) (omega (arith, f .3, i .long)) _
+    (c .before .find .ensures .0) _
 
 loop-less : tie.Need-loop-less Inv-loop μ-loop
 loop-less c =
@@ -79,8 +84,7 @@ loop-less c =
     let d : looping .loop .len < at-fill .fill .result .end = omega (
       arith,
       f .2,
-      c .before .before .before .if2
-          .left,
+      c .before .before .before .if2 .left,
     ) in
     omega (arith, d, f .3, i .long)
 
@@ -90,8 +94,8 @@ loop-again c =
     let looping = at-fill .before .before .before in
     let f = at-fill .fill .ensures in
     let i = looping .loop .inv in
-    waiting-more _ _ _ _ i _ _ (f .1) (f .0 ∙ i .long) (f .2) (omega (arith, f .3, i .long)) _ (c .before .find
-    .ensures .0) (c .if3 .left) (c .before .find .ensures .1)
+    waiting-more _ _ _ _ i _ _ (f .1) (f .0 ∙ i .long) (f .2) (omega (arith, f .3, i .long)) _
+    (c .before .find .ensures .0) (c .if3 .left) (c .before .find .ensures .1)
 
 pub wait-spec : {M : Type 1} → statement M
 wait-spec =

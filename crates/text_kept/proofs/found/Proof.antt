@@ -18,9 +18,12 @@ is-of-requires-2 c κs = search needs
 returns-2 : tie.Need-returns-2
 unfolding foundIn
 returns-2 c =
+    let at-is-of2 = c .before .before in
+    let at-if1 = at-is-of2 .before .before in
+    let at-is-of = at-if1 .before in
     rw (
-      sym (c .before .before .before .before .before .is-of .ensures) ∙ c .before .before .before .before .if1 .left,
-      sym (c .before .before .is-of2 .ensures) ∙ c .before .if2 .taken,
+      sym (at-is-of .is-of .ensures) ∙ at-if1 .if1 .left,
+      sym (at-is-of2 .is-of2 .ensures) ∙ c .before .if2 .taken,
     )
 
 is-of-requires-3 : tie.Need-is-of-requires-3
@@ -29,11 +32,15 @@ is-of-requires-3 c κs = search needs
 returns-3 : tie.Need-returns-3
 unfolding foundIn
 returns-3 c =
+    let at-is-of3 = c .before .before in
+    let at-if2 = at-is-of3 .before .before in
+    let at-is-of2 = at-if2 .before in
+    let at-if1 = at-is-of2 .before .before in
+    let at-is-of = at-if1 .before in
     rw (
-      sym (c .before .before .before .before .before .before .before .before .is-of .ensures)
-          ∙ c .before .before .before .before .before .before .before .if1 .left,
-      sym (c .before .before .before .before .before .is-of2 .ensures) ∙ c .before .before .before .before .if2 .left,
-      sym (c .before .before .is-of3 .ensures) ∙ c .before .if3 .taken,
+      sym (at-is-of .is-of .ensures) ∙ at-if1 .if1 .left,
+      sym (at-is-of2 .is-of2 .ensures) ∙ at-if2 .if2 .left,
+      sym (at-is-of3 .is-of3 .ensures) ∙ c .before .if3 .taken,
     )
 
 unknown-requires : tie.Need-unknown-requires
@@ -42,11 +49,15 @@ unknown-requires c κs = search needs
 returns-4 : tie.Need-returns-4
 unfolding foundIn
 returns-4 c =
+    let at-is-of3 = c .before .before in
+    let at-if2 = at-is-of3 .before .before in
+    let at-is-of2 = at-if2 .before in
+    let at-if1 = at-is-of2 .before .before in
+    let at-is-of = at-if1 .before in
     rw (
-      sym (c .before .before .before .before .before .before .before .before .is-of .ensures)
-          ∙ c .before .before .before .before .before .before .before .if1 .left,
-      sym (c .before .before .before .before .before .is-of2 .ensures) ∙ c .before .before .before .before .if2 .left,
-      sym (c .before .before .is-of3 .ensures) ∙ c .before .if3 .left,
+      sym (at-is-of .is-of .ensures) ∙ at-if1 .if1 .left,
+      sym (at-is-of2 .is-of2 .ensures) ∙ at-if2 .if2 .left,
+      sym (at-is-of3 .is-of3 .ensures) ∙ c .before .if3 .left,
     ) (c .unknown .ensures)
 
 pub found-spec : {M : Type 1} → statement M

@@ -45,8 +45,8 @@ same-length : tie.Need-same-length Inv-loop μ-loop
 same-length c = search needs
 
 returns : tie.Need-returns Inv-loop μ-loop
-returns c = filling-end _ _ _ _ _ _ _ (c .before .before .before .loop .inv) _ (c .before .before .past-blanks .ensures
-    .0) _ (omega (arith, c .before .if1 .taken)) (c .finish .ensures)
+returns c = filling-end _ _ _ _ _ _ _ (c .before .before .before .loop .inv) _
+    (c .before .before .past-blanks .ensures .0) _ (omega (arith, c .before .if1 .taken)) (c .finish .ensures)
 
 past-word-requires : tie.Need-past-word-requires Inv-loop μ-loop
 past-word-requires c κs = search needs
@@ -74,12 +74,14 @@ same-length-2 c = search needs
 
 returns-2 : tie.Need-returns-2 Inv-loop μ-loop
 returns-2 c =
-    let at-past-word = c .before .before .before .before .before .before .before in
+    let at-take-word = c .before .before .before in
+    let at-item-of = at-take-word .before in
+    let at-past-word = at-item-of .before .before .before in
     let at-past-blanks = at-past-word .before .before in
     let looping = at-past-blanks .before in
     filling-bad _ _ _ _ _ _ _ (looping .loop .inv) _ (at-past-blanks .past-blanks .ensures .0) _ (omega arith)
-    (at-past-word .past-word .ensures .0) _ _ _ (c .before .before .before .before .item-of .ensures) (c .before
-    .before .before .take-word .ensures) _ (c .bad .ensures) (not-true _ (c .before .if2 .taken))
+    (at-past-word .past-word .ensures .0) _ _ _ (at-item-of .item-of .ensures) (at-take-word .take-word .ensures) _
+    (c .bad .ensures) (not-true _ (c .before .if2 .taken))
 
 loop-less : tie.Need-loop-less Inv-loop μ-loop
 loop-less c =
@@ -92,12 +94,14 @@ loop-less c =
 
 loop-again : tie.Need-loop-again Inv-loop μ-loop
 loop-again c =
-    let at-past-word = c .before .before .before .before .before .before .before in
+    let at-take-word = c .before .before .before in
+    let at-item-of = at-take-word .before in
+    let at-past-word = at-item-of .before .before .before in
     let at-past-blanks = at-past-word .before .before in
     let looping = at-past-blanks .before in
     filling-more _ _ _ _ _ _ _ (looping .loop .inv) _ (at-past-blanks .past-blanks .ensures .0) _ (omega arith)
-    (at-past-word .past-word .ensures .0) _ _ _ (c .before .before .before .before .item-of .ensures) (c .before
-    .before .before .take-word .ensures) (at-past-word .past-word .ensures .1) (not-false _ (c .before .if2 .left))
+    (at-past-word .past-word .ensures .0) _ _ _ (at-item-of .item-of .ensures) (at-take-word .take-word .ensures)
+    (at-past-word .past-word .ensures .1) (not-false _ (c .before .if2 .left))
 
 pub numbers-spec : {M : Type 1} → statement M
 numbers-spec =

@@ -29,8 +29,8 @@ blank-requires c κs = search needs
 returns-2 : tie.Need-returns-2
 returns-2 c =
     let entered = c .before .before .before .before .before in
-    blank-line _ (c .before .before .before .if1 .left) _ (c .before .before .past-blanks .ensures .0) _ _ (entered
-    .pre) (omega (arith, c .before .if2 .taken)) (c .blank .ensures)
+    blank-line _ (c .before .before .before .if1 .left) _ (c .before .before .past-blanks .ensures .0) _ _
+    (entered .pre) (omega (arith, c .before .if2 .taken)) (c .blank .ensures)
 
 past-word-requires : tie.Need-past-word-requires
 past-word-requires c κs = search needs
@@ -52,12 +52,14 @@ bad-requires-2 c κs = search needs
 
 returns-3 : tie.Need-returns-3
 returns-3 c =
-    let at-past-blanks = c .before .before .before .before .before .before in
+    let at-kind-of = c .before .before in
+    let at-past-word = at-kind-of .before .before in
+    let at-past-blanks = at-past-word .before .before in
     let at-if1 = at-past-blanks .before in
     let entered = at-if1 .before .before in
-    no-call _ (at-if1 .if1 .left) _ (at-past-blanks .past-blanks .ensures .0) _ _ (omega arith) (c .before .before
-    .before .before .past-word .ensures .0) (c .before .before .kind-of .ensures) _ _ (entered .pre) (c .before .if3
-    .taken) (c .bad2 .ensures)
+    no-call _ (at-if1 .if1 .left) _ (at-past-blanks .past-blanks .ensures .0) _ _ (omega arith)
+    (at-past-word .past-word .ensures .0) (at-kind-of .kind-of .ensures) _ _ (entered .pre) (c .before .if3 .taken)
+    (c .bad2 .ensures)
 
 numbers-requires : tie.Need-numbers-requires
 numbers-requires c κs = search needs
@@ -70,9 +72,9 @@ returns-4 c =
     let at-past-word = c .before .before .before .before .before .before in
     let at-past-blanks = at-past-word .before .before in
     let at-if1 = at-past-blanks .before in
-    some-call _ (at-if1 .if1 .left) _ (at-past-blanks .past-blanks .ensures .0) _ _ (omega arith) (at-past-word
-    .past-word .ensures .0) (c .before .before .before .before .kind-of .ensures) _ _ (c .before .before .before .if3
-    .left) (c .before .numbers .ensures)
+    some-call _ (at-if1 .if1 .left) _ (at-past-blanks .past-blanks .ensures .0) _ _ (omega arith)
+    (at-past-word .past-word .ensures .0) (c .before .before .before .before .kind-of .ensures) _ _
+    (c .before .before .before .if3 .left) (c .before .numbers .ensures)
 
 pub read-line-spec : {M : Type 1} → statement M
 read-line-spec =

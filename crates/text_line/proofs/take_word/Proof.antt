@@ -71,11 +71,13 @@ same-length-2 : tie.Need-same-length-2
 same-length-2 c = search needs
 
 returns-2 : tie.Need-returns-2
-returns-2 c = let z1 = toZ-ofZ {w = w64} {z = c .before .before .before .before .w .given .0 .0} (record {
-  sfits = c
-      .before .before .before .known-told .given .0 .1;
-}) in takes-one _ _ _ _ _ _ _ _ (c .before .before .before .before
-    .w .given .1) (rw z1 at (c .before .keep .ensures))
+returns-2 c =
+    let at-known-told = c .before .before .before in
+    let at-word = at-known-told .before in
+    let z1 = toZ-ofZ {w = w64} {z = at-word .w .given .0 .0} (record {
+      sfits = at-known-told .known-told .given .0 .1;
+    }) in
+    takes-one _ _ _ _ _ _ _ _ (at-word .w .given .1) (rw z1 at (c .before .keep .ensures))
 
 returns-3 : tie.Need-returns-3
 returns-3 c =
@@ -85,8 +87,10 @@ returns-3 c =
     (c .before .before .pair-fits .ensures) (c .before .if1 .left)
 
 returns-4 : tie.Need-returns-4
-returns-4 c = takes-neither _ _ _ _ _ _ (c .spoilt2 .ensures) (c .before .before .before .pre .0) (c .before .before
-    .before .pre .1) (c .before .enum-told .given .1)
+returns-4 c =
+    let at-start = c .before .before .before in
+    takes-neither _ _ _ _ _ _ (c .spoilt2 .ensures) (at-start .pre .0) (at-start .pre .1)
+    (c .before .enum-told .given .1)
 
 pub take-word-spec : {M : Type 1} → statement M
 take-word-spec =

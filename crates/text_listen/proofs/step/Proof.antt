@@ -52,13 +52,14 @@ same-length-2 c = search needs
 
 returns-2 : tie.Need-returns-2
 returns-2 c =
-    let at-if1 = c .before .before .before .before .before .before .before .before in
+    let at-read-on = c .before .before in
+    let at-if2 = at-read-on .before .before .before .before in
+    let at-if1 = at-if2 .before .before in
     let at-cut = at-if1 .before in
     let at-read = at-cut .before in
     let at-start = at-read .before .before .before in
     steps-on _ (at-start .args .s) _ (at-start .pre .0) (at-start .pre .1) _ (at-read .read .ensures) _
-    (at-cut .is-cut .ensures) _ _ (at-if1 .if1 .left)
-    (not-true _ (c .before .before .before .before .before .before .if2 .taken)) (c .before .before .read-on .ensures)
+    (at-cut .is-cut .ensures) _ _ (at-if1 .if1 .left) (not-true _ (at-if2 .if2 .taken)) (at-read-on .read-on .ensures)
 
 write-out-requires : tie.Need-write-out-requires
 write-out-requires c κs = search needs

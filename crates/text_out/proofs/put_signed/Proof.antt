@@ -30,10 +30,12 @@ put-number-requires c κs = search needs
 
 returns : tie.Need-returns
 returns c =
-    let s = c .before .before .before .before .before .before in
-    let f = s .fits .x in
-    below-wrote (s .args .x) _ (rw (toZ-ofZ f) at (c .before .magnitude .ensures)) (rw (toZ-ofZ f) at (c .before .before
-    .before .before .before .if1 .taken)) (c .before .before .before .put-byte .ensures) (c .put-number .ensures)
+    let at-put-byte = c .before .before .before in
+    let at-if1 = at-put-byte .before .before in
+    let at-start = at-if1 .before in
+    let f = at-start .fits .x in
+    below-wrote (at-start .args .x) _ (rw (toZ-ofZ f) at (c .before .magnitude .ensures))
+    (rw (toZ-ofZ f) at (at-if1 .if1 .taken)) (at-put-byte .put-byte .ensures) (c .put-number .ensures)
 
 magnitude-requires-2 : tie.Need-magnitude-requires-2
 magnitude-requires-2 c κs = search needs
@@ -43,11 +45,11 @@ put-number-requires-2 c κs = search needs
 
 returns-2 : tie.Need-returns-2
 returns-2 c =
-    let s = c .before .before .before .before in
-    let f = s .fits .x in
-    above-wrote (s .args .x) _ (rw (toZ-ofZ f) at (c .before .magnitude2 .ensures))
-    (rw (toZ-ofZ f) at (c .before .before
-    .before .if1 .left)) (c .put-number2 .ensures)
+    let at-if1 = c .before .before .before in
+    let at-start = at-if1 .before in
+    let f = at-start .fits .x in
+    above-wrote (at-start .args .x) _ (rw (toZ-ofZ f) at (c .before .magnitude2 .ensures))
+    (rw (toZ-ofZ f) at (at-if1 .if1 .left)) (c .put-number2 .ensures)
 
 pub put-signed-spec : {M : Type 1} → statement M
 put-signed-spec =

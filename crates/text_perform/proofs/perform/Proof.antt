@@ -430,15 +430,14 @@ module _ {M : Type 1} (𝓤 : URA M) (H : Heap 𝓤) (A : Atoms 𝓤) (W : Given
         (
           LL.tells B.the-type B′.the-laws,
           (
-            shr-slice-tells (named 1) (κs .1
-                .0) i64,
+            shr-slice-tells (named 1) (κs .1 .0) i64,
             tt,
           ),
         ),
       ))
       (λ κs qs bounds a g are. via 𝓤 _ (fst∗ 𝓤 _ (emp 𝓤))
-      (walk 𝓤 H A W mem run (κs .0) (κs .1 .0) (qs .0) (qs .1 .0) (a .0 .ptr .0) (a .0 .ptr .1) (a .0 .name) (a .0
-      .now) (a .1 .0) (a .1 .1 .0)
+      (walk 𝓤 H A W mem run (κs .0) (κs .1 .0) (qs .0) (qs .1 .0) (a .0 .ptr .0) (a .0 .ptr .1) (a .0 .name)
+      (a .0 .now) (a .1 .0) (a .1 .1 .0)
       (are .0 .0 .1) (are .1 .0) (are .1 .1 .0 .0 .1) (𝓣 .C) (𝓣 .Λ)
       (fmOf 𝓤 H (W .laws) 𝓣) known-admit known-evaluate known-quote known-moved known-open known-receive
       known-notify known-read))

@@ -42,8 +42,8 @@ loop-again c =
     let at-start = at-loop .before in
     telling-more _ _ _ _ _ _ (at-loop .loop .inv) _ _ (at-loop-test .loop-test .taken)
     (omega (arith, at-start .pre .1, at-loop-test .loop-test .taken))
-    (rw (toZ-ofZ {w = w64} {z = getD (at-start .args .zs .now) (at-loop .loop .i) (pos 0)} (search needs)) at (c
-    .put-next-signed .ensures))
+    (rw (toZ-ofZ {w = w64} {z = getD (at-start .args .zs .now) (at-loop .loop .i) (pos 0)} (search needs)) at
+    (c .put-next-signed .ensures))
 
 returns : tie.Need-returns Inv-loop μ-loop
 returns c = telling-all _ _ _ _ _ _ (c .before .loop .inv) (c .loop-test .left)

@@ -47,8 +47,8 @@ field-end-requires c κs =
     let at-cell = c .before in
     let at-read-cell = at-cell .before .before in
     let at-column-of = at-read-cell .before in (
-      celled _ (at-column-of .column-of .ensures .0) (at-read-cell .read-cell .ensures) _ _ (at-cell .cell .given .1)
-          .in-t,
+      celled _ (at-column-of .column-of .ensures .0) (at-read-cell .read-cell .ensures) _ _
+          (at-cell .cell .given .1) .in-t,
       search needs,
     )
 
@@ -97,9 +97,9 @@ loop-again c =
     let at-loop = at-loop-test .before in
     rw
     (toZ-ofZ {w = w64} {z = at-cell .cell .given .0 .0} (record { sfits = at-known-told .known-told .given .0 .1 }))
-    (filling-more _ _ _ _ _ (at-loop .loop .inv) (at-loop-test .loop-test .taken) _ _ (celled _ (at-column-of
-    .column-of .ensures .0) (at-read-cell .read-cell .ensures) _ _ (at-cell .cell .given .1)) _ (passes _ (at-place
-    .place .given .1) (at-field-end .field-end .ensures)))
+    (filling-more _ _ _ _ _ (at-loop .loop .inv) (at-loop-test .loop-test .taken) _ _ (celled _
+    (at-column-of .column-of .ensures .0) (at-read-cell .read-cell .ensures) _ _ (at-cell .cell .given .1)) _
+    (passes _ (at-place .place .given .1) (at-field-end .field-end .ensures)))
 
 same-length-3 : tie.Need-same-length-3 Inv-loop μ-loop
 same-length-3 c = search needs

@@ -15,8 +15,7 @@ say-reading-requires c κs =
     let at-read-exchange = c .before in (
       omega arith,
       says-few (at-read-exchange .read-exchange .ensures),
-      says-long (at-read-exchange .read-exchange
-          .ensures),
+      says-long (at-read-exchange .read-exchange .ensures),
     )
 
 returns : tie.Need-returns

@@ -54,13 +54,11 @@ put-numbers-requires c κs =
       search needs,
       let h : rowNumbers * at-start .args .r .count ≤ length (at-start .args .r .rows) = omega (
         arith,
-        at-start
-            .pre .2,
+        at-start .pre .2,
         at-start .pre .1,
       ) in omega (
         arith,
-        length-take-le (rowNumbers * at-start .args .r .count) (at-start .args .r
-            .rows) h,
+        length-take-le (rowNumbers * at-start .args .r .count) (at-start .args .r .rows) h,
         at-start .pre .1,
       ),
     )

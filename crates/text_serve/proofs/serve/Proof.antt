@@ -333,8 +333,8 @@ module _ {M : Type 1} (𝓤 : URA M) (H : Heap 𝓤) (A : Atoms 𝓤) (W : Given
         ∷ ‵ (fat fullShare slice l₁ 0 (machine b o (i .table))) ∷ ‵ (fdies slice l₁) ∷ Empty state-ty l₀ []
 
     abbrev At : Stand telling ys → List (Item 𝓤)
-    At i = ‵ (mem Bytes .lies (i .bytes) l₃ 0) ∷ ‵ (mem Numbers .lies (i .numbers) l₄ 0) ∷ ‵ (mem Bytes .lies (i
-        .answers) l₅ 0)
+    At i = ‵ (mem Bytes .lies (i .bytes) l₃ 0) ∷ ‵ (mem Numbers .lies (i .numbers) l₄ 0) ∷ ‵ (mem Bytes .lies
+        (i .answers) l₅ 0)
         ∷ Obs (i .table) ∷ Bor (i .table) ∷ ‵ (flft κ q) ∷ Empty (mref Bytes) l₁₄ (Empty (mref Numbers) l₁₃ (Empty (mref
         Bytes) l₁₂ (Empty (sliceTy wref) l₁₁
         (Empty wref l₁₀ (Empty tyBool l₉ (Empty numbers-ty l₈ (Empty bytes-ty l₇ (Rest i))))))))

@@ -19,8 +19,10 @@ slice-reshare-prefix-deed-of : tie.Need-slice-reshare-prefix-deed-of
 slice-reshare-prefix-deed-of c = search needs
 
 slice-aggregate-deed-of : tie.Need-slice-aggregate-deed-of
-slice-aggregate-deed-of c = let p = c .before .before .before .before .before .hear .ensures in sym (length-take-le _
-    _ (omega (arith, p .says .long, p .says .most)))
+slice-aggregate-deed-of c =
+    let at-hear = c .before .before .before .before .before in
+    let p = at-hear .hear .ensures in
+    sym (length-take-le _ _ (omega (arith, p .says .long, p .says .most)))
 
 deed-of-requires : tie.Need-deed-of-requires
 deed-of-requires c κs = search needs

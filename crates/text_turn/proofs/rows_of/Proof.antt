@@ -27,8 +27,11 @@ part-result-end : tie.Need-part-result-end
 part-result-end c = search needs
 
 returns : tie.Need-returns
-returns c = rows-are (c .before .before .before .args .xs .now) _ _ _ (c .before .before .least .ensures) (c .before
-    .least2 .ensures) (omega (arith, c .before .before .least .ensures))
+returns c =
+    let at-least = c .before .before in
+    let at-start = at-least .before in
+    rows-are (at-start .args .xs .now) _ _ _ (at-least .least .ensures) (c .before .least2 .ensures)
+    (omega (arith, at-least .least .ensures))
 
 pub rows-of-spec : {M : Type 1} → statement M
 rows-of-spec =

@@ -23,19 +23,19 @@ sub-y : tie.Need-sub-y
 sub-y c = search needs
 
 cast-y : tie.Need-cast-y
-cast-y c = less-fits _ _ (c .before .before .n .given .1) (c .before .before .before .before .pre) (pos-of-ne-zero (c
-    .if1 .left))
+cast-y c = less-fits _ _ (c .before .before .n .given .1) (c .before .before .before .before .pre) (pos-of-ne-zero
+    (c .if1 .left))
 
 sub-t7 : tie.Need-sub-t7
-sub-t7 c = turned-of _ _ (c .before .before .n .given .1) (c .before .before .before .before .pre) (pos-of-ne-zero (c
-    .if1 .left))
+sub-t7 c = turned-of _ _ (c .before .before .n .given .1) (c .before .before .before .before .pre) (pos-of-ne-zero
+    (c .if1 .left))
 
 enum-told : tie.Need-enum-told
 enum-told c = search needs
 
 returns-2 : tie.Need-returns-2
-returns-2 c = minus-is _ _ (c .before .before .n .given .1) (c .before .before .before .before .pre) (pos-of-ne-zero (c
-    .if1 .left))
+returns-2 c = minus-is _ _ (c .before .before .n .given .1) (c .before .before .before .before .pre) (pos-of-ne-zero
+    (c .if1 .left))
 
 returns-3 : tie.Need-returns-3
 returns-3 c = bad-minus _ (c .enum-told .given .1)

@@ -35,8 +35,8 @@ returns-2 : tie.Need-returns-2
 returns-2 c = c .pair-at .ensures ∙ sym (item-two _ _ (c .before .before .find .ensures .0) (c .before .if1 .taken))
 
 returns-3 : tie.Need-returns-3
-returns-3 c = item-neither _ _ (c .before .find .ensures .0) (sym (c .before .before .before .before .number-of
-    .ensures) ∙ c .before .before .enum-told .given .1) (c .if1 .left)
+returns-3 c = item-neither _ _ (c .before .find .ensures .0) (sym
+    (c .before .before .before .before .number-of .ensures) ∙ c .before .before .enum-told .given .1) (c .if1 .left)
 
 pub item-of-spec : {M : Type 1} → statement M
 item-of-spec =

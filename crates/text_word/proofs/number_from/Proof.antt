@@ -33,17 +33,25 @@ wide-requires : tie.Need-wide-requires Inv-loop μ-loop
 wide-requires c κs = search needs
 
 returns : tie.Need-returns Inv-loop μ-loop
-returns c = counting-low _ _ _ _ _ (c .before .before .before .before .loop .inv) (c .before .before .before .loop-test
-    .taken) _ (c .before .wide .ensures) (c .if1 .taken)
+returns c = counting-low _ _ _ _ _ (c .before .before .before .before .loop .inv)
+    (c .before .before .before .loop-test .taken) _ (c .before .wide .ensures) (c .if1 .taken)
 
 returns-2 : tie.Need-returns-2 Inv-loop μ-loop
-returns-2 c = counting-high _ _ _ _ _ (c .before .before .before .before .before .loop .inv) (c .before .before .before
-    .before .loop-test .taken) _ (c .before .before .wide .ensures) (c .if2 .taken)
+returns-2 c =
+    let at-wide = c .before .before in
+    let at-loop-test = at-wide .before .before in
+    let at-loop = at-loop-test .before in
+    counting-high _ _ _ _ _ (at-loop .loop .inv) (at-loop-test .loop-test .taken) _ (at-wide .wide .ensures)
+    (c .if2 .taken)
 
 returns-3 : tie.Need-returns-3 Inv-loop μ-loop
-returns-3 c = counting-over _ _ _ _ _ (c .before .before .before .before .before .before .loop .inv) (c .before .before
-    .before .before .before .loop-test .taken) _ (c .before .before .before .wide .ensures) (c .before .before .if1
-    .left) (c .before .if2 .left) (omega arith)
+returns-3 c =
+    let at-if1 = c .before .before in
+    let at-wide = at-if1 .before in
+    let at-loop-test = at-wide .before .before in
+    let at-loop = at-loop-test .before in
+    counting-over _ _ _ _ _ (at-loop .loop .inv) (at-loop-test .loop-test .taken) _ (at-wide .wide .ensures)
+    (at-if1 .if1 .left) (c .before .if2 .left) (omega arith)
 
 mul-y : tie.Need-mul-y Inv-loop μ-loop
 mul-y c = search needs
@@ -52,9 +60,14 @@ add-y : tie.Need-add-y Inv-loop μ-loop
 add-y c = search needs
 
 returns-4 : tie.Need-returns-4 Inv-loop μ-loop
-returns-4 c = counting-over _ _ _ _ _ (c .before .before .before .before .before .before .before .loop .inv) (c .before
-    .before .before .before .before .before .loop-test .taken) _ (c .before .before .before .before .wide .ensures) (c
-    .before .before .before .if1 .left) (c .before .before .if2 .left) (c .if4 .taken)
+returns-4 c =
+    let at-if2 = c .before .before in
+    let at-if1 = at-if2 .before in
+    let at-wide = at-if1 .before in
+    let at-loop-test = at-wide .before .before in
+    let at-loop = at-loop-test .before in
+    counting-over _ _ _ _ _ (at-loop .loop .inv) (at-loop-test .loop-test .taken) _ (at-wide .wide .ensures)
+    (at-if1 .if1 .left) (at-if2 .if2 .left) (c .if4 .taken)
 
 add-i : tie.Need-add-i Inv-loop μ-loop
 add-i c = search needs
@@ -63,9 +76,14 @@ loop-less : tie.Need-loop-less Inv-loop μ-loop
 loop-less c = search needs
 
 loop-again : tie.Need-loop-again Inv-loop μ-loop
-loop-again c = counting-more _ _ _ _ _ (c .before .before .before .before .before .before .before .loop .inv) (c
-    .before .before .before .before .before .before .loop-test .taken) _ (c .before .before .before .before .wide
-    .ensures) (c .before .before .before .if1 .left) (c .before .before .if2 .left) (c .if4 .left)
+loop-again c =
+    let at-if2 = c .before .before in
+    let at-if1 = at-if2 .before in
+    let at-wide = at-if1 .before in
+    let at-loop-test = at-wide .before .before in
+    let at-loop = at-loop-test .before in
+    counting-more _ _ _ _ _ (at-loop .loop .inv) (at-loop-test .loop-test .taken) _ (at-wide .wide .ensures)
+    (at-if1 .if1 .left) (at-if2 .if2 .left) (c .if4 .left)
 
 returns-5 : tie.Need-returns-5 Inv-loop μ-loop
 returns-5 c = counting-all _ _ _ _ _ (c .before .loop .inv) (c .loop-test .left)

@@ -32,8 +32,12 @@ below-requires : tie.Need-below-requires
 below-requires c κs = capped _ _ _ (c .number-from .ensures)
 
 returns-3 : tie.Need-returns-3
-returns-3 c = signed-minus _ _ _ (c .before .before .before .if2 .taken) (c .before .before .before .before .before
-    .if1 .left) (c .before .before .if3 .left) (c .before .number-from .ensures) (c .below .ensures)
+returns-3 c =
+    let at-if3 = c .before .before in
+    let at-if2 = at-if3 .before in
+    let at-if1 = at-if2 .before .before in
+    signed-minus _ _ _ (at-if2 .if2 .taken) (at-if1 .if1 .left) (at-if3 .if3 .left) (c .before .number-from .ensures)
+    (c .below .ensures)
 
 number-from-requires-2 : tie.Need-number-from-requires-2
 number-from-requires-2 c κs = search needs
@@ -42,8 +46,10 @@ above-requires : tie.Need-above-requires
 above-requires c κs = capped _ _ _ (c .number-from2 .ensures)
 
 returns-4 : tie.Need-returns-4
-returns-4 c = signed-plus _ _ _ (c .before .before .if2 .left) (c .before .before .before .before .if1 .left) (c
-    .before .number-from2 .ensures) (c .above .ensures)
+returns-4 c =
+    let at-if2 = c .before .before in
+    let at-if1 = at-if2 .before .before in
+    signed-plus _ _ _ (at-if2 .if2 .left) (at-if1 .if1 .left) (c .before .number-from2 .ensures) (c .above .ensures)
 
 pub number-of-spec : {M : Type 1} → statement M
 number-of-spec =

@@ -52,10 +52,13 @@ enum-told-2 : tie.Need-enum-told-2
 enum-told-2 c = search needs
 
 returns-2 : tie.Need-returns-2
-returns-2 c = second-bad _ _ _ (sym (c .before .before .before .before .before .before .before .number-of .ensures) ∙ c
-    .before .before .before .before .before .first .given .1) (sym (rw (behind (c .before .before .before .before
-    .before .before .before .before .before .before .args .p .now) _) at (c .before .before .number-of2 .ensures)) ∙ c
-    .enum-told2 .given .1)
+returns-2 c =
+    let at-number-of2 = c .before .before in
+    let at-first = at-number-of2 .before .before .before in
+    let at-number-of = at-first .before .before in
+    let at-start = at-number-of .before .before .before in
+    second-bad _ _ _ (sym (at-number-of .number-of .ensures) ∙ at-first .first .given .1)
+    (sym (rw (behind (at-start .args .p .now) _) at (at-number-of2 .number-of2 .ensures)) ∙ c .enum-told2 .given .1)
 
 returns-3 : tie.Need-returns-3
 returns-3 c =

@@ -32,8 +32,8 @@ is-blank-requires : tie.Need-is-blank-requires Inv-loop μ-loop
 is-blank-requires c κs = search needs
 
 returns : tie.Need-returns Inv-loop μ-loop
-returns c = running-stop _ _ _ _ (c .before .before .before .before .loop .inv) (c .before .before .before .loop-test
-    .taken) (sym (c .before .is-blank .ensures) ∙ not-true _ (c .if1 .taken))
+returns c = running-stop _ _ _ _ (c .before .before .before .before .loop .inv)
+    (c .before .before .before .loop-test .taken) (sym (c .before .is-blank .ensures) ∙ not-true _ (c .if1 .taken))
 
 add-i : tie.Need-add-i Inv-loop μ-loop
 add-i c = search needs
@@ -42,8 +42,11 @@ loop-less : tie.Need-loop-less Inv-loop μ-loop
 loop-less c = search needs
 
 loop-again : tie.Need-loop-again Inv-loop μ-loop
-loop-again c = running-more _ _ _ _ (c .before .before .before .before .loop .inv) (c .before .before .before
-    .loop-test .taken) (sym (c .before .is-blank .ensures) ∙ not-false _ (c .if1 .left))
+loop-again c =
+    let at-loop-test = c .before .before .before in
+    let at-loop = at-loop-test .before in
+    running-more _ _ _ _ (at-loop .loop .inv) (at-loop-test .loop-test .taken)
+    (sym (c .before .is-blank .ensures) ∙ not-false _ (c .if1 .left))
 
 returns-2 : tie.Need-returns-2 Inv-loop μ-loop
 returns-2 c = running-all _ _ _ _ (c .before .loop .inv) (c .loop-test .left)

@@ -33,8 +33,8 @@ is-blank-requires c κs = search needs
 
 returns : tie.Need-returns Inv-loop μ-loop
 unfolding isSolid
-returns c = running-stop _ _ _ _ (c .before .before .before .before .loop .inv) (c .before .before .before .loop-test
-    .taken) (ap not (sym (c .before .is-blank .ensures) ∙ c .if1 .taken))
+returns c = running-stop _ _ _ _ (c .before .before .before .before .loop .inv)
+    (c .before .before .before .loop-test .taken) (ap not (sym (c .before .is-blank .ensures) ∙ c .if1 .taken))
 
 add-i : tie.Need-add-i Inv-loop μ-loop
 add-i c = search needs
@@ -44,8 +44,11 @@ loop-less c = search needs
 
 loop-again : tie.Need-loop-again Inv-loop μ-loop
 unfolding isSolid
-loop-again c = running-more _ _ _ _ (c .before .before .before .before .loop .inv) (c .before .before .before
-    .loop-test .taken) (ap not (sym (c .before .is-blank .ensures) ∙ c .if1 .left))
+loop-again c =
+    let at-loop-test = c .before .before .before in
+    let at-loop = at-loop-test .before in
+    running-more _ _ _ _ (at-loop .loop .inv) (at-loop-test .loop-test .taken)
+    (ap not (sym (c .before .is-blank .ensures) ∙ c .if1 .left))
 
 returns-2 : tie.Need-returns-2 Inv-loop μ-loop
 returns-2 c = running-all _ _ _ _ (c .before .loop .inv) (c .loop-test .left)

@@ -35,8 +35,8 @@ shared-slice-read-if2-2 : tie.Need-shared-slice-read-if2-2 Inv-loop μ-loop
 shared-slice-read-if2-2 c = search needs
 
 returns-2 : tie.Need-returns-2 Inv-loop μ-loop
-returns-2 c = matching-not _ _ _ (c .before .before .before .before .loop .inv) (c .before .before .before .loop-test
-    .taken) (c .if2 .taken)
+returns-2 c = matching-not _ _ _ (c .before .before .before .before .loop .inv)
+    (c .before .before .before .loop-test .taken) (c .if2 .taken)
 
 add-i : tie.Need-add-i Inv-loop μ-loop
 add-i c = search needs
@@ -45,8 +45,8 @@ loop-less : tie.Need-loop-less Inv-loop μ-loop
 loop-less c = search needs
 
 loop-again : tie.Need-loop-again Inv-loop μ-loop
-loop-again c = matching-more _ _ _ (c .before .before .before .before .loop .inv) (c .before .before .before .loop-test
-    .taken) (c .if2 .left)
+loop-again c = matching-more _ _ _ (c .before .before .before .before .loop .inv)
+    (c .before .before .before .loop-test .taken) (c .if2 .left)
 
 returns-3 : tie.Need-returns-3 Inv-loop μ-loop
 returns-3 c = matching-all _ _ _ (c .before .loop .inv) (c .loop-test .left)
