@@ -193,6 +193,20 @@ module _ {M : Type 1} (𝓤 : URA M) (H : Heap 𝓤) (A : Atoms 𝓤) (W : Given
   stores : (τ : Ty) → τ ≡ N′.mir → (r : Answer) (v : Val) → Is N.the-row r (v ∷ []) → T (hasTy τ v) × WT v
   stores τ is-answer r v is = subst (λ (τ : Ty). T (hasTy τ v) × WT v) (sym is-answer) (typed-answer 𝓤 H A W r v is)
 
+  -- the lifetime of the `&` ends: the row goes back, and t's last list is the one that it was
+  read-over : {Γ : List (Item 𝓤)} {E : Env 𝓤 H} {cs : Locals} {C : Calls 𝓤 H} {Λ : Loops 𝓤 H} {rest : Body}
+      {post : Post 𝓤 H} (α : ℕ) → Sq W (frame H E cs ∷ ‵ (finally R γ ys) ∷ Token ∷ Γ) (runs C Λ E rest post)
+      → Sq W (‵ (flft (α ∷ []) fullShare) ∷ frame H E cs ∷ ‵ (Kept κ q b o γ ys (α ∷ [])) ∷ Γ) (runs C Λ E rest post)
+  read-over α k =
+      lft-end ! tt $ move ! (2 ∷ []) $ fsplit ! $ move ! (2 ∷ 0 ∷ []) $ lent-back ! tt $ fsplit ! $ drop ! $
+      -- [the row; the other parts of what was kept; the frame; …]
+      move ! (1 ∷ []) $ fsplit ! $ move ! (1 ∷ []) $ fsplit ! $ move ! (3 ∷ 2 ∷ 0 ∷ 1 ∷ []) $
+      closes-slice ! tt R ys ys refl b o $
+      use1 W (‵ (fres γ (codedHoleys R .code (heres R ys)))) (W .names .obs-res γ (codedHoleys R .code (heres R ys))) $
+      use1 W (‵ (finally R γ ys)) (res-finally 𝓤 H A W (named 0) κ R γ ys) $
+      -- [the last list; the borrow; the token; the frame; …]
+      move ! (1 ∷ []) $ drop ! $ move ! (2 ∷ 0 ∷ 1 ∷ []) $ k
+
   module _ (Γ : List (Item 𝓤)) (E : Env 𝓤 H) (cs : Locals) (m : Lending) where
     -- the operands of a call that asks for P: the slice of m, and xs
     abbrev Operands : SProp 𝓤 → List Operand → List Val → Type 2
@@ -272,13 +286,4 @@ module _ {M : Type 1} (𝓤 : URA M) (H : Heap 𝓤) (A : Atoms 𝓤) (W : Given
           use1 W (‵ (flft (α ∷ []) fullShare) ⊛ ‵ ftrue) (id⊢ 𝓤 (sep 𝓤 (A .lft (α ∷ []) fullShare) (emp 𝓤))) $
           split ! $ move ! (1 ∷ []) $ drop ! $
           -- [the new token; the frame; what is kept; …]
-          lft-end ! tt $ move ! (2 ∷ []) $ fsplit ! $ move ! (2 ∷ 0 ∷ []) $ lent-back ! tt $ fsplit ! $ drop ! $
-          -- [the row; the other parts of what was kept; the frame; …]
-          move ! (1 ∷ []) $ fsplit ! $ move ! (1 ∷ []) $ fsplit ! $ move ! (3 ∷ 2 ∷ 0 ∷ 1 ∷ []) $
-          closes-slice ! tt R ys ys refl b o $
-          use1 W (‵ (fres γ (codedHoleys R .code (heres R ys))))
-          (W .names .obs-res γ (codedHoleys R .code (heres R ys))) $
-          use1 W (‵ (finally R γ ys)) (res-finally 𝓤 H A W (named 0) κ R γ ys) $
-          -- [the last list; the borrow; the token; the frame; …]
-          move ! (1 ∷ []) $ drop ! $ move ! (2 ∷ 0 ∷ 1 ∷ []) $
-          k ys r v refl (record { answer = e; table = sym (read-leaves ys id) }) is))))
+          read-over α (k ys r v refl (record { answer = e; table = sym (read-leaves ys id) }) is)))))

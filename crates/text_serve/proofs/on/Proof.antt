@@ -271,17 +271,23 @@ module _ {M : Type 1} (𝓤 : URA M) (H : Heap 𝓤) (A : Atoms 𝓤) (W : Given
             assigns ! (of-opd ! (load ! (from ! (stop !)) (look ! (slot 0 ℓt) refl))) (from ! (stop !))
             (init ! (slot 0 ℓu) refl (typedN ts w is)) $ k
 
-        -- let s = serve(&mut u, telling);
-        let-s : ((zs : List Record) (r : State) → IsState r
-            → Sq W (In (valN zs ∷ []) (state-val r ∷ []) (to-u ∷ []) (machine l₃ 0 ts ∷ []) []) (Runs code-report))
+        -- `&mut u`, as the compiler has it: a pointer, and the slice behind it
+        borrow-u : Sq W (In (w ∷ []) [] (to-u ∷ []) (machine l₃ 0 ts ∷ []) []) (Runs (after (after code-s)))
             → Sq W (In (w ∷ []) [] [] [] []) (Runs code-s)
-        let-s k =
+        borrow-u k =
             assigns ! (addr ! (from ! (stop !))) (from ! (stop !)) (init ! (slot 0 (for-u .0)) refl (tt, tt)) $
             assigns ! (agg ! (and-then ! (load ! (from ! (stop !)) (look ! (slot 0 (for-u .0)) refl))
             (and-then ! (lit ! tt) (no-more !)))) (from ! (stop !))
             (init ! (slot 0 (for-u .1)) refl (tt, (tt, (record { fits = lit< tt }, tt)))) $
             rewrite ! (slot 0 (for-u .1)) (λ (m : ℕ). ‵ (fat fullShare slice l₆ 0 (sliceVal (l₃, 0) m)))
-            (sym (full ts w is)) refl $
+            (sym (full ts w is)) refl $ k
+
+        -- let s = serve(&mut u, telling);
+        let-s : ((zs : List Record) (r : State) → IsState r
+            → Sq W (In (valN zs ∷ []) (state-val r ∷ []) (to-u ∷ []) (machine l₃ 0 ts ∷ []) []) (Runs code-report))
+            → Sq W (In (w ∷ []) [] [] [] []) (Runs code-s)
+        let-s k =
+            borrow-u (
             move ! (slot 0 ℓu ∷ []) $ use1 W (‵ (cells (mem R) ts l₃ 0)) (apart ts w l₃ is) $
             lft-new ! tt (λ α. move ! (1 ∷ []) $
             use1 W (later (some (λ (γ : GName). ‵ (Owned (α ∷ []) l₃ 0 γ ts)
@@ -304,7 +310,7 @@ module _ {M : Type 1} (𝓤 : URA M) (H : Heap 𝓤) (A : Atoms 𝓤) (W : Given
             rewrite ! (slot 1 ℓs) (λ (z : Val). ‵ (fat fullShare state-ty l₄ 0 z)) (state-tells r v ir) refl $
             -- u's cell goes back to its place
             move ! (entries 1 (slot 0 ℓu) ++ 0 ∷ []) $
-            k zs r (state-is r v ir)))))
+            k zs r (state-is r v ir))))))
 
         -- report(s);
         report-s : {u pointer lent : Val} (r : State) → IsState r
