@@ -36,9 +36,6 @@ use Rattle.text_turn.specs.declared.Prepared.{Prepared}
 use Rattle.text_turn.proofs.State as G
 use Rattle.text_turn.proofs.State.Laws as G′
 use Rattle.text_deed.proofs.Beside.Laws as B′
-use Rattle.text_protocol.specs.declared.Performed.{Performed}
-use Rattle.text_protocol.proofs.Performed as F
-use Rattle.text_protocol.proofs.Performed.Laws as F′
 use Rattle.text_turn.proofs.Prepared as P
 use Rattle.text_turn.proofs.Prepared.Laws as P′
 
@@ -119,6 +116,3 @@ module _ {M : Type 1} (𝓤 : URA M) (H : Heap 𝓤) (A : Atoms 𝓤) (W : Given
 
   pub typed-heard : (p : Prepared) (w : Val) → Is P.the-row p (w ∷ []) → T (hasTy heard-ty w) × WT w
   typed-heard p w is = LL.lawful P.the-type P′.the-laws 𝓤 H A W .typed p (w ∷ []) is .0
-
-  pub typed-performed : (a : Performed) (w : Val) → Is F.the-row a (w ∷ []) → T (hasTy F′.mir w) × WT w
-  typed-performed a w is = LL.lawful F.the-type F′.the-laws 𝓤 H A W .typed a (w ∷ []) is .0

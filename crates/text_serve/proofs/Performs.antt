@@ -51,7 +51,8 @@ use Rattle.text_call.proofs.Request.Laws as B′
 use Rattle.text_ask.specs.Asked.{Asks}
 use Rattle.text_ask.proofs.ask as ask
 use Rattle.text_ask.proofs.ask.Symbol as ask-def
-use Rattle.text_serve.proofs.Arrays.{Numbers, to, typed-performed}
+use Rattle.text_ask.proofs.Typed.{typed-performed}
+use Rattle.text_serve.proofs.Arrays.{Numbers, to}
 use Rattle.text_serve.proofs.rows_in as rows
 use Rattle.text_serve.proofs.rows_in.Symbol as rows-def
 use Rattle.text_protocol.specs.Names.{evaluateCount}

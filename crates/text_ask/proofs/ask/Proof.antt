@@ -75,6 +75,7 @@ use Rattle.text_perform.proofs.Hands.{handing, hands}
 use Rattle.text_perform.proofs.perform as perform
 use Rattle.text_perform.proofs.perform.Symbol as perform-def
 use Rattle.text_perform.proofs.perform.Met as perform-thm
+use Rattle.text_ask.proofs.Typed.{typed-performed}
 use Rattle.text_ask.specs.Asked.{explained, unexplained, Asks}
 use Rattle.text_ask.proofs.with_why as with-why
 use Rattle.text_ask.proofs.with_why.Symbol as with-def
@@ -321,9 +322,6 @@ module _ {M : Type 1} (𝓤 : URA M) (H : Heap 𝓤) (A : Atoms 𝓤) (W : Given
   typed-why : (y : Why) (v : Val) → Is Y.the-row y (v ∷ []) → T (hasTy Y′.mir v) × WT v
   typed-why y v is = LL.lawful Y.the-type Y′.the-laws 𝓤 H A W .typed y (v ∷ []) is .0
 
-  typed-performed : (r : Performed) (v : Val) → Is F.the-row r (v ∷ []) → T (hasTy F′.mir v) × WT v
-  typed-performed r v is = LL.lawful F.the-type F′.the-laws 𝓤 H A W .typed r (v ∷ []) is .0
-
   module _ (C : Calls 𝓤 H) (Λ : Loops 𝓤 H) (fm : FmC 𝓤 H (W .laws) C)
       (known-why : Triple 𝓤 (C why-def.name) (Says 𝓤 H A mem run))
       (known-perform : Triple 𝓤 (C perform-def.name) (Performs 𝓤 H A mem run))
@@ -411,7 +409,7 @@ module _ {M : Type 1} (𝓤 : URA M) (H : Heap 𝓤) (A : Atoms 𝓤) (W : Given
             (runs C Λ En code-with p)
         explaining arm w iw zs r v as-long kept is =
             consults 𝓤 H A W with-why.ended (with-why.clauses 𝓤 H A mem run) (to-with r v w) tt fm known-with
-            (goes-with r v w is iw) (explained r told) (λ y e. id⊢ 𝓤 _) typed-performed tt
+            (goes-with r v w is iw) (explained r told) (λ y e. id⊢ 𝓤 _) (typed-performed 𝓤 H A W) tt
             (and-then ! (local′ ! ℓanswer refl) (and-then ! (local′ ! ℓwhy refl) (no-more !))) (λ u iu.
             leaves-within ! Post arm refl $
             by ! (exits zs (explained r told) u as-long (record { performed = kept; why = λ _. refl }) iu))
@@ -423,7 +421,7 @@ module _ {M : Type 1} (𝓤 : URA M) (H : Heap 𝓤) (A : Atoms 𝓤) (W : Given
             (runs C Λ En code-without p)
         answering arm unasked zs r v as-long kept is =
             consults 𝓤 H A W without-why.ended (without-why.clauses 𝓤 H A mem run) (to-without r v) tt fm known-without
-            (goes-without r v is) (unexplained r) (λ y e. id⊢ 𝓤 _) typed-performed tt
+            (goes-without r v is) (unexplained r) (λ y e. id⊢ 𝓤 _) (typed-performed 𝓤 H A W) tt
             (and-then ! (local′ ! ℓalone refl) (no-more !)) (λ u iu.
             leaves-within ! Post arm refl $
             by ! (exits zs (unexplained r) u as-long (record { performed = kept; why = never asked unasked }) iu))
