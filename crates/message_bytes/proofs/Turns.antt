@@ -1,4 +1,5 @@
--- One turn of each loop over bytes and fields, on plain values: what is still to be done leads to the whole. Assumes
+-- One turn of each loop over bytes, as laws over lists and numbers: the bytes still to write, written behind those
+-- written, are the number's bytes, and the bytes still to read, behind those read, spell the number. Assumes
 -- nothing.
 use mathlib.Core.Path.{_≡_, refl, _∙_}
 use mathlib.Core.List.{List}

@@ -1,1 +1,2 @@
+-- The definitions of message_bytes, a file each.
 pub mod Asked

@@ -1,4 +1,5 @@
--- Numbers as the values of a message, on plain values: what is still to be done leads to the whole. Assumes nothing.
+-- Numbers as the values of a message, as laws over lists: the values still to write, written behind those written,
+-- are the values of all numbers. Assumes nothing.
 use mathlib.Core.Path.{_≡_, refl, sym, _∙_}
 use mathlib.Core.Bool.{Bool, true, false}
 use mathlib.Core.List.{List, map, append-nil}

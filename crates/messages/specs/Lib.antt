@@ -1,1 +1,2 @@
+-- The definitions of messages, a file each.
 pub mod Promises

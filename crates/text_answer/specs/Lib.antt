@@ -1,2 +1,3 @@
+-- The definitions of text_answer, a file each.
 pub mod Told
 pub mod Kinds

@@ -1,1 +1,2 @@
+-- The definitions of text_ask, a file each.
 pub mod Asked

@@ -1,2 +1,3 @@
+-- The definitions of text_call, a file each.
 pub mod Terms
 pub mod Requests

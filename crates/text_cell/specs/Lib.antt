@@ -1,1 +1,2 @@
+-- The definitions of text_cell, a file each.
 pub mod Placed

@@ -1,1 +1,2 @@
+-- The laws of text_deed, a file each; other crates may cite them.
 pub mod Doing

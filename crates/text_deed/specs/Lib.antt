@@ -1,1 +1,2 @@
+-- The definitions of text_deed, a file each.
 pub mod Deeds

@@ -1,1 +1,2 @@
+-- The laws of text_evening, a file each; other crates may cite them.
 pub mod NoCall

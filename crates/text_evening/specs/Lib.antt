@@ -1,2 +1,3 @@
+-- The definitions of text_evening, a file each.
 pub mod Broadcast
 pub mod Evening

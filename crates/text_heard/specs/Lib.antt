@@ -1,1 +1,2 @@
+-- The definitions of text_heard, a file each.
 pub mod Lines

@@ -1,1 +1,2 @@
+-- The definitions of text_input, a file each.
 pub mod Input

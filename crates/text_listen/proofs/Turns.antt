@@ -1,4 +1,6 @@
--- What the functions need, on plain values. Assumes nothing.
+-- Why the functions of the listener meet their contracts, as laws over lists, numbers and `Listening`: what a read
+-- delivers, the state after a line, one step, and all steps. No law speaks of memory, so that the proofs of the
+-- functions only cite them. Assumes nothing.
 use mathlib.Core.Path.{_≡_, refl, sym, ap, _∙_}
 use mathlib.Core.Bool.{Bool, true, false, not}
 use mathlib.Core.Logic.{_⊎_, inl, inr}

@@ -1,2 +1,3 @@
+-- The definitions of text_listen, a file each.
 pub mod Listen
 pub mod Steps

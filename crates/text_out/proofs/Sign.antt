@@ -1,4 +1,5 @@
--- The sign test decides which case of a definition a signed number is. Assumes nothing.
+-- The text of a signed number by the test of its sign: below zero a minus and the digits of its size, otherwise the
+-- digits alone. `put_signed` cites the two laws at the end. Assumes nothing.
 use mathlib.Core.Path.{_≡_, refl, ap, subst, _∙_}
 use mathlib.Core.List.{List, [], _∷_, _++_}
 use Rattle.text_protocol.specs.Numbers.{decimal, signed}

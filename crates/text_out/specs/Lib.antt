@@ -1,2 +1,3 @@
+-- The definitions of text_out, a file each.
 pub mod Places
 pub mod Wrote

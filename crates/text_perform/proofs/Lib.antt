@@ -1,3 +1,4 @@
+-- The laws of text_perform, a file each; other crates may cite the public ones.
 pub mod Gives
 pub mod Requests
 pub mod Hands

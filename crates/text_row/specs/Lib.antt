@@ -1,1 +1,2 @@
+-- The definitions of text_row, a file each.
 pub mod Lines

@@ -1,4 +1,6 @@
--- What each function needs, on plain values. Assumes nothing.
+-- Why the functions of this crate meet their contracts, as laws over lists and numbers: the id that an argument asks
+-- for, digit by digit, and the two answers. No law speaks of memory, so that the proofs of the functions only cite
+-- them. Assumes nothing.
 use mathlib.Core.Path.{_≡_, refl, sym, ap, _∙_}
 use mathlib.Core.Bool.{Bool, true, false}
 use mathlib.Core.List.{List, [], _∷_, _++_}

@@ -1,3 +1,4 @@
+-- The laws of text_serve, a file each; other crates may cite the public ones.
 mod Turning
 mod Joining
 pub mod Arrays

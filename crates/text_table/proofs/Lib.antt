@@ -1,3 +1,4 @@
+-- The laws of text_table, a file each; other crates may cite them.
 pub mod Values
 pub mod Decimals
 pub mod Cells

@@ -1,3 +1,4 @@
+-- The definitions of text_table, a file each.
 pub mod Exchange
 pub mod Scan
 pub mod ExchangeCases

@@ -1,3 +1,4 @@
+-- The laws of text_word, a file each; other crates may cite the public ones.
 pub mod Words
 mod Turns
 mod Items

@@ -1,4 +1,5 @@
--- What the code finds its way with in a line. Assumes nothing.
+-- What the contracts of this crate need beside the protocol's words: a byte of a word, which is any that is no
+-- blank, and a size under a bound. Assumes nothing.
 use mathlib.Core.Bool.{Bool, not}
 use Prim.Native.Nat.{ℕ, _≤_}
 use Rattle.text_protocol.specs.declared.Size.{Size}

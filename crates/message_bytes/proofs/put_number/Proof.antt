@@ -1,4 +1,5 @@
--- `put_number` meets its contract. Assumes nothing.
+-- `put_number` meets its contract: before each turn the bytes still to write, written behind those written, are the
+-- bytes of the number (`Putting`). Assumes nothing.
 use Prim.Native.Nat.{_-_}
 use borrow.Author.Needs.{needs}
 use Rattle.message_bytes.proofs.Turns.{Putting, putting-none, putting-more, putting-all}

@@ -1,4 +1,5 @@
--- `as_admission` meets its contract. Assumes nothing.
+-- `as_admission` meets its contract: the id and the statics are judged by the two tests by which an admission judges
+-- them. Assumes nothing.
 use Rattle.paper_messages.specs.Messages.{asAdmission}
 use borrow.Author.Needs.{needs}
 use Rattle.message_kinds.proofs.as_admission.Statement.{statement}

@@ -1,4 +1,5 @@
--- `is_known` meets its contract. Assumes nothing.
+-- `is_known` meets its contract: the known kinds follow each other, so that the first and the last bound them, as in
+-- the definition. Assumes nothing.
 use borrow.Author.Needs.{needs}
 use Rattle.paper_messages.specs.Messages.{isKnown}
 use Rattle.message_kinds.proofs.is_known.Statement.{statement}

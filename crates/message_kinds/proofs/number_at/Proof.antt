@@ -1,4 +1,5 @@
--- `number_at` meets its contract. Assumes nothing.
+-- `number_at` meets its contract: before the end of the values it is the value as `exact::unsigned` reads it, and
+-- past the end the definition, too, has 0. Assumes nothing.
 use Rattle.paper.specs.Ranges.{unsigned}
 use mathlib.Core.Path.{sym, ap}
 use denote.Ref.{now}

@@ -1,4 +1,5 @@
--- `text_answer::put_levels` meets its contract. Assumes nothing.
+-- `text_answer::put_levels` meets its contract: the figures, the rates and the ranges are appended one behind the
+-- other, and what two calls append is one text (`both`). Assumes nothing.
 use Rattle.text_answer.specs.Told.{both}
 use borrow.Author.Needs.{needs}
 use Rattle.text_answer.proofs.put_levels.Statement.{statement}

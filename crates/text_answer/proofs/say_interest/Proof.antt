@@ -1,4 +1,5 @@
--- `text_answer::say_interest` meets its contract. Assumes nothing.
+-- `text_answer::say_interest` meets its contract: the verdict's number decides, as in the definition, between the
+-- text of an answer that is done and the number alone (`done-text`, `refused-text`). Assumes nothing.
 use Rattle.text_answer.proofs.Cases.{refused-text, done-text}
 use Rattle.text_protocol.specs.Answers.{interestText, interestNumbers}
 use borrow.Author.Needs.{needs}

@@ -1,4 +1,5 @@
--- `text_call::no_admission` meets its contract. Assumes nothing.
+-- `text_call::no_admission` meets its contract: where there is no number, the definition has 0 in every field, and
+-- so has the code. Assumes nothing.
 use mathlib.Core.Path.{refl}
 use Rattle.paper.specs.Ranges.{unsigned}
 use Rattle.text_protocol.specs.Names.{the, placeOf, admitNames, code}

@@ -1,4 +1,5 @@
--- `text_call::no_day` meets its contract. Assumes nothing.
+-- `text_call::no_day` meets its contract: its three terms are those of `no_term`, and its other fields are 0 on both
+-- sides. Assumes nothing.
 use borrow.Author.Needs.{needs}
 use Rattle.text_call.proofs.no_day.Statement.{statement}
 use Rattle.text_call.proofs.no_day.Tie as tie

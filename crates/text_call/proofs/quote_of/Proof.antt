@@ -1,4 +1,5 @@
--- `text_call::quote_of` meets its contract. Assumes nothing.
+-- `text_call::quote_of` meets its contract: each number is read at the place that its name has among `quoteNames`.
+-- Assumes nothing.
 use Rattle.text_protocol.specs.Names.{the, placeOf, quoteNames, code}
 use Rattle.text_protocol.specs.Calls.{quoteOf}
 use mathlib.Core.Path.{_≡_, refl, sym, ap, _∙_}

@@ -1,4 +1,5 @@
--- `text_deed::deed_of` meets its contract. Assumes nothing.
+-- `text_deed::deed_of` meets its contract: its three arms, for an interest line, a bond and every other line, are
+-- three laws of `Doing`; the request is the same in each. Assumes nothing.
 use Rattle.text_deed.proofs.Doing.{asks-for-interest, asks-for-bond, asks-for-other}
 use borrow.Author.Needs.{needs}
 use Rattle.text_deed.proofs.deed_of.Statement.{statement}

@@ -1,4 +1,5 @@
--- `text_input::fill` meets its contract. Assumes nothing.
+-- `text_input::fill` meets its contract: a read stores behind the first `have` bytes, which it leaves as they were,
+-- and where it fails the end stays where it was. Assumes nothing.
 use lib.Seq.{take-at, length-take-le}
 use borrow.Author.Needs.{needs}
 use Rattle.text_input.proofs.fill.Statement.{statement}

@@ -1,4 +1,5 @@
--- `text_line::has_terms` meets its contract. Assumes nothing.
+-- `text_line::has_terms` meets its contract: it compares the kind with the two that the definition names. Assumes
+-- nothing.
 use mathlib.Core.Path.{refl}
 use Rattle.text_protocol.specs.Line.{hasTerms}
 use Rattle.text_line.proofs.has_terms.Statement.{statement}

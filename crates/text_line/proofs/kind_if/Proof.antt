@@ -1,4 +1,5 @@
--- `text_line::kind_if` meets its contract. Assumes nothing.
+-- `text_line::kind_if` meets its contract: `same_bytes` is the test of the definition, and each arm is one of its
+-- two cases. Assumes nothing.
 use mathlib.Core.Path.{sym, _∙_}
 use borrow.Author.Needs.{needs}
 use Rattle.text_line.proofs.kind_if.Statement.{statement}
