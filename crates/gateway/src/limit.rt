@@ -61,8 +61,8 @@ fn limit_of(st: Statics, asked: Asked, side: Side, p: Price, rate: Rate) -> u64
     ensures { λ r. ⌜ r ≡ limitFigure st asked side (p .units) (rate .bp) ⌝ }
 {
     match asked {
-        Asked::Range => limits::range_limit(st, side, p, rate),
-        Asked::Band(x) => limits::band_limit(st, side, p, rate, x.c, x.k, x.repo),
+        Asked::Range => limits::range_limit(st, side, p, rate).units,
+        Asked::Band(x) => limits::band_limit(st, side, p, rate, x.c, x.k, x.repo).units,
     }
 }
 

@@ -1,10 +1,14 @@
 // Document 01, "Ranges, bands, alerts, moves" (10.1, 11.2, 17.8, 18): the limits by value, each rounded once by (g),
-// and what a move makes of them. P is a price; S_L, S_1 and the two maxima are rates. A limit and delta are bare
-// numbers of units, and a repo rate is one of basis points: neither is a price or a rate, since a repo rate may be
-// negative, and a limit 0 or above every price.
+// and what a move makes of them. P is a price; S_L, S_1 and the two maxima are rates; a range limit, the farthest limit
+// and a band limit are each a `Limit`. Bare numbers of units are the monitored limit before the farthest one narrows it
+// (fifty moves and a term of 30 days take it past every limit), `Limits`, the pair that a record holds, delta, and what
+// a move makes of the pair: a sum that the sequence of calls keeps in range, and not the rule. `narrower` takes bare
+// numbers, since the limits of a bond, which it serves too, are in hundredths of a per cent. A repo rate is a bare
+// number, which may be negative.
 use inputs::GRID_OF_ONE;
 use inputs::GRID_TO_TEN;
 use inputs::grid_of;
+use paper::Limit;
 use paper::Limits;
 use paper::Moves;
 use paper::ONE_IN_BP;
@@ -56,17 +60,17 @@ fn bp_to_grid(way: Way, lot: u64, n: u64) -> u64
 }
 
 // P·(1 ± rate), rounded once, that way.
-fn shifted_limit(way: Way, st: Statics, side: Side, p: Price, rate: Rate) -> u64
+fn shifted_limit(way: Way, st: Statics, side: Side, p: Price, rate: Rate) -> Limit
     requires { ⌜ RangeInputs p rate ⌝ }
-    ensures { λ r. ⌜ r ≡ limitOf way st (shifted side (p .units) (rate .bp)) ⌝ }
+    ensures { λ r. ⌜ r .units ≡ limitOf way st (shifted side (p .units) (rate .bp)) ⌝ }
 {
-    bp_to_grid(way, st.lot, shifted(side, p, rate))
+    Limit::of(bp_to_grid(way, st.lot, shifted(side, p, rate)))
 }
 
 // "Range of level L: P·(1 ± S_L)."; W-209: "ranges .. keep half up".
-pub fn range_limit(st: Statics, side: Side, p: Price, rate: Rate) -> u64
+pub fn range_limit(st: Statics, side: Side, p: Price, rate: Rate) -> Limit
     requires { ⌜ RangeInputs p rate ⌝ }
-    ensures { λ r. ⌜ r ≡ rangeLimit st (p .units) (rate .bp) side ⌝ }
+    ensures { λ r. ⌜ r .units ≡ rangeLimit st (p .units) (rate .bp) side ⌝ }
 {
     shifted_limit(Way::HalfUp, st, side, p, rate)
 }
@@ -76,8 +80,8 @@ pub fn range_of(st: Statics, p: Price, rate: Rate) -> Limits
     ensures { λ r. ⌜ r ≡ rangeOf st (p .units) (rate .bp) ⌝ }
 {
     Limits {
-        lower: range_limit(st, Side::Lower, p, rate),
-        upper: range_limit(st, Side::Upper, p, rate),
+        lower: range_limit(st, Side::Lower, p, rate).units,
+        upper: range_limit(st, Side::Upper, p, rate).units,
     }
 }
 
@@ -165,10 +169,10 @@ pub fn narrower(side: Side, x: u64, y: u64) -> u64
 }
 
 // "P·(1 + PcH_max)" above, "P·(1 - PcL_max)" below, rounded inward.
-fn farthest_limit(st: Statics, side: Side, p: Price) -> u64
+fn farthest_limit(st: Statics, side: Side, p: Price) -> Limit
     requires { ⌜ validStatics st ≡ true ⌝ }
     requires { ⌜ p .units ≤ priceMost ⌝ }
-    ensures { λ r. ⌜ r ≡ farthestLimit st side (p .units) ⌝ }
+    ensures { λ r. ⌜ r .units ≡ farthestLimit st side (p .units) ⌝ }
 {
     shifted_limit(inward(side), st, side, p, farthest_rate(st, side))
 }
@@ -180,8 +184,8 @@ pub fn farthest_of(st: Statics, p: Price) -> Limits
     ensures { λ r. ⌜ r ≡ farthestOf st (p .units) ⌝ }
 {
     Limits {
-        lower: farthest_limit(st, Side::Lower, p),
-        upper: farthest_limit(st, Side::Upper, p),
+        lower: farthest_limit(st, Side::Lower, p).units,
+        upper: farthest_limit(st, Side::Upper, p).units,
     }
 }
 
@@ -190,29 +194,30 @@ pub fn farthest_of(st: Statics, p: Price) -> Limits
 fn limit_within(
     st: Statics,
     side: Side,
-    farthest: u64,
+    farthest: Limit,
     p: Price,
     s1: Rate,
     c: u64,
     k: u64,
     repo: i64,
-) -> u64
+) -> Limit
     requires { ⌜ validStatics st ≡ true ⌝ }
     requires { ⌜ BandInputs p s1 c k repo ⌝ }
-    requires { ⌜ farthest ≡ farthestLimit st side (p .units) ⌝ }
-    ensures { λ r. ⌜ r ≡ bandLimit st (p .units) (s1 .bp) k repo c side ⌝ }
+    requires { ⌜ farthest .units ≡ farthestLimit st side (p .units) ⌝ }
+    ensures { λ r. ⌜ r .units ≡ bandLimit st (p .units) (s1 .bp) k repo c side ⌝ }
 {
     if st.monitoring {
-        narrower(side, farthest, monitored_limit(st, side, p, s1, c, k, repo))
+        let monitored = monitored_limit(st, side, p, s1, c, k, repo);
+        Limit::of(narrower(side, farthest.units, monitored))
     } else {
         farthest
     }
 }
 
-pub fn band_limit(st: Statics, side: Side, p: Price, s1: Rate, c: u64, k: u64, repo: i64) -> u64
+pub fn band_limit(st: Statics, side: Side, p: Price, s1: Rate, c: u64, k: u64, repo: i64) -> Limit
     requires { ⌜ validStatics st ≡ true ⌝ }
     requires { ⌜ BandInputs p s1 c k repo ⌝ }
-    ensures { λ r. ⌜ r ≡ bandLimit st (p .units) (s1 .bp) k repo c side ⌝ }
+    ensures { λ r. ⌜ r .units ≡ bandLimit st (p .units) (s1 .bp) k repo c side ⌝ }
 {
     limit_within(st, side, farthest_limit(st, side, p), p, s1, c, k, repo)
 }
@@ -224,9 +229,11 @@ pub fn band_of(st: Statics, farthest: Limits, p: Price, s1: Rate, c: Moves, x: T
     requires { ⌜ TermInputs p s1 c x ⌝ }
     ensures { λ r. ⌜ r ≡ bandOf st (p .units) (s1 .bp) c x ⌝ }
 {
+    let below = Limit::of(farthest.lower);
+    let above = Limit::of(farthest.upper);
     Limits {
-        lower: limit_within(st, Side::Lower, farthest.lower, p, s1, c.lower, x.k, x.low),
-        upper: limit_within(st, Side::Upper, farthest.upper, p, s1, c.upper, x.k, x.high),
+        lower: limit_within(st, Side::Lower, below, p, s1, c.lower, x.k, x.low).units,
+        upper: limit_within(st, Side::Upper, above, p, s1, c.upper, x.k, x.high).units,
     }
 }
 

@@ -2,7 +2,7 @@
 // proofs/ proves it. Every number of the paper has one name here and one in specs/Numbers.antt. It uses no other crate.
 ghost use mathlib.Core.Path.{_≡_};
 ghost use Prim.Native.Nat.{_≤_};
-ghost use Rattle.paper.specs.Numbers.{rateMost};
+ghost use Rattle.paper.specs.Numbers.{rateMost, limitMost};
 ghost use Rattle.paper.specs.Ranges.{priceMade, rateMade, limitMade};
 ghost use Rattle.paper.specs.Verdicts.{numberOf, isDone};
 
@@ -118,6 +118,14 @@ impl Limit {
         } else {
             MadeLimit::OutOfRange
         }
+    }
+
+    // The limit of a number that a rule has put in range already: its caller proves that it is.
+    pub fn of(units: u64) -> Limit
+        requires { ⌜ units ≤ limitMost ⌝ }
+        ensures { λ r. ⌜ r ≡ record { units = units } ⌝ }
+    {
+        Limit { units }
     }
 }
 
