@@ -102,37 +102,37 @@ fn searched_rate(st: Statics, level: u64, m: u64, tentative: u64) -> Rate
 }
 
 // So many steps, from the minimum to S_max.
-fn held_steps(st: Statics, minimum: u64, steps: u64) -> u64
+fn held_steps(st: Statics, minimum: Rate, steps: u64) -> Rate
     requires { ⌜ RateStatics st ⌝ }
-    requires { ⌜ (minimum ≤ st .smax) × (minimum % st .h ≡ 0) × (steps < stepsBound) ⌝ }
-    ensures { λ r. ⌜ Tried st minimum r ⌝ }
+    requires { ⌜ (minimum .bp ≤ st .smax) × (minimum .bp % st .h ≡ 0) × (steps < stepsBound) ⌝ }
+    ensures { λ r. ⌜ Tried st (minimum .bp) (r .bp) ⌝ }
 {
-    exact::greater(minimum, exact::lesser(st.smax, steps * st.h))
+    Rate::of(exact::greater(minimum.bp, exact::lesser(st.smax, steps * st.h)))
 }
 
 // Whether v covers the requirement or is S_max.
-fn is_enough(st: Statics, a: u64, b: u64, v: u64) -> bool
+fn is_enough(st: Statics, a: u64, b: u64, v: Rate) -> bool
     requires { ⌜ RateStatics st ⌝ }
-    requires { ⌜ (a ≤ squareMost) × (b ≤ squareMost) × (v ≤ st .smax) ⌝ }
-    ensures { λ r. ⌜ r ≡ enough st a b v ⌝ }
+    requires { ⌜ (a ≤ squareMost) × (b ≤ squareMost) × (v .bp ≤ st .smax) ⌝ }
+    ensures { λ r. ⌜ r ≡ enough st a b (v .bp) ⌝ }
 {
-    if st.smax <= v {
+    if st.smax <= v.bp {
         return true;
     }
-    reaches(v * st.rh1, a, b)
+    reaches(v.bp * st.rh1, a, b)
 }
 
 // Whether a step less does not cover the requirement or is below the minimum.
-fn is_least(st: Statics, minimum: u64, a: u64, b: u64, v: u64) -> bool
+fn is_least(st: Statics, minimum: Rate, a: u64, b: u64, v: Rate) -> bool
     requires { ⌜ RateStatics st ⌝ }
     requires { ⌜ (a ≤ squareMost) × (b ≤ squareMost) ⌝ }
-    requires { ⌜ Tried st minimum v ⌝ }
-    ensures { λ r. ⌜ r ≡ noLess st minimum a b v ⌝ }
+    requires { ⌜ Tried st (minimum .bp) (v .bp) ⌝ }
+    ensures { λ r. ⌜ r ≡ noLess st (minimum .bp) a b (v .bp) ⌝ }
 {
-    if v <= minimum {
+    if v.bp <= minimum.bp {
         return true;
     }
-    !reaches((v - st.h) * st.rh1, a, b)
+    !reaches((v.bp - st.h) * st.rh1, a, b)
 }
 
 // The rate of a level: a guess of it, tried from both sides, and where it is not the rate the one that the plain search
@@ -143,12 +143,11 @@ fn rate_near(st: Statics, level: u64, m: u64, tentative: u64, guess: u64) -> Rat
     ensures { λ r. ⌜ r .bp ≡ levelRate st tentative m level ⌝ }
 {
     let own = level_of(st, level);
-    let minimum = own.minimum.bp;
     let a = tentative_square(st.rh1, own.days, m, tentative);
     let b = liquidity_square(st.rh1, own.days, st.liq);
-    let v = held_steps(st, minimum, guessed_steps(guess, own.days));
-    if is_enough(st, a, b, v) & is_least(st, minimum, a, b, v) {
-        return Rate::of(v);
+    let v = held_steps(st, own.minimum, guessed_steps(guess, own.days));
+    if is_enough(st, a, b, v) & is_least(st, own.minimum, a, b, v) {
+        return v;
     }
     searched_rate(st, level, m, tentative)
 }
@@ -161,16 +160,16 @@ pub fn level_rate(st: Statics, level: u64, m: u64, tentative: u64) -> Rate
     rate_near(st, level, m, tentative, guess_of(st, m, tentative))
 }
 
-// Whether a rate of v basis points covers the requirement of a level.
-pub fn covers(st: Statics, level: u64, m: u64, tentative: u64, v: u64) -> bool
+// Whether a rate v covers the requirement of a level.
+pub fn covers(st: Statics, level: u64, m: u64, tentative: u64, v: Rate) -> bool
     requires { ⌜ RateStatics st ⌝ }
-    requires { ⌜ (m ≤ aheadMost) × (tentative ≤ tentativeBound) × (v ≤ rateMost) ⌝ }
-    ensures { λ r. ⌜ r ≡ covers st tentative m level v ⌝ }
+    requires { ⌜ (m ≤ aheadMost) × (tentative ≤ tentativeBound) × (v .bp ≤ rateMost) ⌝ }
+    ensures { λ r. ⌜ r ≡ covers st tentative m level (v .bp) ⌝ }
 {
     let own = level_of(st, level);
     let a = tentative_square(st.rh1, own.days, m, tentative);
     let b = liquidity_square(st.rh1, own.days, st.liq);
-    reaches(v * st.rh1, a, b)
+    reaches(v.bp * st.rh1, a, b)
 }
 
 // The three rates.

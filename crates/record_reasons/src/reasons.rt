@@ -96,13 +96,14 @@ fn is_least(st: Statics, level: u64, m: u64, tentative: u64, rate: Rate) -> bool
     requires { ⌜ rate .bp ≡ levelRate st tentative m level ⌝ }
     ensures { λ r. ⌜ r ≡ levelSetBy st tentative m level (rate .bp) LevelReason.Requirement ⌝ }
 {
-    if !covers(st, level, m, tentative, rate.bp) {
+    if !covers(st, level, m, tentative, rate) {
         return false;
     }
     if rate.bp == 0 {
         return true;
     }
-    !covers(st, level, m, tentative, rate.bp - st.h)
+    let below = Rate::of(rate.bp - st.h);
+    !covers(st, level, m, tentative, below)
 }
 
 // The requirement, the minimum or the maximum.

@@ -23,10 +23,14 @@ tentative-square-requires c κs = omega (arith, days-high c)
 liquidity-square-requires : tie.Need-liquidity-square-requires
 liquidity-square-requires c κs = omega (arith, days-high (c .before), c .before .before .pre .0)
 
-reach-high : (c : tie.After-struct-known)
-    → let a = c .before .before .before .before .args in a .v * a .st .rh1 ≤ rateMost * firstDaysMost
+-- the start, from where both squares are made
+abbrev start : tie.After-liquidity-square → tie.Start
+start c = c .before .before .before
+
+reach-high : (c : tie.After-struct-known2)
+    → let a = start (c .before .before) .args in a .v .bp * a .st .rh1 ≤ rateMost * firstDaysMost
 reach-high c =
-    let s = c .before .before .before .before in
+    let s = start (c .before .before) in
     mul-le-mul (s .pre .1 .2) (s .pre .0 .first-high)
 
 mul-reaches : tie.Need-mul-reaches
@@ -34,12 +38,13 @@ mul-reaches c = omega (arith, reach-high c)
 
 reaches-requires : tie.Need-reaches-requires
 reaches-requires c κs =
-    (reach-high c, c .before .before .tentative-square .ensures .1, c .before .liquidity-square .ensures .1)
+    let squared = c .before .before in
+    (reach-high c, squared .before .tentative-square .ensures .1, squared .liquidity-square .ensures .1)
 
 returns : tie.Need-returns
 unfolding covers
 returns c =
-    let squared = c .before .before in
+    let squared = c .before .before .before in
     rw (
       c .reaches .ensures,
       squared .liquidity-square .ensures .0,

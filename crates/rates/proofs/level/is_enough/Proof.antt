@@ -10,10 +10,14 @@ use Rattle.rates.proofs.level.is_enough.Tie as tie
 returns : tie.Need-returns
 returns c = rw (le-leb _ _ (c .if1 .taken))
 
-reach-high : (c : tie.After-struct-known2)
-    → let a = c .before .before .before .args in a .v * a .st .rh1 ≤ reachMost
+-- the start, from where v is below S_max
+abbrev start : tie.Else1 → tie.Start
+start c = c .before .before .before
+
+reach-high : (c : tie.After-struct-known4)
+    → let a = start (c .before .before) .args in a .v .bp * a .st .rh1 ≤ reachMost
 reach-high c =
-    let s = c .before .before .before in
+    let s = start (c .before .before) in
     mul-le-mul (le-trans (s .pre .1 .2) (s .pre .0 .most-high)) (s .pre .0 .first-high)
 
 mul-reaches : tie.Need-mul-reaches
@@ -21,11 +25,11 @@ mul-reaches c = omega (arith, reach-high c)
 
 reaches-requires : tie.Need-reaches-requires
 reaches-requires c κs =
-    let s = c .before .before .before in
+    let s = start (c .before .before) in
     (reach-high c, s .pre .1 .0, s .pre .1 .1)
 
 returns-2 : tie.Need-returns-2
-returns-2 c = rw (c .reaches .ensures, lt-leb _ _ (c .before .before .if1 .left))
+returns-2 c = rw (c .reaches .ensures, lt-leb _ _ (c .before .before .before .if1 .left))
 
 pub is-enough-spec : {M : Type 1} → statement M
 is-enough-spec = tie.close (tie.spec returns mul-reaches reaches-requires returns-2)

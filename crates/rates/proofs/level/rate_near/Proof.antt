@@ -38,22 +38,17 @@ is-enough-requires c κs = search needs
 is-least-requires : tie.Need-is-least-requires
 is-least-requires c κs = search needs
 
-of-requires : tie.Need-of-requires
-of-requires c κs = search needs
-
 returns : tie.Need-returns
 returns c =
-    let t = c .before in
-    let least = t .before in
+    let least = c .before in
     let held = least .before .before in
     let squared = held .before .before in
     let own = squared .before .before in
     let s = own .before in
     let a = s .args in
-    let enough = and-left (least .before .is-enough .result) (least .is-least .result) (t .if1 .taken) in
-    let none-less = and-right (least .before .is-enough .result) (least .is-least .result) (t .if1 .taken) in
-    rw (c .of .ensures)
-    (tried-is-level-rate (a .st) (a .level) (a .m) (a .tentative) (held .held-steps .result) (s .pre .0)
+    let enough = and-left (least .before .is-enough .result) (least .is-least .result) (c .if1 .taken) in
+    let none-less = and-right (least .before .is-enough .result) (least .is-least .result) (c .if1 .taken) in
+    tried-is-level-rate (a .st) (a .level) (a .m) (a .tentative) (held .held-steps .result .bp) (s .pre .0)
     (rw (own .level-of .ensures) at (held .held-steps .ensures))
     (rw (
       least .before .is-enough .ensures,
@@ -66,7 +61,7 @@ returns c =
       squared .liquidity-square .ensures .0,
       squared .before .tentative-square .ensures .0,
       own .level-of .ensures,
-    ) at none-less))
+    ) at none-less)
 
 searched-rate-requires : tie.Need-searched-rate-requires
 searched-rate-requires c κs = search needs
@@ -85,7 +80,6 @@ rate-near-spec =
     held-steps-requires
     is-enough-requires
     is-least-requires
-    of-requires
     returns
     searched-rate-requires
     returns-2)

@@ -68,32 +68,45 @@ returns-2 c =
     rw (s .pre .1 .1) (sym (zero-required _ _ _ _ (s .pre .0) (rate-covered covered)
     (sym (s .pre .1 .1) ∙ c .if2 .taken)))
 
-sub-covers : tie.Need-sub-covers
-sub-covers c =
+-- the start, from where the rate is above 0
+abbrev start : tie.Else2 → tie.Start
+start c = c .before .before .before .before
+
+sub-of : tie.Need-sub-of
+sub-of c =
     let over = c .before .before in
-    let s = over .before .before .before .before in
+    let s = start over in
     let a = s .args in
     let step : a .st .h ≤ a .rate .bp = rw (s .pre .1 .1) (rate-at-least-a-step _ _ _ _ (s .pre .0) (positive over)) in
     step
 
+-- a step below is a rate
+below-high : (c : tie.Else2) → start c .args .rate .bp - start c .args .st .h ≤ rateMost
+below-high c =
+    let s = start c in
+    omega (arith, rate-high _ _ _ _ _ (s .pre .0) (s .pre .1 .1))
+
+of-requires : tie.Need-of-requires
+of-requires c κs = below-high (c .before .before)
+
 covers-requires-2 : tie.Need-covers-requires-2
 covers-requires-2 c κs =
-    let s = c .before .before .before .before .before .before in
-    let a = s .args in
-    let low : a .rate .bp - a .st .h ≤ rateMost = omega (arith, rate-high _ _ _ _ _ (s .pre .0) (s .pre .1 .1)) in
-    (valid-are-rate-statics _ (s .pre .0), (s .pre .1 .0 .0, s .pre .1 .0 .1, low))
+    let over = c .before .before .before in
+    let s = start over in
+    rw (c .of .ensures) (valid-are-rate-statics _ (s .pre .0), (s .pre .1 .0 .0, s .pre .1 .0 .1, below-high over))
 
 returns-3 : tie.Need-returns-3
 returns-3 c =
-    let over = c .before .before .before in
+    let made = c .before in
+    let over = made .before .before .before in
     let covered = over .before .before in
     let s = covered .before .before in
     let a = s .args in
     let test : c .covers2 .result ≡ covers (a .st) (a .tentative) (a .m) (a .level) (a .rate .bp - a .st .h) =
-    c .covers2 .ensures in
+    rw (made .of .ensures) at (c .covers2 .ensures) in
     ap not (rw (s .pre .1 .1) at test) ∙ rw (s .pre .1 .1)
     (sym (a-step-below _ _ _ _ (s .pre .0) (rate-covered covered) (positive over)))
 
 pub is-least-spec : {M : Type 1} → statement M
 is-least-spec =
-    tie.close (tie.spec covers-requires returns returns-2 sub-covers covers-requires-2 returns-3)
+    tie.close (tie.spec covers-requires returns returns-2 sub-of of-requires covers-requires-2 returns-3)
