@@ -5,7 +5,7 @@ ghost use mathlib.Core.Path.{_≡_};
 ghost use mathlib.Core.Bool.{true, false};
 ghost use Prim.Native.Nat.{_*_, _≤_};
 ghost use Rattle.paper.specs.Lists.{every};
-ghost use Rattle.paper.specs.Numbers.{oneInHundredths, rouble, yearInDayBp, priceMost};
+ghost use Rattle.paper.specs.Numbers.{coarsestGrid, rouble, yearInDayBp, priceMost};
 ghost use Rattle.paper.specs.Roundings.{halfUp, toGrid, grown};
 ghost use Rattle.paper_desk.specs.Evaluation.{rowPrice, roublesOf, lesserAsk, median, between, dayRows, isCrossedRow, rowFits};
 ghost use Rattle.rows.specs.RowLaws.{InRange};
@@ -351,7 +351,7 @@ pub fn between(bid: u64, close: u64, ask: u64) -> u64
 
 // The evaluation on the grid, place (d), unless it is beyond its range: p is the price that the figures give.
 fn on_grid(g: u64, p: u64, figures: PriceFigures) -> Evaluation
-    requires { ⌜ (1 ≤ g) × (g ≤ oneInHundredths) × (p ≤ priceMost) ⌝ }
+    requires { ⌜ (1 ≤ g) × (g ≤ coarsestGrid) × (p ≤ priceMost) ⌝ }
     ensures { λ r. ⌜ r ≡ evaluationFrom (toGrid g p 1) figures ⌝ }
 {
     let made = Price::new(exact::to_grid(g, p, 1));
@@ -366,7 +366,7 @@ fn on_grid(g: u64, p: u64, figures: PriceFigures) -> Evaluation
 // the book's."
 pub fn evaluate(gathered: Gathered, previous: Price, used: External, g: u64) -> Evaluation
     requires { ⌜ Bound gathered ⌝ }
-    requires { ⌜ (previous .units ≤ priceMost) × (1 ≤ g) × (g ≤ oneInHundredths) ⌝ }
+    requires { ⌜ (previous .units ≤ priceMost) × (1 ≤ g) × (g ≤ coarsestGrid) ⌝ }
     requires { ⌜ (used .bid ≤ priceMost) × (used .ask ≤ priceMost) ⌝ }
     ensures { λ r. ⌜ EvaluatesTo g (previous .units) used gathered r ⌝ }
 {
