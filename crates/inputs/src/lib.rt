@@ -16,6 +16,7 @@ pub use calls::valid_term;
 pub use calls::valid_terms;
 pub use prices::GRID_OF_ONE;
 pub use prices::GRID_TO_TEN;
+pub use prices::LOT_TO_TEN;
 pub use prices::grid_of;
 pub use prices::is_grid_price;
 pub use prices::is_on_grid;

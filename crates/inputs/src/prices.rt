@@ -18,10 +18,12 @@ pub fn is_rate(bp: u64) -> bool
     bp <= Rate::MOST_BP
 }
 
-// "g = 100 units for lot 1, 10 for 2..10, 1 for 11..100": the first two.
+// "g = 100 units for lot 1, 10 for 2..10, 1 for 11..100": the first two, and the last lot of the second.
 pub const GRID_OF_ONE: u64 = 100;
 
 pub const GRID_TO_TEN: u64 = 10;
+
+pub const LOT_TO_TEN: u64 = 10;
 
 // It is above 0 whatever the lot, so a damaged record is judged on some grid.
 pub fn grid_of(lot: u64) -> u64
@@ -30,23 +32,18 @@ pub fn grid_of(lot: u64) -> u64
     if lot <= 1 {
         return GRID_OF_ONE;
     }
-    if lot <= 10 {
+    if lot <= LOT_TO_TEN {
         return GRID_TO_TEN;
     }
     1
 }
 
-// Whether x is on the lot's grid. Each grid has an arm of its own, in which the machine divides by a constant.
+// Whether x is on the lot's grid: every number is on that of 1, and a multiple of 100 is on all three. The machine
+// divides by constants and takes no branch, since the test of a sound record asks this of each of its limits.
 pub fn is_on_grid(lot: u64, x: u64) -> bool
     ensures { λ r. ⌜ r ≡ eqb (x % gridOf lot) 0 ⌝ }
 {
-    if 10 < lot {
-        return true;
-    }
-    if 1 < lot {
-        return x % GRID_TO_TEN == 0;
-    }
-    x % GRID_OF_ONE == 0
+    (LOT_TO_TEN < lot) | (x % GRID_OF_ONE == 0) | ((1 < lot) & (x % GRID_TO_TEN == 0))
 }
 
 pub fn is_grid_price(lot: u64, p: u64) -> bool

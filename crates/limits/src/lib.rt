@@ -7,6 +7,7 @@
 // number, which may be negative.
 use inputs::GRID_OF_ONE;
 use inputs::GRID_TO_TEN;
+use inputs::LOT_TO_TEN;
 use inputs::grid_of;
 use paper::Limit;
 use paper::Limits;
@@ -53,7 +54,7 @@ fn bp_to_grid(way: Way, lot: u64, n: u64) -> u64
     if lot <= 1 {
         return exact::rounded_to(way, GRID_OF_ONE, n, ONE_IN_BP);
     }
-    if lot <= 10 {
+    if lot <= LOT_TO_TEN {
         return exact::rounded_to(way, GRID_TO_TEN, n, ONE_IN_BP);
     }
     exact::rounded_to(way, 1, n, ONE_IN_BP)
