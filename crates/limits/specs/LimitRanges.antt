@@ -31,7 +31,7 @@ pub record RangeInputs (p : Price) (rate : Rate) : Type 0 where
   pub price : p .units ≤ priceMost
   pub rate-high : rate .bp ≤ rateMost
 
--- P·(1 + rate) over the whole, at its most
+-- P·(1 + rate) in ten-thousandths of a unit, at its most
 abbrev pub shiftedMost : ℕ
 shiftedMost = priceMost * (oneInBp + rateMost)
 

@@ -34,7 +34,7 @@ ghost use Rattle.limits.specs.LimitBounds.{deltaMost};
 
 // ---- ranges
 
-// P·(1 ± rate) over the whole.
+// P·(1 ± rate), in ten-thousandths of a unit.
 pub fn shifted(side: Side, p: Price, rate: Rate) -> u64
     requires { ⌜ RangeInputs p rate ⌝ }
     ensures { λ r. ⌜ r ≡ shifted side (p .units) (rate .bp) .num ⌝ }
