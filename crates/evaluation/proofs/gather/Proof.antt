@@ -97,10 +97,10 @@ add-requires c κs =
     (roubles-are-fitting _ (range (m .before .before)) (and-right (not (isCrossedRow row)) (rowFits row) (fine c))))
 
 add-at : tie.Need-add-at Inv-loop μ-loop
-add-at c = omega (arith, room (c .before .before .before .before .before .before .before))
+add-at c = let row = c .before .before .before .before in omega (arith, room (row .before .before .before))
 
 loop-less : tie.Need-loop-less Inv-loop μ-loop
-loop-less c = omega (arith, room (c .before .before .before .before .before .before .before))
+loop-less c = let row = c .before .before .before .before in omega (arith, room (row .before .before .before))
 
 loop-again : tie.Need-loop-again Inv-loop μ-loop
 loop-again c =

@@ -25,11 +25,13 @@ is-price-requires-3 c κs = search needs
 returns-2 : tie.Need-returns-2
 unfolding rowFits roublesOf
 returns-2 c =
-    let s = c .before .before .before .before .before .before .before .before .before in
+    let bid = c .before .before .before in
+    let close = bid .before .before in
+    let s = close .before .before .before .before in
     rw (
       c .before .is-price3 .ensures,
-      c .before .before .before .is-price2 .ensures,
-      c .before .before .before .before .before .is-price .ensures,
+      bid .is-price2 .ensures,
+      close .is-price .ensures,
       s .pre .1,
     )
 

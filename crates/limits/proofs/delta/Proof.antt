@@ -28,17 +28,21 @@ mul-rounded-to-3 : tie.Need-mul-rounded-to-3
 mul-rounded-to-3 c = omega (arith, sizes (c .before .before .before .before) .num)
 
 mul-rounded-to-4 : tie.Need-mul-rounded-to-4
-mul-rounded-to-4 c = omega (arith, statics (c .before .before .before .before .before) .divisor-high)
+mul-rounded-to-4 c =
+    let grid = c .before .before .before .before in
+    omega (arith, statics (grid .before) .divisor-high)
 
 rounded-to-requires : tie.Need-rounded-to-requires
 rounded-to-requires c κs =
-    let g = c .before .before .before .before in
-    let s = g .before in
-    rw (g .grid-of .ensures) (omega (arith, grid-in-range (s .args .st .lot), statics s, sizes s))
+    let grid = c .before .before .before .before in
+    let s = grid .before in
+    rw (grid .grid-of .ensures) (omega (arith, grid-in-range (s .args .st .lot), statics s, sizes s))
 
 returns : tie.Need-returns
 unfolding deltaOf limitOf
-returns c = rw (c .rounded-to .ensures, c .before .before .before .before .before .grid-of .ensures)
+returns c =
+    let products = c .before in
+    rw (c .rounded-to .ensures, products .before .before .before .before .grid-of .ensures)
 
 pub delta-spec : {M : Type 1} → statement M
 delta-spec =

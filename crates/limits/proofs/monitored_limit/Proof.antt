@@ -50,9 +50,13 @@ grow-requires c κs = search needs
 unmoved-spread-requires : tie.Need-unmoved-spread-requires
 unmoved-spread-requires c κs = search needs
 
+-- the start, from where the first two factors are known
+abbrev start : tie.After-struct-known → tie.Start
+start c = c .before .before .before .before .before
+
 mul-unmoved : tie.Need-mul-unmoved
 mul-unmoved c =
-    let s = c .before .before .before .before .before in
+    let s = start c in
     let a = s .args in
     let most = unmoved-spread-high (a .st) (a .side) (a .s1 .bp) (statics s) (s .pre .1 .rate-high) in
     rw (c .before .unmoved-spread .ensures) (omega (arith, mul-le-mul (s .pre .1 .price) most))
@@ -60,31 +64,33 @@ mul-unmoved c =
 -- where the quick way is taken, the first two factors make so little that the product of the three fits 64 bits, and
 -- leaves room for a step of the grid
 whole-fits : (c : tie.After-struct-known2)
-    → c .before .before .before .before .before .before .before .args .p .units
-    * c .before .before .before .unmoved-spread .result * c .before .before .before .before .grow .result
+    → let factors = c .before .before in
+    start factors .args .p .units * factors .before .unmoved-spread .result * factors .before .before .grow .result
     ≤ 2 ^ 64 - 2 ^ 46
 whole-fits c =
-    let u = c .before .before .before in
-    let a = u .before .before .before .before .args in
+    let factors = c .before .before in
+    let u = factors .before in
+    let a = start factors .args in
     let product : ℕ = a .p .units * u .unmoved-spread .result in
     let small = leb-true product _ (and-right (eqb (a .c) 0) _ (c .before .if1 .taken)) in
     omega (arith, mul-le-mul small (days-high (u .before)))
 
 mul-divisor : tie.Need-mul-divisor
-mul-divisor c = omega (arith, statics (c .before .before .before .before .before .before .before))
+mul-divisor c = omega (arith, statics (start (c .before .before)))
 
 mul-divisor-2 : tie.Need-mul-divisor-2
-mul-divisor-2 c = omega (arith, statics (c .before .before .before .before .before .before .before))
+mul-divisor-2 c = omega (arith, statics (start (c .before .before)))
 
 mul-rounded-to : tie.Need-mul-rounded-to
 mul-rounded-to c = omega (arith, whole-fits c)
 
 rounded-to-requires : tie.Need-rounded-to-requires
 rounded-to-requires c κs =
-    let g = c .before .before .before .before .before in
-    let st = g .before .before .args .st in
-    let v = statics (g .before .before) in
-    rw (g .grid-of .ensures)
+    let factors = c .before .before in
+    let grid = factors .before .before .before in
+    let st = start factors .args .st in
+    let v = statics (start factors) in
+    rw (grid .grid-of .ensures)
     (omega (arith, whole-fits c, v, grid-in-range (st .lot), mul-le-mul (v .divisor-high) (grid-in-range (st .lot) .1)))
 
 returns : tie.Need-returns
@@ -107,18 +113,19 @@ returns c =
     (statics s))
 
 mul-divisor-3 : tie.Need-mul-divisor-3
-mul-divisor-3 c = omega (arith, statics (c .before .before .before .before .before .before .before))
+mul-divisor-3 c = omega (arith, statics (start (c .before .before)))
 
 mul-divisor-4 : tie.Need-mul-divisor-4
-mul-divisor-4 c = omega (arith, statics (c .before .before .before .before .before .before .before))
+mul-divisor-4 c = omega (arith, statics (start (c .before .before)))
 
 spread-requires : tie.Need-spread-requires
 spread-requires c κs = search needs
 
 product-to-grid-requires : tie.Need-product-to-grid-requires
 product-to-grid-requires c κs =
-    let grow = c .before .before .before .before .before in
-    let s = grow .before .before .before in
+    let factors = c .before .before .before in
+    let grow = factors .before .before in
+    let s = start factors in
     let a = s .args in
     let b = s .pre .1 in
     let most = spread-high (a .st) (a .side) (a .s1 .bp) (a .c) (statics s) (b .rate-high) (b .moves-high) in
@@ -129,7 +136,8 @@ returns-2 : tie.Need-returns-2
 unfolding limitOf monitored
 returns-2 c =
     let spread = c .before in
-    let grow = spread .before .before .before .before .before in
+    let factors = spread .before .before .before in
+    let grow = factors .before .before in
     rw (
       c .product-to-grid .ensures,
       grow .before .before .inward .ensures,

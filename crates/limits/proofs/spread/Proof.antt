@@ -45,7 +45,8 @@ enum-told c = search needs
 
 add-result : tie.Need-add-result
 add-result c =
-    let s = sizes (c .before .before .before .before .before) in
+    let away = c .before .before in
+    let s = sizes (away .before .before .before) in
     omega (arith, s .middle, s .away)
 
 enum-told-2 : tie.Need-enum-told-2

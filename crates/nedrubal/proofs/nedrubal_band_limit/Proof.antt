@@ -11,7 +11,8 @@ use Rattle.nedrubal.proofs.nedrubal_band_limit.Tie as tie
 
 returns : tie.Need-returns
 returns c =
-    let g = c .before .before .before .before .before .before in
+    let p = c .before .before .before .before .before in
+    let g = p .before in
     let s = g .before in
     let f = s .fits in
     let answered : SFits w64 (c .band-answer .result) = search needs in
@@ -21,7 +22,7 @@ returns c =
     (f .min2) (f .min3) (f .smax) (f .xpr)
     (f .shift) (f .pchmax) (f .pclmax) (f .w) (f .u) (f .monitoring) (f .ewma) (f .uevening) (f .autochange)
     (f .eveningmax) (f .useexternal) (g .given-of .ensures) i)
-    (read-is-unsigned (f .p) (c .before .before .before .before .before .unsigned .ensures) i)
+    (read-is-unsigned (f .p) (p .unsigned .ensures) i)
     (read-is-unsigned (f .s1) (c .before .before .before .before .unsigned2 .ensures) i)
     (read-is-unsigned (f .k) (c .before .before .before .unsigned3 .ensures) i)
     (toZ-ofZ (f .repo) i)

@@ -50,26 +50,29 @@ add-natural-at-4 c = search needs
 
 natural-at-requires-5 : tie.Need-natural-at-requires-5
 unfolding rowAt
-natural-at-requires-5 c κs = (search needs, natural (c .before .before .before .before .before) .ask)
+natural-at-requires-5 c κs = let repo = c .before .before in (search needs, natural (repo .before .before .before) .ask)
 
 add-natural-at-5 : tie.Need-add-natural-at-5
 add-natural-at-5 c = search needs
 
 natural-at-requires-6 : tie.Need-natural-at-requires-6
 unfolding rowAt
-natural-at-requires-6 c κs = (search needs, natural (c .before .before .before .before .before .before) .volume)
+natural-at-requires-6 c κs =
+    let repo = c .before .before .before in
+    (search needs, natural (repo .before .before .before) .volume)
 
 returns : tie.Need-returns
 unfolding rowOf rowAt
 returns c =
+    let repo = c .before .before .before .before in
     rw (
       c .natural-at6 .ensures,
       c .before .natural-at5 .ensures,
       c .before .before .natural-at4 .ensures,
       c .before .before .before .natural-at3 .ensures,
-      toZ-ofZ {w = w64} (record { sfits = c .before .before .before .before .t9 .given }),
-      c .before .before .before .before .before .natural-at2 .ensures,
-      c .before .before .before .before .before .before .natural-at .ensures,
+      toZ-ofZ {w = w64} (record { sfits = repo .t9 .given }),
+      repo .before .natural-at2 .ensures,
+      repo .before .before .natural-at .ensures,
     )
 
 pub row-at-spec : {M : Type 1} → statement M

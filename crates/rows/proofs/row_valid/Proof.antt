@@ -55,15 +55,16 @@ close-for-volume-requires c κs = search needs
 returns : tie.Need-returns
 unfolding validRow rowAt
 returns c =
+    let close = c .before .before .before .before in
     rw (
       c .close-for-volume .ensures,
       c .before .within-at7 .ensures,
       c .before .before .within-at6 .ensures,
       c .before .before .before .within-at5 .ensures,
-      c .before .before .before .before .within-at4 .ensures,
-      c .before .before .before .before .before .within-at3 .ensures,
-      c .before .before .before .before .before .before .within-at2 .ensures,
-      c .before .before .before .before .before .before .before .within-at .ensures,
+      close .within-at4 .ensures,
+      close .before .within-at3 .ensures,
+      close .before .before .within-at2 .ensures,
+      close .before .before .before .within-at .ensures,
     )
 
 pub row-valid-spec : {M : Type 1} → statement M

@@ -81,7 +81,9 @@ side-of-requires c κs = search needs
 
 limit-of-requires : tie.Need-limit-of-requires
 limit-of-requires c κs =
-    (valid (c .before .before .before .before .before .before .before), in-range (c .before))
+    let t = c .before in
+    let s = t .before .before .before .before .before .before in
+    (valid s, in-range t)
 
 figure-requires : tie.Need-figure-requires
 figure-requires c κs =

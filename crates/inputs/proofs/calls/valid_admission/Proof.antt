@@ -27,7 +27,8 @@ passed c = two-tests-same (c .before .before .valid-id .ensures) (c .before .val
 
 valid-figures-requires : tie.Need-valid-figures-requires
 valid-figures-requires c κs =
-    let id = within 1 idMost (c .before .before .before .before .before .args .a .id) in
+    let start = c .before .before .before .before .before in
+    let id = within 1 idMost (start .args .a .id) in
     rw (c .statics-of .ensures) (statics-step-positive _ (given-statics-valid _ (and-right id _ (passed (c .before)))))
 
 returns : tie.Need-returns

@@ -30,45 +30,53 @@ div-least-reach c = search needs
 div-least-reach-2 : tie.Need-div-least-reach-2
 div-least-reach-2 c = search needs
 
+-- the two squares and the start, from where the search is asked for
+abbrev squared : tie.After-struct-known4 → tie.After-liquidity-square
+squared c = c .before .before .before .before
+
+abbrev start : tie.After-struct-known4 → tie.Start
+start c = squared c .before .before .before
+
 mul-least-reach : tie.Need-mul-least-reach
 mul-least-reach c =
-    let st = c .before .before .before .before .before .before .before .pre .0 in
+    let st = start c .pre .0 in
     omega (arith, mul-le-mul (st .step-high) (st .first-high))
 
 least-reach-requires : tie.Need-least-reach-requires
 least-reach-requires c κs =
-    let start = c .before .before .before .before .before .before .before in
-    let held = steps-within-reach (start .args .st) (start .args .level) (start .pre .0) in
-    rw (c .before .before .before .before .before .before .level-of .ensures) (
+    let s = start c in
+    let held = steps-within-reach (s .args .st) (s .args .level) (s .pre .0) in
+    rw (squared c .before .before .level-of .ensures) (
       held .0,
       held .1,
-      c .before .before .before .before .before .tentative-square .ensures .1,
-      c .before .before .before .before .liquidity-square .ensures .1,
+      squared c .before .tentative-square .ensures .1,
+      squared c .liquidity-square .ensures .1,
     )
 
 -- the steps that were found, times h
 abbrev made : tie.After-struct-known5 → ℕ
 made c =
-    let a = c .before .before .before .before .before .before .before .before .before .args in
-    c .before .least-reach .result * a .st .h
+    let squares = c .before .before .before .before .before .before in
+    c .before .least-reach .result * squares .before .before .before .args .st .h
 
 is-rate : (c : tie.After-struct-known5)
-    → let a = c .before .before .before .before .before .before .before .before .before .args in
+    → let squares = c .before .before .before .before .before .before in
+    let a = squares .before .before .before .args in
     made c ≡ levelRate (a .st) (a .tentative) (a .m) (a .level)
 is-rate c =
-    let squared = c .before .before .before .before .before .before in
-    let s = squared .before .before .before in
+    let squares = c .before .before .before .before .before .before in
+    let s = squares .before .before .before in
     rw (
       c .before .least-reach .ensures,
-      squared .liquidity-square .ensures .0,
-      squared .before .tentative-square .ensures .0,
-      squared .before .before .level-of .ensures,
+      squares .liquidity-square .ensures .0,
+      squares .before .tentative-square .ensures .0,
+      squares .before .before .level-of .ensures,
     )
     (least-reach-is-level-rate (s .args .st) (s .args .level) (s .args .m) (s .args .tentative) (s .pre .0))
 
 rate-high : (c : tie.After-struct-known5) → made c ≤ rateMost
 rate-high c =
-    let s = c .before .before .before .before .before .before .before .before .before in
+    let s = start (c .before .before) in
     let held = level-rate-within-most (s .args .st) (s .args .level) (s .args .m) (s .args .tentative) (s .pre .0) in
     omega (arith, is-rate c, s .pre .0 .most-high)
 

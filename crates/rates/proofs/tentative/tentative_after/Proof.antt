@@ -43,11 +43,9 @@ returns-2 c = rw (lt-leb _ _ (c .before .before .before .before .if1 .left), c .
 
 returns-3 : tie.Need-returns-3
 unfolding tentativeAfter
-returns-3 c = rw (
-  lt-leb _ _ (c .before .before .before .before .before .if1 .left),
-  c .before .before .if2 .left,
-  c .lesser .ensures,
-)
+returns-3 c =
+    let stays = c .before .before in
+    rw (lt-leb _ _ (stays .before .before .before .if1 .left), stays .if2 .left, c .lesser .ensures)
 
 pub tentative-after-spec : {M : Type 1} → statement M
 tentative-after-spec =
