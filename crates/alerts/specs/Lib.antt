@@ -1,1 +1,2 @@
+-- What the near test is made of.
 pub mod Nearness

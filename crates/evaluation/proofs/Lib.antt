@@ -1,3 +1,4 @@
+-- The laws that the proofs of an evaluation share, from one price to the answer.
 pub mod Prices
 pub mod Sides
 pub mod Books

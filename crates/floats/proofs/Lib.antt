@@ -1,1 +1,2 @@
+-- The laws that the proofs of `floats` cite.
 pub mod Exponents

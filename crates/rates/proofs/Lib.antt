@@ -1,3 +1,4 @@
+-- The laws that the proofs of the rate rules share: the statics, the choice of the volatility, the least rate.
 pub mod Statics
 pub mod Volatilities
 pub mod Reach

@@ -1,4 +1,5 @@
--- Laws of the volatility: what is chosen. Assumes nothing.
+-- What the volatility's rule chooses (7.1), by the test of x: the replacement where it passes, and x where it does not,
+-- each with its flag. Assumes nothing.
 use mathlib.Core.Path.{_≡_}
 use mathlib.Core.Bool.{Bool, true, false}
 use Prim.Native.Nat.{ℕ}
