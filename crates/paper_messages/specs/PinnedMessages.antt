@@ -192,11 +192,16 @@ fields =
     ∷ judged (sets moveBytes 18 (replicate 8 255))  -- a limit of -1
     ∷ judged (set moveBytes 58 1)  -- a limit past 2·10^12 + 2·10^10
     ∷ judged (set (set (set ratesBytes 14 0) 15 0) 16 0)  -- no price
+    ∷ judged (sets ratesBytes 14 (0 ∷ 228 ∷ 11 ∷ 84 ∷ 2 ∷ []))  -- a price of 10^10
+    ∷ judged (sets ratesBytes 14 (1 ∷ 228 ∷ 11 ∷ 84 ∷ 2 ∷ []))  -- one unit more
     ∷ judged (set (set (set ratesBytes 22 64) 23 66) 24 15)  -- a volatility of one
     ∷ judged (set (set (set ratesBytes 22 65) 23 66) 24 15)  -- more than one
     ∷ judged (set (set (set ratesBytes 30 135) 31 138) 32 1)  -- the greatest tentative rate
     ∷ judged (set (set (set ratesBytes 30 136) 31 138) 32 1)  -- past it
-    ∷ judged (set ratesBytes 34 251)  -- an age of 251
+    ∷ judged (set ratesBytes 34 250)  -- an age of 250
+    ∷ judged (set ratesBytes 34 251)  -- of 251
+    ∷ judged (set (set ratesBytes 38 16) 39 39)  -- a rate of 10,000
+    ∷ judged (set (set ratesBytes 38 17) 39 39)  -- of 10,001
     ∷ judged (set bandsBytes 10 65)  -- a day past 10^6
     ∷ judged (set bandsBytes 14 31)  -- 31 days
     ∷ judged (set (set bandsBytes 18 240) 19 216)  -- a repo rate of -10,000
@@ -207,13 +212,16 @@ fields =
     ∷ judged (set staticsBytes 101 255)  -- a flag of 255
     ∷ judged (set (set staticsBytes 50 20) 51 5)  -- a minimum above the next
     ∷ judged (set staticsBytes 50 82)  -- a minimum that is no multiple of h
-    ∷ judged (set staticsBytes 38 0)  -- RH2 below RH1
+    ∷ judged (set staticsBytes 38 0)  -- RH2 of no days
+    ∷ judged (set staticsBytes 34 2)  -- RH1, RH2 and RH3 alike
+    ∷ judged (set staticsBytes 34 3)  -- RH1 above RH2, each in its own range
+    ∷ judged (set staticsBytes 38 3)  -- RH2 above RH3
     ∷ judged (set staticsBytes 97 11)  -- eleven evening moves
     ∷ []
 
 pub fields-are : fields
-    ≡ 23 ∷ 0 ∷ 23 ∷ 0 ∷ 23 ∷ 0 ∷ 23 ∷ 23 ∷ 23 ∷ 23 ∷ 0 ∷ 23 ∷ 0 ∷ 23
-    ∷ 23 ∷ 23 ∷ 23 ∷ 23 ∷ 23 ∷ 0 ∷ 0 ∷ 23 ∷ 23 ∷ 23 ∷ 23 ∷ 23 ∷ 23 ∷ []
+    ≡ 23 ∷ 0 ∷ 23 ∷ 0 ∷ 23 ∷ 0 ∷ 23 ∷ 23 ∷ 23 ∷ 23 ∷ 0 ∷ 23 ∷ 0 ∷ 23 ∷ 0 ∷ 23 ∷ 0 ∷ 23 ∷ 0 ∷ 23
+    ∷ 23 ∷ 23 ∷ 23 ∷ 23 ∷ 0 ∷ 0 ∷ 23 ∷ 23 ∷ 23 ∷ 23 ∷ 23 ∷ 0 ∷ 23 ∷ 23 ∷ 23 ∷ []
 unfolding fields judged staticsBytes ratesBytes bandsBytes moveBytes zeros heardAt acceptedHeard refusedHeard
     readChecks firstOf isDone isKnown valid inRanges asAdmission givenIn validGiven validStatics staticsOf unsigned
     messageAt valuesAt spelled signedOf lengthOf total placesOf fieldsOf filled staticsFields ratesFields bandsFields
