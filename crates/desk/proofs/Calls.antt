@@ -1,27 +1,28 @@
 -- The statements that the calls of the desk are made of, as steps of a walk, for any caller whose locals are a frame:
---     lent-out     t is lent as `&` for a lifetime made for a call.        taken-back     it comes back as it was
---     takes        let d = take(t, x);     t is lent as `&` and comes back
---     takes-shared     the same of a caller that has t as `&`
---     puts         put(t, x, y);           t is given up to `put`, and the caller has what says t's last list
---     puts-turn    put(t, o.at, o.rec);
---     turned       after let o = rule(…);  the fields of the turn can be read
---     answers      o.answer
+--     lent-out        t is lent as `&` for a lifetime made for a call.        taken-back     it comes back as it was
+--     takes           let d = take(t, x);     t is lent as `&` and comes back
+--     takes-shared    the same of a caller that has t as `&`
+--     puts            put(t, x, y);           t is given up to `put`, and the caller has what says t's last list
+--     puts-effect     put(t, o.at, o.rec);
+--     effect-spelled  after let o = rule(…);  the fields of the effect can be read
+--     answers         o.answer
 -- Each is told which locals the statement uses, and leaves the other locals and the rest of the context as they were.
 -- `Asks` has the call of a rule, and `Frame` the locals.
 -- Assumes `Given`, and that the table's entries meet the contracts.
 --
 -- HOW TO ADD A CALL, as `pub fn seventh(t: &mut [Record], id: u64, q: Q) -> Answer`:
--- 1. Prove its rule in `record_calls`: `fn rule(s: Slot, q: Q) -> Effect` ensures that the turn is `seventhTurn s q`.
---    Add `seventh-steps` to `Steps`: what the turn stores and answers is the paper's step, by `judged-done`, in a line.
+-- 1. Prove its rule in `record_calls`: `fn rule(s: Slot, q: Q) -> Effect` ensures that the effect is `seventhEffect s
+--    q`. Add `seventh-steps` to `Steps`: what the effect stores and answers is the paper's step, by `judged-done`, in a
+--    line.
 -- 2. Where the code is `let s = take(t, id); let o = rule(s, q); put(t, o.at, o.rec); o.answer`, no walk is to be
---    written, `Turn` has it: copy quote/Proof.antt, or evaluate/Proof.antt where rows are lent beside the table, and
---    change the names; where nothing stands beside the id, open_evening/Proof.antt. A call that leaves the table is a
---    case of `Telling`: copy read/Proof.antt.
+--    written, `Changing` has it: copy quote/Proof.antt, or evaluate/Proof.antt where rows are lent beside the table,
+--    and change the names; where nothing stands beside the id, open_evening/Proof.antt. A call that leaves the table is
+--    a case of `Telling`: copy read/Proof.antt.
 -- 3. Where the code has another statement, copy admit/Proof.antt, which has one, and change, in this order:
 --    - ℓ…, for-…: the numbers of the locals. `rt mir desk` has them in order: the result, the parameters, each `let`,
 --      and the compiler's own, which are a pair for each call that t is lent to, and the `()` of `put`.
 --    - code-…: a definition for each statement. `function`: the types of the locals, and the statements in order. The
---      type of a local that holds a struct is `mir` of the struct's `Laws`; a turn's is `turn-ty`.
+--      type of a local that holds a struct is `mir` of the struct's `Laws`; an effect's is `effect-ty`.
 --    - x, at, stayed: the parameters, their machine values, and what is had of them at exit.
 --    - to-rule, goes-rule: what the rule is passed, and that the caller has it. `owned` makes anew what a plain value
 --      owns, the last parameter's first.
@@ -76,7 +77,7 @@ use Rattle.record_answers.specs.Effects.{slotOf}
 use Rattle.record_answers.proofs.Slot.Laws as U′
 use Rattle.record_answers.proofs.Effect as O
 use Rattle.paper.proofs.Answer.Laws as N′
-use Rattle.desk.proofs.Row.{R, val, makes, S, typed-slot, turn-ty, turn-val, turn-is, turn-tells, answer-val, typed-answer}
+use Rattle.desk.proofs.Row.{R, val, makes, S, typed-slot, effect-ty, effect-val, effect-is, effect-tells, answer-val, typed-answer}
 use Rattle.desk.proofs.Frame.{Locals, held, holding, Within, held-own, frame, value, field as field′, sets, clears, leaves}
 use Rattle.desk.proofs.Lending.{Lending, ref, machine, lending, lent, Lends, lends}
 use Rattle.desk.proofs.Asks.{calls, says, consults-lent}
@@ -113,8 +114,8 @@ abbrev pub putting : (t : ℕ) (m : Lending) (d : ℕ) → Operand → Operand �
 putting t m d x y rest = lending t m (seq (call #put (copy (place (m .1) []) ∷ x ∷ y ∷ []) (place d [])) rest)
 
 -- put(t, o.at, o.rec);
-abbrev pub putting-turn : (t : ℕ) (m : Lending) (d o : ℕ) → Body → Body
-putting-turn t m d o = putting t m d (copy (place o (field 0 ∷ []))) (copy (place o (field 1 ∷ [])))
+abbrev pub putting-effect : (t : ℕ) (m : Lending) (d o : ℕ) → Body → Body
+putting-effect t m d o = putting t m d (copy (place o (field 0 ∷ []))) (copy (place o (field 1 ∷ [])))
 
 -- o.answer
 abbrev pub answering : (o : ℕ) → Body
@@ -264,36 +265,37 @@ module _ {M : Type 1} (𝓤 : URA M) (H : Heap 𝓤) (A : Atoms 𝓤) (W : Given
         move ! (2 ∷ 1 ∷ 0 ∷ []) $ clears ! (m .0) (l .3) $ clears ! (m .1) (l .4) $ clears ! d in-d $ k z)))
 
     -- put(t, o.at, o.rec);
-    pub puts-turn : FmC 𝓤 H (W .laws) C → Triple 𝓤 (C #put) (Put 𝓤 H A mem run) → (t : ℕ) (m : Lending) (d o′ : ℕ)
+    pub puts-effect : FmC 𝓤 H (W .laws) C → Triple 𝓤 (C #put) (Put 𝓤 H A mem run) → (t : ℕ) (m : Lending) (d o′ : ℕ)
         → Lends 𝓤 H E cs t m b o ys → Within E d → spotOf 𝓤 H E d .0 ≡ tyUnit → (r : Effect)
-        → Is O.the-row r (turn-val r ∷ []) → held E (lent cs m b o ys) o′ ≡ some (turn-val r)
-        → spotOf 𝓤 H E o′ .0 ≡ turn-ty
+        → Is O.the-row r (effect-val r ∷ []) → held E (lent cs m b o ys) o′ ≡ some (effect-val r)
+        → spotOf 𝓤 H E o′ .0 ≡ effect-ty
         → ((u : Val)
         → Sq W (frame H E (holding (returned cs m d b o ys u) d none) ∷ ‵ (finally R γ (set ys (r .at) (r .rec)))
         ∷ ‵ (flft κ q) ∷ Γ) (runs C Λ E rest post))
-        → Sq W (frame H E cs ∷ ‵ (Owned κ b o γ ys) ∷ ‵ (flft κ q) ∷ Γ) (runs C Λ E (putting-turn t m d o′ rest) post)
-    puts-turn fm known t m d o′ l in-d is-unit r is holds is-turn =
-        puts fm known t m d l in-d is-unit (r .at) (r .rec) (val (r .rec)) (turn-is r (turn-val r) is .0)
-        (turn-is r (turn-val r) is .1 .0) (λ Δ. field′ ! o′ 0 holds is-turn refl)
-        (λ Δ. field′ ! o′ 1 holds is-turn refl)
+        → Sq W (frame H E cs ∷ ‵ (Owned κ b o γ ys) ∷ ‵ (flft κ q) ∷ Γ) (runs C Λ E (putting-effect t m d o′ rest) post)
+    puts-effect fm known t m d o′ l in-d is-unit r is holds is-effect =
+        puts fm known t m d l in-d is-unit (r .at) (r .rec) (val (r .rec)) (effect-is r (effect-val r) is .0)
+        (effect-is r (effect-val r) is .1 .0) (λ Δ. field′ ! o′ 0 holds is-effect refl)
+        (λ Δ. field′ ! o′ 1 holds is-effect refl)
 
--- let o = rule(…); has returned v, and the turn's fields can be read
-pub turned : {M : Type 1} {𝓤 : URA M} {H : Heap 𝓤} {A : Atoms 𝓤} (W : Given 𝓤 H A) {Γ : List (Item 𝓤)} {G : Goal 𝓤 H}
-    (F : Val → Item 𝓤) (r : Effect) (v : Val) → Is O.the-row r (v ∷ [])
-    → (Is O.the-row r (turn-val r ∷ []) → Sq W (F (turn-val r) ∷ Γ) G) → Sq W (F v ∷ Γ) G
-turned W F r v is k =
-    rewrite ! 0 F (turn-tells r v is) refl $ k (subst (λ (z : Val). Is O.the-row r (z ∷ [])) (turn-tells r v is) is)
+-- let o = rule(…); has returned v, and the effect's fields can be read
+pub effect-spelled : {M : Type 1} {𝓤 : URA M} {H : Heap 𝓤} {A : Atoms 𝓤} (W : Given 𝓤 H A) {Γ : List (Item 𝓤)}
+    {G : Goal 𝓤 H} (F : Val → Item 𝓤) (r : Effect) (v : Val) → Is O.the-row r (v ∷ [])
+    → (Is O.the-row r (effect-val r ∷ []) → Sq W (F (effect-val r) ∷ Γ) G) → Sq W (F v ∷ Γ) G
+effect-spelled W F r v is k =
+    rewrite ! 0 F (effect-tells r v is) refl $ k (subst (λ (z : Val). Is O.the-row r (z ∷ [])) (effect-tells r v is) is)
 
 module _ {M : Type 1} {𝓤 : URA M} {H : Heap 𝓤} {A : Atoms 𝓤} (W : Given 𝓤 H A) {Γ : List (Item 𝓤)} {E : Env 𝓤 H}
     {cs : Locals} {C : Calls 𝓤 H} {Λ : Loops 𝓤 H} {Kf : Val → SProp 𝓤} where
   -- o.answer
-  pub answers : (o : ℕ) (r : Effect) → Is O.the-row r (turn-val r ∷ []) → held E cs o ≡ some (turn-val r)
-      → spotOf 𝓤 H E o .0 ≡ turn-ty → Within E 0 → spotOf 𝓤 H E 0 .0 ≡ N′.mir
+  pub answers : (o : ℕ) (r : Effect) → Is O.the-row r (effect-val r ∷ []) → held E cs o ≡ some (effect-val r)
+      → spotOf 𝓤 H E o .0 ≡ effect-ty → Within E 0 → spotOf 𝓤 H E 0 .0 ≡ N′.mir
       → ent 𝓤 (⋆ 𝓤 H A Γ) (Kf (answer-val (r .answer)))
       → Sq W (frame H E cs ∷ Γ) (runs C Λ E (answering o) (atRet E Kf))
-  answers o r is holds is-turn in-0 is-answer exits =
-      assigns ! (of-opd ! (field′ ! o 2 holds is-turn refl)) (from ! (stop !))
+  answers o r is holds is-effect in-0 is-answer exits =
+      assigns ! (of-opd ! (field′ ! o 2 holds is-effect refl)) (from ! (stop !))
       (sets ! 0 in-0 (subst (λ (τ : Ty). T (hasTy τ (answer-val (r .answer))) × WT (answer-val (r .answer)))
-      (sym is-answer) (typed-answer 𝓤 H A W (r .answer) (answer-val (r .answer)) (turn-is r (turn-val r) is .1 .1)))) $
+      (sym is-answer) (typed-answer 𝓤 H A W (r .answer) (answer-val (r .answer))
+      (effect-is r (effect-val r) is .1 .1)))) $
       leaves ! (held-own E cs 0 (some (answer-val (r .answer))) in-0) $
       by ! exits

@@ -11,7 +11,7 @@ pub mod Plain
 pub mod Meeting
 pub mod Looking
 pub mod Passing
-pub mod Turn
+pub mod Changing
 pub mod Telling
 pub mod Shape
 pub mod ShapeWithRows

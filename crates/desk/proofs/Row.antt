@@ -1,5 +1,5 @@
--- What every walk over a lent row of records uses of a record, a slot, a turn and an answer: the type, the laws of the
--- type, and where slot i lies. Nothing else in the walks depends on a record's fields, but that `id` is the first.
+-- What every walk over a lent row of records uses of a record, a slot, an effect and an answer: the type, the laws of
+-- the type, and where slot i lies. Nothing else in the walks depends on a record's fields, but that `id` is the first.
 -- Assumes nothing.
 use mathlib.Core.Path.{_≡_, refl, ap}
 use mathlib.Core.List.{List, [], _∷_}
@@ -109,28 +109,28 @@ pub slot-is :
 slot-is n i r gn gi g =
     LL.owes U.the-type U′.the-laws (record { count = n; at = i; rec = r }) ((refl, gn), ((refl, gi), (g, tt)))
 
--- ---- the turn that a rule makes, and its answer
+-- ---- the effect that a rule makes, and its answer
 
 abbrev pub answer-val : Answer → Val
 answer-val = LL.val N.the-type N′.the-laws
 
-abbrev pub turn-val : Effect → Val
-turn-val = LL.val O.the-type O′.the-laws
+abbrev pub effect-val : Effect → Val
+effect-val = LL.val O.the-type O′.the-laws
 
--- a turn's machine type, with the types of its fields by name: spelled out, as it is in the code, it makes every step
--- of a walk ten times as long
-abbrev pub turn-ty : Ty
-turn-ty = tyStruct (O.struct .name) (tcons (tyInt w64) (tcons T′.mir (tcons N′.mir tnil)))
+-- an effect's machine type, with the types of its fields by name: spelled out, as it is in the code, it makes every
+-- step of a walk ten times as long
+abbrev pub effect-ty : Ty
+effect-ty = tyStruct (O.struct .name) (tcons (tyInt w64) (tcons T′.mir (tcons N′.mir tnil)))
 
--- what whoever holds a turn knows of its machine value and of its fields
-pub turn-tells : (o : Effect) (w : Val) → Is O.the-row o (w ∷ []) → w ≡ turn-val o
-turn-tells o w is = ap only (LL.tells O.the-type O′.the-laws o (w ∷ []) is)
+-- what whoever holds an effect knows of its machine value and of its fields
+pub effect-tells : (o : Effect) (w : Val) → Is O.the-row o (w ∷ []) → w ≡ effect-val o
+effect-tells o w is = ap only (LL.tells O.the-type O′.the-laws o (w ∷ []) is)
 
-pub turn-is :
+pub effect-is :
     (o : Effect) (w : Val) → Is O.the-row o (w ∷ [])
     → (o .at < 2 ^ 64) × (Is R (o .rec) (vals (o .rec)) × Is N.the-row (o .answer)
     (answer-val (o .answer) ∷ []))
-turn-is o w is = let fs = LL.owed O.the-type O′.the-laws o (w ∷ []) is in (fs .0 .1, (fs .1 .0, fs .1 .1 .0))
+effect-is o w is = let fs = LL.owed O.the-type O′.the-laws o (w ∷ []) is in (fs .0 .1, (fs .1 .0, fs .1 .1 .0))
 
 module _ {M : Type 1} (𝓤 : URA M) (H : Heap 𝓤) (A : Atoms 𝓤) where
   pub makes-answer : Makes 𝓤 H A N.the-row (Is N.the-row)
@@ -140,8 +140,8 @@ module _ {M : Type 1} (𝓤 : URA M) (H : Heap 𝓤) (A : Atoms 𝓤) where
     pub typed-answer : (r : Answer) (v : Val) → Is N.the-row r (v ∷ []) → T (hasTy N′.mir v) × WT v
     typed-answer r v p = LL.lawful N.the-type N′.the-laws 𝓤 H A W .typed r (v ∷ []) p .0
 
-    pub typed-turn : (o : Effect) (v : Val) → Is O.the-row o (v ∷ []) → T (hasTy turn-ty v) × WT v
-    typed-turn o v p = LL.lawful O.the-type O′.the-laws 𝓤 H A W .typed o (v ∷ []) p .0
+    pub typed-effect : (o : Effect) (v : Val) → Is O.the-row o (v ∷ []) → T (hasTy effect-ty v) × WT v
+    typed-effect o v p = LL.lawful O.the-type O′.the-laws 𝓤 H A W .typed o (v ∷ []) p .0
 
 -- ---- parts of a function, for the crates over this one whose walks have no frame
 

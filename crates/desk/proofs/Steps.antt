@@ -1,4 +1,4 @@
--- A turn on one slot is the paper's step on the table: what is stored past the end changes nothing, and that is all
+-- An effect on one slot is the paper's step on the table: what is stored past the end changes nothing, and that is all
 -- that a refusal stores. Assumes nothing.
 use mathlib.Core.Path.{_≡_, refl, ap}
 use mathlib.Core.Bool.{Bool, true, false}
@@ -90,7 +90,7 @@ read-leaves t id = go (isDone (firstOf (readChecks (known t id)))) _ _
     go true a r = refl
     go false a r = refl
 
--- what a turn stores and answers is promised, where the turn is the paper's step
+-- what an effect stores and answers is promised, where the effect is the paper's step
 pub promised : (c : Call) (t : List Record) (o : Effect) → doneBy t o ≡ step c t
     → Promised c t (o .answer) (set t (o .at) (o .rec))
 unfolding doneBy

@@ -81,6 +81,6 @@ unfoldable pub readAnswer : Slot → Answer
 readAnswer s = pick (isDone (firstOf (readChecks (isKnown s)))) (showing (s .rec))
     (saying (firstOf (readChecks (isKnown s))))
 
--- the table after a turn, and its answer
+-- the table after an effect, and its answer
 unfoldable pub doneBy : List Record → Effect → Outcome
 doneBy t o = record { answer = o .answer; table = set t (o .at) (o .rec) }

@@ -107,7 +107,7 @@ pub fn absent(n: usize) -> Slot
     }
 }
 
-// ---- answers and turns
+// ---- answers and effects
 
 // "A refusal returns its number with all figures 0"; "an admission the number 0 alone".
 pub fn saying(v: Verdict) -> Answer

@@ -78,10 +78,10 @@ first-stays (c ∷ cs) more n = go (c .applies) n (first-stays cs more)
     go true m rest = refl
     go false m rest = rest m
 
-turn-stays : (count : ℕ) (cs more : List Check) (accepted : Effect) → isDone (firstOf cs) ≡ false
+effect-stays : (count : ℕ) (cs more : List Check) (accepted : Effect) → isDone (firstOf cs) ≡ false
     → refusedEffect count (firstOf cs) ≡ judgedEffect count (firstOf (cs ++ more)) accepted
 unfolding judgedEffect
-turn-stays count cs more accepted n =
+effect-stays count cs more accepted n =
     rw (first-stays cs more n) (sym (pick-false (isDone (firstOf cs)) accepted (refusedEffect count (firstOf cs)) n))
 
 -- 1, 6, 10 and 11 do not apply
@@ -105,7 +105,7 @@ module _ (s : Slot) (q : Quote) where
       → refusedEffect (s .count) (firstOf (sharedChecks (isKnown s) (validQuote q) (s .rec))) ≡ quoteEffect s q
   unfolding quoteEffect quoteChecks sharedChecks
   quote-stopped n =
-      turn-stays (s .count) (sharedChecks (isKnown s) (validQuote q) (s .rec))
+      effect-stays (s .count) (sharedChecks (isKnown s) (validQuote q) (s .rec))
       (record { verdict = SecondEarlier; applies = ltb (q .second) (s .rec .second) } ∷ [])
       (record { at = s .at; rec = quoted (s .rec) q; answer = alertsOn (s .rec) q })
       n
@@ -126,7 +126,7 @@ module _ (s : Slot) (side : ℕ) where
       → refusedEffect (s .count) (firstOf (sharedChecks (isKnown s) (validSide side) (s .rec))) ≡ moveEffect s side
   unfolding moveEffect moveChecks sharedChecks
   move-stopped n =
-      turn-stays (s .count) (sharedChecks (isKnown s) (validSide side) (s .rec))
+      effect-stays (s .count) (sharedChecks (isKnown s) (validSide side) (s .rec))
       (record { verdict = NoEveningMove; applies = not (moveAllowed (s .rec .statics) (s .rec .session)) }
       ∷ record { verdict = MovesUsedUp; applies = eqb (countOf (sideOf side) (s .rec .moves)) movesMost }
       ∷ [])

@@ -1,5 +1,5 @@
-// One rule for each call but the evaluation (`record_evaluation`), by value: the slot found and the inputs in, a turn
-// out. Each judges the refusals in the paper's order.
+// One rule for each call but the evaluation (`record_evaluation`), by value: the slot found and the inputs in, an
+// effect out. Each judges the refusals in the paper's order.
 ghost use mathlib.Core.Path.{_≡_};
 ghost use Rattle.paper.specs.Verdicts.{firstOf};
 ghost use Rattle.paper_floats.specs.Floats.{priceOf};
@@ -22,7 +22,7 @@ use paper::Verdict;
 use record_answers::Effect;
 use record_answers::Slot;
 
-// ---- answers and turns
+// ---- an answer
 
 // "a quote its two alerts": of the near seconds after it, by the session's own seconds.
 fn alerts_on(r: Record, q: Quote, n: NearSeconds) -> Answer

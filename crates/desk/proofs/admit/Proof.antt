@@ -1,7 +1,8 @@
--- `desk::admit` meets its contract: the rule makes a turn of the slot of the id and of the first empty slot, the turn's
--- record is stored at its place, and that is the paper's step (`admit-steps`). It is entered and left as `Meeting` says
--- of every call. It is no instance of `Turn`, since it takes no id of its own but the admission's, and two slots. The
--- walk has a step for each statement, of the same laws as that of `Turn`: `let-s`, `let-e`, `let-o`, `put-o`, `answer`.
+-- `desk::admit` meets its contract: the rule makes an effect of the slot of the id and of the first empty slot, the
+-- effect's record is stored at its place, and that is the paper's step (`admit-steps`). It is entered and left as
+-- `Meeting` says of every call. It is no instance of `Changing`, since it takes no id of its own but the admission's,
+-- and two slots. The walk has a step for each statement, of the same laws as that of `Changing`: `let-s`, `let-e`,
+-- `let-o`, `put-o`, `answer`.
 -- Assumes nothing.
 use mathlib.Core.Path.{refl}
 use mathlib.Core.Option.{Option, none, some}
@@ -46,13 +47,13 @@ use Rattle.record_answers.specs.Effects.{slotOf, admitEffect}
 use Rattle.record_answers.proofs.Slot.Laws as U′
 use Rattle.record_answers.proofs.Effect as O
 use Rattle.desk.specs.Promises.{Promised}
-use Rattle.desk.proofs.Row.{R, table-ty, S, makes-slot, turn-ty, turn-val, turn-is, typed-turn, answer-val, makes-answer}
+use Rattle.desk.proofs.Row.{R, table-ty, S, makes-slot, effect-ty, effect-val, effect-is, typed-effect, answer-val, makes-answer}
 use Rattle.desk.proofs.Frame.{Addresses, of-types, env-of, spare, frame, value as local′, field as field′}
 use Rattle.desk.proofs.Plain.{admission, admission-laws}
 use Rattle.desk.proofs.Meeting.{Staying, changes, no-more, and-plain}
 use Rattle.desk.proofs.Meeting as Meeting
 use Rattle.desk.proofs.Lending.{ℓt, Lending, rref, wref, machine}
-use Rattle.desk.proofs.Calls.{Take, Put, Owned, taking, putting-turn, answering, takes, turned, puts-turn, answers}
+use Rattle.desk.proofs.Calls.{Take, Put, Owned, taking, putting-effect, answering, takes, effect-spelled, puts-effect, answers}
 use Rattle.desk.proofs.Known.{take-known, put-known}
 use Rattle.desk.proofs.Asks.{Callee, consults}
 use Rattle.desk.proofs.Steps.{admit-steps, promised}
@@ -113,7 +114,7 @@ code-o = seq (call #rule (copy (place ℓs []) ∷ copy (place ℓe []) ∷ copy
 
 -- put(t, o.at, o.rec);
 abbrev code-put : Body → Body
-code-put = putting-turn ℓt for-put ℓunit ℓo
+code-put = putting-effect ℓt for-put ℓunit ℓo
 
 -- an admission's machine type, with its statics' whole
 abbrev admission-ty : Ty
@@ -128,7 +129,7 @@ function = record {
   outlives = [];
   params = 2;
   locals =
-      of-types (N′.mir ∷ table-ty ∷ admission-ty ∷ U′.mir ∷ U′.mir ∷ turn-ty
+      of-types (N′.mir ∷ table-ty ∷ admission-ty ∷ U′.mir ∷ U′.mir ∷ effect-ty
       ∷ rref ∷ sliceTy rref ∷ rref ∷ sliceTy rref ∷ tyUnit ∷ wref ∷ sliceTy wref ∷ []);
   body = code-s (code-e (code-o (code-put (answering ℓo))));
 }
@@ -163,24 +164,24 @@ module _ {M : Type 1} (𝓤 : URA M) (H : Heap 𝓤) (A : Atoms 𝓤) (W : Given
     id-fits : a .id < 2 ^ 64
     id-fits = LL.owed B.the-type B′.the-laws a (value a ∷ []) ga .0 .1
 
-    -- the slots that are taken, and the turn that the rule makes of them
+    -- the slots that are taken, and the effect that the rule makes of them
     abbrev slot : Slot
     slot = slotOf ys (a .id)
 
     abbrev first-empty : Slot
     first-empty = slotOf ys 0
 
-    abbrev turn : Effect
-    turn = admitEffect slot first-empty a
+    abbrev effect : Effect
+    effect = admitEffect slot first-empty a
 
-    exits : Is O.the-row turn (turn-val turn ∷ [])
-        → ent 𝓤 (⋆ 𝓤 H A (‵ (finally R (x .name) (set ys (turn .at) (turn .rec))) ∷ Beside))
-        (Post (answer-val (turn .answer)))
+    exits : Is O.the-row effect (effect-val effect ∷ [])
+        → ent 𝓤 (⋆ 𝓤 H A (‵ (finally R (x .name) (set ys (effect .at) (effect .rec))) ∷ Beside))
+        (Post (answer-val (effect .answer)))
     exits is =
         Meeting.exits changes taken N.the-row promises 𝓤 H A W κs x (a, tt) qs (makes-answer 𝓤 H A)
-        (set ys (turn .at) (turn .rec)) (turn .answer) (answer-val (turn .answer))
-        (length-set ys (turn .at) (turn .rec)) (promised (admit a) ys turn (admit-steps ys a))
-        (turn-is turn (turn-val turn) is .1 .1)
+        (set ys (effect .at) (effect .rec)) (effect .answer) (answer-val (effect .answer))
+        (length-set ys (effect .at) (effect .rec)) (promised (admit a) ys effect (admit-steps ys a))
+        (effect-is effect (effect-val effect) is .1 .1)
 
     -- what the rule is passed: the slots, whose machine values are v and u, and the admission
     abbrev to-rule : Val → Val → Bound 𝓤 H A rule.signature
@@ -212,7 +213,7 @@ module _ {M : Type 1} (𝓤 : URA M) (H : Heap 𝓤) (A : Atoms 𝓤) (W : Given
       Ours = ‵ (Owned (κs .0) b o (x .name) ys) ∷ Beside
 
       abbrev Left : List (Item 𝓤)
-      Left = ‵ (finally R (x .name) (set ys (turn .at) (turn .rec))) ∷ Beside
+      Left = ‵ (finally R (x .name) (set ys (effect .at) (effect .rec))) ∷ Beside
 
       -- let s = take(t, a.id);
       let-s : {rest : Body} → ((v : Val) → Is S slot (v ∷ []) → Sq W (In (some v) none none ∷ Ours) (Runs rest))
@@ -231,27 +232,27 @@ module _ {M : Type 1} (𝓤 : URA M) (H : Heap 𝓤) (A : Atoms 𝓤) (W : Given
 
       -- let o = record_calls::admitted(s, e, a);
       let-o : {rest : Body} (v u : Val) → Is S slot (v ∷ []) → Is S first-empty (u ∷ [])
-          → (Is O.the-row turn (turn-val turn ∷ [])
-          → Sq W (In (some v) (some u) (some (turn-val turn)) ∷ Ours) (Runs rest))
+          → (Is O.the-row effect (effect-val effect ∷ [])
+          → Sq W (In (some v) (some u) (some (effect-val effect)) ∷ Ours) (Runs rest))
           → Sq W (In (some v) (some u) none ∷ Ours) (Runs (code-o rest))
       let-o v u is ie k =
           consults 𝓤 H A W rule.ended (rule.clauses 𝓤 H A mem run) (to-rule v u) tt fm known-rule (goes-rule v u is ie)
-          turn (λ r e. id⊢ 𝓤 _) (typed-turn 𝓤 H A W) tt
+          effect (λ r e. id⊢ 𝓤 _) (typed-effect 𝓤 H A W) tt
           (and-then ! (local′ ! ℓs refl) (and-then ! (local′ ! ℓe refl) (and-then ! (local′ ! ℓa refl) (no-operand !))))
-          (λ w iw. turned W (λ z. In (some v) (some u) (some z)) turn w iw k)
+          (λ w iw. effect-spelled W (λ z. In (some v) (some u) (some z)) effect w iw k)
 
       -- put(t, o.at, o.rec);
-      put-o : {rest : Body} (v u : Val) → Is O.the-row turn (turn-val turn ∷ [])
-          → Sq W (In (some v) (some u) (some (turn-val turn)) ∷ Left) (Runs rest)
-          → Sq W (In (some v) (some u) (some (turn-val turn)) ∷ Ours) (Runs (code-put rest))
+      put-o : {rest : Body} (v u : Val) → Is O.the-row effect (effect-val effect ∷ [])
+          → Sq W (In (some v) (some u) (some (effect-val effect)) ∷ Left) (Runs rest)
+          → Sq W (In (some v) (some u) (some (effect-val effect)) ∷ Ours) (Runs (code-put rest))
       put-o v u is k =
-          puts-turn 𝓤 H A W mem run (κs .0) (qs .0) b o (x .name) ys room fm known-put ℓt for-put ℓunit ℓo
-          (refl, refl, tt, tt, tt, tt, tt) tt refl turn is refl refl (λ _. k)
+          puts-effect 𝓤 H A W mem run (κs .0) (qs .0) b o (x .name) ys room fm known-put ℓt for-put ℓunit ℓo
+          (refl, refl, tt, tt, tt, tt, tt) tt refl effect is refl refl (λ _. k)
 
       -- o.answer
-      answer : (v u : Val) → Is O.the-row turn (turn-val turn ∷ [])
-          → Sq W (In (some v) (some u) (some (turn-val turn)) ∷ Left) (Runs (answering ℓo))
-      answer v u is = answers W ℓo turn is refl refl tt refl (exits is)
+      answer : (v u : Val) → Is O.the-row effect (effect-val effect ∷ [])
+          → Sq W (In (some v) (some u) (some (effect-val effect)) ∷ Left) (Runs (answering ℓo))
+      answer v u is = answers W ℓo effect is refl refl tt refl (exits is)
 
       walk : Sq W (In none none none ∷ Ours) (Runs (function .body))
       walk = let-s (λ v is. let-e v (λ u ie. let-o v u is ie (λ io. put-o v u io (answer v u io))))

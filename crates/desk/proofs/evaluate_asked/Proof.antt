@@ -26,14 +26,14 @@ use Rattle.desk.proofs.evaluate_asked.Statement as stated
 use Rattle.desk.proofs.evaluate_asked.Code as code
 
 -- an evaluation of the day that is asked for
-abbrev askedTurn : Slot → AskedDay → List ℤ → Effect
-askedTurn s a rows = evaluateEffect s (dayOf a) rows
+abbrev askedEffect : Slot → AskedDay → List ℤ → Effect
+askedEffect s a rows = evaluateEffect s (dayOf a) rows
 
 abbrev evaluation : ℕ → AskedDay → List ℤ → Call
 evaluation id a rows = evaluate id (dayOf a) rows
 
 asked-steps : (t : List Record) (id : ℕ) (a : AskedDay) (rows : List ℤ)
-    → doneBy t (askedTurn (slotOf t id) a rows) ≡ step (evaluation id a rows) t
+    → doneBy t (askedEffect (slotOf t id) a rows) ≡ step (evaluation id a rows) t
 asked-steps t id a rows = evaluate-steps t id (dayOf a) rows
 
 pub evaluate-asked-spec : {M : Type 1} → stated.statement M
@@ -41,9 +41,9 @@ unfolding code.routine tablesOf
 evaluate-asked-spec 𝓤 H 𝓜 𝓖 𝓡 =
     entered 𝓤 H (tripleOf 𝓤 H (𝓖 .A) f.signature (f.spec 𝓤 H (𝓖 .A) (𝓜 .mem) (𝓡 .run))) (tables 𝓤 H 𝓜 𝓡 code.env .C)
     (tables 𝓤 H 𝓜 𝓡 code.env .Λ) key.name code.function (code.unfolded 𝓤 H 𝓜 𝓡)
-    (meets asked asked-laws askedTurn evaluation asked-steps rule-def.name 𝓤 H (𝓖 .A) (givenOf 𝓤 H 𝓜 𝓖) (𝓜 .mem)
+    (meets asked asked-laws askedEffect evaluation asked-steps rule-def.name 𝓤 H (𝓖 .A) (givenOf 𝓤 H 𝓜 𝓖) (𝓜 .mem)
     (𝓡 .run)
     (tablesOf 𝓤 H 𝓜 (tables 𝓤 H 𝓜 𝓡 code.env)) (take-known 𝓤 H 𝓜 𝓖 𝓡 code.env code.calls-desk·take)
-    (cited 𝓤 H (Rule asked asked-laws askedTurn evaluation asked-steps rule-def.name 𝓤 H
+    (cited 𝓤 H (Rule asked asked-laws askedEffect evaluation asked-steps rule-def.name 𝓤 H
     (𝓖 .A)) 𝓜 𝓡 code.env rule-def.name rule-def.routine code.calls-desk·asked (rule-thm.met 𝓤 H 𝓜 𝓖 𝓡))
     (put-known 𝓤 H 𝓜 𝓖 𝓡 code.env code.calls-desk·put))

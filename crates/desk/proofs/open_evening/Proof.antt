@@ -1,4 +1,4 @@
--- `desk::open_evening` meets its contract: it has the shape that `Turn` proves once, with nothing beside the id.
+-- `desk::open_evening` meets its contract: it has the shape that `Changing` proves once, with nothing beside the id.
 -- Assumes nothing.
 use mathlib.Core.Path.{refl}
 use types.Kit.{ ! }
@@ -12,7 +12,7 @@ use Rattle.record_answers.proofs.Effect as O
 use Rattle.desk.proofs.Frame.{value}
 use Rattle.desk.proofs.Known.{take-known, put-known}
 use Rattle.desk.proofs.Passing.{Passing, OfSlot, no-more, Rule}
-use Rattle.desk.proofs.Turn as Turn
+use Rattle.desk.proofs.Changing as Changing
 use Rattle.desk.proofs.Steps.{open-steps}
 use Rattle.record_calls.proofs.opened.Symbol as rule-def
 use Rattle.record_calls.proofs.opened.Met as rule-thm
@@ -24,20 +24,20 @@ use Rattle.desk.proofs.open_evening.Code as code
 abbrev taken : Passing 0
 taken = no-more
 
-abbrev said : Turn.Said taken
+abbrev said : Changing.Said taken
 said κs id a = openEvening id
 
-abbrev turns : OfSlot taken O.the-row
-turns κs s a = openEffect s
+abbrev effect-of : OfSlot taken O.the-row
+effect-of κs s a = openEffect s
 
 pub open-evening-spec : {M : Type 1} → stated.statement M
 unfolding code.routine tablesOf
 open-evening-spec 𝓤 H 𝓜 𝓖 𝓡 =
     entered 𝓤 H (tripleOf 𝓤 H (𝓖 .A) f.signature (f.spec 𝓤 H (𝓖 .A) (𝓜 .mem) (𝓡 .run))) (tables 𝓤 H 𝓜 𝓡 code.env .C)
     (tables 𝓤 H 𝓜 𝓡 code.env .Λ) key.name code.function (code.unfolded 𝓤 H 𝓜 𝓡)
-    (Turn.meets taken turns said (λ t κs id a. open-steps t id) rule-def.name 𝓤 H (𝓖 .A) (givenOf 𝓤 H 𝓜 𝓖) (𝓜 .mem)
-    (𝓡 .run) (tablesOf 𝓤 H 𝓜 (tables 𝓤 H 𝓜 𝓡 code.env)) (take-known 𝓤 H 𝓜 𝓖 𝓡 code.env code.calls-desk·take)
-    (cited 𝓤 H (Rule taken O.the-row turns 𝓤 H (𝓖 .A)) 𝓜 𝓡 code.env rule-def.name rule-def.routine
+    (Changing.meets taken effect-of said (λ t κs id a. open-steps t id) rule-def.name 𝓤 H (𝓖 .A) (givenOf 𝓤 H 𝓜 𝓖)
+    (𝓜 .mem) (𝓡 .run) (tablesOf 𝓤 H 𝓜 (tables 𝓤 H 𝓜 𝓡 code.env)) (take-known 𝓤 H 𝓜 𝓖 𝓡 code.env code.calls-desk·take)
+    (cited 𝓤 H (Rule taken O.the-row effect-of 𝓤 H (𝓖 .A)) 𝓜 𝓡 code.env rule-def.name rule-def.routine
     code.calls-record-calls·opened (rule-thm.met 𝓤 H 𝓜 𝓖 𝓡))
     (put-known 𝓤 H 𝓜 𝓖 𝓡 code.env code.calls-desk·put) (record {
       fits = λ κs x id a room gi are ls.
@@ -48,7 +48,7 @@ open-evening-spec 𝓤 H 𝓜 𝓖 𝓡 =
         s-slot = refl;
         id-held = refl;
         o-in = tt;
-        o-turn = refl;
+        o-effect = refl;
         lends-put = λ w. (refl, refl, tt, tt, tt, tt, tt);
         unit-in = tt;
         unit-is = refl;

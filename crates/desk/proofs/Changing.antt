@@ -3,12 +3,12 @@
 --     fn call(t: &mut [Record], id: u64, ..) -> Answer {
 --         let s = take(t, id); let o = rule(s, ..); put(t, o.at, o.rec); o.answer
 --     }
--- The rule makes a turn of the slot of the id, the turn's record is stored at its place, and that is the paper's step
--- (`steps`). The walk has a step for each statement: `let-s`, `let-o`, `put-o` and `answer`.
+-- The rule makes an effect of the slot of the id, the effect's record is stored at its place, and that is the paper's
+-- step (`steps`). The walk has a step for each statement: `let-s`, `let-o`, `put-o` and `answer`.
 --     function     the MIR of the shape
 --     ended, clauses    its signature, and what it promises
 --     Stands       what is asked of the locals: all of it is `refl` or `tt` where the parameters are written out
---     meets        the shape meets its contract, where `take`, the rule and `put` meet theirs, and the rule's turn is
+--     meets        the shape meets its contract, where `take`, the rule and `put` meet theirs, and the rule's effect is
 --                  the call's step
 -- Assumes `Given`.
 use mathlib.Core.Path.{_≡_, sym, subst}
@@ -50,13 +50,13 @@ use Rattle.record_answers.specs.Effects.{slotOf, doneBy}
 use Rattle.record_answers.proofs.Slot.Laws as U′
 use Rattle.record_answers.proofs.Effect as O
 use Rattle.desk.specs.Promises.{Promised}
-use Rattle.desk.proofs.Row.{R, table-ty, word, S, turn-ty, turn-val, turn-is, typed-turn, answer-val, makes-answer}
+use Rattle.desk.proofs.Row.{R, table-ty, word, S, effect-ty, effect-val, effect-is, typed-effect, answer-val, makes-answer}
 use Rattle.desk.proofs.Frame.{Addresses, Locals, of-types, env-of, ParamsFit, entry, held, holding, Within as In-frame, frame, value}
 use Rattle.desk.proofs.Meeting.{changes}
 use Rattle.desk.proofs.Meeting as Meeting
 use Rattle.desk.proofs.Passing.{Passing, taken, copies, OfSlot, rule-ended, rule-clauses, Rule, to-rule, Others, goes-rule}
 use Rattle.desk.proofs.Lending.{ℓt, Lending, rref, wref, Lends, lent}
-use Rattle.desk.proofs.Calls.{Take, Put, Owned, returned, taking, putting-turn, answering, takes, turned, puts-turn, answers}
+use Rattle.desk.proofs.Calls.{Take, Put, Owned, returned, taking, putting-effect, answering, takes, effect-spelled, puts-effect, answers}
 use Rattle.desk.proofs.Asks.{consults-lent}
 use Rattle.desk.proofs.Steps.{promised}
 use Rattle.desk.proofs.take.Symbol.{name as #take}
@@ -93,7 +93,7 @@ module _ {n : ℕ} (Y : Passing n) where
 
   -- put(t, o.at, o.rec);
   abbrev code-put : Body → Body
-  code-put = putting-turn ℓt for-put ℓunit ℓo
+  code-put = putting-effect ℓt for-put ℓunit ℓo
 
   abbrev pub function : Name → Fn
   function #rule = record {
@@ -101,7 +101,7 @@ module _ {n : ℕ} (Y : Passing n) where
     outlives = [];
     params = 2 + length (Y .types);
     locals =
-        of-types (N′.mir ∷ table-ty ∷ word ∷ (Y .types ++ (U′.mir ∷ turn-ty ∷ rref ∷ sliceTy rref ∷ tyUnit ∷ wref
+        of-types (N′.mir ∷ table-ty ∷ word ∷ (Y .types ++ (U′.mir ∷ effect-ty ∷ rref ∷ sliceTy rref ∷ tyUnit ∷ wref
         ∷ sliceTy wref ∷ [])));
     body = code-s (code-o #rule (code-put (answering ℓo)));
   }
@@ -121,13 +121,13 @@ module _ {n : ℕ} (Y : Passing n) where
 
   -- ---- what is asked of the locals
   module _ {M : Type 1} (𝓤 : URA M) (H : Heap 𝓤) (E : Env 𝓤 H) (cs : Locals) (b o : ℕ) (ys : List Record) (id : ℕ)
-      (turn : Effect) where
-    -- once s is taken, and once the rule has made the turn
+      (effect : Effect) where
+    -- once s is taken, and once the rule has made the effect
     abbrev pub with-s : Val → Locals
     with-s w = returned cs for-s ℓs b o ys w
 
     abbrev with-o : Val → Locals
-    with-o w = holding (with-s w) ℓo (some (turn-val turn))
+    with-o w = holding (with-s w) ℓo (some (effect-val effect))
 
     pub record Stands : Type 2 where
       pub lends-s : Lends 𝓤 H E cs ℓt for-s b o ys
@@ -135,13 +135,13 @@ module _ {n : ℕ} (Y : Passing n) where
       pub s-slot : spotOf 𝓤 H E ℓs .0 ≡ U′.mir
       pub id-held : held E (lent cs for-s b o ys) ℓid ≡ some (vint w64 id)
       pub o-in : In-frame E ℓo
-      pub o-turn : spotOf 𝓤 H E ℓo .0 ≡ turn-ty
+      pub o-effect : spotOf 𝓤 H E ℓo .0 ≡ effect-ty
       pub lends-put : (w : Val) → Lends 𝓤 H E (with-o w) ℓt for-put b o ys
       pub unit-in : In-frame E ℓunit
       pub unit-is : spotOf 𝓤 H E ℓunit .0 ≡ tyUnit
-      pub o-held : (w : Val) → held E (lent (with-o w) for-put b o ys) ℓo ≡ some (turn-val turn)
+      pub o-held : (w : Val) → held E (lent (with-o w) for-put b o ys) ℓo ≡ some (effect-val effect)
       pub o-kept : (w u : Val)
-          → held E (holding (returned (with-o w) for-put ℓunit b o ys u) ℓunit none) ℓo ≡ some (turn-val turn)
+          → held E (holding (returned (with-o w) for-put ℓunit b o ys u) ℓunit none) ℓo ≡ some (effect-val effect)
       pub answer-in : In-frame E 0
       pub answer-is : spotOf 𝓤 H E 0 .0 ≡ N′.mir
 
@@ -161,12 +161,12 @@ module _ {n : ℕ} (Y : Passing n) where
         abbrev ys : List Record
         ys = x .now
 
-        -- the slot that is taken, and the turn that the rule makes of it
+        -- the slot that is taken, and the effect that the rule makes of it
         abbrev slot : Slot
         slot = slotOf ys id
 
-        abbrev pub turn : Effect
-        turn = F (κs .1) slot (Y .to κs a)
+        abbrev pub effect : Effect
+        effect = F (κs .1) slot (Y .to κs a)
 
         abbrev Post : Val → SProp 𝓤
         Post = Meeting.Post changes (taken Y) N.the-row (promises K) 𝓤 H A W κs x (id, a) qs
@@ -178,14 +178,14 @@ module _ {n : ℕ} (Y : Passing n) where
         abbrev Rest : Fml
         Rest = Others Y O.the-row F 𝓤 H A κs qs a slot id
 
-        exits : Is O.the-row turn (turn-val turn ∷ [])
-            → ent 𝓤 (⋆ 𝓤 H A (‵ (finally R (x .name) (set ys (turn .at) (turn .rec))) ∷ ‵ (flft (κs .0) (qs .0))
-            ∷ Tokens ∷ ‵ Rest ∷ [])) (Post (answer-val (turn .answer)))
+        exits : Is O.the-row effect (effect-val effect ∷ [])
+            → ent 𝓤 (⋆ 𝓤 H A (‵ (finally R (x .name) (set ys (effect .at) (effect .rec))) ∷ ‵ (flft (κs .0) (qs .0))
+            ∷ Tokens ∷ ‵ Rest ∷ [])) (Post (answer-val (effect .answer)))
         exits is =
             Meeting.exits changes (taken Y) N.the-row (promises K) 𝓤 H A W κs x (id, a) qs (makes-answer 𝓤 H A)
-            (set ys (turn .at) (turn .rec)) (turn .answer) (answer-val (turn .answer))
-            (length-set ys (turn .at) (turn .rec)) (promised (K κs id a) ys turn (steps ys κs id a))
-            (turn-is turn (turn-val turn) is .1 .1)
+            (set ys (effect .at) (effect .rec)) (effect .answer) (answer-val (effect .answer))
+            (length-set ys (effect .at) (effect .rec)) (promised (K κs id a) ys effect (steps ys κs id a))
+            (effect-is effect (effect-val effect) is .1 .1)
 
         module _ (E : Env 𝓤 H) (cs : Locals) (C : Calls 𝓤 H) (Λ : Loops 𝓤 H) where
           -- where the walk stands: at the entry; with s; with s and o; and at the end
@@ -193,14 +193,14 @@ module _ {n : ℕ} (Y : Passing n) where
           At = frame H E cs
 
           abbrev At-s : Val → Item 𝓤
-          At-s w = frame H E (with-s 𝓤 H E cs b o ys id turn w)
+          At-s w = frame H E (with-s 𝓤 H E cs b o ys id effect w)
 
           abbrev At-o : Val → Item 𝓤
-          At-o w = frame H E (with-o 𝓤 H E cs b o ys id turn w)
+          At-o w = frame H E (with-o 𝓤 H E cs b o ys id effect w)
 
           abbrev At-end : Val → Val → Item 𝓤
           At-end w u =
-              frame H E (holding (returned (with-o 𝓤 H E cs b o ys id turn w) for-put ℓunit b o ys u) ℓunit none)
+              frame H E (holding (returned (with-o 𝓤 H E cs b o ys id effect w) for-put ℓunit b o ys u) ℓunit none)
 
           -- beside the frame: the table is ours, and its lifetime's token; at the end, what says its last list
           abbrev Ours : List (Item 𝓤)
@@ -208,7 +208,7 @@ module _ {n : ℕ} (Y : Passing n) where
 
           abbrev Left : List (Item 𝓤)
           Left =
-              ‵ (finally R (x .name) (set ys (turn .at) (turn .rec))) ∷ ‵ (flft (κs .0) (qs .0)) ∷ Tokens ∷ ‵ Rest
+              ‵ (finally R (x .name) (set ys (effect .at) (effect .rec))) ∷ ‵ (flft (κs .0) (qs .0)) ∷ Tokens ∷ ‵ Rest
               ∷ []
 
           -- the code c runs to the end, where the contract is met
@@ -221,7 +221,7 @@ module _ {n : ℕ} (Y : Passing n) where
               (copy (place ℓs []) ∷ copies 3 (Y .types)) (passed 𝓤 H A (rule-ended Y O.the-row .signature)
               (to-rule Y O.the-row F 𝓤 H A κs qs a slot w))
 
-          module _ (room : Room R (length ys)) (gi : id < 2 ^ 64) (st : Stands 𝓤 H E cs b o ys id turn)
+          module _ (room : Room R (length ys)) (gi : id < 2 ^ 64) (st : Stands 𝓤 H E cs b o ys id effect)
               (operands : Operands) (fm : FmC 𝓤 H (W .laws) C)
               (known-take : Triple 𝓤 (C #take) (Take 𝓤 H A mem run)) (known-rule : Triple 𝓤 (C #rule)
               (Rule Y O.the-row F 𝓤 H A))
@@ -235,31 +235,32 @@ module _ {n : ℕ} (Y : Passing n) where
 
             -- let o = rule(s, ..);
             let-o : {rest : Body} (w : Val) → Is S slot (w ∷ [])
-                → (Is O.the-row turn (turn-val turn ∷ []) → Sq W (At-o w ∷ Ours) (Runs rest))
+                → (Is O.the-row effect (effect-val effect ∷ []) → Sq W (At-o w ∷ Ours) (Runs rest))
                 → Sq W (At-s w ∷ Ours) (Runs (code-o #rule rest))
             let-o w is k =
                 -- [the frame; t; its token; the tokens; what the others own]
                 move ! (0 ∷ 3 ∷ 4 ∷ []) $
                 consults-lent 𝓤 H A W (rule-ended Y O.the-row) (rule-clauses Y O.the-row F 𝓤)
                 (to-rule Y O.the-row F 𝓤 H A κs qs a slot w) tt fm known-rule Rest
-                (taken Y .twice 𝓤 H A W κs (id, a) _) (goes-rule Y O.the-row F 𝓤 H A κs qs a slot W id w is) turn
+                (taken Y .twice 𝓤 H A W κs (id, a) _) (goes-rule Y O.the-row F 𝓤 H A κs qs a slot W id w is) effect
                 (λ r e. id⊢ 𝓤 _)
-                (λ r v iv. subst (λ (τ : Ty). T (hasTy τ v) × WT v) (sym (st .o-turn)) (typed-turn 𝓤 H A W r v iv))
+                (λ r v iv. subst (λ (τ : Ty). T (hasTy τ v) × WT v) (sym (st .o-effect)) (typed-effect 𝓤 H A W r v iv))
                 (st .o-in) (operands w _) (λ u iu. move ! (0 ∷ 3 ∷ 4 ∷ []) $
-                turned W (λ z. frame H E (holding (with-s 𝓤 H E cs b o ys id turn w) ℓo (some z))) turn u iu k)
+                effect-spelled W (λ z. frame H E (holding (with-s 𝓤 H E cs b o ys id effect w) ℓo (some z)))
+                effect u iu k)
 
             -- put(t, o.at, o.rec);
-            put-o : {rest : Body} (w : Val) → Is O.the-row turn (turn-val turn ∷ [])
+            put-o : {rest : Body} (w : Val) → Is O.the-row effect (effect-val effect ∷ [])
                 → ((u : Val) → Sq W (At-end w u ∷ Left) (Runs rest)) → Sq W (At-o w ∷ Ours) (Runs (code-put rest))
             put-o w is =
-                puts-turn 𝓤 H A W mem run (κs .0) (qs .0) b o (x .name) ys room fm known-put ℓt for-put ℓunit ℓo
-                (st .lends-put w) (st .unit-in) (st .unit-is) turn is (st .o-held w) (st .o-turn)
+                puts-effect 𝓤 H A W mem run (κs .0) (qs .0) b o (x .name) ys room fm known-put ℓt for-put ℓunit ℓo
+                (st .lends-put w) (st .unit-in) (st .unit-is) effect is (st .o-held w) (st .o-effect)
 
             -- o.answer
-            answer : (w u : Val) → Is O.the-row turn (turn-val turn ∷ [])
+            answer : (w u : Val) → Is O.the-row effect (effect-val effect ∷ [])
                 → Sq W (At-end w u ∷ Left) (Runs (answering ℓo))
             answer w u is =
-                answers W ℓo turn is (st .o-kept w u) (st .o-turn) (st .answer-in) (st .answer-is) (exits is)
+                answers W ℓo effect is (st .o-kept w u) (st .o-effect) (st .answer-in) (st .answer-is) (exits is)
 
             walk : Sq W (At ∷ Ours) (Runs (function #rule .body))
             walk = let-s (λ w is. let-o w is (λ io. put-o w io (λ u. answer w u io)))
@@ -296,6 +297,6 @@ module _ {n : ℕ} (Y : Passing n) where
             Meeting.meets changes (taken Y) N.the-row (promises K) 𝓤 H A W 𝓣 (function #rule) (record {
               fits = λ κs x a is are. at .fits κs x (a .0) (a .1) (is .0 .1) (are .0 .1) (are .1);
               goes = λ κs qs x a is are ls. walk κs qs x (a .0) (a .1) (En ls) (first κs x (a .0) (a .1)) (𝓣 .C) (𝓣 .Λ)
-                  (is .0 .1) (are .0 .1) (at .stands κs x (a .0) (a .1) ls (turn κs qs x (a .0) (a .1)))
+                  (is .0 .1) (are .0 .1) (at .stands κs x (a .0) (a .1) ls (effect κs qs x (a .0) (a .1)))
                   (at .operands κs qs x (a .0) (a .1) ls) (fmOf 𝓤 H (W .laws) 𝓣) known-take known-rule known-put;
             })
