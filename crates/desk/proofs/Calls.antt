@@ -10,9 +10,9 @@
 -- `Asks` has the call of a rule, and `Frame` the locals.
 -- Assumes `Given`, and that the table's entries meet the contracts.
 --
--- HOW TO ADD A CALL, as `pub fn seventh(t: &mut [Record], id: u64, q: Q) -> Answer`:
--- 1. Prove its rule in `record_calls`: `fn rule(s: Slot, q: Q) -> Effect` ensures that the effect is `seventhEffect s
---    q`. Add `seventh-steps` to `Steps`: what the effect stores and answers is the paper's step, by `judged-done`, in a
+-- HOW TO ADD A CALL, as `pub fn further(t: &mut [Record], id: u64, q: Q) -> Answer`:
+-- 1. Prove its rule in `record_calls`: `fn rule(s: Slot, q: Q) -> Effect` ensures that the effect is `furtherEffect s
+--    q`. Add `further-steps` to `Steps`: what the effect stores and answers is the paper's step, by `judged-done`, in a
 --    line.
 -- 2. Where the code is `let s = take(t, id); let o = rule(s, q); put(t, o.at, o.rec); o.answer`, no walk is to be
 --    written, `Changing` has it: copy quote/Proof.antt, or evaluate/Proof.antt where rows are lent beside the table,

@@ -1,5 +1,6 @@
--- The one walk of the calls that change one record: `quote`, `moved`, `evaluate` and `evaluate_asked`. They have one
--- shape, over what else a call takes, its rule and the paper's call:
+-- The one walk of the calls that change one record: `quote`, `moved`, `receive` and `notify` (by `Shape`), `evaluate`
+-- and `evaluate_asked` (by `ShapeWithRows`), and `open_evening`. They have one shape, over what else a call takes, its
+-- rule and the paper's call:
 --     fn call(t: &mut [Record], id: u64, ..) -> Answer {
 --         let s = take(t, id); let o = rule(s, ..); put(t, o.at, o.rec); o.answer
 --     }
