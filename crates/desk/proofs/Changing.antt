@@ -8,7 +8,8 @@
 -- step (`steps`). The walk has a step for each statement: `let-s`, `let-o`, `put-o` and `answer`.
 --     function     the MIR of the shape
 --     ended, clauses    its signature, and what it promises
---     Stands       what is asked of the locals: all of it is `refl` or `tt` where the parameters are written out
+--     Stands       what is asked of the locals: `search` finds it where the parameters are written out
+--     Located      what a call gives of its own locals: `Stands`, and its rule's operands
 --     meets        the shape meets its contract, where `take`, the rule and `put` meet theirs, and the rule's effect is
 --                  the call's step
 -- Assumes `Given`.
@@ -33,7 +34,7 @@ use types.Kit.{Given, Go, Item, ‵, raw, ⋆, Goal, runs, atRet, Sq, _$_, !, mo
 use types.Run.{Opds}
 use sound.WpLaws.{FmC, fmOf}
 use denote.RattleType.{Denots}
-use denote.Laws.{Is, Ises, Are, valss}
+use denote.Laws.{Is}
 use denote.Ref.{RefT, now}
 use denote.Slice.{sliceTy, Room, finally}
 use denote.Signature.{typesAt}
@@ -52,7 +53,7 @@ use Rattle.record_answers.proofs.Slot.Laws as U′
 use Rattle.record_answers.proofs.Effect as O
 use Rattle.desk.specs.Promises.{Promised}
 use Rattle.desk.proofs.Row.{R, table-ty, word, S, effect-ty, effect-val, effect-is, typed-effect, answer-val, makes-answer}
-use Rattle.desk.proofs.Frame.{Addresses, Locals, of-types, env-of, ParamsFit, entry, held, holding, Within as In-frame, frame, value}
+use Rattle.desk.proofs.Frame.{Addresses, Locals, of-types, env-of, entry, held, holding, Within as In-frame, frame, value}
 use Rattle.desk.proofs.Meeting.{changes}
 use Rattle.desk.proofs.Meeting as Meeting
 use Rattle.desk.proofs.Passing.{Passing, taken, copies, OfSlot, rule-ended, rule-clauses, Rule, to-rule, Others, goes-rule}
@@ -96,14 +97,16 @@ module _ {n : ℕ} (Y : Passing n) where
   abbrev code-put : Body → Body
   code-put = putting-effect ℓt for-put ℓunit ℓo
 
+  -- the types of the locals after the parameters: s, o, and the compiler's own
+  abbrev own-types : List Ty
+  own-types = U′.mir ∷ effect-ty ∷ rref ∷ sliceTy rref ∷ tyUnit ∷ wref ∷ sliceTy wref ∷ []
+
   abbrev pub function : Name → Fn
   function #rule = record {
     lifetimes = suc n;
     outlives = [];
     params = 2 + length (Y .types);
-    locals =
-        of-types (N′.mir ∷ table-ty ∷ word ∷ (Y .types ++ (U′.mir ∷ effect-ty ∷ rref ∷ sliceTy rref ∷ tyUnit ∷ wref
-        ∷ sliceTy wref ∷ [])));
+    locals = of-types (N′.mir ∷ table-ty ∷ word ∷ (Y .types ++ own-types));
     body = code-s (code-o #rule (code-put (answering ℓo)));
   }
 
@@ -279,12 +282,6 @@ module _ {n : ℕ} (Y : Passing n) where
             (id, a))
 
         pub record Located : Type 2 where
-          pub fits : (κs : Lfts (suc n)) (x : RefT (List Record)) (id : ℕ) (a : Denots (typesAt (Y .call .slots) κs))
-              → Room R (length (x .now)) → id < 2 ^ 64
-              → Are (typesAt (Y .call .slots) κs) (Ises (typesAt (Y .call .slots) κs)) a
-              (valss (typesAt (Y .call .slots) κs) (Y .call .vals κs) a)
-              → (ls : Addresses (function #rule .locals))
-              → ParamsFit (En ls) (Meeting.passed changes (taken Y) N.the-row (promises K) 𝓤 H A W κs x (id, a))
           pub stands : (κs : Lfts (suc n)) (x : RefT (List Record)) (id : ℕ) (a : Denots (typesAt (Y .call .slots) κs))
               (ls : Addresses (function #rule .locals)) (r : Effect)
               → Stands 𝓤 H (En ls) (first κs x id a) (x .ptr .0) (x .ptr .1) (x .now) id r
@@ -296,7 +293,11 @@ module _ {n : ℕ} (Y : Passing n) where
             (closing 𝓤 H A ended (clauses K 𝓤))
         meets at =
             Meeting.meets changes (taken Y) N.the-row (promises K) 𝓤 H A W 𝓣 (function #rule) (record {
-              fits = λ κs x a is are. at .fits κs x (a .0) (a .1) (is .0 .1) (are .0 .1) (are .1);
+              -- the table fits, the id does, and so does what else is taken
+              fits = λ κs x a is are ls. (
+                (tt, (tt, (record { fits = is .0 .1 .0 }, tt))),
+                ((tt, record { fits = are .0 .1 }), Y .fits 𝓤 H A W own-types κs (a .1) (are .1) (ls .1 .1 .1)),
+              );
               goes = λ κs qs x a is are ls. walk κs qs x (a .0) (a .1) (En ls) (first κs x (a .0) (a .1)) (𝓣 .C) (𝓣 .Λ)
                   (is .0 .1) (are .0 .1) (at .stands κs x (a .0) (a .1) ls (effect κs qs x (a .0) (a .1)))
                   (at .operands κs qs x (a .0) (a .1) ls) (fmOf 𝓤 H (W .laws) 𝓣) known-take known-rule known-put;

@@ -39,6 +39,10 @@ module _ (P : Plain) (L : PlainLaws P) where
   abbrev pub taken : Passing 0
   taken = and-plain P L no-more
 
+  -- the local of the plain value
+  abbrev ℓq : ℕ
+  ℓq = 3
+
   abbrev said : (ℕ → P .D → Call) → Changing.Said taken
   said K κs id a = K id (a .0)
 
@@ -65,31 +69,7 @@ module _ (P : Plain) (L : PlainLaws P) where
     meets W mem run 𝓣 known-take known-rule known-put =
         Changing.meets taken effect-of (said K) (λ t κs id a. steps t id (a .0)) #rule 𝓤 H A W mem run 𝓣 known-take
         known-rule known-put (record {
-          fits = λ κs x id a room gi are ls. (
-            (tt, (tt, (record { fits = room .0 }, tt))),
-            (
-              (tt, record { fits = gi }),
-              (
-                L .lawful 𝓤 H A W .typed
-                    (a .0) _ (are .0) .0,
-                tt,
-              ),
-            ),
-          );
-          stands = λ κs x id a ls r. record {
-            lends-s = (refl, refl, tt, tt, tt, tt, tt);
-            s-in = tt;
-            s-slot = refl;
-            id-held = refl;
-            o-in = tt;
-            o-effect = refl;
-            lends-put = λ w. (refl, refl, tt, tt, tt, tt, tt);
-            unit-in = tt;
-            unit-is = refl;
-            o-held = λ w. refl;
-            o-kept = λ w u. refl;
-            answer-in = tt;
-            answer-is = refl;
-          };
-          operands = λ κs qs x id a ls w Δ. and-then ! (value ! 4 refl) (and-then ! (value ! 3 refl) (no-operand !));
+          stands = λ κs x id a ls r. search;
+          operands = λ κs qs x id a ls w Δ. and-then ! (value ! (Changing.ℓs taken) refl) (and-then !
+              (value ! ℓq refl) (no-operand !));
         })

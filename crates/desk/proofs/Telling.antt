@@ -4,7 +4,8 @@
 -- The table is a `&`, as what else is lent is: what each owns is had twice, once for a call and once for the exit. The
 -- walk has a step for each statement: `let-s` and `answer`.
 --     function     the MIR of the shape.        ended, clauses    its signature, and what is said
---     Stands       what is asked of the locals: all of it is `refl` or `tt` where the parameters are written out
+--     Stands       what is asked of the locals: `search` finds it where the parameters are written out
+--     Located      what a call gives of its own locals: `Stands`, and its rule's operands
 --     meets        the shape meets its contract, where `take` and the rule meet theirs, and what the rule says of the
 --                  slot is what is said of the table
 -- Assumes `Given`.
@@ -29,7 +30,7 @@ use types.Kit.{Given, Go, Item, ‵, raw, ⋆, Goal, runs, atRet, Sq, _$_, !, by
 use types.Run.{Opds}
 use sound.WpLaws.{FmC, fmOf}
 use denote.RattleType.{Denots}
-use denote.Laws.{Is, Ises, Are, valss}
+use denote.Laws.{Is}
 use denote.Ref.{RefT, now}
 use denote.Slice.{Room}
 use denote.Signature.{typesAt}
@@ -42,7 +43,7 @@ use Rattle.record_answers.specs.declared.Slot.{Slot}
 use Rattle.record_answers.specs.Effects.{slotOf}
 use Rattle.record_answers.proofs.Slot.Laws as U′
 use Rattle.desk.proofs.Row.{R, shared-ty, word, S}
-use Rattle.desk.proofs.Frame.{Addresses, Locals, of-types, env-of, ParamsFit, entry, held, holding, Within, held-own, frame, value, leaves}
+use Rattle.desk.proofs.Frame.{Addresses, Locals, of-types, env-of, entry, held, holding, Within, held-own, frame, value, leaves}
 use Rattle.desk.proofs.Plain.{Plain, PlainLaws, row}
 use Rattle.desk.proofs.Meeting.{reads}
 use Rattle.desk.proofs.Meeting as Meeting
@@ -196,18 +197,11 @@ module _ {n : ℕ} (Y : Passing n) (P : Plain) (L : PlainLaws P) where
         abbrev En : Addresses (function #rule .locals) → Env 𝓤 H
         En ls = env-of (function #rule .locals) ls
 
-        abbrev given : (κs : Lfts (suc n)) → RefT (List Record) → ℕ → Denots (typesAt (Y .call .slots) κs) → List Val
-        given κs x id a = Meeting.passed reads (taken Y) (row P) (tells K) 𝓤 H A W κs x (id, a)
-
         abbrev first : (κs : Lfts (suc n)) → RefT (List Record) → ℕ → Denots (typesAt (Y .call .slots) κs) → Locals
-        first κs x id a = entry (function #rule .locals) (given κs x id a)
+        first κs x id a =
+            entry (function #rule .locals) (Meeting.passed reads (taken Y) (row P) (tells K) 𝓤 H A W κs x (id, a))
 
         pub record Located : Type 2 where
-          pub fits : (κs : Lfts (suc n)) (x : RefT (List Record)) (id : ℕ) (a : Denots (typesAt (Y .call .slots) κs))
-              → Room R (length (x .now)) → id < 2 ^ 64
-              → Are (typesAt (Y .call .slots) κs) (Ises (typesAt (Y .call .slots) κs)) a
-              (valss (typesAt (Y .call .slots) κs) (Y .call .vals κs) a)
-              → (ls : Addresses (function #rule .locals)) → ParamsFit (En ls) (given κs x id a)
           pub stands : (κs : Lfts (suc n)) (x : RefT (List Record)) (id : ℕ) (a : Denots (typesAt (Y .call .slots) κs))
               (ls : Addresses (function #rule .locals))
               → Stands 𝓤 H (En ls) (first κs x id a) (x .ptr .0) (x .ptr .1) (x .now) id
@@ -220,7 +214,11 @@ module _ {n : ℕ} (Y : Passing n) (P : Plain) (L : PlainLaws P) where
             (closing 𝓤 H A ended (clauses K 𝓤))
         meets at =
             Meeting.meets reads (taken Y) (row P) (tells K) 𝓤 H A W 𝓣 (function #rule) (record {
-              fits = λ κs x a is are. at .fits κs x (a .0) (a .1) (is .0 .1) (are .0 .1) (are .1);
+              -- the table fits, the id does, and so does what else is taken
+              fits = λ κs x a is are ls. (
+                (tt, (tt, (record { fits = is .0 .1 .0 }, tt))),
+                ((tt, record { fits = are .0 .1 }), Y .fits 𝓤 H A W (U′.mir ∷ []) κs (a .1) (are .1) (ls .1 .1 .1)),
+              );
               goes = λ κs qs x a is are ls. walk κs qs x (a .0) (a .1) (is .0 .1) (En ls) (first κs x (a .0) (a .1))
                   (𝓣 .C) (𝓣 .Λ) (are .0 .1) (at .stands κs x (a .0) (a .1) ls)
                   (at .operands κs qs x (a .0) (a .1) (is .0 .1) ls) (fmOf 𝓤 H (W .laws) 𝓣) known-take known-rule;

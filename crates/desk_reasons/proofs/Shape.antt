@@ -35,7 +35,7 @@ use Rattle.desk.proofs.Plain.{Plain, PlainLaws, of-row, row}
 use Rattle.desk.proofs.Passing.{OfSlot}
 use Rattle.desk.proofs.Passing as Passing
 use Rattle.desk.proofs.Telling as Telling
-use Rattle.desk.proofs.ShapeWithRows.{taken}
+use Rattle.desk.proofs.ShapeWithRows.{taken, ℓd, ℓrows}
 use Rattle.desk.proofs.take.Symbol.{name as #take}
 
 -- what is answered
@@ -72,27 +72,7 @@ module _ (P : Plain) (L : PlainLaws P) (F : Slot → P .D → List ℤ → Why) 
       Telling.meets (taken P L) reason reason-laws of-slot of-table (λ t κs id a. said t id (a .0) (now
       (a .1 .0))) #rule
       𝓤 H A W mem run 𝓣 known-take known-rule (record {
-        fits = λ κs x id a room gi are ls. (
-          (tt, (tt, (record { fits = room .0 }, tt))),
-          (
-            (tt, record { fits = gi }),
-            (
-              L .lawful 𝓤 H A W .typed (a .0) _ (are .0) .0,
-              (
-                (tt, (tt, (record { fits = are .1 .0 .0 .1 .0 }, tt))),
-                tt,
-              ),
-            ),
-          ),
-        );
-        stands = λ κs x id a ls. record {
-          t-held = refl;
-          id-held = refl;
-          s-in = tt;
-          s-slot = refl;
-          result-in = tt;
-          result-is = refl;
-        };
-        operands = λ κs qs x id a room ls w Δ. and-then ! (value ! 5 refl) (and-then ! (value ! 3 refl)
-            (and-then ! (value ! 4 refl) (no-more !)));
+        stands = λ κs x id a ls. search;
+        operands = λ κs qs x id a room ls w Δ. and-then ! (value ! (Telling.ℓs (taken P L) reason reason-laws) refl)
+            (and-then ! (value ! (ℓd P L) refl) (and-then ! (value ! (ℓrows P L) refl) (no-more !)));
       })

@@ -40,22 +40,6 @@ open-evening-spec 𝓤 H 𝓜 𝓖 𝓡 =
     (cited 𝓤 H (Rule taken O.the-row effect-of 𝓤 H (𝓖 .A)) 𝓜 𝓡 code.env rule-def.name rule-def.routine
     code.calls-record-calls·opened (rule-thm.met 𝓤 H 𝓜 𝓖 𝓡))
     (put-known 𝓤 H 𝓜 𝓖 𝓡 code.env code.calls-desk·put) (record {
-      fits = λ κs x id a room gi are ls.
-          ((tt, (tt, (record { fits = room .0 }, tt))), ((tt, record { fits = gi }), tt));
-      stands = λ κs x id a ls r. record {
-        lends-s = (refl, refl, tt, tt, tt, tt, tt);
-        s-in = tt;
-        s-slot = refl;
-        id-held = refl;
-        o-in = tt;
-        o-effect = refl;
-        lends-put = λ w. (refl, refl, tt, tt, tt, tt, tt);
-        unit-in = tt;
-        unit-is = refl;
-        o-held = λ w. refl;
-        o-kept = λ w u. refl;
-        answer-in = tt;
-        answer-is = refl;
-      };
-      operands = λ κs qs x id a ls w Δ. and-then ! (value ! 3 refl) (no-operand !);
+      stands = λ κs x id a ls r. search;
+      operands = λ κs qs x id a ls w Δ. and-then ! (value ! (Changing.ℓs taken) refl) (no-operand !);
     }))

@@ -13,7 +13,7 @@ use Rattle.record_calls.proofs.read.Met as rule-thm
 use Rattle.desk.proofs.Frame.{value}
 use Rattle.desk.proofs.Plain.{row, answer, answer-laws}
 use Rattle.desk.proofs.Passing.{Passing, no-more, OfSlot, Rule}
-use Rattle.desk.proofs.Telling.{Said, meets}
+use Rattle.desk.proofs.Telling.{Said, ℓs, meets}
 use Rattle.desk.proofs.Known.{take-known}
 use Rattle.desk.proofs.Steps.{read-answers}
 use Rattle.desk.proofs.read as f
@@ -40,17 +40,6 @@ read-spec 𝓤 H 𝓜 𝓖 𝓡 =
     (take-known 𝓤 H 𝓜 𝓖 𝓡 code.env code.calls-desk·take)
     (cited 𝓤 H (Rule taken (row answer) of-slot 𝓤 H (𝓖 .A)) 𝓜 𝓡 code.env rule-def.name rule-def.routine
     code.calls-record-calls·read (rule-thm.met 𝓤 H 𝓜 𝓖 𝓡)) (record {
-      fits = λ κs x id a room gi are ls. (
-        (tt, (tt, (record { fits = room .0 }, tt))),
-        ((tt, record { fits = gi }), tt),
-      );
-      stands = λ κs x id a ls. record {
-        t-held = refl;
-        id-held = refl;
-        s-in = tt;
-        s-slot = refl;
-        result-in = tt;
-        result-is = refl;
-      };
-      operands = λ κs qs x id a room ls w Δ. and-then ! (value ! 3 refl) (no-operand !);
+      stands = λ κs x id a ls. search;
+      operands = λ κs qs x id a room ls w Δ. and-then ! (value ! (ℓs taken answer answer-laws) refl) (no-operand !);
     }))
