@@ -23,7 +23,7 @@ use Rattle.record_answers.specs.declared.Slot.{Slot}
 use Rattle.record_evaluation.specs.declared.Working.{Working}
 use Rattle.record_answers.specs.Effects.{isKnown, refusedEffect, judgedEffect, evaluateEffect}
 use Rattle.record_evaluation.specs.Workings.{pricedOn, unmadeBy, madeWith, isMade, workedOf, Begun, Evaluates}
-use Rattle.record_answers.proofs.Tests.{passed, failed}
+use Rattle.record_answers.proofs.Tests.{tested-true, tested-false}
 
 module _ (s : Slot) (d : Day) (rows : List ℤ) where
   pub day-unknown : isKnown s ≡ false → unmadeBy NoSuchId ≡ workedOf s d rows
@@ -73,14 +73,14 @@ module _ (s : Slot) (d : Day) (rows : List ℤ) where
       unfolding workedOf evaluateChecks firstOf isDone isMade
       day-crossed t =
           let b = p .begun in
-          rw (is, chosen, b .known, b .valid, b .uncrossed, p .later, p .fits, near, failed _ bands t)
+          rw (is, chosen, b .known, b .valid, b .uncrossed, p .later, p .fits, near, tested-false _ bands t)
 
       pub day-accepted : not ordered ≡ false
           → record { verdict = Done; rec = new; figures = figures } ≡ workedOf s d rows
       unfolding workedOf evaluateChecks firstOf isDone isMade
       day-accepted t =
           let b = p .begun in
-          rw (is, chosen, b .known, b .valid, b .uncrossed, p .later, p .fits, near, passed _ bands t)
+          rw (is, chosen, b .known, b .valid, b .uncrossed, p .later, p .fits, near, tested-true _ bands t)
 
 -- what `evaluate` makes of it: a refusal, or the record stored and answered
 module _ (s : Slot) (d : Day) (rows : List ℤ) where

@@ -5,7 +5,7 @@ use mathlib.Core.Bool.{true, false, _&&_}
 use Rattle.paper.specs.Ranges.{validSlots, validAdmission}
 use Rattle.paper.proofs.Logic.{and-right}
 use Rattle.record_answers.specs.Effects.{holds}
-use Rattle.record_answers.proofs.Tests.{passed, failed}
+use Rattle.record_answers.proofs.Tests.{tested-true, tested-false}
 use Rattle.record_calls.proofs.Judging.{admission-out, admission-again, admission-full, admission-accepted}
 use borrow.Author.Needs.{needs}
 use Rattle.record_calls.proofs.admitted_at.Statement.{statement}
@@ -18,7 +18,7 @@ tested c = rw (c .before .valid-slots .ensures, c .valid-admission .ensures)
 
 valid : (c : tie.Else1) → let a = c .before .before .before .args in
     (validSlots (a .s .count) && validAdmission (a .a)) ≡ true
-valid c = passed _ (tested (c .before)) (c .if1 .left)
+valid c = tested-true _ (tested (c .before)) (c .if1 .left)
 
 new : (c : tie.Else2) → holds (c .before .before .before .before .before .args .s) ≡ false
 new c = sym (c .before .holds .ensures) ∙ c .if2 .left
@@ -33,7 +33,8 @@ refused-requires : tie.Need-refused-requires
 refused-requires c κs = search needs
 
 returns : tie.Need-returns
-returns c = c .refused .ensures ∙ admission-out _ _ _ (failed _ (tested (c .before .before)) (c .before .if1 .taken))
+returns c = c .refused .ensures
+    ∙ admission-out _ _ _ (tested-false _ (tested (c .before .before)) (c .before .if1 .taken))
 
 holds-requires : tie.Need-holds-requires
 holds-requires c κs = search needs
@@ -55,7 +56,7 @@ refused-requires-3 c κs = search needs
 returns-3 : tie.Need-returns-3
 returns-3 c =
     let e = c .before .before .before in
-    let test = failed _ (c .before .before .holds2 .ensures) (c .before .if3 .taken) in
+    let test = tested-false _ (c .before .before .holds2 .ensures) (c .before .if3 .taken) in
     c .refused3 .ensures ∙ admission-full _ _ _ (valid (e .before .before)) (new e) test
 
 admitted-requires : tie.Need-admitted-requires
@@ -75,7 +76,7 @@ returns-4 : tie.Need-returns-4
 returns-4 c =
     let f = c .before .before in
     let e = f .before .before in
-    let test = passed _ (f .before .holds2 .ensures) (f .if3 .left) in
+    let test = tested-true _ (f .before .holds2 .ensures) (f .if3 .left) in
     rw (c .saying .ensures, c .before .admitted .ensures)
     (admission-accepted _ _ _ (valid (e .before .before)) (new e) test)
 

@@ -8,7 +8,7 @@ use Rattle.paper_desk.specs.Evening.{moveAllowed}
 use Rattle.paper.specs.Verdicts.{isDone, firstOf}
 use Rattle.record_answers.specs.Effects.{isKnown, refusedEffect}
 use Rattle.record_calls.specs.SharedChecks.{sharedChecks}
-use Rattle.record_answers.proofs.Tests.{passed, failed, known-sound}
+use Rattle.record_answers.proofs.Tests.{tested-true, tested-false, known-sound}
 use Rattle.record_calls.proofs.Judging.{Passed, past-shared, move-stopped, move-not-allowed, move-used-up, move-accepted, a-move-is-left}
 use borrow.Author.Needs.{needs}
 use Rattle.record_calls.proofs.moved.Statement.{statement}
@@ -24,12 +24,13 @@ past : (c : tie.Else1)
     → let a = c .before .before .before .before .before .before .before .args in
     Passed (isKnown (a .s)) (validSide (a .side)) (a .s .rec)
 past c =
-    past-shared _ _ _ (passed _ (c .before .is-done .ensures ∙ ap isDone (verdict (c .before .before))) (c .if1 .left))
+    let done = c .before .is-done .ensures ∙ ap isDone (verdict (c .before .before)) in
+    past-shared _ _ _ (tested-true _ done (c .if1 .left))
 
 allowed : (c : tie.Else2)
     → let r = c .before .before .before .before .before .before .before .before .before .args .s .rec in
     moveAllowed (r .statics) (r .session) ≡ true
-allowed c = passed _ (c .before .move-allowed .ensures) (c .if2 .left)
+allowed c = tested-true _ (c .before .move-allowed .ensures) (c .if2 .left)
 
 valid-side-requires : tie.Need-valid-side-requires
 valid-side-requires c κs = search needs
@@ -46,7 +47,7 @@ refused-requires c κs = search needs
 returns : tie.Need-returns
 returns c =
     let v = verdict (c .before .before .before) in
-    let test = failed _ (c .before .before .is-done .ensures ∙ ap isDone v) (c .before .if1 .taken) in
+    let test = tested-false _ (c .before .before .is-done .ensures ∙ ap isDone v) (c .before .if1 .taken) in
     c .refused .ensures ∙ ap (refusedEffect _) v ∙ move-stopped _ _ test
 
 move-allowed-requires : tie.Need-move-allowed-requires
@@ -59,7 +60,7 @@ returns-2 : tie.Need-returns-2
 returns-2 c =
     let test = c .before .before in
     c .refused2 .ensures
-    ∙ move-not-allowed _ _ (past (test .before)) (failed _ (test .move-allowed .ensures) (c .before .if2 .taken))
+    ∙ move-not-allowed _ _ (past (test .before)) (tested-false _ (test .move-allowed .ensures) (c .before .if2 .taken))
 
 side-of-requires : tie.Need-side-of-requires
 side-of-requires c κs = search needs

@@ -4,17 +4,17 @@ use mathlib.Core.Path.{_≡_, sym, _∙_}
 use mathlib.Core.Bool.{true}
 use Rattle.paper.specs.Ranges.{isLive}
 use Rattle.record_answers.specs.Effects.{isKnown}
-use Rattle.record_answers.proofs.Tests.{passed, failed}
+use Rattle.record_answers.proofs.Tests.{tested-true, tested-false}
 use Rattle.record_calls.proofs.Judging.{open-unknown, open-not-live, open-twice, open-accepted}
 use borrow.Author.Needs.{needs}
 use Rattle.record_calls.proofs.opened.Statement.{statement}
 use Rattle.record_calls.proofs.opened.Tie as tie
 
 known : (c : tie.Else1) → isKnown (c .before .before .before .args .s) ≡ true
-known c = passed _ (c .before .is-known .ensures) (c .if1 .left)
+known c = tested-true _ (c .before .is-known .ensures) (c .if1 .left)
 
 live : (c : tie.Else2) → isLive (c .before .before .before .before .before .args .s .rec .standing) ≡ true
-live c = passed _ (c .before .is-live .ensures) (c .if2 .left)
+live c = tested-true _ (c .before .is-live .ensures) (c .if2 .left)
 
 is-known-requires : tie.Need-is-known-requires
 is-known-requires c κs = search needs
@@ -24,7 +24,7 @@ refused-requires c κs = search needs
 
 returns : tie.Need-returns
 returns c = c .refused .ensures
-    ∙ open-unknown _ (failed _ (c .before .before .is-known .ensures) (c .before .if1 .taken))
+    ∙ open-unknown _ (tested-false _ (c .before .before .is-known .ensures) (c .before .if1 .taken))
 
 is-live-requires : tie.Need-is-live-requires
 is-live-requires c κs = search needs
@@ -36,7 +36,7 @@ returns-2 : tie.Need-returns-2
 returns-2 c =
     let test = c .before .before in
     c .refused2 .ensures
-    ∙ open-not-live _ (known (test .before)) (failed _ (test .is-live .ensures) (c .before .if2 .taken))
+    ∙ open-not-live _ (known (test .before)) (tested-false _ (test .is-live .ensures) (c .before .if2 .taken))
 
 is-evening-requires : tie.Need-is-evening-requires
 is-evening-requires c κs = search needs

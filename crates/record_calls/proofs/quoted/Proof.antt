@@ -6,7 +6,7 @@ use Rattle.paper.specs.Ranges.{validQuote}
 use Rattle.paper.specs.Verdicts.{isDone, firstOf}
 use Rattle.record_answers.specs.Effects.{isKnown, refusedEffect}
 use Rattle.record_calls.specs.SharedChecks.{sharedChecks}
-use Rattle.record_answers.proofs.Tests.{passed, failed, known-sound}
+use Rattle.record_answers.proofs.Tests.{tested-true, tested-false, known-sound}
 use Rattle.record_calls.proofs.Judging.{Passed, past-shared, quote-stopped, quote-earlier, quote-accepted}
 use borrow.Author.Needs.{needs}
 use Rattle.record_calls.proofs.quoted.Statement.{statement}
@@ -23,7 +23,8 @@ past : (c : tie.Else1)
     → let start = c .before .before .before .before .before in
     Passed (isKnown (start .args .s)) (validQuote (start .args .q)) (start .args .s .rec)
 past c =
-    past-shared _ _ _ (passed _ (c .before .is-done .ensures ∙ ap isDone (verdict (c .before .before))) (c .if1 .left))
+    let done = c .before .is-done .ensures ∙ ap isDone (verdict (c .before .before)) in
+    past-shared _ _ _ (tested-true _ done (c .if1 .left))
 
 valid-quote-requires : tie.Need-valid-quote-requires
 valid-quote-requires c κs = search needs
@@ -40,7 +41,7 @@ refused-requires c κs = search needs
 returns : tie.Need-returns
 returns c =
     let v = verdict (c .before .before .before) in
-    let test = failed _ (c .before .before .is-done .ensures ∙ ap isDone v) (c .before .if1 .taken) in
+    let test = tested-false _ (c .before .before .is-done .ensures ∙ ap isDone v) (c .before .if1 .taken) in
     c .refused .ensures ∙ ap (refusedEffect _) v ∙ quote-stopped _ _ test
 
 refused-requires-2 : tie.Need-refused-requires-2

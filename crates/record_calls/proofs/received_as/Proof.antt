@@ -3,14 +3,14 @@
 use mathlib.Core.Path.{_≡_, sym, _∙_}
 use mathlib.Core.Bool.{true}
 use Rattle.record_answers.specs.Effects.{isKnown}
-use Rattle.record_answers.proofs.Tests.{passed, failed}
+use Rattle.record_answers.proofs.Tests.{tested-true, tested-false}
 use Rattle.record_calls.proofs.Judging.{receipt-unknown, receipt-bad, receipt-accepted}
 use borrow.Author.Needs.{needs}
 use Rattle.record_calls.proofs.received_as.Statement.{statement}
 use Rattle.record_calls.proofs.received_as.Tie as tie
 
 known : (c : tie.Else1) → isKnown (c .before .before .before .args .s) ≡ true
-known c = passed _ (c .before .is-known .ensures) (c .if1 .left)
+known c = tested-true _ (c .before .is-known .ensures) (c .if1 .left)
 
 is-known-requires : tie.Need-is-known-requires
 is-known-requires c κs = search needs
@@ -20,7 +20,7 @@ refused-requires c κs = search needs
 
 returns : tie.Need-returns
 returns c x b k = c .refused .ensures
-    ∙ receipt-unknown _ x (failed _ (c .before .before .is-known .ensures) (c .before .if1 .taken))
+    ∙ receipt-unknown _ x (tested-false _ (c .before .before .is-known .ensures) (c .before .if1 .taken))
 
 refused-requires-2 : tie.Need-refused-requires-2
 refused-requires-2 c κs = search needs

@@ -7,23 +7,23 @@ use Rattle.paper.specs.Verdicts.{firstOf}
 use Rattle.paper.proofs.Logic.{not-true, not-false}
 use Rattle.record_answers.specs.Effects.{isKnown}
 use Rattle.record_calls.specs.SharedChecks.{sharedChecks}
-use Rattle.record_answers.proofs.Tests.{passed, failed}
+use Rattle.record_answers.proofs.Tests.{tested-true, tested-false}
 use borrow.Author.Needs.{needs}
 use Rattle.record_calls.proofs.shared_checks.Statement.{statement}
 use Rattle.record_calls.proofs.shared_checks.Tie as tie
 
 known : (c : tie.Else1) → isKnown (c .before .before .before .args .s) ≡ true
-known c = passed _ (c .before .is-known .ensures) (c .if1 .left)
+known c = tested-true _ (c .before .is-known .ensures) (c .if1 .left)
 
 live : (c : tie.Else3) → isLive (c .before .before .before .before .before .before .args .s .rec .standing) ≡ true
-live c = passed _ (c .before .is-live .ensures) (c .if3 .left)
+live c = tested-true _ (c .before .is-live .ensures) (c .if3 .left)
 
 is-known-requires : tie.Need-is-known-requires
 is-known-requires c κs = search needs
 
 returns : tie.Need-returns
 unfolding sharedChecks firstOf
-returns c = rw (failed _ (c .before .is-known .ensures) (c .if1 .taken))
+returns c = rw (tested-false _ (c .before .is-known .ensures) (c .if1 .taken))
 
 returns-2 : tie.Need-returns-2
 unfolding sharedChecks firstOf
@@ -39,7 +39,7 @@ returns-3 c =
     rw (
       known (e .before),
       not-false (e .before .before .before .before .args .in-range) (e .if2 .left),
-      failed _ (c .before .is-live .ensures) (c .if3 .taken),
+      tested-false _ (c .before .is-live .ensures) (c .if3 .taken),
     )
 
 returns-4 : tie.Need-returns-4

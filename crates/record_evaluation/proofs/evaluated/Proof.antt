@@ -2,7 +2,7 @@
 -- Assumes nothing.
 use mathlib.Core.Path.{sym, ap, _∙_}
 use Rattle.paper.specs.Verdicts.{isDone}
-use Rattle.record_answers.proofs.Tests.{passed, failed}
+use Rattle.record_answers.proofs.Tests.{tested-true, tested-false}
 use Rattle.record_evaluation.proofs.Judging.{day-refused, day-stored}
 use borrow.Author.Needs.{needs}
 use Rattle.record_evaluation.proofs.evaluated.Statement.{statement}
@@ -20,7 +20,8 @@ refused-requires c κs = search needs
 returns : tie.Need-returns
 returns c =
     let w = c .before .before .before in
-    let refused = failed _ (rw (w .worked .ensures) at (c .before .before .is-done .ensures)) (c .before .if1 .taken) in
+    let refused = tested-false _ (rw (w .worked .ensures) at (c .before .before .is-done .ensures))
+    (c .before .if1 .taken) in
     c .refused .ensures ∙ rw (w .worked .ensures) (day-refused _ _ _ refused)
 
 written-requires : tie.Need-written-requires
@@ -29,7 +30,7 @@ written-requires c κs = search needs
 returns-2 : tie.Need-returns-2
 returns-2 c =
     let w = c .before .before .before .before in
-    let done = passed _ (rw (w .worked .ensures) at (c .before .before .before .is-done .ensures))
+    let done = tested-true _ (rw (w .worked .ensures) at (c .before .before .before .is-done .ensures))
     (c .before .before .if1 .left) in
     c .written .ensures ∙ rw (w .worked .ensures) (day-stored _ _ _ done)
 

@@ -12,7 +12,7 @@ use Rattle.record_soundness.proofs.Facts.{sound-facts}
 use Rattle.evaluation.specs.Evaluation.{evaluationMade}
 use Rattle.record_answers.specs.Effects.{isKnown}
 use Rattle.record_evaluation.specs.Workings.{Begun}
-use Rattle.record_answers.proofs.Tests.{passed, failed, known-sound}
+use Rattle.record_answers.proofs.Tests.{tested-true, tested-false, known-sound}
 use Rattle.record_evaluation.proofs.Judging.{day-unknown, day-out, day-row-crossed, day-not-after, day-beyond}
 use Rattle.record_evaluation.proofs.Evaluations.{day-valid-parts, day-gathered, crossed-gathered, used-prices-within-most, beyond-does-not-fit, Made, evaluated-is-made}
 use borrow.Author.Needs.{needs}
@@ -20,7 +20,7 @@ use Rattle.record_evaluation.proofs.worked.Statement.{statement}
 use Rattle.record_evaluation.proofs.worked.Tie as tie
 
 known : (c : tie.Else1) → isKnown (c .before .before .before .args .s) ≡ true
-known c = passed _ (c .before .is-known .ensures) (c .if1 .left)
+known c = tested-true _ (c .before .is-known .ensures) (c .if1 .left)
 
 -- 6, of what was gathered
 day : (c : tie.After-valid-day)
@@ -31,7 +31,7 @@ day c = c .valid-day .ensures ∙ day-gathered _ _ _ (c .before .gather .ensures
 valid : (c : tie.Else2)
     → let a = c .before .before .before .before .before .before .args in
     validDay (a .d) (a .rows .now) ≡ true
-valid c = passed _ (day (c .before)) (c .if2 .left)
+valid c = tested-true _ (day (c .before)) (c .if2 .left)
 
 -- 16, of what was gathered
 crossed : (c : tie.After-is-crossed)
@@ -86,7 +86,7 @@ unmade-requires c κs = search needs
 
 returns : tie.Need-returns
 returns c = c .unmade .ensures
-    ∙ day-unknown _ _ _ (failed _ (c .before .before .is-known .ensures) (c .before .if1 .taken))
+    ∙ day-unknown _ _ _ (tested-false _ (c .before .before .is-known .ensures) (c .before .if1 .taken))
 
 gather-requires : tie.Need-gather-requires
 gather-requires c κs = search needs
@@ -100,7 +100,7 @@ unmade-requires-2 c κs = search needs
 returns-2 : tie.Need-returns-2
 returns-2 c =
     c .unmade2 .ensures ∙ day-out _ _ _ (known (c .before .before .before .before))
-    (failed _ (day (c .before .before)) (c .before .if2 .taken))
+    (tested-false _ (day (c .before .before)) (c .before .if2 .taken))
 
 is-crossed-requires : tie.Need-is-crossed-requires
 is-crossed-requires c κs = search needs

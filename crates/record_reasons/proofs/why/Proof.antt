@@ -4,7 +4,7 @@ use mathlib.Core.Path.{_≡_}
 use mathlib.Core.Bool.{true}
 use Rattle.paper.specs.Verdicts.{isDone}
 use Rattle.record_evaluation.specs.Workings.{workedOf}
-use Rattle.record_answers.proofs.Tests.{passed, failed}
+use Rattle.record_answers.proofs.Tests.{tested-true, tested-false}
 use Rattle.record_reasons.proofs.Answering.{rows-refused, why-refused, was-accepted, why-accepted}
 use borrow.Author.Needs.{needs}
 use Rattle.record_reasons.proofs.why.Statement.{statement}
@@ -25,7 +25,8 @@ no-reasons-requires c κs = search needs
 returns : tie.Need-returns
 returns c =
     let w = c .before .before .before .before .before .before in
-    let refused = failed _ (rw (w .worked .ensures) at (c .before .before .is-done .ensures)) (c .before .if1 .taken) in
+    let refused = tested-false _ (rw (w .worked .ensures) at (c .before .before .is-done .ensures))
+    (c .before .if1 .taken) in
     rw (w .worked .ensures, c .no-reasons .ensures)
     (why-refused _ _ _ _ refused (rw (w .worked .ensures) at (c .before .before .before .fault-of .ensures)))
 
@@ -35,7 +36,7 @@ done : (c : tie.Else1)
     isDone (workedOf (a .s) (a .d) (a .rows .now) .verdict) ≡ true
 done c =
     let w = c .before .before .before .before .before in
-    passed _ (rw (w .worked .ensures) at (c .before .is-done .ensures)) (c .if1 .left)
+    tested-true _ (rw (w .worked .ensures) at (c .before .is-done .ensures)) (c .if1 .left)
 
 reasons-of-requires : tie.Need-reasons-of-requires
 reasons-of-requires c κs =

@@ -5,7 +5,7 @@ use Rattle.paper.specs.declared.Rate.{Rate}
 use Rattle.paper.specs.Numbers.{rateMost}
 use Rattle.paper.specs.Ranges.{validStatics}
 use Rattle.paper_desk.specs.Rates.{covers, levelRate}
-use Rattle.record_answers.proofs.Tests.{passed, failed}
+use Rattle.record_answers.proofs.Tests.{tested-true, tested-false}
 use mathlib.Core.Path.{_≡_, sym, ap, _∙_}
 use mathlib.Core.Bool.{true, false, not}
 use Prim.Native.Nat.{ℕ, _-_, _≤_, _<_}
@@ -39,7 +39,7 @@ returns c =
     let s = c .before .before in
     let a = s .args in
     let test : covers (a .st) (a .tentative) (a .m) (a .level) (a .rate .bp) ≡ false =
-    failed _ (c .before .covers .ensures) (c .if1 .taken) in
+    tested-false _ (c .before .covers .ensures) (c .if1 .taken) in
     rw (s .pre .1 .1) (sym (uncovered-not-required _ _ _ _ (s .pre .0) (rw (s .pre .1 .1) at test)))
 
 -- where the first test is passed the rate covers the requirement
@@ -50,7 +50,7 @@ rate-covered c =
     let s = c .before .before in
     let a = s .args in
     let test : covers (a .st) (a .tentative) (a .m) (a .level) (a .rate .bp) ≡ true =
-    passed _ (c .before .covers .ensures) (c .if1 .left) in
+    tested-true _ (c .before .covers .ensures) (c .if1 .left) in
     rw (s .pre .1 .1) at test
 
 -- and where the second is not, it is a step at least
