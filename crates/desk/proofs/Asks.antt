@@ -88,9 +88,13 @@ module _ {M : Type 1} (𝓤 : URA M) (H : Heap 𝓤) (A : Atoms 𝓤) where
           (λ v. use1 W (later (some′ (λ (r : X .Denot).
           (raw (alive 𝓤 H A (T′ .signature) (x .0) (x .1)) ⊛ ‵ (X .own r (v ∷ []))) ⊛ raw (ensured 𝓤 H A T′ c (x .0)
           (x .3) g r)))) (id⊢ 𝓤 (Callee T′ c .post (x, g) v)) $ await ! tt $
-          pick ! (λ r. split ! $ split ! $ move ! (1 ∷ []) $ facts ! X (Is X) (shows 𝓤 H A X) r (v ∷ []) (λ is.
+          pick ! (λ r. split ! $ split ! $
+          -- [the tokens; what the result owns; what is ensured; the frame; …]
+          move ! (1 ∷ []) $ facts ! X (Is X) (shows 𝓤 H A X) r (v ∷ []) (λ is.
           -- [the tokens; what is ensured; the frame; …]
-          move ! (2 ∷ []) $ land ! (from ! (stop !)) (sets ! d in-E (stores r v is)) $ move ! (2 ∷ 1 ∷ []) $ k r v is)))
+          move ! (2 ∷ []) $ land ! (from ! (stop !)) (sets ! d in-E (stores r v is)) $
+          -- [the frame; the tokens; what is ensured; …]
+          move ! (2 ∷ 1 ∷ []) $ k r v is)))
 
   module _ (W : Given 𝓤 H A) (T′ : Ended) (c : Clauses 𝓤 T′) (x : Bound 𝓤 H A (T′ .signature))
       (g : c (x .0) (x .3) .ghost) where
@@ -124,9 +128,12 @@ module _ {M : Type 1} (𝓤 : URA M) (H : Heap 𝓤) (A : Atoms 𝓤) where
           → Sq W (frame H E cs ∷ raw (alive 𝓤 H A (T′ .signature) (x .0) (x .1)) ∷ ‵ P ∷ Γ)
           (runs C Λ E (seq (call #f xs (place d [])) rest) post)
       consults-lent fm known P twice goes y tells stores in-E os k =
+          -- [the frame; the tokens; P; …]
           move ! (2 ∷ []) $ use1 W (‵ P ⊛ ‵ P) twice $ split ! $
           -- [P; P; the frame; the tokens; …]
-          move ! (3 ∷ 0 ∷ []) $ join ! $ move ! (0 ∷ 2 ∷ []) $
+          move ! (3 ∷ 0 ∷ []) $ join ! $
+          -- [the tokens and P; P; the frame; …]
+          move ! (0 ∷ 2 ∷ []) $
           calls W T′ c x g fm known (raw (alive 𝓤 H A (T′ .signature) (x .0) (x .1)) ⊛ ‵ P) goes stores in-E os
           (λ r v is. use1 W (raw (fact 𝓤 (r ≡ y))) (says W T′ c x g r (r ≡ y) (tells r)) $
           -- [what is said; the tokens; the frame; P; …]
@@ -146,5 +153,7 @@ module _ {M : Type 1} (𝓤 : URA M) (H : Heap 𝓤) (A : Atoms 𝓤) where
     asks fm c known x goes X φ ends B tells os k =
         use0 W (raw (c .pre x)) goes $ calls-at ! fm c known x os (λ v.
         use1 W (Came X φ v) (ends v) $ await ! tt $ pick ! (λ r.
-        split ! $ move ! (1 ∷ []) $ use1 W (raw (fact 𝓤 (B r))) (tells r) $ heard ! (B r) (λ e. split ! $ drop ! $
+        split ! $
+        -- [what the result owns; what is ensured; …]
+        move ! (1 ∷ []) $ use1 W (raw (fact 𝓤 (B r))) (tells r) $ heard ! (B r) (λ e. split ! $ drop ! $
         facts ! X (Is X) (shows 𝓤 H A X) r (v ∷ []) (λ is. k r v e is))))

@@ -141,9 +141,12 @@ module _ {M : Type 1} (𝓤 : URA M) (H : Heap 𝓤) (A : Atoms 𝓤) (W : Given
   goes-take : (id : ℕ) → id < 2 ^ 64 → (κ′ : Lft) (q′ : Share) (γ′ : GName)
       → ent 𝓤 (sep 𝓤 (A .lft κ′ q′) (sem 𝓤 H A (Lent κ′ γ′))) (Take 𝓤 H A mem run .pre (to-take id κ′ q′ γ′, tt))
   goes-take id gd κ′ q′ γ′ =
-      qed W (‵ (flft κ′ q′) ∷ ‵ (Lent κ′ γ′) ∷ []) ∵ nothing ! $ move ! (1 ∷ 0 ∷ []) $ join ! $ nothing ! $
-      owned ! u64 (Is u64) (uint-makes 𝓤 H A W w64) id _ (refl, gd) $ fjoin ! $ move ! (2 ∷ 0 ∷ []) $ fjoin ! $
-      move ! (1 ∷ 0 ∷ []) $ join ! $ framed ! $ done !
+      qed W (‵ (flft κ′ q′) ∷ ‵ (Lent κ′ γ′) ∷ []) ∵ nothing ! $
+      -- [true; the token; the `&`]
+      move ! (1 ∷ 0 ∷ []) $ join ! $ nothing ! $
+      owned ! u64 (Is u64) (uint-makes 𝓤 H A W w64) id _ (refl, gd) $ fjoin ! $
+      -- [what the id owns; the token; the `&`], and then [what the parameters own; the token]
+      move ! (2 ∷ 0 ∷ []) $ fjoin ! $ move ! (1 ∷ 0 ∷ []) $ join ! $ framed ! $ done !
 
   abbrev to-put : ℕ → Record → Val → Bound 𝓤 H A put.signature
   to-put i r v =
@@ -152,10 +155,13 @@ module _ {M : Type 1} (𝓤 : URA M) (H : Heap 𝓤) (A : Atoms 𝓤) (W : Given
   goes-put : (i : ℕ) (r : Record) (v : Val) → i < 2 ^ 64 → Is R r (v ∷ [])
       → ent 𝓤 (sep 𝓤 (sem 𝓤 H A (Owned κ b o γ ys)) (A .lft κ q)) (Put 𝓤 H A mem run .pre (to-put i r v, tt))
   goes-put i r v gi is =
-      qed W (‵ (Owned κ b o γ ys) ∷ ‵ (flft κ q) ∷ []) ∵ nothing ! $ move ! (2 ∷ 0 ∷ []) $ join ! $
-      move ! (1 ∷ 0 ∷ []) $ nothing ! $ owned ! R (Is R) (makes 𝓤 H A) r (v ∷ []) is $ fjoin ! $
-      owned ! usize (Is usize) (uint-makes 𝓤 H A W w64) i _ (refl, gi) $ fjoin ! $ move ! (1 ∷ 0 ∷ []) $ fjoin ! $
-      move ! (1 ∷ 0 ∷ []) $ join ! $ framed ! $ done !
+      qed W (‵ (Owned κ b o γ ys) ∷ ‵ (flft κ q) ∷ []) ∵ nothing ! $
+      -- [true; t; its token], and then [the token; t]
+      move ! (2 ∷ 0 ∷ []) $ join ! $ move ! (1 ∷ 0 ∷ []) $ nothing ! $
+      owned ! R (Is R) (makes 𝓤 H A) r (v ∷ []) is $ fjoin ! $
+      owned ! usize (Is usize) (uint-makes 𝓤 H A W w64) i _ (refl, gi) $ fjoin ! $
+      -- [what i and r own; t; the token], and then [what the parameters own; the token]
+      move ! (1 ∷ 0 ∷ []) $ fjoin ! $ move ! (1 ∷ 0 ∷ []) $ join ! $ framed ! $ done !
 
   module _ {Γ : List (Item 𝓤)} {G : Goal 𝓤 H} where
     -- t is lent as `&`, for a lifetime that is made for the call
@@ -170,7 +176,12 @@ module _ {M : Type 1} (𝓤 : URA M) (H : Heap 𝓤) (A : Atoms 𝓤) (W : Given
         (arr-parts (shares R) (length ys) .part fullShare ys b o))))) (lends-shr-slice 𝓤 H A W R (named 0)
         (α ∷ []) fullShare ys b o room) $ await ! z $ pick ! (λ γ′. split ! $
         -- [the `&`; what is lent; the new token; the open borrow; obs; auth; …]
-        move ! (4 ∷ 5 ∷ []) $ fjoin ! $ move ! (4 ∷ 0 ∷ []) $ fjoin ! $ move ! (2 ∷ 0 ∷ []) $ fjoin ! $
+        move ! (4 ∷ 5 ∷ []) $ fjoin ! $
+        -- [obs and auth; the `&`; what is lent; the new token; the open borrow; …]
+        move ! (4 ∷ 0 ∷ []) $ fjoin ! $
+        -- [these and the open borrow; the `&`; what is lent; the new token; …]
+        move ! (2 ∷ 0 ∷ []) $ fjoin ! $
+        -- [what is kept; the `&`; the new token; …]
         move ! (2 ∷ 1 ∷ []) $ join ! $ k α γ′))
 
     -- the lifetime ends, and t comes back as it was
@@ -178,8 +189,15 @@ module _ {M : Type 1} (𝓤 : URA M) (H : Heap 𝓤) (A : Atoms 𝓤) (W : Given
         → Step (Go {0}) W (‵ (Owned κ b o γ ys) ∷ ‵ (flft κ q) ∷ Γ) G
         (‵ (flft (α ∷ []) fullShare) ∷ ‵ (Kept κ q b o γ ys (α ∷ [])) ∷ Γ) G
     taken-back z =
-        step (λ s. lft-end ! z $ move ! (1 ∷ []) $ fsplit ! $ move ! (2 ∷ 0 ∷ []) $ lent-back ! z $ fsplit ! $ drop ! $
-        move ! (1 ∷ []) $ fsplit ! $ move ! (1 ∷ []) $ fsplit ! $ move ! (3 ∷ 2 ∷ 0 ∷ 1 ∷ []) $
+        step (λ s. lft-end ! z $
+        -- [that the lifetime is over; what is kept; …]
+        move ! (1 ∷ []) $ fsplit ! $
+        -- [what is lent; the rest of what is kept; that the lifetime is over; …]
+        move ! (2 ∷ 0 ∷ []) $ lent-back ! z $ fsplit ! $ drop ! $
+        -- [the row; the rest of what is kept; …], and then [the open borrow; obs and auth; the row; …]
+        move ! (1 ∷ []) $ fsplit ! $ move ! (1 ∷ []) $ fsplit ! $
+        -- [obs; auth; the open borrow; the row; …]
+        move ! (3 ∷ 2 ∷ 0 ∷ 1 ∷ []) $
         closes-slice ! z R ys ys refl b o $ fjoin ! $ pureI ! (at-slice R (ref b o γ ys) (machine b o ys ∷ []))
         (tt, (tt, tt)) (refl, room) $ fjoin ! $ s)
 
@@ -198,7 +216,11 @@ module _ {M : Type 1} (𝓤 : URA M) (H : Heap 𝓤) (A : Atoms 𝓤) (W : Given
         → Sq W (frame H E (returned cs m d b o ys v) ∷ ‵ (Owned κ b o γ ys) ∷ ‵ (flft κ q) ∷ Γ) (runs C Λ E rest post))
         → Sq W (frame H E cs ∷ ‵ (Owned κ b o γ ys) ∷ ‵ (flft κ q) ∷ Γ) (runs C Λ E (taking t m d x rest) post)
     takes fm known t m d l in-d is-slot id gd os k =
-        lends 𝓤 H A W b o ys room t m l $ move ! (1 ∷ 2 ∷ []) $ lent-out tt (λ α γ′. move ! (0 ∷ 2 ∷ []) $
+        lends 𝓤 H A W b o ys room t m l $
+        -- [the frame; t; its token; …]
+        move ! (1 ∷ 2 ∷ []) $ lent-out tt (λ α γ′.
+        -- [the new token and the `&`; what is kept; the frame; …]
+        move ! (0 ∷ 2 ∷ []) $
         -- [the new token and the `&`; the frame; what is kept; …]
         calls 𝓤 H A W take.ended (take.clauses 𝓤 H A mem run) (to-take id (α ∷ []) fullShare γ′) tt fm known
         (‵ (flft (α ∷ []) fullShare) ⊛ ‵ (Lent (α ∷ []) γ′)) (goes-take id gd (α ∷ []) fullShare γ′)
@@ -209,8 +231,10 @@ module _ {M : Type 1} (𝓤 : URA M) (H : Heap 𝓤) (A : Atoms 𝓤) (W : Given
         heard ! (s ≡ slotOf ys id) (λ e. use1 W (‵ (flft (α ∷ []) fullShare) ⊛ ‵ ftrue)
         (id⊢ 𝓤 (sep 𝓤 (A .lft (α ∷ []) fullShare) (emp 𝓤))) $ split ! $
         -- [the new token; true; the frame; what is kept; …]
-        move ! (0 ∷ 3 ∷ []) $ taken-back tt $ move ! (2 ∷ []) $ drop ! $ move ! (2 ∷ []) $ clears ! (m .0) (l .3) $
-        clears ! (m .1) (l .4) $ k v (subst (λ (z : Slot). Is S z (v ∷ [])) e is))))
+        move ! (0 ∷ 3 ∷ []) $ taken-back tt $
+        -- [t; its token; true; the frame; …]
+        move ! (2 ∷ []) $ drop ! $ move ! (2 ∷ []) $ clears ! (m .0) (l .3) $ clears ! (m .1) (l .4) $
+        k v (subst (λ (z : Slot). Is S z (v ∷ [])) e is))))
 
     -- let d = take(t, x); of a caller that has t as `&`, and passes it on
     pub takes-shared : FmC 𝓤 H (W .laws) C → Triple 𝓤 (C #take) (Take 𝓤 H A mem run) → (t d : ℕ)
@@ -221,7 +245,9 @@ module _ {M : Type 1} (𝓤 : URA M) (H : Heap 𝓤) (A : Atoms 𝓤) (W : Given
         → Sq W (frame H E cs ∷ ‵ (Lent κ γ) ∷ ‵ (flft κ q) ∷ Γ)
         (runs C Λ E (seq (call #take (copy (place t []) ∷ x ∷ []) (place d [])) rest) post)
     takes-shared fm known t d holds in-d is-slot id gd os k =
-        nothing ! $ move ! (3 ∷ 0 ∷ []) $ join ! $ use1 W Tokens (id⊢ 𝓤 (sep 𝓤 (A .lft κ q) (emp 𝓤))) $
+        nothing ! $
+        -- [true; the frame; what t owns; its token; …]
+        move ! (3 ∷ 0 ∷ []) $ join ! $ use1 W Tokens (id⊢ 𝓤 (sep 𝓤 (A .lft κ q) (emp 𝓤))) $
         -- [the token; the frame; what t owns; …]
         move ! (1 ∷ []) $ consults-lent 𝓤 H A W take.ended (take.clauses 𝓤 H A mem run) (to-take id κ q γ) tt fm known
         (Lent κ γ) (shr-slice-copy 𝓤 H A W (named 0) κ R .twice (ref b o γ ys) (machine b o ys ∷ []))
@@ -229,7 +255,9 @@ module _ {M : Type 1} (𝓤 : URA M) (H : Heap 𝓤) (A : Atoms 𝓤) (W : Given
         by ! (goes-take id gd κ q γ)) (slotOf ys id) (λ s e. id⊢ 𝓤 _)
         (λ s v is. subst (λ (τ : Ty). T (hasTy τ v) × WT v) (sym is-slot) (typed-slot 𝓤 H A W s v is)) in-d
         (and-then ! (value ! t holds) (and-then ! (os _) (no-more !)))
-        (λ v is. move ! (1 ∷ []) $ use1 W (‵ (flft κ q) ⊛ ‵ ftrue) (id⊢ 𝓤 (sep 𝓤 (A .lft κ q) (emp 𝓤))) $ split ! $
+        (λ v is.
+        -- [the frame; the tokens; what t owns; …]
+        move ! (1 ∷ []) $ use1 W (‵ (flft κ q) ⊛ ‵ ftrue) (id⊢ 𝓤 (sep 𝓤 (A .lft κ q) (emp 𝓤))) $ split ! $
         -- [the token; true; the frame; what t owns; …]
         move ! (1 ∷ []) $ drop ! $ move ! (1 ∷ 2 ∷ []) $ k v is)
       where
@@ -247,7 +275,9 @@ module _ {M : Type 1} (𝓤 : URA M) (H : Heap 𝓤) (A : Atoms 𝓤) (W : Given
         (runs C Λ E rest post))
         → Sq W (frame H E cs ∷ ‵ (Owned κ b o γ ys) ∷ ‵ (flft κ q) ∷ Γ) (runs C Λ E (putting t m d x y rest) post)
     puts fm known t m d l in-d is-unit i r v gi is os os′ k =
-        lends 𝓤 H A W b o ys room t m l $ move ! (1 ∷ 2 ∷ []) $ join ! $
+        lends 𝓤 H A W b o ys room t m l $
+        -- [the frame; t; its token; …]
+        move ! (1 ∷ 2 ∷ []) $ join ! $
         calls 𝓤 H A W put.ended (put.clauses 𝓤 H A mem run) (to-put i r v) tt fm known
         (‵ (Owned κ b o γ ys) ⊛ ‵ (flft κ q)) (goes-put i r v gi is) (λ u z iu.
         subst (λ (τ : Ty). T (hasTy τ z) × WT z) (sym is-unit) (nothing-lawful 𝓤 H A W .typed u (z ∷ []) iu .0)) in-d
@@ -256,10 +286,13 @@ module _ {M : Type 1} (𝓤 : URA M) (H : Heap 𝓤) (A : Atoms 𝓤) (W : Given
         use1 W (some′ (λ (zs : List Record × (Unit {0} × (Unit {0} × Unit {0}))). ‵ (lasts put.ended (κ, tt)
         (ref b o γ ys, (i, (r, tt))) zs) ⊛ raw (fact 𝓤 (zs .0 ≡ set ys i r))))
         (id⊢ 𝓤 (ensured 𝓤 H A put.ended (put.clauses 𝓤 H A mem run) (κ, tt) (ref b o γ ys, (i, (r, tt))) tt u)) $
-        pick ! (λ zs. split ! $ move ! (1 ∷ []) $ heard ! (zs .0 ≡ set ys i r) (λ e. fsplit ! $ fsplit ! $
+        pick ! (λ zs. split ! $
+        -- [what is had of the last list; what is said of it; the tokens; the frame; …]
+        move ! (1 ∷ []) $ heard ! (zs .0 ≡ set ys i r) (λ e. fsplit ! $ fsplit ! $
         rewrite ! 0 (λ (l : List Record). ‵ (finally R γ l)) e refl $
         -- [the last list; that it is as long; true; the tokens; the frame; …]
         move ! (3 ∷ []) $ use1 W (‵ (flft κ q) ⊛ ‵ ftrue) (id⊢ 𝓤 (sep 𝓤 (A .lft κ q) (emp 𝓤))) $ split ! $
+        -- [the token; true; the last list; that it is as long; true; the frame; …]
         move ! (1 ∷ 3 ∷ 4 ∷ []) $ drop ! $ drop ! $ drop ! $
         -- [the token; the last list; the frame; …]
         move ! (2 ∷ 1 ∷ 0 ∷ []) $ clears ! (m .0) (l .3) $ clears ! (m .1) (l .4) $ clears ! d in-d $ k z)))

@@ -249,7 +249,9 @@ module _ {n : ℕ} (Y : Passing n) where
                 (taken Y .twice 𝓤 H A W κs (id, a) _) (goes-rule Y O.the-row F 𝓤 H A κs qs a slot W id w is) effect
                 (λ r e. id⊢ 𝓤 _)
                 (λ r v iv. subst (λ (τ : Ty). T (hasTy τ v) × WT v) (sym (st .o-effect)) (typed-effect 𝓤 H A W r v iv))
-                (st .o-in) (operands w _) (λ u iu. move ! (0 ∷ 3 ∷ 4 ∷ []) $
+                (st .o-in) (operands w _) (λ u iu.
+                -- [the frame; the tokens; what the others own; t; its token]
+                move ! (0 ∷ 3 ∷ 4 ∷ []) $
                 effect-spelled W (λ z. frame H E (holding (with-s 𝓤 H E cs b o ys id effect w) ℓo (some z)))
                 effect u iu k)
 

@@ -62,14 +62,22 @@ module _ {M : Type 1} (𝓤 : URA M) (H : Heap 𝓤) (A : Atoms 𝓤) (W : Given
     pub opens : Soaks G → ((q′ : Share) → Is R (elem i) (vals (elem i)) → Sq W (F ∷ Open i q′ Γ) G)
         → Sq W (F ∷ ‵ Lent ∷ ‵ (flft κ q) ∷ Γ) G
     opens z k =
-        move ! (1 ∷ []) $ fsplit ! $ drop ! $ fsplit ! $ move ! (1 ∷ 3 ∷ []) $
-        looks-slice ! z R (Is R) (shows 𝓤 H A R) vals tells (copied 𝓤 H A W) ys b o
-        (λ q′. elem-out ! R (Is R) (shows 𝓤 H A R) vals tells q′ ys i blank b o l (λ g. move ! (6 ∷ []) $ k q′ g))
+        -- [F; what t owns; its token; …]
+        move ! (1 ∷ []) $ fsplit ! $ drop ! $ fsplit ! $
+        -- [`Res`; `Shr`; F; its token; …]
+        move ! (1 ∷ 3 ∷ []) $ looks-slice ! z R (Is R) (shows 𝓤 H A R) vals tells (copied 𝓤 H A W) ys b o
+        (λ q′. elem-out ! R (Is R) (shows 𝓤 H A R) vals tells q′ ys i blank b o l (λ g.
+        -- [t[i]; what it owns; the others; the open borrow; `Shr`; `Res`; F; …]
+        move ! (6 ∷ []) $ k q′ g))
 
     pub shuts : Soaks G → (q′ : Share)
         → Step (Go {0}) W (F ∷ ‵ Lent ∷ ‵ (flft κ q) ∷ Γ) G (F ∷ Open i q′ Γ) G
     shuts z q′ =
-        step (λ s. move ! (1 ∷ 2 ∷ 3 ∷ 4 ∷ []) $ elem-back ! R q′ ys i blank (vals (elem i)) b o l $
-        shuts-slice ! z R q′ ys b o $ move ! (3 ∷ 2 ∷ []) $ fjoin ! $
+        step (λ s.
+        -- [F; t[i]; what it owns; the others; the open borrow; `Shr`; `Res`; …]
+        move ! (1 ∷ 2 ∷ 3 ∷ 4 ∷ []) $ elem-back ! R q′ ys i blank (vals (elem i)) b o l $ shuts-slice ! z R q′ ys b o $
+        -- [its token; F; `Shr`; `Res`; …]
+        move ! (3 ∷ 2 ∷ []) $ fjoin ! $
         pureI ! (at-slice R (ref b o γ ys) (machine b o ys ∷ [])) (tt, (tt, tt)) (refl, room) $ fjoin ! $
+        -- [what t owns; its token; F; …]
         move ! (2 ∷ []) $ s)

@@ -62,8 +62,11 @@ pub both-twice : {M : Type 1} (𝓤 : URA M) (H : Heap 𝓤) (A : Atoms 𝓤) (W
     → ent 𝓤 (sem 𝓤 H A P) (sep 𝓤 (sem 𝓤 H A P) (sem 𝓤 H A P)) → ent 𝓤 (sem 𝓤 H A Q) (sep 𝓤 (sem 𝓤 H A Q) (sem 𝓤 H A Q))
     → ent 𝓤 (sem 𝓤 H A (fsep P Q)) (sep 𝓤 (sem 𝓤 H A (fsep P Q)) (sem 𝓤 H A (fsep P Q)))
 both-twice 𝓤 H A W P Q p q =
-    qed W (‵ (fsep P Q) ∷ []) ∵ fsplit ! $ use1 W (‵ P ⊛ ‵ P) p $ split ! $ move ! (2 ∷ []) $ use1 W (‵ Q ⊛ ‵ Q) q $
-    split ! $ move ! (2 ∷ 0 ∷ []) $ fjoin ! $ move ! (2 ∷ 1 ∷ []) $ fjoin ! $ done !
+    qed W (‵ (fsep P Q) ∷ []) ∵ fsplit ! $ use1 W (‵ P ⊛ ‵ P) p $ split ! $
+    -- [P; P; Q]
+    move ! (2 ∷ []) $ use1 W (‵ Q ⊛ ‵ Q) q $ split ! $
+    -- [Q; Q; P; P], and then [P and Q; Q; P]
+    move ! (2 ∷ 0 ∷ []) $ fjoin ! $ move ! (2 ∷ 1 ∷ []) $ fjoin ! $ done !
 
 pub plain-twice : {M : Type 1} (𝓤 : URA M) (H : Heap 𝓤) (A : Atoms 𝓤) (W : Given 𝓤 H A) (P : Plain) → PlainLaws P
     → (d : P .D) (vs : List Val)
@@ -207,9 +210,13 @@ module _ {n : ℕ} (B : Taking n) (T : Staying (suc n)) (X : RattleType) where
             qed W (‵ (B .stay .has κs x w (B .vals κs x)) ∷ Beside) ∵
             suffices ! _ (ends-at 𝓤 H A ended stayed (clauses K 𝓤) W
             ((κs, qs, tt, (x, a), (B .vals κs x, values)), tt) v r (w, T .lasts κs a) (fit, T .fit κs a)) $
-            says ! so $ move ! (1 ∷ 2 ∷ []) $ join ! $ framed ! $
+            says ! so $
+            -- [what t has; its token; the others' tokens; what the others own]
+            move ! (1 ∷ 2 ∷ []) $ join ! $ framed ! $
             rewrite ! 1 (λ (P : Fml). ‵ P) (T .same κs a values) refl $ fjoin ! $
-            owned ! X (Is X) makes r (v ∷ []) is $ move ! (1 ∷ 0 ∷ []) $ done !
+            owned ! X (Is X) makes r (v ∷ []) is $
+            -- [what the result owns; what the parameters have]
+            move ! (1 ∷ 0 ∷ []) $ done !
 
     module _ (𝓣 : Tables 𝓤 H) (function : Fn) where
       abbrev Run : Fun 𝓤

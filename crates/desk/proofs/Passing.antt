@@ -148,5 +148,6 @@ module _ {n : ℕ} (Y : Passing n) (X : RattleType) where
       goes-rule W id w is =
           qed W (raw (toks 𝓤 A n (κs .1) (qs .1)) ∷ ‵ (Others id) ∷ []) ∵ move ! (1 ∷ []) $ fsplit ! $ drop ! $
           rewrite ! 0 (λ (P : Fml). ‵ P) (Y .same κs a) refl $
-          owned ! S (Is S) (makes-slot 𝓤 H A) slot (w ∷ []) is $ fjoin ! $ move ! (1 ∷ 0 ∷ []) $ join ! $ framed ! $
-          done !
+          owned ! S (Is S) (makes-slot 𝓤 H A) slot (w ∷ []) is $ fjoin ! $
+          -- [what the rule's parameters own; the tokens]
+          move ! (1 ∷ 0 ∷ []) $ join ! $ framed ! $ done !

@@ -185,8 +185,9 @@ module _ {n : ℕ} (Y : Passing n) (P : Plain) (L : PlainLaws P) where
                 (λ r e. id⊢ 𝓤 _)
                 (λ r v iv. subst (λ (τ : Ty). T (hasTy τ v) × WT v) (sym (st .result-is))
                 (L .lawful 𝓤 H A W .typed r (v ∷ []) iv .0)) (st .result-in) (operands w _) (λ v iv.
-                leaves ! (held-own E (holding cs ℓs (some w)) 0 (some v) (st .result-in)) $ move ! (2 ∷ 3 ∷ []) $
-                by ! (exits v iv))
+                leaves ! (held-own E (holding cs ℓs (some w)) 0 (some v) (st .result-in)) $
+                -- [the tokens; what the others own; t; its token]
+                move ! (2 ∷ 3 ∷ []) $ by ! (exits v iv))
 
             walk : Sq W (At ∷ Ours) (Runs (function #rule .body))
             walk = let-s answer

@@ -135,14 +135,19 @@ module _ {M : Type 1} (𝓤 : URA M) (H : Heap 𝓤) (A : Atoms 𝓤) (W : Given
       qed W (Owned zs) ∵ suffices ! _ (ends-at 𝓤 H A f.ended stayed
       (f.clauses 𝓤 H A mem run) W (((κ, tt), (q, tt), tt, x, at), tt) vunit tt (zs, (tt, (tt, tt)))
       (length-set ys i r, (tt, (tt, tt)))) $
-      says ! refl $ nothing ! $ move ! (3 ∷ 0 ∷ []) $ join ! $ framed ! $ fjoin ! $
+      says ! refl $ nothing ! $
+      -- [true; obs; the borrow; the token]
+      move ! (3 ∷ 0 ∷ []) $ join ! $ framed ! $ fjoin ! $
       pureI ! (at-slice R (ref zs) (at .0)) (tt, (tt, tt)) (
         ap (λ (m : ℕ). sliceVal (b, o) m ∷ []) (sym (length-set ys i r)),
         subst (Room R)
             (sym (length-set ys i r)) gn,
       ) $ fjoin ! $ nothing ! $ owned ! R (Is R) (makes 𝓤 H A) r (v ∷ []) gr $ fjoin ! $
-      owned ! usize (Is usize) (uint-makes 𝓤 H A W w64) i _ (refl, gi) $ fjoin ! $ move ! (1 ∷ 0 ∷ []) $ fjoin ! $
-      feqI ! (List Val) (vunit ∷ []) (vunit ∷ []) refl $ move ! (1 ∷ 0 ∷ []) $ done !
+      owned ! usize (Is usize) (uint-makes 𝓤 H A W w64) i _ (refl, gi) $ fjoin ! $
+      -- [what i and r own; what t has]
+      move ! (1 ∷ 0 ∷ []) $ fjoin ! $ feqI ! (List Val) (vunit ∷ []) (vunit ∷ []) refl $
+      -- [what the result is; what the parameters have]
+      move ! (1 ∷ 0 ∷ []) $ done !
 
   module _ (room : Room R n) (gi : i < 2 ^ 64) (gr : Is R r (v ∷ [])) (C : Calls 𝓤 H) (Λ : Loops 𝓤 H) where
     module _ (ls : Addresses (function .locals)) where
@@ -183,6 +188,7 @@ module _ {M : Type 1} (𝓤 : URA M) (H : Heap 𝓤) (A : Atoms 𝓤) (W : Given
           → Sq W Tested (runs C Λ En code-store Branch)
       stores l k =
           finds 𝓤 H A W ℓt ℓi ℓbytes ℓslot b o n i (refl, refl, refl, tt, tt, tt, refl, refl) room l $
+          -- [the frame; obs; the borrow; the token]
           move ! (1 ∷ 2 ∷ 3 ∷ []) $ opens-slice ! tt R ys b o $ elem-out ! R (Is R)
           (shows 𝓤 H A R) vals tells fullShare ys i blank b o l (λ _.
           -- [t[i]; what it owns; the others; the open borrow; obs; auth; the frame]
@@ -192,8 +198,11 @@ module _ {M : Type 1} (𝓤 : URA M) (H : Heap 𝓤) (A : Atoms 𝓤) (W : Given
           exec ! C Λ En code-end (atRet En Post) $
           -- [the frame; t[i]; what it owned; …]: what r owns takes its place, and the row is closed
           move ! (2 ∷ []) $ drop ! $ owned ! R (Is R) (makes 𝓤 H A) r (v ∷ []) gr $
+          -- [what r owns; the frame; t[i]; the others; the open borrow; obs; auth]
           move ! (2 ∷ 0 ∷ 3 ∷ 4 ∷ 5 ∷ 6 ∷ []) $ elem-put ! R fullShare ys i r (v ∷ []) b o l $
-          closes-slice ! tt R ys zs (length-set ys i r) b o $ move ! (3 ∷ []) $ k _ _ _ _)
+          closes-slice ! tt R ys zs (length-set ys i r) b o $
+          -- [obs; the borrow; the token; the frame]
+          move ! (3 ∷ []) $ k _ _ _ _)
 
       -- past the end: nothing is stored, and `set` leaves the list
       leaves-it : T (not (ltb i n))
@@ -220,7 +229,10 @@ module _ {M : Type 1} (𝓤 : URA M) (H : Heap 𝓤) (A : Atoms 𝓤) (W : Given
         (λ ls. ((tt, (tt, (record { fits = room .0 }, tt))), ((tt, record { fits = gi }), (typed 𝓤 H A W r v gr, tt))))
         (λ ls.
         -- [the frame; the token; what the parameters own]
-        move ! (2 ∷ []) $ fsplit ! $ fsplit ! $ drop ! $ fsplit ! $ move ! (4 ∷ []) $ split ! $
+        move ! (2 ∷ []) $ fsplit ! $ fsplit ! $ drop ! $ fsplit ! $
+        -- [obs; the borrow; what i and r own; the frame; the token and true]
+        move ! (4 ∷ []) $ split ! $
+        -- [the token; true; obs; the borrow; what i and r own; the frame]
         keep ! (5 ∷ 2 ∷ 3 ∷ 0 ∷ []) $
         tests ls (λ less. stores ls (ltb→lt i n less) (λ _ _ _ _. returns-unit ls))
         (λ over. leaves-it ls over (returns-unit ls)))

@@ -171,10 +171,14 @@ module _ {M : Type 1} (𝓤 : URA M) (H : Heap 𝓤) (A : Atoms 𝓤) (W : Given
 
   goes-place : ent 𝓤 (sep 𝓤 (sep 𝓤 (A .lft κ q) (emp 𝓤)) (sem 𝓤 H A Lentₜ)) (PlaceOf 𝓤 H A mem run .pre (to-place, tt))
   goes-place =
-      qed W ((‵ (flft κ q) ⊛ ‵ ftrue) ∷ ‵ Lentₜ ∷ []) ∵ split ! $ keep ! (0 ∷ 2 ∷ []) $
-      nothing ! $ move ! (1 ∷ 0 ∷ []) $ join ! $ nothing ! $
-      owned ! u64 (Is u64) (uint-makes 𝓤 H A W w64) id _ (refl, gd) $ fjoin ! $ move ! (2 ∷ 0 ∷ []) $ fjoin ! $
-      move ! (1 ∷ 0 ∷ []) $ join ! $ framed ! $ done !
+      qed W ((‵ (flft κ q) ⊛ ‵ ftrue) ∷ ‵ Lentₜ ∷ []) ∵ split ! $
+      -- [the token; true; the `&`]
+      keep ! (0 ∷ 2 ∷ []) $ nothing ! $
+      -- [true; the token; the `&`]
+      move ! (1 ∷ 0 ∷ []) $ join ! $ nothing ! $
+      owned ! u64 (Is u64) (uint-makes 𝓤 H A W w64) id _ (refl, gd) $ fjoin ! $
+      -- [what the id owns; the token; the `&`], and then [what the parameters own; the token]
+      move ! (2 ∷ 0 ∷ []) $ fjoin ! $ move ! (1 ∷ 0 ∷ []) $ join ! $ framed ! $ done !
 
   abbrev to-absent : Bound 𝓤 H A absent.signature
   to-absent = (tt, tt, tt, (i, tt), (vint w64 i ∷ [], tt))
@@ -211,14 +215,18 @@ module _ {M : Type 1} (𝓤 : URA M) (H : Heap 𝓤) (A : Atoms 𝓤) (W : Given
     let-i : {rest : Body} → (i < 2 ^ 64 → Sq W (In (some (vint w64 i) ∷ spare 6)) (Runs rest))
         → Sq W (In (spare 7)) (Runs (code-i rest))
     let-i k =
-        nothing ! $ move ! (3 ∷ 0 ∷ []) $ join ! $ use1 W Token (id⊢ 𝓤 (sep 𝓤 (A .lft κ q) (emp 𝓤))) $
+        nothing ! $
+        -- [true; the frame; what t owns; its token; …]
+        move ! (3 ∷ 0 ∷ []) $ join ! $ use1 W Token (id⊢ 𝓤 (sep 𝓤 (A .lft κ q) (emp 𝓤))) $
         -- [the token; the frame; what t owns; …]
         move ! (1 ∷ []) $ consults-lent 𝓤 H A W place-of.ended (place-of.clauses 𝓤 H A mem run) to-place tt
         (fmOf 𝓤 H (W .laws) 𝓣) known-place Lentₜ
         (shr-slice-copy 𝓤 H A W (named 0) κ R .twice (ref b o γ ys) (machine b o ys ∷ [])) goes-place i
         (λ r e. id⊢ 𝓤 _) (λ r v is. uint-lawful 𝓤 H A W w64 .typed r (v ∷ []) is .0) tt
         (and-then ! (value ! ℓt refl) (and-then ! (value ! ℓid refl) (no-more !)))
-        (λ v is. move ! (1 ∷ []) $ use1 W (‵ (flft κ q) ⊛ ‵ ftrue) (id⊢ 𝓤 (sep 𝓤 (A .lft κ q) (emp 𝓤))) $ split ! $
+        (λ v is.
+        -- [the frame; the tokens; what t owns; …]
+        move ! (1 ∷ []) $ use1 W (‵ (flft κ q) ⊛ ‵ ftrue) (id⊢ 𝓤 (sep 𝓤 (A .lft κ q) (emp 𝓤))) $ split ! $
         -- [the token; true; the frame; what t owns; …]
         move ! (1 ∷ []) $ drop ! $ move ! (1 ∷ 2 ∷ []) $
         rewrite ! 0 (λ (u : Val). frame H En (none ∷ some (sliceVal (b, o) n) ∷ some (vint w64 id) ∷ some u ∷ spare 6))
