@@ -35,22 +35,23 @@ enum-known-earlier c = search needs
 -- each price in hand is the one that was given
 admitted-at-requires : tie.Need-admitted-at-requires
 admitted-at-requires c κs =
-    let k = c .before .before .before .before in
-    let n = k .before .before in (
-      price-made _ _ (sym (n .before .new .ensures) ∙ k .later .given .1) .1,
-      price-made _ _ (sym (n .new2 .ensures) ∙ c .before .earlier .given .1) .1,
+    let later-made = c .before .before .before .before in
+    let tried = later-made .before .before in (
+      price-made _ _ (sym (tried .before .new .ensures) ∙ later-made .later .given .1) .1,
+      price-made _ _ (sym (tried .new2 .ensures) ∙ c .before .earlier .given .1) .1,
     )
 
 returns : tie.Need-returns
 returns c =
-    let n = c .before .before .before in
-    let out = price-unmade _ (sym (n .before .new .ensures) ∙ c .before .enum-told .given .1) in
+    let tried = c .before .before .before in
+    let out = price-unmade _ (sym (tried .before .new .ensures) ∙ c .before .enum-told .given .1) in
     c .refused .ensures ∙ admission-invalid _ _ _ (λ v. not-true-and-false _ (admission-prices-valid _ v .0) out)
 
 returns-2 : tie.Need-returns-2
 returns-2 c =
-    let n = c .before .before .before .before .before .before in
-    let out = price-unmade _ (sym (n .new2 .ensures) ∙ c .before .enum-told2 .given .1) in
+    let later-made = c .before .before .before .before in
+    let tried = later-made .before .before in
+    let out = price-unmade _ (sym (tried .new2 .ensures) ∙ c .before .enum-told2 .given .1) in
     c .refused2 .ensures ∙ admission-invalid _ _ _ (λ v. not-true-and-false _ (admission-prices-valid _ v .1) out)
 
 returns-3 : tie.Need-returns-3

@@ -20,7 +20,11 @@ valid : (c : tie.Else1) → let a = c .before .before .before .args in
     (validSlots (a .s .count) && validAdmission (a .a)) ≡ true
 valid c = tested-true _ (tested (c .before)) (c .if1 .left)
 
-new : (c : tie.Else2) → holds (c .before .before .before .before .before .args .s) ≡ false
+-- the start, seen from where the id is new
+abbrev new-from : tie.Else2 → tie.Start
+new-from c = c .before .before .before .before .before
+
+new : (c : tie.Else2) → holds (new-from c .args .s) ≡ false
 new c = sym (c .before .holds .ensures) ∙ c .if2 .left
 
 valid-slots-requires : tie.Need-valid-slots-requires
@@ -62,7 +66,7 @@ returns-3 c =
 admitted-requires : tie.Need-admitted-requires
 admitted-requires c κs =
     let e = c .before .before in
-    let s = e .before .before .before .before .before in
+    let s = new-from e in
     record {
       valid = and-right (validSlots (s .args .s .count)) (validAdmission (s .args .a)) (valid (e .before .before));
       later = s .pre .0;

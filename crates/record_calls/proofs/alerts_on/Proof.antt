@@ -19,13 +19,16 @@ alert-requires-2 c κs = search needs
 
 returns : tie.Need-returns
 unfolding alertsOn alerting
-returns c = rw (
-  c .alert2 .ensures,
-  c .before .alert .ensures,
-  c .before .before .alert-seconds .ensures,
-  c .before .before .before .before .blank .ensures,
-  c .before .before .before .before .before .pre,
-)
+returns c =
+    let seconds = c .before .before in
+    let blanked = seconds .before .before in
+    rw (
+      c .alert2 .ensures,
+      c .before .alert .ensures,
+      seconds .alert-seconds .ensures,
+      blanked .blank .ensures,
+      blanked .before .pre,
+    )
 
 pub alerts-on-spec : {M : Type 1} → statement M
 alerts-on-spec =

@@ -14,21 +14,31 @@ use borrow.Author.Needs.{needs}
 use Rattle.record_calls.proofs.moved.Statement.{statement}
 use Rattle.record_calls.proofs.moved.Tie as tie
 
+-- the start, seen from a stage: the shared checks are made; they are passed; the session allows a move
+abbrev checked-from : tie.After-shared-checks → tie.Start
+checked-from c = c .before .before .before .before .before
+
+abbrev past-from : tie.Else1 → tie.Start
+past-from c = checked-from (c .before .before)
+
+abbrev allowed-from : tie.Else2 → tie.Start
+allowed-from c = past-from (c .before .before)
+
 -- the shared checks, of the definition's tests
 verdict : (c : tie.After-shared-checks)
-    → let a = c .before .before .before .before .before .args in
+    → let a = checked-from c .args in
     c .shared-checks .result ≡ firstOf (sharedChecks (isKnown (a .s)) (validSide (a .side)) (a .s .rec))
 verdict c = rw (c .before .valid-side .ensures) at (c .shared-checks .ensures)
 
 past : (c : tie.Else1)
-    → let a = c .before .before .before .before .before .before .before .args in
+    → let a = past-from c .args in
     Passed (isKnown (a .s)) (validSide (a .side)) (a .s .rec)
 past c =
     let done = c .before .is-done .ensures ∙ ap isDone (verdict (c .before .before)) in
     past-shared _ _ _ (tested-true _ done (c .if1 .left))
 
 allowed : (c : tie.Else2)
-    → let r = c .before .before .before .before .before .before .before .before .before .args .s .rec in
+    → let r = allowed-from c .args .s .rec in
     moveAllowed (r .statics) (r .session) ≡ true
 allowed c = tested-true _ (c .before .move-allowed .ensures) (c .if2 .left)
 
@@ -80,7 +90,8 @@ returns-3 c =
 
 moved-requires : tie.Need-moved-requires
 moved-requires c κs =
-    let v = known-sound _ (past (c .before .before .before .before .before) .known) in
+    let allowed-move = c .before .before .before in
+    let v = known-sound _ (past (allowed-move .before .before) .known) in
     (v, a-move-is-left _ (c .before .before .side-of .result) v (rw (c .before .count-of .ensures) at (c .if3 .left)))
 
 written-requires : tie.Need-written-requires

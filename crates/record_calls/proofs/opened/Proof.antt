@@ -13,7 +13,11 @@ use Rattle.record_calls.proofs.opened.Tie as tie
 known : (c : tie.Else1) → isKnown (c .before .before .before .args .s) ≡ true
 known c = tested-true _ (c .before .is-known .ensures) (c .if1 .left)
 
-live : (c : tie.Else2) → isLive (c .before .before .before .before .before .args .s .rec .standing) ≡ true
+-- the start, seen from where the record is live
+abbrev live-from : tie.Else2 → tie.Start
+live-from c = c .before .before .before .before .before
+
+live : (c : tie.Else2) → isLive (live-from c .args .s .rec .standing) ≡ true
 live c = tested-true _ (c .before .is-live .ensures) (c .if2 .left)
 
 is-known-requires : tie.Need-is-known-requires

@@ -12,16 +12,22 @@ use borrow.Author.Needs.{needs}
 use Rattle.record_calls.proofs.quoted.Statement.{statement}
 use Rattle.record_calls.proofs.quoted.Tie as tie
 
+-- the start, seen from a stage: the shared checks are made; they are passed
+abbrev checked-from : tie.After-shared-checks → tie.Start
+checked-from c = c .before .before .before
+
+abbrev past-from : tie.Else1 → tie.Start
+past-from c = checked-from (c .before .before)
+
 -- the shared checks, of the definition's tests
 verdict : (c : tie.After-shared-checks)
-    → c .shared-checks .result ≡ firstOf
-    (sharedChecks (isKnown (c .before .before .before .args .s)) (validQuote (c .before .before .before .args .q))
-    (c .before .before .before .args .s .rec))
+    → let a = checked-from c .args in
+    c .shared-checks .result ≡ firstOf (sharedChecks (isKnown (a .s)) (validQuote (a .q)) (a .s .rec))
 verdict c = rw (c .before .valid-quote .ensures) at (c .shared-checks .ensures)
 
 past : (c : tie.Else1)
-    → let start = c .before .before .before .before .before in
-    Passed (isKnown (start .args .s)) (validQuote (start .args .q)) (start .args .s .rec)
+    → let a = past-from c .args in
+    Passed (isKnown (a .s)) (validQuote (a .q)) (a .s .rec)
 past c =
     let done = c .before .is-done .ensures ∙ ap isDone (verdict (c .before .before)) in
     past-shared _ _ _ (tested-true _ done (c .if1 .left))

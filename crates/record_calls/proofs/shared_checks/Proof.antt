@@ -15,7 +15,11 @@ use Rattle.record_calls.proofs.shared_checks.Tie as tie
 known : (c : tie.Else1) → isKnown (c .before .before .before .args .s) ≡ true
 known c = tested-true _ (c .before .is-known .ensures) (c .if1 .left)
 
-live : (c : tie.Else3) → isLive (c .before .before .before .before .before .before .args .s .rec .standing) ≡ true
+-- the start, seen from where the record is live
+abbrev live-from : tie.Else3 → tie.Start
+live-from c = c .before .before .before .before .before .before
+
+live : (c : tie.Else3) → isLive (live-from c .args .s .rec .standing) ≡ true
 live c = tested-true _ (c .before .is-live .ensures) (c .if3 .left)
 
 is-known-requires : tie.Need-is-known-requires
@@ -51,8 +55,7 @@ returns-4 c =
       known (e .before),
       not-false (e .before .before .before .before .args .in-range) (e .if2 .left),
       live l,
-      not-true (c .before .before .before .before .before .before .before .before .args .s .rec .statics .monitoring)
-          (c .if4 .taken),
+      not-true (live-from l .args .s .rec .statics .monitoring) (c .if4 .taken),
     )
 
 returns-5 : tie.Need-returns-5
@@ -64,8 +67,7 @@ returns-5 c =
       known (e .before),
       not-false (e .before .before .before .before .args .in-range) (e .if2 .left),
       live l,
-      not-false (c .before .before .before .before .before .before .before .before .args .s .rec .statics .monitoring)
-          (c .if4 .left),
+      not-false (live-from l .args .s .rec .statics .monitoring) (c .if4 .left),
     )
 
 pub shared-checks-spec : {M : Type 1} → statement M
