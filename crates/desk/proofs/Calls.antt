@@ -62,7 +62,7 @@ use denote.Memory.{shares}
 use denote.Laws.{Is}
 use denote.Plain.{uint-makes, nothing-lawful}
 use denote.Builtin.{usize, u64}
-use denote.Slice.{MutSlice, ShrSlice, Room, shr-slice-copy, finally, heres, codedHoleys, at-slice}
+use denote.Slice.{MutSlice, Room, shr-slice-copy, finally, heres, codedHoleys, at-slice}
 use denote.Lend.{Held, lends-shr-slice}
 use denote.Index.{opens-slice, closes-slice}
 use denote.Steps.{owned, heard, nothing}
@@ -79,7 +79,7 @@ use Rattle.record_answers.proofs.Effect as O
 use Rattle.paper.proofs.Answer.Laws as N′
 use Rattle.desk.proofs.Row.{R, val, makes, S, typed-slot, effect-ty, effect-val, effect-is, effect-tells, answer-val, typed-answer}
 use Rattle.desk.proofs.Frame.{Locals, held, holding, Within, held-own, frame, value, field as field′, sets, clears, leaves}
-use Rattle.desk.proofs.Lending.{Lending, ref, machine, lending, lent, Lends, lends}
+use Rattle.desk.proofs.Lending.{Lending, ref, machine, Lent, lending, lent, Lends, lends}
 use Rattle.desk.proofs.Asks.{calls, says, consults-lent}
 use Rattle.desk.proofs.take as take
 use Rattle.desk.proofs.take.Symbol.{name as #take}
@@ -135,13 +135,10 @@ module _ {M : Type 1} (𝓤 : URA M) (H : Heap 𝓤) (A : Atoms 𝓤) (W : Given
   to-take id κ′ q′ γ′ =
       ((κ′, tt), (q′, tt), tt, (ref b o γ′ ys, (id, tt)), (machine b o ys ∷ [], (vint w64 id ∷ [], tt)))
 
-  abbrev pub Lent : Lft → GName → Fml
-  Lent κ′ γ′ = ShrSlice (named 0) κ′ R .own (ref b o γ′ ys) (machine b o ys ∷ [])
-
   goes-take : (id : ℕ) → id < 2 ^ 64 → (κ′ : Lft) (q′ : Share) (γ′ : GName)
-      → ent 𝓤 (sep 𝓤 (A .lft κ′ q′) (sem 𝓤 H A (Lent κ′ γ′))) (Take 𝓤 H A mem run .pre (to-take id κ′ q′ γ′, tt))
+      → ent 𝓤 (sep 𝓤 (A .lft κ′ q′) (sem 𝓤 H A (Lent κ′ b o γ′ ys))) (Take 𝓤 H A mem run .pre (to-take id κ′ q′ γ′, tt))
   goes-take id gd κ′ q′ γ′ =
-      qed W (‵ (flft κ′ q′) ∷ ‵ (Lent κ′ γ′) ∷ []) ∵ nothing ! $
+      qed W (‵ (flft κ′ q′) ∷ ‵ (Lent κ′ b o γ′ ys) ∷ []) ∵ nothing ! $
       -- [true; the token; the `&`]
       move ! (1 ∷ 0 ∷ []) $ join ! $ nothing ! $
       owned ! u64 (Is u64) (uint-makes 𝓤 H A W w64) id _ (refl, gd) $ fjoin ! $
@@ -167,12 +164,12 @@ module _ {M : Type 1} (𝓤 : URA M) (H : Heap 𝓤) (A : Atoms 𝓤) (W : Given
     -- t is lent as `&`, for a lifetime that is made for the call
     pub lent-out : Soaks G
         → ((α : ℕ) (γ′ : GName)
-        → Sq W ((‵ (flft (α ∷ []) fullShare) ⊛ ‵ (Lent (α ∷ []) γ′)) ∷ ‵ (Kept κ q b o γ ys (α ∷ [])) ∷ Γ) G)
+        → Sq W ((‵ (flft (α ∷ []) fullShare) ⊛ ‵ (Lent (α ∷ []) b o γ′ ys)) ∷ ‵ (Kept κ q b o γ ys (α ∷ [])) ∷ Γ) G)
         → Sq W (‵ (Owned κ b o γ ys) ∷ ‵ (flft κ q) ∷ Γ) G
     lent-out z k = fsplit ! $ drop ! $ fsplit ! $ opens-slice ! z R ys b o $ lft-new ! z (λ α.
         -- [the new token; the row; the open borrow; obs; auth; …]
         move ! (1 ∷ []) $ feqI ! ℕ (length ys) (length ys) refl $ fjoin ! $
-        use1 W (later (some′ (λ (γ′ : GName). ‵ (Lent (α ∷ []) γ′) ⊛ ‵ (flent (α ∷ [])
+        use1 W (later (some′ (λ (γ′ : GName). ‵ (Lent (α ∷ []) b o γ′ ys) ⊛ ‵ (flent (α ∷ [])
         (arr-parts (shares R) (length ys) .part fullShare ys b o))))) (lends-shr-slice 𝓤 H A W R (named 0)
         (α ∷ []) fullShare ys b o room) $ await ! z $ pick ! (λ γ′. split ! $
         -- [the `&`; what is lent; the new token; the open borrow; obs; auth; …]
@@ -223,7 +220,7 @@ module _ {M : Type 1} (𝓤 : URA M) (H : Heap 𝓤) (A : Atoms 𝓤) (W : Given
         move ! (0 ∷ 2 ∷ []) $
         -- [the new token and the `&`; the frame; what is kept; …]
         calls 𝓤 H A W take.ended (take.clauses 𝓤 H A mem run) (to-take id (α ∷ []) fullShare γ′) tt fm known
-        (‵ (flft (α ∷ []) fullShare) ⊛ ‵ (Lent (α ∷ []) γ′)) (goes-take id gd (α ∷ []) fullShare γ′)
+        (‵ (flft (α ∷ []) fullShare) ⊛ ‵ (Lent (α ∷ []) b o γ′ ys)) (goes-take id gd (α ∷ []) fullShare γ′)
         (λ s v is. subst (λ (τ : Ty). T (hasTy τ v) × WT v) (sym is-slot) (typed-slot 𝓤 H A W s v is)) in-d
         (and-then ! (value ! (m .1) (slice-in E cs m (l .4))) (and-then ! (os _) (no-more !)))
         (λ s v is. use1 W (raw (fact 𝓤 (s ≡ slotOf ys id))) (says 𝓤 H A W take.ended (take.clauses 𝓤 H A mem run)
@@ -241,8 +238,8 @@ module _ {M : Type 1} (𝓤 : URA M) (H : Heap 𝓤) (A : Atoms 𝓤) (W : Given
         → held E cs t ≡ some (machine b o ys) → Within E d → spotOf 𝓤 H E d .0 ≡ U′.mir → {x : Operand} (id : ℕ)
         → id < 2 ^ 64 → ((Δ : List (Item 𝓤)) → Opd (Go {0}) W (frame H E cs ∷ Δ) E x (vint w64 id))
         → ((v : Val) → Is S (slotOf ys id) (v ∷ [])
-        → Sq W (frame H E (holding cs d (some v)) ∷ ‵ (Lent κ γ) ∷ ‵ (flft κ q) ∷ Γ) (runs C Λ E rest post))
-        → Sq W (frame H E cs ∷ ‵ (Lent κ γ) ∷ ‵ (flft κ q) ∷ Γ)
+        → Sq W (frame H E (holding cs d (some v)) ∷ ‵ (Lent κ b o γ ys) ∷ ‵ (flft κ q) ∷ Γ) (runs C Λ E rest post))
+        → Sq W (frame H E cs ∷ ‵ (Lent κ b o γ ys) ∷ ‵ (flft κ q) ∷ Γ)
         (runs C Λ E (seq (call #take (copy (place t []) ∷ x ∷ []) (place d [])) rest) post)
     takes-shared fm known t d holds in-d is-slot id gd os k =
         nothing ! $
@@ -250,8 +247,8 @@ module _ {M : Type 1} (𝓤 : URA M) (H : Heap 𝓤) (A : Atoms 𝓤) (W : Given
         move ! (3 ∷ 0 ∷ []) $ join ! $ use1 W Tokens (id⊢ 𝓤 (sep 𝓤 (A .lft κ q) (emp 𝓤))) $
         -- [the token; the frame; what t owns; …]
         move ! (1 ∷ []) $ consults-lent 𝓤 H A W take.ended (take.clauses 𝓤 H A mem run) (to-take id κ q γ) tt fm known
-        (Lent κ γ) (shr-slice-copy 𝓤 H A W (named 0) κ R .twice (ref b o γ ys) (machine b o ys ∷ []))
-        (qed W ((‵ (flft κ q) ⊛ ‵ ftrue) ∷ ‵ (Lent κ γ) ∷ []) ∵ split ! $ keep ! (0 ∷ 2 ∷ []) $
+        (Lent κ b o γ ys) (shr-slice-copy 𝓤 H A W (named 0) κ R .twice (ref b o γ ys) (machine b o ys ∷ []))
+        (qed W ((‵ (flft κ q) ⊛ ‵ ftrue) ∷ ‵ (Lent κ b o γ ys) ∷ []) ∵ split ! $ keep ! (0 ∷ 2 ∷ []) $
         by ! (goes-take id gd κ q γ)) (slotOf ys id) (λ s e. id⊢ 𝓤 _)
         (λ s v is. subst (λ (τ : Ty). T (hasTy τ v) × WT v) (sym is-slot) (typed-slot 𝓤 H A W s v is)) in-d
         (and-then ! (value ! t holds) (and-then ! (os _) (no-more !)))

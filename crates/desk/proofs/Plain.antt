@@ -1,6 +1,7 @@
 -- A plain type of one machine value, a number or a declared struct: what a call takes by value. It is given by its
 -- parts, so that it is seen at exit as it was passed.
 --     Plain, row      the type's parts, and the type.        PlainLaws       what is proved of it
+--     struct-laws     of every declared struct
 --     number, admission, day, asked, quoted, outside, notice, answer      the types that the calls take and answer,
 --                                                                         each with its laws
 -- Assumes nothing.
@@ -18,6 +19,8 @@ use denote.Laws.{Is, Tells, Makes, Lawful}
 use denote.Plain.{uint-tells, uint-lawful, uint-makes}
 use denote.Builtin.{u64}
 use denote.Exit.{unchanged}
+use denote.Struct.Declared.{Declared, fields, row as struct-row}
+use denote.Struct.Struct.{Plains}
 use denote.Struct.Laws as LL
 use denote.Enum.Laws as EL
 use Rattle.paper.proofs.Admission as X
@@ -65,6 +68,22 @@ pub record PlainLaws (P : Plain) : Type 2 where
   pub lawful : {M : Type 1} (𝓤 : URA M) (H : Heap 𝓤) (A : Atoms 𝓤) → Given 𝓤 H A → Lawful 𝓤 H A (row P)
   pub makes : {M : Type 1} (𝓤 : URA M) (H : Heap 𝓤) (A : Atoms 𝓤) → Given 𝓤 H A → Makes 𝓤 H A (row P) (Is (row P))
 
+-- of a declared struct T, whose machine type is τ. That it is lawful is given, since what it is at exit is seen to be
+-- what was passed only where its fields are written out
+module _ (T : Declared) (τ : Ty) where
+  abbrev pub struct : Plain
+  struct = of-row (struct-row T) τ
+
+  abbrev pub struct-laws : LL.Laws T → Plains (fields T)
+      → ((M : Type 1) (𝓤 : URA M) (H : Heap 𝓤) (A : Atoms 𝓤) → Given 𝓤 H A → Lawful 𝓤 H A (row struct))
+      → PlainLaws struct
+  struct-laws L plain lawful = record {
+    val = LL.val T L;
+    tells = LL.tells T L;
+    lawful = λ 𝓤 H A W. lawful _ 𝓤 H A W;
+    makes = λ 𝓤 H A W. LL.makes T plain 𝓤 H A;
+  }
+
 -- ---- a number, an admission, a day, a day that is asked for, a quote, two outside prices, a notice, an answer
 
 abbrev pub number : Plain
@@ -82,56 +101,41 @@ abbrev pub admission : Plain
 admission = of-row X.the-row X′.mir
 
 unfoldable pub admission-laws : PlainLaws admission
-admission-laws = record {
-  val = LL.val X.the-type X′.the-laws;
-  tells = LL.tells X.the-type X′.the-laws;
-  lawful = λ 𝓤 H A W. LL.lawful X.the-type X′.the-laws 𝓤 H A W;
-  makes = λ 𝓤 H A W. LL.makes X.the-type X′.the-plain 𝓤 H A;
-}
+admission-laws =
+    struct-laws X.the-type X′.mir X′.the-laws X′.the-plain
+    (λ M 𝓤 H A W. LL.lawful X.the-type X′.the-laws 𝓤 H A W)
 
 abbrev pub day : Plain
 day = of-row D.the-row D′.mir
 
 pub day-laws : PlainLaws day
-day-laws = record {
-  val = LL.val D.the-type D′.the-laws;
-  tells = LL.tells D.the-type D′.the-laws;
-  lawful = λ 𝓤 H A W. LL.lawful D.the-type D′.the-laws 𝓤 H A W;
-  makes = λ 𝓤 H A W. LL.makes D.the-type D′.the-plain 𝓤 H A;
-}
+day-laws =
+    struct-laws D.the-type D′.mir D′.the-laws D′.the-plain
+    (λ M 𝓤 H A W. LL.lawful D.the-type D′.the-laws 𝓤 H A W)
 
 abbrev pub asked : Plain
 asked = of-row K.the-row K′.mir
 
 pub asked-laws : PlainLaws asked
-asked-laws = record {
-  val = LL.val K.the-type K′.the-laws;
-  tells = LL.tells K.the-type K′.the-laws;
-  lawful = λ 𝓤 H A W. LL.lawful K.the-type K′.the-laws 𝓤 H A W;
-  makes = λ 𝓤 H A W. LL.makes K.the-type K′.the-plain 𝓤 H A;
-}
+asked-laws =
+    struct-laws K.the-type K′.mir K′.the-laws K′.the-plain
+    (λ M 𝓤 H A W. LL.lawful K.the-type K′.the-laws 𝓤 H A W)
 
 abbrev pub quoted : Plain
 quoted = of-row Q.the-row Q′.mir
 
 pub quoted-laws : PlainLaws quoted
-quoted-laws = record {
-  val = LL.val Q.the-type Q′.the-laws;
-  tells = LL.tells Q.the-type Q′.the-laws;
-  lawful = λ 𝓤 H A W. LL.lawful Q.the-type Q′.the-laws 𝓤 H A W;
-  makes = λ 𝓤 H A W. LL.makes Q.the-type Q′.the-plain 𝓤 H A;
-}
+quoted-laws =
+    struct-laws Q.the-type Q′.mir Q′.the-laws Q′.the-plain
+    (λ M 𝓤 H A W. LL.lawful Q.the-type Q′.the-laws 𝓤 H A W)
 
 abbrev pub outside : Plain
 outside = of-row S.the-row S′.mir
 
 pub outside-laws : PlainLaws outside
-outside-laws = record {
-  val = LL.val S.the-type S′.the-laws;
-  tells = LL.tells S.the-type S′.the-laws;
-  lawful = λ 𝓤 H A W. LL.lawful S.the-type S′.the-laws 𝓤 H A W;
-  makes = λ 𝓤 H A W. LL.makes S.the-type S′.the-plain 𝓤 H A;
-}
+outside-laws =
+    struct-laws S.the-type S′.mir S′.the-laws S′.the-plain
+    (λ M 𝓤 H A W. LL.lawful S.the-type S′.the-laws 𝓤 H A W)
 
 abbrev pub notice : Plain
 notice = of-row E.the-row E′.mir
@@ -148,9 +152,6 @@ abbrev pub answer : Plain
 answer = of-row N.the-row N′.mir
 
 pub answer-laws : PlainLaws answer
-answer-laws = record {
-  val = LL.val N.the-type N′.the-laws;
-  tells = LL.tells N.the-type N′.the-laws;
-  lawful = λ 𝓤 H A W. LL.lawful N.the-type N′.the-laws 𝓤 H A W;
-  makes = λ 𝓤 H A W. LL.makes N.the-type N′.the-plain 𝓤 H A;
-}
+answer-laws =
+    struct-laws N.the-type N′.mir N′.the-laws N′.the-plain
+    (λ M 𝓤 H A W. LL.lawful N.the-type N′.the-laws 𝓤 H A W)

@@ -48,8 +48,8 @@ use Rattle.desk.proofs.Plain.{Plain, PlainLaws, row}
 use Rattle.desk.proofs.Meeting.{reads}
 use Rattle.desk.proofs.Meeting as Meeting
 use Rattle.desk.proofs.Passing.{Passing, taken, copies, OfSlot, rule-ended, rule-clauses, Rule, to-rule, Others, goes-rule}
-use Rattle.desk.proofs.Lending.{ℓt, machine}
-use Rattle.desk.proofs.Calls.{Take, Lent, takes-shared}
+use Rattle.desk.proofs.Lending.{ℓt, machine, Lent}
+use Rattle.desk.proofs.Calls.{Take, takes-shared}
 use Rattle.desk.proofs.Asks.{consults-lent}
 use Rattle.desk.proofs.take.Symbol.{name as #take}
 
@@ -138,8 +138,7 @@ module _ {n : ℕ} (Y : Passing n) (P : Plain) (L : PlainLaws P) where
         -- beside the frame: what t owns, and its lifetime's token
         abbrev Ours : List (Item 𝓤)
         Ours =
-            ‵ (Lent 𝓤 H A W mem run (κs .0) (qs .0) b o (x .name) ys room (κs .0) (x .name)) ∷ ‵ (flft (κs .0) (qs .0))
-            ∷ Tokens ∷ ‵ Rest ∷ []
+            ‵ (Lent (κs .0) b o (x .name) ys) ∷ ‵ (flft (κs .0) (qs .0)) ∷ Tokens ∷ ‵ Rest ∷ []
 
         exits : (v : Val) → Is (row P) told (v ∷ []) → ent 𝓤 (⋆ 𝓤 H A Ours) (Post v)
         exits v is =

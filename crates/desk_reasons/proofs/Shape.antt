@@ -31,7 +31,7 @@ use Rattle.record_answers.specs.declared.Slot.{Slot}
 use Rattle.record_answers.specs.Effects.{slotOf}
 use Rattle.desk.proofs.Frame.{value}
 use Rattle.desk.proofs.Calls.{Take}
-use Rattle.desk.proofs.Plain.{Plain, PlainLaws, of-row, row}
+use Rattle.desk.proofs.Plain.{Plain, PlainLaws, of-row, row, struct-laws}
 use Rattle.desk.proofs.Passing.{OfSlot}
 use Rattle.desk.proofs.Passing as Passing
 use Rattle.desk.proofs.Telling as Telling
@@ -43,12 +43,9 @@ abbrev reason : Plain
 reason = of-row Y.the-row Y′.mir
 
 pub reason-laws : PlainLaws reason
-reason-laws = record {
-  val = LL.val Y.the-type Y′.the-laws;
-  tells = LL.tells Y.the-type Y′.the-laws;
-  lawful = λ 𝓤 H A W. LL.lawful Y.the-type Y′.the-laws 𝓤 H A W;
-  makes = λ 𝓤 H A W. LL.makes Y.the-type Y′.the-plain 𝓤 H A;
-}
+reason-laws =
+    struct-laws Y.the-type Y′.mir Y′.the-laws Y′.the-plain
+    (λ M 𝓤 H A W. LL.lawful Y.the-type Y′.the-laws 𝓤 H A W)
 
 module _ (P : Plain) (L : PlainLaws P) (F : Slot → P .D → List ℤ → Why) (K : List Record → ℕ → P .D → List ℤ → Why)
     (said : (t : List Record) (id : ℕ) (d : P .D) (rows : List ℤ) → F (slotOf t id) d rows ≡ K t id d rows)

@@ -43,10 +43,10 @@ use Rattle.desk.proofs.place_of.Key.{name as #place-of}
 use Rattle.desk.proofs.place_of as f
 use Rattle.desk.proofs.place_of.Statement as stated
 use Rattle.desk.proofs.place_of.Code as code
-use Rattle.desk.proofs.Looking.{taken, says, Lent, elem, opens, shuts}
+use Rattle.desk.proofs.Looking.{taken, says, elem, opens, shuts}
 use Rattle.desk.proofs.Meeting.{reads}
 use Rattle.desk.proofs.Meeting as Meeting
-use Rattle.desk.proofs.Lending.{ref}
+use Rattle.desk.proofs.Lending.{ref, Lent}
 
 -- the locals: the result is 0; those after i are the compiler's own
 abbrev ℓt : ℕ
@@ -119,7 +119,7 @@ module _ {M : Type 1} (𝓤 : URA M) (H : Heap 𝓤) (A : Atoms 𝓤) (W : Given
 
   -- what t owns, and what stands beside the table
   abbrev Ours : List (Item 𝓤)
-  Ours = ‵ (Lent 𝓤 H A W κ q b o γ ys room)
+  Ours = ‵ (Lent κ b o γ ys)
       ∷ Meeting.Beside reads taken usize (says usize place-in) 𝓤 H A W (κ, tt) (ref b o γ ys) (id, tt) (q, tt)
 
   exits : (i : ℕ) → i ≡ place-in ys id → i < 2 ^ 64 → ent 𝓤 (⋆ 𝓤 H A Ours) (Post (vint w64 i))

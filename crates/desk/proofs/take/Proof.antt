@@ -58,10 +58,10 @@ use Rattle.desk.proofs.place_of as place-of
 use Rattle.desk.proofs.place_of.Symbol as place-of-def
 use Rattle.desk.proofs.place_of.Symbol.{name as #place-of}
 use Rattle.desk.proofs.place_of.Met as place-of-thm
-use Rattle.desk.proofs.Looking.{taken, says, Lent, elem, opens, shuts}
+use Rattle.desk.proofs.Looking.{taken, says, elem, opens, shuts}
 use Rattle.desk.proofs.Meeting.{reads}
 use Rattle.desk.proofs.Meeting as Meeting
-use Rattle.desk.proofs.Lending.{ref, machine}
+use Rattle.desk.proofs.Lending.{ref, machine, Lent}
 
 -- the locals: the result is 0; those after i are the compiler's own
 abbrev ℓt : ℕ
@@ -150,7 +150,7 @@ module _ {M : Type 1} (𝓤 : URA M) (H : Heap 𝓤) (A : Atoms 𝓤) (W : Given
   Post = Meeting.Post reads taken S (says S slotOf) 𝓤 H A W (κ, tt) (ref b o γ ys) (id, tt) (q, tt)
 
   abbrev Lentₜ : Fml
-  Lentₜ = Lent 𝓤 H A W κ q b o γ ys room
+  Lentₜ = Lent κ b o γ ys
 
   -- what t owns, and what stands beside the table
   abbrev Beside : List (Item 𝓤)

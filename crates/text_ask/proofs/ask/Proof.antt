@@ -64,8 +64,8 @@ use Rattle.text_call.proofs.Request.Laws as B′
 use Rattle.desk.specs.Promises.{Promised}
 use Rattle.desk.proofs.Row.{R, table-ty, makes-answer, typed-answer}
 use Rattle.desk.proofs.Frame.{Addresses, of-types, env-of, Locals, held, holding, Within, spare, frame, enters, value as local′, field as field′, sets, leaves-within}
-use Rattle.desk.proofs.Lending.{ℓt, Lending, rref, wref, ref, machine, lent, Lends, lends}
-use Rattle.desk.proofs.Calls.{Owned, Lent as Shared, lent-out, taken-back}
+use Rattle.desk.proofs.Lending.{ℓt, Lending, rref, wref, ref, machine, Lent as Shared, lent, Lends, lends}
+use Rattle.desk.proofs.Calls.{Owned, lent-out, taken-back}
 use Rattle.desk.proofs.Asks.{Callee, calls, consults, says as learned}
 use Rattle.desk_reasons.proofs.why_asked as why
 use Rattle.desk_reasons.proofs.why_asked.Symbol as why-def
@@ -253,13 +253,13 @@ module _ {M : Type 1} (𝓤 : URA M) (H : Heap 𝓤) (A : Atoms 𝓤) (W : Given
 
   abbrev To-why : Lft → GName → Item 𝓤
   To-why κ′ γ′ =
-      (‵ (flft κ′ fullShare) ⊛ ‵ (Shared 𝓤 H A W mem run κ q b o γ ys room κ′ γ′)) ⊛ (‵ Rows ⊛ ‵ (flft κ₂ q₂))
+      (‵ (flft κ′ fullShare) ⊛ ‵ (Shared κ′ b o γ′ ys)) ⊛ (‵ Rows ⊛ ‵ (flft κ₂ q₂))
 
   goes-why : (κ′ : Lft) (γ′ : GName)
-      → ent 𝓤 (sep 𝓤 (sep 𝓤 (A .lft κ′ fullShare) (sem 𝓤 H A (Shared 𝓤 H A W mem run κ q b o γ ys room κ′ γ′)))
+      → ent 𝓤 (sep 𝓤 (sep 𝓤 (A .lft κ′ fullShare) (sem 𝓤 H A (Shared κ′ b o γ′ ys)))
       (sep 𝓤 (sem 𝓤 H A Rows) (A .lft κ₂ q₂))) (Says 𝓤 H A mem run .pre (to-why κ′ γ′, tt))
   goes-why κ′ γ′ =
-      qed W ((‵ (flft κ′ fullShare) ⊛ ‵ (Shared 𝓤 H A W mem run κ q b o γ ys room κ′ γ′))
+      qed W ((‵ (flft κ′ fullShare) ⊛ ‵ (Shared κ′ b o γ′ ys))
       ∷ (‵ Rows ⊛ ‵ (flft κ₂ q₂)) ∷ []) ∵ split ! $ move ! (2 ∷ []) $ split ! $
       -- [the rows; their token; t's token; the `&`]
       nothing ! $ move ! (2 ∷ 0 ∷ []) $ join ! $ move ! (2 ∷ 0 ∷ []) $ join ! $
