@@ -1,3 +1,4 @@
+-- The laws of desk, a file each; other crates may cite the public ones.
 pub mod Places
 pub mod Steps
 pub mod Row

@@ -1,1 +1,2 @@
+-- The definitions of desk, a file each.
 pub mod Promises

@@ -1,1 +1,2 @@
+-- The definitions of record_answers, a file each.
 pub mod Effects

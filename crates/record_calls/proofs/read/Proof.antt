@@ -1,4 +1,5 @@
--- `record_calls::read` meets its contract: a known record is shown. Assumes nothing.
+-- `record_calls::read` meets its contract: a known record is shown, and an unknown one is refused 1, which is the only
+-- check of a read. Assumes nothing.
 use mathlib.Core.Path.{_≡_, sym, _∙_}
 use mathlib.Core.Bool.{true, false}
 use Rattle.paper.specs.Verdicts.{isDone, firstOf}
