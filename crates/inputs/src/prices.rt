@@ -3,6 +3,9 @@ ghost use mathlib.Core.Path.{_≡_};
 ghost use Prim.Native.Nat.{_%_};
 ghost use lib.Dec.{eqb};
 ghost use Rattle.paper.specs.Ranges.{isPrice, isRate, gridOf, isGridPrice};
+use paper::GRID_OF_ONE;
+use paper::GRID_TO_TEN;
+use paper::LOT_TO_TEN;
 use paper::Price;
 use paper::Rate;
 
@@ -18,14 +21,7 @@ pub fn is_rate(bp: u64) -> bool
     bp <= Rate::MOST_BP
 }
 
-// "g = 100 units for lot 1, 10 for 2..10, 1 for 11..100": the first two, and the last lot of the second.
-pub const GRID_OF_ONE: u64 = 100;
-
-pub const GRID_TO_TEN: u64 = 10;
-
-pub const LOT_TO_TEN: u64 = 10;
-
-// It is above 0 whatever the lot, so a damaged record is judged on some grid.
+// "g = 100 units for lot 1, 10 for 2..10, 1 for 11..100". It is above 0 whatever the lot, so a damaged record is judged on some grid.
 pub fn grid_of(lot: u64) -> u64
     ensures { λ r. ⌜ r ≡ gridOf lot ⌝ }
 {

@@ -5,10 +5,10 @@
 // a move makes of the pair: a sum that the sequence of calls keeps in range, and not the rule. `narrower` takes bare
 // numbers, since the limits of a bond, which it serves too, are in hundredths of a per cent. A repo rate is a bare
 // number, which may be negative.
-use inputs::GRID_OF_ONE;
-use inputs::GRID_TO_TEN;
-use inputs::LOT_TO_TEN;
 use inputs::grid_of;
+use paper::GRID_OF_ONE;
+use paper::GRID_TO_TEN;
+use paper::LOT_TO_TEN;
 use paper::Limit;
 use paper::Limits;
 use paper::Moves;
