@@ -21,7 +21,7 @@ use Rattle.paper.specs.declared.Admission.{Admission}
 use Rattle.paper.specs.declared.Day.{Day}
 use Rattle.paper.specs.declared.Answer.{Answer}
 use Rattle.paper.specs.Numbers.{limitMost}
-use Rattle.paper.specs.Ranges.{within, gridOf, isPrice, isGridPrice, isLive, validLimits, isLimit, termAt, rateAt}
+use Rattle.paper.specs.Ranges.{within, gridOf, isPrice, isGridPrice, isLive, validLimits, isLimit, termAt, rateAt, rangeAt, bandAt}
 use Rattle.paper_desk.specs.Rates.{minimumOf}
 use Rattle.paper_desk.specs.Limits.{bandOf, Outward}
 use Rattle.paper.specs.PinnedValues.{recordFrom}
@@ -31,7 +31,7 @@ use Rattle.paper_desk.specs.Desk.{Call, admit, evaluate, quote, move, read, ope
 use Rattle.paper_desk.specs.History.{FreshTable, Event, isAdmission}
 use Rattle.paper_desk.specs.Sequences.{LastDay, noDay, onDay, lastEvaluated, standingNow, termNow, rangeAfter, rangeNow, bandNow}
 use Rattle.demands.specs.Demands.{FiguresHold, RatesHold, BandsInOrder}
-use Rattle.demands.specs.Order.{neverFalls, rangeAt, bandAt, ratesOf, rangesAround, holdsZero, atMost, slotAt, HoldsLive, InOrder}
+use Rattle.demands.specs.Order.{neverFalls, ratesOf, rangesAround, holdsZero, atMost, slotAt, HoldsLive, InOrder}
 use Rattle.paper.proofs.Logic.{not-true-and-false, and-left, and-right, and-both, each-of-three}
 use Rattle.paper_desk.proofs.LimitSizes.{valid-limit-statics}
 use Rattle.paper_desk.proofs.Level.{stepping}

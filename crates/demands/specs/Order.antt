@@ -15,7 +15,7 @@ use Rattle.paper.specs.declared.Term.{Term}
 use Rattle.paper.specs.declared.Record.{Record}
 use Rattle.paper.specs.Lists.{three}
 use Rattle.paper.specs.Numbers.{limitMost}
-use Rattle.paper.specs.Ranges.{within, isLive, noLimits, termAt, rateAt}
+use Rattle.paper.specs.Ranges.{within, isLive, termAt, rateAt, rangeAt, bandAt}
 use Rattle.paper_desk.specs.Rates.{minimumOf}
 use Rattle.paper_desk.specs.Desk.{Call, idOf, blank, step}
 use Rattle.demands.specs.Demands.{BandsInOrder}
@@ -27,13 +27,6 @@ unfoldable pub neverFalls : (numbers : List ℕ) → Bool
 neverFalls [] = true
 neverFalls (x ∷ []) = true
 neverFalls (x ∷ y ∷ rest) = leb x y && neverFalls (y ∷ rest)
-
--- the range of the level i + 1, and the band of a term
-abbrev pub rangeAt : Record → (i : ℕ) → Limits
-rangeAt r i = getD (r .ranges) i noLimits
-
-abbrev pub bandAt : Record → (term : ℕ) → Limits
-bandAt r k = getD (r .bands) k noLimits
 
 -- "the three rates"
 abbrev pub ratesOf : Record → List ℕ

@@ -18,7 +18,7 @@ use Rattle.paper.specs.Lists.{pick, three, every, some, those}
 use Rattle.paper.specs.Numbers.{millionthsInBp}
 use Rattle.paper.specs.Roundings.{down, up, halfUp, toGrid, lesserOf, greaterOf, grown, apart}
 use Rattle.paper.specs.Least.{first, least, leastRoot, leastTimes, leastMultiple}
-use Rattle.paper.specs.Ranges.{isPrice, isRate, isGridPrice, validStatics, tentativeTop, validTentative, validRow, wholeRows, validRows, validTerm, validDay, lastDay, isLimit, validLimits, validNear, validNearSeconds, validSession, validExternal, sound, validSlots, gridOf, staticsOf, rowAt, partsFrom, rowsOf, rowOf, unsigned, noTerm, noLimits, rateAt, noExternal}
+use Rattle.paper.specs.Ranges.{isPrice, isRate, isGridPrice, validStatics, tentativeTop, validTentative, validRow, wholeRows, validRows, validTerm, validDay, lastDay, isLimit, validLimits, validNear, validNearSeconds, validSession, validExternal, sound, validSlots, gridOf, staticsOf, rowAt, partsFrom, rowsOf, rowOf, unsigned, noTerm, noLimits, rateAt, rangeAt, bandAt, noExternal}
 use Rattle.paper_desk.specs.Evaluation.{rowPrice, rowWeight, roublesOf, traded, weights, worth, mean, closeOf, bestBid, lesserAsk, bestAsk, usedPair, bidOf, askOf, median, between, evaluationOf, dayRows, isCrossedRow, hasCrossedRow, rowFits, evaluationFits}
 use Rattle.paper_desk.specs.Rates.{modelOf, moveFrom, moveOf, weightOf, weighted, replacement, replaces, volatilityOf, leastStep, tentativeRate, tentativeRateByMove, tentativeRateOf, tentativeAfter, meetsRequirement, daysOf, minimumOf, covers, levelRate, modelled, unmodelled, figuresOf, moveTooLarge}
 use Rattle.paper_desk.specs.Limits.{limitOf, shifted, rangeLimit, rangeOf, farthest, spread, monitored, narrower, bandLimit, bandOf, crossed, deltaOf, oneMore, rangeMoved, bandMoved}
@@ -51,13 +51,10 @@ unfolding admissionZ givenWith roublesRow dayWith staticsOf admitted minimumOf e
 after m x = evaluated (admitted admissionZ) (dayWith m x) (roublesRow 1030000 0 0 5 [])
 
 upperAt : Record → (i : ℕ) → ℕ
-upperAt r i = getD (r .ranges) i noLimits .upper
+upperAt r i = rangeAt r i .upper
 
 lowerAt : Record → (i : ℕ) → ℕ
-lowerAt r i = getD (r .ranges) i noLimits .lower
-
-bandAt : Record → (k : ℕ) → Limits
-bandAt r k = getD (r .bands) k noLimits
+lowerAt r i = rangeAt r i .lower
 
 yesNo : Bool → ℕ
 yesNo true = 1
@@ -81,7 +78,7 @@ dayAnswer rows = numberOf (step (evaluate 7 (dayWith 0 noTerm) rows) (admitted a
 
 -- what the definitions give
 pub results : List (List ℕ)
-unfolding after Z upperAt lowerAt bandAt yesNo rows10 rows11 dayAnswer moved oneMore deltaOf rangeMoved bandMoved
+unfolding after Z upperAt lowerAt yesNo rows10 rows11 dayAnswer moved oneMore deltaOf rangeMoved bandMoved
     nearCleared isNear distance
 results =
     -- 1: r, s, tentative, the three rates

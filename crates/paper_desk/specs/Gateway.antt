@@ -10,7 +10,7 @@ use Rattle.paper.specs.declared.GivenStatics.{GivenStatics}
 use Rattle.paper.specs.declared.Verdict.{Verdict}
 use Rattle.paper.specs.declared.Verdict.the-variants.{AdmissionOutOfRange, OutOfRange}
 use Rattle.paper.specs.Lists.{pick}
-use Rattle.paper.specs.Numbers.{aheadMost, termDaysMost, repoLeast, repoMost, movesMost}
+use Rattle.paper.specs.Numbers.{levelLast, aheadMost, termDaysMost, repoLeast, repoMost, movesMost}
 use Rattle.paper.specs.Ranges.{within, withinZ, unsigned, isRate, isGridPrice, gridOf, staticsOf, validGiven, validTentative, validSide, sideOf}
 use Rattle.paper_desk.specs.Rates.{levelRate, minimumOf}
 use Rattle.paper_desk.specs.Limits.{rangeLimit, bandLimit}
@@ -90,7 +90,7 @@ gatewayAnswer v figure = pick (isDone v) (pos figure) (negℤ (pos (numberOf v))
 
 -- "a level's rate from tentative, m and level"; with isEWMA no it is the minimum
 unfoldable pub levelInRange : Statics → (tentative m level : ℕ) → Bool
-levelInRange st tentative m level = validTentative (st .h) tentative && leb m aheadMost && within 1 3 level
+levelInRange st tentative m level = validTentative (st .h) tentative && leb m aheadMost && within 1 levelLast level
 
 unfoldable pub levelFigure : Statics → (tentative m level : ℕ) → ℕ
 levelFigure st tentative m level = pick (st .ewma) (levelRate st tentative m level) (minimumOf st level)
