@@ -19,6 +19,9 @@ use Rattle.paper.specs.Verdicts.{isDone, firstOf}
 use Rattle.paper_desk.specs.Desk.{showing, usedBy, moveOn, evaluated, evaluateChecks}
 use Rattle.paper.proofs.Logic.{pick-true, pick-false}
 use Rattle.evaluation.specs.declared.PriceFigures.{PriceFigures}
+use Rattle.record_writing.specs.declared.Made.{Made}
+use Rattle.record_writing.specs.Evaluates as writing
+use Rattle.record_writing.specs.Evaluates.{madeOf}
 use Rattle.record_answers.specs.declared.Slot.{Slot}
 use Rattle.record_evaluation.specs.declared.Working.{Working}
 use Rattle.record_answers.specs.Effects.{isKnown, refusedEffect, judgedEffect, evaluateEffect}
@@ -60,23 +63,23 @@ module _ (s : Slot) (d : Day) (rows : List ℤ) where
         let b = p .begun in
         rw (b .known, b .valid, b .uncrossed, p .later, p .fits, t)
 
-    module _ {new : Record} {figures : PriceFigures} {ordered : Bool}
+    module _ {new : Made} {figures : PriceFigures} {ordered : Bool}
         (near : moveTooLarge (s .rec .statics) (moveOn (s .rec) rows) ≡ false)
-        (is : new ≡ evaluated (s .rec) d rows)
+        (is : new ≡ madeOf (evaluated (s .rec) d rows))
         (chosen : figures ≡ pricedOn (s .rec) rows .figures)
         (tested : ordered ≡ allThree (λ k. not (crossed (getD (new .bands) k noLimits)))) where
       bands : ordered ≡ allThree (λ k. not (crossed (getD (evaluated (s .rec) d rows .bands) k noLimits)))
       bands = rw is at tested
 
       pub day-crossed : not ordered ≡ true
-          → record { verdict = BandCrossed; rec = new; figures = figures } ≡ workedOf s d rows
+          → record { verdict = BandCrossed; made = new; figures = figures } ≡ workedOf s d rows
       unfolding workedOf evaluateChecks firstOf isDone isMade
       day-crossed t =
           let b = p .begun in
           rw (is, chosen, b .known, b .valid, b .uncrossed, p .later, p .fits, near, tested-false _ bands t)
 
       pub day-accepted : not ordered ≡ false
-          → record { verdict = Done; rec = new; figures = figures } ≡ workedOf s d rows
+          → record { verdict = Done; made = new; figures = figures } ≡ workedOf s d rows
       unfolding workedOf evaluateChecks firstOf isDone isMade
       day-accepted t =
           let b = p .begun in
@@ -95,14 +98,14 @@ module _ (s : Slot) (d : Day) (rows : List ℤ) where
       go true = refl
       go false = refl
 
-  -- where it is 0 or 9 the record is made
+  -- where it is 0 or 9 what the paper writes is made
   pub worked-made : isMade first ≡ true → workedOf s d rows ≡ madeWith s d rows first
   unfolding workedOf
   worked-made e = pick-true (isMade first) _ _ e
 
-  worked-record : isDone first ≡ true → workedOf s d rows .rec ≡ evaluated (s .rec) d rows
+  done-made : isDone first ≡ true → workedOf s d rows .made ≡ madeOf (evaluated (s .rec) d rows)
   unfolding isMade
-  worked-record e = ap (λ (w : Working). w .rec) (worked-made (rw e))
+  done-made e = ap (λ (w : Working). w .made) (worked-made (rw e))
 
   pub day-refused : isDone (workedOf s d rows .verdict) ≡ false
       → refusedEffect (s .count) (workedOf s d rows .verdict) ≡ evaluateEffect s d rows
@@ -110,10 +113,10 @@ module _ (s : Slot) (d : Day) (rows : List ℤ) where
   day-refused n =
       rw worked-verdict (sym (pick-false (isDone first) _ _ (ap isDone (sym worked-verdict) ∙ n)))
 
-  pub day-stored : isDone (workedOf s d rows .verdict) ≡ true
-      → record { at = s .at; rec = workedOf s d rows .rec; answer = showing (workedOf s d rows .rec) }
-      ≡ evaluateEffect s d rows
+  pub day-stored : {new : Record} → isDone (workedOf s d rows .verdict) ≡ true
+      → writing.Evaluates (s .rec) d (workedOf s d rows .made) new
+      → record { at = s .at; rec = new; answer = showing new } ≡ evaluateEffect s d rows
   unfolding evaluateEffect judgedEffect
-  day-stored e =
+  day-stored e written =
       let done : isDone first ≡ true = ap isDone (sym worked-verdict) ∙ e in
-      rw (worked-record done) (sym (pick-true (isDone first) _ _ done))
+      rw (written rows (done-made done)) (sym (pick-true (isDone first) _ _ done))

@@ -18,6 +18,7 @@ use Rattle.paper_desk.specs.Desk.{blank, usedBy, evaluated, evaluateChecks}
 use Rattle.evaluation.specs.declared.PriceFigures.{PriceFigures}
 use Rattle.evaluation.specs.declared.Priced.{Priced}
 use Rattle.evaluation.specs.Evaluation.{pricedOf}
+use Rattle.record_writing.specs.Evaluates.{madeOf}
 use Rattle.record_answers.specs.declared.Slot.{Slot}
 use Rattle.record_evaluation.specs.declared.Working.{Working}
 use Rattle.record_answers.specs.Effects.{isKnown}
@@ -31,12 +32,12 @@ noFigures = record { weight = 0; close = 0; bid = 0; ask = 0 }
 
 -- a number before 9 leaves nothing made
 abbrev pub unmadeBy : Verdict → Working
-unmadeBy v = record { verdict = v; rec = blank; figures = noFigures }
+unmadeBy v = record { verdict = v; made = madeOf blank; figures = noFigures }
 
--- and behind it the record stands, whether its bands are crossed or not
+-- and behind it the record that the paper writes is made, whether its bands are crossed or not
 abbrev pub madeWith : Slot → Day → (rows : List ℤ) → Verdict → Working
 madeWith s d rows v =
-    record { verdict = v; rec = evaluated (s .rec) d rows; figures = pricedOn (s .rec) rows .figures }
+    record { verdict = v; made = madeOf (evaluated (s .rec) d rows); figures = pricedOn (s .rec) rows .figures }
 
 -- whether a verdict leaves a record made: 0 or 9
 unfoldable pub isMade : Verdict → Bool

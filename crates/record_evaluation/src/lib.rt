@@ -17,10 +17,14 @@ use evaluation::Priced;
 use paper::Day;
 use paper::External;
 use paper::Limits;
+use paper::Price;
+use paper::Rate;
 use paper::Record;
+use paper::Tentative;
 use paper::Verdict;
 use record_answers::Effect;
 use record_answers::Slot;
+use record_writing::Made;
 
 // 6 of a day: its numbers, and its rows as they were gathered.
 fn valid_day(d: Day, gathered: Gathered) -> bool
@@ -48,10 +52,11 @@ fn in_order(bands: [Limits; Record::TERMS]) -> bool
 }
 
 // What an evaluation comes to before it is answered: the first number that applies, or done, and where that is done or
-// 9 the record that was made, with the figures that its price was chosen from; else a blank and zeros.
+// 9 what was made of the record, with the figures that its price was chosen from; else zeros. The record is not written
+// yet, since of a refusal and of why nothing is.
 pub struct Working {
     pub verdict: Verdict,
-    pub rec: Record,
+    pub made: Made,
     pub figures: PriceFigures,
 }
 
@@ -59,10 +64,20 @@ pub struct Working {
 fn unmade(first: Verdict) -> Working
     ensures { λ w. ⌜ w ≡ unmadeBy first ⌝ }
 {
-    let rec = record_answers::blank();
+    let price = Price { units: 0 };
+    let tentative = Tentative { bp: 0, age: 0 };
+    let none = Limits { lower: 0, upper: 0 };
+    let made = Made {
+        p1: price,
+        s: 0,
+        tentative,
+        rates: [Rate { bp: 0 }; Record::LEVELS],
+        ranges: [none; Record::LEVELS],
+        bands: [none; Record::TERMS],
+    };
     Working {
         verdict: first,
-        rec,
+        made,
         figures: PriceFigures {
             weight: 0,
             close: 0,
@@ -72,7 +87,7 @@ fn unmade(first: Verdict) -> Working
     }
 }
 
-// 8, 9 and the record that is made, at the evaluation of a day that is not refused before.
+// 8, 9 and what is made of the record, at the evaluation of a day that is not refused before.
 fn worked_at(s: Slot, d: Day, e: Priced) -> Working
     requires { ⌜ sound (s .rec) ≡ true ⌝ }
     requires { ⌜ validDayNumbers d ≡ true ⌝ }
@@ -91,19 +106,19 @@ fn worked_at(s: Slot, d: Day, e: Priced) -> Working
     if rates::move_too_large(st, change) {
         return unmade(Verdict::MoveTooLarge);
     }
-    let made = rates::figures_of(st, d.b, d.m, rates[0], change, r.s, tentative);
-    let rec = record_writing::evaluated(r, d, p, made);
-    let bands = rec.bands;
+    let f = rates::figures_of(st, d.b, d.m, rates[0], change, r.s, tentative);
+    let made = record_writing::made_at(r, d, p, f);
+    let bands = made.bands;
     if !in_order(bands) {
         return Working {
             verdict: Verdict::BandCrossed,
-            rec,
+            made,
             figures,
         };
     }
     Working {
         verdict: Verdict::Done,
-        rec,
+        made,
         figures,
     }
 }
@@ -148,6 +163,8 @@ pub fn evaluated(s: Slot, d: Day, rows: &[i64]) -> Effect
     if !v.is_done() {
         return record_answers::refused(count, v);
     }
-    let rec = w.rec;
+    let r = s.rec;
+    let made = w.made;
+    let rec = record_writing::evaluated(r, d, made);
     record_answers::written(s.at, rec)
 }

@@ -114,12 +114,11 @@ fn is_same(v: Verdict, w: Verdict) -> bool
     v.number() == w.number()
 }
 
-// What is at fault in a refusal. Of a crossed band (9) the record that was made has the bands.
-pub fn fault_of(v: Verdict, d: Day, rows: &[i64], new: Record) -> Fault
+// What is at fault in a refusal. Of a crossed band (9) the bands are those that were made.
+pub fn fault_of(v: Verdict, d: Day, rows: &[i64], bands: [Limits; Record::TERMS]) -> Fault
     requires { ⌜ Refused v (now rows) ⌝ }
-    ensures { λ r. ⌜ r ≡ faultWith v d (now (rows .entry)) (new .bands) ⌝ }
+    ensures { λ r. ⌜ r ≡ faultWith v d (now (rows .entry)) bands ⌝ }
 {
-    let bands = new.bands;
     if is_same(v, Verdict::OutOfRange) {
         return out_of_range(d, rows);
     }

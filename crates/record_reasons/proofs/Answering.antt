@@ -43,14 +43,14 @@ module _ (s : Slot) (d : Day) (rows : List ℤ) where
   rows-refused = rw (worked-verdict s d rows) (refused-rows (isKnown s) (s .rec) d rows)
 
   -- where 9 is the number the bands were made
-  bands-made : isSame first verdict.BandCrossed ≡ true → w .rec .bands ≡ evaluated (s .rec) d rows .bands
+  bands-made : isSame first verdict.BandCrossed ≡ true → w .made .bands ≡ evaluated (s .rec) d rows .bands
   unfolding isMade isSame
-  bands-made e = ap (λ (x : Working). x .rec .bands) (worked-made s d rows (or-right (isDone first) _ e))
+  bands-made e = ap (λ (x : Working). x .made .bands) (worked-made s d rows (or-right (isDone first) _ e))
 
-  fault-is : (f : Fault) → f ≡ faultWith (w .verdict) d rows (w .rec .bands) → f ≡ faultOf first (s .rec) d rows
-  fault-is f e = e ∙ rw (worked-verdict s d rows) (fault-with first (s .rec) d rows (w .rec .bands) bands-made)
+  fault-is : (f : Fault) → f ≡ faultWith (w .verdict) d rows (w .made .bands) → f ≡ faultOf first (s .rec) d rows
+  fault-is f e = e ∙ rw (worked-verdict s d rows) (fault-with first (s .rec) d rows (w .made .bands) bands-made)
 
-  pub why-refused : (f : Fault) → isDone (w .verdict) ≡ false → f ≡ faultWith (w .verdict) d rows (w .rec .bands)
+  pub why-refused : (f : Fault) → isDone (w .verdict) ≡ false → f ≡ faultWith (w .verdict) d rows (w .made .bands)
       → record { verdict = w .verdict; fault = f; reasons = noReasons } ≡ whySlot s d rows
   unfolding whySlot whyOf
   why-refused f n e =
@@ -69,15 +69,15 @@ module _ (s : Slot) (d : Day) (rows : List ℤ) where
     unfolding isMade
     made = worked-made s d rows (rw done)
 
-    pub was-accepted : Accepted (s .rec) d (w .rec)
+    pub was-accepted : Accepted (s .rec) d (w .made)
     was-accepted = rw made (accepted s d rows done)
 
-    reasons-said : reasonsAt (s .rec) d (w .rec .p1 .units) (w .figures) ≡ reasonsOf (s .rec) d rows
+    reasons-said : reasonsAt (s .rec) d (w .made .p1 .units) (w .figures) ≡ reasonsOf (s .rec) d rows
     unfolding evaluated
     reasons-said = rw made (reasons-are (s .rec) d rows)
 
-    pub why-accepted : (f : Fault) (y : Reasons) → f ≡ faultWith (w .verdict) d rows (w .rec .bands)
-        → y ≡ reasonsAt (s .rec) d (w .rec .p1 .units) (w .figures)
+    pub why-accepted : (f : Fault) (y : Reasons) → f ≡ faultWith (w .verdict) d rows (w .made .bands)
+        → y ≡ reasonsAt (s .rec) d (w .made .p1 .units) (w .figures)
         → record { verdict = w .verdict; fault = f; reasons = y } ≡ whySlot s d rows
     unfolding whySlot whyOf
     why-accepted f y g r =

@@ -33,7 +33,8 @@ use Rattle.record_soundness.proofs.Facts.{sound-facts}
 use Rattle.inputs.proofs.Facts.{day-facts}
 use Rattle.rates.specs.Asked.{FigureRanges, tentativeBound}
 use Rattle.rates.proofs.Statics.{sound-figures-in-ranges, within-tentative-bound}
-use Rattle.record_writing.specs.Evaluates.{moveTo, figuresAt}
+use Rattle.record_writing.specs.declared.Made.{Made}
+use Rattle.record_writing.specs.Evaluates.{moveTo, figuresAt, madeOf}
 use Rattle.record_answers.specs.declared.Slot.{Slot}
 use Rattle.record_answers.specs.Effects.{isKnown}
 use Rattle.record_evaluation.specs.Workings.{pricedOn}
@@ -75,11 +76,12 @@ reasons-are r d rows = rw (reason-from (r .p1 .units) (usedBy r) (map roublesOf 
 -- WHERE NO NUMBER APPLIES
 pub accepted : (s : Slot) (d : Day) (rows : List ℤ)
     → isDone (firstOf (evaluateChecks (isKnown s) (s .rec) d rows)) ≡ true
-    → Accepted (s .rec) d (evaluated (s .rec) d rows)
+    → Accepted (s .rec) d (madeOf (evaluated (s .rec) d rows))
 unfolding evaluateChecks refusals every isDone evaluationFits priceOn evaluated moveTo moveOn figuresAt figuresOn
 accepted s d rows e = go (done-means-none-applies (evaluateChecks (isKnown s) (s .rec) d rows) refl e)
   where
-    go : NoneApplies (evaluateChecks (isKnown s) (s .rec) d rows) → Accepted (s .rec) d (evaluated (s .rec) d rows)
+    go : NoneApplies (evaluateChecks (isKnown s) (s .rec) d rows)
+        → Accepted (s .rec) d (madeOf (evaluated (s .rec) d rows))
     go (also k (also v (also c (also l (also f (also m (also b none))))))) =
         let valid = day-valid-parts d rows (not-false _ v) in
         record {
@@ -110,7 +112,7 @@ tentative-valid : (r : Record) → sound r ≡ true → validTentative (r .stati
 unfolding sound
 tentative-valid r v = search (v, and-left, and-right) depth 40
 
-module _ (old : Record) (d : Day) (new : Record) (a : Accepted old d new) (on : old .statics .ewma ≡ true) where
+module _ (old : Record) (d : Day) (new : Made) (a : Accepted old d new) (on : old .statics .ewma ≡ true) where
   abbrev made : Figures
   made = modelled (old .statics) (d .b) (d .m) (rateAt (old .rates) 0) (moveTo old (new .p1 .units)) (old .s)
       (old .tentative)
@@ -148,8 +150,8 @@ module _ (old : Record) (d : Day) (new : Record) (a : Accepted old d new) (on : 
       ≡ getD (forLevels (λ l. record { bp = levelRate (old .statics) (new .tentative .bp) (d .m) l })) i noRate .bp
   rates-are-level-rates i = ap (λ (rs : List Rate). getD rs i noRate .bp) rates-made
 
--- the reason of a level, of the record that was made
-pub level-at : (old : Record) (d : Day) (new : Record) → Accepted old d new → (l i : ℕ)
+-- the reason of a level, of what was made of the record
+pub level-at : (old : Record) (d : Day) (new : Made) → Accepted old d new → (l i : ℕ)
     → levelReason (old .statics) (new .tentative .bp) (d .m) l (getD (new .rates) i noRate .bp)
     ≡ levelAt old d (new .p1 .units) l i
 unfolding levelAt

@@ -1,5 +1,5 @@
 -- The reasons of an accepted evaluation, by what is in hand once it is worked out: the price, the figures that it was
--- chosen from, and the record that was made. Assumes nothing.
+-- chosen from, and what was made of the record. Assumes nothing.
 use mathlib.Core.Path.{_≡_}
 use mathlib.Core.Bool.{Bool, true, false, not, _&&_}
 use Prim.Native.Nat.{ℕ, _*_}
@@ -12,6 +12,7 @@ use Rattle.paper.specs.Ranges.{isPrice, validDayNumbers, rateAt, sound}
 use Rattle.paper_desk.specs.Evaluation.{between}
 use Rattle.paper_desk.specs.Rates.{modelOf, replacementWins, tentativeRateOf, moveTooLarge}
 use Rattle.evaluation.specs.declared.PriceFigures.{PriceFigures}
+use Rattle.record_writing.specs.declared.Made.{Made}
 use Rattle.record_writing.specs.Evaluates.{moveTo, figuresAt}
 use Rattle.paper_reasons.specs.declared.PriceReason.{PriceReason}
 use Rattle.paper_reasons.specs.declared.PriceReason.the-variants as price
@@ -76,8 +77,8 @@ modelledWith x r d p =
 abbrev pub reasonsAt : Record → Day → (p : ℕ) → PriceFigures → Reasons
 reasonsAt r d p f = modelledWith (reasonFrom (r .p1 .units) f) r d p
 
--- what is known of the record before and the one after, where no number applies
-pub record Accepted (old : Record) (d : Day) (new : Record) : Type 0 where
+-- what is known of the record before and of what was made of it, where no number applies
+pub record Accepted (old : Record) (d : Day) (new : Made) : Type 0 where
   pub sound-record : sound old ≡ true
   pub day : validDayNumbers d ≡ true
   pub price : isPrice (new .p1 .units) ≡ true

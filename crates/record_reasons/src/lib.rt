@@ -39,9 +39,10 @@ pub fn why(s: Slot, d: Day, rows: &[i64]) -> Why
     let old = s.rec;
     let w = record_evaluation::worked(s, d, rows);
     let verdict = w.verdict;
-    let new = w.rec;
+    let new = w.made;
+    let bands = new.bands;
     let figures = w.figures;
-    let fault = fault_of(verdict, d, rows, new);
+    let fault = fault_of(verdict, d, rows, bands);
     if !verdict.is_done() {
         let reasons = no_reasons();
         return Why {

@@ -28,6 +28,7 @@ use rates::tentative::tentative_rate_of;
 use rates::volatility::choose;
 use rates::volatility::model_of;
 use rates::volatility::move_of;
+use record_writing::Made;
 
 // "(close, bid, ask, or yesterday)"
 fn price_reason(previous: Price, f: PriceFigures) -> PriceReason
@@ -138,8 +139,8 @@ fn unmodelled(price: PriceReason) -> Reasons
     }
 }
 
-// With isEWMA yes, of the record before and the one that was made.
-fn modelled(price: PriceReason, old: Record, d: Day, new: Record) -> Reasons
+// With isEWMA yes, of the record before and what was made of it.
+fn modelled(price: PriceReason, old: Record, d: Day, new: Made) -> Reasons
     requires { ⌜ Accepted old d new ⌝ }
     requires { ⌜ old .statics .ewma ≡ true ⌝ }
     ensures { λ r. ⌜ r ≡ modelledWith price old d (new .p1 .units) ⌝ }
@@ -172,9 +173,9 @@ fn modelled(price: PriceReason, old: Record, d: Day, new: Record) -> Reasons
     }
 }
 
-// The reasons of an evaluation that is accepted: of the record before, the record that was made, and the figures that
-// its price was chosen from.
-pub fn reasons_of(old: Record, d: Day, new: Record, figures: PriceFigures) -> Reasons
+// The reasons of an evaluation that is accepted: of the record before, what was made of it, and the figures that its
+// price was chosen from.
+pub fn reasons_of(old: Record, d: Day, new: Made, figures: PriceFigures) -> Reasons
     requires { ⌜ Accepted old d new ⌝ }
     ensures { λ r. ⌜ r ≡ reasonsAt old d (new .p1 .units) figures ⌝ }
 {

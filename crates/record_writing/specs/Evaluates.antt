@@ -1,5 +1,5 @@
--- What an evaluation writes, by its price: the paper works from the day's rows, of which the price is all that a record
--- takes. Assumes nothing.
+-- What an evaluation makes and writes, by its price: the paper works from the day's rows, of which the price is all
+-- that a record takes. Assumes nothing.
 use mathlib.Core.Path.{_≡_}
 use mathlib.Core.Bool.{true}
 use mathlib.Core.List.{List}
@@ -13,6 +13,7 @@ use Rattle.paper.specs.Ranges.{isPrice, sound, validDayNumbers, rateAt}
 use Rattle.paper_desk.specs.Rates.{moveOf, figuresOf}
 use Rattle.paper_desk.specs.Desk.{priceOn, evaluated}
 use Rattle.paper.specs.declared.Figures.{Figures}
+use Rattle.record_writing.specs.declared.Made.{Made}
 
 -- the move to P and the figures of 7.1 at P
 unfoldable pub moveTo : Record → (p : ℕ) → ℕ
@@ -28,6 +29,22 @@ pub record Evaluating (r : Record) (d : Day) (p : Price) (f : Figures) : Type 0 
   pub price : isPrice (p .units) ≡ true
   pub figures : f ≡ figuresAt r d (p .units)
 
--- o is the record after a day of any rows whose evaluation is p
-abbrev pub Evaluates : (before : Record) → Day → (price : ℕ) → (after : Record) → Type 0
-Evaluates r d p o = (rows : List ℤ) → priceOn r rows ≡ p → o ≡ evaluated r d rows
+-- what an evaluation made of the record after it
+abbrev pub madeOf : (after : Record) → Made
+madeOf o =
+    record {
+      p1 = o .p1;
+      s = o .s;
+      tentative = o .tentative;
+      rates = o .rates;
+      ranges = o .ranges;
+      bands = o .bands;
+    }
+
+-- m is what a day of any rows makes whose evaluation is p
+abbrev pub Makes : (before : Record) → Day → (price : ℕ) → Made → Type 0
+Makes r d p m = (rows : List ℤ) → priceOn r rows ≡ p → m ≡ madeOf (evaluated r d rows)
+
+-- o is the record after a day of any rows that makes m
+abbrev pub Evaluates : (before : Record) → Day → Made → (after : Record) → Type 0
+Evaluates r d m o = (rows : List ℤ) → m ≡ madeOf (evaluated r d rows) → o ≡ evaluated r d rows

@@ -11,7 +11,7 @@ ghost use Rattle.paper_desk.specs.Limits.{rangeOf, bandOf, countOf, rangeMoved,
 ghost use Rattle.paper_desk.specs.Alerts.{nearCleared};
 ghost use Rattle.paper_desk.specs.Desk.{admitted, nearOn, quoted, moved, eveningOpened};
 ghost use Rattle.record_writing.specs.Asked.{Admitting, RangesAsked, BandsAsked, ShiftsAsked};
-ghost use Rattle.record_writing.specs.Evaluates.{Evaluating, Evaluates};
+ghost use Rattle.record_writing.specs.Evaluates.{Evaluating, Makes, Evaluates};
 ghost use Rattle.record_writing.specs.Receives.{Receives};
 use paper::Admission;
 use paper::Day;
@@ -145,33 +145,66 @@ fn bands_of(
 
 // ---- an evaluation
 
-// "An evaluation clears both counts, all near seconds and the last quote second (to 0)." The security is then live.
-pub fn evaluated(r: Record, d: Day, p: Price, f: Figures) -> Record
+// What an evaluation works out, under the record's own names: its price, the figures of 7.1 and the limits. All else of
+// a record it keeps, clears or takes from the day, so that a call that only asks need not write a record.
+pub struct Made {
+    pub p1: Price,
+    pub s: u64,
+    pub tentative: Tentative,
+    pub rates: [Rate; Record::LEVELS],
+    pub ranges: [Limits; Record::LEVELS],
+    pub bands: [Limits; Record::TERMS],
+}
+
+// What a day makes of a record at the evaluation P, with the figures at P.
+pub fn made_at(r: Record, d: Day, p: Price, f: Figures) -> Made
     requires { ⌜ Evaluating r d p f ⌝ }
-    ensures { λ o. ⌜ Evaluates r d (p .units) o ⌝ }
+    ensures { λ m. ⌜ Makes r d (p .units) m ⌝ }
 {
     let statics = r.statics;
-    let external = r.external;
-    let earlier = r.p1;
     let tentative = f.tentative;
     let rates = f.rates;
     let terms = d.terms;
     let moves = Moves { upper: 0, lower: 0 };
     let ranges = ranges_of(statics, p, rates);
     let bands = bands_of(statics, p, rates[0], moves, terms);
+    Made {
+        p1: p,
+        s: f.s,
+        tentative,
+        rates,
+        ranges,
+        bands,
+    }
+}
+
+// "An evaluation clears both counts, all near seconds and the last quote second (to 0)." The security is then live.
+pub fn evaluated(r: Record, d: Day, made: Made) -> Record
+    ensures { λ o. ⌜ Evaluates r d made o ⌝ }
+{
+    let statics = r.statics;
+    let external = r.external;
+    let earlier = r.p1;
+    let later = made.p1;
+    let tentative = made.tentative;
+    let rates = made.rates;
+    let ranges = made.ranges;
+    let bands = made.bands;
+    let terms = d.terms;
+    let cleared = Moves { upper: 0, lower: 0 };
     Record {
         id: r.id,
         statics,
         standing: Standing::Live(d.day),
-        p1: p,
+        p1: later,
         p2: earlier,
-        s: f.s,
+        s: made.s,
         tentative,
         rates,
         ranges,
         terms,
         bands,
-        moves,
+        moves: cleared,
         near: [NearSeconds {
             top: Near::Not,
             bottom: Near::Not,

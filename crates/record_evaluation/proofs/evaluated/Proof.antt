@@ -24,16 +24,28 @@ returns c =
     (c .before .if1 .taken) in
     c .refused .ensures ∙ rw (w .worked .ensures) (day-refused _ _ _ refused)
 
+evaluated-requires : tie.Need-evaluated-requires
+evaluated-requires c κs = search needs
+
 written-requires : tie.Need-written-requires
 written-requires c κs = search needs
 
 returns-2 : tie.Need-returns-2
 returns-2 c =
-    let w = c .before .before .before .before in
-    let done = tested-true _ (rw (w .worked .ensures) at (c .before .before .before .is-done .ensures))
-    (c .before .before .if1 .left) in
-    c .written .ensures ∙ rw (w .worked .ensures) (day-stored _ _ _ done)
+    let accepted = c .before .before .before .before in
+    let w = accepted .before .before in
+    let done = tested-true _ (rw (w .worked .ensures) at (accepted .before .is-done .ensures)) (accepted .if1 .left) in
+    c .written .ensures
+    ∙ day-stored _ _ _ done (rw (w .worked .ensures) at (c .before .evaluated .ensures))
 
 pub evaluated-spec : {M : Type 1} → statement M
 evaluated-spec =
-    tie.close (tie.spec worked-requires is-done-requires refused-requires returns written-requires returns-2)
+    tie.close
+    (tie.spec
+    worked-requires
+    is-done-requires
+    refused-requires
+    returns
+    evaluated-requires
+    written-requires
+    returns-2)

@@ -59,9 +59,9 @@ figures-of-requires c κs =
     let ranges = sound-figures-in-ranges _ _ (s .pre .0) (day-facts (s .args .d) (s .pre .1 .0) .m-most) in
     (ranges, sym (test .before .move-too-large .ensures) ∙ test .if1 .left)
 
-evaluated-requires : tie.Need-evaluated-requires
+made-at-requires : tie.Need-made-at-requires
 unfolding figuresAt moveTo
-evaluated-requires c κs =
+made-at-requires c κs =
     let s = c .before .before .before .before .before .before .before .before .before .before .before .before .before in
     record {
       sound-record = s .pre .0;
@@ -77,7 +77,7 @@ returns-2 : tie.Need-returns-2
 returns-2 c rows k e =
     let m = c .before .before .before .before .before .before in
     let held = sym (move-tested (m .before) rows e) ∙ m .if1 .left in
-    let made = c .before .before .before .evaluated .ensures rows (price-is (m .before .before) rows e) in
+    let made = c .before .before .before .made-at .ensures rows (price-is (m .before .before) rows e) in
     day-crossed _ _ rows k held made (sym (ap (λ (x : Priced). x .figures) e)) (c .before .in-order .ensures) (c .if2
     .taken)
 
@@ -85,7 +85,7 @@ returns-3 : tie.Need-returns-3
 returns-3 c rows k e =
     let m = c .before .before .before .before .before .before in
     let held = sym (move-tested (m .before) rows e) ∙ m .if1 .left in
-    let made = c .before .before .before .evaluated .ensures rows (price-is (m .before .before) rows e) in
+    let made = c .before .before .before .made-at .ensures rows (price-is (m .before .before) rows e) in
     day-accepted _ _ rows k held made (sym (ap (λ (x : Priced). x .figures) e)) (c .before .in-order .ensures) (c .if2
     .left)
 
@@ -99,7 +99,7 @@ worked-at-spec =
     returns
     array-copy-out-figures-of
     figures-of-requires
-    evaluated-requires
+    made-at-requires
     in-order-requires
     returns-2
     returns-3)

@@ -22,7 +22,7 @@ is-same-requires-2 c κs = search needs
 
 first-row-requires : tie.Need-first-row-requires
 first-row-requires c κs =
-    let valid = c .before .before .before .before .before .pre .crossed (sym (c .before .is-same2 .ensures) ∙ c .if2
+    let valid = c .before .before .before .before .pre .crossed (sym (c .before .is-same2 .ensures) ∙ c .if2
     .taken) in
     (whole-in-sevens _ (valid-whole _ valid), every-true _)
 
@@ -40,7 +40,7 @@ is-same-requires-3 c κs = search needs
 
 first-row-requires-2 : tie.Need-first-row-requires-2
 first-row-requires-2 c κs =
-    let valid = c .before .before .before .before .before .before .before .pre .beyond (sym (c .before .is-same3
+    let valid = c .before .before .before .before .before .before .pre .beyond (sym (c .before .is-same3
     .ensures) ∙ c .if3 .taken) in
     (whole-in-sevens _ (valid-whole _ valid), valid-every _ valid)
 
