@@ -1,6 +1,7 @@
 // Document 01, "What the desk covers": a record with a field outside its range, order, multiple of h or grid "counts as
 // no such id". `sound` is judged whatever a lent table holds.
 ghost use mathlib.Core.Path.{_≡_};
+ghost use mathlib.Core.Bool.{_&&_};
 ghost use lib.ListN.{getD};
 ghost use Rattle.paper.specs.Lists.{allThree};
 ghost use Rattle.paper.specs.Ranges.{isLive, lastDay, isRate, noRate, gridOf, isLimit, validLimits, noLimits, validNear, validNearSeconds, notNear, validSession, validExternal, sound, validSlots, soundFigures};
@@ -65,11 +66,21 @@ pub fn valid_limits(lot: u64, x: Limits) -> bool
     is_limit(lot, x.lower) & is_limit(lot, x.upper)
 }
 
-// Three ranges, or three bands.
-fn valid_three_limits(lot: u64, limits: [Limits; Record::TERMS]) -> bool
-    ensures { λ r. ⌜ r ≡ allThree (λ i. validLimits (gridOf lot) (getD limits i noLimits)) ⌝ }
+// The three ranges and the three bands, in one function, so that the lot is asked for its grid once (W-214).
+fn valid_ranges_and_bands(
+    lot: u64,
+    ranges: [Limits; Record::LEVELS],
+    bands: [Limits; Record::TERMS],
+) -> bool
+    ensures { λ r. ⌜ r ≡ (allThree (λ i. validLimits (gridOf lot) (getD ranges i noLimits))
+        && allThree (λ k. validLimits (gridOf lot) (getD bands k noLimits))) ⌝ }
 {
-    valid_limits(lot, limits[0]) & valid_limits(lot, limits[1]) & valid_limits(lot, limits[2])
+    valid_limits(lot, ranges[0])
+        & valid_limits(lot, ranges[1])
+        & valid_limits(lot, ranges[2])
+        & valid_limits(lot, bands[0])
+        & valid_limits(lot, bands[1])
+        & valid_limits(lot, bands[2])
 }
 
 fn valid_near(near: Near) -> bool
@@ -130,9 +141,13 @@ fn sound_figures(r: Record) -> bool
     false
 }
 
+// The limits, terms and near seconds are taken out of the record only where its figures are sound.
 pub fn sound(r: Record) -> bool
     ensures { λ t. ⌜ t ≡ sound r ⌝ }
 {
+    if !sound_figures(r) {
+        return false;
+    }
     let lot = r.statics.lot;
     let rates = r.rates;
     let ranges = r.ranges;
@@ -141,11 +156,9 @@ pub fn sound(r: Record) -> bool
     let near = r.near;
     let session = r.session;
     let external = r.external;
-    sound_figures(r)
-        & valid_rates(rates)
-        & valid_three_limits(lot, ranges)
+    valid_rates(rates)
+        & valid_ranges_and_bands(lot, ranges, bands)
         & valid_terms(terms)
-        & valid_three_limits(lot, bands)
         & (r.moves.upper <= Record::MOVES_MOST)
         & (r.moves.lower <= Record::MOVES_MOST)
         & valid_three_near(near)
