@@ -10,15 +10,13 @@ use prog.Routine.{Routine}
 use prog.Wp.{Heap}
 use ghost.Atoms.{Atoms}
 use contract.Conj.{conj, conjL, conjR}
-use contract.Lifetimes.{Lfts}
 use contract.Monad.{Fun, fact, factI, fact-use}
 use denote.Ref.{now}
-use denote.Triple.Entry.{Args, Res}
-use denote.Triple.Clauses.{Clauses, Ended, AtExit}
 use Rattle.paper.specs.declared.Record.{Record}
 use Rattle.paper.specs.declared.Answer.{Answer}
 use Rattle.paper_desk.specs.Desk.{Call}
 use Rattle.desk.specs.Promises.{Promised}
+use Rattle.desk.specs.Determined.{Determined}
 use Rattle.desk.proofs.admit as admit
 use Rattle.desk.proofs.evaluate as evaluate
 use Rattle.desk.proofs.evaluate_asked as evaluate-asked
@@ -35,14 +33,6 @@ pub promised-same : (c : Call) (t : List Record) (r r′ : Answer) (u u′ : Lis
 promised-same c t r r′ u u′ p p′ = (p .answer ∙ sym (p′ .answer), p .table ∙ sym (p′ .table))
 
 module _ {M : Type 1} (𝓤 : URA M) where
-  -- what the clauses c of T ensure determines the result, and what is left of the parameters at exit
-  abbrev pub Determined : {X : Type 0} (T : Ended) → Clauses 𝓤 T
-      → ((κs : Lfts (T .signature .lifetimes)) → AtExit T κs → X) → Type 1
-  Determined T c left =
-      (κs : Lfts (T .signature .lifetimes)) (a : Args (T .signature) κs) (g : c κs a .ghost)
-      (r r′ : Res (T .signature) κs) (e e′ : AtExit T κs)
-      → ent 𝓤 (conj 𝓤 (c κs a .ensures g r e) (c κs a .ensures g r′ e′)) (fact 𝓤 ((r ≡ r′) × (left κs e ≡ left κs e′)))
-
   pub together : (φ ψ χ : Type 0) → (φ → ψ → χ) → ent 𝓤 (conj 𝓤 (fact 𝓤 φ) (fact 𝓤 ψ)) (fact 𝓤 χ)
   together φ ψ χ k =
       fact-use 𝓤 φ (conjL 𝓤 (fact 𝓤 φ) (fact 𝓤 ψ))
@@ -50,33 +40,33 @@ module _ {M : Type 1} (𝓤 : URA M) where
       (k p p′)))
 
   module _ (H : Heap 𝓤) (A : Atoms 𝓤) (mem : Memory → SProp 𝓤) (run : Routine → Fun 𝓤) where
-    pub admit-determined : Determined admit.ended (admit.clauses 𝓤 H A mem run) (λ κs e. now (e .0))
+    pub admit-determined : Determined 𝓤 admit.ended (admit.clauses 𝓤 H A mem run) (λ κs e. now (e .0))
     admit-determined κs a g r r′ e e′ = together _ _ _ (promised-same _ _ r r′ (now (e .0)) (now (e′ .0)))
 
-    pub evaluate-determined : Determined evaluate.ended (evaluate.clauses 𝓤 H A mem run) (λ κs e. now (e .0))
+    pub evaluate-determined : Determined 𝓤 evaluate.ended (evaluate.clauses 𝓤 H A mem run) (λ κs e. now (e .0))
     evaluate-determined κs a g r r′ e e′ = together _ _ _ (promised-same _ _ r r′ (now (e .0)) (now (e′ .0)))
 
-    pub evaluate-asked-determined : Determined evaluate-asked.ended (evaluate-asked.clauses 𝓤 H A mem run)
+    pub evaluate-asked-determined : Determined 𝓤 evaluate-asked.ended (evaluate-asked.clauses 𝓤 H A mem run)
         (λ κs e. now (e .0))
     evaluate-asked-determined κs a g r r′ e e′ = together _ _ _ (promised-same _ _ r r′ (now (e .0)) (now (e′ .0)))
 
-    pub quote-determined : Determined quote.ended (quote.clauses 𝓤 H A mem run) (λ κs e. now (e .0))
+    pub quote-determined : Determined 𝓤 quote.ended (quote.clauses 𝓤 H A mem run) (λ κs e. now (e .0))
     quote-determined κs a g r r′ e e′ = together _ _ _ (promised-same _ _ r r′ (now (e .0)) (now (e′ .0)))
 
-    pub moved-determined : Determined moved.ended (moved.clauses 𝓤 H A mem run) (λ κs e. now (e .0))
+    pub moved-determined : Determined 𝓤 moved.ended (moved.clauses 𝓤 H A mem run) (λ κs e. now (e .0))
     moved-determined κs a g r r′ e e′ = together _ _ _ (promised-same _ _ r r′ (now (e .0)) (now (e′ .0)))
 
-    pub open-evening-determined : Determined open-evening.ended (open-evening.clauses 𝓤 H A mem run)
+    pub open-evening-determined : Determined 𝓤 open-evening.ended (open-evening.clauses 𝓤 H A mem run)
         (λ κs e. now (e .0))
     open-evening-determined κs a g r r′ e e′ = together _ _ _ (promised-same _ _ r r′ (now (e .0)) (now (e′ .0)))
 
-    pub receive-determined : Determined receive.ended (receive.clauses 𝓤 H A mem run) (λ κs e. now (e .0))
+    pub receive-determined : Determined 𝓤 receive.ended (receive.clauses 𝓤 H A mem run) (λ κs e. now (e .0))
     receive-determined κs a g r r′ e e′ = together _ _ _ (promised-same _ _ r r′ (now (e .0)) (now (e′ .0)))
 
-    pub notify-determined : Determined notify.ended (notify.clauses 𝓤 H A mem run) (λ κs e. now (e .0))
+    pub notify-determined : Determined 𝓤 notify.ended (notify.clauses 𝓤 H A mem run) (λ κs e. now (e .0))
     notify-determined κs a g r r′ e e′ = together _ _ _ (promised-same _ _ r r′ (now (e .0)) (now (e′ .0)))
 
     -- a read leaves no table to speak of: its table is lent as `&`, and the paper's read leaves it (`Steps`'
     -- `read-leaves`)
-    pub read-determined : Determined read.ended (read.clauses 𝓤 H A mem run) (λ κs e. tt {0})
+    pub read-determined : Determined 𝓤 read.ended (read.clauses 𝓤 H A mem run) (λ κs e. tt {0})
     read-determined κs a g r r′ e e′ = together _ _ _ (λ p p′. (p ∙ sym p′, refl))

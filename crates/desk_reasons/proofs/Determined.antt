@@ -16,7 +16,8 @@ use Rattle.paper.specs.declared.Day.{Day}
 use Rattle.paper.specs.declared.Answer.{Answer}
 use Rattle.paper_desk.specs.Desk.{evaluate}
 use Rattle.desk.specs.Promises.{Promised}
-use Rattle.desk.proofs.Determined.{Determined, together}
+use Rattle.desk.specs.Determined.{Determined}
+use Rattle.desk.proofs.Determined.{together}
 use Rattle.paper_reasons.specs.declared.Why.{Why}
 use Rattle.paper_reasons.specs.Why.{whyOn}
 use Rattle.paper_reasons.proofs.Agrees.{number-agrees}
