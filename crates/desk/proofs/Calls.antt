@@ -15,18 +15,17 @@
 --    q`. Add `further-steps` to `Steps`: what the effect stores and answers is the paper's step, by `judged-done`, in a
 --    line.
 -- 2. Where the code is `let s = take(t, id); let o = rule(s, q); put(t, o.at, o.rec); o.answer`, no walk is to be
---    written, `Changing` has it: copy quote/Proof.antt, or evaluate/Proof.antt where rows are lent beside the table,
---    and change the names; where nothing stands beside the id, open_evening/Proof.antt. A call that leaves the table is
---    a case of `Telling`: copy read/Proof.antt.
+--    written: the head of `Changing` says which proof to copy, and what to change in it. A call that leaves the table
+--    is a case of `Telling`: copy read/Proof.antt.
 -- 3. Where the code has another statement, copy admit/Proof.antt, which has one, and change, in this order:
 --    - ℓ…, for-…: the numbers of the locals. `rt mir desk` has them in order: the result, the parameters, each `let`,
 --      and the compiler's own, which are a pair for each call that t is lent to, and the `()` of `put`.
 --    - code-…: a definition for each statement. `function`: the types of the locals, and the statements in order. The
 --      type of a local that holds a struct is `mir` of the struct's `Laws`; an effect's is `effect-ty`.
---    - x, at, stayed: the parameters, their machine values, and what is had of them at exit.
+--    - taken, promises: what the call takes beside the table, and what it promises (`Meeting`).
 --    - to-rule, goes-rule: what the rule is passed, and that the caller has it. `owned` makes anew what a plain value
 --      owns, the last parameter's first.
---    - exits: the answer and the table's last list are the paper's; then as `goes-rule`, over the call's parameters.
+--    - exits: the answer and the table's last list are the paper's, by the call's law of `Steps`.
 --    - In: what each local holds, in the locals' order.
 --    - a step for each statement. Its type has `In` before and after the statement; its proof is a law of this file, or
 --      `consults` for the rule. `walk` puts each step into the one before it.

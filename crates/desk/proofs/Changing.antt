@@ -13,6 +13,14 @@
 --     meets        the shape meets its contract, where `take`, the rule and `put` meet theirs, and the rule's effect is
 --                  the call's step
 -- Assumes `Given`.
+--
+-- A FURTHER CALL of this shape writes no walk. Copy quote/Proof.antt where it takes a plain value beside the id,
+-- evaluate/Proof.antt where it takes rows too, open_evening/Proof.antt where it takes nothing, and change four things:
+--     the call     its name, in the last four `use` lines and in `…-spec`
+--     the rule     `rule-def`, `rule-thm`, and `code.calls-…`, which names the rule's crate and function
+--     the value    its type and laws, of `Plain`, where a type that no call takes yet gets these two definitions
+--     the step     the effect (`Effects` of `record_answers`), the paper's call (`Desk`), and the law of `Steps`, where
+--                  each call has one, that the effect is the call's step
 use mathlib.Core.Path.{_≡_, sym, subst}
 use mathlib.Core.Option.{none, some}
 use Prim.Native.Nat.{ℕ, suc, _+_, _<_, _^_}
