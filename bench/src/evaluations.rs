@@ -7,8 +7,8 @@ use crate::sheet::{
     changed, describe, evaluations, sheet, sheet_with_rows, Security, DAYS, ROWS, SECURITIES,
 };
 use crate::sides::{
-    asked_why, must_agree, proved, proved_anew, proved_reads, proved_root, reference, total, tuned,
-    Divisions, Side,
+    asked_why, must_agree, proved, proved_anew, proved_reads, proved_root, proved_with_answers,
+    reference, total, tuned, Divisions, Side,
 };
 
 const MONITORING: usize = 26;
@@ -23,6 +23,7 @@ struct Times {
     reference: Spread,
     tuned: Spread,
     proved: Spread,
+    with_answers: Spread,
     divisions: Spread,
 }
 
@@ -35,12 +36,13 @@ fn times(sheet: &[Security]) -> Times {
         let all = divisions.iter().map(|divisions| divisions.made(DAYS));
         all.fold(0, u64::wrapping_add)
     };
-    let [reference, tuned, proved, divisions] = by_turns(
+    let [reference, tuned, proved, with_answers, divisions] = by_turns(
         evaluations(sheet),
         [
             &|| total(sheet, DAYS, reference),
             &|| total(sheet, DAYS, tuned),
             &|| total(sheet, DAYS, proved),
+            &|| total(sheet, DAYS, proved_with_answers),
             &divided,
         ],
     );
@@ -48,6 +50,7 @@ fn times(sheet: &[Security]) -> Times {
         reference,
         tuned,
         proved,
+        with_answers,
         divisions,
     }
 }
@@ -62,6 +65,7 @@ pub fn whole() {
     line("  the reference (Rust, 128-bit integers)", &times.reference);
     line("  the tuned version (Rust)", &times.tuned);
     line("  the proved rules (Rattle)", &times.proved);
+    line("  the proved rules with the answer", &times.with_answers);
     line(&format!("  {divisions} divisions alone"), &times.divisions);
     println!(
         "  the proved rules beside the tuned version: {}",
@@ -188,6 +192,7 @@ pub fn run_alone(side: &str, rows: usize, days: u64) {
         "reference" => total(&sheet, days, reference),
         "tuned" => total(&sheet, days, tuned),
         "proved" => total(&sheet, days, proved),
+        "answers" => total(&sheet, days, proved_with_answers),
         "anew" => total(&sheet, days, proved_anew),
         "why" => total(&sheet, days, asked_why),
         "divisions" => {

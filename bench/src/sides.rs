@@ -1,6 +1,7 @@
 //! The sides that are measured: each evaluates one security on so many days by the rule of `evaluate` (soundness of the
-//! record, ranges of the day and of the rows, evaluation, rates, ranges, three bands), and adds figures up so that none
-//! can be left out.
+//! record, ranges of the day and of the rows, evaluation, rates, ranges, three bands), leaves the record as it then
+//! stands, and adds figures up so that none can be left out. None makes the answer of `evaluate`, which shows the record
+//! again, but one that is measured for it: the proved rules with the answer.
 
 use bench::{opaque, tuned};
 use reference::record::Record;
@@ -15,6 +16,13 @@ type OverDays =
 
 extern "C" {
     fn nedrubal_days(
+        x: *const [i64; ADMISSION],
+        y: *const [i64; 6],
+        rows: *const i64,
+        rows_len: usize,
+        days: u64,
+    ) -> u64;
+    fn nedrubal_answers(
         x: *const [i64; ADMISSION],
         y: *const [i64; 6],
         rows: *const i64,
@@ -59,7 +67,12 @@ pub fn proved(security: &Security, days: u64) -> u64 {
     over_days(nedrubal_days, security, days)
 }
 
-/// The proved rules, each day as the security was admitted.
+/// The proved rules, day after day, with the answer made on each.
+pub fn proved_with_answers(security: &Security, days: u64) -> u64 {
+    over_days(nedrubal_answers, security, days)
+}
+
+/// The proved rules with the answer, each day as the security was admitted.
 pub fn proved_anew(security: &Security, days: u64) -> u64 {
     over_days(nedrubal_evaluations, security, days)
 }
@@ -141,8 +154,8 @@ pub fn tuned(security: &Security, days: u64) -> u64 {
     day_after_day(security, days, evaluated_by_tuned)
 }
 
-/// Fails unless all figures of the tuned version are the reference's on each day, and the proved rules' sum is the
-/// reference's.
+/// Fails unless all figures of the tuned version are the reference's on each day, and the proved rules' sums, without
+/// the answer and with it, are the reference's.
 pub fn must_agree(security: &Security, days: u64) {
     let (mut one, mut other) = (record_of(security), record_of(security));
     for later in 0..days {
@@ -151,11 +164,14 @@ pub fn must_agree(security: &Security, days: u64) {
         evaluated_by_tuned(&mut other, &day);
         assert_eq!(one, other, "the tuned version differs from the reference");
     }
-    assert_eq!(
-        proved(security, days),
-        reference(security, days),
-        "the proved rules differ from the reference"
-    );
+    let sum = reference(security, days);
+    for side in [proved, proved_with_answers] {
+        assert_eq!(
+            side(security, days),
+            sum,
+            "the proved rules differ from the reference"
+        );
+    }
 }
 
 /// The divisions of one evaluation whose divisor no constant of the paper gives, as 64-bit numbers: three prices of a

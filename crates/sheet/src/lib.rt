@@ -1,6 +1,7 @@
-// What the benchmark measures, for Rust to link: one security admitted and evaluated day after day by the rules of
-// `record_calls`, parts of that, and asking why by the rule of `record_reasons`. The table is not part of it, since its
-// records cannot cross to C; the benchmark runs the whole programs besides.
+// What the benchmark measures, for Rust to link: one security admitted by the rule of `record_calls` and evaluated day
+// after day by that of `record_evaluation`, without the answer and with it, parts of that, and asking why by the rule of
+// `record_reasons`. The table is not part of it, since its records cannot cross to C; the benchmark runs the whole
+// programs besides.
 ghost use Prim.Native.Nat.{_≤_};
 use exact::unsigned;
 use paper::Admission;
@@ -162,9 +163,34 @@ fn lasts(why: Why) -> u64 {
     std::num::wrapping_add_u64(sum, maximum(level3))
 }
 
-// One security evaluated on so many days.
+// The record after an evaluation, and no answer: where a number applies it is the record before.
+fn evaluated(r: Record, d: Day, rows: &[i64]) -> Record {
+    let w = record_evaluation::worked(first(r), d, rows);
+    let verdict = w.verdict;
+    if !verdict.is_done() {
+        return r;
+    }
+    let made = w.made;
+    record_writing::evaluated(r, d, made)
+}
+
+// One security evaluated on so many days. No answer is made, since the versions in Rust make none.
 #[no_mangle]
 pub extern "C" fn nedrubal_days(x: &[i64; 32], y: &[i64; 6], rows: &[i64], days: u64) -> u64 {
+    let mut r = admitted(x);
+    let mut sum: u64 = 0;
+    let mut i: u64 = 0;
+    while i < days {
+        r = evaluated(r, day_of(y, i), rows);
+        sum = std::num::wrapping_add_u64(sum, figure(r));
+        i += 1;
+    }
+    sum
+}
+
+// One security evaluated on so many days, with the answer of `evaluate` made on each.
+#[no_mangle]
+pub extern "C" fn nedrubal_answers(x: &[i64; 32], y: &[i64; 6], rows: &[i64], days: u64) -> u64 {
     let mut r = admitted(x);
     let mut sum: u64 = 0;
     let mut i: u64 = 0;

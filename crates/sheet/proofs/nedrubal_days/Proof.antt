@@ -1,4 +1,5 @@
--- `sheet::nedrubal_days` meets its contract. Assumes nothing.
+-- `sheet::nedrubal_days` meets its contract: it promises nothing of its sum, and the count of days stays within those
+-- that were asked for. Assumes nothing.
 use Prim.Native.Nat.{_≤_, _-_}
 use borrow.Author.Needs.{needs}
 use Rattle.sheet.proofs.nedrubal_days.Statement.{statement}
@@ -10,53 +11,19 @@ Inv-loop x y rows days r₀ sum₀ i₀ r sum i = i ≤ days
 abbrev μ-loop : tie.MeasureT-loop
 μ-loop x y rows days r₀ sum₀ i₀ r sum i = days - i
 
-admitted-requires : tie.Need-admitted-requires Inv-loop μ-loop
-admitted-requires c κs = search needs
-
-loop-holds : tie.Need-loop-holds Inv-loop μ-loop
-loop-holds c = search needs
-
-first-requires : tie.Need-first-requires Inv-loop μ-loop
-first-requires c κs = search needs
-
-day-of-requires : tie.Need-day-of-requires Inv-loop μ-loop
-day-of-requires c κs = search needs
-
-evaluated-requires : tie.Need-evaluated-requires Inv-loop μ-loop
-evaluated-requires c κs = search needs
-
-figure-requires : tie.Need-figure-requires Inv-loop μ-loop
-figure-requires c κs = search needs
-
-wrapping-add-u64-requires : tie.Need-wrapping-add-u64-requires Inv-loop μ-loop
-wrapping-add-u64-requires c κs = search needs
-
-add-i : tie.Need-add-i Inv-loop μ-loop
-add-i c = search needs
-
-loop-less : tie.Need-loop-less Inv-loop μ-loop
-loop-less c = search needs
-
-loop-again : tie.Need-loop-again Inv-loop μ-loop
-loop-again c = search needs
-
-returns : tie.Need-returns Inv-loop μ-loop
-returns c = search needs
-
 pub nedrubal-days-spec : {M : Type 1} → statement M
 nedrubal-days-spec =
     tie.close
     (tie.spec
     Inv-loop
     μ-loop
-    admitted-requires
-    loop-holds
-    first-requires
-    day-of-requires
-    evaluated-requires
-    figure-requires
-    wrapping-add-u64-requires
-    add-i
-    loop-less
-    loop-again
-    returns)
+    (λ c κs. search needs)
+    (λ c. search needs)
+    (λ c κs. search needs)
+    (λ c κs. search needs)
+    (λ c κs. search needs)
+    (λ c κs. search needs)
+    (λ c. search needs)
+    (λ c. search needs)
+    (λ c. search needs)
+    (λ c. search needs))
