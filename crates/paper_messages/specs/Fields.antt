@@ -57,7 +57,8 @@ daysField = fourBytes (pos 1) (pos daysMost)
 abbrev pub secondsField : Field
 secondsField = fourBytes (pos 1) (pos secondsMost)
 
--- the tentative rate: 0 to the least multiple of the greatest step, 1,000, at or above 100,000, less one
+-- the greatest tentative rate: the least multiple of h at or above 100,000 is below 100,000 + h, for every h up to
+-- 1,000, so at most 100,999
 abbrev pub tentativeLast : ℕ
 tentativeLast = tentativeMost + stepMost - 1
 
