@@ -20,7 +20,7 @@ use Rattle.paper_desk.proofs.Refusals.{done-is, done-means-none-applies}
 use Rattle.paper_messages.specs.declared.Message.{Message}
 use Rattle.paper_messages.specs.declared.Heard.{Heard}
 use Rattle.paper_messages.specs.Bytes.{Bytes, bytesOf, spelled}
-use Rattle.paper_messages.specs.Fields.{places, placesOf}
+use Rattle.paper_messages.specs.Fields.{staticsKind, moveKind, places, placesOf}
 use Rattle.paper_messages.specs.Messages.{lengthWidth, kindWidth, bodyOf, total, lengthOf, encode, isKnown, inRanges, valid, lengthLeast, lengthMost, lengthAt, kindAt, messageAt, valuesAt, readChecks, AcceptedBytes, acceptedHeard, refusedHeard, heardAt}
 use Rattle.paper_messages.proofs.ByteLaws.{take-bytes, drop-bytes, bytes-length, bytes-back, bytes-only}
 use Rattle.paper_messages.proofs.FieldLaws.{body-length, in-ranges-has-values, body-back, body-only, kinds-hold, kinds-have-places, kinds-length-in-range}
@@ -103,8 +103,8 @@ module _ (m : Message) (v : valid m ≡ true) (full : length (m .fields) ≡ pla
   kind-said : kindAt (encode m ++ rest) ≡ m .kind
   unfolding head tag isKnown
   kind-said =
-      let most : m .kind ≤ 4 = leb-true (m .kind) 4
-      (and-right (leb 1 (m .kind)) (leb (m .kind) 4) (valid-is-known m v)) in
+      let most : m .kind ≤ moveKind = leb-true (m .kind) moveKind
+      (and-right (leb staticsKind (m .kind)) (leb (m .kind) moveKind) (valid-is-known m v)) in
       rw (
         encode-in-parts,
         drop-at head (tag ++ (body ++ rest)) lengthWidth (bytes-length lengthWidth (lengthOf (m .kind))),
