@@ -4,3 +4,4 @@ pub mod FieldLaws
 pub mod MessageLaws
 pub mod Refusals
 pub mod OwnBytes
+pub mod WrittenBack
