@@ -13,7 +13,8 @@ use Rattle.paper.specs.Ranges.{isPrice}
 use Rattle.paper.specs.Verdicts.{isDone, firstOf}
 use Rattle.paper.proofs.Logic.{and-both}
 use Rattle.paper_bonds.specs.declared.Bond.{Bond}
-use Rattle.paper_bonds.specs.Bonds.{validBond, validFlows, flowsOf, grossOf, allLimits, isCrossed, bondChecks, refusedBond, acceptedBond, bondAnswer}
+use Rattle.paper_bonds.specs.Bonds.{validBond, validFlows, flowsOf, grossOf, allLimits, isCrossed, bondChecks}
+use Rattle.paper_bonds.specs.Bonds.{refusedBond, acceptedBond, bondAnswer}
 use Rattle.bond.specs.Priced.{Priced}
 
 module _ (b : Bond) (numbers : List ℤ) where

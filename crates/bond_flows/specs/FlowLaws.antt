@@ -21,7 +21,8 @@ use Rattle.exact.specs.SignedLaws.{growthMost, grown-near-base, unsigned-le}
 use Rattle.exact.specs.LentLaws.{Place, partsLeft, left-first, left-here, left-end}
 use Rattle.paper_bonds.specs.declared.Flow.{Flow}
 use Rattle.paper_bonds.specs.BondNumbers.{moneyMost, flowNumbers, allFlowNumbersMost, flowDayLeast, flowDayMost}
-use Rattle.paper_bonds.specs.Bonds.{LentFlow, flowAt, lentFlows, wholeFlows, validFlow, validFlows, flowOf, flowsOf, carryTerm, carryDue, carryOf}
+use Rattle.paper_bonds.specs.Bonds.{LentFlow, flowAt, lentFlows, wholeFlows, validFlow, validFlows, flowOf, flowsOf}
+use Rattle.paper_bonds.specs.Bonds.{carryTerm, carryDue, carryOf}
 
 -- ---- what Carry is worked out in: the term's days and REPORate
 

@@ -14,7 +14,8 @@ use Rattle.paper.specs.declared.Rate.{Rate}
 use Rattle.paper.specs.declared.Side.{Side}
 use Rattle.paper.specs.declared.Side.the-variants.{Upper, Lower}
 use Rattle.paper.specs.declared.Statics.{Statics}
-use Rattle.paper.specs.Numbers.{oneInBp, yearInDayBp, priceMost, rateMost, divisorLeast, divisorMost, termDaysMost, repoMost}
+use Rattle.paper.specs.Numbers.{oneInBp, yearInDayBp, priceMost, rateMost, divisorLeast, divisorMost, termDaysMost}
+use Rattle.paper.specs.Numbers.{repoMost}
 use Rattle.paper.specs.Roundings.{grown}
 use Rattle.paper_desk.specs.Limits.{grownPrice, growing, shifted, farthest, spread, LimitStatics}
 use Rattle.paper.proofs.Roundings.{half-le}

@@ -9,7 +9,8 @@ use Rattle.paper.specs.declared.Price.{Price}
 use Rattle.paper.specs.declared.Rate.{Rate}
 use Rattle.paper.specs.declared.Term.{Term}
 use Rattle.paper.specs.declared.Way.{Way}
-use Rattle.paper.specs.Numbers.{oneInBp, priceMost, rateMost, divisorMost, termDaysMost, repoMost, oneInPerCentHundredths}
+use Rattle.paper.specs.Numbers.{oneInBp, priceMost, rateMost, divisorMost, termDaysMost, repoMost}
+use Rattle.paper.specs.Numbers.{oneInPerCentHundredths}
 use Rattle.paper.specs.Roundings.{rounded}
 use Rattle.paper.specs.Ranges.{validTerm}
 use Rattle.paper_bonds.specs.BondNumbers.{moneyMost}

@@ -10,16 +10,23 @@ use Rattle.paper.specs.declared.Verdict.{Verdict}
 use Rattle.paper.specs.declared.Verdict.the-variants.{Done, NoSuchId, AlreadyAdmitted}
 use Rattle.paper.specs.Ranges.{sideOf, validAdmission}
 use Rattle.paper.specs.Verdicts.{numberOf, isDone, Check, firstOf, NoneApplies, Exactly}
-use Rattle.paper_desk.specs.Desk.{Call, admit, evaluate, quote, move, read, openEvening, receive, idOf, Outcome, saying, showing, evaluated, moved, eveningOpened, received, place, stands, found, known, checksOf, admitChecks, evaluateChecks, quoteChecks, moveChecks, readChecks, openChecks, receiveChecks, acceptedOf, step, run}
+use Rattle.paper_desk.specs.Desk.{Call, admit, evaluate, quote, move, read, openEvening, receive, idOf, Outcome, saying}
+use Rattle.paper_desk.specs.Desk.{showing, evaluated, moved, eveningOpened, received, place, stands, found, known}
+use Rattle.paper_desk.specs.Desk.{checksOf, admitChecks, evaluateChecks, quoteChecks, moveChecks, readChecks}
+use Rattle.paper_desk.specs.Desk.{openChecks, receiveChecks, acceptedOf, step, run}
 use Rattle.paper_desk.specs.History.{FreshTable, Event, unknown, since, historyOf, wasAdmitted, isAdmission}
-use Rattle.demands.specs.Demands.{answered, orderOf, Demand1, FiguresHold, answerThen, Demand2, Demand3, TableKept, BandsInOrder}
+use Rattle.demands.specs.Demands.{answered, orderOf, Demand1, FiguresHold, answerThen, Demand2, Demand3}
+use Rattle.demands.specs.Demands.{TableKept, BandsInOrder}
 use Rattle.paper_desk.proofs.Slots.{found-stored, known-stands}
-use Rattle.paper_desk.proofs.Refusals.{verdict-first, refused-step, accepted-step, refused-only, refused-always, accepted-only, accepted-always}
+use Rattle.paper_desk.proofs.Refusals.{verdict-first, refused-step, accepted-step, refused-only, refused-always}
+use Rattle.paper_desk.proofs.Refusals.{accepted-only, accepted-always}
 use Rattle.demands.proofs.Kept.{run-sound, call-knows}
 use Rattle.demands.proofs.Histories.{recordOf, Lawful}
-use Rattle.demands.proofs.Known.{one-exactly-unknown, history-since, known-admitted, no-such-id, already-admitted, stays-known}
+use Rattle.demands.proofs.Known.{one-exactly-unknown, history-since, known-admitted, no-such-id}
+use Rattle.demands.proofs.Known.{already-admitted, stays-known}
 use Rattle.paper_desk.proofs.PinnedLaws.{bad-table-refused}
-use Rattle.demands.proofs.Sequences.{accepted-term-below-three, alerts-noted, lawful-figures, lawful-statics, rates-hold}
+use Rattle.demands.proofs.Sequences.{accepted-term-below-three, alerts-noted, lawful-figures, lawful-statics}
+use Rattle.demands.proofs.Sequences.{rates-hold}
 use Rattle.demands.proofs.Bands.{lawful-uncrossed}
 use Rattle.demands.proofs.Carried.{lawful-near}
 use Rattle.demands.proofs.InterestCarried.{evenings-near}

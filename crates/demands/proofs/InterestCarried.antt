@@ -19,9 +19,12 @@ use Rattle.paper.specs.Lists.{eight}
 use Rattle.paper.specs.Numbers.{keyNumbers, allKeyNumbersMost}
 use Rattle.paper.specs.Ranges.{partsFrom, unsigned}
 use Rattle.paper.specs.Roundings.{RoundedUp}
-use Rattle.paper_interest.specs.Interest.{LentKey, keyAt, keysOf, wholeKeys, validInterest, validKeys, maturityOf, maturitiesOf, inRange, changeOf, repoVolatility, maturityFigures, noFigures, acceptedInterest, interestAnswer}
+use Rattle.paper_interest.specs.Interest.{LentKey, keyAt, keysOf, wholeKeys, validInterest, validKeys, maturityOf}
+use Rattle.paper_interest.specs.Interest.{maturitiesOf, inRange, changeOf, repoVolatility, maturityFigures, noFigures}
+use Rattle.paper_interest.specs.Interest.{acceptedInterest, interestAnswer}
 use Rattle.paper_desk.specs.Exact.{NearExact, CarriedOn, begun, once-more}
-use Rattle.paper_interest.specs.InterestExact.{Evening, noKey, keyIn, Carried, carriedFrom, answeredIn, carriedAfter, keyGiven, Follow, start, next, repoChoice, exactChange, exactRepoSquare}
+use Rattle.paper_interest.specs.InterestExact.{Evening, noKey, keyIn, Carried, carriedFrom, answeredIn, carriedAfter}
+use Rattle.paper_interest.specs.InterestExact.{keyGiven, Follow, start, next, repoChoice, exactChange, exactRepoSquare}
 use Rattle.paper.proofs.Logic.{and-left, and-right}
 use Rattle.paper_desk.proofs.CarriedOn.{carried-near}
 use Rattle.paper_interest.proofs.InterestRanges.{valid-interest-in-range}

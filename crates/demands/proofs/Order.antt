@@ -21,21 +21,25 @@ use Rattle.paper.specs.declared.Admission.{Admission}
 use Rattle.paper.specs.declared.Day.{Day}
 use Rattle.paper.specs.declared.Answer.{Answer}
 use Rattle.paper.specs.Numbers.{limitMost}
-use Rattle.paper.specs.Ranges.{within, gridOf, isPrice, isGridPrice, isLive, validLimits, isLimit, termAt, rateAt, rangeAt, bandAt}
+use Rattle.paper.specs.Ranges.{within, gridOf, isPrice, isGridPrice, isLive, validLimits, isLimit, termAt, rateAt}
+use Rattle.paper.specs.Ranges.{rangeAt, bandAt}
 use Rattle.paper_desk.specs.Rates.{minimumOf}
 use Rattle.paper_desk.specs.Limits.{bandOf, Outward}
 use Rattle.paper.specs.PinnedValues.{recordFrom}
 use Rattle.paper.specs.Verdicts.{isDone}
 use Rattle.paper_desk.specs.Sides.{limitOn, repoOn, shows, PastZero}
-use Rattle.paper_desk.specs.Desk.{Call, admit, evaluate, quote, move, read, openEvening, receive, idOf, place, found, known, step, run}
+use Rattle.paper_desk.specs.Desk.{Call, admit, evaluate, quote, move, read, openEvening, receive, idOf, place, found}
+use Rattle.paper_desk.specs.Desk.{known, step, run}
 use Rattle.paper_desk.specs.History.{FreshTable, Event, isAdmission}
-use Rattle.paper_desk.specs.Sequences.{LastDay, noDay, onDay, lastEvaluated, standingNow, termNow, rangeAfter, rangeNow, bandNow}
+use Rattle.paper_desk.specs.Sequences.{LastDay, noDay, onDay, lastEvaluated, standingNow, termNow, rangeAfter, rangeNow}
+use Rattle.paper_desk.specs.Sequences.{bandNow}
 use Rattle.demands.specs.Demands.{FiguresHold, RatesHold, BandsInOrder}
 use Rattle.demands.specs.Order.{neverFalls, ratesOf, rangesAround, holdsZero, atMost, slotAt, HoldsLive, InOrder}
 use Rattle.paper.proofs.Logic.{not-true-and-false, and-left, and-right, and-both, each-of-three}
 use Rattle.paper_desk.proofs.LimitSizes.{valid-limit-statics}
 use Rattle.paper_desk.proofs.Level.{stepping}
-use Rattle.paper_desk.proofs.Order.{levels-in-order, level-rates-ascend, moved-range-around, moved-range-outward, band-around}
+use Rattle.paper_desk.proofs.Order.{levels-in-order, level-rates-ascend, moved-range-around, moved-range-outward}
+use Rattle.paper_desk.proofs.Order.{band-around}
 use Rattle.paper_desk.proofs.Others.{other-records-stay}
 use Rattle.paper_desk.proofs.PinnedLaws.{refused-zero, shown-stands, no-record-shown}
 use Rattle.paper_desk.proofs.Refusals.{accepted-only}

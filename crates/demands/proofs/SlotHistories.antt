@@ -15,7 +15,8 @@ use Rattle.paper.specs.Lists.{every}
 use Rattle.paper.specs.Numbers.{idMost}
 use Rattle.paper.specs.Ranges.{validAdmission, validSlots, sideOf}
 use Rattle.paper.specs.Verdicts.{NoneApplies, also}
-use Rattle.paper_desk.specs.Desk.{Call, admit, evaluate, quote, move, read, openEvening, receive, blank, place, found, known, checksOf, admitChecks, acceptedOf, step, run, fresh}
+use Rattle.paper_desk.specs.Desk.{Call, admit, evaluate, quote, move, read, openEvening, receive, blank, place, found}
+use Rattle.paper_desk.specs.Desk.{known, checksOf, admitChecks, acceptedOf, step, run, fresh}
 use Rattle.paper_desk.specs.History.{FreshTable, Event, evaluatedOn, quotedAt, movedBy, opening, receipt}
 use Rattle.demands.specs.Order.{slotAt}
 use Rattle.paper.proofs.Logic.{and-left, and-right, not-false}

@@ -21,10 +21,13 @@ use Rattle.paper_desk.specs.Limits.{crossed}
 use Rattle.paper_desk.specs.Alerts.{alert}
 use Rattle.paper_desk.specs.Evening.{alertSeconds}
 use Rattle.paper.specs.Verdicts.{numberOf, isDone, Check, FirstAt, NoneApplies, Exactly}
-use Rattle.paper_desk.specs.Desk.{Call, admit, evaluate, quote, move, read, openEvening, receive, idOf, saying, showing, alerting, found, known, checksOf, step, run}
+use Rattle.paper_desk.specs.Desk.{Call, admit, evaluate, quote, move, read, openEvening, receive, idOf, saying, showing}
+use Rattle.paper_desk.specs.Desk.{alerting, found, known, checksOf, step, run}
 use Rattle.paper_desk.specs.Kept.{everySlot}
-use Rattle.paper_desk.specs.History.{FreshTable, Event, quotedAt, unknown, since, historyOf, wasAdmitted, isAdmission, evaluations}
-use Rattle.paper_desk.specs.Sequences.{carries, onDay, lastEvaluated, movesOf, standingNow, termNow, rangeNow, bandNow, nearSince, nearNow, lastSecond, sessionNow, externalNow}
+use Rattle.paper_desk.specs.History.{FreshTable, Event, quotedAt, unknown, since, historyOf, wasAdmitted, isAdmission}
+use Rattle.paper_desk.specs.History.{evaluations}
+use Rattle.paper_desk.specs.Sequences.{carries, onDay, lastEvaluated, movesOf, standingNow, termNow, rangeNow, bandNow}
+use Rattle.paper_desk.specs.Sequences.{nearSince, nearNow, lastSecond, sessionNow, externalNow}
 use Rattle.paper_desk.specs.Exact.{exactSquare, NearExact}
 use Rattle.paper_interest.specs.InterestExact.{Evening, Carried, carriedAfter, Follow, exactRepoSquare}
 

@@ -10,12 +10,16 @@ use Rattle.paper.specs.declared.Session.the-variants.{Main}
 use Rattle.paper.specs.declared.Verdict.the-variants.{Done, NoSuchId}
 use Rattle.paper.specs.Lists.{three, every}
 use Rattle.paper.specs.Numbers.{limitMost}
-use Rattle.paper.specs.Ranges.{isPrice, isGridPrice, isRate, gridOf, staticsOf, validStatics, noExternal, tentativeTop, validTentative, validTerm, noTerm, isLimit, validLimits, noLimits, validNear, validNearSeconds, notNear, isLive, lastDay, validSlots, validSide, sideOf, validSession, validExternal, sound}
+use Rattle.paper.specs.Ranges.{isPrice, isGridPrice, isRate, gridOf, staticsOf, validStatics, noExternal, tentativeTop}
+use Rattle.paper.specs.Ranges.{validTentative, validTerm, noTerm, isLimit, validLimits, noLimits, validNear}
+use Rattle.paper.specs.Ranges.{validNearSeconds, notNear, isLive, lastDay, validSlots, validSide, sideOf, validSession}
+use Rattle.paper.specs.Ranges.{validExternal, sound}
 use Rattle.paper.specs.Roundings.{up, halfUp, toGrid}
 use Rattle.paper_desk.specs.Limits.{limitOf, deltaOf, oneMore, rangeMoved}
 use Rattle.paper.specs.Verdicts.{isDone, firstOf}
 use Rattle.paper_desk.specs.Evening.{moveAllowed, sessionMoved}
-use Rattle.paper_desk.specs.Desk.{move, read, noMoves, saying, showing, moved, place, stands, found, known, checksOf, moveChecks, readChecks, judged, acceptedOf, step}
+use Rattle.paper_desk.specs.Desk.{move, read, noMoves, saying, showing, moved, place, stands, found, known, checksOf}
+use Rattle.paper_desk.specs.Desk.{moveChecks, readChecks, judged, acceptedOf, step}
 use Rattle.paper.specs.PinnedValues.{givenWith}
 use Rattle.paper_desk.specs.Kept.{everySlot}
 

@@ -20,7 +20,8 @@ use Rattle.paper_desk.specs.Rates.{figuresOf}
 use Rattle.paper_desk.specs.Limits.{rangeOf, bandOf}
 use Rattle.paper_desk.specs.Desk.{admit, evaluate, move, read, openEvening, noMoves, admitted, evaluated, run}
 use Rattle.paper_desk.specs.Sequences.{rangeAfter}
-use Rattle.paper.specs.PinnedValues.{_but_, lotAt, minimaAt, pchmaxAt, pclmaxAt, monitoringAt, ewmaAt, givenFrom, admissionFrom, dayFrom, zNumbers}
+use Rattle.paper.specs.PinnedValues.{_but_, lotAt, minimaAt, pchmaxAt, pclmaxAt, monitoringAt, ewmaAt, givenFrom}
+use Rattle.paper.specs.PinnedValues.{admissionFrom, dayFrom, zNumbers}
 use Rattle.paper_desk.specs.PinnedSequence.{answers, numbers, slots}
 use Rattle.demands.specs.Order.{neverFalls, rangesAround, slotAt}
 

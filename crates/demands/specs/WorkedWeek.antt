@@ -13,7 +13,8 @@ use Rattle.paper.specs.declared.Tentative.{Tentative}
 use Rattle.paper.specs.Ranges.{staticsOf}
 use Rattle.paper_desk.specs.Rates.{tentativeRate, tentativeAfter, levelRate}
 use Rattle.paper_desk.specs.Desk.{Call, admit}
-use Rattle.paper.specs.PinnedValues.{_but_, qAt, adownAt, waitAt, liqAt, minimaAt, sAt, tentativeAt, givenFrom, admissionFrom, zNumbers}
+use Rattle.paper.specs.PinnedValues.{_but_, qAt, adownAt, waitAt, liqAt, minimaAt, sAt, tentativeAt, givenFrom}
+use Rattle.paper.specs.PinnedValues.{admissionFrom, zNumbers}
 use Rattle.paper_desk.specs.PinnedSequence.{answers, slots, dayAt}
 
 -- Z's numbers, with q 10, a_down 0.9, n 1, liq 0, minima 100, S_max 300, s 1,000 and the tentative rate 100

@@ -10,7 +10,8 @@ use Rattle.paper.specs.Lists.{every}
 use Rattle.paper.specs.Ranges.{validSlots, validAdmission, sound, sideOf}
 use Rattle.paper.specs.Verdicts.{isDone, NoneApplies, also}
 use Rattle.paper_desk.specs.Sides.{shows}
-use Rattle.paper_desk.specs.Desk.{Call, admit, evaluate, quote, move, read, openEvening, receive, idOf, known, checksOf, admitChecks, step, run}
+use Rattle.paper_desk.specs.Desk.{Call, admit, evaluate, quote, move, read, openEvening, receive, idOf, known, checksOf}
+use Rattle.paper_desk.specs.Desk.{admitChecks, step, run}
 use Rattle.paper_desk.specs.History.{FreshTable}
 use Rattle.paper_messages.specs.Messages.{valid}
 use Rattle.text_evening.specs.Broadcast.{messagesOf}

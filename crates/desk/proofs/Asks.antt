@@ -20,7 +20,8 @@ use prog.Wp.{Heap, Env, Calls, Loops, spotOf}
 use ghost.Atoms.{Atoms, sem}
 use contract.Monad.{fact}
 use sound.WpLaws.{FmC}
-use types.Kit.{Given, Go, Item, ⋆, mean, ‵, raw, _⊛_, some as some′, later, Post, runs, lands, Sq, _$_, _∵_, !, qed, move, drop, use0, use1, split, join, pick, await, done}
+use types.Kit.{Given, Go, Item, ⋆, mean, ‵, raw, _⊛_, some as some′, later, Post, runs, lands, Sq, _$_, _∵_, !, qed}
+use types.Kit.{move, drop, use0, use1, split, join, pick, await, done}
 use types.Run.{Opds, stop, from, land}
 use denote.RattleType.{RattleType}
 use denote.Signature.{typeAt}

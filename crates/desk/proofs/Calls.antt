@@ -52,7 +52,9 @@ use prog.Wp.{Heap, Env, Calls, Loops, spotOf}
 use ghost.Atoms.{Atoms, sem}
 use contract.Monad.{Fun, fact}
 use sound.WpLaws.{FmC}
-use types.Kit.{Given, Go, Item, ‵, raw, _⊛_, some as some′, later, Post, Goal, Soaks, ⋆, runs, atRet, Sq, Step, step, _$_, _∵_, !, qed, by, move, keep, drop, use1, split, join, pick, rewrite, fsplit, fjoin, feqI, frame as framed, await, done}
+use types.Kit.{Given, Go, Item, ‵, raw, _⊛_, some as some′, later, Post, Goal, Soaks, ⋆, runs, atRet, Sq, Step, step}
+use types.Kit.{_$_, _∵_, !, qed, by, move, keep, drop, use1, split, join, pick, rewrite, fsplit, fjoin, feqI}
+use types.Kit.{frame as framed, await, done}
 use types.Run.{Opd, stop, from, of-opd, and-then, no-more, assigns}
 use types.Tokens.{lft-new, lft-end, lent-back}
 use types.Share.{arr-parts}
@@ -76,8 +78,10 @@ use Rattle.record_answers.specs.Effects.{slotOf}
 use Rattle.record_answers.proofs.Slot.Laws as U′
 use Rattle.record_answers.proofs.Effect as O
 use Rattle.paper.proofs.Answer.Laws as N′
-use Rattle.desk.proofs.Row.{R, val, makes, S, typed-slot, effect-ty, effect-val, effect-is, effect-tells, answer-val, typed-answer}
-use Rattle.desk.proofs.Frame.{Locals, held, holding, Within, held-own, frame, value, field as field′, sets, clears, leaves}
+use Rattle.desk.proofs.Row.{R, val, makes, S, typed-slot, effect-ty, effect-val, effect-is, effect-tells}
+use Rattle.desk.proofs.Row.{answer-val, typed-answer}
+use Rattle.desk.proofs.Frame.{Locals, held, holding, Within, held-own, frame, value, field as field′, sets}
+use Rattle.desk.proofs.Frame.{clears, leaves}
 use Rattle.desk.proofs.Lending.{Lending, ref, machine, Lent, lending, lent, Lends, lends}
 use Rattle.desk.proofs.Asks.{calls, says, consults-lent}
 use Rattle.desk.proofs.take as take

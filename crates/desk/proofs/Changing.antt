@@ -60,13 +60,17 @@ use Rattle.record_answers.specs.Effects.{slotOf, doneBy}
 use Rattle.record_answers.proofs.Slot.Laws as U′
 use Rattle.record_answers.proofs.Effect as O
 use Rattle.desk.specs.Promises.{Promised}
-use Rattle.desk.proofs.Row.{R, table-ty, word, S, effect-ty, effect-val, effect-is, typed-effect, answer-val, makes-answer}
-use Rattle.desk.proofs.Frame.{Addresses, Locals, of-types, env-of, entry, held, holding, Within as In-frame, frame, value}
+use Rattle.desk.proofs.Row.{R, table-ty, word, S, effect-ty, effect-val, effect-is, typed-effect, answer-val}
+use Rattle.desk.proofs.Row.{makes-answer}
+use Rattle.desk.proofs.Frame.{Addresses, Locals, of-types, env-of, entry, held, holding, Within as In-frame}
+use Rattle.desk.proofs.Frame.{frame, value}
 use Rattle.desk.proofs.Meeting.{changes}
 use Rattle.desk.proofs.Meeting as Meeting
-use Rattle.desk.proofs.Passing.{Passing, taken, copies, OfSlot, rule-ended, rule-clauses, Rule, to-rule, Others, goes-rule}
+use Rattle.desk.proofs.Passing.{Passing, taken, copies, OfSlot, rule-ended, rule-clauses, Rule, to-rule, Others}
+use Rattle.desk.proofs.Passing.{goes-rule}
 use Rattle.desk.proofs.Lending.{ℓt, Lending, rref, wref, Lends, lent}
-use Rattle.desk.proofs.Calls.{Take, Put, Owned, returned, taking, putting-effect, answering, takes, effect-spelled, puts-effect, answers}
+use Rattle.desk.proofs.Calls.{Take, Put, Owned, returned, taking, putting-effect, answering, takes}
+use Rattle.desk.proofs.Calls.{effect-spelled, puts-effect, answers}
 use Rattle.desk.proofs.Asks.{consults-lent}
 use Rattle.desk.proofs.Steps.{promised}
 use Rattle.desk.proofs.take.Symbol.{name as #take}

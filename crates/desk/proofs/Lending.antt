@@ -27,7 +27,8 @@ use denote.Slice.{sliceVal, ShrSlice, Room}
 use Rattle.paper.specs.declared.Record.{Record}
 use Rattle.paper.proofs.Record.Laws as T′
 use Rattle.desk.proofs.Row.{R, table-ty}
-use Rattle.desk.proofs.Frame.{Locals, held, holding, Within, Apart, held-own, held-other, frame, value, field as field′, behind, sets}
+use Rattle.desk.proofs.Frame.{Locals, held, holding, Within, Apart, held-own, held-other, frame, value}
+use Rattle.desk.proofs.Frame.{field as field′, behind, sets}
 
 -- a reference to the row's first slot, as `&` and as `&mut`, whose lifetime no type names
 abbrev pub rref : Ty

@@ -19,7 +19,8 @@ use prog.Wp.{Heap, WpFn, Tables}
 use ghost.Atoms.{Atoms, sem}
 use contract.Monad.{Fun, fact}
 use contract.Lifetimes.{Lfts, Shares, Within, lftAt, toks}
-use types.Kit.{Given, Item, ‵, raw, _⊛_, ⋆, runs, atRet, Sq, _$_, _∵_, !, qed, move, keep, split, join, use1, fsplit, fjoin, rewrite, suffices, frame as framed, done}
+use types.Kit.{Given, Item, ‵, raw, _⊛_, ⋆, runs, atRet, Sq, _$_, _∵_, !, qed, move, keep, split, join, use1, fsplit}
+use types.Kit.{fjoin, rewrite, suffices, frame as framed, done}
 use sound.WpLaws.{WpFn-mono}
 use denote.RattleType.{RattleType, Denots, Valss, owns, flat}
 use denote.Laws.{Is, Ises, Are, Spells, valss, Tells, Tellss, Makes, shows}
@@ -30,7 +31,8 @@ use denote.Triple.Entry.{onEntry}
 use denote.Triple.Spec.{Meets}
 use denote.Triple.End.{Kepts, Fins}
 use denote.Triple.Clauses.{Clauses, Ended, closing}
-use denote.Triple.Walked.{says, Stay, Stays, fitsOf, hasOf, gave-slice, stay-none, stay-none-slice, walkOf, Goes, AllGo, goes-gave-slice, goes-none, goes-none-slice, ends-at, walked, walk-meets}
+use denote.Triple.Walked.{says, Stay, Stays, fitsOf, hasOf, gave-slice, stay-none, stay-none-slice, walkOf, Goes, AllGo}
+use denote.Triple.Walked.{goes-gave-slice, goes-none, goes-none-slice, ends-at, walked, walk-meets}
 use denote.Exit.{yes, Last, Seen, see}
 use Rattle.desk.proofs.Row.{R}
 use Rattle.desk.proofs.Frame.{Addresses, env-of, ParamsFit, entry, frame, enters}

@@ -18,7 +18,8 @@ use denote.Memory.{mem}
 use denote.Index.{place as place-of}
 use denote.Slice.{sliceTy, sliceVal, Room}
 use Rattle.desk.proofs.Row.{R, bytes, slot-at, slot-fits}
-use Rattle.desk.proofs.Frame.{Locals, held, holding, Within, Apart, held-own, held-other, frame, value, field as field′, sets}
+use Rattle.desk.proofs.Frame.{Locals, held, holding, Within, Apart, held-own, held-other, frame, value}
+use Rattle.desk.proofs.Frame.{field as field′, sets}
 
 abbrev pub finding : (t i x p : ℕ) → Body → Body
 finding t i x p rest =

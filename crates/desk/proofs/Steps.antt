@@ -17,10 +17,14 @@ use Rattle.paper.specs.declared.Verdict.{Verdict}
 use Rattle.paper.specs.Lists.{pick}
 use Rattle.paper.specs.Verdicts.{isDone, firstOf}
 use Rattle.paper_desk.specs.External.{Told}
-use Rattle.paper_desk.specs.Desk.{Call, admit, evaluate, quote, move, read, openEvening, receive, Outcome, blank, saying, showing, stands, known, found, admitChecks, readChecks, checksOf, judged, acceptedOf, step}
+use Rattle.paper_desk.specs.Desk.{Call, admit, evaluate, quote, move, read, openEvening, receive, Outcome, blank}
+use Rattle.paper_desk.specs.Desk.{saying, showing, stands, known, found, admitChecks, readChecks, checksOf, judged}
+use Rattle.paper_desk.specs.Desk.{acceptedOf, step}
 use Rattle.record_answers.specs.declared.Slot.{Slot}
 use Rattle.record_answers.specs.declared.Effect.{Effect}
-use Rattle.record_answers.specs.Effects.{slotOf, holds, isKnown, refusedEffect, judgedEffect, admitChecksOf, admitEffect, evaluateEffect, quoteEffect, moveEffect, openEffect, receiveEffect, readAnswer, doneBy}
+use Rattle.record_answers.specs.Effects.{slotOf, holds, isKnown, refusedEffect, judgedEffect, admitChecksOf}
+use Rattle.record_answers.specs.Effects.{admitEffect, evaluateEffect, quoteEffect, moveEffect, openEffect}
+use Rattle.record_answers.specs.Effects.{receiveEffect, readAnswer, doneBy}
 use Rattle.desk.specs.Promises.{Promised}
 
 judged-done : (t : List Record) (v : Verdict) (o : Effect) → doneBy t (judgedEffect (length t) v o)

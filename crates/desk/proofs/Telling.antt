@@ -43,11 +43,13 @@ use Rattle.record_answers.specs.declared.Slot.{Slot}
 use Rattle.record_answers.specs.Effects.{slotOf}
 use Rattle.record_answers.proofs.Slot.Laws as U′
 use Rattle.desk.proofs.Row.{R, shared-ty, word, S}
-use Rattle.desk.proofs.Frame.{Addresses, Locals, of-types, env-of, entry, held, holding, Within, held-own, frame, value, leaves}
+use Rattle.desk.proofs.Frame.{Addresses, Locals, of-types, env-of, entry, held, holding, Within, held-own, frame}
+use Rattle.desk.proofs.Frame.{value, leaves}
 use Rattle.desk.proofs.Plain.{Plain, PlainLaws, row}
 use Rattle.desk.proofs.Meeting.{reads}
 use Rattle.desk.proofs.Meeting as Meeting
-use Rattle.desk.proofs.Passing.{Passing, taken, copies, OfSlot, rule-ended, rule-clauses, Rule, to-rule, Others, goes-rule}
+use Rattle.desk.proofs.Passing.{Passing, taken, copies, OfSlot, rule-ended, rule-clauses, Rule, to-rule, Others}
+use Rattle.desk.proofs.Passing.{goes-rule}
 use Rattle.desk.proofs.Lending.{ℓt, machine, Lent}
 use Rattle.desk.proofs.Calls.{Take, takes-shared}
 use Rattle.desk.proofs.Asks.{consults-lent}

@@ -16,7 +16,8 @@ use Rattle.paper.specs.declared.Roubles.{Roubles}
 use Rattle.paper.specs.Lists.{pick, every}
 use Rattle.paper.specs.Roundings.{halfUp, toGrid}
 use Rattle.paper.specs.Ranges.{isPrice, validRows, priceMade}
-use Rattle.paper_desk.specs.Evaluation.{weights, bidOf, askOf, roublesOf, dayRows, hasCrossedRow, rowFits, median, between, evaluationOf, evaluationFits}
+use Rattle.paper_desk.specs.Evaluation.{weights, bidOf, askOf, roublesOf, dayRows, hasCrossedRow, rowFits, median}
+use Rattle.paper_desk.specs.Evaluation.{between, evaluationOf, evaluationFits}
 use Rattle.paper.proofs.Logic.{not-true-and-false}
 use Rattle.paper.proofs.Roundings.{half-le}
 use Rattle.evaluation.specs.declared.Book.{Book}

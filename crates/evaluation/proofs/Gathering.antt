@@ -22,7 +22,8 @@ use Rattle.evaluation.specs.declared.Gathered.{Gathered}
 use Rattle.evaluation.specs.declared.Gathered.the-variants.{OutOfRange, Crossed, Beyond, Whole}
 use Rattle.evaluation.specs.Book.{added, bookOf, isTaken, gatheredOf, isBook, Gathers}
 use Rattle.evaluation.proofs.Prices.{roubles-are-fitting}
-use Rattle.evaluation.proofs.Books.{joined, empty, joined-first, joined-next, joined-none, Filled, filled-first, filled-next}
+use Rattle.evaluation.proofs.Books.{joined, empty, joined-first, joined-next, joined-none, Filled, filled-first}
+use Rattle.evaluation.proofs.Books.{filled-next}
 
 -- the day's rows from a place on
 unfoldable pub rowsLeft : List ℤ → ℕ → List Row

@@ -12,7 +12,8 @@ use Rattle.paper.specs.Lists.{pick, every}
 use Rattle.paper.specs.Numbers.{priceMost, volumeMost}
 use Rattle.paper.specs.Roundings.{halfUp}
 use Rattle.paper.specs.Ranges.{validRows}
-use Rattle.paper_desk.specs.Evaluation.{weights, worth, bestBid, lesserAsk, bestAsk, roublesOf, dayRows, isCrossedRow, hasCrossedRow, rowFits}
+use Rattle.paper_desk.specs.Evaluation.{weights, worth, bestBid, lesserAsk, bestAsk, roublesOf, dayRows, isCrossedRow}
+use Rattle.paper_desk.specs.Evaluation.{hasCrossedRow, rowFits}
 use Rattle.evaluation.specs.declared.Book.{Book}
 use Rattle.evaluation.specs.declared.PriceFigures.{PriceFigures}
 use Rattle.evaluation.specs.declared.Gathered.{Gathered}

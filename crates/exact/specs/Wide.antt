@@ -1,6 +1,7 @@
 -- The ranges of a product that does not fit 64 bits, and of its divisor. Assumes nothing.
 use Prim.Native.Nat.{ℕ, _+_, _*_, _^_, _≤_, _<_}
-use Rattle.paper.specs.Numbers.{oneInBp, coarsestGrid, oneInHundredths, yearInDayBp, priceMost, rateMost, divisorLeast, divisorMost, shiftMost, movesMost}
+use Rattle.paper.specs.Numbers.{oneInBp, coarsestGrid, oneInHundredths, yearInDayBp, priceMost, rateMost, divisorLeast}
+use Rattle.paper.specs.Numbers.{divisorMost, shiftMost, movesMost}
 use Rattle.exact.specs.SignedLaws.{growthMost}
 
 -- x·n can be divided by e in 64 bits: a digit of n times a remainder fits, and the quotient is below 2^63

@@ -13,11 +13,13 @@ use Rattle.paper.specs.declared.GivenStatics.{GivenStatics}
 use Rattle.paper.specs.declared.Side.{Side}
 use Rattle.paper.specs.Numbers.{termDaysMost, repoLeast, repoMost, movesMost}
 use Rattle.paper_desk.specs.Kept.{freshMost}
-use Rattle.paper.specs.Ranges.{withinZ, isPrice, isRate, isGridPrice, gridOf, validSide, sideOf, staticsOf, validStatics}
+use Rattle.paper.specs.Ranges.{withinZ, isPrice, isRate, isGridPrice, gridOf, validSide, sideOf, staticsOf}
+use Rattle.paper.specs.Ranges.{validStatics}
 use Rattle.paper_desk.specs.Limits.{rangeLimit, bandLimit}
 use Rattle.paper.specs.Verdicts.{firstOf}
 use Rattle.paper_desk.specs.Gateway.{gatewayChecks, gatewayAnswer, rangeInRange, bandInRange}
-use Rattle.limits.specs.LimitRanges.{RangeInputs, BandInputs, range-has-range-inputs, band-has-band-inputs, valid-limit-statics}
+use Rattle.limits.specs.LimitRanges.{RangeInputs, BandInputs, range-has-range-inputs, band-has-band-inputs}
+use Rattle.limits.specs.LimitRanges.{valid-limit-statics}
 use Rattle.limits.specs.LimitBounds.{range-high, band-high}
 use Rattle.gateway.specs.declared.limit.Grown.{Grown}
 use Rattle.gateway.specs.declared.limit.Asked.{Asked}

@@ -16,8 +16,14 @@ use Rattle.paper.specs.declared.Admission.{Admission}
 use Rattle.paper.specs.declared.Day.{Day}
 use Rattle.paper.specs.declared.Quote.{Quote}
 use Rattle.paper.specs.Lists.{allThree}
-use Rattle.paper.specs.Numbers.{priceLeast, priceMost, rateMost, volatilityMost, lotMost, stepMost, multiplierLeast, multiplierMost, weightMost, waitMost, firstDaysMost, daysMost, liquidityMost, divisorLeast, divisorMost, shiftMost, nearnessMost, secondsMost, eveningMovesMost, idMost, dayMost, secondLast, behindMost, aheadMost, termDaysMost, repoLeast, repoMost, termLast, quoteMost}
-use Rattle.paper.specs.Ranges.{within, isPrice, isRate, gridOf, isGridPrice, validStatics, staticsOf, validGiven, tentativeTop, validTentative, validAdmission, validTerm, termAt, validQuote, validSide, validDayNumbers}
+use Rattle.paper.specs.Numbers.{priceLeast, priceMost, rateMost, volatilityMost, lotMost, stepMost, multiplierLeast}
+use Rattle.paper.specs.Numbers.{multiplierMost, weightMost, waitMost, firstDaysMost, daysMost, liquidityMost}
+use Rattle.paper.specs.Numbers.{divisorLeast, divisorMost, shiftMost, nearnessMost, secondsMost, eveningMovesMost}
+use Rattle.paper.specs.Numbers.{idMost, dayMost, secondLast, behindMost, aheadMost, termDaysMost, repoLeast, repoMost}
+use Rattle.paper.specs.Numbers.{termLast, quoteMost}
+use Rattle.paper.specs.Ranges.{within, isPrice, isRate, gridOf, isGridPrice, validStatics, staticsOf, validGiven}
+use Rattle.paper.specs.Ranges.{tentativeTop, validTentative, validAdmission, validTerm, termAt, validQuote, validSide}
+use Rattle.paper.specs.Ranges.{validDayNumbers}
 use Rattle.paper.proofs.Logic.{and-left, and-right, each-of-three, order-trans}
 
 -- ---- ranges and multiples

@@ -1,7 +1,8 @@
 // The table of statics with W-210's and W-211's, and the tentative rate, whose range the step decides.
 ghost use mathlib.Core.Path.{_≡_};
 ghost use Prim.Native.Nat.{_<_};
-ghost use Rattle.paper.specs.Ranges.{validStatics, staticsOf, validGiven, validTentative, orderedStatics, multiplesOfStep};
+ghost use Rattle.paper.specs.Ranges.{validStatics, staticsOf, validGiven, validTentative, orderedStatics};
+ghost use Rattle.paper.specs.Ranges.{multiplesOfStep};
 use paper::GivenStatics;
 use paper::Rate;
 use paper::Statics;

@@ -7,7 +7,8 @@ use lib.IntN.{ℤ}
 use borrow.Author.Tests.{ltb-true}
 use Rattle.paper.specs.declared.Interest.{Interest}
 use Rattle.paper.specs.declared.Verdict.the-variants.{OutOfRange, NotAscending}
-use Rattle.paper_interest.specs.Interest.{validInterest, validKeys, maturitiesOf, strictlyAscending, interestChecks, refusedInterest, acceptedInterest, interestAnswer}
+use Rattle.paper_interest.specs.Interest.{validInterest, validKeys, maturitiesOf, strictlyAscending, interestChecks}
+use Rattle.paper_interest.specs.Interest.{refusedInterest, acceptedInterest, interestAnswer}
 use Rattle.paper.specs.Verdicts.{isDone, firstOf}
 use Rattle.paper.proofs.Logic.{and-left, and-right}
 use Rattle.paper_interest.proofs.InterestRanges.{valid-interest-in-range}

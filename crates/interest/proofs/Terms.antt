@@ -13,7 +13,8 @@ use Rattle.paper.specs.declared.Interest.{Interest}
 use Rattle.paper.specs.declared.Maturity.{Maturity}
 use Rattle.paper.specs.declared.RepoLimits.{RepoLimits}
 use Rattle.paper.specs.Numbers.{keyNumbers}
-use Rattle.paper_interest.specs.Interest.{keyAt, validKeys, maturitiesOf, upward, downward, maturityFigures, figureAt, interpolated, upperLimit, lowerLimit, InterestRange, KeyRange}
+use Rattle.paper_interest.specs.Interest.{keyAt, validKeys, maturitiesOf, upward, downward, maturityFigures, figureAt}
+use Rattle.paper_interest.specs.Interest.{interpolated, upperLimit, lowerLimit, InterestRange, KeyRange}
 use Rattle.paper.proofs.Logic.{pick-true, pick-false}
 use Rattle.paper.proofs.Differences.{whole-is-difference}
 use Rattle.paper_interest.proofs.Lifted.{lifted-is}

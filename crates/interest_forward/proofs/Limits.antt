@@ -9,7 +9,8 @@ use Rattle.paper.specs.Numbers.{oneInHundredths, maturityMost, divisorMost}
 use Rattle.paper.specs.Roundings.{halfUp}
 use Rattle.paper_interest.specs.Interest.{limitFrom}
 use Rattle.paper.proofs.Roundings.{half-le}
-use Rattle.paper.proofs.Differences.{difference-times, difference-plus, difference-minus, differences-equal, whole-is-difference}
+use Rattle.paper.proofs.Differences.{difference-times, difference-plus, difference-minus, differences-equal}
+use Rattle.paper.proofs.Differences.{whole-is-difference}
 use Rattle.paper_interest.proofs.Lifted.{half-shifts}
 use Rattle.interest_forward.specs.declared.Point.{Point}
 use Rattle.interest_repo.specs.Lift.{lift}

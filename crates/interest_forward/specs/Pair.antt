@@ -9,7 +9,8 @@ use Rattle.paper.specs.declared.Maturity.{Maturity}
 use Rattle.paper.specs.declared.RepoLimits.{RepoLimits}
 use Rattle.paper.specs.Lists.{pick}
 use Rattle.paper.specs.Numbers.{oneInHundredths, maturityMost}
-use Rattle.paper_interest.specs.Interest.{figureAt, forward, margin, limitFrom, upward, downward, upperWorked, lowerWorked, lesserZ, greaterZ, isHeld, upperLimit, lowerLimit, InterestRange}
+use Rattle.paper_interest.specs.Interest.{figureAt, forward, margin, limitFrom, upward, downward, upperWorked}
+use Rattle.paper_interest.specs.Interest.{lowerWorked, lesserZ, greaterZ, isHeld, upperLimit, lowerLimit, InterestRange}
 use Rattle.interest_forward.specs.declared.Point.{Point}
 use Rattle.interest_forward.specs.Points.{figureMost, rateOf}
 

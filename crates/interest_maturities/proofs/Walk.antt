@@ -12,7 +12,8 @@ use lib.ListN.{length}
 use borrow.Author.Tests.{lt-ltb, le-ltb, le-leb, lt-leb, eq-eqb, ne-eqb}
 use Rattle.paper.specs.declared.Maturity.{Maturity}
 use Rattle.paper.specs.Numbers.{keyNumbers}
-use Rattle.paper_interest.specs.Interest.{keyAt, maturityOf, maturitiesOf, strictlyAscending, strictlyAscendingFrom, figureAt, figureAfter}
+use Rattle.paper_interest.specs.Interest.{keyAt, maturityOf, maturitiesOf, strictlyAscending, strictlyAscendingFrom}
+use Rattle.paper_interest.specs.Interest.{figureAt, figureAfter}
 use Rattle.paper.proofs.Logic.{le-or-lt}
 use Rattle.exact.specs.LentLaws.{Place, place-first, place-next, left-here as part-here, left-end as parts-end}
 use Rattle.interest_maturities.specs.KeyLaws.{maturityAt, restOf, rest-first, place-in-eights}

@@ -12,7 +12,8 @@ use Rattle.paper.specs.declared.Maturity.{Maturity}
 use Rattle.paper.specs.Lists.{every}
 use Rattle.paper.specs.Numbers.{keyNumbers, allKeyNumbersMost}
 use Rattle.paper.specs.Ranges.{partsFrom}
-use Rattle.paper_interest.specs.Interest.{LentKey, keyAt, keysOf, wholeKeys, validKey, validKeys, maturityOf, maturitiesOf}
+use Rattle.paper_interest.specs.Interest.{LentKey, keyAt, keysOf, wholeKeys, validKey, validKeys, maturityOf}
+use Rattle.paper_interest.specs.Interest.{maturitiesOf}
 use Rattle.paper.proofs.Logic.{and-left, and-right}
 use Rattle.exact.specs.EveryLaws.{every-at}
 use Rattle.exact.specs.LentLaws.{Place, partsLeft, left-first}

@@ -7,7 +7,8 @@ use lib.IntN.{ℤ, pos, negsuc, natAbs, subℕ, _+ℤ_, _-ℤ_}
 use Rattle.paper.specs.Numbers.{repoMost}
 use Rattle.paper.specs.Roundings.{grown, apart, atLeastZero}
 use Rattle.paper_interest.specs.Interest.{apartZ}
-use Rattle.paper.proofs.Differences.{differences-equal, whole-is-difference, difference-plus, difference-minus, difference-size-is-apart}
+use Rattle.paper.proofs.Differences.{differences-equal, whole-is-difference, difference-plus, difference-minus}
+use Rattle.paper.proofs.Differences.{difference-size-is-apart}
 use Rattle.paper_interest.proofs.Lifted.{lifted-is, difference-at-least-zero}
 
 -- the base; it is no number of the paper

@@ -14,7 +14,8 @@ use Rattle.paper.specs.declared.Interest.{Interest}
 use Rattle.paper.specs.declared.Verdict.the-variants.{Done}
 use Rattle.paper.specs.declared.WorkedBand.{WorkedBand}
 use Rattle.paper.specs.Numbers.{dayMost, behindMost, aheadMost, termDaysMost}
-use Rattle.paper_interest.specs.Interest.{maturitiesOf, lowerLimit, upperLimit, interestChecks, acceptedInterest, refusedInterest, interestAnswer}
+use Rattle.paper_interest.specs.Interest.{maturitiesOf, lowerLimit, upperLimit, interestChecks, acceptedInterest}
+use Rattle.paper_interest.specs.Interest.{refusedInterest, interestAnswer}
 use Rattle.paper.specs.Ranges.{validTerm, validRows, validDay}
 use Rattle.paper.specs.Terms.{workedRepo, repoOf, termOf, dayOf}
 use Rattle.paper.specs.Verdicts.{isDone, firstOf}

@@ -16,8 +16,13 @@ use Rattle.paper.specs.declared.Limits.{Limits}
 use Rattle.paper.specs.declared.Record.{Record}
 use Rattle.paper.specs.declared.Side.{Side}
 use Rattle.paper.specs.declared.Side.the-variants.{Upper, Lower}
-use Rattle.paper.specs.Numbers.{repoLeast, repoMost, limitMost, movesMost, idMost, dayMost, ageMost, priceMost, rateMost, volatilityMost, termDaysMost, lotMost, stepMost, multiplierLeast, multiplierMost, weightMost, waitMost, firstDaysMost, daysMost, liquidityMost, divisorLeast, divisorMost, shiftMost, nearnessMost, secondsMost, eveningMovesMost, pastEvery}
-use Rattle.paper.specs.Ranges.{within, withinZ, unsigned, sideNumber, lastDay, termAt, noRate, sound, validStatics, staticsOf, validGiven, validAdmission}
+use Rattle.paper.specs.Numbers.{repoLeast, repoMost, limitMost, movesMost, idMost, dayMost, ageMost, priceMost}
+use Rattle.paper.specs.Numbers.{rateMost, volatilityMost, termDaysMost, lotMost, stepMost, multiplierLeast}
+use Rattle.paper.specs.Numbers.{multiplierMost, weightMost, waitMost, firstDaysMost, daysMost, liquidityMost}
+use Rattle.paper.specs.Numbers.{divisorLeast, divisorMost, shiftMost, nearnessMost, secondsMost, eveningMovesMost}
+use Rattle.paper.specs.Numbers.{pastEvery}
+use Rattle.paper.specs.Ranges.{within, withinZ, unsigned, sideNumber, lastDay, termAt, noRate, sound, validStatics}
+use Rattle.paper.specs.Ranges.{staticsOf, validGiven, validAdmission}
 use Rattle.paper.proofs.Logic.{and-both, and-left, and-right, _&_}
 use Rattle.paper_desk.proofs.Units.{unsigned-within}
 use Rattle.paper_desk.proofs.TentativeRange.{tentative-top-high}
@@ -25,9 +30,11 @@ use Rattle.paper_desk.specs.Limits.{countOf}
 use Rattle.paper_desk.specs.Sides.{limitOn}
 use Rattle.inputs.proofs.Facts.{within-facts, StaticsFacts, statics-facts, given-statics-valid}
 use Rattle.record_soundness.proofs.Facts.{LimitsFacts, SoundRecord, sound-facts}
-use Rattle.paper_messages.specs.Fields.{staticsFields, ratesFields, bandsFields, moveFields, fieldsOf, staticsKind, places, tentativeLast, filled, placesOf}
+use Rattle.paper_messages.specs.Fields.{staticsFields, ratesFields, bandsFields, moveFields, fieldsOf, staticsKind}
+use Rattle.paper_messages.specs.Fields.{places, tentativeLast, filled, placesOf}
 use Rattle.paper_messages.specs.Messages.{isKnown, inRanges, numberAt, givenIn, asAdmission, valid}
-use Rattle.paper_messages.specs.Records.{pastSigned, valueOf, flagOf, message, staticsNumbers, staticsMessage, ratesMessage, bandsMessage, moveMessage, rangeShown, bandShown}
+use Rattle.paper_messages.specs.Records.{pastSigned, valueOf, flagOf, message, staticsNumbers, staticsMessage}
+use Rattle.paper_messages.specs.Records.{ratesMessage, bandsMessage, moveMessage, rangeShown, bandShown}
 
 -- ---- values in range
 

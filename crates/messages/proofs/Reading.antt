@@ -18,7 +18,9 @@ use Rattle.paper.specs.Verdicts.{firstOf, isDone}
 use Rattle.paper.proofs.Logic.{pick-false}
 use Rattle.paper_messages.specs.Bytes.{spelled}
 use Rattle.paper_messages.specs.Fields.{placesOf}
-use Rattle.paper_messages.specs.Messages.{lengthWidth, kindWidth, lengthLeast, lengthMost, lengthAt, kindAt, lengthOf, isKnown, valid, valuesAt, messageAt, noMessage, readChecks, refusedHeard, acceptedHeard, heardAt}
+use Rattle.paper_messages.specs.Messages.{lengthWidth, kindWidth, lengthLeast, lengthMost, lengthAt, kindAt, lengthOf}
+use Rattle.paper_messages.specs.Messages.{isKnown, valid, valuesAt, messageAt, noMessage, readChecks, refusedHeard}
+use Rattle.paper_messages.specs.Messages.{acceptedHeard, heardAt}
 use Rattle.paper_messages.proofs.FieldLaws.{kinds-hold}
 use Rattle.message_bytes.specs.Asked.{Room}
 use Rattle.messages.specs.Promises.{Whole}

@@ -15,7 +15,8 @@ use Rattle.paper_messages.specs.declared.Field.{Field}
 use Rattle.paper_messages.specs.declared.Message.{Message}
 use Rattle.paper_messages.specs.Bytes.{bytesOf}
 use Rattle.paper_messages.specs.Fields.{placesOf}
-use Rattle.paper_messages.specs.Messages.{lengthWidth, kindWidth, lengthLeast, lengthMost, bodyOf, lengthOf, encode, valid, writeChecks, wroteOf, written}
+use Rattle.paper_messages.specs.Messages.{lengthWidth, kindWidth, lengthLeast, lengthMost, bodyOf, lengthOf, encode}
+use Rattle.paper_messages.specs.Messages.{valid, writeChecks, wroteOf, written}
 use Rattle.paper_messages.proofs.ByteLaws.{bytes-length}
 use Rattle.paper_messages.proofs.FieldLaws.{kinds-hold, kinds-length-in-range}
 use Rattle.paper_messages.proofs.MessageLaws.{valid-is-in-ranges, encode-length}

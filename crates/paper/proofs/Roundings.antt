@@ -5,7 +5,9 @@ use mathlib.Core.Path.{_≡_, refl, ap, sym, _∙_}
 use mathlib.Core.Logic.{_⊎_, inl, inr}
 use mathlib.Core.Bool.{Bool, true, false}
 use Prim.Native.Nat.{ℕ, _+_, _-_, _*_, _/_, _%_, _≤_, _<_, min, max}
-use native.Mathlib.Nat.{div-add-mod, mul-sub, mul-mod-right, add-mod, zero-mod, le-trans, div-lt-iff-lt-mul, le-div-iff-mul-le, mul-le-mul-right, le-of-mul-le-mul-left, mul-pos, min-eq-left, min-eq-right, le-of-lt}
+use native.Mathlib.Nat.{div-add-mod, mul-sub, mul-mod-right, add-mod, zero-mod, le-trans, div-lt-iff-lt-mul}
+use native.Mathlib.Nat.{le-div-iff-mul-le, mul-le-mul-right, le-of-mul-le-mul-left, mul-pos, min-eq-left, min-eq-right}
+use native.Mathlib.Nat.{le-of-lt}
 use native.Mathlib.Omega.{arith}
 use lib.Dec.{leb}
 use borrow.Author.Tests.{le-leb, lt-leb}
@@ -13,7 +15,8 @@ use Rattle.paper.specs.declared.Way.{Way}
 use Rattle.paper.specs.declared.Way.the-variants.{Down, HalfUp, Up}
 use Rattle.paper.specs.Lists.{pick}
 use Rattle.paper.specs.Least.{leastTimes}
-use Rattle.paper.specs.Roundings.{Quotient, down, halfUp, up, rounded, roundedTo, above, below, Rounded, RoundedUp, KeepsOrder, lesserOf, greaterOf}
+use Rattle.paper.specs.Roundings.{Quotient, down, halfUp, up, rounded, roundedTo, above, below, Rounded}
+use Rattle.paper.specs.Roundings.{RoundedUp, KeepsOrder, lesserOf, greaterOf}
 use Rattle.paper.proofs.Logic.{le-or-lt}
 use Rattle.paper.proofs.Search.{times-unique}
 

@@ -10,8 +10,14 @@ use lib.ListN.{replicate}
 use Rattle.paper.specs.declared.Side.the-variants.{Upper, Lower}
 use Rattle.paper.specs.Lists.{every}
 use Rattle.paper.specs.Roundings.{up}
-use Rattle.paper.specs.Ranges.{isPrice, isRate, gridOf, isGridPrice, validStatics, staticsOf, validGiven, tentativeTop, validTentative, validAdmission, partsFrom, rowAt, rowsOf, wholeRows, validRow, validRows, validTerm, validDay, validQuote, validSide, sideOf, lastDay, isLimit, validLimits, validNear, validNearSeconds, validSession, validExternal, sound, validSlots, isLive}
-use Rattle.paper.specs.PinnedValues.{_but_, lotAt, hAt, minimaAt, ueveningAt, eveningmaxAt, idAt, p1At, tentativeAt, ageAt, rangesAt, bandsAt, admissionFrom, recordFrom, dayFrom, quoteFrom, liveAt}
+use Rattle.paper.specs.Ranges.{isPrice, isRate, gridOf, isGridPrice, validStatics, staticsOf, validGiven}
+use Rattle.paper.specs.Ranges.{tentativeTop, validTentative, validAdmission, partsFrom, rowAt, rowsOf, wholeRows}
+use Rattle.paper.specs.Ranges.{validRow, validRows, validTerm, validDay, validQuote, validSide, sideOf, lastDay}
+use Rattle.paper.specs.Ranges.{isLimit, validLimits, validNear, validNearSeconds, validSession, validExternal}
+use Rattle.paper.specs.Ranges.{sound, validSlots, isLive}
+use Rattle.paper.specs.PinnedValues.{_but_, lotAt, hAt, minimaAt, ueveningAt, eveningmaxAt, idAt, p1At}
+use Rattle.paper.specs.PinnedValues.{tentativeAt, ageAt, rangesAt, bandsAt, admissionFrom, recordFrom, dayFrom}
+use Rattle.paper.specs.PinnedValues.{quoteFrom, liveAt}
 
 -- ---- a row of numbers with their ranges
 

@@ -36,7 +36,13 @@ use Rattle.paper.specs.declared.Day.{Day}
 use Rattle.paper.specs.declared.Row.{Row}
 use Rattle.paper.specs.declared.Quote.{Quote}
 use Rattle.paper.specs.Lists.{pick, allThree, every}
-use Rattle.paper.specs.Numbers.{lotToTen, gridOfOne, gridToTen, priceLeast, priceMost, rateMost, volatilityMost, tentativeMost, lotMost, stepMost, multiplierLeast, multiplierMost, weightMost, waitMost, firstDaysMost, daysMost, liquidityMost, divisorLeast, divisorMost, shiftMost, nearnessMost, secondsMost, eveningMovesMost, idMost, dayMost, ageMost, limitMost, movesMost, secondLast, slotsMost, behindMost, aheadMost, termDaysMost, repoLeast, repoMost, rowNumbers, allNumbersMost, rowTermMost, centralMost, volumeMost, termLast, quoteMost, pastEvery}
+use Rattle.paper.specs.Numbers.{lotToTen, gridOfOne, gridToTen, priceLeast, priceMost, rateMost, volatilityMost}
+use Rattle.paper.specs.Numbers.{tentativeMost, lotMost, stepMost, multiplierLeast, multiplierMost, weightMost}
+use Rattle.paper.specs.Numbers.{waitMost, firstDaysMost, daysMost, liquidityMost, divisorLeast, divisorMost}
+use Rattle.paper.specs.Numbers.{shiftMost, nearnessMost, secondsMost, eveningMovesMost, idMost, dayMost, ageMost}
+use Rattle.paper.specs.Numbers.{limitMost, movesMost, secondLast, slotsMost, behindMost, aheadMost, termDaysMost}
+use Rattle.paper.specs.Numbers.{repoLeast, repoMost, rowNumbers, allNumbersMost, rowTermMost, centralMost}
+use Rattle.paper.specs.Numbers.{volumeMost, termLast, quoteMost, pastEvery}
 use Rattle.paper.specs.Roundings.{up}
 
 -- "low..high"

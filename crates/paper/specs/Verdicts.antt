@@ -5,7 +5,13 @@ use mathlib.Core.List.{List, [], _∷_}
 use Prim.Native.Nat.{ℕ}
 use lib.Dec.{eqb}
 use Rattle.paper.specs.declared.Verdict.{Verdict}
-use Rattle.paper.specs.declared.Verdict.the-variants.{Done, NoSuchId, AlreadyAdmitted, NoEmptySlot, AdmissionOutOfRange, DayNotAfter, OutOfRange, PriceOutOfRange, MoveTooLarge, BandCrossed, NotLive, NotMonitored, MovesUsedUp, SecondEarlier, NotAscending, BadLine, RowCrossed, NoFaceValue, NoEveningMove, OpenedTwice, BadFloat, CutShort, WrongLength, FieldOutOfRange, NoRoom}
+use Rattle.paper.specs.declared.Verdict.the-variants.{Done, NoSuchId, AlreadyAdmitted, NoEmptySlot}
+use Rattle.paper.specs.declared.Verdict.the-variants.{AdmissionOutOfRange, DayNotAfter, OutOfRange}
+use Rattle.paper.specs.declared.Verdict.the-variants.{PriceOutOfRange, MoveTooLarge, BandCrossed, NotLive}
+use Rattle.paper.specs.declared.Verdict.the-variants.{NotMonitored, MovesUsedUp, SecondEarlier, NotAscending}
+use Rattle.paper.specs.declared.Verdict.the-variants.{BadLine, RowCrossed, NoFaceValue, NoEveningMove}
+use Rattle.paper.specs.declared.Verdict.the-variants.{OpenedTwice, BadFloat, CutShort, WrongLength}
+use Rattle.paper.specs.declared.Verdict.the-variants.{FieldOutOfRange, NoRoom}
 use Rattle.paper.specs.Lists.{pick}
 
 -- the table's numbers, in its order

@@ -10,7 +10,8 @@ use Rattle.paper.specs.Lists.{pick, every}
 use Rattle.paper.specs.Verdicts.{isDone, firstOf, FirstAt, NoneApplies, Exactly}
 use Rattle.paper_desk.specs.Desk.{refusals}
 use Rattle.paper.proofs.Logic.{pick-true, pick-false}
-use Rattle.paper_desk.proofs.Refusals.{done-is, given-is-first, first-is-given, done-means-none-applies, none-applies-gives-done}
+use Rattle.paper_desk.proofs.Refusals.{done-is, given-is-first, first-is-given, done-means-none-applies}
+use Rattle.paper_desk.proofs.Refusals.{none-applies-gives-done}
 use Rattle.paper_bonds.specs.declared.Bond.{Bond}
 use Rattle.paper_bonds.specs.Bonds.{flowsOf, bondChecks, refusedBond, acceptedBond, bondAnswer}
 

@@ -18,7 +18,8 @@ use Rattle.paper_desk.proofs.KindLaws.{shifted-positive, band-positive, narrowe
 use Rattle.paper_bonds.specs.declared.Bond.{Bond}
 use Rattle.paper_bonds.specs.declared.Flow.{Flow}
 use Rattle.paper_bonds.specs.BondNumbers.{offBook}
-use Rattle.paper_bonds.specs.Bonds.{bondStatics, validBond, grossOf, firstRate, scaleAt, twentyBefore, twentyLimit, offLimit, limitsFrom, limitsOf, WithinBand}
+use Rattle.paper_bonds.specs.Bonds.{bondStatics, validBond, grossOf, firstRate, scaleAt, twentyBefore}
+use Rattle.paper_bonds.specs.Bonds.{twentyLimit, offLimit, limitsFrom, limitsOf, WithinBand}
 use Rattle.paper_bonds.proofs.BondFigures.{bond-statics-valid}
 
 pub off-is : (b : BondScale) (st : Statics) (side : Side) (p s1 c k : ℕ) (repo : ℤ) → 0 < b .face

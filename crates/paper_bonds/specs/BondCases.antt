@@ -12,8 +12,10 @@ use Rattle.paper.specs.declared.RepoBand.the-variants as band
 use Rattle.paper.specs.Lists.{pick, every, some}
 use Rattle.paper.specs.Roundings.{down, halfUp, up, toGrid, lesserOf, greaterOf, grown}
 use Rattle.paper.specs.Least.{first, least, leastMultiple}
-use Rattle.paper.specs.Ranges.{unsigned, partsFrom, isPrice, validStatics, staticsOf, validGiven, tentativeTop, validTentative, validTerm, noLimits}
-use Rattle.paper_desk.specs.Rates.{leastStep, tentativeRate, tentativeAfter, meetsRequirement, daysOf, minimumOf, covers, levelRate, unmodelled, figuresByVolatility}
+use Rattle.paper.specs.Ranges.{unsigned, partsFrom, isPrice, validStatics, staticsOf, validGiven, tentativeTop}
+use Rattle.paper.specs.Ranges.{validTentative, validTerm, noLimits}
+use Rattle.paper_desk.specs.Rates.{leastStep, tentativeRate, tentativeAfter, meetsRequirement, daysOf, minimumOf}
+use Rattle.paper_desk.specs.Rates.{covers, levelRate, unmodelled, figuresByVolatility}
 use Rattle.paper_desk.specs.Limits.{bondLimitOf, shifted, farthest, spread, monitored, narrower, crossed}
 use Rattle.paper.specs.Terms.{workedRepo, repoOf, termOf}
 use Rattle.paper.specs.Verdicts.{numberOf, isDone, firstOf}
@@ -21,7 +23,10 @@ use Rattle.paper.specs.PinnedValues.{_but_, signed, plain}
 use Rattle.paper_bonds.specs.declared.Bond.{Bond}
 use Rattle.paper_bonds.specs.declared.BondLimits.{BondLimits}
 use Rattle.paper_bonds.specs.declared.BondAnswer.{BondAnswer}
-use Rattle.paper_bonds.specs.Bonds.{givenOf, flowAt, lentFlows, wholeFlows, validFlow, validFlows, flowOf, flowsOf, validNumbers, validBond, grossOf, carryTerm, carryDue, carryOf, bondFigures, limitsFrom, limitsOf, isCrossed, bondChecks, refusedBond, acceptedBond, bondAnswer}
+use Rattle.paper_bonds.specs.Bonds.{givenOf, flowAt, lentFlows, wholeFlows, validFlow, validFlows, flowOf}
+use Rattle.paper_bonds.specs.Bonds.{flowsOf, validNumbers, validBond, grossOf, carryTerm, carryDue, carryOf}
+use Rattle.paper_bonds.specs.Bonds.{bondFigures, limitsFrom, limitsOf, isCrossed, bondChecks, refusedBond}
+use Rattle.paper_bonds.specs.Bonds.{acceptedBond, bondAnswer}
 
 -- ---- a bond as a row of numbers, in the order of the evening's line
 

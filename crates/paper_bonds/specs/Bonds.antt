@@ -18,11 +18,14 @@ use Rattle.paper.specs.declared.Way.{Way}
 use Rattle.paper.specs.declared.Verdict.{Verdict}
 use Rattle.paper.specs.declared.Verdict.the-variants.{Done, OutOfRange, PriceOutOfRange, BandCrossed, NoFaceValue}
 use Rattle.paper.specs.Lists.{pick, three, forLevels, allThree, every, some}
-use Rattle.paper.specs.Numbers.{volatilityMost, ageMost, aheadMost, repoLeast, repoMost, yearInDayBp, oneInPerCentHundredths}
+use Rattle.paper.specs.Numbers.{volatilityMost, ageMost, aheadMost, repoLeast, repoMost, yearInDayBp}
+use Rattle.paper.specs.Numbers.{oneInPerCentHundredths}
 use Rattle.paper.specs.Roundings.{Quotient, Rounded, halfUp, grown}
-use Rattle.paper.specs.Ranges.{within, withinZ, unsigned, partsFrom, isPrice, staticsOf, validGiven, validTentative, validTerm, termAt, rateAt, noRate, noLimits}
+use Rattle.paper.specs.Ranges.{within, withinZ, unsigned, partsFrom, isPrice, staticsOf, validGiven, validTentative}
+use Rattle.paper.specs.Ranges.{validTerm, termAt, rateAt, noRate, noLimits}
 use Rattle.paper_desk.specs.Rates.{figuresByVolatility}
-use Rattle.paper_desk.specs.Limits.{bond, inward, bondLimitOf, shifted, growing, narrower, bandBefore, bandLimitFor, limitFor, bandBy, crossed}
+use Rattle.paper_desk.specs.Limits.{bond, inward, bondLimitOf, shifted, growing, narrower, bandBefore, bandLimitFor}
+use Rattle.paper_desk.specs.Limits.{limitFor, bandBy, crossed}
 use Rattle.paper.specs.Verdicts.{isDone, Check, firstOf}
 use Rattle.paper_desk.specs.Desk.{noMoves}
 use Rattle.paper.specs.Terms.{termOf}
@@ -31,7 +34,8 @@ use Rattle.paper_bonds.specs.declared.Bond.{Bond}
 use Rattle.paper_bonds.specs.declared.Flow.{Flow}
 use Rattle.paper_bonds.specs.declared.BondLimits.{BondLimits}
 use Rattle.paper_bonds.specs.declared.BondAnswer.{BondAnswer}
-use Rattle.paper_bonds.specs.BondNumbers.{netMost, moneyMost, flowNumbers, allFlowNumbersMost, flowDayLeast, flowDayMost, offBook}
+use Rattle.paper_bonds.specs.BondNumbers.{netMost, moneyMost, flowNumbers, allFlowNumbersMost, flowDayLeast}
+use Rattle.paper_bonds.specs.BondNumbers.{flowDayMost, offBook}
 
 -- ---- the statics
 

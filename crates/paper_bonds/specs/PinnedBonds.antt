@@ -15,7 +15,8 @@ use Rattle.paper.specs.Verdicts.{numberOf}
 use Rattle.paper.specs.PinnedRanges.{Ranged, range, valuesOf, straddles, atTheEndsAlone}
 use Rattle.paper_bonds.specs.declared.Bond.{Bond}
 use Rattle.paper_bonds.specs.Bonds.{validBond, validFlows}
-use Rattle.paper_bonds.specs.BondCases.{mAt, netAt, faceAt, accruedAt, repoAt, termsAt, minimaAt, pchmaxAt, ewmaAt, bondFrom, plainBond, answered, answerTo, firstBand}
+use Rattle.paper_bonds.specs.BondCases.{mAt, netAt, faceAt, accruedAt, repoAt, termsAt, minimaAt, pchmaxAt}
+use Rattle.paper_bonds.specs.BondCases.{ewmaAt, bondFrom, plainBond, answered, answerTo, firstBand}
 
 -- ---- "or the answer is 6": the ranges, in the order of the row; h is 1, and where two are ordered the other is an end
 

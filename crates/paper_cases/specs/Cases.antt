@@ -18,13 +18,25 @@ use Rattle.paper.specs.Lists.{pick, three, every, some, those}
 use Rattle.paper.specs.Numbers.{millionthsInBp}
 use Rattle.paper.specs.Roundings.{down, up, halfUp, toGrid, lesserOf, greaterOf, grown, apart}
 use Rattle.paper.specs.Least.{first, least, leastRoot, leastTimes, leastMultiple}
-use Rattle.paper.specs.Ranges.{isPrice, isRate, isGridPrice, validStatics, tentativeTop, validTentative, validRow, wholeRows, validRows, validTerm, validDay, lastDay, isLimit, validLimits, validNear, validNearSeconds, validSession, validExternal, sound, validSlots, gridOf, staticsOf, rowAt, partsFrom, rowsOf, rowOf, unsigned, noTerm, noLimits, rateAt, rangeAt, bandAt, noExternal}
-use Rattle.paper_desk.specs.Evaluation.{rowPrice, rowWeight, roublesOf, traded, weights, worth, mean, closeOf, bestBid, lesserAsk, bestAsk, usedPair, bidOf, askOf, median, between, evaluationOf, dayRows, isCrossedRow, hasCrossedRow, rowFits, evaluationFits}
-use Rattle.paper_desk.specs.Rates.{modelOf, moveFrom, moveOf, weightOf, weighted, replacement, replaces, volatilityOf, leastStep, tentativeRate, tentativeRateByMove, tentativeRateOf, tentativeAfter, meetsRequirement, daysOf, minimumOf, covers, levelRate, modelled, unmodelled, figuresOf, moveTooLarge}
-use Rattle.paper_desk.specs.Limits.{limitOf, shifted, rangeLimit, rangeOf, farthest, spread, monitored, narrower, bandLimit, bandOf, crossed, deltaOf, oneMore, rangeMoved, bandMoved}
+use Rattle.paper.specs.Ranges.{isPrice, isRate, isGridPrice, validStatics, tentativeTop, validTentative, validRow}
+use Rattle.paper.specs.Ranges.{wholeRows, validRows, validTerm, validDay, lastDay, isLimit, validLimits, validNear}
+use Rattle.paper.specs.Ranges.{validNearSeconds, validSession, validExternal, sound, validSlots, gridOf, staticsOf}
+use Rattle.paper.specs.Ranges.{rowAt, partsFrom, rowsOf, rowOf, unsigned, noTerm, noLimits, rateAt, rangeAt, bandAt}
+use Rattle.paper.specs.Ranges.{noExternal}
+use Rattle.paper_desk.specs.Evaluation.{rowPrice, rowWeight, roublesOf, traded, weights, worth, mean, closeOf, bestBid}
+use Rattle.paper_desk.specs.Evaluation.{lesserAsk, bestAsk, usedPair, bidOf, askOf, median, between, evaluationOf}
+use Rattle.paper_desk.specs.Evaluation.{dayRows, isCrossedRow, hasCrossedRow, rowFits, evaluationFits}
+use Rattle.paper_desk.specs.Rates.{modelOf, moveFrom, moveOf, weightOf, weighted, replacement, replaces, volatilityOf}
+use Rattle.paper_desk.specs.Rates.{leastStep, tentativeRate, tentativeRateByMove, tentativeRateOf, tentativeAfter}
+use Rattle.paper_desk.specs.Rates.{meetsRequirement, daysOf, minimumOf, covers, levelRate, modelled, unmodelled}
+use Rattle.paper_desk.specs.Rates.{figuresOf, moveTooLarge}
+use Rattle.paper_desk.specs.Limits.{limitOf, shifted, rangeLimit, rangeOf, farthest, spread, monitored, narrower}
+use Rattle.paper_desk.specs.Limits.{bandLimit, bandOf, crossed, deltaOf, oneMore, rangeMoved, bandMoved}
 use Rattle.paper_desk.specs.Alerts.{distance, isNear, nearCleared}
 use Rattle.paper.specs.Verdicts.{numberOf, isDone, firstOf}
-use Rattle.paper_desk.specs.Desk.{saying, showing, admitted, usedBy, priceOn, moveOn, figuresOn, evaluated, moved, place, stands, found, known, evaluate, evaluateChecks, checksOf, judged, acceptedOf, step}
+use Rattle.paper_desk.specs.Desk.{saying, showing, admitted, usedBy, priceOn, moveOn, figuresOn, evaluated, moved}
+use Rattle.paper_desk.specs.Desk.{place, stands, found, known, evaluate, evaluateChecks, checksOf, judged, acceptedOf}
+use Rattle.paper_desk.specs.Desk.{step}
 use Rattle.paper.specs.PinnedValues.{givenWith, admissionZ}
 
 unfoldable pub Z : Statics

@@ -15,10 +15,13 @@ use Rattle.paper.specs.declared.Record.{Record}
 use Rattle.paper.specs.declared.Verdict.the-variants.{Done}
 use Rattle.paper.specs.Lists.{pick, every}
 use Rattle.paper.specs.Numbers.{idMost, dayMost, volatilityMost, rateMost}
-use Rattle.paper.specs.Ranges.{within, gridOf, isRate, isLimit, validLimits, noLimits, validStatics, validGiven, validFigures, validAdmission, validTerm, validNear, validNearSeconds, validSession, validExternal, staticsOf, lastDay, sound, validSlots}
+use Rattle.paper.specs.Ranges.{within, gridOf, isRate, isLimit, validLimits, noLimits, validStatics, validGiven}
+use Rattle.paper.specs.Ranges.{validFigures, validAdmission, validTerm, validNear, validNearSeconds, validSession}
+use Rattle.paper.specs.Ranges.{validExternal, staticsOf, lastDay, sound, validSlots}
 use Rattle.paper_desk.specs.Rates.{minimumOf}
 use Rattle.paper.specs.Verdicts.{numberOf, isDone, firstOf, NoneApplies, none, also}
-use Rattle.paper_desk.specs.Desk.{admitted, stands, place, known, fresh, admit, checksOf, admitChecks, acceptedOf, step}
+use Rattle.paper_desk.specs.Desk.{admitted, stands, place, known, fresh, admit, checksOf, admitChecks, acceptedOf}
+use Rattle.paper_desk.specs.Desk.{step}
 use Rattle.paper.proofs.Logic.{not-true-and-false, and-left, and-right, and-both}
 use Rattle.paper_desk.proofs.Slots.{fresh-empty, stands-written, found-written}
 use Rattle.paper_desk.proofs.Refusals.{none-applies-gives-done, accepted-step, accepted-always}

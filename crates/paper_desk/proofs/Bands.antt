@@ -27,11 +27,14 @@ use Rattle.paper.specs.Numbers.{oneInBp, oneInHundredths, yearInDayBp, oneInPer
 use Rattle.paper.specs.Roundings.{Quotient, roundedTo, KeepsOrder, lesserOf, greaterOf, grown}
 use Rattle.paper.specs.Ranges.{gridOf, noLimits}
 use Rattle.paper.specs.Verdicts.{NoneApplies, none, also}
-use Rattle.paper_desk.specs.Limits.{share, limitOf, inward, Inside, grownPrice, bondLimitOf, shifted, farthest, spread, monitored, narrower, narrowerOf, bandBefore, bandLimit, bandOf, crossed, oneMore, LimitStatics, Outward}
+use Rattle.paper_desk.specs.Limits.{share, limitOf, inward, Inside, grownPrice, bondLimitOf, shifted, farthest}
+use Rattle.paper_desk.specs.Limits.{spread, monitored, narrower, narrowerOf, bandBefore, bandLimit, bandOf}
+use Rattle.paper_desk.specs.Limits.{crossed, oneMore, LimitStatics, Outward}
 use Rattle.paper_desk.specs.Desk.{evaluated, evaluateChecks}
 use Rattle.paper.proofs.Logic.{each-of-three, not-true, not-false}
 use Rattle.paper.proofs.Roundings.{down-not-above, up-not-below}
-use Rattle.paper_desk.proofs.KindLaws.{bond-limit-is, limit-monotone, narrower-rounded, farthest-positive, monitored-positive, band-positive}
+use Rattle.paper_desk.proofs.KindLaws.{bond-limit-is, limit-monotone, narrower-rounded, farthest-positive}
+use Rattle.paper_desk.proofs.KindLaws.{monitored-positive, band-positive}
 use Rattle.paper_desk.proofs.LimitSizes.{grid-in-range}
 
 -- ---- inward

@@ -14,7 +14,8 @@ use Rattle.paper.specs.Lists.{pick}
 use Rattle.paper.specs.Numbers.{oneInTenThousandths, oneInHundredths, ageMost}
 use Rattle.paper.specs.Least.{leastMultiple}
 use Rattle.paper.specs.Roundings.{up}
-use Rattle.paper_desk.specs.Rates.{weightOf, weighted, replacement, replaces, volatilityOf, leastStep, tentativeAfter, Weighing}
+use Rattle.paper_desk.specs.Rates.{weightOf, weighted, replacement, replaces, volatilityOf, leastStep}
+use Rattle.paper_desk.specs.Rates.{tentativeAfter, Weighing}
 use Rattle.paper.proofs.Logic.{le-or-lt}
 use Rattle.paper.proofs.Search.{root-least, times-least, least-unique}
 use Rattle.paper.proofs.Roundings.{up-covers, up-least, quotient-low, difference-is-multiple}

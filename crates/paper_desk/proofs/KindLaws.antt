@@ -19,7 +19,9 @@ use Rattle.paper.specs.Lists.{pick}
 use Rattle.paper.specs.Numbers.{coarsestGrid, divisorLeast, oneInPerCentHundredths}
 use Rattle.paper.specs.Roundings.{Quotient, rounded, KeepsOrder, mirrored, roundedZ, atLeastZero, lesserOf, greaterOf}
 use Rattle.paper.specs.Ranges.{gridOf}
-use Rattle.paper_desk.specs.Limits.{inward, Kind, share, bond, limitOf, grownPrice, bondLimitOf, limitFor, shifted, farthest, growing, farthestFor, monitored, narrower, narrowerOf, bandBefore, bandLimitFor, HasFace}
+use Rattle.paper_desk.specs.Limits.{inward, Kind, share, bond, limitOf, grownPrice, bondLimitOf, limitFor}
+use Rattle.paper_desk.specs.Limits.{shifted, farthest, growing, farthestFor, monitored, narrower, narrowerOf}
+use Rattle.paper_desk.specs.Limits.{bandBefore, bandLimitFor, HasFace}
 use Rattle.paper.proofs.Logic.{le-or-lt, pick-true, pick-false}
 use Rattle.paper.proofs.Differences.{difference-is-pos, difference-is-negsuc, difference-times}
 use Rattle.paper.proofs.Roundings.{rounded-le, rounded-monotone, grid-monotone, lesser-rounded, greater-rounded}

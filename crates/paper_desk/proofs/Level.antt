@@ -4,7 +4,8 @@ use mathlib.Core.Path.{_≡_, refl, sym, _∙_, ap}
 use mathlib.Core.Logic.{_⊎_, inl, inr}
 use mathlib.Core.Bool.{Bool, true, false, _&&_}
 use Prim.Native.Nat.{ℕ, zero, suc, _+_, _-_, _*_, _/_, _%_, _≤_, _<_}
-use native.Mathlib.Nat.{mul-le-mul, mul-le-mul-left, mul-le-mul-right, le-of-mul-le-mul-left, mul-pos, le-trans, div-add-mod', mul-mod-left}
+use native.Mathlib.Nat.{mul-le-mul, mul-le-mul-left, mul-le-mul-right, le-of-mul-le-mul-left, mul-pos, le-trans}
+use native.Mathlib.Nat.{div-add-mod', mul-mod-left}
 use native.Mathlib.Omega.{arith}
 use lib.Dec.{leb, eqb, leb·zero}
 use lib.IntN.{ℤ, pos, subℕ, _*ℤ_}
@@ -15,7 +16,9 @@ use Rattle.paper.specs.Lists.{pick}
 use Rattle.paper.specs.Roundings.{Quotient}
 use Rattle.paper.specs.Least.{leastMultiple}
 use Rattle.paper.specs.Ranges.{validStatics}
-use Rattle.paper_desk.specs.Rates.{meetsRequirement, daysOf, minimumOf, covers, levelRate, AtLeastRoots, volatilePart, liquidPart, AtLeastRequired, HeldLeast, has, volatileNeed, liquidNeed, rootsWithin}
+use Rattle.paper_desk.specs.Rates.{meetsRequirement, daysOf, minimumOf, covers, levelRate, AtLeastRoots}
+use Rattle.paper_desk.specs.Rates.{volatilePart, liquidPart, AtLeastRequired, HeldLeast, has, volatileNeed}
+use Rattle.paper_desk.specs.Rates.{liquidNeed, rootsWithin}
 use Rattle.paper.proofs.Logic.{not-true-and-false, and-left, and-right, and-both, le-or-lt, pick-true, pick-false}
 use Rattle.paper.proofs.Search.{Mono, multiple-holds, multiple-least, multiple-within-bound, multiple-is-multiple}
 use Rattle.paper_desk.proofs.Roots.{roots-covered, Floor, root-has-floor, no-room-over-sum, no-room-over-cross}

@@ -16,10 +16,12 @@ use Rattle.paper.specs.declared.Way.{Way}
 use Rattle.paper.specs.declared.Moves.{Moves}
 use Rattle.paper.specs.declared.Term.{Term}
 use Rattle.paper.specs.Lists.{pick}
-use Rattle.paper.specs.Numbers.{oneInBp, coarsestGrid, yearInDayBp, priceMost, rateMost, limitMost, termDaysMost, repoMost}
+use Rattle.paper.specs.Numbers.{oneInBp, coarsestGrid, yearInDayBp, priceMost, rateMost, limitMost, termDaysMost}
+use Rattle.paper.specs.Numbers.{repoMost}
 use Rattle.paper.specs.Roundings.{Quotient, rounded, roundedTo, grown}
 use Rattle.paper.specs.Ranges.{gridOf, isLimit, validLimits, validStatics, validTerm}
-use Rattle.paper_desk.specs.Limits.{limitOf, inward, shifted, rangeLimit, rangeOf, farthest, spread, monitored, narrower, narrowerOf, share, bandLimit, bandOf, deltaOf, LimitStatics}
+use Rattle.paper_desk.specs.Limits.{limitOf, inward, shifted, rangeLimit, rangeOf, farthest, spread, monitored}
+use Rattle.paper_desk.specs.Limits.{narrower, narrowerOf, share, bandLimit, bandOf, deltaOf, LimitStatics}
 use Rattle.paper_desk.specs.Kept.{freshMost, deltaMost}
 use Rattle.paper.proofs.Logic.{not-true-and-false, and-left, and-right, and-both, order-trans}
 use Rattle.paper.proofs.Roundings.{rounded-le, rounded-ge}

@@ -23,7 +23,9 @@ use Rattle.paper.specs.Numbers.{oneInBp, yearInDayBp}
 use Rattle.paper.specs.Roundings.{Quotient, lesserOf, greaterOf, grown}
 use Rattle.paper.specs.Ranges.{gridOf, validStatics}
 use Rattle.paper_desk.specs.Rates.{daysOf, minimumOf, AtLeastRequired, HeldLeast, LevelsInOrder}
-use Rattle.paper_desk.specs.Limits.{share, limitOf, inward, Inside, shifted, rangeLimit, farthest, spread, monitored, narrower, bandBefore, bandLimit, bandOf, crossed, LimitStatics, Outward}
+use Rattle.paper_desk.specs.Limits.{share, limitOf, inward, Inside, shifted, rangeLimit, farthest, spread}
+use Rattle.paper_desk.specs.Limits.{monitored, narrower, bandBefore, bandLimit, bandOf, crossed, LimitStatics}
+use Rattle.paper_desk.specs.Limits.{Outward}
 use Rattle.paper_desk.specs.Sequences.{rangeAfter}
 use Rattle.paper_desk.specs.Sides.{limitOn, repoOn, PastZero}
 use Rattle.paper.proofs.Logic.{not-true-and-false, and-left, and-right}

@@ -12,7 +12,10 @@ use Rattle.paper.specs.declared.Record.{Record}
 use Rattle.paper.specs.Lists.{pick}
 use Rattle.paper.specs.Ranges.{sideOf}
 use Rattle.paper.specs.Verdicts.{isDone, firstOf, NoneApplies, none, also}
-use Rattle.paper_desk.specs.Desk.{Call, admit, evaluate, quote, move, read, openEvening, receive, idOf, Outcome, blank, admitted, evaluated, quoted, moved, eveningOpened, received, place, stands, found, known, checksOf, admitChecks, evaluateChecks, quoteChecks, moveChecks, openChecks, receiveChecks, acceptedOf, step}
+use Rattle.paper_desk.specs.Desk.{Call, admit, evaluate, quote, move, read, openEvening, receive, idOf, Outcome}
+use Rattle.paper_desk.specs.Desk.{blank, admitted, evaluated, quoted, moved, eveningOpened, received, place}
+use Rattle.paper_desk.specs.Desk.{stands, found, known, checksOf, admitChecks, evaluateChecks, quoteChecks}
+use Rattle.paper_desk.specs.Desk.{moveChecks, openChecks, receiveChecks, acceptedOf, step}
 use Rattle.paper_desk.specs.Kept.{writtenAt, Stays}
 use Rattle.paper.proofs.Logic.{not-false}
 use Rattle.paper_desk.proofs.Slots.{found-id, found-other, stands-other, known-stands}

@@ -33,14 +33,19 @@ use Rattle.paper_desk.specs.Alerts.{isNear, keptSince, nearAfter, alert,
 use Rattle.paper_desk.specs.Evening.{sessionMoved}
 use Rattle.paper_desk.specs.External.{Told, keptAfter}
 use Rattle.paper.specs.Verdicts.{numberOf, isDone, firstOf, FirstAt, here, NoneApplies, also}
-use Rattle.paper_desk.specs.Desk.{blank, saying, showing, alerting, alertsOn, evaluated, priceOn, quoted, moved, eveningOpened, received, place, stands, found, known, Call, admit, evaluate, quote, move, read, openEvening, receive, idOf, checksOf, admitChecks, evaluateChecks, quoteChecks, moveChecks, readChecks, openChecks, receiveChecks, Outcome, judged, acceptedOf, step}
+use Rattle.paper_desk.specs.Desk.{blank, saying, showing, alerting, alertsOn, evaluated, priceOn, quoted, moved}
+use Rattle.paper_desk.specs.Desk.{eveningOpened, received, place, stands, found, known, Call, admit, evaluate}
+use Rattle.paper_desk.specs.Desk.{quote, move, read, openEvening, receive, idOf, checksOf, admitChecks}
+use Rattle.paper_desk.specs.Desk.{evaluateChecks, quoteChecks, moveChecks, readChecks, openChecks, receiveChecks}
+use Rattle.paper_desk.specs.Desk.{Outcome, judged, acceptedOf, step}
 use Rattle.paper.specs.PinnedValues.{recordFrom}
 use Rattle.paper_desk.specs.PinnedSequence.{blank-is-zero}
 use Rattle.paper_desk.specs.History.{isAdmission}
 use Rattle.paper_desk.specs.Sides.{other, limitOn, nearSecondOn, repoOn, deltaFor, shows, isReceipt}
 use Rattle.paper.proofs.Logic.{not-false}
 use Rattle.paper_desk.proofs.Slots.{found-stored, known-stands}
-use Rattle.paper_desk.proofs.Refusals.{verdict-first, refused-always, refused-leaves, accepted-step, accepted-only}
+use Rattle.paper_desk.proofs.Refusals.{verdict-first, refused-always, refused-leaves, accepted-step}
+use Rattle.paper_desk.proofs.Refusals.{accepted-only}
 use Rattle.paper_desk.proofs.Others.{holds-after-step}
 
 and-no : (a : Bool) → (a && false) ≡ false

@@ -15,10 +15,19 @@ use Rattle.paper.specs.declared.Day.{Day}
 use Rattle.paper.specs.declared.Quote.{Quote}
 use Rattle.paper.specs.declared.Answer.{Answer}
 use Rattle.paper.specs.declared.Verdict.{Verdict}
-use Rattle.paper.specs.declared.Verdict.the-variants.{Done, NoSuchId, AlreadyAdmitted, NoEmptySlot, AdmissionOutOfRange, DayNotAfter, OutOfRange, PriceOutOfRange, MoveTooLarge, BandCrossed, NotLive, NotMonitored, MovesUsedUp, SecondEarlier, NotAscending, BadLine, RowCrossed, NoFaceValue, NoEveningMove, OpenedTwice, BadFloat, CutShort, WrongLength, FieldOutOfRange, NoRoom}
+use Rattle.paper.specs.declared.Verdict.the-variants.{Done, NoSuchId, AlreadyAdmitted, NoEmptySlot, AdmissionOutOfRange}
+use Rattle.paper.specs.declared.Verdict.the-variants.{DayNotAfter, OutOfRange, PriceOutOfRange, MoveTooLarge}
+use Rattle.paper.specs.declared.Verdict.the-variants.{BandCrossed, NotLive, NotMonitored, MovesUsedUp, SecondEarlier}
+use Rattle.paper.specs.declared.Verdict.the-variants.{NotAscending, BadLine, RowCrossed, NoFaceValue, NoEveningMove}
+use Rattle.paper.specs.declared.Verdict.the-variants.{OpenedTwice, BadFloat, CutShort, WrongLength, FieldOutOfRange}
+use Rattle.paper.specs.declared.Verdict.the-variants.{NoRoom}
 use Rattle.paper.specs.Lists.{pick, every}
-use Rattle.paper.specs.Verdicts.{numberOf, isDone, Naming, Check, firstNamed, firstOf, FirstAt, here, later, NoneApplies, none, also}
-use Rattle.paper_desk.specs.Desk.{Call, admit, evaluate, quote, move, read, openEvening, receive, admitChecks, evaluateChecks, quoteChecks, moveChecks, readChecks, openChecks, receiveChecks, checksOf, Outcome, saying, showing, alerting, alertsOn, judged, acceptedOf, step, refusals}
+use Rattle.paper.specs.Verdicts.{numberOf, isDone, Naming, Check, firstNamed, firstOf, FirstAt, here, later}
+use Rattle.paper.specs.Verdicts.{NoneApplies, none, also}
+use Rattle.paper_desk.specs.Desk.{Call, admit, evaluate, quote, move, read, openEvening, receive, admitChecks}
+use Rattle.paper_desk.specs.Desk.{evaluateChecks, quoteChecks, moveChecks, readChecks, openChecks, receiveChecks}
+use Rattle.paper_desk.specs.Desk.{checksOf, Outcome, saying, showing, alerting, alertsOn, judged, acceptedOf}
+use Rattle.paper_desk.specs.Desk.{step, refusals}
 use Rattle.paper.proofs.Logic.{not-true-and-false, and-left, and-right, pick-true, pick-false}
 
 -- ---- the first check that applies

@@ -10,13 +10,16 @@ use borrow.Author.Tests.{leb-true, le-leb, eqb-true, eq-eqb, ltb-false}
 use Rattle.paper.specs.declared.Statics.{Statics}
 use Rattle.paper.specs.declared.Tentative.{Tentative}
 use Rattle.paper.specs.Lists.{pick}
-use Rattle.paper.specs.Numbers.{hundredthsOfMillionthsInBp, millionthsInBp, volatilityMost, tentativeMost, multiplierMost}
+use Rattle.paper.specs.Numbers.{hundredthsOfMillionthsInBp, millionthsInBp, volatilityMost, tentativeMost}
+use Rattle.paper.specs.Numbers.{multiplierMost}
 use Rattle.paper.specs.Ranges.{validStatics, tentativeTop, validTentative}
-use Rattle.paper_desk.specs.Rates.{modelOf, leastStep, tentativeRate, tentativeRateByMove, tentativeRateOf, tentativeAfter, modelled, unmodelled, figuresOf, moveTooLarge, IsLeastStep}
+use Rattle.paper_desk.specs.Rates.{modelOf, leastStep, tentativeRate, tentativeRateByMove, tentativeRateOf}
+use Rattle.paper_desk.specs.Rates.{tentativeAfter, modelled, unmodelled, figuresOf, moveTooLarge, IsLeastStep}
 use Rattle.paper.proofs.Logic.{and-left, and-right, and-both, and-false}
 use Rattle.paper_desk.proofs.Steps.{step-is}
 use Rattle.paper_desk.proofs.Volatility.{valid-weighs}
-use Rattle.paper_desk.proofs.Bounds.{volatility-high, up-is-step, least-step-within-a-step, tentative-held, tentative-multiple}
+use Rattle.paper_desk.proofs.Bounds.{volatility-high, up-is-step, least-step-within-a-step, tentative-held}
+use Rattle.paper_desk.proofs.Bounds.{tentative-multiple}
 use Rattle.paper_desk.proofs.Level.{quotient-times-is}
 
 -- ---- the top of the range

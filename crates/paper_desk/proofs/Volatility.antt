@@ -13,7 +13,8 @@ use Rattle.paper.specs.Lists.{pick}
 use Rattle.paper.specs.Numbers.{oneInTenThousandths, oneInHundredths, oneInMillionths}
 use Rattle.paper.specs.Roundings.{Quotient, up, RoundedUp, greaterOf, apart}
 use Rattle.paper.specs.Ranges.{validStatics}
-use Rattle.paper_desk.specs.Rates.{modelOf, moveFrom, moveOf, weightOf, weighted, replacement, replaces, volatilityOf, Weighing}
+use Rattle.paper_desk.specs.Rates.{modelOf, moveFrom, moveOf, weightOf, weighted, replacement, replaces}
+use Rattle.paper_desk.specs.Rates.{volatilityOf, Weighing}
 use Rattle.paper_desk.specs.Exact.{Choice, byWeight, replaced, exactMove, nextSquare, choiceOf, NearExact}
 use Rattle.paper.proofs.Logic.{and-left, and-right, le-or-lt}
 use Rattle.paper.proofs.Search.{root-covers, root-least, times-covers, times-least}

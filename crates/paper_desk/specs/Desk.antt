@@ -25,10 +25,15 @@ use Rattle.paper.specs.declared.Day.{Day}
 use Rattle.paper.specs.declared.Quote.{Quote}
 use Rattle.paper.specs.declared.Answer.{Answer}
 use Rattle.paper.specs.declared.Verdict.{Verdict}
-use Rattle.paper.specs.declared.Verdict.the-variants.{Done, NoSuchId, AlreadyAdmitted, NoEmptySlot, AdmissionOutOfRange, DayNotAfter, OutOfRange, PriceOutOfRange, MoveTooLarge, BandCrossed, NotLive, NotMonitored, MovesUsedUp, SecondEarlier, RowCrossed, NoEveningMove, OpenedTwice, BadFloat}
+use Rattle.paper.specs.declared.Verdict.the-variants.{Done, NoSuchId, AlreadyAdmitted, NoEmptySlot, AdmissionOutOfRange}
+use Rattle.paper.specs.declared.Verdict.the-variants.{DayNotAfter, OutOfRange, PriceOutOfRange, MoveTooLarge}
+use Rattle.paper.specs.declared.Verdict.the-variants.{BandCrossed, NotLive, NotMonitored, MovesUsedUp, SecondEarlier}
+use Rattle.paper.specs.declared.Verdict.the-variants.{RowCrossed, NoEveningMove, OpenedTwice, BadFloat}
 use Rattle.paper.specs.Lists.{pick, three, forLevels, allThree, every}
 use Rattle.paper.specs.Numbers.{movesMost}
-use Rattle.paper.specs.Ranges.{gridOf, staticsOf, validAdmission, validDay, validQuote, validSide, sideOf, isLive, lastDay, sound, validSlots, noRate, noLimits, notNear, noTerm, termAt, rateAt, noExternal}
+use Rattle.paper.specs.Ranges.{gridOf, staticsOf, validAdmission, validDay, validQuote, validSide, sideOf, isLive}
+use Rattle.paper.specs.Ranges.{lastDay, sound, validSlots, noRate, noLimits, notNear, noTerm, termAt, rateAt}
+use Rattle.paper.specs.Ranges.{noExternal}
 use Rattle.paper_desk.specs.Evaluation.{dayRows, evaluationOf, hasCrossedRow, evaluationFits, usedPair}
 use Rattle.paper_desk.specs.External.{Told, isBad, keptAfter}
 use Rattle.paper.specs.declared.Figures.{Figures}

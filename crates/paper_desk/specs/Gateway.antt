@@ -11,7 +11,8 @@ use Rattle.paper.specs.declared.Verdict.{Verdict}
 use Rattle.paper.specs.declared.Verdict.the-variants.{AdmissionOutOfRange, OutOfRange}
 use Rattle.paper.specs.Lists.{pick}
 use Rattle.paper.specs.Numbers.{levelLast, aheadMost, termDaysMost, repoLeast, repoMost, movesMost}
-use Rattle.paper.specs.Ranges.{within, withinZ, unsigned, isRate, isGridPrice, gridOf, staticsOf, validGiven, validTentative, validSide, sideOf}
+use Rattle.paper.specs.Ranges.{within, withinZ, unsigned, isRate, isGridPrice, gridOf, staticsOf, validGiven}
+use Rattle.paper.specs.Ranges.{validTentative, validSide, sideOf}
 use Rattle.paper_desk.specs.Rates.{levelRate, minimumOf}
 use Rattle.paper_desk.specs.Limits.{rangeLimit, bandLimit}
 use Rattle.paper.specs.Verdicts.{numberOf, isDone, Check, firstOf}

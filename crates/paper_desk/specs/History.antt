@@ -15,7 +15,8 @@ use Rattle.paper.specs.Lists.{pick}
 use Rattle.paper.specs.Ranges.{validSlots, sideOf}
 use Rattle.paper.specs.Verdicts.{isDone}
 use Rattle.paper_desk.specs.External.{Told}
-use Rattle.paper_desk.specs.Desk.{Call, admit, evaluate, quote, move, read, openEvening, receive, idOf, step, fresh}
+use Rattle.paper_desk.specs.Desk.{Call, admit, evaluate, quote, move, read, openEvening, receive, idOf, step}
+use Rattle.paper_desk.specs.Desk.{fresh}
 
 -- "1 to 512 slots" and "A fresh table has every slot empty."
 pub record FreshTable (t : List Record) : Type 0 where

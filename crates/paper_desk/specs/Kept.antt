@@ -10,7 +10,8 @@ use Rattle.paper.specs.declared.Record.{Record}
 use Rattle.paper.specs.Lists.{allThree, every}
 use Rattle.paper.specs.Numbers.{priceMost}
 use Rattle.paper.specs.Ranges.{sound, noLimits}
-use Rattle.paper_desk.specs.Desk.{Call, admit, evaluate, quote, move, read, openEvening, receive, place, stands, found}
+use Rattle.paper_desk.specs.Desk.{Call, admit, evaluate, quote, move, read, openEvening, receive, place, stands}
+use Rattle.paper_desk.specs.Desk.{found}
 
 -- the most that a fresh limit can be: P·(1 + rate) at the greatest price and the greatest rate, 2·10^10
 abbrev pub freshMost : ℕ

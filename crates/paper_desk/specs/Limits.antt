@@ -14,7 +14,8 @@ use Rattle.paper.specs.declared.Limits.{Limits}
 use Rattle.paper.specs.declared.Moves.{Moves}
 use Rattle.paper.specs.declared.Term.{Term}
 use Rattle.paper.specs.Lists.{pick}
-use Rattle.paper.specs.Numbers.{oneInBp, oneInHundredths, yearInDayBp, oneInPerCentHundredths, rateMost, divisorLeast, divisorMost, shiftMost}
+use Rattle.paper.specs.Numbers.{oneInBp, oneInHundredths, yearInDayBp, oneInPerCentHundredths, rateMost, divisorLeast}
+use Rattle.paper.specs.Numbers.{divisorMost, shiftMost}
 use Rattle.paper.specs.Roundings.{Quotient, halfUp, roundedTo, roundedZ, atLeastZero, lesserOf, greaterOf, grown}
 use Rattle.paper.specs.Ranges.{gridOf}
 

@@ -12,7 +12,8 @@ use Rattle.paper.specs.Ranges.{staticsOf, noExternal}
 use Rattle.paper_desk.specs.Evaluation.{evaluationOf, dayRows}
 use Rattle.paper_desk.specs.Limits.{bandLimit}
 use Rattle.paper_desk.specs.Desk.{blank, Call, admit, quote, place, run}
-use Rattle.paper.specs.PinnedValues.{_but_, lotAt, sAt, ratesAt, rowBidAt, rowAskAt, volumeAt, closedAt, givenFrom, admissionFrom, recordFrom, quoteFrom, zNumbers, zRecord}
+use Rattle.paper.specs.PinnedValues.{_but_, lotAt, sAt, ratesAt, rowBidAt, rowAskAt, volumeAt, closedAt, givenFrom}
+use Rattle.paper.specs.PinnedValues.{admissionFrom, recordFrom, quoteFrom, zNumbers, zRecord}
 use Rattle.paper_desk.specs.PinnedSequence.{numbers, slots, dayAt}
 
 -- Z with s 0 and S_1 500, admitted only

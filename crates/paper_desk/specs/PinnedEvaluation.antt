@@ -15,10 +15,13 @@ use Rattle.paper.specs.declared.Row.{Row}
 use Rattle.paper.specs.declared.Record.{Record}
 use Rattle.paper.specs.Ranges.{staticsOf, noLimits, noExternal}
 use Rattle.paper_desk.specs.Evaluation.{rowPrice, rowWeight, evaluationOf, dayRows}
-use Rattle.paper_desk.specs.Rates.{modelOf, moveOf, weightOf, replaces, volatilityOf, tentativeRate, tentativeAfter, levelRate}
+use Rattle.paper_desk.specs.Rates.{modelOf, moveOf, weightOf, replaces, volatilityOf, tentativeRate}
+use Rattle.paper_desk.specs.Rates.{tentativeAfter, levelRate}
 use Rattle.paper_desk.specs.Limits.{rangeLimit, bandLimit, deltaOf}
 use Rattle.paper_desk.specs.Desk.{blank, evaluate, admitted, run}
-use Rattle.paper.specs.PinnedValues.{_but_, lotAt, qAt, centralAt, pchmaxAt, pclmaxAt, monitoringAt, ewmaAt, p1At, sAt, ageAt, ratesAt, givenFrom, admissionFrom, recordFrom, dayFrom, closedAt, zNumbers, zRecord, yesNo}
+use Rattle.paper.specs.PinnedValues.{_but_, lotAt, qAt, centralAt, pchmaxAt, pclmaxAt, monitoringAt, ewmaAt, p1At, sAt}
+use Rattle.paper.specs.PinnedValues.{ageAt, ratesAt, givenFrom, admissionFrom, recordFrom, dayFrom, closedAt, zNumbers}
+use Rattle.paper.specs.PinnedValues.{zRecord, yesNo}
 use Rattle.paper_desk.specs.PinnedSequence.{numbers}
 
 -- ---- the evaluation

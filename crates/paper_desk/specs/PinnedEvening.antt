@@ -10,7 +10,8 @@ use lib.ListN.{replicate}
 use Rattle.paper.specs.declared.Session.{Session}
 use Rattle.paper.specs.declared.Session.the-variants.{Main, Evening}
 use Rattle.paper_desk.specs.Desk.{Call, evaluate, move, read, openEvening}
-use Rattle.paper.specs.PinnedValues.{_but_, uAt, monitoringAt, ueveningAt, autochangeAt, eveningmaxAt, liveAt, upperMovesAt, lowerMovesAt, sessionAt, recordFrom, dayFrom}
+use Rattle.paper.specs.PinnedValues.{_but_, uAt, monitoringAt, ueveningAt, autochangeAt, eveningmaxAt, liveAt}
+use Rattle.paper.specs.PinnedValues.{upperMovesAt, lowerMovesAt, sessionAt, recordFrom, dayFrom}
 use Rattle.paper_desk.specs.PinnedSequence.{numbers}
 use Rattle.paper_desk.specs.PinnedSession.{liveZ, quoteAt, topsOf, bottomsOf, limitsOf, left, counted}
 

@@ -11,7 +11,8 @@ use Rattle.paper.specs.Roundings.{Quotient}
 use Rattle.paper_desk.specs.History.{Event, evaluatedOn, quotedAt, movedBy}
 use Rattle.paper_desk.specs.Sequences.{carries, carriesFirst, carriesNext, externalNow}
 use Rattle.paper_desk.specs.Exact.{exactMove, nextSquare, choiceOf, exactSquare}
-use Rattle.paper.specs.PinnedValues.{_but_, hAt, liqAt, minimaAt, p1At, sAt, tentativeAt, admissionFrom, dayFrom, quoteFrom, closedAt, zNumbers}
+use Rattle.paper.specs.PinnedValues.{_but_, hAt, liqAt, minimaAt, p1At, sAt, tentativeAt, admissionFrom, dayFrom}
+use Rattle.paper.specs.PinnedValues.{quoteFrom, closedAt, zNumbers}
 use Rattle.paper_desk.specs.PinnedSequence.{numbers}
 
 -- a quotient counted in parts of which d make a whole, and what is left over: n and 0 where the quotient is n/d

@@ -13,7 +13,8 @@ use Rattle.paper.specs.Ranges.{staticsOf}
 use Rattle.paper_desk.specs.Evaluation.{usedPair, evaluationOf, dayRows}
 use Rattle.paper_desk.specs.External.{together, notice}
 use Rattle.paper_desk.specs.Desk.{Call, evaluate, move, read, openEvening, receive}
-use Rattle.paper.specs.PinnedValues.{_but_, monitoringAt, useexternalAt, ageAt, sessionAt, givenFrom, recordFrom, dayFrom, zNumbers, zRecord}
+use Rattle.paper.specs.PinnedValues.{_but_, monitoringAt, useexternalAt, ageAt, sessionAt, givenFrom, recordFrom}
+use Rattle.paper.specs.PinnedValues.{dayFrom, zNumbers, zRecord}
 use Rattle.paper_desk.specs.PinnedSequence.{numbers}
 use Rattle.paper_desk.specs.PinnedEvaluation.{row}
 use Rattle.paper_desk.specs.PinnedSession.{liveZ, quoteAt, left}

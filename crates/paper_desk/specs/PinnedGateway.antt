@@ -6,8 +6,10 @@ use mathlib.Core.List.{List, [], _∷_, map}
 use Prim.Native.Nat.{ℕ, _+_}
 use lib.IntN.{ℤ, pos, negsuc}
 use Rattle.paper.specs.Ranges.{unsigned}
-use Rattle.paper_desk.specs.Gateway.{GatewayStatics, givenOf, gatewayChecks, gatewayAnswer, levelInRange, levelFigure, levelCall, rangeInRange, rangeCall, bandInRange, bandCall}
-use Rattle.paper.specs.PinnedValues.{_but_, signed, plain, lotAt, liqAt, minimaAt, pchmaxAt, pclmaxAt, monitoringAt, ewmaAt, givenFrom, zNumbers}
+use Rattle.paper_desk.specs.Gateway.{GatewayStatics, givenOf, gatewayChecks, gatewayAnswer, levelInRange}
+use Rattle.paper_desk.specs.Gateway.{levelFigure, levelCall, rangeInRange, rangeCall, bandInRange, bandCall}
+use Rattle.paper.specs.PinnedValues.{_but_, signed, plain, lotAt, liqAt, minimaAt, pchmaxAt, pclmaxAt, monitoringAt}
+use Rattle.paper.specs.PinnedValues.{ewmaAt, givenFrom, zNumbers}
 use Rattle.paper_desk.specs.PinnedSequence.{numbers}
 
 -- ---- "all statics with each, yes 1, no 0"

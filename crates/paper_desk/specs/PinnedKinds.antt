@@ -10,7 +10,8 @@ use Rattle.paper.specs.declared.Side.the-variants.{Upper}
 use Rattle.paper.specs.declared.Way.the-variants.{Down, Up}
 use Rattle.paper.specs.Roundings.{Quotient, down, halfUp, up, grown}
 use Rattle.paper.specs.Ranges.{staticsOf, gridOf}
-use Rattle.paper_desk.specs.Limits.{share, bond, inward, limitOf, bondLimitOf, limitFor, shifted, farthest, farthestFor}
+use Rattle.paper_desk.specs.Limits.{share, bond, inward, limitOf, bondLimitOf, limitFor, shifted, farthest}
+use Rattle.paper_desk.specs.Limits.{farthestFor}
 use Rattle.paper.specs.PinnedValues.{givenWith}
 
 -- so much Carry, and a face value; the accrued interest is 0, and REPORate a thousandth a day

@@ -13,8 +13,12 @@ use Rattle.paper.specs.Lists.{those}
 use Rattle.paper_desk.specs.Limits.{crossed}
 use Rattle.paper.specs.Verdicts.{numberOf, Check}
 use Rattle.paper_desk.specs.External.{notice}
-use Rattle.paper_desk.specs.Desk.{blank, Call, admit, evaluate, quote, move, read, openEvening, receive, checksOf, run}
-use Rattle.paper.specs.PinnedValues.{_but_, minimaAt, p1At, centralAt, rowBidAt, rowAskAt, volumeAt, aupAt, adownAt, liqAt, pchmaxAt, monitoringAt, ewmaAt, idAt, dayAt, sAt, tentativeAt, liveAt, ageAt, upperMovesAt, lowerMovesAt, secondAt, sessionAt, autochangeAt, admissionFrom, recordFrom, dayFrom, quoteFrom, closedAt, zNumbers, zRecord, yesNo}
+use Rattle.paper_desk.specs.Desk.{blank, Call, admit, evaluate, quote, move, read, openEvening, receive, checksOf}
+use Rattle.paper_desk.specs.Desk.{run}
+use Rattle.paper.specs.PinnedValues.{_but_, minimaAt, p1At, centralAt, rowBidAt, rowAskAt, volumeAt, aupAt, adownAt}
+use Rattle.paper.specs.PinnedValues.{liqAt, pchmaxAt, monitoringAt, ewmaAt, idAt, dayAt, sAt, tentativeAt, liveAt}
+use Rattle.paper.specs.PinnedValues.{ageAt, upperMovesAt, lowerMovesAt, secondAt, sessionAt, autochangeAt}
+use Rattle.paper.specs.PinnedValues.{admissionFrom, recordFrom, dayFrom, quoteFrom, closedAt, zNumbers, zRecord, yesNo}
 use Rattle.paper_desk.specs.PinnedSequence.{numbers}
 
 -- ---- "First that applies"

@@ -14,17 +14,34 @@ use Rattle.paper.specs.declared.Answer.{Answer}
 use Rattle.paper.specs.Lists.{every, some, those}
 use Rattle.paper.specs.Roundings.{down, up, halfUp, toGrid, lesserOf, greaterOf, grown, apart}
 use Rattle.paper.specs.Least.{first, least, leastRoot, leastTimes, leastMultiple}
-use Rattle.paper.specs.Ranges.{unsigned, isPrice, priceMade, isRate, gridOf, isGridPrice, validStatics, staticsOf, validGiven, tentativeTop, validTentative, validAdmission, partsFrom, rowAt, rowsOf, wholeRows, validRow, validRows, rowOf, validTerm, validDay, validQuote, validSide, sideOf, isLive, lastDay, isLimit, validLimits, validNear, validNearSeconds, validSession, validExternal, sound, validSlots}
+use Rattle.paper.specs.Ranges.{unsigned, isPrice, priceMade, isRate, gridOf, isGridPrice, validStatics, staticsOf}
+use Rattle.paper.specs.Ranges.{validGiven, tentativeTop, validTentative, validAdmission, partsFrom, rowAt, rowsOf}
+use Rattle.paper.specs.Ranges.{wholeRows, validRow, validRows, rowOf, validTerm, validDay, validQuote, validSide}
+use Rattle.paper.specs.Ranges.{sideOf, isLive, lastDay, isLimit, validLimits, validNear, validNearSeconds, validSession}
+use Rattle.paper.specs.Ranges.{validExternal, sound, validSlots}
 use Rattle.paper_floats.specs.Floats.{significand, exactValue, isAboveZero, unitsOf, priceOfBits, priceOf}
-use Rattle.paper_desk.specs.Evaluation.{rowPrice, rowWeight, roublesOf, traded, weights, worth, mean, closeOf, bestBid, lesserAsk, bestAsk, usedPair, bidOf, askOf, median, between, evaluationOf, dayRows, isCrossedRow, hasCrossedRow, rowFits, evaluationFits}
-use Rattle.paper_desk.specs.Rates.{moveFrom, moveOf, weightOf, weighted, replacement, replaces, volatilityOf, leastStep, tentativeRate, tentativeRateByMove, tentativeRateOf, tentativeAfter, meetsRequirement, daysOf, minimumOf, covers, levelRate, modelled, unmodelled, figuresOf, moveTooLarge}
-use Rattle.paper_desk.specs.Limits.{limitOf, shifted, rangeLimit, rangeOf, farthest, spread, monitored, narrower, bandLimit, bandOf, crossed, deltaOf, oneMore, rangeMoved, bandMoved}
+use Rattle.paper_desk.specs.Evaluation.{rowPrice, rowWeight, roublesOf, traded, weights, worth, mean, closeOf}
+use Rattle.paper_desk.specs.Evaluation.{bestBid, lesserAsk, bestAsk, usedPair, bidOf, askOf, median, between}
+use Rattle.paper_desk.specs.Evaluation.{evaluationOf, dayRows, isCrossedRow, hasCrossedRow, rowFits}
+use Rattle.paper_desk.specs.Evaluation.{evaluationFits}
+use Rattle.paper_desk.specs.Rates.{moveFrom, moveOf, weightOf, weighted, replacement, replaces, volatilityOf}
+use Rattle.paper_desk.specs.Rates.{leastStep, tentativeRate, tentativeRateByMove, tentativeRateOf, tentativeAfter}
+use Rattle.paper_desk.specs.Rates.{meetsRequirement, daysOf, minimumOf, covers, levelRate, modelled, unmodelled}
+use Rattle.paper_desk.specs.Rates.{figuresOf, moveTooLarge}
+use Rattle.paper_desk.specs.Limits.{limitOf, shifted, rangeLimit, rangeOf, farthest, spread, monitored, narrower}
+use Rattle.paper_desk.specs.Limits.{bandLimit, bandOf, crossed, deltaOf, oneMore, rangeMoved, bandMoved}
 use Rattle.paper_desk.specs.Alerts.{distance, isNear, keptSince, nearAfter, alert, nearCleared}
 use Rattle.paper.specs.Verdicts.{numberOf, isDone, firstOf}
 use Rattle.paper_desk.specs.External.{notice, hasNone, isBad, unitsMade, keptAfter}
 use Rattle.paper_desk.specs.Evening.{isEvening, alertSeconds, moveAllowed, sessionMoved}
-use Rattle.paper_desk.specs.Desk.{blank, saying, showing, alerting, admitted, usedBy, priceOn, moveOn, figuresOn, evaluated, nearOn, quoted, alertsOn, moved, eveningOpened, received, place, stands, found, known, Call, admit, evaluate, quote, move, read, openEvening, receive, admitChecks, evaluateChecks, quoteChecks, moveChecks, readChecks, openChecks, receiveChecks, checksOf, Outcome, judged, acceptedOf, step, run, fresh}
-use Rattle.paper.specs.PinnedValues.{_but_, rowBidAt, rowAskAt, pchmaxAt, monitoringAt, ewmaAt, idAt, sAt, aupAt, adownAt, admissionFrom, dayFrom, quoteFrom, closedAt, zNumbers, recordFrom}
+use Rattle.paper_desk.specs.Desk.{blank, saying, showing, alerting, admitted, usedBy, priceOn, moveOn, figuresOn}
+use Rattle.paper_desk.specs.Desk.{evaluated, nearOn, quoted, alertsOn, moved, eveningOpened, received, place}
+use Rattle.paper_desk.specs.Desk.{stands, found, known, Call, admit, evaluate, quote, move, read, openEvening}
+use Rattle.paper_desk.specs.Desk.{receive, admitChecks, evaluateChecks, quoteChecks, moveChecks, readChecks}
+use Rattle.paper_desk.specs.Desk.{openChecks, receiveChecks, checksOf, Outcome, judged, acceptedOf, step, run}
+use Rattle.paper_desk.specs.Desk.{fresh}
+use Rattle.paper.specs.PinnedValues.{_but_, rowBidAt, rowAskAt, pchmaxAt, monitoringAt, ewmaAt, idAt, sAt, aupAt}
+use Rattle.paper.specs.PinnedValues.{adownAt, admissionFrom, dayFrom, quoteFrom, closedAt, zNumbers, recordFrom}
 
 -- what the calls of a list answer, each on the table that those before it leave. It opens every definition that a call
 -- computes with, so that a table opens this one alone

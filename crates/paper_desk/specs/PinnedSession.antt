@@ -16,7 +16,8 @@ use Rattle.paper.specs.declared.Record.{Record}
 use Rattle.paper.specs.declared.Answer.{Answer}
 use Rattle.paper_desk.specs.Alerts.{isNear}
 use Rattle.paper_desk.specs.Desk.{blank, Call, evaluate, quote, move, run}
-use Rattle.paper.specs.PinnedValues.{_but_, ewmaAt, p1At, upperMovesAt, lowerMovesAt, secondAt, nearAt, recordFrom, dayFrom, quoteFrom, zNumbers, yesNo}
+use Rattle.paper.specs.PinnedValues.{_but_, ewmaAt, p1At, upperMovesAt, lowerMovesAt, secondAt, nearAt, recordFrom}
+use Rattle.paper.specs.PinnedValues.{dayFrom, quoteFrom, zNumbers, yesNo}
 use Rattle.paper_desk.specs.PinnedSequence.{answers}
 
 -- case 1's security after its evaluation, with isEWMA no from then on

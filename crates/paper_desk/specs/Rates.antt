@@ -13,7 +13,8 @@ use Rattle.paper.specs.declared.Model.{Model}
 use Rattle.paper.specs.declared.Statics.{Statics}
 use Rattle.paper.specs.declared.Figures.{Figures}
 use Rattle.paper.specs.Lists.{pick, forLevels}
-use Rattle.paper.specs.Numbers.{oneInTenThousandths, oneInMillionths, millionthsInBp, hundredthsOfMillionthsInBp, oneInHundredths, volatilityMost, ageMost}
+use Rattle.paper.specs.Numbers.{oneInTenThousandths, oneInMillionths, millionthsInBp, hundredthsOfMillionthsInBp}
+use Rattle.paper.specs.Numbers.{oneInHundredths, volatilityMost, ageMost}
 use Rattle.paper.specs.Roundings.{Quotient, up, apart}
 use Rattle.paper.specs.Least.{leastRoot, leastTimes, leastMultiple}
 

@@ -17,7 +17,8 @@ use Rattle.paper.specs.Roundings.{Quotient, halfUp}
 use Rattle.paper.specs.Ranges.{isPrice, priceMade}
 use Rattle.paper.proofs.Logic.{le-or-lt}
 use Rattle.paper.proofs.Roundings.{rounded-monotone}
-use Rattle.paper_floats.specs.Floats.{signBit, scale, sign, significand, power, exactValue, isFinite, isAboveZero, unitsOf, priceOfBits}
+use Rattle.paper_floats.specs.Floats.{signBit, scale, sign, significand, power, exactValue, isFinite, isAboveZero}
+use Rattle.paper_floats.specs.Floats.{unitsOf, priceOfBits}
 
 -- ---- units
 

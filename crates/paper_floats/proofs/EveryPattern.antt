@@ -20,7 +20,8 @@ use Rattle.paper.specs.Lists.{pick}
 use Rattle.paper.specs.Ranges.{isPrice, priceMade}
 use Rattle.paper.proofs.Logic.{not-true-and-false, and-left, and-right, and-both}
 use Rattle.paper.proofs.Roundings.{rounded-is, rounded-unique}
-use Rattle.paper_floats.specs.Floats.{signBit, sign, significand, power, exactValue, isFinite, isAboveZero, inTenThousandths, unitsOf, priceOfBits, priceOf, RightUnits, RightPrice}
+use Rattle.paper_floats.specs.Floats.{signBit, sign, significand, power, exactValue, isFinite, isAboveZero}
+use Rattle.paper_floats.specs.Floats.{inTenThousandths, unitsOf, priceOfBits, priceOf, RightUnits, RightPrice}
 use Rattle.paper_floats.proofs.ExactValues.{exact-value}
 use Rattle.paper_floats.proofs.BitLaws.{units-monotone, scale-pos, endless-refused}
 

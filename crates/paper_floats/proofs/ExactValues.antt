@@ -13,7 +13,8 @@ use lib.Ieee.Exact.{HasValue, odd-sign}
 use borrow.Author.Tests.{ltb-true, lt-ltb, ne-eqb}
 use Rattle.paper.specs.Lists.{pick}
 use Rattle.paper.proofs.Logic.{le-or-lt}
-use Rattle.paper_floats.specs.Floats.{leadingOne, exponents, signBit, scale, exponent, fraction, significand, exactValue, isFinite}
+use Rattle.paper_floats.specs.Floats.{leadingOne, exponents, signBit, scale, exponent, fraction, significand}
+use Rattle.paper_floats.specs.Floats.{exactValue, isFinite}
 
 -- a fraction with both its numbers doubled is the same value
 doubled-has-value : (y : Float) (s : Bool) (a c : ℕ) → HasValue y s a c → HasValue y s (2 * a) (2 * c)

@@ -15,10 +15,14 @@ use Rattle.paper.specs.declared.Interest.{Interest}
 use Rattle.paper.specs.declared.Maturity.{Maturity}
 use Rattle.paper.specs.declared.MaturityFigures.{MaturityFigures}
 use Rattle.paper.specs.Lists.{every}
-use Rattle.paper.specs.Numbers.{oneInHundredths, stepMost, multiplierMost, divisorLeast, divisorMost, minimumMost, maturityMost, ageMost, repoLeast, repoMost, repoVolatilityMost, repoTentativeMost}
+use Rattle.paper.specs.Numbers.{oneInHundredths, stepMost, multiplierMost, divisorLeast, divisorMost, minimumMost}
+use Rattle.paper.specs.Numbers.{maturityMost, ageMost, repoLeast, repoMost, repoVolatilityMost, repoTentativeMost}
 use Rattle.paper.specs.Ranges.{withinZ, unsigned}
 use Rattle.paper.specs.Roundings.{atLeastZero}
-use Rattle.paper_interest.specs.Interest.{LentKey, validKey, maturityOf, validInterest, apartZ, changeOf, repoVolatility, repoTentativeRate, repoTentative, estimate, upward, downward, maturityFigures, wholeKeys, validKeys, keysOf, maturitiesOf, noFigures, InterestRange, KeyRange, FiguresHeld, estimateMost}
+use Rattle.paper_interest.specs.Interest.{LentKey, validKey, maturityOf, validInterest, apartZ, changeOf}
+use Rattle.paper_interest.specs.Interest.{repoVolatility, repoTentativeRate, repoTentative, estimate, upward}
+use Rattle.paper_interest.specs.Interest.{downward, maturityFigures, wholeKeys, validKeys, keysOf, maturitiesOf}
+use Rattle.paper_interest.specs.Interest.{noFigures, InterestRange, KeyRange, FiguresHeld, estimateMost}
 use Rattle.paper_interest.specs.InterestExact.{carriedFrom, keyGiven}
 use Rattle.paper.proofs.Logic.{not-true-and-false, and-left, and-right, and-both}
 use Rattle.paper.proofs.Differences.{sum-size-within, minus-size-within}

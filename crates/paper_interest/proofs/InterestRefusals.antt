@@ -12,9 +12,11 @@ use Rattle.paper.specs.declared.Verdict.the-variants.{Done, OutOfRange, NotAsce
 use Rattle.paper.specs.Lists.{pick, every}
 use Rattle.paper.specs.Verdicts.{numberOf, isDone, firstOf, FirstAt, here, later, NoneApplies, none, also, Exactly}
 use Rattle.paper_desk.specs.Desk.{refusals}
-use Rattle.paper_interest.specs.Interest.{maturitiesOf, inRange, inOrder, interestChecks, refusedInterest, acceptedInterest, interestAnswer}
+use Rattle.paper_interest.specs.Interest.{maturitiesOf, inRange, inOrder, interestChecks, refusedInterest}
+use Rattle.paper_interest.specs.Interest.{acceptedInterest, interestAnswer}
 use Rattle.paper.proofs.Logic.{not-true, not-false, pick-true, pick-false}
-use Rattle.paper_desk.proofs.Refusals.{done-is, given-is-first, first-is-given, done-means-none-applies, none-applies-gives-done}
+use Rattle.paper_desk.proofs.Refusals.{done-is, given-is-first, first-is-given, done-means-none-applies}
+use Rattle.paper_desk.proofs.Refusals.{none-applies-gives-done}
 
 module _ (i : Interest) (numbers : List ℤ) where
   -- what is answered carries the first number that applies

@@ -11,7 +11,8 @@ use borrow.Author.Tests.{le-ltb, lt-ltb}
 use mathlib.Core.Bool.{true, false}
 use Rattle.paper.specs.Roundings.{halfUp, halfDown, halfUpZ, grown, atLeastZero}
 use Rattle.paper.proofs.Logic.{le-or-lt}
-use Rattle.paper.proofs.Differences.{difference-is-pos, difference-is-negsuc, differences-equal, difference-times, difference-order, difference-plus, whole-is-difference, negated-is}
+use Rattle.paper.proofs.Differences.{difference-is-pos, difference-is-negsuc, differences-equal, difference-times}
+use Rattle.paper.proofs.Differences.{difference-order, difference-plus, whole-is-difference, negated-is}
 use Rattle.paper.proofs.Roundings.{quotient-low, quotient-high, half-low, half-high, half-unique}
 
 -- a rate is what its base with it is above the base

@@ -18,7 +18,9 @@ use Rattle.paper.specs.declared.InterestAnswer.{InterestAnswer}
 use Rattle.paper.specs.declared.Verdict.{Verdict}
 use Rattle.paper.specs.declared.Verdict.the-variants.{Done, OutOfRange, NotAscending}
 use Rattle.paper.specs.Lists.{pick, eight, every}
-use Rattle.paper.specs.Numbers.{oneInHundredths, repoLeast, repoMost, behindMost, weightMost, multiplierLeast, multiplierMost, stepMost, waitMost, divisorLeast, divisorMost, ageMost, keyNumbers, allKeyNumbersMost, maturityMost, minimumMost, repoVolatilityMost, repoTentativeMost}
+use Rattle.paper.specs.Numbers.{oneInHundredths, repoLeast, repoMost, behindMost, weightMost, multiplierLeast}
+use Rattle.paper.specs.Numbers.{multiplierMost, stepMost, waitMost, divisorLeast, divisorMost, ageMost, keyNumbers}
+use Rattle.paper.specs.Numbers.{allKeyNumbersMost, maturityMost, minimumMost, repoVolatilityMost, repoTentativeMost}
 use Rattle.paper.specs.Roundings.{halfUpZ, atLeastZero}
 use Rattle.paper.specs.Ranges.{within, withinZ, unsigned, partsFrom}
 use Rattle.paper_desk.specs.Rates.{volatilityOf, leastStep, tentativeAfter, Weighing}

@@ -15,8 +15,15 @@ use Rattle.paper.specs.Least.{first, least, leastRoot, leastTimes, leastMultipl
 use Rattle.paper.specs.Ranges.{unsigned, partsFrom}
 use Rattle.paper_desk.specs.Rates.{weightOf, weighted, replacement, replaces, volatilityOf, leastStep, tentativeAfter}
 use Rattle.paper.specs.Verdicts.{numberOf, isDone, firstOf}
-use Rattle.paper_interest.specs.Interest.{keyAt, keysOf, wholeKeys, validKey, validKeys, maturityOf, maturitiesOf, validInterest, apartZ, changeOf, repoVolatility, repoTentativeRate, repoTentative, estimate, upward, downward, maturityFigures, interpolated, figureAfter, figureAt, forward, margin, limitFrom, upperWorked, lowerWorked, isHeld, upperLimit, lowerLimit, strictlyAscendingFrom, strictlyAscending, interestChecks, noFigures, refusedInterest, acceptedInterest, interestAnswer}
-use Rattle.paper_interest.specs.InterestExact.{Evening, Carried, keyIn, answeredIn, carriedAfter, keyGiven, Follow, start, next}
+use Rattle.paper_interest.specs.Interest.{keyAt, keysOf, wholeKeys, validKey, validKeys, maturityOf, maturitiesOf}
+use Rattle.paper_interest.specs.Interest.{validInterest, apartZ, changeOf, repoVolatility, repoTentativeRate}
+use Rattle.paper_interest.specs.Interest.{repoTentative, estimate, upward, downward, maturityFigures}
+use Rattle.paper_interest.specs.Interest.{interpolated, figureAfter, figureAt, forward, margin, limitFrom}
+use Rattle.paper_interest.specs.Interest.{upperWorked, lowerWorked, isHeld, upperLimit, lowerLimit}
+use Rattle.paper_interest.specs.Interest.{strictlyAscendingFrom, strictlyAscending, interestChecks, noFigures}
+use Rattle.paper_interest.specs.Interest.{refusedInterest, acceptedInterest, interestAnswer}
+use Rattle.paper_interest.specs.InterestExact.{Evening, Carried, keyIn, answeredIn, carriedAfter, keyGiven}
+use Rattle.paper_interest.specs.InterestExact.{Follow, start, next}
 
 -- the statics of every case, with b, a pair of terms and the two rollover rates
 givenAfter : (b ym yn : ℕ) → (money secrate : ℤ) → Interest

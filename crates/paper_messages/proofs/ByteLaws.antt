@@ -15,7 +15,8 @@ use borrow.Author.Tests.{leb-true, ltb-true, lt-ltb, le-ltb}
 use Rattle.paper.specs.Lists.{pick}
 use Rattle.paper.specs.Ranges.{withinZ}
 use Rattle.paper.proofs.Logic.{not-true-and-false, and-left, and-right}
-use Rattle.paper_messages.specs.Bytes.{Bytes, no-byte, byte, inWidth, bytesOf, spelled, fitsWidth, complement, signedOf}
+use Rattle.paper_messages.specs.Bytes.{Bytes, no-byte, byte, inWidth, bytesOf, spelled, fitsWidth, complement}
+use Rattle.paper_messages.specs.Bytes.{signedOf}
 
 -- ---- bytes
 

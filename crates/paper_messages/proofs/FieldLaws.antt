@@ -16,9 +16,13 @@ use Rattle.paper.specs.Ranges.{within, withinZ}
 use Rattle.paper.proofs.Logic.{not-true-and-false, and-left, and-right}
 use Rattle.paper_messages.specs.declared.Field.{Field}
 use Rattle.paper_messages.specs.Bytes.{Bytes, inWidth, widthMost, fitsWidth, bytesOf, spelled, complement}
-use Rattle.paper_messages.specs.Fields.{staticsFields, ratesFields, bandsFields, moveFields, fieldsOf, places, filled, noField, placesOf, staticsKind, ratesKind, bandsKind, moveKind}
-use Rattle.paper_messages.specs.Messages.{kindWidth, lengthLeast, lengthMost, bodyOf, total, lengthOf, inRanges, holdsRange, valuesAt}
-use Rattle.paper_messages.proofs.ByteLaws.{take-bytes, drop-bytes, bytes-length, bytes-back, bytes-only, spelled-in-width, complement-in-width, complement-back, complement-only, fits-between}
+use Rattle.paper_messages.specs.Fields.{staticsFields, ratesFields, bandsFields, moveFields, fieldsOf, places}
+use Rattle.paper_messages.specs.Fields.{filled, noField, placesOf, staticsKind, ratesKind, bandsKind, moveKind}
+use Rattle.paper_messages.specs.Messages.{kindWidth, lengthLeast, lengthMost, bodyOf, total, lengthOf, inRanges}
+use Rattle.paper_messages.specs.Messages.{holdsRange, valuesAt}
+use Rattle.paper_messages.proofs.ByteLaws.{take-bytes, drop-bytes, bytes-length, bytes-back, bytes-only}
+use Rattle.paper_messages.proofs.ByteLaws.{spelled-in-width, complement-in-width, complement-back}
+use Rattle.paper_messages.proofs.ByteLaws.{complement-only, fits-between}
 
 -- ---- one field
 

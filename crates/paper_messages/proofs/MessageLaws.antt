@@ -21,9 +21,13 @@ use Rattle.paper_messages.specs.declared.Message.{Message}
 use Rattle.paper_messages.specs.declared.Heard.{Heard}
 use Rattle.paper_messages.specs.Bytes.{Bytes, bytesOf, spelled}
 use Rattle.paper_messages.specs.Fields.{staticsKind, moveKind, places, placesOf}
-use Rattle.paper_messages.specs.Messages.{lengthWidth, kindWidth, bodyOf, total, lengthOf, encode, isKnown, inRanges, valid, lengthLeast, lengthMost, lengthAt, kindAt, messageAt, valuesAt, readChecks, AcceptedBytes, acceptedHeard, refusedHeard, heardAt}
+use Rattle.paper_messages.specs.Messages.{lengthWidth, kindWidth, bodyOf, total, lengthOf, encode, isKnown}
+use Rattle.paper_messages.specs.Messages.{inRanges, valid, lengthLeast, lengthMost, lengthAt, kindAt, messageAt}
+use Rattle.paper_messages.specs.Messages.{valuesAt, readChecks, AcceptedBytes, acceptedHeard, refusedHeard}
+use Rattle.paper_messages.specs.Messages.{heardAt}
 use Rattle.paper_messages.proofs.ByteLaws.{take-bytes, drop-bytes, bytes-length, bytes-back, bytes-only}
-use Rattle.paper_messages.proofs.FieldLaws.{body-length, in-ranges-has-values, body-back, body-only, kinds-hold, kinds-have-places, kinds-length-in-range}
+use Rattle.paper_messages.proofs.FieldLaws.{body-length, in-ranges-has-values, body-back, body-only, kinds-hold}
+use Rattle.paper_messages.proofs.FieldLaws.{kinds-have-places, kinds-length-in-range}
 
 -- ---- what a valid message is
 

@@ -17,7 +17,9 @@ use Rattle.paper_messages.specs.declared.Field.{Field}
 use Rattle.paper_messages.specs.declared.Heard.{Heard}
 use Rattle.paper_messages.specs.Bytes.{spelled}
 use Rattle.paper_messages.specs.Fields.{placesOf}
-use Rattle.paper_messages.specs.Messages.{lengthWidth, kindWidth, lengthLeast, total, lengthOf, isKnown, valid, valuesAt, lengthAt, kindAt, messageAt, noMessage, readChecks, AcceptedBytes, acceptedHeard, heardAt}
+use Rattle.paper_messages.specs.Messages.{lengthWidth, kindWidth, lengthLeast, total, lengthOf, isKnown, valid}
+use Rattle.paper_messages.specs.Messages.{valuesAt, lengthAt, kindAt, messageAt, noMessage, readChecks}
+use Rattle.paper_messages.specs.Messages.{AcceptedBytes, acceptedHeard, heardAt}
 use Rattle.paper_messages.proofs.MessageLaws.{heard-accepted, heard-verdict, done-means-accepted}
 
 -- ---- equal beginnings

@@ -7,7 +7,11 @@ use lib.Dec.{eqb}
 use lib.IntN.{ℤ, pos}
 use lib.ListN.{length, replicate}
 use Rattle.paper.specs.Lists.{pick}
-use Rattle.paper.specs.Numbers.{priceLeast, priceMost, rateMost, volatilityMost, tentativeMost, lotMost, stepMost, multiplierLeast, multiplierMost, weightMost, waitMost, firstDaysMost, daysMost, liquidityMost, divisorLeast, divisorMost, shiftMost, nearnessMost, secondsMost, eveningMovesMost, idMost, dayMost, ageMost, limitMost, movesMost, termDaysMost, repoLeast, repoMost}
+use Rattle.paper.specs.Numbers.{priceLeast, priceMost, rateMost, volatilityMost, tentativeMost, lotMost, stepMost}
+use Rattle.paper.specs.Numbers.{multiplierLeast, multiplierMost, weightMost, waitMost, firstDaysMost, daysMost}
+use Rattle.paper.specs.Numbers.{liquidityMost, divisorLeast, divisorMost, shiftMost, nearnessMost, secondsMost}
+use Rattle.paper.specs.Numbers.{eveningMovesMost, idMost, dayMost, ageMost, limitMost, movesMost, termDaysMost}
+use Rattle.paper.specs.Numbers.{repoLeast, repoMost}
 use Rattle.paper_messages.specs.declared.Field.{Field}
 
 -- "Kinds: 1 statics, 2 rates and ranges, 3 bands, 4 move."

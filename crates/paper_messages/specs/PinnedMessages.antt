@@ -11,8 +11,11 @@ use Rattle.paper.specs.Verdicts.{numberOf, isDone, firstOf}
 use Rattle.paper_messages.specs.declared.Message.{Message}
 use Rattle.paper_messages.specs.declared.Heard.{Heard}
 use Rattle.paper_messages.specs.Bytes.{bytesOf, spelled, complement, signedOf}
-use Rattle.paper_messages.specs.Fields.{staticsKind, ratesKind, bandsKind, moveKind, staticsFields, ratesFields, bandsFields, moveFields, yesNo, fieldsOf, filled, placesOf}
-use Rattle.paper_messages.specs.Messages.{bodyOf, total, lengthOf, encode, isKnown, inRanges, givenIn, asAdmission, valid, writeChecks, wroteOf, written, valuesAt, messageAt, readChecks, refusedHeard, acceptedHeard, heardAt}
+use Rattle.paper_messages.specs.Fields.{staticsKind, ratesKind, bandsKind, moveKind, staticsFields, ratesFields}
+use Rattle.paper_messages.specs.Fields.{bandsFields, moveFields, yesNo, fieldsOf, filled, placesOf}
+use Rattle.paper_messages.specs.Messages.{bodyOf, total, lengthOf, encode, isKnown, inRanges, givenIn}
+use Rattle.paper_messages.specs.Messages.{asAdmission, valid, writeChecks, wroteOf, written, valuesAt, messageAt}
+use Rattle.paper_messages.specs.Messages.{readChecks, refusedHeard, acceptedHeard, heardAt}
 use Rattle.paper_messages.specs.Records.{flagOf, message}
 
 -- ---- a message of each kind

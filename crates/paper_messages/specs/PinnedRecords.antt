@@ -12,7 +12,8 @@ use Rattle.paper.specs.declared.Side.the-variants.{Upper, Lower}
 use Rattle.paper.specs.Lists.{three}
 use Rattle.paper.specs.Ranges.{lastDay, noExternal, notNear}
 use Rattle.paper_messages.specs.Fields.{staticsKind, ratesKind, bandsKind, moveKind, filled}
-use Rattle.paper_messages.specs.Records.{valueOf, message, staticsMessage, ratesMessage, bandsMessage, moveMessage}
+use Rattle.paper_messages.specs.Records.{valueOf, message, staticsMessage, ratesMessage, bandsMessage}
+use Rattle.paper_messages.specs.Records.{moveMessage}
 
 unfoldable pub sampleStatics : Statics
 sampleStatics =

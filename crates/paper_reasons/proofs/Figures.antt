@@ -18,7 +18,8 @@ use Rattle.paper.specs.Numbers.{ageMost}
 use Rattle.paper.specs.Roundings.{toGrid}
 use Rattle.paper.specs.Ranges.{validStatics}
 use Rattle.paper_desk.specs.Evaluation.{roublesOf, closeOf, bidOf, askOf, evaluationOf}
-use Rattle.paper_desk.specs.Rates.{weightOf, weighted, replacement, replacementWins, volatilityOf, tentativeAfter, minimumOf, covers, levelRate}
+use Rattle.paper_desk.specs.Rates.{weightOf, weighted, replacement, replacementWins, volatilityOf, tentativeAfter}
+use Rattle.paper_desk.specs.Rates.{minimumOf, covers, levelRate}
 use Rattle.paper.proofs.Logic.{not-true-and-false, and-right, and-both}
 use Rattle.paper_reasons.specs.declared.PriceReason.{PriceReason}
 use Rattle.paper_reasons.specs.declared.PriceReason.the-variants as price
@@ -27,7 +28,9 @@ use Rattle.paper_reasons.specs.declared.ReplacementReason.the-variants a
 use Rattle.paper_reasons.specs.declared.TentativeReason.the-variants as tentative
 use Rattle.paper_reasons.specs.declared.LevelReason.{LevelReason}
 use Rattle.paper_reasons.specs.declared.LevelReason.the-variants as level
-use Rattle.paper_reasons.specs.Reasons.{isTraded, beforeGrid, priceSetBy, priceReason, weightIs, weightReason, replacementWas, replacementReason, tentativeDid, tentativeReason, requirementStep, levelSetBy, levelReason}
+use Rattle.paper_reasons.specs.Reasons.{isTraded, beforeGrid, priceSetBy, priceReason, weightIs, weightReason}
+use Rattle.paper_reasons.specs.Reasons.{replacementWas, replacementReason, tentativeDid, tentativeReason}
+use Rattle.paper_reasons.specs.Reasons.{requirementStep, levelSetBy, levelReason}
 use Rattle.paper_reasons.specs.Figures.{priceFigure, weightFigure, volatilityFigure, tentativeFigure, levelFigure}
 use Rattle.paper_reasons.proofs.Prices.{price-named}
 use Rattle.paper_reasons.proofs.Levels.{level-named}

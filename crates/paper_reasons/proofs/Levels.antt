@@ -17,7 +17,8 @@ use Rattle.paper.proofs.Logic.{not-true-and-false, and-left, and-right, and-bot
 use Rattle.paper.proofs.Search.{multiple-holds, multiple-least, multiple-is-multiple}
 use Rattle.paper_desk.proofs.Level.{covers-more, meets-real, real-meets, quotient-times-is, level-rate-is}
 use Rattle.paper_reasons.specs.declared.LevelReason.the-variants as level
-use Rattle.paper_reasons.specs.Reasons.{inOrder, firstThatHolds, requirementStep, levelSetBy, levelReasons, levelReason, TrueReason}
+use Rattle.paper_reasons.specs.Reasons.{inOrder, firstThatHolds, requirementStep, levelSetBy, levelReasons}
+use Rattle.paper_reasons.specs.Reasons.{levelReason, TrueReason}
 use Rattle.paper_reasons.proofs.First.{true-reason}
 
 module _ (st : Statics) (v : validStatics st ≡ true) where

@@ -16,7 +16,8 @@ use Rattle.paper.specs.Verdicts.{NoneApplies, none, also}
 use Rattle.paper.proofs.Logic.{not-true-and-false, and-left, and-right, and-both, le-or-lt}
 use Rattle.paper_reasons.specs.declared.PriceReason.{PriceReason}
 use Rattle.paper_reasons.specs.declared.PriceReason.the-variants as price
-use Rattle.paper_reasons.specs.Reasons.{inOrder, isTraded, beforeGrid, priceSetBy, priceReasons, priceReason, TrueReason}
+use Rattle.paper_reasons.specs.Reasons.{inOrder, isTraded, beforeGrid, priceSetBy, priceReasons, priceReason}
+use Rattle.paper_reasons.specs.Reasons.{TrueReason}
 use Rattle.paper_reasons.proofs.First.{true-reason}
 
 -- where no row has a weight none is left

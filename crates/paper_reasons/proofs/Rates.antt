@@ -13,7 +13,9 @@ use Rattle.paper.proofs.Logic.{not-true-and-false, and-both, le-or-lt, pick-tru
 use Rattle.paper_reasons.specs.declared.WeightReason.the-variants as weight
 use Rattle.paper_reasons.specs.declared.ReplacementReason.the-variants as replacement
 use Rattle.paper_reasons.specs.declared.TentativeReason.the-variants as tentative
-use Rattle.paper_reasons.specs.Reasons.{inOrder, firstThatHolds, weightIs, weightReasons, weightReason, replacementWas, replacementReasons, replacementReason, tentativeDid, tentativeReasons, tentativeReason, TrueReason}
+use Rattle.paper_reasons.specs.Reasons.{inOrder, firstThatHolds, weightIs, weightReasons, weightReason}
+use Rattle.paper_reasons.specs.Reasons.{replacementWas, replacementReasons, replacementReason, tentativeDid}
+use Rattle.paper_reasons.specs.Reasons.{tentativeReasons, tentativeReason, TrueReason}
 use Rattle.paper_reasons.proofs.First.{true-reason}
 
 -- With isEWMA yes the reasons are those of the model

@@ -8,18 +8,34 @@ use lib.IntN.{ℤ, pos, negsuc}
 use Rattle.paper.specs.Lists.{every, some, those}
 use Rattle.paper.specs.Roundings.{down, up, halfUp, toGrid, lesserOf, greaterOf, grown, apart}
 use Rattle.paper.specs.Least.{first, least, leastRoot, leastTimes, leastMultiple}
-use Rattle.paper.specs.Ranges.{unsigned, isPrice, isRate, gridOf, isGridPrice, validStatics, staticsOf, tentativeTop, validTentative, partsFrom, rowAt, rowsOf, wholeRows, validRow, validRows, rowOf, validTerm, validDay, lastDay, isLimit, validLimits, validNear, validNearSeconds, validSession, validExternal, sound, validSlots}
-use Rattle.paper_desk.specs.Evaluation.{rowPrice, rowWeight, roublesOf, traded, weights, worth, mean, closeOf, bestBid, lesserAsk, bestAsk, usedPair, bidOf, askOf, median, between, evaluationOf, dayRows, isCrossedRow, hasCrossedRow, rowFits, evaluationFits}
-use Rattle.paper_desk.specs.Rates.{moveFrom, moveOf, weightOf, weighted, replacement, replaces, volatilityOf, leastStep, tentativeRate, tentativeRateByMove, tentativeRateOf, tentativeAfter, meetsRequirement, daysOf, minimumOf, covers, levelRate, modelled, unmodelled, figuresOf, moveTooLarge}
-use Rattle.paper_desk.specs.Limits.{limitOf, shifted, rangeLimit, rangeOf, farthest, spread, monitored, narrower, bandLimit, bandOf, crossed}
+use Rattle.paper.specs.Ranges.{unsigned, isPrice, isRate, gridOf, isGridPrice, validStatics, staticsOf, tentativeTop}
+use Rattle.paper.specs.Ranges.{validTentative, partsFrom, rowAt, rowsOf, wholeRows, validRow, validRows, rowOf}
+use Rattle.paper.specs.Ranges.{validTerm, validDay, lastDay, isLimit, validLimits, validNear, validNearSeconds}
+use Rattle.paper.specs.Ranges.{validSession, validExternal, sound, validSlots}
+use Rattle.paper_desk.specs.Evaluation.{rowPrice, rowWeight, roublesOf, traded, weights, worth, mean, closeOf, bestBid}
+use Rattle.paper_desk.specs.Evaluation.{lesserAsk, bestAsk, usedPair, bidOf, askOf, median, between, evaluationOf}
+use Rattle.paper_desk.specs.Evaluation.{dayRows, isCrossedRow, hasCrossedRow, rowFits, evaluationFits}
+use Rattle.paper_desk.specs.Rates.{moveFrom, moveOf, weightOf, weighted, replacement, replaces, volatilityOf, leastStep}
+use Rattle.paper_desk.specs.Rates.{tentativeRate, tentativeRateByMove, tentativeRateOf, tentativeAfter}
+use Rattle.paper_desk.specs.Rates.{meetsRequirement, daysOf, minimumOf, covers, levelRate, modelled, unmodelled}
+use Rattle.paper_desk.specs.Rates.{figuresOf, moveTooLarge}
+use Rattle.paper_desk.specs.Limits.{limitOf, shifted, rangeLimit, rangeOf, farthest, spread, monitored, narrower}
+use Rattle.paper_desk.specs.Limits.{bandLimit, bandOf, crossed}
 use Rattle.paper.specs.Verdicts.{numberOf, isDone, firstOf}
-use Rattle.paper_desk.specs.Desk.{blank, usedBy, priceOn, moveOn, figuresOn, evaluated, place, stands, found, known, evaluateChecks}
-use Rattle.paper.specs.PinnedValues.{_but_, minimaAt, aupAt, adownAt, liqAt, pchmaxAt, ewmaAt, useexternalAt, p1At, sAt, tentativeAt, ageAt, ratesAt, externalAt, centralAt, rowBidAt, rowAskAt, volumeAt, givenFrom, standingFrom, nearFrom, sessionFrom, limitsFrom, termFrom, recordFrom, dayFrom, closedAt, zNumbers, zRecord}
+use Rattle.paper_desk.specs.Desk.{blank, usedBy, priceOn, moveOn, figuresOn, evaluated, place, stands, found, known}
+use Rattle.paper_desk.specs.Desk.{evaluateChecks}
+use Rattle.paper.specs.PinnedValues.{_but_, minimaAt, aupAt, adownAt, liqAt, pchmaxAt, ewmaAt, useexternalAt, p1At, sAt}
+use Rattle.paper.specs.PinnedValues.{tentativeAt, ageAt, ratesAt, externalAt, centralAt, rowBidAt, rowAskAt, volumeAt}
+use Rattle.paper.specs.PinnedValues.{givenFrom, standingFrom, nearFrom, sessionFrom, limitsFrom, termFrom, recordFrom}
+use Rattle.paper.specs.PinnedValues.{dayFrom, closedAt, zNumbers, zRecord}
 use Rattle.paper_reasons.specs.declared.Why.{Why}
-use Rattle.paper_reasons.specs.Reasons.{isTraded, priceSetBy, priceReason, weightIs, weightReason, replacementWas, replacementReason, tentativeDid, tentativeReason, requirementStep, levelSetBy, levelReason}
+use Rattle.paper_reasons.specs.Reasons.{isTraded, priceSetBy, priceReason, weightIs, weightReason, replacementWas}
+use Rattle.paper_reasons.specs.Reasons.{replacementReason, tentativeDid, tentativeReason, requirementStep}
+use Rattle.paper_reasons.specs.Reasons.{levelSetBy, levelReason}
 use Rattle.paper_reasons.specs.Faults.{rowsAtFault, outOfRange, isSame, faultsOf, faultOf}
 use Rattle.paper_reasons.specs.Why.{replacedOn, stepOn, levelOn, reasonsOf, whyOf, whyOn}
-use Rattle.paper_reasons.specs.Words.{priceNumber, weightNumber, replacementNumber, tentativeNumber, levelNumber, faultNumbers}
+use Rattle.paper_reasons.specs.Words.{priceNumber, weightNumber, replacementNumber, tentativeNumber, levelNumber}
+use Rattle.paper_reasons.specs.Words.{faultNumbers}
 
 -- why a day is answered as it is, on a table of one record, in the numbers of Words: the price, the weight, the
 -- replacement, the tentative rate and the three levels of a day that is accepted; the number and the fault of one that

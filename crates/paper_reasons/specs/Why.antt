@@ -22,7 +22,8 @@ use Rattle.paper_reasons.specs.declared.LevelReason.{LevelReason}
 use Rattle.paper_reasons.specs.declared.LevelReason.the-variants as level
 use Rattle.paper_reasons.specs.declared.Reasons.{Reasons}
 use Rattle.paper_reasons.specs.declared.Why.{Why}
-use Rattle.paper_reasons.specs.Reasons.{priceReason, weightReason, replacementReason, tentativeReason, levelReason}
+use Rattle.paper_reasons.specs.Reasons.{priceReason, weightReason, replacementReason, tentativeReason}
+use Rattle.paper_reasons.specs.Reasons.{levelReason}
 use Rattle.paper_reasons.specs.Faults.{faultOf}
 
 -- of a refused evaluation no figure has a reason

@@ -3,7 +3,8 @@ use mathlib.Core.Path.{_≡_, refl, ap, sym, subst, _∙_}
 use mathlib.Core.Logic.{_⊎_, inl, inr}
 use mathlib.Core.Bool.{Bool, true, false, not, _&&_, _||_}
 use Prim.Native.Nat.{ℕ, _+_, _-_, _*_, _/_, _%_, _≤_, _<_, min, max}
-use native.Mathlib.Nat.{mul-le-mul, mul-le-mul-right, le-trans, le-dest, le-of-lt, le-antisymm, mul-lt-mul-of-pos-right, le-div-iff-mul-le, mul-mod-left, mod-eq-of-lt}
+use native.Mathlib.Nat.{mul-le-mul, mul-le-mul-right, le-trans, le-dest, le-of-lt, le-antisymm, mul-lt-mul-of-pos-right}
+use native.Mathlib.Nat.{le-div-iff-mul-le, mul-mod-left, mod-eq-of-lt}
 use native.Mathlib.Omega.{arith}
 use lib.Dec.{leb}
 use borrow.Author.Tests.{leb-true, leb-false, le-leb, lt-leb}
@@ -11,12 +12,15 @@ use Rattle.paper.specs.declared.Statics.{Statics}
 use Rattle.paper.specs.Lists.{pick}
 use Rattle.paper.specs.Least.{least, leastMultiple}
 use Rattle.paper_desk.specs.Rates.{meetsRequirement, daysOf, minimumOf, covers, levelRate}
-use Rattle.paper.proofs.Logic.{not-true-and-false, and-left, and-right, and-both, not-true, pick-true, pick-false, le-or-lt}
+use Rattle.paper.proofs.Logic.{not-true-and-false, and-left, and-right, and-both, not-true, pick-true, pick-false}
+use Rattle.paper.proofs.Logic.{le-or-lt}
 use Rattle.paper_desk.proofs.Level.{meets-roots, within-more, covers-more, quotient-times-is}
-use Rattle.paper.proofs.Search.{Mono, Between, between-below-hit, between-above-miss, between-one-is-least, least-monotone, multiple-holds-or-is-last, multiple-within-bound}
+use Rattle.paper.proofs.Search.{Mono, Between, between-below-hit, between-above-miss, between-one-is-least}
+use Rattle.paper.proofs.Search.{least-monotone, multiple-holds-or-is-last, multiple-within-bound}
 use Rattle.rates.specs.Asked.{RateStatics}
 use Rattle.rates.proofs.Statics.{level-statics}
-use Rattle.rates.specs.Level.{tentativeSquare, liquiditySquare, reaches, reachMost, leastReach, Tried, enough, noLess}
+use Rattle.rates.specs.Level.{tentativeSquare, liquiditySquare, reaches, reachMost, leastReach, Tried, enough}
+use Rattle.rates.specs.Level.{noLess}
 
 -- ---- the comparison
 

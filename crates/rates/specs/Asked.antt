@@ -4,7 +4,8 @@ use Prim.Native.Nat.{ℕ, _+_, _%_, _≤_}
 use Rattle.paper.specs.declared.Rate.{Rate}
 use Rattle.paper.specs.declared.Statics.{Statics}
 use Rattle.paper.specs.declared.Tentative.{Tentative}
-use Rattle.paper.specs.Numbers.{rateMost, volatilityMost, tentativeMost, ageMost, aheadMost, stepMost, multiplierLeast, multiplierMost, weightMost, firstDaysMost, daysMost, liquidityMost}
+use Rattle.paper.specs.Numbers.{rateMost, volatilityMost, tentativeMost, ageMost, aheadMost, stepMost, multiplierLeast}
+use Rattle.paper.specs.Numbers.{multiplierMost, weightMost, firstDaysMost, daysMost, liquidityMost}
 
 -- the statics of 7.1
 pub record RateStatics (st : Statics) : Type 0 where

@@ -17,7 +17,9 @@ use Rattle.paper.specs.Lists.{pick}
 use Rattle.paper.specs.Ranges.{validSlots, validAdmission, sound, sideOf}
 use Rattle.paper.specs.Verdicts.{isDone, Check, firstOf}
 use Rattle.paper_desk.specs.External.{Told}
-use Rattle.paper_desk.specs.Desk.{blank, saying, showing, admitted, evaluated, quoted, alertsOn, moved, eveningOpened, received, place, found, Outcome, evaluateChecks, quoteChecks, moveChecks, readChecks, openChecks, receiveChecks}
+use Rattle.paper_desk.specs.Desk.{blank, saying, showing, admitted, evaluated, quoted, alertsOn, moved, eveningOpened}
+use Rattle.paper_desk.specs.Desk.{received, place, found, Outcome, evaluateChecks, quoteChecks, moveChecks, readChecks}
+use Rattle.paper_desk.specs.Desk.{openChecks, receiveChecks}
 use Rattle.record_answers.specs.declared.Slot.{Slot}
 use Rattle.record_answers.specs.declared.Effect.{Effect}
 

@@ -14,22 +14,27 @@ use Rattle.paper.specs.declared.Quote.{Quote}
 use Rattle.paper.specs.declared.Record.{Record}
 use Rattle.paper.specs.declared.Side.{Side}
 use Rattle.paper.specs.declared.Side.the-variants.{Upper, Lower}
-use Rattle.paper.specs.declared.Verdict.the-variants.{Done, NoSuchId, AlreadyAdmitted, NoEmptySlot, AdmissionOutOfRange, NotLive, MovesUsedUp, SecondEarlier, NoEveningMove, OpenedTwice, BadFloat}
+use Rattle.paper.specs.declared.Verdict.the-variants.{Done, NoSuchId, AlreadyAdmitted, NoEmptySlot, AdmissionOutOfRange}
+use Rattle.paper.specs.declared.Verdict.the-variants.{NotLive, MovesUsedUp, SecondEarlier, NoEveningMove, OpenedTwice}
+use Rattle.paper.specs.declared.Verdict.the-variants.{BadFloat}
 use Rattle.paper.specs.Lists.{pick, every}
 use Rattle.paper.specs.Numbers.{priceLeast, priceMost, movesMost}
-use Rattle.paper.specs.Ranges.{validSlots, validAdmission, validQuote, validSide, sideOf, isLive, sound, isPrice, isGridPrice, priceMade}
+use Rattle.paper.specs.Ranges.{validSlots, validAdmission, validQuote, validSide, sideOf, isLive, sound, isPrice}
+use Rattle.paper.specs.Ranges.{isGridPrice, priceMade}
 use Rattle.paper_floats.specs.Floats.{exactValue, isFinite, isAboveZero, unitsOf, priceOfBits, priceOf}
 use Rattle.paper_desk.specs.External.{Told, hasNone, isBad, unitsMade}
 use Rattle.paper_desk.specs.Limits.{countOf}
 use Rattle.paper_desk.specs.Evening.{isEvening, moveAllowed}
 use Rattle.paper.specs.Verdicts.{isDone, Check, firstOf, NoneApplies, none, also}
-use Rattle.paper_desk.specs.Desk.{saying, showing, admitted, quoted, alertsOn, moved, eveningOpened, received, quoteChecks, moveChecks, openChecks, receiveChecks, refusals}
+use Rattle.paper_desk.specs.Desk.{saying, showing, admitted, quoted, alertsOn, moved, eveningOpened, received}
+use Rattle.paper_desk.specs.Desk.{quoteChecks, moveChecks, openChecks, receiveChecks, refusals}
 use Rattle.paper.proofs.Logic.{not-true-and-false, and-right, not-false, pick-false, and-left}
 use Rattle.paper_desk.proofs.Refusals.{done-means-none-applies}
 use Rattle.record_soundness.proofs.Facts.{sound-facts}
 use Rattle.record_answers.specs.declared.Slot.{Slot}
 use Rattle.record_answers.specs.declared.Effect.{Effect}
-use Rattle.record_answers.specs.Effects.{holds, isKnown, refusedEffect, judgedEffect, admitChecksOf, admitEffect, quoteEffect, moveEffect, openEffect, receiveEffect}
+use Rattle.record_answers.specs.Effects.{holds, isKnown, refusedEffect, judgedEffect, admitChecksOf, admitEffect}
+use Rattle.record_answers.specs.Effects.{quoteEffect, moveEffect, openEffect, receiveEffect}
 use Rattle.record_calls.specs.SharedChecks.{sharedChecks}
 
 -- ---- admit 4, 2, 3

@@ -9,7 +9,8 @@ use lib.ListN.{getD}
 use Rattle.paper.specs.declared.Day.{Day}
 use Rattle.paper.specs.declared.Record.{Record}
 use Rattle.paper.specs.declared.Verdict.{Verdict}
-use Rattle.paper.specs.declared.Verdict.the-variants.{Done, NoSuchId, DayNotAfter, OutOfRange, PriceOutOfRange, MoveTooLarge, BandCrossed, RowCrossed}
+use Rattle.paper.specs.declared.Verdict.the-variants.{Done, NoSuchId, DayNotAfter, OutOfRange, PriceOutOfRange}
+use Rattle.paper.specs.declared.Verdict.the-variants.{MoveTooLarge, BandCrossed, RowCrossed}
 use Rattle.paper.specs.Lists.{pick, allThree}
 use Rattle.paper.specs.Ranges.{gridOf, validDay, lastDay, noLimits}
 use Rattle.paper_desk.specs.Evaluation.{dayRows, hasCrossedRow, evaluationFits}

@@ -12,7 +12,8 @@ use Rattle.paper.specs.declared.Limits.{Limits}
 use Rattle.paper.specs.declared.Verdict.{Verdict}
 use Rattle.paper.specs.declared.Verdict.the-variants as verdict
 use Rattle.paper.specs.Lists.{pick, every}
-use Rattle.paper.specs.Ranges.{LentRow, rowsOf, rowOf, wholeRows, validRow, validRows, validTerm, validDay, termAt, noLimits}
+use Rattle.paper.specs.Ranges.{LentRow, rowsOf, rowOf, wholeRows, validRow, validRows, validTerm, validDay, termAt}
+use Rattle.paper.specs.Ranges.{noLimits}
 use Rattle.paper_desk.specs.Evaluation.{dayRows, isCrossedRow, rowFits}
 use Rattle.paper_desk.specs.Limits.{crossed}
 use Rattle.paper.specs.Verdicts.{numberOf, Naming, firstNamed, firstOf}

@@ -44,9 +44,12 @@ use Rattle.paper_reasons.specs.declared.PriceReason.{PriceReason}
 use Rattle.paper_reasons.specs.declared.WeightReason.the-variants as weight
 use Rattle.paper_reasons.specs.declared.ReplacementReason.the-variants as replacement
 use Rattle.paper_reasons.specs.declared.TentativeReason.the-variants as tentative
-use Rattle.paper_reasons.specs.Reasons.{firstThatHolds, isTraded, priceSetBy, priceReason, weightIs, weightReasons, weightReason, replacementWas, replacementReasons, replacementReason, tentativeDid, tentativeReasons, tentativeReason, levelReason}
+use Rattle.paper_reasons.specs.Reasons.{firstThatHolds, isTraded, priceSetBy, priceReason, weightIs, weightReasons}
+use Rattle.paper_reasons.specs.Reasons.{weightReason, replacementWas, replacementReasons, replacementReason}
+use Rattle.paper_reasons.specs.Reasons.{tentativeDid, tentativeReasons, tentativeReason, levelReason}
 use Rattle.paper_reasons.specs.Why.{replacedOn, stepOn, levelOn, reasonsOf}
-use Rattle.record_reasons.specs.Reasoned.{setBy, reasonFrom, replacedAt, stepAt, levelAt, unmodelledWith, modelledWith, reasonsAt, Accepted}
+use Rattle.record_reasons.specs.Reasoned.{setBy, reasonFrom, replacedAt, stepAt, levelAt, unmodelledWith}
+use Rattle.record_reasons.specs.Reasoned.{modelledWith, reasonsAt, Accepted}
 
 -- the weights together are above 0 where some row's is
 weights-traded : (rs : List Roubles) → ltb 0 (weights rs) ≡ isTraded rs

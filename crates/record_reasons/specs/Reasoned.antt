@@ -22,7 +22,8 @@ use Rattle.paper_reasons.specs.declared.TentativeReason.the-variants as tentati
 use Rattle.paper_reasons.specs.declared.LevelReason.{LevelReason}
 use Rattle.paper_reasons.specs.declared.LevelReason.the-variants as level
 use Rattle.paper_reasons.specs.declared.Reasons.{Reasons}
-use Rattle.paper_reasons.specs.Reasons.{firstThatHolds, priceReasons, weightReason, replacementReason, tentativeReason, levelReason}
+use Rattle.paper_reasons.specs.Reasons.{firstThatHolds, priceReasons, weightReason, replacementReason, tentativeReason}
+use Rattle.paper_reasons.specs.Reasons.{levelReason}
 
 -- which of the figures set the price: the rows have a weight where the weights together are above 0
 unfoldable pub setBy : (previous : ℕ) → PriceFigures → PriceReason → Bool

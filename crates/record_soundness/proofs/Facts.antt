@@ -14,9 +14,11 @@ use Rattle.paper.specs.declared.Limits.{Limits}
 use Rattle.paper.specs.declared.Record.{Record}
 use Rattle.paper.specs.Lists.{allThree}
 use Rattle.paper.specs.Numbers.{priceMost, rateMost, idMost, ageMost, limitMost, movesMost, secondLast, slotsMost}
-use Rattle.paper.specs.Ranges.{gridOf, isRate, validStatics, lastDay, termAt, isLimit, validLimits, noLimits, validNear, validNearSeconds, notNear, validSession, validExternal, sound, validSlots, rateAt}
+use Rattle.paper.specs.Ranges.{gridOf, isRate, validStatics, lastDay, termAt, isLimit, validLimits, noLimits, validNear}
+use Rattle.paper.specs.Ranges.{validNearSeconds, notNear, validSession, validExternal, sound, validSlots, rateAt}
 use Rattle.paper.proofs.Logic.{and-left, and-right, each-of-three}
-use Rattle.inputs.proofs.Facts.{Within, within-facts, MultipleTo, multiple-facts, grid-price-facts, rate-within-most, StaticsFacts, statics-facts, tentative-facts, FiguresFacts, TermFacts, terms-facts}
+use Rattle.inputs.proofs.Facts.{Within, within-facts, MultipleTo, multiple-facts, grid-price-facts, rate-within-most}
+use Rattle.inputs.proofs.Facts.{StaticsFacts, statics-facts, tentative-facts, FiguresFacts, TermFacts, terms-facts}
 
 -- ---- limits
 

@@ -17,8 +17,10 @@ use Rattle.paper.specs.Verdicts.{isDone, firstOf}
 use Rattle.paper.proofs.Logic.{not-true, not-false}
 use Rattle.paper_messages.specs.declared.Message.{Message}
 use Rattle.paper_messages.specs.declared.Wrote.{Wrote as Answered}
-use Rattle.paper_messages.specs.Fields.{staticsKind, ratesKind, bandsKind, moveKind, staticsFields, ratesFields, bandsFields, moveFields, noField, fieldsOf, filled, placesOf}
-use Rattle.paper_messages.specs.Messages.{lengthWidth, kindWidth, total, lengthOf, encode, valid, writeChecks, wroteOf, written}
+use Rattle.paper_messages.specs.Fields.{staticsKind, ratesKind, bandsKind, moveKind, staticsFields, ratesFields}
+use Rattle.paper_messages.specs.Fields.{bandsFields, moveFields, noField, fieldsOf, filled, placesOf}
+use Rattle.paper_messages.specs.Messages.{lengthWidth, kindWidth, total, lengthOf, encode, valid, writeChecks, wroteOf}
+use Rattle.paper_messages.specs.Messages.{written}
 use Rattle.paper_messages.proofs.MessageLaws.{encode-length}
 use Rattle.messages.specs.Promises.{Writes}
 use Rattle.text_protocol.specs.Bytes.{room}

@@ -16,7 +16,10 @@ use Rattle.paper.specs.declared.Notice.the-variants.{Bid, Ask, Withdrawal}
 use Rattle.paper.specs.Ranges.{unsigned}
 use Rattle.text_protocol.specs.declared.Kept.{Kept}
 use Rattle.text_protocol.specs.declared.Pairs.{Pairs}
-use Rattle.text_protocol.specs.Names.{the, placeOf, code, evaluateNames, quoteNames, moveNames, readNames, openNames, outsideNames, noticeNames, withdrawNames, admitKind, evaluateKind, quoteKind, moveKind, readKind, openKind, outsideKind, noticeKind, withdrawKind, evaluateCount}
+use Rattle.text_protocol.specs.Names.{the, placeOf, code, evaluateNames, quoteNames, moveNames, readNames, openNames}
+use Rattle.text_protocol.specs.Names.{outsideNames, noticeNames, withdrawNames, admitKind, evaluateKind, quoteKind}
+use Rattle.text_protocol.specs.Names.{moveKind, readKind, openKind, outsideKind, noticeKind, withdrawKind}
+use Rattle.text_protocol.specs.Names.{evaluateCount}
 use Rattle.text_protocol.specs.Calls.{admissionOf, quoteOf, floatOf, outsideOf, noticeCall, askedOf, figuresOf}
 use Rattle.text_call.specs.declared.Request.{Request}
 use Rattle.text_call.specs.Requests.{requestCall, noticeLine, lineCall, noAdmission, noDay, noQuote, noOutside}

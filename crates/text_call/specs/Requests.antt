@@ -17,8 +17,11 @@ use Rattle.paper_desk.specs.Desk.{Call, admit, evaluate, quote, move, read, ope
 use Rattle.paper_desk.specs.External.{together, notice}
 use Rattle.text_protocol.specs.declared.Kept.{Kept}
 use Rattle.text_protocol.specs.declared.Pairs.{Pairs}
-use Rattle.text_protocol.specs.Names.{ID, SIDE, BITS, the, evaluateNames, quoteNames, moveNames, readNames, openNames, outsideNames, noticeNames, withdrawNames, admitKind, evaluateKind, quoteKind, moveKind, readKind, openKind, outsideKind, noticeKind, withdrawKind}
-use Rattle.text_protocol.specs.Calls.{unsignedOf, admissionOf, quoteOf, floatOf, outsideOf, noticeCall, askedOf, figuresOf}
+use Rattle.text_protocol.specs.Names.{ID, SIDE, BITS, the, evaluateNames, quoteNames, moveNames, readNames, openNames}
+use Rattle.text_protocol.specs.Names.{outsideNames, noticeNames, withdrawNames, admitKind, evaluateKind, quoteKind}
+use Rattle.text_protocol.specs.Names.{moveKind, readKind, openKind, outsideKind, noticeKind, withdrawKind}
+use Rattle.text_protocol.specs.Calls.{unsignedOf, admissionOf, quoteOf, floatOf, outsideOf, noticeCall, askedOf}
+use Rattle.text_protocol.specs.Calls.{figuresOf}
 use Rattle.text_call.specs.declared.Request.{Request}
 
 abbrev pub requestCall : Request → (rows : List ℤ) → Call

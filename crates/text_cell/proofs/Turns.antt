@@ -23,7 +23,8 @@ use Rattle.text_protocol.specs.Written.{negated}
 use Rattle.text_protocol.proofs.Spelling.{impossible, within-is-digit, digit-is-within, low-no-digit, high-no-digit}
 use Rattle.text_table.specs.declared.Column.{Column}
 use Rattle.text_table.specs.Exchange.{point}
-use Rattle.text_table.specs.Scan.{Front, front, none, then, starts, numberMost, digits, pastZeros, behindZeros, decimals, behindWhole, number, positive, turned, cell}
+use Rattle.text_table.specs.Scan.{Front, front, none, then, starts, numberMost, digits, pastZeros, behindZeros}
+use Rattle.text_table.specs.Scan.{decimals, behindWhole, number, positive, turned, cell}
 use Rattle.text_cell.specs.declared.Part.{Part}
 use Rattle.text_cell.specs.declared.Part.the-variants as part
 use Rattle.text_cell.specs.declared.Cell.{Cell}

@@ -25,7 +25,8 @@ use Rattle.paper.specs.Ranges.{validSide}
 use Rattle.paper.specs.Verdicts.{isDone, firstOf}
 use Rattle.paper_interest.specs.Interest.{interestAnswer}
 use Rattle.paper.specs.Terms.{dayOf}
-use Rattle.paper_desk.specs.Desk.{Call, admit, evaluate, quote, move, read, openEvening, receive, known, found, moveChecks, checksOf, step}
+use Rattle.paper_desk.specs.Desk.{Call, admit, evaluate, quote, move, read, openEvening, receive, known, found}
+use Rattle.paper_desk.specs.Desk.{moveChecks, checksOf, step}
 use Rattle.paper_desk.proofs.Refusals.{verdict-first}
 use Rattle.paper_desk.specs.External.{together, notice}
 use Rattle.paper_bonds.specs.declared.Bond.{Bond}
@@ -39,9 +40,12 @@ use Rattle.text_protocol.specs.declared.Performed.{Performed}
 use Rattle.text_evening.specs.declared.Telling.{Telling}
 use Rattle.text_evening.specs.declared.Telling.the-variants.{Answers, Reasons, Messages}
 use Rattle.text_protocol.specs.Kept.{keptAfter}
-use Rattle.text_protocol.specs.Names.{ID, SIDE, BITS, noticeNames, the, interestNames, bondNames, admitKind, evaluateKind, quoteKind, moveKind, readKind, openKind, outsideKind, noticeKind, withdrawKind, interestKind, bondKind, evaluateCount, interestCount, bondCount}
+use Rattle.text_protocol.specs.Names.{ID, SIDE, BITS, noticeNames, the, interestNames, bondNames, admitKind}
+use Rattle.text_protocol.specs.Names.{evaluateKind, quoteKind, moveKind, readKind, openKind, outsideKind, noticeKind}
+use Rattle.text_protocol.specs.Names.{withdrawKind, interestKind, bondKind, evaluateCount, interestCount, bondCount}
 use Rattle.text_protocol.specs.Line.{Said, Nothing, NoCall, Call as saysCall}
-use Rattle.text_protocol.specs.Calls.{Deed, unsignedOf, floatOf, noticeCall, interestOf, bondOf, figuresOf, callOf, deedOf}
+use Rattle.text_protocol.specs.Calls.{Deed, unsignedOf, floatOf, noticeCall, interestOf, bondOf, figuresOf, callOf}
+use Rattle.text_protocol.specs.Calls.{deedOf}
 use Rattle.text_protocol.specs.Answers.{callText, figuresOf as figuresAnswered}
 use Rattle.text_protocol.specs.Reasons.{whyText}
 use Rattle.text_evening.specs.Broadcast.{messagesOf, allSent, broadcastOf}

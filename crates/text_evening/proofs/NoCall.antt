@@ -13,7 +13,8 @@ use Rattle.text_protocol.specs.declared.Pairs.{Pairs}
 use Rattle.text_evening.specs.declared.Telling.{Telling}
 use Rattle.text_protocol.specs.Bytes.{words}
 use Rattle.text_protocol.specs.Names.{kindOf, takes}
-use Rattle.text_protocol.specs.Line.{Said, Nothing, NoCall, Call, Reading, read, spoilt, noPairs, itemOf, taking, onWith, finished, fill, called, longest, meaning}
+use Rattle.text_protocol.specs.Line.{Said, Nothing, NoCall, Call, Reading, read, spoilt, noPairs, itemOf, taking}
+use Rattle.text_protocol.specs.Line.{onWith, finished, fill, called, longest, meaning}
 use Rattle.text_protocol.specs.Written.{Blanks, Says}
 use Rattle.text_protocol.specs.Calls.{deedOf}
 use Rattle.text_protocol.specs.Answers.{badText}

@@ -12,14 +12,17 @@ use Rattle.paper.specs.declared.Session.the-variants.{Main}
 use Rattle.paper.specs.declared.Notice.the-variants.{Withdrawal}
 use Rattle.paper.specs.declared.Verdict.the-variants.{Done, AlreadyAdmitted, OutOfRange, MovesUsedUp}
 use Rattle.paper.specs.Lists.{three}
-use Rattle.paper.specs.Ranges.{lastDay, noExternal, notNear, noTerm, sideOf, staticsOf, unsigned, validGiven, validStatics}
+use Rattle.paper.specs.Ranges.{lastDay, noExternal, notNear, noTerm, sideOf, staticsOf, unsigned, validGiven}
+use Rattle.paper.specs.Ranges.{validStatics}
 use Rattle.paper.specs.Verdicts.{isDone}
 use Rattle.paper_desk.specs.Desk.{Call, admit, evaluate, quote, move, read, openEvening, receive, saying, showing}
 use Rattle.paper_desk.specs.External.{notice}
 use Rattle.paper_messages.specs.declared.Message.{Message}
 use Rattle.paper_messages.specs.Bytes.{bytesOf, complement}
-use Rattle.paper_messages.specs.Fields.{staticsFields, ratesFields, bandsFields, moveFields, fieldsOf, filled, moveKind, placesOf}
-use Rattle.paper_messages.specs.Messages.{bodyOf, total, lengthOf, encode, isKnown, inRanges, givenIn, asAdmission, valid}
+use Rattle.paper_messages.specs.Fields.{staticsFields, ratesFields, bandsFields, moveFields, fieldsOf, filled, moveKind}
+use Rattle.paper_messages.specs.Fields.{placesOf}
+use Rattle.paper_messages.specs.Messages.{bodyOf, total, lengthOf, encode, isKnown, inRanges, givenIn, asAdmission}
+use Rattle.paper_messages.specs.Messages.{valid}
 use Rattle.paper_messages.specs.PinnedMessages.{staticsBytes, ratesBytes, bandsBytes}
 use Rattle.paper_messages.specs.PinnedRecords.{sampleStatics, sample}
 use Rattle.paper_messages.specs.Records.{valueOf, message, staticsMessage, ratesMessage, bandsMessage, moveMessage}

@@ -9,7 +9,8 @@ use Prim.Native.Nat.{ℕ, zero, suc, _+_, _-_, _*_, _≤_, _<_}
 use native.Mathlib.Omega.{arith}
 use lib.Dec.{eqb}
 use lib.IntN.{ℤ, pos}
-use lib.ListN.{length, take, drop, getD, set, replicate, length-replicate, length-append, length-drop, drop-of-length-le}
+use lib.ListN.{length, take, drop, getD, set, replicate, length-replicate, length-append, length-drop}
+use lib.ListN.{drop-of-length-le}
 use lib.Seq.{sets, sets-eq, drop-cons, take-at, drop-append-add}
 use borrow.Author.Tests.{eqb-true}
 use Rattle.paper.specs.declared.Verdict.the-variants.{Done}
@@ -23,7 +24,8 @@ use Rattle.text_table.specs.declared.Reading.{Reading}
 use Rattle.text_table.specs.Exchange.{Ended, lineNumbers, rowsMost, textMost, inOne, accepted, refused, Says, too-long}
 use Rattle.text_table.specs.Scan.{Front, front, none, line}
 use Rattle.text_table.proofs.Lines.{ended-reads, Rowed, line-back, row-has-seven}
-use Rattle.text_table.proofs.Walk.{Sofar, none-yet, own-row, other-row, ends-no-row, ends-seventeenth, ends-unended, ends-good}
+use Rattle.text_table.proofs.Walk.{Sofar, none-yet, own-row, other-row, ends-no-row, ends-seventeenth, ends-unended}
+use Rattle.text_table.proofs.Walk.{ends-good}
 use Rattle.text_row.specs.declared.Place.{Place}
 use Rattle.text_row.specs.declared.Place.the-variants as place
 use Rattle.text_row.specs.Lines.{placeFront, PlaceIn, Lined}

@@ -19,7 +19,8 @@ use Rattle.text_line.proofs.Turns.{long-line}
 use Rattle.text_input.specs.declared.Input.{Input}
 use Rattle.text_input.specs.declared.Passed.{Passed}
 use Rattle.text_input.specs.declared.Heard.{Heard}
-use Rattle.text_input.specs.Input.{lineLength, Unbroken, unread, Stands, Ends, Next, Passes, Readied, LongPassed, Hears}
+use Rattle.text_input.specs.Input.{lineLength, Unbroken, unread, Stands, Ends, Next, Passes, Readied, LongPassed}
+use Rattle.text_input.specs.Input.{Hears}
 use Rattle.text_input.proofs.Turns.{unbroken-both, drop-take, line-le}
 
 -- ---- the first line feed of a text

@@ -6,7 +6,8 @@ use mathlib.Core.List.{List, [], _∷_, _++_, append-nil, append-assoc}
 use Prim.Native.Nat.{ℕ, zero, suc, _+_, _-_, _≤_, _<_}
 use native.Mathlib.Omega.{arith}
 use lib.ListN.{length, take, drop, getD, set, length-set, length-append, length-take, length-drop}
-use lib.Seq.{take-suc-set, take-suc, getD-set-other, getD-drop, take-add, drop-drop, take-nil, take-take, length-take-le, take-append-le}
+use lib.Seq.{take-suc-set, take-suc, getD-set-other, getD-drop, take-add, drop-drop, take-nil, take-take}
+use lib.Seq.{length-take-le, take-append-le}
 use Rattle.paper.specs.Lists.{pick}
 use Rattle.text_protocol.specs.Bytes.{lineFeed, isNot, run, room}
 use Rattle.text_input.specs.declared.Input.{Input}

@@ -9,7 +9,8 @@ use lib.ListN.{length, take}
 use Rattle.paper.specs.Lists.{pick}
 use Rattle.text_protocol.specs.declared.Pairs.{Pairs}
 use Rattle.text_protocol.specs.Names.{RRCL0, RRCL1, RRCL2, takes}
-use Rattle.text_protocol.specs.Line.{Said, Nothing, NoCall, Call, Reading, read, spoilt, noPairs, placeIn, more, keptMost}
+use Rattle.text_protocol.specs.Line.{Said, Nothing, NoCall, Call, Reading, read, spoilt, noPairs, placeIn, more}
+use Rattle.text_protocol.specs.Line.{keptMost}
 use Rattle.text_line.specs.declared.Line.{Line}
 use Rattle.text_line.specs.declared.Taken.{Taken}
 

@@ -21,7 +21,9 @@ use Rattle.text_input.proofs.Turns.{drop-take-of}
 use Rattle.text_heard.specs.Lines.{lineOf}
 use Rattle.text_listen.specs.declared.Listening.{Listening}
 use Rattle.text_listen.specs.Listen.{listenFrom, listenText}
-use Rattle.text_listen.specs.Steps.{mostBytes, startListening, unheard, placeOf, heardIn, isCut, Stands, Tells, Delivers, Over, Step, tells, delivers, ends, deliveredBy, toldBy, Run, starts, goes, Listens}
+use Rattle.text_listen.specs.Steps.{mostBytes, startListening, unheard, placeOf, heardIn, isCut, Stands, Tells}
+use Rattle.text_listen.specs.Steps.{Delivers, Over, Step, tells, delivers, ends, deliveredBy, toldBy, Run, starts}
+use Rattle.text_listen.specs.Steps.{goes, Listens}
 use Rattle.text_listen.proofs.Places.{next-within, unheard-length}
 use Rattle.text_listen.proofs.Whole.{heard-whole}
 

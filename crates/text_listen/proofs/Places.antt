@@ -14,7 +14,8 @@ use Rattle.paper.specs.Lists.{pick}
 use Rattle.paper.specs.Ranges.{within}
 use Rattle.paper.specs.Verdicts.{numberOf, isDone, firstOf}
 use Rattle.paper.proofs.Logic.{not-true-and-false}
-use Rattle.paper_messages.specs.Messages.{lengthWidth, lengthLeast, lengthMost, lengthAt, readChecks, refusedHeard, acceptedHeard, heardAt}
+use Rattle.paper_messages.specs.Messages.{lengthWidth, lengthLeast, lengthMost, lengthAt, readChecks, refusedHeard}
+use Rattle.paper_messages.specs.Messages.{acceptedHeard, heardAt}
 use Rattle.text_listen.specs.declared.Listening.{Listening}
 use Rattle.text_listen.specs.Steps.{unheard, Stands}
 

@@ -18,7 +18,9 @@ use Rattle.text_protocol.specs.Bytes.{room}
 use Rattle.text_out.specs.Wrote.{Wrote}
 use Rattle.text_heard.specs.Lines.{lineOf, lineMost}
 use Rattle.text_listen.specs.declared.Listening.{Listening}
-use Rattle.text_listen.specs.Steps.{mostBytes, unheard, placeOf, heardIn, isCut, Stands, Tells, Delivers, Over, Written, ReadsOn, one, toGo, Step, tells, delivers, ends, Steps, deliveredBy, toldBy, Run, starts, goes, Listens, startListening}
+use Rattle.text_listen.specs.Steps.{mostBytes, unheard, placeOf, heardIn, isCut, Stands, Tells, Delivers, Over}
+use Rattle.text_listen.specs.Steps.{Written, ReadsOn, one, toGo, Step, tells, delivers, ends, Steps, deliveredBy}
+use Rattle.text_listen.specs.Steps.{toldBy, Run, starts, goes, Listens, startListening}
 use Rattle.text_listen.proofs.Places.{next-within, unheard-length}
 
 -- ---- more is delivered

@@ -19,7 +19,9 @@ use Rattle.paper.proofs.Logic.{not-true-and-false, and-left, not-false}
 use Rattle.paper_messages.specs.declared.Field.{Field}
 use Rattle.paper_messages.specs.Bytes.{signedOf, spelled}
 use Rattle.paper_messages.specs.Fields.{placesOf}
-use Rattle.paper_messages.specs.Messages.{lengthWidth, kindWidth, lengthLeast, lengthMost, lengthAt, kindAt, isKnown, total, lengthOf, valid, messageAt, valuesAt, readChecks, noMessage, acceptedHeard}
+use Rattle.paper_messages.specs.Messages.{lengthWidth, kindWidth, lengthLeast, lengthMost, lengthAt, kindAt, isKnown}
+use Rattle.paper_messages.specs.Messages.{total, lengthOf, valid, messageAt, valuesAt, readChecks, noMessage}
+use Rattle.paper_messages.specs.Messages.{acceptedHeard}
 use Rattle.text_listen.specs.Listen.{SameHeard}
 
 -- the values of fields are in the bytes that the fields take

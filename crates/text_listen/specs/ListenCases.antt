@@ -13,7 +13,8 @@ use Rattle.paper.specs.Verdicts.{isDone, firstOf}
 use Rattle.paper_messages.specs.declared.Heard.{Heard}
 use Rattle.paper_messages.specs.Bytes.{spelled, signedOf}
 use Rattle.paper_messages.specs.Fields.{staticsFields, ratesFields, bandsFields, moveFields, fieldsOf, filled, placesOf}
-use Rattle.paper_messages.specs.Messages.{total, lengthOf, isKnown, inRanges, valid, valuesAt, messageAt, noMessage, readChecks, refusedHeard, acceptedHeard, heardAt}
+use Rattle.paper_messages.specs.Messages.{total, lengthOf, isKnown, inRanges, valid, valuesAt, messageAt, noMessage}
+use Rattle.paper_messages.specs.Messages.{readChecks, refusedHeard, acceptedHeard, heardAt}
 use Rattle.text_protocol.specs.Bytes.{lineFeed}
 use Rattle.text_protocol.specs.Numbers.{spelt, decimal, signed}
 use Rattle.text_protocol.specs.Answers.{next, spaced}

@@ -25,7 +25,8 @@ use prog.Wp.{Heap, Env, Calls, Loops, spotOf}
 use ghost.Atoms.{Atoms, sem}
 use contract.Monad.{Fun, fact}
 use sound.WpLaws.{FmC}
-use types.Kit.{Given, Go, Item, ‵, raw, _⊛_, some as some′, later, Post, runs, Sq, _$_, _∵_, !, qed, move, drop, use1, split, join, pick, fsplit, fjoin, feqI, frame as framed, await, done}
+use types.Kit.{Given, Go, Item, ‵, raw, _⊛_, some as some′, later, Post, runs, Sq, _$_, _∵_, !, qed, move, drop, use1}
+use types.Kit.{split, join, pick, fsplit, fjoin, feqI, frame as framed, await, done}
 use types.Run.{Opds}
 use types.Tokens.{lft-new, lft-end, lent-back}
 use types.Share.{arr-parts}

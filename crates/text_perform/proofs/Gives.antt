@@ -17,7 +17,8 @@ use prog.Wp.{Heap, Env, Calls, Loops, release}
 use ghost.Atoms.{Atoms, sem}
 use contract.Monad.{fact}
 use sound.WpLaws.{FmC}
-use types.Kit.{Given, Go, Goal, Soaks, Item, mean, ⋆, pop, ‵, raw, _⊛_, some, later, Post, runs, lands, frees, aim, Sq, _$_, !, by, move, drop, use1, use2, split, pick, fsplit, feqL, await}
+use types.Kit.{Given, Go, Goal, Soaks, Item, mean, ⋆, pop, ‵, raw, _⊛_, some, later, Post, runs, lands, frees, aim, Sq}
+use types.Kit.{_$_, !, by, move, drop, use1, use2, split, pick, fsplit, feqL, await}
 use types.Run.{Opds}
 use denote.RattleType.{RattleType}
 use denote.Laws.{Is, shows}

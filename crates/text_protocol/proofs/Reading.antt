@@ -17,10 +17,17 @@ use Rattle.text_protocol.specs.declared.Item.the-variants as item
 use Rattle.text_protocol.specs.declared.Pairs.{Pairs}
 use Rattle.text_protocol.specs.Bytes.{isBlank, slash, digitZero, isNot, run, words, same}
 use Rattle.text_protocol.specs.Numbers.{numberOf, slashAt}
-use Rattle.text_protocol.specs.Names.{kindFrom, kindOf, forms, takes, admitWord, evaluateWord, quoteWord, moveWord, readWord, openWord, outsideWord, noticeWord, withdrawWord, interestWord, bondWord}
-use Rattle.text_protocol.specs.Line.{NoCall, Call, oneOf, twoOf, itemOf, noPairs, pairFits, withPair, more, finished, fill, called, longest, meaning}
-use Rattle.text_protocol.specs.Written.{Blanks, no-blank, blank, Digits, no-digit, digit, Spells, plain, minus, CallWord, admit, evaluate, quote, move, read, openEvening, outside, notice, withdraw, interest, bond, Numbers, done, one, two, Says, says}
-use Rattle.text_protocol.proofs.Words.{Solid, solid, Ends, end, parted, solid-append, words-blanks, words-solid, words-none, high-solid, allHigh, letters-are-solid, Split, last, word, SplitOf, split-words, split, word-not-here}
+use Rattle.text_protocol.specs.Names.{kindFrom, kindOf, forms, takes, admitWord, evaluateWord, quoteWord}
+use Rattle.text_protocol.specs.Names.{moveWord, readWord, openWord, outsideWord, noticeWord, withdrawWord}
+use Rattle.text_protocol.specs.Names.{interestWord, bondWord}
+use Rattle.text_protocol.specs.Line.{NoCall, Call, oneOf, twoOf, itemOf, noPairs, pairFits, withPair, more}
+use Rattle.text_protocol.specs.Line.{finished, fill, called, longest, meaning}
+use Rattle.text_protocol.specs.Written.{Blanks, no-blank, blank, Digits, no-digit, digit, Spells, plain, minus}
+use Rattle.text_protocol.specs.Written.{CallWord, admit, evaluate, quote, move, read, openEvening, outside}
+use Rattle.text_protocol.specs.Written.{notice, withdraw, interest, bond, Numbers, done, one, two, Says, says}
+use Rattle.text_protocol.proofs.Words.{Solid, solid, Ends, end, parted, solid-append, words-blanks, words-solid}
+use Rattle.text_protocol.proofs.Words.{words-none, high-solid, allHigh, letters-are-solid, Split, last, word}
+use Rattle.text_protocol.proofs.Words.{SplitOf, split-words, split, word-not-here}
 use Rattle.text_protocol.proofs.Spelling.{impossible, spells-reads, spells-solid, spells-some, reads-spells}
 use Rattle.text_protocol.proofs.Filling.{fill-none, fill-one, fill-two, fill-no-pair, fill-neither}
 

@@ -11,8 +11,10 @@ use lib.ListN.{length, take, length-append}
 use lib.Seq.{take-at}
 use Rattle.text_protocol.specs.declared.Number.the-variants as number
 use Rattle.text_protocol.specs.Bytes.{isBlank, words, lineFeed, space, digitZero, digitNine}
-use Rattle.text_protocol.specs.Numbers.{Decimal, one, more, decimal, signed, least, Fitting, none-fits, also-fits, numberOf}
-use Rattle.text_protocol.specs.Written.{no-blank, blank, Digits, no-digit, digit, value, negated, Spells, plain, minus}
+use Rattle.text_protocol.specs.Numbers.{Decimal, one, more, decimal, signed, least, Fitting, none-fits, also-fits}
+use Rattle.text_protocol.specs.Numbers.{numberOf}
+use Rattle.text_protocol.specs.Written.{no-blank, blank, Digits, no-digit, digit, value, negated, Spells, plain}
+use Rattle.text_protocol.specs.Written.{minus}
 use Rattle.text_protocol.specs.Answers.{next, spaced, numbersOf, answerText}
 use Rattle.text_protocol.proofs.Decimals.{decimal-is}
 use Rattle.text_protocol.proofs.Words.{Ends, end, parted, words-blanks, words-solid, words-none}

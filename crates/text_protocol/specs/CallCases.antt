@@ -17,11 +17,16 @@ use Rattle.paper_desk.specs.External.{together, notice}
 use Rattle.text_protocol.specs.declared.Kept.{Kept}
 use Rattle.text_protocol.specs.Bytes.{isBlank, isNot, run, grow, pieces, full, words, same}
 use Rattle.text_protocol.specs.Numbers.{isDigit, sizeFrom, sizeOf, upTo, above, below, numberOf, slashAt}
-use Rattle.text_protocol.specs.Names.{code, admitNames, evaluateNames, quoteNames, moveNames, readNames, openNames, outsideNames, noticeNames, withdrawNames, interestNames, bondNames, forms, kindFrom, kindOf, countFits, takesIn, takes, placeOf, the}
-use Rattle.text_protocol.specs.Line.{oneOf, twoOf, itemOf, hasTerms, placeIn, pairFits, withPair, more, taking, onWith, finished, fill, called, meaning}
+use Rattle.text_protocol.specs.Names.{code, admitNames, evaluateNames, quoteNames, moveNames, readNames}
+use Rattle.text_protocol.specs.Names.{openNames, outsideNames, noticeNames, withdrawNames, interestNames}
+use Rattle.text_protocol.specs.Names.{bondNames, forms, kindFrom, kindOf, countFits, takesIn, takes, placeOf, the}
+use Rattle.text_protocol.specs.Line.{oneOf, twoOf, itemOf, hasTerms, placeIn, pairFits, withPair, more, taking}
+use Rattle.text_protocol.specs.Line.{onWith, finished, fill, called, meaning}
 use Rattle.text_protocol.specs.LineCases.{bytes, naturals}
 use Rattle.text_protocol.specs.Kept.{noPair, foundIn}
-use Rattle.text_protocol.specs.Calls.{Deed, call, interest, bond, givenOf, admissionOf, quoteOf, bitsOf, floatOf, outsideOf, noticeCall, interestOf, bandOf, termOf, askedOf, bondStaticsOf, bondOf, figuresOf, callOf, deedOf}
+use Rattle.text_protocol.specs.Calls.{Deed, call, interest, bond, givenOf, admissionOf, quoteOf, bitsOf, floatOf}
+use Rattle.text_protocol.specs.Calls.{outsideOf, noticeCall, interestOf, bandOf, termOf, askedOf, bondStaticsOf}
+use Rattle.text_protocol.specs.Calls.{bondOf, figuresOf, callOf, deedOf}
 
 -- of the pair 6/7 the limits 60 and 70 are kept, of no other pair any
 unfoldable pub keptLimits : Kept

@@ -27,7 +27,16 @@ use Rattle.paper_desk.specs.External.{together, notice}
 use Rattle.text_protocol.specs.declared.Kept.{Kept}
 use Rattle.text_protocol.specs.declared.Pairs.{Pairs}
 use Rattle.text_protocol.specs.Kept.{foundIn}
-use Rattle.text_protocol.specs.Names.{Name, ID, DAY, P1, P2, S, TENTATIVE, LOT, H, Q, A-UP, A-DOWN, WAIT, RH1, RH2, RH3, LIQ, MIN1, MIN2, MIN3, SMAX, XPR, SHIFT, PCHMAX, PCLMAX, W, U, MONITORING, ISEWMA, B, M, K0, RRCL0, RRCH0, K1, RRCL1, RRCH1, K2, RRCL2, RRCH2, SECOND, TERM, BID, ASK, SIDE, YM, YN, MM, SEC, XIR, MONEY, SECRATE, NET, FACE, ACCRUED, REPO, AGE, U-EVENING, AUTOCHANGE, EVENINGMAX, USEEXTERNAL, BIDBITS, ASKBITS, BITS, admitNames, evaluateNames, quoteNames, moveNames, readNames, openNames, outsideNames, noticeNames, withdrawNames, interestNames, bondNames, admitKind, evaluateKind, quoteKind, moveKind, readKind, openKind, outsideKind, noticeKind, withdrawKind, interestKind, the}
+use Rattle.text_protocol.specs.Names.{Name, ID, DAY, P1, P2, S, TENTATIVE, LOT, H, Q, A-UP, A-DOWN, WAIT, RH1}
+use Rattle.text_protocol.specs.Names.{RH2, RH3, LIQ, MIN1, MIN2, MIN3, SMAX, XPR, SHIFT, PCHMAX, PCLMAX, W, U}
+use Rattle.text_protocol.specs.Names.{MONITORING, ISEWMA, B, M, K0, RRCL0, RRCH0, K1, RRCL1, RRCH1, K2, RRCL2}
+use Rattle.text_protocol.specs.Names.{RRCH2, SECOND, TERM, BID, ASK, SIDE, YM, YN, MM, SEC, XIR, MONEY, SECRATE}
+use Rattle.text_protocol.specs.Names.{NET, FACE, ACCRUED, REPO, AGE, U-EVENING, AUTOCHANGE, EVENINGMAX}
+use Rattle.text_protocol.specs.Names.{USEEXTERNAL, BIDBITS, ASKBITS, BITS, admitNames, evaluateNames, quoteNames}
+use Rattle.text_protocol.specs.Names.{moveNames, readNames, openNames, outsideNames, noticeNames, withdrawNames}
+use Rattle.text_protocol.specs.Names.{interestNames, bondNames, admitKind, evaluateKind, quoteKind, moveKind}
+use Rattle.text_protocol.specs.Names.{readKind, openKind, outsideKind, noticeKind, withdrawKind, interestKind}
+use Rattle.text_protocol.specs.Names.{the}
 use Rattle.text_protocol.specs.Line.{Said, Nothing, NoCall, Call as saysCall}
 
 -- a number that may not be below zero: one that is, is out of every range

@@ -14,7 +14,8 @@ use Rattle.text_protocol.specs.declared.Item.the-variants as item
 use Rattle.text_protocol.specs.declared.Pairs.{Pairs}
 use Rattle.text_protocol.specs.Bytes.{room, words}
 use Rattle.text_protocol.specs.Numbers.{numberOf, slashAt}
-use Rattle.text_protocol.specs.Names.{Name, evaluateKind, bondKind, evaluateNames, evaluateCount, bondNames, placeOf, RRCL0, RRCL1, RRCL2, kindOf, takes}
+use Rattle.text_protocol.specs.Names.{Name, evaluateKind, bondKind, evaluateNames, evaluateCount, bondNames}
+use Rattle.text_protocol.specs.Names.{placeOf, RRCL0, RRCL1, RRCL2, kindOf, takes}
 
 unfoldable pub oneOf : Number → Item
 oneOf (number.Is z) = item.One z

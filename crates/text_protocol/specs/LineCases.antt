@@ -9,11 +9,18 @@ use Prim.Native.String.{String}
 use Prim.Native.String.{[] as noText, _∷_ as letter}
 use lib.IntN.{ℤ, pos, negsuc}
 use lib.ListN.{replicate}
-use Rattle.text_protocol.specs.Bytes.{isBlank, isLineFeed, isNot, run, grow, pieces, full, ended, words, lines, same}
+use Rattle.text_protocol.specs.Bytes.{isBlank, isLineFeed, isNot, run, grow, pieces, full, ended, words, lines}
+use Rattle.text_protocol.specs.Bytes.{same}
 use Rattle.text_protocol.specs.Numbers.{isDigit, sizeFrom, sizeOf, upTo, above, below, numberOf, slashAt}
-use Rattle.text_protocol.specs.Names.{admitKind, evaluateKind, quoteKind, moveKind, readKind, openKind, outsideKind, noticeKind, withdrawKind, interestKind, bondKind, admitNames, evaluateNames, quoteNames, moveNames, readNames, openNames, outsideNames, noticeNames, withdrawNames, interestNames, bondNames, forms, kindFrom, kindOf, countFits, takesIn, takes, placeOf}
+use Rattle.text_protocol.specs.Names.{admitKind, evaluateKind, quoteKind, moveKind, readKind, openKind}
+use Rattle.text_protocol.specs.Names.{outsideKind, noticeKind, withdrawKind, interestKind, bondKind, admitNames}
+use Rattle.text_protocol.specs.Names.{evaluateNames, quoteNames, moveNames, readNames, openNames, outsideNames}
+use Rattle.text_protocol.specs.Names.{noticeNames, withdrawNames, interestNames, bondNames, forms, kindFrom}
+use Rattle.text_protocol.specs.Names.{kindOf, countFits, takesIn, takes, placeOf}
 use Rattle.text_protocol.specs.Names.{code as codeOf}
-use Rattle.text_protocol.specs.Line.{Said, Nothing, NoCall, Call, oneOf, twoOf, itemOf, noPairs, keptMost, hasTerms, placeIn, pairFits, withPair, more, taking, onWith, finished, fill, called, meaning}
+use Rattle.text_protocol.specs.Line.{Said, Nothing, NoCall, Call, oneOf, twoOf, itemOf, noPairs, keptMost}
+use Rattle.text_protocol.specs.Line.{hasTerms, placeIn, pairFits, withPair, more, taking, onWith, finished, fill}
+use Rattle.text_protocol.specs.Line.{called, meaning}
 
 -- the bytes of a text whose characters are one byte each
 unfoldable pub bytes : String → List ℕ

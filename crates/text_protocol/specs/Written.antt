@@ -10,7 +10,10 @@ use lib.ListN.{length}
 use Rattle.text_protocol.specs.declared.Pairs.{Pairs}
 use Rattle.text_protocol.specs.Bytes.{isBlank, minusSign, slash, digitZero, digitNine}
 use Rattle.text_protocol.specs.Numbers.{greatest, least}
-use Rattle.text_protocol.specs.Names.{admitWord, evaluateWord, quoteWord, moveWord, readWord, openWord, outsideWord, noticeWord, withdrawWord, interestWord, bondWord, admitKind, evaluateKind, quoteKind, moveKind, readKind, openKind, outsideKind, noticeKind, withdrawKind, interestKind, bondKind, takes}
+use Rattle.text_protocol.specs.Names.{admitWord, evaluateWord, quoteWord, moveWord, readWord, openWord}
+use Rattle.text_protocol.specs.Names.{outsideWord, noticeWord, withdrawWord, interestWord, bondWord, admitKind}
+use Rattle.text_protocol.specs.Names.{evaluateKind, quoteKind, moveKind, readKind, openKind, outsideKind}
+use Rattle.text_protocol.specs.Names.{noticeKind, withdrawKind, interestKind, bondKind, takes}
 use Rattle.text_protocol.specs.Line.{noPairs, pairFits, withPair, more, longest}
 
 pub data Blanks : List ℕ → Type 0 where

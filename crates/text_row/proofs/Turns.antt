@@ -16,7 +16,8 @@ use Rattle.paper.proofs.Logic.{not-true-and-false, and-left, and-right, and-bot
 use Rattle.text_protocol.specs.Bytes.{lineFeed, carriageReturn}
 use Rattle.text_table.specs.declared.Column.{Column}
 use Rattle.text_table.specs.Exchange.{semicolon, columns, lineNumbers, wholeNumber, exchangeRate, repoRate, price}
-use Rattle.text_table.specs.Scan.{Front, front, none, then, starts, cell, Passed, passed, pass, lineEnd, fieldEnd, cells, inRange, line}
+use Rattle.text_table.specs.Scan.{Front, front, none, then, starts, cell, Passed, passed, pass, lineEnd, fieldEnd}
+use Rattle.text_table.specs.Scan.{cells, inRange, line}
 use Rattle.text_cell.specs.declared.Cell.{Cell}
 use Rattle.text_cell.specs.declared.Cell.the-variants as cell-is
 use Rattle.text_cell.specs.Placed.{cellFront, CellIn, Celled}

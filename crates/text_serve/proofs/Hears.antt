@@ -20,7 +20,8 @@ use prog.Wp.{Heap, Env, Calls, Loops, spotOf}
 use ghost.Atoms.{Atoms}
 use contract.Monad.{Fun, fact}
 use sound.WpLaws.{FmC}
-use types.Kit.{Given, Go, Item, mean, ‵, raw, _⊛_, some as some′, later, Post, runs, Sq, _$_, _∵_, !, qed, move, drop, use1, use3, split, join, pick, rewrite, fsplit, fjoin, frame as framed, await, done}
+use types.Kit.{Given, Go, Item, mean, ‵, raw, _⊛_, some as some′, later, Post, runs, Sq, _$_, _∵_, !, qed, move, drop}
+use types.Kit.{use1, use3, split, join, pick, rewrite, fsplit, fjoin, frame as framed, await, done}
 use types.Run.{Opds}
 use types.Tokens.{lft-new, lft-end}
 use types.SemTy.{Body}
@@ -41,7 +42,8 @@ use Rattle.text_turn.specs.declared.Prepared.{Prepared}
 use Rattle.text_turn.specs.Turn.{Prepares}
 use Rattle.text_turn.proofs.State as G
 use Rattle.text_turn.proofs.State.Laws as G′
-use Rattle.text_serve.proofs.Arrays.{Bytes, Numbers, to, Lent, state-val, heard-ty, heard-val, IsState, IsHeard, heard-tells, heard-is, typed-heard}
+use Rattle.text_serve.proofs.Arrays.{Bytes, Numbers, to, Lent, state-val, heard-ty, heard-val, IsState, IsHeard}
+use Rattle.text_serve.proofs.Arrays.{heard-tells, heard-is, typed-heard}
 use Rattle.text_serve.proofs.hear_in as hear
 use Rattle.text_serve.proofs.hear_in.Symbol as hear-def
 

@@ -21,7 +21,8 @@ use prog.Wp.{Heap, Env, Calls, Loops, spotOf}
 use ghost.Atoms.{Atoms, sem}
 use contract.Monad.{Fun, fact}
 use sound.WpLaws.{FmC}
-use types.Kit.{Given, Go, Item, mean, ⋆, ‵, raw, _⊛_, some as some′, later, Post, runs, Sq, _$_, _∵_, !, qed, move, drop, use1, use2, split, join, pick, rewrite, fsplit, fjoin, feqL, frame as framed, await, done}
+use types.Kit.{Given, Go, Item, mean, ⋆, ‵, raw, _⊛_, some as some′, later, Post, runs, Sq, _$_, _∵_, !, qed, move}
+use types.Kit.{drop, use1, use2, split, join, pick, rewrite, fsplit, fjoin, feqL, frame as framed, await, done}
 use types.Run.{Opds, stop, from, land}
 use denote.Laws.{Is, shows}
 use denote.Plain.{uint-makes, bool-makes}

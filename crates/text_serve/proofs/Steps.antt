@@ -15,7 +15,8 @@ use prog.Routine.{Routine}
 use prog.Wp.{Heap}
 use ghost.Atoms.{Atoms}
 use contract.Monad.{Fun, fact}
-use types.Kit.{Given, Goal, Soaks, Item, mean, ‵, raw, _⊛_, some, later, Sq, _$_, _∵_, !, qed, move, drop, use1, split, join, pick, fsplit, fjoin, feqL, frame, await, done}
+use types.Kit.{Given, Goal, Soaks, Item, mean, ‵, raw, _⊛_, some, later, Sq, _$_, _∵_, !, qed, move, drop, use1, split}
+use types.Kit.{join, pick, fsplit, fjoin, feqL, frame, await, done}
 use denote.Laws.{Is, shows}
 use denote.Slice.{finally}
 use denote.Steps.{owned, facts, heard, nothing}

@@ -17,7 +17,8 @@ use prog.Wp.{Heap, Env, Calls, Loops, spotOf}
 use ghost.Atoms.{Atoms}
 use contract.Monad.{Fun, fact}
 use sound.WpLaws.{FmC}
-use types.Kit.{Given, Go, Item, mean, ‵, raw, _⊛_, some as some′, Post, runs, Sq, _$_, _∵_, !, qed, move, drop, use1, split, join, pick, fsplit, fjoin, frame as framed, done}
+use types.Kit.{Given, Go, Item, mean, ‵, raw, _⊛_, some as some′, Post, runs, Sq, _$_, _∵_, !, qed, move, drop, use1}
+use types.Kit.{split, join, pick, fsplit, fjoin, frame as framed, done}
 use types.Run.{Opds}
 use denote.Laws.{Is}
 use denote.Steps.{owned, heard, nothing}

@@ -18,7 +18,8 @@ use Rattle.text_protocol.specs.Split.{Free, free-none, free}
 use Rattle.text_protocol.proofs.Pieces.{free-append}
 use Rattle.text_table.specs.declared.Column.{Column}
 use Rattle.text_table.specs.Exchange.{point, Decimal, whole, pointed, Field, missing, plain, negative}
-use Rattle.text_table.specs.Scan.{Front, front, none, then, starts, NumberEnds, numberMost, number, positive, turned, cell}
+use Rattle.text_table.specs.Scan.{Front, front, none, then, starts, NumberEnds, numberMost, number, positive}
+use Rattle.text_table.specs.Scan.{turned, cell}
 use Rattle.text_table.proofs.Decimals.{decimal-reads, Fronted, starts-back, decimal-back}
 
 -- ---- the bytes of a field

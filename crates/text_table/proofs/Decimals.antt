@@ -18,8 +18,10 @@ use Rattle.text_protocol.specs.Written.{Digits, no-digit, digit, value}
 use Rattle.text_protocol.proofs.Spelling.{impossible, within-is-digit, digit-is-within}
 use Rattle.text_table.specs.declared.Column.{Column}
 use Rattle.text_table.specs.Exchange.{point, Decimal, whole, pointed}
-use Rattle.text_table.specs.Scan.{Front, front, none, then, starts, NumberEnds, numberMost, digits, pastZeros, behindZeros, decimals, behindWhole, number}
-use Rattle.text_table.proofs.Values.{ten-pos, value-split, value-lt, value-more, value-not-below, cancelled-equal, whole-without-rest}
+use Rattle.text_table.specs.Scan.{Front, front, none, then, starts, NumberEnds, numberMost, digits, pastZeros}
+use Rattle.text_table.specs.Scan.{behindZeros, decimals, behindWhole, number}
+use Rattle.text_table.proofs.Values.{ten-pos, value-split, value-lt, value-more, value-not-below}
+use Rattle.text_table.proofs.Values.{cancelled-equal, whole-without-rest}
 
 -- ---- digits that are written are read
 

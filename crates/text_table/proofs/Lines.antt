@@ -9,7 +9,8 @@ use lib.IntN.{ℤ, pos, negsuc, natAbs}
 use lib.ListN.{length, drop, getD}
 use borrow.Author.Tests.{leb-true, eqb-true, ne-eqb}
 use Rattle.paper.specs.Lists.{pick}
-use Rattle.paper.specs.Numbers.{idMost, rowNumbers, repoLeast, repoMost, rowTermMost, centralMost, priceMost, volumeMost}
+use Rattle.paper.specs.Numbers.{idMost, rowNumbers, repoLeast, repoMost, rowTermMost, centralMost, priceMost}
+use Rattle.paper.specs.Numbers.{volumeMost}
 use Rattle.paper.specs.Ranges.{within, withinZ, LentRow, rowAt, closeForVolume, validRow}
 use Rattle.paper.proofs.Logic.{not-true-and-false, and-left, and-right, and-both}
 use Rattle.text_protocol.specs.Bytes.{lineFeed, carriageReturn, minusSign, digitNine, isLineFeed, pieces}
@@ -18,8 +19,10 @@ use Rattle.text_protocol.proofs.Spelling.{impossible}
 use Rattle.text_protocol.specs.Split.{Free, free-none, free}
 use Rattle.text_protocol.proofs.Pieces.{free-append, pieces-none, pieces-more, Parted, all, more, parted, pieces-some}
 use Rattle.text_table.specs.declared.Column.{Column}
-use Rattle.text_table.specs.Exchange.{point, semicolon, isSemicolon, Decimal, Field, missing, plain, negative, columns, wholeNumber, Fields, no-field, field, Line, Ended, by-lf, by-cr-lf}
-use Rattle.text_table.specs.Scan.{Front, front, none, then, starts, NumberEnds, numberMost, cell, Passed, passed, pass, lineEnd, fieldEnd, cells, inRange, line}
+use Rattle.text_table.specs.Exchange.{point, semicolon, isSemicolon, Decimal, Field, missing, plain, negative}
+use Rattle.text_table.specs.Exchange.{columns, wholeNumber, Fields, no-field, field, Line, Ended, by-lf, by-cr-lf}
+use Rattle.text_table.specs.Scan.{Front, front, none, then, starts, NumberEnds, numberMost, cell, Passed, passed}
+use Rattle.text_table.specs.Scan.{pass, lineEnd, fieldEnd, cells, inRange, line}
 use Rattle.text_table.proofs.Decimals.{starts-back}
 use Rattle.text_table.proofs.Cells.{field-free, field-reads, Celled, field-back}
 

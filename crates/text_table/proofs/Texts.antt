@@ -20,10 +20,13 @@ use Rattle.text_protocol.proofs.Spelling.{impossible}
 use Rattle.text_protocol.specs.Split.{Free, AllFree, piece}
 use Rattle.text_protocol.proofs.Pieces.{pieces-none, pieces-more, pieces-free, pieces-some}
 use Rattle.text_table.specs.declared.Reading.{Reading}
-use Rattle.text_table.specs.Exchange.{Ended, by-lf, by-cr-lf, rowsMost, textMost, Bad, unended, no-row, seventeenth, RowsOf, no-line, its-own, another's, inOne, accepted, refused, Says, too-long, bad-at, good}
+use Rattle.text_table.specs.Exchange.{Ended, by-lf, by-cr-lf, rowsMost, textMost, Bad, unended, no-row}
+use Rattle.text_table.specs.Exchange.{seventeenth, RowsOf, no-line, its-own, another's, inOne, accepted, refused}
+use Rattle.text_table.specs.Exchange.{Says, too-long, bad-at, good}
 use Rattle.text_table.specs.Scan.{Front, front, none, line, isOf, orBad, collect, reading}
 use Rattle.text_table.proofs.Lines.{ended-reads, reading-unique, Rowed, line-back, row-has-seven}
-use Rattle.text_table.proofs.Walk.{Sofar, none-yet, own-row, other-row, ends-no-row, ends-seventeenth, ends-unended, ends-good}
+use Rattle.text_table.proofs.Walk.{Sofar, none-yet, own-row, other-row, ends-no-row, ends-seventeenth}
+use Rattle.text_table.proofs.Walk.{ends-unended, ends-good}
 
 -- ---- one thing at most
 

@@ -15,7 +15,8 @@ use Rattle.paper.specs.Numbers.{rowNumbers, allNumbersMost}
 use Rattle.paper.specs.Ranges.{partsFrom, rowAt, rowsOf, wholeRows, validRow, validRows}
 use Rattle.paper.proofs.Logic.{and-both}
 use Rattle.text_table.specs.declared.Reading.{Reading}
-use Rattle.text_table.specs.Exchange.{Ended, by-lf, by-cr-lf, rowsMost, RowsOf, no-line, its-own, another's, inOne, accepted, refused, Says, too-long, bad-at, good}
+use Rattle.text_table.specs.Exchange.{Ended, by-lf, by-cr-lf, rowsMost, RowsOf, no-line, its-own, another's}
+use Rattle.text_table.specs.Exchange.{inOne, accepted, refused, Says, too-long, bad-at, good}
 use Rattle.text_table.proofs.Lines.{row-has-seven}
 use Rattle.text_table.proofs.Texts.{says-few, rows-sevens}
 

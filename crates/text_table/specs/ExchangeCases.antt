@@ -15,7 +15,9 @@ use Rattle.text_protocol.specs.Written.{negated}
 use Rattle.text_protocol.specs.LineCases.{bytes}
 use Rattle.text_table.specs.declared.Reading.{Reading}
 use Rattle.text_table.specs.Exchange.{isSemicolon, columns, inOne, accepted, refused}
-use Rattle.text_table.specs.Scan.{starts, digits, pastZeros, decimals, behindWhole, number, positive, turned, cell, pass, lineEnd, fieldEnd, cells, inRange, line, isOf, orBad, collect, reading}
+use Rattle.text_table.specs.Scan.{starts, digits, pastZeros, decimals, behindWhole, number, positive, turned}
+use Rattle.text_table.specs.Scan.{cell, pass, lineEnd, fieldEnd, cells, inRange, line, isOf, orBad, collect}
+use Rattle.text_table.specs.Scan.{reading}
 
 unfoldable pub ended : String → List ℕ
 ended s = bytes s ++ lineFeed ∷ []

@@ -18,7 +18,8 @@ use Rattle.text_protocol.specs.declared.Size.the-variants as size
 use Rattle.text_protocol.specs.declared.Item.{Item}
 use Rattle.text_protocol.specs.declared.Item.the-variants as item
 use Rattle.text_protocol.specs.Bytes.{isNot, run, digitZero, digitNine, minusSign, slash}
-use Rattle.text_protocol.specs.Numbers.{isDigit, sizeFrom, sizeOf, upTo, above, below, numberOf, slashAt, greatest, least}
+use Rattle.text_protocol.specs.Numbers.{isDigit, sizeFrom, sizeOf, upTo, above, below, numberOf, slashAt, greatest}
+use Rattle.text_protocol.specs.Numbers.{least}
 use Rattle.text_protocol.specs.Line.{oneOf, twoOf, itemOf}
 
 -- ---- a number has no slash

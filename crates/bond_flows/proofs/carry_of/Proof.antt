@@ -11,7 +11,8 @@ use lib.ListN.{length}
 use Rattle.exact.specs.LentLaws.{place-room}
 use Rattle.paper_bonds.specs.BondNumbers.{flowNumbers}
 use Rattle.paper_bonds.specs.Bonds.{flowAt, flowOf, carryDue, carryOf}
-use Rattle.bond_flows.specs.FlowLaws.{CarryInputs, Summing, valid-whole, whole-in-twos, carry-most, summing-first, summing-amount, summing-next, summing-end}
+use Rattle.bond_flows.specs.FlowLaws.{CarryInputs, Summing, valid-whole, whole-in-twos, carry-most, summing-first}
+use Rattle.bond_flows.specs.FlowLaws.{summing-amount, summing-next, summing-end}
 use Rattle.bond_flows.proofs.carry_of.Statement.{statement}
 use Rattle.bond_flows.proofs.carry_of.Tie as tie
 

@@ -47,13 +47,15 @@ use Rattle.record_answers.specs.Effects.{slotOf, admitEffect}
 use Rattle.record_answers.proofs.Slot.Laws as U′
 use Rattle.record_answers.proofs.Effect as O
 use Rattle.desk.specs.Promises.{Promised}
-use Rattle.desk.proofs.Row.{R, table-ty, S, makes-slot, effect-ty, effect-val, effect-is, typed-effect, answer-val, makes-answer}
+use Rattle.desk.proofs.Row.{R, table-ty, S, makes-slot, effect-ty, effect-val, effect-is, typed-effect}
+use Rattle.desk.proofs.Row.{answer-val, makes-answer}
 use Rattle.desk.proofs.Frame.{Addresses, of-types, env-of, spare, frame, value as local′, field as field′}
 use Rattle.desk.proofs.Plain.{admission, admission-laws}
 use Rattle.desk.proofs.Meeting.{Staying, changes, no-more, and-plain}
 use Rattle.desk.proofs.Meeting as Meeting
 use Rattle.desk.proofs.Lending.{ℓt, Lending, rref, wref, machine}
-use Rattle.desk.proofs.Calls.{Take, Put, Owned, taking, putting-effect, answering, takes, effect-spelled, puts-effect, answers}
+use Rattle.desk.proofs.Calls.{Take, Put, Owned, taking, putting-effect, answering, takes, effect-spelled}
+use Rattle.desk.proofs.Calls.{puts-effect, answers}
 use Rattle.desk.proofs.Known.{take-known, put-known}
 use Rattle.desk.proofs.Asks.{Callee, consults}
 use Rattle.desk.proofs.Steps.{admit-steps, promised}

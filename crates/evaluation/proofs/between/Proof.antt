@@ -1,7 +1,8 @@
 -- `evaluation::between` meets its contract: one law for each pair of sides. Assumes nothing.
 use mathlib.Core.Path.{_∙_}
 use borrow.Author.Needs.{needs}
-use Rattle.evaluation.proofs.Sides.{between-none-is-close, between-ask-alone-is-min, between-bid-alone-is-max, between-both-is-median}
+use Rattle.evaluation.proofs.Sides.{between-none-is-close, between-ask-alone-is-min, between-bid-alone-is-max}
+use Rattle.evaluation.proofs.Sides.{between-both-is-median}
 use Rattle.evaluation.proofs.between.Statement.{statement}
 use Rattle.evaluation.proofs.between.Tie as tie
 

@@ -6,7 +6,8 @@ use native.Mathlib.Omega.{arith}
 use borrow.Author.Needs.{needs}
 use Rattle.paper.specs.Numbers.{priceMost}
 use Rattle.evaluation.proofs.Sides.{lesser-le}
-use Rattle.evaluation.proofs.Answers.{gathered-fitted, no-book-makes-beyond, book-makes-evaluation, close-le, between-le}
+use Rattle.evaluation.proofs.Answers.{gathered-fitted, no-book-makes-beyond, book-makes-evaluation, close-le}
+use Rattle.evaluation.proofs.Answers.{between-le}
 use Rattle.evaluation.proofs.evaluate.Statement.{statement}
 use Rattle.evaluation.proofs.evaluate.Tie as tie
 

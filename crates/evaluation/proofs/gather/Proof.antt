@@ -15,7 +15,9 @@ use Rattle.rows.specs.RowLaws.{whole-in-sevens, whole-within-most, InRange, val
 use Rattle.evaluation.specs.Book.{isTaken}
 use Rattle.evaluation.proofs.Prices.{roubles-are-fitting}
 use Rattle.evaluation.proofs.Books.{filled-room}
-use Rattle.evaluation.proofs.Gathering.{Gathering, no-book-gathers, gathered-out, torn-rows-not-valid, gathering-first, row-out-of-range-not-valid, row-refused-not-all-taken, gathering-next, walked-rows-gather}
+use Rattle.evaluation.proofs.Gathering.{Gathering, no-book-gathers, gathered-out, torn-rows-not-valid}
+use Rattle.evaluation.proofs.Gathering.{gathering-first, row-out-of-range-not-valid, row-refused-not-all-taken}
+use Rattle.evaluation.proofs.Gathering.{gathering-next, walked-rows-gather}
 use Rattle.evaluation.proofs.gather.Statement.{statement}
 use Rattle.evaluation.proofs.gather.Tie as tie
 

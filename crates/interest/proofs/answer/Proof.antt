@@ -6,7 +6,8 @@ use borrow.Author.Needs.{needs}
 use Rattle.paper_interest.specs.Interest.{validInterest, validKeys, maturitiesOf, strictlyAscending}
 use Rattle.paper.proofs.Logic.{not-true, not-false}
 use Rattle.interest_maturities.specs.KeyLaws.{valid-whole, whole-in-eights}
-use Rattle.interest.proofs.Answers.{answered-keys-valid, answered-pair-in-range, answers-out-of-range, answers-not-ascending, answers-figures}
+use Rattle.interest.proofs.Answers.{answered-keys-valid, answered-pair-in-range, answers-out-of-range}
+use Rattle.interest.proofs.Answers.{answers-not-ascending, answers-figures}
 use Rattle.interest.proofs.answer.Statement.{statement}
 use Rattle.interest.proofs.answer.Tie as tie
 

@@ -4,7 +4,8 @@ use mathlib.Core.Path.{_≡_}
 use mathlib.Core.Logic.{_⊎_, inl, inr}
 use Prim.Native.Nat.{ℕ}
 use Rattle.interest_maturities.specs.KeyLaws.{valid-whole, whole-in-eights, whole-has-one}
-use Rattle.interest.proofs.Terms.{point-in-range, key-before-in-range, key-after-in-range, point-here, point-between}
+use Rattle.interest.proofs.Terms.{point-in-range, key-before-in-range, key-after-in-range, point-here}
+use Rattle.interest.proofs.Terms.{point-between}
 use Rattle.interest.proofs.point_at.Statement.{statement}
 use Rattle.interest.proofs.point_at.Tie as tie
 

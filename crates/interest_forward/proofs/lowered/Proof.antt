@@ -11,7 +11,8 @@ use mir.ValLaws.{toZ-pos}
 use mir.Facts.{toZ-ofZ}
 use borrow.Author.Needs.{needs}
 use Rattle.paper.proofs.Logic.{le-or-lt}
-use Rattle.paper.proofs.Differences.{difference-is-pos, difference-is-negsuc, whole-is-difference, difference-minus, differences-equal}
+use Rattle.paper.proofs.Differences.{difference-is-pos, difference-is-negsuc, whole-is-difference, difference-minus}
+use Rattle.paper.proofs.Differences.{differences-equal}
 use Rattle.interest_forward.proofs.lowered.Statement.{statement}
 use Rattle.interest_forward.proofs.lowered.Tie as tie
 

@@ -7,7 +7,8 @@ use lib.ListN.{length}
 use Rattle.paper.specs.Numbers.{keyNumbers}
 use Rattle.paper_interest.specs.Interest.{keyAt, maturityOf, maturitiesOf, strictlyAscending}
 use Rattle.exact.specs.LentLaws.{Place, place-first, place-next}
-use Rattle.interest_maturities.proofs.Walk.{left, left-first, next-room, ascending-in, ascending-out, ascending-end}
+use Rattle.interest_maturities.proofs.Walk.{left, left-first, next-room, ascending-in, ascending-out}
+use Rattle.interest_maturities.proofs.Walk.{ascending-end}
 use Rattle.interest_maturities.proofs.is_ascending.Statement.{statement}
 use Rattle.interest_maturities.proofs.is_ascending.Tie as tie
 

@@ -5,7 +5,8 @@ use native.Mathlib.Omega.{arith}
 use lib.ListN.{length}
 use Rattle.paper.specs.Numbers.{keyNumbers}
 use Rattle.paper_interest.specs.Interest.{keyAt, maturityOf}
-use Rattle.interest_maturities.proofs.Walk.{next-room, Passed, passed-first, passed-next, read-first, read-between, read-last}
+use Rattle.interest_maturities.proofs.Walk.{next-room, Passed, passed-first, passed-next, read-first}
+use Rattle.interest_maturities.proofs.Walk.{read-between, read-last}
 use Rattle.interest_maturities.proofs.neighbours.Statement.{statement}
 use Rattle.interest_maturities.proofs.neighbours.Tie as tie
 

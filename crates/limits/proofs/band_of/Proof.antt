@@ -18,7 +18,8 @@ use Rattle.paper.specs.Numbers.{limitMost}
 use Rattle.paper.specs.Ranges.{validTerm}
 use Rattle.paper_desk.specs.Limits.{bandOf, countOf}
 use Rattle.limits.specs.Sides.{farthestLimit, repoOf}
-use Rattle.limits.specs.LimitRanges.{BandInputs, TermInputs, term-has-band-inputs, term-repo-within-most, valid-limit-statics}
+use Rattle.limits.specs.LimitRanges.{BandInputs, TermInputs, term-has-band-inputs, term-repo-within-most}
+use Rattle.limits.specs.LimitRanges.{valid-limit-statics}
 use Rattle.limits.specs.LimitBounds.{farthest-limit-high}
 use Rattle.limits.proofs.band_of.Statement.{statement}
 use Rattle.limits.proofs.band_of.Tie as tie

@@ -5,7 +5,8 @@ use Prim.Native.Nat.{_-_}
 use native.Mathlib.Omega.{arith}
 use Rattle.paper_messages.specs.Fields.{places as placeCount}
 use borrow.Author.Needs.{needs}
-use Rattle.message_bytes.proofs.Walks.{Packing, packing-none, packing-room, packed-mag-in-width, packing-more, packing-all}
+use Rattle.message_bytes.proofs.Walks.{Packing, packing-none, packing-room, packed-mag-in-width, packing-more}
+use Rattle.message_bytes.proofs.Walks.{packing-all}
 use Rattle.message_bytes.proofs.put_fields.Statement.{statement}
 use Rattle.message_bytes.proofs.put_fields.Tie as tie
 

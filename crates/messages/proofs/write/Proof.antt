@@ -9,7 +9,8 @@ use Rattle.paper_messages.specs.Bytes.{bytesOf}
 use native.Mathlib.Omega.{arith}
 use borrow.Author.Tests.{not-true, not-false}
 use Rattle.paper_messages.specs.Messages.{lengthWidth, kindWidth, lengthOf, valid}
-use Rattle.messages.proofs.Writing.{length-within-most, length-at-least-least, out-of-range, no-room, fields-room, wrote}
+use Rattle.messages.proofs.Writing.{length-within-most, length-at-least-least, out-of-range, no-room}
+use Rattle.messages.proofs.Writing.{fields-room, wrote}
 use borrow.Author.Needs.{needs}
 use Rattle.messages.proofs.write.Statement.{statement}
 use Rattle.messages.proofs.write.Tie as tie

@@ -9,7 +9,8 @@ use Rattle.paper.specs.Verdicts.{isDone, firstOf}
 use Rattle.record_answers.specs.Effects.{isKnown, refusedEffect}
 use Rattle.record_calls.specs.SharedChecks.{sharedChecks}
 use Rattle.record_answers.proofs.Tests.{tested-true, tested-false, known-sound}
-use Rattle.record_calls.proofs.Judging.{Passed, past-shared, move-stopped, move-not-allowed, move-used-up, move-accepted, a-move-is-left}
+use Rattle.record_calls.proofs.Judging.{Passed, past-shared, move-stopped, move-not-allowed, move-used-up}
+use Rattle.record_calls.proofs.Judging.{move-accepted, a-move-is-left}
 use borrow.Author.Needs.{needs}
 use Rattle.record_calls.proofs.moved.Statement.{statement}
 use Rattle.record_calls.proofs.moved.Tie as tie

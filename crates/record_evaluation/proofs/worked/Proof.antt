@@ -14,7 +14,9 @@ use Rattle.record_answers.specs.Effects.{isKnown}
 use Rattle.record_evaluation.specs.Workings.{Begun}
 use Rattle.record_answers.proofs.Tests.{tested-true, tested-false, known-sound}
 use Rattle.record_evaluation.proofs.Judging.{day-unknown, day-out, day-row-crossed, day-not-after, day-beyond}
-use Rattle.record_evaluation.proofs.Evaluations.{day-valid-parts, day-gathered, crossed-gathered, used-prices-within-most, beyond-does-not-fit, Made, evaluated-is-made}
+use Rattle.record_evaluation.proofs.Evaluations.{day-valid-parts, day-gathered, crossed-gathered}
+use Rattle.record_evaluation.proofs.Evaluations.{used-prices-within-most, beyond-does-not-fit, Made}
+use Rattle.record_evaluation.proofs.Evaluations.{evaluated-is-made}
 use borrow.Author.Needs.{needs}
 use Rattle.record_evaluation.proofs.worked.Statement.{statement}
 use Rattle.record_evaluation.proofs.worked.Tie as tie

@@ -6,7 +6,8 @@ use native.Mathlib.Omega.{arith}
 use lib.ListN.{length}
 use Rattle.paper.specs.Numbers.{rowNumbers}
 use Rattle.exact.specs.LentLaws.{place-room}
-use Rattle.record_faults.proofs.Seeking.{Seeking, seeking-first, seeking-row, seeking-found, seeking-next, seeking-end}
+use Rattle.record_faults.proofs.Seeking.{Seeking, seeking-first, seeking-row, seeking-found, seeking-next}
+use Rattle.record_faults.proofs.Seeking.{seeking-end}
 use Rattle.record_faults.proofs.first_row.Statement.{statement}
 use Rattle.record_faults.proofs.first_row.Tie as tie
 

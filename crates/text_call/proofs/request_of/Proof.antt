@@ -1,5 +1,6 @@
 -- `text_call::request_of` meets its contract: what a line of a kind asks of the desk. Assumes nothing.
-use Rattle.text_call.proofs.LineCalls.{admit-line, evaluate-line, quote-line, move-line, read-line, open-line, outside-line, notice-line, withdraw-line, other-line}
+use Rattle.text_call.proofs.LineCalls.{admit-line, evaluate-line, quote-line, move-line, read-line, open-line}
+use Rattle.text_call.proofs.LineCalls.{outside-line, notice-line, withdraw-line, other-line}
 use borrow.Author.Needs.{needs}
 use Rattle.text_call.proofs.request_of.Statement.{statement}
 use Rattle.text_call.proofs.request_of.Tie as tie

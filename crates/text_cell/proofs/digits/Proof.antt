@@ -4,7 +4,8 @@ use Prim.Native.Nat.{_-_}
 use lib.ListN.{drop}
 use borrow.Author.Needs.{needs}
 use Rattle.text_table.specs.Scan.{digits}
-use Rattle.text_cell.proofs.Turns.{Counting, counting-none, counting-all, counting-low, counting-high, counting-over, counting-more}
+use Rattle.text_cell.proofs.Turns.{Counting, counting-none, counting-all, counting-low, counting-high}
+use Rattle.text_cell.proofs.Turns.{counting-over, counting-more}
 use Rattle.text_cell.proofs.digits.Statement.{statement}
 use Rattle.text_cell.proofs.digits.Tie as tie
 

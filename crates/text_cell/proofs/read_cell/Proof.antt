@@ -2,7 +2,8 @@
 -- Assumes nothing.
 use mathlib.Core.Path.{sym, _∙_}
 use borrow.Author.Needs.{needs}
-use Rattle.text_cell.proofs.Turns.{counted, not-counted, plain-fits, turned-code-fits, positive-is, turned-is, cell-below, cell-above, cell-bad, cell-empty, cell-none}
+use Rattle.text_cell.proofs.Turns.{counted, not-counted, plain-fits, turned-code-fits, positive-is, turned-is}
+use Rattle.text_cell.proofs.Turns.{cell-below, cell-above, cell-bad, cell-empty, cell-none}
 use Rattle.text_cell.proofs.read_cell.Statement.{statement}
 use Rattle.text_cell.proofs.read_cell.Tie as tie
 

@@ -6,7 +6,8 @@ use native.Mathlib.Omega.{arith}
 use lib.ListN.{length}
 use borrow.Author.Needs.{needs}
 use Rattle.text_table.specs.Exchange.{too-long}
-use Rattle.text_exchange.proofs.Turns.{Reads, reads-none, reads-all, reads-bad, reads-other, reads-own, reads-seventeenth, further}
+use Rattle.text_exchange.proofs.Turns.{Reads, reads-none, reads-all, reads-bad, reads-other, reads-own}
+use Rattle.text_exchange.proofs.Turns.{reads-seventeenth, further}
 use Rattle.text_exchange.proofs.read_exchange.Statement.{statement}
 use Rattle.text_exchange.proofs.read_exchange.Tie as tie
 

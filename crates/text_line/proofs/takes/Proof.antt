@@ -1,6 +1,8 @@
 -- `text_line::takes` meets its contract: whether a call of the kind has so many numbers. Assumes nothing.
 use Rattle.text_line.proofs.Table.{takes-none}
-use Rattle.text_protocol.specs.Names.{takes, takesIn, countFits, forms, admitNames, evaluateNames, quoteNames, moveNames, readNames, openNames, outsideNames, noticeNames, withdrawNames, interestNames, bondNames}
+use Rattle.text_protocol.specs.Names.{takes, takesIn, countFits, forms, admitNames, evaluateNames, quoteNames}
+use Rattle.text_protocol.specs.Names.{moveNames, readNames, openNames, outsideNames, noticeNames, withdrawNames}
+use Rattle.text_protocol.specs.Names.{interestNames, bondNames}
 use mathlib.Core.Path.{_≡_, refl, sym, ap, _∙_}
 use Rattle.text_line.proofs.takes.Statement.{statement}
 use Rattle.text_line.proofs.takes.Tie as tie

@@ -5,7 +5,8 @@ use mir.Facts.{toZ-ofZ}
 use mir.Syntax.{w64}
 use borrow.Author.Needs.{needs}
 use Rattle.text_table.specs.Exchange.{lineNumbers}
-use Rattle.text_row.proofs.Turns.{Filling, filling-none, filling-wrong, filling-cut, filling-more, filling-all, celled, no-cell, passes, no-pass}
+use Rattle.text_row.proofs.Turns.{Filling, filling-none, filling-wrong, filling-cut, filling-more, filling-all}
+use Rattle.text_row.proofs.Turns.{celled, no-cell, passes, no-pass}
 use Rattle.text_row.proofs.fields.Statement.{statement}
 use Rattle.text_row.proofs.fields.Tie as tie
 

@@ -3,7 +3,8 @@
 use Prim.Native.Nat.{_-_}
 use lib.ListN.{length}
 use borrow.Author.Needs.{needs}
-use Rattle.text_rows.proofs.Turns.{Asking, none-asked, asking-none, asking-small, asking-over, asking-low, asking-high, asking-more}
+use Rattle.text_rows.proofs.Turns.{Asking, none-asked, asking-none, asking-small, asking-over, asking-low}
+use Rattle.text_rows.proofs.Turns.{asking-high, asking-more}
 use Rattle.text_rows.proofs.id_of.Statement.{statement}
 use Rattle.text_rows.proofs.id_of.Tie as tie
 

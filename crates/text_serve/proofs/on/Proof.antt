@@ -19,9 +19,12 @@ use prog.Wp.{Heap, Env, Calls, Loops, WpFn, Tables}
 use ghost.Atoms.{Atoms, sem}
 use contract.Monad.{Fun}
 use contract.Running.{givenOf, tables, tablesOf}
-use types.Kit.{Given, Goal, Item, Sq, ‵, raw, _⊛_, some, later, runs, atRet, _$_, _∵_, !, qed, by, move, keep, drop, use0, use1, use3, split, join, pick, rewrite, fsplit, fjoin, fpick, fpack, feqI, suffices, frame, await, done}
+use types.Kit.{Given, Goal, Item, Sq, ‵, raw, _⊛_, some, later, runs, atRet, _$_, _∵_, !, qed, by, move, keep, drop}
+use types.Kit.{use0, use1, use3, split, join, pick, rewrite, fsplit, fjoin, fpick, fpack, feqI, suffices, frame, await}
+use types.Kit.{done}
 use types.Part.{agg}
-use types.Run.{look, init, forget, stop, from, load, lit, unit-lit, addr, of-opd, and-then, no-more, assigns, land, returns, enter, alloc1, alloc0, params1, pass1, pass0}
+use types.Run.{look, init, forget, stop, from, load, lit, unit-lit, addr, of-opd, and-then, no-more, assigns, land}
+use types.Run.{returns, enter, alloc1, alloc0, params1, pass1, pass0}
 use types.Tokens.{lft-new, lft-end}
 use types.SemTy.{cells, Arr}
 use types.Share.{arr-parts}
@@ -62,7 +65,8 @@ use Rattle.text_turn.specs.declared.State.{State}
 use Rattle.text_turn.proofs.State as G
 use Rattle.text_turn.proofs.State.Laws as G′
 use Rattle.text_serve.specs.Serve.{Serves}
-use Rattle.text_serve.proofs.Arrays.{telling-val, telling-is, typed-telling, state-ty, state-val, IsState, state-tells, state-is, typed-state}
+use Rattle.text_serve.proofs.Arrays.{telling-val, telling-is, typed-telling, state-ty, state-val, IsState}
+use Rattle.text_serve.proofs.Arrays.{state-tells, state-is, typed-state}
 use Rattle.text_serve.proofs.Held.{held, place-of, behind-all, entries}
 use Rattle.text_serve.proofs.report as report
 use Rattle.text_serve.proofs.report.Symbol as report-def

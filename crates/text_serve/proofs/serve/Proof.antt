@@ -24,9 +24,13 @@ use prog.Wp.{Heap, Out, Env, afterSeq, afterBlock, afterTurn, Calls, Loops, Wp, 
 use ghost.Atoms.{Atoms, sem}
 use contract.Monad.{Fun, fact}
 use contract.Running.{givenOf, tables, tablesOf}
-use types.Kit.{Given, Goal, settles, Soaks, Item, ‵, raw, _⊛_, some, later, ⋆, runs, anyQ, atRet, Sq, _$_, _∵_, !, qed, by, move, keep, drop, use1, use3, split, join, pick, rewrite, fsplit, fjoin, suffices, frame, await, done}
+use types.Kit.{Given, Goal, settles, Soaks, Item, ‵, raw, _⊛_, some, later, ⋆, runs, anyQ, atRet, Sq, _$_, _∵_, !, qed}
+use types.Kit.{by, move, keep, drop, use1, use3, split, join, pick, rewrite, fsplit, fjoin, suffices, frame, await}
+use types.Kit.{done}
 use types.Part.{whole, sub, look-in, agg}
-use types.Run.{look, init, store, forget, stop, hop, fld, from, load, lit, addr, of-opd, bin, and-then, no-more, assigns, first, branches, skips, jumps, blocks, exec, land, land-last, returns, enter, alloc1, alloc0, params1, pass1, pass0, Below, again, loops}
+use types.Run.{look, init, store, forget, stop, hop, fld, from, load, lit, addr, of-opd, bin, and-then, no-more}
+use types.Run.{assigns, first, branches, skips, jumps, blocks, exec, land, land-last, returns, enter, alloc1, alloc0}
+use types.Run.{params1, pass1, pass0, Below, again, loops}
 use types.Tokens.{lft-new, lft-end}
 use types.SemTy.{cells, Arr, Body}
 use sound.WpLaws.{FmC, fmOf, WpFn-mono}
@@ -52,7 +56,8 @@ use denote.Triple.Spec.{Meets, tripleOf}
 use denote.Triple.Table.{entered, cited}
 use denote.Triple.Clauses.{ensured, lasts}
 use denote.Exit.{yes}
-use denote.Triple.Walked.{says, Stays, stay-slice, stay-none, walkOf, goes-slice, goes-none, Walks, ends-at, walked, walk-meets}
+use denote.Triple.Walked.{says, Stays, stay-slice, stay-none, walkOf, goes-slice, goes-none, Walks, ends-at, walked}
+use denote.Triple.Walked.{walk-meets}
 use Rattle.text_protocol.specs.Line.{keptMost}
 use Rattle.text_protocol.specs.Bytes.{room as bufferRoom}
 use Rattle.paper.specs.declared.Record.{Record}
@@ -76,7 +81,8 @@ use Rattle.text_turn.proofs.start.Met as start-thm
 use Rattle.text_perform.proofs.Gives.{freed}
 use Rattle.text_serve.specs.Serve.{Turns, Serves}
 use Rattle.text_serve.proofs.Joining.{Sofar, none-yet, one-more, fewer, served}
-use Rattle.text_serve.proofs.Arrays.{Bytes, Numbers, mref, Lent, telling-val, telling-is, typed-telling, state-ty, state-val, IsState, state-tells, state-is, typed-state}
+use Rattle.text_serve.proofs.Arrays.{Bytes, Numbers, mref, Lent, telling-val, telling-is, typed-telling}
+use Rattle.text_serve.proofs.Arrays.{state-ty, state-val, IsState, state-tells, state-is, typed-state}
 use Rattle.text_serve.proofs.Held.{held as locals, place-of, behind-all, entries}
 use Rattle.text_serve.proofs.Buffers.{array-ty, typed-array, apart, back}
 use Rattle.text_serve.proofs.Steps.{One, to-one, HandedToStep, goes-one, comes-back}

@@ -20,7 +20,8 @@ use prog.Wp.{Heap, Env, Calls, Loops, WpFn, Tables}
 use ghost.Atoms.{Atoms, sem}
 use contract.Monad.{Fun}
 use contract.Running.{givenOf, tables, tablesOf}
-use types.Kit.{Given, Goal, Item, ‵, _⊛_, some as some′, later, ⋆, runs, atRet, Sq, _$_, _∵_, !, qed, by, move, drop, use1, split, join, pick, fsplit, fsplit3, fjoin, feqL, suffices, frame as framed, await, done}
+use types.Kit.{Given, Goal, Item, ‵, _⊛_, some as some′, later, ⋆, runs, atRet, Sq, _$_, _∵_, !, qed, by, move, drop}
+use types.Kit.{use1, split, join, pick, fsplit, fsplit3, fjoin, feqL, suffices, frame as framed, await, done}
 use types.Run.{stop, hop, from, addr, and-then, no-more, assigns}
 use types.Tokens.{lft-new, lft-end, lent-back}
 use types.Mut.{open-ref, close-ref}
@@ -39,13 +40,15 @@ use denote.Triple.Statement.{Triple}
 use denote.Triple.Entry.{Vals, onEntry}
 use denote.Triple.Spec.{Meets, tripleOf}
 use denote.Triple.Table.{entered, cited}
-use denote.Triple.Walked.{says, needs, Stays, gave-slice, gave-ref, stay-none, walkOf, goes-gave-slice, goes-gave-ref, goes-none, Walks, ends-at, walked, walk-meets}
+use denote.Triple.Walked.{says, needs, Stays, gave-slice, gave-ref, stay-none, walkOf, goes-gave-slice, goes-gave-ref}
+use denote.Triple.Walked.{goes-none, Walks, ends-at, walked, walk-meets}
 use denote.Exit.{yes}
 use Rattle.text_protocol.specs.Answers.{answerMost}
 use Rattle.text_protocol.specs.Bytes.{room as bufferRoom}
 use Rattle.paper.specs.declared.Record.{Record}
 use Rattle.desk.proofs.Row.{R, table-ty, after}
-use Rattle.desk.proofs.Frame.{of-types, Addresses, env-of, ParamsFit, Locals, holding, entry, frame, enters, whole, value, field, sets, leaves}
+use Rattle.desk.proofs.Frame.{of-types, Addresses, env-of, ParamsFit, Locals, holding, entry, frame, enters, whole}
+use Rattle.desk.proofs.Frame.{value, field, sets, leaves}
 use Rattle.desk.proofs.Lending.{wref, ref, machine, lent, lends}
 use Rattle.desk.proofs.Calls.{Owned}
 use Rattle.text_protocol.specs.declared.Performed.{Performed}
@@ -72,7 +75,8 @@ use Rattle.text_serve.proofs.hear_in.Met as hear-thm
 use Rattle.text_serve.proofs.rows_in.Symbol as rows-def
 use Rattle.text_serve.proofs.rows_in.Met as rows-thm
 use Rattle.text_serve.proofs.Turning.{turned}
-use Rattle.text_serve.proofs.Arrays.{Bytes, Numbers, mref, sref, to, Lent, state-ty, heard-ty, state-val, heard-val, IsState, IsHeard, typed-state}
+use Rattle.text_serve.proofs.Arrays.{Bytes, Numbers, mref, sref, to, Lent, state-ty, heard-ty, state-val}
+use Rattle.text_serve.proofs.Arrays.{heard-val, IsState, IsHeard, typed-state}
 use Rattle.text_serve.proofs.Hears.{Hear, hears}
 use Rattle.text_serve.proofs.Performs.{Rows, Ask, Figures, figures-ty, figures-val, Shared, cuts, asks}
 use Rattle.text_serve.proofs.Tells.{Tell, tells}

@@ -10,7 +10,9 @@ use Rattle.rates.specs.Asked.{tentativeBound}
 use Rattle.rates.proofs.Statics.{rates-weighing, within-tentative-bound}
 use Rattle.record_writing.specs.Evaluates.{moveTo}
 use Rattle.record_evaluation.proofs.Evaluations.{sound-prices-valid}
-use Rattle.record_reasons.proofs.Reasoning.{allowed-move-within-most, figures-modelled, figures-in-ranges, levels-may-be-asked, rates-are-level-rates, level-at, weight-by, replacement-by, tentative-by}
+use Rattle.record_reasons.proofs.Reasoning.{allowed-move-within-most, figures-modelled, figures-in-ranges}
+use Rattle.record_reasons.proofs.Reasoning.{levels-may-be-asked, rates-are-level-rates, level-at, weight-by}
+use Rattle.record_reasons.proofs.Reasoning.{replacement-by, tentative-by}
 use mathlib.Core.Path.{_≡_, sym, ap, _∙_}
 use Prim.Native.Nat.{_*_, _≤_}
 use native.Mathlib.Omega.{arith}
