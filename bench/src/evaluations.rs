@@ -1,4 +1,5 @@
-//! Measures one evaluation by each side, by turns: in sheets of 1 to 512 securities, with 0 to 16 rows, and by its parts.
+//! Measures one evaluation by each side, by turns: in sheets of 1 to 512 securities, with 0 to 16 rows, and by its
+//! parts.
 
 use bench::opaque;
 

@@ -21,7 +21,8 @@ pub fn is_rate(bp: u64) -> bool
     bp <= Rate::MOST_BP
 }
 
-// "g = 100 units for lot 1, 10 for 2..10, 1 for 11..100". It is above 0 whatever the lot, so a damaged record is judged on some grid.
+// "g = 100 units for lot 1, 10 for 2..10, 1 for 11..100". It is above 0 whatever the lot, so a damaged record is judged
+// on some grid.
 pub fn grid_of(lot: u64) -> u64
     ensures { λ r. ⌜ r ≡ gridOf lot ⌝ }
 {

@@ -1,6 +1,6 @@
 // What the benchmark measures, for Rust to link: one security admitted by the rule of `record_calls` and evaluated day
-// after day by that of `record_evaluation`, without the answer and with it, parts of that, and asking why by the rule of
-// `record_reasons`. The table is not part of it, since its records cannot cross to C; the benchmark runs the whole
+// after day by that of `record_evaluation`, without the answer and with it, parts of that, and asking why by the rule
+// of `record_reasons`. The table is not part of it, since its records cannot cross to C; the benchmark runs the whole
 // programs besides.
 ghost use Prim.Native.Nat.{_≤_};
 use exact::unsigned;

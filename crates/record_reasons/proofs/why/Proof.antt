@@ -39,7 +39,8 @@ worked c = c .before .before .before .before
 done : (c : tie.Else1)
     → let a = worked (c .before .before) .before .before .args in
     isDone (workedOf (a .s) (a .d) (a .rows .now) .verdict) ≡ true
-done c = tested-true _ (rw (worked (c .before .before) .worked .ensures) at (c .before .is-done .ensures)) (c .if1 .left)
+done c =
+    tested-true _ (rw (worked (c .before .before) .worked .ensures) at (c .before .is-done .ensures)) (c .if1 .left)
 
 reasons-of-requires : tie.Need-reasons-of-requires
 reasons-of-requires c κs = rw (worked (c .before .before) .worked .ensures) (was-accepted _ _ _ (done c))
