@@ -1,3 +1,4 @@
+-- The proofs of the demands and of that order, each file after those that it stands on.
 pub mod InterestCarried
 pub mod Sound
 pub mod Kept

@@ -1,3 +1,4 @@
+-- The customer's demands and the order of a live record over every sequence of calls, and cases of them.
 pub mod Demands
 pub mod NotKept
 pub mod Order

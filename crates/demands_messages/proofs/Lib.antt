@@ -1,1 +1,2 @@
+-- The proof of it.
 pub mod Whole

@@ -1,1 +1,2 @@
+-- What the program needs of its buffer; no other crate cites it.
 mod Room

@@ -1,3 +1,4 @@
+-- The laws of those definitions that other crates cite, each file after those that it stands on.
 pub mod Steps
 pub mod Units
 pub mod Slots

@@ -1,3 +1,4 @@
+-- The laws of those reasons that other crates and docs/ cite, a file each.
 pub mod First
 pub mod Prices
 pub mod Rates

@@ -1,3 +1,4 @@
+-- Why an evaluation is answered as it is (W-207), a file each; the files named Pinned have tables.
 pub mod Reasons
 pub mod Faults
 pub mod Figures

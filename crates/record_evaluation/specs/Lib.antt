@@ -1,1 +1,2 @@
+-- What an evaluation comes to before it is answered.
 pub mod Workings

@@ -1,1 +1,2 @@
+-- Which row is at fault, in the forms of the code.
 pub mod RowFaults

@@ -1,2 +1,3 @@
+-- What asking why is promised to answer, a file each.
 pub mod Reasoned
 pub mod Whys
