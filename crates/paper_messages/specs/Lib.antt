@@ -2,6 +2,7 @@
 pub mod Bytes
 pub mod Fields
 pub mod Messages
+pub mod OwnBytes
 pub mod Records
 pub mod PinnedMessages
 pub mod PinnedRecords

@@ -1,21 +1,12 @@
 -- W-212, the program `listen`: the lines of a whole input. Assumes nothing.
-use mathlib.Core.Path.{_≡_}
-use mathlib.Core.Bool.{true}
 use mathlib.Core.List.{List, [], _∷_, _++_}
 use Prim.Native.Nat.{ℕ, zero, suc}
 use lib.Dec.{leb}
 use lib.ListN.{length}
 use Rattle.paper.specs.Lists.{pick}
-use Rattle.paper.specs.Verdicts.{isDone, firstOf}
-use Rattle.paper_messages.specs.Messages.{readChecks, acceptedHeard, heardAt}
+use Rattle.paper.specs.Verdicts.{isDone}
+use Rattle.paper_messages.specs.Messages.{heardAt}
 use Rattle.text_heard.specs.Lines.{lineOf}
-
--- what stands behind a text does not change what is heard of it: the number, and what is heard where it is 0
-abbrev pub SameHeard : (text later : List ℕ) → Type 0
-SameHeard text later =
-    (firstOf (readChecks (text ++ later)) ≡ firstOf (readChecks text))
-    × (isDone (firstOf (readChecks text)) ≡ true → (place : ℕ)
-    → acceptedHeard place (text ++ later) ≡ acceptedHeard place text)
 
 -- from a place on, at most so many: none at the end of the input, and none behind a refusal
 unfoldable pub listenFrom : (most : ℕ) → (input : List ℕ) → (place : ℕ) → List ℕ
