@@ -1,6 +1,6 @@
 -- `limits::band_of` meets its contract, side by side, each with its own farthest limit, moves and repo rate. Each of
 -- the farthest pair is a limit, since it is at most twice the greatest price. Assumes nothing.
-use mathlib.Core.Path.{_≡_, ap}
+use mathlib.Core.Path.{_≡_, ap, _∙_}
 use mathlib.Core.Bool.{true}
 use Prim.Native.Nat.{_≤_}
 use native.Mathlib.Omega.{arith}
@@ -11,6 +11,7 @@ use Rattle.paper.specs.declared.Price.{Price}
 use Rattle.paper.specs.declared.Rate.{Rate}
 use Rattle.paper.specs.declared.Side.{Side}
 use Rattle.paper.specs.declared.Side.the-variants.{Upper, Lower}
+use Rattle.paper.specs.declared.Limit.{Limit}
 use Rattle.paper.specs.declared.Limits.{Limits}
 use Rattle.paper.specs.declared.Moves.{Moves}
 use Rattle.paper.specs.declared.Term.{Term}
@@ -55,14 +56,16 @@ limit-within-requires c κs =
     let made = c .before .before in
     let s = made .before in
     let a = s .args in
-    (s .pre .0, (inputs (a .p) (a .s1) Lower (a .c) (a .x) (s .pre .1 .1), rw (made .of .ensures) (below s)))
+    let far = ap (λ (z : Limit). z .units) (made .of .ensures) ∙ below s in
+    (s .pre .0, (inputs (a .p) (a .s1) Lower (a .c) (a .x) (s .pre .1 .1), far))
 
 limit-within-requires-2 : tie.Need-limit-within-requires-2
 limit-within-requires-2 c κs =
     let made = c .before .before .before in
     let s = made .before .before in
     let a = s .args in
-    (s .pre .0, (inputs (a .p) (a .s1) Upper (a .c) (a .x) (s .pre .1 .1), rw (made .of2 .ensures) (above s)))
+    let far = ap (λ (z : Limit). z .units) (made .of2 .ensures) ∙ above s in
+    (s .pre .0, (inputs (a .p) (a .s1) Upper (a .c) (a .x) (s .pre .1 .1), far))
 
 returns : tie.Need-returns
 unfolding bandOf

@@ -68,22 +68,18 @@ returns-2 c =
     rw (s .pre .1 .1) (sym (zero-required _ _ _ _ (s .pre .0) (rate-covered covered)
     (sym (s .pre .1 .1) ∙ c .if2 .taken)))
 
--- the start, from where the rate is above 0
-abbrev start : tie.Else2 → tie.Start
-start c = c .before .before .before .before
-
 sub-of : tie.Need-sub-of
 sub-of c =
     let over = c .before .before in
-    let s = start over in
+    let s = over .before .before .before .before in
     let a = s .args in
     let step : a .st .h ≤ a .rate .bp = rw (s .pre .1 .1) (rate-at-least-a-step _ _ _ _ (s .pre .0) (positive over)) in
     step
 
 -- a step below is a rate
-below-high : (c : tie.Else2) → start c .args .rate .bp - start c .args .st .h ≤ rateMost
+below-high : (c : tie.Else2) → let a = c .before .before .before .before .args in a .rate .bp - a .st .h ≤ rateMost
 below-high c =
-    let s = start c in
+    let s = c .before .before .before .before in
     omega (arith, rate-high _ _ _ _ _ (s .pre .0) (s .pre .1 .1))
 
 of-requires : tie.Need-of-requires
@@ -92,7 +88,7 @@ of-requires c κs = below-high (c .before .before)
 covers-requires-2 : tie.Need-covers-requires-2
 covers-requires-2 c κs =
     let over = c .before .before .before in
-    let s = start over in
+    let s = over .before .before .before .before in
     rw (c .of .ensures) (valid-are-rate-statics _ (s .pre .0), (s .pre .1 .0 .0, s .pre .1 .0 .1, below-high over))
 
 returns-3 : tie.Need-returns-3
