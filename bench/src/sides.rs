@@ -1,7 +1,7 @@
 //! The sides that are measured: each evaluates one security on so many days by the rule of `evaluate` (soundness of
 //! the record, ranges of the day and of the rows, evaluation, rates, ranges, three bands), leaves the record as it then
-//! stands, and adds figures up so that none can be left out. None makes the answer of `evaluate`, which shows the record
-//! again, but one that is measured for it: the proved rules with the answer.
+//! stands, and adds figures up so that none can be left out. None makes the answer of `evaluate`, which shows the
+//! record a second time, but one that is measured for it: the proved rules with the answer.
 
 use bench::{opaque, tuned};
 use reference::record::Record;

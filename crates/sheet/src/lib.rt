@@ -163,25 +163,22 @@ fn lasts(why: Why) -> u64 {
     std::num::wrapping_add_u64(sum, maximum(level3))
 }
 
-// The record after an evaluation, and no answer: where a number applies it is the record before.
-fn evaluated(r: Record, d: Day, rows: &[i64]) -> Record {
-    let w = record_evaluation::worked(first(r), d, rows);
-    let verdict = w.verdict;
-    if !verdict.is_done() {
-        return r;
-    }
-    let made = w.made;
-    record_writing::evaluated(r, d, made)
-}
-
-// One security evaluated on so many days. No answer is made, since the versions in Rust make none.
+// One security evaluated on so many days. No answer is made, and a refused day ends the run, since it is so in the
+// versions in Rust.
 #[no_mangle]
 pub extern "C" fn nedrubal_days(x: &[i64; 32], y: &[i64; 6], rows: &[i64], days: u64) -> u64 {
     let mut r = admitted(x);
     let mut sum: u64 = 0;
     let mut i: u64 = 0;
     while i < days {
-        r = evaluated(r, day_of(y, i), rows);
+        let d = day_of(y, i);
+        let w = record_evaluation::worked(first(r), d, rows);
+        let verdict = w.verdict;
+        if !verdict.is_done() {
+            return sum;
+        }
+        let made = w.made;
+        r = record_writing::evaluated(r, d, made);
         sum = std::num::wrapping_add_u64(sum, figure(r));
         i += 1;
     }
