@@ -149,13 +149,13 @@ module _ (old : Record) (d : Day) (new : Made) (a : Accepted old d new) (on : ol
       × ((d .m ≤ aheadMost) × (new .tentative .bp ≤ tentativeBound))
   levels-may-be-asked = ((sound-facts old (a .sound-record) .valid, on), (figures-in-ranges .ahead, tentative-high))
 
-  pub rates-are-level-rates : (i : ℕ) → getD (new .rates) i noRate .bp
-      ≡ getD (forLevels (λ l. record { bp = levelRate (old .statics) (new .tentative .bp) (d .m) l })) i noRate .bp
-  rates-are-level-rates i = ap (λ (rs : List Rate). getD rs i noRate .bp) rates-made
+  pub rates-are-level-rates : (i : ℕ) → rateAt (new .rates) i
+      ≡ rateAt (forLevels (λ l. record { bp = levelRate (old .statics) (new .tentative .bp) (d .m) l })) i
+  rates-are-level-rates i = ap (λ (rs : List Rate). rateAt rs i) rates-made
 
 -- the reason of a level, of what was made of the record
 pub level-at : (old : Record) (d : Day) (new : Made) → Accepted old d new → (l i : ℕ)
-    → levelReason (old .statics) (new .tentative .bp) (d .m) l (getD (new .rates) i noRate .bp)
+    → levelReason (old .statics) (new .tentative .bp) (d .m) l (rateAt (new .rates) i)
     ≡ levelAt old d (new .p1 .units) l i
 unfolding levelAt
 level-at old d new a l i = rw (a .tentative, a .rates)

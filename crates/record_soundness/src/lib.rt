@@ -4,7 +4,7 @@ ghost use mathlib.Core.Path.{_≡_};
 ghost use mathlib.Core.Bool.{_&&_};
 ghost use lib.ListN.{getD};
 ghost use Rattle.paper.specs.Lists.{allThree};
-ghost use Rattle.paper.specs.Ranges.{isLive, lastDay, isRate, noRate, gridOf, isLimit, validLimits, noLimits};
+ghost use Rattle.paper.specs.Ranges.{isLive, lastDay, isRate, rateAt, gridOf, isLimit, validLimits, noLimits};
 ghost use Rattle.paper.specs.Ranges.{validNear, validNearSeconds, notNear, validSession, validExternal, sound};
 ghost use Rattle.paper.specs.Ranges.{validSlots, soundFigures};
 use inputs::is_on_grid;
@@ -46,7 +46,7 @@ pub fn last_day(standing: Standing) -> u64
 }
 
 fn valid_rates(rates: [Rate; Record::LEVELS]) -> bool
-    ensures { λ r. ⌜ r ≡ allThree (λ i. isRate (getD rates i noRate .bp)) ⌝ }
+    ensures { λ r. ⌜ r ≡ allThree (λ i. isRate (rateAt rates i)) ⌝ }
 {
     is_rate(rates[0].bp) & is_rate(rates[1].bp) & is_rate(rates[2].bp)
 }

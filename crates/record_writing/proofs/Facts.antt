@@ -101,7 +101,7 @@ shifts-asked r v =
 
 -- a figure for each level, each within a most
 levels-held : (rate : ℕ → ℕ) (most : ℕ) → ((l : ℕ) → rate l ≤ most) → (i : ℕ) → i < 3
-    → getD (forLevels (λ l. record { bp = rate l })) i noRate .bp ≤ most
+    → rateAt (forLevels (λ l. record { bp = rate l })) i ≤ most
 levels-held rate most h zero k = h 1
 levels-held rate most h (suc zero) k = h 2
 levels-held rate most h (suc (suc zero)) k = h 3
@@ -118,8 +118,7 @@ rates-held r d p v i k = go (r .statics .ewma)
     by-model : Figures
     by-model = modelled (r .statics) (d .b) (d .m) (rateAt (r .rates) 0) (moveTo r p) (r .s) (r .tentative)
 
-    go : (b : Bool) → getD (pick b by-model (unmodelled (r .statics) (r .s) (r .tentative)) .rates) i noRate .bp ≤
-        rateMost
+    go : (b : Bool) → rateAt (pick b by-model (unmodelled (r .statics) (r .s) (r .tentative)) .rates) i ≤ rateMost
     go true = levels-held (λ l. levelRate (r .statics) (by-model .tentative .bp) (d .m) l) rateMost
         (λ l. le-trans (level-rate-within-most (r .statics) l (d .m) (by-model .tentative .bp) st) (st .most-high)) i k
     go false = levels-held (minimumOf (r .statics)) rateMost

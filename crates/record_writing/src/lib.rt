@@ -6,7 +6,7 @@ ghost use Prim.Native.Nat.{_<_};
 ghost use lib.ListN.{getD};
 ghost use Rattle.paper.specs.Lists.{three};
 ghost use Rattle.paper.specs.Numbers.{movesMost};
-ghost use Rattle.paper.specs.Ranges.{validStatics, validQuote, sound, noRate, noLimits, notNear, termAt};
+ghost use Rattle.paper.specs.Ranges.{validStatics, validQuote, sound, rateAt, noLimits, notNear, termAt};
 ghost use Rattle.paper_desk.specs.Limits.{rangeOf, bandOf, countOf, rangeMoved, bandMoved};
 ghost use Rattle.paper_desk.specs.Alerts.{nearCleared};
 ghost use Rattle.paper_desk.specs.Desk.{admitted, nearOn, quoted, moved, eveningOpened};
@@ -115,7 +115,7 @@ pub fn quoted(r: Record, q: Quote, n: NearSeconds) -> Record
 
 fn ranges_of(st: Statics, p: Price, rates: [Rate; Record::LEVELS]) -> [Limits; Record::LEVELS]
     requires { ⌜ RangesAsked p rates ⌝ }
-    ensures { λ r. ⌜ r ≡ three (λ i. rangeOf st (p .units) (getD rates i noRate .bp)) ⌝ }
+    ensures { λ r. ⌜ r ≡ three (λ i. rangeOf st (p .units) (rateAt rates i)) ⌝ }
 {
     [
         limits::range_of(st, p, rates[0]),
