@@ -21,51 +21,68 @@ use borrow.Author.Needs.{needs}
 use Rattle.record_evaluation.proofs.worked.Statement.{statement}
 use Rattle.record_evaluation.proofs.worked.Tie as tie
 
-known : (c : tie.Else1) → isKnown (c .before .before .before .args .s) ≡ true
+-- what was given, of the stage behind 1, and of those behind 6, 16 and 5
+abbrev start : tie.Else1 → tie.Start
+start c = c .before .before .before
+
+abbrev start-ranged : tie.Else2 → tie.Start
+start-ranged c = start (c .before .before .before)
+
+abbrev start-begun : tie.Else3 → tie.Start
+start-begun c = start-ranged (c .before .before)
+
+abbrev begun-before : tie.Else4 → tie.Else3
+begun-before c = c .before .before .before
+
+known : (c : tie.Else1) → isKnown (start c .args .s) ≡ true
 known c = tested-true _ (c .before .is-known .ensures) (c .if1 .left)
 
 -- 6, of what was gathered
 day : (c : tie.After-valid-day)
-    → let a = c .before .before .before .before .before .args in
+    → let a = start (c .before .before) .args in
     c .valid-day .result ≡ validDay (a .d) (a .rows .now)
 day c = c .valid-day .ensures ∙ day-gathered _ _ _ (c .before .gather .ensures .is)
 
 valid : (c : tie.Else2)
-    → let a = c .before .before .before .before .before .before .args in
+    → let a = start-ranged c .args in
     validDay (a .d) (a .rows .now) ≡ true
 valid c = tested-true _ (day (c .before)) (c .if2 .left)
 
 -- 16, of what was gathered
 crossed : (c : tie.After-is-crossed)
-    → let a = c .before .before .before .before .before .before .before .args in
+    → let a = start-ranged (c .before) .args in
     c .is-crossed .result ≡ hasCrossedRow (dayRows (a .rows .now))
 crossed c =
     c .is-crossed .ensures
     ∙ crossed-gathered _ _ (c .before .before .before .gather .ensures .is) (day-valid-parts _ _ (valid (c .before)) .1)
 
 begun : (c : tie.Else3)
-    → let a = c .before .before .before .before .before .before .before .before .args in
+    → let a = start-begun c .args in
     Begun (a .s) (a .d) (a .rows .now)
 begun c =
+    let ranged = c .before .before in
     record {
-      known = known (c .before .before .before .before .before);
-      valid = valid (c .before .before);
+      known = known (ranged .before .before .before);
+      valid = valid ranged;
       uncrossed = sym (crossed (c .before)) ∙ c .if3 .left;
     }
 
 after : (c : tie.Else4)
-    → let a = c .before .before .before .before .before .before .before .before .before .before .before .args in
+    → let a = start-begun (begun-before c) .args in
     leb (a .d .day) (lastDay (a .s .rec .standing)) ≡ false
 after c = lt-leb _ _ (rw (c .before .before .last-day .ensures) at (c .if4 .left))
 
+-- the stage behind 5, of the one that has the evaluation
+abbrev later : tie.After-evaluate → tie.Else4
+later c = c .before .before .before .before
+
 -- the evaluation is that of the record's grid
 evaluation : (c : tie.After-evaluate)
-    → let a = c .before .before .before .before .before .before .before .before .before .before .before .before .before
-    .before .before .args in
+    → let a = start-begun (begun-before (later c)) .args in
     let r = a .s .rec in
     evaluationMade (gridOf (r .statics .lot)) (r .p1 .units) (usedBy r) (dayRows (a .rows .now)) ≡ c .evaluate .result
 evaluation c =
-    let e = c .before .before .before .before .before .before .before in
+    let e = begun-before (later c) in
     let b = begun e in
     rw (← c .before .before .before .grid-of .ensures, ← c .before .used-by .ensures)
     (sym
@@ -73,9 +90,7 @@ evaluation c =
     (b .uncrossed)))
 
 price : (c : tie.After-evaluation)
-    → let e = c .before .before in
-    let a = e .before .before .before .before .before .before .before .before .before .before .before .before .before
-    .before .before .args in
+    → let a = start-begun (begun-before (later (c .before .before))) .args in
     let r = a .s .rec in
     Made (gridOf (r .statics .lot)) (r .p1 .units) (usedBy r) (dayRows (a .rows .now)) (c .evaluation .given .0 .0)
 price c = evaluated-is-made _ _ _ _ _ (evaluation (c .before .before) ∙ c .evaluation .given .1)
@@ -137,11 +152,12 @@ evaluate-requires : tie.Need-evaluate-requires
 evaluate-requires c κs =
     let g = c .before .before in
     let e = g .before in
-    let b = begun (e .before .before .before) in
-    let s = e .before .before .before .before .before .before .before .before .before .before .before in
+    let begun-here = begun-before e in
+    let b = begun begun-here in
+    let s = start-begun begun-here in
     let grid = rw (← g .grid-of .ensures) at (grid-in-range (s .args .s .rec .statics .lot)) in
     let sound = known-sound _ (b .known) in (
-      e .before .before .before .before .before .before .before .gather .ensures .bound,
+      begun-here .before .before .before .before .gather .ensures .bound,
       (
         (sound-facts _ sound .figures .later .price .most, grid .0, grid .1),
         rw (c .used-by .ensures) (used-prices-within-most _ sound),
@@ -159,21 +175,21 @@ enum-known-evaluation c = search needs
 
 worked-at-requires : tie.Need-worked-at-requires
 worked-at-requires c κs =
-    let b = begun (c .before .before .before .before .before .before .before .before .before .before) in
+    let b = begun (begun-before (later (c .before .before .before))) in
     (known-sound _ (b .known), (day-valid-parts _ _ (b .valid) .0, price (c .before) .price))
 
 returns-5 : tie.Need-returns-5
 returns-5 c =
-    let e = c .before .before .before .before .before .before .before in
+    let e = later (c .before .before .before) in
     let test = beyond-does-not-fit _ _ _ _ (evaluation (c .before .before .before) ∙ c .before .enum-told .given .1) in
-    c .unmade5 .ensures ∙ day-beyond _ _ _ (begun (e .before .before .before)) (after e) test
+    c .unmade5 .ensures ∙ day-beyond _ _ _ (begun (begun-before e)) (after e) test
 
 returns-6 : tie.Need-returns-6
 returns-6 c =
-    let e = c .before .before .before .before .before .before .before .before in
+    let e = later (c .before .before .before .before) in
     let p = price (c .before .before) in
     c .worked-at .ensures _
-    (record { begun = begun (e .before .before .before); later = after e; fits = p .fits })
+    (record { begun = begun (begun-before e); later = after e; fits = p .fits })
     (p .is)
 
 pub worked-spec : {M : Type 1} → statement M

@@ -17,16 +17,20 @@ use borrow.Author.Needs.{needs}
 use Rattle.record_evaluation.proofs.worked_at.Statement.{statement}
 use Rattle.record_evaluation.proofs.worked_at.Tie as tie
 
+-- what was given, of the stage that has the move
+abbrev start : tie.After-move-of → tie.Start
+start c = c .before .before .before .before .before .before .before .before .before
+
 -- the price of the rows is the evaluation's
 price-is : (c : tie.After-move-of) (rows : List ℤ)
-    → let a = c .before .before .before .before .before .before .before .before .before .args in
+    → let a = start c .args in
     pricedOn (a .s .rec) rows ≡ a .e → priceOn (a .s .rec) rows ≡ a .e .price .units
 unfolding pricedOf priceOn
 price-is c rows e = ap (λ (x : Priced). x .price .units) e
 
 -- the move that is tested is that of any rows with this price
 move-tested : (c : tie.After-move-too-large) (rows : List ℤ)
-    → let a = c .before .before .before .before .before .before .before .before .before .before .args in
+    → let a = start (c .before) .args in
     let r = a .s .rec in
     pricedOn r rows ≡ a .e → c .move-too-large .result ≡ moveTooLarge (r .statics) (moveOn r rows)
 unfolding moveOn
@@ -54,20 +58,21 @@ array-copy-out-figures-of c = search needs
 
 figures-of-requires : tie.Need-figures-of-requires
 figures-of-requires c κs =
-    let s = c .before .before .before .before .before .before .before .before .before .before .before .before in
     let test = c .before in
+    let s = start (test .before .before) in
     let ranges = sound-figures-in-ranges _ _ (s .pre .0) (day-facts (s .args .d) (s .pre .1 .0) .m-most) in
     (ranges, sym (test .before .move-too-large .ensures) ∙ test .if1 .left)
 
 made-at-requires : tie.Need-made-at-requires
 unfolding figuresAt moveTo
 made-at-requires c κs =
-    let s = c .before .before .before .before .before .before .before .before .before .before .before .before .before in
+    let moved = c .before .before .before .before in
+    let s = start moved in
     record {
       sound-record = s .pre .0;
       day = s .pre .1 .0;
       price = s .pre .1 .1;
-      figures = rw (← c .before .before .before .before .move-of .ensures) (c .figures-of .ensures);
+      figures = rw (← moved .move-of .ensures) (c .figures-of .ensures);
     }
 
 in-order-requires : tie.Need-in-order-requires
@@ -75,17 +80,19 @@ in-order-requires c κs = search needs
 
 returns-2 : tie.Need-returns-2
 returns-2 c rows k e =
-    let m = c .before .before .before .before .before .before in
+    let w = c .before .before .before in
+    let m = w .before .before .before in
     let held = sym (move-tested (m .before) rows e) ∙ m .if1 .left in
-    let made = c .before .before .before .made-at .ensures rows (price-is (m .before .before) rows e) in
+    let made = w .made-at .ensures rows (price-is (m .before .before) rows e) in
     day-crossed _ _ rows k held made (sym (ap (λ (x : Priced). x .figures) e)) (c .before .in-order .ensures) (c .if2
     .taken)
 
 returns-3 : tie.Need-returns-3
 returns-3 c rows k e =
-    let m = c .before .before .before .before .before .before in
+    let w = c .before .before .before in
+    let m = w .before .before .before in
     let held = sym (move-tested (m .before) rows e) ∙ m .if1 .left in
-    let made = c .before .before .before .made-at .ensures rows (price-is (m .before .before) rows e) in
+    let made = w .made-at .ensures rows (price-is (m .before .before) rows e) in
     day-accepted _ _ rows k held made (sym (ap (λ (x : Priced). x .figures) e)) (c .before .in-order .ensures) (c .if2
     .left)
 

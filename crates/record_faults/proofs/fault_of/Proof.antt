@@ -1,4 +1,5 @@
--- `fault_of` meets its contract: each test of the code is the definition's, in its order. Assumes nothing.
+-- `fault_of` meets its contract: each test of the code is the definition's, in its order: 6, 16, 7 and 9. Assumes
+-- nothing.
 use mathlib.Core.Path.{_≡_, sym, _∙_}
 use Rattle.rows.specs.RowLaws.{whole-in-sevens, valid-whole, valid-every}
 use Rattle.record_faults.specs.RowFaults.{faultWith}
@@ -22,16 +23,18 @@ is-same-requires-2 c κs = search needs
 
 first-row-requires : tie.Need-first-row-requires
 first-row-requires c κs =
-    let valid = c .before .before .before .before .pre .crossed (sym (c .before .is-same2 .ensures) ∙ c .if2
-    .taken) in
+    let six = c .before .before in
+    let valid = six .before .before .pre .crossed (sym (c .before .is-same2 .ensures) ∙ c .if2 .taken) in
     (whole-in-sevens _ (valid-whole _ valid), every-true _)
 
 returns-2 : tie.Need-returns-2
 unfolding faultWith
 returns-2 c =
+    let sixteen = c .before in
+    let six = sixteen .before .before in
     rw (
-      sym (c .before .before .before .before .is-same .ensures) ∙ c .before .before .before .if1 .left,
-      sym (c .before .before .is-same2 .ensures) ∙ c .before .if2 .taken,
+      sym (six .before .is-same .ensures) ∙ six .if1 .left,
+      sym (sixteen .before .is-same2 .ensures) ∙ sixteen .if2 .taken,
     )
     (c .first-row .ensures)
 
@@ -40,18 +43,20 @@ is-same-requires-3 c κs = search needs
 
 first-row-requires-2 : tie.Need-first-row-requires-2
 first-row-requires-2 c κs =
-    let valid = c .before .before .before .before .before .before .pre .beyond (sym (c .before .is-same3
-    .ensures) ∙ c .if3 .taken) in
+    let six = c .before .before .before .before in
+    let valid = six .before .before .pre .beyond (sym (c .before .is-same3 .ensures) ∙ c .if3 .taken) in
     (whole-in-sevens _ (valid-whole _ valid), valid-every _ valid)
 
 returns-3 : tie.Need-returns-3
 unfolding faultWith
 returns-3 c =
+    let seven = c .before in
+    let sixteen = seven .before .before in
+    let six = sixteen .before .before in
     rw (
-      sym (c .before .before .before .before .before .before .is-same .ensures) ∙ c .before .before .before .before
-          .before .if1 .left,
-      sym (c .before .before .before .before .is-same2 .ensures) ∙ c .before .before .before .if2 .left,
-      sym (c .before .before .is-same3 .ensures) ∙ c .before .if3 .taken,
+      sym (six .before .is-same .ensures) ∙ six .if1 .left,
+      sym (sixteen .before .is-same2 .ensures) ∙ sixteen .if2 .left,
+      sym (seven .before .is-same3 .ensures) ∙ seven .if3 .taken,
     )
     (c .first-row2 .ensures)
 
@@ -82,28 +87,33 @@ first-term-requires c κs = search needs
 returns-4 : tie.Need-returns-4
 unfolding faultWith
 returns-4 c =
-    let tested = c .before .before .before .before .before .before .before in
+    let second-band = c .before .before .before in
+    let first-band = second-band .before .before in
+    let nine = first-band .before .before in
+    let seven = nine .before .before in
+    let sixteen = seven .before .before in
+    let six = sixteen .before .before in
     rw (
       c .first-term .ensures,
       c .before .is-crossed3 .ensures,
-      c .before .before .before .is-crossed2 .ensures,
-      c .before .before .before .before .before .is-crossed .ensures,
-      sym (tested .before .before .before .before .before .before .before .is-same .ensures) ∙ tested .before .before
-          .before .before .before .before .if1 .left,
-      sym (tested .before .before .before .before .before .is-same2 .ensures) ∙ tested .before .before .before .before
-          .if2 .left,
-      sym (tested .before .before .before .is-same3 .ensures) ∙ tested .before .before .if3 .left,
-      sym (tested .before .is-same4 .ensures) ∙ tested .if4 .taken,
+      second-band .is-crossed2 .ensures,
+      first-band .is-crossed .ensures,
+      sym (six .before .is-same .ensures) ∙ six .if1 .left,
+      sym (sixteen .before .is-same2 .ensures) ∙ sixteen .if2 .left,
+      sym (seven .before .is-same3 .ensures) ∙ seven .if3 .left,
+      sym (nine .before .is-same4 .ensures) ∙ nine .if4 .taken,
     )
 
 returns-5 : tie.Need-returns-5
 unfolding faultWith
 returns-5 c =
+    let seven = c .before .before in
+    let sixteen = seven .before .before in
+    let six = sixteen .before .before in
     rw (
-      sym (c .before .before .before .before .before .before .before .is-same .ensures) ∙ c .before .before .before
-          .before .before .before .if1 .left,
-      sym (c .before .before .before .before .before .is-same2 .ensures) ∙ c .before .before .before .before .if2 .left,
-      sym (c .before .before .before .is-same3 .ensures) ∙ c .before .before .if3 .left,
+      sym (six .before .is-same .ensures) ∙ six .if1 .left,
+      sym (sixteen .before .is-same2 .ensures) ∙ sixteen .if2 .left,
+      sym (seven .before .is-same3 .ensures) ∙ seven .if3 .left,
       sym (c .before .is-same4 .ensures) ∙ c .if4 .left,
     )
 

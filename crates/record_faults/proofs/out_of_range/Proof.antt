@@ -33,13 +33,16 @@ or-else-requires c κs = search needs
 
 returns : tie.Need-returns
 returns c =
+    let third = c .before .before in
+    let second = third .before .before in
+    let first = second .before .before in
     rw (
       c .or-else .ensures,
       c .before .first-term .ensures,
-      c .before .before .valid-term3 .ensures,
-      c .before .before .before .before .valid-term2 .ensures,
-      c .before .before .before .before .before .before .valid-term .ensures,
-      c .before .before .before .before .before .before .before .before .whole-row .ensures,
+      third .valid-term3 .ensures,
+      second .valid-term2 .ensures,
+      first .valid-term .ensures,
+      first .before .before .whole-row .ensures,
     )
     (out-of-range-is _ _)
 

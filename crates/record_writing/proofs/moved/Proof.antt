@@ -14,10 +14,13 @@ array-copy-out-s1 c = search needs
 one-more-requires : tie.Need-one-more-requires
 one-more-requires c κs = search needs
 
+-- what was given, of the stage that has the counts
+abbrev start : tie.After-one-more → tie.Start
+start c = c .before .before .before .before .before .before .before .before .before .before .before .before .before
+
 bands-of-requires : tie.Need-bands-of-requires
 bands-of-requires c κs =
-    let s =
-    c .before .before .before .before .before .before .before .before .before .before .before .before .before in
+    let s = start c in
     let r = s .args .r in
     let v = s .pre .0 in
     let known = sound-facts r v in
@@ -29,14 +32,12 @@ bands-of-requires c κs =
 
 delta-requires : tie.Need-delta-requires
 delta-requires c κs =
-    let s =
-    c .before .before .before .before .before .before .before .before .before .before .before .before .before .before in
+    let s = start (c .before) in
     (sound-facts _ (s .pre .0) .valid, sound-range-inputs _ (s .pre .0))
 
 ranges-moved-requires : tie.Need-ranges-moved-requires
 ranges-moved-requires c κs =
-    let s = c .before .before .before .before .before .before .before .before .before .before .before .before .before
-    .before .before in
+    let s = start (c .before .before) in
     rw (c .delta .ensures) (shifts-asked (s .args .r) (s .pre .0))
 
 bands-moved-requires : tie.Need-bands-moved-requires
@@ -47,21 +48,21 @@ near-cleared-requires c κs = search needs
 
 session-moved-requires : tie.Need-session-moved-requires
 session-moved-requires c κs =
-    let s = c .before .before .before .before .before .before .before .before .before .before .before .before .before
-    .before .before .before .before .before in
-    sound-facts _ (s .pre .0) .session
+    let delta = c .before .before .before in
+    sound-facts _ (start (delta .before .before) .pre .0) .session
 
 returns : tie.Need-returns
 unfolding moved
 returns c =
+    let delta = c .before .before .before .before in
     rw (
       c .session-moved .ensures,
       c .before .near-cleared .ensures,
       c .before .before .bands-moved .ensures,
       c .before .before .before .ranges-moved .ensures,
-      c .before .before .before .before .delta .ensures,
-      c .before .before .before .before .before .bands-of .ensures,
-      c .before .before .before .before .before .before .one-more .ensures,
+      delta .delta .ensures,
+      delta .before .bands-of .ensures,
+      delta .before .before .one-more .ensures,
     )
 
 pub moved-spec : {M : Type 1} → statement M

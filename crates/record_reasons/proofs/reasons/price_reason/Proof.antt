@@ -14,40 +14,53 @@ returns c = rw (← c .before .before .before .between .ensures, c .if1 .taken)
 
 returns-2 : tie.Need-returns-2
 unfolding reasonFrom setBy
-returns-2 c = rw (
-  ← c .before .before .before .before .before .before .between .ensures,
-  c .before .before .before .if1 .left,
-  c .if2 .taken,
-)
+returns-2 c =
+    let close = c .before .before .before in
+    rw (
+      ← close .before .before .before .between .ensures,
+      close .if1 .left,
+      c .if2 .taken,
+    )
 
 returns-3 : tie.Need-returns-3
 unfolding reasonFrom setBy
-returns-3 c = rw (
-  ← c .before .before .before .before .before .before .before .before .before .between .ensures,
-  c .before .before .before .before .before .before .if1 .left,
-  c .before .before .before .if2 .left,
-  c .if3 .taken,
-)
+returns-3 c =
+    let bid = c .before .before .before in
+    let close = bid .before .before .before in
+    rw (
+      ← close .before .before .before .between .ensures,
+      close .if1 .left,
+      bid .if2 .left,
+      c .if3 .taken,
+    )
 
 returns-4 : tie.Need-returns-4
 unfolding reasonFrom setBy
-returns-4 c = rw (
-  ← c .before .before .before .before .before .before .before .before .before .before .before .before .between .ensures,
-  c .before .before .before .before .before .before .before .before .before .if1 .left,
-  c .before .before .before .before .before .before .if2 .left,
-  c .before .before .before .if3 .left,
-  c .if4 .taken,
-)
+returns-4 c =
+    let ask = c .before .before .before in
+    let bid = ask .before .before .before in
+    let close = bid .before .before .before in
+    rw (
+      ← close .before .before .before .between .ensures,
+      close .if1 .left,
+      bid .if2 .left,
+      ask .if3 .left,
+      c .if4 .taken,
+    )
 
 returns-5 : tie.Need-returns-5
 unfolding reasonFrom setBy
-returns-5 c = rw (
-  ← c .before .before .before .before .before .before .before .before .before .before .before .before .between .ensures,
-  c .before .before .before .before .before .before .before .before .before .if1 .left,
-  c .before .before .before .before .before .before .if2 .left,
-  c .before .before .before .if3 .left,
-  c .if4 .left,
-)
+returns-5 c =
+    let ask = c .before .before .before in
+    let bid = ask .before .before .before in
+    let close = bid .before .before .before in
+    rw (
+      ← close .before .before .before .between .ensures,
+      close .if1 .left,
+      bid .if2 .left,
+      ask .if3 .left,
+      c .if4 .left,
+    )
 
 pub price-reason-spec : {M : Type 1} → statement M
 price-reason-spec =

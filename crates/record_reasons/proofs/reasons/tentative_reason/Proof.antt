@@ -32,19 +32,18 @@ add-if3 c = search needs
 
 returns-3 : tie.Need-returns-3
 unfolding tentativeDid
-returns-3 c = rw (
-  lt-leb _ _ (c .before .before .before .before .before .if1 .left),
-  c .before .before .if2 .left,
-  le-leb _ _ (c .if3 .taken),
-)
+returns-3 c =
+    let second = c .before .before in
+    rw (lt-leb _ _ (second .before .before .before .if1 .left), second .if2 .left, le-leb _ _ (c .if3 .taken))
 
 returns-4 : tie.Need-returns-4
 unfolding tentativeDid
 returns-4 c =
-    let first = c .before .before .before .before .before in
+    let second = c .before .before in
+    let first = second .before .before .before in
     rw (
       lt-leb _ _ (first .if1 .left),
-      c .before .before .if2 .left,
+      second .if2 .left,
       lt-leb _ _ (c .if3 .left),
       lt-ltb _ _ (first .if1 .left),
       lt-ltb _ _ (c .if3 .left),
