@@ -65,18 +65,18 @@ beyond-does-not-fit g previous used rows e = go (evaluationFits g previous used 
     go false q = refl
 
 -- an evaluation that was made is the paper's, and fits
-pub record Made (g previous : ℕ) (used : External) (rows : List Row) (e : Priced) : Type 0 where
+pub record Fitting (g previous : ℕ) (used : External) (rows : List Row) (e : Priced) : Type 0 where
   pub fits : evaluationFits g previous used rows ≡ true
   pub is : pricedOf g previous used rows ≡ e
   pub price : isPrice (e .price .units) ≡ true
 
-pub evaluated-is-made : (g previous : ℕ) (used : External) (rows : List Row) (e : Priced)
-    → evaluationMade g previous used rows ≡ Evaluated e → Made g previous used rows e
+pub evaluated-is-fitting : (g previous : ℕ) (used : External) (rows : List Row) (e : Priced)
+    → evaluationMade g previous used rows ≡ Evaluated e → Fitting g previous used rows e
 unfolding evaluationMade evaluationFits pricedOf
-evaluated-is-made g previous used rows e m = go (evaluationFits g previous used rows) refl m
+evaluated-is-fitting g previous used rows e m = go (evaluationFits g previous used rows) refl m
   where
     go : (b : Bool) → evaluationFits g previous used rows ≡ b
-        → pick b (Evaluated (pricedOf g previous used rows)) Beyond ≡ Evaluated e → Made g previous used rows e
+        → pick b (Evaluated (pricedOf g previous used rows)) Beyond ≡ Evaluated e → Fitting g previous used rows e
     go true f q =
         let same : pricedOf g previous used rows ≡ e = cc in
         record {

@@ -1,5 +1,5 @@
-// The rule of an evaluation, by value: the slot found, the day and its rows in, a turn out. It judges the refusals in
-// the paper's order.
+// The rule of an evaluation, by value: the slot found, the day and its rows in, an effect out. It judges the refusals
+// in the paper's order.
 ghost use mathlib.Core.Path.{_≡_};
 ghost use mathlib.Core.Bool.{true, not, _&&_};
 ghost use lib.ListN.{getD};
@@ -102,11 +102,11 @@ fn worked_at(s: Slot, d: Day, e: Priced) -> Working
     let p2 = r.p2;
     let p = e.price;
     let figures = e.figures;
-    let change = rates::volatility::move_of(p1, p2, p);
-    if rates::move_too_large(st, change) {
+    let moved = rates::volatility::move_of(p1, p2, p);
+    if rates::move_too_large(st, moved) {
         return unmade(Verdict::MoveTooLarge);
     }
-    let f = rates::figures_of(st, d.b, d.m, rates[0], change, r.s, tentative);
+    let f = rates::figures_of(st, d.b, d.m, rates[0], moved, r.s, tentative);
     let made = record_writing::made_at(r, d, p, f);
     let bands = made.bands;
     if !in_order(bands) {

@@ -155,18 +155,18 @@ fn modelled(price: PriceReason, old: Record, d: Day, new: Made) -> Reasons
     let p = new.p1;
     let made = new.rates;
     let after = new.tentative;
-    let change = move_of(p1, p2, p);
+    let moved = move_of(p1, p2, p);
     let carried = choose(
         model_of(st),
         d.b,
         MILLIONTHS_IN_BP * last[0].bp,
-        change,
+        moved,
         old.s,
     );
-    let t = tentative_rate_of(st, carried.replaced, change, carried.s);
+    let t = tentative_rate_of(st, carried.replaced, moved, carried.s);
     Reasons {
         price,
-        weight: weight_reason(d.b, change, old.s),
+        weight: weight_reason(d.b, moved, old.s),
         replacement: replacement_reason(carried.replaced),
         tentative: tentative_reason(st.h, st.wait, t, tentative),
         level1: level_reason(st, 1, d.m, after.bp, made[0]),

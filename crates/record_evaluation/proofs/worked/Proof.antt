@@ -15,8 +15,8 @@ use Rattle.record_evaluation.specs.Workings.{Begun}
 use Rattle.record_answers.proofs.Tests.{tested-true, tested-false, known-sound}
 use Rattle.record_evaluation.proofs.Judging.{day-unknown, day-out, day-row-crossed, day-not-after, day-beyond}
 use Rattle.record_evaluation.proofs.Evaluations.{day-valid-parts, day-gathered, crossed-gathered}
-use Rattle.record_evaluation.proofs.Evaluations.{used-prices-within-most, beyond-does-not-fit, Made}
-use Rattle.record_evaluation.proofs.Evaluations.{evaluated-is-made}
+use Rattle.record_evaluation.proofs.Evaluations.{used-prices-within-most, beyond-does-not-fit, Fitting}
+use Rattle.record_evaluation.proofs.Evaluations.{evaluated-is-fitting}
 use borrow.Author.Needs.{needs}
 use Rattle.record_evaluation.proofs.worked.Statement.{statement}
 use Rattle.record_evaluation.proofs.worked.Tie as tie
@@ -92,8 +92,8 @@ evaluation c =
 price : (c : tie.After-evaluation)
     → let a = start-begun (begun-before (later (c .before .before))) .args in
     let r = a .s .rec in
-    Made (gridOf (r .statics .lot)) (r .p1 .units) (usedBy r) (dayRows (a .rows .now)) (c .evaluation .given .0 .0)
-price c = evaluated-is-made _ _ _ _ _ (evaluation (c .before .before) ∙ c .evaluation .given .1)
+    Fitting (gridOf (r .statics .lot)) (r .p1 .units) (usedBy r) (dayRows (a .rows .now)) (c .evaluation .given .0 .0)
+price c = evaluated-is-fitting _ _ _ _ _ (evaluation (c .before .before) ∙ c .evaluation .given .1)
 
 is-known-requires : tie.Need-is-known-requires
 is-known-requires c κs = search needs

@@ -1,4 +1,5 @@
--- `sheet::nedrubal_evaluations` meets its contract. Assumes nothing.
+-- `sheet::nedrubal_evaluations` meets its contract: it promises nothing of its sum, and the count of days stays within
+-- those that were asked for. Assumes nothing.
 use Prim.Native.Nat.{_≤_, _-_}
 use borrow.Author.Needs.{needs}
 use Rattle.sheet.proofs.nedrubal_evaluations.Statement.{statement}
