@@ -6,6 +6,7 @@ ghost use Prim.Native.Nat.{_≤_};
 use exact::unsigned;
 use paper::Admission;
 use paper::Day;
+use paper::ONE_IN_TEN_THOUSANDTHS;
 use paper::Record;
 use paper::Term;
 use paper::Verdict;
@@ -17,14 +18,20 @@ use paper_reasons::WeightReason;
 use paper_reasons::Why;
 use record_answers::Slot;
 
-// The slots of the table that the security would stand in.
-const SLOTS: usize = 512;
+// The numbers of an admission as the evening's `admit` has them: six before the statics, which are 26.
+const ADMISSION_NUMBERS: usize = 32;
+
+// The numbers of a day with three terms alike: DAY B M K RRCL RRCH.
+const DAY_NUMBERS: usize = 6;
+
+// The greatest mean of squares of two volatilities, before it is divided by 10,000: both are at most 1,000,000.
+const MEAN_OF_SQUARES_MOST: u64 = 10_000_000_000_000_000;
 
 // What an accepted evaluation counts beside its seven reasons, so that the sum tells how many were accepted.
 const ACCEPTED: u64 = 8;
 
 // The numbers of one security, in the order of the evening's `admit`.
-fn admission_of(x: &[i64; 32]) -> Admission {
+fn admission_of(x: &[i64; ADMISSION_NUMBERS]) -> Admission {
     let given = gateway::given_of(
         x[6],
         x[7],
@@ -64,8 +71,8 @@ fn admission_of(x: &[i64; 32]) -> Admission {
     }
 }
 
-// A day with three terms alike: DAY B M K RRCL RRCH.
-fn day_of(y: &[i64; 6], later: u64) -> Day {
+// A day so many days later.
+fn day_of(y: &[i64; DAY_NUMBERS], later: u64) -> Day {
     let term = Term {
         k: unsigned(y[3]),
         low: y[4],
@@ -81,17 +88,17 @@ fn day_of(y: &[i64; 6], later: u64) -> Day {
 
 fn first(r: Record) -> Slot {
     Slot {
-        count: SLOTS,
+        count: Record::SLOTS_MOST,
         at: 0,
         rec: r,
     }
 }
 
-fn admitted(x: &[i64; 32]) -> Record {
+fn admitted(x: &[i64; ADMISSION_NUMBERS]) -> Record {
     let a = admission_of(x);
     let empty = first(record_answers::blank());
-    let turn = record_calls::admitted(record_answers::absent(SLOTS), empty, a);
-    turn.rec
+    let effect = record_calls::admitted(record_answers::absent(Record::SLOTS_MOST), empty, a);
+    effect.rec
 }
 
 // What is added up, so that no figure can be left out: the evaluation, the volatility, and a limit.
@@ -166,7 +173,12 @@ fn lasts(why: Why) -> u64 {
 // One security evaluated on so many days. No answer is made, and a refused day ends the run, since it is so in the
 // versions in Rust.
 #[no_mangle]
-pub extern "C" fn nedrubal_days(x: &[i64; 32], y: &[i64; 6], rows: &[i64], days: u64) -> u64 {
+pub extern "C" fn nedrubal_days(
+    x: &[i64; ADMISSION_NUMBERS],
+    y: &[i64; DAY_NUMBERS],
+    rows: &[i64],
+    days: u64,
+) -> u64 {
     let mut r = admitted(x);
     let mut sum: u64 = 0;
     let mut i: u64 = 0;
@@ -187,13 +199,18 @@ pub extern "C" fn nedrubal_days(x: &[i64; 32], y: &[i64; 6], rows: &[i64], days:
 
 // One security evaluated on so many days, with the answer of `evaluate` made on each.
 #[no_mangle]
-pub extern "C" fn nedrubal_answers(x: &[i64; 32], y: &[i64; 6], rows: &[i64], days: u64) -> u64 {
+pub extern "C" fn nedrubal_answers(
+    x: &[i64; ADMISSION_NUMBERS],
+    y: &[i64; DAY_NUMBERS],
+    rows: &[i64],
+    days: u64,
+) -> u64 {
     let mut r = admitted(x);
     let mut sum: u64 = 0;
     let mut i: u64 = 0;
     while i < days {
-        let turn = record_evaluation::evaluated(first(r), day_of(y, i), rows);
-        r = turn.rec;
+        let effect = record_evaluation::evaluated(first(r), day_of(y, i), rows);
+        r = effect.rec;
         sum = std::num::wrapping_add_u64(sum, figure(r));
         i += 1;
     }
@@ -203,8 +220,8 @@ pub extern "C" fn nedrubal_answers(x: &[i64; 32], y: &[i64; 6], rows: &[i64], da
 // One security evaluated on so many days, each time as it was admitted: what asking is measured beside.
 #[no_mangle]
 pub extern "C" fn nedrubal_evaluations(
-    x: &[i64; 32],
-    y: &[i64; 6],
+    x: &[i64; ADMISSION_NUMBERS],
+    y: &[i64; DAY_NUMBERS],
     rows: &[i64],
     days: u64,
 ) -> u64 {
@@ -212,8 +229,8 @@ pub extern "C" fn nedrubal_evaluations(
     let mut sum: u64 = 0;
     let mut i: u64 = 0;
     while i < days {
-        let turn = record_evaluation::evaluated(first(r), day_of(y, i), rows);
-        sum = std::num::wrapping_add_u64(sum, figure(turn.rec));
+        let effect = record_evaluation::evaluated(first(r), day_of(y, i), rows);
+        sum = std::num::wrapping_add_u64(sum, figure(effect.rec));
         i += 1;
     }
     sum
@@ -221,7 +238,12 @@ pub extern "C" fn nedrubal_evaluations(
 
 // Why each of those evaluations is answered as it is.
 #[no_mangle]
-pub extern "C" fn nedrubal_whys(x: &[i64; 32], y: &[i64; 6], rows: &[i64], days: u64) -> u64 {
+pub extern "C" fn nedrubal_whys(
+    x: &[i64; ADMISSION_NUMBERS],
+    y: &[i64; DAY_NUMBERS],
+    rows: &[i64],
+    days: u64,
+) -> u64 {
     let r = admitted(x);
     let mut sum: u64 = 0;
     let mut i: u64 = 0;
@@ -235,7 +257,7 @@ pub extern "C" fn nedrubal_whys(x: &[i64; 32], y: &[i64; 6], rows: &[i64], days:
 
 // The record's soundness judged and the record copied, so many times.
 #[no_mangle]
-pub extern "C" fn nedrubal_reads(x: &[i64; 32], times: u64) -> u64 {
+pub extern "C" fn nedrubal_reads(x: &[i64; ADMISSION_NUMBERS], times: u64) -> u64 {
     let mut r = admitted(x);
     let mut sum: u64 = 0;
     let mut i: u64 = 0;
@@ -251,8 +273,8 @@ pub extern "C" fn nedrubal_reads(x: &[i64; 32], times: u64) -> u64 {
 // The least root of a mean of squares of two volatilities.
 #[no_mangle]
 pub extern "C" fn nedrubal_root(n: u64) -> u64 {
-    if n <= 10_000_000_000_000_000 {
-        return exact::least_root(10_000, n);
+    if n <= MEAN_OF_SQUARES_MOST {
+        return exact::least_root(ONE_IN_TEN_THOUSANDTHS, n);
     }
     0
 }
