@@ -130,7 +130,8 @@ level-reason-requires-3 c κs =
     let asked = levels-may-be-asked _ _ _ (s .pre .0) (s .pre .1) in
     (asked .0, (asked .1, rates-are-level-rates _ _ _ (s .pre .0) (s .pre .1) 2))
 
--- the move, whether the replacement won, new s and t are those at P
+-- The move, whether the replacement won, new s and t are those at P. Where `rw` rewrites by the move the path is
+-- written out, since in `start` the stage of the move would be rewritten too.
 moved-to : (c : tie.After-move-of)
     → let a = start c .args in
     c .move-of .result ≡ moveTo (a .old) (a .new .p1 .units)
@@ -138,7 +139,7 @@ unfolding moveTo
 moved-to c = c .move-of .ensures
 
 chosen-is : (c : tie.After-choose)
-    → let a = start (c .before .before) .args in
+    → let a = c .before .before .before .before .before .before .before .before .before .before .before .args in
     c .choose .result
     ≡ chosen (modelOf (a .old .statics)) (a .d .b) (millionthsInBp * rateAt (a .old .rates) 0)
     (moveTo (a .old) (a .new .p1 .units)) (a .old .s)
@@ -151,11 +152,11 @@ unfolding replacedAt
 replaced-is c = ap (λ (v : Volatility). v .replaced) (chosen-is c)
 
 step-is : (c : tie.After-tentative-rate-of)
-    → let a = start (c .before .before .before) .args in
+    → let a = c .before .before .before .before .before .before .before .before .before .before .before .before .args in
     c .tentative-rate-of .result ≡ stepAt (a .old) (a .d) (a .new .p1 .units)
 unfolding stepAt replacedAt modelled
 step-is c =
-    let s = start (c .before .before .before) in
+    let s = c .before .before .before .before .before .before .before .before .before .before .before .before in
     rw (
       c .tentative-rate-of .ensures,
       chosen-is (c .before),
