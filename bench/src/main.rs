@@ -1,5 +1,5 @@
 //! Evaluates a sheet of securities with 16 rows each by the reference, by the tuned version and by the proved rules
-//! (the archive of the crate `sheet`) in one process, by turns, and makes the divisions of an evaluation alone. It
+//! (the archives of `sheet` and `sheet_answers`) in one process, by turns, and makes the divisions of an evaluation alone. It
 //! prints the time of each, the ratios, the spread over repeats, how the cost grows with the securities and the rows,
 //! and the share of each part. Then it asks why of the evaluations beside evaluating, and takes the root by the proved
 //! code, which does not divide, and by a root that does.

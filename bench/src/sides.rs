@@ -43,7 +43,13 @@ extern "C" {
         rows_len: usize,
         days: u64,
     ) -> u64;
-    fn nedrubal_reads(x: *const [i64; ADMISSION], times: u64) -> u64;
+    fn nedrubal_reads(
+        x: *const [i64; ADMISSION],
+        y: *const [i64; 6],
+        rows: *const i64,
+        rows_len: usize,
+        times: u64,
+    ) -> u64;
     fn nedrubal_root(n: u64) -> u64;
 }
 
@@ -84,7 +90,7 @@ pub fn asked_why(security: &Security, days: u64) -> u64 {
 
 /// The record judged sound by the proved rule and copied, so many times.
 pub fn proved_reads(security: &Security, times: u64) -> u64 {
-    unsafe { nedrubal_reads(&security.admit, times) }
+    over_days(nedrubal_reads, security, times)
 }
 
 /// The least x with 10,000·x² ≥ n by the proved code.
