@@ -33,9 +33,9 @@ fn level_figure(st: Statics, tentative: u64, m: u64, level: u64) -> Rate
     ensures { λ r. ⌜ r .bp ≡ levelFigure st tentative m level ⌝ }
 {
     if st.ewma {
-        return rates::level::level_rate(st, level, m, tentative);
+        return rates_level::level_rate(st, level, m, tentative);
     }
-    let own = rates::level::level_of(st, level);
+    let own = rates_level::level_of(st, level);
     own.minimum
 }
 

@@ -1,4 +1,3 @@
--- The laws that the proofs of the rate rules share: the statics, the choice of the volatility, the least rate.
+-- The laws that the proofs of the rate rules share: the statics, the choice of the volatility.
 pub mod Statics
 pub mod Volatilities
-pub mod Reach

@@ -1,7 +1,5 @@
-// The rates (7.1): from the move of a day to its volatility, the tentative rate, and a rate for each level. The rules
-// take statics and figures, and no security.
-mod guess; // a guess of that rate
-pub mod level; // the rate of a level
+// The rates (7.1): from the move of a day to its volatility, the tentative rate, and the rates that `rates_level` makes
+// of it. The rules take statics and figures, and no security.
 pub mod tentative; // the tentative rate
 pub mod volatility; // the move and the volatility
 
@@ -10,7 +8,8 @@ ghost use mathlib.Core.Bool.{false};
 ghost use Prim.Native.Nat.{_≤_};
 ghost use Rattle.paper.specs.Numbers.{volatilityMost};
 ghost use Rattle.paper_desk.specs.Rates.{ratedBy, modelled, unmodelled, figuresOf, figuresByVolatility, moveTooLarge};
-ghost use Rattle.rates.specs.Asked.{RateStatics, RatedRanges, VolatilityRanges, FigureRanges};
+ghost use Rattle.rates_level.specs.Asked.{RateStatics};
+ghost use Rattle.rates.specs.Asked.{RatedRanges, VolatilityRanges, FigureRanges};
 use paper::Figures;
 use paper::MILLIONTHS_IN_BP;
 use paper::Rate;
@@ -31,7 +30,7 @@ fn rated(st: Statics, m: u64, t: u64, s: u64, old: Tentative) -> Figures
     ensures { λ f. ⌜ f ≡ ratedBy st m t s old ⌝ }
 {
     let tentative = tentative::tentative_after(st.h, st.wait, t, old);
-    let rates = level::rates_of(st, m, tentative.bp);
+    let rates = rates_level::rates_of(st, m, tentative.bp);
     Figures {
         s,
         tentative,
@@ -54,7 +53,7 @@ fn unmodelled(st: Statics, s: u64, old: Tentative) -> Figures
     requires { ⌜ RateStatics st ⌝ }
     ensures { λ f. ⌜ f ≡ unmodelled st s old ⌝ }
 {
-    let rates = level::minima(st);
+    let rates = rates_level::minima(st);
     Figures {
         s,
         tentative: old,

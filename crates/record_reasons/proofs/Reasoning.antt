@@ -31,8 +31,10 @@ use Rattle.evaluation.specs.declared.PriceFigures.{PriceFigures}
 use Rattle.evaluation.specs.Evaluation.{priceFigures, pricedOf}
 use Rattle.record_soundness.proofs.Facts.{sound-facts}
 use Rattle.inputs.proofs.Facts.{day-facts}
-use Rattle.rates.specs.Asked.{FigureRanges, tentativeBound}
-use Rattle.rates.proofs.Statics.{sound-figures-in-ranges, within-tentative-bound}
+use Rattle.rates_level.specs.Asked.{tentativeBound}
+use Rattle.rates_level.proofs.Statics.{within-tentative-bound}
+use Rattle.rates.specs.Asked.{FigureRanges}
+use Rattle.rates.proofs.Statics.{sound-figures-in-ranges}
 use Rattle.record_writing.specs.declared.Made.{Made}
 use Rattle.record_writing.specs.Evaluates.{moveTo, figuresAt, madeOf}
 use Rattle.record_answers.specs.declared.Slot.{Slot}

@@ -5,7 +5,7 @@ ghost use Prim.Native.Nat.{_+_, _^_, _≤_, _<_};
 ghost use Rattle.paper.specs.Numbers.{aheadMost, rateMost};
 ghost use Rattle.paper.specs.Ranges.{validStatics};
 ghost use Rattle.paper_desk.specs.Rates.{levelRate};
-ghost use Rattle.rates.specs.Asked.{tentativeBound};
+ghost use Rattle.rates_level.specs.Asked.{tentativeBound};
 ghost use Rattle.paper_reasons.specs.Reasons.{firstThatHolds, weightIs, weightReasons, replacementWas};
 ghost use Rattle.paper_reasons.specs.Reasons.{replacementReasons, tentativeDid, tentativeReasons, levelSetBy};
 ghost use Rattle.paper_reasons.specs.Reasons.{levelReason};
@@ -24,12 +24,12 @@ use paper_reasons::Reasons;
 use paper_reasons::ReplacementReason;
 use paper_reasons::TentativeReason;
 use paper_reasons::WeightReason;
-use rates::level::covers;
-use rates::level::level_of;
 use rates::tentative::tentative_rate_of;
 use rates::volatility::choose;
 use rates::volatility::model_of;
 use rates::volatility::move_of;
+use rates_level::covers;
+use rates_level::level_of;
 use record_writing::Made;
 
 // "(close, bid, ask, or yesterday)"

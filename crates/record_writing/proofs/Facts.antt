@@ -24,9 +24,9 @@ use Rattle.paper_desk.specs.Limits.{deltaOf}
 use Rattle.paper.proofs.Logic.{and-left, and-right, each-of-three}
 use Rattle.inputs.proofs.Facts.{quote-facts}
 use Rattle.record_soundness.proofs.Facts.{sound-facts}
-use Rattle.rates.specs.Asked.{RateStatics}
-use Rattle.rates.proofs.Statics.{valid-are-rate-statics, level-statics}
-use Rattle.rates.proofs.Reach.{level-rate-within-most}
+use Rattle.rates_level.specs.Asked.{RateStatics}
+use Rattle.rates_level.proofs.Statics.{valid-are-rate-statics, level-statics}
+use Rattle.rates_level.proofs.Reach.{level-rate-within-most}
 use Rattle.limits.specs.LimitRanges.{RangeInputs, TermInputs, valid-limit-statics}
 use Rattle.limits.specs.LimitBounds.{delta-high}
 use Rattle.alerts.specs.Nearness.{NearRange}

@@ -42,7 +42,7 @@ pub fn admitted(a: Admission, p1: Price, p2: Price) -> Record
 {
     let given = a.given;
     let statics = inputs::statics_of(given);
-    let rates = rates::level::minima(statics);
+    let rates = rates_level::minima(statics);
     Record {
         id: a.id,
         statics,

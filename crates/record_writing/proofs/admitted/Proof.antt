@@ -3,7 +3,7 @@
 use borrow.Author.Needs.{needs}
 use Rattle.paper_desk.specs.Desk.{admitted}
 use Rattle.inputs.proofs.Facts.{admission-facts}
-use Rattle.rates.proofs.Statics.{valid-are-rate-statics}
+use Rattle.rates_level.proofs.Statics.{valid-are-rate-statics}
 use Rattle.record_writing.proofs.admitted.Statement.{statement}
 use Rattle.record_writing.proofs.admitted.Tie as tie
 

@@ -4,7 +4,7 @@ use mathlib.Core.Path.{sym, _∙_}
 use borrow.Author.Needs.{needs}
 use Rattle.paper_desk.specs.Gateway.{levelFigure}
 use Rattle.paper.proofs.Logic.{pick-true, pick-false}
-use Rattle.rates.proofs.Statics.{valid-are-rate-statics, within-tentative-bound}
+use Rattle.rates_level.proofs.Statics.{valid-are-rate-statics, within-tentative-bound}
 use Rattle.gateway.specs.GatewayLaws.{level-inputs}
 use Rattle.gateway.proofs.level.level_figure.Statement.{statement}
 use Rattle.gateway.proofs.level.level_figure.Tie as tie

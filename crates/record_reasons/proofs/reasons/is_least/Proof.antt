@@ -10,8 +10,8 @@ use mathlib.Core.Path.{_≡_, sym, ap, _∙_}
 use mathlib.Core.Bool.{true, false, not}
 use Prim.Native.Nat.{ℕ, _-_, _≤_, _<_}
 use native.Mathlib.Omega.{arith}
-use Rattle.rates.proofs.Statics.{valid-are-rate-statics}
-use Rattle.rates.proofs.Reach.{level-rate-within-most}
+use Rattle.rates_level.proofs.Statics.{valid-are-rate-statics}
+use Rattle.rates_level.proofs.Reach.{level-rate-within-most}
 use Rattle.paper_reasons.proofs.Levels.{rate-at-least-a-step, uncovered-not-required, zero-required, a-step-below}
 use Rattle.record_reasons.proofs.reasons.is_least.Statement.{statement}
 use Rattle.record_reasons.proofs.reasons.is_least.Tie as tie

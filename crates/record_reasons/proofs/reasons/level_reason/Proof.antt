@@ -5,11 +5,11 @@ use Prim.Native.Nat.{ℕ}
 use lib.Dec.{eqb}
 use Rattle.paper.specs.declared.Statics.{Statics}
 use Rattle.paper_desk.specs.Rates.{minimumOf}
-use Rattle.rates.specs.declared.level.Level.{Level}
+use Rattle.rates_level.specs.declared.Level.{Level}
 use Rattle.paper_reasons.specs.declared.LevelReason.the-variants as level
 use mathlib.Core.Path.{_≡_, sym, ap, _∙_}
 use borrow.Author.Tests.{eq-eqb, ne-eqb}
-use Rattle.rates.proofs.Statics.{valid-are-rate-statics}
+use Rattle.rates_level.proofs.Statics.{valid-are-rate-statics}
 use Rattle.paper_reasons.specs.Reasons.{levelSetBy}
 use Rattle.paper_reasons.proofs.Levels.{level-reason-is-first, maximum-left}
 use borrow.Author.Needs.{needs}

@@ -7,8 +7,9 @@ use Rattle.rates.specs.declared.volatility.Volatility.{Volatility}
 use Rattle.rates.specs.Chosen.{chosen}
 use Rattle.paper_desk.proofs.Bounds.{volatility-high}
 use Rattle.paper_desk.proofs.TentativeRange.{valid-tentative-within-top, tentative-rate-in}
-use Rattle.rates.specs.Asked.{tentativeBound}
-use Rattle.rates.proofs.Statics.{rates-weighing, within-tentative-bound}
+use Rattle.rates_level.specs.Asked.{tentativeBound}
+use Rattle.rates_level.proofs.Statics.{within-tentative-bound}
+use Rattle.rates.proofs.Statics.{rates-weighing}
 use Rattle.record_writing.specs.Evaluates.{moveTo}
 use Rattle.record_evaluation.proofs.Evaluations.{sound-prices-valid}
 use Rattle.record_reasons.proofs.Reasoning.{allowed-move-within-most, figures-modelled, figures-in-ranges}
