@@ -20,13 +20,17 @@ const MONEY_MOST: i64 = Bond::MONEY_MOST as i64;
 
 // ---- ranges
 
-// "0 to 10^10 units, days 1..30"
+// "0 to 10^10 units, days 1..30": the day, then the amount
+const LEAST: [i64; Flow::NUMBERS] = [Flow::DAY_LEAST, 0];
+
+const MOST: [i64; Flow::NUMBERS] = [Flow::DAY_MOST, MONEY_MOST];
+
+// Whether the day and the amount of a cash flow are in their ranges.
 fn flow_valid(numbers: &[i64], at: usize) -> bool
     requires { ⌜ at + flowNumbers ≤ length (now numbers) ⌝ }
     ensures { λ r. ⌜ r ≡ validFlow (flowAt (now (numbers .entry)) at) ⌝ }
 {
-    exact::within_at(numbers, at, Flow::DAY_LEAST, Flow::DAY_MOST)
-        & exact::within_at(numbers, at + 1, 0, MONEY_MOST)
+    exact::all_within(numbers, at, &LEAST, &MOST)
 }
 
 fn every_flow_valid(numbers: &[i64]) -> bool

@@ -5,3 +5,4 @@ pub mod Remainders
 pub mod RootInputs
 pub mod SignedLaws
 pub mod Wide
+pub mod Within

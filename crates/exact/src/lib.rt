@@ -15,6 +15,7 @@ ghost use Rattle.paper.specs.Ranges.{withinZ, unsigned};
 ghost use Rattle.exact.specs.Remainders.{goesUp};
 ghost use Rattle.exact.specs.Wide.{Divides, LimitRange};
 ghost use Rattle.exact.specs.SignedLaws.{Grows};
+ghost use Rattle.exact.specs.Within.{allWithin};
 
 // ---- the roundings
 
@@ -239,6 +240,22 @@ pub fn within_at(numbers: &[i64], i: usize, low: i64, high: i64) -> bool
     ensures { λ r. ⌜ r ≡ withinZ low high (getD (now (numbers .entry)) i (pos 0)) ⌝ }
 {
     is_within(low, high, numbers[i])
+}
+
+// Whether the numbers from `at` on, as many as there are ranges, are each from its least to its most. The tests are
+// joined without branches: what is lent is nearly always in range.
+pub fn all_within(numbers: &[i64], at: usize, least: &[i64], most: &[i64]) -> bool
+    requires { ⌜ at + length (now least) ≤ length (now numbers) ⌝ }
+    requires { ⌜ length (now most) ≡ length (now least) ⌝ }
+    ensures { λ r. ⌜ r ≡ allWithin (now (least .entry)) (now (most .entry)) (now (numbers .entry)) at ⌝ }
+{
+    let mut all = true;
+    let mut i = 0;
+    while i < least.len() {
+        all = all & within_at(numbers, at + i, least[i], most[i]);
+        i += 1;
+    }
+    all
 }
 
 // ---- the lesser and the greater

@@ -24,19 +24,36 @@ const AGE_MOST: i64 = Record::AGE_MOST as i64;
 
 // ---- ranges
 
-// The tests are joined without branches: a maturity of an evening is nearly always in range.
+// "Rates given lie in -9,999..9,999 bp, .. old volatility in 0..19,998, old tentative rate in 0..200,979, .. key
+// maturities in 0..365 days, the rest as for shares"
+const LEAST: [i64; Maturity::NUMBERS] = [
+    0,
+    Term::REPO_LEAST,
+    Term::REPO_LEAST,
+    Term::REPO_LEAST,
+    Term::REPO_LEAST,
+    0,
+    0,
+    0,
+];
+
+const MOST: [i64; Maturity::NUMBERS] = [
+    DAYS_MOST,
+    Term::REPO_MOST,
+    Term::REPO_MOST,
+    Term::REPO_MOST,
+    Term::REPO_MOST,
+    VOLATILITY_MOST,
+    TENTATIVE_MOST,
+    AGE_MOST,
+];
+
+// Whether each number of a key maturity is in its range.
 fn key_valid(numbers: &[i64], at: usize) -> bool
     requires { ⌜ at + keyNumbers ≤ length (now numbers) ⌝ }
     ensures { λ r. ⌜ r ≡ validKey (keyAt (now (numbers .entry)) at) ⌝ }
 {
-    exact::within_at(numbers, at, 0, DAYS_MOST)
-        & exact::within_at(numbers, at + 1, Term::REPO_LEAST, Term::REPO_MOST)
-        & exact::within_at(numbers, at + 2, Term::REPO_LEAST, Term::REPO_MOST)
-        & exact::within_at(numbers, at + 3, Term::REPO_LEAST, Term::REPO_MOST)
-        & exact::within_at(numbers, at + 4, Term::REPO_LEAST, Term::REPO_MOST)
-        & exact::within_at(numbers, at + 5, 0, VOLATILITY_MOST)
-        & exact::within_at(numbers, at + 6, 0, TENTATIVE_MOST)
-        & exact::within_at(numbers, at + 7, 0, AGE_MOST)
+    exact::all_within(numbers, at, &LEAST, &MOST)
 }
 
 // Whether every number of every key maturity is in its range.

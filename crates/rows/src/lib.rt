@@ -18,6 +18,20 @@ const PRICE_MOST: i64 = Price::MOST_UNITS as i64;
 
 const VOLUME_MOST: i64 = Row::VOLUME_MOST as i64;
 
+// "A row: T 0..30; central rate 1..10^7 ten-thousandths; repo rate -9,999..9,999 bp; close, bid, ask 0..10^10; volume
+// 0..10^8 thousands."
+const LEAST: [i64; Row::NUMBERS] = [0, 1, Term::REPO_LEAST, 0, 0, 0, 0];
+
+const MOST: [i64; Row::NUMBERS] = [
+    Row::TERM_MOST,
+    Row::CENTRAL_MOST,
+    Term::REPO_MOST,
+    PRICE_MOST,
+    PRICE_MOST,
+    PRICE_MOST,
+    VOLUME_MOST,
+];
+
 // What every row of a day is asked: that its numbers are in range, else 6, and that it is not crossed, else 16.
 enum RowTest {
     InRange,
@@ -34,19 +48,12 @@ fn close_for_volume(rows: &[i64], v: usize, c: usize) -> bool
     (volume <= 0) | (1 <= close)
 }
 
-// The tests are joined without branches: a row of a day is nearly always in range.
+// Whether each number of a row is in its range, and there is a close for a volume.
 pub fn row_valid(rows: &[i64], at: usize) -> bool
     requires { ⌜ at + rowNumbers ≤ length (now rows) ⌝ }
     ensures { λ r. ⌜ r ≡ validRow (rowAt (now (rows .entry)) at) ⌝ }
 {
-    exact::within_at(rows, at, 0, Row::TERM_MOST)
-        & exact::within_at(rows, at + 1, 1, Row::CENTRAL_MOST)
-        & exact::within_at(rows, at + 2, Term::REPO_LEAST, Term::REPO_MOST)
-        & exact::within_at(rows, at + 3, 0, PRICE_MOST)
-        & exact::within_at(rows, at + 4, 0, PRICE_MOST)
-        & exact::within_at(rows, at + 5, 0, PRICE_MOST)
-        & exact::within_at(rows, at + 6, 0, VOLUME_MOST)
-        & close_for_volume(rows, at + 6, at + 3)
+    exact::all_within(rows, at, &LEAST, &MOST) & close_for_volume(rows, at + 6, at + 3)
 }
 
 // The row that begins at a place and is in range: no number of it but the repo rate is below zero, so each is read as

@@ -1,21 +1,15 @@
--- `bond_flows::flow_valid` meets its contract: its two tests are the definition's. Assumes nothing.
+-- `bond_flows::flow_valid` meets its contract: its two tables have the definition's ranges, in its order. Assumes
+-- nothing.
+use native.Mathlib.Nat.{add-zero}
 use borrow.Author.Needs.{needs}
+use Rattle.exact.specs.Within.{withinFirst}
 use Rattle.paper_bonds.specs.Bonds.{validFlow, flowAt}
 use Rattle.bond_flows.proofs.flow_valid.Statement.{statement}
 use Rattle.bond_flows.proofs.flow_valid.Tie as tie
 
-within-at-requires : tie.Need-within-at-requires
-within-at-requires c κs = search needs
-
-add-within-at : tie.Need-add-within-at
-add-within-at c = search needs
-
-within-at-requires-2 : tie.Need-within-at-requires-2
-within-at-requires-2 c κs = search needs
-
 returns : tie.Need-returns
-unfolding validFlow flowAt
-returns c = rw (c .within-at2 .ensures, c .before .within-at .ensures)
+unfolding validFlow flowAt withinFirst
+returns c = rw (c .all-within .ensures, add-zero)
 
 pub flow-valid-spec : {M : Type 1} → statement M
-flow-valid-spec = tie.close (tie.spec within-at-requires add-within-at within-at-requires-2 returns)
+flow-valid-spec = tie.close (tie.spec (λ c. search needs) (λ c. search needs) (λ c κs. search needs) returns)
