@@ -25,26 +25,12 @@ const LEAST: [i64; Flow::NUMBERS] = [Flow::DAY_LEAST, 0];
 
 const MOST: [i64; Flow::NUMBERS] = [Flow::DAY_MOST, MONEY_MOST];
 
-// Whether the day and the amount of a cash flow are in their ranges.
-fn flow_valid(numbers: &[i64], at: usize) -> bool
-    requires { ⌜ at + flowNumbers ≤ length (now numbers) ⌝ }
-    ensures { λ r. ⌜ r ≡ validFlow (flowAt (now (numbers .entry)) at) ⌝ }
-{
-    exact::all_within(numbers, at, &LEAST, &MOST)
-}
-
+// Whether the day and the amount of every cash flow are in their ranges.
 fn every_flow_valid(numbers: &[i64]) -> bool
     requires { ⌜ length (now numbers) % flowNumbers ≡ 0 ⌝ }
     ensures { λ r. ⌜ r ≡ every validFlow (lentFlows (now (numbers .entry))) ⌝ }
 {
-    let mut at = 0;
-    while at < numbers.len() {
-        if !flow_valid(numbers, at) {
-            return false;
-        }
-        at += Flow::NUMBERS;
-    }
-    true
+    exact::every_within(numbers, &LEAST, &MOST)
 }
 
 // "at most four cash flows", each whole.

@@ -15,7 +15,7 @@ ghost use Rattle.paper.specs.Ranges.{withinZ, unsigned};
 ghost use Rattle.exact.specs.Remainders.{goesUp};
 ghost use Rattle.exact.specs.Wide.{Divides, LimitRange};
 ghost use Rattle.exact.specs.SignedLaws.{Grows};
-ghost use Rattle.exact.specs.Within.{allWithin};
+ghost use Rattle.exact.specs.Within.{allWithin, everyWithin};
 
 // ---- the roundings
 
@@ -256,6 +256,22 @@ pub fn all_within(numbers: &[i64], at: usize, least: &[i64], most: &[i64]) -> bo
         i += 1;
     }
     all
+}
+
+// Whether every part of a lent slice is, where its parts have as many numbers as there are ranges.
+pub fn every_within(numbers: &[i64], least: &[i64], most: &[i64]) -> bool
+    requires { ⌜ (0 < length (now least)) × (length (now most) ≡ length (now least)) ⌝ }
+    requires { ⌜ length (now numbers) % length (now least) ≡ 0 ⌝ }
+    ensures { λ r. ⌜ r ≡ everyWithin (now (least .entry)) (now (most .entry)) (now (numbers .entry)) ⌝ }
+{
+    let mut at = 0;
+    while at < numbers.len() {
+        if !all_within(numbers, at, least, most) {
+            return false;
+        }
+        at += least.len();
+    }
+    true
 }
 
 // ---- the lesser and the greater

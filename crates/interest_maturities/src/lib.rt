@@ -48,27 +48,12 @@ const MOST: [i64; Maturity::NUMBERS] = [
     AGE_MOST,
 ];
 
-// Whether each number of a key maturity is in its range.
-fn key_valid(numbers: &[i64], at: usize) -> bool
-    requires { ⌜ at + keyNumbers ≤ length (now numbers) ⌝ }
-    ensures { λ r. ⌜ r ≡ validKey (keyAt (now (numbers .entry)) at) ⌝ }
-{
-    exact::all_within(numbers, at, &LEAST, &MOST)
-}
-
 // Whether every number of every key maturity is in its range.
 fn every_key_valid(numbers: &[i64]) -> bool
     requires { ⌜ length (now numbers) % keyNumbers ≡ 0 ⌝ }
     ensures { λ r. ⌜ r ≡ every validKey (keysOf (now (numbers .entry))) ⌝ }
 {
-    let mut at = 0;
-    while at < numbers.len() {
-        if !key_valid(numbers, at) {
-            return false;
-        }
-        at += Maturity::NUMBERS;
-    }
-    true
+    exact::every_within(numbers, &LEAST, &MOST)
 }
 
 // "one to eight key maturities", each whole.

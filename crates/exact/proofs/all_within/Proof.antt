@@ -7,7 +7,7 @@ use native.Mathlib.Omega.{arith}
 use lib.ListN.{length}
 use mir.Syntax.{w64}
 use mir.Facts.{toZ-ofZ}
-use borrow.Author.Needs.{needs}
+use borrow.Author.Needs.{needs, sfits-of}
 use Rattle.exact.specs.Within.{withinFirst}
 use Rattle.exact.proofs.all_within.Statement.{statement}
 use Rattle.exact.proofs.all_within.Tie as tie
@@ -56,8 +56,8 @@ loop-again c =
         add-one,
         ← least .before .before .loop .inv .1,
         c .within-at .ensures,
-        toZ-ofZ {w = w64} (record { sfits = least .within-at-arg .given }),
-        toZ-ofZ {w = w64} (record { sfits = most .within-at-arg2 .given }),
+        toZ-ofZ (sfits-of {w = w64} (least .within-at-arg .given)),
+        toZ-ofZ (sfits-of {w = w64} (most .within-at-arg2 .given)),
       ),
     )
 
