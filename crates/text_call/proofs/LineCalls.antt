@@ -1,19 +1,22 @@
 -- The request of each kind of line is the line's call. Assumes nothing.
-use mathlib.Core.Path.{_≡_, sym, _∙_}
+use mathlib.Core.Path.{_≡_, refl, sym, _∙_}
+use mathlib.Core.Bool.{true, false}
 use mathlib.Core.List.{List}
-use Prim.Native.Nat.{ℕ}
-use lib.Dec.{eqb}
+use Prim.Native.Nat.{ℕ, zero, suc, _+_, _-_, _≤_}
+use native.Mathlib.Omega.{arith}
+use lib.Dec.{leb}
 use lib.Ieee.{Float}
 use lib.IntN.{ℤ, pos}
 use lib.ListN.{length, drop, getD}
-use borrow.Author.Tests.{ne-eqb}
+use borrow.Author.Tests.{leb-true, ne-eqb}
 use Rattle.paper.specs.declared.Admission.{Admission}
 use Rattle.paper.specs.declared.AskedDay.{AskedDay}
 use Rattle.paper.specs.declared.Quote.{Quote}
 use Rattle.paper.specs.declared.Outside.{Outside}
 use Rattle.paper.specs.declared.Notice.{Notice}
-use Rattle.paper.specs.declared.Notice.the-variants.{Bid, Ask, Withdrawal}
-use Rattle.paper.specs.Ranges.{unsigned}
+use Rattle.paper.specs.declared.Notice.the-variants.{Withdrawal}
+use Rattle.paper.specs.Ranges.{within, unsigned}
+use Rattle.paper.proofs.Logic.{and-left, and-right}
 use Rattle.text_protocol.specs.declared.Kept.{Kept}
 use Rattle.text_protocol.specs.declared.Pairs.{Pairs}
 use Rattle.text_protocol.specs.Names.{the, placeOf, code, evaluateNames, quoteNames, moveNames, readNames, openNames}
@@ -22,7 +25,9 @@ use Rattle.text_protocol.specs.Names.{moveKind, readKind, openKind, outsideKind
 use Rattle.text_protocol.specs.Names.{evaluateCount}
 use Rattle.text_protocol.specs.Calls.{admissionOf, quoteOf, floatOf, outsideOf, noticeCall, askedOf, figuresOf}
 use Rattle.text_call.specs.declared.Request.{Request}
-use Rattle.text_call.specs.Requests.{requestCall, noticeLine, lineCall, noAdmission, noDay, noQuote, noOutside}
+use Rattle.text_call.specs.Requests.{requestCall, noticeLine, lineCall, ofId, ofOutside}
+use Rattle.paper_desk.specs.Desk.{receive}
+use Rattle.paper_desk.specs.External.{notice}
 
 module _ (k : Kept) (kind : ℕ) (zs : List ℤ) (p : Pairs) where
   pub admit-line : (a : Admission) (d : AskedDay) (q : Quote) (x : Outside) (y : Notice) → kind ≡ admitKind
@@ -58,48 +63,28 @@ module _ (k : Kept) (kind : ℕ) (zs : List ℤ) (p : Pairs) where
   unfolding lineCall figuresOf the placeOf code evaluateNames
   evaluate-line id a d q x y e f g = rw (e, f, g)
 
-  module _ (r : Request) (id side : ℕ) (q : Quote)
-      (is : r ≡ record {
-        kind = kind;
-        id = id;
-        admission = noAdmission;
-        day = noDay;
-        quote = q;
-        side = side;
-        outside =
-            noOutside;
-        notice = Withdrawal;
-      }) where
-    pub quote-line : kind ≡ quoteKind → id ≡ unsigned (getD zs 0 (pos 0)) → q ≡ quoteOf zs
-        → requestCall r (drop evaluateCount zs) ≡ lineCall k kind zs p
-    unfolding lineCall the placeOf code quoteNames
-    quote-line e f g = rw (is, e, f, g)
+  -- a quote, a move, a read and an opening: all that a line of theirs may give is read, and each looks at its own
+  pub id-line : (r : Request) (id side : ℕ) (q : Quote) → r ≡ ofId kind id q side
+      → within quoteKind openKind kind ≡ true → id ≡ unsigned (getD zs 0 (pos 0)) → q ≡ quoteOf zs
+      → side ≡ unsigned (getD zs 1 (pos 0))
+      → requestCall r (drop evaluateCount zs) ≡ lineCall k kind zs p
+  unfolding lineCall the placeOf code quoteNames moveNames readNames openNames
+  id-line r id side q is t f g h =
+      let low : quoteKind ≤ kind = leb-true _ _ (and-left (leb quoteKind kind) (leb kind openKind) t) in
+      let high : kind ≤ openKind = leb-true _ _ (and-right (leb quoteKind kind) (leb kind openKind) t) in
+      rw (is, f, g, h) (go (kind - quoteKind) (omega arith) (omega arith))
+    where
+      go : (n : ℕ) → kind ≡ quoteKind + n → n ≤ 3
+          → requestCall (ofId kind (unsigned (getD zs 0 (pos 0))) (quoteOf zs) (unsigned (getD zs 1 (pos 0))))
+          (drop evaluateCount zs)
+          ≡ lineCall k kind zs p
+      go zero e h = rw e
+      go (suc zero) e h = rw e
+      go (suc (suc zero)) e h = rw e
+      go (suc (suc (suc zero))) e h = rw e
+      go (suc (suc (suc (suc n)))) e h = absurd (omega arith)
 
-    pub move-line : kind ≡ moveKind → id ≡ unsigned (getD zs 0 (pos 0)) → side ≡ unsigned (getD zs 1 (pos 0))
-        → requestCall r (drop evaluateCount zs) ≡ lineCall k kind zs p
-    unfolding lineCall the placeOf code moveNames
-    move-line e f g = rw (is, e, f, g)
-
-    pub read-line : kind ≡ readKind → id ≡ unsigned (getD zs 0 (pos 0))
-        → requestCall r (drop evaluateCount zs) ≡ lineCall k kind zs p
-    unfolding lineCall the placeOf code readNames
-    read-line e f = rw (is, e, f)
-
-    pub open-line : kind ≡ openKind → id ≡ unsigned (getD zs 0 (pos 0))
-        → requestCall r (drop evaluateCount zs) ≡ lineCall k kind zs p
-    unfolding lineCall the placeOf code openNames
-    open-line e f = rw (is, e, f)
-
-  pub outside-line : (r : Request) (id : ℕ) (x : Outside) (y : Notice) → r ≡ record {
-    kind = kind;
-    id = id;
-    admission = noAdmission;
-    day = noDay;
-    quote = noQuote;
-    side = 0;
-    outside = x;
-    notice = y;
-  }
+  pub outside-line : (r : Request) (id : ℕ) (x : Outside) (y : Notice) → r ≡ ofOutside kind id x y
       → kind ≡ outsideKind → id ≡ unsigned (getD zs 0 (pos 0)) → x ≡ outsideOf zs
       → requestCall r (drop evaluateCount zs) ≡ lineCall k kind zs p
   unfolding lineCall the placeOf code outsideNames
@@ -110,92 +95,48 @@ module _ (k : Kept) (kind : ℕ) (zs : List ℤ) (p : Pairs) where
   unfolding lineCall
   notice-line r e f = rw e f
 
-  pub withdraw-line : (r : Request) (id : ℕ) (x : Outside) → r ≡ record {
-    kind = noticeKind;
-    id = id;
-    admission = noAdmission;
-    day = noDay;
-    quote = noQuote;
-    side = 0;
-    outside = x;
-    notice = Withdrawal;
-  }
+  pub withdraw-line : (r : Request) (id : ℕ) (x : Outside) → r ≡ ofOutside noticeKind id x Withdrawal
       → kind ≡ withdrawKind → id ≡ unsigned (getD zs 0 (pos 0))
       → requestCall r (drop evaluateCount zs) ≡ lineCall k kind zs p
   unfolding lineCall the placeOf code withdrawNames
   withdraw-line r id x is e f = rw (is, e, f)
 
-  pub other-line : (r : Request) (q : Quote) → r ≡ record {
-    kind = readKind;
-    id = 0;
-    admission = noAdmission;
-    day = noDay;
-    quote = q;
-    side = 0;
-    outside = noOutside;
-    notice = Withdrawal;
-  }
-      → (kind ≡ admitKind → ⊥) → (kind ≡ evaluateKind → ⊥) → (kind ≡ quoteKind → ⊥) → (kind ≡ moveKind → ⊥)
-      → (kind ≡ readKind → ⊥) → (kind ≡ openKind → ⊥) → (kind ≡ outsideKind → ⊥) → (kind ≡ noticeKind → ⊥)
-      → (kind ≡ withdrawKind → ⊥)
+  pub other-line : (r : Request) (q : Quote) → r ≡ ofId readKind 0 q 0
+      → (kind ≡ admitKind → ⊥) → (kind ≡ evaluateKind → ⊥) → within quoteKind openKind kind ≡ false
+      → (kind ≡ outsideKind → ⊥) → (kind ≡ noticeKind → ⊥) → (kind ≡ withdrawKind → ⊥)
       → requestCall r (drop evaluateCount zs) ≡ lineCall k kind zs p
   unfolding lineCall
-  other-line r q is a b c d e f g h i =
+  other-line r q is a b c g h i =
       rw (
         is,
         ne-eqb kind admitKind a,
         ne-eqb kind evaluateKind b,
-        ne-eqb kind quoteKind c,
-        ne-eqb kind moveKind d,
-        ne-eqb kind readKind e,
-        ne-eqb kind openKind f,
+        ne-eqb kind quoteKind (none quoteKind refl),
+        ne-eqb kind moveKind (none moveKind refl),
+        ne-eqb kind readKind (none readKind refl),
+        ne-eqb kind openKind (none openKind refl),
         ne-eqb kind outsideKind g,
         ne-eqb kind noticeKind h,
         ne-eqb kind withdrawKind i,
       )
+    where
+      -- it is none of those that only name an id
+      none : (x : ℕ) → within quoteKind openKind x ≡ true → kind ≡ x → ⊥
+      none x t e = let z : _≡_ {A = ℕ} 0 1 = cc in omega arith
 
 -- ---- a notice, by its side
 
 module _ (zs : List ℤ) (id side : ℕ) (f : Float) (at-id : id ≡ unsigned (getD zs 0 (pos 0)))
     (at-side : side ≡ unsigned (getD zs 1 (pos 0))) (at-bits : f ≡ floatOf (getD zs 2 (pos 0))) (r : Request) where
-  pub bid-line : (x : Outside) → r ≡ record {
-    kind = noticeKind;
-    id = id;
-    admission = noAdmission;
-    day = noDay;
-    quote = noQuote;
-    side = 0;
-    outside = x;
-    notice = Bid f;
-  }
-      → side ≡ 0 → requestCall r (drop evaluateCount zs) ≡ noticeLine zs
-  unfolding noticeLine noticeCall the placeOf code noticeNames
-  bid-line x is e = rw (is, at-id, at-bits, sym at-side ∙ e)
+  -- of a side that the source sends
+  pub sent-line : (x : Outside) (y : Notice) (n : ℕ) → r ≡ ofOutside noticeKind id x y → side ≡ n
+      → noticeCall id n f ≡ receive id (notice y)
+      → requestCall r (drop evaluateCount zs) ≡ noticeLine zs
+  unfolding noticeLine the placeOf code noticeNames
+  sent-line x y n is e sends = rw (is, ← at-id, ← at-side, ← at-bits, e) (sym sends)
 
-  pub ask-line : (x : Outside) → r ≡ record {
-    kind = noticeKind;
-    id = id;
-    admission = noAdmission;
-    day = noDay;
-    quote = noQuote;
-    side = 0;
-    outside = x;
-    notice = Ask f;
-  }
-      → side ≡ 1 → requestCall r (drop evaluateCount zs) ≡ noticeLine zs
-  unfolding noticeLine noticeCall the placeOf code noticeNames
-  ask-line x is e = rw (is, at-id, at-bits, sym at-side ∙ e)
-
-  pub side-line : (q : Quote) → r ≡ record {
-    kind = moveKind;
-    id = id;
-    admission = noAdmission;
-    day = noDay;
-    quote = q;
-    side = side;
-    outside = noOutside;
-    notice = Withdrawal;
-  }
+  -- of another
+  pub side-line : (q : Quote) → r ≡ ofId moveKind id q side
       → (side ≡ 0 → ⊥) → (side ≡ 1 → ⊥) → requestCall r (drop evaluateCount zs) ≡ noticeLine zs
   unfolding noticeLine noticeCall the placeOf code noticeNames
   side-line q is n m = rw (is, at-id, ← at-side, ne-eqb side 0 n, ne-eqb side 1 m)

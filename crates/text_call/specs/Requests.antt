@@ -7,6 +7,7 @@ use lib.Ieee.{binary64, ofBits}
 use Rattle.paper.specs.declared.Admission.{Admission}
 use Rattle.paper.specs.declared.Quote.{Quote}
 use Rattle.paper.specs.declared.Outside.{Outside}
+use Rattle.paper.specs.declared.Notice.{Notice}
 use Rattle.paper.specs.declared.Notice.the-variants.{Withdrawal}
 use Rattle.paper.specs.declared.RepoBand.the-variants as band
 use Rattle.paper.specs.declared.AskedTerm.{AskedTerm}
@@ -51,14 +52,43 @@ noQuote = record { second = 0; term = 0; bid = 0; ask = 0 }
 abbrev pub noOutside : Outside
 noOutside = record { bid = ofBits binary64 0; ask = ofBits binary64 0 }
 
+-- ---- a request that names an id (a quote, a move of a side, a read, an opening), and one that gives an id what the
+-- outside source sent
+
+abbrev pub ofId : (kind id : ℕ) → Quote → (side : ℕ) → Request
+ofId kind id q side =
+    record {
+      kind = kind;
+      id = id;
+      admission = noAdmission;
+      day = noDay;
+      quote = q;
+      side = side;
+      outside = noOutside;
+      notice = Withdrawal;
+    }
+
+abbrev pub ofOutside : (kind id : ℕ) → Outside → Notice → Request
+ofOutside kind id x y =
+    record {
+      kind = kind;
+      id = id;
+      admission = noAdmission;
+      day = noDay;
+      quote = noQuote;
+      side = 0;
+      outside = x;
+      notice = y;
+    }
+
+-- ---- lines
+
 -- the call of a notice's line
 unfoldable pub noticeLine : List ℤ → Call
 noticeLine zs =
     noticeCall (unsignedOf noticeNames zs ID) (unsignedOf noticeNames zs SIDE) (floatOf (the noticeNames zs BITS))
 
--- ---- the call of a line of a kind, of the numbers zs and the pairs p: a line that is no call of the desk is a read
--- of id 0
-
+-- the call of a line of a kind, of the numbers zs and the pairs p: a line that is no call of the desk is a read of id 0
 unfoldable pub lineCall : Kept → (kind : ℕ) → List ℤ → Pairs → Call
 lineCall k kind zs p =
     pick (eqb kind admitKind) (admit (admissionOf zs))

@@ -10,8 +10,7 @@ ghost use Rattle.text_protocol.specs.Calls.{givenOf, admissionOf, quoteOf, bits
 ghost use Rattle.text_protocol.specs.Calls.{bandOf, askedOf};
 ghost use Rattle.text_call.specs.Terms.{termAtPlace};
 ghost use Rattle.text_call.specs.Requests.{requestCall, lineCall, noAdmission, noTerm, noDay, noQuote, noOutside};
-ghost use Rattle.text_call.specs.Requests.{noticeLine};
-ghost use Rattle.paper.specs.declared.Notice.the-variants.{Withdrawal};
+ghost use Rattle.text_call.specs.Requests.{noticeLine, ofId, ofOutside};
 ghost use Rattle.text_protocol.specs.Names.{evaluateCount};
 use paper::Admission;
 use paper::AskedDay;
@@ -334,18 +333,9 @@ fn no_outside() -> Outside
     Outside { bid: 0.0, ask: 0.0 }
 }
 
-// A request that names an id, and a side where it has one.
+// A request that names an id: a quote, a move of a side, a read or an opening. Each looks at its own fields alone.
 fn of_id(kind: u64, id: u64, quote: Quote, side: u64) -> Request
-    ensures { λ r. ⌜ r ≡ record {
-      kind = kind;
-      id = id;
-      admission = noAdmission;
-      day = noDay;
-      quote = quote;
-      side = side;
-      outside = noOutside;
-      notice = Withdrawal;
-    } ⌝ }
+    ensures { λ r. ⌜ r ≡ ofId kind id quote side ⌝ }
 {
     Request {
         kind,
@@ -361,16 +351,7 @@ fn of_id(kind: u64, id: u64, quote: Quote, side: u64) -> Request
 
 // A request that gives an id what the outside source sent.
 fn of_outside(kind: u64, id: u64, outside: Outside, notice: Notice) -> Request
-    ensures { λ r. ⌜ r ≡ record {
-      kind = kind;
-      id = id;
-      admission = noAdmission;
-      day = noDay;
-      quote = noQuote;
-      side = 0;
-      outside = outside;
-      notice = notice;
-    } ⌝ }
+    ensures { λ r. ⌜ r ≡ ofOutside kind id outside notice ⌝ }
 {
     Request {
         kind,
@@ -428,17 +409,8 @@ pub fn request_of(zs: &[i64], kind: u64, p: Pairs, k: Kept) -> Request
             notice: Notice::Withdrawal,
         };
     }
-    if kind == Kind::QUOTE {
-        return of_id(kind, unsigned_at(zs, 0), quote_of(zs), 0);
-    }
-    if kind == Kind::MOVE {
-        return of_id(kind, unsigned_at(zs, 0), no_quote(), unsigned_at(zs, 1));
-    }
-    if kind == Kind::READ {
-        return of_id(kind, unsigned_at(zs, 0), no_quote(), 0);
-    }
-    if kind == Kind::OPEN {
-        return of_id(kind, unsigned_at(zs, 0), no_quote(), 0);
+    if (Kind::QUOTE <= kind) & (kind <= Kind::OPEN) {
+        return of_id(kind, unsigned_at(zs, 0), quote_of(zs), unsigned_at(zs, 1));
     }
     if kind == Kind::OUTSIDE {
         return of_outside(kind, unsigned_at(zs, 0), outside_of(zs), Notice::Withdrawal);
