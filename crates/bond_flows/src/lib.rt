@@ -21,16 +21,16 @@ const MONEY_MOST: i64 = Bond::MONEY_MOST as i64;
 // ---- ranges
 
 // "0 to 10^10 units, days 1..30": the day, then the amount
-const LEAST: [i64; Flow::NUMBERS] = [Flow::DAY_LEAST, 0];
+const FLOW_LEAST: [i64; Flow::NUMBERS] = [Flow::DAY_LEAST, 0];
 
-const MOST: [i64; Flow::NUMBERS] = [Flow::DAY_MOST, MONEY_MOST];
+const FLOW_MOST: [i64; Flow::NUMBERS] = [Flow::DAY_MOST, MONEY_MOST];
 
 // Whether the day and the amount of every cash flow are in their ranges.
 fn every_flow_valid(numbers: &[i64]) -> bool
     requires { ⌜ length (now numbers) % flowNumbers ≡ 0 ⌝ }
     ensures { λ r. ⌜ r ≡ every validFlow (lentFlows (now (numbers .entry))) ⌝ }
 {
-    exact::every_within(numbers, &LEAST, &MOST)
+    exact::every_within(numbers, &FLOW_LEAST, &FLOW_MOST)
 }
 
 // "at most four cash flows", each whole.

@@ -26,7 +26,7 @@ const AGE_MOST: i64 = Record::AGE_MOST as i64;
 
 // "Rates given lie in -9,999..9,999 bp, .. old volatility in 0..19,998, old tentative rate in 0..200,979, .. key
 // maturities in 0..365 days, the rest as for shares"
-const LEAST: [i64; Maturity::NUMBERS] = [
+const KEY_LEAST: [i64; Maturity::NUMBERS] = [
     0,
     Term::REPO_LEAST,
     Term::REPO_LEAST,
@@ -37,7 +37,7 @@ const LEAST: [i64; Maturity::NUMBERS] = [
     0,
 ];
 
-const MOST: [i64; Maturity::NUMBERS] = [
+const KEY_MOST: [i64; Maturity::NUMBERS] = [
     DAYS_MOST,
     Term::REPO_MOST,
     Term::REPO_MOST,
@@ -53,7 +53,7 @@ fn every_key_valid(numbers: &[i64]) -> bool
     requires { ⌜ length (now numbers) % keyNumbers ≡ 0 ⌝ }
     ensures { λ r. ⌜ r ≡ every validKey (keysOf (now (numbers .entry))) ⌝ }
 {
-    exact::every_within(numbers, &LEAST, &MOST)
+    exact::every_within(numbers, &KEY_LEAST, &KEY_MOST)
 }
 
 // "one to eight key maturities", each whole.

@@ -20,9 +20,9 @@ const VOLUME_MOST: i64 = Row::VOLUME_MOST as i64;
 
 // "A row: T 0..30; central rate 1..10^7 ten-thousandths; repo rate -9,999..9,999 bp; close, bid, ask 0..10^10; volume
 // 0..10^8 thousands."
-const LEAST: [i64; Row::NUMBERS] = [0, 1, Term::REPO_LEAST, 0, 0, 0, 0];
+const ROW_LEAST: [i64; Row::NUMBERS] = [0, 1, Term::REPO_LEAST, 0, 0, 0, 0];
 
-const MOST: [i64; Row::NUMBERS] = [
+const ROW_MOST: [i64; Row::NUMBERS] = [
     Row::TERM_MOST,
     Row::CENTRAL_MOST,
     Term::REPO_MOST,
@@ -53,7 +53,7 @@ pub fn row_valid(rows: &[i64], at: usize) -> bool
     requires { ⌜ at + rowNumbers ≤ length (now rows) ⌝ }
     ensures { λ r. ⌜ r ≡ validRow (rowAt (now (rows .entry)) at) ⌝ }
 {
-    exact::all_within(rows, at, &LEAST, &MOST) & close_for_volume(rows, at + 6, at + 3)
+    exact::all_within(rows, at, &ROW_LEAST, &ROW_MOST) & close_for_volume(rows, at + 6, at + 3)
 }
 
 // The row that begins at a place and is in range: no number of it but the repo rate is below zero, so each is read as
