@@ -2,5 +2,6 @@
 pub mod Quotients
 pub mod Long
 pub mod RootTurn
+pub mod RootSearch
 pub mod Sign
 pub mod SameRoot

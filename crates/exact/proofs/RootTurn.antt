@@ -1,74 +1,68 @@
--- One turn of `least_root`'s loop, on plain numbers: x is what is found so far, 2 ^ k the bits still to come, and
--- factor_x and sq are factor·x and factor·x². Assumes nothing.
+-- One turn of the search for a root, `next_bit`, on plain numbers: f is what is found when k bits are to come, and
+-- p = 2^(k - 1) is the next of them. Assumes nothing.
 use mathlib.Core.Path.{_≡_, ap}
 use Prim.Native.Nat.{ℕ, _+_, _-_, _*_, _^_, _≤_, _<_}
-use native.Mathlib.Nat.{mul-le-mul}
+use native.Mathlib.Nat.{mul-le-mul, mul-le-mul-left}
 use native.Mathlib.Omega.{arith}
-use lib.Pow.{pow-add}
+use lib.Pow.{pow-add, pow-pos}
 use Rattle.paper.specs.Numbers.{oneInTenThousandths}
+use Rattle.exact.specs.declared.Found.{Found}
+use Rattle.exact.specs.RootBits.{Searched, OneBitMore}
 
--- the loop's invariant
-pub record Found (factor n x factor-x sq k : ℕ) : Type 0 where
-  pub bits : k ≤ 20
-  pub top : x + 2 ^ k ≤ 2 ^ 20
-  pub times : factor-x ≡ factor * x
-  pub square : sq ≡ factor * (x * x)
-  pub below : sq < n
-  pub above : n ≤ factor * ((x + 2 ^ k) * (x + 2 ^ k))
+-- what a turn computes with, in terms of p
+pub record RootTurn (factor k p : ℕ) (f : Found) : Type 0 where
+  pub two : 2 ^ k ≡ 2 * p
+  pub shifted : factor * 2 ^ (20 + k - 1) ≡ factor * p * 2 ^ 20
+  pub top : (f .x + 1) * (2 * p) ≤ 2 ^ 20
+  pub few : f .x + 1 ≤ 2 ^ 20
+  pub doubled : f .doubled ≡ factor * (f .x * (2 * p)) * 2 ^ 21
+  pub above : f .rest < f .doubled + factor * (2 * p) * 2 ^ 20
+  pub cap : factor * ((f .x + 1) * (2 * p)) ≤ oneInTenThousandths * 2 ^ 20
 
--- what a turn computes with, in terms of the next bit, 2 ^ (k - 1)
-pub record RootTurn (factor x factor-x k : ℕ) : Type 0 where
-  pub two : 2 ^ k ≡ 2 * 2 ^ (k - 1)
-  pub cross : factor-x * 2 ^ (k - 1 + 1) ≡ 2 * (factor * x * 2 ^ (k - 1))
-  pub corner : factor * 2 ^ (k - 1 + (k - 1)) ≡ factor * (2 ^ (k - 1) * 2 ^ (k - 1))
-  pub cap : factor * ((x + 2 ^ (k - 1)) * (x + 2 ^ (k - 1))) ≤ oneInTenThousandths * (2 ^ 20 * 2 ^ 20)
-  pub side : factor * (x + 2 ^ (k - 1)) ≤ oneInTenThousandths * 2 ^ 20
-
-pub turn-fits : (factor n x factor-x sq k : ℕ) → 0 < k → factor ≤ oneInTenThousandths → Found factor n x factor-x sq k
-    → RootTurn factor x factor-x k
-turn-fits factor n x factor-x sq k pos hfactor f =
-    let one-more : 2 ^ (k - 1 + 1) ≡ 2 ^ (k - 1) * 2 = pow-add 2 (k - 1) 1 in
+pub turn-fits : (factor k : ℕ) (f : Found) → 0 < k → factor ≤ oneInTenThousandths → Searched factor k f
+    → RootTurn factor k (2 ^ (k - 1)) f
+turn-fits factor k f pos hfactor s =
+    let p : ℕ = 2 ^ (k - 1) in
+    let one-more : 2 ^ (k - 1 + 1) ≡ p * 2 = pow-add 2 (k - 1) 1 in
     let same : k ≡ k - 1 + 1 = omega arith in
-    let two : 2 ^ k ≡ 2 ^ (k - 1 + 1) = ap (λ (z : ℕ). 2 ^ z) same in
-    let room : x + 2 ^ (k - 1) ≤ 2 ^ 20 = omega (arith, f .top) in
+    let two : 2 ^ k ≡ 2 * p = omega (arith, ap (λ (z : ℕ). 2 ^ z) same) in
+    let exponent : 20 + k - 1 ≡ 20 + (k - 1) = omega arith in
+    let power : 2 ^ (20 + k - 1) ≡ 2 ^ 20 * p = rw exponent (pow-add 2 20 (k - 1)) in
+    let top : (f .x + 1) * (2 * p) ≤ 2 ^ 20 = rw two at (s .top) in
+    let some : 1 ≤ 2 * p = omega (arith, pow-pos (k - 1)) in
     record {
-      two = omega arith;
-      cross = rw (f .times, one-more) (omega arith);
-      corner = ap (λ (z : ℕ). factor * z) (pow-add 2 (k - 1) (k - 1));
-      cap = mul-le-mul hfactor (mul-le-mul room room);
-      side = mul-le-mul hfactor room;
+      two = two;
+      shifted = rw power (omega arith);
+      top = top;
+      few = omega (arith, mul-le-mul-left (f .x + 1) some);
+      doubled = rw two at (s .doubled);
+      above = rw two at (s .above);
+      cap = mul-le-mul hfactor top;
     }
 
--- the bit is taken: a, b, d and e are what the four shifts gave
-pub taken-keeps : (factor n x factor-x sq k a b d e : ℕ) → 0 < k → factor ≤ oneInTenThousandths
-    → Found factor n x factor-x sq k → a ≡ factor-x * 2 ^ (k - 1 + 1) → b ≡ factor * 2 ^ (k - 1 + (k - 1))
-    → d ≡ factor * 2 ^ (k - 1) → e ≡ 1 * 2 ^ (k - 1) → sq + a + b < n
-    → Found factor n (x + e) (factor-x + d) (sq + a + b) (k - 1)
-taken-keeps factor n x factor-x sq k a b d e pos hfactor f ea eb ed ee low =
-    let t = turn-fits factor n x factor-x sq k pos hfactor f in
-    let bit : e ≡ 2 ^ (k - 1) = omega arith in
-    record {
-      bits = omega (arith, f .bits);
-      top = omega (arith, f .top, t .two);
-      times = rw bit (omega (arith, f .times));
-      square = rw bit (omega (arith, f .square, t .cross, t .corner));
-      below = low;
-      above = rw bit (let above : n ≤ factor * ((x + 2 * 2 ^ (k - 1)) * (x + 2 * 2 ^ (k - 1))) =
-          rw (t .two) at (f .above) in omega arith);
-    }
+module _ (factor k : ℕ) (f : Found) (step : ℕ) (pos : 0 < k) (hfactor : factor ≤ oneInTenThousandths)
+    (s : Searched factor k f) (e : step ≡ factor * 2 ^ (20 + k - 1)) where
+  -- the bit is taken
+  pub taken-keeps : f .doubled + step ≤ f .rest + f .rest
+      → OneBitMore factor k f
+      (record {
+        x = f .x + f .x + 1;
+        doubled = f .doubled + step + step;
+        rest = f .rest + f .rest - (f .doubled + step);
+      })
+  taken-keeps low =
+      let t = turn-fits factor k f pos hfactor s in
+      record {
+        searched = record { bits = omega arith; top = omega arith; doubled = omega arith; above = omega arith };
+        same = rw (t .two) (omega arith);
+      }
 
--- the bit is left
-pub left-keeps : (factor n x factor-x sq k a b : ℕ) → 0 < k → factor ≤ oneInTenThousandths
-    → Found factor n x factor-x sq k → a ≡ factor-x * 2 ^ (k - 1 + 1) → b ≡ factor * 2 ^ (k - 1 + (k - 1))
-    → n ≤ sq + a + b
-    → Found factor n x factor-x sq (k - 1)
-left-keeps factor n x factor-x sq k a b pos hfactor f ea eb high =
-    let t = turn-fits factor n x factor-x sq k pos hfactor f in
-    record {
-      bits = omega (arith, f .bits);
-      top = omega (arith, f .top, t .two);
-      times = f .times;
-      square = f .square;
-      below = f .below;
-      above = omega (arith, f .square, t .cross, t .corner);
-    }
+  -- the bit is left
+  pub left-keeps : f .rest + f .rest < f .doubled + step
+      → OneBitMore factor k f (record { x = f .x + f .x; doubled = f .doubled; rest = f .rest + f .rest })
+  left-keeps high =
+      let t = turn-fits factor k f pos hfactor s in
+      record {
+        searched = record { bits = omega arith; top = omega arith; doubled = omega arith; above = omega arith };
+        same = rw (t .two) (omega arith);
+      }

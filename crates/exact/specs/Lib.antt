@@ -2,6 +2,7 @@
 pub mod EveryLaws
 pub mod LentLaws
 pub mod Remainders
+pub mod RootBits
 pub mod RootInputs
 pub mod SignedLaws
 pub mod Wide

@@ -13,6 +13,7 @@ ghost use Rattle.paper.specs.Roundings.{up, halfUp, rounded, roundedTo, toGrid,
 ghost use Rattle.paper.specs.Least.{leastRoot};
 ghost use Rattle.paper.specs.Ranges.{withinZ, unsigned};
 ghost use Rattle.exact.specs.Remainders.{goesUp};
+ghost use Rattle.exact.specs.RootBits.{Searched, OneBitMore};
 ghost use Rattle.exact.specs.Wide.{Divides, LimitRange};
 ghost use Rattle.exact.specs.SignedLaws.{Grows};
 ghost use Rattle.exact.specs.Within.{allWithin, everyWithin};
@@ -140,7 +141,10 @@ pub fn product_to_grid(way: Way, g: u64, p: u64, a: u64, b: u64, d: u64) -> u64
 // ---- the least root
 
 // The bits of a root: 2^20 is above every volatility.
-const ROOT_BITS: u64 = 20;
+const MOST_BITS: u64 = 20;
+
+// The bits of most roots (W-214): 2^16 millionths are 6.5 per cent, and no volatility in bp reaches 2^16.
+const FEW_BITS: u64 = 16;
 
 // x·2^k, by a shift.
 fn shl(x: u64, k: u64) -> u64
@@ -150,9 +154,55 @@ fn shl(x: u64, k: u64) -> u64
     x << k
 }
 
+// What is found of a root when k of its bits are to come (`Searched`): x is its bits so far. With y = x·2^k, doubled is
+// 2·factor·y·2^20, and rest is what factor·y² leaves of the number, times 2^(20 - k). So doubled is shifted in no turn,
+// and what a turn waits for is short (W-214).
+struct Found {
+    x: u64,
+    doubled: u64,
+    rest: u64,
+}
+
+// One bit more of the k that are to come.
+fn next_bit(found: Found, factor: u64, k: u64) -> Found
+    requires { ⌜ (0 < k) × (factor ≤ oneInTenThousandths) × Searched factor k found ⌝ }
+    ensures { λ r. ⌜ OneBitMore factor k found r ⌝ }
+{
+    let step = shl(factor, MOST_BITS + k - 1);
+    let next = found.doubled + step;
+    let x = found.x + found.x;
+    let rest = found.rest + found.rest;
+    if next <= rest {
+        Found {
+            x: x + 1,
+            doubled: next + step,
+            rest: rest - next,
+        }
+    } else {
+        Found {
+            x,
+            doubled: found.doubled,
+            rest,
+        }
+    }
+}
+
+// How many bits the root of n is sought in.
+fn root_bits(factor: u64, n: u64) -> u64
+    requires { ⌜ (factor ≤ oneInTenThousandths) × (n ≤ factor * 2 ^ 40) ⌝ }
+    ensures { λ k. ⌜ (k ≤ 20) × (n ≤ factor * (2 ^ k * 2 ^ k)) ⌝ }
+{
+    if n <= shl(factor, FEW_BITS + FEW_BITS) {
+        FEW_BITS
+    } else {
+        MOST_BITS
+    }
+}
+
 // The least x with factor·x² >= n (7.1), by shifts, sums and comparisons only (W-204; `outside/root` reads what they
-// become). The bits of the greatest x with factor·x² < n are found from the top, in at most 20 turns: x is what is
-// found so far, factor_x and sq are factor·x and factor·x².
+// become). The bits of the greatest x with factor·x² < n are found from the top, in 16 turns or in 20. There are two
+// loops so that the compiler knows how many turns each has. It writes them out without a jump, and the root is too long
+// to be put into its callers, where `outside/root` would not see it.
 pub fn least_root(factor: u64, n: u64) -> u64
     requires { ⌜ (0 < factor) × (factor ≤ oneInTenThousandths) × (n ≤ factor * 2 ^ 40) ⌝ }
     ensures { λ r. ⌜ r ≡ leastRoot factor n ⌝ }
@@ -160,20 +210,21 @@ pub fn least_root(factor: u64, n: u64) -> u64
     if n == 0 {
         return 0;
     }
-    let mut x: u64 = 0;
-    let mut factor_x: u64 = 0;
-    let mut sq: u64 = 0;
-    let mut k: u64 = ROOT_BITS;
-    while 0 < k {
+    let mut k = root_bits(factor, n);
+    let mut found = Found {
+        x: 0,
+        doubled: 0,
+        rest: shl(n - 1, MOST_BITS - k),
+    };
+    while FEW_BITS < k {
+        found = next_bit(found, factor, k);
         k -= 1;
-        let next = sq + shl(factor_x, k + 1) + shl(factor, k + k);
-        if next < n {
-            sq = next;
-            factor_x += shl(factor, k);
-            x += shl(1, k);
-        }
     }
-    x + 1
+    while 0 < k {
+        found = next_bit(found, factor, k);
+        k -= 1;
+    }
+    found.x + 1
 }
 
 // ---- signed numbers

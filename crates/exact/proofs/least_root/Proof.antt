@@ -1,105 +1,103 @@
--- `least_root` meets its contract. The invariant, `Found` of `RootTurn.antt`: with k bits to come, factor·x² is below n
--- and factor·(x + 2^k)² is not. With none to come one more than x is the root. The measure is k, 20 at first. Assumes
--- nothing.
-use mathlib.Core.Path.{_≡_, sym}
+-- `least_root` meets its contract. The invariant of both loops, `RootSearch`: with k bits to come, what is found is the
+-- root of n - 1 but for those, rounded down. With none to come one more is the least root of n. The measure is k.
+-- Assumes nothing.
+use mathlib.Core.Path.{_≡_}
 use native.Mathlib.Nat.{pos-of-ne-zero}
 use native.Mathlib.Omega.{arith}
+use borrow.Author.Needs.{needs}
 use Rattle.paper.specs.Least.{leastRoot, least, first}
-use Rattle.paper.proofs.Search.{root-one-more}
-use Rattle.exact.proofs.RootTurn.{Found, RootTurn, turn-fits, taken-keeps, left-keeps}
+use Rattle.exact.proofs.RootSearch.{RootSearch, shifted-fits, begins, goes-on, ends}
 use Rattle.exact.proofs.least_root.Statement.{statement}
 use Rattle.exact.proofs.least_root.Tie as tie
 
 abbrev Inv-loop : tie.InvT-loop
-Inv-loop factor n x₀ factor-x₀ sq₀ k₀ x factor-x sq k = Found factor n x factor-x sq k
+Inv-loop factor n k₀ found₀ k found = RootSearch factor n k found
 
 abbrev μ-loop : tie.MeasureT-loop
-μ-loop factor n x₀ factor-x₀ sq₀ k₀ x factor-x sq k = k
+μ-loop factor n k₀ found₀ k found = k
 
--- what is known at the head of a turn
-turn-at : (c : tie.In-loop Inv-loop μ-loop)
-    → RootTurn (c .before .before .before .args .factor) (c .before .loop .x) (c .before .loop .factor-x)
-    (c .before .loop .k)
-turn-at c = turn-fits _ _ _ _ _ _ (c .loop-test .taken) (c .before .before .before .pre .1) (c .before .loop .inv)
+abbrev Inv-loop2 : tie.InvT-loop2
+Inv-loop2 factor n k₀ found₀ k found = RootSearch factor n k found
 
-returns : tie.Need-returns Inv-loop μ-loop
+abbrev μ-loop2 : tie.MeasureT-loop2
+μ-loop2 factor n k₀ found₀ k found = k
+
+returns : tie.Need-returns Inv-loop μ-loop Inv-loop2 μ-loop2
 unfolding leastRoot least first
 returns c = rw (c .if1 .taken)
 
-loop-holds : tie.Need-loop-holds Inv-loop μ-loop
-loop-holds c =
-    record {
-      bits = omega arith;
-      top = omega arith;
-      times = omega arith;
-      square = omega arith;
-      below = omega (arith, pos-of-ne-zero (c .if1 .left));
-      above = omega arith;
-    }
+root-bits-requires : tie.Need-root-bits-requires Inv-loop μ-loop Inv-loop2 μ-loop2
+root-bits-requires c κs = search needs
 
-sub-k : tie.Need-sub-k Inv-loop μ-loop
+sub-shl : tie.Need-sub-shl Inv-loop μ-loop Inv-loop2 μ-loop2
+sub-shl c = omega (arith, pos-of-ne-zero (c .before .if1 .left))
+
+sub-shl-2 : tie.Need-sub-shl-2 Inv-loop μ-loop Inv-loop2 μ-loop2
+sub-shl-2 c = omega arith
+
+shl-requires : tie.Need-shl-requires Inv-loop μ-loop Inv-loop2 μ-loop2
+shl-requires c κs =
+    let known = c .root-bits .ensures in
+    (omega arith, shifted-fits _ _ _ (known .0) (known .1) _ (omega arith) (c .before .before .pre .1))
+
+loop-holds : tie.Need-loop-holds Inv-loop μ-loop Inv-loop2 μ-loop2
+loop-holds c =
+    let known = c .before .root-bits .ensures in
+    let shifted = c .shl .ensures in
+    rw shifted (begins _ _ _ (known .0) (known .1) (pos-of-ne-zero (c .before .before .if1 .left)))
+
+next-bit-requires : tie.Need-next-bit-requires Inv-loop μ-loop Inv-loop2 μ-loop2
+next-bit-requires c κs =
+    let start = c .before .before .before .before .before in
+    (omega arith, start .pre .1, c .before .loop .inv .searched)
+
+sub-k : tie.Need-sub-k Inv-loop μ-loop Inv-loop2 μ-loop2
 sub-k c = omega arith
 
-add-shl : tie.Need-add-shl Inv-loop μ-loop
-add-shl c = omega arith
-
-shl-requires : tie.Need-shl-requires Inv-loop μ-loop
-shl-requires c κs = omega (arith, turn-at c)
-
-add-next : tie.Need-add-next Inv-loop μ-loop
-add-next c = omega (arith, turn-at (c .before))
-
-add-shl-2 : tie.Need-add-shl-2 Inv-loop μ-loop
-add-shl-2 c = omega arith
-
-shl-requires-2 : tie.Need-shl-requires-2 Inv-loop μ-loop
-shl-requires-2 c κs = omega (arith, turn-at (c .before))
-
-add-next-2 : tie.Need-add-next-2 Inv-loop μ-loop
-add-next-2 c = omega (arith, turn-at (c .before .before))
-
-shl-requires-3 : tie.Need-shl-requires-3 Inv-loop μ-loop
-shl-requires-3 c κs = omega (arith, turn-at (c .before .before .before))
-
-add-factor-x : tie.Need-add-factor-x Inv-loop μ-loop
-add-factor-x c = omega (arith, turn-at (c .before .before .before .before))
-
-shl-requires-4 : tie.Need-shl-requires-4 Inv-loop μ-loop
-shl-requires-4 c κs = omega (arith, turn-at (c .before .before .before .before))
-
-add-x : tie.Need-add-x Inv-loop μ-loop
-add-x c = let head = c .before .before .before .before .before in omega (arith, turn-at head)
-
-loop-less : tie.Need-loop-less Inv-loop μ-loop
+loop-less : tie.Need-loop-less Inv-loop μ-loop Inv-loop2 μ-loop2
 loop-less c = omega arith
 
-loop-again : tie.Need-loop-again Inv-loop μ-loop
+loop-again : tie.Need-loop-again Inv-loop μ-loop Inv-loop2 μ-loop2
 loop-again c =
-    let taken = c .before .before in
-    let next = taken .before in
-    let head = next .before .before in
-    taken-keeps _ _ _ _ _ _ _ _ _ _ (head .loop-test .taken) (head .before .before .before .pre .1)
-    (head .before .loop .inv) (next .before .shl .ensures) (next .shl2 .ensures) (c .before .shl3 .ensures)
-    (c .shl4 .ensures) (taken .if2 .taken)
+    let head = c .before .before in
+    goes-on _ _ _ _ _ (omega arith) (head .loop .inv) (c .next-bit .ensures)
 
-loop-less-2 : tie.Need-loop-less-2 Inv-loop μ-loop
-loop-less-2 c = omega arith
+loop2-holds : tie.Need-loop2-holds Inv-loop μ-loop Inv-loop2 μ-loop2
+loop2-holds c = c .before .loop .inv
 
-loop-again-2 : tie.Need-loop-again-2 Inv-loop μ-loop
-loop-again-2 c =
-    let head = c .before .before .before in
-    left-keeps _ _ _ _ _ _ _ _ (head .loop-test .taken) (head .before .before .before .pre .1)
-    (head .before .loop .inv) (c .before .before .shl .ensures) (c .before .shl2 .ensures) (c .if2 .left)
+next-bit-requires-2 : tie.Need-next-bit-requires-2 Inv-loop μ-loop Inv-loop2 μ-loop2
+next-bit-requires-2 c κs =
+    let start = c .before .before .before .before .before .before .before in
+    (omega arith, start .pre .1, c .before .loop2 .inv .searched)
 
-add-result : tie.Need-add-result Inv-loop μ-loop
-add-result c = omega arith
+sub-k-2 : tie.Need-sub-k-2 Inv-loop μ-loop Inv-loop2 μ-loop2
+sub-k-2 c = omega arith
 
-returns-2 : tie.Need-returns-2 Inv-loop μ-loop
+loop2-less : tie.Need-loop2-less Inv-loop μ-loop Inv-loop2 μ-loop2
+loop2-less c = omega arith
+
+loop2-again : tie.Need-loop2-again Inv-loop μ-loop Inv-loop2 μ-loop2
+loop2-again c =
+    let head = c .before .before in
+    goes-on _ _ _ _ _ (omega arith) (head .loop2 .inv) (c .next-bit2 .ensures)
+
+-- what is known when no bit is to come
+last-known : (c : tie.After-loop2 Inv-loop μ-loop Inv-loop2 μ-loop2)
+    → RootSearch (c .before .before .before .before .before .before .before .args .factor)
+    (c .before .before .before .before .before .before .before .args .n)
+    0
+    (c .before .loop2 .found)
+last-known c =
+    let none : c .before .loop2 .k ≡ 0 = omega arith in
+    rw none at (c .before .loop2 .inv)
+
+add-result : tie.Need-add-result Inv-loop μ-loop Inv-loop2 μ-loop2
+add-result c = omega (arith, last-known (c .before) .searched .top)
+
+returns-2 : tie.Need-returns-2 Inv-loop μ-loop Inv-loop2 μ-loop2
 returns-2 c =
-    let f = c .before .loop .inv in
-    let done : c .before .loop .k ≡ 0 = omega arith in
-    let above = rw done at (f .above) in
-    sym (root-one-more _ _ _ (c .before .before .before .pre .0) (rw (← f .square) (f .below)) above)
+    let branch = c .before .before .before .before .before .before .before in
+    ends _ _ _ (branch .before .pre .0) (pos-of-ne-zero (branch .if1 .left)) (last-known (c .before))
 
 pub least-root-spec : {M : Type 1} → statement M
 least-root-spec =
@@ -107,22 +105,22 @@ least-root-spec =
     (tie.spec
     Inv-loop
     μ-loop
+    Inv-loop2
+    μ-loop2
     returns
-    loop-holds
-    sub-k
-    add-shl
+    root-bits-requires
+    sub-shl
+    sub-shl-2
     shl-requires
-    add-next
-    add-shl-2
-    shl-requires-2
-    add-next-2
-    shl-requires-3
-    add-factor-x
-    shl-requires-4
-    add-x
+    loop-holds
+    next-bit-requires
+    sub-k
     loop-less
     loop-again
-    loop-less-2
-    loop-again-2
+    loop2-holds
+    next-bit-requires-2
+    sub-k-2
+    loop2-less
+    loop2-again
     add-result
     returns-2)
