@@ -1,15 +1,20 @@
 -- The table of the calls, entry by entry. Assumes nothing.
 use mathlib.Core.Path.{_≡_, refl, sym, _∙_}
 use mathlib.Core.Bool.{Bool, true, false}
-use mathlib.Core.List.{List, [], _∷_}
-use Prim.Native.Nat.{ℕ, zero, suc, _≤_, _<_}
+use mathlib.Core.Logic.{_⊎_, inl, inr}
+use mathlib.Core.List.{List, [], _∷_, map}
+use Prim.Native.Nat.{ℕ, zero, suc, _-_, _≤_, _<_}
 use native.Mathlib.Omega.{arith}
-use lib.Dec.{leb}
-use lib.ListN.{length}
+use lib.Dec.{leb, eqb}
+use lib.ListN.{length, getD}
 use borrow.Author.Tests.{leb-true, leb-false, ne-eqb}
 use Rattle.paper.specs.Lists.{pick}
 use Rattle.text_protocol.specs.declared.Pairs.{Pairs}
-use Rattle.text_protocol.specs.Names.{Form, takesIn, takes, forms, evaluateNames, bondNames, bondKind, placeOf, code}
+use Rattle.text_protocol.specs.Names.{Form, countFits, takesIn, takes, forms, bondKind, placeOf, code, admitNames}
+use Rattle.text_protocol.specs.Names.{evaluateNames, quoteNames, moveNames, readNames, openNames, outsideNames}
+use Rattle.text_protocol.specs.Names.{noticeNames, withdrawNames, interestNames, bondNames, admitCount, evaluateCount}
+use Rattle.text_protocol.specs.Names.{quoteCount, moveCount, readCount, openCount, outsideCount, noticeCount}
+use Rattle.text_protocol.specs.Names.{withdrawCount, interestCount, bondCount}
 use Rattle.text_line.specs.declared.Line.{Line}
 use Rattle.text_protocol.specs.Line.{placeIn}
 use Rattle.text_line.specs.Heard.{badLine, lineOf, LowsAt}
@@ -21,23 +26,40 @@ takes-behind [] k n h = refl
 takes-behind (f ∷ fs) zero n h = let z : ⊥ = omega arith in absurd z
 takes-behind (f ∷ fs) (suc k) n h = takes-behind fs k n (omega arith)
 
-past : {k c : ℕ} → (k ≡ c → ⊥) → c ≤ k → suc c ≤ k
-past n h = omega arith
+-- one that stands in a table takes as many numbers as it has names, or at least as many
+takes-at : (fs : List Form) (k n : ℕ) → k < length fs
+    → takesIn fs k n
+    ≡ pick (getD (map (λ (f : Form). f .more) fs) k false)
+    (leb (getD (map (λ (f : Form). length (f .names)) fs) k 0) n)
+    (eqb n (getD (map (λ (f : Form). length (f .names)) fs) k 0))
+unfolding takesIn countFits
+takes-at [] k n h = absurd (omega arith)
+takes-at (f ∷ fs) zero n h = refl
+takes-at (f ∷ fs) (suc k) n h = takes-at fs k n (omega arith)
 
--- there are eleven calls
-pub takes-none : (k n : ℕ) → (k ≡ 1 → ⊥) → (k ≡ 2 → ⊥) → (k ≡ 3 → ⊥) → (k ≡ 4 → ⊥) → (k ≡ 5 → ⊥) → (k ≡ 6 → ⊥)
-    → (k ≡ 7 → ⊥) → (k ≡ 8 → ⊥) → (k ≡ 9 → ⊥) → (k ≡ 10 → ⊥) → (k ≡ 11 → ⊥) → false ≡ takes k n
+-- there are eleven calls: how many names each has, and behind which more numbers may follow
+abbrev pub counts : List ℕ
+counts =
+    admitCount ∷ evaluateCount ∷ quoteCount ∷ moveCount ∷ readCount ∷ openCount ∷ outsideCount ∷ noticeCount
+    ∷ withdrawCount ∷ interestCount ∷ bondCount ∷ []
+
+abbrev pub mores : List Bool
+mores = false ∷ true ∷ false ∷ false ∷ false ∷ false ∷ false ∷ false ∷ false ∷ true ∷ true ∷ []
+
+pub takes-of-call : (k n : ℕ) → 1 ≤ k → k - 1 < 11
+    → takes k n ≡ pick (getD mores (k - 1) false) (leb (getD counts (k - 1) 0) n) (eqb n (getD counts (k - 1) 0))
+unfolding takes forms admitNames evaluateNames quoteNames moveNames readNames openNames outsideNames noticeNames
+    withdrawNames interestNames bondNames
+takes-of-call zero n low high = absurd (omega arith)
+takes-of-call (suc k) n low high =
+    let at : suc k - 1 ≡ k = omega arith in
+    rw at (takes-at forms k n (omega arith))
+
+pub takes-none : (k n : ℕ) → (k < 1) ⊎ (11 ≤ k - 1) → takes k n ≡ false
 unfolding takes forms
-takes-none zero n a b c d e f g h i j l = refl
-takes-none (suc k) n a b c d e f g h i j l =
-    sym (takes-behind forms k n (less (past l (past j (past i (past h (past g (past f (past e (past d (past c (past b
-    (past a (some k))))))))))))))
-  where
-    some : (k : ℕ) → 1 ≤ suc k
-    some k = omega arith
-
-    less : {k : ℕ} → 12 ≤ suc k → 11 ≤ k
-    less h = omega arith
+takes-none zero n h = refl
+takes-none (suc k) n (inl h) = absurd (omega arith)
+takes-none (suc k) n (inr h) = takes-behind forms k n (omega arith)
 
 pub takes-call : (k n : ℕ) → takes k n ≡ true → (0 < k) × (k ≤ 11)
 unfolding takes forms

@@ -107,25 +107,54 @@ fn kind_of(p: &[u8]) -> u64
     kind_if(p, b"admit", Kind::ADMIT, k)
 }
 
-// Whether a call of the kind has so many numbers: `evaluate` may have row figures besides, `interest` key maturities,
-// and `bond` cash flows.
+// The calls in the order of their kinds: how many numbers each has, and behind which more may follow, the row figures
+// of `evaluate`, the key maturities of `interest` and the cash flows of `bond`.
+const CALLS: usize = 11;
+
+const COUNTS: [usize; CALLS] = [
+    ADMIT_COUNT,
+    EVALUATE_COUNT,
+    QUOTE_COUNT,
+    MOVE_COUNT,
+    READ_COUNT,
+    OPEN_COUNT,
+    OUTSIDE_COUNT,
+    NOTICE_COUNT,
+    WITHDRAW_COUNT,
+    INTEREST_COUNT,
+    BOND_COUNT,
+];
+
+const MORE: [bool; CALLS] = [
+    false,
+    true, // evaluate
+    false,
+    false,
+    false,
+    false,
+    false,
+    false,
+    false,
+    true, // interest
+    true, // bond
+];
+
+// Whether a call of the kind has so many numbers.
 fn takes(kind: u64, count: usize) -> bool
     ensures { λ r. ⌜ r ≡ takes kind count ⌝ }
 {
-    match kind {
-        Kind::ADMIT => count == ADMIT_COUNT,
-        Kind::EVALUATE => EVALUATE_COUNT <= count,
-        Kind::QUOTE => count == QUOTE_COUNT,
-        Kind::MOVE => count == MOVE_COUNT,
-        Kind::READ => count == READ_COUNT,
-        Kind::OPEN => count == OPEN_COUNT,
-        Kind::OUTSIDE => count == OUTSIDE_COUNT,
-        Kind::NOTICE => count == NOTICE_COUNT,
-        Kind::WITHDRAW => count == WITHDRAW_COUNT,
-        Kind::INTEREST => INTEREST_COUNT <= count,
-        Kind::BOND => BOND_COUNT <= count,
-        _ => false,
+    if kind < Kind::ADMIT {
+        return false;
     }
+    let call = (kind - Kind::ADMIT) as usize;
+    if CALLS <= call {
+        return false;
+    }
+    let least = COUNTS[call];
+    if MORE[call] {
+        return least <= count;
+    }
+    count == least
 }
 
 fn finish(kind: u64, count: usize, pairs: Pairs) -> Line
