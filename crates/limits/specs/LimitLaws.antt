@@ -11,15 +11,19 @@ use Rattle.paper.specs.declared.Statics.{Statics}
 use Rattle.paper.specs.declared.Side.{Side}
 use Rattle.paper.specs.declared.Side.the-variants.{Upper, Lower}
 use Rattle.paper.specs.declared.Way.{Way}
+use Rattle.paper.specs.declared.Moves.{Moves}
+use Rattle.paper.specs.declared.Term.{Term}
 use Rattle.paper.specs.Numbers.{oneInBp, oneInHundredths, yearInDayBp, rateMost, divisorMost, shiftMost, movesMost}
 use Rattle.paper.specs.Ranges.{gridOf}
 use Rattle.paper.specs.Roundings.{roundedTo, grown}
 use Rattle.paper_desk.specs.Limits.{share, limitOf, inward, shifted, farthest, spread, monitored, narrowerOf, bandLimit}
+use Rattle.paper_desk.specs.Limits.{bandOf}
 use Rattle.paper.proofs.Roundings.{grid-monotone}
 pub use Rattle.paper_desk.proofs.LimitSizes.{grid-in-range}
 use Rattle.paper_desk.proofs.KindLaws as kinds
 use Rattle.exact.specs.Wide.{spreadMost}
-use Rattle.limits.specs.Sides.{farthestRate, farthestLimit, unmovedSpread}
+use Rattle.limits.specs.Sides.{farthestRate, farthestLimit, farthestOf, unmovedSpread, unmovedDivisor}
+use Rattle.limits.specs.Sides.{unmovedLimit, unmovedBand}
 use Rattle.limits.specs.LimitRanges.{LimitStatics, RangeInputs, shiftedMost}
 
 -- ---- quotients
@@ -83,19 +87,22 @@ pub unmoved-spread-high : (st : Statics) (side : Side) (s1 : ℕ) → LimitStati
 unmoved-spread-high st Upper s1 s r = omega (arith, s .divisor-high)
 unmoved-spread-high st Lower s1 s r = omega (arith, s .divisor-high)
 
+pub unmoved-at-most-upper : (st : Statics) (side : Side) (s1 : ℕ) → unmovedSpread st side s1 ≤ unmovedSpread st Upper s1
+unmoved-at-most-upper st Upper s1 = omega arith
+unmoved-at-most-upper st Lower s1 = omega arith
+
 -- and out of its divisor: the quotient is the same, and so is each rounding of it
-pub unmoved-is-monitored-limit : (way : Way) (st : Statics) (side : Side) (p s1 k : ℕ) (repo : ℤ) → LimitStatics st
-    → roundedTo way (gridOf (st .lot)) (p * unmovedSpread st side s1 * grown yearInDayBp k repo)
-    (oneInHundredths * st .xpr * yearInDayBp)
-    ≡ limitOf way st (monitored st p s1 k repo 0 side)
+pub unmoved-is-monitored-limit : (st : Statics) (side : Side) (p s1 k : ℕ) (repo : ℤ) → LimitStatics st
+    → unmovedLimit side (gridOf (st .lot)) (unmovedDivisor st) (p * unmovedSpread st side s1) k repo
+    ≡ limitOf (inward side) st (monitored st p s1 k repo 0 side)
 unfolding limitOf monitored
-unmoved-is-monitored-limit way st side p s1 k repo s =
+unmoved-is-monitored-limit st side p s1 k repo s =
     let u : ℕ = unmovedSpread st side s1 in
     let b : ℕ = grown yearInDayBp k repo in
-    let d : ℕ = oneInHundredths * st .xpr * yearInDayBp in
+    let d : ℕ = unmovedDivisor st in
     let e : ℕ = oneInBp * st .xpr * yearInDayBp in
     rw (spread-is-hundred-unmoved st side s1)
-    (same-quotient-rounds-alike way (gridOf (st .lot)) (p * u * b) d (p * (oneInHundredths * u) * b) e
+    (same-quotient-rounds-alike (inward side) (gridOf (st .lot)) (p * u * b) d (p * (oneInHundredths * u) * b) e
     (grid-in-range (st .lot) .0) (omega (arith, s .divisor-low)) (omega (arith, s .divisor-low)) (omega arith))
 
 -- ---- a share's band limit: with monitoring the narrower of two, without it the farthest
@@ -111,3 +118,20 @@ pub band-is-farthest : (st : Statics) (side : Side) (p s1 c k : ℕ) (repo : ℤ
     → bandLimit st p s1 k repo c side ≡ farthestLimit st side p
 unfolding bandLimit
 band-is-farthest st side p s1 c k repo e = kinds.band-unmonitored share st side p s1 c k repo e
+
+-- with monitoring and before the first move, a term's band is that of P·(x_pr ± S_1)
+pub unmoved-is-band : (st : Statics) (p s1 : ℕ) (c : Moves) (x : Term) → LimitStatics st → st .monitoring ≡ true
+    → c .lower ≡ 0 → c .upper ≡ 0
+    → unmovedBand (gridOf (st .lot)) (unmovedDivisor st) (p * unmovedSpread st Lower s1) (p * unmovedSpread st Upper s1)
+    (farthestOf st p) x
+    ≡ bandOf st p s1 c x
+unfolding bandOf
+unmoved-is-band st p s1 c x s e below above =
+    rw (
+      below,
+      above,
+      unmoved-is-monitored-limit st Lower p s1 (x .k) (x .low) s,
+      unmoved-is-monitored-limit st Upper p s1 (x .k) (x .high) s,
+      band-is-narrower st Lower p s1 0 (x .k) (x .low) s e,
+      band-is-narrower st Upper p s1 0 (x .k) (x .high) s e,
+    )

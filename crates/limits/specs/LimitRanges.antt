@@ -2,10 +2,14 @@
 -- the paper. Assumes nothing.
 use mathlib.Core.Path.{_≡_}
 use mathlib.Core.Bool.{true}
-use Prim.Native.Nat.{ℕ, _+_, _*_, _≤_, _<_}
+use mathlib.Core.List.{List}
+use Prim.Native.Nat.{ℕ, _+_, _*_, _^_, _≤_, _<_}
 use native.Mathlib.Omega.{arith}
 use lib.IntN.{ℤ}
 use lib.Signed.{mag}
+use mir.Syntax.{w64}
+use mir.Val.{toZ, ofZ}
+use mir.Facts.{toZ-ofZ}
 use borrow.Author.Tests.{leb-true}
 use Rattle.paper.specs.declared.Price.{Price}
 use Rattle.paper.specs.declared.Rate.{Rate}
@@ -15,13 +19,14 @@ use Rattle.paper.specs.declared.Side.the-variants.{Upper, Lower}
 use Rattle.paper.specs.declared.Moves.{Moves}
 use Rattle.paper.specs.declared.Term.{Term}
 use Rattle.paper.specs.Numbers.{oneInBp, priceMost, rateMost, movesMost, termDaysMost, repoLeast, repoMost}
-use Rattle.paper.specs.Ranges.{validTerm, isPrice, isGridPrice, isRate}
+use Rattle.paper.specs.Ranges.{validTerm, termAt, isPrice, isGridPrice, isRate}
 use Rattle.paper_desk.specs.Limits.{countOf, oneMore}
 use Rattle.paper_desk.specs.Gateway.{rangeInRange, bandInRange}
 pub use Rattle.paper_desk.specs.Limits.{LimitStatics}
 use Rattle.paper.proofs.Logic.{and-left, and-right, order-trans}
 pub use Rattle.paper_desk.proofs.LimitSizes.{valid-limit-statics}
 use Rattle.exact.specs.SignedLaws.{between-repo-ends-within-most}
+use Rattle.exact.specs.Wide.{yearMost}
 use Rattle.limits.specs.Sides.{repoOf}
 
 -- ---- the ranges
@@ -51,6 +56,28 @@ pub record TermInputs (p : Price) (s1 : Rate) (c : Moves) (x : Term) : Type 0 wh
   pub lower-moves : c .lower ≤ movesMost
   pub term : validTerm x ≡ true
 
+-- a fact of each of three places
+abbrev pub EachOfThree : (ℕ → Type 0) → Type 0
+EachOfThree P = P 0 × P 1 × P 2
+
+pub at-three : (P : ℕ → Type 0) → ((i : ℕ) → i < 3 → P i) → EachOfThree P
+at-three P f = (f 0 (omega arith), f 1 (omega arith), f 2 (omega arith))
+
+-- of three bands: the evaluation P, S_1, the moves and each term
+abbrev pub BandsAsked : Price → Rate → Moves → List Term → Type 0
+BandsAsked p s1 c terms = EachOfThree (λ k. TermInputs p s1 c (termAt terms k))
+
+-- the greatest P·(x_pr + S_1) with which a monitored limit is made in 64 bits
+abbrev pub wholeProductMost : ℕ
+wholeProductMost = 4000000000000
+
+-- of a monitored limit before the first move: the grid, the divisor and P·(x_pr ± S_1), whose product with the greatest
+-- year leaves room for a step of the grid in 64 bits
+pub record UnmovedInputs (g divisor unmoved : ℕ) : Type 0 where
+  pub grid : 0 < g
+  pub divisor-low : 0 < divisor
+  pub whole : unmoved * yearMost + divisor * g < 2 ^ 64
+
 -- ---- each side of a term's band is a band limit in range
 
 pub term-repo-within-most : (side : Side) (x : Term) → validTerm x ≡ true → mag (repoOf side x) ≤ mag repoMost
@@ -62,6 +89,10 @@ term-repo-within-most Upper x v =
 term-repo-within-most Lower x v =
     between-repo-ends-within-most (x .low) (search (v, and-left, and-right))
     (order-trans (x .low) (x .high) repoMost (search (v, and-left, and-right)) (search (v, and-left, and-right)))
+
+-- a repo rate is its own bits read back
+pub term-repo-bits : (side : Side) (x : Term) → validTerm x ≡ true → toZ w64 (ofZ w64 (repoOf side x)) ≡ repoOf side x
+term-repo-bits side x v = toZ-ofZ (record { sfits = omega (arith, term-repo-within-most side x v) })
 
 pub term-days-within-most : (x : Term) → validTerm x ≡ true → x .k ≤ termDaysMost
 unfolding validTerm

@@ -1,10 +1,10 @@
 // Document 01, "Ranges, bands, alerts, moves" (10.1, 11.2, 17.8, 18): the limits by value, each rounded once by (g),
 // and what a move makes of them. P is a price; S_L, S_1 and the two maxima are rates; a range limit, the farthest limit
 // and a band limit are each a `Limit`. Bare numbers of units are the monitored limit before the farthest one narrows it
-// (fifty moves and a term of 30 days take it past every limit), `Limits`, the pair that a record holds, delta, and what
-// a move makes of the pair: a sum that the sequence of calls keeps in range, and not the rule. `narrower` takes bare
-// numbers, since the limits of a bond, which it serves too, are in hundredths of a per cent. A repo rate is a bare
-// number, which may be negative.
+// (fifty moves and a term of 30 days take it past every limit), `Limits`, the pair that a record holds and that the
+// quick way of the bands makes at once, delta, and what a move makes of the pair: a sum that the sequence of calls
+// keeps in range, and not the rule. `narrower` takes bare numbers, since the limits of a bond, which it serves too, are
+// in hundredths of a per cent. A repo rate is a bare number, which may be negative.
 use inputs::grid_of;
 use paper::GRID_OF_ONE;
 use paper::GRID_TO_TEN;
@@ -16,6 +16,7 @@ use paper::ONE_IN_BP;
 use paper::ONE_IN_HUNDREDTHS;
 use paper::Price;
 use paper::Rate;
+use paper::Record;
 use paper::Side;
 use paper::Statics;
 use paper::Term;
@@ -24,14 +25,18 @@ use paper::YEAR_IN_DAY_BP;
 ghost use mathlib.Core.Path.{_≡_};
 ghost use mathlib.Core.Bool.{true};
 ghost use Prim.Native.Nat.{_-_, _≤_};
-ghost use Rattle.paper.specs.Numbers.{oneInBp, priceMost, rateMost, limitMost, movesMost};
-ghost use Rattle.paper.specs.Ranges.{validStatics, gridOf};
+ghost use lib.Signed.{mag};
+ghost use Rattle.paper.specs.Lists.{three};
+ghost use Rattle.paper.specs.Numbers.{oneInBp, priceMost, rateMost, limitMost, movesMost, termDaysMost, repoMost};
+ghost use Rattle.paper.specs.Ranges.{validStatics, gridOf, validTerm, termAt};
 ghost use Rattle.paper.specs.Roundings.{roundedTo};
 ghost use Rattle.paper_desk.specs.Limits.{limitOf, inward, shifted, rangeLimit, rangeOf, spread, monitored, bandLimit};
 ghost use Rattle.paper_desk.specs.Limits.{bandOf, narrowerOf, crossed, deltaOf, oneMore, countOf, rangeMoved};
 ghost use Rattle.paper_desk.specs.Limits.{bandMoved};
-ghost use Rattle.limits.specs.Sides.{farthestRate, farthestLimit, farthestOf, unmovedSpread};
-ghost use Rattle.limits.specs.LimitRanges.{RangeInputs, BandInputs, TermInputs, shiftedMost};
+ghost use Rattle.limits.specs.Sides.{farthestRate, farthestLimit, farthestOf, unmovedSpread, unmovedLimit};
+ghost use Rattle.limits.specs.Sides.{unmovedBand};
+ghost use Rattle.limits.specs.LimitRanges.{RangeInputs, BandInputs, TermInputs, EachOfThree, BandsAsked};
+ghost use Rattle.limits.specs.LimitRanges.{UnmovedInputs, shiftedMost};
 ghost use Rattle.limits.specs.LimitBounds.{deltaMost};
 
 // ---- ranges
@@ -125,25 +130,8 @@ pub fn spread(st: Statics, side: Side, s1: Rate, c: u64) -> u64
     }
 }
 
-// The same before the first move, where e is 1: x_pr ± S_1 in basis points, a hundredth of the spread.
-fn unmoved_spread(st: Statics, side: Side, s1: Rate) -> u64
-    requires { ⌜ validStatics st ≡ true ⌝ }
-    requires { ⌜ s1 .bp ≤ rateMost ⌝ }
-    ensures { λ r. ⌜ r ≡ unmovedSpread st side (s1 .bp) ⌝ }
-{
-    let middle = ONE_IN_HUNDREDTHS * st.xpr;
-    match side {
-        Side::Upper => middle + s1.bp,
-        Side::Lower => exact::less(middle, s1.bp),
-    }
-}
-
-// The greatest P·(x_pr ± S_1) that is multiplied with the days' factor in 64 bits.
-const WHOLE_PRODUCT_MOST: u64 = 4_000_000_000_000;
-
 // "P·(1 + e·S_1/x_pr)·(1 + RRcH·k/36500)" above, "P·max(0, 1 - e·S_1/x_pr)·(1 + RRcL·k/36500)" below, rounded once,
-// inward. Where 64 bits hold the product, as before the first move they do of every price to 3,600 roubles, one
-// division makes the limit (W-214); the wide product makes every other one.
+// inward.
 fn monitored_limit(st: Statics, side: Side, p: Price, s1: Rate, c: u64, k: u64, repo: i64) -> u64
     requires { ⌜ validStatics st ≡ true ⌝ }
     requires { ⌜ BandInputs p s1 c k repo ⌝ }
@@ -152,11 +140,6 @@ fn monitored_limit(st: Statics, side: Side, p: Price, s1: Rate, c: u64, k: u64, 
     let way = inward(side);
     let g = grid_of(st.lot);
     let days = exact::grow(YEAR_IN_DAY_BP, k, repo);
-    let unmoved = p.units * unmoved_spread(st, side, s1);
-    if (c == 0) & (unmoved <= WHOLE_PRODUCT_MOST) {
-        let divisor = ONE_IN_HUNDREDTHS * st.xpr * YEAR_IN_DAY_BP;
-        return exact::rounded_to(way, g, unmoved * days, divisor);
-    }
     let divisor = ONE_IN_BP * st.xpr * YEAR_IN_DAY_BP;
     exact::product_to_grid(way, g, p.units, spread(st, side, s1, c), days, divisor)
 }
@@ -181,7 +164,7 @@ fn farthest_limit(st: Statics, side: Side, p: Price) -> Limit
 }
 
 // Both: they are the same in every term, so that the bands of three terms make them once.
-pub fn farthest_of(st: Statics, p: Price) -> Limits
+fn farthest_of(st: Statics, p: Price) -> Limits
     requires { ⌜ validStatics st ≡ true ⌝ }
     requires { ⌜ p .units ≤ priceMost ⌝ }
     ensures { λ r. ⌜ r ≡ farthestOf st (p .units) ⌝ }
@@ -226,7 +209,7 @@ pub fn band_limit(st: Statics, side: Side, p: Price, s1: Rate, c: u64, k: u64, r
 }
 
 // A term's band, by the farthest limits: "c the moves of that side since the evaluation".
-pub fn band_of(st: Statics, farthest: Limits, p: Price, s1: Rate, c: Moves, x: Term) -> Limits
+fn band_of(st: Statics, farthest: Limits, p: Price, s1: Rate, c: Moves, x: Term) -> Limits
     requires { ⌜ validStatics st ≡ true ⌝ }
     requires { ⌜ farthest ≡ farthestOf st (p .units) ⌝ }
     requires { ⌜ TermInputs p s1 c x ⌝ }
@@ -238,6 +221,118 @@ pub fn band_of(st: Statics, farthest: Limits, p: Price, s1: Rate, c: Moves, x: T
         lower: limit_within(st, Side::Lower, below, p, s1, c.lower, x.k, x.low).units,
         upper: limit_within(st, Side::Upper, above, p, s1, c.upper, x.k, x.high).units,
     }
+}
+
+// ---- the bands of three terms
+
+// The spread before the first move, where e is 1: x_pr ± S_1 in basis points, a hundredth of it.
+fn unmoved_spread(st: Statics, side: Side, s1: Rate) -> u64
+    requires { ⌜ validStatics st ≡ true ⌝ }
+    requires { ⌜ s1 .bp ≤ rateMost ⌝ }
+    ensures { λ r. ⌜ r ≡ unmovedSpread st side (s1 .bp) ⌝ }
+{
+    let middle = ONE_IN_HUNDREDTHS * st.xpr;
+    match side {
+        Side::Upper => middle + s1.bp,
+        Side::Lower => exact::less(middle, s1.bp),
+    }
+}
+
+// The monitored limit of P·(x_pr ± S_1), which is `unmoved`, by one division.
+fn unmoved_limit(side: Side, g: u64, divisor: u64, unmoved: u64, k: u64, repo: i64) -> u64
+    requires { ⌜ UnmovedInputs g divisor unmoved ⌝ }
+    requires { ⌜ (k ≤ termDaysMost) × (mag repo ≤ mag repoMost) ⌝ }
+    ensures { λ r. ⌜ r ≡ unmovedLimit side g divisor unmoved k repo ⌝ }
+{
+    exact::rounded_to(
+        inward(side),
+        g,
+        unmoved * exact::grow(YEAR_IN_DAY_BP, k, repo),
+        divisor,
+    )
+}
+
+// A term's band of P·(x_pr - S_1) and P·(x_pr + S_1), by the farthest limits. It takes a few plain numbers, which the
+// three terms share, since the statics would be copied for each.
+fn unmoved_band(g: u64, divisor: u64, lower: u64, upper: u64, farthest: Limits, x: Term) -> Limits
+    requires { ⌜ UnmovedInputs g divisor lower × UnmovedInputs g divisor upper ⌝ }
+    requires { ⌜ validTerm x ≡ true ⌝ }
+    ensures { λ r. ⌜ r ≡ unmovedBand g divisor lower upper farthest x ⌝ }
+{
+    let below = unmoved_limit(Side::Lower, g, divisor, lower, x.k, x.low);
+    let above = unmoved_limit(Side::Upper, g, divisor, upper, x.k, x.high);
+    Limits {
+        lower: narrower(Side::Lower, farthest.lower, below),
+        upper: narrower(Side::Upper, farthest.upper, above),
+    }
+}
+
+// The quick way of `bands_of`.
+fn unmoved_bands(
+    g: u64,
+    divisor: u64,
+    lower: u64,
+    upper: u64,
+    farthest: Limits,
+    terms: [Term; Record::TERMS],
+) -> [Limits; Record::TERMS]
+    requires { ⌜ UnmovedInputs g divisor lower × UnmovedInputs g divisor upper ⌝ }
+    requires { ⌜ EachOfThree (λ k. validTerm (termAt terms k) ≡ true) ⌝ }
+    ensures { λ r. ⌜ r ≡ three (λ k. unmovedBand g divisor lower upper farthest (termAt terms k)) ⌝ }
+{
+    [
+        unmoved_band(g, divisor, lower, upper, farthest, terms[0]),
+        unmoved_band(g, divisor, lower, upper, farthest, terms[1]),
+        unmoved_band(g, divisor, lower, upper, farthest, terms[2]),
+    ]
+}
+
+// Its plain way, which reads as the definition does.
+fn bands_plainly(
+    st: Statics,
+    farthest: Limits,
+    p: Price,
+    s1: Rate,
+    c: Moves,
+    terms: [Term; Record::TERMS],
+) -> [Limits; Record::TERMS]
+    requires { ⌜ validStatics st ≡ true ⌝ }
+    requires { ⌜ farthest ≡ farthestOf st (p .units) ⌝ }
+    requires { ⌜ BandsAsked p s1 c terms ⌝ }
+    ensures { λ r. ⌜ r ≡ three (λ k. bandOf st (p .units) (s1 .bp) c (termAt terms k)) ⌝ }
+{
+    [
+        band_of(st, farthest, p, s1, c, terms[0]),
+        band_of(st, farthest, p, s1, c, terms[1]),
+        band_of(st, farthest, p, s1, c, terms[2]),
+    ]
+}
+
+// The greatest P·(x_pr + S_1) that is multiplied with the days' factor in 64 bits: no price to 3,600 roubles has more.
+const WHOLE_PRODUCT_MOST: u64 = 4_000_000_000_000;
+
+// "For each of the three terms a lower and an upper band limit." An evaluation makes all six, by a quick way (W-214):
+// before the first move e is 1, so that a hundred goes out of the spread and its divisor, and where 64 bits hold the
+// product one division makes a limit. The wide product makes every other one.
+pub fn bands_of(
+    st: Statics,
+    p: Price,
+    s1: Rate,
+    c: Moves,
+    terms: [Term; Record::TERMS],
+) -> [Limits; Record::TERMS]
+    requires { ⌜ validStatics st ≡ true ⌝ }
+    requires { ⌜ BandsAsked p s1 c terms ⌝ }
+    ensures { λ r. ⌜ r ≡ three (λ k. bandOf st (p .units) (s1 .bp) c (termAt terms k)) ⌝ }
+{
+    let farthest = farthest_of(st, p);
+    let lower = p.units * unmoved_spread(st, Side::Lower, s1);
+    let upper = p.units * unmoved_spread(st, Side::Upper, s1);
+    if st.monitoring & (c.lower == 0) & (c.upper == 0) & (upper <= WHOLE_PRODUCT_MOST) {
+        let divisor = ONE_IN_HUNDREDTHS * st.xpr * YEAR_IN_DAY_BP;
+        return unmoved_bands(grid_of(st.lot), divisor, lower, upper, farthest, terms);
+    }
+    bands_plainly(st, farthest, p, s1, c, terms)
 }
 
 // 9: "a rounded lower band limit above its upper one".

@@ -27,10 +27,10 @@ use Rattle.record_soundness.proofs.Facts.{sound-facts}
 use Rattle.rates_level.specs.Asked.{RateStatics}
 use Rattle.rates_level.proofs.Statics.{valid-are-rate-statics, level-statics}
 use Rattle.rates_level.proofs.Reach.{level-rate-within-most}
-use Rattle.limits.specs.LimitRanges.{RangeInputs, TermInputs, valid-limit-statics}
+use Rattle.limits.specs.LimitRanges.{RangeInputs, TermInputs, at-three, BandsAsked, valid-limit-statics}
 use Rattle.limits.specs.LimitBounds.{delta-high}
 use Rattle.alerts.specs.Nearness.{NearRange}
-use Rattle.record_writing.specs.Asked.{at-three, RangesAsked, BandsAsked, ShiftsAsked}
+use Rattle.record_writing.specs.Asked.{ShiftsAsked}
 use Rattle.record_writing.specs.Evaluates.{moveTo, figuresAt}
 
 -- three places are a list of three

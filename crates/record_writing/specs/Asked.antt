@@ -3,18 +3,15 @@
 use mathlib.Core.Path.{_≡_}
 use mathlib.Core.Bool.{true}
 use mathlib.Core.List.{List}
-use Prim.Native.Nat.{ℕ, _≤_, _<_}
-use native.Mathlib.Omega.{arith}
+use Prim.Native.Nat.{ℕ, _≤_}
 use lib.ListN.{getD}
 use Rattle.paper.specs.declared.Price.{Price}
 use Rattle.paper.specs.declared.Rate.{Rate}
 use Rattle.paper.specs.declared.Admission.{Admission}
-use Rattle.paper.specs.declared.Term.{Term}
 use Rattle.paper.specs.declared.Limits.{Limits}
-use Rattle.paper.specs.declared.Moves.{Moves}
 use Rattle.paper.specs.Numbers.{limitMost}
-use Rattle.paper.specs.Ranges.{noRate, noLimits, termAt, validAdmission}
-use Rattle.limits.specs.LimitRanges.{RangeInputs, TermInputs}
+use Rattle.paper.specs.Ranges.{noRate, noLimits, validAdmission}
+use Rattle.limits.specs.LimitRanges.{RangeInputs, EachOfThree}
 use Rattle.limits.specs.LimitBounds.{deltaMost}
 
 -- 4 does not apply, and the two latest evaluations that are given are these prices
@@ -23,20 +20,9 @@ pub record Admitting (a : Admission) (p1 p2 : Price) : Type 0 where
   pub later : p1 ≡ record { units = a .p1 }
   pub earlier : p2 ≡ record { units = a .p2 }
 
--- a fact of each of three places
-abbrev pub EachOfThree : (ℕ → Type 0) → Type 0
-EachOfThree P = P 0 × P 1 × P 2
-
-pub at-three : (P : ℕ → Type 0) → ((i : ℕ) → i < 3 → P i) → EachOfThree P
-at-three P f = (f 0 (omega arith), f 1 (omega arith), f 2 (omega arith))
-
 -- of three ranges: the evaluation P and each rate
 abbrev pub RangesAsked : Price → List Rate → Type 0
 RangesAsked p rates = EachOfThree (λ i. RangeInputs p (getD rates i noRate))
-
--- of three bands: the evaluation P, S_1, the moves and each term
-abbrev pub BandsAsked : Price → Rate → Moves → List Term → Type 0
-BandsAsked p s1 c terms = EachOfThree (λ k. TermInputs p s1 c (termAt terms k))
 
 -- of three ranges that are shifted: delta and each upper limit
 abbrev pub ShiftsAsked : (delta : ℕ) → (ranges : List Limits) → Type 0

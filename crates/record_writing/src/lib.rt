@@ -6,11 +6,11 @@ ghost use Prim.Native.Nat.{_<_};
 ghost use lib.ListN.{getD};
 ghost use Rattle.paper.specs.Lists.{three};
 ghost use Rattle.paper.specs.Numbers.{movesMost};
-ghost use Rattle.paper.specs.Ranges.{validStatics, validQuote, sound, rateAt, noLimits, notNear, termAt};
-ghost use Rattle.paper_desk.specs.Limits.{rangeOf, bandOf, countOf, rangeMoved, bandMoved};
+ghost use Rattle.paper.specs.Ranges.{validQuote, sound, rateAt, noLimits, notNear};
+ghost use Rattle.paper_desk.specs.Limits.{rangeOf, countOf, rangeMoved, bandMoved};
 ghost use Rattle.paper_desk.specs.Alerts.{nearCleared};
 ghost use Rattle.paper_desk.specs.Desk.{admitted, nearOn, quoted, moved, eveningOpened};
-ghost use Rattle.record_writing.specs.Asked.{Admitting, RangesAsked, BandsAsked, ShiftsAsked};
+ghost use Rattle.record_writing.specs.Asked.{Admitting, RangesAsked, ShiftsAsked};
 ghost use Rattle.record_writing.specs.Evaluates.{Evaluating, Makes, Evaluates};
 ghost use Rattle.record_writing.specs.Receives.{Receives};
 use paper::Admission;
@@ -111,7 +111,7 @@ pub fn quoted(r: Record, q: Quote, n: NearSeconds) -> Record
     o
 }
 
-// ---- three limits
+// ---- an evaluation
 
 fn ranges_of(st: Statics, p: Price, rates: [Rate; Record::LEVELS]) -> [Limits; Record::LEVELS]
     requires { ⌜ RangesAsked p rates ⌝ }
@@ -123,27 +123,6 @@ fn ranges_of(st: Statics, p: Price, rates: [Rate; Record::LEVELS]) -> [Limits; R
         limits::range_of(st, p, rates[2]),
     ]
 }
-
-fn bands_of(
-    st: Statics,
-    p: Price,
-    s1: Rate,
-    c: Moves,
-    terms: [Term; Record::TERMS],
-) -> [Limits; Record::TERMS]
-    requires { ⌜ validStatics st ≡ true ⌝ }
-    requires { ⌜ BandsAsked p s1 c terms ⌝ }
-    ensures { λ r. ⌜ r ≡ three (λ k. bandOf st (p .units) (s1 .bp) c (termAt terms k)) ⌝ }
-{
-    let farthest = limits::farthest_of(st, p);
-    [
-        limits::band_of(st, farthest, p, s1, c, terms[0]),
-        limits::band_of(st, farthest, p, s1, c, terms[1]),
-        limits::band_of(st, farthest, p, s1, c, terms[2]),
-    ]
-}
-
-// ---- an evaluation
 
 // What an evaluation works out, under the record's own names: its price, the figures of 7.1 and the limits. All else of
 // a record it keeps, clears or takes from the day, so that a call that only asks need not write a record.
@@ -167,7 +146,7 @@ pub fn made_at(r: Record, d: Day, p: Price, f: Figures) -> Made
     let terms = d.terms;
     let moves = Moves { upper: 0, lower: 0 };
     let ranges = ranges_of(statics, p, rates);
-    let bands = bands_of(statics, p, rates[0], moves, terms);
+    let bands = limits::bands_of(statics, p, rates[0], moves, terms);
     Made {
         p1: p,
         s: f.s,
@@ -281,7 +260,7 @@ pub fn moved(r: Record, side: Side) -> Record
     let p2 = r.p2;
     let s1 = rates[0];
     let c = limits::one_more(side, moves);
-    let fresh = bands_of(statics, p1, s1, c, terms);
+    let fresh = limits::bands_of(statics, p1, s1, c, terms);
     let shifted = ranges_moved(side, limits::delta(statics, p1, s1), ranges);
     let remade = bands_moved(side, fresh, bands);
     let cleared = near_cleared(side, near);

@@ -1,12 +1,10 @@
 -- `limits::band_of` meets its contract, side by side, each with its own farthest limit, moves and repo rate. Each of
 -- the farthest pair is a limit, since it is at most twice the greatest price. Assumes nothing.
 use mathlib.Core.Path.{_≡_, ap, _∙_}
-use mathlib.Core.Bool.{true}
 use Prim.Native.Nat.{_≤_}
 use native.Mathlib.Omega.{arith}
 use mir.Syntax.{w64}
 use mir.Val.{toZ, ofZ}
-use mir.Facts.{toZ-ofZ}
 use Rattle.paper.specs.declared.Price.{Price}
 use Rattle.paper.specs.declared.Rate.{Rate}
 use Rattle.paper.specs.declared.Side.{Side}
@@ -16,22 +14,17 @@ use Rattle.paper.specs.declared.Limits.{Limits}
 use Rattle.paper.specs.declared.Moves.{Moves}
 use Rattle.paper.specs.declared.Term.{Term}
 use Rattle.paper.specs.Numbers.{limitMost}
-use Rattle.paper.specs.Ranges.{validTerm}
 use Rattle.paper_desk.specs.Limits.{bandOf, countOf}
 use Rattle.limits.specs.Sides.{farthestLimit, repoOf}
-use Rattle.limits.specs.LimitRanges.{BandInputs, TermInputs, term-has-band-inputs, term-repo-within-most}
+use Rattle.limits.specs.LimitRanges.{BandInputs, TermInputs, term-has-band-inputs, term-repo-bits}
 use Rattle.limits.specs.LimitRanges.{valid-limit-statics}
 use Rattle.limits.specs.LimitBounds.{farthest-limit-high}
 use Rattle.limits.proofs.band_of.Statement.{statement}
 use Rattle.limits.proofs.band_of.Tie as tie
 
--- a repo rate is its own bits read back
-bits : (side : Side) (x : Term) → validTerm x ≡ true → toZ w64 (ofZ w64 (repoOf side x)) ≡ repoOf side x
-bits side x v = toZ-ofZ (record { sfits = omega (arith, term-repo-within-most side x v) })
-
 inputs : (p : Price) (s1 : Rate) (side : Side) (c : Moves) (x : Term) → TermInputs p s1 c x
     → BandInputs p s1 (countOf side c) (x .k) (toZ w64 (ofZ w64 (repoOf side x)))
-inputs p s1 side c x r = rw (bits side x (r .term)) (term-has-band-inputs p s1 side c x r)
+inputs p s1 side c x r = rw (term-repo-bits side x (r .term)) (term-has-band-inputs p s1 side c x r)
 
 -- the given pair is the two farthest limits
 below : (s : tie.Start) → s .args .farthest .lower ≡ farthestLimit (s .args .st) Lower (s .args .p .units)
@@ -76,8 +69,8 @@ returns c =
     rw (
       lower .limit-within .ensures,
       c .limit-within2 .ensures,
-      bits Lower (s .args .x) v,
-      bits Upper (s .args .x) v,
+      term-repo-bits Lower (s .args .x) v,
+      term-repo-bits Upper (s .args .x) v,
     )
 
 pub band-of-spec : {M : Type 1} → statement M

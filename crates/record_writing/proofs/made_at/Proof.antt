@@ -9,8 +9,7 @@ use Rattle.paper.specs.Ranges.{noRate}
 use Rattle.paper_desk.specs.Desk.{figuresOn, moveOn, evaluated}
 use Rattle.inputs.proofs.Facts.{price-facts}
 use Rattle.record_soundness.proofs.Facts.{sound-facts}
-use Rattle.limits.specs.LimitRanges.{RangeInputs}
-use Rattle.record_writing.specs.Asked.{at-three}
+use Rattle.limits.specs.LimitRanges.{RangeInputs, at-three}
 use Rattle.record_writing.specs.Evaluates.{moveTo, figuresAt}
 use Rattle.record_writing.proofs.Facts.{bands-asked, day-terms-valid, rates-held}
 use Rattle.record_writing.proofs.made_at.Statement.{statement}
