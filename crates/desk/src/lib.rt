@@ -67,7 +67,7 @@ pub fn admit(t: &mut [Record], a: Admission) -> Answer
 {
     let s = take(t, a.id);
     let e = take(t, EMPTY);
-    let o = record_calls::admitted(s, e, a);
+    let o = record_admission::admitted(s, e, a);
     put(t, o.at, o.rec);
     o.answer
 }
@@ -103,7 +103,7 @@ pub fn quote(t: &mut [Record], id: u64, q: Quote) -> Answer
     ensures { λ r. ⌜ Promised (Call.quote id q) (now (t .entry)) r (now (t .exit)) ⌝ }
 {
     let s = take(t, id);
-    let o = record_calls::quoted(s, q);
+    let o = record_monitoring::quoted(s, q);
     put(t, o.at, o.rec);
     o.answer
 }
@@ -113,7 +113,7 @@ pub fn moved(t: &mut [Record], id: u64, side: u64) -> Answer
     ensures { λ r. ⌜ Promised (Call.move id side) (now (t .entry)) r (now (t .exit)) ⌝ }
 {
     let s = take(t, id);
-    let o = record_calls::moved(s, side);
+    let o = record_monitoring::moved(s, side);
     put(t, o.at, o.rec);
     o.answer
 }

@@ -1,3 +1,2 @@
 -- The definitions of record_calls, a file each.
-pub mod SharedChecks
 pub mod Receipts

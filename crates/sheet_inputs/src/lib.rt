@@ -1,6 +1,6 @@
 // What the benchmark hands to the proved rules, and what it adds up of a record: one security, read as the evening reads
-// an `admit` and admitted by the rule of `record_calls`, and its days. `sheet` evaluates them, and `sheet_answers` asks
-// the rest of them.
+// an `admit` and admitted by the rule of `record_admission`, and its days. `sheet` evaluates them, and `sheet_answers`
+// asks the rest of them.
 use exact::unsigned;
 use paper::Day;
 use paper::Record;
@@ -41,7 +41,7 @@ pub fn first(r: Record) -> Slot {
 pub fn admitted(x: &[i64; ADMISSION_NUMBERS]) -> Record {
     let a = text_call::admission_of(x);
     let empty = first(record_answers::blank());
-    let effect = record_calls::admitted(record_answers::absent(Record::SLOTS_MOST), empty, a);
+    let effect = record_admission::admitted(record_answers::absent(Record::SLOTS_MOST), empty, a);
     effect.rec
 }
 

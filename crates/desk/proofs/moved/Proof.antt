@@ -9,8 +9,8 @@ use Rattle.desk.proofs.Known.{take-known, put-known}
 use Rattle.desk.proofs.Plain.{number, number-laws}
 use Rattle.desk.proofs.Shape.{Rule, meets}
 use Rattle.desk.proofs.Steps.{move-steps}
-use Rattle.record_calls.proofs.moved.Symbol as rule-def
-use Rattle.record_calls.proofs.moved.Met as rule-thm
+use Rattle.record_monitoring.proofs.moved.Symbol as rule-def
+use Rattle.record_monitoring.proofs.moved.Met as rule-thm
 use Rattle.desk.proofs.moved as f
 use Rattle.desk.proofs.moved.Key as key
 use Rattle.desk.proofs.moved.Statement as stated
@@ -24,5 +24,5 @@ moved-spec 𝓤 H 𝓜 𝓖 𝓡 =
     (meets number number-laws moveEffect move move-steps rule-def.name 𝓤 H (𝓖 .A) (givenOf 𝓤 H 𝓜 𝓖) (𝓜 .mem) (𝓡 .run)
     (tablesOf 𝓤 H 𝓜 (tables 𝓤 H 𝓜 𝓡 code.env)) (take-known 𝓤 H 𝓜 𝓖 𝓡 code.env code.calls-desk·take)
     (cited 𝓤 H (Rule number number-laws moveEffect move move-steps rule-def.name 𝓤 H
-    (𝓖 .A)) 𝓜 𝓡 code.env rule-def.name rule-def.routine code.calls-record-calls·moved (rule-thm.met 𝓤 H 𝓜 𝓖 𝓡))
+    (𝓖 .A)) 𝓜 𝓡 code.env rule-def.name rule-def.routine code.calls-record-monitoring·moved (rule-thm.met 𝓤 H 𝓜 𝓖 𝓡))
     (put-known 𝓤 H 𝓜 𝓖 𝓡 code.env code.calls-desk·put))

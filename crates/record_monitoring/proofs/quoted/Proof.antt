@@ -1,16 +1,16 @@
--- `record_calls::quoted` meets its contract: a shared check refuses, or 13 does, or the quote is written and its alerts
--- answered. Assumes nothing.
+-- `record_monitoring::quoted` meets its contract: a shared check refuses, or 13 does, or the quote is written and its
+-- alerts answered. Assumes nothing.
 use mathlib.Core.Path.{_≡_, ap, _∙_}
 use borrow.Author.Tests.{lt-ltb, le-ltb}
 use Rattle.paper.specs.Ranges.{validQuote}
 use Rattle.paper.specs.Verdicts.{isDone, firstOf}
 use Rattle.record_answers.specs.Effects.{isKnown, refusedEffect}
-use Rattle.record_calls.specs.SharedChecks.{sharedChecks}
+use Rattle.record_monitoring.specs.SharedChecks.{sharedChecks}
 use Rattle.record_answers.proofs.Tests.{tested-true, tested-false, known-sound}
-use Rattle.record_calls.proofs.Judging.{Passed, past-shared, quote-stopped, quote-earlier, quote-accepted}
+use Rattle.record_monitoring.proofs.Judging.{Passed, past-shared, quote-stopped, quote-earlier, quote-accepted}
 use borrow.Author.Needs.{needs}
-use Rattle.record_calls.proofs.quoted.Statement.{statement}
-use Rattle.record_calls.proofs.quoted.Tie as tie
+use Rattle.record_monitoring.proofs.quoted.Statement.{statement}
+use Rattle.record_monitoring.proofs.quoted.Tie as tie
 
 -- the start, seen from a stage: the shared checks are made; they are passed
 abbrev checked-from : tie.After-shared-checks → tie.Start

@@ -1,15 +1,15 @@
--- `record_calls::admitted_at` meets its contract: each return is the first check that applies, in the order 4, 2, 3, or
--- none. Assumes nothing.
+-- `record_admission::admitted_at` meets its contract: each return is the first check that applies, in the order 4, 2,
+-- 3, or none. Assumes nothing.
 use mathlib.Core.Path.{_≡_, sym, _∙_}
 use mathlib.Core.Bool.{true, false, _&&_}
 use Rattle.paper.specs.Ranges.{validSlots, validAdmission}
 use Rattle.paper.proofs.Logic.{and-right}
 use Rattle.record_answers.specs.Effects.{holds}
 use Rattle.record_answers.proofs.Tests.{tested-true, tested-false}
-use Rattle.record_calls.proofs.Judging.{admission-out, admission-again, admission-full, admission-accepted}
+use Rattle.record_admission.proofs.Judging.{admission-out, admission-again, admission-full, admission-accepted}
 use borrow.Author.Needs.{needs}
-use Rattle.record_calls.proofs.admitted_at.Statement.{statement}
-use Rattle.record_calls.proofs.admitted_at.Tie as tie
+use Rattle.record_admission.proofs.admitted_at.Statement.{statement}
+use Rattle.record_admission.proofs.admitted_at.Tie as tie
 
 -- both tests of 4 are the definition's
 tested : (c : tie.After-valid-admission) → let a = c .before .before .args in

@@ -1,12 +1,12 @@
--- `record_calls::admitted` meets its contract: an admission with a price that is not made is refused 4, and with both
--- made it is `admitted_at`'s. Assumes nothing.
+-- `record_admission::admitted` meets its contract: an admission with a price that is not made is refused 4, and with
+-- both made it is `admitted_at`'s. Assumes nothing.
 use mathlib.Core.Path.{_≡_, sym, _∙_}
 use Rattle.paper.proofs.Logic.{not-true-and-false}
 use Rattle.inputs.proofs.Made.{price-made, price-unmade}
-use Rattle.record_calls.proofs.Judging.{admission-invalid, admission-prices-valid}
+use Rattle.record_admission.proofs.Judging.{admission-invalid, admission-prices-valid}
 use borrow.Author.Needs.{needs}
-use Rattle.record_calls.proofs.admitted.Statement.{statement}
-use Rattle.record_calls.proofs.admitted.Tie as tie
+use Rattle.record_admission.proofs.admitted.Statement.{statement}
+use Rattle.record_admission.proofs.admitted.Tie as tie
 
 new-requires : tie.Need-new-requires
 new-requires c κs = search needs

@@ -1,5 +1,5 @@
--- `record_calls::moved` meets its contract: a shared check refuses, or 18 does, or 12, or the move is written. Assumes
--- nothing.
+-- `record_monitoring::moved` meets its contract: a shared check refuses, or 18 does, or 12, or the move is written.
+-- Assumes nothing.
 use mathlib.Core.Path.{_≡_, ap, _∙_}
 use mathlib.Core.Bool.{true}
 use borrow.Author.Tests.{eq-eqb, ne-eqb}
@@ -7,13 +7,13 @@ use Rattle.paper.specs.Ranges.{validSide, sideOf}
 use Rattle.paper_desk.specs.Evening.{moveAllowed}
 use Rattle.paper.specs.Verdicts.{isDone, firstOf}
 use Rattle.record_answers.specs.Effects.{isKnown, refusedEffect}
-use Rattle.record_calls.specs.SharedChecks.{sharedChecks}
+use Rattle.record_monitoring.specs.SharedChecks.{sharedChecks}
 use Rattle.record_answers.proofs.Tests.{tested-true, tested-false, known-sound}
-use Rattle.record_calls.proofs.Judging.{Passed, past-shared, move-stopped, move-not-allowed, move-used-up}
-use Rattle.record_calls.proofs.Judging.{move-accepted, a-move-is-left}
+use Rattle.record_monitoring.proofs.Judging.{Passed, past-shared, move-stopped, move-not-allowed, move-used-up}
+use Rattle.record_monitoring.proofs.Judging.{move-accepted, a-move-is-left}
 use borrow.Author.Needs.{needs}
-use Rattle.record_calls.proofs.moved.Statement.{statement}
-use Rattle.record_calls.proofs.moved.Tie as tie
+use Rattle.record_monitoring.proofs.moved.Statement.{statement}
+use Rattle.record_monitoring.proofs.moved.Tie as tie
 
 -- the start, seen from a stage: the shared checks are made; they are passed; the session allows a move
 abbrev checked-from : tie.After-shared-checks → tie.Start

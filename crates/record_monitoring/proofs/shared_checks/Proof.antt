@@ -1,16 +1,16 @@
--- `record_calls::shared_checks` meets its contract: each return is the first check that applies, in the order 1, 6, 10,
--- 11, or none. Assumes nothing.
+-- `record_monitoring::shared_checks` meets its contract: each return is the first check that applies, in the order 1,
+-- 6, 10, 11, or none. Assumes nothing.
 use mathlib.Core.Path.{_≡_}
 use mathlib.Core.Bool.{true}
 use Rattle.paper.specs.Ranges.{isLive}
 use Rattle.paper.specs.Verdicts.{firstOf}
 use Rattle.paper.proofs.Logic.{not-true, not-false}
 use Rattle.record_answers.specs.Effects.{isKnown}
-use Rattle.record_calls.specs.SharedChecks.{sharedChecks}
+use Rattle.record_monitoring.specs.SharedChecks.{sharedChecks}
 use Rattle.record_answers.proofs.Tests.{tested-true, tested-false}
 use borrow.Author.Needs.{needs}
-use Rattle.record_calls.proofs.shared_checks.Statement.{statement}
-use Rattle.record_calls.proofs.shared_checks.Tie as tie
+use Rattle.record_monitoring.proofs.shared_checks.Statement.{statement}
+use Rattle.record_monitoring.proofs.shared_checks.Tie as tie
 
 known : (c : tie.Else1) → isKnown (c .before .before .before .args .s) ≡ true
 known c = tested-true _ (c .before .is-known .ensures) (c .if1 .left)

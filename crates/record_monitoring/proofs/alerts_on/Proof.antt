@@ -1,9 +1,9 @@
--- `record_calls::alerts_on` meets its contract: each side's alert is of its near second after the quote, by the
+-- `record_monitoring::alerts_on` meets its contract: each side's alert is of its near second after the quote, by the
 -- session's seconds. Assumes nothing.
 use borrow.Author.Needs.{needs}
 use Rattle.paper_desk.specs.Desk.{alerting, alertsOn}
-use Rattle.record_calls.proofs.alerts_on.Statement.{statement}
-use Rattle.record_calls.proofs.alerts_on.Tie as tie
+use Rattle.record_monitoring.proofs.alerts_on.Statement.{statement}
+use Rattle.record_monitoring.proofs.alerts_on.Tie as tie
 
 blank-requires : tie.Need-blank-requires
 blank-requires c κs = search needs

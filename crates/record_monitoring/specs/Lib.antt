@@ -1,0 +1,2 @@
+-- The definitions of record_monitoring, a file each.
+pub mod SharedChecks

@@ -1,0 +1,100 @@
+// The rules of the two calls that only a monitored security takes, a quote and a move, by value: the slot found and the
+// inputs in, an effect out. Each judges the refusals in the paper's order.
+ghost use mathlib.Core.Path.{_≡_};
+ghost use Rattle.paper.specs.Verdicts.{firstOf};
+ghost use Rattle.paper_desk.specs.Desk.{nearOn, alertsOn};
+ghost use Rattle.record_answers.specs.Effects.{isKnown, quoteEffect, moveEffect};
+ghost use Rattle.record_monitoring.specs.SharedChecks.{sharedChecks};
+use paper::Answer;
+use paper::NearSeconds;
+use paper::Quote;
+use paper::Record;
+use paper::Verdict;
+use record_answers::Effect;
+use record_answers::Slot;
+
+// 1, 6, 10 and 11, which a quote and a move have in this order: the first that applies, or done.
+fn shared_checks(s: Slot, in_range: bool) -> Verdict
+    ensures { λ v. ⌜ v ≡ firstOf (sharedChecks (isKnown s) «in_range» (s .rec)) ⌝ }
+{
+    let r = s.rec;
+    let standing = r.standing;
+    if !record_answers::is_known(s) {
+        return Verdict::NoSuchId;
+    }
+    if !in_range {
+        return Verdict::OutOfRange;
+    }
+    if !record_soundness::is_live(standing) {
+        return Verdict::NotLive;
+    }
+    if !r.statics.monitoring {
+        return Verdict::NotMonitored;
+    }
+    Verdict::Done
+}
+
+// "a quote its two alerts": of the near seconds after it, by the session's own seconds.
+fn alerts_on(r: Record, q: Quote, n: NearSeconds) -> Answer
+    requires { ⌜ n ≡ nearOn r q ⌝ }
+    ensures { λ a. ⌜ a ≡ alertsOn r q ⌝ }
+{
+    let rec = record_answers::blank();
+    let top = n.top;
+    let bottom = n.bottom;
+    let statics = r.statics;
+    let session = r.session;
+    let u = session::alert_seconds(statics, session);
+    Answer {
+        verdict: Verdict::Done,
+        rec,
+        top: alerts::alert(u, top, q.second),
+        bottom: alerts::alert(u, bottom, q.second),
+    }
+}
+
+// "quote 1, 6, 10, 11, 13".
+pub fn quoted(s: Slot, q: Quote) -> Effect
+    ensures { λ o. ⌜ o ≡ quoteEffect s q ⌝ }
+{
+    let count = s.count;
+    let r = s.rec;
+    let v = shared_checks(s, inputs::valid_quote(q));
+    if !v.is_done() {
+        return record_answers::refused(count, v);
+    }
+    if q.second < r.second {
+        return record_answers::refused(count, Verdict::SecondEarlier);
+    }
+    let n = record_writing::near_on(r, q);
+    let rec = record_writing::quoted(r, q, n);
+    let answer = alerts_on(r, q, n);
+    Effect {
+        at: s.at,
+        rec,
+        answer,
+    }
+}
+
+// "move 1, 6, 10, 11, 12"; W-210: "18, .. after 11 and before 12".
+pub fn moved(s: Slot, side: u64) -> Effect
+    ensures { λ o. ⌜ o ≡ moveEffect s side ⌝ }
+{
+    let count = s.count;
+    let r = s.rec;
+    let moves = r.moves;
+    let statics = r.statics;
+    let session = r.session;
+    let v = shared_checks(s, inputs::valid_side(side));
+    if !v.is_done() {
+        return record_answers::refused(count, v);
+    }
+    if !session::move_allowed(statics, session) {
+        return record_answers::refused(count, Verdict::NoEveningMove);
+    }
+    let named = inputs::side_of(side);
+    if limits::count_of(named, moves) == Record::MOVES_MOST {
+        return record_answers::refused(count, Verdict::MovesUsedUp);
+    }
+    record_answers::written(s.at, record_writing::moved(r, named))
+}
