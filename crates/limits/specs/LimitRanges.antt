@@ -18,12 +18,13 @@ use Rattle.paper.specs.declared.Side.{Side}
 use Rattle.paper.specs.declared.Side.the-variants.{Upper, Lower}
 use Rattle.paper.specs.declared.Moves.{Moves}
 use Rattle.paper.specs.declared.Term.{Term}
+use Rattle.paper.specs.Lists.{allThree}
 use Rattle.paper.specs.Numbers.{oneInBp, priceMost, rateMost, movesMost, termDaysMost, repoLeast, repoMost}
 use Rattle.paper.specs.Ranges.{validTerm, termAt, isPrice, isGridPrice, isRate}
 use Rattle.paper_desk.specs.Limits.{countOf, oneMore}
 use Rattle.paper_desk.specs.Gateway.{rangeInRange, bandInRange}
 pub use Rattle.paper_desk.specs.Limits.{LimitStatics}
-use Rattle.paper.proofs.Logic.{and-left, and-right, order-trans}
+use Rattle.paper.proofs.Logic.{and-left, and-right, order-trans, each-of-three}
 pub use Rattle.paper_desk.proofs.LimitSizes.{valid-limit-statics}
 use Rattle.exact.specs.SignedLaws.{between-repo-ends-within-most}
 use Rattle.exact.specs.Wide.{yearMost}
@@ -66,6 +67,22 @@ at-three P f = (f 0 (omega arith), f 1 (omega arith), f 2 (omega arith))
 -- of three bands: the evaluation P, S_1, the moves and each term
 abbrev pub BandsAsked : Price → Rate → Moves → List Term → Type 0
 BandsAsked p s1 c terms = EachOfThree (λ k. TermInputs p s1 c (termAt terms k))
+
+-- a price and a rate in range, counts that 50 holds and three valid terms are that
+pub bands-asked : (p : Price) (s1 : Rate) (c : Moves) (terms : List Term) → RangeInputs p s1
+    → (c .upper ≤ movesMost) × (c .lower ≤ movesMost)
+    → allThree (λ k. validTerm (termAt terms k)) ≡ true → BandsAsked p s1 c terms
+bands-asked p s1 c terms r m v = at-three (λ k. TermInputs p s1 c (termAt terms k)) one
+  where
+    one : (k : ℕ) → k < 3 → TermInputs p s1 c (termAt terms k)
+    one k l =
+        record {
+          price = r .price;
+          rate-high = r .rate-high;
+          upper-moves = m .0;
+          lower-moves = m .1;
+          term = each-of-three (λ k. validTerm (termAt terms k)) v k l;
+        }
 
 -- the greatest P·(x_pr + S_1) with which a monitored limit is made in 64 bits
 abbrev pub wholeProductMost : ℕ

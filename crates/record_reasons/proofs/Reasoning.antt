@@ -35,8 +35,8 @@ use Rattle.rates_level.specs.Asked.{tentativeBound}
 use Rattle.rates_level.proofs.Statics.{within-tentative-bound}
 use Rattle.rates.specs.Asked.{FigureRanges}
 use Rattle.rates.proofs.Statics.{sound-figures-in-ranges}
-use Rattle.record_writing.specs.declared.Made.{Made}
-use Rattle.record_writing.specs.Evaluates.{moveTo, figuresAt, madeOf}
+use Rattle.record_figures.specs.declared.Made.{Made}
+use Rattle.record_figures.specs.Evaluates.{moveTo, figuresAt, madeOf}
 use Rattle.record_answers.specs.declared.Slot.{Slot}
 use Rattle.record_answers.specs.Effects.{isKnown}
 use Rattle.record_evaluation.specs.Workings.{pricedOn}

@@ -30,7 +30,7 @@ use rates::volatility::model_of;
 use rates::volatility::move_of;
 use rates_level::covers;
 use rates_level::level_of;
-use record_writing::Made;
+use record_figures::Made;
 
 // "(close, bid, ask, or yesterday)"
 fn price_reason(previous: Price, f: PriceFigures) -> PriceReason

@@ -1,17 +1,16 @@
--- What is known when an admission is written, and what the makers of three limits ask of their numbers: no more than a
--- valid admission, a sound record and an evaluation in range give. Assumes nothing.
+-- What is known when an admission is written, and what shifting three ranges asks of their numbers: no more than a
+-- valid admission and a sound record give. Assumes nothing.
 use mathlib.Core.Path.{_≡_}
 use mathlib.Core.Bool.{true}
 use mathlib.Core.List.{List}
 use Prim.Native.Nat.{ℕ, _≤_}
 use lib.ListN.{getD}
 use Rattle.paper.specs.declared.Price.{Price}
-use Rattle.paper.specs.declared.Rate.{Rate}
 use Rattle.paper.specs.declared.Admission.{Admission}
 use Rattle.paper.specs.declared.Limits.{Limits}
 use Rattle.paper.specs.Numbers.{limitMost}
-use Rattle.paper.specs.Ranges.{noRate, noLimits, validAdmission}
-use Rattle.limits.specs.LimitRanges.{RangeInputs, EachOfThree}
+use Rattle.paper.specs.Ranges.{noLimits, validAdmission}
+use Rattle.limits.specs.LimitRanges.{EachOfThree}
 use Rattle.limits.specs.LimitBounds.{deltaMost}
 
 -- 4 does not apply, and the two latest evaluations that are given are these prices
@@ -19,10 +18,6 @@ pub record Admitting (a : Admission) (p1 p2 : Price) : Type 0 where
   pub valid : validAdmission a ≡ true
   pub later : p1 ≡ record { units = a .p1 }
   pub earlier : p2 ≡ record { units = a .p2 }
-
--- of three ranges: the evaluation P and each rate
-abbrev pub RangesAsked : Price → List Rate → Type 0
-RangesAsked p rates = EachOfThree (λ i. RangeInputs p (getD rates i noRate))
 
 -- of three ranges that are shifted: delta and each upper limit
 abbrev pub ShiftsAsked : (delta : ℕ) → (ranges : List Limits) → Type 0

@@ -3,8 +3,8 @@
 use borrow.Author.Needs.{needs}
 use Rattle.paper_desk.specs.Desk.{moved}
 use Rattle.record_soundness.proofs.Facts.{sound-facts}
-use Rattle.limits.specs.LimitRanges.{one-more-high}
-use Rattle.record_writing.proofs.Facts.{bands-asked, sound-terms-valid, sound-range-inputs, shifts-asked}
+use Rattle.limits.specs.LimitRanges.{one-more-high, bands-asked}
+use Rattle.record_writing.proofs.Facts.{sound-terms-valid, sound-range-inputs, shifts-asked}
 use Rattle.record_writing.proofs.moved.Statement.{statement}
 use Rattle.record_writing.proofs.moved.Tie as tie
 

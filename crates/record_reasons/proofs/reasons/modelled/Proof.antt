@@ -10,7 +10,7 @@ use Rattle.paper_desk.proofs.TentativeRange.{valid-tentative-within-top, tentat
 use Rattle.rates_level.specs.Asked.{tentativeBound}
 use Rattle.rates_level.proofs.Statics.{within-tentative-bound}
 use Rattle.rates.proofs.Statics.{rates-weighing}
-use Rattle.record_writing.specs.Evaluates.{moveTo}
+use Rattle.record_figures.specs.Evaluates.{moveTo}
 use Rattle.record_evaluation.proofs.Evaluations.{sound-prices-valid}
 use Rattle.record_reasons.proofs.Reasoning.{allowed-move-within-most, figures-modelled, figures-in-ranges}
 use Rattle.record_reasons.proofs.Reasoning.{levels-may-be-asked, rates-are-level-rates, level-at, weight-by}

@@ -1,12 +1,12 @@
--- `record_writing::evaluated` meets its contract: what was made is the paper's, the terms are the day's, and all else
+-- `record_figures::evaluated` meets its contract: what was made is the paper's, the terms are the day's, and all else
 -- is cleared or the record's. Assumes nothing.
 use mathlib.Core.Path.{_≡_}
 use lib.ListN.{length, length-map}
 use Rattle.paper.specs.Ranges.{noTerm}
 use Rattle.paper_desk.specs.Desk.{evaluated}
-use Rattle.record_writing.proofs.Facts.{list-of-three-is}
-use Rattle.record_writing.proofs.evaluated.Statement.{statement}
-use Rattle.record_writing.proofs.evaluated.Tie as tie
+use Rattle.record_figures.proofs.Facts.{list-of-three-is}
+use Rattle.record_figures.proofs.evaluated.Statement.{statement}
+use Rattle.record_figures.proofs.evaluated.Tie as tie
 
 returns : tie.Need-returns
 unfolding evaluated

@@ -1,4 +1,4 @@
--- `record_writing::made_at` meets its contract: the limits are made of the price and the figures, which are those of
+-- `record_figures::made_at` meets its contract: the limits are made of the price and the figures, which are those of
 -- any rows with that price. Assumes nothing.
 use borrow.Author.Needs.{needs}
 use Prim.Native.Nat.{ℕ, _<_}
@@ -9,11 +9,11 @@ use Rattle.paper.specs.Ranges.{noRate}
 use Rattle.paper_desk.specs.Desk.{figuresOn, moveOn, evaluated}
 use Rattle.inputs.proofs.Facts.{price-facts}
 use Rattle.record_soundness.proofs.Facts.{sound-facts}
-use Rattle.limits.specs.LimitRanges.{RangeInputs, at-three}
-use Rattle.record_writing.specs.Evaluates.{moveTo, figuresAt}
-use Rattle.record_writing.proofs.Facts.{bands-asked, day-terms-valid, rates-held}
-use Rattle.record_writing.proofs.made_at.Statement.{statement}
-use Rattle.record_writing.proofs.made_at.Tie as tie
+use Rattle.limits.specs.LimitRanges.{RangeInputs, at-three, bands-asked}
+use Rattle.record_figures.specs.Evaluates.{moveTo, figuresAt}
+use Rattle.record_figures.proofs.Facts.{day-terms-valid, rates-held}
+use Rattle.record_figures.proofs.made_at.Statement.{statement}
+use Rattle.record_figures.proofs.made_at.Tie as tie
 
 -- the evaluation and a rate of the figures
 rated : (c : tie.After-terms) (i : ℕ) → i < 3

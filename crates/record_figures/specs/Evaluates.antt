@@ -9,11 +9,17 @@ use lib.ListN.{getD}
 use Rattle.paper.specs.declared.Record.{Record}
 use Rattle.paper.specs.declared.Day.{Day}
 use Rattle.paper.specs.declared.Price.{Price}
-use Rattle.paper.specs.Ranges.{isPrice, sound, validDayNumbers, rateAt}
+use Rattle.paper.specs.declared.Rate.{Rate}
+use Rattle.paper.specs.Ranges.{noRate, isPrice, sound, validDayNumbers, rateAt}
 use Rattle.paper_desk.specs.Rates.{moveOf, figuresOf}
 use Rattle.paper_desk.specs.Desk.{priceOn, evaluated}
 use Rattle.paper.specs.declared.Figures.{Figures}
-use Rattle.record_writing.specs.declared.Made.{Made}
+use Rattle.limits.specs.LimitRanges.{RangeInputs, EachOfThree}
+use Rattle.record_figures.specs.declared.Made.{Made}
+
+-- of three ranges: the evaluation P and each rate
+abbrev pub RangesAsked : Price → List Rate → Type 0
+RangesAsked p rates = EachOfThree (λ i. RangeInputs p (getD rates i noRate))
 
 -- the move to P and the figures of 7.1 at P
 unfoldable pub moveTo : Record → (p : ℕ) → ℕ

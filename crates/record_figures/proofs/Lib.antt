@@ -1,0 +1,2 @@
+-- The facts of a day and of the figures that an evaluation needs; other crates may cite the public ones.
+pub mod Facts

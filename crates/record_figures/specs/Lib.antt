@@ -1,0 +1,2 @@
+-- What an evaluation asks for, makes and writes.
+pub mod Evaluates
