@@ -179,18 +179,10 @@ evaluated r d rows =
       external = r .external;
     }
 
--- "One quote touches one term only."
-unfoldable pub nearOn : Record → Quote → NearSeconds
-nearOn r q =
-    let x : Limits = getD (r .bands) (q .term) noLimits in
-    let n : NearSeconds = getD (r .near) (q .term) notNear in
-    record {
-      top = nearAfter (isNear Upper (r .statics .w) x (q .bid)) (n .top) (q .second);
-      bottom = nearAfter (isNear Lower (r .statics .w) x (q .ask)) (n .bottom) (q .second);
-    }
-
-unfoldable pub quoted : Record → Quote → Record
-quoted r q =
+-- the record with other near seconds, another last quote second, another session and another outside pair: a quote, an
+-- opening of the evening and a receipt of outside prices leave the rest of it
+abbrev pub watching : Record → (near : List NearSeconds) → (second : ℕ) → Session → External → Record
+watching r near second session external =
     record {
       id = r .id;
       statics = r .statics;
@@ -204,11 +196,24 @@ quoted r q =
       terms = r .terms;
       bands = r .bands;
       moves = r .moves;
-      near = set (r .near) (q .term) (nearOn r q);
-      second = q .second;
-      session = r .session;
-      external = r .external;
+      near = near;
+      second = second;
+      session = session;
+      external = external;
     }
+
+-- "One quote touches one term only."
+unfoldable pub nearOn : Record → Quote → NearSeconds
+nearOn r q =
+    let x : Limits = getD (r .bands) (q .term) noLimits in
+    let n : NearSeconds = getD (r .near) (q .term) notNear in
+    record {
+      top = nearAfter (isNear Upper (r .statics .w) x (q .bid)) (n .top) (q .second);
+      bottom = nearAfter (isNear Lower (r .statics .w) x (q .ask)) (n .bottom) (q .second);
+    }
+
+unfoldable pub quoted : Record → Quote → Record
+quoted r q = watching r (set (r .near) (q .term) (nearOn r q)) (q .second) (r .session) (r .external)
 
 -- "The answer has two yes/no alerts, one for the top and one for the bottom"; W-210: in the evening by "its own seconds
 -- u"
@@ -247,47 +252,11 @@ moved r side =
 -- W-210: "Opening the evening clears the near seconds and keeps c"; "The evening keeps the main session's limits
 -- (11.3)"
 unfoldable pub eveningOpened : Record → Record
-eveningOpened r =
-    record {
-      id = r .id;
-      statics = r .statics;
-      standing = r .standing;
-      p1 = r .p1;
-      p2 = r .p2;
-      s = r .s;
-      tentative = r .tentative;
-      rates = r .rates;
-      ranges = r .ranges;
-      terms = r .terms;
-      bands = r .bands;
-      moves = r .moves;  -- "keeps c"
-      near = three (λ k. notNear);
-      second = r .second;
-      session = Evening 0;
-      external = r .external;
-    }
+eveningOpened r = watching r (three (λ k. notNear)) (r .second) (Evening 0) (r .external)
 
 -- W-211: what is received changes the kept pair alone
 unfoldable pub received : Record → Told → Record
-received r x =
-    record {
-      id = r .id;
-      statics = r .statics;
-      standing = r .standing;
-      p1 = r .p1;
-      p2 = r .p2;
-      s = r .s;
-      tentative = r .tentative;
-      rates = r .rates;
-      ranges = r .ranges;
-      terms = r .terms;
-      bands = r .bands;
-      moves = r .moves;
-      near = r .near;
-      second = r .second;
-      session = r .session;
-      external = keptAfter (r .external) x;
-    }
+received r x = watching r (r .near) (r .second) (r .session) (keptAfter (r .external) x)
 
 -- ---- the table
 
