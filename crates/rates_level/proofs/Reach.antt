@@ -1,26 +1,29 @@
 -- Laws of the least rate that reaches a level's requirement. Assumes nothing.
 use mathlib.Core.Path.{_≡_, refl, ap, sym, subst, _∙_}
 use mathlib.Core.Logic.{_⊎_, inl, inr}
-use mathlib.Core.Bool.{Bool, true, false, not, _&&_, _||_}
+use mathlib.Core.Bool.{Bool, true, false, _&&_, _||_}
 use Prim.Native.Nat.{ℕ, _+_, _-_, _*_, _/_, _%_, _≤_, _<_, min, max}
-use native.Mathlib.Nat.{mul-le-mul, mul-le-mul-right, le-trans, le-dest, le-of-lt, le-antisymm, mul-lt-mul-of-pos-right}
-use native.Mathlib.Nat.{le-div-iff-mul-le, mul-mod-left, mod-eq-of-lt}
+use native.Mathlib.Nat.{mul-le-mul, mul-le-mul-right, mul-lt-mul-of-pos-right, add-le-add, le-dest, le-of-lt}
+use native.Mathlib.Nat.{le-antisymm, le-div-iff-mul-le, mul-mod-left}
 use native.Mathlib.Omega.{arith}
 use lib.Dec.{leb}
-use borrow.Author.Tests.{leb-true, leb-false, le-leb, lt-leb}
+use borrow.Author.Tests.{leb-true, le-leb, lt-leb}
 use Rattle.paper.specs.declared.Statics.{Statics}
 use Rattle.paper.specs.Lists.{pick}
 use Rattle.paper.specs.Least.{least, leastMultiple}
-use Rattle.paper_desk.specs.Rates.{meetsRequirement, daysOf, minimumOf, covers, levelRate}
+use Rattle.paper.specs.Numbers.{aheadMost, firstDaysMost, liquidityMost}
+use Rattle.paper_desk.specs.Rates.{daysOf, minimumOf, covers, levelRate}
 use Rattle.paper.proofs.Logic.{not-true-and-false, and-left, and-right, and-both, not-true, pick-true, pick-false}
 use Rattle.paper.proofs.Logic.{le-or-lt}
 use Rattle.paper_desk.proofs.Level.{meets-roots, within-more, covers-more, quotient-times-is}
 use Rattle.paper.proofs.Search.{Mono, Between, between-below-hit, between-above-miss, between-one-is-least}
-use Rattle.paper.proofs.Search.{least-monotone, multiple-holds-or-is-last, multiple-within-bound}
-use Rattle.rates_level.specs.Asked.{RateStatics}
+use Rattle.paper.proofs.Search.{least-bound, least-monotone, multiple-holds-or-is-last, multiple-within-bound}
+use Rattle.rates_level.specs.declared.Level.{Level}
+use Rattle.rates_level.specs.declared.Squares.{Squares}
+use Rattle.rates_level.specs.Asked.{RateStatics, tentativeBound}
+use Rattle.rates_level.specs.Level.{levelOf, squaresOf, reaches, reachMost, leastReach, Sought, coversBy}
+use Rattle.rates_level.specs.Level.{leastRate, Tried, enough, noLess}
 use Rattle.rates_level.proofs.Statics.{level-statics}
-use Rattle.rates_level.specs.Level.{tentativeSquare, liquiditySquare, reaches, reachMost, leastReach}
-use Rattle.rates_level.specs.Level.{Tried, enough, noLess}
 
 -- ---- the comparison
 
@@ -38,14 +41,18 @@ four-products-below-square a b = either (le-or-lt a b)
     either (inl h) = ordered a b h
     either (inr h) = omega (arith, ordered b a (le-of-lt h))
 
--- a rate meets the requirement exactly where, times rh_1, it reaches the two roots
-pub meets-reaches : (rh1 rh liq m tentative v : ℕ)
-    → reaches (v * rh1) (tentativeSquare rh1 rh m tentative) (liquiditySquare rh1 rh liq)
-    ≡ meetsRequirement rh1 rh liq tentative m v
-unfolding reaches
-meets-reaches rh1 rh liq m tentative v =
-    let same : v * rh1 * (v * rh1) ≡ v * v * (rh1 * rh1) = omega arith in
-    rw same (sym (meets-roots rh1 rh liq m tentative v))
+-- a rate covers the requirement exactly where, times rh_1, it reaches the two roots
+pub reaches-is-covers : (st : Statics) (level m tentative v : ℕ)
+    → coversBy (st .rh1) (levelOf st level) (squaresOf st m tentative) v ≡ covers st tentative m level v
+unfolding reaches covers
+reaches-is-covers st level m tentative v =
+    let rh1 = st .rh1 in
+    let rh = daysOf st level in
+    let liq = st .liq in
+    let square : v * rh1 * (v * rh1) ≡ v * v * (rh1 * rh1) = omega arith in
+    let volatile : rh * (tentative * tentative * (rh1 + m)) ≡ rh * (tentative * tentative) * (rh1 + m) = omega arith in
+    let liquid : rh * (rh1 * (liq * liq)) ≡ rh * rh1 * (liq * liq) = omega arith in
+    rw (square, volatile, liquid) (sym (meets-roots rh1 rh liq m tentative v))
 
 -- more reaches too
 pub reaches-monotone : (x y a b : ℕ) → x ≤ y → reaches x a b ≡ true → reaches y a b ≡ true
@@ -150,43 +157,94 @@ steps-from x h k p e = go (le-or-lt (x / h) k)
     go (inl l) = le-leb (x / h) k l ∙ sym (le-leb x (k * h) (omega (arith, exact, mul-le-mul-right h l)))
     go (inr l) = lt-leb (x / h) k l ∙ sym (lt-leb x (k * h) (omega (arith, exact, mul-lt-mul-of-pos-right l p)))
 
-pub least-reach-is-level-rate : (st : Statics) (level m tentative : ℕ) → RateStatics st
-    → leastReach (minimumOf st level / st .h) (st .smax / st .h) (st .h * st .rh1)
-    (tentativeSquare (st .rh1) (daysOf st level) m tentative) (liquiditySquare (st .rh1) (daysOf st level) (st .liq)) *
-    st .h
+pub least-rate-is-level-rate : (st : Statics) (level m tentative : ℕ) → RateStatics st
+    → leastRate (st .h) (st .rh1) (st .smax) (levelOf st level) (squaresOf st m tentative)
     ≡ levelRate st tentative m level
-unfolding leastReach leastMultiple covers
-least-reach-is-level-rate st level m tentative r =
+unfolding leastReach leastMultiple
+least-rate-is-level-rate st level m tentative r =
     ap (λ (k : ℕ). k * st .h) (least-same (st .smax / st .h) _ _ same)
     ∙ least-multiple-is-level-rate st level m tentative (r .most-multiple)
   where
-    rh : ℕ
-    rh = daysOf st level
+    own : Level
+    own = levelOf st level
+
+    s : Squares
+    s = squaresOf st m tentative
 
     same : (k : ℕ)
         → (leb (minimumOf st level / st .h) k
-        && reaches (k * (st .h * st .rh1)) (tentativeSquare (st .rh1) rh m tentative)
-        (liquiditySquare (st .rh1) rh (st .liq)))
+        && reaches (k * (st .h * st .rh1)) (own .days * s .tentative) (own .days * s .liquidity))
         ≡ (leb (minimumOf st level) (k * st .h) && covers st tentative m level (k * st .h))
     same k =
         let step : k * (st .h * st .rh1) ≡ k * st .h * st .rh1 = omega arith in
         rw (
           step,
           steps-from (minimumOf st level) (st .h) k (r .step-low) (level-statics st level r .2),
-          meets-reaches (st .rh1) rh (st .liq) m tentative (k * st .h),
+          reaches-is-covers st level m tentative (k * st .h),
         )
 
+pub least-rate-within-most : (h rh1 smax : ℕ) (own : Level) (s : Squares) → smax % h ≡ 0
+    → leastRate h rh1 smax own s ≤ smax
+unfolding leastReach
+least-rate-within-most h rh1 smax own s e =
+    let bound = least-bound (smax / h) (λ k. leb (own .minimum .bp / h) k && coversBy (h * rh1) own s k) in
+    omega (arith, quotient-times-is smax h e, mul-le-mul-right h bound)
+
+-- "S_max if the requirement exceeds it": no rate is above it
+pub level-rate-within-most : (st : Statics) (level m tentative : ℕ) → RateStatics st
+    → levelRate st tentative m level ≤ st .smax
+level-rate-within-most st level m tentative r =
+    rw (← least-rate-is-level-rate st level m tentative r)
+    (least-rate-within-most (st .h) (st .rh1) _ (levelOf st level) (squaresOf st m tentative) (r .most-multiple))
+
+-- ---- what the search is given
+
+-- the squares at their most
+pub record SquareSizes (rh1 liq m tentative : ℕ) : Type 0 where
+  pub tentative-square : tentative * tentative ≤ tentativeBound * tentativeBound
+  pub tentative-days : tentative * tentative * (rh1 + m) ≤ tentativeBound * tentativeBound * (firstDaysMost + aheadMost)
+  pub liquidity-square : liq * liq ≤ liquidityMost * liquidityMost
+  pub liquidity-days : rh1 * (liq * liq) ≤ firstDaysMost * (liquidityMost * liquidityMost)
+
+module _ (st : Statics) (m tentative : ℕ) (r : RateStatics st) (n : m ≤ aheadMost) (t : tentative ≤ tentativeBound)
+  where
+    pub square-sizes : SquareSizes (st .rh1) (st .liq) m tentative
+    square-sizes =
+        let squared = mul-le-mul t t in
+        let liquid = mul-le-mul (r .liquidity-high) (r .liquidity-high) in
+        record {
+          tentative-square = squared;
+          tentative-days = mul-le-mul squared (add-le-add (r .first-high) n);
+          liquidity-square = liquid;
+          liquidity-days = mul-le-mul (r .first-high) liquid;
+        }
+
+    pub level-is-sought : (level : ℕ)
+        → Sought (st .h) (st .rh1) (st .smax) (levelOf st level) (squaresOf st m tentative)
+    level-is-sought level =
+        let own = level-statics st level r in
+        record {
+          step-low = r .step-low;
+          step-high = r .step-high;
+          first-high = r .first-high;
+          most-high = r .most-high;
+          most-multiple = r .most-multiple;
+          minimum-high = own .1;
+          minimum-multiple = own .2;
+          tentative-high = omega (arith, mul-le-mul (own .0) (square-sizes .tentative-days));
+          liquidity-high = omega (arith, mul-le-mul (own .0) (square-sizes .liquidity-days));
+        }
+
 -- the numbers of steps that the search is given are in order, and reach no further than a rate may
-pub steps-within-reach : (st : Statics) (level : ℕ) → RateStatics st
-    → (minimumOf st level / st .h ≤ st .smax / st .h) × (st .smax / st .h * (st .h * st .rh1) ≤ reachMost)
-steps-within-reach st level r =
-    let own = level-statics st level r in
-    let most = quotient-times-is (st .smax) (st .h) (r .most-multiple) in
-    let low = quotient-times-is (minimumOf st level) (st .h) (own .2) in
-    let same : st .smax / st .h * (st .h * st .rh1) ≡ st .smax / st .h * st .h * st .rh1 = omega arith in (
-      le-div-iff-mul-le {k = st .h} {x = minimumOf st level / st .h} {y = st .smax} (r .step-low) .1
-          (omega (arith, low, own .1)),
-      rw (same, most) (mul-le-mul (r .most-high) (r .first-high)),
+pub steps-within-reach : (h rh1 smax : ℕ) (own : Level) (s : Squares) → Sought h rh1 smax own s
+    → (own .minimum .bp / h ≤ smax / h) × (smax / h * (h * rh1) ≤ reachMost)
+steps-within-reach h rh1 smax own s g =
+    let top = quotient-times-is smax h (g .most-multiple) in
+    let low = quotient-times-is (own .minimum .bp) h (g .minimum-multiple) in
+    let same : smax / h * (h * rh1) ≡ smax / h * h * rh1 = omega arith in (
+      le-div-iff-mul-le {k = h} {x = own .minimum .bp / h} {y = smax} (g .step-low) .1
+          (omega (arith, low, g .minimum-high)),
+      rw (same, top) (mul-le-mul (g .most-high) (g .first-high)),
     )
 
 -- ---- a guess that is tried from both sides is the rate (W-214)
@@ -220,73 +278,61 @@ or-right : (a b : Bool) → a ≡ false → (a || b) ≡ true → b ≡ true
 or-right true b p e = absurd (not-true-and-false true refl p)
 or-right false b p e = e
 
-pub tried-is-level-rate : (st : Statics) (level m tentative v : ℕ) → RateStatics st → Tried st (minimumOf st level) v
-    → enough st (tentativeSquare (st .rh1) (daysOf st level) m tentative)
-    (liquiditySquare (st .rh1) (daysOf st level) (st .liq)) v ≡ true
-    → noLess st (minimumOf st level) (tentativeSquare (st .rh1) (daysOf st level) m tentative)
-    (liquiditySquare (st .rh1) (daysOf st level) (st .liq)) v ≡ true
-    → v ≡ levelRate st tentative m level
-tried-is-level-rate st level m tentative v r t e n =
-    sym whole ∙ ap (λ (z : ℕ). z * st .h) (tried-is-least-reach low high step a b k low-k k-high hit miss)
-    ∙ least-reach-is-level-rate st level m tentative r
+pub tried-is-least-rate : (h rh1 smax : ℕ) (own : Level) (s : Squares) (v : ℕ) → Sought h rh1 smax own s
+    → Tried h smax own v → enough rh1 smax own s v ≡ true → noLess h rh1 own s v ≡ true
+    → v ≡ leastRate h rh1 smax own s
+tried-is-least-rate h rh1 smax own s v g t e n =
+    sym whole ∙ ap (λ (z : ℕ). z * h) (tried-is-least-reach low high step a b k low-k k-high hit miss)
   where
     a : ℕ
-    a = tentativeSquare (st .rh1) (daysOf st level) m tentative
+    a = own .days * s .tentative
 
     b : ℕ
-    b = liquiditySquare (st .rh1) (daysOf st level) (st .liq)
+    b = own .days * s .liquidity
 
     k : ℕ
-    k = v / st .h
+    k = v / h
 
     low : ℕ
-    low = minimumOf st level / st .h
+    low = own .minimum .bp / h
 
     high : ℕ
-    high = st .smax / st .h
+    high = smax / h
 
     step : ℕ
-    step = st .h * st .rh1
+    step = h * rh1
 
-    whole : k * st .h ≡ v
-    whole = quotient-times-is v (st .h) (t .multiple)
+    whole : k * h ≡ v
+    whole = quotient-times-is v h (t .multiple)
 
-    low-whole : low * st .h ≡ minimumOf st level
-    low-whole = quotient-times-is (minimumOf st level) (st .h) (level-statics st level r .2)
+    low-whole : low * h ≡ own .minimum .bp
+    low-whole = quotient-times-is (own .minimum .bp) h (g .minimum-multiple)
 
-    high-whole : high * st .h ≡ st .smax
-    high-whole = quotient-times-is (st .smax) (st .h) (r .most-multiple)
+    high-whole : high * h ≡ smax
+    high-whole = quotient-times-is smax h (g .most-multiple)
 
     low-k : low ≤ k
-    low-k = le-div-iff-mul-le {k = st .h} {x = low} {y = v} (r .step-low) .1 (omega (arith, low-whole, t .low))
+    low-k = le-div-iff-mul-le {k = h} {x = low} {y = v} (g .step-low) .1 (omega (arith, low-whole, t .low))
 
     k-high : k ≤ high
-    k-high = le-div-iff-mul-le {k = st .h} {x = k} {y = st .smax} (r .step-low) .1 (omega (arith, whole, t .high))
+    k-high = le-div-iff-mul-le {k = h} {x = k} {y = smax} (g .step-low) .1 (omega (arith, whole, t .high))
 
     hit : k < high → reaches (k * step) a b ≡ true
     hit l =
-        let below : v < st .smax = omega (arith, whole, high-whole, mul-lt-mul-of-pos-right l (r .step-low)) in
-        let same : k * step ≡ v * st .rh1 = omega (arith, ap (λ (z : ℕ). z * st .rh1) whole) in
-        rw same (or-right (leb (st .smax) v) _ (lt-leb (st .smax) v below) e)
+        let below : v < smax = omega (arith, whole, high-whole, mul-lt-mul-of-pos-right l (g .step-low)) in
+        let same : k * step ≡ v * rh1 = omega (arith, ap (λ (z : ℕ). z * rh1) whole) in
+        rw same (or-right (leb smax v) _ (lt-leb smax v below) e)
 
     miss : low < k → reaches ((k - 1) * step) a b ≡ false
     miss l =
-        let above : minimumOf st level < v =
-        omega (arith, whole, low-whole, mul-lt-mul-of-pos-right l (r .step-low)) in
+        let above : own .minimum .bp < v =
+        omega (arith, whole, low-whole, mul-lt-mul-of-pos-right l (g .step-low)) in
         let less : ℕ = k - 1 in
         let next : k ≡ less + 1 = omega arith in
-        let times : k * st .h ≡ (less + 1) * st .h = ap (λ (z : ℕ). z * st .h) next in
-        let step-less : less * st .h ≡ v - st .h = omega (arith, whole) in
-        let same : less * step ≡ (v - st .h) * st .rh1 = omega (arith, ap (λ (z : ℕ). z * st .rh1) step-less) in
-        rw same (not-true _ (or-right (leb v (minimumOf st level)) _ (lt-leb v (minimumOf st level) above) n))
-
--- a multiple of h that is not 0 is at least a step
-pub multiple-is-at-least-step : (h v : ℕ) → 0 < v → v % h ≡ 0 → h ≤ v
-multiple-is-at-least-step h v p e = go (le-or-lt h v)
-  where
-    go : (h ≤ v) ⊎ (v < h) → h ≤ v
-    go (inl l) = l
-    go (inr l) = absurd (omega (arith, mod-eq-of-lt l))
+        let times : k * h ≡ (less + 1) * h = ap (λ (z : ℕ). z * h) next in
+        let step-less : less * h ≡ v - h = omega (arith, whole) in
+        let same : less * step ≡ (v - h) * rh1 = omega (arith, ap (λ (z : ℕ). z * rh1) step-less) in
+        rw same (not-true _ (or-right (leb v (own .minimum .bp)) _ (lt-leb v (own .minimum .bp) above) n))
 
 -- the greater and the lesser of two multiples are multiples
 greater-is-multiple : (h x y : ℕ) → x % h ≡ 0 → y % h ≡ 0 → max x y % h ≡ 0
@@ -303,25 +349,14 @@ lesser-is-multiple h x y p q = go (le-or-lt x y)
     go (inl l) = let e : min x y ≡ x = omega arith in rw e p
     go (inr l) = let e : min x y ≡ y = omega arith in rw e q
 
-pub held-is-tried : (st : Statics) (minimum steps : ℕ) → RateStatics st → minimum ≤ st .smax → minimum % st .h ≡ 0
-    → Tried st minimum (max minimum (min (st .smax) (steps * st .h)))
-held-is-tried st minimum steps r l e =
+pub held-is-tried : (h rh1 smax : ℕ) (own : Level) (s : Squares) (steps : ℕ) → Sought h rh1 smax own s
+    → Tried h smax own (max (own .minimum .bp) (min smax (steps * h)))
+held-is-tried h rh1 smax own s steps g =
+    let least = own .minimum .bp in
     record {
       multiple =
-          greater-is-multiple (st .h) minimum (min (st .smax) (steps * st .h)) e
-          (lesser-is-multiple (st .h) (st .smax) (steps * st .h) (r .most-multiple) (mul-mod-left steps (st .h)));
+          greater-is-multiple h least (min smax (steps * h)) (g .minimum-multiple)
+          (lesser-is-multiple h smax (steps * h) (g .most-multiple) (mul-mod-left steps h));
       low = omega arith;
-      high = omega arith;
+      high = omega (arith, g .minimum-high);
     }
-
--- "S_max if the requirement exceeds it": no rate is above it
-pub level-rate-within-most : (st : Statics) (level m tentative : ℕ) → RateStatics st
-    → levelRate st tentative m level ≤ st .smax
-level-rate-within-most st level m tentative r =
-    rw (← least-multiple-is-level-rate st level m tentative (r .most-multiple))
-    (omega (
-      arith,
-      quotient-times-is (st .smax) (st .h) (r .most-multiple),
-      multiple-within-bound (st .h) (st .smax / st .h)
-          (λ v. leb (minimumOf st level) v && covers st tentative m level v),
-    ))

@@ -3,13 +3,13 @@
 mod guess; // a guess of that rate
 
 ghost use mathlib.Core.Path.{_≡_};
-ghost use Prim.Native.Nat.{_*_, _%_, _≤_, _<_};
+ghost use Prim.Native.Nat.{_*_, _≤_};
 ghost use Rattle.paper.specs.Lists.{forLevels};
-ghost use Rattle.paper.specs.Numbers.{rateMost, aheadMost, firstDaysMost, daysMost, liquidityMost};
+ghost use Rattle.paper.specs.Numbers.{rateMost, aheadMost};
 ghost use Rattle.paper_desk.specs.Rates.{minimumOf, covers, levelRate};
 ghost use Rattle.rates_level.specs.Asked.{RateStatics, tentativeBound};
-ghost use Rattle.rates_level.specs.Level.{levelOf, tentativeSquare, liquiditySquare, squareMost, reaches};
-ghost use Rattle.rates_level.specs.Level.{reachMost, leastReach, guessMost, stepsBound, Tried, enough, noLess};
+ghost use Rattle.rates_level.specs.Level.{levelOf, squaresOf, squareMost, reaches, reachMost, leastReach};
+ghost use Rattle.rates_level.specs.Level.{Sought, leastRate, guessMost};
 use guess::guess_of;
 use guess::guessed_steps;
 use paper::Rate;
@@ -44,18 +44,22 @@ pub fn level_of(st: Statics, level: u64) -> Level
     }
 }
 
-fn tentative_square(rh1: u64, rh: u64, m: u64, tentative: u64) -> u64
-    requires { ⌜ (rh1 ≤ firstDaysMost) × (rh ≤ daysMost) × (m ≤ aheadMost) × (tentative ≤ tentativeBound) ⌝ }
-    ensures { λ r. ⌜ (r ≡ tentativeSquare rh1 rh m tentative) × (r ≤ squareMost) ⌝ }
-{
-    rh * (tentative * tentative) * (rh1 + m)
+// The two numbers under the roots of a requirement, of the tentative rate and of liq, each without its factor rh_L, so
+// that the three levels share them.
+struct Squares {
+    tentative: u64,
+    liquidity: u64,
 }
 
-fn liquidity_square(rh1: u64, rh: u64, liq: u64) -> u64
-    requires { ⌜ (rh1 ≤ firstDaysMost) × (rh ≤ daysMost) × (liq ≤ liquidityMost) ⌝ }
-    ensures { λ r. ⌜ (r ≡ liquiditySquare rh1 rh liq) × (r ≤ squareMost) ⌝ }
+fn squares_of(st: Statics, m: u64, tentative: u64) -> Squares
+    requires { ⌜ RateStatics st ⌝ }
+    requires { ⌜ (m ≤ aheadMost) × (tentative ≤ tentativeBound) ⌝ }
+    ensures { λ r. ⌜ r ≡ squaresOf st m tentative ⌝ }
 {
-    rh * rh1 * (liq * liq)
+    Squares {
+        tentative: tentative * tentative * (st.rh1 + m),
+        liquidity: st.rh1 * (st.liq * st.liq),
+    }
 }
 
 // Whether x ≥ sqrt(a) + sqrt(b). The products are formed only where a + b is at most x², so that they fit however large
@@ -90,69 +94,26 @@ fn least_reach(low: u64, high: u64, step: u64, a: u64, b: u64) -> u64
     from
 }
 
-// S_max where the requirement exceeds it, else the least multiple of h from S_L_min on that covers it, found by its
-// number of steps: the plain search.
-fn searched_rate(st: Statics, level: u64, m: u64, tentative: u64) -> Rate
-    requires { ⌜ RateStatics st ⌝ }
-    requires { ⌜ (m ≤ aheadMost) × (tentative ≤ tentativeBound) ⌝ }
-    ensures { λ r. ⌜ r .bp ≡ levelRate st tentative m level ⌝ }
+// The rate of a level in basis points: a guess where it is enough (it covers the requirement or is S_max) and the least
+// (a step less does not cover it, or is below the minimum), else the one that the plain search finds by its number of
+// steps (W-214: "a second search may stand beside the plain one"). It is given of the statics only what it needs, since
+// a call for each level would copy them all.
+fn rate_near(h: u64, rh1: u64, smax: u64, own: Level, squares: Squares, guess: u64) -> u64
+    requires { ⌜ Sought h rh1 smax own squares ⌝ }
+    requires { ⌜ guess ≤ guessMost ⌝ }
+    ensures { λ r. ⌜ (r ≡ leastRate h rh1 smax own squares) × (r ≤ rateMost) ⌝ }
 {
-    let own = level_of(st, level);
-    let a = tentative_square(st.rh1, own.days, m, tentative);
-    let b = liquidity_square(st.rh1, own.days, st.liq);
-    let steps = least_reach(own.minimum.bp / st.h, st.smax / st.h, st.h * st.rh1, a, b);
-    Rate::of(steps * st.h)
-}
-
-// So many steps, from the minimum to S_max.
-fn held_steps(st: Statics, minimum: Rate, steps: u64) -> Rate
-    requires { ⌜ RateStatics st ⌝ }
-    requires { ⌜ (minimum .bp ≤ st .smax) × (minimum .bp % st .h ≡ 0) × (steps < stepsBound) ⌝ }
-    ensures { λ r. ⌜ Tried st (minimum .bp) (r .bp) ⌝ }
-{
-    Rate::of(exact::greater(minimum.bp, exact::lesser(st.smax, steps * st.h)))
-}
-
-// Whether v covers the requirement or is S_max.
-fn is_enough(st: Statics, a: u64, b: u64, v: Rate) -> bool
-    requires { ⌜ RateStatics st ⌝ }
-    requires { ⌜ (a ≤ squareMost) × (b ≤ squareMost) × (v .bp ≤ st .smax) ⌝ }
-    ensures { λ r. ⌜ r ≡ enough st a b (v .bp) ⌝ }
-{
-    if st.smax <= v.bp {
-        return true;
-    }
-    reaches(v.bp * st.rh1, a, b)
-}
-
-// Whether a step less does not cover the requirement or is below the minimum.
-fn is_least(st: Statics, minimum: Rate, a: u64, b: u64, v: Rate) -> bool
-    requires { ⌜ RateStatics st ⌝ }
-    requires { ⌜ (a ≤ squareMost) × (b ≤ squareMost) ⌝ }
-    requires { ⌜ Tried st (minimum .bp) (v .bp) ⌝ }
-    ensures { λ r. ⌜ r ≡ noLess st (minimum .bp) a b (v .bp) ⌝ }
-{
-    if v.bp <= minimum.bp {
-        return true;
-    }
-    !reaches((v.bp - st.h) * st.rh1, a, b)
-}
-
-// The rate of a level: a guess of it, tried from both sides, and where it is not the rate the one that the plain search
-// finds (W-214: "a second search may stand beside the plain one").
-fn rate_near(st: Statics, level: u64, m: u64, tentative: u64, guess: u64) -> Rate
-    requires { ⌜ RateStatics st ⌝ }
-    requires { ⌜ (m ≤ aheadMost) × (tentative ≤ tentativeBound) × (guess ≤ guessMost) ⌝ }
-    ensures { λ r. ⌜ r .bp ≡ levelRate st tentative m level ⌝ }
-{
-    let own = level_of(st, level);
-    let a = tentative_square(st.rh1, own.days, m, tentative);
-    let b = liquidity_square(st.rh1, own.days, st.liq);
-    let v = held_steps(st, own.minimum, guessed_steps(guess, own.days));
-    if is_enough(st, a, b, v) & is_least(st, own.minimum, a, b, v) {
+    let a = own.days * squares.tentative;
+    let b = own.days * squares.liquidity;
+    let steps = guessed_steps(guess, own.days);
+    let minimum = own.minimum.bp;
+    let v = exact::greater(minimum, exact::lesser(smax, steps * h));
+    let enough = (smax <= v) | reaches(v * rh1, a, b);
+    let least = (v <= minimum) | !reaches(exact::less(v, h) * rh1, a, b);
+    if enough & least {
         return v;
     }
-    searched_rate(st, level, m, tentative)
+    least_reach(minimum / h, smax / h, h * rh1, a, b) * h
 }
 
 pub fn level_rate(st: Statics, level: u64, m: u64, tentative: u64) -> Rate
@@ -160,7 +121,9 @@ pub fn level_rate(st: Statics, level: u64, m: u64, tentative: u64) -> Rate
     requires { ⌜ (m ≤ aheadMost) × (tentative ≤ tentativeBound) ⌝ }
     ensures { λ r. ⌜ r .bp ≡ levelRate st tentative m level ⌝ }
 {
-    rate_near(st, level, m, tentative, guess_of(st, m, tentative))
+    let squares = squares_of(st, m, tentative);
+    let guess = guess_of(st, m, tentative);
+    Rate::of(rate_near(st.h, st.rh1, st.smax, level_of(st, level), squares, guess))
 }
 
 // Whether a rate v covers the requirement of a level.
@@ -170,9 +133,12 @@ pub fn covers(st: Statics, level: u64, m: u64, tentative: u64, v: Rate) -> bool
     ensures { λ r. ⌜ r ≡ covers st tentative m level (v .bp) ⌝ }
 {
     let own = level_of(st, level);
-    let a = tentative_square(st.rh1, own.days, m, tentative);
-    let b = liquidity_square(st.rh1, own.days, st.liq);
-    reaches(v.bp * st.rh1, a, b)
+    let squares = squares_of(st, m, tentative);
+    reaches(
+        v.bp * st.rh1,
+        own.days * squares.tentative,
+        own.days * squares.liquidity,
+    )
 }
 
 // The three rates.
@@ -181,11 +147,12 @@ pub fn rates_of(st: Statics, m: u64, tentative: u64) -> [Rate; Record::LEVELS]
     requires { ⌜ (m ≤ aheadMost) × (tentative ≤ tentativeBound) ⌝ }
     ensures { λ r. ⌜ r ≡ forLevels (λ l. record { bp = levelRate st tentative m l }) ⌝ }
 {
+    let squares = squares_of(st, m, tentative);
     let guess = guess_of(st, m, tentative);
     [
-        rate_near(st, 1, m, tentative, guess),
-        rate_near(st, 2, m, tentative, guess),
-        rate_near(st, 3, m, tentative, guess),
+        Rate::of(rate_near(st.h, st.rh1, st.smax, level_of(st, 1), squares, guess)),
+        Rate::of(rate_near(st.h, st.rh1, st.smax, level_of(st, 2), squares, guess)),
+        Rate::of(rate_near(st.h, st.rh1, st.smax, level_of(st, 3), squares, guess)),
     ]
 }
 
