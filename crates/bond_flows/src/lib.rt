@@ -5,10 +5,9 @@ ghost use mathlib.Core.Bool.{true};
 ghost use Prim.Native.Nat.{_+_, _%_, _≤_};
 ghost use lib.ListN.{length};
 ghost use lib.Signed.{mag};
-ghost use Rattle.paper.specs.Lists.{every};
 ghost use Rattle.paper.specs.Numbers.{termDaysMost, repoMost};
 ghost use Rattle.paper_bonds.specs.BondNumbers.{moneyMost, flowNumbers};
-ghost use Rattle.paper_bonds.specs.Bonds.{flowAt, lentFlows, wholeFlows, validFlow, validFlows, flowOf, flowsOf};
+ghost use Rattle.paper_bonds.specs.Bonds.{flowAt, validFlows, flowOf, flowsOf};
 ghost use Rattle.paper_bonds.specs.Bonds.{carryTerm, carryDue, carryOf};
 ghost use Rattle.bond_flows.specs.FlowLaws.{CarryInputs};
 use paper::YEAR_IN_DAY_BP;
@@ -25,29 +24,11 @@ const FLOW_LEAST: [i64; Flow::NUMBERS] = [Flow::DAY_LEAST, 0];
 
 const FLOW_MOST: [i64; Flow::NUMBERS] = [Flow::DAY_MOST, MONEY_MOST];
 
-// Whether the day and the amount of every cash flow are in their ranges.
-fn every_flow_valid(numbers: &[i64]) -> bool
-    requires { ⌜ length (now numbers) % flowNumbers ≡ 0 ⌝ }
-    ensures { λ r. ⌜ r ≡ every validFlow (lentFlows (now (numbers .entry))) ⌝ }
-{
-    exact::every_within(numbers, &FLOW_LEAST, &FLOW_MOST)
-}
-
-// "at most four cash flows", each whole.
-fn whole_flows(numbers: &[i64]) -> bool
-    ensures { λ r. ⌜ r ≡ wholeFlows (now (numbers .entry)) ⌝ }
-{
-    (numbers.len() % Flow::NUMBERS == 0) & (numbers.len() <= Flow::ALL_NUMBERS_MOST)
-}
-
 // Whether the numbers are 0 to 4 whole cash flows, each number in its range: else the bond is refused 6.
 pub fn flows_valid(numbers: &[i64]) -> bool
     ensures { λ r. ⌜ r ≡ validFlows (now (numbers .entry)) ⌝ }
 {
-    if !whole_flows(numbers) {
-        return false;
-    }
-    every_flow_valid(numbers)
+    exact::parts_within(numbers, 0, Flow::ALL_NUMBERS_MOST, &FLOW_LEAST, &FLOW_MOST)
 }
 
 // ---- carry

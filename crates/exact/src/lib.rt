@@ -16,7 +16,7 @@ ghost use Rattle.exact.specs.Remainders.{goesUp};
 ghost use Rattle.exact.specs.RootBits.{Searched, OneBitMore};
 ghost use Rattle.exact.specs.Wide.{Divides, LimitRange};
 ghost use Rattle.exact.specs.SignedLaws.{Grows};
-ghost use Rattle.exact.specs.Within.{allWithin, everyWithin};
+ghost use Rattle.exact.specs.Within.{allWithin, everyWithin, partsWithin};
 
 // ---- the roundings
 
@@ -309,8 +309,8 @@ pub fn all_within(numbers: &[i64], at: usize, least: &[i64], most: &[i64]) -> bo
     all
 }
 
-// Whether every part of a lent slice is, where its parts have as many numbers as there are ranges.
-pub fn every_within(numbers: &[i64], least: &[i64], most: &[i64]) -> bool
+// Whether all_within holds of every part of a lent slice, whose parts have as many numbers as there are ranges.
+fn every_within(numbers: &[i64], least: &[i64], most: &[i64]) -> bool
     requires { ⌜ (0 < length (now least)) × (length (now most) ≡ length (now least)) ⌝ }
     requires { ⌜ length (now numbers) % length (now least) ≡ 0 ⌝ }
     ensures { λ r. ⌜ r ≡ everyWithin (now (least .entry)) (now (most .entry)) (now (numbers .entry)) ⌝ }
@@ -323,6 +323,24 @@ pub fn every_within(numbers: &[i64], least: &[i64], most: &[i64]) -> bool
         at += least.len();
     }
     true
+}
+
+// Whether a lent slice has only whole parts, `fewest` to `greatest` numbers in all, and each number is in its range.
+pub fn parts_within(
+    numbers: &[i64],
+    fewest: usize,
+    greatest: usize,
+    least: &[i64],
+    most: &[i64],
+) -> bool
+    requires { ⌜ (0 < length (now least)) × (length (now most) ≡ length (now least)) ⌝ }
+    ensures { λ r. ⌜ r ≡ partsWithin fewest greatest (now (least .entry)) (now (most .entry)) (now (numbers .entry)) ⌝ }
+{
+    let count = numbers.len();
+    if !((count % least.len() == 0) & ((fewest <= count) & (count <= greatest))) {
+        return false;
+    }
+    every_within(numbers, least, most)
 }
 
 // ---- the lesser and the greater

@@ -3,9 +3,8 @@
 ghost use mathlib.Core.Path.{_≡_};
 ghost use Prim.Native.Nat.{_+_, _%_, _≤_};
 ghost use lib.ListN.{length};
-ghost use Rattle.paper.specs.Lists.{every};
 ghost use Rattle.paper.specs.Numbers.{keyNumbers};
-ghost use Rattle.paper_interest.specs.Interest.{keyAt, keysOf, wholeKeys, validKey, validKeys, maturityOf};
+ghost use Rattle.paper_interest.specs.Interest.{keyAt, validKeys, maturityOf};
 ghost use Rattle.paper_interest.specs.Interest.{maturitiesOf, strictlyAscending};
 ghost use Rattle.interest_maturities.specs.Reads.{Reads};
 use paper::Maturity;
@@ -48,30 +47,17 @@ const KEY_MOST: [i64; Maturity::NUMBERS] = [
     AGE_MOST,
 ];
 
-// Whether every number of every key maturity is in its range.
-fn every_key_valid(numbers: &[i64]) -> bool
-    requires { ⌜ length (now numbers) % keyNumbers ≡ 0 ⌝ }
-    ensures { λ r. ⌜ r ≡ every validKey (keysOf (now (numbers .entry))) ⌝ }
-{
-    exact::every_within(numbers, &KEY_LEAST, &KEY_MOST)
-}
-
-// "one to eight key maturities", each whole.
-fn whole_keys(numbers: &[i64]) -> bool
-    ensures { λ r. ⌜ r ≡ wholeKeys (now (numbers .entry)) ⌝ }
-{
-    (numbers.len() % Maturity::NUMBERS == 0)
-        & ((Maturity::NUMBERS <= numbers.len()) & (numbers.len() <= Maturity::ALL_NUMBERS_MOST))
-}
-
 // Whether the numbers are one to eight whole key maturities, each number in its range: else the evening is refused 6.
 pub fn keys_valid(numbers: &[i64]) -> bool
     ensures { λ r. ⌜ r ≡ validKeys (now (numbers .entry)) ⌝ }
 {
-    if !whole_keys(numbers) {
-        return false;
-    }
-    every_key_valid(numbers)
+    exact::parts_within(
+        numbers,
+        Maturity::NUMBERS,
+        Maturity::ALL_NUMBERS_MOST,
+        &KEY_LEAST,
+        &KEY_MOST,
+    )
 }
 
 // ---- a key maturity and its neighbours
