@@ -1,29 +1,14 @@
--- The verdict's number decides whether an answer has figures, and the call's number which. Assumes nothing.
-use mathlib.Core.Path.{_≡_, refl, sym, ap, _∙_}
+-- The call's number decides which figures an answer that is done has. Assumes nothing.
+use mathlib.Core.Path.{_≡_, ap, _∙_}
 use mathlib.Core.List.{List, [], _∷_}
 use Prim.Native.Nat.{ℕ}
-use lib.Dec.{eqb}
 use lib.IntN.{ℤ}
-use borrow.Author.Tests.{eq-eqb, ne-eqb}
-use Rattle.paper.specs.declared.Verdict.{Verdict}
+use borrow.Author.Tests.{ne-eqb}
 use Rattle.paper.specs.declared.Answer.{Answer}
-use Rattle.paper.specs.Lists.{pick}
-use Rattle.paper.specs.Verdicts.{numberOf, isDone}
+use Rattle.paper.specs.Verdicts.{numberOf}
 use Rattle.text_protocol.specs.Answers.{answerText, flag, recordNumbers}
+use Rattle.text_put.proofs.Verdicts.{refused-text, done-text}
 use Rattle.text_answer.specs.Kinds.{figuresOfKind, textOfKind}
-
--- the text of a verdict with its figures
-abbrev pub verdictText : Verdict → List ℤ → List ℕ
-verdictText v zs = answerText (numberOf v) (pick (isDone v) zs [])
-
-pub refused-text : (v : Verdict) (v₀ : ℕ) (zs : List ℤ) → v₀ ≡ numberOf v → (v₀ ≡ 0 → ⊥) → answerText v₀ [] ≡
-    verdictText v zs
-unfolding isDone
-refused-text v v₀ zs e n = rw (← e, ne-eqb v₀ 0 n)
-
-pub done-text : (v : Verdict) (v₀ : ℕ) (zs : List ℤ) → v₀ ≡ numberOf v → v₀ ≡ 0 → answerText 0 zs ≡ verdictText v zs
-unfolding isDone
-done-text v v₀ zs e z = rw (← e, z)
 
 module _ (k : ℕ) (a : Answer) (v₀ : ℕ) (e : v₀ ≡ numberOf (a .verdict)) where
   pub refused-kind : (v₀ ≡ 0 → ⊥) → answerText v₀ [] ≡ textOfKind k a

@@ -1,3 +1,2 @@
--- The laws of text_answer, a file each; other crates may cite the public ones.
-pub mod Cases
-mod Turns
+-- The laws of text_answer, a file each; its own proofs alone cite them.
+mod Cases

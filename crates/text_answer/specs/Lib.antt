@@ -1,3 +1,2 @@
 -- The definitions of text_answer, a file each.
-pub mod Told
 pub mod Kinds

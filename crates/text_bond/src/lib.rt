@@ -8,16 +8,13 @@ ghost use Rattle.text_protocol.specs.Calls.{bondStaticsOf, bondOf};
 ghost use Rattle.text_protocol.specs.Answers.{answerText, bondFiguresNumbers, bondLimitsNumbers, bondNumbers, bondText};
 ghost use Rattle.text_protocol.specs.Answers.{answerMost};
 ghost use Rattle.text_out.specs.Wrote.{Wrote};
-ghost use Rattle.text_answer.specs.Told.{Told};
+ghost use Rattle.text_put.specs.Told.{Told};
 ghost use Rattle.text_out.specs.Places.{nextBytes};
 use paper::Tentative;
 use paper_bonds::Bond;
 use paper_bonds::BondAnswer;
 use paper_bonds::BondLimits;
 use paper_bonds::BondStatics;
-use text_answer::put_next;
-use text_answer::put_rates;
-use text_answer::say_number;
 use text_call::number_at;
 use text_call::term_of;
 use text_call::unsigned_at;
@@ -26,6 +23,9 @@ use text_out::put_number;
 use text_protocol::Kept;
 use text_protocol::Pairs;
 use text_protocol::ROOM;
+use text_put::put_next;
+use text_put::put_rates;
+use text_put::say_number;
 
 // ---- what is given
 

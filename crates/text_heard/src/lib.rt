@@ -13,10 +13,10 @@ ghost use Rattle.text_heard.specs.Lines.{kindWord, wordLine, fieldsIn, l
 use paper::Row;
 use paper_messages::Heard;
 use paper_messages::Message;
-use text_answer::put_next;
 use text_out::put_byte;
 use text_protocol::ROOM;
 use text_put::put_bytes;
+use text_put::put_next;
 use text_put::put_numbers;
 
 // The bytes of a word at most, and of a signed number with the blank before it.

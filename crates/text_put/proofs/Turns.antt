@@ -11,7 +11,7 @@ use Rattle.paper.specs.Numbers.{allNumbersMost}
 use Rattle.text_protocol.specs.Answers.{spaced}
 use Rattle.text_out.specs.Places.{nextSignedBytes}
 use Rattle.text_out.specs.Wrote.{Wrote, Left, left-none, left-more, left-all}
-use Rattle.text_answer.specs.Told.{Told, told, wrote-one}
+use Rattle.text_put.specs.Told.{Told, told, wrote-one}
 use Rattle.text_put.specs.Sizes.{wordBytes, rowsBytes}
 
 -- ---- the loop of `put_bytes`: what is left of the word w from its i-th byte on leads to the same bytes

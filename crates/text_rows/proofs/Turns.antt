@@ -21,7 +21,7 @@ use Rattle.text_protocol.specs.Numbers.{decimal, isDigit, sizeFrom, sizeOf}
 use Rattle.text_protocol.specs.Answers.{answerText}
 use Rattle.text_protocol.proofs.Spelling.{within-is-digit, low-no-digit, high-no-digit}
 use Rattle.text_out.specs.Wrote.{Wrote, then, wider}
-use Rattle.text_answer.specs.Told.{Told, both, wrote}
+use Rattle.text_put.specs.Told.{Told, both, wrote}
 use Rattle.text_table.specs.declared.Reading.{Reading}
 use Rattle.text_rows.specs.declared.Asked.{Asked}
 use Rattle.text_rows.specs.declared.Asked.the-variants as asked

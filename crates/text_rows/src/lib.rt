@@ -11,7 +11,6 @@ ghost use Rattle.paper.specs.Numbers.{allNumbersMost};
 ghost use Rattle.text_table.specs.Exchange.{rowsMost};
 use paper::Record;
 use paper::Row;
-use text_answer::put_next;
 use text_exchange::TEXT_MOST;
 use text_exchange::read_exchange;
 use text_input::Got;
@@ -21,6 +20,7 @@ use text_out::put_number;
 use text_protocol::DIGIT_NINE;
 use text_protocol::DIGIT_ZERO;
 use text_protocol::ROOM;
+use text_put::put_next;
 use text_put::put_numbers;
 use text_table::Reading;
 

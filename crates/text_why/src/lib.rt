@@ -20,11 +20,11 @@ use paper_reasons::ReplacementReason;
 use paper_reasons::TentativeReason;
 use paper_reasons::WeightReason;
 use paper_reasons::Why;
-use text_answer::put_next;
 use text_out::put_byte;
 use text_out::put_number;
 use text_protocol::ROOM;
 use text_put::put_bytes;
+use text_put::put_next;
 
 // A blank, and a word.
 fn put_word(out: &mut [u8; ROOM], len: usize, word: &[u8]) -> usize

@@ -4,7 +4,7 @@ use Rattle.text_protocol.specs.Numbers.{signed}
 use Rattle.text_protocol.specs.Answers.{next}
 use Rattle.text_protocol.specs.Reasons.{spelled}
 use Rattle.text_out.specs.Wrote.{then, nothing}
-use Rattle.text_answer.specs.Told.{wrote-one}
+use Rattle.text_put.specs.Told.{wrote-one}
 use Rattle.text_why.proofs.put_numbered.Statement.{statement}
 use Rattle.text_why.proofs.put_numbered.Tie as tie
 

@@ -1,0 +1,2 @@
+-- The laws of text_interest, a file each; its own proofs alone cite them.
+mod Turns
