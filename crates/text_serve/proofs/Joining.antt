@@ -15,7 +15,8 @@ use Rattle.text_evening.specs.Evening.{Evening, after, afterAll}
 use Rattle.text_input.specs.declared.Input.{Input}
 use Rattle.text_input.specs.Input.{lineLength, Unbroken, unread, Stands, Ends}
 use Rattle.text_turn.specs.declared.State.{State}
-use Rattle.text_turn.specs.Turn.{halted, startState}
+use Rattle.text_turn.specs.Turn.{startState}
+use Rattle.text_tell.specs.Tells.{halted}
 use Rattle.text_serve.specs.Serve.{eveningOf, Turns, Each, joined, mostLines, Cut, Serves}
 
 joined-more : (ls : List (List ℕ)) (u g : List ℕ) → joined ls u ++ g ≡ joined ls (u ++ g)

@@ -25,7 +25,8 @@ use Rattle.text_input.specs.Input.{unread, Stands, Next}
 use Rattle.text_turn.specs.declared.State.{State}
 use Rattle.text_turn.specs.declared.Prepared.{Prepared}
 use Rattle.text_deed.specs.Deeds.{callIn, lineText, Said}
-use Rattle.text_turn.specs.Turn.{Prepares, Tells}
+use Rattle.text_turn.specs.Turn.{Prepares}
+use Rattle.text_tell.specs.Tells.{Tells}
 use Rattle.text_ask.specs.Asked.{Asks}
 use Rattle.text_serve.specs.Serve.{eveningOf, Turns}
 use Rattle.text_protocol.specs.Names.{evaluateCount}

@@ -13,7 +13,8 @@ use Rattle.text_out.specs.Wrote.{Wrote}
 use Rattle.text_input.specs.declared.Input.{Input}
 use Rattle.text_input.specs.Input.{Unbroken, Next}
 use Rattle.text_turn.specs.declared.State.{State}
-use Rattle.text_turn.specs.Turn.{halted, startState}
+use Rattle.text_turn.specs.Turn.{startState}
+use Rattle.text_tell.specs.Tells.{halted}
 use Rattle.text_protocol.specs.Answers.{answerMost}
 
 -- the evening that a state and a table are

@@ -18,12 +18,12 @@ use text_ask::ask;
 use text_evening::Telling;
 use text_protocol::KEPT;
 use text_protocol::ROOM;
+use text_tell::tell;
 use text_turn::Prepared;
 use text_turn::State;
 use text_turn::prepare;
 use text_turn::rows_of;
 use text_turn::start;
-use text_turn::tell;
 
 // Hears the next line, with the bytes and the numbers of it in arrays, whose lengths their types say.
 fn hear_in(buf: &mut [u8; ROOM], xs: &mut [i64; KEPT], s: State) -> Prepared

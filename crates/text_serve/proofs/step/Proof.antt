@@ -59,7 +59,8 @@ use Rattle.text_call.proofs.Request.Laws as B′
 use Rattle.text_input.specs.Input.{Stands}
 use Rattle.text_turn.specs.declared.State.{State}
 use Rattle.text_turn.specs.declared.Prepared.{Prepared}
-use Rattle.text_turn.specs.Turn.{Prepares, Tells}
+use Rattle.text_turn.specs.Turn.{Prepares}
+use Rattle.text_tell.specs.Tells.{Tells}
 use Rattle.text_turn.proofs.State as G
 use Rattle.text_turn.proofs.State.Laws as G′
 use Rattle.text_turn.proofs.Prepared as P
@@ -67,8 +68,8 @@ use Rattle.text_turn.proofs.Prepared.Laws as P′
 use Rattle.text_ask.specs.Asked.{Asks}
 use Rattle.text_ask.proofs.ask.Symbol as ask-def
 use Rattle.text_ask.proofs.ask.Met as ask-thm
-use Rattle.text_turn.proofs.tell.Symbol as tell-def
-use Rattle.text_turn.proofs.tell.Met as tell-thm
+use Rattle.text_tell.proofs.tell.Symbol as tell-def
+use Rattle.text_tell.proofs.tell.Met as tell-thm
 use Rattle.text_serve.specs.Serve.{Turns}
 use Rattle.text_serve.proofs.hear_in.Symbol as hear-def
 use Rattle.text_serve.proofs.hear_in.Met as hear-thm
@@ -463,5 +464,5 @@ step-spec 𝓤 H 𝓜 𝓖 𝓡 =
     (cited 𝓤 H (Ask 𝓤 H (𝓖 .A) (𝓜 .mem) (𝓡 .run)) 𝓜 𝓡 code.env ask-def.name ask-def.routine
     code.calls-text-ask·ask
     (ask-thm.met 𝓤 H 𝓜 𝓖 𝓡))
-    (cited 𝓤 H (Tell 𝓤 H (𝓖 .A) (𝓜 .mem) (𝓡 .run)) 𝓜 𝓡 code.env tell-def.name tell-def.routine code.calls-text-turn·tell
+    (cited 𝓤 H (Tell 𝓤 H (𝓖 .A) (𝓜 .mem) (𝓡 .run)) 𝓜 𝓡 code.env tell-def.name tell-def.routine code.calls-text-tell·tell
     (tell-thm.met 𝓤 H 𝓜 𝓖 𝓡)))

@@ -1,4 +1,4 @@
--- `text_turn::flush` meets its contract: hands the first n bytes of the answers to `write`, and says how many of them
+-- `text_tell::flush` meets its contract: hands the first n bytes of the answers to `write`, and says how many of them
 -- it took, by C's answers. Assumes nothing.
 use mathlib.Core.Path.{_≡_}
 use mathlib.Core.List.{List}
@@ -7,10 +7,10 @@ use lib.ListN.{length, take, drop, length-drop}
 use lib.Seq.{length-take-le}
 use native.Mathlib.Omega.{arith}
 use borrow.Author.Needs.{needs}
-use Rattle.text_turn.proofs.flush.Statement.{statement}
-use Rattle.text_turn.proofs.flush.Tie as tie
-use Rattle.text_turn.proofs.flush.Reads as reads
-use Rattle.text_turn.proofs.flush.Lts as lts
+use Rattle.text_tell.proofs.flush.Statement.{statement}
+use Rattle.text_tell.proofs.flush.Tie as tie
+use Rattle.text_tell.proofs.flush.Reads as reads
+use Rattle.text_tell.proofs.flush.Lts as lts
 use Rattle.io.proofs.count.Reads as count-reads
 use Rattle.libc.proofs.write.Reads as write-reads
 

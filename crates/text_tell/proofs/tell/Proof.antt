@@ -1,19 +1,19 @@
--- `text_turn::tell` meets its contract: tells the answer to a line. Assumes nothing.
+-- `text_tell::tell` meets its contract: tells the answer to a line. Assumes nothing.
 use mathlib.Core.Path.{refl}
 use mathlib.Core.Logic.{inl, inr}
 use native.Mathlib.Omega.{arith}
 use lib.Dec.{eqb}
-use Rattle.text_turn.proofs.Told.{goes-on, a-line-is-whole, a-line-is-left}
+use Rattle.text_tell.proofs.Told.{goes-on, a-line-is-whole, a-line-is-left}
 use borrow.Author.Needs.{needs}
-use Rattle.text_turn.proofs.tell.Statement.{statement}
-use Rattle.text_turn.proofs.tell.Tie as tie
-use Rattle.text_turn.proofs.tell.Reads as reads
-use Rattle.text_turn.proofs.tell.Lts as lts
-use Rattle.text_turn.proofs.flush.Reads as flush-reads
-use Rattle.text_turn.proofs.is_due.Reads as is-due-reads
-use Rattle.text_turn.proofs.number_after.Reads as number-after-reads
+use Rattle.text_tell.proofs.tell.Statement.{statement}
+use Rattle.text_tell.proofs.tell.Tie as tie
+use Rattle.text_tell.proofs.tell.Reads as reads
+use Rattle.text_tell.proofs.tell.Lts as lts
+use Rattle.text_tell.proofs.flush.Reads as flush-reads
+use Rattle.text_tell.proofs.is_due.Reads as is-due-reads
+use Rattle.text_tell.proofs.number_after.Reads as number-after-reads
 use Rattle.text_deed.proofs.say.Reads as say-reads
-use Rattle.text_turn.proofs.stopped.Reads as stopped-reads
+use Rattle.text_tell.proofs.stopped.Reads as stopped-reads
 
 say-requires : tie.Need-say-requires
 say-requires c κs = search needs

@@ -8,7 +8,7 @@ use lib.Dec.{ltb}
 use borrow.Author.Tests.{ltb-false}
 use Rattle.paper.specs.Lists.{pick}
 use Rattle.text_input.specs.declared.Input.{Input}
-use Rattle.text_turn.specs.Turn.{halted}
+use Rattle.text_tell.specs.Tells.{halted}
 use Rattle.text_protocol.specs.Answers.{answerMost, waitingMost}
 use Rattle.text_protocol.specs.Bytes.{room}
 

@@ -1,0 +1,14 @@
+-- `text_tell::stopped` meets its contract: where a write failed, no line more is heard. Assumes nothing.
+use Rattle.text_tell.proofs.stopped.Statement.{statement}
+use Rattle.text_tell.proofs.stopped.Tie as tie
+use Rattle.text_tell.proofs.stopped.Reads as reads
+use Rattle.text_tell.proofs.stopped.Lts as lts
+
+returns : tie.Need-returns
+returns c = rw (c .if1 .taken)
+
+returns-2 : tie.Need-returns-2
+returns-2 c = rw (c .if1 .left)
+
+pub stopped-spec : {M : Type 1} → statement M
+stopped-spec = tie.close (tie.spec returns returns-2)

@@ -1,0 +1,2 @@
+-- The definitions of text_tell, a file each.
+pub mod Tells
