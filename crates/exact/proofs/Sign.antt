@@ -1,25 +1,19 @@
 -- The sign test decides which case of a definition a signed number is. Assumes nothing.
-use mathlib.Core.Path.{_≡_, refl, ap, subst}
+use mathlib.Core.Path.{_≡_, refl, ap}
 use mathlib.Core.Bool.{true, false}
-use Prim.Native.Nat.{ℕ, suc, _+_, _-_, _*_, _<_}
+use Prim.Native.Nat.{ℕ, suc, _+_, _-_, _*_}
 use native.Mathlib.Numerals.{add-one}
 use native.Mathlib.Omega.{arith}
 use lib.Dec.{T}
 use lib.IntN.{ℤ, pos, negsuc, natAbs, _-ℤ_}
 use lib.Signed.{mag, ltZ, nonNeg}
-use borrow.Author.Tests.{ltb-true, le-ltb}
+use borrow.Author.Tests.{le-ltb}
 use mir.Syntax.{w64}
 use mir.Val.{Fits, SFits}
 use Rattle.paper.specs.Numbers.{pastEvery}
 use Rattle.paper.specs.Roundings.{grown}
 use Rattle.paper.specs.Ranges.{unsigned}
-
--- no natural number is below 0, and every other number is
-natural-not-below-zero : (n : ℕ) → ltZ (pos n) (pos 0) ≡ true → ⊥
-natural-not-below-zero n e = let h : n < 0 = ltb-true n 0 e in omega arith
-
-negative-below-zero : (n : ℕ) → ltZ (negsuc n) (pos 0) ≡ false → ⊥
-negative-below-zero n e = subst T e tt
+use Rattle.exact.specs.SignedLaws.{natural-not-below-zero, negative-below-zero}
 
 -- ---- the size: what an arm asks and gives, where z is the number that it casts
 

@@ -5,5 +5,6 @@ pub mod Remainders
 pub mod RootBits
 pub mod RootInputs
 pub mod SignedLaws
+pub mod StoreLaws
 pub mod Wide
 pub mod Within

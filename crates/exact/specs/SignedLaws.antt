@@ -8,12 +8,19 @@ use native.Mathlib.Omega.{arith}
 use lib.Dec.{leb}
 use lib.IntN.{ℤ, pos, negsuc}
 use lib.Signed.{mag, leZ, ltZ}
-use borrow.Author.Tests.{leb-true, le-leb, le-ltb}
+use borrow.Author.Tests.{leb-true, ltb-true, le-leb, le-ltb}
 use Rattle.paper.specs.Numbers.{oneInBp, termDaysMost, repoLeast, repoMost, pastEvery}
 use Rattle.paper.specs.Ranges.{withinZ, unsigned}
 use Rattle.paper.specs.Roundings.{grown}
 use Rattle.paper.proofs.Logic.{not-true-and-false, and-left, and-right}
 use Rattle.paper_desk.proofs.Units.{unsigned-within}
+
+-- no natural number is below 0, and every other number is
+pub natural-not-below-zero : (n : ℕ) → ltZ (pos n) (pos 0) ≡ true → ⊥
+natural-not-below-zero n e = let h : n < 0 = ltb-true n 0 e in omega arith
+
+pub negative-below-zero : (n : ℕ) → ltZ (negsuc n) (pos 0) ≡ false → ⊥
+negative-below-zero n e = not-true-and-false true refl e
 
 -- "-9,999..9,999 bp"
 pub between-repo-ends-within-most : (x : ℤ) → leZ repoLeast x ≡ true → leZ x repoMost ≡ true → mag x ≤ mag repoMost

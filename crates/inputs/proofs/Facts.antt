@@ -25,6 +25,7 @@ use Rattle.paper.specs.Ranges.{within, isPrice, isRate, gridOf, isGridPrice, va
 use Rattle.paper.specs.Ranges.{tentativeTop, validTentative, validAdmission, validTerm, termAt, validQuote, validSide}
 use Rattle.paper.specs.Ranges.{validDayNumbers}
 use Rattle.paper.proofs.Logic.{and-left, and-right, each-of-three, order-trans}
+pub use Rattle.paper_desk.proofs.TentativeRange.{statics-step-positive}
 
 -- ---- ranges and multiples
 
@@ -138,9 +139,6 @@ statics-facts st v =
       uevening = within-facts _ _ _ (search (v, and-left, and-right) depth 40);
       eveningmax = leb-true _ _ (search (v, and-left, and-right) depth 40);
     }
-
-pub statics-step-positive : (st : Statics) → validStatics st ≡ true → 0 < st .h
-statics-step-positive st v = statics-facts st v .h .least
 
 pub given-statics-valid : (g : GivenStatics) → validGiven g ≡ true → validStatics (staticsOf g) ≡ true
 unfolding validGiven

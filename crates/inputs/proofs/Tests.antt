@@ -1,6 +1,6 @@
 -- Laws of the tests: two and three of a kind, the step, and a day in two parts. Assumes nothing.
 use mathlib.Core.Path.{_≡_, refl}
-use mathlib.Core.Bool.{Bool, true, false, _&&_}
+use mathlib.Core.Bool.{Bool, true, false, _&&_, and-false}
 use mathlib.Core.List.{List}
 use Prim.Native.Nat.{ℕ, _<_}
 use lib.IntN.{ℤ}
@@ -22,14 +22,10 @@ three-tests-same f s t = rw (f, s, t)
 pub two-tests-same : {a b x y t : Bool} → a ≡ x → b ≡ y → (a && b) ≡ t → (x && y) ≡ t
 two-tests-same f s e = rw (← f, ← s) e
 
-and-false-is-false : (a : Bool) → (a && false) ≡ false
-and-false-is-false true = refl
-and-false-is-false false = refl
-
 -- a first test that is the definition's wherever the second passes
 pub same-where-second-passes : (a x b : Bool) → (b ≡ true → a ≡ x) → (a && b) ≡ (x && b)
 same-where-second-passes a x true f = rw (f refl)
-same-where-second-passes a x false f = rw (and-false-is-false a, and-false-is-false x)
+same-where-second-passes a x false f = rw (and-false a, and-false x)
 
 -- ---- the step
 

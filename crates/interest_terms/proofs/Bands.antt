@@ -1,7 +1,7 @@
 -- W-201, "The security's evaluation may take these limits or given ones": what the band of a term is where a pair was
 -- worked out, and that a pair that was refused makes its day out of range (6). Assumes nothing.
 use mathlib.Core.Path.{_≡_, refl}
-use mathlib.Core.Bool.{Bool, true, false, _&&_, _||_}
+use mathlib.Core.Bool.{Bool, true, false, _&&_, _||_, and-false}
 use mathlib.Core.List.{List}
 use Prim.Native.Nat.{ℕ}
 use lib.Dec.{leb}
@@ -16,7 +16,7 @@ use Rattle.paper.specs.declared.WorkedBand.{WorkedBand}
 use Rattle.paper.specs.Numbers.{dayMost, behindMost, aheadMost, termDaysMost}
 use Rattle.paper_interest.specs.Interest.{maturitiesOf, lowerLimit, upperLimit, interestChecks, acceptedInterest}
 use Rattle.paper_interest.specs.Interest.{refusedInterest, interestAnswer}
-use Rattle.paper.specs.Ranges.{validTerm, validRows, validDay}
+use Rattle.paper.specs.Ranges.{validTerm, validDay}
 use Rattle.paper.specs.Terms.{workedRepo, repoOf, termOf, dayOf}
 use Rattle.paper.specs.Verdicts.{isDone, firstOf}
 use Rattle.paper.proofs.Logic.{not-true-and-false, not-true}
@@ -40,11 +40,6 @@ accepted-limits k i numbers e = rw e
 
 -- ---- a pair that was refused
 
--- where one test fails, all of them do
-one-fails : (p q : Bool) → (p && false && q) ≡ false
-one-fails true q = refl
-one-fails false q = refl
-
 -- it has no band, whatever the term's days
 pub refused-out : (x : AskedTerm) → isRefused (x .band) ≡ true → validTerm (termOf x) ≡ false
 unfolding termOf repoOf workedRepo validTerm
@@ -54,7 +49,7 @@ refused-out x e = go (x .band) e
         → validTerm (record { k = x .k; low = repoOf b .low; high = repoOf b .high }) ≡ false
     go (band.AsGiven r) e = absurd (not-true-and-false false e refl)
     go (band.WorkedOut pair) e =
-        rw (not-true (isDone (pair .verdict)) e) (one-fails (leb (x .k) termDaysMost && true) true)
+        rw (not-true (isDone (pair .verdict)) e, and-false (leb (x .k) termDaysMost && true))
 
 -- the pair that the interest side refuses is such a band
 pub refused-pair : (i : Interest) (numbers : List ℤ) → isDone (firstOf (interestChecks i numbers)) ≡ false
@@ -72,19 +67,17 @@ pub refused-day : (a : AskedDay) (rows : List ℤ)
     → validDay (dayOf a) rows ≡ false
 unfolding dayOf validDay
 refused-day a rows e =
-    rw (any (isRefused (a .first .band)) (isRefused (a .second .band)) (isRefused (a .third .band)) e
-    (refused-out (a .first)) (refused-out (a .second))
-    (refused-out (a .third)))
-    (one-fails (leb (a .day) dayMost && leb (a .b) behindMost && leb (a .m) aheadMost) (validRows rows))
+    rw (
+      any (isRefused (a .first .band)) (isRefused (a .second .band)) (isRefused (a .third .band)) e
+          (refused-out (a .first)) (refused-out (a .second))
+          (refused-out (a .third)),
+      and-false (leb (a .day) dayMost && leb (a .b) behindMost && leb (a .m) aheadMost),
+    )
   where
-    last-fails : (p : Bool) → (p && false) ≡ false
-    last-fails true = refl
-    last-fails false = refl
-
     any : (x y z : Bool) {p q r : Bool} → (x || y || z) ≡ true → (x ≡ true → p ≡ false) → (y ≡ true → q ≡ false)
         → (z ≡ true → r ≡ false)
         → (p && q && r) ≡ false
     any true y z {p} {q} {r} e f g h = rw (f refl) refl
-    any false true z {p} {q} {r} e f g h = rw (g refl) (one-fails p r)
-    any false false true {p} {q} {r} e f g h = rw (h refl) (last-fails (p && q))
+    any false true z {p} {q} {r} e f g h = rw (g refl, and-false p)
+    any false false true {p} {q} {r} e f g h = rw (h refl) (and-false (p && q))
     any false false false e f g h = absurd (not-true-and-false false e refl)

@@ -21,11 +21,11 @@ use Rattle.paper.specs.declared.Term.{Term}
 use Rattle.paper.specs.Lists.{allThree}
 use Rattle.paper.specs.Numbers.{oneInBp, priceMost, rateMost, movesMost, termDaysMost, repoLeast, repoMost}
 use Rattle.paper.specs.Ranges.{validTerm, termAt, isPrice, isGridPrice, isRate}
-use Rattle.paper_desk.specs.Limits.{countOf, oneMore}
+use Rattle.paper_desk.specs.Limits.{countOf}
 use Rattle.paper_desk.specs.Gateway.{rangeInRange, bandInRange}
 pub use Rattle.paper_desk.specs.Limits.{LimitStatics}
 use Rattle.paper.proofs.Logic.{and-left, and-right, order-trans, each-of-three}
-pub use Rattle.paper_desk.proofs.LimitSizes.{valid-limit-statics}
+pub use Rattle.paper_desk.proofs.LimitSizes.{valid-limit-statics, one-more-high}
 use Rattle.exact.specs.SignedLaws.{between-repo-ends-within-most}
 use Rattle.exact.specs.Wide.{yearMost}
 use Rattle.limits.specs.Sides.{repoOf}
@@ -130,14 +130,6 @@ term-has-band-inputs p s1 side c x r =
       days = term-days-within-most x (r .term);
       repo-high = term-repo-within-most side x (r .term);
     }
-
--- ---- a move below the fiftieth leaves both counts in range
-
-pub one-more-high : (side : Side) (c : Moves) → c .upper ≤ movesMost → c .lower ≤ movesMost → countOf side c < movesMost
-    → (oneMore side c .upper ≤ movesMost) × (oneMore side c .lower ≤ movesMost)
-unfolding oneMore
-one-more-high Upper c u l h = (omega arith, l)
-one-more-high Lower c u l h = (u, omega arith)
 
 -- ---- what the gateway tests is what its limits ask
 

@@ -1,17 +1,18 @@
 -- Two's complement as it is worked out: from the magnitude and the greatest number of the width. Assumes nothing.
-use mathlib.Core.Path.{_≡_, refl, sym, ap}
+use mathlib.Core.Path.{_≡_, refl, sym}
 use mathlib.Core.Logic.{_⊎_, inl, inr}
 use mathlib.Core.Bool.{true, false}
-use Prim.Native.Nat.{ℕ, zero, suc, _+_, _-_, _/_, _^_, _<_, _≤_}
+use Prim.Native.Nat.{ℕ, suc, _+_, _-_, _/_, _^_, _<_, _≤_}
 use native.Mathlib.Nat.{pow-le-pow-right}
 use native.Mathlib.Omega.{arith}
-use lib.IntN.{ℤ, pos, negsuc, _-ℤ_}
+use lib.IntN.{ℤ, pos, negsuc}
 use lib.Signed.{mag, ltZ}
-use borrow.Author.Tests.{ltb-true, lt-ltb, le-ltb}
+use borrow.Author.Tests.{lt-ltb, le-ltb}
 use mir.Syntax.{w64}
 use mir.Val.{SFits}
-use Rattle.paper.proofs.Logic.{not-true-and-false, le-or-lt}
+use Rattle.paper.proofs.Logic.{le-or-lt}
 use Rattle.paper_messages.specs.Bytes.{inWidth, widthMost, complement, signedOf}
+use Rattle.exact.specs.SignedLaws.{natural-not-below-zero, negative-below-zero}
 use Rattle.message_bytes.specs.Asked.{greatestOf}
 
 -- a width of at most eight bytes has at most 2^64 numbers
@@ -20,18 +21,13 @@ width-fits width h = let o : 0 < 256 = omega arith in pow-le-pow-right {n = 256}
 
 pub rest-is-complement : (width : ℕ) (z : ℤ) → ltZ z (pos 0) ≡ true → greatestOf width - mag z ≡ complement width z
 unfolding complement
-rest-is-complement width (pos n) e = let l : n < 0 = ltb-true n 0 e in absurd (omega arith)
+rest-is-complement width (pos n) e = absurd (natural-not-below-zero n e)
 rest-is-complement width (negsuc n) e = omega arith
 
 pub mag-is-complement : (width : ℕ) (z : ℤ) → ltZ z (pos 0) ≡ false → mag z ≡ complement width z
 unfolding complement
 mag-is-complement width (pos n) e = refl
-mag-is-complement width (negsuc n) e = absurd (not-true-and-false true refl e)
-
--- -1 - n
-pub minus-one-less-is-negsuc : (n : ℕ) → negsuc 0 -ℤ pos n ≡ negsuc n
-minus-one-less-is-negsuc zero = refl
-minus-one-less-is-negsuc (suc n) = ap negsuc (omega arith)
+mag-is-complement width (negsuc n) e = absurd (negative-below-zero n e)
 
 module _ (width number : ℕ) (narrow : width ≤ widthMost) (small : number < inWidth width) where
   -- the lower half

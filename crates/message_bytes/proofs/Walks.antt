@@ -19,14 +19,8 @@ use Rattle.paper_messages.specs.Fields.{noField}
 use Rattle.paper_messages.specs.Messages.{bodyOf, total, inRanges, holdsRange, valuesAt}
 use Rattle.paper_messages.proofs.ByteLaws.{bytes-length, fitting-mag-in-width}
 use Rattle.paper_messages.proofs.FieldLaws.{held-width-within-most, held-value-fits, values-length}
+pub use Rattle.exact.specs.StoreLaws.{sets-of-both}
 use Rattle.message_bytes.specs.Asked.{Room, Holding}
-
--- a run of stores, and then another behind it
-pub sets-of-both : (xs ys b : List ℕ) (i : ℕ) → sets b i (xs ++ ys) ≡ sets (sets b i xs) (i + length xs) ys
-sets-of-both [] ys b i = let e : i + 0 ≡ i = omega arith in rw e
-sets-of-both (x ∷ xs) ys b i =
-    let e : i + suc (length xs) ≡ suc i + length xs = omega arith in
-    rw e (sets-of-both xs ys (set b i x) (suc i))
 
 -- ---- room for the field at hand, and for those behind it
 

@@ -1,7 +1,7 @@
 -- A message of a sound record, and of an admission that is in range, is valid, so that an accepted call is always
 -- broadcast whole. Assumes nothing.
 use mathlib.Core.Path.{_≡_, refl, sym, ap, _∙_}
-use mathlib.Core.Bool.{Bool, true, false, _&&_}
+use mathlib.Core.Bool.{Bool, true, false, _&&_, and-false}
 use mathlib.Core.List.{List, [], _∷_, map}
 use Prim.Native.Nat.{ℕ, zero, suc, _+_, _≤_, _<_}
 use native.Mathlib.Omega.{arith}
@@ -224,11 +224,7 @@ judged-as-admission values e = go (asAdmission values) refl
 
     go : (b : Bool) → asAdmission values ≡ b → (inRanges (placesOf staticsKind) values && b) ≡ b
     go true v = rw (ap (inRanges (placesOf staticsKind)) all ∙ admitted-in values v)
-    go false v = any-false (inRanges (placesOf staticsKind) values)
-      where
-        any-false : (a : Bool) → (a && false) ≡ false
-        any-false true = refl
-        any-false false = refl
+    go false v = and-false (inRanges (placesOf staticsKind) values)
 
 -- a number and a flag read back from their values
 number-back : (n : ℕ) → n < pastSigned → unsigned (valueOf n) ≡ n

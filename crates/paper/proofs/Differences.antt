@@ -23,6 +23,11 @@ negated-is (suc n) =
     let same : n ≡ suc n - 1 = omega arith in
     ap negsuc same ∙ sym (difference-is-negsuc 0 (suc n) (omega arith))
 
+-- -1 - n
+pub minus-one-less-is-negsuc : (n : ℕ) → negsuc 0 -ℤ pos n ≡ negsuc n
+minus-one-less-is-negsuc zero = refl
+minus-one-less-is-negsuc (suc n) = ap negsuc (omega arith)
+
 -- a - b is c - d where a + d is c + b
 pub differences-equal : (a b c d : ℕ) → a + d ≡ c + b → subℕ a b ≡ subℕ c d
 differences-equal a b c d e = go (le-or-lt b a)

@@ -1,7 +1,7 @@
 -- Small laws of tests, of choices and of order. Assumes nothing.
-use mathlib.Core.Path.{_≡_, refl, sym}
+use mathlib.Core.Path.{_≡_, refl}
 use mathlib.Core.Logic.{_⊎_, inl, inr}
-use mathlib.Core.Bool.{Bool, true, false, not, _&&_}
+use mathlib.Core.Bool.{Bool, true, false, _&&_}
 use Prim.Native.Nat.{ℕ, zero, suc, _≤_, _<_}
 use native.Mathlib.Decide.{decLe}
 use native.Mathlib.Nat.{le-trans}
@@ -9,6 +9,7 @@ use native.Mathlib.Omega.{arith}
 use lib.IntN.{ℤ, pos, negsuc}
 use lib.Signed.{leZ}
 use borrow.Author.Tests.{leb-true, le-leb}
+pub use borrow.Author.Tests.{not-true, not-false}
 use Rattle.paper.specs.Lists.{pick, allThree}
 
 pub not-true-and-false : (b : Bool) → b ≡ true → b ≡ false → ⊥
@@ -31,17 +32,9 @@ infixl 30 _&_
 pub _&_ : {a b : Bool} → a ≡ true → b ≡ true → (a && b) ≡ true
 _&_ {a} {b} p q = and-both a b p q
 
-pub and-false : (a b : Bool) → (a && b) ≡ false → a ≡ true → b ≡ false
-and-false true b e p = e
-and-false false b e p = absurd (not-true-and-false false p refl)
-
-pub not-true : (a : Bool) → not a ≡ true → a ≡ false
-not-true true e = sym e
-not-true false e = refl
-
-pub not-false : (a : Bool) → not a ≡ false → a ≡ true
-not-false true e = refl
-not-false false e = sym e
+pub and-right-false : (a b : Bool) → (a && b) ≡ false → a ≡ true → b ≡ false
+and-right-false true b e p = e
+and-right-false false b e p = absurd (not-true-and-false false p refl)
 
 pub pick-true : {A : Type 0} (b : Bool) (x y : A) → b ≡ true → pick b x y ≡ x
 pick-true true x y e = refl
@@ -50,6 +43,10 @@ pick-true false x y e = absurd (not-true-and-false false e refl)
 pub pick-false : {A : Type 0} (b : Bool) (x y : A) → b ≡ false → pick b x y ≡ y
 pick-false true x y e = absurd (not-true-and-false true refl e)
 pick-false false x y e = refl
+
+pub pick-same : {A : Type 0} (b : Bool) (x : A) → pick b x x ≡ x
+pick-same true x = refl
+pick-same false x = refl
 
 -- every two numbers are in order
 pub le-or-lt : (a b : ℕ) → (a ≤ b) ⊎ (b < a)

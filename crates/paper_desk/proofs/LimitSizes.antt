@@ -17,11 +17,12 @@ use Rattle.paper.specs.declared.Moves.{Moves}
 use Rattle.paper.specs.declared.Term.{Term}
 use Rattle.paper.specs.Lists.{pick}
 use Rattle.paper.specs.Numbers.{oneInBp, coarsestGrid, yearInDayBp, priceMost, rateMost, limitMost, termDaysMost}
-use Rattle.paper.specs.Numbers.{repoMost}
+use Rattle.paper.specs.Numbers.{movesMost, repoMost}
 use Rattle.paper.specs.Roundings.{Quotient, rounded, roundedTo, grown}
 use Rattle.paper.specs.Ranges.{gridOf, isLimit, validLimits, validStatics, validTerm}
 use Rattle.paper_desk.specs.Limits.{limitOf, inward, shifted, rangeLimit, rangeOf, farthest, spread, monitored}
-use Rattle.paper_desk.specs.Limits.{narrower, narrowerOf, share, bandLimit, bandOf, deltaOf, LimitStatics}
+use Rattle.paper_desk.specs.Limits.{narrower, narrowerOf, share, bandLimit, bandOf, deltaOf, oneMore, countOf}
+use Rattle.paper_desk.specs.Limits.{LimitStatics}
 use Rattle.paper_desk.specs.Kept.{freshMost, deltaMost}
 use Rattle.paper.proofs.Logic.{not-true-and-false, and-left, and-right, and-both, order-trans}
 use Rattle.paper.proofs.Roundings.{rounded-le, rounded-ge}
@@ -214,3 +215,11 @@ delta-high st p s1 s h l =
 pub delta-on-grid : (st : Statics) (p s1 : ℕ) → deltaOf st s1 p % gridOf (st .lot) ≡ 0
 unfolding deltaOf
 delta-on-grid st p s1 = limit-on-grid _ st _
+
+-- ---- a move below the fiftieth leaves both counts in range
+
+pub one-more-high : (side : Side) (c : Moves) → c .upper ≤ movesMost → c .lower ≤ movesMost → countOf side c < movesMost
+    → (oneMore side c .upper ≤ movesMost) × (oneMore side c .lower ≤ movesMost)
+unfolding oneMore
+one-more-high Upper c u l h = (omega arith, l)
+one-more-high Lower c u l h = (u, omega arith)

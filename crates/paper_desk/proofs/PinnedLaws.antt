@@ -3,7 +3,7 @@
 -- It may use every definition of document 01, and the laws of Slots and Refusals. Assumes nothing.
 use mathlib.Core.Path.{_≡_, refl, sym, _∙_, ap}
 use mathlib.Core.Logic.{_≢_, _⊎_, inl, inr}
-use mathlib.Core.Bool.{Bool, true, false, not, _&&_}
+use mathlib.Core.Bool.{Bool, true, false, not, _&&_, and-false}
 use mathlib.Core.List.{List, [], _∷_}
 use Prim.Native.Nat.{ℕ, zero, suc, _+_, _-_, _≤_, _<_}
 use native.Mathlib.Omega.{arith}
@@ -47,10 +47,6 @@ use Rattle.paper_desk.proofs.Slots.{found-stored, known-stands}
 use Rattle.paper_desk.proofs.Refusals.{verdict-first, refused-always, refused-leaves, accepted-step}
 use Rattle.paper_desk.proofs.Refusals.{accepted-only}
 use Rattle.paper_desk.proofs.Others.{holds-after-step}
-
-and-no : (a : Bool) → (a && false) ≡ false
-and-no true = refl
-and-no false = refl
 
 -- each of three is what is made for its place
 pub three-gives-each : {A : Type 0} (f : ℕ → A) (default : A) (i : ℕ) → i < 3 → getD (three f) i default ≡ f i
@@ -353,7 +349,7 @@ none-before-first (r ∷ t) id i l e = go (eqb (r .id) id) refl i l e (λ i. non
 pub damaged-refused : (c : Call) (t : List Record) → isAdmission c ≡ false → sound (found t (idOf c)) ≡ false
     → step c t .answer .verdict ≡ NoSuchId
 unfolding known
-damaged-refused c t looks e = unknown-refused c t looks (rw e (and-no (validSlots (length t) && stands t (idOf c))))
+damaged-refused c t looks e = unknown-refused c t looks (rw e (and-false (validSlots (length t) && stands t (idOf c))))
 
 -- "A table of no slots, or over 512, is refused 4 by admit and 1 by the rest."
 pub bad-table-refused : (c : Call) (t : List Record) → validSlots (length t) ≡ false
@@ -379,7 +375,7 @@ no-slots-invalid t e = rw e
 
 pub slots-over-512-invalid : (t : List Record) → 512 < length t → validSlots (length t) ≡ false
 unfolding validSlots
-slots-over-512-invalid t l = rw (lt-leb (length t) 512 l) (and-no (leb 1 (length t)))
+slots-over-512-invalid t l = rw (lt-leb (length t) 512 l) (and-false (leb 1 (length t)))
 
 -- ---- what is written and what is answered
 

@@ -15,7 +15,7 @@ use Rattle.paper.specs.Numbers.{multiplierMost}
 use Rattle.paper.specs.Ranges.{validStatics, tentativeTop, validTentative}
 use Rattle.paper_desk.specs.Rates.{modelOf, leastStep, tentativeRate, tentativeRateByMove, tentativeRateOf}
 use Rattle.paper_desk.specs.Rates.{tentativeAfter, modelled, unmodelled, figuresOf, moveTooLarge, IsLeastStep}
-use Rattle.paper.proofs.Logic.{and-left, and-right, and-both, and-false}
+use Rattle.paper.proofs.Logic.{and-left, and-right, and-both, and-right-false}
 use Rattle.paper_desk.proofs.Steps.{step-is}
 use Rattle.paper_desk.proofs.Volatility.{valid-weighs}
 use Rattle.paper_desk.proofs.Bounds.{volatility-high, up-is-step, least-step-within-a-step, tentative-held}
@@ -94,9 +94,9 @@ after-in h wait t old v w =
     (valid-tentative-within-top h (old .bp) w))
     (tentative-multiple h wait t old (valid-multiple h t v) (valid-multiple h (old .bp) w))
 
-step-positive : (st : Statics) → validStatics st ≡ true → 0 < st .h
+pub statics-step-positive : (st : Statics) → validStatics st ≡ true → 0 < st .h
 unfolding validStatics
-step-positive st v = leb-true 1 (st .h) (search (v, and-left, and-right) depth 40)
+statics-step-positive st v = leb-true 1 (st .h) (search (v, and-left, and-right) depth 40)
 
 multiplier-high : (st : Statics) → validStatics st ≡ true → st .q ≤ multiplierMost
 unfolding validStatics
@@ -109,7 +109,7 @@ pub modelled-stays : (st : Statics) (b m s1 r s : ℕ) (old : Tentative) → val
 unfolding modelled
 modelled-stays st b m s1 r s old v hr hs w =
     after-in (st .h) (st .wait) _ old
-    (tentative-rate-in st _ r _ (step-positive st v) (multiplier-high st v) hr
+    (tentative-rate-in st _ r _ (statics-step-positive st v) (multiplier-high st v) hr
     (volatility-high (modelOf st) b (millionthsInBp * s1) r s volatilityMost (valid-weighs st v) hs hr)) w
 
 -- No evaluation that is accepted takes the tentative rate out of its range
@@ -122,5 +122,5 @@ tentative-stays st b m s1 r s old v small hs w = go (st .ewma) refl
     go : (on : Bool) → st .ewma ≡ on
         → validTentative (st .h) (pick on (modelled st b m s1 r s old) (unmodelled st s old) .tentative .bp) ≡ true
     go true e =
-        modelled-stays st b m s1 r s old v (ltb-false volatilityMost r (and-false (st .ewma) _ small e)) hs w
+        modelled-stays st b m s1 r s old v (ltb-false volatilityMost r (and-right-false (st .ewma) _ small e)) hs w
     go false e = w

@@ -15,7 +15,7 @@ use Rattle.paper.specs.Lists.{pick, every}
 use Rattle.paper.specs.Ranges.{within}
 use Rattle.paper.specs.Verdicts.{firstOf, isDone, NoneApplies, none, also}
 use Rattle.paper_desk.specs.Desk.{refusals}
-use Rattle.paper.proofs.Logic.{and-left, and-right, and-false}
+use Rattle.paper.proofs.Logic.{and-left, and-right, and-right-false}
 use Rattle.paper_desk.proofs.Refusals.{done-is, done-means-none-applies}
 use Rattle.paper_messages.specs.declared.Message.{Message}
 use Rattle.paper_messages.specs.declared.Heard.{Heard}
@@ -211,9 +211,10 @@ done-means-accepted bytes e = of (done-means-none-applies (readChecks bytes) ref
           right =
               λ k.
               eqb-true (lengthAt bytes) (lengthOf (kindAt bytes))
-              (not-false (eqb (lengthAt bytes) (lengthOf (kindAt bytes))) (and-false (isKnown (kindAt bytes)) _ d k));
+              (not-false (eqb (lengthAt bytes) (lengthOf (kindAt bytes)))
+              (and-right-false (isKnown (kindAt bytes)) _ d k));
           in-range =
-              λ k. not-false (valid (messageAt bytes)) (and-false (isKnown (kindAt bytes)) _ f k);
+              λ k. not-false (valid (messageAt bytes)) (and-right-false (isKnown (kindAt bytes)) _ f k);
         }
 
 -- three parts one behind the other

@@ -15,6 +15,7 @@ use Rattle.paper_desk.specs.Rates.{daysOf, minimumOf, covers, levelRate, AtLeas
 use Rattle.paper.specs.Verdicts.{NoneApplies, none, also}
 use Rattle.paper.proofs.Logic.{not-true-and-false, and-left, and-right, and-both, le-or-lt, pick-true, pick-false}
 use Rattle.paper.proofs.Search.{multiple-holds, multiple-least, multiple-is-multiple}
+use Rattle.paper_desk.proofs.TentativeRange.{statics-step-positive}
 use Rattle.paper_desk.proofs.Level.{covers-more, meets-real, real-meets, quotient-times-is, level-rate-is}
 use Rattle.paper_reasons.specs.declared.LevelReason.the-variants as level
 use Rattle.paper_reasons.specs.Reasons.{inOrder, firstThatHolds, requirementStep, levelSetBy, levelReasons}
@@ -25,10 +26,6 @@ module _ (st : Statics) (v : validStatics st ≡ true) where
   days-positive : 0 < st .rh1
   unfolding validStatics
   days-positive = leb-true 1 (st .rh1) (search (v, and-left, and-right) depth 40)
-
-  step-positive : 0 < st .h
-  unfolding validStatics
-  step-positive = leb-true 1 (st .h) (search (v, and-left, and-right) depth 40)
 
   most-whole : st .smax / st .h * st .h ≡ st .smax
   unfolding validStatics
@@ -204,7 +201,7 @@ module _ (st : Statics) (l m t : ℕ) (v : validStatics st ≡ true) where
         go true e =
             let short : requirementStep st t m l ≤ levelRate st t m l - st .h = step-least _ below-whole e in
             let differ : eqb (levelRate st t m l) (requirementStep st t m l) ≡ false =
-            ne-eqb (levelRate st t m l) (requirementStep st t m l) (λ q. omega (arith, step-positive st v)) in
+            ne-eqb (levelRate st t m l) (requirementStep st t m l) (λ q. omega (arith, statics-step-positive st v)) in
             rw (most-covers, differ)
         go false e = rw most-covers (same (le-or-lt (levelRate st t m l) (requirementStep st t m l)))
           where

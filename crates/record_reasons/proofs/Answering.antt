@@ -1,7 +1,7 @@
 -- What is said of a slot, from what the evaluation comes to: the number and the fault of a refusal, the reasons of an
 -- evaluation that is accepted. Assumes nothing.
-use mathlib.Core.Path.{_≡_, refl, sym, ap, _∙_}
-use mathlib.Core.Bool.{Bool, true, false, _||_}
+use mathlib.Core.Path.{_≡_, sym, ap, _∙_}
+use mathlib.Core.Bool.{true, false, or-true}
 use mathlib.Core.List.{List}
 use lib.IntN.{ℤ}
 use Rattle.paper.specs.declared.Day.{Day}
@@ -28,10 +28,6 @@ use Rattle.record_reasons.specs.Whys.{whySlot}
 use Rattle.record_faults.proofs.AtFault.{fault-with, refused-rows}
 use Rattle.record_reasons.proofs.Reasoning.{reasons-are, accepted}
 
-or-right : (a b : Bool) → b ≡ true → (a || b) ≡ true
-or-right true b e = refl
-or-right false b e = e
-
 module _ (s : Slot) (d : Day) (rows : List ℤ) where
   abbrev w : Working
   w = workedOf s d rows
@@ -45,7 +41,7 @@ module _ (s : Slot) (d : Day) (rows : List ℤ) where
   -- where 9 is the number the bands were made
   bands-made : isSame first verdict.BandCrossed ≡ true → w .made .bands ≡ evaluated (s .rec) d rows .bands
   unfolding isMade isSame
-  bands-made e = ap (λ (x : Working). x .made .bands) (worked-made s d rows (or-right (isDone first) _ e))
+  bands-made e = ap (λ (x : Working). x .made .bands) (worked-made s d rows (rw e (or-true (isDone first))))
 
   fault-is : (f : Fault) → f ≡ faultWith (w .verdict) d rows (w .made .bands) → f ≡ faultOf first (s .rec) d rows
   fault-is f e = e ∙ rw (worked-verdict s d rows) (fault-with first (s .rec) d rows (w .made .bands) bands-made)

@@ -24,7 +24,8 @@ use Rattle.paper_desk.specs.Rates.{moveTooLarge, levelRate, modelled, figuresOf
 use Rattle.paper.specs.Numbers.{volatilityMost, aheadMost}
 use Rattle.paper.specs.Verdicts.{isDone, firstOf, NoneApplies, none, also}
 use Rattle.paper_desk.specs.Desk.{usedBy, priceOn, moveOn, figuresOn, evaluated, evaluateChecks, refusals}
-use Rattle.paper.proofs.Logic.{not-true-and-false, and-left, and-right, and-false, not-false, pick-true, pick-false}
+use Rattle.paper.proofs.Logic.{not-true-and-false, and-left, and-right, and-right-false, not-false, pick-true}
+use Rattle.paper.proofs.Logic.{pick-false}
 use Rattle.paper_desk.proofs.TentativeRange.{valid-tentative-within-top, modelled-stays}
 use Rattle.paper_desk.proofs.Refusals.{done-means-none-applies}
 use Rattle.evaluation.specs.declared.PriceFigures.{PriceFigures}
@@ -104,7 +105,7 @@ accepted s d rows e = go (done-means-none-applies (evaluateChecks (isKnown s) (s
 -- 8 does not apply, so the move is in range
 pub allowed-move-within-most : (st : Statics) (r : ℕ) → st .ewma ≡ true → moveTooLarge st r ≡ false → r ≤ volatilityMost
 unfolding moveTooLarge
-allowed-move-within-most st r on e = ltb-false volatilityMost r (and-false (st .ewma) (ltb volatilityMost r) e on)
+allowed-move-within-most st r on e = ltb-false volatilityMost r (and-right-false (st .ewma) (ltb volatilityMost r) e on)
 
 -- the figures are those of the model
 pub figures-modelled : (r : Record) (d : Day) (p : ℕ) → r .statics .ewma ≡ true → figuresAt r d p

@@ -1,6 +1,6 @@
 -- What each function needs, on plain values: one turn of each loop, and each way that a function ends. Assumes nothing.
 use mathlib.Core.Path.{_≡_, refl, sym, ap, _∙_}
-use mathlib.Core.Bool.{Bool, true, false, _&&_, not}
+use mathlib.Core.Bool.{Bool, true, false, not, _&&_, and-true, and-false}
 use mathlib.Core.List.{List, [], _∷_}
 use mathlib.Core.Logic.{_⊎_, inl, inr}
 use Prim.Native.Nat.{ℕ, zero, suc, _+_, _-_, _*_, _^_, _≤_, _<_}
@@ -16,7 +16,7 @@ use mir.ValLaws.{toZ-pos}
 use mir.Facts.{toZ-ofZ}
 use borrow.Author.Tests.{le-leb, lt-leb, lt-ltb, le-ltb, eq-eqb, ne-eqb, eqb-true}
 use Rattle.paper.specs.Lists.{pick}
-use Rattle.paper.proofs.Logic.{not-true-and-false, and-left, and-right, le-or-lt}
+use Rattle.paper.proofs.Logic.{and-left, and-right, le-or-lt}
 use Rattle.text_protocol.specs.Bytes.{minusSign, digitZero, digitNine}
 use Rattle.text_protocol.specs.Numbers.{isDigit}
 use Rattle.text_protocol.specs.Written.{negated}
@@ -376,14 +376,6 @@ module _ (t : List ℕ) (c : Column) (from : ℕ) where
 
 -- ---- which way a field is read
 
-and-not : (a : Bool) → (a && false) ≡ false
-and-not true = refl
-and-not false = refl
-
-no-and : (a b : Bool) → a ≡ false → (a && b) ≡ false
-no-and true b e = absurd (not-true-and-false true refl e)
-no-and false b e = refl
-
 module _ (t : List ℕ) (c : Column) (from start : ℕ) where
   abbrev minus : Bool
   minus = c .minus && starts (λ b. eqb b minusSign) (drop from t)
@@ -419,7 +411,7 @@ module _ (t : List ℕ) (c : Column) (from start : ℕ) where
           go : ((minus ≡ true) × (start ≡ from + 1)) ⊎ ((minus ≡ false) × (start ≡ from))
               → Celled t r (cell c (drop from t))
           go (inl (m, e)) = absurd (omega arith)
-          go (inr (m, e)) = rw (m, ← (rw e at digit), and-not (c .empty)) (rw e at q)
+          go (inr (m, e)) = rw (m, ← (rw e at digit), and-false (c .empty)) (rw e at q)
 
       pub cell-bad : none ≡ number c (drop start t) → Celled t cells.Bad (cell c (drop from t))
       cell-bad e = go (le-or-lt start from)
@@ -450,15 +442,11 @@ module _ (t : List ℕ) (c : Column) (from start : ℕ) where
       unfolding cell
       cell-none k = go behind-minus
         where
-          empty-no : (a : Bool) → (a && true) ≡ false → a ≡ false
-          empty-no true h = h
-          empty-no false h = refl
-
           go : ((minus ≡ true) × (start ≡ from + 1)) ⊎ ((minus ≡ false) × (start ≡ from))
               → Celled t cells.Bad (cell c (drop from t))
           go (inl (m, e)) =
               rw (cell-turned m e) (turned-bad t c start (sym (no-number c (drop start t) no-digit)))
           go (inr (m, e)) =
-              let f : c .empty ≡ false = empty-no (c .empty) (rw (eq-eqb start from e) at k) in
-              rw (m, no-and (c .empty) (not (starts isDigit (drop from t))) f)
+              let f : c .empty ≡ false = sym (and-true (c .empty)) ∙ (rw (eq-eqb start from e) at k) in
+              rw (m, ap (λ (a : Bool). a && not (starts isDigit (drop from t))) f)
               (rw e at (positive-bad t c start (sym (no-number c (drop start t) no-digit))))

@@ -25,6 +25,7 @@ use Rattle.paper.specs.Ranges.{validSide}
 use Rattle.paper.specs.Verdicts.{isDone, firstOf}
 use Rattle.paper_interest.specs.Interest.{interestAnswer}
 use Rattle.paper.specs.Terms.{dayOf}
+use Rattle.paper.proofs.Logic.{pick-same}
 use Rattle.paper_desk.specs.Desk.{Call, admit, evaluate, quote, move, read, openEvening, receive, known, found}
 use Rattle.paper_desk.specs.Desk.{moveChecks, checksOf, step}
 use Rattle.paper_desk.proofs.Refusals.{verdict-first}
@@ -173,10 +174,6 @@ unfolding noticeCall
 notice-plain id side x t = noticed-plain (eqb side 0) (eqb side 1) id side x t
 
 -- nor is it told as a message: a side that is none is a move that is refused
-pick-same : {A : Type 0} (b : Bool) (x : A) → pick b x x ≡ x
-pick-same true x = refl
-pick-same false x = refl
-
 no-side-refused : (id side : ℕ) (t : List Record) → eqb side 0 ≡ false → eqb side 1 ≡ false
     → isDone (step (move id side) t .answer .verdict) ≡ false
 unfolding checksOf moveChecks firstOf validSide isDone

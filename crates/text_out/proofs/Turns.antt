@@ -5,9 +5,10 @@ use Prim.Native.Nat.{ℕ, zero, suc, _+_, _-_, _*_, _/_, _%_, _^_, _≤_, _<_}
 use native.Mathlib.Omega.{arith}
 use lib.ListN.{length, set}
 use lib.Seq.{sets, set-comm}
+use Rattle.exact.specs.StoreLaws.{sets-of-both}
 use Rattle.text_protocol.specs.Numbers.{decimal}
 use Rattle.text_out.specs.Places.{last, Places, numberBytes}
-use Rattle.text_out.specs.Wrote.{Wrote, sets-more}
+use Rattle.text_out.specs.Wrote.{Wrote}
 use Rattle.text_out.proofs.Digits.{last-length, decimal-last}
 use Rattle.text_protocol.specs.Bytes.{digitZero}
 
@@ -41,7 +42,7 @@ spelling-more b₀ len k x b i rest p h =
     let s : List ℕ = last (i - 1 - len) (rest / 10) in
     let l : length s ≡ i - 1 - len = last-length (i - 1 - len) (rest / 10) in
     let m : sets b len (s ++ ((digitZero + rest % 10) ∷ [])) ≡ set (sets b len s) (i - 1) (digitZero + rest % 10) =
-    rw (l, f) at (sets-more s ((digitZero + rest % 10) ∷ []) b len) in
+    rw (l, f) at (sets-of-both s ((digitZero + rest % 10) ∷ []) b len) in
     record {
       low = omega arith;
       high = omega (arith, p .high);

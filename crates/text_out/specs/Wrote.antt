@@ -1,10 +1,11 @@
 -- Text that is appended. THE LAW is `then`: what two calls wrote one after the other is one text. Assumes nothing.
 use mathlib.Core.Path.{_≡_, refl, sym, ap, _∙_}
-use mathlib.Core.List.{List, [], _∷_, _++_, append-assoc}
-use Prim.Native.Nat.{ℕ, zero, suc, _+_, _-_, _≤_, _<_}
+use mathlib.Core.List.{List, [], _++_, append-assoc}
+use Prim.Native.Nat.{ℕ, zero, _+_, _-_, _≤_, _<_}
 use native.Mathlib.Omega.{arith}
-use lib.ListN.{length, take, drop, set, length-append}
+use lib.ListN.{length, take, drop, length-append}
 use lib.Seq.{sets, length-sets, sets-eq, take-at, length-take-le, append-snoc}
+use Rattle.exact.specs.StoreLaws.{sets-of-both}
 
 -- b' is b with the text t at n, and n' is where t ends, at most m bytes further
 pub record Wrote (b : List ℕ) (n : ℕ) (b' : List ℕ) (n' : ℕ) (t : List ℕ) (m : ℕ) : Type 0 where
@@ -12,17 +13,12 @@ pub record Wrote (b : List ℕ) (n : ℕ) (b' : List ℕ) (n' : ℕ) (t : List �
   pub long : n' ≡ n + length t
   pub most : n' ≤ n + m
 
-pub sets-more : (xs ys b : List ℕ) (i : ℕ) → sets b i (xs ++ ys) ≡ sets (sets b i xs) (i + length xs) ys
-sets-more [] ys b i = let e : i + 0 ≡ i = omega arith in rw e
-sets-more (x ∷ xs) ys b i = let e : i + suc (length xs) ≡ suc i + length xs = omega arith in rw e (sets-more xs ys (set
-    b i x) (suc i))
-
 -- ONE TEXT AND THEN ANOTHER
 pub then : {b : List ℕ} {n : ℕ} {b' : List ℕ} {n' : ℕ} {b'' : List ℕ} {n'' : ℕ} {s t : List ℕ} {k m : ℕ}
     → Wrote b n b' n' s k → Wrote b' n' b'' n'' t m → Wrote b n b'' n'' (s ++ t) (k + m)
 then {b} {n} {b'} {n'} {b''} {n''} {s} {t} p q =
     record {
-      bytes = rw (sets-more s t b n, ← p .bytes, ← p .long) (q .bytes);
+      bytes = rw (sets-of-both s t b n, ← p .bytes, ← p .long) (q .bytes);
       long = rw (length-append s t) (omega (arith, p .long, q .long));
       most = omega (arith, p .most, q .most);
     }
@@ -51,7 +47,7 @@ pub left-more : {b₀ : List ℕ} {n₀ : ℕ} {t : List ℕ} {m₀ : ℕ} {b : 
     → Left b₀ n₀ t m₀ b n (s ++ u) (k + m) → Wrote b n b' n' s k → Left b₀ n₀ t m₀ b' n' u m
 left-more {b₀} {n₀} {t} {m₀} {b} {n} {s} {u} {k} {m} {b'} {n'} p q =
     record {
-      bytes = rw (q .bytes, q .long) (sym (sets-more s u b n) ∙ p .bytes);
+      bytes = rw (q .bytes, q .long) (sym (sets-of-both s u b n) ∙ p .bytes);
       long = omega (arith, q .long, rw (length-append s u) at (p .long));
       most = omega (arith, q .most, p .most);
     }

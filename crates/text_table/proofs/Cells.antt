@@ -1,6 +1,6 @@
 -- A field that is written is read, what is read is written, and THE READING OF A FIELD IS UNIQUE. Assumes nothing.
 use mathlib.Core.Path.{_≡_, refl, sym, ap, _∙_}
-use mathlib.Core.Bool.{Bool, true, false, _&&_, not}
+use mathlib.Core.Bool.{Bool, true, false, _&&_, not, and-false}
 use mathlib.Core.List.{List, [], _∷_, _++_, append-assoc}
 use Prim.Native.Nat.{ℕ, zero, suc, _≤_, _<_}
 use native.Mathlib.Omega.{arith}
@@ -42,10 +42,6 @@ module _ (parts : ℕ → Bool) (other : (b : ℕ) → minusSign ≤ b → b ≤
   field-free (negative e d) = free (other minusSign (omega arith) (omega arith)) (decimal-free d)
 
 -- ---- a field that is written is read
-
-and-false : (a : Bool) → (a && false) ≡ false
-and-false true = refl
-and-false false = refl
 
 record Digital (t : List ℕ) : Type 0 where
   digit : starts isDigit t ≡ true

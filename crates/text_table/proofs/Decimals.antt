@@ -1,6 +1,6 @@
 -- A decimal that is written is read, and what is read is written. Assumes nothing.
 use mathlib.Core.Path.{_≡_, refl, sym, ap, _∙_}
-use mathlib.Core.Bool.{Bool, true, false, _||_}
+use mathlib.Core.Bool.{Bool, true, false, _||_, or-true}
 use mathlib.Core.List.{List, [], _∷_, _++_, append-assoc}
 use mathlib.Core.Logic.{_⊎_, inl, inr}
 use Prim.Native.Nat.{ℕ, zero, suc, _+_, _-_, _*_, _^_, _≤_, _<_}
@@ -341,15 +341,11 @@ module _ (c : Column) (n : ℕ) {w : List ℕ} (d : Digits w) (some : 0 < length
   permitted : (leb (length f) (c .places) || c .zeros) ≡ true
   permitted = go (b .allowed)
     where
-      or-right : (x : Bool) → (x || true) ≡ true
-      or-right true = refl
-      or-right false = refl
-
       go : (length (b .zeroed .z) ≡ 0) ⊎ (c .zeros ≡ true) → (leb (length f) (c .places) || c .zeros) ≡ true
       go (inl e) =
           let o : length f ≤ c .places = omega (arith, f-long, a .long) in
           rw (le-leb (length f) (c .places) o)
-      go (inr e) = rw e (or-right (leb (length f) (c .places)))
+      go (inr e) = rw e (or-true (leb (length f) (c .places)))
 
   abbrev k : ℕ
   k = c .places - (length t - length r)

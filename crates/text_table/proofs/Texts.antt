@@ -3,7 +3,8 @@ use mathlib.Core.Path.{_≡_, refl, sym, ap, ap₂, _∙_}
 use mathlib.Core.Bool.{Bool, true, false}
 use mathlib.Core.Logic.{_⊎_, inl, inr}
 use mathlib.Core.List.{List, [], _∷_, _++_}
-use Prim.Native.Nat.{ℕ, zero, suc, _+_, _-_, _*_, _≤_, _<_}
+use Prim.Native.Nat.{ℕ, suc, _+_, _-_, _*_, _≤_, _<_}
+use native.Mathlib.Nat.{pos-of-ne-zero}
 use native.Mathlib.Omega.{arith}
 use lib.Dec.{leb, ltb, eqb}
 use lib.IntN.{ℤ, pos}
@@ -104,11 +105,7 @@ module _ (id : ℕ) (t : List ℕ) (fits : length t ≤ textMost) where
     where
       go : (x : Bool) → eqb (length p) 0 ≡ x → Says id t (pick x (accepted rows) (refused (suc k)))
       go true h = ends-good id t fits k rows p s (eqb-true (length p) 0 h)
-      go false h = ends-unended id t fits k rows p s (some (length p) (eqb-false (length p) 0 h))
-        where
-          some : (n : ℕ) → (n ≡ 0 → ⊥) → 0 < n
-          some zero h = absurd (h refl)
-          some (suc n) h = omega arith
+      go false h = ends-unended id t fits k rows p s (pos-of-ne-zero (eqb-false (length p) 0 h))
 
   module _ (k : ℕ) (rows : List (List ℤ)) (p q : List ℕ) (ps : List (List ℕ)) (s : Sofar id ls (p ∷ q ∷ ps) k rows)
       (on : (k : ℕ) (rows : List (List ℤ)) → Sofar id ls (q ∷ ps) k rows → Says id t (collect id (suc k) rows (q ∷ ps)))

@@ -1,8 +1,9 @@
 -- What the two ways out of `tell` need, on plain values. Assumes nothing.
-use mathlib.Core.Path.{_≡_, refl}
+use mathlib.Core.Path.{_≡_}
 use mathlib.Core.Logic.{_⊎_, inl, inr}
-use mathlib.Core.Bool.{Bool, true, false, _&&_}
-use Prim.Native.Nat.{ℕ, zero, suc, _+_, _≤_, _<_}
+use mathlib.Core.Bool.{Bool, true, false, _&&_, and-false}
+use Prim.Native.Nat.{ℕ, _+_, _≤_, _<_}
+use native.Mathlib.Nat.{pos-of-ne-zero}
 use native.Mathlib.Omega.{arith}
 use lib.Dec.{ltb}
 use borrow.Author.Tests.{ltb-false}
@@ -12,20 +13,12 @@ use Rattle.text_tell.specs.Tells.{halted}
 use Rattle.text_protocol.specs.Answers.{answerMost, waitingMost}
 use Rattle.text_protocol.specs.Bytes.{room}
 
-some-left : (left : ℕ) → (left ≡ 0 → ⊥) → 0 < left
-some-left zero h = absurd (h refl)
-some-left (suc left) h = omega arith
-
 pub not-due : (n end len left : ℕ) → (left ≡ 0 → ⊥) → end < len → ltb waitingMost n ≡ false
     → (n + answerMost ≤ room) × (end < len) × (0 < left)
-not-due n end len left s h e = let k : n ≤ waitingMost = ltb-false waitingMost n e in (omega arith, h, some-left left s)
+not-due n end len left s h e = let k : n ≤ waitingMost = ltb-false waitingMost n e in (omega arith, h, pos-of-ne-zero s)
 
 pub always-due : {A : Type 0} → true ≡ false → A
 always-due e = let z : _≡_ {A = ℕ} 0 1 = cc in let y : ⊥ = omega arith in absurd y
-
-and-false : (x : Bool) → (x && false) ≡ false
-and-false true = refl
-and-false false = refl
 
 -- the input goes on where all was taken, and is over where it was not: then `ok` is false
 pub goes-on : (ok taken : Bool) {i r : Input} → r ≡ pick taken i (halted i)

@@ -2,7 +2,7 @@
 use mathlib.Core.Path.{_≡_, refl, sym, ap, _∙_}
 use mathlib.Core.Bool.{Bool, true, false, _&&_, _||_, not}
 use mathlib.Core.List.{List, [], _∷_, _++_}
-use Prim.Native.Nat.{ℕ, zero, suc, _+_, _-_, _*_, _^_, _≤_, _<_}
+use Prim.Native.Nat.{ℕ, suc, _+_, _-_, _*_, _^_, _≤_, _<_}
 use native.Mathlib.Omega.{arith}
 use lib.Dec.{leb, eqb}
 use lib.ListN.{length, take, drop, getD, set, length-set, length-append, drop-of-length-le}
@@ -13,6 +13,7 @@ use mir.Val.{SFits, toZ, ofZ}
 use mir.ValLaws.{toZ-pos}
 use mir.Facts.{toZ-ofZ}
 use borrow.Author.Tests.{leb-true, le-leb, lt-leb, eq-eqb, ne-eqb}
+use Rattle.paper.proofs.Differences.{minus-one-less-is-negsuc}
 use Rattle.paper.specs.Lists.{pick}
 use Rattle.text_protocol.specs.declared.Number.{Number}
 use Rattle.text_protocol.specs.declared.Number.the-variants as number
@@ -105,12 +106,8 @@ counting-all t hi goal i x p h = rw (le-leb x hi (p .below)) at (rw (drop-of-len
 
 -- ---- signs
 
-turned : (n : ℕ) → negsuc 0 -ℤ pos n ≡ negsuc n
-turned zero = refl
-turned (suc n) = ap negsuc (omega arith)
-
 turned-fits : (n : ℕ) → n < 2 ^ 63 → SFits w64 (negsuc 0 -ℤ pos n)
-turned-fits n h = rw (turned n) (record { sfits = omega arith })
+turned-fits n h = rw (minus-one-less-is-negsuc n) (record { sfits = omega arith })
 
 module _ (v : ℕ) (n : Size) (e : n ≡ size.Is v) where
   pub capped-is : (hi : ℕ) → Capped hi n → v ≤ hi
@@ -142,7 +139,7 @@ module _ (v : ℕ) (n : Size) (e : n ≡ size.Is v) where
   minus-is h z =
       let l : v - 1 < 2 ^ 63 = omega (arith, capped-is least h) in
       let o : v ≡ suc (v - 1) = omega arith in
-      rw (toZ-pos w64 (v - 1) l, toZ-ofZ (turned-fits (v - 1) l), turned (v - 1), e) (by (v - 1) o)
+      rw (toZ-pos w64 (v - 1) l, toZ-ofZ (turned-fits (v - 1) l), minus-one-less-is-negsuc (v - 1), e) (by (v - 1) o)
     where
       by : (m : ℕ) → v ≡ suc m → number.Is (negsuc m) ≡ below (size.Is v)
       by m o = rw o

@@ -2,9 +2,10 @@
 use Prim.Native.Nat.{_/_, _≤_, _<_}
 use mir.Facts.{toZ-ofZ, toZ-pos}
 use mir.Syntax.{w64}
+use Rattle.paper.proofs.Differences.{minus-one-less-is-negsuc}
 use Rattle.paper_messages.specs.Bytes.{inWidth, widthMost}
 use Rattle.message_bytes.specs.Asked.{greatestOf}
-use Rattle.message_bytes.proofs.Halves.{lower-fits, lower-is-signed, minus-one-less-is-negsuc, upper-small}
+use Rattle.message_bytes.proofs.Halves.{lower-fits, lower-is-signed, upper-small}
 use Rattle.message_bytes.proofs.Halves.{upper-fits, upper-is-signed}
 use borrow.Author.Needs.{needs}
 use Rattle.message_bytes.proofs.signed_of.Statement.{statement}

@@ -7,13 +7,13 @@ use borrow.Author.Tests.{ltb-false}
 use Rattle.paper.specs.declared.Statics.{Statics}
 use Rattle.paper.specs.Numbers.{volatilityMost}
 use Rattle.paper_desk.specs.Rates.{figuresOf, moveTooLarge}
-use Rattle.paper.proofs.Logic.{and-false, pick-true, pick-false}
+use Rattle.paper.proofs.Logic.{and-right-false, pick-true, pick-false}
 use Rattle.rates.proofs.figures_of.Statement.{statement}
 use Rattle.rates.proofs.figures_of.Tie as tie
 
 move-held : (st : Statics) (r : ℕ) → moveTooLarge st r ≡ false → st .ewma ≡ true → r ≤ volatilityMost
 unfolding moveTooLarge
-move-held st r e p = ltb-false _ _ (and-false _ _ e p)
+move-held st r e p = ltb-false _ _ (and-right-false _ _ e p)
 
 modelled-requires : tie.Need-modelled-requires
 modelled-requires c κs = (c .before .pre .0, move-held _ _ (c .before .pre .1) (c .if1 .taken))
