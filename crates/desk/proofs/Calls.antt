@@ -53,7 +53,7 @@ use ghost.Atoms.{Atoms, sem}
 use contract.Monad.{Fun, fact}
 use sound.WpLaws.{FmC}
 use types.Kit.{Given, Go, Item, ‵, raw, _⊛_, some as some′, later, Post, Goal, Soaks, ⋆, runs, atRet, Sq, Step, step}
-use types.Kit.{_$_, _∵_, !, qed, by, move, keep, drop, use1, split, join, pick, rewrite, fsplit, fjoin, feqI}
+use types.Kit.{_$_, _∵_, !, qed, by, move, drop, use1, split, join, pick, rewrite, fsplit, fjoin, feqI}
 use types.Kit.{frame as framed, await, done}
 use types.Run.{Opd, stop, from, of-opd, and-then, no-more, assigns}
 use types.Tokens.{lft-new, lft-end, lent-back}
@@ -62,8 +62,8 @@ use denote.Shadow.{pureI}
 use denote.Memory.{shares}
 use denote.Laws.{Is}
 use denote.Plain.{uint-makes, nothing-lawful}
-use denote.Builtin.{usize, u64}
-use denote.Slice.{MutSlice, Room, shr-slice-copy, finally, heres, codedHoleys, at-slice}
+use denote.Builtin.{usize}
+use denote.Slice.{MutSlice, Room, finally, heres, codedHoleys, at-slice}
 use denote.Lend.{Held, lends-shr-slice}
 use denote.Index.{opens-slice, closes-slice}
 use denote.Steps.{owned, heard, nothing}
@@ -83,7 +83,8 @@ use Rattle.desk.proofs.Row.{answer-val, typed-answer}
 use Rattle.desk.proofs.Frame.{Locals, held, holding, Within, held-own, frame, value, field as field′, sets}
 use Rattle.desk.proofs.Frame.{clears, leaves}
 use Rattle.desk.proofs.Lending.{Lending, ref, machine, Lent, lending, lent, Lends, lends}
-use Rattle.desk.proofs.Asks.{calls, says, consults-lent}
+use Rattle.desk.proofs.Asks.{calls, says}
+use Rattle.desk.proofs.Looking.{to-look, goes-look, looks}
 use Rattle.desk.proofs.take as take
 use Rattle.desk.proofs.take.Symbol.{name as #take}
 use Rattle.desk.proofs.put as put
@@ -134,20 +135,6 @@ returned cs m d b o ys v = holding (holding (holding (lent cs m b o ys) d (some 
 module _ {M : Type 1} (𝓤 : URA M) (H : Heap 𝓤) (A : Atoms 𝓤) (W : Given 𝓤 H A) (mem : Memory → SProp 𝓤)
     (run : Routine → Fun 𝓤) (κ : Lft) (q : Share) (b o : ℕ) (γ : GName) (ys : List Record)
     (room : Room R (length ys)) where
-  abbrev to-take : ℕ → Lft → Share → GName → Bound 𝓤 H A take.signature
-  to-take id κ′ q′ γ′ =
-      ((κ′, tt), (q′, tt), tt, (ref b o γ′ ys, (id, tt)), (machine b o ys ∷ [], (vint w64 id ∷ [], tt)))
-
-  goes-take : (id : ℕ) → id < 2 ^ 64 → (κ′ : Lft) (q′ : Share) (γ′ : GName)
-      → ent 𝓤 (sep 𝓤 (A .lft κ′ q′) (sem 𝓤 H A (Lent κ′ b o γ′ ys))) (Take 𝓤 H A mem run .pre (to-take id κ′ q′ γ′, tt))
-  goes-take id gd κ′ q′ γ′ =
-      qed W (‵ (flft κ′ q′) ∷ ‵ (Lent κ′ b o γ′ ys) ∷ []) ∵ nothing ! $
-      -- [true; the token; the `&`]
-      move ! (1 ∷ 0 ∷ []) $ join ! $ nothing ! $
-      owned ! u64 (Is u64) (uint-makes 𝓤 H A W w64) id _ (refl, gd) $ fjoin ! $
-      -- [what the id owns; the token; the `&`], and then [what the parameters own; the token]
-      move ! (2 ∷ 0 ∷ []) $ fjoin ! $ move ! (1 ∷ 0 ∷ []) $ join ! $ framed ! $ done !
-
   abbrev to-put : ℕ → Record → Val → Bound 𝓤 H A put.signature
   to-put i r v =
       ((κ, tt), (q, tt), tt, (ref b o γ ys, (i, (r, tt))), (machine b o ys ∷ [], (vint w64 i ∷ [], (v ∷ [], tt))))
@@ -222,12 +209,13 @@ module _ {M : Type 1} (𝓤 : URA M) (H : Heap 𝓤) (A : Atoms 𝓤) (W : Given
         -- [the new token and the `&`; what is kept; the frame; …]
         move ! (0 ∷ 2 ∷ []) $
         -- [the new token and the `&`; the frame; what is kept; …]
-        calls 𝓤 H A W take.ended (take.clauses 𝓤 H A mem run) (to-take id (α ∷ []) fullShare γ′) tt fm known
-        (‵ (flft (α ∷ []) fullShare) ⊛ ‵ (Lent (α ∷ []) b o γ′ ys)) (goes-take id gd (α ∷ []) fullShare γ′)
+        calls 𝓤 H A W take.ended (take.clauses 𝓤 H A mem run) (passed-on α γ′) tt fm known
+        (‵ (flft (α ∷ []) fullShare) ⊛ ‵ (Lent (α ∷ []) b o γ′ ys))
+        (goes-look S slotOf 𝓤 H A W (α ∷ []) fullShare b o γ′ ys id gd)
         (λ s v is. subst (λ (τ : Ty). T (hasTy τ v) × WT v) (sym is-slot) (typed-slot 𝓤 H A W s v is)) in-d
         (and-then ! (value ! (m .1) (slice-in E cs m (l .4))) (and-then ! (os _) (no-more !)))
         (λ s v is. use1 W (raw (fact 𝓤 (s ≡ slotOf ys id))) (says 𝓤 H A W take.ended (take.clauses 𝓤 H A mem run)
-        (to-take id (α ∷ []) fullShare γ′) tt s (s ≡ slotOf ys id) (λ e. id⊢ 𝓤 (fact 𝓤 (s ≡ slotOf ys id)))) $
+        (passed-on α γ′) tt s (s ≡ slotOf ys id) (λ e. id⊢ 𝓤 (fact 𝓤 (s ≡ slotOf ys id)))) $
         heard ! (s ≡ slotOf ys id) (λ e. use1 W (‵ (flft (α ∷ []) fullShare) ⊛ ‵ ftrue)
         (id⊢ 𝓤 (sep 𝓤 (A .lft (α ∷ []) fullShare) (emp 𝓤))) $ split ! $
         -- [the new token; true; the frame; what is kept; …]
@@ -235,6 +223,9 @@ module _ {M : Type 1} (𝓤 : URA M) (H : Heap 𝓤) (A : Atoms 𝓤) (W : Given
         -- [t; its token; true; the frame; …]
         move ! (2 ∷ []) $ drop ! $ move ! (2 ∷ []) $ clears ! (m .0) (l .3) $ clears ! (m .1) (l .4) $
         k v (subst (λ (z : Slot). Is S z (v ∷ [])) e is))))
+      where
+        passed-on : (α : ℕ) (γ′ : GName) → Bound 𝓤 H A take.signature
+        passed-on α γ′ = to-look S slotOf 𝓤 H A W (α ∷ []) fullShare b o γ′ ys id gd
 
     -- let d = take(t, x); of a caller that has t as `&`, and passes it on
     pub takes-shared : FmC 𝓤 H (W .laws) C → Triple 𝓤 (C #take) (Take 𝓤 H A mem run) → (t d : ℕ)
@@ -244,25 +235,9 @@ module _ {M : Type 1} (𝓤 : URA M) (H : Heap 𝓤) (A : Atoms 𝓤) (W : Given
         → Sq W (frame H E (holding cs d (some v)) ∷ ‵ (Lent κ b o γ ys) ∷ ‵ (flft κ q) ∷ Γ) (runs C Λ E rest post))
         → Sq W (frame H E cs ∷ ‵ (Lent κ b o γ ys) ∷ ‵ (flft κ q) ∷ Γ)
         (runs C Λ E (seq (call #take (copy (place t []) ∷ x ∷ []) (place d [])) rest) post)
-    takes-shared fm known t d holds in-d is-slot id gd os k =
-        nothing ! $
-        -- [true; the frame; what t owns; its token; …]
-        move ! (3 ∷ 0 ∷ []) $ join ! $ use1 W Tokens (id⊢ 𝓤 (sep 𝓤 (A .lft κ q) (emp 𝓤))) $
-        -- [the token; the frame; what t owns; …]
-        move ! (1 ∷ []) $ consults-lent 𝓤 H A W take.ended (take.clauses 𝓤 H A mem run) (to-take id κ q γ) tt fm known
-        (Lent κ b o γ ys) (shr-slice-copy 𝓤 H A W (named 0) κ R .twice (ref b o γ ys) (machine b o ys ∷ []))
-        (qed W ((‵ (flft κ q) ⊛ ‵ ftrue) ∷ ‵ (Lent κ b o γ ys) ∷ []) ∵ split ! $ keep ! (0 ∷ 2 ∷ []) $
-        by ! (goes-take id gd κ q γ)) (slotOf ys id) (λ s e. id⊢ 𝓤 _)
-        (λ s v is. subst (λ (τ : Ty). T (hasTy τ v) × WT v) (sym is-slot) (typed-slot 𝓤 H A W s v is)) in-d
-        (and-then ! (value ! t holds) (and-then ! (os _) (no-more !)))
-        (λ v is.
-        -- [the frame; the tokens; what t owns; …]
-        move ! (1 ∷ []) $ use1 W (‵ (flft κ q) ⊛ ‵ ftrue) (id⊢ 𝓤 (sep 𝓤 (A .lft κ q) (emp 𝓤))) $ split ! $
-        -- [the token; true; the frame; what t owns; …]
-        move ! (1 ∷ []) $ drop ! $ move ! (1 ∷ 2 ∷ []) $ k v is)
-      where
-        Tokens : Item 𝓤
-        Tokens = raw (sep 𝓤 (A .lft κ q) (emp 𝓤))
+    takes-shared fm known t d holds in-d is-slot id gd =
+        looks S slotOf 𝓤 H A W κ q b o γ ys id gd fm known t d holds in-d
+        (λ s v is. subst (λ (τ : Ty). T (hasTy τ v) × WT v) (sym is-slot) (typed-slot 𝓤 H A W s v is))
 
     -- put(t, x, y);
     pub puts : FmC 𝓤 H (W .laws) C → Triple 𝓤 (C #put) (Put 𝓤 H A mem run) → (t : ℕ) (m : Lending) (d : ℕ)

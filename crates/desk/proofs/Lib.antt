@@ -6,11 +6,11 @@ pub mod Frame
 pub mod Slots
 pub mod Lending
 pub mod Asks
-pub mod Calls
 pub mod Known
 pub mod Plain
 pub mod Meeting
 pub mod Looking
+pub mod Calls
 pub mod Passing
 pub mod Changing
 pub mod Telling
