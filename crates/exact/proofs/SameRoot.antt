@@ -13,38 +13,27 @@ use Rattle.paper.specs.declared.Model.{Model}
 use Rattle.paper.specs.declared.Statics.{Statics}
 use Rattle.paper.specs.declared.Interest.{Interest}
 use Rattle.paper.specs.declared.Maturity.{Maturity}
-use Rattle.paper.specs.Numbers.{oneInTenThousandths, volatilityMost}
+use Rattle.paper.specs.Numbers.{volatilityMost}
 use Rattle.paper.specs.Ranges.{validStatics}
-use Rattle.paper_desk.specs.Rates.{modelOf, weightOf, weighted, Weighing}
+use Rattle.paper_desk.specs.Rates.{modelOf, weighted, Weighing}
 use Rattle.paper_interest.specs.Interest.{changeOf, InterestRange, KeyRange}
 use Rattle.paper.proofs.Search.{root-covers, root-least, root-unique}
 use Rattle.paper_desk.proofs.Bounds.{mean-of-squares-within}
 use Rattle.paper_desk.proofs.Volatility.{valid-weighs, weight-most}
 use Rattle.paper_interest.proofs.InterestRanges.{change-high}
-use Rattle.exact.specs.RootInputs.{IsLeastRoot, meanOfSquares}
+use Rattle.exact.specs.RootInputs.{SameRoot}
 use Rattle.exact.proofs.least_root as root
 
 -- a call of `least_root`: its lifetimes, of which it has none, and its parameters as it returns
 module _ (κs : Lfts 0) (exit : AtExit (endedOf 0 root.Kinds.ps root.Kinds.r) κs) where
-  -- what it asks of its two numbers, and what it promises of its answer x
-  abbrev pub Asks : (factor n : ℕ) → Type 0
-  Asks factor n = root.Reads.Pre κs (factor, (n, tt))
-
-  abbrev pub Answers : (factor n x : ℕ) → Type 0
-  Answers factor n x = root.Reads.Post κs (factor, (n, tt)) x exit
-
-  -- the call for the root of a model's mean of squares, as at (f)
-  pub record SameRoot (m : Model) (b r s : ℕ) : Type 0 where
-    pub asks : Asks oneInTenThousandths (meanOfSquares m b r s)
-    pub weighted : (x : ℕ) → Answers oneInTenThousandths (meanOfSquares m b r s) x → x ≡ weighted (weightOf m b r s) s r
-    pub least : (x : ℕ) → Answers oneInTenThousandths (meanOfSquares m b r s) x
-        → IsLeastRoot oneInTenThousandths (meanOfSquares m b r s) x
-    pub same : (x y : ℕ) → Answers oneInTenThousandths (meanOfSquares m b r s) x
-        → IsLeastRoot oneInTenThousandths (meanOfSquares m b r s) y
-        → x ≡ y
+  -- what `SameRoot` says of its own contract
+  abbrev pub KeepsRoot : (m : Model) (b r s : ℕ) → Type 0
+  KeepsRoot =
+      SameRoot (λ factor n. root.Reads.Pre κs (factor, (n, tt)))
+      (λ factor n x. root.Reads.Post κs (factor, (n, tt)) x exit)
 
   -- what the two sides have in common: weights up to one, and volatilities up to 2^20
-  same-root : (m : Model) (b r s : ℕ) → Weighing m → r ≤ 2 ^ 20 → s ≤ 2 ^ 20 → SameRoot m b r s
+  same-root : (m : Model) (b r s : ℕ) → Weighing m → r ≤ 2 ^ 20 → s ≤ 2 ^ 20 → KeepsRoot m b r s
   unfolding weighted
   same-root m b r s w hr hs =
       record {
@@ -56,12 +45,12 @@ module _ (κs : Lfts 0) (exit : AtExit (endedOf 0 root.Kinds.ps root.Kinds.r) κ
 
   -- shares: valid statics, and a move and a volatility of at most 1,000,000 millionths
   pub root-of-shares : (st : Statics) (b r s : ℕ) → validStatics st ≡ true → r ≤ volatilityMost → s ≤ volatilityMost
-      → SameRoot (modelOf st) b r s
+      → KeepsRoot (modelOf st) b r s
   root-of-shares st b r s v hr hs = same-root (modelOf st) b r s (valid-weighs st v) (omega arith) (omega arith)
 
   -- the interest side: an evening and a key maturity in range, whose change and volatility are at most 19,998 bp
   pub root-of-interest : (i : Interest) (k : Maturity) → InterestRange i → KeyRange k
-      → SameRoot (i .model) (i .b) (changeOf k) (k .volatility)
+      → KeepsRoot (i .model) (i .b) (changeOf k) (k .volatility)
   root-of-interest i k given key =
       same-root (i .model) (i .b) (changeOf k) (k .volatility) (given .weighs)
       (omega (arith, change-high k (key .r) (key .r1) (key .r2)))
