@@ -2,7 +2,7 @@
 -- and what a sound record is. Assumes nothing.
 use mathlib.Core.Bool.{Bool, true, false, _&&_, _||_}
 use mathlib.Core.List.{List, [], _∷_}
-use Prim.Native.Nat.{ℕ, zero, suc, _+_, _*_, _/_, _%_}
+use Prim.Native.Nat.{ℕ, zero, suc, _+_, _*_, _/_, _%_, _^_}
 use lib.Dec.{leb, eqb}
 use lib.IntN.{ℤ, pos, negsuc}
 use lib.ListN.{length, getD}
@@ -36,6 +36,7 @@ use Rattle.paper.specs.declared.Day.{Day}
 use Rattle.paper.specs.declared.Row.{Row}
 use Rattle.paper.specs.declared.Quote.{Quote}
 use Rattle.paper.specs.Lists.{pick, allThree, every}
+use Rattle.paper.specs.Least.{least}
 use Rattle.paper.specs.Numbers.{lotToTen, gridOfOne, gridToTen, priceLeast, priceMost, rateMost, volatilityMost}
 use Rattle.paper.specs.Numbers.{tentativeMost, lotMost, stepMost, multiplierLeast, multiplierMost, weightMost}
 use Rattle.paper.specs.Numbers.{waitMost, firstDaysMost, daysMost, liquidityMost, divisorLeast, divisorMost}
@@ -81,6 +82,11 @@ limitMade units = pick (leb units limitMost) (made-limit.Made (record { units = 
 -- "Grid (10.1): ceiling(log10 lot) + 2 decimals. So g = 100 units for lot 1, 10 for 2..10, 1 for 11..100."
 unfoldable pub gridOf : (lot : ℕ) → ℕ
 gridOf lot = pick (leb lot 1) gridOfOne (pick (leb lot lotToTen) gridToTen 1)
+
+-- "ceiling(log10 lot) + 2 decimals" of a rouble of 10^4 units: the least e with 10^e ≥ lot, and a grid of 10^(4 - (e +
+-- 2)) units. `grid-is-power-of-ten` (proofs/Units of `paper_desk`) says that the three steps are this.
+unfoldable pub ceilingLog10 : (lot : ℕ) → ℕ
+ceilingLog10 lot = least 2 (λ e. leb lot (10 ^ e))
 
 -- "on the grid, in range"
 unfoldable pub isGridPrice : (g p : ℕ) → Bool

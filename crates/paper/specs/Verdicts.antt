@@ -1,6 +1,6 @@
 -- Document 01, "Numbers a member may see". Assumes nothing.
 use mathlib.Core.Path.{_≡_}
-use mathlib.Core.Bool.{Bool, true, false}
+use mathlib.Core.Bool.{Bool, true, false, not}
 use mathlib.Core.List.{List, [], _∷_}
 use Prim.Native.Nat.{ℕ}
 use lib.Dec.{eqb}
@@ -12,7 +12,7 @@ use Rattle.paper.specs.declared.Verdict.the-variants.{NotMonitored, Move
 use Rattle.paper.specs.declared.Verdict.the-variants.{BadLine, RowCrossed, NoFaceValue, NoEveningMove}
 use Rattle.paper.specs.declared.Verdict.the-variants.{OpenedTwice, BadFloat, CutShort, WrongLength}
 use Rattle.paper.specs.declared.Verdict.the-variants.{FieldOutOfRange, NoRoom}
-use Rattle.paper.specs.Lists.{pick}
+use Rattle.paper.specs.Lists.{pick, every}
 
 -- the table's numbers, in its order
 abbrev pub numberOf : Verdict → ℕ
@@ -57,6 +57,10 @@ pub record Naming (A : Type 0) : Type 0 where
 -- a number, and when it applies
 abbrev pub Check : Type 0
 Check = Naming Verdict
+
+-- whether every check names a refusal
+unfoldable pub allRefusals : List Check → Bool
+allRefusals cs = every (λ (c : Check). not (isDone (c .verdict))) cs
 
 -- "First that applies": what the first one names, and where none applies, what stands otherwise
 abbrev pub firstNamed : {A : Type 0} → (otherwise : A) → List (Naming A) → A

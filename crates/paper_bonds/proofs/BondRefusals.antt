@@ -7,8 +7,7 @@ use lib.IntN.{ℤ}
 use Rattle.paper.specs.declared.Verdict.{Verdict}
 use Rattle.paper.specs.declared.Verdict.the-variants.{Done}
 use Rattle.paper.specs.Lists.{pick, every}
-use Rattle.paper.specs.Verdicts.{isDone, firstOf, FirstAt, NoneApplies, Exactly}
-use Rattle.paper_desk.specs.Desk.{refusals}
+use Rattle.paper.specs.Verdicts.{isDone, firstOf, FirstAt, NoneApplies, Exactly, allRefusals}
 use Rattle.paper.proofs.Logic.{pick-true, pick-false}
 use Rattle.paper_desk.proofs.Refusals.{done-is, given-is-first, first-is-given, done-means-none-applies}
 use Rattle.paper_desk.proofs.Refusals.{none-applies-gives-done}
@@ -36,7 +35,7 @@ module _ (b : Bond) (numbers : List ℤ) where
 
   -- 0 exactly when none applies
   pub accepted-exactly : Exactly (bondAnswer b numbers .verdict ≡ Done) (NoneApplies (bondChecks b numbers))
-  unfolding bondChecks isDone refusals every
+  unfolding bondChecks isDone allRefusals every
   accepted-exactly = (
     λ e. done-means-none-applies (bondChecks b numbers) refl (ap isDone (sym verdict-first ∙ e)),
     λ n. verdict-first ∙ none-applies-gives-done (bondChecks b numbers) n,

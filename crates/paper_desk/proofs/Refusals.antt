@@ -23,11 +23,11 @@ use Rattle.paper.specs.declared.Verdict.the-variants.{OpenedTwice, BadFloat, Cu
 use Rattle.paper.specs.declared.Verdict.the-variants.{NoRoom}
 use Rattle.paper.specs.Lists.{pick, every}
 use Rattle.paper.specs.Verdicts.{numberOf, isDone, Naming, Check, firstNamed, firstOf, FirstAt, here, later}
-use Rattle.paper.specs.Verdicts.{NoneApplies, none, also}
+use Rattle.paper.specs.Verdicts.{NoneApplies, none, also, allRefusals}
 use Rattle.paper_desk.specs.Desk.{Call, admit, evaluate, quote, move, read, openEvening, receive, admitChecks}
 use Rattle.paper_desk.specs.Desk.{evaluateChecks, quoteChecks, moveChecks, readChecks, openChecks, receiveChecks}
 use Rattle.paper_desk.specs.Desk.{checksOf, Outcome, saying, showing, alerting, alertsOn, judged, acceptedOf}
-use Rattle.paper_desk.specs.Desk.{step, refusals}
+use Rattle.paper_desk.specs.Desk.{step}
 use Rattle.paper.proofs.Logic.{not-true-and-false, and-left, and-right, pick-true, pick-false}
 
 -- ---- the first check that applies
@@ -97,8 +97,8 @@ unfolding firstOf
 first-is-given cs v f = first-is-named Done cs v f
 
 -- where every check names a refusal, 0 is given exactly where none applies
-pub done-means-none-applies : (cs : List Check) → refusals cs ≡ true → isDone (firstOf cs) ≡ true → NoneApplies cs
-unfolding refusals every firstOf
+pub done-means-none-applies : (cs : List Check) → allRefusals cs ≡ true → isDone (firstOf cs) ≡ true → NoneApplies cs
+unfolding allRefusals every firstOf
 done-means-none-applies [] r e = none
 done-means-none-applies (c ∷ cs) r e = go (c .applies) refl e
     (done-means-none-applies cs (and-right (not (isDone (c .verdict))) _ r))
@@ -115,9 +115,9 @@ none-applies-gives-done cs n = none-named Done cs n
 
 -- ---- each call
 
-all-refusals : (c : Call) (t : List Record) → refusals (checksOf c t) ≡ true
-unfolding checksOf admitChecks evaluateChecks quoteChecks moveChecks readChecks openChecks receiveChecks refusals every
-    isDone
+all-refusals : (c : Call) (t : List Record) → allRefusals (checksOf c t) ≡ true
+unfolding checksOf admitChecks evaluateChecks quoteChecks moveChecks readChecks openChecks receiveChecks allRefusals
+    every isDone
 all-refusals (admit a) t = refl
 all-refusals (evaluate id d rows) t = refl
 all-refusals (quote id q) t = refl

@@ -13,10 +13,9 @@ use Rattle.paper.specs.declared.Verdict.the-variants.{Done, AdmissionOutOfRange
 use Rattle.paper.specs.Lists.{pick}
 use Rattle.paper.specs.Numbers.{pastEvery}
 use Rattle.paper.specs.Least.{least}
-use Rattle.paper.specs.Ranges.{within, withinZ, unsigned, gridOf, validGiven}
+use Rattle.paper.specs.Ranges.{within, withinZ, unsigned, gridOf, ceilingLog10, validGiven}
 use Rattle.paper.specs.Verdicts.{numberOf, isDone, firstOf}
 use Rattle.paper_desk.specs.Gateway.{gatewayChecks, gatewayAnswer}
-use Rattle.paper_desk.specs.Grid.{ceilingLog10}
 use Rattle.paper.proofs.Logic.{le-or-lt}
 use Rattle.paper.proofs.Search.{least-unique}
 

@@ -297,10 +297,6 @@ idOf (read id) = id
 idOf (openEvening id) = id
 idOf (receive id x) = id
 
--- whether every check names a refusal
-unfoldable pub refusals : List Check → Bool
-refusals cs = every (λ (c : Check). not (isDone (c .verdict))) cs
-
 -- "admit 4, 2, 3"
 unfoldable pub admitChecks : List Record → Admission → List Check
 admitChecks t a =

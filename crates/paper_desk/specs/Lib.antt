@@ -1,5 +1,4 @@
 -- What document 01 works out and answers, a file a clause; the files named Pinned have tables.
-pub mod Grid
 pub mod Evaluation
 pub mod External
 pub mod Rates

@@ -11,7 +11,7 @@ use Rattle.paper.specs.declared.Verdict.{Verdict}
 use Rattle.paper.specs.declared.Verdict.the-variants.{Done, OutOfRange, NotAscending}
 use Rattle.paper.specs.Lists.{pick, every}
 use Rattle.paper.specs.Verdicts.{numberOf, isDone, firstOf, FirstAt, here, later, NoneApplies, none, also, Exactly}
-use Rattle.paper_desk.specs.Desk.{refusals}
+use Rattle.paper.specs.Verdicts.{allRefusals}
 use Rattle.paper_interest.specs.Interest.{maturitiesOf, inRange, inOrder, interestChecks, refusedInterest}
 use Rattle.paper_interest.specs.Interest.{acceptedInterest, interestAnswer}
 use Rattle.paper.proofs.Logic.{not-true, not-false, pick-true, pick-false}
@@ -64,7 +64,7 @@ module _ (i : Interest) (numbers : List ℤ) where
   -- 0, otherwise
   pub accepted-exactly : Exactly (interestAnswer i numbers .pair .verdict ≡ Done)
       ((inRange i numbers ≡ true) × (inOrder i numbers ≡ true))
-  unfolding interestChecks isDone refusals every
+  unfolding interestChecks isDone allRefusals every
   accepted-exactly = (
     λ e. only (done-means-none-applies (interestChecks i numbers) refl (ap isDone (sym verdict-first ∙ e))),
     λ e. verdict-first ∙ none-applies-gives-done (interestChecks i numbers)

@@ -13,8 +13,7 @@ use Rattle.paper.specs.declared.Verdict.{Verdict}
 use Rattle.paper.specs.declared.Verdict.the-variants.{Done}
 use Rattle.paper.specs.Lists.{pick, every}
 use Rattle.paper.specs.Ranges.{within}
-use Rattle.paper.specs.Verdicts.{firstOf, isDone, NoneApplies, none, also}
-use Rattle.paper_desk.specs.Desk.{refusals}
+use Rattle.paper.specs.Verdicts.{firstOf, isDone, NoneApplies, none, also, allRefusals}
 use Rattle.paper.proofs.Logic.{and-left, and-right, and-right-false}
 use Rattle.paper_desk.proofs.Refusals.{done-is, done-means-none-applies}
 use Rattle.paper_messages.specs.declared.Message.{Message}
@@ -200,7 +199,7 @@ module _ (m : Message) (v : valid m ≡ true) (full : length (m .fields) ≡ pla
 -- ---- an accepted message is the only encoding of its fields
 
 pub done-means-accepted : (bytes : List ℕ) → firstOf (readChecks bytes) ≡ Done → AcceptedBytes bytes
-unfolding readChecks refusals every isDone
+unfolding readChecks allRefusals every isDone
 done-means-accepted bytes e = of (done-means-none-applies (readChecks bytes) refl (ap isDone e))
   where
     of : NoneApplies (readChecks bytes) → AcceptedBytes bytes

@@ -9,8 +9,7 @@ use lib.ListN.{drop}
 use Rattle.paper.specs.declared.Verdict.{Verdict}
 use Rattle.paper.specs.declared.Verdict.the-variants.{Done}
 use Rattle.paper.specs.Lists.{every}
-use Rattle.paper.specs.Verdicts.{Check, isDone, firstOf, FirstAt, NoneApplies, Exactly}
-use Rattle.paper_desk.specs.Desk.{refusals}
+use Rattle.paper.specs.Verdicts.{Check, isDone, firstOf, FirstAt, NoneApplies, Exactly, allRefusals}
 use Rattle.paper.proofs.Logic.{pick-false}
 use Rattle.paper_desk.proofs.Refusals.{given-is-first, first-is-given, done-means-none-applies, none-applies-gives-done}
 use Rattle.paper_messages.specs.declared.Message.{Message}
@@ -22,7 +21,7 @@ module _ (answer : Verdict) (checks : List Check) (is : answer ≡ firstOf check
   refused-exactly : (v : Verdict) → isDone v ≡ false → Exactly (answer ≡ v) (FirstAt v checks)
   refused-exactly v n = (λ e. given-is-first checks v n (sym is ∙ e), λ f. is ∙ first-is-given checks v f)
 
-  accepted-exactly : refusals checks ≡ true → Exactly (answer ≡ Done) (NoneApplies checks)
+  accepted-exactly : allRefusals checks ≡ true → Exactly (answer ≡ Done) (NoneApplies checks)
   unfolding isDone
   accepted-exactly r = (
     λ e. done-means-none-applies checks r (ap isDone (sym is ∙ e)),
@@ -38,7 +37,7 @@ module _ (b : List ℕ) (at : ℕ) where
   read-refused v n = refused-exactly (heardAt b at .verdict) (readChecks (drop at b)) (heard-verdict b at) v n
 
   pub read-accepted : Exactly (heardAt b at .verdict ≡ Done) (NoneApplies (readChecks (drop at b)))
-  unfolding readChecks refusals every isDone
+  unfolding readChecks allRefusals every isDone
   read-accepted = accepted-exactly (heardAt b at .verdict) (readChecks (drop at b)) (heard-verdict b at) refl
 
   pub read-zeros : isDone (heardAt b at .verdict) ≡ false → heardAt b at ≡ refusedHeard (heardAt b at .verdict)
@@ -59,7 +58,7 @@ module _ (b : List ℕ) (m : Message) where
   write-refused v n = refused-exactly (wroteOf b m .verdict) (writeChecks b m) wrote-verdict v n
 
   pub write-accepted : Exactly (wroteOf b m .verdict ≡ Done) (NoneApplies (writeChecks b m))
-  unfolding writeChecks refusals every isDone
+  unfolding writeChecks allRefusals every isDone
   write-accepted = accepted-exactly (wroteOf b m .verdict) (writeChecks b m) wrote-verdict refl
 
   pub write-untouched : isDone (wroteOf b m .verdict) ≡ false → (written b m ≡ b) × (wroteOf b m .length ≡ 0)

@@ -16,8 +16,8 @@ use Rattle.paper.specs.Numbers.{movesMost}
 use Rattle.paper.specs.Ranges.{validQuote, validSide, sideOf, isLive, sound}
 use Rattle.paper_desk.specs.Limits.{countOf}
 use Rattle.paper_desk.specs.Evening.{moveAllowed}
-use Rattle.paper.specs.Verdicts.{isDone, Check, firstOf, NoneApplies, none, also}
-use Rattle.paper_desk.specs.Desk.{showing, quoted, alertsOn, moved, quoteChecks, moveChecks, refusals}
+use Rattle.paper.specs.Verdicts.{isDone, Check, firstOf, NoneApplies, none, also, allRefusals}
+use Rattle.paper_desk.specs.Desk.{showing, quoted, alertsOn, moved, quoteChecks, moveChecks}
 use Rattle.paper.proofs.Logic.{not-true-and-false, not-false, pick-false}
 use Rattle.paper_desk.proofs.Refusals.{done-means-none-applies}
 use Rattle.record_soundness.proofs.Facts.{sound-facts}
@@ -55,7 +55,7 @@ pub record Passed (there inRange : Bool) (r : Record) : Type 0 where
 
 pub past-shared : (there inRange : Bool) (r : Record) → isDone (firstOf (sharedChecks there inRange r)) ≡ true
     → Passed there inRange r
-unfolding sharedChecks refusals every isDone
+unfolding sharedChecks allRefusals every isDone
 past-shared there inRange r e = go (done-means-none-applies (sharedChecks there inRange r) refl e)
   where
     go : NoneApplies (sharedChecks there inRange r) → Passed there inRange r

@@ -22,8 +22,8 @@ use Rattle.paper.specs.Ranges.{isPrice, gridOf, validStatics, validTentative, s
 use Rattle.paper_desk.specs.Evaluation.{roublesOf, weights, rowFits, evaluationOf, evaluationFits, dayRows}
 use Rattle.paper_desk.specs.Rates.{moveTooLarge, levelRate, modelled, figuresOf}
 use Rattle.paper.specs.Numbers.{volatilityMost, aheadMost}
-use Rattle.paper.specs.Verdicts.{isDone, firstOf, NoneApplies, none, also}
-use Rattle.paper_desk.specs.Desk.{usedBy, priceOn, moveOn, figuresOn, evaluated, evaluateChecks, refusals}
+use Rattle.paper.specs.Verdicts.{isDone, firstOf, NoneApplies, none, also, allRefusals}
+use Rattle.paper_desk.specs.Desk.{usedBy, priceOn, moveOn, figuresOn, evaluated, evaluateChecks}
 use Rattle.paper.proofs.Logic.{not-true-and-false, and-left, and-right, and-right-false, not-false, pick-true}
 use Rattle.paper.proofs.Logic.{pick-false}
 use Rattle.paper_desk.proofs.TentativeRange.{valid-tentative-within-top, modelled-stays}
@@ -83,7 +83,7 @@ reasons-are r d rows = rw (reason-from (r .p1 .units) (usedBy r) (map roublesOf 
 pub accepted : (s : Slot) (d : Day) (rows : List ℤ)
     → isDone (firstOf (evaluateChecks (isKnown s) (s .rec) d rows)) ≡ true
     → Accepted (s .rec) d (madeOf (evaluated (s .rec) d rows))
-unfolding evaluateChecks refusals every isDone evaluationFits priceOn evaluated moveTo moveOn figuresAt figuresOn
+unfolding evaluateChecks allRefusals every isDone evaluationFits priceOn evaluated moveTo moveOn figuresAt figuresOn
 accepted s d rows e = go (done-means-none-applies (evaluateChecks (isKnown s) (s .rec) d rows) refl e)
   where
     go : NoneApplies (evaluateChecks (isKnown s) (s .rec) d rows)
