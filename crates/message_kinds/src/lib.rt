@@ -2,7 +2,7 @@
 ghost use mathlib.Core.Path.{_≡_};
 ghost use Rattle.paper.specs.Ranges.{withinZ};
 ghost use Rattle.paper_messages.specs.Fields.{placesOf};
-ghost use Rattle.paper_messages.specs.Messages.{lengthOf, isKnown, inRanges, numberAt, givenIn, asAdmission, valid};
+ghost use Rattle.paper_messages.specs.Messages.{lengthOf, isKnownKind, inRanges, numberAt, givenIn, asAdmission, valid};
 use inputs::valid_given;
 use inputs::valid_id;
 use paper::GivenStatics;
@@ -324,8 +324,8 @@ pub fn length_of(kind: u64) -> u64
 
 // ---- when a message is valid
 
-pub fn is_known(kind: u64) -> bool
-    ensures { λ r. ⌜ r ≡ isKnown kind ⌝ }
+pub fn is_known_kind(kind: u64) -> bool
+    ensures { λ r. ⌜ r ≡ isKnownKind kind ⌝ }
 {
     (Message::STATICS <= kind) & (kind <= Message::MOVE)
 }
@@ -407,7 +407,7 @@ pub fn is_valid(m: Message) -> bool
 {
     let kind = m.kind;
     let values = m.fields;
-    if !is_known(kind) {
+    if !is_known_kind(kind) {
         return false;
     }
     if !in_ranges(places_of(kind), values) {

@@ -30,9 +30,10 @@ use Rattle.paper_desk.specs.Limits.{countOf}
 use Rattle.paper_desk.specs.Sides.{limitOn}
 use Rattle.inputs.proofs.Facts.{within-facts, StaticsFacts, statics-facts, given-statics-valid}
 use Rattle.record_soundness.proofs.Facts.{LimitsFacts, SoundRecord, sound-facts}
-use Rattle.paper_messages.specs.Fields.{staticsFields, ratesFields, bandsFields, moveFields, fieldsOf, staticsKind}
+use Rattle.paper_messages.specs.Fields.{staticsFields, ratesFields, bandsFields, moveFields, fieldsOf}
+use Rattle.paper_messages.specs.Fields.{staticsMessageKind}
 use Rattle.paper_messages.specs.Fields.{places, tentativeLast, filled, placesOf}
-use Rattle.paper_messages.specs.Messages.{isKnown, inRanges, numberAt, givenIn, asAdmission, valid}
+use Rattle.paper_messages.specs.Messages.{isKnownKind, inRanges, numberAt, givenIn, asAdmission, valid}
 use Rattle.paper_messages.specs.Records.{pastSigned, valueOf, flagOf, message, staticsNumbers, staticsMessage}
 use Rattle.paper_messages.specs.Records.{ratesMessage, bandsMessage, moveMessage, rangeShown, bandShown}
 
@@ -81,7 +82,7 @@ module _ (r : Record) (sound-record : sound r ≡ true) where
       value-in 0 tentativeLast _ (omega arith) (omega arith) (omega (arith, top, step .most, most))
 
   pub rates-valid : valid (ratesMessage r) ≡ true
-  unfolding valid ratesMessage message filled placesOf fieldsOf ratesFields isKnown inRanges
+  unfolding valid ratesMessage message filled placesOf fieldsOf ratesFields isKnownKind inRanges
   rates-valid =
       id-in
       & (day-in
@@ -116,7 +117,7 @@ module _ (r : Record) (sound-record : sound r ≡ true) where
       & (repo-in (termAt (r .terms) k .high) (term .high .size) & (band-in Lower k l & (band-in Upper k l & e))))
 
   pub bands-valid : valid (bandsMessage r) ≡ true
-  unfolding valid bandsMessage message filled placesOf fieldsOf bandsFields isKnown inRanges
+  unfolding valid bandsMessage message filled placesOf fieldsOf bandsFields isKnownKind inRanges
   bands-valid =
       id-in
       & (day-in
@@ -133,7 +134,7 @@ module _ (r : Record) (sound-record : sound r ≡ true) where
   side-in Lower = value-in 0 1 1 (omega arith) (omega arith) (omega arith)
 
   pub move-valid : (side : Side) → valid (moveMessage r side) ≡ true
-  unfolding valid moveMessage message filled placesOf fieldsOf moveFields isKnown inRanges
+  unfolding valid moveMessage message filled placesOf fieldsOf moveFields isKnownKind inRanges
   move-valid side =
       id-in
       & (side-in side
@@ -166,7 +167,7 @@ as-built (suc n) i values e =
 
 -- what an admission accepts is in every field's own range
 admitted-in : (values : List ℤ) → asAdmission values ≡ true
-    → inRanges (placesOf staticsKind) (build places 0 values) ≡ true
+    → inRanges (placesOf staticsMessageKind) (build places 0 values) ≡ true
 unfolding asAdmission validGiven staticsOf givenIn placesOf fieldsOf filled staticsFields inRanges build
 admitted-in values v =
     let given : validGiven (givenIn values) ≡ true =
@@ -215,16 +216,16 @@ admitted-in values v =
 
 -- kind 1 is judged exactly as an admission judges id and statics
 pub judged-as-admission : (values : List ℤ) → length values ≡ places
-    → valid (record { kind = staticsKind; fields = values }) ≡ asAdmission values
-unfolding valid isKnown
+    → valid (record { kind = staticsMessageKind; fields = values }) ≡ asAdmission values
+unfolding valid isKnownKind
 judged-as-admission values e = go (asAdmission values) refl
   where
     all : values ≡ build places 0 values
     all = as-built places 0 values (sym e)
 
-    go : (b : Bool) → asAdmission values ≡ b → (inRanges (placesOf staticsKind) values && b) ≡ b
-    go true v = rw (ap (inRanges (placesOf staticsKind)) all ∙ admitted-in values v)
-    go false v = and-false (inRanges (placesOf staticsKind) values)
+    go : (b : Bool) → asAdmission values ≡ b → (inRanges (placesOf staticsMessageKind) values && b) ≡ b
+    go true v = rw (ap (inRanges (placesOf staticsMessageKind)) all ∙ admitted-in values v)
+    go false v = and-false (inRanges (placesOf staticsMessageKind) values)
 
 -- a number and a flag read back from their values
 number-back : (n : ℕ) → n < pastSigned → unsigned (valueOf n) ≡ n

@@ -19,7 +19,7 @@ use Rattle.paper.proofs.Logic.{pick-false}
 use Rattle.paper_messages.specs.Bytes.{spelled}
 use Rattle.paper_messages.specs.Fields.{placesOf}
 use Rattle.paper_messages.specs.Messages.{lengthWidth, kindWidth, lengthLeast, lengthMost, lengthAt, kindAt, lengthOf}
-use Rattle.paper_messages.specs.Messages.{isKnown, valid, valuesAt, messageAt, noMessage, readChecks, refusedHeard}
+use Rattle.paper_messages.specs.Messages.{isKnownKind, valid, valuesAt, messageAt, noMessage, readChecks, refusedHeard}
 use Rattle.paper_messages.specs.Messages.{acceptedHeard, heardAt}
 use Rattle.paper_messages.proofs.FieldLaws.{kinds-hold}
 use Rattle.message_bytes.specs.Asked.{Room}
@@ -78,8 +78,8 @@ module _ (b : List ℕ) (at : ℕ) where
 
       -- only the kind's own checks are left
       past-head : firstOf (readChecks (drop at b))
-          ≡ pick (isKnown kind && not (eqb said (lengthOf kind))) WrongLength
-          (pick (isKnown kind && not (valid (messageAt (drop at b)))) FieldOutOfRange Done)
+          ≡ pick (isKnownKind kind && not (eqb said (lengthOf kind))) WrongLength
+          (pick (isKnownKind kind && not (valid (messageAt (drop at b)))) FieldOutOfRange Done)
       unfolding readChecks firstOf
       past-head =
           let n : ℕ = length (drop at b) in
@@ -94,7 +94,7 @@ module _ (b : List ℕ) (at : ℕ) where
             ← kind-is,
           )
 
-      pub skipped : isKnown kind ≡ false
+      pub skipped : isKnownKind kind ≡ false
           → record {
             verdict = Done;
             known = false;
@@ -107,7 +107,7 @@ module _ (b : List ℕ) (at : ℕ) where
       unfolding acceptedHeard
       skipped k = sym (rw (← (whole .told), ← kind-is, k)) ∙ heard-is-accepted (past-head ∙ rw k)
 
-      module _ (k : isKnown kind ≡ true) where
+      module _ (k : isKnownKind kind ≡ true) where
         pub other-length-is-wrong : (said ≡ lengthOf kind → ⊥) → refusedHeard WrongLength ≡ heardAt b at
         unfolding isDone
         other-length-is-wrong n = heard-is-refused WrongLength refl (past-head ∙ rw (k, ne-eqb said (lengthOf kind) n))

@@ -8,7 +8,7 @@ use message_bytes::get_fields;
 use message_bytes::get_number;
 use message_bytes::put_fields;
 use message_bytes::put_number;
-use message_kinds::is_known;
+use message_kinds::is_known_kind;
 use message_kinds::is_valid;
 use message_kinds::length_of;
 use message_kinds::places_of;
@@ -80,7 +80,7 @@ fn read_whole(buf: &[u8], at: usize, length: u64) -> Heard
 {
     let kind = get_number(buf, at + Message::LENGTH_WIDTH, Message::KIND_WIDTH);
     let next = at + (Message::LENGTH_WIDTH + (length as usize));
-    if !is_known(kind) {
+    if !is_known_kind(kind) {
         return Heard {
             verdict: Verdict::Done,
             known: false,

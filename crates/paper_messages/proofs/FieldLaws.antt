@@ -17,7 +17,8 @@ use Rattle.paper.proofs.Logic.{not-true-and-false, and-left, and-right}
 use Rattle.paper_messages.specs.declared.Field.{Field}
 use Rattle.paper_messages.specs.Bytes.{Bytes, inWidth, widthMost, fitsWidth, bytesOf, spelled, complement}
 use Rattle.paper_messages.specs.Fields.{staticsFields, ratesFields, bandsFields, moveFields, fieldsOf, places}
-use Rattle.paper_messages.specs.Fields.{filled, noField, placesOf, staticsKind, ratesKind, bandsKind, moveKind}
+use Rattle.paper_messages.specs.Fields.{filled, noField, placesOf, staticsMessageKind, ratesMessageKind}
+use Rattle.paper_messages.specs.Fields.{bandsMessageKind, moveMessageKind}
 use Rattle.paper_messages.specs.Messages.{kindWidth, lengthLeast, lengthMost, bodyOf, total, lengthOf, inRanges}
 use Rattle.paper_messages.specs.Messages.{holdsRange, valuesAt}
 use Rattle.paper_messages.proofs.ByteLaws.{take-bytes, drop-bytes, bytes-length, bytes-back, bytes-only}
@@ -126,7 +127,7 @@ of-every-kind : (P : List Field → Type 0) → P (filled noField staticsFields)
     → P (placesOf kind)
 unfolding placesOf fieldsOf
 of-every-kind P statics rates bands move none kind =
-    go (eqb kind staticsKind) (eqb kind ratesKind) (eqb kind bandsKind) (eqb kind moveKind)
+    go (eqb kind staticsMessageKind) (eqb kind ratesMessageKind) (eqb kind bandsMessageKind) (eqb kind moveMessageKind)
   where
     go : (a b c d : Bool)
         → P (filled noField

@@ -19,8 +19,8 @@ use Rattle.paper_desk.proofs.Refusals.{done-is, done-means-none-applies}
 use Rattle.paper_messages.specs.declared.Message.{Message}
 use Rattle.paper_messages.specs.declared.Heard.{Heard}
 use Rattle.paper_messages.specs.Bytes.{Bytes, bytesOf, spelled}
-use Rattle.paper_messages.specs.Fields.{staticsKind, moveKind, places, placesOf}
-use Rattle.paper_messages.specs.Messages.{lengthWidth, kindWidth, bodyOf, total, lengthOf, encode, isKnown}
+use Rattle.paper_messages.specs.Fields.{staticsMessageKind, moveMessageKind, places, placesOf}
+use Rattle.paper_messages.specs.Messages.{lengthWidth, kindWidth, bodyOf, total, lengthOf, encode, isKnownKind}
 use Rattle.paper_messages.specs.Messages.{inRanges, valid, lengthLeast, lengthMost, lengthAt, kindAt, messageAt}
 use Rattle.paper_messages.specs.Messages.{valuesAt, readChecks, AcceptedBytes, acceptedHeard, refusedHeard}
 use Rattle.paper_messages.specs.Messages.{heardAt}
@@ -31,15 +31,17 @@ use Rattle.paper_messages.proofs.FieldLaws.{kinds-have-places, kinds-le
 -- ---- what a valid message is
 
 module _ (m : Message) (v : valid m ≡ true) where
-  pub valid-is-known : isKnown (m .kind) ≡ true
+  pub valid-is-known : isKnownKind (m .kind) ≡ true
   unfolding valid
   valid-is-known =
-      and-left (isKnown (m .kind)) _ (and-left (isKnown (m .kind) && inRanges (placesOf (m .kind)) (m .fields)) _ v)
+      and-left (isKnownKind (m .kind)) _
+      (and-left (isKnownKind (m .kind) && inRanges (placesOf (m .kind)) (m .fields)) _ v)
 
   pub valid-is-in-ranges : inRanges (placesOf (m .kind)) (m .fields) ≡ true
   unfolding valid
   valid-is-in-ranges =
-      and-right (isKnown (m .kind)) _ (and-left (isKnown (m .kind) && inRanges (placesOf (m .kind)) (m .fields)) _ v)
+      and-right (isKnownKind (m .kind)) _
+      (and-left (isKnownKind (m .kind) && inRanges (placesOf (m .kind)) (m .fields)) _ v)
 
   -- four bytes of length, and so many as it says
   pub encode-length : length (encode m) ≡ lengthWidth + lengthOf (m .kind)
@@ -104,10 +106,10 @@ module _ (m : Message) (v : valid m ≡ true) (full : length (m .fields) ≡ pla
       (bytes-back lengthWidth (lengthOf (m .kind)) (omega arith))
 
   kind-said : kindAt (encode m ++ rest) ≡ m .kind
-  unfolding head tag isKnown
+  unfolding head tag isKnownKind
   kind-said =
-      let most : m .kind ≤ moveKind = leb-true (m .kind) moveKind
-      (and-right (leb staticsKind (m .kind)) (leb (m .kind) moveKind) (valid-is-known m v)) in
+      let most : m .kind ≤ moveMessageKind = leb-true (m .kind) moveMessageKind
+      (and-right (leb staticsMessageKind (m .kind)) (leb (m .kind) moveMessageKind) (valid-is-known m v)) in
       rw (
         encode-in-parts,
         drop-at head (tag ++ (body ++ rest)) lengthWidth (bytes-length lengthWidth (lengthOf (m .kind))),
@@ -211,9 +213,9 @@ done-means-accepted bytes e = of (done-means-none-applies (readChecks bytes) ref
               λ k.
               eqb-true (lengthAt bytes) (lengthOf (kindAt bytes))
               (not-false (eqb (lengthAt bytes) (lengthOf (kindAt bytes)))
-              (and-right-false (isKnown (kindAt bytes)) _ d k));
+              (and-right-false (isKnownKind (kindAt bytes)) _ d k));
           in-range =
-              λ k. not-false (valid (messageAt bytes)) (and-right-false (isKnown (kindAt bytes)) _ f k);
+              λ k. not-false (valid (messageAt bytes)) (and-right-false (isKnownKind (kindAt bytes)) _ f k);
         }
 
 -- three parts one behind the other
@@ -222,7 +224,7 @@ three-parts a b c s =
     let e : a + (b + c) ≡ a + b + c = omega arith in
     rw e (sym (take-add (a + b) c s ∙ ap (λ (l : List ℕ). l ++ take c (drop (a + b) s)) (take-add a b s)))
 
-module _ (bytes : List ℕ) (all : Bytes bytes) (a : AcceptedBytes bytes) (k : isKnown (kindAt bytes) ≡ true) where
+module _ (bytes : List ℕ) (all : Bytes bytes) (a : AcceptedBytes bytes) (k : isKnownKind (kindAt bytes) ≡ true) where
   number-back : (width : ℕ) (part : List ℕ) → Bytes part → width ≤ length part
       → bytesOf width (spelled (take width part)) ≡ take width part
   number-back width part b h =
@@ -257,7 +259,7 @@ heard-only b at all e known =
     let bytes : List ℕ = drop at b in
     let first : firstOf (readChecks bytes) ≡ Done = sym (heard-verdict b at) ∙ e in
     let is : heardAt b at ≡ acceptedHeard at bytes = heard-accepted b at first in
-    let k : isKnown (kindAt bytes) ≡ true = sym (ap (λ (h : Heard). h .known) is) ∙ known in
+    let k : isKnownKind (kindAt bytes) ≡ true = sym (ap (λ (h : Heard). h .known) is) ∙ known in
     let a : AcceptedBytes bytes = done-means-accepted bytes first in
     let m-is : heardAt b at .message ≡ messageAt bytes = ap (λ (h : Heard). h .message) is ∙ said k in
     let only : encode (messageAt bytes) ≡ take (lengthWidth + lengthAt bytes) bytes =
@@ -266,5 +268,5 @@ heard-only b at all e known =
     ap length only ∙ length-take-le (lengthWidth + lengthAt bytes) bytes (a .follows) in
     rw (m-is, long) (a .in-range k, only, ap (λ (h : Heard). h .next) is)
   where
-    said : isKnown (kindAt (drop at b)) ≡ true → acceptedHeard at (drop at b) .message ≡ messageAt (drop at b)
+    said : isKnownKind (kindAt (drop at b)) ≡ true → acceptedHeard at (drop at b) .message ≡ messageAt (drop at b)
     said k = rw k

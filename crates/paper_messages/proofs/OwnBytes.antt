@@ -22,7 +22,7 @@ use Rattle.paper_messages.specs.declared.Heard.{Heard}
 use Rattle.paper_messages.specs.Bytes.{spelled}
 use Rattle.paper_messages.specs.Fields.{placesOf}
 use Rattle.paper_messages.specs.Messages.{lengthWidth, kindWidth, lengthLeast, lengthMost, total, lengthOf}
-use Rattle.paper_messages.specs.Messages.{isKnown, valid, valuesAt, lengthAt, kindAt, messageAt, noMessage}
+use Rattle.paper_messages.specs.Messages.{isKnownKind, valid, valuesAt, lengthAt, kindAt, messageAt, noMessage}
 use Rattle.paper_messages.specs.Messages.{readChecks, acceptedHeard, heardAt}
 use Rattle.paper_messages.specs.OwnBytes.{ownBytes, HeardAlike}
 use Rattle.paper_messages.proofs.MessageLaws.{heard-accepted, heard-verdict, done-means-accepted}
@@ -149,7 +149,7 @@ module _ (s t : List ℕ) (i : within lengthLeast lengthMost (lengthAt s) ≡ tr
         le-ltb (length t) (lengthWidth + lengthAt s) long,
         le-ltb (length s) (lengthWidth + lengthAt s) follows,
         kind-same,
-      ) (of (isKnown (kindAt s)) (eqb (lengthAt s) (lengthOf (kindAt s))) refl)
+      ) (of (isKnownKind (kindAt s)) (eqb (lengthAt s) (lengthOf (kindAt s))) refl)
     where
       of : (known right : Bool) → eqb (lengthAt s) (lengthOf (kindAt s)) ≡ right
           → pick (known && not right) WrongLength (pick (known && not (valid (messageAt t))) FieldOutOfRange Done)
@@ -161,9 +161,9 @@ module _ (s t : List ℕ) (i : within lengthLeast lengthMost (lengthAt s) ≡ tr
   -- and where it is 0, the same is heard
   said-same : firstOf (readChecks s) ≡ Done → (place : ℕ) → acceptedHeard place t ≡ acceptedHeard place s
   unfolding acceptedHeard
-  said-same done place = rw (length-same, kind-same) (of (isKnown (kindAt s)) refl)
+  said-same done place = rw (length-same, kind-same) (of (isKnownKind (kindAt s)) refl)
     where
-      of : (k : Bool) → isKnown (kindAt s) ≡ k
+      of : (k : Bool) → isKnownKind (kindAt s) ≡ k
           → _≡_ {A = Heard} (record {
             verdict = Done;
             known = k;

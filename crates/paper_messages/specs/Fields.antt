@@ -15,17 +15,17 @@ use Rattle.paper.specs.Numbers.{repoLeast, repoMost}
 use Rattle.paper_messages.specs.declared.Field.{Field}
 
 -- "Kinds: 1 statics, 2 rates and ranges, 3 bands, 4 move."
-abbrev pub staticsKind : ℕ
-staticsKind = 1
+abbrev pub staticsMessageKind : ℕ
+staticsMessageKind = 1
 
-abbrev pub ratesKind : ℕ
-ratesKind = 2
+abbrev pub ratesMessageKind : ℕ
+ratesMessageKind = 2
 
-abbrev pub bandsKind : ℕ
-bandsKind = 3
+abbrev pub bandsMessageKind : ℕ
+bandsMessageKind = 3
 
-abbrev pub moveKind : ℕ
-moveKind = 4
+abbrev pub moveMessageKind : ℕ
+moveMessageKind = 4
 
 -- ---- widths
 
@@ -150,9 +150,9 @@ moveFields =
 -- the fields of a kind; an unknown kind has none that we know
 unfoldable pub fieldsOf : (kind : ℕ) → List Field
 fieldsOf kind =
-    pick (eqb kind staticsKind) staticsFields
-    (pick (eqb kind ratesKind) ratesFields
-    (pick (eqb kind bandsKind) bandsFields (pick (eqb kind moveKind) moveFields [])))
+    pick (eqb kind staticsMessageKind) staticsFields
+    (pick (eqb kind ratesMessageKind) ratesFields
+    (pick (eqb kind bandsMessageKind) bandsFields (pick (eqb kind moveMessageKind) moveFields [])))
 
 -- ---- the places of a message
 

@@ -20,7 +20,7 @@ use Rattle.paper_messages.specs.declared.Message.{Message}
 use Rattle.paper_messages.specs.declared.Wrote.{Wrote}
 use Rattle.paper_messages.specs.declared.Heard.{Heard}
 use Rattle.paper_messages.specs.Bytes.{widthMost, fitsWidth, bytesOf, spelled, complement, signedOf}
-use Rattle.paper_messages.specs.Fields.{staticsKind, moveKind, places, placesOf}
+use Rattle.paper_messages.specs.Fields.{staticsMessageKind, moveMessageKind, places, placesOf}
 
 -- ---- the bytes of a message
 
@@ -54,8 +54,8 @@ encode m =
 
 -- ---- when a message is valid
 
-unfoldable pub isKnown : (kind : ℕ) → Bool
-isKnown kind = within staticsKind moveKind kind
+unfoldable pub isKnownKind : (kind : ℕ) → Bool
+isKnownKind kind = within staticsMessageKind moveMessageKind kind
 
 -- each value in its field's range
 unfoldable pub inRanges : List Field → (values : List ℤ) → Bool
@@ -111,9 +111,9 @@ asAdmission values = within 1 idMost (numberAt values 0) && validGiven (givenIn 
 -- a known kind, every value in its range, zeros past the last field, and the rule of kind 1
 unfoldable pub valid : Message → Bool
 valid m =
-    isKnown (m .kind)
+    isKnownKind (m .kind)
     && inRanges (placesOf (m .kind)) (m .fields)
-    && pick (eqb (m .kind) staticsKind) (asAdmission (m .fields)) true
+    && pick (eqb (m .kind) staticsMessageKind) (asAdmission (m .fields)) true
 
 -- ---- the writer
 
@@ -172,17 +172,17 @@ readChecks bytes =
     ∷ record { verdict = CutShort; applies = ltb (length bytes) (lengthWidth + lengthAt bytes) }
     ∷ record {
       verdict = WrongLength;
-      applies = isKnown (kindAt bytes) && not (eqb (lengthAt bytes) (lengthOf (kindAt bytes)));
+      applies = isKnownKind (kindAt bytes) && not (eqb (lengthAt bytes) (lengthOf (kindAt bytes)));
     }
-    ∷ record { verdict = FieldOutOfRange; applies = isKnown (kindAt bytes) && not (valid (messageAt bytes)) }
+    ∷ record { verdict = FieldOutOfRange; applies = isKnownKind (kindAt bytes) && not (valid (messageAt bytes)) }
     ∷ []
 
 -- what no check applies to: a whole message, and of a known kind one of its length, with valid fields
 pub record AcceptedBytes (bytes : List ℕ) : Type 0 where
   pub follows : lengthWidth + lengthAt bytes ≤ length bytes
   pub in-length : within lengthLeast lengthMost (lengthAt bytes) ≡ true
-  pub right : isKnown (kindAt bytes) ≡ true → lengthAt bytes ≡ lengthOf (kindAt bytes)
-  pub in-range : isKnown (kindAt bytes) ≡ true → valid (messageAt bytes) ≡ true
+  pub right : isKnownKind (kindAt bytes) ≡ true → lengthAt bytes ≡ lengthOf (kindAt bytes)
+  pub in-range : isKnownKind (kindAt bytes) ≡ true → valid (messageAt bytes) ≡ true
 
 abbrev pub noMessage : Message
 noMessage = record { kind = 0; fields = replicate places (pos 0) }
@@ -196,11 +196,11 @@ unfoldable pub acceptedHeard : (place : ℕ) → (bytes : List ℕ) → Heard
 acceptedHeard place bytes =
     record {
       verdict = Done;
-      known = isKnown (kindAt bytes);
+      known = isKnownKind (kindAt bytes);
       kind = kindAt bytes;
       length = lengthAt bytes;
       next = place + (lengthWidth + lengthAt bytes);
-      message = pick (isKnown (kindAt bytes)) (messageAt bytes) noMessage;
+      message = pick (isKnownKind (kindAt bytes)) (messageAt bytes) noMessage;
     }
 
 -- what the reader hears at a place of a lent buffer

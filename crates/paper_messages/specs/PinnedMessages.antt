@@ -11,9 +11,10 @@ use Rattle.paper.specs.Verdicts.{numberOf, isDone, firstOf}
 use Rattle.paper_messages.specs.declared.Message.{Message}
 use Rattle.paper_messages.specs.declared.Heard.{Heard}
 use Rattle.paper_messages.specs.Bytes.{bytesOf, spelled, complement, signedOf}
-use Rattle.paper_messages.specs.Fields.{staticsKind, ratesKind, bandsKind, moveKind, staticsFields, ratesFields}
+use Rattle.paper_messages.specs.Fields.{staticsMessageKind, ratesMessageKind, bandsMessageKind, moveMessageKind}
+use Rattle.paper_messages.specs.Fields.{staticsFields, ratesFields}
 use Rattle.paper_messages.specs.Fields.{bandsFields, moveFields, yesNo, fieldsOf, filled, placesOf}
-use Rattle.paper_messages.specs.Messages.{bodyOf, total, lengthOf, encode, isKnown, inRanges, givenIn}
+use Rattle.paper_messages.specs.Messages.{bodyOf, total, lengthOf, encode, isKnownKind, inRanges, givenIn}
 use Rattle.paper_messages.specs.Messages.{asAdmission, valid, writeChecks, wroteOf, written, valuesAt, messageAt}
 use Rattle.paper_messages.specs.Messages.{readChecks, refusedHeard, acceptedHeard, heardAt}
 use Rattle.paper_messages.specs.Records.{flagOf, message}
@@ -22,7 +23,7 @@ use Rattle.paper_messages.specs.Records.{flagOf, message}
 
 unfoldable pub staticsTold : Message
 staticsTold =
-    message staticsKind
+    message staticsMessageKind
     (pos 7 ∷ pos 10 ∷ pos 100 ∷ pos 300 ∷ pos 500 ∷ pos 100 ∷ pos 5 ∷ pos 1 ∷ pos 2
     ∷ pos 2 ∷ pos 50 ∷ pos 800 ∷ pos 1200 ∷ pos 1500 ∷ pos 10000 ∷ pos 200 ∷ pos 20 ∷ pos 1000
     ∷ pos 900 ∷ pos 500 ∷ pos 300 ∷ pos 1 ∷ pos 1 ∷ pos 60 ∷ pos 0 ∷ pos 3 ∷ pos 1
@@ -43,7 +44,7 @@ statics-encoded = refl
 
 unfoldable pub ratesTold : Message
 ratesTold =
-    message ratesKind
+    message ratesMessageKind
     (pos 7 ∷ pos 4 ∷ pos 1030000 ∷ pos 21214 ∷ pos 700 ∷ pos 0 ∷ pos 800 ∷ pos 1200 ∷ pos 1500
     ∷ pos 1112400 ∷ pos 1153600 ∷ pos 1184500 ∷ pos 947600 ∷ pos 906400 ∷ pos 875500 ∷ [])
 
@@ -62,7 +63,7 @@ rates-encoded = refl
 
 unfoldable pub bandsTold : Message
 bandsTold =
-    message bandsKind
+    message bandsMessageKind
     (pos 1000000000 ∷ pos 1000000 ∷ pos 0 ∷ negsuc 0 ∷ pos 1 ∷ pos 947600 ∷ pos 1112400 ∷ pos 1 ∷ negsuc 9998
     ∷ pos 9999 ∷ pos 0 ∷ pos 2020000000000 ∷ pos 30 ∷ pos 0 ∷ pos 0 ∷ pos 65536 ∷ pos 16777216 ∷ [])
 
@@ -81,7 +82,7 @@ bands-encoded = refl
 
 unfoldable pub moveTold : Message
 moveTold =
-    message moveKind
+    message moveMessageKind
     (pos 7 ∷ pos 1 ∷ pos 3 ∷ pos 100 ∷ pos 256 ∷ pos 65536 ∷ pos 0 ∷ pos 1 ∷ pos 2020000000000
     ∷ [])
 
@@ -136,7 +137,7 @@ pub lengths-are : lengths
     ∷ (22 ∷ 0 ∷ 0 ∷ 0 ∷ 0 ∷ [])
     ∷ (22 ∷ 0 ∷ 0 ∷ 0 ∷ 0 ∷ [])
     ∷ []
-unfolding lengths heard zeros heardAt acceptedHeard refusedHeard readChecks firstOf isDone isKnown valid inRanges
+unfolding lengths heard zeros heardAt acceptedHeard refusedHeard readChecks firstOf isDone isKnownKind valid inRanges
     asAdmission givenIn validGiven validStatics staticsOf unsigned messageAt valuesAt spelled signedOf lengthOf total
     placesOf fieldsOf filled staticsFields ratesFields bandsFields moveFields
 lengths-are = refl
@@ -174,7 +175,7 @@ pub kinds-are : kinds
     ∷ (21 ∷ 0 ∷ 0 ∷ 0 ∷ 0 ∷ [])
     ∷ (22 ∷ 0 ∷ 0 ∷ 0 ∷ 0 ∷ [])
     ∷ []
-unfolding kinds heard moveBytes zeros heardAt acceptedHeard refusedHeard readChecks firstOf isDone isKnown valid
+unfolding kinds heard moveBytes zeros heardAt acceptedHeard refusedHeard readChecks firstOf isDone isKnownKind valid
     inRanges asAdmission givenIn validGiven validStatics staticsOf unsigned messageAt valuesAt spelled signedOf
     lengthOf total placesOf fieldsOf filled staticsFields ratesFields bandsFields moveFields
 kinds-are = refl
@@ -226,7 +227,7 @@ pub fields-are : fields
     ≡ 23 ∷ 0 ∷ 23 ∷ 0 ∷ 23 ∷ 0 ∷ 23 ∷ 23 ∷ 23 ∷ 23 ∷ 0 ∷ 23 ∷ 0 ∷ 23 ∷ 0 ∷ 23 ∷ 0 ∷ 23 ∷ 0 ∷ 23
     ∷ 23 ∷ 23 ∷ 23 ∷ 23 ∷ 0 ∷ 0 ∷ 23 ∷ 23 ∷ 23 ∷ 23 ∷ 23 ∷ 0 ∷ 23 ∷ 23 ∷ 23 ∷ []
 unfolding fields judged staticsBytes ratesBytes bandsBytes moveBytes zeros heardAt acceptedHeard refusedHeard
-    readChecks firstOf isDone isKnown valid inRanges asAdmission givenIn validGiven validStatics staticsOf unsigned
+    readChecks firstOf isDone isKnownKind valid inRanges asAdmission givenIn validGiven validStatics staticsOf unsigned
     messageAt valuesAt spelled signedOf lengthOf total placesOf fieldsOf filled staticsFields ratesFields bandsFields
     moveFields
 fields-are = refl
@@ -245,9 +246,9 @@ pub heard-back : (heardAt staticsBytes 0 .message ≡ staticsTold) × (heardAt r
     × (heardAt bandsBytes 0 .message ≡ bandsTold)
     × (heardAt moveBytes 0 .message ≡ moveTold)
 unfolding staticsBytes ratesBytes bandsBytes moveBytes staticsTold ratesTold bandsTold moveTold message zeros heardAt
-    acceptedHeard refusedHeard readChecks firstOf isDone isKnown valid inRanges asAdmission givenIn validGiven
-    validStatics staticsOf unsigned messageAt valuesAt spelled signedOf lengthOf total placesOf fieldsOf filled
-    staticsFields ratesFields bandsFields moveFields
+    acceptedHeard refusedHeard readChecks firstOf isDone isKnownKind valid inRanges asAdmission givenIn
+    validGiven validStatics staticsOf unsigned messageAt valuesAt spelled signedOf lengthOf total placesOf fieldsOf
+    filled staticsFields ratesFields bandsFields moveFields
 heard-back = (refl, refl, refl, refl)
 
 -- ---- the writer
@@ -258,7 +259,7 @@ answered buffer m = numberOf (wroteOf buffer m .verdict) ∷ wroteOf buffer m .l
 
 -- a field of nobody's: a number past the last field
 unfoldable pub pastLast : Message
-pastLast = record { kind = moveKind; fields = set (moveTold .fields) 9 (pos 1) }
+pastLast = record { kind = moveMessageKind; fields = set (moveTold .fields) 9 (pos 1) }
 
 unfoldable pub writes : List (List ℕ)
 writes =
@@ -266,14 +267,14 @@ writes =
     ∷ answered (replicate 65 9) moveTold  -- one byte too few
     ∷ answered [] (record { kind = 5; fields = moveTold .fields })  -- 23 comes before 24
     ∷ answered (replicate 66 9) pastLast
-    ∷ answered (replicate 66 9) (record { kind = moveKind; fields = set (moveTold .fields) 1 (pos 2) })
+    ∷ answered (replicate 66 9) (record { kind = moveMessageKind; fields = set (moveTold .fields) 1 (pos 2) })
     ∷ []
 
 pub writes-are : writes ≡ (0 ∷ 66 ∷ []) ∷ (24 ∷ 0 ∷ []) ∷ (23 ∷ 0 ∷ []) ∷ (23 ∷ 0 ∷ []) ∷ (23 ∷ 0 ∷ []) ∷ []
 unfolding writes answered pastLast moveTold message wroteOf writeChecks encode bodyOf bytesOf complement zeros heardAt
-    acceptedHeard refusedHeard readChecks firstOf isDone isKnown valid inRanges asAdmission givenIn validGiven
-    validStatics staticsOf unsigned messageAt valuesAt spelled signedOf lengthOf total placesOf fieldsOf filled
-    staticsFields ratesFields bandsFields moveFields
+    acceptedHeard refusedHeard readChecks firstOf isDone isKnownKind valid inRanges asAdmission givenIn
+    validGiven validStatics staticsOf unsigned messageAt valuesAt spelled signedOf lengthOf total placesOf fieldsOf
+    filled staticsFields ratesFields bandsFields moveFields
 writes-are = refl
 
 -- the message comes first and the rest stays; a refusal leaves every byte
@@ -281,7 +282,7 @@ pub written-are : (written (replicate 68 9) moveTold ≡ moveBytes ++ 9 ∷ 9 �
     × (written (replicate 65 9) moveTold ≡ replicate 65 9)
     × (written (replicate 68 9) pastLast ≡ replicate 68 9)
 unfolding written pastLast moveTold moveBytes message wroteOf writeChecks encode bodyOf bytesOf complement zeros
-    heardAt acceptedHeard refusedHeard readChecks firstOf isDone isKnown valid inRanges asAdmission givenIn validGiven
-    validStatics staticsOf unsigned messageAt valuesAt spelled signedOf lengthOf total placesOf fieldsOf filled
-    staticsFields ratesFields bandsFields moveFields
+    heardAt acceptedHeard refusedHeard readChecks firstOf isDone isKnownKind valid inRanges asAdmission givenIn
+    validGiven validStatics staticsOf unsigned messageAt valuesAt spelled signedOf lengthOf total placesOf fieldsOf
+    filled staticsFields ratesFields bandsFields moveFields
 written-are = (refl, refl, refl)

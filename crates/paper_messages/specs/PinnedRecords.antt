@@ -8,7 +8,8 @@ use Rattle.paper.specs.declared.Record.{Record}
 use Rattle.paper.specs.declared.Side.the-variants.{Upper, Lower}
 use Rattle.paper.specs.PinnedValues.{givenFrom, recordFrom}
 use Rattle.paper.specs.Ranges.{lastDay, staticsOf}
-use Rattle.paper_messages.specs.Fields.{staticsKind, ratesKind, bandsKind, moveKind, filled}
+use Rattle.paper_messages.specs.Fields.{staticsMessageKind, ratesMessageKind, bandsMessageKind, moveMessageKind}
+use Rattle.paper_messages.specs.Fields.{filled}
 use Rattle.paper_messages.specs.Records.{valueOf, message, staticsMessage, ratesMessage, bandsMessage}
 use Rattle.paper_messages.specs.Records.{moveMessage}
 
@@ -38,7 +39,7 @@ unfolding sampleNumbers recordFrom
 sample = recordFrom sampleNumbers
 
 pub statics-message-is : staticsMessage 26 sampleStatics
-    ≡ message staticsKind
+    ≡ message staticsMessageKind
     (pos 26 ∷ pos 1 ∷ pos 2 ∷ pos 3 ∷ pos 4 ∷ pos 5 ∷ pos 6 ∷ pos 7 ∷ pos 8 ∷ pos 9 ∷ pos 10 ∷ pos 11 ∷ pos 12 ∷ pos 13
     ∷ pos 14 ∷ pos 15 ∷ pos 16 ∷ pos 17 ∷ pos 18 ∷ pos 19 ∷ pos 20 ∷ pos 1 ∷ pos 0 ∷ pos 23 ∷ pos 1 ∷ pos 25 ∷ pos 0
     ∷ [])
@@ -46,23 +47,23 @@ unfolding staticsMessage sampleStatics message filled valueOf
 statics-message-is = refl
 
 pub rates-message-is : ratesMessage sample
-    ≡ message ratesKind
+    ≡ message ratesMessageKind
     (pos 7 ∷ pos 31 ∷ pos 32 ∷ pos 34 ∷ pos 35 ∷ pos 36 ∷ pos 41 ∷ pos 42 ∷ pos 43 ∷ pos 61 ∷ pos 62 ∷ pos 63 ∷ pos 51
     ∷ pos 52 ∷ pos 53 ∷ [])
 unfolding ratesMessage sample message filled valueOf lastDay
 rates-message-is = refl
 
 pub bands-message-is : bandsMessage sample
-    ≡ message bandsKind
+    ≡ message bandsMessageKind
     (pos 7 ∷ pos 31 ∷ pos 71 ∷ negsuc 0 ∷ pos 72 ∷ pos 81 ∷ pos 91 ∷ pos 73 ∷ negsuc 1 ∷ pos 74 ∷ pos 82 ∷ pos 92
     ∷ pos 75 ∷ negsuc 2 ∷ pos 76 ∷ pos 83 ∷ pos 93 ∷ [])
 unfolding bandsMessage sample message filled valueOf lastDay
 bands-message-is = refl
 
 pub move-messages-are : (moveMessage sample Upper
-    ≡ message moveKind (pos 7 ∷ pos 0 ∷ pos 3 ∷ pos 61 ∷ pos 62 ∷ pos 63 ∷ pos 91 ∷ pos 92 ∷ pos 93 ∷ []))
+    ≡ message moveMessageKind (pos 7 ∷ pos 0 ∷ pos 3 ∷ pos 61 ∷ pos 62 ∷ pos 63 ∷ pos 91 ∷ pos 92 ∷ pos 93 ∷ []))
     × (moveMessage sample Lower
-    ≡ message moveKind (pos 7 ∷ pos 1 ∷ pos 4 ∷ pos 51 ∷ pos 52 ∷ pos 53 ∷ pos 81 ∷ pos 82 ∷ pos 83 ∷ []))
+    ≡ message moveMessageKind (pos 7 ∷ pos 1 ∷ pos 4 ∷ pos 51 ∷ pos 52 ∷ pos 53 ∷ pos 81 ∷ pos 82 ∷ pos 83 ∷ []))
 unfolding moveMessage sample message filled valueOf
 move-messages-are = (refl, refl)
 

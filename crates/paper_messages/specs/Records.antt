@@ -14,7 +14,8 @@ use Rattle.paper.specs.Ranges.{sideNumber, lastDay, rateAt, termAt, rangeAt, ba
 use Rattle.paper_desk.specs.Limits.{countOf}
 use Rattle.paper_desk.specs.Sides.{limitOn}
 use Rattle.paper_messages.specs.declared.Message.{Message}
-use Rattle.paper_messages.specs.Fields.{staticsKind, ratesKind, bandsKind, moveKind, filled}
+use Rattle.paper_messages.specs.Fields.{staticsMessageKind, ratesMessageKind, bandsMessageKind, moveMessageKind}
+use Rattle.paper_messages.specs.Fields.{filled}
 
 -- the first number past the signed 64-bit ones
 abbrev pub pastSigned : ℕ
@@ -65,7 +66,7 @@ staticsNumbers id st =
     ∷ []
 
 unfoldable pub staticsMessage : (id : ℕ) → Statics → Message
-staticsMessage id st = message staticsKind (map valueOf (staticsNumbers id st))
+staticsMessage id st = message staticsMessageKind (map valueOf (staticsNumbers id st))
 
 -- what a message shows of a record on a side: the limit of the range of level i + 1, and that of the band of term k
 abbrev pub rangeShown : Record → Side → (i : ℕ) → ℕ
@@ -94,7 +95,7 @@ ratesNumbers r =
     ∷ []
 
 unfoldable pub ratesMessage : Record → Message
-ratesMessage r = message ratesKind (map valueOf (ratesNumbers r))
+ratesMessage r = message ratesMessageKind (map valueOf (ratesNumbers r))
 
 abbrev pub termValues : Record → (term : ℕ) → List ℤ
 termValues r term =
@@ -107,7 +108,7 @@ termValues r term =
 
 unfoldable pub bandsMessage : Record → Message
 bandsMessage r =
-    message bandsKind
+    message bandsMessageKind
     (valueOf (r .id)
     ∷ valueOf (lastDay (r .standing))
     ∷ (termValues r 0 ++ termValues r 1 ++ termValues r 2))
@@ -127,4 +128,4 @@ moveNumbers r side =
     ∷ []
 
 unfoldable pub moveMessage : Record → Side → Message
-moveMessage r side = message moveKind (map valueOf (moveNumbers r side))
+moveMessage r side = message moveMessageKind (map valueOf (moveNumbers r side))

@@ -17,7 +17,8 @@ use Rattle.paper.specs.Verdicts.{isDone, firstOf}
 use Rattle.paper.proofs.Logic.{not-true, not-false}
 use Rattle.paper_messages.specs.declared.Message.{Message}
 use Rattle.paper_messages.specs.declared.Wrote.{Wrote as Answered}
-use Rattle.paper_messages.specs.Fields.{staticsKind, ratesKind, bandsKind, moveKind, staticsFields, ratesFields}
+use Rattle.paper_messages.specs.Fields.{staticsMessageKind, ratesMessageKind, bandsMessageKind, moveMessageKind}
+use Rattle.paper_messages.specs.Fields.{staticsFields, ratesFields}
 use Rattle.paper_messages.specs.Fields.{bandsFields, moveFields, noField, fieldsOf, filled, placesOf}
 use Rattle.paper_messages.specs.Messages.{lengthWidth, kindWidth, total, lengthOf, encode, valid, writeChecks, wroteOf}
 use Rattle.paper_messages.specs.Messages.{written}
@@ -32,7 +33,9 @@ use Rattle.text_broadcast.specs.Kinds.{messagesOfKind, broadcastOfKind}
 -- no kind's message is longer
 kind-within-message-most : (kind : ℕ) → lengthWidth + lengthOf kind ≤ messageMost
 unfolding lengthOf total placesOf filled fieldsOf staticsFields ratesFields bandsFields moveFields
-kind-within-message-most kind = go (eqb kind staticsKind) (eqb kind ratesKind) (eqb kind bandsKind) (eqb kind moveKind)
+kind-within-message-most kind =
+    go (eqb kind staticsMessageKind) (eqb kind ratesMessageKind) (eqb kind bandsMessageKind)
+    (eqb kind moveMessageKind)
   where
     go : (a b c d : Bool)
         → lengthWidth + (kindWidth + total (filled noField (pick a staticsFields (pick b ratesFields (pick c bandsFields

@@ -18,9 +18,10 @@ use Rattle.paper_desk.specs.Desk.{Call, admit, evaluate, quote, move, read, ope
 use Rattle.paper_desk.specs.External.{notice}
 use Rattle.paper_messages.specs.declared.Message.{Message}
 use Rattle.paper_messages.specs.Bytes.{bytesOf, complement}
-use Rattle.paper_messages.specs.Fields.{staticsFields, ratesFields, bandsFields, moveFields, fieldsOf, filled, moveKind}
+use Rattle.paper_messages.specs.Fields.{staticsFields, ratesFields, bandsFields, moveFields, fieldsOf, filled}
+use Rattle.paper_messages.specs.Fields.{moveMessageKind}
 use Rattle.paper_messages.specs.Fields.{placesOf}
-use Rattle.paper_messages.specs.Messages.{bodyOf, total, lengthOf, encode, isKnown, inRanges, givenIn, asAdmission}
+use Rattle.paper_messages.specs.Messages.{bodyOf, total, lengthOf, encode, isKnownKind, inRanges, givenIn, asAdmission}
 use Rattle.paper_messages.specs.Messages.{valid}
 use Rattle.paper_messages.specs.PinnedMessages.{staticsBytes, ratesBytes, bandsBytes}
 use Rattle.paper_messages.specs.PinnedRecords.{sampleNumbers, sample}
@@ -71,9 +72,9 @@ kinds-sent = refl
 
 -- a move is told of its own side, with that side's count and limits
 pub moves-told : (messagesOf (move 7 0) (showing sample)
-    ≡ message moveKind (pos 7 ∷ pos 0 ∷ pos 3 ∷ pos 61 ∷ pos 62 ∷ pos 63 ∷ pos 91 ∷ pos 92 ∷ pos 93 ∷ []) ∷ [])
+    ≡ message moveMessageKind (pos 7 ∷ pos 0 ∷ pos 3 ∷ pos 61 ∷ pos 62 ∷ pos 63 ∷ pos 91 ∷ pos 92 ∷ pos 93 ∷ []) ∷ [])
     × (messagesOf (move 7 1) (showing sample)
-    ≡ message moveKind (pos 7 ∷ pos 1 ∷ pos 4 ∷ pos 51 ∷ pos 52 ∷ pos 53 ∷ pos 81 ∷ pos 82 ∷ pos 83 ∷ []) ∷ [])
+    ≡ message moveMessageKind (pos 7 ∷ pos 1 ∷ pos 4 ∷ pos 51 ∷ pos 52 ∷ pos 53 ∷ pos 81 ∷ pos 82 ∷ pos 83 ∷ []) ∷ [])
 unfolding messagesOf showing sample moveMessage message filled valueOf sideOf
 moves-told = (refl, refl)
 
@@ -105,11 +106,12 @@ pub bytes-sent : (broadcastOf (admit admission) (saying Done) ≡ staticsBytes)
     × (broadcastOf evaluation (showing sample) ≡ encode (ratesMessage sample))
     × (broadcastOf evaluation (saying OutOfRange) ≡ [])
     × (broadcastOf (move 7 0) (showing sample)
-    ≡ encode (message moveKind (pos 7 ∷ pos 0 ∷ pos 3 ∷ pos 61 ∷ pos 62 ∷ pos 63 ∷ pos 91 ∷ pos 92 ∷ pos 93 ∷ [])))
+    ≡ encode (message moveMessageKind
+    (pos 7 ∷ pos 0 ∷ pos 3 ∷ pos 61 ∷ pos 62 ∷ pos 63 ∷ pos 91 ∷ pos 92 ∷ pos 93 ∷ [])))
     × (broadcastOf (move 7 0) (saying MovesUsedUp) ≡ [])
     × (broadcastOf (read 7) (showing told) ≡ [])
 unfolding admission evaluation told sample saying showing broadcastOf allSent sent messagesOf
     staticsMessage ratesMessage bandsMessage moveMessage message valueOf staticsOf sideOf lastDay isDone encode bodyOf
-    bytesOf complement lengthOf total placesOf fieldsOf filled staticsFields ratesFields bandsFields moveFields isKnown
-    valid inRanges asAdmission givenIn validGiven validStatics unsigned staticsBytes ratesBytes bandsBytes
+    bytesOf complement lengthOf total placesOf fieldsOf filled staticsFields ratesFields bandsFields moveFields
+    isKnownKind valid inRanges asAdmission givenIn validGiven validStatics unsigned staticsBytes ratesBytes bandsBytes
 bytes-sent = (refl, refl, refl, refl, refl, refl, refl, refl)

@@ -8,7 +8,7 @@ use Rattle.paper.specs.Lists.{pick}
 use Rattle.paper.specs.Verdicts.{numberOf, isDone}
 use Rattle.paper_messages.specs.declared.Message.{Message}
 use Rattle.paper_messages.specs.declared.Heard.{Heard}
-use Rattle.paper_messages.specs.Fields.{staticsKind, ratesKind, bandsKind, fieldsOf}
+use Rattle.paper_messages.specs.Fields.{staticsMessageKind, ratesMessageKind, bandsMessageKind, fieldsOf}
 use Rattle.text_protocol.specs.Bytes.{lineFeed}
 use Rattle.text_protocol.specs.Answers.{spaced}
 use Rattle.text_put.specs.Sizes.{wordBytes, rowsBytes}
@@ -16,9 +16,9 @@ use Rattle.text_put.specs.Sizes.{wordBytes, rowsBytes}
 -- "statics", "rates", "bands", "move"
 unfoldable pub kindWord : (kind : ℕ) → List ℕ
 kindWord kind =
-    pick (eqb kind staticsKind) (115 ∷ 116 ∷ 97 ∷ 116 ∷ 105 ∷ 99 ∷ 115 ∷ [])
-    (pick (eqb kind ratesKind) (114 ∷ 97 ∷ 116 ∷ 101 ∷ 115 ∷ [])
-    (pick (eqb kind bandsKind) (98 ∷ 97 ∷ 110 ∷ 100 ∷ 115 ∷ []) (109 ∷ 111 ∷ 118 ∷ 101 ∷ [])))
+    pick (eqb kind staticsMessageKind) (115 ∷ 116 ∷ 97 ∷ 116 ∷ 105 ∷ 99 ∷ 115 ∷ [])
+    (pick (eqb kind ratesMessageKind) (114 ∷ 97 ∷ 116 ∷ 101 ∷ 115 ∷ [])
+    (pick (eqb kind bandsMessageKind) (98 ∷ 97 ∷ 110 ∷ 100 ∷ 115 ∷ []) (109 ∷ 111 ∷ 118 ∷ 101 ∷ [])))
 
 -- "unknown", "refused"
 abbrev pub unknownWord : List ℕ

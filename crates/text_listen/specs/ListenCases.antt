@@ -13,7 +13,7 @@ use Rattle.paper.specs.Verdicts.{isDone, firstOf}
 use Rattle.paper_messages.specs.declared.Heard.{Heard}
 use Rattle.paper_messages.specs.Bytes.{spelled, signedOf}
 use Rattle.paper_messages.specs.Fields.{staticsFields, ratesFields, bandsFields, moveFields, fieldsOf, filled, placesOf}
-use Rattle.paper_messages.specs.Messages.{total, lengthOf, isKnown, inRanges, valid, valuesAt, messageAt, noMessage}
+use Rattle.paper_messages.specs.Messages.{total, lengthOf, isKnownKind, inRanges, valid, valuesAt, messageAt, noMessage}
 use Rattle.paper_messages.specs.Messages.{readChecks, refusedHeard, acceptedHeard, heardAt}
 use Rattle.text_protocol.specs.Bytes.{lineFeed}
 use Rattle.text_protocol.specs.Numbers.{spelt, decimal, signed}
@@ -92,6 +92,6 @@ pub inputs-listened : (listenText [] ≡ [])
     ≡ ended ("move 7 1 3 13 12 11 23 22 21" ∷ "refused 23 66" ∷ []))
     × (listenText (1 ∷ 0 ∷ 0 ∷ 0 ∷ unknownBytes) ≡ ended ("refused 22 0" ∷ []))
 unfolding moveBytes ended bytes listenText listenFrom lineOf wordLine kindWord fieldsIn spaced next signed decimal spelt
-    heardAt acceptedHeard refusedHeard readChecks firstOf isDone isKnown valid inRanges messageAt valuesAt spelled
+    heardAt acceptedHeard refusedHeard readChecks firstOf isDone isKnownKind valid inRanges messageAt valuesAt spelled
     signedOf lengthOf total placesOf fieldsOf filled staticsFields ratesFields bandsFields moveFields
 inputs-listened = (refl, refl, refl, refl, refl, refl)

@@ -2,18 +2,18 @@
 use mathlib.Core.Path.{_≡_, sym, _∙_}
 use mathlib.Core.Bool.{true}
 use borrow.Author.Tests.{not-true, not-false, eq-eqb, ne-eqb}
-use Rattle.paper_messages.specs.Messages.{isKnown, inRanges, valid}
+use Rattle.paper_messages.specs.Messages.{isKnownKind, inRanges, valid}
 use Rattle.paper_messages.specs.Fields.{placesOf}
 use borrow.Author.Needs.{needs}
 use Rattle.message_kinds.proofs.is_valid.Statement.{statement}
 use Rattle.message_kinds.proofs.is_valid.Tie as tie
 
-is-known-requires : tie.Need-is-known-requires
-is-known-requires c κs = search needs
+is-known-kind-requires : tie.Need-is-known-kind-requires
+is-known-kind-requires c κs = search needs
 
 returns : tie.Need-returns
 unfolding valid
-returns c = rw (sym (c .before .is-known .ensures) ∙ not-true _ (c .if1 .taken))
+returns c = rw (sym (c .before .is-known-kind .ensures) ∙ not-true _ (c .if1 .taken))
 
 places-of-requires : tie.Need-places-of-requires
 places-of-requires c κs = search needs
@@ -22,8 +22,8 @@ in-ranges-requires : tie.Need-in-ranges-requires
 in-ranges-requires c κs = search needs
 
 -- the kind is known
-known : (c : tie.Else1) → let s = c .before .before .before in isKnown (s .args .m .kind) ≡ true
-known c = sym (c .before .is-known .ensures) ∙ not-false _ (c .if1 .left)
+known : (c : tie.Else1) → let s = c .before .before .before in isKnownKind (s .args .m .kind) ≡ true
+known c = sym (c .before .is-known-kind .ensures) ∙ not-false _ (c .if1 .left)
 
 -- what is said of the ranges
 ranges : (c : tie.After-in-ranges)
@@ -58,7 +58,7 @@ pub is-valid-spec : {M : Type 1} → statement M
 is-valid-spec =
     tie.close
     (tie.spec
-    is-known-requires
+    is-known-kind-requires
     returns
     places-of-requires
     in-ranges-requires

@@ -5,7 +5,7 @@ use Prim.Native.Nat.{_+_}
 use denote.Ref.{now}
 use lib.ListN.{drop}
 use Rattle.paper_messages.specs.Fields.{placesOf}
-use Rattle.paper_messages.specs.Messages.{lengthWidth, kindWidth, lengthOf, isKnown, valuesAt}
+use Rattle.paper_messages.specs.Messages.{lengthWidth, kindWidth, lengthOf, isKnownKind, valuesAt}
 use borrow.Author.Tests.{not-true, not-false}
 use Rattle.messages.proofs.Reading.{skipped, other-length-is-wrong, out-of-range, heard, room-for}
 use borrow.Author.Needs.{needs}
@@ -24,8 +24,8 @@ add-next c = search needs
 add-next-2 : tie.Need-add-next-2
 add-next-2 c = search needs
 
-is-known-requires : tie.Need-is-known-requires
-is-known-requires c κs = search needs
+is-known-kind-requires : tie.Need-is-known-kind-requires
+is-known-kind-requires c κs = search needs
 
 no-message-requires : tie.Need-no-message-requires
 no-message-requires c κs = search needs
@@ -33,12 +33,12 @@ no-message-requires c κs = search needs
 returns : tie.Need-returns
 returns c =
     let s = c .before .before .before .before .before in
-    let k = sym (c .before .before .is-known .ensures) ∙ not-true _ (c .before .if1 .taken) in
+    let k = sym (c .before .before .is-known-kind .ensures) ∙ not-true _ (c .before .if1 .taken) in
     rw (c .no-message .ensures) (skipped _ _ _ _ (s .pre) (c .before .before .before .get-number .ensures .0) k)
 
 -- the kind is known
-known : (c : tie.Else1) → isKnown (c .before .before .get-number .result) ≡ true
-known c = sym (c .before .is-known .ensures) ∙ not-false _ (c .if1 .left)
+known : (c : tie.Else1) → isKnownKind (c .before .before .get-number .result) ≡ true
+known c = sym (c .before .is-known-kind .ensures) ∙ not-false _ (c .if1 .left)
 
 -- the length is the kind's
 right : (c : tie.Else2)
@@ -114,7 +114,7 @@ read-whole-spec =
     get-number-requires
     add-next
     add-next-2
-    is-known-requires
+    is-known-kind-requires
     no-message-requires
     returns
     length-of-requires
