@@ -23,7 +23,7 @@ use Rattle.text_protocol.specs.Names.{the, placeOf, code, evaluateNames, quoteN
 use Rattle.text_protocol.specs.Names.{outsideNames, noticeNames, withdrawNames, admitKind, evaluateKind, quoteKind}
 use Rattle.text_protocol.specs.Names.{moveKind, readKind, openKind, outsideKind, noticeKind, withdrawKind}
 use Rattle.text_protocol.specs.Names.{evaluateCount}
-use Rattle.text_protocol.specs.Calls.{admissionOf, quoteOf, floatOf, outsideOf, noticeCall, askedOf, figuresOf}
+use Rattle.text_protocol.specs.Calls.{admissionOf, quoteOf, floatOf, outsideOf, noticeCall, askedOf, figuresBehind}
 use Rattle.text_call.specs.declared.Request.{Request}
 use Rattle.text_call.specs.Requests.{requestCall, noticeLine, lineCall, ofId, ofOutside}
 use Rattle.paper_desk.specs.Desk.{receive}
@@ -60,7 +60,7 @@ module _ (k : Kept) (kind : ℕ) (zs : List ℤ) (p : Pairs) where
         notice = y;
       }) (drop evaluateCount zs) ≡
       lineCall k kind zs p
-  unfolding lineCall figuresOf the placeOf code evaluateNames
+  unfolding lineCall figuresBehind the placeOf code evaluateNames
   evaluate-line id a d q x y e f g = rw (e, f, g)
 
   -- a quote, a move, a read and an opening: all that a line of theirs may give is read, and each looks at its own

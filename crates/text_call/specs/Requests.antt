@@ -22,7 +22,7 @@ use Rattle.text_protocol.specs.Names.{ID, SIDE, BITS, the, evaluateNames, quote
 use Rattle.text_protocol.specs.Names.{outsideNames, noticeNames, withdrawNames, admitKind, evaluateKind, quoteKind}
 use Rattle.text_protocol.specs.Names.{moveKind, readKind, openKind, outsideKind, noticeKind, withdrawKind}
 use Rattle.text_protocol.specs.Calls.{unsignedOf, admissionOf, quoteOf, floatOf, outsideOf, noticeCall, askedOf}
-use Rattle.text_protocol.specs.Calls.{figuresOf}
+use Rattle.text_protocol.specs.Calls.{figuresBehind}
 use Rattle.text_call.specs.declared.Request.{Request}
 
 abbrev pub requestCall : Request → (rows : List ℤ) → Call
@@ -92,7 +92,7 @@ noticeLine zs =
 unfoldable pub lineCall : Kept → (kind : ℕ) → List ℤ → Pairs → Call
 lineCall k kind zs p =
     pick (eqb kind admitKind) (admit (admissionOf zs))
-    (pick (eqb kind evaluateKind) (evaluate (unsignedOf evaluateNames zs ID) (dayOf (askedOf k zs p)) (figuresOf
+    (pick (eqb kind evaluateKind) (evaluate (unsignedOf evaluateNames zs ID) (dayOf (askedOf k zs p)) (figuresBehind
     evaluateNames zs))
     (pick (eqb kind quoteKind) (quote (unsignedOf quoteNames zs ID) (quoteOf zs))
     (pick (eqb kind moveKind) (move (unsignedOf moveNames zs ID) (unsignedOf moveNames zs SIDE))

@@ -45,9 +45,9 @@ use Rattle.text_protocol.specs.Names.{ID, SIDE, BITS, noticeNames, the, interes
 use Rattle.text_protocol.specs.Names.{evaluateKind, quoteKind, moveKind, readKind, openKind, outsideKind, noticeKind}
 use Rattle.text_protocol.specs.Names.{withdrawKind, interestKind, bondKind, evaluateCount, interestCount, bondCount}
 use Rattle.text_protocol.specs.Line.{Said, Nothing, NoCall, Call as saysCall}
-use Rattle.text_protocol.specs.Calls.{Deed, unsignedOf, floatOf, noticeCall, interestOf, bondOf, figuresOf, callOf}
+use Rattle.text_protocol.specs.Calls.{Deed, unsignedOf, floatOf, noticeCall, interestOf, bondOf, figuresBehind, callOf}
 use Rattle.text_protocol.specs.Calls.{deedOf}
-use Rattle.text_protocol.specs.Answers.{callText, figuresOf as figuresAnswered}
+use Rattle.text_protocol.specs.Answers.{callText, figuresAnswered}
 use Rattle.text_protocol.specs.Reasons.{whyText}
 use Rattle.text_evening.specs.Broadcast.{messagesOf, allSent, broadcastOf}
 use Rattle.text_evening.specs.Evening.{keptBy, answerTo, reasonTo, callTold, worded, textOf}
@@ -207,10 +207,10 @@ notice-silent id side x t = noticed-silent (eqb side 0) (eqb side 1) id side x t
 
 module _ (k : Kept) (zs : List ℤ) (p : Pairs) where
   abbrev worked : InterestAnswer
-  worked = interestAnswer (interestOf zs) (figuresOf interestNames zs)
+  worked = interestAnswer (interestOf zs) (figuresBehind interestNames zs)
 
   abbrev workedBond : BondAnswer
-  workedBond = bondAnswer (bondOf k zs p) (figuresOf bondNames zs)
+  workedBond = bondAnswer (bondOf k zs p) (figuresBehind bondNames zs)
 
   asks-kind : {kind : ℕ} → LineKind kind → lineCall k kind zs p ≡ callIn (deedOf k (saidKind kind zs p))
   unfolding lineCall noticeLine callIn deedOf callOf
@@ -336,7 +336,7 @@ module _ (k : Kept) (kind : ℕ) (zs : List ℤ) (p : Pairs) (r : Request)
   pub asks-for-interest : (given : Interest) (fs : List ℤ) (i : InterestAnswer) (kept : Kept) → given ≡ interestOf zs
       → fs ≡ drop interestCount zs → i ≡ interestAnswer given fs → b .interest ≡ i → kept ≡ keptAfter k given i
       → kind ≡ interestKind → AsksFor k kind zs p (record { request = r; beside = b; kept = kept })
-  unfolding figuresOf interestNames
+  unfolding figuresBehind interestNames
   asks-for-interest given fs i kept e f g said h is =
       let w : i ≡ interestAnswer (interestOf zs) (drop interestCount zs) = g ∙ rw (e, f) in
       record {
@@ -350,7 +350,7 @@ module _ (k : Kept) (kind : ℕ) (zs : List ℤ) (p : Pairs) (r : Request)
   pub asks-for-bond : (given : Bond) (fs : List ℤ) (a : BondAnswer) → given ≡ bondOf k zs p → fs ≡ drop bondCount zs
       → a ≡ bondAnswer given fs → b .bond ≡ a
       → kind ≡ bondKind → AsksFor k kind zs p (record { request = r; beside = b; kept = k })
-  unfolding figuresOf bondNames
+  unfolding figuresBehind bondNames
   asks-for-bond given fs a e f g said is =
       record {
         asks = asks;

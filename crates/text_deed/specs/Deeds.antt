@@ -20,7 +20,7 @@ use Rattle.text_evening.specs.declared.Telling.{Telling}
 use Rattle.text_evening.specs.declared.Telling.the-variants.{Answers, Reasons, Messages}
 use Rattle.text_protocol.specs.Kept.{keptAfter}
 use Rattle.text_protocol.specs.Names.{evaluateKind, interestKind, bondKind, interestNames, bondNames, evaluateCount}
-use Rattle.text_protocol.specs.Calls.{Deed, nothing, noCall, call, interest, bond, interestOf, bondOf, figuresOf}
+use Rattle.text_protocol.specs.Calls.{Deed, nothing, noCall, call, interest, bond, interestOf, bondOf, figuresBehind}
 use Rattle.text_protocol.specs.Answers.{badText, interestText, bondText}
 use Rattle.text_protocol.specs.Reasons.{whyText}
 use Rattle.text_evening.specs.Evening.{keptBy, textOf}
@@ -69,9 +69,9 @@ pub record Said (asked : Bool) (r : Request) (rows : List ℤ) (c : Call) (t : L
 pub record AsksFor (k : Kept) (kind : ℕ) (zs : List ℤ) (p : Pairs) (r : LineDeed) : Type 0 where
   pub asks : requestCall (r .request) (drop evaluateCount zs) ≡ lineCall k kind zs p
   pub interest-answered : kind ≡ interestKind
-      → r .beside .interest ≡ interestAnswer (interestOf zs) (figuresOf interestNames zs)
-  pub bond-answered : kind ≡ bondKind → r .beside .bond ≡ bondAnswer (bondOf k zs p) (figuresOf bondNames zs)
-  pub keeps : kind ≡ interestKind → r .kept ≡ keptAfter k (interestOf zs) (interestAnswer (interestOf zs) (figuresOf
+      → r .beside .interest ≡ interestAnswer (interestOf zs) (figuresBehind interestNames zs)
+  pub bond-answered : kind ≡ bondKind → r .beside .bond ≡ bondAnswer (bondOf k zs p) (figuresBehind bondNames zs)
+  pub keeps : kind ≡ interestKind → r .kept ≡ keptAfter k (interestOf zs) (interestAnswer (interestOf zs) (figuresBehind
       interestNames zs))
   pub stays : (kind ≡ interestKind → ⊥) → r .kept ≡ k
 

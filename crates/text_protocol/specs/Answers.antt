@@ -143,18 +143,18 @@ recordNumbers r =
 -- ---- what a call answers
 
 -- the figures of an accepted call: an admission none, a quote its two alerts, the others the record
-unfoldable pub figuresOf : Call → Answer → List ℤ
-figuresOf (admit g) a = []
-figuresOf (evaluate id d rows) a = recordNumbers (a .rec)
-figuresOf (quote id q) a = flag (a .top) ∷ flag (a .bottom) ∷ []
-figuresOf (move id side) a = recordNumbers (a .rec)
-figuresOf (read id) a = recordNumbers (a .rec)
-figuresOf (openEvening id) a = recordNumbers (a .rec)
-figuresOf (receive id x) a = recordNumbers (a .rec)
+unfoldable pub figuresAnswered : Call → Answer → List ℤ
+figuresAnswered (admit g) a = []
+figuresAnswered (evaluate id d rows) a = recordNumbers (a .rec)
+figuresAnswered (quote id q) a = flag (a .top) ∷ flag (a .bottom) ∷ []
+figuresAnswered (move id side) a = recordNumbers (a .rec)
+figuresAnswered (read id) a = recordNumbers (a .rec)
+figuresAnswered (openEvening id) a = recordNumbers (a .rec)
+figuresAnswered (receive id x) a = recordNumbers (a .rec)
 
 -- a refusal's number stands alone
 unfoldable pub callText : Call → Answer → List ℕ
-callText c a = answerText (numberOf (a .verdict)) (pick (isDone (a .verdict)) (figuresOf c a) [])
+callText c a = answerText (numberOf (a .verdict)) (pick (isDone (a .verdict)) (figuresAnswered c a) [])
 
 -- ---- what an interest line answers
 

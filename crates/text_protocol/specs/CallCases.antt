@@ -26,7 +26,7 @@ use Rattle.text_protocol.specs.LineCases.{bytes, naturals}
 use Rattle.text_protocol.specs.Kept.{noPair, foundIn}
 use Rattle.text_protocol.specs.Calls.{Deed, call, interest, bond, givenOf, admissionOf, quoteOf, bitsOf, floatOf}
 use Rattle.text_protocol.specs.Calls.{outsideOf, noticeCall, interestOf, bandOf, termOf, askedOf, bondStaticsOf}
-use Rattle.text_protocol.specs.Calls.{bondOf, figuresOf, callOf, deedOf}
+use Rattle.text_protocol.specs.Calls.{bondOf, figuresBehind, callOf, deedOf}
 
 -- of the pair 6/7 the limits 60 and 70 are kept, of no other pair any
 unfoldable pub keptLimits : Kept
@@ -164,5 +164,5 @@ unfolding floatAt deedBy keptLimits bytes isDone unsigned workedRepo repoOf dayO
     oneOf twoOf itemOf hasTerms placeIn pairFits withPair more taking onWith finished fill called meaning foundIn
     givenOf
     admissionOf quoteOf bitsOf floatOf outsideOf noticeCall interestOf bandOf termOf askedOf bondStaticsOf bondOf
-    figuresOf callOf deedOf
+    figuresBehind callOf deedOf
 asked = (refl, refl, refl, refl, refl, refl, refl, refl, refl, refl, refl, refl, refl, refl, refl, refl)

@@ -209,8 +209,8 @@ bondOf k zs p =
     }
 
 -- the figures behind the named numbers: an evaluation's rows, an evening's key maturities, a bond's cash flows
-unfoldable pub figuresOf : List Name → List ℤ → List ℤ
-figuresOf names zs = drop (length names) zs
+unfoldable pub figuresBehind : List Name → List ℤ → List ℤ
+figuresBehind names zs = drop (length names) zs
 
 -- ---- what a line asks for
 
@@ -226,7 +226,7 @@ unfoldable pub callOf : Kept → (kind : ℕ) → List ℤ → Pairs → Deed
 callOf k kind zs p =
     pick (eqb kind admitKind) (call (admit (admissionOf zs)))
     (pick (eqb kind evaluateKind)
-    (call (evaluate (unsignedOf evaluateNames zs ID) (dayOf (askedOf k zs p)) (figuresOf evaluateNames zs)))
+    (call (evaluate (unsignedOf evaluateNames zs ID) (dayOf (askedOf k zs p)) (figuresBehind evaluateNames zs)))
     (pick (eqb kind quoteKind) (call (quote (unsignedOf quoteNames zs ID) (quoteOf zs)))
     (pick (eqb kind moveKind) (call (move (unsignedOf moveNames zs ID) (unsignedOf moveNames zs SIDE)))
     (pick (eqb kind readKind) (call (read (unsignedOf readNames zs ID)))
@@ -235,8 +235,8 @@ callOf k kind zs p =
     (pick (eqb kind noticeKind) (call (noticeCall (unsignedOf noticeNames zs ID) (unsignedOf noticeNames zs SIDE)
     (floatOf (the noticeNames zs BITS))))
     (pick (eqb kind withdrawKind) (call (receive (unsignedOf withdrawNames zs ID) (notice Withdrawal)))
-    (pick (eqb kind interestKind) (interest (interestOf zs) (figuresOf interestNames zs))
-    (bond (bondOf k zs p) (figuresOf bondNames zs)))))))))))
+    (pick (eqb kind interestKind) (interest (interestOf zs) (figuresBehind interestNames zs))
+    (bond (bondOf k zs p) (figuresBehind bondNames zs)))))))))))
 
 unfoldable pub deedOf : Kept → Said → Deed
 deedOf k Nothing = nothing
