@@ -18,7 +18,7 @@ use Rattle.paper.specs.Least.{leastMultiple}
 use Rattle.paper.specs.Ranges.{validStatics}
 use Rattle.paper_desk.specs.Rates.{meetsRequirement, daysOf, minimumOf, covers, levelRate, AtLeastRoots}
 use Rattle.paper_desk.specs.Rates.{volatilePart, liquidPart, AtLeastRequired, HeldLeast, has, volatileNeed}
-use Rattle.paper_desk.specs.Rates.{liquidNeed, rootsWithin}
+use Rattle.paper_desk.specs.Rates.{liquidNeed, rootsWithin, Stepping}
 use Rattle.paper.proofs.Logic.{not-true-and-false, and-left, and-right, and-both, le-or-lt, pick-true, pick-false}
 use Rattle.paper.proofs.Search.{Mono, multiple-holds, multiple-least, multiple-within-bound, multiple-is-multiple}
 use Rattle.paper_desk.proofs.Roots.{roots-covered, Floor, root-has-floor, no-room-over-sum, no-room-over-cross}
@@ -151,12 +151,6 @@ module _ (rh1 rh liq m tentative v : ℕ) (days : 0 < rh1) where
           (scaled real D (a .0) (b .0) (omega arith) (a .1) (b .1)))
 
 -- ---- the rate of a level
-
--- the minimum of a level is at most S_max, and both are multiples of h
-pub record Stepping (st : Statics) (level : ℕ) : Type 0 where
-  pub low : minimumOf st level ≤ st .smax
-  pub multiple : st .smax % st .h ≡ 0
-  pub minimum : minimumOf st level % st .h ≡ 0
 
 pub stepping : (st : Statics) (level : ℕ) → validStatics st ≡ true → Stepping st level
 unfolding validStatics minimumOf

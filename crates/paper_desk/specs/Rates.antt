@@ -208,3 +208,9 @@ pub record HeldLeast (h minimum maximum : ℕ) (Covers : ℕ → Type 0) (v : �
   pub held : v ≤ maximum
   pub covers-or-held : Covers v ⊎ ((v ≡ maximum) × (Covers maximum → ⊥))
   pub least : (j : ℕ) → minimum ≤ j * h → Covers (j * h) → v ≤ j * h
+
+-- the minimum of a level is at most S_max, and both are multiples of h
+pub record Stepping (st : Statics) (level : ℕ) : Type 0 where
+  pub low : minimumOf st level ≤ st .smax
+  pub multiple : st .smax % st .h ≡ 0
+  pub minimum : minimumOf st level % st .h ≡ 0

@@ -22,8 +22,8 @@ use Rattle.text_protocol.specs.Split.{Free}
 use Rattle.text_protocol.proofs.Pieces.{pieces-none, pieces-more, Parted, all, more, parted, pieces-some}
 use Rattle.text_table.specs.declared.Reading.{Reading}
 use Rattle.text_table.specs.Exchange.{Ended, lineNumbers, rowsMost, textMost, inOne, accepted, refused, Says, too-long}
-use Rattle.text_table.specs.Scan.{Front, front, none, line}
-use Rattle.text_table.proofs.Lines.{ended-reads, Rowed, line-back, row-has-seven}
+use Rattle.text_table.specs.Scan.{Front, front, none, line, WrittenLine}
+use Rattle.text_table.proofs.Lines.{ended-reads, line-back, row-has-seven}
 use Rattle.text_table.proofs.Walk.{Sofar, none-yet, own-row, other-row, ends-no-row, ends-seventeenth, ends-unended}
 use Rattle.text_table.proofs.Walk.{ends-good}
 use Rattle.text_row.specs.declared.Place.{Place}
@@ -191,7 +191,7 @@ module _ (id : ℕ) (t : List ℕ) (array zs : List ℤ) (from number count : �
                   impossible cc
 
       module _ (next : ℕ) (q : r ≡ place.At next) where
-        found : Rowed (drop from t) ys (drop next t)
+        found : WrittenLine (drop from t) ys (drop next t)
         unfolding placeFront
         found = line-back (drop from t) ys (drop next t) (sym (rw q at (l .is)))
 

@@ -19,8 +19,8 @@ use Rattle.text_protocol.proofs.Pieces.{free-append}
 use Rattle.text_table.specs.declared.Column.{Column}
 use Rattle.text_table.specs.Exchange.{point, Decimal, whole, pointed, Field, missing, plain, negative}
 use Rattle.text_table.specs.Scan.{Front, front, none, then, starts, NumberEnds, numberMost, number, positive}
-use Rattle.text_table.specs.Scan.{turned, cell}
-use Rattle.text_table.proofs.Decimals.{decimal-reads, Fronted, starts-back, decimal-back}
+use Rattle.text_table.specs.Scan.{turned, cell, WrittenDecimal, WrittenField}
+use Rattle.text_table.proofs.Decimals.{decimal-reads, starts-back, decimal-back}
 
 -- ---- the bytes of a field
 
@@ -79,42 +79,38 @@ field-reads c rest (negative {p} {v} e d) most s =
 
 -- ---- what is read is written
 
-pub record Celled (c : Column) (u : List ℕ) (z : ℤ) (rest : List ℕ) : Type 0 where
-  pub p : List ℕ
-  pub is : u ≡ p ++ rest
-  pub field : Field c p z
-
 -- A FIELD THAT IS READ IS WRITTEN
-pub field-back : (c : Column) (u : List ℕ) (z : ℤ) (rest : List ℕ) → cell c u ≡ front z rest → Celled c u z rest
+pub field-back : (c : Column) (u : List ℕ) (z : ℤ) (rest : List ℕ) → cell c u ≡ front z rest → WrittenField c u z rest
 unfolding cell positive turned
 field-back c u z rest e =
     go (c .minus && starts (λ b. eqb b minusSign) u) (c .empty && not (starts isDigit u)) refl refl e
   where
     below : c .minus ≡ true → starts (λ b. eqb b minusSign) u ≡ true → (x : Front ℕ) → number c (drop 1 u) ≡ x
-        → then x (λ v rest. front (negated v) rest) ≡ front z rest → Celled c u z rest
+        → then x (λ v rest. front (negated v) rest) ≡ front z rest → WrittenField c u z rest
     below m h none i f = impossible cc
     below m h (front v r) i f =
         let j : negated v ≡ z = cc in
         let k : r ≡ rest = cc in
-        let b : Fronted c (drop 1 u) v r = decimal-back c (drop 1 u) v r i in
+        let b : WrittenDecimal c (drop 1 u) v r = decimal-back c (drop 1 u) v r i in
         record {
           p = minusSign ∷ b .p;
           is = starts-back minusSign u h ∙ ap (λ (x : List ℕ). minusSign ∷ x) (rw (← k) (b .is));
           field = rw (← j) (negative m (b .decimal));
         }
 
-    above : (x : Front ℕ) → number c u ≡ x → then x (λ v rest. front (pos v) rest) ≡ front z rest → Celled c u z rest
+    above : (x : Front ℕ) → number c u ≡ x → then x (λ v rest. front (pos v) rest) ≡ front z rest
+        → WrittenField c u z rest
     above none i f = impossible cc
     above (front v r) i f =
         let j : pos v ≡ z = cc in
         let k : r ≡ rest = cc in
-        let b : Fronted c u v r = decimal-back c u v r i in
+        let b : WrittenDecimal c u v r = decimal-back c u v r i in
         record { p = b .p; is = rw (← k) (b .is); field = rw (← j) (plain (b .decimal)) }
 
     go : (x y : Bool) → (c .minus && starts (λ b. eqb b minusSign) u) ≡ x → (c .empty && not (starts isDigit u)) ≡ y
         → pick x (then (number c (drop 1 u)) (λ v rest. front (negated v) rest))
         (pick y (front (pos 0) u) (then (number c u) (λ v rest. front (pos v) rest))) ≡ front z rest
-        → Celled c u z rest
+        → WrittenField c u z rest
     go true y h k f =
         below (and-left (c .minus) (starts (λ b. eqb b minusSign) u) h)
         (and-right (c .minus) (starts (λ b. eqb b minusSign) u) h) (number c (drop 1 u)) refl f

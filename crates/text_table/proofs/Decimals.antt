@@ -19,7 +19,7 @@ use Rattle.text_protocol.proofs.Spelling.{impossible, within-is-digit, digit-is
 use Rattle.text_table.specs.declared.Column.{Column}
 use Rattle.text_table.specs.Exchange.{point, Decimal, whole, pointed}
 use Rattle.text_table.specs.Scan.{Front, front, none, then, starts, NumberEnds, numberMost, digits, pastZeros}
-use Rattle.text_table.specs.Scan.{behindZeros, decimals, behindWhole, number}
+use Rattle.text_table.specs.Scan.{behindZeros, decimals, behindWhole, number, WrittenDecimal}
 use Rattle.text_table.proofs.Values.{ten-pos, value-split, value-lt, value-more, value-not-below}
 use Rattle.text_table.proofs.Values.{cancelled-equal, whole-without-rest}
 
@@ -315,12 +315,6 @@ digits-append (digit lo hi d) e = digit lo hi (digits-append d e)
 times-pow : (v a b : ℕ) → v * 10 ^ a * 10 ^ b ≡ v * 10 ^ (a + b)
 times-pow v a b = mul-assoc v (10 ^ a) (10 ^ b) ∙ ap (λ (x : ℕ). v * x) (sym (pow-add 10 a b))
 
--- the decimal in front of a text
-pub record Fronted (c : Column) (u : List ℕ) (v : ℕ) (rest : List ℕ) : Type 0 where
-  pub p : List ℕ
-  pub is : u ≡ p ++ rest
-  pub decimal : Decimal c p v
-
 -- what stands behind the point: the unit's decimals, and zeros
 module _ (c : Column) (n : ℕ) {w : List ℕ} (d : Digits w) (some : 0 < length w) (is : value 0 w ≡ n) (t : List ℕ)
     (v₀ : ℕ) (r rest : List ℕ) (a : Digited n t (c .places) v₀ r) (b : Behind c r rest)
@@ -364,7 +358,7 @@ module _ (c : Column) (n : ℕ) {w : List ℕ} (d : Digits w) (some : 0 < length
       times-pow v₀ k (length f) ∙ ap (λ (x : ℕ). v₀ * 10 ^ x) e ∙ sym (times-pow v₀ (length (b .zeroed .z)) (c .places))
       ∙ ap (λ (x : ℕ). x * 10 ^ c .places) (sym spelt)
 
-  pointed-back : Fronted c (w ++ point ∷ t) (v₀ * 10 ^ k) rest
+  pointed-back : WrittenDecimal c (w ++ point ∷ t) (v₀ * 10 ^ k) rest
   pointed-back =
       record {
         p = w ++ point ∷ f;
@@ -374,14 +368,14 @@ module _ (c : Column) (n : ℕ) {w : List ℕ} (d : Digits w) (some : 0 < length
       }
 
 decimals-back : (c : Column) (n : ℕ) {w : List ℕ} → Digits w → 0 < length w → value 0 w ≡ n → (t : List ℕ) (v : ℕ)
-    → (rest : List ℕ) → decimals c n t ≡ front v rest → Fronted c (w ++ point ∷ t) v rest
+    → (rest : List ℕ) → decimals c n t ≡ front v rest → WrittenDecimal c (w ++ point ∷ t) v rest
 unfolding decimals
 decimals-back c n {w} d some is t v rest e = go (digits (c .places) n t) refl e
   where
     told : (v₀ : ℕ) (r : List ℕ) → digits (c .places) n t ≡ front v₀ r → (x : Bool)
         → ltb (length (behindZeros c r)) (length t) ≡ x
         → pick x (front (v₀ * 10 ^ (c .places - (length t - length r))) (behindZeros c r)) none ≡ front v rest
-        → Fronted c (w ++ point ∷ t) v rest
+        → WrittenDecimal c (w ++ point ∷ t) v rest
     told v₀ r i false h f = impossible cc
     told v₀ r i true h f =
         let j : v₀ * 10 ^ (c .places - (length t - length r)) ≡ v = cc in
@@ -393,7 +387,7 @@ decimals-back c n {w} d some is t v rest e = go (digits (c .places) n t) refl e
     go : (x : Front ℕ) → digits (c .places) n t ≡ x
         → then x (λ v rest. pick (ltb (length (behindZeros c rest)) (length t))
         (front (v * 10 ^ (c .places - (length t - length rest))) (behindZeros c rest)) none) ≡ front v rest
-        → Fronted c (w ++ point ∷ t) v rest
+        → WrittenDecimal c (w ++ point ∷ t) v rest
     go none i f = impossible cc
     go (front v₀ r) i f = told v₀ r i (ltb (length (behindZeros c r)) (length t)) refl f
 
@@ -403,14 +397,15 @@ starts-back b [] e = impossible cc
 starts-back b (d ∷ t) e = ap (λ (x : ℕ). x ∷ t) (eqb-true d b e)
 
 -- A DECIMAL THAT IS READ IS WRITTEN
-pub decimal-back : (c : Column) (u : List ℕ) (v : ℕ) (rest : List ℕ) → number c u ≡ front v rest → Fronted c u v rest
+pub decimal-back : (c : Column) (u : List ℕ) (v : ℕ) (rest : List ℕ) → number c u ≡ front v rest
+    → WrittenDecimal c u v rest
 unfolding number behindWhole
 decimal-back c u v rest e = go (digits (length u) 0 u) refl e
   where
     told : (n : ℕ) (r : List ℕ) → Digited 0 u (length u) n r → (x y : Bool) → ltb (length r) (length u) ≡ x
         → starts (λ b. eqb b point) r ≡ y
         → pick x (pick y (decimals c n (drop 1 r)) (front (n * 10 ^ c .places) r)) none ≡ front v rest
-        → Fronted c u v rest
+        → WrittenDecimal c u v rest
     told n r a false y h i f = impossible cc
     told n r a true true h i f =
         let l : 0 < length (a .p) =
@@ -427,7 +422,7 @@ decimal-back c u v rest e = go (digits (length u) 0 u) refl e
         → then x (λ n rest. pick (ltb (length rest) (length u))
         (pick (starts (λ b. eqb b point) rest) (decimals c n (drop 1 rest)) (front (n * 10 ^ c .places) rest)) none)
         ≡ front v rest
-        → Fronted c u v rest
+        → WrittenDecimal c u v rest
     go none i f = impossible cc
     go (front n r) i f =
         told n r (digits-back (length u) 0 u n r i) (ltb (length r) (length u)) (starts (λ b. eqb b point) r) refl refl

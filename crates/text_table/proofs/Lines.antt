@@ -22,9 +22,9 @@ use Rattle.text_table.specs.declared.Column.{Column}
 use Rattle.text_table.specs.Exchange.{point, semicolon, isSemicolon, Decimal, Field, missing, plain, negative}
 use Rattle.text_table.specs.Exchange.{columns, wholeNumber, Fields, no-field, field, Line, Ended, by-lf, by-cr-lf}
 use Rattle.text_table.specs.Scan.{Front, front, none, then, starts, NumberEnds, numberMost, cell, Passed, passed}
-use Rattle.text_table.specs.Scan.{pass, lineEnd, fieldEnd, cells, inRange, line}
+use Rattle.text_table.specs.Scan.{pass, lineEnd, fieldEnd, cells, inRange, line, WrittenField, WrittenLine}
 use Rattle.text_table.proofs.Decimals.{starts-back}
-use Rattle.text_table.proofs.Cells.{field-free, field-reads, Celled, field-back}
+use Rattle.text_table.proofs.Cells.{field-free, field-reads, field-back}
 
 -- ---- what ends a field and a line
 
@@ -168,7 +168,7 @@ semicolon-is : isSemicolon semicolon ≡ true
 unfolding isSemicolon
 semicolon-is = refl
 
-last-lined : (c : Column) (acc : List ℤ) (u : List ℕ) (z : ℤ) (r rest : List ℕ) → Celled c u z r → Ending r rest
+last-lined : (c : Column) (acc : List ℤ) (u : List ℕ) (z : ℤ) (r rest : List ℕ) → WrittenField c u z r → Ending r rest
     → Lined (c ∷ []) acc u (acc ++ z ∷ []) rest
 last-lined c acc u z r rest a g =
     record {
@@ -184,7 +184,7 @@ last-lined c acc u z r rest a g =
     }
 
 more-lined : (c : Column) (cs : List Column) (acc : List ℤ) (u : List ℕ) (z : ℤ) (r : List ℕ) (zs : List ℤ)
-    → (rest : List ℕ) → Celled c u z (semicolon ∷ r) → Lined cs (acc ++ z ∷ []) r zs rest
+    → (rest : List ℕ) → WrittenField c u z (semicolon ∷ r) → Lined cs (acc ++ z ∷ []) r zs rest
     → Lined (c ∷ cs) acc u zs rest
 more-lined c cs acc u z r zs rest a b =
     record {
@@ -208,7 +208,7 @@ cells-back : (c : Column) (cs : List Column) (acc : List ℤ) (u : List ℕ) (zs
 unfolding cells fieldEnd
 cells-back c [] acc u zs rest e = go (cell c u) refl e
   where
-    ended : (z : ℤ) (r : List ℕ) → Celled c u z r → (x : Front Passed) → lineEnd r ≡ x
+    ended : (z : ℤ) (r : List ℕ) → WrittenField c u z r → (x : Front Passed) → lineEnd r ≡ x
         → then x (λ y behind. front (acc ++ z ∷ []) behind) ≡ front zs rest → Lined (c ∷ []) acc u zs rest
     ended z r a none i f = impossible cc
     ended z r a (front passed t) i f =
@@ -224,7 +224,7 @@ cells-back c [] acc u zs rest e = go (cell c u) refl e
 cells-back c (d ∷ cs) acc u zs rest e =
     go (cell c u) refl e (λ z t f. cells-back d cs (acc ++ z ∷ []) t zs rest f)
   where
-    ended : (z : ℤ) (r : List ℕ) → Celled c u z r → (x : Front Passed) → pass semicolon r ≡ x
+    ended : (z : ℤ) (r : List ℕ) → WrittenField c u z r → (x : Front Passed) → pass semicolon r ≡ x
         → then x (λ y behind. cells (d ∷ cs) (acc ++ z ∷ []) behind) ≡ front zs rest
         → ((z : ℤ) (t : List ℕ) → cells (d ∷ cs) (acc ++ z ∷ []) t ≡ front zs rest
         → Lined (d ∷ cs) (acc ++ z ∷ []) t zs rest)
@@ -374,16 +374,6 @@ reading-unique {p} {i} {j} {ys} {zs} a b =
     let f : line (p ++ lineFeed ∷ []) ≡ front (pos j ∷ zs) [] = ended-reads [] b in
     (cc, cc)
 
--- a line in front of a text, and what is left behind it
-pub record Rowed (u : List ℕ) (zs : List ℤ) (rest : List ℕ) : Type 0 where
-  pub p : List ℕ
-  pub id : ℕ
-  pub row : List ℤ
-  pub is : u ≡ p ++ lineFeed ∷ rest
-  pub unbroken : Free isLineFeed p
-  pub ended : Ended p id row
-  pub numbers : zs ≡ pos id ∷ row
-
 line-of : (l : List ℕ) (zs : List ℤ) (s : Eight zs) → Fields columns (pieces isSemicolon l) zs → inRange zs ≡ true
     → Line l (s .id) (drop 1 zs)
 line-of l zs s f r =
@@ -401,7 +391,7 @@ unfolding isLineFeed
 return-feed = refl
 
 rowed : (u : List ℕ) (l e : List ℕ) (zs : List ℤ) (rest : List ℕ) → u ≡ l ++ e → Ending e rest → Free isLineFeed l
-    → (s : Eight zs) → Line l (s .id) (drop 1 zs) → Rowed u zs rest
+    → (s : Eight zs) → Line l (s .id) (drop 1 zs) → WrittenLine u zs rest
 rowed u l e zs rest is lf f s a =
     record {
       p = l;
@@ -424,12 +414,12 @@ rowed u l e zs rest is cr-lf f s a =
     }
 
 -- A LINE THAT IS READ IS WRITTEN
-pub line-back : (u : List ℕ) (zs : List ℤ) (rest : List ℕ) → line u ≡ front zs rest → Rowed u zs rest
+pub line-back : (u : List ℕ) (zs : List ℤ) (rest : List ℕ) → line u ≡ front zs rest → WrittenLine u zs rest
 unfolding line columns
 line-back u zs rest e = go (cells columns [] u) refl e
   where
     judged : (ys : List ℤ) (r : List ℕ) → Lined columns [] u ys r → (x : Bool) → inRange ys ≡ x
-        → pick x (front ys r) none ≡ front zs rest → Rowed u zs rest
+        → pick x (front ys r) none ≡ front zs rest → WrittenLine u zs rest
     judged ys r b false h f = impossible cc
     judged ys r b true h f =
         let j : ys ≡ zs = cc in
@@ -440,7 +430,7 @@ line-back u zs rest e = go (cells columns [] u) refl e
         (line-of (b .l) zs (fields-are-eight g) g (rw j at h))
 
     go : (x : Front (List ℤ)) → cells columns [] u ≡ x
-        → then x (λ zs rest. pick (inRange zs) (front zs rest) none) ≡ front zs rest → Rowed u zs rest
+        → then x (λ zs rest. pick (inRange zs) (front zs rest) none) ≡ front zs rest → WrittenLine u zs rest
     go none i f = impossible cc
     go (front ys r) i f =
         judged ys r

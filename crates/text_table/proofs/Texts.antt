@@ -24,8 +24,8 @@ use Rattle.text_table.specs.declared.Reading.{Reading}
 use Rattle.text_table.specs.Exchange.{Ended, by-lf, by-cr-lf, rowsMost, textMost, Bad, unended, no-row}
 use Rattle.text_table.specs.Exchange.{seventeenth, RowsOf, no-line, its-own, another's, inOne, accepted, refused}
 use Rattle.text_table.specs.Exchange.{Says, too-long, bad-at, good}
-use Rattle.text_table.specs.Scan.{Front, front, none, line, isOf, orBad, collect, reading}
-use Rattle.text_table.proofs.Lines.{ended-reads, reading-unique, Rowed, line-back, row-has-seven}
+use Rattle.text_table.specs.Scan.{Front, front, none, line, isOf, orBad, collect, reading, WrittenLine}
+use Rattle.text_table.proofs.Lines.{ended-reads, reading-unique, line-back, row-has-seven}
 use Rattle.text_table.proofs.Walk.{Sofar, none-yet, own-row, other-row, ends-no-row, ends-seventeenth}
 use Rattle.text_table.proofs.Walk.{ends-unended, ends-good}
 
@@ -82,7 +82,7 @@ record Read (p : List ℕ) (zs : List ℤ) : Type 0 where
 piece-read : (p : List ℕ) (zs : List ℤ) (rest : List ℕ) → Free isLineFeed p
     → line (p ++ lineFeed ∷ []) ≡ front zs rest → Read p zs
 piece-read p zs rest f e =
-    let r : Rowed (p ++ lineFeed ∷ []) zs rest = line-back (p ++ lineFeed ∷ []) zs rest e in
+    let r : WrittenLine (p ++ lineFeed ∷ []) zs rest = line-back (p ++ lineFeed ∷ []) zs rest e in
     let a : p ∷ pieces isLineFeed [] ≡ r .p ∷ pieces isLineFeed rest =
     sym (pieces-more isLineFeed [] f feed-is) ∙ ap (pieces isLineFeed) (r .is)
     ∙ pieces-more isLineFeed rest (r .unbroken) feed-is in

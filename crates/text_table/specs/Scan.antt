@@ -13,9 +13,11 @@ use Rattle.paper.specs.Ranges.{withinZ, unsigned, rowAt, validRow}
 use Rattle.text_protocol.specs.Bytes.{lineFeed, carriageReturn, minusSign, digitZero, isLineFeed, pieces}
 use Rattle.text_protocol.specs.Numbers.{isDigit}
 use Rattle.text_protocol.specs.Written.{negated}
+use Rattle.text_protocol.specs.Split.{Free}
 use Rattle.text_table.specs.declared.Column.{Column}
 use Rattle.text_table.specs.declared.Reading.{Reading}
 use Rattle.text_table.specs.Exchange.{point, semicolon, columns, rowsMost, textMost, accepted, refused}
+use Rattle.text_table.specs.Exchange.{Decimal, Field, Ended}
 
 -- what stands in front of a text and the text behind it; or nothing that is looked for
 pub data Front (A : Type 0) : Type 0 where
@@ -139,3 +141,25 @@ collect id n rows (p ∷ q ∷ ps) =
 -- THE READING OF A TEXT
 unfoldable pub reading : (id : ℕ) → List ℕ → Reading
 reading id t = pick (leb (length t) textMost) (collect id 1 [] (pieces isLineFeed t)) (refused 0)
+
+-- ---- what is read in front of a text u is written there: its bytes p, and the rest behind them
+
+pub record WrittenDecimal (c : Column) (u : List ℕ) (v : ℕ) (rest : List ℕ) : Type 0 where
+  pub p : List ℕ
+  pub is : u ≡ p ++ rest
+  pub decimal : Decimal c p v
+
+pub record WrittenField (c : Column) (u : List ℕ) (z : ℤ) (rest : List ℕ) : Type 0 where
+  pub p : List ℕ
+  pub is : u ≡ p ++ rest
+  pub field : Field c p z
+
+-- a line ends with its line feed
+pub record WrittenLine (u : List ℕ) (zs : List ℤ) (rest : List ℕ) : Type 0 where
+  pub p : List ℕ
+  pub id : ℕ
+  pub row : List ℤ
+  pub is : u ≡ p ++ lineFeed ∷ rest
+  pub unbroken : Free isLineFeed p
+  pub ended : Ended p id row
+  pub numbers : zs ≡ pos id ∷ row
