@@ -1,8 +1,8 @@
 //! Evaluates a sheet of securities with 16 rows each by the reference, by the tuned version and by the proved rules
-//! (the archives of `sheet` and `sheet_answers`) in one process, by turns, and makes the divisions of an evaluation alone. It
-//! prints the time of each, the ratios, the spread over repeats, how the cost grows with the securities and the rows,
-//! and the share of each part. Then it asks why of the evaluations beside evaluating, and takes the root by the proved
-//! code, which does not divide, and by a root that does.
+//! (the archives of `sheet` and `sheet_answers`) in one process, by turns, and makes the divisions of an evaluation
+//! alone. It prints the time of each, the ratios, the spread over repeats, how the cost grows with the securities and
+//! the rows, and the share of each part. Then it asks why of the evaluations beside evaluating, and takes the root by
+//! the proved code, which does not divide, and by a root that does.
 //!
 //!     bench [sides|why|root]          that part alone
 //!     bench alone SIDE ROWS DAYS      one side over 64 securities and no clock, for a counter of instructions

@@ -1,5 +1,5 @@
-// What an evaluation makes of a record (7.1, 10.1, 11.2): the figures at its price with the ranges and the bands of them,
-// and the record that it then writes. Other calls write theirs in `record_writing`.
+// What an evaluation makes of a record (7.1, 10.1, 11.2): the figures at its price with the ranges and the bands of
+// them, and the record that it then writes. Other calls write theirs in `record_writing`.
 ghost use mathlib.Core.Path.{_≡_};
 ghost use Rattle.paper.specs.Lists.{three};
 ghost use Rattle.paper.specs.Ranges.{rateAt};

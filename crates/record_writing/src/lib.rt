@@ -1,5 +1,5 @@
-// What each call but an evaluation writes (`record_figures` has that): the record after an admission, a quote, a move, an
-// opening of the evening or a receipt of outside prices, made anew in one function for each.
+// What each call but an evaluation writes (`record_figures` has that): the record after an admission, a quote, a move,
+// an opening of the evening or a receipt of outside prices, made anew in one function for each.
 ghost use mathlib.Core.Path.{_≡_};
 ghost use mathlib.Core.Bool.{true};
 ghost use Prim.Native.Nat.{_<_};

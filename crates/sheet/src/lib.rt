@@ -1,7 +1,7 @@
-// What the benchmark measures beside the versions in Rust, for Rust to link: one security evaluated day after day by the
-// rule of `record_evaluation`, and the root. Nothing else stands here, so that the rule has one caller: the compiler then
-// makes one function of it, as it does of the tuned version, and copies no record for a call. The table is not part of
-// it, since its records cannot cross to C; the benchmark runs the whole programs besides.
+// What the benchmark measures beside the versions in Rust, for Rust to link: one security evaluated day after day by
+// the rule of `record_evaluation`, and the root. Nothing else stands here, so that the rule has one caller: the compiler
+// then makes one function of it, as it does of the tuned version, and copies no record for a call. The table is not
+// part of it, since its records cannot cross to C; the benchmark runs the whole programs besides.
 ghost use Prim.Native.Nat.{_≤_};
 use paper::ONE_IN_TEN_THOUSANDTHS;
 use sheet_inputs::ADMISSION_NUMBERS;

@@ -1,6 +1,6 @@
-// What the benchmark hands to the proved rules, and what it adds up of a record: one security, read as the evening reads
-// an `admit` and admitted by the rule of `record_admission`, and its days. `sheet` evaluates them, and `sheet_answers`
-// asks the rest of them.
+// What the benchmark hands to the proved rules, and what it adds up of a record: one security, read as the evening
+// reads an `admit` and admitted by the rule of `record_admission`, and its days. `sheet` evaluates them, and
+// `sheet_answers` asks the rest of them.
 use exact::unsigned;
 use paper::Day;
 use paper::Record;

@@ -1,5 +1,5 @@
--- `text_call::notice_of` meets its contract: by the side, a bid, an ask, or a move of no side. What it calls asks nothing
--- of it. Assumes nothing.
+-- `text_call::notice_of` meets its contract: by the side, a bid, an ask, or a move of no side. What it calls asks
+-- nothing of it. Assumes nothing.
 use mathlib.Core.Path.{refl}
 use Rattle.text_protocol.specs.Calls.{noticeCall}
 use Rattle.text_call.proofs.LineCalls.{sent-line, side-line}
