@@ -14,42 +14,24 @@ use crate::sheet::{Security, ADMISSION};
 type OverDays =
     unsafe extern "C" fn(*const [i64; ADMISSION], *const [i64; 6], *const i64, usize, u64) -> u64;
 
+/// Calls of the archives over days, which are all of one shape.
+macro_rules! calls_over_days {
+    ($($call:ident)+) => {
+        extern "C" {
+            $(fn $call(
+                x: *const [i64; ADMISSION],
+                y: *const [i64; 6],
+                rows: *const i64,
+                rows_len: usize,
+                days: u64,
+            ) -> u64;)+
+        }
+    };
+}
+
+calls_over_days!(nedrubal_days nedrubal_answers nedrubal_evaluations nedrubal_whys nedrubal_reads);
+
 extern "C" {
-    fn nedrubal_days(
-        x: *const [i64; ADMISSION],
-        y: *const [i64; 6],
-        rows: *const i64,
-        rows_len: usize,
-        days: u64,
-    ) -> u64;
-    fn nedrubal_answers(
-        x: *const [i64; ADMISSION],
-        y: *const [i64; 6],
-        rows: *const i64,
-        rows_len: usize,
-        days: u64,
-    ) -> u64;
-    fn nedrubal_evaluations(
-        x: *const [i64; ADMISSION],
-        y: *const [i64; 6],
-        rows: *const i64,
-        rows_len: usize,
-        days: u64,
-    ) -> u64;
-    fn nedrubal_whys(
-        x: *const [i64; ADMISSION],
-        y: *const [i64; 6],
-        rows: *const i64,
-        rows_len: usize,
-        days: u64,
-    ) -> u64;
-    fn nedrubal_reads(
-        x: *const [i64; ADMISSION],
-        y: *const [i64; 6],
-        rows: *const i64,
-        rows_len: usize,
-        times: u64,
-    ) -> u64;
     fn nedrubal_root(n: u64) -> u64;
 }
 
