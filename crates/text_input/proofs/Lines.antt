@@ -13,14 +13,16 @@ use borrow.Author.Tests.{eqb-true, eqb-false}
 use Rattle.paper.specs.Lists.{pick}
 use Rattle.text_protocol.specs.Bytes.{lineFeed, isNot, run, room}
 use Rattle.text_protocol.specs.Line.{meaning, keptMost, longest}
+use Rattle.text_evidence.specs.declared.Delivered.{Delivered}
+use Rattle.text_evidence.specs.Evidence.{countMost, counted, hasEnded, Counted, counted-none, counted-on}
 use Rattle.text_line.specs.declared.Line.{Line}
 use Rattle.text_line.specs.Heard.{badLine, Heard as Said}
 use Rattle.text_line.proofs.Turns.{long-line}
 use Rattle.text_input.specs.declared.Input.{Input}
 use Rattle.text_input.specs.declared.Passed.{Passed}
 use Rattle.text_input.specs.declared.Heard.{Heard}
-use Rattle.text_input.specs.Input.{lineLength, Unbroken, unread, Stands, Ends, Next, Passes, Readied, LongPassed}
-use Rattle.text_input.specs.Input.{Hears}
+use Rattle.text_input.specs.Input.{lineLength, Unbroken, unread, Stands, Over, Ends, Next, Passes, Readied, LongPassed}
+use Rattle.paper.proofs.Logic.{not-true-and-false}
 use Rattle.text_input.proofs.Turns.{unbroken-both, drop-take, line-le}
 
 -- ---- the first line feed of a text
@@ -63,10 +65,10 @@ line-split t h =
     rw (run-ends t h) at s
 
 -- nothing stands between a place and itself
-pub empty-end : (b : List ℕ) (n : ℕ) (ok : Bool)
-    → n ≡ n + lineLength (unread b (record { at = n; end = n; len = n; left = 0; ok = ok }))
+pub empty-end : (b : List ℕ) (n : ℕ) (read : Delivered)
+    → n ≡ n + lineLength (unread b (record { at = n; end = n; len = n; left = 0; read = read }))
 unfolding lineLength unread run
-empty-end b n ok = let e : n - n ≡ zero = omega arith in rw e (omega arith)
+empty-end b n read = let e : n - n ≡ zero = omega arith in rw e (omega arith)
 
 -- what stands behind a place
 pub unread-behind : (b : List ℕ) (r : Input) (at len : ℕ) → r .at ≡ at → r .len ≡ len → drop at (take len b) ≡ unread b
@@ -89,8 +91,8 @@ module _ (b : List ℕ) (i : Input) (p : Stands b i) where
   unfolding unread
   part = take-take (i .end - i .at) (i .len - i .at) (drop (i .at) b) (omega (arith, p .high))
 
-  module _ (r : Input) (at : r .at ≡ i .end + 1) (len : r .len ≡ i .len) (left : r .left ≡ i .left - 1) (s : Stands b
-      r) (h : i .end < i .len) where
+  module _ (r : Input) (at : r .at ≡ i .end + 1) (len : r .len ≡ i .len) (left : r .left ≡ i .left - 1)
+      (same : r .read ≡ i .read) (s : Stands b r) (h : i .end < i .len) where
     rest : drop (suc (i .end - i .at)) (unread b i) ≡ unread b r
     unfolding unread
     rest =
@@ -108,6 +110,7 @@ module _ (b : List ℕ) (i : Input) (p : Stands b i) where
         line-split (unread b i) o in
         record {
           got = [];
+          count = rw same (counted-none (i .read .all));
           unbroken = rw (first, part) at u;
           are = inl (append-nil (unread b i) ∙ (rw (first, part, rest) at e), left);
           stands = s;
@@ -123,41 +126,44 @@ module _ (b : List ℕ) (i : Input) (p : Stands b i) where
     unbroken-all : Unbroken (unread b i)
     unbroken-all = omega (arith, first, size, p .high)
 
-    pub next-last : (r : Input) (ok : Bool) → r ≡ record { at = i .len; end = i .len; len = i .len; left = 0; ok = ok }
+    pub next-last : (r : Input) → hasEnded (i .read) ≡ true
+        → r ≡ record { at = i .len; end = i .len; len = i .len; left = 0; read = i .read }
         → Next b i b r (take (i .end - i .at) (drop (i .at) b))
-    next-last r ok e =
+    next-last r ended e =
         rw (whole, e)
         (record {
           got = [];
+          count = counted-none (i .read .all);
           unbroken = unbroken-all;
           are = inr (append-nil (unread b i), over);
           stands = nothing-left;
         })
       where
         -- the line is all that stood in the buffer from `at` on
-        over : Ends b (record { at = i .len; end = i .len; len = i .len; left = 0; ok = ok }) (unread b i)
+        over : Ends b (record { at = i .len; end = i .len; len = i .len; left = 0; read = i .read }) (unread b i)
         over =
             record {
+              over = inl ended;
               none = refl;
               used = refl;
               from = i .at;
               last = inl (sym (unread-behind b i (i .at) (i .len) refl refl));
             }
 
-        nothing-left : Stands b (record { at = i .len; end = i .len; len = i .len; left = 0; ok = ok })
+        nothing-left : Stands b (record { at = i .len; end = i .len; len = i .len; left = 0; read = i .read })
         nothing-left =
             record {
               low = omega arith;
               high = omega arith;
               in-b = p .in-b;
               long = p .long;
-              is = empty-end b (i .len)
-                  ok;
+              is = empty-end b (i .len) (i .read);
             }
 
     -- ---- a line that is longer than the buffer
 
-    module _ (z : i .at ≡ 0) (o : longest < i .len) (b' : List ℕ) (r : Input) (q : LongPassed b' (i .left) r) where
+    module _ (z : i .at ≡ 0) (o : longest < i .len) (b' : List ℕ) (r : Input)
+        (q : LongPassed (i .read) b' (i .left) r) where
       abbrev long : List ℕ
       long = unread b i ++ q .rest
 
@@ -168,15 +174,24 @@ module _ (b : List ℕ) (i : Input) (p : Stands b i) where
       next-long =
           record {
             got = q .got;
+            count = q .count;
             unbroken = unbroken-both (unread b i) (q .rest) unbroken-all (q .unbroken);
             are =
                 ⊎-elim
                 (λ e. inl (more (e .0) ∙ sym (append-assoc (unread b i) (q .rest) (lineFeed ∷ unread b' r)), e .1))
-                (λ e. inr (more (e .0), record { none = e .1; used = e .2; from = 0; last = inr long-size }))
+                (λ e. inr (more (e .0), ends (e .1) (e .2) (e .3)))
                 (q .are);
             stands = q .stands;
           }
         where
+          ends : r .left ≡ 0 → r .at ≡ r .len → Over (r .read) (q .rest) → Ends b' r long
+          ends none used over =
+              record { over = longer over; none = none; used = used; from = 0; last = inr long-size }
+            where
+              longer : Over (r .read) (q .rest) → Over (r .read) long
+              longer (inl e) = inl e
+              longer (inr k) = inr (omega (arith, k, length-append (unread b i) (q .rest)))
+
           more : {t : List ℕ} → q .got ≡ t → unread b i ++ q .got ≡ unread b i ++ t
           more e = ap (λ (t : List ℕ). unread b i ++ t) e
 
@@ -192,52 +207,63 @@ next-readied {b} {s} {b'} {i} {b''} {r} {line} p q =
     sym (append-assoc (unread b s) (p .got) (q .got)) ∙ ap (λ (t : List ℕ). t ++ q .got) (p .are) in
     record {
       got = p .got ++ q .got;
+      count = rw (length-append (p .got) (q .got)) (counted-on _ _ _ _ _ (p .count) (q .count));
       unbroken = q .unbroken;
       are = ⊎-elim (λ f. inl (e ∙ f .0, omega (arith, f .1, p .left))) (λ f. inr (e ∙ f .0, f .1)) (q .are);
       stands = q .stands;
     }
 
--- where no line is whole, what is delivered stands at the front
-pub at-front : (end len at : ℕ) → (end < len) ⊎ (at ≡ 0) → len ≤ end → at ≡ 0
-at-front end len at p h = ⊎-elim (λ k. never k) (λ e. e) p
+-- where no line is whole, what is delivered stands at the front, and the buffer is full or the input has ended
+pub at-front : {A : Type 0} (end len : ℕ) → (end < len) ⊎ A → len ≤ end → A
+at-front {A} end len p h = ⊎-elim (λ k. never k) (λ e. e) p
   where
-    never : end < len → at ≡ 0
+    never : end < len → A
+    never k = let z : ⊥ = omega arith in absurd z
+
+-- where the buffer is not full, the input has ended
+pub not-full : {A : Type 0} (len : ℕ) → (room ≤ len) ⊎ A → len ≤ longest → A
+not-full {A} len p h = ⊎-elim (λ k. never k) (λ e. e) p
+  where
+    never : room ≤ len → A
     never k = let z : ⊥ = omega arith in absurd z
 
 -- ---- behind a line that is longer than the buffer
 
-module _ (b : List ℕ) (p : Passed) (q : Passes b p) (left : ℕ) (r : Input) where
-  pub long-ended : (ok : Bool) → r ≡ record { at = p .len; end = p .len; len = p .len; left = 0; ok = ok } → LongPassed
-      b left r
-  long-ended ok e =
+module _ (was : Delivered) (b : List ℕ) (p : Passed) (q : Passes was b p) (left : ℕ) (r : Input) where
+  pub long-ended : p .ended ≡ true
+      → r ≡ record { at = p .len; end = p .len; len = p .len; left = 0; read = p .read } → LongPassed was b left r
+  long-ended over-now e =
       rw e
       (record {
         rest = q .before;
         unbroken = q .unbroken;
         got = q .before;
-        are = inr (refl, refl, refl);
+        count = rw none at (q .count);
+        are = inr (refl, refl, refl, over .1);
         stands = standing;
       })
     where
-      standing : Stands b (record { at = p .len; end = p .len; len = p .len; left = 0; ok = ok })
+      over : (p .len ≡ 0) × Over (p .read) (q .before)
+      over = ⊎-elim (λ e. (e .1, e .2)) (λ e. absurd (not-true-and-false (p .ended) over-now (e .0))) (q .is)
+
+      none : length (q .before) + p .len ≡ length (q .before)
+      none = omega (arith, over .0)
+
+      standing : Stands b (record { at = p .len; end = p .len; len = p .len; left = 0; read = p .read })
       standing = record {
         low = omega arith;
         high = omega arith;
         in-b = q .in-b;
         long = q .long;
-        is = empty-end b (p .len) ok;
+        is = empty-end b (p .len) (p .read);
       }
 
-  module _ (no : p .ended ≡ false) (at : r .at ≡ p .at) (len : r .len ≡ p .len) (fewer : r .left ≡ left - 1) (s :
-      Stands b r) where
+  module _ (no : p .ended ≡ false) (at : r .at ≡ p .at) (len : r .len ≡ p .len) (fewer : r .left ≡ left - 1)
+      (same : r .read ≡ p .read) (s : Stands b r) where
     found : (p .at ≡ lineLength (take (p .len) b) + 1) × (lineLength (take (p .len) b) < p .len)
-    found = ⊎-elim (λ e. let z : _≡_ {A = ℕ} 0 1 = apart e in let y : ⊥ = omega arith in absurd y) (λ e. (e .1, e .2))
-        (q .is)
-      where
-        apart : p .ended ≡ true → _≡_ {A = ℕ} 0 1
-        apart e = cc
+    found = ⊎-elim (λ e. absurd (not-true-and-false (p .ended) (e .0) no)) (λ e. (e .1, e .2)) (q .is)
 
-    pub long-found : LongPassed b left r
+    pub long-found : LongPassed was b left r
     long-found =
         let t : List ℕ = take (p .len) b in
         let o : length t ≡ p .len = length-take-le (p .len) b (omega (arith, q .in-b, q .long)) in
@@ -248,6 +274,7 @@ module _ (b : List ℕ) (p : Passed) (q : Passes b p) (left : ℕ) (r : Input) w
           rest = q .before ++ take (lineLength t) t;
           unbroken = unbroken-both (q .before) (take (lineLength t) t) (q .unbroken) (line-unbroken t);
           got = q .before ++ t;
+          count = rw (same, length-append (q .before) t, o) (q .count);
           are =
               inl (
                 ap (λ (x : List ℕ). q .before ++ x) (u ∙ rw v)

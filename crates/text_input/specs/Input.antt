@@ -9,6 +9,8 @@ use lib.ListN.{length, take, drop}
 use Rattle.text_protocol.specs.Bytes.{room, lineFeed, isNot, run}
 use Rattle.text_protocol.specs.Line.{meaning}
 use Rattle.text_line.specs.Heard.{Heard as Said}
+use Rattle.text_evidence.specs.declared.Delivered.{Delivered}
+use Rattle.text_evidence.specs.Evidence.{countMost, hasEnded, Counted}
 use Rattle.text_input.specs.declared.Input.{Input}
 use Rattle.text_input.specs.declared.Waited.{Waited}
 use Rattle.text_input.specs.declared.Passed.{Passed}
@@ -34,18 +36,25 @@ pub record Stands (b : List ℕ) (s : Input) : Type 0 where
   pub long : length b ≡ room
   pub is : s .end ≡ s .at + lineLength (unread b s)
 
--- NOTHING MORE IS DELIVERED: no line is left to hear, every byte of the buffer is used, and its last bytes are the
+-- NOTHING MORE IS DELIVERED, by the evidence: room was offered, and nothing came. Or so many reads were spent on this one
+-- line that no count is left
+abbrev pub Over : Delivered → (line : List ℕ) → Type 0
+Over d line = (hasEnded d ≡ true) ⊎ (countMost ≤ length line)
+
+-- the input behind its last line: no line is left to hear, every byte of the buffer is used, and its last bytes are the
 -- line, unless the line fills the buffer
 pub record Ends (b' : List ℕ) (r : Input) (line : List ℕ) : Type 0 where
+  pub over : Over (r .read) line
   pub none : r .left ≡ 0
   pub used : r .at ≡ r .len
   pub from : ℕ
   pub last : (line ≡ drop from (take (r .len) b')) ⊎ (room ≤ length line)
 
--- THE NEXT LINE, whatever pieces `read` delivers it in: `got` is what it delivered. Behind the line stands a line
--- feed, and one line fewer is left to hear; or the input has ended
+-- THE NEXT LINE, whatever pieces `read` delivers it in: `got` is what it delivered, as much as it says. Behind the line
+-- stands a line feed, and one line fewer is left to hear; or the input has ended
 pub record Next (b : List ℕ) (s : Input) (b' : List ℕ) (r : Input) (line : List ℕ) : Type 0 where
   pub got : List ℕ
+  pub count : Counted (s .read .all) (length got) (r .read .all)
   pub unbroken : Unbroken line
   pub are : ((unread b s ++ got ≡ line ++ lineFeed ∷ unread b' r) × (r .left ≡ s .left - 1))
       ⊎ ((unread b s ++ got ≡ line) × Ends b' r line)
@@ -55,39 +64,44 @@ pub record Next (b : List ℕ) (s : Input) (b' : List ℕ) (r : Input) (line : L
 
 -- `got` is delivered behind the first `have` bytes, until there is a line feed, the buffer is full or the input has
 -- ended
-pub record Waits (b : List ℕ) (have : ℕ) (b' : List ℕ) (r : Waited) : Type 0 where
+pub record Waits (b : List ℕ) (have : ℕ) (before : Delivered) (b' : List ℕ) (r : Waited) : Type 0 where
   pub got : List ℕ
   pub are : take (r .len) b' ≡ take have b ++ got
+  pub count : Counted (before .all) (length got) (r .read .all)
   pub in-b : r .len ≤ room
   pub long : length b' ≡ room
   pub is : r .end ≡ lineLength (take (r .len) b')
+  pub until : (r .end < r .len) ⊎ ((room ≤ r .len) ⊎ (hasEnded (r .read) ≡ true))
 
 -- the rest of a line is passed over: the pieces `before` of it, which have no line feed, and then what stands before
 -- `at`; or the input has ended
-pub record Passes (b' : List ℕ) (r : Passed) : Type 0 where
+pub record Passes (was : Delivered) (b' : List ℕ) (r : Passed) : Type 0 where
   pub before : List ℕ
   pub unbroken : Unbroken before
   pub low : r .at ≤ r .len
   pub in-b : r .len ≤ room
   pub long : length b' ≡ room
-  pub is : (r .ended ≡ true) ⊎ ((r .ended ≡ false) × (r .at ≡ lineLength (take (r .len) b') + 1) × (lineLength (take (r
-      .len) b') < r .len))
+  pub count : Counted (was .all) (length before + r .len) (r .read .all)
+  pub is : ((r .ended ≡ true) × (r .len ≡ 0) × Over (r .read) before)
+      ⊎ ((r .ended ≡ false) × (r .at ≡ lineLength (take (r .len) b') + 1) × (lineLength (take (r .len) b') < r .len))
 
 -- more is delivered, so that a line is whole, or the buffer is full, or the input has ended
 pub record Readied (b : List ℕ) (s : Input) (b' : List ℕ) (r : Input) : Type 0 where
   pub got : List ℕ
   pub are : unread b s ++ got ≡ unread b' r
+  pub count : Counted (s .read .all) (length got) (r .read .all)
   pub stands : Stands b' r
   pub left : r .left ≡ s .left
-  pub front : (r .end < r .len) ⊎ (r .at ≡ 0)
+  pub front : (r .end < r .len) ⊎ ((r .at ≡ 0) × ((room ≤ r .len) ⊎ (hasEnded (r .read) ≡ true)))
 
 -- the input behind a line that is longer than the buffer: `rest` of it is passed over
-pub record LongPassed (b' : List ℕ) (left : ℕ) (r : Input) : Type 0 where
+pub record LongPassed (was : Delivered) (b' : List ℕ) (left : ℕ) (r : Input) : Type 0 where
   pub rest : List ℕ
   pub unbroken : Unbroken rest
   pub got : List ℕ
+  pub count : Counted (was .all) (length got) (r .read .all)
   pub are : ((got ≡ rest ++ lineFeed ∷ unread b' r) × (r .left ≡ left - 1))
-      ⊎ ((got ≡ rest) × (r .left ≡ 0) × (r .at ≡ r .len))
+      ⊎ ((got ≡ rest) × (r .left ≡ 0) × (r .at ≡ r .len) × Over (r .read) rest)
   pub stands : Stands b' r
 
 -- THE LINE THAT IS HEARD is what the definition says of its bytes

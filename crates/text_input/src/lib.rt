@@ -6,7 +6,8 @@ ghost use lib.ListN.{length, take, drop};
 ghost use Rattle.text_input.specs.Input.{Stands, Waits, Unbroken, Passes, Readied, LongPassed, Hears};
 ghost use Rattle.text_protocol.specs.Bytes.{room};
 ghost use Rattle.text_protocol.specs.Line.{keptMost};
-use libc::STDIN_FILENO;
+use text_evidence::Delivered;
+use text_evidence::fill;
 use text_line::LONGEST;
 use text_line::Line;
 use text_line::bad;
@@ -14,21 +15,21 @@ use text_line::read_line;
 use text_word::find;
 
 // The bytes of the buffer from `at` to `len` are delivered and not used. The next line ends at `end`, or no line is
-// whole and `end` is `len`. So many lines
-// may be heard as `left` says, none at the end of the input; and `ok` says whether every read went well.
+// whole and `end` is `len`. So many lines may be heard as `left` says, none at the end of the input; and `read` is the
+// evidence of what was delivered.
 pub struct Input {
     pub at: usize,
     pub end: usize,
     pub len: usize,
     pub left: u64,
-    pub ok: bool,
+    pub read: Delivered,
 }
 
 // What waiting led to: where the bytes end, and where their first line feed stands.
 pub struct Waited {
     pub len: usize,
     pub end: usize,
-    pub ok: bool,
+    pub read: Delivered,
 }
 
 // What passing over the rest of a line led to.
@@ -36,7 +37,7 @@ pub struct Passed {
     pub at: usize,
     pub len: usize,
     pub ended: bool,
-    pub ok: bool,
+    pub read: Delivered,
 }
 
 // The bytes from `from` to `to`, moved to the front.
@@ -54,52 +55,38 @@ pub fn shift(buf: &mut [u8], from: usize, to: usize) -> usize
     n
 }
 
-// What one read put into the buffer: where the bytes end now.
-pub struct Got {
-    pub ok: bool,
-    pub end: usize,
-}
-
-pub fn fill(buf: &mut [u8], have: usize) -> Got
-    requires { ⌜ have ≤ length (now buf) ⌝ }
-    ensures { λ r. ⌜ (length (now (buf .exit)) ≡ length (now (buf .entry))) × (take have (now (buf .exit)) ≡ take
-        have (now (buf .entry))) × (have ≤ r .end) × (r .end ≤ length (now (buf .entry))) ⌝ }
-{
-    let got = libc::read(STDIN_FILENO, &mut buf[have..]);
-    if got < 0 {
-        return Got {
-            ok: false,
-            end: have,
-        };
-    }
-    let more = io::count(got, &buf[have..]);
-    Got {
-        ok: true,
-        end: have + more,
-    }
-}
-
 // Reads until a line feed stands behind the first `have` bytes, which have none, or the buffer is full, or the input
 // has ended.
-fn wait(buf: &mut [u8], have: usize) -> Waited
+fn wait(buf: &mut [u8], have: usize, before: Delivered) -> Waited
     requires { ⌜ (length (now buf) ≡ room) × (have ≤ room) × Unbroken (take have (now buf)) ⌝ }
-    ensures { λ r. ⌜ Waits (now (buf .entry)) have (now (buf .exit)) r ⌝ }
+    ensures { λ r. ⌜ Waits (now (buf .entry)) have before (now (buf .exit)) r ⌝ }
 {
     let mut len = have;
-    let mut ok = true;
+    let mut read = before;
     loop {
         if len == buf.len() {
-            return Waited { len, end: len, ok };
+            return Waited {
+                len,
+                end: len,
+                read,
+            };
         }
-        let g = fill(buf, len);
-        let n = g.end;
-        ok = g.ok;
+        read = fill(buf, len, read);
+        let n = len + read.came();
         if n == len {
-            return Waited { len, end: len, ok };
+            return Waited {
+                len,
+                end: len,
+                read,
+            };
         }
         let e = find(&buf[..n], len, b'\n');
         if e < n {
-            return Waited { len: n, end: e, ok };
+            return Waited {
+                len: n,
+                end: e,
+                read,
+            };
         }
         len = n;
     }
@@ -107,22 +94,22 @@ fn wait(buf: &mut [u8], have: usize) -> Waited
 
 // Passes over the rest of a line that is longer than the buffer. Nothing says that it ends, so the reads are counted
 // down from a number that no run uses up.
-fn pass_over(buf: &mut [u8]) -> Passed
+fn pass_over(buf: &mut [u8], before: Delivered) -> Passed
     requires { ⌜ length (now buf) ≡ room ⌝ }
-    ensures { λ r. ⌜ Passes (now (buf .exit)) r ⌝ }
+    ensures { λ r. ⌜ Passes before (now (buf .exit)) r ⌝ }
 {
     let mut turns = u64::MAX;
+    let mut read = before;
     while 0 < turns {
         turns -= 1;
-        let g = fill(buf, 0);
-        let n = g.end;
-        let ok = g.ok;
+        read = fill(buf, 0, read);
+        let n = read.came();
         if n == 0 {
             return Passed {
                 at: 0,
                 len: 0,
                 ended: true,
-                ok,
+                read,
             };
         }
         let e = find(&buf[..n], 0, b'\n');
@@ -131,7 +118,7 @@ fn pass_over(buf: &mut [u8]) -> Passed
                 at: e + 1,
                 len: n,
                 ended: false,
-                ok,
+                read,
             };
         }
     }
@@ -139,7 +126,7 @@ fn pass_over(buf: &mut [u8]) -> Passed
         at: 0,
         len: 0,
         ended: true,
-        ok: false,
+        read,
     }
 }
 
@@ -154,13 +141,15 @@ fn ready(buf: &mut [u8], s: Input) -> Input
         return s;
     }
     let n = shift(buf, at, len);
-    let w = wait(buf, n);
+    let before = s.read;
+    let w = wait(buf, n, before);
+    let read = w.read;
     Input {
         at: 0,
         end: w.end,
         len: w.len,
         left: s.left,
-        ok: w.ok,
+        read,
     }
 }
 
@@ -174,9 +163,10 @@ fn one_less(n: u64) -> u64
 }
 
 // The input from `at` on, with a line fewer to hear.
-fn from_place(buf: &[u8], at: usize, len: usize, left: u64, ok: bool) -> Input
+fn from_place(buf: &[u8], at: usize, len: usize, left: u64, read: Delivered) -> Input
     requires { ⌜ (at ≤ len) × (len ≤ room) × (length (now buf) ≡ room) ⌝ }
-    ensures { λ r. ⌜ (r .at ≡ at) × (r .len ≡ len) × (r .left ≡ left - 1) × Stands (now (buf .entry)) r ⌝ }
+    ensures { λ r. ⌜ (r .at ≡ at) × (r .len ≡ len) × (r .left ≡ left - 1) × (r .read ≡ read)
+        × Stands (now (buf .entry)) r ⌝ }
 {
     let end = find(&buf[..len], at, b'\n');
     Input {
@@ -184,20 +174,20 @@ fn from_place(buf: &[u8], at: usize, len: usize, left: u64, ok: bool) -> Input
         end,
         len,
         left: one_less(left),
-        ok,
+        read,
     }
 }
 
 // The input where it has ended: nothing is left of it.
-fn ended(len: usize, ok: bool) -> Input
-    ensures { λ r. ⌜ r ≡ record { at = len; end = len; len = len; left = 0; ok = ok } ⌝ }
+fn ended(len: usize, read: Delivered) -> Input
+    ensures { λ r. ⌜ r ≡ record { at = len; end = len; len = len; left = 0; read = read } ⌝ }
 {
     Input {
         at: len,
         end: len,
         len,
         left: 0,
-        ok,
+        read,
     }
 }
 
@@ -208,16 +198,17 @@ pub struct Heard {
 }
 
 // The input behind a line that is longer than the buffer.
-fn behind_long(buf: &mut [u8], left: u64) -> Input
+fn behind_long(buf: &mut [u8], left: u64, before: Delivered) -> Input
     requires { ⌜ length (now buf) ≡ room ⌝ }
-    ensures { λ r. ⌜ LongPassed (now (buf .exit)) left r ⌝ }
+    ensures { λ r. ⌜ LongPassed before (now (buf .exit)) left r ⌝ }
 {
-    let p = pass_over(buf);
+    let p = pass_over(buf, before);
     let over = p.ended;
+    let read = p.read;
     if over {
-        return ended(p.len, p.ok);
+        return ended(p.len, read);
     }
-    from_place(buf, p.at, p.len, left, p.ok)
+    from_place(buf, p.at, p.len, left, read)
 }
 
 // The next line. Where no line is whole, the input is waited for.
@@ -230,18 +221,18 @@ pub fn hear(buf: &mut [u8], xs: &mut [i64], s: Input) -> Heard
     let end = i.end;
     let len = i.len;
     let left = i.left;
-    let ok = i.ok;
+    let read = i.read;
     if end < len {
         let line = read_line(&buf[at..end], xs);
         let next = end + 1;
-        let input = from_place(buf, next, len, left, ok);
+        let input = from_place(buf, next, len, left, read);
         return Heard { input, line };
     }
     if LONGEST < len {
-        let input = behind_long(buf, left);
+        let input = behind_long(buf, left, read);
         return Heard { input, line: bad() };
     }
     let line = read_line(&buf[at..end], xs);
-    let input = ended(len, ok);
+    let input = ended(len, read);
     Heard { input, line }
 }

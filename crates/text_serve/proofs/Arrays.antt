@@ -30,6 +30,7 @@ use Rattle.text_evening.proofs.Telling as E
 use Rattle.text_evening.proofs.Telling.Laws as E′
 use Rattle.text_protocol.proofs.Kept.Laws as K′
 use Rattle.text_call.proofs.Request.Laws as R′
+use Rattle.text_evidence.proofs.Written.Laws as V′
 use Rattle.text_input.proofs.Input.Laws as I′
 use Rattle.text_turn.specs.declared.State.{State}
 use Rattle.text_turn.specs.declared.Prepared.{Prepared}
@@ -75,11 +76,11 @@ telling-is Messages = EL.owes E.the-type E′.the-laws Messages tt
 
 -- their machine types, with the types of their fields by name
 abbrev pub state-ty : Ty
-state-ty = tyStruct (G.struct .name) (tcons I′.mir (tcons (tyInt w64) (tcons K′.mir (tcons (tyInt w64) (tcons tyBool
+state-ty = tyStruct (G.struct .name) (tcons I′.mir (tcons (tyInt w64) (tcons K′.mir (tcons (tyInt w64) (tcons V′.mir
     (tcons E′.mir tnil))))))
 
 abbrev pub heard-ty : Ty
-heard-ty = tyStruct (P.struct .name) (tcons I′.mir (tcons (tyInt w64) (tcons K′.mir (tcons (tyInt w64) (tcons tyBool
+heard-ty = tyStruct (P.struct .name) (tcons I′.mir (tcons (tyInt w64) (tcons K′.mir (tcons (tyInt w64) (tcons V′.mir
     (tcons (tyInt w64) (tcons (tyInt w64)
     (tcons R′.mir (tcons B′.mir (tcons E′.mir (tcons tyBool tnil)))))))))))
 

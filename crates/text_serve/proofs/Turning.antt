@@ -26,7 +26,8 @@ use Rattle.text_turn.specs.declared.State.{State}
 use Rattle.text_turn.specs.declared.Prepared.{Prepared}
 use Rattle.text_deed.specs.Deeds.{callIn, lineText, Said}
 use Rattle.text_turn.specs.Turn.{Prepares}
-use Rattle.text_tell.specs.Tells.{Tells}
+use Rattle.text_evidence.specs.declared.Written.{Written}
+use Rattle.text_tell.specs.Tells.{Goes, Tells}
 use Rattle.text_ask.specs.Asked.{Asks}
 use Rattle.text_serve.specs.Serve.{eveningOf, Turns}
 use Rattle.text_protocol.specs.Names.{evaluateCount}
@@ -92,10 +93,11 @@ module _ {b : List ℕ} {s : State} {b' : List ℕ} {p : Prepared} {xs rows : Li
         line = heard .line;
         behind = p .input;
         next = heard .next;
-        goes-on = told .goes-on;
         evening = evening-is;
+        end = told .end;
+        wrote = wrote;
+        goes = subst (λ (w : Written). Goes (p .input) w (told .end) r) (heard .told) (told .goes);
         telling = told .telling ∙ heard .telling;
-        answers = record { end = told .end; wrote = wrote; waits = told .waits };
         room = told .room;
         prompt = told .prompt;
         last = told .last;

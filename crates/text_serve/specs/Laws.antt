@@ -15,9 +15,12 @@ use Rattle.text_protocol.specs.Line.{meaning, called}
 use Rattle.text_protocol.specs.Calls.{deedOf}
 use Rattle.text_evening.specs.Evening.{Evening, tableAfter, after, afterAll}
 use Rattle.paper.specs.declared.Record.{Record}
+use Rattle.text_evidence.specs.declared.Delivered.{Delivered}
+use Rattle.text_evidence.specs.declared.Written.{Written}
+use Rattle.text_evidence.specs.Evidence.{tookAll}
 use Rattle.text_turn.specs.declared.State.{State}
 use Rattle.text_turn.specs.Turn.{startState}
-use Rattle.text_input.specs.Input.{lineLength, Unbroken}
+use Rattle.text_input.specs.Input.{lineLength, Unbroken, Over}
 use Rattle.text_serve.specs.Serve.{eveningOf, Each, joined, mostLines, Cut, Serves}
 
 -- a byte of a line that has no line feed is none, and the rest of the line has none
@@ -48,21 +51,22 @@ pieces-are [] u e = no-feed u (e .0)
 pieces-are (l ∷ ls) u e = line-first l (joined ls u) (e .0) ∙ ap (λ (z : List (List ℕ)). l ∷ z) (pieces-are ls u (e .1))
 
 -- WHERE ALL WENT WELL and fewer lines were served than a run may have, they are the pieces of all that was delivered
-pub served-pieces : {got : List ℕ} {lines : List (List ℕ)} {ok : Bool} → Cut got lines ok → ok ≡ true
-    → length lines < mostLines → lines ≡ pieces isLineFeed got
-served-pieces {got} {lines} {ok} c well few = every (c .heard)
+pub served-pieces : {got : List ℕ} {lines : List (List ℕ)} {read : Delivered} {told : Written}
+    → Cut got lines read told → tookAll told ≡ true → length lines < mostLines → lines ≡ pieces isLineFeed got
+served-pieces {got} {lines} {read} {told} c well few = every (c .heard)
   where
     all-of : lines ≡ c .whole ++ c .behind ∷ [] → lines ≡ pieces isLineFeed got
     all-of e =
         e ∙ sym (ap (pieces isLineFeed) (c .are) ∙ pieces-are (c .whole) (c .behind) (subst Each e (c .unbroken)))
 
-    never : (ok ≡ false) ⊎ (length lines ≡ mostLines) → ⊥
+    never : (tookAll told ≡ false) ⊎ (length lines ≡ mostLines) → ⊥
     never (inl e) = let z : _≡_ {A = ℕ} 0 1 = cc in omega arith
     never (inr e) = omega (arith, few, e)
 
-    every : (lines ≡ c .whole ++ c .behind ∷ []) ⊎ ((lines ≡ c .whole) × ((ok ≡ false) ⊎ (length lines ≡ mostLines)))
+    every : ((lines ≡ c .whole ++ c .behind ∷ []) × Over read (c .behind))
+        ⊎ ((lines ≡ c .whole) × ((tookAll told ≡ false) ⊎ (length lines ≡ mostLines)))
         → lines ≡ pieces isLineFeed got
-    every (inl e) = all-of e
+    every (inl e) = all-of (e .0)
     every (inr e) = absurd (never (e .1))
 
 -- an empty line changes no table
@@ -81,7 +85,7 @@ ended-table ((b ∷ p) ∷ q ∷ ps) e = ended-table (q ∷ ps) (after (b ∷ p)
 
 -- AND THE TABLE AT THE END IS THE TABLE AFTER THE LINES OF ALL THAT WAS DELIVERED
 pub served-table : {telling : Telling} {t : List Record} {r : State} {t' : List Record} (s : Serves telling t r t')
-    → r .ok ≡ true → length (s .lines) < mostLines
+    → tookAll (r .told) ≡ true → length (s .lines) < mostLines
     → t' ≡ afterAll (lines (s .got)) (eveningOf (startState telling) t) .table
 unfolding lines
 served-table {telling} {t} {r} {t'} s well few =

@@ -64,7 +64,7 @@ fn no_numbers() -> [i64; KEPT]
     [0; KEPT]
 }
 
-// Every line of standard input, told in one way. The state at the end says whether every read and write went well.
+// Every line of standard input, told in one way. The state at the end has the evidence of what was read and written.
 pub fn serve(t: &mut [Record], telling: Telling) -> State
     ensures { λ r. ⌜ Serves telling (now (t .entry)) r (now (t .exit)) ⌝ }
 {
@@ -86,10 +86,12 @@ pub fn fresh() -> [Record; Record::SLOTS_MOST]
     [e; Record::SLOTS_MOST]
 }
 
-// Says on standard error where a read or a write failed.
+// Says on standard error where a read or a write failed, or the input has not ended.
 fn report(s: State) {
+    let told = s.told;
     let input = s.input;
-    if s.ok & input.ok {
+    let read = input.read;
+    if told.took_all() & read.is_well() {
         return;
     }
     let telling = s.telling;

@@ -1,15 +1,11 @@
 -- What the two ways out of `tell` need, on plain values. Assumes nothing.
 use mathlib.Core.Path.{_≡_}
-use mathlib.Core.Logic.{_⊎_, inl, inr}
-use mathlib.Core.Bool.{Bool, true, false, _&&_, and-false}
+use mathlib.Core.Bool.{true, false}
 use Prim.Native.Nat.{ℕ, _+_, _≤_, _<_}
 use native.Mathlib.Nat.{pos-of-ne-zero}
 use native.Mathlib.Omega.{arith}
 use lib.Dec.{ltb}
 use borrow.Author.Tests.{ltb-false}
-use Rattle.paper.specs.Lists.{pick}
-use Rattle.text_input.specs.declared.Input.{Input}
-use Rattle.text_tell.specs.Tells.{halted}
 use Rattle.text_protocol.specs.Answers.{answerMost, waitingMost}
 use Rattle.text_protocol.specs.Bytes.{room}
 
@@ -19,12 +15,6 @@ not-due n end len left s h e = let k : n ≤ waitingMost = ltb-false waitingMost
 
 pub always-due : {A : Type 0} → true ≡ false → A
 always-due e = let z : _≡_ {A = ℕ} 0 1 = cc in let y : ⊥ = omega arith in absurd y
-
--- the input goes on where all was taken, and is over where it was not: then `ok` is false
-pub goes-on : (ok taken : Bool) {i r : Input} → r ≡ pick taken i (halted i)
-    → (r ≡ i) ⊎ (((ok && taken) ≡ false) × (r ≡ halted i))
-goes-on ok true e = inl e
-goes-on ok false e = inr (and-false ok, e)
 
 -- answers wait only where a line is whole and one is left to hear
 pub a-line-is-whole : {A : Type 0} {end len : ℕ} → end < len → len ≤ end → A

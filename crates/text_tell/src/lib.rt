@@ -1,5 +1,5 @@
 // The second half of a turn, after the table is asked: the answer is told. It waits with those before it until they are
-// due, and all that wait are then handed to `write`.
+// due, and all that wait are then handed to `write`, with its evidence.
 ghost use mathlib.Core.Path.{_≡_};
 ghost use mathlib.Core.Bool.{false};
 ghost use Prim.Native.Nat.{_+_, _≤_, _<_};
@@ -9,32 +9,14 @@ ghost use Rattle.text_protocol.specs.Bytes.{room};
 ghost use Rattle.text_protocol.specs.Answers.{answerMost};
 ghost use Rattle.text_evening.specs.Evening.{numberAfter};
 ghost use Rattle.text_tell.specs.Tells.{halted, Tells};
-use libc::STDOUT_FILENO;
 use text_deed::say;
+use text_evidence::hand;
 use text_input::Input;
 use text_protocol::Performed;
 use text_protocol::ROOM;
 use text_protocol::WAITING_MOST;
 use text_turn::Prepared;
 use text_turn::State;
-
-// Hands the first n bytes of the answers to `write`, and says how many of them it took, by C's answers: all of them,
-// unless a write took nothing or failed. A short write is tried again.
-fn flush(out: &[u8], n: usize) -> usize
-    requires { ⌜ n ≤ length (now out) ⌝ }
-    ensures { λ r. ⌜ r ≤ n ⌝ }
-{
-    let mut done = 0;
-    while done < n {
-        let got = libc::write(STDOUT_FILENO, &out[done..n]);
-        let took = io::count(got, &out[done..n]);
-        if took == 0 {
-            return done;
-        }
-        done += took;
-    }
-    done
-}
 
 // The number of the line behind the n-th.
 fn number_after(n: u64) -> u64
@@ -53,12 +35,13 @@ fn stopped(i: Input, ok: bool) -> Input
     if ok {
         return i;
     }
+    let read = i.read;
     Input {
         at: i.at,
         end: i.end,
         len: i.len,
         left: 0,
-        ok: false,
+        read,
     }
 }
 
@@ -86,6 +69,7 @@ pub fn tell(out: &mut [u8; ROOM], p: Prepared, a: Performed) -> State
     let beside = p.beside;
     let telling = p.telling;
     let request = p.request;
+    let told = p.told;
     let n = say(
         out,
         p.waiting,
@@ -98,13 +82,14 @@ pub fn tell(out: &mut [u8; ROOM], p: Prepared, a: Performed) -> State
     );
     let number = number_after(p.number);
     if is_due(i, n) {
-        let ok = flush(out, n) == n;
+        let told = hand(out, n, told);
+        let all = told.took_all();
         return State {
-            input: stopped(i, ok),
+            input: stopped(i, all),
             number,
             kept,
             waiting: 0,
-            ok: p.ok & ok,
+            told,
             telling,
         };
     }
@@ -113,7 +98,7 @@ pub fn tell(out: &mut [u8; ROOM], p: Prepared, a: Performed) -> State
         number,
         kept,
         waiting: n,
-        ok: p.ok,
+        told,
         telling,
     }
 }

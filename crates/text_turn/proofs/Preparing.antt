@@ -25,7 +25,7 @@ pub prepared : (b : List ℕ) (s : State) (b' : List ℕ) (h : Heard) (xs : List
       number = s .number;
       kept = w .kept;
       waiting = s .waiting;
-      ok = s .ok;
+      told = s .told;
       kind = h .line .kind;
       count = h .line .count;
       request = w .request;
@@ -45,4 +45,5 @@ prepared b s b' h xs w asked p q e =
       telling = refl;
       number = refl;
       waiting = refl;
+      told = refl;
     }

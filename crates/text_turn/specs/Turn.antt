@@ -1,6 +1,5 @@
 -- The first half of a turn, before the table is asked, and where the first turn starts. Assumes nothing.
 use mathlib.Core.Path.{_≡_}
-use mathlib.Core.Bool.{true}
 use mathlib.Core.List.{List}
 use Prim.Native.Nat.{ℕ}
 use lib.IntN.{ℤ}
@@ -13,6 +12,7 @@ use Rattle.text_protocol.specs.Line.{meaning}
 use Rattle.text_protocol.specs.Calls.{deedOf}
 use Rattle.text_evening.specs.Evening.{keptBy, textOf, lastNumber}
 use Rattle.text_call.specs.Requests.{requestCall}
+use Rattle.text_evidence.specs.Evidence.{unread, unwritten}
 use Rattle.text_input.specs.Input.{Next}
 use Rattle.text_deed.specs.Deeds.{callIn, lineText, Said}
 use Rattle.text_turn.specs.declared.State.{State}
@@ -34,16 +34,17 @@ pub record Prepares (b : List ℕ) (s : State) (b' : List ℕ) (r : Prepared) (x
   pub telling : r .telling ≡ s .telling
   pub number : r .number ≡ s .number
   pub waiting : r .waiting ≡ s .waiting
+  pub told : r .told ≡ s .told
 
 -- at the start nothing is read, nothing is kept and nothing waits, and the first line is the next; `telling` is how
 -- lines are told, from the start to the end
 abbrev pub startState : Telling → State
 startState telling =
     record {
-      input = record { at = 0; end = 0; len = 0; left = lastNumber; ok = true };
+      input = record { at = 0; end = 0; len = 0; left = lastNumber; read = unread };
       number = 1;
       kept = noneKept;
       waiting = 0;
-      ok = true;
+      told = unwritten;
       telling = telling;
     }

@@ -12,19 +12,21 @@ use text_deed::Beside;
 use text_deed::asks_why;
 use text_deed::deed_of;
 use text_evening::Telling;
+use text_evidence::Written;
 use text_input::Input;
 use text_input::hear;
 use text_protocol::EVALUATE_COUNT;
 use text_protocol::Kept;
 
 // What goes on from line to line: what is left of the input, the number of the next line, what is kept of the interest
-// lines, how many bytes of answers wait to be written, whether every read and write went well, and how lines are told.
+// lines, how many bytes of answers wait to be written, the evidence of what was handed to `write`, and how lines are
+// told.
 pub struct State {
     pub input: Input,
     pub number: u64,
     pub kept: Kept,
     pub waiting: usize,
-    pub ok: bool,
+    pub told: Written,
     pub telling: Telling,
 }
 
@@ -35,7 +37,7 @@ pub struct Prepared {
     pub number: u64,
     pub kept: Kept,
     pub waiting: usize,
-    pub ok: bool,
+    pub told: Written,
     pub kind: u64,
     pub count: usize,
     pub request: Request,
@@ -53,6 +55,7 @@ pub fn prepare(buf: &mut [u8], xs: &mut [i64], s: State) -> Prepared
     let input = s.input;
     let kept = s.kept;
     let telling = s.telling;
+    let told = s.told;
     let h = hear(buf, xs, input);
     let line = h.line;
     let count = line.count;
@@ -67,7 +70,7 @@ pub fn prepare(buf: &mut [u8], xs: &mut [i64], s: State) -> Prepared
         number: s.number,
         kept,
         waiting: s.waiting,
-        ok: s.ok,
+        told,
         kind,
         count,
         request,
@@ -97,12 +100,12 @@ pub fn start(telling: Telling) -> State
             end: 0,
             len: 0,
             left: u64::MAX,
-            ok: true,
+            read: text_evidence::unread(),
         },
         number: 1,
         kept: text_kept::none(),
         waiting: 0,
-        ok: true,
+        told: text_evidence::unwritten(),
         telling,
     }
 }

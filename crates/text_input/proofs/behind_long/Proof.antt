@@ -23,7 +23,9 @@ same-length : tie.Need-same-length
 same-length c = search needs
 
 returns : tie.Need-returns
-returns c = long-ended _ _ (c .before .before .before .before .pass-over .ensures) _ _ _ (c .ended .ensures)
+returns c =
+    long-ended _ _ _ (c .before .before .before .before .before .pass-over .ensures) _ _ (c .before .if1 .taken)
+    (c .ended .ensures)
 
 from-place-requires : tie.Need-from-place-requires
 from-place-requires c κs = search needs
@@ -33,9 +35,10 @@ same-length-2 c = search needs
 
 returns-2 : tie.Need-returns-2
 returns-2 c =
-    let at-pass-over = c .before .before .before .before .before in
+    let at-pass-over = c .before .before .before .before .before .before in
     let f = c .from-place .ensures in
-    long-found _ _ (at-pass-over .pass-over .ensures) _ _ (c .before .before .if1 .left) (f .0) (f .1) (f .2) (f .3)
+    long-found _ _ _ (at-pass-over .pass-over .ensures) _ _ (c .before .before .if1 .left) (f .0) (f .1) (f .2) (f .3)
+    (f .4)
 
 pub behind-long-spec : {M : Type 1} → statement M
 behind-long-spec =

@@ -32,6 +32,7 @@ returns c =
       refl,
       refl,
       c .one-less .ensures,
+      refl,
       stands-from _ _ _ _ _ _ (at-start .pre .0) (at-start .pre .1) (at-start .pre .2) (c .before .find .ensures .0)
           (c .before .find .ensures .1),
     )

@@ -1,5 +1,5 @@
 -- `text_input::hear` meets its contract: the next line. Assumes nothing.
-use Rattle.text_input.proofs.Lines.{next-whole, next-last, next-long, long-says, next-readied, at-front}
+use Rattle.text_input.proofs.Lines.{next-whole, next-last, next-long, long-says, next-readied, at-front, not-full}
 use native.Mathlib.Omega.{arith}
 use Prim.Native.Nat.{_-_, _≤_, _<_}
 use mathlib.Core.Path.{_≡_, refl, sym, ap, _∙_}
@@ -45,12 +45,12 @@ same-length-2 c = search needs
 returns : tie.Need-returns
 returns c =
     let at-if1 = c .before .before .before .before .before .before .before in
-    let at-ready = at-if1 .before .before .before in
+    let at-ready = at-if1 .before .before .before .before in
     let f = c .from-place .ensures in
     let p = at-ready .ready .ensures in
     record {
       line = _;
-      next = next-readied p (next-whole _ _ (p .stands) _ (f .0) (f .1) (f .2) (f .3) (at-if1 .if1 .taken));
+      next = next-readied p (next-whole _ _ (p .stands) _ (f .0) (f .1) (f .2) (f .3) (f .4) (at-if1 .if1 .taken));
       says = c .before .before .before .read-line .ensures;
     }
 
@@ -67,12 +67,12 @@ returns-2 : tie.Need-returns-2
 returns-2 c =
     let at-if2 = c .before .before .before .before .before in
     let at-if1 = at-if2 .before in
-    let at-ready = at-if1 .before .before .before in
+    let at-ready = at-if1 .before .before .before .before in
     let entered = at-ready .before .before .before in
     let p = at-ready .ready .ensures in
     let h = at-if1 .if1 .left in
     let q = c .before .before .before .behind-long .ensures in
-    let front = at-front _ _ _ (p .front) h in
+    let front = at-front _ _ (p .front) h .0 in
     let over = at-if2 .if2 .taken in
     record {
       line = _;
@@ -104,11 +104,12 @@ same-length-5 c = search needs
 returns-3 : tie.Need-returns-3
 returns-3 c =
     let at-if1 = c .before .before .before .before .before .before .before in
-    let at-ready = at-if1 .before .before .before in
+    let at-ready = at-if1 .before .before .before .before in
     let p = at-ready .ready .ensures in
+    let ended = not-full _ (at-front _ _ (p .front) (at-if1 .if1 .left) .1) (c .before .before .before .before .before .before .if2 .left) in
     record {
       line = _;
-      next = next-readied p (next-last _ _ (p .stands) (at-if1 .if1 .left) _ _ (c .ended .ensures));
+      next = next-readied p (next-last _ _ (p .stands) (at-if1 .if1 .left) _ ended (c .ended .ensures));
       says = c .before .before .read-line2 .ensures;
     }
 

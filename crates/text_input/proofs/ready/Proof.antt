@@ -22,9 +22,10 @@ shift-requires c κs = search needs
 
 wait-requires : tie.Need-wait-requires
 wait-requires c κs =
-    let at-if1 = c .before .before .before .before .before in
+    let at-shift = c .before .before .before .before in
+    let at-if1 = at-shift .before .before in
     let entered = at-if1 .before .before .before in
-    let f = c .before .before .before .shift .ensures in
+    let f = at-shift .shift .ensures in
     let p = entered .pre in (
       f .2 ∙ p .long,
       omega (arith, f .0, p .in-b),
@@ -36,11 +37,11 @@ same-length c = search needs
 
 returns-2 : tie.Need-returns-2
 returns-2 c =
-    let at-shift = c .before .before .before .before .before .before in
+    let at-shift = c .before .before .before .before .before .before .before .before in
     let at-if1 = at-shift .before .before in
     let entered = at-if1 .before .before .before in
     readied-later _ _ (entered .pre) (at-if1 .if1 .left) _ _ (at-shift .shift .ensures .0)
-    (at-shift .shift .ensures .1) _ _ (c .before .before .wait .ensures)
+    (at-shift .shift .ensures .1) _ _ (c .before .before .before .wait .ensures)
 
 pub ready-spec : {M : Type 1} → statement M
 ready-spec = tie.close (tie.spec returns shift-requires wait-requires same-length returns-2)

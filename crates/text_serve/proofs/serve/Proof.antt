@@ -222,7 +222,7 @@ record Stand (telling : Telling) (ys : List Record) : Type 0 where
   state : State
   long : length table ≡ length ys
   held : IsState state
-  came : Sofar telling ys bytes state table
+  came : Sofar telling ys bytes state table answers
 
 none-left : (n : ℕ) → T (not (ltb 0 n)) → n ≡ 0
 none-left n = go (ltb 0 n) refl
@@ -303,8 +303,9 @@ module _ {M : Type 1} (𝓤 : URA M) (H : Heap 𝓤) (A : Atoms 𝓤) (W : Given
 
   -- where the loop stands at first
   at-first : (bs : List ℕ) (xs : List ℤ) (os : List ℕ) (s : State) (w : Val) → bufferRoom ≡ length bs
+      → bufferRoom ≡ length os
       → s ≡ startState telling → Is G.the-row s (w ∷ []) → Stand telling ys
-  at-first bs xs os s w long e is =
+  at-first bs xs os s w long long-out e is =
       record {
         table = ys;
         bytes = bs;
@@ -313,7 +314,9 @@ module _ {M : Type 1} (𝓤 : URA M) (H : Heap 𝓤) (A : Atoms 𝓤) (W : Given
         state = s;
         long = refl;
         held = state-is s w is;
-        came = subst (λ (z : State). Sofar telling ys bs z ys) (sym e) (none-yet telling ys bs (sym long));
+        came =
+            subst (λ (z : State). Sofar telling ys bs z ys os) (sym e)
+            (none-yet telling ys bs os (sym long) (sym long-out));
       }
 
   module _ (𝓣 : Tables 𝓤 H) (known-one : Triple 𝓤 (𝓣 .C one-def.name) (One 𝓤 H A mem′ run′)) (l₀ l₁ l₂ l₃ l₄ l₅ l₆ l₇ l₈
@@ -598,16 +601,16 @@ module _ {M : Type 1} (𝓤 : URA M) (H : Heap 𝓤) (A : Atoms 𝓤) (W : Given
           (init ! (first-slot ℓxs) refl (typed-numbers xs v ix)) $ k xs v ix)
 
       -- let mut out = io::large_buffer();
-      let-out : (w v : Val) → ((os : List ℕ) (u : Val) → Is Bytes os (u ∷ [])
+      let-out : (w v : Val) → ((os : List ℕ) (u : Val) → bufferRoom ≡ length os → Is Bytes os (u ∷ [])
           → Sq W (In (w ∷ []) (v ∷ []) (u ∷ []) [] (u ∷ []) (v ∷ [])) (Runs code-start))
           → Sq W (In (w ∷ []) (v ∷ []) [] [] (w ∷ []) (v ∷ [])) (Runs code-out)
       let-out w v k =
           asks 𝓤 H A W fm (Buffer 𝓤 H A mem′ run′) known-buffer ((tt, tt, tt, tt, tt), tt) goes-buffer Bytes
           (Buffers 𝓤 H A mem′ run′)
-          (λ w. id⊢ 𝓤 _) (λ r. bufferRoom ≡ length r) (buffers-of 𝓤 H A mem′ run′) (no-more !) (λ os u _ io.
+          (λ w. id⊢ 𝓤 _) (λ r. bufferRoom ≡ length r) (buffers-of 𝓤 H A mem′ run′) (no-more !) (λ os u long io.
           land ! (from ! (stop !)) (store ! (first-slot for-bytes) refl (typed-bytes os u io)) $
           assigns ! (of-opd ! (load ! (from ! (stop !)) (look ! (first-slot for-bytes) refl))) (from ! (stop !))
-          (init ! (first-slot ℓout) refl (typed-bytes os u io)) $ k os u io)
+          (init ! (first-slot ℓout) refl (typed-bytes os u io)) $ k os u long io)
 
       -- let mut s = start(telling);
       let-s : (w v u : Val) → ((s : State) (z : Val) → s ≡ startState telling → Is G.the-row s (z ∷ [])
@@ -624,11 +627,12 @@ module _ {M : Type 1} (𝓤 : URA M) (H : Heap 𝓤) (A : Atoms 𝓤) (W : Given
 
       -- while s.input.left > 0 { .. }, with the arrays in their locals as values in memory
       loop : (bs : List ℕ) (w : Val) → bufferRoom ≡ length bs → Is Bytes bs (w ∷ []) → (xs : List ℤ) (v : Val)
-          → Is Numbers xs (v ∷ []) → (os : List ℕ) (u : Val) → Is Bytes os (u ∷ []) → (s : State) (z : Val)
+          → Is Numbers xs (v ∷ []) → (os : List ℕ) (u : Val) → bufferRoom ≡ length os → Is Bytes os (u ∷ [])
+          → (s : State) (z : Val)
           → s ≡ startState telling → Is G.the-row s (z ∷ [])
           → Sq W (In (w ∷ []) (v ∷ []) (u ∷ []) (state-val s ∷ []) [] []) (Runs code-loop)
       unfolding at-first
-      loop bs w long ib xs v ix os u io s z first-state is =
+      loop bs w long ib xs v ix os u long-out io s z first-state is =
           move ! (first-slot ℓbuf ∷ []) $
           use1 W (‵ (mem Bytes .lies bs l₃ 0)) (apart u8 bufferRoom 𝓤 H A W (uint-makes 𝓤 H A W w8) bs w l₃ ib) $
           -- [buf; the token; obs; the borrow; _14; …]: each local before buf stands one place further
@@ -638,12 +642,12 @@ module _ {M : Type 1} (𝓤 : URA M) (H : Heap 𝓤) (A : Atoms 𝓤) (W : Given
           use1 W (‵ (mem Bytes .lies os l₅ 0)) (apart u8 bufferRoom 𝓤 H A W (uint-makes 𝓤 H A W w8) os u l₅ io) $
           -- [out; xs; buf; the token; obs; the borrow; _14; …; _0; …]
           move ! (2 ∷ 1 ∷ 0 ∷ 4 ∷ 5 ∷ 3 ∷ []) $
-          first ! $ blocks ! $ loops ! 𝓣 Nearer Nearer-wf At turns (at-first bs xs os s z long first-state is)
+          first ! $ blocks ! $ loops ! 𝓣 Nearer Nearer-wf At turns (at-first bs xs os s z long long-out first-state is)
 
       statements : Sq W (In [] [] [] [] [] []) (Runs code-buf)
       statements =
-          let-buf (λ bs w long ib. let-xs w (λ xs v ix. let-out w v (λ os u io. let-s w v u (λ s z first-state is.
-          loop bs w long ib xs v ix os u io s z first-state is))))
+          let-buf (λ bs w long ib. let-xs w (λ xs v ix. let-out w v (λ os u long-out io. let-s w v u (λ s z first-state is.
+          loop bs w long ib xs v ix os u long-out io s z first-state is))))
 
   module _ (𝓣 : Tables 𝓤 H) (known-buffer : Triple 𝓤 (𝓣 .C buffer-def.name) (Buffer 𝓤 H A mem′ run′))
       (known-numbers : Triple 𝓤 (𝓣 .C numbers-def.name) (NoNumbers 𝓤 H A mem′ run′))

@@ -8,7 +8,7 @@ returns : tie.Need-returns
 returns c = rw (c .if1 .taken)
 
 returns-2 : tie.Need-returns-2
-returns-2 c = rw (c .if1 .left)
+returns-2 c = rw (c .before .if1 .left)
 
 pub stopped-spec : {M : Type 1} → statement M
 stopped-spec = tie.close (tie.spec returns returns-2)

@@ -1,15 +1,15 @@
 -- `text_tell::tell` meets its contract: tells the answer to a line. Assumes nothing.
 use mathlib.Core.Path.{refl}
-use mathlib.Core.Logic.{inl, inr}
 use native.Mathlib.Omega.{arith}
-use lib.Dec.{eqb}
-use Rattle.text_tell.proofs.Told.{goes-on, a-line-is-whole, a-line-is-left}
+use Rattle.text_tell.specs.Tells.{Goes, wait, handed}
+use Rattle.text_tell.proofs.Told.{a-line-is-whole, a-line-is-left}
 use borrow.Author.Needs.{needs}
 use Rattle.text_tell.proofs.tell.Statement.{statement}
 use Rattle.text_tell.proofs.tell.Tie as tie
 use Rattle.text_tell.proofs.tell.Reads as reads
 use Rattle.text_tell.proofs.tell.Lts as lts
-use Rattle.text_tell.proofs.flush.Reads as flush-reads
+use Rattle.text_evidence.proofs.hand.Reads as hand-reads
+use Rattle.text_evidence.proofs.Written.took_all.Reads as took-all-reads
 use Rattle.text_tell.proofs.is_due.Reads as is-due-reads
 use Rattle.text_tell.proofs.number_after.Reads as number-after-reads
 use Rattle.text_deed.proofs.say.Reads as say-reads
@@ -24,8 +24,11 @@ number-after-requires c κs = search needs
 is-due-requires : tie.Need-is-due-requires
 is-due-requires c κs = search needs
 
-flush-requires : tie.Need-flush-requires
-flush-requires c κs = search needs
+hand-requires : tie.Need-hand-requires
+hand-requires c κs = search needs
+
+took-all-requires : tie.Need-took-all-requires
+took-all-requires c κs = search needs
 
 stopped-requires : tie.Need-stopped-requires
 stopped-requires c κs = search needs
@@ -34,20 +37,17 @@ stopped-requires c κs = search needs
 returns : tie.Need-returns
 returns c =
     let counted = c .before .before .before .before .before .before .before in
-    let entered = counted .before .before .before .before .before .before .before in
     let said = counted .before .say in
-    let took = eqb (c .before .before .flush .result) (said .result) in
     record {
       end = said .result;
       wrote = said .ensures;
-      waits = inr refl;
+      goes = handed refl (c .before .before .hand .ensures) (rw (← c .before .took-all .ensures) (c .stopped .ensures));
       room = omega arith;
       prompt = λ h. refl;
       last = λ h. refl;
       kept = refl;
       telling = refl;
       number = counted .number-after .ensures;
-      goes-on = goes-on (entered .args .p .ok) took (c .before .stopped .ensures);
     }
 
 -- all of it waits on
@@ -58,14 +58,13 @@ returns-2 c =
     record {
       end = said .result;
       wrote = said .ensures;
-      waits = inl refl;
+      goes = wait refl refl refl;
       room = on .0;
       prompt = a-line-is-whole (on .1);
       last = a-line-is-left (on .2);
       kept = refl;
       telling = refl;
       number = c .before .before .number-after .ensures;
-      goes-on = inl refl;
     }
 
 pub tell-spec : {M : Type 1} → statement M
@@ -75,7 +74,8 @@ tell-spec =
     say-requires
     number-after-requires
     is-due-requires
-    flush-requires
+    hand-requires
+    took-all-requires
     stopped-requires
     returns
     returns-2)

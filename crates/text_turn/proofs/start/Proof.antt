@@ -4,13 +4,21 @@ use Rattle.text_turn.proofs.start.Statement.{statement}
 use Rattle.text_turn.proofs.start.Tie as tie
 use Rattle.text_turn.proofs.start.Reads as reads
 use Rattle.text_turn.proofs.start.Lts as lts
+use Rattle.text_evidence.proofs.unread.Reads as unread-reads
+use Rattle.text_evidence.proofs.unwritten.Reads as unwritten-reads
 use Rattle.text_kept.proofs.none.Reads as none-reads
+
+unread-requires : tie.Need-unread-requires
+unread-requires c κs = search needs
 
 none-requires : tie.Need-none-requires
 none-requires c κs = search needs
 
+unwritten-requires : tie.Need-unwritten-requires
+unwritten-requires c κs = search needs
+
 returns : tie.Need-returns
-returns c = rw (c .none .ensures)
+returns c = rw (c .before .before .unread .ensures, c .before .none .ensures, c .unwritten .ensures)
 
 pub start-spec : {M : Type 1} → statement M
-start-spec = tie.close (tie.spec none-requires returns)
+start-spec = tie.close (tie.spec unread-requires none-requires unwritten-requires returns)
