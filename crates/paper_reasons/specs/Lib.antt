@@ -4,4 +4,5 @@ pub mod Faults
 pub mod Figures
 pub mod Why
 pub mod Words
+pub mod PinnedWords
 pub mod PinnedReasons

@@ -150,10 +150,10 @@ seventh : List ℤ
 unfolding zRecord zNumbers
 seventh = zRecord but (p1At, pos 300000000) but (p1At + 1, pos 300000000) but (ratesAt, pos 500)
 
--- Z with a volatility, no tentative rate and no liq, after a last rate S_1
-restless : (s s1 : ℕ) → List ℤ
+-- Z with a volatility and a tentative rate, after a last rate S_1
+restless : (s s1 tentative : ℕ) → List ℤ
 unfolding zRecord zNumbers
-restless s s1 = zRecord but (sAt, pos s) but (ratesAt, pos s1) but (tentativeAt, pos 0) but (liqAt, pos 0)
+restless s s1 tentative = zRecord but (sAt, pos s) but (ratesAt, pos s1) but (tentativeAt, pos tentative)
 
 -- Z with a tentative rate of an age and a volatility
 aged : (tentative age s : ℕ) → List ℤ
@@ -168,9 +168,9 @@ changes =
     ∷ said seventh today (closedAt 306000000)
     ∷ said seventh rested (closedAt 306000100)
     -- "on a tie x is the one chosen": r is 10,000, y 3,334, and x is 3,333, then 3,334; then r is not above 100·S_1
-    ∷ said (restless 1109 99) today (closedAt 1010000)
-    ∷ said (restless 1110 99) today (closedAt 1010000)
-    ∷ said (restless 1109 100) today (closedAt 1010000)
+    ∷ said (restless 1109 99 0) today (closedAt 1010000)
+    ∷ said (restless 1110 99 0) today (closedAt 1010000)
+    ∷ said (restless 1109 100 0) today (closedAt 1010000)
     -- case 9: t is 100; age 3 waits, and age 4 falls, where both hold
     ∷ said (aged 700 3 3333) rested (closedAt 1000000)
     ∷ said (aged 700 4 3333) rested (closedAt 1000000)
@@ -179,6 +179,9 @@ changes =
     ∷ said (aged 200 3 3334) rested (closedAt 1000000)
     ∷ said (aged 200 3 6666) rested (closedAt 1000000)
     ∷ said (aged 200 3 6667) rested (closedAt 1000000)
+    -- W-202: y is chosen, and t is 100, of the move, where the t of y, 300·3,334, is 200; x is chosen, and t is 200
+    ∷ said (restless 1109 99 100) today (closedAt 1010000)
+    ∷ said (restless 1110 99 100) today (closedAt 1010000)
     ∷ []
 
 pub changes-are : changes
@@ -194,6 +197,8 @@ pub changes-are : changes
     ∷ (0 ∷ 0 ∷ 1 ∷ 1 ∷ 2 ∷ 4 ∷ 2 ∷ 2 ∷ 2 ∷ [])
     ∷ (0 ∷ 0 ∷ 1 ∷ 1 ∷ 2 ∷ 4 ∷ 2 ∷ 2 ∷ 2 ∷ [])
     ∷ (0 ∷ 0 ∷ 1 ∷ 1 ∷ 2 ∷ 1 ∷ 2 ∷ 2 ∷ 2 ∷ [])
+    ∷ (0 ∷ 0 ∷ 1 ∷ 2 ∷ 1 ∷ 4 ∷ 2 ∷ 2 ∷ 2 ∷ [])
+    ∷ (0 ∷ 0 ∷ 1 ∷ 2 ∷ 2 ∷ 1 ∷ 2 ∷ 2 ∷ 2 ∷ [])
     ∷ []
 unfolding changes
 changes-are = refl
