@@ -19,8 +19,8 @@ use Rattle.paper.specs.Roundings.{toGrid}
 use Rattle.paper.specs.Ranges.{validStatics}
 use Rattle.paper_desk.specs.Evaluation.{roublesOf, closeOf, bidOf, askOf, evaluationOf}
 use Rattle.paper_desk.specs.Rates.{weightOf, weighted, replacement, replacementWins, volatilityOf, tentativeAfter}
-use Rattle.paper_desk.specs.Rates.{minimumOf, covers, levelRate}
-use Rattle.paper.proofs.Logic.{not-true-and-false, and-right, and-both}
+use Rattle.paper_desk.specs.Rates.{tentativeRate, tentativeRateByMove, tentativeRateOf, minimumOf, covers, levelRate}
+use Rattle.paper.proofs.Logic.{not-true-and-false, and-right, and-both, pick-true}
 use Rattle.paper_reasons.specs.declared.PriceReason.{PriceReason}
 use Rattle.paper_reasons.specs.declared.PriceReason.the-variants as price
 use Rattle.paper_reasons.specs.declared.WeightReason.the-variants as weight
@@ -31,7 +31,8 @@ use Rattle.paper_reasons.specs.declared.LevelReason.the-variants as leve
 use Rattle.paper_reasons.specs.Reasons.{isTraded, beforeGrid, priceSetBy, priceReason, weightIs, weightReason}
 use Rattle.paper_reasons.specs.Reasons.{replacementWas, replacementReason, tentativeDid, tentativeReason}
 use Rattle.paper_reasons.specs.Reasons.{requirementStep, levelSetBy, levelReason}
-use Rattle.paper_reasons.specs.Figures.{priceFigure, weightFigure, volatilityFigure, tentativeFigure, levelFigure}
+use Rattle.paper_reasons.specs.Figures.{priceFigure, weightFigure, volatilityFigure, stepFigure, tentativeFigure}
+use Rattle.paper_reasons.specs.Figures.{levelFigure}
 use Rattle.paper_reasons.proofs.Prices.{price-named}
 use Rattle.paper_reasons.proofs.Levels.{level-named}
 
@@ -79,6 +80,16 @@ module _ (st : Statics) (ewma : st .ewma ≡ true) where
 
       go : (won : Bool) → pick won (replacement (m .q) r) x
           ≡ volatilityFigure m (weightOf m b r s) r s (pick won chosen.Yes (pick (not won) chosen.No chosen.None))
+      go true = refl
+      go false = refl
+
+  -- THE t OF THE DAY
+  pub step-is : (won : Bool) (r s : ℕ) → tentativeRateOf st won r s ≡ stepFigure st r s (replacementReason st won)
+  unfolding tentativeRateOf stepFigure replacementReason replacementWas
+  step-is won r s = go won ∙ ap (stepFigure st r s) (sym (pick-true (st .ewma) _ chosen.None ewma))
+    where
+      go : (won : Bool) → pick won (tentativeRateByMove st r) (tentativeRate st s)
+          ≡ stepFigure st r s (pick won chosen.Yes (pick (not won) chosen.No chosen.None))
       go true = refl
       go false = refl
 

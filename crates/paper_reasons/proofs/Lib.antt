@@ -5,3 +5,4 @@ pub mod Rates
 pub mod Levels
 pub mod Figures
 pub mod Agrees
+pub mod Truth

@@ -9,7 +9,7 @@ use Rattle.paper.specs.declared.Model.{Model}
 use Rattle.paper.specs.declared.Statics.{Statics}
 use Rattle.paper.specs.declared.Tentative.{Tentative}
 use Rattle.paper_desk.specs.Evaluation.{closeOf, bidOf, askOf}
-use Rattle.paper_desk.specs.Rates.{weighted, replacement, minimumOf}
+use Rattle.paper_desk.specs.Rates.{weighted, replacement, tentativeRate, tentativeRateByMove, minimumOf}
 use Rattle.paper_reasons.specs.declared.PriceReason.{PriceReason}
 use Rattle.paper_reasons.specs.declared.PriceReason.the-variants as price
 use Rattle.paper_reasons.specs.declared.WeightReason.{WeightReason}
@@ -42,6 +42,12 @@ unfoldable pub volatilityFigure : Model → (a r s : ℕ) → ReplacementReason 
 volatilityFigure m a r s chosen.None = 0
 volatilityFigure m a r s chosen.Yes = replacement (m .q) r
 volatilityFigure m a r s chosen.No = weighted a s r
+
+-- the t of the day: where the replacement won, that of the move r (W-202), else that of new s
+unfoldable pub stepFigure : Statics → (r s : ℕ) → ReplacementReason → ℕ
+stepFigure st r s chosen.None = 0
+stepFigure st r s chosen.Yes = tentativeRateByMove st r
+stepFigure st r s chosen.No = tentativeRate st s
 
 -- t, a step below the old rate, or the old rate
 unfoldable pub tentativeFigure : (h t old : ℕ) → TentativeReason → ℕ

@@ -3,6 +3,7 @@ pub mod Reasons
 pub mod Faults
 pub mod Figures
 pub mod Why
+pub mod Truth
 pub mod Words
 pub mod PinnedWords
 pub mod PinnedReasons
