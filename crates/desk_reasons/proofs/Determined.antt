@@ -1,6 +1,8 @@
--- "Any two outcomes it allows are shown equal": of each call's own contract, and that its number is the one which
--- `evaluate` answers. The table is lent as `&`, so it is left. Assumes nothing.
+-- "Any two outcomes it allows are shown equal": of each call's own contract; and that its number is the one which
+-- `evaluate` answers, and its reasons are true of what `evaluate` writes. The table is lent as `&`, so it is left.
+-- Assumes nothing.
 use mathlib.Core.Path.{_≡_, refl, sym, ap, _∙_}
+use mathlib.Core.Bool.{true}
 use mathlib.Core.List.{List}
 use Prim.Native.Nat.{ℕ}
 use lib.IntN.{ℤ}
@@ -14,13 +16,16 @@ use contract.Monad.{Fun}
 use Rattle.paper.specs.declared.Record.{Record}
 use Rattle.paper.specs.declared.Day.{Day}
 use Rattle.paper.specs.declared.Answer.{Answer}
-use Rattle.paper_desk.specs.Desk.{evaluate}
+use Rattle.paper.specs.Verdicts.{isDone}
+use Rattle.paper_desk.specs.Desk.{evaluate, found, step}
 use Rattle.desk.specs.Promises.{Promised}
 use Rattle.desk.specs.Determined.{Determined}
 use Rattle.desk.proofs.Determined.{together}
 use Rattle.paper_reasons.specs.declared.Why.{Why}
 use Rattle.paper_reasons.specs.Why.{whyOn}
+use Rattle.paper_reasons.specs.Truth.{ReasonsTrue}
 use Rattle.paper_reasons.proofs.Agrees.{number-agrees}
+use Rattle.paper_reasons.proofs.Truth.{why-true}
 use Rattle.desk_reasons.proofs.why as why
 use Rattle.desk_reasons.proofs.why_asked as why-asked
 
@@ -36,3 +41,11 @@ pub numbers-agree : (t : List Record) (id : ℕ) (d : Day) (rows : List ℤ) (r 
     → Promised (evaluate id d rows) t r u → y ≡ whyOn t id d rows → y .verdict ≡ r .verdict
 numbers-agree t id d rows r u y p q =
     ap (λ (x : Why). x .verdict) q ∙ number-agrees t id d rows ∙ sym (ap (λ (x : Answer). x .verdict) (p .answer))
+
+-- and where `evaluate` accepts, each reason that `why` says is the true one of the record before and of the one in the
+-- table after it
+pub reasons-agree : (t : List Record) (id : ℕ) (d : Day) (rows : List ℤ) (r : Answer) (u : List Record) (y : Why)
+    → Promised (evaluate id d rows) t r u → y ≡ whyOn t id d rows → isDone (r .verdict) ≡ true
+    → ReasonsTrue (found t id) (found u id) d rows (y .reasons)
+reasons-agree t id d rows r u y p q e =
+    rw (q, p .table) (why-true t id d rows .accepted (ap (λ (x : Answer). isDone (x .verdict)) (sym (p .answer)) ∙ e))
