@@ -1,0 +1,2 @@
+-- The definitions of nedrubal, a file each.
+pub mod InOrder
