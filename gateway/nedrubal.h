@@ -20,7 +20,7 @@
  *     lot                                     pieces            1..100
  *     h                  step                 basis points      1..1,000
  *     q                  multiplier           hundredths        100..1,000
- *     a_up, a_down                            ten-thousandths   0..10,000
+ *     aup, adown         a_up, a_down         ten-thousandths   0..10,000
  *     wait               wait n               trading days      1..250
  *     rh1, rh2, rh3      rh_1, rh_2, rh_3     days              rh1 1..5, the others to 30, rh1 <= rh2 <= rh3
  *     liq                                     basis points      0..500
@@ -68,7 +68,7 @@ extern "C" {
  */
 int64_t nedrubal_level_rate(
     int64_t tentative, int64_t m, int64_t level,
-    int64_t lot, int64_t h, int64_t q, int64_t a_up, int64_t a_down, int64_t wait,
+    int64_t lot, int64_t h, int64_t q, int64_t aup, int64_t adown, int64_t wait,
     int64_t rh1, int64_t rh2, int64_t rh3, int64_t liq, int64_t min1, int64_t min2, int64_t min3, int64_t smax,
     int64_t xpr, int64_t shift, int64_t pchmax, int64_t pclmax, int64_t w, int64_t u,
     int64_t monitoring, int64_t ewma, int64_t uevening, int64_t autochange, int64_t eveningmax, int64_t useexternal);
@@ -82,7 +82,7 @@ int64_t nedrubal_level_rate(
  */
 int64_t nedrubal_range_limit(
     int64_t p, int64_t rate, int64_t side,
-    int64_t lot, int64_t h, int64_t q, int64_t a_up, int64_t a_down, int64_t wait,
+    int64_t lot, int64_t h, int64_t q, int64_t aup, int64_t adown, int64_t wait,
     int64_t rh1, int64_t rh2, int64_t rh3, int64_t liq, int64_t min1, int64_t min2, int64_t min3, int64_t smax,
     int64_t xpr, int64_t shift, int64_t pchmax, int64_t pclmax, int64_t w, int64_t u,
     int64_t monitoring, int64_t ewma, int64_t uevening, int64_t autochange, int64_t eveningmax, int64_t useexternal);
@@ -100,7 +100,7 @@ int64_t nedrubal_range_limit(
  */
 int64_t nedrubal_band_limit(
     int64_t p, int64_t s1, int64_t k, int64_t repo, int64_t c, int64_t side,
-    int64_t lot, int64_t h, int64_t q, int64_t a_up, int64_t a_down, int64_t wait,
+    int64_t lot, int64_t h, int64_t q, int64_t aup, int64_t adown, int64_t wait,
     int64_t rh1, int64_t rh2, int64_t rh3, int64_t liq, int64_t min1, int64_t min2, int64_t min3, int64_t smax,
     int64_t xpr, int64_t shift, int64_t pchmax, int64_t pclmax, int64_t w, int64_t u,
     int64_t monitoring, int64_t ewma, int64_t uevening, int64_t autochange, int64_t eveningmax, int64_t useexternal);
