@@ -3,7 +3,7 @@ ghost use mathlib.Core.Path.{_≡_};
 ghost use Prim.Native.Nat.{_+_, _≤_};
 ghost use lib.ListN.{length, drop};
 ghost use Rattle.paper_messages.specs.Messages.{noMessage, refusedHeard, heardAt};
-ghost use Rattle.messages.specs.Promises.{Writes, Whole};
+ghost use Rattle.messages.specs.Promises.{Writes, HearsAt, Whole};
 use message_bytes::get_fields;
 use message_bytes::get_number;
 use message_bytes::put_fields;
@@ -110,7 +110,7 @@ fn read_whole(buf: &[u8], at: usize, length: u64) -> Heard
 
 // What the reader hears at `at`. A place past the end has no bytes, so a message there is cut short.
 pub fn read(buf: &[u8], at: usize) -> Heard
-    ensures { λ r. ⌜ r ≡ heardAt (now (buf .entry)) at ⌝ }
+    ensures { λ r. ⌜ HearsAt (now (buf .entry)) at r ⌝ }
 {
     if buf.len() < Message::LENGTH_WIDTH {
         return refused(Verdict::CutShort);

@@ -41,7 +41,7 @@ returns c =
     let at-cut = at-if1 .before in
     let at-read = at-cut .before in
     let at-start = at-read .before .before .before in
-    steps-whole _ (at-start .args .s) _ (at-start .pre .0) (at-start .pre .1) _ (at-read .read .ensures) _
+    steps-whole _ (at-start .args .s) _ (at-start .pre .0) (at-start .pre .1) _ (at-read .read .ensures .answers) _
     (at-cut .is-cut .ensures) _ _ (at-if1 .if1 .taken) (c .tell .ensures)
 
 read-on-requires : tie.Need-read-on-requires
@@ -58,7 +58,7 @@ returns-2 c =
     let at-cut = at-if1 .before in
     let at-read = at-cut .before in
     let at-start = at-read .before .before .before in
-    steps-on _ (at-start .args .s) _ (at-start .pre .0) (at-start .pre .1) _ (at-read .read .ensures) _
+    steps-on _ (at-start .args .s) _ (at-start .pre .0) (at-start .pre .1) _ (at-read .read .ensures .answers) _
     (at-cut .is-cut .ensures) _ _ (at-if1 .if1 .left) (not-true _ (at-if2 .if2 .taken)) (at-read-on .read-on .ensures)
 
 write-out-requires : tie.Need-write-out-requires
@@ -73,7 +73,7 @@ returns-3 c =
     let at-cut = at-if1 .before in
     let at-read = at-cut .before in
     let at-start = at-read .before .before .before in
-    steps-end _ (at-start .args .s) _ (at-start .pre .0) (at-start .pre .1) _ (at-read .read .ensures) _
+    steps-end _ (at-start .args .s) _ (at-start .pre .0) (at-start .pre .1) _ (at-read .read .ensures .answers) _
     (at-cut .is-cut .ensures) _ (not-false _ (c .before .before .before .before .if2 .left))
     (c .before .before .before .if3 .taken) (c .write-out .ensures)
 
@@ -89,7 +89,7 @@ returns-4 c =
     let at-cut = at-if1 .before in
     let at-read = at-cut .before in
     let at-start = at-read .before .before .before in
-    steps-cut _ (at-start .args .s) _ (at-start .pre .0) (at-start .pre .1) _ (at-read .read .ensures) _
+    steps-cut _ (at-start .args .s) _ (at-start .pre .0) (at-start .pre .1) _ (at-read .read .ensures .answers) _
     (at-cut .is-cut .ensures) _ _ (not-false _ (c .before .before .before .if2 .left)) (c .before .before .if3 .left)
     (c .tell2 .ensures)
 
