@@ -92,7 +92,8 @@ read-whole-requires : tie.Need-read-whole-requires
 read-whole-requires c κs = search needs
 
 returns-6 : tie.Need-returns-6
-returns-6 c = record { answers = search needs; bytes = lent (c .before .before .before .before .before .before .before) }
+returns-6 c =
+    record { answers = search needs; bytes = lent (c .before .before .before .before .before .before .before) }
 
 pub read-spec : {M : Type 1} → statement M
 read-spec =
