@@ -41,7 +41,14 @@ keptLimits =
 unfoldable pub floatAt : ℕ → Float
 floatAt bits = ofBits binary64 bits
 
+-- what a line asks for. It opens every definition that a line is read with, so that a table opens this one alone
 unfoldable pub deedBy : String → Deed
+unfolding floatAt keptLimits bytes isDone unsigned workedRepo repoOf dayOf dayTerm isBlank isNot run grow pieces full
+    words same isDigit sizeFrom sizeOf upTo above below numberOf slashAt code admitNames evaluateNames quoteNames
+    moveNames readNames openNames outsideNames noticeNames withdrawNames interestNames bondNames forms kindFrom kindOf
+    countFits takesIn takes placeOf the oneOf twoOf itemOf hasTerms placeIn pairFits withPair more taking onWith
+    finished fill called meaning foundIn givenOf admissionOf quoteOf bitsOf floatOf outsideOf noticeCall interestOf
+    bandOf termOf askedOf bondStaticsOf bondOf figuresBehind callOf deedOf
 deedBy text = deedOf keptLimits (meaning (bytes text))
 
 -- EACH NUMBER OF A LINE IS THE ONE OF ITS NAME; a pair of terms that is kept is its limits
@@ -156,13 +163,5 @@ pub asked : (deedBy "admit 1 2 3 4 5 6 7 8 9 10 11 12 13 14 15 16 17 18 19 20 21
       third = record { k = 15; band = band.AsGiven (record { low = pos 16; high = pos 17 }) };
       repo = pos 5;
     }) (naturals (34 ∷ 35 ∷ [])))
-unfolding floatAt deedBy keptLimits bytes isDone unsigned workedRepo repoOf dayOf dayTerm isBlank isNot run grow
-    pieces full words same isDigit sizeFrom sizeOf upTo above below numberOf slashAt code admitNames evaluateNames
-    quoteNames
-    moveNames readNames openNames outsideNames noticeNames withdrawNames interestNames bondNames forms kindFrom kindOf
-    countFits takesIn takes placeOf the
-    oneOf twoOf itemOf hasTerms placeIn pairFits withPair more taking onWith finished fill called meaning foundIn
-    givenOf
-    admissionOf quoteOf bitsOf floatOf outsideOf noticeCall interestOf bandOf termOf askedOf bondStaticsOf bondOf
-    figuresBehind callOf deedOf
+unfolding deedBy
 asked = (refl, refl, refl, refl, refl, refl, refl, refl, refl, refl, refl, refl, refl, refl, refl, refl)

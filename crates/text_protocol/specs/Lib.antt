@@ -7,8 +7,10 @@ pub mod Line
 pub mod Written
 pub mod LineCases
 pub mod Kept
+pub mod KeptCases
 pub mod Calls
 pub mod CallCases
 pub mod Answers
+pub mod AnswerCases
 pub mod Reasons
 pub mod ReasonCases

@@ -18,7 +18,7 @@ use Rattle.text_protocol.specs.Names.{evaluateNames, quoteNames, moveNam
 use Rattle.text_protocol.specs.Names.{noticeNames, withdrawNames, interestNames, bondNames, forms, kindFrom}
 use Rattle.text_protocol.specs.Names.{kindOf, countFits, takesIn, takes, placeOf}
 use Rattle.text_protocol.specs.Names.{code as codeOf}
-use Rattle.text_protocol.specs.Line.{Said, Nothing, NoCall, Call, oneOf, twoOf, itemOf, noPairs, keptMost}
+use Rattle.text_protocol.specs.Line.{Said, Nothing, NoCall, Call, oneOf, twoOf, itemOf, noPairs, longest}
 use Rattle.text_protocol.specs.Line.{hasTerms, placeIn, pairFits, withPair, more, taking, onWith, finished, fill}
 use Rattle.text_protocol.specs.Line.{called, meaning}
 
@@ -83,6 +83,9 @@ lineCases =
     ∷ line "evaluate 7 10 0 0 1 0/1 2 0/1 0 0 0 0/10000 0 1010000 0 0 5" NoCall
     ∷ line "quote 7 36000 0 1000000/0" NoCall
     ∷ line
+    "admit 15 3 10 10 20000 600/10 100 300 1000 500 5 2 5 8 50 500 700 900 4000 200 25 2000 2000 1000 60 1 1 120 1 2 0"
+    NoCall
+    ∷ line
     "interest 0 0 1 1000 500 200/50 2 20 300 100 200 940 710 1 800 650 700 810 40 150 1 3 803 652 700 1150 40 150 1"
     NoCall
     ∷ line "interest 0 0 1 1000 500 200 50 2 20 300 100 200 940" NoCall
@@ -141,14 +144,15 @@ ones zero = []
 ones (suc n) = bytes " 1" ++ ones n
 
 -- EACH LINE MEANS WHAT STANDS BESIDE IT; of a line's numbers the first 126 are kept; a line feed ends a line, and what
--- is behind the last one is a line too, unless it is empty
+-- is behind the last one is a line too, unless it is empty; a line has at most 65,535 bytes
 pub meanings : (map heard lineCases ≡ map meant lineCases)
-    × (meaning (bytes "evaluate" ++ ones 140) ≡ Call evaluateKind (replicate keptMost (pos 1)) noPairs)
+    × (meaning (bytes "evaluate" ++ ones 140) ≡ Call evaluateKind (replicate 126 (pos 1)) noPairs)
     × (lines (bytes "move 7 0\n\nread 9") ≡ bytes "move 7 0" ∷ [] ∷ bytes "read 9" ∷ [])
     × (lines (bytes "move 7 0\nread 9\n") ≡ bytes "move 7 0" ∷ bytes "read 9" ∷ [])
+    × (longest ≡ 65535)
 unfolding lineCases heard meant bytes ones isBlank isLineFeed isNot run grow pieces full ended words lines same isDigit
     sizeFrom sizeOf upTo above below numberOf slashAt admitNames evaluateNames quoteNames moveNames readNames
     openNames outsideNames noticeNames withdrawNames interestNames bondNames forms kindFrom kindOf countFits takesIn
     takes placeOf codeOf oneOf twoOf itemOf
     hasTerms placeIn pairFits withPair more taking onWith finished fill called meaning
-meanings = (refl, refl, refl, refl)
+meanings = (refl, refl, refl, refl, refl)
