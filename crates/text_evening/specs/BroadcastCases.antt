@@ -7,6 +7,7 @@ use lib.IntN.{pos, negsuc}
 use lib.ListN.{take}
 use lib.Seq.{sets}
 use Rattle.paper.specs.declared.Admission.{Admission}
+use Rattle.paper.specs.declared.Answer.{Answer}
 use Rattle.paper.specs.declared.Record.{Record}
 use Rattle.paper.specs.declared.Notice.the-variants.{Withdrawal}
 use Rattle.paper.specs.declared.Verdict.the-variants.{Done, AlreadyAdmitted, OutOfRange, MovesUsedUp}
@@ -98,20 +99,26 @@ told =
     -- moves up and down
     ∷ pos 3 ∷ pos 4 ∷ [])
 
+-- the bytes of a call's broadcast. It opens every definition that they are made with, so that a table opens this one
+-- alone
+unfoldable pub bytesSent : Call → Answer → List ℕ
+unfolding broadcastOf allSent sent messagesOf staticsMessage ratesMessage bandsMessage moveMessage message valueOf
+    staticsOf sideOf lastDay isDone encode bodyOf bytesOf complement lengthOf total placesOf fieldsOf filled
+    staticsFields ratesFields bandsFields moveFields isKnownKind valid inRanges asAdmission givenIn validGiven
+    validStatics unsigned admission staticsBytes ratesBytes bandsBytes
+bytesSent c a = broadcastOf c a
+
 -- of an accepted call all of its messages one behind the other, of a refused one nothing. A message with a field out of
 -- its range is left out: of the sample a term has 71 days
-pub bytes-sent : (broadcastOf (admit admission) (saying Done) ≡ staticsBytes)
-    × (broadcastOf (admit admission) (saying AlreadyAdmitted) ≡ [])
-    × (broadcastOf evaluation (showing told) ≡ ratesBytes ++ sets bandsBytes 6 (7 ∷ 0 ∷ 0 ∷ 0 ∷ 4 ∷ 0 ∷ 0 ∷ 0 ∷ []))
-    × (broadcastOf evaluation (showing sample) ≡ encode (ratesMessage sample))
-    × (broadcastOf evaluation (saying OutOfRange) ≡ [])
-    × (broadcastOf (move 7 0) (showing sample)
+pub bytes-sent : (bytesSent (admit admission) (saying Done) ≡ staticsBytes)
+    × (bytesSent (admit admission) (saying AlreadyAdmitted) ≡ [])
+    × (bytesSent evaluation (showing told) ≡ ratesBytes ++ sets bandsBytes 6 (7 ∷ 0 ∷ 0 ∷ 0 ∷ 4 ∷ 0 ∷ 0 ∷ 0 ∷ []))
+    × (bytesSent evaluation (showing sample) ≡ encode (ratesMessage sample))
+    × (bytesSent evaluation (saying OutOfRange) ≡ [])
+    × (bytesSent (move 7 0) (showing sample)
     ≡ encode (message moveMessageKind
     (pos 7 ∷ pos 0 ∷ pos 3 ∷ pos 61 ∷ pos 62 ∷ pos 63 ∷ pos 91 ∷ pos 92 ∷ pos 93 ∷ [])))
-    × (broadcastOf (move 7 0) (saying MovesUsedUp) ≡ [])
-    × (broadcastOf (read 7) (showing told) ≡ [])
-unfolding admission evaluation told sample saying showing broadcastOf allSent sent messagesOf
-    staticsMessage ratesMessage bandsMessage moveMessage message valueOf staticsOf sideOf lastDay isDone encode bodyOf
-    bytesOf complement lengthOf total placesOf fieldsOf filled staticsFields ratesFields bandsFields moveFields
-    isKnownKind valid inRanges asAdmission givenIn validGiven validStatics unsigned staticsBytes ratesBytes bandsBytes
+    × (bytesSent (move 7 0) (saying MovesUsedUp) ≡ [])
+    × (bytesSent (read 7) (showing told) ≡ [])
+unfolding bytesSent evaluation told sample saying showing
 bytes-sent = (refl, refl, refl, refl, refl, refl, refl, refl)

@@ -12,7 +12,7 @@ use Rattle.paper_reasons.specs.Why.{whyOn}
 use Rattle.text_protocol.specs.declared.Kept.{Kept}
 use Rattle.text_evening.specs.declared.Telling.{Telling}
 use Rattle.text_evening.specs.declared.Telling.the-variants.{Answers, Reasons, Messages}
-use Rattle.text_protocol.specs.Kept.{keptAfter}
+use Rattle.text_protocol.specs.Kept.{noneKept, keptAfter}
 use Rattle.text_protocol.specs.Line.{meaning}
 use Rattle.text_protocol.specs.Calls.{Deed, nothing, noCall, call, interest, bond, deedOf}
 use Rattle.text_protocol.specs.Answers.{badText, callText, interestText, bondText}
@@ -107,6 +107,10 @@ abbrev pub passedOver : Evening → Evening
 passedOver e = record { number = numberAfter (e .number); kept = e .kept; table = e .table }
 
 -- ---- lines
+
+-- where an evening starts: line 1 is the next, nothing is kept
+abbrev pub startEvening : List Record → Evening
+startEvening t = record { number = 1; kept = noneKept; table = t }
 
 -- THE EVENING AFTER LINES
 unfoldable pub afterAll : (lines : List (List ℕ)) → Evening → Evening

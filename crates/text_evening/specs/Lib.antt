@@ -2,3 +2,4 @@
 pub mod Broadcast
 pub mod Evening
 pub mod BroadcastCases
+pub mod EveningCases
