@@ -7,14 +7,15 @@ use mathlib.Core.List.{List, [], _∷_, _++_, map}
 use Prim.Native.Nat.{ℕ, zero, suc}
 use Prim.Native.String.{String}
 use lib.IntN.{ℤ, pos, negsuc}
-use lib.ListN.{replicate}
+use lib.ListN.{length, replicate}
+use Rattle.paper.specs.declared.Verdict.the-variants.{Done, BadLine}
 use Rattle.paper.specs.Ranges.{unsigned, rowAt, validRow}
 use Rattle.text_protocol.specs.Bytes.{lineFeed, carriageReturn, isLineFeed, grow, pieces}
 use Rattle.text_protocol.specs.Numbers.{isDigit}
 use Rattle.text_protocol.specs.Written.{negated}
 use Rattle.text_protocol.specs.LineCases.{bytes}
 use Rattle.text_table.specs.declared.Reading.{Reading}
-use Rattle.text_table.specs.Exchange.{isSemicolon, columns, inOne, accepted, refused}
+use Rattle.text_table.specs.Exchange.{columns, lineNumbers, textMost, inOne, accepted, refused}
 use Rattle.text_table.specs.Scan.{starts, digits, pastZeros, decimals, behindWhole, number, positive, turned}
 use Rattle.text_table.specs.Scan.{cell, pass, lineEnd, fieldEnd, cells, inRange, line, isOf, orBad, collect}
 use Rattle.text_table.specs.Scan.{reading}
@@ -25,6 +26,15 @@ ended s = bytes s ++ lineFeed ∷ []
 unfoldable pub endedCr : String → List ℕ
 endedCr s = bytes s ++ carriageReturn ∷ lineFeed ∷ []
 
+-- ---- what is expected: so many rows, their numbers, and so many zeros behind them, 112 numbers in all; or a bad line
+
+abbrev pub holds : (count : ℕ) → (numbers : List ℤ) → (zeros : ℕ) → Reading
+holds count numbers zeros =
+    record { verdict = Done; line = 0; count = count; rows = numbers ++ replicate zeros (pos 0) }
+
+abbrev pub badAt : (line : ℕ) → Reading
+badAt line = record { verdict = BadLine; line = line; count = 0; rows = replicate 112 (pos 0) }
+
 -- ---- a line that is a row of the security 7
 
 pub data RowCase : Type 0 where
@@ -34,7 +44,7 @@ unfoldable pub rowRead : RowCase → Reading
 rowRead (row s zs) = reading 7 (ended s)
 
 unfoldable pub rowMeant : RowCase → Reading
-rowMeant (row s zs) = accepted (zs ∷ [])
+rowMeant (row s zs) = holds 1 zs 105
 
 abbrev pub unit : ℤ
 unit = pos 10000
@@ -95,7 +105,7 @@ textRead (text t r) = reading 7 t
 unfoldable pub textMeant : TextCase → Reading
 textMeant (text t r) = r
 
-unfoldable pub times : ℕ → List ℕ → List ℕ
+unfoldable pub times : {A : Type 0} → ℕ → List A → List A
 times zero t = []
 times (suc n) t = t ++ times n t
 
@@ -114,29 +124,29 @@ spoilt = ended "9;0;1;0;x;;;0"
 unfoldable pub textCases : List TextCase
 textCases =
     -- an empty text has no rows; lines of other ids have none of this one
-    text [] (accepted [])
-    ∷ text others (accepted [])
+    text [] (holds 0 [] 112)
+    ∷ text others (holds 0 [] 112)
     -- the rows in their order; LF and CR LF
     ∷ text (own ++ others ++ endedCr "7;1;1;0;1;;;0" ++ own)
-    (accepted (some ∷ (pos 1 ∷ unit ∷ pos 0 ∷ pos 10000 ∷ pos 0 ∷ pos 0 ∷ pos 0 ∷ []) ∷ some ∷ []))
+    (holds 3 (some ++ (pos 1 ∷ unit ∷ pos 0 ∷ pos 10000 ∷ pos 0 ∷ pos 0 ∷ pos 0 ∷ some)) 91)
     -- a CR anywhere else; an empty line
-    ∷ text (endedCr "7;0;1;0;1;;;0" ++ endedCr "7;0;1;0;1;;;0" ++ carriageReturn ∷ []) (refused 3)
-    ∷ text (bytes "7;0;1;0;1;;;0" ++ carriageReturn ∷ carriageReturn ∷ lineFeed ∷ []) (refused 1)
-    ∷ text (carriageReturn ∷ own) (refused 1)
-    ∷ text (own ++ lineFeed ∷ own) (refused 2)
+    ∷ text (endedCr "7;0;1;0;1;;;0" ++ endedCr "7;0;1;0;1;;;0" ++ carriageReturn ∷ []) (badAt 3)
+    ∷ text (bytes "7;0;1;0;1;;;0" ++ carriageReturn ∷ carriageReturn ∷ lineFeed ∷ []) (badAt 1)
+    ∷ text (carriageReturn ∷ own) (badAt 1)
+    ∷ text (own ++ lineFeed ∷ own) (badAt 2)
     -- an unended last line
-    ∷ text (own ++ bytes "7;0;1;0;1;;;0") (refused 2)
-    ∷ text (bytes "7") (refused 1)
+    ∷ text (own ++ bytes "7;0;1;0;1;;;0") (badAt 2)
+    ∷ text (bytes "7") (badAt 1)
     -- NUL, and a byte above 127
-    ∷ text (own ++ 0 ∷ lineFeed ∷ []) (refused 2)
-    ∷ text (own ++ bytes "7;0;1;0;1;;;" ++ 178 ∷ lineFeed ∷ []) (refused 2)
+    ∷ text (own ++ 0 ∷ lineFeed ∷ []) (badAt 2)
+    ∷ text (own ++ bytes "7;0;1;0;1;;;" ++ 178 ∷ lineFeed ∷ []) (badAt 2)
     -- the first bad line wins, of whichever id
-    ∷ text (own ++ spoilt ++ own ++ spoilt) (refused 2)
+    ∷ text (own ++ spoilt ++ own ++ spoilt) (badAt 2)
     -- sixteen rows, and a seventeenth; a bad line before it, and one behind it
-    ∷ text (times 16 own ++ others) (accepted (replicate 16 some))
-    ∷ text (times 16 own ++ others ++ own) (refused 18)
-    ∷ text (times 2 own ++ spoilt ++ times 15 own) (refused 3)
-    ∷ text (times 17 own ++ spoilt) (refused 17)
+    ∷ text (times 16 own ++ others) (holds 16 (times 16 some) 0)
+    ∷ text (times 16 own ++ others ++ own) (badAt 18)
+    ∷ text (times 2 own ++ spoilt ++ times 15 own) (badAt 3)
+    ∷ text (times 17 own ++ spoilt) (badAt 17)
     ∷ []
 
 pub rows-are : map rowRead rowCases ≡ map rowMeant rowCases
@@ -145,7 +155,7 @@ unfolding rowRead rowMeant rowCases ended bytes reading collect orBad isOf line 
     isLineFeed isDigit negated unsigned rowAt validRow
 rows-are = refl
 
-pub lines-bad : map (λ s. reading 7 (ended s)) badLines ≡ map (λ s. refused 1) badLines
+pub lines-bad : map (λ s. reading 7 (ended s)) badLines ≡ map (λ s. badAt 1) badLines
 unfolding badLines ended bytes reading collect orBad isOf line cells cell fieldEnd lineEnd pass number
     positive turned behindWhole decimals digits pastZeros starts inRange accepted refused inOne columns pieces grow
     isLineFeed isDigit negated unsigned rowAt validRow
@@ -156,3 +166,8 @@ unfolding textRead textMeant textCases times own others spoilt ended endedCr byt
     cell fieldEnd lineEnd pass number positive turned behindWhole decimals digits pastZeros starts inRange accepted
     refused inOne columns pieces grow isLineFeed isDigit negated unsigned rowAt validRow
 texts-are = refl
+
+-- "eight fields", and "at most 65,536 bytes"
+pub lengths-are : (length columns ≡ lineNumbers) × (lineNumbers ≡ 8) × (textMost ≡ 65536)
+unfolding columns
+lengths-are = (refl, refl, refl)
