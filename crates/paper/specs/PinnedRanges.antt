@@ -12,6 +12,7 @@ use Rattle.paper.specs.Lists.{every}
 use Rattle.paper.specs.Roundings.{up}
 use Rattle.paper.specs.Ranges.{isPrice, isRate, gridOf, isGridPrice, validStatics, staticsOf, validGiven}
 use Rattle.paper.specs.Ranges.{tentativeTop, validTentative, validAdmission, partsFrom, rowAt, rowsOf, wholeRows}
+use Rattle.paper.specs.Ranges.{rowOf, unsigned}
 use Rattle.paper.specs.Ranges.{validRow, validRows, validTerm, validDay, validQuote, validSide, sideOf, lastDay}
 use Rattle.paper.specs.Ranges.{isLimit, validLimits, validNear, validNearSeconds, validSession, validExternal}
 use Rattle.paper.specs.Ranges.{sound, validSlots, isLive}
@@ -303,6 +304,12 @@ input-ends =
 pub input-ends-are : input-ends ≡ atTheEndsAlone 23
 unfolding input-ends atTheEndsAlone
 input-ends-are = refl
+
+-- "rows of seven numbers": which number of a row is which, of the second of two rows whose numbers count up
+pub row-is : rowOf (rowAt (map pos (8 ∷ 9 ∷ 10 ∷ 11 ∷ 12 ∷ 13 ∷ 14 ∷ 1 ∷ 2 ∷ 3 ∷ 4 ∷ 5 ∷ 6 ∷ 7 ∷ [])) 7)
+    ≡ record { t = 1; central = 2; repo = pos 3; close = 4; bid = 5; ask = 6; volume = 7 }
+unfolding rowOf rowAt unsigned
+row-is = refl
 
 -- ---- what else is in range
 

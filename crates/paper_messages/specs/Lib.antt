@@ -5,4 +5,5 @@ pub mod Messages
 pub mod OwnBytes
 pub mod Records
 pub mod PinnedMessages
+pub mod PinnedFields
 pub mod PinnedRecords
