@@ -2,7 +2,7 @@
 -- an accepted and of a refused one. Assumes nothing.
 use mathlib.Core.Path.{_≡_, refl}
 use mathlib.Core.List.{List, [], _∷_, _++_, map}
-use Prim.Native.Nat.{ℕ}
+use Prim.Native.Nat.{ℕ, _+_}
 use lib.IntN.{pos, negsuc}
 use lib.ListN.{take}
 use lib.Seq.{sets}
@@ -23,11 +23,11 @@ use Rattle.paper_messages.specs.Fields.{staticsFields, ratesFields, bandsFields
 use Rattle.paper_messages.specs.Fields.{moveMessageKind}
 use Rattle.paper_messages.specs.Fields.{placesOf}
 use Rattle.paper_messages.specs.Messages.{bodyOf, total, lengthOf, encode, isKnownKind, inRanges, givenIn, asAdmission}
-use Rattle.paper_messages.specs.Messages.{valid}
+use Rattle.paper_messages.specs.Messages.{lengthWidth, valid}
 use Rattle.paper_messages.specs.PinnedMessages.{staticsBytes, ratesBytes, bandsBytes}
 use Rattle.paper_messages.specs.PinnedRecords.{sampleNumbers, sample}
 use Rattle.paper_messages.specs.Records.{valueOf, message, staticsMessage, ratesMessage, bandsMessage, moveMessage}
-use Rattle.text_evening.specs.Broadcast.{messagesOf, sent, allSent, broadcastOf}
+use Rattle.text_evening.specs.Broadcast.{messagesOf, sent, messageMost, allSent, broadcastOf}
 
 -- ---- the calls
 
@@ -80,6 +80,11 @@ unfolding messagesOf showing sample moveMessage message filled valueOf sideOf
 moves-told = (refl, refl)
 
 -- ---- the bytes
+
+-- the bytes of a message of each kind, with those of its length; none is longer than the longest
+pub lengths-are : map (λ (kind : ℕ). lengthWidth + lengthOf kind) (1 ∷ 2 ∷ 3 ∷ 4 ∷ []) ≡ messageMost ∷ 98 ∷ 98 ∷ 66 ∷ []
+unfolding lengthOf total placesOf fieldsOf filled staticsFields ratesFields bandsFields moveFields
+lengths-are = refl
 
 -- a record whose messages PinnedMessages tells: rates and ranges as they stand there, the bands under another id and
 -- day
