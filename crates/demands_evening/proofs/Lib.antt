@@ -1,0 +1,6 @@
+-- The proof of it.
+pub mod Calls
+pub mod Tables
+pub mod Lines
+pub mod Holds
+pub mod Served

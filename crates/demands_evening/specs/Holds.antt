@@ -1,0 +1,130 @@
+-- What holds of an evening, whatever bytes it is delivered: the customer's demands of the table at its end, and of each
+-- of its calls that what is told is what the security's history gives. proofs/Holds.antt proves it, for every list of
+-- bytes, and proofs/Served.antt ties it to the running programs.
+use mathlib.Core.Path.{_≡_}
+use mathlib.Core.Bool.{true, false}
+use mathlib.Core.List.{List, [], _∷_, _++_}
+use Prim.Native.Nat.{ℕ}
+use lib.ListN.{replicate}
+use Rattle.paper.specs.declared.Record.{Record}
+use Rattle.paper.specs.declared.Admission.{Admission}
+use Rattle.paper.specs.declared.Day.{Day}
+use Rattle.paper.specs.declared.Answer.{Answer}
+use Rattle.paper.specs.declared.Verdict.the-variants.{Done}
+use Rattle.paper.specs.Numbers.{slotsMost}
+use Rattle.paper.specs.Ranges.{staticsOf, isLive}
+use Rattle.paper.specs.Verdicts.{isDone}
+use Rattle.paper_desk.specs.Sides.{shows}
+use Rattle.paper_desk.specs.Desk.{Call, idOf, blank, place, found, step, run}
+use Rattle.paper_desk.specs.History.{FreshTable, Event, History, since, historyOf, isAdmission, evaluations}
+use Rattle.paper_desk.specs.Sequences.{onDay, lastEvaluated}
+use Rattle.paper_desk.specs.Exact.{exactSquare, NearExact}
+use Rattle.paper_messages.specs.declared.Message.{Message}
+use Rattle.paper_messages.specs.Messages.{encode}
+use Rattle.demands.specs.Demands.{answered, Demand1, FiguresHold, RatesHold, answerThen, Demand2, TableKept}
+use Rattle.demands.specs.Demands.{BandsInOrder}
+use Rattle.demands.specs.Order.{slotAt, HoldsLive, InOrder}
+use Rattle.demands_messages.specs.Whole.{SentWhole}
+use Rattle.text_protocol.specs.Bytes.{lines}
+use Rattle.text_protocol.specs.Calls.{call}
+use Rattle.text_protocol.specs.Answers.{callText}
+use Rattle.text_evening.specs.declared.Telling.{Telling}
+use Rattle.text_evening.specs.declared.Telling.the-variants.{Answers, Messages}
+use Rattle.text_evening.specs.Broadcast.{messagesOf}
+use Rattle.text_evening.specs.Evening.{Evening, startEvening, askedBy, answer, afterAll, answers}
+use Rattle.demands_evening.specs.Calls.{callsOf}
+
+-- ---- an evening of a program
+
+-- the programs' own table, which `text_serve::fresh` makes: 512 slots, and every one of them empty
+unfoldable pub ownTable : List Record
+ownTable = replicate slotsMost blank
+
+-- behind some lines, from the first line of a program on: the evening, its table, and the calls that they have said
+abbrev pub eveningBehind : (lines : List (List ℕ)) → Evening
+eveningBehind ls = afterAll ls (startEvening ownTable)
+
+abbrev pub tableBehind : (lines : List (List ℕ)) → List Record
+tableBehind ls = eveningBehind ls .table
+
+abbrev pub callsBehind : (lines : List (List ℕ)) → List Call
+callsBehind ls = callsOf ls (startEvening ownTable)
+
+-- the history of a security in those calls
+abbrev pub historyBehind : (lines : List (List ℕ)) → (id : ℕ) → History
+historyBehind ls id = historyOf id (callsBehind ls) ownTable
+
+-- all that is told of those lines, in one of the three ways
+abbrev pub toldOf : Telling → (lines : List (List ℕ)) → List ℕ
+toldOf telling ls = answers telling ls (startEvening ownTable)
+
+-- messages one after the other, each of them whole
+unfoldable pub encodings : List Message → List ℕ
+encodings [] = []
+encodings (m ∷ ms) = encode m ++ encodings ms
+
+-- ---- one line of it
+
+-- THE RECORD r IS THE ONE OF ITS HISTORY: the security id was admitted by one of the lines, every figure of r is the
+-- one that document 01 defines from its accepted calls up to here, and r stands in the table and is in order
+pub record RecordHolds (lines : List (List ℕ)) (id : ℕ) (r : Record) : Type 0 where
+  pub admission : Admission
+  pub events : List Event
+  pub history : historyBehind lines id ≡ since admission events
+  pub figures : FiguresHold admission events r
+  pub rates : (d : Day) → lastEvaluated events ≡ onDay d → RatesHold (staticsOf (admission .given)) (d .m) r
+  pub stands : r ≡ found (tableBehind lines) id
+  pub order : isLive (r .standing) ≡ true → InOrder (tableBehind lines) (place (tableBehind lines) id) r
+
+-- THE ANSWER x IS THE ONE OF THE HISTORY before the call c: a quote's alerts are those of its near quotes
+pub record AnswerHolds (before : List (List ℕ)) (c : Call) (x : Answer) : Type 0 where
+  pub admission : Admission
+  pub events : List Event
+  pub history : historyBehind before (idOf c) ≡ since admission events
+  pub answer : x ≡ answerThen admission events c (step c (tableBehind before) .table)
+
+-- OF THE LINE l, WHICH SAYS THE CALL c behind the lines `before`
+pub record LineHolds (before : List (List ℕ)) (l : List ℕ) (c : Call) : Type 0 where
+  -- it is answered or refused by document 01's list
+  pub demand-1 : Demand1 c (tableBehind before)
+  -- the program `evening` prints the text of that answer: 0 and its figures, or the number of the refusal alone
+  pub printed : answer Answers l (eveningBehind before) ≡ callText c (step c (tableBehind before) .answer)
+  -- the record of an accepted call, where it shows one, is the one of its history with this call
+  pub shown : shows c ≡ true → answered c (tableBehind before) ≡ Done
+      → RecordHolds (before ++ l ∷ []) (idOf c) (step c (tableBehind before) .answer .rec)
+  -- and its whole answer, a quote's two alerts too, is the one of the history before it
+  pub says : isAdmission c ≡ false → answered c (tableBehind before) ≡ Done
+      → AnswerHolds before c (step c (tableBehind before) .answer)
+  -- the program `broadcast` sends every message of an accepted call, each whole, and of a refused one nothing
+  pub whole : SentWhole c (tableBehind before)
+  pub sent : answered c (tableBehind before) ≡ Done
+      → answer Messages l (eveningBehind before) ≡ encodings (messagesOf c (step c (tableBehind before) .answer))
+  pub unsent : isDone (answered c (tableBehind before)) ≡ false → answer Messages l (eveningBehind before) ≡ []
+
+-- ---- all of it
+
+-- THE EVENING THAT IS DELIVERED THE BYTES `got` AND LEAVES THE TABLE t
+pub record EveningHolds (got : List ℕ) (t : List Record) : Type 0 where
+  -- t is what the calls of its lines make of a fresh table
+  pub fresh : FreshTable ownTable
+  pub made : t ≡ run (callsBehind (lines got)) ownTable
+  -- the demands, of t and of every security that these calls admitted. Demand 3 for the interest side goes over that
+  -- side's own sequences, which are no part of the table: `demand-3` has it
+  pub demand-1 : (c : Call) → Demand1 c t
+  pub demand-2 : (id : ℕ) (a : Admission) (es : List Event) → historyBehind (lines got) id ≡ since a es
+      → Demand2 id a es t
+  pub demand-3 : (id : ℕ) (a : Admission) (es : List Event) → historyBehind (lines got) id ≡ since a es
+      → staticsOf (a .given) .ewma ≡ true → NearExact (evaluations es) (found t id .s) (exactSquare a es)
+  -- what stands beneath them: the table, the bands, and the order of every live record (W-213)
+  pub table-kept : TableKept (callsBehind (lines got)) ownTable
+  pub bands-in-order : (id : ℕ) (a : Admission) (es : List Event) → historyBehind (lines got) id ≡ since a es
+      → BandsInOrder (found t id)
+  pub live-in-order : (slot : ℕ) → HoldsLive t slot → InOrder t slot (slotAt t slot)
+  -- what is told of each line stands at its place in all that is told, behind what is told of the lines before it
+  pub place-told : (before later : List (List ℕ)) (l : List ℕ) → lines got ≡ before ++ l ∷ later → (telling : Telling)
+      → toldOf telling (lines got)
+      ≡ toldOf telling before ++ answer telling l (eveningBehind before)
+      ++ answers telling later (eveningBehind (before ++ l ∷ []))
+  -- and of each line that says a call it is what the history gives
+  pub each-line : (before later : List (List ℕ)) (l : List ℕ) → lines got ≡ before ++ l ∷ later
+      → (c : Call) → askedBy l (eveningBehind before) ≡ call c → LineHolds before l c

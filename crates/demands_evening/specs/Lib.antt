@@ -1,0 +1,3 @@
+-- What holds of every evening, from the bytes that it is delivered.
+pub mod Calls
+pub mod Holds
