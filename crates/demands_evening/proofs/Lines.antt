@@ -5,6 +5,7 @@ use mathlib.Core.Path.{_≡_, refl, sym, _∙_, ap, subst}
 use mathlib.Core.Bool.{true, false}
 use mathlib.Core.List.{List, [], _∷_, _++_}
 use Prim.Native.Nat.{ℕ}
+use lib.IntN.{ℤ}
 use Rattle.paper.specs.declared.Record.{Record}
 use Rattle.paper.specs.declared.Admission.{Admission}
 use Rattle.paper.specs.declared.Day.{Day}
@@ -13,7 +14,8 @@ use Rattle.paper.specs.Lists.{every}
 use Rattle.paper.specs.Ranges.{staticsOf, isLive}
 use Rattle.paper.specs.Verdicts.{isDone}
 use Rattle.paper_desk.specs.Sides.{shows}
-use Rattle.paper_desk.specs.Desk.{Call, idOf, place, found, known, step, run}
+use Rattle.paper_desk.specs.Desk.{Call, admit, evaluate, quote, move, read, openEvening, receive, idOf, place, found}
+use Rattle.paper_desk.specs.Desk.{known, step}
 use Rattle.paper_desk.specs.History.{Event, since, isAdmission}
 use Rattle.paper_desk.specs.Sequences.{onDay, lastEvaluated}
 use Rattle.paper_messages.specs.declared.Message.{Message}
@@ -23,9 +25,10 @@ use Rattle.demands.specs.Order.{InOrder}
 use Rattle.demands_messages.specs.Whole.{SentWhole}
 use Rattle.text_protocol.specs.Calls.{Deed, call}
 use Rattle.text_evening.specs.declared.Telling.{Telling}
-use Rattle.text_evening.specs.declared.Telling.the-variants.{Answers, Messages}
+use Rattle.text_evening.specs.declared.Telling.the-variants.{Answers, Reasons, Messages}
 use Rattle.text_evening.specs.Broadcast.{messagesOf, sent, allSent, broadcastOf}
-use Rattle.text_evening.specs.Evening.{Evening, startEvening, tableAfter, callTold, textOf, askedBy, after, answer}
+use Rattle.text_evening.specs.Evening.{Evening, startEvening, tableAfter, answerTo, reasonTo, callTold, textOf, askedBy}
+use Rattle.text_evening.specs.Evening.{after, answer}
 use Rattle.demands_evening.specs.Holds.{ownTable, eveningBehind, tableBehind, callsBehind, encodings, RecordHolds}
 use Rattle.demands_evening.specs.Holds.{historyBehind, AnswerHolds, LineHolds}
 use Rattle.paper.proofs.Logic.{and-left, and-right, pick-true, pick-false}
@@ -67,6 +70,18 @@ module _ (before : List (List ℕ)) (l : List ℕ) (c : Call) (asked : askedBy l
   told : (telling : Telling) → answer telling l (eveningBehind before) ≡ callTold telling c t
   unfolding answer textOf
   told telling = ap (λ (d : Deed). textOf telling (eveningBehind before .number) d t) asked
+
+  -- all calls but an evaluation are told with why as they are answered
+  reasons-are-answers : (k : Call) → ((id : ℕ) (d : Day) (rows : List ℤ) → k ≡ evaluate id d rows → ⊥)
+      → reasonTo k t ≡ answerTo k t
+  unfolding reasonTo
+  reasons-are-answers (admit a) other = refl
+  reasons-are-answers (evaluate id d rows) other = absurd (other id d rows refl)
+  reasons-are-answers (quote id q) other = refl
+  reasons-are-answers (move id side) other = refl
+  reasons-are-answers (read id) other = refl
+  reasons-are-answers (openEvening id) other = refl
+  reasons-are-answers (receive id x) other = refl
 
   -- ---- what it answers
 
@@ -151,8 +166,10 @@ module _ (before : List (List ℕ)) (l : List ℕ) (c : Call) (asked : askedBy l
   unfolding callTold
   line-holds =
       record {
+        said = calls-behind;
         demand-1 = demand-1 c t;
         printed = told Answers;
+        printed-by-why = λ other. told Reasons ∙ reasons-are-answers c other;
         shown = record-holds;
         says = answer-holds;
         whole = whole;

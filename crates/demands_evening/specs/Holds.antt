@@ -5,6 +5,7 @@ use mathlib.Core.Path.{_≡_}
 use mathlib.Core.Bool.{true, false}
 use mathlib.Core.List.{List, [], _∷_, _++_}
 use Prim.Native.Nat.{ℕ}
+use lib.IntN.{ℤ}
 use lib.ListN.{replicate}
 use Rattle.paper.specs.declared.Record.{Record}
 use Rattle.paper.specs.declared.Admission.{Admission}
@@ -15,7 +16,7 @@ use Rattle.paper.specs.Numbers.{slotsMost}
 use Rattle.paper.specs.Ranges.{staticsOf, isLive}
 use Rattle.paper.specs.Verdicts.{isDone}
 use Rattle.paper_desk.specs.Sides.{shows}
-use Rattle.paper_desk.specs.Desk.{Call, idOf, blank, place, found, step, run}
+use Rattle.paper_desk.specs.Desk.{Call, evaluate, idOf, blank, place, found, step, run}
 use Rattle.paper_desk.specs.History.{FreshTable, Event, History, since, historyOf, isAdmission, evaluations}
 use Rattle.paper_desk.specs.Sequences.{onDay, lastEvaluated}
 use Rattle.paper_desk.specs.Exact.{exactSquare, NearExact}
@@ -29,7 +30,7 @@ use Rattle.text_protocol.specs.Bytes.{lines}
 use Rattle.text_protocol.specs.Calls.{call}
 use Rattle.text_protocol.specs.Answers.{callText}
 use Rattle.text_evening.specs.declared.Telling.{Telling}
-use Rattle.text_evening.specs.declared.Telling.the-variants.{Answers, Messages}
+use Rattle.text_evening.specs.declared.Telling.the-variants.{Answers, Reasons, Messages}
 use Rattle.text_evening.specs.Broadcast.{messagesOf}
 use Rattle.text_evening.specs.Evening.{Evening, startEvening, askedBy, answer, afterAll, answers}
 use Rattle.demands_evening.specs.Calls.{callsOf}
@@ -85,10 +86,15 @@ pub record AnswerHolds (before : List (List ℕ)) (c : Call) (x : Answer) : Type
 
 -- OF THE LINE l, WHICH SAYS THE CALL c behind the lines `before`
 pub record LineHolds (before : List (List ℕ)) (l : List ℕ) (c : Call) : Type 0 where
+  -- c is the last of the calls up to this line
+  pub said : callsBehind (before ++ l ∷ []) ≡ callsBehind before ++ c ∷ []
   -- it is answered or refused by document 01's list
   pub demand-1 : Demand1 c (tableBehind before)
-  -- the program `evening` prints the text of that answer: 0 and its figures, or the number of the refusal alone
+  -- the program `evening` prints the text of that answer: 0 and its figures, or the number of the refusal alone; so
+  -- does `why`, but of an evaluation
   pub printed : answer Answers l (eveningBehind before) ≡ callText c (step c (tableBehind before) .answer)
+  pub printed-by-why : ((id : ℕ) (d : Day) (rows : List ℤ) → c ≡ evaluate id d rows → ⊥)
+      → answer Reasons l (eveningBehind before) ≡ callText c (step c (tableBehind before) .answer)
   -- the record of an accepted call, where it shows one, is the one of its history with this call
   pub shown : shows c ≡ true → answered c (tableBehind before) ≡ Done
       → RecordHolds (before ++ l ∷ []) (idOf c) (step c (tableBehind before) .answer .rec)
@@ -108,8 +114,8 @@ pub record EveningHolds (got : List ℕ) (t : List Record) : Type 0 where
   -- t is what the calls of its lines make of a fresh table
   pub fresh : FreshTable ownTable
   pub made : t ≡ run (callsBehind (lines got)) ownTable
-  -- the demands, of t and of every security that these calls admitted. Demand 3 for the interest side goes over that
-  -- side's own sequences, which are no part of the table: `demand-3` has it
+  -- the demands, of t and of every security that these calls admitted. Demand 3 of the interest side goes over that
+  -- side's own sequences, which stand beside the table: `Demand3` has it, in its `interest`
   pub demand-1 : (c : Call) → Demand1 c t
   pub demand-2 : (id : ℕ) (a : Admission) (es : List Event) → historyBehind (lines got) id ≡ since a es
       → Demand2 id a es t
