@@ -1,12 +1,11 @@
 -- One theorem for every evening: whatever bytes it is delivered, the demands hold of the table behind their lines, and
 -- each line that says a call is told what the history of its security gives.
-use mathlib.Core.Path.{_≡_, refl, sym, _∙_, ap}
+use mathlib.Core.Path.{_≡_}
 use mathlib.Core.List.{List, [], _∷_, _++_}
 use Prim.Native.Nat.{ℕ}
-use Rattle.paper.specs.declared.Record.{Record}
 use Rattle.text_protocol.specs.Bytes.{lines}
 use Rattle.text_evening.specs.declared.Telling.{Telling}
-use Rattle.text_evening.specs.Evening.{Evening, startEvening, answer, answers}
+use Rattle.text_evening.specs.Evening.{startEvening, answer, answers}
 use Rattle.demands_evening.specs.Holds.{ownTable, eveningBehind, tableBehind, callsBehind, toldOf, EveningHolds}
 use Rattle.demands.proofs.Order.{live-in-order}
 use Rattle.demands.proofs.Demands.{table-kept, bands-in-order, demand-1, demand-3}

@@ -4,7 +4,7 @@
 use mathlib.Core.Path.{_≡_, _∙_, ap}
 use mathlib.Core.Bool.{true}
 use mathlib.Core.List.{List}
-use Prim.Native.Nat.{ℕ, _<_}
+use Prim.Native.Nat.{_<_}
 use lib.ListN.{length, replicate}
 use Rattle.paper.specs.declared.Record.{Record}
 use Rattle.paper.specs.Numbers.{slotsMost}

@@ -2,7 +2,7 @@
 -- their calls make.
 use mathlib.Core.Path.{_≡_, refl, sym, _∙_, ap}
 use mathlib.Core.Bool.{Bool, true, false}
-use mathlib.Core.List.{List, [], _∷_}
+use mathlib.Core.List.{List}
 use Prim.Native.Nat.{ℕ, zero, suc}
 use lib.Dec.{eqb}
 use lib.ListN.{replicate, length-replicate}
@@ -15,7 +15,7 @@ use Rattle.paper_desk.specs.Desk.{blank, known, run, fresh}
 use Rattle.paper_desk.specs.History.{FreshTable, Event, History, unknown, since, wasAdmitted}
 use Rattle.demands.specs.Demands.{Demand2}
 use Rattle.text_evening.specs.Evening.{startEvening}
-use Rattle.demands_evening.specs.Holds.{ownTable, tableBehind, callsBehind, historyBehind}
+use Rattle.demands_evening.specs.Holds.{ownTable, tableBehind, callsBehind, historyBehind, HistoryHolds}
 use Rattle.paper.proofs.Logic.{not-true-and-false, and-both}
 use Rattle.demands.proofs.Known.{known-admitted}
 use Rattle.demands.proofs.Demands.{demand-2}
@@ -52,9 +52,15 @@ unfolding wasAdmitted
 admitted-since unknown e = absurd (not-true-and-false false e refl)
 admitted-since (since a es) e = (a, es, refl)
 
-pub known-since : (ls : List (List ℕ)) (id : ℕ) → known (tableBehind ls) id ≡ true
-    → (a : Admission) × (es : List Event) × (historyBehind ls id ≡ since a es)
-known-since ls id there =
+pub known-holds : (ls : List (List ℕ)) (id : ℕ) → known (tableBehind ls) id ≡ true → HistoryHolds ls id
+known-holds ls id there =
+    let k =
     admitted-since (historyBehind ls id)
     (sym (known-admitted (callsBehind ls) ownTable (own-table-fresh .slots) (own-table-fresh .empty) id)
-    ∙ (rw (table-made ls) at there))
+    ∙ (rw (table-made ls) at there)) in
+    record {
+      admission = k .0;
+      events = k .1;
+      history = k .2;
+      demand-2 = demand-2-behind ls id (k .0) (k .1) (k .2);
+    }

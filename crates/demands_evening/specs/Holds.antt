@@ -10,7 +10,6 @@ use lib.ListN.{replicate}
 use Rattle.paper.specs.declared.Record.{Record}
 use Rattle.paper.specs.declared.Admission.{Admission}
 use Rattle.paper.specs.declared.Day.{Day}
-use Rattle.paper.specs.declared.Answer.{Answer}
 use Rattle.paper.specs.declared.Verdict.the-variants.{Done}
 use Rattle.paper.specs.Numbers.{slotsMost}
 use Rattle.paper.specs.Ranges.{staticsOf, isLive}
@@ -18,12 +17,10 @@ use Rattle.paper.specs.Verdicts.{isDone}
 use Rattle.paper_desk.specs.Sides.{shows}
 use Rattle.paper_desk.specs.Desk.{Call, evaluate, idOf, blank, place, found, step, run}
 use Rattle.paper_desk.specs.History.{FreshTable, Event, History, since, historyOf, isAdmission, evaluations}
-use Rattle.paper_desk.specs.Sequences.{onDay, lastEvaluated}
 use Rattle.paper_desk.specs.Exact.{exactSquare, NearExact}
 use Rattle.paper_messages.specs.declared.Message.{Message}
 use Rattle.paper_messages.specs.Messages.{encode}
-use Rattle.demands.specs.Demands.{answered, Demand1, FiguresHold, RatesHold, answerThen, Demand2, TableKept}
-use Rattle.demands.specs.Demands.{BandsInOrder}
+use Rattle.demands.specs.Demands.{answered, Demand1, FiguresHold, Demand2, TableKept, BandsInOrder}
 use Rattle.demands.specs.Order.{slotAt, HoldsLive, InOrder}
 use Rattle.demands_messages.specs.Whole.{SentWhole}
 use Rattle.text_protocol.specs.Bytes.{lines}
@@ -66,23 +63,21 @@ encodings (m ∷ ms) = encode m ++ encodings ms
 
 -- ---- one line of it
 
--- THE RECORD r IS THE ONE OF ITS HISTORY: the security id was admitted by one of the lines, every figure of r is the
--- one that document 01 defines from its accepted calls up to here, and r stands in the table and is in order
-pub record RecordHolds (lines : List (List ℕ)) (id : ℕ) (r : Record) : Type 0 where
+-- THE SECURITY id HAS A HISTORY in the calls of these lines, and demand 2 holds of it: every figure of its record, and
+-- what the next accepted call about it answers, a quote its two alerts
+pub record HistoryHolds (lines : List (List ℕ)) (id : ℕ) : Type 0 where
   pub admission : Admission
   pub events : List Event
   pub history : historyBehind lines id ≡ since admission events
-  pub figures : FiguresHold admission events r
-  pub rates : (d : Day) → lastEvaluated events ≡ onDay d → RatesHold (staticsOf (admission .given)) (d .m) r
-  pub stands : r ≡ found (tableBehind lines) id
-  pub order : isLive (r .standing) ≡ true → InOrder (tableBehind lines) (place (tableBehind lines) id) r
+  pub demand-2 : Demand2 id admission events (tableBehind lines)
 
--- THE ANSWER x IS THE ONE OF THE HISTORY before the call c: a quote's alerts are those of its near quotes
-pub record AnswerHolds (before : List (List ℕ)) (c : Call) (x : Answer) : Type 0 where
-  pub admission : Admission
-  pub events : List Event
-  pub history : historyBehind before (idOf c) ≡ since admission events
-  pub answer : x ≡ answerThen admission events c (step c (tableBehind before) .table)
+-- THE RECORD r IS THE ONE OF THAT HISTORY: every figure of it is the one that document 01 defines, it stands in the
+-- table, and where it is live it is in order (W-213)
+pub record RecordHolds (lines : List (List ℕ)) (id : ℕ) (r : Record) : Type 0 where
+  pub by : HistoryHolds lines id
+  pub figures : FiguresHold (by .admission) (by .events) r
+  pub stands : found (tableBehind lines) id ≡ r
+  pub order : isLive (r .standing) ≡ true → InOrder (tableBehind lines) (place (tableBehind lines) id) r
 
 -- OF THE LINE l, WHICH SAYS THE CALL c behind the lines `before`
 pub record LineHolds (before : List (List ℕ)) (l : List ℕ) (c : Call) : Type 0 where
@@ -98,9 +93,8 @@ pub record LineHolds (before : List (List ℕ)) (l : List ℕ) (c : Call) : Type
   -- the record of an accepted call, where it shows one, is the one of its history with this call
   pub shown : shows c ≡ true → answered c (tableBehind before) ≡ Done
       → RecordHolds (before ++ l ∷ []) (idOf c) (step c (tableBehind before) .answer .rec)
-  -- and its whole answer, a quote's two alerts too, is the one of the history before it
-  pub says : isAdmission c ≡ false → answered c (tableBehind before) ≡ Done
-      → AnswerHolds before c (step c (tableBehind before) .answer)
+  -- and what it answers, a quote's two alerts too, is what demand 2 says of the history before it
+  pub says : isAdmission c ≡ false → answered c (tableBehind before) ≡ Done → HistoryHolds before (idOf c)
   -- the program `broadcast` sends every message of an accepted call, each whole, and of a refused one nothing
   pub whole : SentWhole c (tableBehind before)
   pub sent : answered c (tableBehind before) ≡ Done
