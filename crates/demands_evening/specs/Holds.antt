@@ -85,8 +85,8 @@ pub record LineHolds (before : List (List ℕ)) (l : List ℕ) (c : Call) : Type
   pub said : callsBehind (before ++ l ∷ []) ≡ callsBehind before ++ c ∷ []
   -- it is answered or refused by document 01's list
   pub demand-1 : Demand1 c (tableBehind before)
-  -- the program `evening` prints the text of that answer: 0 and its figures, or the number of the refusal alone; so
-  -- does `why`, but of an evaluation
+  -- it is told with the text of that answer by the program `evening`: 0 and its figures, or the number of the refusal
+  -- alone; and so by `why`, unless it is an evaluation
   pub printed : answer Answers l (eveningBehind before) ≡ callText c (step c (tableBehind before) .answer)
   pub printed-by-why : ((id : ℕ) (d : Day) (rows : List ℤ) → c ≡ evaluate id d rows → ⊥)
       → answer Reasons l (eveningBehind before) ≡ callText c (step c (tableBehind before) .answer)
@@ -95,7 +95,7 @@ pub record LineHolds (before : List (List ℕ)) (l : List ℕ) (c : Call) : Type
       → RecordHolds (before ++ l ∷ []) (idOf c) (step c (tableBehind before) .answer .rec)
   -- and what it answers, a quote's two alerts too, is what demand 2 says of the history before it
   pub says : isAdmission c ≡ false → answered c (tableBehind before) ≡ Done → HistoryHolds before (idOf c)
-  -- the program `broadcast` sends every message of an accepted call, each whole, and of a refused one nothing
+  -- by `broadcast` it is told with every message of an accepted call, each whole, and with nothing of a refused one
   pub whole : SentWhole c (tableBehind before)
   pub sent : answered c (tableBehind before) ≡ Done
       → answer Messages l (eveningBehind before) ≡ encodings (messagesOf c (step c (tableBehind before) .answer))
