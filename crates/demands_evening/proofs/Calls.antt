@@ -1,13 +1,12 @@
 -- Lines lead to the table to which their calls lead: a line's deed changes the table as the calls in it do, one line
--- after the other. And what lines do and are told as, where some of them come first.
+-- after the other.
 use mathlib.Core.Path.{_≡_, refl, sym, _∙_, ap}
 use mathlib.Core.List.{List, [], _∷_, _++_, append-assoc}
 use Prim.Native.Nat.{ℕ}
 use Rattle.paper.specs.declared.Record.{Record}
 use Rattle.paper_desk.specs.Desk.{Call, step, run}
 use Rattle.text_protocol.specs.Calls.{Deed, nothing, noCall, call, interest, bond}
-use Rattle.text_evening.specs.declared.Telling.{Telling}
-use Rattle.text_evening.specs.Evening.{Evening, tableAfter, askedBy, after, answer, afterAll, answers}
+use Rattle.text_evening.specs.Evening.{Evening, tableAfter, askedBy, after, afterAll}
 use Rattle.demands_evening.specs.Calls.{callsIn, callsOf}
 
 -- ---- the table
@@ -36,12 +35,6 @@ lines-run (l ∷ ls) e =
 
 -- ---- a line behind others
 
-pub after-one-more : (before : List (List ℕ)) (l : List ℕ) (e : Evening)
-    → afterAll (before ++ l ∷ []) e ≡ after l (afterAll before e)
-unfolding afterAll
-after-one-more [] l e = refl
-after-one-more (k ∷ before) l e = after-one-more before l (after k e)
-
 -- where it says the call c, that is the last of their calls
 pub calls-one-more : (before : List (List ℕ)) (l : List ℕ) (e : Evening) (c : Call)
     → askedBy l (afterAll before e) ≡ call c → callsOf (before ++ l ∷ []) e ≡ callsOf before e ++ c ∷ []
@@ -50,14 +43,3 @@ calls-one-more [] l e c asked = rw asked
 calls-one-more (k ∷ before) l e c asked =
     ap (λ (cs : List Call). callsIn (askedBy k e) ++ cs) (calls-one-more before l (after k e) c asked)
     ∙ sym (append-assoc (callsIn (askedBy k e)) (callsOf before (after k e)) (c ∷ []))
-
--- what is told of it stands behind what is told of the others
-pub told-at : (telling : Telling) (before later : List (List ℕ)) (l : List ℕ) (e : Evening)
-    → answers telling (before ++ l ∷ later) e
-    ≡ answers telling before e ++ answer telling l (afterAll before e)
-    ++ answers telling later (after l (afterAll before e))
-unfolding answers afterAll
-told-at telling [] later l e = refl
-told-at telling (k ∷ before) later l e =
-    ap (λ (text : List ℕ). answer telling k e ++ text) (told-at telling before later l (after k e))
-    ∙ simp append-assoc

@@ -9,7 +9,7 @@ use Rattle.text_evening.specs.Evening.{startEvening, answer, answers}
 use Rattle.demands_evening.specs.Holds.{ownTable, eveningBehind, tableBehind, callsBehind, toldOf, EveningHolds}
 use Rattle.demands.proofs.Order.{live-in-order}
 use Rattle.demands.proofs.Demands.{table-kept, bands-in-order, demand-1, demand-3}
-use Rattle.demands_evening.proofs.Calls.{after-one-more, told-at}
+use Rattle.text_evening.proofs.OneMore.{after-one-more, told-at}
 use Rattle.demands_evening.proofs.Tables.{own-table-fresh, table-made, demand-2-behind}
 use Rattle.demands_evening.proofs.Lines.{line-holds}
 

@@ -37,7 +37,8 @@ use Rattle.demands.proofs.Known.{stays-known}
 use Rattle.demands.proofs.Order.{no-admission-shows, shown-in-order}
 use Rattle.demands.proofs.Demands.{demand-1}
 use Rattle.demands_messages.proofs.Whole.{sent-whole}
-use Rattle.demands_evening.proofs.Calls.{after-one-more, calls-one-more}
+use Rattle.text_evening.proofs.OneMore.{after-one-more}
+use Rattle.demands_evening.proofs.Calls.{calls-one-more}
 use Rattle.demands_evening.proofs.Tables.{own-table-fresh, table-made, known-holds}
 
 -- messages that the writer takes, each of them, are sent whole

@@ -12,7 +12,8 @@ use Rattle.text_evening.specs.declared.Telling.{Telling}
 use Rattle.text_protocol.specs.Answers.{answerMost}
 use Rattle.paper.specs.declared.Record.{Record}
 use Rattle.text_protocol.specs.Bytes.{lineFeed, run, room as bufferRoom}
-use Rattle.text_evening.specs.Evening.{Evening, after, afterAll, answer, answers}
+use Rattle.text_evening.specs.Evening.{Evening, startEvening, after, afterAll, answer, answers}
+use Rattle.text_evening.proofs.OneMore.{after-one-more, told-at}
 use Rattle.text_out.specs.Wrote.{Wrote, appended}
 use Rattle.text_evidence.specs.declared.Written.{Written}
 use Rattle.text_evidence.specs.Evidence.{counted, tookAll, Counted, counted-none, counted-on, Hands}
@@ -36,18 +37,11 @@ unfolding joined
 joined-one [] l u = refl
 joined-one (k ∷ ls) l u = ap (λ (z : List ℕ). k ++ lineFeed ∷ z) (joined-one ls l u)
 
-after-one : (ls : List (List ℕ)) (l : List ℕ) (e : Evening) → afterAll (ls ++ l ∷ []) e ≡ after l (afterAll ls e)
-unfolding afterAll
-after-one [] l e = refl
-after-one (k ∷ ls) l e = after-one ls l (after k e)
-
 answers-one : (telling : Telling) (ls : List (List ℕ)) (l : List ℕ) (e : Evening)
     → answers telling (ls ++ l ∷ []) e ≡ answers telling ls e ++ answer telling l (afterAll ls e)
-unfolding answers afterAll
-answers-one telling [] l e = append-nil (answer telling l e)
-answers-one telling (k ∷ ls) l e =
-    ap (λ (z : List ℕ). answer telling k e ++ z) (answers-one telling ls l (after k e))
-    ∙ sym (append-assoc (answer telling k e) (answers telling ls (after k e)) (answer telling l (afterAll ls (after k e))))
+unfolding answers
+answers-one telling ls l e =
+    told-at telling ls [] l e ∙ append-nil (answers telling ls e ++ answer telling l (afterAll ls e))
 
 each-one : (ls : List (List ℕ)) (l : List ℕ) → Each ls → Unbroken l → Each (ls ++ l ∷ [])
 unfolding Each
@@ -76,8 +70,8 @@ pub record Sofar (telling : Telling) (t : List Record) (b : List ℕ) (s : State
   pub o₀ : List ℕ
   pub run : Run telling t b₀ o₀ lines got told b s t' o
   pub unbroken : Each lines
-  pub evening : eveningOf s t' ≡ afterAll lines (eveningOf (startState telling) t)
-  pub said : told ++ take (s .waiting) o ≡ answers telling lines (eveningOf (startState telling) t)
+  pub evening : eveningOf s t' ≡ afterAll lines (startEvening t)
+  pub said : told ++ take (s .waiting) o ≡ answers telling lines (startEvening t)
   pub delivered : Counted 0 (length got) (s .input .read .all)
   pub handed : Counted 0 (length told) (s .told .all)
   pub one-way : s .telling ≡ telling
@@ -122,7 +116,7 @@ module _ {telling : Telling} {t : List Record} {b : List ℕ} {s : State} {u : L
     {u' : List Record} {o' : List ℕ} (so : Sofar telling t b s u o) (more : 0 < s .input .left)
     (turn : Turns b s u o b' r u' o') where
   abbrev start : Evening
-  start = eveningOf (startState telling) t
+  start = startEvening t
 
   abbrev all : List (List ℕ)
   all = so .lines ++ turn .line ∷ []
@@ -296,8 +290,8 @@ module _ {telling : Telling} {t : List Record} {b : List ℕ} {s : State} {u : L
         o₀ = so .o₀;
         run = goes (so .run) more turn;
         unbroken = each;
-        evening = turn .evening ∙ ap (after (turn .line)) (so .evening) ∙ sym (after-one (so .lines) (turn .line)
-            (eveningOf (startState telling) t));
+        evening = turn .evening ∙ ap (after (turn .line)) (so .evening) ∙ sym (after-one-more (so .lines) (turn .line)
+            (startEvening t));
         said = output .said;
         delivered = onward .delivered;
         handed = output .handed;
@@ -327,7 +321,7 @@ module _ {telling : Telling} {t : List Record} {b : List ℕ} {s : State} {u : L
   cut (inr e) = e .1
 
   -- no answer waits, so that all of them were handed over
-  all-said : so .told ≡ answers telling (so .lines) (eveningOf (startState telling) t)
+  all-said : so .told ≡ answers telling (so .lines) (startEvening t)
   all-said = sym (append-nil (so .told)) ∙ (rw (so .last over) at (so .said))
 
   pub served : Serves telling t s u

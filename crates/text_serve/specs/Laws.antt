@@ -1,9 +1,10 @@
 -- For a reader: where no write failed and fewer than 2^64 - 1 lines were served, they are the pieces of all the bytes
--- that were delivered, between line feeds, and the table at the end is the table after them. Assumes nothing.
+-- that were delivered, between line feeds, the table at the end is the table after them, and what was handed to `write`
+-- are the answers to them. Assumes nothing.
 use mathlib.Core.Path.{_≡_, refl, sym, ap, subst, _∙_}
 use mathlib.Core.Bool.{Bool, true, false, not}
 use mathlib.Core.Logic.{_⊎_, inl, inr}
-use mathlib.Core.List.{List, [], _∷_, _++_}
+use mathlib.Core.List.{List, [], _∷_, _++_, append-nil}
 use Prim.Native.Nat.{ℕ, suc, _<_}
 use native.Mathlib.Omega.{arith}
 use lib.Dec.{eqb}
@@ -13,15 +14,14 @@ use Rattle.text_evening.specs.declared.Telling.{Telling}
 use Rattle.text_protocol.specs.Bytes.{lineFeed, isLineFeed, isNot, run, grow, pieces, full, words, ended, lines}
 use Rattle.text_protocol.specs.Line.{meaning, called}
 use Rattle.text_protocol.specs.Calls.{deedOf}
-use Rattle.text_evening.specs.Evening.{Evening, tableAfter, after, afterAll}
+use Rattle.text_evening.specs.Evening.{Evening, startEvening, tableAfter, textOf, after, answer, afterAll, answers}
 use Rattle.paper.specs.declared.Record.{Record}
 use Rattle.text_evidence.specs.declared.Delivered.{Delivered}
 use Rattle.text_evidence.specs.declared.Written.{Written}
 use Rattle.text_evidence.specs.Evidence.{tookAll}
 use Rattle.text_turn.specs.declared.State.{State}
-use Rattle.text_turn.specs.Turn.{startState}
 use Rattle.text_input.specs.Input.{lineLength, Unbroken, Over}
-use Rattle.text_serve.specs.Serve.{eveningOf, Each, joined, mostLines, Cut, Serves}
+use Rattle.text_serve.specs.Serve.{Each, joined, mostLines, Cut, Serves}
 
 -- a byte of a line that has no line feed is none, and the rest of the line has none
 first-not : (c : ℕ) (l : List ℕ) → Unbroken (c ∷ l) → (eqb c lineFeed ≡ false) × Unbroken l
@@ -83,13 +83,38 @@ ended-table ((b ∷ p) ∷ []) e = refl
 ended-table ([] ∷ q ∷ ps) e = ended-table (q ∷ ps) (after [] e)
 ended-table ((b ∷ p) ∷ q ∷ ps) e = ended-table (q ∷ ps) (after (b ∷ p) e)
 
+-- and it has no answer
+nothing-told : (telling : Telling) (e : Evening) → answer telling [] e ≡ []
+unfolding answer textOf deedOf meaning called words full pieces
+nothing-told telling e = refl
+
+ended-told : (telling : Telling) (ps : List (List ℕ)) (e : Evening)
+    → answers telling ps e ≡ answers telling (ended ps) e
+unfolding answers ended
+ended-told telling [] e = refl
+ended-told telling ([] ∷ []) e = append-nil (answer telling [] e) ∙ nothing-told telling e
+ended-told telling ((b ∷ p) ∷ []) e = refl
+ended-told telling ([] ∷ q ∷ ps) e =
+    ap (λ (z : List ℕ). answer telling [] e ++ z) (ended-told telling (q ∷ ps) (after [] e))
+ended-told telling ((b ∷ p) ∷ q ∷ ps) e =
+    ap (λ (z : List ℕ). answer telling (b ∷ p) e ++ z) (ended-told telling (q ∷ ps) (after (b ∷ p) e))
+
 -- AND THE TABLE AT THE END IS THE TABLE AFTER THE LINES OF ALL THAT WAS DELIVERED
 pub served-table : {telling : Telling} {t : List Record} {r : State} {t' : List Record} (s : Serves telling t r t')
     → tookAll (r .told) ≡ true → length (s .lines) < mostLines
-    → t' ≡ afterAll (lines (s .got)) (eveningOf (startState telling) t) .table
+    → t' ≡ afterAll (lines (s .got)) (startEvening t) .table
 unfolding lines
 served-table {telling} {t} {r} {t'} s well few =
     ap (λ (z : Evening). z .table) (s .evening)
-    ∙ ap (λ (ls : List (List ℕ)). afterAll ls (eveningOf (startState telling) t) .table)
-    (served-pieces (s .cut) well few)
-    ∙ ended-table (pieces isLineFeed (s .got)) (eveningOf (startState telling) t)
+    ∙ ap (λ (ls : List (List ℕ)). afterAll ls (startEvening t) .table) (served-pieces (s .cut) well few)
+    ∙ ended-table (pieces isLineFeed (s .got)) (startEvening t)
+
+-- AND WHAT WAS HANDED TO `write`, IN ORDER, ARE THE ANSWERS TO THEM
+pub served-told : {telling : Telling} {t : List Record} {r : State} {t' : List Record} (s : Serves telling t r t')
+    → tookAll (r .told) ≡ true → length (s .lines) < mostLines
+    → s .told ≡ answers telling (lines (s .got)) (startEvening t)
+unfolding lines
+served-told {telling} {t} {r} {t'} s well few =
+    s .said
+    ∙ ap (λ (ls : List (List ℕ)). answers telling ls (startEvening t)) (served-pieces (s .cut) well few)
+    ∙ ended-told telling (pieces isLineFeed (s .got)) (startEvening t)

@@ -8,7 +8,7 @@ use lib.ListN.{length, take}
 use Rattle.paper.specs.declared.Record.{Record}
 use Rattle.text_evening.specs.declared.Telling.{Telling}
 use Rattle.text_protocol.specs.Bytes.{lineFeed, room}
-use Rattle.text_evening.specs.Evening.{Evening, after, answer, afterAll, answers, lastNumber}
+use Rattle.text_evening.specs.Evening.{Evening, startEvening, after, answer, afterAll, answers, lastNumber}
 use Rattle.text_out.specs.Wrote.{Wrote}
 use Rattle.text_input.specs.declared.Input.{Input}
 use Rattle.text_evidence.specs.declared.Delivered.{Delivered}
@@ -102,8 +102,8 @@ pub record Serves (telling : Telling) (t : List Record) (r : State) (t' : List R
   pub o : List ℕ
   pub run : Run telling t b₀ o₀ lines got told b r t' o
   pub cut : Cut got lines (r .input .read) (r .told)
-  pub evening : eveningOf r t' ≡ afterAll lines (eveningOf (startState telling) t)
-  pub said : told ≡ answers telling lines (eveningOf (startState telling) t)
+  pub evening : eveningOf r t' ≡ afterAll lines (startEvening t)
+  pub said : told ≡ answers telling lines (startEvening t)
   pub delivered : Counted 0 (length got) (r .input .read .all)
   pub handed : Counted 0 (length told) (r .told .all)
   pub one-way : r .telling ≡ telling
