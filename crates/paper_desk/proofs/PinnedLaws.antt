@@ -197,15 +197,21 @@ unfolding nearCleared
 move-leaves-near r Upper k l = ap (nearSecondOn Lower) (near-after r Upper k l)
 move-leaves-near r Lower k l = ap (nearSecondOn Upper) (near-after r Lower k l)
 
--- a move leaves the evaluation, the rates, the terms, the standing and the last quote second
+-- a move leaves everything else
 pub move-leaves : (r : Record) (side : Side)
-    → (moved r side .p1 ≡ r .p1)
+    → (moved r side .id ≡ r .id)
+    × (moved r side .statics ≡ r .statics)
+    × (moved r side .standing ≡ r .standing)
+    × (moved r side .p1 ≡ r .p1)
+    × (moved r side .p2 ≡ r .p2)
+    × (moved r side .s ≡ r .s)
+    × (moved r side .tentative ≡ r .tentative)
     × (moved r side .rates ≡ r .rates)
     × (moved r side .terms ≡ r .terms)
-    × (moved r side .standing ≡ r .standing)
     × (moved r side .second ≡ r .second)
+    × (moved r side .external ≡ r .external)
 unfolding moved
-move-leaves r side = (refl, refl, refl, refl, refl)
+move-leaves r side = (refl, refl, refl, refl, refl, refl, refl, refl, refl, refl, refl)
 
 -- W-210: "the evening moves made" are one more after a move of either side, and in main there are none
 pub evening-move-counts : (r : Record) (side : Side) (made : ℕ) → r .session ≡ Evening made

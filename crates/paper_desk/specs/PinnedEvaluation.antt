@@ -16,12 +16,12 @@ use Rattle.paper.specs.declared.Record.{Record}
 use Rattle.paper.specs.Ranges.{staticsOf, noLimits, noExternal}
 use Rattle.paper_desk.specs.Evaluation.{rowPrice, rowWeight, evaluationOf, dayRows}
 use Rattle.paper_desk.specs.Rates.{modelOf, moveOf, weightOf, replaces, volatilityOf, tentativeRate}
-use Rattle.paper_desk.specs.Rates.{tentativeAfter, levelRate}
+use Rattle.paper_desk.specs.Rates.{levelRate, ratedBy}
 use Rattle.paper_desk.specs.Limits.{rangeLimit, bandLimit, deltaOf}
 use Rattle.paper_desk.specs.Desk.{blank, evaluate, admitted, run}
-use Rattle.paper.specs.PinnedValues.{_but_, lotAt, qAt, centralAt, pchmaxAt, pclmaxAt, monitoringAt, ewmaAt, p1At, sAt}
-use Rattle.paper.specs.PinnedValues.{ageAt, ratesAt, givenFrom, admissionFrom, recordFrom, dayFrom, closedAt, zNumbers}
-use Rattle.paper.specs.PinnedValues.{zRecord, yesNo}
+use Rattle.paper.specs.PinnedValues.{_but_, lotAt, qAt, waitAt, centralAt, pchmaxAt, pclmaxAt, monitoringAt, ewmaAt}
+use Rattle.paper.specs.PinnedValues.{p1At, sAt, ageAt, ratesAt, givenFrom, admissionFrom, recordFrom, dayFrom, closedAt}
+use Rattle.paper.specs.PinnedValues.{zNumbers, zRecord, yesNo}
 use Rattle.paper_desk.specs.PinnedSequence.{numbers}
 
 -- ---- the evaluation
@@ -99,11 +99,12 @@ staticsBut : (numbersOfZ : List ℤ) → Statics
 unfolding staticsOf givenFrom
 staticsBut numbersOfZ = staticsOf (givenFrom numbersOfZ)
 
--- the tentative rate 600 of Z at an age, and its age, after an evaluation that wants t
+-- the tentative rate 600 of Z at an age, and its age, after an evaluation that wants t; n is 6, which no other static is
 tentativeAt : (age t : ℕ) → List ℕ
 unfolding numbers staticsBut zNumbers
 tentativeAt age t =
-    let after : Tentative = tentativeAfter 100 5 t (record { bp = 600; age = age }) in
+    let after : Tentative =
+    ratedBy (staticsBut (zNumbers but (waitAt, pos 6))) 0 t 0 (record { bp = 600; age = age }) .tentative in
     after .bp ∷ after .age ∷ []
 
 pub rates : List (List ℕ)
@@ -140,10 +141,10 @@ rates =
     ∷ tentativeAt 0 699
     ∷ tentativeAt 0 1200
     -- "Else if t ≤ tentative - h and age + 1 ≥ n, it falls by one h.": at 500, one above; a day too early; far below
+    ∷ tentativeAt 5 500
+    ∷ tentativeAt 5 501
     ∷ tentativeAt 4 500
-    ∷ tentativeAt 4 501
-    ∷ tentativeAt 3 500
-    ∷ tentativeAt 4 0
+    ∷ tentativeAt 5 0
     -- "Age becomes 0 on a change, else one more, held at 250."
     ∷ tentativeAt 248 600
     ∷ tentativeAt 249 600
@@ -167,8 +168,8 @@ pub rates-are : rates
     ∷ (600 ∷ 1 ∷ [])
     ∷ (1200 ∷ 0 ∷ [])
     ∷ (500 ∷ 0 ∷ [])
+    ∷ (600 ∷ 6 ∷ [])
     ∷ (600 ∷ 5 ∷ [])
-    ∷ (600 ∷ 4 ∷ [])
     ∷ (500 ∷ 0 ∷ [])
     ∷ (600 ∷ 249 ∷ [])
     ∷ (600 ∷ 250 ∷ [])
