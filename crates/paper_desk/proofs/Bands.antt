@@ -1,6 +1,5 @@
--- W-209: where a band limit stands. It is never outside the exact band; an accepted evaluation writes no band that is
--- crossed; and a move never takes its side inward, so that a moved band crosses only if it was crossed before. Assumes
--- nothing.
+-- W-209: where a limit that is rounded inward stands; an accepted evaluation writes no band that is crossed; and a move
+-- never takes its side inward, so that a moved band crosses only if it was crossed before. Assumes nothing.
 use mathlib.Core.Path.{_≡_, refl}
 use mathlib.Core.Bool.{Bool, true, false, not}
 use mathlib.Core.List.{List}
@@ -28,13 +27,13 @@ use Rattle.paper.specs.Roundings.{Quotient, roundedTo, KeepsOrder, lesserOf, gr
 use Rattle.paper.specs.Ranges.{gridOf, noLimits}
 use Rattle.paper.specs.Verdicts.{NoneApplies, none, also}
 use Rattle.paper_desk.specs.Limits.{share, limitOf, inward, Inside, grownPrice, bondLimitOf, shifted, farthest}
-use Rattle.paper_desk.specs.Limits.{spread, monitored, narrower, narrowerOf, bandBefore, bandLimit, bandOf}
+use Rattle.paper_desk.specs.Limits.{spread, monitored, narrower, narrowerOf, bandLimit, bandOf}
 use Rattle.paper_desk.specs.Limits.{crossed, oneMore, LimitStatics, Outward}
 use Rattle.paper_desk.specs.Desk.{evaluated, evaluateChecks}
 use Rattle.paper.proofs.Logic.{each-of-three, not-true, not-false}
 use Rattle.paper.proofs.Roundings.{down-not-above, up-not-below}
 use Rattle.paper_desk.proofs.KindLaws.{bond-limit-is, limit-monotone, narrower-rounded, farthest-positive}
-use Rattle.paper_desk.proofs.KindLaws.{monitored-positive, band-positive}
+use Rattle.paper_desk.proofs.KindLaws.{monitored-positive}
 use Rattle.paper_desk.proofs.LimitSizes.{grid-in-range}
 
 -- ---- inward
@@ -46,15 +45,8 @@ limit-inside st Upper x p =
 limit-inside st Lower x p =
     omega (arith, up-not-below (x .num) (x .den * gridOf (st .lot)) (mul-pos p (grid-in-range (st .lot) .0)))
 
--- a band limit is never outside the exact band
-pub band-inside : (st : Statics) (side : Side) (p s1 c k : ℕ) (repo : ℤ) → LimitStatics st
-    → Inside side (bandLimit st p s1 k repo c side) (bandBefore share st p s1 k repo c side)
-unfolding bandLimit
-band-inside st side p s1 c k repo s =
-    limit-inside st side (bandBefore share st p s1 k repo c side)
-    (band-positive share st side p s1 c k repo (s .divisor-low))
-
--- and so of a bond, whose grown price is rounded half up to a unit before
+-- and so of a bond: inside the quotient of its grown price, which is rounded half up to a unit before (W-206). The
+-- grown price that is not rounded may be passed by it (BondCases of paper_bonds, half-up-passes)
 pub bond-inside : (side : Side) (b : BondScale) (x : Quotient) → 0 < b .face
     → Inside side (bondLimitOf (inward side) b x)
     (record { num = oneInPerCentHundredths * (grownPrice x - (b .carry + b .accrued)); den = b .face })

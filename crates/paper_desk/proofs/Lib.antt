@@ -14,6 +14,7 @@ pub mod CarriedOn
 pub mod Roots
 pub mod Level
 pub mod Order
+pub mod ExactBand
 pub mod TentativeRange
 pub mod PinnedLaws
 pub mod Admissions

@@ -89,8 +89,8 @@ level-rates-ascend st level next tentative m v w o k n = go (n .covers-or-held)
 -- ---- a limit and the evaluation
 
 -- no rounding passes a price on the grid: where the price lies inside the exact limit, it lies inside the rounded one
-limit-around : (way : Way) (st : Statics) (side : Side) (x : Quotient) (p : ℕ) → 0 < x .den → p % gridOf (st .lot) ≡ 0
-    → Inside side p x → Outward side (limitOf way st x) p
+pub limit-around : (way : Way) (st : Statics) (side : Side) (x : Quotient) (p : ℕ) → 0 < x .den
+    → p % gridOf (st .lot) ≡ 0 → Inside side p x → Outward side (limitOf way st x) p
 limit-around way st Upper x p d e h =
     let times : p / gridOf (st .lot) * gridOf (st .lot) ≡ p = quotient-times-is p (gridOf (st .lot)) e in
     rw times at (limit-ge way st x (p / gridOf (st .lot)) d (rw times h))
@@ -171,7 +171,7 @@ either-inside : (b : Bool) (side : Side) (p : ℕ) (x y : Quotient) → Inside s
 either-inside true side p x y h l = h
 either-inside false side p x y h l = l
 
-narrower-inside : (side : Side) (p : ℕ) (x y : Quotient) → Inside side p x → Inside side p y
+pub narrower-inside : (side : Side) (p : ℕ) (x y : Quotient) → Inside side p x → Inside side p y
     → Inside side p (narrower side x y)
 unfolding narrower lesserOf greaterOf
 narrower-inside Upper p x y h l = either-inside (leb (x .num * y .den) (y .num * x .den)) Upper p x y h l

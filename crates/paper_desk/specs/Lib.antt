@@ -12,6 +12,7 @@ pub mod Sequences
 pub mod Exact
 pub mod Kept
 pub mod Sides
+pub mod ExactBand
 pub mod PinnedKinds
 pub mod PinnedSequence
 pub mod PinnedErrors
