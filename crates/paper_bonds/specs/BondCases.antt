@@ -8,15 +8,18 @@ use lib.ListN.{getD}
 use Rattle.paper.specs.declared.AskedTerm.{AskedTerm}
 use Rattle.paper.specs.declared.Limits.{Limits}
 use Rattle.paper.specs.declared.Rate.{Rate}
+use Rattle.paper.specs.declared.Side.the-variants.{Upper}
 use Rattle.paper.specs.declared.RepoBand.the-variants as band
 use Rattle.paper.specs.Lists.{pick, every, some}
-use Rattle.paper.specs.Roundings.{down, halfUp, up, toGrid, lesserOf, greaterOf, grown}
+use Rattle.paper.specs.Numbers.{oneInPerCentHundredths}
+use Rattle.paper.specs.Roundings.{Quotient, down, halfUp, up, toGrid, lesserOf, greaterOf, grown}
 use Rattle.paper.specs.Least.{first, least, leastMultiple}
 use Rattle.paper.specs.Ranges.{unsigned, partsFrom, isPrice, validStatics, staticsOf, validGiven, tentativeTop}
 use Rattle.paper.specs.Ranges.{validTentative, validTerm, noLimits}
 use Rattle.paper_desk.specs.Rates.{leastStep, tentativeRate, tentativeAfter, meetsRequirement, daysOf, minimumOf}
 use Rattle.paper_desk.specs.Rates.{covers, levelRate, unmodelled, figuresByVolatility}
-use Rattle.paper_desk.specs.Limits.{bondLimitOf, shifted, farthest, spread, monitored, narrower, crossed}
+use Rattle.paper_desk.specs.Limits.{bond, grownPrice, bondLimitOf, shifted, farthest, spread, monitored, narrower}
+use Rattle.paper_desk.specs.Limits.{bandBefore, crossed}
 use Rattle.paper.specs.Terms.{workedRepo, repoOf, termOf}
 use Rattle.paper.specs.Verdicts.{numberOf, isDone, firstOf}
 use Rattle.paper.specs.PinnedValues.{_but_, signed, plain}
@@ -25,7 +28,8 @@ use Rattle.paper_bonds.specs.declared.BondLimits.{BondLimits}
 use Rattle.paper_bonds.specs.declared.BondAnswer.{BondAnswer}
 use Rattle.paper_bonds.specs.Bonds.{givenOf, flowAt, lentFlows, wholeFlows, validFlow, validFlows, flowOf}
 use Rattle.paper_bonds.specs.Bonds.{flowsOf, validNumbers, validBond, grossOf, carryTerm, carryDue, carryOf}
-use Rattle.paper_bonds.specs.Bonds.{bondFigures, limitsFrom, limitsOf, isCrossed, bondChecks, refusedBond}
+use Rattle.paper_bonds.specs.Bonds.{bondStatics, bondFigures, firstRate, scaleAt, limitsFrom, limitsOf}
+use Rattle.paper_bonds.specs.Bonds.{isCrossed, bondChecks, refusedBond}
 use Rattle.paper_bonds.specs.Bonds.{acceptedBond, bondAnswer}
 
 -- ---- a bond as a row of numbers, in the order of the evening's line
@@ -308,6 +312,42 @@ pub worked-first : workedFirst
     ∷ []
 unfolding workedFirst
 worked-first = refl
+
+-- ---- what a limit is inside of (W-209): the quotient of the grown price that W-206 has rounded half up to a unit
+
+-- a net evaluation of 93.66 per cent of 10,000,000 units, REPORate 7.33 per cent, a first term of 7 days, Monitoring no
+-- and PcH_max 20 per cent
+passingBond : Bond
+unfolding changed bondFrom
+passingBond =
+    bondFrom
+    (changed
+    ((netAt, pos 9366) ∷ (faceAt, pos 10000000) ∷ (repoAt, pos 733) ∷ (termsAt, pos 7) ∷ (monitoringAt, pos 0) ∷ []))
+
+-- its grown price above, before it is rounded
+grownUpper : Quotient
+unfolding passingBond answered
+grownUpper =
+    bandBefore (bond (scaleAt passingBond [] 7)) (bondStatics passingBond) (grossOf passingBond) (firstRate passingBond)
+    7 (pos 0) 0 Upper
+
+-- a price in hundred-thousandths of a hundredth of a per cent of the face value, rounded down
+hundredThousandths : Quotient → ℕ
+unfolding passingBond answered
+hundredThousandths x = down (oneInPerCentHundredths * 100000 * x .num) (x .den * passingBond .face)
+
+-- the limits of the first term; then the upper one by the exact grown price, and by the rounded one
+pub passing : List ℕ
+unfolding passingBond grownUpper hundredThousandths answered firstBand
+passing =
+    firstBand (answered passingBond [])
+    ++ (hundredThousandths grownUpper ∷ hundredThousandths (record { num = grownPrice grownUpper; den = 1 }) ∷ [])
+
+-- 9,366,000·1.2·(1 + 7.33·7/36,500) is 11,254,999.54 units, and half up 11,255,000: the limit that is published is
+-- inside the quotient of the rounded price, on which it stands, and passes that of the exact price
+pub half-up-passes : passing ≡ 7504 ∷ 11255 ∷ 7504 ∷ 11255 ∷ 1125499954 ∷ 1125500000 ∷ []
+unfolding passing
+half-up-passes = refl
 
 -- ---- 9, on the book and off it (W-209)
 
