@@ -10,3 +10,4 @@ pub mod Carried
 pub mod SlotHistories
 pub mod Order
 pub mod Demands
+pub mod Inside
