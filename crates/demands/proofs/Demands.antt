@@ -1,30 +1,29 @@
 -- The customer's demands, a theorem each. What they say stands in specs/Demands.antt. Assumes nothing.
 use mathlib.Core.Path.{_≡_, refl, sym, _∙_, ap, subst}
-use mathlib.Core.Bool.{true, false}
-use mathlib.Core.List.{List, [], _∷_, map}
+use mathlib.Core.Bool.{true}
+use mathlib.Core.List.{List, map}
 use Prim.Native.Nat.{ℕ}
-use lib.ListN.{set}
+use native.Mathlib.Omega.{arith}
 use Rattle.paper.specs.declared.Record.{Record}
 use Rattle.paper.specs.declared.Admission.{Admission}
+use Rattle.paper.specs.declared.Quote.{Quote}
 use Rattle.paper.specs.declared.Verdict.{Verdict}
 use Rattle.paper.specs.declared.Verdict.the-variants.{Done, NoSuchId, AlreadyAdmitted}
-use Rattle.paper.specs.Ranges.{sideOf, validAdmission}
-use Rattle.paper.specs.Verdicts.{numberOf, isDone, Check, firstOf, NoneApplies, Exactly}
+use Rattle.paper.specs.Verdicts.{numberOf, isDone, Check, Exactly}
 use Rattle.paper_desk.specs.Desk.{Call, admit, evaluate, quote, move, read, openEvening, receive, idOf, Outcome, saying}
-use Rattle.paper_desk.specs.Desk.{showing, evaluated, moved, eveningOpened, received, place, stands, found, known}
-use Rattle.paper_desk.specs.Desk.{checksOf, admitChecks, evaluateChecks, quoteChecks, moveChecks, readChecks}
-use Rattle.paper_desk.specs.Desk.{openChecks, receiveChecks, acceptedOf, step, run}
-use Rattle.paper_desk.specs.History.{FreshTable, Event, unknown, since, historyOf, wasAdmitted, isAdmission}
-use Rattle.demands.specs.Demands.{answered, orderOf, Demand1, FiguresHold, answerThen, Demand2, Demand3}
+use Rattle.paper_desk.specs.Desk.{showing, stands, found, known, checksOf, admitChecks, evaluateChecks, quoteChecks}
+use Rattle.paper_desk.specs.Desk.{moveChecks, readChecks, openChecks, receiveChecks, acceptedOf, step, run}
+use Rattle.paper_desk.specs.Sides.{shows}
+use Rattle.paper_desk.specs.History.{FreshTable, Event, unknown, since, historyOf, wasAdmitted}
+use Rattle.demands.specs.Demands.{answered, orderOf, Demand1, FiguresHold, alertsThen, Demand2, Demand3}
 use Rattle.demands.specs.Demands.{TableKept, BandsInOrder}
-use Rattle.paper_desk.proofs.Slots.{found-stored, known-stands}
 use Rattle.paper_desk.proofs.Refusals.{verdict-first, refused-step, accepted-step, refused-only, refused-always}
 use Rattle.paper_desk.proofs.Refusals.{accepted-only, accepted-always}
-use Rattle.demands.proofs.Kept.{run-sound, call-knows}
+use Rattle.demands.proofs.Kept.{run-sound}
 use Rattle.demands.proofs.Histories.{recordOf, Lawful}
 use Rattle.demands.proofs.Known.{one-exactly-unknown, history-since, known-admitted, no-such-id}
 use Rattle.demands.proofs.Known.{already-admitted, stays-known}
-use Rattle.paper_desk.proofs.PinnedLaws.{bad-table-refused}
+use Rattle.paper_desk.proofs.PinnedLaws.{bad-table-refused, shown-stands}
 use Rattle.demands.proofs.Sequences.{accepted-term-below-three, alerts-noted, lawful-figures, lawful-statics}
 use Rattle.demands.proofs.Sequences.{rates-hold}
 use Rattle.demands.proofs.Bands.{lawful-uncrossed}
@@ -59,6 +58,13 @@ in-order (read id) t = refl
 in-order (openEvening id) t = refl
 in-order (receive id x) t = refl
 
+-- an accepted admission answers 0 alone
+admission-answers : (a : Admission) (t : List Record) → answered (admit a) t ≡ Done
+    → step (admit a) t .answer ≡ saying Done
+unfolding isDone acceptedOf
+admission-answers a t done =
+    ap (λ (o : Outcome). o .answer) (accepted-step (admit a) t (ap isDone (sym (verdict-first (admit a) t) ∙ done)))
+
 pub demand-1 : (c : Call) (t : List Record) → Demand1 c t
 unfolding isDone
 demand-1 c t =
@@ -69,6 +75,9 @@ demand-1 c t =
       left = λ e.
           refused-step c t (ap isDone (sym (verdict-first c t)) ∙ e)
           ∙ ap (λ (v : Verdict). record { answer = saying v; table = t }) (sym (verdict-first c t));
+      admission = λ a same.
+          subst (λ (x : Call). answered x t ≡ Done → step x t .answer ≡ saying Done) (sym same)
+          (admission-answers a t);
       not-known = one-exactly-unknown c t;
       bad-table = bad-table-refused c t;
       no-such-id = λ n cs empty f made.
@@ -85,35 +94,36 @@ demand-1 c t =
 
 -- ---- Demand 2
 
-module _ (a : Admission) (es : List Event) (t : List Record) where
-  -- the record that a call writes in its own slot is the one that is then found
-  shown : (id : ℕ) (x : Record) → known t id ≡ true → x .id ≡ found t id .id
-      → showing x ≡ showing (found (set t (place t id) x) id)
-  shown id x there same = ap showing (sym (found-stored t id x (known-stands t id there) same))
+-- a call that shows a record shows the one that then stands
+shown-answers : (c : Call) (t : List Record) → shows c ≡ true → answered c t ≡ Done
+    → step c t .answer ≡ showing (found (step c t .table) (idOf c))
+unfolding isDone acceptedOf showing
+shown-answers c t s done =
+    let is : step c t ≡ acceptedOf c t = accepted-step c t (ap isDone (sym (verdict-first c t) ∙ done)) in
+    ap (λ (o : Outcome). o .answer) is ∙ only c s
+    ∙ ap (λ (o : Outcome). showing (o .answer .rec)) (sym is)
+    ∙ ap showing (sym (shown-stands c t s (ap isDone done)))
+  where
+    -- an accepted call of that kind answers a record and nothing else
+    only : (c : Call) → shows c ≡ true → acceptedOf c t .answer ≡ showing (acceptedOf c t .answer .rec)
+    only (admit a) s = absurd (let z : _≡_ {A = ℕ} 0 1 = cc in omega arith)
+    only (evaluate id d rows) s = refl
+    only (quote id q) s = absurd (let z : _≡_ {A = ℕ} 0 1 = cc in omega arith)
+    only (move id side) s = refl
+    only (read id) s = refl
+    only (openEvening id) s = refl
+    only (receive id x) s = refl
 
-  accepted-answers : (c : Call) → FiguresHold a es (found t (idOf c)) → NoneApplies (checksOf c t)
-      → acceptedOf c t .answer ≡ answerThen a es c (acceptedOf c t .table)
-  unfolding acceptedOf checksOf evaluated moved eveningOpened received
-  accepted-answers (admit b) k n = refl
-  accepted-answers (evaluate id d rows) k n =
-      shown id (evaluated (found t id) d rows) (call-knows (evaluate id d rows) t refl n) refl
-  accepted-answers (quote id q) k n =
-      alerts-noted a es (found t id) q k (accepted-term-below-three (known t id) (found t id) q n) id t
-  accepted-answers (move id side) k n =
-      shown id (moved (found t id) (sideOf side)) (call-knows (move id side) t refl n) refl
-  accepted-answers (read id) k n = refl
-  accepted-answers (openEvening id) k n =
-      shown id (eveningOpened (found t id)) (call-knows (openEvening id) t refl n) refl
-  accepted-answers (receive id x) k n =
-      shown id (received (found t id) x) (call-knows (receive id x) t refl n) refl
-
-  next-answers : (c : Call) → FiguresHold a es (found t (idOf c)) → answered c t ≡ Done
-      → step c t .answer ≡ answerThen a es c (step c t .table)
-  unfolding isDone
-  next-answers c k done =
-      let first : isDone (firstOf (checksOf c t)) ≡ true = ap isDone (sym (verdict-first c t) ∙ done) in
-      subst (λ (o : Outcome). o .answer ≡ answerThen a es c (o .table)) (sym (accepted-step c t first))
-      (accepted-answers c k (accepted-only c t (ap isDone done)))
+-- an accepted quote answers its alerts
+quote-answers : (id : ℕ) (a : Admission) (es : List Event) (t : List Record) (q : Quote)
+    → FiguresHold a es (found t id) → answered (quote id q) t ≡ Done
+    → step (quote id q) t .answer ≡ alertsThen a es q
+unfolding isDone acceptedOf checksOf
+quote-answers id a es t q k done =
+    ap (λ (o : Outcome). o .answer)
+    (accepted-step (quote id q) t (ap isDone (sym (verdict-first (quote id q) t) ∙ done)))
+    ∙ alerts-noted a es (found t id) q k
+    (accepted-term-below-three (known t id) (found t id) q (accepted-only (quote id q) t (ap isDone done)))
 
 pub demand-2 : (id : ℕ) (cs : List Call) (t : List Record) → FreshTable t → (a : Admission) (es : List Event)
     → historyOf id cs t ≡ since a es → Demand2 id a es (run cs t)
@@ -123,8 +133,10 @@ demand-2 id cs t f a es e =
       is-known = known-admitted cs t (f .slots) (f .empty) id ∙ ap wasAdmitted e;
       figures = figures;
       rates = λ d last. rates-hold a es (found (run cs t) id) d (lawful-statics a es (k .2)) figures last;
-      answers = λ c same.
-          next-answers a es (run cs t) c (subst (λ (i : ℕ). FiguresHold a es (found (run cs t) i)) (sym same) figures);
+      answers = λ c same s done.
+          subst (λ (i : ℕ). step c (run cs t) .answer ≡ showing (found (step c (run cs t) .table) i)) same
+          (shown-answers c (run cs t) s done);
+      alerts = λ q done. quote-answers id a es (run cs t) q figures done;
     }
   where
     k : (stands (run cs t) id ≡ true) × (found (run cs t) id ≡ recordOf a es) × Lawful a es

@@ -24,6 +24,7 @@ use Rattle.paper.specs.Verdicts.{numberOf, isDone, Check, FirstAt, NoneApplies,
 use Rattle.paper_desk.specs.Desk.{Call, admit, evaluate, quote, move, read, openEvening, receive, idOf, saying, showing}
 use Rattle.paper_desk.specs.Desk.{alerting, found, known, checksOf, step, run}
 use Rattle.paper_desk.specs.Kept.{everySlot}
+use Rattle.paper_desk.specs.Sides.{shows}
 use Rattle.paper_desk.specs.History.{FreshTable, Event, quotedAt, unknown, since, historyOf, wasAdmitted, isAdmission}
 use Rattle.paper_desk.specs.History.{evaluations}
 use Rattle.paper_desk.specs.Sequences.{carries, onDay, lastEvaluated, movesOf, standingNow, termNow, rangeNow, bandNow}
@@ -61,6 +62,8 @@ pub record Demand1 (c : Call) (t : List Record) : Type 0 where
   pub accepted : Exactly (answered c t ≡ Done) (NoneApplies (checksOf c t))
   -- "A refusal returns its number with all figures 0 .. and writes nothing."
   pub left : isDone (answered c t) ≡ false → step c t ≡ record { answer = saying (answered c t); table = t }
+  -- "an admission the number 0 alone"; what the other calls answer is demand 2's
+  pub admission : (a : Admission) → c ≡ admit a → answered c t ≡ Done → step c t .answer ≡ saying Done
   -- it answers 1 exactly where the id is not known: "no such id (0 included)", or the first slot with it is damaged
   pub not-known : isAdmission c ≡ false → Exactly (answered c t ≡ NoSuchId) (known t (idOf c) ≡ false)
   -- "A table of no slots, or over 512, is refused 4 by admit and 1 by the rest."
@@ -111,20 +114,13 @@ pub record RatesHold (st : Statics) (m : ℕ) (r : Record) : Type 0 where
       (rateAt (r .rates) i)
   pub minima : st .ewma ≡ false → (i : ℕ) → i < 3 → rateAt (r .rates) i ≡ minimumOf st (i + 1)
 
--- "Accepted evaluations, moves and reads return the record as it then stands, a quote its two alerts, an admission the
--- number 0 alone": t is the table then. An alert is "near, and at least u seconds since that second"; W-210: in the
--- evening by "its own seconds u", and "An accepted opening returns the record."; W-211: so does each receipt
-abbrev pub answerThen : Admission → List Event → Call → List Record → Answer
-answerThen a es (admit b) t = saying Done
-answerThen a es (evaluate id d rows) t = showing (found t id)
-answerThen a es (quote id q) t =
+-- "a quote its two alerts": an alert is "near, and at least u seconds since that second"; W-210: in the evening by "its
+-- own seconds u"
+abbrev pub alertsThen : Admission → List Event → Quote → Answer
+alertsThen a es q =
     let u : ℕ = alertSeconds (staticsOf (a .given)) (sessionNow es) in
     alerting (alert u (nearSince a Upper (q .term) (quotedAt q ∷ es)) (q .second))
     (alert u (nearSince a Lower (q .term) (quotedAt q ∷ es)) (q .second))
-answerThen a es (move id side) t = showing (found t id)
-answerThen a es (read id) t = showing (found t id)
-answerThen a es (openEvening id) t = showing (found t id)
-answerThen a es (receive id x) t = showing (found t id)
 
 -- "Each evaluation, rate, range and band is the one document 01 defines. .. For every sequence of admissions,
 -- evaluations, quotes and moves"; W-210: "over sequences that contain openings"; W-211: "these calls too". Of a
@@ -134,8 +130,12 @@ pub record Demand2 (id : ℕ) (a : Admission) (es : List Event) (t : List Record
   pub figures : FiguresHold a es (found t id)
   -- of the last accepted evaluation, with its m
   pub rates : (d : Day) → lastEvaluated es ≡ onDay d → RatesHold (staticsOf (a .given)) (d .m) (found t id)
-  -- of the next call about the security, if it is accepted; the record that then stands is that of the longer sequence
-  pub answers : (c : Call) → idOf c ≡ id → answered c t ≡ Done → step c t .answer ≡ answerThen a es c (step c t .table)
+  -- of the next call about the security, if it is accepted. "Accepted evaluations, moves and reads return the record as
+  -- it then stands", W-210: "An accepted opening returns the record.", W-211: so does each receipt; the record that then
+  -- stands is that of the longer sequence
+  pub answers : (c : Call) → idOf c ≡ id → shows c ≡ true → answered c t ≡ Done
+      → step c t .answer ≡ showing (found (step c t .table) id)
+  pub alerts : (q : Quote) → answered (quote id q) t ≡ Done → step (quote id q) t .answer ≡ alertsThen a es q
 
 -- ---- Demand 3
 
