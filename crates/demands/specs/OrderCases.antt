@@ -1,11 +1,12 @@
 -- W-213: what the lines of `InOrder` lean on. Each case takes away one condition, and the line that leans on it fails:
--- the order of the statics (rates and ranges), the grid (ranges, and the evaluation within a band), the refusal 9
--- (bands), repo limits on either side of 0 (the evaluation within a band), the fifty moves of 12 (the greatest limit).
+-- the order of the statics and their steps (rates and ranges), the grid (ranges, and the evaluation within a band), the
+-- refusal 9 (bands), repo limits on either side of 0 (the evaluation within a band), the fifty moves of 12 (the
+-- greatest limit).
 -- It may use the calls of the desk, Order, and the values of PinnedValues. Assumes nothing.
 use mathlib.Core.Path.{_≡_, refl}
 use mathlib.Core.Bool.{true, false}
 use mathlib.Core.List.{List, [], _∷_, map}
-use Prim.Native.Nat.{ℕ, _+_}
+use Prim.Native.Nat.{ℕ, _+_, _%_}
 use lib.IntN.{ℤ, pos, negsuc}
 use lib.Dec.{leb}
 use Rattle.paper.specs.declared.Admission.{Admission}
@@ -71,16 +72,19 @@ moving-is = (refl, refl, refl)
 
 -- ---- the rates, and so the ranges, ascend by the order of the statics
 
--- Z with minima of 100 and another rh_3; Z with isEWMA no and another S_3_min; Z with another S_max
-pub withDays : (rh3 : ℕ) → Statics
+-- Z with minima of 100 and other rh_1 to rh_3; Z with isEWMA no and other minima; Z with another S_max
+pub withDays : (rh1 rh2 rh3 : ℕ) → Statics
 unfolding zNumbers staticsFrom
-withDays rh3 =
+withDays rh1 rh2 rh3 =
     staticsFrom
-    (zNumbers but (minimaAt, pos 100) but (minimaAt + 1, pos 100) but (minimaAt + 2, pos 100) but (rhAt + 2, pos rh3))
+    (zNumbers but (minimaAt, pos 100) but (minimaAt + 1, pos 100) but (minimaAt + 2, pos 100)
+    but (rhAt, pos rh1) but (rhAt + 1, pos rh2) but (rhAt + 2, pos rh3))
 
-pub withMinimum : (min3 : ℕ) → Statics
+pub withMinima : (min1 min2 min3 : ℕ) → Statics
 unfolding zNumbers staticsFrom
-withMinimum min3 = staticsFrom (zNumbers but (ewmaAt, pos 0) but (minimaAt + 2, pos min3))
+withMinima min1 min2 min3 =
+    staticsFrom
+    (zNumbers but (ewmaAt, pos 0) but (minimaAt, pos min1) but (minimaAt + 1, pos min2) but (minimaAt + 2, pos min3))
 
 pub withMaximum : (smax : ℕ) → Statics
 unfolding zNumbers staticsFrom
@@ -97,26 +101,48 @@ unfolding answers ratesWith
 upperRangesWith st = map (λ (rate : ℕ). rangeOf st 1000000 rate .upper) (ratesWith st)
 
 -- rh_3 of 4 days below the 5 of rh_2: 650·sqrt(2/2) is 650, 650·sqrt(5/2) 1,027.8 and 650·sqrt(4/2) 919.3
-pub days-order-needed : (validStatics (withDays 4) ≡ false)
-    × (ratesWith (withDays 4) ≡ 700 ∷ 1100 ∷ 1000 ∷ []) × (neverFalls (ratesWith (withDays 4)) ≡ false)
-    × (upperRangesWith (withDays 4) ≡ 1070000 ∷ 1110000 ∷ 1100000 ∷ [])
+pub days-order-needed : (validStatics (withDays 2 5 4) ≡ false)
+    × (ratesWith (withDays 2 5 4) ≡ 700 ∷ 1100 ∷ 1000 ∷ []) × (neverFalls (ratesWith (withDays 2 5 4)) ≡ false)
+    × (upperRangesWith (withDays 2 5 4) ≡ 1070000 ∷ 1110000 ∷ 1100000 ∷ [])
 unfolding withDays ratesWith upperRangesWith neverFalls
 days-order-needed = (refl, refl, refl, refl)
 
--- at 5 days the statics are in range, so that nothing else was wrong with them
-pub days-in-order : (validStatics (withDays 5) ≡ true) × (ratesWith (withDays 5) ≡ 700 ∷ 1100 ∷ 1100 ∷ [])
+-- rh_1 of 5 days above the 4 of rh_2: 650·sqrt(5/5) is 650, 650·sqrt(4/5) 581.4 and 650·sqrt(8/5) 822.2
+pub first-days-needed : (validStatics (withDays 5 4 8) ≡ false)
+    × (ratesWith (withDays 5 4 8) ≡ 700 ∷ 600 ∷ 900 ∷ []) × (neverFalls (ratesWith (withDays 5 4 8)) ≡ false)
+    × (upperRangesWith (withDays 5 4 8) ≡ 1070000 ∷ 1060000 ∷ 1090000 ∷ [])
+unfolding withDays ratesWith upperRangesWith neverFalls
+first-days-needed = (refl, refl, refl, refl)
+
+-- at 5 days each the statics are in range, so that nothing else was wrong with them
+pub days-in-order : (validStatics (withDays 2 5 5) ≡ true) × (ratesWith (withDays 2 5 5) ≡ 700 ∷ 1100 ∷ 1100 ∷ [])
+    × (validStatics (withDays 5 5 8) ≡ true) × (ratesWith (withDays 5 5 8) ≡ 700 ∷ 700 ∷ 900 ∷ [])
 unfolding withDays ratesWith
-days-in-order = (refl, refl)
+days-in-order = (refl, refl, refl, refl)
 
 -- S_3_min of 600 below the 700 of S_2_min, and both again in order
-pub minima-order-needed : (validStatics (withMinimum 600) ≡ false)
-    × (ratesWith (withMinimum 600) ≡ 500 ∷ 700 ∷ 600 ∷ []) × (neverFalls (ratesWith (withMinimum 600)) ≡ false)
-unfolding withMinimum ratesWith neverFalls
+pub minima-order-needed : (validStatics (withMinima 500 700 600) ≡ false)
+    × (ratesWith (withMinima 500 700 600) ≡ 500 ∷ 700 ∷ 600 ∷ [])
+    × (neverFalls (ratesWith (withMinima 500 700 600)) ≡ false)
+unfolding withMinima ratesWith neverFalls
 minima-order-needed = (refl, refl, refl)
 
-pub minima-in-order : (validStatics (withMinimum 700) ≡ true) × (ratesWith (withMinimum 700) ≡ 500 ∷ 700 ∷ 700 ∷ [])
-unfolding withMinimum ratesWith
+pub minima-in-order : (validStatics (withMinima 500 700 700) ≡ true)
+    × (ratesWith (withMinima 500 700 700) ≡ 500 ∷ 700 ∷ 700 ∷ [])
+unfolding withMinima ratesWith
 minima-in-order = (refl, refl)
+
+-- S_1_min of 550, in order and no multiple of h: with isEWMA no it is the rate of level 1, which is then none either
+pub minimum-step-needed : (validStatics (withMinima 550 700 900) ≡ false)
+    × (ratesWith (withMinima 550 700 900) ≡ 550 ∷ 700 ∷ 900 ∷ []) × (550 % withMinima 550 700 900 .h ≡ 50)
+unfolding withMinima ratesWith
+minimum-step-needed = (refl, refl, refl)
+
+-- 600 is one
+pub minimum-on-its-step : (validStatics (withMinima 600 700 900) ≡ true)
+    × (ratesWith (withMinima 600 700 900) ≡ 600 ∷ 700 ∷ 900 ∷ [])
+unfolding withMinima ratesWith
+minimum-on-its-step = (refl, refl)
 
 -- S_max of 800 below the 900 of S_3_min: the rate of level 3 is below its minimum. S_max of 1,250, no multiple of h:
 -- the requirement 650·sqrt(8/2) is 1,300, and the rate of level 3 is no multiple of h either
