@@ -9,14 +9,14 @@ use Rattle.paper.specs.declared.Verdict.the-variants.{Done}
 use Rattle.paper.specs.Lists.{pick, every}
 use Rattle.paper.specs.Verdicts.{isDone, firstOf, FirstAt, NoneApplies, Exactly, allRefusals}
 use Rattle.paper.proofs.Logic.{pick-true, pick-false}
-use Rattle.paper_desk.proofs.Refusals.{done-is, given-is-first, first-is-given, done-means-none-applies}
-use Rattle.paper_desk.proofs.Refusals.{none-applies-gives-done}
+use Rattle.paper_desk.proofs.Refusals as checks
+use Rattle.paper_desk.proofs.Refusals.{done-is}
 use Rattle.paper_bonds.specs.declared.Bond.{Bond}
 use Rattle.paper_bonds.specs.Bonds.{flowsOf, bondChecks, refusedBond, acceptedBond, bondAnswer}
 
 module _ (b : Bond) (numbers : List ℤ) where
   -- what is answered carries the first number that applies
-  verdict-first : bondAnswer b numbers .verdict ≡ firstOf (bondChecks b numbers)
+  pub verdict-first : bondAnswer b numbers .verdict ≡ firstOf (bondChecks b numbers)
   unfolding bondAnswer acceptedBond refusedBond
   verdict-first = go (firstOf (bondChecks b numbers)) (isDone (firstOf (bondChecks b numbers))) refl
     where
@@ -28,18 +28,12 @@ module _ (b : Bond) (numbers : List ℤ) where
   -- a refusal is answered exactly when it is the first that applies
   pub refused-exactly : (v : Verdict) → isDone v ≡ false
       → Exactly (bondAnswer b numbers .verdict ≡ v) (FirstAt v (bondChecks b numbers))
-  refused-exactly v n = (
-    λ e. given-is-first (bondChecks b numbers) v n (sym verdict-first ∙ e),
-    λ f. verdict-first ∙ first-is-given (bondChecks b numbers) v f,
-  )
+  refused-exactly = checks.refused-exactly (bondAnswer b numbers .verdict) (bondChecks b numbers) verdict-first
 
   -- 0 exactly when none applies
   pub accepted-exactly : Exactly (bondAnswer b numbers .verdict ≡ Done) (NoneApplies (bondChecks b numbers))
   unfolding bondChecks isDone allRefusals every
-  accepted-exactly = (
-    λ e. done-means-none-applies (bondChecks b numbers) refl (ap isDone (sym verdict-first ∙ e)),
-    λ n. verdict-first ∙ none-applies-gives-done (bondChecks b numbers) n,
-  )
+  accepted-exactly = checks.accepted-exactly (bondAnswer b numbers .verdict) (bondChecks b numbers) verdict-first refl
 
   -- a refusal has its number and every figure 0
   pub refused-zero : isDone (bondAnswer b numbers .verdict) ≡ false

@@ -23,7 +23,7 @@ use Rattle.paper.specs.declared.Verdict.the-variants.{OpenedTwice, BadFloat, Cu
 use Rattle.paper.specs.declared.Verdict.the-variants.{NoRoom}
 use Rattle.paper.specs.Lists.{pick, every}
 use Rattle.paper.specs.Verdicts.{numberOf, isDone, Naming, Check, firstNamed, firstOf, FirstAt, here, later}
-use Rattle.paper.specs.Verdicts.{NoneApplies, none, also, allRefusals}
+use Rattle.paper.specs.Verdicts.{NoneApplies, none, also, allRefusals, Exactly}
 use Rattle.paper_desk.specs.Desk.{Call, admit, evaluate, quote, move, read, openEvening, receive, admitChecks}
 use Rattle.paper_desk.specs.Desk.{evaluateChecks, quoteChecks, moveChecks, readChecks, openChecks, receiveChecks}
 use Rattle.paper_desk.specs.Desk.{checksOf, Outcome, saying, showing, alerting, alertsOn, judged, acceptedOf}
@@ -112,6 +112,19 @@ done-means-none-applies (c ∷ cs) r e = go (c .applies) refl e
 pub none-applies-gives-done : (cs : List Check) → NoneApplies cs → firstOf cs ≡ Done
 unfolding firstOf
 none-applies-gives-done cs n = none-named Done cs n
+
+-- an answer that is the first of its checks: each number is given exactly when its condition holds and no earlier one
+-- does, and 0 exactly when none does
+module _ (answer : Verdict) (checks : List Check) (is : answer ≡ firstOf checks) where
+  pub refused-exactly : (v : Verdict) → isDone v ≡ false → Exactly (answer ≡ v) (FirstAt v checks)
+  refused-exactly v n = (λ e. given-is-first checks v n (sym is ∙ e), λ f. is ∙ first-is-given checks v f)
+
+  pub accepted-exactly : allRefusals checks ≡ true → Exactly (answer ≡ Done) (NoneApplies checks)
+  unfolding isDone
+  accepted-exactly r = (
+    λ e. done-means-none-applies checks r (ap isDone (sym is ∙ e)),
+    λ n. is ∙ none-applies-gives-done checks n,
+  )
 
 -- ---- each call
 

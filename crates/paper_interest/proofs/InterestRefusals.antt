@@ -20,7 +20,7 @@ use Rattle.paper_desk.proofs.Refusals.{none-applies-gives-done}
 
 module _ (i : Interest) (numbers : List ℤ) where
   -- what is answered carries the first number that applies
-  verdict-first : interestAnswer i numbers .pair .verdict ≡ firstOf (interestChecks i numbers)
+  pub verdict-first : interestAnswer i numbers .pair .verdict ≡ firstOf (interestChecks i numbers)
   unfolding interestAnswer acceptedInterest refusedInterest
   verdict-first = go (firstOf (interestChecks i numbers)) (isDone (firstOf (interestChecks i numbers))) refl
     where

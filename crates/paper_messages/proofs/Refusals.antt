@@ -9,25 +9,12 @@ use lib.ListN.{drop}
 use Rattle.paper.specs.declared.Verdict.{Verdict}
 use Rattle.paper.specs.declared.Verdict.the-variants.{Done}
 use Rattle.paper.specs.Lists.{every}
-use Rattle.paper.specs.Verdicts.{Check, isDone, firstOf, FirstAt, NoneApplies, Exactly, allRefusals}
+use Rattle.paper.specs.Verdicts.{isDone, firstOf, FirstAt, NoneApplies, Exactly, allRefusals}
 use Rattle.paper.proofs.Logic.{pick-false}
-use Rattle.paper_desk.proofs.Refusals.{given-is-first, first-is-given, done-means-none-applies, none-applies-gives-done}
+use Rattle.paper_desk.proofs.Refusals.{refused-exactly, accepted-exactly}
 use Rattle.paper_messages.specs.declared.Message.{Message}
 use Rattle.paper_messages.specs.Messages.{writeChecks, wroteOf, written, readChecks, refusedHeard, heardAt}
 use Rattle.paper_messages.proofs.MessageLaws.{heard-verdict}
-
--- an answer that is the first of its checks
-module _ (answer : Verdict) (checks : List Check) (is : answer ≡ firstOf checks) where
-  refused-exactly : (v : Verdict) → isDone v ≡ false → Exactly (answer ≡ v) (FirstAt v checks)
-  refused-exactly v n = (λ e. given-is-first checks v n (sym is ∙ e), λ f. is ∙ first-is-given checks v f)
-
-  accepted-exactly : allRefusals checks ≡ true → Exactly (answer ≡ Done) (NoneApplies checks)
-  unfolding isDone
-  accepted-exactly r = (
-    λ e. done-means-none-applies checks r (ap isDone (sym is ∙ e)),
-    λ n. is
-        ∙ none-applies-gives-done checks n,
-  )
 
 -- ---- the reader: 21, 22, 21, 22, 23
 

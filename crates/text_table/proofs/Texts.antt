@@ -277,7 +277,7 @@ says-long {id} {t} (good {rows = rows} h f r) =
     few : length rows ≤ rowsMost
     few = says-few {id = id} {t = t} (good h f r)
 
-no-line-zero : {id : ℕ} {ls : List (List ℕ)} {n : ℕ} → Bad id ls n → n ≡ 0 → ⊥
+pub no-line-zero : {id : ℕ} {ls : List (List ℕ)} {n : ℕ} → Bad id ls n → n ≡ 0 → ⊥
 no-line-zero (unended h g) e = omega arith
 no-line-zero (no-row h g) e = omega arith
 no-line-zero (seventeenth h f g) e = omega arith
