@@ -1,0 +1,2 @@
+-- The proof of it.
+pub mod Beside

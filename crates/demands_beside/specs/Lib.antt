@@ -1,0 +1,2 @@
+-- Demand 1 of the calls beside the table.
+pub mod Beside
