@@ -59,6 +59,21 @@ pub replacements-are : replacements
 unfolding replacements
 replacements-are = refl
 
+-- the evening after a replacement that won (line 1), with b holidays and a move of 0: new s, and the tentative rate
+pub afterwards : (b : ℕ) → List ℕ
+unfolding carriedBy
+afterwards b =
+    let st : Statics = staticsOf (givenFrom zNumbers) in
+    let won : Figures = modelled st 0 0 99 10000 1109 (record { bp = 0; age = 0 }) in
+    let f : Figures = modelled st b 0 99 0 (won .s) (won .tentative) in
+    f .s ∷ f .tentative .bp ∷ []
+
+-- "on a tie the ordinary rule stands", and so on every evening on which no replacement wins: with the weight 0 s stays
+-- 3,334, and t is 200 by the ordinary rule; with a_down, 500 of 10,000, s is 3,250, and t is 100 as it was
+pub afterwards-are : map afterwards (2 ∷ 1 ∷ []) ≡ (3334 ∷ 200 ∷ []) ∷ (3250 ∷ 100 ∷ []) ∷ []
+unfolding afterwards
+afterwards-are = refl
+
 -- ---- W-208: "Take the cap off t, W-202's included. .. Rates stay held at S_max"
 
 -- Z's, with S_max 200 bp, minima and liq 0
