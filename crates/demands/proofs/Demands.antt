@@ -23,7 +23,7 @@ use Rattle.demands.proofs.Kept.{run-sound}
 use Rattle.demands.proofs.Histories.{recordOf, Lawful}
 use Rattle.demands.proofs.Known.{one-exactly-unknown, history-since, known-admitted, no-such-id}
 use Rattle.demands.proofs.Known.{already-admitted, stays-known}
-use Rattle.paper_desk.proofs.PinnedLaws.{bad-table-refused, shown-stands}
+use Rattle.paper_desk.proofs.PinnedLaws.{bad-table-refused, shown-stands, admission-number-alone}
 use Rattle.demands.proofs.Sequences.{accepted-term-below-three, alerts-noted, lawful-figures, lawful-statics}
 use Rattle.demands.proofs.Sequences.{rates-hold}
 use Rattle.demands.proofs.Bands.{lawful-uncrossed}
@@ -58,13 +58,6 @@ in-order (read id) t = refl
 in-order (openEvening id) t = refl
 in-order (receive id x) t = refl
 
--- an accepted admission answers 0 alone
-admission-answers : (a : Admission) (t : List Record) → answered (admit a) t ≡ Done
-    → step (admit a) t .answer ≡ saying Done
-unfolding isDone acceptedOf
-admission-answers a t done =
-    ap (λ (o : Outcome). o .answer) (accepted-step (admit a) t (ap isDone (sym (verdict-first (admit a) t) ∙ done)))
-
 pub demand-1 : (c : Call) (t : List Record) → Demand1 c t
 unfolding isDone
 demand-1 c t =
@@ -76,8 +69,7 @@ demand-1 c t =
           refused-step c t (ap isDone (sym (verdict-first c t)) ∙ e)
           ∙ ap (λ (v : Verdict). record { answer = saying v; table = t }) (sym (verdict-first c t));
       admission = λ a same.
-          subst (λ (x : Call). answered x t ≡ Done → step x t .answer ≡ saying Done) (sym same)
-          (admission-answers a t);
+          subst (λ (x : Call). step x t .answer ≡ saying (answered x t)) (sym same) (admission-number-alone a t);
       not-known = one-exactly-unknown c t;
       bad-table = bad-table-refused c t;
       no-such-id = λ n cs empty f made.

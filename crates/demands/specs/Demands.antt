@@ -62,8 +62,9 @@ pub record Demand1 (c : Call) (t : List Record) : Type 0 where
   pub accepted : Exactly (answered c t ≡ Done) (NoneApplies (checksOf c t))
   -- "A refusal returns its number with all figures 0 .. and writes nothing."
   pub left : isDone (answered c t) ≡ false → step c t ≡ record { answer = saying (answered c t); table = t }
-  -- "an admission the number 0 alone"; what the other calls answer is demand 2's
-  pub admission : (a : Admission) → c ≡ admit a → answered c t ≡ Done → step c t .answer ≡ saying Done
+  -- "an admission the number 0 alone": an admission answers its number alone, accepted or not; what every other call
+  -- answers where it is accepted is demand 2's
+  pub admission : (a : Admission) → c ≡ admit a → step c t .answer ≡ saying (answered c t)
   -- it answers 1 exactly where the id is not known: "no such id (0 included)", or the first slot with it is damaged
   pub not-known : isAdmission c ≡ false → Exactly (answered c t ≡ NoSuchId) (known t (idOf c) ≡ false)
   -- "A table of no slots, or over 512, is refused 4 by admit and 1 by the rest."
