@@ -1,4 +1,5 @@
--- The customer's demands and the order of a live record over every sequence of calls, and cases of them.
+-- The customer's demands, the place of a live record's bands and its order over every sequence of calls, and cases of
+-- them.
 pub mod Demands
 pub mod Inside
 pub mod NotKept
