@@ -1,12 +1,13 @@
 -- What is known of the two calls of C: how much was offered and came, how much was handed over and taken. Which bytes
 -- came, and where those that were taken went, is C's part. Assumes nothing.
-use mathlib.Core.Path.{_≡_}
-use mathlib.Core.Bool.{Bool, true, _&&_}
+use mathlib.Core.Path.{_≡_, refl}
+use mathlib.Core.Bool.{Bool, true, false, not, _&&_}
 use mathlib.Core.List.{List}
-use Prim.Native.Nat.{ℕ, _+_, _-_, _≤_, _<_, min}
+use Prim.Native.Nat.{ℕ, zero, suc, _+_, _-_, _≤_, _<_, min}
 use native.Mathlib.Omega.{arith}
 use lib.Dec.{eqb, ltb}
 use lib.ListN.{length, take}
+use borrow.Author.Tests.{eqb-true, eqb-false, lt-ltb}
 use Rattle.text_evidence.specs.declared.Delivered.{Delivered}
 use Rattle.text_evidence.specs.declared.Written.{Written}
 
@@ -39,6 +40,25 @@ unread = record { all = 0; room = 0; came = 0; well = true }
 -- room was offered, and nothing came
 abbrev pub hasEnded : Delivered → Bool
 hasEnded d = ltb 0 (d .room) && eqb (d .came) 0
+
+-- then nothing came; and where it has not ended, something did
+pub ended-is-none : (d : Delivered) → hasEnded d ≡ true → d .came ≡ 0
+ended-is-none d e = second (ltb 0 (d .room)) e
+  where
+    second : (x : Bool) → (x && eqb (d .came) 0) ≡ true → d .came ≡ 0
+    second true h = eqb-true (d .came) 0 h
+    second false h = let z : _≡_ {A = ℕ} 0 1 = cc in omega arith
+
+pub not-ended-is-some : (d : Delivered) → 0 < d .room → hasEnded d ≡ false → 0 < d .came
+not-ended-is-some d h e = positive (d .came) (eqb-false (d .came) 0 (rw (lt-ltb 0 (d .room) h) at e))
+  where
+    positive : (n : ℕ) → (n ≡ 0 → ⊥) → 0 < n
+    positive zero k = absurd (k refl)
+    positive (suc n) k = omega arith
+
+-- a read failed: nothing came, and C said so
+abbrev pub hasFailed : Delivered → Bool
+hasFailed d = hasEnded d && not (d .well)
 
 -- the input has ended, and no read failed
 abbrev pub isWell : Delivered → Bool

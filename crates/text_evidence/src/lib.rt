@@ -5,8 +5,8 @@
 ghost use mathlib.Core.Path.{_≡_};
 ghost use Prim.Native.Nat.{_≤_};
 ghost use lib.ListN.{length};
-ghost use Rattle.text_evidence.specs.Evidence.{Counted, unread, unwritten, hasEnded, isWell, tookAll};
-ghost use Rattle.text_evidence.specs.Evidence.{Fills, Hands};
+ghost use Rattle.text_evidence.specs.Evidence.{Counted, unread, unwritten, hasEnded, hasFailed, isWell};
+ghost use Rattle.text_evidence.specs.Evidence.{tookAll, Fills, Hands};
 use libc::STDIN_FILENO;
 use libc::STDOUT_FILENO;
 
@@ -34,6 +34,13 @@ pub fn unread() -> Delivered
 }
 
 impl Delivered {
+    // How many bytes came in all calls so far.
+    pub fn all(self) -> u64
+        ensures { λ r. ⌜ r ≡ self .all ⌝ }
+    {
+        self.all
+    }
+
     // How many bytes came in the last call.
     pub fn came(self) -> usize
         ensures { λ r. ⌜ r ≡ self .came ⌝ }
@@ -46,6 +53,13 @@ impl Delivered {
         ensures { λ r. ⌜ r ≡ hasEnded self ⌝ }
     {
         (0 < self.room) & (self.came == 0)
+    }
+
+    // Whether a read failed: nothing came, and C said so.
+    pub fn has_failed(self) -> bool
+        ensures { λ r. ⌜ r ≡ hasFailed self ⌝ }
+    {
+        (0 < self.room) & (self.came == 0) & !self.well
     }
 
     // Whether the input has ended, and no read failed.
