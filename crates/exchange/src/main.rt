@@ -3,10 +3,10 @@ ghost use mathlib.Core.Path.{_≡_};
 ghost use Prim.Native.Nat.{_+_};
 ghost use lib.ListN.{length};
 ghost use Rattle.text_table.specs.Exchange.{textMost};
-ghost use Rattle.text_rows.specs.Rows.{Asks};
+ghost use Rattle.text_rows.specs.Rows.{Asks, Answers};
 use libc::STDERR_FILENO;
-use libc::STDOUT_FILENO;
 use text_rows::Asked;
+use text_rows::Served;
 use text_rows::TEXT_ROOM;
 
 fn text_buffer() -> [u8; TEXT_ROOM]
@@ -47,18 +47,20 @@ fn asked() -> Asked
     text_rows::id_of(&word[..n])
 }
 
-fn serve(id: u64) {
+// What standard input says of a security is handed to standard output.
+fn serve(id: u64) -> Served
+    ensures { λ r. ⌜ Answers id r ⌝ }
+{
     let mut text = text_buffer();
     let mut out = io::large_buffer();
-    let got = text_rows::take_in(&mut text);
-    let end = got.end;
-    let read = got.ok;
-    if !read {
-        say_failed();
-        return;
-    }
-    let len = text_rows::answer(&text[..end], id, &mut out);
-    if !io::write_all(STDOUT_FILENO, &out[..len]) {
+    text_rows::serve(&mut text, &mut out, id)
+}
+
+// Says on standard error where a read or a write failed.
+fn report(served: Served) {
+    let read = served.read;
+    let told = served.told;
+    if read.has_failed() | !told.took_all() {
         say_failed();
     }
 }
@@ -66,7 +68,7 @@ fn serve(id: u64) {
 fn main() {
     let asked = asked();
     match asked {
-        Asked::Id(id) => serve(id),
+        Asked::Id(id) => report(serve(id)),
         Asked::Bad => say_usage(),
     }
 }

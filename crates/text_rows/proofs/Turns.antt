@@ -1,6 +1,6 @@
 -- Why the functions of this crate meet their contracts, as laws over lists and numbers: the id that an argument asks
--- for, digit by digit, and the two answers. No law speaks of memory, so that the proofs of the functions only cite
--- them. Assumes nothing.
+-- for, digit by digit, the text, read by read, and the two answers. No law speaks of memory, so that the proofs of the
+-- functions only cite them. Assumes nothing.
 use mathlib.Core.Path.{_≡_, refl, sym, ap, _∙_}
 use mathlib.Core.Bool.{Bool, true, false}
 use mathlib.Core.List.{List, [], _∷_, _++_}
@@ -10,7 +10,7 @@ use lib.Dec.{leb}
 use lib.IntN.{ℤ, pos}
 use lib.ListN.{length, take, drop, getD, drop-of-length-le}
 use lib.Seq.{drop-cons}
-use borrow.Author.Tests.{le-leb, lt-leb, leb-false, eq-eqb, ne-eqb}
+use borrow.Author.Tests.{le-leb, lt-leb, leb-false, lt-ltb, le-ltb, eq-eqb, ne-eqb}
 use Rattle.paper.specs.Lists.{pick}
 use Rattle.paper.specs.Numbers.{idMost, allNumbersMost, rowNumbers}
 use Rattle.paper.specs.Verdicts.{numberOf, isDone}
@@ -23,9 +23,12 @@ use Rattle.text_protocol.proofs.Spelling.{within-is-digit, low-no-digit, high-n
 use Rattle.text_out.specs.Wrote.{Wrote, then, wider}
 use Rattle.text_put.specs.Told.{Told, both, wrote}
 use Rattle.text_table.specs.declared.Reading.{Reading}
+use Rattle.text_evidence.specs.declared.Delivered.{Delivered}
+use Rattle.text_evidence.specs.Evidence.{Counted, counted-none, counted-on, unread, hasEnded, ended-is-none, Fills}
+use Rattle.text_evidence.specs.Evidence.{not-ended-is-some}
 use Rattle.text_rows.specs.declared.Asked.{Asked}
 use Rattle.text_rows.specs.declared.Asked.the-variants as asked
-use Rattle.text_rows.specs.Rows.{settled, askedOf, grown, readingNumbers, readingText, readingMost}
+use Rattle.text_rows.specs.Rows.{settled, askedOf, grown, TakesIn, readingNumbers, readingText, readingMost}
 use Rattle.text_put.specs.Sizes.{rowsBytes}
 use Rattle.text_out.specs.Places.{numberBytes, nextBytes, nextSignedBytes}
 
@@ -111,6 +114,56 @@ module _ (p : List ℕ) (i n : ℕ) (a : Asking p i n) where
           rest =
               rw (f, g .0) (grown-same n (b - digitZero) (drop (suc i) p) ∙ (rw (within-is-digit b lo hi) at opened));
         }
+
+-- ---- the text
+
+-- so many bytes are taken in, and the input has not ended
+pub record Taking (b₀ b : List ℕ) (len : ℕ) (read : Delivered) : Type 0 where
+  pub long : length b ≡ length b₀
+  pub most : len ≤ length b
+  pub count : Counted 0 len (read .all)
+  pub open-still : hasEnded read ≡ false
+
+pub taking-none : (b : List ℕ) → Taking b b 0 unread
+taking-none b = record { long = refl; most = omega arith; count = counted-none 0; open-still = refl }
+
+pub taken-full : {b₀ b : List ℕ} {len : ℕ} {read : Delivered} → Taking b₀ b len read → length b ≤ len
+    → TakesIn b₀ b (record { end = len; read = read })
+taken-full {b₀} {b} {len} {read} a h =
+    record {
+      long = a .long;
+      most = omega (arith, a .long, a .most);
+      count = a .count;
+      ended = a .open-still ∙ sym (le-ltb len (length b₀) (omega (arith, a .long)));
+    }
+
+-- one read more
+module _ {b₀ b : List ℕ} {len : ℕ} {read : Delivered} (a : Taking b₀ b len read) (h : len < length b) {b' : List ℕ}
+    {next : Delivered} (f : Fills b len read b' next) where
+  pub more-counted : Counted 0 (len + next .came) (next .all)
+  more-counted = counted-on 0 len (read .all) (next .came) (next .all) (a .count) (f .count)
+
+  pub more-came : hasEnded next ≡ false → 0 < next .came
+  more-came e = not-ended-is-some next (omega (arith, f .room)) e
+
+  pub taking-more : hasEnded next ≡ false → Taking b₀ b' (len + next .came) next
+  taking-more e =
+      record {
+        long = f .long ∙ a .long;
+        most = omega (arith, f .long, f .room, f .most);
+        count = more-counted;
+        open-still = e;
+      }
+
+  pub taken-ended : hasEnded next ≡ true → TakesIn b₀ b' (record { end = len; read = next })
+  taken-ended e =
+      let z : len + next .came ≡ len = omega (arith, ended-is-none next e) in
+      record {
+        long = f .long ∙ a .long;
+        most = omega (arith, a .long);
+        count = rw z at more-counted;
+        ended = e ∙ sym (lt-ltb len (length b₀) (omega (arith, a .long)));
+      }
 
 -- ---- the answer
 

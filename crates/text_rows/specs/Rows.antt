@@ -1,11 +1,12 @@
--- docs/EXCHANGE.md: what the program `exchange` is asked for, and the line that it answers. Assumes nothing.
+-- docs/EXCHANGE.md: what the program `exchange` is asked for, what it takes in, and the line that it answers. Assumes
+-- nothing.
 use mathlib.Core.Path.{_≡_}
-use mathlib.Core.Bool.{Bool}
+use mathlib.Core.Bool.{true, false}
 use mathlib.Core.List.{List, [], _∷_}
-use Prim.Native.Nat.{ℕ, suc, _+_, _*_}
-use lib.Dec.{leb}
+use Prim.Native.Nat.{ℕ, suc, _+_, _*_, _≤_}
+use lib.Dec.{leb, ltb}
 use lib.IntN.{ℤ, pos}
-use lib.ListN.{take}
+use lib.ListN.{length, take}
 use Rattle.paper.specs.Lists.{pick}
 use Rattle.paper.specs.Numbers.{idMost, rowNumbers}
 use Rattle.paper.specs.Verdicts.{numberOf, isDone}
@@ -14,8 +15,14 @@ use Rattle.text_protocol.specs.declared.Size.the-variants as size
 use Rattle.text_protocol.specs.Numbers.{sizeOf}
 use Rattle.text_protocol.specs.Answers.{answerText}
 use Rattle.text_table.specs.declared.Reading.{Reading}
+use Rattle.text_table.specs.Exchange.{textMost}
+use Rattle.text_table.specs.Scan.{reading}
+use Rattle.text_evidence.specs.Evidence.{Counted, hasEnded, hasFailed, unwritten, Hands}
 use Rattle.text_rows.specs.declared.Asked.{Asked}
 use Rattle.text_rows.specs.declared.Asked.the-variants as asked
+use Rattle.text_rows.specs.declared.Taken.{Taken}
+use Rattle.text_rows.specs.declared.Served.{Served}
+use Rattle.text_out.specs.Wrote.{Wrote}
 use Rattle.text_out.specs.Places.{numberBytes, nextBytes}
 use Rattle.text_put.specs.Sizes.{rowsBytes}
 
@@ -36,6 +43,14 @@ pub record Asks (r : Asked) : Type 0 where
 unfoldable pub grown : (n digit : ℕ) → ℕ
 grown n d = pick (leb (10 * n + d) idMost) (10 * n + d) (suc idMost)
 
+-- AS MANY BYTES AS `read` DELIVERED are taken in, up to `end`. The input has ended exactly where they leave room, so
+-- that a text that fills the buffer is never taken for one that a failed read cut off
+pub record TakesIn (b b' : List ℕ) (r : Taken) : Type 0 where
+  pub long : length b' ≡ length b
+  pub most : r .end ≤ length b
+  pub count : Counted 0 (r .end) (r .read .all)
+  pub ended : hasEnded (r .read) ≡ ltb (r .end) (length b)
+
 -- the bytes at most of an answer: a verdict, a count or a line, the numbers of a day's rows, the line feed
 abbrev pub readingMost : ℕ
 readingMost = numberBytes + nextBytes + rowsBytes + 1
@@ -47,3 +62,22 @@ readingNumbers r =
 
 unfoldable pub readingText : Reading → List ℕ
 readingText r = answerText (numberOf (r .verdict)) (readingNumbers r)
+
+-- THE PROGRAM: the text that is taken in is answered, and the whole answer is handed to `write`; nothing is where a
+-- read failed
+pub record Serves (id : ℕ) (t o t' o' : List ℕ) (r : Served) : Type 0 where
+  pub end : ℕ
+  pub takes : TakesIn t t' (record { end = end; read = r .read })
+  pub size : ℕ
+  pub answers : hasFailed (r .read) ≡ false
+      → Wrote o 0 o' size (readingText (reading id (take end t'))) readingMost × Hands size unwritten (r .told)
+  pub silent : hasFailed (r .read) ≡ true → r .told ≡ unwritten
+
+-- the same of buffers that nobody is lent: that of the text has a byte more than a text may have
+pub record Answers (id : ℕ) (r : Served) : Type 0 where
+  pub t : List ℕ
+  pub o : List ℕ
+  pub t' : List ℕ
+  pub o' : List ℕ
+  pub space : length t ≡ textMost + 1
+  pub is : Serves id t o t' o' r

@@ -1,20 +1,23 @@
-// The two ends of the program `exchange`: which security its argument asks for, and the line that it answers.
+// The program `exchange`: which security its argument asks for, the text that it takes in, and the line of its answer.
 ghost use mathlib.Core.Path.{_≡_};
-ghost use mathlib.Core.Bool.{false};
-ghost use Prim.Native.Nat.{_+_, _*_, _≤_, _<_};
+ghost use Prim.Native.Nat.{_+_, _*_, _≤_};
 ghost use lib.ListN.{length};
 ghost use Rattle.text_table.specs.Scan.{reading};
 ghost use Rattle.text_out.specs.Wrote.{Wrote};
-ghost use Rattle.text_rows.specs.Rows.{grown, askedOf, readingText, readingMost};
+ghost use Rattle.text_rows.specs.Rows.{grown, askedOf, TakesIn, Serves, readingText, readingMost};
 ghost use Rattle.text_protocol.specs.Bytes.{room};
 ghost use Rattle.paper.specs.Numbers.{allNumbersMost};
 ghost use Rattle.text_table.specs.Exchange.{rowsMost};
 use paper::Record;
 use paper::Row;
+use text_evidence::Delivered;
+use text_evidence::Written;
+use text_evidence::fill;
+use text_evidence::hand;
+use text_evidence::unread;
+use text_evidence::unwritten;
 use text_exchange::TEXT_MOST;
 use text_exchange::read_exchange;
-use text_input::Got;
-use text_input::fill;
 use text_out::put_byte;
 use text_out::put_number;
 use text_protocol::DIGIT_NINE;
@@ -82,25 +85,26 @@ pub fn id_of(p: &[u8]) -> Asked
 // The room for a text: a byte more than one may have, so that a longer one is seen.
 pub const TEXT_ROOM: usize = TEXT_MOST + 1;
 
-// Reads standard input until it ends, the buffer is full or a read fails. What was read before a failure is fewer bytes
-// than the buffer has: a text that fills it is never taken for a failure.
-pub fn take_in(buf: &mut [u8]) -> Got
-    ensures { λ r. ⌜ (length (now (buf .exit)) ≡ length (now (buf .entry))) × (r .end ≤ length (now (buf .entry)))
-        × (r .ok ≡ false → r .end < length (now (buf .entry))) ⌝ }
+// What was taken in: where it ends in the buffer, and what `read` did.
+pub struct Taken {
+    pub end: usize,
+    pub read: Delivered,
+}
+
+// Reads standard input until it ends, the buffer is full or a read fails.
+pub fn take_in(buf: &mut [u8]) -> Taken
+    ensures { λ r. ⌜ TakesIn (now (buf .entry)) (now (buf .exit)) r ⌝ }
 {
     let mut len = 0;
-    loop {
-        if len == buf.len() {
-            return Got { ok: true, end: len };
+    let mut read = unread();
+    while len < buf.len() {
+        read = fill(buf, len, read);
+        if read.has_ended() {
+            return Taken { end: len, read };
         }
-        let g = fill(buf, len);
-        let end = g.end;
-        let ok = g.ok;
-        if end == len {
-            return Got { ok, end };
-        }
-        len = end;
+        len += read.came();
     }
+    Taken { end: len, read }
 }
 
 // ---- the answer
@@ -132,4 +136,28 @@ pub fn answer(t: &[u8], id: u64, out: &mut [u8; ROOM]) -> usize
 {
     let r = read_exchange(t, id);
     say_reading(out, 0, r)
+}
+
+// ---- the program
+
+// What `read` and `write` did.
+pub struct Served {
+    pub read: Delivered,
+    pub told: Written,
+}
+
+// The text is taken in, and what it says of the security is handed over; nothing is where a read failed.
+pub fn serve(text: &mut [u8], out: &mut [u8; ROOM], id: u64) -> Served
+    ensures { λ r. ⌜ Serves id (now (text .entry)) (now (out .entry)) (now (text .exit)) (now (out .exit)) r ⌝ }
+{
+    let taken = take_in(text);
+    let end = taken.end;
+    let read = taken.read;
+    let told = unwritten();
+    if read.has_failed() {
+        return Served { read, told };
+    }
+    let len = answer(&text[..end], id, out);
+    let told = hand(out, len, told);
+    Served { read, told }
 }

@@ -1,42 +1,67 @@
--- `text_rows::take_in` meets its contract: each read that brings something leaves less room. Assumes nothing.
-use mathlib.Core.Path.{_≡_, refl}
-use mathlib.Core.Bool.{true}
-use Prim.Native.Nat.{_-_, _≤_}
+-- `text_rows::take_in` meets its contract: each read stands behind the last, and leaves less room. Assumes nothing.
+use mathlib.Core.Path.{sym, _∙_}
+use Prim.Native.Nat.{_-_}
+use native.Mathlib.Omega.{arith}
 use lib.ListN.{length}
 use borrow.Author.Needs.{needs}
-use Rattle.paper.proofs.Logic.{not-true-and-false}
+use Rattle.text_rows.proofs.Turns.{Taking, taking-none, taken-full, taken-ended, taking-more, more-came}
 use Rattle.text_rows.proofs.take_in.Statement.{statement}
 use Rattle.text_rows.proofs.take_in.Tie as tie
+use Rattle.text_rows.proofs.take_in.Reads as reads
+use Rattle.text_rows.proofs.take_in.Lts as lts
 
 abbrev Inv-loop : tie.InvT-loop
-Inv-loop buf₀ len₀ buf len = (len ≤ length buf) × (length buf ≡ length buf₀)
+Inv-loop buf₀ len₀ read₀ buf len read = Taking buf₀ buf len read
 
 abbrev μ-loop : tie.MeasureT-loop
-μ-loop buf₀ len₀ buf len = length buf - len
+μ-loop buf₀ len₀ read₀ buf len read = length buf - len
+
+unread-requires : tie.Need-unread-requires Inv-loop μ-loop
+unread-requires c κs = search needs
 
 loop-holds : tie.Need-loop-holds Inv-loop μ-loop
-loop-holds c = search needs
+loop-holds c = rw (c .unread .ensures) (taking-none _)
+
+fill-requires : tie.Need-fill-requires Inv-loop μ-loop
+fill-requires c κs = search needs
+
+has-ended-requires : tie.Need-has-ended-requires Inv-loop μ-loop
+has-ended-requires c κs = search needs
 
 same-length : tie.Need-same-length Inv-loop μ-loop
 same-length c = search needs
 
 returns : tie.Need-returns Inv-loop μ-loop
-returns c = (search needs, search needs, λ e. absurd (not-true-and-false true refl e))
+returns c =
+    let at-fill = c .before .before .before .before in
+    taken-ended (at-fill .before .before .before .loop .inv) (search needs) (at-fill .fill .ensures)
+    (sym (c .before .has-ended .ensures) ∙ c .if1 .taken)
 
-fill-requires : tie.Need-fill-requires Inv-loop μ-loop
-fill-requires c κs = search needs
+came-requires : tie.Need-came-requires Inv-loop μ-loop
+came-requires c κs = search needs
+
+loop-again : tie.Need-loop-again Inv-loop μ-loop
+loop-again c =
+    let at-fill = c .before .before .before .before .before in
+    rw (c .came .ensures)
+    (taking-more (at-fill .before .before .before .loop .inv) (search needs) (at-fill .fill .ensures)
+    (sym (c .before .before .has-ended .ensures) ∙ c .before .if1 .left))
+
+add-len : tie.Need-add-len Inv-loop μ-loop
+add-len c = let d = loop-again c in omega (arith, d .most)
+
+loop-less : tie.Need-loop-less Inv-loop μ-loop
+loop-less c =
+    let at-fill = c .before .before .before .before .before in
+    let some = more-came (at-fill .before .before .before .loop .inv) (search needs) (at-fill .fill .ensures) (sym (c
+    .before .before .has-ended .ensures) ∙ c .before .if1 .left) in
+    omega (arith, at-fill .fill .ensures .long, c .came .ensures, some)
 
 same-length-2 : tie.Need-same-length-2 Inv-loop μ-loop
 same-length-2 c = search needs
 
 returns-2 : tie.Need-returns-2 Inv-loop μ-loop
-returns-2 c = (search needs, search needs, λ e. search needs)
-
-loop-less : tie.Need-loop-less Inv-loop μ-loop
-loop-less c = search needs
-
-loop-again : tie.Need-loop-again Inv-loop μ-loop
-loop-again c = search needs
+returns-2 c = taken-full (c .before .loop .inv) (search needs)
 
 pub take-in-spec : {M : Type 1} → statement M
 take-in-spec =
@@ -44,11 +69,15 @@ take-in-spec =
     (tie.spec
     Inv-loop
     μ-loop
+    unread-requires
     loop-holds
+    fill-requires
+    has-ended-requires
     same-length
     returns
-    fill-requires
-    same-length-2
-    returns-2
+    came-requires
+    add-len
     loop-less
-    loop-again)
+    loop-again
+    same-length-2
+    returns-2)
