@@ -1,5 +1,4 @@
--- THE LINES of a run that was over while every write went well are the lines of all that `read` delivered. Assumes
--- nothing.
+-- WHAT A RUN HANDED OVER, where all of it was taken, are the lines of all that `read` delivered. Assumes nothing.
 use mathlib.Core.Path.{_≡_, refl, sym, ap, subst, _∙_}
 use mathlib.Core.Logic.{_⊎_, inl, inr}
 use mathlib.Core.Bool.{Bool, true, false}
@@ -17,13 +16,15 @@ use Rattle.paper.specs.Verdicts.{numberOf, isDone, firstOf}
 use Rattle.paper.proofs.Logic.{not-true-and-false}
 use Rattle.paper_messages.specs.declared.Heard.{Heard}
 use Rattle.paper_messages.specs.Messages.{readChecks, acceptedHeard, refusedHeard, heardAt}
+use Rattle.text_protocol.specs.Bytes.{room}
+use Rattle.text_evidence.specs.Evidence.{countMost, hasEnded, tookAll}
 use Rattle.text_input.proofs.Turns.{drop-take-of}
 use Rattle.text_heard.specs.Lines.{lineOf}
 use Rattle.text_listen.specs.declared.Listening.{Listening}
 use Rattle.text_listen.specs.Listen.{listenFrom, listenText}
-use Rattle.text_listen.specs.Steps.{mostBytes, startListening, unheard, placeOf, heardIn, isCut, Stands, Tells}
-use Rattle.text_listen.specs.Steps.{Delivers, Over, Step, tells, delivers, ends, deliveredBy, toldBy, Run, starts}
-use Rattle.text_listen.specs.Steps.{goes, Listens}
+use Rattle.text_listen.specs.Steps.{startListening, unheard, placeOf, heardIn, isCut, Stands, Tells, Delivers}
+use Rattle.text_listen.specs.Steps.{heard-all, not-taken, uncounted, Sure, tells, delivers, ends, Run}
+use Rattle.text_listen.specs.Steps.{starts, goes, Listens}
 use Rattle.text_listen.proofs.Places.{next-within, unheard-length}
 use Rattle.text_listen.proofs.Whole.{heard-whole}
 
@@ -159,9 +160,9 @@ cut-at-end buffer place h = rw (drop-of-length-le buffer h) refl
 record Sofar (b : List ℕ) (s : Listening) (got text : List ℕ) : Type 0 where
   within : placeOf s ≤ length got
   behind : drop (placeOf s) got ≡ unheard b s
-  count : length got + s .left ≡ mostBytes
-  lines : (later : List ℕ) → (s .ended ≡ true → later ≡ []) → listenText (got ++ later) ≡ text ++ rest (got ++ later)
-      (placeOf s)
+  count : length got ≡ s .read .all
+  lines : (later : List ℕ) → (hasEnded (s .read) ≡ true → later ≡ [])
+      → listenText (got ++ later) ≡ text ++ rest (got ++ later) (placeOf s)
 
 sofar-none : (b : List ℕ) → Sofar b startListening [] []
 unfolding unheard listenText
@@ -200,15 +201,12 @@ module _ {b : List ℕ} {s : Listening} {got text : List ℕ} (so : Sofar b s go
           )))
           whole)
 
-  abbrev Sure : Type 0
-  Sure = (isCut (heardIn b s) ≡ false) ⊎ ((s .ended ≡ true) × (s .at < s .len))
-
-  there : Sure → s .at < s .len
+  there : Sure b s → s .at < s .len
   there (inl whole) = some-left whole
   there (inr e) = e .1
 
   -- the line at the place, and the lines from behind it on
-  told-line : (later : List ℕ) → (s .ended ≡ true → later ≡ []) → Sure
+  told-line : (later : List ℕ) → (hasEnded (s .read) ≡ true → later ≡ []) → Sure b s
       → listenText (got ++ later)
       ≡ text ++ (lineOf (placeOf s) (heardIn b s)
       ++ pick (isDone (heardIn b s .verdict)) (rest (got ++ later) (heardAt (got ++ later) (placeOf s) .next)) [])
@@ -220,15 +218,14 @@ module _ {b : List ℕ} {s : Listening} {got text : List ℕ} (so : Sofar b s go
       (rest-more (got ++ later) (placeOf s) (omega (arith, length-append got later, got-length, there sure))
       ∙ rw (same .line (placeOf s), same .verdict) refl)
     where
-      which : (isCut (heardIn b s) ≡ false) ⊎ ((s .ended ≡ true) × (s .at < s .len))
-          → (isCut (heardIn b s) ≡ false) ⊎ (later ≡ [])
+      which : Sure b s → (isCut (heardIn b s) ≡ false) ⊎ (later ≡ [])
       which (inl whole) = inl whole
       which (inr e) = inr (last (e .0))
 
   abbrev next : ℕ
   next = heardIn b s .next
 
-  module _ {o : List ℕ} {r : Listening} {o' : List ℕ} (sure : Sure) (t : Tells s (heardIn b s) o r o')
+  module _ {o : List ℕ} {r : Listening} {o' : List ℕ} (sure : Sure b s) (t : Tells s (heardIn b s) o r o')
       (done : isDone (heardIn b s .verdict) ≡ true) where
     next-is : (s .at < next) × (next ≤ s .len)
     next-is =
@@ -237,7 +234,7 @@ module _ {b : List ℕ} {s : Listening} {got text : List ℕ} (so : Sofar b s go
 
     place-behind : placeOf r ≡ placeOf s + (next - s .at)
     place-behind =
-        rw (t .accepted done .0, t .len, t .left) (omega (arith, stands .count, stands .low, next-is .0, next-is .1))
+        rw (t .accepted done .0, t .len, t .read) (omega (arith, stands .count, stands .low, next-is .0, next-is .1))
 
     behind-told : drop (placeOf r) got ≡ unheard b r
     unfolding unheard
@@ -256,24 +253,24 @@ module _ {b : List ℕ} {s : Listening} {got text : List ℕ} (so : Sofar b s go
         record {
           within = rw place-behind (omega (arith, got-length, next-is .0, next-is .1));
           behind = behind-told;
-          count = rw (t .left) (so .count);
+          count = rw (t .read) (so .count);
           lines = λ later last.
               let same : Alike b s stands (got ++ later) later (placeOf s) (behind-later later) =
               alike b s stands (got ++ later) later (placeOf s) (behind-later later)
-              (which later sure (λ e. last (t .ended ∙ e))) in
-              told-line later (λ e. last (t .ended ∙ e)) sure
+              (which later sure (λ e. last (rw (t .read) e))) in
+              told-line later (λ e. last (rw (t .read) e)) sure
               ∙ rw (done, same .size done, ← place-behind)
               (sym (append-assoc text (lineOf (placeOf s) (heardIn b s)) (rest
               (got ++ later) (placeOf r))));
         }
       where
-        which : (later : List ℕ) → (isCut (heardIn b s) ≡ false) ⊎ ((s .ended ≡ true) × (s .at < s .len))
-            → (s .ended ≡ true → later ≡ []) → (isCut (heardIn b s) ≡ false) ⊎ (later ≡ [])
+        which : (later : List ℕ) → Sure b s → (hasEnded (s .read) ≡ true → later ≡ [])
+            → (isCut (heardIn b s) ≡ false) ⊎ (later ≡ [])
         which later (inl whole) last = inl whole
         which later (inr e) last = inr (last (e .0))
 
   -- more is delivered
-  sofar-delivered : (b' : List ℕ) (r : Listening) → s .ended ≡ false → Stands b' r → (d : Delivers b s b' r)
+  sofar-delivered : (b' : List ℕ) (r : Listening) → hasEnded (s .read) ≡ false → Stands b' r → (d : Delivers b s b' r)
       → Sofar b' r (got ++ d .got) text
   sofar-delivered b' r open-still r-stands d =
       let size : length (unheard b' r) ≡ s .len - s .at + length (d .got) =
@@ -281,20 +278,20 @@ module _ {b : List ℕ} {s : Listening} {got text : List ℕ} (so : Sofar b s go
       ∙ rw (unheard-length b s stands) refl in
       let r-size : length (unheard b' r) ≡ r .len - r .at = unheard-length b' r r-stands in
       let same : placeOf r ≡ placeOf s =
-      omega (arith, size, r-size, d .left, stands .count, r-stands .count, so .count, got-length) in
+      omega (arith, size, r-size, d .count, stands .count, r-stands .count, so .count, got-length) in
       record {
         within = rw same (omega (arith, so .within, length-append got (d .got)));
         behind = rw same (behind-later (d .got) ∙ d .are);
-        count = omega (arith, length-append got (d .got), so .count, d .left);
+        count = omega (arith, length-append got (d .got), so .count, d .count);
         lines = λ later last.
             rw (same, append-assoc got (d .got) later)
-            (so .lines (d .got ++ later) (λ e. absurd (not-true-and-false (s .ended) e open-still)));
+            (so .lines (d .got ++ later) (λ e. absurd (not-true-and-false (hasEnded (s .read)) e open-still)));
       }
 
 -- ---- the steps of a run
 
 module _ {b : List ℕ} {s : Listening} {got text : List ℕ} (so : Sofar b s got text) (stands : Stands b s) where
-  sofar-tells : {o b' : List ℕ} {r : Listening} {o' : List ℕ} → Sure so stands → b' ≡ b → Tells s (heardIn b s) o r o'
+  sofar-tells : {o b' : List ℕ} {r : Listening} {o' : List ℕ} → Sure b s → b' ≡ b → Tells s (heardIn b s) o r o'
       → r .over ≡ false → Sofar b' r (got ++ []) (text ++ lineOf (placeOf s) (heardIn b s))
   sofar-tells {o} {b'} {r} {o'} sure same t going = go (isDone (heardIn b s .verdict)) refl
     where
@@ -304,17 +301,13 @@ module _ {b : List ℕ} {s : Listening} {got text : List ℕ} (so : Sofar b s go
       go false e = absurd (not-true-and-false (r .over) (t .refused e .1) going)
 
   -- nothing more is heard behind a refusal
-  text-refused : {o : List ℕ} {r : Listening} {o' : List ℕ} → Sure so stands → Tells s (heardIn b s) o r o'
-      → r .over ≡ true → r .ok ≡ true → text ++ lineOf (placeOf s) (heardIn b s) ≡ listenText (got ++ [])
+  text-refused : {o : List ℕ} {r : Listening} {o' : List ℕ} → Sure b s → Tells s (heardIn b s) o r o'
+      → r .over ≡ true → tookAll (r .told) ≡ true → text ++ lineOf (placeOf s) (heardIn b s) ≡ listenText (got ++ [])
   text-refused {o} {r} {o'} sure t over well = go (isDone (heardIn b s .verdict)) refl
     where
-      never : (r .over ≡ false) ⊎ (r .ok ≡ false) → ⊥
-      never (inl e) = not-true-and-false (r .over) over e
-      never (inr e) = not-true-and-false (r .ok) well e
-
       go : (d : Bool) → isDone (heardIn b s .verdict) ≡ d
           → text ++ lineOf (placeOf s) (heardIn b s) ≡ listenText (got ++ [])
-      go true e = absurd (never (t .accepted e .1))
+      go true e = absurd (not-true-and-false (r .over) over (t .accepted e .1 ∙ rw well refl))
       go false e =
           sym (told-line so stands [] (λ _. refl) sure ∙ rw (e, append-nil (lineOf (placeOf s) (heardIn b s))) refl)
 
@@ -326,27 +319,33 @@ module _ {b : List ℕ} {s : Listening} {got text : List ℕ} (so : Sofar b s go
       (rest-none (got ++ []) (placeOf s) (omega (arith, length-append got [], got-length so stands, e))))
 
 -- where a run is not over, it stands so
-sofar : {b₀ o₀ b : List ℕ} {s : Listening} {o got text : List ℕ} → Run b₀ o₀ b s o got text → s .over ≡ false
-    → Stands b s → Sofar b s got text
+sofar : {b₀ o₀ b : List ℕ} {s : Listening} {o got text handed : List ℕ} → Run b₀ o₀ b s o got text handed
+    → s .over ≡ false → Stands b s → Sofar b s got text
 sofar {b₀} starts going stands = sofar-none b₀
 sofar (goes run on stands (tells sure same t)) going r-stands =
     sofar-tells (sofar run on stands) stands sure same t going
-sofar {b = b'} {s = r} (goes run on stands (delivers cut going-on same d)) going r-stands =
+sofar {b = b'} {s = r} (goes run on stands (delivers cut going-on same d out)) going r-stands =
     rw append-nil (sofar-delivered (sofar run on stands) stands b' r going-on r-stands d)
 sofar {s = r} (goes run on stands (ends why same same' v)) going r-stands = absurd
     (not-true-and-false (r .over) (v .over) going)
 
--- and where it is over and no write failed, ITS LINES ARE THOSE OF ALL THAT WAS DELIVERED
-pub run-text : {b₀ o₀ b : List ℕ} {s : Listening} {o got text : List ℕ} → Run b₀ o₀ b s o got text → s .over ≡ true
-    → s .ok ≡ true → text ≡ listenText got
-run-text starts over well = absurd (not-true-and-false false over refl)
-run-text (goes run on stands (tells sure same t)) over well =
+-- and where it is over, all of its lines were taken and every byte was counted, ITS LINES ARE THOSE OF ALL THAT WAS
+-- DELIVERED
+run-text : {b₀ o₀ b : List ℕ} {s : Listening} {o got text handed : List ℕ} → Run b₀ o₀ b s o got text handed
+    → s .over ≡ true → tookAll (s .told) ≡ true → s .read .all + room < countMost → text ≡ listenText got
+run-text starts over well few = absurd (not-true-and-false false over refl)
+run-text (goes run on stands (tells sure same t)) over well few =
     text-refused (sofar run on stands) stands sure t over well
-run-text {s = r} (goes run on stands (delivers cut going-on same d)) over well =
+run-text {s = r} (goes run on stands (delivers cut going-on same d out)) over well few =
     absurd (not-true-and-false (r .over) over (d .over ∙ on))
-run-text {s = r} (goes run on stands (ends (inl e) same same' v)) over well =
-    text-ended (sofar run on stands) stands (e .1)
-run-text {s = r} (goes run on stands (ends (inr e) same same' v)) over well = absurd (not-true-and-false (r .ok) well e)
+run-text (goes run on stands (ends (heard-all e z) same same' v)) over well few =
+    text-ended (sofar run on stands) stands (sym (v .at) ∙ z ∙ v .len)
+run-text {s = r} (goes run on stands (ends (not-taken e) same same' v)) over well few =
+    absurd (not-true-and-false (tookAll (r .told)) well e)
+run-text (goes run on stands (ends (uncounted e) same same' v)) over well few =
+    let z : ⊥ = omega (arith, e, few) in absurd z
 
-pub listened-text : {r : Listening} (l : Listens r) → r .ok ≡ true → l .text ≡ listenText (l .got)
-listened-text l well = run-text (l .run) (l .over) well
+-- SO WHAT WAS HANDED OVER, AND TAKEN, IS THE TEXT OF WHAT WAS DELIVERED
+pub listened-text : {r : Listening} (l : Listens r) → tookAll (r .told) ≡ true → r .read .all + room < countMost
+    → l .handed ≡ listenText (l .got)
+listened-text l well few = l .whole ∙ run-text (l .run) (l .over) well few

@@ -6,47 +6,46 @@ ghost use Prim.Native.Nat.{_+_, _-_, _≤_, _<_};
 ghost use lib.ListN.{length};
 ghost use Rattle.paper_messages.specs.Fields.{places};
 ghost use Rattle.text_protocol.specs.Bytes.{room};
-ghost use Rattle.text_heard.specs.Lines.{lineMost};
-ghost use Rattle.text_listen.specs.Steps.{mostBytes, startListening, placeOf, isCut, Stands, Tells, Delivers};
-ghost use Rattle.text_listen.specs.Steps.{ReadsOn, Written, Steps, Listens};
+ghost use Rattle.text_evidence.specs.Evidence.{countMost};
+ghost use Rattle.text_listen.specs.Steps.{startListening, placeOf, isCut, Stands, Going, Tells, WritesOut};
+ghost use Rattle.text_listen.specs.Steps.{Delivers, ReadsOn, Steps, Listens, wentWell};
 use libc::STDERR_FILENO;
-use libc::STDOUT_FILENO;
-use messages::read;
 use paper::Verdict;
 use paper_messages::Heard;
+use text_evidence::Delivered;
+use text_evidence::Written;
+use text_evidence::fill;
+use text_evidence::hand;
+use text_evidence::unread;
+use text_evidence::unwritten;
 use text_heard::LINE_MOST;
 use text_heard::say_heard;
-use text_input::fill;
 use text_input::shift;
 use text_protocol::ROOM;
 
-// How far the input is listened to: the bytes of the buffer from `at` to `len` are delivered and not heard yet, and so
-// many bytes may still be delivered as `left` says. So many bytes of lines wait to be written as `waiting` says.
-// `ended` is whether the input has ended, `over` whether nothing more is heard, and `ok` whether every read and write
-// went well.
+// How far the input is listened to: the bytes of the buffer from `at` to `len` are delivered and not heard yet. So many
+// bytes of lines wait to be written as `waiting` says. `over` is whether nothing more is heard. `read` is the evidence
+// of what was delivered, `told` of what was handed over.
 pub struct Listening {
     pub at: usize,
     pub len: usize,
-    pub left: u64,
     pub waiting: usize,
-    pub ended: bool,
     pub over: bool,
-    pub ok: bool,
+    pub read: Delivered,
+    pub told: Written,
 }
 
-// At the start nothing is delivered. Nothing says that the input ends, so its bytes are counted down from a number that
-// no run uses up.
+// At the start nothing is delivered, and nothing handed over.
 pub fn start() -> Listening
     ensures { λ r. ⌜ r ≡ startListening ⌝ }
 {
     Listening {
         at: 0,
         len: 0,
-        left: u64::MAX,
         waiting: 0,
-        ended: false,
         over: false,
-        ok: true,
+        read: unread(),
+        told: unwritten(),
     }
 }
 
@@ -54,92 +53,83 @@ pub fn start() -> Listening
 
 // Moves the bytes that are not heard yet to the front, and reads once behind them.
 fn more(buf: &mut [u8], s: Listening) -> Listening
-    requires { ⌜ (Stands (now buf) s) × (room ≤ s .left) ⌝ }
-    ensures { λ r. ⌜ (Delivers (now (buf .entry)) s (now (buf .exit)) r) × (Stands (now (buf .exit)) r) ⌝ }
+    requires { ⌜ (Stands (now buf) s) × (s .len - s .at < room) × (s .read .all + room < countMost) ⌝ }
+    ensures { λ r. ⌜ (Delivers (now (buf .entry)) s (now (buf .exit)) r) × (Stands (now (buf .exit)) r)
+        × (r .waiting ≡ s .waiting) × (r .told ≡ s .told) ⌝ }
 {
     let at = s.at;
     let len = s.len;
+    let told = s.told;
     let have = shift(buf, at, len);
-    let got = fill(buf, have);
-    let end = got.end;
+    let read = fill(buf, have, s.read);
+    let end = have + read.came();
     Listening {
         at: 0,
         len: end,
-        left: s.left - ((end - have) as u64),
         waiting: s.waiting,
-        ended: end == have,
         over: s.over,
-        ok: s.ok & got.ok,
+        read,
+        told,
     }
 }
 
 // ---- lines
 
-// Writes the lines that wait. Where that fails, nothing more is heard.
+// Hands the lines that wait to `write`. Where it did not take all of them, nothing more is heard.
 fn write_out(out: &[u8], s: Listening, over: bool) -> Listening
     requires { ⌜ s .waiting ≤ length (now out) ⌝ }
-    ensures { λ r. ⌜ Written s over r ⌝ }
+    ensures { λ r. ⌜ WritesOut s over r ⌝ }
 {
     let n = s.waiting;
-    if io::write_all(STDOUT_FILENO, &out[..n]) {
-        return Listening {
-            at: s.at,
-            len: s.len,
-            left: s.left,
-            waiting: 0,
-            ended: s.ended,
-            over,
-            ok: s.ok,
-        };
-    }
+    let read = s.read;
+    let told = hand(out, n, s.told);
     Listening {
         at: s.at,
         len: s.len,
-        left: s.left,
         waiting: 0,
-        ended: s.ended,
-        over: true,
-        ok: false,
+        over: over | !told.took_all(),
+        read,
+        told,
     }
 }
 
 // Where the bytes that are not heard yet begin in the input, from 0.
 fn place_of(s: Listening) -> u64
-    requires { ⌜ (s .at ≤ s .len) × (s .len - s .at + s .left ≤ mostBytes) ⌝ }
+    requires { ⌜ (s .at ≤ s .len) × (s .len - s .at ≤ s .read .all) ⌝ }
     ensures { λ r. ⌜ r ≡ placeOf s ⌝ }
 {
-    (u64::MAX - s.left) - ((s.len - s.at) as u64)
+    let read = s.read;
+    read.all() - ((s.len - s.at) as u64)
 }
 
 // Gathers the line of what is heard. The lines are written where nothing more is heard, and where the buffer has no
 // room for one more.
 fn tell(out: &mut [u8; ROOM], s: Listening, h: Heard) -> Listening
-    requires { ⌜ (s .at ≤ s .len) × (s .len - s .at + s .left ≤ mostBytes) × (s .waiting + lineMost ≤ room)
-        × (s .over ≡ false) × (length (h .message .fields) ≡ places) ⌝ }
+    requires { ⌜ Going s × (length (h .message .fields) ≡ places) ⌝ }
     ensures { λ r. ⌜ Tells s h (now (out .entry)) r (now (out .exit)) ⌝ }
 {
     let verdict = h.verdict;
+    let read = s.read;
+    let told = s.told;
     let n = say_heard(out, s.waiting, place_of(s), h);
     if !verdict.is_done() {
         let r = Listening {
             at: s.at,
             len: s.len,
-            left: s.left,
             waiting: n,
-            ended: s.ended,
             over: s.over,
-            ok: s.ok,
+            read,
+            told,
         };
         return write_out(out, r, true);
     }
     let r = Listening {
         at: h.next,
         len: s.len,
-        left: s.left,
         waiting: n,
-        ended: s.ended,
         over: s.over,
-        ok: s.ok,
+        read,
+        told,
     };
     if ROOM - LINE_MOST < n {
         return write_out(out, r, false);
@@ -163,36 +153,37 @@ fn used_up(s: Listening) -> Listening
     ensures { λ r. ⌜ r ≡ record {
       at = s .at;
       len = s .len;
-      left = s .left;
       waiting = s .waiting;
-      ended = s .ended;
-      over
-          = true;
-      ok = false;
+      over = true;
+      read = s .read;
+      told = s .told;
     } ⌝ }
 {
+    let read = s.read;
+    let told = s.told;
     Listening {
         at: s.at,
         len: s.len,
-        left: s.left,
         waiting: s.waiting,
-        ended: s.ended,
         over: true,
-        ok: false,
+        read,
+        told,
     }
 }
 
 // Reads on, where a message is not whole yet. The lines that wait are written first, so that whoever listens sees them
-// while the program waits.
+// while the program waits. Nothing says that the input ends, so its bytes are counted, up to a number that no run comes
+// near.
 fn read_on(buf: &mut [u8], out: &[u8], s: Listening) -> Listening
-    requires { ⌜ (Stands (now buf) s) × (s .over ≡ false) × (length (now out) ≡ room) ⌝ }
+    requires { ⌜ (Stands (now buf) s) × (s .over ≡ false) × (s .len - s .at < room) × (length (now out) ≡ room) ⌝ }
     ensures { λ r. ⌜ ReadsOn (now (buf .entry)) s (now (buf .exit)) r ⌝ }
 {
     let w = write_out(out, s, false);
     if w.over {
         return w;
     }
-    if w.left < (ROOM as u64) {
+    let read = w.read;
+    if u64::MAX - read.all() <= (ROOM as u64) {
         return used_up(w);
     }
     more(buf, w)
@@ -205,11 +196,12 @@ pub fn step(buf: &mut [u8], out: &mut [u8; ROOM], s: Listening) -> Listening
 {
     let at = s.at;
     let len = s.len;
-    let h = read(&buf[..len], at);
+    let h = messages::read(&buf[..len], at);
     if !is_cut(h) {
         return tell(out, s, h);
     }
-    if !s.ended {
+    let read = s.read;
+    if !read.has_ended() {
         return read_on(buf, out, s);
     }
     if at == len {
@@ -218,7 +210,7 @@ pub fn step(buf: &mut [u8], out: &mut [u8; ROOM], s: Listening) -> Listening
     tell(out, s, h)
 }
 
-// Every message of standard input. The state at the end says whether every read and write went well.
+// Every message of standard input. The state at the end has the evidence of what was read and written.
 pub fn listen() -> Listening
     ensures { λ r. ⌜ Listens r ⌝ }
 {
@@ -231,10 +223,19 @@ pub fn listen() -> Listening
     s
 }
 
+// Whether no read failed, all that was handed over was taken, and no byte was left uncounted.
+fn went_well(s: Listening) -> bool
+    ensures { λ r. ⌜ r ≡ wentWell s ⌝ }
+{
+    let read = s.read;
+    let told = s.told;
+    !read.has_failed() & told.took_all() & ((ROOM as u64) < u64::MAX - read.all())
+}
+
 // The program: says on standard error where a read or a write failed.
 pub fn on() {
     let s = listen();
-    if !s.ok {
+    if !went_well(s) {
         io::write_all(STDERR_FILENO, b"listen: could not read or write\n");
     }
 }

@@ -30,7 +30,8 @@ start-requires : tie.Need-start-requires Inv-loop μ-loop
 start-requires c κs = search needs
 
 loop-holds : tie.Need-loop-holds Inv-loop μ-loop
-loop-holds c = came-first _ _ _ (c .before .before .large-buffer .ensures) (c .start .ensures)
+loop-holds c =
+    came-first _ _ _ (c .before .before .large-buffer .ensures) (c .before .large-buffer2 .ensures) (c .start .ensures)
 
 slice-aggregate-step : tie.Need-slice-aggregate-step Inv-loop μ-loop
 slice-aggregate-step c = sym (c .before .before .before .loop .inv .stands .long)

@@ -29,7 +29,7 @@ returns c =
     let at-done = at-if1 .before in
     let at-line = at-done .before in
     let at-place = at-line .before in
-    let at-start = at-place .before .before in
+    let at-start = at-place .before .before .before .before in
     told-refused (at-start .args .s) (at-start .args .h) _ _ _ _ _ (at-place .place-of .ensures)
     (at-done .is-done .ensures) (at-line .say-heard .ensures) _ (at-if1 .if1 .taken) (c .write-out .ensures)
 
@@ -45,7 +45,7 @@ returns-2 c =
     let at-done = at-if1 .before in
     let at-line = at-done .before in
     let at-place = at-line .before in
-    let at-start = at-place .before .before in
+    let at-start = at-place .before .before .before .before in
     told-written (at-start .args .s) (at-start .args .h) _ _ _ _ _ (at-place .place-of .ensures)
     (at-done .is-done .ensures) (at-line .say-heard .ensures) (at-if1 .if1 .left) _ (c .write-out2 .ensures)
 
@@ -55,10 +55,10 @@ returns-3 c =
     let at-done = at-if1 .before in
     let at-line = at-done .before in
     let at-place = at-line .before in
-    let at-start = at-place .before .before in
+    let at-start = at-place .before .before .before .before in
     told-waits (at-start .args .s) (at-start .args .h) _ _ _ _ _ (at-place .place-of .ensures)
-    (at-done .is-done .ensures) (at-line .say-heard .ensures) (at-if1 .if1 .left) (at-start .pre .3)
-    (omega (arith, c .if2 .left))
+    (at-done .is-done .ensures) (at-line .say-heard .ensures) (at-if1 .if1 .left) (at-start .pre .0 .3)
+    (at-start .pre .0 .4) (omega (arith, c .if2 .left))
 
 pub tell-spec : {M : Type 1} → statement M
 tell-spec =
