@@ -1,0 +1,336 @@
+#!/usr/bin/env python3
+"""In pieces: the proved programs answer alike whatever pieces their input comes in, and however slowly they are read.
+
+    outside/pieces.py SEED REFERENCE all FOLDER          sends each program (evening, why, broadcast, listen, exchange)
+                                                         a short input, cut at every byte and ended at every byte; the
+                                                         evening and the messages that outside/compare left in the
+                                                         folder, in random pieces, and to a reader that takes few bytes
+                                                         at a time; lines, messages and texts of the greatest lengths
+                                                         in pieces. The answers have to be the reference's
+    outside/pieces.py SEED REFERENCE each NAME <INDEX    prints what the program answers to each file of the index, read
+                                                         whole; in random pieces it has to be answered the same
+
+No sleep is trusted: a piece is sent once the system says that nothing of the last one waits to be read, so that no
+`read` of the program returns bytes of two pieces. Status 1 says that answers differ, and names the program, the seed
+and the piece; status 2 that something could not be run.
+"""
+import array
+import collections
+import concurrent.futures
+import fcntl
+import os
+import random
+import signal
+import struct
+import subprocess
+import sys
+import termios
+import time
+
+PATIENCE = 60  # seconds without a byte of answer after which a program is stuck
+PAGE = os.sysconf("SC_PAGE_SIZE")  # the least that a pipe holds
+SET_PIPE_SIZE = 1031  # Linux's F_SETPIPE_SZ, which older versions of Python do not name
+LONGEST = 65_535  # bytes of the longest line that may be a call (docs/EVENING.md)
+TEXT_MOST = 65_536  # bytes of the longest text of the exchange (docs/EXCHANGE.md)
+
+# A program's name, the command that runs it, and the command that asks the reference the same.
+Program = collections.namedtuple("Program", "name command reference")
+
+
+class Wrong(Exception):
+    """What a program does wrong."""
+
+
+class Ended(Exception):
+    """A program ends before its input does, as `listen` has to behind a refused message."""
+
+
+# ---- a program that is fed and read by hand
+
+def unread(pipe):
+    """How many bytes of a pipe nobody has read yet."""
+    number = array.array("i", [0])
+    fcntl.ioctl(pipe, termios.FIONREAD, number)
+    return number[0]
+
+
+class Run:
+    """One run. With `few`, which draws numbers, the answers go through a pipe of one page and are taken by few bytes,
+    and the program is stopped and continued whenever that pipe is full, so that its `write` of more returns early."""
+
+    def __init__(self, command, few=None):
+        their_input, self.input = os.pipe()
+        self.output, their_output = os.pipe()
+        self.few = few
+        self.answered = bytearray()
+        if few:
+            fcntl.fcntl(self.output, SET_PIPE_SIZE, PAGE)
+        os.set_blocking(self.input, False)
+        os.set_blocking(self.output, False)
+        self.process = subprocess.Popen(command, stdin=their_input, stdout=their_output, stderr=subprocess.PIPE)
+        os.close(their_input)
+        os.close(their_output)
+
+    def take(self):
+        """Takes some of what is answered, and says whether there was any. A program that ends closes its output."""
+        if self.few and unread(self.output) == PAGE:
+            self.interrupt()
+        try:
+            some = os.read(self.output, self.few.randrange(1, 8) if self.few else 16 * PAGE)
+        except BlockingIOError:
+            return False
+        if not some:
+            raise Ended
+        self.answered += some
+        return True
+
+    def interrupt(self):
+        self.process.send_signal(signal.SIGSTOP)
+        if self.process.returncode is None:
+            os.waitid(os.P_PID, self.process.pid, os.WSTOPPED | os.WEXITED | os.WNOWAIT)
+            self.process.send_signal(signal.SIGCONT)
+
+    def wait(self, until, what):
+        """Takes answers until something holds."""
+        late = time.monotonic() + PATIENCE
+        while not until():
+            if self.take():
+                late = time.monotonic() + PATIENCE
+            elif time.monotonic() < late:
+                time.sleep(0.0001)
+            else:
+                raise Wrong("it does not " + what)
+
+    def send(self, piece):
+        """Sends a piece, until all of it is read."""
+        def is_read():
+            nonlocal piece
+            try:
+                piece = piece[os.write(self.input, piece):] if piece else piece
+            except BlockingIOError:
+                return False
+            except BrokenPipeError:
+                raise Ended from None
+            return not piece and unread(self.input) == 0
+        self.wait(is_read, "read what it is sent")
+
+    def end(self):
+        """Ends the input, and gives all that is answered."""
+        os.close(self.input)
+        self.input = None
+        try:
+            self.wait(lambda: False, "end where its input ends")
+        except Ended:
+            said, status = self.process.stderr.read(), self.process.wait()
+        if said or status:
+            raise Wrong("it ends with status %d and says %r" % (status, said))
+        return bytes(self.answered)
+
+    def close(self):
+        """Leaves nothing behind, also where the program is stuck."""
+        self.process.kill()
+        self.process.wait()
+        self.process.stderr.close()
+        os.close(self.output)
+        if self.input is not None:
+            os.close(self.input)
+
+
+# ---- an input in pieces
+
+def theirs(program, script):
+    """What the reference answers."""
+    return subprocess.run(program.reference, input=script, stdout=subprocess.PIPE, check=True).stdout
+
+
+def cut(script, places):
+    """The pieces of an input between some places of it."""
+    places = [0] + sorted(places) + [len(script)]
+    return [script[start:end] for start, end in zip(places, places[1:]) if start < end]
+
+
+def random_places(drawn, length, mean):
+    """Places that are `mean` bytes apart: many of them a few bytes, some of them many lines."""
+    places = []
+    at = 0
+    while at < length:
+        places.append(at)
+        at += 1 + int(mean * drawn.expovariate(1) ** 2 / 2)
+    return places
+
+
+def sent(program, how, pieces, expected, few=None, at_once=b""):
+    """Sends an input in pieces, and holds the answers to what is expected. What is expected `at_once` has to be
+    answered to the first piece before the second is sent."""
+    run = Run(program.command, few)
+    number = 0
+    try:
+        try:
+            for number, piece in enumerate(pieces, 1):
+                run.send(piece)
+                if number == 1:
+                    run.wait(lambda: len(run.answered) >= len(at_once), "answer %r at once" % at_once)
+        except Ended:
+            pass
+        answered = run.end()
+        if answered != expected:
+            same = len(os.path.commonprefix([answered, expected]))
+            number = at_fault(program, pieces[:number], same)
+            raise Wrong("behind byte %d of the answers stands %r, not %r" % (
+                same, answered[same:same + 60], expected[same:same + 60]))
+    except Wrong as wrong:
+        ends = sum(map(len, pieces[:number]))
+        raise Wrong("%s, %s, piece %d of %d, up to byte %d: %s" % (program.name, how, number, len(pieces), ends, wrong))
+    finally:
+        run.close()
+
+
+def at_fault(program, pieces, same):
+    """Of the pieces that were sent, the first that makes whole what is not answered the same; else the last."""
+    for number in range(1, len(pieces)):
+        if len(whole_in(program, b"".join(pieces[:number]))) > same:
+            return number
+    return len(pieces)
+
+
+def whole_in(program, first):
+    """What is answered to the first bytes of an input before more of it is there: all that is whole in them. The
+    exchange has one answer, to all of its text."""
+    if program.name == "exchange":
+        return b""
+    if program.name == "listen":
+        return theirs(program, first).split(b"refused")[0]
+    return theirs(program, first[:first.rfind(b"\n") + 1])
+
+
+# ---- what is sent
+
+LINES = b"admit 7 3 400 600 8 9 1 1 123 4 5 6 1 2 3 4 1 2 3 4 56 7 8 9 5 6 0 1 2 1 3 0\nhello\nread 7\n"
+MOVE = struct.pack("<IH3i6q", 62, 4, 7, 0, 1, 1133000, 1174200, 1205100, 1091800, 1091801, 1091802)
+UNKNOWN = struct.pack("<IH3s", 5, 9, b"abc")
+ROW = b"7;0;1;0;103;;;5\n"
+SHORT = {
+    "evening": LINES,
+    "why": LINES,
+    "broadcast": LINES,
+    "listen": UNKNOWN + MOVE,
+    "exchange": ROW + b"9;1;2.5;0;;1;2;0\r\n007;1;1;-7.3;4;2;3;9\n",
+}
+
+
+def every_boundary(program):
+    script = SHORT[program.name]
+    expected = theirs(program, script)
+    for place in range(1, len(script)):
+        first, rest = cut(script, [place])
+        yield program, "a short input cut at byte %d" % place, [first, rest], expected, None, whole_in(program, first)
+    for place in range(len(script)):
+        first = script[:place]
+        yield program, "a short input ended at byte %d" % place, cut(first, []), theirs(program, first)
+
+
+def random_pieces(program, script, drawn):
+    """Small pieces of the beginning, large ones of all, and a reader that takes few bytes."""
+    first = script[:200_000]
+    expected = theirs(program, first)
+    yield program, "in small pieces", cut(first, random_places(drawn, len(first), 150)), expected
+    yield program, "in large pieces", cut(script, random_places(drawn, len(script), 6_000)), theirs(program, script)
+    yield program, "read by few bytes", [first], expected, random.Random(drawn.random())
+
+
+def long_inputs(name):
+    """Inputs with a line, messages or a text of the greatest length, of a byte less or more, and far longer ones: with
+    their ends, without, and with what is served behind them. Each with places to cut it at."""
+    if name == "listen":
+        unknown = struct.pack("<IH", 4096, 9).ljust(4100, b"x") * 20
+        return [(unknown + MOVE, [len(unknown)]), (unknown, [5]), (unknown[:-1], [4100])]
+    if name == "exchange":
+        texts = [ROW.rjust(TEXT_MOST + more, b"0") for more in (-1, 0, 1, TEXT_MOST)]
+        texts += [texts[1][:-1], b"9" + ROW[1:] * (TEXT_MOST // len(ROW) - 1) + ROW]
+        return [(text, [len(text) - 1]) for text in texts]
+    inputs = []
+    for length in LONGEST, LONGEST + 1, LONGEST + 2, 2 * LONGEST + 1, 3 * LONGEST:
+        line = LINES + b"read 7".ljust(length)
+        inputs += [(line + behind, [len(line), len(line) + 1]) for behind in (b"", b"\n", b"\nhello\n\nread 7")]
+    return inputs
+
+
+def long_pieces(program, drawn):
+    for script, places in long_inputs(program.name):
+        pieces = cut(script, places + random_places(drawn, len(script), 9_000))
+        yield program, "a long input of %d bytes" % len(script), pieces, theirs(program, script)
+
+
+# ---- the work
+
+def programs(reference, names):
+    for name in names:
+        shown = subprocess.run(["outside/runner", "--show", "target/bin/" + name], stdout=subprocess.PIPE, check=True)
+        yield Program(name, shown.stdout.decode().split(), [reference, name])
+
+
+def asking(program, words):
+    return Program(program.name, program.command + words, program.reference + words)
+
+
+def send_all(pool, seed, reference, folder):
+    def inputs():
+        for program in programs(reference, SHORT):
+            drawn = random.Random("%s %s" % (seed, program.name))
+            if program.name == "exchange":
+                program = asking(program, ["7"])
+                yield program, "read by few bytes", [ROW * 16], theirs(program, ROW * 16), drawn
+            else:
+                file = "broadcast.ours" if program.name == "listen" else "evening.script"
+                with open(os.path.join(folder, file), "rb") as script:
+                    yield from random_pieces(program, script.read(), drawn)
+            yield from long_pieces(program, drawn)
+            yield from every_boundary(program)
+    done = list(pool.map(lambda words: sent(*words), inputs()))
+    print("pieces: %d inputs in pieces, no difference" % len(done))
+
+
+def send_each(pool, seed, reference, name):
+    program = next(programs(reference, [name]))
+
+    def both(line):
+        *words, file = line.split()
+        asked = asking(program, words)
+        with open(file, "rb") as script:
+            whole = subprocess.run(asked.command, stdin=script, stdout=subprocess.PIPE, check=True).stdout
+            script.seek(0)
+            text = script.read()
+        drawn = random.Random("%s %s" % (seed, line))
+        places = [drawn.randrange(len(text) + 1) for _ in range(drawn.randrange(1, 6))]
+        sent(asked, line, cut(text, places), whole)
+        return whole
+    index = sys.stdin.read().splitlines()
+    for line, answers in zip(index, pool.map(both, index)):
+        # The lines of a stream stand behind its name, as the other readers print them.
+        sys.stdout.buffer.write((line.encode() + b"\n" if name == "listen" else b"") + answers)
+
+
+def main(words):
+    if words in (["-h"], ["--help"]):
+        print(__doc__.strip())
+        return 0
+    if len(words) != 4 or words[2] not in ("all", "each"):
+        print("pieces: which seed, which reference, and all or each of what? see pieces.py -h", file=sys.stderr)
+        return 2
+    seed, reference, what, which = words
+    pool = concurrent.futures.ThreadPoolExecutor(os.cpu_count())
+    try:
+        (send_all if what == "all" else send_each)(pool, seed, reference, which)
+    except Wrong as wrong:
+        print("pieces: seed %s: %s" % (seed, wrong), file=sys.stderr)
+        return 1
+    except (OSError, subprocess.SubprocessError) as error:
+        print("pieces: %s" % error, file=sys.stderr)
+        return 2
+    finally:
+        pool.shutdown(cancel_futures=True)
+    return 0
+
+
+if __name__ == "__main__":
+    sys.exit(main(sys.argv[1:]))
