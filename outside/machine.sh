@@ -58,6 +58,31 @@ toolchain() {
     echo "$kit/on/$(uname -m)/toolchain"
 }
 
+# A kit like the one at hand, but that a script stands in for its clang: the toolchain hands its LLVM code to that. The
+# script finds the kit's own clang as $clang.
+stand_in_kit() { # FOLDER SCRIPT
+    tools=$(toolchain) || exit 2
+    like=$1/on/$(uname -m)
+    mkdir -p "$like/toolchain/bin"
+    link_but "${tools%/on/*}" "$1" on
+    link_but "${tools%/toolchain}" "$like" toolchain
+    link_but "$tools" "$like/toolchain" bin
+    link_but "$tools/bin" "$like/toolchain/bin" clang
+    printf '#!/bin/sh\nclang=%s\n%s\n' "$tools/bin/clang" "$2" >"$like/toolchain/bin/clang"
+    chmod +x "$like/toolchain/bin/clang"
+}
+
+# Links all that a folder has into another, but for one.
+link_but() { # FOLDER LIKE ONE
+    for one in "$1"/*; do [ "${one##*/}" = "$3" ] || ln -s "$one" "$2/${one##*/}"; done
+}
+
+# LLVM code as text, before any pass.
+llvm_text() { # BITCODE TEXT
+    "$(toolchain)/bin/clang" --target=x86_64-unknown-linux-gnu -S -emit-llvm -O0 -Xclang -disable-llvm-passes -x ir \
+        "$1" -o "$2"
+}
+
 # ---- what else is needed: a C compiler for x86-64, make, a reader of x86-64 machine code, cargo and python3
 
 case $(uname -m) in

@@ -1,0 +1,165 @@
+# Sourced by outside/root after machine.sh: which instructions of a program came of one function, wherever the compiler
+# has put them. It defines functions and changes nothing.
+#
+# The LLVM code that the toolchain hands to its clang is compiled once more with marks: every instruction says, as a
+# debugger's lines are said, whether it stands in that function or in what it calls (line 1) or elsewhere (line 2). LLVM
+# carries such marks through its passes and makes the same instructions with them as without: `same_code` asks for that,
+# function by function.
+
+# The LLVM code of a program, as FOLDER/handed.ll, and the words by which the kit's clang compiles it, as FOLDER/words.
+# `rt try` makes both without a proof; it is stopped there.
+handed_code() { # NAME FOLDER
+    # shellcheck disable=SC2016
+    stand_in_kit "$2/kit" 'case " $* " in *" -O3 "*) ;; *) exec "$clang" "$@" ;; esac
+while [ $# -gt 0 ]; do
+    case $1 in
+    -c) ;;
+    -x | -o) shift ;;
+    *.bc) cp "$1" '"'$2/handed.bc'"' ;;
+    *) echo "$1" ;;
+    esac
+    shift
+done >'"'$2/words'"'
+exit 1'
+    RATTLE_HOME=$2/kit rt try "$1" >"$2/said" 2>&1 </dev/null
+    [ -f "$2/handed.bc" ] || {
+        cat "$2/said" >&2
+        cannot "the toolchain handed no LLVM code of $1 to its clang"
+    }
+    llvm_text "$2/handed.bc" "$2/handed.ll" || cannot "the kit's clang does not print the LLVM code of $1"
+}
+
+# LLVM code as lines 'FUNCTION is there', 'FUNCTION does OPERATION' and 'FUNCTION calls FUNCTION'. A call of LLVM's own,
+# as a move of bytes, is an operation.
+llvm_code() { # TEXT
+    awk '
+        function symbol(text) {
+            if (!match(text, /@("[^"]*"|[^ "(]+)\(/)) return ""
+            text = substr(text, RSTART + 1, RLENGTH - 2)
+            gsub(/"/, "", text)
+            return text
+        }
+        /^define / { name = symbol($0); print name " is there" }
+        /^  [^ \]]/ && name != "" {
+            text = $0
+            sub(/^ +(%[^ ]+ = )?(tail |musttail |notail )?/, "", text)
+            word = text
+            sub(/ .*/, "", word)
+            to = word == "call" ? symbol(text) : ""
+            if (to ~ /^llvm\./) word = to
+            else if (to != "") print name " calls " to
+            else if (word == "call") word = "call-indirect"
+            print name " does " word
+        }
+        /^}/ { name = "" }' "$1"
+}
+
+# A function and all that it calls, by such lines.
+with_callees() { # FUNCTION CODE
+    awk -v name="$1" '
+        $2 == "calls" { calls[$1, ++callees[$1]] = $3 }
+        END {
+            queue[last = 1] = name
+            seen[name] = 1
+            for (at = 1; at <= last; at++) {
+                name = queue[at]
+                print name
+                for (k = 1; k <= callees[name]; k++) if (!seen[calls[name, k]]++) queue[++last] = calls[name, k]
+            }
+        }' "$2"
+}
+
+# LLVM code with marks, by a list of the functions that are marked 1. The mark of a function refers to a record of it.
+with_marks() { # LIST TEXT
+    awk '
+        NR == FNR { listed[$1]; next }
+        /^define / {
+            match($0, /@("[^"]*"|[^ "(]+)\(/)
+            name = substr($0, RSTART + 1, RLENGTH - 2)
+            gsub(/"/, "", name)
+            line[++count] = name in listed ? 1 : 2
+            own = 1000000 + 2 * count
+            sub(/ \{$/, " !dbg !" own " {")
+            inside = 1
+        }
+        inside && /^  [^ ]/ && !/\[$/ { $0 = $0 ", !dbg !" (own + 1) }
+        /^}/ { inside = 0 }
+        { print }
+        END {
+            print "!llvm.dbg.cu = !{!1000000}"
+            print "!llvm.module.flags = !{!999999}"
+            print "!999997 = !DIFile(filename: \"marks\", directory: \"\")"
+            print "!999998 = !DISubroutineType(types: !{})"
+            print "!999999 = !{i32 2, !\"Debug Info Version\", i32 3}"
+            print "!1000000 = distinct !DICompileUnit(language: DW_LANG_C, file: !999997, emissionKind: LineTablesOnly)"
+            for (k = 1; k <= count; k++) {
+                own = 1000000 + 2 * k
+                print "!" own " = distinct !DISubprogram(name: \"f" k "\", file: !999997, type: !999998, " \
+                    "spFlags: DISPFlagDefinition | DISPFlagOptimized, unit: !1000000)"
+                print "!" (own + 1) " = !DILocation(line: " line[k] ", scope: !" own ")"
+            }
+        }' "$1" "$2"
+}
+
+# Assembly with marks as what one function does and calls. Where some of it stands inside another function, that one 'is
+# there', and an instruction in it that has lost its mark counts as the first one's.
+marked_code() { # FUNCTION ASSEMBLY
+    awk -v marked="$1" '
+        function add(text) { mark[++count] = now; does[count] = text }
+        function tell() {
+            if (stands) print name " is there"
+            for (k = 1; k <= count; k++) if (mark[k] == 1 || stands && mark[k] == 0) print marked " " does[k]
+            count = stands = 0
+        }
+        /^[^ \t.#].*:/ { name = $1; gsub(/"|:$/, "", name); now = 0 }
+        /^\t\.loc\t/ { now = $3 }
+        /^\t[a-z]/ {
+            text = $0
+            sub(/#.*/, "", text)
+            gsub(/[ \t]+/, " ", text)
+            goes = $1 ~ /^(call|j)/
+            add("does " $1 (goes && text ~ /\*/ ? "-indirect" : "") " at " name ":" text)
+            if (now == 1) stands = 1
+            if (goes && $2 !~ /^(\.L|\*)/) { to = $2; gsub(/"|@PLT$/, "", to); add("calls " to) }
+        }
+        /^\.Lfunc_end/ { tell() }
+        END { print marked " is there" }' "$2"
+}
+
+# Compiles FOLDER/handed.ll with marks for one function, by the words for clang. Leaves the lines of the LLVM code as
+# FOLDER/handed, those of what the function becomes as FOLDER/machine, and the assembly as FOLDER/marked.s.
+compile_marked() { # FUNCTION FOLDER WORD...
+    function=$1
+    folder=$2
+    shift 2
+    llvm_code "$folder/handed.ll" >"$folder/handed"
+    with_callees "$function" "$folder/handed" >"$folder/list"
+    with_marks "$folder/list" "$folder/handed.ll" >"$folder/marked.ll"
+    "$(toolchain)/bin/clang" "$@" -mllvm -use-unknown-locations=Enable -S -x ir "$folder/marked.ll" \
+        -o "$folder/marked.s" || cannot "the kit's clang does not take LLVM code with marks"
+    marked_code "$function" "$folder/marked.s" >"$folder/machine"
+}
+
+assemble() { # ASSEMBLY OBJECT
+    "$(toolchain)/bin/clang" --target=x86_64-unknown-linux-gnu -c "$1" -o "$2" ||
+        cannot "the kit's clang does not assemble what it made"
+}
+
+# The functions of an object, a line each, with their instructions, where each stands and what it refers to. What fills
+# the room between two of them, and does nothing, says nothing.
+functions_of() { # OBJECT
+    "$objdump" -dr --no-show-raw-insn "$1" | awk '
+        /^[0-9a-f]+ <.*>:$/ { if (text != "") print text; text = $2 }
+        /^ *[0-9a-f]+:\t|: R_/ && !/\t(data16 |cs )*nop|\txchg +%ax,%ax/ { gsub(/[ \t]+/, " "); text = text ";" $0 }
+        END { print text }' | sort
+}
+
+# Two objects have the same functions; says which they have not.
+same_code() { # OBJECT OBJECT FOLDER
+    functions_of "$1" >"$3/first"
+    functions_of "$2" >"$3/second"
+    [ -s "$3/first" ] || cannot "$objdump does not take $1"
+    cmp -s "$3/first" "$3/second" && return
+    diff "$3/first" "$3/second" | sed -n 's/^[<>] <\([^>]*\)>:.*/\1 is another function with marks/p' | sort -u >&2
+    return 1
+}
