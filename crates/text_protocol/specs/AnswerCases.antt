@@ -4,7 +4,7 @@
 use mathlib.Core.Path.{_≡_, refl}
 use mathlib.Core.Bool.{true, false}
 use mathlib.Core.List.{List, [], _∷_, _++_, map}
-use Prim.Native.Nat.{ℕ}
+use Prim.Native.Nat.{ℕ, _+_}
 use lib.IntN.{pos, negsuc}
 use lib.ListN.{replicate}
 use Rattle.paper.specs.declared.Standing.the-variants.{Admitted, Live}
@@ -27,7 +27,8 @@ use Rattle.paper_desk.specs.Desk.{Call, admit, evaluate, quote, move, read, ope
 use Rattle.paper_desk.specs.External.{notice}
 use Rattle.text_protocol.specs.Numbers.{spelt, decimal, signed}
 use Rattle.text_protocol.specs.LineCases.{bytes}
-use Rattle.text_protocol.specs.Answers.{next, spaced, answerText, badText, flag, nearNumber, standingNumbers}
+use Rattle.text_protocol.specs.Answers.{next, spaced, answerMost, waitingMost, answerText, badText, flag}
+use Rattle.text_protocol.specs.Answers.{nearNumber, standingNumbers}
 use Rattle.text_protocol.specs.Answers.{figureNumbers, ratesNumbers, rangesNumbers, termNumbers, lastNumbers}
 use Rattle.text_protocol.specs.Answers.{sessionNumbers, externalNumbers, recordNumbers, figuresAnswered, callText}
 use Rattle.text_protocol.specs.Answers.{maturityNumbers, maturitiesNumbers, interestNumbers, interestText}
@@ -134,6 +135,10 @@ pub part-texts : (standingNumbers (Live 12) ≡ pos 1 ∷ pos 12 ∷ [])
     × (badText 120 ≡ bytes "bad 120\n")
 unfolding callTexts
 part-texts = (refl, refl, refl)
+
+-- of a buffer of 65,536 bytes an answer takes 1,200 at most
+pub waiting-is : (waitingMost ≡ 64336) × (waitingMost + answerMost ≡ 65536)
+waiting-is = (refl, refl)
 
 -- ---- an interest line
 
