@@ -4,14 +4,16 @@
 use mathlib.Core.Path.{_≡_, refl}
 use mathlib.Core.Bool.{Bool, true, false, not}
 use mathlib.Core.List.{List, [], _∷_, _++_, map}
-use Prim.Native.Nat.{ℕ, zero, suc}
+use Prim.Native.Nat.{ℕ, zero, suc, _+_, _-_}
 use lib.Dec.{eqb}
 use lib.IntN.{ℤ, pos, negsuc}
 use lib.ListN.{replicate}
 use Rattle.paper.specs.declared.Interest.{Interest}
 use Rattle.paper.specs.declared.InterestAnswer.{InterestAnswer}
+use Rattle.paper.specs.Numbers.{stepMost, minimumMost, repoTentativeMost}
 use Rattle.paper.specs.Verdicts.{numberOf}
 use Rattle.paper.specs.Ranges.{unsigned}
+use Rattle.paper_interest.specs.Interest.{estimateMost}
 use Rattle.paper_interest.specs.InterestCases.{limits, figures, answered}
 use Rattle.paper.specs.PinnedValues.{_but_, signed, plain}
 use Rattle.paper.specs.PinnedRanges.{Ranged, range, valuesOf, straddles, atTheEndsAlone}
@@ -268,3 +270,8 @@ counted = map (λ (keys : ℕ). answerTo callRow (keysUpTo keys) .count) (1 ∷ 
 pub counted-are : counted ≡ 1 ∷ 7 ∷ 8 ∷ 0 ∷ []
 unfolding counted
 counted-are = refl
+
+-- the greatest estimate: the greatest tentative rate, the greatest liquidity, and up to the next multiple less than a
+-- step
+pub greatest-estimate-is : estimateMost ≡ repoTentativeMost + minimumMost + (stepMost - 1)
+greatest-estimate-is = refl

@@ -11,8 +11,8 @@ use Rattle.paper.specs.PinnedRanges.{Ranged, range, valuesOf, straddles, atTheE
 use Rattle.paper.specs.Ranges.{unsigned}
 use Rattle.paper.specs.Verdicts.{isDone, firstOf}
 use Rattle.paper_messages.specs.declared.Field.{Field}
-use Rattle.paper_messages.specs.Bytes.{spelled}
-use Rattle.paper_messages.specs.Fields.{staticsFields, ratesFields, bandsFields, moveFields}
+use Rattle.paper_messages.specs.Bytes.{spelled, widthMost}
+use Rattle.paper_messages.specs.Fields.{eightBytes, staticsFields, ratesFields, bandsFields, moveFields}
 use Rattle.paper_messages.specs.Messages.{isKnownKind, inRanges, givenIn, readChecks, refusedHeard, acceptedHeard}
 use Rattle.paper_messages.specs.Messages.{heardAt}
 
@@ -97,6 +97,10 @@ field-ends =
 pub field-ends-are : field-ends ≡ map atTheEndsAlone (27 ∷ 15 ∷ 17 ∷ 9 ∷ [])
 unfolding field-ends atTheEndsAlone
 field-ends-are = refl
+
+-- the widest field is as wide as the widest number
+pub widest-is : eightBytes (pos 0) (pos 0) .width ≡ widthMost
+widest-is = refl
 
 -- ---- places
 
