@@ -246,7 +246,7 @@ def long_inputs(name):
         return [(unknown + MOVE, [len(unknown)]), (unknown, [5]), (unknown[:-1], [4100])]
     if name == "exchange":
         texts = [ROW.rjust(TEXT_MOST + more, b"0") for more in (-1, 0, 1, TEXT_MOST)]
-        texts += [texts[1][:-1], b"9" + ROW[1:] * (TEXT_MOST // len(ROW) - 1) + ROW]
+        texts += [texts[1][:-1], (b"9" + ROW[1:]) * (TEXT_MOST // len(ROW) - 1) + ROW]
         return [(text, [len(text) - 1]) for text in texts]
     inputs = []
     for length in LONGEST, LONGEST + 1, LONGEST + 2, 2 * LONGEST + 1, 3 * LONGEST:
@@ -279,7 +279,8 @@ def send_all(pool, seed, reference, folder):
             drawn = random.Random("%s %s" % (seed, program.name))
             if program.name == "exchange":
                 program = asking(program, ["7"])
-                yield program, "read by few bytes", [ROW * 16], theirs(program, ROW * 16), drawn
+                few = random.Random(drawn.random())
+                yield program, "read by few bytes", [ROW * 16], theirs(program, ROW * 16), few
             else:
                 file = "broadcast.ours" if program.name == "listen" else "evening.script"
                 with open(os.path.join(folder, file), "rb") as script:
