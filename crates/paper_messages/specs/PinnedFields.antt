@@ -4,8 +4,9 @@
 use mathlib.Core.Path.{_≡_, refl}
 use mathlib.Core.Bool.{Bool, false}
 use mathlib.Core.List.{List, [], _∷_, _++_, map}
+use Prim.Native.Nat.{ℕ}
 use lib.IntN.{pos, negsuc}
-use lib.ListN.{replicate}
+use lib.ListN.{length, replicate}
 use Rattle.paper.specs.declared.Verdict.the-variants.{Done, CutShort}
 use Rattle.paper.specs.PinnedRanges.{Ranged, range, valuesOf, straddles, atTheEndsAlone}
 use Rattle.paper.specs.Ranges.{unsigned}
@@ -13,6 +14,7 @@ use Rattle.paper.specs.Verdicts.{isDone, firstOf}
 use Rattle.paper_messages.specs.declared.Field.{Field}
 use Rattle.paper_messages.specs.Bytes.{spelled, widthMost}
 use Rattle.paper_messages.specs.Fields.{eightBytes, staticsFields, ratesFields, bandsFields, moveFields}
+use Rattle.paper_messages.specs.Fields.{fieldsOf}
 use Rattle.paper_messages.specs.Messages.{isKnownKind, inRanges, givenIn, readChecks, refusedHeard, acceptedHeard}
 use Rattle.paper_messages.specs.Messages.{heardAt}
 
@@ -103,6 +105,12 @@ pub widest-is : eightBytes (pos 0) (pos 0) .width ≡ widthMost
 widest-is = refl
 
 -- ---- places
+
+-- how many fields each kind has, and the kinds 0 and 5, which are unknown
+pub counts-are : map (λ (kind : ℕ). length (fieldsOf kind)) (0 ∷ 1 ∷ 2 ∷ 3 ∷ 4 ∷ 5 ∷ [])
+    ≡ 0 ∷ 27 ∷ 15 ∷ 17 ∷ 9 ∷ 0 ∷ []
+unfolding fieldsOf staticsFields ratesFields bandsFields moveFields
+counts-are = refl
 
 -- of values that count up from 0, so that each is its own place
 pub given-are : givenIn (map pos (0 ∷ 1 ∷ 2 ∷ 3 ∷ 4 ∷ 5 ∷ 6 ∷ 7 ∷ 8 ∷ 9 ∷ 10 ∷ 11 ∷ 12 ∷ 13 ∷ 14 ∷ 15 ∷ 16 ∷ 17 ∷ 18
