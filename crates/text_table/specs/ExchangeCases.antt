@@ -14,11 +14,13 @@ use Rattle.text_protocol.specs.Bytes.{lineFeed, carriageReturn, isLineFeed, gro
 use Rattle.text_protocol.specs.Numbers.{isDigit}
 use Rattle.text_protocol.specs.Written.{negated}
 use Rattle.text_protocol.specs.LineCases.{bytes}
+use Rattle.text_table.specs.declared.Column.{Column}
 use Rattle.text_table.specs.declared.Reading.{Reading}
-use Rattle.text_table.specs.Exchange.{columns, lineNumbers, textMost, inOne, accepted, refused}
+use Rattle.text_table.specs.Exchange.{wholeNumber, exchangeRate, repoRate, price, columns, lineNumbers, textMost}
+use Rattle.text_table.specs.Exchange.{inOne, accepted, refused}
 use Rattle.text_table.specs.Scan.{starts, digits, pastZeros, decimals, behindWhole, number, positive, turned}
 use Rattle.text_table.specs.Scan.{cell, pass, lineEnd, fieldEnd, cells, inRange, line, isOf, orBad, collect}
-use Rattle.text_table.specs.Scan.{reading}
+use Rattle.text_table.specs.Scan.{front, none, reading}
 
 unfoldable pub ended : String → List ℕ
 ended s = bytes s ++ lineFeed ∷ []
@@ -85,7 +87,7 @@ badLines =
     -- other bytes, and a minus elsewhere
     ∷ "7;0;1;+1;103;;;5" ∷ "7;0;1; 1;103;;;5" ∷ "7;0;1;1 ;103;;;5" ∷ "7;0;1;1e1;103;;;5" ∷ "7;0;1;--1;103;;;5"
     ∷ "7;0;1;1-;103;;;5" ∷ "7;0;1;-;103;;;5" ∷ "-7;0;1;0;103;;;5" ∷ "7;-0;1;0;103;;;5" ∷ "7;0;1;0;-103;;;5"
-    ∷ "7;0;1;0;103;-;;5" ∷ "7;0;1,5;0;103;;;5" ∷ "a;0;1;0;103;;;5"
+    ∷ "7;0;1;0;103;-;;5" ∷ "7;0;1;0;-0;;;0" ∷ "7;0;1;0;103;;-0.0;5" ∷ "7;0;1,5;0;103;;;5" ∷ "a;0;1;0;103;;;5"
     -- outside document 01's ranges
     ∷ "0;0;1;0;103;;;5" ∷ "1000000001;0;1;0;103;;;5" ∷ "7;31;1;0;103;;;5" ∷ "7;0;0;0;103;;;5"
     ∷ "7;0;1000.0001;0;103;;;5" ∷ "7;0;1;100;103;;;5" ∷ "7;0;1;-100.00;103;;;5" ∷ "7;0;1;0;1000000.0001;;;5"
@@ -166,6 +168,15 @@ unfolding textRead textMeant textCases times own others spoilt ended endedCr byt
     cell fieldEnd lineEnd pass number positive turned behindWhole decimals digits pastZeros starts inRange accepted
     refused inOne columns pieces grow isLineFeed isDigit negated unsigned rowAt validRow
 texts-are = refl
+
+-- "no other field may be empty" than a price's, and none but the repo rate has a minus
+pub columns-are : (map (λ (c : Column). cell c []) (wholeNumber ∷ exchangeRate ∷ repoRate ∷ price ∷ [])
+    ≡ none ∷ none ∷ none ∷ front (pos 0) [] ∷ [])
+    × (map (λ (c : Column). cell c (bytes "-1")) (wholeNumber ∷ exchangeRate ∷ repoRate ∷ [])
+    ≡ none ∷ none ∷ front (negsuc 99) [] ∷ [])
+    × (cell price (bytes "-1") ≡ front (pos 0) (bytes "-1"))
+unfolding cell turned positive number digits behindWhole decimals starts isDigit negated bytes
+columns-are = (refl, refl, refl)
 
 -- "eight fields", and "at most 65,536 bytes"
 pub lengths-are : (length columns ≡ lineNumbers) × (lineNumbers ≡ 8) × (textMost ≡ 65536)
