@@ -6,23 +6,23 @@
  *     range  P RATE SIDE             STATICS
  *     band   P S1 K REPO C SIDE      STATICS
  *
- * STATICS are the 26 numbers of nedrubal.h, in its order. Words are split by space, tab or carriage return; a number
- * is an optional '-' and one or more digits, and fits 64 bits. A line of no words is skipped. Any other line that is
- * no call prints `bad` and its number, counted from 1. A line is read byte by byte and never held whole, so it may be
- * of any length; the last one may lack its end.
+ * STATICS are the fields of struct nedrubal_statics, in the order of nedrubal.h. Words are split by space, tab or
+ * carriage return; a number is an optional '-' and one or more digits, and fits 64 bits. A line of no words is skipped.
+ * Any other line that is no call prints `bad` and its number, counted from 1. A line is read byte by byte and never
+ * held whole, so it may be of any length; the last one may lack its end.
  */
-#include "nedrubal.h"
+#include <nedrubal.h>
 #include <inttypes.h>
 #include <stdbool.h>
 #include <stdio.h>
 #include <string.h>
 
-enum { STATICS = 26, OWN_MOST = 6, NUMBERS_MOST = OWN_MOST + STATICS, VERB_MOST = 5 };
-
-#define EACH(s) \
-    (s)[0], (s)[1], (s)[2], (s)[3], (s)[4], (s)[5], (s)[6], (s)[7], (s)[8], (s)[9], (s)[10], (s)[11], (s)[12], \
-    (s)[13], (s)[14], (s)[15], (s)[16], (s)[17], \
-        (s)[18], (s)[19], (s)[20], (s)[21], (s)[22], (s)[23], (s)[24], (s)[25]
+enum {
+    STATICS = sizeof(struct nedrubal_statics) / sizeof(int64_t),
+    OWN_MOST = 6,
+    NUMBERS_MOST = OWN_MOST + STATICS,
+    VERB_MOST = 5
+};
 
 /* The word that is being read, as a number: gathered below zero, where the least one has room. */
 struct word {
@@ -85,18 +85,25 @@ static void end_word(struct line *line) {
     line->word = (struct word){0};
 }
 
+static struct nedrubal_statics statics_of(const int64_t *number) {
+    struct nedrubal_statics statics;
+    memcpy(&statics, number, sizeof statics);
+    return statics;
+}
+
 /* Whether the line is a call, and its answer. */
 static bool answered(const struct line *line, int64_t *answer) {
     const int64_t *n = line->number;
     int own = line->numbers - STATICS;
-    if (line->bad)
+    if (line->bad || own < 0)
         return false;
+    const struct nedrubal_statics statics = statics_of(n + own);
     if (own == 3 && strcmp(line->verb, "rate") == 0)
-        *answer = nedrubal_level_rate(n[0], n[1], n[2], EACH(n + 3));
+        *answer = nedrubal_level_rate(n[0], n[1], n[2], &statics);
     else if (own == 3 && strcmp(line->verb, "range") == 0)
-        *answer = nedrubal_range_limit(n[0], n[1], n[2], EACH(n + 3));
+        *answer = nedrubal_range_limit(n[0], n[1], n[2], &statics);
     else if (own == 6 && strcmp(line->verb, "band") == 0)
-        *answer = nedrubal_band_limit(n[0], n[1], n[2], n[3], n[4], n[5], EACH(n + 6));
+        *answer = nedrubal_band_limit(n[0], n[1], n[2], n[3], n[4], n[5], &statics);
     else
         return false;
     return true;
