@@ -83,7 +83,7 @@ llvm_text() { # BITCODE TEXT
         "$1" -o "$2"
 }
 
-# ---- what else is needed: a C compiler for x86-64, make, a reader of x86-64 machine code, cargo and python3
+# ---- what else is needed: a C compiler for x86-64, make, pkg-config, a reader of x86-64 machine code, cargo, python3
 
 case $(uname -m) in
 x86_64)
@@ -139,6 +139,13 @@ need_rust() {
     has cargo && return
     install_packages "cargo is missing" cargo
     has cargo || cannot "there is still no cargo"
+}
+
+# A C program finds the header and the archive by it (release/nedrubal.pc.in).
+need_pkg_config() {
+    has pkg-config && return
+    install_packages "pkg-config is missing" pkg-config
+    has pkg-config || cannot "there is still no pkg-config"
 }
 
 # The member's reader of messages runs by it (examples/listen.py).
