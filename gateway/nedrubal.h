@@ -25,8 +25,9 @@
  * pointed to, keeps no state, writes to no memory but its own stack, takes no lock and always returns. So any number
  * of threads may call at once, with the same statics too, as long as no thread writes to those meanwhile.
  *
- * What it needs. C99 or C++11, or later, to compile this header; <stdint.h> and <string.h>. The archive is
- * libnedrubal.a, for x86-64 Linux and for aarch64 Linux. It needs `memcpy` of the C library at most, and nothing else.
+ * What it needs. This header: C99 or C++11, or later, <stdint.h>, and `memset` of <string.h>. The archive,
+ * libnedrubal.a, for x86-64 Linux or for aarch64 Linux: `memcpy` of the C library at most, and nothing else. It fits
+ * into programs and into shared libraries.
  *
  * Versions. Behind the calls' names the archive's own carry the version and the number of statics, so an object links
  * with the archive of the version whose header it was compiled with, and with no other: compile with each version anew.

@@ -9,6 +9,7 @@
 #include <pthread.h>
 #include <stdio.h>
 #include <stdlib.h>
+#include <string.h>
 
 enum { THREADS = 8, CALLS = 3000, ROUNDS = 10, STATICS = sizeof(struct nedrubal_statics) / sizeof(int64_t) };
 
