@@ -29,15 +29,16 @@
  * libnedrubal.a, for x86-64 Linux or for aarch64 Linux: `memcpy` of the C library at most, and nothing else. It fits
  * into programs and into shared libraries.
  *
- * Versions. Behind the calls' names the archive's own carry the version and the number of statics, so an object links
- * with the archive of the version whose header it was compiled with, and with no other: compile with each version anew.
+ * Versions. The archive has each call under a name of its own, which carries the version and the number of statics. So
+ * an object links with the archive of the version whose header it was compiled with, and with no other: compile anew
+ * for each version.
  *
  *     Within a major version these stay: every name of this header but the archive's own, the units, the numbers of the
  *     refusals and sides, and the order of a call's own numbers. So a source that compiles goes on compiling.
  *     With any version these may change: the archive's own names, and the places of the fields in the struct. Name each
  *     field that you set.
- *     A static more is a new major version. Its field is unset in a source that does not know it, so every call is
- *     refused (-4) until the source sets it.
+ *     A static more is a new major version. In a source that begins with nedrubal_unset_statics() and does not know the
+ *     new field, the field is unset, and every call is refused (-4) until the source sets it.
  *
  * The figures are those of documents 01 and 02; CHANGELOG.md says what a version changes in them.
  */
