@@ -83,6 +83,21 @@ llvm_text() { # BITCODE TEXT
         "$1" -o "$2"
 }
 
+# Compiles the bitcode that outside/bitcode keeps of a crate for another machine. The text names the machine that it is
+# for: its layout, its triple, and the processor of each function; the words name it too. All else is as the toolchain
+# has it.
+compile_for() { # TRIPLE NAME OBJECT [WORD...]
+    triple=$1
+    text=target/bitcode/$2.ll
+    object=$3
+    words=$(grep -v -e '^--target=' -e '^-march=' "target/bitcode/$2.words")
+    shift 3
+    sed -e '/^target datalayout/d' -e "s/^target triple.*/target triple = \"$triple\"/" \
+        -e 's/"target-cpu"="[^"]*"//g; s/"target-features"="[^"]*"//g' "$text" >"$object.ll" || return
+    # shellcheck disable=SC2086
+    "$(toolchain)/bin/clang" --target="$triple" $words "$@" -c -x ir "$object.ll" -o "$object" && rm "$object.ll"
+}
+
 # ---- what else is needed: a C compiler for x86-64, make, pkg-config, a reader of x86-64 machine code, cargo, python3
 
 case $(uname -m) in
@@ -120,6 +135,35 @@ need_c() {
     # shellcheck disable=SC2086
     install_packages "$cc with a static C library, or make, is missing" $c_packages
     c_links || cannot "$cc does not link a static program for x86-64"
+}
+
+# A release is linked for both kinds of machine, each by this machine's own tools or by those that cross over.
+tool_for() { # KIND TOOL
+    if [ "$1" = "$(uname -m)" ]; then echo "$2"; else echo "$1-linux-gnu-$2"; fi
+}
+
+c_links_for() { # KIND
+    has "$(tool_for "$1" gcc)" && has "$(tool_for "$1" objcopy)" && has "$(tool_for "$1" objdump)" &&
+        echo 'int main(void) { return 0; }' | "$(tool_for "$1" gcc)" -static -x c -o /dev/null - 2>/dev/null
+}
+
+need_c_for() { # KIND
+    ! c_links_for "$1" || return 0
+    case $1-$(uname -m) in
+    x86_64-x86_64 | aarch64-aarch64) c_packages_for='gcc libc6-dev' ;;
+    x86_64-*) c_packages_for='gcc-x86-64-linux-gnu libc6-dev-amd64-cross' ;;
+    *) c_packages_for='gcc-aarch64-linux-gnu libc6-dev-arm64-cross' ;;
+    esac
+    # shellcheck disable=SC2086
+    install_packages "a C compiler for $1 with a static C library is missing" $c_packages_for
+    c_links_for "$1" || cannot "$(tool_for "$1" gcc) does not link a static program for $1"
+}
+
+# The WebAssembly programs run by it.
+need_node() {
+    has node && return
+    install_packages "node is missing" nodejs
+    has node || cannot "there is still no node"
 }
 
 # objdump knows the processors that it was built for, and every C compiler brings the one for its own.

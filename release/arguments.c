@@ -1,5 +1,8 @@
-/* For bench/from-bitcode alone: the toolchain has its C functions of a program's arguments for x86-64 only, so a
- * program that is compiled for another machine, for a measurement, takes these three in their place. */
+/*
+ * The three functions by which a proved program is handed its arguments. The toolchain has its own for x86-64 alone; a
+ * program that is linked for a release or a measurement takes these in their place, on every kind of machine.
+ */
+#include "arguments.h"
 #include <errno.h>
 #include <stddef.h>
 #include <string.h>
@@ -8,11 +11,16 @@
 static int count;
 static char **words;
 
-/* The C library hands a constructor what it hands main. */
-__attribute__((constructor)) static void take(int argc, char **argv)
+void give_arguments(int argc, char **argv)
 {
     count = argc;
     words = argv;
+}
+
+/* The C library hands a constructor what it hands main: where nobody gives any, these are the arguments. */
+__attribute__((constructor)) static void take(int argc, char **argv)
+{
+    give_arguments(argc, argv);
 }
 
 size_t rattle_arg_count(void)
