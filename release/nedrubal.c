@@ -1,0 +1,178 @@
+/*
+ * The program `nedrubal`: its first word names one of the proved programs, which then runs in this process. What stands
+ * here opens a file, answers -h and gives a status; no figure comes from it.
+ *
+ *     nedrubal evening|why|broadcast|listen [FILE]
+ *     nedrubal exchange ID <TEXT
+ *
+ * A proved program always ends with 0, and says on standard error that it could not read or write. So its `write` is
+ * the one below, which sees that: status 1. Status 2 says that the words are wrong or that FILE cannot be read.
+ */
+#include "arguments.h"
+#include <errno.h>
+#include <fcntl.h>
+#include <stddef.h>
+#include <string.h>
+#include <sys/stat.h>
+#include <unistd.h>
+
+#ifndef VERSION
+#error VERSION is the text of the file VERSION
+#endif
+
+enum { COULD_NOT = 1, USAGE = 2 };
+
+/* `main` of each proved program, by the name that outside/release gives it. */
+int nedrubal_evening(void);
+int nedrubal_why(void);
+int nedrubal_broadcast(void);
+int nedrubal_listen(void);
+int nedrubal_exchange(void);
+
+struct program {
+    const char *name; /* behind a space */
+    int (*run)(void);
+    const char *usage;
+};
+
+static const struct program programs[] = {
+    { " evening", nedrubal_evening,
+      "usage: nedrubal evening [FILE]\n"
+      "Runs an evening on FILE, or on standard input. A line is a call and gets a line of answer.\n" },
+    { " why", nedrubal_why,
+      "usage: nedrubal why [FILE]\n"
+      "Runs an evening on FILE, or on standard input. An evaluation is answered with what set its figures.\n" },
+    { " broadcast", nedrubal_broadcast,
+      "usage: nedrubal broadcast [FILE]\n"
+      "Runs an evening on FILE, or on standard input, and writes the messages that members are sent, in bytes.\n" },
+    { " listen", nedrubal_listen,
+      "usage: nedrubal listen [FILE]\n"
+      "Reads messages from FILE, or from standard input, and prints a line for each.\n" },
+    { " exchange", nedrubal_exchange,
+      "usage: nedrubal exchange ID <TEXT\n"
+      "Reads the exchange's text and prints the rows of security ID, as the end of an evaluate line takes them.\n" },
+};
+enum { PROGRAMS = sizeof programs / sizeof *programs };
+
+static const char about[] =
+    "usage: nedrubal PROGRAM [WORD]\n"
+    "  evening [FILE]       runs an evening: a line is a call and gets a line of answer\n"
+    "  why [FILE]           the same, where an evaluation is answered with what set its figures\n"
+    "  broadcast [FILE]     the same, where the messages to members are written, in bytes\n"
+    "  listen [FILE]        reads such messages, and prints a line for each\n"
+    "  exchange ID <TEXT    the rows of one security in the exchange's text\n"
+    "  PROGRAM -h           what one program takes\n"
+    "  --version            which release this is\n"
+    "Without FILE a program reads standard input. The status is 0; 1 where it could not read or write; 2 where the\n"
+    "words are wrong or FILE cannot be read.\n";
+
+/* Writes a text whole, and says whether it could. */
+static int say(int to, const char *text)
+{
+    size_t left = strlen(text);
+    while (left > 0) {
+        ssize_t wrote = write(to, text, left);
+        if (wrote < 0 && errno == EINTR)
+            continue;
+        if (wrote <= 0)
+            return 0;
+        text += wrote;
+        left -= (size_t)wrote;
+    }
+    return 1;
+}
+
+static int answer(const char *text)
+{
+    return say(STDOUT_FILENO, text) ? 0 : COULD_NOT;
+}
+
+/* One line that names the fault: BEFORE 'WORD' AFTER. `who` is a space and the name of a program, or nothing. */
+static int refuse(const char *who, const char *before, const char *word, const char *after)
+{
+    char line[512];
+    size_t length = 0;
+    const char *part[] = { "nedrubal", who, ": ", before, "'", word, "'", after, "; see nedrubal", who, " -h" };
+    /* A word may hold anything and have any length: the line stays one line. */
+    for (size_t i = 0; i < sizeof part / sizeof *part; i++)
+        for (const char *at = part[i]; *at && length < sizeof line - 2; at++)
+            line[length++] = (unsigned char)*at < ' ' || *at == 127 ? '?' : *at;
+    line[length++] = '\n';
+    line[length] = 0;
+    say(STDERR_FILENO, line);
+    return USAGE;
+}
+
+/* What the proved program has said on standard error: nothing, that it could not, or a usage. */
+static int said;
+
+/* In place of `write` in the proved programs. */
+ssize_t nedrubal_write(int to, const void *from, size_t length)
+{
+    static const char usage[] = "usage:";
+    if (to == STDERR_FILENO && said == 0) {
+        size_t known = sizeof usage - 1;
+        said = length >= known && memcmp(from, usage, known) == 0 ? USAGE : COULD_NOT;
+    }
+    return write(to, from, length);
+}
+
+/* Puts a file on standard input: a file, a pipe or a terminal that can be read. */
+static int put_on_input(const char *name)
+{
+    struct stat is;
+    int file;
+    do
+        file = open(name, O_RDONLY);
+    while (file < 0 && errno == EINTR);
+    if (file < 0 || fstat(file, &is) != 0)
+        return 0;
+    if (!S_ISREG(is.st_mode) && !S_ISFIFO(is.st_mode) && !S_ISCHR(is.st_mode))
+        return 0;
+    if (file == STDIN_FILENO)
+        return 1;
+    if (dup2(file, STDIN_FILENO) < 0)
+        return 0;
+    close(file);
+    return 1;
+}
+
+/* words[0] is the program's name. */
+static int run(const struct program *program, int count, char **words)
+{
+    if (count > 1 && (strcmp(words[1], "-h") == 0 || strcmp(words[1], "--help") == 0))
+        return answer(program->usage);
+    if (program->run != nedrubal_exchange) {
+        if (count > 1 && words[1][0] == '-' && words[1][1] != 0)
+            return refuse(program->name, "there is no option ", words[1], "");
+        if (count > 2)
+            return refuse(program->name, "it takes one FILE at most, and here is ", words[2], " too");
+        if (count > 1 && !put_on_input(words[1]))
+            return refuse(program->name, "", words[1], " is no file that can be read");
+    }
+    give_arguments(count, words);
+    int status = program->run();
+    return said ? said : status;
+}
+
+int main(int argc, char **argv)
+{
+    if (argc < 2) {
+        say(STDERR_FILENO, "nedrubal: which program? see nedrubal -h\n");
+        return USAGE;
+    }
+    const char *first = argv[1];
+    int is_help = strcmp(first, "help") == 0;
+    if (is_help && argc == 3)
+        first = argv[2];
+    for (int i = 0; i < PROGRAMS; i++)
+        if (strcmp(first, programs[i].name + 1) == 0)
+            return is_help ? answer(programs[i].usage) : run(&programs[i], argc - 1, argv + 1);
+    int is_about = strcmp(first, "help") == 0 || strcmp(first, "-h") == 0 || strcmp(first, "--help") == 0;
+    int is_version = strcmp(first, "--version") == 0;
+    if (!is_about && !is_version)
+        return refuse("", first[0] == '-' ? "there is no option " : "there is no program ", first, "");
+    if (argc > 2)
+        return refuse("", "nothing stands behind ", first, "");
+    return answer(is_about ? about : "nedrubal " VERSION "\n");
+}
