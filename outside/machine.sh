@@ -306,6 +306,20 @@ need_archive() { # NAME
     cannot "there is no archive of $1; see target/log/$1.archive"
 }
 
+# One number for all that a release is made from.
+release_sources() {
+    {
+        sources
+        find VERSION CHANGELOG.md docs examples gateway outside release -type f -exec sha256sum {} + 2>/dev/null | sort
+    } | sha256sum | cut -d' ' -f1
+}
+
+# The release, in target/release/.
+need_release() {
+    [ -f target/release/SHA256SUMS ] && [ "$(cat target/built/release 2>/dev/null)" = "$(release_sources)" ] && return
+    outside/release >&2 || exit
+}
+
 # The independent program. cargo itself sees what has changed.
 cargo_target=${CARGO_TARGET_DIR:-target/cargo}
 reference=$cargo_target/release/reference
