@@ -11,9 +11,10 @@ import { fileURLToPath } from 'node:url';
 
 const COULD_NOT = 1;
 const USAGE = 2;
+const STANDARD_OUTPUT = 1;
 const STANDARD_ERROR = 2;
 
-const here = fileURLToPath(import.meta.url);
+const here = fs.realpathSync(fileURLToPath(import.meta.url));
 
 function refuse(what) {
     fs.writeSync(STANDARD_ERROR, `run.mjs: ${what}; see run.mjs -h\n`);
@@ -27,7 +28,7 @@ function usage() {
     return head.map((line) => line.replace(/^\/\/ ?/, '') + '\n').join('');
 }
 
-function load(program) {
+export function load(program) {
     const file = program.includes('/') || program.endsWith('.wasm')
         ? program
         : path.join(path.dirname(here), `${program}.wasm`);
@@ -36,6 +37,37 @@ function load(program) {
     } catch (error) {
         return refuse(`'${program}' is no program that can be read (${error.code ?? error.message})`);
     }
+}
+
+// Runs a module to its end, and gives the status. `read` fills some of the bytes that it is lent, `write` takes some of
+// those that it is handed; each gives how many, or -1.
+export function run(module, words, read, write) {
+    const given = words.map((word) => Buffer.from(word));
+    let memory;
+    let status = 0;
+    const bytes = (at, length) => new Uint8Array(memory.buffer, at, Number(length));
+    const env = {
+        read: (from, at, length) => BigInt(read(from, bytes(at, length))),
+        write: (to, at, length) => {
+            const some = bytes(at, length);
+            if (to === STANDARD_ERROR && status === 0) {
+                status = Buffer.from(some).toString('latin1').startsWith('usage:') ? USAGE : COULD_NOT;
+            }
+            return BigInt(write(to, some));
+        },
+        rattle_arg_count: () => BigInt(given.length),
+        rattle_arg: (which, at, room) => {
+            const word = given[Number(which)];
+            if (word === undefined) return -1n;
+            bytes(at, room).set(word.subarray(0, Number(room)));
+            return word.length <= Number(room) ? BigInt(word.length) : -2n;
+        },
+        rattle_set_errno: () => {},
+    };
+    const { exports } = new WebAssembly.Instance(module, { env });
+    memory = exports.memory;
+    const ended = exports.main();
+    return status || ended;
 }
 
 // A pipe or a terminal that does not wait has nothing yet, or no room.
@@ -53,41 +85,23 @@ function patiently(transfer) {
     }
 }
 
-function run(module, words) {
+function main(words) {
+    if (words.length === 0) refuse('which program?');
+    if (words[0] === '-h' || words[0] === '--help') {
+        fs.writeSync(STANDARD_OUTPUT, usage());
+        return 0;
+    }
+    const module = load(words[0]);
     const takesWords = WebAssembly.Module.imports(module).some((one) => one.name === 'rattle_arg');
-    if (words.length > 1 && !takesWords) refuse(`it reads standard input and takes no word '${words[1]}'`);
-    const given = words.map((word) => Buffer.from(word));
-    let memory;
-    let status = 0;
-    const room = (at, length) => new Uint8Array(memory.buffer, at >>> 0, Number(length));
-    const env = {
-        read: (from, at, length) => BigInt(patiently(() => fs.readSync(from, room(at, length)))),
-        write: (to, at, length) => {
-            const bytes = room(at, length);
-            if (to === STANDARD_ERROR && status === 0) {
-                status = Buffer.from(bytes).toString('latin1').startsWith('usage:') ? USAGE : COULD_NOT;
-            }
-            return BigInt(patiently(() => fs.writeSync(to, bytes)));
-        },
-        rattle_arg_count: () => BigInt(given.length),
-        rattle_arg: (which, at, length) => {
-            const word = given[Number(which)];
-            if (word === undefined) return -1n;
-            room(at, length).set(word.subarray(0, Number(length)));
-            return word.length <= Number(length) ? BigInt(word.length) : -2n;
-        },
-        rattle_set_errno: () => {},
-    };
-    const { exports } = new WebAssembly.Instance(module, { env });
-    memory = exports.memory;
-    const ended = exports.main();
-    return status || ended;
+    if (words.length > 1 && !takesWords) refuse(`${words[0]} reads standard input, and takes no '${words[1]}'`);
+    return run(
+        module,
+        words,
+        (from, bytes) => patiently(() => fs.readSync(from, bytes)),
+        (to, bytes) => patiently(() => fs.writeSync(to, bytes)),
+    );
 }
 
-const words = process.argv.slice(2);
-if (words.length === 0) refuse('which program?');
-if (words[0] === '-h' || words[0] === '--help') {
-    fs.writeSync(1, usage());
-} else {
-    process.exitCode = run(load(words[0]), words);
+if (process.argv[1] !== undefined && fs.realpathSync(process.argv[1]) === here) {
+    process.exitCode = main(process.argv.slice(2));
 }
