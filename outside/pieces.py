@@ -7,8 +7,12 @@
                                                          folder, in random pieces, and to a reader that takes few bytes
                                                          at a time; lines, messages and texts of the greatest lengths
                                                          in pieces. The answers have to be the reference's
+    outside/pieces.py SEED REFERENCE some FOLDER         the same without the short inputs, of which there are many
     outside/pieces.py SEED REFERENCE each NAME <INDEX    prints what the program answers to each file of the index, read
                                                          whole; in random pieces it has to be answered the same
+
+Behind these words may stand a command that runs a program by its name, as one of a release does. Without it the
+program is the one of target/bin.
 
 No sleep is trusted: a piece is sent once the system says that nothing of the last one waits to be read, so that no
 `read` of the program returns bytes of two pieces. Status 1 says that answers differ, and names the program, the seed
@@ -263,19 +267,22 @@ def long_pieces(program, drawn):
 
 # ---- the work
 
-def programs(reference, names):
+def programs(reference, names, command):
     for name in names:
-        shown = subprocess.run(["outside/runner", "--show", "target/bin/" + name], stdout=subprocess.PIPE, check=True)
-        yield Program(name, shown.stdout.decode().split(), [reference, name])
+        words = command + [name]
+        if not command:
+            runner = ["outside/runner", "--show", "target/bin/" + name]
+            words = subprocess.run(runner, stdout=subprocess.PIPE, check=True).stdout.decode().split()
+        yield Program(name, words, [reference, name])
 
 
 def asking(program, words):
     return Program(program.name, program.command + words, program.reference + words)
 
 
-def send_all(pool, seed, reference, folder):
+def send_all(pool, seed, reference, folder, command, with_short):
     def inputs():
-        for program in programs(reference, SHORT):
+        for program in programs(reference, SHORT, command):
             drawn = random.Random("%s %s" % (seed, program.name))
             if program.name == "exchange":
                 program = asking(program, ["7"])
@@ -286,13 +293,14 @@ def send_all(pool, seed, reference, folder):
                 with open(os.path.join(folder, file), "rb") as script:
                     yield from random_pieces(program, script.read(), drawn)
             yield from long_pieces(program, drawn)
-            yield from every_boundary(program)
+            if with_short:
+                yield from every_boundary(program)
     done = list(pool.map(lambda words: sent(*words), inputs()))
-    print("pieces: %d inputs in pieces, no difference" % len(done))
+    print("pieces: %d inputs in pieces to %s, no difference" % (len(done), " ".join(command) or "target/bin"))
 
 
-def send_each(pool, seed, reference, name):
-    program = next(programs(reference, [name]))
+def send_each(pool, seed, reference, name, command):
+    program = next(programs(reference, [name], command))
 
     def both(line):
         *words, file = line.split()
@@ -315,13 +323,16 @@ def main(words):
     if words in (["-h"], ["--help"]):
         print(__doc__.strip())
         return 0
-    if len(words) != 4 or words[2] not in ("all", "each"):
-        print("pieces: which seed, which reference, and all or each of what? see pieces.py -h", file=sys.stderr)
+    if len(words) < 4 or words[2] not in ("all", "some", "each"):
+        print("pieces: which seed, which reference, and all, some or each of what? see pieces.py -h", file=sys.stderr)
         return 2
-    seed, reference, what, which = words
+    seed, reference, what, which, *command = words
     pool = concurrent.futures.ThreadPoolExecutor(os.cpu_count())
     try:
-        (send_all if what == "all" else send_each)(pool, seed, reference, which)
+        if what == "each":
+            send_each(pool, seed, reference, which, command)
+        else:
+            send_all(pool, seed, reference, which, command, what == "all")
     except Wrong as wrong:
         print("pieces: seed %s: %s" % (seed, wrong), file=sys.stderr)
         return 1

@@ -1,0 +1,41 @@
+// Runs a WebAssembly program of a release on each file of an index, in one process, as outside/pieces.py runs a program
+// for `each`: a line of the index is the words and then the file. It prints the answers, and the line before those of
+// `listen`.
+//   node outside/modules.mjs FOLDER NAME <INDEX
+// FOLDER is an unpacked release of WebAssembly. Status 1 says that a program ended with another status than 0.
+import fs from 'node:fs';
+import path from 'node:path';
+import process from 'node:process';
+
+const [folder, name] = process.argv.slice(2);
+const { load, run } = await import(path.resolve(folder, 'run.mjs'));
+const module = load(path.join(folder, `${name}.wasm`));
+
+function answers(words, input) {
+    const answered = [];
+    let at = 0;
+    const read = (_, bytes) => {
+        const some = input.subarray(at, at + bytes.length);
+        bytes.set(some);
+        at += some.length;
+        return some.length;
+    };
+    const write = (to, bytes) => {
+        if (to === 1) answered.push(Buffer.from(bytes));
+        return bytes.length;
+    };
+    if (run(module, [name, ...words], read, write) !== 0) throw new Error(`${name} fails on ${words.join(' ')}`);
+    return Buffer.concat(answered);
+}
+
+try {
+    for (const line of fs.readFileSync(0, 'utf8').split('\n').slice(0, -1)) {
+        const words = line.split(' ');
+        const file = words.pop();
+        const text = answers(words, fs.readFileSync(file));
+        process.stdout.write(name === 'listen' ? Buffer.concat([Buffer.from(`${line}\n`), text]) : text);
+    }
+} catch (error) {
+    console.error(`modules: ${error.message}`);
+    process.exitCode = 1;
+}
