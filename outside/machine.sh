@@ -83,19 +83,30 @@ llvm_text() { # BITCODE TEXT
         "$1" -o "$2"
 }
 
-# Compiles the bitcode that outside/bitcode keeps of a crate for another machine. The text names the machine that it is
-# for: its layout, its triple, and the processor of each function; the words name it too. All else is as the toolchain
-# has it.
+# The bitcode that outside/bitcode keeps of a crate is for another machine where its text and the words of the compiler
+# name that one: its layout, its triple, and the processor of each function. All else is as the toolchain has it.
+text_for() { # TRIPLE NAME
+    sed -e '/^target datalayout/d' -e "s/^target triple.*/target triple = \"$1\"/" \
+        -e 's/"target-cpu"="[^"]*"//g; s/"target-features"="[^"]*"//g' "target/bitcode/$2.ll"
+}
+
+words_for() { # TRIPLE NAME
+    echo "--target=$1"
+    grep -v -e '^--target=' -e '^-march=' "target/bitcode/$2.words"
+}
+
+# Marks in the code of a program (outside/marks.sh) bring notes of its frames, which on aarch64 keep some instructions
+# in their order. A release is compiled with such notes, so that its code is the one that is looked at.
+frame_notes=-fforce-dwarf-frame
+
 compile_for() { # TRIPLE NAME OBJECT [WORD...]
     triple=$1
-    text=target/bitcode/$2.ll
+    crate=$2
     object=$3
-    words=$(grep -v -e '^--target=' -e '^-march=' "target/bitcode/$2.words")
     shift 3
-    sed -e '/^target datalayout/d' -e "s/^target triple.*/target triple = \"$triple\"/" \
-        -e 's/"target-cpu"="[^"]*"//g; s/"target-features"="[^"]*"//g' "$text" >"$object.ll" || return
-    # shellcheck disable=SC2086
-    "$(toolchain)/bin/clang" --target="$triple" $words "$@" -c -x ir "$object.ll" -o "$object" && rm "$object.ll"
+    text_for "$triple" "$crate" >"$object.ll" || return
+    # shellcheck disable=SC2046
+    "$(toolchain)/bin/clang" $(words_for "$triple" "$crate") "$@" -c -x ir "$object.ll" -o "$object" && rm "$object.ll"
 }
 
 # ---- what else is needed: a C compiler for x86-64, make, pkg-config, a reader of x86-64 machine code, cargo, python3

@@ -7,26 +7,15 @@
 # function by function.
 
 # The LLVM code of a program, as FOLDER/handed.ll, and the words by which the kit's clang compiles it, as FOLDER/words.
-# `rt try` makes both without a proof; it is stopped there.
 handed_code() { # NAME FOLDER
-    # shellcheck disable=SC2016
-    stand_in_kit "$2/kit" 'case " $* " in *" -O3 "*) ;; *) exec "$clang" "$@" ;; esac
-while [ $# -gt 0 ]; do
-    case $1 in
-    -c) ;;
-    -x | -o) shift ;;
-    *.bc) cp "$1" '"'$2/handed.bc'"' ;;
-    *) echo "$1" ;;
-    esac
-    shift
-done >'"'$2/words'"'
-exit 1'
-    RATTLE_HOME=$2/kit rt try "$1" >"$2/said" 2>&1 </dev/null
-    [ -f "$2/handed.bc" ] || {
-        cat "$2/said" >&2
-        cannot "the toolchain handed no LLVM code of $1 to its clang"
-    }
-    llvm_text "$2/handed.bc" "$2/handed.ll" || cannot "the kit's clang does not print the LLVM code of $1"
+    outside/bitcode "$1" || exit
+    cp "target/bitcode/$1.ll" "$2/handed.ll" && cp "target/bitcode/$1.words" "$2/words" || exit 2
+}
+
+# The same for another machine.
+handed_code_for() { # TRIPLE NAME FOLDER
+    outside/bitcode "$2" || exit
+    text_for "$1" "$2" >"$3/handed.ll" && words_for "$1" "$2" >"$3/words" || exit 2
 }
 
 # LLVM code as lines 'FUNCTION is there', 'FUNCTION does OPERATION' and 'FUNCTION calls FUNCTION'. A call of LLVM's own,
@@ -102,7 +91,8 @@ with_marks() { # LIST TEXT
 }
 
 # Assembly with marks as what one function does and calls. Where some of it stands inside another function, that one 'is
-# there', and an instruction in it that has lost its mark counts as the first one's.
+# there', and an instruction in it that has lost its mark counts as the first one's. Behind `//`, and on x86-64 behind
+# `#`, stands a comment.
 marked_code() { # FUNCTION ASSEMBLY
     awk -v marked="$1" '
         function add(text) { mark[++count] = now; does[count] = text }
@@ -111,16 +101,18 @@ marked_code() { # FUNCTION ASSEMBLY
             for (k = 1; k <= count; k++) if (mark[k] == 1 || stands && mark[k] == 0) print marked " " does[k]
             count = stands = 0
         }
-        /^[^ \t.#].*:/ { name = $1; gsub(/"|:$/, "", name); now = 0 }
+        /^[^ \t.#\/].*:/ { name = $1; gsub(/"|:$/, "", name); now = 0 }
         /^\t\.loc\t/ { now = $3 }
+        /%/ { x86_64 = 1 }
         /^\t[a-z]/ {
+            sub(/\/\/.*/, "")
+            if (x86_64) sub(/#.*/, "")
             text = $0
-            sub(/#.*/, "", text)
             gsub(/[ \t]+/, " ", text)
-            goes = $1 ~ /^(call|j)/
+            goes = $1 ~ /^(call|j|b$|b\.|bl$|cb|tb)/
             add("does " $1 (goes && text ~ /\*/ ? "-indirect" : "") " at " name ":" text)
             if (now == 1) stands = 1
-            if (goes && $2 !~ /^(\.L|\*)/) { to = $2; gsub(/"|@PLT$/, "", to); add("calls " to) }
+            if (goes && $NF !~ /^(\.L|\*)/) { to = $NF; gsub(/"|@PLT$/, "", to); add("calls " to) }
         }
         /^\.Lfunc_end/ { tell() }
         END { print marked " is there" }' "$2"
@@ -140,8 +132,8 @@ compile_marked() { # FUNCTION FOLDER WORD...
     marked_code "$function" "$folder/marked.s" >"$folder/machine"
 }
 
-assemble() { # ASSEMBLY OBJECT
-    "$(toolchain)/bin/clang" --target=x86_64-unknown-linux-gnu -c "$1" -o "$2" ||
+assemble() { # KIND ASSEMBLY OBJECT
+    "$(toolchain)/bin/clang" --target="$1-unknown-linux-gnu" -c "$2" -o "$3" ||
         cannot "the kit's clang does not assemble what it made"
 }
 
@@ -162,4 +154,35 @@ same_code() { # OBJECT OBJECT FOLDER
     cmp -s "$3/first" "$3/second" && return
     diff "$3/first" "$3/second" | sed -n 's/^[<>] <\([^>]*\)>:.*/\1 is another function with marks/p' | sort -u >&2
     return 1
+}
+
+# The proved functions of a linked program, or of an object whose `main` has a name there, a line each: the name and the
+# instructions, without what a linker fills in. That is where a jump or a call goes, and where other data stands: on
+# aarch64 the number that is added to an address, or that stands behind one.
+linked_functions() { # KIND FILE [MAIN]
+    "$(tool_for "$1" objdump)" -d --no-show-raw-insn "$2" | awk -v kind="$1" -v main="${3:-}" '
+        function tell() {
+            if (name ~ /::|^nedrubal_(evening|why|broadcast|listen|exchange)$/) print name text
+            text = ""
+        }
+        /^[0-9a-f]+ <.*>:$/ {
+            tell()
+            name = $2
+            gsub(/[<>]|:$/, "", name)
+            if (name == "main") name = main
+        }
+        /^ *[0-9a-f]+:\t/ {
+            sub(/^ *[0-9a-f]+:\t/, "")
+            sub(/[ \t]*(#|\/\/) .*/, "")
+            sub(/ *<.*>.*/, "")
+            gsub(/[ \t]+/, " ")
+            sub(/ $/, "")
+            if ($0 ~ /^(data16 |cs )*nop|^xchg %ax,%ax|^udf/) next
+            if ($1 ~ /^(call|j|b$|b\.|bl$|cb|tb|adrp?$)/) sub(/[0-9a-f]+$/, "")
+            sub(/-?0x[0-9a-f]+\(%rip\)/, "(%rip)")
+            if (kind == "aarch64" && $1 ~ /^(add|ld|st)/) sub(/, #(0x)?[0-9a-f]+\]?$/, "")
+            if (kind == "aarch64" && $1 ~ /^(ld|st)/) sub(/\]$/, "")
+            text = text ";" $0
+        }
+        END { tell() }' | sort
 }
