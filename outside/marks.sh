@@ -138,11 +138,15 @@ assemble() { # KIND ASSEMBLY OBJECT
 }
 
 # The functions of an object, a line each, with their instructions, where each stands and what it refers to. What fills
-# the room between two of them, and does nothing, says nothing.
+# the room between two of them, and does nothing, says nothing; so does the number of a function in a constant's name.
 functions_of() { # OBJECT
     "$objdump" -dr --no-show-raw-insn "$1" | awk '
         /^[0-9a-f]+ <.*>:$/ { if (text != "") print text; text = $2 }
-        /^ *[0-9a-f]+:\t|: R_/ && !/\t(data16 |cs )*nop|\txchg +%ax,%ax/ { gsub(/[ \t]+/, " "); text = text ";" $0 }
+        /^ *[0-9a-f]+:\t|: R_/ && !/\t(data16 |cs )*nop|\txchg +%ax,%ax/ {
+            gsub(/[ \t]+/, " ")
+            gsub(/\.LCPI[0-9]+_/, ".LCPI_")
+            text = text ";" $0
+        }
         END { print text }' | sort
 }
 
