@@ -39,10 +39,14 @@ const RATES = [
     'id', 'day', 'p', 's', 'tentative', 'age', 's1', 's2', 's3',
     'upper1', 'upper2', 'upper3', 'lower1', 'lower2', 'lower3',
 ];
-const BANDS = ['id', 'day', ...TERMS.flatMap((term) => ['k', 'rrcl', 'rrch', 'lower', 'upper'].map((n) => `${n}_${term}`))];
+const BANDS = [
+    'id', 'day',
+    ...TERMS.flatMap((term) => ['k', 'rrcl', 'rrch', 'lower', 'upper'].map((name) => `${name}_${term}`)),
+];
 const MOVE = ['id', 'side', 'count', 'range1', 'range2', 'range3', 'band0', 'band1', 'band2'];
 
-const RECORD_CALLS = new Set(['evaluate', 'move', 'open', 'outside', 'notice', 'withdraw', 'read']);
+/** The calls that are answered with a record. */
+export const RECORD_CALLS = new Set(['evaluate', 'move', 'open', 'outside', 'notice', 'withdraw', 'read']);
 
 /** Names for numbers, in their order. */
 function named(names, numbers) {
@@ -55,7 +59,9 @@ function named(names, numbers) {
 /** Numbers that come in groups, each group with the same names. */
 function groups(names, numbers) {
     const made = [];
-    for (let at = 0; at < numbers.length; at += names.length) made.push(named(names, numbers.slice(at, at + names.length)));
+    for (let at = 0; at < numbers.length; at += names.length) {
+        made.push(named(names, numbers.slice(at, at + names.length)));
+    }
     return made;
 }
 

@@ -1,0 +1,271 @@
+// The sheet: the securities of an evening's text with its answers, or of a broadcast's messages, each with its days and
+// what happened to it. It gathers and compares what the programs printed, and works out no figure of theirs.
+import { RECORD_CALLS, admissionOf, answerOf, dayOf, heardOf, reasonsOf } from './answers.mjs';
+import { plain } from './figures.mjs';
+import { inWords, placeOf } from './refusals.mjs';
+import { exactMove, hiddenByRounding } from './why.mjs';
+
+const LONGEST_LINE = 65535; // a longer line is answered, even a blank one
+
+/**
+ * @typedef {object} Security
+ * @property {number} id
+ * @property {object|null} statics by the names of an admission; null where no message brought them
+ * @property {object|null} record the latest record; null before the first evaluation in a broadcast
+ * @property {object[]} days one for each accepted evaluation, oldest first; `dayAt` opens one
+ * @property {Set<string>} happened to it on its last day: the keys of HAPPENED
+ * @property {number[]} hidden which of its days had a move that rounding first would have hidden
+ */
+
+/** What may have happened to a security, in the order in which it is shown. */
+export const HAPPENED = {
+    rose: 'rose',
+    fell: 'fell',
+    waits: 'waits',
+    replaced: 'replaced',
+    maximum: 'at the maximum',
+    moved: 'moved',
+    hidden: 'rounding would hide a move',
+};
+
+/** The lines of an evening's text that have an answer, with their numbers. */
+export function answeredLines(text) {
+    const lines = text.split('\n');
+    if (lines.at(-1) === '') lines.pop();
+    return lines
+        .map((line, at) => ({ number: at + 1, text: line }))
+        .filter((line) => line.text.length > LONGEST_LINE || /[^ \t\r]/.test(line.text));
+}
+
+const firstWord = (line) => /[^ \t\r]+/.exec(line)?.[0] ?? '';
+
+/**
+ * The sheet of an evening's text.
+ * @param {string} text a character a byte
+ * @param {string[]} answers the lines of `evening`
+ * @param {string[]} whys the lines of `why`
+ */
+export function sheetOfEvening(text, answers, whys) {
+    const lines = answeredLines(text);
+    if (lines.length !== answers.length || lines.length !== whys.length) {
+        throw new Error(`${lines.length} lines have ${answers.length} answers and ${whys.length} reasons`);
+    }
+    const securities = new Map();
+    const refusals = [];
+    lines.forEach((line, at) => {
+        const call = firstWord(line.text);
+        if (!answers[at].startsWith('0')) {
+            refusals.push(refusalOf(line, call, answers[at], whys[at]));
+        } else if (call === 'admit') {
+            const admission = admissionOf(line.text);
+            securities.set(admission.id, { id: admission.id, statics: admission, days: [], latest: null });
+        } else if (RECORD_CALLS.has(call)) {
+            const security = securities.get(Number(answers[at].split(' ', 2)[1]));
+            security.latest = { call, answer: answers[at] };
+            if (call === 'evaluate') security.days.push({ line, answer: answers[at], why: whys[at] });
+        }
+    });
+    return sheetOf('evening', securities, { refusals, lines: lines.length });
+}
+
+function refusalOf(line, call, answer, why) {
+    const { kind, number } = answerOf(call, answer);
+    const at = { line: line.number, text: line.text };
+    if (kind === 'bad') return { ...at, number: null, words: 'the line is no call', place: '' };
+    const place = call === 'evaluate' ? placeOf(reasonsOf(why)) : '';
+    return { ...at, number, words: inWords(number), place };
+}
+
+/**
+ * The sheet of a broadcast.
+ * @param {string[]} heard the lines of `listen`
+ */
+export function sheetOfMessages(heard) {
+    const securities = new Map();
+    const found = (id) => {
+        if (!securities.has(id)) securities.set(id, { id, statics: null, days: [], latest: null });
+        return securities.get(id);
+    };
+    const unknown = [];
+    let damage = null;
+    heard.forEach((line, at) => {
+        const message = heardOf(line);
+        if (message.kind === 'refused') {
+            damage = { ...message, words: inWords(message.number), message: at + 1 };
+        } else if (message.kind === 'unknown') {
+            unknown.push({ ...message, message: at + 1 });
+        } else {
+            hear(found(message.id), message);
+        }
+    });
+    return sheetOf('broadcast', securities, { refusals: [], unknown, damage, lines: heard.length });
+}
+
+/** What a message changes. A day begins with its rates; the bands behind them are of the same day. */
+function hear(security, message) {
+    const { kind, id, ...fields } = message;
+    const last = security.days.at(-1);
+    if (kind === 'statics') {
+        security.statics = fields;
+    } else if (kind === 'rates') {
+        const { p, ...figures } = fields;
+        const before = last?.record.p1 ?? null;
+        const day = { record: { id, live: 1, p1: p, p2: before, movesUpper: 0, movesLower: 0, ...figures } };
+        security.days.push(day);
+        security.latest = { record: { ...day.record } };
+    } else if (last === undefined) {
+        // Bands or a move with no rates before them: there is no day that they could be of.
+        return;
+    } else if (kind === 'bands') {
+        if (fields.day !== last.record.day) return;
+        Object.assign(last.record, fields);
+        Object.assign(security.latest.record, fields);
+    } else {
+        const side = message.side === 0 ? 'upper' : 'lower';
+        const record = security.latest.record;
+        record[message.side === 0 ? 'movesUpper' : 'movesLower'] = message.count;
+        for (const level of [1, 2, 3]) record[`${side}${level}`] = message[`range${level}`];
+        for (const term of [0, 1, 2]) record[`${side}_${term}`] = message[`band${term}`];
+    }
+}
+
+/** The record at admission, as far as an evaluation looks at it: the rates start at their minima, the age at 0. */
+function admitted({ p1, p2, s, tentative, min1, min2, min3 }) {
+    return { p1, p2, s, tentative, age: 0, s1: min1, s2: min2, s3: min3 };
+}
+
+/**
+ * One day of a security, opened: its record, the one before it, the reasons and the exact move.
+ * @param {Security} security
+ * @param {number} at which of its days
+ */
+export function dayAt(security, at) {
+    const { days, statics } = security;
+    const recordAt = (which) => days[which].record ?? answerOf('evaluate', days[which].answer);
+    const record = recordAt(at);
+    const isEvening = days[at].line !== undefined;
+    const before = at > 0 ? recordAt(at - 1) : isEvening ? admitted(statics) : null;
+    const reasons = isEvening ? reasonsOf(days[at].why) : null;
+    const { b, m } = isEvening ? dayOf(days[at].line.text) : { b: null, m: null };
+    const move = before === null ? null : exactMove(record.p1, [before.p1, before.p2]);
+    return { record, before, reasons, statics, b, m, move, line: days[at].line?.number ?? null };
+}
+
+/** The days with a move that rounding would have hidden. Only a day with the upward weight is opened, to be quick. */
+function hiddenDays(security) {
+    const { days } = security;
+    return days.map((_, at) => at).filter((at) => {
+        const why = days[at].why;
+        if (why !== undefined && !why.includes(' weight up ') && !why.includes(' replacement yes ')) return false;
+        const hidden = hiddenByRounding(dayAt(security, at));
+        return hidden.volatility || hidden.rate;
+    });
+}
+
+function happenedTo({ record, days, statics }, day, hidden) {
+    const happened = new Set();
+    const when = (key, holds) => holds && happened.add(key);
+    if (day !== null) {
+        const { reasons, before } = day;
+        // Messages carry no reasons, but a rate that rose or fell is seen by itself.
+        when('rose', reasons ? reasons.tentative === 'rose' : before !== null && day.record.tentative > before.tentative);
+        when('fell', reasons ? reasons.tentative === 'fell' : before !== null && day.record.tentative < before.tentative);
+        when('waits', reasons?.tentative === 'waited');
+        when('replaced', reasons?.replacement === 'yes');
+        const levels = [1, 2, 3];
+        when('maximum', reasons
+            ? levels.some((level) => reasons[`level${level}`] === 'maximum')
+            : statics !== null && levels.some((level) => day.record[`s${level}`] === statics.smax));
+        when('hidden', hidden.includes(days.length - 1));
+    }
+    when('moved', record !== null && record.movesUpper + record.movesLower > 0);
+    return happened;
+}
+
+function sheetOf(source, found, more) {
+    const securities = [...found.values()].map((raw) => {
+        const record = raw.latest === null ? null : raw.latest.record ?? answerOf(raw.latest.call, raw.latest.answer);
+        const security = { id: raw.id, statics: raw.statics, record, days: raw.days };
+        const day = raw.days.length > 0 ? dayAt(security, raw.days.length - 1) : null;
+        const hidden = hiddenDays(security);
+        return { ...security, hidden, happened: happenedTo(security, day, hidden) };
+    });
+    return { source, securities, unknown: [], damage: null, ...more };
+}
+
+/**
+ * The columns of the table. `of` gives a column's figure of a security, or null; `as` says how it is shown.
+ * @type {{key: string, title: string, as: string, group: string, of: (security: Security) => number|null}[]}
+ */
+export const COLUMNS = columns();
+
+function columns() {
+    const isLive = (security) => security.record !== null && security.record.live === 1;
+    const figure = (name) => (security) => (isLive(security) ? security.record[name] ?? null : null);
+    const column = (key, title, as, group = '') => ({ key, title, as, group, of: figure(key) });
+    const change = ({ record }) => (record.p2 ? record.p1 / record.p2 - 1 : null);
+    return [
+        { key: 'id', title: 'Security', as: 'id', group: '', of: (security) => security.id },
+        column('day', 'Day', 'whole'),
+        column('p1', 'Evaluation', 'price'),
+        { key: 'change', title: 'Change', as: 'change', group: '', of: (one) => (isLive(one) ? change(one) : null) },
+        column('s', 'Volatility', 'volatility'),
+        column('s1', 'Rate 1', 'rate'),
+        column('s2', 'Rate 2', 'rate'),
+        column('s3', 'Rate 3', 'rate'),
+        column('tentative', 'Tentative', 'rate'),
+        ...[3, 2, 1].map((level) => column(`lower${level}`, `Lower ${level}`, 'price', 'ranges')),
+        ...[1, 2, 3].map((level) => column(`upper${level}`, `Upper ${level}`, 'price', 'ranges')),
+        ...[0, 1, 2].flatMap((term) => [
+            column(`k_${term}`, `Term ${term}, days`, 'whole', 'bands'),
+            column(`lower_${term}`, `Band ${term} lower`, 'price', 'bands'),
+            column(`upper_${term}`, `Band ${term} upper`, 'price', 'bands'),
+        ]),
+        column('movesUpper', 'Moves up', 'whole'),
+        column('movesLower', 'Moves down', 'whole'),
+        column('session', 'Session', 'session'),
+    ];
+}
+
+/** The securities that a filter leaves, in the order of a column; those without a figure come last. */
+export function chosen(securities, { id = '', happened = '', key = 'id', descending = false }) {
+    const { of } = COLUMNS.find((column) => column.key === key);
+    const sign = descending ? -1 : 1;
+    return securities
+        .filter((one) => String(one.id).includes(id.trim()))
+        .filter((one) => happened === '' || one.happened.has(happened) || (happened === 'hidden' && one.hidden.length > 0))
+        .map((security) => ({ security, figure: of(security) }))
+        .sort((one, other) => {
+            if (one.figure === null || other.figure === null) {
+                return (one.figure === null) - (other.figure === null) || one.security.id - other.security.id;
+            }
+            return sign * (one.figure - other.figure) || one.security.id - other.security.id;
+        })
+        .map(({ security }) => security);
+}
+
+const live = (securities) => securities.filter(({ record }) => record !== null && record.live === 1);
+const csv = (head, rows) => [head, ...rows].map((row) => `${row.join(',')}\r\n`).join('');
+const roubles = (units) => (units === undefined ? '' : plain(units, 4));
+
+/** The downloads, by the names that members' systems know from the exchange's interface; units stand in the head. */
+export const DOWNLOADS = {
+    ASSETS: (securities) => csv(
+        ['security', 'evaluation (roubles)', 'volatility (millionths)', 'tentative rate (per cent)'],
+        live(securities).map(({ id, record }) => [id, roubles(record.p1), record.s, plain(record.tentative, 2)]),
+    ),
+    RM_PRICERANGE: (securities) => csv(
+        ['security', 'level', 'lower (roubles)', 'upper (roubles)'],
+        live(securities).flatMap(({ id, record }) =>
+            [1, 2, 3].map((level) => [id, level, roubles(record[`lower${level}`]), roubles(record[`upper${level}`])])),
+    ),
+    RM_INDICATIVE: (securities) => csv(
+        ['security', 'level', 'rate (per cent)'],
+        live(securities).flatMap(({ id, record }) => [1, 2, 3].map((level) => [id, level, plain(record[`s${level}`], 2)])),
+    ),
+    PRICEMOVELIMIT: (securities) => csv(
+        ['security', 'term', 'lower (roubles)', 'upper (roubles)', 'days of the term'],
+        live(securities).flatMap(({ id, record }) => [0, 1, 2].map((term) =>
+            [id, term, roubles(record[`lower_${term}`]), roubles(record[`upper_${term}`]), record[`k_${term}`] ?? ''])),
+    ),
+};
