@@ -199,6 +199,11 @@ function sheetOf(source, found, more) {
  */
 export const COLUMNS = columns();
 
+/** A number that sorts by what happened, the first of HAPPENED foremost. */
+function happenedOrder({ happened }) {
+    return Object.keys(HAPPENED).reduce((bits, key) => 2 * bits + (happened.has(key) ? 1 : 0), 0);
+}
+
 function columns() {
     const isLive = (security) => security.record !== null && security.record.live === 1;
     const figure = (name) => (security) => (isLive(security) ? security.record[name] ?? null : null);
@@ -214,15 +219,16 @@ function columns() {
         column('s2', 'Rate 2', 'rate'),
         column('s3', 'Rate 3', 'rate'),
         column('tentative', 'Tentative', 'rate'),
+        { key: 'happened', title: 'What happened', as: 'happened', group: '', of: happenedOrder },
         ...[3, 2, 1].map((level) => column(`lower${level}`, `Lower ${level}`, 'price', 'ranges')),
         ...[1, 2, 3].map((level) => column(`upper${level}`, `Upper ${level}`, 'price', 'ranges')),
         ...[0, 1, 2].flatMap((term) => [
-            column(`k_${term}`, `Term ${term}, days`, 'whole', 'bands'),
+            column(`k_${term}`, `Days ${term}`, 'whole', 'bands'),
             column(`lower_${term}`, `Band ${term} lower`, 'price', 'bands'),
             column(`upper_${term}`, `Band ${term} upper`, 'price', 'bands'),
         ]),
-        column('movesUpper', 'Moves up', 'whole'),
-        column('movesLower', 'Moves down', 'whole'),
+        column('movesUpper', 'Moves ▲', 'whole'),
+        column('movesLower', 'Moves ▼', 'whole'),
         column('session', 'Session', 'session'),
     ];
 }

@@ -15,6 +15,8 @@ const PLACE = {
     k_0: 18, lower_0: 21, upper_0: 22, k_1: 25, lower_1: 28, upper_1: 29, k_2: 32, lower_2: 35, upper_2: 36,
     movesUpper: 39, movesLower: 40, session: 42,
 };
+// What the page itself makes of figures: no answer has them.
+const MADE = new Set(['change', 'happened']);
 const IN_A_MESSAGE = Object.keys(PLACE).filter((key) => key !== 'session');
 const bytes = (text) => new TextEncoder().encode(text);
 
@@ -66,7 +68,7 @@ for (const [name, input] of [['the example evening', example('evening.txt')], ['
         let looked = 0;
         for (const security of sheet.securities) {
             const words = last.get(security.id);
-            for (const column of COLUMNS.filter((one) => one.key !== 'change')) {
+            for (const column of COLUMNS.filter((one) => !MADE.has(one.key))) {
                 const figure = column.of(security);
                 if (words === undefined || words[2] === '0') {
                     assert.equal(figure, column.key === 'id' ? security.id : null);
@@ -77,7 +79,8 @@ for (const [name, input] of [['the example evening', example('evening.txt')], ['
             }
         }
         assert.ok(looked > 100);
-        assert.deepEqual(COLUMNS.map((one) => one.key).filter((key) => key !== 'change').sort(), Object.keys(PLACE).sort());
+        const answered = COLUMNS.map((one) => one.key).filter((key) => !MADE.has(key));
+        assert.deepEqual(answered.sort(), Object.keys(PLACE).sort());
     });
 
     test(`${name}: what is shown reads back to the figure`, () => {

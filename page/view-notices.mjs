@@ -1,0 +1,49 @@
+// What was refused, in words with its place: a damaged broadcast, messages of an unknown kind, lines of an evening.
+import { el, table } from './element.mjs';
+
+const MOST_SHOWN = 500;
+
+function damageOf(damage, figures) {
+    const before = damage.message - 1;
+    const stays = before === 0 ? 'Nothing could be read before it.'
+        : `What was read before it, ${figures.whole(before)} ${before === 1 ? 'message' : 'messages'}, is shown; nothing behind it is.`;
+    return el('div', { class: 'card alert', role: 'alert' },
+        el('h2', {}, 'The broadcast is damaged'),
+        el('p', {}, `Message ${figures.whole(damage.message)}, which begins at byte ${figures.whole(damage.offset)} of the file ` +
+            `(the first is byte 0), is refused: ${damage.words} (${damage.number}). ${stays}`));
+}
+
+function unknownOf(unknown, figures) {
+    const kinds = [...new Set(unknown.map((one) => one.which))].join(', ');
+    return el('div', { class: 'card' },
+        el('p', {}, `${figures.whole(unknown.length)} messages of a kind that the program does not know (${kinds}) were skipped.`));
+}
+
+function refusedOf(refusals, figures) {
+    const rows = refusals.slice(0, MOST_SHOWN).map((one) => [
+        figures.whole(one.line),
+        one.number === null ? 'bad' : String(one.number),
+        { words: one.place === '' ? one.words : `${one.words}: ${one.place}` },
+        { words: one.text.length > 60 ? `${one.text.slice(0, 60)}…` : one.text },
+    ]);
+    const more = refusals.length - rows.length;
+    return el('details', { class: 'card' },
+        el('summary', {}, `${figures.whole(refusals.length)} refused ${refusals.length === 1 ? 'line' : 'lines'}`),
+        el('div', { class: 'scroll' }, table('Refused lines', ['line', 'answer', { words: 'why' }, { words: 'the line' }], rows)),
+        more > 0 && el('p', { class: 'dim' }, `and ${figures.whole(more)} more`));
+}
+
+/** Shows what a sheet has of refusals; a sheet without any has an empty room. */
+export function showNotices(room, sheet, figures) {
+    room.replaceChildren(...[
+        sheet.damage && damageOf(sheet.damage, figures),
+        sheet.unknown.length > 0 && unknownOf(sheet.unknown, figures),
+        sheet.refusals.length > 0 && refusedOf(sheet.refusals, figures),
+    ].filter(Boolean));
+}
+
+/** A file that could not be opened at all. */
+export function showFailure(room, words) {
+    room.replaceChildren(el('div', { class: 'card alert', role: 'alert' },
+        el('h2', {}, 'The file could not be opened'), el('p', {}, words)));
+}
