@@ -1,7 +1,7 @@
 // Puts the page into one file: the style, the modules from page/view-main.mjs on, the programs and the examples.
 //   node outside/page.mjs FOLDER VERSION PAGE
-// FOLDER is an unpacked release of WebAssembly. A page that is opened from a folder cannot load modules, so each becomes
-// a function that hands out what it exports, in an order in which every module stands behind those that it imports.
+// FOLDER is an unpacked release of WebAssembly. A page that is opened from a folder cannot load modules, so each
+// becomes a function that hands out what it exports, behind the functions of those that it imports.
 // Status 1 says that a source is none that can be put so.
 import { createHash } from 'node:crypto';
 import fs from 'node:fs';
@@ -63,10 +63,11 @@ function make(folder, version) {
     const script = inside('script', [...done.values()].join(''));
     const style = inside('style', read('style.css'));
     const base64 = (file) => fs.readFileSync(file).toString('base64');
+    const example = (name) => fs.readFileSync(path.join('examples', name), 'latin1');
     const carried = {
         version,
         programs: Object.fromEntries(PROGRAMS.map((name) => [name, base64(path.join(folder, `${name}.wasm`))])),
-        examples: Object.fromEntries(EXAMPLES.map((name) => [name, fs.readFileSync(path.join('examples', name), 'latin1')])),
+        examples: Object.fromEntries(EXAMPLES.map((name) => [name, example(name)])),
     };
     // The browser itself is told that the page has no network, and no script but this one.
     const rules = `default-src 'none'; script-src ${hashOf(script)} 'wasm-unsafe-eval'; style-src ${hashOf(style)}; ` +

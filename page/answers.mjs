@@ -1,6 +1,6 @@
 // What the programs print, as named figures: a line of `evening`, of `why` and of `listen`. The orders are those of
-// docs/EVENING.md ("The answers", "Why") and docs/BROADCAST.md; each stands here once. No figure is changed: prices stay
-// ten-thousandths of a rouble, rates basis points, volatilities millionths. All of them are whole numbers below 2^53.
+// docs/EVENING.md ("The answers", "Why") and docs/BROADCAST.md; each stands here once. No figure is changed: prices
+// stay ten-thousandths of a rouble, rates basis points, volatilities millionths. All are whole numbers below 2^53.
 
 /** The words of a line, as the programs part them: a blank is a space, a tab or a carriage return, and nothing else. */
 export function wordsOf(line) {

@@ -15,9 +15,9 @@ export function plain(value, places) {
     return `${below ? '-' : ''}${whole}${behind === '' ? '' : `.${behind}`}`;
 }
 
-/** How many places behind the point a price needs, two at least. */
-export function placesOf(units) {
-    return Math.max(2, digitsOf(units, 4, 0).behind.length);
+/** How many places behind the point all of some prices need, two at least. */
+export function placesOf(prices) {
+    return Math.max(2, ...prices.map((units) => digitsOf(units, 4, 0).behind.length));
 }
 
 /** A quotient of whole numbers, rounded half up in its size. */
@@ -59,14 +59,14 @@ export function makeFigures(language) {
             const hundredths = nearest((BigInt(price) - BigInt(before)) * 10000n, BigInt(before));
             return `${hundredths > 0n ? '+' : ''}${scaled(hundredths, 2, 2)} %`;
         },
-        /** A fraction as a whole number and the rest in lowest terms: 20,000 1/3. */
+        /** A fraction as a whole number and the rest in lowest terms: 20,000 + 1/3. */
         fraction: (move) => {
             const whole = move.over / move.under;
             const rest = move.over % move.under;
             if (rest === 0n) return grouping.format(whole);
             const by = greatestCommon(rest, move.under);
             const part = `${grouping.format(rest / by)}/${grouping.format(move.under / by)}`;
-            return whole === 0n ? part : `${grouping.format(whole)} ${part}`;
+            return whole === 0n ? part : `${grouping.format(whole)} + ${part}`;
         },
         /** Its first three places, with dots where there are more. */
         places: (move) => {

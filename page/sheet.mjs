@@ -25,7 +25,7 @@ export const HAPPENED = {
     replaced: 'replaced',
     maximum: 'at the maximum',
     moved: 'moved',
-    hidden: 'rounding would hide a move',
+    hidden: 'rounding would have hidden it',
 };
 
 /** The lines of an evening's text that have an answer, with their numbers. */
@@ -98,7 +98,8 @@ export function sheetOfMessages(heard) {
             hear(found(message.id), message);
         }
     });
-    return sheetOf('broadcast', securities, { refusals: [], unknown, damage, lines: heard.length });
+    const lines = damage === null ? heard.length : heard.length - 1;
+    return sheetOf('broadcast', securities, { refusals: [], unknown, damage, lines });
 }
 
 /** What a message changes. A day begins with its rates; the bands behind them are of the same day. */
@@ -168,8 +169,9 @@ function happenedTo({ record, days, statics }, day, hidden) {
     if (day !== null) {
         const { reasons, before } = day;
         // Messages carry no reasons, but a rate that rose or fell is seen by itself.
-        when('rose', reasons ? reasons.tentative === 'rose' : before !== null && day.record.tentative > before.tentative);
-        when('fell', reasons ? reasons.tentative === 'fell' : before !== null && day.record.tentative < before.tentative);
+        const by = before === null ? 0 : day.record.tentative - before.tentative;
+        when('rose', reasons ? reasons.tentative === 'rose' : by > 0);
+        when('fell', reasons ? reasons.tentative === 'fell' : by < 0);
         when('waits', reasons?.tentative === 'waited');
         when('replaced', reasons?.replacement === 'yes');
         const levels = [1, 2, 3];
@@ -211,15 +213,14 @@ function columns() {
     const change = ({ record }) => (record.p2 ? record.p1 / record.p2 - 1 : null);
     return [
         { key: 'id', title: 'Security', as: 'id', group: '', of: (security) => security.id },
-        column('day', 'Day', 'whole'),
         column('p1', 'Evaluation', 'price'),
         { key: 'change', title: 'Change', as: 'change', group: '', of: (one) => (isLive(one) ? change(one) : null) },
+        { key: 'happened', title: 'What happened', as: 'happened', group: '', of: happenedOrder },
         column('s', 'Volatility', 'volatility'),
         column('s1', 'Rate 1', 'rate'),
         column('s2', 'Rate 2', 'rate'),
         column('s3', 'Rate 3', 'rate'),
         column('tentative', 'Tentative', 'rate'),
-        { key: 'happened', title: 'What happened', as: 'happened', group: '', of: happenedOrder },
         ...[3, 2, 1].map((level) => column(`lower${level}`, `Lower ${level}`, 'price', 'ranges')),
         ...[1, 2, 3].map((level) => column(`upper${level}`, `Upper ${level}`, 'price', 'ranges')),
         ...[0, 1, 2].flatMap((term) => [
@@ -230,6 +231,7 @@ function columns() {
         column('movesUpper', 'Moves ▲', 'whole'),
         column('movesLower', 'Moves ▼', 'whole'),
         column('session', 'Session', 'session'),
+        column('day', 'Day', 'whole'),
     ];
 }
 
@@ -237,9 +239,10 @@ function columns() {
 export function chosen(securities, { id = '', happened = '', key = 'id', descending = false }) {
     const { of } = COLUMNS.find((column) => column.key === key);
     const sign = descending ? -1 : 1;
+    // A mark is looked for on all days, what else happened on the last one.
+    const has = (one) => (happened === 'hidden' ? one.hidden.length > 0 : one.happened.has(happened));
     return securities
-        .filter((one) => String(one.id).includes(id.trim()))
-        .filter((one) => happened === '' || one.happened.has(happened) || (happened === 'hidden' && one.hidden.length > 0))
+        .filter((one) => String(one.id).includes(id.trim()) && (happened === '' || has(one)))
         .map((security) => ({ security, figure: of(security) }))
         .sort((one, other) => {
             if (one.figure === null || other.figure === null) {
@@ -267,7 +270,8 @@ export const DOWNLOADS = {
     ),
     RM_INDICATIVE: (securities) => csv(
         ['security', 'level', 'rate (per cent)'],
-        live(securities).flatMap(({ id, record }) => [1, 2, 3].map((level) => [id, level, plain(record[`s${level}`], 2)])),
+        live(securities).flatMap(({ id, record }) =>
+            [1, 2, 3].map((level) => [id, level, plain(record[`s${level}`], 2)])),
     ),
     PRICEMOVELIMIT: (securities) => csv(
         ['security', 'term', 'lower (roubles)', 'upper (roubles)', 'days of the term'],

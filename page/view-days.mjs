@@ -32,7 +32,8 @@ export function daysChart(records, figures, { width, hidden, at }) {
     const days = records.map((record) => record.day);
     const first = days[0];
     const last = days.at(-1);
-    const x = (day) => (last === first ? (LEFT + width - RIGHT) / 2 : LEFT + ((width - LEFT - RIGHT) * (day - first)) / (last - first));
+    const middle = (LEFT + width - RIGHT) / 2;
+    const x = (day) => (last === first ? middle : LEFT + ((width - LEFT - RIGHT) * (day - first)) / (last - first));
     const banded = records.filter((record) => record.lower_0 !== undefined);
     const drawn = [];
     const label = (y, words) => drawn.push(svg('text', { x: LEFT - 8, y, 'text-anchor': 'end', class: 'dim' }, words));
@@ -54,12 +55,13 @@ export function daysChart(records, figures, { width, hidden, at }) {
         return scale.y;
     };
 
-    const price = panel(0, [...days.map((_, k) => records[k].p1), ...banded.flatMap((one) => [one.lower_0, one.upper_0])],
-        false, (units) => figures.roubles(units), 'evaluation with its band, roubles');
-    const outline = [...banded.map((one) => [one, 'upper_0']), ...banded.slice().reverse().map((one) => [one, 'lower_0'])];
+    const prices = [...records.map((one) => one.p1), ...banded.flatMap((one) => [one.lower_0, one.upper_0])];
+    const price = panel(0, prices, false, (units) => figures.roubles(units), 'evaluation with its band, roubles');
+    const along = (some, y, name) => some.map((one) => `${x(one.day)},${y(one[name])}`);
+    const outline = [...along(banded, price, 'upper_0'), ...along(banded, price, 'lower_0').reverse()];
     drawn.push(
-        svg('polygon', { points: outline.map(([one, name]) => `${x(one.day)},${price(one[name])}`).join(' '), class: 'bandarea' }),
-        svg('polyline', { points: records.map((one) => `${x(one.day)},${price(one.p1)}`).join(' '), class: 'line price' }),
+        svg('polygon', { points: outline.join(' '), class: 'bandarea' }),
+        svg('polyline', { points: along(records, price, 'p1').join(' '), class: 'line price' }),
     );
     dots('p1', price, 'markdot');
     for (const which of hidden) {
@@ -72,19 +74,20 @@ export function daysChart(records, figures, { width, hidden, at }) {
         drawn.push(svg('polyline', { points: stepsOf(records, x, rate, `s${level}`), class: `line step${level}` }));
         dots(`s${level}`, rate, `level${level}`);
     }
-    const swing = panel(2, records.map((one) => one.s), true, (millionths) => figures.volatility(millionths), 'volatility');
-    drawn.push(svg('polyline', { points: records.map((one) => `${x(one.day)},${swing(one.s)}`).join(' '), class: 'line volatility' }));
+    const swing = panel(2, records.map((one) => one.s), true, (s) => figures.volatility(s), 'volatility');
+    drawn.push(svg('polyline', { points: along(records, swing, 's').join(' '), class: 'line volatility' }));
     dots('s', swing, 'markdot');
 
     const height = top - GAP + FOOT;
     drawn.push(svg('line', { x1: x(days[at]), x2: x(days[at]), y1: GAP, y2: top - GAP - 4, class: 'chosen' }));
-    const dayText = (day, anchor) =>
-        drawn.push(svg('text', { x: x(day), y: top - 6, 'text-anchor': anchor, class: 'dim' }, `day ${figures.whole(day)}`));
+    const dayText = (day, anchor) => drawn.push(
+        svg('text', { x: x(day), y: top - 6, 'text-anchor': anchor, class: 'dim' }, `day ${figures.whole(day)}`));
     if (first === last) dayText(first, 'middle');
     else {
         dayText(first, 'start');
         dayText(last, 'end');
     }
-    const words = `Days ${first} to ${last}: evaluation with its band, the three rates and the volatility; the table of days has the figures`;
+    const words = `Days ${first} to ${last}: evaluation with its band, the three rates and the volatility; ` +
+        'the table of days has the figures';
     return svg('svg', { viewBox: `0 0 ${width} ${height}`, width, height, role: 'img', 'aria-label': words }, ...drawn);
 }

@@ -30,16 +30,19 @@ export function ladder(record, figures, width) {
     drawn.push(text(SIDE - 6, RANGES_Y + 16, 'ranges', { 'text-anchor': 'end', class: 'dim' }));
     terms.forEach((term, row) => {
         const y = RANGES_Y + RANGES_HEIGHT + 20 + row * TERM_HEIGHT;
+        const [x1, x2] = [at(record[`lower_${term}`]), at(record[`upper_${term}`])];
         drawn.push(
             text(SIDE - 6, y + 4, `${figures.whole(record[`k_${term}`])} d`, { 'text-anchor': 'end', class: 'dim' }),
-            svg('line', { x1: at(record[`lower_${term}`]), x2: at(record[`upper_${term}`]), y1: y, y2: y, class: 'bandline' }),
+            svg('line', { x1, x2, y1: y, y2: y, class: 'bandline' }),
         );
     });
+    const middle = at(record.p1);
+    const price = figures.roubles(record.p1);
     drawn.push(
-        svg('line', { x1: at(record.p1), x2: at(record.p1), y1: RANGES_Y - 8, y2: height - 4, class: 'line price' }),
-        text(Math.min(Math.max(at(record.p1), 40), width - 40), RANGES_Y - 14, figures.roubles(record.p1), { 'font-weight': 600 }),
+        svg('line', { x1: middle, x2: middle, y1: RANGES_Y - 8, y2: height - 4, class: 'line price' }),
+        text(Math.min(Math.max(middle, SIDE), width - SIDE), RANGES_Y - 14, price, { 'font-weight': 600 }),
     );
-    const words = `Ranges from ${figures.roubles(record.lower3)} to ${figures.roubles(record.upper3)} roubles and the bands, ` +
-        `around an evaluation of ${figures.roubles(record.p1)}, to scale; the tables below have the figures`;
+    const words = `Ranges from ${figures.roubles(record.lower3)} to ${figures.roubles(record.upper3)} roubles and ` +
+        `the bands, around an evaluation of ${price}, to scale; the tables below have the figures`;
     return svg('svg', { viewBox: `0 0 ${width} ${height}`, width, height, role: 'img', 'aria-label': words }, ...drawn);
 }

@@ -31,16 +31,19 @@ async function sheetOf(bytes, kind) {
     return sheetOfEvening(textOf(bytes), answers, linesOf(await programs.run('why', bytes)));
 }
 
-const securities = makeTable({ at: room('table'), form: room('filters'), count: room('count') }, figures, (security, byHand) => {
+function choose(security, byHand) {
     showSecurity(room('one'), security, figures);
     if (byHand && matchMedia(NARROW).matches) room('one').scrollIntoView();
-});
+}
+
+const securities = makeTable({ at: room('table'), form: room('filters'), count: room('count') }, figures, choose);
 
 let shown = null;
 
 function summaryOf(name, sheet, milliseconds) {
     const counted = (count, one, more) => `${figures.whole(count)} ${count === 1 ? one : more}`;
-    const lines = sheet.source === BROADCAST ? counted(sheet.lines, 'message', 'messages') : counted(sheet.lines, 'line', 'lines');
+    const [one, more] = sheet.source === BROADCAST ? ['message', 'messages'] : ['line', 'lines'];
+    const lines = counted(sheet.lines, one, more);
     return `${name}: ${counted(sheet.securities.length, 'security', 'securities')}, ${lines}, ` +
         `read in ${figures.whole(Math.round(milliseconds))} ms`;
 }
@@ -64,8 +67,13 @@ async function open(name, bytes, kind = kindOf(bytes)) {
         room('summary').textContent = `${name} could not be opened.`;
         return;
     }
+    offerOther(name, bytes, kind);
+}
+
+/** A file that has nothing for one program may have something for the other. */
+function offerOther(name, bytes, kind) {
     const other = kind === BROADCAST ? EVENING : BROADCAST;
-    room('other-way').hidden = false;
+    room('other-way').hidden = shown.sheet.securities.length > 0;
     room('other-way').textContent = other === BROADCAST ? 'Read as a broadcast' : 'Read as an evening’s text';
     room('other-way').onclick = () => open(name, bytes, other);
 }

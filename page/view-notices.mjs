@@ -5,18 +5,21 @@ const MOST_SHOWN = 500;
 
 function damageOf(damage, figures) {
     const before = damage.message - 1;
-    const stays = before === 0 ? 'Nothing could be read before it.'
-        : `What was read before it, ${figures.whole(before)} ${before === 1 ? 'message' : 'messages'}, is shown; nothing behind it is.`;
+    const messages = `${figures.whole(before)} ${before === 1 ? 'message' : 'messages'}`;
+    const stays = before === 0
+        ? 'Nothing stands before it.'
+        : `What was read before it, ${messages}, is shown; nothing behind it is.`;
+    const place = `Message ${figures.whole(damage.message)}, at byte ${figures.whole(damage.offset)} of the file`;
     return el('div', { class: 'card alert', role: 'alert' },
         el('h2', {}, 'The broadcast is damaged'),
-        el('p', {}, `Message ${figures.whole(damage.message)}, which begins at byte ${figures.whole(damage.offset)} of the file ` +
-            `(the first is byte 0), is refused: ${damage.words} (${damage.number}). ${stays}`));
+        el('p', {}, `${place} (the first is byte 0), is refused: ${damage.words} (${damage.number}). ${stays}`));
 }
 
 function unknownOf(unknown, figures) {
     const kinds = [...new Set(unknown.map((one) => one.which))].join(', ');
+    const count = figures.whole(unknown.length);
     return el('div', { class: 'card' },
-        el('p', {}, `${figures.whole(unknown.length)} messages of a kind that the program does not know (${kinds}) were skipped.`));
+        el('p', {}, `Skipped: ${count} of a kind of message that the program does not know (${kinds}).`));
 }
 
 function refusedOf(refusals, figures) {
@@ -26,16 +29,18 @@ function refusedOf(refusals, figures) {
         { words: one.place === '' ? one.words : `${one.words}: ${one.place}` },
         { words: one.text.length > 60 ? `${one.text.slice(0, 60)}…` : one.text },
     ]);
+    const head = ['line', 'answer', { words: 'why' }, { words: 'the line' }];
     const more = refusals.length - rows.length;
     return el('details', { class: 'card' },
         el('summary', {}, `${figures.whole(refusals.length)} refused ${refusals.length === 1 ? 'line' : 'lines'}`),
-        el('div', { class: 'scroll' }, table('Refused lines', ['line', 'answer', { words: 'why' }, { words: 'the line' }], rows)),
+        el('div', { class: 'scroll' }, table('Refused lines', head, rows)),
         more > 0 && el('p', { class: 'dim' }, `and ${figures.whole(more)} more`));
 }
 
 /** Shows what a sheet has of refusals; a sheet without any has an empty room. */
 export function showNotices(room, sheet, figures) {
     room.replaceChildren(...[
+        sheet.securities.length === 0 && el('div', { class: 'card' }, el('p', {}, 'No security stands in this file.')),
         sheet.damage && damageOf(sheet.damage, figures),
         sheet.unknown.length > 0 && unknownOf(sheet.unknown, figures),
         sheet.refusals.length > 0 && refusedOf(sheet.refusals, figures),

@@ -1,6 +1,7 @@
 // One security: its figures, its ranges and bands, why, and its days. A day before the last can be chosen.
 import { el, table } from './element.mjs';
-import { dayAt } from './sheet.mjs';
+import { placesOf } from './figures.mjs';
+import { COLUMNS, dayAt } from './sheet.mjs';
 import { daysChart } from './view-days.mjs';
 import { ladder } from './view-ladder.mjs';
 import { badges, sessionOf } from './view-table.mjs';
@@ -10,8 +11,9 @@ const LEAST_WIDTH = 260;
 
 /** The statics, with their names, and how each is shown. */
 const STATICS = [
-    ['lot', 'pieces of a lot', 'whole'], ['h', 'step of the rates (h)', 'perCent'], ['q', 'multiplier (q)', 'hundredths'],
-    ['aUp', 'upward weight', 'perCent'], ['aDown', 'downward weight', 'perCent'], ['wait', 'wait, trading days', 'whole'],
+    ['lot', 'pieces of a lot', 'whole'], ['h', 'step of the rates (h)', 'perCent'],
+    ['q', 'multiplier (q)', 'hundredths'], ['aUp', 'upward weight', 'perCent'], ['aDown', 'downward weight', 'perCent'],
+    ['wait', 'wait, trading days', 'whole'],
     ['rh1', 'horizon of level 1, days', 'whole'], ['rh2', 'horizon of level 2, days', 'whole'],
     ['rh3', 'horizon of level 3, days', 'whole'], ['liq', 'liquidity rate', 'perCent'],
     ['min1', 'minimum of rate 1', 'perCent'], ['min2', 'minimum of rate 2', 'perCent'],
@@ -41,16 +43,19 @@ function cards(record, figures) {
 }
 
 function limitsOf(record, figures) {
+    const prices = COLUMNS.filter((column) => column.as === 'price').map((column) => record[column.key] ?? 0);
+    const places = placesOf(prices);
+    const roubles = (units) => figures.roubles(units, places);
     const ranges = [1, 2, 3].map((level) =>
-        [String(level), figures.roubles(record[`lower${level}`]), figures.roubles(record[`upper${level}`])]);
+        [String(level), roubles(record[`lower${level}`]), roubles(record[`upper${level}`])]);
     const bands = [0, 1, 2].map((term) => {
         const of = (name) => record[`${name}_${term}`];
-        return [figures.whole(of('k')), `${figures.perCent(of('rrcl'))} to ${figures.perCent(of('rrch'))}`,
-            figures.roubles(of('lower')), figures.roubles(of('upper'))];
+        return [figures.whole(of('k')), `${figures.hundredths(of('rrcl'))} to ${figures.hundredths(of('rrch'))}`,
+            roubles(of('lower')), roubles(of('upper'))];
     });
     return el('div', { class: 'two' },
         el('div', { class: 'scroll' }, table('Ranges, in roubles', ['level', 'lower', 'upper'], ranges)),
-        el('div', { class: 'scroll' }, table('Bands, in roubles', ['days', 'repo band', 'lower', 'upper'], bands)));
+        el('div', { class: 'scroll' }, table('Bands, in roubles', ['days', 'repo, %', 'lower', 'upper'], bands)));
 }
 
 function todayOf(record, figures) {
@@ -58,12 +63,13 @@ function todayOf(record, figures) {
     const outside = (units) => (units === undefined ? '–' : units === 0 ? 'none' : figures.roubles(units));
     const rows = [
         ['Session', sessionOf(record.session)],
-        ['Moves since the evaluation', `${figures.whole(record.movesUpper)} upper, ${figures.whole(record.movesLower)} lower`],
+        ['Moves since the evaluation, upper', figures.whole(record.movesUpper)],
+        ['Moves since the evaluation, lower', figures.whole(record.movesLower)],
         ['Moves in the evening session', isHeard ? '–' : figures.whole(record.eveningMoves)],
         ['Second of the last quote', isHeard ? '–' : timeOf(record.lastSecond)],
         ...[0, 1, 2].map((term) => [
             `Quotes near the limits of term ${term}`,
-            isHeard ? '–' : `top ${nearSince(record[`nearTop_${term}`])}, bottom ${nearSince(record[`nearBottom_${term}`])}`,
+            `top ${nearSince(record[`nearTop_${term}`])}, bottom ${nearSince(record[`nearBottom_${term}`])}`,
         ]),
         ['Outside bid and ask', `${outside(record.extBid)}, ${outside(record.extAsk)}`],
     ];
@@ -83,7 +89,8 @@ function staticsOf(statics, figures) {
 function whyOf(security, at, figures) {
     const day = dayAt(security, at);
     const sentences = sentencesOf(day, figures);
-    const list = el('ul', { class: 'why' }, ...sentences.map((one) => el('li', { class: one.mark ? 'mark' : null }, one.text)));
+    const item = (one) => el('li', { class: one.mark ? 'mark' : null }, one.text);
+    const list = el('ul', { class: 'why' }, ...sentences.map(item));
     if (day.reasons !== null) return [list];
     return [list, el('p', { class: 'dim' }, 'A broadcast carries no reasons: open the evening’s text to see why.')];
 }
@@ -96,8 +103,8 @@ function daysTable(security, figures) {
         const rows = security.days.map((_, at) => {
             const { record } = dayAt(security, at);
             const mark = security.hidden.includes(at) ? '◆ ' : '';
-            return [`${mark}${figures.whole(record.day)}`, figures.roubles(record.p1), figures.change(record.p1, record.p2),
-                figures.volatility(record.s), figures.perCent(record.tentative),
+            return [`${mark}${figures.whole(record.day)}`, figures.roubles(record.p1),
+                figures.change(record.p1, record.p2), figures.volatility(record.s), figures.perCent(record.tentative),
                 ...[1, 2, 3].map((level) => figures.perCent(record[`s${level}`]))];
         }).reverse();
         const head = ['day', 'evaluation', 'change', 'volatility', 'tentative', 'rate 1', 'rate 2', 'rate 3'];
@@ -119,21 +126,23 @@ function drawn(draw) {
     return room;
 }
 
-function dayChooser(security, at, figures, show) {
-    const { days } = security;
+function dayChooser(records, hidden, at, figures, show) {
     const step = (by, words) => el('button', {
-        type: 'button', 'aria-label': words, disabled: days[at + by] === undefined, onclick: () => show(at + by, words),
+        type: 'button', 'aria-label': words, disabled: records[at + by] === undefined,
+        onclick: () => show(at + by, words),
     }, by < 0 ? '‹' : '›');
-    const option = (_, which) => el('option', { value: which, selected: which === at },
-        `${security.hidden.includes(which) ? '◆ ' : ''}day ${figures.whole(dayAt(security, which).record.day)}`);
+    const option = ({ day }, which) => el('option', { value: which, selected: which === at },
+        `${hidden.includes(which) ? '◆ ' : ''}day ${figures.whole(day)}`);
+    const chosen = (event) => show(Number(event.target.value), 'Day');
     return el('div', { class: 'days' },
         step(-1, 'the day before'),
-        el('select', { 'aria-label': 'Day', onchange: (event) => show(Number(event.target.value), 'Day') }, ...days.map(option)),
+        el('select', { 'aria-label': 'Day', onchange: chosen }, ...records.map(option)),
         step(1, 'the next day'));
 }
 
 function legend(...keys) {
-    return el('p', { class: 'legend' }, ...keys.map(([key, words]) => el('span', {}, el('span', { class: `key ${key}` }), words)));
+    const one = ([key, words]) => el('span', {}, el('span', { class: `key ${key}` }), words);
+    return el('p', { class: 'legend' }, ...keys.map(one));
 }
 
 /** Shows a security in a room, at its last day or another. */
@@ -145,18 +154,17 @@ export function showSecurity(room, security, figures, at = security.days.length 
         return;
     }
     const isLast = at === security.days.length - 1;
-    const record = isLast ? security.record : dayAt(security, at).record;
+    const records = security.days.map((_, which) => dayAt(security, which).record);
+    const record = isLast ? security.record : records[at];
     const show = (which, name) => {
         showSecurity(room, security, figures, which);
         room.querySelector(`[aria-label="${name}"]`)?.focus();
     };
     const away = record.p2 ? Math.sign(record.p1 - record.p2) : 0;
-    const records = security.days.map((_, which) => dayAt(security, which).record);
     room.replaceChildren(
-        head(...(isLast ? badges(security) : []), dayChooser(security, at, figures, show)),
-        el('p', { class: 'big' }, `${figures.roubles(record.p1)} `,
-            el('small', { class: away > 0 ? 'up' : away < 0 ? 'down' : 'dim' },
-                `roubles, ${figures.change(record.p1, record.p2)}`)),
+        head(...(isLast ? badges(security) : []), dayChooser(records, security.hidden, at, figures, show)),
+        el('p', { class: 'big' }, `${figures.roubles(record.p1)} `, el('small', { class: 'dim' }, 'roubles '),
+            el('small', { class: away > 0 ? 'up' : away < 0 ? 'down' : 'dim' }, figures.change(record.p1, record.p2))),
         cards(record, figures),
         el('h3', {}, `Why, on day ${figures.whole(record.day)}`),
         ...whyOf(security, at, figures),
@@ -166,7 +174,8 @@ export function showSecurity(room, security, figures, at = security.days.length 
         limitsOf(record, figures),
         el('h3', {}, 'Days'),
         drawn((width) => daysChart(records, figures, { width, hidden: security.hidden, at })),
-        legend(['kp', 'evaluation'], ['kb', 'its band, of the first term; volatility'], ['k1', 'rate 1'], ['k2', 'rate 2'], ['k3', 'rate 3']),
+        legend(['kp', 'evaluation'], ['kb', 'band of the first term; volatility'],
+            ['k1', 'rate 1'], ['k2', 'rate 2'], ['k3', 'rate 3']),
         daysTable(security, figures),
         ...(isLast ? [todayOf(record, figures)] : []),
         staticsOf(security.statics, figures),

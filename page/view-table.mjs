@@ -3,14 +3,15 @@ import { el } from './element.mjs';
 import { placesOf } from './figures.mjs';
 import { COLUMNS, HAPPENED, chosen } from './sheet.mjs';
 
-const SIGNS = { rose: '▲ ', fell: '▼ ', waits: '… ', hidden: '◆ ' };
+const SHORT = { rose: '▲ rose', fell: '▼ fell', waits: '… waits', maximum: 'at max', hidden: '◆ rounding' };
+const BADGES = { ...HAPPENED, ...SHORT };
 const SESSIONS = ['main', 'evening'];
 
 /** What happened to a security, each as a badge. */
 export function badges(security) {
     return Object.keys(HAPPENED)
         .filter((key) => security.happened.has(key))
-        .map((key) => el('span', { class: key === 'hidden' ? 'badge mark' : 'badge' }, `${SIGNS[key] ?? ''}${HAPPENED[key]}`));
+        .map((key) => el('span', { class: `badge ${key}`, title: HAPPENED[key] }, BADGES[key]));
 }
 
 /** A session's name; a broadcast has none. */
@@ -25,14 +26,18 @@ function signOf({ record }) {
 /** How a cell of a column is shown. */
 function cellOf(column, security, figures, places) {
     const figure = column.of(security);
-    if (column.as === 'happened') return el('td', { class: 'words' }, ...badges(security));
+    const isLive = security.record !== null && security.record.live === 1;
+    if (column.as === 'happened') {
+        const waiting = el('span', { class: 'dim' }, 'not evaluated yet');
+        return el('td', { class: 'words' }, ...(isLive ? badges(security) : [waiting]));
+    }
     if (figure === null) return el('td', { class: 'dim' }, '–');
     switch (column.as) {
     case 'price': return el('td', {}, figures.roubles(figure, places));
     case 'change': return el('td', { class: signOf(security) }, figures.change(security.record.p1, security.record.p2));
     case 'volatility': return el('td', {}, figures.volatility(figure));
     case 'rate': return el('td', {}, figures.perCent(figure));
-    case 'session': return el('td', { class: 'words' }, sessionOf(figure));
+    case 'session': return el('td', { class: 'words short' }, sessionOf(figure));
     default: return el('td', {}, figures.whole(figure));
     }
 }
@@ -40,7 +45,7 @@ function cellOf(column, security, figures, places) {
 /** The places that the prices of a table need, so that their points stand below each other. */
 function placesOfAll(securities, columns) {
     const prices = columns.filter((column) => column.as === 'price');
-    return Math.max(2, ...securities.flatMap((one) => prices.map((column) => placesOf(column.of(one) ?? 0))));
+    return placesOf(securities.flatMap((one) => prices.map((column) => column.of(one) ?? 0)));
 }
 
 /**
@@ -75,7 +80,8 @@ export function makeTable(room, figures, choose) {
             event.stopPropagation();
             pick(security, true);
         } }, String(security.id));
-        return el('tr', { 'aria-current': security.id === state.chosenId ? 'true' : null, onclick: () => pick(security, true) },
+        const current = security.id === state.chosenId ? 'true' : null;
+        return el('tr', { 'aria-current': current, onclick: () => pick(security, true) },
             el('th', { scope: 'row' }, id),
             ...columns.slice(1).map((column) => cellOf(column, security, figures, places)));
     }
@@ -91,9 +97,9 @@ export function makeTable(room, figures, choose) {
     }
 
     function draw() {
-        const groups = new Set(['', 'ranges', 'bands'].filter((group) => group === '' || field(`show-${group}`).checked));
-        const columns = COLUMNS.filter((column) => groups.has(column.group));
-        const shown = chosen(state.sheet.securities, { ...state, id: field('filter-id').value, happened: happened.value });
+        const columns = COLUMNS.filter(({ group }) => group === '' || field(`show-${group}`).checked);
+        const filter = { id: field('filter-id').value, happened: happened.value };
+        const shown = chosen(state.sheet.securities, { ...state, ...filter });
         const places = placesOfAll(state.sheet.securities, columns);
         room.at.replaceChildren(el('table', { 'aria-label': 'Securities' },
             el('thead', {}, el('tr', {}, ...columns.map(headOf))),
@@ -116,7 +122,10 @@ export function makeTable(room, figures, choose) {
         pick(security, false);
     });
     room.form.addEventListener('submit', (event) => event.preventDefault());
-    room.form.addEventListener('input', () => draw());
+    room.form.addEventListener('input', () => {
+        const shown = draw();
+        if (shown.length > 0 && !shown.some((one) => one.id === state.chosenId)) pick(shown[0], false);
+    });
 
     return {
         show(sheet) {

@@ -5,7 +5,7 @@ const MILLION = 1000000n;
 const BP_IN_MILLIONTHS = 100n;
 
 /**
- * The exact move in millionths, as a fraction: the greater of those from the two earlier evaluations (document 01, 7.1).
+ * The exact move in millionths, as a fraction: the greater of those from the two earlier evaluations (7.1).
  * @param {number} price the evaluation
  * @param {number[]} earlier the earlier evaluations
  * @returns {{over: bigint, under: bigint, from: number} | null}
@@ -56,8 +56,8 @@ const PRICE = {
     close: (price) =>
         `The close set the price: ${price} roubles, the mean of the rows that have trades, by their volumes.`,
     bid: (price) =>
-        `The greatest bid set the price: ${price} roubles. It is the middle one of bid, close and ask, or, with no ask, ` +
-        'the greater of bid and close.',
+        `The greatest bid set the price: ${price} roubles. It is the middle one of bid, close and ask, or, with no ` +
+        'ask, the greater of bid and close.',
     ask: (price) =>
         `The least ask set the price: ${price} roubles. It is the middle one of bid, close and ask, or, with no bid, ` +
         'the lesser of ask and close.',
@@ -68,8 +68,10 @@ function moveSentence(day, figures) {
     const { move, record, before, reasons, statics, b } = day;
     const s = figures.whole(before.s);
     const dots = move.over % move.under === 0n ? '' : ` (${figures.places(move)})`;
-    const exact = `The exact move, from ${figures.roubles(move.from)} to ${figures.roubles(record.p1)} roubles, is ` +
-        `${figures.fraction(move)} millionths${dots}`;
+    const exact = move.over === 0n
+        ? `The price did not move from ${figures.roubles(record.p1)} roubles: the exact move is 0 millionths`
+        : `The exact move, from ${figures.roubles(move.from)} to ${figures.roubles(record.p1)} roubles, is ` +
+            `${figures.fraction(move)} millionths${dots}`;
     const weight = (name) => (statics ? ` of ${figures.perCent(statics[name])}` : '');
     switch (reasons?.weight) {
     case 'zero': return `${exact}. ${figures.whole(b)} days off lay before, so it has no weight.`;
@@ -85,17 +87,17 @@ function hiddenSentence(hidden, day, figures) {
     const against = hidden.volatility
         ? `the volatility of ${figures.whole(day.before.s)}`
         : `the last rate of level 1, ${figures.perCent(day.before.s1)}`;
-    return `Rounded to the nearest millionth first it would have been ${figures.whole(nearest)}, not above ${against}: ` +
-        'the move would have been hidden.';
+    return `Rounded to the nearest millionth first it would have been ${figures.whole(nearest)}, not above ` +
+        `${against}: the move would have been hidden.`;
 }
 
 function volatilitySentence({ record, before, reasons, statics }, figures) {
     const now = `${figures.whole(record.s)} millionths`;
     const was = figures.whole(before.s);
     if (reasons.replacement === 'yes') {
-        return `The move is above the last rate of level 1, ${figures.perCent(before.s1)}, and the replacement, the move ` +
-            `over the multiplier of ${figures.hundredths(statics.q)}, is above the mean: it set the volatility, ${now} ` +
-            `(before: ${was}).`;
+        return `The move is above the last rate of level 1, ${figures.perCent(before.s1)}, and the replacement, the ` +
+            `move over the multiplier of ${figures.hundredths(statics.q)}, is above the mean: it set the volatility, ` +
+            `${now} (before: ${was}).`;
     }
     if (reasons.weight === 'zero') return `The volatility stays at ${now}.`;
     return `The mean of the volatility before, ${was}, and the move, by that weight, set the volatility: ${now}.`;
@@ -111,10 +113,11 @@ function tentativeSentence({ record, before, reasons, statics }, figures) {
         return `The tentative rate rose from ${was} to ${now}, the least step that covers ${by}.`;
     }
     case 'fell':
-        return `The tentative rate fell one step, from ${was} to ${now}: less would do, and the wait of ${wait} was over.`;
+        return `The tentative rate fell one step, from ${was} to ${now}: less would do, and the wait of ${wait} ` +
+            'was over.';
     case 'waited':
-        return `The tentative rate waits at ${now}: less would do, but it has stood for ${figures.whole(record.age)} of ` +
-            `the ${wait} of the wait.`;
+        return `The tentative rate waits at ${now}: less would do, but it has stood for ` +
+            `${figures.whole(record.age)} of the ${wait} of the wait.`;
     default: return `The tentative rate stays at ${now}: the step that is asked for is the same.`;
     }
 }
@@ -126,8 +129,8 @@ function levelSentence(level, { record, reasons, statics, m }, figures) {
     case 'minimum': return `Rate ${level} is its minimum, ${rate}.`;
     default: {
         const ahead = m > 0 ? `, with ${figures.whole(m)} days off ahead` : '';
-        return `Rate ${level} is ${rate}, the least step of ${figures.perCent(statics.h)} that covers the requirement of ` +
-            `${figures.whole(statics[`rh${level}`])} days${ahead}.`;
+        return `Rate ${level} is ${rate}, the least step of ${figures.perCent(statics.h)} that covers the ` +
+            `requirement of ${figures.whole(statics[`rh${level}`])} days${ahead}.`;
     }
     }
 }

@@ -15,7 +15,8 @@ test('a record has its figures by name', () => {
     assert.deepEqual([record.s1, record.s2, record.s3], [800, 1200, 1500]);
     assert.deepEqual([record.upper1, record.upper2, record.upper3], [1112400, 1153600, 1184500]);
     assert.deepEqual([record.lower1, record.lower2, record.lower3], [947600, 906400, 875500]);
-    assert.deepEqual([record.k_0, record.rrcl_0, record.rrch_0, record.lower_0, record.upper_0], [0, -1, 2, 988800, 1071200]);
+    assert.deepEqual([record.k_0, record.rrcl_0, record.rrch_0], [0, -1, 2]);
+    assert.deepEqual([record.lower_0, record.upper_0], [988800, 1071200]);
     assert.deepEqual([record.nearTop_1, record.nearBottom_1, record.nearTop_2, record.nearBottom_2], [5, 6, -1, 7]);
     assert.deepEqual([record.k_2, record.lower_2, record.upper_2], [2, 988802, 1071202]);
     assert.deepEqual([record.movesUpper, record.movesLower, record.lastSecond], [3, 4, 68520]);
@@ -34,7 +35,8 @@ test('the other answers', () => {
     assert.deepEqual(answerOf('hello', 'bad 26'), { kind: 'bad', line: 26 });
     const interest = answerOf('interest', '0 -1625 25 150 61 150 2 300 200 151 76 200 0 300 450');
     assert.deepEqual([interest.lower, interest.upper, interest.maturities.length], [-1625, 25, 2]);
-    assert.deepEqual(interest.maturities[1], { change: 151, volatility: 76, tentative: 200, age: 0, up: 300, down: 450 });
+    const maturity = { change: 151, volatility: 76, tentative: 200, age: 0, up: 300, down: 450 };
+    assert.deepEqual(interest.maturities[1], maturity);
     const bond = answerOf('bond', '0 9973400 900 0 1000 1600 1900 9354 10351 9355 10352 1 2 3 4 5 6 7 8');
     assert.deepEqual([bond.p, bond.s3, bond.terms.length], [9973400, 1900, 3]);
     assert.deepEqual(bond.terms[0], { lower: 9354, upper: 10351, offLower: 9355, offUpper: 10352 });
@@ -52,7 +54,8 @@ test('the numbers of a call, between the blanks that the programs take for blank
 
 test('why: reasons, and the place at fault', () => {
     assert.deepEqual(
-        reasonsOf('0 price close weight up replacement no tentative rose level1 requirement level2 minimum level3 maximum'),
+        reasonsOf('0 price close weight up replacement no tentative rose ' +
+            'level1 requirement level2 minimum level3 maximum'),
         {
             kind: 'reasons', price: 'close', weight: 'up', replacement: 'no', tentative: 'rose',
             level1: 'requirement', level2: 'minimum', level3: 'maximum',

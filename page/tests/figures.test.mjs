@@ -17,7 +17,7 @@ test('prices, rates and volatilities', () => {
     assert.equal(english.whole(21214), '21,214');
     assert.equal(english.roubles(null), '–');
     assert.equal(english.perCent(undefined), '–');
-    assert.deepEqual([1030000, 1003130, 1003131].map(placesOf), [2, 3, 4]);
+    assert.deepEqual([placesOf([]), placesOf([1030000]), placesOf([1003130, 1]), placesOf([10, 100])], [2, 2, 4, 3]);
 });
 
 test('the reader’s own grouping', () => {
@@ -33,7 +33,7 @@ test('a change is to the nearest hundredth of a per cent', () => {
 });
 
 test('fractions', () => {
-    assert.equal(english.fraction({ over: 60001n, under: 3n }), '20,000 1/3');
+    assert.equal(english.fraction({ over: 60001n, under: 3n }), '20,000 + 1/3');
     assert.equal(english.fraction({ over: 6n, under: 9n }), '2/3');
     assert.equal(english.fraction({ over: 0n, under: 9n }), '0');
     assert.equal(english.places({ over: 60001n, under: 3n }), '20,000.333…');

@@ -1,4 +1,4 @@
-// The programs run on bytes as they run by node's own host (release/wasm/run.mjs), and say so where their words are wrong.
+// The programs run on bytes, each run by itself, and say so where their words are wrong.
 import assert from 'node:assert/strict';
 import { test } from 'node:test';
 import { linesOf } from '../programs.mjs';

@@ -28,9 +28,8 @@ async function opened(input) {
 /** The last record answered of each security, by its words. */
 function lastRecords(answers) {
     const last = new Map();
-    for (const words of answers.map((line) => line.split(' ')).filter((line) => line[0] === '0' && line.length === 46)) {
-        last.set(Number(words[1]), words);
-    }
+    const isRecord = (words) => words[0] === '0' && words.length === 46;
+    for (const words of answers.map((line) => line.split(' ')).filter(isRecord)) last.set(Number(words[1]), words);
     return last;
 }
 
@@ -50,9 +49,11 @@ function randomEvening(seed) {
     }
     for (let day = 2; day < 20; day++) {
         for (const [id, price] of prices) {
-            const next = Math.max(10, Math.floor(price * (1 + (below(2001) - 1000) / (below(20) === 0 ? 4000 : 40000))));
+            const by = (below(2001) - 1000) / (below(20) === 0 ? 4000 : 40000);
+            const next = Math.max(10, Math.floor(price * (1 + by)));
+            const terms = '0 0 0 1 1200 1900 2 -30 1950';
             prices.set(id, next);
-            lines.push(`evaluate ${id} ${day} ${below(3)} ${below(3)} 0 0 0 1 1200 1900 2 -30 1950 0 10000 0 ${next} 0 0 5`);
+            lines.push(`evaluate ${id} ${day} ${below(3)} ${below(3)} ${terms} 0 10000 0 ${next} 0 0 5`);
             if (below(4) === 0) lines.push(`move ${id} ${below(2)}`);
             if (below(6) === 0) lines.push(`open ${id}`);
         }
@@ -90,7 +91,9 @@ for (const [name, input] of [['the example evening', example('evening.txt')], ['
             const words = last.get(security.id);
             assert.equal(digits(figures.roubles(security.record.p1, 4)), words[4]);
             assert.equal(digits(figures.volatility(security.record.s)), words[6]);
-            for (const level of [1, 2, 3]) assert.equal(digits(figures.perCent(security.record[`s${level}`])), words[8 + level]);
+            for (const level of [1, 2, 3]) {
+                assert.equal(digits(figures.perCent(security.record[`s${level}`])), words[8 + level]);
+            }
         }
     });
 
@@ -188,7 +191,8 @@ test('sorted by any column, filtered by id and by what happened', () => {
 test('the downloads have the figures of the last answers, in roubles and per cent', () => {
     const last = lastRecords(evening.answers);
     const live = evening.sheet.securities.filter((one) => last.get(one.id)?.[2] === '1');
-    const rows = (name) => DOWNLOADS[name](evening.sheet.securities).split('\r\n').slice(1, -1).map((line) => line.split(','));
+    const lines = (name) => DOWNLOADS[name](evening.sheet.securities).split('\r\n').slice(1, -1);
+    const rows = (name) => lines(name).map((line) => line.split(','));
     const units = (text) => text.replace('.', '').replace(/^0+(?=\d)/, '');
     assert.equal(rows('ASSETS').length, live.length);
     for (const [id, evaluation, volatility, tentative] of rows('ASSETS')) {
@@ -200,11 +204,14 @@ test('the downloads have the figures of the last answers, in roubles and per cen
         const words = last.get(Number(id));
         assert.deepEqual([units(lower), units(upper)], [words[14 + Number(level)], words[11 + Number(level)]]);
     }
-    for (const [id, level, rate] of rows('RM_INDICATIVE')) assert.equal(units(rate), last.get(Number(id))[8 + Number(level)]);
+    for (const [id, level, rate] of rows('RM_INDICATIVE')) {
+        assert.equal(units(rate), last.get(Number(id))[8 + Number(level)]);
+    }
     for (const [id, term, lower, upper, days] of rows('PRICEMOVELIMIT')) {
         const words = last.get(Number(id));
         const at = 18 + 7 * Number(term);
         assert.deepEqual([days, units(lower), units(upper)], [words[at], words[at + 3], words[at + 4]]);
     }
-    assert.match(DOWNLOADS.ASSETS([]), /^security,evaluation \(roubles\),volatility \(millionths\),tentative rate \(per cent\)\r\n$/);
+    const head = 'security,evaluation (roubles),volatility (millionths),tentative rate (per cent)\r\n';
+    assert.equal(DOWNLOADS.ASSETS([]), head);
 });
