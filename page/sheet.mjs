@@ -212,7 +212,7 @@ function columns() {
     const column = (key, title, as, group = '') => ({ key, title, as, group, of: figure(key) });
     const change = ({ record }) => (record.p2 ? record.p1 / record.p2 - 1 : null);
     return [
-        { key: 'id', title: 'Security', as: 'id', group: '', of: (security) => security.id },
+        { key: 'id', title: 'Id', as: 'id', group: '', of: (security) => security.id },
         column('p1', 'Evaluation', 'price'),
         { key: 'change', title: 'Change', as: 'change', group: '', of: (one) => (isLive(one) ? change(one) : null) },
         { key: 'happened', title: 'What happened', as: 'happened', group: '', of: happenedOrder },
