@@ -1,39 +1,107 @@
-// The numbers of refusal in words (document 01, "Numbers a member may see", and document 02): the one list of the page.
+// The refusals' numbers in words, with what to do: the one list of the page (document 01, "Numbers a member may see",
+// and document 02), and what a refused answer of a program says.
 
-/** @type {Object<number, string>} */
-export const REFUSALS = {
-    1: 'there is no security with this id',
-    2: 'this id is admitted already',
-    3: 'the table has no empty slot',
-    4: 'a number of the admission is out of its range',
-    5: 'the day is not after the last one',
-    6: 'a number is out of its range',
-    7: 'a price or a volume rounds to nothing, or to more than the desk takes',
-    8: 'the move is above 100 per cent',
-    9: 'the lower limit of a band lies above its upper one',
-    10: 'the security is admitted and not evaluated yet',
-    11: 'the security is not monitored',
-    12: 'this side has been moved fifty times',
-    13: 'the second is earlier than that of the last quote',
-    14: 'the key maturities or the pair of terms do not ascend',
-    15: 'a line of the exchange’s text is bad',
-    16: 'a row has its bid above its ask',
-    17: 'the face value is 0',
-    18: 'no move is allowed in this evening session, or its moves are used up',
-    19: 'the evening session is open already',
-    20: 'an outside price is no number above zero that the desk takes',
-    21: 'the message is cut short',
-    22: 'the length is wrong for the message’s kind',
-    23: 'a field of the message is out of its range',
-    24: 'there is no room for the message',
+/**
+ * @typedef {object} Refusal
+ * @property {string} text  What is refused.
+ * @property {string} todo  What to do.
+ * @property {string[]} [fields]  The fields that it is about, where the number says which.
+ */
+
+const GET_AGAIN = 'get the file again; what was read before it stays';
+
+/** By number, from 0 on. @type {Refusal[]} */
+export const refusals = [
+    { text: 'done', todo: '' },
+    { text: 'there is no security with this id', todo: 'look at the id, or admit the security first', fields: ['ID'] },
+    { text: 'this id is admitted already', todo: 'look at the id; an admission cannot be changed', fields: ['ID'] },
+    { text: 'the table has no empty slot', todo: 'an evening has room for 512 securities' },
+    { text: 'a number of the admission is out of its range', todo: 'correct the field that is marked' },
+    { text: 'the day is not after the last one', todo: 'give a day number above the last one', fields: ['DAY'] },
+    { text: 'a number is out of its range', todo: 'correct the field, row or term that is marked' },
+    {
+        text: 'a price or a volume rounds to nothing, or to more than the desk takes',
+        todo: 'look at the prices, the volume and the central rate',
+        fields: ['RC', 'CLOSE', 'BID', 'ASK', 'VOLUME', 'NET', 'FACE', 'ACCRUED'],
+    },
+    { text: 'the move is above 100 per cent', todo: 'look at the prices; a point may be at the wrong place' },
+    {
+        text: 'the lower limit of a band lies above its upper one',
+        todo: 'look at the repo limits of the term and at the farthest limits of the security',
+    },
+    { text: 'the security is admitted and not evaluated yet', todo: 'evaluate it first', fields: ['ID'] },
+    { text: 'the security is not monitored', todo: 'it takes no quotes and no moves', fields: ['ID'] },
+    { text: 'this side has been moved fifty times', todo: 'wait for the next evaluation', fields: ['SIDE'] },
+    {
+        text: 'the second is earlier than that of the last quote',
+        todo: 'give the quotes of a security in the order of their times',
+        fields: ['SECOND'],
+    },
+    {
+        text: 'the key maturities or the pair of terms do not ascend',
+        todo: 'put the key maturities in order, each once, and the lesser term first',
+        fields: ['YM', 'YN', 'T'],
+    },
+    { text: 'a line of the exchange’s text is bad', todo: 'correct the line, or get the text again' },
+    { text: 'a row has its bid above its ask', todo: 'two columns may have changed places', fields: ['BID', 'ASK'] },
+    { text: 'the face value is 0', todo: 'give the face value', fields: ['FACE'] },
+    {
+        text: 'no move is allowed in this evening session, or its moves are used up',
+        todo: 'wait for the next evaluation',
+        fields: ['SIDE'],
+    },
+    { text: 'the evening session is open already', todo: 'nothing is to be done', fields: ['ID'] },
+    {
+        text: 'an outside price is no number above zero that the desk takes',
+        todo: 'look at what the source sent; the prices that were kept stay',
+        fields: ['BIDBITS', 'ASKBITS', 'BITS'],
+    },
+    { text: 'the message is cut short', todo: GET_AGAIN },
+    { text: 'the length is wrong for the message’s kind', todo: GET_AGAIN },
+    { text: 'a field of the message is out of its range', todo: GET_AGAIN },
+    { text: 'there is no room for the message', todo: 'give the writer a larger buffer' },
+];
+
+const NO_CALL = {
+    text: 'the line is no call',
+    todo: 'look at the first word, and at how many numbers follow it; nothing has changed',
 };
 
 /** A refusal in words; a number that the list has not stays a number. */
-export function inWords(number) {
-    return REFUSALS[number] ?? `refused ${number}`;
+export function inWords(/** @type {number} */ number) {
+    return refusals[number]?.text ?? `refused ${number}`;
 }
 
 /** The place that `why` names of a refused evaluation. */
-export function placeOf(fault) {
+export function placeOf(/** @type {{ at: string, which?: number }} */ fault) {
     return fault.at === 'row' || fault.at === 'term' ? `${fault.at} ${fault.which}` : '';
+}
+
+/**
+ * @typedef {object} Refused  What a refused answer says.
+ * @property {number} [number]  None where the line is no call.
+ * @property {string} text
+ * @property {string} todo
+ * @property {number} [row]  The row at fault, counted from 1, where `why` names one.
+ * @property {number} [term]  The term at fault, 0 to 2, where `why` names one.
+ * @property {number} [line]  The line at fault, of the exchange's text (0 where it is too long) or of the evening's.
+ * @property {number} [offset]  The place in the broadcast's bytes, counted from 0.
+ */
+
+/**
+ * What an answer of `evening`, `why`, `exchange` or `listen` says of a refusal; nothing where it is none.
+ * @param {string} answer
+ * @returns {Refused | undefined}
+ */
+export function refusedOf(answer) {
+    const [first, second, third] = answer.trim().split(' ');
+    if (first === 'bad') return { ...NO_CALL, line: Number(second) };
+    const isHeard = first === 'refused';
+    const number = Number(isHeard ? second : first);
+    const refusal = refusals[number];
+    if (number === 0 || refusal === undefined) return undefined;
+    const said = { number, text: refusal.text, todo: refusal.todo };
+    if (isHeard) return { ...said, offset: Number(third) };
+    if (second === 'row' || second === 'term') return { ...said, [second]: Number(third) };
+    return second === undefined || second === 'none' ? said : { ...said, line: Number(second) };
 }
