@@ -1,5 +1,6 @@
 // Typed values become whole numbers exactly, and back; what is out of a field's range is refused in words.
 import assert from 'node:assert/strict';
+import fs from 'node:fs';
 import { test } from 'node:test';
 import { calls, callOf, rangeOf, wordOf } from '../fields.mjs';
 import { bitsOf, floatOf } from '../kinds.mjs';
@@ -9,14 +10,24 @@ const everyField = calls.flatMap(({ word, fields, rows }) => (
 const fieldOf = (word, name) => callOf(word).fields.find((field) => field.name === name);
 const typed = (word, name, text) => wordOf(fieldOf(word, name), text);
 
-test('the calls have as many numbers as docs/EVENING.md gives them', () => {
-    const numbers = (fields) => fields.filter(({ instead }) => instead === undefined).length;
-    const count = ({ fields, rows }) => [numbers(fields), rows?.fields.length];
-    assert.deepEqual(Object.fromEntries(calls.map((call) => [call.word, count(call)])), {
-        admit: [32, undefined], evaluate: [13, 7], quote: [5, undefined], move: [2, undefined], open: [1, undefined],
-        outside: [3, undefined], notice: [3, undefined], withdraw: [1, undefined], read: [1, undefined],
-        interest: [14, 8], bond: [33, 2],
+/** The calls and the names of their numbers, as docs/EVENING.md lists them. */
+function listed() {
+    const page = fs.readFileSync(new URL('../../docs/EVENING.md', import.meta.url), 'utf8');
+    const block = page.slice(page.indexOf('## The calls'), page.indexOf('A number below zero'));
+    const lines = block.split('\n').filter((line) => line.startsWith('    ') && !line.includes('in place of'));
+    return lines.join(' ').trim().split(/ +(?=[a-z])/).map((form) => {
+        const [head, rows] = form.trim().split(/ *[[\]][. ]*/);
+        const [word, ...names] = head.split(/ +/);
+        return { word, names, rows: rows?.split(/ +/) };
     });
+}
+
+test('the calls have the numbers that docs/EVENING.md lists, in its order', () => {
+    const names = (fields) => fields?.filter(({ instead }) => instead === undefined).map(({ name }) => name);
+    const ours = calls.map(({ word, fields, rows }) => ({ word, names: names(fields), rows: names(rows?.fields) }));
+    const byWord = (one, other) => one.word < other.word ? -1 : 1;
+    assert.deepEqual(ours.sort(byWord), listed().sort(byWord));
+    assert.equal(ours.length, 11);
 });
 
 test('every field has a label, a meaning and a range in words', () => {
