@@ -50,7 +50,8 @@ const OF_CURRENCY = decimal("of the row's currency", 4);
 const PER_CENT = decimal('per cent', 2); // basis points, or hundredths of a per cent
 const VOLATILITY = decimal('per cent', 4); // millionths
 const TIMES = decimal('times', 2); // hundredths
-const PART = decimal('of 1', 4); // ten-thousandths
+const HUNDREDTHS = decimal('of 1', 2);
+const TEN_THOUSANDTHS = decimal('of 1', 4);
 const YES_NO = choice('no', 'yes');
 const BAND_SIDE = choice('upper', 'lower');
 const PRICE_SIDE = choice('bid', 'ask');
@@ -64,7 +65,6 @@ const REPO_MOST = 9_999;
 const MATURITY_MOST = 365;
 const TENTATIVE_MOST = 100_999; // no step makes more of "the least multiple of h at or above 100,000 bp"
 const TENTATIVE_REACHED = 100_000n;
-const ANOTHER_STEP = 'must be a multiple of the step H';
 
 // A float's bits ascend with its value. These are of the least float that is at least half a unit, 0.00005 roubles, and
 // of the greatest one below 10^10 units and a half.
@@ -93,8 +93,8 @@ const AGE = field('AGE', 'Age', TRADING_DAYS, 0, 250, 'How long the tentative ra
 const H = field('H', 'Step', PER_CENT, 1, 1_000, 'The step of all rates.');
 const Q = field('Q', 'Multiplier', TIMES, 100, 1_000, 'The multiplier of the volatility.');
 const WEIGHTS = [
-    field('A_UP', 'Weight up', PART, 0, 10_000, 'The weight of a move above the volatility.'),
-    field('A_DOWN', 'Weight down', PART, 0, 10_000, 'The weight of a move that is not above the volatility.'),
+    field('A_UP', 'Weight up', TEN_THOUSANDTHS, 0, 10_000, 'The weight of a move above the volatility.'),
+    field('A_DOWN', 'Weight down', TEN_THOUSANDTHS, 0, 10_000, 'The weight of a move not above the volatility.'),
 ];
 const WAIT = field('WAIT', 'Wait', TRADING_DAYS, 1, 250, 'How long the tentative rate waits before it falls.');
 const LEVELS = [
@@ -143,7 +143,7 @@ const notBelow = (/** @type {string} */ at, /** @type {string} */ other) => (
 
 /** @returns {Order} */
 const multiple = (/** @type {string} */ at) => (
-    { at, needs: ['H', at], holds: (h, rate) => h < 1n || rate % h === 0n, text: ANOTHER_STEP });
+    { at, needs: ['H', at], holds: (h, rate) => rate % h === 0n, text: 'must be a multiple of the step H' });
 
 /** @type {Order[]} */
 const LEVEL_ORDERS = [
@@ -195,9 +195,10 @@ const admit = {
         WAIT,
         ...LEVELS,
         XPR,
-        field('SHIFT', 'Shift', TIMES, 1, 100, 'How far a move goes, as a part of the width of a band without moves.'),
+        field('SHIFT', 'Shift', HUNDREDTHS, 1, 100, "How far a move goes, as a part of an unmoved band's width."),
         ...FARTHEST,
-        field('W', 'Nearness', PART, 0, 5_000, "How near a quote has to be to a limit, as a part of the band's width."),
+        field('W', 'Nearness', TEN_THOUSANDTHS, 0, 5_000,
+            "How near a quote has to be to a limit, as a part of the band's width."),
         field('U', 'Alert after', SECONDS, 1, 3_600, 'How long a side is near before an alert, in the main session.'),
         ...FLAGS,
         field('UEVENING', 'Alert after, evening', SECONDS, 1, 3_600,
@@ -347,7 +348,7 @@ const bond = {
         field('FACE', 'Face value', ROUBLES, 0, PRICE_MOST, 'The face value.'),
         field('ACCRUED', 'Accrued interest', ROUBLES, 0, PRICE_MOST, 'The interest accrued.'),
         rate('REPO', 'Repo rate', 'The repo rate REPORate.'),
-        S,
+        { ...S, meaning: 'The volatility, which is given.' },
         TENTATIVE,
         AGE,
         ...TERMS,
@@ -378,6 +379,9 @@ const bond = {
 
 /** Every call, in the order in which a page offers them. @type {Call[]} */
 export const calls = [admit, evaluate, quote, ...others, interest, bond];
+
+/** The names of an admission's statics, which one security may have from another. */
+export const staticNames = admit.fields.map(({ name }) => name).filter((_, at, names) => at >= names.indexOf('LOT'));
 
 /** The call of a word, or undefined. @returns {Call | undefined} */
 export const callOf = (/** @type {string} */ word) => calls.find((call) => call.word === word);

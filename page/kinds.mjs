@@ -1,6 +1,6 @@
-// How a typed value becomes a word of the evening's text (docs/EVENING.md, "Numbers"), and back: one kind each of
-// values. All is worked out on digits and BigInt, and nothing is rounded. An outside price alone is a 64-bit float,
-// given by its bits.
+// How a typed value becomes a word of the evening's text (docs/EVENING.md, "Numbers"), and back, for each kind of
+// value. All is worked out on digits and BigInt, and nothing is rounded. An outside price alone is a 64-bit float, and
+// its word has the bits.
 
 /**
  * @typedef {{ word: string } | { fault: string }} Read  A word of the text, or in words why there is none.

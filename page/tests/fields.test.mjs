@@ -2,7 +2,7 @@
 import assert from 'node:assert/strict';
 import fs from 'node:fs';
 import { test } from 'node:test';
-import { calls, callOf, rangeOf, wordOf } from '../fields.mjs';
+import { calls, callOf, rangeOf, staticNames, wordOf } from '../fields.mjs';
 import { bitsOf, floatOf } from '../kinds.mjs';
 
 const everyField = calls.flatMap(({ word, fields, rows }) => (
@@ -28,6 +28,7 @@ test('the calls have the numbers that docs/EVENING.md lists, in its order', () =
     const byWord = (one, other) => one.word < other.word ? -1 : 1;
     assert.deepEqual(ours.sort(byWord), listed().sort(byWord));
     assert.equal(ours.length, 11);
+    assert.deepEqual([staticNames.length, staticNames[0], staticNames.at(-1)], [26, 'LOT', 'USEEXTERNAL']);
 });
 
 test('every field has a label, a meaning and a range in words', () => {
