@@ -4,7 +4,7 @@
 use mathlib.Core.Path.{_≡_, refl, sym, _∙_, ap}
 use mathlib.Core.Logic.{_≢_, _⊎_, inl, inr}
 use mathlib.Core.Bool.{Bool, true, false, not, _&&_, and-false}
-use mathlib.Core.List.{List, [], _∷_}
+use mathlib.Core.List.{List, [], _∷_, map}
 use Prim.Native.Nat.{ℕ, zero, suc, _+_, _-_, _≤_, _<_}
 use native.Mathlib.Omega.{arith}
 use lib.Dec.{leb, eqb}
@@ -271,6 +271,12 @@ pub receipt-leaves : (r : Record) (x : Told)
     × (received r x .session ≡ r .session)
 unfolding received
 receipt-leaves r x = (refl, refl, refl, refl, refl, refl, refl, refl, refl, refl, refl, refl, refl, refl, refl, refl)
+
+-- of the seven calls the last alone is a receipt
+pub receipt-is-one-call : (a : Admission) (id : ℕ) (d : Day) (rows : List ℤ) (q : Quote) (side : ℕ) (x : Told)
+    → map isReceipt (admit a ∷ evaluate id d rows ∷ quote id q ∷ move id side ∷ read id ∷ openEvening id
+    ∷ receive id x ∷ []) ≡ false ∷ false ∷ false ∷ false ∷ false ∷ false ∷ true ∷ []
+receipt-is-one-call a id d rows q side x = refl
 
 -- and no call on a record but a receipt changes the pair, accepted or refused
 pub pair-left : (c : Call) (t : List Record) → isAdmission c ≡ false → isReceipt c ≡ false
