@@ -1,6 +1,6 @@
 -- W-209 over sequences. A live record's bands are those that its history gives (demand 2), and the law of one band
 -- (paper_desk/proofs/ExactBand.antt) says where it stands and when it is crossed. Assumes nothing.
-use mathlib.Core.Path.{_≡_, refl, ap}
+use mathlib.Core.Path.{_≡_, refl, sym, ap, _∙_}
 use mathlib.Core.Bool.{Bool, true, false, not, _&&_}
 use mathlib.Core.List.{List, [], _∷_, _++_}
 use Prim.Native.Nat.{ℕ, _<_}
@@ -16,7 +16,7 @@ use Rattle.paper.specs.declared.Limits.{Limits}
 use Rattle.paper.specs.declared.Verdict.{Verdict}
 use Rattle.paper.specs.declared.Verdict.the-variants.{BandCrossed}
 use Rattle.paper.specs.Lists.{allThree, every}
-use Rattle.paper.specs.Ranges.{staticsOf, validStatics, noLimits, bandAt}
+use Rattle.paper.specs.Ranges.{staticsOf, validStatics, noLimits, isLive, bandAt}
 use Rattle.paper.specs.Verdicts.{numberOf, isDone, Check, FirstAt, here, later, NoneApplies, none, also, Exactly}
 use Rattle.paper_desk.specs.Limits.{crossed}
 use Rattle.paper_desk.specs.ExactBand.{RoundedInward, NoneOnGrid}
@@ -32,6 +32,7 @@ use Rattle.paper_desk.proofs.Refusals.{refused-only, refused-always}
 use Rattle.demands.proofs.Known.{history-since}
 use Rattle.demands.proofs.Sequences.{band-next, lawful-statics}
 use Rattle.demands.proofs.Demands.{demand-2, bands-in-order}
+use Rattle.demands.proofs.Order.{live-has-day}
 
 -- ---- a band of the history is the exact one, rounded inward
 
@@ -40,7 +41,7 @@ now-rounded-inward : (a : Admission) (es : List Event) (d : Day) (k : ℕ) → v
 unfolding bandNow
 now-rounded-inward a es d k v = band-rounded-inward (bandedNow a es d k) (valid-limit-statics _ v)
 
--- ---- the bands of a live record
+-- ---- the bands of a record whose last evaluation was of the day d
 
 pub bands-inside : (id : ℕ) (cs : List Call) (t : List Record) → FreshTable t → (a : Admission) (es : List Event)
     → historyOf id cs t ≡ since a es → (d : Day) → lastEvaluated es ≡ onDay d
@@ -60,6 +61,15 @@ bands-inside id cs t f a es e d last =
     inward k l =
         rw (rw last at (demand-2 id cs t f a es e .figures .bands k l))
         (now-rounded-inward a es d k (lawful-statics a es (history-since id cs t (f .empty) a es e .2)))
+
+-- and so of every live record: it was evaluated, on some day
+pub live-bands-inside : (id : ℕ) (cs : List Call) (t : List Record) → FreshTable t → (a : Admission) (es : List Event)
+    → historyOf id cs t ≡ since a es → isLive (found (run cs t) id .standing) ≡ true
+    → (d : Day) × (lastEvaluated es ≡ onDay d) × BandsInside a es d (found (run cs t) id)
+live-bands-inside id cs t f a es e live =
+    let stands = demand-2 id cs t f a es e .figures .standing in
+    let on = live-has-day a (lastEvaluated es) (sym (ap isLive stands) ∙ live) in
+    (on .0, on .1, bands-inside id cs t f a es e (on .0) (on .1))
 
 -- ---- 9
 

@@ -64,7 +64,8 @@ record Worked (r : Record) (m : ℕ) : Type 0 where
       → bandAt r k ≡ bandOf (r .statics) (r .p1 .units) (rateAt (r .rates) 0) (r .moves) (termAt (r .terms) k)
   uncrossed : BandsInOrder r
 
-live-has-day : (a : Admission) (x : LastDay) → isLive (standingNow a x) ≡ true → (d : Day) × (x ≡ onDay d)
+-- a live record was evaluated
+pub live-has-day : (a : Admission) (x : LastDay) → isLive (standingNow a x) ≡ true → (d : Day) × (x ≡ onDay d)
 unfolding standingNow isLive
 live-has-day a noDay live = absurd (not-true-and-false false live refl)
 live-has-day a (onDay d) live = (d, refl)

@@ -8,6 +8,7 @@ use Rattle.text_evening.specs.declared.Telling.{Telling}
 use Rattle.text_evening.specs.Evening.{startEvening, answer, answers}
 use Rattle.demands_evening.specs.Holds.{ownTable, eveningBehind, tableBehind, callsBehind, toldOf, EveningHolds}
 use Rattle.demands.proofs.Order.{live-in-order}
+use Rattle.demands.proofs.Inside.{live-bands-inside, nine-at-crossed}
 use Rattle.demands.proofs.Demands.{table-kept, bands-in-order, demand-1, demand-3}
 use Rattle.text_evening.proofs.OneMore.{after-one-more, told-at}
 use Rattle.demands_evening.proofs.Tables.{own-table-fresh, table-made, demand-2-behind}
@@ -35,6 +36,10 @@ evening-holds got =
       table-kept = table-kept (callsBehind (lines got)) ownTable own-table-fresh;
       bands-in-order = λ id a es e.
           rw (table-made (lines got)) (bands-in-order id (callsBehind (lines got)) ownTable own-table-fresh a es e);
+      bands-inside = λ id a es e.
+          rw (table-made (lines got)) (live-bands-inside id (callsBehind (lines got)) ownTable own-table-fresh a es e);
+      nine-exactly = λ id a es e.
+          rw (table-made (lines got)) (nine-at-crossed id (callsBehind (lines got)) ownTable own-table-fresh a es e);
       live-in-order = rw (table-made (lines got)) (live-in-order (callsBehind (lines got)) ownTable own-table-fresh);
       place-told = told-in-place got;
       each-line = λ before later l e c asked. line-holds before l c asked;

@@ -17,10 +17,12 @@ use Rattle.paper.specs.Verdicts.{isDone}
 use Rattle.paper_desk.specs.Sides.{shows}
 use Rattle.paper_desk.specs.Desk.{Call, evaluate, idOf, blank, place, found, step, run}
 use Rattle.paper_desk.specs.History.{FreshTable, Event, History, since, historyOf, isAdmission, evaluations}
+use Rattle.paper_desk.specs.Sequences.{onDay, lastEvaluated}
 use Rattle.paper_desk.specs.Exact.{exactSquare, NearExact}
 use Rattle.paper_messages.specs.declared.Message.{Message}
 use Rattle.paper_messages.specs.Messages.{encode}
 use Rattle.demands.specs.Demands.{answered, Demand1, FiguresHold, Demand2, TableKept, BandsInOrder}
+use Rattle.demands.specs.Inside.{BandsInside, NineExactly}
 use Rattle.demands.specs.Order.{slotAt, HoldsLive, InOrder}
 use Rattle.demands_messages.specs.Whole.{SentWhole}
 use Rattle.text_protocol.specs.Bytes.{lines}
@@ -119,6 +121,13 @@ pub record EveningHolds (got : List ℕ) (t : List Record) : Type 0 where
   pub table-kept : TableKept (callsBehind (lines got)) ownTable
   pub bands-in-order : (id : ℕ) (a : Admission) (es : List Event) → historyBehind (lines got) id ≡ since a es
       → BandsInOrder (found t id)
+  -- W-209: the bands of a live record in the exact bands of its last evaluation and the moves since, and when the next
+  -- evaluation of a security is refused 9
+  pub bands-inside : (id : ℕ) (a : Admission) (es : List Event) → historyBehind (lines got) id ≡ since a es
+      → isLive (found t id .standing) ≡ true
+      → (d : Day) × (lastEvaluated es ≡ onDay d) × BandsInside a es d (found t id)
+  pub nine-exactly : (id : ℕ) (a : Admission) (es : List Event) → historyBehind (lines got) id ≡ since a es
+      → NineExactly id a es t
   pub live-in-order : (slot : ℕ) → HoldsLive t slot → InOrder t slot (slotAt t slot)
   -- what is told of each line stands at its place in all that is told, behind what is told of the lines before it
   pub place-told : (before later : List (List ℕ)) (l : List ℕ) → lines got ≡ before ++ l ∷ later → (telling : Telling)
