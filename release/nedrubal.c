@@ -84,7 +84,10 @@ static int say(int to, const char *text)
 
 static int answer(const char *text)
 {
-    return say(STDOUT_FILENO, text) ? 0 : COULD_NOT;
+    if (say(STDOUT_FILENO, text))
+        return 0;
+    say(STDERR_FILENO, "nedrubal: could not write\n");
+    return COULD_NOT;
 }
 
 /* One line that names the fault: BEFORE 'WORD' AFTER. `who` is a space and the name of a program, or nothing. */
