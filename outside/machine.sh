@@ -109,6 +109,12 @@ compile_for() { # TRIPLE NAME OBJECT [WORD...]
     "$(toolchain)/bin/clang" $(words_for "$triple" "$crate") "$@" -c -x ir "$object.ll" -o "$object" && rm "$object.ll"
 }
 
+# A WebAssembly object as a module of a release.
+link_module() { # OBJECT MODULE
+    "$(toolchain)/bin/ld.lld" -flavor wasm --no-entry --export=main --allow-undefined --stack-first \
+        -z stack-size=4194304 --strip-all "$1" -o "$2"
+}
+
 # ---- what else is needed: a C compiler for x86-64, make, pkg-config, a reader of x86-64 machine code, cargo, python3
 
 case $(uname -m) in
