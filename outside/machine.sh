@@ -323,11 +323,13 @@ need_archive() { # NAME
     cannot "there is no archive of $1; see target/log/$1.archive"
 }
 
-# One number for all that a release is made from.
+# What a release is made from, and one number for all of it.
+release_of='VERSION CHANGELOG.md crates crates.txt docs examples gateway outside release'
 release_sources() {
     {
         sources
-        find VERSION CHANGELOG.md docs examples gateway outside release -type f -exec sha256sum {} + 2>/dev/null | sort
+        # shellcheck disable=SC2086
+        find $release_of -type f -exec sha256sum {} + 2>/dev/null | sort
     } | sha256sum | cut -d' ' -f1
 }
 
