@@ -22,6 +22,13 @@ cannot() {
     exit 2
 }
 
+# Says how many seconds a step took, since the script set `began_at` or the last step ended.
+took() { # STEP
+    ended_at=$(date +%s)
+    echo "${0##*/}: $1: $((ended_at - began_at)) s" >&2
+    began_at=$ended_at
+}
+
 # Takes apart the words of a script that has options or none: -h is answered, and too many words are refused.
 take_words() { # MOST WORD...
     most=$1
