@@ -175,7 +175,7 @@ export function fieldsOf({ number = 0, row, term }, call, form) {
  * The ids of a text, in the order in which they first occur. A line that is bad may have none: the program says so.
  * @returns {string[]}
  */
-function idsOf(/** @type {string} */ text) {
+export function idsOf(/** @type {string} */ text) {
     const ids = [...text.matchAll(/^(\d+);/gm)].map(([, digits]) => String(BigInt(digits)));
     return [...new Set(ids)];
 }

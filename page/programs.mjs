@@ -18,7 +18,7 @@ function hostOf(input, words) {
         },
         write: (to, address, length) => {
             const some = bytes(address, length).slice();
-            if (to === STANDARD_ERROR) host.said += new TextDecoder('latin1').decode(some);
+            if (to === STANDARD_ERROR) host.said += textOf(some);
             else host.answers.push(some);
             return length;
         },
@@ -34,7 +34,8 @@ function hostOf(input, words) {
     return host;
 }
 
-function joined(pieces) {
+/** Pieces of bytes as one. */
+export function joined(pieces) {
     const whole = new Uint8Array(pieces.reduce((length, piece) => length + piece.length, 0));
     let at = 0;
     for (const piece of pieces) {
@@ -44,9 +45,33 @@ function joined(pieces) {
     return whole;
 }
 
+const ASCII_MOST = 127;
+const CHARACTERS_AT_ONCE = 1024;
+const ascii = new TextDecoder();
+
 /** Bytes as text, a character a byte, so that no byte is lost or joined with another. */
 export function textOf(bytes) {
-    return new TextDecoder('latin1').decode(bytes);
+    let at = 0;
+    while (at < bytes.length && bytes[at] <= ASCII_MOST) at += 1;
+    if (at === bytes.length) return ascii.decode(bytes);
+    // No decoder leaves all bytes as they are: what a browser calls latin1 is another code.
+    let text = '';
+    for (at = 0; at < bytes.length; at += CHARACTERS_AT_ONCE) {
+        text += String.fromCharCode(...bytes.subarray(at, at + CHARACTERS_AT_ONCE));
+    }
+    return text;
+}
+
+const NO_BYTE = '?'.charCodeAt(0);
+
+/** The bytes of such a text. A character that is no byte, which a person may type, becomes one that no call has. */
+export function bytesOf(text) {
+    const bytes = new Uint8Array(text.length);
+    for (let at = 0; at < text.length; at += 1) {
+        const code = text.charCodeAt(at);
+        bytes[at] = code < 256 ? code : NO_BYTE;
+    }
+    return bytes;
 }
 
 /** The lines of a program's output: each is ended by a line feed. */
@@ -60,7 +85,7 @@ export function linesOf(bytes) {
  */
 export function makePrograms(modules) {
     const compiled = new Map();
-    const compile = (name) => {
+    const compile = async (name) => {
         if (!(name in modules)) throw new Error(`there is no program '${name}'`);
         if (!compiled.has(name)) compiled.set(name, WebAssembly.compile(modules[name]));
         return compiled.get(name);
@@ -81,5 +106,7 @@ export function makePrograms(modules) {
             if (host.said !== '') throw new Error(`${name}: ${host.said.trim()}`);
             return joined(host.answers);
         },
+        /** The module of a program, compiled once. @param {string} name @returns {Promise<WebAssembly.Module>} */
+        compiled: (name) => compile(name),
     };
 }

@@ -7,16 +7,6 @@ import { exactMove, hiddenByRounding } from './why.mjs';
 
 const LONGEST_LINE = 65535; // a longer line is answered, even a blank one
 
-/**
- * @typedef {object} Security
- * @property {number} id
- * @property {object|null} statics by the names of an admission; null where no message brought them
- * @property {object|null} record the latest record; null before the first evaluation in a broadcast
- * @property {object[]} days one for each accepted evaluation, oldest first; `dayAt` opens one
- * @property {Set<string>} happened to it on its last day: the keys of HAPPENED
- * @property {number[]} hidden which of its days had a move that rounding first would have hidden
- */
-
 /** What may have happened to a security, in the order in which it is shown. */
 export const HAPPENED = {
     rose: 'rose',
@@ -28,16 +18,161 @@ export const HAPPENED = {
     hidden: 'rounding would have hidden it',
 };
 
+/** Whether a line of an evening's text has an answer: a line with no word says nothing. */
+export function isAnswered(line) {
+    return line.length > LONGEST_LINE || /[^ \t\r]/.test(line);
+}
+
 /** The lines of an evening's text that have an answer, with their numbers. */
 export function answeredLines(text) {
     const lines = text.split('\n');
     if (lines.at(-1) === '') lines.pop();
-    return lines
-        .map((line, at) => ({ number: at + 1, text: line }))
-        .filter((line) => line.text.length > LONGEST_LINE || /[^ \t\r]/.test(line.text));
+    return lines.map((line, at) => ({ number: at + 1, text: line })).filter((line) => isAnswered(line.text));
 }
 
-const firstWord = (line) => /[^ \t\r]+/.exec(line)?.[0] ?? '';
+/** The first word of a line, which is the call's; '' where there is none. */
+export const firstWord = (line) => /[^ \t\r]+/.exec(line)?.[0] ?? '';
+
+/**
+ * A security with its days and what happened to it. What a line brings is kept as it was answered, and opened when it is
+ * looked at: of a year of days few are.
+ */
+class Security {
+    #latest = null;
+    #record = null;
+    #happened = null;
+    #hidden = [];
+    #looked = 0;
+
+    /** @param {number} id @param {object|null} statics */
+    constructor(id, statics) {
+        this.id = id;
+        /** By the names of an admission; null where no message brought them. */
+        this.statics = statics;
+        /** One for each accepted evaluation, oldest first; `dayAt` opens one. */
+        this.days = [];
+    }
+
+    /** The latest record is the answer to a call, or a record that messages made. */
+    heard(latest) {
+        this.#latest = latest;
+        this.#record = null;
+        this.#happened = null;
+    }
+
+    /** The latest record; null before the first one. */
+    get record() {
+        if (this.#latest === null) return null;
+        this.#record ??= this.#latest.record ?? answerOf(this.#latest.call, this.#latest.answer);
+        return this.#record;
+    }
+
+    /** Which of its days had a move that rounding first would have hidden. */
+    get hidden() {
+        for (; this.#looked < this.days.length; this.#looked += 1) {
+            if (isHidden(this, this.#looked)) this.#hidden.push(this.#looked);
+        }
+        return this.#hidden;
+    }
+
+    /** What happened to it on its last day: the keys of HAPPENED. */
+    get happened() {
+        this.#happened ??= happenedTo(this);
+        return this.#happened;
+    }
+}
+
+/** @returns {Sheet} */
+const emptySheet = (source) => ({ source, securities: [], refusals: [], unknown: [], damage: null, lines: 0 });
+
+/**
+ * @typedef {object} Sheet
+ * @property {'evening'|'broadcast'} source
+ * @property {Security[]} securities in the order of their admissions, or of their first messages
+ * @property {object[]} refusals the lines that were refused, with their words and places
+ * @property {object[]} unknown messages of other kinds
+ * @property {object|null} damage where a broadcast cannot be read on
+ * @property {number} lines how many had an answer, or were read
+ *
+ * @typedef {object} Line  A line of an evening's text with what the programs answered.
+ * @property {{number: number, text: string}} line
+ * @property {string} answer of `evening`
+ * @property {string} why of `why`
+ */
+
+/** The sheet of an evening, which hears a line more at a time and can forget its last ones. */
+export function makeEveningSheet() {
+    const sheet = emptySheet('evening');
+    const byId = new Map();
+    /** The accepted interest lines, which evaluations of any security may look at. @type {Line[]} */
+    const interests = [];
+
+    /** Which security a line that was accepted is of; undefined for an interest or a bond line. */
+    function idOf({ line }) {
+        const [, call, word] = /([^ \t\r]+)(?:[ \t\r]+([^ \t\r]+))?/.exec(line.text) ?? [];
+        return call === 'interest' || call === 'bond' ? undefined : Number(word);
+    }
+
+    /** Accepted lines of a security; its admission is the first of them. */
+    function hearOwn(own, heard) {
+        const call = firstWord(heard.line.text);
+        if (call === 'admit') own.security = new Security(own.id, admissionOf(heard.line.text));
+        own.lines.push(heard);
+        if (call === 'evaluate') own.security.days.push(heard);
+        if (RECORD_CALLS.has(call)) own.security.heard({ call, answer: heard.answer });
+    }
+
+    /** @param {Line} heard */
+    function hear(heard) {
+        sheet.lines += 1;
+        if (!heard.answer.startsWith('0')) {
+            sheet.refusals.push(refusalOf(heard));
+            return;
+        }
+        const id = idOf(heard);
+        if (firstWord(heard.line.text) === 'interest') interests.push(heard);
+        if (id === undefined) return;
+        if (!byId.has(id)) byId.set(id, { id, security: null, lines: [] });
+        const own = byId.get(id);
+        hearOwn(own, heard);
+        if (own.lines.length === 1) sheet.securities.push(own.security);
+    }
+
+    /** The security as it was at its first lines, in the place that it has. */
+    function cutTo(own, count) {
+        const place = sheet.securities.indexOf(own.security);
+        const lines = own.lines.slice(0, count);
+        own.lines = [];
+        lines.forEach((heard) => hearOwn(own, heard));
+        if (count === 0) byId.delete(own.id);
+        sheet.securities.splice(place, 1, ...(count === 0 ? [] : [own.security]));
+    }
+
+    return {
+        sheet,
+        hear,
+        interests,
+        /** The accepted lines of a security, its admission first. @returns {Line[]} */
+        linesOf: (id) => byId.get(id)?.lines ?? [],
+        securityOf: (id) => byId.get(id)?.security ?? null,
+        /** Takes back the last lines that were heard. @param {Line[]} last in the order of the text */
+        forget(last) {
+            const left = new Map();
+            for (const heard of last) {
+                sheet.lines -= 1;
+                if (!heard.answer.startsWith('0')) {
+                    sheet.refusals.pop();
+                } else if (firstWord(heard.line.text) === 'interest') {
+                    interests.pop();
+                } else if (byId.has(idOf(heard))) {
+                    const own = byId.get(idOf(heard));
+                    left.set(own, (left.get(own) ?? own.lines.length) - 1);
+                }
+            }
+            for (const [own, count] of left) cutTo(own, count);
+        },
+    };
+}
 
 /**
  * The sheet of an evening's text.
@@ -50,25 +185,13 @@ export function sheetOfEvening(text, answers, whys) {
     if (lines.length !== answers.length || lines.length !== whys.length) {
         throw new Error(`${lines.length} lines have ${answers.length} answers and ${whys.length} reasons`);
     }
-    const securities = new Map();
-    const refusals = [];
-    lines.forEach((line, at) => {
-        const call = firstWord(line.text);
-        if (!answers[at].startsWith('0')) {
-            refusals.push(refusalOf(line, call, answers[at], whys[at]));
-        } else if (call === 'admit') {
-            const admission = admissionOf(line.text);
-            securities.set(admission.id, { id: admission.id, statics: admission, days: [], latest: null });
-        } else if (RECORD_CALLS.has(call)) {
-            const security = securities.get(Number(answers[at].split(' ', 2)[1]));
-            security.latest = { call, answer: answers[at] };
-            if (call === 'evaluate') security.days.push({ line, answer: answers[at], why: whys[at] });
-        }
-    });
-    return sheetOf('evening', securities, { refusals, lines: lines.length });
+    const { sheet, hear } = makeEveningSheet();
+    lines.forEach((line, at) => hear({ line, answer: answers[at], why: whys[at] }));
+    return sheet;
 }
 
-function refusalOf(line, call, answer, why) {
+function refusalOf({ line, answer, why }) {
+    const call = firstWord(line.text);
     const { kind, number } = answerOf(call, answer);
     const at = { line: line.number, text: line.text };
     if (kind === 'bad') return { ...at, number: null, words: 'the line is no call', place: '' };
@@ -81,29 +204,31 @@ function refusalOf(line, call, answer, why) {
  * @param {string[]} heard the lines of `listen`
  */
 export function sheetOfMessages(heard) {
-    const securities = new Map();
+    const sheet = emptySheet('broadcast');
+    const byId = new Map();
     const found = (id) => {
-        if (!securities.has(id)) securities.set(id, { id, statics: null, days: [], latest: null });
-        return securities.get(id);
+        if (!byId.has(id)) {
+            byId.set(id, new Security(id, null));
+            sheet.securities.push(byId.get(id));
+        }
+        return byId.get(id);
     };
-    const unknown = [];
-    let damage = null;
     heard.forEach((line, at) => {
         const message = heardOf(line);
         if (message.kind === 'refused') {
-            damage = { ...message, words: inWords(message.number), message: at + 1 };
+            sheet.damage = { ...message, words: inWords(message.number), message: at + 1 };
         } else if (message.kind === 'unknown') {
-            unknown.push({ ...message, message: at + 1 });
+            sheet.unknown.push({ ...message, message: at + 1 });
         } else {
-            hear(found(message.id), message);
+            hearMessage(found(message.id), message);
         }
     });
-    const lines = damage === null ? heard.length : heard.length - 1;
-    return sheetOf('broadcast', securities, { refusals: [], unknown, damage, lines });
+    sheet.lines = sheet.damage === null ? heard.length : heard.length - 1;
+    return sheet;
 }
 
 /** What a message changes. A day begins with its rates; the bands behind them are of the same day. */
-function hear(security, message) {
+function hearMessage(security, message) {
     const { kind, id, ...fields } = message;
     const last = security.days.at(-1);
     if (kind === 'statics') {
@@ -113,20 +238,21 @@ function hear(security, message) {
         const before = last?.record.p1 ?? null;
         const day = { record: { id, live: 1, p1: p, p2: before, movesUpper: 0, movesLower: 0, ...figures } };
         security.days.push(day);
-        security.latest = { record: { ...day.record } };
+        security.heard({ record: { ...day.record } });
     } else if (last === undefined) {
         // Bands or a move with no rates before them: there is no day that they could be of.
         return;
     } else if (kind === 'bands') {
         if (fields.day !== last.record.day) return;
         Object.assign(last.record, fields);
-        Object.assign(security.latest.record, fields);
+        security.heard({ record: { ...security.record, ...fields } });
     } else {
         const side = message.side === 0 ? 'upper' : 'lower';
-        const record = security.latest.record;
+        const record = { ...security.record };
         record[message.side === 0 ? 'movesUpper' : 'movesLower'] = message.count;
         for (const level of [1, 2, 3]) record[`${side}${level}`] = message[`range${level}`];
         for (const term of [0, 1, 2]) record[`${side}_${term}`] = message[`band${term}`];
+        security.heard({ record });
     }
 }
 
@@ -152,21 +278,20 @@ export function dayAt(security, at) {
     return { record, before, reasons, statics, b, m, move, line: days[at].line?.number ?? null };
 }
 
-/** The days with a move that rounding would have hidden. Only a day with the upward weight is opened, to be quick. */
-function hiddenDays(security) {
-    const { days } = security;
-    return days.map((_, at) => at).filter((at) => {
-        const why = days[at].why;
-        if (why !== undefined && !why.includes(' weight up ') && !why.includes(' replacement yes ')) return false;
-        const hidden = hiddenByRounding(dayAt(security, at));
-        return hidden.volatility || hidden.rate;
-    });
+/** Whether a day had a move that rounding would have hidden. Only a day with the upward weight is opened, to be quick. */
+function isHidden(security, at) {
+    const { why } = security.days[at];
+    if (why !== undefined && !why.includes(' weight up ') && !why.includes(' replacement yes ')) return false;
+    const hidden = hiddenByRounding(dayAt(security, at));
+    return hidden.volatility || hidden.rate;
 }
 
-function happenedTo({ record, days, statics }, day, hidden) {
+function happenedTo(security) {
+    const { record, days, statics, hidden } = security;
     const happened = new Set();
     const when = (key, holds) => holds && happened.add(key);
-    if (day !== null) {
+    if (days.length > 0) {
+        const day = dayAt(security, days.length - 1);
         const { reasons, before } = day;
         // Messages carry no reasons, but a rate that rose or fell is seen by itself.
         const by = before === null ? 0 : day.record.tentative - before.tentative;
@@ -182,17 +307,6 @@ function happenedTo({ record, days, statics }, day, hidden) {
     }
     when('moved', record !== null && record.movesUpper + record.movesLower > 0);
     return happened;
-}
-
-function sheetOf(source, found, more) {
-    const securities = [...found.values()].map((raw) => {
-        const record = raw.latest === null ? null : raw.latest.record ?? answerOf(raw.latest.call, raw.latest.answer);
-        const security = { id: raw.id, statics: raw.statics, record, days: raw.days };
-        const day = raw.days.length > 0 ? dayAt(security, raw.days.length - 1) : null;
-        const hidden = hiddenDays(security);
-        return { ...security, hidden, happened: happenedTo(security, day, hidden) };
-    });
-    return { source, securities, unknown: [], damage: null, ...more };
 }
 
 /**

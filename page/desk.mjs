@@ -1,0 +1,280 @@
+// The evening that the caseworker works on: its text, what the programs answered to each line, and the sheet, kept up
+// line by line. A line that is refused is not kept. Nothing is shown here; the views ask this room.
+import { heardOf, isAccepted } from './heard.mjs';
+import { idsOf } from './lines.mjs';
+import { bytesOf, linesOf, textOf } from './programs.mjs';
+import { refusedOf } from './refusals.mjs';
+import { isAnswered, makeEveningSheet } from './sheet.mjs';
+import { makeStations } from './stations.mjs';
+import { startTelling } from './telling.mjs';
+import { isEvaluationOf, makeWhatIf } from './what-if.mjs';
+
+/**
+ * @typedef {import('./heard.mjs').Heard} Heard
+ * @typedef {import('./sheet.mjs').Line} Line
+ * @typedef {import('./telling.mjs').Told} Told
+ * @typedef {{ at: number, was: string }} Adopted  Where a what-if was adopted, and the line that stood there.
+ */
+
+const LINES_AT_ONCE = 4096;
+const TURN = 40; // milliseconds, after which the browser is to have its turn
+
+/** Lets the browser draw and listen where the work has taken a turn's time. */
+function makeBreath() {
+    let since = performance.now();
+    return async () => {
+        if (performance.now() - since < TURN) return;
+        await new Promise((done) => { setTimeout(done); });
+        since = performance.now();
+    };
+}
+
+/** The lines of a text; the last may lack its line feed. */
+function partsOf(/** @type {string} */ text) {
+    const lines = text.split('\n');
+    if (lines.at(-1) === '') lines.pop();
+    return lines;
+}
+
+/** @param {ReturnType<typeof import('./programs.mjs').makePrograms>} programs */
+export function makeDesk(programs) {
+    /** @type {Awaited<ReturnType<typeof startTelling>>} */
+    let telling;
+    let paper = makeEveningSheet();
+    /** Every line of the text, blank ones too. @type {Line[]} */
+    let lines = [];
+    let stations = makeStations();
+    /** What was done since the text was opened, the last at the end: a line said is null. @type {(Adopted | null)[]} */
+    let done = [];
+    /** How much was done since the text was saved, and how much of what was saved is undone. */
+    let unsaved = { done: 0, undone: 0 };
+    const whatIf = makeWhatIf(programs);
+
+    // ---- one thing after the other: what is asked while another is being done waits for it
+
+    /** @type {Promise<unknown>} */
+    let last = begin();
+
+    /** @template Result @param {() => Result | Promise<Result>} work @returns {Promise<Result>} */
+    function inTurn(work) {
+        const next = last.then(work);
+        last = next.catch(() => {});
+        return next;
+    }
+
+    // ---- the text, the sheet and the programs, which go together
+
+    /** An empty evening. */
+    async function begin() {
+        telling = await startTelling(programs);
+        paper = makeEveningSheet();
+        lines = [];
+        stations = makeStations();
+        done = [];
+        unsaved = { done: 0, undone: 0 };
+    }
+
+    function write(/** @type {string} */ text, /** @type {Told} */ told) {
+        const line = { line: { number: lines.length + 1, text }, ...told };
+        lines.push(line);
+        if (isAnswered(text)) paper.hear(line);
+    }
+
+    /** Has lines performed and keeps them all, refused ones too. */
+    async function read(/** @type {string[]} */ texts) {
+        const breathe = makeBreath();
+        for (let at = 0; at < texts.length; at += LINES_AT_ONCE) {
+            const some = texts.slice(at, at + LINES_AT_ONCE);
+            const told = telling.hear(some);
+            some.forEach((text, which) => write(text, told[which]));
+            stations.stopAt(lines.length, telling);
+            await breathe();
+        }
+    }
+
+    /** All as it was behind so many lines; answers those that stood there. */
+    async function cutTo(/** @type {number} */ count) {
+        const cut = lines.splice(count);
+        paper.forget(cut.filter(({ line }) => isAnswered(line.text)));
+        let at = stations.goBackTo(count, telling);
+        if (at === null) {
+            telling = await startTelling(programs);
+            at = 0;
+        }
+        const breathe = makeBreath();
+        for (; at < count; at += LINES_AT_ONCE) {
+            telling.hear(lines.slice(at, at + LINES_AT_ONCE).map(({ line }) => line.text));
+            await breathe();
+        }
+        return cut;
+    }
+
+    /**
+     * Has lines performed one after the other; a refused one leaves the programs as they were.
+     * @param {string[]} texts
+     * @param {(text: string, told: Told) => void} take  Is handed each accepted line.
+     * @returns {Promise<Heard[]>}
+     */
+    async function perform(texts, take) {
+        let before = telling.keep();
+        const all = telling.hear(texts);
+        if (all.every(({ answer }) => isAccepted(answer))) {
+            return texts.map((text, at) => {
+                take(text, all[at]);
+                return heardOf(text, all[at]);
+            });
+        }
+        telling.goBack(before);
+        const breathe = makeBreath();
+        const heard = [];
+        for (const text of texts) {
+            const [told] = telling.hear([text]);
+            heard.push(heardOf(text, told));
+            if (isAccepted(told.answer)) {
+                take(text, told);
+                before = telling.keep(before);
+            } else {
+                telling.goBack(before);
+            }
+            await breathe();
+        }
+        return heard;
+    }
+
+    const given = (/** @type {string[]} */ texts) => texts.flatMap((text) => text.split('\n')).filter(isAnswered);
+
+    /** Puts a line in place of another, and performs those behind it anew. @returns {Promise<Heard[]>} */
+    async function replace(/** @type {number} */ at, /** @type {string} */ text) {
+        const [, ...behind] = await cutTo(at);
+        await read([text, ...behind.map(({ line }) => line.text)]);
+        return lines.slice(at).filter(({ line }) => isAnswered(line.text)).map((one) => heardOf(one.line.text, one));
+    }
+
+    function count(/** @type {Adopted | null} */ what) {
+        done.push(what);
+        unsaved.done += 1;
+    }
+
+    // ---- what the views ask
+
+    const text = () => lines.map(({ line }) => `${line.text}\n`).join('');
+    const lastEvaluation = (/** @type {number} */ id) => paper.securityOf(id)?.days.at(-1)?.line ?? null;
+
+    /** What would be if a line stood in place of the last evaluation of a security. */
+    async function asked(/** @type {number} */ id, /** @type {string} */ line) {
+        const place = lastEvaluation(id);
+        if (place === null) throw new Error(`security ${id} has no evaluation`);
+        if (!isEvaluationOf(id, line)) throw new Error(`the line is no evaluation of security ${id}`);
+        return whatIf(paper, id, line);
+    }
+
+    return {
+        /** Begins with a text of lines. Nothing is unsaved behind it. @param {Uint8Array} bytes */
+        open: (bytes) => inTurn(async () => {
+            await begin();
+            await read(partsOf(textOf(bytes)));
+        }),
+
+        /** The sheet of the text, kept up line by line. */
+        get sheet() {
+            return paper.sheet;
+        },
+
+        /** The text: a character a byte, each line ended by a line feed. */
+        text,
+
+        /** Performs lines in order, and keeps those that are accepted in the text. @param {string[]} texts */
+        say: (texts) => inTurn(() => {
+            stations.stopAt(lines.length, telling);
+            return perform(given(texts), (line, told) => {
+                write(line, told);
+                count(null);
+            });
+        }),
+
+        /** The same answers, and nothing is kept. @param {string[]} texts */
+        ask: (texts) => inTurn(async () => {
+            const before = telling.keep();
+            const heard = await perform(given(texts), () => {});
+            telling.goBack(before);
+            return heard;
+        }),
+
+        /**
+         * Takes back what was done last: the last line of the text, or a what-if that was adopted. Answers the line that
+         * is gone; null where there is none.
+         * @returns {Promise<string | null>}
+         */
+        undo: () => inTurn(async () => {
+            const at = lines.findLastIndex(({ line }) => isAnswered(line.text));
+            if (at < 0) return null;
+            const what = done.pop() ?? null;
+            if (unsaved.done > 0) unsaved.done -= 1;
+            else unsaved.undone += 1;
+            if (what !== null) {
+                const gone = lines[what.at].line.text;
+                await replace(what.at, what.was);
+                return gone;
+            }
+            const [gone] = await cutTo(at);
+            return gone.line.text;
+        }),
+
+        get canUndo() {
+            return paper.sheet.lines > 0;
+        },
+
+        /** The last accepted evaluation of a security, or null. @param {number} id */
+        lastEvaluation: (id) => lastEvaluation(id)?.text ?? null,
+
+        /** The last accepted evaluation as it was, and with a line in its place. @param {number} id @param {string} line */
+        whatIf: (id, line) => inTurn(() => asked(id, line)),
+
+        /**
+         * Keeps a what-if, and performs the lines behind it anew. A refused line changes nothing.
+         * @param {number} id
+         * @param {string} line
+         * @returns {Promise<Heard[]>} the line's, and those of the lines behind it
+         */
+        adopt: (id, line) => inTurn(async () => {
+            const { after } = await asked(id, line);
+            if (!after.accepted) return [after];
+            const { number, text: was } = /** @type {{ number: number, text: string }} */ (lastEvaluation(id));
+            const heard = await replace(number - 1, line);
+            count({ at: number - 1, was });
+            return heard;
+        }),
+
+        /** The messages of the text. @returns {Promise<Uint8Array>} */
+        broadcast: () => inTurn(() => programs.run('broadcast', bytesOf(text()))),
+
+        /**
+         * The rows of every security in the exchange's text, as the end of an evaluation has them.
+         * @param {Uint8Array} bytes
+         * @returns {Promise<{ rows: Map<number, string> } | { refused: import('./refusals.mjs').Refused }>}
+         */
+        async exchange(bytes) {
+            const breathe = makeBreath();
+            const ids = idsOf(textOf(bytes));
+            const rows = new Map();
+            for (const id of ids.length === 0 ? ['1'] : ids) { // a text without an id may be bad all the same
+                const [answer] = linesOf(await programs.run('exchange', bytes, [id]));
+                const refused = refusedOf(answer);
+                if (refused !== undefined) return { refused };
+                const [, many, ...words] = answer.split(' ');
+                if (many !== '0') rows.set(Number(id), words.join(' '));
+                await breathe();
+            }
+            return { rows };
+        },
+
+        /** How many lines were said, undone or adopted since the text was opened or saved. */
+        get unsaved() {
+            return unsaved.done + unsaved.undone;
+        },
+
+        saved() {
+            unsaved = { done: 0, undone: 0 };
+        },
+    };
+}
