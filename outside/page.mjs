@@ -1,7 +1,8 @@
 // Puts the page into one file: the style, the modules from page/view-main.mjs on, the programs and the examples.
 //   node outside/page.mjs FOLDER VERSION PAGE
-// FOLDER is an unpacked release of WebAssembly. A page that is opened from a folder cannot load modules, so each
-// becomes a function that hands out what it exports, behind the functions of those that it imports.
+// FOLDER has the programs as WebAssembly, `evening` and `why` made to wait for a line. A page that is opened from a
+// folder cannot load modules, so each becomes a function that hands out what it exports, behind the functions of those
+// that it imports.
 // Status 1 says that a source is none that can be put so.
 import { createHash } from 'node:crypto';
 import fs from 'node:fs';
