@@ -41,10 +41,10 @@ export function makeDesk(programs) {
     /** @type {Awaited<ReturnType<typeof startTelling>>} */
     let telling;
     let paper = makeEveningSheet();
-    /** Every line of the text, blank ones too. @type {Line[]} */
+    /** @type {Line[]} Every line of the text, blank ones too. */
     let lines = [];
     let stations = makeStations();
-    /** What was done since the text was opened, the last at the end: a line said is null. @type {(Adopted | null)[]} */
+    /** @type {(Adopted | null)[]} What was done since the text was opened, the last at the end: a line said is null. */
     let done = [];
     /** How much was done since the text was saved, and how much of what was saved is undone. */
     let unsaved = { done: 0, undone: 0 };
@@ -55,7 +55,11 @@ export function makeDesk(programs) {
     /** @type {Promise<unknown>} */
     let last = begin();
 
-    /** @template Result @param {() => Result | Promise<Result>} work @returns {Promise<Result>} */
+    /**
+     * @template Result
+     * @param {() => Result | Promise<Result>} work
+     * @returns {Promise<Result>}
+     */
     function inTurn(work) {
         const next = last.then(work);
         last = next.catch(() => {});
@@ -92,7 +96,7 @@ export function makeDesk(programs) {
         }
     }
 
-    /** All as it was behind so many lines; answers those that stood there. */
+    /** All as it was behind so many lines; the answer is the lines that stood there. */
     async function cutTo(/** @type {number} */ count) {
         const cut = lines.splice(count);
         paper.forget(cut.filter(({ line }) => isAnswered(line.text)));
@@ -143,8 +147,13 @@ export function makeDesk(programs) {
 
     const given = (/** @type {string[]} */ texts) => texts.flatMap((text) => text.split('\n')).filter(isAnswered);
 
-    /** Puts a line in place of another, and performs those behind it anew. @returns {Promise<Heard[]>} */
-    async function replace(/** @type {number} */ at, /** @type {string} */ text) {
+    /**
+     * Puts a line in place of another, and performs those behind it anew.
+     * @param {number} at
+     * @param {string} text
+     * @returns {Promise<Heard[]>}
+     */
+    async function replace(at, text) {
         const [, ...behind] = await cutTo(at);
         await read([text, ...behind.map(({ line }) => line.text)]);
         return lines.slice(at).filter(({ line }) => isAnswered(line.text)).map((one) => heardOf(one.line.text, one));
@@ -169,8 +178,8 @@ export function makeDesk(programs) {
     }
 
     return {
-        /** Begins with a text of lines. Nothing is unsaved behind it. @param {Uint8Array} bytes */
-        open: (bytes) => inTurn(async () => {
+        /** Begins with a text of lines. Nothing is unsaved behind it. */
+        open: (/** @type {Uint8Array} */ bytes) => inTurn(async () => {
             await begin();
             await read(partsOf(textOf(bytes)));
         }),
@@ -183,8 +192,8 @@ export function makeDesk(programs) {
         /** The text: a character a byte, each line ended by a line feed. */
         text,
 
-        /** Performs lines in order, and keeps those that are accepted in the text. @param {string[]} texts */
-        say: (texts) => inTurn(() => {
+        /** Performs lines in order, and keeps those that are accepted in the text. */
+        say: (/** @type {string[]} */ texts) => inTurn(() => {
             stations.stopAt(lines.length, telling);
             return perform(given(texts), (line, told) => {
                 write(line, told);
@@ -192,8 +201,8 @@ export function makeDesk(programs) {
             });
         }),
 
-        /** The same answers, and nothing is kept. @param {string[]} texts */
-        ask: (texts) => inTurn(async () => {
+        /** The same answers, and nothing is kept. */
+        ask: (/** @type {string[]} */ texts) => inTurn(async () => {
             const before = telling.keep();
             const heard = await perform(given(texts), () => {});
             telling.goBack(before);
@@ -201,12 +210,13 @@ export function makeDesk(programs) {
         }),
 
         /**
-         * Takes back what was done last: the last line of the text, or a what-if that was adopted. Answers the line that
-         * is gone; null where there is none.
+         * Takes back what was done last: the last line of the text, or a what-if that was adopted. The answer is the
+         * line that is gone; null where there is none.
          * @returns {Promise<string | null>}
          */
         undo: () => inTurn(async () => {
-            const at = lines.findLastIndex(({ line }) => isAnswered(line.text));
+            let at = lines.length - 1;
+            while (at >= 0 && !isAnswered(lines[at].line.text)) at -= 1;
             if (at < 0) return null;
             const what = done.pop() ?? null;
             if (unsaved.done > 0) unsaved.done -= 1;
@@ -224,11 +234,11 @@ export function makeDesk(programs) {
             return paper.sheet.lines > 0;
         },
 
-        /** The last accepted evaluation of a security, or null. @param {number} id */
-        lastEvaluation: (id) => lastEvaluation(id)?.text ?? null,
+        /** The last accepted evaluation of a security, or null. */
+        lastEvaluation: (/** @type {number} */ id) => lastEvaluation(id)?.text ?? null,
 
-        /** The last accepted evaluation as it was, and with a line in its place. @param {number} id @param {string} line */
-        whatIf: (id, line) => inTurn(() => asked(id, line)),
+        /** The last accepted evaluation as it was, and with a line in its place. */
+        whatIf: (/** @type {number} */ id, /** @type {string} */ line) => inTurn(() => asked(id, line)),
 
         /**
          * Keeps a what-if, and performs the lines behind it anew. A refused line changes nothing.
@@ -256,6 +266,7 @@ export function makeDesk(programs) {
         async exchange(bytes) {
             const breathe = makeBreath();
             const ids = idsOf(textOf(bytes));
+            /** @type {Map<number, string>} */
             const rows = new Map();
             for (const id of ids.length === 0 ? ['1'] : ids) { // a text without an id may be bad all the same
                 const [answer] = linesOf(await programs.run('exchange', bytes, [id]));

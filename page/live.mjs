@@ -1,8 +1,8 @@
-// A program that waits in `read` for its next line, so that an evening need not be run anew for each line that is typed.
-// Its module was made by `wasm-opt --asyncify` (outside/page): where no byte is left, `read` has the program store its
-// calls and its locals in the memory and return; the next line has it called again, and it goes on where it waited.
+// A program that waits in `read` for its next line, so that an evening is not run anew for each line that is typed. Its
+// module was made by `wasm-opt --asyncify` (outside/page): where no byte is left, `read` has the program store its
+// calls and locals in the memory and return; with the next line it is called again, and goes on where it waited.
 // Between lines all that the program knows stands in its memory, which can be kept and put back.
-import { joined, textOf } from './programs.mjs';
+import { textOf } from './programs.mjs';
 
 const PAGE = 65536;
 const REWINDING = 2; // what asyncify_get_state answers while the program returns to where it waited
@@ -28,6 +28,29 @@ function firstUsed(/** @type {ArrayBuffer} */ buffer) {
     return at * words.BYTES_PER_ELEMENT;
 }
 
+/** Gathers what a program writes: many small pieces, for which no array each is made. */
+function makeGatherer() {
+    let gathered = new Uint8Array(PAGE);
+    let length = 0;
+    return {
+        add(/** @type {Uint8Array} */ memory, /** @type {number} */ address, /** @type {number} */ count) {
+            if (length + count > gathered.length) {
+                const wider = new Uint8Array(2 * (length + count));
+                wider.set(gathered);
+                gathered = wider;
+            }
+            for (let at = 0; at < count; at += 1) gathered[length + at] = memory[address + at];
+            length += count;
+        },
+        /** All of it as text, and from here on what comes then. */
+        take() {
+            const text = textOf(gathered.subarray(0, length));
+            length = 0;
+            return text;
+        },
+    };
+}
+
 /**
  * Starts a program, which then waits for its first line.
  * @param {WebAssembly.Module} module
@@ -35,9 +58,8 @@ function firstUsed(/** @type {ArrayBuffer} */ buffer) {
  */
 export async function startLive(module) {
     let input = NOTHING;
-    /** @type {Uint8Array[]} */
-    let answers = [];
-    let said = '';
+    const answers = makeGatherer();
+    const said = makeGatherer();
     let waits = false;
     /** @type {number | undefined} Where the bytes are wanted. It lies on the stack, so it tells the stack's height. */
     let wantedAt;
@@ -45,23 +67,21 @@ export async function startLive(module) {
         read: (/** @type {number} */ _from, /** @type {number} */ address, /** @type {bigint} */ length) => {
             if (program.asyncify_get_state() === REWINDING) program.asyncify_stop_rewind();
             if (input.length === 0) {
-                // The stack's height is in a global, which no memory has: it has to be the same wherever the program waits.
-                if (wantedAt !== undefined && wantedAt !== address) throw new Error('the program waits at another place');
-                wantedAt = address;
+                // The stack's height is a global, which is not in the memory: it has to be the same at each wait.
+                wantedAt ??= address;
+                if (wantedAt !== address) throw new Error('the program waits at another place');
                 waits = true;
                 new Int32Array(memory.buffer, room, 2).set([room + 8, room + PAGE]);
                 program.asyncify_start_unwind(room);
                 return 0n;
             }
             const some = input.subarray(0, Number(length));
-            new Uint8Array(memory.buffer, address, some.length).set(some);
+            whole.set(some, address);
             input = input.subarray(some.length);
             return BigInt(some.length);
         },
         write: (/** @type {number} */ to, /** @type {number} */ address, /** @type {bigint} */ length) => {
-            const some = new Uint8Array(memory.buffer, address, Number(length)).slice();
-            if (to === STANDARD_ERROR) said += textOf(some);
-            else answers.push(some);
+            (to === STANDARD_ERROR ? said : answers).add(whole, address, Number(length));
             return length;
         },
     };
@@ -69,11 +89,12 @@ export async function startLive(module) {
     /** @type {WebAssembly.Memory} */
     const memory = program.memory;
     const room = memory.grow(1) * PAGE; // behind all that the program knows of
+    const whole = new Uint8Array(memory.buffer); // it does not grow again
 
     function goOn() {
         waits = false;
         program.main();
-        if (!waits || said !== '') throw new Error(`the program ended: ${said.trim()}`);
+        if (!waits) throw new Error(`the program ended: ${said.take().trim()}`);
         program.asyncify_stop_unwind();
     }
     goOn();
@@ -81,20 +102,18 @@ export async function startLive(module) {
     return {
         hear(bytes) {
             input = bytes;
-            answers = [];
             program.asyncify_start_rewind(room);
             goOn();
-            return textOf(joined(answers));
+            return answers.take();
         },
         keep(old) {
             const from = firstUsed(memory.buffer);
-            const used = new Uint8Array(memory.buffer, from);
+            const used = whole.subarray(from);
             if (old?.bytes.length !== used.length) return { from, bytes: used.slice() };
             old.bytes.set(used);
             return { from, bytes: old.bytes };
         },
         goBack({ from, bytes }) {
-            const whole = new Uint8Array(memory.buffer);
             whole.fill(0, 0, from);
             whole.set(bytes, from);
         },

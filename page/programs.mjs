@@ -45,18 +45,26 @@ export function joined(pieces) {
     return whole;
 }
 
-const ASCII_MOST = 127;
 const CHARACTERS_AT_ONCE = 1024;
-const ascii = new TextDecoder();
+const decoder = new TextDecoder('utf-8', { fatal: true });
+
+/** Bytes below 128 as text; null where there are others. Where all are below, each is a character, and only then. */
+function plainTextOf(bytes) {
+    try {
+        const text = decoder.decode(bytes);
+        return text.length === bytes.length ? text : null;
+    } catch {
+        return null;
+    }
+}
 
 /** Bytes as text, a character a byte, so that no byte is lost or joined with another. */
 export function textOf(bytes) {
-    let at = 0;
-    while (at < bytes.length && bytes[at] <= ASCII_MOST) at += 1;
-    if (at === bytes.length) return ascii.decode(bytes);
+    const plain = plainTextOf(bytes);
+    if (plain !== null) return plain;
     // No decoder leaves all bytes as they are: what a browser calls latin1 is another code.
     let text = '';
-    for (at = 0; at < bytes.length; at += CHARACTERS_AT_ONCE) {
+    for (let at = 0; at < bytes.length; at += CHARACTERS_AT_ONCE) {
         text += String.fromCharCode(...bytes.subarray(at, at + CHARACTERS_AT_ONCE));
     }
     return text;
@@ -85,7 +93,8 @@ export function linesOf(bytes) {
  */
 export function makePrograms(modules) {
     const compiled = new Map();
-    const compile = async (name) => {
+    /** @returns {Promise<WebAssembly.Module>} */
+    const compile = async (/** @type {string} */ name) => {
         if (!(name in modules)) throw new Error(`there is no program '${name}'`);
         if (!compiled.has(name)) compiled.set(name, WebAssembly.compile(modules[name]));
         return compiled.get(name);
@@ -102,11 +111,11 @@ export function makePrograms(modules) {
             const host = hostOf(input, [name, ...words]);
             const instance = await WebAssembly.instantiate(await compile(name), { env: host.env });
             host.memory = instance.exports.memory;
-            instance.exports.main();
+            /** @type {any} */ (instance.exports).main();
             if (host.said !== '') throw new Error(`${name}: ${host.said.trim()}`);
             return joined(host.answers);
         },
-        /** The module of a program, compiled once. @param {string} name @returns {Promise<WebAssembly.Module>} */
-        compiled: (name) => compile(name),
+        /** The module of a program, compiled once. */
+        compiled: compile,
     };
 }

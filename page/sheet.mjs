@@ -1,6 +1,6 @@
 // The sheet: the securities of an evening's text with its answers, or of a broadcast's messages, each with its days and
 // what happened to it. It gathers and compares what the programs printed, and works out no figure of theirs.
-import { RECORD_CALLS, admissionOf, answerOf, dayOf, heardOf, reasonsOf } from './answers.mjs';
+import { RECORD_CALLS, admissionOf, answerOf, briefOf, dayOf, heardOf, reasonsOf } from './answers.mjs';
 import { plain } from './figures.mjs';
 import { inWords, placeOf } from './refusals.mjs';
 import { exactMove, hiddenByRounding } from './why.mjs';
@@ -34,8 +34,8 @@ export function answeredLines(text) {
 export const firstWord = (line) => /[^ \t\r]+/.exec(line)?.[0] ?? '';
 
 /**
- * A security with its days and what happened to it. What a line brings is kept as it was answered, and opened when it is
- * looked at: of a year of days few are.
+ * A security with its days and what happened to it. What a line brings is kept as it was answered, and opened when it
+ * is looked at: of a year of days few are.
  */
 class Security {
     #latest = null;
@@ -44,12 +44,11 @@ class Security {
     #hidden = [];
     #looked = 0;
 
-    /** @param {number} id @param {object|null} statics */
-    constructor(id, statics) {
+    constructor(/** @type {number} */ id, /** @type {Object<string, number>|null} */ statics) {
         this.id = id;
         /** By the names of an admission; null where no message brought them. */
         this.statics = statics;
-        /** One for each accepted evaluation, oldest first; `dayAt` opens one. */
+        /** @type {any[]} One for each accepted evaluation, oldest first; `dayAt` opens one. */
         this.days = [];
     }
 
@@ -83,7 +82,8 @@ class Security {
 }
 
 /** @returns {Sheet} */
-const emptySheet = (source) => ({ source, securities: [], refusals: [], unknown: [], damage: null, lines: 0 });
+const emptySheet = (/** @type {'evening'|'broadcast'} */ source) => (
+    { source, securities: [], refusals: [], unknown: [], damage: null, lines: 0 });
 
 /**
  * @typedef {object} Sheet
@@ -104,7 +104,7 @@ const emptySheet = (source) => ({ source, securities: [], refusals: [], unknown:
 export function makeEveningSheet() {
     const sheet = emptySheet('evening');
     const byId = new Map();
-    /** The accepted interest lines, which evaluations of any security may look at. @type {Line[]} */
+    /** @type {Line[]} The accepted interest lines, which evaluations of any security may look at. */
     const interests = [];
 
     /** Which security a line that was accepted is of; undefined for an interest or a bond line. */
@@ -114,7 +114,7 @@ export function makeEveningSheet() {
     }
 
     /** Accepted lines of a security; its admission is the first of them. */
-    function hearOwn(own, heard) {
+    function hearOwn(own, /** @type {Line} */ heard) {
         const call = firstWord(heard.line.text);
         if (call === 'admit') own.security = new Security(own.id, admissionOf(heard.line.text));
         own.lines.push(heard);
@@ -152,11 +152,19 @@ export function makeEveningSheet() {
         sheet,
         hear,
         interests,
-        /** The accepted lines of a security, its admission first. @returns {Line[]} */
+        /**
+         * The accepted lines of a security, its admission first.
+         * @param {number} id
+         * @returns {Line[]}
+         */
         linesOf: (id) => byId.get(id)?.lines ?? [],
+        /**
+         * @param {number} id
+         * @returns {Security | null}
+         */
         securityOf: (id) => byId.get(id)?.security ?? null,
-        /** Takes back the last lines that were heard. @param {Line[]} last in the order of the text */
-        forget(last) {
+        /** Takes back the last lines that were heard, which are in the order of the text. */
+        forget(/** @type {Line[]} */ last) {
             const left = new Map();
             for (const heard of last) {
                 sheet.lines -= 1;
@@ -256,7 +264,10 @@ function hearMessage(security, message) {
     }
 }
 
-/** The record at admission, as far as an evaluation looks at it: the rates start at their minima, the age at 0. */
+/**
+ * The record at admission, as far as an evaluation looks at it: the rates start at their minima, the age at 0.
+ * @param {Object<string, any>} statics
+ */
 function admitted({ p1, p2, s, tentative, min1, min2, min3 }) {
     return { p1, p2, s, tentative, age: 0, s1: min1, s2: min2, s3: min3 };
 }
@@ -278,12 +289,22 @@ export function dayAt(security, at) {
     return { record, before, reasons, statics, b, m, move, line: days[at].line?.number ?? null };
 }
 
-/** Whether a day had a move that rounding would have hidden. Only a day with the upward weight is opened, to be quick. */
+/** What the mark looks at on a day of an evening; null where no reason could have it. */
+function briefDay({ days, statics }, at) {
+    const { why, answer } = days[at];
+    const weight = why.includes(' weight up ') ? 'up' : '';
+    const replacement = why.includes(' replacement yes ') ? 'yes' : '';
+    if (weight === '' && replacement === '') return null;
+    const before = at > 0 ? briefOf(days[at - 1].answer) : admitted(statics);
+    const move = exactMove(briefOf(answer).p1, [before.p1, before.p2]);
+    return { move, before, reasons: { weight, replacement }, statics };
+}
+
+/** Whether a day had a move that rounding would have hidden. */
 function isHidden(security, at) {
-    const { why } = security.days[at];
-    if (why !== undefined && !why.includes(' weight up ') && !why.includes(' replacement yes ')) return false;
-    const hidden = hiddenByRounding(dayAt(security, at));
-    return hidden.volatility || hidden.rate;
+    const day = security.days[at].why === undefined ? dayAt(security, at) : briefDay(security, at);
+    const hidden = day === null ? null : hiddenByRounding(day);
+    return hidden !== null && (hidden.volatility || hidden.rate);
 }
 
 function happenedTo(security) {
@@ -359,10 +380,11 @@ export function chosen(securities, { id = '', happened = '', key = 'id', descend
         .filter((one) => String(one.id).includes(id.trim()) && (happened === '' || has(one)))
         .map((security) => ({ security, figure: of(security) }))
         .sort((one, other) => {
+            const byId = one.security.id - other.security.id;
             if (one.figure === null || other.figure === null) {
-                return (one.figure === null) - (other.figure === null) || one.security.id - other.security.id;
+                return Number(one.figure === null) - Number(other.figure === null) || byId;
             }
-            return sign * (one.figure - other.figure) || one.security.id - other.security.id;
+            return sign * (one.figure - other.figure) || byId;
         })
         .map(({ security }) => security);
 }

@@ -12,12 +12,19 @@ import { isAnswered } from './sheet.mjs';
 /** The lines that a program answered: each is ended by a line feed. */
 const linesOf = (/** @type {string} */ text) => text.split('\n').slice(0, -1);
 
-/** Starts both, with an empty table. @param {{ compiled: (name: string) => Promise<WebAssembly.Module> }} programs */
+/**
+ * Starts both, with an empty table.
+ * @param {{ compiled: (name: string) => Promise<WebAssembly.Module> }} programs
+ */
 export async function startTelling(programs) {
     const evening = await startLive(await programs.compiled('evening'));
     const why = await startLive(await programs.compiled('why'));
     return {
-        /** Tells both some lines, without the line feeds that end them. @param {string[]} lines @returns {Told[]} */
+        /**
+         * Tells both some lines, without the line feeds that end them.
+         * @param {string[]} lines
+         * @returns {Told[]}
+         */
         hear(lines) {
             const bytes = bytesOf(lines.map((line) => `${line}\n`).join(''));
             const answers = linesOf(evening.hear(bytes));
@@ -33,7 +40,11 @@ export async function startTelling(programs) {
             }
             return told;
         },
-        /** @param {Known} [old] one that is no more wanted, for its room @returns {Known} */
+        /**
+         * What both know.
+         * @param {Known} [old] one that is no more wanted, for its room
+         * @returns {Known}
+         */
         keep: (old) => ({ evening: evening.keep(old?.evening), why: why.keep(old?.why) }),
         goBack(/** @type {Known} */ known) {
             evening.goBack(known.evening);

@@ -1,5 +1,5 @@
-// What would be if another line stood in place of a security's last evaluation: the programs are told the security's own
-// lines up to there and the interest lines among them, which is all that an evaluation looks at, and then that line.
+// What would be if another line stood in place of a security's last evaluation: the programs are told the security's
+// own lines up to there and the interest lines among them, which is all that an evaluation looks at, and then this one.
 import { wordsOf } from './answers.mjs';
 import { heardOf } from './heard.mjs';
 import { dayAt, makeEveningSheet } from './sheet.mjs';
@@ -8,6 +8,7 @@ import { startTelling } from './telling.mjs';
 /**
  * @typedef {import('./heard.mjs').Heard} Heard
  * @typedef {ReturnType<typeof dayAt>} Day
+ * @typedef {Awaited<ReturnType<typeof startTelling>>} Telling
  * @typedef {object} Compared
  * @property {Heard} before
  * @property {Heard} after
@@ -22,7 +23,7 @@ export function isEvaluationOf(/** @type {number} */ id, /** @type {string} */ l
 
 /** @param {{ compiled: (name: string) => Promise<WebAssembly.Module> }} programs */
 export function makeWhatIf(programs) {
-    /** @type {{ telling: Awaited<ReturnType<typeof startTelling>>, empty: import('./telling.mjs').Known } | undefined} */
+    /** @type {{ telling: Telling, empty: import('./telling.mjs').Known } | undefined} */
     let aside;
 
     /** Programs of their own, with an empty table. */

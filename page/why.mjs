@@ -5,10 +5,14 @@ const MILLION = 1000000n;
 const BP_IN_MILLIONTHS = 100n;
 
 /**
+ * @typedef {{over: bigint, under: bigint, from: number}} Move  Millionths as a fraction, and the evaluation moved from.
+ */
+
+/**
  * The exact move in millionths, as a fraction: the greater of those from the two earlier evaluations (7.1).
  * @param {number} price the evaluation
  * @param {number[]} earlier the earlier evaluations
- * @returns {{over: bigint, under: bigint, from: number} | null}
+ * @returns {Move | null}
  */
 export function exactMove(price, earlier) {
     let greatest = null;
@@ -36,7 +40,8 @@ const hides = (move, millionths) => isAbove(move, millionths) && !isAboveWhenRou
 /**
  * Whether rounding the move to the nearest millionth first would have hidden it: from the volatility before, which
  * chooses the weight, or from the last rate of level 1, which lets the replacement in.
- * @param {{move: object|null, before: {s: number, s1: number|null}, reasons: object|null, statics: object|null}} day
+ * @param {{move: Move|null, before: Object<string, any>|null, reasons: Object<string, any>|null,
+ *     statics: Object<string, any>|null}} day
  * @returns {{volatility: boolean, rate: boolean}}
  */
 export function hiddenByRounding({ move, before, reasons, statics }) {
@@ -64,7 +69,12 @@ const PRICE = {
     yesterday: (price) => `No row has a trade: the price is the last evaluation, ${price} roubles.`,
 };
 
-function moveSentence(day, figures) {
+/**
+ * @typedef {Object<string, any> & {move: Move|null}} Day  What `dayAt` of sheet.mjs gives.
+ * @typedef {ReturnType<typeof import('./figures.mjs').makeFigures>} Figures
+ */
+
+function moveSentence(/** @type {Day} */ day, /** @type {Figures} */ figures) {
     const { move, record, before, reasons, statics, b } = day;
     const s = figures.whole(before.s);
     const dots = move.over % move.under === 0n ? '' : ` (${figures.places(move)})`;
