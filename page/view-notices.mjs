@@ -38,9 +38,12 @@ function refusedOf(refusals, figures) {
 }
 
 /** Shows what a sheet has of refusals; a sheet without any has an empty room. */
-export function showNotices(room, sheet, figures) {
+export function showNotices(room, sheet, figures, isNew = false) {
+    const empty = isNew
+        ? 'The evening has no security yet: admit one, or open a file of admissions.'
+        : 'No security stands in this file.';
     room.replaceChildren(...[
-        sheet.securities.length === 0 && el('div', { class: 'card' }, el('p', {}, 'No security stands in this file.')),
+        sheet.securities.length === 0 && el('div', { class: 'card' }, el('p', {}, empty)),
         sheet.damage && damageOf(sheet.damage, figures),
         sheet.unknown.length > 0 && unknownOf(sheet.unknown, figures),
         sheet.refusals.length > 0 && refusedOf(sheet.refusals, figures),

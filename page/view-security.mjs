@@ -26,23 +26,38 @@ const STATICS = [
     ['eveningmax', 'most moves of an evening', 'whole'], ['useexternal', 'outside prices used', 'yes'],
 ];
 
-function timeOf(second) {
+/** A second of the day as a time. */
+export function timeOf(second) {
     const two = (number) => String(number).padStart(2, '0');
     return `${two(Math.floor(second / 3600))}:${two(Math.floor(second / 60) % 60)}:${two(second % 60)}`;
 }
 
 const nearSince = (second) => (second === undefined ? '–' : second < 0 ? 'no' : `since ${timeOf(second)}`);
 
-function cards(record, figures) {
+/** An outside price; a broadcast has none. */
+export function outsideOf(units, figures) {
+    return units === undefined ? '–' : units === 0 ? 'none' : figures.roubles(units);
+}
+
+/** The evaluation, large, with its change. */
+export function priceOf(record, figures) {
+    const away = record.p2 ? Math.sign(record.p1 - record.p2) : 0;
+    return el('p', { class: 'big' }, `${figures.roubles(record.p1)} `, el('small', { class: 'dim' }, 'roubles '),
+        el('small', { class: away > 0 ? 'up' : away < 0 ? 'down' : 'dim' }, figures.change(record.p1, record.p2)));
+}
+
+/** The rates, the tentative rate and the volatility of a record. */
+export function cards(record, figures) {
     const card = (name, figure, small = '') =>
         el('div', {}, el('dt', {}, name), el('dd', {}, figure, small && el('div', { class: 'small dim' }, small)));
     return el('dl', { class: 'cards' },
         ...[1, 2, 3].map((level) => card(`rate ${level}`, figures.perCent(record[`s${level}`]))),
-        card('tentative', figures.perCent(record.tentative), `for ${figures.whole(record.age)} days`),
+        card('tentative', figures.perCent(record.tentative), `for ${figures.whole(record.age)} ${record.age === 1 ? 'day' : 'days'}`),
         card('volatility', figures.volatility(record.s), `${figures.whole(record.s)} millionths`));
 }
 
-function limitsOf(record, figures) {
+/** The ranges and the bands of a record, as tables. */
+export function limitsOf(record, figures) {
     const prices = COLUMNS.filter((column) => column.as === 'price').map((column) => record[column.key] ?? 0);
     const places = placesOf(prices);
     const roubles = (units) => figures.roubles(units, places);
@@ -60,7 +75,6 @@ function limitsOf(record, figures) {
 
 function todayOf(record, figures) {
     const isHeard = record.session === undefined;
-    const outside = (units) => (units === undefined ? '–' : units === 0 ? 'none' : figures.roubles(units));
     const rows = [
         ['Session', sessionOf(record.session)],
         ['Moves since the evaluation, upper', figures.whole(record.movesUpper)],
@@ -71,7 +85,7 @@ function todayOf(record, figures) {
             `Quotes near the limits of term ${term}`,
             `top ${nearSince(record[`nearTop_${term}`])}, bottom ${nearSince(record[`nearBottom_${term}`])}`,
         ]),
-        ['Outside bid and ask', `${outside(record.extBid)}, ${outside(record.extAsk)}`],
+        ['Outside bid and ask', `${outsideOf(record.extBid, figures)}, ${outsideOf(record.extAsk, figures)}`],
     ];
     return el('details', {}, el('summary', {}, 'Session, moves and quotes'),
         el('div', { class: 'scroll' }, table('Session, moves and quotes', [{ words: 'what' }, 'figure'],
@@ -160,11 +174,9 @@ export function showSecurity(room, security, figures, at = security.days.length 
         showSecurity(room, security, figures, which);
         room.querySelector(`[aria-label="${name}"]`)?.focus();
     };
-    const away = record.p2 ? Math.sign(record.p1 - record.p2) : 0;
     room.replaceChildren(
         head(...(isLast ? badges(security) : []), dayChooser(records, security.hidden, at, figures, show)),
-        el('p', { class: 'big' }, `${figures.roubles(record.p1)} `, el('small', { class: 'dim' }, 'roubles '),
-            el('small', { class: away > 0 ? 'up' : away < 0 ? 'down' : 'dim' }, figures.change(record.p1, record.p2))),
+        priceOf(record, figures),
         cards(record, figures),
         el('h3', {}, `Why, on day ${figures.whole(record.day)}`),
         ...whyOf(security, at, figures),
