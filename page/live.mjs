@@ -16,7 +16,7 @@ const NOTHING = new Uint8Array(0);
  *
  * @typedef {object} Live
  * @property {(bytes: Uint8Array) => string} hear  What the program answers to more of its input, a character a byte.
- * @property {(old?: Kept) => Kept} keep  Its memory as it is; the room of one that is no more wanted may be given.
+ * @property {(old?: Kept) => Kept} keep  Its memory between two lines; the room of one no more wanted may be given.
  * @property {(kept: Kept) => void} goBack  Puts a memory back: the program knows what it knew then.
  */
 
@@ -61,15 +61,12 @@ export async function startLive(module) {
     const answers = makeGatherer();
     const said = makeGatherer();
     let waits = false;
-    /** @type {number | undefined} Where the bytes are wanted. It lies on the stack, so it tells the stack's height. */
-    let wantedAt;
+    let wantedAt = 0;
     const env = {
         read: (/** @type {number} */ _from, /** @type {number} */ address, /** @type {bigint} */ length) => {
             if (program.asyncify_get_state() === REWINDING) program.asyncify_stop_rewind();
             if (input.length === 0) {
-                // The stack's height is a global, which is not in the memory: it has to be the same at each wait.
-                wantedAt ??= address;
-                if (wantedAt !== address) throw new Error('the program waits at another place');
+                wantedAt = address;
                 waits = true;
                 new Int32Array(memory.buffer, room, 2).set([room + 8, room + PAGE]);
                 program.asyncify_start_unwind(room);
@@ -98,6 +95,15 @@ export async function startLive(module) {
         program.asyncify_stop_unwind();
     }
     goOn();
+    const firstWantedAt = wantedAt;
+
+    /**
+     * The height of the program's stack is no part of its memory, so it has to be the same wherever one is kept or put
+     * back. The place where bytes are wanted lies on the stack, and tells: between two lines it is the first one.
+     */
+    function mustWaitForALine() {
+        if (wantedAt !== firstWantedAt) throw new Error('the program is in the middle of a line');
+    }
 
     return {
         hear(bytes) {
@@ -107,6 +113,7 @@ export async function startLive(module) {
             return answers.take();
         },
         keep(old) {
+            mustWaitForALine();
             const from = firstUsed(memory.buffer);
             const used = whole.subarray(from);
             if (old?.bytes.length !== used.length) return { from, bytes: used.slice() };
@@ -114,6 +121,7 @@ export async function startLive(module) {
             return { from, bytes: old.bytes };
         },
         goBack({ from, bytes }) {
+            mustWaitForALine();
             whole.fill(0, 0, from);
             whole.set(bytes, from);
         },

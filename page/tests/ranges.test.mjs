@@ -5,6 +5,7 @@ import { test } from 'node:test';
 import { wordOf } from '../fields.mjs';
 import { formOf, lineOf } from '../lines.mjs';
 import { answersTo } from './ask.mjs';
+import { chance } from './evenings.mjs';
 
 const Z = '10 100 300 1000 500 5 2 5 8 50 500 700 900 4000 200 25 2000 2000 1000 60 1 1 120 1 2 0';
 const before = [`admit 7 3 1000000 1000000 20000 600 ${Z}`, 'evaluate 7 4 0 0 0 0 0 0 0 0 0 0 0'];
@@ -23,15 +24,6 @@ const good = {
 };
 const JUDGED_BY_FORM = { admit: ['4'], evaluate: ['6', '16'], interest: ['6', '14'], bond: ['6', '17'] };
 const judgedByForm = (word) => JUDGED_BY_FORM[word] ?? ['6', '20'];
-
-/** Numbers at random that are the same at each run. */
-function chance(seed) {
-    let state = seed;
-    return (below) => {
-        state = (state * 1103515245 + 12345) % 2147483648;
-        return Math.floor((state / 2147483648) * below);
-    };
-}
 
 /** A number of a field at an end of its range, one past it, near what it was, or anywhere. */
 function another(field, was, next) {
