@@ -118,10 +118,10 @@ export function placeIn(/** @type {import('./refusals.mjs').Refused} */ { row, t
 }
 
 /** A refusal in one sentence. */
-export function refusalIn(/** @type {import('./refusals.mjs').Refused} */ refused) {
-    const number = refused.number === undefined ? 'No call' : `Refused (${refused.number})`;
+export function refusalIn(/** @type {NonNullable<Heard['refused']>} */ refused) {
+    if (refused.number === undefined) return `Refused: ${refused.detail ?? `${refused.text}.`}`;
     const place = placeIn(refused);
-    return `${number}: ${refused.text}${place === '' ? '' : `, in ${place}`}.`;
+    return `Refused (${refused.number}): ${refused.text}${place === '' ? '' : `, in ${place}`}.`;
 }
 
 const upper = (/** @type {string} */ words) => words[0].toUpperCase() + words.slice(1);

@@ -90,10 +90,11 @@ export function makeExchange(room, work) {
         const bytes = file ?? new TextEncoder().encode(endedText(text.value));
         const made = await desk.exchange(bytes);
         if (made.refused) {
-            const { line, text: words, todo } = made.refused;
+            const { number, line, todo } = made.refused;
             forget();
-            const place = line === 0 ? 'The text is too long' : `Line ${figures.whole(line)}`;
-            status.textContent = `Refused (15): ${place}: ${words}. What to do: ${todo}.`;
+            const words = line === 0 ? 'the exchange’s text has more than 65,536 bytes'
+                : `line ${figures.whole(line)} of the exchange’s text is bad`;
+            status.textContent = `Refused (${number}): ${words}. What to do: ${todo}.`;
             status.dataset.line = String(line);
             markLine(line);
             return;

@@ -75,7 +75,8 @@ export function makeControl(field, { id, typing, hint, attributes = {} }) {
 /** A field with its label above and its range below. */
 export function makeField(/** @type {Field} */ field, /** @type {string} */ id, /** @type {Typing} */ typing) {
     const control = makeControl(field, { id, typing, hint: `${id}-hint` });
-    const hint = el('span', { id: `${id}-hint`, class: 'hint' }, hintOf(field, typing));
+    const hint = el('span', { id: `${id}-hint`, class: 'hint' },
+        hintOf(field, typing), el('span', { class: 'apart' }, `. ${field.meaning}`));
     const node = el('div', { class: 'field', 'data-field': field.name, title: field.meaning },
         el('label', { for: id }, field.label, ' ', el('span', { class: 'name' }, field.name)),
         control.input, hint, control.fault);

@@ -49,10 +49,11 @@ function groupsOf(/** @type {Call} */ { word, fields, label }) {
 
 /**
  * @param {Call} call
- * @param {{ id: string, typing: Typing, changed: () => void }} how  `id` begins the ids of its fields; `changed` is
- *     told of everything that is typed.
+ * @param {{ id: string, typing: Typing, changed: () => void,
+ *     focused?: (field: import('./fields.mjs').Field) => void }} how  `id` begins the ids of its fields; `changed` is
+ *     told of everything that is typed, `focused` of the field that is typed in.
  */
-export function makeForm(call, { id, typing, changed }) {
+export function makeForm(call, { id, typing, changed, focused = () => {} }) {
     /** @type {Control[]} */
     const controls = [];
     const touched = new WeakSet();
@@ -111,6 +112,10 @@ export function makeForm(call, { id, typing, changed }) {
 
     rows?.fill(startOf(call).rows);
     node.addEventListener('input', heard);
+    node.addEventListener('focusin', (/** @type {FocusEvent} */ event) => {
+        const found = all().find(({ control }) => control.input === event.target);
+        if (found !== undefined) focused(found.control.field);
+    });
     node.addEventListener('change', (/** @type {Event} */ event) => {
         touched.add(/** @type {object} */ (event.target));
         heard();

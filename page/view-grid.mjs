@@ -14,7 +14,7 @@ import { hintOf, makeControl } from './view-field.mjs';
 function headOf(/** @type {string} */ id, /** @type {Head[]} */ heads, /** @type {string} */ corner) {
     const cell = (/** @type {Head} */ { label, name, hint, meaning }, /** @type {number} */ at) => (
         el('th', { scope: 'col', title: meaning }, label, ' ', el('span', { class: 'name' }, name),
-            el('span', { class: 'hint', id: `${id}-hint-${at}` }, hint)));
+            el('span', { class: 'hint', id: `${id}-hint-${at}` }, hint, el('span', { class: 'apart' }, `. ${meaning}`))));
     return el('thead', {}, el('tr', {}, el('th', { scope: 'col' }, corner), ...heads.map(cell)));
 }
 
@@ -35,14 +35,18 @@ function rowOf(fields, { id, label, heads, hints, typing, row }) {
     return { controls, node: el('tr', {}, el('th', { scope: 'row' }, label), ...cells) };
 }
 
-const TERM_LABELS = ['Days', 'Pair, in place of the limits', 'Lower repo limit', 'Upper repo limit'];
+const TERM_LABELS = ['Days', 'Pair', 'Lower repo limit', 'Upper repo limit'];
+const INSTEAD = 'in place of the limits: ';
 const TERM_NAMES = ['K', 'YM/YN', 'RRCL', 'RRCH'];
 const PER_TERM = TERM_LABELS.length;
 
 /** The three terms of an evaluation or a bond. @returns {{ node: HTMLElement, controls: Control[] }} */
 export function makeTerms(/** @type {Field[]} */ fields, /** @type {string} */ id, /** @type {Typing} */ typing) {
     const heads = TERM_LABELS.map((label, at) => ({
-        label, name: TERM_NAMES[at], hint: hintOf(fields[at], typing), meaning: fields[at].meaning,
+        label,
+        name: TERM_NAMES[at],
+        hint: (fields[at].instead === undefined ? '' : INSTEAD) + hintOf(fields[at], typing),
+        meaning: fields[at].meaning,
     }));
     const rows = [0, 1, 2].map((term) => rowOf(fields.slice(term * PER_TERM, (term + 1) * PER_TERM), {
         id, label: `Term ${term}`, heads, hints: `${id}-terms`, typing,

@@ -69,12 +69,15 @@ function redrawn(ids) {
     room('columns').hidden = isEmpty;
     if (isEmpty) chosenSecurity = null;
     securities.update(desk.sheet, ids);
-    if (shown.refused !== desk.sheet.refusals.length || isEmpty) notices();
+    if (shown.noticed !== noticedOf(desk.sheet)) notices();
     room('summary').textContent = summaryOf();
 }
 
+/** What the notices are about, so that they are drawn anew only where it has changed. */
+const noticedOf = ({ refusals, securities: all }) => `${refusals.length} ${all.length === 0}`;
+
 function notices() {
-    shown.refused = shown.sheet.refusals.length;
+    shown.noticed = noticedOf(shown.sheet);
     showNotices(room('notices'), shown.sheet, figures, shown.isNew);
 }
 
@@ -88,8 +91,10 @@ function summaryOf() {
 /** Whether the lines that are not saved may go. */
 async function mayLeave() {
     if (desk.unsaved === 0) return true;
-    const lines = desk.unsaved === 1 ? '1 line is' : `${figures.whole(desk.unsaved)} lines are`;
-    const answer = await ask('Lines are not saved', `${lines} in this page alone. They are lost when another is opened.`, [
+    const lines = desk.unsaved === 1
+        ? 'One line is not saved. It is lost when something else is opened.'
+        : `${figures.whole(desk.unsaved)} lines are not saved. They are lost when something else is opened.`;
+    const answer = await ask('Save first?', lines, [
         { key: 'stay', words: 'Stay here' },
         { key: 'save', words: 'Save the evening’s text, then open' },
         { key: 'leave', words: 'Open without saving' },
@@ -121,7 +126,7 @@ async function open(name, bytes, { kind = kindOf(bytes), isNew = false } = {}) {
         else work.closed();
         securities.show(sheet);
         const milliseconds = Math.round(performance.now() - began);
-        room('summary').textContent = `${summaryOf()}, read in ${figures.whole(milliseconds)} ms`;
+        room('summary').textContent = summaryOf() + (isNew ? '' : `, read in ${figures.whole(milliseconds)} ms`);
     } catch (error) {
         showFailure(room('notices'), `${name}: ${error.message}`);
         room('summary').textContent = `${name} could not be opened.`;

@@ -16,6 +16,7 @@ import { makeSaid } from './view-said.mjs';
  */
 
 const FIRST = 'evaluate';
+const WITH_STATICS = ['admit', 'bond'];
 const MOST_NAMED = 6;
 
 const admitFields = /** @type {Call} */ (callOf('admit')).fields;
@@ -51,6 +52,7 @@ export function makeSay(room, work) {
 
     const groups = el('div');
     const extras = el('div', { class: 'extras' });
+    const about = el('p', { class: 'dim about', 'aria-hidden': 'true' }); // a screen reader has it with the field
     const meaning = el('p', { class: 'dim' });
     const node = el('form', { novalidate: true, 'aria-label': 'Say a line', onsubmit: (/** @type {Event} */ event) => {
         event.preventDefault();
@@ -68,7 +70,7 @@ export function makeSay(room, work) {
                 el('button', { class: 'main', id: 'say' }, 'Say it'),
                 button('Try it, keep nothing', () => submit(false), { id: 'try' }),
                 button('Clear the form', clear, { id: 'clear' })),
-            answer.node));
+            about, answer.node));
 
     const typed = el('input', {
         type: 'text', id: 'line', class: 'typed', autocomplete: 'off', spellcheck: 'false', autocapitalize: 'off',
@@ -86,7 +88,8 @@ export function makeSay(room, work) {
     function choose(/** @type {string} */ word) {
         const call = /** @type {Call} */ (callOf(word));
         if (!forms.has(word)) {
-            forms.set(word, makeForm(call, { id: 'say', typing, changed: () => line.show(call, /** @type {FormView} */ (forms.get(word)).read()) }));
+            const changed = () => line.show(call, /** @type {FormView} */ (forms.get(word)).read());
+            forms.set(word, makeForm(call, { id: 'say', typing, changed, focused: (field) => { about.textContent = field.meaning; } }));
             follow(work.chosen(), word);
         }
         form = /** @type {FormView} */ (forms.get(word));
@@ -98,9 +101,14 @@ export function makeSay(room, work) {
         answer.clear();
     }
 
+    function pickCall(/** @type {string} */ word) {
+        /** @type {HTMLInputElement} */ (room.querySelector(`#say-call-${word}`)).checked = true;
+        choose(word);
+    }
+
     function showExtras() {
         extras.replaceChildren(...[
-            form.call.word === 'admit' && copyStatics(),
+            WITH_STATICS.includes(form.call.word) && copyStatics(),
             form.call.word === 'evaluate' && startFromLast(),
         ].filter(Boolean));
         extras.hidden = extras.childElementCount === 0;
@@ -110,8 +118,8 @@ export function makeSay(room, work) {
         const select = el('select', { id: 'copy-statics', onchange: () => {
             const security = work.securities().find(({ id }) => String(id) === select.value);
             if (security === undefined) return;
-            const { values } = form.read();
-            form.fill({ values: { ...values, ...staticsOf(security) }, rows: [] });
+            const { values, rows } = form.read();
+            form.fill({ values: { ...values, ...staticsOf(security) }, rows });
         } }, el('option', { value: '' }, 'choose a security'),
         ...work.securities().filter(({ statics }) => statics !== null)
             .map(({ id }) => el('option', { value: id }, `security ${id}`)));
@@ -146,9 +154,7 @@ export function makeSay(room, work) {
             answer.tell(made.fault);
             return;
         }
-        const radio = /** @type {HTMLInputElement} */ (room.querySelector(`#say-call-${made.call.word}`));
-        radio.checked = true;
-        choose(made.call.word);
+        pickCall(made.call.word);
         form.fill(made.form);
         form.focus();
     }
@@ -228,11 +234,10 @@ export function makeSay(room, work) {
             answer.clear();
             showExtras();
         },
-        /** Another evening was opened. */
-        opened() {
+        /** Another evening was opened; a new one begins with an admission. */
+        opened(/** @type {boolean} */ isNew) {
             said.clear();
-            answer.clear();
-            showExtras();
+            pickCall(isNew ? 'admit' : FIRST);
         },
         focus: () => form.focus(),
     };

@@ -1,4 +1,5 @@
 // One security: its figures, its ranges and bands, why, and its days. A day before the last can be chosen.
+import { answerOf } from './answers.mjs';
 import { el, table } from './element.mjs';
 import { placesOf } from './figures.mjs';
 import { COLUMNS, dayAt } from './sheet.mjs';
@@ -8,6 +9,15 @@ import { badges, sessionOf } from './view-table.mjs';
 import { sentencesOf } from './why.mjs';
 
 const LEAST_WIDTH = 260;
+
+/** The records of days that were drawn already: a year of them is read once, and not at each line that is said. */
+const read = new WeakMap();
+
+function recordOf(day) {
+    if (day.record !== undefined) return day.record;
+    if (!read.has(day)) read.set(day, answerOf('evaluate', day.answer));
+    return read.get(day);
+}
 
 /** The statics, with their names, and how each is shown. */
 const STATICS = [
@@ -114,8 +124,8 @@ function daysTable(security, figures) {
     const details = el('details', {}, el('summary', {}, 'Days as a table'));
     details.addEventListener('toggle', () => {
         if (details.childElementCount > 1) return;
-        const rows = security.days.map((_, at) => {
-            const { record } = dayAt(security, at);
+        const rows = security.days.map((day, at) => {
+            const record = recordOf(day);
             const mark = security.hidden.includes(at) ? '◆ ' : '';
             return [`${mark}${figures.whole(record.day)}`, figures.roubles(record.p1),
                 figures.change(record.p1, record.p2), figures.volatility(record.s), figures.perCent(record.tentative),
@@ -168,7 +178,7 @@ export function showSecurity(room, security, figures, at = security.days.length 
         return;
     }
     const isLast = at === security.days.length - 1;
-    const records = security.days.map((_, which) => dayAt(security, which).record);
+    const records = security.days.map(recordOf);
     const record = isLast ? security.record : records[at];
     const show = (which, name) => {
         showSecurity(room, security, figures, which);

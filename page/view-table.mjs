@@ -77,7 +77,8 @@ export function makeTable(room, figures, choose) {
         const arrow = isSorted ? (state.descending ? ' ↓' : ' ↑') : '';
         const atLeft = ['id', 'happened', 'session'].includes(column.as);
         return el('th', { scope: 'col', 'aria-sort': sorted, class: atLeft ? 'words' : null },
-            el('button', { type: 'button', 'data-key': column.key, onclick: sort }, column.title + arrow));
+            el('button', { type: 'button', 'data-key': column.key, onclick: sort },
+                column.title.replace(/ (?=\d)/, '\u00a0') + arrow));
     }
 
     function rowOf(security) {
@@ -195,7 +196,7 @@ export function makeTable(room, figures, choose) {
             const next = changed ?? (found(state.chosenId) === undefined ? sheet.securities[0]?.id : undefined);
             if (next === undefined) return;
             pick(next, false);
-            reveal(rows.get(next));
+            requestAnimationFrame(() => reveal(rows.get(next))); // when all is drawn: places are worked out once
         },
         get chosenId() { return state.chosenId; },
     };

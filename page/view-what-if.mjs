@@ -104,7 +104,7 @@ export function makeWhatIf(room, work) {
     el('div', { class: 'left' }, title, form.node),
     el('div', { class: 'right' },
         el('div', { class: 'buttons' },
-            el('button', { id: 'what-if', class: 'main' }, 'Work it out'),
+            el('button', { id: 'what-if' }, 'Work it out'),
             adopt,
             button('As it was', reset, { id: 'what-if-reset' })),
         verdict, records),

@@ -96,10 +96,13 @@ export function makeWork(given) {
 
     room('undo').addEventListener('click', undo);
     document.addEventListener('keydown', (event) => {
-        const isUndo = event.key.toLowerCase() === 'z' && (event.ctrlKey || event.metaKey) && !event.shiftKey;
-        if (!isUndo || isTyped(event.target) || room('work').hidden) return;
+        const isCommand = (event.ctrlKey || event.metaKey) && !event.shiftKey && !event.altKey;
+        if (!isCommand || room('work').hidden || document.querySelector('dialog[open]') !== null) return;
+        const key = event.key.toLowerCase();
+        if (key === 's') save.saveText();
+        else if (key === 'z' && !isTyped(event.target)) undo();
+        else return;
         event.preventDefault();
-        undo();
     });
     window.addEventListener('beforeunload', (event) => {
         if (desk.unsaved === 0) return;
@@ -111,7 +114,7 @@ export function makeWork(given) {
         /** An evening was opened. */
         opened(/** @type {boolean} */ isNew) {
             room('work').hidden = false;
-            say.opened();
+            say.opened(isNew);
             panels.forEach((panel) => panel.opened?.());
             status('');
             count();
@@ -120,6 +123,7 @@ export function makeWork(given) {
         },
         /** Something else was opened, which is no evening. */
         closed() {
+            desk.saved(); // what was not saved may be lost: she was asked
             room('work').hidden = true;
             tabs.close();
         },
