@@ -67,6 +67,8 @@ export function makeAdmissions(room, work) {
     }
 
     async function sayAll() {
+        say.hidden = true;
+        status.textContent = 'Saying …';
         const heard = await desk.say(batch.chosen());
         batch.answer(heard);
         work.changed(heard);

@@ -88,6 +88,7 @@ export function makeExchange(room, work) {
 
     async function read() {
         const bytes = file ?? new TextEncoder().encode(endedText(text.value));
+        status.textContent = 'Reading …';
         const made = await desk.exchange(bytes);
         if (made.refused) {
             const { number, line, todo } = made.refused;
@@ -155,6 +156,8 @@ export function makeExchange(room, work) {
     }
 
     async function sayAll() {
+        say.hidden = true;
+        status.textContent = 'Saying …';
         const heard = await desk.say(batch.chosen());
         batch.answer(heard);
         work.changed(heard);

@@ -188,5 +188,10 @@ window.addEventListener('beforeprint', () => {
     room('print-head').replaceChildren(el('strong', {}, 'Nedrubal: the sheet'),
         ` ${summaryOf()}. Shown: ${room('count').textContent}. Printed ${day.format(new Date())}.`);
 });
+// A fault of the page itself is said, and not left in a room that nobody looks into.
+window.addEventListener('unhandledrejection', ({ reason }) => {
+    showFailure(room('notices'), `${reason?.message ?? reason}. Save the evening’s text, and open it again.`,
+        'The page has failed');
+});
 room('help-open').addEventListener('click', () => room('help').showModal());
 room('version').textContent = `Nedrubal ${carried.version}`;

@@ -50,8 +50,7 @@ export function showNotices(room, sheet, figures, isNew = false) {
     ].filter(Boolean));
 }
 
-/** A file that could not be opened at all. */
-export function showFailure(room, words) {
-    room.replaceChildren(el('div', { class: 'card alert', role: 'alert' },
-        el('h2', {}, 'The file could not be opened'), el('p', {}, words)));
+/** A file that could not be opened at all, or a fault of the page itself. */
+export function showFailure(room, words, title = 'The file could not be opened') {
+    room.replaceChildren(el('div', { class: 'card alert', role: 'alert' }, el('h2', {}, title), el('p', {}, words)));
 }

@@ -29,7 +29,9 @@ export function makeTyping(language) {
             return point === '.' ? together : together.replace(point, '.');
         },
         shown: (plain) => (/^-?\d+\.\d+$/.test(plain) ? plain.replace('.', point) : plain),
-        range: (words) => words.replace(/(\d+)(?:\.(\d+))?/g, (_, digits, behind) => (
-            whole.format(BigInt(digits)) + (behind === undefined ? '' : point + behind))),
+        range: (words) => words.replace(/(\d+)(?:\.(\d+))?/g, (all, digits, behind) => {
+            if (/^0\d/.test(digits)) return all; // of a time
+            return whole.format(BigInt(digits)) + (behind === undefined ? '' : point + behind);
+        }),
     };
 }
