@@ -1,9 +1,9 @@
 // The evening that the caseworker works on: its text, what the programs answered to each line, and the sheet, kept up
 // line by line. A line that is refused is not kept. Nothing is shown here; the views ask this room.
+import { makeBreath } from './breath.mjs';
+import { rowsOfExchange } from './exchange.mjs';
 import { heardOf, isAccepted } from './heard.mjs';
-import { idsOf } from './lines.mjs';
-import { bytesOf, linesOf, textOf } from './programs.mjs';
-import { refusedOf } from './refusals.mjs';
+import { bytesOf, textOf } from './programs.mjs';
 import { isAnswered, makeEveningSheet } from './sheet.mjs';
 import { makeStations } from './stations.mjs';
 import { startTelling } from './telling.mjs';
@@ -17,17 +17,7 @@ import { isEvaluationOf, makeWhatIf } from './what-if.mjs';
  */
 
 const LINES_AT_ONCE = 4096;
-const TURN = 40; // milliseconds, after which the browser is to have its turn
-
-/** Lets the browser draw and listen where the work has taken a turn's time. */
-function makeBreath() {
-    let since = performance.now();
-    return async () => {
-        if (performance.now() - since < TURN) return;
-        await new Promise((done) => { setTimeout(done); });
-        since = performance.now();
-    };
-}
+const LINES_NEAR = 32; // so far before a line that was returned to the next return is expected
 
 /** The lines of a text; the last may lack its line feed. */
 function partsOf(/** @type {string} */ text) {
@@ -96,6 +86,15 @@ export function makeDesk(programs) {
         }
     }
 
+    /** Has the programs hear some lines of the text again. */
+    async function rehear(/** @type {number} */ from, /** @type {number} */ to) {
+        const breathe = makeBreath();
+        for (let at = from; at < to; at += LINES_AT_ONCE) {
+            telling.hear(lines.slice(at, Math.min(to, at + LINES_AT_ONCE)).map(({ line }) => line.text));
+            await breathe();
+        }
+    }
+
     /** All as it was behind so many lines; the answer is the lines that stood there. */
     async function cutTo(/** @type {number} */ count) {
         const cut = lines.splice(count);
@@ -105,22 +104,21 @@ export function makeDesk(programs) {
             telling = await startTelling(programs);
             at = 0;
         }
-        const breathe = makeBreath();
-        for (; at < count; at += LINES_AT_ONCE) {
-            telling.hear(lines.slice(at, at + LINES_AT_ONCE).map(({ line }) => line.text));
-            await breathe();
-        }
+        const near = Math.max(at, count - LINES_NEAR);
+        await rehear(at, near);
+        stations.stopAt(near, telling);
+        await rehear(near, count);
         return cut;
     }
 
     /**
      * Has lines performed one after the other; a refused one leaves the programs as they were.
+     * @param {import('./telling.mjs').Known} known  What they know now.
      * @param {string[]} texts
      * @param {(text: string, told: Told) => void} take  Is handed each accepted line.
      * @returns {Promise<Heard[]>}
      */
-    async function perform(texts, take) {
-        let before = telling.keep();
+    async function perform(known, texts, take) {
         const all = telling.hear(texts);
         if (all.every(({ answer }) => isAccepted(answer))) {
             return texts.map((text, at) => {
@@ -128,7 +126,8 @@ export function makeDesk(programs) {
                 return heardOf(text, all[at]);
             });
         }
-        telling.goBack(before);
+        telling.goBack(known);
+        let before = telling.keep();
         const breathe = makeBreath();
         const heard = [];
         for (const text of texts) {
@@ -194,8 +193,8 @@ export function makeDesk(programs) {
 
         /** Performs lines in order, and keeps those that are accepted in the text. */
         say: (/** @type {string[]} */ texts) => inTurn(() => {
-            stations.stopAt(lines.length, telling);
-            return perform(given(texts), (line, told) => {
+            const known = stations.stopAt(lines.length, telling);
+            return perform(known, given(texts), (line, told) => {
                 write(line, told);
                 count(null);
             });
@@ -203,9 +202,9 @@ export function makeDesk(programs) {
 
         /** The same answers, and nothing is kept. */
         ask: (/** @type {string[]} */ texts) => inTurn(async () => {
-            const before = telling.keep();
-            const heard = await perform(given(texts), () => {});
-            telling.goBack(before);
+            const known = telling.keep();
+            const heard = await perform(known, given(texts), () => {});
+            telling.goBack(known);
             return heard;
         }),
 
@@ -258,26 +257,8 @@ export function makeDesk(programs) {
         /** The messages of the text. @returns {Promise<Uint8Array>} */
         broadcast: () => inTurn(() => programs.run('broadcast', bytesOf(text()))),
 
-        /**
-         * The rows of every security in the exchange's text, as the end of an evaluation has them.
-         * @param {Uint8Array} bytes
-         * @returns {Promise<{ rows: Map<number, string> } | { refused: import('./refusals.mjs').Refused }>}
-         */
-        async exchange(bytes) {
-            const breathe = makeBreath();
-            const ids = idsOf(textOf(bytes));
-            /** @type {Map<number, string>} */
-            const rows = new Map();
-            for (const id of ids.length === 0 ? ['1'] : ids) { // a text without an id may be bad all the same
-                const [answer] = linesOf(await programs.run('exchange', bytes, [id]));
-                const refused = refusedOf(answer);
-                if (refused !== undefined) return { refused };
-                const [, many, ...words] = answer.split(' ');
-                if (many !== '0') rows.set(Number(id), words.join(' '));
-                await breathe();
-            }
-            return { rows };
-        },
+        /** The rows of every security in the exchange's text, as the end of an evaluation has them. */
+        exchange: (/** @type {Uint8Array} */ bytes) => rowsOfExchange(programs, bytes),
 
         /** How many lines were said, undone or adopted since the text was opened or saved. */
         get unsaved() {

@@ -22,11 +22,19 @@ export function makeStations() {
     /** @type {Station[]} */
     const stations = [];
     return {
-        /** Keeps what the programs know behind so many lines. */
-        stopAt(/** @type {number} */ at, /** @type {Telling} */ telling) {
-            if (stations.at(-1)?.at === at) return;
+        /**
+         * Keeps what the programs know behind so many lines.
+         * @param {number} at
+         * @param {Telling} telling
+         * @returns {Known}
+         */
+        stopAt(at, telling) {
+            const last = stations.at(-1);
+            if (last?.at === at) return last.known;
             const [old] = stations.length < MOST ? [] : stations.splice(leastMissed(stations), 1);
-            stations.push({ at, known: telling.keep(old?.known) });
+            const known = telling.keep(old?.known);
+            stations.push({ at, known });
+            return known;
         },
 
         /**

@@ -45,19 +45,16 @@ for (const [name, lines] of Object.entries(evenings)) {
 
     test(`${name} is said a line at a time: answered as the text is, and refused lines are not kept`, async () => {
         const desk = await openDesk();
-        const whole = lines.map((_, at) => [answersTo('evening', lines)[at], answersTo('why', lines)[at]]);
+        const [answers, whys] = ['evening', 'why'].map((program) => answersTo(program, lines));
         const kept = [];
         for (const [at, line] of lines.entries()) {
             const [heard, ...more] = await desk.say([line]);
             assert.equal(more.length, 0);
-            const [answer, why] = whole[at];
             assert.equal(heard.text, line);
-            assert.equal(heard.accepted, answer.startsWith('0'));
-            if (answer.startsWith('bad')) {
-                assert.deepEqual([heard.answer, heard.why], [`bad ${kept.length + 1}`, `bad ${kept.length + 1}`]);
-            } else {
-                assert.deepEqual([heard.answer, heard.why], [answer, why]);
-            }
+            assert.equal(heard.accepted, answers[at].startsWith('0'));
+            const bad = `bad ${kept.length + 1}`;
+            const told = answers[at].startsWith('bad') ? [bad, bad] : [answers[at], whys[at]];
+            assert.deepEqual([heard.answer, heard.why], told);
             assert.equal(heard.refused === undefined, heard.accepted);
             if (heard.accepted) kept.push(line);
         }
@@ -84,10 +81,11 @@ for (const [name, lines] of Object.entries(evenings)) {
 
     test(`${name}: what is asked is answered as if it were said, and changes nothing`, async () => {
         const half = Math.floor(lines.length / 2);
-        const [desk, other] = [await openDesk(asText(lines.slice(0, half))), await openDesk(asText(lines.slice(0, half)))];
+        const first = asText(lines.slice(0, half));
+        const [desk, other] = [await openDesk(first), await openDesk(first)];
         const before = shown(desk.sheet);
         const asked = await desk.ask(lines.slice(half));
-        assert.equal(desk.text(), asText(lines.slice(0, half)));
+        assert.equal(desk.text(), first);
         assert.deepEqual(shown(desk.sheet), before);
         assert.equal(desk.unsaved, 0);
         assert.deepEqual(asked, await other.say(lines.slice(half)));
@@ -96,6 +94,7 @@ for (const [name, lines] of Object.entries(evenings)) {
 
     test(`${name} is undone line by line, to the empty text`, async () => {
         const desk = await openDesk(asText(lines));
+        const answers = answersTo('evening', lines);
         const texts = [];
         for (let left = lines.length - 1; left >= 0; left -= 1) {
             texts.push(await desk.undo());
@@ -103,10 +102,10 @@ for (const [name, lines] of Object.entries(evenings)) {
             if (left % 16 === 0) {
                 assert.deepEqual(shown(desk.sheet), due(asText(lines.slice(0, left))));
                 const [heard] = await desk.ask([lines[left]]); // the programs too know no more than the text
-                assert.equal(heard.answer, answersTo('evening', lines)[left]);
+                assert.equal(heard.answer, answers[left]);
             }
         }
-        assert.deepEqual(texts, lines.toReversed());
+        assert.deepEqual(texts, [...lines].reverse());
         assert.deepEqual([desk.unsaved, desk.canUndo, await desk.undo()], [lines.length, false, null]);
         assert.equal(desk.unsaved, lines.length);
     });
@@ -123,7 +122,9 @@ test('lines are said and undone at random, and all is as the text says', async (
             for (const heard of await desk.say(lines.slice(at, at + size))) if (heard.accepted) kept.push(heard.text);
             at += size;
         } else {
-            for (let count = next(5); count > 0 && kept.length > 0; count -= 1) assert.equal(await desk.undo(), kept.pop());
+            for (let count = Math.min(next(5), kept.length); count > 0; count -= 1) {
+                assert.equal(await desk.undo(), kept.pop());
+            }
         }
         assert.equal(desk.text(), asText(kept));
     }
@@ -197,11 +198,11 @@ test('a refused line names what is at fault: fields by their ranges, rows and te
         return { number, row, term, fields, rows: places.map((place) => place.row) };
     };
     const words = admit.split(' ');
-    const put = (at, word) => words.with(1, '8').with(at, word).join(' ');
+    const put = (others) => Object.assign([...words], { 1: '8', ...others }).join(' ');
     const none = { row: undefined, term: undefined };
-    assert.deepEqual(await faults(put(7, '101')), { ...none, number: 4, fields: ['LOT'], rows: [undefined] });
-    assert.deepEqual(await faults(put(3, '1000005')), { ...none, number: 4, fields: ['P1'], rows: [undefined] });
-    assert.deepEqual(await faults(words.with(1, '8').with(9, '99').with(31, '11').join(' ')),
+    assert.deepEqual(await faults(put({ 7: '101' })), { ...none, number: 4, fields: ['LOT'], rows: [undefined] });
+    assert.deepEqual(await faults(put({ 3: '1000005' })), { ...none, number: 4, fields: ['P1'], rows: [undefined] });
+    assert.deepEqual(await faults(put({ 9: '99', 31: '11' })),
         { ...none, number: 4, fields: ['Q', 'EVENINGMAX'], rows: [undefined, undefined] });
     assert.deepEqual(await faults(admit), { ...none, number: 2, fields: ['ID'], rows: [undefined] });
     const day = 'evaluate 7 4 0 0 0 0 0 0 0 0 0 0 0';
@@ -214,7 +215,7 @@ test('a refused line names what is at fault: fields by their ranges, rows and te
         { ...none, number: 6, term: 1, fields: ['RRCH1'], rows: [undefined] });
     assert.deepEqual(await faults('evaluate 7 4 0 0 1 0/1 0 0 0 0 0 0'),
         { ...none, number: 6, term: 0, fields: ['PAIR0'], rows: [undefined] });
-    const [{ faults: [fault] }] = await desk.ask([put(7, '101')]);
+    const [{ faults: [fault] }] = await desk.ask([put({ 7: '101' })]);
     assert.deepEqual(fault, { name: 'LOT', row: undefined, text: 'must be from 1 to 100 pieces' });
     const [bad] = await desk.ask(['evaluate 7 4']);
     assert.deepEqual([bad.refused.text, bad.refused.line, bad.fields], ['the line is no call', 2, []]);
@@ -239,6 +240,8 @@ test('the exchange’s text gives the rows of each security as evaluations have 
         assert.deepEqual([verdict, 7 * count, words], ['0', answered.length, answered.join(' ')]);
     }
     assert.deepEqual(await desk.exchange(bytesOf('')), { rows: new Map() });
+    const zeros = await desk.exchange(bytesOf('7;0;1;0;103;;;5\n007;1;1;0;104;;;6\n'));
+    assert.deepEqual([...zeros.rows], [[7, '0 10000 0 1030000 0 0 5 1 10000 0 1040000 0 0 6']]);
 });
 
 test('a bad line of the exchange’s text is refused with its place', async () => {

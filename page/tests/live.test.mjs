@@ -50,7 +50,7 @@ for (const program of ['evening', 'why']) {
         const live = await start(program);
         const kept = lines.map((line, at) => {
             const before = live.keep();
-            live.hear(bytesOf(lines.slice(at).toReversed().join(''))); // the rest, the wrong way round
+            live.hear(bytesOf(lines.slice(at).reverse().join(''))); // the rest, the wrong way round
             live.goBack(before);
             assert.equal(live.hear(bytesOf(line)), answers[at]);
             return before;
@@ -90,7 +90,8 @@ test('nothing is kept in the middle of a line', async () => {
 test('a text is its bytes again, all of them, and what is no byte becomes one that no call has', () => {
     const all = Uint8Array.from({ length: 3000 }, (_, at) => at % 256);
     assert.equal(textOf(all).length, 3000);
-    for (const bytes of [all, all.subarray(0, 128), all.subarray(128, 256), bytesOf('é\xef\xbb\xbf'), new Uint8Array(0)]) {
+    const mark = bytesOf('\xef\xbb\xbfread'); // some decoders drop it
+    for (const bytes of [all, all.subarray(0, 128), all.subarray(128, 256), mark, bytesOf('é'), new Uint8Array(0)]) {
         assert.deepEqual(bytesOf(textOf(bytes)), Uint8Array.from(bytes));
         assert.ok([...textOf(bytes)].every((one, at) => one.charCodeAt(0) === bytes[at]));
     }

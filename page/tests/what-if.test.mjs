@@ -21,34 +21,39 @@ async function openDesk(lines) {
     return desk;
 }
 
+const replacedAt = (lines, at, line) => [...lines.slice(0, at), line, ...lines.slice(at + 1)];
+
 /** The line of a security's last accepted evaluation, counted from 0. */
 function lastOf(id, lines, answers) {
     const isIt = (line, at) => line.startsWith(`evaluate ${id} `) && answers[at].startsWith('0');
-    return lines.findLastIndex(isIt);
+    return lines.map((_, at) => at).filter((at) => isIt(lines[at], at)).pop() ?? -1;
 }
 
 /** Lines that differ from an evaluation in one number each, and some that are refused or are no call. */
 function others(line, next) {
     const { call, form } = formOf(line);
-    const changed = (name, typed) => lineOf(call, { ...form, values: { ...form.values, ...typed } }).line ?? name;
-    const withRow = (row, typed) => lineOf(call, { ...form, rows: form.rows.with(row, { ...form.rows[row], ...typed }) }).line;
+    const changed = (typed) => lineOf(call, { ...form, values: { ...form.values, ...typed } }).line;
+    const withRow = (typed) => {
+        const [first, ...rows] = form.rows;
+        return lineOf(call, { ...form, rows: [{ ...first, ...typed }, ...rows] }).line;
+    };
     const price = Number(form.rows[0]?.CLOSE ?? 100);
     const ofRows = form.rows.length === 0 ? [] : [
-        withRow(0, { CLOSE: String(Math.max(0.01, price * (0.8 + next(40) / 100)).toFixed(2)) }),
-        withRow(0, { CLOSE: String((price * 3).toFixed(2)) }),
-        withRow(0, { T: '31' }),
-        withRow(0, { BID: '5', ASK: '4' }),
+        withRow({ CLOSE: String(Math.max(0.01, price * (0.8 + next(40) / 100)).toFixed(2)) }),
+        withRow({ CLOSE: String((price * 3).toFixed(2)) }),
+        withRow({ T: '31' }),
+        withRow({ BID: '5', ASK: '4' }),
         lineOf(call, { ...form, rows: [] }).line,
         lineOf(call, { ...form, rows: [...form.rows, form.rows[0]] }).line,
     ];
     return [
         line,
-        changed('B', { B: String(next(31)) }),
-        changed('M', { M: String(next(11)) }),
-        changed('DAY', { DAY: String(2 + next(30)) }),
-        changed('K2', { K2: '30', PAIR2: '', RRCL2: '-5', RRCH2: String(next(90)) }),
-        changed('PAIR1', { PAIR1: '0/1', RRCL1: '', RRCH1: '' }),
-        changed('PAIR1', { PAIR1: '0/9', RRCL1: '', RRCH1: '' }),
+        changed({ B: String(next(31)) }),
+        changed({ M: String(next(11)) }),
+        changed({ DAY: String(2 + next(30)) }),
+        changed({ K2: '30', PAIR2: '', RRCL2: '-5', RRCH2: String(next(90)) }),
+        changed({ PAIR1: '0/1', RRCL1: '', RRCH1: '' }),
+        changed({ PAIR1: '0/9', RRCL1: '', RRCH1: '' }),
         ...ofRows,
         `${line} x`,
         `${line.split(' ').slice(0, 5).join(' ')}`,
@@ -68,7 +73,8 @@ const REASONS = ['price', 'weight', 'replacement', 'tentative', 'level1', 'level
 /** Every figure and every reason of a day stands in the answers to its line. */
 function assertInAnswers(day, answer, why) {
     const words = answer.split(' ');
-    for (const { key, of } of ANSWERED) assert.equal(String(of({ id: day.record.id, record: day.record })), words[PLACE[key]]);
+    const { id } = day.record;
+    for (const { key, of } of ANSWERED) assert.equal(String(of({ id, record: day.record })), words[PLACE[key]], key);
     const reasons = why.split(' ').slice(1);
     REASONS.forEach((name, at) => {
         assert.deepEqual([name, day.reasons[name]], [reasons[2 * at], reasons[2 * at + 1]]);
@@ -94,7 +100,7 @@ for (const [name, lines] of Object.entries(evenings)) {
             for (const line of others(lines[at], next)) {
                 const { before, after, days } = await desk.whatIf(id, line);
                 assert.deepEqual([before.text, before.answer, before.why], [lines[at], answers[at], whys[at]]);
-                const replaced = lines.with(at, line);
+                const replaced = replacedAt(lines, at, line);
                 const whole = ['evening', 'why'].map((program) => answersTo(program, replaced)[at]);
                 assert.deepEqual([after.text, after.answer, after.why], [line, ...whole]);
                 assertInAnswers(days.before, answers[at], whys[at]);
@@ -114,11 +120,11 @@ for (const [name, lines] of Object.entries(evenings)) {
             const at = lastOf(id, lines, answers);
             if (at < 0) continue;
             const line = lines[at].replace(/^(evaluate \d+ \d+) \d+ \d+/, '$1 2 7');
-            const replaced = lines.with(at, line);
-            const heard = await desk.adopt(id, line);
+            const replaced = replacedAt(lines, at, line);
+            const adopted = await desk.adopt(id, line);
             assert.equal(desk.text(), asText(replaced));
-            assert.deepEqual(heard.map((one) => one.text), replaced.slice(at));
-            assert.deepEqual(heard.map((one) => one.answer), answersTo('evening', replaced).slice(at));
+            assert.deepEqual(adopted.map((one) => one.text), replaced.slice(at));
+            assert.deepEqual(adopted.map((one) => one.answer), answersTo('evening', replaced).slice(at));
             assert.equal(desk.lastEvaluation(id), line);
             const other = await openDesk(replaced);
             const records = (of) => of.sheet.securities.map((one) => [one.id, one.record, one.days.length]);
@@ -126,7 +132,8 @@ for (const [name, lines] of Object.entries(evenings)) {
             assert.equal(desk.unsaved, 1);
             assert.equal(await desk.undo(), line);
             assert.deepEqual([desk.text(), desk.unsaved], [asText(lines), 0]);
-            assert.equal((await desk.ask([`read ${id}`]))[0].answer, answersTo('evening', [...lines, `read ${id}`]).at(-1));
+            const [heard] = await desk.ask([`read ${id}`]);
+            assert.equal(heard.answer, answersTo('evening', [...lines, `read ${id}`]).pop());
         }
     });
 }
