@@ -2,6 +2,7 @@
 // module was made by `wasm-opt --asyncify` (outside/page): where no byte is left, `read` has the program store its
 // calls and locals in the memory and return; with the next line it is called again, and goes on where it waited.
 // Between lines all that the program knows stands in its memory, which can be kept and put back.
+import { keptOf, makeGatherer, putBack } from './memory.mjs';
 import { textOf } from './programs.mjs';
 
 const PAGE = 65536;
@@ -10,46 +11,13 @@ const STANDARD_ERROR = 2;
 const NOTHING = new Uint8Array(0);
 
 /**
- * @typedef {object} Kept  A program's memory between two lines. What stands before `from` is 0.
- * @property {number} from
- * @property {Uint8Array} bytes
+ * @typedef {import('./memory.mjs').Kept} Kept
  *
  * @typedef {object} Live
  * @property {(bytes: Uint8Array) => string} hear  What the program answers to more of its input, a character a byte.
  * @property {(old?: Kept) => Kept} keep  Its memory between two lines; the room of one no more wanted may be given.
  * @property {(kept: Kept) => void} goBack  Puts a memory back: the program knows what it knew then.
  */
-
-/** Where the first byte stands that is not 0. The stack comes first in the memory, and much of it is never used. */
-function firstUsed(/** @type {ArrayBuffer} */ buffer) {
-    const words = new Int32Array(buffer);
-    let at = 0;
-    while (words[at] === 0) at += 1;
-    return at * words.BYTES_PER_ELEMENT;
-}
-
-/** Gathers what a program writes: many small pieces, for which no array each is made. */
-function makeGatherer() {
-    let gathered = new Uint8Array(PAGE);
-    let length = 0;
-    return {
-        add(/** @type {Uint8Array} */ memory, /** @type {number} */ address, /** @type {number} */ count) {
-            if (length + count > gathered.length) {
-                const wider = new Uint8Array(2 * (length + count));
-                wider.set(gathered);
-                gathered = wider;
-            }
-            for (let at = 0; at < count; at += 1) gathered[length + at] = memory[address + at];
-            length += count;
-        },
-        /** All of it as text, and from here on what comes then. */
-        take() {
-            const text = textOf(gathered.subarray(0, length));
-            length = 0;
-            return text;
-        },
-    };
-}
 
 /**
  * Starts a program, which then waits for its first line.
@@ -91,7 +59,7 @@ export async function startLive(module) {
     function goOn() {
         waits = false;
         program.main();
-        if (!waits) throw new Error(`the program ended: ${said.take().trim()}`);
+        if (!waits) throw new Error(`the program ended: ${textOf(said.take()).trim()}`);
         program.asyncify_stop_unwind();
     }
     goOn();
@@ -110,20 +78,15 @@ export async function startLive(module) {
             input = bytes;
             program.asyncify_start_rewind(room);
             goOn();
-            return answers.take();
+            return textOf(answers.take());
         },
         keep(old) {
             mustWaitForALine();
-            const from = firstUsed(memory.buffer);
-            const used = whole.subarray(from);
-            if (old?.bytes.length !== used.length) return { from, bytes: used.slice() };
-            old.bytes.set(used);
-            return { from, bytes: old.bytes };
+            return keptOf(whole, old);
         },
-        goBack({ from, bytes }) {
+        goBack(kept) {
             mustWaitForALine();
-            whole.fill(0, 0, from);
-            whole.set(bytes, from);
+            putBack(whole, kept);
         },
     };
 }
