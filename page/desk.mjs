@@ -13,6 +13,7 @@ import { isEvaluationOf, makeWhatIf } from './what-if.mjs';
  * @typedef {import('./heard.mjs').Heard} Heard
  * @typedef {import('./sheet.mjs').Line} Line
  * @typedef {import('./telling.mjs').Told} Told
+ * @typedef {import('./telling.mjs').Known} Known
  * @typedef {{ at: number, was: string }} Adopted  Where a what-if was adopted, and the line that stood there.
  */
 
@@ -112,33 +113,33 @@ export function makeDesk(programs) {
     }
 
     /**
-     * Has lines performed one after the other; a refused one leaves the programs as they were.
-     * @param {import('./telling.mjs').Known} known  What they know now.
+     * Has lines performed one after the other; a refused one leaves the programs as they were. They hear as many at once
+     * as were accepted of late: where one is refused they go back, and hear those before it again.
+     * @param {Known} start  What the programs know now.
      * @param {string[]} texts
      * @param {(text: string, told: Told) => void} take  Is handed each accepted line.
      * @returns {Promise<Heard[]>}
      */
-    async function perform(known, texts, take) {
-        const all = telling.hear(texts);
-        if (all.every(({ answer }) => isAccepted(answer))) {
-            return texts.map((text, at) => {
-                take(text, all[at]);
-                return heardOf(text, all[at]);
-            });
-        }
-        telling.goBack(known);
-        let before = telling.keep();
+    async function perform(start, texts, take) {
         const breathe = makeBreath();
+        /** @type {Heard[]} */
         const heard = [];
-        for (const text of texts) {
-            const [told] = telling.hear([text]);
-            heard.push(heardOf(text, told));
-            if (isAccepted(told.answer)) {
-                take(text, told);
-                before = telling.keep(before);
-            } else {
-                telling.goBack(before);
+        /** @type {Known | undefined} */
+        let own;
+        let size = texts.length;
+        while (heard.length < texts.length) {
+            const some = texts.slice(heard.length, heard.length + size);
+            const told = telling.hear(some);
+            const refused = told.findIndex(({ answer }) => !isAccepted(answer));
+            const count = refused < 0 ? some.length : refused;
+            some.slice(0, count).forEach((text, at) => take(text, told[at]));
+            heard.push(...told.slice(0, count + 1).map((one, at) => heardOf(some[at], one)));
+            if (refused >= 0) {
+                telling.goBack(own ?? start);
+                telling.hear(some.slice(0, count));
             }
+            if (count > 0 && heard.length < texts.length) own = telling.keep(own);
+            size = refused < 0 ? 2 * size : 1;
             await breathe();
         }
         return heard;

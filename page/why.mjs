@@ -74,6 +74,10 @@ const PRICE = {
  * @typedef {ReturnType<typeof import('./figures.mjs').makeFigures>} Figures
  */
 
+/** A number of days in words: 1 day, 2 days. */
+const daysOf = (/** @type {number} */ count, /** @type {Figures} */ figures, kind = '') => (
+    `${figures.whole(count)} ${kind}${count === 1 ? 'day' : 'days'}`);
+
 function moveSentence(/** @type {Day} */ day, /** @type {Figures} */ figures) {
     const { move, record, before, reasons, statics, b } = day;
     const s = figures.whole(before.s);
@@ -84,7 +88,7 @@ function moveSentence(/** @type {Day} */ day, /** @type {Figures} */ figures) {
             `${figures.fraction(move)} millionths${dots}`;
     const weight = (name) => (statics ? ` of ${figures.perCent(statics[name])}` : '');
     switch (reasons?.weight) {
-    case 'zero': return `${exact}. ${figures.whole(b)} days off lay before, so it has no weight.`;
+    case 'zero': return `${exact}. ${daysOf(b, figures)} off lay before, so it has no weight.`;
     case 'up': return `${exact}, above the volatility before, ${s}: the upward weight${weight('aUp')} was taken.`;
     case 'down':
         return `${exact}, not above the volatility before, ${s}: the downward weight${weight('aDown')} was taken.`;
@@ -116,7 +120,7 @@ function volatilitySentence({ record, before, reasons, statics }, figures) {
 function tentativeSentence({ record, before, reasons, statics }, figures) {
     const now = figures.perCent(record.tentative);
     const was = figures.perCent(before.tentative);
-    const wait = `${figures.whole(statics.wait)} trading days`;
+    const wait = daysOf(statics.wait, figures, 'trading ');
     switch (reasons.tentative) {
     case 'rose': {
         const by = reasons.replacement === 'yes' ? 'the move itself' : `the volatility of ${figures.whole(record.s)}`;
@@ -138,9 +142,9 @@ function levelSentence(level, { record, reasons, statics, m }, figures) {
     case 'maximum': return `Rate ${level} is held at the maximum, ${rate}: the requirement is above it.`;
     case 'minimum': return `Rate ${level} is its minimum, ${rate}.`;
     default: {
-        const ahead = m > 0 ? `, with ${figures.whole(m)} days off ahead` : '';
+        const ahead = m > 0 ? `, with ${daysOf(m, figures)} off ahead` : '';
         return `Rate ${level} is ${rate}, the least step of ${figures.perCent(statics.h)} that covers the ` +
-            `requirement of ${figures.whole(statics[`rh${level}`])} days${ahead}.`;
+            `requirement of ${daysOf(statics[`rh${level}`], figures)}${ahead}.`;
     }
     }
 }

@@ -78,12 +78,17 @@ test('a line is said, asked and undone in it, and a what-if tried', async (t) =>
     assert.equal(desk.text().length, lines.join('\n').length + 1);
 });
 
-test('a night’s evaluations of all securities are said at once', async (t) => {
-    const { result, clock, processor } = await timed(() => desk.say(ids.map((id) => later(id, 1))));
-    t.diagnostic(`512 evaluations: ${whole(processor)} ms of the processor, ${whole(clock)} ms by the clock`);
-    assert.ok(result.length === SECURITIES && result.every(({ accepted }) => accepted));
-    assert.ok(processor <= BATCH_MOST, `${whole(processor)} ms`);
-});
+for (const [name, each] of [['all taken', 0], ['each fourth refused', 4], ['all refused', 1]]) {
+    test(`a night’s evaluations of all securities are said at once, ${name}`, async (t) => {
+        const refused = ids.filter((_, at) => each > 0 && at % each === 0);
+        const said = ids.map((id) => later(id, refused.includes(id) ? 0 : 1));
+        const { result, clock, processor } = await timed(() => desk.say(said));
+        t.diagnostic(`512 evaluations: ${whole(processor)} ms of the processor, ${whole(clock)} ms by the clock`);
+        assert.deepEqual(result.map(({ text }) => text), said);
+        assert.equal(result.filter(({ accepted }) => !accepted).length, refused.length);
+        assert.ok(processor <= BATCH_MOST, `${whole(processor)} ms`);
+    });
+}
 
 test('the exchange’s text of all securities is read, and the page has its turn meanwhile', async (t) => {
     const rowOf = (id, day) => `${id};${day};1.00;7.30;103.00;102.95;103.05;12\n`;

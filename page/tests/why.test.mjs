@@ -81,6 +81,17 @@ test('yesterday’s price, a share that is not modelled, a replacement, a maximu
     assert.match(off, /2 days off lay before, so it has no weight\. The volatility stays at 66,667 millionths/);
 });
 
+test('one day is a day', () => {
+    const day = dayAt(security(12), 1);
+    const texts = (statics, days) => sentencesOf({ ...day, ...days, statics: { ...day.statics, ...statics } }, figures)
+        .map((one) => one.text).join(' ');
+    assert.match(texts({}, { b: 1 }), / 1 day off lay before/);
+    assert.match(texts({ rh1: 1 }, { m: 1 }), /requirement of 1 day, with 1 day off ahead\./);
+    const waited = { ...day.reasons, tentative: 'waited' };
+    assert.match(texts({ wait: 1 }, { reasons: waited }), /of the 1 trading day of the wait/);
+    assert.doesNotMatch(texts({ rh1: 1, wait: 1 }, { b: 1, m: 1, reasons: waited }), /\b1 (trading )?days/);
+});
+
 test('every day of the example has its sentences, with no figure missing', () => {
     for (const one of sheet.securities) {
         one.days.forEach((_, at) => {
