@@ -58,6 +58,7 @@ const work = makeWork({
     typing: makeTyping(navigator.language),
     name: () => shown.name,
     chosen: () => chosenSecurity,
+    choose: (id) => securities.pick(id),
     securities: () => shown?.sheet.securities ?? [],
     redrawn,
 });

@@ -51,7 +51,10 @@ export function makeSay(room, work) {
     let isBusy = false;
 
     const groups = el('div');
-    const extras = el('div', { class: 'extras' });
+    const statics = el('select', { id: 'copy-statics', onchange: copyStatics });
+    const copying = el('label', {}, 'Copy the statics of ', statics);
+    const starting = button('', startFromLast, { id: 'start-from-last' });
+    const extras = el('div', { class: 'extras' }, copying, starting);
     const about = el('p', { class: 'dim about', 'aria-hidden': 'true' }); // a screen reader has it with the field
     const meaning = el('p', { class: 'dim' });
     const node = el('form', { novalidate: true, 'aria-label': 'Say a line', onsubmit: (/** @type {Event} */ event) => {
@@ -83,6 +86,10 @@ export function makeSay(room, work) {
     button('Into the form', () => again(typed.value), { id: 'line-to-form' }));
 
     room.append(chooser, node, raw, said.node);
+    // A security that is typed is the one that is worked on.
+    node.addEventListener('change', (/** @type {any} */ { target }) => {
+        if (target.name === 'ID' && form.call.word !== 'admit') work.choose(Number(form.read().values.ID));
+    });
     choose(FIRST);
 
     function choose(/** @type {string} */ word) {
@@ -107,36 +114,45 @@ export function makeSay(room, work) {
     }
 
     function showExtras() {
-        extras.replaceChildren(...[
-            WITH_STATICS.includes(form.call.word) && copyStatics(),
-            form.call.word === 'evaluate' && startFromLast(),
-        ].filter(Boolean));
-        extras.hidden = extras.childElementCount === 0;
+        const { word } = form.call;
+        const hasStatics = WITH_STATICS.includes(word);
+        copying.hidden = !hasStatics;
+        starting.hidden = word !== 'evaluate';
+        extras.hidden = !hasStatics && word !== 'evaluate';
+        if (hasStatics) offerStatics();
+        const security = work.chosen();
+        starting.disabled = lastOf(security) === null;
+        const of = security === null ? '' : ` of security ${security.id}`;
+        starting.textContent = `Start from the last evaluation${of}, next day`;
+    }
+
+    /** @returns {string | null} */
+    function lastOf(/** @type {{ id: number } | null} */ security) {
+        return security === null ? null : work.desk.lastEvaluation(security.id);
+    }
+
+    /** The securities whose statics can be copied; the list is made anew only where there are others. */
+    function offerStatics() {
+        const ids = work.securities().filter(({ statics }) => statics !== null).map(({ id }) => String(id));
+        const offered = [...statics.options].slice(1).map(({ value }) => value);
+        if (ids.join() === offered.join()) return;
+        statics.replaceChildren(el('option', { value: '' }, 'choose a security'),
+            ...ids.map((id) => el('option', { value: id }, `security ${id}`)));
     }
 
     function copyStatics() {
-        const select = el('select', { id: 'copy-statics', onchange: () => {
-            const security = work.securities().find(({ id }) => String(id) === select.value);
-            if (security === undefined) return;
-            const { values, rows } = form.read();
-            form.fill({ values: { ...values, ...staticsOf(security) }, rows });
-        } }, el('option', { value: '' }, 'choose a security'),
-        ...work.securities().filter(({ statics }) => statics !== null)
-            .map(({ id }) => el('option', { value: id }, `security ${id}`)));
-        return el('label', {}, 'Copy the statics of ', select);
+        const security = work.securities().find(({ id }) => String(id) === statics.value);
+        if (security === undefined) return;
+        const { values, rows } = form.read();
+        form.fill({ values: { ...values, ...staticsOf(security) }, rows });
     }
 
     function startFromLast() {
-        const security = work.chosen();
-        const last = security === null ? null : work.desk.lastEvaluation(security.id);
-        const of = security === null ? '' : ` of security ${security.id}`;
-        const start = button(`Start from the last evaluation${of}, next day`, () => {
-            const next = last === null ? null : nextDayOf(last);
-            if (next === null) return;
-            form.fill(next);
-            form.focus('DAY');
-        }, { id: 'start-from-last', disabled: last === null });
-        return start;
+        const last = lastOf(work.chosen());
+        const next = last === null ? null : nextDayOf(last);
+        if (next === null) return;
+        form.fill(next);
+        form.focus('DAY');
     }
 
     /** The forms are about the security that is chosen in the table; an admission is about a new one. */

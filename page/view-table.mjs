@@ -198,6 +198,11 @@ export function makeTable(room, figures, choose) {
             pick(next, false);
             requestAnimationFrame(() => reveal(rows.get(next))); // when all is drawn: places are worked out once
         },
-        get chosenId() { return state.chosenId; },
+        /** Chooses the security of an id, where there is one. */
+        pick(id) {
+            if (id === state.chosenId || found(id) === undefined) return;
+            pick(id, false);
+            reveal(rows.get(id));
+        },
     };
 }

@@ -18,6 +18,7 @@ import { RECORD_CALLS, wordsOf } from './answers.mjs';
  * @property {ReturnType<import('./view-typing.mjs').makeTyping>} typing
  * @property {() => string} name  The name of the evening's file.
  * @property {() => Security | null} chosen  The security that is chosen in the table.
+ * @property {(id: number) => void} choose  Chooses another one there, where there is one with this id.
  * @property {() => Security[]} securities
  * @property {(heard: Heard[]) => void} changed  Is told of lines that were said.
  * @property {(words: string) => void} status  Says a sentence in the bar.
@@ -80,6 +81,7 @@ export function makeWork(given) {
         const { unsaved } = desk;
         room('unsaved').hidden = unsaved === 0;
         room('unsaved').textContent = `${figures.whole(unsaved)} ${unsaved === 1 ? 'line' : 'lines'} not saved`;
+        room('undo').hidden = false;
         room('undo').disabled = !desk.canUndo;
         panels.forEach((panel) => panel.counted?.());
     }
@@ -118,13 +120,18 @@ export function makeWork(given) {
             panels.forEach((panel) => panel.opened?.());
             status('');
             count();
-            if (isNew) tabs.open('tab-say');
-            else tabs.close();
+            if (!isNew) {
+                tabs.close();
+                return;
+            }
+            tabs.open('tab-say');
+            say.focus();
         },
         /** Something else was opened, which is no evening. */
         closed() {
             desk.saved(); // what was not saved may be lost: she was asked
-            room('work').hidden = true;
+            for (const id of ['work', 'undo', 'unsaved']) room(id).hidden = true;
+            status('');
             tabs.close();
         },
         chose(/** @type {Security | null} */ security) {
