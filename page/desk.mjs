@@ -2,7 +2,8 @@
 // line by line. A line that is refused is not kept. Nothing is shown here; the views ask this room.
 import { makeBreath } from './breath.mjs';
 import { rowsOfExchange } from './exchange.mjs';
-import { heardOf, isAccepted } from './heard.mjs';
+import { heardOf } from './heard.mjs';
+import { perform } from './performing.mjs';
 import { bytesOf, textOf } from './programs.mjs';
 import { isAnswered, makeEveningSheet } from './sheet.mjs';
 import { makeStations } from './stations.mjs';
@@ -13,12 +14,11 @@ import { isEvaluationOf, makeWhatIf } from './what-if.mjs';
  * @typedef {import('./heard.mjs').Heard} Heard
  * @typedef {import('./sheet.mjs').Line} Line
  * @typedef {import('./telling.mjs').Told} Told
- * @typedef {import('./telling.mjs').Known} Known
  * @typedef {{ at: number, was: string }} Adopted  Where a what-if was adopted, and the line that stood there.
  */
 
 const LINES_AT_ONCE = 4096;
-const LINES_NEAR = 32; // so far before a line that was returned to the next return is expected
+const LINES_NEAR = 32; // so far before a line that was returned to, the next return may be to
 
 /** The lines of a text; the last may lack its line feed. */
 function partsOf(/** @type {string} */ text) {
@@ -112,39 +112,6 @@ export function makeDesk(programs) {
         return cut;
     }
 
-    /**
-     * Has lines performed one after the other; a refused one leaves the programs as they were. They hear as many at once
-     * as were accepted of late: where one is refused they go back, and hear those before it again.
-     * @param {Known} start  What the programs know now.
-     * @param {string[]} texts
-     * @param {(text: string, told: Told) => void} take  Is handed each accepted line.
-     * @returns {Promise<Heard[]>}
-     */
-    async function perform(start, texts, take) {
-        const breathe = makeBreath();
-        /** @type {Heard[]} */
-        const heard = [];
-        /** @type {Known | undefined} */
-        let own;
-        let size = texts.length;
-        while (heard.length < texts.length) {
-            const some = texts.slice(heard.length, heard.length + size);
-            const told = telling.hear(some);
-            const refused = told.findIndex(({ answer }) => !isAccepted(answer));
-            const count = refused < 0 ? some.length : refused;
-            some.slice(0, count).forEach((text, at) => take(text, told[at]));
-            heard.push(...told.slice(0, count + 1).map((one, at) => heardOf(some[at], one)));
-            if (refused >= 0) {
-                telling.goBack(own ?? start);
-                telling.hear(some.slice(0, count));
-            }
-            if (count > 0 && heard.length < texts.length) own = telling.keep(own);
-            size = refused < 0 ? 2 * size : 1;
-            await breathe();
-        }
-        return heard;
-    }
-
     const given = (/** @type {string[]} */ texts) => texts.flatMap((text) => text.split('\n')).filter(isAnswered);
 
     /**
@@ -195,7 +162,7 @@ export function makeDesk(programs) {
         /** Performs lines in order, and keeps those that are accepted in the text. */
         say: (/** @type {string[]} */ texts) => inTurn(() => {
             const known = stations.stopAt(lines.length, telling);
-            return perform(known, given(texts), (line, told) => {
+            return perform(telling, known, given(texts), (line, told) => {
                 write(line, told);
                 count(null);
             });
@@ -204,7 +171,7 @@ export function makeDesk(programs) {
         /** The same answers, and nothing is kept. */
         ask: (/** @type {string[]} */ texts) => inTurn(async () => {
             const known = telling.keep();
-            const heard = await perform(known, given(texts), () => {});
+            const heard = await perform(telling, known, given(texts), () => {});
             telling.goBack(known);
             return heard;
         }),
