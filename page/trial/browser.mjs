@@ -23,9 +23,10 @@ import path from 'node:path';
  * @typedef {Awaited<ReturnType<typeof makeBrowser>>} Browser
  */
 
-const PATIENCE = 60_000; // milliseconds; a busy machine is slow
+const PATIENCE = Number(process.env.TRIAL_PATIENCE ?? 60_000); // milliseconds; a busy machine is slow
 const LOOK_AGAIN = 20;
 const TABS_MOST = 400;
+const EMPTY_FOR = 300;
 
 export const later = (/** @type {number} */ milliseconds) => new Promise((done) => setTimeout(done, milliseconds));
 
@@ -37,7 +38,9 @@ export const KEYS = {
     ' ': { code: 32, text: ' ', driver: ' ' },
     End: { code: 35, driver: '\uE010' },
     Home: { code: 36, driver: '\uE011' },
+    ArrowLeft: { code: 37, driver: '\uE012' },
     ArrowUp: { code: 38, driver: '\uE013' },
+    ArrowRight: { code: 39, driver: '\uE014' },
     ArrowDown: { code: 40, driver: '\uE015' },
     Delete: { code: 46, driver: '\uE017' },
     a: { code: 65, driver: 'a' },
@@ -90,13 +93,24 @@ export function makeBrowser(driver, downloads) {
         },
         /** Goes by the key Tab until the keyboard is at an element. */
         async tabTo(/** @type {string} */ selector, key = 'Tab') {
-            const isThere = `document.activeElement === ${at(selector)}`;
-            if (!await driver.value(`${at(selector)} !== null`)) throw new Error(`there is no ${selector}`);
+            const place = `[${at(selector)} !== null, document.activeElement === ${at(selector)}]`;
             for (let tab = 0; tab < TABS_MOST; tab += 1) {
-                if (await driver.value(isThere)) return tab;
+                const [isKnown, isThere] = await driver.value(place);
+                if (!isKnown) throw new Error(`there is no ${selector}`);
+                if (isThere) return;
                 await driver.press(key);
             }
             throw new Error(`${TABS_MOST} times ${key} do not reach ${selector}`);
+        },
+        /** Types in place of what the field has where the keyboard is; a choice is made by its first letters. */
+        async write(/** @type {string} */ text) {
+            const isFilled = await driver.value(
+                "document.activeElement.localName !== 'select' && document.activeElement.value !== ''");
+            if (isFilled) {
+                await driver.press('Control+a');
+                await driver.press('Delete');
+            }
+            if (text !== '') await driver.type(text);
         },
         /** What a press downloads: its name and its bytes. */
         async downloaded(/** @type {() => Promise<unknown>} */ act) {
@@ -106,7 +120,8 @@ export function makeBrowser(driver, downloads) {
                 !fs.existsSync(path.join(downloads, `${name}.part`)) && !name.startsWith('.');
             const name = await until(() => fs.readdirSync(downloads).find(isWhole), 'a download');
             const file = path.join(downloads, name);
-            await until(() => fs.statSync(file).size > 0, `bytes of ${name}`);
+            if (fs.statSync(file).size === 0) await later(EMPTY_FOR); // it is empty, or its bytes are not there yet
+            await until(() => isWhole(name), `the bytes of ${name}`);
             const bytes = fs.readFileSync(file);
             fs.rmSync(file);
             return { name, bytes };

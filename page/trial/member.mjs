@@ -159,7 +159,7 @@ export async function downloads(/** @type {Browser} */ browser, /** @type {House
     let looked = 0;
     for (const [name, head] of Object.entries(HEADS)) {
         const button = await browser.value(`(() => {
-            const one = [...document.querySelectorAll('button')].find(({ textContent }) => textContent === '${name}');
+            const one = [...document.querySelectorAll('#downloads button')].find(({ textContent }) => textContent === '${name}');
             one.id ||= 'download-${name}';
             return '#' + one.id;
         })()`);

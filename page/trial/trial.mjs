@@ -5,6 +5,7 @@
 import assert from 'node:assert/strict';
 import path from 'node:path';
 import process from 'node:process';
+import * as caseworker from './caseworker.mjs';
 import { startChromium } from './chromium.mjs';
 import { startFirefox } from './firefox.mjs';
 import { makeHouse, timed } from './house.mjs';
@@ -21,12 +22,21 @@ const TRIALS = [
     ['by keyboard', member.byKeyboard],
     ['downloads', member.downloads],
     ['a phone', member.phone],
+    ['forms', caseworker.forms],
+    ['refused lines', caseworker.refused],
+    ['what if', caseworker.whatIf],
+    ['saving and undo', caseworker.saveAndUndo],
+    ['the exchange', caseworker.exchange],
+    ['admissions', caseworker.admissions],
+    ['the caseworker by keyboard', caseworker.byKeyboard],
+    ['the caseworker on a phone', caseworker.onPhone],
 ];
 
 async function tryIn(/** @type {import('./browser.mjs').Browser} */ browser, /** @type {any} */ house) {
     await browser.size(...WIDE);
     await member.openPage(browser, house);
-    for (const [name, act] of /** @type {[string, Function][]} */ (TRIALS)) {
+    const chosen = /** @type {[string, Function][]} */ (TRIALS).filter(([name]) => name.includes(process.env.TRIAL ?? ''));
+    for (const [name, act] of chosen) {
         await timed(name, () => act(browser, house)).catch((error) => {
             throw Object.assign(error, { message: `${browser.name}, ${name}: ${error.message}` });
         });
