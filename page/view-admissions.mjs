@@ -48,15 +48,16 @@ export function makeAdmissions(room, work) {
         const made = admissionsOf(text.value);
         const known = new Set(work.securities().map(({ id }) => String(id)));
         const rows = made.faults.slice(0, MOST_SHOWN).map(({ at, text: words }) => [figures.whole(at), { words }]);
-        faults.replaceChildren(table('What is wrong in the file', ['line of the file', { words: 'what is wrong' }], rows));
+        const head = ['line of the file', { words: 'what is wrong' }];
+        faults.replaceChildren(table('What is wrong in the file', head, rows));
         faults.hidden = rows.length === 0;
         batch.show(made.admissions.map(({ values, line }) => {
             const id = line.split(' ')[1];
             return { id, line, state: known.has(id) ? 'admitted already' : 'new', isChosen: !known.has(id) };
         }));
         const good = `${figures.whole(made.admissions.length)} admissions can be said`;
-        const bad = made.faults.length === 0 ? '' : `; ${figures.whole(made.faults.length)} things are wrong in the file`;
-        status.textContent = `${good}${bad}.`;
+        const { length } = made.faults;
+        status.textContent = length === 0 ? `${good}.` : `${good}; ${figures.whole(length)} things are wrong in the file.`;
         if (made.admissions.length > 0) say.focus();
     }
 

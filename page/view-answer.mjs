@@ -25,7 +25,8 @@ function aboutOf(/** @type {string} */ call, record, /** @type {Figures} */ figu
         ['Outside bid', outsideOf(record.extBid, figures)], ['Outside ask', outsideOf(record.extAsk, figures)],
     ];
     const moves = [
-        ['Moves, upper side', figures.whole(record.movesUpper)], ['Moves, lower side', figures.whole(record.movesLower)],
+        ['Moves, upper side', figures.whole(record.movesUpper)],
+        ['Moves, lower side', figures.whole(record.movesLower)],
     ];
     const session = [
         ['Session', sessionOf(record.session)], ['Moves in the evening', figures.whole(record.eveningMoves)],
@@ -56,7 +57,9 @@ function ofInterest(answer, /** @type {string} */ text, /** @type {Figures} */ f
     ]);
     const head = ['days', 'change', 'volatility', 'tentative', 'age', 'up', 'down'];
     return [
-        list([['Repo band, lower', figures.perCent(answer.lower)], ['Repo band, upper', figures.perCent(answer.upper)]]),
+        list([
+            ['Repo band, lower', figures.perCent(answer.lower)], ['Repo band, upper', figures.perCent(answer.upper)],
+        ]),
         el('div', { class: 'scroll' }, table('Key maturities', head, rows)),
     ];
 }
@@ -140,7 +143,10 @@ export function makeAnswer(/** @type {Figures} */ figures, /** @type {Object<str
         el('code', { class: 'typed' }, answer));
     return {
         node,
-        /** @param {Heard} heard @param {{ kept: boolean, faults?: import('./lines.mjs').Fault[], rowLabel?: string }} how */
+        /**
+         * @param {Heard} heard
+         * @param {{ kept: boolean, faults?: import('./lines.mjs').Fault[], rowLabel?: string }} how
+         */
         show(heard, { kept, faults = [], rowLabel }) {
             node.dataset.answer = heard.answer;
             node.dataset.accepted = String(heard.accepted);

@@ -31,7 +31,8 @@ export function makeBatch(caption, { figures, hasFigures, changed }) {
     const body = el('tbody');
     const heads = ['Say', 'Security', 'State', 'Answer', ...(hasFigures ? FIGURES : []), 'The line'];
     const atLeft = new Set(['State', 'Answer', 'The line']);
-    const node = el('div', { class: 'scroll batch', role: 'region', tabindex: '0', 'aria-label': caption, hidden: true },
+    const frame = { class: 'scroll batch', role: 'region', tabindex: '0', 'aria-label': caption, hidden: true };
+    const node = el('div', frame,
         el('table', {}, el('caption', { class: 'apart' }, caption),
             el('thead', {}, el('tr', {}, ...heads.map((head) => (
                 el('th', { scope: 'col', class: atLeft.has(head) ? 'words' : null }, head))))), body));
@@ -40,7 +41,8 @@ export function makeBatch(caption, { figures, hasFigures, changed }) {
 
     function rowOf(/** @type {Item} */ item) {
         const box = el('input', {
-            type: 'checkbox', checked: item.isChosen, onchange: changed, 'aria-label': `Say the line of security ${item.id}`,
+            type: 'checkbox', checked: item.isChosen, onchange: changed,
+            'aria-label': `Say the line of security ${item.id}`,
         });
         const answer = el('td', { class: 'words wrap', 'data-answer': '' }, '–');
         const cells = hasFigures ? FIGURES.map(() => el('td', {}, '–')) : [];
@@ -68,7 +70,8 @@ export function makeBatch(caption, { figures, hasFigures, changed }) {
                 answer.dataset.answer = one.answer;
                 row.className = one.accepted ? 'accepted' : 'refused';
                 const { refused } = one;
-                answer.textContent = refused === undefined ? 'accepted' : `${refusalIn(refused)} What to do: ${refused.todo}.`;
+                answer.textContent = refused === undefined
+                    ? 'accepted' : `${refusalIn(refused)} What to do: ${refused.todo}.`;
                 // The words of a refusal take the room of the figures.
                 cells.forEach((cell) => { cell.hidden = !one.accepted; });
                 /** @type {HTMLTableCellElement} */ (answer).colSpan = one.accepted ? 1 : 1 + cells.length;

@@ -145,8 +145,9 @@ export function makeExchange(room, work) {
         ];
         batch.show(items);
         const unknown = items.filter(({ state }) => state === UNKNOWN).length;
+        const found = `${figures.whole(rows.size)} securities have rows`;
         status.textContent = items.length === 0 ? 'The text has no rows.'
-            : `${figures.whole(rows.size)} securities have rows${unknown > 0 ? `, ${figures.whole(unknown)} of them unknown` : ''}.`;
+            : unknown === 0 ? `${found}.` : `${found}, ${figures.whole(unknown)} of them unknown.`;
     }
 
     function count() {

@@ -10,13 +10,6 @@ export function download(/** @type {string} */ name, /** @type {string | Uint8Ar
     setTimeout(() => URL.revokeObjectURL(link.href), SOON);
 }
 
-/** A text of a character a byte, as bytes. */
-export function bytesOfText(/** @type {string} */ text) {
-    const bytes = new Uint8Array(text.length);
-    for (let at = 0; at < text.length; at += 1) bytes[at] = text.charCodeAt(at);
-    return bytes;
-}
-
 /**
  * A field for a file, and its label as a button.
  * @param {string} id

@@ -31,8 +31,10 @@ const GROUPS = {
 const FIRST_ROWS = { evaluate: 1, interest: 1 };
 
 /** @returns {Form} */
-const startOf = (/** @type {Call} */ call) => (
-    { ...emptyForm(call), rows: Array.from({ length: call.rows === undefined ? 0 : FIRST_ROWS[call.word] ?? 0 }, () => ({})) });
+function startOf(/** @type {Call} */ call) {
+    const length = call.rows === undefined ? 0 : FIRST_ROWS[call.word] ?? 0;
+    return { ...emptyForm(call), rows: Array.from({ length }, () => ({})) };
+}
 
 /** The fields of a call in their groups. */
 function groupsOf(/** @type {Call} */ { word, fields, label }) {

@@ -14,7 +14,8 @@ import { hintOf, makeControl } from './view-field.mjs';
 function headOf(/** @type {string} */ id, /** @type {Head[]} */ heads, /** @type {string} */ corner) {
     const cell = (/** @type {Head} */ { label, name, hint, meaning }, /** @type {number} */ at) => (
         el('th', { scope: 'col', title: meaning }, label, ' ', el('span', { class: 'name' }, name),
-            el('span', { class: 'hint', id: `${id}-hint-${at}` }, hint, el('span', { class: 'apart' }, `. ${meaning}`))));
+            el('span', { class: 'hint', id: `${id}-hint-${at}` },
+                hint, el('span', { class: 'apart' }, `. ${meaning}`))));
     return el('thead', {}, el('tr', {}, el('th', { scope: 'col' }, corner), ...heads.map(cell)));
 }
 

@@ -3,10 +3,10 @@
 import { makeDesk } from './desk.mjs';
 import { button, el } from './element.mjs';
 import { makeFigures } from './figures.mjs';
-import { linesOf, makePrograms } from './programs.mjs';
+import { bytesOf, linesOf, makePrograms } from './programs.mjs';
 import { DOWNLOADS, sheetOfMessages } from './sheet.mjs';
 import { ask } from './view-ask.mjs';
-import { bytesOfText, download } from './view-files.mjs';
+import { download } from './view-files.mjs';
 import { showFailure, showNotices } from './view-notices.mjs';
 import { print } from './view-save.mjs';
 import { showSecurity } from './view-security.mjs';
@@ -23,9 +23,8 @@ const NARROW = '(max-width: 1000px)';
 const room = (id) => /** @type {any} */ (document.getElementById(id));
 const figures = makeFigures(navigator.language);
 const carried = JSON.parse(room('carried').textContent);
-const bytesOf = (base64) => Uint8Array.from(atob(base64), (one) => one.charCodeAt(0));
 const programs = makePrograms(
-    Object.fromEntries(Object.entries(carried.programs).map(([name, base64]) => [name, bytesOf(base64)])),
+    Object.fromEntries(Object.entries(carried.programs).map(([name, base64]) => [name, bytesOf(atob(base64))])),
 );
 const desk = makeDesk(programs);
 
@@ -153,7 +152,7 @@ async function openFile(file) {
 }
 
 function openExample(name) {
-    return open(name, bytesOfText(carried.examples[name]));
+    return open(name, bytesOf(carried.examples[name]));
 }
 
 const openNew = () => open(NEW, new Uint8Array(0), { kind: EVENING, isNew: true });

@@ -9,7 +9,8 @@ const MOST_SHOWN = 30;
  */
 export function makeSaid(again) {
     const list = el('ol', { class: 'said', reversed: true });
-    const empty = el('p', { class: 'dim' }, 'Nothing yet. Each line that the program accepts is kept in the evening’s text.');
+    const empty = el('p', { class: 'dim' },
+        'Nothing yet. Each line that the program accepts is kept in the evening’s text.');
     const node = el('section', { 'aria-label': 'Said since the evening was opened' },
         el('h3', {}, 'Said since the evening was opened'), empty, list);
 

@@ -1,7 +1,8 @@
 // Saving: the evening's text, the broadcast's bytes, the sheet as CSV or on paper.
 import { button, el } from './element.mjs';
+import { bytesOf } from './programs.mjs';
 import { DOWNLOADS } from './sheet.mjs';
-import { bytesOfText, download } from './view-files.mjs';
+import { download } from './view-files.mjs';
 
 /** What each table of the exchange's interface has. @type {Record<string, string>} */
 const HAS = {
@@ -33,7 +34,7 @@ export function makeSave(room, work, counted) {
     function saveText() {
         const text = desk.text();
         const name = `${stem(work.name())}.txt`;
-        download(name, bytesOfText(text));
+        download(name, bytesOf(text));
         desk.saved();
         counted();
         work.status(`Saved: ${name}.`);
@@ -47,7 +48,8 @@ export function makeSave(room, work, counted) {
     }
 
     const part = (/** @type {string} */ title, /** @type {string} */ words, /** @type {Node[]} */ ...inside) => (
-        el('section', {}, el('h3', {}, title), el('p', { class: 'dim' }, words), el('div', { class: 'buttons' }, ...inside)));
+        el('section', {}, el('h3', {}, title), el('p', { class: 'dim' }, words),
+            el('div', { class: 'buttons' }, ...inside)));
     const csv = (/** @type {string} */ name) => button(name, () => {
         download(`${name}.csv`, DOWNLOADS[name](work.securities()), 'text/csv');
     }, { id: `save-${name}`, title: HAS[name] });

@@ -96,7 +96,10 @@ export function makeSay(room, work) {
         const call = /** @type {Call} */ (callOf(word));
         if (!forms.has(word)) {
             const changed = () => line.show(call, /** @type {FormView} */ (forms.get(word)).read());
-            forms.set(word, makeForm(call, { id: 'say', typing, changed, focused: (field) => { about.textContent = field.meaning; } }));
+            const focused = (/** @type {import('./fields.mjs').Field} */ { label, meaning: words }) => {
+                about.textContent = `${label}: ${words}`;
+            };
+            forms.set(word, makeForm(call, { id: 'say', typing, changed, focused }));
             follow(work.chosen(), word);
         }
         form = /** @type {FormView} */ (forms.get(word));

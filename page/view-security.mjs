@@ -62,7 +62,8 @@ export function cards(record, figures) {
         el('div', {}, el('dt', {}, name), el('dd', {}, figure, small && el('div', { class: 'small dim' }, small)));
     return el('dl', { class: 'cards' },
         ...[1, 2, 3].map((level) => card(`rate ${level}`, figures.perCent(record[`s${level}`]))),
-        card('tentative', figures.perCent(record.tentative), `for ${figures.whole(record.age)} ${record.age === 1 ? 'day' : 'days'}`),
+        card('tentative', figures.perCent(record.tentative),
+            `for ${figures.whole(record.age)} ${record.age === 1 ? 'day' : 'days'}`),
         card('volatility', figures.volatility(record.s), `${figures.whole(record.s)} millionths`));
 }
 
