@@ -13,6 +13,7 @@ const FIRST = 'view-main.mjs';
 const PROGRAMS = ['evening', 'why', 'broadcast', 'listen', 'exchange'];
 const EXAMPLES = ['evening.txt', 'why.txt'];
 const IMPORT = /^import \{([^}]*)\} from '\.\/([a-z-]+\.mjs)';$/gm;
+const PASSED_ON = /^export \{([^}]*)\} from '\.\/([a-z-]+\.mjs)';$/gm;
 const EXPORT = /^export (?=(?:async )?(?:function|const|class) ([A-Za-z_$][\w$]*))/gm;
 
 function refuse(what) {
@@ -32,6 +33,11 @@ function gather(file, done, open) {
         .replace(IMPORT, (_, names, from) => {
             imported.push(from);
             return `const {${names.replace(/ as /g, ': ')}} = ${nameOf(from)};`;
+        })
+        .replace(PASSED_ON, (_, names, from) => {
+            imported.push(from);
+            exported.push(names.trim());
+            return `const {${names}} = ${nameOf(from)};`;
         })
         .replace(EXPORT, (_, name) => {
             exported.push(name);

@@ -1,18 +1,18 @@
 // The evening that the caseworker works on: its text, what the programs answered to each line, and the sheet, kept up
 // line by line. A line that is refused is not kept. Nothing is shown here; the views ask this room.
 import { makeBreath } from './breath.mjs';
+import { isAnswered, makeEveningSheet } from './evening-sheet.mjs';
 import { rowsOfExchange } from './exchange.mjs';
 import { heardOf } from './heard.mjs';
 import { perform } from './performing.mjs';
 import { bytesOf, textOf } from './programs.mjs';
-import { isAnswered, makeEveningSheet } from './sheet.mjs';
 import { makeStations } from './stations.mjs';
 import { startTelling } from './telling.mjs';
 import { isEvaluationOf, makeWhatIf } from './what-if.mjs';
 
 /**
  * @typedef {import('./heard.mjs').Heard} Heard
- * @typedef {import('./sheet.mjs').Line} Line
+ * @typedef {import('./evening-sheet.mjs').Line} Line
  * @typedef {import('./telling.mjs').Told} Told
  * @typedef {{ at: number, was: string }} Adopted  Where a what-if was adopted, and the line that stood there.
  */

@@ -1,8 +1,8 @@
 // What became of a line that a person gave: the programs' answers to it, and for a refused one what is wrong in words,
 // with the fields, the row or the term at fault.
+import { firstWord } from './evening-sheet.mjs';
 import { fieldsOf, formOf } from './lines.mjs';
 import { refusedOf } from './refusals.mjs';
-import { firstWord } from './sheet.mjs';
 
 /**
  * @typedef {object} Heard

@@ -12,8 +12,8 @@ import { heardOf, isAccepted } from './heard.mjs';
 const LINES_NEAR = 32; // so many are heard again more quickly than a memory is kept
 
 /**
- * The programs hear twice as many lines at once as were accepted of late. Where one is refused they go back to what they
- * knew a few lines ago, and hear again what was accepted since.
+ * The programs hear twice as many lines at once as were accepted of late. Where one is refused they go back to what
+ * they knew a few lines ago, and hear again what was accepted since.
  * @param {Telling} telling
  * @param {Known} start  What the programs know now. It is left as it is.
  * @param {string[]} texts

@@ -1,8 +1,8 @@
 // The evening as two programs tell it: `evening` and `why` wait side by side for their next lines and are told the same
 // ones. What both know can be kept and put back.
+import { isAnswered } from './evening-sheet.mjs';
 import { startLive } from './live.mjs';
 import { bytesOf } from './programs.mjs';
-import { isAnswered } from './sheet.mjs';
 
 /**
  * @typedef {{ answer: string, why: string }} Told  What the two answered to a line; both are '' for a blank one.

@@ -1,8 +1,9 @@
 // What would be if another line stood in place of a security's last evaluation: the programs are told the security's
 // own lines up to there and the interest lines among them, which is all that an evaluation looks at, and then this one.
 import { wordsOf } from './answers.mjs';
+import { makeEveningSheet } from './evening-sheet.mjs';
 import { heardOf } from './heard.mjs';
-import { dayAt, makeEveningSheet } from './sheet.mjs';
+import { dayAt } from './security.mjs';
 import { startTelling } from './telling.mjs';
 
 /**

@@ -70,7 +70,7 @@ const PRICE = {
 };
 
 /**
- * @typedef {Object<string, any> & {move: Move|null}} Day  What `dayAt` of sheet.mjs gives.
+ * @typedef {Object<string, any> & {move: Move|null}} Day  What `dayAt` of security.mjs gives.
  * @typedef {ReturnType<typeof import('./figures.mjs').makeFigures>} Figures
  */
 

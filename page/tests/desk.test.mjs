@@ -4,8 +4,8 @@
 import assert from 'node:assert/strict';
 import { test } from 'node:test';
 import { makeDesk } from '../desk.mjs';
+import { sheetOfEvening } from '../evening-sheet.mjs';
 import { bytesOf, textOf } from '../programs.mjs';
-import { sheetOfEvening } from '../sheet.mjs';
 import { answersTo, ask, example } from './ask.mjs';
 import { chance, makeEvening } from './evenings.mjs';
 import { example as bytesOfExample, programs } from './release.mjs';

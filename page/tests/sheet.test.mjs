@@ -2,9 +2,13 @@
 // docs/EVENING.md, and not taken from the page's own list.
 import assert from 'node:assert/strict';
 import { test } from 'node:test';
+import { COLUMNS, chosen } from '../columns.mjs';
+import { DOWNLOADS } from '../downloads.mjs';
+import { answeredLines, sheetOfEvening } from '../evening-sheet.mjs';
 import { makeFigures } from '../figures.mjs';
+import { sheetOfMessages } from '../message-sheet.mjs';
 import { linesOf, textOf } from '../programs.mjs';
-import { COLUMNS, DOWNLOADS, answeredLines, chosen, dayAt, sheetOfEvening, sheetOfMessages } from '../sheet.mjs';
+import { dayAt } from '../security.mjs';
 import { makeEvening } from './evenings.mjs';
 import { example, programs } from './release.mjs';
 

@@ -4,9 +4,9 @@
 import assert from 'node:assert/strict';
 import process from 'node:process';
 import { before, test } from 'node:test';
+import { COLUMNS, chosen } from '../columns.mjs';
 import { makeDesk } from '../desk.mjs';
 import { bytesOf } from '../programs.mjs';
-import { COLUMNS, chosen } from '../sheet.mjs';
 import { makeEvening } from './evenings.mjs';
 import { programs } from './release.mjs';
 

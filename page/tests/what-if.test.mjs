@@ -2,11 +2,11 @@
 // replaced, for the security's own lines alone are told to the programs. Nothing is kept until it is adopted.
 import assert from 'node:assert/strict';
 import { test } from 'node:test';
+import { COLUMNS } from '../columns.mjs';
 import { makeDesk } from '../desk.mjs';
 import { makeFigures } from '../figures.mjs';
 import { formOf, lineOf } from '../lines.mjs';
 import { bytesOf } from '../programs.mjs';
-import { COLUMNS } from '../sheet.mjs';
 import { sentencesOf } from '../why.mjs';
 import { answersTo, example } from './ask.mjs';
 import { chance, makeEvening } from './evenings.mjs';

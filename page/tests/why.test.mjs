@@ -1,9 +1,10 @@
 // The exact move, the mark of one that rounding would have hidden, and the sentences.
 import assert from 'node:assert/strict';
 import { test } from 'node:test';
+import { sheetOfEvening } from '../evening-sheet.mjs';
 import { makeFigures } from '../figures.mjs';
 import { linesOf, textOf } from '../programs.mjs';
-import { dayAt, sheetOfEvening } from '../sheet.mjs';
+import { dayAt } from '../security.mjs';
 import { exactMove, hiddenByRounding, isAbove, sentencesOf } from '../why.mjs';
 import { example, programs } from './release.mjs';
 
