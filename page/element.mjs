@@ -46,19 +46,19 @@ export function button(words, onclick, attributes = {}) {
 }
 
 /**
- * A table with a head, a cell a text or an element.
+ * A table with a head, a cell a text or an element. Its caption is for a screen reader, or for everyone.
  * @param {string} caption
  * @param {Cell[]} head
  * @param {Cell[][]} rows
- * @param {Object<string, any>} [attributes]
+ * @param {{ isCaptionShown?: boolean }} [how]
  */
-export function table(caption, head, rows, attributes = {}) {
+export function table(caption, head, rows, { isCaptionShown = false } = {}) {
     const cell = (tag, more) => (/** @type {any} */ one) => {
         const how = one?.words === undefined ? one?.class ?? null : 'words wrap';
         return el(tag, { ...more, class: how }, one?.words ?? one?.cell ?? one);
     };
-    return el('table', attributes,
-        el('caption', { class: 'apart' }, caption),
+    return el('table', {},
+        el('caption', { class: isCaptionShown ? null : 'apart' }, caption),
         el('thead', {}, el('tr', {}, ...head.map(cell('th', { scope: 'col' })))),
         el('tbody', {}, ...rows.map((row) => el('tr', {}, ...row.map(cell('td', {}))))));
 }

@@ -60,7 +60,7 @@ function ofInterest(answer, /** @type {string} */ text, /** @type {Figures} */ f
         list([
             ['Repo band, lower', figures.perCent(answer.lower)], ['Repo band, upper', figures.perCent(answer.upper)],
         ]),
-        el('div', { class: 'scroll' }, table('Key maturities', head, rows)),
+        el('div', { class: 'scroll' }, table('Key maturities', head, rows, { isCaptionShown: true })),
     ];
 }
 
@@ -75,8 +75,8 @@ function ofBond(answer, /** @type {Figures} */ figures) {
             ...[1, 2, 3].map((level) => /** @type {Told} */ ([`Rate ${level}`, figures.perCent(answer[`s${level}`])])),
             ['Tentative rate', figures.perCent(answer.tentative)], ['Age', `${figures.whole(answer.age)} trading days`],
         ]),
-        el('div', { class: 'scroll' }, table('Limits, in per cent of the face value', head, rows)),
-        el('p', { class: 'dim' }, 'Limits are in per cent of the face value.'),
+        el('div', { class: 'scroll' },
+            table('Limits, in per cent of the face value', head, rows, { isCaptionShown: true })),
     ];
 }
 

@@ -80,8 +80,10 @@ export function limitsOf(record, figures) {
             roubles(of('lower')), roubles(of('upper'))];
     });
     return el('div', { class: 'two' },
-        el('div', { class: 'scroll' }, table('Ranges, in roubles', ['level', 'lower', 'upper'], ranges)),
-        el('div', { class: 'scroll' }, table('Bands, in roubles', ['days', 'repo, %', 'lower', 'upper'], bands)));
+        el('div', { class: 'scroll' },
+            table('Ranges, in roubles', ['level', 'lower', 'upper'], ranges, { isCaptionShown: true })),
+        el('div', { class: 'scroll' },
+            table('Bands, in roubles', ['days', 'repo, %', 'lower', 'upper'], bands, { isCaptionShown: true })));
 }
 
 function todayOf(record, figures) {
