@@ -50,7 +50,7 @@ export function button(words, onclick, attributes = {}) {
  * @param {string} caption
  * @param {Cell[]} head
  * @param {Cell[][]} rows
- * @param {{ isCaptionShown?: boolean }} [how]
+ * @param {{ isCaptionShown?: boolean }} how
  */
 export function table(caption, head, rows, { isCaptionShown = false } = {}) {
     const cell = (tag, more) => (/** @type {any} */ one) => {
