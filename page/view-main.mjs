@@ -30,7 +30,7 @@ const desk = makeDesk(programs);
 
 /** What is open: its name, what kind it is, and its sheet. */
 let shown = null;
-let chosenSecurity = null;
+let chosenId = null;
 
 /** A message has a byte 0 among its first ones, in its length; a text has none. */
 function kindOf(bytes) {
@@ -44,10 +44,16 @@ async function sheetOf(bytes, kind) {
 }
 
 function choose(security, byHand) {
-    chosenSecurity = security;
+    chosenId = security.id;
     showSecurity(room('one'), security, figures);
     if (shown?.kind === EVENING) work.chose(security);
     if (byHand && matchMedia(NARROW).matches) room('one').scrollIntoView();
+}
+
+function forgetChosen() {
+    chosenId = null;
+    room('one').replaceChildren();
+    work.chose(null);
 }
 
 const securities = makeTable({ at: room('table'), form: room('filters'), count: room('count') }, figures, choose);
@@ -56,7 +62,8 @@ const work = makeWork({
     figures,
     typing: makeTyping(navigator.language),
     name: () => shown.name,
-    chosen: () => chosenSecurity,
+    // By its id: a line that is taken back may leave another object of the same security.
+    chosen: () => shown?.sheet.securities.find(({ id }) => id === chosenId) ?? null,
     choose: (id) => securities.pick(id),
     securities: () => shown?.sheet.securities ?? [],
     redrawn,
@@ -67,8 +74,8 @@ function redrawn(ids) {
     shown.sheet = desk.sheet;
     const isEmpty = desk.sheet.securities.length === 0;
     room('columns').hidden = isEmpty;
-    if (isEmpty) chosenSecurity = null;
     securities.update(desk.sheet, ids);
+    if (isEmpty) forgetChosen();
     if (shown.noticed !== noticedOf(desk.sheet)) notices();
     room('summary').textContent = summaryOf();
 }
@@ -117,11 +124,10 @@ async function open(name, bytes, { kind = kindOf(bytes), isNew = false } = {}) {
     try {
         const sheet = await sheetOf(bytes, kind);
         shown = { name, bytes, kind, sheet, isNew };
-        chosenSecurity = null;
+        forgetChosen();
         room('welcome').hidden = true;
         room('columns').hidden = sheet.securities.length === 0;
         notices();
-        room('one').replaceChildren();
         if (kind === EVENING) work.opened(isNew);
         else work.closed();
         securities.show(sheet);

@@ -193,7 +193,9 @@ export function makeTable(room, figures, choose) {
             state.sheet = sheet;
             redraw(ids);
             const changed = [...ids].filter((id) => found(id) !== undefined).at(-1);
-            const next = changed ?? (found(state.chosenId) === undefined ? sheet.securities[0]?.id : undefined);
+            const isGone = found(state.chosenId) === undefined;
+            const next = changed ?? (isGone ? sheet.securities[0]?.id : undefined);
+            if (isGone) state.chosenId = null;
             if (next === undefined) return;
             pick(next, false);
             requestAnimationFrame(() => reveal(rows.get(next))); // when all is drawn: places are worked out once

@@ -174,11 +174,11 @@ export function makeWhatIf(room, work) {
     async function keep() {
         if (wanted === null) return;
         const heard = await desk.adopt(security.id, wanted);
-        work.changed(heard);
-        const refused = heard.filter(({ accepted }) => !accepted);
+        work.changed(heard, heard.slice(0, 1));
+        const refused = heard.filter(({ accepted }) => !accepted).length;
         reset();
-        verdict.textContent = 'Kept: the line stands in place of the last evaluation.' + (refused.length === 0 ? ''
-            : ` ${figures.whole(refused.length)} lines behind it are refused now.`);
+        verdict.textContent = 'Kept: the line stands in place of the last evaluation.' + (refused === 0 ? ''
+            : ` Of the lines behind it ${figures.whole(refused)} are refused.`);
     }
 
     return {

@@ -20,7 +20,8 @@ import { RECORD_CALLS, wordsOf } from './answers.mjs';
  * @property {() => Security | null} chosen  The security that is chosen in the table.
  * @property {(id: number) => void} choose  Chooses another one there, where there is one with this id.
  * @property {() => Security[]} securities
- * @property {(heard: Heard[]) => void} changed  Is told of lines that were said.
+ * @property {(heard: Heard[], said?: Heard[]) => void} changed  Is told of lines that were performed, and of those
+ *     among them that she said, where it was not all.
  * @property {(words: string) => void} status  Says a sentence in the bar.
  *
  * @typedef {object} Panel  What a panel is told of.
@@ -58,9 +59,9 @@ export function makeWork(given) {
     const work = {
         ...given,
         status,
-        changed(heard) {
+        changed(heard, said = heard) {
             redrawn(idsOf(heard.filter(({ accepted }) => accepted).map(({ text }) => text)));
-            say.heard(heard);
+            say.heard(said);
             status('');
             count();
         },
