@@ -95,7 +95,9 @@ export function makeSay(room, work) {
     function choose(/** @type {string} */ word) {
         const call = /** @type {Call} */ (callOf(word));
         if (!forms.has(word)) {
-            const changed = () => line.show(call, /** @type {FormView} */ (forms.get(word)).read());
+            const changed = () => {
+                if (form === forms.get(word)) line.show(call, form.read());
+            };
             const focused = (/** @type {import('./fields.mjs').Field} */ { label, meaning: words }) => {
                 about.textContent = `${label}: ${words}`;
             };
