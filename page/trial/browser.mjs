@@ -1,5 +1,5 @@
-// What the trials ask of a browser, whichever it is: chromium.mjs and firefox.mjs drive one each, and what both do alike
-// stands here.
+// What the trials ask of a browser, whichever it is: chromium.mjs and firefox.mjs drive one each, and what both do
+// alike stands here.
 import fs from 'node:fs';
 import os from 'node:os';
 import path from 'node:path';
@@ -10,7 +10,7 @@ import path from 'node:path';
  * @property {(url: string) => Promise<void>} go  Opens a page.
  * @property {(expression: string) => Promise<any>} value  The value of an expression in the page, a promise awaited.
  * @property {(selector: string, file: string) => Promise<void>} give  Puts a file into a field for files.
- * @property {(key: string) => Promise<void>} press  Presses a key of KEYS, with `Shift+` or `Control+` before it or not.
+ * @property {(key: string) => Promise<void>} press  Presses a key of KEYS; `Shift+` or `Control+` may stand before it.
  * @property {(text: string) => Promise<void>} type  Types a text where the keyboard is.
  * @property {(selector: string) => Promise<void>} click  Clicks an element that can be seen.
  * @property {(width: number, height: number, isDark: boolean) => Promise<void>} resize
@@ -23,7 +23,7 @@ import path from 'node:path';
  * @typedef {Awaited<ReturnType<typeof makeBrowser>>} Browser
  */
 
-const PATIENCE = Number(process.env.TRIAL_PATIENCE ?? 60_000); // milliseconds; a busy machine is slow
+const PATIENCE = 30_000; // milliseconds; a busy machine is slow
 const LOOK_AGAIN = 20;
 const TABS_MOST = 400;
 const EMPTY_FOR = 300;

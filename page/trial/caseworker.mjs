@@ -24,7 +24,7 @@ export function answerTo(/** @type {House} */ house, /** @type {string[]} */ bef
 }
 
 /** Opens a panel, if it is not open. */
-async function panel(/** @type {Browser} */ browser, /** @type {string} */ name) {
+export async function panel(/** @type {Browser} */ browser, /** @type {string} */ name) {
     if (await browser.value(`${at(`#panel-${name}`)}.hidden`)) await browser.click(`#tab-${name}`);
     await browser.until(`!${at(`#panel-${name}`)}.hidden`);
 }
@@ -37,8 +37,8 @@ async function newEvening(/** @type {Browser} */ browser, /** @type {House} */ h
 }
 
 /** Types a form's values, from field to field by the key Tab. */
-async function fill(/** @type {Browser} */ browser, /** @type {string} */ form, /** @type {Record<string, string>} */ values,
-    row = '') {
+async function fill(/** @type {Browser} */ browser, /** @type {string} */ form,
+    /** @type {Record<string, string>} */ values, row = '') {
     for (const [name, typed] of Object.entries(values)) {
         const selector = `${form} [name="${name}"]${row === '' ? ':not([data-row])' : `[data-row="${row}"]`}`;
         await browser.tabTo(selector);
@@ -47,7 +47,8 @@ async function fill(/** @type {Browser} */ browser, /** @type {string} */ form, 
 }
 
 /** Fills a call's form by keys, with its rows. */
-async function fillCall(/** @type {Browser} */ browser, /** @type {import('./forms.mjs').Said} */ { call, values, rows = [] }) {
+async function fillCall(/** @type {Browser} */ browser, /** @type {import('./forms.mjs').Said} */ said) {
+    const { call, values, rows = [] } = said;
     const form = `#panel-say form[data-call=${call}]`;
     await fill(browser, form, values);
     for (const [index, row] of rows.entries()) {
@@ -153,7 +154,7 @@ export async function refused(/** @type {Browser} */ browser, /** @type {House} 
     assert.deepEqual(await browser.value(MARKED), ['CLOSE 1']);
     assert.equal(await browser.value(`${at('#unsaved')}.hidden`), true);
     assert.match(await say(browser, 'hello'), /^bad \d+$/);
-    assert.match(await browser.text(`${ANSWER} .verdict`), /No call: the line is no call/);
+    assert.match(await browser.text(`${ANSWER} .verdict`), /^Refused: 'hello' is no call/);
     assert.deepEqual(linesOf(await saved(browser)), before);
     return `${cases.length - 1} lines in words, with the row, term or field; nothing is kept of them`;
 }
@@ -175,12 +176,14 @@ export async function whatIf(/** @type {Browser} */ browser, /** @type {House} *
     await browser.until(`${at('#panel-what-if [data-after]')} !== null`);
     const words = before[place].split(' ');
     words[17] = '1500000';
-    const [was, is] = [before[place], words.join(' ')].map((line) => answerTo(house, before.slice(0, place), line).split(' '));
+    const recordOf = (/** @type {string} */ line) => answerTo(house, before.slice(0, place), line).split(' ');
+    const [was, is] = [before[place], words.join(' ')].map(recordOf);
     assert.equal(is[0], '0');
     const rows = await browser.value(`[...document.querySelectorAll('#panel-what-if tr')]
         .filter((row) => row.querySelector('[data-after]') !== null)
-        .map((row) => [row.querySelector('th').textContent, row.querySelector('[data-before]').textContent,
-            row.querySelector('[data-after]').textContent.replace('changed: ', ''), row.classList.contains('changed')])`);
+        .map((row) => [...['th', '[data-before]', '[data-after]'].map((one) => row.querySelector(one).textContent),
+            row.classList.contains('changed')])
+        .map(([name, before, after, isChanged]) => [name, before, after.replace('changed: ', ''), isChanged])`);
     const places = /** @type {Record<string, [number, number]>} */ ({
         Day: [3, 0], 'Evaluation, roubles': [4, 4], Volatility: [6, 4], 'Tentative rate': [7, 2], 'Rate 1': [9, 2],
         'Rate 2': [10, 2], 'Rate 3': [11, 2], 'Range 1, upper': [12, 4], 'Range 2, upper': [13, 4],
@@ -254,9 +257,11 @@ export async function saveAndUndo(/** @type {Browser} */ browser, /** @type {Hou
 }
 
 /** What stands in the rows of many lines. */
-const BATCH = (/** @type {string} */ name) => `[...document.querySelectorAll('#panel-${name} tr[data-id]')].map((row) => ({
-    id: row.dataset.id, line: row.querySelector('[data-line]').textContent,
-    answer: row.querySelector('[data-answer]').dataset.answer }))`;
+const BATCH = (/** @type {string} */ name) => `[...document.querySelectorAll('#panel-${name} tr[data-id]')]
+    .map((row) => ({
+        line: row.querySelector('[data-line]').textContent,
+        answer: row.querySelector('[data-answer]').dataset.answer,
+    }))`;
 
 /** The exchange's text, typed and as a file: a line for each of its securities. */
 export async function exchange(/** @type {Browser} */ browser, /** @type {House} */ house) {
@@ -272,7 +277,7 @@ export async function exchange(/** @type {Browser} */ browser, /** @type {House}
     await browser.type('7;0;1;0;103;104');
     await browser.click('#exchange-read');
     await browser.until(`${at('#exchange-status')}.textContent !== ''`);
-    assert.match(await browser.text('#exchange-status'), /^Refused \(15\): Line 2: /);
+    assert.match(await browser.text('#exchange-status'), /^Refused \(15\): line 2 of the exchange’s text is bad/);
     await browser.give('#exchange-file', house.example('exchange.txt'));
     await browser.until(`${at('#exchange-status')}.textContent.startsWith('exchange.txt: ')`);
     const form = '#panel-exchange form[data-call=evaluate]';
@@ -322,7 +327,8 @@ export async function admissions(/** @type {Browser} */ browser, /** @type {Hous
     await browser.tabTo('#admissions-say');
     await browser.press('Enter');
     await browser.until(`(${BATCH('admissions')}).every(({ answer }) => answer !== '')`);
-    assert.deepEqual((await browser.value(BATCH('admissions'))).map((/** @type {any} */ one) => one.answer), ['0', '0']);
+    const answers = (await browser.value(BATCH('admissions'))).map((/** @type {any} */ one) => one.answer);
+    assert.deepEqual(answers, ['0', '0']);
     assert.deepEqual((await browser.value(TABLE)).map((/** @type {any} */ row) => row.id), ['21', '22']);
     await browser.picture(house.pictureOf(browser.name, 'admissions'));
     assert.deepEqual(linesOf(await saved(browser)), lines);

@@ -98,7 +98,8 @@ export async function startChromium() {
             const modifiers = (isShift ? SHIFT : 0) + (isControl ? CONTROL : 0);
             const one = { key, code: key.length === 1 ? undefined : key, windowsVirtualKeyCode: code, modifiers };
             const commands = isControl && key === 'a' ? ['selectAll'] : undefined;
-            await call('Input.dispatchKeyEvent', { type: 'keyDown', ...one, text: isControl ? undefined : text, commands });
+            const written = isControl ? undefined : text;
+            await call('Input.dispatchKeyEvent', { type: 'keyDown', ...one, text: written, commands });
             await call('Input.dispatchKeyEvent', { type: 'keyUp', ...one });
         },
         async type(text) {

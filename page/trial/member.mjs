@@ -43,6 +43,7 @@ const showLimits = (/** @type {boolean} */ isShown) => `for (const name of ['ran
 /** All figures of a text: the table, and each security by itself, or so many of them. */
 async function figuresOf(/** @type {Browser} */ browser, /** @type {House} */ house, /** @type {string} */ file) {
     const told = toldIn(house, file);
+    await openPage(browser, house);
     await openFile(browser, file);
     await browser.value(`(() => { ${showLimits(true)} })()`);
     const inTable = lookAtTable(await browser.value(TABLE), told);
@@ -83,6 +84,7 @@ export async function broadcast(/** @type {Browser} */ browser, /** @type {House
     const file = house.example('evening.txt');
     const told = toldIn(house, file);
     const whole = house.run('broadcast', fs.readFileSync(file));
+    await openPage(browser, house);
     await openFile(browser, house.fileOf('messages', whole));
     await browser.value(`(() => { ${showLimits(true)} })()`);
     const looked = lookAtTable(await browser.value(TABLE), told, false);
@@ -154,12 +156,14 @@ const ROWS = {
 /** The files that a browser has downloaded, against the answers. */
 export async function downloads(/** @type {Browser} */ browser, /** @type {House} */ house) {
     const told = toldIn(house, house.example('evening.txt'));
+    await openPage(browser, house);
     await openFile(browser, house.example('evening.txt'));
     const live = [...told.values()].map((one) => one[one.length - 1].answer).filter((words) => words[2] === '1');
     let looked = 0;
     for (const [name, head] of Object.entries(HEADS)) {
         const button = await browser.value(`(() => {
-            const one = [...document.querySelectorAll('#downloads button')].find(({ textContent }) => textContent === '${name}');
+            const all = [...document.querySelectorAll('#downloads button')];
+            const one = all.find(({ textContent }) => textContent === '${name}');
             one.id ||= 'download-${name}';
             return '#' + one.id;
         })()`);
@@ -183,6 +187,7 @@ export async function fits(/** @type {Browser} */ browser, /** @type {string} */
 
 /** A phone's width: nothing runs over. */
 export async function phone(/** @type {Browser} */ browser, /** @type {House} */ house) {
+    await openPage(browser, house);
     await openFile(browser, house.example('evening.txt'));
     await browser.size(390, 844);
     await fits(browser, 'the sheet');

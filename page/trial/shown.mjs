@@ -33,7 +33,8 @@ export function toldOf(/** @type {string[]} */ lines, /** @type {string[]} */ an
         const line = text.split(/[ \t\r]+/).filter((word) => word !== '');
         const answer = answers[at].split(' ');
         if (answer[0] !== '0') return;
-        const one = { call: line[0], line: line.map((word) => (/^-?\d+$/.test(word) ? String(BigInt(word)) : word)), answer };
+        const plain = line.map((word) => (/^-?\d+$/.test(word) ? String(BigInt(word)) : word)); // 007 is 7
+        const one = { call: line[0], line: plain, answer };
         if (one.call === 'admit') told.set(one.line[1], [one]);
         else if (answer.length === RECORD_WORDS) told.get(answer[1]).push(one);
     });
@@ -67,7 +68,8 @@ export function lookAtTable(/** @type {Record<string, string>[]} */ rows, /** @t
     return looked;
 }
 
-// What one security shows, as pieces of text with what they stand in; drawings and tables that come later are waited for.
+// What one security shows, as pieces of text with what they stand in; drawings and tables that come later are waited
+// for.
 const ALL_OF = (/** @type {string[]} */ ids) => `(async () => {
     const frame = () => new Promise((done) => requestAnimationFrame(() => setTimeout(done)));
     const shown = [];

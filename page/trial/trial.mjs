@@ -1,27 +1,32 @@
-// Tries the page in headless browsers, as a member and as the caseworker would. Pictures are written to target/page/.
-//   node page/trial/trial.mjs PAGE RANDOM BROWSER...
-// PAGE is the file that outside/page made, RANDOM a random evening's text, BROWSER chromium or firefox. outside/try-page
-// calls it with all of them. Status 1 says that something was not as it has to be; status 2 that a browser does not start.
+// Tries the page in a headless browser, as a member and as the caseworker would. Pictures are written to target/page/.
+//   node page/trial/trial.mjs PAGE RANDOM BROWSER [TRIAL]
+// PAGE is the file that outside/page made, RANDOM a random evening's text, BROWSER chromium or firefox, TRIAL a part of
+// the names of the trials that are wanted. outside/try-page calls it. Status 1 says that something was not as it has to
+// be; status 2 that the browser does not start.
 import assert from 'node:assert/strict';
 import path from 'node:path';
 import process from 'node:process';
+import { start } from './browsers.mjs';
 import * as caseworker from './caseworker.mjs';
-import { startChromium } from './chromium.mjs';
-import { startFirefox } from './firefox.mjs';
+import { greatEvening } from './great.mjs';
 import { makeHouse, timed } from './house.mjs';
 import * as member from './member.mjs';
+import { onPaper } from './paper.mjs';
 
-const START = { chromium: startChromium, firefox: startFirefox };
 const WIDE = /** @type {const} */ ([1500, 1050]);
 
+/**
+ * @typedef {(browser: import('./browser.mjs').Browser, house: import('./house.mjs').House) => Promise<string>} Act
+ * @type {[string, Act][]}
+ */
 const TRIALS = [
     ['the example evening', member.exampleEvening],
     ['a random evening', member.randomEvening],
     ['the example of why', member.why],
     ['a broadcast', member.broadcast],
-    ['by keyboard', member.byKeyboard],
+    ['a member by keyboard', member.byKeyboard],
     ['downloads', member.downloads],
-    ['a phone', member.phone],
+    ['a member on a phone', member.phone],
     ['forms', caseworker.forms],
     ['refused lines', caseworker.refused],
     ['what if', caseworker.whatIf],
@@ -30,38 +35,31 @@ const TRIALS = [
     ['admissions', caseworker.admissions],
     ['the caseworker by keyboard', caseworker.byKeyboard],
     ['the caseworker on a phone', caseworker.onPhone],
+    ['on paper', onPaper],
+    ['512 securities, 250 days', greatEvening],
 ];
 
-async function tryIn(/** @type {import('./browser.mjs').Browser} */ browser, /** @type {any} */ house) {
-    await browser.size(...WIDE);
-    await member.openPage(browser, house);
-    const chosen = /** @type {[string, Function][]} */ (TRIALS).filter(([name]) => name.includes(process.env.TRIAL ?? ''));
-    for (const [name, act] of chosen) {
-        await timed(name, () => act(browser, house)).catch((error) => {
-            throw Object.assign(error, { message: `${browser.name}, ${name}: ${error.message}` });
-        });
-    }
-    assert.deepEqual(await browser.complaints(), [], `${browser.name}: the page has errors, or asks the network`);
-}
-
-const [page, random, ...names] = process.argv.slice(2);
+const [page, random, name, wanted = ''] = process.argv.slice(2);
 const house = makeHouse({ page: path.resolve(page), random: path.resolve(random) });
+const browser = await start(name).catch((error) => {
+    console.error(`trial: ${name} does not start (${error.message})`);
+    house.leave();
+    process.exit(2);
+});
+console.log(`trial: ${browser.name}`);
+let now = '';
 try {
-    for (const name of names) {
-        const browser = await START[/** @type {keyof typeof START} */ (name)]().catch((error) => {
-            process.exitCode = 2;
-            throw new Error(`${name} does not start (${error.message})`);
-        });
-        process.stdout.write(`trial: ${browser.name}\n`);
-        try {
-            await tryIn(browser, house);
-        } finally {
-            await browser.end();
-        }
+    await browser.size(...WIDE);
+    for (const [title, act] of TRIALS.filter(([one]) => one.includes(wanted))) {
+        now = title;
+        await timed(title, () => act(browser, house));
     }
+    assert.deepEqual(await browser.complaints(), [], 'the page has errors, or asks the network');
 } catch (error) {
-    console.error(`trial: ${process.env.TRIAL_STACK ? error.stack : error.message}`);
-    process.exitCode ??= 1;
+    console.error(`trial: ${browser.name}, ${now}: ${error.stack}`);
+    await browser.picture(house.pictureOf(browser.name, 'fault')).catch(() => {});
+    process.exitCode = 1;
 } finally {
+    await browser.end();
     house.leave();
 }
