@@ -191,6 +191,13 @@ need_typescript() {
     has tsc || cannot "there is still no tsc"
 }
 
+# What a browser prints is read by its pdftotext.
+need_poppler() {
+    has pdftotext && return
+    install_packages "pdftotext is missing" --no-install-recommends poppler-utils
+    has pdftotext || cannot "there is still no pdftotext"
+}
+
 # The page is tried in both, headless. It has to be in the first; Debian has the second not for every machine, and where
 # it is not to be had the page is tried without it.
 need_chromium() {
@@ -350,6 +357,7 @@ release_sources() {
     {
         sources
         find VERSION CHANGELOG.md docs examples gateway outside release -type f -exec sha256sum {} + 2>/dev/null | sort
+        sha256sum page/*.*
     } | sha256sum | cut -d' ' -f1
 }
 
