@@ -64,19 +64,20 @@ for (const [name, lines] of Object.entries(evenings)) {
         assert.equal(desk.unsaved, kept.length);
     });
 
-    test(`${name} is said in groups, and one at a time: the same is heard and kept`, async () => {
-        const [one, other] = [await openDesk(), await openDesk()];
-        const heard = [];
+    test(`${name} is said at once, in groups, and one at a time: the same is heard and kept`, async () => {
+        const said = async (sizeOf) => {
+            const desk = await openDesk();
+            const heard = [];
+            for (let at = 0, size = 0; at < lines.length; at += size) {
+                size = sizeOf();
+                heard.push(...await desk.say(lines.slice(at, at + size)));
+            }
+            return { heard, text: desk.text(), sheet: shown(desk.sheet) };
+        };
         const next = chance(5);
-        for (let at = 0, size = 0; at < lines.length; at += size) {
-            size = 1 + next(30);
-            heard.push(...await one.say(lines.slice(at, at + size)));
-        }
-        const single = [];
-        for (const line of lines) single.push(...await other.say([line]));
-        assert.deepEqual(heard, single);
-        assert.equal(one.text(), other.text());
-        assert.deepEqual(shown(one.sheet), shown(other.sheet));
+        const single = await said(() => 1);
+        assert.deepEqual(await said(() => 1 + next(30)), single);
+        assert.deepEqual(await said(() => lines.length), single);
     });
 
     test(`${name}: what is asked is answered as if it were said, and changes nothing`, async () => {
@@ -90,6 +91,7 @@ for (const [name, lines] of Object.entries(evenings)) {
         assert.equal(desk.unsaved, 0);
         assert.deepEqual(asked, await other.say(lines.slice(half)));
         assert.deepEqual(asked, await desk.say(lines.slice(half)));
+        assert.deepEqual(shown(desk.sheet), due(desk.text())); // what was looked at before is looked at again
     });
 
     test(`${name} is undone line by line, to the empty text`, async () => {
@@ -106,6 +108,7 @@ for (const [name, lines] of Object.entries(evenings)) {
             }
         }
         assert.deepEqual(texts, [...lines].reverse());
+        assert.ok(due(asText(lines)).securities.every(({ id }) => desk.lastEvaluation(id) === null));
         assert.deepEqual([desk.unsaved, desk.canUndo, await desk.undo()], [lines.length, false, null]);
         assert.equal(desk.unsaved, lines.length);
     });
@@ -129,6 +132,11 @@ test('lines are said and undone at random, and all is as the text says', async (
         assert.equal(desk.text(), asText(kept));
     }
     assert.deepEqual(shown(desk.sheet), due(asText(kept)));
+    for (const { id, days } of desk.sheet.securities) {
+        const { after } = await desk.whatIf(id, desk.lastEvaluation(id).replace(/ 1 1200 1900 /, ' 1 0/1 '));
+        const at = days[days.length - 1].line.number - 1;
+        assert.equal(after.answer, answersTo('evening', [...kept.slice(0, at), after.text])[at]);
+    }
     const reads = [1001, 1002, 1003, 1004].map((id) => `read ${id}`);
     const heard = await desk.ask(reads);
     assert.deepEqual(heard.map(({ answer }) => answer), answersTo('evening', [...kept, ...reads]).slice(kept.length));

@@ -138,6 +138,20 @@ for (const [name, lines] of Object.entries(evenings)) {
     });
 }
 
+test('an interest line that was undone is in no what-if', async () => {
+    const lines = example('evening.txt');
+    const [admit, interest, other] = [lines[0], lines[28], lines[33]]; // two of the pair 0/1, with other repo bands
+    const day = (number) => `evaluate 7 ${number} 0 0 1 0/1 0 0 0 0 0 0 0 10000 0 1030000 0 0 5`;
+    const desk = await openDesk([admit, interest]);
+    await desk.say([other]);
+    const { answer } = (await desk.ask([day(4)]))[0];
+    assert.equal(await desk.undo(), other);
+    await desk.say([day(4), day(5)]);
+    const { before, after } = await desk.whatIf(7, day(5));
+    assert.equal(after.answer, before.answer);
+    assert.notEqual(answer, answersTo('evening', [admit, interest, day(4)])[2]);
+});
+
 test('a what-if that is refused is not adopted, and says what is at fault', async () => {
     const lines = example('evening.txt');
     const desk = await openDesk(lines);

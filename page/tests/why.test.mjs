@@ -3,7 +3,7 @@ import assert from 'node:assert/strict';
 import { test } from 'node:test';
 import { sheetOfEvening } from '../evening-sheet.mjs';
 import { makeFigures } from '../figures.mjs';
-import { linesOf, textOf } from '../programs.mjs';
+import { bytesOf, linesOf, textOf } from '../programs.mjs';
 import { dayAt } from '../security.mjs';
 import { exactMove, hiddenByRounding, isAbove, sentencesOf } from '../why.mjs';
 import { example, programs } from './release.mjs';
@@ -43,6 +43,26 @@ test('case 7: a third of a millionth over the volatility, which rounding first w
         'Rounded to the nearest millionth first it would have been 20,000, not above the volatility of 20,000: the ' +
             'move would have been hidden.',
     ]);
+});
+
+test('on a later day the mark looks at both evaluations before it, and at the volatility of the day before', async () => {
+    const admit = textOf(whyText).split('\n')[0];
+    const day = (number, price) => `evaluate 7 ${number} 0 0 0 0 0 0 0 0 0 0 0 0 10000 0 ${price} 0 0 5`;
+    const opened = async (...lines) => {
+        const input = bytesOf(lines.map((line) => `${line}\n`).join(''));
+        const [answers, whys] = [await programs.run('evening', input), await programs.run('why', input)].map(linesOf);
+        return { answers, one: sheetOfEvening(textOf(input), answers, whys).securities[0] };
+    };
+    const first = [admit, day(4, 303000000)];
+    const volatility = Number((await opened(...first)).answers[1].split(' ')[6]);
+    // A third of a millionth over it, from the evaluation before the last one; the last one is nearer.
+    const { one } = await opened(...first, day(5, 300000000 + 300 * volatility + 100));
+    assert.deepEqual([one.hidden, [...one.happened].includes('hidden')], [[1], true]);
+    assert.equal(dayAt(one, 1).move.from, 300000000);
+    const { one: level } = await opened(...first, day(5, 300000000 + 300 * volatility));
+    assert.deepEqual(level.hidden, []);
+    const { one: seen } = await opened(...first, day(5, 300000000 + 300 * volatility + 200));
+    assert.deepEqual(seen.hidden, []);
 });
 
 test('a hundredth of a rouble less is level, and nothing is hidden', () => {
