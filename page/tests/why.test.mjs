@@ -45,7 +45,7 @@ test('case 7: a third of a millionth over the volatility, which rounding first w
     ]);
 });
 
-test('on a later day the mark looks at both evaluations before it, and at the volatility of the day before', async () => {
+test('on a later day the mark looks at both evaluations before it, and at the volatility then', async () => {
     const admit = textOf(whyText).split('\n')[0];
     const day = (number, price) => `evaluate 7 ${number} 0 0 0 0 0 0 0 0 0 0 0 0 10000 0 ${price} 0 0 5`;
     const opened = async (...lines) => {
