@@ -3,6 +3,7 @@
 import assert from 'node:assert/strict';
 import { test } from 'node:test';
 import { wordOf } from '../fields.mjs';
+import { heardOf } from '../heard.mjs';
 import { formOf, lineOf } from '../lines.mjs';
 import { answersTo } from './ask.mjs';
 import { chance } from './evenings.mjs';
@@ -59,13 +60,19 @@ for (const [word, line] of Object.entries(good)) {
     test(`a form of ${word} has a fault exactly where the program says so`, () => {
         assert.deepEqual(lineOf(formOf(line).call, formOf(line).form), { line, faults: [] });
         const lines = changed(line, 900, 7);
-        const answers = answersTo('evening', [...before, ...lines.map((made) => made.line)]).slice(before.length);
+        const evening = [...before, ...lines.map((made) => made.line)];
+        const [answers, whys] = ['evening', 'why'].map((name) => answersTo(name, evening).slice(before.length));
         const seen = { taken: 0, refused: 0 };
         lines.forEach((made, at) => {
             const refused = judgedByForm(word).includes(answers[at].split(' ')[0]);
             seen[refused ? 'refused' : 'taken'] += 1;
             const seenBoth = `${made.line}: ${answers[at]}, ${JSON.stringify(made.faults)}`;
             assert.equal(made.faults.length > 0, refused, seenBoth);
+            // A refusal names a field at fault, in the row or the term that `why` names.
+            const { faults = [] } = heardOf(made.line, { answer: answers[at], why: whys[at] });
+            if (refused) assert.ok(faults.length > 0 && faults.every(({ text }) => text !== undefined), seenBoth);
+            const [, row] = / row (\d+)/.exec(whys[at]) ?? [];
+            if (row !== undefined) assert.ok(faults.every((fault) => fault.row === Number(row)), whys[at]);
         });
         assert.ok(seen.taken > 200 && seen.refused > 200, JSON.stringify(seen));
     });
