@@ -18,6 +18,7 @@ import { isEvaluationOf, makeWhatIf } from './what-if.mjs';
  */
 
 const LINES_AT_ONCE = 4096;
+const LINES_FAR = 8 * LINES_AT_ONCE; // returns to a line that was read are few, but for the last ones
 const LINES_NEAR = 32; // so far before a line that was returned to, the next return may be to
 
 /** The lines of a text; the last may lack its line feed. */
@@ -82,7 +83,8 @@ export function makeDesk(programs) {
             const some = texts.slice(at, at + LINES_AT_ONCE);
             const told = telling.hear(some);
             some.forEach((text, which) => write(text, told[which]));
-            stations.stopAt(lines.length, telling);
+            const left = texts.length - at - some.length;
+            if (left < LINES_AT_ONCE || at % LINES_FAR === 0) stations.stopAt(lines.length, telling);
             await breathe();
         }
     }
