@@ -75,9 +75,8 @@ function protocolOf(/** @type {net.Socket} */ socket) {
     return (/** @type {string} */ command, words = {}) => new Promise((answer, refuse) => {
         last += 1;
         waiting.set(last, { answer, refuse });
-        const message = Buffer.from(JSON.stringify([0, last, command, words]));
-        socket.write(`${message.length}:`);
-        socket.write(message);
+        const message = JSON.stringify([0, last, command, words]);
+        socket.write(`${Buffer.byteLength(message)}:${message}`);
     });
 }
 
@@ -101,6 +100,7 @@ export async function startFirefox() {
     const started = spawn('firefox-esr', words, { stdio: 'ignore', env });
     const failed = new Promise((_, refuse) => started.on('error', refuse));
     const socket = net.connect(await portOf(folder, /** @type {Promise<never>} */ (failed)), '127.0.0.1');
+    socket.setNoDelay(true);
     const send = protocolOf(socket);
     const { capabilities } = await send('WebDriver:NewSession', SESSION);
     await send('WebDriver:SetWindowRect', ROOM);
