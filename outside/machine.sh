@@ -190,6 +190,41 @@ need_node() {
     has node || cannot "there is still no node"
 }
 
+# The page has programs that wait for their next line: wasm-opt makes them so.
+need_binaryen() {
+    has wasm-opt && return
+    install_packages "wasm-opt is missing" binaryen
+    has wasm-opt || cannot "there is still no wasm-opt"
+}
+
+# The types that the comments of page/ give are checked by it. Debian's is pinned by its release, as node is.
+need_typescript() {
+    has tsc && return
+    install_packages "tsc is missing" --no-install-recommends node-typescript
+    has tsc || cannot "there is still no tsc"
+}
+
+# What a browser prints is read by its pdftotext.
+need_poppler() {
+    has pdftotext && return
+    install_packages "pdftotext is missing" --no-install-recommends poppler-utils
+    has pdftotext || cannot "there is still no pdftotext"
+}
+
+# The page is tried in both, headless. It has to be in the first; Debian has the second not for every machine, and where
+# it is not to be had the page is tried without it.
+need_chromium() {
+    has chromium && return
+    install_packages "chromium is missing" --no-install-recommends chromium
+    has chromium || cannot "there is still no chromium, and the page has to be tried in a browser"
+}
+
+need_firefox() {
+    has firefox-esr && return
+    (install_packages "firefox-esr is missing" --no-install-recommends firefox-esr) ||
+        echo "${0##*/}: without firefox-esr the page is tried in chromium alone" >&2
+}
+
 # objdump knows the processors that it was built for, and every C compiler brings the one for its own.
 need_objdump() {
     has "$objdump" && return
@@ -331,7 +366,7 @@ need_archive() { # NAME
 }
 
 # What a release is made from, and one number for all of it.
-release_of='VERSION CHANGELOG.md crates crates.txt docs examples gateway outside release'
+release_of='VERSION CHANGELOG.md crates crates.txt docs examples gateway outside page release'
 release_sources() {
     {
         sources

@@ -1,7 +1,8 @@
 // Puts the page into one file: the style, the modules from page/view-main.mjs on, the programs and the examples.
 //   node outside/page.mjs FOLDER VERSION PAGE
-// FOLDER is an unpacked release of WebAssembly. A page that is opened from a folder cannot load modules, so each
-// becomes a function that hands out what it exports, behind the functions of those that it imports.
+// FOLDER has the programs as WebAssembly, `evening` and `why` made to wait for a line. A page that is opened from a
+// folder cannot load modules, so each becomes a function that hands out what it exports, behind the functions of those
+// that it imports.
 // Status 1 says that a source is none that can be put so.
 import { createHash } from 'node:crypto';
 import fs from 'node:fs';
@@ -12,6 +13,7 @@ const FIRST = 'view-main.mjs';
 const PROGRAMS = ['evening', 'why', 'broadcast', 'listen', 'exchange'];
 const EXAMPLES = ['evening.txt', 'why.txt'];
 const IMPORT = /^import \{([^}]*)\} from '\.\/([a-z-]+\.mjs)';$/gm;
+const PASSED_ON = /^export \{([^}]*)\} from '\.\/([a-z-]+\.mjs)';$/gm;
 const EXPORT = /^export (?=(?:async )?(?:function|const|class) ([A-Za-z_$][\w$]*))/gm;
 
 function refuse(what) {
@@ -31,6 +33,11 @@ function gather(file, done, open) {
         .replace(IMPORT, (_, names, from) => {
             imported.push(from);
             return `const {${names.replace(/ as /g, ': ')}} = ${nameOf(from)};`;
+        })
+        .replace(PASSED_ON, (_, names, from) => {
+            imported.push(from);
+            exported.push(names.trim());
+            return `const {${names}} = ${nameOf(from)};`;
         })
         .replace(EXPORT, (_, name) => {
             exported.push(name);

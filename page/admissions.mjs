@@ -1,5 +1,6 @@
 // Admissions from a file of comma-separated values, a security a line. The first line names the columns, in any order:
-// the names of docs/EVENING.md, with the unit in brackets or without. Values are typed as in the form.
+// the names of docs/EVENING.md, with the unit in brackets or without. Values are typed as in the form, with a point. A
+// file that is parted by semicolons comes from a place that writes a comma in a number, and there one is the point.
 import { callOf } from './fields.mjs';
 import { lineOf, sentenceOf } from './lines.mjs';
 
@@ -59,7 +60,8 @@ export function admissionsOf(text) {
             faults.push({ at, text: `The line has ${cells.length} cells, and there are ${names.length} columns.` });
             return;
         }
-        const values = Object.fromEntries(names.map((name, column) => [name, cells[column]]));
+        const typed = separator === ';' ? cells.map((cell) => cell.replace(/^(-?\d+),(\d+)$/, '$1.$2')) : cells;
+        const values = Object.fromEntries(names.map((name, column) => [name, typed[column]]));
         const judged = lineOf(admit, { values, rows: [] });
         faults.push(...judged.faults.map((fault) => ({ at, text: sentenceOf(fault) })));
         if (judged.line !== undefined && judged.faults.length === 0) admissions.push({ values, line: judged.line });

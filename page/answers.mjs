@@ -53,7 +53,10 @@ function named(names, numbers) {
     if (numbers.length !== names.length) {
         throw new Error(`${names.length} numbers were due, and ${numbers.length} came`);
     }
-    return Object.fromEntries(names.map((name, at) => [name, Number(numbers[at])]));
+    /** @type {Object<string, any>} */
+    const made = {};
+    for (let at = 0; at < names.length; at += 1) made[names[at]] = Number(numbers[at]);
+    return made;
 }
 
 /** Numbers that come in groups, each group with the same names. */
@@ -69,7 +72,7 @@ function groups(names, numbers) {
  * The answer of `evening` to a line.
  * @param {string} call the first word of the line
  * @param {string} answer the line that was answered
- * @returns {{kind: 'admitted'|'record'|'quote'|'interest'|'bond'|'refused'|'bad'} & Object<string, any>}
+ * @returns {Object<string, any>} `kind` is 'admitted', 'record', 'quote', 'interest', 'bond', 'refused' or 'bad'
  */
 export function answerOf(call, answer) {
     const [verdict, ...numbers] = wordsOf(answer);
@@ -89,6 +92,16 @@ export function answerOf(call, answer) {
     throw new Error(`there is no call '${call}'`);
 }
 
+const LOOKED_AT = ['p1', 'p2', 's', 's1'].map((name) => ({ name, place: RECORD.indexOf(name) + 1 }));
+const LOOKED_AT_MOST = Math.max(...LOOKED_AT.map(({ place }) => place)) + 1;
+
+/** The figures of a record's answer that a move is held against, and no others: a year has many days. */
+export function briefOf(answer) {
+    const words = answer.split(' ', LOOKED_AT_MOST);
+    const [p1, p2, s, s1] = LOOKED_AT.map(({ place }) => Number(words[place]));
+    return { p1, p2, s, s1 };
+}
+
 /** The numbers of an accepted admission's line. */
 export function admissionOf(line) {
     return named(ADMISSION, wordsOf(line).slice(1));
@@ -101,9 +114,9 @@ export function dayOf(line) {
 
 /**
  * The answer of `why` to an evaluation: the reasons by their names, or the place at fault.
- * @returns {{kind: 'reasons', price: string, weight: string, replacement: string, tentative: string, level1: string,
- *   level2: string, level3: string} | {kind: 'fault', number: number, at: 'row'|'term'|'none', which?: number}
- *   | {kind: 'bad', line: number}}
+ * @param {string} answer
+ * @returns {Object<string, any>} `kind` is 'reasons', with price, weight, replacement, tentative and level1 to level3;
+ *   'fault', with its number, `at` ('row', 'term' or 'none') and `which`; or 'bad', with its line
  */
 export function reasonsOf(answer) {
     const [verdict, ...words] = wordsOf(answer);
@@ -112,12 +125,17 @@ export function reasonsOf(answer) {
         const fault = { kind: 'fault', number: Number(verdict), at: words[0] ?? 'none' };
         return words.length > 1 ? { ...fault, which: Number(words[1]) } : fault;
     }
+    /** @type {Object<string, any>} */
     const reasons = { kind: 'reasons' };
     for (let at = 0; at + 1 < words.length; at += 2) reasons[words[at]] = words[at + 1];
     return reasons;
 }
 
-/** A line of `listen`. */
+/**
+ * A line of `listen`.
+ * @param {string} line
+ * @returns {Object<string, any>} `kind` is its first word
+ */
 export function heardOf(line) {
     const [kind, ...numbers] = wordsOf(line);
     switch (kind) {

@@ -2,6 +2,12 @@
 
 const SVG = 'http://www.w3.org/2000/svg';
 
+/**
+ * @typedef {Node | string | null | undefined | false | ''} Inside  What stands in an element; nothing stands for none.
+ * @typedef {{ words: string | Node } | { cell: string | Node, class?: string } | string | Node} Cell
+ *     A cell of a table: words stand at the left and may take several lines.
+ */
+
 function fill(made, attributes, inside) {
     for (const [name, value] of Object.entries(attributes)) {
         if (value === null || value === undefined || value === false) continue;
@@ -12,21 +18,47 @@ function fill(made, attributes, inside) {
     return made;
 }
 
-/** An element of HTML. */
+/**
+ * An element of HTML. An attribute that begins with "on" is a listener.
+ * @param {string} tag
+ * @param {Object<string, any>} [attributes]
+ * @param {...Inside} inside
+ * @returns {any}
+ */
 export function el(tag, attributes = {}, ...inside) {
     return fill(document.createElement(tag), attributes, inside);
 }
 
-/** An element of SVG. */
+/**
+ * An element of SVG.
+ * @param {string} tag
+ * @param {Object<string, any>} [attributes]
+ * @param {...Inside} inside
+ * @returns {any}
+ */
 export function svg(tag, attributes = {}, ...inside) {
     return fill(document.createElementNS(SVG, tag), attributes, inside);
 }
 
-/** A table with a head; a cell that is a text becomes one, and a cell `{words: ..}` stands at the left. */
-export function table(caption, head, rows) {
-    const cell = (tag, attributes) => (one) =>
-        el(tag, { ...attributes, class: one?.words === undefined ? null : 'words wrap' }, one?.words ?? one);
-    return el('table', { 'aria-label': caption },
+/** A button that is no submit. */
+export function button(words, onclick, attributes = {}) {
+    return el('button', { type: 'button', onclick, ...attributes }, words);
+}
+
+/**
+ * A table with a head, a cell a text or an element. Its caption is for a screen reader, or for everyone.
+ * @param {string} caption
+ * @param {Cell[]} head
+ * @param {Cell[][]} rows
+ * @param {{ isCaptionShown?: boolean }} how
+ */
+export function table(caption, head, rows, { isCaptionShown = false } = {}) {
+    const cell = (tag, more) => (/** @type {any} */ one) => {
+        const how = one?.words === undefined ? one?.class ?? null : 'words wrap';
+        return el(tag, { ...more, class: how }, one?.words ?? one?.cell ?? one);
+    };
+    return el('table', {},
+        el('caption', { class: isCaptionShown ? null : 'apart' }, caption),
         el('thead', {}, el('tr', {}, ...head.map(cell('th', { scope: 'col' })))),
         el('tbody', {}, ...rows.map((row) => el('tr', {}, ...row.map(cell('td', {}))))));
 }

@@ -35,8 +35,10 @@ const NONE = '–';
  * @param {string} [language] a language tag; the machine's own where there is none
  */
 export function makeFigures(language) {
-    const grouping = new Intl.NumberFormat(language, { maximumFractionDigits: 0, numberingSystem: 'latn' });
-    const half = new Intl.NumberFormat(language, { minimumFractionDigits: 1, numberingSystem: 'latn' });
+    // The checker of types has no numberingSystem yet.
+    const digits = /** @type {any} */ ({ numberingSystem: 'latn' });
+    const grouping = new Intl.NumberFormat(language, { maximumFractionDigits: 0, ...digits });
+    const half = new Intl.NumberFormat(language, { minimumFractionDigits: 1, ...digits });
     const point = half.formatToParts(1.5).find((part) => part.type === 'decimal')?.value ?? '.';
     const scaled = (value, places, least) => {
         if (value === null || value === undefined) return NONE;
@@ -60,7 +62,7 @@ export function makeFigures(language) {
             return `${hundredths > 0n ? '+' : ''}${scaled(hundredths, 2, 2)} %`;
         },
         /** A fraction as a whole number and the rest in lowest terms: 20,000 + 1/3. */
-        fraction: (move) => {
+        fraction: (/** @type {import('./why.mjs').Move} */ move) => {
             const whole = move.over / move.under;
             const rest = move.over % move.under;
             if (rest === 0n) return grouping.format(whole);
@@ -69,7 +71,7 @@ export function makeFigures(language) {
             return whole === 0n ? part : `${grouping.format(whole)} + ${part}`;
         },
         /** Its first three places, with dots where there are more. */
-        places: (move) => {
+        places: (/** @type {import('./why.mjs').Move} */ move) => {
             const thousandths = (move.over * 1000n) / move.under;
             const more = (move.over * 1000n) % move.under !== 0n;
             return more ? `${scaled(thousandths, 3, 3)}…` : scaled(thousandths, 3, 0);

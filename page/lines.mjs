@@ -1,5 +1,5 @@
-// A form's values as a line of the evening's text, and a line as a form's values; the fields that a refusal is about;
-// and the rows that the exchange's text has for each security. All goes over the list of fields.mjs.
+// A form's values as a line of the evening's text, a line as a form's values, and the fields that a refusal is about.
+// All goes over the list of fields.mjs.
 import { callOf, wordOf } from './fields.mjs';
 import { refusals } from './refusals.mjs';
 
@@ -167,38 +167,4 @@ export function fieldsOf({ number = 0, row, term }, call, form) {
     const about = term === undefined ? refusals[number]?.fields ?? [] : ofTerm;
     const fields = row === undefined ? call.fields : call.rows?.fields ?? [];
     return fields.filter(({ name }) => about.includes(name)).map(({ name }) => ({ name, row }));
-}
-
-// ---- the exchange's text
-
-/**
- * The ids of a text, in the order in which they first occur. A line that is bad may have none: the program says so.
- * @returns {string[]}
- */
-function idsOf(/** @type {string} */ text) {
-    const ids = [...text.matchAll(/^(\d+);/gm)].map(([, digits]) => String(BigInt(digits)));
-    return [...new Set(ids)];
-}
-
-/**
- * Tonight's rows of every security in the exchange's text, as the program `exchange` answers them (docs/EXCHANGE.md).
- * @param {string} text
- * @param {(id: string, text: string) => string | Promise<string>} exchange  The program's answer to an id.
- * @returns {Promise<{ securities: { id: string, rows: Values[] }[], refused: { id: string, answer: string }[] }>}
- *     A security whose rows are not taken has its answer, `15 LINE`, among the refused.
- */
-export async function rowsOfExchange(text, exchange) {
-    const { fields } = /** @type {import('./fields.mjs').Rows} */ (callOf('evaluate')?.rows);
-    const ids = idsOf(text);
-    const securities = [];
-    const refused = [];
-    for (const id of ids.length === 0 ? ['1'] : ids) { // a text without an id may be bad all the same
-        const answer = (await exchange(id, text)).trim();
-        const [verdict, count, ...words] = answer.split(' ');
-        if (verdict !== '0') refused.push({ id, answer });
-        else if (count !== '0') {
-            securities.push({ id, rows: Array.from({ length: Number(count) }, () => valuesOf(fields, words) ?? {}) });
-        }
-    }
-    return { securities, refused };
 }

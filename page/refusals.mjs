@@ -73,7 +73,7 @@ export function inWords(/** @type {number} */ number) {
 }
 
 /** The place that `why` names of a refused evaluation. */
-export function placeOf(/** @type {{ at: string, which?: number }} */ fault) {
+export function placeOf(/** @type {{ at?: string, which?: number }} */ fault) {
     return fault.at === 'row' || fault.at === 'term' ? `${fault.at} ${fault.which}` : '';
 }
 

@@ -11,8 +11,9 @@ const FOOT = 20;
 /** A panel's way from a figure to a place: the greatest figure at the top. */
 function scaleOf(figures, top, height, fromZero) {
     const least = fromZero ? 0 : Math.min(...figures);
-    const most = Math.max(...figures, least + 1);
-    return { least, most, y: (figure) => top + (height * (most - figure)) / (most - least) };
+    const most = Math.max(...figures);
+    const room = most - least || 1; // where all figures are one, they stand at the top
+    return { least, most, y: (figure) => top + (height * (most - figure)) / room };
 }
 
 function stepsOf(records, x, y, name) {
@@ -26,6 +27,7 @@ function stepsOf(records, x, y, name) {
 
 /**
  * @param {object[]} records one a day, oldest first
+ * @param {object} figures
  * @param {{width: number, hidden: number[], at: number}} how the days with a mark, and the chosen one
  */
 export function daysChart(records, figures, { width, hidden, at }) {
@@ -50,7 +52,7 @@ export function daysChart(records, figures, { width, hidden, at }) {
         axis(top);
         axis(top + height);
         label(top + 10, show(scale.most));
-        label(top + height, show(scale.least));
+        if (scale.least !== scale.most) label(top + height, show(scale.least));
         top += height + GAP + 6;
         return scale.y;
     };

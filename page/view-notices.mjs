@@ -38,17 +38,19 @@ function refusedOf(refusals, figures) {
 }
 
 /** Shows what a sheet has of refusals; a sheet without any has an empty room. */
-export function showNotices(room, sheet, figures) {
+export function showNotices(room, sheet, figures, isNew = false) {
+    const empty = isNew
+        ? 'The evening has no security yet: admit one, or open a file of admissions.'
+        : 'No security stands in this file.';
     room.replaceChildren(...[
-        sheet.securities.length === 0 && el('div', { class: 'card' }, el('p', {}, 'No security stands in this file.')),
+        sheet.securities.length === 0 && el('div', { class: 'card' }, el('p', {}, empty)),
         sheet.damage && damageOf(sheet.damage, figures),
         sheet.unknown.length > 0 && unknownOf(sheet.unknown, figures),
         sheet.refusals.length > 0 && refusedOf(sheet.refusals, figures),
     ].filter(Boolean));
 }
 
-/** A file that could not be opened at all. */
-export function showFailure(room, words) {
-    room.replaceChildren(el('div', { class: 'card alert', role: 'alert' },
-        el('h2', {}, 'The file could not be opened'), el('p', {}, words)));
+/** A file that could not be opened at all, or a fault of the page itself. */
+export function showFailure(room, words, title = 'The file could not be opened') {
+    room.replaceChildren(el('div', { class: 'card alert', role: 'alert' }, el('h2', {}, title), el('p', {}, words)));
 }

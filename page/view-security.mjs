@@ -1,4 +1,5 @@
 // One security: its figures, its ranges and bands, why, and its days. A day before the last can be chosen.
+import { answerOf } from './answers.mjs';
 import { el, table } from './element.mjs';
 import { placesOf } from './figures.mjs';
 import { COLUMNS, dayAt } from './sheet.mjs';
@@ -8,6 +9,15 @@ import { badges, sessionOf } from './view-table.mjs';
 import { sentencesOf } from './why.mjs';
 
 const LEAST_WIDTH = 260;
+
+/** The records of days that were drawn already: a year of them is read once, and not at each line that is said. */
+const read = new WeakMap();
+
+function recordOf(day) {
+    if (day.record !== undefined) return day.record;
+    if (!read.has(day)) read.set(day, answerOf('evaluate', day.answer));
+    return read.get(day);
+}
 
 /** The statics, with their names, and how each is shown. */
 const STATICS = [
@@ -26,23 +36,39 @@ const STATICS = [
     ['eveningmax', 'most moves of an evening', 'whole'], ['useexternal', 'outside prices used', 'yes'],
 ];
 
-function timeOf(second) {
+/** A second of the day as a time. */
+export function timeOf(second) {
     const two = (number) => String(number).padStart(2, '0');
     return `${two(Math.floor(second / 3600))}:${two(Math.floor(second / 60) % 60)}:${two(second % 60)}`;
 }
 
 const nearSince = (second) => (second === undefined ? '–' : second < 0 ? 'no' : `since ${timeOf(second)}`);
 
-function cards(record, figures) {
+/** An outside price; a broadcast has none. */
+export function outsideOf(units, figures) {
+    return units === undefined ? '–' : units === 0 ? 'none' : figures.roubles(units);
+}
+
+/** The evaluation, large, with its change. */
+export function priceOf(record, figures) {
+    const away = record.p2 ? Math.sign(record.p1 - record.p2) : 0;
+    return el('p', { class: 'big' }, `${figures.roubles(record.p1)} `, el('small', { class: 'dim' }, 'roubles '),
+        el('small', { class: away > 0 ? 'up' : away < 0 ? 'down' : 'dim' }, figures.change(record.p1, record.p2)));
+}
+
+/** The rates, the tentative rate and the volatility of a record. */
+export function cards(record, figures) {
     const card = (name, figure, small = '') =>
         el('div', {}, el('dt', {}, name), el('dd', {}, figure, small && el('div', { class: 'small dim' }, small)));
     return el('dl', { class: 'cards' },
         ...[1, 2, 3].map((level) => card(`rate ${level}`, figures.perCent(record[`s${level}`]))),
-        card('tentative', figures.perCent(record.tentative), `for ${figures.whole(record.age)} days`),
+        card('tentative', figures.perCent(record.tentative),
+            `for ${figures.whole(record.age)} ${record.age === 1 ? 'day' : 'days'}`),
         card('volatility', figures.volatility(record.s), `${figures.whole(record.s)} millionths`));
 }
 
-function limitsOf(record, figures) {
+/** The ranges and the bands of a record, as tables. */
+export function limitsOf(record, figures) {
     const prices = COLUMNS.filter((column) => column.as === 'price').map((column) => record[column.key] ?? 0);
     const places = placesOf(prices);
     const roubles = (units) => figures.roubles(units, places);
@@ -54,13 +80,14 @@ function limitsOf(record, figures) {
             roubles(of('lower')), roubles(of('upper'))];
     });
     return el('div', { class: 'two' },
-        el('div', { class: 'scroll' }, table('Ranges, in roubles', ['level', 'lower', 'upper'], ranges)),
-        el('div', { class: 'scroll' }, table('Bands, in roubles', ['days', 'repo, %', 'lower', 'upper'], bands)));
+        el('div', { class: 'scroll' },
+            table('Ranges, in roubles', ['level', 'lower', 'upper'], ranges, { isCaptionShown: true })),
+        el('div', { class: 'scroll' },
+            table('Bands, in roubles', ['days', 'repo, %', 'lower', 'upper'], bands, { isCaptionShown: true })));
 }
 
 function todayOf(record, figures) {
     const isHeard = record.session === undefined;
-    const outside = (units) => (units === undefined ? '–' : units === 0 ? 'none' : figures.roubles(units));
     const rows = [
         ['Session', sessionOf(record.session)],
         ['Moves since the evaluation, upper', figures.whole(record.movesUpper)],
@@ -71,7 +98,7 @@ function todayOf(record, figures) {
             `Quotes near the limits of term ${term}`,
             `top ${nearSince(record[`nearTop_${term}`])}, bottom ${nearSince(record[`nearBottom_${term}`])}`,
         ]),
-        ['Outside bid and ask', `${outside(record.extBid)}, ${outside(record.extAsk)}`],
+        ['Outside bid and ask', `${outsideOf(record.extBid, figures)}, ${outsideOf(record.extAsk, figures)}`],
     ];
     return el('details', {}, el('summary', {}, 'Session, moves and quotes'),
         el('div', { class: 'scroll' }, table('Session, moves and quotes', [{ words: 'what' }, 'figure'],
@@ -100,8 +127,8 @@ function daysTable(security, figures) {
     const details = el('details', {}, el('summary', {}, 'Days as a table'));
     details.addEventListener('toggle', () => {
         if (details.childElementCount > 1) return;
-        const rows = security.days.map((_, at) => {
-            const { record } = dayAt(security, at);
+        const rows = security.days.map((day, at) => {
+            const record = recordOf(day);
             const mark = security.hidden.includes(at) ? '◆ ' : '';
             return [`${mark}${figures.whole(record.day)}`, figures.roubles(record.p1),
                 figures.change(record.p1, record.p2), figures.volatility(record.s), figures.perCent(record.tentative),
@@ -154,17 +181,15 @@ export function showSecurity(room, security, figures, at = security.days.length 
         return;
     }
     const isLast = at === security.days.length - 1;
-    const records = security.days.map((_, which) => dayAt(security, which).record);
+    const records = security.days.map(recordOf);
     const record = isLast ? security.record : records[at];
     const show = (which, name) => {
         showSecurity(room, security, figures, which);
         room.querySelector(`[aria-label="${name}"]`)?.focus();
     };
-    const away = record.p2 ? Math.sign(record.p1 - record.p2) : 0;
     room.replaceChildren(
         head(...(isLast ? badges(security) : []), dayChooser(records, security.hidden, at, figures, show)),
-        el('p', { class: 'big' }, `${figures.roubles(record.p1)} `, el('small', { class: 'dim' }, 'roubles '),
-            el('small', { class: away > 0 ? 'up' : away < 0 ? 'down' : 'dim' }, figures.change(record.p1, record.p2))),
+        priceOf(record, figures),
         cards(record, figures),
         el('h3', {}, `Why, on day ${figures.whole(record.day)}`),
         ...whyOf(security, at, figures),

@@ -54,11 +54,16 @@ function placesOfAll(securities, columns) {
  * @param {(security: object, byHand: boolean) => void} choose is told of a security that was chosen
  */
 export function makeTable(room, figures, choose) {
-    const state = { sheet: null, chosenId: null, key: 'id', descending: false };
-    const field = (id) => room.form.querySelector(`#${id}`);
+    const state = { sheet: null, chosenId: null, key: 'id', descending: false, columns: [], places: 2 };
+    /** @type {Map<number, HTMLElement>} the rows that are drawn, by id */
+    const rows = new Map();
+    const body = el('tbody');
+    const field = (id) => /** @type {HTMLInputElement} */ (room.form.querySelector(`#${id}`));
     const happened = field('filter-happened');
     happened.append(el('option', { value: '' }, 'anything'),
         ...Object.entries(HAPPENED).map(([key, words]) => el('option', { value: key }, words)));
+
+    const found = (id) => state.sheet.securities.find((one) => one.id === id);
 
     function headOf(column) {
         const isSorted = column.key === state.key;
@@ -67,64 +72,108 @@ export function makeTable(room, figures, choose) {
             state.descending = isSorted ? !state.descending : column.as !== 'id' && column.as !== 'whole';
             state.key = column.key;
             draw();
-            room.at.querySelector(`[data-key="${column.key}"]`).focus();
+            /** @type {HTMLElement} */ (room.at.querySelector(`[data-key="${column.key}"]`)).focus();
         };
         const arrow = isSorted ? (state.descending ? ' ↓' : ' ↑') : '';
         const atLeft = ['id', 'happened', 'session'].includes(column.as);
         return el('th', { scope: 'col', 'aria-sort': sorted, class: atLeft ? 'words' : null },
-            el('button', { type: 'button', 'data-key': column.key, onclick: sort }, column.title + arrow));
+            el('button', { type: 'button', 'data-key': column.key, onclick: sort },
+                column.title.replace(/ (?=\d)/, '\u00a0') + arrow));
     }
 
-    function rowOf(security, columns, places) {
+    function rowOf(security) {
         const id = el('button', { type: 'button', 'data-id': security.id, onclick: (event) => {
             event.stopPropagation();
-            pick(security, true);
+            pick(security.id, true);
         } }, String(security.id));
         const current = security.id === state.chosenId ? 'true' : null;
-        return el('tr', { 'aria-current': current, onclick: () => pick(security, true) },
+        return el('tr', { 'aria-current': current, onclick: () => pick(security.id, true) },
             el('th', { scope: 'row' }, id),
-            ...columns.slice(1).map((column) => cellOf(column, security, figures, places)));
+            ...state.columns.slice(1).map((column) => cellOf(column, security, figures, state.places)));
     }
 
-    function pick(security, byHand) {
-        state.chosenId = security.id;
-        for (const row of room.at.querySelectorAll('tbody tr')) {
-            const isIt = row.querySelector('button').dataset.id === String(security.id);
-            if (isIt) row.setAttribute('aria-current', 'true');
-            else row.removeAttribute('aria-current');
-        }
-        choose(security, byHand);
+    function pick(id, byHand) {
+        rows.get(state.chosenId)?.removeAttribute('aria-current');
+        state.chosenId = id;
+        rows.get(id)?.setAttribute('aria-current', 'true');
+        choose(found(id), byHand);
+    }
+
+    /** The securities that the filters leave, in their order. */
+    function shownOf() {
+        const filter = { id: field('filter-id').value, happened: happened.value };
+        return chosen(state.sheet.securities, { ...state, ...filter });
+    }
+
+    function count(shown) {
+        room.count.textContent = `${figures.whole(shown.length)} of ${figures.whole(state.sheet.securities.length)}`;
     }
 
     function draw() {
-        const columns = COLUMNS.filter(({ group }) => group === '' || field(`show-${group}`).checked);
-        const filter = { id: field('filter-id').value, happened: happened.value };
-        const shown = chosen(state.sheet.securities, { ...state, ...filter });
-        const places = placesOfAll(state.sheet.securities, columns);
-        room.at.replaceChildren(el('table', { 'aria-label': 'Securities' },
-            el('thead', {}, el('tr', {}, ...columns.map(headOf))),
-            el('tbody', {}, ...shown.map((security) => rowOf(security, columns, places)))));
-        room.count.textContent = `${figures.whole(shown.length)} of ${figures.whole(state.sheet.securities.length)}`;
+        state.columns = COLUMNS.filter(({ group }) => group === '' || field(`show-${group}`).checked);
+        state.places = placesOfAll(state.sheet.securities, state.columns);
+        const shown = shownOf();
+        rows.clear();
+        for (const security of shown) rows.set(security.id, rowOf(security));
+        body.replaceChildren(...rows.values());
+        const groups = new Set(state.columns.map(({ group }) => group)).size - 1;
+        room.at.replaceChildren(el('table', { 'data-groups': groups },
+            el('caption', { class: 'apart' }, 'Securities'),
+            el('thead', {}, el('tr', {}, ...state.columns.map(headOf))), body));
+        count(shown);
         return shown;
+    }
+
+    /** Draws the rows of some securities anew, each at its place; the others stay as they are. */
+    function redraw(ids) {
+        if (placesOfAll(state.sheet.securities, state.columns) !== state.places) {
+            draw();
+            return;
+        }
+        const shown = shownOf();
+        const at = new Map(shown.map((one, place) => [one.id, place]));
+        const focused = [...ids].find((id) => rows.get(id)?.contains(document.activeElement));
+        for (const id of ids) {
+            rows.get(id)?.remove();
+            rows.delete(id);
+        }
+        // From the last place on, so that the row behind each one is there already.
+        const places = [...ids].filter((id) => at.has(id)).sort((one, other) => at.get(other) - at.get(one));
+        for (const id of places) {
+            const row = rowOf(shown[at.get(id)]);
+            rows.set(id, row);
+            body.insertBefore(row, rows.get(shown[at.get(id) + 1]?.id) ?? null);
+        }
+        rows.get(focused)?.querySelector('button').focus();
+        count(shown);
+    }
+
+    /** Scrolls the table alone, and not the page, to where a row is seen. */
+    function reveal(row) {
+        if (row === undefined) return;
+        const head = room.at.querySelector('thead').offsetHeight;
+        const top = row.offsetTop - head;
+        const bottom = row.offsetTop + row.offsetHeight - room.at.clientHeight;
+        if (room.at.scrollTop > top) room.at.scrollTop = top;
+        else if (room.at.scrollTop < bottom) room.at.scrollTop = bottom;
     }
 
     // Up and down go from security to security.
     room.at.addEventListener('keydown', (event) => {
         const step = { ArrowDown: 1, ArrowUp: -1 }[event.key];
-        const buttons = [...room.at.querySelectorAll('tbody th button')];
-        const at = buttons.indexOf(document.activeElement);
+        const buttons = /** @type {HTMLElement[]} */ ([...room.at.querySelectorAll('tbody th button')]);
+        const at = buttons.indexOf(/** @type {HTMLElement} */ (document.activeElement));
         if (step === undefined || at < 0) return;
         event.preventDefault();
         const next = buttons[at + step];
         if (next === undefined) return;
         next.focus();
-        const security = state.sheet.securities.find((one) => String(one.id) === next.dataset.id);
-        pick(security, false);
+        pick(Number(next.dataset.id), false);
     });
     room.form.addEventListener('submit', (event) => event.preventDefault());
     room.form.addEventListener('input', () => {
         const shown = draw();
-        if (shown.length > 0 && !shown.some((one) => one.id === state.chosenId)) pick(shown[0], false);
+        if (shown.length > 0 && !shown.some((one) => one.id === state.chosenId)) pick(shown[0].id, false);
     });
 
     return {
@@ -133,7 +182,29 @@ export function makeTable(room, figures, choose) {
             state.chosenId = null;
             const shown = draw();
             const first = shown.find((one) => one.record !== null && one.record.live === 1) ?? shown[0];
-            if (first !== undefined) pick(first, false);
+            if (first !== undefined) pick(first.id, false);
+        },
+        /**
+         * Shows what has become of some securities; the last of them is chosen.
+         * @param {object} sheet
+         * @param {Set<number>} ids
+         */
+        update(sheet, ids) {
+            state.sheet = sheet;
+            redraw(ids);
+            const changed = [...ids].filter((id) => found(id) !== undefined).at(-1);
+            const isGone = found(state.chosenId) === undefined;
+            const next = changed ?? (isGone ? sheet.securities[0]?.id : undefined);
+            if (isGone) state.chosenId = null;
+            if (next === undefined) return;
+            pick(next, false);
+            requestAnimationFrame(() => reveal(rows.get(next))); // when all is drawn: places are worked out once
+        },
+        /** Chooses the security of an id, where there is one. */
+        pick(id) {
+            if (id === state.chosenId || found(id) === undefined) return;
+            pick(id, false);
+            reveal(rows.get(id));
         },
     };
 }

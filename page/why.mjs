@@ -5,10 +5,14 @@ const MILLION = 1000000n;
 const BP_IN_MILLIONTHS = 100n;
 
 /**
+ * @typedef {{over: bigint, under: bigint, from: number}} Move  Millionths as a fraction, and the evaluation moved from.
+ */
+
+/**
  * The exact move in millionths, as a fraction: the greater of those from the two earlier evaluations (7.1).
  * @param {number} price the evaluation
  * @param {number[]} earlier the earlier evaluations
- * @returns {{over: bigint, under: bigint, from: number} | null}
+ * @returns {Move | null}
  */
 export function exactMove(price, earlier) {
     let greatest = null;
@@ -36,7 +40,8 @@ const hides = (move, millionths) => isAbove(move, millionths) && !isAboveWhenRou
 /**
  * Whether rounding the move to the nearest millionth first would have hidden it: from the volatility before, which
  * chooses the weight, or from the last rate of level 1, which lets the replacement in.
- * @param {{move: object|null, before: {s: number, s1: number|null}, reasons: object|null, statics: object|null}} day
+ * @param {{move: Move|null, before: Object<string, any>|null, reasons: Object<string, any>|null,
+ *     statics: Object<string, any>|null}} day
  * @returns {{volatility: boolean, rate: boolean}}
  */
 export function hiddenByRounding({ move, before, reasons, statics }) {
@@ -64,7 +69,16 @@ const PRICE = {
     yesterday: (price) => `No row has a trade: the price is the last evaluation, ${price} roubles.`,
 };
 
-function moveSentence(day, figures) {
+/**
+ * @typedef {Object<string, any> & {move: Move|null}} Day  What `dayAt` of security.mjs gives.
+ * @typedef {ReturnType<typeof import('./figures.mjs').makeFigures>} Figures
+ */
+
+/** A number of days in words: 1 day, 2 days. */
+const daysOf = (/** @type {number} */ count, /** @type {Figures} */ figures, kind = '') => (
+    `${figures.whole(count)} ${kind}${count === 1 ? 'day' : 'days'}`);
+
+function moveSentence(/** @type {Day} */ day, /** @type {Figures} */ figures) {
     const { move, record, before, reasons, statics, b } = day;
     const s = figures.whole(before.s);
     const dots = move.over % move.under === 0n ? '' : ` (${figures.places(move)})`;
@@ -74,7 +88,7 @@ function moveSentence(day, figures) {
             `${figures.fraction(move)} millionths${dots}`;
     const weight = (name) => (statics ? ` of ${figures.perCent(statics[name])}` : '');
     switch (reasons?.weight) {
-    case 'zero': return `${exact}. ${figures.whole(b)} days off lay before, so it has no weight.`;
+    case 'zero': return `${exact}. ${daysOf(b, figures)} off lay before, so it has no weight.`;
     case 'up': return `${exact}, above the volatility before, ${s}: the upward weight${weight('aUp')} was taken.`;
     case 'down':
         return `${exact}, not above the volatility before, ${s}: the downward weight${weight('aDown')} was taken.`;
@@ -106,7 +120,7 @@ function volatilitySentence({ record, before, reasons, statics }, figures) {
 function tentativeSentence({ record, before, reasons, statics }, figures) {
     const now = figures.perCent(record.tentative);
     const was = figures.perCent(before.tentative);
-    const wait = `${figures.whole(statics.wait)} trading days`;
+    const wait = daysOf(statics.wait, figures, 'trading ');
     switch (reasons.tentative) {
     case 'rose': {
         const by = reasons.replacement === 'yes' ? 'the move itself' : `the volatility of ${figures.whole(record.s)}`;
@@ -128,9 +142,9 @@ function levelSentence(level, { record, reasons, statics, m }, figures) {
     case 'maximum': return `Rate ${level} is held at the maximum, ${rate}: the requirement is above it.`;
     case 'minimum': return `Rate ${level} is its minimum, ${rate}.`;
     default: {
-        const ahead = m > 0 ? `, with ${figures.whole(m)} days off ahead` : '';
+        const ahead = m > 0 ? `, with ${daysOf(m, figures)} off ahead` : '';
         return `Rate ${level} is ${rate}, the least step of ${figures.perCent(statics.h)} that covers the ` +
-            `requirement of ${figures.whole(statics[`rh${level}`])} days${ahead}.`;
+            `requirement of ${daysOf(statics[`rh${level}`], figures)}${ahead}.`;
     }
     }
 }

@@ -29,7 +29,7 @@ test('the admissions of the example evening are written and read back', () => {
 });
 
 test('columns may stand in any order, without units, in quotes, and parted by semicolons', () => {
-    const turned = rows.map((cells) => cells.toReversed());
+    const turned = rows.map((cells) => [...cells].reverse());
     const plain = [rows[0].map((cell) => cell.split(' ')[0].toLowerCase()), ...rows.slice(1)];
     const quoted = rows.map((cells) => cells.map((cell) => ` "${cell}" `));
     for (const other of [text(turned), text(plain), text(quoted), text(rows, ';', '\r\n'), `\uFEFF${text(rows)}\n`]) {
@@ -37,8 +37,21 @@ test('columns may stand in any order, without units, in quotes, and parted by se
     }
 });
 
+test('a comma is the point in a file that is parted by semicolons, and only there', () => {
+    const comma = rows.map((cells, at) => (at === 0 ? cells : cells.map((cell) => cell.replace('.', ','))));
+    assert.notDeepEqual(comma, rows);
+    assert.deepEqual(admissionsOf(text(comma, ';')).admissions.map(({ line }) => line), accepted);
+    const quoted = comma.map((cells) => cells.map((cell) => `"${cell}"`));
+    assert.deepEqual(admissionsOf(text(quoted)).admissions.length, 0);
+    const two = comma.map((cells) => [...cells]);
+    two[1][place('P1')] = '1,000,000';
+    assert.deepEqual(admissionsOf(text(two, ';')).faults, [
+        { at: 2, text: 'Latest evaluation (P1) must be digits, with at most one point.' },
+    ]);
+});
+
 test('columns that are unknown, missing or double are refused by name', () => {
-    const without = rows.map((cells) => cells.toSpliced(place('LOT'), 1));
+    const without = rows.map((cells) => cells.filter((_, at) => at !== place('LOT')));
     assert.deepEqual(admissionsOf(text(without)), {
         admissions: [],
         faults: [{ at: 1, text: "The column 'LOT' is missing." }],

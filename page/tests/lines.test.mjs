@@ -2,9 +2,9 @@
 import assert from 'node:assert/strict';
 import { test } from 'node:test';
 import { callOf } from '../fields.mjs';
-import { emptyForm, fieldsOf, formOf, lineOf, rowsOfExchange, sentenceOf } from '../lines.mjs';
+import { emptyForm, fieldsOf, formOf, lineOf, sentenceOf } from '../lines.mjs';
 import { inWords, placeOf, refusals, refusedOf } from '../refusals.mjs';
-import { answersTo, ask, example } from './ask.mjs';
+import { answersTo, example } from './ask.mjs';
 
 const examples = ['evening.txt', 'cases.txt', 'why.txt'];
 const HALF_A_FLOW = 79; // of evening.txt: no form has it
@@ -152,25 +152,4 @@ test('a refusal of why names the fields of its row or term', () => {
     assert.deepEqual(about('evaluate 7 3 0 0 0 0 0 0 0 0 0 0 0'), ['DAY']);
     assert.deepEqual(about('evaluate 8 4 31 0 0 0 0 0 0 0 0 0 0'), ['ID']);
     assert.deepEqual(about(admitted), ['ID']);
-});
-
-test('the exchange’s text gives the rows of each security', async () => {
-    const exchange = (id, text) => ask('exchange', text, id);
-    const text = example('exchange.txt').map((line) => `${line}\n`).join('');
-    const { securities, refused } = await rowsOfExchange(text, exchange);
-    assert.deepEqual(refused, []);
-    assert.deepEqual(securities.map(({ id, rows }) => [id, rows.length]), [['7', 4], ['9', 1]]);
-    const values = { ...form('evaluate 9 4 0 0 0 0 0 0 0 0 0 0 0').form.values };
-    assert.equal(
-        lineOf(callOf('evaluate'), { values, rows: securities[1].rows }).line,
-        `evaluate 9 4 0 0 0 0 0 0 0 0 0 0 0 ${ask('exchange', text, '9').trim().slice('0 1 '.length)}`,
-    );
-    assert.deepEqual(await rowsOfExchange('', exchange), { securities: [], refused: [] });
-    assert.deepEqual((await rowsOfExchange('nothing\n', exchange)).refused, [{ id: '1', answer: '15 1' }]);
-    const unended = await rowsOfExchange(`${text}7;0;1`, exchange);
-    assert.deepEqual(unended.refused.map(({ answer }) => answer), ['15 6', '15 6']);
-    const many = '7;0;1;0;103;;;5\n'.repeat(17) + '9;0;1;0;103;;;5\n';
-    const some = await rowsOfExchange(many, exchange);
-    assert.deepEqual(some.refused, [{ id: '7', answer: '15 17' }]);
-    assert.deepEqual(some.securities.map(({ id }) => id), ['9']);
 });

@@ -3,8 +3,10 @@
 import assert from 'node:assert/strict';
 import { test } from 'node:test';
 import { wordOf } from '../fields.mjs';
+import { heardOf } from '../heard.mjs';
 import { formOf, lineOf } from '../lines.mjs';
 import { answersTo } from './ask.mjs';
+import { chance } from './evenings.mjs';
 
 const Z = '10 100 300 1000 500 5 2 5 8 50 500 700 900 4000 200 25 2000 2000 1000 60 1 1 120 1 2 0';
 const before = [`admit 7 3 1000000 1000000 20000 600 ${Z}`, 'evaluate 7 4 0 0 0 0 0 0 0 0 0 0 0'];
@@ -23,15 +25,6 @@ const good = {
 };
 const JUDGED_BY_FORM = { admit: ['4'], evaluate: ['6', '16'], interest: ['6', '14'], bond: ['6', '17'] };
 const judgedByForm = (word) => JUDGED_BY_FORM[word] ?? ['6', '20'];
-
-/** Numbers at random that are the same at each run. */
-function chance(seed) {
-    let state = seed;
-    return (below) => {
-        state = (state * 1103515245 + 12345) % 2147483648;
-        return Math.floor((state / 2147483648) * below);
-    };
-}
 
 /** A number of a field at an end of its range, one past it, near what it was, or anywhere. */
 function another(field, was, next) {
@@ -67,13 +60,19 @@ for (const [word, line] of Object.entries(good)) {
     test(`a form of ${word} has a fault exactly where the program says so`, () => {
         assert.deepEqual(lineOf(formOf(line).call, formOf(line).form), { line, faults: [] });
         const lines = changed(line, 900, 7);
-        const answers = answersTo('evening', [...before, ...lines.map((made) => made.line)]).slice(before.length);
+        const evening = [...before, ...lines.map((made) => made.line)];
+        const [answers, whys] = ['evening', 'why'].map((name) => answersTo(name, evening).slice(before.length));
         const seen = { taken: 0, refused: 0 };
         lines.forEach((made, at) => {
             const refused = judgedByForm(word).includes(answers[at].split(' ')[0]);
             seen[refused ? 'refused' : 'taken'] += 1;
             const seenBoth = `${made.line}: ${answers[at]}, ${JSON.stringify(made.faults)}`;
             assert.equal(made.faults.length > 0, refused, seenBoth);
+            // A refusal names a field at fault, in the row or the term that `why` names.
+            const { faults = [] } = heardOf(made.line, { answer: answers[at], why: whys[at] });
+            if (refused) assert.ok(faults.length > 0 && faults.every(({ text }) => text !== undefined), seenBoth);
+            const [, row] = / row (\d+)/.exec(whys[at]) ?? [];
+            if (row !== undefined) assert.ok(faults.every((fault) => fault.row === Number(row)), whys[at]);
         });
         assert.ok(seen.taken > 200 && seen.refused > 200, JSON.stringify(seen));
     });

@@ -1,9 +1,10 @@
 // The exact move, the mark of one that rounding would have hidden, and the sentences.
 import assert from 'node:assert/strict';
 import { test } from 'node:test';
+import { sheetOfEvening } from '../evening-sheet.mjs';
 import { makeFigures } from '../figures.mjs';
-import { linesOf, textOf } from '../programs.mjs';
-import { dayAt, sheetOfEvening } from '../sheet.mjs';
+import { bytesOf, linesOf, textOf } from '../programs.mjs';
+import { dayAt } from '../security.mjs';
 import { exactMove, hiddenByRounding, isAbove, sentencesOf } from '../why.mjs';
 import { example, programs } from './release.mjs';
 
@@ -44,6 +45,26 @@ test('case 7: a third of a millionth over the volatility, which rounding first w
     ]);
 });
 
+test('on a later day the mark looks at both evaluations before it, and at the volatility then', async () => {
+    const admit = textOf(whyText).split('\n')[0];
+    const day = (number, price) => `evaluate 7 ${number} 0 0 0 0 0 0 0 0 0 0 0 0 10000 0 ${price} 0 0 5`;
+    const opened = async (...lines) => {
+        const input = bytesOf(lines.map((line) => `${line}\n`).join(''));
+        const [answers, whys] = [await programs.run('evening', input), await programs.run('why', input)].map(linesOf);
+        return { answers, one: sheetOfEvening(textOf(input), answers, whys).securities[0] };
+    };
+    const first = [admit, day(4, 303000000)];
+    const volatility = Number((await opened(...first)).answers[1].split(' ')[6]);
+    // A third of a millionth over it, from the evaluation before the last one; the last one is nearer.
+    const { one } = await opened(...first, day(5, 300000000 + 300 * volatility + 100));
+    assert.deepEqual([one.hidden, [...one.happened].includes('hidden')], [[1], true]);
+    assert.equal(dayAt(one, 1).move.from, 300000000);
+    const { one: level } = await opened(...first, day(5, 300000000 + 300 * volatility));
+    assert.deepEqual(level.hidden, []);
+    const { one: seen } = await opened(...first, day(5, 300000000 + 300 * volatility + 200));
+    assert.deepEqual(seen.hidden, []);
+});
+
 test('a hundredth of a rouble less is level, and nothing is hidden', () => {
     assert.equal(figures.fraction(dayAt(security(8), 0).move), '20,000');
     assert.deepEqual(security(8).hidden, []);
@@ -79,6 +100,17 @@ test('yesterday’s price, a share that is not modelled, a replacement, a maximu
     const off = said(12, 1).map((one) => one.text).join(' ');
     assert.match(off, /^The least ask set the price: 119\.00 roubles/);
     assert.match(off, /2 days off lay before, so it has no weight\. The volatility stays at 66,667 millionths/);
+});
+
+test('one day is a day', () => {
+    const day = dayAt(security(12), 1);
+    const texts = (statics, days) => sentencesOf({ ...day, ...days, statics: { ...day.statics, ...statics } }, figures)
+        .map((one) => one.text).join(' ');
+    assert.match(texts({}, { b: 1 }), / 1 day off lay before/);
+    assert.match(texts({ rh1: 1 }, { m: 1 }), /requirement of 1 day, with 1 day off ahead\./);
+    const waited = { ...day.reasons, tentative: 'waited' };
+    assert.match(texts({ wait: 1 }, { reasons: waited }), /of the 1 trading day of the wait/);
+    assert.doesNotMatch(texts({ rh1: 1, wait: 1 }, { b: 1, m: 1, reasons: waited }), /\b1 (trading )?days/);
 });
 
 test('every day of the example has its sentences, with no figure missing', () => {

@@ -1,109 +1,131 @@
-// A headless Chromium that is driven over a pipe, with nothing to install beside it: Debian has it in `chromium`.
-import { spawn } from 'node:child_process';
+// What the trials ask of a browser, whichever it is: chromium.mjs and firefox.mjs drive one each, and what both do
+// alike stands here.
 import fs from 'node:fs';
 import os from 'node:os';
 import path from 'node:path';
 
-const PATIENCE = 60000; // milliseconds; a busy machine is slow
-const later = (milliseconds) => new Promise((done) => setTimeout(done, milliseconds));
+/**
+ * @typedef {object} Driver  What a browser of its own has to do.
+ * @property {string} name
+ * @property {(url: string) => Promise<void>} go  Opens a page.
+ * @property {(expression: string) => Promise<any>} value  The value of an expression in the page, a promise awaited.
+ * @property {(selector: string, file: string) => Promise<void>} give  Puts a file into a field for files.
+ * @property {(key: string) => Promise<void>} press  Presses a key of KEYS; `Shift+` or `Control+` may stand before it.
+ * @property {(text: string) => Promise<void>} type  Types a text where the keyboard is.
+ * @property {(selector: string) => Promise<void>} click  Clicks an element that can be seen.
+ * @property {(width: number, height: number, isDark: boolean) => Promise<void>} resize
+ * @property {() => Promise<Buffer>} photograph  What is seen, as PNG.
+ * @property {() => Promise<Buffer>} print  The page on A4, as PDF.
+ * @property {() => Promise<boolean>} leave  Tries to leave the page, and stays where it asks: whether it asked.
+ * @property {() => Promise<string[]>} complaints  Errors of the page, and what it asked for beside itself.
+ * @property {() => Promise<void>} end
+ *
+ * @typedef {Awaited<ReturnType<typeof makeBrowser>>} Browser
+ */
 
-/** The messages of the browser's protocol: JSON, each ended by a byte 0, on the pipes 3 and 4. */
-function protocolOf(process) {
-    const waiting = new Map();
-    const events = [];
-    let gathered = '';
-    let last = 0;
-    process.stdio[4].on('data', (some) => {
-        const pieces = (gathered + some).split('\0');
-        gathered = pieces.pop();
-        for (const message of pieces.map((piece) => JSON.parse(piece))) {
-            if (message.id === undefined) events.push(message);
-            else if (message.error) waiting.get(message.id).refuse(new Error(message.error.message));
-            else waiting.get(message.id).answer(message.result);
-        }
-    });
-    const send = (method, params, sessionId) => new Promise((answer, refuse) => {
-        last += 1;
-        waiting.set(last, { answer, refuse });
-        process.stdio[3].write(`${JSON.stringify({ id: last, method, params, sessionId })}\0`);
-    });
-    return { events, send };
+const PATIENCE = 30_000; // milliseconds; a busy machine is slow
+const LOOK_AGAIN = 20;
+const TABS_MOST = 400;
+const EMPTY_FOR = 300;
+
+export const later = (/** @type {number} */ milliseconds) => new Promise((done) => setTimeout(done, milliseconds));
+
+/** The keys that have a name: the code that Chromium asks for, what it writes, and WebDriver's character. */
+export const KEYS = {
+    Tab: { code: 9, driver: '\uE004' },
+    Enter: { code: 13, text: '\r', driver: '\uE007' },
+    Escape: { code: 27, driver: '\uE00C' },
+    ' ': { code: 32, text: ' ', driver: ' ' },
+    End: { code: 35, driver: '\uE010' },
+    Home: { code: 36, driver: '\uE011' },
+    ArrowLeft: { code: 37, driver: '\uE012' },
+    ArrowUp: { code: 38, driver: '\uE013' },
+    ArrowRight: { code: 39, driver: '\uE014' },
+    ArrowDown: { code: 40, driver: '\uE015' },
+    Delete: { code: 46, driver: '\uE017' },
+    a: { code: 65, driver: 'a' },
+};
+
+/** A press of a key in its parts. */
+export function pressOf(/** @type {string} */ press) {
+    const words = press.split('+');
+    const key = /** @type {keyof typeof KEYS} */ (words.pop());
+    if (KEYS[key] === undefined) throw new Error(`there is no key '${key}'`);
+    return { key, ...KEYS[key], isShift: words.includes('Shift'), isControl: words.includes('Control') };
 }
 
-/** Starts a browser, and gives what a trial does with its one page. */
-export async function startBrowser() {
+/** A folder of a browser's own, for its profile and for what it downloads. */
+export function makeFolder() {
     const folder = fs.mkdtempSync(path.join(os.tmpdir(), 'page-trial-'));
-    const words = ['--headless=new', '--no-sandbox', '--disable-gpu', '--hide-scrollbars', '--lang=en-US',
-        '--remote-debugging-pipe', `--user-data-dir=${folder}`, 'about:blank'];
-    const process = spawn('chromium', words, { stdio: ['ignore', 'ignore', 'ignore', 'pipe', 'pipe'] });
-    const failed = new Promise((_, refuse) => process.on('error', refuse));
-    const { events, send } = protocolOf(process);
-    const { targetInfos } = await Promise.race([send('Target.getTargets', {}), failed]);
-    const { targetId } = targetInfos.find((one) => one.type === 'page');
-    const { sessionId } = await send('Target.attachToTarget', { targetId, flatten: true });
-    const call = (method, params = {}) => send(method, params, sessionId);
-    for (const domain of ['Page', 'Runtime', 'Network', 'DOM', 'Log']) await call(`${domain}.enable`);
+    const downloads = path.join(folder, 'downloads');
+    fs.mkdirSync(downloads);
+    return { folder, downloads };
+}
 
-    const page = {
-        /** The value of an expression in the page. */
-        async value(expression) {
-            const { result, exceptionDetails } = await call('Runtime.evaluate', { expression, returnByValue: true });
-            if (exceptionDetails) throw new Error(exceptionDetails.exception?.description ?? exceptionDetails.text);
-            return result.value;
+/** Asks again and again until there is an answer. @template T @returns {Promise<T>} */
+export async function until(/** @type {() => T | Promise<T>} */ ask, /** @type {string} */ what) {
+    for (const end = Date.now() + PATIENCE; Date.now() < end; await later(LOOK_AGAIN)) {
+        const answer = await ask();
+        if (answer) return answer;
+    }
+    throw new Error(`it never came: ${what}`);
+}
+
+/** An expression of what a selector finds. */
+export const at = (/** @type {string} */ selector) => `document.querySelector(${JSON.stringify(selector)})`;
+
+/**
+ * A browser with what the trials do in it, each by what its driver can do.
+ * @param {Driver} driver
+ * @param {string} downloads the folder of what is downloaded
+ */
+export function makeBrowser(driver, downloads) {
+    const browser = {
+        ...driver,
+        until: (/** @type {string} */ expression) => until(() => driver.value(expression), expression),
+        text: (/** @type {string} */ selector) => driver.value(`${at(selector)}.textContent`),
+        async size(/** @type {number} */ width, /** @type {number} */ height, isDark = false) {
+            await driver.resize(width, height, isDark);
+            await later(200); // drawings follow their room
         },
-        async until(expression) {
-            for (const end = Date.now() + PATIENCE; Date.now() < end; await later(50)) {
-                if (await page.value(expression)) return;
+        async picture(/** @type {string} */ file) {
+            fs.writeFileSync(file, await driver.photograph());
+        },
+        /** Goes by the key Tab until the keyboard is at an element. */
+        async tabTo(/** @type {string} */ selector, key = 'Tab') {
+            const place = `[${at(selector)} !== null, document.activeElement === ${at(selector)}]`;
+            for (let tab = 0; tab < TABS_MOST; tab += 1) {
+                const [isKnown, isThere] = await driver.value(place);
+                if (!isKnown) throw new Error(`there is no ${selector}`);
+                if (isThere) return;
+                await driver.press(key);
             }
-            throw new Error(`it never came: ${expression}`);
+            throw new Error(`${TABS_MOST} times ${key} do not reach ${selector}`);
         },
-        async open(file) {
-            await call('Page.navigate', { url: `file://${file}` });
-            await page.until("document.querySelector('#downloads button') !== null");
+        /** Types in place of what the field has where the keyboard is; a choice is made by its first letters. */
+        async write(/** @type {string} */ text) {
+            const isFilled = await driver.value(
+                "document.activeElement.localName !== 'select' && document.activeElement.value !== ''");
+            if (isFilled) {
+                await driver.press('Control+a');
+                await driver.press('Delete');
+            }
+            if (text !== '') await driver.type(text);
         },
-        /** Puts a file into the page's field for files, and waits until it is read. */
-        async give(file) {
-            const { root } = await call('DOM.getDocument');
-            const { nodeId } = await call('DOM.querySelector', { nodeId: root.nodeId, selector: '#file' });
-            await call('DOM.setFileInputFiles', { nodeId, files: [file] });
-            const read = JSON.stringify(`${path.basename(file)}: `);
-            await page.until(`document.getElementById('summary').textContent.startsWith(${read})`);
-        },
-        async size(width, height, isDark = false) {
-            const mobile = width < 600;
-            await call('Emulation.setDeviceMetricsOverride', { width, height, deviceScaleFactor: 1, mobile });
-            const value = isDark ? 'dark' : 'light';
-            await call('Emulation.setEmulatedMedia', { features: [{ name: 'prefers-color-scheme', value }] });
-            await later(300); // drawings follow their room
-        },
-        async press(key, code, text) {
-            const one = { key, code: key, windowsVirtualKeyCode: code };
-            await call('Input.dispatchKeyEvent', { type: 'keyDown', ...one, text });
-            await call('Input.dispatchKeyEvent', { type: 'keyUp', ...one });
-        },
-        async picture(file) {
-            const { data } = await call('Page.captureScreenshot', { format: 'png' });
-            fs.writeFileSync(file, Buffer.from(data, 'base64'));
-        },
-        /** What the page said of errors, and what it asked for beside itself. */
-        complaints() {
-            const isError = ({ method, params }) => method === 'Runtime.exceptionThrown' ||
-                (method === 'Log.entryAdded' && params.entry.level === 'error') ||
-                (method === 'Runtime.consoleAPICalled' && params.type === 'error');
-            const errors = events.filter(isError).map(({ params }) => JSON.stringify(params).slice(0, 400));
-            const requests = events.filter(({ method }) => method === 'Network.requestWillBeSent')
-                .map(({ params }) => params.request.url)
-                .filter((url) => !/^(file:.*nedrubal\.html$|about:|blob:)/.test(url));
-            return [...errors, ...requests];
-        },
-        async end() {
-            const ended = new Promise((done) => process.on('exit', done));
-            send('Browser.close', {}).catch(() => {});
-            await Promise.race([ended, later(3000)]);
-            process.kill();
-            await Promise.race([ended, later(2000)]);
-            fs.rmSync(folder, { recursive: true, force: true, maxRetries: 5 });
+        /** What a press downloads: its name and its bytes. */
+        async downloaded(/** @type {() => Promise<unknown>} */ act) {
+            const before = new Set(fs.readdirSync(downloads));
+            await act();
+            const isWhole = (/** @type {string} */ name) => !before.has(name) && !/\.(crdownload|part)$/.test(name) &&
+                !fs.existsSync(path.join(downloads, `${name}.part`)) && !name.startsWith('.');
+            const name = await until(() => fs.readdirSync(downloads).find(isWhole), 'a download');
+            const file = path.join(downloads, name);
+            if (fs.statSync(file).size === 0) await later(EMPTY_FOR); // it is empty, or its bytes are not there yet
+            await until(() => isWhole(name), `the bytes of ${name}`);
+            const bytes = fs.readFileSync(file);
+            fs.rmSync(file);
+            return { name, bytes };
         },
     };
-    return page;
+    return browser;
 }

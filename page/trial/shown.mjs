@@ -1,0 +1,163 @@
+// Every figure that the page shows, against the answers of `evening`: those of the table by their places in the answer
+// (docs/EVENING.md, "The answers"), those of one security among the numbers that stand in its lines and answers. Places
+// and units are written here once more, and nothing is taken from the page's own lists.
+import assert from 'node:assert/strict';
+
+const RECORD_WORDS = 46;
+const PLACES = {
+    id: 1, day: 3, p1: 4, s: 6, tentative: 7, s1: 9, s2: 10, s3: 11,
+    upper1: 12, upper2: 13, upper3: 14, lower1: 15, lower2: 16, lower3: 17,
+    k_0: 18, lower_0: 21, upper_0: 22, k_1: 25, lower_1: 28, upper_1: 29, k_2: 32, lower_2: 35, upper_2: 36,
+    movesUpper: 39, movesLower: 40,
+};
+const DECIMALS = { s: 4, s1: 2, s2: 2, s3: 2, tentative: 2 };
+const SESSIONS = ['main', 'evening'];
+const decimalsOf = (/** @type {string} */ key) => DECIMALS[key] ?? (/^(p1|upper|lower)/.test(key) ? 4 : 0);
+
+/** A shown figure as the whole number of its unit: the point moved back. It has no more decimals than the unit. */
+export function wholeOf(/** @type {string} */ shown, /** @type {number} */ decimals) {
+    const [whole, behind = ''] = shown.replace(/[ ,%]/g, '').replace('−', '-').split('.');
+    return behind.length > decimals ? null : String(BigInt(`${whole}${behind.padEnd(decimals, '0')}`));
+}
+
+/**
+ * What the lines and their answers say of each security, in order: its admission and its records.
+ * @typedef {{ call: string, line: string[], answer: string[] }} Told
+ * @returns {Map<string, Told[]>}
+ */
+export function toldOf(/** @type {string[]} */ lines, /** @type {string[]} */ answers) {
+    const told = new Map();
+    const answered = lines.filter((line) => line.length > 65535 || /[^ \t\r]/.test(line));
+    assert.equal(answered.length, answers.length);
+    answered.forEach((text, at) => {
+        const line = text.split(/[ \t\r]+/).filter((word) => word !== '');
+        const answer = answers[at].split(' ');
+        if (answer[0] !== '0') return;
+        const plain = line.map((word) => (/^-?\d+$/.test(word) ? String(BigInt(word)) : word)); // 007 is 7
+        const one = { call: line[0], line: plain, answer };
+        if (one.call === 'admit') told.set(one.line[1], [one]);
+        else if (answer.length === RECORD_WORDS) told.get(answer[1]).push(one);
+    });
+    return told;
+}
+
+/** The table as it is shown: for each security the cells by the keys of their heads. */
+export const TABLE = `(() => {
+    const keys = [...document.querySelectorAll('#table thead button')].map((one) => one.dataset.key);
+    return [...document.querySelectorAll('#table tbody tr')].map((row) =>
+        Object.fromEntries([...row.children].map((cell, at) => [keys[at], cell.textContent])));
+})()`;
+
+/** Compares the whole table, and says how many figures it has. */
+export function lookAtTable(/** @type {Record<string, string>[]} */ rows, /** @type {Map<string, Told[]>} */ told,
+    hasSession = true) {
+    let looked = 0;
+    assert.deepEqual(rows.map(({ id }) => id).sort(), [...told.keys()].sort());
+    for (const row of rows) {
+        const words = /** @type {Told[]} */ (told.get(row.id)).at(-1).answer;
+        const isLive = words.length === RECORD_WORDS && words[2] === '1';
+        for (const [key, place] of Object.entries(PLACES).filter(([name]) => name !== 'id')) {
+            assert.ok(key in row, `the table has no column ${key}`);
+            const expected = isLive ? words[place] : null;
+            const shown = row[key] === '–' ? null : wholeOf(row[key], decimalsOf(key));
+            assert.equal(shown, expected, `security ${row.id}, ${key}: '${row[key]}'`);
+            looked += 1;
+        }
+        if (hasSession && isLive) assert.equal(row.session, SESSIONS[Number(words[42])]);
+    }
+    return looked;
+}
+
+// What one security shows, as pieces of text with what they stand in; drawings and tables that come later are waited
+// for.
+const ALL_OF = (/** @type {string[]} */ ids) => `(async () => {
+    const frame = () => new Promise((done) => requestAnimationFrame(() => setTimeout(done)));
+    const shown = [];
+    for (const id of ${JSON.stringify(ids)}) {
+        document.querySelector('#table tbody button[data-id="' + id + '"]').click();
+        const room = document.getElementById('one');
+        for (const closed of room.querySelectorAll('details')) closed.open = true;
+        await frame();
+        const pieces = [];
+        const texts = document.createTreeWalker(room, NodeFilter.SHOW_TEXT);
+        while (texts.nextNode()) {
+            const { parentElement, data } = texts.currentNode;
+            const cell = parentElement.closest('td');
+            const head = cell?.closest('table').querySelectorAll('thead th')[cell.cellIndex]?.textContent ?? '';
+            const where = parentElement.closest('svg') ? 'drawing' : cell ? head : parentElement.localName;
+            pieces.push({ text: data, where: where + ' ' + (parentElement.getAttribute('class') ?? '') });
+        }
+        shown.push({ id, pieces });
+    }
+    return shown;
+})()`;
+
+const FIGURE = /[−-]?\d[\d,]*(?:\.\d+)?/g;
+const UNITS = [0, 2, 4]; // a whole number, a rate or hundredths, a price or a volatility
+
+/** Whether a shown figure is one of the numbers, with the point moved. */
+const isAmong = (/** @type {string} */ shown, /** @type {Set<string>} */ numbers) => (
+    UNITS.some((decimals) => numbers.has(String(wholeOf(shown, decimals)))));
+
+/** The exact move in millionths, as two numbers over and under; the greater of the two (document 01, 7.1). */
+function moveOf(/** @type {bigint} */ price, /** @type {bigint[]} */ earlier) {
+    const moves = earlier.map((from) => [(price > from ? price - from : from - price) * 1_000_000n, from]);
+    return moves[0][0] * moves[1][1] >= moves[1][0] * moves[0][1] ? moves[0] : moves[1];
+}
+
+/** The figures that the page makes itself, each worked out here in another way; what is left of a text has none. */
+function withoutMade(/** @type {string} */ text, /** @type {bigint[]} */ [over, under]) {
+    const whole = (/** @type {string | undefined} */ shown) => BigInt((shown ?? '0').replace(/,/g, ''));
+    return text
+        .replace(/ is (?:([\d,]+) \+ )?(?:([\d,]+)\/)?([\d,]+) millionths(?: \(([\d,]+)(?:\.(\d+))?…?\))?/,
+            (_, before, part, last, places, behind = '') => {
+                const [count, of] = part === undefined ? [whole(last), 1n] : [whole(part), whole(last)];
+                assert.equal((whole(before) * of + count) * under, over * of, text);
+                const shown = places === undefined ? null : BigInt(places.replace(/,/g, '') + behind.padEnd(3, '0'));
+                if (shown !== null) assert.equal(shown, (over * 1000n) / under, text);
+                return ' is';
+            })
+        .replace(/(nearest millionth first it would have been) ([\d,]+)/, (_, words, shown) => {
+            assert.equal(whole(shown), (2n * over + under) / (2n * under), text);
+            return words;
+        });
+}
+
+/** The numbers of a security that the page may show, and the exact move of its last day. */
+function numbersOf(/** @type {Told[]} */ told) {
+    const numbers = new Set(told.flatMap(({ call, line, answer }) => [
+        ...(call === 'admit' ? line : call === 'evaluate' ? line.slice(3, 5) : []), ...answer]));
+    const days = told.filter(({ call }) => call === 'evaluate');
+    if (days.length === 0) return { numbers, move: [0n, 1n] };
+    const before = days.length > 1 ? days[days.length - 2].answer.slice(4, 6) : told[0].line.slice(3, 5);
+    return { numbers, move: moveOf(BigInt(days[days.length - 1].answer[4]), before.map(BigInt)) };
+}
+
+const isChange = (/** @type {{ text: string, where: string }} */ { text, where }) => (
+    where.startsWith('change') || (/^small (up|down|dim)$/.test(where) && text.includes('%')));
+const TIME = /\d\d:\d\d:\d\d/g;
+const NAME = /\b(?:rates?|levels?|terms?) [0-3](?:, [0-3])*\b/gi; // a level's or a term's number is a name
+
+/** Looks at all that is shown of some securities; every figure has to stand in their lines and answers. */
+export async function lookAtEach(/** @type {import('./browser.mjs').Browser} */ browser,
+    /** @type {Map<string, Told[]>} */ told, /** @type {string[]} */ ids) {
+    let looked = 0;
+    for (const { id, pieces } of await browser.value(ALL_OF(ids))) {
+        const { numbers, move } = numbersOf(/** @type {Told[]} */ (told.get(id)));
+        assert.ok(pieces.length > 3, `security ${id} shows nothing`);
+        for (const piece of pieces) {
+            if (isChange(piece) || piece.where === 'level ') continue;
+            const text = withoutMade(piece.text, move).replace(NAME, '').replace(TIME, (time) => {
+                const second = time.split(':').reduce((sum, part) => sum * 60 + Number(part), 0);
+                assert.ok(numbers.has(String(second)), `security ${id}: no answer has the second of '${piece.text}'`);
+                return '';
+            });
+            for (const [figure] of text.matchAll(FIGURE)) {
+                assert.ok(isAmong(figure, numbers), `security ${id}: '${figure}' of '${piece.text}' (${piece.where}) ` +
+                    'stands in none of its lines and answers');
+                looked += 1;
+            }
+        }
+    }
+    return looked;
+}
