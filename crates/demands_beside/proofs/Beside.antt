@@ -17,7 +17,7 @@ use Rattle.paper_interest.specs.Interest.{interestChecks, interestAnswer}
 use Rattle.paper_bonds.specs.Bonds.{bondChecks, bondAnswer}
 use Rattle.paper_messages.specs.Messages.{writeChecks, wroteOf, readChecks, heardAt}
 use Rattle.text_table.specs.declared.Reading.{Reading}
-use Rattle.text_protocol.specs.Bytes.{isLineFeed, pieces}
+use Rattle.text_bytes.specs.Bytes.{isLineFeed, pieces}
 use Rattle.text_table.specs.Exchange.{textMost, Bad, refused, accepted, Says, too-long, bad-at, good}
 use Rattle.demands_beside.specs.Beside.{Judged, FirstBad, ReadExactly, Figured, Demand1Beside}
 use Rattle.paper_desk.proofs.Refusals.{refused-exactly, accepted-exactly}

@@ -2,8 +2,9 @@
 // a quote's two alerts or a number alone; and what it answers to a line that is no call.
 ghost use mathlib.Core.List.{[], _∷_};
 ghost use Prim.Native.Nat.{_+_, _≤_};
-ghost use Rattle.text_protocol.specs.Bytes.{room};
-ghost use Rattle.text_protocol.specs.Answers.{answerText, badText, flag, recordNumbers, answerMost};
+ghost use Rattle.text_bytes.specs.Bytes.{room};
+ghost use Rattle.text_protocol.specs.Answers.{badText, flag, recordNumbers, answerMost};
+ghost use Rattle.text_bytes.specs.Numbers.{answerText};
 ghost use Rattle.text_out.specs.Places.{nextBytes};
 ghost use Rattle.text_out.specs.Wrote.{Wrote};
 ghost use Rattle.text_put.specs.Told.{Told};
@@ -11,10 +12,10 @@ ghost use Rattle.text_record.specs.Sizes.{recordBytes};
 ghost use Rattle.text_answer.specs.Kinds.{textOfKind};
 use paper::Answer;
 use paper::Record;
+use text_bytes::ROOM;
 use text_out::put_byte;
 use text_out::put_number;
 use text_protocol::Kind;
-use text_protocol::ROOM;
 use text_put::put_next;
 use text_put::say_number;
 use text_record::put_external;

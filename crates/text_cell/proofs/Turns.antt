@@ -17,10 +17,10 @@ use mir.Facts.{toZ-ofZ}
 use borrow.Author.Tests.{le-leb, lt-leb, lt-ltb, le-ltb, eq-eqb, ne-eqb, eqb-true}
 use Rattle.paper.specs.Lists.{pick}
 use Rattle.paper.proofs.Logic.{and-left, and-right, le-or-lt}
-use Rattle.text_protocol.specs.Bytes.{minusSign, digitZero, digitNine}
-use Rattle.text_protocol.specs.Numbers.{isDigit}
-use Rattle.text_protocol.specs.Written.{negated}
-use Rattle.text_protocol.proofs.Spelling.{impossible, within-is-digit, digit-is-within, low-no-digit, high-no-digit}
+use Rattle.text_bytes.specs.Bytes.{minusSign, digitZero, digitNine}
+use Rattle.text_bytes.specs.Numbers.{isDigit}
+use Rattle.text_bytes.specs.Spells.{negated}
+use Rattle.text_bytes.proofs.Spelling.{impossible, within-is-digit, digit-is-within, low-no-digit, high-no-digit}
 use Rattle.text_table.specs.declared.Column.{Column}
 use Rattle.text_table.specs.Exchange.{point}
 use Rattle.text_table.specs.Scan.{Front, front, none, then, starts, numberMost, digits, pastZeros, behindZeros}

@@ -7,14 +7,14 @@ ghost use Prim.Native.Nat.{_+_, _*_, _-_, _^_, _≤_};
 ghost use lib.Dec.{eqb};
 ghost use lib.ListN.{length, drop};
 ghost use Rattle.paper.specs.Lists.{pick};
-ghost use Rattle.text_protocol.specs.Bytes.{minusSign};
-ghost use Rattle.text_protocol.specs.Numbers.{isDigit};
+ghost use Rattle.text_bytes.specs.Bytes.{minusSign};
+ghost use Rattle.text_bytes.specs.Numbers.{isDigit};
 ghost use Rattle.text_table.specs.Scan.{front, starts, numberMost, digits, pastZeros, behindZeros, decimals, number};
 ghost use Rattle.text_table.specs.Scan.{cell};
 ghost use Rattle.text_cell.specs.Placed.{Stops, Took, Numbered, Celled};
 use paper::Price;
-use text_protocol::DIGIT_NINE;
-use text_protocol::DIGIT_ZERO;
+use text_bytes::DIGIT_NINE;
+use text_bytes::DIGIT_ZERO;
 use text_table::Column;
 
 // A number in front of a text, and where it ends.

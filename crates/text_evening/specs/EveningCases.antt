@@ -18,7 +18,7 @@ use Rattle.paper_bonds.specs.BondCases.{answered as bondAnswered}
 use Rattle.paper_reasons.specs.Faults.{isSame, faultsOf, faultOf}
 use Rattle.paper_reasons.specs.Why.{whyOf, whyOn}
 use Rattle.paper_messages.specs.PinnedMessages.{staticsBytes}
-use Rattle.text_protocol.specs.LineCases.{bytes}
+use Rattle.text_bytes.specs.Bytes.{bytes}
 use Rattle.text_protocol.specs.Kept.{noPair, keptAfter}
 use Rattle.text_protocol.specs.CallCases.{deedBy}
 use Rattle.text_protocol.specs.Answers.{interestText, interestNumbers, maturitiesNumbers, maturityNumbers, bondText}

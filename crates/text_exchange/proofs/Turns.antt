@@ -16,10 +16,10 @@ use borrow.Author.Tests.{eqb-true}
 use Rattle.paper.specs.declared.Verdict.the-variants.{Done}
 use Rattle.paper.specs.Numbers.{rowNumbers, allNumbersMost}
 use Rattle.paper.specs.Ranges.{unsigned}
-use Rattle.text_protocol.specs.Bytes.{lineFeed, isLineFeed, pieces}
-use Rattle.text_protocol.proofs.Spelling.{impossible}
-use Rattle.text_protocol.specs.Split.{Free}
-use Rattle.text_protocol.proofs.Pieces.{pieces-none, pieces-more, Parted, all, more, parted, pieces-some}
+use Rattle.text_bytes.specs.Bytes.{lineFeed, isLineFeed, pieces}
+use Rattle.text_bytes.proofs.Spelling.{impossible}
+use Rattle.text_bytes.specs.Split.{Free}
+use Rattle.text_bytes.proofs.Pieces.{pieces-none, pieces-more, Parted, all, more, parted, pieces-some}
 use Rattle.text_table.specs.declared.Reading.{Reading}
 use Rattle.text_table.specs.Exchange.{Ended, lineNumbers, rowsMost, textMost, inOne, accepted, refused, Says, too-long}
 use Rattle.text_table.specs.Scan.{Front, front, none, line, WrittenLine}

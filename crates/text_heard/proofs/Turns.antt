@@ -12,7 +12,7 @@ use Rattle.paper.specs.Verdicts.{numberOf, isDone}
 use Rattle.paper_messages.specs.declared.Message.{Message}
 use Rattle.paper_messages.specs.declared.Heard.{Heard}
 use Rattle.paper_messages.specs.Fields.{fieldsOf}
-use Rattle.text_protocol.specs.Bytes.{lineFeed}
+use Rattle.text_bytes.specs.Bytes.{lineFeed}
 use Rattle.text_out.specs.Wrote.{Wrote, then, wider}
 use Rattle.text_put.specs.Told.{Told, wrote}
 use Rattle.text_heard.specs.Lines.{kindWord, unknownWord, refusedWord, wordLine, fieldsIn, lineOf, lineMost}

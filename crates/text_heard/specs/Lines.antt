@@ -9,8 +9,8 @@ use Rattle.paper.specs.Verdicts.{numberOf, isDone}
 use Rattle.paper_messages.specs.declared.Message.{Message}
 use Rattle.paper_messages.specs.declared.Heard.{Heard}
 use Rattle.paper_messages.specs.Fields.{staticsMessageKind, ratesMessageKind, bandsMessageKind, fieldsOf}
-use Rattle.text_protocol.specs.Bytes.{lineFeed}
-use Rattle.text_protocol.specs.Answers.{spaced}
+use Rattle.text_bytes.specs.Bytes.{lineFeed}
+use Rattle.text_bytes.specs.Numbers.{spaced}
 use Rattle.text_put.specs.Sizes.{wordBytes, rowsBytes}
 
 -- "statics", "rates", "bands", "move"

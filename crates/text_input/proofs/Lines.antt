@@ -11,7 +11,7 @@ use lib.ListN.{length, take, drop, getD, length-append, length-drop}
 use lib.Seq.{split-at, take-take, drop-drop, length-take-le}
 use borrow.Author.Tests.{eqb-true, eqb-false}
 use Rattle.paper.specs.Lists.{pick}
-use Rattle.text_protocol.specs.Bytes.{lineFeed, isNot, run, room}
+use Rattle.text_bytes.specs.Bytes.{lineFeed, isNot, run, room}
 use Rattle.text_protocol.specs.Line.{meaning, keptMost, longest}
 use Rattle.text_evidence.specs.declared.Delivered.{Delivered}
 use Rattle.text_evidence.specs.Evidence.{countMost, counted, hasEnded, Counted, counted-none, counted-on}

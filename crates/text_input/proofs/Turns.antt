@@ -12,7 +12,7 @@ use lib.ListN.{length, take, drop, getD, set, length-set, length-append, length-
 use lib.Seq.{take-suc-set, take-suc, getD-set-other, getD-drop, take-add, drop-drop, take-nil, take-take}
 use lib.Seq.{length-take-le, take-append-le}
 use Rattle.paper.specs.Lists.{pick}
-use Rattle.text_protocol.specs.Bytes.{lineFeed, isNot, run, room}
+use Rattle.text_bytes.specs.Bytes.{lineFeed, isNot, run, room}
 use Rattle.text_evidence.specs.declared.Delivered.{Delivered}
 use Rattle.text_evidence.specs.Evidence.{countMost, counted, hasEnded, Counted, counted-none, Fills}
 use Rattle.text_input.specs.declared.Input.{Input}

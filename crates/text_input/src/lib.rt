@@ -4,7 +4,7 @@ ghost use mathlib.Core.List.{List};
 ghost use Prim.Native.Nat.{ℕ, _+_, _-_, _≤_};
 ghost use lib.ListN.{length, take, drop};
 ghost use Rattle.text_input.specs.Input.{Stands, Waits, Unbroken, Passes, Readied, LongPassed, Hears};
-ghost use Rattle.text_protocol.specs.Bytes.{room};
+ghost use Rattle.text_bytes.specs.Bytes.{room};
 ghost use Rattle.text_protocol.specs.Line.{keptMost};
 use text_evidence::Delivered;
 use text_evidence::fill;

@@ -8,7 +8,8 @@ use lib.ListN.{length, drop, getD, drop-of-length-le}
 use lib.Seq.{drop-cons}
 use Rattle.paper.specs.declared.MaturityFigures.{MaturityFigures}
 use Rattle.paper_interest.specs.Interest.{noFigures}
-use Rattle.text_protocol.specs.Answers.{spaced, maturityNumbers, maturitiesNumbers}
+use Rattle.text_protocol.specs.Answers.{maturityNumbers, maturitiesNumbers}
+use Rattle.text_bytes.specs.Numbers.{spaced}
 use Rattle.text_out.specs.Wrote.{Left, left-none, left-more, left-all}
 use Rattle.text_put.specs.Told.{Told, spaced-both, wrote, told}
 use Rattle.text_interest.specs.Sizes.{keyBytes, keysBytes}

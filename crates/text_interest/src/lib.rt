@@ -1,8 +1,9 @@
 // An interest line's answer, appended to a lent buffer. Each contract is a list of numbers, and each proof the one law
 // `both`.
 ghost use Prim.Native.Nat.{_+_, _≤_};
-ghost use Rattle.text_protocol.specs.Bytes.{room};
-ghost use Rattle.text_protocol.specs.Answers.{answerText, maturityNumbers, maturitiesNumbers, interestNumbers};
+ghost use Rattle.text_bytes.specs.Bytes.{room};
+ghost use Rattle.text_protocol.specs.Answers.{maturityNumbers, maturitiesNumbers, interestNumbers};
+ghost use Rattle.text_bytes.specs.Numbers.{answerText};
 ghost use Rattle.text_protocol.specs.Answers.{interestText, answerMost};
 ghost use Rattle.text_out.specs.Wrote.{Wrote};
 ghost use Rattle.text_put.specs.Told.{Told};
@@ -10,9 +11,9 @@ ghost use Rattle.text_interest.specs.Sizes.{keyBytes, keysBytes};
 use paper::InterestAnswer;
 use paper::Maturity;
 use paper::MaturityFigures;
+use text_bytes::ROOM;
 use text_out::put_byte;
 use text_out::put_number;
-use text_protocol::ROOM;
 use text_put::put_next;
 use text_put::put_next_signed;
 use text_put::say_number;

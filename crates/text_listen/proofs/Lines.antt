@@ -16,7 +16,7 @@ use Rattle.paper.specs.Verdicts.{numberOf, isDone, firstOf}
 use Rattle.paper.proofs.Logic.{not-true-and-false}
 use Rattle.paper_messages.specs.declared.Heard.{Heard}
 use Rattle.paper_messages.specs.Messages.{readChecks, acceptedHeard, refusedHeard, heardAt}
-use Rattle.text_protocol.specs.Bytes.{room}
+use Rattle.text_bytes.specs.Bytes.{room}
 use Rattle.text_evidence.specs.Evidence.{countMost, hasEnded, tookAll}
 use Rattle.text_input.proofs.Turns.{drop-take-of}
 use Rattle.text_heard.specs.Lines.{lineOf}

@@ -19,7 +19,7 @@ use Rattle.paper.proofs.Logic.{and-right, not-false, not-true-and-false}
 use Rattle.paper_messages.specs.Messages.{lengthWidth, lengthLeast, lengthMost, lengthAt, readChecks, refusedHeard}
 use Rattle.paper_messages.specs.Messages.{acceptedHeard, heardAt, lengthOf, isKnownKind, valid, kindAt, messageAt}
 use Rattle.text_listen.specs.declared.Listening.{Listening}
-use Rattle.text_protocol.specs.Bytes.{room}
+use Rattle.text_bytes.specs.Bytes.{room}
 use Rattle.text_listen.specs.Steps.{unheard, heardIn, isCut, Stands}
 
 -- a message that is not refused is whole

@@ -14,7 +14,7 @@ use borrow.Author.Tests.{ltb-true, ltb-false}
 use Rattle.paper.specs.Verdicts.{isDone}
 use Rattle.paper.proofs.Logic.{not-true-and-false, not-true, not-false}
 use Rattle.paper_messages.specs.declared.Heard.{Heard}
-use Rattle.text_protocol.specs.Bytes.{room}
+use Rattle.text_bytes.specs.Bytes.{room}
 use Rattle.text_out.specs.Wrote.{Wrote, appended}
 use Rattle.text_evidence.specs.declared.Delivered.{Delivered}
 use Rattle.text_evidence.specs.Evidence.{countMost, counted, Counted, counted-none, counted-on, hasEnded}

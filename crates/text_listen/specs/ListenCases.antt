@@ -15,10 +15,8 @@ use Rattle.paper_messages.specs.Bytes.{spelled, signedOf}
 use Rattle.paper_messages.specs.Fields.{staticsFields, ratesFields, bandsFields, moveFields, fieldsOf, filled, placesOf}
 use Rattle.paper_messages.specs.Messages.{total, lengthOf, isKnownKind, inRanges, valid, valuesAt, messageAt, noMessage}
 use Rattle.paper_messages.specs.Messages.{readChecks, refusedHeard, acceptedHeard, heardAt}
-use Rattle.text_protocol.specs.Bytes.{lineFeed}
-use Rattle.text_protocol.specs.Numbers.{spelt, decimal, signed}
-use Rattle.text_protocol.specs.Answers.{next, spaced}
-use Rattle.text_protocol.specs.LineCases.{bytes}
+use Rattle.text_bytes.specs.Bytes.{lineFeed, bytes}
+use Rattle.text_bytes.specs.Numbers.{spelt, decimal, signed, next, spaced}
 use Rattle.text_heard.specs.Lines.{kindWord, wordLine, fieldsIn, lineOf}
 use Rattle.text_listen.specs.Listen.{listenFrom, listenText}
 

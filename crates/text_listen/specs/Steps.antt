@@ -12,7 +12,7 @@ use Rattle.paper.specs.declared.Verdict.the-variants.{CutShort}
 use Rattle.paper.specs.Verdicts.{numberOf, isDone}
 use Rattle.paper_messages.specs.declared.Heard.{Heard}
 use Rattle.paper_messages.specs.Messages.{heardAt}
-use Rattle.text_protocol.specs.Bytes.{room}
+use Rattle.text_bytes.specs.Bytes.{room}
 use Rattle.text_out.specs.Wrote.{Wrote}
 use Rattle.text_evidence.specs.Evidence.{countMost, Counted, unread, hasEnded, hasFailed, unwritten, tookAll, Hands}
 use Rattle.text_heard.specs.Lines.{lineOf, lineMost}

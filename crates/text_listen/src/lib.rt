@@ -5,13 +5,14 @@ ghost use mathlib.Core.Bool.{true, false};
 ghost use Prim.Native.Nat.{_+_, _-_, _≤_, _<_};
 ghost use lib.ListN.{length};
 ghost use Rattle.paper_messages.specs.Fields.{places};
-ghost use Rattle.text_protocol.specs.Bytes.{room};
+ghost use Rattle.text_bytes.specs.Bytes.{room};
 ghost use Rattle.text_evidence.specs.Evidence.{countMost};
 ghost use Rattle.text_listen.specs.Steps.{startListening, placeOf, isCut, Stands, Going, Tells, WritesOut};
 ghost use Rattle.text_listen.specs.Steps.{Delivers, ReadsOn, Steps, Listens, wentWell};
 use libc::STDERR_FILENO;
 use paper::Verdict;
 use paper_messages::Heard;
+use text_bytes::ROOM;
 use text_evidence::Delivered;
 use text_evidence::Written;
 use text_evidence::fill;
@@ -21,7 +22,6 @@ use text_evidence::unwritten;
 use text_heard::LINE_MOST;
 use text_heard::say_heard;
 use text_input::shift;
-use text_protocol::ROOM;
 
 // How far the input is listened to: the bytes of the buffer from `at` to `len` are delivered and not heard yet. So many
 // bytes of lines wait to be written as `waiting` says. `over` is whether nothing more is heard. `read` is the evidence

@@ -3,13 +3,13 @@
 ghost use mathlib.Core.Path.{_≡_};
 ghost use mathlib.Core.List.{[], _∷_, _++_};
 ghost use Prim.Native.Nat.{_+_, _-_, _≤_, _<_, _^_};
-ghost use Rattle.text_protocol.specs.Numbers.{decimal, signed};
+ghost use Rattle.text_bytes.specs.Numbers.{decimal, signed};
 ghost use Rattle.text_out.specs.Places.{Places, numberBytes, signedBytes};
 ghost use Rattle.text_out.specs.Wrote.{Wrote};
-ghost use Rattle.text_protocol.specs.Bytes.{room};
+ghost use Rattle.text_bytes.specs.Bytes.{room};
 use exact::magnitude;
-use text_protocol::DIGIT_ZERO;
-use text_protocol::ROOM;
+use text_bytes::DIGIT_ZERO;
+use text_bytes::ROOM;
 
 // How many decimal digits x has.
 fn places(x: u64) -> usize

@@ -8,7 +8,7 @@ use lib.IntN.{ℤ, pos}
 use lib.ListN.{length, drop, getD, drop-of-length-le}
 use lib.Seq.{drop-cons}
 use Rattle.paper.specs.Numbers.{allNumbersMost}
-use Rattle.text_protocol.specs.Answers.{spaced}
+use Rattle.text_bytes.specs.Numbers.{spaced}
 use Rattle.text_out.specs.Places.{nextSignedBytes}
 use Rattle.text_out.specs.Wrote.{Wrote, Left, left-none, left-more, left-all}
 use Rattle.text_put.specs.Told.{Told, told, wrote-one}

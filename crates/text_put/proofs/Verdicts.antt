@@ -7,7 +7,7 @@ use borrow.Author.Tests.{ne-eqb}
 use Rattle.paper.specs.declared.Verdict.{Verdict}
 use Rattle.paper.specs.Lists.{pick}
 use Rattle.paper.specs.Verdicts.{numberOf, isDone}
-use Rattle.text_protocol.specs.Answers.{answerText}
+use Rattle.text_bytes.specs.Numbers.{answerText}
 
 -- the text of a verdict with its figures
 abbrev pub verdictText : Verdict → List ℤ → List ℕ

@@ -7,9 +7,9 @@ use native.Mathlib.Omega.{arith}
 use lib.IntN.{ℤ}
 use lib.ListN.{length}
 use lib.Seq.{sets}
-use Rattle.text_protocol.specs.Bytes.{lineFeed}
-use Rattle.text_protocol.specs.Numbers.{decimal}
-use Rattle.text_protocol.specs.Answers.{next, spaced, answerText, answerMost}
+use Rattle.text_bytes.specs.Bytes.{lineFeed}
+use Rattle.text_bytes.specs.Numbers.{decimal, next, spaced, answerText}
+use Rattle.text_protocol.specs.Answers.{answerMost}
 use Rattle.text_out.specs.Wrote.{Wrote, then, wider}
 use Rattle.text_out.specs.Places.{numberBytes}
 

@@ -5,18 +5,19 @@ ghost use Prim.Native.Nat.{_+_, _*_, _≤_};
 ghost use lib.IntN.{pos};
 ghost use lib.ListN.{length};
 ghost use Rattle.paper.specs.Numbers.{allNumbersMost};
-ghost use Rattle.text_protocol.specs.Bytes.{room};
-ghost use Rattle.text_protocol.specs.Answers.{answerText, ratesNumbers, answerMost};
+ghost use Rattle.text_bytes.specs.Bytes.{room};
+ghost use Rattle.text_protocol.specs.Answers.{ratesNumbers, answerMost};
+ghost use Rattle.text_bytes.specs.Numbers.{answerText};
 ghost use Rattle.text_out.specs.Places.{nextBytes, nextSignedBytes};
 ghost use Rattle.text_out.specs.Wrote.{Wrote};
 ghost use Rattle.text_put.specs.Told.{Told};
 ghost use Rattle.text_put.specs.Sizes.{wordBytes, rowsBytes};
 use paper::Rate;
 use paper::Record;
+use text_bytes::ROOM;
 use text_out::put_byte;
 use text_out::put_number;
 use text_out::put_signed;
-use text_protocol::ROOM;
 
 // The bytes of a word. None has more than eleven.
 pub fn put_bytes(out: &mut [u8; ROOM], len: usize, word: &[u8]) -> usize

@@ -2,7 +2,7 @@
 // numbers, and each proof the one law `both`.
 ghost use mathlib.Core.List.{[], _∷_, _++_};
 ghost use Prim.Native.Nat.{_+_, _*_, _≤_};
-ghost use Rattle.text_protocol.specs.Bytes.{room};
+ghost use Rattle.text_bytes.specs.Bytes.{room};
 ghost use Rattle.text_protocol.specs.Answers.{nearNumber, standingNumbers, figureNumbers, ratesNumbers, rangesNumbers};
 ghost use Rattle.text_protocol.specs.Answers.{termNumbers, lastNumbers, sessionNumbers, externalNumbers};
 ghost use Rattle.text_out.specs.Places.{nextBytes, nextSignedBytes};
@@ -16,7 +16,7 @@ use paper::Record;
 use paper::Session;
 use paper::Standing;
 use paper::Term;
-use text_protocol::ROOM;
+use text_bytes::ROOM;
 use text_put::put_next;
 use text_put::put_next_signed;
 use text_put::put_rates;

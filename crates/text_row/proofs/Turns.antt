@@ -13,7 +13,7 @@ use lib.Seq.{drop-cons, drop-drop, take-all, take-suc-set}
 use borrow.Author.Tests.{le-leb, leb-true}
 use Rattle.paper.specs.Lists.{pick}
 use Rattle.paper.proofs.Logic.{not-true-and-false, and-left, and-right, and-both, le-or-lt}
-use Rattle.text_protocol.specs.Bytes.{lineFeed, carriageReturn}
+use Rattle.text_bytes.specs.Bytes.{lineFeed, carriageReturn}
 use Rattle.text_table.specs.declared.Column.{Column}
 use Rattle.text_table.specs.Exchange.{semicolon, columns, lineNumbers, wholeNumber, exchangeRate, repoRate, price}
 use Rattle.text_table.specs.Scan.{Front, front, none, then, starts, cell, Passed, passed, pass, lineEnd, fieldEnd}

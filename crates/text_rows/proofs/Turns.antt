@@ -14,12 +14,11 @@ use borrow.Author.Tests.{le-leb, lt-leb, leb-false, lt-ltb, le-ltb, eq-eqb, ne-e
 use Rattle.paper.specs.Lists.{pick}
 use Rattle.paper.specs.Numbers.{idMost, allNumbersMost, rowNumbers}
 use Rattle.paper.specs.Verdicts.{numberOf, isDone}
-use Rattle.text_protocol.specs.Bytes.{lineFeed, digitZero, digitNine}
-use Rattle.text_protocol.specs.declared.Size.{Size}
-use Rattle.text_protocol.specs.declared.Size.the-variants as size
-use Rattle.text_protocol.specs.Numbers.{decimal, isDigit, sizeFrom, sizeOf}
-use Rattle.text_protocol.specs.Answers.{answerText}
-use Rattle.text_protocol.proofs.Spelling.{within-is-digit, low-no-digit, high-no-digit}
+use Rattle.text_bytes.specs.Bytes.{lineFeed, digitZero, digitNine}
+use Rattle.text_bytes.specs.declared.Size.{Size}
+use Rattle.text_bytes.specs.declared.Size.the-variants as size
+use Rattle.text_bytes.specs.Numbers.{decimal, isDigit, sizeFrom, sizeOf, answerText}
+use Rattle.text_bytes.proofs.Spelling.{within-is-digit, low-no-digit, high-no-digit}
 use Rattle.text_out.specs.Wrote.{Wrote, then, wider}
 use Rattle.text_put.specs.Told.{Told, both, wrote}
 use Rattle.text_table.specs.declared.Reading.{Reading}

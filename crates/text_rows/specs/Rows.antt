@@ -10,10 +10,9 @@ use lib.ListN.{length, take}
 use Rattle.paper.specs.Lists.{pick}
 use Rattle.paper.specs.Numbers.{idMost, rowNumbers}
 use Rattle.paper.specs.Verdicts.{numberOf, isDone}
-use Rattle.text_protocol.specs.declared.Size.{Size}
-use Rattle.text_protocol.specs.declared.Size.the-variants as size
-use Rattle.text_protocol.specs.Numbers.{sizeOf}
-use Rattle.text_protocol.specs.Answers.{answerText}
+use Rattle.text_bytes.specs.declared.Size.{Size}
+use Rattle.text_bytes.specs.declared.Size.the-variants as size
+use Rattle.text_bytes.specs.Numbers.{sizeOf, answerText}
 use Rattle.text_table.specs.declared.Reading.{Reading}
 use Rattle.text_table.specs.Exchange.{textMost}
 use Rattle.text_table.specs.Scan.{reading}

@@ -30,7 +30,7 @@ use denote.Triple.Walked.{says}
 use Rattle.desk.proofs.Frame.{Locals, holding, Within, frame}
 use Rattle.desk.proofs.Asks.{calls}
 use Rattle.text_protocol.specs.Answers.{answerMost}
-use Rattle.text_protocol.specs.Bytes.{room as bufferRoom}
+use Rattle.text_bytes.specs.Bytes.{room as bufferRoom}
 use Rattle.text_protocol.specs.declared.Performed.{Performed}
 use Rattle.text_protocol.proofs.Performed as F
 use Rattle.text_protocol.proofs.Performed.Laws as F′

@@ -13,7 +13,7 @@ use Rattle.paper_desk.specs.Desk.{Call, read, step}
 use Rattle.paper_reasons.specs.Why.{whyOn}
 use Rattle.desk.specs.Promises.{Promised}
 use Rattle.desk.proofs.Steps.{read-leaves}
-use Rattle.text_protocol.specs.Bytes.{lineFeed}
+use Rattle.text_bytes.specs.Bytes.{lineFeed}
 use Rattle.text_protocol.specs.declared.Performed.{Performed}
 use Rattle.text_protocol.specs.Line.{meaning}
 use Rattle.text_protocol.specs.Calls.{Deed, nothing, noCall, call, interest, bond, deedOf}

@@ -7,7 +7,7 @@ use Prim.Native.Nat.{ℕ, _+_, _≤_, _<_}
 use lib.ListN.{length, take}
 use Rattle.paper.specs.declared.Record.{Record}
 use Rattle.text_evening.specs.declared.Telling.{Telling}
-use Rattle.text_protocol.specs.Bytes.{lineFeed, room}
+use Rattle.text_bytes.specs.Bytes.{lineFeed, room}
 use Rattle.text_evening.specs.Evening.{Evening, startEvening, after, answer, afterAll, answers, lastNumber}
 use Rattle.text_out.specs.Wrote.{Wrote}
 use Rattle.text_input.specs.declared.Input.{Input}

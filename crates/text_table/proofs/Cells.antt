@@ -10,12 +10,12 @@ use lib.ListN.{length, drop}
 use borrow.Author.Tests.{ne-eqb}
 use Rattle.paper.specs.Lists.{pick}
 use Rattle.paper.proofs.Logic.{and-left, and-right}
-use Rattle.text_protocol.specs.Bytes.{minusSign, digitZero, digitNine}
-use Rattle.text_protocol.specs.Numbers.{isDigit}
-use Rattle.text_protocol.specs.Written.{Digits, no-digit, digit, negated}
-use Rattle.text_protocol.proofs.Spelling.{impossible, within-is-digit, digit-is-no-minus}
-use Rattle.text_protocol.specs.Split.{Free, free-none, free}
-use Rattle.text_protocol.proofs.Pieces.{free-append}
+use Rattle.text_bytes.specs.Bytes.{minusSign, digitZero, digitNine}
+use Rattle.text_bytes.specs.Numbers.{isDigit}
+use Rattle.text_bytes.specs.Spells.{Digits, no-digit, digit, negated}
+use Rattle.text_bytes.proofs.Spelling.{impossible, within-is-digit, digit-is-no-minus}
+use Rattle.text_bytes.specs.Split.{Free, free-none, free}
+use Rattle.text_bytes.proofs.Pieces.{free-append}
 use Rattle.text_table.specs.declared.Column.{Column}
 use Rattle.text_table.specs.Exchange.{point, Decimal, whole, pointed, Field, missing, plain, negative}
 use Rattle.text_table.specs.Scan.{Front, front, none, then, starts, NumberEnds, numberMost, number, positive}

@@ -12,10 +12,10 @@ use lib.ListN.{length, take, drop, length-append}
 use lib.Seq.{length-take-le}
 use borrow.Author.Tests.{leb-true, leb-false, le-leb, lt-leb, ltb-true, lt-ltb, eqb-true, eq-eqb}
 use Rattle.paper.specs.Lists.{pick}
-use Rattle.text_protocol.specs.Bytes.{minusSign, digitZero, digitNine}
-use Rattle.text_protocol.specs.Numbers.{isDigit}
-use Rattle.text_protocol.specs.Written.{Digits, no-digit, digit, value}
-use Rattle.text_protocol.proofs.Spelling.{impossible, within-is-digit, digit-is-within}
+use Rattle.text_bytes.specs.Bytes.{minusSign, digitZero, digitNine}
+use Rattle.text_bytes.specs.Numbers.{isDigit}
+use Rattle.text_bytes.specs.Spells.{Digits, no-digit, digit, value}
+use Rattle.text_bytes.proofs.Spelling.{impossible, within-is-digit, digit-is-within}
 use Rattle.text_table.specs.declared.Column.{Column}
 use Rattle.text_table.specs.Exchange.{point, Decimal, whole, pointed}
 use Rattle.text_table.specs.Scan.{Front, front, none, then, starts, NumberEnds, numberMost, digits, pastZeros}

@@ -13,11 +13,11 @@ use Rattle.paper.specs.Numbers.{idMost, rowNumbers, repoLeast, repoMost, rowTer
 use Rattle.paper.specs.Numbers.{volumeMost}
 use Rattle.paper.specs.Ranges.{within, withinZ, LentRow, rowAt, closeForVolume, validRow}
 use Rattle.paper.proofs.Logic.{not-true-and-false, and-left, and-right, and-both}
-use Rattle.text_protocol.specs.Bytes.{lineFeed, carriageReturn, minusSign, digitNine, isLineFeed, pieces}
-use Rattle.text_protocol.specs.Numbers.{isDigit}
-use Rattle.text_protocol.proofs.Spelling.{impossible}
-use Rattle.text_protocol.specs.Split.{Free, free-none, free}
-use Rattle.text_protocol.proofs.Pieces.{free-append, pieces-none, pieces-more, Parted, all, more, parted, pieces-some}
+use Rattle.text_bytes.specs.Bytes.{lineFeed, carriageReturn, minusSign, digitNine, isLineFeed, pieces}
+use Rattle.text_bytes.specs.Numbers.{isDigit}
+use Rattle.text_bytes.proofs.Spelling.{impossible}
+use Rattle.text_bytes.specs.Split.{Free, free-none, free}
+use Rattle.text_bytes.proofs.Pieces.{free-append, pieces-none, pieces-more, Parted, all, more, parted, pieces-some}
 use Rattle.text_table.specs.declared.Column.{Column}
 use Rattle.text_table.specs.Exchange.{point, semicolon, isSemicolon, Decimal, Field, missing, plain, negative}
 use Rattle.text_table.specs.Exchange.{columns, wholeNumber, Fields, no-field, field, Line, Ended, by-lf, by-cr-lf}

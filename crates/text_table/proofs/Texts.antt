@@ -16,10 +16,10 @@ use Rattle.paper.specs.Numbers.{idMost, rowNumbers, allNumbersMost}
 use Rattle.paper.specs.Ranges.{within, unsigned}
 use Rattle.paper.specs.Verdicts.{Exactly}
 use Rattle.paper.proofs.Logic.{not-true-and-false, le-or-lt}
-use Rattle.text_protocol.specs.Bytes.{lineFeed, isLineFeed, pieces}
-use Rattle.text_protocol.proofs.Spelling.{impossible}
-use Rattle.text_protocol.specs.Split.{Free, AllFree, piece}
-use Rattle.text_protocol.proofs.Pieces.{pieces-none, pieces-more, pieces-free, pieces-some}
+use Rattle.text_bytes.specs.Bytes.{lineFeed, isLineFeed, pieces}
+use Rattle.text_bytes.proofs.Spelling.{impossible}
+use Rattle.text_bytes.specs.Split.{Free, AllFree, piece}
+use Rattle.text_bytes.proofs.Pieces.{pieces-none, pieces-more, pieces-free, pieces-some}
 use Rattle.text_table.specs.declared.Reading.{Reading}
 use Rattle.text_table.specs.Exchange.{Ended, by-lf, by-cr-lf, rowsMost, textMost, Bad, unended, no-row}
 use Rattle.text_table.specs.Exchange.{seventeenth, RowsOf, no-line, its-own, another's, inOne, accepted, refused}

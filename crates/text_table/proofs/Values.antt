@@ -6,8 +6,8 @@ use native.Mathlib.Nat.{pow-suc, one-le-pow, mul-div-cancel, mul-le-mul-left, le
 use native.Mathlib.Omega.{arith}
 use lib.Arith.{digits-div}
 use lib.ListN.{length}
-use Rattle.text_protocol.specs.Bytes.{digitZero}
-use Rattle.text_protocol.specs.Written.{Digits, no-digit, digit, value}
+use Rattle.text_bytes.specs.Bytes.{digitZero}
+use Rattle.text_bytes.specs.Spells.{Digits, no-digit, digit, value}
 
 pub ten-pos : (k : ℕ) → 0 < 10 ^ k
 ten-pos k = let h : 0 < 10 = omega arith in omega (arith, one-le-pow k 10 h)

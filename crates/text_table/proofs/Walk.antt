@@ -9,8 +9,8 @@ use lib.IntN.{ℤ}
 use lib.ListN.{length, take, drop, getD, length-append, drop-of-length-le, length-drop}
 use lib.Seq.{drop-cons, take-suc}
 use Rattle.paper.proofs.Logic.{le-or-lt}
-use Rattle.text_protocol.specs.Bytes.{isLineFeed, pieces}
-use Rattle.text_protocol.proofs.Spelling.{impossible}
+use Rattle.text_bytes.specs.Bytes.{isLineFeed, pieces}
+use Rattle.text_bytes.proofs.Spelling.{impossible}
 use Rattle.text_table.specs.Exchange.{Ended, rowsMost, textMost, AtLeast, enough, one, past, Bad, unended, no-row}
 use Rattle.text_table.specs.Exchange.{seventeenth, RowsOf, no-line, its-own, another's, accepted, refused, Says}
 use Rattle.text_table.specs.Exchange.{bad-at, good}

@@ -11,8 +11,8 @@ use lib.ListN.{length, take, getD, replicate}
 use Rattle.paper.specs.declared.Verdict.the-variants.{Done, BadLine}
 use Rattle.paper.specs.Numbers.{idMost, rowNumbers, allNumbersMost}
 use Rattle.paper.specs.Ranges.{within, rowAt, validRow}
-use Rattle.text_protocol.specs.Bytes.{lineFeed, carriageReturn, minusSign, isLineFeed, pieces}
-use Rattle.text_protocol.specs.Written.{Digits, value, negated}
+use Rattle.text_bytes.specs.Bytes.{lineFeed, carriageReturn, minusSign, isLineFeed, pieces}
+use Rattle.text_bytes.specs.Spells.{Digits, value, negated}
 use Rattle.text_table.specs.declared.Column.{Column}
 use Rattle.text_table.specs.declared.Reading.{Reading}
 

@@ -10,10 +10,9 @@ use lib.IntN.{ℤ, pos, negsuc}
 use lib.ListN.{length, replicate}
 use Rattle.paper.specs.declared.Verdict.the-variants.{Done, BadLine}
 use Rattle.paper.specs.Ranges.{unsigned, rowAt, validRow}
-use Rattle.text_protocol.specs.Bytes.{lineFeed, carriageReturn, isLineFeed, grow, pieces}
-use Rattle.text_protocol.specs.Numbers.{isDigit}
-use Rattle.text_protocol.specs.Written.{negated}
-use Rattle.text_protocol.specs.LineCases.{bytes}
+use Rattle.text_bytes.specs.Bytes.{lineFeed, carriageReturn, isLineFeed, grow, pieces, bytes}
+use Rattle.text_bytes.specs.Numbers.{isDigit}
+use Rattle.text_bytes.specs.Spells.{negated}
 use Rattle.text_table.specs.declared.Column.{Column}
 use Rattle.text_table.specs.declared.Reading.{Reading}
 use Rattle.text_table.specs.Exchange.{wholeNumber, exchangeRate, repoRate, price, columns, lineNumbers, textMost}

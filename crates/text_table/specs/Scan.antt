@@ -10,10 +10,10 @@ use lib.ListN.{length, drop, getD}
 use Rattle.paper.specs.Lists.{pick}
 use Rattle.paper.specs.Numbers.{idMost, priceMost}
 use Rattle.paper.specs.Ranges.{withinZ, unsigned, rowAt, validRow}
-use Rattle.text_protocol.specs.Bytes.{lineFeed, carriageReturn, minusSign, digitZero, isLineFeed, pieces}
-use Rattle.text_protocol.specs.Numbers.{isDigit}
-use Rattle.text_protocol.specs.Written.{negated}
-use Rattle.text_protocol.specs.Split.{Free}
+use Rattle.text_bytes.specs.Bytes.{lineFeed, carriageReturn, minusSign, digitZero, isLineFeed, pieces}
+use Rattle.text_bytes.specs.Numbers.{isDigit}
+use Rattle.text_bytes.specs.Spells.{negated}
+use Rattle.text_bytes.specs.Split.{Free}
 use Rattle.text_table.specs.declared.Column.{Column}
 use Rattle.text_table.specs.declared.Reading.{Reading}
 use Rattle.text_table.specs.Exchange.{point, semicolon, columns, rowsMost, textMost, accepted, refused}

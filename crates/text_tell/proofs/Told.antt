@@ -7,7 +7,7 @@ use native.Mathlib.Omega.{arith}
 use lib.Dec.{ltb}
 use borrow.Author.Tests.{ltb-false}
 use Rattle.text_protocol.specs.Answers.{answerMost, waitingMost}
-use Rattle.text_protocol.specs.Bytes.{room}
+use Rattle.text_bytes.specs.Bytes.{room}
 
 pub not-due : (n end len left : ℕ) → (left ≡ 0 → ⊥) → end < len → ltb waitingMost n ≡ false
     → (n + answerMost ≤ room) × (end < len) × (0 < left)

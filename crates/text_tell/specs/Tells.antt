@@ -13,7 +13,7 @@ use Rattle.text_deed.specs.Deeds.{lineText}
 use Rattle.text_turn.specs.declared.State.{State}
 use Rattle.text_turn.specs.declared.Prepared.{Prepared}
 use Rattle.text_protocol.specs.Answers.{answerMost}
-use Rattle.text_protocol.specs.Bytes.{room}
+use Rattle.text_bytes.specs.Bytes.{room}
 
 -- the input of a run that is over before its input has ended: no line more is heard
 abbrev pub halted : Input → Input

@@ -6,7 +6,7 @@ use borrow.Author.Needs.{needs}
 use Rattle.text_cell.proofs.Turns.{starts-in}
 use Rattle.text_cell.proofs.behind_minus.Statement.{statement}
 use Rattle.text_cell.proofs.behind_minus.Tie as tie
-use Rattle.text_protocol.specs.Bytes.{minusSign}
+use Rattle.text_bytes.specs.Bytes.{minusSign}
 
 is-at-requires : tie.Need-is-at-requires
 is-at-requires c κs = search needs

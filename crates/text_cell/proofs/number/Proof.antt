@@ -4,7 +4,7 @@ use mathlib.Core.Path.{sym, _∙_}
 use native.Mathlib.Omega.{arith}
 use lib.Dec.{eqb}
 use borrow.Author.Needs.{needs}
-use Rattle.text_protocol.specs.Numbers.{isDigit}
+use Rattle.text_bytes.specs.Numbers.{isDigit}
 use Rattle.text_cell.proofs.Turns.{found, not-found, scaled-fits, starts-in, first-digit, number-bad}
 use Rattle.text_cell.proofs.Turns.{number-pointed, number-whole}
 use Rattle.text_cell.proofs.number.Statement.{statement}

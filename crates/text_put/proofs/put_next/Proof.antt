@@ -1,6 +1,5 @@
 -- `text_put::put_next` meets its contract: a blank, and a number. Assumes nothing.
-use Rattle.text_protocol.specs.Numbers.{signed}
-use Rattle.text_protocol.specs.Answers.{next}
+use Rattle.text_bytes.specs.Numbers.{signed, next}
 use Rattle.text_put.specs.Told.{told-one}
 use Rattle.text_out.specs.Wrote.{then}
 use borrow.Author.Needs.{needs}

@@ -1,5 +1,5 @@
 -- `text_put::put_next_signed` meets its contract: a blank, and a signed number. Assumes nothing.
-use Rattle.text_protocol.specs.Answers.{next}
+use Rattle.text_bytes.specs.Numbers.{next}
 use Rattle.text_put.specs.Told.{told-one}
 use Rattle.text_out.specs.Wrote.{then}
 use mir.Facts.{toZ-ofZ}

@@ -7,7 +7,7 @@ use Rattle.text_cell.proofs.Turns.{starts-in}
 use Rattle.text_row.proofs.Turns.{end-cr, end-lf}
 use Rattle.text_row.proofs.line_end.Statement.{statement}
 use Rattle.text_row.proofs.line_end.Tie as tie
-use Rattle.text_protocol.specs.Bytes.{carriageReturn}
+use Rattle.text_bytes.specs.Bytes.{carriageReturn}
 
 is-at-requires : tie.Need-is-at-requires
 is-at-requires c κs = search needs

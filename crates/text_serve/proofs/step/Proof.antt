@@ -44,7 +44,7 @@ use denote.Triple.Walked.{says, needs, Stays, gave-slice, gave-ref, stay-none, w
 use denote.Triple.Walked.{goes-none, Walks, ends-at, walked, walk-meets}
 use denote.Exit.{yes}
 use Rattle.text_protocol.specs.Answers.{answerMost}
-use Rattle.text_protocol.specs.Bytes.{room as bufferRoom}
+use Rattle.text_bytes.specs.Bytes.{room as bufferRoom}
 use Rattle.paper.specs.declared.Record.{Record}
 use Rattle.desk.proofs.Row.{R, table-ty, after}
 use Rattle.desk.proofs.Frame.{of-types, Addresses, env-of, ParamsFit, Locals, holding, entry, frame, enters, whole}

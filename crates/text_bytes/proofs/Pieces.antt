@@ -4,9 +4,9 @@ use mathlib.Core.Bool.{Bool, true, false}
 use mathlib.Core.List.{List, [], _∷_, _++_}
 use Prim.Native.Nat.{ℕ}
 use Rattle.paper.specs.Lists.{pick}
-use Rattle.text_protocol.specs.Bytes.{grow, pieces}
-use Rattle.text_protocol.specs.Split.{Free, free-none, free, AllFree, no-piece, piece, Joined, last, before}
-use Rattle.text_protocol.proofs.Spelling.{impossible}
+use Rattle.text_bytes.specs.Bytes.{grow, pieces}
+use Rattle.text_bytes.specs.Split.{Free, free-none, free, AllFree, no-piece, piece, Joined, last, before}
+use Rattle.text_bytes.proofs.Spelling.{impossible}
 
 pub free-append : {parts : ℕ → Bool} {s t : List ℕ} → Free parts s → Free parts t → Free parts (s ++ t)
 free-append free-none g = g

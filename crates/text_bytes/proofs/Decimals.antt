@@ -9,8 +9,8 @@ use lib.Arith.{digits-div, digits-mod}
 use lib.Dec.{ltb}
 use borrow.Author.Tests.{lt-ltb, le-ltb, ltb-true, ltb-false}
 use Rattle.paper.specs.Lists.{pick}
-use Rattle.text_protocol.specs.Bytes.{digitZero}
-use Rattle.text_protocol.specs.Numbers.{Decimal, one, more, spelt, decimal}
+use Rattle.text_bytes.specs.Bytes.{digitZero}
+use Rattle.text_bytes.specs.Numbers.{Decimal, one, more, spelt, decimal}
 
 pub tenth-is-less : (n : ℕ) → 10 ≤ n → n / 10 < n
 tenth-is-less n h = omega (arith, div-add-mod' n 10)

@@ -10,13 +10,13 @@ use lib.ListN.{length}
 use borrow.Author.Tests.{le-leb, lt-leb, leb-true, ne-eqb, eqb-true}
 use Rattle.paper.specs.Lists.{pick}
 use Rattle.paper.proofs.Logic.{and-left, and-right}
-use Rattle.text_protocol.specs.declared.Size.{Size}
-use Rattle.text_protocol.specs.declared.Size.the-variants as size
-use Rattle.text_protocol.specs.declared.Number.the-variants as number
-use Rattle.text_protocol.specs.Bytes.{minusSign, digitZero, digitNine}
-use Rattle.text_protocol.specs.Numbers.{isDigit, sizeFrom, sizeOf, greatest, least, upTo, above, below, numberOf}
-use Rattle.text_protocol.specs.Written.{Digits, no-digit, digit, value, negated, Spells, plain, minus}
-use Rattle.text_protocol.proofs.Words.{Solid, nil, solid, high-solid}
+use Rattle.text_bytes.specs.declared.Size.{Size}
+use Rattle.text_bytes.specs.declared.Size.the-variants as size
+use Rattle.text_bytes.specs.declared.Number.the-variants as number
+use Rattle.text_bytes.specs.Bytes.{minusSign, digitZero, digitNine}
+use Rattle.text_bytes.specs.Numbers.{isDigit, sizeFrom, sizeOf, greatest, least, upTo, above, below, numberOf}
+use Rattle.text_bytes.specs.Spells.{Digits, no-digit, digit, value, negated, Spells, plain, minus}
+use Rattle.text_bytes.proofs.Words.{Solid, nil, solid, high-solid}
 
 -- what is impossible proves everything
 pub impossible : {A : Type 0} → _≡_ {A = ℕ} 0 1 → A

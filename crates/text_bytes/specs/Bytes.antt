@@ -2,7 +2,10 @@
 -- words of a line. Assumes nothing.
 use mathlib.Core.Bool.{Bool, true, false, _||_, not}
 use mathlib.Core.List.{List, [], _∷_}
+use Prim.Native.Char.{code}
 use Prim.Native.Nat.{ℕ, suc}
+use Prim.Native.String.{String}
+use Prim.Native.String.{[] as noText, _∷_ as letter}
 use lib.Dec.{eqb}
 use Rattle.paper.specs.Lists.{pick}
 
@@ -91,3 +94,8 @@ same [] [] = true
 same [] (c ∷ u) = false
 same (b ∷ t) [] = false
 same (b ∷ t) (c ∷ u) = pick (eqb b c) (same t u) false
+
+-- the bytes of a text whose characters are one byte each
+unfoldable pub bytes : String → List ℕ
+bytes noText = []
+bytes (letter c s) = code c ∷ bytes s

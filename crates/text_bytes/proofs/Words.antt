@@ -8,8 +8,8 @@ use lib.Dec.{leb}
 use lib.ListN.{length}
 use borrow.Author.Tests.{leb-true, ne-eqb}
 use Rattle.paper.proofs.Logic.{not-true-and-false, and-left, and-right}
-use Rattle.text_protocol.specs.Bytes.{isBlank, space, tab, carriageReturn, minusSign, grow, pieces, full, words}
-use Rattle.text_protocol.specs.Written.{Blanks, no-blank, blank}
+use Rattle.text_bytes.specs.Bytes.{isBlank, space, tab, carriageReturn, minusSign, grow, pieces, full, words}
+use Rattle.text_bytes.specs.Spells.{Blanks, no-blank, blank}
 
 -- ---- words
 

@@ -6,11 +6,11 @@ use lib.Dec.{leb, ltb, eqb}
 use lib.IntN.{ℤ, pos, negsuc}
 use lib.Signed.{mag}
 use Rattle.paper.specs.Lists.{pick}
-use Rattle.text_protocol.specs.declared.Size.{Size}
-use Rattle.text_protocol.specs.declared.Size.the-variants as size
-use Rattle.text_protocol.specs.declared.Number.{Number}
-use Rattle.text_protocol.specs.declared.Number.the-variants as number
-use Rattle.text_protocol.specs.Bytes.{minusSign, slash, digitZero, digitNine, isNot, run}
+use Rattle.text_bytes.specs.declared.Size.{Size}
+use Rattle.text_bytes.specs.declared.Size.the-variants as size
+use Rattle.text_bytes.specs.declared.Number.{Number}
+use Rattle.text_bytes.specs.declared.Number.the-variants as number
+use Rattle.text_bytes.specs.Bytes.{lineFeed, space, minusSign, slash, digitZero, digitNine, isNot, run}
 
 -- ---- a number as it is printed
 
@@ -31,6 +31,25 @@ decimal n = spelt (suc n) n
 unfoldable pub signed : ℤ → List ℕ
 signed (pos n) = decimal n
 signed (negsuc n) = minusSign ∷ decimal (suc n)
+
+-- ---- numbers in a line
+
+-- a blank, and the number
+unfoldable pub next : ℤ → List ℕ
+next z = space ∷ signed z
+
+-- a blank before each number
+unfoldable pub spaced : List ℤ → List ℕ
+spaced [] = []
+spaced (z ∷ zs) = next z ++ spaced zs
+
+-- the numbers of an answer, the verdict's first
+abbrev pub numbersOf : (verdict : ℕ) → (figures : List ℤ) → List ℤ
+numbersOf v zs = pos v ∷ zs
+
+-- THE BYTES OF AN ANSWER: the number of the verdict, the figures behind it, the end of the line
+unfoldable pub answerText : (verdict : ℕ) → (figures : List ℤ) → List ℕ
+answerText v zs = decimal v ++ spaced zs ++ (lineFeed ∷ [])
 
 -- ---- a number as it is read
 
