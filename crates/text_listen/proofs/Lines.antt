@@ -18,7 +18,7 @@ use Rattle.paper_messages.specs.declared.Heard.{Heard}
 use Rattle.paper_messages.specs.Messages.{readChecks, acceptedHeard, refusedHeard, heardAt}
 use Rattle.text_bytes.specs.Bytes.{room}
 use Rattle.text_evidence.specs.Evidence.{countMost, hasEnded, tookAll}
-use Rattle.text_input.proofs.Turns.{drop-take-of}
+use Rattle.text_evidence.proofs.Shifting.{drop-take-of}
 use Rattle.text_heard.specs.Lines.{lineOf}
 use Rattle.text_listen.specs.declared.Listening.{Listening}
 use Rattle.text_listen.specs.Listen.{listenFrom, listenText}

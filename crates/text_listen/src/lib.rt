@@ -17,11 +17,11 @@ use text_evidence::Delivered;
 use text_evidence::Written;
 use text_evidence::fill;
 use text_evidence::hand;
+use text_evidence::shift;
 use text_evidence::unread;
 use text_evidence::unwritten;
 use text_heard::LINE_MOST;
 use text_heard::say_heard;
-use text_input::shift;
 
 // How far the input is listened to: the bytes of the buffer from `at` to `len` are delivered and not heard yet. So many
 // bytes of lines wait to be written as `waiting` says. `over` is whether nothing more is heard. `read` is the evidence

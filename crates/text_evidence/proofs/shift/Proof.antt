@@ -1,15 +1,14 @@
--- `text_input::shift` meets its contract: the bytes from `from` to `to`, moved to the front. Assumes nothing.
-use Rattle.text_input.proofs.Turns.{shifted-all}
+-- `text_evidence::shift` meets its contract: the bytes from `from` to `to`, moved to the front. Assumes nothing.
 use borrow.Author.Needs.{needs}
-use Rattle.text_input.proofs.Turns.{Shifted, shifted-none, shifted-more}
+use Rattle.text_evidence.proofs.Shifting.{Shifted, shifted-none, shifted-more, shifted-all}
 use lib.ListN.{length}
 use Prim.Native.Nat.{_-_, _+_, _≤_, _<_}
 use native.Mathlib.Omega.{arith}
 use mathlib.Core.Path.{_≡_, refl, sym, ap, _∙_}
-use Rattle.text_input.proofs.shift.Statement.{statement}
-use Rattle.text_input.proofs.shift.Tie as tie
-use Rattle.text_input.proofs.shift.Reads as reads
-use Rattle.text_input.proofs.shift.Lts as lts
+use Rattle.text_evidence.proofs.shift.Statement.{statement}
+use Rattle.text_evidence.proofs.shift.Tie as tie
+use Rattle.text_evidence.proofs.shift.Reads as reads
+use Rattle.text_evidence.proofs.shift.Lts as lts
 
 abbrev Inv-loop : tie.InvT-loop
 Inv-loop buf₀ from to n i₀ buf i = Shifted buf₀ from n buf i
