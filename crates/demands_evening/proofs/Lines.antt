@@ -24,7 +24,7 @@ use Rattle.demands_messages.specs.Whole.{SentWhole}
 use Rattle.text_protocol.specs.Calls.{Deed, call}
 use Rattle.text_evening.specs.declared.Telling.{Telling}
 use Rattle.text_evening.specs.declared.Telling.the-variants.{Answers, Reasons, Messages}
-use Rattle.text_evening.specs.Broadcast.{messagesOf, sent, allSent, broadcastOf}
+use Rattle.paper_messages.specs.Broadcast.{messagesOf, sent, allSent, broadcastOf}
 use Rattle.text_evening.specs.Evening.{Evening, startEvening, tableAfter, answerTo, reasonTo, callTold, textOf, askedBy}
 use Rattle.text_evening.specs.Evening.{after, answer}
 use Rattle.demands_evening.specs.Holds.{ownTable, eveningBehind, tableBehind, callsBehind, encodings}

@@ -28,7 +28,7 @@ use Rattle.text_protocol.specs.Calls.{call}
 use Rattle.text_protocol.specs.Answers.{callText}
 use Rattle.text_evening.specs.declared.Telling.{Telling}
 use Rattle.text_evening.specs.declared.Telling.the-variants.{Answers, Reasons, Messages}
-use Rattle.text_evening.specs.Broadcast.{messagesOf}
+use Rattle.paper_messages.specs.Broadcast.{messagesOf}
 use Rattle.text_evening.specs.Evening.{Evening, startEvening, askedBy, answer, afterAll, answers}
 use Rattle.demands_evening.specs.Calls.{callsOf}
 

@@ -8,7 +8,7 @@ use Rattle.paper.specs.Lists.{every}
 use Rattle.paper.specs.Verdicts.{isDone}
 use Rattle.paper_desk.specs.Desk.{Call, step}
 use Rattle.paper_messages.specs.Messages.{valid}
-use Rattle.text_evening.specs.Broadcast.{messagesOf}
+use Rattle.paper_messages.specs.Broadcast.{messagesOf}
 
 -- of the call c on the table t: no message is refused 23, and `sent` is the whole encoding of each
 pub record SentWhole (c : Call) (t : List Record) : Type 0 where

@@ -26,7 +26,7 @@ use Rattle.paper_messages.proofs.MessageLaws.{encode-length}
 use Rattle.messages.specs.Promises.{Writes}
 use Rattle.text_bytes.specs.Bytes.{room}
 use Rattle.text_protocol.specs.Answers.{answerMost}
-use Rattle.text_evening.specs.Broadcast.{messageMost, sent, allSent}
+use Rattle.paper_messages.specs.Broadcast.{messageMost, sent, allSent}
 use Rattle.text_out.specs.Wrote.{Wrote, then, wider, nothing}
 use Rattle.text_broadcast.specs.Kinds.{messagesOfKind, broadcastOfKind}
 

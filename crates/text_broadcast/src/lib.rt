@@ -5,7 +5,7 @@ ghost use Prim.Native.Nat.{_+_, _≤_};
 ghost use lib.ListN.{length};
 ghost use Rattle.text_bytes.specs.Bytes.{room};
 ghost use Rattle.text_protocol.specs.Answers.{answerMost};
-ghost use Rattle.text_evening.specs.Broadcast.{messageMost, sent};
+ghost use Rattle.paper_messages.specs.Broadcast.{messageMost, sent};
 ghost use Rattle.text_out.specs.Wrote.{Wrote};
 ghost use Rattle.text_broadcast.specs.Kinds.{broadcastOfKind};
 use inputs::side_of;

@@ -17,17 +17,18 @@ use Rattle.paper.specs.Ranges.{lastDay, noTerm, sideOf, staticsOf, unsigned, va
 use Rattle.paper.specs.Verdicts.{isDone}
 use Rattle.paper_desk.specs.Desk.{Call, admit, evaluate, quote, move, read, openEvening, receive, saying, showing}
 use Rattle.paper_desk.specs.External.{notice}
 use Rattle.paper_messages.specs.declared.Message.{Message}
 use Rattle.paper_messages.specs.Bytes.{bytesOf, complement}
 use Rattle.paper_messages.specs.Fields.{staticsFields, ratesFields, bandsFields, moveFields, fieldsOf, filled}
 use Rattle.paper_messages.specs.Fields.{moveMessageKind}
 use Rattle.paper_messages.specs.Fields.{placesOf}
-use Rattle.paper_messages.specs.Messages.{bodyOf, total, lengthOf, encode, isKnownKind, inRanges, givenIn, asAdmission}
-use Rattle.paper_messages.specs.Messages.{lengthWidth, valid}
+use Rattle.paper_messages.specs.Messages.{bodyOf, total, lengthOf, encode, isKnownKind, inRanges, givenIn}
+use Rattle.paper_messages.specs.Messages.{asAdmission, lengthWidth, valid}
 use Rattle.paper_messages.specs.PinnedMessages.{staticsBytes, ratesBytes, bandsBytes}
 use Rattle.paper_messages.specs.PinnedRecords.{sampleNumbers, sample}
-use Rattle.paper_messages.specs.Records.{valueOf, message, staticsMessage, ratesMessage, bandsMessage, moveMessage}
-use Rattle.text_evening.specs.Broadcast.{messagesOf, sent, messageMost, allSent, broadcastOf}
+use Rattle.paper_messages.specs.Records.{valueOf, message, staticsMessage, ratesMessage, bandsMessage}
+use Rattle.paper_messages.specs.Records.{moveMessage}
+use Rattle.paper_messages.specs.Broadcast.{messagesOf, sent, messageMost, allSent, broadcastOf}
 
 -- ---- the calls
 
