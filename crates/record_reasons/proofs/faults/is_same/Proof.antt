@@ -1,8 +1,8 @@
 -- `is_same` meets its contract: two verdicts are one where their numbers are. Assumes nothing.
 use Rattle.paper_reasons.specs.Faults.{isSame}
 use borrow.Author.Needs.{needs}
-use Rattle.record_faults.proofs.is_same.Statement.{statement}
-use Rattle.record_faults.proofs.is_same.Tie as tie
+use Rattle.record_reasons.proofs.faults.is_same.Statement.{statement}
+use Rattle.record_reasons.proofs.faults.is_same.Tie as tie
 
 number-requires : tie.Need-number-requires
 number-requires c κs = search needs

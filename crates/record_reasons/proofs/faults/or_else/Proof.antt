@@ -1,8 +1,8 @@
 -- `or_else` meets its contract, case by case. Assumes nothing.
-use Rattle.record_faults.specs.RowFaults.{orElse}
+use Rattle.record_reasons.specs.RowFaults.{orElse}
 use borrow.Author.Needs.{needs}
-use Rattle.record_faults.proofs.or_else.Statement.{statement}
-use Rattle.record_faults.proofs.or_else.Tie as tie
+use Rattle.record_reasons.proofs.faults.or_else.Statement.{statement}
+use Rattle.record_reasons.proofs.faults.or_else.Tie as tie
 
 enum-told : tie.Need-enum-told
 enum-told c = search needs

@@ -18,8 +18,8 @@ use Rattle.paper.specs.Verdicts.{firstNamed}
 use Rattle.paper_reasons.specs.declared.Fault.{Fault}
 use Rattle.paper_reasons.specs.declared.Fault.the-variants as fault
 use Rattle.paper_reasons.specs.Faults.{rowsAtFault, firstRow, outOfRange, isSame}
-use Rattle.record_faults.specs.declared.RowFault.{RowFault}
-use Rattle.record_faults.specs.declared.RowFault.the-variants.{OutOfRange, Crossed, Beyond}
+use Rattle.record_reasons.specs.declared.faults.RowFault.{RowFault}
+use Rattle.record_reasons.specs.declared.faults.RowFault.the-variants.{OutOfRange, Crossed, Beyond}
 
 -- whether a row as it is lent is at fault
 abbrev pub atFault : RowFault → LentRow → Bool

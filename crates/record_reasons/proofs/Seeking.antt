@@ -18,8 +18,8 @@ use Rattle.rows.specs.RowLaws.{restOf, rest-first}
 use Rattle.paper_reasons.specs.declared.Fault.{Fault}
 use Rattle.paper_reasons.specs.declared.Fault.the-variants as fault
 use Rattle.paper_reasons.specs.Faults.{rowsAtFault, firstRow}
-use Rattle.record_faults.specs.declared.RowFault.{RowFault}
-use Rattle.record_faults.specs.RowFaults.{atFault, judgeable, rowFault}
+use Rattle.record_reasons.specs.declared.faults.RowFault.{RowFault}
+use Rattle.record_reasons.specs.RowFaults.{atFault, judgeable, rowFault}
 
 -- the first at fault of rows that are counted from a number on
 abbrev firstFrom : RowFault → ℕ → List LentRow → Fault

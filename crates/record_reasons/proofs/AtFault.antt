@@ -23,8 +23,8 @@ use Rattle.record_evaluation.proofs.Evaluations.{day-valid-parts}
 use Rattle.paper_reasons.specs.declared.Fault.{Fault}
 use Rattle.paper_reasons.specs.declared.Fault.the-variants as fault
 use Rattle.paper_reasons.specs.Faults.{rowsAtFault, firstRow, termsAtFault, outOfRange, isSame, faultsOf, faultOf}
-use Rattle.record_faults.specs.declared.RowFault.the-variants.{OutOfRange, Crossed, Beyond}
-use Rattle.record_faults.specs.RowFaults.{atFault, rowFault, wholeFault, termFault, orElse, faultWith, Refused}
+use Rattle.record_reasons.specs.declared.faults.RowFault.the-variants.{OutOfRange, Crossed, Beyond}
+use Rattle.record_reasons.specs.RowFaults.{atFault, rowFault, wholeFault, termFault, orElse, faultWith, Refused}
 
 -- every row may be judged in range or crossed
 pub every-true : {A : Type 0} (xs : List A) → every (λ x. true) xs ≡ true

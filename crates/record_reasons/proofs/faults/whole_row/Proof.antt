@@ -1,10 +1,10 @@
 -- `whole_row` meets its contract: only whole rows are looked at. Assumes nothing.
 use Rattle.rows.specs.RowLaws.{whole-in-sevens}
 use Rattle.record_answers.proofs.Tests.{tested-true, tested-false}
-use Rattle.record_faults.proofs.AtFault.{every-true}
+use Rattle.record_reasons.proofs.AtFault.{every-true}
 use borrow.Author.Needs.{needs}
-use Rattle.record_faults.proofs.whole_row.Statement.{statement}
-use Rattle.record_faults.proofs.whole_row.Tie as tie
+use Rattle.record_reasons.proofs.faults.whole_row.Statement.{statement}
+use Rattle.record_reasons.proofs.faults.whole_row.Tie as tie
 
 whole-rows-requires : tie.Need-whole-rows-requires
 whole-rows-requires c κs = search needs

@@ -2,11 +2,11 @@
 -- nothing.
 use mathlib.Core.Path.{_≡_, sym, _∙_}
 use Rattle.rows.specs.RowLaws.{whole-in-sevens, valid-whole, valid-every}
-use Rattle.record_faults.specs.RowFaults.{faultWith}
-use Rattle.record_faults.proofs.AtFault.{every-true}
+use Rattle.record_reasons.specs.RowFaults.{faultWith}
+use Rattle.record_reasons.proofs.AtFault.{every-true}
 use borrow.Author.Needs.{needs}
-use Rattle.record_faults.proofs.fault_of.Statement.{statement}
-use Rattle.record_faults.proofs.fault_of.Tie as tie
+use Rattle.record_reasons.proofs.faults.fault_of.Statement.{statement}
+use Rattle.record_reasons.proofs.faults.fault_of.Tie as tie
 
 is-same-requires : tie.Need-is-same-requires
 is-same-requires c κs = search needs

@@ -4,8 +4,8 @@ use mathlib.Core.Path.{_≡_, ap, _∙_}
 use mathlib.Core.Bool.{not}
 use Rattle.rows.specs.RowLaws.{valid-row-in-range}
 use borrow.Author.Needs.{needs}
-use Rattle.record_faults.proofs.row_at_fault.Statement.{statement}
-use Rattle.record_faults.proofs.row_at_fault.Tie as tie
+use Rattle.record_reasons.proofs.faults.row_at_fault.Statement.{statement}
+use Rattle.record_reasons.proofs.faults.row_at_fault.Tie as tie
 
 enum-told : tie.Need-enum-told
 enum-told c = search needs

@@ -1,8 +1,8 @@
 -- `out_of_range` meets its contract: a row is named before a term. Assumes nothing.
-use Rattle.record_faults.proofs.AtFault.{out-of-range-is}
+use Rattle.record_reasons.proofs.AtFault.{out-of-range-is}
 use borrow.Author.Needs.{needs}
-use Rattle.record_faults.proofs.out_of_range.Statement.{statement}
-use Rattle.record_faults.proofs.out_of_range.Tie as tie
+use Rattle.record_reasons.proofs.faults.out_of_range.Statement.{statement}
+use Rattle.record_reasons.proofs.faults.out_of_range.Tie as tie
 
 whole-row-requires : tie.Need-whole-row-requires
 whole-row-requires c κs = search needs

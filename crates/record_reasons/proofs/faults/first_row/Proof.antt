@@ -6,10 +6,10 @@ use native.Mathlib.Omega.{arith}
 use lib.ListN.{length}
 use Rattle.paper.specs.Numbers.{rowNumbers}
 use Rattle.exact.specs.LentLaws.{place-room}
-use Rattle.record_faults.proofs.Seeking.{Seeking, seeking-first, seeking-row, seeking-found, seeking-next}
-use Rattle.record_faults.proofs.Seeking.{seeking-end}
-use Rattle.record_faults.proofs.first_row.Statement.{statement}
-use Rattle.record_faults.proofs.first_row.Tie as tie
+use Rattle.record_reasons.proofs.Seeking.{Seeking, seeking-first, seeking-row, seeking-found, seeking-next}
+use Rattle.record_reasons.proofs.Seeking.{seeking-end}
+use Rattle.record_reasons.proofs.faults.first_row.Statement.{statement}
+use Rattle.record_reasons.proofs.faults.first_row.Tie as tie
 
 abbrev Inv-loop : tie.InvT-loop
 Inv-loop rows which at₀ number₀ at number = Seeking which rows at number
