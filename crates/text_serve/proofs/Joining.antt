@@ -22,7 +22,7 @@ use Rattle.text_input.specs.Input.{lineLength, Unbroken, unread, Stands, Over, 
 use Rattle.text_turn.specs.declared.State.{State}
 use Rattle.text_turn.specs.Turn.{startState}
 use Rattle.paper.specs.Lists.{pick}
-use Rattle.text_tell.specs.Tells.{halted, Goes, wait, handed}
+use Rattle.text_turn.specs.Tells.{halted, Goes, wait, handed}
 use Rattle.text_serve.specs.Serve.{eveningOf, Turns, handedOf, Run, starts, goes, Each, joined, mostLines, Cut}
 use Rattle.text_serve.specs.Serve.{Serves}
 

@@ -27,7 +27,7 @@ use Rattle.text_turn.specs.declared.Prepared.{Prepared}
 use Rattle.text_deed.specs.Deeds.{callIn, lineText, Said}
 use Rattle.text_turn.specs.Turn.{Prepares}
 use Rattle.text_evidence.specs.declared.Written.{Written}
-use Rattle.text_tell.specs.Tells.{Goes, Tells}
+use Rattle.text_turn.specs.Tells.{Goes, Tells}
 use Rattle.text_ask.specs.Asked.{Asks}
 use Rattle.text_serve.specs.Serve.{eveningOf, Turns}
 use Rattle.text_protocol.specs.Names.{evaluateCount}

@@ -17,7 +17,7 @@ use Rattle.text_evidence.specs.Evidence.{tookAll, Counted}
 use Rattle.text_input.specs.Input.{Unbroken, Over, Next}
 use Rattle.text_turn.specs.declared.State.{State}
 use Rattle.text_turn.specs.Turn.{startState}
-use Rattle.text_tell.specs.Tells.{Goes, wait, handed}
+use Rattle.text_turn.specs.Tells.{Goes, wait, handed}
 use Rattle.text_protocol.specs.Answers.{answerMost}
 
 -- the evening that a state and a table are

@@ -1,11 +1,11 @@
--- `text_tell::number_after` meets its contract: the number of the line behind the n-th. Assumes nothing.
+-- `text_turn::after::number_after` meets its contract: the number of the line behind the n-th. Assumes nothing.
 use Rattle.text_evening.specs.Evening.{numberAfter, lastNumber}
 use borrow.Author.Tests.{lt-ltb, le-ltb}
 use borrow.Author.Needs.{needs}
-use Rattle.text_tell.proofs.number_after.Statement.{statement}
-use Rattle.text_tell.proofs.number_after.Tie as tie
-use Rattle.text_tell.proofs.number_after.Reads as reads
-use Rattle.text_tell.proofs.number_after.Lts as lts
+use Rattle.text_turn.proofs.after.number_after.Statement.{statement}
+use Rattle.text_turn.proofs.after.number_after.Tie as tie
+use Rattle.text_turn.proofs.after.number_after.Reads as reads
+use Rattle.text_turn.proofs.after.number_after.Lts as lts
 
 add-result : tie.Need-add-result
 add-result c = search needs

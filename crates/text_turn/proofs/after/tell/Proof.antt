@@ -1,19 +1,19 @@
--- `text_tell::tell` meets its contract: tells the answer to a line. Assumes nothing.
+-- `text_turn::after::tell` meets its contract: tells the answer to a line. Assumes nothing.
 use mathlib.Core.Path.{refl}
 use native.Mathlib.Omega.{arith}
-use Rattle.text_tell.specs.Tells.{Goes, wait, handed}
-use Rattle.text_tell.proofs.Told.{a-line-is-whole, a-line-is-left}
+use Rattle.text_turn.specs.Tells.{Goes, wait, handed}
+use Rattle.text_turn.proofs.Told.{a-line-is-whole, a-line-is-left}
 use borrow.Author.Needs.{needs}
-use Rattle.text_tell.proofs.tell.Statement.{statement}
-use Rattle.text_tell.proofs.tell.Tie as tie
-use Rattle.text_tell.proofs.tell.Reads as reads
-use Rattle.text_tell.proofs.tell.Lts as lts
+use Rattle.text_turn.proofs.after.tell.Statement.{statement}
+use Rattle.text_turn.proofs.after.tell.Tie as tie
+use Rattle.text_turn.proofs.after.tell.Reads as reads
+use Rattle.text_turn.proofs.after.tell.Lts as lts
 use Rattle.text_evidence.proofs.hand.Reads as hand-reads
 use Rattle.text_evidence.proofs.Written.took_all.Reads as took-all-reads
-use Rattle.text_tell.proofs.is_due.Reads as is-due-reads
-use Rattle.text_tell.proofs.number_after.Reads as number-after-reads
+use Rattle.text_turn.proofs.after.is_due.Reads as is-due-reads
+use Rattle.text_turn.proofs.after.number_after.Reads as number-after-reads
 use Rattle.text_deed.proofs.say.Reads as say-reads
-use Rattle.text_tell.proofs.stopped.Reads as stopped-reads
+use Rattle.text_turn.proofs.after.stopped.Reads as stopped-reads
 
 say-requires : tie.Need-say-requires
 say-requires c κs = search needs

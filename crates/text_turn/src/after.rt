@@ -8,15 +8,15 @@ ghost use Rattle.paper.specs.Lists.{pick};
 ghost use Rattle.text_bytes.specs.Bytes.{room};
 ghost use Rattle.text_protocol.specs.Answers.{answerMost};
 ghost use Rattle.text_evening.specs.Evening.{numberAfter};
-ghost use Rattle.text_tell.specs.Tells.{halted, Tells};
+ghost use Rattle.text_turn.specs.Tells.{halted, Tells};
+use crate::Prepared;
+use crate::State;
 use text_bytes::ROOM;
 use text_deed::say;
 use text_evidence::hand;
 use text_input::Input;
 use text_protocol::Performed;
 use text_protocol::WAITING_MOST;
-use text_turn::Prepared;
-use text_turn::State;
 
 // The number of the line behind the n-th.
 fn number_after(n: u64) -> u64
