@@ -8,7 +8,7 @@ use Rattle.paper.specs.declared.Answer.{Answer}
 use Rattle.paper.specs.Verdicts.{numberOf}
 use Rattle.text_protocol.specs.Answers.{flag, recordNumbers}
 use Rattle.text_bytes.specs.Numbers.{answerText}
-use Rattle.text_put.proofs.Verdicts.{refused-text, done-text}
+use Rattle.text_answer.proofs.Verdicts.{refused-text, done-text}
 use Rattle.text_answer.specs.Kinds.{figuresOfKind, textOfKind}
 
 module _ (k : ℕ) (a : Answer) (v₀ : ℕ) (e : v₀ ≡ numberOf (a .verdict)) where

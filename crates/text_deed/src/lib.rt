@@ -10,6 +10,7 @@ ghost use Rattle.text_deed.specs.Deeds.{asksWhy, plainText, lineText, As
 use paper::InterestAnswer;
 use paper::Verdict;
 use paper_bonds::BondAnswer;
+use text_answer::interest::say_interest;
 use text_answer::say_answer;
 use text_answer::say_bad;
 use text_bond::bond_of;
@@ -21,7 +22,6 @@ use text_call::figures;
 use text_call::interest_of;
 use text_call::request_of;
 use text_evening::Telling;
-use text_interest::say_interest;
 use text_kept::kept_after;
 use text_line::Line;
 use text_protocol::BOND_COUNT;

@@ -14,7 +14,7 @@ use Rattle.paper_messages.specs.declared.Heard.{Heard}
 use Rattle.paper_messages.specs.Fields.{fieldsOf}
 use Rattle.text_bytes.specs.Bytes.{lineFeed}
 use Rattle.text_out.specs.Wrote.{Wrote, then, wider}
-use Rattle.text_put.specs.Told.{Told, wrote}
+use Rattle.text_out.specs.Told.{Told, wrote}
 use Rattle.text_heard.specs.Lines.{kindWord, unknownWord, refusedWord, wordLine, fieldsIn, lineOf, lineMost}
 
 -- a word, numbers and the end of the line

@@ -11,7 +11,7 @@ use Rattle.paper_messages.specs.declared.Heard.{Heard}
 use Rattle.paper_messages.specs.Fields.{staticsMessageKind, ratesMessageKind, bandsMessageKind, fieldsOf}
 use Rattle.text_bytes.specs.Bytes.{lineFeed}
 use Rattle.text_bytes.specs.Numbers.{spaced}
-use Rattle.text_put.specs.Sizes.{wordBytes, rowsBytes}
+use Rattle.text_out.specs.Sizes.{wordBytes, rowsBytes}
 
 -- "statics", "rates", "bands", "move"
 unfoldable pub kindWord : (kind : ℕ) → List ℕ

@@ -8,16 +8,16 @@ ghost use lib.ListN.{length};
 ghost use Rattle.paper_messages.specs.Fields.{places, fieldsOf};
 ghost use Rattle.text_bytes.specs.Bytes.{room};
 ghost use Rattle.text_out.specs.Wrote.{Wrote};
-ghost use Rattle.text_put.specs.Sizes.{wordBytes};
+ghost use Rattle.text_out.specs.Sizes.{wordBytes};
 ghost use Rattle.text_heard.specs.Lines.{kindWord, wordLine, fieldsIn, lineOf, lineMost};
 use paper::Row;
 use paper_messages::Heard;
 use paper_messages::Message;
 use text_bytes::ROOM;
 use text_out::put_byte;
-use text_put::put_bytes;
-use text_put::put_next;
-use text_put::put_numbers;
+use text_out::put_bytes;
+use text_out::put_next;
+use text_out::put_numbers;
 
 // The bytes of a word at most, and of a signed number with the blank before it.
 const WORD_BYTES: usize = 11;

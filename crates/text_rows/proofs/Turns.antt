@@ -20,7 +20,7 @@ use Rattle.text_bytes.specs.declared.Size.the-variants as size
 use Rattle.text_bytes.specs.Numbers.{decimal, isDigit, sizeFrom, sizeOf, answerText}
 use Rattle.text_bytes.proofs.Spelling.{within-is-digit, low-no-digit, high-no-digit}
 use Rattle.text_out.specs.Wrote.{Wrote, then, wider}
-use Rattle.text_put.specs.Told.{Told, both, wrote}
+use Rattle.text_out.specs.Told.{Told, both, wrote}
 use Rattle.text_table.specs.declared.Reading.{Reading}
 use Rattle.text_evidence.specs.declared.Delivered.{Delivered}
 use Rattle.text_evidence.specs.Evidence.{Counted, counted-none, counted-on, unread, hasEnded, ended-is-none, Fills}
@@ -28,7 +28,7 @@ use Rattle.text_evidence.specs.Evidence.{not-ended-is-some}
 use Rattle.text_rows.specs.declared.Asked.{Asked}
 use Rattle.text_rows.specs.declared.Asked.the-variants as asked
 use Rattle.text_rows.specs.Rows.{settled, askedOf, grown, TakesIn, readingNumbers, readingText, readingMost}
-use Rattle.text_put.specs.Sizes.{rowsBytes}
+use Rattle.text_out.specs.Sizes.{rowsBytes}
 use Rattle.text_out.specs.Places.{numberBytes, nextBytes, nextSignedBytes}
 
 -- ---- the argument

@@ -23,7 +23,7 @@ use Rattle.text_rows.specs.declared.Taken.{Taken}
 use Rattle.text_rows.specs.declared.Served.{Served}
 use Rattle.text_out.specs.Wrote.{Wrote}
 use Rattle.text_out.specs.Places.{numberBytes, nextBytes}
-use Rattle.text_put.specs.Sizes.{rowsBytes}
+use Rattle.text_out.specs.Sizes.{rowsBytes}
 
 -- one digit or more, zeros may lead; a number above the greatest id asks as 0 does, for a security that is in no text
 unfoldable pub settled : Size → Asked

@@ -22,9 +22,9 @@ use text_evidence::unwritten;
 use text_exchange::TEXT_MOST;
 use text_exchange::read_exchange;
 use text_out::put_byte;
+use text_out::put_next;
 use text_out::put_number;
-use text_put::put_next;
-use text_put::put_numbers;
+use text_out::put_numbers;
 use text_table::Reading;
 
 // ---- the argument

@@ -6,7 +6,7 @@ use Rattle.text_heard.proofs.put_kind.Statement.{statement}
 use Rattle.text_heard.proofs.put_kind.Tie as tie
 use Rattle.text_heard.proofs.put_kind.Reads as reads
 use Rattle.text_heard.proofs.put_kind.Lts as lts
-use Rattle.text_put.proofs.put_bytes.Reads as put-bytes-reads
+use Rattle.text_out.proofs.put_bytes.Reads as put-bytes-reads
 
 slice-aggregate-put-bytes : tie.Need-slice-aggregate-put-bytes
 slice-aggregate-put-bytes c = search needs

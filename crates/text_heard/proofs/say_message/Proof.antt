@@ -11,7 +11,7 @@ use Rattle.text_heard.proofs.say_message.Lts as lts
 use Rattle.text_heard.proofs.field_count.Reads as field-count-reads
 use Rattle.text_heard.proofs.put_kind.Reads as put-kind-reads
 use Rattle.text_out.proofs.put_byte.Reads as put-byte-reads
-use Rattle.text_put.proofs.put_numbers.Reads as put-numbers-reads
+use Rattle.text_out.proofs.put_numbers.Reads as put-numbers-reads
 
 field-count-requires : tie.Need-field-count-requires
 field-count-requires c κs = search needs

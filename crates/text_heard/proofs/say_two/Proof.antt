@@ -1,15 +1,15 @@
 -- `text_heard::say_two` meets its contract: the word, the two numbers and the end of the line. Assumes nothing.
 use native.Mathlib.Omega.{arith}
-use Rattle.text_put.specs.Told.{both}
+use Rattle.text_out.specs.Told.{both}
 use Rattle.text_heard.proofs.Turns.{word-line-written}
 use borrow.Author.Needs.{needs}
 use Rattle.text_heard.proofs.say_two.Statement.{statement}
 use Rattle.text_heard.proofs.say_two.Tie as tie
 use Rattle.text_heard.proofs.say_two.Reads as reads
 use Rattle.text_heard.proofs.say_two.Lts as lts
-use Rattle.text_put.proofs.put_next.Reads as put-next-reads
+use Rattle.text_out.proofs.put_next.Reads as put-next-reads
 use Rattle.text_out.proofs.put_byte.Reads as put-byte-reads
-use Rattle.text_put.proofs.put_bytes.Reads as put-bytes-reads
+use Rattle.text_out.proofs.put_bytes.Reads as put-bytes-reads
 
 put-bytes-requires : tie.Need-put-bytes-requires
 put-bytes-requires c κs = search needs

@@ -3,7 +3,7 @@ use borrow.Author.Needs.{needs}
 use Rattle.text_bytes.specs.Numbers.{signed, next}
 use Rattle.text_protocol.specs.Reasons.{spelled}
 use Rattle.text_out.specs.Wrote.{then, nothing}
-use Rattle.text_put.specs.Told.{wrote-one}
+use Rattle.text_out.specs.Told.{wrote-one}
 use Rattle.text_why.proofs.put_numbered.Statement.{statement}
 use Rattle.text_why.proofs.put_numbered.Tie as tie
 
