@@ -1,6 +1,7 @@
 -- The customer's demands, the place of a live record's bands and its order over every sequence of calls, and cases of
 -- them.
 pub mod Demands
+pub mod Beside
 pub mod Inside
 pub mod NotKept
 pub mod Order

@@ -22,7 +22,7 @@ use Rattle.paper_messages.specs.declared.Message.{Message}
 use Rattle.paper_messages.specs.Messages.{encode}
 use Rattle.demands.specs.Demands.{answered, Demand1, FiguresHold, Demand2, TableKept, BandsInOrder}
 use Rattle.demands.specs.Order.{slotAt, HoldsLive, InOrder}
-use Rattle.demands_messages.specs.Whole.{SentWhole}
+use Rattle.demands_evening.specs.Whole.{SentWhole}
 use Rattle.text_bytes.specs.Bytes.{lines}
 use Rattle.text_protocol.specs.Calls.{call}
 use Rattle.text_protocol.specs.Answers.{callText}

@@ -19,7 +19,7 @@ use Rattle.paper_messages.specs.Messages.{writeChecks, wroteOf, readChecks, hea
 use Rattle.text_table.specs.declared.Reading.{Reading}
 use Rattle.text_bytes.specs.Bytes.{isLineFeed, pieces}
 use Rattle.text_table.specs.Exchange.{textMost, Bad, refused, accepted, Says, too-long, bad-at, good}
-use Rattle.demands_beside.specs.Beside.{Judged, FirstBad, ReadExactly, Figured, Demand1Beside}
+use Rattle.demands.specs.Beside.{Judged, FirstBad, ReadExactly, Figured, Demand1Beside}
 use Rattle.paper_desk.proofs.Refusals.{refused-exactly, accepted-exactly}
 use Rattle.paper_desk.proofs.Units.{gateway-answers-minus-four, gateway-answers-minus-six, gateway-answers-figure}
 use Rattle.paper_interest.proofs.InterestRefusals as interest

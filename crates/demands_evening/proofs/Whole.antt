@@ -15,7 +15,7 @@ use Rattle.paper_desk.specs.Desk.{admitChecks, step, run}
 use Rattle.paper_desk.specs.History.{FreshTable}
 use Rattle.paper_messages.specs.Messages.{valid}
 use Rattle.paper_messages.specs.Broadcast.{messagesOf}
-use Rattle.demands_messages.specs.Whole.{SentWhole}
+use Rattle.demands_evening.specs.Whole.{SentWhole}
 use Rattle.paper.proofs.Logic.{and-right, not-false}
 use Rattle.paper_desk.proofs.Slots.{known-sound}
 use Rattle.paper_desk.proofs.Refusals.{accepted-only}
@@ -23,7 +23,7 @@ use Rattle.paper_desk.proofs.PinnedLaws.{shown-stands}
 use Rattle.demands.proofs.Kept.{call-knows}
 use Rattle.demands.proofs.Known.{stays-known}
 use Rattle.demands.proofs.Order.{run-one-more, no-admission-shows}
-use Rattle.demands_messages.proofs.Valid.{admission-valid, rates-valid, bands-valid, move-valid}
+use Rattle.demands_evening.proofs.Valid.{admission-valid, rates-valid, bands-valid, move-valid}
 
 -- 4 does not apply to an accepted admission
 admission-in-range : (a : Admission) (t : List Record) → NoneApplies (checksOf (admit a) t) → validAdmission a ≡ true
