@@ -26,9 +26,9 @@ use Rattle.text_table.specs.Scan.{Front, front, none, line, WrittenLine}
 use Rattle.text_table.proofs.Lines.{ended-reads, line-back, row-has-seven}
 use Rattle.text_table.proofs.Walk.{Sofar, none-yet, own-row, other-row, ends-no-row, ends-seventeenth, ends-unended}
 use Rattle.text_table.proofs.Walk.{ends-good}
-use Rattle.text_row.specs.declared.Place.{Place}
-use Rattle.text_row.specs.declared.Place.the-variants as place
-use Rattle.text_row.specs.Lines.{placeFront, PlaceIn, Lined}
+use Rattle.text_exchange.specs.declared.row.Place.{Place}
+use Rattle.text_exchange.specs.declared.row.Place.the-variants as place
+use Rattle.text_exchange.specs.Lines.{placeFront, PlaceIn, Lined}
 
 -- ---- a row is stored
 

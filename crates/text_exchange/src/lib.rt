@@ -1,16 +1,19 @@
 // The exchange's evening text: the rows of one security in a lent text. One pass over the bytes; the rows stay where
 // they are while it goes on.
+mod cell; // a field
+mod row; // a line
+
 ghost use mathlib.Core.Path.{_≡_};
 ghost use Prim.Native.Nat.{_*_, _≤_, _<_};
 ghost use lib.ListN.{length, drop};
 ghost use lib.Seq.{sets};
 ghost use Rattle.paper.specs.Numbers.{rowNumbers};
 ghost use Rattle.text_table.specs.Exchange.{lineNumbers, rowsMost, refused, Says};
+use crate::row::FIELDS;
+use crate::row::Place;
+use crate::row::read_line;
 use paper::Row;
 use paper::Verdict;
-use text_row::FIELDS;
-use text_row::Place;
-use text_row::read_line;
 use text_table::Reading;
 
 // "a lent buffer of at most 65,536 bytes"

@@ -1,0 +1,3 @@
+-- The definitions of text_exchange, a file each.
+pub mod Placed
+pub mod Lines
