@@ -16,9 +16,9 @@ use Rattle.paper_desk.specs.Gateway.{gatewayChecks, gatewayAnswer, levelCall, r
 use Rattle.paper_interest.specs.Interest.{interestChecks, interestAnswer}
 use Rattle.paper_bonds.specs.Bonds.{bondChecks, bondAnswer}
 use Rattle.paper_messages.specs.Messages.{writeChecks, wroteOf, readChecks, heardAt}
-use Rattle.text_table.specs.declared.Reading.{Reading}
+use Rattle.exchange_protocol.specs.declared.Reading.{Reading}
 use Rattle.text_bytes.specs.Bytes.{isLineFeed, pieces}
-use Rattle.text_table.specs.Exchange.{textMost, Bad, refused, accepted, Says, too-long, bad-at, good}
+use Rattle.exchange_protocol.specs.Exchange.{textMost, Bad, refused, accepted, Says, too-long, bad-at, good}
 use Rattle.demands.specs.Beside.{Judged, FirstBad, ReadExactly, Figured, Demand1Beside}
 use Rattle.paper_desk.proofs.Refusals.{refused-exactly, accepted-exactly}
 use Rattle.paper_desk.proofs.Units.{gateway-answers-minus-four, gateway-answers-minus-six, gateway-answers-figure}
@@ -26,7 +26,7 @@ use Rattle.paper_interest.proofs.InterestRefusals as interest
 use Rattle.paper_bonds.proofs.BondRefusals as bond
 use Rattle.paper_messages.proofs.MessageLaws.{heard-verdict}
 use Rattle.paper_messages.proofs.Refusals.{read-zeros, write-untouched}
-use Rattle.text_table.proofs.Texts.{says-unique, no-line-zero}
+use Rattle.exchange_protocol.proofs.Texts.{says-unique, no-line-zero}
 
 -- ---- an answer that is the first of its checks
 

@@ -22,8 +22,8 @@ use Rattle.paper_bonds.specs.Bonds.{bondChecks, refusedBond, bondAnswer}
 use Rattle.paper_messages.specs.declared.Message.{Message}
 use Rattle.paper_messages.specs.Messages.{writeChecks, wroteOf, written, readChecks, refusedHeard, heardAt}
 use Rattle.text_bytes.specs.Bytes.{isLineFeed, pieces}
-use Rattle.text_table.specs.declared.Reading.{Reading}
-use Rattle.text_table.specs.Exchange.{textMost, Bad, refused, Says}
+use Rattle.exchange_protocol.specs.declared.Reading.{Reading}
+use Rattle.exchange_protocol.specs.Exchange.{textMost, Bad, refused, Says}
 
 -- ---- calls that are judged by a list of checks
 

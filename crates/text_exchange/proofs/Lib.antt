@@ -1,5 +1,0 @@
--- The laws of text_exchange, a file each; other crates may cite the public ones.
-mod CellTurns
-mod LineTurns
-mod Turns
-pub mod Determined
