@@ -1,8 +1,9 @@
--- `session::move_allowed` meets its contract: each arm rewrites with the variant that it matched. Assumes nothing.
+-- `alerts::session::move_allowed` meets its contract: each arm rewrites with the variant that it matched. Assumes
+-- nothing.
 use borrow.Author.Needs.{needs}
 use Rattle.paper_desk.specs.Evening.{moveAllowed}
-use Rattle.session.proofs.move_allowed.Statement.{statement}
-use Rattle.session.proofs.move_allowed.Tie as tie
+use Rattle.alerts.proofs.session.move_allowed.Statement.{statement}
+use Rattle.alerts.proofs.session.move_allowed.Tie as tie
 
 enum-told : tie.Need-enum-told
 enum-told c = search needs

@@ -10,8 +10,8 @@ use Rattle.paper.specs.declared.MadePrice.the-variants.{OutOfRange}
 use Rattle.paper.proofs.Logic.{not-true-and-false}
 use Rattle.paper_floats.specs.Floats.{priceOfBits, priceOf}
 use Rattle.paper_floats.proofs.ByValue.{nan-refused}
-use Rattle.floats.proofs.price_of.Statement.{statement}
-use Rattle.floats.proofs.price_of.Tie as tie
+use Rattle.record_calls.proofs.floats.price_of.Statement.{statement}
+use Rattle.record_calls.proofs.floats.price_of.Tie as tie
 
 differs-refused : (x : Float) → ne x x ≡ true → priceOf x ≡ OutOfRange
 differs-refused x h = rw (differs-from-itself x (subst T (sym h) tt)) nan-refused

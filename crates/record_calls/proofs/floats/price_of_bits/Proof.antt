@@ -8,9 +8,9 @@ use lib.Pow.{pow-pos, pow-lt}
 use borrow.Author.Needs.{needs}
 use Rattle.paper.specs.Ranges.{priceMade}
 use Rattle.paper_floats.specs.Floats.{leadingOne}
-use Rattle.floats.proofs.Exponents.{wholeExponent, leastExponent, low-refused, high-refused, between-price}
-use Rattle.floats.proofs.price_of_bits.Statement.{statement}
-use Rattle.floats.proofs.price_of_bits.Tie as tie
+use Rattle.record_calls.proofs.Exponents.{wholeExponent, leastExponent, low-refused, high-refused, between-price}
+use Rattle.record_calls.proofs.floats.price_of_bits.Statement.{statement}
+use Rattle.record_calls.proofs.floats.price_of_bits.Tie as tie
 
 -- nothing is shifted out: the least exponent leaves at most 63
 shifted : (bits : ℕ) → leastExponent ≤ bits / leadingOne

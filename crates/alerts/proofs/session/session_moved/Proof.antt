@@ -1,5 +1,5 @@
--- `session::session_moved` meets its contract: each arm rewrites with the variant that it matched. A valid session has
--- at most 10 moves, so that one more fits. Assumes nothing.
+-- `alerts::session::session_moved` meets its contract: each arm rewrites with the variant that it matched. A valid
+-- session has at most 10 moves, so that one more fits. Assumes nothing.
 use mathlib.Core.Path.{_≡_}
 use mathlib.Core.Bool.{true}
 use Prim.Native.Nat.{ℕ, _≤_}
@@ -10,8 +10,8 @@ use Rattle.paper.specs.declared.Session.the-variants.{Evening}
 use Rattle.paper.specs.Numbers.{eveningMovesMost}
 use Rattle.paper.specs.Ranges.{validSession}
 use Rattle.paper_desk.specs.Evening.{sessionMoved}
-use Rattle.session.proofs.session_moved.Statement.{statement}
-use Rattle.session.proofs.session_moved.Tie as tie
+use Rattle.alerts.proofs.session.session_moved.Statement.{statement}
+use Rattle.alerts.proofs.session.session_moved.Tie as tie
 
 made-most : (made : ℕ) → validSession (Evening made) ≡ true → made ≤ eveningMovesMost
 unfolding validSession

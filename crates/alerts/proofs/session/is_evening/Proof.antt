@@ -1,8 +1,9 @@
--- `session::is_evening` meets its contract: each arm rewrites with the variant that it matched. Assumes nothing.
+-- `alerts::session::is_evening` meets its contract: each arm rewrites with the variant that it matched. Assumes
+-- nothing.
 use borrow.Author.Needs.{needs}
 use Rattle.paper_desk.specs.Evening.{isEvening}
-use Rattle.session.proofs.is_evening.Statement.{statement}
-use Rattle.session.proofs.is_evening.Tie as tie
+use Rattle.alerts.proofs.session.is_evening.Statement.{statement}
+use Rattle.alerts.proofs.session.is_evening.Tie as tie
 
 enum-told : tie.Need-enum-told
 enum-told c = search needs

@@ -1,8 +1,9 @@
--- `session::alert_seconds` meets its contract: each arm rewrites with the variant that it matched. Assumes nothing.
+-- `alerts::session::alert_seconds` meets its contract: each arm rewrites with the variant that it matched. Assumes
+-- nothing.
 use borrow.Author.Needs.{needs}
 use Rattle.paper_desk.specs.Evening.{alertSeconds}
-use Rattle.session.proofs.alert_seconds.Statement.{statement}
-use Rattle.session.proofs.alert_seconds.Tie as tie
+use Rattle.alerts.proofs.session.alert_seconds.Statement.{statement}
+use Rattle.alerts.proofs.session.alert_seconds.Tie as tie
 
 enum-told : tie.Need-enum-told
 enum-told c = search needs
