@@ -1,14 +1,16 @@
 // Document 01, "Ranges, bands, alerts, moves" (17.5): near sides and alerts, by value. A quote's bid and ask are no
 // prices of document 01's range: 0 is missing, and they go up to 10^11. So they are bare numbers of units here, as the
 // limits are that they are held against.
+pub mod session; // what the evening session changes of alerts and of moves
+
+ghost use mathlib.Core.Path.{_≡_};
+ghost use Rattle.paper_desk.specs.Alerts.{isNear, nearAfter, alert, nearCleared};
+ghost use Rattle.alerts.specs.Nearness.{NearRange, closer};
 use paper::Limits;
 use paper::Near;
 use paper::NearSeconds;
 use paper::ONE_IN_TEN_THOUSANDTHS;
 use paper::Side;
-ghost use mathlib.Core.Path.{_≡_};
-ghost use Rattle.paper_desk.specs.Alerts.{isNear, nearAfter, alert, nearCleared};
-ghost use Rattle.alerts.specs.Nearness.{NearRange, closer};
 
 // Whether to - from is strictly less than w·(PcH - PcL). A lent band may stand crossed, so that either difference may
 // be negative: what is taken away is added on the other side.

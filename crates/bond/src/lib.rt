@@ -1,5 +1,8 @@
-// Document 02, W-206: the public call for a bond, by value. Nothing is stored. The rules are those of `rates`,
-// `bond_flows` and `bond_limits`; this crate judges what is given, asks them, and puts the answer together.
+// Document 02, W-206: the public call for a bond, by value. Nothing is stored. It judges what is given, asks the rules
+// for the rates (`rates`), for Carry and for the limits, and puts the answer together.
+mod flows; // the cash flows, and Carry
+mod limit; // the limits of a term, on the book and off it
+
 ghost use mathlib.Core.Path.{_≡_};
 ghost use mathlib.Core.Bool.{true};
 ghost use Prim.Native.Nat.{_<_};
@@ -9,6 +12,10 @@ ghost use Rattle.paper.specs.Ranges.{validTerm};
 ghost use Rattle.paper_bonds.specs.Bonds.{givenOf, bondStatics, termsOf, validNumbers, validBond, flowsOf, grossOf};
 ghost use Rattle.paper_bonds.specs.Bonds.{limitsOf, allLimits, isCrossed, refusedBond, bondAnswer};
 ghost use Rattle.bond.specs.Priced.{Priced, Figured, noBondLimits};
+use crate::flows::carry_of;
+use crate::flows::flows_valid;
+use crate::limit::is_crossed;
+use crate::limit::limits_of;
 use interest_terms::term_of;
 use paper::BondScale;
 use paper::Day;
@@ -120,14 +127,14 @@ fn term_limits(b: Bond, st: Statics, p: Price, s1: Rate, x: Term, flows: &[i64])
     requires { ⌜ validTerm x ≡ true ⌝ }
     ensures { λ r. ⌜ r ≡ limitsOf b (flowsOf (now (flows .entry))) x ⌝ }
 {
-    let carry = bond_flows::carry_of(flows, x.k, b.repo);
+    let carry = carry_of(flows, x.k, b.repo);
     let scale = BondScale {
         carry,
         accrued: b.accrued,
         face: b.face,
         repo: b.repo,
     };
-    bond_limits::limits_of(scale, st, p, s1, x)
+    limits_of(scale, st, p, s1, x)
 }
 
 fn all_limits(
@@ -153,9 +160,7 @@ fn all_limits(
 fn some_crossed(limits: [BondLimits; Record::TERMS]) -> bool
     ensures { λ r. ⌜ r ≡ some isCrossed (three (λ k. getD limits k noBondLimits)) ⌝ }
 {
-    bond_limits::is_crossed(limits[0])
-        | bond_limits::is_crossed(limits[1])
-        | bond_limits::is_crossed(limits[2])
+    is_crossed(limits[0]) | is_crossed(limits[1]) | is_crossed(limits[2])
 }
 
 // ---- the answer
@@ -206,7 +211,7 @@ fn priced(b: Bond, p: Price, flows: &[i64]) -> BondAnswer
 pub fn answer(b: Bond, flows: &[i64]) -> BondAnswer
     ensures { λ r. ⌜ r ≡ bondAnswer b (now (flows .entry)) ⌝ }
 {
-    if !(bond_valid(b) & bond_flows::flows_valid(flows)) {
+    if !(bond_valid(b) & flows_valid(flows)) {
         return refused(Verdict::OutOfRange);
     }
     if b.face == 0 {

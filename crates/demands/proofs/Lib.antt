@@ -10,4 +10,5 @@ pub mod Carried
 pub mod SlotHistories
 pub mod Order
 pub mod Demands
+pub mod Beside
 pub mod Inside

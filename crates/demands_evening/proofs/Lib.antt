@@ -1,4 +1,6 @@
--- The proof of it.
+-- The proofs of it, each file after those that it stands on.
+pub mod Valid
+pub mod Whole
 pub mod Calls
 pub mod Tables
 pub mod Lines

@@ -20,11 +20,11 @@ use Rattle.paper_messages.specs.declared.Message.{Message}
 use Rattle.paper_messages.specs.Messages.{encode, valid}
 use Rattle.demands.specs.Demands.{answered, FiguresHold}
 use Rattle.demands.specs.Order.{InOrder}
-use Rattle.demands_messages.specs.Whole.{SentWhole}
+use Rattle.demands_evening.specs.Whole.{SentWhole}
 use Rattle.text_protocol.specs.Calls.{Deed, call}
 use Rattle.text_evening.specs.declared.Telling.{Telling}
 use Rattle.text_evening.specs.declared.Telling.the-variants.{Answers, Reasons, Messages}
-use Rattle.text_evening.specs.Broadcast.{messagesOf, sent, allSent, broadcastOf}
+use Rattle.paper_messages.specs.Broadcast.{messagesOf, sent, allSent, broadcastOf}
 use Rattle.text_evening.specs.Evening.{Evening, startEvening, tableAfter, answerTo, reasonTo, callTold, textOf, askedBy}
 use Rattle.text_evening.specs.Evening.{after, answer}
 use Rattle.demands_evening.specs.Holds.{ownTable, eveningBehind, tableBehind, callsBehind, encodings}
@@ -36,7 +36,7 @@ use Rattle.demands.proofs.Kept.{call-knows}
 use Rattle.demands.proofs.Known.{stays-known}
 use Rattle.demands.proofs.Order.{no-admission-shows, shown-in-order}
 use Rattle.demands.proofs.Demands.{demand-1}
-use Rattle.demands_messages.proofs.Whole.{sent-whole}
+use Rattle.demands_evening.proofs.Whole.{sent-whole}
 use Rattle.text_evening.proofs.OneMore.{after-one-more}
 use Rattle.demands_evening.proofs.Calls.{calls-one-more}
 use Rattle.demands_evening.proofs.Tables.{own-table-fresh, table-made, known-holds}

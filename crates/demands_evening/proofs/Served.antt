@@ -9,7 +9,7 @@ use lib.ListN.{length, replicate}
 use Rattle.paper.specs.declared.Record.{Record}
 use Rattle.paper.specs.Numbers.{slotsMost}
 use Rattle.paper_desk.specs.Desk.{blank}
-use Rattle.text_protocol.specs.Bytes.{lines}
+use Rattle.text_bytes.specs.Bytes.{lines}
 use Rattle.text_evening.specs.declared.Telling.{Telling}
 use Rattle.text_evening.specs.Evening.{startEvening, afterAll, answers}
 use Rattle.text_evidence.specs.Evidence.{tookAll}

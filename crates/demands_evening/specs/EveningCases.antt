@@ -13,14 +13,14 @@ use Rattle.paper.specs.Terms.{repoOf, dayOf, termOf as dayTerm}
 use Rattle.paper_desk.specs.Desk.{move, read, found}
 use Rattle.paper_desk.specs.History.{evaluatedOn, movedBy, since, longer, counts, noted, history}
 use Rattle.paper_desk.specs.PinnedSequence.{answers}
-use Rattle.text_protocol.specs.Bytes.{isBlank, isNot, run, grow, pieces, full, words, same}
-use Rattle.text_protocol.specs.Numbers.{isDigit, sizeFrom, sizeOf, upTo, above, below, numberOf, slashAt}
+use Rattle.text_bytes.specs.Bytes.{isBlank, isNot, run, grow, pieces, full, words, same, bytes}
+use Rattle.text_bytes.specs.Numbers.{isDigit, sizeFrom, sizeOf, upTo, above, below, numberOf, slashAt}
 use Rattle.text_protocol.specs.Names.{code, admitNames, evaluateNames, quoteNames, moveNames, readNames}
 use Rattle.text_protocol.specs.Names.{openNames, outsideNames, noticeNames, withdrawNames, interestNames}
 use Rattle.text_protocol.specs.Names.{bondNames, forms, kindFrom, kindOf, countFits, takesIn, takes, placeOf, the}
 use Rattle.text_protocol.specs.Line.{oneOf, twoOf, itemOf, hasTerms, placeIn, pairFits, withPair, more, taking}
 use Rattle.text_protocol.specs.Line.{onWith, finished, fill, called, meaning}
-use Rattle.text_protocol.specs.LineCases.{bytes, naturals}
+use Rattle.text_protocol.specs.LineCases.{naturals}
 use Rattle.text_protocol.specs.Kept.{foundIn}
 use Rattle.text_protocol.specs.Calls.{givenOf, admissionOf, bandOf, termOf, askedOf, figuresBehind, callOf, deedOf}
 use Rattle.text_evening.specs.Evening.{tableAfter, after, afterAll}

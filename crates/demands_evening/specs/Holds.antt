@@ -24,13 +24,13 @@ use Rattle.paper_messages.specs.Messages.{encode}
 use Rattle.demands.specs.Demands.{answered, Demand1, FiguresHold, Demand2, TableKept, BandsInOrder}
 use Rattle.demands.specs.Inside.{BandsInside, NineExactly}
 use Rattle.demands.specs.Order.{slotAt, HoldsLive, InOrder}
-use Rattle.demands_messages.specs.Whole.{SentWhole}
-use Rattle.text_protocol.specs.Bytes.{lines}
+use Rattle.demands_evening.specs.Whole.{SentWhole}
+use Rattle.text_bytes.specs.Bytes.{lines}
 use Rattle.text_protocol.specs.Calls.{call}
 use Rattle.text_protocol.specs.Answers.{callText}
 use Rattle.text_evening.specs.declared.Telling.{Telling}
 use Rattle.text_evening.specs.declared.Telling.the-variants.{Answers, Reasons, Messages}
-use Rattle.text_evening.specs.Broadcast.{messagesOf}
+use Rattle.paper_messages.specs.Broadcast.{messagesOf}
 use Rattle.text_evening.specs.Evening.{Evening, startEvening, askedBy, answer, afterAll, answers}
 use Rattle.demands_evening.specs.Calls.{callsOf}
 

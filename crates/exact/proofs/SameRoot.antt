@@ -1,6 +1,7 @@
--- W-204, "Its answers stay the same": on every input that shares and the interest side hand to `least_root`, its
--- contract allows one answer, which is the least root however it is found, and the x of clause 7.1. `Pre` and `Post`
--- are the plain reading of the function's own `requires` and `ensures`. Assumes nothing.
+-- W-204, "Its answers stay the same": on every input that shares hand to `least_root`, its contract allows one answer,
+-- which is the least root however it is found, and the x of clause 7.1. `Pre` and `Post` are the plain reading of the
+-- function's own `requires` and `ensures`. The interest side says the same of its inputs by `same-root`, in the crate
+-- that works them out (interest_repo, proofs/SameRoot.antt).
 use mathlib.Core.Path.{_≡_, _∙_}
 use mathlib.Core.Bool.{true}
 use Prim.{tt}
@@ -11,16 +12,12 @@ use borrow.Fn.Kinds.{endedOf}
 use denote.Triple.Clauses.{AtExit}
 use Rattle.paper.specs.declared.Model.{Model}
 use Rattle.paper.specs.declared.Statics.{Statics}
-use Rattle.paper.specs.declared.Interest.{Interest}
-use Rattle.paper.specs.declared.Maturity.{Maturity}
 use Rattle.paper.specs.Numbers.{volatilityMost}
 use Rattle.paper.specs.Ranges.{validStatics}
 use Rattle.paper_desk.specs.Rates.{modelOf, weighted, Weighing}
-use Rattle.paper_interest.specs.Interest.{changeOf, InterestRange, KeyRange}
 use Rattle.paper.proofs.Search.{root-covers, root-least, root-unique}
 use Rattle.paper_desk.proofs.Bounds.{mean-of-squares-within}
 use Rattle.paper_desk.proofs.Volatility.{valid-weighs, weight-most}
-use Rattle.paper_interest.proofs.InterestRanges.{change-high}
 use Rattle.exact.specs.RootInputs.{SameRoot}
 use Rattle.exact.proofs.least_root as root
 
@@ -33,7 +30,7 @@ module _ (κs : Lfts 0) (exit : AtExit (endedOf 0 root.Kinds.ps root.Kinds.r) κ
       (λ factor n x. root.Reads.Post κs (factor, (n, tt)) x exit)
 
   -- what the two sides have in common: weights up to one, and volatilities up to 2^20
-  same-root : (m : Model) (b r s : ℕ) → Weighing m → r ≤ 2 ^ 20 → s ≤ 2 ^ 20 → KeepsRoot m b r s
+  pub same-root : (m : Model) (b r s : ℕ) → Weighing m → r ≤ 2 ^ 20 → s ≤ 2 ^ 20 → KeepsRoot m b r s
   unfolding weighted
   same-root m b r s w hr hs =
       record {
@@ -47,11 +44,3 @@ module _ (κs : Lfts 0) (exit : AtExit (endedOf 0 root.Kinds.ps root.Kinds.r) κ
   pub root-of-shares : (st : Statics) (b r s : ℕ) → validStatics st ≡ true → r ≤ volatilityMost → s ≤ volatilityMost
       → KeepsRoot (modelOf st) b r s
   root-of-shares st b r s v hr hs = same-root (modelOf st) b r s (valid-weighs st v) (omega arith) (omega arith)
-
-  -- the interest side: an evening and a key maturity in range, whose change and volatility are at most 19,998 bp
-  pub root-of-interest : (i : Interest) (k : Maturity) → InterestRange i → KeyRange k
-      → KeepsRoot (i .model) (i .b) (changeOf k) (k .volatility)
-  root-of-interest i k given key =
-      same-root (i .model) (i .b) (changeOf k) (k .volatility) (given .weighs)
-      (omega (arith, change-high k (key .r) (key .r1) (key .r2)))
-      (omega (arith, key .volatility))

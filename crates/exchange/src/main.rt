@@ -2,12 +2,12 @@
 ghost use mathlib.Core.Path.{_≡_};
 ghost use Prim.Native.Nat.{_+_};
 ghost use lib.ListN.{length};
-ghost use Rattle.text_table.specs.Exchange.{textMost};
-ghost use Rattle.text_rows.specs.Rows.{Asks, Answers};
+ghost use Rattle.exchange_protocol.specs.Exchange.{textMost};
+ghost use Rattle.exchange_serve.specs.Rows.{Asks, Answers};
+use exchange_serve::Asked;
+use exchange_serve::Served;
+use exchange_serve::TEXT_ROOM;
 use libc::STDERR_FILENO;
-use text_rows::Asked;
-use text_rows::Served;
-use text_rows::TEXT_ROOM;
 
 fn text_buffer() -> [u8; TEXT_ROOM]
     ensures { λ r. ⌜ textMost + 1 ≡ length r ⌝ }
@@ -44,7 +44,7 @@ fn asked() -> Asked
     }
     let mut word = word_buffer();
     let n = os::arg(1, &mut word);
-    text_rows::id_of(&word[..n])
+    exchange_serve::id_of(&word[..n])
 }
 
 // What standard input says of a security is handed to standard output.
@@ -53,7 +53,7 @@ fn serve(id: u64) -> Served
 {
     let mut text = text_buffer();
     let mut out = io::large_buffer();
-    text_rows::serve(&mut text, &mut out, id)
+    exchange_serve::serve(&mut text, &mut out, id)
 }
 
 // Says on standard error where a read or a write failed.

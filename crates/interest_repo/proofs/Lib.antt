@@ -1,2 +1,3 @@
--- What the functions of this crate share: how a signed rate is read from its bits.
+-- How a signed rate is read from its bits, and that the root's answers stay the same (W-204).
 pub mod Bits
+pub mod SameRoot

@@ -1,3 +1,2 @@
 -- The laws of message_records, a file each; other crates may cite them.
 pub mod Values
-pub mod Valid

@@ -1,2 +1,3 @@
 -- The definitions of messages, a file each.
+pub mod Asked
 pub mod Promises

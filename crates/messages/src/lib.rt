@@ -1,17 +1,20 @@
 // W-212: the writer and the reader of messages to members, on a lent buffer.
+mod kinds; // the fields of each kind, and whether a message is valid
+mod widths; // a number, and the fields of a message, as bytes at their widths
+
 ghost use mathlib.Core.Path.{_≡_};
 ghost use Prim.Native.Nat.{_+_, _≤_};
 ghost use lib.ListN.{length, drop};
 ghost use Rattle.paper_messages.specs.Messages.{noMessage, refusedHeard, heardAt};
 ghost use Rattle.messages.specs.Promises.{Writes, HearsAt, Whole};
-use message_bytes::get_fields;
-use message_bytes::get_number;
-use message_bytes::put_fields;
-use message_bytes::put_number;
-use message_kinds::is_known_kind;
-use message_kinds::is_valid;
-use message_kinds::length_of;
-use message_kinds::places_of;
+use crate::kinds::is_known_kind;
+use crate::kinds::is_valid;
+use crate::kinds::length_of;
+use crate::kinds::places_of;
+use crate::widths::get_fields;
+use crate::widths::get_number;
+use crate::widths::put_fields;
+use crate::widths::put_number;
 use paper::Verdict;
 use paper_messages::Heard;
 use paper_messages::Message;

@@ -1,5 +1,5 @@
 -- Document 01, "Errors that look reasonable", and the empty versions: figures on which each of them would differ. They
--- are small, so that no root is searched for long; the document's own cases stand in the crate `paper_cases`.
+-- are small, so that no root is searched for long; the document's own cases stand in the crate `demands`.
 -- It may use every definition of document 01, and the values of PinnedValues. Assumes nothing.
 use mathlib.Core.Path.{_≡_, refl}
 use mathlib.Core.List.{List, [], _∷_, _++_}

@@ -4,6 +4,8 @@ pub mod Fields
 pub mod Messages
 pub mod OwnBytes
 pub mod Records
+pub mod Broadcast
 pub mod PinnedMessages
 pub mod PinnedFields
 pub mod PinnedRecords
+pub mod PinnedBroadcast

@@ -1,10 +1,13 @@
 // One rule for each call that has no crate of its own (`record_admission`, `record_evaluation`, `record_monitoring`),
 // by value: the slot found and the inputs in, an effect out. Each judges the refusals in the paper's order.
+mod floats; // the price of an outside source's float
+
 ghost use mathlib.Core.Path.{_≡_};
 ghost use Rattle.paper_floats.specs.Floats.{priceOf};
 ghost use Rattle.paper_desk.specs.External.{Told, unitsMade};
 ghost use Rattle.record_answers.specs.Effects.{openEffect, receiveEffect, readAnswer};
 ghost use Rattle.record_calls.specs.Receipts.{Receives};
+use crate::floats::price_of;
 use paper::Answer;
 use paper::External;
 use paper::MadePrice;
@@ -28,7 +31,7 @@ pub fn opened(s: Slot) -> Effect
     if !record_soundness::is_live(standing) {
         return record_answers::refused(count, Verdict::NotLive);
     }
-    if session::is_evening(session) {
+    if alerts::session::is_evening(session) {
         return record_answers::refused(count, Verdict::OpenedTwice);
     }
     record_answers::written(s.at, record_writing::opened(r))
@@ -40,7 +43,7 @@ pub fn opened(s: Slot) -> Effect
 fn units_of(x: f64) -> u64
     ensures { λ r. ⌜ r ≡ unitsMade (priceOf x) ⌝ }
 {
-    let made = floats::price_of(x);
+    let made = price_of(x);
     match made {
         MadePrice::Made(price) => price.units,
         MadePrice::OutOfRange => 0,

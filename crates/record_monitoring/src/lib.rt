@@ -44,7 +44,7 @@ fn alerts_on(r: Record, q: Quote, n: NearSeconds) -> Answer
     let bottom = n.bottom;
     let statics = r.statics;
     let session = r.session;
-    let u = session::alert_seconds(statics, session);
+    let u = alerts::session::alert_seconds(statics, session);
     Answer {
         verdict: Verdict::Done,
         rec,
@@ -89,7 +89,7 @@ pub fn moved(s: Slot, side: u64) -> Effect
     if !v.is_done() {
         return record_answers::refused(count, v);
     }
-    if !session::move_allowed(statics, session) {
+    if !alerts::session::move_allowed(statics, session) {
         return record_answers::refused(count, Verdict::NoEveningMove);
     }
     let named = inputs::side_of(side);

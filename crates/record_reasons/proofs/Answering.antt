@@ -22,10 +22,10 @@ use Rattle.paper_reasons.specs.declared.Fault.{Fault}
 use Rattle.paper_reasons.specs.declared.Reasons.{Reasons}
 use Rattle.paper_reasons.specs.Faults.{isSame, faultOf}
 use Rattle.paper_reasons.specs.Why.{noReasons, reasonsOf, whyOf}
-use Rattle.record_faults.specs.RowFaults.{faultWith, Refused}
+use Rattle.record_reasons.specs.RowFaults.{faultWith, Refused}
 use Rattle.record_reasons.specs.Reasoned.{reasonsAt, Accepted}
 use Rattle.record_reasons.specs.Whys.{whySlot}
-use Rattle.record_faults.proofs.AtFault.{fault-with, refused-rows}
+use Rattle.record_reasons.proofs.AtFault.{fault-with, refused-rows}
 use Rattle.record_reasons.proofs.Reasoning.{reasons-are, accepted}
 
 module _ (s : Slot) (d : Day) (rows : List ℤ) where

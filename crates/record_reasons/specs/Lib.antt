@@ -1,3 +1,4 @@
 -- What asking why is promised to answer, a file each.
+pub mod RowFaults
 pub mod Reasoned
 pub mod Whys

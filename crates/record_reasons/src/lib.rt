@@ -1,10 +1,12 @@
 // W-207, "Say why", by value: the slot found and the inputs in, why an evaluation of them is answered as it is out. The
 // evaluation itself is worked out once, by the rule that `evaluate` has (`record_evaluation::worked`).
+mod faults; // which row or term is at fault in a refused evaluation
 pub mod reasons; // which figure set each of the record's
 
 ghost use mathlib.Core.Path.{_≡_};
 ghost use Rattle.paper_reasons.specs.Why.{noReasons};
 ghost use Rattle.record_reasons.specs.Whys.{whySlot};
+use crate::faults::fault_of;
 use crate::reasons::reasons_of;
 use paper::Day;
 use paper_reasons::LevelReason;
@@ -15,7 +17,6 @@ use paper_reasons::TentativeReason;
 use paper_reasons::WeightReason;
 use paper_reasons::Why;
 use record_answers::Slot;
-use record_faults::fault_of;
 
 // Of a refused evaluation no figure has a reason.
 fn no_reasons() -> Reasons

@@ -176,7 +176,7 @@ pub fn moved(r: Record, side: Side) -> Record
     let shifted = ranges_moved(side, limits::delta(statics, p1, s1), ranges);
     let remade = bands_moved(side, fresh, bands);
     let cleared = near_cleared(side, near);
-    let counted = session::session_moved(session);
+    let counted = alerts::session::session_moved(session);
     Record {
         id: r.id,
         statics,

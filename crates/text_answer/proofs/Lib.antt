@@ -1,2 +1,4 @@
--- The laws of text_answer, a file each; its own proofs alone cite them.
+-- The laws of text_answer, a file each; other crates may cite the public one.
+pub mod Verdicts
 mod Cases
+mod Maturities

@@ -8,7 +8,8 @@ use Rattle.paper.specs.declared.Answer.{Answer}
 use Rattle.paper.specs.Lists.{pick}
 use Rattle.paper.specs.Verdicts.{numberOf, isDone}
 use Rattle.text_protocol.specs.Names.{admitKind, quoteKind}
-use Rattle.text_protocol.specs.Answers.{flag, recordNumbers, answerText}
+use Rattle.text_protocol.specs.Answers.{flag, recordNumbers}
+use Rattle.text_bytes.specs.Numbers.{answerText}
 
 unfoldable pub figuresOfKind : (kind : ℕ) → Answer → List ℤ
 figuresOfKind k a =

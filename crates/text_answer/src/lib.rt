@@ -1,27 +1,39 @@
 // What the evening's text answers to the calls of the table, appended to a lent buffer: the parts of a record in order,
 // a quote's two alerts or a number alone; and what it answers to a line that is no call.
+pub mod interest; // an interest line's answer
+pub mod record; // the parts of a record
+
 ghost use mathlib.Core.List.{[], _∷_};
 ghost use Prim.Native.Nat.{_+_, _≤_};
-ghost use Rattle.text_protocol.specs.Bytes.{room};
-ghost use Rattle.text_protocol.specs.Answers.{answerText, badText, flag, recordNumbers, answerMost};
+ghost use Rattle.text_bytes.specs.Bytes.{room};
+ghost use Rattle.text_protocol.specs.Answers.{badText, flag, recordNumbers, answerMost};
+ghost use Rattle.text_bytes.specs.Numbers.{answerText};
 ghost use Rattle.text_out.specs.Places.{nextBytes};
 ghost use Rattle.text_out.specs.Wrote.{Wrote};
-ghost use Rattle.text_put.specs.Told.{Told};
-ghost use Rattle.text_record.specs.Sizes.{recordBytes};
+ghost use Rattle.text_out.specs.Told.{Told};
+ghost use Rattle.text_answer.specs.Sizes.{recordBytes};
 ghost use Rattle.text_answer.specs.Kinds.{textOfKind};
+use crate::record::put_external;
+use crate::record::put_last;
+use crate::record::put_levels;
+use crate::record::put_session;
+use crate::record::put_term;
 use paper::Answer;
 use paper::Record;
+use text_bytes::ROOM;
 use text_out::put_byte;
+use text_out::put_next;
 use text_out::put_number;
 use text_protocol::Kind;
-use text_protocol::ROOM;
-use text_put::put_next;
-use text_put::say_number;
-use text_record::put_external;
-use text_record::put_last;
-use text_record::put_levels;
-use text_record::put_session;
-use text_record::put_term;
+
+// A refusal's number, or an admission's 0, stands alone.
+pub fn say_number(out: &mut [u8; ROOM], len: usize, no: u64) -> usize
+    requires { ⌜ len + answerMost ≤ room ⌝ }
+    ensures { λ r. ⌜ Wrote (now (out .entry)) len (now (out .exit)) r (answerText no []) answerMost ⌝ }
+{
+    let n = put_number(out, len, no);
+    put_byte(out, n, b'\n')
+}
 
 fn put_flag(out: &mut [u8; ROOM], len: usize, yes: bool) -> usize
     requires { ⌜ len + nextBytes ≤ room ⌝ }

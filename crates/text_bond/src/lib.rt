@@ -3,29 +3,30 @@
 ghost use mathlib.Core.Path.{_≡_};
 ghost use mathlib.Core.List.{_++_};
 ghost use Prim.Native.Nat.{_+_, _*_, _≤_};
-ghost use Rattle.text_protocol.specs.Bytes.{room};
+ghost use Rattle.text_bytes.specs.Bytes.{room};
 ghost use Rattle.text_protocol.specs.Calls.{bondStaticsOf, bondOf};
-ghost use Rattle.text_protocol.specs.Answers.{answerText, bondFiguresNumbers, bondLimitsNumbers, bondNumbers, bondText};
+ghost use Rattle.text_protocol.specs.Answers.{bondFiguresNumbers, bondLimitsNumbers, bondNumbers, bondText};
+ghost use Rattle.text_bytes.specs.Numbers.{answerText};
 ghost use Rattle.text_protocol.specs.Answers.{answerMost};
 ghost use Rattle.text_out.specs.Wrote.{Wrote};
-ghost use Rattle.text_put.specs.Told.{Told};
+ghost use Rattle.text_out.specs.Told.{Told};
 ghost use Rattle.text_out.specs.Places.{nextBytes};
 use paper::Tentative;
 use paper_bonds::Bond;
 use paper_bonds::BondAnswer;
 use paper_bonds::BondLimits;
 use paper_bonds::BondStatics;
+use text_answer::record::put_rates;
+use text_answer::say_number;
+use text_bytes::ROOM;
 use text_call::number_at;
 use text_call::term_of;
 use text_call::unsigned_at;
 use text_out::put_byte;
+use text_out::put_next;
 use text_out::put_number;
 use text_protocol::Kept;
 use text_protocol::Pairs;
-use text_protocol::ROOM;
-use text_put::put_next;
-use text_put::put_rates;
-use text_put::say_number;
 
 // ---- what is given
 

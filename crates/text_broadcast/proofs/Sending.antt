@@ -24,9 +24,9 @@ use Rattle.paper_messages.specs.Messages.{lengthWidth, kindWidth, total, length
 use Rattle.paper_messages.specs.Messages.{written}
 use Rattle.paper_messages.proofs.MessageLaws.{encode-length}
 use Rattle.messages.specs.Promises.{Writes}
-use Rattle.text_protocol.specs.Bytes.{room}
+use Rattle.text_bytes.specs.Bytes.{room}
 use Rattle.text_protocol.specs.Answers.{answerMost}
-use Rattle.text_evening.specs.Broadcast.{messageMost, sent, allSent}
+use Rattle.paper_messages.specs.Broadcast.{messageMost, sent, allSent}
 use Rattle.text_out.specs.Wrote.{Wrote, then, wider, nothing}
 use Rattle.text_broadcast.specs.Kinds.{messagesOfKind, broadcastOfKind}
 

@@ -10,7 +10,7 @@ use Rattle.paper.specs.Verdicts.{isDone}
 use Rattle.paper_messages.specs.declared.Message.{Message}
 use Rattle.paper_messages.specs.Records.{staticsMessage, ratesMessage, bandsMessage, moveMessage}
 use Rattle.text_protocol.specs.Names.{admitKind, evaluateKind, moveKind}
-use Rattle.text_evening.specs.Broadcast.{allSent}
+use Rattle.paper_messages.specs.Broadcast.{allSent}
 
 unfoldable pub messagesOfKind : (kind : ℕ) → Admission → (side : ℕ) → Answer → List Message
 messagesOfKind k g side a =

@@ -3,9 +3,9 @@
 ghost use mathlib.Core.Path.{_≡_};
 ghost use Prim.Native.Nat.{_+_, _≤_};
 ghost use lib.ListN.{length};
-ghost use Rattle.text_protocol.specs.Bytes.{room};
+ghost use Rattle.text_bytes.specs.Bytes.{room};
 ghost use Rattle.text_protocol.specs.Answers.{answerMost};
-ghost use Rattle.text_evening.specs.Broadcast.{messageMost, sent};
+ghost use Rattle.paper_messages.specs.Broadcast.{messageMost, sent};
 ghost use Rattle.text_out.specs.Wrote.{Wrote};
 ghost use Rattle.text_broadcast.specs.Kinds.{broadcastOfKind};
 use inputs::side_of;
@@ -18,8 +18,8 @@ use messages::write;
 use paper::Admission;
 use paper::Answer;
 use paper_messages::Message;
+use text_bytes::ROOM;
 use text_protocol::Kind;
-use text_protocol::ROOM;
 
 // One message: nothing, where the writer refuses it for a field out of its range.
 fn send(out: &mut [u8], len: usize, m: Message) -> usize

@@ -49,7 +49,7 @@ use Rattle.text_protocol.specs.Calls.{Deed, unsignedOf, floatOf, noticeCall, in
 use Rattle.text_protocol.specs.Calls.{deedOf}
 use Rattle.text_protocol.specs.Answers.{callText, figuresAnswered}
 use Rattle.text_protocol.specs.Reasons.{whyText}
-use Rattle.text_evening.specs.Broadcast.{messagesOf, allSent, broadcastOf}
+use Rattle.paper_messages.specs.Broadcast.{messagesOf, allSent, broadcastOf}
 use Rattle.text_evening.specs.Evening.{keptBy, answerTo, reasonTo, callTold, worded, textOf}
 use Rattle.text_answer.specs.Kinds.{figuresOfKind, textOfKind}
 use Rattle.text_broadcast.specs.Kinds.{messagesOfKind, broadcastOfKind}

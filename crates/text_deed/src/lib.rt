@@ -3,24 +3,25 @@
 // a way of telling more is a case more of `asks_why` and of `say`.
 ghost use mathlib.Core.Path.{_≡_};
 ghost use Prim.Native.Nat.{_+_, _≤_};
-ghost use Rattle.text_protocol.specs.Bytes.{room};
+ghost use Rattle.text_bytes.specs.Bytes.{room};
 ghost use Rattle.text_protocol.specs.Answers.{answerMost};
 ghost use Rattle.text_out.specs.Wrote.{Wrote};
 ghost use Rattle.text_deed.specs.Deeds.{asksWhy, plainText, lineText, AsksFor};
 use paper::InterestAnswer;
 use paper::Verdict;
 use paper_bonds::BondAnswer;
+use text_answer::interest::say_interest;
 use text_answer::say_answer;
 use text_answer::say_bad;
 use text_bond::bond_of;
 use text_bond::say_bond;
 use text_broadcast::say_messages;
+use text_bytes::ROOM;
 use text_call::Request;
 use text_call::figures;
 use text_call::interest_of;
 use text_call::request_of;
 use text_evening::Telling;
-use text_interest::say_interest;
 use text_kept::kept_after;
 use text_line::Line;
 use text_protocol::BOND_COUNT;
@@ -28,7 +29,6 @@ use text_protocol::INTEREST_COUNT;
 use text_protocol::Kept;
 use text_protocol::Kind;
 use text_protocol::Performed;
-use text_protocol::ROOM;
 use text_why::say_why;
 
 // What the calls beside the table answer to a line, the interest side's and a bond's: only the one that the line asks

@@ -11,16 +11,17 @@ use lib.ListN.{length}
 use Rattle.paper.specs.Lists.{pick}
 use Rattle.text_protocol.specs.declared.Pairs.{Pairs}
 use Rattle.text_evening.specs.declared.Telling.{Telling}
-use Rattle.text_protocol.specs.Bytes.{words}
+use Rattle.text_bytes.specs.Bytes.{words}
 use Rattle.text_protocol.specs.Names.{kindOf, takes}
 use Rattle.text_protocol.specs.Line.{Said, Nothing, NoCall, Call, Reading, read, spoilt, noPairs, itemOf, taking}
 use Rattle.text_protocol.specs.Line.{onWith, finished, fill, called, longest, meaning}
-use Rattle.text_protocol.specs.Written.{Blanks, Says}
+use Rattle.text_protocol.specs.Written.{Says}
+use Rattle.text_bytes.specs.Spells.{Blanks}
 use Rattle.text_protocol.specs.Calls.{deedOf}
 use Rattle.text_protocol.specs.Answers.{badText}
 use Rattle.text_evening.specs.Evening.{Evening, tableAfter, keptBy, worded, textOf, after, answer, passedOver}
-use Rattle.text_protocol.proofs.Words.{Split, last, word, SplitOf, split, split-words, words-none}
-use Rattle.text_protocol.proofs.Spelling.{impossible}
+use Rattle.text_bytes.proofs.Words.{Split, last, word, SplitOf, split, split-words, words-none}
+use Rattle.text_bytes.proofs.Spelling.{impossible}
 use Rattle.text_protocol.proofs.Reading.{short-line-is-called, reads-says}
 
 -- ---- a line says nothing where it is blanks, and there alone

@@ -17,7 +17,7 @@ use Rattle.text_protocol.specs.Line.{meaning}
 use Rattle.text_protocol.specs.Calls.{Deed, nothing, noCall, call, interest, bond, deedOf}
 use Rattle.text_protocol.specs.Answers.{badText, callText, interestText, bondText}
 use Rattle.text_protocol.specs.Reasons.{whyText}
-use Rattle.text_evening.specs.Broadcast.{broadcastOf}
+use Rattle.paper_messages.specs.Broadcast.{broadcastOf}
 
 -- the number of the line that comes next, what is kept of the interest lines, and the table
 pub record Evening : Type 0 where

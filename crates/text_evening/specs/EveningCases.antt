@@ -18,7 +18,7 @@ use Rattle.paper_bonds.specs.BondCases.{answered as bondAnswered}
 use Rattle.paper_reasons.specs.Faults.{isSame, faultsOf, faultOf}
 use Rattle.paper_reasons.specs.Why.{whyOf, whyOn}
 use Rattle.paper_messages.specs.PinnedMessages.{staticsBytes}
-use Rattle.text_protocol.specs.LineCases.{bytes}
+use Rattle.text_bytes.specs.Bytes.{bytes}
 use Rattle.text_protocol.specs.Kept.{noPair, keptAfter}
 use Rattle.text_protocol.specs.CallCases.{deedBy}
 use Rattle.text_protocol.specs.Answers.{interestText, interestNumbers, maturitiesNumbers, maturityNumbers, bondText}
@@ -26,13 +26,13 @@ use Rattle.text_protocol.specs.AnswerCases.{callTexts}
 use Rattle.text_protocol.specs.Reasons.{faultWords, spelled, wordsText, whyText}
 use Rattle.text_evening.specs.declared.Telling.{Telling}
 use Rattle.text_evening.specs.declared.Telling.the-variants.{Answers, Reasons, Messages}
-use Rattle.text_evening.specs.BroadcastCases.{admission, bytesSent}
+use Rattle.paper_messages.specs.PinnedBroadcast.{admission, bytesSent}
 use Rattle.text_evening.specs.Evening.{tableAfter, keptBy, reasonTo, callTold, worded, textOf, lastNumber}
 use Rattle.text_evening.specs.Evening.{numberAfter, after, answer, startEvening, afterAll, answers}
 
 -- ---- an evening
 
--- no call; the admission of BroadcastCases; a blank line; an evaluation of an id that was not admitted; an interest
+-- no call; the admission of PinnedBroadcast; a blank line; an evaluation of an id that was not admitted; an interest
 -- line and a bond line; no call
 unfoldable pub lines : List (List ℕ)
 lines =

@@ -3,8 +3,8 @@
 // written or that a write failed must hold the evidence. What these two calls did no contract can say: `fill` and `hand`
 // are what a reader has to see for himself.
 ghost use mathlib.Core.Path.{_≡_};
-ghost use Prim.Native.Nat.{_≤_};
-ghost use lib.ListN.{length};
+ghost use Prim.Native.Nat.{_-_, _≤_};
+ghost use lib.ListN.{length, take, drop};
 ghost use Rattle.text_evidence.specs.Evidence.{Counted, unread, unwritten, hasEnded, hasFailed, isWell};
 ghost use Rattle.text_evidence.specs.Evidence.{tookAll, Fills, Hands};
 use libc::STDIN_FILENO;
@@ -78,6 +78,21 @@ fn counted(all: u64, more: u64) -> u64
         return all + more;
     }
     u64::MAX
+}
+
+// The bytes from `from` to `to` of a buffer, moved to the front, so that a read finds room behind them.
+pub fn shift(buf: &mut [u8], from: usize, to: usize) -> usize
+    requires { ⌜ (from ≤ to) × (to ≤ length (now buf)) ⌝ }
+    ensures { λ r. ⌜ (r ≡ to - from) × (take (to - from) (now (buf .exit)) ≡ take (to - from) (drop from (now (buf
+        .entry)))) × (length (now (buf .exit)) ≡ length (now (buf .entry))) ⌝ }
+{
+    let n = to - from;
+    let mut i = 0;
+    while i < n {
+        buf[i] = buf[from + i];
+        i += 1;
+    }
+    n
 }
 
 // One read from standard input, behind the first `have` bytes of the buffer. A read that fails delivers nothing.

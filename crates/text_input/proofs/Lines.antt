@@ -11,7 +11,7 @@ use lib.ListN.{length, take, drop, getD, length-append, length-drop}
 use lib.Seq.{split-at, take-take, drop-drop, length-take-le}
 use borrow.Author.Tests.{eqb-true, eqb-false}
 use Rattle.paper.specs.Lists.{pick}
-use Rattle.text_protocol.specs.Bytes.{lineFeed, isNot, run, room}
+use Rattle.text_bytes.specs.Bytes.{lineFeed, isNot, run, room}
 use Rattle.text_protocol.specs.Line.{meaning, keptMost, longest}
 use Rattle.text_evidence.specs.declared.Delivered.{Delivered}
 use Rattle.text_evidence.specs.Evidence.{countMost, counted, hasEnded, Counted, counted-none, counted-on}
@@ -23,7 +23,8 @@ use Rattle.text_input.specs.declared.Passed.{Passed}
 use Rattle.text_input.specs.declared.Heard.{Heard}
 use Rattle.text_input.specs.Input.{lineLength, Unbroken, unread, Stands, Over, Ends, Next, Passes, Readied, LongPassed}
 use Rattle.paper.proofs.Logic.{not-true-and-false}
-use Rattle.text_input.proofs.Turns.{unbroken-both, drop-take, line-le}
+use Rattle.text_input.proofs.Turns.{unbroken-both, line-le}
+use Rattle.text_evidence.proofs.Shifting.{drop-take-of}
 
 -- ---- the first line feed of a text
 
@@ -74,7 +75,7 @@ empty-end b n read = let e : n - n ≡ zero = omega arith in rw e (omega arith)
 pub unread-behind : (b : List ℕ) (r : Input) (at len : ℕ) → r .at ≡ at → r .len ≡ len → drop at (take len b) ≡ unread b
     r
 unfolding unread
-unread-behind b r at len e f = drop-take at len b ∙ rw (e, f)
+unread-behind b r at len e f = drop-take-of at len b ∙ rw (e, f)
 
 -- ---- a line that is whole in the buffer
 
@@ -98,7 +99,7 @@ module _ (b : List ℕ) (i : Input) (p : Stands b i) where
     rest =
         let m : i .len - i .at - suc (i .end - i .at) ≡ i .len - (i .end + 1) = omega (arith, p .low) in
         let n : i .at + suc (i .end - i .at) ≡ i .end + 1 = omega (arith, p .low) in
-        drop-take (suc (i .end - i .at)) (i .len - i .at) (drop (i .at) b)
+        drop-take-of (suc (i .end - i .at)) (i .len - i .at) (drop (i .at) b)
         ∙ rw (m, drop-drop (suc (i .end - i .at)) (i .at) b, n, at, len)
 
     pub next-whole : Next b i b r (take (i .end - i .at) (drop (i .at) b))

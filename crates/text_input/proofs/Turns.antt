@@ -8,56 +8,17 @@ use native.Mathlib.Omega.{arith}
 use native.Mathlib.Nat.{pos-of-ne-zero}
 use native.Mathlib.Numerals.{lt-of-le-of-ne}
 use borrow.Author.Tests.{lt-ltb}
-use lib.ListN.{length, take, drop, getD, set, length-set, length-append, length-take, length-drop}
-use lib.Seq.{take-suc-set, take-suc, getD-set-other, getD-drop, take-add, drop-drop, take-nil, take-take}
-use lib.Seq.{length-take-le, take-append-le}
+use lib.ListN.{length, take, drop, length-append, length-take, length-drop}
+use lib.Seq.{take-add, drop-drop, take-take, length-take-le, take-append-le}
 use Rattle.paper.specs.Lists.{pick}
-use Rattle.text_protocol.specs.Bytes.{lineFeed, isNot, run, room}
+use Rattle.text_bytes.specs.Bytes.{lineFeed, isNot, run, room}
 use Rattle.text_evidence.specs.declared.Delivered.{Delivered}
+use Rattle.text_evidence.proofs.Shifting.{drop-take-of}
 use Rattle.text_evidence.specs.Evidence.{countMost, counted, hasEnded, Counted, counted-none, Fills}
 use Rattle.text_input.specs.declared.Input.{Input}
 use Rattle.text_input.specs.declared.Waited.{Waited}
 use Rattle.text_input.specs.declared.Passed.{Passed}
 use Rattle.text_input.specs.Input.{lineLength, Unbroken, unread, Stands, Waits, Passes, Readied, Over}
-
--- the loop of `shift`: the first i bytes are moved, and those from i on are as they were
-pub record Shifted (b₀ : List ℕ) (from n : ℕ) (b : List ℕ) (i : ℕ) : Type 0 where
-  pub in-n : i ≤ n
-  pub long : length b ≡ length b₀
-  pub front : take i b ≡ take i (drop from b₀)
-  pub back : (k : ℕ) → i ≤ k → getD b k 0 ≡ getD b₀ k 0
-
-pub shifted-none : (b : List ℕ) (from n : ℕ) → Shifted b from n b 0
-shifted-none b from n = record { in-n = omega arith; long = refl; front = refl; back = λ k h. refl }
-
-pub shifted-more : (b₀ : List ℕ) (from n : ℕ) (b : List ℕ) (i : ℕ) → Shifted b₀ from n b i → i < n → from + n ≤ length
-    b₀ → Shifted b₀ from n (set b i (getD b (from + i) 0)) (i + 1)
-shifted-more b₀ from n b i p h r =
-    let f : i + 1 ≡ suc i = omega arith in
-    let j : i < length b = omega (arith, p .long) in
-    let d : i < length (drop from b₀) = rw (length-drop from b₀) (omega arith) in
-    let e : getD b (from + i) 0 ≡ getD b₀ (from + i) 0 = p .back (from + i) (omega arith) in
-    record {
-      in-n = omega arith;
-      long = length-set b i (getD b (from + i) 0) ∙ p .long;
-      front = rw (
-        f,
-        take-suc-set b i (getD b (from + i) 0) j,
-        take-suc (drop from b₀) i 0 d,
-        p .front,
-        getD-drop from
-            b₀ i 0,
-        e,
-      );
-      back = λ k o. getD-set-other b i k (getD b (from + i) 0) 0 (apart i k o) ∙ p .back k (omega arith);
-    }
-  where
-    apart : (i k : ℕ) → i + 1 ≤ k → k ≡ i → ⊥
-    apart i k o e = omega arith
-
-pub shifted-all : (b₀ : List ℕ) (from n : ℕ) (b : List ℕ) (i : ℕ) → Shifted b₀ from n b i → n ≤ i → take n b ≡ take n
-    (drop from b₀)
-shifted-all b₀ from n b i p h = let e : n ≡ i = omega (arith, p .in-n) in rw e (p .front)
 
 -- ---- the loop of `wait`
 
@@ -307,22 +268,14 @@ module _ {was : Delivered} {b : List ℕ} {turns : ℕ} {read : Delivered} (p : 
 
 -- ---- from a place on
 
-pub drop-take-of : {A : Type 0} (f n : ℕ) (b : List A) → drop f (take n b) ≡ take (n - f) (drop f b)
-drop-take-of zero n b = let e : n - 0 ≡ n = omega arith in rw e
-drop-take-of (suc f) zero b = let e : 0 - suc f ≡ 0 = omega arith in rw e
-drop-take-of (suc f) (suc n) [] = sym (take-nil (suc n - suc f))
-drop-take-of (suc f) (suc n) (x ∷ b) = let e : suc n - suc f ≡ n - f = omega arith in rw e (drop-take-of f n b)
-
-pub drop-take : (f n : ℕ) (b : List ℕ) → drop f (take n b) ≡ take (n - f) (drop f b)
-drop-take f n b = drop-take-of f n b
-
 pub stands-from : (b : List ℕ) (at len end left : ℕ) (read : Delivered) → at ≤ len → len ≤ room → length b ≡ room
     → end ≡ at + run (isNot lineFeed) (drop at (take len b)) → end ≤ length (take len b)
     → Stands b (record { at = at; end = end; len = len; left = left; read = read })
 unfolding lineLength unread
 stands-from b at len end left read h k l is m =
     let o : length (take len b) ≡ len = length-take-le len b (omega (arith, l)) in
-    record { low = omega (arith, is); high = omega (arith, o); in-b = k; long = l; is = is ∙ rw (drop-take at len b) }
+    let same : drop at (take len b) ≡ take (len - at) (drop at b) = drop-take-of at len b in
+    record { low = omega (arith, is); high = omega (arith, o); in-b = k; long = l; is = is ∙ rw same }
 
 -- what stands at the front of the buffer
 pub unread-front : (b : List ℕ) (end len left : ℕ) (read : Delivered)

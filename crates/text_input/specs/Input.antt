@@ -6,7 +6,7 @@ use mathlib.Core.List.{List, [], _∷_, _++_}
 use Prim.Native.Nat.{ℕ, _+_, _-_, _≤_, _<_}
 use lib.IntN.{ℤ}
 use lib.ListN.{length, take, drop}
-use Rattle.text_protocol.specs.Bytes.{room, lineFeed, isNot, run}
+use Rattle.text_bytes.specs.Bytes.{room, lineFeed, isNot, run}
 use Rattle.text_protocol.specs.Line.{meaning}
 use Rattle.text_line.specs.Heard.{Heard as Said}
 use Rattle.text_evidence.specs.declared.Delivered.{Delivered}

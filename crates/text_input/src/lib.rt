@@ -4,10 +4,11 @@ ghost use mathlib.Core.List.{List};
 ghost use Prim.Native.Nat.{ℕ, _+_, _-_, _≤_};
 ghost use lib.ListN.{length, take, drop};
 ghost use Rattle.text_input.specs.Input.{Stands, Waits, Unbroken, Passes, Readied, LongPassed, Hears};
-ghost use Rattle.text_protocol.specs.Bytes.{room};
+ghost use Rattle.text_bytes.specs.Bytes.{room};
 ghost use Rattle.text_protocol.specs.Line.{keptMost};
 use text_evidence::Delivered;
 use text_evidence::fill;
+use text_evidence::shift;
 use text_line::LONGEST;
 use text_line::Line;
 use text_line::bad;
@@ -38,21 +39,6 @@ pub struct Passed {
     pub len: usize,
     pub ended: bool,
     pub read: Delivered,
-}
-
-// The bytes from `from` to `to`, moved to the front.
-pub fn shift(buf: &mut [u8], from: usize, to: usize) -> usize
-    requires { ⌜ (from ≤ to) × (to ≤ length (now buf)) ⌝ }
-    ensures { λ r. ⌜ (r ≡ to - from) × (take (to - from) (now (buf .exit)) ≡ take (to - from) (drop from (now (buf
-        .entry)))) × (length (now (buf .exit)) ≡ length (now (buf .entry))) ⌝ }
-{
-    let n = to - from;
-    let mut i = 0;
-    while i < n {
-        buf[i] = buf[from + i];
-        i += 1;
-    }
-    n
 }
 
 // Reads until a line feed stands behind the first `have` bytes, which have none, or the buffer is full, or the input

@@ -14,7 +14,7 @@ use Rattle.paper.specs.Lists.{pick}
 use Rattle.text_protocol.specs.declared.Item.{Item}
 use Rattle.text_protocol.specs.declared.Item.the-variants as item
 use Rattle.text_protocol.specs.declared.Pairs.{Pairs}
-use Rattle.text_protocol.specs.Bytes.{isBlank, run, words}
+use Rattle.text_bytes.specs.Bytes.{isBlank, run, words}
 use Rattle.text_protocol.specs.Names.{kindOf, takes}
 use Rattle.text_protocol.specs.Line.{Said, Nothing, NoCall, Call, noPairs, pairFits, withPair, more, Reading, read}
 use Rattle.text_protocol.specs.Line.{spoilt, taking, onWith, finished, itemOf, fill, called, meaning, keptMost, longest}

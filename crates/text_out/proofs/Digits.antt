@@ -7,10 +7,10 @@ use native.Mathlib.Nat.{pow-suc, pow-le-pow-right, mod-eq-of-lt, div-lt-iff-lt-m
 use native.Mathlib.Omega.{arith}
 use lib.ListN.{length, length-append}
 use borrow.Author.Tests.{lt-ltb, le-ltb}
-use Rattle.text_protocol.specs.Numbers.{spelt, decimal}
-use Rattle.text_protocol.proofs.Decimals.{tenth-is-less}
+use Rattle.text_bytes.specs.Numbers.{spelt, decimal}
+use Rattle.text_bytes.proofs.Decimals.{tenth-is-less}
 use Rattle.text_out.specs.Places.{last, Places}
-use Rattle.text_protocol.specs.Bytes.{digitZero}
+use Rattle.text_bytes.specs.Bytes.{digitZero}
 
 pub last-length : (k n : ℕ) → length (last k n) ≡ k
 unfolding last

@@ -2,3 +2,4 @@
 mod Digits
 mod Sign
 mod Turns
+mod Lists

@@ -2,7 +2,7 @@
 -- digits alone. `put_signed` cites the two laws at the end. Assumes nothing.
 use mathlib.Core.Path.{_≡_, refl, ap, _∙_}
 use mathlib.Core.List.{List, [], _∷_, _++_}
-use Rattle.text_protocol.specs.Numbers.{decimal, signed}
+use Rattle.text_bytes.specs.Numbers.{decimal, signed}
 use Rattle.text_out.specs.Wrote.{Wrote, then}
 use mathlib.Core.Bool.{true, false}
 use Prim.Native.Nat.{ℕ, suc, _+_, _-_, _*_}
@@ -11,7 +11,7 @@ use native.Mathlib.Omega.{arith}
 use lib.IntN.{ℤ, pos, negsuc}
 use lib.Signed.{mag, ltZ}
 use Rattle.exact.specs.SignedLaws.{natural-not-below-zero, negative-below-zero}
-use Rattle.text_protocol.specs.Bytes.{minusSign}
+use Rattle.text_bytes.specs.Bytes.{minusSign}
 use Rattle.text_out.specs.Places.{numberBytes, signedBytes}
 
 -- ---- the text of a signed number, by the test

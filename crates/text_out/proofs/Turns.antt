@@ -6,11 +6,11 @@ use native.Mathlib.Omega.{arith}
 use lib.ListN.{length, set}
 use lib.Seq.{sets, set-comm}
 use Rattle.exact.specs.StoreLaws.{sets-of-both}
-use Rattle.text_protocol.specs.Numbers.{decimal}
+use Rattle.text_bytes.specs.Numbers.{decimal}
 use Rattle.text_out.specs.Places.{last, Places, numberBytes}
 use Rattle.text_out.specs.Wrote.{Wrote}
 use Rattle.text_out.proofs.Digits.{last-length, decimal-last}
-use Rattle.text_protocol.specs.Bytes.{digitZero}
+use Rattle.text_bytes.specs.Bytes.{digitZero}
 
 -- a store behind a run of stores may come first
 sets-after : (s b : List ℕ) (at i d : ℕ) → at + length s ≤ i → sets (set b i d) at s ≡ set (sets b at s) i d

@@ -1,7 +1,7 @@
 -- What the code counts with where it spells a number: its last digits, and how many digits it has. Assumes nothing.
 use mathlib.Core.List.{List, [], _∷_, _++_}
 use Prim.Native.Nat.{ℕ, zero, suc, _+_, _-_, _/_, _%_, _^_, _≤_, _<_}
-use Rattle.text_protocol.specs.Bytes.{digitZero}
+use Rattle.text_bytes.specs.Bytes.{digitZero}
 
 -- the bytes at most of a number of 64 bits, and of a signed one, which may have a minus
 abbrev pub numberBytes : ℕ

@@ -1,15 +1,20 @@
-// Text appended to a lent buffer: a byte, a number, a signed number. Nothing is copied: each function stores its bytes
-// in place and answers where they end.
+// Text appended to a lent buffer: a byte, a number, a signed number; the bytes of a word, and numbers with a blank
+// before each. Nothing is copied: each function stores its bytes in place and answers where they end.
 ghost use mathlib.Core.Path.{_≡_};
 ghost use mathlib.Core.List.{[], _∷_, _++_};
 ghost use Prim.Native.Nat.{_+_, _-_, _≤_, _<_, _^_};
-ghost use Rattle.text_protocol.specs.Numbers.{decimal, signed};
-ghost use Rattle.text_out.specs.Places.{Places, numberBytes, signedBytes};
+ghost use lib.IntN.{pos};
+ghost use lib.ListN.{length};
+ghost use Rattle.paper.specs.Numbers.{allNumbersMost};
+ghost use Rattle.text_bytes.specs.Numbers.{decimal, signed};
+ghost use Rattle.text_out.specs.Places.{Places, numberBytes, signedBytes, nextBytes, nextSignedBytes};
+ghost use Rattle.text_out.specs.Sizes.{wordBytes, rowsBytes};
+ghost use Rattle.text_out.specs.Told.{Told};
 ghost use Rattle.text_out.specs.Wrote.{Wrote};
-ghost use Rattle.text_protocol.specs.Bytes.{room};
+ghost use Rattle.text_bytes.specs.Bytes.{room};
 use exact::magnitude;
-use text_protocol::DIGIT_ZERO;
-use text_protocol::ROOM;
+use text_bytes::DIGIT_ZERO;
+use text_bytes::ROOM;
 
 // How many decimal digits x has.
 fn places(x: u64) -> usize
@@ -111,4 +116,50 @@ pub fn put_signed(out: &mut [u8; ROOM], len: usize, x: i64) -> usize
         return put_number(out, n, magnitude(x) + 1);
     }
     put_number(out, len, magnitude(x))
+}
+
+// The bytes of a word. None has more than eleven.
+pub fn put_bytes(out: &mut [u8; ROOM], len: usize, word: &[u8]) -> usize
+    requires { ⌜ (len + wordBytes ≤ room) × (length (now word) ≤ wordBytes) ⌝ }
+    ensures { λ r. ⌜ Wrote (now (out .entry)) len (now (out .exit)) r (now (word .entry)) wordBytes ⌝ }
+{
+    let mut n = len;
+    let mut i = 0;
+    while i < word.len() {
+        n = put_byte(out, n, word[i]);
+        i += 1;
+    }
+    n
+}
+
+// A blank, and a number.
+pub fn put_next(out: &mut [u8; ROOM], len: usize, x: u64) -> usize
+    requires { ⌜ len + nextBytes ≤ room ⌝ }
+    ensures { λ r. ⌜ Told (now (out .entry)) len (now (out .exit)) r (pos x ∷ []) nextBytes ⌝ }
+{
+    let n = put_byte(out, len, b' ');
+    put_number(out, n, x)
+}
+
+// A blank, and a signed number.
+pub fn put_next_signed(out: &mut [u8; ROOM], len: usize, x: i64) -> usize
+    requires { ⌜ len + nextSignedBytes ≤ room ⌝ }
+    ensures { λ r. ⌜ Told (now (out .entry)) len (now (out .exit)) r (x ∷ []) nextSignedBytes ⌝ }
+{
+    let n = put_byte(out, len, b' ');
+    put_signed(out, n, x)
+}
+
+// Numbers, a blank before each. No line has more than a hundred and twelve of them together.
+pub fn put_numbers(out: &mut [u8; ROOM], len: usize, zs: &[i64]) -> usize
+    requires { ⌜ (len + rowsBytes ≤ room) × (length (now zs) ≤ allNumbersMost) ⌝ }
+    ensures { λ r. ⌜ Told (now (out .entry)) len (now (out .exit)) r (now (zs .entry)) rowsBytes ⌝ }
+{
+    let mut n = len;
+    let mut i = 0;
+    while i < zs.len() {
+        n = put_next_signed(out, n, zs[i]);
+        i += 1;
+    }
+    n
 }

@@ -10,25 +10,25 @@ use lib.ListN.{length, take, drop, length-append}
 use lib.Seq.{take-append-seam}
 use borrow.Author.Tests.{le-leb, leb-true, ne-eqb, eqb-true, lt-ltb, le-ltb, ltb-true}
 use Rattle.paper.specs.Lists.{pick}
-use Rattle.text_protocol.specs.declared.Number.{Number}
-use Rattle.text_protocol.specs.declared.Number.the-variants as number
+use Rattle.text_bytes.specs.declared.Number.{Number}
+use Rattle.text_bytes.specs.declared.Number.the-variants as number
 use Rattle.text_protocol.specs.declared.Item.{Item}
 use Rattle.text_protocol.specs.declared.Item.the-variants as item
 use Rattle.text_protocol.specs.declared.Pairs.{Pairs}
-use Rattle.text_protocol.specs.Bytes.{isBlank, slash, digitZero, isNot, run, words, same}
-use Rattle.text_protocol.specs.Numbers.{numberOf, slashAt}
+use Rattle.text_bytes.specs.Bytes.{isBlank, slash, digitZero, isNot, run, words, same}
+use Rattle.text_bytes.specs.Numbers.{numberOf, slashAt}
 use Rattle.text_protocol.specs.Names.{kindFrom, kindOf, forms, takes, admitWord, evaluateWord, quoteWord}
 use Rattle.text_protocol.specs.Names.{moveWord, readWord, openWord, outsideWord, noticeWord, withdrawWord}
 use Rattle.text_protocol.specs.Names.{interestWord, bondWord}
 use Rattle.text_protocol.specs.Line.{NoCall, Call, oneOf, twoOf, itemOf, noPairs, pairFits, withPair, more}
 use Rattle.text_protocol.specs.Line.{finished, fill, called, longest, meaning}
-use Rattle.text_protocol.specs.Written.{Blanks, no-blank, blank, Digits, no-digit, digit, Spells, plain, minus}
+use Rattle.text_bytes.specs.Spells.{Blanks, no-blank, blank, Digits, no-digit, digit, Spells, plain, minus}
 use Rattle.text_protocol.specs.Written.{CallWord, admit, evaluate, quote, move, read, openEvening, outside}
 use Rattle.text_protocol.specs.Written.{notice, withdraw, interest, bond, Numbers, done, one, two, Says, says}
-use Rattle.text_protocol.proofs.Words.{Solid, solid, Ends, end, parted, solid-append, words-blanks, words-solid}
-use Rattle.text_protocol.proofs.Words.{words-none, high-solid, allHigh, letters-are-solid, Split, last, word}
-use Rattle.text_protocol.proofs.Words.{SplitOf, split-words, split, word-not-here}
-use Rattle.text_protocol.proofs.Spelling.{impossible, spells-reads, spells-solid, spells-some, reads-spells}
+use Rattle.text_bytes.proofs.Words.{Solid, solid, Ends, end, parted, solid-append, words-blanks, words-solid}
+use Rattle.text_bytes.proofs.Words.{words-none, high-solid, allHigh, letters-are-solid, Split, last, word}
+use Rattle.text_bytes.proofs.Words.{SplitOf, split-words, split, word-not-here}
+use Rattle.text_bytes.proofs.Spelling.{impossible, spells-reads, spells-solid, spells-some, reads-spells}
 use Rattle.text_protocol.proofs.Filling.{fill-none, fill-one, fill-two, fill-no-pair, fill-neither}
 
 -- ---- a number, or a pair with a slash

@@ -25,9 +25,9 @@ use Rattle.paper_bonds.specs.declared.BondAnswer.{BondAnswer}
 use Rattle.paper_desk.specs.Desk.{noStatics, blank, showing}
 use Rattle.paper_desk.specs.Desk.{Call, admit, evaluate, quote, move, read, openEvening, receive}
 use Rattle.paper_desk.specs.External.{notice}
-use Rattle.text_protocol.specs.Numbers.{spelt, decimal, signed}
-use Rattle.text_protocol.specs.LineCases.{bytes}
-use Rattle.text_protocol.specs.Answers.{next, spaced, answerMost, waitingMost, answerText, badText, flag}
+use Rattle.text_bytes.specs.Bytes.{bytes}
+use Rattle.text_bytes.specs.Numbers.{spelt, decimal, signed, next, spaced, answerText}
+use Rattle.text_protocol.specs.Answers.{answerMost, waitingMost, badText, flag}
 use Rattle.text_protocol.specs.Answers.{nearNumber, standingNumbers}
 use Rattle.text_protocol.specs.Answers.{figureNumbers, ratesNumbers, rangesNumbers, termNumbers, lastNumbers}
 use Rattle.text_protocol.specs.Answers.{sessionNumbers, externalNumbers, recordNumbers, figuresAnswered, callText}

@@ -1,5 +1,4 @@
--- docs/EVENING.md, "The answers": the numbers of each answer, in their order, and the bytes of an answer.
--- Assumes nothing.
+-- docs/EVENING.md, "The answers": the numbers of each answer, in their order.
 use mathlib.Core.Bool.{Bool, true, false}
 use mathlib.Core.List.{List, [], _∷_, _++_}
 use Prim.Native.Nat.{ℕ, zero, suc, _-_}
@@ -26,19 +25,10 @@ use Rattle.paper.specs.Lists.{pick}
 use Rattle.paper.specs.Ranges.{isLive, lastDay, noLimits, notNear, termAt, rateAt}
 use Rattle.paper.specs.Verdicts.{numberOf, isDone}
 use Rattle.paper_desk.specs.Desk.{Call, admit, evaluate, quote, move, read, openEvening, receive}
-use Rattle.text_protocol.specs.Bytes.{room, space, lineFeed}
-use Rattle.text_protocol.specs.Numbers.{decimal, signed}
+use Rattle.text_bytes.specs.Bytes.{room, lineFeed}
+use Rattle.text_bytes.specs.Numbers.{next, answerText}
 
--- ---- numbers as text
-
--- a blank, and the number
-unfoldable pub next : ℤ → List ℕ
-next z = space ∷ signed z
-
--- a blank before each number
-unfoldable pub spaced : List ℤ → List ℕ
-spaced [] = []
-spaced (z ∷ zs) = next z ++ spaced zs
+-- ---- how long an answer is
 
 -- no answer is longer
 abbrev pub answerMost : ℕ
@@ -47,14 +37,6 @@ answerMost = 1200
 -- where so many bytes of answers wait at most, one more has room behind them
 abbrev pub waitingMost : ℕ
 waitingMost = room - answerMost
-
--- the numbers of an answer, the verdict's first
-abbrev pub numbersOf : (verdict : ℕ) → (figures : List ℤ) → List ℤ
-numbersOf v zs = pos v ∷ zs
-
--- THE BYTES OF AN ANSWER: the number of the verdict, the figures behind it, the end of the line
-unfoldable pub answerText : (verdict : ℕ) → (figures : List ℤ) → List ℕ
-answerText v zs = decimal v ++ spaced zs ++ (lineFeed ∷ [])
 
 -- "bad" and the line's number: the answer to a line that is no call
 unfoldable pub badText : (line : ℕ) → List ℕ

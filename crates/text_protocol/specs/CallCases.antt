@@ -15,14 +15,14 @@ use Rattle.paper.specs.Terms.{workedRepo, repoOf, dayOf, termOf as dayTerm}
 use Rattle.paper_desk.specs.Desk.{admit, evaluate, quote, move, read, openEvening, receive}
 use Rattle.paper_desk.specs.External.{together, notice}
 use Rattle.text_protocol.specs.declared.Kept.{Kept}
-use Rattle.text_protocol.specs.Bytes.{isBlank, isNot, run, grow, pieces, full, words, same}
-use Rattle.text_protocol.specs.Numbers.{isDigit, sizeFrom, sizeOf, upTo, above, below, numberOf, slashAt}
+use Rattle.text_bytes.specs.Bytes.{isBlank, isNot, run, grow, pieces, full, words, same, bytes}
+use Rattle.text_bytes.specs.Numbers.{isDigit, sizeFrom, sizeOf, upTo, above, below, numberOf, slashAt}
 use Rattle.text_protocol.specs.Names.{code, admitNames, evaluateNames, quoteNames, moveNames, readNames}
 use Rattle.text_protocol.specs.Names.{openNames, outsideNames, noticeNames, withdrawNames, interestNames}
 use Rattle.text_protocol.specs.Names.{bondNames, forms, kindFrom, kindOf, countFits, takesIn, takes, placeOf, the}
 use Rattle.text_protocol.specs.Line.{oneOf, twoOf, itemOf, hasTerms, placeIn, pairFits, withPair, more, taking}
 use Rattle.text_protocol.specs.Line.{onWith, finished, fill, called, meaning}
-use Rattle.text_protocol.specs.LineCases.{bytes, naturals}
+use Rattle.text_protocol.specs.LineCases.{naturals}
 use Rattle.text_protocol.specs.Kept.{noPair, foundIn}
 use Rattle.text_protocol.specs.Calls.{Deed, call, interest, bond, givenOf, admissionOf, quoteOf, bitsOf, floatOf}
 use Rattle.text_protocol.specs.Calls.{outsideOf, noticeCall, interestOf, bandOf, termOf, askedOf, bondStaticsOf}

@@ -1,7 +1,4 @@
 -- The definitions of text_protocol, a file each.
-pub mod Bytes
-pub mod Split
-pub mod Numbers
 pub mod Names
 pub mod Line
 pub mod Written

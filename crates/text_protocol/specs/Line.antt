@@ -7,13 +7,13 @@ use lib.IntN.{ℤ}
 use lib.ListN.{length, take, drop}
 use Rattle.paper.specs.Lists.{pick}
 use Rattle.paper.specs.Numbers.{allNumbersMost}
-use Rattle.text_protocol.specs.declared.Number.{Number}
-use Rattle.text_protocol.specs.declared.Number.the-variants as number
+use Rattle.text_bytes.specs.declared.Number.{Number}
+use Rattle.text_bytes.specs.declared.Number.the-variants as number
 use Rattle.text_protocol.specs.declared.Item.{Item}
 use Rattle.text_protocol.specs.declared.Item.the-variants as item
 use Rattle.text_protocol.specs.declared.Pairs.{Pairs}
-use Rattle.text_protocol.specs.Bytes.{room, words}
-use Rattle.text_protocol.specs.Numbers.{numberOf, slashAt}
+use Rattle.text_bytes.specs.Bytes.{room, words}
+use Rattle.text_bytes.specs.Numbers.{numberOf, slashAt}
 use Rattle.text_protocol.specs.Names.{Name, evaluateKind, bondKind, evaluateNames, evaluateCount, bondNames}
 use Rattle.text_protocol.specs.Names.{placeOf, RRCL0, RRCL1, RRCL2, kindOf, takes}
 

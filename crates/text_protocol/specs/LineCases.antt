@@ -4,28 +4,19 @@ use mathlib.Core.Path.{_≡_, refl}
 use mathlib.Core.Bool.{true, false}
 use mathlib.Core.List.{List, [], _∷_, _++_, map}
 use Prim.Native.Nat.{ℕ, zero, suc}
-use Prim.Native.Char.{code}
 use Prim.Native.String.{String}
-use Prim.Native.String.{[] as noText, _∷_ as letter}
 use lib.IntN.{ℤ, pos, negsuc}
 use lib.ListN.{replicate}
-use Rattle.text_protocol.specs.Bytes.{isBlank, isLineFeed, isNot, run, grow, pieces, full, ended, words, lines}
-use Rattle.text_protocol.specs.Bytes.{same}
-use Rattle.text_protocol.specs.Numbers.{isDigit, sizeFrom, sizeOf, upTo, above, below, numberOf, slashAt}
+use Rattle.text_bytes.specs.Bytes.{isBlank, isNot, run, grow, pieces, full, words, same, bytes}
+use Rattle.text_bytes.specs.Numbers.{isDigit, sizeFrom, sizeOf, upTo, above, below, numberOf, slashAt}
 use Rattle.text_protocol.specs.Names.{admitKind, evaluateKind, quoteKind, moveKind, readKind, openKind}
 use Rattle.text_protocol.specs.Names.{outsideKind, noticeKind, withdrawKind, interestKind, bondKind, admitNames}
 use Rattle.text_protocol.specs.Names.{evaluateNames, quoteNames, moveNames, readNames, openNames, outsideNames}
 use Rattle.text_protocol.specs.Names.{noticeNames, withdrawNames, interestNames, bondNames, forms, kindFrom}
-use Rattle.text_protocol.specs.Names.{kindOf, countFits, takesIn, takes, placeOf}
-use Rattle.text_protocol.specs.Names.{code as codeOf}
+use Rattle.text_protocol.specs.Names.{kindOf, countFits, takesIn, takes, placeOf, code}
 use Rattle.text_protocol.specs.Line.{Said, Nothing, NoCall, Call, oneOf, twoOf, itemOf, noPairs, longest}
 use Rattle.text_protocol.specs.Line.{hasTerms, placeIn, pairFits, withPair, more, taking, onWith, finished, fill}
 use Rattle.text_protocol.specs.Line.{called, meaning}
-
--- the bytes of a text whose characters are one byte each
-unfoldable pub bytes : String → List ℕ
-bytes noText = []
-bytes (letter c s) = code c ∷ bytes s
 
 abbrev pub naturals : List ℕ → List ℤ
 naturals ns = map pos ns
@@ -143,16 +134,13 @@ unfoldable pub ones : ℕ → List ℕ
 ones zero = []
 ones (suc n) = bytes " 1" ++ ones n
 
--- EACH LINE MEANS WHAT STANDS BESIDE IT; of a line's numbers the first 126 are kept; a line feed ends a line, and what
--- is behind the last one is a line too, unless it is empty; a line has at most 65,535 bytes
+-- EACH LINE MEANS WHAT STANDS BESIDE IT; of a line's numbers the first 126 are kept; a line has at most 65,535 bytes
 pub meanings : (map heard lineCases ≡ map meant lineCases)
     × (meaning (bytes "evaluate" ++ ones 140) ≡ Call evaluateKind (replicate 126 (pos 1)) noPairs)
-    × (lines (bytes "move 7 0\n\nread 9") ≡ bytes "move 7 0" ∷ [] ∷ bytes "read 9" ∷ [])
-    × (lines (bytes "move 7 0\nread 9\n") ≡ bytes "move 7 0" ∷ bytes "read 9" ∷ [])
     × (longest ≡ 65535)
-unfolding lineCases heard meant bytes ones isBlank isLineFeed isNot run grow pieces full ended words lines same isDigit
+unfolding lineCases heard meant bytes ones isBlank isNot run grow pieces full words same isDigit
     sizeFrom sizeOf upTo above below numberOf slashAt admitNames evaluateNames quoteNames moveNames readNames
     openNames outsideNames noticeNames withdrawNames interestNames bondNames forms kindFrom kindOf countFits takesIn
-    takes placeOf codeOf oneOf twoOf itemOf
+    takes placeOf code oneOf twoOf itemOf
     hasTerms placeIn pairFits withPair more taking onWith finished fill called meaning
-meanings = (refl, refl, refl, refl, refl)
+meanings = (refl, refl, refl)

@@ -8,7 +8,7 @@ use lib.Dec.{leb, eqb}
 use lib.IntN.{ℤ, pos}
 use lib.ListN.{length, getD}
 use Rattle.paper.specs.Lists.{pick}
-use Rattle.text_protocol.specs.Bytes.{same}
+use Rattle.text_bytes.specs.Bytes.{same}
 
 pub data Name : Type 0 where
   ID : Name

@@ -15,8 +15,8 @@ use Rattle.paper_reasons.specs.declared.Fault.the-variants as fault
 use Rattle.paper_reasons.specs.declared.Reasons.{Reasons}
 use Rattle.paper.specs.declared.Verdict.{Verdict}
 use Rattle.paper_reasons.specs.Words.{priceWord, weightWord, replacementWord, tentativeWord, levelWord}
-use Rattle.text_protocol.specs.Numbers.{spelt, decimal}
-use Rattle.text_protocol.specs.LineCases.{bytes}
+use Rattle.text_bytes.specs.Numbers.{spelt, decimal}
+use Rattle.text_bytes.specs.Bytes.{bytes}
 use Rattle.text_protocol.specs.Reasons.{reasonWords, faultWords, spelled, wordsText, whyText}
 
 -- document 02's example, a share that is not modelled, and no reason at all

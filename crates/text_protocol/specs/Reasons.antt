@@ -10,8 +10,8 @@ use Rattle.paper_reasons.specs.declared.Fault.the-variants as fault
 use Rattle.paper_reasons.specs.declared.Reasons.{Reasons}
 use Rattle.paper_reasons.specs.declared.Why.{Why}
 use Rattle.paper_reasons.specs.Words.{noneWord, priceWord, weightWord, replacementWord, tentativeWord, levelWord}
-use Rattle.text_protocol.specs.Bytes.{space, lineFeed}
-use Rattle.text_protocol.specs.Numbers.{decimal}
+use Rattle.text_bytes.specs.Bytes.{space, lineFeed}
+use Rattle.text_bytes.specs.Numbers.{decimal}
 
 -- ---- what is named, as bytes
 

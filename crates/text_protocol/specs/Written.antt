@@ -4,43 +4,17 @@
 use mathlib.Core.Path.{_≡_}
 use mathlib.Core.Bool.{true}
 use mathlib.Core.List.{List, [], _∷_, _++_}
-use Prim.Native.Nat.{ℕ, zero, suc, _+_, _-_, _*_, _≤_, _<_}
-use lib.IntN.{ℤ, pos, negsuc}
+use Prim.Native.Nat.{ℕ, _≤_}
+use lib.IntN.{ℤ}
 use lib.ListN.{length}
 use Rattle.text_protocol.specs.declared.Pairs.{Pairs}
-use Rattle.text_protocol.specs.Bytes.{isBlank, minusSign, slash, digitZero, digitNine}
-use Rattle.text_protocol.specs.Numbers.{greatest, least}
+use Rattle.text_bytes.specs.Bytes.{isBlank, slash}
+use Rattle.text_bytes.specs.Spells.{Blanks, Spells}
 use Rattle.text_protocol.specs.Names.{admitWord, evaluateWord, quoteWord, moveWord, readWord, openWord}
 use Rattle.text_protocol.specs.Names.{outsideWord, noticeWord, withdrawWord, interestWord, bondWord, admitKind}
 use Rattle.text_protocol.specs.Names.{evaluateKind, quoteKind, moveKind, readKind, openKind, outsideKind}
 use Rattle.text_protocol.specs.Names.{noticeKind, withdrawKind, interestKind, bondKind, takes}
 use Rattle.text_protocol.specs.Line.{noPairs, pairFits, withPair, more, longest}
-
-pub data Blanks : List ℕ → Type 0 where
-  no-blank : Blanks []
-  blank : {b : ℕ} {t : List ℕ} → isBlank b ≡ true → Blanks t → Blanks (b ∷ t)
-
--- ---- a number
-
-pub data Digits : List ℕ → Type 0 where
-  no-digit : Digits []
-  digit : {b : ℕ} {t : List ℕ} → digitZero ≤ b → b ≤ digitNine → Digits t → Digits (b ∷ t)
-
--- the number that digits spell behind those of n
-unfoldable pub value : (n : ℕ) → (digits : List ℕ) → ℕ
-value n [] = n
-value n (b ∷ t) = value (10 * n + (b - digitZero)) t
-
-unfoldable pub negated : ℕ → ℤ
-negated zero = pos 0
-negated (suc n) = negsuc n
-
--- digits, any zeros in front, behind a minus or none, within 64 bits
-pub data Spells : List ℕ → ℤ → Type 0 where
-  plain : {t : List ℕ} → Digits t → 0 < length t → value 0 t ≤ greatest → Spells t (pos (value 0 t))
-  minus : {t : List ℕ} → Digits t → 0 < length t → value 0 t ≤ least → Spells (minusSign ∷ t) (negated (value 0 t))
-
--- ---- a line
 
 pub data CallWord : List ℕ → ℕ → Type 0 where
   admit : CallWord admitWord admitKind

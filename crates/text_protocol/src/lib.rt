@@ -1,18 +1,11 @@
-// The evening's text, as docs/EVENING.md gives it: what the definitions (specs/) and the code share. This crate has no
-// function: the definitions say what a line of text means and what is printed, and every other crate of the text is
-// proved equal to them.
+// The calls of the evening's text, as docs/EVENING.md gives them: what the definitions (specs/) and the code share.
+// This crate has no function: the definitions say what a line of text means and what is printed, and every other crate
+// of the evening is proved equal to them. What bytes, words and numbers are stands below, in text_bytes.
 use paper::Answer;
 use paper::Row;
 use paper::WorkedBand;
 use paper_reasons::Why;
-
-// The bytes of each buffer: of what is read, and of the answers that wait.
-pub const ROOM: usize = 65_536;
-
-// The digits, as bytes.
-pub const DIGIT_ZERO: u64 = 48;
-
-pub const DIGIT_NINE: u64 = 57;
+use text_bytes::ROOM;
 
 // The bytes of an answer at most.
 pub const ANSWER_MOST: usize = 1_200;
@@ -79,18 +72,6 @@ impl Kind {
     pub const BLANK: u64 = 12;
 
     pub const BAD: u64 = 13;
-}
-
-// What digits spell: a size, or no number.
-pub enum Size {
-    Is(u64),
-    Bad,
-}
-
-// What a word spells: a signed number of 64 bits, or none.
-pub enum Number {
-    Is(i64),
-    Bad,
 }
 
 // What a word behind the call's is: one number, a pair of terms Ym/Yn, or neither.

@@ -23,7 +23,7 @@ use denote.Steps.{only}
 use denote.Enum.Laws as EL
 use denote.Struct.Laws as LL
 use Rattle.text_protocol.specs.Line.{keptMost}
-use Rattle.text_protocol.specs.Bytes.{room as bufferRoom}
+use Rattle.text_bytes.specs.Bytes.{room as bufferRoom}
 use Rattle.text_evening.specs.declared.Telling.{Telling}
 use Rattle.text_evening.specs.declared.Telling.the-variants.{Answers, Reasons, Messages}
 use Rattle.text_evening.proofs.Telling as E

@@ -11,7 +11,7 @@ use lib.Seq.{length-take-le, length-sets}
 use Rattle.text_evening.specs.declared.Telling.{Telling}
 use Rattle.text_protocol.specs.Answers.{answerMost}
 use Rattle.paper.specs.declared.Record.{Record}
-use Rattle.text_protocol.specs.Bytes.{lineFeed, run, room as bufferRoom}
+use Rattle.text_bytes.specs.Bytes.{lineFeed, run, room as bufferRoom}
 use Rattle.text_evening.specs.Evening.{Evening, startEvening, after, afterAll, answer, answers}
 use Rattle.text_evening.proofs.OneMore.{after-one-more, told-at}
 use Rattle.text_out.specs.Wrote.{Wrote, appended}
@@ -22,7 +22,7 @@ use Rattle.text_input.specs.Input.{lineLength, Unbroken, unread, Stands, Over, 
 use Rattle.text_turn.specs.declared.State.{State}
 use Rattle.text_turn.specs.Turn.{startState}
 use Rattle.paper.specs.Lists.{pick}
-use Rattle.text_tell.specs.Tells.{halted, Goes, wait, handed}
+use Rattle.text_turn.specs.Tells.{halted, Goes, wait, handed}
 use Rattle.text_serve.specs.Serve.{eveningOf, Turns, handedOf, Run, starts, goes, Each, joined, mostLines, Cut}
 use Rattle.text_serve.specs.Serve.{Serves}
 

@@ -25,7 +25,7 @@ use denote.Triple.Statement.{Contract}
 use denote.Triple.Spec.{tripleOf}
 use denote.Triple.Walked.{says}
 use Rattle.text_protocol.specs.Answers.{answerMost}
-use Rattle.text_protocol.specs.Bytes.{room as bufferRoom}
+use Rattle.text_bytes.specs.Bytes.{room as bufferRoom}
 use Rattle.paper.specs.declared.Record.{Record}
 use Rattle.desk.proofs.Row.{R}
 use Rattle.desk.proofs.Lending.{ref, machine}

@@ -30,18 +30,18 @@ use denote.Triple.Walked.{says}
 use Rattle.desk.proofs.Frame.{Locals, holding, Within, frame}
 use Rattle.desk.proofs.Asks.{calls}
 use Rattle.text_protocol.specs.Answers.{answerMost}
-use Rattle.text_protocol.specs.Bytes.{room as bufferRoom}
+use Rattle.text_bytes.specs.Bytes.{room as bufferRoom}
 use Rattle.text_protocol.specs.declared.Performed.{Performed}
 use Rattle.text_protocol.proofs.Performed as F
 use Rattle.text_protocol.proofs.Performed.Laws as F′
 use Rattle.text_turn.specs.declared.State.{State}
 use Rattle.text_turn.specs.declared.Prepared.{Prepared}
-use Rattle.text_tell.specs.Tells.{Tells}
+use Rattle.text_turn.specs.Tells.{Tells}
 use Rattle.text_turn.proofs.State as G
 use Rattle.text_turn.proofs.Prepared as P
 use Rattle.text_turn.proofs.Prepared.Laws as P′
-use Rattle.text_tell.proofs.tell as tell
-use Rattle.text_tell.proofs.tell.Symbol as tell-def
+use Rattle.text_turn.proofs.after.tell as tell
+use Rattle.text_turn.proofs.after.tell.Symbol as tell-def
 use Rattle.text_serve.proofs.Arrays.{Bytes, to, Lent, state-ty, heard-val, IsHeard, typed-state}
 
 module _ {M : Type 1} (𝓤 : URA M) (H : Heap 𝓤) (A : Atoms 𝓤) (mem′ : Memory → SProp 𝓤) (run : Routine → Fun 𝓤) where

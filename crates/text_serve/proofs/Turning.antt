@@ -13,7 +13,7 @@ use Rattle.paper_desk.specs.Desk.{Call, read, step}
 use Rattle.paper_reasons.specs.Why.{whyOn}
 use Rattle.desk.specs.Promises.{Promised}
 use Rattle.desk.proofs.Steps.{read-leaves}
-use Rattle.text_protocol.specs.Bytes.{lineFeed}
+use Rattle.text_bytes.specs.Bytes.{lineFeed}
 use Rattle.text_protocol.specs.declared.Performed.{Performed}
 use Rattle.text_protocol.specs.Line.{meaning}
 use Rattle.text_protocol.specs.Calls.{Deed, nothing, noCall, call, interest, bond, deedOf}
@@ -27,7 +27,7 @@ use Rattle.text_turn.specs.declared.Prepared.{Prepared}
 use Rattle.text_deed.specs.Deeds.{callIn, lineText, Said}
 use Rattle.text_turn.specs.Turn.{Prepares}
 use Rattle.text_evidence.specs.declared.Written.{Written}
-use Rattle.text_tell.specs.Tells.{Goes, Tells}
+use Rattle.text_turn.specs.Tells.{Goes, Tells}
 use Rattle.text_ask.specs.Asked.{Asks}
 use Rattle.text_serve.specs.Serve.{eveningOf, Turns}
 use Rattle.text_protocol.specs.Names.{evaluateCount}

@@ -11,7 +11,7 @@ use lib.Dec.{eqb}
 use lib.ListN.{length}
 use Rattle.paper.specs.Lists.{pick}
 use Rattle.text_evening.specs.declared.Telling.{Telling}
-use Rattle.text_protocol.specs.Bytes.{lineFeed, isLineFeed, isNot, run, grow, pieces, full, words, ended, lines}
+use Rattle.text_bytes.specs.Bytes.{lineFeed, isLineFeed, isNot, run, grow, pieces, full, words, ended, lines}
 use Rattle.text_protocol.specs.Line.{meaning, called}
 use Rattle.text_protocol.specs.Calls.{deedOf}
 use Rattle.text_evening.specs.Evening.{Evening, startEvening, tableAfter, textOf, after, answer, afterAll, answers}

@@ -7,7 +7,7 @@ use Prim.Native.Nat.{ℕ, _+_, _≤_, _<_}
 use lib.ListN.{length, take}
 use Rattle.paper.specs.declared.Record.{Record}
 use Rattle.text_evening.specs.declared.Telling.{Telling}
-use Rattle.text_protocol.specs.Bytes.{lineFeed, room}
+use Rattle.text_bytes.specs.Bytes.{lineFeed, room}
 use Rattle.text_evening.specs.Evening.{Evening, startEvening, after, answer, afterAll, answers, lastNumber}
 use Rattle.text_out.specs.Wrote.{Wrote}
 use Rattle.text_input.specs.declared.Input.{Input}
@@ -17,7 +17,7 @@ use Rattle.text_evidence.specs.Evidence.{tookAll, Counted}
 use Rattle.text_input.specs.Input.{Unbroken, Over, Next}
 use Rattle.text_turn.specs.declared.State.{State}
 use Rattle.text_turn.specs.Turn.{startState}
-use Rattle.text_tell.specs.Tells.{Goes, wait, handed}
+use Rattle.text_turn.specs.Tells.{Goes, wait, handed}
 use Rattle.text_protocol.specs.Answers.{answerMost}
 
 -- the evening that a state and a table are

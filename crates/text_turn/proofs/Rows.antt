@@ -10,7 +10,7 @@ use lib.IntN.{ℤ}
 use lib.ListN.{length, take, drop, drop-of-length-le}
 use lib.Seq.{take-all, length-take-le}
 use borrow.Author.Tests.{leb-true, leb-false}
-use Rattle.text_input.proofs.Turns.{drop-take-of}
+use Rattle.text_evidence.proofs.Shifting.{drop-take-of}
 use Rattle.text_protocol.specs.Names.{evaluateCount}
 
 cut : (xs : List ℤ) (n : ℕ) → take (min n (length xs)) xs ≡ take n xs

@@ -7,13 +7,13 @@ use native.Mathlib.Omega.{arith}
 use borrow.Author.Tests.{eq-eqb, ne-eqb}
 use Rattle.paper.specs.Verdicts.{numberOf, isDone}
 use Rattle.paper_reasons.specs.declared.Why.{Why}
-use Rattle.text_protocol.specs.Bytes.{space, lineFeed}
-use Rattle.text_protocol.specs.Numbers.{decimal}
+use Rattle.text_bytes.specs.Bytes.{space, lineFeed}
+use Rattle.text_bytes.specs.Numbers.{decimal}
 use Rattle.text_protocol.specs.Answers.{answerMost}
 use Rattle.text_protocol.specs.Reasons.{reasonWords, faultWords, spelled, wordsText, whyText}
 use Rattle.text_out.specs.Places.{numberBytes}
 use Rattle.text_out.specs.Wrote.{Wrote, then, wider}
-use Rattle.text_put.specs.Sizes.{nextWordBytes}
+use Rattle.text_out.specs.Sizes.{nextWordBytes}
 use Rattle.text_why.specs.Sizes.{faultBytes, reasonsBytes}
 
 -- ---- the word of a reason, of any of the five kinds: an arm appends the word of the variant v that it knows x to be

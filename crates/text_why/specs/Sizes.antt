@@ -1,7 +1,7 @@
 -- How many bytes the parts of the answer that says why may take. Assumes nothing.
 use Prim.Native.Nat.{ℕ, _+_, _*_}
 use Rattle.text_out.specs.Places.{nextBytes}
-use Rattle.text_put.specs.Sizes.{nextWordBytes}
+use Rattle.text_out.specs.Sizes.{nextWordBytes}
 
 -- what is at fault: a word and a number
 abbrev pub faultBytes : ℕ

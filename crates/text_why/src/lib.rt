@@ -5,12 +5,12 @@ ghost use mathlib.Core.List.{[], _∷_};
 ghost use Prim.Native.Nat.{_+_, _≤_};
 ghost use lib.ListN.{length};
 ghost use Rattle.paper_reasons.specs.Words.{priceWord, weightWord, replacementWord, tentativeWord, levelWord};
-ghost use Rattle.text_protocol.specs.Bytes.{room, space};
-ghost use Rattle.text_protocol.specs.Numbers.{decimal};
+ghost use Rattle.text_bytes.specs.Bytes.{room, space};
+ghost use Rattle.text_bytes.specs.Numbers.{decimal};
 ghost use Rattle.text_protocol.specs.Answers.{answerMost};
 ghost use Rattle.text_protocol.specs.Reasons.{levelName, reasonWords, faultWords, spelled, whyText};
 ghost use Rattle.text_out.specs.Wrote.{Wrote};
-ghost use Rattle.text_put.specs.Sizes.{wordBytes, nextWordBytes};
+ghost use Rattle.text_out.specs.Sizes.{wordBytes, nextWordBytes};
 ghost use Rattle.text_why.specs.Sizes.{faultBytes, levelsBytes, reasonsBytes};
 use paper_reasons::Fault;
 use paper_reasons::LevelReason;
@@ -20,11 +20,11 @@ use paper_reasons::ReplacementReason;
 use paper_reasons::TentativeReason;
 use paper_reasons::WeightReason;
 use paper_reasons::Why;
+use text_bytes::ROOM;
 use text_out::put_byte;
+use text_out::put_bytes;
+use text_out::put_next;
 use text_out::put_number;
-use text_protocol::ROOM;
-use text_put::put_bytes;
-use text_put::put_next;
 
 // A blank, and a word.
 fn put_word(out: &mut [u8; ROOM], len: usize, word: &[u8]) -> usize

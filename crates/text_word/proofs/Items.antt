@@ -11,15 +11,14 @@ use lib.Seq.{take-all}
 use borrow.Author.Tests.{leb-true, lt-ltb, le-ltb, eqb-true, ne-eqb}
 use Rattle.paper.specs.Lists.{pick}
 use Rattle.paper.proofs.Logic.{and-left}
-use Rattle.text_protocol.specs.declared.Number.{Number}
-use Rattle.text_protocol.specs.declared.Number.the-variants as number
-use Rattle.text_protocol.specs.declared.Size.{Size}
-use Rattle.text_protocol.specs.declared.Size.the-variants as size
+use Rattle.text_bytes.specs.declared.Number.{Number}
+use Rattle.text_bytes.specs.declared.Number.the-variants as number
+use Rattle.text_bytes.specs.declared.Size.{Size}
+use Rattle.text_bytes.specs.declared.Size.the-variants as size
 use Rattle.text_protocol.specs.declared.Item.{Item}
 use Rattle.text_protocol.specs.declared.Item.the-variants as item
-use Rattle.text_protocol.specs.Bytes.{isNot, run, digitZero, digitNine, minusSign, slash}
-use Rattle.text_protocol.specs.Numbers.{isDigit, sizeFrom, sizeOf, upTo, above, below, numberOf, slashAt, greatest}
-use Rattle.text_protocol.specs.Numbers.{least}
+use Rattle.text_bytes.specs.Bytes.{isNot, run, digitZero, digitNine, minusSign, slash}
+use Rattle.text_bytes.specs.Numbers.{isDigit, sizeFrom, sizeOf, upTo, above, below, numberOf, slashAt, greatest, least}
 use Rattle.text_protocol.specs.Line.{oneOf, twoOf, itemOf}
 
 -- ---- a number has no slash

@@ -15,13 +15,13 @@ use mir.Facts.{toZ-ofZ}
 use borrow.Author.Tests.{leb-true, le-leb, lt-leb, eq-eqb, ne-eqb}
 use Rattle.paper.proofs.Differences.{minus-one-less-is-negsuc}
 use Rattle.paper.specs.Lists.{pick}
-use Rattle.text_protocol.specs.declared.Number.{Number}
-use Rattle.text_protocol.specs.declared.Number.the-variants as number
-use Rattle.text_protocol.specs.declared.Size.{Size}
-use Rattle.text_protocol.specs.declared.Size.the-variants as size
-use Rattle.text_protocol.specs.Bytes.{run, same, digitZero, digitNine, minusSign}
-use Rattle.text_protocol.specs.Numbers.{isDigit, sizeFrom, sizeOf, upTo, above, below, numberOf, greatest, least}
-use Rattle.text_protocol.proofs.Spelling.{within-is-digit, low-no-digit, high-no-digit}
+use Rattle.text_bytes.specs.declared.Number.{Number}
+use Rattle.text_bytes.specs.declared.Number.the-variants as number
+use Rattle.text_bytes.specs.declared.Size.{Size}
+use Rattle.text_bytes.specs.declared.Size.the-variants as size
+use Rattle.text_bytes.specs.Bytes.{run, same, digitZero, digitNine, minusSign}
+use Rattle.text_bytes.specs.Numbers.{isDigit, sizeFrom, sizeOf, upTo, above, below, numberOf, greatest, least}
+use Rattle.text_bytes.proofs.Spelling.{within-is-digit, low-no-digit, high-no-digit}
 use Rattle.text_word.specs.Parts.{Capped}
 
 -- ---- a run of bytes that pass a test

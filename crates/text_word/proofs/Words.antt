@@ -7,7 +7,7 @@ use native.Mathlib.Omega.{arith}
 use lib.ListN.{length, take, drop, drop-of-length-le, length-drop}
 use lib.Seq.{drop-drop}
 use Rattle.paper.specs.Lists.{pick}
-use Rattle.text_protocol.specs.Bytes.{isBlank, run, grow, pieces, full, words}
+use Rattle.text_bytes.specs.Bytes.{isBlank, run, grow, pieces, full, words}
 use Rattle.text_word.specs.Parts.{isSolid}
 
 grow-first : (b : ℕ) (p : List ℕ) (qs : List (List ℕ)) → qs ≡ p ∷ drop 1 qs → grow b qs ≡ (b ∷ p) ∷ drop 1 (grow b qs)

@@ -2,9 +2,9 @@
 -- blank, and a size under a bound. Assumes nothing.
 use mathlib.Core.Bool.{Bool, not}
 use Prim.Native.Nat.{ℕ, _≤_}
-use Rattle.text_protocol.specs.declared.Size.{Size}
-use Rattle.text_protocol.specs.declared.Size.the-variants as size
-use Rattle.text_protocol.specs.Bytes.{isBlank}
+use Rattle.text_bytes.specs.declared.Size.{Size}
+use Rattle.text_bytes.specs.declared.Size.the-variants as size
+use Rattle.text_bytes.specs.Bytes.{isBlank}
 
 -- a byte of a word
 unfoldable pub isSolid : ℕ → Bool

@@ -2,15 +2,15 @@
 ghost use mathlib.Core.Path.{_≡_};
 ghost use Prim.Native.Nat.{_+_, _≤_, _<_, _^_};
 ghost use lib.ListN.{length, take, drop};
-ghost use Rattle.text_protocol.specs.Bytes.{isBlank, isNot, run, same};
-ghost use Rattle.text_protocol.specs.Numbers.{sizeFrom, upTo, above, below, numberOf, greatest, least};
+ghost use Rattle.text_bytes.specs.Bytes.{isBlank, isNot, run, same};
+ghost use Rattle.text_bytes.specs.Numbers.{sizeFrom, upTo, above, below, numberOf, greatest, least};
 ghost use Rattle.text_protocol.specs.Line.{twoOf, itemOf};
 ghost use Rattle.text_word.specs.Parts.{isSolid, Capped};
-use text_protocol::DIGIT_NINE;
-use text_protocol::DIGIT_ZERO;
+use text_bytes::DIGIT_NINE;
+use text_bytes::DIGIT_ZERO;
+use text_bytes::Number;
+use text_bytes::Size;
 use text_protocol::Item;
-use text_protocol::Number;
-use text_protocol::Size;
 
 // The sizes of the greatest and of the least number of 64 bits with a sign.
 const GREATEST_SIZE: u64 = 9_223_372_036_854_775_807;

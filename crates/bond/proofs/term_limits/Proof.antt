@@ -6,8 +6,8 @@ use Rattle.inputs.proofs.Facts.{price-facts}
 use Rattle.limits.specs.LimitRanges.{term-days-within-most}
 use Rattle.paper_bonds.specs.Bonds.{flowsOf, carryOf, limitsOf}
 use Rattle.paper_bonds.proofs.BondFigures.{bond-statics-valid}
-use Rattle.bond_flows.specs.FlowLaws.{CarryInputs, carry-most}
-use Rattle.bond_limits.proofs.Sizes.{rate-kept-in-bits}
+use Rattle.bond.specs.FlowLaws.{CarryInputs, carry-most}
+use Rattle.bond.proofs.Sizes.{rate-kept-in-bits}
 use Rattle.bond.proofs.Facts.{BondFacts, bond-facts, first-rate-high}
 use Rattle.bond.proofs.term_limits.Statement.{statement}
 use Rattle.bond.proofs.term_limits.Tie as tie

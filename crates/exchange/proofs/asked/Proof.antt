@@ -3,8 +3,8 @@
 use mathlib.Core.Path.{refl}
 use mathlib.Core.List.{[]}
 use borrow.Author.Needs.{needs}
-use Rattle.text_protocol.specs.Numbers.{sizeOf}
-use Rattle.text_rows.specs.Rows.{askedOf, settled}
+use Rattle.text_bytes.specs.Numbers.{sizeOf}
+use Rattle.exchange_serve.specs.Rows.{askedOf, settled}
 use Rattle.exchange.proofs.asked.Statement.{statement}
 use Rattle.exchange.proofs.asked.Tie as tie
 

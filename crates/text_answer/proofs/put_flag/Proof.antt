@@ -6,7 +6,7 @@ use Rattle.text_answer.proofs.put_flag.Statement.{statement}
 use Rattle.text_answer.proofs.put_flag.Tie as tie
 use Rattle.text_answer.proofs.put_flag.Reads as reads
 use Rattle.text_answer.proofs.put_flag.Lts as lts
-use Rattle.text_put.proofs.put_next.Reads as put-next-reads
+use Rattle.text_out.proofs.put_next.Reads as put-next-reads
 
 put-next-requires : tie.Need-put-next-requires
 put-next-requires c κs = search needs

@@ -1,17 +1,17 @@
 -- `text_answer::put_record` meets its contract: its seven parts are appended in the order of `recordNumbers`, each
 -- behind the one before, and what two calls append is one text (`both`). Assumes nothing.
 use Rattle.text_protocol.specs.Answers.{recordNumbers}
-use Rattle.text_put.specs.Told.{both}
+use Rattle.text_out.specs.Told.{both}
 use borrow.Author.Needs.{needs}
 use Rattle.text_answer.proofs.put_record.Statement.{statement}
 use Rattle.text_answer.proofs.put_record.Tie as tie
 use Rattle.text_answer.proofs.put_record.Reads as reads
 use Rattle.text_answer.proofs.put_record.Lts as lts
-use Rattle.text_record.proofs.put_external.Reads as put-external-reads
-use Rattle.text_record.proofs.put_last.Reads as put-last-reads
-use Rattle.text_record.proofs.put_levels.Reads as put-levels-reads
-use Rattle.text_record.proofs.put_session.Reads as put-session-reads
-use Rattle.text_record.proofs.put_term.Reads as put-term-reads
+use Rattle.text_answer.proofs.record.put_external.Reads as put-external-reads
+use Rattle.text_answer.proofs.record.put_last.Reads as put-last-reads
+use Rattle.text_answer.proofs.record.put_levels.Reads as put-levels-reads
+use Rattle.text_answer.proofs.record.put_session.Reads as put-session-reads
+use Rattle.text_answer.proofs.record.put_term.Reads as put-term-reads
 
 put-levels-requires : tie.Need-put-levels-requires
 put-levels-requires c κs = search needs

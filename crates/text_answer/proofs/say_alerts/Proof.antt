@@ -1,5 +1,6 @@
 -- `text_answer::say_alerts` meets its contract: a quote's two alerts. Assumes nothing.
-use Rattle.text_put.specs.Told.{both, answered}
+use Rattle.text_out.specs.Told.{both}
+use Rattle.text_answer.specs.Answered.{answered}
 use native.Mathlib.Omega.{arith}
 use borrow.Author.Needs.{needs}
 use Rattle.text_answer.proofs.say_alerts.Statement.{statement}

@@ -7,7 +7,7 @@ use Rattle.text_answer.proofs.say_answer.Reads as reads
 use Rattle.text_answer.proofs.say_answer.Lts as lts
 use Rattle.paper.proofs.Verdict.number.Reads as number-reads
 use Rattle.text_answer.proofs.say_alerts.Reads as say-alerts-reads
-use Rattle.text_put.proofs.say_number.Reads as say-number-reads
+use Rattle.text_answer.proofs.say_number.Reads as say-number-reads
 use Rattle.text_answer.proofs.say_record.Reads as say-record-reads
 
 number-requires : tie.Need-number-requires

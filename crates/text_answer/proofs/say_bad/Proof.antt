@@ -1,5 +1,5 @@
 -- `text_answer::say_bad` meets its contract: "bad" and the line's number. Assumes nothing.
-use Rattle.text_put.specs.Told.{wrote-one}
+use Rattle.text_out.specs.Told.{wrote-one}
 use Rattle.text_out.specs.Wrote.{then, wider}
 use Rattle.text_protocol.specs.Answers.{badText}
 use native.Mathlib.Omega.{arith}
@@ -8,7 +8,7 @@ use Rattle.text_answer.proofs.say_bad.Statement.{statement}
 use Rattle.text_answer.proofs.say_bad.Tie as tie
 use Rattle.text_answer.proofs.say_bad.Reads as reads
 use Rattle.text_answer.proofs.say_bad.Lts as lts
-use Rattle.text_put.proofs.put_next.Reads as put-next-reads
+use Rattle.text_out.proofs.put_next.Reads as put-next-reads
 use Rattle.text_out.proofs.put_byte.Reads as put-byte-reads
 
 put-byte-requires : tie.Need-put-byte-requires

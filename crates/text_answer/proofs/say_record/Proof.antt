@@ -1,6 +1,6 @@
 -- `text_answer::say_record` meets its contract: the number, the record's numbers and the line feed are appended in
 -- the order of the answer's text (`answered`). Assumes nothing.
-use Rattle.text_put.specs.Told.{answered}
+use Rattle.text_answer.specs.Answered.{answered}
 use native.Mathlib.Omega.{arith}
 use borrow.Author.Needs.{needs}
 use Rattle.text_answer.proofs.say_record.Statement.{statement}

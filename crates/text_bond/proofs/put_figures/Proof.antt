@@ -1,12 +1,12 @@
 -- `text_bond::put_figures` meets its contract: P TENTATIVE AGE. Assumes nothing.
 use Rattle.text_protocol.specs.Answers.{bondFiguresNumbers}
-use Rattle.text_put.specs.Told.{both}
+use Rattle.text_out.specs.Told.{both}
 use borrow.Author.Needs.{needs}
 use Rattle.text_bond.proofs.put_figures.Statement.{statement}
 use Rattle.text_bond.proofs.put_figures.Tie as tie
 use Rattle.text_bond.proofs.put_figures.Reads as reads
 use Rattle.text_bond.proofs.put_figures.Lts as lts
-use Rattle.text_put.proofs.put_next.Reads as put-next-reads
+use Rattle.text_out.proofs.put_next.Reads as put-next-reads
 
 put-next-requires : tie.Need-put-next-requires
 put-next-requires c κs = search needs

@@ -1,12 +1,12 @@
 -- `text_bond::put_limits` meets its contract: LOWER UPPER OFFLOWER OFFUPPER. Assumes nothing.
 use Rattle.text_protocol.specs.Answers.{bondLimitsNumbers}
-use Rattle.text_put.specs.Told.{both}
+use Rattle.text_out.specs.Told.{both}
 use borrow.Author.Needs.{needs}
 use Rattle.text_bond.proofs.put_limits.Statement.{statement}
 use Rattle.text_bond.proofs.put_limits.Tie as tie
 use Rattle.text_bond.proofs.put_limits.Reads as reads
 use Rattle.text_bond.proofs.put_limits.Lts as lts
-use Rattle.text_put.proofs.put_next.Reads as put-next-reads
+use Rattle.text_out.proofs.put_next.Reads as put-next-reads
 
 put-next-requires : tie.Need-put-next-requires
 put-next-requires c κs = search needs

@@ -1,5 +1,5 @@
 -- `text_bond::say_bond` meets its contract: a refusal's number stands alone. Assumes nothing.
-use Rattle.text_put.proofs.Verdicts.{refused-text, done-text}
+use Rattle.text_answer.proofs.Verdicts.{refused-text, done-text}
 use Rattle.text_protocol.specs.Answers.{bondText, bondNumbers}
 use borrow.Author.Needs.{needs}
 use Rattle.text_bond.proofs.say_bond.Statement.{statement}
@@ -7,7 +7,7 @@ use Rattle.text_bond.proofs.say_bond.Tie as tie
 use Rattle.text_bond.proofs.say_bond.Reads as reads
 use Rattle.text_bond.proofs.say_bond.Lts as lts
 use Rattle.paper.proofs.Verdict.number.Reads as number-reads
-use Rattle.text_put.proofs.say_number.Reads as say-number-reads
+use Rattle.text_answer.proofs.say_number.Reads as say-number-reads
 use Rattle.text_bond.proofs.say_worked.Reads as say-worked-reads
 
 number-requires : tie.Need-number-requires

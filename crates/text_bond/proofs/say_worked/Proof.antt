@@ -1,13 +1,14 @@
 -- `text_bond::say_worked` meets its contract: P TENTATIVE AGE S1 S2 S3, and the limits of each term. Assumes nothing.
 use native.Mathlib.Omega.{arith}
 use Rattle.text_protocol.specs.Answers.{bondNumbers}
-use Rattle.text_put.specs.Told.{both, answered}
+use Rattle.text_out.specs.Told.{both}
+use Rattle.text_answer.specs.Answered.{answered}
 use borrow.Author.Needs.{needs}
 use Rattle.text_bond.proofs.say_worked.Statement.{statement}
 use Rattle.text_bond.proofs.say_worked.Tie as tie
 use Rattle.text_bond.proofs.say_worked.Reads as reads
 use Rattle.text_bond.proofs.say_worked.Lts as lts
-use Rattle.text_put.proofs.put_rates.Reads as put-rates-reads
+use Rattle.text_answer.proofs.record.put_rates.Reads as put-rates-reads
 use Rattle.text_bond.proofs.put_figures.Reads as put-figures-reads
 use Rattle.text_bond.proofs.put_limits.Reads as put-limits-reads
 use Rattle.text_out.proofs.put_byte.Reads as put-byte-reads

@@ -11,7 +11,7 @@ use Rattle.text_deed.proofs.say_plain.Reads as reads
 use Rattle.text_deed.proofs.say_plain.Lts as lts
 use Rattle.text_answer.proofs.say_answer.Reads as say-answer-reads
 use Rattle.text_answer.proofs.say_bad.Reads as say-bad-reads
-use Rattle.text_interest.proofs.say_interest.Reads as say-interest-reads
+use Rattle.text_answer.proofs.interest.say_interest.Reads as say-interest-reads
 use Rattle.text_bond.proofs.say_bond.Reads as say-bond-reads
 
 returns : tie.Need-returns

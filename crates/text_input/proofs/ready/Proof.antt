@@ -11,7 +11,7 @@ use Rattle.text_input.proofs.ready.Statement.{statement}
 use Rattle.text_input.proofs.ready.Tie as tie
 use Rattle.text_input.proofs.ready.Reads as reads
 use Rattle.text_input.proofs.ready.Lts as lts
-use Rattle.text_input.proofs.shift.Reads as shift-reads
+use Rattle.text_evidence.proofs.shift.Reads as shift-reads
 use Rattle.text_input.proofs.wait.Reads as wait-reads
 
 returns : tie.Need-returns

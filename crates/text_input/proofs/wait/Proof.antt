@@ -16,7 +16,7 @@ use Rattle.text_input.proofs.wait.Lts as lts
 use Rattle.text_evidence.proofs.Delivered.came.Reads as came-reads
 use Rattle.text_evidence.proofs.fill.Reads as fill-reads
 use Rattle.text_word.proofs.find.Reads as find-reads
-use Rattle.text_protocol.specs.Bytes.{room}
+use Rattle.text_bytes.specs.Bytes.{room}
 
 abbrev Inv-loop : tie.InvT-loop
 Inv-loop buf₀ have len₀ read₀ buf len read = Waiting buf₀ have read₀ buf len read

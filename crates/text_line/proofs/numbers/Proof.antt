@@ -4,7 +4,7 @@ use borrow.Author.Needs.{needs}
 use Rattle.text_line.proofs.Turns.{Filling, filling-none, filling-end, filling-bad, filling-more}
 use Rattle.text_word.proofs.Words.{word-some}
 use Rattle.text_protocol.specs.Line.{noPairs, fill}
-use Rattle.text_protocol.specs.Bytes.{words}
+use Rattle.text_bytes.specs.Bytes.{words}
 use lib.ListN.{length, drop}
 use mathlib.Core.List.{[]}
 use native.Mathlib.Omega.{arith}

@@ -59,7 +59,7 @@ use denote.Exit.{yes}
 use denote.Triple.Walked.{says, Stays, stay-slice, stay-none, walkOf, goes-slice, goes-none, Walks, ends-at, walked}
 use denote.Triple.Walked.{walk-meets}
 use Rattle.text_protocol.specs.Line.{keptMost}
-use Rattle.text_protocol.specs.Bytes.{room as bufferRoom}
+use Rattle.text_bytes.specs.Bytes.{room as bufferRoom}
 use Rattle.paper.specs.declared.Record.{Record}
 use Rattle.desk.proofs.Row.{R, env-of, after}
 use Rattle.desk.proofs.Lending.{wref, ref, machine}

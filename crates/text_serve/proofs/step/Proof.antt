@@ -44,7 +44,7 @@ use denote.Triple.Walked.{says, needs, Stays, gave-slice, gave-ref, stay-none, w
 use denote.Triple.Walked.{goes-none, Walks, ends-at, walked, walk-meets}
 use denote.Exit.{yes}
 use Rattle.text_protocol.specs.Answers.{answerMost}
-use Rattle.text_protocol.specs.Bytes.{room as bufferRoom}
+use Rattle.text_bytes.specs.Bytes.{room as bufferRoom}
 use Rattle.paper.specs.declared.Record.{Record}
 use Rattle.desk.proofs.Row.{R, table-ty, after}
 use Rattle.desk.proofs.Frame.{of-types, Addresses, env-of, ParamsFit, Locals, holding, entry, frame, enters, whole}
@@ -60,7 +60,7 @@ use Rattle.text_input.specs.Input.{Stands}
 use Rattle.text_turn.specs.declared.State.{State}
 use Rattle.text_turn.specs.declared.Prepared.{Prepared}
 use Rattle.text_turn.specs.Turn.{Prepares}
-use Rattle.text_tell.specs.Tells.{Tells}
+use Rattle.text_turn.specs.Tells.{Tells}
 use Rattle.text_turn.proofs.State as G
 use Rattle.text_turn.proofs.State.Laws as G′
 use Rattle.text_turn.proofs.Prepared as P
@@ -68,8 +68,8 @@ use Rattle.text_turn.proofs.Prepared.Laws as P′
 use Rattle.text_ask.specs.Asked.{Asks}
 use Rattle.text_ask.proofs.ask.Symbol as ask-def
 use Rattle.text_ask.proofs.ask.Met as ask-thm
-use Rattle.text_tell.proofs.tell.Symbol as tell-def
-use Rattle.text_tell.proofs.tell.Met as tell-thm
+use Rattle.text_turn.proofs.after.tell.Symbol as tell-def
+use Rattle.text_turn.proofs.after.tell.Met as tell-thm
 use Rattle.text_serve.specs.Serve.{Turns}
 use Rattle.text_serve.proofs.hear_in.Symbol as hear-def
 use Rattle.text_serve.proofs.hear_in.Met as hear-thm

@@ -1,10 +1,9 @@
 -- `text_why::put_numbered` meets its contract: a word, and a number. Assumes nothing.
 use borrow.Author.Needs.{needs}
-use Rattle.text_protocol.specs.Numbers.{signed}
-use Rattle.text_protocol.specs.Answers.{next}
+use Rattle.text_bytes.specs.Numbers.{signed, next}
 use Rattle.text_protocol.specs.Reasons.{spelled}
 use Rattle.text_out.specs.Wrote.{then, nothing}
-use Rattle.text_put.specs.Told.{wrote-one}
+use Rattle.text_out.specs.Told.{wrote-one}
 use Rattle.text_why.proofs.put_numbered.Statement.{statement}
 use Rattle.text_why.proofs.put_numbered.Tie as tie
 

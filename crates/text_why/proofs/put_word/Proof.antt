@@ -6,7 +6,7 @@ use Rattle.text_why.proofs.put_word.Tie as tie
 use Rattle.text_why.proofs.put_word.Reads as reads
 use Rattle.text_why.proofs.put_word.Lts as lts
 use Rattle.text_out.proofs.put_byte.Reads as put-byte-reads
-use Rattle.text_put.proofs.put_bytes.Reads as put-bytes-reads
+use Rattle.text_out.proofs.put_bytes.Reads as put-bytes-reads
 
 put-byte-requires : tie.Need-put-byte-requires
 put-byte-requires c κs = search needs

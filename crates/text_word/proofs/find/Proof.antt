@@ -5,7 +5,7 @@ use Prim.Native.Nat.{_-_}
 use lib.ListN.{length}
 use borrow.Author.Needs.{needs}
 use borrow.Author.Tests.{eq-eqb, ne-eqb}
-use Rattle.text_protocol.specs.Bytes.{isNot}
+use Rattle.text_bytes.specs.Bytes.{isNot}
 use Rattle.text_word.proofs.Turns.{Running, running-none, running-more, running-stop, running-all}
 use Rattle.text_word.proofs.find.Statement.{statement}
 use Rattle.text_word.proofs.find.Tie as tie

@@ -1,6 +1,6 @@
 -- `text_word::is_blank` meets its contract: a space, a tab and a carriage return part words. Assumes nothing.
-use Rattle.text_protocol.specs.Bytes.{isBlank, run, same}
-use Rattle.text_protocol.specs.Numbers.{sizeFrom, upTo, above, below, numberOf}
+use Rattle.text_bytes.specs.Bytes.{isBlank, run, same}
+use Rattle.text_bytes.specs.Numbers.{sizeFrom, upTo, above, below, numberOf}
 use Rattle.text_word.specs.Parts.{isSolid, Capped}
 use borrow.Author.Tests.{eq-eqb, ne-eqb}
 use mathlib.Core.Bool.{true, false, not}

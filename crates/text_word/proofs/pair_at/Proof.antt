@@ -1,7 +1,7 @@
 -- `text_word::pair_at` meets its contract: the two numbers of a pair Ym/Yn, whose slash stands at `at`. Assumes
 -- nothing.
 use Rattle.text_word.proofs.Items.{first-bad, second-bad, two-numbers, behind}
-use Rattle.text_protocol.specs.Numbers.{numberOf}
+use Rattle.text_bytes.specs.Numbers.{numberOf}
 use lib.Seq.{length-take-le}
 use lib.ListN.{length, take, drop}
 use native.Mathlib.Omega.{arith}

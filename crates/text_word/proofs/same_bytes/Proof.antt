@@ -1,8 +1,8 @@
 -- `text_word::same_bytes` meets its contract: whether two words are the same, byte by byte. Assumes nothing.
 use borrow.Author.Needs.{needs}
 use Rattle.text_word.proofs.Turns.{Matching, matching-none, matching-not, matching-more, matching-all, same-long}
-use Rattle.text_protocol.specs.Bytes.{isBlank, run, same}
-use Rattle.text_protocol.specs.Numbers.{sizeFrom, upTo, above, below, numberOf}
+use Rattle.text_bytes.specs.Bytes.{isBlank, run, same}
+use Rattle.text_bytes.specs.Numbers.{sizeFrom, upTo, above, below, numberOf}
 use Rattle.text_word.specs.Parts.{isSolid, Capped}
 use mathlib.Core.List.{[]}
 use borrow.Author.Tests.{eq-eqb, ne-eqb}

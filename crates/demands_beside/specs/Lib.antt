@@ -1,2 +1,0 @@
--- Demand 1 of the calls beside the table.
-pub mod Beside

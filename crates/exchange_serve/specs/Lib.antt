@@ -1,0 +1,2 @@
+-- The definitions of exchange_serve, a file each.
+pub mod Rows

@@ -1,2 +1,0 @@
--- The laws that the proofs of `floats` cite.
-pub mod Exponents

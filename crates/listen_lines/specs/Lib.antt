@@ -1,0 +1,2 @@
+-- The definitions of listen_lines, a file each.
+pub mod Lines

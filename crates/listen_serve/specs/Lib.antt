@@ -1,0 +1,4 @@
+-- The definitions of listen_serve, a file each.
+pub mod Listen
+pub mod Steps
+pub mod ListenCases

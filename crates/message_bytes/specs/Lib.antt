@@ -1,2 +1,0 @@
--- The definitions of message_bytes, a file each.
-pub mod Asked

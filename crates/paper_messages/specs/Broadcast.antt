@@ -1,0 +1,38 @@
+-- W-212: what a call is broadcast as, as bytes: "Kinds: 1 statics, 2 rates and ranges, 3 bands, 4 move." Assumes
+-- nothing.
+use mathlib.Core.List.{List, [], _∷_, _++_}
+use Prim.Native.Nat.{ℕ}
+use Rattle.paper.specs.declared.Answer.{Answer}
+use Rattle.paper.specs.Lists.{pick}
+use Rattle.paper.specs.Ranges.{staticsOf, sideOf}
+use Rattle.paper.specs.Verdicts.{isDone}
+use Rattle.paper_desk.specs.Desk.{Call, admit, evaluate, quote, move, read, openEvening, receive}
+use Rattle.paper_messages.specs.declared.Message.{Message}
+use Rattle.paper_messages.specs.Messages.{encode, valid}
+use Rattle.paper_messages.specs.Records.{staticsMessage, ratesMessage, bandsMessage, moveMessage}
+
+-- the messages of an accepted call: kind 1 of an admission, 2 and 3 of an evaluation, 4 of a move, none of the others
+unfoldable pub messagesOf : Call → Answer → List Message
+messagesOf (admit g) a = staticsMessage (g .id) (staticsOf (g .given)) ∷ []
+messagesOf (evaluate id d rows) a = ratesMessage (a .rec) ∷ bandsMessage (a .rec) ∷ []
+messagesOf (quote id q) a = []
+messagesOf (move id side) a = moveMessage (a .rec) (sideOf side) ∷ []
+messagesOf (read id) a = []
+messagesOf (openEvening id) a = []
+messagesOf (receive id x) a = []
+
+-- the bytes of a message. The writer refuses one with a field out of its range (23), and then nothing is sent
+unfoldable pub sent : Message → List ℕ
+sent m = pick (valid m) (encode m) []
+
+-- no message of a known kind is longer
+abbrev pub messageMost : ℕ
+messageMost = 102
+
+unfoldable pub allSent : List Message → List ℕ
+allSent [] = []
+allSent (m ∷ ms) = sent m ++ allSent ms
+
+-- THE BYTES OF A CALL'S BROADCAST: nothing where it is refused
+unfoldable pub broadcastOf : Call → Answer → List ℕ
+broadcastOf c a = pick (isDone (a .verdict)) (allSent (messagesOf c a)) []

@@ -1,0 +1,130 @@
+-- docs/BROADCAST.md, "What `broadcast` writes", by examples: of each call the messages that it sends, and the bytes of
+-- an accepted and of a refused one. Assumes nothing.
+use mathlib.Core.Path.{_≡_, refl}
+use mathlib.Core.List.{List, [], _∷_, _++_, map}
+use Prim.Native.Nat.{ℕ, _+_}
+use lib.IntN.{pos, negsuc}
+use lib.ListN.{take}
+use lib.Seq.{sets}
+use Rattle.paper.specs.declared.Admission.{Admission}
+use Rattle.paper.specs.declared.Answer.{Answer}
+use Rattle.paper.specs.declared.Record.{Record}
+use Rattle.paper.specs.declared.Notice.the-variants.{Withdrawal}
+use Rattle.paper.specs.declared.Verdict.the-variants.{Done, AlreadyAdmitted, OutOfRange, MovesUsedUp}
+use Rattle.paper.specs.Lists.{three}
+use Rattle.paper.specs.PinnedValues.{idAt, admissionFrom, recordFrom}
+use Rattle.paper.specs.Ranges.{lastDay, noTerm, sideOf, staticsOf, unsigned, validGiven, validStatics}
+use Rattle.paper.specs.Verdicts.{isDone}
+use Rattle.paper_desk.specs.Desk.{Call, admit, evaluate, quote, move, read, openEvening, receive, saying, showing}
+use Rattle.paper_desk.specs.External.{notice}
+use Rattle.paper_messages.specs.declared.Message.{Message}
+use Rattle.paper_messages.specs.Bytes.{bytesOf, complement}
+use Rattle.paper_messages.specs.Fields.{staticsFields, ratesFields, bandsFields, moveFields, fieldsOf, filled}
+use Rattle.paper_messages.specs.Fields.{moveMessageKind}
+use Rattle.paper_messages.specs.Fields.{placesOf}
+use Rattle.paper_messages.specs.Messages.{bodyOf, total, lengthOf, encode, isKnownKind, inRanges, givenIn}
+use Rattle.paper_messages.specs.Messages.{asAdmission, lengthWidth, valid}
+use Rattle.paper_messages.specs.PinnedMessages.{staticsBytes, ratesBytes, bandsBytes}
+use Rattle.paper_messages.specs.PinnedRecords.{sampleNumbers, sample}
+use Rattle.paper_messages.specs.Records.{valueOf, message, staticsMessage, ratesMessage, bandsMessage}
+use Rattle.paper_messages.specs.Records.{moveMessage}
+use Rattle.paper_messages.specs.Broadcast.{messagesOf, sent, messageMost, allSent, broadcastOf}
+
+-- ---- the calls
+
+-- the admission that kind 1 of PinnedMessages tells
+unfoldable pub admission : Admission
+unfolding admissionFrom
+admission =
+    admissionFrom
+    -- the statics
+    (pos 10 ∷ pos 100 ∷ pos 300 ∷ pos 500 ∷ pos 100 ∷ pos 5 ∷ pos 1 ∷ pos 2 ∷ pos 2 ∷ pos 50 ∷ pos 800 ∷ pos 1200
+    ∷ pos 1500 ∷ pos 10000 ∷ pos 200 ∷ pos 20 ∷ pos 1000 ∷ pos 900 ∷ pos 500 ∷ pos 300 ∷ pos 1 ∷ pos 1 ∷ pos 60 ∷ pos 0
+    ∷ pos 3 ∷ pos 1
+    -- id, day, p1, p2, s, tentative
+    ∷ pos 7 ∷ pos 3 ∷ pos 1000000 ∷ pos 1000000 ∷ pos 20000 ∷ pos 600
+    ∷ [])
+
+unfoldable pub evaluation : Call
+evaluation = evaluate 7 (record { day = 4; b = 0; m = 0; terms = three (λ k. noTerm) }) []
+
+-- every call: an admission, an evaluation, a move of each side, and those that members get nothing of
+unfoldable pub calls : List Call
+calls =
+    admit admission
+    ∷ evaluation
+    ∷ move 7 0
+    ∷ move 7 1
+    ∷ quote 7 (record { second = 1; term = 0; bid = 1; ask = 2 })
+    ∷ read 7
+    ∷ openEvening 7
+    ∷ receive 7 (notice Withdrawal)
+    ∷ []
+
+-- ---- which messages a call sends
+
+-- the kinds, in their order: an evaluation sends 2 and then 3
+unfoldable pub kindsOf : Call → List ℕ
+kindsOf c = map (λ (m : Message). m .kind) (messagesOf c (showing sample))
+
+pub kinds-sent : map kindsOf calls
+    ≡ (1 ∷ []) ∷ (2 ∷ 3 ∷ []) ∷ (4 ∷ []) ∷ (4 ∷ []) ∷ [] ∷ [] ∷ [] ∷ [] ∷ []
+unfolding calls kindsOf evaluation messagesOf staticsMessage ratesMessage bandsMessage moveMessage message
+kinds-sent = refl
+
+-- a move is told of its own side, with that side's count and limits
+pub moves-told : (messagesOf (move 7 0) (showing sample)
+    ≡ message moveMessageKind (pos 7 ∷ pos 0 ∷ pos 3 ∷ pos 61 ∷ pos 62 ∷ pos 63 ∷ pos 91 ∷ pos 92 ∷ pos 93 ∷ []) ∷ [])
+    × (messagesOf (move 7 1) (showing sample)
+    ≡ message moveMessageKind (pos 7 ∷ pos 1 ∷ pos 4 ∷ pos 51 ∷ pos 52 ∷ pos 53 ∷ pos 81 ∷ pos 82 ∷ pos 83 ∷ []) ∷ [])
+unfolding messagesOf showing sample moveMessage message filled valueOf sideOf
+moves-told = (refl, refl)
+
+-- ---- the bytes
+
+-- the bytes of a message of each kind, with those of its length; none is longer than the longest
+pub lengths-are : map (λ (kind : ℕ). lengthWidth + lengthOf kind) (1 ∷ 2 ∷ 3 ∷ 4 ∷ []) ≡ messageMost ∷ 98 ∷ 98 ∷ 66 ∷ []
+unfolding lengthOf total placesOf fieldsOf filled staticsFields ratesFields bandsFields moveFields
+lengths-are = refl
+
+-- a record whose messages PinnedMessages tells: rates and ranges as they stand there, the bands under another id and
+-- day
+unfoldable pub told : Record
+unfolding sampleNumbers recordFrom
+told =
+    recordFrom
+    (take idAt sampleNumbers
+    -- id, day, p1, p2, s, tentative, that it is live, age
+    ++ pos 7 ∷ pos 4 ∷ pos 1030000 ∷ pos 1000000 ∷ pos 21214 ∷ pos 700 ∷ pos 1 ∷ pos 0
+    -- rates, ranges
+    ∷ pos 800 ∷ pos 1200 ∷ pos 1500
+    ∷ pos 947600 ∷ pos 1112400 ∷ pos 906400 ∷ pos 1153600 ∷ pos 875500 ∷ pos 1184500
+    -- terms, bands
+    ∷ pos 0 ∷ negsuc 0 ∷ pos 1 ∷ pos 1 ∷ negsuc 9998 ∷ pos 9999 ∷ pos 30 ∷ pos 0 ∷ pos 0
+    ∷ pos 947600 ∷ pos 1112400 ∷ pos 0 ∷ pos 2020000000000 ∷ pos 65536 ∷ pos 16777216
+    -- moves up and down
+    ∷ pos 3 ∷ pos 4 ∷ [])
+
+-- the bytes of a call's broadcast. It opens every definition that they are made with, so that a table opens this one
+-- alone
+unfoldable pub bytesSent : Call → Answer → List ℕ
+unfolding broadcastOf allSent sent messagesOf staticsMessage ratesMessage bandsMessage moveMessage message valueOf
+    staticsOf sideOf lastDay isDone encode bodyOf bytesOf complement lengthOf total placesOf fieldsOf filled
+    staticsFields ratesFields bandsFields moveFields isKnownKind valid inRanges asAdmission givenIn validGiven
+    validStatics unsigned admission staticsBytes ratesBytes bandsBytes
+bytesSent c a = broadcastOf c a
+
+-- of an accepted call all of its messages one behind the other, of a refused one nothing. A message with a field out of
+-- its range is left out: of the sample a term has 71 days
+pub bytes-sent : (bytesSent (admit admission) (saying Done) ≡ staticsBytes)
+    × (bytesSent (admit admission) (saying AlreadyAdmitted) ≡ [])
+    × (bytesSent evaluation (showing told) ≡ ratesBytes ++ sets bandsBytes 6 (7 ∷ 0 ∷ 0 ∷ 0 ∷ 4 ∷ 0 ∷ 0 ∷ 0 ∷ []))
+    × (bytesSent evaluation (showing sample) ≡ encode (ratesMessage sample))
+    × (bytesSent evaluation (saying OutOfRange) ≡ [])
+    × (bytesSent (move 7 0) (showing sample)
+    ≡ encode (message moveMessageKind
+    (pos 7 ∷ pos 0 ∷ pos 3 ∷ pos 61 ∷ pos 62 ∷ pos 63 ∷ pos 91 ∷ pos 92 ∷ pos 93 ∷ [])))
+    × (bytesSent (move 7 0) (saying MovesUsedUp) ≡ [])
+    × (bytesSent (read 7) (showing told) ≡ [])
+unfolding bytesSent evaluation told sample saying showing
+bytes-sent = (refl, refl, refl, refl, refl, refl, refl, refl)

@@ -1,2 +1,0 @@
--- Which row is at fault, in the forms of the code.
-pub mod RowFaults

@@ -1,2 +1,0 @@
--- The definitions of text_cell, a file each.
-pub mod Placed

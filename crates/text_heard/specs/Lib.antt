@@ -1,2 +1,0 @@
--- The definitions of text_heard, a file each.
-pub mod Lines

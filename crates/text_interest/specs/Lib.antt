@@ -1,2 +1,0 @@
--- The definitions of text_interest, a file each.
-pub mod Sizes

@@ -1,2 +1,0 @@
--- The definitions of text_row, a file each.
-pub mod Lines

@@ -1,2 +1,0 @@
--- The definitions of text_tell, a file each.
-pub mod Tells
