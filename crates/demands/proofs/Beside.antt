@@ -94,7 +94,10 @@ figured : (g : GivenStatics) (inRange : Bool) (figure : ℕ)
 figured g inRange figure =
     record {
       four = (λ e. four (validGiven g) refl inRange refl e, gateway-answers-minus-four g inRange figure);
-      six = (λ e. six (validGiven g) refl inRange refl e, λ w. gateway-answers-minus-six g inRange figure (w .0) (w .1));
+      six = (
+        λ e. six (validGiven g) refl inRange refl e,
+        λ w. gateway-answers-minus-six g inRange figure (w .0) (w .1),
+      );
       accepted = gateway-answers-figure g inRange figure;
     }
   where

@@ -464,5 +464,5 @@ step-spec 𝓤 H 𝓜 𝓖 𝓡 =
     (cited 𝓤 H (Ask 𝓤 H (𝓖 .A) (𝓜 .mem) (𝓡 .run)) 𝓜 𝓡 code.env ask-def.name ask-def.routine
     code.calls-text-ask·ask
     (ask-thm.met 𝓤 H 𝓜 𝓖 𝓡))
-    (cited 𝓤 H (Tell 𝓤 H (𝓖 .A) (𝓜 .mem) (𝓡 .run)) 𝓜 𝓡 code.env tell-def.name tell-def.routine code.calls-text-tell·tell
-    (tell-thm.met 𝓤 H 𝓜 𝓖 𝓡)))
+    (cited 𝓤 H (Tell 𝓤 H (𝓖 .A) (𝓜 .mem) (𝓡 .run)) 𝓜 𝓡 code.env tell-def.name tell-def.routine
+    code.calls-text-turn·after·tell (tell-thm.met 𝓤 H 𝓜 𝓖 𝓡)))
