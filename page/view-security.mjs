@@ -140,14 +140,17 @@ function daysTable(security, figures) {
     return details;
 }
 
-/** A drawing that is made anew when its room gets another width. */
+let widthBefore = 0;
+
+/** A drawing that is made anew when its room gets another width; it begins with that of the drawing before it. */
 function drawn(draw) {
-    const room = el('div', {});
-    let width = 0;
+    let width = widthBefore;
+    const room = el('div', {}, width > 0 && draw(width));
     new ResizeObserver(() => {
         const now = Math.max(LEAST_WIDTH, Math.floor(room.clientWidth));
         if (now === width) return;
         width = now;
+        widthBefore = now;
         room.replaceChildren(draw(width));
     }).observe(room);
     return room;

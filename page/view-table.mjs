@@ -2,6 +2,7 @@
 import { el } from './element.mjs';
 import { placesOf } from './figures.mjs';
 import { COLUMNS, HAPPENED, chosen } from './sheet.mjs';
+import { makeColumns } from './view-columns.mjs';
 
 const SHORT = { rose: '▲ rose', fell: '▼ fell', waits: '… waits', maximum: 'at max', hidden: '◆ rounding' };
 const BADGES = { ...HAPPENED, ...SHORT };
@@ -57,7 +58,8 @@ export function makeTable(room, figures, choose) {
     const state = { sheet: null, chosenId: null, key: 'id', descending: false, columns: [], places: 2 };
     /** @type {Map<number, HTMLElement>} the rows that are drawn, by id */
     const rows = new Map();
-    const body = el('tbody');
+    const body = el('tbody', { role: 'rowgroup' });
+    const columns = makeColumns(room.at);
     const field = (id) => /** @type {HTMLInputElement} */ (room.form.querySelector(`#${id}`));
     const happened = field('filter-happened');
     happened.append(el('option', { value: '' }, 'anything'),
@@ -76,7 +78,7 @@ export function makeTable(room, figures, choose) {
         };
         const arrow = isSorted ? (state.descending ? ' ↓' : ' ↑') : '';
         const atLeft = ['id', 'happened', 'session'].includes(column.as);
-        return el('th', { scope: 'col', 'aria-sort': sorted, class: atLeft ? 'words' : null },
+        return el('th', { scope: 'col', role: 'columnheader', 'aria-sort': sorted, class: atLeft ? 'words' : null },
             el('button', { type: 'button', 'data-key': column.key, onclick: sort },
                 column.title.replace(/ (?=\d)/, '\u00a0') + arrow));
     }
@@ -87,9 +89,11 @@ export function makeTable(room, figures, choose) {
             pick(security.id, true);
         } }, String(security.id));
         const current = security.id === state.chosenId ? 'true' : null;
-        return el('tr', { 'aria-current': current, onclick: () => pick(security.id, true) },
-            el('th', { scope: 'row' }, id),
-            ...state.columns.slice(1).map((column) => cellOf(column, security, figures, state.places)));
+        // Rows whose columns are kept are no table to the browser's style: their roles are said.
+        const cells = state.columns.slice(1).map((column) => cellOf(column, security, figures, state.places));
+        for (const cell of cells) cell.setAttribute('role', 'cell');
+        return el('tr', { role: 'row', 'aria-current': current, onclick: () => pick(security.id, true) },
+            el('th', { scope: 'row', role: 'rowheader' }, id), ...cells);
     }
 
     function pick(id, byHand) {
@@ -117,10 +121,10 @@ export function makeTable(room, figures, choose) {
         for (const security of shown) rows.set(security.id, rowOf(security));
         body.replaceChildren(...rows.values());
         const groups = new Set(state.columns.map(({ group }) => group)).size - 1;
-        room.at.replaceChildren(el('table', { 'data-groups': groups },
-            el('caption', { class: 'apart' }, 'Securities'),
-            el('thead', {}, el('tr', {}, ...state.columns.map(headOf))), body));
+        room.at.replaceChildren(el('table', { role: 'table', 'aria-label': 'Securities', 'data-groups': groups },
+            el('thead', { role: 'rowgroup' }, el('tr', { role: 'row' }, ...state.columns.map(headOf))), body));
         count(shown);
+        columns.measure();
         return shown;
     }
 
@@ -197,8 +201,12 @@ export function makeTable(room, figures, choose) {
             const next = changed ?? (isGone ? sheet.securities[0]?.id : undefined);
             if (isGone) state.chosenId = null;
             if (next === undefined) return;
+            const isSame = next === state.chosenId;
             pick(next, false);
-            requestAnimationFrame(() => reveal(rows.get(next))); // when all is drawn: places are worked out once
+            requestAnimationFrame(() => { // when all is drawn, so that places are worked out once
+                columns.check(rows.get(next));
+                if (!isSame) reveal(rows.get(next));
+            });
         },
         /** Chooses the security of an id, where there is one. */
         pick(id) {

@@ -2,8 +2,9 @@
 
 /**
  * @param {HTMLElement} list  Its buttons are the tabs; each names its panel by aria-controls.
+ * @param {() => void} opened  Is told when another panel is seen.
  */
-export function makeTabs(list) {
+export function makeTabs(list, opened) {
     const tabs = /** @type {HTMLButtonElement[]} */ ([...list.querySelectorAll('[role="tab"]')]);
     const panelOf = (/** @type {HTMLElement} */ tab) => (
         /** @type {HTMLElement} */ (document.getElementById(tab.getAttribute('aria-controls') ?? '')));
@@ -15,6 +16,7 @@ export function makeTabs(list) {
             tab.tabIndex = tab === (chosen ?? tabs[0]) ? 0 : -1;
             panelOf(tab).hidden = tab !== chosen;
         }
+        opened();
     }
 
     for (const tab of tabs) tab.addEventListener('click', () => show(isOpen(tab) ? null : tab));

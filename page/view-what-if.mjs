@@ -89,6 +89,7 @@ export function makeWhatIf(room, work) {
     /** @type {string | null} The line that would be kept. */
     let wanted = null;
     let asked = 0;
+    let isOld = false; // what the form has is of another security, or of another day
 
     const form = makeForm(numbersCall, { id: 'what-if', typing, changed: () => {} });
     const title = el('h3', {});
@@ -115,6 +116,7 @@ export function makeWhatIf(room, work) {
     form.node.addEventListener('change', () => look());
 
     function reset() {
+        isOld = false;
         const last = security === null ? null : desk.lastEvaluation(security.id);
         const made = last === null ? null : formOf(last);
         node.hidden = made === null || 'fault' in made;
@@ -182,9 +184,14 @@ export function makeWhatIf(room, work) {
     }
 
     return {
+        // The form is filled when it is seen: a line that is said elsewhere need not wait for it.
         chose(/** @type {any} */ chosen) {
             security = chosen;
-            reset();
+            isOld = true;
+            if (!room.hidden) reset();
+        },
+        seen() {
+            if (isOld && !room.hidden) reset();
         },
         opened() {
             security = null;

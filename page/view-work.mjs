@@ -26,6 +26,7 @@ import { RECORD_CALLS, wordsOf } from './answers.mjs';
  *
  * @typedef {object} Panel  What a panel is told of.
  * @property {() => void} [opened]  Another evening was opened.
+ * @property {() => void} [seen]  Another panel is seen, and perhaps it is this one.
  * @property {() => void} [counted]  There are other lines that are not saved.
  * @property {(security: Security | null) => void} [chose]  A security was chosen in the table.
  * @property {HTMLElement} [room]
@@ -75,7 +76,7 @@ export function makeWork(given) {
         makeWhatIf(room('panel-what-if'), work),
         save,
     ];
-    const tabs = makeTabs(room('tabs'));
+    const tabs = makeTabs(room('tabs'), () => panels.forEach((panel) => panel.seen?.()));
 
     /** How many lines are not saved, and whether there is one to take back. */
     function count() {

@@ -1,12 +1,13 @@
 // As many securities as the table takes, with a year of days: how long the page takes to open them, and to answer a
-// typed line. Times are taken in the page itself, from the press of the key until the answer is drawn.
+// typed line. Times are taken in the page itself, from the press of the key until the answer is drawn. Of each kind of
+// line three are typed, and the middle one counts: another program on the machine may hold up one of them.
 import assert from 'node:assert/strict';
 import { makeEvening } from '../tests/evenings.mjs';
 import { at } from './browser.mjs';
-import { answerTo, panel } from './caseworker.mjs';
+import { panel } from './caseworker.mjs';
+import { linesOf } from './house.mjs';
 import { openFile, openPage } from './member.mjs';
 import { TABLE, lookAtTable, toldOf } from './shown.mjs';
-import { linesOf } from './house.mjs';
 
 const SECURITIES = 512;
 const DAYS = 250;
@@ -37,38 +38,54 @@ const WATCH_LINES = `(() => {
     }))).observe(document.querySelector('#panel-say [data-answer]'), { attributeFilter: ['data-answer'] });
 })()`;
 
+/** Lines of each kind, every one behind those before it: a refused one changes nothing. */
+function linesBehind(/** @type {string[]} */ lines) {
+    const lastOf = (/** @type {number} */ id) => lines.findLast((line) => line.startsWith(`evaluate ${id} `)) ?? '';
+    const ids = [1001, 1256, 1512];
+    const evaluations = ids.map((id) => lastOf(id).replace(/^(evaluate \d+) \d+/, `$1 ${DAYS + 2}`));
+    return {
+        evaluate: evaluations,
+        move: ids.map((id) => `move ${id} 0`),
+        quote: ids.map((id) => `quote ${id} 36000 0 0 0`),
+        read: ids.map((id) => `read ${id}`),
+        refused: evaluations, // the day is not after the last one
+    };
+}
+
+const middleOf = (/** @type {number[]} */ numbers) => [...numbers].sort((one, other) => one - other)[numbers.length >> 1];
+
 export async function greatEvening(/** @type {import('./browser.mjs').Browser} */ browser,
     /** @type {import('./house.mjs').House} */ house) {
     const lines = makeEvening({ seed: 5, securities: SECURITIES, days: DAYS, plain: true });
-    const bytes = Buffer.from(lines.map((line) => `${line}\n`).join(''), 'latin1');
-    const file = house.fileOf('great.txt', bytes);
+    const bytesOf = (/** @type {string[]} */ some) => Buffer.from(some.map((line) => `${line}\n`).join(''), 'latin1');
     await openPage(browser, house);
     await browser.value(WATCH_OPENING('great.txt'));
-    await openFile(browser, file);
+    await openFile(browser, house.fileOf('great.txt', bytesOf(lines)));
     await browser.until('times.opened !== undefined');
-    const opened = await browser.value('times.opened');
+    const opened = Math.round(await browser.value('times.opened'));
     await panel(browser, 'say');
     await browser.value(WATCH_LINES);
-    const [last] = lines.slice(-1);
-    const next = (/** @type {number} */ id) => last.replace(/^evaluate \d+ \d+/, `evaluate ${id} ${DAYS + 2}`);
-    const said = [next(1001), 'move 1001 0', next(1256), next(1512), 'quote 1512 36000 0 0 0', 'read 1300', next(8)];
-    const kept = [...lines];
     await browser.click('#line');
+    const kinds = linesBehind(lines);
+    const said = Object.values(kinds).flat();
+    const answers = linesOf(house.run('evening', bytesOf([...lines, ...said])));
     for (const [index, line] of said.entries()) {
         await browser.write(line);
         await browser.press('Enter');
         await browser.until(`times.lines.length === ${index + 1}`);
-        const answer = answerTo(house, kept, line);
-        assert.equal(await browser.value(`${at('#panel-say [data-answer]')}.dataset.answer`), answer);
-        if (answer.startsWith('0')) kept.push(line);
+        const answer = await browser.value(`${at('#panel-say [data-answer]')}.dataset.answer`);
+        assert.equal(answer, answers[lines.length + index], line);
     }
     const times = (await browser.value('times.lines')).map(Math.round);
-    const answers = linesOf(house.run('evening', Buffer.from(kept.map((line) => `${line}\n`).join(''), 'latin1')));
+    const middles = Object.entries(kinds).map(([kind, some], index) => (
+        `${kind} ${middleOf(times.slice(index * some.length, (index + 1) * some.length))}`));
     await browser.value("void ['ranges', 'bands'].forEach((name) => document.getElementById('show-' + name).click())");
-    const looked = lookAtTable(await browser.value(TABLE), toldOf(kept, answers));
-    const words = `${lines.length} lines opened in ${Math.round(opened)} ms, ${times.length} typed lines answered in ` +
-        `${Math.min(...times)} to ${Math.max(...times)} ms, ${looked} figures`;
+    const looked = lookAtTable(await browser.value(TABLE), toldOf([...lines, ...said], answers));
+    const words = `${lines.length} lines opened in ${opened} ms; a typed line answered and drawn in (ms) ` +
+        `${middles.join(', ')}, the slowest of ${times.length} in ${Math.max(...times)}; ${looked} figures`;
     assert.ok(opened <= OPENED_MOST, `${words}: at most ${OPENED_MOST} ms are allowed for the opening`);
-    assert.ok(Math.max(...times) <= ANSWERED_MOST, `${words}: at most ${ANSWERED_MOST} ms are allowed for a line`);
+    for (const kind of middles) {
+        assert.ok(Number(kind.split(' ')[1]) <= ANSWERED_MOST, `${words}: ${ANSWERED_MOST} ms are allowed for a line`);
+    }
     return words;
 }

@@ -1,6 +1,6 @@
-// Every figure that the page shows, against the answers of `evening`: those of the table by their places in the answer
-// (docs/EVENING.md, "The answers"), those of one security among the numbers that stand in its lines and answers. Places
-// and units are written here once more, and nothing is taken from the page's own lists.
+// Every figure that the page shows, against the answers of `evening`: those of the tables by their places in the answer
+// (docs/EVENING.md, "The answers"), all others of a security among the numbers that stand in its lines and answers.
+// Places and units are written here once more, and nothing is taken from the page's own lists.
 import assert from 'node:assert/strict';
 
 const RECORD_WORDS = 46;
@@ -87,7 +87,12 @@ const ALL_OF = (/** @type {string[]} */ ids) => `(async () => {
             const where = parentElement.closest('svg') ? 'drawing' : cell ? head : parentElement.localName;
             pieces.push({ text: data, where: where + ' ' + (parentElement.getAttribute('class') ?? '') });
         }
-        shown.push({ id, pieces });
+        const nameOf = (one) => one.caption?.textContent ?? one.getAttribute('aria-label');
+        const rowsOf = (one) => [...one.tBodies[0].rows].map((row) => [...row.cells].map((cell) => cell.textContent));
+        const tables = Object.fromEntries([...room.querySelectorAll('table')].map((one) => [nameOf(one), rowsOf(one)]));
+        const cards = [...room.querySelectorAll('.cards > div')].map((one) => (
+            [one.querySelector('dt').textContent, one.querySelector('dd').firstChild.data]));
+        shown.push({ id, pieces, tables, cards, price: room.querySelector('.big')?.firstChild.data });
     }
     return shown;
 })()`;
@@ -133,6 +138,40 @@ function numbersOf(/** @type {Told[]} */ told) {
     return { numbers, move: moveOf(BigInt(days[days.length - 1].answer[4]), before.map(BigInt)) };
 }
 
+/** The places of what one security shows in tables and cards: those of its last record, and of each of its days. */
+function expectedOf(/** @type {Told[]} */ told) {
+    const last = told[told.length - 1].answer;
+    const dayOf = (/** @type {string[]} */ w) => [w[3], w[4], w[6], w[7], w[9], w[10], w[11]];
+    return {
+        price: last[4],
+        cards: [last[9], last[10], last[11], last[7], last[6]],
+        ranges: [0, 1, 2].map((level) => [String(level + 1), last[15 + level], last[12 + level]]),
+        bands: [0, 1, 2].map((term) => [0, 1, 2, 3, 4].map((place) => last[18 + 7 * term + place])),
+        days: told.filter(({ call }) => call === 'evaluate').map(({ answer }) => dayOf(answer)).reverse(),
+    };
+}
+
+/** The same as it is shown. */
+function placedOf(/** @type {any} */ { price, cards, tables }) {
+    const each = (/** @type {string[]} */ cells, /** @type {number[]} */ decimals) => (
+        cells.map((cell, place) => wholeOf(cell.replace('◆ ', ''), decimals[place])));
+    const rows = (/** @type {string} */ name, /** @type {number[]} */ decimals) => (
+        tables[name].map((/** @type {string[]} */ cells) => each(cells, decimals)));
+    const bands = tables['Bands, in roubles'].map((/** @type {string[]} */ [days, repo, lower, upper]) => (
+        each([days, ...repo.split(' to '), lower, upper], [0, 2, 2, 4, 4])));
+    const withoutChange = tables['Days, the latest first']
+        .map((/** @type {string[]} */ cells) => cells.filter((_, place) => place !== 2));
+    assert.deepEqual(cards.map((/** @type {string[]} */ [name]) => name),
+        ['rate 1', 'rate 2', 'rate 3', 'tentative', 'volatility']);
+    return {
+        price: wholeOf(price, 4),
+        cards: each(cards.map((/** @type {string[]} */ [, figure]) => figure), [2, 2, 2, 2, 4]),
+        ranges: rows('Ranges, in roubles', [0, 4, 4]),
+        bands,
+        days: withoutChange.map((/** @type {string[]} */ cells) => each(cells, [0, 4, 4, 2, 2, 2, 2])),
+    };
+}
+
 const isChange = (/** @type {{ text: string, where: string }} */ { text, where }) => (
     where.startsWith('change') || (/^small (up|down|dim)$/.test(where) && text.includes('%')));
 const TIME = /\d\d:\d\d:\d\d/g;
@@ -142,9 +181,12 @@ const NAME = /\b(?:rates?|levels?|terms?) [0-3](?:, [0-3])*\b/gi; // a level's o
 export async function lookAtEach(/** @type {import('./browser.mjs').Browser} */ browser,
     /** @type {Map<string, Told[]>} */ told, /** @type {string[]} */ ids) {
     let looked = 0;
-    for (const { id, pieces } of await browser.value(ALL_OF(ids))) {
-        const { numbers, move } = numbersOf(/** @type {Told[]} */ (told.get(id)));
+    for (const { id, pieces, ...placed } of await browser.value(ALL_OF(ids))) {
+        const ofIt = /** @type {Told[]} */ (told.get(id));
+        const { numbers, move } = numbersOf(ofIt);
         assert.ok(pieces.length > 3, `security ${id} shows nothing`);
+        const isEvaluated = ofIt.some(({ call }) => call === 'evaluate');
+        if (isEvaluated) assert.deepEqual(placedOf(placed), expectedOf(ofIt), `security ${id}`);
         for (const piece of pieces) {
             if (isChange(piece) || piece.where === 'level ') continue;
             const text = withoutMade(piece.text, move).replace(NAME, '').replace(TIME, (time) => {
