@@ -6,7 +6,7 @@ import fs from 'node:fs';
 import { at } from './browser.mjs';
 import { FORMS } from './forms.mjs';
 import { linesOf } from './house.mjs';
-import { fits, openFile, openPage } from './member.mjs';
+import { PHONE, fits, openFile, openPage } from './member.mjs';
 import { TABLE, wholeOf } from './shown.mjs';
 
 /**
@@ -372,7 +372,7 @@ export async function onPhone(/** @type {Browser} */ browser, /** @type {House} 
     await openPage(browser, house);
     await openFile(browser, house.example('evening.txt'));
     await browser.click('#table tbody button[data-id="16"]');
-    await browser.size(390, 844);
+    await browser.size(...PHONE);
     for (const name of ['say', 'exchange', 'admissions', 'what-if', 'save']) {
         await panel(browser, name);
         await fits(browser, `the panel ${name}`);
@@ -387,5 +387,5 @@ export async function onPhone(/** @type {Browser} */ browser, /** @type {House} 
     await browser.click('label:has(#say-call-evaluate)');
     await browser.picture(house.pictureOf(browser.name, 'phone-form'));
     await browser.size(1500, 1050);
-    return `5 panels and ${FORMS.length} forms at 390 pixels, every control named`;
+    return `5 panels and ${FORMS.length} forms at ${PHONE[0]} pixels, every control named`;
 }

@@ -61,6 +61,7 @@ export function lookAtTable(/** @type {Record<string, string>[]} */ rows, /** @t
             const expected = isLive ? words[place] : null;
             const shown = row[key] === '–' ? null : wholeOf(row[key], decimalsOf(key));
             assert.equal(shown, expected, `security ${row.id}, ${key}: '${row[key]}'`);
+            if (isLive) assert.equal(row[key].endsWith(' %'), key in DECIMALS, `security ${row.id}, ${key}: its unit`);
             looked += 1;
         }
         if (hasSession && isLive) assert.equal(row.session, SESSIONS[Number(words[42])]);
@@ -151,6 +152,35 @@ function expectedOf(/** @type {Told[]} */ told) {
     };
 }
 
+/** The statics by the names that the page gives them: their place in an admission's line, decimals and unit. */
+const STATICS = /** @type {Record<string, [number, number, string]>} */ ({
+    'pieces of a lot': [7, 0, ''], 'step of the rates (h)': [8, 2, ' %'], 'multiplier (q)': [9, 2, ''],
+    'upward weight': [10, 2, ' %'], 'downward weight': [11, 2, ' %'], 'wait, trading days': [12, 0, ''],
+    'horizon of level 1, days': [13, 0, ''], 'horizon of level 2, days': [14, 0, ''],
+    'horizon of level 3, days': [15, 0, ''], 'liquidity rate': [16, 2, ' %'], 'minimum of rate 1': [17, 2, ' %'],
+    'minimum of rate 2': [18, 2, ' %'], 'minimum of rate 3': [19, 2, ' %'], 'maximum of the rates': [20, 2, ' %'],
+    'divisor of the band (x_pr)': [21, 2, ''], 'shift of a move': [22, 2, ''],
+    'farthest upper band limit': [23, 2, ' %'], 'farthest lower band limit': [24, 2, ' %'],
+    'nearness to a limit (w)': [25, 2, ' %'], 'seconds to an alert': [26, 0, ''],
+    'seconds to an alert in the evening': [29, 0, ''], 'most moves of an evening': [31, 0, ''],
+});
+const ANSWERED_YES = { monitored: 27, 'modelled (isEWMA)': 28, 'moves in the evening': 30, 'outside prices used': 32 };
+
+/** Every static has its own figure, with its unit. */
+function lookAtStatics(/** @type {string[][]} */ rows, /** @type {string[]} */ line) {
+    assert.equal(rows.length, line.length - 7, 'the statics are not all there');
+    for (const [name, shown] of rows) {
+        const place = ANSWERED_YES[/** @type {keyof typeof ANSWERED_YES} */ (name)];
+        if (place !== undefined) {
+            assert.equal(shown, line[place] === '1' ? 'yes' : 'no', name);
+        } else {
+            const [word, decimals, unit] = STATICS[name];
+            assert.equal(wholeOf(shown, decimals), line[word], name);
+            assert.equal(/ %$/.exec(shown)?.[0] ?? '', unit, name);
+        }
+    }
+}
+
 /** The same as it is shown. */
 function placedOf(/** @type {any} */ { price, cards, tables }) {
     const each = (/** @type {string[]} */ cells, /** @type {number[]} */ decimals) => (
@@ -187,6 +217,7 @@ export async function lookAtEach(/** @type {import('./browser.mjs').Browser} */ 
         assert.ok(pieces.length > 3, `security ${id} shows nothing`);
         const isEvaluated = ofIt.some(({ call }) => call === 'evaluate');
         if (isEvaluated) assert.deepEqual(placedOf(placed), expectedOf(ofIt), `security ${id}`);
+        lookAtStatics(placed.tables.Statics, ofIt[0].line);
         for (const piece of pieces) {
             if (isChange(piece) || piece.where === 'level ') continue;
             const text = withoutMade(piece.text, move).replace(NAME, '').replace(TIME, (time) => {
