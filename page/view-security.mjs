@@ -146,13 +146,13 @@ let widthBefore = 0;
 function drawn(draw) {
     let width = widthBefore;
     const room = el('div', {}, width > 0 && draw(width));
-    new ResizeObserver(() => {
+    new ResizeObserver(() => requestAnimationFrame(() => {
         const now = Math.max(LEAST_WIDTH, Math.floor(room.clientWidth));
-        if (now === width) return;
+        if (now === width || !room.isConnected) return;
         width = now;
         widthBefore = now;
         room.replaceChildren(draw(width));
-    }).observe(room);
+    })).observe(room);
     return room;
 }
 

@@ -122,12 +122,8 @@ export function makeWork(given) {
             panels.forEach((panel) => panel.opened?.());
             status('');
             count();
-            if (!isNew) {
-                tabs.close();
-                return;
-            }
-            tabs.open('tab-say');
-            say.focus();
+            if (isNew) tabs.open('tab-say');
+            else tabs.close();
         },
         /** Something else was opened, which is no evening. */
         closed() {
