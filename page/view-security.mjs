@@ -2,7 +2,8 @@
 import { answerOf } from './answers.mjs';
 import { el, table } from './element.mjs';
 import { placesOf } from './figures.mjs';
-import { COLUMNS, dayAt } from './sheet.mjs';
+import { COLUMNS } from './columns.mjs';
+import { dayAt } from './security.mjs';
 import { daysChart } from './view-days.mjs';
 import { ladder } from './view-ladder.mjs';
 import { badges, sessionOf } from './view-table.mjs';

@@ -10,7 +10,7 @@ import { RECORD_CALLS, wordsOf } from './answers.mjs';
 
 /**
  * @typedef {import('./heard.mjs').Heard} Heard
- * @typedef {import('./sheet.mjs').Sheet['securities'][number]} Security
+ * @typedef {import('./security.mjs').Security} Security
  *
  * @typedef {object} Work  What the panels share.
  * @property {any} desk
