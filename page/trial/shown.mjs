@@ -69,8 +69,21 @@ export function lookAtTable(/** @type {Record<string, string>[]} */ rows, /** @t
     return looked;
 }
 
-// What one security shows, as pieces of text with what they stand in; drawings and tables that come later are waited
-// for.
+/** The pieces of text in a room, each with what it stands in. */
+const PIECES = `(room) => {
+    const pieces = [];
+    const texts = document.createTreeWalker(room, NodeFilter.SHOW_TEXT);
+    while (texts.nextNode()) {
+        const { parentElement, data } = texts.currentNode;
+        const cell = parentElement.closest('td');
+        const head = cell?.closest('table').querySelectorAll('thead th')[cell.cellIndex]?.textContent ?? '';
+        const where = parentElement.closest('svg') ? 'drawing' : cell ? head : parentElement.localName;
+        pieces.push({ text: data, where: where + ' ' + (parentElement.getAttribute('class') ?? '') });
+    }
+    return pieces;
+}`;
+
+// What one security shows; drawings and tables that come later are waited for.
 const ALL_OF = (/** @type {string[]} */ ids) => `(async () => {
     const frame = () => new Promise((done) => requestAnimationFrame(() => setTimeout(done)));
     const shown = [];
@@ -79,15 +92,7 @@ const ALL_OF = (/** @type {string[]} */ ids) => `(async () => {
         const room = document.getElementById('one');
         for (const closed of room.querySelectorAll('details')) closed.open = true;
         await frame();
-        const pieces = [];
-        const texts = document.createTreeWalker(room, NodeFilter.SHOW_TEXT);
-        while (texts.nextNode()) {
-            const { parentElement, data } = texts.currentNode;
-            const cell = parentElement.closest('td');
-            const head = cell?.closest('table').querySelectorAll('thead th')[cell.cellIndex]?.textContent ?? '';
-            const where = parentElement.closest('svg') ? 'drawing' : cell ? head : parentElement.localName;
-            pieces.push({ text: data, where: where + ' ' + (parentElement.getAttribute('class') ?? '') });
-        }
+        const pieces = (${PIECES})(room);
         const nameOf = (one) => one.caption?.textContent ?? one.getAttribute('aria-label');
         const rowsOf = (one) => [...one.tBodies[0].rows].map((row) => [...row.cells].map((cell) => cell.textContent));
         const tables = Object.fromEntries([...room.querySelectorAll('table')].map((one) => [nameOf(one), rowsOf(one)]));
@@ -207,6 +212,47 @@ const isChange = (/** @type {{ text: string, where: string }} */ { text, where }
 const TIME = /\d\d:\d\d:\d\d/g;
 const NAME = /\b(?:rates?|levels?|terms?) [0-3](?:, [0-3])*\b/gi; // a level's or a term's number is a name
 
+/**
+ * Every figure of some pieces stands among the numbers, but for what the page makes itself of a move.
+ * @param {{ text: string, where: string }[]} pieces
+ * @param {Set<string>} numbers
+ * @param {bigint[]} move
+ * @param {string} whose
+ */
+function lookAtPieces(pieces, numbers, move, whose) {
+    let looked = 0;
+    for (const piece of pieces) {
+        if (isChange(piece) || piece.where === 'level ') continue;
+        const text = withoutMade(piece.text, move).replace(NAME, '').replace(TIME, (time) => {
+            const second = time.split(':').reduce((sum, part) => sum * 60 + Number(part), 0);
+            assert.ok(numbers.has(String(second)), `${whose}: no answer has the second of '${piece.text}'`);
+            return '';
+        });
+        for (const [figure] of text.matchAll(FIGURE)) {
+            assert.ok(isAmong(figure, numbers), `${whose}: '${figure}' of '${piece.text}' (${piece.where}) stands in ` +
+                'none of the lines and answers');
+            looked += 1;
+        }
+    }
+    return looked;
+}
+
+/** Looks at the figures of the answer to a line that stand in a room, which has the program's own line too. */
+export async function lookAtAnswer(/** @type {import('./browser.mjs').Browser} */ browser, /** @type {string} */ room,
+    /** @type {string} */ line, /** @type {string} */ answer) {
+    const pieces = await browser.value(`(${PIECES})(document.querySelector(${JSON.stringify(room)}))`);
+    const numbers = new Set([...line.split(/[ /]/), ...answer.split(' ')]);
+    return lookAtPieces(pieces.filter((/** @type {any} */ { text }) => text !== answer), numbers, [0n, 1n], line);
+}
+
+/** Looks at the reasons that stand in a room, of an evaluation and of what was before it. */
+export async function lookAtReasons(/** @type {import('./browser.mjs').Browser} */ browser, /** @type {string} */ room,
+    /** @type {Told[]} */ told) {
+    const pieces = await browser.value(`(${PIECES})(document.querySelector(${JSON.stringify(room)}))`);
+    const { numbers, move } = numbersOf(told);
+    return lookAtPieces(pieces, numbers, move, room);
+}
+
 /** Looks at all that is shown of some securities; every figure has to stand in their lines and answers. */
 export async function lookAtEach(/** @type {import('./browser.mjs').Browser} */ browser,
     /** @type {Map<string, Told[]>} */ told, /** @type {string[]} */ ids) {
@@ -218,19 +264,7 @@ export async function lookAtEach(/** @type {import('./browser.mjs').Browser} */ 
         const isEvaluated = ofIt.some(({ call }) => call === 'evaluate');
         if (isEvaluated) assert.deepEqual(placedOf(placed), expectedOf(ofIt), `security ${id}`);
         lookAtStatics(placed.tables.Statics, ofIt[0].line);
-        for (const piece of pieces) {
-            if (isChange(piece) || piece.where === 'level ') continue;
-            const text = withoutMade(piece.text, move).replace(NAME, '').replace(TIME, (time) => {
-                const second = time.split(':').reduce((sum, part) => sum * 60 + Number(part), 0);
-                assert.ok(numbers.has(String(second)), `security ${id}: no answer has the second of '${piece.text}'`);
-                return '';
-            });
-            for (const [figure] of text.matchAll(FIGURE)) {
-                assert.ok(isAmong(figure, numbers), `security ${id}: '${figure}' of '${piece.text}' (${piece.where}) ` +
-                    'stands in none of its lines and answers');
-                looked += 1;
-            }
-        }
+        looked += lookAtPieces(pieces, numbers, move, `security ${id}`);
     }
     return looked;
 }
