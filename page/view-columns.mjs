@@ -23,9 +23,10 @@ export function makeColumns(frame) {
         measuredAt = frame.clientWidth;
     }
 
-    new ResizeObserver(() => {
+    // In a frame of its own: what is measured has another size behind it.
+    new ResizeObserver(() => requestAnimationFrame(() => {
         if (frame.clientWidth !== measuredAt) measure();
-    }).observe(frame);
+    })).observe(frame);
 
     return {
         measure,

@@ -3,8 +3,9 @@
 import { makeDesk } from './desk.mjs';
 import { button, el } from './element.mjs';
 import { makeFigures } from './figures.mjs';
+import { sheetOfMessages } from './message-sheet.mjs';
 import { bytesOf, linesOf, makePrograms } from './programs.mjs';
-import { DOWNLOADS, sheetOfMessages } from './sheet.mjs';
+import { DOWNLOADS } from './downloads.mjs';
 import { ask } from './view-ask.mjs';
 import { download } from './view-files.mjs';
 import { showFailure, showNotices } from './view-notices.mjs';

@@ -1,7 +1,7 @@
 // Saving: the evening's text, the broadcast's bytes, the sheet as CSV or on paper.
 import { button, el } from './element.mjs';
 import { bytesOf } from './programs.mjs';
-import { DOWNLOADS } from './sheet.mjs';
+import { DOWNLOADS } from './downloads.mjs';
 import { download } from './view-files.mjs';
 
 /** What each table of the exchange's interface has. @type {Record<string, string>} */

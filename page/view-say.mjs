@@ -51,7 +51,8 @@ export function makeSay(room, work) {
     let isBusy = false;
 
     const groups = el('div');
-    const statics = el('select', { id: 'copy-statics', onchange: copyStatics });
+    const statics = el('select', { id: 'copy-statics', onchange: copyStatics },
+        el('option', { value: '' }, 'choose a security'));
     const copying = el('label', {}, 'Copy the statics of ', statics);
     const starting = button('', startFromLast, { id: 'start-from-last' });
     const extras = el('div', { class: 'extras' }, copying, starting);
@@ -260,6 +261,5 @@ export function makeSay(room, work) {
             said.clear();
             pickCall(isNew ? 'admit' : FIRST);
         },
-        focus: () => form.focus(),
     };
 }

@@ -2,7 +2,8 @@
 import { answerOf } from './answers.mjs';
 import { el, table } from './element.mjs';
 import { placesOf } from './figures.mjs';
-import { COLUMNS, dayAt } from './sheet.mjs';
+import { COLUMNS } from './columns.mjs';
+import { dayAt } from './security.mjs';
 import { daysChart } from './view-days.mjs';
 import { ladder } from './view-ladder.mjs';
 import { badges, sessionOf } from './view-table.mjs';
@@ -146,13 +147,13 @@ let widthBefore = 0;
 function drawn(draw) {
     let width = widthBefore;
     const room = el('div', {}, width > 0 && draw(width));
-    new ResizeObserver(() => {
+    new ResizeObserver(() => requestAnimationFrame(() => {
         const now = Math.max(LEAST_WIDTH, Math.floor(room.clientWidth));
-        if (now === width) return;
+        if (now === width || !room.isConnected) return;
         width = now;
         widthBefore = now;
         room.replaceChildren(draw(width));
-    }).observe(room);
+    })).observe(room);
     return room;
 }
 

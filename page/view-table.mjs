@@ -1,7 +1,8 @@
 // The table of securities: sorted by any column, filtered by id and by what happened.
 import { el } from './element.mjs';
 import { placesOf } from './figures.mjs';
-import { COLUMNS, HAPPENED, chosen } from './sheet.mjs';
+import { COLUMNS, chosen } from './columns.mjs';
+import { HAPPENED } from './security.mjs';
 import { makeColumns } from './view-columns.mjs';
 
 const SHORT = { rose: '▲ rose', fell: '▼ fell', waits: '… waits', maximum: 'at max', hidden: '◆ rounding' };

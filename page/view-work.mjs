@@ -10,7 +10,7 @@ import { RECORD_CALLS, wordsOf } from './answers.mjs';
 
 /**
  * @typedef {import('./heard.mjs').Heard} Heard
- * @typedef {import('./sheet.mjs').Sheet['securities'][number]} Security
+ * @typedef {import('./security.mjs').Security} Security
  *
  * @typedef {object} Work  What the panels share.
  * @property {any} desk
@@ -122,12 +122,8 @@ export function makeWork(given) {
             panels.forEach((panel) => panel.opened?.());
             status('');
             count();
-            if (!isNew) {
-                tabs.close();
-                return;
-            }
-            tabs.open('tab-say');
-            say.focus();
+            if (isNew) tabs.open('tab-say');
+            else tabs.close();
         },
         /** Something else was opened, which is no evening. */
         closed() {

@@ -16,6 +16,7 @@ import path from 'node:path';
  * @property {(width: number, height: number, isDark: boolean) => Promise<void>} resize
  * @property {() => Promise<Buffer>} photograph  What is seen, as PNG.
  * @property {() => Promise<Buffer>} print  The page on A4, as PDF.
+ * @property {() => Promise<string[]>} arrived  The files that are downloaded, each whole.
  * @property {() => Promise<boolean>} leave  Tries to leave the page, and stays where it asks: whether it asked.
  * @property {() => Promise<string[]>} complaints  Errors of the page, and what it asked for beside itself.
  * @property {() => Promise<void>} end
@@ -26,7 +27,6 @@ import path from 'node:path';
 const PATIENCE = 30_000; // milliseconds; a busy machine is slow
 const LOOK_AGAIN = 20;
 const TABS_MOST = 400;
-const EMPTY_FOR = 300;
 
 export const later = (/** @type {number} */ milliseconds) => new Promise((done) => setTimeout(done, milliseconds));
 
@@ -74,12 +74,8 @@ export async function until(/** @type {() => T | Promise<T>} */ ask, /** @type {
 /** An expression of what a selector finds. */
 export const at = (/** @type {string} */ selector) => `document.querySelector(${JSON.stringify(selector)})`;
 
-/**
- * A browser with what the trials do in it, each by what its driver can do.
- * @param {Driver} driver
- * @param {string} downloads the folder of what is downloaded
- */
-export function makeBrowser(driver, downloads) {
+/** A browser with what the trials do in it, each by what its driver can do. */
+export function makeBrowser(/** @type {Driver} */ driver) {
     const browser = {
         ...driver,
         until: (/** @type {string} */ expression) => until(() => driver.value(expression), expression),
@@ -114,17 +110,12 @@ export function makeBrowser(driver, downloads) {
         },
         /** What a press downloads: its name and its bytes. */
         async downloaded(/** @type {() => Promise<unknown>} */ act) {
-            const before = new Set(fs.readdirSync(downloads));
+            const before = (await driver.arrived()).length;
             await act();
-            const isWhole = (/** @type {string} */ name) => !before.has(name) && !/\.(crdownload|part)$/.test(name) &&
-                !fs.existsSync(path.join(downloads, `${name}.part`)) && !name.startsWith('.');
-            const name = await until(() => fs.readdirSync(downloads).find(isWhole), 'a download');
-            const file = path.join(downloads, name);
-            if (fs.statSync(file).size === 0) await later(EMPTY_FOR); // it is empty, or its bytes are not there yet
-            await until(() => isWhole(name), `the bytes of ${name}`);
+            const file = await until(async () => (await driver.arrived())[before], 'a download');
             const bytes = fs.readFileSync(file);
-            fs.rmSync(file);
-            return { name, bytes };
+            fs.rmSync(file); // the next one may have its name
+            return { name: path.basename(file), bytes };
         },
     };
     return browser;

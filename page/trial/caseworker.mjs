@@ -6,8 +6,8 @@ import fs from 'node:fs';
 import { at } from './browser.mjs';
 import { FORMS } from './forms.mjs';
 import { linesOf } from './house.mjs';
-import { fits, openFile, openPage } from './member.mjs';
-import { TABLE, wholeOf } from './shown.mjs';
+import { PHONE, fits, openFile, openPage } from './member.mjs';
+import { TABLE, lookAtAnswer, lookAtReasons, toldOf, wholeOf } from './shown.mjs';
 
 /**
  * @typedef {import('./browser.mjs').Browser} Browser
@@ -87,6 +87,7 @@ export async function forms(/** @type {Browser} */ browser, /** @type {House} */
     await newEvening(browser, house);
     /** @type {string[]} */
     const kept = [];
+    let looked = 0;
     for (const said of FORMS) {
         await browser.click(`label:has(#say-call-${said.call})`);
         await fillCall(browser, said);
@@ -94,13 +95,15 @@ export async function forms(/** @type {Browser} */ browser, /** @type {House} */
         const answer = await answered(browser, () => enter(browser));
         assert.equal(answer, answerTo(house, kept, said.line), said.line);
         assert.equal(await browser.value(`${at(ANSWER)}.dataset.accepted`), 'true', said.line);
+        looked += await lookAtAnswer(browser, ANSWER, said.line, answer);
         kept.push(said.line);
     }
     await browser.click('label:has(#say-call-evaluate)');
     await browser.picture(house.pictureOf(browser.name, 'form'));
     const text = await saved(browser);
     assert.deepEqual(linesOf(text), kept);
-    return `${FORMS.length} calls, ${FORMS.reduce((sum, { values }) => sum + Object.keys(values).length, 0)} fields`;
+    const fields = FORMS.reduce((sum, { values }) => sum + Object.keys(values).length, 0);
+    return `${FORMS.length} calls, ${fields} fields and their rows, ${looked} figures of the answers`;
 }
 
 /** The evening's text as it is saved. */
@@ -200,12 +203,17 @@ export async function whatIf(/** @type {Browser} */ browser, /** @type {House} *
         looked += 2;
     }
     assert.equal(looked, 2 * Object.keys(places).length);
+    for (const [line, room] of [[before[place], 1], [words.join(' '), 2]]) {
+        const lines = [...before.slice(0, place), String(line)];
+        const told = toldOf(lines, linesOf(house.run('evening', bytesOf(lines)))).get('16');
+        looked += await lookAtReasons(browser, `#panel-what-if .reasons section:nth-of-type(${room}) ul`, told);
+    }
     await browser.picture(house.pictureOf(browser.name, 'what-if'));
     assert.equal(await browser.value(`${at('#unsaved')}.hidden`), true, 'a what-if is kept without being told so');
     await browser.tabTo('#adopt');
     await browser.press('Enter');
     await browser.until(`!${at('#unsaved')}.hidden`);
-    const kept = before.with(place, words.join(' '));
+    const kept = before.map((line, index) => (index === place ? words.join(' ') : line));
     assert.deepEqual(linesOf(await saved(browser)), kept);
     await browser.click('#undo');
     await browser.until(`!${at('#unsaved')}.hidden`);
@@ -372,7 +380,7 @@ export async function onPhone(/** @type {Browser} */ browser, /** @type {House} 
     await openPage(browser, house);
     await openFile(browser, house.example('evening.txt'));
     await browser.click('#table tbody button[data-id="16"]');
-    await browser.size(390, 844);
+    await browser.size(...PHONE);
     for (const name of ['say', 'exchange', 'admissions', 'what-if', 'save']) {
         await panel(browser, name);
         await fits(browser, `the panel ${name}`);
@@ -387,5 +395,5 @@ export async function onPhone(/** @type {Browser} */ browser, /** @type {House} 
     await browser.click('label:has(#say-call-evaluate)');
     await browser.picture(house.pictureOf(browser.name, 'phone-form'));
     await browser.size(1500, 1050);
-    return `5 panels and ${FORMS.length} forms at 390 pixels, every control named`;
+    return `5 panels and ${FORMS.length} forms at ${PHONE[0]} pixels, every control named`;
 }

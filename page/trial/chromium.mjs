@@ -1,6 +1,7 @@
 // Drives a headless Chromium over a pipe, with nothing to install beside it: Debian has it in `chromium`.
 import { spawn } from 'node:child_process';
 import fs from 'node:fs';
+import path from 'node:path';
 import { later, makeBrowser, makeFolder, pressOf, until } from './browser.mjs';
 
 const WORDS = ['--headless=new', '--no-sandbox', '--disable-gpu', '--hide-scrollbars', '--lang=en-US', '--no-first-run',
@@ -62,7 +63,7 @@ export async function startChromium() {
     const { sessionId } = await send('Target.attachToTarget', { targetId, flatten: true });
     const call = (/** @type {string} */ method, params = {}) => send(method, params, sessionId);
     for (const domain of ['Page', 'Runtime', 'Network', 'DOM', 'Log']) await call(`${domain}.enable`);
-    await send('Browser.setDownloadBehavior', { behavior: 'allow', downloadPath: downloads });
+    await send('Browser.setDownloadBehavior', { behavior: 'allow', downloadPath: downloads, eventsEnabled: true });
     const { product } = await send('Browser.getVersion');
 
     async function value(/** @type {string} */ expression) {
@@ -130,6 +131,13 @@ export async function startChromium() {
             const { data } = await call('Page.printToPDF', A4);
             return Buffer.from(data, 'base64');
         },
+        async arrived() {
+            const begun = events.filter(({ method }) => method === 'Browser.downloadWillBegin');
+            const ended = events.filter(({ method, params }) => (
+                method === 'Browser.downloadProgress' && params.state === 'completed'));
+            return ended.map(({ params }) => begun.find((one) => one.params.guid === params.guid))
+                .map(({ params }) => path.join(downloads, params.suggestedFilename));
+        },
         async leave() {
             const before = events.length;
             call('Page.navigate', { url: 'about:blank' }).catch(() => {});
@@ -148,5 +156,5 @@ export async function startChromium() {
             await Promise.race([ended, later(2000)]);
             fs.rmSync(folder, { recursive: true, force: true, maxRetries: 5 });
         },
-    }, downloads);
+    });
 }

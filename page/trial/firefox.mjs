@@ -56,6 +56,11 @@ const RESIZE = `
     }
     browser.browsingContext.prefersColorSchemeOverride = scheme;`;
 
+const ARRIVED = `
+    const { Downloads } = ChromeUtils.importESModule('resource://gre/modules/Downloads.sys.mjs');
+    return Downloads.getList(Downloads.ALL).then((list) => list.getAll())
+        .then((all) => all.filter((one) => one.succeeded).map((one) => one.target.path));`;
+
 /** The protocol's messages on a socket. */
 function protocolOf(/** @type {net.Socket} */ socket) {
     const waiting = new Map();
@@ -160,6 +165,7 @@ export async function startFirefox() {
         async print() {
             return Buffer.from((await send('WebDriver:Print', A4)).value, 'base64');
         },
+        arrived: () => inside(ARRIVED),
         async leave() {
             await value("void (location.href = 'about:blank')");
             const asks = () => send('WebDriver:GetAlertText').then(() => true, () => false);
@@ -178,5 +184,5 @@ export async function startFirefox() {
             await Promise.race([ended, later(2000)]);
             fs.rmSync(folder, { recursive: true, force: true, maxRetries: 5 });
         },
-    }, downloads);
+    });
 }

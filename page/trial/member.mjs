@@ -179,22 +179,24 @@ export async function downloads(/** @type {Browser} */ browser, /** @type {House
     return `${looked} lines of four files`;
 }
 
-/** Nothing makes the page wider than the window. */
+export const PHONE = /** @type {const} */ ([390, 844]);
+
+/** Nothing makes the page wider than a phone. A browser may also shrink a page that is too wide: the window then is. */
 export async function fits(/** @type {Browser} */ browser, /** @type {string} */ what) {
-    const [inside, width] = await browser.value('[document.documentElement.scrollWidth, innerWidth]');
-    assert.ok(inside <= width, `${what} runs over the width of ${width} pixels by ${inside - width}`);
+    const widths = await browser.value('[document.documentElement.scrollWidth, innerWidth]');
+    for (const width of widths) assert.ok(width <= PHONE[0], `${what} has a width of ${width}, and a phone ${PHONE[0]}`);
 }
 
 /** A phone's width: nothing runs over. */
 export async function phone(/** @type {Browser} */ browser, /** @type {House} */ house) {
     await openPage(browser, house);
     await openFile(browser, house.example('evening.txt'));
-    await browser.size(390, 844);
+    await browser.size(...PHONE);
     await fits(browser, 'the sheet');
     await browser.picture(house.pictureOf(browser.name, 'phone'));
     await browser.click('#table tbody button[data-id="16"]');
     await fits(browser, 'a security');
     await browser.picture(house.pictureOf(browser.name, 'phone-one'));
     await browser.size(1500, 1050);
-    return '390 pixels';
+    return `${PHONE[0]} pixels`;
 }

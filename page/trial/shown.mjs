@@ -61,6 +61,7 @@ export function lookAtTable(/** @type {Record<string, string>[]} */ rows, /** @t
             const expected = isLive ? words[place] : null;
             const shown = row[key] === '–' ? null : wholeOf(row[key], decimalsOf(key));
             assert.equal(shown, expected, `security ${row.id}, ${key}: '${row[key]}'`);
+            if (isLive) assert.equal(row[key].endsWith(' %'), key in DECIMALS, `security ${row.id}, ${key}: its unit`);
             looked += 1;
         }
         if (hasSession && isLive) assert.equal(row.session, SESSIONS[Number(words[42])]);
@@ -68,8 +69,21 @@ export function lookAtTable(/** @type {Record<string, string>[]} */ rows, /** @t
     return looked;
 }
 
-// What one security shows, as pieces of text with what they stand in; drawings and tables that come later are waited
-// for.
+/** The pieces of text in a room, each with what it stands in. */
+const PIECES = `(room) => {
+    const pieces = [];
+    const texts = document.createTreeWalker(room, NodeFilter.SHOW_TEXT);
+    while (texts.nextNode()) {
+        const { parentElement, data } = texts.currentNode;
+        const cell = parentElement.closest('td');
+        const head = cell?.closest('table').querySelectorAll('thead th')[cell.cellIndex]?.textContent ?? '';
+        const where = parentElement.closest('svg') ? 'drawing' : cell ? head : parentElement.localName;
+        pieces.push({ text: data, where: where + ' ' + (parentElement.getAttribute('class') ?? '') });
+    }
+    return pieces;
+}`;
+
+// What one security shows; drawings and tables that come later are waited for.
 const ALL_OF = (/** @type {string[]} */ ids) => `(async () => {
     const frame = () => new Promise((done) => requestAnimationFrame(() => setTimeout(done)));
     const shown = [];
@@ -78,15 +92,7 @@ const ALL_OF = (/** @type {string[]} */ ids) => `(async () => {
         const room = document.getElementById('one');
         for (const closed of room.querySelectorAll('details')) closed.open = true;
         await frame();
-        const pieces = [];
-        const texts = document.createTreeWalker(room, NodeFilter.SHOW_TEXT);
-        while (texts.nextNode()) {
-            const { parentElement, data } = texts.currentNode;
-            const cell = parentElement.closest('td');
-            const head = cell?.closest('table').querySelectorAll('thead th')[cell.cellIndex]?.textContent ?? '';
-            const where = parentElement.closest('svg') ? 'drawing' : cell ? head : parentElement.localName;
-            pieces.push({ text: data, where: where + ' ' + (parentElement.getAttribute('class') ?? '') });
-        }
+        const pieces = (${PIECES})(room);
         const nameOf = (one) => one.caption?.textContent ?? one.getAttribute('aria-label');
         const rowsOf = (one) => [...one.tBodies[0].rows].map((row) => [...row.cells].map((cell) => cell.textContent));
         const tables = Object.fromEntries([...room.querySelectorAll('table')].map((one) => [nameOf(one), rowsOf(one)]));
@@ -151,6 +157,35 @@ function expectedOf(/** @type {Told[]} */ told) {
     };
 }
 
+/** The statics by the names that the page gives them: their place in an admission's line, decimals and unit. */
+const STATICS = /** @type {Record<string, [number, number, string]>} */ ({
+    'pieces of a lot': [7, 0, ''], 'step of the rates (h)': [8, 2, ' %'], 'multiplier (q)': [9, 2, ''],
+    'upward weight': [10, 2, ' %'], 'downward weight': [11, 2, ' %'], 'wait, trading days': [12, 0, ''],
+    'horizon of level 1, days': [13, 0, ''], 'horizon of level 2, days': [14, 0, ''],
+    'horizon of level 3, days': [15, 0, ''], 'liquidity rate': [16, 2, ' %'], 'minimum of rate 1': [17, 2, ' %'],
+    'minimum of rate 2': [18, 2, ' %'], 'minimum of rate 3': [19, 2, ' %'], 'maximum of the rates': [20, 2, ' %'],
+    'divisor of the band (x_pr)': [21, 2, ''], 'shift of a move': [22, 2, ''],
+    'farthest upper band limit': [23, 2, ' %'], 'farthest lower band limit': [24, 2, ' %'],
+    'nearness to a limit (w)': [25, 2, ' %'], 'seconds to an alert': [26, 0, ''],
+    'seconds to an alert in the evening': [29, 0, ''], 'most moves of an evening': [31, 0, ''],
+});
+const ANSWERED_YES = { monitored: 27, 'modelled (isEWMA)': 28, 'moves in the evening': 30, 'outside prices used': 32 };
+
+/** Every static has its own figure, with its unit. */
+function lookAtStatics(/** @type {string[][]} */ rows, /** @type {string[]} */ line) {
+    assert.equal(rows.length, line.length - 7, 'the statics are not all there');
+    for (const [name, shown] of rows) {
+        const place = ANSWERED_YES[/** @type {keyof typeof ANSWERED_YES} */ (name)];
+        if (place !== undefined) {
+            assert.equal(shown, line[place] === '1' ? 'yes' : 'no', name);
+        } else {
+            const [word, decimals, unit] = STATICS[name];
+            assert.equal(wholeOf(shown, decimals), line[word], name);
+            assert.equal(/ %$/.exec(shown)?.[0] ?? '', unit, name);
+        }
+    }
+}
+
 /** The same as it is shown. */
 function placedOf(/** @type {any} */ { price, cards, tables }) {
     const each = (/** @type {string[]} */ cells, /** @type {number[]} */ decimals) => (
@@ -177,6 +212,47 @@ const isChange = (/** @type {{ text: string, where: string }} */ { text, where }
 const TIME = /\d\d:\d\d:\d\d/g;
 const NAME = /\b(?:rates?|levels?|terms?) [0-3](?:, [0-3])*\b/gi; // a level's or a term's number is a name
 
+/**
+ * Every figure of some pieces stands among the numbers, but for what the page makes itself of a move.
+ * @param {{ text: string, where: string }[]} pieces
+ * @param {Set<string>} numbers
+ * @param {bigint[]} move
+ * @param {string} whose
+ */
+function lookAtPieces(pieces, numbers, move, whose) {
+    let looked = 0;
+    for (const piece of pieces) {
+        if (isChange(piece) || piece.where === 'level ') continue;
+        const text = withoutMade(piece.text, move).replace(NAME, '').replace(TIME, (time) => {
+            const second = time.split(':').reduce((sum, part) => sum * 60 + Number(part), 0);
+            assert.ok(numbers.has(String(second)), `${whose}: no answer has the second of '${piece.text}'`);
+            return '';
+        });
+        for (const [figure] of text.matchAll(FIGURE)) {
+            assert.ok(isAmong(figure, numbers), `${whose}: '${figure}' of '${piece.text}' (${piece.where}) stands in ` +
+                'none of the lines and answers');
+            looked += 1;
+        }
+    }
+    return looked;
+}
+
+/** Looks at the figures of the answer to a line that stand in a room, which has the program's own line too. */
+export async function lookAtAnswer(/** @type {import('./browser.mjs').Browser} */ browser, /** @type {string} */ room,
+    /** @type {string} */ line, /** @type {string} */ answer) {
+    const pieces = await browser.value(`(${PIECES})(document.querySelector(${JSON.stringify(room)}))`);
+    const numbers = new Set([...line.split(/[ /]/), ...answer.split(' ')]);
+    return lookAtPieces(pieces.filter((/** @type {any} */ { text }) => text !== answer), numbers, [0n, 1n], line);
+}
+
+/** Looks at the reasons that stand in a room, of an evaluation and of what was before it. */
+export async function lookAtReasons(/** @type {import('./browser.mjs').Browser} */ browser, /** @type {string} */ room,
+    /** @type {Told[]} */ told) {
+    const pieces = await browser.value(`(${PIECES})(document.querySelector(${JSON.stringify(room)}))`);
+    const { numbers, move } = numbersOf(told);
+    return lookAtPieces(pieces, numbers, move, room);
+}
+
 /** Looks at all that is shown of some securities; every figure has to stand in their lines and answers. */
 export async function lookAtEach(/** @type {import('./browser.mjs').Browser} */ browser,
     /** @type {Map<string, Told[]>} */ told, /** @type {string[]} */ ids) {
@@ -187,19 +263,8 @@ export async function lookAtEach(/** @type {import('./browser.mjs').Browser} */ 
         assert.ok(pieces.length > 3, `security ${id} shows nothing`);
         const isEvaluated = ofIt.some(({ call }) => call === 'evaluate');
         if (isEvaluated) assert.deepEqual(placedOf(placed), expectedOf(ofIt), `security ${id}`);
-        for (const piece of pieces) {
-            if (isChange(piece) || piece.where === 'level ') continue;
-            const text = withoutMade(piece.text, move).replace(NAME, '').replace(TIME, (time) => {
-                const second = time.split(':').reduce((sum, part) => sum * 60 + Number(part), 0);
-                assert.ok(numbers.has(String(second)), `security ${id}: no answer has the second of '${piece.text}'`);
-                return '';
-            });
-            for (const [figure] of text.matchAll(FIGURE)) {
-                assert.ok(isAmong(figure, numbers), `security ${id}: '${figure}' of '${piece.text}' (${piece.where}) ` +
-                    'stands in none of its lines and answers');
-                looked += 1;
-            }
-        }
+        lookAtStatics(placed.tables.Statics, ofIt[0].line);
+        looked += lookAtPieces(pieces, numbers, move, `security ${id}`);
     }
     return looked;
 }
