@@ -1,2 +1,0 @@
--- The definitions of text_answer, a file each.
-pub mod Kinds
