@@ -6,13 +6,13 @@ pub mod record; // the parts of a record
 ghost use mathlib.Core.List.{[], _∷_};
 ghost use Prim.Native.Nat.{_+_, _≤_};
 ghost use Rattle.text_bytes.specs.Bytes.{room};
-ghost use Rattle.text_protocol.specs.Answers.{badText, flag, recordNumbers, answerMost};
 ghost use Rattle.text_bytes.specs.Numbers.{answerText};
+ghost use Rattle.text_protocol.specs.Answers.{badText, flag, recordNumbers, callText, answerMost};
+ghost use Rattle.text_protocol.specs.Calls.{callAsked};
 ghost use Rattle.text_out.specs.Places.{nextBytes};
 ghost use Rattle.text_out.specs.Wrote.{Wrote};
 ghost use Rattle.text_out.specs.Told.{Told};
 ghost use Rattle.text_answer.specs.Sizes.{recordBytes};
-ghost use Rattle.text_answer.specs.Kinds.{textOfKind};
 use crate::record::put_external;
 use crate::record::put_last;
 use crate::record::put_levels;
@@ -24,7 +24,7 @@ use text_bytes::ROOM;
 use text_out::put_byte;
 use text_out::put_next;
 use text_out::put_number;
-use text_protocol::Kind;
+use text_protocol::AskedCall;
 
 // A refusal's number, or an admission's 0, stands alone.
 pub fn say_number(out: &mut [u8; ROOM], len: usize, no: u64) -> usize
@@ -84,24 +84,37 @@ pub fn say_record(out: &mut [u8; ROOM], len: usize, r: Record) -> usize
     put_byte(out, n, b'\n')
 }
 
-// What a call of a kind answers.
-pub fn say_answer(out: &mut [u8; ROOM], len: usize, kind: u64, a: Answer) -> usize
+// The record that an accepted call answers with.
+fn say_shown(out: &mut [u8; ROOM], len: usize, a: Answer) -> usize
     requires { ⌜ len + answerMost ≤ room ⌝ }
-    ensures { λ r. ⌜ Wrote (now (out .entry)) len (now (out .exit)) r (textOfKind kind a) answerMost ⌝ }
+    ensures { λ n. ⌜ Wrote (now (out .entry)) len (now (out .exit)) n (answerText 0 (recordNumbers (a .rec)))
+        answerMost ⌝ }
+{
+    let r = a.rec;
+    say_record(out, len, r)
+}
+
+// What a call answers: a refusal's number alone; where it is accepted, an admission has no figure, a quote its two
+// alerts, and every other call the record. The row figures of an evaluation are no part of its answer.
+pub fn say_answer(out: &mut [u8; ROOM], len: usize, c: AskedCall, a: Answer) -> usize
+    requires { ⌜ len + answerMost ≤ room ⌝ }
+    ensures { λ r. ⌜ Wrote (now (out .entry)) len (now (out .exit)) r (callText (callAsked c []) a) answerMost ⌝ }
 {
     let verdict = a.verdict;
     let no = verdict.number();
     if no != 0 {
         return say_number(out, len, no);
     }
-    if kind == Kind::ADMIT {
-        return say_number(out, len, 0);
+    match c {
+        AskedCall::Admit(_) => say_number(out, len, 0),
+        AskedCall::Evaluate(_, _) => say_shown(out, len, a),
+        AskedCall::Quote(_, _) => say_alerts(out, len, a.top, a.bottom),
+        AskedCall::Move(_, _) => say_shown(out, len, a),
+        AskedCall::Read(_) => say_shown(out, len, a),
+        AskedCall::Open(_) => say_shown(out, len, a),
+        AskedCall::Receive(_, _) => say_shown(out, len, a),
+        AskedCall::Notify(_, _) => say_shown(out, len, a),
     }
-    if kind == Kind::QUOTE {
-        return say_alerts(out, len, a.top, a.bottom);
-    }
-    let r = a.rec;
-    say_record(out, len, r)
 }
 
 // "bad" and the line's number: the answer to a line that is no call.

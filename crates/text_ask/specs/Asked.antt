@@ -1,4 +1,4 @@
--- What the desk says to a request: what its call answers, and why, where that is asked for. Assumes nothing.
+-- What the desk says to what a line asks for: what its call answers, and why, where that is asked for.
 use mathlib.Core.Path.{_≡_}
 use mathlib.Core.Bool.{Bool, true}
 use mathlib.Core.List.{List}
@@ -7,25 +7,52 @@ use Rattle.paper.specs.declared.Record.{Record}
 use Rattle.paper.specs.declared.Answer.{Answer}
 use Rattle.paper.specs.declared.Verdict.the-variants as verdict
 use Rattle.paper.specs.Terms.{dayOf}
-use Rattle.paper_reasons.specs.declared.Fault.the-variants as fault
+use Rattle.paper_desk.specs.Desk.{saying}
 use Rattle.paper_reasons.specs.declared.Why.{Why}
-use Rattle.paper_reasons.specs.Why.{noReasons, whyOn}
+use Rattle.paper_reasons.specs.Why.{whyOn}
 use Rattle.desk.specs.Promises.{Promised}
+use Rattle.text_protocol.specs.declared.AskedCall.{AskedCall}
+use Rattle.text_protocol.specs.declared.AskedCall.the-variants.{Admit, Evaluate, Quote, Move, Read, Open, Receive, Notify}
+use Rattle.text_protocol.specs.declared.Ask.{Ask}
+use Rattle.text_protocol.specs.declared.Ask.the-variants as ask
+use Rattle.text_protocol.specs.declared.Explained.{Explained}
+use Rattle.text_protocol.specs.declared.Explained.the-variants.{No, Because}
 use Rattle.text_protocol.specs.declared.Performed.{Performed}
-use Rattle.text_call.specs.declared.Request.{Request}
-use Rattle.text_call.specs.Requests.{requestCall}
+use Rattle.text_protocol.specs.Calls.{callAsked}
 
 -- an answer, and why it is that
 abbrev pub explained : Answer → Why → Performed
-explained answer why = record { answer = answer; why = why }
+explained answer why = record { answer = answer; why = Because why }
 
 -- an answer alone: no reason is named
 abbrev pub unexplained : Answer → Performed
-unexplained answer =
-    explained answer (record { verdict = verdict.Done; fault = fault.None; reasons = noReasons })
+unexplained answer = record { answer = answer; why = No }
 
--- WHAT THE DESK SAYS to the request c of the rows, from the table t to the table t'. Why is said of the table before
-pub record Asks (asked : Bool) (c : Request) (rows : List ℤ) (t : List Record) (r : Performed) (t' : List Record)
+-- what stands for an answer where the desk was asked nothing
+abbrev pub unasked : Performed
+unasked = unexplained (saying verdict.Done)
+
+-- why: only an evaluation has reasons. They are those of the table before it
+unfoldable pub explanation : AskedCall → (rows : List ℤ) → List Record → Explained
+explanation (Admit g) rows t = No
+explanation (Evaluate id d) rows t = Because (whyOn t id (dayOf d) rows)
+explanation (Quote id q) rows t = No
+explanation (Move id side) rows t = No
+explanation (Read id) rows t = No
+explanation (Open id) rows t = No
+explanation (Receive id x) rows t = No
+explanation (Notify id x) rows t = No
+
+-- what the desk says to a call, with the row figures, from the table t to the table t'
+pub record Performs (asked : Bool) (c : AskedCall) (rows : List ℤ) (t : List Record) (r : Performed) (t' : List Record)
     : Type 0 where
-  pub performed : Promised (requestCall c rows) t (r .answer) t'
-  pub why : asked ≡ true → r .why ≡ whyOn t (c .id) (dayOf (c .day)) rows
+  pub promised : Promised (callAsked c rows) t (r .answer) t'
+  pub why : asked ≡ true → r .why ≡ explanation c rows t
+
+-- WHAT THE DESK SAYS to what a line asks for: it performs the call, and leaves the table where none is asked for
+unfoldable pub Asks : (asked : Bool) → Ask → (rows : List ℤ) → List Record → Performed → List Record → Type 0
+Asks asked ask.Nothing rows t r t' = t' ≡ t
+Asks asked ask.NoCall rows t r t' = t' ≡ t
+Asks asked (ask.Call c) rows t r t' = Performs asked c rows t r t'
+Asks asked (ask.Interest i) rows t r t' = t' ≡ t
+Asks asked (ask.Bond b) rows t r t' = t' ≡ t

@@ -1,5 +1,4 @@
--- What the writer left in a part of the buffer is the message, appended; and what is sent of a call, by its kind.
--- Assumes nothing.
+-- What the writer left in a part of the buffer is the message, appended; and what is sent of a call.
 use mathlib.Core.Path.{_≡_, refl, sym, ap, _∙_}
 use mathlib.Core.Bool.{Bool, true, false, not}
 use mathlib.Core.List.{List, [], _∷_, _++_, append-nil, append-assoc}
@@ -10,7 +9,6 @@ use lib.ListN.{length, take, drop, length-drop, take-append-drop, drop-of-length
 use lib.Seq.{sets, sets-eq, drop-drop, take-all}
 use borrow.Author.Tests.{le-ltb}
 use Rattle.paper.specs.declared.Verdict.the-variants.{Done, FieldOutOfRange, NoRoom}
-use Rattle.paper.specs.declared.Admission.{Admission}
 use Rattle.paper.specs.declared.Answer.{Answer}
 use Rattle.paper.specs.Lists.{pick}
 use Rattle.paper.specs.Verdicts.{isDone, firstOf}
@@ -26,9 +24,10 @@ use Rattle.paper_messages.proofs.MessageLaws.{encode-length}
 use Rattle.messages.specs.Promises.{Writes}
 use Rattle.text_bytes.specs.Bytes.{room}
 use Rattle.text_protocol.specs.Answers.{answerMost}
-use Rattle.paper_messages.specs.Broadcast.{messageMost, sent, allSent}
+use Rattle.text_protocol.specs.declared.AskedCall.{AskedCall}
+use Rattle.text_protocol.specs.Calls.{callAsked}
+use Rattle.paper_messages.specs.Broadcast.{messagesOf, messageMost, sent, allSent, broadcastOf}
 use Rattle.text_out.specs.Wrote.{Wrote, then, wider, nothing}
-use Rattle.text_broadcast.specs.Kinds.{messagesOfKind, broadcastOfKind}
 
 -- no kind's message is longer
 kind-within-message-most : (kind : ℕ) → lengthWidth + lengthOf kind ≤ messageMost
@@ -96,30 +95,30 @@ appended-to-part b len m w after fits long writes =
     rw (drop-of-length-le (drop len b) size, append-nil after)
     (appended b len m w after fits long (rw (take-all (length b - len) (drop len b) size) at writes))
 
--- ---- the messages of a call, by its kind
+-- ---- the messages of a call
 
-module _ (kind : ℕ) (g : Admission) (side : ℕ) (a : Answer) (done : Bool) (is : done ≡ isDone (a .verdict)) where
+module _ (c : AskedCall) (a : Answer) (done : Bool) (is : done ≡ isDone (a .verdict)) where
   -- a refused call sends nothing
   pub refusal-sends-nothing : (b : List ℕ) (n : ℕ) → not done ≡ true
-      → Wrote b n b n (broadcastOfKind kind g side a) answerMost
-  unfolding broadcastOfKind
+      → Wrote b n b n (broadcastOf (callAsked c []) a) answerMost
+  unfolding broadcastOf
   refusal-sends-nothing b n refused = rw (← is, not-true done refused) (nothing b n answerMost)
 
   module _ (accepted : not done ≡ false) where
-    pub one-sent : {b c : List ℕ} {n e : ℕ} (m : Message) → messagesOfKind kind g side a ≡ m ∷ []
-        → Wrote b n c e (sent m) messageMost
-        → Wrote b n c e (broadcastOfKind kind g side a) answerMost
-    unfolding broadcastOfKind allSent
+    pub one-sent : {b b″ : List ℕ} {n e : ℕ} (m : Message) → messagesOf (callAsked c []) a ≡ m ∷ []
+        → Wrote b n b″ e (sent m) messageMost
+        → Wrote b n b″ e (broadcastOf (callAsked c []) a) answerMost
+    unfolding broadcastOf allSent
     one-sent m are p = rw (← is, not-false done accepted, are, append-nil (sent m)) (wider p (omega arith))
 
-    pub two-sent : {b b' c : List ℕ} {n n' e : ℕ} (m m' : Message) → messagesOfKind kind g side a ≡ m ∷ m' ∷ []
-        → Wrote b n b' n' (sent m) messageMost → Wrote b' n' c e (sent m') messageMost
-        → Wrote b n c e (broadcastOfKind kind g side a) answerMost
-    unfolding broadcastOfKind allSent
+    pub two-sent : {b b' b″ : List ℕ} {n n' e : ℕ} (m m' : Message) → messagesOf (callAsked c []) a ≡ m ∷ m' ∷ []
+        → Wrote b n b' n' (sent m) messageMost → Wrote b' n' b″ e (sent m') messageMost
+        → Wrote b n b″ e (broadcastOf (callAsked c []) a) answerMost
+    unfolding broadcastOf allSent
     two-sent m m' are p q =
         rw (← is, not-false done accepted, are, append-nil (sent m')) (wider (then p q) (omega arith))
 
-    pub none-sent : (b : List ℕ) (n : ℕ) → messagesOfKind kind g side a ≡ []
-        → Wrote b n b n (broadcastOfKind kind g side a) answerMost
-    unfolding broadcastOfKind allSent
+    pub none-sent : (b : List ℕ) (n : ℕ) → messagesOf (callAsked c []) a ≡ []
+        → Wrote b n b n (broadcastOf (callAsked c []) a) answerMost
+    unfolding broadcastOf allSent
     none-sent b n are = rw (← is, not-false done accepted, are) (nothing b n answerMost)

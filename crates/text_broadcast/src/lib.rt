@@ -1,13 +1,14 @@
 // What a line is broadcast as (document 02, W-212): the messages of its call, appended to a lent buffer by the writer
 // of the library. Nothing here depends on how a message is encoded.
 ghost use mathlib.Core.Path.{_≡_};
+ghost use mathlib.Core.List.{[]};
 ghost use Prim.Native.Nat.{_+_, _≤_};
 ghost use lib.ListN.{length};
 ghost use Rattle.text_bytes.specs.Bytes.{room};
 ghost use Rattle.text_protocol.specs.Answers.{answerMost};
-ghost use Rattle.paper_messages.specs.Broadcast.{messageMost, sent};
+ghost use Rattle.text_protocol.specs.Calls.{callAsked};
+ghost use Rattle.paper_messages.specs.Broadcast.{messageMost, sent, broadcastOf};
 ghost use Rattle.text_out.specs.Wrote.{Wrote};
-ghost use Rattle.text_broadcast.specs.Kinds.{broadcastOfKind};
 use inputs::side_of;
 use inputs::statics_of;
 use message_records::bands_message;
@@ -15,11 +16,10 @@ use message_records::move_message;
 use message_records::rates_message;
 use message_records::statics_message;
 use messages::write;
-use paper::Admission;
 use paper::Answer;
 use paper_messages::Message;
 use text_bytes::ROOM;
-use text_protocol::Kind;
+use text_protocol::AskedCall;
 
 // One message: nothing, where the writer refuses it for a field out of its range.
 fn send(out: &mut [u8], len: usize, m: Message) -> usize
@@ -30,18 +30,11 @@ fn send(out: &mut [u8], len: usize, m: Message) -> usize
     len + w.length
 }
 
-// What an accepted call of a kind sends: kind 1 of an admission, 2 and 3 of an evaluation, 4 of a move. A refused call
-// sends nothing.
-pub fn say_messages(
-    out: &mut [u8; ROOM],
-    len: usize,
-    kind: u64,
-    admission: Admission,
-    side: u64,
-    answer: Answer,
-) -> usize
+// What an accepted call sends: kind 1 of an admission, 2 and 3 of an evaluation, 4 of a move. A refused call sends
+// nothing. The row figures of an evaluation are no part of its messages.
+pub fn say_messages(out: &mut [u8; ROOM], len: usize, c: AskedCall, answer: Answer) -> usize
     requires { ⌜ len + answerMost ≤ room ⌝ }
-    ensures { λ r. ⌜ Wrote (now (out .entry)) len (now (out .exit)) r (broadcastOfKind kind admission side answer)
+    ensures { λ r. ⌜ Wrote (now (out .entry)) len (now (out .exit)) r (broadcastOf (callAsked c []) answer)
         answerMost ⌝ }
 {
     let verdict = answer.verdict;
@@ -49,16 +42,20 @@ pub fn say_messages(
     if !verdict.is_done() {
         return len;
     }
-    if kind == Kind::ADMIT {
-        let given = admission.given;
-        return send(out, len, statics_message(admission.id, statics_of(given)));
+    match c {
+        AskedCall::Admit(admission) => {
+            let given = admission.given;
+            send(out, len, statics_message(admission.id, statics_of(given)))
+        }
+        AskedCall::Evaluate(_, _) => {
+            let n = send(out, len, rates_message(rec));
+            send(out, n, bands_message(rec))
+        }
+        AskedCall::Quote(_, _) => len,
+        AskedCall::Move(_, side) => send(out, len, move_message(rec, side_of(side))),
+        AskedCall::Read(_) => len,
+        AskedCall::Open(_) => len,
+        AskedCall::Receive(_, _) => len,
+        AskedCall::Notify(_, _) => len,
     }
-    if kind == Kind::EVALUATE {
-        let n = send(out, len, rates_message(rec));
-        return send(out, n, bands_message(rec));
-    }
-    if kind == Kind::MOVE {
-        return send(out, len, move_message(rec, side_of(side)));
-    }
-    len
 }

@@ -1,142 +1,98 @@
--- The request of each kind of line is the line's call. Assumes nothing.
-use mathlib.Core.Path.{_≡_, refl, sym, _∙_}
-use mathlib.Core.Bool.{true, false}
+-- The call of each kind of line is the one that its definition has.
+use mathlib.Core.Path.{_≡_, refl, ap}
+use mathlib.Core.Bool.{true}
 use mathlib.Core.List.{List}
 use Prim.Native.Nat.{ℕ, zero, suc, _+_, _-_, _≤_}
 use native.Mathlib.Omega.{arith}
 use lib.Dec.{leb}
 use lib.Ieee.{Float}
 use lib.IntN.{ℤ, pos}
-use lib.ListN.{length, drop, getD}
-use borrow.Author.Tests.{leb-true, ne-eqb}
+use lib.ListN.{drop, getD}
+use borrow.Author.Tests.{leb-true}
 use Rattle.paper.specs.declared.Admission.{Admission}
 use Rattle.paper.specs.declared.AskedDay.{AskedDay}
 use Rattle.paper.specs.declared.Quote.{Quote}
 use Rattle.paper.specs.declared.Outside.{Outside}
-use Rattle.paper.specs.declared.Notice.{Notice}
 use Rattle.paper.specs.declared.Notice.the-variants.{Withdrawal}
 use Rattle.paper.specs.Ranges.{within, unsigned}
 use Rattle.paper.proofs.Logic.{and-left, and-right}
+use Rattle.text_protocol.specs.declared.AskedCall.{AskedCall}
+use Rattle.text_protocol.specs.declared.AskedCall.the-variants as asked
 use Rattle.text_protocol.specs.declared.Kept.{Kept}
 use Rattle.text_protocol.specs.declared.Pairs.{Pairs}
 use Rattle.text_protocol.specs.Names.{the, placeOf, code, evaluateNames, quoteNames, moveNames, readNames, openNames}
 use Rattle.text_protocol.specs.Names.{outsideNames, noticeNames, withdrawNames, admitKind, evaluateKind, quoteKind}
 use Rattle.text_protocol.specs.Names.{moveKind, readKind, openKind, outsideKind, noticeKind, withdrawKind}
 use Rattle.text_protocol.specs.Names.{evaluateCount}
-use Rattle.text_protocol.specs.Calls.{admissionOf, quoteOf, floatOf, outsideOf, noticeCall, askedOf, figuresBehind}
-use Rattle.text_call.specs.declared.Request.{Request}
-use Rattle.text_call.specs.Requests.{requestCall, noticeLine, lineCall, ofId, ofOutside}
-use Rattle.paper_desk.specs.Desk.{receive}
-use Rattle.paper_desk.specs.External.{notice}
+use Rattle.text_protocol.specs.Calls.{Deed, call, admissionOf, quoteOf, floatOf, outsideOf, noticeCall, askedOf, callOf}
+use Rattle.text_protocol.specs.Calls.{figuresBehind, callAsked}
 
 module _ (k : Kept) (kind : ℕ) (zs : List ℤ) (p : Pairs) where
-  pub admit-line : (a : Admission) (d : AskedDay) (q : Quote) (x : Outside) (y : Notice) → kind ≡ admitKind
-      → a ≡ admissionOf zs
-      → requestCall (record {
-        kind = kind;
-        id = 0;
-        admission = a;
-        day = d;
-        quote = q;
-        side = 0;
-        outside = x;
-        notice = y;
-      }) (drop evaluateCount zs) ≡
-      lineCall k kind zs p
-  unfolding lineCall
-  admit-line a d q x y e f = rw (e, f)
+  -- the call c is the one of the line
+  abbrev IsTheCall : AskedCall → Type 0
+  IsTheCall c = call (callAsked c (drop evaluateCount zs)) ≡ callOf k kind zs p
 
-  pub evaluate-line : (id : ℕ) (a : Admission) (d : AskedDay) (q : Quote) (x : Outside) (y : Notice)
-      → kind ≡ evaluateKind
-      → id ≡ unsigned (getD zs 0 (pos 0)) → d ≡ askedOf k zs p
-      → requestCall (record {
-        kind = kind;
-        id = id;
-        admission = a;
-        day = d;
-        quote = q;
-        side = 0;
-        outside = x;
-        notice = y;
-      }) (drop evaluateCount zs) ≡
-      lineCall k kind zs p
-  unfolding lineCall figuresBehind the placeOf code evaluateNames
-  evaluate-line id a d q x y e f g = rw (e, f, g)
+  pub admit-line : (a : Admission) → kind ≡ admitKind → a ≡ admissionOf zs → IsTheCall (asked.Admit a)
+  unfolding callOf callAsked
+  admit-line a e f = rw (e, f)
 
-  -- a quote, a move, a read and an opening: all that a line of theirs may give is read, and each looks at its own
-  pub id-line : (r : Request) (id side : ℕ) (q : Quote) → r ≡ ofId kind id q side
-      → within quoteKind openKind kind ≡ true → id ≡ unsigned (getD zs 0 (pos 0)) → q ≡ quoteOf zs
-      → side ≡ unsigned (getD zs 1 (pos 0))
-      → requestCall r (drop evaluateCount zs) ≡ lineCall k kind zs p
-  unfolding lineCall the placeOf code quoteNames moveNames readNames openNames
-  id-line r id side q is t f g h =
-      let low : quoteKind ≤ kind = leb-true _ _ (and-left (leb quoteKind kind) (leb kind openKind) t) in
-      let high : kind ≤ openKind = leb-true _ _ (and-right (leb quoteKind kind) (leb kind openKind) t) in
-      rw (is, f, g, h) (go (kind - quoteKind) (omega arith) (omega arith))
-    where
-      go : (n : ℕ) → kind ≡ quoteKind + n → n ≤ 3
-          → requestCall (ofId kind (unsigned (getD zs 0 (pos 0))) (quoteOf zs) (unsigned (getD zs 1 (pos 0))))
-          (drop evaluateCount zs)
-          ≡ lineCall k kind zs p
-      go zero e h = rw e
-      go (suc zero) e h = rw e
-      go (suc (suc zero)) e h = rw e
-      go (suc (suc (suc zero))) e h = rw e
-      go (suc (suc (suc (suc n)))) e h = absurd (omega arith)
+  pub evaluate-line : (id : ℕ) (d : AskedDay) → kind ≡ evaluateKind → id ≡ unsigned (getD zs 0 (pos 0))
+      → d ≡ askedOf k zs p → IsTheCall (asked.Evaluate id d)
+  unfolding callOf callAsked figuresBehind the placeOf code evaluateNames
+  evaluate-line id d e f g = rw (e, f, g)
 
-  pub outside-line : (r : Request) (id : ℕ) (x : Outside) (y : Notice) → r ≡ ofOutside kind id x y
-      → kind ≡ outsideKind → id ≡ unsigned (getD zs 0 (pos 0)) → x ≡ outsideOf zs
-      → requestCall r (drop evaluateCount zs) ≡ lineCall k kind zs p
-  unfolding lineCall the placeOf code outsideNames
-  outside-line r id x y is e f g = rw (is, e, f, g)
+  pub quote-line : (id : ℕ) (q : Quote) → kind ≡ quoteKind → id ≡ unsigned (getD zs 0 (pos 0)) → q ≡ quoteOf zs
+      → IsTheCall (asked.Quote id q)
+  unfolding callOf callAsked the placeOf code quoteNames
+  quote-line id q e f g = rw (e, f, g)
 
-  pub notice-line : (r : Request) → kind ≡ noticeKind → requestCall r (drop evaluateCount zs) ≡ noticeLine zs
-      → requestCall r (drop evaluateCount zs) ≡ lineCall k kind zs p
-  unfolding lineCall
-  notice-line r e f = rw e f
+  pub move-line : (id side : ℕ) → kind ≡ moveKind → id ≡ unsigned (getD zs 0 (pos 0))
+      → side ≡ unsigned (getD zs 1 (pos 0)) → IsTheCall (asked.Move id side)
+  unfolding callOf callAsked the placeOf code moveNames
+  move-line id side e f g = rw (e, f, g)
 
-  pub withdraw-line : (r : Request) (id : ℕ) (x : Outside) → r ≡ ofOutside noticeKind id x Withdrawal
-      → kind ≡ withdrawKind → id ≡ unsigned (getD zs 0 (pos 0))
-      → requestCall r (drop evaluateCount zs) ≡ lineCall k kind zs p
-  unfolding lineCall the placeOf code withdrawNames
-  withdraw-line r id x is e f = rw (is, e, f)
+  pub read-line : (id : ℕ) → kind ≡ readKind → id ≡ unsigned (getD zs 0 (pos 0)) → IsTheCall (asked.Read id)
+  unfolding callOf callAsked the placeOf code readNames
+  read-line id e f = rw (e, f)
 
-  pub other-line : (r : Request) (q : Quote) → r ≡ ofId readKind 0 q 0
-      → (kind ≡ admitKind → ⊥) → (kind ≡ evaluateKind → ⊥) → within quoteKind openKind kind ≡ false
-      → (kind ≡ outsideKind → ⊥) → (kind ≡ noticeKind → ⊥) → (kind ≡ withdrawKind → ⊥)
-      → requestCall r (drop evaluateCount zs) ≡ lineCall k kind zs p
-  unfolding lineCall
-  other-line r q is a b c g h i =
-      rw (
-        is,
-        ne-eqb kind admitKind a,
-        ne-eqb kind evaluateKind b,
-        ne-eqb kind quoteKind (none quoteKind refl),
-        ne-eqb kind moveKind (none moveKind refl),
-        ne-eqb kind readKind (none readKind refl),
-        ne-eqb kind openKind (none openKind refl),
-        ne-eqb kind outsideKind g,
-        ne-eqb kind noticeKind h,
-        ne-eqb kind withdrawKind i,
-      )
-    where
-      -- it is none of those that only name an id
-      none : (x : ℕ) → within quoteKind openKind x ≡ true → kind ≡ x → ⊥
-      none x t e = let z : _≡_ {A = ℕ} 0 1 = cc in omega arith
+  pub open-line : (id : ℕ) → kind ≡ openKind → id ≡ unsigned (getD zs 0 (pos 0)) → IsTheCall (asked.Open id)
+  unfolding callOf callAsked the placeOf code openNames
+  open-line id e f = rw (e, f)
 
--- ---- a notice, by its side
+  pub outside-line : (id : ℕ) (x : Outside) → kind ≡ outsideKind → id ≡ unsigned (getD zs 0 (pos 0))
+      → x ≡ outsideOf zs → IsTheCall (asked.Receive id x)
+  unfolding callOf callAsked the placeOf code outsideNames
+  outside-line id x e f g = rw (e, f, g)
 
-module _ (zs : List ℤ) (id side : ℕ) (f : Float) (at-id : id ≡ unsigned (getD zs 0 (pos 0)))
-    (at-side : side ≡ unsigned (getD zs 1 (pos 0))) (at-bits : f ≡ floatOf (getD zs 2 (pos 0))) (r : Request) where
-  -- of a side that the source sends
-  pub sent-line : (x : Outside) (y : Notice) (n : ℕ) → r ≡ ofOutside noticeKind id x y → side ≡ n
-      → noticeCall id n f ≡ receive id (notice y)
-      → requestCall r (drop evaluateCount zs) ≡ noticeLine zs
-  unfolding noticeLine the placeOf code noticeNames
-  sent-line x y n is e sends = rw (is, ← at-id, ← at-side, ← at-bits, e) (sym sends)
+  pub notice-line : (c : AskedCall) (id side : ℕ) (x : Float) → kind ≡ noticeKind
+      → id ≡ unsigned (getD zs 0 (pos 0)) → side ≡ unsigned (getD zs 1 (pos 0)) → x ≡ floatOf (getD zs 2 (pos 0))
+      → ((rows : List ℤ) → callAsked c rows ≡ noticeCall id side x) → IsTheCall c
+  unfolding callOf the placeOf code noticeNames
+  notice-line c id side x e f g h is = rw (e, ← f, ← g, ← h) (ap call (is (drop evaluateCount zs)))
 
-  -- of another
-  pub side-line : (q : Quote) → r ≡ ofId moveKind id q side
-      → (side ≡ 0 → ⊥) → (side ≡ 1 → ⊥) → requestCall r (drop evaluateCount zs) ≡ noticeLine zs
-  unfolding noticeLine noticeCall the placeOf code noticeNames
-  side-line q is n m = rw (is, at-id, ← at-side, ne-eqb side 0 n, ne-eqb side 1 m)
+  pub withdraw-line : (id : ℕ) → kind ≡ withdrawKind → id ≡ unsigned (getD zs 0 (pos 0))
+      → IsTheCall (asked.Notify id Withdrawal)
+  unfolding callOf callAsked the placeOf code withdrawNames
+  withdraw-line id e f = rw (e, f)
+
+-- of the calls of the desk it is the last where it is none of the others
+pub the-last : (kind : ℕ) → within admitKind withdrawKind kind ≡ true → (kind ≡ admitKind → ⊥)
+    → (kind ≡ evaluateKind → ⊥) → (kind ≡ quoteKind → ⊥) → (kind ≡ moveKind → ⊥) → (kind ≡ readKind → ⊥)
+    → (kind ≡ openKind → ⊥) → (kind ≡ outsideKind → ⊥) → (kind ≡ noticeKind → ⊥) → kind ≡ withdrawKind
+the-last kind t n1 n2 n3 n4 n5 n6 n7 n8 =
+    let low : admitKind ≤ kind = leb-true _ _ (and-left (leb admitKind kind) (leb kind withdrawKind) t) in
+    let high : kind ≤ withdrawKind = leb-true _ _ (and-right (leb admitKind kind) (leb kind withdrawKind) t) in
+    go kind low high n1 n2 n3 n4 n5 n6 n7 n8
+  where
+    go : (n : ℕ) → admitKind ≤ n → n ≤ withdrawKind → (n ≡ 1 → ⊥) → (n ≡ 2 → ⊥) → (n ≡ 3 → ⊥) → (n ≡ 4 → ⊥)
+        → (n ≡ 5 → ⊥) → (n ≡ 6 → ⊥) → (n ≡ 7 → ⊥) → (n ≡ 8 → ⊥) → n ≡ withdrawKind
+    go zero l h n1 n2 n3 n4 n5 n6 n7 n8 = absurd (omega arith)
+    go (suc zero) l h n1 n2 n3 n4 n5 n6 n7 n8 = absurd (n1 refl)
+    go (suc (suc zero)) l h n1 n2 n3 n4 n5 n6 n7 n8 = absurd (n2 refl)
+    go (suc (suc (suc zero))) l h n1 n2 n3 n4 n5 n6 n7 n8 = absurd (n3 refl)
+    go (suc (suc (suc (suc zero)))) l h n1 n2 n3 n4 n5 n6 n7 n8 = absurd (n4 refl)
+    go (suc (suc (suc (suc (suc zero))))) l h n1 n2 n3 n4 n5 n6 n7 n8 = absurd (n5 refl)
+    go (suc (suc (suc (suc (suc (suc zero)))))) l h n1 n2 n3 n4 n5 n6 n7 n8 = absurd (n6 refl)
+    go (suc (suc (suc (suc (suc (suc (suc zero))))))) l h n1 n2 n3 n4 n5 n6 n7 n8 = absurd (n7 refl)
+    go (suc (suc (suc (suc (suc (suc (suc (suc zero)))))))) l h n1 n2 n3 n4 n5 n6 n7 n8 = absurd (n8 refl)
+    go (suc (suc (suc (suc (suc (suc (suc (suc (suc n))))))))) l h n1 n2 n3 n4 n5 n6 n7 n8 = omega arith

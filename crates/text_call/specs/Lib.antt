@@ -1,3 +1,2 @@
 -- The definitions of text_call, a file each.
 pub mod Terms
-pub mod Requests

@@ -1,17 +1,16 @@
 // What a call is given, from the numbers of its line. Each number is read at the place of its name
 // (text_protocol/specs/Names.antt). A float is made of the 64 bits that a number has.
 ghost use mathlib.Core.Path.{_≡_};
+ghost use mathlib.Core.Bool.{true};
+ghost use mathlib.Core.List.{List};
 ghost use Prim.Native.Nat.{_≤_, min};
-ghost use lib.Ieee.{binary64, ofBits};
-ghost use lib.IntN.{pos};
+ghost use lib.IntN.{ℤ, pos};
 ghost use lib.ListN.{drop, getD};
-ghost use Rattle.paper.specs.Ranges.{unsigned};
+ghost use Rattle.paper.specs.Ranges.{within, unsigned};
 ghost use Rattle.text_protocol.specs.Calls.{givenOf, admissionOf, quoteOf, bitsOf, floatOf, outsideOf, interestOf};
-ghost use Rattle.text_protocol.specs.Calls.{bandOf, askedOf};
+ghost use Rattle.text_protocol.specs.Calls.{bandOf, askedOf, noticeCall, call, callOf, callAsked};
 ghost use Rattle.text_call.specs.Terms.{termAtPlace};
-ghost use Rattle.text_call.specs.Requests.{requestCall, lineCall, noAdmission, noTerm, noDay, noQuote, noOutside};
-ghost use Rattle.text_call.specs.Requests.{noticeLine, ofId, ofOutside};
-ghost use Rattle.text_protocol.specs.Names.{evaluateCount};
+ghost use Rattle.text_protocol.specs.Names.{evaluateCount, admitKind, withdrawKind};
 use paper::Admission;
 use paper::AskedDay;
 use paper::AskedTerm;
@@ -24,6 +23,7 @@ use paper::Quote;
 use paper::RepoBand;
 use paper::RepoLimits;
 use text_kept::found;
+use text_protocol::AskedCall;
 use text_protocol::Kept;
 use text_protocol::Kind;
 use text_protocol::Pairs;
@@ -35,20 +35,6 @@ const ALL_ONES: u64 = 18_446_744_073_709_551_615;
 const SIGN_BIT: u64 = 9_223_372_036_854_775_808;
 
 const INFINITY_BITS: u64 = 9_218_868_437_227_405_312;
-
-// What a call of the desk is given, whichever of the calls it is: `kind` says which of the fields count. A withdrawal
-// is a notice, a notice of no side is a move of no side, and a line that is no call of the desk is a read of id 0,
-// which stores nothing.
-pub struct Request {
-    pub kind: u64,
-    pub id: u64,
-    pub admission: Admission,
-    pub day: AskedDay,
-    pub quote: Quote,
-    pub side: u64,
-    pub outside: Outside,
-    pub notice: Notice,
-}
 
 // The number at a place; 0 where there is none.
 pub fn number_at(zs: &[i64], i: usize) -> i64
@@ -251,180 +237,49 @@ pub fn figures(zs: &[i64], from: usize) -> &[i64]
     &zs[start..]
 }
 
-// ---- the request of a line
+// ---- the calls of the desk
 
-fn no_admission() -> Admission
-    ensures { λ r. ⌜ r ≡ noAdmission ⌝ }
+// A notice of a side: 0 is a bid, 1 an ask, and another side is a move of that side, which no move has.
+fn notice_of(id: u64, side: u64, x: f64) -> AskedCall
+    ensures { λ r. ⌜ ((rows : List ℤ) → callAsked r rows ≡ noticeCall id side x) ⌝ }
 {
-    Admission {
-        id: 0,
-        day: 0,
-        p1: 0,
-        p2: 0,
-        s: 0,
-        tentative: 0,
-        given: GivenStatics {
-            lot: 0,
-            h: 0,
-            q: 0,
-            aup: 0,
-            adown: 0,
-            wait: 0,
-            rh1: 0,
-            rh2: 0,
-            rh3: 0,
-            liq: 0,
-            min1: 0,
-            min2: 0,
-            min3: 0,
-            smax: 0,
-            xpr: 0,
-            shift: 0,
-            pchmax: 0,
-            pclmax: 0,
-            w: 0,
-            u: 0,
-            monitoring: 0,
-            ewma: 0,
-            uevening: 0,
-            autochange: 0,
-            eveningmax: 0,
-            useexternal: 0,
-        },
-    }
-}
-
-fn no_term() -> AskedTerm
-    ensures { λ r. ⌜ r ≡ noTerm ⌝ }
-{
-    AskedTerm {
-        k: 0,
-        band: RepoBand::AsGiven(RepoLimits { low: 0, high: 0 }),
-    }
-}
-
-fn no_day() -> AskedDay
-    ensures { λ r. ⌜ r ≡ noDay ⌝ }
-{
-    AskedDay {
-        day: 0,
-        b: 0,
-        m: 0,
-        first: no_term(),
-        second: no_term(),
-        third: no_term(),
-    }
-}
-
-fn no_quote() -> Quote
-    ensures { λ r. ⌜ r ≡ noQuote ⌝ }
-{
-    Quote {
-        second: 0,
-        term: 0,
-        bid: 0,
-        ask: 0,
-    }
-}
-
-fn no_outside() -> Outside
-    ensures { λ r. ⌜ r ≡ noOutside ⌝ }
-{
-    Outside { bid: 0.0, ask: 0.0 }
-}
-
-// A request that names an id: a quote, a move of a side, a read or an opening. Each looks at its own fields alone.
-fn of_id(kind: u64, id: u64, quote: Quote, side: u64) -> Request
-    ensures { λ r. ⌜ r ≡ ofId kind id quote side ⌝ }
-{
-    Request {
-        kind,
-        id,
-        admission: no_admission(),
-        day: no_day(),
-        quote,
-        side,
-        outside: no_outside(),
-        notice: Notice::Withdrawal,
-    }
-}
-
-// A request that gives an id what the outside source sent.
-fn of_outside(kind: u64, id: u64, outside: Outside, notice: Notice) -> Request
-    ensures { λ r. ⌜ r ≡ ofOutside kind id outside notice ⌝ }
-{
-    Request {
-        kind,
-        id,
-        admission: no_admission(),
-        day: no_day(),
-        quote: no_quote(),
-        side: 0,
-        outside,
-        notice,
-    }
-}
-
-// The request of a notice: 0 is a bid, 1 an ask, and another side is a move of that side, which no move has.
-fn notice_of(zs: &[i64]) -> Request
-    ensures { λ r. ⌜ requestCall r (drop evaluateCount (now (zs .entry))) ≡ noticeLine (now (zs .entry)) ⌝ }
-{
-    let id = unsigned_at(zs, 0);
-    let side = unsigned_at(zs, 1);
-    let x = float_at(zs, 2);
     if side == 0 {
-        return of_outside(Kind::NOTICE, id, no_outside(), Notice::Bid(x));
+        return AskedCall::Notify(id, Notice::Bid(x));
     }
     if side == 1 {
-        return of_outside(Kind::NOTICE, id, no_outside(), Notice::Ask(x));
+        return AskedCall::Notify(id, Notice::Ask(x));
     }
-    of_id(Kind::MOVE, id, no_quote(), side)
+    AskedCall::Move(id, side)
 }
 
-// What a line of a kind asks of the desk: its call, or a read of id 0 where it asks nothing of it.
-pub fn request_of(zs: &[i64], kind: u64, p: Pairs, k: Kept) -> Request
-    ensures { λ r. ⌜ requestCall r (drop evaluateCount (now (zs .entry))) ≡ lineCall k kind (now (zs .entry)) p ⌝ }
+// The call of the desk that a line of a kind is, with what it is given.
+pub fn call_of(zs: &[i64], kind: u64, p: Pairs, k: Kept) -> AskedCall
+    ensures { λ r. ⌜ (within admitKind withdrawKind kind ≡ true
+        → call (callAsked r (drop evaluateCount (now (zs .entry)))) ≡ callOf k kind (now (zs .entry)) p) ⌝ }
 {
     if kind == Kind::ADMIT {
-        return Request {
-            kind,
-            id: 0,
-            admission: admission_of(zs),
-            day: no_day(),
-            quote: no_quote(),
-            side: 0,
-            outside: no_outside(),
-            notice: Notice::Withdrawal,
-        };
+        return AskedCall::Admit(admission_of(zs));
     }
     if kind == Kind::EVALUATE {
-        return Request {
-            kind,
-            id: unsigned_at(zs, 0),
-            admission: no_admission(),
-            day: asked_of(k, p, zs),
-            quote: no_quote(),
-            side: 0,
-            outside: no_outside(),
-            notice: Notice::Withdrawal,
-        };
+        return AskedCall::Evaluate(unsigned_at(zs, 0), asked_of(k, p, zs));
     }
-    if (Kind::QUOTE <= kind) & (kind <= Kind::OPEN) {
-        return of_id(kind, unsigned_at(zs, 0), quote_of(zs), unsigned_at(zs, 1));
+    if kind == Kind::QUOTE {
+        return AskedCall::Quote(unsigned_at(zs, 0), quote_of(zs));
+    }
+    if kind == Kind::MOVE {
+        return AskedCall::Move(unsigned_at(zs, 0), unsigned_at(zs, 1));
+    }
+    if kind == Kind::READ {
+        return AskedCall::Read(unsigned_at(zs, 0));
+    }
+    if kind == Kind::OPEN {
+        return AskedCall::Open(unsigned_at(zs, 0));
     }
     if kind == Kind::OUTSIDE {
-        return of_outside(kind, unsigned_at(zs, 0), outside_of(zs), Notice::Withdrawal);
+        return AskedCall::Receive(unsigned_at(zs, 0), outside_of(zs));
     }
     if kind == Kind::NOTICE {
-        return notice_of(zs);
+        return notice_of(unsigned_at(zs, 0), unsigned_at(zs, 1), float_at(zs, 2));
     }
-    if kind == Kind::WITHDRAW {
-        return of_outside(
-            Kind::NOTICE,
-            unsigned_at(zs, 0),
-            no_outside(),
-            Notice::Withdrawal,
-        );
-    }
-    of_id(Kind::READ, 0, no_quote(), 0)
+    AskedCall::Notify(unsigned_at(zs, 0), Notice::Withdrawal)
 }

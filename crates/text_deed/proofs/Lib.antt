@@ -1,2 +1,3 @@
--- The laws of text_deed, a file each; other crates may cite them.
-pub mod Doing
+-- The laws of text_deed, a file each; its own proofs alone cite them.
+mod Asking
+mod Saying

@@ -1,12 +1,14 @@
-// What a line asks for: of the desk, as a request, or beside the table, where it is answered at once; and the text of
-// its answer, in each way that lines are told. A kind of line more is a branch more of `deed_of` and of `say_plain`,
-// a way of telling more is a case more of `asks_why` and of `say`.
+// What a line asks for, and what is answered to it at once where that stands beside the table; and the text of its
+// answer, in each way that lines are told. A way of telling more is a case more of `asks_why`, `in_words` and
+// `say_call`.
 ghost use mathlib.Core.Path.{_≡_};
 ghost use Prim.Native.Nat.{_+_, _≤_};
 ghost use Rattle.text_bytes.specs.Bytes.{room};
+ghost use Rattle.text_protocol.specs.Calls.{deedOf, deedAsked};
 ghost use Rattle.text_protocol.specs.Answers.{answerMost};
 ghost use Rattle.text_out.specs.Wrote.{Wrote};
-ghost use Rattle.text_deed.specs.Deeds.{asksWhy, plainText, lineText, AsksFor};
+ghost use Rattle.text_line.specs.Heard.{saidAs};
+ghost use Rattle.text_deed.specs.Deeds.{asksWhy, inWords, reasonSaid, callSaid, lineText, AsksFor};
 use paper::InterestAnswer;
 use paper::Verdict;
 use paper_bonds::BondAnswer;
@@ -17,17 +19,20 @@ use text_bond::bond_of;
 use text_bond::say_bond;
 use text_broadcast::say_messages;
 use text_bytes::ROOM;
-use text_call::Request;
+use text_call::call_of;
 use text_call::figures;
 use text_call::interest_of;
-use text_call::request_of;
 use text_evening::Telling;
 use text_kept::kept_after;
 use text_line::Line;
+use text_protocol::Ask;
+use text_protocol::AskedCall;
 use text_protocol::BOND_COUNT;
+use text_protocol::Explained;
 use text_protocol::INTEREST_COUNT;
 use text_protocol::Kept;
 use text_protocol::Kind;
+use text_protocol::Pairs;
 use text_protocol::Performed;
 use text_why::say_why;
 
@@ -38,11 +43,33 @@ pub struct Beside {
     pub bond: BondAnswer,
 }
 
-// What a line asks of the desk, what is answered to it beside the table, and what is kept of the interest lines then.
+// What a line asks for, what is answered to it beside the table, and what is kept of the interest lines then.
 pub struct LineDeed {
-    pub request: Request,
+    pub ask: Ask,
     pub beside: Beside,
     pub kept: Kept,
+}
+
+// ---- what a line asks for
+
+// What a line of a kind asks for, with the numbers `zs` and the pairs `p`, where `k` is kept of the interest lines
+// before it.
+fn ask_of(zs: &[i64], kind: u64, p: Pairs, k: Kept) -> Ask
+    ensures { λ r. ⌜ deedAsked r (now (zs .entry)) ≡ deedOf k (saidAs kind (now (zs .entry)) p) ⌝ }
+{
+    if kind == Kind::BLANK {
+        return Ask::Nothing;
+    }
+    if kind == Kind::BAD {
+        return Ask::NoCall;
+    }
+    if (Kind::ADMIT <= kind) & (kind <= Kind::WITHDRAW) {
+        return Ask::Call(call_of(zs, kind, p, k));
+    }
+    if kind == Kind::INTEREST {
+        return Ask::Interest(interest_of(zs));
+    }
+    Ask::Bond(bond_of(k, p, zs))
 }
 
 // An answer of the interest side. The bond's beside it is a refusal, which nothing prints.
@@ -65,106 +92,139 @@ fn of_bond(bond: BondAnswer) -> Beside
     }
 }
 
-// What a line with the numbers `zs` asks for, where `k` is kept of the interest lines before it.
-pub fn deed_of(zs: &[i64], l: Line, k: Kept) -> LineDeed
-    ensures { λ r. ⌜ AsksFor k (l .kind) (now (zs .entry)) (l .pairs) r ⌝ }
+// What a line that is answered by the desk, or not at all, asks for.
+fn of_desk(ask: Ask, k: Kept) -> LineDeed
+    ensures { λ r. ⌜ (r .ask ≡ ask) × (r .kept ≡ k) ⌝ }
 {
-    let kind = l.kind;
-    let pairs = l.pairs;
-    let request = request_of(zs, kind, pairs, k);
-    if kind == Kind::INTEREST {
-        let given = interest_of(zs);
-        let i = interest::answer(given, figures(zs, INTEREST_COUNT));
-        return LineDeed {
-            request,
-            beside: of_interest(i),
-            kept: kept_after(k, given, i),
-        };
-    }
-    if kind == Kind::BOND {
-        let b = bond::answer(bond_of(k, pairs, zs), figures(zs, BOND_COUNT));
-        return LineDeed {
-            request,
-            beside: of_bond(b),
-            kept: k,
-        };
-    }
     LineDeed {
-        request,
+        ask,
         beside: of_bond(bond::refused(Verdict::OutOfRange)),
         kept: k,
     }
 }
 
-// Whether why is asked to a line of a kind.
-pub fn asks_why(telling: Telling, kind: u64) -> bool
-    ensures { λ r. ⌜ r ≡ asksWhy telling kind ⌝ }
+// What a line asks for, and what is answered to it beside the table.
+pub fn deed_of(zs: &[i64], l: Line, k: Kept) -> LineDeed
+    ensures { λ r. ⌜ AsksFor k (deedOf k (saidAs (l .kind) (now (zs .entry)) (l .pairs))) (now (zs .entry)) r ⌝ }
+{
+    let pairs = l.pairs;
+    let ask = ask_of(zs, l.kind, pairs, k);
+    match ask {
+        Ask::Nothing => of_desk(ask, k),
+        Ask::NoCall => of_desk(ask, k),
+        Ask::Call(_) => of_desk(ask, k),
+        Ask::Interest(given) => {
+            let i = interest::answer(given, figures(zs, INTEREST_COUNT));
+            LineDeed {
+                ask,
+                beside: of_interest(i),
+                kept: kept_after(k, given, i),
+            }
+        }
+        Ask::Bond(given) => {
+            let b = bond::answer(given, figures(zs, BOND_COUNT));
+            LineDeed {
+                ask,
+                beside: of_bond(b),
+                kept: k,
+            }
+        }
+    }
+}
+
+// ---- what a line is told as
+
+// Whether why is asked of the calls that have reasons.
+pub fn asks_why(telling: Telling) -> bool
+    ensures { λ r. ⌜ r ≡ asksWhy telling ⌝ }
 {
     match telling {
         Telling::Answers => false,
-        Telling::Reasons => kind == Kind::EVALUATE,
+        Telling::Reasons => true,
         Telling::Messages => false,
     }
 }
 
-// Appends the answer to a line of a kind, in its plain words.
-fn say_plain(
-    out: &mut [u8; ROOM],
-    len: usize,
-    kind: u64,
-    number: u64,
-    b: Beside,
-    p: Performed,
-) -> usize
-    requires { ⌜ len + answerMost ≤ room ⌝ }
-    ensures { λ r. ⌜ Wrote (now (out .entry)) len (now (out .exit)) r (plainText kind number b p) answerMost ⌝ }
+// Whether what is no message is told.
+fn in_words(telling: Telling) -> bool
+    ensures { λ r. ⌜ r ≡ inWords telling ⌝ }
 {
-    if kind == Kind::BLANK {
-        return len;
+    match telling {
+        Telling::Answers => true,
+        Telling::Reasons => true,
+        Telling::Messages => false,
     }
-    if kind == Kind::BAD {
-        return say_bad(out, len, number);
-    }
-    if kind == Kind::INTEREST {
-        let interest = b.interest;
-        return say_interest(out, len, interest);
-    }
-    if kind == Kind::BOND {
-        let bond = b.bond;
-        return say_bond(out, len, bond);
-    }
-    let answer = p.answer;
-    say_answer(out, len, kind, answer)
 }
 
-// Appends what a line of a kind is told as.
+// Appends why a call is answered as it is, or its answer where no reason is named.
+fn say_reason(out: &mut [u8; ROOM], len: usize, c: AskedCall, p: Performed) -> usize
+    requires { ⌜ len + answerMost ≤ room ⌝ }
+    ensures { λ n. ⌜ Wrote (now (out .entry)) len (now (out .exit)) n (reasonSaid c p) answerMost ⌝ }
+{
+    let why = p.why;
+    match why {
+        Explained::No => {
+            let answer = p.answer;
+            say_answer(out, len, c, answer)
+        }
+        Explained::Because(reasons) => say_why(out, len, reasons),
+    }
+}
+
+// Appends what a call of the desk is told as.
+fn say_call(out: &mut [u8; ROOM], len: usize, telling: Telling, c: AskedCall, p: Performed) -> usize
+    requires { ⌜ len + answerMost ≤ room ⌝ }
+    ensures { λ n. ⌜ Wrote (now (out .entry)) len (now (out .exit)) n (callSaid telling c p) answerMost ⌝ }
+{
+    match telling {
+        Telling::Answers => {
+            let answer = p.answer;
+            say_answer(out, len, c, answer)
+        }
+        Telling::Reasons => say_reason(out, len, c, p),
+        Telling::Messages => {
+            let answer = p.answer;
+            say_messages(out, len, c, answer)
+        }
+    }
+}
+
+// Appends what a line is told as.
 pub fn say(
     out: &mut [u8; ROOM],
     len: usize,
     telling: Telling,
-    kind: u64,
+    a: Ask,
     number: u64,
-    r: Request,
     b: Beside,
     p: Performed,
 ) -> usize
     requires { ⌜ len + answerMost ≤ room ⌝ }
-    ensures { λ n. ⌜ Wrote (now (out .entry)) len (now (out .exit)) n (lineText telling kind number r b p)
-        answerMost ⌝ }
+    ensures { λ n. ⌜ Wrote (now (out .entry)) len (now (out .exit)) n (lineText telling a number b p) answerMost ⌝ }
 {
-    match telling {
-        Telling::Answers => say_plain(out, len, kind, number, b, p),
-        Telling::Reasons => {
-            if kind == Kind::EVALUATE {
-                let why = p.why;
-                return say_why(out, len, why);
+    let words = in_words(telling);
+    match a {
+        Ask::Nothing => len,
+        Ask::NoCall => {
+            if words {
+                return say_bad(out, len, number);
             }
-            say_plain(out, len, kind, number, b, p)
+            len
         }
-        Telling::Messages => {
-            let admission = r.admission;
-            let answer = p.answer;
-            say_messages(out, len, kind, admission, r.side, answer)
+        Ask::Call(c) => say_call(out, len, telling, c, p),
+        Ask::Interest(_) => {
+            if words {
+                let interest = b.interest;
+                return say_interest(out, len, interest);
+            }
+            len
+        }
+        Ask::Bond(_) => {
+            if words {
+                let bond = b.bond;
+                return say_bond(out, len, bond);
+            }
+            len
         }
     }
 }

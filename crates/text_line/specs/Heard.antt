@@ -27,10 +27,12 @@ blankLine = record { kind = blankKind; count = 0; pairs = noPairs }
 abbrev pub badLine : Line
 badLine = record { kind = badKind; count = 0; pairs = noPairs }
 
+-- what a line of a kind says, with its numbers and pairs
+abbrev pub saidAs : (kind : ℕ) → (numbers : List ℤ) → Pairs → Said
+saidAs k zs p = pick (eqb k blankKind) Nothing (pick (eqb k badKind) NoCall (Call k zs p))
+
 unfoldable pub said : Line → List ℤ → Said
-said l xs =
-    pick (eqb (l .kind) blankKind) Nothing
-    (pick (eqb (l .kind) badKind) NoCall (Call (l .kind) (take (l .count) xs) (l .pairs)))
+said l xs = saidAs (l .kind) (take (l .count) xs) (l .pairs)
 
 -- the reader's promise: the line says s, its numbers are the first of xs, xs is as long as it was, and the kind is one
 -- of the thirteen

@@ -1,5 +1,5 @@
-// A line's call goes to the public call of the desk that it is. Every table is taken, and no line is refused here: the
-// call refuses.
+// A call that a line asks for goes to the public call of the desk that it is. Every table is taken, and no line is
+// refused here: the call refuses.
 use desk::admit;
 use desk::evaluate_asked;
 use desk::moved;
@@ -10,37 +10,22 @@ use desk::read;
 use desk::receive;
 use paper::Answer;
 use paper::Record;
-use text_call::Request;
-use text_protocol::Kind;
+use text_protocol::AskedCall;
 ghost use mathlib.Core.Path.{_≡_};
 ghost use Rattle.desk.specs.Promises.{Promised};
-ghost use Rattle.text_call.specs.Requests.{requestCall};
+ghost use Rattle.text_protocol.specs.Calls.{callAsked};
 
-// Whatever is none of these seven kinds is a read; a line that is no call of the desk is a read of id 0, which
-// stores nothing.
-pub fn perform(t: &mut [Record], c: Request, rows: &[i64]) -> Answer
-    ensures { λ r. ⌜ Promised (requestCall c (now (rows .entry))) (now (t .entry)) r (now (t .exit)) ⌝ }
+pub fn perform(t: &mut [Record], c: AskedCall, rows: &[i64]) -> Answer
+    ensures { λ r. ⌜ Promised (callAsked c (now (rows .entry))) (now (t .entry)) r (now (t .exit)) ⌝ }
 {
-    if c.kind == Kind::ADMIT {
-        return admit(t, c.admission);
+    match c {
+        AskedCall::Admit(a) => return admit(t, a),
+        AskedCall::Evaluate(id, d) => return evaluate_asked(t, id, d, rows),
+        AskedCall::Quote(id, q) => return quote(t, id, q),
+        AskedCall::Move(id, side) => return moved(t, id, side),
+        AskedCall::Read(id) => return read(t, id),
+        AskedCall::Open(id) => return open_evening(t, id),
+        AskedCall::Receive(id, x) => return receive(t, id, x),
+        AskedCall::Notify(id, x) => return notify(t, id, x),
     }
-    if c.kind == Kind::EVALUATE {
-        return evaluate_asked(t, c.id, c.day, rows);
-    }
-    if c.kind == Kind::QUOTE {
-        return quote(t, c.id, c.quote);
-    }
-    if c.kind == Kind::MOVE {
-        return moved(t, c.id, c.side);
-    }
-    if c.kind == Kind::OPEN {
-        return open_evening(t, c.id);
-    }
-    if c.kind == Kind::OUTSIDE {
-        return receive(t, c.id, c.outside);
-    }
-    if c.kind == Kind::NOTICE {
-        return notify(t, c.id, c.notice);
-    }
-    read(t, c.id)
 }

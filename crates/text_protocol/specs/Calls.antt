@@ -11,7 +11,7 @@ use Rattle.paper.specs.declared.GivenStatics.{GivenStatics}
 use Rattle.paper.specs.declared.Admission.{Admission}
 use Rattle.paper.specs.declared.Quote.{Quote}
 use Rattle.paper.specs.declared.Outside.{Outside}
-use Rattle.paper.specs.declared.Notice.the-variants.{Bid, Ask, Withdrawal}
+use Rattle.paper.specs.declared.Notice.the-variants as sent
 use Rattle.paper.specs.declared.Interest.{Interest}
 use Rattle.paper.specs.declared.RepoBand.{RepoBand}
 use Rattle.paper.specs.declared.RepoBand.the-variants as band
@@ -24,6 +24,10 @@ use Rattle.paper.specs.Ranges.{unsigned}
 use Rattle.paper.specs.Terms.{dayOf}
 use Rattle.paper_desk.specs.Desk.{Call, admit, evaluate, quote, move, read, openEvening, receive}
 use Rattle.paper_desk.specs.External.{together, notice}
+use Rattle.text_protocol.specs.declared.AskedCall.{AskedCall}
+use Rattle.text_protocol.specs.declared.AskedCall.the-variants as asked
+use Rattle.text_protocol.specs.declared.Ask.{Ask}
+use Rattle.text_protocol.specs.declared.Ask.the-variants as ask
 use Rattle.text_protocol.specs.declared.Kept.{Kept}
 use Rattle.text_protocol.specs.declared.Pairs.{Pairs}
 use Rattle.text_protocol.specs.Kept.{foundIn}
@@ -117,7 +121,8 @@ outsideOf zs =
 -- with 1, then with 6
 unfoldable pub noticeCall : (id side : ℕ) → Float → Call
 noticeCall id side x =
-    pick (eqb side 0) (receive id (notice (Bid x))) (pick (eqb side 1) (receive id (notice (Ask x))) (move id side))
+    pick (eqb side 0) (receive id (notice (sent.Bid x)))
+    (pick (eqb side 1) (receive id (notice (sent.Ask x))) (move id side))
 
 -- ---- an evening's interest side
 
@@ -234,7 +239,7 @@ callOf k kind zs p =
     (pick (eqb kind outsideKind) (call (receive (unsignedOf outsideNames zs ID) (together (outsideOf zs))))
     (pick (eqb kind noticeKind) (call (noticeCall (unsignedOf noticeNames zs ID) (unsignedOf noticeNames zs SIDE)
     (floatOf (the noticeNames zs BITS))))
-    (pick (eqb kind withdrawKind) (call (receive (unsignedOf withdrawNames zs ID) (notice Withdrawal)))
+    (pick (eqb kind withdrawKind) (call (receive (unsignedOf withdrawNames zs ID) (notice sent.Withdrawal)))
     (pick (eqb kind interestKind) (interest (interestOf zs) (figuresBehind interestNames zs))
     (bond (bondOf k zs p) (figuresBehind bondNames zs)))))))))))
 
@@ -242,3 +247,24 @@ unfoldable pub deedOf : Kept → Said → Deed
 deedOf k Nothing = nothing
 deedOf k NoCall = noCall
 deedOf k (saysCall kind zs p) = callOf k kind zs p
+
+-- ---- the same, as the code has it
+
+-- the call of document 01 that is asked for, with the row figures
+unfoldable pub callAsked : AskedCall → (rows : List ℤ) → Call
+callAsked (asked.Admit a) rows = admit a
+callAsked (asked.Evaluate id d) rows = evaluate id (dayOf d) rows
+callAsked (asked.Quote id q) rows = quote id q
+callAsked (asked.Move id side) rows = move id side
+callAsked (asked.Read id) rows = read id
+callAsked (asked.Open id) rows = openEvening id
+callAsked (asked.Receive id x) rows = receive id (together x)
+callAsked (asked.Notify id x) rows = receive id (notice x)
+
+-- THE DEED that is asked for by a line of these numbers: the figures stand behind the numbers that have names
+unfoldable pub deedAsked : Ask → (numbers : List ℤ) → Deed
+deedAsked ask.Nothing zs = nothing
+deedAsked ask.NoCall zs = noCall
+deedAsked (ask.Call c) zs = call (callAsked c (figuresBehind evaluateNames zs))
+deedAsked (ask.Interest i) zs = interest i (figuresBehind interestNames zs)
+deedAsked (ask.Bond b) zs = bond b (figuresBehind bondNames zs)

@@ -1,9 +1,16 @@
 // The calls of the evening's text, as docs/EVENING.md gives them: what the definitions (specs/) and the code share.
 // This crate has no function: the definitions say what a line of text means and what is printed, and every other crate
 // of the evening is proved equal to them. What bytes, words and numbers are stands below, in text_bytes.
+use paper::Admission;
 use paper::Answer;
+use paper::AskedDay;
+use paper::Interest;
+use paper::Notice;
+use paper::Outside;
+use paper::Quote;
 use paper::Row;
 use paper::WorkedBand;
+use paper_bonds::Bond;
 use paper_reasons::Why;
 use text_bytes::ROOM;
 
@@ -40,7 +47,8 @@ pub const BOND_COUNT: usize = 33;
 // The numbers that a line keeps: those of an evaluation and its row figures, with one figure more than a day may have.
 pub const KEPT: usize = EVALUATE_COUNT + Row::ALL_NUMBERS_MOST + 1;
 
-// What kind of line a line is, by its number (specs/Names.antt).
+// The place of a call in the table of the calls' forms (specs/Names.antt), counted from 1. A line's word is looked up by
+// it; once a line is read, `Ask` says what it asks for.
 pub struct Kind {
     pub number: u64,
 }
@@ -102,8 +110,37 @@ pub struct Pairs {
     pub third: bool,
 }
 
-// What the desk says to a line: what its call answers, and why, which counts only where that is asked for.
+// A call of the desk, with what it is given. The row figures of an evaluation are lent beside it.
+pub enum AskedCall {
+    Admit(Admission),
+    Evaluate(u64, AskedDay),
+    Quote(u64, Quote),
+    Move(u64, u64),
+    Read(u64),
+    Open(u64),
+    Receive(u64, Outside),
+    Notify(u64, Notice),
+}
+
+// What a line asks for: nothing, no call, a call of the desk, or what is answered beside the table, the interest side
+// or a bond. The figures behind its named numbers, an evaluation's rows, an interest line's key maturities or a bond's
+// cash flows, are lent beside it.
+pub enum Ask {
+    Nothing,
+    NoCall,
+    Call(AskedCall),
+    Interest(Interest),
+    Bond(Bond),
+}
+
+// Why an answer is what it is, where that was asked of a call that has reasons.
+pub enum Explained {
+    No,
+    Because(Why),
+}
+
+// What the desk says to a line. The answer counts only where the line is a call of the desk.
 pub struct Performed {
     pub answer: Answer,
-    pub why: Why,
+    pub why: Explained,
 }

@@ -28,8 +28,8 @@ use Rattle.text_evening.specs.declared.Telling.{Telling}
 use Rattle.text_evening.specs.declared.Telling.the-variants.{Answers, Reasons, Messages}
 use Rattle.text_evening.proofs.Telling as E
 use Rattle.text_evening.proofs.Telling.Laws as E′
+use Rattle.text_protocol.proofs.Ask.Laws as A′
 use Rattle.text_protocol.proofs.Kept.Laws as K′
-use Rattle.text_call.proofs.Request.Laws as R′
 use Rattle.text_evidence.proofs.Written.Laws as V′
 use Rattle.text_input.proofs.Input.Laws as I′
 use Rattle.text_turn.specs.declared.State.{State}
@@ -81,8 +81,7 @@ state-ty = tyStruct (G.struct .name) (tcons I′.mir (tcons (tyInt w64) (tcons K
 
 abbrev pub heard-ty : Ty
 heard-ty = tyStruct (P.struct .name) (tcons I′.mir (tcons (tyInt w64) (tcons K′.mir (tcons (tyInt w64) (tcons V′.mir
-    (tcons (tyInt w64) (tcons (tyInt w64)
-    (tcons R′.mir (tcons B′.mir (tcons E′.mir (tcons tyBool tnil)))))))))))
+    (tcons (tyInt w64) (tcons A′.mir (tcons B′.mir (tcons E′.mir (tcons tyBool tnil))))))))))
 
 abbrev pub state-val : State → Val
 state-val = LL.val G.the-type G′.the-laws

@@ -1,4 +1,5 @@
 -- The laws of text_serve, a file each; other crates may cite the public ones.
+mod Saying
 mod Turning
 mod Joining
 pub mod Arrays

@@ -31,7 +31,7 @@ use denote.Ref.{RefT, ShrRef}
 use denote.Memory.{pointee}
 use denote.Slice.{sliceTy, sliceVal, ShrSlice, shr-slice-tells, shr-slice-copy, finally}
 use denote.Steps.{only, owned, facts, heard, nothing}
-use denote.Struct.Laws as LL
+use denote.Enum.Laws as EL
 use denote.Triple.Statement.{Contract, Triple}
 use denote.Triple.Bound.{Bound}
 use denote.Triple.Call.{calls-at}
@@ -46,9 +46,9 @@ use Rattle.desk.proofs.Calls.{Owned}
 use Rattle.text_protocol.specs.declared.Performed.{Performed}
 use Rattle.text_protocol.proofs.Performed as F
 use Rattle.text_protocol.proofs.Performed.Laws as F′
-use Rattle.text_call.specs.declared.Request.{Request}
-use Rattle.text_call.proofs.Request as B
-use Rattle.text_call.proofs.Request.Laws as B′
+use Rattle.text_protocol.specs.declared.Ask.{Ask as Asked}
+use Rattle.text_protocol.proofs.Ask as B
+use Rattle.text_protocol.proofs.Ask.Laws as B′
 use Rattle.text_ask.specs.Asked.{Asks}
 use Rattle.text_ask.proofs.ask as ask
 use Rattle.text_ask.proofs.ask.Symbol as ask-def
@@ -58,8 +58,8 @@ use Rattle.text_serve.proofs.rows_in as rows
 use Rattle.text_serve.proofs.rows_in.Symbol as rows-def
 use Rattle.text_protocol.specs.Names.{evaluateCount}
 
-abbrev request-val : Request → Val
-request-val = LL.val B.the-type B′.the-laws
+abbrev ask-val : Asked → Val
+ask-val = EL.val B.the-type B′.the-laws
 
 -- the row figures: their machine value and its type, and what their `&` at the n-th lifetime of a signature owns
 abbrev pub figures-val : RefT (List ℤ) → Val
@@ -167,14 +167,14 @@ module _ {M : Type 1} (𝓤 : URA M) (H : Heap 𝓤) (A : Atoms 𝓤) (mem′ : 
 
   -- ---- `ask`
   module _ (W : Given 𝓤 H A) (κ α : Lft) (q : Share) (b o : ℕ) (γ : GName) (ys : List Record) (f : RefT (List ℤ)) (l :
-      Request) (asked : Bool) (gl : Is B.the-row l (request-val l ∷ [])) where
+      Asked) (asked : Bool) (gl : Is B.the-row l (ask-val l ∷ [])) where
     abbrev to-ask : Bound 𝓤 H A ask.signature
     to-ask = (
       (κ, (α, tt)),
       (q, (fullShare, tt)),
       tt,
       (ref b o γ ys, (l, (f, (asked, tt)))),
-      (machine b o ys ∷ [], (request-val l ∷ [], (figures-val f ∷ [], (vbool asked ∷ [], tt)))),
+      (machine b o ys ∷ [], (ask-val l ∷ [], (figures-val f ∷ [], (vbool asked ∷ [], tt)))),
     )
 
     -- the table and the row figures, each with the token of its lifetime
@@ -191,7 +191,7 @@ module _ {M : Type 1} (𝓤 : URA M) (H : Heap 𝓤) (A : Atoms 𝓤) (mem′ : 
         -- [the tokens; the figures; t]
         nothing ! $ owned ! bool (Is bool) (bool-makes 𝓤 H A W) asked (vbool asked ∷ []) refl $ fjoin ! $
         move ! (2 ∷ 0 ∷ []) $ fjoin ! $
-        owned ! B.the-row (Is B.the-row) (LL.makes B.the-type B′.the-plain 𝓤 H A) l (request-val l ∷ []) gl $ fjoin ! $
+        owned ! B.the-row (Is B.the-row) (EL.makes B.the-type B′.the-plain 𝓤 H A) l (ask-val l ∷ []) gl $ fjoin ! $
         move ! (2 ∷ 0 ∷ []) $ fjoin ! $
         move ! (1 ∷ 0 ∷ []) $ join ! $ framed ! $ done !
 
@@ -205,7 +205,7 @@ module _ {M : Type 1} (𝓤 : URA M) (H : Heap 𝓤) (A : Atoms 𝓤) (mem′ : 
         {args : List Operand} {d : ℕ} {rest : Code} where
       pub asks : FmC 𝓤 H (W .laws) C → Triple 𝓤 (C ask-def.name) Ask → Within E d → spotOf 𝓤 H E d .0 ≡ F′.mir
           → ((Δ : List (Item 𝓤)) → Opds (Go {0}) W (frame H E cs ∷ Δ) E args
-          (machine b o ys ∷ request-val l ∷ figures-val f ∷ vbool asked ∷ []))
+          (machine b o ys ∷ ask-val l ∷ figures-val f ∷ vbool asked ∷ []))
           → ((zs : List Record) (a : Performed) (w : Val) → length zs ≡ length ys → Asks asked l (f .now) ys a zs
           → Is F.the-row a (w ∷ [])
           → Sq W (frame H E (holding cs d (some w)) ∷ ‵ (finally R γ zs) ∷ ‵ (flft κ q) ∷ ‵ (flft α fullShare) ∷ Γ)

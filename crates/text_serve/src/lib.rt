@@ -53,7 +53,7 @@ pub fn step<'a, 'b>(
         (now (buf .exit)) r (now (t .exit)) (now (out .exit)) ⌝ }
 {
     let p = hear_in(buf, xs, s);
-    let a = ask(t, p.request, rows_in(xs, p.count), p.asked);
+    let a = ask(t, p.ask, rows_in(xs, p.count), p.asked);
     tell(out, p, a)
 }
 

@@ -1,24 +1,31 @@
--- A line that was heard, and what it asks for: what `prepare` promises. Assumes nothing.
-use mathlib.Core.Path.{_≡_, refl}
+-- A line that was heard, and what it asks for: what `prepare` promises.
+use mathlib.Core.Path.{_≡_, refl, subst}
 use mathlib.Core.Bool.{Bool}
 use mathlib.Core.List.{List}
 use Prim.Native.Nat.{ℕ}
 use lib.IntN.{ℤ}
 use lib.ListN.{take}
-use Rattle.text_protocol.specs.Line.{meaning}
+use Rattle.text_protocol.specs.Line.{Said, meaning}
 use Rattle.text_protocol.specs.Calls.{deedOf}
+use Rattle.text_line.specs.declared.Line.{Line}
+use Rattle.text_line.specs.Heard.{saidAs, said}
 use Rattle.text_input.specs.declared.Heard.{Heard}
 use Rattle.text_input.specs.Input.{Hears}
 use Rattle.text_deed.specs.declared.LineDeed.{LineDeed}
-use Rattle.text_deed.specs.Deeds.{asksWhy, AsksFor, Does}
-use Rattle.text_deed.proofs.Doing.{asked-is-the-deed}
+use Rattle.text_deed.specs.Deeds.{asksWhy, AsksFor}
 use Rattle.text_turn.specs.declared.State.{State}
 use Rattle.text_turn.specs.Turn.{Prepares}
 
+-- what the code has of a line says what the line says
+says-it : (l : Line) (xs : List ℤ) {s : Said} → said l xs ≡ s → saidAs (l .kind) (take (l .count) xs) (l .pairs) ≡ s
+unfolding said
+says-it l xs e = e
+
 pub prepared : (b : List ℕ) (s : State) (b' : List ℕ) (h : Heard) (xs : List ℤ) (w : LineDeed) (asked : Bool)
     → Hears b (s .input) b' h xs
-    → AsksFor (s .kept) (h .line .kind) (take (h .line .count) xs) (h .line .pairs) w
-    → asked ≡ asksWhy (s .telling) (h .line .kind)
+    → AsksFor (s .kept) (deedOf (s .kept) (saidAs (h .line .kind) (take (h .line .count) xs) (h .line .pairs)))
+    (take (h .line .count) xs) w
+    → asked ≡ asksWhy (s .telling)
     → Prepares b s b'
     (record {
       input = h .input;
@@ -26,22 +33,23 @@ pub prepared : (b : List ℕ) (s : State) (b' : List ℕ) (h : Heard) (xs : List
       kept = w .kept;
       waiting = s .waiting;
       told = s .told;
-      kind = h .line .kind;
       count = h .line .count;
-      request = w .request;
+      ask = w .ask;
       beside = w .beside;
       telling = s .telling;
       asked = asked;
     }) xs
 prepared b s b' h xs w asked p q e =
-    let d : Does (s .kept) (deedOf (s .kept) (meaning (p .line))) (h .line .kind) (take (h .line .count) xs) w =
-    asked-is-the-deed (h .line) xs (meaning (p .line)) (s .kept) w (p .says) q in
+    let d : AsksFor (s .kept) (deedOf (s .kept) (meaning (p .line))) (take (h .line .count) xs) w =
+    subst (λ (x : Said). AsksFor (s .kept) (deedOf (s .kept) x) (take (h .line .count) xs) w)
+    (says-it (h .line) xs (p .says .says)) q in
     record {
       line = p .line;
       next = p .next;
       asks = d .asks;
       kept = d .kept;
-      says = λ a t f. d .says (s .telling) (s .number) a t (rw e at f);
+      beside = d .beside;
+      asked = e;
       telling = refl;
       number = refl;
       waiting = refl;

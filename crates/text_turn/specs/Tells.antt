@@ -30,8 +30,7 @@ pub data Goes (i : Input) (told : Written) (end : ℕ) (r : State) : Type 0 wher
 -- next line has to be waited for, and where no line is left to hear
 pub record Tells (b : List ℕ) (p : Prepared) (a : Performed) (b' : List ℕ) (r : State) : Type 0 where
   pub end : ℕ
-  pub wrote : Wrote b (p .waiting) b' end (lineText (p .telling) (p .kind) (p .number) (p .request) (p .beside) a)
-      answerMost
+  pub wrote : Wrote b (p .waiting) b' end (lineText (p .telling) (p .ask) (p .number) (p .beside) a) answerMost
   pub goes : Goes (p .input) (p .told) end r
   pub room : r .waiting + answerMost ≤ room
   pub prompt : r .input .len ≤ r .input .end → r .waiting ≡ 0

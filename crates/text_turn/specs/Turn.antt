@@ -3,34 +3,26 @@ use mathlib.Core.Path.{_≡_}
 use mathlib.Core.List.{List}
 use Prim.Native.Nat.{ℕ}
 use lib.IntN.{ℤ}
-use lib.ListN.{take, drop}
-use Rattle.paper.specs.declared.Record.{Record}
-use Rattle.text_protocol.specs.declared.Performed.{Performed}
+use lib.ListN.{take}
 use Rattle.text_evening.specs.declared.Telling.{Telling}
 use Rattle.text_protocol.specs.Kept.{noneKept}
 use Rattle.text_protocol.specs.Line.{meaning}
-use Rattle.text_protocol.specs.Calls.{deedOf}
-use Rattle.text_evening.specs.Evening.{keptBy, textOf, lastNumber}
-use Rattle.text_call.specs.Requests.{requestCall}
+use Rattle.text_protocol.specs.Calls.{deedOf, deedAsked}
+use Rattle.text_evening.specs.Evening.{keptBy, lastNumber}
 use Rattle.text_evidence.specs.Evidence.{unread, unwritten}
 use Rattle.text_input.specs.Input.{Next}
-use Rattle.text_deed.specs.Deeds.{callIn, lineText, Said}
+use Rattle.text_deed.specs.Deeds.{BesideIs, asksWhy}
 use Rattle.text_turn.specs.declared.State.{State}
 use Rattle.text_turn.specs.declared.Prepared.{Prepared}
-use Rattle.text_protocol.specs.Names.{evaluateCount}
 
 -- BEFORE THE TABLE IS ASKED: the next line is heard, and what it asks for is known
 pub record Prepares (b : List ℕ) (s : State) (b' : List ℕ) (r : Prepared) (xs : List ℤ) : Type 0 where
   pub line : List ℕ
   pub next : Next b (s .input) b' (r .input) line
-  pub asks : requestCall (r .request) (drop evaluateCount (take (r .count) xs))
-      ≡ callIn (deedOf (s .kept) (meaning line))
+  pub asks : deedAsked (r .ask) (take (r .count) xs) ≡ deedOf (s .kept) (meaning line)
   pub kept : r .kept ≡ keptBy (deedOf (s .kept) (meaning line)) (s .kept)
-  pub says : (a : Performed) (t : List Record)
-      → Said (r .asked) (r .request) (drop evaluateCount (take (r .count) xs))
-      (callIn (deedOf (s .kept) (meaning line))) t a
-      → lineText (r .telling) (r .kind) (s .number) (r .request) (r .beside) a
-      ≡ textOf (s .telling) (s .number) (deedOf (s .kept) (meaning line)) t
+  pub beside : BesideIs (deedOf (s .kept) (meaning line)) (r .beside)
+  pub asked : r .asked ≡ asksWhy (s .telling)
   pub telling : r .telling ≡ s .telling
   pub number : r .number ≡ s .number
   pub waiting : r .waiting ≡ s .waiting

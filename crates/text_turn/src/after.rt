@@ -68,18 +68,9 @@ pub fn tell(out: &mut [u8; ROOM], p: Prepared, a: Performed) -> State
     let kept = p.kept;
     let beside = p.beside;
     let telling = p.telling;
-    let request = p.request;
+    let ask = p.ask;
     let told = p.told;
-    let n = say(
-        out,
-        p.waiting,
-        telling,
-        p.kind,
-        p.number,
-        request,
-        beside,
-        a,
-    );
+    let n = say(out, p.waiting, telling, ask, p.number, beside, a);
     let number = number_after(p.number);
     if is_due(i, n) {
         let told = hand(out, n, told);

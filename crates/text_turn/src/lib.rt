@@ -8,7 +8,6 @@ ghost use Rattle.text_input.specs.Input.{Stands};
 ghost use Rattle.text_turn.specs.Turn.{Prepares, startState};
 ghost use Rattle.text_protocol.specs.Line.{keptMost};
 ghost use Rattle.text_protocol.specs.Names.{evaluateCount};
-use text_call::Request;
 use text_call::least;
 use text_deed::Beside;
 use text_deed::asks_why;
@@ -17,6 +16,7 @@ use text_evening::Telling;
 use text_evidence::Written;
 use text_input::Input;
 use text_input::hear;
+use text_protocol::Ask;
 use text_protocol::EVALUATE_COUNT;
 use text_protocol::Kept;
 
@@ -32,17 +32,16 @@ pub struct State {
     pub telling: Telling,
 }
 
-// A line that was heard: its kind and how many numbers it has, what it asks of the desk, what is answered to it beside
-// the table, how it is told, and whether why is asked to it.
+// A line that was heard: how many numbers it has, what it asks for, what is answered to it beside the table, how it is
+// told, and whether why is asked.
 pub struct Prepared {
     pub input: Input,
     pub number: u64,
     pub kept: Kept,
     pub waiting: usize,
     pub told: Written,
-    pub kind: u64,
     pub count: usize,
-    pub request: Request,
+    pub ask: Ask,
     pub beside: Beside,
     pub telling: Telling,
     pub asked: bool,
@@ -61,11 +60,10 @@ pub fn prepare(buf: &mut [u8], xs: &mut [i64], s: State) -> Prepared
     let h = hear(buf, xs, input);
     let line = h.line;
     let count = line.count;
-    let kind = line.kind;
     let deed = deed_of(&xs[..count], line, kept);
     let input = h.input;
     let kept = deed.kept;
-    let request = deed.request;
+    let ask = deed.ask;
     let beside = deed.beside;
     Prepared {
         input,
@@ -73,12 +71,11 @@ pub fn prepare(buf: &mut [u8], xs: &mut [i64], s: State) -> Prepared
         kept,
         waiting: s.waiting,
         told,
-        kind,
         count,
-        request,
+        ask,
         beside,
         telling,
-        asked: asks_why(telling, kind),
+        asked: asks_why(telling),
     }
 }
 

@@ -1,5 +1,8 @@
--- `text_answer::say_answer` meets its contract: what a call of a kind answers. Assumes nothing.
-use Rattle.text_answer.proofs.Cases.{refused-kind, admit-kind, quote-kind, record-kind}
+-- `text_answer::say_answer` meets its contract: what a call answers, call by call.
+use mathlib.Core.List.{[], _∷_}
+use Rattle.text_protocol.specs.Answers.{flag, recordNumbers, figuresAnswered}
+use Rattle.text_protocol.specs.Calls.{callAsked}
+use Rattle.text_answer.proofs.Cases.{refused-call, done-call}
 use borrow.Author.Needs.{needs}
 use Rattle.text_answer.proofs.say_answer.Statement.{statement}
 use Rattle.text_answer.proofs.say_answer.Tie as tie
@@ -8,7 +11,7 @@ use Rattle.text_answer.proofs.say_answer.Lts as lts
 use Rattle.paper.proofs.Verdict.number.Reads as number-reads
 use Rattle.text_answer.proofs.say_alerts.Reads as say-alerts-reads
 use Rattle.text_answer.proofs.say_number.Reads as say-number-reads
-use Rattle.text_answer.proofs.say_record.Reads as say-record-reads
+use Rattle.text_answer.proofs.say_shown.Reads as say-shown-reads
 
 number-requires : tie.Need-number-requires
 number-requires c κs = search needs
@@ -17,42 +20,146 @@ say-number-requires : tie.Need-say-number-requires
 say-number-requires c κs = search needs
 
 returns : tie.Need-returns
-returns c = rw (refused-kind (c .before .before .before .before .args .kind)
-    (c .before .before .before .before .args .a) _ (c .before .before .before .number .ensures)
-    (c .before .before .if1 .taken)) at (c .say-number .ensures)
+returns c =
+    let at-number = c .before .before .before in
+    let start = at-number .before in
+    rw (refused-call (start .args .c) (start .args .a) _ (at-number .number .ensures) (c .before .before .if1 .taken)) at
+    (c .say-number .ensures)
+
+enum-told : tie.Need-enum-told
+enum-told c = search needs
 
 say-number-requires-2 : tie.Need-say-number-requires-2
 say-number-requires-2 c κs = search needs
 
-returns-2 : tie.Need-returns-2
-returns-2 c =
-    let at-number = c .before .before .before .before in
-    let start = at-number .before in
-    rw (admit-kind (start .args .kind) (start .args .a) _ (at-number .number .ensures)
-    (c .before .before .before .if1 .left) (c .before .before .if2 .taken)) at (c .say-number2 .ensures)
+enum-told-2 : tie.Need-enum-told-2
+enum-told-2 c = search needs
+
+say-shown-requires : tie.Need-say-shown-requires
+say-shown-requires c κs = search needs
+
+enum-told-3 : tie.Need-enum-told-3
+enum-told-3 c = search needs
 
 say-alerts-requires : tie.Need-say-alerts-requires
 say-alerts-requires c κs = search needs
 
-returns-3 : tie.Need-returns-3
-returns-3 c =
-    let at-if1 = c .before .before .before .before in
+enum-told-4 : tie.Need-enum-told-4
+enum-told-4 c = search needs
+
+say-shown-requires-2 : tie.Need-say-shown-requires-2
+say-shown-requires-2 c κs = search needs
+
+enum-told-5 : tie.Need-enum-told-5
+enum-told-5 c = search needs
+
+say-shown-requires-3 : tie.Need-say-shown-requires-3
+say-shown-requires-3 c κs = search needs
+
+enum-told-6 : tie.Need-enum-told-6
+enum-told-6 c = search needs
+
+say-shown-requires-4 : tie.Need-say-shown-requires-4
+say-shown-requires-4 c κs = search needs
+
+enum-told-7 : tie.Need-enum-told-7
+enum-told-7 c = search needs
+
+say-shown-requires-5 : tie.Need-say-shown-requires-5
+say-shown-requires-5 c κs = search needs
+
+enum-told-8 : tie.Need-enum-told-8
+enum-told-8 c = search needs
+
+say-shown-requires-6 : tie.Need-say-shown-requires-6
+say-shown-requires-6 c κs = search needs
+
+returns-2 : tie.Need-returns-2
+unfolding callAsked figuresAnswered
+returns-2 c =
+    let at-match = c .before .before in
+    let at-if1 = at-match .before .before in
     let at-number = at-if1 .before in
     let start = at-number .before in
-    rw (quote-kind (start .args .kind) (start .args .a) _ (at-number .number .ensures) (at-if1 .if1 .left)
-    (c .before .before .before .if2 .left) (c .before .before .if3 .taken)) at (c .say-alerts .ensures)
+    rw (done-call (start .args .c) (start .args .a) _ (at-number .number .ensures) (at-if1 .if1 .left) []
+    (rw (at-match .enum-told .given .1))) at (c .say-number2 .ensures)
 
-say-record-requires : tie.Need-say-record-requires
-say-record-requires c κs = search needs
+returns-3 : tie.Need-returns-3
+unfolding callAsked figuresAnswered
+returns-3 c =
+    let at-match = c .before .before in
+    let at-if1 = at-match .before .before in
+    let at-number = at-if1 .before in
+    let start = at-number .before in
+    rw (done-call (start .args .c) (start .args .a) _ (at-number .number .ensures) (at-if1 .if1 .left)
+    (recordNumbers (start .args .a .rec))
+    (rw (at-match .enum-told2 .given .1))) at (c .say-shown .ensures)
 
 returns-4 : tie.Need-returns-4
+unfolding callAsked figuresAnswered
 returns-4 c =
-    let at-if2 = c .before .before .before .before in
-    let at-if1 = at-if2 .before in
+    let at-match = c .before .before in
+    let at-if1 = at-match .before .before in
     let at-number = at-if1 .before in
     let start = at-number .before in
-    rw (record-kind (start .args .kind) (start .args .a) _ (at-number .number .ensures) (at-if1 .if1 .left)
-    (at-if2 .if2 .left) (c .before .before .before .if3 .left)) at (c .say-record .ensures)
+    rw (done-call (start .args .c) (start .args .a) _ (at-number .number .ensures) (at-if1 .if1 .left)
+    (flag (start .args .a .top) ∷ flag (start .args .a .bottom) ∷ [])
+    (rw (at-match .enum-told3 .given .1))) at (c .say-alerts .ensures)
+
+returns-5 : tie.Need-returns-5
+unfolding callAsked figuresAnswered
+returns-5 c =
+    let at-match = c .before .before in
+    let at-if1 = at-match .before .before in
+    let at-number = at-if1 .before in
+    let start = at-number .before in
+    rw (done-call (start .args .c) (start .args .a) _ (at-number .number .ensures) (at-if1 .if1 .left)
+    (recordNumbers (start .args .a .rec))
+    (rw (at-match .enum-told4 .given .1))) at (c .say-shown2 .ensures)
+
+returns-6 : tie.Need-returns-6
+unfolding callAsked figuresAnswered
+returns-6 c =
+    let at-match = c .before .before in
+    let at-if1 = at-match .before .before in
+    let at-number = at-if1 .before in
+    let start = at-number .before in
+    rw (done-call (start .args .c) (start .args .a) _ (at-number .number .ensures) (at-if1 .if1 .left)
+    (recordNumbers (start .args .a .rec))
+    (rw (at-match .enum-told5 .given .1))) at (c .say-shown3 .ensures)
+
+returns-7 : tie.Need-returns-7
+unfolding callAsked figuresAnswered
+returns-7 c =
+    let at-match = c .before .before in
+    let at-if1 = at-match .before .before in
+    let at-number = at-if1 .before in
+    let start = at-number .before in
+    rw (done-call (start .args .c) (start .args .a) _ (at-number .number .ensures) (at-if1 .if1 .left)
+    (recordNumbers (start .args .a .rec))
+    (rw (at-match .enum-told6 .given .1))) at (c .say-shown4 .ensures)
+
+returns-8 : tie.Need-returns-8
+unfolding callAsked figuresAnswered
+returns-8 c =
+    let at-match = c .before .before in
+    let at-if1 = at-match .before .before in
+    let at-number = at-if1 .before in
+    let start = at-number .before in
+    rw (done-call (start .args .c) (start .args .a) _ (at-number .number .ensures) (at-if1 .if1 .left)
+    (recordNumbers (start .args .a .rec))
+    (rw (at-match .enum-told7 .given .1))) at (c .say-shown5 .ensures)
+
+returns-9 : tie.Need-returns-9
+unfolding callAsked figuresAnswered
+returns-9 c =
+    let at-match = c .before .before in
+    let at-if1 = at-match .before .before in
+    let at-number = at-if1 .before in
+    let start = at-number .before in
+    rw (done-call (start .args .c) (start .args .a) _ (at-number .number .ensures) (at-if1 .if1 .left)
+    (recordNumbers (start .args .a .rec))
+    (rw (at-match .enum-told8 .given .1))) at (c .say-shown6 .ensures)
 
 pub say-answer-spec : {M : Type 1} → statement M
 say-answer-spec =
@@ -61,9 +168,27 @@ say-answer-spec =
     number-requires
     say-number-requires
     returns
+    enum-told
     say-number-requires-2
-    returns-2
+    enum-told-2
+    say-shown-requires
+    enum-told-3
     say-alerts-requires
+    enum-told-4
+    say-shown-requires-2
+    enum-told-5
+    say-shown-requires-3
+    enum-told-6
+    say-shown-requires-4
+    enum-told-7
+    say-shown-requires-5
+    enum-told-8
+    say-shown-requires-6
+    returns-2
     returns-3
-    say-record-requires
-    returns-4)
+    returns-4
+    returns-5
+    returns-6
+    returns-7
+    returns-8
+    returns-9)

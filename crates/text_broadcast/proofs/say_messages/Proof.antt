@@ -1,7 +1,6 @@
--- `text_broadcast::say_messages` meets its contract: the messages of the kind that the tests lead to. Assumes nothing.
-use borrow.Author.Tests.{ne-eqb}
-use Rattle.text_protocol.specs.Names.{admitKind, evaluateKind, moveKind}
-use Rattle.text_broadcast.specs.Kinds.{messagesOfKind}
+-- `text_broadcast::say_messages` meets its contract: the messages of the call, arm by arm.
+use Rattle.text_protocol.specs.Calls.{callAsked}
+use Rattle.paper_messages.specs.Broadcast.{messagesOf}
 use Rattle.text_broadcast.proofs.Sending.{refusal-sends-nothing, one-sent, two-sent, none-sent}
 use borrow.Author.Needs.{needs}
 use Rattle.text_broadcast.proofs.say_messages.Statement.{statement}
@@ -24,7 +23,10 @@ returns : tie.Need-returns
 returns c =
     let at-done = c .before in
     let at-start = at-done .before .before in
-    refusal-sends-nothing _ _ _ (at-start .args .answer) _ (at-done .is-done .ensures) _ _ (c .if1 .taken)
+    refusal-sends-nothing (at-start .args .c) (at-start .args .answer) _ (at-done .is-done .ensures) _ _ (c .if1 .taken)
+
+enum-known-c : tie.Need-enum-known-c
+enum-known-c c = search needs
 
 statics-of-requires : tie.Need-statics-of-requires
 statics-of-requires c κs = search needs
@@ -35,17 +37,8 @@ statics-message-requires c κs = search needs
 send-requires : tie.Need-send-requires
 send-requires c κs = search needs
 
-returns-2 : tie.Need-returns-2
-unfolding messagesOfKind
-returns-2 c =
-    let at-message = c .before in
-    let at-statics = at-message .before in
-    let at-if2 = at-statics .before .before .before in
-    let at-if1 = at-if2 .before in
-    let at-done = at-if1 .before in
-    let at-start = at-done .before .before in
-    one-sent _ _ _ (at-start .args .answer) _ (at-done .is-done .ensures) (at-if1 .if1 .left) _
-    (rw (at-if2 .if2 .taken, at-message .statics-message .ensures, at-statics .statics-of .ensures)) (c .send .ensures)
+enum-told : tie.Need-enum-told
+enum-told c = search needs
 
 rates-message-requires : tie.Need-rates-message-requires
 rates-message-requires c κs = search needs
@@ -59,20 +52,11 @@ bands-message-requires c κs = search needs
 send-requires-3 : tie.Need-send-requires-3
 send-requires-3 c κs = search needs
 
-returns-3 : tie.Need-returns-3
-unfolding messagesOfKind
-returns-3 c =
-    let at-bands = c .before in
-    let at-first = at-bands .before .before in
-    let at-rates = at-first .before in
-    let at-if3 = at-rates .before .before in
-    let at-if2 = at-if3 .before in
-    let at-if1 = at-if2 .before in
-    let at-done = at-if1 .before in
-    let at-start = at-done .before .before in
-    two-sent _ _ _ (at-start .args .answer) _ (at-done .is-done .ensures) (at-if1 .if1 .left) _ _
-    (rw (at-if3 .if3 .taken, at-rates .rates-message .ensures, at-bands .bands-message .ensures))
-    (at-first .send2 .ensures) (c .send3 .ensures)
+enum-told-2 : tie.Need-enum-told-2
+enum-told-2 c = search needs
+
+enum-known-c-2 : tie.Need-enum-known-c-2
+enum-known-c-2 c = search needs
 
 side-of-requires : tie.Need-side-of-requires
 side-of-requires c κs = search needs
@@ -83,34 +67,101 @@ move-message-requires c κs = search needs
 send-requires-4 : tie.Need-send-requires-4
 send-requires-4 c κs = search needs
 
-returns-4 : tie.Need-returns-4
-unfolding messagesOfKind
-returns-4 c =
+enum-told-3 : tie.Need-enum-told-3
+enum-told-3 c = search needs
+
+enum-told-4 : tie.Need-enum-told-4
+enum-told-4 c = search needs
+
+enum-told-5 : tie.Need-enum-told-5
+enum-told-5 c = search needs
+
+enum-told-6 : tie.Need-enum-told-6
+enum-told-6 c = search needs
+
+returns-2 : tie.Need-returns-2
+unfolding callAsked messagesOf
+returns-2 c =
     let at-message = c .before in
-    let at-side = at-message .before in
-    let at-if4 = at-side .before .before in
-    let at-if3 = at-if4 .before in
-    let at-if2 = at-if3 .before in
-    let at-if1 = at-if2 .before in
+    let at-statics = at-message .before in
+    let at-match = at-statics .before .before .before .before in
+    let at-if1 = at-match .before .before in
     let at-done = at-if1 .before in
     let at-start = at-done .before .before in
-    one-sent _ _ _ (at-start .args .answer) _ (at-done .is-done .ensures) (at-if1 .if1 .left) _
-    (rw (at-if4 .if4 .taken, at-message .move-message .ensures, at-side .side-of .ensures)) (c .send4 .ensures)
+    one-sent (at-start .args .c) (at-start .args .answer) _ (at-done .is-done .ensures) (at-if1 .if1 .left) _
+    (rw (at-match .c .given .1, at-message .statics-message .ensures, at-statics .statics-of .ensures))
+    (c .send .ensures)
+
+returns-3 : tie.Need-returns-3
+unfolding callAsked messagesOf
+returns-3 c =
+    let at-bands = c .before in
+    let at-first = at-bands .before .before in
+    let at-rates = at-first .before in
+    let at-match = at-rates .before .before in
+    let at-if1 = at-match .before .before in
+    let at-done = at-if1 .before in
+    let at-start = at-done .before .before in
+    two-sent (at-start .args .c) (at-start .args .answer) _ (at-done .is-done .ensures) (at-if1 .if1 .left) _ _
+    (rw (at-match .enum-told .given .1, at-rates .rates-message .ensures, at-bands .bands-message .ensures))
+    (at-first .send2 .ensures) (c .send3 .ensures)
+
+returns-4 : tie.Need-returns-4
+unfolding callAsked messagesOf
+returns-4 c =
+    let at-if1 = c .before .before in
+    let at-done = at-if1 .before in
+    let at-start = at-done .before .before in
+    none-sent (at-start .args .c) (at-start .args .answer) _ (at-done .is-done .ensures) (at-if1 .if1 .left) _ _
+    (rw (c .enum-told2 .given .1))
 
 returns-5 : tie.Need-returns-5
-unfolding messagesOfKind
+unfolding callAsked messagesOf
 returns-5 c =
-    let at-if3 = c .before in
-    let at-if2 = at-if3 .before in
-    let at-if1 = at-if2 .before in
+    let at-message = c .before in
+    let at-side = at-message .before in
+    let at-match = at-side .before .before .before in
+    let at-if1 = at-match .before .before in
     let at-done = at-if1 .before in
     let at-start = at-done .before .before in
-    none-sent _ _ _ (at-start .args .answer) _ (at-done .is-done .ensures) (at-if1 .if1 .left) _ _
-    (rw (
-      ne-eqb _ admitKind (at-if2 .if2 .left),
-      ne-eqb _ evaluateKind (at-if3 .if3 .left),
-      ne-eqb _ moveKind (c .if4 .left),
-    ))
+    one-sent (at-start .args .c) (at-start .args .answer) _ (at-done .is-done .ensures) (at-if1 .if1 .left) _
+    (rw (at-match .c2 .given .1, at-message .move-message .ensures, at-side .side-of .ensures)) (c .send4 .ensures)
+
+returns-6 : tie.Need-returns-6
+unfolding callAsked messagesOf
+returns-6 c =
+    let at-if1 = c .before .before in
+    let at-done = at-if1 .before in
+    let at-start = at-done .before .before in
+    none-sent (at-start .args .c) (at-start .args .answer) _ (at-done .is-done .ensures) (at-if1 .if1 .left) _ _
+    (rw (c .enum-told3 .given .1))
+
+returns-7 : tie.Need-returns-7
+unfolding callAsked messagesOf
+returns-7 c =
+    let at-if1 = c .before .before in
+    let at-done = at-if1 .before in
+    let at-start = at-done .before .before in
+    none-sent (at-start .args .c) (at-start .args .answer) _ (at-done .is-done .ensures) (at-if1 .if1 .left) _ _
+    (rw (c .enum-told4 .given .1))
+
+returns-8 : tie.Need-returns-8
+unfolding callAsked messagesOf
+returns-8 c =
+    let at-if1 = c .before .before in
+    let at-done = at-if1 .before in
+    let at-start = at-done .before .before in
+    none-sent (at-start .args .c) (at-start .args .answer) _ (at-done .is-done .ensures) (at-if1 .if1 .left) _ _
+    (rw (c .enum-told5 .given .1))
+
+returns-9 : tie.Need-returns-9
+unfolding callAsked messagesOf
+returns-9 c =
+    let at-if1 = c .before .before in
+    let at-done = at-if1 .before in
+    let at-start = at-done .before .before in
+    none-sent (at-start .args .c) (at-start .args .answer) _ (at-done .is-done .ensures) (at-if1 .if1 .left) _ _
+    (rw (c .enum-told6 .given .1))
 
 pub say-messages-spec : {M : Type 1} → statement M
 say-messages-spec =
@@ -118,17 +169,29 @@ say-messages-spec =
     (tie.spec
     is-done-requires
     returns
+    enum-known-c
     statics-of-requires
     statics-message-requires
     send-requires
-    returns-2
+    enum-told
     rates-message-requires
     send-requires-2
     bands-message-requires
     send-requires-3
-    returns-3
+    enum-told-2
+    enum-known-c-2
     side-of-requires
     move-message-requires
     send-requires-4
+    enum-told-3
+    enum-told-4
+    enum-told-5
+    enum-told-6
+    returns-2
+    returns-3
     returns-4
-    returns-5)
+    returns-5
+    returns-6
+    returns-7
+    returns-8
+    returns-9)

@@ -1,4 +1,4 @@
--- `text_deed::asks_why` meets its contract: whether why is asked to a line of a kind, way by way. Assumes nothing.
+-- `text_deed::asks_why` meets its contract: whether why is asked, way by way.
 use borrow.Author.Needs.{needs}
 use Rattle.text_deed.specs.Deeds.{asksWhy}
 use Rattle.text_deed.proofs.asks_why.Statement.{statement}

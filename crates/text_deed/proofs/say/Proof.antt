@@ -1,69 +1,149 @@
--- `text_deed::say` meets its contract: appends what a line of a kind is told as, way by way. Assumes nothing.
+-- `text_deed::say` meets its contract: appends what a line is told as, by what it asks for.
+use mathlib.Core.Path.{sym, _∙_}
+use Rattle.text_protocol.specs.Answers.{badText, interestText, bondText}
+use Rattle.text_out.specs.Wrote.{nothing}
 use Rattle.text_deed.specs.Deeds.{lineText}
-use Rattle.text_protocol.specs.Names.{evaluateKind}
-use borrow.Author.Tests.{eq-eqb, ne-eqb}
+use Rattle.text_deed.proofs.Saying.{told-in-words, not-in-words}
 use borrow.Author.Needs.{needs}
 use Rattle.text_deed.proofs.say.Statement.{statement}
 use Rattle.text_deed.proofs.say.Tie as tie
 use Rattle.text_deed.proofs.say.Reads as reads
 use Rattle.text_deed.proofs.say.Lts as lts
-use Rattle.text_deed.proofs.say_plain.Reads as say-plain-reads
-use Rattle.text_broadcast.proofs.say_messages.Reads as say-messages-reads
-use Rattle.text_why.proofs.say_why.Reads as say-why-reads
+use Rattle.text_deed.proofs.in_words.Reads as in-words-reads
+use Rattle.text_deed.proofs.say_call.Reads as say-call-reads
+use Rattle.text_answer.proofs.say_bad.Reads as say-bad-reads
+use Rattle.text_answer.proofs.interest.say_interest.Reads as say-interest-reads
+use Rattle.text_bond.proofs.say_bond.Reads as say-bond-reads
+
+in-words-requires : tie.Need-in-words-requires
+in-words-requires c κs = search needs
 
 enum-told : tie.Need-enum-told
 enum-told c = search needs
 
-say-plain-requires : tie.Need-say-plain-requires
-say-plain-requires c κs = search needs
-
 enum-told-2 : tie.Need-enum-told-2
 enum-told-2 c = search needs
 
-say-why-requires : tie.Need-say-why-requires
-say-why-requires c κs = search needs
+say-bad-requires : tie.Need-say-bad-requires
+say-bad-requires c κs = search needs
 
+-- a line that is no call
 returns : tie.Need-returns
 unfolding lineText
 returns c =
-    let at-if1 = c .before .before .before in
-    rw (at-if1 .before .enum-told2 .given .1, eq-eqb _ evaluateKind (at-if1 .if1 .taken)) (c .say-why .ensures)
+    let at-if1 = c .before .before in
+    let at-match = at-if1 .before in
+    let at-words = at-match .before .before in
+    let start = at-words .before in
+    rw (at-match .enum-told2 .given .1)
+    (rw (told-in-words (start .args .telling) (badText (start .args .number))
+    (sym (at-words .in-words .ensures) ∙ at-if1 .if1 .taken)) at (c .say-bad .ensures))
 
-say-plain-requires-2 : tie.Need-say-plain-requires-2
-say-plain-requires-2 c κs = search needs
+enum-known-a : tie.Need-enum-known-a
+enum-known-a c = search needs
+
+say-call-requires : tie.Need-say-call-requires
+say-call-requires c κs = search needs
 
 enum-told-3 : tie.Need-enum-told-3
 enum-told-3 c = search needs
 
-say-messages-requires : tie.Need-say-messages-requires
-say-messages-requires c κs = search needs
+say-interest-requires : tie.Need-say-interest-requires
+say-interest-requires c κs = search needs
 
+-- an interest line
 returns-2 : tie.Need-returns-2
 unfolding lineText
-returns-2 c = rw (c .before .before .enum-told .given .1) (c .say-plain .ensures)
+returns-2 c =
+    let at-if2 = c .before .before .before in
+    let at-match = at-if2 .before in
+    let at-words = at-match .before .before in
+    let start = at-words .before in
+    rw (at-match .enum-told3 .given .1)
+    (rw (told-in-words (start .args .telling) (interestText (start .args .b .interest))
+    (sym (at-words .in-words .ensures) ∙ at-if2 .if2 .taken)) at (c .say-interest .ensures))
 
+enum-told-4 : tie.Need-enum-told-4
+enum-told-4 c = search needs
+
+say-bond-requires : tie.Need-say-bond-requires
+say-bond-requires c κs = search needs
+
+-- a bond's
 returns-3 : tie.Need-returns-3
 unfolding lineText
 returns-3 c =
-    let at-if1 = c .before .before in
-    rw (at-if1 .before .enum-told2 .given .1, ne-eqb _ evaluateKind (at-if1 .if1 .left)) (c .say-plain2 .ensures)
+    let at-if3 = c .before .before .before in
+    let at-match = at-if3 .before in
+    let at-words = at-match .before .before in
+    let start = at-words .before in
+    rw (at-match .enum-told4 .given .1)
+    (rw (told-in-words (start .args .telling) (bondText (start .args .b .bond))
+    (sym (at-words .in-words .ensures) ∙ at-if3 .if3 .taken)) at (c .say-bond .ensures))
 
 returns-4 : tie.Need-returns-4
 unfolding lineText
-returns-4 c = rw (c .before .before .before .before .enum-told3 .given .1) (c .say-messages .ensures)
+returns-4 c = rw (c .enum-told .given .1) (nothing _ _ _)
+
+returns-5 : tie.Need-returns-5
+unfolding lineText
+returns-5 c =
+    let at-match = c .before in
+    let at-words = at-match .before .before in
+    let start = at-words .before in
+    rw (
+      at-match .enum-told2 .given .1,
+      ← not-in-words (start .args .telling) (badText (start .args .number))
+          (sym (at-words .in-words .ensures) ∙ c .if1 .left),
+    ) (nothing _ _ _)
+
+returns-6 : tie.Need-returns-6
+unfolding lineText
+returns-6 c = rw (c .before .before .before .a .given .1) (c .say-call .ensures)
+
+returns-7 : tie.Need-returns-7
+unfolding lineText
+returns-7 c =
+    let at-match = c .before in
+    let at-words = at-match .before .before in
+    let start = at-words .before in
+    rw (
+      at-match .enum-told3 .given .1,
+      ← not-in-words (start .args .telling) (interestText (start .args .b .interest))
+          (sym (at-words .in-words .ensures) ∙ c .if2 .left),
+    ) (nothing _ _ _)
+
+returns-8 : tie.Need-returns-8
+unfolding lineText
+returns-8 c =
+    let at-match = c .before in
+    let at-words = at-match .before .before in
+    let start = at-words .before in
+    rw (
+      at-match .enum-told4 .given .1,
+      ← not-in-words (start .args .telling) (bondText (start .args .b .bond))
+          (sym (at-words .in-words .ensures) ∙ c .if3 .left),
+    ) (nothing _ _ _)
 
 pub say-spec : {M : Type 1} → statement M
 say-spec =
     tie.close
     (tie.spec
+    in-words-requires
     enum-told
-    say-plain-requires
     enum-told-2
-    say-why-requires
+    say-bad-requires
     returns
-    say-plain-requires-2
+    enum-known-a
+    say-call-requires
     enum-told-3
-    say-messages-requires
+    say-interest-requires
     returns-2
+    enum-told-4
+    say-bond-requires
     returns-3
-    returns-4)
+    returns-4
+    returns-5
+    returns-6
+    returns-7
+    returns-8)

@@ -36,6 +36,7 @@ use denote.Lend.{lends-shr}
 use denote.Signature.{plain}
 use denote.Steps.{owned, nothing}
 use denote.Struct.Laws as LL
+use denote.Enum.Laws as EL
 use denote.Triple.Statement.{Triple}
 use denote.Triple.Entry.{Vals, onEntry}
 use denote.Triple.Spec.{Meets, tripleOf}
@@ -54,8 +55,8 @@ use Rattle.desk.proofs.Calls.{Owned}
 use Rattle.text_protocol.specs.declared.Performed.{Performed}
 use Rattle.text_protocol.proofs.Performed as F
 use Rattle.text_protocol.proofs.Performed.Laws as F′
-use Rattle.text_call.proofs.Request as B
-use Rattle.text_call.proofs.Request.Laws as B′
+use Rattle.text_protocol.proofs.Ask as B
+use Rattle.text_protocol.proofs.Ask.Laws as B′
 use Rattle.text_input.specs.Input.{Stands}
 use Rattle.text_turn.specs.declared.State.{State}
 use Rattle.text_turn.specs.declared.Prepared.{Prepared}
@@ -185,20 +186,20 @@ code-tell = after (after (after (after (after code-a))))
 
 -- what is known of the fields of a line that was heard
 fields-are : (p : Prepared) → IsHeard p
-    → (p .count < 2 ^ 64) × Is B.the-row (p .request) (LL.val B.the-type B′.the-laws (p .request) ∷ [])
+    → (p .count < 2 ^ 64) × Is B.the-row (p .ask) (EL.val B.the-type B′.the-laws (p .ask) ∷ [])
 fields-are p is =
-    let from-count = LL.owed P.the-type P′.the-laws p (heard-val p ∷ []) is .1 .1 .1 .1 .1 .1 in
+    let from-count = LL.owed P.the-type P′.the-laws p (heard-val p ∷ []) is .1 .1 .1 .1 .1 in
     (from-count .0 .1, from-count .1 .0)
 
 -- the places of these fields in the line
 abbrev at-count : ℕ
-at-count = 6
+at-count = 5
 
-abbrev at-request : ℕ
-at-request = 7
+abbrev at-ask : ℕ
+at-ask = 6
 
 abbrev at-asked : ℕ
-at-asked = 10
+at-asked = 9
 
 module _ {M : Type 1} (𝓤 : URA M) (H : Heap 𝓤) (A : Atoms 𝓤) (W : Given 𝓤 H A) (mem′ : Memory → SProp 𝓤) (run : Routine
     → Fun 𝓤) (κ κ₂ : Lft)
@@ -317,10 +318,10 @@ module _ {M : Type 1} (𝓤 : URA M) (H : Heap 𝓤) (A : Atoms 𝓤) (W : Given
     abbrev Reading : Lft → List ℤ → Item 𝓤
     Reading β xs′ = ‵ (flent β (partAt Numbers fullShare xs′ bx ox))
 
-    -- let a = ask(t, p.request, rows_in(xs, p.count), p.asked);
+    -- let a = ask(t, p.ask, rows_in(xs, p.count), p.asked);
     let-a : (bs′ : List ℕ) (xs′ : List ℤ) (p : Prepared) → IsHeard p
         → ((fs : RefT (List ℤ)) (zs : List Record) (a : Performed) (v : Val)
-        → fs .now ≡ from-at evaluateCount (take (p .count) xs′) → Asks (p .asked) (p .request) (fs .now) ys a zs
+        → fs .now ≡ from-at evaluateCount (take (p .count) xs′) → Asks (p .asked) (p .ask) (fs .now) ys a zs
         → length zs ≡ length ys → Is F.the-row a (v ∷ [])
         → Sq W (frame H En (with-a p (figures-val fs) v) ∷ Token ∷ Heard bs′ ∷ ‵ (finally R γ zs)
         ∷ Opened xs′ (Answers ∷ [])) (Runs code-tell))
@@ -342,8 +343,8 @@ module _ {M : Type 1} (𝓤 : URA M) (H : Heap 𝓤) (A : Atoms 𝓤) (W : Given
         -- [the frame; the figures; their token; what is lent; the token; the buffer's last; the open borrow; obs;
         -- auth; the answers; the table]
         move ! (0 ∷ 10 ∷ 4 ∷ []) $
-        asks 𝓤 H A mem′ run W κ (β ∷ []) q b o γ ys fs (p .request) (p .asked) (fields-are p ip .1) fm known-ask tt refl
-        (λ Δ. and-then ! (value ! (for-t .1) refl) (and-then ! (field ! ℓp at-request refl refl refl)
+        asks 𝓤 H A mem′ run W κ (β ∷ []) q b o γ ys fs (p .ask) (p .asked) (fields-are p ip .1) fm known-ask tt refl
+        (λ Δ. and-then ! (value ! (for-t .1) refl) (and-then ! (field ! ℓp at-ask refl refl refl)
         (and-then ! (value ! ℓrows refl) (and-then ! (field ! ℓp at-asked refl refl refl) (no-more !)))))
         (λ zs a v l done′ ia.
         -- [the frame; the table's last list; the token; the figures' token; what is lent; …]
@@ -354,7 +355,7 @@ module _ {M : Type 1} (𝓤 : URA M) (H : Heap 𝓤) (A : Atoms 𝓤) (W : Given
     -- tell(out, p, a)
     tell : {bs′ : List ℕ} {xs′ : List ℤ} {zs : List Record} (fs : RefT (List ℤ)) (p : Prepared) (a : Performed)
         (v : Val) → Prepares bs s bs′ p xs′ → IsHeard p → fs .now ≡ from-at evaluateCount (take (p .count) xs′)
-        → Asks (p .asked) (p .request) (fs .now) ys a zs → length zs ≡ length ys → Is F.the-row a (v ∷ [])
+        → Asks (p .asked) (p .ask) (fs .now) ys a zs → length zs ≡ length ys → Is F.the-row a (v ∷ [])
         → Sq W (frame H En (with-a p (figures-val fs) v) ∷ Token ∷ Heard bs′ ∷ ‵ (finally R γ zs)
         ∷ Opened xs′ (Answers ∷ [])) (Runs code-tell)
     tell {bs′} {xs′} {zs} fs p a v heard ip are done′ l ia =
@@ -370,7 +371,7 @@ module _ {M : Type 1} (𝓤 : URA M) (H : Heap 𝓤) (A : Atoms 𝓤) (W : Given
         (no-more !)))) (λ os′ r u told ir. leaves ! refl $
         -- [the token; the answers' last; the numbers' last; their token; the buffer's last; the table's last list]
         move ! (0 ∷ 3 ∷ 5 ∷ 4 ∷ 2 ∷ []) $
-        by ! (exits zs bs′ xs′ os′ r u l (turned heard are done′ told) ir))
+        by ! (exits zs bs′ xs′ os′ r u l (turned ys zs heard are done′ told) ir))
       where
         space : p .waiting + answerMost ≤ bufferRoom
         space = omega (arith, heard .waiting, asked .1)

@@ -38,7 +38,7 @@ same-length-2 c = search needs
 
 returns : tie.Need-returns
 returns c =
-    let at-deed = c .before .before .before .before .before in
+    let at-deed = c .before .before .before .before in
     let heard = at-deed .before .before .before .before .before .before in
     let entered = heard .before .before .before .before .before .before .before in (
       prepared _ (entered .args .s) _ _ _ _ _ (heard .hear .ensures) (at-deed .deed-of .ensures)

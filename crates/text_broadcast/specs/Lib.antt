@@ -1,2 +1,0 @@
--- The definitions of text_broadcast, a file each.
-pub mod Kinds
