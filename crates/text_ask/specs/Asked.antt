@@ -12,7 +12,8 @@ use Rattle.paper_reasons.specs.declared.Why.{Why}
 use Rattle.paper_reasons.specs.Why.{whyOn}
 use Rattle.desk.specs.Promises.{Promised}
 use Rattle.text_protocol.specs.declared.AskedCall.{AskedCall}
-use Rattle.text_protocol.specs.declared.AskedCall.the-variants.{Admit, Evaluate, Quote, Move, Read, Open, Receive, Notify}
+use Rattle.text_protocol.specs.declared.AskedCall.the-variants.{Admit, Evaluate, Quote, Move, Read, Open, Receive}
+use Rattle.text_protocol.specs.declared.AskedCall.the-variants.{Notify}
 use Rattle.text_protocol.specs.declared.Ask.{Ask}
 use Rattle.text_protocol.specs.declared.Ask.the-variants as ask
 use Rattle.text_protocol.specs.declared.Explained.{Explained}

@@ -24,7 +24,7 @@ use Rattle.text_protocol.specs.Names.{the, placeOf, code, evaluateNames, quoteN
 use Rattle.text_protocol.specs.Names.{outsideNames, noticeNames, withdrawNames, admitKind, evaluateKind, quoteKind}
 use Rattle.text_protocol.specs.Names.{moveKind, readKind, openKind, outsideKind, noticeKind, withdrawKind}
 use Rattle.text_protocol.specs.Names.{evaluateCount}
-use Rattle.text_protocol.specs.Calls.{Deed, call, admissionOf, quoteOf, floatOf, outsideOf, noticeCall, askedOf, callOf}
+use Rattle.text_protocol.specs.Calls.{call, admissionOf, quoteOf, floatOf, outsideOf, noticeCall, askedOf, callOf}
 use Rattle.text_protocol.specs.Calls.{figuresBehind, callAsked}
 
 module _ (k : Kept) (kind : ℕ) (zs : List ℤ) (p : Pairs) where

@@ -23,7 +23,8 @@ use Rattle.text_protocol.specs.Kept.{keptAfter}
 use Rattle.text_protocol.specs.Names.{admitKind, evaluateKind, quoteKind, moveKind, readKind, openKind, outsideKind}
 use Rattle.text_protocol.specs.Names.{noticeKind, withdrawKind, interestKind, evaluateNames, interestNames, bondNames}
 use Rattle.text_protocol.specs.Names.{evaluateCount, interestCount, bondCount}
-use Rattle.text_protocol.specs.Calls.{Deed, call, interestOf, bondOf, figuresBehind, callOf, deedOf, callAsked, deedAsked}
+use Rattle.text_protocol.specs.Calls.{Deed, call, interestOf, bondOf, figuresBehind, callOf, deedOf, callAsked}
+use Rattle.text_protocol.specs.Calls.{deedAsked}
 use Rattle.text_evening.specs.Evening.{keptBy}
 use Rattle.text_line.specs.Heard.{blankKind, badKind, saidAs}
 use Rattle.text_deed.specs.declared.Beside.{Beside}

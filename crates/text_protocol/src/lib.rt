@@ -47,8 +47,8 @@ pub const BOND_COUNT: usize = 33;
 // The numbers that a line keeps: those of an evaluation and its row figures, with one figure more than a day may have.
 pub const KEPT: usize = EVALUATE_COUNT + Row::ALL_NUMBERS_MOST + 1;
 
-// The place of a call in the table of the calls' forms (specs/Names.antt), counted from 1. A line's word is looked up by
-// it; once a line is read, `Ask` says what it asks for.
+// The place of a call in the table of the calls' forms (specs/Names.antt), counted from 1. A line's word is looked up
+// by it; once a line is read, `Ask` says what it asks for.
 pub struct Kind {
     pub number: u64,
 }

@@ -7,7 +7,8 @@ use Rattle.paper.specs.declared.Answer.{Answer}
 use Rattle.paper.specs.declared.Record.{Record}
 use Rattle.paper_desk.specs.Desk.{step}
 use Rattle.text_protocol.specs.declared.AskedCall.{AskedCall}
-use Rattle.text_protocol.specs.declared.AskedCall.the-variants.{Admit, Evaluate, Quote, Move, Read, Open, Receive, Notify}
+use Rattle.text_protocol.specs.declared.AskedCall.the-variants.{Admit, Evaluate, Quote, Move, Read, Open, Receive}
+use Rattle.text_protocol.specs.declared.AskedCall.the-variants.{Notify}
 use Rattle.text_protocol.specs.declared.Ask.{Ask}
 use Rattle.text_protocol.specs.declared.Ask.the-variants as ask
 use Rattle.text_protocol.specs.declared.Performed.{Performed}

@@ -23,8 +23,8 @@ returns : tie.Need-returns
 returns c =
     let at-number = c .before .before .before in
     let start = at-number .before in
-    rw (refused-call (start .args .c) (start .args .a) _ (at-number .number .ensures) (c .before .before .if1 .taken)) at
-    (c .say-number .ensures)
+    rw (refused-call (start .args .c) (start .args .a) _ (at-number .number .ensures)
+    (c .before .before .if1 .taken)) at (c .say-number .ensures)
 
 enum-told : tie.Need-enum-told
 enum-told c = search needs

@@ -65,17 +65,20 @@ of-bond-requires c κs = search needs
 returns : tie.Need-returns
 returns c =
     let at-match = c .before in
-    nothing-asked _ _ _ (at-match .before .before .ask-of .ensures) (at-match .enum-told .given .1) _ (c .of-desk .ensures)
+    nothing-asked _ _ _ (at-match .before .before .ask-of .ensures) (at-match .enum-told .given .1) _
+    (c .of-desk .ensures)
 
 returns-2 : tie.Need-returns-2
 returns-2 c =
     let at-match = c .before in
-    no-call-asked _ _ _ (at-match .before .before .ask-of .ensures) (at-match .enum-told2 .given .1) _ (c .of-desk2 .ensures)
+    no-call-asked _ _ _ (at-match .before .before .ask-of .ensures) (at-match .enum-told2 .given .1) _
+    (c .of-desk2 .ensures)
 
 returns-3 : tie.Need-returns-3
 returns-3 c =
     let at-match = c .before in
-    call-asked _ _ _ (at-match .before .before .ask-of .ensures) _ (at-match .enum-told3 .given .1) _ (c .of-desk3 .ensures)
+    call-asked _ _ _ (at-match .before .before .ask-of .ensures) _ (at-match .enum-told3 .given .1) _
+    (c .of-desk3 .ensures)
 
 returns-4 : tie.Need-returns-4
 returns-4 c =

@@ -1,7 +1,7 @@
 -- `text_perform::perform` meets its contract. Each arm of the `match` gives the row up to one public call and returns
 -- what that promises. The rows go to the evaluation as the `&` that they are.
--- The walk goes by cases on the call that is asked for, with a step for each arm: `admit-it`, `evaluate-it`, `quote-it`,
--- `move-it`, `read-it`, `open-it`, `receive-it` and `notify-it`.
+-- The walk goes by cases on the call that is asked for, with a step for each arm: `admit-it`, `evaluate-it`,
+-- `quote-it`, `move-it`, `read-it`, `open-it`, `receive-it` and `notify-it`.
 use mathlib.Core.Path.{_≡_, refl}
 use mathlib.Core.Option.{none, some}
 use Prim.Native.Nat.{ℕ, suc}
@@ -58,8 +58,8 @@ use Rattle.paper.proofs.Quote.Laws as Q′
 use Rattle.paper.proofs.Outside.Laws as O′
 use Rattle.paper.proofs.Notice.Laws as E′
 use Rattle.text_protocol.specs.declared.AskedCall.{AskedCall}
-use Rattle.text_protocol.specs.declared.AskedCall.the-variants.{Admit, Evaluate, Quote as Quoting, Move, Read as Reading}
-use Rattle.text_protocol.specs.declared.AskedCall.the-variants.{Open, Receive, Notify}
+use Rattle.text_protocol.specs.declared.AskedCall.the-variants.{Admit, Evaluate, Quote as Quoting, Move}
+use Rattle.text_protocol.specs.declared.AskedCall.the-variants.{Read as Reading, Open, Receive, Notify}
 use Rattle.text_protocol.specs.Calls.{callAsked}
 use Rattle.text_protocol.proofs.AskedCall as B
 use Rattle.text_protocol.proofs.AskedCall.Laws as B′
