@@ -139,14 +139,28 @@ x86_64)
     ;;
 esac
 
+# Asks Debian once which packages there are.
+refresh_packages() {
+    [ -n "${refreshed-}" ] || apt-get update -qq || return
+    refreshed=yes
+}
+
 # Installs Debian's packages, and says so before.
 install_packages() { # WHY PACKAGE...
     why=$1
     shift
     has apt-get || cannot "$why, and there is no apt-get to install it by; Debian has it in: $*"
     echo "${0##*/}: $why; installing $* with apt-get" >&2
-    { apt-get update -qq && DEBIAN_FRONTEND=noninteractive apt-get install -y -qq "$@"; } >&2 </dev/null ||
+    # shellcheck disable=SC2086
+    { refresh_packages && DEBIAN_FRONTEND=noninteractive apt-get install -y -qq ${alone-} "$@"; } >&2 </dev/null ||
         cannot "apt-get could not install $*"
+}
+
+# The same without what Debian recommends beside them, which for a browser is a desktop.
+install_alone() { # WHY PACKAGE...
+    alone=--no-install-recommends
+    install_packages "$@"
+    alone=''
 }
 
 # A compiler without the static C library is none for us.
@@ -197,32 +211,25 @@ need_binaryen() {
     has wasm-opt || cannot "there is still no wasm-opt"
 }
 
-# The types that the comments of page/ give are checked by it. Debian's is pinned by its release, as node is.
-need_typescript() {
-    has tsc && return
-    install_packages "tsc is missing" --no-install-recommends node-typescript
-    has tsc || cannot "there is still no tsc"
-}
-
-# What a browser prints is read by its pdftotext.
-need_poppler() {
-    has pdftotext && return
-    install_packages "pdftotext is missing" --no-install-recommends poppler-utils
-    has pdftotext || cannot "there is still no pdftotext"
-}
-
-# The page is tried in both, headless. It has to be in the first; Debian has the second not for every machine, and where
-# it is not to be had the page is tried without it.
-need_chromium() {
-    has chromium && return
-    install_packages "chromium is missing" --no-install-recommends chromium
-    has chromium || cannot "there is still no chromium, and the page has to be tried in a browser"
-}
-
-need_firefox() {
-    has firefox-esr && return
-    (install_packages "firefox-esr is missing" --no-install-recommends firefox-esr) ||
+# What the page is tried with: a checker of the types that its comments give, a reader of what a browser prints, and the
+# browsers, headless. It has to be tried in Chromium. Firefox Debian has not for every machine; where it is not to be had,
+# that is said.
+need_browsers() {
+    missing=''
+    has tsc || missing="$missing node-typescript"
+    has pdftotext || missing="$missing poppler-utils"
+    has chromium || missing="$missing chromium"
+    # shellcheck disable=SC2086
+    [ -z "$missing" ] || install_alone "what the page is tried with is missing" $missing
+    for tool in tsc pdftotext chromium; do has "$tool" || cannot "there is still no $tool"; done
+    has firefox-esr || (install_alone "firefox-esr is missing" firefox-esr) ||
         echo "${0##*/}: without firefox-esr the page is tried in chromium alone" >&2
+}
+
+# The browsers that are there, by the names that page/trial/ gives them.
+browsers() {
+    echo chromium
+    ! has firefox-esr || echo firefox
 }
 
 # objdump knows the processors that it was built for, and every C compiler brings the one for its own.
