@@ -1,4 +1,4 @@
--- A signed number that is handed on is what the machine reads back from its bits. Assumes nothing.
+-- A signed number that is handed on is what the machine reads back from its bits.
 use mathlib.Core.Path.{_≡_, ap, _∙_}
 use Prim.Native.Nat.{ℕ}
 use lib.IntN.{ℤ}

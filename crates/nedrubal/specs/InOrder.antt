@@ -1,5 +1,5 @@
 -- Document 01: "all statics with each". C passes a number by its place, so the order in which a call takes its numbers
--- is part of its promise. Here is the order of the statics, which come behind a call's own numbers. Assumes nothing.
+-- is part of its promise. Here is the order of the statics, which come behind a call's own numbers.
 use mathlib.Core.List.{List, [], _∷_}
 use lib.IntN.{ℤ}
 use Rattle.paper_desk.specs.Gateway.{GatewayStatics}

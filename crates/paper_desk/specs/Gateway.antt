@@ -1,5 +1,5 @@
 -- Document 01, "What the desk covers": "The C gateway reaches the rate rules and the limit rules with plain numbers ..
--- Each such call gives one figure, or minus the refusal number." Assumes nothing.
+-- Each such call gives one figure, or minus the refusal number."
 use mathlib.Core.Bool.{Bool, true, false, not, _&&_}
 use mathlib.Core.List.{List, [], _∷_}
 use Prim.Native.Nat.{ℕ}

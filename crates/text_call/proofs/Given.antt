@@ -1,4 +1,4 @@
--- The statics that an admission gives, number by number. Assumes nothing.
+-- The statics that an admission gives, number by number.
 use mathlib.Core.Path.{_≡_}
 use mathlib.Core.List.{List}
 use Prim.Native.Nat.{ℕ}

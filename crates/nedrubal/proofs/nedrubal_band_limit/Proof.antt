@@ -1,5 +1,5 @@
 -- `nedrubal::nedrubal_band_limit` meets its contract: every number is handed on by its bits, read back, and made
--- unsigned once but for the repo rate. Assumes nothing.
+-- unsigned once but for the repo rate.
 use mir.Syntax.{w64}
 use mir.Val.{SFits}
 use mir.Facts.{toZ-ofZ}

@@ -1,5 +1,5 @@
 -- `nedrubal::nedrubal_range_limit` meets its contract: every number is handed on by its bits, read back, and made
--- unsigned once. Assumes nothing.
+-- unsigned once.
 use mir.Syntax.{w64}
 use mir.Val.{SFits}
 use mir.Facts.{toZ-ofZ}

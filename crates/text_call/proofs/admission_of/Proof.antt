@@ -1,5 +1,5 @@
 -- `text_call::admission_of` meets its contract: each number is read at the place that its name has among
--- `admitNames`, and the statics are those of `given_of`. Assumes nothing.
+-- `admitNames`, and the statics are those of `given_of`.
 use Rattle.text_protocol.specs.Names.{the, placeOf, admitNames, code}
 use Rattle.text_protocol.specs.Calls.{admissionOf}
 use mathlib.Core.Path.{_≡_}

@@ -1,5 +1,5 @@
 -- `text_call::given_of` meets its contract: each number is read at the place that its name has among `admitNames`;
--- one law compares all twenty-six (`given-is`). Assumes nothing.
+-- one law compares all twenty-six (`given-is`).
 use Rattle.text_call.proofs.Given.{given-is}
 use mathlib.Core.Path.{_≡_}
 use Rattle.text_call.proofs.given_of.Statement.{statement}

@@ -1,5 +1,4 @@
 -- `given::given_of` meets its contract: each number is read back from its bits and made unsigned, field by field.
--- Assumes nothing.
 use Rattle.paper_desk.specs.Gateway.{givenOf}
 use Rattle.gateway.proofs.GatewayStatics.{read-is-unsigned}
 use Rattle.gateway.proofs.given.given_of.Statement.{statement}

@@ -1,4 +1,4 @@
--- `inputs::ordered_statics` meets its contract: the code's tests are the definition's, in its order. Assumes nothing.
+-- `inputs::ordered_statics` meets its contract: the code's tests are the definition's, in its order.
 use mathlib.Core.Path.{refl}
 use Rattle.paper.specs.Ranges.{orderedStatics}
 use Rattle.inputs.proofs.statics.ordered_statics.Statement.{statement}

@@ -1,6 +1,5 @@
 -- `inputs::valid_statics` meets its contract: the definition is the ranges and orders down to S_max, then the
 -- multiples, then the rest. Where the first fail the whole is no; where they pass the step is not 0 and they drop out.
--- Assumes nothing.
 use mathlib.Core.Path.{_≡_, sym, _∙_}
 use mathlib.Core.Bool.{true}
 use borrow.Author.Needs.{needs}

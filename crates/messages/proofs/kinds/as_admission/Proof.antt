@@ -1,5 +1,5 @@
 -- `as_admission` meets its contract: the id and the statics are judged by the two tests by which an admission judges
--- them. Assumes nothing.
+-- them.
 use Rattle.paper_messages.specs.Messages.{asAdmission}
 use borrow.Author.Needs.{needs}
 use Rattle.messages.proofs.kinds.as_admission.Statement.{statement}

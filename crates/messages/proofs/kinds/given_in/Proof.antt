@@ -1,4 +1,4 @@
--- `given_in` meets its contract, number by number. Assumes nothing.
+-- `given_in` meets its contract, number by number.
 use Rattle.paper_messages.specs.Messages.{givenIn}
 use Rattle.messages.proofs.kinds.given_in.Statement.{statement}
 use Rattle.messages.proofs.kinds.given_in.Tie as tie
