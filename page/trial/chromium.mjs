@@ -64,7 +64,7 @@ export async function startChromium() {
     const call = (/** @type {string} */ method, params = {}) => send(method, params, sessionId);
     for (const domain of ['Page', 'Runtime', 'Network', 'DOM', 'Log']) await call(`${domain}.enable`);
     await send('Browser.setDownloadBehavior', { behavior: 'allow', downloadPath: downloads, eventsEnabled: true });
-    const { product } = await send('Browser.getVersion');
+    const { product, userAgent } = await send('Browser.getVersion');
 
     async function value(/** @type {string} */ expression) {
         const { result, exceptionDetails } = await call('Runtime.evaluate',
@@ -122,6 +122,9 @@ export async function startChromium() {
             await call('Emulation.setDeviceMetricsOverride', { width, height, deviceScaleFactor: 1, mobile });
             const scheme = isDark ? 'dark' : 'light';
             await call('Emulation.setEmulatedMedia', { features: [{ name: 'prefers-color-scheme', value: scheme }] });
+        },
+        async speak(language) {
+            await call('Emulation.setUserAgentOverride', { userAgent, acceptLanguage: language });
         },
         async photograph() {
             const { data } = await call('Page.captureScreenshot', { format: 'png' });
