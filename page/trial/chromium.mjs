@@ -5,7 +5,8 @@ import path from 'node:path';
 import { later, makeBrowser, makeFolder, pressOf, until } from './browser.mjs';
 
 const WORDS = ['--headless=new', '--no-sandbox', '--disable-gpu', '--hide-scrollbars', '--lang=en-US', '--no-first-run',
-    '--disable-background-networking', '--disable-component-update', '--remote-debugging-pipe'];
+    '--disable-dev-shm-usage', '--disable-background-networking', '--disable-component-update',
+    '--remote-debugging-pipe'];
 const SHIFT = 8;
 const CONTROL = 2;
 const A4 = { paperWidth: 8.27, paperHeight: 11.69, preferCSSPageSize: true, printBackground: false };

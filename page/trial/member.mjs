@@ -223,7 +223,7 @@ export const PHONE = /** @type {const} */ ([390, 844]);
 /** Nothing makes the page wider than a phone. A browser may also shrink a page that is too wide: the window then is. */
 export async function fits(/** @type {Browser} */ browser, /** @type {string} */ what) {
     const widths = await browser.value('[document.documentElement.scrollWidth, innerWidth]');
-    for (const width of widths) assert.ok(width <= PHONE[0], `${what} has a width of ${width}, and a phone ${PHONE[0]}`);
+    for (const width of widths) assert.ok(width <= PHONE[0], `${what} is ${width} wide, and a phone ${PHONE[0]}`);
 }
 
 /** A phone's width: nothing runs over. */
