@@ -25,6 +25,11 @@ export async function openFile(/** @type {Browser} */ browser, /** @type {string
     await browser.give('#file', file);
     const read = JSON.stringify(`${path.basename(file)}: `);
     await browser.until(`${at('#summary')}.textContent.startsWith(${read})`);
+    // A random evening may have a byte 0 at its beginning, and is then taken for a broadcast: she has it read again.
+    if (await browser.value(`!${at('#other-way')}.hidden`)) {
+        await browser.click('#other-way');
+        await browser.until(`!${at('#columns')}.hidden`);
+    }
 }
 
 /** The answers to a file, security by security. */
