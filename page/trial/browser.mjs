@@ -14,6 +14,7 @@ import path from 'node:path';
  * @property {(text: string) => Promise<void>} type  Types a text where the keyboard is.
  * @property {(selector: string) => Promise<void>} click  Clicks an element that can be seen.
  * @property {(width: number, height: number, isDark: boolean) => Promise<void>} resize
+ * @property {(language: string) => Promise<void>} speak  Says which language the reader has; the next page knows it.
  * @property {() => Promise<Buffer>} photograph  What is seen, as PNG.
  * @property {() => Promise<Buffer>} print  The page on A4, as PDF.
  * @property {() => Promise<string[]>} arrived  The files that are downloaded, each whole.

@@ -98,12 +98,28 @@ export async function forms(/** @type {Browser} */ browser, /** @type {House} */
         looked += await lookAtAnswer(browser, ANSWER, said.line, answer);
         kept.push(said.line);
     }
-    await browser.click('label:has(#say-call-evaluate)');
+    await copies(browser, kept);
     await browser.picture(house.pictureOf(browser.name, 'form'));
     const text = await saved(browser);
     assert.deepEqual(linesOf(text), kept);
     const fields = FORMS.reduce((sum, { values }) => sum + Object.keys(values).length, 0);
     return `${FORMS.length} calls, ${fields} fields and their rows, ${looked} figures of the answers`;
+}
+
+/** The statics of another security in an admission, and the last evaluation in the next. */
+async function copies(/** @type {Browser} */ browser, /** @type {string[]} */ kept) {
+    const wordsOf = (/** @type {string} */ call) => String(kept.find((line) => line.startsWith(call))).split(' ');
+    await browser.click('label:has(#say-call-admit)');
+    await browser.click('#clear');
+    await browser.tabTo('#copy-statics', 'Shift+Tab');
+    await browser.type('security 21');
+    const admission = (await browser.text('#panel-say [data-line]')).split(' ');
+    assert.deepEqual(admission.slice(7), wordsOf('admit').slice(7));
+    assert.deepEqual(admission.slice(1, 7), ['ID', 'DAY', 'P1', 'P2', 'S', 'TENTATIVE']);
+    await browser.click('label:has(#say-call-evaluate)');
+    await browser.click('#start-from-last');
+    const [call, id, day, ...rest] = wordsOf('evaluate');
+    assert.equal(await browser.text('#panel-say [data-line]'), [call, id, Number(day) + 1, ...rest].join(' '));
 }
 
 /** The evening's text as it is saved. */

@@ -5,7 +5,8 @@ import path from 'node:path';
 import { later, makeBrowser, makeFolder, pressOf, until } from './browser.mjs';
 
 const WORDS = ['--headless=new', '--no-sandbox', '--disable-gpu', '--hide-scrollbars', '--lang=en-US', '--no-first-run',
-    '--disable-background-networking', '--disable-component-update', '--remote-debugging-pipe'];
+    '--disable-dev-shm-usage', '--disable-background-networking', '--disable-component-update',
+    '--remote-debugging-pipe'];
 const SHIFT = 8;
 const CONTROL = 2;
 const A4 = { paperWidth: 8.27, paperHeight: 11.69, preferCSSPageSize: true, printBackground: false };
@@ -64,7 +65,7 @@ export async function startChromium() {
     const call = (/** @type {string} */ method, params = {}) => send(method, params, sessionId);
     for (const domain of ['Page', 'Runtime', 'Network', 'DOM', 'Log']) await call(`${domain}.enable`);
     await send('Browser.setDownloadBehavior', { behavior: 'allow', downloadPath: downloads, eventsEnabled: true });
-    const { product } = await send('Browser.getVersion');
+    const { product, userAgent } = await send('Browser.getVersion');
 
     async function value(/** @type {string} */ expression) {
         const { result, exceptionDetails } = await call('Runtime.evaluate',
@@ -122,6 +123,9 @@ export async function startChromium() {
             await call('Emulation.setDeviceMetricsOverride', { width, height, deviceScaleFactor: 1, mobile });
             const scheme = isDark ? 'dark' : 'light';
             await call('Emulation.setEmulatedMedia', { features: [{ name: 'prefers-color-scheme', value: scheme }] });
+        },
+        async speak(language) {
+            await call('Emulation.setUserAgentOverride', { userAgent, acceptLanguage: language });
         },
         async photograph() {
             const { data } = await call('Page.captureScreenshot', { format: 'png' });

@@ -159,6 +159,9 @@ export async function startFirefox() {
             await inside(RESIZE, width, height, isDark ? 'dark' : 'light');
             await until(() => value(`innerWidth === ${width} && innerHeight === ${height}`), `${width} by ${height}`);
         },
+        async speak(language) {
+            await inside("Services.prefs.setStringPref('intl.accept_languages', arguments[0])", language);
+        },
         async photograph() {
             return Buffer.from((await send('WebDriver:TakeScreenshot', { full: false, hash: false })).value, 'base64');
         },

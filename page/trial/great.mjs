@@ -52,7 +52,8 @@ function linesBehind(/** @type {string[]} */ lines) {
     };
 }
 
-const middleOf = (/** @type {number[]} */ numbers) => [...numbers].sort((one, other) => one - other)[numbers.length >> 1];
+const middleOf = (/** @type {number[]} */ numbers) => (
+    [...numbers].sort((one, other) => one - other)[Math.floor(numbers.length / 2)]);
 
 export async function greatEvening(/** @type {import('./browser.mjs').Browser} */ browser,
     /** @type {import('./house.mjs').House} */ house) {

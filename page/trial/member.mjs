@@ -25,6 +25,11 @@ export async function openFile(/** @type {Browser} */ browser, /** @type {string
     await browser.give('#file', file);
     const read = JSON.stringify(`${path.basename(file)}: `);
     await browser.until(`${at('#summary')}.textContent.startsWith(${read})`);
+    // A random evening may have a byte 0 at its beginning, and is then taken for a broadcast: she has it read again.
+    if (await browser.value(`!${at('#other-way')}.hidden`)) {
+        await browser.click('#other-way');
+        await browser.until(`!${at('#columns')}.hidden`);
+    }
 }
 
 /** The answers to a file, security by security. */
@@ -60,6 +65,45 @@ export async function exampleEvening(/** @type {Browser} */ browser, /** @type {
     await browser.click('#table tbody button[data-id="7"]');
     await browser.picture(house.pictureOf(browser.name, 'evening'));
     return said;
+}
+
+/** Another day of a security than its last one, chosen by keys. */
+export async function earlierDay(/** @type {Browser} */ browser, /** @type {House} */ house) {
+    const file = house.example('evening.txt');
+    const days = toldIn(house, file).get('7').filter(({ call }) => call === 'evaluate');
+    await openPage(browser, house);
+    await openFile(browser, file);
+    await browser.tabTo('#one select[aria-label="Day"]');
+    for (let day = days.length - 1; day >= 0; day -= 1) {
+        const { answer } = days[day];
+        const [price, ...rates] = await browser.value(`['.big', '.cards dd'].flatMap((one) => (
+            [...document.querySelectorAll('#one ' + one)].map((found) => found.firstChild.data)))`);
+        assert.equal(wholeOf(price, 4), answer[4], `day ${answer[3]}`);
+        const shown = rates.map((/** @type {string} */ rate, /** @type {number} */ which) => (
+            wholeOf(rate, which === 4 ? 4 : 2)));
+        assert.deepEqual(shown, [answer[9], answer[10], answer[11], answer[7], answer[6]], `day ${answer[3]}`);
+        assert.match(await browser.text('#one'), new RegExp(`Why, on day ${answer[3]}`));
+        await browser.press('ArrowUp');
+    }
+    return `${days.length} days of a security`;
+}
+
+/** A reader with another language: other marks in what is shown, and in what is typed. */
+export async function inGerman(/** @type {Browser} */ browser, /** @type {House} */ house) {
+    await browser.speak('de-DE');
+    await openPage(browser, house);
+    await openFile(browser, house.example('why.txt'));
+    assert.match(await browser.text('#one .big'), /^30\.600,01 /);
+    assert.match(await browser.text('#one .why'), /20\.000 \+ 1\/3 millionths \(20\.000,333…\)/);
+    await browser.click('#tab-say');
+    await browser.click('label:has(#say-call-quote)');
+    for (const [name, typed] of Object.entries({ ID: '7', SECOND: '10:00:00', TERM: '0', BID: '30.600,5', ASK: '' })) {
+        await browser.tabTo(`#panel-say [name=${name}]`);
+        await browser.write(typed);
+    }
+    assert.equal(await browser.text('#panel-say [data-line]'), 'quote 7 36000 0 306005000 0');
+    await browser.speak('en-US');
+    return '30.600,01 is shown, and 30.600,5 is typed';
 }
 
 export function randomEvening(/** @type {Browser} */ browser, /** @type {House} */ house) {
@@ -184,7 +228,7 @@ export const PHONE = /** @type {const} */ ([390, 844]);
 /** Nothing makes the page wider than a phone. A browser may also shrink a page that is too wide: the window then is. */
 export async function fits(/** @type {Browser} */ browser, /** @type {string} */ what) {
     const widths = await browser.value('[document.documentElement.scrollWidth, innerWidth]');
-    for (const width of widths) assert.ok(width <= PHONE[0], `${what} has a width of ${width}, and a phone ${PHONE[0]}`);
+    for (const width of widths) assert.ok(width <= PHONE[0], `${what} is ${width} wide, and a phone ${PHONE[0]}`);
 }
 
 /** A phone's width: nothing runs over. */

@@ -210,7 +210,7 @@ function placedOf(/** @type {any} */ { price, cards, tables }) {
 const isChange = (/** @type {{ text: string, where: string }} */ { text, where }) => (
     where.startsWith('change') || (/^small (up|down|dim)$/.test(where) && text.includes('%')));
 const TIME = /\d\d:\d\d:\d\d/g;
-const NAME = /\b(?:rates?|levels?|terms?) [0-3](?:, [0-3])*\b/gi; // a level's or a term's number is a name
+const NAME = /\b(?:rates?|levels?|terms?) [0-3](?:, [0-3](?![\d.]))*\b/gi; // a level's or a term's number is a name
 
 /**
  * Every figure of some pieces stands among the numbers, but for what the page makes itself of a move.

@@ -24,6 +24,8 @@ const TRIALS = [
     ['a random evening', member.randomEvening],
     ['the example of why', member.why],
     ['a broadcast', member.broadcast],
+    ['an earlier day', member.earlierDay],
+    ['in German', member.inGerman],
     ['a member by keyboard', member.byKeyboard],
     ['downloads', member.downloads],
     ['a member on a phone', member.phone],
