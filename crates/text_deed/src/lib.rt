@@ -12,7 +12,7 @@ ghost use Rattle.text_deed.specs.Deeds.{asksWhy, inWords, reasonSaid, ca
 use paper::InterestAnswer;
 use paper::Verdict;
 use paper_bonds::BondAnswer;
-use text_answer::interest::say_interest;
+use text_answer::interest_line::say_interest;
 use text_answer::say_answer;
 use text_answer::say_bad;
 use text_bond::bond_of;

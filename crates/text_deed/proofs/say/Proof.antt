@@ -12,7 +12,7 @@ use Rattle.text_deed.proofs.say.Lts as lts
 use Rattle.text_deed.proofs.in_words.Reads as in-words-reads
 use Rattle.text_deed.proofs.say_call.Reads as say-call-reads
 use Rattle.text_answer.proofs.say_bad.Reads as say-bad-reads
-use Rattle.text_answer.proofs.interest.say_interest.Reads as say-interest-reads
+use Rattle.text_answer.proofs.interest_line.say_interest.Reads as say-interest-reads
 use Rattle.text_bond.proofs.say_bond.Reads as say-bond-reads
 
 in-words-requires : tie.Need-in-words-requires

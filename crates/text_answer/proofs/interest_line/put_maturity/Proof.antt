@@ -1,11 +1,11 @@
--- `text_answer::interest::put_maturity` meets its contract: CHANGE VOLATILITY TENTATIVE AGE UP DOWN.
+-- `text_answer::interest_line::put_maturity` meets its contract: CHANGE VOLATILITY TENTATIVE AGE UP DOWN.
 use Rattle.text_protocol.specs.Answers.{maturityNumbers}
 use Rattle.text_out.specs.Told.{both}
 use borrow.Author.Needs.{needs}
-use Rattle.text_answer.proofs.interest.put_maturity.Statement.{statement}
-use Rattle.text_answer.proofs.interest.put_maturity.Tie as tie
-use Rattle.text_answer.proofs.interest.put_maturity.Reads as reads
-use Rattle.text_answer.proofs.interest.put_maturity.Lts as lts
+use Rattle.text_answer.proofs.interest_line.put_maturity.Statement.{statement}
+use Rattle.text_answer.proofs.interest_line.put_maturity.Tie as tie
+use Rattle.text_answer.proofs.interest_line.put_maturity.Reads as reads
+use Rattle.text_answer.proofs.interest_line.put_maturity.Lts as lts
 use Rattle.text_out.proofs.put_next.Reads as put-next-reads
 
 put-next-requires : tie.Need-put-next-requires

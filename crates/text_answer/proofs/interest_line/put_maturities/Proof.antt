@@ -1,4 +1,4 @@
--- `text_answer::interest::put_maturities` meets its contract: of each of the first `count` key maturities.
+-- `text_answer::interest_line::put_maturities` meets its contract: of each of the first `count` key maturities.
 use borrow.Author.Needs.{needs}
 use Rattle.text_answer.proofs.Maturities.{Telling, telling-none, telling-more, telling-over, telling-all}
 use Rattle.paper.specs.declared.MaturityFigures.{MaturityFigures}
@@ -6,11 +6,11 @@ use lib.ListN.{length}
 use native.Mathlib.Omega.{arith}
 use Prim.Native.Nat.{_-_, _≤_, _<_}
 use mathlib.Core.Path.{_≡_}
-use Rattle.text_answer.proofs.interest.put_maturities.Statement.{statement}
-use Rattle.text_answer.proofs.interest.put_maturities.Tie as tie
-use Rattle.text_answer.proofs.interest.put_maturities.Reads as reads
-use Rattle.text_answer.proofs.interest.put_maturities.Lts as lts
-use Rattle.text_answer.proofs.interest.put_maturity.Reads as put-maturity-reads
+use Rattle.text_answer.proofs.interest_line.put_maturities.Statement.{statement}
+use Rattle.text_answer.proofs.interest_line.put_maturities.Tie as tie
+use Rattle.text_answer.proofs.interest_line.put_maturities.Reads as reads
+use Rattle.text_answer.proofs.interest_line.put_maturities.Lts as lts
+use Rattle.text_answer.proofs.interest_line.put_maturity.Reads as put-maturity-reads
 
 abbrev Inv-loop : tie.InvT-loop
 Inv-loop out₀ len count figures n₀ i₀ out n i = Telling out₀ len count figures out n i

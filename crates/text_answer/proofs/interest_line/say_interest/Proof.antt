@@ -1,15 +1,15 @@
--- `text_answer::interest::say_interest` meets its contract: the verdict's number decides, as in the definition, between
+-- `text_answer::interest_line::say_interest` meets its contract: the verdict's number decides, as in the definition, between
 -- the text of an answer that is done and the number alone (`done-text`, `refused-text`).
 use Rattle.text_answer.proofs.Verdicts.{refused-text, done-text}
 use Rattle.text_protocol.specs.Answers.{interestText, interestNumbers}
 use borrow.Author.Needs.{needs}
-use Rattle.text_answer.proofs.interest.say_interest.Statement.{statement}
-use Rattle.text_answer.proofs.interest.say_interest.Tie as tie
-use Rattle.text_answer.proofs.interest.say_interest.Reads as reads
-use Rattle.text_answer.proofs.interest.say_interest.Lts as lts
+use Rattle.text_answer.proofs.interest_line.say_interest.Statement.{statement}
+use Rattle.text_answer.proofs.interest_line.say_interest.Tie as tie
+use Rattle.text_answer.proofs.interest_line.say_interest.Reads as reads
+use Rattle.text_answer.proofs.interest_line.say_interest.Lts as lts
 use Rattle.paper.proofs.Verdict.number.Reads as number-reads
 use Rattle.text_answer.proofs.say_number.Reads as say-number-reads
-use Rattle.text_answer.proofs.interest.say_worked.Reads as say-worked-reads
+use Rattle.text_answer.proofs.interest_line.say_worked.Reads as say-worked-reads
 
 number-requires : tie.Need-number-requires
 number-requires c κs = search needs

@@ -1,4 +1,4 @@
--- `text_answer::interest::say_worked` meets its contract: LOWER UPPER, and the figures of each key maturity.
+-- `text_answer::interest_line::say_worked` meets its contract: LOWER UPPER, and the figures of each key maturity.
 use Rattle.text_out.specs.Told.{both}
 use Rattle.text_answer.specs.Answered.{answered}
 use Rattle.text_protocol.specs.Answers.{interestNumbers}
@@ -7,11 +7,11 @@ use mir.Facts.{toZ-ofZ}
 use mir.Syntax.{w64}
 use mathlib.Core.Path.{_≡_}
 use borrow.Author.Needs.{needs}
-use Rattle.text_answer.proofs.interest.say_worked.Statement.{statement}
-use Rattle.text_answer.proofs.interest.say_worked.Tie as tie
-use Rattle.text_answer.proofs.interest.say_worked.Reads as reads
-use Rattle.text_answer.proofs.interest.say_worked.Lts as lts
-use Rattle.text_answer.proofs.interest.put_maturities.Reads as put-maturities-reads
+use Rattle.text_answer.proofs.interest_line.say_worked.Statement.{statement}
+use Rattle.text_answer.proofs.interest_line.say_worked.Tie as tie
+use Rattle.text_answer.proofs.interest_line.say_worked.Reads as reads
+use Rattle.text_answer.proofs.interest_line.say_worked.Lts as lts
+use Rattle.text_answer.proofs.interest_line.put_maturities.Reads as put-maturities-reads
 use Rattle.text_out.proofs.put_next_signed.Reads as put-next-signed-reads
 use Rattle.text_out.proofs.put_byte.Reads as put-byte-reads
 use Rattle.text_out.proofs.put_number.Reads as put-number-reads
