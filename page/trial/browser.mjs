@@ -55,6 +55,39 @@ export function pressOf(/** @type {string} */ press) {
     return { key, ...KEYS[key], isShift: words.includes('Shift'), isControl: words.includes('Control') };
 }
 
+/**
+ * The answers that are waited for, by the numbers of their questions. A browser that ends answers none of them.
+ * @returns {{ next: () => { number: number, answer: Promise<any> }, answer: (number: number, answer: any) => void,
+ *     refuse: (number: number, words: string) => void, end: (words: string) => void }}
+ */
+export function makeWaiting() {
+    const waiting = new Map();
+    let last = 0;
+    let ended = '';
+    const take = (/** @type {number} */ number) => {
+        const one = waiting.get(number);
+        waiting.delete(number);
+        return one;
+    };
+    return {
+        next() {
+            last += 1;
+            const number = last;
+            const answer = new Promise((done, refuse) => {
+                if (ended === '') waiting.set(number, { done, refuse });
+                else refuse(new Error(ended));
+            });
+            return { number, answer };
+        },
+        answer: (number, answer) => take(number)?.done(answer),
+        refuse: (number, words) => take(number)?.refuse(new Error(words)),
+        end(words) {
+            ended = words;
+            for (const number of [...waiting.keys()]) take(number).refuse(new Error(words));
+        },
+    };
+}
+
 /** A folder of a browser's own, for its profile and for what it downloads. */
 export function makeFolder() {
     const folder = fs.mkdtempSync(path.join(os.tmpdir(), 'page-trial-'));

@@ -2,7 +2,7 @@
 import { spawn } from 'node:child_process';
 import fs from 'node:fs';
 import path from 'node:path';
-import { later, makeBrowser, makeFolder, pressOf, until } from './browser.mjs';
+import { later, makeBrowser, makeFolder, makeWaiting, pressOf, until } from './browser.mjs';
 
 const WORDS = ['--headless=new', '--no-sandbox', '--disable-gpu', '--hide-scrollbars', '--lang=en-US', '--no-first-run',
     '--disable-dev-shm-usage', '--disable-background-networking', '--disable-component-update',
@@ -13,17 +13,18 @@ const A4 = { paperWidth: 8.27, paperHeight: 11.69, preferCSSPageSize: true, prin
 
 /** The messages of the browser's protocol: JSON, each ended by a byte 0, on the pipes 3 and 4. */
 function protocolOf(/** @type {any} */ process) {
-    const waiting = new Map();
+    const waiting = makeWaiting();
     /** @type {any[]} */
     const events = [];
     /** @type {Buffer[]} */
     let gathered = [];
-    let last = 0;
-    const hear = (/** @type {any} */ message) => {
-        if (message.id === undefined) events.push(message);
-        else if (message.error) waiting.get(message.id).refuse(new Error(message.error.message));
-        else waiting.get(message.id).answer(message.result);
+    const hear = (/** @type {any} */ { id, error, result, ...event }) => {
+        if (id === undefined) events.push(event);
+        else if (error) waiting.refuse(id, error.message);
+        else waiting.answer(id, result);
     };
+    process.on('exit', () => waiting.end('Chromium has ended'));
+    process.stdio[3].on('error', () => {}); // a pipe to a browser that has ended
     process.stdio[4].on('data', (/** @type {Buffer} */ some) => {
         for (let end = some.indexOf(0); end >= 0; end = some.indexOf(0)) {
             hear(JSON.parse(Buffer.concat([...gathered, some.subarray(0, end)]).toString()));
@@ -32,11 +33,11 @@ function protocolOf(/** @type {any} */ process) {
         }
         gathered.push(some);
     });
-    const send = (/** @type {string} */ method, params = {}, sessionId = undefined) => new Promise((answer, refuse) => {
-        last += 1;
-        waiting.set(last, { answer, refuse });
-        process.stdio[3].write(`${JSON.stringify({ id: last, method, params, sessionId })}\0`);
-    });
+    const send = (/** @type {string} */ method, params = {}, sessionId = undefined) => {
+        const { number, answer } = waiting.next();
+        process.stdio[3].write(`${JSON.stringify({ id: number, method, params, sessionId })}\0`);
+        return answer;
+    };
     return { events, send };
 }
 

@@ -5,7 +5,7 @@ import fs from 'node:fs';
 import net from 'node:net';
 import path from 'node:path';
 import process from 'node:process';
-import { later, makeBrowser, makeFolder, pressOf, until } from './browser.mjs';
+import { later, makeBrowser, makeFolder, makeWaiting, pressOf, until } from './browser.mjs';
 
 const ROOM = { width: 1700, height: 1300 }; // of the window, in which the page gets its own size
 const COLON = 58;
@@ -63,9 +63,10 @@ const ARRIVED = `
 
 /** The protocol's messages on a socket. */
 function protocolOf(/** @type {net.Socket} */ socket) {
-    const waiting = new Map();
+    const waiting = makeWaiting();
     let gathered = Buffer.alloc(0);
-    let last = 0;
+    socket.on('close', () => waiting.end('Firefox has ended'));
+    socket.on('error', () => {}); // 'close' follows
     socket.on('data', (some) => {
         gathered = Buffer.concat([gathered, some]);
         for (let end = gathered.indexOf(COLON); end >= 0; end = gathered.indexOf(COLON)) {
@@ -73,16 +74,16 @@ function protocolOf(/** @type {net.Socket} */ socket) {
             if (gathered.length < behind) return;
             const [, number, error, answer] = [JSON.parse(gathered.subarray(end + 1, behind).toString())].flat();
             gathered = gathered.subarray(behind);
-            if (error) waiting.get(number).refuse(new Error(`${error.error}: ${error.message}`));
-            else waiting.get(number)?.answer(answer); // the greeting has no number
+            if (error) waiting.refuse(number, `${error.error}: ${error.message}`);
+            else waiting.answer(number, answer); // the greeting has no number
         }
     });
-    return (/** @type {string} */ command, words = {}) => new Promise((answer, refuse) => {
-        last += 1;
-        waiting.set(last, { answer, refuse });
-        const message = JSON.stringify([0, last, command, words]);
+    return (/** @type {string} */ command, words = {}) => {
+        const { number, answer } = waiting.next();
+        const message = JSON.stringify([0, number, command, words]);
         socket.write(`${Buffer.byteLength(message)}:${message}`);
-    });
+        return answer;
+    };
 }
 
 /** The port that a browser has taken. */
