@@ -130,11 +130,16 @@ nearness =
     -- a lent record's band may be crossed: then w·(PcH - PcL) is below zero
     ∷ nearTo Upper 1000 (record { lower = 1100; upper = 1000 }) (1010 ∷ 1011 ∷ [])
     ∷ nearTo Lower 1000 (record { lower = 1100; upper = 1000 }) (1090 ∷ 1089 ∷ [])
+    -- "0 missing": the least price that is there, one unit, is near a limit that it stands at
+    ∷ nearTo Upper 1000 (record { lower = 0; upper = 1 }) (0 ∷ 1 ∷ [])
+    ∷ nearTo Lower 1000 (record { lower = 1; upper = 2 }) (0 ∷ 1 ∷ [])
     ∷ []
 
 pub nearness-are : nearness
     ≡ (0 ∷ 0 ∷ 1 ∷ 1 ∷ 1 ∷ [])
     ∷ (0 ∷ 0 ∷ 1 ∷ 1 ∷ 1 ∷ [])
+    ∷ (0 ∷ 1 ∷ [])
+    ∷ (0 ∷ 1 ∷ [])
     ∷ (0 ∷ 1 ∷ [])
     ∷ (0 ∷ 1 ∷ [])
     ∷ (0 ∷ 1 ∷ [])
