@@ -4,7 +4,7 @@
 use mathlib.Core.Path.{_≡_, refl}
 use mathlib.Core.Bool.{true, false}
 use mathlib.Core.List.{List, [], _∷_, _++_, map}
-use Prim.Native.Nat.{ℕ}
+use Prim.Native.Nat.{ℕ, _-_}
 use Prim.Native.String.{String}
 use lib.IntN.{pos, negsuc}
 use lib.ListN.{replicate}
@@ -13,12 +13,13 @@ use Rattle.paper.specs.Verdicts.{isDone, firstOf}
 use Rattle.paper_messages.specs.declared.Heard.{Heard}
 use Rattle.paper_messages.specs.Bytes.{spelled, signedOf}
 use Rattle.paper_messages.specs.Fields.{staticsFields, ratesFields, bandsFields, moveFields, fieldsOf, filled, placesOf}
+use Rattle.paper_messages.specs.Fields.{places}
 use Rattle.paper_messages.specs.Messages.{total, lengthOf, isKnownKind, inRanges, valid, valuesAt, messageAt, noMessage}
 use Rattle.paper_messages.specs.Messages.{readChecks, refusedHeard, acceptedHeard, heardAt}
 use Rattle.text_protocol.specs.Bytes.{lineFeed}
 use Rattle.text_protocol.specs.Numbers.{spelt, decimal, signed}
 use Rattle.text_protocol.specs.Answers.{next, spaced}
-use Rattle.text_protocol.specs.LineCases.{bytes}
+use Rattle.text_protocol.specs.LineCases.{bytes, counted}
 use Rattle.text_heard.specs.Lines.{kindWord, wordLine, fieldsIn, lineOf}
 use Rattle.text_listen.specs.Listen.{listenFrom, listenText}
 
@@ -40,11 +41,7 @@ counting kind =
       next = 300;
       message = record {
         kind = kind;
-        fields =
-            pos 1 ∷ negsuc 1
-            ∷ map pos
-            (3 ∷ 4 ∷ 5 ∷ 6 ∷ 7 ∷ 8 ∷ 9 ∷ 10 ∷ 11 ∷ 12 ∷ 13 ∷ 14 ∷ 15 ∷ 16 ∷ 17 ∷ 18 ∷ 19 ∷ 20 ∷ 21 ∷ 22 ∷ 23 ∷ 24 ∷ 25
-            ∷ 26 ∷ 27 ∷ []);
+        fields = pos 1 ∷ negsuc 1 ∷ map pos (counted 3 (places - 2));
       };
     }
 
@@ -55,7 +52,7 @@ skipped = record { verdict = Done; known = false; kind = 90; length = 20; next =
 -- each kind has its word and all of its fields in order; an unknown one its kind and length, a refusal its number and
 -- the place
 pub lines-heard : (lineOf 8 (counting 1)
-    ≡ ended ("statics 1 -2 3 4 5 6 7 8 9 10 11 12 13 14 15 16 17 18 19 20 21 22 23 24 25 26 27" ∷ []))
+    ≡ bytes "statics 1 -2" ++ spaced (map pos (counted 3 (places - 2))) ++ lineFeed ∷ [])
     × (lineOf 8 (counting 2) ≡ ended ("rates 1 -2 3 4 5 6 7 8 9 10 11 12 13 14 15" ∷ []))
     × (lineOf 8 (counting 3) ≡ ended ("bands 1 -2 3 4 5 6 7 8 9 10 11 12 13 14 15 16 17" ∷ []))
     × (lineOf 8 (counting 4) ≡ ended ("move 1 -2 3 4 5 6 7 8 9" ∷ []))
