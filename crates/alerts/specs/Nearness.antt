@@ -1,4 +1,4 @@
--- What the near test is worked out in: its ranges, and its one comparison. Assumes nothing.
+-- What the near test is worked out in: its ranges, and its one comparison.
 use mathlib.Core.Path.{_≡_}
 use mathlib.Core.Bool.{Bool, true}
 use Prim.Native.Nat.{ℕ, _≤_}

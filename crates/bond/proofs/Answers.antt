@@ -1,4 +1,4 @@
--- The answer by what is refused: 6, then 17, then 7, then 9, else the figures. Assumes nothing.
+-- The answer by what is refused: 6, then 17, then 7, then 9, else the figures.
 use mathlib.Core.Path.{_≡_}
 use mathlib.Core.Bool.{true, false, _&&_}
 use mathlib.Core.List.{List}

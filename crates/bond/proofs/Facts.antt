@@ -1,4 +1,4 @@
--- What a bond that is not refused 6 gives to the rules: its ranges, and that S_1 is a rate. Assumes nothing.
+-- What a bond that is not refused 6 gives to the rules: its ranges, and that S_1 is a rate.
 use mathlib.Core.Path.{_≡_}
 use mathlib.Core.Bool.{Bool, true, false, _&&_}
 use Prim.Native.Nat.{ℕ, _≤_, _<_}

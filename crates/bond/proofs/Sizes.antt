@@ -1,5 +1,4 @@
 -- How far a bond's limits reach before they are rounded and after: every product fits 64 bits, or the wide division.
--- Assumes nothing.
 use mathlib.Core.Path.{_≡_, refl}
 use Prim.Native.Nat.{ℕ, _+_, _*_, _≤_, _<_}
 use native.Mathlib.Nat.{mul-le-mul, mul-pos}

@@ -1,4 +1,4 @@
--- What a bond's limits are worked out in: the ranges that the rules ask for. Assumes nothing.
+-- What a bond's limits are worked out in: the ranges that the rules ask for.
 use mathlib.Core.Path.{_≡_}
 use mathlib.Core.Bool.{true}
 use Prim.Native.Nat.{ℕ, _+_, _-_, _*_, _≤_, _<_}

@@ -1,5 +1,4 @@
--- Laws of a bond's cash flows: those from a place on, what those in range give, and how large Carry can be. Assumes
--- nothing.
+-- Laws of a bond's cash flows: those from a place on, what those in range give, and how large Carry can be.
 use mathlib.Core.Path.{_≡_, refl, ap, sym, _∙_}
 use mathlib.Core.Bool.{Bool, true, false, _&&_}
 use mathlib.Core.List.{List, [], _∷_, map}

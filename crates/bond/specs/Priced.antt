@@ -1,5 +1,4 @@
 -- What is known of a bond that is not refused 6, 17 or 7, and of the figures that its limits are worked out from.
--- Assumes nothing.
 use mathlib.Core.Path.{_≡_}
 use mathlib.Core.Bool.{true}
 use mathlib.Core.List.{List}

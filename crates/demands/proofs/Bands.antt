@@ -1,5 +1,5 @@
 -- W-209: after every sequence of calls on a fresh table no band is crossed. An evaluation is refused where one would be
--- (9), a quote and an opening leave the bands, and a move takes its side outward. Assumes nothing.
+-- (9), a quote and an opening leave the bands, and a move takes its side outward.
 use mathlib.Core.Path.{_≡_, sym, _∙_, ap}
 use mathlib.Core.Bool.{true, false}
 use mathlib.Core.List.{List, [], _∷_}

@@ -1,4 +1,4 @@
--- Demand 1 of the calls beside the table, by the laws of each of them. Assumes nothing.
+-- Demand 1 of the calls beside the table, by the laws of each of them.
 use mathlib.Core.Path.{_≡_, refl, sym, _∙_, ap}
 use mathlib.Core.Bool.{Bool, true, false}
 use mathlib.Core.List.{List, [], _∷_, map}

@@ -1,5 +1,5 @@
 -- Demand 3 of shares: what the accepted evaluations carry on is a volatility carried on by the rule, each time by a
--- move rounded up, from the admission's; so it is near the exact one. Assumes nothing.
+-- move rounded up, from the admission's; so it is near the exact one.
 use mathlib.Core.Path.{_≡_, refl, sym, ap}
 use mathlib.Core.Bool.{Bool, true}
 use mathlib.Core.List.{List, [], _∷_}

@@ -1,4 +1,4 @@
--- The customer's demands, a theorem each. What they say stands in specs/Demands.antt. Assumes nothing.
+-- The customer's demands, a theorem each. What they say stands in specs/Demands.antt.
 use mathlib.Core.Path.{_≡_, refl, sym, _∙_, ap, subst}
 use mathlib.Core.Bool.{true}
 use mathlib.Core.List.{List, map}

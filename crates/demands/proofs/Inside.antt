@@ -1,5 +1,5 @@
 -- W-209 over sequences. A live record's bands are those that its history gives (demand 2), and the law of one band
--- (paper_desk/proofs/ExactBand.antt) says where it stands and when it is crossed. Assumes nothing.
+-- (paper_desk/proofs/ExactBand.antt) says where it stands and when it is crossed.
 use mathlib.Core.Path.{_≡_, refl, sym, ap, _∙_}
 use mathlib.Core.Bool.{Bool, true, false, not, _&&_}
 use mathlib.Core.List.{List, [], _∷_, _++_}

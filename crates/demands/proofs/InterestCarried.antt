@@ -1,6 +1,6 @@
 -- Demand 3 on the interest side: over any number of evenings that follow each other, the volatility that the last call
 -- answers is near the exact one. Each call answers, for the key maturity that we follow, the volatility's rule of what
--- it was given; so the shares' induction serves. Assumes nothing.
+-- it was given; so the shares' induction serves.
 use mathlib.Core.Path.{_≡_, refl, sym, _∙_, ap}
 use mathlib.Core.Bool.{true}
 use mathlib.Core.List.{List, [], _∷_, map}

@@ -1,6 +1,6 @@
 -- W-213: the order of every live record, after every list of calls on a fresh table. A live record's figures are those
 -- that its own statics, evaluation, rates, terms and moves give (demand 2), so that each line is a law of single
--- figures (paper_desk/proofs/Order.antt). Assumes nothing.
+-- figures (paper_desk/proofs/Order.antt).
 use mathlib.Core.Path.{_≡_, refl, sym, _∙_, ap, subst}
 use mathlib.Core.Logic.{_≢_}
 use mathlib.Core.Bool.{Bool, true, false}

@@ -1,5 +1,5 @@
 -- Whatever slot of a table that calls made of a fresh one is full, its record has a history: an admission in range and
--- calls that were accepted in their turn (Histories). Assumes nothing.
+-- calls that were accepted in their turn (Histories).
 use mathlib.Core.Path.{_≡_, refl, ap, subst}
 use mathlib.Core.Logic.{_≢_}
 use mathlib.Core.Bool.{Bool, true}

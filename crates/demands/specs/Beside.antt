@@ -1,6 +1,6 @@
 -- "Any input gets an answer. Every call refuses by a number from document 01's list, exactly when the list says so": of
 -- the calls that look into no table, with the numbers that document 02 added. proofs/Beside.antt proves it for every
--- input. Assumes nothing.
+-- input.
 use mathlib.Core.Path.{_≡_}
 use mathlib.Core.Bool.{Bool, true, false}
 use mathlib.Core.List.{List, [], _∷_, map}

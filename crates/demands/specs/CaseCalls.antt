@@ -1,6 +1,6 @@
 -- Document 01 from a fresh table on: its cases 1, 5 and 13, a second day and a read as calls, each accepted with the
 -- document's figures.
--- It may use every definition of document 01, and the values of PinnedValues. Assumes nothing.
+-- It may use every definition of document 01, and the values of PinnedValues.
 use mathlib.Core.Path.{_≡_, refl}
 use mathlib.Core.List.{List, [], _∷_, map}
 use Prim.Native.Nat.{ℕ}

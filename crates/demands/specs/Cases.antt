@@ -1,5 +1,4 @@
--- Document 01, "Both sides of each line": the starred cases, computed from the definitions, a line to a case. Assumes
--- nothing.
+-- Document 01, "Both sides of each line": the starred cases, computed from the definitions, a line to a case.
 use mathlib.Core.Path.{_≡_, refl}
 use mathlib.Core.Bool.{Bool, true, false}
 use mathlib.Core.List.{List, [], _∷_, map}

@@ -1,5 +1,5 @@
 -- The customer's demands, a record each. proofs/Demands.antt proves them, a theorem each, for every sequence of calls
--- on every fresh table. Assumes nothing.
+-- on every fresh table.
 use mathlib.Core.Path.{_≡_}
 use mathlib.Core.Bool.{Bool, true, false}
 use mathlib.Core.List.{List, [], _∷_, _++_, map}

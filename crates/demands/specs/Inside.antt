@@ -1,5 +1,5 @@
 -- Document 02, W-209, over sequences: where the bands of a live record stand in the exact bands, and when an evaluation
--- is refused 9. proofs/Inside.antt proves both for every list of calls on every fresh table. Assumes nothing.
+-- is refused 9. proofs/Inside.antt proves both for every list of calls on every fresh table.
 use mathlib.Core.Path.{_≡_}
 use mathlib.Core.Bool.{true}
 use mathlib.Core.List.{List, _∷_}

@@ -1,6 +1,6 @@
 -- Soundness by itself is not kept by calls, which is why `good` (Kept of paper_desk) bounds the upper range limits by
 -- the moves too: a sound record that no calls made is not sound after a move.
--- It may use the calls of the desk, and the statics Z of PinnedValues. Assumes nothing.
+-- It may use the calls of the desk, and the statics Z of PinnedValues.
 use mathlib.Core.Path.{_≡_, refl}
 use mathlib.Core.Bool.{true, false}
 use mathlib.Core.List.{[], _∷_}

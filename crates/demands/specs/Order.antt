@@ -1,6 +1,6 @@
 -- Document 02, W-213, "Order, for every member's comfort": what holds of every live record after every list of calls on
 -- every fresh table, in the request's words and order. proofs/Order.antt proves it, and OrderCases has a case of each
--- condition without which a line fails. Assumes nothing.
+-- condition without which a line fails.
 use mathlib.Core.Path.{_≡_}
 use mathlib.Core.Logic.{_≢_}
 use mathlib.Core.Bool.{Bool, true, _&&_}

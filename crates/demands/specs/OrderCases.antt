@@ -2,7 +2,7 @@
 -- the order of the statics and their steps (rates and ranges), the grid (ranges, and the evaluation within a band), the
 -- refusal 9 (bands), repo limits on either side of 0 (the evaluation within a band), the fifty moves of 12 (the
 -- greatest limit).
--- It may use the calls of the desk, Order, and the values of PinnedValues. Assumes nothing.
+-- It may use the calls of the desk, Order, and the values of PinnedValues.
 use mathlib.Core.Path.{_≡_, refl}
 use mathlib.Core.Bool.{true, false}
 use mathlib.Core.List.{List, [], _∷_, map}

@@ -1,7 +1,7 @@
 -- W-208: a worked week as a proved table. A bad day takes the tentative rate above S_max; the rates are S_max, and each
 -- leaves it only when the tentative rate has come down by its steps. With the cap that document 01 had, they would have
 -- fallen two evenings sooner.
--- It may use the calls of the desk, Rates, and the values of PinnedValues. Assumes nothing.
+-- It may use the calls of the desk, Rates, and the values of PinnedValues.
 use mathlib.Core.Path.{_≡_, refl}
 use mathlib.Core.List.{List, [], _∷_, map}
 use Prim.Native.Nat.{ℕ, _+_, min}

@@ -1,5 +1,5 @@
 -- A message of a sound record, and of an admission that is in range, is valid, so that an accepted call is always
--- broadcast whole. Assumes nothing.
+-- broadcast whole.
 use mathlib.Core.Path.{_≡_, refl, sym, ap, _∙_}
 use mathlib.Core.Bool.{Bool, true, false, _&&_, and-false}
 use mathlib.Core.List.{List, [], _∷_, map}

@@ -1,5 +1,5 @@
 -- An accepted call is broadcast whole: an accepted admission is in range, and the record that an accepted evaluation or
--- move answers stands in the table, where every record is sound. Assumes nothing.
+-- move answers stands in the table, where every record is sound.
 use mathlib.Core.Path.{_≡_, refl, subst}
 use mathlib.Core.Bool.{true, _&&_}
 use mathlib.Core.List.{List, [], _∷_}

@@ -1,5 +1,5 @@
 -- W-212, over every sequence of calls: of an accepted call the writer takes every message, so that members get all of
--- them. proofs/Whole.antt proves it of every call after every list of calls on every fresh table. Assumes nothing.
+-- them. proofs/Whole.antt proves it of every call after every list of calls on every fresh table.
 use mathlib.Core.Path.{_≡_}
 use mathlib.Core.Bool.{true}
 use mathlib.Core.List.{List}

@@ -1,5 +1,5 @@
 -- Laws of the first slot with an id. `Passed t id i`: the slots before i have another id, so that the search may go on
--- at i. Assumes nothing.
+-- at i.
 use mathlib.Core.Path.{_≡_, refl, sym, _∙_, ap}
 use mathlib.Core.Bool.{Bool, true, false, not}
 use mathlib.Core.List.{List, [], _∷_}

@@ -1,6 +1,5 @@
 -- What every walk over a lent row of records uses of a record, a slot, an effect and an answer: the type, the laws of
 -- the type, and where slot i lies. Nothing else in the walks depends on a record's fields, but that `id` is the first.
--- Assumes nothing.
 use mathlib.Core.Path.{_≡_, refl, ap}
 use mathlib.Core.List.{List, [], _∷_}
 use Prim.Native.Nat.{ℕ, _<_, _+_, _*_, _^_}

@@ -1,5 +1,5 @@
 -- An effect on one slot is the paper's step on the table: what is stored past the end changes nothing, and that is all
--- that a refusal stores. Assumes nothing.
+-- that a refusal stores.
 use mathlib.Core.Path.{_≡_, refl, ap}
 use mathlib.Core.Bool.{Bool, true, false}
 use mathlib.Core.List.{List}

@@ -1,5 +1,4 @@
--- Document 01, "How far each promise reaches": a call's promise gives its answer and the whole table after it. Assumes
--- nothing.
+-- Document 01, "How far each promise reaches": a call's promise gives its answer and the whole table after it.
 use mathlib.Core.Path.{_≡_}
 use mathlib.Core.List.{List}
 use Rattle.paper.specs.declared.Record.{Record}

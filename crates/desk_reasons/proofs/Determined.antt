@@ -1,6 +1,5 @@
 -- "Any two outcomes it allows are shown equal": of each call's own contract; and that its number is the one which
 -- `evaluate` answers, and its reasons are true of what `evaluate` writes. The table is lent as `&`, so it is left.
--- Assumes nothing.
 use mathlib.Core.Path.{_≡_, refl, sym, ap, _∙_}
 use mathlib.Core.Bool.{true}
 use mathlib.Core.List.{List}

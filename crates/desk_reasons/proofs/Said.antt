@@ -1,4 +1,4 @@
--- What the rule says of the slot of an id is what the paper says of the table. Assumes nothing.
+-- What the rule says of the slot of an id is what the paper says of the table.
 use mathlib.Core.Path.{_≡_, refl}
 use mathlib.Core.List.{List}
 use Prim.Native.Nat.{ℕ}

@@ -1,4 +1,4 @@
--- The answer by cases, from what the code has in hand at each of its returns. Assumes nothing.
+-- The answer by cases, from what the code has in hand at each of its returns.
 use mathlib.Core.Path.{_≡_, refl, ap, _∙_}
 use mathlib.Core.Bool.{Bool, true, false, _&&_}
 use mathlib.Core.List.{List, map}

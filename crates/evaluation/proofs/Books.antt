@@ -1,4 +1,4 @@
--- Laws of the book: row by row it comes to what the paper says of all rows. Assumes nothing.
+-- Laws of the book: row by row it comes to what the paper says of all rows.
 use mathlib.Core.Path.{_≡_, refl, sym, ap, _∙_}
 use mathlib.Core.Bool.{Bool, true, false}
 use mathlib.Core.List.{List, [], _∷_}

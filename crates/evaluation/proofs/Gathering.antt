@@ -1,5 +1,5 @@
 -- What `gather` keeps at each row: the book so far, joined with the rows still to come, is the book of all rows, and
--- the rows still to come decide whether all are in range and taken. Assumes nothing.
+-- the rows still to come decide whether all are in range and taken.
 use mathlib.Core.Path.{_≡_, refl, sym, ap, _∙_}
 use mathlib.Core.Bool.{Bool, true, false, not, _&&_, _||_}
 use mathlib.Core.List.{List, [], _∷_, map}

@@ -1,5 +1,5 @@
 -- Laws of places (a) and (b): a price discounted in 64 bits is the paper's, so is a row converted by either quick way
--- (W-214), and what a row whose figures fit keeps to. Assumes nothing.
+-- (W-214), and what a row whose figures fit keeps to.
 use mathlib.Core.Path.{_≡_, refl, _∙_}
 use mathlib.Core.Bool.{Bool, true, false, _||_}
 use Prim.Native.Nat.{ℕ, _+_, _-_, _*_, _≤_, _<_}

@@ -1,5 +1,4 @@
 -- Laws of the two sides: the close between those that are present, what the median is, and the lesser of two asks.
--- Assumes nothing.
 use mathlib.Core.Path.{_≡_, refl, sym, _∙_}
 use Prim.Native.Nat.{ℕ, zero, suc, _≤_, min, max}
 use native.Mathlib.Omega.{arith}

@@ -1,4 +1,4 @@
--- The book that the code keeps of the rows, row by row, and what of it the evaluation asks for. Assumes nothing.
+-- The book that the code keeps of the rows, row by row, and what of it the evaluation asks for.
 use mathlib.Core.Path.{_≡_}
 use mathlib.Core.Bool.{Bool, true, false, not, _&&_}
 use mathlib.Core.List.{List, map}

@@ -1,4 +1,4 @@
--- What an evaluation (6.1) answers: the paper's figure, or that 7 refuses it. Assumes nothing.
+-- What an evaluation (6.1) answers: the paper's figure, or that 7 refuses it.
 use mathlib.Core.Bool.{Bool, _&&_}
 use mathlib.Core.List.{List, map}
 use Prim.Native.Nat.{ℕ, _+_, _-_, _*_, _≤_}

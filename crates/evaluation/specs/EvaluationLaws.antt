@@ -1,5 +1,5 @@
 -- What an answer says of the paper's figures, for those who call: the evaluation is the paper's, on the grid and in
--- range, or 7 refuses; and what gathered rows say of 6 and 16. Assumes nothing.
+-- range, or 7 refuses; and what gathered rows say of 6 and 16.
 use mathlib.Core.Path.{_≡_, refl}
 use mathlib.Core.Bool.{Bool, true, false}
 use mathlib.Core.List.{List, map}

@@ -1,5 +1,5 @@
 -- The long division of `divide_product`, on plain numbers: the quotient and the rest that it makes give the product
--- again. Assumes nothing.
+-- again.
 use mathlib.Core.Path.{_≡_, sym, ap, _∙_}
 use Prim.Native.Nat.{ℕ, _+_, _*_, _/_, _%_, _^_, _≤_, _<_}
 use native.Mathlib.Nat.{mul-le-mul, mod-lt, div-add-mod', lt-of-mul-lt-mul-right}

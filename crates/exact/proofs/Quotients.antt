@@ -1,4 +1,4 @@
--- Bounds of quotients that the roundings share, on plain numbers. Assumes nothing.
+-- Bounds of quotients that the roundings share, on plain numbers.
 use Prim.Native.Nat.{ℕ, _+_, _*_, _/_, _≤_, _<_}
 use native.Mathlib.Nat.{mul-pos, mul-le-mul-left, le-trans}
 use native.Mathlib.Omega.{arith}

@@ -1,5 +1,5 @@
 -- The search of `least_root` on plain numbers: how it begins, goes on by a turn, and ends. With k bits to come, f is
--- what is found of the root of n - 1, rounded down; the least root of n is one more. Assumes nothing.
+-- what is found of the root of n - 1, rounded down; the least root of n is one more.
 use mathlib.Core.Path.{_≡_, ap, sym, _∙_}
 use Prim.Native.Nat.{ℕ, _+_, _-_, _*_, _^_, _≤_, _<_}
 use native.Mathlib.Nat.{mul-le-mul, mul-le-mul-right, mul-lt-mul-of-pos-right}

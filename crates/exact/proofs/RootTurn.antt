@@ -1,5 +1,5 @@
 -- One turn of the search for a root, `next_bit`, on plain numbers: f is what is found when k bits are to come, and
--- p = 2^(k - 1) is the next of them. Assumes nothing.
+-- p = 2^(k - 1) is the next of them.
 use mathlib.Core.Path.{_≡_, ap}
 use Prim.Native.Nat.{ℕ, _+_, _-_, _*_, _^_, _≤_, _<_}
 use native.Mathlib.Nat.{mul-le-mul, mul-le-mul-left}

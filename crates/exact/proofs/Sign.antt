@@ -1,4 +1,4 @@
--- The sign test decides which case of a definition a signed number is. Assumes nothing.
+-- The sign test decides which case of a definition a signed number is.
 use mathlib.Core.Path.{_≡_, refl, ap}
 use mathlib.Core.Bool.{true, false}
 use Prim.Native.Nat.{ℕ, suc, _+_, _-_, _*_}

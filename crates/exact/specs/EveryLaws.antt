@@ -1,4 +1,4 @@
--- Laws of a test of every part of a list, for those who walk over a lent slice. Assumes nothing.
+-- Laws of a test of every part of a list, for those who walk over a lent slice.
 use mathlib.Core.Path.{_≡_, ap, _∙_}
 use mathlib.Core.Bool.{Bool, true, false, _&&_}
 use mathlib.Core.List.{List, [], _∷_, map}

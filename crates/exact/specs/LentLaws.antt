@@ -1,4 +1,4 @@
--- Laws of a lent slice that is read in parts of one width: a walk over it by place. Assumes nothing.
+-- Laws of a lent slice that is read in parts of one width: a walk over it by place.
 use mathlib.Core.Path.{_≡_, sym, ap, _∙_}
 use mathlib.Core.Bool.{Bool, true, false, not}
 use mathlib.Core.Logic.{_⊎_, inl, inr}

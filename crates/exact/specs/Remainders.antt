@@ -1,5 +1,5 @@
 -- How the code rounds: by the remainder, which takes the quotient to the next whole number or leaves it, one law each
--- over the way; and half up by one quotient alone. Assumes nothing.
+-- over the way; and half up by one quotient alone.
 use mathlib.Core.Path.{_≡_, refl}
 use mathlib.Core.Bool.{Bool, true, false}
 use Prim.Native.Nat.{ℕ, _+_, _-_, _*_, _/_, _%_, _≤_, _<_}

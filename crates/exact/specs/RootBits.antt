@@ -1,5 +1,5 @@
 -- How `least_root` looks for a root, bit by bit from the top: what is known of what is found when k bits are to come,
--- and what a turn makes of it. No reader of `least_root`'s own contract needs it. Assumes nothing.
+-- and what a turn makes of it. No reader of `least_root`'s own contract needs it.
 use mathlib.Core.Path.{_≡_}
 use Prim.Native.Nat.{ℕ, _+_, _-_, _*_, _^_, _≤_, _<_}
 use Rattle.exact.specs.declared.Found.{Found}

@@ -1,5 +1,5 @@
 -- Document 02, W-204: what is asked of the root, and of whom. "The least x whose square covers a number .. Its answers
--- stay the same." Assumes nothing.
+-- stay the same."
 use mathlib.Core.Path.{_≡_}
 use Prim.Native.Nat.{ℕ, _+_, _-_, _*_, _≤_}
 use Rattle.paper.specs.declared.Model.{Model}

@@ -1,5 +1,5 @@
 -- Laws of signed numbers for those who read a day: their order, what a range gives, and how far a term's repo rate
--- moves a base. Assumes nothing.
+-- moves a base.
 use mathlib.Core.Path.{_≡_, refl, _∙_}
 use mathlib.Core.Bool.{true, false}
 use Prim.Native.Nat.{ℕ, suc, _+_, _*_, _^_, _≤_, _<_}

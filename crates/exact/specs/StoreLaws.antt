@@ -1,4 +1,4 @@
--- The law of a run of stores into a lent slice: two runs, one behind the other, are one. Assumes nothing.
+-- The law of a run of stores into a lent slice: two runs, one behind the other, are one.
 use mathlib.Core.Path.{_≡_, refl}
 use mathlib.Core.List.{List, [], _∷_, _++_}
 use Prim.Native.Nat.{ℕ, suc, _+_}

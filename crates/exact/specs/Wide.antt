@@ -1,4 +1,4 @@
--- The ranges of a product that does not fit 64 bits, and of its divisor. Assumes nothing.
+-- The ranges of a product that does not fit 64 bits, and of its divisor.
 use Prim.Native.Nat.{ℕ, _+_, _*_, _^_, _≤_, _<_}
 use Rattle.paper.specs.Numbers.{oneInBp, coarsestGrid, oneInHundredths, yearInDayBp, priceMost, rateMost, divisorLeast}
 use Rattle.paper.specs.Numbers.{divisorMost, shiftMost, movesMost}

@@ -1,5 +1,5 @@
 -- Whether the numbers of a lent slice are each in the range of its place: the ranges are two lists, the least and the
--- most of each, and the slice is read in parts of as many numbers. Assumes nothing.
+-- most of each, and the slice is read in parts of as many numbers.
 use mathlib.Core.Path.{_≡_, refl}
 use mathlib.Core.Bool.{Bool, true, _&&_}
 use mathlib.Core.List.{List}

@@ -1,4 +1,4 @@
--- A field that is written is read, what is read is written, and THE READING OF A FIELD IS UNIQUE. Assumes nothing.
+-- A field that is written is read, what is read is written, and THE READING OF A FIELD IS UNIQUE.
 use mathlib.Core.Path.{_≡_, refl, sym, ap, _∙_}
 use mathlib.Core.Bool.{Bool, true, false, _&&_, not, and-false}
 use mathlib.Core.List.{List, [], _∷_, _++_, append-assoc}

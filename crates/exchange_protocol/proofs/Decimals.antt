@@ -1,4 +1,4 @@
--- A decimal that is written is read, and what is read is written. Assumes nothing.
+-- A decimal that is written is read, and what is read is written.
 use mathlib.Core.Path.{_≡_, refl, sym, ap, _∙_}
 use mathlib.Core.Bool.{Bool, true, false, _||_, or-true}
 use mathlib.Core.List.{List, [], _∷_, _++_, append-assoc}

@@ -1,4 +1,4 @@
--- A line that is written is read, what is read is written, and THE READING OF A LINE IS UNIQUE. Assumes nothing.
+-- A line that is written is read, what is read is written, and THE READING OF A LINE IS UNIQUE.
 use mathlib.Core.Path.{_≡_, refl, sym, ap, _∙_}
 use mathlib.Core.Bool.{Bool, true, false, _&&_}
 use mathlib.Core.List.{List, [], _∷_, _++_, append-assoc, append-nil}

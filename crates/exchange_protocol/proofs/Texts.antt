@@ -1,4 +1,4 @@
--- EVERY TEXT SAYS EXACTLY ONE THING OF A SECURITY: `reading` is what it says, and nothing else is. Assumes nothing.
+-- EVERY TEXT SAYS EXACTLY ONE THING OF A SECURITY: `reading` is what it says, and nothing else is.
 use mathlib.Core.Path.{_≡_, refl, sym, ap, ap₂, _∙_}
 use mathlib.Core.Bool.{Bool, true, false}
 use mathlib.Core.Logic.{_⊎_, inl, inr}

@@ -1,4 +1,4 @@
--- The rows that a text gives are a day's rows: an evaluation takes them as they stand. Assumes nothing.
+-- The rows that a text gives are a day's rows: an evaluation takes them as they stand.
 use mathlib.Core.Path.{_≡_, refl, sym, ap, _∙_}
 use mathlib.Core.Bool.{Bool, true, false, _&&_}
 use mathlib.Core.List.{List, [], _∷_, _++_, append-assoc}

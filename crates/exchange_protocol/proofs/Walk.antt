@@ -1,5 +1,5 @@
 -- Line after line: how a text stands when so many of its lines are read, and what each further line makes of it. The
--- code's loop and `reading` both go by these steps. Assumes nothing.
+-- code's loop and `reading` both go by these steps.
 use mathlib.Core.Path.{_≡_, refl, sym, ap, _∙_}
 use mathlib.Core.Logic.{_⊎_, inl, inr}
 use mathlib.Core.List.{List, [], _∷_, _++_}

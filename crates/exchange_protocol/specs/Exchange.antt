@@ -1,6 +1,5 @@
 -- Document 02, W-203, "Take the exchange's evening text": what a field, a line and a text mean, said by how they are
 -- put together and not by how they are read. How we read what the request leaves open stands in docs/READINGS.md.
--- Assumes nothing.
 use mathlib.Core.Path.{_≡_}
 use mathlib.Core.Bool.{Bool, true, false, _&&_, _||_}
 use mathlib.Core.List.{List, [], _∷_, _++_}

@@ -1,6 +1,6 @@
 -- W-203 by examples: lines and texts of the exchange, both sides of each sentence, each beside what it says of the
 -- security 7. `rows-are`, `lines-bad` and `texts-are` compute them all; `says-reading` (proofs/Texts.antt) proves that
--- what is computed is what the definitions of Exchange say, and nothing else. Assumes nothing.
+-- what is computed is what the definitions of Exchange say, and nothing else.
 use mathlib.Core.Path.{_≡_, refl}
 use mathlib.Core.Bool.{true, false}
 use mathlib.Core.List.{List, [], _∷_, _++_, map}

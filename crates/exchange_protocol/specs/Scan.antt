@@ -1,5 +1,5 @@
 -- How a text is read in one pass, from its front on: what stands in front of a text, and what is left behind it. The
--- code reads so; proofs/ proves that it is what the definitions of Exchange say. Assumes nothing.
+-- code reads so; proofs/ proves that it is what the definitions of Exchange say.
 use mathlib.Core.Path.{_≡_}
 use mathlib.Core.Bool.{Bool, true, false, _&&_, not}
 use mathlib.Core.List.{List, [], _∷_, _++_}

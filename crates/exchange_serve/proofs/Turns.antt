@@ -1,6 +1,6 @@
 -- Why the functions of this crate meet their contracts, as laws over lists and numbers: the id that an argument asks
 -- for, digit by digit, the text, read by read, and the two answers. No law speaks of memory, so that the proofs of the
--- functions only cite them. Assumes nothing.
+-- functions only cite them.
 use mathlib.Core.Path.{_≡_, refl, sym, ap, _∙_}
 use mathlib.Core.Bool.{Bool, true, false}
 use mathlib.Core.List.{List, [], _∷_, _++_}

@@ -1,5 +1,4 @@
--- docs/EXCHANGE.md: what the program `exchange` is asked for, what it takes in, and the line that it answers. Assumes
--- nothing.
+-- docs/EXCHANGE.md: what the program `exchange` is asked for, what it takes in, and the line that it answers.
 use mathlib.Core.Path.{_≡_}
 use mathlib.Core.Bool.{true, false}
 use mathlib.Core.List.{List, [], _∷_}

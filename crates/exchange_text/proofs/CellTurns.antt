@@ -1,4 +1,4 @@
--- What each function needs, on plain values: one turn of each loop, and each way that a function ends. Assumes nothing.
+-- What each function needs, on plain values: one turn of each loop, and each way that a function ends.
 use mathlib.Core.Path.{_≡_, refl, sym, ap, _∙_}
 use mathlib.Core.Bool.{Bool, true, false, not, _&&_, and-true, and-false}
 use mathlib.Core.List.{List, [], _∷_}

@@ -1,5 +1,4 @@
--- What each function needs, on plain values: the ways that each ends, and one turn of the loop over the fields. Assumes
--- nothing.
+-- What each function needs, on plain values: the ways that each ends, and one turn of the loop over the fields.
 use mathlib.Core.Path.{_≡_, refl, sym, ap, _∙_}
 use mathlib.Core.Bool.{Bool, true, false, _&&_}
 use mathlib.Core.Logic.{_⊎_, inl, inr}

@@ -1,6 +1,6 @@
 -- One turn of each loop, as laws over lists and numbers: `Storing`, of the loop that stores the numbers of a row,
 -- and `Reads`, of the loop that goes from line to line. Each says what holds at the start, what a turn adds and what
--- holds at the end. Assumes nothing.
+-- holds at the end.
 use mathlib.Core.Path.{_≡_, refl, sym, ap, ap₂, _∙_}
 use mathlib.Core.Bool.{Bool, true, false}
 use mathlib.Core.Logic.{_⊎_, inl, inr}

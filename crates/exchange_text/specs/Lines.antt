@@ -1,4 +1,4 @@
--- What the code passed in a lent text, beside the reading of the text from a place on. Assumes nothing.
+-- What the code passed in a lent text, beside the reading of the text from a place on.
 use mathlib.Core.Path.{_≡_}
 use mathlib.Core.List.{List}
 use Prim.Native.Nat.{ℕ, _≤_}

@@ -1,5 +1,5 @@
 -- A number or a field that the code found in a lent text, beside the reading of the text from a place on: it is the
--- same, and what is left is what stands behind its end. Assumes nothing.
+-- same, and what is left is what stands behind its end.
 use mathlib.Core.Path.{_≡_}
 use mathlib.Core.List.{List}
 use mathlib.Core.Logic.{_⊎_}

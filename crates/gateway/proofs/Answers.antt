@@ -1,4 +1,4 @@
--- The three answers of every call, from the tests that led to them and the number that was made. Assumes nothing.
+-- The three answers of every call, from the tests that led to them and the number that was made.
 use mathlib.Core.Path.{_≡_, ap, sym, _∙_}
 use mathlib.Core.Bool.{Bool, true, false}
 use Prim.Native.Nat.{ℕ}

@@ -1,4 +1,4 @@
--- What is known of two plain numbers once the constructors of a price and a rate have judged them. Assumes nothing.
+-- What is known of two plain numbers once the constructors of a price and a rate have judged them.
 use mathlib.Core.Path.{_≡_, refl}
 use mathlib.Core.Bool.{Bool, true, false, _&&_}
 use Prim.Native.Nat.{ℕ}

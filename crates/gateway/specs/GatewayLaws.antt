@@ -1,4 +1,4 @@
--- Laws of the gateway's level rate: what its test of the values says, and how large its figure can be. Assumes nothing.
+-- Laws of the gateway's level rate: what its test of the values says, and how large its figure can be.
 use mathlib.Core.Path.{_≡_}
 use mathlib.Core.Bool.{Bool, true, false}
 use Prim.Native.Nat.{ℕ, _≤_}

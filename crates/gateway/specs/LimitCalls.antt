@@ -1,5 +1,5 @@
 -- A range limit and a band limit as one call of the gateway, over which of the two is asked for. `rangeCall` and
--- `bandCall` of the paper are its two instances. Assumes nothing.
+-- `bandCall` of the paper are its two instances.
 use mathlib.Core.Path.{_≡_, refl}
 use mathlib.Core.Bool.{Bool, true, false, _&&_, and-true}
 use Prim.Native.Nat.{ℕ, _%_, _≤_}

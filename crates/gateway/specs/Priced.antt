@@ -1,4 +1,4 @@
--- The price and the rate of two plain numbers. Assumes nothing.
+-- The price and the rate of two plain numbers.
 use mathlib.Core.Bool.{_&&_}
 use Prim.Native.Nat.{ℕ}
 use Rattle.paper.specs.Lists.{pick}

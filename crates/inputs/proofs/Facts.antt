@@ -1,5 +1,5 @@
 -- What the range tests say in plain numbers: of each test of the paper that passed, a record of the facts that a rule
--- may use; those of the statics are `paper`'s (StaticsFacts). Assumes nothing.
+-- may use; those of the statics are `paper`'s (StaticsFacts).
 use mathlib.Core.Path.{_≡_}
 use mathlib.Core.Bool.{true, _&&_}
 use mathlib.Core.List.{List}

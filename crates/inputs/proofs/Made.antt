@@ -1,5 +1,4 @@
--- What the constructors make of a number: its price or its rate where it is in range, and none where it is not. Assumes
--- nothing.
+-- What the constructors make of a number: its price or its rate where it is in range, and none where it is not.
 use mathlib.Core.Path.{_≡_, refl}
 use mathlib.Core.Bool.{Bool, true, false}
 use Prim.Native.Nat.{ℕ}

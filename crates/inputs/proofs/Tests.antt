@@ -1,4 +1,4 @@
--- Laws of the tests: two and three of a kind, and a day in two parts. Assumes nothing.
+-- Laws of the tests: two and three of a kind, and a day in two parts.
 use mathlib.Core.Path.{_≡_, refl}
 use mathlib.Core.Bool.{Bool, true, false, _&&_, and-false}
 use mathlib.Core.List.{List}

@@ -1,4 +1,4 @@
--- The answer by what is refused: 6, then 14, else the figures, for which nothing more is asked. Assumes nothing.
+-- The answer by what is refused: 6, then 14, else the figures, for which nothing more is asked.
 use mathlib.Core.Path.{_≡_}
 use mathlib.Core.Bool.{true, false, _&&_}
 use mathlib.Core.List.{List}

@@ -1,5 +1,5 @@
 -- The figures at a term (14.6), from those of the key maturities beside it, and the limits (16.2), from those at the
--- two terms. Assumes nothing.
+-- two terms.
 use mathlib.Core.Path.{_≡_, sym, ap, _∙_}
 use mathlib.Core.Bool.{true}
 use mathlib.Core.List.{List}

@@ -1,5 +1,5 @@
 -- Document 02, W-201, clause 14.6: the figures of a key maturity that a term's are read off, and a term's, the rate
--- lifted. Assumes nothing.
+-- lifted.
 use mathlib.Core.Path.{_≡_}
 use mathlib.Core.List.{List}
 use Prim.Native.Nat.{ℕ}

@@ -1,4 +1,4 @@
--- Laws of a band's limits (16.2), counted from the base. Assumes nothing.
+-- Laws of a band's limits (16.2), counted from the base.
 use mathlib.Core.Path.{_≡_, sym, ap, _∙_}
 use Prim.Native.Nat.{ℕ, _+_, _-_, _*_, _≤_, _<_}
 use native.Mathlib.Nat.{mul-le-mul, mul-le-mul-left, mul-le-mul-right, mul-pos}

@@ -1,5 +1,4 @@
--- Laws of a figure between two (14.6): what it is of lifted figures, and that it is no greater than both. Assumes
--- nothing.
+-- Laws of a figure between two (14.6): what it is of lifted figures, and that it is no greater than both.
 use mathlib.Core.Path.{_≡_, ap, _∙_}
 use Prim.Native.Nat.{ℕ, _+_, _-_, _*_, _≤_, _<_}
 use native.Mathlib.Nat.{mul-le-mul, mul-le-mul-right}

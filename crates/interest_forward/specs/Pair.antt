@@ -1,5 +1,5 @@
 -- Document 02, W-201, clause 16.2 from the figures at the two terms of the pair, where the paper has the key maturities
--- that they are read off. Assumes nothing.
+-- that they are read off.
 use mathlib.Core.Path.{_≡_, refl}
 use mathlib.Core.List.{List}
 use Prim.Native.Nat.{ℕ, _+_, _-_, _*_, _≤_, _<_}

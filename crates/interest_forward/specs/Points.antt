@@ -1,4 +1,4 @@
--- Document 02, W-201, clause 14.6 on natural numbers: figures so many days ahead, the rate lifted. Assumes nothing.
+-- Document 02, W-201, clause 14.6 on natural numbers: figures so many days ahead, the rate lifted.
 use Prim.Native.Nat.{ℕ, _+_, _-_, _*_, _≤_, _<_}
 use lib.IntN.{ℤ, subℕ}
 use Rattle.paper.specs.Numbers.{maturityMost}

@@ -1,5 +1,4 @@
 -- A walk over the key maturities, from each to the next: their order, and what the figures for a term are read off.
--- Assumes nothing.
 use mathlib.Core.Path.{_≡_, refl, sym, ap, _∙_}
 use mathlib.Core.Logic.{_⊎_, inl, inr}
 use mathlib.Core.Bool.{true, false, _&&_}

@@ -1,5 +1,4 @@
--- Laws of an evening's key maturities: those from a place on, what each is, and what those in range give. Assumes
--- nothing.
+-- Laws of an evening's key maturities: those from a place on, what each is, and what those in range give.
 use mathlib.Core.Path.{_≡_, refl, ap, sym, _∙_}
 use mathlib.Core.Bool.{true, false}
 use mathlib.Core.List.{List, [], _∷_, map, map-map}

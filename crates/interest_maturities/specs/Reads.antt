@@ -1,4 +1,4 @@
--- Clause 14.6 by place: the key maturities that every figure for a term is read off. Assumes nothing.
+-- Clause 14.6 by place: the key maturities that every figure for a term is read off.
 use mathlib.Core.Path.{_≡_}
 use mathlib.Core.Logic.{_⊎_}
 use mathlib.Core.List.{List}

@@ -1,4 +1,4 @@
--- A rate in range is its own bits read back. Assumes nothing.
+-- A rate in range is its own bits read back.
 use mathlib.Core.Path.{_≡_}
 use Prim.Native.Nat.{_≤_}
 use native.Mathlib.Omega.{arith}

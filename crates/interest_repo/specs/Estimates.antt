@@ -1,5 +1,4 @@
 -- The estimates of a key maturity (14.4) from a tentative rate that the code has, and that they are the paper's.
--- Assumes nothing.
 use mathlib.Core.Path.{_≡_, refl}
 use Prim.Native.Nat.{ℕ, _+_, max}
 use lib.IntN.{ℤ, pos, _+ℤ_, _-ℤ_}

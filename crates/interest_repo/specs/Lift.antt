@@ -1,5 +1,5 @@
 -- Rates of either sign on a base that no rate reaches below, so that they are natural numbers, and what of rates is
--- worked out in these. Assumes nothing.
+-- worked out in these.
 use mathlib.Core.Path.{_≡_, sym, ap, _∙_}
 use Prim.Native.Nat.{ℕ, _+_, _-_, _≤_}
 use native.Mathlib.Omega.{arith}

@@ -1,5 +1,5 @@
 -- W-201, "The security's evaluation may take these limits or given ones": what the band of a term is where a pair was
--- worked out, and that a pair that was refused makes its day out of range (6). Assumes nothing.
+-- worked out, and that a pair that was refused makes its day out of range (6).
 use mathlib.Core.Path.{_≡_, refl}
 use mathlib.Core.Bool.{Bool, true, false, _&&_, _||_, and-false}
 use mathlib.Core.List.{List}

@@ -1,5 +1,5 @@
 -- W-201, "The security's evaluation may take these limits or given ones": a term that takes a pair, and a band that is
--- a refused pair. Assumes nothing.
+-- a refused pair.
 use mathlib.Core.Bool.{Bool, false, not}
 use Prim.Native.Nat.{ℕ}
 use Rattle.paper.specs.declared.AskedTerm.{AskedTerm}

@@ -1,5 +1,5 @@
 -- How large a limit and delta can be: the paper's laws, in the ranges that the limit rules ask for; and the products of
--- delta. Assumes nothing.
+-- delta.
 use mathlib.Core.Path.{_≡_, sym}
 use Prim.Native.Nat.{ℕ, _*_, _/_, _≤_}
 use native.Mathlib.Nat.{mul-le-mul}

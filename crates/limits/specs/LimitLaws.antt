@@ -1,4 +1,4 @@
--- Laws of a share's limits: how far their parts reach, and what a band limit is made of. Assumes nothing.
+-- Laws of a share's limits: how far their parts reach, and what a band limit is made of.
 use mathlib.Core.Path.{_≡_, refl}
 use mathlib.Core.Bool.{true, false}
 use Prim.Native.Nat.{ℕ, _+_, _-_, _*_, _≤_, _<_}

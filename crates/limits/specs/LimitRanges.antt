@@ -1,5 +1,5 @@
 -- What a limit is worked out in: the ranges of document 01 that the limit rules ask for. Each follows from a test of
--- the paper. Assumes nothing.
+-- the paper.
 use mathlib.Core.Path.{_≡_}
 use mathlib.Core.Bool.{true}
 use mathlib.Core.List.{List}

@@ -1,5 +1,5 @@
 -- What each side takes: its farthest rate and limit, its repo rate, and before the first move its spread, its monitored
--- limit and, of both sides, the band. Assumes nothing.
+-- limit and, of both sides, the band.
 use Prim.Native.Nat.{ℕ, _+_, _-_, _*_}
 use lib.IntN.{ℤ}
 use Rattle.paper.specs.declared.Limits.{Limits}

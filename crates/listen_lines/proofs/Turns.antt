@@ -1,5 +1,5 @@
 -- What the functions need, on plain values: the parts of a line, one after the other, and the line of what is heard, by
--- the verdict's number. Assumes nothing.
+-- the verdict's number.
 use mathlib.Core.Path.{_≡_}
 use mathlib.Core.Bool.{true, false}
 use mathlib.Core.List.{List, [], _∷_}

@@ -1,4 +1,4 @@
--- W-212, the program `listen`: the line of what is heard at a place of the input. Assumes nothing.
+-- W-212, the program `listen`: the line of what is heard at a place of the input.
 use mathlib.Core.List.{List, [], _∷_, _++_}
 use Prim.Native.Nat.{ℕ, _+_}
 use lib.Dec.{eqb}

@@ -1,4 +1,4 @@
--- WHAT A RUN HANDED OVER, where all of it was taken, are the lines of all that `read` delivered. Assumes nothing.
+-- WHAT A RUN HANDED OVER, where all of it was taken, are the lines of all that `read` delivered.
 use mathlib.Core.Path.{_≡_, refl, sym, ap, subst, _∙_}
 use mathlib.Core.Logic.{_⊎_, inl, inr}
 use mathlib.Core.Bool.{Bool, true, false}

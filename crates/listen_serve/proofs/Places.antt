@@ -1,5 +1,4 @@
 -- Where a message that is heard ends, how many bytes are not heard yet, and that one which is cut short leaves room.
--- Assumes nothing.
 use mathlib.Core.Path.{_≡_, refl, sym, ap, subst, _∙_}
 use mathlib.Core.Bool.{Bool, true, false, not, _&&_}
 use mathlib.Core.Logic.{_⊎_, inl, inr}

@@ -1,6 +1,6 @@
 -- Why the functions of the listener meet their contracts, as laws over lists, numbers and `Listening`: what a read
 -- delivers, the state after a line, one step, and all steps. No law speaks of memory, so that the proofs of the
--- functions only cite them. Assumes nothing.
+-- functions only cite them.
 use mathlib.Core.Path.{_≡_, refl, sym, ap, _∙_}
 use mathlib.Core.Bool.{Bool, true, false, not}
 use mathlib.Core.Logic.{_⊎_, inl, inr}

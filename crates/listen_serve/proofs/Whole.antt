@@ -1,5 +1,4 @@
--- A message that is heard whole is heard so whatever stands behind it: no byte past its own is looked at. Assumes
--- nothing.
+-- A message that is heard whole is heard so whatever stands behind it: no byte past its own is looked at.
 use mathlib.Core.Path.{_≡_, sym}
 use mathlib.Core.Bool.{false}
 use mathlib.Core.List.{List, _++_}

@@ -1,4 +1,4 @@
--- W-212, the program `listen`: the lines of a whole input. Assumes nothing.
+-- W-212, the program `listen`: the lines of a whole input.
 use mathlib.Core.List.{List, [], _∷_, _++_}
 use Prim.Native.Nat.{ℕ, zero, suc}
 use lib.Dec.{leb}

@@ -1,6 +1,6 @@
 -- docs/BROADCAST.md, "What `listen` prints", by examples: what is heard, and inputs of messages, each beside the lines
 -- that are printed of it, byte for byte. The figures are small, since the text of a number is computed in as many steps
--- as the number says. Assumes nothing.
+-- as the number says.
 use mathlib.Core.Path.{_≡_, refl}
 use mathlib.Core.Bool.{true, false}
 use mathlib.Core.List.{List, [], _∷_, _++_, map}

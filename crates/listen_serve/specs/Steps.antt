@@ -1,6 +1,5 @@
 -- W-212, the program `listen`, step by step: a step hears the message at its place, or reads on where the message is
 -- not whole yet, or is the last. What is delivered and what is handed over is what the evidence in the state says.
--- Assumes nothing.
 use mathlib.Core.Path.{_≡_}
 use mathlib.Core.Logic.{_⊎_}
 use mathlib.Core.Bool.{Bool, true, false, not, _&&_, _||_}

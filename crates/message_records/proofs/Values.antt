@@ -1,5 +1,5 @@
 -- Numbers as the values of a message, as laws over lists: the values still to write, written behind those written,
--- are the values of all numbers. Assumes nothing.
+-- are the values of all numbers.
 use mathlib.Core.Path.{_≡_, refl, sym, _∙_}
 use mathlib.Core.Bool.{Bool, true, false}
 use mathlib.Core.List.{List, map, append-nil}

@@ -1,6 +1,5 @@
 -- One turn of each loop over bytes, as laws over lists and numbers: the bytes still to write, written behind those
--- written, are the number's bytes, and the bytes still to read, behind those read, spell the number. Assumes
--- nothing.
+-- written, are the number's bytes, and the bytes still to read, behind those read, spell the number.
 use mathlib.Core.Path.{_≡_, refl, _∙_}
 use mathlib.Core.List.{List}
 use Prim.Native.Nat.{ℕ, zero, suc, _+_, _-_, _*_, _/_, _%_, _^_, _<_, _≤_}

@@ -1,4 +1,4 @@
--- Any two outcomes that a promise allows are equal. Assumes nothing.
+-- Any two outcomes that a promise allows are equal.
 use mathlib.Core.Path.{_≡_, sym, _∙_}
 use mathlib.Core.List.{List}
 use Prim.Native.Nat.{ℕ}

@@ -1,4 +1,4 @@
--- Two's complement as it is worked out: from the magnitude and the greatest number of the width. Assumes nothing.
+-- Two's complement as it is worked out: from the magnitude and the greatest number of the width.
 use mathlib.Core.Path.{_≡_, refl, sym}
 use mathlib.Core.Logic.{_⊎_, inl, inr}
 use mathlib.Core.Bool.{true, false}

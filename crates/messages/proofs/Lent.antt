@@ -1,5 +1,5 @@
 -- What the reader is lent are bytes, since a `&[u8]` holds nothing else; so what `heard-only` says of a buffer of bytes
--- holds of every buffer that is lent to it. Assumes nothing.
+-- holds of every buffer that is lent to it.
 use mathlib.Core.Path.{_≡_}
 use mathlib.Core.Bool.{true}
 use mathlib.Core.List.{List, [], _∷_}

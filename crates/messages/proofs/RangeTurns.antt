@@ -1,4 +1,4 @@
--- The walk over the fields of a message, on plain values: what is left decides for all. Assumes nothing.
+-- The walk over the fields of a message, on plain values: what is left decides for all.
 use mathlib.Core.Path.{_≡_, refl, sym, _∙_}
 use mathlib.Core.Bool.{Bool, true, false, not, _&&_}
 use mathlib.Core.List.{List}

@@ -1,5 +1,4 @@
--- Where the reader's tests lead, on plain values: what is heard at a place, by the first check that applies. Assumes
--- nothing.
+-- Where the reader's tests lead, on plain values: what is heard at a place, by the first check that applies.
 use mathlib.Core.Path.{_≡_, refl, sym, _∙_}
 use mathlib.Core.Bool.{true, false, not, _&&_}
 use mathlib.Core.List.{List}

@@ -1,6 +1,6 @@
 -- The walks of the writer and of the reader over the fields of a message, as laws over lists: the bytes still to
 -- write, written behind those written, are the message, and the values still to read, behind those read, are its
--- values. Assumes nothing.
+-- values.
 use mathlib.Core.Path.{_≡_, refl, sym, _∙_}
 use mathlib.Core.Bool.{true, _&&_}
 use mathlib.Core.List.{List, [], _∷_, _++_, append-nil}

@@ -1,4 +1,4 @@
--- What the writer answers and leaves, on plain values. Assumes nothing.
+-- What the writer answers and leaves, on plain values.
 use mathlib.Core.Path.{_≡_, sym, ap, _∙_}
 use mathlib.Core.Bool.{true, false}
 use mathlib.Core.List.{List, _++_}

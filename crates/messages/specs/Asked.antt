@@ -1,4 +1,4 @@
--- What the writer and the reader of fields ask of their callers. Assumes nothing.
+-- What the writer and the reader of fields ask of their callers.
 use mathlib.Core.Path.{_≡_}
 use mathlib.Core.Bool.{true}
 use mathlib.Core.List.{List}

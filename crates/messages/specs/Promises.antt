@@ -1,5 +1,4 @@
 -- What the writer and the reader promise, and what the reader of a whole message asks of the reader that calls it.
--- Assumes nothing.
 use mathlib.Core.Path.{_≡_}
 use mathlib.Core.List.{List}
 use Prim.Native.Nat.{ℕ, _+_, _≤_}

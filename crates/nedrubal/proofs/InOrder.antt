@@ -1,6 +1,6 @@
 -- Each export takes its numbers in the order that document 01's sentence on it names them, and then the statics in
 -- theirs. A contract goes by names, and would hold as well of a list with two of them exchanged; C goes by places. So
--- here `Post`, the plain reading of the `ensures`, is taken at numbers in their places. Assumes nothing.
+-- here `Post`, the plain reading of the `ensures`, is taken at numbers in their places.
 use mathlib.Core.Path.{_≡_}
 use mathlib.Core.List.{_∷_}
 use Prim.Native.Nat.{ℕ}

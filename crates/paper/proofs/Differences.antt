@@ -1,4 +1,4 @@
--- Laws of differences of either sign: what of them can be worked out in sums of naturals. Assumes nothing.
+-- Laws of differences of either sign: what of them can be worked out in sums of naturals.
 use mathlib.Core.Path.{_≡_, refl, sym, ap, _∙_}
 use mathlib.Core.Logic.{_⊎_, inl, inr}
 use Prim.Native.Nat.{ℕ, zero, suc, _+_, _-_, _*_, _≤_, _<_}

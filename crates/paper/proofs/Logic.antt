@@ -1,4 +1,4 @@
--- Small laws of tests, of choices and of order. Assumes nothing.
+-- Small laws of tests, of choices and of order.
 use mathlib.Core.Path.{_≡_, refl}
 use mathlib.Core.Logic.{_⊎_, inl, inr}
 use mathlib.Core.Bool.{Bool, true, false, _&&_}

@@ -1,6 +1,6 @@
 -- Laws of the one rounding rule, each said once over the way: what it is, that it is the only such number, that it
 -- keeps order, that it keeps what is a multiple already, and on which side of the quotient it stands. Then what is used
--- of one way alone. n/d ≤ m/e is said as n·e ≤ m·d. Assumes nothing.
+-- of one way alone. n/d ≤ m/e is said as n·e ≤ m·d.
 use mathlib.Core.Path.{_≡_, refl, ap, sym, _∙_}
 use mathlib.Core.Logic.{_⊎_, inl, inr}
 use mathlib.Core.Bool.{Bool, true, false}

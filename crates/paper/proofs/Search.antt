@@ -1,4 +1,4 @@
--- Laws of "the least ..": what is found passes, nothing below it does, and it is the only such number. Assumes nothing.
+-- Laws of "the least ..": what is found passes, nothing below it does, and it is the only such number.
 use mathlib.Core.Path.{_≡_, refl, sym, _∙_}
 use mathlib.Core.Logic.{_≢_, _⊎_, inl, inr, ⊎-elim}
 use mathlib.Core.Bool.{Bool, true, false}

@@ -1,4 +1,4 @@
--- "The least ..": the least number that passes a test, found by trying one number after the other. Assumes nothing.
+-- "The least ..": the least number that passes a test, found by trying one number after the other.
 use mathlib.Core.Bool.{Bool, true, false}
 use Prim.Native.Nat.{ℕ, zero, suc, _*_}
 use lib.Dec.{leb}

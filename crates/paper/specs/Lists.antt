@@ -1,4 +1,4 @@
--- A choice by a test, a figure for each of three, and tests over a list. Assumes nothing.
+-- A choice by a test, a figure for each of three, and tests over a list.
 use mathlib.Core.Bool.{Bool, true, false, _&&_, _||_}
 use mathlib.Core.List.{List, [], _∷_}
 use Prim.Native.Nat.{ℕ}

@@ -1,4 +1,4 @@
--- The numbers of document 01, "Units and ranges" and after, each by one name. Assumes nothing.
+-- The numbers of document 01, "Units and ranges" and after, each by one name.
 use Prim.Native.Nat.{ℕ}
 use lib.IntN.{ℤ, pos, negsuc}
 

@@ -1,6 +1,6 @@
 -- Document 01's ranges, both sides of each end: a value with one number at either end of its range is valid, and with
 -- that number one past either end it is not. Then grids, multiples of h, lengths of slices.
--- It may use the tests of Ranges, and the values of PinnedValues. Assumes nothing.
+-- It may use the tests of Ranges, and the values of PinnedValues.
 use mathlib.Core.Path.{_≡_, refl}
 use mathlib.Core.Bool.{Bool, true, false}
 use mathlib.Core.List.{List, [], _∷_, _++_, map}

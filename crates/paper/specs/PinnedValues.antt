@@ -1,6 +1,6 @@
 -- Values for the tables that pin the definitions (the other files named Pinned), each spelled as a row of numbers, so
 -- that a line changes one; a number left out counts as 0.
--- It may use the kinds of src/lib.rt, and of Ranges how a number is read. Assumes nothing.
+-- It may use the kinds of src/lib.rt, and of Ranges how a number is read.
 use mathlib.Core.Path.{_≡_, refl}
 use mathlib.Core.Bool.{Bool, true, false}
 use mathlib.Core.List.{List, [], _∷_, _++_, map}

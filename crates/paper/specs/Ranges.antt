@@ -1,5 +1,5 @@
 -- Document 01, "Units and ranges", with W-208's tentative rate and W-210's session: what is in range and on the grid,
--- and what a sound record is. Assumes nothing.
+-- and what a sound record is.
 use mathlib.Core.Bool.{Bool, true, false, _&&_, _||_}
 use mathlib.Core.List.{List, [], _∷_}
 use Prim.Native.Nat.{ℕ, zero, suc, _+_, _*_, _/_, _%_, _^_}

@@ -1,6 +1,6 @@
 -- Document 01, "Places of rounding", and W-209, "The shared rounding rule now says which way it goes": one rule over
 -- the ways down, half up and up, of which every rounding to a unit or to a grid is an instance. A quotient n/d is kept
--- as n and d until one of these places. Assumes nothing.
+-- as n and d until one of these places.
 use mathlib.Core.Bool.{Bool}
 use Prim.Native.Nat.{ℕ, suc, _+_, _-_, _*_, _/_, _≤_, _<_}
 use lib.Dec.{leb}

@@ -1,5 +1,5 @@
 -- Document 02, W-201: "The security's evaluation may take these limits or given ones." A day as it is asked for is a
--- day of document 01. Assumes nothing.
+-- day of document 01.
 use mathlib.Core.Bool.{Bool, true, false}
 use mathlib.Core.List.{List, [], _∷_}
 use Prim.Native.Nat.{ℕ}

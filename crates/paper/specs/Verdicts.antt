@@ -1,4 +1,4 @@
--- Document 01, "Numbers a member may see". Assumes nothing.
+-- Document 01, "Numbers a member may see".
 use mathlib.Core.Path.{_≡_}
 use mathlib.Core.Bool.{Bool, true, false, not}
 use mathlib.Core.List.{List, [], _∷_}

@@ -1,6 +1,6 @@
 -- What the figures of a bond are (W-206): a rate is the least multiple of h that covers the requirement and the
 -- minimum, held at the bond maximum, as a share's is; a limit is the two-decimal figure of what is left of the grown
--- price, rounded the way it says, and 0 where nothing is. Assumes nothing.
+-- price, rounded the way it says, and 0 where nothing is.
 use mathlib.Core.Path.{_≡_, ap, sym, _∙_}
 use mathlib.Core.Bool.{true, false, _&&_}
 use Prim.Native.Nat.{ℕ, _+_, _-_, _*_, _<_}

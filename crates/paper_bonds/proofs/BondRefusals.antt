@@ -1,5 +1,5 @@
 -- The numbers of the bond call (W-206): each is given exactly when its condition holds and none before it in the order
--- 6, 17, 7, 9 does, and 0 exactly when none does; a refusal has every figure 0. Assumes nothing.
+-- 6, 17, 7, 9 does, and 0 exactly when none does; a refusal has every figure 0.
 use mathlib.Core.Path.{_≡_, refl, sym, _∙_, ap}
 use mathlib.Core.Bool.{Bool, true, false}
 use mathlib.Core.List.{List}

@@ -1,5 +1,5 @@
 -- The limits of a bond off the book (W-206): each is the narrower of the band limit and that of the 20 per cent, taken
--- before they are rounded or after, and so they lie within the band. Assumes nothing.
+-- before they are rounded or after, and so they lie within the band.
 use mathlib.Core.Path.{_≡_}
 use mathlib.Core.Bool.{true}
 use mathlib.Core.List.{List}

@@ -1,5 +1,5 @@
 -- Document 02, W-206: bonds worked out from the definitions, on both sides of each line. A face value of 10,000 units
--- makes a unit a hundredth of a per cent, so that most figures can be read off. Assumes nothing.
+-- makes a unit a hundredth of a per cent, so that most figures can be read off.
 use mathlib.Core.Path.{_≡_, refl}
 use mathlib.Core.List.{List, [], _∷_, _++_, map}
 use Prim.Native.Nat.{ℕ, _+_, _*_}

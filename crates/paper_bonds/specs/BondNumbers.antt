@@ -1,4 +1,4 @@
--- The numbers of document 02, W-206, each by one name. Assumes nothing.
+-- The numbers of document 02, W-206, each by one name.
 use Prim.Native.Nat.{ℕ}
 
 -- the net evaluation, in hundredths of a per cent: "1 to 30,000"

@@ -1,5 +1,5 @@
 -- Document 02, W-206: clauses 8.10 and 11.1 of source document 001. What bonds share with shares is in `paper`, over
--- the kind of security (Limits) and over statics (Rates); here stands what is a bond's own. Assumes nothing.
+-- the kind of security (Limits) and over statics (Rates); here stands what is a bond's own.
 use mathlib.Core.Path.{_≡_}
 use mathlib.Core.Bool.{Bool, true, false, not, _&&_, _||_}
 use mathlib.Core.List.{List, [], _∷_, map}

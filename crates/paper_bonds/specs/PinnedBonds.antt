@@ -1,6 +1,6 @@
 -- Document 02's W-206 on both sides of its lines, where BondCases has no figure: the ranges, the number of cash flows,
 -- the order 6, 17, 7, 9, each term's band, and a repo band that was worked out. It may use Bonds, the rows of BondCases
--- and the tests of PinnedRanges. Assumes nothing.
+-- and the tests of PinnedRanges.
 use mathlib.Core.Path.{_≡_, refl}
 use mathlib.Core.Bool.{Bool, true, false, _&&_}
 use mathlib.Core.List.{List, [], _∷_, _++_, map}

@@ -1,6 +1,6 @@
 -- No version of the definitions that refuses everything meets these laws: every admission in range is accepted by every
 -- fresh table that has a slot, and its record is sound, so that no later call takes it for no such id.
--- It may use every definition of document 01, and the laws of Slots and Refusals. Assumes nothing.
+-- It may use every definition of document 01, and the laws of Slots and Refusals.
 use mathlib.Core.Path.{_≡_, refl, ap}
 use mathlib.Core.Bool.{Bool, true, false, not, _&&_}
 use mathlib.Core.List.{List, [], _∷_}

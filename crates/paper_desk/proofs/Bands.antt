@@ -1,5 +1,5 @@
 -- W-209: where a limit that is rounded inward stands; an accepted evaluation writes no band that is crossed; and a move
--- never takes its side inward, so that a moved band crosses only if it was crossed before. Assumes nothing.
+-- never takes its side inward, so that a moved band crosses only if it was crossed before.
 use mathlib.Core.Path.{_≡_, refl}
 use mathlib.Core.Bool.{Bool, true, false, not}
 use mathlib.Core.List.{List}

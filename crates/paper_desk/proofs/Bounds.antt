@@ -1,5 +1,5 @@
 -- Laws of the rate rules' sizes: how far the volatility, the least step and the tentative rate go. Both sides, shares
--- and interest, use them. Assumes nothing.
+-- and interest, use them.
 use mathlib.Core.Path.{_≡_, ap, sym}
 use mathlib.Core.Logic.{_⊎_, inl, inr}
 use mathlib.Core.Bool.{Bool, true, false, _&&_}

@@ -1,5 +1,4 @@
 -- Demand 3, shown once for both sides: a volatility that the rule carries on from a first one stays near the exact one.
--- Assumes nothing.
 use Prim.Native.Nat.{ℕ}
 use native.Mathlib.Numerals.{add-one}
 use native.Mathlib.Omega.{arith}

@@ -1,5 +1,4 @@
--- One step of the carried volatility against the exact one, over whole numbers alone and any weights b and a. Assumes
--- nothing.
+-- One step of the carried volatility against the exact one, over whole numbers alone and any weights b and a.
 use mathlib.Core.Path.{_≡_, refl}
 use mathlib.Core.Logic.{_⊎_, inl, inr}
 use Prim.Native.Nat.{ℕ, zero, suc, _+_, _-_, _*_, _≤_, _<_}

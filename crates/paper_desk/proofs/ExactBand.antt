@@ -1,5 +1,5 @@
 -- W-209: a share's band is its exact band rounded inward, and is crossed exactly where no multiple of the grid lies in
--- the exact band. `demands` says it of every sequence of calls. Assumes nothing.
+-- the exact band. `demands` says it of every sequence of calls.
 use mathlib.Core.Path.{_≡_, refl}
 use mathlib.Core.Bool.{Bool, true, false}
 use Prim.Native.Nat.{ℕ, _*_, _%_, _≤_, _<_}

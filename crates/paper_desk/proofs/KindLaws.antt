@@ -1,6 +1,6 @@
 -- Laws over the kind of security: what either kind makes of a limit keeps order, so that the narrower of two limits can
 -- be taken before they are rounded or after; and so a band limit is the narrower of the farthest limit and the
--- monitored one. Assumes nothing.
+-- monitored one.
 use mathlib.Core.Path.{_≡_, refl, ap, sym, _∙_}
 use mathlib.Core.Logic.{_⊎_, inl, inr}
 use mathlib.Core.Bool.{Bool, true, false}

@@ -1,5 +1,5 @@
 -- Demand 2's rate: the exact comparison is the inequality of real numbers, and the rate of a level is the least
--- multiple of the step that covers the requirement and the minimum, held at the maximum. Assumes nothing.
+-- multiple of the step that covers the requirement and the minimum, held at the maximum.
 use mathlib.Core.Path.{_≡_, refl, sym, _∙_, ap}
 use mathlib.Core.Logic.{_⊎_, inl, inr}
 use mathlib.Core.Bool.{Bool, true, false, _&&_}

@@ -1,5 +1,4 @@
--- How large a limit and delta can be, and that each stands on the grid: what a sound record asks of its limits. Assumes
--- nothing.
+-- How large a limit and delta can be, and that each stands on the grid: what a sound record asks of its limits.
 use mathlib.Core.Path.{_≡_, refl, sym, ap}
 use mathlib.Core.Bool.{Bool, true, false}
 use Prim.Native.Nat.{ℕ, _+_, _-_, _*_, _/_, _%_, _≤_, _<_}

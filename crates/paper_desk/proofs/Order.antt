@@ -1,7 +1,7 @@
 -- W-213: the laws of single figures that the order of a live record rests on. The rate of a level of more days and of a
 -- greater minimum is not the lesser. A range limit of a greater rate lies farther out, and none lies on the other side
 -- of the evaluation, which stands on the grid; moves take it farther out. A band limit whose repo rate lies on its own
--- side of 0 does not pass the evaluation either. `demands` puts them together. Assumes nothing.
+-- side of 0 does not pass the evaluation either. `demands` puts them together.
 use mathlib.Core.Path.{_≡_, refl}
 use mathlib.Core.Logic.{_⊎_, inl, inr}
 use mathlib.Core.Bool.{Bool, true, false}

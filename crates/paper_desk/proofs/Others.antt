@@ -1,4 +1,4 @@
--- A call about one id leaves every other slot as it was, and the table as long as it was. Assumes nothing.
+-- A call about one id leaves every other slot as it was, and the table as long as it was.
 use mathlib.Core.Path.{_≡_, refl, sym, _∙_, ap}
 use mathlib.Core.Logic.{_≢_, _⊎_, inl, inr}
 use mathlib.Core.Bool.{Bool, true, false}

@@ -1,6 +1,6 @@
 -- General sentences of document 01, as laws of the definitions: what a quote, a move and an evaluation change and
 -- leave, what a refusal and a read answer, who is refused with 1. Their figures stand in the tables of specs/Pinned...
--- It may use every definition of document 01, and the laws of Slots and Refusals. Assumes nothing.
+-- It may use every definition of document 01, and the laws of Slots and Refusals.
 use mathlib.Core.Path.{_≡_, refl, sym, _∙_, ap}
 use mathlib.Core.Logic.{_≢_, _⊎_, inl, inr}
 use mathlib.Core.Bool.{Bool, true, false, not, _&&_, and-false}

@@ -1,5 +1,5 @@
 -- Demand 1: each number is given exactly when its condition holds and no earlier one in the paper's order does; a
--- refused call leaves the table as it was, and answers its number with every figure 0. Assumes nothing.
+-- refused call leaves the table as it was, and answers its number with every figure 0.
 use mathlib.Core.Path.{_≡_, refl, sym, _∙_, ap}
 use mathlib.Core.Logic.{_⊎_, inl, inr, ⊎-elim}
 use mathlib.Core.Bool.{Bool, true, false, not, _&&_}

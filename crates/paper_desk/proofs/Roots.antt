@@ -1,5 +1,4 @@
 -- W ≥ √X + √Y on whole numbers: the test with A = W² - X - Y, A ≥ 0 and A² ≥ 4·X·Y, is the inequality of real numbers.
--- Assumes nothing.
 use mathlib.Core.Path.{_≡_, refl}
 use mathlib.Core.Logic.{_⊎_, inl, inr}
 use Prim.Native.Nat.{ℕ, zero, suc, _+_, _-_, _*_, _≤_, _<_}

@@ -1,4 +1,4 @@
--- Laws of the table: the first slot with an id, and what a store there leaves alone. Assumes nothing.
+-- Laws of the table: the first slot with an id, and what a store there leaves alone.
 use mathlib.Core.Path.{_≡_, refl, sym, _∙_, ap, subst}
 use mathlib.Core.Logic.{_≢_}
 use mathlib.Core.Bool.{Bool, true, false, _&&_}

@@ -1,4 +1,4 @@
--- The least multiple of the step is what its name says. Assumes nothing.
+-- The least multiple of the step is what its name says.
 use mathlib.Core.Path.{_≡_}
 use mathlib.Core.Bool.{Bool}
 use Prim.Native.Nat.{ℕ, _*_, _≤_, _<_}

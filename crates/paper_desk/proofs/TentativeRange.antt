@@ -1,5 +1,4 @@
 -- W-208: what t is, how far the tentative rate runs, and the theorem that no evaluation takes it out of its range.
--- Assumes nothing.
 use mathlib.Core.Path.{_≡_, refl}
 use mathlib.Core.Bool.{Bool, true, false}
 use Prim.Native.Nat.{ℕ, _+_, _*_, _/_, _%_, _≤_, _<_}

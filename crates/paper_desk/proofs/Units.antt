@@ -1,4 +1,4 @@
--- Laws of "Units and ranges" and of the gateway's answers. Assumes nothing.
+-- Laws of "Units and ranges" and of the gateway's answers.
 use mathlib.Core.Path.{_≡_, refl, sym, _∙_}
 use mathlib.Core.Logic.{_⊎_, inl, inr}
 use mathlib.Core.Bool.{Bool, true, false, not, _&&_}

@@ -1,4 +1,4 @@
--- One evaluation with the model on: the new volatility stays near the exact one. Assumes nothing.
+-- One evaluation with the model on: the new volatility stays near the exact one.
 use mathlib.Core.Path.{_≡_, refl, sym, _∙_, ap}
 use mathlib.Core.Logic.{_⊎_, inl, inr}
 use mathlib.Core.Bool.{Bool, true, false, _&&_}

@@ -1,4 +1,4 @@
--- Document 01, "Ranges, bands, alerts, moves" (17.5): near sides and alerts. Assumes nothing.
+-- Document 01, "Ranges, bands, alerts, moves" (17.5): near sides and alerts.
 use mathlib.Core.Bool.{Bool, true, false, _&&_}
 use Prim.Native.Nat.{ℕ, _+_}
 use lib.Dec.{leb, ltb}

@@ -1,5 +1,5 @@
 -- Document 01, "What the desk covers" and "Numbers a member may see": the calls over the table, and sequences of
--- them. Assumes nothing.
+-- them.
 use mathlib.Core.Bool.{Bool, true, false, not, _&&_, _||_}
 use mathlib.Core.List.{List, [], _∷_}
 use Prim.Native.Nat.{ℕ, zero, suc, _+_, _-_}

@@ -1,4 +1,4 @@
--- Document 01, "The evaluation (6.1)", with the roundings (a) to (d). Assumes nothing.
+-- Document 01, "The evaluation (6.1)", with the roundings (a) to (d).
 use mathlib.Core.Bool.{Bool, true, false, _&&_, _||_}
 use mathlib.Core.List.{List, [], _∷_, map}
 use Prim.Native.Nat.{ℕ, zero, suc, _+_, _*_, min, max}

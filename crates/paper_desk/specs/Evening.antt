@@ -1,5 +1,4 @@
 -- Document 02, W-210, with clauses 11.3, 17.4 and 17.5: what the evening session changes of alerts and of moves.
--- Assumes nothing.
 use mathlib.Core.Bool.{Bool, true, false, _&&_}
 use Prim.Native.Nat.{ℕ, _+_}
 use lib.Dec.{ltb}

@@ -1,4 +1,4 @@
--- Demand 3: the volatility worked out again as an exact fraction under the root. Assumes nothing.
+-- Demand 3: the volatility worked out again as an exact fraction under the root.
 use mathlib.Core.Path.{_≡_}
 use mathlib.Core.Logic.{_⊎_}
 use mathlib.Core.List.{List, [], _∷_}

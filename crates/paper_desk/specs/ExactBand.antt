@@ -1,6 +1,6 @@
 -- W-209, "An order at the published limit can lie outside the exact band": which prices lie in the exact band of a
 -- share's term. It is said of each price, by document 01's products in whole numbers: no quotient is chosen, and none
--- is rounded. Assumes nothing.
+-- is rounded.
 use mathlib.Core.Path.{_≡_}
 use mathlib.Core.Bool.{true}
 use Prim.Native.Nat.{ℕ, _%_}

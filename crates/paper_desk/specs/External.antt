@@ -1,5 +1,4 @@
--- Document 02, W-211: what is received of the outside source, and the pair that a record keeps after it. Assumes
--- nothing.
+-- Document 02, W-211: what is received of the outside source, and the pair that a record keeps after it.
 use mathlib.Core.Bool.{Bool, true, false, _||_}
 use Prim.Native.Nat.{ℕ}
 use lib.Ieee.{Float}

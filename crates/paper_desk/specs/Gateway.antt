@@ -1,6 +1,6 @@
 -- Document 01, "What the desk covers": "The C gateway reaches the rate rules and the limit rules with plain numbers ..
 -- Each such call gives one figure, or minus the refusal number." Its numbers, the statics in the order of the table
--- among them (`givenOf` of `paper`), come from C one by one (`nedrubal`). Assumes nothing.
+-- among them (`givenOf` of `paper`), come from C one by one (`nedrubal`).
 use mathlib.Core.Bool.{Bool, true, false, not, _&&_}
 use mathlib.Core.List.{List, [], _∷_}
 use Prim.Native.Nat.{ℕ}

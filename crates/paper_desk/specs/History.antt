@@ -1,4 +1,4 @@
--- What happened to one security in a sequence of calls on a fresh table. Assumes nothing.
+-- What happened to one security in a sequence of calls on a fresh table.
 use mathlib.Core.Path.{_≡_}
 use mathlib.Core.Bool.{Bool, true, false, _&&_}
 use mathlib.Core.List.{List, [], _∷_}

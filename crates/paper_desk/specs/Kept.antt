@@ -1,5 +1,5 @@
 -- What every accepted call keeps: a record that is sound, and whose upper range limits are no farther than its moves
--- can have brought them; and what a call leaves as it was. Assumes nothing.
+-- can have brought them; and what a call leaves as it was.
 use mathlib.Core.Path.{_≡_}
 use mathlib.Core.Bool.{Bool, _&&_, _||_}
 use mathlib.Core.List.{List}

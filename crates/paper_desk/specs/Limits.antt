@@ -1,5 +1,5 @@
 -- Document 01, "Ranges, bands, alerts, moves" (10.1, 11.2, 17.8, 18): the limits, rounded by (g); document 02, W-206
--- (11.1): those of a bond. What the two kinds of security share is said over the kind. Assumes nothing.
+-- (11.1): those of a bond. What the two kinds of security share is said over the kind.
 use mathlib.Core.Bool.{Bool, true, false}
 use Prim.Native.Nat.{ℕ, zero, suc, _+_, _-_, _*_, _≤_, _<_, min, max}
 use lib.Dec.{ltb}

@@ -1,6 +1,6 @@
 -- Document 01, "Errors that look reasonable", and the empty versions: figures on which each of them would differ. They
 -- are small, so that no root is searched for long; the document's own cases stand in the crate `demands`.
--- It may use every definition of document 01, and the values of PinnedValues. Assumes nothing.
+-- It may use every definition of document 01, and the values of PinnedValues.
 use mathlib.Core.Path.{_≡_, refl}
 use mathlib.Core.List.{List, [], _∷_, _++_}
 use Prim.Native.Nat.{ℕ}

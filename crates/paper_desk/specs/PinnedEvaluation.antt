@@ -1,6 +1,6 @@
 -- Document 01, "The evaluation (6.1)", "The rates (7.1)" and the limits made from them, on both sides of their lines
 -- where the starred cases (Cases) have none.
--- It may use every definition of document 01, and the values of PinnedValues. Assumes nothing.
+-- It may use every definition of document 01, and the values of PinnedValues.
 use mathlib.Core.Path.{_≡_, refl}
 use mathlib.Core.List.{List, [], _∷_, _++_, map}
 use Prim.Native.Nat.{ℕ, _+_}

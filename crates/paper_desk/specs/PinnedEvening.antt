@@ -1,7 +1,7 @@
 -- Document 02, W-210, "The evening session": alerts and moves in main and in the evening on both sides of their lines,
 -- what an opening leaves, and which session a record is in, on case 1's security. The general sentences are laws
 -- (proofs/PinnedLaws).
--- It may use every definition of document 01, and the values of PinnedValues and PinnedSession. Assumes nothing.
+-- It may use every definition of document 01, and the values of PinnedValues and PinnedSession.
 use mathlib.Core.Path.{_≡_, refl}
 use mathlib.Core.List.{List, [], _∷_, _++_, map}
 use Prim.Native.Nat.{ℕ, suc}

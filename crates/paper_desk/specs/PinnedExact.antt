@@ -1,6 +1,6 @@
 -- Demand 3's exact square in figures: "the exact square kept as N/D in square millionths" of a share (document 01). The
 -- carried figures stand beside it, so that a square that followed them, or a move that was rounded, is refused here.
--- It may use every definition of document 01, and the values of PinnedValues. Assumes nothing.
+-- It may use every definition of document 01, and the values of PinnedValues.
 use mathlib.Core.Path.{_≡_, refl}
 use mathlib.Core.List.{List, [], _∷_, map}
 use Prim.Native.Nat.{ℕ, _+_, _*_, _/_, _%_}

@@ -1,6 +1,6 @@
 -- Document 01's C gateway in plain numbers: the answers of its three calls for Z, at both ends of each range and one
 -- past, and "4 (a static out of range)" before "6 (another value out of range or off the grid)".
--- It may use Gateway, and the values of PinnedValues. Assumes nothing.
+-- It may use Gateway, and the values of PinnedValues.
 use mathlib.Core.Path.{_≡_, refl}
 use mathlib.Core.List.{List, [], _∷_, map}
 use Prim.Native.Nat.{ℕ, _+_}

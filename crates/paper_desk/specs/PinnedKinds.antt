@@ -1,5 +1,5 @@
 -- The limit of a bond (W-206) on both sides of its roundings, and what the kinds of security do not share: a bond's
--- farthest limit grows, and a share's does not. It may use Limits. Assumes nothing.
+-- farthest limit grows, and a share's does not. It may use Limits.
 use mathlib.Core.Path.{_≡_, refl}
 use mathlib.Core.List.{List, [], _∷_}
 use Prim.Native.Nat.{ℕ}

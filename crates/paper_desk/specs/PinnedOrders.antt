@@ -1,6 +1,6 @@
 -- Document 01, "Numbers a member may see": the order of refusal of each call, and each number on both sides of its
 -- condition, on tables that a line spells out. Each answer is the first of all the numbers that apply.
--- It may use every definition of document 01, and the values of PinnedValues. Assumes nothing.
+-- It may use every definition of document 01, and the values of PinnedValues.
 use mathlib.Core.Path.{_≡_, refl}
 use mathlib.Core.List.{List, [], _∷_, _++_, map}
 use Prim.Native.Nat.{ℕ, zero, suc, _+_}

@@ -1,6 +1,6 @@
 -- Document 02, W-202, on both sides of its lines: t where the replacement wins, and where it does not. W-208: its t
 -- beside S_max, with the rates, which S_max holds.
--- It may use Rates, and the values of PinnedValues. Assumes nothing.
+-- It may use Rates, and the values of PinnedValues.
 use mathlib.Core.Path.{_≡_, refl}
 use mathlib.Core.List.{List, [], _∷_, map}
 use Prim.Native.Nat.{ℕ, _+_}

@@ -1,6 +1,6 @@
 -- What the calls of a list answer, from a table on; and one list of calls that is answered every number 0 to 13, 16
 -- (W-205), 18 and 19 (W-210), and 20 (W-211). So the definitions are not empty.
--- It may use every definition of document 01, and the values of PinnedValues. Assumes nothing.
+-- It may use every definition of document 01, and the values of PinnedValues.
 use mathlib.Core.Path.{_≡_, refl}
 use mathlib.Core.Bool.{true}
 use mathlib.Core.List.{List, [], _∷_, _++_, map}

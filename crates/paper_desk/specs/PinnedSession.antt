@@ -1,6 +1,6 @@
 -- Document 01, "Ranges, bands, alerts, moves", within a day: near sides and alerts on both sides of their lines, and
 -- what a move and an evaluation leave, on case 1's security. The general sentences are laws (proofs/PinnedLaws).
--- It may use every definition of document 01, and the values of PinnedValues. Assumes nothing.
+-- It may use every definition of document 01, and the values of PinnedValues.
 use mathlib.Core.Path.{_≡_, refl}
 use mathlib.Core.List.{List, [], _∷_, _++_, map}
 use Prim.Native.Nat.{ℕ, suc, _+_}

@@ -1,4 +1,4 @@
--- Document 01, "The rates (7.1)"; document 02, W-202 and W-208. Assumes nothing.
+-- Document 01, "The rates (7.1)"; document 02, W-202 and W-208.
 use mathlib.Core.Path.{_≡_}
 use mathlib.Core.Logic.{_⊎_}
 use mathlib.Core.Bool.{Bool, true, false, _&&_}

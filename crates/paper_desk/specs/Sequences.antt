@@ -1,5 +1,5 @@
 -- The figures of a security from its history: from its admission, its accepted evaluations and receipts of outside
--- prices, and its accepted quotes, moves and openings of the evening since the last evaluation. Assumes nothing.
+-- prices, and its accepted quotes, moves and openings of the evening since the last evaluation.
 use mathlib.Core.Bool.{Bool, true, false}
 use mathlib.Core.List.{List, [], _∷_}
 use Prim.Native.Nat.{ℕ, _+_, _-_, _*_}

@@ -1,6 +1,6 @@
 -- What belongs to one side: its limit, its near second, its repo rate; and the other side. Which calls answer a
 -- record, and which are receipts of outside prices. The laws of proofs/PinnedLaws speak of them.
--- It may use the kinds of src/lib.rt, delta and the calls of Desk. Assumes nothing.
+-- It may use the kinds of src/lib.rt, delta and the calls of Desk.
 use mathlib.Core.Path.{_≡_}
 use mathlib.Core.Bool.{Bool, true, false}
 use Prim.Native.Nat.{ℕ}

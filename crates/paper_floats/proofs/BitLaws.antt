@@ -1,4 +1,4 @@
--- Which price the bits of a float are, one test of the definition after the other (W-211). Assumes nothing.
+-- Which price the bits of a float are, one test of the definition after the other (W-211).
 use mathlib.Core.Path.{_≡_, refl, sym, ap, _∙_}
 use mathlib.Core.Logic.{_⊎_, inl, inr}
 use mathlib.Core.Bool.{Bool, true, false, _&&_}

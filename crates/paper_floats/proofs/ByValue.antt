@@ -1,5 +1,5 @@
 -- W-211's rule on the bits of a float is the rule on its value, for every float that 64 bits hold; and so what is no
--- number, the infinities, the zeros and what is below zero are refused. Assumes nothing.
+-- number, the infinities, the zeros and what is below zero are refused.
 use mathlib.Core.Path.{_≡_, refl, sym, ap, _∙_, subst}
 use mathlib.Core.Bool.{Bool, true, false}
 use Prim.Native.Nat.{ℕ, _*_}

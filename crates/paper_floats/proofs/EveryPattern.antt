@@ -1,5 +1,5 @@
 -- Of every one of the 2^64 patterns W-211's answer is the right one, and the only one: the price whose units are the
--- exact value rounded half up, or that there is none. A greater float is never fewer units. Assumes nothing.
+-- exact value rounded half up, or that there is none. A greater float is never fewer units.
 use mathlib.Core.Path.{_≡_, refl, sym, ap, _∙_, subst}
 use mathlib.Core.Bool.{Bool, true, false, _&&_}
 use Prim.Native.Nat.{ℕ, _^_, _≤_, _<_}

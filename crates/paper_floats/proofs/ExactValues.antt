@@ -1,5 +1,5 @@
 -- A float has the value that its bits give (W-211): `exactValue` of every finite pattern, that of a subnormal number
--- too, is the value of the logic's own float of that pattern, m·2^e. Assumes nothing.
+-- too, is the value of the logic's own float of that pattern, m·2^e.
 use mathlib.Core.Path.{_≡_, ap, _∙_, subst}
 use mathlib.Core.Logic.{_⊎_, inl, inr}
 use mathlib.Core.Bool.{Bool, true, false, cond}

@@ -1,5 +1,5 @@
 -- W-211's floats in figures: each line has the 64 bits of a float and the units of its price, 0 where it is none; then
--- what the floats next to zero are worth. It may use Floats. Assumes nothing.
+-- what the floats next to zero are worth. It may use Floats.
 use mathlib.Core.Path.{_≡_, refl}
 use mathlib.Core.List.{List, [], _∷_, map}
 use Prim.Native.Nat.{ℕ}

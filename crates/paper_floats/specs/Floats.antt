@@ -1,7 +1,7 @@
 -- Document 02, W-211, external prices (clause 6.1), its first part: which price a 64-bit float is. "Take the float's
 -- exact value, from its bits, and round it half up to a ten-thousandth." It is none where it "isn't finite, isn't above
 -- zero, or rounds to 0 or above 10^10 units". The format is binary64 of IEEE 754: a bit of sign, 11 bits of exponent,
--- 52 bits of fraction. Assumes nothing.
+-- 52 bits of fraction.
 use mathlib.Core.Path.{_≡_}
 use mathlib.Core.Bool.{Bool, true, _&&_}
 use Prim.Native.Nat.{ℕ, _+_, _-_, _*_, _/_, _%_, _^_, max}

@@ -1,5 +1,4 @@
--- What the figures of a key maturity are, in W-201's words: each the least that is asked for, with no maximum. Assumes
--- nothing.
+-- What the figures of a key maturity are, in W-201's words: each the least that is asked for, with no maximum.
 use mathlib.Core.Path.{_≡_, refl}
 use mathlib.Core.Bool.{Bool, true, false}
 use Prim.Native.Nat.{ℕ, _+_, _*_, _%_, _≤_, max}

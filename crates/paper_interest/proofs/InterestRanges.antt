@@ -1,5 +1,4 @@
 -- The interest side's figures stay in range: those of an accepted evening are in the ranges of the next (W-201).
--- Assumes nothing.
 use mathlib.Core.Path.{_≡_, refl}
 use mathlib.Core.Bool.{Bool, true, false, _&&_}
 use mathlib.Core.List.{List, [], _∷_, map}

@@ -1,5 +1,5 @@
 -- The numbers of an interest call (W-201): each is given exactly when its condition holds, 6 before 14, and a refusal
--- has every figure 0. Assumes nothing.
+-- has every figure 0.
 use mathlib.Core.Path.{_≡_, refl, sym, _∙_, ap}
 use mathlib.Core.Bool.{Bool, true, false, not}
 use mathlib.Core.List.{List}

@@ -1,5 +1,5 @@
 -- Numbers of either sign, lifted onto the natural ones: what W-201 rounds, and a rate, worked out from a sum that is
--- never below zero. Assumes nothing.
+-- never below zero.
 use mathlib.Core.Path.{_≡_, refl, sym, ap, _∙_}
 use mathlib.Core.Logic.{_⊎_, inl, inr}
 use Prim.Native.Nat.{ℕ, zero, suc, _+_, _-_, _*_, _/_, _≤_, _<_}

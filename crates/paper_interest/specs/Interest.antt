@@ -1,5 +1,4 @@
--- Document 02, W-201: clauses 14.4, 14.6 and 16.2 of source document 001, in basis points and in roubles. Assumes
--- nothing.
+-- Document 02, W-201: clauses 14.4, 14.6 and 16.2 of source document 001, in basis points and in roubles.
 use mathlib.Core.Path.{_≡_}
 use mathlib.Core.Bool.{Bool, true, false, not, _&&_}
 use mathlib.Core.List.{List, [], _∷_, map}

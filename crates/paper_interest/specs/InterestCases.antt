@@ -1,4 +1,4 @@
--- Document 02, W-201: evenings worked out from the definitions, on both sides of each line. Assumes nothing.
+-- Document 02, W-201: evenings worked out from the definitions, on both sides of each line.
 use mathlib.Core.Path.{_≡_, refl}
 use mathlib.Core.List.{List, [], _∷_, map}
 use Prim.Native.Nat.{ℕ, _<_}

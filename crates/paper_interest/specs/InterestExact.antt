@@ -1,6 +1,6 @@
 -- Demand 3 on the interest side (document 02, W-201): it "reads for the interest volatility too, in bp, each evening
 -- given the last one's figures; the exact one is worked out from the first volatility given and the whole rates that
--- each change is taken from". Assumes nothing.
+-- each change is taken from".
 use mathlib.Core.Path.{_≡_}
 use mathlib.Core.List.{List, [], _∷_}
 use Prim.Native.Nat.{ℕ, _*_, _<_}

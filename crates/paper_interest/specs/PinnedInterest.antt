@@ -1,6 +1,6 @@
 -- Document 02's W-201 on both sides of its lines, where InterestCases has no figure: the ranges, the lengths, 6 before
 -- 14, b, and the maturities outside the key ones.
--- It may use Interest, the figures of InterestCases and the tests of PinnedRanges. Assumes nothing.
+-- It may use Interest, the figures of InterestCases and the tests of PinnedRanges.
 use mathlib.Core.Path.{_≡_, refl}
 use mathlib.Core.Bool.{Bool, true, false, not}
 use mathlib.Core.List.{List, [], _∷_, _++_, map}

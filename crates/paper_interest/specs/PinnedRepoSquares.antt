@@ -1,5 +1,5 @@
 -- Demand 3's exact square of the interest side in figures, in square bp (document 02, W-201).
--- It may use InterestExact, the evenings of InterestCases, and `partsOf` of the shares' table. Assumes nothing.
+-- It may use InterestExact, the evenings of InterestCases, and `partsOf` of the shares' table.
 use mathlib.Core.Path.{_≡_, refl}
 use mathlib.Core.List.{List, [], _∷_}
 use Prim.Native.Nat.{ℕ}

@@ -1,5 +1,5 @@
 -- A number at a width reads back from its bytes, and bytes are the only writing of the number that they spell; the same
--- of two's complement. Once, over the width. Assumes nothing.
+-- of two's complement. Once, over the width.
 use mathlib.Core.Path.{_≡_, refl, ap, ap₂}
 use mathlib.Core.Bool.{Bool, true, false}
 use mathlib.Core.List.{List, [], _∷_}

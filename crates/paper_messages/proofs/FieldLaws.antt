@@ -1,6 +1,5 @@
 -- The laws of the encoding, once over the list of fields: values in range read back from their bytes, whatever follows
--- them; bytes are the only writing of the values that they say; and every kind's widths hold its ranges. Assumes
--- nothing.
+-- them; bytes are the only writing of the values that they say; and every kind's widths hold its ranges.
 use mathlib.Core.Path.{_≡_, refl, sym, ap}
 use mathlib.Core.Bool.{Bool, true, false, _&&_}
 use mathlib.Core.List.{List, [], _∷_, _++_, append-assoc}

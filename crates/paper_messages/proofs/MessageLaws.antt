@@ -1,5 +1,5 @@
 -- The laws of a whole message, for every kind: how long it is, that it reads back, and that it is the only encoding of
--- its fields. Assumes nothing.
+-- its fields.
 use mathlib.Core.Path.{_≡_, refl, sym, ap, _∙_}
 use mathlib.Core.Bool.{Bool, true, false, _&&_}
 use mathlib.Core.List.{List, _++_, append-assoc}

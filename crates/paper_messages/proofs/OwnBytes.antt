@@ -1,6 +1,5 @@
 -- The reader looks at the bytes of the message and at no other: where another text has the message's own bytes, the
 -- answer is the same, whatever it is but 21. So it is where another buffer has the same bytes up to the next message.
--- Assumes nothing.
 use mathlib.Core.Path.{_≡_, refl, sym, ap, _∙_}
 use mathlib.Core.Bool.{Bool, true, false, not, _&&_}
 use mathlib.Core.List.{List, [], _∷_}

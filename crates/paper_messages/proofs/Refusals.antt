@@ -1,6 +1,5 @@
 -- 21 to 24 exactly when they are said: each number is answered exactly when its condition holds and none before it in
 -- the order does, and 0 exactly when none does; a refusal has zeros, and the writer's leaves the buffer untouched.
--- Assumes nothing.
 use mathlib.Core.Path.{_≡_, refl, sym, ap, _∙_}
 use mathlib.Core.Bool.{true, false}
 use mathlib.Core.List.{List}

@@ -1,5 +1,5 @@
 -- W-212: "What is written reads back to the same fields", of the writer itself: what it leaves in the buffer is heard
--- at its first byte as the message that it was given. Assumes nothing.
+-- at its first byte as the message that it was given.
 use mathlib.Core.Path.{_≡_, ap, _∙_}
 use mathlib.Core.Bool.{true}
 use mathlib.Core.List.{List, [], _++_}

@@ -1,5 +1,4 @@
--- W-212: what a call is broadcast as, as bytes: "Kinds: 1 statics, 2 rates and ranges, 3 bands, 4 move." Assumes
--- nothing.
+-- W-212: what a call is broadcast as, as bytes: "Kinds: 1 statics, 2 rates and ranges, 3 bands, 4 move."
 use mathlib.Core.List.{List, [], _∷_, _++_}
 use Prim.Native.Nat.{ℕ, _+_, _-_, _*_}
 use Rattle.paper.specs.declared.Answer.{Answer}

@@ -1,5 +1,5 @@
 -- W-212: "at fixed widths, little-endian: .. negatives in two's complement". A number as bytes, and a signed number as
--- a number of so many bytes. Assumes nothing.
+-- a number of so many bytes.
 use mathlib.Core.Bool.{Bool}
 use mathlib.Core.List.{List, [], _∷_}
 use Prim.Native.Nat.{ℕ, zero, suc, _+_, _-_, _*_, _/_, _%_, _^_, _<_}

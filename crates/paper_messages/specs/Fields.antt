@@ -1,6 +1,5 @@
 -- W-212: the fields of each kind of message, in the order, at the widths and with the ranges that docs/BROADCAST.md
 -- lists; "prices, limits and volatility eight bytes, ids, rates and other numbers four, yes/no one (0 or 1)".
--- Assumes nothing.
 use mathlib.Core.List.{List, [], _∷_, _++_, map}
 use Prim.Native.Nat.{ℕ, _+_, _-_}
 use lib.Dec.{eqb}

@@ -1,6 +1,6 @@
 -- W-212: "Send each record as a message: a four-byte length of what follows, little-endian, a two-byte kind, then the
 -- fields at fixed widths". What a message's bytes are, when a message is valid, what the writer answers and leaves, and
--- what the reader hears. Assumes nothing.
+-- what the reader hears.
 use mathlib.Core.Path.{_≡_}
 use mathlib.Core.Bool.{Bool, true, false, not, _&&_}
 use mathlib.Core.List.{List, [], _∷_, _++_}

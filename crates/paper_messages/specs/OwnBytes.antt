@@ -1,5 +1,4 @@
 -- The bytes that the reader looks at, and when two texts are heard alike: what proofs/OwnBytes.antt is stated with.
--- Assumes nothing.
 use mathlib.Core.Path.{_≡_}
 use mathlib.Core.Bool.{true}
 use mathlib.Core.List.{List}

@@ -1,5 +1,5 @@
 -- docs/BROADCAST.md, "What `broadcast` writes", by examples: of each call the messages that it sends, and the bytes of
--- an accepted and of a refused one. Assumes nothing.
+-- an accepted and of a refused one.
 use mathlib.Core.Path.{_≡_, refl}
 use mathlib.Core.List.{List, [], _∷_, _++_, map}
 use Prim.Native.Nat.{ℕ, _+_}

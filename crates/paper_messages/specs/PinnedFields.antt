@@ -1,5 +1,5 @@
 -- W-212: the range of each field of each kind, as docs/BROADCAST.md lists it, both sides of each end; and what is heard
--- of a message that is refused, or of an unknown kind. Assumes nothing.
+-- of a message that is refused, or of an unknown kind.
 use mathlib.Core.Path.{_≡_, refl}
 use mathlib.Core.Bool.{Bool, false}
 use mathlib.Core.List.{List, [], _∷_, _++_, map}

@@ -1,4 +1,4 @@
--- W-212: one message of each kind, byte for byte, and both sides of each refusal, worked out by hand. Assumes nothing.
+-- W-212: one message of each kind, byte for byte, and both sides of each refusal, worked out by hand.
 use mathlib.Core.Path.{_≡_, refl}
 use mathlib.Core.Bool.{Bool, true, false}
 use mathlib.Core.List.{List, [], _∷_, _++_, map}

@@ -1,5 +1,5 @@
 -- W-212: the messages of one record, field by field, every figure but the statics another number, so that no two fields
--- can be exchanged. Assumes nothing.
+-- can be exchanged.
 use mathlib.Core.Path.{_≡_, refl}
 use mathlib.Core.List.{List, [], _∷_, _++_, map}
 use lib.IntN.{ℤ, pos, negsuc}

@@ -1,5 +1,5 @@
 -- W-212: the message of each record. Kind 1 is of an admission's id and statics, 2 and 3 of a record after an
--- evaluation, 4 of a record after a move of a side. Assumes nothing.
+-- evaluation, 4 of a record after a move of a side.
 use mathlib.Core.List.{List, [], _∷_, _++_, map}
 use Prim.Native.Nat.{ℕ}
 use lib.Dec.{ltb}

@@ -1,6 +1,6 @@
 -- Asking why agrees with `evaluate` on the number, whatever is asked; of a refusal it names what the first fault that
 -- applies is; and the price, the volatility, the tentative rate and the rate of each level that an evaluation writes
--- are what its reasons say. Assumes nothing.
+-- are what its reasons say.
 use mathlib.Core.Path.{_≡_, refl, sym, ap, _∙_}
 use mathlib.Core.Logic.{_⊎_, ⊎-elim}
 use mathlib.Core.Bool.{Bool, true, false}

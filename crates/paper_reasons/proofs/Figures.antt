@@ -1,5 +1,5 @@
 -- A reason's figure is the figure: the price on the grid, the weight, the volatility, the tentative rate and the rate
--- of a level are what the reason that is named says. Assumes nothing.
+-- of a level are what the reason that is named says.
 use mathlib.Core.Path.{_≡_, refl, sym, ap, _∙_}
 use mathlib.Core.Bool.{Bool, true, false, not, _&&_}
 use mathlib.Core.List.{List, [], _∷_, map}

@@ -1,5 +1,5 @@
 -- The first reason that holds: it is named exactly where its condition holds and no earlier one's does, and exactly one
--- is named. One law for every list of reasons. Assumes nothing.
+-- is named. One law for every list of reasons.
 use mathlib.Core.Path.{_≡_, refl, sym, _∙_}
 use mathlib.Core.Logic.{_⊎_, ⊎-elim}
 use mathlib.Core.Bool.{Bool, true, false}

@@ -1,5 +1,5 @@
 -- The rate of a level: the requirement, the minimum or the maximum sets it; and one comparison a step below a rate that
--- covers the requirement tells whether it is the least. Assumes nothing.
+-- covers the requirement tells whether it is the least.
 use mathlib.Core.Path.{_≡_, refl, sym, ap, subst, _∙_}
 use mathlib.Core.Logic.{_⊎_, inl, inr}
 use mathlib.Core.Bool.{Bool, true, false, not, _&&_}

@@ -1,5 +1,5 @@
 -- The price: it equals one of the figures that set it, so one of the four reasons holds, and the figure of the reason
--- that is named, on the grid, is the evaluation. Assumes nothing.
+-- that is named, on the grid, is the evaluation.
 use mathlib.Core.Path.{_≡_, refl, sym, ap, _∙_}
 use mathlib.Core.Logic.{_⊎_, inl, inr}
 use mathlib.Core.Bool.{Bool, true, false, not, _&&_, _||_}

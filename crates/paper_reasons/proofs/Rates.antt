@@ -1,4 +1,4 @@
--- The weight, the replacement and the tentative rate: of the reasons of each one holds. Assumes nothing.
+-- The weight, the replacement and the tentative rate: of the reasons of each one holds.
 use mathlib.Core.Path.{_≡_, refl, sym, ap, _∙_}
 use mathlib.Core.Logic.{_⊎_, inl, inr}
 use mathlib.Core.Bool.{Bool, true, false, not, _&&_}

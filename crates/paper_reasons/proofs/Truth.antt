@@ -1,5 +1,5 @@
 -- Why is true: each reason that is said of an accepted evaluation is the true one and says the figure that the record
--- then has, a refused one has none, and the number is that of `evaluate`. Assumes nothing.
+-- then has, a refused one has none, and the number is that of `evaluate`.
 use mathlib.Core.Path.{_≡_, refl, sym, ap, subst, _∙_}
 use mathlib.Core.Bool.{true, false}
 use mathlib.Core.List.{List, map}

@@ -1,5 +1,4 @@
 -- Document 02, W-207: "For a refused evaluation it names the number and the first row, else term, at fault, or none."
--- Assumes nothing.
 use mathlib.Core.Bool.{Bool, not}
 use mathlib.Core.List.{List, [], _∷_, _++_}
 use Prim.Native.Nat.{ℕ, suc}

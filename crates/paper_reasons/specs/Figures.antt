@@ -1,5 +1,4 @@
--- W-207: the figure of documents 01 and 02 that each reason names. `None` names no figure, which stands as 0. Assumes
--- nothing.
+-- W-207: the figure of documents 01 and 02 that each reason names. `None` names no figure, which stands as 0.
 use mathlib.Core.Bool.{Bool}
 use mathlib.Core.List.{List}
 use Prim.Native.Nat.{ℕ, _-_}

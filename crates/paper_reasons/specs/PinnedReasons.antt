@@ -1,6 +1,6 @@
 -- W-207 on days that a line spells out: what is named where two reasons hold at once, on both sides of each line, and
 -- what is at fault in a refusal. Cases 7 and 9 of document 01 are among them.
--- It may use every definition of document 01, and the values of PinnedValues. Assumes nothing.
+-- It may use every definition of document 01, and the values of PinnedValues.
 use mathlib.Core.Path.{_≡_, refl}
 use mathlib.Core.List.{List, [], _∷_, _++_}
 use Prim.Native.Nat.{ℕ, _+_}

@@ -1,4 +1,4 @@
--- W-207: every word of a reason, letter by letter; docs/EVENING.md, "Why", has the same. Assumes nothing.
+-- W-207: every word of a reason, letter by letter; docs/EVENING.md, "Why", has the same.
 use mathlib.Core.Path.{_≡_, refl}
 use mathlib.Core.List.{List, [], _∷_}
 use Prim.Native.Nat.{ℕ}

@@ -1,5 +1,5 @@
 -- Document 02, W-207: which reason is named for each figure of an accepted evaluation. Each reason has its condition,
--- in the words of document 01, and the first that holds is named. Assumes nothing.
+-- in the words of document 01, and the first that holds is named.
 use mathlib.Core.Path.{_≡_}
 use mathlib.Core.Bool.{Bool, true, false, not, _&&_}
 use mathlib.Core.List.{List, [], _∷_}

@@ -1,6 +1,6 @@
 -- Document 02, W-207: "Each reason is proved to be the true one". What is promised of all that asking why says, beside
 -- the record that the evaluation finds and the one that it writes. proofs/Truth.antt proves it, for every table and
--- every evaluation. Assumes nothing.
+-- every evaluation.
 use mathlib.Core.Path.{_≡_}
 use mathlib.Core.Logic.{_⊎_}
 use mathlib.Core.Bool.{Bool, true, false}

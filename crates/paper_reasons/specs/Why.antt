@@ -1,4 +1,4 @@
--- Document 02, W-207: what is said of an evaluation, accepted or refused. Assumes nothing.
+-- Document 02, W-207: what is said of an evaluation, accepted or refused.
 use mathlib.Core.Bool.{Bool}
 use mathlib.Core.List.{List, map}
 use Prim.Native.Nat.{ℕ, _*_}

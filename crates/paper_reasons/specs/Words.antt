@@ -1,5 +1,5 @@
 -- W-207: the number and the word of each reason. A number is the reason's place in document 02's list, 0 where there is
--- none; a word is document 02's, spelled in bytes. Assumes nothing.
+-- none; a word is document 02's, spelled in bytes.
 use mathlib.Core.List.{List, [], _∷_}
 use Prim.Native.Nat.{ℕ}
 use Rattle.paper_reasons.specs.declared.PriceReason.{PriceReason}

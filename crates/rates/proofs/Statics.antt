@@ -1,4 +1,4 @@
--- What the statics of 7.1, and a sound record, are to the rate rules. Assumes nothing.
+-- What the statics of 7.1, and a sound record, are to the rate rules.
 use mathlib.Core.Path.{_≡_}
 use mathlib.Core.Bool.{true, _&&_}
 use Prim.Native.Nat.{ℕ, _≤_}

@@ -1,5 +1,5 @@
 -- What the volatility's rule chooses (7.1), by the test of x: the replacement where it passes, and x where it does not,
--- each with its flag. Assumes nothing.
+-- each with its flag.
 use mathlib.Core.Path.{_≡_}
 use mathlib.Core.Bool.{Bool, true, false}
 use Prim.Native.Nat.{ℕ}

@@ -1,4 +1,4 @@
--- What the rate rules ask of the figures that they are given: no more than "Units and ranges" allows. Assumes nothing.
+-- What the rate rules ask of the figures that they are given: no more than "Units and ranges" allows.
 use Prim.Native.Nat.{ℕ, _≤_}
 use Rattle.paper.specs.declared.Rate.{Rate}
 use Rattle.paper.specs.declared.Statics.{Statics}

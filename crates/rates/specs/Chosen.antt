@@ -1,4 +1,4 @@
--- What the volatility's rule chooses (7.1), in the form that the code hands on. Assumes nothing.
+-- What the volatility's rule chooses (7.1), in the form that the code hands on.
 use Prim.Native.Nat.{ℕ}
 use Rattle.paper.specs.declared.Model.{Model}
 use Rattle.paper_desk.specs.Rates.{volatilityOf, replacementWins}

@@ -1,4 +1,4 @@
--- Laws of the least rate that reaches a level's requirement. Assumes nothing.
+-- Laws of the least rate that reaches a level's requirement.
 use mathlib.Core.Path.{_≡_, refl, ap, sym, subst, _∙_}
 use mathlib.Core.Logic.{_⊎_, inl, inr}
 use mathlib.Core.Bool.{Bool, true, false, _&&_, _||_}

@@ -1,4 +1,4 @@
--- What valid statics are to the rate rules, and each level's own. Assumes nothing.
+-- What valid statics are to the rate rules, and each level's own.
 use mathlib.Core.Path.{_≡_}
 use mathlib.Core.Bool.{Bool, true, false, _&&_}
 use Prim.Native.Nat.{ℕ, _%_, _≤_}

@@ -1,5 +1,4 @@
--- What the rules of 7.1 ask of the statics and of a tentative rate: no more than "Units and ranges" allows. Assumes
--- nothing.
+-- What the rules of 7.1 ask of the statics and of a tentative rate: no more than "Units and ranges" allows.
 use mathlib.Core.Path.{_≡_}
 use Prim.Native.Nat.{ℕ, _+_, _%_, _≤_}
 use Rattle.paper.specs.declared.Statics.{Statics}

@@ -1,6 +1,6 @@
 -- The rate of a level (7.1), as the code finds it: with both sides times rh_1, v ≥
 -- sqrt(rh_L/rh_1)·(tentative·sqrt((rh_1 + m)/rh_1) + liq) says that v·rh_1 is at least the sum of the roots of two
--- whole numbers. Assumes nothing.
+-- whole numbers.
 use mathlib.Core.Path.{_≡_}
 use mathlib.Core.Bool.{Bool, not, _&&_, _||_}
 use Prim.Native.Nat.{ℕ, _+_, _-_, _*_, _/_, _%_, _^_, _≤_}

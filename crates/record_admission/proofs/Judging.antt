@@ -1,5 +1,5 @@
 -- How the rule of an admission judges: the first check that applies refuses, in the order 4, 2, 3, and where none
--- applies the call is accepted. Assumes nothing.
+-- applies the call is accepted.
 use mathlib.Core.Path.{_≡_, refl}
 use mathlib.Core.Bool.{Bool, true, false, _&&_}
 use Rattle.paper.specs.declared.Admission.{Admission}

@@ -1,7 +1,7 @@
 -- For the proofs of the rules over a slot. The code asks `if !test`, and its test is the definition's, as the contract
 -- of the tested function says. `tested-true` is for the branch that goes on, `tested-false` for the one that refuses,
 -- and `known-sound` for what needs a sound record. The file uses the laws of `paper` and the definitions of `Effects`,
--- and no rule, since the rules use it. Assumes nothing.
+-- and no rule, since the rules use it.
 use mathlib.Core.Path.{_≡_, sym, _∙_}
 use mathlib.Core.Bool.{Bool, true, false, not, _&&_}
 use Rattle.paper.specs.Ranges.{validSlots, sound}

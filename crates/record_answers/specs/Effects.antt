@@ -1,5 +1,5 @@
 -- What a call makes of the slot that it found: where to store, what, and what to answer. Each is `step` of the paper on
--- one slot (proofs/Steps). Assumes nothing.
+-- one slot (proofs/Steps).
 use mathlib.Core.Bool.{Bool, true, false, not, _&&_}
 use mathlib.Core.List.{List, [], _∷_}
 use Prim.Native.Nat.{ℕ}

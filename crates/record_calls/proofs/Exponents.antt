@@ -1,5 +1,5 @@
 -- What the price of a float's bits comes to, by the bits above its fraction: below the least exponent and above that of
--- whole units there is none, and between them 64 bits hold the quotient that is rounded. Assumes nothing.
+-- whole units there is none, and between them 64 bits hold the quotient that is rounded.
 use mathlib.Core.Path.{_≡_, refl, sym, ap, _∙_}
 use mathlib.Core.Logic.{_⊎_, inl, inr}
 use mathlib.Core.Bool.{Bool, true, false}

@@ -1,5 +1,4 @@
--- How a rule judges: the first check that applies refuses, and where none applies the call is accepted. Assumes
--- nothing.
+-- How a rule judges: the first check that applies refuses, and where none applies the call is accepted.
 use mathlib.Core.Path.{_≡_, refl, sym}
 use mathlib.Core.Bool.{Bool, true, false, _&&_}
 use Prim.Native.Nat.{ℕ}

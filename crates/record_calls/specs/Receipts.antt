@@ -1,5 +1,5 @@
 -- What a receipt of outside prices comes to (W-211), by whether a float of it is bad and the pair that is kept after
--- it: of what was received nothing else is used. Assumes nothing.
+-- it: of what was received nothing else is used.
 use mathlib.Core.Path.{_≡_}
 use mathlib.Core.Bool.{Bool}
 use Rattle.paper.specs.declared.External.{External}

@@ -1,4 +1,4 @@
--- What an evaluation in hand says of 7, and what a day and a record in range are to the prices. Assumes nothing.
+-- What an evaluation in hand says of 7, and what a day and a record in range are to the prices.
 use mathlib.Core.Path.{_≡_, refl, sym, subst, _∙_}
 use mathlib.Core.Bool.{Bool, true, false, _&&_}
 use mathlib.Core.List.{List}

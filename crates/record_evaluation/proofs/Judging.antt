@@ -1,5 +1,4 @@
--- How an evaluation is judged: the first check that applies refuses, and where none applies it is accepted. Assumes
--- nothing.
+-- How an evaluation is judged: the first check that applies refuses, and where none applies it is accepted.
 use mathlib.Core.Path.{_≡_, refl, sym, ap, _∙_}
 use mathlib.Core.Bool.{Bool, true, false, not}
 use mathlib.Core.List.{List}

@@ -1,5 +1,5 @@
 -- What an evaluation comes to before it is answered: what `evaluate` stores and answers is made of it, and so is why
--- (W-207). Assumes nothing.
+-- (W-207).
 use mathlib.Core.Path.{_≡_}
 use mathlib.Core.Bool.{Bool, true, false, _||_}
 use mathlib.Core.List.{List}

@@ -1,5 +1,5 @@
 -- What a day in range and a sound record are to what an evaluation makes: the terms are valid, and the rates of the
--- figures are rates. Assumes nothing.
+-- figures are rates.
 use mathlib.Core.Path.{_≡_, refl}
 use mathlib.Core.Bool.{Bool, true, false}
 use mathlib.Core.List.{List, [], _∷_}

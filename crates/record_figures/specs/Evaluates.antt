@@ -1,5 +1,5 @@
 -- What an evaluation makes and writes, by its price: the paper works from the day's rows, of which the price is all
--- that a record takes. Assumes nothing.
+-- that a record takes.
 use mathlib.Core.Path.{_≡_}
 use mathlib.Core.Bool.{true}
 use mathlib.Core.List.{List}

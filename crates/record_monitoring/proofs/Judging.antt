@@ -1,5 +1,5 @@
 -- How the rules of a quote and of a move judge: the first check that applies refuses, and where none applies the call
--- is accepted. Assumes nothing.
+-- is accepted.
 use mathlib.Core.Path.{_≡_, refl, sym}
 use mathlib.Core.Bool.{Bool, true, false, not}
 use mathlib.Core.List.{List, [], _∷_, _++_}

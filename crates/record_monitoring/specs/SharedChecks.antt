@@ -1,4 +1,4 @@
--- The checks that a quote and a move share, in the order in which each has them. Assumes nothing.
+-- The checks that a quote and a move share, in the order in which each has them.
 use mathlib.Core.Bool.{Bool, not}
 use mathlib.Core.List.{List, [], _∷_}
 use Rattle.paper.specs.declared.Record.{Record}

@@ -1,5 +1,5 @@
 -- What is said of a slot, from what the evaluation comes to: the number and the fault of a refusal, the reasons of an
--- evaluation that is accepted. Assumes nothing.
+-- evaluation that is accepted.
 use mathlib.Core.Path.{_≡_, sym, ap, _∙_}
 use mathlib.Core.Bool.{true, false, or-true}
 use mathlib.Core.List.{List}

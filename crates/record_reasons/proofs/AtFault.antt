@@ -1,4 +1,4 @@
--- What the code finds at fault is what the paper names. Assumes nothing.
+-- What the code finds at fault is what the paper names.
 use mathlib.Core.Path.{_≡_, refl, sym, ap, _∙_}
 use mathlib.Core.Bool.{Bool, true, false, not, _&&_}
 use mathlib.Core.List.{List, [], _∷_, _++_, map}

@@ -1,5 +1,4 @@
--- The reasons by what is in hand are those of the paper, and what an accepted evaluation gives in hand. Assumes
--- nothing.
+-- The reasons by what is in hand are those of the paper, and what an accepted evaluation gives in hand.
 use mathlib.Core.Path.{_≡_, refl, sym, ap, subst, _∙_}
 use mathlib.Core.Bool.{Bool, true, false, not, _&&_, _||_}
 use mathlib.Core.List.{List, [], _∷_, map}

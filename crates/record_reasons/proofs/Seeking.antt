@@ -1,4 +1,4 @@
--- The walk for the first row at fault: what it keeps at a place, and what each turn makes of that. Assumes nothing.
+-- The walk for the first row at fault: what it keeps at a place, and what each turn makes of that.
 use mathlib.Core.Path.{_≡_, refl, sym, ap, _∙_}
 use mathlib.Core.Bool.{Bool, true, false, _&&_}
 use mathlib.Core.List.{List, [], _∷_}

@@ -1,5 +1,5 @@
 -- The reasons of an accepted evaluation, by what is in hand once it is worked out: the price, the figures that it was
--- chosen from, and what was made of the record. Assumes nothing.
+-- chosen from, and what was made of the record.
 use mathlib.Core.Path.{_≡_}
 use mathlib.Core.Bool.{Bool, true, false, not, _&&_}
 use Prim.Native.Nat.{ℕ, _*_}

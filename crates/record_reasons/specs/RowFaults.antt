@@ -1,5 +1,4 @@
--- The first row, else term, at fault, as the code looks for it: one walk over the rows as they are lent. Assumes
--- nothing.
+-- The first row, else term, at fault, as the code looks for it: one walk over the rows as they are lent.
 use mathlib.Core.Path.{_≡_}
 use mathlib.Core.Bool.{Bool, true, not}
 use mathlib.Core.List.{List, []}

@@ -1,4 +1,4 @@
--- Why, of the slot that a call found. Assumes nothing.
+-- Why, of the slot that a call found.
 use mathlib.Core.List.{List}
 use lib.IntN.{ℤ}
 use Rattle.paper.specs.declared.Day.{Day}

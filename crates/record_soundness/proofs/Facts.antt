@@ -1,4 +1,4 @@
--- What a sound record is in plain numbers: the facts that a rule may use. Assumes nothing.
+-- What a sound record is in plain numbers: the facts that a rule may use.
 use mathlib.Core.Path.{_≡_}
 use mathlib.Core.Bool.{true}
 use mathlib.Core.List.{List}

@@ -1,5 +1,4 @@
 -- What a sound record and a valid quote are to what is written: that each limit, and each place of three, is in range.
--- Assumes nothing.
 use mathlib.Core.Path.{_≡_}
 use mathlib.Core.Bool.{true}
 use Prim.Native.Nat.{ℕ, _≤_, _<_}

@@ -1,5 +1,5 @@
 -- What is known when an admission is written, and what shifting three ranges asks of their numbers: no more than a
--- valid admission and a sound record give. Assumes nothing.
+-- valid admission and a sound record give.
 use mathlib.Core.Path.{_≡_}
 use mathlib.Core.Bool.{true}
 use mathlib.Core.List.{List}

@@ -1,5 +1,5 @@
 -- What a receipt of outside prices writes (W-211), by the pair that is then kept: of what was received a record takes
--- nothing else. Assumes nothing.
+-- nothing else.
 use mathlib.Core.Path.{_≡_}
 use Rattle.paper.specs.declared.External.{External}
 use Rattle.paper.specs.declared.Record.{Record}

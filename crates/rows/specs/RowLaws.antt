@@ -1,4 +1,4 @@
--- Laws of the day's rows: those from a place on, and what a row in range gives. Assumes nothing.
+-- Laws of the day's rows: those from a place on, and what a row in range gives.
 use mathlib.Core.Path.{_≡_}
 use mathlib.Core.Bool.{true, false}
 use mathlib.Core.List.{List}

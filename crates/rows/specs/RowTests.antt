@@ -1,4 +1,4 @@
--- What every row of a day is asked, so that one walk over the rows serves 6 and 16. Assumes nothing.
+-- What every row of a day is asked, so that one walk over the rows serves 6 and 16.
 use mathlib.Core.Path.{_≡_, refl}
 use mathlib.Core.Bool.{Bool, true, false, not, _&&_, _||_}
 use mathlib.Core.List.{List, [], _∷_, map}

@@ -1,4 +1,4 @@
--- The verdict's number decides whether an answer has figures: a refusal's number stands alone. Assumes nothing.
+-- The verdict's number decides whether an answer has figures: a refusal's number stands alone.
 use mathlib.Core.Path.{_≡_}
 use mathlib.Core.List.{List, []}
 use Prim.Native.Nat.{ℕ}

@@ -1,4 +1,4 @@
--- `decimal n` is the one text of n. Assumes nothing.
+-- `decimal n` is the one text of n.
 use mathlib.Core.Path.{_≡_, refl}
 use mathlib.Core.Bool.{Bool, true, false}
 use mathlib.Core.List.{List, [], _∷_, _++_}

@@ -1,4 +1,4 @@
--- The pieces of a text between the bytes that part it: a text is parted in one way. Assumes nothing.
+-- The pieces of a text between the bytes that part it: a text is parted in one way.
 use mathlib.Core.Path.{_≡_, refl, sym, ap, _∙_}
 use mathlib.Core.Bool.{Bool, true, false}
 use mathlib.Core.List.{List, [], _∷_, _++_}

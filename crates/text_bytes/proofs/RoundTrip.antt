@@ -1,5 +1,5 @@
 -- WHAT IS PRINTED IS READ BACK: the text of a number whose size is below 2^63 reads as that number, and the words of an
--- answer are the texts of its numbers. So two different answers never print alike. Assumes nothing.
+-- answer are the texts of its numbers. So two different answers never print alike.
 use mathlib.Core.Path.{_≡_, refl, sym, ap, _∙_}
 use mathlib.Core.Bool.{true}
 use mathlib.Core.List.{List, [], _∷_, _++_, map}

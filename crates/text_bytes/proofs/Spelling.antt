@@ -1,4 +1,4 @@
--- Which number a word spells: the one that is read, and no other. Assumes nothing.
+-- Which number a word spells: the one that is read, and no other.
 use mathlib.Core.Path.{_≡_, refl, sym, ap, _∙_}
 use mathlib.Core.Bool.{Bool, true, false}
 use mathlib.Core.List.{List, [], _∷_}

@@ -1,4 +1,4 @@
--- The words of a line, where the line is put together of blanks and words. Assumes nothing.
+-- The words of a line, where the line is put together of blanks and words.
 use mathlib.Core.Path.{_≡_, refl, ap, _∙_}
 use mathlib.Core.Bool.{Bool, true, false, _&&_}
 use mathlib.Core.List.{List, [], _∷_, _++_}

@@ -1,5 +1,5 @@
 -- docs/EVENING.md, "Lines and words": the evening's text is bytes; a line feed ends a line, and blanks part the
--- words of a line. Assumes nothing.
+-- words of a line.
 use mathlib.Core.Bool.{Bool, true, false, _||_, not}
 use mathlib.Core.List.{List, [], _∷_}
 use Prim.Native.Char.{code}

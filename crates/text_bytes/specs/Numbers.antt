@@ -1,4 +1,4 @@
--- docs/EVENING.md, "Numbers": how a number is written, and which number a word spells. Assumes nothing.
+-- docs/EVENING.md, "Numbers": how a number is written, and which number a word spells.
 use mathlib.Core.Bool.{Bool, _&&_}
 use mathlib.Core.List.{List, [], _∷_, _++_}
 use Prim.Native.Nat.{ℕ, zero, suc, _+_, _-_, _*_, _/_, _%_, _<_}

@@ -1,4 +1,4 @@
--- A text in pieces: none has a byte that parts them, and a byte that parts stands between each two. Assumes nothing.
+-- A text in pieces: none has a byte that parts them, and a byte that parts stands between each two.
 use mathlib.Core.Path.{_≡_}
 use mathlib.Core.Bool.{Bool, false}
 use mathlib.Core.List.{List, [], _∷_, _++_}

@@ -1,4 +1,4 @@
--- The bits of a signed number by its sign, and the patterns that are no number's. Assumes nothing.
+-- The bits of a signed number by its sign, and the patterns that are no number's.
 use mathlib.Core.Path.{_≡_, refl, sym, subst, _∙_}
 use mathlib.Core.Bool.{true, false, true≢false}
 use Prim.Native.Nat.{ℕ, _-_, _%_, _^_, _<_, _≤_}

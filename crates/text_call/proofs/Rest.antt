@@ -1,4 +1,4 @@
--- What stands behind a place of a list, also where the list is shorter. Assumes nothing.
+-- What stands behind a place of a list, also where the list is shorter.
 use mathlib.Core.Path.{_≡_, refl, sym, ap, _∙_}
 use mathlib.Core.Bool.{Bool, true, false}
 use mathlib.Core.List.{List, [], _∷_}

@@ -1,4 +1,4 @@
--- A term of an evaluation or of a bond by its place, as the code reads it. Assumes nothing.
+-- A term of an evaluation or of a bond by its place, as the code reads it.
 use mathlib.Core.Bool.{Bool}
 use mathlib.Core.List.{List}
 use Prim.Native.Nat.{ℕ, _+_}

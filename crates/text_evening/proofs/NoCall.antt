@@ -1,5 +1,5 @@
 -- A line that is no call changes neither the table nor what is kept, and is answered "bad" and its number, or nothing
--- where lines are told with messages; a line of blanks changes nothing either, and has no answer. Assumes nothing.
+-- where lines are told with messages; a line of blanks changes nothing either, and has no answer.
 use mathlib.Core.Path.{_≡_, refl, ap, _∙_}
 use mathlib.Core.Bool.{Bool, true, false}
 use mathlib.Core.Logic.{_⊎_, inl, inr}

@@ -1,5 +1,5 @@
 -- docs/EVENING.md, "An evening": what lines do, one after the other, to the table and to what is kept, and what
--- is answered to them. Assumes nothing.
+-- is answered to them.
 use mathlib.Core.List.{List, [], _∷_, _++_}
 use Prim.Native.Nat.{ℕ, _+_}
 use lib.Dec.{ltb}

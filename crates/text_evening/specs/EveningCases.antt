@@ -1,5 +1,5 @@
 -- docs/EVENING.md, "An evening", by examples: an evening of a few lines from its start, as each program tells it; what
--- it leaves; and what is told of each call. Assumes nothing.
+-- it leaves; and what is told of each call.
 use mathlib.Core.Path.{_≡_, refl}
 use mathlib.Core.List.{List, [], _∷_, _++_, map}
 use Prim.Native.Nat.{ℕ, _+_}

@@ -1,5 +1,5 @@
 -- What is known of the two calls of C: how much was offered and came, how much was handed over and taken. Which bytes
--- came, and where those that were taken went, is C's part. Assumes nothing.
+-- came, and where those that were taken went, is C's part.
 use mathlib.Core.Path.{_≡_, refl}
 use mathlib.Core.Bool.{Bool, true, false, not, _&&_}
 use mathlib.Core.List.{List}

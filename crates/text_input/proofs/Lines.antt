@@ -1,4 +1,4 @@
--- The next line of the input, however it came to stand in the buffer. Assumes nothing.
+-- The next line of the input, however it came to stand in the buffer.
 use mathlib.Core.Path.{_≡_, refl, sym, ap, _∙_}
 use mathlib.Core.Logic.{_⊎_, ⊎-elim, inl, inr}
 use mathlib.Core.Bool.{Bool, true, false, not}

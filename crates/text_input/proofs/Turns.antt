@@ -1,4 +1,4 @@
--- One turn of each loop over the input, on plain values. Assumes nothing.
+-- One turn of each loop over the input, on plain values.
 use mathlib.Core.Path.{_≡_, refl, sym, ap, _∙_}
 use mathlib.Core.Logic.{_⊎_, ⊎-elim, inl, inr}
 use mathlib.Core.Bool.{Bool, true, false}

@@ -1,4 +1,4 @@
--- What is left of the input, and the next line of it. Assumes nothing.
+-- What is left of the input, and the next line of it.
 use mathlib.Core.Path.{_≡_}
 use mathlib.Core.Logic.{_⊎_}
 use mathlib.Core.Bool.{true, false}

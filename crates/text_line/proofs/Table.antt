@@ -1,4 +1,4 @@
--- The table of the calls, entry by entry. Assumes nothing.
+-- The table of the calls, entry by entry.
 use mathlib.Core.Path.{_≡_, refl, sym, _∙_}
 use mathlib.Core.Bool.{Bool, true, false}
 use mathlib.Core.Logic.{_⊎_, inl, inr}

@@ -1,5 +1,4 @@
 -- One turn of the loop over a line's words, on plain values: what is left of the words leads to the same meaning.
--- Assumes nothing.
 use mathlib.Core.Path.{_≡_, refl, sym, ap, _∙_}
 use mathlib.Core.Bool.{Bool, true, false}
 use mathlib.Core.List.{List, [], _∷_, _++_}

@@ -1,4 +1,4 @@
--- What the code's answer and the lent numbers say of a line. Assumes nothing.
+-- What the code's answer and the lent numbers say of a line.
 use mathlib.Core.Path.{_≡_}
 use mathlib.Core.Bool.{Bool, true, false}
 use mathlib.Core.List.{List, [], _∷_, _++_}

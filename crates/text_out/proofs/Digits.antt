@@ -1,4 +1,4 @@
--- The last digits of a number, as many as it has, are its text. Assumes nothing.
+-- The last digits of a number, as many as it has, are its text.
 use mathlib.Core.Path.{_≡_, refl, sym, ap, _∙_}
 use mathlib.Core.Bool.{Bool, true, false}
 use mathlib.Core.List.{List, [], _∷_, _++_}

@@ -1,5 +1,4 @@
--- One turn of each loop, on plain values: what is left of a word, or of the numbers, leads to the same bytes. Assumes
--- nothing.
+-- One turn of each loop, on plain values: what is left of a word, or of the numbers, leads to the same bytes.
 use mathlib.Core.Path.{_≡_, refl}
 use mathlib.Core.List.{List, [], _∷_}
 use Prim.Native.Nat.{ℕ, suc, _+_, _-_, _*_, _≤_, _<_}

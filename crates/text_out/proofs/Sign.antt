@@ -1,5 +1,5 @@
 -- The text of a signed number by the test of its sign: below zero a minus and the digits of its size, otherwise the
--- digits alone. `put_signed` cites the two laws at the end. Assumes nothing.
+-- digits alone. `put_signed` cites the two laws at the end.
 use mathlib.Core.Path.{_≡_, refl, ap, _∙_}
 use mathlib.Core.List.{List, [], _∷_, _++_}
 use Rattle.text_bytes.specs.Numbers.{decimal, signed}

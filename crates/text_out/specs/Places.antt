@@ -1,4 +1,4 @@
--- What the code counts with where it spells a number: its last digits, and how many digits it has. Assumes nothing.
+-- What the code counts with where it spells a number: its last digits, and how many digits it has.
 use mathlib.Core.List.{List, [], _∷_, _++_}
 use Prim.Native.Nat.{ℕ, zero, suc, _+_, _-_, _/_, _%_, _^_, _≤_, _<_}
 use Rattle.text_bytes.specs.Bytes.{digitZero}

@@ -1,4 +1,4 @@
--- How many bytes a line may take of what is appended here: a word, and the numbers of a day's rows. Assumes nothing.
+-- How many bytes a line may take of what is appended here: a word, and the numbers of a day's rows.
 use Prim.Native.Nat.{ℕ, _+_, _*_}
 use Rattle.paper.specs.Numbers.{allNumbersMost}
 use Rattle.text_out.specs.Places.{nextSignedBytes}

@@ -1,5 +1,5 @@
 -- Numbers that are appended, a blank before each. THE LAW is `both`: what two calls told one after the other is one
--- list of numbers. Assumes nothing.
+-- list of numbers.
 use mathlib.Core.Path.{_≡_, refl, sym, ap, _∙_}
 use mathlib.Core.List.{List, [], _∷_, _++_, append-nil, append-assoc}
 use Prim.Native.Nat.{ℕ, _+_, _≤_}

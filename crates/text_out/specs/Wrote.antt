@@ -1,4 +1,4 @@
--- Text that is appended. THE LAW is `then`: what two calls wrote one after the other is one text. Assumes nothing.
+-- Text that is appended. THE LAW is `then`: what two calls wrote one after the other is one text.
 use mathlib.Core.Path.{_≡_, refl, sym, ap, _∙_}
 use mathlib.Core.List.{List, [], _++_, append-assoc}
 use Prim.Native.Nat.{ℕ, zero, _+_, _-_, _≤_, _<_}

@@ -1,4 +1,4 @@
--- What a word more does to the numbers that are read of a line. Assumes nothing.
+-- What a word more does to the numbers that are read of a line.
 use mathlib.Core.Path.{_≡_, refl}
 use mathlib.Core.Bool.{true, false}
 use mathlib.Core.List.{List, [], _∷_}

@@ -1,4 +1,4 @@
--- What is written is read, what is read is written, and THE READING OF A LINE IS UNIQUE. Assumes nothing.
+-- What is written is read, what is read is written, and THE READING OF A LINE IS UNIQUE.
 use mathlib.Core.Path.{_≡_, refl, sym, ap, _∙_}
 use mathlib.Core.Bool.{Bool, true, false, not}
 use mathlib.Core.List.{List, [], _∷_, _++_}

@@ -1,6 +1,5 @@
 -- docs/EVENING.md, "The answers", byte for byte: of each call, of an interest line and of a bond line one that is
 -- accepted and one that is refused. The figures count up and are all different, so that each is seen at its place.
--- Assumes nothing.
 use mathlib.Core.Path.{_≡_, refl}
 use mathlib.Core.Bool.{true, false}
 use mathlib.Core.List.{List, [], _∷_, _++_, map}

@@ -1,5 +1,5 @@
 -- docs/EVENING.md, "The calls", by examples: of each call a line whose numbers count up, beside the call that it asks
--- for, so that each number is seen at the place that its name has. `asked` computes them all. Assumes nothing.
+-- for, so that each number is seen at the place that its name has. `asked` computes them all.
 use mathlib.Core.Path.{_≡_, refl}
 use mathlib.Core.List.{List, [], _∷_, _++_}
 use Prim.Native.String.{String}

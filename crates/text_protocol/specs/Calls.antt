@@ -1,5 +1,5 @@
 -- docs/EVENING.md, "The calls": what each call is given, by the names of its numbers; and the call of document 01 (or
--- of W-201, W-206, W-210 or W-211) that a line is. Assumes nothing.
+-- of W-201, W-206, W-210 or W-211) that a line is.
 use mathlib.Core.Bool.{Bool, true, false}
 use mathlib.Core.List.{List}
 use Prim.Native.Nat.{ℕ, _-_}

@@ -1,5 +1,5 @@
 -- docs/EVENING.md, "A pair of terms in an evaluation" (document 02, W-201): what the three latest accepted
--- interest lines answered is kept. Assumes nothing.
+-- interest lines answered is kept.
 use mathlib.Core.Bool.{Bool, _&&_}
 use Prim.Native.Nat.{ℕ}
 use lib.Dec.{eqb}

@@ -1,5 +1,5 @@
 -- docs/EVENING.md, "A pair of terms in an evaluation", by examples: three pairs that are kept, each found by both of its
--- terms, and what an accepted and a refused interest line leave of them. Assumes nothing.
+-- terms, and what an accepted and a refused interest line leave of them.
 use mathlib.Core.Path.{_≡_, refl}
 use Prim.Native.Nat.{ℕ}
 use lib.IntN.{pos}

@@ -1,4 +1,4 @@
--- docs/EVENING.md, "Which line is which call": what a line of the evening's text says. Assumes nothing.
+-- docs/EVENING.md, "Which line is which call": what a line of the evening's text says.
 use mathlib.Core.Bool.{Bool, false, _&&_, _||_}
 use mathlib.Core.List.{List, [], _∷_, _++_}
 use Prim.Native.Nat.{ℕ, suc, _+_, _-_}

@@ -1,5 +1,5 @@
 -- docs/EVENING.md, by examples: lines of examples/evening.txt, those of it that are no call, and both sides of each
--- rule, each beside its meaning. `meanings` computes them all. Assumes nothing.
+-- rule, each beside its meaning. `meanings` computes them all.
 use mathlib.Core.Path.{_≡_, refl}
 use mathlib.Core.Bool.{true, false}
 use mathlib.Core.List.{List, [], _∷_, _++_, map}

@@ -1,5 +1,5 @@
 -- docs/EVENING.md, "The calls": the word of each call, and the names of the numbers that follow it, in their order. A
--- call more is a line more of `forms`. Assumes nothing.
+-- call more is a line more of `forms`.
 use mathlib.Core.Path.{_≡_, refl}
 use mathlib.Core.Bool.{Bool, true, false}
 use mathlib.Core.List.{List, [], _∷_, _++_}

@@ -1,5 +1,5 @@
 -- docs/EVENING.md, "Why" (document 02, W-207): answers to evaluations, byte for byte: of one that is
--- accepted, of a share that is not modelled, and of refusals. Assumes nothing.
+-- accepted, of a share that is not modelled, and of refusals.
 use mathlib.Core.Path.{_≡_, refl}
 use mathlib.Core.List.{List, [], _∷_, _++_}
 use Prim.Native.Nat.{ℕ}

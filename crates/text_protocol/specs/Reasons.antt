@@ -1,6 +1,5 @@
 -- docs/EVENING.md, "Why" (document 02, W-207): the words of the answer to an evaluation where it is said why, in their
 -- order, and its bytes. Which reason is named is `whyOn` of paper_reasons, and each reason's word is there too.
--- Assumes nothing.
 use mathlib.Core.List.{List, [], _∷_, _++_}
 use Prim.Native.Nat.{ℕ}
 use Rattle.paper.specs.Lists.{pick}

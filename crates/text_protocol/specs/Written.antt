@@ -1,6 +1,6 @@
 -- docs/EVENING.md, "Which line is which call", as a relation: which bytes are a call, said by how they are put
 -- together and not by how they are read. `says-reads` and `reads-says` (proofs/Reading.antt) prove that it and
--- `meaning` agree. Assumes nothing.
+-- `meaning` agree.
 use mathlib.Core.Path.{_≡_}
 use mathlib.Core.Bool.{true}
 use mathlib.Core.List.{List, [], _∷_, _++_}

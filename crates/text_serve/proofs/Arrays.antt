@@ -1,6 +1,5 @@
 -- The types and the machine values of the lent arrays, of a way of telling, of a state, of a line that was heard and of
 -- what the desk said.
--- Assumes nothing.
 use mathlib.Core.Path.{_≡_, ap, subst}
 use mathlib.Core.List.{List, [], _∷_}
 use Prim.Native.Nat.{ℕ}

@@ -1,5 +1,5 @@
 -- Turn after turn: the lines of the turns, one after the other, are the lines of all that `read` delivered, and what they
--- hand to `write` are the answers to them. Assumes nothing.
+-- hand to `write` are the answers to them.
 use mathlib.Core.Path.{_≡_, refl, sym, ap, _∙_}
 use mathlib.Core.Logic.{_⊎_, inl, inr}
 use mathlib.Core.Bool.{Bool, true, false}

@@ -1,6 +1,6 @@
 -- For a reader: where no write failed and fewer than 2^64 - 1 lines were served, they are the pieces of all the bytes
 -- that were delivered, between line feeds, the table at the end is the table after them, and what was handed to `write`
--- are the answers to them. Assumes nothing.
+-- are the answers to them.
 use mathlib.Core.Path.{_≡_, refl, sym, ap, subst, _∙_}
 use mathlib.Core.Bool.{Bool, true, false, not}
 use mathlib.Core.Logic.{_⊎_, inl, inr}

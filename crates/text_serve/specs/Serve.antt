@@ -1,4 +1,4 @@
--- A turn of the evening on a lent table, and every turn of standard input. Assumes nothing.
+-- A turn of the evening on a lent table, and every turn of standard input.
 use mathlib.Core.Path.{_≡_}
 use mathlib.Core.Logic.{_⊎_}
 use mathlib.Core.Bool.{false}

@@ -1,4 +1,4 @@
--- The row figures of a line stand behind its named numbers, up to its last number. Assumes nothing.
+-- The row figures of a line stand behind its named numbers, up to its last number.
 use mathlib.Core.Path.{_≡_, refl, sym, ap, _∙_}
 use mathlib.Core.Bool.{Bool, true, false}
 use mathlib.Core.List.{List, [], _∷_}

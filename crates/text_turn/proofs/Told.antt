@@ -1,4 +1,4 @@
--- What the two ways out of `tell` need, on plain values. Assumes nothing.
+-- What the two ways out of `tell` need, on plain values.
 use mathlib.Core.Path.{_≡_}
 use mathlib.Core.Bool.{true, false}
 use Prim.Native.Nat.{ℕ, _+_, _≤_, _<_}

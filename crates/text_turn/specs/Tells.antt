@@ -1,4 +1,4 @@
--- The second half of a turn, after the table is asked. Assumes nothing.
+-- The second half of a turn, after the table is asked.
 use mathlib.Core.Path.{_≡_}
 use mathlib.Core.List.{List}
 use Prim.Native.Nat.{ℕ, _+_, _≤_}

@@ -1,4 +1,4 @@
--- The first half of a turn, before the table is asked, and where the first turn starts. Assumes nothing.
+-- The first half of a turn, before the table is asked, and where the first turn starts.
 use mathlib.Core.Path.{_≡_}
 use mathlib.Core.List.{List}
 use Prim.Native.Nat.{ℕ}

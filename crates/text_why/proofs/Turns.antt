@@ -1,5 +1,5 @@
 -- What the functions need, on plain values: the word of a reason in the arm that knows it, and the two answers of
--- `say_why`. Assumes nothing.
+-- `say_why`.
 use mathlib.Core.Path.{_≡_}
 use mathlib.Core.List.{List, [], _∷_}
 use Prim.Native.Nat.{ℕ}

@@ -1,4 +1,4 @@
--- How many bytes the parts of the answer that says why may take. Assumes nothing.
+-- How many bytes the parts of the answer that says why may take.
 use Prim.Native.Nat.{ℕ, _+_, _*_}
 use Rattle.text_out.specs.Places.{nextBytes}
 use Rattle.text_out.specs.Sizes.{nextWordBytes}

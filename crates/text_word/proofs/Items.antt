@@ -1,4 +1,4 @@
--- What a word behind the call's is, on plain values. A word that spells a number has no slash. Assumes nothing.
+-- What a word behind the call's is, on plain values. A word that spells a number has no slash.
 use mathlib.Core.Path.{_≡_, refl, sym, ap, _∙_}
 use mathlib.Core.Bool.{Bool, true, false, not}
 use mathlib.Core.List.{List, [], _∷_}

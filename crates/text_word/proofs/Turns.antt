@@ -1,4 +1,4 @@
--- One turn of each loop over a line, on plain values. Assumes nothing.
+-- One turn of each loop over a line, on plain values.
 use mathlib.Core.Path.{_≡_, refl, sym, ap, _∙_}
 use mathlib.Core.Bool.{Bool, true, false, _&&_, _||_, not}
 use mathlib.Core.List.{List, [], _∷_, _++_}

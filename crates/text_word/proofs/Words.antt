@@ -1,4 +1,4 @@
--- The words of a text, from a place on. Assumes nothing.
+-- The words of a text, from a place on.
 use mathlib.Core.Path.{_≡_, refl, sym, ap, ap₂, _∙_}
 use mathlib.Core.Bool.{Bool, true, false, not}
 use mathlib.Core.List.{List, [], _∷_, _++_}

@@ -1,5 +1,5 @@
 -- What the contracts of this crate need beside the protocol's words: a byte of a word, which is any that is no
--- blank, and a size under a bound. Assumes nothing.
+-- blank, and a size under a bound.
 use mathlib.Core.Bool.{Bool, not}
 use Prim.Native.Nat.{ℕ, _≤_}
 use Rattle.text_bytes.specs.declared.Size.{Size}

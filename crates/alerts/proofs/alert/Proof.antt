@@ -1,5 +1,5 @@
 -- `alerts::alert` meets its contract: where the second is not before the near one, at least u seconds lie between them
--- exactly when since + u is no later than it. Assumes nothing.
+-- exactly when since + u is no later than it.
 use mathlib.Core.Path.{_≡_, sym, _∙_}
 use mathlib.Core.Bool.{false}
 use mathlib.Core.Logic.{_⊎_, inl, inr}

@@ -1,5 +1,5 @@
 -- `alerts::is_closer` meets its contract: 10,000·(to - from) < w·(upper - lower) with each difference moved across. The
--- products fit by the ranges. Assumes nothing.
+-- products fit by the ranges.
 use mathlib.Core.Path.{sym}
 use Prim.Native.Nat.{ℕ, _*_, _≤_}
 use native.Mathlib.Nat.{mul-le-mul}

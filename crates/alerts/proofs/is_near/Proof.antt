@@ -1,5 +1,4 @@
--- `alerts::is_near` meets its contract: the distance of each side is the difference that `is_closer` compares. Assumes
--- nothing.
+-- `alerts::is_near` meets its contract: the distance of each side is the difference that `is_closer` compares.
 use borrow.Author.Needs.{needs}
 use Rattle.paper_desk.specs.Alerts.{isNear, distance}
 use Rattle.alerts.specs.Nearness.{closer}

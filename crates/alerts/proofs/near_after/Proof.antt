@@ -1,4 +1,4 @@
--- `alerts::near_after` meets its contract, by the cases of the definition. Assumes nothing.
+-- `alerts::near_after` meets its contract, by the cases of the definition.
 use borrow.Author.Needs.{needs}
 use Rattle.paper_desk.specs.Alerts.{nearAfter, keptSince}
 use Rattle.alerts.proofs.near_after.Statement.{statement}

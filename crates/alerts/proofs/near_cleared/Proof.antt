@@ -1,4 +1,4 @@
--- `alerts::near_cleared` meets its contract, by the cases of the definition. Assumes nothing.
+-- `alerts::near_cleared` meets its contract, by the cases of the definition.
 use borrow.Author.Needs.{needs}
 use Rattle.paper_desk.specs.Alerts.{nearCleared}
 use Rattle.alerts.proofs.near_cleared.Statement.{statement}

@@ -1,4 +1,4 @@
--- `bond::all_limits` meets its contract: the limits of each of the three terms. Assumes nothing.
+-- `bond::all_limits` meets its contract: the limits of each of the three terms.
 use mathlib.Core.Path.{_≡_}
 use mathlib.Core.Bool.{true}
 use Prim.Native.Nat.{ℕ, _<_}

@@ -1,4 +1,4 @@
--- `bond::answer` meets its contract: 6, then 17, then 7, else what `priced` answers. Assumes nothing.
+-- `bond::answer` meets its contract: 6, then 17, then 7, else what `priced` answers.
 use mathlib.Core.Path.{_≡_, sym, ap, _∙_}
 use mathlib.Core.Bool.{true, _&&_}
 use native.Mathlib.Nat.{pos-of-ne-zero}

@@ -1,5 +1,5 @@
 -- `bond::bond_valid` meets its contract: behind valid statics each test is the definition's, and without them the first
--- fails. Assumes nothing.
+-- fails.
 use mathlib.Core.Path.{_≡_, sym, _∙_}
 use mathlib.Core.Bool.{true}
 use mir.Facts.{toZ-ofZ}

@@ -1,4 +1,4 @@
--- `bond::given_of` meets its contract: each field is stored once, and the definition's. Assumes nothing.
+-- `bond::given_of` meets its contract: each field is stored once, and the definition's.
 use mathlib.Core.Path.{refl}
 use Rattle.paper_bonds.specs.Bonds.{bondGiven}
 use Rattle.bond.proofs.given_of.Statement.{statement}

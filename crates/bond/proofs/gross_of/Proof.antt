@@ -1,4 +1,4 @@
--- `bond::gross_of` meets its contract: the ranges keep the product and the sum within 64 bits. Assumes nothing.
+-- `bond::gross_of` meets its contract: the ranges keep the product and the sum within 64 bits.
 use Prim.Native.Nat.{_*_, _≤_}
 use native.Mathlib.Nat.{mul-le-mul}
 use native.Mathlib.Omega.{arith}

@@ -1,4 +1,4 @@
--- `bond::priced` meets its contract: 9, else the figures. Assumes nothing.
+-- `bond::priced` meets its contract: 9, else the figures.
 use mathlib.Core.Path.{_≡_, sym, ap, _∙_}
 use borrow.Author.Needs.{needs}
 use Rattle.paper.specs.declared.Figures.{Figures}

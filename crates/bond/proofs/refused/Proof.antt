@@ -1,4 +1,4 @@
--- `bond::refused` meets its contract: every figure is 0. Assumes nothing.
+-- `bond::refused` meets its contract: every figure is 0.
 use mathlib.Core.Path.{refl}
 use Rattle.paper_bonds.specs.Bonds.{refusedBond}
 use Rattle.bond.proofs.refused.Statement.{statement}

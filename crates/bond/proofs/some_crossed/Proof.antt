@@ -1,4 +1,4 @@
--- `bond::some_crossed` meets its contract: the test of each of the three terms. Assumes nothing.
+-- `bond::some_crossed` meets its contract: the test of each of the three terms.
 use mathlib.Core.Path.{_≡_, refl, _∙_}
 use mathlib.Core.Bool.{Bool, true, false, _||_}
 use borrow.Author.Needs.{needs}

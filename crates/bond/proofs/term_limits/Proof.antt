@@ -1,4 +1,4 @@
--- `bond::term_limits` meets its contract: Carry at the term, and the limits that it makes. Assumes nothing.
+-- `bond::term_limits` meets its contract: Carry at the term, and the limits that it makes.
 use mathlib.Core.Path.{_≡_}
 use mir.Syntax.{w64}
 use mir.Val.{toZ, ofZ}

@@ -1,4 +1,4 @@
--- `bond::valid_numbers` meets its contract: the code's tests are the definition's, in its order. Assumes nothing.
+-- `bond::valid_numbers` meets its contract: the code's tests are the definition's, in its order.
 use borrow.Author.Needs.{needs}
 use Rattle.paper_bonds.specs.Bonds.{validNumbers}
 use Rattle.bond.proofs.valid_numbers.Statement.{statement}

@@ -1,4 +1,4 @@
--- `damaged::table` meets its contract: the table keeps its 512 slots. Assumes nothing.
+-- `damaged::table` meets its contract: the table keeps its 512 slots.
 use Prim.Native.Nat.{_≤_, _-_}
 use mathlib.Core.Path.{_≡_}
 use lib.ListN.{length}

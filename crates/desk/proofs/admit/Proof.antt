@@ -3,7 +3,6 @@
 -- `Meeting` says of every call. It is no instance of `Changing`, since it takes no id of its own but the admission's,
 -- and two slots. The walk has a step for each statement, of the same laws as that of `Changing`: `let-s`, `let-e`,
 -- `let-o`, `put-o`, `answer`.
--- Assumes nothing.
 use mathlib.Core.Path.{refl}
 use mathlib.Core.Option.{Option, none, some}
 use Prim.Native.Nat.{ℕ, _<_, _^_}

@@ -1,5 +1,4 @@
 -- `desk::asked` meets its contract: the rule of an evaluation, on the day that `interest_terms` makes of what is asked.
--- Assumes nothing.
 use borrow.Author.Needs.{needs}
 use Rattle.desk.proofs.asked.Statement.{statement}
 use Rattle.desk.proofs.asked.Tie as tie

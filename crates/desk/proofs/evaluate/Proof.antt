@@ -1,5 +1,5 @@
 -- `desk::evaluate` meets its contract: it has the shape that `ShapeWithRows` proves once, and the effect of its rule is
--- the paper's step (`evaluate-steps`). Assumes nothing.
+-- the paper's step (`evaluate-steps`).
 use contract.Running.{givenOf, tables, tablesOf}
 use denote.Triple.Spec.{tripleOf}
 use denote.Triple.Table.{entered, cited}

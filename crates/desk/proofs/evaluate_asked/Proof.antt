@@ -1,5 +1,5 @@
 -- `desk::evaluate_asked` meets its contract: it has the shape that `ShapeWithRows` proves once, and the effect of its
--- rule is the paper's step on the day that the terms make (`asked-steps`). Assumes nothing.
+-- rule is the paper's step on the day that the terms make (`asked-steps`).
 use mathlib.Core.Path.{_≡_}
 use mathlib.Core.List.{List}
 use Prim.Native.Nat.{ℕ}

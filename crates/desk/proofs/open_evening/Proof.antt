@@ -1,5 +1,5 @@
 -- `desk::open_evening` meets its contract: it has the shape that `Changing` proves once, with nothing beside the id,
--- and the effect of its rule is the paper's step (`open-steps`). Assumes nothing.
+-- and the effect of its rule is the paper's step (`open-steps`).
 use mathlib.Core.Path.{refl}
 use types.Kit.{ ! }
 use types.Run.{and-then, no-more as no-operand}

@@ -3,7 +3,6 @@
 -- the place is the number of slots. The loop ends, because each turn leaves fewer slots to pass (`Nearer`).
 -- The walk has a step for each statement: `tests`, `compares`, `returns-place`, `steps`, and `returns-end` once
 -- the loop is left. A statement that reads t[i] opens the borrow for it, and shuts it (`opens`, `shuts` of `Looking`).
--- Assumes nothing.
 use mathlib.Core.Path.{_≡_, refl, _∙_, subst}
 use mathlib.Core.Option.{some, none}
 use Prim.Native.Nat.{ℕ, _+_, _-_, _*_, _<_, _≤_, _^_, zero-le}

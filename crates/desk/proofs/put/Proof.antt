@@ -3,7 +3,6 @@
 -- The walk has a step for each statement: `tests`; `stores`, or `leaves-it` past the end; `returns-unit`.
 -- In `stores` the borrow is opened, slot i is taken out of the row, written and put back, and the borrow is closed at
 -- the new list. The record stays whole: nothing here depends on its fields.
--- Assumes nothing.
 use mathlib.Core.Path.{refl, sym, ap, subst}
 use mathlib.Core.Option.{Option, none, some}
 use Prim.Native.Nat.{ℕ, _<_, _^_}

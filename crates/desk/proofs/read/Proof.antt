@@ -1,5 +1,5 @@
 -- `desk::read` meets its contract: it has the shape that `Telling` proves once, of an id alone. Of the slot of the id
--- the rule answers what the paper's read does (`read-answers`). Assumes nothing.
+-- the rule answers what the paper's read does (`read-answers`).
 use mathlib.Core.Path.{refl}
 use contract.Running.{givenOf, tables, tablesOf}
 use types.Kit.{ ! }

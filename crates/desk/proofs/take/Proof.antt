@@ -2,7 +2,6 @@
 -- copied out; past the end the id stands nowhere, which is what `absent` answers.
 -- The walk has a step for each statement: `let-i`, `tests`, `returns-slot` and `returns-absent`. The statement that
 -- reads t[i] opens the borrow for it, and shuts it (`opens`, `shuts` of `Looking`); `let-i` is `looks` of `Looking`.
--- Assumes nothing.
 use mathlib.Core.Path.{_≡_, refl, ap}
 use mathlib.Core.Option.{some, none}
 use Prim.Native.Nat.{ℕ, _<_, _^_}

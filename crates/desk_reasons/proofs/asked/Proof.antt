@@ -1,5 +1,4 @@
--- `desk_reasons::asked` meets its contract: the rule, on the day that `interest_terms` makes of what is asked. Assumes
--- nothing.
+-- `desk_reasons::asked` meets its contract: the rule, on the day that `interest_terms` makes of what is asked.
 use borrow.Author.Needs.{needs}
 use Rattle.desk_reasons.proofs.asked.Statement.{statement}
 use Rattle.desk_reasons.proofs.asked.Tie as tie

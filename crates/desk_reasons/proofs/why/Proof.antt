@@ -1,5 +1,5 @@
 -- `desk_reasons::why` meets its contract: it has the shape that `Shape` proves once, and what its rule says of the slot
--- is what the paper says of the table (`slot-said`). Assumes nothing.
+-- is what the paper says of the table (`slot-said`).
 use contract.Running.{givenOf, tables, tablesOf}
 use denote.Triple.Spec.{tripleOf}
 use denote.Triple.Table.{entered, cited}

@@ -1,5 +1,5 @@
 -- `desk_reasons::why_asked` meets its contract: it has the shape that `Shape` proves once, and what its rule says of
--- the slot is what the paper says of the table on the day that the terms make (`asked-said`). Assumes nothing.
+-- the slot is what the paper says of the table on the day that the terms make (`asked-said`).
 use mathlib.Core.Path.{_≡_}
 use mathlib.Core.List.{List}
 use Prim.Native.Nat.{ℕ}

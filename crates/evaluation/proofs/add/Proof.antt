@@ -1,5 +1,5 @@
 -- `evaluation::add` meets its contract: the four figures are the definition's, and the bounds of a book with room keep
--- the sums in 64 bits. Assumes nothing.
+-- the sums in 64 bits.
 use Prim.Native.Nat.{_*_, _≤_}
 use native.Mathlib.Nat.{mul-le-mul}
 use native.Mathlib.Omega.{arith}

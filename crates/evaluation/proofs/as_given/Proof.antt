@@ -1,4 +1,4 @@
--- `evaluation::as_given` meets its contract: places (a) and (b) leave a row in roubles today as it is. Assumes nothing.
+-- `evaluation::as_given` meets its contract: places (a) and (b) leave a row in roubles today as it is.
 use Rattle.evaluation.proofs.Prices.{today-stays}
 use Rattle.evaluation.proofs.as_given.Statement.{statement}
 use Rattle.evaluation.proofs.as_given.Tie as tie

@@ -1,4 +1,4 @@
--- `evaluation::between` meets its contract: one law for each pair of sides. Assumes nothing.
+-- `evaluation::between` meets its contract: one law for each pair of sides.
 use mathlib.Core.Path.{_∙_}
 use borrow.Author.Needs.{needs}
 use Rattle.evaluation.proofs.Sides.{between-none-is-close, between-ask-alone-is-min, between-bid-alone-is-max}

@@ -1,5 +1,5 @@
 -- `evaluation::by_one_quotient` meets its contract: each figure is the paper's, and so small a central rate leaves room
--- in 64 bits for every product. Assumes nothing.
+-- in 64 bits for every product.
 use Prim.Native.Nat.{_*_, _≤_}
 use native.Mathlib.Nat.{mul-le-mul}
 use native.Mathlib.Omega.{arith}

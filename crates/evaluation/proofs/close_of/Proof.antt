@@ -1,4 +1,4 @@
--- `evaluation::close_of` meets its contract: its test is the definition's. Assumes nothing.
+-- `evaluation::close_of` meets its contract: its test is the definition's.
 use borrow.Author.Needs.{needs}
 use borrow.Author.Tests.{eq-eqb, ne-eqb}
 use Rattle.evaluation.specs.Book.{closeIn}

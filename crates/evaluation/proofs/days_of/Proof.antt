@@ -1,4 +1,4 @@
--- `evaluation::days_of` meets its contract: the repo rate's bits are read back. Assumes nothing.
+-- `evaluation::days_of` meets its contract: the repo rate's bits are read back.
 use native.Mathlib.Omega.{arith}
 use mir.Syntax.{w64}
 use mir.Val.{SFits}

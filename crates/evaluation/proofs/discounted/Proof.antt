@@ -1,5 +1,5 @@
 -- `evaluation::discounted` meets its contract: narrow, the quotient is the paper's with a common factor taken away;
--- wide, it is the paper's. Assumes nothing.
+-- wide, it is the paper's.
 use mathlib.Core.Path.{_∙_}
 use native.Mathlib.Omega.{arith}
 use borrow.Author.Needs.{needs}

@@ -1,5 +1,5 @@
 -- `evaluation::evaluate` meets its contract: each arm is one law of `Answers`, and the book's bounds keep the close
--- within a price. Assumes nothing.
+-- within a price.
 use mathlib.Core.Path.{refl, sym, _∙_}
 use Prim.Native.Nat.{_≤_}
 use native.Mathlib.Omega.{arith}

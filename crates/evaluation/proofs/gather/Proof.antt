@@ -1,4 +1,4 @@
--- `evaluation::gather` meets its contract: each turn is one law of `Gathering`. Assumes nothing.
+-- `evaluation::gather` meets its contract: each turn is one law of `Gathering`.
 use mathlib.Core.Path.{_≡_, refl, sym, _∙_}
 use mathlib.Core.Bool.{true, not}
 use Prim.Native.Nat.{_+_, _-_, _≤_}

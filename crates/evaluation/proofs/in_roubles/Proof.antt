@@ -1,5 +1,4 @@
 -- `evaluation::in_roubles` meets its contract: each way gives the row's figures, and its test is what the way asks for.
--- Assumes nothing.
 use mathlib.Core.Path.{sym, _∙_}
 use native.Mathlib.Omega.{arith}
 use mir.Syntax.{w64}

@@ -1,4 +1,4 @@
--- `evaluation::is_crossed_row` meets its contract: its three tests are the definition's. Assumes nothing.
+-- `evaluation::is_crossed_row` meets its contract: its three tests are the definition's.
 use mathlib.Core.Path.{refl}
 use Rattle.paper_desk.specs.Evaluation.{isCrossedRow}
 use Rattle.evaluation.proofs.is_crossed_row.Statement.{statement}

@@ -1,4 +1,4 @@
--- `evaluation::lesser_ask` meets its contract: one law for each ask that is missing. Assumes nothing.
+-- `evaluation::lesser_ask` meets its contract: one law for each ask that is missing.
 use mathlib.Core.Path.{_∙_}
 use Rattle.evaluation.proofs.Sides.{lesser-is-second, lesser-is-first, lesser-is-min}
 use borrow.Author.Needs.{needs}

@@ -1,5 +1,4 @@
--- `evaluation::median` meets its contract: the lesser and the greater of two numbers are the definition's. Assumes
--- nothing.
+-- `evaluation::median` meets its contract: the lesser and the greater of two numbers are the definition's.
 use Rattle.paper_desk.specs.Evaluation.{median}
 use borrow.Author.Needs.{needs}
 use Rattle.evaluation.proofs.median.Statement.{statement}

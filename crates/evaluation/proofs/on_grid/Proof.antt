@@ -1,4 +1,4 @@
--- `evaluation::on_grid` meets its contract: it is in range where the price's constructor makes it. Assumes nothing.
+-- `evaluation::on_grid` meets its contract: it is in range where the price's constructor makes it.
 use mathlib.Core.Path.{_≡_, sym, ap, _∙_}
 use borrow.Author.Needs.{needs}
 use Rattle.paper.specs.Roundings.{toGrid}

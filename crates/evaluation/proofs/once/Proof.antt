@@ -1,4 +1,4 @@
--- `evaluation::once` meets its contract: the product, with half of the days, fits 64 bits. Assumes nothing.
+-- `evaluation::once` meets its contract: the product, with half of the days, fits 64 bits.
 use Prim.Native.Nat.{_*_, _≤_}
 use native.Mathlib.Nat.{mul-le-mul}
 use native.Mathlib.Omega.{arith}

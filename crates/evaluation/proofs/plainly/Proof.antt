@@ -1,5 +1,5 @@
 -- `evaluation::plainly` meets its contract: each figure is the paper's, and a volume times a central rate fits 64
--- bits. Assumes nothing.
+-- bits.
 use native.Mathlib.Nat.{mul-le-mul}
 use native.Mathlib.Omega.{arith}
 use borrow.Author.Needs.{needs}

@@ -1,5 +1,5 @@
 -- `evaluation::refused` meets its contract: the first of 6 and 16 that applies, and 7 where neither does, since a row
--- that is not taken and not crossed does not fit. Assumes nothing.
+-- that is not taken and not crossed does not fit.
 use mathlib.Core.Path.{_≡_, refl, sym, _∙_}
 use mathlib.Core.Bool.{true}
 use borrow.Author.Needs.{needs}

@@ -1,5 +1,5 @@
 -- `evaluation::row_fits` meets its contract: a row in roubles today fits, and of any other the tests are the paper's,
--- of the row's figures in roubles. Assumes nothing.
+-- of the row's figures in roubles.
 use mathlib.Core.Path.{sym, _∙_}
 use borrow.Author.Needs.{needs}
 use Rattle.paper_desk.specs.Evaluation.{roublesOf, rowFits}

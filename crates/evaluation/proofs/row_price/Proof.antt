@@ -1,5 +1,5 @@
 -- `evaluation::row_price` meets its contract: a missing price stays missing, and the divisor of any other is the
--- paper's. Assumes nothing.
+-- paper's.
 use Prim.Native.Nat.{_*_, _≤_}
 use native.Mathlib.Nat.{mul-le-mul}
 use native.Mathlib.Omega.{arith}

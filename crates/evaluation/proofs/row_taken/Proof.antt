@@ -1,4 +1,4 @@
--- `evaluation::row_taken` meets its contract: its two tests are the definition's. Assumes nothing.
+-- `evaluation::row_taken` meets its contract: its two tests are the definition's.
 use borrow.Author.Needs.{needs}
 use Rattle.evaluation.proofs.row_taken.Statement.{statement}
 use Rattle.evaluation.proofs.row_taken.Tie as tie

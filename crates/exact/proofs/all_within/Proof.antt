@@ -1,5 +1,5 @@
 -- `all_within` meets its contract: what is joined before each turn is the definition's of as many numbers, and the
--- number of the turn is tested as `within_at` tests it. Assumes nothing.
+-- number of the turn is tested as `within_at` tests it.
 use mathlib.Core.Path.{_≡_, refl}
 use Prim.Native.Nat.{_-_, _≤_}
 use native.Mathlib.Numerals.{add-one}

@@ -1,4 +1,4 @@
--- `apart` meets its contract: of the two differences the other is 0. Assumes nothing.
+-- `apart` meets its contract: of the two differences the other is 0.
 use native.Mathlib.Omega.{arith}
 use borrow.Author.Needs.{needs}
 use Rattle.paper.specs.Roundings.{apart}

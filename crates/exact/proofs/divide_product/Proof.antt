@@ -1,4 +1,4 @@
--- `divide_product` meets its contract: it is the long division of `Long.antt`. Assumes nothing.
+-- `divide_product` meets its contract: it is the long division of `Long.antt`.
 use native.Mathlib.Omega.{arith}
 use borrow.Author.Needs.{needs}
 use Rattle.exact.proofs.Long.{Long, long-division-is}

@@ -1,4 +1,4 @@
--- `every_within` meets its contract: it is the walk of LentLaws over the places where the parts begin. Assumes nothing.
+-- `every_within` meets its contract: it is the walk of LentLaws over the places where the parts begin.
 use Prim.Native.Nat.{_-_}
 use native.Mathlib.Omega.{arith}
 use lib.ListN.{length}

@@ -1,4 +1,4 @@
--- `goes_up` meets its contract, by the cases of the definition. Assumes nothing.
+-- `goes_up` meets its contract, by the cases of the definition.
 use borrow.Author.Needs.{needs}
 use Rattle.exact.proofs.goes_up.Statement.{statement}
 use Rattle.exact.proofs.goes_up.Tie as tie

@@ -1,5 +1,4 @@
 -- `grow` meets its contract: the two arms are the definition's two cases, and the ranges keep either within 64 bits.
--- Assumes nothing.
 use mathlib.Core.Path.{_≡_, sym, ap, _∙_}
 use Prim.Native.Nat.{ℕ, _+_, _-_, _*_, _≤_}
 use native.Mathlib.Nat.{mul-le-mul}

@@ -1,4 +1,4 @@
--- `half_up_once` meets its contract: one quotient with half of the divisor added is half up. Assumes nothing.
+-- `half_up_once` meets its contract: one quotient with half of the divisor added is half up.
 use borrow.Author.Needs.{needs}
 use Rattle.exact.specs.Remainders.{one-quotient-is-half-up}
 use Rattle.exact.proofs.half_up_once.Statement.{statement}

@@ -1,5 +1,4 @@
 -- `is_within` meets its contract: the code's two tests are the definition's, once each local's bits are read back.
--- Assumes nothing.
 use mir.Facts.{toZ-ofZ}
 use Rattle.exact.proofs.is_within.Statement.{statement}
 use Rattle.exact.proofs.is_within.Tie as tie

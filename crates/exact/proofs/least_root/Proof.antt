@@ -1,6 +1,5 @@
 -- `least_root` meets its contract. The invariant of both loops, `RootSearch`: with k bits to come, what is found is the
 -- root of n - 1 but for those, rounded down. With none to come one more is the least root of n. The measure is k.
--- Assumes nothing.
 use mathlib.Core.Path.{_≡_}
 use native.Mathlib.Nat.{pos-of-ne-zero}
 use native.Mathlib.Omega.{arith}

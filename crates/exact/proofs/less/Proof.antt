@@ -1,4 +1,4 @@
--- `exact::less` meets its contract: the difference is taken only where it does not pass below 0. Assumes nothing.
+-- `exact::less` meets its contract: the difference is taken only where it does not pass below 0.
 use native.Mathlib.Omega.{arith}
 use Rattle.exact.proofs.less.Statement.{statement}
 use Rattle.exact.proofs.less.Tie as tie

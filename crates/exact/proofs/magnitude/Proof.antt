@@ -1,5 +1,4 @@
--- `magnitude` meets its contract: by the sign, -1 - x or x is a natural number that fits, and it is the size. Assumes
--- nothing.
+-- `magnitude` meets its contract: by the sign, -1 - x or x is a natural number that fits, and it is the size.
 use lib.IntN.{negsuc, _-ℤ_}
 use mir.Facts.{toZ-ofZ}
 use Rattle.exact.proofs.Sign.{Arm, below-zero-takes-its-arm, not-below-zero-takes-its-arm}

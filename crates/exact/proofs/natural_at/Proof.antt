@@ -1,5 +1,5 @@
 -- `natural_at` meets its contract: a number that is not below zero fits as it is, and is itself as its bits are read
--- back. Assumes nothing.
+-- back.
 use mathlib.Core.Path.{sym, _∙_}
 use lib.IntN.{ℤ, pos}
 use lib.ListN.{getD}

@@ -1,4 +1,4 @@
--- `next_bit` meets its contract, by the turn of `RootTurn.antt`. Assumes nothing.
+-- `next_bit` meets its contract, by the turn of `RootTurn.antt`.
 use Prim.Native.Nat.{_-_, _^_}
 use native.Mathlib.Omega.{arith}
 use borrow.Author.Needs.{needs}

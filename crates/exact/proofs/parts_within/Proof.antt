@@ -1,5 +1,4 @@
 -- `parts_within` meets its contract: only whole parts are walked, and without them the definition's first test fails.
--- Assumes nothing.
 use mathlib.Core.Path.{_≡_}
 use mathlib.Core.Bool.{Bool, true}
 use borrow.Author.Needs.{needs}

@@ -1,5 +1,5 @@
 -- `product_to_grid` meets its contract: the ranges keep p·a and d·g within 64 bits and the figure too; the rest is
--- `rounded_wide`'s. Assumes nothing.
+-- `rounded_wide`'s.
 use Prim.Native.Nat.{ℕ, _*_, _^_, _≤_, _<_}
 use native.Mathlib.Nat.{mul-le-mul, lt-of-mul-lt-mul-right}
 use native.Mathlib.Omega.{arith}

@@ -1,4 +1,4 @@
--- `rounded` meets its contract: the quotient, or one more where the remainder takes it there. Assumes nothing.
+-- `rounded` meets its contract: the quotient, or one more where the remainder takes it there.
 use mathlib.Core.Path.{_≡_, sym, _∙_}
 use mathlib.Core.Bool.{true}
 use Prim.Native.Nat.{_%_, _<_}

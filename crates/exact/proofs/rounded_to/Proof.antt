@@ -1,4 +1,4 @@
--- `rounded_to` meets its contract: n/(d·g) is rounded, and the steps are counted out. Assumes nothing.
+-- `rounded_to` meets its contract: n/(d·g) is rounded, and the steps are counted out.
 use Prim.Native.Nat.{_*_}
 use native.Mathlib.Nat.{mul-pos, le-mul-of-pos-right}
 use native.Mathlib.Omega.{arith}

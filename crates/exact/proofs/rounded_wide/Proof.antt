@@ -1,4 +1,4 @@
--- `rounded_wide` meets its contract: the quotient, or one more where the rest takes it there. Assumes nothing.
+-- `rounded_wide` meets its contract: the quotient, or one more where the rest takes it there.
 use mathlib.Core.Path.{_≡_, ap, sym, _∙_}
 use Prim.Native.Nat.{ℕ, _+_, _*_, _/_, _%_, _^_, _<_}
 use native.Mathlib.Nat.{mod-lt, div-lt-iff-lt-mul}

@@ -1,4 +1,4 @@
--- `shl` meets its contract: nothing is shifted out. Assumes nothing.
+-- `shl` meets its contract: nothing is shifted out.
 use native.Mathlib.Nat.{mod-eq-of-lt}
 use borrow.Author.Needs.{needs}
 use Rattle.exact.proofs.shl.Statement.{statement}

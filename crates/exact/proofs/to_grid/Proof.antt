@@ -1,4 +1,4 @@
--- `to_grid` meets its contract: it is the rule, half up. Assumes nothing.
+-- `to_grid` meets its contract: it is the rule, half up.
 use borrow.Author.Needs.{needs}
 use Rattle.paper.specs.Roundings.{toGrid}
 use Rattle.exact.proofs.to_grid.Statement.{statement}

@@ -1,4 +1,4 @@
--- `unsigned` meets its contract: by the sign, the number that no range holds, or the magnitude. Assumes nothing.
+-- `unsigned` meets its contract: by the sign, the number that no range holds, or the magnitude.
 use mathlib.Core.Path.{_≡_, sym, _∙_}
 use lib.Signed.{mag}
 use mir.Facts.{toZ-ofZ}

@@ -1,4 +1,4 @@
--- `unsigned_at` meets its contract: it is `unsigned` of the number at i as its bits are read back. Assumes nothing.
+-- `unsigned_at` meets its contract: it is `unsigned` of the number at i as its bits are read back.
 use mir.Syntax.{w64}
 use mir.Facts.{toZ-ofZ}
 use borrow.Author.Needs.{needs}

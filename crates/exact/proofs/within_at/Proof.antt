@@ -1,5 +1,5 @@
 -- `within_at` meets its contract: it is `is_within`, of the two ends and of the number at i as their bits are read
--- back. Assumes nothing.
+-- back.
 use mir.Syntax.{w64}
 use mir.Facts.{toZ-ofZ}
 use borrow.Author.Needs.{needs}

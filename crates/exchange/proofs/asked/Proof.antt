@@ -1,5 +1,5 @@
 -- `exchange::asked` meets its contract: without its one argument the program asks as an empty word does, which is no
--- id's. Assumes nothing.
+-- id's.
 use mathlib.Core.Path.{refl}
 use mathlib.Core.List.{[]}
 use borrow.Author.Needs.{needs}

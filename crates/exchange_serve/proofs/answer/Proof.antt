@@ -1,5 +1,4 @@
 -- `exchange_serve::answer` meets its contract: what is read is what the text says, and has sixteen rows at most.
--- Assumes nothing.
 use mathlib.Core.Path.{sym}
 use native.Mathlib.Omega.{arith}
 use borrow.Author.Needs.{needs}

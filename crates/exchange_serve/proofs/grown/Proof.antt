@@ -1,4 +1,4 @@
--- `exchange_serve::grown` meets its contract: above the greatest id one number stands for all. Assumes nothing.
+-- `exchange_serve::grown` meets its contract: above the greatest id one number stands for all.
 use native.Mathlib.Omega.{arith}
 use borrow.Author.Needs.{needs}
 use Rattle.exchange_serve.proofs.Turns.{grown-small, grown-over}

@@ -1,5 +1,4 @@
 -- `exchange_serve::id_of` meets its contract: what is left to read, behind the digits of n, asks for the same security.
--- Assumes nothing.
 use Prim.Native.Nat.{_-_}
 use lib.ListN.{length}
 use borrow.Author.Needs.{needs}

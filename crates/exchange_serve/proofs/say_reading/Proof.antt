@@ -1,5 +1,4 @@
--- `exchange_serve::say_reading` meets its contract: the parts of the line are told one after the other. Assumes
--- nothing.
+-- `exchange_serve::say_reading` meets its contract: the parts of the line are told one after the other.
 use mathlib.Core.Path.{sym}
 use Prim.Native.Nat.{_*_, _≤_}
 use native.Mathlib.Omega.{arith}

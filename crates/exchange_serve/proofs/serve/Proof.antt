@@ -1,5 +1,4 @@
--- `exchange_serve::serve` meets its contract: what is taken in is answered, and the answer is handed over. Assumes
--- nothing.
+-- `exchange_serve::serve` meets its contract: what is taken in is answered, and the answer is handed over.
 use mathlib.Core.Path.{sym, _∙_}
 use native.Mathlib.Omega.{arith}
 use lib.Seq.{length-take-le}

@@ -1,5 +1,4 @@
--- `exchange_serve::take_in` meets its contract: each read stands behind the last, and leaves less room. Assumes
--- nothing.
+-- `exchange_serve::take_in` meets its contract: each read stands behind the last, and leaves less room.
 use mathlib.Core.Path.{sym, _∙_}
 use Prim.Native.Nat.{_-_}
 use native.Mathlib.Omega.{arith}

@@ -1,4 +1,4 @@
--- `exchange_text::put_row` meets its contract: what is left to store leads to the same array. Assumes nothing.
+-- `exchange_text::put_row` meets its contract: what is left to store leads to the same array.
 use Prim.Native.Nat.{_+_, _-_}
 use lib.ListN.{getD}
 use lib.IntN.{pos}

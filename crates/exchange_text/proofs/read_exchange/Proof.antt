@@ -1,5 +1,5 @@
 -- `exchange_text::read_exchange` meets its contract: so many lines are read, none of them is bad, and the array has
--- the rows of the security. Assumes nothing.
+-- the rows of the security.
 use mathlib.Core.Path.{sym, _∙_}
 use Prim.Native.Nat.{_-_}
 use native.Mathlib.Omega.{arith}

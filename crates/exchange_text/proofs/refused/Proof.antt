@@ -1,4 +1,4 @@
--- `exchange_text::refused` meets its contract: it is the definition, field by field. Assumes nothing.
+-- `exchange_text::refused` meets its contract: it is the definition, field by field.
 use mathlib.Core.Path.{refl}
 use Rattle.exchange_protocol.specs.Exchange.{refused}
 use Rattle.exchange_text.proofs.refused.Statement.{statement}

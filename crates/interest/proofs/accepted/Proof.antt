@@ -1,5 +1,4 @@
--- `interest::accepted` meets its contract: the paper's limits are those of the figures at the two terms. Assumes
--- nothing.
+-- `interest::accepted` meets its contract: the paper's limits are those of the figures at the two terms.
 use mathlib.Core.Path.{sym, ap, _∙_}
 use mir.Syntax.{w64}
 use mir.Val.{SFits}

@@ -1,4 +1,4 @@
--- `interest::all_figures` meets its contract: `figures_at` of each of the eight. Assumes nothing.
+-- `interest::all_figures` meets its contract: `figures_at` of each of the eight.
 use mathlib.Core.Path.{_≡_}
 use mathlib.Core.Bool.{true}
 use Prim.Native.Nat.{ℕ, _<_}

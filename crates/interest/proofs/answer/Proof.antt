@@ -1,4 +1,4 @@
--- `interest::answer` meets its contract: 6, then 14, else the figures. Assumes nothing.
+-- `interest::answer` meets its contract: 6, then 14, else the figures.
 use mathlib.Core.Path.{_≡_, sym, _∙_}
 use mathlib.Core.Bool.{true, _&&_}
 use lib.Dec.{ltb}

@@ -1,5 +1,4 @@
 -- `interest::figures_at` meets its contract: the n-th key maturity begins at 8·n, and past the last there is none.
--- Assumes nothing.
 use mathlib.Core.Path.{_≡_, ap, sym, _∙_}
 use Prim.Native.Nat.{_+_, _*_, _%_, _≤_}
 use native.Mathlib.Omega.{arith}

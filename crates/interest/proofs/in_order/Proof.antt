@@ -1,4 +1,4 @@
--- `interest::in_order` meets its contract: its two tests are the definition's. Assumes nothing.
+-- `interest::in_order` meets its contract: its two tests are the definition's.
 use borrow.Author.Needs.{needs}
 use Rattle.interest.proofs.in_order.Statement.{statement}
 use Rattle.interest.proofs.in_order.Tie as tie

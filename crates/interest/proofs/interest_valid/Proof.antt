@@ -1,5 +1,5 @@
 -- `interest::interest_valid` meets its contract: the code's tests are the definition's, in its order. The two rates are
--- the last fields, and are read back from their bits. Assumes nothing.
+-- the last fields, and are read back from their bits.
 use mir.Facts.{toZ-ofZ}
 use borrow.Author.Needs.{needs}
 use Rattle.paper_interest.specs.Interest.{validInterest}

@@ -1,5 +1,4 @@
--- `interest::point_at` meets its contract: every figure is read off the neighbours, of one or between two. Assumes
--- nothing.
+-- `interest::point_at` meets its contract: every figure is read off the neighbours, of one or between two.
 use mathlib.Core.Path.{_≡_}
 use mathlib.Core.Logic.{_⊎_, inl, inr}
 use Prim.Native.Nat.{ℕ}

@@ -1,4 +1,4 @@
--- `interest::point_of` meets its contract: the figures of the key maturity, and its rate lifted. Assumes nothing.
+-- `interest::point_of` meets its contract: the figures of the key maturity, and its rate lifted.
 use borrow.Author.Needs.{needs}
 use Rattle.paper_interest.specs.Interest.{maturityFigures, KeyRange}
 use Rattle.interest_repo.proofs.Bits.{rate-kept-in-bits}

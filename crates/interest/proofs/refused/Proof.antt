@@ -1,4 +1,4 @@
--- `interest::refused` meets its contract: every figure is 0. Assumes nothing.
+-- `interest::refused` meets its contract: every figure is 0.
 use borrow.Author.Needs.{needs}
 use Rattle.paper_interest.specs.Interest.{refusedInterest}
 use Rattle.interest.proofs.refused.Statement.{statement}

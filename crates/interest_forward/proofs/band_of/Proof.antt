@@ -1,4 +1,4 @@
--- `interest_forward::band_of` meets its contract: held where the pair is 0/1. Assumes nothing.
+-- `interest_forward::band_of` meets its contract: held where the pair is 0/1.
 use mir.Syntax.{w64}
 use mir.Val.{SFits}
 use mir.Facts.{toZ-ofZ}

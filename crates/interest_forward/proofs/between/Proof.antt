@@ -1,4 +1,4 @@
--- `interest_forward::between` meets its contract: each figure is `linear`'s. Assumes nothing.
+-- `interest_forward::between` meets its contract: each figure is `linear`'s.
 use borrow.Author.Needs.{needs}
 use Rattle.interest_forward.specs.Points.{pointBetween}
 use Rattle.interest_forward.proofs.between.Statement.{statement}

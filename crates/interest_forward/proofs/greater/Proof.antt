@@ -1,5 +1,5 @@
 -- `interest_forward::greater` meets its contract: the code's test is the definition's, once each number's bits are read
--- back. Assumes nothing.
+-- back.
 use mir.Facts.{toZ-ofZ}
 use Rattle.interest_forward.proofs.greater.Statement.{statement}
 use Rattle.interest_forward.proofs.greater.Tie as tie

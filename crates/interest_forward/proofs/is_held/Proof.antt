@@ -1,4 +1,4 @@
--- `interest_forward::is_held` meets its contract: it is the definition's test. Assumes nothing.
+-- `interest_forward::is_held` meets its contract: it is the definition's test.
 use mathlib.Core.Path.{refl}
 use Rattle.paper_interest.specs.Interest.{isHeld}
 use Rattle.interest_forward.proofs.is_held.Statement.{statement}

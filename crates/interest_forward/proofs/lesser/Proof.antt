@@ -1,5 +1,5 @@
 -- `interest_forward::lesser` meets its contract: the code's test is the definition's, once each number's bits are read
--- back. Assumes nothing.
+-- back.
 use mir.Facts.{toZ-ofZ}
 use Rattle.interest_forward.proofs.lesser.Statement.{statement}
 use Rattle.interest_forward.proofs.lesser.Tie as tie

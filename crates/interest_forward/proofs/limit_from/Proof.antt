@@ -1,5 +1,5 @@
 -- `interest_forward::limit_from` meets its contract: half up of the sum, less the base, is half up of the sum less the
--- base's part. Assumes nothing.
+-- base's part.
 use mathlib.Core.Path.{ap, _∙_}
 use Prim.Native.Nat.{ℕ, _-_, _*_, _≤_, _<_}
 use native.Mathlib.Nat.{mul-le-mul, mul-pos}

@@ -1,5 +1,4 @@
--- `interest_forward::linear` meets its contract: the sum's two products fit, and the rest is `half_up`'s. Assumes
--- nothing.
+-- `interest_forward::linear` meets its contract: the sum's two products fit, and the rest is `half_up`'s.
 use Prim.Native.Nat.{_-_, _*_, _≤_}
 use native.Mathlib.Omega.{arith}
 use borrow.Author.Needs.{needs}

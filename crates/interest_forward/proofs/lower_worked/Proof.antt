@@ -1,5 +1,5 @@
 -- `interest_forward::lower_worked` meets its contract: the margin is no more than what it is taken off, and the
--- difference is rounded once. Assumes nothing.
+-- difference is rounded once.
 use mathlib.Core.Path.{ap, _∙_}
 use Prim.Native.Nat.{ℕ, _-_, _*_, _≤_}
 use native.Mathlib.Omega.{arith}

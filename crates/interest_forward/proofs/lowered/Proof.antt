@@ -1,5 +1,4 @@
--- `interest_forward::lowered` meets its contract: both numbers and their difference fit a signed number. Assumes
--- nothing.
+-- `interest_forward::lowered` meets its contract: both numbers and their difference fit a signed number.
 use mathlib.Core.Path.{_≡_, ap, _∙_}
 use mathlib.Core.Logic.{_⊎_, inl, inr}
 use Prim.Native.Nat.{ℕ, _+_, _≤_, _<_, _^_}

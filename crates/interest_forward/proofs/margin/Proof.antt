@@ -1,4 +1,4 @@
--- `interest_forward::margin` meets its contract: the ranges keep the product within 64 bits. Assumes nothing.
+-- `interest_forward::margin` meets its contract: the ranges keep the product within 64 bits.
 use mathlib.Core.Path.{refl}
 use Prim.Native.Nat.{_-_, _*_, _≤_}
 use native.Mathlib.Nat.{mul-le-mul-left}

@@ -1,5 +1,5 @@
 -- `interest_forward::risen` meets its contract: its products fit, and what is taken off is no more than the base's
--- part. Assumes nothing.
+-- part.
 use native.Mathlib.Omega.{arith}
 use borrow.Author.Needs.{needs}
 use Rattle.interest_forward.proofs.Limits.{Rises, rises-in-range, risen-is}

@@ -1,5 +1,4 @@
 -- `interest_forward::upper_worked` meets its contract: both summands are counted from the base, and rounded once.
--- Assumes nothing.
 use mathlib.Core.Path.{ap, _∙_}
 use Prim.Native.Nat.{ℕ, _+_, _-_, _*_}
 use native.Mathlib.Omega.{arith}

@@ -1,5 +1,5 @@
 -- `interest_maturities::is_ascending` meets its contract: whether the key maturities from the place on ascend is always
--- whether all do, as each one passed was before the next. Assumes nothing.
+-- whether all do, as each one passed was before the next.
 use mathlib.Core.Path.{_≡_, sym, ap, _∙_}
 use Prim.Native.Nat.{_+_, _-_, _≤_}
 use native.Mathlib.Omega.{arith}

@@ -1,5 +1,4 @@
 -- `interest_maturities::keys_valid` meets its contract: its two tables have the definition's ranges, in its order.
--- Assumes nothing.
 use mathlib.Core.Path.{_∙_}
 use native.Mathlib.Nat.{add-zero}
 use Rattle.paper_interest.specs.Interest.{keyAt, keysOf, wholeKeys, validKey, validKeys}

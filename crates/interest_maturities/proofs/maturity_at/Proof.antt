@@ -1,5 +1,5 @@
 -- `interest_maturities::maturity_at` meets its contract: each number stands at its place of the key maturity, and the
--- rates' bits are read back. Assumes nothing.
+-- rates' bits are read back.
 use Prim.Native.Nat.{ℕ, _+_}
 use lib.IntN.{ℤ, pos}
 use lib.ListN.{getD}

@@ -1,5 +1,5 @@
 -- `interest_maturities::neighbours` meets its contract: each key maturity that the walk passes is before the term, so
--- every figure is read off the one at hand and the next, and where there is none, off the one at hand. Assumes nothing.
+-- every figure is read off the one at hand and the next, and where there is none, off the one at hand.
 use Prim.Native.Nat.{_+_, _-_, _≤_}
 use native.Mathlib.Omega.{arith}
 use lib.ListN.{length}

@@ -1,4 +1,4 @@
--- `apart` meets its contract: two rates are as far apart as they are on the base. Assumes nothing.
+-- `apart` meets its contract: two rates are as far apart as they are on the base.
 use mathlib.Core.Path.{_≡_}
 use mir.Facts.{toZ-ofZ}
 use borrow.Author.Needs.{needs}

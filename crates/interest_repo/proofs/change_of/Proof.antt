@@ -1,4 +1,4 @@
--- `change_of` meets its contract: the greater of the two distances. Assumes nothing.
+-- `change_of` meets its contract: the greater of the two distances.
 use borrow.Author.Needs.{needs}
 use Rattle.paper_interest.specs.Interest.{changeOf}
 use Rattle.interest_repo.proofs.Bits.{rate-kept-in-bits}

@@ -1,4 +1,4 @@
--- `downward` meets its contract: the estimate with that minimum. Assumes nothing.
+-- `downward` meets its contract: the estimate with that minimum.
 use borrow.Author.Needs.{needs}
 use Rattle.interest_repo.proofs.Bits.{rate-kept-in-bits}
 use Rattle.interest_repo.proofs.downward.Statement.{statement}

@@ -1,4 +1,4 @@
--- `estimate` meets its contract: the definition, in its order. Assumes nothing.
+-- `estimate` meets its contract: the definition, in its order.
 use borrow.Author.Needs.{needs}
 use Rattle.interest_repo.specs.Estimates.{estimateOf}
 use Rattle.interest_repo.proofs.estimate.Statement.{statement}

@@ -1,5 +1,4 @@
 -- `figures_of` meets its contract: each figure is made of those before it, and none is higher than the next rule takes.
--- Assumes nothing.
 use Prim.Native.Nat.{_≤_}
 use borrow.Author.Needs.{needs}
 use Rattle.paper.specs.Numbers.{repoTentativeMost}

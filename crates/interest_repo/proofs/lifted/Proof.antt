@@ -1,4 +1,4 @@
--- `lifted` meets its contract: the base is one that `grow` takes. Assumes nothing.
+-- `lifted` meets its contract: the base is one that `grow` takes.
 use mir.Facts.{toZ-ofZ}
 use borrow.Author.Needs.{needs}
 use Rattle.interest_repo.proofs.Bits.{mag-within-repo-most}

@@ -1,5 +1,4 @@
--- `security_minimum` meets its contract: the difference of two rates is that of what they are on the base. Assumes
--- nothing.
+-- `security_minimum` meets its contract: the difference of two rates is that of what they are on the base.
 use mathlib.Core.Path.{_≡_}
 use Prim.Native.Nat.{_+_, _-_}
 use native.Mathlib.Omega.{arith}

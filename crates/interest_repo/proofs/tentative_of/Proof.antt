@@ -1,4 +1,4 @@
--- `tentative_of` meets its contract: t is the paper's, and no higher than a tentative rate may be. Assumes nothing.
+-- `tentative_of` meets its contract: t is the paper's, and no higher than a tentative rate may be.
 use mathlib.Core.Path.{_≡_}
 use native.Mathlib.Omega.{arith}
 use Rattle.paper_interest.specs.Interest.{repoTentativeRate, repoTentative}

@@ -1,4 +1,4 @@
--- `tentative_rate` meets its contract: q·σ is at most 1,000 times the greatest volatility. Assumes nothing.
+-- `tentative_rate` meets its contract: q·σ is at most 1,000 times the greatest volatility.
 use native.Mathlib.Nat.{mul-le-mul}
 use native.Mathlib.Omega.{arith}
 use borrow.Author.Needs.{needs}

@@ -1,4 +1,4 @@
--- `volatility_of` meets its contract: it is the shares' rule, and the ranges are within the shares'. Assumes nothing.
+-- `volatility_of` meets its contract: it is the shares' rule, and the ranges are within the shares'.
 use native.Mathlib.Omega.{arith}
 use Rattle.paper_interest.specs.Interest.{repoVolatility}
 use Rattle.paper_interest.proofs.InterestRanges.{change-held}

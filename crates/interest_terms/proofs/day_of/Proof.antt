@@ -1,4 +1,4 @@
--- `interest_terms::day_of` meets its contract: the day as it is, with the term of each of the three. Assumes nothing.
+-- `interest_terms::day_of` meets its contract: the day as it is, with the term of each of the three.
 use borrow.Author.Needs.{needs}
 use Rattle.paper.specs.Terms.{dayOf}
 use Rattle.interest_terms.proofs.day_of.Statement.{statement}

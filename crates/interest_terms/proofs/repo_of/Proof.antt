@@ -1,4 +1,4 @@
--- `interest_terms::repo_of` meets its contract, by the cases of the definition. Assumes nothing.
+-- `interest_terms::repo_of` meets its contract, by the cases of the definition.
 use borrow.Author.Needs.{needs}
 use Rattle.paper.specs.Terms.{repoOf}
 use Rattle.interest_terms.proofs.repo_of.Statement.{statement}

@@ -1,4 +1,4 @@
--- `interest_terms::term_of` meets its contract: the days as they are, and the band's two numbers. Assumes nothing.
+-- `interest_terms::term_of` meets its contract: the days as they are, and the band's two numbers.
 use mir.Facts.{toZ-ofZ}
 use borrow.Author.Needs.{needs}
 use Rattle.paper.specs.Terms.{termOf}

@@ -1,4 +1,4 @@
--- `interest_terms::worked_repo` meets its contract: what is not done has no band. Assumes nothing.
+-- `interest_terms::worked_repo` meets its contract: what is not done has no band.
 use mathlib.Core.Path.{sym, _∙_}
 use mir.Facts.{toZ-ofZ}
 use Rattle.paper.specs.Terms.{workedRepo}

@@ -1,4 +1,4 @@
--- `limits::band_limit` meets its contract: the limit by the farthest of its side. Assumes nothing.
+-- `limits::band_limit` meets its contract: the limit by the farthest of its side.
 use mir.Facts.{toZ-ofZ}
 use borrow.Author.Needs.{needs}
 use Rattle.limits.proofs.band_limit.Statement.{statement}

@@ -1,4 +1,4 @@
--- `limits::band_moved` meets its contract, by the cases of the definition. Assumes nothing.
+-- `limits::band_moved` meets its contract, by the cases of the definition.
 use borrow.Author.Needs.{needs}
 use Rattle.paper_desk.specs.Limits.{bandMoved}
 use Rattle.limits.proofs.band_moved.Statement.{statement}

@@ -1,5 +1,5 @@
 -- `limits::band_of` meets its contract, side by side, each with its own farthest limit, moves and repo rate. Each of
--- the farthest pair is a limit, since it is at most twice the greatest price. Assumes nothing.
+-- the farthest pair is a limit, since it is at most twice the greatest price.
 use mathlib.Core.Path.{_≡_, ap, _∙_}
 use Prim.Native.Nat.{_≤_}
 use native.Mathlib.Omega.{arith}

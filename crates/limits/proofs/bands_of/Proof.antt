@@ -1,6 +1,5 @@
 -- `limits::bands_of` meets its contract by either way. The quick one is taken where P·(x_pr + S_1) is at most 4·10^12:
--- then its product with the greatest year fits 64 bits, and so does that of P·(x_pr - S_1), which is no more. Assumes
--- nothing.
+-- then its product with the greatest year fits 64 bits, and so does that of P·(x_pr - S_1), which is no more.
 use mathlib.Core.Path.{_≡_, ap}
 use mathlib.Core.Bool.{true}
 use Prim.Native.Nat.{ℕ, _+_, _*_, _≤_}

@@ -1,5 +1,4 @@
--- `limits::bp_to_grid` meets its contract: each arm rounds to the grid that the definition gives to the lot. Assumes
--- nothing.
+-- `limits::bp_to_grid` meets its contract: each arm rounds to the grid that the definition gives to the lot.
 use borrow.Author.Needs.{needs}
 use borrow.Author.Tests.{le-leb, lt-leb}
 use Rattle.paper.specs.Ranges.{gridOf}

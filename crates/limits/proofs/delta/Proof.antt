@@ -1,5 +1,4 @@
 -- `limits::delta` meets its contract: the quotient of the definition, rounded once. The products fit by the ranges.
--- Assumes nothing.
 use native.Mathlib.Omega.{arith}
 use borrow.Author.Needs.{needs}
 use Rattle.paper_desk.specs.Limits.{deltaOf, limitOf}

@@ -1,5 +1,4 @@
--- `limits::farthest_limit` meets its contract: the price shifted by the side's own maximum, rounded inward. Assumes
--- nothing.
+-- `limits::farthest_limit` meets its contract: the price shifted by the side's own maximum, rounded inward.
 use borrow.Author.Needs.{needs}
 use Rattle.limits.specs.LimitRanges.{valid-limit-statics}
 use Rattle.limits.specs.LimitLaws.{farthest-high, farthest-is-shifted}

@@ -1,4 +1,4 @@
--- `limits::farthest_of` meets its contract, side by side. Assumes nothing.
+-- `limits::farthest_of` meets its contract, side by side.
 use borrow.Author.Needs.{needs}
 use Rattle.limits.proofs.farthest_of.Statement.{statement}
 use Rattle.limits.proofs.farthest_of.Tie as tie

@@ -1,4 +1,4 @@
--- `limits::farthest_rate` meets its contract, by the cases of the definition; both maxima are rates. Assumes nothing.
+-- `limits::farthest_rate` meets its contract, by the cases of the definition; both maxima are rates.
 use borrow.Author.Needs.{needs}
 use Rattle.limits.specs.LimitRanges.{valid-limit-statics}
 use Rattle.limits.proofs.farthest_rate.Statement.{statement}

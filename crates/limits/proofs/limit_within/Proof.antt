@@ -1,5 +1,5 @@
 -- `limits::limit_within` meets its contract: the narrower of the two rounded inward is the narrower rounded inward,
--- which is at most twice the greatest price and so a limit. Assumes nothing.
+-- which is at most twice the greatest price and so a limit.
 use mathlib.Core.Path.{_≡_, sym, _∙_}
 use native.Mathlib.Omega.{arith}
 use mir.Facts.{toZ-ofZ}

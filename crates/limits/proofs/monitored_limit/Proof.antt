@@ -1,5 +1,5 @@
 -- `limits::monitored_limit` meets its contract: the three factors and the divisor of the definition, rounded once.
--- Their ranges are those of the wide product. Assumes nothing.
+-- Their ranges are those of the wide product.
 use mathlib.Core.Path.{_≡_}
 use native.Mathlib.Omega.{arith}
 use mir.Facts.{toZ-ofZ}

@@ -1,4 +1,4 @@
--- `limits::narrower` meets its contract, by the cases of the definition. Assumes nothing.
+-- `limits::narrower` meets its contract, by the cases of the definition.
 use borrow.Author.Needs.{needs}
 use Rattle.limits.proofs.narrower.Statement.{statement}
 use Rattle.limits.proofs.narrower.Tie as tie

@@ -1,4 +1,4 @@
--- `limits::one_more` meets its contract, by the cases of the definition. Assumes nothing.
+-- `limits::one_more` meets its contract, by the cases of the definition.
 use native.Mathlib.Omega.{arith}
 use borrow.Author.Needs.{needs}
 use Rattle.paper_desk.specs.Limits.{oneMore}

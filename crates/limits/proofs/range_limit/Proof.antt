@@ -1,4 +1,4 @@
--- `limits::range_limit` meets its contract: it is the shifted limit, rounded half up. Assumes nothing.
+-- `limits::range_limit` meets its contract: it is the shifted limit, rounded half up.
 use borrow.Author.Needs.{needs}
 use Rattle.paper_desk.specs.Limits.{rangeLimit}
 use Rattle.limits.proofs.range_limit.Statement.{statement}

@@ -1,4 +1,4 @@
--- `limits::range_moved` meets its contract, by the cases of the definition. Assumes nothing.
+-- `limits::range_moved` meets its contract, by the cases of the definition.
 use borrow.Author.Needs.{needs}
 use Rattle.paper_desk.specs.Limits.{rangeMoved}
 use Rattle.limits.proofs.range_moved.Statement.{statement}

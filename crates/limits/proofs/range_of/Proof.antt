@@ -1,4 +1,4 @@
--- `limits::range_of` meets its contract, side by side. Assumes nothing.
+-- `limits::range_of` meets its contract, side by side.
 use borrow.Author.Needs.{needs}
 use Rattle.paper_desk.specs.Limits.{rangeOf}
 use Rattle.limits.proofs.range_of.Statement.{statement}

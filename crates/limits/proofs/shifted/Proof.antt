@@ -1,5 +1,4 @@
--- `limits::shifted` meets its contract, by the cases of the definition; the product fits by the ranges. Assumes
--- nothing.
+-- `limits::shifted` meets its contract, by the cases of the definition; the product fits by the ranges.
 use native.Mathlib.Omega.{arith}
 use borrow.Author.Needs.{needs}
 use Rattle.paper.specs.declared.Side.the-variants.{Upper, Lower}

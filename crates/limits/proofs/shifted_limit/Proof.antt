@@ -1,5 +1,5 @@
 -- `limits::shifted_limit` meets its contract: the quotient, rounded once to the grid of the lot, which is at most twice
--- the greatest price and so a limit. Assumes nothing.
+-- the greatest price and so a limit.
 use mathlib.Core.Path.{_≡_}
 use native.Mathlib.Omega.{arith}
 use borrow.Author.Needs.{needs}

@@ -1,4 +1,4 @@
--- `limits::spread` meets its contract, by the cases of the definition; the products fit by the ranges. Assumes nothing.
+-- `limits::spread` meets its contract, by the cases of the definition; the products fit by the ranges.
 use Prim.Native.Nat.{ℕ, _+_, _*_, _≤_}
 use native.Mathlib.Nat.{mul-le-mul}
 use native.Mathlib.Omega.{arith}

@@ -1,5 +1,5 @@
 -- `limits::unmoved_band` meets its contract, side by side, each with its own P·(x_pr ± S_1), repo rate and farthest
--- limit. Assumes nothing.
+-- limit.
 use borrow.Author.Needs.{needs}
 use Rattle.paper.specs.declared.Side.the-variants.{Upper, Lower}
 use Rattle.limits.specs.LimitRanges.{term-days-within-most, term-repo-within-most, term-repo-bits}

@@ -1,5 +1,5 @@
 -- `limits::unmoved_limit` meets its contract: the term's year is at most the greatest one, whose product with
--- P·(x_pr ± S_1) leaves room for a step of the grid. Assumes nothing.
+-- P·(x_pr ± S_1) leaves room for a step of the grid.
 use mathlib.Core.Path.{_≡_}
 use Prim.Native.Nat.{_*_, _≤_}
 use native.Mathlib.Nat.{mul-le-mul-left}

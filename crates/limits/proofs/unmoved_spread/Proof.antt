@@ -1,4 +1,4 @@
--- `limits::unmoved_spread` meets its contract, by the cases of the definition. Assumes nothing.
+-- `limits::unmoved_spread` meets its contract, by the cases of the definition.
 use native.Mathlib.Omega.{arith}
 use borrow.Author.Needs.{needs}
 use Rattle.limits.specs.LimitRanges.{valid-limit-statics}

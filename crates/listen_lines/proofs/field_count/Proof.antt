@@ -1,4 +1,4 @@
--- `listen_lines::field_count` meets its contract: by the kind that the tests lead to. Assumes nothing.
+-- `listen_lines::field_count` meets its contract: by the kind that the tests lead to.
 use native.Mathlib.Omega.{arith}
 use borrow.Author.Tests.{ne-eqb}
 use Rattle.paper_messages.specs.Fields.{staticsFields, ratesFields, bandsFields, moveFields, fieldsOf}

@@ -1,4 +1,4 @@
--- `listen_lines::put_kind` meets its contract: the word of the kind that the tests lead to. Assumes nothing.
+-- `listen_lines::put_kind` meets its contract: the word of the kind that the tests lead to.
 use borrow.Author.Tests.{ne-eqb}
 use Rattle.listen_lines.specs.Lines.{kindWord}
 use borrow.Author.Needs.{needs}

@@ -1,4 +1,4 @@
--- `listen_lines::say_message` meets its contract: the word, the fields and the end of the line. Assumes nothing.
+-- `listen_lines::say_message` meets its contract: the word, the fields and the end of the line.
 use mathlib.Core.Path.{sym}
 use native.Mathlib.Omega.{arith}
 use lib.Seq.{length-take-le}

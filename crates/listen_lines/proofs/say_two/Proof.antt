@@ -1,4 +1,4 @@
--- `listen_lines::say_two` meets its contract: the word, the two numbers and the end of the line. Assumes nothing.
+-- `listen_lines::say_two` meets its contract: the word, the two numbers and the end of the line.
 use native.Mathlib.Omega.{arith}
 use Rattle.text_out.specs.Told.{both}
 use Rattle.listen_lines.proofs.Turns.{word-line-written}

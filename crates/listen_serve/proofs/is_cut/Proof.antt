@@ -1,4 +1,4 @@
--- `listen_serve::is_cut` meets its contract: two verdicts are one where their numbers are. Assumes nothing.
+-- `listen_serve::is_cut` meets its contract: two verdicts are one where their numbers are.
 use borrow.Author.Needs.{needs}
 use Rattle.listen_serve.proofs.is_cut.Statement.{statement}
 use Rattle.listen_serve.proofs.is_cut.Tie as tie

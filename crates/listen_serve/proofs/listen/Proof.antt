@@ -1,4 +1,4 @@
--- `listen_serve::listen` meets its contract: step after step, until nothing more is heard. Assumes nothing.
+-- `listen_serve::listen` meets its contract: step after step, until nothing more is heard.
 use mathlib.Core.Path.{_≡_, refl, sym, _∙_}
 use Prim.Native.Nat.{_≤_}
 use native.Mathlib.Omega.{arith}

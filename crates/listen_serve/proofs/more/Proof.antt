@@ -1,4 +1,4 @@
--- `listen_serve::more` meets its contract: what is read stands behind what is not heard yet. Assumes nothing.
+-- `listen_serve::more` meets its contract: what is read stands behind what is not heard yet.
 use mathlib.Core.Path.{refl, _∙_}
 use Rattle.listen_serve.proofs.Turns.{delivered-both}
 use borrow.Author.Needs.{needs}

@@ -1,4 +1,4 @@
--- `listen_serve::read_on` meets its contract: the lines are written, and more is read. Assumes nothing.
+-- `listen_serve::read_on` meets its contract: the lines are written, and more is read.
 use Rattle.listen_serve.proofs.Turns.{written-stands, write-failed, count-used-up, reads-more}
 use native.Mathlib.Omega.{arith}
 use borrow.Author.Needs.{needs}

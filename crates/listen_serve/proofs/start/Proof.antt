@@ -1,4 +1,4 @@
--- `listen_serve::start` meets its contract. Assumes nothing.
+-- `listen_serve::start` meets its contract.
 use borrow.Author.Needs.{needs}
 use Rattle.listen_serve.proofs.start.Statement.{statement}
 use Rattle.listen_serve.proofs.start.Tie as tie

@@ -1,4 +1,4 @@
--- `listen_serve::step` meets its contract: what is heard is told, or more is read, or it is over. Assumes nothing.
+-- `listen_serve::step` meets its contract: what is heard is told, or more is read, or it is over.
 use mathlib.Core.Path.{_≡_, sym, _∙_}
 use lib.ListN.{length}
 use contract.Lifetimes.{Lfts}

@@ -1,4 +1,4 @@
--- `listen_serve::tell` meets its contract: the line is gathered, and written where it has to be. Assumes nothing.
+-- `listen_serve::tell` meets its contract: the line is gathered, and written where it has to be.
 use native.Mathlib.Omega.{arith}
 use Rattle.listen_serve.proofs.Turns.{told-refused, told-written, told-waits}
 use borrow.Author.Needs.{needs}

@@ -1,4 +1,4 @@
--- `listen_serve::went_well` meets its contract: it asks the evidence. Assumes nothing.
+-- `listen_serve::went_well` meets its contract: it asks the evidence.
 use borrow.Author.Needs.{needs}
 use Rattle.listen_serve.proofs.went_well.Statement.{statement}
 use Rattle.listen_serve.proofs.went_well.Tie as tie

@@ -1,4 +1,4 @@
--- `listen_serve::write_out` meets its contract: the lines that wait are handed over, all of them. Assumes nothing.
+-- `listen_serve::write_out` meets its contract: the lines that wait are handed over, all of them.
 use mathlib.Core.Path.{refl, ap}
 use mathlib.Core.Bool.{Bool, not, _||_}
 use borrow.Author.Needs.{needs}

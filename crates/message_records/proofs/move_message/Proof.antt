@@ -1,4 +1,4 @@
--- `move_message` meets its contract: the message's values, place by place. Assumes nothing.
+-- `move_message` meets its contract: the message's values, place by place.
 use Rattle.paper_messages.specs.Records.{moveMessage, message, valueOf}
 use Rattle.paper_messages.specs.Fields.{filled}
 use borrow.Author.Needs.{needs}

@@ -1,4 +1,4 @@
--- `rates_message` meets its contract: the message's values, place by place. Assumes nothing.
+-- `rates_message` meets its contract: the message's values, place by place.
 use Rattle.paper_messages.specs.Records.{ratesMessage, message, valueOf}
 use Rattle.paper_messages.specs.Fields.{filled}
 use borrow.Author.Needs.{needs}

@@ -1,4 +1,4 @@
--- `statics_message` meets its contract: the message's values, place by place. Assumes nothing.
+-- `statics_message` meets its contract: the message's values, place by place.
 use Rattle.paper_messages.specs.Records.{staticsMessage, message}
 use Rattle.paper_messages.specs.Fields.{filled}
 use borrow.Author.Needs.{needs}

@@ -1,5 +1,5 @@
 -- `value_of` meets its contract: its test is that of the definition, and a number below the bound is the same number
--- with a sign. Assumes nothing.
+-- with a sign.
 use borrow.Author.Tests.{lt-ltb, le-ltb}
 use mir.Facts.{toZ-pos}
 use mir.Syntax.{w64}

@@ -1,5 +1,5 @@
 -- `values_of` meets its contract: before each turn the values still to write, written behind those written, are the
--- values of all numbers (`Valuing`). Assumes nothing.
+-- values of all numbers (`Valuing`).
 use Prim.Native.Nat.{_-_}
 use native.Mathlib.Omega.{arith}
 use Rattle.paper_messages.specs.Fields.{places as placeCount}

@@ -1,5 +1,5 @@
 -- `read` meets its contract: the checks of the length, in their order; and what is lent are bytes, as a `&[u8]` says of
--- itself where it comes in. Assumes nothing.
+-- itself where it comes in.
 use mathlib.Core.Path.{_∙_}
 use native.Mathlib.Omega.{arith}
 use denote.Ref.{now}

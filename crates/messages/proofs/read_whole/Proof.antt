@@ -1,4 +1,4 @@
--- `read_whole` meets its contract: the kind's own checks, in their order. Assumes nothing.
+-- `read_whole` meets its contract: the kind's own checks, in their order.
 use mathlib.Core.Path.{_≡_, sym, _∙_}
 use mathlib.Core.Bool.{true}
 use Prim.Native.Nat.{_+_}

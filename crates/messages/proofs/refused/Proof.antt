@@ -1,5 +1,5 @@
 -- `refused` meets its contract: it has the verdict and zeros, as the definition has, and the message is that of
--- `no_message`. Assumes nothing.
+-- `no_message`.
 use Rattle.paper_messages.specs.Messages.{refusedHeard}
 use borrow.Author.Needs.{needs}
 use Rattle.messages.proofs.refused.Statement.{statement}

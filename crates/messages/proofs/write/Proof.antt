@@ -1,4 +1,4 @@
--- `write` meets its contract: 23, then 24, and then three stores one behind the other. Assumes nothing.
+-- `write` meets its contract: 23, then 24, and then three stores one behind the other.
 use mathlib.Core.Path.{_≡_, sym, ap, _∙_}
 use mathlib.Core.Bool.{true}
 use Prim.Native.Nat.{_+_, _≤_}

@@ -1,4 +1,4 @@
--- `figures_by_volatility` meets its contract: by isEWMA, the figures that t makes, or those that stay. Assumes nothing.
+-- `figures_by_volatility` meets its contract: by isEWMA, the figures that t makes, or those that stay.
 use mathlib.Core.Path.{sym, _∙_}
 use mathlib.Core.Bool.{false}
 use Prim.Native.Nat.{ℕ, _≤_}

@@ -1,4 +1,4 @@
--- `figures_of` meets its contract: by isEWMA, the figures of one rule or of the other. Assumes nothing.
+-- `figures_of` meets its contract: by isEWMA, the figures of one rule or of the other.
 use mathlib.Core.Path.{_≡_, ap, sym, _∙_}
 use mathlib.Core.Bool.{true, false}
 use Prim.Native.Nat.{ℕ, _≤_}

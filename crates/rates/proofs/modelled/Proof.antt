@@ -1,5 +1,5 @@
 -- `modelled` meets its contract: each figure is made of those before it, and what is made stays in the ranges of the
--- next rule. Assumes nothing.
+-- next rule.
 use Prim.Native.Nat.{_≤_}
 use native.Mathlib.Omega.{arith}
 use borrow.Author.Needs.{needs}

@@ -1,4 +1,4 @@
--- `move_too_large` meets its contract: the test of the code is the definition's. Assumes nothing.
+-- `move_too_large` meets its contract: the test of the code is the definition's.
 use mathlib.Core.Path.{refl}
 use Rattle.paper_desk.specs.Rates.{moveTooLarge}
 use Rattle.rates.proofs.move_too_large.Statement.{statement}

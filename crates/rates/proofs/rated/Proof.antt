@@ -1,5 +1,4 @@
 -- `rated` meets its contract: the rates are those of the tentative rate that t makes, which stays in their range.
--- Assumes nothing.
 use native.Mathlib.Omega.{arith}
 use Rattle.paper_desk.proofs.Bounds.{tentative-held}
 use Rattle.rates.proofs.rated.Statement.{statement}

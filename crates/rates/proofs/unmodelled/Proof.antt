@@ -1,4 +1,4 @@
--- `unmodelled` meets its contract: the minima, and the other figures as they were. Assumes nothing.
+-- `unmodelled` meets its contract: the minima, and the other figures as they were.
 use borrow.Author.Needs.{needs}
 use Rattle.paper_desk.specs.Rates.{unmodelled}
 use Rattle.rates.proofs.unmodelled.Statement.{statement}

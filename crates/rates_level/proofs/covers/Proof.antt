@@ -1,5 +1,4 @@
--- `covers` meets its contract: a rate meets the requirement where, times rh_1, it reaches the two roots. Assumes
--- nothing.
+-- `covers` meets its contract: a rate meets the requirement where, times rh_1, it reaches the two roots.
 use Prim.Native.Nat.{_*_, _≤_}
 use native.Mathlib.Nat.{mul-le-mul}
 use native.Mathlib.Omega.{arith}

@@ -1,5 +1,4 @@
--- `least_reach` meets its contract: a search by halves for the least number that passes the definition's test. Assumes
--- nothing.
+-- `least_reach` meets its contract: a search by halves for the least number that passes the definition's test.
 use mathlib.Core.Path.{_≡_, sym, _∙_}
 use Prim.Native.Nat.{ℕ, _+_, _-_, _*_, _/_, _≤_, _<_}
 use native.Mathlib.Nat.{le-trans, mul-le-mul-right}

@@ -1,5 +1,4 @@
 -- `level_of` meets its contract: the tests of the code are those of the two definitions, and each minimum is a rate.
--- Assumes nothing.
 use borrow.Author.Needs.{needs}
 use borrow.Author.Tests.{eq-eqb, ne-eqb}
 use Rattle.paper_desk.specs.Rates.{daysOf, minimumOf}

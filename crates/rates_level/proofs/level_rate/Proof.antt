@@ -1,4 +1,4 @@
--- `level_rate` meets its contract: the least rate that covers the level's requirement, from its guess. Assumes nothing.
+-- `level_rate` meets its contract: the least rate that covers the level's requirement, from its guess.
 use borrow.Author.Needs.{needs}
 use Rattle.rates_level.proofs.Reach.{level-is-sought, least-rate-is-level-rate}
 use Rattle.rates_level.proofs.level_rate.Statement.{statement}

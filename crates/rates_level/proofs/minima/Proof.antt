@@ -1,4 +1,4 @@
--- `minima` meets its contract: the definition, computed at the three levels; each minimum is a rate. Assumes nothing.
+-- `minima` meets its contract: the definition, computed at the three levels; each minimum is a rate.
 use borrow.Author.Needs.{needs}
 use Rattle.paper_desk.specs.Rates.{minimumOf}
 use Rattle.rates_level.proofs.minima.Statement.{statement}

@@ -1,5 +1,4 @@
 -- `rate_near` meets its contract: a guess that both tests pass is the rate, and every other rate is searched for.
--- Assumes nothing.
 use mathlib.Core.Path.{_≡_, ap, sym, _∙_}
 use mathlib.Core.Bool.{Bool, true, not, _||_}
 use Prim.Native.Nat.{ℕ, _*_, _≤_}

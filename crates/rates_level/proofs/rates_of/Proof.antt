@@ -1,4 +1,4 @@
--- `rates_of` meets its contract, level by level, each from the one guess and the same squares. Assumes nothing.
+-- `rates_of` meets its contract, level by level, each from the one guess and the same squares.
 use mathlib.Core.Path.{_≡_}
 use Prim.Native.Nat.{ℕ}
 use borrow.Author.Needs.{needs}

@@ -1,5 +1,4 @@
--- `reaches` meets its contract. Where a + b is at most x², 4·a·b ≤ (a + b)² is at most x⁴, so nothing wraps. Assumes
--- nothing.
+-- `reaches` meets its contract. Where a + b is at most x², 4·a·b ≤ (a + b)² is at most x⁴, so nothing wraps.
 use Prim.Native.Nat.{ℕ, _+_, _-_, _*_, _≤_}
 use native.Mathlib.Nat.{mul-le-mul, le-trans}
 use native.Mathlib.Omega.{arith}

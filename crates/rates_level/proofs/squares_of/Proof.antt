@@ -1,4 +1,4 @@
--- `squares_of` meets its contract: each product is bounded by its factors' ranges. Assumes nothing.
+-- `squares_of` meets its contract: each product is bounded by its factors' ranges.
 use native.Mathlib.Omega.{arith}
 use borrow.Author.Needs.{needs}
 use Rattle.rates_level.proofs.Reach.{SquareSizes, square-sizes}

@@ -1,5 +1,5 @@
 -- `record_admission::admitted` meets its contract: an admission with a price that is not made is refused 4, and with
--- both made it is `admitted_at`'s. Assumes nothing.
+-- both made it is `admitted_at`'s.
 use mathlib.Core.Path.{_≡_, sym, _∙_}
 use Rattle.paper.proofs.Logic.{not-true-and-false}
 use Rattle.inputs.proofs.Made.{price-made, price-unmade}

@@ -1,5 +1,5 @@
 -- `record_admission::admitted_at` meets its contract: each return is the first check that applies, in the order 4, 2,
--- 3, or none. Assumes nothing.
+-- 3, or none.
 use mathlib.Core.Path.{_≡_, sym, _∙_}
 use mathlib.Core.Bool.{true, false, _&&_}
 use Rattle.paper.specs.Ranges.{validSlots, validAdmission}

@@ -1,4 +1,4 @@
--- `record_answers::absent` meets its contract: its record is the blank that `blank` makes. Assumes nothing.
+-- `record_answers::absent` meets its contract: its record is the blank that `blank` makes.
 use mathlib.Core.Path.{ap}
 use borrow.Author.Needs.{needs}
 use Rattle.paper.specs.declared.Record.{Record}

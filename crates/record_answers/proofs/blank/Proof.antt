@@ -1,4 +1,4 @@
--- `record_answers::blank` meets its contract: every figure is the definition's. Assumes nothing.
+-- `record_answers::blank` meets its contract: every figure is the definition's.
 use mathlib.Core.Path.{refl}
 use Rattle.paper_desk.specs.Desk.{blank}
 use Rattle.record_answers.proofs.blank.Statement.{statement}

@@ -1,5 +1,4 @@
 -- `record_answers::holds` meets its contract: the place is compared with the number of slots, as the definition does.
--- Assumes nothing.
 use mathlib.Core.Path.{refl}
 use Rattle.record_answers.specs.Effects.{holds}
 use Rattle.record_answers.proofs.holds.Statement.{statement}

@@ -1,5 +1,4 @@
 -- `record_answers::is_known` meets its contract: its three tests are the definition's, in the definition's order.
--- Assumes nothing.
 use Rattle.record_answers.specs.Effects.{isKnown}
 use borrow.Author.Needs.{needs}
 use Rattle.record_answers.proofs.is_known.Statement.{statement}

@@ -1,5 +1,4 @@
--- `record_answers::refused` meets its contract: the blank is stored past the end, and the verdict is said. Assumes
--- nothing.
+-- `record_answers::refused` meets its contract: the blank is stored past the end, and the verdict is said.
 use borrow.Author.Needs.{needs}
 use Rattle.record_answers.specs.Effects.{refusedEffect}
 use Rattle.record_answers.proofs.refused.Statement.{statement}

@@ -1,4 +1,4 @@
--- `record_answers::saying` meets its contract: the verdict, with the blank for its record. Assumes nothing.
+-- `record_answers::saying` meets its contract: the verdict, with the blank for its record.
 use borrow.Author.Needs.{needs}
 use Rattle.paper_desk.specs.Desk.{saying}
 use Rattle.record_answers.proofs.saying.Statement.{statement}

@@ -1,4 +1,4 @@
--- `record_answers::written` meets its contract: one record is stored and shown. Assumes nothing.
+-- `record_answers::written` meets its contract: one record is stored and shown.
 use borrow.Author.Needs.{needs}
 use Rattle.record_answers.proofs.written.Statement.{statement}
 use Rattle.record_answers.proofs.written.Tie as tie

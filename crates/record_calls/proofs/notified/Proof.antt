@@ -1,5 +1,5 @@
 -- `record_calls::notified` meets its contract: each arm rewrites with the notice that it matched, whose float is bad
--- where its units are 0. Assumes nothing.
+-- where its units are 0.
 use mathlib.Core.Path.{_≡_}
 use Rattle.paper_desk.specs.External.{isBad, keptAfter}
 use Rattle.record_calls.proofs.Judging.{none-zero}

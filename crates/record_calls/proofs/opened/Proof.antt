@@ -1,5 +1,5 @@
 -- `record_calls::opened` meets its contract: each return is the first check that applies, in the order 1, 10, 19, or
--- the evening is opened. Assumes nothing.
+-- the evening is opened.
 use mathlib.Core.Path.{_≡_, sym, _∙_}
 use mathlib.Core.Bool.{true}
 use Rattle.paper.specs.Ranges.{isLive}

@@ -1,5 +1,5 @@
 -- `record_calls::read` meets its contract: a known record is shown, and an unknown one is refused 1, which is the only
--- check of a read. Assumes nothing.
+-- check of a read.
 use mathlib.Core.Path.{_≡_, sym, _∙_}
 use mathlib.Core.Bool.{true, false}
 use Rattle.paper.specs.Verdicts.{isDone, firstOf}

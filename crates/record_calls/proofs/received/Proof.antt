@@ -1,5 +1,4 @@
 -- `record_calls::received` meets its contract: a float of two is bad where its units are 0, and the units are the pair.
--- Assumes nothing.
 use Rattle.paper_desk.specs.External.{isBad, keptAfter}
 use Rattle.record_calls.proofs.Judging.{none-zero}
 use borrow.Author.Needs.{needs}

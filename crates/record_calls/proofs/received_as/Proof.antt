@@ -1,5 +1,5 @@
 -- `record_calls::received_as` meets its contract: each return is the first check that applies, in the order 1, 20, or
--- the pair is kept. Assumes nothing.
+-- the pair is kept.
 use mathlib.Core.Path.{_≡_, sym, _∙_}
 use mathlib.Core.Bool.{true}
 use Rattle.record_answers.specs.Effects.{isKnown}

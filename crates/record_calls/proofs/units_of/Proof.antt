@@ -1,4 +1,4 @@
--- `record_calls::units_of` meets its contract: each arm rewrites with the price that it matched. Assumes nothing.
+-- `record_calls::units_of` meets its contract: each arm rewrites with the price that it matched.
 use mathlib.Core.Path.{sym, _∙_}
 use borrow.Author.Needs.{needs}
 use Rattle.paper_desk.specs.External.{unitsMade}

@@ -1,5 +1,4 @@
 -- `record_evaluation::evaluated` meets its contract: what the day comes to is a refusal, or stored and answered.
--- Assumes nothing.
 use mathlib.Core.Path.{sym, ap, _∙_}
 use Rattle.paper.specs.Verdicts.{isDone}
 use Rattle.record_answers.proofs.Tests.{tested-true, tested-false}

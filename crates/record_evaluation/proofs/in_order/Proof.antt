@@ -1,4 +1,4 @@
--- `record_evaluation::in_order` meets its contract, band by band. Assumes nothing.
+-- `record_evaluation::in_order` meets its contract, band by band.
 use borrow.Author.Needs.{needs}
 use Rattle.record_evaluation.proofs.in_order.Statement.{statement}
 use Rattle.record_evaluation.proofs.in_order.Tie as tie

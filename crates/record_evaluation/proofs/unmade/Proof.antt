@@ -1,4 +1,4 @@
--- `record_evaluation::unmade` meets its contract, field by field. Assumes nothing.
+-- `record_evaluation::unmade` meets its contract, field by field.
 use mathlib.Core.Path.{refl}
 use Rattle.paper_desk.specs.Desk.{blank}
 use Rattle.record_evaluation.proofs.unmade.Statement.{statement}

@@ -1,4 +1,4 @@
--- `record_evaluation::used_by` meets its contract: its test is the definition's. Assumes nothing.
+-- `record_evaluation::used_by` meets its contract: its test is the definition's.
 use Rattle.paper_desk.specs.Evaluation.{usedPair}
 use Rattle.paper_desk.specs.Desk.{usedBy}
 use Rattle.record_evaluation.proofs.used_by.Statement.{statement}

@@ -1,4 +1,4 @@
--- `record_evaluation::valid_day` meets its contract: its two tests are the definition's. Assumes nothing.
+-- `record_evaluation::valid_day` meets its contract: its two tests are the definition's.
 use borrow.Author.Needs.{needs}
 use Rattle.record_evaluation.proofs.valid_day.Statement.{statement}
 use Rattle.record_evaluation.proofs.valid_day.Tie as tie

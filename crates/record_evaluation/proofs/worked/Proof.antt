@@ -1,5 +1,5 @@
 -- `record_evaluation::worked` meets its contract: each return is the first check that applies, 1, 6, 16, 5 or 7; after
--- them the evaluation and its figures are all that the rest takes. Assumes nothing.
+-- them the evaluation and its figures are all that the rest takes.
 use mathlib.Core.Path.{_≡_, sym, ap, _∙_}
 use mathlib.Core.Bool.{true, false}
 use lib.Dec.{leb}

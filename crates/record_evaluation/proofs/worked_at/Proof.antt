@@ -1,5 +1,5 @@
 -- `record_evaluation::worked_at` meets its contract: where 1, 6, 16, 5 and 7 do not apply, each return is the first
--- check that applies, 8 or 9, or none. Assumes nothing.
+-- check that applies, 8 or 9, or none.
 use mathlib.Core.Path.{_≡_, sym, ap, _∙_}
 use mathlib.Core.List.{List}
 use lib.IntN.{ℤ}

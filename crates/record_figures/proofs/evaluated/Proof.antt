@@ -1,5 +1,5 @@
 -- `record_figures::evaluated` meets its contract: what was made is the paper's, the terms are the day's, and all else
--- is cleared or the record's. Assumes nothing.
+-- is cleared or the record's.
 use mathlib.Core.Path.{_≡_}
 use lib.ListN.{length, length-map}
 use Rattle.paper.specs.Ranges.{noTerm}

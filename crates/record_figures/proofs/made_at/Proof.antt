@@ -1,5 +1,5 @@
 -- `record_figures::made_at` meets its contract: the limits are made of the price and the figures, which are those of
--- any rows with that price. Assumes nothing.
+-- any rows with that price.
 use borrow.Author.Needs.{needs}
 use Prim.Native.Nat.{ℕ, _<_}
 use native.Mathlib.Omega.{arith}

@@ -1,5 +1,5 @@
 -- `record_monitoring::alerts_on` meets its contract: each side's alert is of its near second after the quote, by the
--- session's seconds. Assumes nothing.
+-- session's seconds.
 use borrow.Author.Needs.{needs}
 use Rattle.paper_desk.specs.Desk.{alerting, alertsOn}
 use Rattle.record_monitoring.proofs.alerts_on.Statement.{statement}

@@ -1,5 +1,4 @@
 -- `record_monitoring::moved` meets its contract: a shared check refuses, or 18 does, or 12, or the move is written.
--- Assumes nothing.
 use mathlib.Core.Path.{_≡_, ap, _∙_}
 use mathlib.Core.Bool.{true}
 use borrow.Author.Tests.{eq-eqb, ne-eqb}

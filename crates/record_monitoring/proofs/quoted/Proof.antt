@@ -1,5 +1,5 @@
 -- `record_monitoring::quoted` meets its contract: a shared check refuses, or 13 does, or the quote is written and its
--- alerts answered. Assumes nothing.
+-- alerts answered.
 use mathlib.Core.Path.{_≡_, ap, _∙_}
 use borrow.Author.Tests.{lt-ltb, le-ltb}
 use Rattle.paper.specs.Ranges.{validQuote}

@@ -1,5 +1,5 @@
 -- `record_monitoring::shared_checks` meets its contract: each return is the first check that applies, in the order 1,
--- 6, 10, 11, or none. Assumes nothing.
+-- 6, 10, 11, or none.
 use mathlib.Core.Path.{_≡_}
 use mathlib.Core.Bool.{true}
 use Rattle.paper.specs.Ranges.{isLive}

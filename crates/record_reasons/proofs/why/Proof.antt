@@ -1,5 +1,5 @@
 -- `record_reasons::why` meets its contract: of a refusal the number and the fault are said, of an evaluation that is
--- accepted the reasons. Assumes nothing.
+-- accepted the reasons.
 use mathlib.Core.Path.{_≡_}
 use mathlib.Core.Bool.{true}
 use Rattle.paper.specs.Verdicts.{isDone}

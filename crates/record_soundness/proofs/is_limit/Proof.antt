@@ -1,5 +1,5 @@
 -- `record_soundness::is_limit` meets its contract: the limit is made exactly where the definition's first test passes,
--- and its grid is judged by `is_on_grid`. Assumes nothing.
+-- and its grid is judged by `is_on_grid`.
 use mathlib.Core.Path.{_≡_, sym, _∙_}
 use Prim.Native.Nat.{ℕ}
 use native.Mathlib.Omega.{arith}

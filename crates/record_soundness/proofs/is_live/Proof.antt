@@ -1,4 +1,4 @@
--- `record_soundness::is_live` meets its contract: each arm rewrites with the variant that it matched. Assumes nothing.
+-- `record_soundness::is_live` meets its contract: each arm rewrites with the variant that it matched.
 use borrow.Author.Needs.{needs}
 use Rattle.paper.specs.Ranges.{isLive}
 use Rattle.record_soundness.proofs.is_live.Statement.{statement}

@@ -1,4 +1,4 @@
--- `record_soundness::last_day` meets its contract: each arm rewrites with the variant that it matched. Assumes nothing.
+-- `record_soundness::last_day` meets its contract: each arm rewrites with the variant that it matched.
 use borrow.Author.Needs.{needs}
 use Rattle.paper.specs.Ranges.{lastDay}
 use Rattle.record_soundness.proofs.last_day.Statement.{statement}

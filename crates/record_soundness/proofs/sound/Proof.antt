@@ -1,5 +1,5 @@
 -- `record_soundness::sound` meets its contract: the definition is the figures, then each part as its function judges
--- it; the code judges the bands with the ranges, before the terms. Assumes nothing.
+-- it; the code judges the bands with the ranges, before the terms.
 use mathlib.Core.Path.{_≡_, refl, sym, _∙_}
 use mathlib.Core.Bool.{Bool, true, false, _&&_}
 use mathlib.Core.List.{List}

@@ -1,6 +1,5 @@
 -- `record_soundness::sound_figures` meets its contract: where the id and the statics are in range the rest of the test
 -- is that of the figures and the age, and where they are not the whole is no. The step of valid statics is not 0.
--- Assumes nothing.
 use mathlib.Core.Path.{_≡_}
 use mathlib.Core.Bool.{true, _&&_}
 use borrow.Author.Needs.{needs}

@@ -1,4 +1,4 @@
--- `record_soundness::valid_limits` meets its contract: either limit is judged by `is_limit`. Assumes nothing.
+-- `record_soundness::valid_limits` meets its contract: either limit is judged by `is_limit`.
 use borrow.Author.Needs.{needs}
 use Rattle.paper.specs.Ranges.{validLimits}
 use Rattle.record_soundness.proofs.valid_limits.Statement.{statement}

@@ -1,4 +1,4 @@
--- `record_soundness::valid_near_seconds` meets its contract: either side is judged by `valid_near`. Assumes nothing.
+-- `record_soundness::valid_near_seconds` meets its contract: either side is judged by `valid_near`.
 use borrow.Author.Needs.{needs}
 use Rattle.paper.specs.Ranges.{validNearSeconds}
 use Rattle.record_soundness.proofs.valid_near_seconds.Statement.{statement}

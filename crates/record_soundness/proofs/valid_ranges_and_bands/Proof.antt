@@ -1,5 +1,5 @@
 -- `record_soundness::valid_ranges_and_bands` meets its contract: one test at each of the six places, and the definition
--- takes the three of the bands together. Assumes nothing.
+-- takes the three of the bands together.
 use mathlib.Core.Path.{_≡_, refl}
 use mathlib.Core.Bool.{Bool, true, false, _&&_}
 use borrow.Author.Needs.{needs}

@@ -1,4 +1,4 @@
--- `record_soundness::valid_slots` meets its contract: the code's tests are the definition's. Assumes nothing.
+-- `record_soundness::valid_slots` meets its contract: the code's tests are the definition's.
 use mathlib.Core.Path.{refl}
 use Rattle.paper.specs.Ranges.{validSlots}
 use Rattle.record_soundness.proofs.valid_slots.Statement.{statement}

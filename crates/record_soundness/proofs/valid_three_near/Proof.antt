@@ -1,4 +1,4 @@
--- `record_soundness::valid_three_near` meets its contract: one test at each of the three places. Assumes nothing.
+-- `record_soundness::valid_three_near` meets its contract: one test at each of the three places.
 use borrow.Author.Needs.{needs}
 use Rattle.inputs.proofs.Tests.{three-tests-same}
 use Rattle.record_soundness.proofs.valid_three_near.Statement.{statement}

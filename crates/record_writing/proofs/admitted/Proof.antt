@@ -1,5 +1,5 @@
 -- `record_writing::admitted` meets its contract: the statics are those given, the rates their minima, the two prices
--- those given, and all else is at 0. Assumes nothing.
+-- those given, and all else is at 0.
 use borrow.Author.Needs.{needs}
 use Rattle.paper_desk.specs.Desk.{admitted}
 use Rattle.inputs.proofs.Facts.{admission-facts}

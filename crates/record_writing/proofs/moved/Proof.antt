@@ -1,5 +1,5 @@
 -- `record_writing::moved` meets its contract: each part of the record is that part's rule, and a sound record with a
--- move left is in their ranges. Assumes nothing.
+-- move left is in their ranges.
 use borrow.Author.Needs.{needs}
 use Rattle.paper_desk.specs.Desk.{moved}
 use Rattle.record_soundness.proofs.Facts.{sound-facts}

@@ -1,5 +1,4 @@
 -- `record_writing::near_on` meets its contract, side by side: each is tested against the band of the quote's term.
--- Assumes nothing.
 use native.Mathlib.Omega.{arith}
 use borrow.Author.Needs.{needs}
 use Rattle.paper_desk.specs.Desk.{nearOn}

@@ -1,5 +1,5 @@
 -- `record_writing::opened` meets its contract: the near seconds and the session are the definition's, and all else is
--- the record's. Assumes nothing.
+-- the record's.
 use mathlib.Core.Path.{refl}
 use Rattle.paper_desk.specs.Desk.{eveningOpened}
 use Rattle.record_writing.proofs.opened.Statement.{statement}

@@ -1,5 +1,4 @@
 -- `record_writing::quoted` meets its contract: of the record only the quote's term and the last quote second change.
--- Assumes nothing.
 use native.Mathlib.Omega.{arith}
 use Rattle.paper_desk.specs.Desk.{quoted}
 use Rattle.record_writing.proofs.Facts.{quoted-term-below-three}

@@ -1,5 +1,4 @@
 -- `record_writing::received` meets its contract: the pair is the one that is then kept, and all else is the record's.
--- Assumes nothing.
 use Rattle.paper_desk.specs.Desk.{received}
 use Rattle.record_writing.proofs.received.Statement.{statement}
 use Rattle.record_writing.proofs.received.Tie as tie

@@ -1,4 +1,4 @@
--- `rows::close_for_volume` meets its contract: its two tests are the definition's. Assumes nothing.
+-- `rows::close_for_volume` meets its contract: its two tests are the definition's.
 use borrow.Author.Needs.{needs}
 use Rattle.rows.proofs.close_for_volume.Statement.{statement}
 use Rattle.rows.proofs.close_for_volume.Tie as tie

@@ -1,5 +1,4 @@
--- `rows::every_row_passes` meets its contract: it is the walk of LentLaws over the rows, by either test. Assumes
--- nothing.
+-- `rows::every_row_passes` meets its contract: it is the walk of LentLaws over the rows, by either test.
 use Prim.Native.Nat.{_-_}
 use native.Mathlib.Omega.{arith}
 use lib.ListN.{length}

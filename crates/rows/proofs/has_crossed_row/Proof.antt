@@ -1,4 +1,4 @@
--- `rows::has_crossed_row` meets its contract: some row is crossed where not every row passes. Assumes nothing.
+-- `rows::has_crossed_row` meets its contract: some row is crossed where not every row passes.
 use mathlib.Core.Path.{_∙_, ap}
 use mathlib.Core.Bool.{not}
 use Rattle.rows.specs.RowTests.{crossed-fails}

@@ -1,5 +1,5 @@
 -- `rows::row_at` meets its contract: each number stands at its place of the row, and a row in range has none below zero
--- but the repo rate, whose bits are read back. Assumes nothing.
+-- but the repo rate, whose bits are read back.
 use mir.Syntax.{w64}
 use mir.Facts.{toZ-ofZ}
 use Rattle.paper.specs.Ranges.{rowOf, rowAt}

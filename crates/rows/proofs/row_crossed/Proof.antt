@@ -1,5 +1,5 @@
 -- `rows::row_crossed` meets its contract: the bid and the ask stand at their places of the row, and its three tests are
--- the definition's. Assumes nothing.
+-- the definition's.
 use Rattle.paper.specs.Ranges.{rowOf, rowAt}
 use Rattle.paper_desk.specs.Evaluation.{isCrossedRow}
 use borrow.Author.Needs.{needs}

@@ -1,4 +1,4 @@
--- `rows::row_passes` meets its contract: each test of the code is the one of its name. Assumes nothing.
+-- `rows::row_passes` meets its contract: each test of the code is the one of its name.
 use mathlib.Core.Path.{_∙_, ap}
 use mathlib.Core.Bool.{not}
 use borrow.Author.Needs.{needs}

@@ -1,5 +1,5 @@
 -- `rows::row_valid` meets its contract: its two tables have the definition's ranges, in its order, and a close for a
--- volume is its last test. Assumes nothing.
+-- volume is its last test.
 use native.Mathlib.Nat.{add-zero}
 use Rattle.paper.specs.Ranges.{validRow, rowAt}
 use Rattle.exact.specs.Within.{withinFirst}

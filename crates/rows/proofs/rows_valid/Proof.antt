@@ -1,5 +1,5 @@
 -- `rows::rows_valid` meets its contract: only whole rows are walked, and without them the definition's first test
--- fails. Assumes nothing.
+-- fails.
 use mathlib.Core.Path.{_≡_, sym, _∙_}
 use mathlib.Core.Bool.{true}
 use borrow.Author.Needs.{needs}

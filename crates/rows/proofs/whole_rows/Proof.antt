@@ -1,4 +1,4 @@
--- `rows::whole_rows` meets its contract: its two tests are the definition's. Assumes nothing.
+-- `rows::whole_rows` meets its contract: its two tests are the definition's.
 use mathlib.Core.Path.{refl}
 use Rattle.paper.specs.Ranges.{wholeRows}
 use Rattle.rows.proofs.whole_rows.Statement.{statement}

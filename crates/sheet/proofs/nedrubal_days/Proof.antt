@@ -1,5 +1,5 @@
 -- `sheet::nedrubal_days` meets its contract: it promises nothing of its sum, and the count of days stays within those
--- that were asked for. Assumes nothing.
+-- that were asked for.
 use Prim.Native.Nat.{_+_, _≤_, _-_}
 use native.Mathlib.Omega.{arith}
 use mir.Syntax.{w64}

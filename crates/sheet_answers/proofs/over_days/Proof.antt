@@ -1,5 +1,5 @@
 -- `sheet_answers::over_days` meets its contract: it promises nothing of its sum, and the count of days stays within
--- those that were asked for. Assumes nothing.
+-- those that were asked for.
 use Prim.Native.Nat.{_≤_, _-_}
 use borrow.Author.Needs.{needs}
 use Rattle.sheet_answers.proofs.over_days.Statement.{statement}

@@ -1,5 +1,5 @@
 -- `text_answer::put_flag` meets its contract: each arm of the test appends the number that the definition tells such
--- a flag as. Assumes nothing.
+-- a flag as.
 use Rattle.text_protocol.specs.Answers.{flag}
 use borrow.Author.Needs.{needs}
 use Rattle.text_answer.proofs.put_flag.Statement.{statement}

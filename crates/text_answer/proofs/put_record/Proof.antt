@@ -1,5 +1,5 @@
 -- `text_answer::put_record` meets its contract: its seven parts are appended in the order of `recordNumbers`, each
--- behind the one before, and what two calls append is one text (`both`). Assumes nothing.
+-- behind the one before, and what two calls append is one text (`both`).
 use Rattle.text_protocol.specs.Answers.{recordNumbers}
 use Rattle.text_out.specs.Told.{both}
 use borrow.Author.Needs.{needs}

@@ -1,4 +1,4 @@
--- `text_answer::say_alerts` meets its contract: a quote's two alerts. Assumes nothing.
+-- `text_answer::say_alerts` meets its contract: a quote's two alerts.
 use Rattle.text_out.specs.Told.{both}
 use Rattle.text_answer.specs.Answered.{answered}
 use native.Mathlib.Omega.{arith}

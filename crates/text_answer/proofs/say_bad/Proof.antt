@@ -1,4 +1,4 @@
--- `text_answer::say_bad` meets its contract: "bad" and the line's number. Assumes nothing.
+-- `text_answer::say_bad` meets its contract: "bad" and the line's number.
 use Rattle.text_out.specs.Told.{wrote-one}
 use Rattle.text_out.specs.Wrote.{then, wider}
 use Rattle.text_protocol.specs.Answers.{badText}

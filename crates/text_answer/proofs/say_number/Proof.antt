@@ -1,4 +1,4 @@
--- `text_answer::say_number` meets its contract: a refusal's number, or an admission's 0, stands alone. Assumes nothing.
+-- `text_answer::say_number` meets its contract: a refusal's number, or an admission's 0, stands alone.
 use Rattle.text_answer.specs.Answered.{answered-alone}
 use borrow.Author.Needs.{needs}
 use Rattle.text_answer.proofs.say_number.Statement.{statement}

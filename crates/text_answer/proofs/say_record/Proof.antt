@@ -1,5 +1,5 @@
 -- `text_answer::say_record` meets its contract: the number, the record's numbers and the line feed are appended in
--- the order of the answer's text (`answered`). Assumes nothing.
+-- the order of the answer's text (`answered`).
 use Rattle.text_answer.specs.Answered.{answered}
 use native.Mathlib.Omega.{arith}
 use borrow.Author.Needs.{needs}

@@ -1,4 +1,4 @@
--- `text_bond::bond_of` meets its contract: each number is read at the place of its name. Assumes nothing.
+-- `text_bond::bond_of` meets its contract: each number is read at the place of its name.
 use mir.Syntax.{w64}
 use mir.Facts.{toZ-ofZ}
 use mathlib.Core.Path.{_≡_}

@@ -1,4 +1,4 @@
--- `text_bond::put_figures` meets its contract: P TENTATIVE AGE. Assumes nothing.
+-- `text_bond::put_figures` meets its contract: P TENTATIVE AGE.
 use Rattle.text_protocol.specs.Answers.{bondFiguresNumbers}
 use Rattle.text_out.specs.Told.{both}
 use borrow.Author.Needs.{needs}

@@ -1,4 +1,4 @@
--- `text_bond::put_limits` meets its contract: LOWER UPPER OFFLOWER OFFUPPER. Assumes nothing.
+-- `text_bond::put_limits` meets its contract: LOWER UPPER OFFLOWER OFFUPPER.
 use Rattle.text_protocol.specs.Answers.{bondLimitsNumbers}
 use Rattle.text_out.specs.Told.{both}
 use borrow.Author.Needs.{needs}

@@ -1,4 +1,4 @@
--- `text_bond::say_bond` meets its contract: a refusal's number stands alone. Assumes nothing.
+-- `text_bond::say_bond` meets its contract: a refusal's number stands alone.
 use Rattle.text_answer.proofs.Verdicts.{refused-text, done-text}
 use Rattle.text_protocol.specs.Answers.{bondText, bondNumbers}
 use borrow.Author.Needs.{needs}

@@ -1,4 +1,4 @@
--- `text_bond::say_worked` meets its contract: P TENTATIVE AGE S1 S2 S3, and the limits of each term. Assumes nothing.
+-- `text_bond::say_worked` meets its contract: P TENTATIVE AGE S1 S2 S3, and the limits of each term.
 use native.Mathlib.Omega.{arith}
 use Rattle.text_protocol.specs.Answers.{bondNumbers}
 use Rattle.text_out.specs.Told.{both}

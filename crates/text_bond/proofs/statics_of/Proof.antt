@@ -1,4 +1,4 @@
--- `text_bond::statics_of` meets its contract: each number is read at the place of its name. Assumes nothing.
+-- `text_bond::statics_of` meets its contract: each number is read at the place of its name.
 use Rattle.text_protocol.specs.Names.{the, placeOf, bondNames, code}
 use Rattle.text_protocol.specs.Calls.{bondStaticsOf}
 use mathlib.Core.Path.{_≡_}

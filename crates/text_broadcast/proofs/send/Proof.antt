@@ -1,4 +1,4 @@
--- `text_broadcast::send` meets its contract: what the writer left is what is sent. Assumes nothing.
+-- `text_broadcast::send` meets its contract: what the writer left is what is sent.
 use native.Mathlib.Omega.{arith}
 use Rattle.text_broadcast.proofs.Sending.{appended-to-part}
 use borrow.Author.Needs.{needs}

@@ -1,4 +1,4 @@
--- `text_call::asked_of` meets its contract: the day that an evaluation asks for. Assumes nothing.
+-- `text_call::asked_of` meets its contract: the day that an evaluation asks for.
 use Rattle.text_protocol.specs.Names.{the, placeOf, evaluateNames, code}
 use Rattle.text_protocol.specs.Calls.{termOf, askedOf}
 use mathlib.Core.Path.{_≡_}

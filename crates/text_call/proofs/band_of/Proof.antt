@@ -1,5 +1,5 @@
 -- `text_call::band_of` meets its contract: where a pair stands in a term, the two numbers are Ym and Yn, and the band
--- is the newest kept answer of that pair. Assumes nothing.
+-- is the newest kept answer of that pair.
 use Rattle.paper.specs.Ranges.{unsigned}
 use Rattle.paper.specs.declared.RepoBand.the-variants as band
 use Rattle.text_protocol.specs.Calls.{bandOf}

@@ -1,4 +1,4 @@
--- `text_call::bits_of` meets its contract: by the sign. Assumes nothing.
+-- `text_call::bits_of` meets its contract: by the sign.
 use mathlib.Core.Path.{_≡_, refl, sym, ap, _∙_}
 use Prim.Native.Nat.{_-_}
 use lib.Signed.{mag}

@@ -1,5 +1,5 @@
 -- `text_call::figures` meets its contract: the figures begin behind the counted numbers, or at the end where there
--- are fewer (`least`), which is what `drop` leaves (`behind`). Assumes nothing.
+-- are fewer (`least`), which is what `drop` leaves (`behind`).
 use Rattle.text_call.proofs.Rest.{behind}
 use mathlib.Core.Path.{_≡_, refl, sym, ap, _∙_}
 use borrow.Author.Needs.{needs}

@@ -1,4 +1,4 @@
--- `text_call::float_at` meets its contract: the float of the number at a place. Assumes nothing.
+-- `text_call::float_at` meets its contract: the float of the number at a place.
 use mathlib.Core.Path.{_≡_, refl, sym, ap, _∙_}
 use mir.Facts.{toZ-ofZ}
 use mir.Syntax.{w64}

@@ -1,4 +1,4 @@
--- `text_call::float_of` meets its contract: bits that are no number are a NaN, and 0 / 0 is one. Assumes nothing.
+-- `text_call::float_of` meets its contract: bits that are no number are a NaN, and 0 / 0 is one.
 use mathlib.Core.Path.{_≡_, refl, sym, ap, _∙_}
 use lib.Ieee.{binary64, ofBits}
 use mir.Facts.{toZ-ofZ}

@@ -1,5 +1,5 @@
 -- `text_call::interest_of` meets its contract: each number is read at the place that its name has among
--- `interestNames`; MONEY and SECRATE are signed, and stay as they are read. Assumes nothing.
+-- `interestNames`; MONEY and SECRATE are signed, and stay as they are read.
 use mir.Syntax.{w64}
 use mir.Facts.{toZ-ofZ}
 use Rattle.text_protocol.specs.Names.{the, placeOf, interestNames, code}

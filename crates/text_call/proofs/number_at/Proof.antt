@@ -1,4 +1,4 @@
--- `text_call::number_at` meets its contract: the number at a place. Assumes nothing.
+-- `text_call::number_at` meets its contract: the number at a place.
 use lib.ListN.{List·getD-eq-default}
 use lib.IntN.{pos}
 use mathlib.Core.Path.{_≡_, refl, sym, ap, _∙_}

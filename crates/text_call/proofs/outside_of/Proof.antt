@@ -1,4 +1,4 @@
--- `text_call::outside_of` meets its contract: each float is that of its place. Assumes nothing.
+-- `text_call::outside_of` meets its contract: each float is that of its place.
 use Rattle.text_protocol.specs.Names.{the, placeOf, outsideNames, code}
 use Rattle.text_protocol.specs.Calls.{outsideOf}
 use borrow.Author.Needs.{needs}

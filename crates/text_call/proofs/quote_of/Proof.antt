@@ -1,5 +1,4 @@
 -- `text_call::quote_of` meets its contract: each number is read at the place that its name has among `quoteNames`.
--- Assumes nothing.
 use Rattle.text_protocol.specs.Names.{the, placeOf, quoteNames, code}
 use Rattle.text_protocol.specs.Calls.{quoteOf}
 use mathlib.Core.Path.{_≡_, refl, sym, ap, _∙_}

@@ -1,5 +1,4 @@
--- `text_call::term_of` meets its contract: the term whose days stand at a place, and its band behind them. Assumes
--- nothing.
+-- `text_call::term_of` meets its contract: the term whose days stand at a place, and its band behind them.
 use mir.Facts.{toZ-ofZ}
 use mir.Syntax.{w64}
 use mathlib.Core.Path.{_≡_, refl, sym, ap, _∙_}

@@ -1,4 +1,4 @@
--- `text_call::unsigned_at` meets its contract: the number at a place that may not be below zero. Assumes nothing.
+-- `text_call::unsigned_at` meets its contract: the number at a place that may not be below zero.
 use Rattle.paper.specs.Ranges.{unsigned}
 use mir.Facts.{toZ-ofZ}
 use mir.Syntax.{w64}

@@ -1,4 +1,4 @@
--- `text_evidence::counted` meets its contract: the sum where it has room, and else the greatest number. Assumes nothing.
+-- `text_evidence::counted` meets its contract: the sum where it has room, and else the greatest number.
 use native.Mathlib.Omega.{arith}
 use borrow.Author.Needs.{needs}
 use Rattle.text_evidence.specs.Evidence.{counted}

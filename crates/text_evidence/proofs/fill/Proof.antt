@@ -1,5 +1,4 @@
 -- `text_evidence::fill` meets its contract: a read stores behind the first `have` bytes, which it leaves as they were.
--- Assumes nothing.
 use lib.Seq.{take-at, length-take-le}
 use borrow.Author.Needs.{needs}
 use Rattle.text_evidence.proofs.fill.Statement.{statement}

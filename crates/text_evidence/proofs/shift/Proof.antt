@@ -1,4 +1,4 @@
--- `text_evidence::shift` meets its contract: the bytes from `from` to `to`, moved to the front. Assumes nothing.
+-- `text_evidence::shift` meets its contract: the bytes from `from` to `to`, moved to the front.
 use borrow.Author.Needs.{needs}
 use Rattle.text_evidence.proofs.Shifting.{Shifted, shifted-none, shifted-more, shifted-all}
 use lib.ListN.{length}

@@ -1,5 +1,5 @@
 -- `text_evidence::write` meets its contract: hands the first n bytes to C's `write`, and says how many of them
--- it took, by C's answers. Assumes nothing.
+-- it took, by C's answers.
 use mathlib.Core.Path.{_≡_}
 use mathlib.Core.List.{List}
 use Prim.Native.Nat.{ℕ, _+_, _-_, _≤_}

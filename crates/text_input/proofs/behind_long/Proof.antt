@@ -1,5 +1,4 @@
--- `text_input::behind_long` meets its contract: the input behind a line that is longer than the buffer. Assumes
--- nothing.
+-- `text_input::behind_long` meets its contract: the input behind a line that is longer than the buffer.
 use Rattle.text_input.proofs.Lines.{long-ended, long-found}
 use native.Mathlib.Omega.{arith}
 use Prim.Native.Nat.{_-_, _≤_, _<_}

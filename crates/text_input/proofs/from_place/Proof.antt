@@ -1,4 +1,4 @@
--- `text_input::from_place` meets its contract: the input from `at` on, with a line fewer to hear. Assumes nothing.
+-- `text_input::from_place` meets its contract: the input from `at` on, with a line fewer to hear.
 use Rattle.text_input.proofs.Turns.{stands-from}
 use lib.Seq.{length-take-le}
 use lib.ListN.{length, take}

@@ -1,4 +1,4 @@
--- `text_input::hear` meets its contract: the next line. Assumes nothing.
+-- `text_input::hear` meets its contract: the next line.
 use Rattle.text_input.proofs.Lines.{next-whole, next-last, next-long, long-says, next-readied, at-front, not-full}
 use native.Mathlib.Omega.{arith}
 use Prim.Native.Nat.{_-_, _≤_, _<_}

@@ -1,5 +1,4 @@
--- `text_input::pass_over` meets its contract: passes over the rest of a line that is longer than the buffer. Assumes
--- nothing.
+-- `text_input::pass_over` meets its contract: passes over the rest of a line that is longer than the buffer.
 use borrow.Author.Needs.{needs}
 use Rattle.text_input.proofs.Turns.{Passing, passing-none, passing-spent, passing-end, passing-found}
 use Rattle.text_input.proofs.Turns.{passing-more}

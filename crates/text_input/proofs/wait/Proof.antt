@@ -1,5 +1,5 @@
 -- `text_input::wait` meets its contract: reads until a line feed stands behind the first `have` bytes, which have none,
--- or the buffer is full, or the input has ended. Assumes nothing.
+-- or the buffer is full, or the input has ended.
 use borrow.Author.Needs.{needs}
 use Rattle.text_input.proofs.Turns.{Waiting, waiting-none, waiting-full, waiting-ended, waiting-found}
 use Rattle.text_input.proofs.Turns.{waiting-more}

@@ -1,4 +1,4 @@
--- `text_kept::found` meets its contract: the first of the three tests that passes. Assumes nothing.
+-- `text_kept::found` meets its contract: the first of the three tests that passes.
 use mathlib.Core.Path.{sym, _∙_}
 use Rattle.text_protocol.specs.Kept.{foundIn}
 use borrow.Author.Needs.{needs}

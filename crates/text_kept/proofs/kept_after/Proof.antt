@@ -1,4 +1,4 @@
--- `text_kept::kept_after` meets its contract, on both sides of its test. Assumes nothing.
+-- `text_kept::kept_after` meets its contract, on both sides of its test.
 use mathlib.Core.Path.{sym, _∙_}
 use Rattle.text_protocol.specs.Kept.{keptAfter}
 use borrow.Author.Needs.{needs}

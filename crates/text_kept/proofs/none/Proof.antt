@@ -1,4 +1,4 @@
--- `text_kept::none` meets its contract: the same pair three times. Assumes nothing.
+-- `text_kept::none` meets its contract: the same pair three times.
 use borrow.Author.Needs.{needs}
 use Rattle.text_kept.proofs.none.Statement.{statement}
 use Rattle.text_kept.proofs.none.Tie as tie

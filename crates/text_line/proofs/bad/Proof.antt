@@ -1,5 +1,5 @@
 -- `text_line::bad` meets its contract: the kind and the count are those of `badLine`, and the pairs are those of
--- `no_pairs`. Assumes nothing.
+-- `no_pairs`.
 use borrow.Author.Needs.{needs}
 use Rattle.text_line.proofs.bad.Statement.{statement}
 use Rattle.text_line.proofs.bad.Tie as tie

@@ -1,5 +1,5 @@
 -- `text_line::blank` meets its contract: the kind and the count are those of `blankLine`, and the pairs are those of
--- `no_pairs`. Assumes nothing.
+-- `no_pairs`.
 use borrow.Author.Needs.{needs}
 use Rattle.text_line.proofs.blank.Statement.{statement}
 use Rattle.text_line.proofs.blank.Tie as tie

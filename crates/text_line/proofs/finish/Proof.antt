@@ -1,5 +1,5 @@
 -- `text_line::finish` meets its contract: where the call takes so many numbers the line is that call, and otherwise
--- it is a bad one (`finish-call`, `finish-bad`). Assumes nothing.
+-- it is a bad one (`finish-call`, `finish-bad`).
 use Rattle.text_line.proofs.Table.{finish-call, finish-bad}
 use mathlib.Core.Path.{_≡_, refl, sym, ap, _∙_}
 use borrow.Author.Needs.{needs}

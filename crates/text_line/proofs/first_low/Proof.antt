@@ -1,5 +1,5 @@
 -- `text_line::first_low` meets its contract: the place is that of RRCL0 among the call's names, and the others are a
--- term's numbers apart. Assumes nothing.
+-- term's numbers apart.
 use Rattle.text_line.proofs.Table.{lows-of-a-bond, lows-of-another}
 use Rattle.text_line.proofs.first_low.Statement.{statement}
 use Rattle.text_line.proofs.first_low.Tie as tie

@@ -1,5 +1,4 @@
--- `text_line::has_terms` meets its contract: it compares the kind with the two that the definition names. Assumes
--- nothing.
+-- `text_line::has_terms` meets its contract: it compares the kind with the two that the definition names.
 use mathlib.Core.Path.{refl}
 use Rattle.text_protocol.specs.Line.{hasTerms}
 use Rattle.text_line.proofs.has_terms.Statement.{statement}

@@ -1,4 +1,4 @@
--- `text_line::keep` meets its contract: a number more, kept where there is room for it. Assumes nothing.
+-- `text_line::keep` meets its contract: a number more, kept where there is room for it.
 use Rattle.text_line.proofs.Turns.{keeps-room, keeps-full}
 use mir.Facts.{toZ-ofZ}
 use native.Mathlib.Omega.{arith}

@@ -1,5 +1,5 @@
 -- `text_line::kind_if` meets its contract: `same_bytes` is the test of the definition, and each arm is one of its
--- two cases. Assumes nothing.
+-- two cases.
 use mathlib.Core.Path.{sym, _∙_}
 use borrow.Author.Needs.{needs}
 use Rattle.text_line.proofs.kind_if.Statement.{statement}

@@ -1,5 +1,4 @@
--- `text_line::kind_of` meets its contract: which call a word is, by the table of the calls from its end. Assumes
--- nothing.
+-- `text_line::kind_of` meets its contract: which call a word is, by the table of the calls from its end.
 use Rattle.text_protocol.specs.Names.{kindOf, kindFrom, forms}
 use borrow.Author.Needs.{needs}
 use Rattle.text_line.proofs.kind_of.Statement.{statement}

@@ -1,4 +1,4 @@
--- `text_line::numbers` meets its contract: the words from `from` on, behind the call's. Assumes nothing.
+-- `text_line::numbers` meets its contract: the words from `from` on, behind the call's.
 use borrow.Author.Tests.{not-true, not-false}
 use borrow.Author.Needs.{needs}
 use Rattle.text_line.proofs.Turns.{Filling, filling-none, filling-end, filling-bad, filling-more}

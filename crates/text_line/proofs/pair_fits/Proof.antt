@@ -1,5 +1,4 @@
 -- `text_line::pair_fits` meets its contract: a pair stands in a call with terms alone, in place of a term's RRCL RRCH.
--- Assumes nothing.
 use Rattle.text_protocol.specs.Line.{pairFits}
 use borrow.Author.Needs.{needs}
 use Rattle.text_line.proofs.pair_fits.Statement.{statement}

@@ -1,4 +1,4 @@
--- `text_line::take_word` meets its contract: a word more. Assumes nothing.
+-- `text_line::take_word` meets its contract: a word more.
 use Rattle.text_line.proofs.Turns.{takes-one, takes-two, takes-unfit, takes-neither}
 use mir.Facts.{toZ-ofZ}
 use mir.Syntax.{w64}

@@ -1,5 +1,5 @@
 -- `text_line::takes` meets its contract: its two tables are those of the calls (`takes-of-call`), and no call stands
--- before or behind them (`takes-none`). Assumes nothing.
+-- before or behind them (`takes-none`).
 use mathlib.Core.Path.{sym, _∙_}
 use mathlib.Core.Logic.{inl, inr}
 use borrow.Author.Needs.{needs}

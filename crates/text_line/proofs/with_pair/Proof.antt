@@ -1,5 +1,5 @@
 -- `text_line::with_pair` meets its contract: `first_low` says where the three RRCL stand, so that each flag is set
--- at the place that the definition sets it at. Assumes nothing.
+-- at the place that the definition sets it at.
 use Rattle.text_protocol.specs.Line.{withPair}
 use borrow.Author.Needs.{needs}
 use Rattle.text_line.proofs.with_pair.Statement.{statement}

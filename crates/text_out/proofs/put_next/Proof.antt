@@ -1,4 +1,4 @@
--- `text_out::put_next` meets its contract: a blank, and a number. Assumes nothing.
+-- `text_out::put_next` meets its contract: a blank, and a number.
 use Rattle.text_bytes.specs.Numbers.{signed, next}
 use Rattle.text_out.specs.Told.{told-one}
 use Rattle.text_out.specs.Wrote.{then}

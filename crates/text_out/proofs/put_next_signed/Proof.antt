@@ -1,4 +1,4 @@
--- `text_out::put_next_signed` meets its contract: a blank, and a signed number. Assumes nothing.
+-- `text_out::put_next_signed` meets its contract: a blank, and a signed number.
 use Rattle.text_bytes.specs.Numbers.{next}
 use Rattle.text_out.specs.Told.{told-one}
 use Rattle.text_out.specs.Wrote.{then}

@@ -1,4 +1,4 @@
--- `text_out::put_number` meets its contract: the decimal digits of x, the most significant first. Assumes nothing.
+-- `text_out::put_number` meets its contract: the decimal digits of x, the most significant first.
 use borrow.Author.Needs.{needs}
 use Prim.Native.Nat.{_-_}
 use native.Mathlib.Omega.{arith}

@@ -1,4 +1,4 @@
--- `text_out::put_signed` meets its contract: a minus where x is below 0, and its size in decimal. Assumes nothing.
+-- `text_out::put_signed` meets its contract: a minus where x is below 0, and its size in decimal.
 use mathlib.Core.Path.{_≡_}
 use native.Mathlib.Omega.{arith}
 use lib.Signed.{mag}

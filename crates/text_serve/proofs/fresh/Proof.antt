@@ -1,4 +1,4 @@
--- `text_serve::fresh` meets its contract: one blank record, as many times as there are slots. Assumes nothing.
+-- `text_serve::fresh` meets its contract: one blank record, as many times as there are slots.
 use mathlib.Core.Path.{ap}
 use lib.ListN.{replicate}
 use borrow.Author.Needs.{needs}

@@ -1,6 +1,5 @@
 -- `text_serve::on` meets its contract: a walk of its MIR, by hand. The table comes by value and is moved to a local
 -- array, which is lent once as a `&mut [Record]` and comes back when the input has ended; then what went wrong is said.
--- Assumes nothing.
 use mathlib.Core.Path.{_≡_, refl, sym, _∙_, subst}
 use Prim.Native.Nat.{ℕ, suc, _-_}
 use mathlib.Core.List.{List, [], _∷_, _++_}

@@ -1,6 +1,6 @@
 -- `text_serve::serve` meets its contract: a walk of its MIR, by hand. In each turn of the loop the row and the three
 -- local arrays are lent anew, for two lifetimes of the turn's own. The variant is where the loop stands, ordered by the
--- lines that may still be heard. Assumes nothing.
+-- lines that may still be heard.
 use mathlib.Core.Path.{_≡_, refl, sym, _∙_, ap, subst}
 use mathlib.Core.Bool.{Bool, true, false, not}
 use Prim.Native.Nat.{ℕ, suc, _-_, _<_, _≤_}

@@ -1,6 +1,6 @@
 -- `text_serve::step` meets its contract: a walk of its MIR, by hand. The table, the buffer and the answers are given
 -- up, each to one call. The numbers are opened for the whole turn: they are lent as `&mut` to the call that hears the
--- line, and then as `&` to the calls that perform it. Assumes nothing.
+-- line, and then as `&` to the calls that perform it.
 use mathlib.Core.Path.{_≡_, refl}
 use mathlib.Core.Option.{some}
 use Prim.Native.Nat.{ℕ, _+_, _≤_, _<_, _^_}

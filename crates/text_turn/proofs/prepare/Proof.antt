@@ -1,4 +1,4 @@
--- `text_turn::prepare` meets its contract: hears the next line. Assumes nothing.
+-- `text_turn::prepare` meets its contract: hears the next line.
 use Rattle.text_turn.proofs.Preparing.{prepared}
 use lib.Seq.{length-take-le}
 use native.Mathlib.Omega.{arith}

@@ -1,4 +1,4 @@
--- `text_turn::rows_of` meets its contract: the row figures of a line of so many numbers. Assumes nothing.
+-- `text_turn::rows_of` meets its contract: the row figures of a line of so many numbers.
 use Rattle.text_turn.proofs.Rows.{rows-are}
 use native.Mathlib.Omega.{arith}
 use borrow.Author.Needs.{needs}

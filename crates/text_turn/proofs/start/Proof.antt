@@ -1,4 +1,4 @@
--- `text_turn::start` meets its contract: at the start nothing is read and nothing waits. Assumes nothing.
+-- `text_turn::start` meets its contract: at the start nothing is read and nothing waits.
 use borrow.Author.Needs.{needs}
 use Rattle.text_turn.proofs.start.Statement.{statement}
 use Rattle.text_turn.proofs.start.Tie as tie

@@ -1,4 +1,4 @@
--- `text_why::put_fault` meets its contract: the row or the term at fault, or none. Assumes nothing.
+-- `text_why::put_fault` meets its contract: the row or the term at fault, or none.
 use native.Mathlib.Omega.{arith}
 use borrow.Author.Needs.{needs}
 use Rattle.text_protocol.specs.Reasons.{faultWords, spelled}

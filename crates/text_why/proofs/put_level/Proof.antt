@@ -1,4 +1,4 @@
--- `text_why::put_level` meets its contract: the word of what set a level, case by case. Assumes nothing.
+-- `text_why::put_level` meets its contract: the word of what set a level, case by case.
 use borrow.Author.Needs.{needs}
 use Rattle.paper_reasons.specs.Words.{levelWord}
 use Rattle.text_why.proofs.Turns.{named}

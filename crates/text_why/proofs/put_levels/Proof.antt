@@ -1,4 +1,4 @@
--- `text_why::put_levels` meets its contract: what set the rate of each level. Assumes nothing.
+-- `text_why::put_levels` meets its contract: what set the rate of each level.
 use Rattle.text_protocol.specs.Reasons.{spelled}
 use Rattle.text_out.specs.Wrote.{then, nothing}
 use borrow.Author.Needs.{needs}

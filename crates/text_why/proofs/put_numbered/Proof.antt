@@ -1,4 +1,4 @@
--- `text_why::put_numbered` meets its contract: a word, and a number. Assumes nothing.
+-- `text_why::put_numbered` meets its contract: a word, and a number.
 use borrow.Author.Needs.{needs}
 use Rattle.text_bytes.specs.Numbers.{signed, next}
 use Rattle.text_protocol.specs.Reasons.{spelled}

@@ -1,4 +1,4 @@
--- `text_why::put_price` meets its contract: the word of what set the price, case by case. Assumes nothing.
+-- `text_why::put_price` meets its contract: the word of what set the price, case by case.
 use borrow.Author.Needs.{needs}
 use Rattle.paper_reasons.specs.Words.{priceWord}
 use Rattle.text_why.proofs.Turns.{named}

@@ -1,4 +1,4 @@
--- `text_why::put_reasons` meets its contract: what is named, each with its reason. Assumes nothing.
+-- `text_why::put_reasons` meets its contract: what is named, each with its reason.
 use Rattle.text_protocol.specs.Reasons.{reasonWords, spelled}
 use Rattle.text_out.specs.Wrote.{then}
 use borrow.Author.Needs.{needs}

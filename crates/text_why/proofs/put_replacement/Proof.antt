@@ -1,5 +1,4 @@
--- `text_why::put_replacement` meets its contract: the word of whether the replacement won, case by case. Assumes
--- nothing.
+-- `text_why::put_replacement` meets its contract: the word of whether the replacement won, case by case.
 use borrow.Author.Needs.{needs}
 use Rattle.paper_reasons.specs.Words.{replacementWord}
 use Rattle.text_why.proofs.Turns.{named}

@@ -1,4 +1,4 @@
--- `text_why::put_tentative` meets its contract: the word of what the tentative rate did, case by case. Assumes nothing.
+-- `text_why::put_tentative` meets its contract: the word of what the tentative rate did, case by case.
 use borrow.Author.Needs.{needs}
 use Rattle.paper_reasons.specs.Words.{tentativeWord}
 use Rattle.text_why.proofs.Turns.{named}

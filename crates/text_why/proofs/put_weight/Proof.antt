@@ -1,4 +1,4 @@
--- `text_why::put_weight` meets its contract: the word of the weight, case by case. Assumes nothing.
+-- `text_why::put_weight` meets its contract: the word of the weight, case by case.
 use borrow.Author.Needs.{needs}
 use Rattle.paper_reasons.specs.Words.{weightWord}
 use Rattle.text_why.proofs.Turns.{named}

@@ -1,4 +1,4 @@
--- `text_why::put_word` meets its contract: a blank, and a word. Assumes nothing.
+-- `text_why::put_word` meets its contract: a blank, and a word.
 use borrow.Author.Needs.{needs}
 use Rattle.text_out.specs.Wrote.{then}
 use Rattle.text_why.proofs.put_word.Statement.{statement}

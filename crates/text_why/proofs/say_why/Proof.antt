@@ -1,4 +1,4 @@
--- `text_why::say_why` meets its contract: the number of the verdict, and why. Assumes nothing.
+-- `text_why::say_why` meets its contract: the number of the verdict, and why.
 use Rattle.text_why.proofs.Turns.{accepted, refused}
 use borrow.Author.Needs.{needs}
 use Rattle.text_why.proofs.say_why.Statement.{statement}

@@ -1,5 +1,5 @@
 -- `text_word::above` meets its contract: a size of at most `greatest` is a signed number of 64 bits, so that the
--- cast keeps it (`plus-fits`, `plus-is`). Assumes nothing.
+-- cast keeps it (`plus-fits`, `plus-is`).
 use native.Mathlib.Nat.{pos-of-ne-zero}
 use Rattle.text_word.proofs.Turns.{plus-fits, plus-is, minus-zero, less-fits, turned-of, minus-is, bad-plus}
 use Rattle.text_word.proofs.Turns.{bad-minus, capped, signed-none, signed-bare, signed-minus, signed-plus}

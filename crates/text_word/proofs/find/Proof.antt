@@ -1,4 +1,4 @@
--- `find` meets its contract: the bytes before i are none of b. Assumes nothing.
+-- `find` meets its contract: the bytes before i are none of b.
 use mathlib.Core.Path.{_≡_, ap}
 use mathlib.Core.Bool.{not}
 use Prim.Native.Nat.{_-_}

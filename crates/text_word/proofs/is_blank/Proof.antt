@@ -1,4 +1,4 @@
--- `text_word::is_blank` meets its contract: a space, a tab and a carriage return part words. Assumes nothing.
+-- `text_word::is_blank` meets its contract: a space, a tab and a carriage return part words.
 use Rattle.text_bytes.specs.Bytes.{isBlank, run, same}
 use Rattle.text_bytes.specs.Numbers.{sizeFrom, upTo, above, below, numberOf}
 use Rattle.text_word.specs.Parts.{isSolid, Capped}

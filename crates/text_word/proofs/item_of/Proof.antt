@@ -1,4 +1,4 @@
--- `text_word::item_of` meets its contract: what a word behind the call's is. Assumes nothing.
+-- `text_word::item_of` meets its contract: what a word behind the call's is.
 use Rattle.text_word.proofs.Items.{item-one, item-two, item-neither}
 use mir.Facts.{toZ-ofZ}
 use mir.Syntax.{w64}

@@ -1,5 +1,4 @@
 -- `text_word::number_from` meets its contract: the size that the bytes from `from` on spell, unless it is above `most`.
--- Assumes nothing.
 use mathlib.Core.Bool.{true, false, not}
 use mathlib.Core.Path.{_≡_, refl, sym, ap, _∙_}
 use borrow.Author.Needs.{needs}

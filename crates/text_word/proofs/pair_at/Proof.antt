@@ -1,5 +1,4 @@
--- `text_word::pair_at` meets its contract: the two numbers of a pair Ym/Yn, whose slash stands at `at`. Assumes
--- nothing.
+-- `text_word::pair_at` meets its contract: the two numbers of a pair Ym/Yn, whose slash stands at `at`.
 use Rattle.text_word.proofs.Items.{first-bad, second-bad, two-numbers, behind}
 use Rattle.text_bytes.specs.Numbers.{numberOf}
 use lib.Seq.{length-take-le}

@@ -1,4 +1,4 @@
--- `text_word::same_bytes` meets its contract: whether two words are the same, byte by byte. Assumes nothing.
+-- `text_word::same_bytes` meets its contract: whether two words are the same, byte by byte.
 use borrow.Author.Needs.{needs}
 use Rattle.text_word.proofs.Turns.{Matching, matching-none, matching-not, matching-more, matching-all, same-long}
 use Rattle.text_bytes.specs.Bytes.{isBlank, run, same}

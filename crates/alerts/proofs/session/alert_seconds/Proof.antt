@@ -1,5 +1,4 @@
--- `alerts::session::alert_seconds` meets its contract: each arm rewrites with the variant that it matched. Assumes
--- nothing.
+-- `alerts::session::alert_seconds` meets its contract: each arm rewrites with the variant that it matched.
 use borrow.Author.Needs.{needs}
 use Rattle.paper_desk.specs.Evening.{alertSeconds}
 use Rattle.alerts.proofs.session.alert_seconds.Statement.{statement}

@@ -1,5 +1,4 @@
--- `alerts::session::is_evening` meets its contract: each arm rewrites with the variant that it matched. Assumes
--- nothing.
+-- `alerts::session::is_evening` meets its contract: each arm rewrites with the variant that it matched.
 use borrow.Author.Needs.{needs}
 use Rattle.paper_desk.specs.Evening.{isEvening}
 use Rattle.alerts.proofs.session.is_evening.Statement.{statement}

@@ -1,5 +1,4 @@
--- `alerts::session::move_allowed` meets its contract: each arm rewrites with the variant that it matched. Assumes
--- nothing.
+-- `alerts::session::move_allowed` meets its contract: each arm rewrites with the variant that it matched.
 use borrow.Author.Needs.{needs}
 use Rattle.paper_desk.specs.Evening.{moveAllowed}
 use Rattle.alerts.proofs.session.move_allowed.Statement.{statement}

@@ -1,5 +1,5 @@
 -- `alerts::session::session_moved` meets its contract: each arm rewrites with the variant that it matched. A valid
--- session has at most 10 moves, so that one more fits. Assumes nothing.
+-- session has at most 10 moves, so that one more fits.
 use mathlib.Core.Path.{_≡_}
 use mathlib.Core.Bool.{true}
 use Prim.Native.Nat.{ℕ, _≤_}

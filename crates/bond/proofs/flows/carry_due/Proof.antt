@@ -1,4 +1,4 @@
--- `bond::flows::carry_due` meets its contract, by the day of the cash flow. Assumes nothing.
+-- `bond::flows::carry_due` meets its contract, by the day of the cash flow.
 use mir.Facts.{toZ-ofZ}
 use borrow.Author.Needs.{needs}
 use borrow.Author.Tests.{le-leb, lt-leb}

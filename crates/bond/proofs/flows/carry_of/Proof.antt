@@ -1,5 +1,5 @@
 -- `bond::flows::carry_of` meets its contract: what is summed, with Carry of the cash flows from the place on, is always
--- Carry of all. Assumes nothing.
+-- Carry of all.
 use mathlib.Core.Path.{_≡_}
 use Prim.Native.Nat.{_+_, _-_, _≤_}
 use native.Mathlib.Omega.{arith}

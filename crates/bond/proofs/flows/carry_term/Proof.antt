@@ -1,4 +1,4 @@
--- `bond::flows::carry_term` meets its contract: the amount with its days to the term, rounded once. Assumes nothing.
+-- `bond::flows::carry_term` meets its contract: the amount with its days to the term, rounded once.
 use mathlib.Core.Path.{_≡_}
 use Prim.Native.Nat.{_-_, _*_, _≤_}
 use native.Mathlib.Nat.{mul-le-mul}

@@ -1,4 +1,4 @@
--- `bond::flows::flow_at` meets its contract: each number stands at its place of the cash flow. Assumes nothing.
+-- `bond::flows::flow_at` meets its contract: each number stands at its place of the cash flow.
 use borrow.Author.Needs.{needs}
 use Rattle.paper_bonds.specs.Bonds.{flowOf, flowAt}
 use Rattle.bond.proofs.flows.flow_at.Statement.{statement}

@@ -1,5 +1,5 @@
 -- `bond::flows::flows_valid` meets its contract: its two tables have the definition's ranges, in its order, and there
--- is no fewest number of cash flows. Assumes nothing.
+-- is no fewest number of cash flows.
 use mathlib.Core.Path.{_∙_}
 use native.Mathlib.Nat.{add-zero}
 use native.Mathlib.Omega.{arith}

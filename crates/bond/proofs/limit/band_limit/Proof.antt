@@ -1,5 +1,4 @@
--- `bond::limit::band_limit` meets its contract: the narrower of the two rounded is the narrower rounded. Assumes
--- nothing.
+-- `bond::limit::band_limit` meets its contract: the narrower of the two rounded is the narrower rounded.
 use mathlib.Core.Path.{_≡_, sym, _∙_}
 use native.Mathlib.Omega.{arith}
 use mir.Facts.{toZ-ofZ}

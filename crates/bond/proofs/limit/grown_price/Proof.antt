@@ -1,4 +1,4 @@
--- `bond::limit::grown_price` meets its contract: the wide division of the quotient with its growth. Assumes nothing.
+-- `bond::limit::grown_price` meets its contract: the wide division of the quotient with its growth.
 use mathlib.Core.Path.{_≡_}
 use native.Mathlib.Omega.{arith}
 use mir.Facts.{toZ-ofZ}

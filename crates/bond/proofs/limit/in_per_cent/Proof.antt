@@ -1,4 +1,4 @@
--- `bond::limit::in_per_cent` meets its contract: what is left of the grown price, rounded once. Assumes nothing.
+-- `bond::limit::in_per_cent` meets its contract: what is left of the grown price, rounded once.
 use borrow.Author.Needs.{needs}
 use Rattle.bond.proofs.limit.in_per_cent.Statement.{statement}
 use Rattle.bond.proofs.limit.in_per_cent.Tie as tie

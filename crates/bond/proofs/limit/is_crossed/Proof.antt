@@ -1,4 +1,4 @@
--- `bond::limit::is_crossed` meets its contract: the one test, on the book and off it. Assumes nothing.
+-- `bond::limit::is_crossed` meets its contract: the one test, on the book and off it.
 use borrow.Author.Needs.{needs}
 use Rattle.paper_bonds.specs.Bonds.{isCrossed}
 use Rattle.bond.proofs.limit.is_crossed.Statement.{statement}

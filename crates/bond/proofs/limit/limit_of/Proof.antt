@@ -1,4 +1,4 @@
--- `bond::limit::limit_of` meets its contract: the definition without signs. Assumes nothing.
+-- `bond::limit::limit_of` meets its contract: the definition without signs.
 use mathlib.Core.Path.{_≡_, sym, _∙_}
 use native.Mathlib.Omega.{arith}
 use mir.Facts.{toZ-ofZ}

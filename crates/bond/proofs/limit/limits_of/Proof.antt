@@ -1,5 +1,5 @@
 -- `bond::limit::limits_of` meets its contract, side by side; off the book the narrower of two rounded is the narrower
--- rounded. Assumes nothing.
+-- rounded.
 use mathlib.Core.Path.{_≡_}
 use mathlib.Core.Bool.{true}
 use mir.Syntax.{w64}

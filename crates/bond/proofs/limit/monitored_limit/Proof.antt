@@ -1,5 +1,4 @@
 -- `bond::limit::monitored_limit` meets its contract: the shares' spread without moves, grown with the term's own rate.
--- Assumes nothing.
 use mathlib.Core.Path.{_≡_}
 use native.Mathlib.Omega.{arith}
 use mir.Facts.{toZ-ofZ}

@@ -1,5 +1,4 @@
--- `bond::limit::off_limit` meets its contract: the narrower of the band limit and that of the 20 per cent. Assumes
--- nothing.
+-- `bond::limit::off_limit` meets its contract: the narrower of the band limit and that of the 20 per cent.
 use mathlib.Core.Path.{_≡_}
 use native.Mathlib.Omega.{arith}
 use borrow.Author.Needs.{needs}

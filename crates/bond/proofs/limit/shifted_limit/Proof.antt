@@ -1,4 +1,4 @@
--- `bond::limit::shifted_limit` meets its contract: the shares' P·(1 ± rate), grown with REPORate. Assumes nothing.
+-- `bond::limit::shifted_limit` meets its contract: the shares' P·(1 ± rate), grown with REPORate.
 use mathlib.Core.Path.{_≡_}
 use native.Mathlib.Omega.{arith}
 use borrow.Author.Needs.{needs}

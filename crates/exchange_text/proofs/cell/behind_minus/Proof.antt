@@ -1,5 +1,4 @@
--- `exchange_text::cell::behind_minus` meets its contract: a minus is passed where the column may have one. Assumes
--- nothing.
+-- `exchange_text::cell::behind_minus` meets its contract: a minus is passed where the column may have one.
 use mathlib.Core.Path.{sym, _∙_}
 use native.Mathlib.Omega.{arith}
 use lib.Dec.{eqb}

@@ -1,5 +1,4 @@
--- `exchange_text::cell::behind_zeros` meets its contract: zeros are passed where the column may have them. Assumes
--- nothing.
+-- `exchange_text::cell::behind_zeros` meets its contract: zeros are passed where the column may have them.
 use borrow.Author.Needs.{needs}
 use Rattle.exchange_text.proofs.cell.behind_zeros.Statement.{statement}
 use Rattle.exchange_text.proofs.cell.behind_zeros.Tie as tie

@@ -1,5 +1,5 @@
 -- `exchange_text::cell::decimals` meets its contract: the digits and the zeros behind them end where the reading ends,
--- and a byte more is passed. Assumes nothing.
+-- and a byte more is passed.
 use native.Mathlib.Omega.{arith}
 use borrow.Author.Needs.{needs}
 use Rattle.exchange_text.proofs.CellTurns.{found, not-found, scaled-fits, decimals-bad, decimals-none}

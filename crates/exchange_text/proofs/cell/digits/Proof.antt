@@ -1,5 +1,5 @@
 -- `exchange_text::cell::digits` meets its contract: what is left to read, behind the digits of n, leads to the same
--- number and the same end. Assumes nothing.
+-- number and the same end.
 use Prim.Native.Nat.{_-_}
 use lib.ListN.{drop}
 use borrow.Author.Needs.{needs}

@@ -1,5 +1,4 @@
 -- `exchange_text::cell::is_at` meets its contract: the byte at a place is the first of what is left from there on.
--- Assumes nothing.
 use borrow.Author.Needs.{needs}
 use Rattle.exchange_text.proofs.CellTurns.{starts-at, starts-none}
 use Rattle.exchange_text.proofs.cell.is_at.Statement.{statement}

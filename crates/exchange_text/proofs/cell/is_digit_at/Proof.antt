@@ -1,5 +1,5 @@
 -- `exchange_text::cell::is_digit_at` meets its contract: the byte at a place is the first of what is left from there
--- on. Assumes nothing.
+-- on.
 use borrow.Author.Needs.{needs}
 use Rattle.exchange_text.proofs.CellTurns.{digit-at, starts-none}
 use Rattle.exchange_text.proofs.cell.is_digit_at.Statement.{statement}

@@ -1,5 +1,5 @@
 -- `exchange_text::cell::number` meets its contract: a digit stands in front, others behind it, and a point leads to the
--- decimals. Assumes nothing.
+-- decimals.
 use mathlib.Core.Path.{sym, _∙_}
 use native.Mathlib.Omega.{arith}
 use lib.Dec.{eqb}

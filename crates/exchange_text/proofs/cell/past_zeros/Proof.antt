@@ -1,5 +1,4 @@
--- `exchange_text::cell::past_zeros` meets its contract: what is left behind the zeros passed is the same. Assumes
--- nothing.
+-- `exchange_text::cell::past_zeros` meets its contract: what is left behind the zeros passed is the same.
 use Prim.Native.Nat.{_-_}
 use lib.ListN.{length}
 use borrow.Author.Needs.{needs}

@@ -1,5 +1,5 @@
 -- `exchange_text::cell::read_cell` meets its contract: a minus, an empty field and a number are told apart by the first
--- bytes. Assumes nothing.
+-- bytes.
 use mathlib.Core.Path.{sym, _∙_}
 use borrow.Author.Needs.{needs}
 use Rattle.exchange_text.proofs.CellTurns.{counted, not-counted, plain-fits, turned-code-fits, positive-is}

@@ -1,4 +1,4 @@
--- `exchange_text::cell::stop_of` meets its contract: there are so many bytes, or the text ends. Assumes nothing.
+-- `exchange_text::cell::stop_of` meets its contract: there are so many bytes, or the text ends.
 use borrow.Author.Needs.{needs}
 use Rattle.exchange_text.proofs.CellTurns.{stops-short, stops-all}
 use Rattle.exchange_text.proofs.cell.stop_of.Statement.{statement}

@@ -1,5 +1,4 @@
--- `exchange_text::cell::ten_to` meets its contract: the power is read off for each of the five numbers. Assumes
--- nothing.
+-- `exchange_text::cell::ten_to` meets its contract: the power is read off for each of the five numbers.
 use mathlib.Core.Path.{_≡_}
 use native.Mathlib.Omega.{arith}
 use Rattle.exchange_text.proofs.cell.ten_to.Statement.{statement}

@@ -1,4 +1,4 @@
--- `exchange_text::row::column_of` meets its contract: each place has the column of the table. Assumes nothing.
+-- `exchange_text::row::column_of` meets its contract: each place has the column of the table.
 use Rattle.exchange_text.proofs.LineTurns.{column-2, column-3, column-price, column-whole}
 use Rattle.exchange_text.proofs.row.column_of.Statement.{statement}
 use Rattle.exchange_text.proofs.row.column_of.Tie as tie

@@ -1,4 +1,4 @@
--- `exchange_text::row::field_end` meets its contract: a semicolon is passed where columns are left. Assumes nothing.
+-- `exchange_text::row::field_end` meets its contract: a semicolon is passed where columns are left.
 use borrow.Author.Needs.{needs}
 use Rattle.exchange_text.proofs.LineTurns.{end-more, end-last}
 use Rattle.exchange_text.proofs.row.field_end.Statement.{statement}

@@ -1,5 +1,5 @@
 -- `exchange_text::row::fields` meets its contract: the fields that are left, behind the numbers stored, lead to the
--- same numbers and the same end. Assumes nothing.
+-- same numbers and the same end.
 use Prim.Native.Nat.{_-_}
 use mir.Facts.{toZ-ofZ}
 use mir.Syntax.{w64}

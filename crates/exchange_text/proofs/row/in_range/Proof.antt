@@ -1,4 +1,4 @@
--- `exchange_text::row::in_range` meets its contract: the id's range and the row's are the two tests. Assumes nothing.
+-- `exchange_text::row::in_range` meets its contract: the id's range and the row's are the two tests.
 use borrow.Author.Needs.{needs}
 use Rattle.exchange_protocol.specs.Scan.{inRange}
 use Rattle.exchange_text.proofs.row.in_range.Statement.{statement}

@@ -1,4 +1,4 @@
--- `exchange_text::row::line_end` meets its contract: a CR is passed first, where it stands there. Assumes nothing.
+-- `exchange_text::row::line_end` meets its contract: a CR is passed first, where it stands there.
 use mathlib.Core.Path.{sym, _∙_}
 use native.Mathlib.Omega.{arith}
 use lib.Dec.{eqb}

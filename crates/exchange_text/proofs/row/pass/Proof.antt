@@ -1,4 +1,4 @@
--- `exchange_text::row::pass` meets its contract: the byte is passed where it stands there. Assumes nothing.
+-- `exchange_text::row::pass` meets its contract: the byte is passed where it stands there.
 use mathlib.Core.Path.{sym, _∙_}
 use borrow.Author.Needs.{needs}
 use Rattle.exchange_text.proofs.LineTurns.{pass-there, pass-bad}

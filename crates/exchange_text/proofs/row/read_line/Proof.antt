@@ -1,5 +1,4 @@
--- `exchange_text::row::read_line` meets its contract: the eight fields are a line where they are in range. Assumes
--- nothing.
+-- `exchange_text::row::read_line` meets its contract: the eight fields are a line where they are in range.
 use mathlib.Core.Path.{sym, _∙_}
 use borrow.Author.Needs.{needs}
 use Rattle.exchange_text.proofs.LineTurns.{line-bad, line-out, line-is}

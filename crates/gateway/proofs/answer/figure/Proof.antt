@@ -1,4 +1,4 @@
--- `answer::figure` meets its contract: a number below 2^63 keeps its value. Assumes nothing.
+-- `answer::figure` meets its contract: a number below 2^63 keeps its value.
 use native.Mathlib.Omega.{arith}
 use mir.Syntax.{w64}
 use mir.ValLaws.{toZ-pos}

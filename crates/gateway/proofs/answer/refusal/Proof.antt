@@ -1,5 +1,4 @@
--- `answer::refusal` meets its contract: the refusal's number fits, so 0 less it fits too, and is its negative. Assumes
--- nothing.
+-- `answer::refusal` meets its contract: the refusal's number fits, so 0 less it fits too, and is its negative.
 use mathlib.Core.Path.{_≡_, refl}
 use Prim.Native.Nat.{ℕ, zero, suc, _<_, _^_}
 use native.Mathlib.Omega.{arith}

@@ -1,5 +1,5 @@
 -- `level::level_answer` meets its contract: 4 where the statics' test fails, else 6 where the other values' test fails,
--- else the figure, which is at most S_max and so fits. Assumes nothing.
+-- else the figure, which is at most S_max and so fits.
 use mathlib.Core.Path.{_≡_, sym, _∙_}
 use mathlib.Core.Bool.{true}
 use native.Mathlib.Omega.{arith}

@@ -1,5 +1,4 @@
 -- `level::level_figure` meets its contract: with isEWMA yes it is the level's rate, with isEWMA no the level's minimum.
--- Assumes nothing.
 use mathlib.Core.Path.{sym, _∙_}
 use borrow.Author.Needs.{needs}
 use Rattle.paper_desk.specs.Gateway.{levelFigure}

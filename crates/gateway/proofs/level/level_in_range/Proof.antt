@@ -1,4 +1,4 @@
--- `level::level_in_range` meets its contract: its tests are the definition's. Assumes nothing.
+-- `level::level_in_range` meets its contract: its tests are the definition's.
 use borrow.Author.Needs.{needs}
 use Rattle.paper_desk.specs.Gateway.{levelInRange}
 use Rattle.gateway.proofs.level.level_in_range.Statement.{statement}

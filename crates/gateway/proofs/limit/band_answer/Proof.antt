@@ -1,4 +1,4 @@
--- `limit::band_answer` meets its contract: it is the limit's call of a band. Assumes nothing.
+-- `limit::band_answer` meets its contract: it is the limit's call of a band.
 use mathlib.Core.Path.{_∙_}
 use mir.Facts.{toZ-ofZ}
 use borrow.Author.Needs.{needs}

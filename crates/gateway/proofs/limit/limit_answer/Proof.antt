@@ -1,5 +1,5 @@
 -- `limit::limit_answer` meets its contract: 4 where the statics' test fails, else 6 where no price and rate are made or
--- the test of what is left fails, else the limit, which is at most twice the price and so fits. Assumes nothing.
+-- the test of what is left fails, else the limit, which is at most twice the price and so fits.
 use mathlib.Core.Path.{_≡_, refl, sym, _∙_}
 use native.Mathlib.Omega.{arith}
 use borrow.Author.Needs.{needs}

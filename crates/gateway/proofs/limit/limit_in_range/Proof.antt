@@ -1,5 +1,5 @@
 -- `limit::limit_in_range` meets its contract: its tests are those of the definition that a price and a rate in range
--- leave, and the grid is above 0. Assumes nothing.
+-- leave, and the grid is above 0.
 use borrow.Author.Needs.{needs}
 use Rattle.limits.specs.LimitLaws.{grid-in-range}
 use Rattle.gateway.specs.LimitCalls.{in-range-is}

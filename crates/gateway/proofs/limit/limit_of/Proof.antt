@@ -1,4 +1,4 @@
--- `limit::limit_of` meets its contract, by which limit is asked for. Assumes nothing.
+-- `limit::limit_of` meets its contract, by which limit is asked for.
 use mathlib.Core.Path.{_≡_, sym, _∙_}
 use mir.Syntax.{w64}
 use mir.Facts.{toZ-ofZ}

@@ -1,4 +1,4 @@
--- `limit::own_in_range` meets its contract, by the cases of the definition. Assumes nothing.
+-- `limit::own_in_range` meets its contract, by the cases of the definition.
 use mir.Syntax.{w64}
 use mir.Facts.{toZ-ofZ}
 use borrow.Author.Needs.{needs}

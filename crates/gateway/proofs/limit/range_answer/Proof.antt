@@ -1,4 +1,4 @@
--- `limit::range_answer` meets its contract: it is the limit's call of a range. Assumes nothing.
+-- `limit::range_answer` meets its contract: it is the limit's call of a range.
 use mathlib.Core.Path.{_∙_}
 use mir.Facts.{toZ-ofZ}
 use borrow.Author.Needs.{needs}

@@ -1,4 +1,4 @@
--- `priced::price_and_rate` meets its contract: both are made exactly where both numbers are in range. Assumes nothing.
+-- `priced::price_and_rate` meets its contract: both are made exactly where both numbers are in range.
 use mathlib.Core.Path.{_≡_, sym, _∙_}
 use borrow.Author.Needs.{needs}
 use Rattle.inputs.proofs.Made.{price-made, price-unmade, rate-made, rate-unmade}

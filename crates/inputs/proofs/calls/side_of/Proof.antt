@@ -1,4 +1,4 @@
--- `inputs::side_of` meets its contract: each way rewrites with the test that led there. Assumes nothing.
+-- `inputs::side_of` meets its contract: each way rewrites with the test that led there.
 use borrow.Author.Tests.{ne-eqb}
 use Rattle.paper.specs.Ranges.{sideOf}
 use Rattle.inputs.proofs.calls.side_of.Statement.{statement}

@@ -1,5 +1,5 @@
 -- `inputs::valid_admission` meets its contract: where the id and the statics are in range the rest of the test is that
--- of the figures, and where they are not the whole is no. The step of valid statics is not 0. Assumes nothing.
+-- of the figures, and where they are not the whole is no. The step of valid statics is not 0.
 use mathlib.Core.Path.{_≡_, _∙_}
 use mathlib.Core.Bool.{true, _&&_}
 use borrow.Author.Needs.{needs}

@@ -1,5 +1,5 @@
 -- `inputs::valid_day_numbers` meets its contract: the numbers are tested as the definition tests them, and the terms by
--- `valid_terms`. Assumes nothing.
+-- `valid_terms`.
 use borrow.Author.Needs.{needs}
 use Rattle.paper.specs.Ranges.{validDayNumbers}
 use Rattle.inputs.proofs.calls.valid_day_numbers.Statement.{statement}

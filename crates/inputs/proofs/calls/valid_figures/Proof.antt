@@ -1,4 +1,4 @@
--- `inputs::valid_figures` meets its contract: each test is the one that the definition names. Assumes nothing.
+-- `inputs::valid_figures` meets its contract: each test is the one that the definition names.
 use borrow.Author.Needs.{needs}
 use Rattle.paper.specs.Ranges.{validFigures}
 use Rattle.inputs.proofs.calls.valid_figures.Statement.{statement}

@@ -1,4 +1,4 @@
--- `inputs::valid_id` meets its contract: the code's tests are the definition's. Assumes nothing.
+-- `inputs::valid_id` meets its contract: the code's tests are the definition's.
 use mathlib.Core.Path.{refl}
 use Rattle.inputs.proofs.calls.valid_id.Statement.{statement}
 use Rattle.inputs.proofs.calls.valid_id.Tie as tie

@@ -1,4 +1,4 @@
--- `inputs::valid_quote` meets its contract: the code's tests are the definition's, in its order. Assumes nothing.
+-- `inputs::valid_quote` meets its contract: the code's tests are the definition's, in its order.
 use mathlib.Core.Path.{refl}
 use Rattle.paper.specs.Ranges.{validQuote}
 use Rattle.inputs.proofs.calls.valid_quote.Statement.{statement}

@@ -1,4 +1,4 @@
--- `inputs::valid_side` meets its contract: the code's test is the definition's. Assumes nothing.
+-- `inputs::valid_side` meets its contract: the code's test is the definition's.
 use mathlib.Core.Path.{refl}
 use Rattle.paper.specs.Ranges.{validSide}
 use Rattle.inputs.proofs.calls.valid_side.Statement.{statement}

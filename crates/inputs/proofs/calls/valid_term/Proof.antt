@@ -1,5 +1,5 @@
 -- `inputs::valid_term` meets its contract: the code's tests are the definition's, on signed numbers that the machine
--- reads back from their bits. Assumes nothing.
+-- reads back from their bits.
 use mir.Syntax.{w64}
 use mir.Val.{SFits}
 use mir.Facts.{toZ-ofZ}

@@ -1,4 +1,4 @@
--- `inputs::valid_terms` meets its contract: one test at each of the three places. Assumes nothing.
+-- `inputs::valid_terms` meets its contract: one test at each of the three places.
 use borrow.Author.Needs.{needs}
 use Rattle.inputs.proofs.Tests.{three-tests-same}
 use Rattle.inputs.proofs.calls.valid_terms.Statement.{statement}

@@ -1,4 +1,4 @@
--- `inputs::grid_of` meets its contract: each way rewrites with the tests that led there. Assumes nothing.
+-- `inputs::grid_of` meets its contract: each way rewrites with the tests that led there.
 use borrow.Author.Tests.{le-leb, lt-leb}
 use Rattle.paper.specs.Ranges.{gridOf}
 use Rattle.inputs.proofs.prices.grid_of.Statement.{statement}

@@ -1,5 +1,4 @@
--- `inputs::is_grid_price` meets its contract: the range is judged by `is_price`, and the grid by `is_on_grid`. Assumes
--- nothing.
+-- `inputs::is_grid_price` meets its contract: the range is judged by `is_price`, and the grid by `is_on_grid`.
 use borrow.Author.Needs.{needs}
 use Rattle.paper.specs.Ranges.{isGridPrice}
 use Rattle.inputs.proofs.prices.is_grid_price.Statement.{statement}

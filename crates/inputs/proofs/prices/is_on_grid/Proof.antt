@@ -1,5 +1,5 @@
 -- `inputs::is_on_grid` meets its contract: to lot 1 only the grid of 100 is asked, to lot 10 a multiple of 100 is one
--- of 10 too, and every number is on the grid of 1. Assumes nothing.
+-- of 10 too, and every number is on the grid of 1.
 use mathlib.Core.Path.{_≡_, refl}
 use mathlib.Core.Logic.{_⊎_, inl, inr}
 use mathlib.Core.Bool.{Bool, true, false, _&&_, _||_}

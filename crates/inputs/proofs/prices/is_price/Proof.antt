@@ -1,4 +1,4 @@
--- `inputs::is_price` meets its contract: the code's tests are the definition's. Assumes nothing.
+-- `inputs::is_price` meets its contract: the code's tests are the definition's.
 use mathlib.Core.Path.{refl}
 use Rattle.paper.specs.Ranges.{isPrice}
 use Rattle.inputs.proofs.prices.is_price.Statement.{statement}

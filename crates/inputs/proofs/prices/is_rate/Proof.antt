@@ -1,4 +1,4 @@
--- `inputs::is_rate` meets its contract: the code's test is the definition's. Assumes nothing.
+-- `inputs::is_rate` meets its contract: the code's test is the definition's.
 use mathlib.Core.Path.{refl}
 use Rattle.paper.specs.Ranges.{isRate}
 use Rattle.inputs.proofs.prices.is_rate.Statement.{statement}

@@ -1,5 +1,4 @@
 -- `inputs::multiples_of_step` meets its contract: the code's tests are the definition's, and the step is above 0.
--- Assumes nothing.
 use mathlib.Core.Path.{refl}
 use borrow.Author.Needs.{needs}
 use Rattle.paper.specs.Ranges.{multiplesOfStep}

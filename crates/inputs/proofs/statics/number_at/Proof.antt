@@ -1,5 +1,5 @@
 -- `number_at` meets its contract: before the end of the numbers it is the number as `exact::unsigned` reads it, and
--- past the end the definition, too, has 0. Assumes nothing.
+-- past the end the definition, too, has 0.
 use Rattle.paper.specs.Ranges.{unsigned}
 use mathlib.Core.Path.{sym, ap}
 use denote.Ref.{now}

@@ -1,4 +1,4 @@
--- `inputs::statics_of` meets its contract: the code's fields are the definition's. Assumes nothing.
+-- `inputs::statics_of` meets its contract: the code's fields are the definition's.
 use mathlib.Core.Path.{refl}
 use Rattle.paper.specs.Ranges.{staticsOf}
 use Rattle.inputs.proofs.statics.statics_of.Statement.{statement}

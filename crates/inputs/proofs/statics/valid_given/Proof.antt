@@ -1,5 +1,4 @@
--- `inputs::valid_given` meets its contract: the statics are made by `statics_of` and judged by `valid_statics`. Assumes
--- nothing.
+-- `inputs::valid_given` meets its contract: the statics are made by `statics_of` and judged by `valid_statics`.
 use borrow.Author.Needs.{needs}
 use Rattle.paper.specs.Ranges.{validGiven}
 use Rattle.inputs.proofs.statics.valid_given.Statement.{statement}

@@ -1,5 +1,5 @@
 -- `inputs::valid_tentative` meets its contract: a multiple of h is at most the top, which is a multiple too and less
--- than a step above 100,000 bp, exactly where it is less than a step above 100,000 bp itself. Assumes nothing.
+-- than a step above 100,000 bp, exactly where it is less than a step above 100,000 bp itself.
 use mathlib.Core.Path.{_≡_}
 use mathlib.Core.Logic.{_⊎_, inl, inr}
 use Prim.Native.Nat.{ℕ, _+_, _-_, _*_, _/_, _%_, _≤_, _<_}

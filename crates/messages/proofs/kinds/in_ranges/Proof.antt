@@ -1,5 +1,5 @@
 -- `in_ranges` meets its contract: before each turn the values before the place are in their ranges, so that those
--- from the place on decide (`Judging`); the first that is out of its range ends the loop. Assumes nothing.
+-- from the place on decide (`Judging`); the first that is out of its range ends the loop.
 use mathlib.Core.Path.{_≡_}
 use mir.Facts.{toZ-ofZ}
 use mir.Syntax.{w64}

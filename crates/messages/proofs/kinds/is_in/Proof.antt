@@ -1,5 +1,4 @@
 -- `is_in` meets its contract: it is `is_within`, of the two ends and the value as their bits are read back.
--- Assumes nothing.
 use borrow.Author.Needs.{needs}
 use mir.Facts.{toZ-ofZ}
 use mir.Syntax.{w64}

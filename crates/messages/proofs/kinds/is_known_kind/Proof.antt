@@ -1,5 +1,5 @@
 -- `is_known_kind` meets its contract: the known kinds follow each other, so that the first and the last bound them, as
--- in the definition. Assumes nothing.
+-- in the definition.
 use borrow.Author.Needs.{needs}
 use Rattle.paper_messages.specs.Messages.{isKnownKind}
 use Rattle.messages.proofs.kinds.is_known_kind.Statement.{statement}

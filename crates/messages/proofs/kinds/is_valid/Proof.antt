@@ -1,4 +1,4 @@
--- `is_valid` meets its contract: the tests in the definition's order. Assumes nothing.
+-- `is_valid` meets its contract: the tests in the definition's order.
 use mathlib.Core.Path.{_≡_, sym, _∙_}
 use mathlib.Core.Bool.{true}
 use borrow.Author.Tests.{not-true, not-false, eq-eqb, ne-eqb}

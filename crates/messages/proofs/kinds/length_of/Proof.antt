@@ -1,4 +1,4 @@
--- `length_of` meets its contract: by the kind that the tests lead to. Assumes nothing.
+-- `length_of` meets its contract: by the kind that the tests lead to.
 use borrow.Author.Tests.{ne-eqb}
 use Rattle.paper_messages.specs.Fields.{staticsFields, ratesFields, bandsFields, moveFields, fieldsOf, filled, placesOf}
 use Rattle.paper_messages.specs.Messages.{total, lengthOf}

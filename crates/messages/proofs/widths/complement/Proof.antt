@@ -1,4 +1,4 @@
--- `complement` meets its contract: by the sign. Assumes nothing.
+-- `complement` meets its contract: by the sign.
 use mathlib.Core.Path.{_≡_}
 use native.Mathlib.Omega.{arith}
 use lib.Signed.{mag}

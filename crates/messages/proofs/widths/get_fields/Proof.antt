@@ -1,4 +1,4 @@
--- `get_fields` meets its contract: the walk keeps what is left to be read. Assumes nothing.
+-- `get_fields` meets its contract: the walk keeps what is left to be read.
 use mir.Facts.{toZ-ofZ}
 use Rattle.messages.proofs.Halves.{signed-fits}
 use Prim.Native.Nat.{_-_}

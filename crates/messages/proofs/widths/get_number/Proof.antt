@@ -1,4 +1,4 @@
--- `get_number` meets its contract: the loop keeps the number of the bytes from i on. Assumes nothing.
+-- `get_number` meets its contract: the loop keeps the number of the bytes from i on.
 use Prim.Native.Nat.{_+_, _-_, _<_}
 use native.Mathlib.Omega.{arith}
 use borrow.Author.Needs.{needs}

@@ -1,4 +1,4 @@
--- `greatest` meets its contract: each entry of the table is the greatest number of its width. Assumes nothing.
+-- `greatest` meets its contract: each entry of the table is the greatest number of its width.
 use mathlib.Core.Path.{_≡_, refl}
 use mathlib.Core.List.{List, [], _∷_, map}
 use Prim.Native.Nat.{ℕ, zero, suc, _≤_}

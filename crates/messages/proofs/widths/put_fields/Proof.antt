@@ -1,4 +1,4 @@
--- `put_fields` meets its contract: the walk keeps what is left to be written. Assumes nothing.
+-- `put_fields` meets its contract: the walk keeps what is left to be written.
 use mir.Facts.{toZ-ofZ}
 use mir.Syntax.{w64}
 use Prim.Native.Nat.{_-_}

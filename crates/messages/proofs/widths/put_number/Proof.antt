@@ -1,5 +1,5 @@
 -- `put_number` meets its contract: before each turn the bytes still to write, written behind those written, are the
--- bytes of the number (`Putting`). Assumes nothing.
+-- bytes of the number (`Putting`).
 use Prim.Native.Nat.{_-_}
 use borrow.Author.Needs.{needs}
 use Rattle.messages.proofs.ByteTurns.{Putting, putting-none, putting-more, putting-all}

@@ -1,4 +1,4 @@
--- `signed_of` meets its contract: by the half that the number is of. Assumes nothing.
+-- `signed_of` meets its contract: by the half that the number is of.
 use Prim.Native.Nat.{_/_, _≤_, _<_}
 use mir.Facts.{toZ-ofZ, toZ-pos}
 use mir.Syntax.{w64}

@@ -1,4 +1,4 @@
--- `Limit::new` meets its contract: the test of the code is the definition's. Assumes nothing.
+-- `Limit::new` meets its contract: the test of the code is the definition's.
 use borrow.Author.Tests.{le-leb, lt-leb}
 use Rattle.paper.specs.Ranges.{limitMade}
 use Rattle.paper.proofs.Limit.new.Statement.{statement}

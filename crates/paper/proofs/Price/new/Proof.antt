@@ -1,4 +1,4 @@
--- `Price::new` meets its contract: the test of the code is the definition's. Assumes nothing.
+-- `Price::new` meets its contract: the test of the code is the definition's.
 use Rattle.paper.specs.Ranges.{isPrice, priceMade}
 use Rattle.paper.proofs.Price.new.Statement.{statement}
 use Rattle.paper.proofs.Price.new.Tie as tie

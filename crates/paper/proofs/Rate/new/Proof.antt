@@ -1,4 +1,4 @@
--- `Rate::new` meets its contract: the test of the code is the definition's. Assumes nothing.
+-- `Rate::new` meets its contract: the test of the code is the definition's.
 use borrow.Author.Tests.{le-leb, lt-leb}
 use Rattle.paper.specs.Ranges.{isRate, rateMade}
 use Rattle.paper.proofs.Rate.new.Statement.{statement}

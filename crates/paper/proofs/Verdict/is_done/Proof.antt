@@ -1,4 +1,4 @@
--- `Verdict::is_done` meets its contract: 0 is done. Assumes nothing.
+-- `Verdict::is_done` meets its contract: 0 is done.
 use borrow.Author.Needs.{needs}
 use Rattle.paper.specs.Verdicts.{isDone}
 use Rattle.paper.proofs.Verdict.is_done.Statement.{statement}

@@ -1,4 +1,4 @@
--- `Verdict::number` meets its contract: by the variant that an arm knows, the definition's number. Assumes nothing.
+-- `Verdict::number` meets its contract: by the variant that an arm knows, the definition's number.
 use borrow.Author.Needs.{needs}
 use Rattle.paper.specs.Verdicts.{numberOf}
 use Rattle.paper.proofs.Verdict.number.Statement.{statement}

@@ -1,4 +1,4 @@
--- `tentative::least_step` meets its contract: the closed form of the least multiple. Assumes nothing.
+-- `tentative::least_step` meets its contract: the closed form of the least multiple.
 use native.Mathlib.Nat.{mul-pos}
 use native.Mathlib.Omega.{arith}
 use borrow.Author.Needs.{needs}

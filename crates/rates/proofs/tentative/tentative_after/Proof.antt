@@ -1,5 +1,4 @@
--- `tentative::tentative_after` meets its contract: the tests of the code are the definition's, in its order. Assumes
--- nothing.
+-- `tentative::tentative_after` meets its contract: the tests of the code are the definition's, in its order.
 use Prim.Native.Nat.{_+_, _≤_}
 use native.Mathlib.Omega.{arith}
 use borrow.Author.Needs.{needs}

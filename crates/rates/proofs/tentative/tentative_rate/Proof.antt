@@ -1,4 +1,4 @@
--- `tentative::tentative_rate` meets its contract: q·s is at most 1,000 times the greatest volatility. Assumes nothing.
+-- `tentative::tentative_rate` meets its contract: q·s is at most 1,000 times the greatest volatility.
 use native.Mathlib.Nat.{mul-le-mul}
 use native.Mathlib.Omega.{arith}
 use Rattle.paper_desk.specs.Rates.{tentativeRate}

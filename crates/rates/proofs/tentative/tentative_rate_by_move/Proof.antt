@@ -1,4 +1,4 @@
--- `tentative::tentative_rate_by_move` meets its contract: r and a step's worth fit. Assumes nothing.
+-- `tentative::tentative_rate_by_move` meets its contract: r and a step's worth fit.
 use native.Mathlib.Omega.{arith}
 use Rattle.paper_desk.specs.Rates.{tentativeRateByMove}
 use Rattle.rates.proofs.tentative.tentative_rate_by_move.Statement.{statement}

@@ -1,4 +1,4 @@
--- `tentative::tentative_rate_of` meets its contract: the branch of the code is the definition's. Assumes nothing.
+-- `tentative::tentative_rate_of` meets its contract: the branch of the code is the definition's.
 use mathlib.Core.Path.{_∙_, sym}
 use borrow.Author.Needs.{needs}
 use Rattle.paper_desk.specs.Rates.{tentativeRateOf}

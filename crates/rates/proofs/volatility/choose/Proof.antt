@@ -1,5 +1,4 @@
 -- `volatility::choose` meets its contract: the choice of the code is the definition's, between the same two numbers.
--- Assumes nothing.
 use mathlib.Core.Path.{_≡_}
 use Prim.Native.Nat.{ℕ, _≤_}
 use native.Mathlib.Omega.{arith}

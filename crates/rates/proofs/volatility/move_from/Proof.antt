@@ -1,5 +1,4 @@
--- `volatility::move_from` meets its contract: two prices are less than 10^10 apart, so that the millionths fit. Assumes
--- nothing.
+-- `volatility::move_from` meets its contract: two prices are less than 10^10 apart, so that the millionths fit.
 use mathlib.Core.Path.{_≡_}
 use mathlib.Core.Bool.{true, _&&_}
 use Prim.Native.Nat.{ℕ, _≤_}

@@ -1,4 +1,4 @@
--- `volatility::move_of` meets its contract: the greater of the two moves. Assumes nothing.
+-- `volatility::move_of` meets its contract: the greater of the two moves.
 use borrow.Author.Needs.{needs}
 use Rattle.paper_desk.specs.Rates.{moveOf}
 use Rattle.rates.proofs.volatility.move_of.Statement.{statement}

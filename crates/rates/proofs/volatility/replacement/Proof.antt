@@ -1,4 +1,4 @@
--- `volatility::replacement` meets its contract: the least y with y·q ≥ 100·r is 100·r/q rounded up. Assumes nothing.
+-- `volatility::replacement` meets its contract: the least y with y·q ≥ 100·r is 100·r/q rounded up.
 use mathlib.Core.Path.{sym, _∙_}
 use borrow.Author.Needs.{needs}
 use Rattle.paper_desk.specs.Rates.{replacement}

@@ -1,5 +1,5 @@
 -- `volatility::replaces` meets its contract: the tests of the code are the definition's, the last only where the others
--- pass. Assumes nothing.
+-- pass.
 use mathlib.Core.Path.{_≡_}
 use mathlib.Core.Bool.{Bool, true, false, _&&_}
 use lib.Dec.{leb, ltb}

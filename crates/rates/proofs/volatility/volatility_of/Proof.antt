@@ -1,4 +1,4 @@
--- `volatility::volatility_of` meets its contract: of what is chosen, the figure. Assumes nothing.
+-- `volatility::volatility_of` meets its contract: of what is chosen, the figure.
 use mathlib.Core.Path.{ap}
 use borrow.Author.Needs.{needs}
 use Rattle.rates.specs.declared.volatility.Volatility.{Volatility}

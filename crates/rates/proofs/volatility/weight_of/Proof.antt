@@ -1,4 +1,4 @@
--- `volatility::weight_of` meets its contract: the tests of the code are the definition's. Assumes nothing.
+-- `volatility::weight_of` meets its contract: the tests of the code are the definition's.
 use borrow.Author.Tests.{lt-ltb, le-ltb}
 use Rattle.paper_desk.specs.Rates.{weightOf}
 use Rattle.rates.proofs.volatility.weight_of.Statement.{statement}

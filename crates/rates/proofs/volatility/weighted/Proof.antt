@@ -1,5 +1,4 @@
 -- `volatility::weighted` meets its contract: the mean of two squares up to 2^40 is at most 2^40 times 10,000.
--- Assumes nothing.
 use Prim.Native.Nat.{ℕ, _+_, _-_, _*_, _^_, _≤_}
 use native.Mathlib.Nat.{mul-le-mul, mul-le-mul-left}
 use native.Mathlib.Omega.{arith}

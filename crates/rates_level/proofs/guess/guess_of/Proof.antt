@@ -1,4 +1,4 @@
--- `guess::guess_of` meets its contract: every root is below 2^16, so that nothing wraps. Assumes nothing.
+-- `guess::guess_of` meets its contract: every root is below 2^16, so that nothing wraps.
 use Prim.Native.Nat.{ℕ, _*_, _≤_}
 use native.Mathlib.Nat.{mul-le-mul, mul-pos, le-trans, le-of-lt, div-le-self}
 use native.Mathlib.Omega.{arith}

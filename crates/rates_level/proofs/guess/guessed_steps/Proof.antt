@@ -1,4 +1,4 @@
--- `guess::guessed_steps` meets its contract: every root is below 2^16, so that nothing wraps. Assumes nothing.
+-- `guess::guessed_steps` meets its contract: every root is below 2^16, so that nothing wraps.
 use Prim.Native.Nat.{_*_, _≤_}
 use native.Mathlib.Nat.{mul-le-mul, le-of-lt}
 use native.Mathlib.Omega.{arith}

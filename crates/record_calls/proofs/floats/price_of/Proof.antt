@@ -1,5 +1,4 @@
 -- `price_of` meets its contract: `x != x` tells what is no number from every other float, whose bits may be read.
--- Assumes nothing.
 use mathlib.Core.Path.{_≡_, refl, sym, _∙_, subst}
 use mathlib.Core.Bool.{true, false}
 use lib.Dec.{T}

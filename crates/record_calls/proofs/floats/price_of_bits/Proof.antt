@@ -1,5 +1,5 @@
 -- `price_of_bits` meets its contract: on either side there is no price, and between them the quotient that is rounded
--- is the value in units. Assumes nothing.
+-- is the value in units.
 use mathlib.Core.Path.{_≡_, sym, ap, _∙_}
 use Prim.Native.Nat.{ℕ, _-_, _*_, _/_, _%_, _^_, _≤_}
 use native.Mathlib.Nat.{one-mul, mod-eq-of-lt}

@@ -1,5 +1,4 @@
--- `fault_of` meets its contract: each test of the code is the definition's, in its order: 6, 16, 7 and 9. Assumes
--- nothing.
+-- `fault_of` meets its contract: each test of the code is the definition's, in its order: 6, 16, 7 and 9.
 use mathlib.Core.Path.{_≡_, sym, _∙_}
 use Rattle.rows.specs.RowLaws.{whole-in-sevens, valid-whole, valid-every}
 use Rattle.record_reasons.specs.RowFaults.{faultWith}

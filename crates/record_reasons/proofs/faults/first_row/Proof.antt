@@ -1,5 +1,5 @@
 -- `first_row` meets its contract: the rows that are left decide for all, as no row behind the place is at
--- fault. Assumes nothing.
+-- fault.
 use mathlib.Core.Path.{_≡_, sym, _∙_}
 use Prim.Native.Nat.{_+_, _-_, _≤_}
 use native.Mathlib.Omega.{arith}

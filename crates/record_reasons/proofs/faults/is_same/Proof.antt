@@ -1,4 +1,4 @@
--- `is_same` meets its contract: two verdicts are one where their numbers are. Assumes nothing.
+-- `is_same` meets its contract: two verdicts are one where their numbers are.
 use Rattle.paper_reasons.specs.Faults.{isSame}
 use borrow.Author.Needs.{needs}
 use Rattle.record_reasons.proofs.faults.is_same.Statement.{statement}

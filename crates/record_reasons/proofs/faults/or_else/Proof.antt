@@ -1,4 +1,4 @@
--- `or_else` meets its contract, case by case. Assumes nothing.
+-- `or_else` meets its contract, case by case.
 use Rattle.record_reasons.specs.RowFaults.{orElse}
 use borrow.Author.Needs.{needs}
 use Rattle.record_reasons.proofs.faults.or_else.Statement.{statement}

@@ -1,4 +1,4 @@
--- `out_of_range` meets its contract: a row is named before a term. Assumes nothing.
+-- `out_of_range` meets its contract: a row is named before a term.
 use Rattle.record_reasons.proofs.AtFault.{out-of-range-is}
 use borrow.Author.Needs.{needs}
 use Rattle.record_reasons.proofs.faults.out_of_range.Statement.{statement}

@@ -1,4 +1,4 @@
--- `row_at_fault` meets its contract: each test of the code is the one of its name. Assumes nothing.
+-- `row_at_fault` meets its contract: each test of the code is the one of its name.
 use Rattle.paper_desk.specs.Evaluation.{rowFits}
 use mathlib.Core.Path.{_≡_, ap, _∙_}
 use mathlib.Core.Bool.{not}

@@ -1,4 +1,4 @@
--- `whole_row` meets its contract: only whole rows are looked at. Assumes nothing.
+-- `whole_row` meets its contract: only whole rows are looked at.
 use Rattle.rows.specs.RowLaws.{whole-in-sevens}
 use Rattle.record_answers.proofs.Tests.{tested-true, tested-false}
 use Rattle.record_reasons.proofs.AtFault.{every-true}

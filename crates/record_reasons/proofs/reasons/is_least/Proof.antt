@@ -1,5 +1,5 @@
 -- `reasons::is_least` meets its contract: a comparison a step below a rate that covers the requirement tells whether it
--- is the least. Assumes nothing.
+-- is the least.
 use Rattle.paper.specs.declared.Statics.{Statics}
 use Rattle.paper.specs.declared.Rate.{Rate}
 use Rattle.paper.specs.Numbers.{rateMost}

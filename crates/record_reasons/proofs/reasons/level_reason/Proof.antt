@@ -1,5 +1,5 @@
 -- `reasons::level_reason` meets its contract: the tests of the code are the conditions, in their order. Where the first
--- two do not hold the third does. Assumes nothing.
+-- two do not hold the third does.
 use mathlib.Core.Bool.{true, false}
 use Prim.Native.Nat.{ℕ}
 use lib.Dec.{eqb}

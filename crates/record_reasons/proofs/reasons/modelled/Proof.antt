@@ -1,5 +1,5 @@
 -- `reasons::modelled` meets its contract: the move, the volatility and the tentative rate in hand are those at P, so
--- each reason is that of the definition. Assumes nothing.
+-- each reason is that of the definition.
 use Rattle.paper.specs.Numbers.{millionthsInBp, volatilityMost}
 use Rattle.paper_desk.specs.Rates.{modelOf, modelled, Weighing}
 use Rattle.paper.specs.Ranges.{rateAt}

@@ -1,5 +1,4 @@
--- `reasons::price_reason` meets its contract: the tests of the code are the conditions, in their order. Assumes
--- nothing.
+-- `reasons::price_reason` meets its contract: the tests of the code are the conditions, in their order.
 use Rattle.record_reasons.specs.Reasoned.{setBy, reasonFrom}
 use borrow.Author.Needs.{needs}
 use Rattle.record_reasons.proofs.reasons.price_reason.Statement.{statement}

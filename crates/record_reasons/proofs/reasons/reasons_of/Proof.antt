@@ -1,5 +1,5 @@
 -- `reasons::reasons_of` meets its contract: with isEWMA yes the reasons are those of the model; with isEWMA no the
--- minimum set each level. Assumes nothing.
+-- minimum set each level.
 use mathlib.Core.Path.{_∙_}
 use Rattle.record_reasons.proofs.Reasoning.{unmodelled-is}
 use Rattle.record_reasons.specs.Reasoned.{modelledWith}

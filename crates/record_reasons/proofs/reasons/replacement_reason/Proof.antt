@@ -1,4 +1,4 @@
--- `reasons::replacement_reason` meets its contract, case by case. Assumes nothing.
+-- `reasons::replacement_reason` meets its contract, case by case.
 use Rattle.paper_reasons.specs.Reasons.{replacementWas}
 use Rattle.record_reasons.proofs.reasons.replacement_reason.Statement.{statement}
 use Rattle.record_reasons.proofs.reasons.replacement_reason.Tie as tie

@@ -1,5 +1,4 @@
--- `reasons::tentative_reason` meets its contract: the tests of the code are the conditions, in their order. Assumes
--- nothing.
+-- `reasons::tentative_reason` meets its contract: the tests of the code are the conditions, in their order.
 use Prim.Native.Nat.{_+_}
 use native.Mathlib.Omega.{arith}
 use borrow.Author.Tests.{le-leb, lt-leb, lt-ltb}

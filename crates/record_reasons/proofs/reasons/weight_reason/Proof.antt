@@ -1,5 +1,4 @@
--- `reasons::weight_reason` meets its contract: the tests of the code are the conditions, in their order. Assumes
--- nothing.
+-- `reasons::weight_reason` meets its contract: the tests of the code are the conditions, in their order.
 use borrow.Author.Tests.{lt-ltb, le-ltb, le-leb}
 use Rattle.paper_reasons.specs.Reasons.{weightIs}
 use Rattle.record_reasons.proofs.reasons.weight_reason.Statement.{statement}

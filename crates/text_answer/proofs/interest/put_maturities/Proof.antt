@@ -1,5 +1,4 @@
--- `text_answer::interest::put_maturities` meets its contract: of each of the first `count` key maturities. Assumes
--- nothing.
+-- `text_answer::interest::put_maturities` meets its contract: of each of the first `count` key maturities.
 use borrow.Author.Needs.{needs}
 use Rattle.text_answer.proofs.Maturities.{Telling, telling-none, telling-more, telling-over, telling-all}
 use Rattle.paper.specs.declared.MaturityFigures.{MaturityFigures}

@@ -1,4 +1,4 @@
--- `text_answer::interest::put_maturity` meets its contract: CHANGE VOLATILITY TENTATIVE AGE UP DOWN. Assumes nothing.
+-- `text_answer::interest::put_maturity` meets its contract: CHANGE VOLATILITY TENTATIVE AGE UP DOWN.
 use Rattle.text_protocol.specs.Answers.{maturityNumbers}
 use Rattle.text_out.specs.Told.{both}
 use borrow.Author.Needs.{needs}

@@ -1,5 +1,5 @@
 -- `text_answer::interest::say_interest` meets its contract: the verdict's number decides, as in the definition, between
--- the text of an answer that is done and the number alone (`done-text`, `refused-text`). Assumes nothing.
+-- the text of an answer that is done and the number alone (`done-text`, `refused-text`).
 use Rattle.text_answer.proofs.Verdicts.{refused-text, done-text}
 use Rattle.text_protocol.specs.Answers.{interestText, interestNumbers}
 use borrow.Author.Needs.{needs}

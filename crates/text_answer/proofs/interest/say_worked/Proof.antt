@@ -1,5 +1,4 @@
--- `text_answer::interest::say_worked` meets its contract: LOWER UPPER, and the figures of each key maturity. Assumes
--- nothing.
+-- `text_answer::interest::say_worked` meets its contract: LOWER UPPER, and the figures of each key maturity.
 use Rattle.text_out.specs.Told.{both}
 use Rattle.text_answer.specs.Answered.{answered}
 use Rattle.text_protocol.specs.Answers.{interestNumbers}

@@ -1,4 +1,4 @@
--- `text_answer::record::put_external` meets its contract: EXTBID EXTASK. Assumes nothing.
+-- `text_answer::record::put_external` meets its contract: EXTBID EXTASK.
 use Rattle.text_protocol.specs.Answers.{externalNumbers}
 use Rattle.text_out.specs.Told.{both}
 use borrow.Author.Needs.{needs}

@@ -1,4 +1,4 @@
--- `text_answer::record::put_figures` meets its contract: ID LIVE DAY P1 P2 S TENTATIVE AGE. Assumes nothing.
+-- `text_answer::record::put_figures` meets its contract: ID LIVE DAY P1 P2 S TENTATIVE AGE.
 use Rattle.text_protocol.specs.Answers.{figureNumbers, standingNumbers}
 use Rattle.text_out.specs.Told.{both}
 use borrow.Author.Needs.{needs}

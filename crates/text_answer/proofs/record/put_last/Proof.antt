@@ -1,4 +1,4 @@
--- `text_answer::record::put_last` meets its contract: MOVESUPPER MOVESLOWER LASTSECOND. Assumes nothing.
+-- `text_answer::record::put_last` meets its contract: MOVESUPPER MOVESLOWER LASTSECOND.
 use Rattle.text_protocol.specs.Answers.{lastNumbers}
 use Rattle.text_out.specs.Told.{both}
 use borrow.Author.Needs.{needs}

@@ -1,5 +1,5 @@
 -- `text_answer::record::put_levels` meets its contract: the figures, the rates and the ranges are appended one behind
--- the other, and what two calls append is one text (`both`). Assumes nothing.
+-- the other, and what two calls append is one text (`both`).
 use Rattle.text_out.specs.Told.{both}
 use borrow.Author.Needs.{needs}
 use Rattle.text_answer.proofs.record.put_levels.Statement.{statement}

@@ -1,4 +1,4 @@
--- `text_answer::record::put_near` meets its contract: when a side came near. Assumes nothing.
+-- `text_answer::record::put_near` meets its contract: when a side came near.
 use native.Mathlib.Omega.{arith}
 use Rattle.text_out.specs.Told.{roomier}
 use Rattle.text_protocol.specs.Answers.{nearNumber}

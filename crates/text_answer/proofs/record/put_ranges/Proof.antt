@@ -1,4 +1,4 @@
--- `text_answer::record::put_ranges` meets its contract: UPPER1 UPPER2 UPPER3 LOWER1 LOWER2 LOWER3. Assumes nothing.
+-- `text_answer::record::put_ranges` meets its contract: UPPER1 UPPER2 UPPER3 LOWER1 LOWER2 LOWER3.
 use Rattle.text_protocol.specs.Answers.{rangesNumbers}
 use Rattle.text_out.specs.Told.{both}
 use borrow.Author.Needs.{needs}

@@ -1,4 +1,4 @@
--- `text_answer::record::put_session` meets its contract: SESSION EVENINGMOVES. Assumes nothing.
+-- `text_answer::record::put_session` meets its contract: SESSION EVENINGMOVES.
 use Rattle.text_protocol.specs.Answers.{sessionNumbers}
 use Rattle.text_out.specs.Told.{both}
 use borrow.Author.Needs.{needs}

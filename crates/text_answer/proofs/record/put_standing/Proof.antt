@@ -1,4 +1,4 @@
--- `text_answer::record::put_standing` meets its contract: LIVE DAY. Assumes nothing.
+-- `text_answer::record::put_standing` meets its contract: LIVE DAY.
 use Rattle.text_protocol.specs.Answers.{standingNumbers, flag}
 use Rattle.paper.specs.Ranges.{isLive, lastDay}
 use Rattle.text_protocol.specs.Answers.{standingNumbers}

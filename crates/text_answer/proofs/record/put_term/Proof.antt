@@ -1,5 +1,4 @@
--- `text_answer::record::put_term` meets its contract: K RRCL RRCH BANDLOWER BANDUPPER NEARTOP NEARBOTTOM. Assumes
--- nothing.
+-- `text_answer::record::put_term` meets its contract: K RRCL RRCH BANDLOWER BANDUPPER NEARTOP NEARBOTTOM.
 use mir.Facts.{toZ-ofZ}
 use mir.Syntax.{w64}
 use Rattle.text_protocol.specs.Answers.{termNumbers}

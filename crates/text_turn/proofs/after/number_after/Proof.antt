@@ -1,4 +1,4 @@
--- `text_turn::after::number_after` meets its contract: the number of the line behind the n-th. Assumes nothing.
+-- `text_turn::after::number_after` meets its contract: the number of the line behind the n-th.
 use Rattle.text_evening.specs.Evening.{numberAfter, lastNumber}
 use borrow.Author.Tests.{lt-ltb, le-ltb}
 use borrow.Author.Needs.{needs}

@@ -1,4 +1,4 @@
--- `text_turn::after::stopped` meets its contract: where a write failed, no line more is heard. Assumes nothing.
+-- `text_turn::after::stopped` meets its contract: where a write failed, no line more is heard.
 use Rattle.text_turn.proofs.after.stopped.Statement.{statement}
 use Rattle.text_turn.proofs.after.stopped.Tie as tie
 use Rattle.text_turn.proofs.after.stopped.Reads as reads

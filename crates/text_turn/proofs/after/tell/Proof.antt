@@ -1,4 +1,4 @@
--- `text_turn::after::tell` meets its contract: tells the answer to a line. Assumes nothing.
+-- `text_turn::after::tell` meets its contract: tells the answer to a line.
 use mathlib.Core.Path.{refl}
 use native.Mathlib.Omega.{arith}
 use Rattle.text_turn.specs.Tells.{Goes, wait, handed}
