@@ -11,6 +11,7 @@ use Rattle.paper.specs.declared.Limits.{Limits}
 use Rattle.paper.specs.Numbers.{oneInTenThousandths, limitMost, nearnessMost, quoteMost}
 use Rattle.paper.specs.Ranges.{validStatics, validLimits, isLimit}
 use Rattle.paper.proofs.Logic.{and-left, and-right}
+use Rattle.paper.proofs.StaticsFacts.{statics-facts}
 
 -- "w 0..5,000", "limits .. 0..2·10^12 + 2·10^10"; a price, quoted or a limit, is at most that too
 pub record NearRange (w : ℕ) (x : Limits) (price : ℕ) : Type 0 where
@@ -23,10 +24,10 @@ pub record NearRange (w : ℕ) (x : Limits) (price : ℕ) : Type 0 where
 pub near-range : (st : Statics) (g : ℕ) (x : Limits) (price : ℕ) → validStatics st ≡ true → validLimits g x ≡ true
     → price ≤ quoteMost
     → NearRange (st .w) x price
-unfolding validStatics validLimits isLimit
+unfolding validLimits isLimit
 near-range st g x price v l p =
     record {
-      nearness = leb-true _ _ (search (v, and-left, and-right) depth 40);
+      nearness = statics-facts st v .w;
       lower = leb-true _ _ (search (l, and-left, and-right));
       upper = leb-true _ _ (search (l, and-left, and-right));
       within = omega arith;

@@ -9,7 +9,7 @@ ghost use Prim.Native.Nat.{_<_};
 ghost use lib.ListN.{getD};
 ghost use Rattle.paper.specs.Lists.{three, some};
 ghost use Rattle.paper.specs.Ranges.{validTerm};
-ghost use Rattle.paper_bonds.specs.Bonds.{givenOf, bondStatics, termsOf, validNumbers, validBond, flowsOf, grossOf};
+ghost use Rattle.paper_bonds.specs.Bonds.{bondGiven, bondStatics, termsOf, validNumbers, validBond, flowsOf, grossOf};
 ghost use Rattle.paper_bonds.specs.Bonds.{limitsOf, allLimits, isCrossed, refusedBond, bondAnswer};
 ghost use Rattle.bond.specs.Priced.{Priced, Figured, noBondLimits};
 use crate::flows::carry_of;
@@ -37,39 +37,29 @@ use paper_bonds::BondStatics;
 
 // ---- what is given
 
-// A bond's statics among the shares': no rule of a bond reads the lot, the weights, shift, w, u or what the evening has
-// of its own.
+// The rows of the table of statics that a bond has: no rule of a bond reads the others, which stay at the least of
+// their ranges.
 fn given_of(g: BondStatics) -> GivenStatics
-    ensures { λ r. ⌜ r ≡ givenOf g ⌝ }
+    ensures { λ r. ⌜ r ≡ bondGiven g ⌝ }
 {
-    GivenStatics {
-        lot: 1,
-        h: g.h,
-        q: g.q,
-        aup: 0,
-        adown: 0,
-        wait: g.wait,
-        rh1: g.rh1,
-        rh2: g.rh2,
-        rh3: g.rh3,
-        liq: g.liq,
-        min1: g.min1,
-        min2: g.min2,
-        min3: g.min3,
-        smax: g.smax,
-        xpr: g.xpr,
-        shift: 1,
-        pchmax: g.pchmax,
-        pclmax: g.pclmax,
-        w: 0,
-        u: 1,
-        monitoring: g.monitoring,
-        ewma: g.ewma,
-        uevening: 1,
-        autochange: 0,
-        eveningmax: 0,
-        useexternal: 0,
-    }
+    let mut given = GivenStatics::LEAST;
+    given.h = g.h;
+    given.q = g.q;
+    given.wait = g.wait;
+    given.rh1 = g.rh1;
+    given.rh2 = g.rh2;
+    given.rh3 = g.rh3;
+    given.liq = g.liq;
+    given.min1 = g.min1;
+    given.min2 = g.min2;
+    given.min3 = g.min3;
+    given.smax = g.smax;
+    given.xpr = g.xpr;
+    given.pchmax = g.pchmax;
+    given.pclmax = g.pclmax;
+    given.monitoring = g.monitoring;
+    given.ewma = g.ewma;
+    given
 }
 
 // The three terms: a repo band that was worked out counts as one that is given.

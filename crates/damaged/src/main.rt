@@ -16,35 +16,38 @@ use paper::Tentative;
 use paper::Term;
 use text_evening::Telling;
 
+// Document 01's Z, as an `admit` line gives it, with an evening of its own; a static behind these is 0.
+const Z: [i64; 26] = [
+    10,
+    100,
+    300,
+    1000,
+    500,
+    5,
+    2,
+    5,
+    8,
+    50,
+    500,
+    700,
+    900,
+    4000,
+    200,
+    25,
+    2000,
+    2000,
+    1000,
+    60,
+    1,
+    1,
+    60,
+    1,
+    10,
+    0,
+];
+
 fn statics() -> Statics {
-    Statics {
-        lot: 10,
-        h: 100,
-        q: 300,
-        aup: 1000,
-        adown: 500,
-        wait: 5,
-        rh1: 2,
-        rh2: 5,
-        rh3: 8,
-        liq: 50,
-        min1: 500,
-        min2: 700,
-        min3: 900,
-        smax: 4000,
-        xpr: 200,
-        shift: 25,
-        pchmax: 2000,
-        pclmax: 2000,
-        w: 1000,
-        u: 60,
-        monitoring: true,
-        ewma: true,
-        uevening: 60,
-        autochange: true,
-        eveningmax: 10,
-        useexternal: false,
-    }
+    inputs::statics_of(inputs::given_of(&Z))
 }
 
 // Case 1's security after its evaluation, with an id, in a session: a sound record, where the session is.

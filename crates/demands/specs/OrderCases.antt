@@ -16,20 +16,20 @@ use Rattle.paper.specs.declared.Record.{Record}
 use Rattle.paper.specs.declared.Statics.{Statics}
 use Rattle.paper.specs.declared.Limits.{Limits}
 use Rattle.paper.specs.Numbers.{priceMost, limitMost, rateMost}
-use Rattle.paper.specs.Ranges.{staticsOf, validStatics, noTerm, isLive, bandAt}
+use Rattle.paper.specs.Ranges.{givenOf, staticsOf, validStatics, noTerm, isLive, bandAt}
 use Rattle.paper_desk.specs.Rates.{figuresOf}
 use Rattle.paper_desk.specs.Limits.{rangeOf, bandOf}
 use Rattle.paper_desk.specs.Desk.{admit, evaluate, move, read, openEvening, noMoves, admitted, evaluated, run}
 use Rattle.paper_desk.specs.Sequences.{rangeAfter}
-use Rattle.paper.specs.PinnedValues.{_but_, lotAt, minimaAt, pchmaxAt, pclmaxAt, monitoringAt, ewmaAt, givenFrom}
+use Rattle.paper.specs.PinnedValues.{_but_, lotAt, minimaAt, pchmaxAt, pclmaxAt, monitoringAt, ewmaAt}
 use Rattle.paper.specs.PinnedValues.{admissionFrom, dayFrom, zNumbers}
 use Rattle.paper_desk.specs.PinnedSequence.{answers, numbers, slots}
 use Rattle.demands.specs.Order.{neverFalls, rangesAround, slotAt}
 
 -- the statics that a row of numbers spells; the places of rh_1 to rh_3, x_pr and shift in it
 staticsFrom : (xs : List ℤ) → Statics
-unfolding answers givenFrom
-staticsFrom xs = staticsOf (givenFrom xs)
+unfolding answers givenOf
+staticsFrom xs = staticsOf (givenOf xs)
 
 abbrev rhAt : ℕ
 rhAt = 6

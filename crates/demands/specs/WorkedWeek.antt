@@ -10,10 +10,10 @@ use Rattle.paper.specs.declared.Answer.{Answer}
 use Rattle.paper.specs.declared.Rate.{Rate}
 use Rattle.paper.specs.declared.Statics.{Statics}
 use Rattle.paper.specs.declared.Tentative.{Tentative}
-use Rattle.paper.specs.Ranges.{staticsOf}
+use Rattle.paper.specs.Ranges.{givenOf, staticsOf}
 use Rattle.paper_desk.specs.Rates.{tentativeRate, tentativeAfter, levelRate}
 use Rattle.paper_desk.specs.Desk.{Call, admit}
-use Rattle.paper.specs.PinnedValues.{_but_, qAt, adownAt, waitAt, liqAt, minimaAt, sAt, tentativeAt, givenFrom}
+use Rattle.paper.specs.PinnedValues.{_but_, qAt, adownAt, waitAt, liqAt, minimaAt, sAt, tentativeAt}
 use Rattle.paper.specs.PinnedValues.{admissionFrom, zNumbers}
 use Rattle.paper_desk.specs.PinnedSequence.{answers, slots, dayAt}
 
@@ -67,9 +67,9 @@ cappedFrom st old (s ∷ rest) =
 
 -- with the week's volatilities, which the cap would not have changed
 pub cappedWeek : List (List ℕ)
-unfolding weekNumbers cappedFrom givenFrom staticsOf
+unfolding weekNumbers cappedFrom givenOf staticsOf
 cappedWeek =
-    cappedFrom (staticsOf (givenFrom weekNumbers)) (record { bp = 100; age = 0 })
+    cappedFrom (staticsOf (givenOf weekNumbers)) (record { bp = 100; age = 0 })
     (3302 ∷ 4452 ∷ 1408 ∷ 446 ∷ 142 ∷ 45 ∷ [])
 
 -- the rate of level 1 would have left S_max on the third evening, and not on the fifth

@@ -4,37 +4,39 @@ use mathlib.Core.Path.{_≡_, refl, sym, ap, _∙_}
 use mathlib.Core.Bool.{Bool, true, false, _&&_, and-false}
 use mathlib.Core.List.{List, [], _∷_, map}
 use Prim.Native.Nat.{ℕ, zero, suc, _+_, _≤_, _<_}
+use native.Mathlib.Nat.{add-comm}
+use native.Mathlib.Numerals.{add-one}
 use native.Mathlib.Omega.{arith}
-use lib.Dec.{leb, eqb}
+use lib.Dec.{ltb, eqb}
 use lib.IntN.{ℤ, pos, negsuc, natAbs}
 use lib.ListN.{length, drop, getD, drop-of-length-le}
-use lib.Seq.{drop-cons}
-use borrow.Author.Tests.{le-leb, lt-ltb, leb-true}
+use lib.Seq.{drop-cons, getD-drop}
+use borrow.Author.Tests.{le-leb, lt-ltb, ltb-true, eqb-true}
 use Rattle.paper.specs.declared.Statics.{Statics}
 use Rattle.paper.specs.declared.Admission.{Admission}
 use Rattle.paper.specs.declared.Limits.{Limits}
 use Rattle.paper.specs.declared.Record.{Record}
 use Rattle.paper.specs.declared.Side.{Side}
 use Rattle.paper.specs.declared.Side.the-variants.{Upper, Lower}
+use Rattle.paper.specs.Lists.{pick, every}
 use Rattle.paper.specs.Numbers.{repoLeast, repoMost, limitMost, movesMost, idMost, dayMost, ageMost, priceMost}
-use Rattle.paper.specs.Numbers.{rateMost, volatilityMost, termDaysMost, lotMost, stepMost, multiplierLeast}
-use Rattle.paper.specs.Numbers.{multiplierMost, weightMost, waitMost, firstDaysMost, daysMost, liquidityMost}
-use Rattle.paper.specs.Numbers.{divisorLeast, divisorMost, shiftMost, nearnessMost, secondsMost, eveningMovesMost}
-use Rattle.paper.specs.Numbers.{pastEvery}
-use Rattle.paper.specs.Ranges.{within, withinZ, unsigned, sideNumber, lastDay, termAt, noRate, sound, validStatics}
-use Rattle.paper.specs.Ranges.{staticsOf, validGiven, validAdmission}
+use Rattle.paper.specs.Numbers.{rateMost, volatilityMost, termDaysMost, pastEvery}
+use Rattle.paper.specs.Ranges.{within, withinZ, unsigned, unsignedAt, sideNumber, lastDay, termAt, noRate, sound}
+use Rattle.paper.specs.Ranges.{Static, staticsTable, staticsCount, givenOf, staticsOf, numbersOf, inTable, validStatics}
+use Rattle.paper.specs.Ranges.{validGiven, validAdmission}
 use Rattle.paper.proofs.Logic.{and-both, and-left, and-right, _&_}
 use Rattle.paper_desk.proofs.Units.{unsigned-within}
 use Rattle.paper_desk.proofs.TentativeRange.{tentative-top-high}
 use Rattle.paper_desk.specs.Limits.{countOf}
 use Rattle.paper_desk.specs.Sides.{limitOn}
-use Rattle.inputs.proofs.Facts.{within-facts, StaticsFacts, statics-facts, given-statics-valid}
+use Rattle.paper.proofs.StaticsFacts.{within-facts, given-statics-valid, ranges-hold, numbers-valid, unsignedFrom}
+use Rattle.paper.proofs.StaticsFacts.{given-in-table}
 use Rattle.record_soundness.proofs.Facts.{LimitsFacts, SoundRecord, sound-facts}
 use Rattle.paper_messages.specs.Fields.{staticsFields, ratesFields, bandsFields, moveFields, fieldsOf}
-use Rattle.paper_messages.specs.Fields.{staticsMessageKind}
+use Rattle.paper_messages.specs.Fields.{staticsMessageKind, fourBytes, yesNo, staticField}
 use Rattle.paper_messages.specs.Fields.{places, tentativeLast, filled, placesOf}
-use Rattle.paper_messages.specs.Messages.{isKnownKind, inRanges, numberAt, givenIn, asAdmission, valid}
-use Rattle.paper_messages.specs.Records.{pastSigned, valueOf, flagOf, message, staticsNumbers, staticsMessage}
+use Rattle.paper_messages.specs.Messages.{isKnownKind, inRanges, asAdmission, valid}
+use Rattle.paper_messages.specs.Records.{pastSigned, valueOf, message, staticsNumbers, staticsMessage}
 use Rattle.paper_messages.specs.Records.{ratesMessage, bandsMessage, moveMessage, rangeShown, bandShown}
 
 -- ---- values in range
@@ -147,11 +149,6 @@ module _ (r : Record) (sound-record : sound r ≡ true) where
 
 -- ---- an admission
 
-number-in-range : (low high : ℕ) (z : ℤ) → high < pastEvery → low ≤ unsigned z → unsigned z ≤ high
-    → withinZ (pos low) (pos high) z ≡ true
-number-in-range low high z h l m =
-    sym (unsigned-within low high z h) ∙ and-both _ _ (le-leb low (unsigned z) l) (le-leb (unsigned z) high m)
-
 -- so many values from a place on
 build : (n i : ℕ) → List ℤ → List ℤ
 build zero i values = []
@@ -165,54 +162,58 @@ as-built (suc n) i values e =
     rw (drop-cons values i (pos 0) h)
     (ap (λ (l : List ℤ). getD values i (pos 0) ∷ l) (as-built n (suc i) values (omega arith)))
 
+-- the numbers behind the first
+behind-first : (values : List ℤ) (i n : ℕ) → unsignedFrom (drop 1 values) i n ≡ unsignedFrom values (suc i) n
+behind-first values i zero = refl
+behind-first values i (suc n) =
+    rw (getD-drop 1 values i (pos 0), add-comm 1 i, add-one i, behind-first values (suc i) n)
+
+-- what lets a row of the table be a field: a value past its range is no number, and yes or no is 1 or 0
+isField : Static → Bool
+isField row =
+    ltb (row .most) pastEvery && pick (row .isFlag) (eqb (row .least) 0 && eqb (row .most) 1) true
+
+-- a number in the range of its row is in that of its field
+field-in : (row : Static) (z : ℤ) → isField row ≡ true → within (row .least) (row .most) (unsigned z) ≡ true
+    → withinZ (staticField row .low) (staticField row .high) z ≡ true
+unfolding isField
+field-in row z f w = go (row .isFlag) refl
+  where
+    go : (b : Bool) → row .isFlag ≡ b
+        → (let field = pick b yesNo (fourBytes (pos (row .least)) (pos (row .most))) in
+        withinZ (field .low) (field .high) z ≡ true)
+    go true e =
+        let ends : (eqb (row .least) 0 && eqb (row .most) 1) ≡ true =
+        rw e at (and-right (ltb (row .most) pastEvery) _ f) in
+        let least : row .least ≡ 0 = eqb-true _ 0 (and-left _ (eqb (row .most) 1) ends) in
+        let most : row .most ≡ 1 = eqb-true _ 1 (and-right (eqb (row .least) 0) _ ends) in
+        sym (unsigned-within 0 1 z (omega arith)) ∙ (rw (least, most) at w)
+    go false e =
+        sym (unsigned-within (row .least) (row .most) z (ltb-true _ _ (and-left (ltb (row .most) pastEvery) _ f))) ∙ w
+
+rows-in : (rows : List Static) (values : List ℤ) (i : ℕ) → every isField rows ≡ true
+    → inTable rows (unsignedFrom values i (length rows)) ≡ true
+    → inRanges (map staticField rows) (build (length rows) i values) ≡ true
+unfolding every inRanges build
+rows-in [] values i f t = refl
+rows-in (row ∷ rows) values i f t =
+    field-in row (getD values i (pos 0)) (and-left (isField row) _ f)
+    (and-left _ (inTable rows (unsignedFrom values (suc i) (length rows))) t)
+    & rows-in rows values (suc i) (and-right (isField row) _ f)
+    (and-right (within (row .least) (row .most) (unsignedAt values i)) _ t)
+
 -- what an admission accepts is in every field's own range
 admitted-in : (values : List ℤ) → asAdmission values ≡ true
     → inRanges (placesOf staticsMessageKind) (build places 0 values) ≡ true
-unfolding asAdmission validGiven staticsOf givenIn placesOf fieldsOf filled staticsFields inRanges build
+unfolding asAdmission placesOf fieldsOf filled staticsFields inRanges build every isField
 admitted-in values v =
-    let given : validGiven (givenIn values) ≡ true =
-    and-right (within 1 idMost (numberAt values 0)) (validGiven (givenIn values)) v in
-    let id = within-facts 1 idMost (numberAt values 0)
-    (and-left (within 1 idMost (numberAt values 0)) (validGiven (givenIn values)) v) in
-    let st : StaticsFacts (staticsOf (givenIn values)) = statics-facts _ (given-statics-valid (givenIn values) given) in
-    let monitoring : leb (numberAt values 21) 1 ≡ true = search (given, and-left, and-right) depth 40 in
-    let ewma : leb (numberAt values 22) 1 ≡ true = search (given, and-left, and-right) depth 40 in
-    let autochange : leb (numberAt values 24) 1 ≡ true = search (given, and-left, and-right) depth 40 in
-    let useexternal : leb (numberAt values 26) 1 ≡ true = search (given, and-left, and-right) depth 40 in
-    number-in 1 idMost 0 (omega arith) (id .least) (id .most)
-    & (number-in 1 lotMost 1 (omega arith) (st .lot .least) (st .lot .most)
-    & (number-in 1 stepMost 2 (omega arith) (st .h .least) (st .h .most)
-    & (number-in multiplierLeast multiplierMost 3 (omega arith) (st .q .least) (st .q .most)
-    & (number-in 0 weightMost 4 (omega arith) (omega arith) (st .aup)
-    & (number-in 0 weightMost 5 (omega arith) (omega arith) (st .adown)
-    & (number-in 1 waitMost 6 (omega arith) (st .wait .least) (st .wait .most)
-    & (number-in 1 firstDaysMost 7 (omega arith) (st .rh1 .least) (st .rh1 .most)
-    & (number-in 1 daysMost 8 (omega arith) (omega (arith, st .rh1 .least, st .rh1-rh2))
-    (omega (arith, st .rh2-rh3, st .rh3))
-    & (number-in 1 daysMost 9 (omega arith) (omega (arith, st .rh1 .least, st .rh1-rh2, st .rh2-rh3)) (st .rh3)
-    & (number-in 0 liquidityMost 10 (omega arith) (omega arith) (st .liq)
-    & (number-in 0 rateMost 11 (omega arith) (omega arith)
-    (omega (arith, st .min1-min2, st .min2-min3, st .min3-smax, st .smax))
-    & (number-in 0 rateMost 12 (omega arith) (omega arith) (omega (arith, st .min2-min3, st .min3-smax, st .smax))
-    & (number-in 0 rateMost 13 (omega arith) (omega arith) (omega (arith, st .min3-smax, st .smax))
-    & (number-in 0 rateMost 14 (omega arith) (omega arith) (st .smax)
-    & (number-in divisorLeast divisorMost 15 (omega arith) (st .xpr .least) (st .xpr .most)
-    & (number-in 1 shiftMost 16 (omega arith) (st .shift .least) (st .shift .most)
-    & (number-in 0 rateMost 17 (omega arith) (omega arith) (st .pchmax)
-    & (number-in 0 rateMost 18 (omega arith) (omega arith) (st .pclmax)
-    & (number-in 0 nearnessMost 19 (omega arith) (omega arith) (st .w)
-    & (number-in 1 secondsMost 20 (omega arith) (st .u .least) (st .u .most)
-    & (number-in 0 1 21 (omega arith) (omega arith) (leb-true _ 1 monitoring)
-    & (number-in 0 1 22 (omega arith) (omega arith) (leb-true _ 1 ewma)
-    & (number-in 1 secondsMost 23 (omega arith) (st .uevening .least) (st .uevening .most)
-    & (number-in 0 1 24 (omega arith) (omega arith) (leb-true _ 1 autochange)
-    & (number-in 0 eveningMovesMost 25 (omega arith) (omega arith) (st .eveningmax)
-    & (number-in 0 1 26 (omega arith) (omega arith) (leb-true _ 1 useexternal)
-    & refl))))))))))))))))))))))))))
-  where
-    number-in : (low high i : ℕ) → high < pastEvery → low ≤ numberAt values i → numberAt values i ≤ high
-        → withinZ (pos low) (pos high) (getD values i (pos 0)) ≡ true
-    number-in low high i h l m = number-in-range low high (getD values i (pos 0)) h l m
+    let id : within 1 idMost (unsignedAt values 0) ≡ true =
+    and-left (within 1 idMost (unsignedAt values 0)) (validGiven (givenOf (drop 1 values))) v in
+    let given : validGiven (givenOf (drop 1 values)) ≡ true =
+    and-right (within 1 idMost (unsignedAt values 0)) (validGiven (givenOf (drop 1 values))) v in
+    (sym (unsigned-within 1 idMost (getD values 0 (pos 0)) (omega arith)) ∙ id)
+    & rows-in staticsTable values 1 refl
+    (sym (ap (inTable staticsTable) (behind-first values 0 staticsCount)) ∙ given-in-table (drop 1 values) given)
 
 -- kind 1 is judged exactly as an admission judges id and statics
 pub judged-as-admission : (values : List ℤ) → length values ≡ places
@@ -227,66 +228,36 @@ judged-as-admission values e = go (asAdmission values) refl
     go true v = rw (ap (inRanges (placesOf staticsMessageKind)) all ∙ admitted-in values v)
     go false v = and-false (inRanges (placesOf staticsMessageKind) values)
 
--- a number and a flag read back from their values
+-- a number reads back from its value
 number-back : (n : ℕ) → n < pastSigned → unsigned (valueOf n) ≡ n
 unfolding valueOf unsigned
 number-back n h = rw (lt-ltb n pastSigned h)
 
-flag-back : (b : Bool) → eqb (unsigned (valueOf (flagOf b))) 1 ≡ b
-unfolding valueOf unsigned
-flag-back true = refl
-flag-back false = refl
-
-flag-most : (b : Bool) → leb (unsigned (valueOf (flagOf b))) 1 ≡ true
-unfolding valueOf unsigned
-flag-most true = refl
-flag-most false = refl
+-- numbers in the ranges of a table whose ranges are signed numbers are their own values
+values-are-numbers : (rows : List Static) (numbers : List ℕ)
+    → every (λ (row : Static). ltb (row .most) pastSigned) rows ≡ true
+    → length numbers ≤ length rows → inTable rows numbers ≡ true → map valueOf numbers ≡ map pos numbers
+unfolding every valueOf
+values-are-numbers rows [] f l t = refl
+values-are-numbers [] (x ∷ numbers) f l t = let z : ⊥ = omega arith in absurd z
+values-are-numbers (row ∷ rows) (x ∷ numbers) f l t =
+    let most = within-facts _ _ x (and-left (within (row .least) (row .most) x) (inTable rows numbers) t) .most in
+    let high : row .most < pastSigned = ltb-true _ _ (and-left (ltb (row .most) pastSigned) _ f) in
+    rw (
+      lt-ltb x pastSigned (omega arith),
+      values-are-numbers rows numbers (and-right (ltb (row .most) pastSigned) _ f) (omega arith)
+          (and-right (within (row .least) (row .most) x) _ t),
+    )
 
 module _ (id : ℕ) (st : Statics) (id-valid : within 1 idMost id ≡ true) (st-valid : validStatics st ≡ true) where
   values : List ℤ
   values = map valueOf (staticsNumbers id st)
 
-  statics-back : staticsOf (givenIn values) ≡ st
-  unfolding values staticsOf givenIn
-  statics-back =
-      let facts : StaticsFacts st = statics-facts st st-valid in
-      λ i. record {
-        lot = number-back (st .lot) (omega (arith, facts .lot .most)) i;
-        h = number-back (st .h) (omega (arith, facts .h .most)) i;
-        q = number-back (st .q) (omega (arith, facts .q .most)) i;
-        aup = number-back (st .aup) (omega (arith, facts .aup)) i;
-        adown = number-back (st .adown) (omega (arith, facts .adown)) i;
-        wait = number-back (st .wait) (omega (arith, facts .wait .most)) i;
-        rh1 = number-back (st .rh1) (omega (arith, facts .rh1 .most)) i;
-        rh2 = number-back (st .rh2) (omega (arith, facts .rh2-rh3, facts .rh3)) i;
-        rh3 = number-back (st .rh3) (omega (arith, facts .rh3)) i;
-        liq = number-back (st .liq) (omega (arith, facts .liq)) i;
-        min1 =
-            number-back (st .min1)
-            (omega (arith, facts .min1-min2, facts .min2-min3, facts .min3-smax, facts .smax)) i;
-        min2 = number-back (st .min2) (omega (arith, facts .min2-min3, facts .min3-smax, facts .smax)) i;
-        min3 = number-back (st .min3) (omega (arith, facts .min3-smax, facts .smax)) i;
-        smax = number-back (st .smax) (omega (arith, facts .smax)) i;
-        xpr = number-back (st .xpr) (omega (arith, facts .xpr .most)) i;
-        shift = number-back (st .shift) (omega (arith, facts .shift .most)) i;
-        pchmax = number-back (st .pchmax) (omega (arith, facts .pchmax)) i;
-        pclmax = number-back (st .pclmax) (omega (arith, facts .pclmax)) i;
-        w = number-back (st .w) (omega (arith, facts .w)) i;
-        u = number-back (st .u) (omega (arith, facts .u .most)) i;
-        monitoring = flag-back (st .monitoring) i;
-        ewma = flag-back (st .ewma) i;
-        uevening = number-back (st .uevening) (omega (arith, facts .uevening .most)) i;
-        autochange = flag-back (st .autochange) i;
-        eveningmax = number-back (st .eveningmax) (omega (arith, facts .eveningmax)) i;
-        useexternal = flag-back (st .useexternal) i;
-      }
-
-  given-valid : validGiven (givenIn values) ≡ true
-  unfolding validGiven values givenIn
+  given-valid : validGiven (givenOf (map valueOf (numbersOf st))) ≡ true
+  unfolding every
   given-valid =
-      (ap validStatics statics-back ∙ st-valid) & flag-most (st .monitoring) & flag-most (st .ewma)
-      & flag-most (st .autochange)
-      & flag-most (st .useexternal)
+      rw (values-are-numbers staticsTable (numbersOf st) refl (omega arith) (ranges-hold st st-valid))
+      (numbers-valid st st-valid)
 
   pub statics-valid : valid (staticsMessage id st) ≡ true
   unfolding staticsMessage message filled asAdmission values

@@ -2,13 +2,14 @@
 -- that the theorem speaks of something.
 use mathlib.Core.Path.{_≡_, refl}
 use mathlib.Core.Bool.{true}
-use mathlib.Core.List.{List, [], _∷_, map}
+use mathlib.Core.List.{List, [], _∷_, _++_, map}
 use Prim.Native.Nat.{ℕ}
 use Prim.Native.String.{String}
 use lib.IntN.{pos, negsuc}
 use Rattle.paper.specs.declared.Side.the-variants.{Upper}
 use Rattle.paper.specs.declared.Verdict.the-variants.{Done}
-use Rattle.paper.specs.Ranges.{unsigned, isLive, noTerm}
+use Rattle.paper.specs.Ranges.{unsigned, givenOf, isLive, noTerm}
+use Rattle.paper.specs.PinnedValues.{_but_, ewmaAt, zStatics}
 use Rattle.paper.specs.Terms.{repoOf, dayOf, termOf as dayTerm}
 use Rattle.paper_desk.specs.Desk.{move, read, found}
 use Rattle.paper_desk.specs.History.{evaluatedOn, movedBy, since, longer, counts, noted, history}
@@ -20,9 +21,9 @@ use Rattle.text_protocol.specs.Names.{openNames, outsideNames, noticeNames, wit
 use Rattle.text_protocol.specs.Names.{bondNames, forms, kindFrom, kindOf, countFits, takesIn, takes, placeOf, the}
 use Rattle.text_protocol.specs.Line.{oneOf, twoOf, itemOf, hasTerms, placeIn, pairFits, withPair, more, taking}
 use Rattle.text_protocol.specs.Line.{onWith, finished, fill, called, meaning}
-use Rattle.text_protocol.specs.LineCases.{naturals}
+use Rattle.text_protocol.specs.LineCases.{zText}
 use Rattle.text_protocol.specs.Kept.{foundIn}
-use Rattle.text_protocol.specs.Calls.{givenOf, admissionOf, bandOf, termOf, askedOf, figuresBehind, callOf, deedOf}
+use Rattle.text_protocol.specs.Calls.{admissionOf, bandOf, termOf, askedOf, figuresBehind, callOf, deedOf}
 use Rattle.text_evening.specs.Evening.{tableAfter, after, afterAll}
 use Rattle.demands.specs.Demands.{answered}
 use Rattle.demands_evening.specs.Calls.{callsIn, callsOf}
@@ -58,19 +59,26 @@ calls-are = refl
 
 -- an admission with isEWMA no, a day without rows, an upper move and a read
 unfoldable pub short : List (List ℕ)
-unfolding linesOf
+unfolding linesOf zText
 short =
-    linesOf
-    ("admit 7 3 10 10 20000 600 10 100 300 1000 500 5 2 5 8 50 500 700 900 4000 200 25 2000 2000 1000 60 1 0 120 1 2 0"
-    ∷ "evaluate 7 4 0 0 30 -730 1460 0 0 0 0 0 0"
+    (bytes "admit 7 3 10 10 20000 600" ++ zText "0")
+    ∷ linesOf
+    ("evaluate 7 4 0 0 30 -730 1460 0 0 0 0 0 0"
     ∷ "move 7 0"
     ∷ "read 7"
     ∷ [])
 
 -- THE SECURITY HAS A HISTORY, its record is live, and a read of it is accepted
 pub short-holds : (historyBehind short 7
-    ≡ since (admissionOf (naturals (7 ∷ 3 ∷ 10 ∷ 10 ∷ 20000 ∷ 600 ∷ 10 ∷ 100 ∷ 300 ∷ 1000 ∷ 500 ∷ 5 ∷ 2 ∷ 5 ∷ 8 ∷ 50
-    ∷ 500 ∷ 700 ∷ 900 ∷ 4000 ∷ 200 ∷ 25 ∷ 2000 ∷ 2000 ∷ 1000 ∷ 60 ∷ 1 ∷ 0 ∷ 120 ∷ 1 ∷ 2 ∷ 0 ∷ [])))
+    ≡ since (record {
+      id = 7;
+      day = 3;
+      p1 = 10;
+      p2 = 10;
+      s = 20000;
+      tentative = 600;
+      given = givenOf (zStatics but (ewmaAt, pos 0));
+    })
     (movedBy Upper
     ∷ evaluatedOn (record {
       day = 4;
@@ -81,5 +89,5 @@ pub short-holds : (historyBehind short 7
     ∷ []))
     × (isLive (found (tableBehind short) 7 .standing) ≡ true)
     × (answered (read 7) (tableBehind short) ≡ Done)
-unfolding short callsOf callsIn after afterAll tableAfter ownTable answers history noted counts longer
+unfolding short zStatics callsOf callsIn after afterAll tableAfter ownTable answers history noted counts longer
 short-holds = (refl, refl, refl)

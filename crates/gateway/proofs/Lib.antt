@@ -1,4 +1,3 @@
 -- The laws that the proofs of the gateway's calls share.
 pub mod InHand
-pub mod GatewayStatics
 pub mod Answers

@@ -2,12 +2,10 @@
 // Each such call gives one figure, or minus the refusal number." Each call is the definition of the paper for every
 // input, and asks nothing of its caller.
 mod answer; // the figure, or minus the refusal number
-mod given; // the statics
 mod level; // a level's rate
 mod limit; // a range limit, a band limit
 mod priced; // the price and the rate of a limit
 
-pub use given::given_of;
 pub use level::level_answer;
 pub use limit::band_answer;
 pub use limit::range_answer;

@@ -1,5 +1,5 @@
 -- What the range tests say in plain numbers: of each test of the paper that passed, a record of the facts that a rule
--- may use.
+-- may use; those of the statics are `paper`'s (StaticsFacts).
 use mathlib.Core.Path.{_≡_}
 use mathlib.Core.Bool.{true, _&&_}
 use mathlib.Core.List.{List}
@@ -10,36 +10,21 @@ use lib.IntN.{ℤ, pos, negsuc, natAbs}
 use lib.Signed.{leZ, mag}
 use borrow.Author.Tests.{leb-true, eqb-true}
 use Rattle.paper.specs.declared.Statics.{Statics}
-use Rattle.paper.specs.declared.GivenStatics.{GivenStatics}
 use Rattle.paper.specs.declared.Term.{Term}
 use Rattle.paper.specs.declared.Admission.{Admission}
 use Rattle.paper.specs.declared.Day.{Day}
 use Rattle.paper.specs.declared.Quote.{Quote}
 use Rattle.paper.specs.Lists.{allThree}
-use Rattle.paper.specs.Numbers.{priceLeast, priceMost, rateMost, volatilityMost, lotMost, stepMost, multiplierLeast}
-use Rattle.paper.specs.Numbers.{multiplierMost, weightMost, waitMost, firstDaysMost, daysMost, liquidityMost}
-use Rattle.paper.specs.Numbers.{divisorLeast, divisorMost, shiftMost, nearnessMost, secondsMost, eveningMovesMost}
-use Rattle.paper.specs.Numbers.{idMost, dayMost, secondLast, behindMost, aheadMost, termDaysMost, repoLeast, repoMost}
-use Rattle.paper.specs.Numbers.{termLast, quoteMost}
-use Rattle.paper.specs.Ranges.{within, isPrice, isRate, gridOf, isGridPrice, validStatics, staticsOf, validGiven}
-use Rattle.paper.specs.Ranges.{tentativeTop, validTentative, validAdmission, validTerm, termAt, validQuote, validSide}
+use Rattle.paper.specs.Numbers.{priceLeast, priceMost, rateMost, volatilityMost, idMost, dayMost, secondLast}
+use Rattle.paper.specs.Numbers.{behindMost, aheadMost, termDaysMost, repoLeast, repoMost, termLast, quoteMost}
+use Rattle.paper.specs.Ranges.{isPrice, isRate, gridOf, isGridPrice, validStatics, staticsOf, tentativeTop}
+use Rattle.paper.specs.Ranges.{validTentative, validAdmission, validTerm, termAt, validQuote, validSide}
 use Rattle.paper.specs.Ranges.{validDayNumbers}
 use Rattle.paper.proofs.Logic.{and-left, and-right, each-of-three, order-trans}
+pub use Rattle.paper.proofs.StaticsFacts.{Within, within-facts, StaticsFacts, statics-facts, given-statics-valid}
 pub use Rattle.paper_desk.proofs.TentativeRange.{statics-step-positive}
 
 -- ---- ranges and multiples
-
--- "low..high"
-pub record Within (low high x : ℕ) : Type 0 where
-  pub least : low ≤ x
-  pub most : x ≤ high
-
-pub within-facts : (low high x : ℕ) → within low high x ≡ true → Within low high x
-within-facts low high x v =
-    record {
-      least = leb-true _ _ (and-left (leb low x) (leb x high) v);
-      most = leb-true _ _ (and-right (leb low x) (leb x high) v);
-    }
 
 -- a multiple of a step, up to a most
 pub record MultipleTo (high step x : ℕ) : Type 0 where
@@ -75,74 +60,7 @@ pub rate-within-most : (bp : ℕ) → isRate bp ≡ true → bp ≤ rateMost
 unfolding isRate
 rate-within-most bp v = leb-true _ _ v
 
--- ---- statics
-
--- the table of statics
-pub record StaticsFacts (st : Statics) : Type 0 where
-  pub lot : Within 1 lotMost (st .lot)
-  pub h : Within 1 stepMost (st .h)
-  pub q : Within multiplierLeast multiplierMost (st .q)
-  pub aup : st .aup ≤ weightMost
-  pub adown : st .adown ≤ weightMost
-  pub wait : Within 1 waitMost (st .wait)
-  pub rh1 : Within 1 firstDaysMost (st .rh1)
-  pub rh1-rh2 : st .rh1 ≤ st .rh2
-  pub rh2-rh3 : st .rh2 ≤ st .rh3
-  pub rh3 : st .rh3 ≤ daysMost
-  pub liq : st .liq ≤ liquidityMost
-  pub min1-min2 : st .min1 ≤ st .min2
-  pub min2-min3 : st .min2 ≤ st .min3
-  pub min3-smax : st .min3 ≤ st .smax
-  pub smax : st .smax ≤ rateMost
-  pub min1-multiple : st .min1 % st .h ≡ 0
-  pub min2-multiple : st .min2 % st .h ≡ 0
-  pub min3-multiple : st .min3 % st .h ≡ 0
-  pub smax-multiple : st .smax % st .h ≡ 0
-  pub xpr : Within divisorLeast divisorMost (st .xpr)
-  pub shift : Within 1 shiftMost (st .shift)
-  pub pchmax : st .pchmax ≤ rateMost
-  pub pclmax : st .pclmax ≤ rateMost
-  pub w : st .w ≤ nearnessMost
-  pub u : Within 1 secondsMost (st .u)
-  pub uevening : Within 1 secondsMost (st .uevening)
-  pub eveningmax : st .eveningmax ≤ eveningMovesMost
-
-pub statics-facts : (st : Statics) → validStatics st ≡ true → StaticsFacts st
-unfolding validStatics
-statics-facts st v =
-    record {
-      lot = within-facts _ _ _ (search (v, and-left, and-right) depth 40);
-      h = within-facts _ _ _ (search (v, and-left, and-right) depth 40);
-      q = within-facts _ _ _ (search (v, and-left, and-right) depth 40);
-      aup = leb-true _ _ (search (v, and-left, and-right) depth 40);
-      adown = leb-true _ _ (search (v, and-left, and-right) depth 40);
-      wait = within-facts _ _ _ (search (v, and-left, and-right) depth 40);
-      rh1 = within-facts _ _ _ (search (v, and-left, and-right) depth 40);
-      rh1-rh2 = leb-true _ _ (search (v, and-left, and-right) depth 40);
-      rh2-rh3 = leb-true _ _ (search (v, and-left, and-right) depth 40);
-      rh3 = leb-true _ _ (search (v, and-left, and-right) depth 40);
-      liq = leb-true _ _ (search (v, and-left, and-right) depth 40);
-      min1-min2 = leb-true _ _ (search (v, and-left, and-right) depth 40);
-      min2-min3 = leb-true _ _ (search (v, and-left, and-right) depth 40);
-      min3-smax = leb-true _ _ (search (v, and-left, and-right) depth 40);
-      smax = leb-true _ _ (search (v, and-left, and-right) depth 40);
-      min1-multiple = eqb-true _ _ (search (v, and-left, and-right) depth 40);
-      min2-multiple = eqb-true _ _ (search (v, and-left, and-right) depth 40);
-      min3-multiple = eqb-true _ _ (search (v, and-left, and-right) depth 40);
-      smax-multiple = eqb-true _ _ (search (v, and-left, and-right) depth 40);
-      xpr = within-facts _ _ _ (search (v, and-left, and-right) depth 40);
-      shift = within-facts _ _ _ (search (v, and-left, and-right) depth 40);
-      pchmax = leb-true _ _ (search (v, and-left, and-right) depth 40);
-      pclmax = leb-true _ _ (search (v, and-left, and-right) depth 40);
-      w = leb-true _ _ (search (v, and-left, and-right) depth 40);
-      u = within-facts _ _ _ (search (v, and-left, and-right) depth 40);
-      uevening = within-facts _ _ _ (search (v, and-left, and-right) depth 40);
-      eveningmax = leb-true _ _ (search (v, and-left, and-right) depth 40);
-    }
-
-pub given-statics-valid : (g : GivenStatics) → validGiven g ≡ true → validStatics (staticsOf g) ≡ true
-unfolding validGiven
-given-statics-valid g v = and-left _ _ (and-left _ _ (and-left _ _ (and-left _ _ v)))
+-- ---- the tentative rate
 
 pub tentative-facts : (h tentative : ℕ) → validTentative h tentative ≡ true → MultipleTo (tentativeTop h) h tentative
 unfolding validTentative

@@ -2,3 +2,4 @@
 pub mod Tests
 pub mod Facts
 pub mod Made
+mod Table

@@ -1,14 +1,10 @@
--- Laws of the tests: two and three of a kind, the step, and a day in two parts.
+-- Laws of the tests: two and three of a kind, and a day in two parts.
 use mathlib.Core.Path.{_≡_, refl}
 use mathlib.Core.Bool.{Bool, true, false, _&&_, and-false}
 use mathlib.Core.List.{List}
-use Prim.Native.Nat.{ℕ, _<_}
 use lib.IntN.{ℤ}
-use borrow.Author.Tests.{leb-true}
-use Rattle.paper.specs.declared.Statics.{Statics}
 use Rattle.paper.specs.declared.Day.{Day}
-use Rattle.paper.specs.Ranges.{validDay, validRows, orderedStatics, validDayNumbers}
-use Rattle.paper.proofs.Logic.{and-left, and-right}
+use Rattle.paper.specs.Ranges.{validDay, validRows, validDayNumbers}
 
 -- ---- three of a kind
 
@@ -26,11 +22,6 @@ two-tests-same f s e = rw (← f, ← s) e
 pub same-where-second-passes : (a x b : Bool) → (b ≡ true → a ≡ x) → (a && b) ≡ (x && b)
 same-where-second-passes a x true f = rw (f refl)
 same-where-second-passes a x false f = rw (and-false a, and-false x)
-
--- ---- the step
-
-pub ordered-step-positive : (st : Statics) → orderedStatics st ≡ true → 0 < st .h
-ordered-step-positive st v = leb-true _ _ (search (v, and-left, and-right) depth 40)
 
 -- ---- a day
 

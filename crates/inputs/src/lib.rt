@@ -19,6 +19,8 @@ pub use prices::is_grid_price;
 pub use prices::is_on_grid;
 pub use prices::is_price;
 pub use prices::is_rate;
+pub use statics::given_of;
+pub use statics::number_at;
 pub use statics::statics_of;
 pub use statics::valid_given;
 pub use statics::valid_statics;

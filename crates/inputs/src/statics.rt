@@ -1,16 +1,63 @@
-// The table of statics with W-210's and W-211's, and the tentative rate, whose range the step decides.
+// The table of statics (`staticsTable` of `paper`): its numbers are read here, judged, and made statics. And the
+// tentative rate, whose range the step decides.
 ghost use mathlib.Core.Path.{_≡_};
 ghost use Prim.Native.Nat.{_<_};
-ghost use Rattle.paper.specs.Ranges.{validStatics, staticsOf, validGiven, validTentative, orderedStatics};
-ghost use Rattle.paper.specs.Ranges.{multiplesOfStep};
+ghost use Rattle.paper.specs.Ranges.{unsignedAt, givenOf, staticsOf, inOrder, multiplesOfStep, validStatics};
+ghost use Rattle.paper.specs.Ranges.{validGiven, validTentative};
+ghost use Rattle.inputs.specs.Table.{testsPass};
 use paper::GivenStatics;
 use paper::Rate;
 use paper::Statics;
 use paper::Tentative;
 
-// The table down to S_max: its ranges and orders. Nothing is divided by the step before this has passed.
-fn ordered_statics(st: Statics) -> bool
-    ensures { λ r. ⌜ r ≡ orderedStatics st ⌝ }
+// The number at a place of a lent slice, and 0 where there is none; one below zero is read as a number that no range
+// holds.
+pub fn number_at(numbers: &[i64], place: usize) -> u64
+    ensures { λ r. ⌜ r ≡ unsignedAt (now (numbers .entry)) place ⌝ }
+{
+    if place < numbers.len() {
+        return exact::unsigned(numbers[place]);
+    }
+    0
+}
+
+// The statics of numbers in the order of the table: of a line, of a message, or of a call from C.
+pub fn given_of(numbers: &[i64]) -> GivenStatics
+    ensures { λ r. ⌜ r ≡ givenOf (now (numbers .entry)) ⌝ }
+{
+    GivenStatics {
+        lot: number_at(numbers, 0),
+        h: number_at(numbers, 1),
+        q: number_at(numbers, 2),
+        aup: number_at(numbers, 3),
+        adown: number_at(numbers, 4),
+        wait: number_at(numbers, 5),
+        rh1: number_at(numbers, 6),
+        rh2: number_at(numbers, 7),
+        rh3: number_at(numbers, 8),
+        liq: number_at(numbers, 9),
+        min1: number_at(numbers, 10),
+        min2: number_at(numbers, 11),
+        min3: number_at(numbers, 12),
+        smax: number_at(numbers, 13),
+        xpr: number_at(numbers, 14),
+        shift: number_at(numbers, 15),
+        pchmax: number_at(numbers, 16),
+        pclmax: number_at(numbers, 17),
+        w: number_at(numbers, 18),
+        u: number_at(numbers, 19),
+        monitoring: number_at(numbers, 20),
+        ewma: number_at(numbers, 21),
+        uevening: number_at(numbers, 22),
+        autochange: number_at(numbers, 23),
+        eveningmax: number_at(numbers, 24),
+        useexternal: number_at(numbers, 25),
+    }
+}
+
+// Each in its range. Yes and no need none.
+fn in_table(st: Statics) -> bool
+    ensures { λ r. ⌜ r ≡ testsPass st ⌝ }
 {
     ((1 <= st.lot) & (st.lot <= Statics::LOT_MOST))
         & ((1 <= st.h) & (st.h <= Statics::STEP_MOST))
@@ -19,14 +66,32 @@ fn ordered_statics(st: Statics) -> bool
         & (st.adown <= Statics::WEIGHT_MOST)
         & ((1 <= st.wait) & (st.wait <= Statics::WAIT_MOST))
         & ((1 <= st.rh1) & (st.rh1 <= Statics::FIRST_DAYS_MOST))
-        & (st.rh1 <= st.rh2)
-        & (st.rh2 <= st.rh3)
-        & (st.rh3 <= Statics::DAYS_MOST)
+        & ((1 <= st.rh2) & (st.rh2 <= Statics::DAYS_MOST))
+        & ((1 <= st.rh3) & (st.rh3 <= Statics::DAYS_MOST))
         & (st.liq <= Statics::LIQUIDITY_MOST)
+        & (st.min1 <= Rate::MOST_BP)
+        & (st.min2 <= Rate::MOST_BP)
+        & (st.min3 <= Rate::MOST_BP)
+        & (st.smax <= Rate::MOST_BP)
+        & ((Statics::DIVISOR_LEAST <= st.xpr) & (st.xpr <= Statics::DIVISOR_MOST))
+        & ((1 <= st.shift) & (st.shift <= Statics::SHIFT_MOST))
+        & (st.pchmax <= Rate::MOST_BP)
+        & (st.pclmax <= Rate::MOST_BP)
+        & (st.w <= Statics::NEARNESS_MOST)
+        & ((1 <= st.u) & (st.u <= Statics::SECONDS_MOST))
+        & ((1 <= st.uevening) & (st.uevening <= Statics::SECONDS_MOST))
+        & (st.eveningmax <= Statics::EVENING_MOVES_MOST)
+}
+
+// "rh_1 ≤ rh_2 ≤ rh_3", "S_1_min ≤ S_2_min ≤ S_3_min ≤ S_max"
+fn in_order(st: Statics) -> bool
+    ensures { λ r. ⌜ r ≡ inOrder st ⌝ }
+{
+    (st.rh1 <= st.rh2)
+        & (st.rh2 <= st.rh3)
         & (st.min1 <= st.min2)
         & (st.min2 <= st.min3)
         & (st.min3 <= st.smax)
-        & (st.smax <= Rate::MOST_BP)
 }
 
 // "multiples of h": the minima and S_max.
@@ -37,19 +102,12 @@ fn multiples_of_step(st: Statics) -> bool
     (st.min1 % st.h == 0) & (st.min2 % st.h == 0) & (st.min3 % st.h == 0) & (st.smax % st.h == 0)
 }
 
+// Nothing is divided by the step before the ranges and orders have passed.
 pub fn valid_statics(st: Statics) -> bool
     ensures { λ r. ⌜ r ≡ validStatics st ⌝ }
 {
-    if ordered_statics(st) {
-        return multiples_of_step(st)
-            & ((Statics::DIVISOR_LEAST <= st.xpr) & (st.xpr <= Statics::DIVISOR_MOST))
-            & ((1 <= st.shift) & (st.shift <= Statics::SHIFT_MOST))
-            & (st.pchmax <= Rate::MOST_BP)
-            & (st.pclmax <= Rate::MOST_BP)
-            & (st.w <= Statics::NEARNESS_MOST)
-            & ((1 <= st.u) & (st.u <= Statics::SECONDS_MOST))
-            & ((1 <= st.uevening) & (st.uevening <= Statics::SECONDS_MOST))
-            & (st.eveningmax <= Statics::EVENING_MOVES_MOST);
+    if in_table(st) & in_order(st) {
+        return multiples_of_step(st);
     }
     false
 }

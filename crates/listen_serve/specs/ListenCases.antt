@@ -4,7 +4,7 @@
 use mathlib.Core.Path.{_≡_, refl}
 use mathlib.Core.Bool.{true, false}
 use mathlib.Core.List.{List, [], _∷_, _++_, map}
-use Prim.Native.Nat.{ℕ}
+use Prim.Native.Nat.{ℕ, zero, suc, _-_}
 use Prim.Native.String.{String}
 use lib.IntN.{pos, negsuc}
 use lib.ListN.{replicate}
@@ -13,6 +13,7 @@ use Rattle.paper.specs.Verdicts.{isDone, firstOf}
 use Rattle.paper_messages.specs.declared.Heard.{Heard}
 use Rattle.paper_messages.specs.Bytes.{spelled, signedOf}
 use Rattle.paper_messages.specs.Fields.{staticsFields, ratesFields, bandsFields, moveFields, fieldsOf, filled, placesOf}
+use Rattle.paper_messages.specs.Fields.{places}
 use Rattle.paper_messages.specs.Messages.{total, lengthOf, isKnownKind, inRanges, valid, valuesAt, messageAt, noMessage}
 use Rattle.paper_messages.specs.Messages.{readChecks, refusedHeard, acceptedHeard, heardAt}
 use Rattle.text_bytes.specs.Bytes.{lineFeed, bytes}
@@ -27,6 +28,11 @@ ended (line ∷ lines) = bytes line ++ lineFeed ∷ ended lines
 
 -- ---- the line of what is heard
 
+-- so many numbers, counted from one on
+abbrev pub counted : (from count : ℕ) → List ℕ
+counted from zero = []
+counted from (suc count) = from ∷ counted (suc from) count
+
 -- a message whose fields count up, the second below zero
 unfoldable pub counting : (kind : ℕ) → Heard
 counting kind =
@@ -38,11 +44,7 @@ counting kind =
       next = 300;
       message = record {
         kind = kind;
-        fields =
-            pos 1 ∷ negsuc 1
-            ∷ map pos
-            (3 ∷ 4 ∷ 5 ∷ 6 ∷ 7 ∷ 8 ∷ 9 ∷ 10 ∷ 11 ∷ 12 ∷ 13 ∷ 14 ∷ 15 ∷ 16 ∷ 17 ∷ 18 ∷ 19 ∷ 20 ∷ 21 ∷ 22 ∷ 23 ∷ 24 ∷ 25
-            ∷ 26 ∷ 27 ∷ []);
+        fields = pos 1 ∷ negsuc 1 ∷ map pos (counted 3 (places - 2));
       };
     }
 
@@ -53,7 +55,7 @@ skipped = record { verdict = Done; known = false; kind = 90; length = 20; next =
 -- each kind has its word and all of its fields in order; an unknown one its kind and length, a refusal its number and
 -- the place
 pub lines-heard : (lineOf 8 (counting 1)
-    ≡ ended ("statics 1 -2 3 4 5 6 7 8 9 10 11 12 13 14 15 16 17 18 19 20 21 22 23 24 25 26 27" ∷ []))
+    ≡ bytes "statics 1 -2" ++ spaced (map pos (counted 3 (places - 2))) ++ lineFeed ∷ [])
     × (lineOf 8 (counting 2) ≡ ended ("rates 1 -2 3 4 5 6 7 8 9 10 11 12 13 14 15" ∷ []))
     × (lineOf 8 (counting 3) ≡ ended ("bands 1 -2 3 4 5 6 7 8 9 10 11 12 13 14 15 16 17" ∷ []))
     × (lineOf 8 (counting 4) ≡ ended ("move 1 -2 3 4 5 6 7 8 9" ∷ []))

@@ -2,10 +2,11 @@
 ghost use mathlib.Core.Path.{_≡_};
 ghost use Rattle.paper.specs.Ranges.{withinZ};
 ghost use Rattle.paper_messages.specs.Fields.{placesOf};
-ghost use Rattle.paper_messages.specs.Messages.{lengthOf, isKnownKind, inRanges, numberAt, givenIn, asAdmission, valid};
+ghost use Rattle.paper_messages.specs.Messages.{lengthOf, isKnownKind, inRanges, asAdmission, valid};
+use inputs::given_of;
+use inputs::number_at;
 use inputs::valid_given;
 use inputs::valid_id;
-use paper::GivenStatics;
 use paper::Limit;
 use paper::Price;
 use paper::Rate;
@@ -351,55 +352,11 @@ fn in_ranges(places: [Field; Message::PLACES], values: [i64; Message::PLACES]) -
     true
 }
 
-// The number of a place; one below zero is read as a number that no range of the statics holds.
-fn number_at(values: &[i64], place: usize) -> u64
-    ensures { λ r. ⌜ r ≡ numberAt (now (values .entry)) place ⌝ }
-{
-    if place < values.len() {
-        return exact::unsigned(values[place]);
-    }
-    0
-}
-
-// The statics that the values of a message of kind 1 give.
-fn given_in(values: &[i64]) -> GivenStatics
-    ensures { λ r. ⌜ r ≡ givenIn (now (values .entry)) ⌝ }
-{
-    GivenStatics {
-        lot: number_at(values, 1),
-        h: number_at(values, 2),
-        q: number_at(values, 3),
-        aup: number_at(values, 4),
-        adown: number_at(values, 5),
-        wait: number_at(values, 6),
-        rh1: number_at(values, 7),
-        rh2: number_at(values, 8),
-        rh3: number_at(values, 9),
-        liq: number_at(values, 10),
-        min1: number_at(values, 11),
-        min2: number_at(values, 12),
-        min3: number_at(values, 13),
-        smax: number_at(values, 14),
-        xpr: number_at(values, 15),
-        shift: number_at(values, 16),
-        pchmax: number_at(values, 17),
-        pclmax: number_at(values, 18),
-        w: number_at(values, 19),
-        u: number_at(values, 20),
-        monitoring: number_at(values, 21),
-        ewma: number_at(values, 22),
-        uevening: number_at(values, 23),
-        autochange: number_at(values, 24),
-        eveningmax: number_at(values, 25),
-        useexternal: number_at(values, 26),
-    }
-}
-
-// Kind 1 is judged as an admission judges id and statics.
+// Kind 1, an id and then the statics, is judged as an admission judges them.
 fn as_admission(values: [i64; Message::PLACES]) -> bool
     ensures { λ r. ⌜ r ≡ asAdmission values ⌝ }
 {
-    valid_id(number_at(&values, 0)) & valid_given(given_in(&values))
+    valid_id(number_at(&values, 0)) & valid_given(given_of(&values[1..]))
 }
 
 pub fn is_valid(m: Message) -> bool

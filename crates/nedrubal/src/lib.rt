@@ -1,10 +1,11 @@
 // What C links: document 01, "What the desk covers", "The C gateway reaches the rate rules and the limit rules with
-// plain numbers". Each function takes its own numbers and then the 26 statics, in the order of document 01's table and
-// then W-210's three and W-211's, all signed, of any value, and answers one figure, or minus the refusal number. It
-// only makes the numbers unsigned and hands them on; `gateway` has the calls.
+// plain numbers". Each function takes its own numbers and then the statics, in the order of the table of statics, all
+// signed, of any value, and answers one figure, or minus the refusal number. It only makes the numbers unsigned and
+// hands them on; `gateway` has the calls. A number is an argument for C, so each export lists them.
 ghost use mathlib.Core.Path.{_≡_};
-ghost use Rattle.paper.specs.Ranges.{unsigned};
-ghost use Rattle.paper_desk.specs.Gateway.{givenOf, levelCall, rangeCall, bandCall};
+ghost use mathlib.Core.List.{[], _∷_};
+ghost use Rattle.paper.specs.Ranges.{unsigned, givenOf};
+ghost use Rattle.paper_desk.specs.Gateway.{levelCall, rangeCall, bandCall};
 
 // "a level's rate from tentative, m and level".
 #[no_mangle]
@@ -39,63 +40,40 @@ pub extern "C" fn nedrubal_level_rate(
     eveningmax: i64,
     useexternal: i64,
 ) -> i64
-    ensures { λ r. ⌜ r ≡ levelCall (givenOf (record {
-      lot = lot;
-      h = h;
-      q = q;
-      aup = aup;
-      adown = adown;
-      wait = wait;
-      rh1 = rh1;
-      rh2 = rh2;
-      rh3 = rh3;
-      liq = liq;
-      min1 = min1;
-      min2 = min2;
-      min3 = min3;
-      smax = smax;
-      xpr = xpr;
-      shift = shift;
-      pchmax = pchmax;
-      pclmax = pclmax;
-      w = w;
-      u = u;
-      monitoring = monitoring;
-      ewma = ewma;
-      uevening = uevening;
-      autochange = autochange;
-      eveningmax = eveningmax;
-      useexternal = useexternal;
-    }))
+    ensures { λ r. ⌜ r ≡ levelCall (givenOf (lot ∷ h ∷ q ∷ aup ∷ adown ∷ wait ∷ rh1 ∷ rh2 ∷ rh3 ∷ liq
+        ∷ min1 ∷ min2 ∷ min3 ∷ smax ∷ xpr ∷ shift ∷ pchmax ∷ pclmax ∷ w ∷ u ∷ monitoring ∷ ewma ∷ uevening
+        ∷ autochange ∷ eveningmax ∷ useexternal ∷ []))
         (unsigned tentative) (unsigned m) (unsigned level) ⌝ }
 {
-    let given = gateway::given_of(
-        lot,
-        h,
-        q,
-        aup,
-        adown,
-        wait,
-        rh1,
-        rh2,
-        rh3,
-        liq,
-        min1,
-        min2,
-        min3,
-        smax,
-        xpr,
-        shift,
-        pchmax,
-        pclmax,
-        w,
-        u,
-        monitoring,
-        ewma,
-        uevening,
-        autochange,
-        eveningmax,
-        useexternal,
+    let given = inputs::given_of(
+        &[
+            lot,
+            h,
+            q,
+            aup,
+            adown,
+            wait,
+            rh1,
+            rh2,
+            rh3,
+            liq,
+            min1,
+            min2,
+            min3,
+            smax,
+            xpr,
+            shift,
+            pchmax,
+            pclmax,
+            w,
+            u,
+            monitoring,
+            ewma,
+            uevening,
+            autochange,
+            eveningmax,
+            useexternal,
+        ],
     );
     gateway::level_answer(
         given,
@@ -138,63 +116,40 @@ pub extern "C" fn nedrubal_range_limit(
     eveningmax: i64,
     useexternal: i64,
 ) -> i64
-    ensures { λ r. ⌜ r ≡ rangeCall (givenOf (record {
-      lot = lot;
-      h = h;
-      q = q;
-      aup = aup;
-      adown = adown;
-      wait = wait;
-      rh1 = rh1;
-      rh2 = rh2;
-      rh3 = rh3;
-      liq = liq;
-      min1 = min1;
-      min2 = min2;
-      min3 = min3;
-      smax = smax;
-      xpr = xpr;
-      shift = shift;
-      pchmax = pchmax;
-      pclmax = pclmax;
-      w = w;
-      u = u;
-      monitoring = monitoring;
-      ewma = ewma;
-      uevening = uevening;
-      autochange = autochange;
-      eveningmax = eveningmax;
-      useexternal = useexternal;
-    }))
+    ensures { λ r. ⌜ r ≡ rangeCall (givenOf (lot ∷ h ∷ q ∷ aup ∷ adown ∷ wait ∷ rh1 ∷ rh2 ∷ rh3 ∷ liq
+        ∷ min1 ∷ min2 ∷ min3 ∷ smax ∷ xpr ∷ shift ∷ pchmax ∷ pclmax ∷ w ∷ u ∷ monitoring ∷ ewma ∷ uevening
+        ∷ autochange ∷ eveningmax ∷ useexternal ∷ []))
         (unsigned p) (unsigned rate) (unsigned side) ⌝ }
 {
-    let given = gateway::given_of(
-        lot,
-        h,
-        q,
-        aup,
-        adown,
-        wait,
-        rh1,
-        rh2,
-        rh3,
-        liq,
-        min1,
-        min2,
-        min3,
-        smax,
-        xpr,
-        shift,
-        pchmax,
-        pclmax,
-        w,
-        u,
-        monitoring,
-        ewma,
-        uevening,
-        autochange,
-        eveningmax,
-        useexternal,
+    let given = inputs::given_of(
+        &[
+            lot,
+            h,
+            q,
+            aup,
+            adown,
+            wait,
+            rh1,
+            rh2,
+            rh3,
+            liq,
+            min1,
+            min2,
+            min3,
+            smax,
+            xpr,
+            shift,
+            pchmax,
+            pclmax,
+            w,
+            u,
+            monitoring,
+            ewma,
+            uevening,
+            autochange,
+            eveningmax,
+            useexternal,
+        ],
     );
     gateway::range_answer(
         given,
@@ -240,64 +195,41 @@ pub extern "C" fn nedrubal_band_limit(
     eveningmax: i64,
     useexternal: i64,
 ) -> i64
-    ensures { λ r. ⌜ r ≡ bandCall (givenOf (record {
-      lot = lot;
-      h = h;
-      q = q;
-      aup = aup;
-      adown = adown;
-      wait = wait;
-      rh1 = rh1;
-      rh2 = rh2;
-      rh3 = rh3;
-      liq = liq;
-      min1 = min1;
-      min2 = min2;
-      min3 = min3;
-      smax = smax;
-      xpr = xpr;
-      shift
-          = shift;
-      pchmax = pchmax;
-      pclmax = pclmax;
-      w = w;
-      u = u;
-      monitoring = monitoring;
-      ewma = ewma;
-      uevening = uevening;
-      autochange = autochange;
-      eveningmax = eveningmax;
-      useexternal = useexternal;
-    })) (unsigned p)
+    ensures { λ r. ⌜ r ≡ bandCall (givenOf (lot ∷ h ∷ q ∷ aup ∷ adown ∷ wait ∷ rh1 ∷ rh2 ∷ rh3 ∷ liq
+        ∷ min1 ∷ min2 ∷ min3 ∷ smax ∷ xpr ∷ shift ∷ pchmax ∷ pclmax ∷ w ∷ u ∷ monitoring ∷ ewma ∷ uevening
+        ∷ autochange ∷ eveningmax ∷ useexternal ∷ []))
+        (unsigned p)
         (unsigned s1) (unsigned k) repo (unsigned c) (unsigned side) ⌝ }
 {
-    let given = gateway::given_of(
-        lot,
-        h,
-        q,
-        aup,
-        adown,
-        wait,
-        rh1,
-        rh2,
-        rh3,
-        liq,
-        min1,
-        min2,
-        min3,
-        smax,
-        xpr,
-        shift,
-        pchmax,
-        pclmax,
-        w,
-        u,
-        monitoring,
-        ewma,
-        uevening,
-        autochange,
-        eveningmax,
-        useexternal,
+    let given = inputs::given_of(
+        &[
+            lot,
+            h,
+            q,
+            aup,
+            adown,
+            wait,
+            rh1,
+            rh2,
+            rh3,
+            liq,
+            min1,
+            min2,
+            min3,
+            smax,
+            xpr,
+            shift,
+            pchmax,
+            pclmax,
+            w,
+            u,
+            monitoring,
+            ewma,
+            uevening,
+            autochange,
+            eveningmax,
+            useexternal,
+        ],
     );
     gateway::band_answer(
         given,

@@ -3,3 +3,4 @@ pub mod Logic
 pub mod Differences
 pub mod Search
 pub mod Roundings
+pub mod StaticsFacts

@@ -3,11 +3,11 @@
 -- It may use the kinds of src/lib.rt, and of Ranges how a number is read.
 use mathlib.Core.Path.{_≡_, refl}
 use mathlib.Core.Bool.{Bool, true, false}
-use mathlib.Core.List.{List, [], _∷_, _++_}
+use mathlib.Core.List.{List, [], _∷_, _++_, map}
 use Prim.Native.Nat.{ℕ, zero, suc, _+_, _*_}
 use lib.Dec.{eqb}
 use lib.IntN.{ℤ, pos}
-use lib.ListN.{getD, set, replicate}
+use lib.ListN.{length, getD, set, replicate}
 use Rattle.paper.specs.declared.GivenStatics.{GivenStatics}
 use Rattle.paper.specs.declared.Standing.{Standing}
 use Rattle.paper.specs.declared.Standing.the-variants.{Admitted, Live}
@@ -21,9 +21,10 @@ use Rattle.paper.specs.declared.Record.{Record}
 use Rattle.paper.specs.declared.Admission.{Admission}
 use Rattle.paper.specs.declared.Day.{Day}
 use Rattle.paper.specs.declared.Quote.{Quote}
-use Rattle.paper.specs.Lists.{pick, three}
+use Rattle.paper.specs.Lists.{pick, three, those}
 use Rattle.paper.specs.Numbers.{rouble}
-use Rattle.paper.specs.Ranges.{unsigned, staticsOf}
+use Rattle.paper.specs.Ranges.{unsigned, unsignedAt, Static, staticsTable, staticsCount, flagsCount}
+use Rattle.paper.specs.Ranges.{givenOf, staticsOf}
 
 -- ---- a row of numbers, and a change of one of them
 
@@ -37,7 +38,7 @@ abbrev pub signed : (xs : List ℤ) → (place : ℕ) → ℤ
 signed xs place = getD xs place (pos 0)
 
 abbrev pub plain : (xs : List ℤ) → (place : ℕ) → ℕ
-plain xs place = unsigned (signed xs place)
+plain xs place = unsignedAt xs place
 
 -- ---- the places: the statics in the order of the table, then an admission's numbers, then a record's
 
@@ -94,98 +95,66 @@ abbrev pub useexternalAt : ℕ
 useexternalAt = 25
 
 abbrev pub idAt : ℕ
-idAt = 26
+idAt = staticsCount
 
 abbrev pub dayAt : ℕ
-dayAt = 27
+dayAt = staticsCount + 1
 
 abbrev pub p1At : ℕ
-p1At = 28
+p1At = staticsCount + 2
 
 abbrev pub sAt : ℕ
-sAt = 30
+sAt = staticsCount + 4
 
 abbrev pub tentativeAt : ℕ
-tentativeAt = 31
+tentativeAt = staticsCount + 5
 
 -- 0 admitted only, 1 live
 abbrev pub liveAt : ℕ
-liveAt = 32
+liveAt = staticsCount + 6
 
 abbrev pub ageAt : ℕ
-ageAt = 33
+ageAt = staticsCount + 7
 
 -- three rates, then the lower and the upper limit of three ranges
 abbrev pub ratesAt : ℕ
-ratesAt = 34
+ratesAt = staticsCount + 8
 
 abbrev pub rangesAt : ℕ
-rangesAt = 37
+rangesAt = staticsCount + 11
 
 -- k, RRcL and RRcH of three terms, then the lower and the upper limit of their bands
 abbrev pub termsAt : ℕ
-termsAt = 43
+termsAt = staticsCount + 17
 
 abbrev pub bandsAt : ℕ
-bandsAt = 52
+bandsAt = staticsCount + 26
 
 abbrev pub upperMovesAt : ℕ
-upperMovesAt = 58
+upperMovesAt = staticsCount + 32
 
 abbrev pub lowerMovesAt : ℕ
-lowerMovesAt = 59
+lowerMovesAt = staticsCount + 33
 
 -- top and bottom of three terms: 0 not near, one more than the second otherwise
 abbrev pub nearAt : ℕ
-nearAt = 60
+nearAt = staticsCount + 34
 
 abbrev pub secondAt : ℕ
-secondAt = 66
+secondAt = staticsCount + 40
 
 -- 0 main, one more than the evening moves made otherwise
 abbrev pub sessionAt : ℕ
-sessionAt = 67
+sessionAt = staticsCount + 41
 
 -- the outside bid, then the ask
 abbrev pub externalAt : ℕ
-externalAt = 68
+externalAt = staticsCount + 42
 
 -- ---- what the numbers spell
 
-unfoldable pub givenFrom : (xs : List ℤ) → GivenStatics
-unfolding unsigned
-givenFrom xs =
-    record {
-      lot = plain xs lotAt;
-      h = plain xs hAt;
-      q = plain xs qAt;
-      aup = plain xs aupAt;
-      adown = plain xs adownAt;
-      wait = plain xs 5;
-      rh1 = plain xs 6;
-      rh2 = plain xs 7;
-      rh3 = plain xs 8;
-      liq = plain xs liqAt;
-      min1 = plain xs minimaAt;
-      min2 = plain xs (minimaAt + 1);
-      min3 = plain xs (minimaAt + 2);
-      smax = plain xs (minimaAt + 3);
-      xpr = plain xs 14;
-      shift = plain xs 15;
-      pchmax = plain xs pchmaxAt;
-      pclmax = plain xs pclmaxAt;
-      w = plain xs 18;
-      u = plain xs uAt;
-      monitoring = plain xs monitoringAt;
-      ewma = plain xs ewmaAt;
-      uevening = plain xs ueveningAt;
-      autochange = plain xs autochangeAt;
-      eveningmax = plain xs eveningmaxAt;
-      useexternal = plain xs useexternalAt;
-    }
-
 unfoldable pub admissionFrom : (xs : List ℤ) → Admission
-unfolding givenFrom
+unfolding givenOf
 admissionFrom xs =
     record {
       id = plain xs idAt;
@@ -194,7 +163,7 @@ admissionFrom xs =
       p2 = plain xs (p1At + 1);
       s = plain xs sAt;
       tentative = plain xs tentativeAt;
-      given = givenFrom xs;
+      given = givenOf xs;
     }
 
 unfoldable pub standingFrom : (live day : ℕ) → Standing
@@ -217,11 +186,11 @@ unfolding unsigned
 termFrom xs place = record { k = plain xs place; low = signed xs (place + 1); high = signed xs (place + 2) }
 
 unfoldable pub recordFrom : (xs : List ℤ) → Record
-unfolding givenFrom staticsOf standingFrom nearFrom sessionFrom limitsFrom termFrom
+unfolding givenOf staticsOf standingFrom nearFrom sessionFrom limitsFrom termFrom
 recordFrom xs =
     record {
       id = plain xs idAt;
-      statics = staticsOf (givenFrom xs);
+      statics = staticsOf (givenOf xs);
       standing = standingFrom (plain xs liveAt) (plain xs dayAt);
       p1 = record { units = plain xs p1At };
       p2 = record { units = plain xs (p1At + 1) };
@@ -314,8 +283,8 @@ givenWith lot =
 unfoldable pub admissionZ : Admission
 admissionZ = record { id = 7; day = 3; p1 = 1000000; p2 = 1000000; s = 20000; tentative = 600; given = givenWith 10 }
 
-unfoldable pub zNumbers : List ℤ
-zNumbers =
+unfoldable pub zStatics : List ℤ
+zStatics =
     -- lot, h, q, a_up, a_down, n
     pos 10 ∷ pos 100 ∷ pos 300 ∷ pos 1000 ∷ pos 500 ∷ pos 5
     -- rh, liq
@@ -328,9 +297,14 @@ zNumbers =
     ∷ pos 1 ∷ pos 1
     -- u_evening, Autochange, the evening maximum (W-210), UseEXTERNAL (W-211)
     ∷ pos 120 ∷ pos 1 ∷ pos 2 ∷ pos 0
-    -- id, day, p1, p2, s, tentative
-    ∷ pos 7 ∷ pos 3 ∷ pos 1000000 ∷ pos 1000000 ∷ pos 20000 ∷ pos 600
     ∷ []
+
+unfoldable pub zNumbers : List ℤ
+unfolding zStatics
+zNumbers =
+    zStatics
+    -- id, day, p1, p2, s, tentative
+    ++ (pos 7 ∷ pos 3 ∷ pos 1000000 ∷ pos 1000000 ∷ pos 20000 ∷ pos 600 ∷ [])
 
 -- the record of Z once it is admitted, but for its rates, which are 0 here
 unfoldable pub zRecord : List ℤ
@@ -341,3 +315,43 @@ zRecord = zNumbers ++ replicate 38 (pos 0)
 pub z-is-Z : admissionFrom zNumbers ≡ admissionZ
 unfolding zNumbers admissionFrom admissionZ givenWith
 z-is-Z = refl
+
+-- of numbers that count up from 1, so that each is its own place: which static stands where
+pub given-are : givenOf (map pos (1 ∷ 2 ∷ 3 ∷ 4 ∷ 5 ∷ 6 ∷ 7 ∷ 8 ∷ 9 ∷ 10 ∷ 11 ∷ 12 ∷ 13 ∷ 14 ∷ 15 ∷ 16 ∷ 17 ∷ 18 ∷ 19
+    ∷ 20 ∷ 21 ∷ 22 ∷ 23 ∷ 24 ∷ 25 ∷ 26 ∷ []))
+    ≡ record {
+      lot = 1;
+      h = 2;
+      q = 3;
+      aup = 4;
+      adown = 5;
+      wait = 6;
+      rh1 = 7;
+      rh2 = 8;
+      rh3 = 9;
+      liq = 10;
+      min1 = 11;
+      min2 = 12;
+      min3 = 13;
+      smax = 14;
+      xpr = 15;
+      shift = 16;
+      pchmax = 17;
+      pclmax = 18;
+      w = 19;
+      u = 20;
+      monitoring = 21;
+      ewma = 22;
+      uevening = 23;
+      autochange = 24;
+      eveningmax = 25;
+      useexternal = 26;
+    }
+unfolding givenOf
+given-are = refl
+
+-- the table has a row for each
+pub counts-are : (length staticsTable ≡ staticsCount)
+    × (length (those (λ (row : Static). row .isFlag) staticsTable) ≡ flagsCount)
+unfolding those
+counts-are = (refl, refl)

@@ -59,6 +59,10 @@ unfoldable pub unsigned : ℤ → ℕ
 unsigned (pos n) = n
 unsigned (negsuc n) = pastEvery
 
+-- the number at a place of a row of signed ones, read so; 0 where there is none
+abbrev pub unsignedAt : (numbers : List ℤ) → (place : ℕ) → ℕ
+unsignedAt numbers place = unsigned (getD numbers place (pos 0))
+
 -- ---- prices, rates and limits
 
 -- "Price: ten-thousandth of a rouble, 1 to 10^10"
@@ -94,43 +98,90 @@ isGridPrice g p = isPrice p && eqb (p % g) 0
 
 -- ---- statics
 
--- the table of statics, in its order, down to S_max: ranges and orders
-abbrev pub orderedStatics : Statics → Bool
-orderedStatics st =
-    within 1 lotMost (st .lot)
-    && within 1 stepMost (st .h)
-    && within multiplierLeast multiplierMost (st .q)
-    && leb (st .aup) weightMost
-    && leb (st .adown) weightMost
-    && within 1 waitMost (st .wait)
-    && within 1 firstDaysMost (st .rh1)
-    && leb (st .rh1) (st .rh2)
-    && leb (st .rh2) (st .rh3)
-    && leb (st .rh3) daysMost
-    && leb (st .liq) liquidityMost
-    && leb (st .min1) (st .min2)
-    && leb (st .min2) (st .min3)
-    && leb (st .min3) (st .smax)
-    && leb (st .smax) rateMost
+-- a row of the table: the range of its number, and whether it is yes or no
+pub record Static : Type 0 where
+  pub least : ℕ
+  pub most : ℕ
+  pub isFlag : Bool
 
--- "S_1_min ≤ S_2_min ≤ S_3_min ≤ S_max .. multiples of h"
-abbrev pub multiplesOfStep : Statics → Bool
-multiplesOfStep st =
-    eqb (st .min1 % st .h) 0 && eqb (st .min2 % st .h) 0 && eqb (st .min3 % st .h) 0 && eqb (st .smax % st .h) 0
+abbrev pub ranging : (least most : ℕ) → Static
+ranging least most = record { least = least; most = most; isFlag = false }
 
--- the whole table; yes and no need no range
-unfoldable pub validStatics : Statics → Bool
-validStatics st =
-    orderedStatics st
-    && multiplesOfStep st
-    && within divisorLeast divisorMost (st .xpr)
-    && within 1 shiftMost (st .shift)
-    && leb (st .pchmax) rateMost
-    && leb (st .pclmax) rateMost
-    && leb (st .w) nearnessMost
-    && within 1 secondsMost (st .u)
-    && within 1 secondsMost (st .uevening)
-    && leb (st .eveningmax) eveningMovesMost
+-- "yes 1, no 0"
+abbrev pub yesOrNo : Static
+yesOrNo = record { least = 0; most = 1; isFlag = true }
+
+-- THE TABLE OF STATICS, in document 01's order, then W-210's three and W-211's. A static more is a row more at its end,
+-- and a line more in the functions below: everywhere else the statics are numbers in this order
+abbrev pub staticsTable : List Static
+staticsTable =
+    ranging 1 lotMost  -- lot, pieces
+    ∷ ranging 1 stepMost  -- h, bp
+    ∷ ranging multiplierLeast multiplierMost  -- q, hundredths
+    ∷ ranging 0 weightMost  -- a_up, ten-thousandths
+    ∷ ranging 0 weightMost  -- a_down, ten-thousandths
+    ∷ ranging 1 waitMost  -- wait n, trading days
+    ∷ ranging 1 firstDaysMost  -- rh_1, days
+    ∷ ranging 1 daysMost  -- rh_2, days
+    ∷ ranging 1 daysMost  -- rh_3, days
+    ∷ ranging 0 liquidityMost  -- liq, bp
+    ∷ ranging 0 rateMost  -- S_1_min, bp
+    ∷ ranging 0 rateMost  -- S_2_min, bp
+    ∷ ranging 0 rateMost  -- S_3_min, bp
+    ∷ ranging 0 rateMost  -- S_max, bp
+    ∷ ranging divisorLeast divisorMost  -- x_pr, hundredths
+    ∷ ranging 1 shiftMost  -- shift, hundredths
+    ∷ ranging 0 rateMost  -- PcH_max, bp
+    ∷ ranging 0 rateMost  -- PcL_max, bp
+    ∷ ranging 0 nearnessMost  -- w, ten-thousandths
+    ∷ ranging 1 secondsMost  -- u, seconds
+    ∷ yesOrNo  -- Monitoring
+    ∷ yesOrNo  -- isEWMA
+    ∷ ranging 1 secondsMost  -- u_evening, seconds (W-210)
+    ∷ yesOrNo  -- Autochange
+    ∷ ranging 0 eveningMovesMost  -- the evening maximum, moves
+    ∷ yesOrNo  -- UseEXTERNAL (W-211)
+    ∷ []
+
+-- how many there are, and how many of them are yes or no
+abbrev pub staticsCount : ℕ
+staticsCount = 26
+
+abbrev pub flagsCount : ℕ
+flagsCount = 4
+
+-- the statics that numbers in the order of the table give; one that is left out counts as 0
+unfoldable pub givenOf : (numbers : List ℤ) → GivenStatics
+unfolding unsigned
+givenOf numbers =
+    record {
+      lot = unsignedAt numbers 0;
+      h = unsignedAt numbers 1;
+      q = unsignedAt numbers 2;
+      aup = unsignedAt numbers 3;
+      adown = unsignedAt numbers 4;
+      wait = unsignedAt numbers 5;
+      rh1 = unsignedAt numbers 6;
+      rh2 = unsignedAt numbers 7;
+      rh3 = unsignedAt numbers 8;
+      liq = unsignedAt numbers 9;
+      min1 = unsignedAt numbers 10;
+      min2 = unsignedAt numbers 11;
+      min3 = unsignedAt numbers 12;
+      smax = unsignedAt numbers 13;
+      xpr = unsignedAt numbers 14;
+      shift = unsignedAt numbers 15;
+      pchmax = unsignedAt numbers 16;
+      pclmax = unsignedAt numbers 17;
+      w = unsignedAt numbers 18;
+      u = unsignedAt numbers 19;
+      monitoring = unsignedAt numbers 20;
+      ewma = unsignedAt numbers 21;
+      uevening = unsignedAt numbers 22;
+      autochange = unsignedAt numbers 23;
+      eveningmax = unsignedAt numbers 24;
+      useexternal = unsignedAt numbers 25;
+    }
 
 -- the statics that are given as numbers: "yes 1, no 0"
 unfoldable pub staticsOf : GivenStatics → Statics
@@ -163,6 +214,65 @@ staticsOf g =
       eveningmax = g .eveningmax;
       useexternal = eqb (g .useexternal) 1;
     }
+
+-- and back: the numbers of statics, in the order of the table
+abbrev pub flagOf : Bool → ℕ
+flagOf true = 1
+flagOf false = 0
+
+abbrev pub numbersOf : Statics → List ℕ
+numbersOf st =
+    st .lot
+    ∷ st .h
+    ∷ st .q
+    ∷ st .aup
+    ∷ st .adown
+    ∷ st .wait
+    ∷ st .rh1
+    ∷ st .rh2
+    ∷ st .rh3
+    ∷ st .liq
+    ∷ st .min1
+    ∷ st .min2
+    ∷ st .min3
+    ∷ st .smax
+    ∷ st .xpr
+    ∷ st .shift
+    ∷ st .pchmax
+    ∷ st .pclmax
+    ∷ st .w
+    ∷ st .u
+    ∷ flagOf (st .monitoring)
+    ∷ flagOf (st .ewma)
+    ∷ st .uevening
+    ∷ flagOf (st .autochange)
+    ∷ st .eveningmax
+    ∷ flagOf (st .useexternal)
+    ∷ []
+
+-- each number in the range of its row
+abbrev pub inTable : List Static → (numbers : List ℕ) → Bool
+inTable [] numbers = true
+inTable (row ∷ rows) [] = false
+inTable (row ∷ rows) (x ∷ numbers) = within (row .least) (row .most) x && inTable rows numbers
+
+-- "rh_1 ≤ rh_2 ≤ rh_3", "S_1_min ≤ S_2_min ≤ S_3_min ≤ S_max"
+abbrev pub inOrder : Statics → Bool
+inOrder st =
+    leb (st .rh1) (st .rh2)
+    && leb (st .rh2) (st .rh3)
+    && leb (st .min1) (st .min2)
+    && leb (st .min2) (st .min3)
+    && leb (st .min3) (st .smax)
+
+-- "S_1_min ≤ S_2_min ≤ S_3_min ≤ S_max .. multiples of h"
+abbrev pub multiplesOfStep : Statics → Bool
+multiplesOfStep st =
+    eqb (st .min1 % st .h) 0 && eqb (st .min2 % st .h) 0 && eqb (st .min3 % st .h) 0 && eqb (st .smax % st .h) 0
+
+-- the whole table: ranges, orders and multiples
+unfoldable pub validStatics : Statics → Bool
+validStatics st = inTable staticsTable (numbersOf st) && inOrder st && multiplesOfStep st
 
 unfoldable pub validGiven : GivenStatics → Bool
 validGiven g =

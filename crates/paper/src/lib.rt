@@ -209,10 +209,45 @@ impl Statics {
     pub const SECONDS_MOST: u64 = 3_600; // u and uevening
 
     pub const EVENING_MOVES_MOST: u64 = 10;
+
+    // How many there are, and how many of them are yes or no.
+    pub const COUNT: usize = 26;
+
+    pub const FLAGS: usize = 4;
+
+    // Those of a blank record: every figure 0, every flag no.
+    pub const NONE: Statics = Statics {
+        lot: 0,
+        h: 0,
+        q: 0,
+        aup: 0,
+        adown: 0,
+        wait: 0,
+        rh1: 0,
+        rh2: 0,
+        rh3: 0,
+        liq: 0,
+        min1: 0,
+        min2: 0,
+        min3: 0,
+        smax: 0,
+        xpr: 0,
+        shift: 0,
+        pchmax: 0,
+        pclmax: 0,
+        w: 0,
+        u: 0,
+        monitoring: false,
+        ewma: false,
+        uevening: 0,
+        autochange: false,
+        eveningmax: 0,
+        useexternal: false,
+    };
 }
 
-// The statics as they are given: each has the unit and the range of the field of `Statics` with its name, and yes is 1,
-// no 0.
+// The statics as they are given, in the order of the table (specs/Ranges.antt): each has the unit and the range of the
+// field of `Statics` with its name, and yes is 1, no 0.
 pub struct GivenStatics {
     pub lot: u64,
     pub h: u64,
@@ -240,6 +275,38 @@ pub struct GivenStatics {
     pub autochange: u64,
     pub eveningmax: u64,
     pub useexternal: u64,
+}
+
+impl GivenStatics {
+    // Each at the least of its range.
+    pub const LEAST: GivenStatics = GivenStatics {
+        lot: 1,
+        h: 1,
+        q: Statics::MULTIPLIER_LEAST,
+        aup: 0,
+        adown: 0,
+        wait: 1,
+        rh1: 1,
+        rh2: 1,
+        rh3: 1,
+        liq: 0,
+        min1: 0,
+        min2: 0,
+        min3: 0,
+        smax: 0,
+        xpr: Statics::DIVISOR_LEAST,
+        shift: 1,
+        pchmax: 0,
+        pclmax: 0,
+        w: 0,
+        u: 1,
+        monitoring: 0,
+        ewma: 0,
+        uevening: 1,
+        autochange: 0,
+        eveningmax: 0,
+        useexternal: 0,
+    };
 }
 
 // "A record has a standing: admitted only, or live with its day number." Either holds the last day.

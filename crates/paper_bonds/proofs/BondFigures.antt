@@ -18,7 +18,7 @@ use Rattle.paper_desk.proofs.Level.{level-rate-is}
 use Rattle.paper.proofs.Roundings.{rounded-is, rounded-le}
 use Rattle.paper_desk.proofs.KindLaws.{bond-limit-is}
 use Rattle.paper_bonds.specs.declared.Bond.{Bond}
-use Rattle.paper_bonds.specs.Bonds.{givenOf, bondStatics, validBond, bondFigures, IsPerCent}
+use Rattle.paper_bonds.specs.Bonds.{bondGiven, bondStatics, validBond, bondFigures, IsPerCent}
 
 -- ---- the rates
 
@@ -32,7 +32,7 @@ pub bond-rate-is : (b : Bond) (level : ℕ) → validBond b ≡ true
     → HeldLeast (b .statics .h) (minimumOf (bondStatics b) level) (b .statics .smax)
     (AtLeastRequired (bondStatics b) (bondFigures b .tentative .bp) (b .m) level)
     (levelRate (bondStatics b) (bondFigures b .tentative .bp) (b .m) level)
-unfolding givenOf staticsOf
+unfolding bondGiven staticsOf
 bond-rate-is b level v =
     level-rate-is (bondStatics b) level (b .m) (bondFigures b .tentative .bp) (bond-statics-valid b v)
 

@@ -26,7 +26,7 @@ use Rattle.paper.specs.PinnedValues.{_but_, signed, plain}
 use Rattle.paper_bonds.specs.declared.Bond.{Bond}
 use Rattle.paper_bonds.specs.declared.BondLimits.{BondLimits}
 use Rattle.paper_bonds.specs.declared.BondAnswer.{BondAnswer}
-use Rattle.paper_bonds.specs.Bonds.{givenOf, flowAt, lentFlows, wholeFlows, validFlow, validFlows, flowOf}
+use Rattle.paper_bonds.specs.Bonds.{bondGiven, flowAt, lentFlows, wholeFlows, validFlow, validFlows, flowOf}
 use Rattle.paper_bonds.specs.Bonds.{flowsOf, validNumbers, validBond, grossOf, carryTerm, carryDue, carryOf}
 use Rattle.paper_bonds.specs.Bonds.{bondStatics, bondFigures, firstRate, scaleAt, limitsFrom, limitsOf}
 use Rattle.paper_bonds.specs.Bonds.{isCrossed, bondChecks, refusedBond}
@@ -138,7 +138,7 @@ unfoldable pub answered : Bond → (numbers : List ℤ) → BondAnswer
 unfolding down halfUp up toGrid lesserOf greaterOf grown first least leastMultiple unsigned partsFrom isPrice
     validStatics staticsOf validGiven tentativeTop validTentative validTerm leastStep tentativeRate tentativeAfter
     meetsRequirement daysOf minimumOf covers levelRate unmodelled figuresByVolatility bondLimitOf shifted farthest
-    spread monitored narrower crossed workedRepo repoOf termOf isDone firstOf every some givenOf flowAt lentFlows
+    spread monitored narrower crossed workedRepo repoOf termOf isDone firstOf every some bondGiven flowAt lentFlows
     wholeFlows validFlow validFlows flowOf flowsOf validNumbers validBond grossOf carryTerm carryDue carryOf bondFigures
     limitsFrom limitsOf isCrossed bondChecks refusedBond acceptedBond bondAnswer
 answered b numbers = bondAnswer b numbers

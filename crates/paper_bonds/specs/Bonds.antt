@@ -7,6 +7,7 @@ use Prim.Native.Nat.{ℕ, _+_, _-_, _*_, _/_, _%_, _≤_, _<_}
 use lib.Dec.{leb, eqb}
 use lib.IntN.{ℤ, pos}
 use lib.ListN.{length, getD}
+use lib.Seq.{sets}
 use Rattle.paper.specs.declared.GivenStatics.{GivenStatics}
 use Rattle.paper.specs.declared.Statics.{Statics}
 use Rattle.paper.specs.declared.BondScale.{BondScale}
@@ -21,8 +22,8 @@ use Rattle.paper.specs.Lists.{pick, three, forLevels, allThree, every, some}
 use Rattle.paper.specs.Numbers.{volatilityMost, ageMost, aheadMost, repoLeast, repoMost, yearInDayBp}
 use Rattle.paper.specs.Numbers.{oneInPerCentHundredths}
 use Rattle.paper.specs.Roundings.{Quotient, Rounded, halfUp, grown}
-use Rattle.paper.specs.Ranges.{within, withinZ, unsigned, partsFrom, isPrice, staticsOf, validGiven, validTentative}
-use Rattle.paper.specs.Ranges.{validTerm, termAt, rateAt, noRate, noLimits}
+use Rattle.paper.specs.Ranges.{within, withinZ, unsigned, partsFrom, isPrice, Static, staticsTable, givenOf, staticsOf}
+use Rattle.paper.specs.Ranges.{validGiven, validTentative, validTerm, termAt, rateAt, noRate, noLimits}
 use Rattle.paper_desk.specs.Rates.{figuresByVolatility}
 use Rattle.paper_desk.specs.Limits.{bond, inward, bondLimitOf, shifted, growing, narrower, bandBefore, bandLimitFor}
 use Rattle.paper_desk.specs.Limits.{limitFor, bandBy, crossed}
@@ -39,41 +40,24 @@ use Rattle.paper_bonds.specs.BondNumbers.{flowDayMost, offBook}
 
 -- ---- the statics
 
--- a bond's statics among the shares': no rule of a bond reads the lot, the weights, shift, w, u or what the evening has
--- of its own, which stand at the least of their ranges
-unfoldable pub givenOf : BondStatics → GivenStatics
-givenOf g =
-    record {
-      lot = 1;
-      h = g .h;
-      q = g .q;
-      aup = 0;
-      adown = 0;
-      wait = g .wait;
-      rh1 = g .rh1;
-      rh2 = g .rh2;
-      rh3 = g .rh3;
-      liq = g .liq;
-      min1 = g .min1;
-      min2 = g .min2;
-      min3 = g .min3;
-      smax = g .smax;
-      xpr = g .xpr;
-      shift = 1;
-      pchmax = g .pchmax;
-      pclmax = g .pclmax;
-      w = 0;
-      u = 1;
-      monitoring = g .monitoring;
-      ewma = g .ewma;
-      uevening = 1;
-      autochange = 0;
-      eveningmax = 0;
-      useexternal = 0;
-    }
+-- the rows of the table of statics that a bond has, in its order, each run of them from its place: h and q; wait to
+-- x_pr; the maxima; Monitoring and isEWMA. No rule of a bond reads the others, which stand at the least of their ranges
+abbrev pub bondNumbers : BondStatics → List ℕ
+bondNumbers g =
+    let ofRates : List ℕ =
+    g .wait ∷ g .rh1 ∷ g .rh2 ∷ g .rh3 ∷ g .liq ∷ g .min1 ∷ g .min2 ∷ g .min3 ∷ g .smax ∷ g .xpr ∷ [] in
+    sets (sets (sets (sets (map (λ (row : Static). row .least) staticsTable)
+    1 (g .h ∷ g .q ∷ []))
+    5 ofRates)
+    16 (g .pchmax ∷ g .pclmax ∷ []))
+    20 (g .monitoring ∷ g .ewma ∷ [])
+
+unfoldable pub bondGiven : BondStatics → GivenStatics
+unfolding givenOf
+bondGiven g = givenOf (map pos (bondNumbers g))
 
 abbrev pub bondStatics : Bond → Statics
-bondStatics b = staticsOf (givenOf (b .statics))
+bondStatics b = staticsOf (bondGiven (b .statics))
 
 -- ---- cash flows
 
@@ -127,7 +111,7 @@ validNumbers b =
 -- with the statics, the terms and REPORate
 unfoldable pub validBond : Bond → Bool
 validBond b =
-    validGiven (givenOf (b .statics))
+    validGiven (bondGiven (b .statics))
     && validNumbers b
     && allThree (λ k. validTerm (termAt (termsOf b) k))
     && withinZ repoLeast repoMost (b .repo)

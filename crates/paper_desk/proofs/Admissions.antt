@@ -23,6 +23,7 @@ use Rattle.paper.specs.Verdicts.{numberOf, isDone, firstOf, NoneApplies, none, 
 use Rattle.paper_desk.specs.Desk.{admitted, stands, place, known, fresh, admit, checksOf, admitChecks, acceptedOf}
 use Rattle.paper_desk.specs.Desk.{step}
 use Rattle.paper.proofs.Logic.{not-true-and-false, and-left, and-right, and-both}
+use Rattle.paper.proofs.StaticsFacts.{statics-facts}
 use Rattle.paper_desk.proofs.Slots.{fresh-empty, stands-written, found-written}
 use Rattle.paper_desk.proofs.Refusals.{none-applies-gives-done, accepted-step, accepted-always}
 
@@ -44,16 +45,13 @@ record Minima (st : Statics) : Type 0 where
   third : leb (st .min3) rateMost ≡ true
 
 minima : (st : Statics) → validStatics st ≡ true → Minima st
-unfolding validStatics
 minima st v =
-    let a : st .min1 ≤ st .min2 = leb-true (st .min1) (st .min2) (search (v, and-left, and-right) depth 40) in
-    let b : st .min2 ≤ st .min3 = leb-true (st .min2) (st .min3) (search (v, and-left, and-right) depth 40) in
-    let c : st .min3 ≤ st .smax = leb-true (st .min3) (st .smax) (search (v, and-left, and-right) depth 40) in
-    let d : st .smax ≤ rateMost = leb-true (st .smax) rateMost (search (v, and-left, and-right) depth 40) in
+    let known = statics-facts st v in
     record {
-      first = le-leb (st .min1) rateMost (omega arith);
-      second = le-leb (st .min2) rateMost (omega arith);
-      third = le-leb (st .min3) rateMost (omega arith);
+      first =
+          le-leb (st .min1) rateMost (omega (arith, known .min1-min2, known .min2-min3, known .min3-smax, known .smax));
+      second = le-leb (st .min2) rateMost (omega (arith, known .min2-min3, known .min3-smax, known .smax));
+      third = le-leb (st .min3) rateMost (omega (arith, known .min3-smax, known .smax));
     }
 
 -- what an admission in range gives is a sound record

@@ -20,6 +20,7 @@ use Rattle.paper_desk.specs.Rates.{meetsRequirement, daysOf, minimumOf, 
 use Rattle.paper_desk.specs.Rates.{volatilePart, liquidPart, AtLeastRequired, HeldLeast, has, volatileNeed}
 use Rattle.paper_desk.specs.Rates.{liquidNeed, rootsWithin, Stepping}
 use Rattle.paper.proofs.Logic.{not-true-and-false, and-left, and-right, and-both, le-or-lt, pick-true, pick-false}
+use Rattle.paper.proofs.StaticsFacts.{StaticsFacts, statics-facts}
 use Rattle.paper.proofs.Search.{Mono, multiple-holds, multiple-least, multiple-within-bound, multiple-is-multiple}
 use Rattle.paper_desk.proofs.Roots.{roots-covered, Floor, root-has-floor, no-room-over-sum, no-room-over-cross}
 
@@ -153,23 +154,25 @@ module _ (rh1 rh liq m tentative v : ℕ) (days : 0 < rh1) where
 -- ---- the rate of a level
 
 pub stepping : (st : Statics) (level : ℕ) → validStatics st ≡ true → Stepping st level
-unfolding validStatics minimumOf
+unfolding minimumOf
 stepping st level v =
     record {
       low = go (eqb level 1) (eqb level 2);
-      multiple =
-          eqb-true (st .smax % st .h) 0 (search (v, and-left, and-right) depth 40);
+      multiple = known .smax-multiple;
       minimum = whole (eqb level 1) (eqb level 2);
     }
   where
+    known : StaticsFacts st
+    known = statics-facts st v
+
     third : st .min3 ≤ st .smax
-    third = leb-true _ _ (search (v, and-left, and-right) depth 40)
+    third = known .min3-smax
 
     second : st .min2 ≤ st .smax
-    second = le-trans (leb-true (st .min2) (st .min3) (search (v, and-left, and-right) depth 40)) third
+    second = le-trans (known .min2-min3) third
 
     first : st .min1 ≤ st .smax
-    first = le-trans (leb-true (st .min1) (st .min2) (search (v, and-left, and-right) depth 40)) second
+    first = le-trans (known .min1-min2) second
 
     go : (x y : Bool) → pick x (st .min1) (pick y (st .min2) (st .min3)) ≤ st .smax
     go true y = first
@@ -177,9 +180,9 @@ stepping st level v =
     go false false = third
 
     whole : (x y : Bool) → pick x (st .min1) (pick y (st .min2) (st .min3)) % st .h ≡ 0
-    whole true y = eqb-true (st .min1 % st .h) 0 (search (v, and-left, and-right) depth 40)
-    whole false true = eqb-true (st .min2 % st .h) 0 (search (v, and-left, and-right) depth 40)
-    whole false false = eqb-true (st .min3 % st .h) 0 (search (v, and-left, and-right) depth 40)
+    whole true y = known .min1-multiple
+    whole false true = known .min2-multiple
+    whole false false = known .min3-multiple
 
 -- a multiple of h is its quotient times h
 pub quotient-times-is : (x h : ℕ) → x % h ≡ 0 → x / h * h ≡ x
@@ -253,8 +256,7 @@ held-by {h} {minimum} {maximum} {v} {P} {Q} to from k =
     either (inr (e, f)) = inr (e, λ c. f (from maximum c))
 
 days-positive : (st : Statics) → validStatics st ≡ true → 0 < st .rh1
-unfolding validStatics
-days-positive st v = leb-true 1 (st .rh1) (search (v, and-left, and-right) depth 40)
+days-positive st v = statics-facts st v .rh1 .least
 
 -- With the model on, the rate of a level is the least multiple of the step that covers the requirement and the minimum,
 -- held at the maximum

@@ -24,6 +24,7 @@ use Rattle.paper_desk.specs.Limits.{narrower, narrowerOf, share, bandLim
 use Rattle.paper_desk.specs.Limits.{LimitStatics}
 use Rattle.paper_desk.specs.Kept.{freshMost, deltaMost}
 use Rattle.paper.proofs.Logic.{not-true-and-false, and-left, and-right, and-both, order-trans}
+use Rattle.paper.proofs.StaticsFacts.{statics-facts}
 use Rattle.paper.proofs.Roundings.{rounded-le, rounded-ge}
 pub use Rattle.paper_desk.proofs.KindLaws.{grid-in-range}
 use Rattle.paper_desk.proofs.KindLaws.{narrower-rounded, monitored-positive}
@@ -31,14 +32,14 @@ use Rattle.paper_desk.proofs.KindLaws.{narrower-rounded, monitored-posi
 -- ---- the statics that a limit is worked out in
 
 pub valid-limit-statics : (st : Statics) → validStatics st ≡ true → LimitStatics st
-unfolding validStatics
 valid-limit-statics st v =
+    let known = statics-facts st v in
     record {
-      divisor-low = leb-true _ _ (search (v, and-left, and-right) depth 40);
-      divisor-high = leb-true _ _ (search (v, and-left, and-right) depth 40);
-      shift-high = leb-true _ _ (search (v, and-left, and-right) depth 40);
-      upper-high = leb-true _ _ (search (v, and-left, and-right) depth 40);
-      lower-high = leb-true _ _ (search (v, and-left, and-right) depth 40);
+      divisor-low = known .xpr .least;
+      divisor-high = known .xpr .most;
+      shift-high = known .shift .most;
+      upper-high = known .pchmax;
+      lower-high = known .pclmax;
     }
 
 -- ---- any limit

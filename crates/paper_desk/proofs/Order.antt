@@ -29,6 +29,7 @@ use Rattle.paper_desk.specs.Limits.{Outward}
 use Rattle.paper_desk.specs.Sequences.{rangeAfter}
 use Rattle.paper_desk.specs.Sides.{limitOn, repoOn, PastZero}
 use Rattle.paper.proofs.Logic.{not-true-and-false, and-left, and-right}
+use Rattle.paper.proofs.StaticsFacts.{statics-facts}
 use Rattle.paper_desk.proofs.KindLaws.{limit-monotone, shifted-positive, band-positive}
 use Rattle.paper_desk.proofs.LimitSizes.{limit-le, limit-ge}
 use Rattle.paper_desk.proofs.Level.{quotient-times-is}
@@ -36,20 +37,14 @@ use Rattle.paper_desk.proofs.Level.{quotient-times-is}
 -- ---- the rates
 
 pub levels-in-order : (st : Statics) (i : ℕ) → validStatics st ≡ true → i < 2 → LevelsInOrder st (i + 1) (i + 1 + 1)
-unfolding validStatics daysOf minimumOf
+unfolding daysOf minimumOf
 levels-in-order st i v l = go i l
   where
     days : (st .rh1 ≤ st .rh2) × (st .rh2 ≤ st .rh3)
-    days = (
-      leb-true _ _ (search (v, and-left, and-right) depth 40),
-      leb-true _ _ (search (v, and-left, and-right) depth 40),
-    )
+    days = (statics-facts st v .rh1-rh2, statics-facts st v .rh2-rh3)
 
     minima : (st .min1 ≤ st .min2) × (st .min2 ≤ st .min3)
-    minima = (
-      leb-true _ _ (search (v, and-left, and-right) depth 40),
-      leb-true _ _ (search (v, and-left, and-right) depth 40),
-    )
+    minima = (statics-facts st v .min1-min2, statics-facts st v .min2-min3)
 
     go : (i : ℕ) → i < 2 → LevelsInOrder st (i + 1) (i + 1 + 1)
     go zero l = record { days = omega (arith, days); minima = omega (arith, minima) }

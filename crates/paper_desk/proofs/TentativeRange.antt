@@ -15,6 +15,7 @@ use Rattle.paper.specs.Ranges.{validStatics, tentativeTop, validTentative}
 use Rattle.paper_desk.specs.Rates.{modelOf, leastStep, tentativeRate, tentativeRateByMove, tentativeRateOf}
 use Rattle.paper_desk.specs.Rates.{tentativeAfter, modelled, unmodelled, figuresOf, moveTooLarge, IsLeastStep}
 use Rattle.paper.proofs.Logic.{and-left, and-right, and-both, and-right-false}
+use Rattle.paper.proofs.StaticsFacts.{statics-facts}
 use Rattle.paper_desk.proofs.Steps.{step-is}
 use Rattle.paper_desk.proofs.Volatility.{valid-weighs}
 use Rattle.paper_desk.proofs.Bounds.{volatility-high, up-is-step, least-step-within-a-step, tentative-held}
@@ -94,12 +95,10 @@ after-in h wait t old v w =
     (tentative-multiple h wait t old (valid-multiple h t v) (valid-multiple h (old .bp) w))
 
 pub statics-step-positive : (st : Statics) → validStatics st ≡ true → 0 < st .h
-unfolding validStatics
-statics-step-positive st v = leb-true 1 (st .h) (search (v, and-left, and-right) depth 40)
+statics-step-positive st v = statics-facts st v .h .least
 
 multiplier-high : (st : Statics) → validStatics st ≡ true → st .q ≤ multiplierMost
-unfolding validStatics
-multiplier-high st v = leb-true (st .q) multiplierMost (search (v, and-left, and-right) depth 40)
+multiplier-high st v = statics-facts st v .q .most
 
 -- with the model on
 pub modelled-stays : (st : Statics) (b m s1 r s : ℕ) (old : Tentative) → validStatics st ≡ true → r ≤ volatilityMost

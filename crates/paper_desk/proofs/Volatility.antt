@@ -17,18 +17,15 @@ use Rattle.paper_desk.specs.Rates.{modelOf, moveFrom, moveOf, weightOf, 
 use Rattle.paper_desk.specs.Rates.{volatilityOf, Weighing}
 use Rattle.paper_desk.specs.Exact.{Choice, byWeight, replaced, exactMove, nextSquare, choiceOf, NearExact}
 use Rattle.paper.proofs.Logic.{and-left, and-right, le-or-lt}
+use Rattle.paper.proofs.StaticsFacts.{statics-facts}
 use Rattle.paper.proofs.Search.{root-covers, root-least, times-covers, times-least}
 use Rattle.paper.proofs.Roundings.{up-rounded, rounded-max}
 use Rattle.paper_desk.proofs.Drift.{weight-near, replace-near}
 
 pub valid-weighs : (st : Statics) → validStatics st ≡ true → Weighing (modelOf st)
-unfolding validStatics
 valid-weighs st v =
-    record {
-      q = leb-true _ _ (search (v, and-left, and-right) depth 40);
-      aup = leb-true _ _ (search (v, and-left, and-right) depth 40);
-      adown = leb-true _ _ (search (v, and-left, and-right) depth 40);
-    }
+    let known = statics-facts st v in
+    record { q = known .q .least; aup = known .aup; adown = known .adown }
 
 -- ---- the move
 

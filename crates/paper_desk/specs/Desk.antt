@@ -31,9 +31,9 @@ use Rattle.paper.specs.declared.Verdict.the-variants.{BandCrossed, NotLive, Not
 use Rattle.paper.specs.declared.Verdict.the-variants.{RowCrossed, NoEveningMove, OpenedTwice, BadFloat}
 use Rattle.paper.specs.Lists.{pick, three, forLevels, allThree, every}
 use Rattle.paper.specs.Numbers.{movesMost}
-use Rattle.paper.specs.Ranges.{gridOf, staticsOf, validAdmission, validDay, validQuote, validSide, sideOf, isLive}
+use Rattle.paper.specs.Ranges.{gridOf, givenOf, staticsOf, validAdmission, validDay, validQuote, validSide, sideOf}
 use Rattle.paper.specs.Ranges.{lastDay, sound, validSlots, noRate, noLimits, notNear, noTerm, termAt, rateAt}
-use Rattle.paper.specs.Ranges.{noExternal}
+use Rattle.paper.specs.Ranges.{isLive, noExternal}
 use Rattle.paper_desk.specs.Evaluation.{dayRows, evaluationOf, hasCrossedRow, evaluationFits, usedPair}
 use Rattle.paper_desk.specs.External.{Told, isBad, keptAfter}
 use Rattle.paper.specs.declared.Figures.{Figures}
@@ -48,39 +48,14 @@ use Rattle.paper.specs.Verdicts.{isDone, Check, firstOf}
 abbrev pub noMoves : Moves
 noMoves = record { upper = 0; lower = 0 }
 
-abbrev pub noStatics : Statics
-noStatics =
-    record {
-      lot = 0;
-      h = 0;
-      q = 0;
-      aup = 0;
-      adown = 0;
-      wait = 0;
-      rh1 = 0;
-      rh2 = 0;
-      rh3 = 0;
-      liq = 0;
-      min1 = 0;
-      min2 = 0;
-      min3 = 0;
-      smax = 0;
-      xpr = 0;
-      shift = 0;
-      pchmax = 0;
-      pclmax = 0;
-      w = 0;
-      u = 0;
-      monitoring = false;
-      ewma = false;
-      uevening = 0;
-      autochange = false;
-      eveningmax = 0;
-      useexternal = false;
-    }
+-- the statics of no numbers: each 0, or no
+unfoldable pub noStatics : Statics
+unfolding givenOf staticsOf
+noStatics = staticsOf (givenOf [])
 
 -- "all figures 0 (flags no, nothing near, admitted only)", in the main session
 unfoldable pub blank : Record
+unfolding noStatics
 blank =
     record {
       id = 0;

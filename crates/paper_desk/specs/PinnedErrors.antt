@@ -8,11 +8,11 @@ use lib.IntN.{ℤ, pos}
 use lib.ListN.{getD}
 use Rattle.paper.specs.declared.Side.the-variants.{Upper}
 use Rattle.paper.specs.declared.Record.{Record}
-use Rattle.paper.specs.Ranges.{staticsOf, noExternal}
+use Rattle.paper.specs.Ranges.{givenOf, staticsOf, noExternal}
 use Rattle.paper_desk.specs.Evaluation.{evaluationOf, dayRows}
 use Rattle.paper_desk.specs.Limits.{bandLimit}
 use Rattle.paper_desk.specs.Desk.{blank, Call, admit, quote, place, run}
-use Rattle.paper.specs.PinnedValues.{_but_, lotAt, sAt, ratesAt, rowBidAt, rowAskAt, volumeAt, closedAt, givenFrom}
+use Rattle.paper.specs.PinnedValues.{_but_, lotAt, sAt, ratesAt, rowBidAt, rowAskAt, volumeAt, closedAt}
 use Rattle.paper.specs.PinnedValues.{admissionFrom, recordFrom, quoteFrom, zNumbers, zRecord}
 use Rattle.paper_desk.specs.PinnedSequence.{numbers, slots, dayAt}
 
@@ -38,10 +38,10 @@ rows11 close =
     (closedAt close but (rowBidAt, pos 1010000)) ++ (closedAt 0 but (rowAskAt, pos 1000000) but (volumeAt, pos 0))
 
 pub straddles : List (List ℕ)
-unfolding left admitAnswer rows11 staticsOf givenFrom quoteFrom
+unfolding left admitAnswer rows11 staticsOf givenOf quoteFrom
 straddles =
     -- a band limit is rounded once: 1,052,493.68 down; with each factor rounded it would be 1,052,494
-    (bandLimit (staticsOf (givenFrom (zNumbers but (lotAt, pos 11)))) 1000013 800 30 (pos 1460) 0 Upper ∷ [])
+    (bandLimit (staticsOf (givenOf (zNumbers but (lotAt, pos 11)))) 1000013 800 30 (pos 1460) 0 Upper ∷ [])
     -- the second day is evaluated as the first was: the two evaluations, s, tentative and age
     ∷ (left [] .p1 .units ∷ left [] .p2 .units ∷ left [] .s ∷ left [] .tentative .bp ∷ left [] .tentative .age ∷ [])
     -- a quote leaves the volatility

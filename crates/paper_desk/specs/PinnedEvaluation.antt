@@ -13,14 +13,14 @@ use Rattle.paper.specs.declared.Side.{Side}
 use Rattle.paper.specs.declared.Side.the-variants.{Upper, Lower}
 use Rattle.paper.specs.declared.Row.{Row}
 use Rattle.paper.specs.declared.Record.{Record}
-use Rattle.paper.specs.Ranges.{staticsOf, noLimits, noExternal}
+use Rattle.paper.specs.Ranges.{givenOf, staticsOf, noLimits, noExternal}
 use Rattle.paper_desk.specs.Evaluation.{rowPrice, rowWeight, evaluationOf, dayRows}
 use Rattle.paper_desk.specs.Rates.{modelOf, moveOf, weightOf, replaces, volatilityOf, tentativeRate}
 use Rattle.paper_desk.specs.Rates.{levelRate, ratedBy}
 use Rattle.paper_desk.specs.Limits.{rangeLimit, bandLimit, deltaOf}
 use Rattle.paper_desk.specs.Desk.{blank, evaluate, admitted, run}
 use Rattle.paper.specs.PinnedValues.{_but_, lotAt, qAt, waitAt, centralAt, pchmaxAt, pclmaxAt, monitoringAt, ewmaAt}
-use Rattle.paper.specs.PinnedValues.{p1At, sAt, ageAt, ratesAt, givenFrom, admissionFrom, recordFrom, dayFrom, closedAt}
+use Rattle.paper.specs.PinnedValues.{p1At, sAt, ageAt, ratesAt, admissionFrom, recordFrom, dayFrom, closedAt}
 use Rattle.paper.specs.PinnedValues.{zNumbers, zRecord, yesNo}
 use Rattle.paper_desk.specs.PinnedSequence.{numbers}
 
@@ -96,8 +96,8 @@ evaluations-are = refl
 
 -- Z's statics with changes
 staticsBut : (numbersOfZ : List ℤ) → Statics
-unfolding staticsOf givenFrom
-staticsBut numbersOfZ = staticsOf (givenFrom numbersOfZ)
+unfolding staticsOf givenOf
+staticsBut numbersOfZ = staticsOf (givenOf numbersOfZ)
 
 -- the tentative rate 600 of Z at an age, and its age, after an evaluation that wants t; n is 6, which no other static is
 tentativeAt : (age t : ℕ) → List ℕ

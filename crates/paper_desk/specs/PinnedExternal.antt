@@ -9,11 +9,11 @@ use lib.Ieee.{Float, binary64, ofBits}
 use lib.IntN.{ℤ, pos}
 use Rattle.paper.specs.declared.Notice.the-variants.{Bid, Ask, Withdrawal}
 use Rattle.paper.specs.declared.Record.{Record}
-use Rattle.paper.specs.Ranges.{staticsOf}
+use Rattle.paper.specs.Ranges.{givenOf, staticsOf}
 use Rattle.paper_desk.specs.Evaluation.{usedPair, evaluationOf, dayRows}
 use Rattle.paper_desk.specs.External.{together, notice}
 use Rattle.paper_desk.specs.Desk.{Call, evaluate, move, read, openEvening, receive}
-use Rattle.paper.specs.PinnedValues.{_but_, monitoringAt, useexternalAt, ageAt, sessionAt, givenFrom, recordFrom}
+use Rattle.paper.specs.PinnedValues.{_but_, monitoringAt, useexternalAt, ageAt, sessionAt, recordFrom}
 use Rattle.paper.specs.PinnedValues.{dayFrom, zNumbers, zRecord}
 use Rattle.paper_desk.specs.PinnedSequence.{numbers}
 use Rattle.paper_desk.specs.PinnedEvaluation.{row}
@@ -171,11 +171,11 @@ other-calls-are = refl
 
 -- the evaluation to a unit after 700, of rows and of a kept pair, with UseEXTERNAL yes and with no
 prices : (bid ask : ℕ) → (rows : List ℤ) → List ℕ
-unfolding numbers staticsOf givenFrom zNumbers
+unfolding numbers staticsOf givenOf zNumbers
 prices bid ask rows =
     map
     (λ (outside : ℕ). evaluationOf 1 700
-    (usedPair (staticsOf (givenFrom (zNumbers but (useexternalAt, pos outside)))) (record { bid = bid; ask = ask }))
+    (usedPair (staticsOf (givenOf (zNumbers but (useexternalAt, pos outside)))) (record { bid = bid; ask = ask }))
     (dayRows rows))
     (1 ∷ 0 ∷ [])
 

@@ -5,71 +5,32 @@ use mathlib.Core.Path.{_≡_, refl}
 use mathlib.Core.List.{List, [], _∷_, map}
 use Prim.Native.Nat.{ℕ, _+_}
 use lib.IntN.{ℤ, pos, negsuc}
-use Rattle.paper.specs.Ranges.{unsigned}
-use Rattle.paper_desk.specs.Gateway.{GatewayStatics, givenOf, gatewayChecks, gatewayAnswer, levelInRange}
+use Rattle.paper.specs.Ranges.{givenOf, unsigned}
+use Rattle.paper_desk.specs.Gateway.{gatewayChecks, gatewayAnswer, levelInRange}
 use Rattle.paper_desk.specs.Gateway.{levelFigure, levelCall, rangeInRange, rangeCall, bandInRange, bandCall}
 use Rattle.paper.specs.PinnedValues.{_but_, signed, plain, lotAt, liqAt, minimaAt, pchmaxAt, pclmaxAt, monitoringAt}
-use Rattle.paper.specs.PinnedValues.{ewmaAt, givenFrom, zNumbers}
+use Rattle.paper.specs.PinnedValues.{ewmaAt, zNumbers}
 use Rattle.paper_desk.specs.PinnedSequence.{numbers}
-
--- ---- "all statics with each, yes 1, no 0"
-
--- the statics handed over from a row of numbers in the order of document 01's table, with W-210's behind
-unfoldable pub gatewayStaticsFrom : (xs : List ℤ) → GatewayStatics
-gatewayStaticsFrom xs =
-    record {
-      lot = signed xs 0;
-      h = signed xs 1;
-      q = signed xs 2;
-      aup = signed xs 3;
-      adown = signed xs 4;
-      wait = signed xs 5;
-      rh1 = signed xs 6;
-      rh2 = signed xs 7;
-      rh3 = signed xs 8;
-      liq = signed xs 9;
-      min1 = signed xs 10;
-      min2 = signed xs 11;
-      min3 = signed xs 12;
-      smax = signed xs 13;
-      xpr = signed xs 14;
-      shift = signed xs 15;
-      pchmax = signed xs 16;
-      pclmax = signed xs 17;
-      w = signed xs 18;
-      u = signed xs 19;
-      monitoring = signed xs 20;
-      ewma = signed xs 21;
-      uevening = signed xs 22;
-      autochange = signed xs 23;
-      eveningmax = signed xs 24;
-      useexternal = signed xs 25;
-    }
-
--- each static is the number in its own place, whatever the numbers are
-pub handed-in-order : (xs : List ℤ) → givenOf (gatewayStaticsFrom xs) ≡ givenFrom xs
-unfolding givenOf gatewayStaticsFrom givenFrom unsigned
-handed-in-order xs = refl
 
 -- ---- the calls, with their own numbers in a row
 
 -- "a level's rate from tentative, m and level"
 level : (statics call : List ℤ) → ℤ
-unfolding numbers givenOf gatewayStaticsFrom gatewayChecks gatewayAnswer levelInRange levelFigure levelCall
+unfolding numbers givenOf gatewayChecks gatewayAnswer levelInRange levelFigure levelCall
 level statics call =
-    levelCall (givenOf (gatewayStaticsFrom statics)) (plain call 0) (plain call 1) (plain call 2)
+    levelCall (givenOf statics) (plain call 0) (plain call 1) (plain call 2)
 
 -- "a fresh range limit from P, rate and side"
 range : (statics call : List ℤ) → ℤ
 unfolding level rangeInRange rangeCall
 range statics call =
-    rangeCall (givenOf (gatewayStaticsFrom statics)) (plain call 0) (plain call 1) (plain call 2)
+    rangeCall (givenOf statics) (plain call 0) (plain call 1) (plain call 2)
 
 -- "a band limit from P, S_1, k, that side's repo rate, c and side"
 band : (statics call : List ℤ) → ℤ
 unfolding level bandInRange bandCall
 band statics call =
-    bandCall (givenOf (gatewayStaticsFrom statics)) (plain call 0) (plain call 1) (plain call 2)
+    bandCall (givenOf statics) (plain call 0) (plain call 1) (plain call 2)
     (signed call 3) (plain call 4) (plain call 5)
 
 -- the places of a band's numbers

@@ -7,18 +7,18 @@ use Prim.Native.Nat.{ℕ, _+_}
 use lib.IntN.{ℤ, pos}
 use Rattle.paper.specs.declared.Rate.{Rate}
 use Rattle.paper.specs.declared.Statics.{Statics}
-use Rattle.paper.specs.Ranges.{staticsOf}
+use Rattle.paper.specs.Ranges.{givenOf, staticsOf}
 use Rattle.paper.specs.declared.Figures.{Figures}
 use Rattle.paper_desk.specs.Rates.{modelled}
-use Rattle.paper.specs.PinnedValues.{_but_, liqAt, minimaAt, givenFrom, zNumbers}
+use Rattle.paper.specs.PinnedValues.{_but_, liqAt, minimaAt, zNumbers}
 use Rattle.paper_desk.specs.PinnedSequence.{numbers}
 
 -- new s, and the tentative rate that a rate of 0 becomes, which is t where t is at least a step; after b holidays, with
 -- the last rate S_1, the move r and the old s, by Z's statics with changes
 carriedBy : (numbersOfZ : List ℤ) → (b s1 r s : ℕ) → List ℕ
-unfolding numbers staticsOf givenFrom zNumbers
+unfolding numbers staticsOf givenOf zNumbers
 carriedBy numbersOfZ b s1 r s =
-    let st : Statics = staticsOf (givenFrom numbersOfZ) in
+    let st : Statics = staticsOf (givenOf numbersOfZ) in
     let f : Figures = modelled st b 0 s1 r s (record { bp = 0; age = 0 }) in
     f .s ∷ f .tentative .bp ∷ []
 
@@ -63,7 +63,7 @@ replacements-are = refl
 pub afterwards : (b : ℕ) → List ℕ
 unfolding carriedBy
 afterwards b =
-    let st : Statics = staticsOf (givenFrom zNumbers) in
+    let st : Statics = staticsOf (givenOf zNumbers) in
     let won : Figures = modelled st 0 0 99 10000 1109 (record { bp = 0; age = 0 }) in
     let f : Figures = modelled st b 0 99 0 (won .s) (won .tentative) in
     f .s ∷ f .tentative .bp ∷ []
@@ -87,7 +87,7 @@ lowMost =
 ratedBy : (r : ℕ) → List ℕ
 unfolding carriedBy lowMost
 ratedBy r =
-    let f : Figures = modelled (staticsOf (givenFrom lowMost)) 0 0 0 r 0 (record { bp = 0; age = 0 }) in
+    let f : Figures = modelled (staticsOf (givenOf lowMost)) 0 0 0 r 0 (record { bp = 0; age = 0 }) in
     f .tentative .bp ∷ map (λ (x : Rate). x .bp) (f .rates)
 
 -- t is a step below S_max, at it, and a step above

@@ -142,7 +142,7 @@ pub kinds-hold : (kind : ℕ) → every holdsRange (placesOf kind) ≡ true
 unfolding every holdsRange fitsWidth filled staticsFields ratesFields bandsFields moveFields
 kinds-hold kind = of-every-kind (λ fields. every holdsRange fields ≡ true) refl refl refl refl refl kind
 
--- every kind has 27 places
+-- every kind has as many places as a message
 pub kinds-have-places : (kind : ℕ) → length (placesOf kind) ≡ places
 unfolding filled staticsFields ratesFields bandsFields moveFields
 kinds-have-places kind = of-every-kind (λ fields. length fields ≡ places) refl refl refl refl refl kind

@@ -1,13 +1,14 @@
 -- W-212: what a call is broadcast as, as bytes: "Kinds: 1 statics, 2 rates and ranges, 3 bands, 4 move."
 use mathlib.Core.List.{List, [], _∷_, _++_}
-use Prim.Native.Nat.{ℕ}
+use Prim.Native.Nat.{ℕ, _+_, _-_, _*_}
 use Rattle.paper.specs.declared.Answer.{Answer}
 use Rattle.paper.specs.Lists.{pick}
-use Rattle.paper.specs.Ranges.{staticsOf, sideOf}
+use Rattle.paper.specs.Ranges.{flagsCount, staticsOf, sideOf}
 use Rattle.paper.specs.Verdicts.{isDone}
 use Rattle.paper_desk.specs.Desk.{Call, admit, evaluate, quote, move, read, openEvening, receive}
 use Rattle.paper_messages.specs.declared.Message.{Message}
-use Rattle.paper_messages.specs.Messages.{encode, valid}
+use Rattle.paper_messages.specs.Fields.{places}
+use Rattle.paper_messages.specs.Messages.{lengthWidth, kindWidth, encode, valid}
 use Rattle.paper_messages.specs.Records.{staticsMessage, ratesMessage, bandsMessage, moveMessage}
 
 -- the messages of an accepted call: kind 1 of an admission, 2 and 3 of an evaluation, 4 of a move, none of the others
@@ -24,9 +25,10 @@ messagesOf (receive id x) a = []
 unfoldable pub sent : Message → List ℕ
 sent m = pick (valid m) (encode m) []
 
--- no message of a known kind is longer
+-- no message of a known kind is longer than that of the statics: its length, its kind, an id and other numbers of four
+-- bytes, and flags of one
 abbrev pub messageMost : ℕ
-messageMost = 102
+messageMost = lengthWidth + (kindWidth + (4 * (places - flagsCount) + flagsCount))
 
 unfoldable pub allSent : List Message → List ℕ
 allSent [] = []

@@ -1,16 +1,14 @@
 -- W-212: the fields of each kind of message, in the order, at the widths and with the ranges that docs/BROADCAST.md
 -- lists; "prices, limits and volatility eight bytes, ids, rates and other numbers four, yes/no one (0 or 1)".
-use mathlib.Core.List.{List, [], _∷_, _++_}
+use mathlib.Core.List.{List, [], _∷_, _++_, map}
 use Prim.Native.Nat.{ℕ, _+_, _-_}
 use lib.Dec.{eqb}
 use lib.IntN.{ℤ, pos}
 use lib.ListN.{length, replicate}
 use Rattle.paper.specs.Lists.{pick}
-use Rattle.paper.specs.Numbers.{priceLeast, priceMost, rateMost, volatilityMost, tentativeMost, lotMost, stepMost}
-use Rattle.paper.specs.Numbers.{multiplierLeast, multiplierMost, weightMost, waitMost, firstDaysMost, daysMost}
-use Rattle.paper.specs.Numbers.{liquidityMost, divisorLeast, divisorMost, shiftMost, nearnessMost, secondsMost}
-use Rattle.paper.specs.Numbers.{eveningMovesMost, idMost, dayMost, ageMost, limitMost, movesMost, termDaysMost}
-use Rattle.paper.specs.Numbers.{repoLeast, repoMost}
+use Rattle.paper.specs.Numbers.{priceLeast, priceMost, rateMost, volatilityMost, tentativeMost, stepMost, idMost}
+use Rattle.paper.specs.Numbers.{dayMost, ageMost, limitMost, movesMost, termDaysMost, repoLeast, repoMost}
+use Rattle.paper.specs.Ranges.{Static, staticsTable, staticsCount}
 use Rattle.paper_messages.specs.declared.Field.{Field}
 
 -- "Kinds: 1 statics, 2 rates and ranges, 3 bands, 4 move."
@@ -54,12 +52,6 @@ rateField = fourBytes (pos 0) (pos rateMost)
 abbrev pub limitField : Field
 limitField = eightBytes (pos 0) (pos limitMost)
 
-abbrev pub daysField : Field
-daysField = fourBytes (pos 1) (pos daysMost)
-
-abbrev pub secondsField : Field
-secondsField = fourBytes (pos 1) (pos secondsMost)
-
 -- the greatest tentative rate: the least multiple of h at or above 100,000 is below 100,000 + h, for every h up to
 -- 1,000, so at most 100,999
 abbrev pub tentativeLast : ℕ
@@ -67,36 +59,12 @@ tentativeLast = tentativeMost + stepMost - 1
 
 -- ---- the kinds
 
+-- a static: its row of the table of statics, at its width
+abbrev pub staticField : Static → Field
+staticField row = pick (row .isFlag) yesNo (fourBytes (pos (row .least)) (pos (row .most)))
+
 unfoldable pub staticsFields : List Field
-staticsFields =
-    idField  -- ID
-    ∷ fourBytes (pos 1) (pos lotMost)  -- LOT
-    ∷ fourBytes (pos 1) (pos stepMost)  -- H
-    ∷ fourBytes (pos multiplierLeast) (pos multiplierMost)  -- Q
-    ∷ fourBytes (pos 0) (pos weightMost)  -- A_UP
-    ∷ fourBytes (pos 0) (pos weightMost)  -- A_DOWN
-    ∷ fourBytes (pos 1) (pos waitMost)  -- WAIT
-    ∷ fourBytes (pos 1) (pos firstDaysMost)  -- RH1
-    ∷ daysField  -- RH2
-    ∷ daysField  -- RH3
-    ∷ fourBytes (pos 0) (pos liquidityMost)  -- LIQ
-    ∷ rateField  -- MIN1
-    ∷ rateField  -- MIN2
-    ∷ rateField  -- MIN3
-    ∷ rateField  -- SMAX
-    ∷ fourBytes (pos divisorLeast) (pos divisorMost)  -- XPR
-    ∷ fourBytes (pos 1) (pos shiftMost)  -- SHIFT
-    ∷ rateField  -- PCHMAX
-    ∷ rateField  -- PCLMAX
-    ∷ fourBytes (pos 0) (pos nearnessMost)  -- W
-    ∷ secondsField  -- U
-    ∷ yesNo  -- MONITORING
-    ∷ yesNo  -- ISEWMA
-    ∷ secondsField  -- UEVENING
-    ∷ yesNo  -- AUTOCHANGE
-    ∷ fourBytes (pos 0) (pos eveningMovesMost)  -- EVENINGMAX
-    ∷ yesNo  -- USEEXTERNAL
-    ∷ []
+staticsFields = idField ∷ map staticField staticsTable
 
 unfoldable pub ratesFields : List Field
 ratesFields =
@@ -155,9 +123,9 @@ fieldsOf kind =
 
 -- ---- the places of a message
 
--- a message has as many places as the kind with most fields
+-- a message has as many places as the kind with most fields: an id and the statics
 abbrev pub places : ℕ
-places = 27
+places = staticsCount + 1
 
 -- a list, filled up to that many
 unfoldable pub filled : {A : Type 0} → A → List A → List A

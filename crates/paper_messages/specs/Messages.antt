@@ -7,13 +7,12 @@ use mathlib.Core.List.{List, [], _∷_, _++_}
 use Prim.Native.Nat.{ℕ, _+_, _≤_}
 use lib.Dec.{leb, ltb, eqb}
 use lib.IntN.{ℤ, pos}
-use lib.ListN.{length, take, drop, getD, replicate}
-use Rattle.paper.specs.declared.GivenStatics.{GivenStatics}
+use lib.ListN.{length, take, drop, replicate}
 use Rattle.paper.specs.declared.Verdict.{Verdict}
 use Rattle.paper.specs.declared.Verdict.the-variants.{Done, CutShort, WrongLength, FieldOutOfRange, NoRoom}
 use Rattle.paper.specs.Lists.{pick}
 use Rattle.paper.specs.Numbers.{idMost}
-use Rattle.paper.specs.Ranges.{within, withinZ, unsigned, validGiven}
+use Rattle.paper.specs.Ranges.{within, withinZ, unsignedAt, givenOf, validGiven}
 use Rattle.paper.specs.Verdicts.{Check, firstOf, isDone}
 use Rattle.paper_messages.specs.declared.Field.{Field}
 use Rattle.paper_messages.specs.declared.Message.{Message}
@@ -68,45 +67,10 @@ unfoldable pub holdsRange : Field → Bool
 holdsRange f =
     leb (f .width) widthMost && fitsWidth (f .width) (f .low) && fitsWidth (f .width) (f .high)
 
--- the number of a place of a message; one below zero is out of every range of the statics
-abbrev pub numberAt : (values : List ℤ) → (place : ℕ) → ℕ
-numberAt values place = unsigned (getD values place (pos 0))
-
--- the statics that the values of a message of kind 1 give, as an admission gives them
-unfoldable pub givenIn : (values : List ℤ) → GivenStatics
-givenIn values =
-    record {
-      lot = numberAt values 1;
-      h = numberAt values 2;
-      q = numberAt values 3;
-      aup = numberAt values 4;
-      adown = numberAt values 5;
-      wait = numberAt values 6;
-      rh1 = numberAt values 7;
-      rh2 = numberAt values 8;
-      rh3 = numberAt values 9;
-      liq = numberAt values 10;
-      min1 = numberAt values 11;
-      min2 = numberAt values 12;
-      min3 = numberAt values 13;
-      smax = numberAt values 14;
-      xpr = numberAt values 15;
-      shift = numberAt values 16;
-      pchmax = numberAt values 17;
-      pclmax = numberAt values 18;
-      w = numberAt values 19;
-      u = numberAt values 20;
-      monitoring = numberAt values 21;
-      ewma = numberAt values 22;
-      uevening = numberAt values 23;
-      autochange = numberAt values 24;
-      eveningmax = numberAt values 25;
-      useexternal = numberAt values 26;
-    }
-
--- kind 1 is judged as an admission judges id and statics: orders and multiples of h too
+-- kind 1, an id and then the statics in the order of their table, is judged as an admission judges them: orders and
+-- multiples of h too
 unfoldable pub asAdmission : (values : List ℤ) → Bool
-asAdmission values = within 1 idMost (numberAt values 0) && validGiven (givenIn values)
+asAdmission values = within 1 idMost (unsignedAt values 0) && validGiven (givenOf (drop 1 values))
 
 -- a known kind, every value in its range, zeros past the last field, and the rule of kind 1
 unfoldable pub valid : Message → Bool

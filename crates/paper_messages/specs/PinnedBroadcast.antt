@@ -13,7 +13,7 @@ use Rattle.paper.specs.declared.Notice.the-variants.{Withdrawal}
 use Rattle.paper.specs.declared.Verdict.the-variants.{Done, AlreadyAdmitted, OutOfRange, MovesUsedUp}
 use Rattle.paper.specs.Lists.{three}
 use Rattle.paper.specs.PinnedValues.{idAt, admissionFrom, recordFrom}
-use Rattle.paper.specs.Ranges.{lastDay, noTerm, sideOf, staticsOf, unsigned, validGiven, validStatics}
+use Rattle.paper.specs.Ranges.{lastDay, noTerm, sideOf, givenOf, staticsOf, unsigned, validGiven, validStatics}
 use Rattle.paper.specs.Verdicts.{isDone}
 use Rattle.paper_desk.specs.Desk.{Call, admit, evaluate, quote, move, read, openEvening, receive, saying, showing}
 use Rattle.paper_desk.specs.External.{notice}
@@ -22,9 +22,9 @@ use Rattle.paper_messages.specs.Bytes.{bytesOf, complement}
 use Rattle.paper_messages.specs.Fields.{staticsFields, ratesFields, bandsFields, moveFields, fieldsOf, filled}
 use Rattle.paper_messages.specs.Fields.{moveMessageKind}
 use Rattle.paper_messages.specs.Fields.{placesOf}
-use Rattle.paper_messages.specs.Messages.{bodyOf, total, lengthOf, encode, isKnownKind, inRanges, givenIn}
+use Rattle.paper_messages.specs.Messages.{bodyOf, total, lengthOf, encode, isKnownKind, inRanges}
 use Rattle.paper_messages.specs.Messages.{asAdmission, lengthWidth, valid}
-use Rattle.paper_messages.specs.PinnedMessages.{staticsBytes, ratesBytes, bandsBytes}
+use Rattle.paper_messages.specs.PinnedMessages.{staticsSent, staticsBytes, ratesBytes, bandsBytes}
 use Rattle.paper_messages.specs.PinnedRecords.{sampleNumbers, sample}
 use Rattle.paper_messages.specs.Records.{valueOf, message, staticsMessage, ratesMessage, bandsMessage}
 use Rattle.paper_messages.specs.Records.{moveMessage}
@@ -34,16 +34,12 @@ use Rattle.paper_messages.specs.Broadcast.{messagesOf, sent, messageMost
 
 -- the admission that kind 1 of PinnedMessages tells
 unfoldable pub admission : Admission
-unfolding admissionFrom
+unfolding admissionFrom staticsSent
 admission =
     admissionFrom
-    -- the statics
-    (pos 10 ∷ pos 100 ∷ pos 300 ∷ pos 500 ∷ pos 100 ∷ pos 5 ∷ pos 1 ∷ pos 2 ∷ pos 2 ∷ pos 50 ∷ pos 800 ∷ pos 1200
-    ∷ pos 1500 ∷ pos 10000 ∷ pos 200 ∷ pos 20 ∷ pos 1000 ∷ pos 900 ∷ pos 500 ∷ pos 300 ∷ pos 1 ∷ pos 1 ∷ pos 60 ∷ pos 0
-    ∷ pos 3 ∷ pos 1
+    (staticsSent
     -- id, day, p1, p2, s, tentative
-    ∷ pos 7 ∷ pos 3 ∷ pos 1000000 ∷ pos 1000000 ∷ pos 20000 ∷ pos 600
-    ∷ [])
+    ++ (pos 7 ∷ pos 3 ∷ pos 1000000 ∷ pos 1000000 ∷ pos 20000 ∷ pos 600 ∷ []))
 
 unfoldable pub evaluation : Call
 evaluation = evaluate 7 (record { day = 4; b = 0; m = 0; terms = three (λ k. noTerm) }) []
@@ -110,7 +106,7 @@ told =
 unfoldable pub bytesSent : Call → Answer → List ℕ
 unfolding broadcastOf allSent sent messagesOf staticsMessage ratesMessage bandsMessage moveMessage message valueOf
     staticsOf sideOf lastDay isDone encode bodyOf bytesOf complement lengthOf total placesOf fieldsOf filled
-    staticsFields ratesFields bandsFields moveFields isKnownKind valid inRanges asAdmission givenIn validGiven
+    staticsFields ratesFields bandsFields moveFields isKnownKind valid inRanges asAdmission givenOf validGiven
     validStatics unsigned admission staticsBytes ratesBytes bandsBytes
 bytesSent c a = broadcastOf c a
 

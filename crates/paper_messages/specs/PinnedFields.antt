@@ -1,5 +1,5 @@
--- W-212: the range of each field of each kind, as docs/BROADCAST.md lists it, both sides of each end; which static
--- stands at which place of kind 1; and what is heard of a message that is refused, or of an unknown kind.
+-- W-212: the range of each field of each kind, as docs/BROADCAST.md lists it, both sides of each end; and what is heard
+-- of a message that is refused, or of an unknown kind.
 use mathlib.Core.Path.{_≡_, refl}
 use mathlib.Core.Bool.{Bool, false}
 use mathlib.Core.List.{List, [], _∷_, _++_, map}
@@ -8,13 +8,12 @@ use lib.IntN.{pos, negsuc}
 use lib.ListN.{length, replicate}
 use Rattle.paper.specs.declared.Verdict.the-variants.{Done, CutShort}
 use Rattle.paper.specs.PinnedRanges.{Ranged, range, valuesOf, straddles, atTheEndsAlone}
-use Rattle.paper.specs.Ranges.{unsigned}
 use Rattle.paper.specs.Verdicts.{isDone, firstOf}
 use Rattle.paper_messages.specs.declared.Field.{Field}
 use Rattle.paper_messages.specs.Bytes.{spelled, widthMost}
 use Rattle.paper_messages.specs.Fields.{eightBytes, staticsFields, ratesFields, bandsFields, moveFields}
 use Rattle.paper_messages.specs.Fields.{fieldsOf}
-use Rattle.paper_messages.specs.Messages.{isKnownKind, inRanges, givenIn, readChecks, refusedHeard, acceptedHeard}
+use Rattle.paper_messages.specs.Messages.{isKnownKind, inRanges, readChecks, refusedHeard, acceptedHeard}
 use Rattle.paper_messages.specs.Messages.{heardAt}
 
 -- ---- ranges
@@ -110,40 +109,6 @@ pub counts-are : map (λ (kind : ℕ). length (fieldsOf kind)) (0 ∷ 1 ∷ 2 �
     ≡ 0 ∷ 27 ∷ 15 ∷ 17 ∷ 9 ∷ 0 ∷ []
 unfolding fieldsOf staticsFields ratesFields bandsFields moveFields
 counts-are = refl
-
--- of values that count up from 0, so that each is its own place
-pub given-are : givenIn (map pos (0 ∷ 1 ∷ 2 ∷ 3 ∷ 4 ∷ 5 ∷ 6 ∷ 7 ∷ 8 ∷ 9 ∷ 10 ∷ 11 ∷ 12 ∷ 13 ∷ 14 ∷ 15 ∷ 16 ∷ 17 ∷ 18
-    ∷ 19 ∷ 20 ∷ 21 ∷ 22 ∷ 23 ∷ 24 ∷ 25 ∷ 26 ∷ []))
-    ≡ record {
-      lot = 1;
-      h = 2;
-      q = 3;
-      aup = 4;
-      adown = 5;
-      wait = 6;
-      rh1 = 7;
-      rh2 = 8;
-      rh3 = 9;
-      liq = 10;
-      min1 = 11;
-      min2 = 12;
-      min3 = 13;
-      smax = 14;
-      xpr = 15;
-      shift = 16;
-      pchmax = 17;
-      pclmax = 18;
-      w = 19;
-      u = 20;
-      monitoring = 21;
-      ewma = 22;
-      uevening = 23;
-      autochange = 24;
-      eveningmax = 25;
-      useexternal = 26;
-    }
-unfolding givenIn unsigned
-given-are = refl
 
 -- ---- nothing is heard
 

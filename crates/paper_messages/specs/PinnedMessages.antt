@@ -6,7 +6,7 @@ use Prim.Native.Nat.{ℕ}
 use lib.IntN.{ℤ, pos, negsuc}
 use lib.ListN.{set, take, replicate}
 use lib.Seq.{sets}
-use Rattle.paper.specs.Ranges.{unsigned, validStatics, staticsOf, validGiven}
+use Rattle.paper.specs.Ranges.{unsigned, givenOf, flagOf, validStatics, staticsOf, validGiven}
 use Rattle.paper.specs.Verdicts.{numberOf, isDone, firstOf}
 use Rattle.paper_messages.specs.declared.Message.{Message}
 use Rattle.paper_messages.specs.declared.Heard.{Heard}
@@ -14,20 +14,24 @@ use Rattle.paper_messages.specs.Bytes.{bytesOf, spelled, complement, sig
 use Rattle.paper_messages.specs.Fields.{staticsMessageKind, ratesMessageKind, bandsMessageKind, moveMessageKind}
 use Rattle.paper_messages.specs.Fields.{staticsFields, ratesFields}
 use Rattle.paper_messages.specs.Fields.{bandsFields, moveFields, yesNo, fieldsOf, filled, placesOf}
-use Rattle.paper_messages.specs.Messages.{bodyOf, total, lengthOf, encode, isKnownKind, inRanges, givenIn}
+use Rattle.paper_messages.specs.Messages.{bodyOf, total, lengthOf, encode, isKnownKind, inRanges}
 use Rattle.paper_messages.specs.Messages.{asAdmission, valid, writeChecks, wroteOf, written, valuesAt, messageAt}
 use Rattle.paper_messages.specs.Messages.{readChecks, refusedHeard, acceptedHeard, heardAt}
-use Rattle.paper_messages.specs.Records.{flagOf, message}
+use Rattle.paper_messages.specs.Records.{message}
 
 -- ---- a message of each kind
 
-unfoldable pub staticsTold : Message
-staticsTold =
-    message staticsMessageKind
-    (pos 7 ∷ pos 10 ∷ pos 100 ∷ pos 300 ∷ pos 500 ∷ pos 100 ∷ pos 5 ∷ pos 1 ∷ pos 2
+-- the statics of kind 1
+unfoldable pub staticsSent : List ℤ
+staticsSent =
+    pos 10 ∷ pos 100 ∷ pos 300 ∷ pos 500 ∷ pos 100 ∷ pos 5 ∷ pos 1 ∷ pos 2
     ∷ pos 2 ∷ pos 50 ∷ pos 800 ∷ pos 1200 ∷ pos 1500 ∷ pos 10000 ∷ pos 200 ∷ pos 20 ∷ pos 1000
     ∷ pos 900 ∷ pos 500 ∷ pos 300 ∷ pos 1 ∷ pos 1 ∷ pos 60 ∷ pos 0 ∷ pos 3 ∷ pos 1
-    ∷ [])
+    ∷ []
+
+unfoldable pub staticsTold : Message
+unfolding staticsSent
+staticsTold = message staticsMessageKind (pos 7 ∷ staticsSent)
 
 unfoldable pub staticsBytes : List ℕ
 staticsBytes =
@@ -138,7 +142,7 @@ pub lengths-are : lengths
     ∷ (22 ∷ 0 ∷ 0 ∷ 0 ∷ 0 ∷ [])
     ∷ []
 unfolding lengths heard zeros heardAt acceptedHeard refusedHeard readChecks firstOf isDone isKnownKind valid inRanges
-    asAdmission givenIn validGiven validStatics staticsOf unsigned messageAt valuesAt spelled signedOf lengthOf total
+    asAdmission givenOf validGiven validStatics staticsOf unsigned messageAt valuesAt spelled signedOf lengthOf total
     placesOf fieldsOf filled staticsFields ratesFields bandsFields moveFields
 lengths-are = refl
 
@@ -176,7 +180,7 @@ pub kinds-are : kinds
     ∷ (22 ∷ 0 ∷ 0 ∷ 0 ∷ 0 ∷ [])
     ∷ []
 unfolding kinds heard moveBytes zeros heardAt acceptedHeard refusedHeard readChecks firstOf isDone isKnownKind valid
-    inRanges asAdmission givenIn validGiven validStatics staticsOf unsigned messageAt valuesAt spelled signedOf
+    inRanges asAdmission givenOf validGiven validStatics staticsOf unsigned messageAt valuesAt spelled signedOf
     lengthOf total placesOf fieldsOf filled staticsFields ratesFields bandsFields moveFields
 kinds-are = refl
 
@@ -227,7 +231,7 @@ pub fields-are : fields
     ≡ 23 ∷ 0 ∷ 23 ∷ 0 ∷ 23 ∷ 0 ∷ 23 ∷ 23 ∷ 23 ∷ 23 ∷ 0 ∷ 23 ∷ 0 ∷ 23 ∷ 0 ∷ 23 ∷ 0 ∷ 23 ∷ 0 ∷ 23
     ∷ 23 ∷ 23 ∷ 23 ∷ 23 ∷ 0 ∷ 0 ∷ 23 ∷ 23 ∷ 23 ∷ 23 ∷ 23 ∷ 0 ∷ 23 ∷ 23 ∷ 23 ∷ []
 unfolding fields judged staticsBytes ratesBytes bandsBytes moveBytes zeros heardAt acceptedHeard refusedHeard
-    readChecks firstOf isDone isKnownKind valid inRanges asAdmission givenIn validGiven validStatics staticsOf unsigned
+    readChecks firstOf isDone isKnownKind valid inRanges asAdmission givenOf validGiven validStatics staticsOf unsigned
     messageAt valuesAt spelled signedOf lengthOf total placesOf fieldsOf filled staticsFields ratesFields bandsFields
     moveFields
 fields-are = refl
@@ -246,7 +250,7 @@ pub heard-back : (heardAt staticsBytes 0 .message ≡ staticsTold) × (heardAt r
     × (heardAt bandsBytes 0 .message ≡ bandsTold)
     × (heardAt moveBytes 0 .message ≡ moveTold)
 unfolding staticsBytes ratesBytes bandsBytes moveBytes staticsTold ratesTold bandsTold moveTold message zeros heardAt
-    acceptedHeard refusedHeard readChecks firstOf isDone isKnownKind valid inRanges asAdmission givenIn
+    acceptedHeard refusedHeard readChecks firstOf isDone isKnownKind valid inRanges asAdmission givenOf
     validGiven validStatics staticsOf unsigned messageAt valuesAt spelled signedOf lengthOf total placesOf fieldsOf
     filled staticsFields ratesFields bandsFields moveFields
 heard-back = (refl, refl, refl, refl)
@@ -272,7 +276,7 @@ writes =
 
 pub writes-are : writes ≡ (0 ∷ 66 ∷ []) ∷ (24 ∷ 0 ∷ []) ∷ (23 ∷ 0 ∷ []) ∷ (23 ∷ 0 ∷ []) ∷ (23 ∷ 0 ∷ []) ∷ []
 unfolding writes answered pastLast moveTold message wroteOf writeChecks encode bodyOf bytesOf complement zeros heardAt
-    acceptedHeard refusedHeard readChecks firstOf isDone isKnownKind valid inRanges asAdmission givenIn
+    acceptedHeard refusedHeard readChecks firstOf isDone isKnownKind valid inRanges asAdmission givenOf
     validGiven validStatics staticsOf unsigned messageAt valuesAt spelled signedOf lengthOf total placesOf fieldsOf
     filled staticsFields ratesFields bandsFields moveFields
 writes-are = refl
@@ -282,7 +286,7 @@ pub written-are : (written (replicate 68 9) moveTold ≡ moveBytes ++ 9 ∷ 9 �
     × (written (replicate 65 9) moveTold ≡ replicate 65 9)
     × (written (replicate 68 9) pastLast ≡ replicate 68 9)
 unfolding written pastLast moveTold moveBytes message wroteOf writeChecks encode bodyOf bytesOf complement zeros
-    heardAt acceptedHeard refusedHeard readChecks firstOf isDone isKnownKind valid inRanges asAdmission givenIn
+    heardAt acceptedHeard refusedHeard readChecks firstOf isDone isKnownKind valid inRanges asAdmission givenOf
     validGiven validStatics staticsOf unsigned messageAt valuesAt spelled signedOf lengthOf total placesOf fieldsOf
     filled staticsFields ratesFields bandsFields moveFields
 written-are = (refl, refl, refl)

@@ -1,26 +1,28 @@
--- W-212: the messages of one record, field by field, every figure another number, so that no two fields can be
--- exchanged.
+-- W-212: the messages of one record, field by field, every figure but the statics another number, so that no two fields
+-- can be exchanged.
 use mathlib.Core.Path.{_≡_, refl}
-use mathlib.Core.List.{List, [], _∷_}
+use mathlib.Core.List.{List, [], _∷_, _++_, map}
 use lib.IntN.{ℤ, pos, negsuc}
-use Rattle.paper.specs.declared.Statics.{Statics}
 use Rattle.paper.specs.declared.Record.{Record}
 use Rattle.paper.specs.declared.Side.the-variants.{Upper, Lower}
-use Rattle.paper.specs.PinnedValues.{givenFrom, recordFrom}
-use Rattle.paper.specs.Ranges.{lastDay, staticsOf}
+use Rattle.paper.specs.PinnedValues.{recordFrom}
+use Rattle.paper.specs.Ranges.{Static, staticsTable, givenOf, staticsOf, lastDay}
 use Rattle.paper_messages.specs.Fields.{staticsMessageKind, ratesMessageKind, bandsMessageKind, moveMessageKind}
 use Rattle.paper_messages.specs.Fields.{filled}
 use Rattle.paper_messages.specs.Records.{valueOf, message, staticsMessage, ratesMessage, bandsMessage}
 use Rattle.paper_messages.specs.Records.{moveMessage}
 
+-- each static at the most of its range
+unfoldable pub mostStatics : List ℤ
+mostStatics = map (λ (row : Static). pos (row .most)) staticsTable
+
 -- at the places of PinnedValues
 unfoldable pub sampleNumbers : List ℤ
+unfolding mostStatics
 sampleNumbers =
-    -- the statics; yes 1, no 0
-    pos 1 ∷ pos 2 ∷ pos 3 ∷ pos 4 ∷ pos 5 ∷ pos 6 ∷ pos 7 ∷ pos 8 ∷ pos 9 ∷ pos 10 ∷ pos 11 ∷ pos 12 ∷ pos 13 ∷ pos 14
-    ∷ pos 15 ∷ pos 16 ∷ pos 17 ∷ pos 18 ∷ pos 19 ∷ pos 20 ∷ pos 1 ∷ pos 0 ∷ pos 23 ∷ pos 1 ∷ pos 25 ∷ pos 0
+    mostStatics
     -- id, day, p1, p2, s, tentative, that it is live, age
-    ∷ pos 7 ∷ pos 31 ∷ pos 32 ∷ pos 33 ∷ pos 34 ∷ pos 35 ∷ pos 1 ∷ pos 36
+    ++ pos 7 ∷ pos 31 ∷ pos 32 ∷ pos 33 ∷ pos 34 ∷ pos 35 ∷ pos 1 ∷ pos 36
     -- rates, ranges
     ∷ pos 41 ∷ pos 42 ∷ pos 43
     ∷ pos 51 ∷ pos 61 ∷ pos 52 ∷ pos 62 ∷ pos 53 ∷ pos 63
@@ -30,20 +32,14 @@ sampleNumbers =
     -- moves up and down
     ∷ pos 3 ∷ pos 4 ∷ []
 
-unfoldable pub sampleStatics : Statics
-unfolding sampleNumbers givenFrom staticsOf
-sampleStatics = staticsOf (givenFrom sampleNumbers)
-
 unfoldable pub sample : Record
 unfolding sampleNumbers recordFrom
 sample = recordFrom sampleNumbers
 
-pub statics-message-is : staticsMessage 26 sampleStatics
-    ≡ message staticsMessageKind
-    (pos 26 ∷ pos 1 ∷ pos 2 ∷ pos 3 ∷ pos 4 ∷ pos 5 ∷ pos 6 ∷ pos 7 ∷ pos 8 ∷ pos 9 ∷ pos 10 ∷ pos 11 ∷ pos 12 ∷ pos 13
-    ∷ pos 14 ∷ pos 15 ∷ pos 16 ∷ pos 17 ∷ pos 18 ∷ pos 19 ∷ pos 20 ∷ pos 1 ∷ pos 0 ∷ pos 23 ∷ pos 1 ∷ pos 25 ∷ pos 0
-    ∷ [])
-unfolding staticsMessage sampleStatics message filled valueOf
+-- the id and then the statics; that each is in its place is a law of every statics (`numbers-back` of `paper`)
+pub statics-message-is : staticsMessage 26 (staticsOf (givenOf mostStatics))
+    ≡ message staticsMessageKind (pos 26 ∷ mostStatics)
+unfolding staticsMessage mostStatics message filled valueOf givenOf staticsOf
 statics-message-is = refl
 
 pub rates-message-is : ratesMessage sample

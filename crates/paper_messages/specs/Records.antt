@@ -1,6 +1,5 @@
 -- W-212: the message of each record. Kind 1 is of an admission's id and statics, 2 and 3 of a record after an
 -- evaluation, 4 of a record after a move of a side.
-use mathlib.Core.Bool.{Bool, true, false}
 use mathlib.Core.List.{List, [], _∷_, _++_, map}
 use Prim.Native.Nat.{ℕ}
 use lib.Dec.{ltb}
@@ -10,7 +9,7 @@ use Rattle.paper.specs.declared.Record.{Record}
 use Rattle.paper.specs.declared.Side.{Side}
 use Rattle.paper.specs.declared.Side.the-variants.{Upper, Lower}
 use Rattle.paper.specs.Lists.{pick}
-use Rattle.paper.specs.Ranges.{sideNumber, lastDay, rateAt, termAt, rangeAt, bandAt}
+use Rattle.paper.specs.Ranges.{numbersOf, sideNumber, lastDay, rateAt, termAt, rangeAt, bandAt}
 use Rattle.paper_desk.specs.Limits.{countOf}
 use Rattle.paper_desk.specs.Sides.{limitOn}
 use Rattle.paper_messages.specs.declared.Message.{Message}
@@ -26,44 +25,11 @@ pastSigned = 9223372036854775808
 unfoldable pub valueOf : ℕ → ℤ
 valueOf n = pick (ltb n pastSigned) (pos n) (negsuc 0)
 
--- "yes/no one (0 or 1)"
-abbrev pub flagOf : Bool → ℕ
-flagOf true = 1
-flagOf false = 0
-
 unfoldable pub message : (kind : ℕ) → (values : List ℤ) → Message
 message kind values = record { kind = kind; fields = filled (pos 0) values }
 
 abbrev pub staticsNumbers : (id : ℕ) → Statics → List ℕ
-staticsNumbers id st =
-    id
-    ∷ st .lot
-    ∷ st .h
-    ∷ st .q
-    ∷ st .aup
-    ∷ st .adown
-    ∷ st .wait
-    ∷ st .rh1
-    ∷ st .rh2
-    ∷ st .rh3
-    ∷ st .liq
-    ∷ st .min1
-    ∷ st .min2
-    ∷ st .min3
-    ∷ st .smax
-    ∷ st .xpr
-    ∷ st .shift
-    ∷ st .pchmax
-    ∷ st .pclmax
-    ∷ st .w
-    ∷ st .u
-    ∷ flagOf (st .monitoring)
-    ∷ flagOf (st .ewma)
-    ∷ st .uevening
-    ∷ flagOf (st .autochange)
-    ∷ st .eveningmax
-    ∷ flagOf (st .useexternal)
-    ∷ []
+staticsNumbers id st = id ∷ numbersOf st
 
 unfoldable pub staticsMessage : (id : ℕ) → Statics → Message
 staticsMessage id st = message staticsMessageKind (map valueOf (staticsNumbers id st))

@@ -1,5 +1,6 @@
 // What W-212 speaks of: a field, a message, what the writer answers and what the reader hears. specs/ defines what is
 // right; proofs/ proves it. It may use `paper` and `paper_desk`.
+use paper::Statics;
 use paper::Verdict;
 
 // A field of a message: how many bytes it has, and its range.
@@ -26,8 +27,8 @@ impl Message {
 
     pub const MOVE: u64 = 4;
 
-    // The most fields that a kind has.
-    pub const PLACES: usize = 27;
+    // The most fields that a kind has: an id and the statics.
+    pub const PLACES: usize = Statics::COUNT + 1;
 
     // "a four-byte length of what follows", "a two-byte kind"
     pub const LENGTH_WIDTH: usize = 4;
@@ -42,8 +43,11 @@ impl Message {
 
     pub const LENGTH_MOST: u64 = 4_096;
 
-    // The length of each kind's messages: of the kind and the fields.
-    pub const STATICS_LENGTH: u64 = 98;
+    // The length of each kind's messages: of the kind and the fields, of which the statics are an id and other numbers
+    // of four bytes, and flags of one.
+    pub const STATICS_LENGTH: u64 = (Message::KIND_WIDTH
+        + 4 * (Message::PLACES - Statics::FLAGS)
+        + Statics::FLAGS) as u64;
 
     pub const RATES_LENGTH: u64 = 94;
 
@@ -52,7 +56,7 @@ impl Message {
     pub const MOVE_LENGTH: u64 = 62;
 
     // The longest message of a known kind, whole: a buffer of so many bytes takes every message.
-    pub const BYTES_MOST: usize = 102;
+    pub const BYTES_MOST: usize = Message::LENGTH_WIDTH + Message::STATICS_LENGTH as usize;
 }
 
 // What the writer answers: the number, and how many bytes it wrote, 0 where it refused.

@@ -14,6 +14,7 @@ use Rattle.paper.specs.Ranges.{validStatics}
 use Rattle.paper_desk.specs.Rates.{daysOf, minimumOf, covers, levelRate, AtLeastRequired, HeldLeast}
 use Rattle.paper.specs.Verdicts.{NoneApplies, none, also}
 use Rattle.paper.proofs.Logic.{not-true-and-false, and-left, and-right, and-both, le-or-lt, pick-true, pick-false}
+use Rattle.paper.proofs.StaticsFacts.{statics-facts}
 use Rattle.paper.proofs.Search.{multiple-holds, multiple-least, multiple-is-multiple}
 use Rattle.paper_desk.proofs.TentativeRange.{statics-step-positive}
 use Rattle.paper_desk.proofs.Level.{covers-more, meets-real, real-meets, quotient-times-is, level-rate-is}
@@ -24,22 +25,20 @@ use Rattle.paper_reasons.proofs.First.{true-reason}
 
 module _ (st : Statics) (v : validStatics st ≡ true) where
   days-positive : 0 < st .rh1
-  unfolding validStatics
-  days-positive = leb-true 1 (st .rh1) (search (v, and-left, and-right) depth 40)
+  days-positive = statics-facts st v .rh1 .least
 
   most-whole : st .smax / st .h * st .h ≡ st .smax
-  unfolding validStatics
-  most-whole = quotient-times-is (st .smax) (st .h) (eqb-true _ _ (search (v, and-left, and-right) depth 40))
+  most-whole = quotient-times-is (st .smax) (st .h) (statics-facts st v .smax-multiple)
 
   minimum-whole : (l : ℕ) → minimumOf st l / st .h * st .h ≡ minimumOf st l
-  unfolding validStatics minimumOf
+  unfolding minimumOf
   minimum-whole l = go (eqb l 1) (eqb l 2)
     where
       go : (x y : Bool)
           → let minimum = pick x (st .min1) (pick y (st .min2) (st .min3)) in minimum / st .h * st .h ≡ minimum
-      go true y = quotient-times-is (st .min1) (st .h) (eqb-true _ _ (search (v, and-left, and-right) depth 40))
-      go false true = quotient-times-is (st .min2) (st .h) (eqb-true _ _ (search (v, and-left, and-right) depth 40))
-      go false false = quotient-times-is (st .min3) (st .h) (eqb-true _ _ (search (v, and-left, and-right) depth 40))
+      go true y = quotient-times-is (st .min1) (st .h) (statics-facts st v .min1-multiple)
+      go false true = quotient-times-is (st .min2) (st .h) (statics-facts st v .min2-multiple)
+      go false false = quotient-times-is (st .min3) (st .h) (statics-facts st v .min3-multiple)
 
 -- with isEWMA yes
 pub level-reason-is-first : (st : Statics) (l m t rate : ℕ) → st .ewma ≡ true

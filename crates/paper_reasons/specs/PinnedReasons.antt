@@ -8,6 +8,7 @@ use lib.IntN.{ℤ, pos, negsuc}
 use Rattle.paper.specs.Lists.{every, some, those}
 use Rattle.paper.specs.Roundings.{down, up, halfUp, toGrid, lesserOf, greaterOf, grown, apart}
 use Rattle.paper.specs.Least.{first, least, leastRoot, leastTimes, leastMultiple}
+use Rattle.paper.specs.Ranges.{givenOf}
 use Rattle.paper.specs.Ranges.{unsigned, isPrice, isRate, gridOf, isGridPrice, validStatics, staticsOf, tentativeTop}
 use Rattle.paper.specs.Ranges.{validTentative, partsFrom, rowAt, rowsOf, wholeRows, validRow, validRows, rowOf}
 use Rattle.paper.specs.Ranges.{validTerm, validDay, lastDay, isLimit, validLimits, validNear, validNearSeconds}
@@ -26,7 +27,7 @@ use Rattle.paper_desk.specs.Desk.{blank, usedBy, priceOn, moveOn, figuresOn, ev
 use Rattle.paper_desk.specs.Desk.{evaluateChecks}
 use Rattle.paper.specs.PinnedValues.{_but_, minimaAt, aupAt, adownAt, liqAt, pchmaxAt, ewmaAt, useexternalAt, p1At, sAt}
 use Rattle.paper.specs.PinnedValues.{tentativeAt, ageAt, ratesAt, externalAt, centralAt, rowBidAt, rowAskAt, volumeAt}
-use Rattle.paper.specs.PinnedValues.{givenFrom, standingFrom, nearFrom, sessionFrom, limitsFrom, termFrom, recordFrom}
+use Rattle.paper.specs.PinnedValues.{standingFrom, nearFrom, sessionFrom, limitsFrom, termFrom, recordFrom}
 use Rattle.paper.specs.PinnedValues.{dayFrom, closedAt, zNumbers, zRecord}
 use Rattle.paper_reasons.specs.declared.Why.{Why}
 use Rattle.paper_reasons.specs.Reasons.{isTraded, priceSetBy, priceReason, weightIs, weightReason, replacementWas}
@@ -50,7 +51,7 @@ unfolding unsigned isPrice isRate gridOf isGridPrice validStatics staticsOf tent
     levelRate modelled unmodelled figuresOf moveTooLarge limitOf shifted rangeLimit rangeOf farthest spread monitored
     narrower bandLimit bandOf crossed isDone firstOf blank usedBy priceOn moveOn figuresOn evaluated place stands
     found known evaluateChecks every some those down up halfUp toGrid lesserOf greaterOf grown apart first least
-    leastRoot leastTimes leastMultiple givenFrom standingFrom nearFrom sessionFrom limitsFrom termFrom recordFrom
+    leastRoot leastTimes leastMultiple givenOf standingFrom nearFrom sessionFrom limitsFrom termFrom recordFrom
     dayFrom isTraded priceSetBy priceReason weightIs weightReason replacementWas replacementReason tentativeDid
     tentativeReason requirementStep levelSetBy levelReason rowsAtFault outOfRange isSame faultsOf faultOf replacedOn
     stepOn levelOn reasonsOf whyOf whyOn priceNumber weightNumber replacementNumber tentativeNumber levelNumber

@@ -10,33 +10,33 @@ use Rattle.paper.specs.Numbers.{daysMost}
 use Rattle.paper.specs.Lists.{pick}
 use Rattle.paper.specs.Ranges.{validStatics, tentativeTop}
 use Rattle.paper_desk.specs.Rates.{daysOf, minimumOf}
-use Rattle.paper.proofs.Logic.{and-left, and-right}
+use Rattle.paper.proofs.StaticsFacts.{statics-facts}
 use Rattle.paper_desk.proofs.TentativeRange.{tentative-top-high}
 use Rattle.rates_level.specs.Asked.{RateStatics, tentativeBound}
 
 pub valid-are-rate-statics : (st : Statics) → validStatics st ≡ true → RateStatics st
-unfolding validStatics
 valid-are-rate-statics st v =
+    let known = statics-facts st v in
     record {
-      step-low = leb-true _ _ (search (v, and-left, and-right) depth 40);
-      step-high = leb-true _ _ (search (v, and-left, and-right) depth 40);
-      multiplier-low = leb-true _ _ (search (v, and-left, and-right) depth 40);
-      multiplier-high = leb-true _ _ (search (v, and-left, and-right) depth 40);
-      up-high = leb-true _ _ (search (v, and-left, and-right) depth 40);
-      down-high = leb-true _ _ (search (v, and-left, and-right) depth 40);
-      first-low = leb-true _ _ (search (v, and-left, and-right) depth 40);
-      first-high = leb-true _ _ (search (v, and-left, and-right) depth 40);
-      second-days = leb-true _ _ (search (v, and-left, and-right) depth 40);
-      third-high = leb-true _ _ (search (v, and-left, and-right) depth 40);
-      liquidity-high = leb-true _ _ (search (v, and-left, and-right) depth 40);
-      first-minimum = leb-true _ _ (search (v, and-left, and-right) depth 40);
-      second-minimum = leb-true _ _ (search (v, and-left, and-right) depth 40);
-      third-minimum = leb-true _ _ (search (v, and-left, and-right) depth 40);
-      most-high = leb-true _ _ (search (v, and-left, and-right) depth 40);
-      first-multiple = eqb-true _ _ (search (v, and-left, and-right) depth 40);
-      second-multiple = eqb-true _ _ (search (v, and-left, and-right) depth 40);
-      third-multiple = eqb-true _ _ (search (v, and-left, and-right) depth 40);
-      most-multiple = eqb-true _ _ (search (v, and-left, and-right) depth 40);
+      step-low = known .h .least;
+      step-high = known .h .most;
+      multiplier-low = known .q .least;
+      multiplier-high = known .q .most;
+      up-high = known .aup;
+      down-high = known .adown;
+      first-low = known .rh1 .least;
+      first-high = known .rh1 .most;
+      second-days = known .rh2-rh3;
+      third-high = known .rh3;
+      liquidity-high = known .liq;
+      first-minimum = known .min1-min2;
+      second-minimum = known .min2-min3;
+      third-minimum = known .min3-smax;
+      most-high = known .smax;
+      first-multiple = known .min1-multiple;
+      second-multiple = known .min2-multiple;
+      third-multiple = known .min3-multiple;
+      most-multiple = known .smax-multiple;
     }
 
 -- what the rules ask of a level's own statics

@@ -6,9 +6,10 @@ use paper::Day;
 use paper::Record;
 use paper::Term;
 use record_answers::Slot;
+use text_protocol::ADMIT_COUNT;
 
-// The numbers of an admission as the evening's `admit` has them: six before the statics, which are 26.
-pub const ADMISSION_NUMBERS: usize = 32;
+// The numbers of an admission as the evening's `admit` has them.
+pub const ADMISSION_NUMBERS: usize = ADMIT_COUNT;
 
 // The numbers of a day with three terms alike: DAY B M K RRCL RRCH.
 pub const DAY_NUMBERS: usize = 6;

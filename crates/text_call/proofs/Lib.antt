@@ -1,5 +1,4 @@
 -- The laws of text_call, a file each; its own proofs alone cite them.
 mod Bits
-mod Given
 mod Rest
 mod LineCalls

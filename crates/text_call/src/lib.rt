@@ -7,14 +7,14 @@ ghost use Prim.Native.Nat.{_≤_, min};
 ghost use lib.IntN.{ℤ, pos};
 ghost use lib.ListN.{drop, getD};
 ghost use Rattle.paper.specs.Ranges.{within, unsigned};
-ghost use Rattle.text_protocol.specs.Calls.{givenOf, admissionOf, quoteOf, bitsOf, floatOf, outsideOf, interestOf};
+ghost use Rattle.text_protocol.specs.Calls.{admissionOf, quoteOf, bitsOf, floatOf, outsideOf, interestOf};
 ghost use Rattle.text_protocol.specs.Calls.{bandOf, askedOf, noticeCall, call, callOf, callAsked};
 ghost use Rattle.text_call.specs.Terms.{termAtPlace};
 ghost use Rattle.text_protocol.specs.Names.{evaluateCount, admitKind, withdrawKind};
+use inputs::given_of;
 use paper::Admission;
 use paper::AskedDay;
 use paper::AskedTerm;
-use paper::GivenStatics;
 use paper::Interest;
 use paper::Model;
 use paper::Notice;
@@ -23,6 +23,7 @@ use paper::Quote;
 use paper::RepoBand;
 use paper::RepoLimits;
 use text_kept::found;
+use text_protocol::ADMISSION_COUNT;
 use text_protocol::AskedCall;
 use text_protocol::Kept;
 use text_protocol::Kind;
@@ -55,39 +56,6 @@ pub fn unsigned_at(zs: &[i64], i: usize) -> u64
 
 // ---- an admission
 
-fn given_of(zs: &[i64]) -> GivenStatics
-    ensures { λ r. ⌜ r ≡ givenOf (now (zs .entry)) ⌝ }
-{
-    GivenStatics {
-        lot: unsigned_at(zs, 6),
-        h: unsigned_at(zs, 7),
-        q: unsigned_at(zs, 8),
-        aup: unsigned_at(zs, 9),
-        adown: unsigned_at(zs, 10),
-        wait: unsigned_at(zs, 11),
-        rh1: unsigned_at(zs, 12),
-        rh2: unsigned_at(zs, 13),
-        rh3: unsigned_at(zs, 14),
-        liq: unsigned_at(zs, 15),
-        min1: unsigned_at(zs, 16),
-        min2: unsigned_at(zs, 17),
-        min3: unsigned_at(zs, 18),
-        smax: unsigned_at(zs, 19),
-        xpr: unsigned_at(zs, 20),
-        shift: unsigned_at(zs, 21),
-        pchmax: unsigned_at(zs, 22),
-        pclmax: unsigned_at(zs, 23),
-        w: unsigned_at(zs, 24),
-        u: unsigned_at(zs, 25),
-        monitoring: unsigned_at(zs, 26),
-        ewma: unsigned_at(zs, 27),
-        uevening: unsigned_at(zs, 28),
-        autochange: unsigned_at(zs, 29),
-        eveningmax: unsigned_at(zs, 30),
-        useexternal: unsigned_at(zs, 31),
-    }
-}
-
 pub fn admission_of(zs: &[i64]) -> Admission
     ensures { λ r. ⌜ r ≡ admissionOf (now (zs .entry)) ⌝ }
 {
@@ -98,7 +66,7 @@ pub fn admission_of(zs: &[i64]) -> Admission
         p2: unsigned_at(zs, 3),
         s: unsigned_at(zs, 4),
         tentative: unsigned_at(zs, 5),
-        given: given_of(zs),
+        given: given_of(figures(zs, ADMISSION_COUNT)),
     }
 }
 

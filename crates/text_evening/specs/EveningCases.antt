@@ -8,7 +8,7 @@ use Rattle.paper.specs.declared.Admission.{Admission}
 use Rattle.paper.specs.declared.Notice.the-variants.{Withdrawal}
 use Rattle.paper.specs.declared.Verdict.the-variants.{Done}
 use Rattle.paper.specs.Lists.{three}
-use Rattle.paper.specs.PinnedValues.{_but_, p1At, sAt, admissionFrom, zNumbers}
+use Rattle.paper.specs.PinnedValues.{_but_, p1At, sAt, admissionFrom, givenWith, admissionZ, zStatics, zNumbers}
 use Rattle.paper.specs.Ranges.{noTerm}
 use Rattle.paper_desk.specs.Desk.{Call, admit, evaluate, quote, move, read, openEvening, receive, admitted}
 use Rattle.paper_desk.specs.External.{notice}
@@ -17,8 +17,11 @@ use Rattle.paper_interest.specs.InterestCases.{answered as interestAnswered}
 use Rattle.paper_bonds.specs.BondCases.{answered as bondAnswered}
 use Rattle.paper_reasons.specs.Faults.{isSame, faultsOf, faultOf}
 use Rattle.paper_reasons.specs.Why.{whyOf, whyOn}
-use Rattle.paper_messages.specs.PinnedMessages.{staticsBytes}
+use Rattle.paper_messages.specs.Fields.{staticsMessageKind}
+use Rattle.paper_messages.specs.Messages.{encode}
+use Rattle.paper_messages.specs.Records.{message}
 use Rattle.text_bytes.specs.Bytes.{bytes}
+use Rattle.text_protocol.specs.LineCases.{zText}
 use Rattle.text_protocol.specs.Kept.{noPair, keptAfter}
 use Rattle.text_protocol.specs.CallCases.{deedBy}
 use Rattle.text_protocol.specs.Answers.{interestText, interestNumbers, maturitiesNumbers, maturityNumbers, bondText}
@@ -26,19 +29,18 @@ use Rattle.text_protocol.specs.AnswerCases.{callTexts}
 use Rattle.text_protocol.specs.Reasons.{faultWords, spelled, wordsText, whyText}
 use Rattle.text_evening.specs.declared.Telling.{Telling}
 use Rattle.text_evening.specs.declared.Telling.the-variants.{Answers, Reasons, Messages}
-use Rattle.paper_messages.specs.PinnedBroadcast.{admission, bytesSent}
+use Rattle.paper_messages.specs.PinnedBroadcast.{bytesSent}
 use Rattle.text_evening.specs.Evening.{tableAfter, keptBy, reasonTo, callTold, worded, textOf, lastNumber}
 use Rattle.text_evening.specs.Evening.{numberAfter, after, answer, startEvening, afterAll, answers}
 
 -- ---- an evening
 
--- no call; the admission of PinnedBroadcast; a blank line; an evaluation of an id that was not admitted; an interest
+-- no call; the admission of document 01's Z; a blank line; an evaluation of an id that was not admitted; an interest
 -- line and a bond line; no call
 unfoldable pub lines : List (List ℕ)
 lines =
     bytes "hello"
-    ∷ bytes
-    "admit 7 3 1000000 1000000 20000 600 10 100 300 500 100 5 1 2 2 50 800 1200 1500 10000 200 20 1000 900 500 300 1 1 60 0 3 1"
+    ∷ (bytes "admit 7 3 1000000 1000000 20000 600" ++ zText "1")
     ∷ []
     ∷ bytes "evaluate 8 4 0 0 0 0 0 0 0 0 0 0 0"
     ∷ bytes
@@ -50,16 +52,17 @@ lines =
 -- an evening on one empty slot, as it is told. It opens every definition that lines are answered with, so that a table
 -- opens this one alone
 unfoldable pub told : Telling → List ℕ
-unfolding lines slots deskAnswers interestAnswered bondAnswered isSame faultsOf faultOf whyOf whyOn deedBy callTexts
-    interestText interestNumbers maturitiesNumbers maturityNumbers bondText faultWords spelled wordsText whyText
-    keptAfter bytesSent tableAfter keptBy reasonTo callTold worded textOf numberAfter after answer afterAll answers
+unfolding lines zText zStatics slots deskAnswers interestAnswered bondAnswered isSame faultsOf faultOf whyOf whyOn
+    deedBy callTexts interestText interestNumbers maturitiesNumbers maturityNumbers bondText faultWords spelled
+    wordsText whyText keptAfter bytesSent tableAfter keptBy reasonTo callTold worded textOf numberAfter after answer
+    afterAll answers
 told telling = answers telling lines (startEvening (slots 1))
 
 -- EACH LINE IN ITS TURN, AS ITS PROGRAM TELLS IT: a line that is no call by its number, counted from 1, blank ones too;
 -- an evaluation with its number, or with why; where messages are told, those of accepted calls and nothing else
 pub told-are : (told Answers ≡ bytes "bad 1\n0\n1\n0 710 940 150 61 150 2 300 200 151 76 200 0 300 450\n17\nbad 7\n")
     × (told Reasons ≡ bytes "bad 1\n0\n1 none\n0 710 940 150 61 150 2 300 200 151 76 200 0 300 450\n17\nbad 7\n")
-    × (told Messages ≡ staticsBytes)
+    × (told Messages ≡ encode (message staticsMessageKind (pos 7 ∷ zStatics)))
 unfolding told
 told-are = (refl, refl, refl)
 
@@ -73,9 +76,9 @@ pub left-is : afterAll lines (startEvening (slots 1))
             middle = noPair;
             oldest = noPair;
           };
-      table = admitted admission ∷ [];
+      table = admitted admissionZ ∷ [];
     }
-unfolding told
+unfolding told admissionZ givenWith
 left-is = refl
 
 -- lines are counted up to the greatest number of 64 bits

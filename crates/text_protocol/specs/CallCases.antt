@@ -1,7 +1,7 @@
 -- docs/EVENING.md, "The calls", by examples: of each call a line whose numbers count up, beside the call that it asks
 -- for, so that each number is seen at the place that its name has. `asked` computes them all.
 use mathlib.Core.Path.{_≡_, refl}
-use mathlib.Core.List.{[], _∷_}
+use mathlib.Core.List.{List, [], _∷_, _++_}
 use Prim.Native.String.{String}
 use lib.Ieee.{Float, binary64, ofBits}
 use lib.IntN.{pos}
@@ -10,7 +10,8 @@ use Rattle.paper.specs.declared.Verdict.the-variants.{Done}
 use Rattle.paper.specs.declared.RepoBand.the-variants as band
 use Rattle.paper.specs.declared.Notice.the-variants.{Bid, Ask, Withdrawal}
 use Rattle.paper.specs.Verdicts.{isDone}
-use Rattle.paper.specs.Ranges.{unsigned}
+use Rattle.paper.specs.Ranges.{unsigned, givenOf}
+use Rattle.paper.specs.PinnedValues.{givenWith}
 use Rattle.paper.specs.Terms.{workedRepo, repoOf, dayOf, termOf as dayTerm}
 use Rattle.paper_desk.specs.Desk.{admit, evaluate, quote, move, read, openEvening, receive}
 use Rattle.paper_desk.specs.External.{together, notice}
@@ -22,9 +23,9 @@ use Rattle.text_protocol.specs.Names.{openNames, outsideNames, noticeNam
 use Rattle.text_protocol.specs.Names.{bondNames, forms, kindFrom, kindOf, countFits, takesIn, takes, placeOf, the}
 use Rattle.text_protocol.specs.Line.{oneOf, twoOf, itemOf, hasTerms, placeIn, pairFits, withPair, more, taking}
 use Rattle.text_protocol.specs.Line.{onWith, finished, fill, called, meaning}
-use Rattle.text_protocol.specs.LineCases.{naturals}
+use Rattle.text_protocol.specs.LineCases.{naturals, zText}
 use Rattle.text_protocol.specs.Kept.{noPair, foundIn}
-use Rattle.text_protocol.specs.Calls.{Deed, call, interest, bond, givenOf, admissionOf, quoteOf, bitsOf, floatOf}
+use Rattle.text_protocol.specs.Calls.{Deed, call, interest, bond, admissionOf, quoteOf, bitsOf, floatOf}
 use Rattle.text_protocol.specs.Calls.{outsideOf, noticeCall, interestOf, bandOf, termOf, askedOf, bondStaticsOf}
 use Rattle.text_protocol.specs.Calls.{bondOf, figuresBehind, callOf, deedOf}
 
@@ -42,17 +43,22 @@ unfoldable pub floatAt : ℕ → Float
 floatAt bits = ofBits binary64 bits
 
 -- what a line asks for. It opens every definition that a line is read with, so that a table opens this one alone
-unfoldable pub deedBy : String → Deed
+unfoldable pub deedIn : List ℕ → Deed
 unfolding floatAt keptLimits bytes isDone unsigned workedRepo repoOf dayOf dayTerm isBlank isNot run grow pieces full
     words same isDigit sizeFrom sizeOf upTo above below numberOf slashAt code admitNames evaluateNames quoteNames
     moveNames readNames openNames outsideNames noticeNames withdrawNames interestNames bondNames forms kindFrom kindOf
     countFits takesIn takes placeOf the oneOf twoOf itemOf hasTerms placeIn pairFits withPair more taking onWith
     finished fill called meaning foundIn givenOf admissionOf quoteOf bitsOf floatOf outsideOf noticeCall interestOf
     bandOf termOf askedOf bondStaticsOf bondOf figuresBehind callOf deedOf
-deedBy text = deedOf keptLimits (meaning (bytes text))
+deedIn text = deedOf keptLimits (meaning text)
 
--- EACH NUMBER OF A LINE IS THE ONE OF ITS NAME; a pair of terms that is kept is its limits
-pub asked : (deedBy "admit 1 2 3 4 5 6 7 8 9 10 11 12 13 14 15 16 17 18 19 20 21 22 23 24 25 26 27 28 29 30 31 32"
+unfoldable pub deedBy : String → Deed
+unfolding deedIn
+deedBy text = deedIn (bytes text)
+
+-- EACH NUMBER OF A LINE IS THE ONE OF ITS NAME, and an admission's statics are Z's; a pair of terms that is kept is its
+-- limits
+pub asked : (deedIn (bytes "admit 1 2 3 4 5 6" ++ zText "1")
     ≡ call (admit (record {
       id = 1;
       day = 2;
@@ -60,34 +66,7 @@ pub asked : (deedBy "admit 1 2 3 4 5 6 7 8 9 10 11 12 13 14 15 16 17 18 19 20 21
       p2 = 4;
       s = 5;
       tentative = 6;
-      given = record {
-        lot = 7;
-        h = 8;
-        q = 9;
-        aup = 10;
-        adown = 11;
-        wait = 12;
-        rh1 = 13;
-        rh2 = 14;
-        rh3 = 15;
-        liq = 16;
-        min1 = 17;
-        min2 = 18;
-        min3 = 19;
-        smax = 20;
-        xpr = 21;
-        shift = 22;
-        pchmax = 23;
-        pclmax = 24;
-        w = 25;
-        u = 26;
-        monitoring = 27;
-        ewma = 28;
-        uevening = 29;
-        autochange = 30;
-        eveningmax = 31;
-        useexternal = 32;
-      };
+      given = givenWith 10;
     })))
     × (deedBy "evaluate 1 2 3 4 5 6 7 8 9 10 11 12 13 14 15"
     ≡ call (evaluate 1 (record {
@@ -163,5 +142,5 @@ pub asked : (deedBy "admit 1 2 3 4 5 6 7 8 9 10 11 12 13 14 15 16 17 18 19 20 21
       third = record { k = 15; band = band.AsGiven (record { low = pos 16; high = pos 17 }) };
       repo = pos 5;
     }) (naturals (34 ∷ 35 ∷ [])))
-unfolding deedBy
+unfolding deedBy zText givenWith
 asked = (refl, refl, refl, refl, refl, refl, refl, refl, refl, refl, refl, refl, refl, refl, refl, refl)

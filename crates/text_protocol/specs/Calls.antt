@@ -7,7 +7,6 @@ use lib.Dec.{eqb}
 use lib.Ieee.{Float, binary64, ofBits}
 use lib.IntN.{ℤ, pos, negsuc}
 use lib.ListN.{length, drop}
-use Rattle.paper.specs.declared.GivenStatics.{GivenStatics}
 use Rattle.paper.specs.declared.Admission.{Admission}
 use Rattle.paper.specs.declared.Quote.{Quote}
 use Rattle.paper.specs.declared.Outside.{Outside}
@@ -20,7 +19,7 @@ use Rattle.paper.specs.declared.AskedDay.{AskedDay}
 use Rattle.paper_bonds.specs.declared.BondStatics.{BondStatics}
 use Rattle.paper_bonds.specs.declared.Bond.{Bond}
 use Rattle.paper.specs.Lists.{pick}
-use Rattle.paper.specs.Ranges.{unsigned}
+use Rattle.paper.specs.Ranges.{unsigned, givenOf}
 use Rattle.paper.specs.Terms.{dayOf}
 use Rattle.paper_desk.specs.Desk.{Call, admit, evaluate, quote, move, read, openEvening, receive}
 use Rattle.paper_desk.specs.External.{together, notice}
@@ -31,54 +30,28 @@ use Rattle.text_protocol.specs.declared.Ask.the-variants as ask
 use Rattle.text_protocol.specs.declared.Kept.{Kept}
 use Rattle.text_protocol.specs.declared.Pairs.{Pairs}
 use Rattle.text_protocol.specs.Kept.{foundIn}
-use Rattle.text_protocol.specs.Names.{Name, ID, DAY, P1, P2, S, TENTATIVE, LOT, H, Q, A-UP, A-DOWN, WAIT, RH1}
-use Rattle.text_protocol.specs.Names.{RH2, RH3, LIQ, MIN1, MIN2, MIN3, SMAX, XPR, SHIFT, PCHMAX, PCLMAX, W, U}
-use Rattle.text_protocol.specs.Names.{MONITORING, ISEWMA, B, M, K0, RRCL0, RRCH0, K1, RRCL1, RRCH1, K2, RRCL2}
-use Rattle.text_protocol.specs.Names.{RRCH2, SECOND, TERM, BID, ASK, SIDE, YM, YN, MM, SEC, XIR, MONEY, SECRATE}
-use Rattle.text_protocol.specs.Names.{NET, FACE, ACCRUED, REPO, AGE, U-EVENING, AUTOCHANGE, EVENINGMAX}
-use Rattle.text_protocol.specs.Names.{USEEXTERNAL, BIDBITS, ASKBITS, BITS, admitNames, evaluateNames, quoteNames}
-use Rattle.text_protocol.specs.Names.{moveNames, readNames, openNames, outsideNames, noticeNames, withdrawNames}
-use Rattle.text_protocol.specs.Names.{interestNames, bondNames, admitKind, evaluateKind, quoteKind, moveKind}
-use Rattle.text_protocol.specs.Names.{readKind, openKind, outsideKind, noticeKind, withdrawKind, interestKind}
-use Rattle.text_protocol.specs.Names.{the}
+use Rattle.text_protocol.specs.Names.{Name, ID, DAY, P1, P2, S, TENTATIVE, H, Q, A-UP, A-DOWN, WAIT, RH1, RH2}
+use Rattle.text_protocol.specs.Names.{RH3, LIQ, MIN1, MIN2, MIN3, SMAX, XPR, PCHMAX, PCLMAX, MONITORING, ISEWMA}
+use Rattle.text_protocol.specs.Names.{B, M, K0, RRCL0, RRCH0, K1, RRCL1, RRCH1, K2, RRCL2, RRCH2, SECOND, TERM}
+use Rattle.text_protocol.specs.Names.{BID, ASK, SIDE, YM, YN, MM, SEC, XIR, MONEY, SECRATE, NET, FACE, ACCRUED}
+use Rattle.text_protocol.specs.Names.{REPO, AGE, BIDBITS, ASKBITS, BITS, admissionNames, admitNames}
+use Rattle.text_protocol.specs.Names.{evaluateNames, quoteNames, moveNames, readNames, openNames, outsideNames}
+use Rattle.text_protocol.specs.Names.{noticeNames, withdrawNames, interestNames, bondNames, admitKind}
+use Rattle.text_protocol.specs.Names.{evaluateKind, quoteKind, moveKind, readKind, openKind, outsideKind}
+use Rattle.text_protocol.specs.Names.{noticeKind, withdrawKind, interestKind, the}
 use Rattle.text_protocol.specs.Line.{Said, Nothing, NoCall, Call as saysCall}
 
 -- a number that may not be below zero: one that is, is out of every range
 abbrev pub unsignedOf : List Name → List ℤ → Name → ℕ
 unsignedOf names zs x = unsigned (the names zs x)
 
-unfoldable pub givenOf : List ℤ → GivenStatics
-givenOf zs =
-    record {
-      lot = unsignedOf admitNames zs LOT;
-      h = unsignedOf admitNames zs H;
-      q = unsignedOf admitNames zs Q;
-      aup = unsignedOf admitNames zs A-UP;
-      adown = unsignedOf admitNames zs A-DOWN;
-      wait = unsignedOf admitNames zs WAIT;
-      rh1 = unsignedOf admitNames zs RH1;
-      rh2 = unsignedOf admitNames zs RH2;
-      rh3 = unsignedOf admitNames zs RH3;
-      liq = unsignedOf admitNames zs LIQ;
-      min1 = unsignedOf admitNames zs MIN1;
-      min2 = unsignedOf admitNames zs MIN2;
-      min3 = unsignedOf admitNames zs MIN3;
-      smax = unsignedOf admitNames zs SMAX;
-      xpr = unsignedOf admitNames zs XPR;
-      shift = unsignedOf admitNames zs SHIFT;
-      pchmax = unsignedOf admitNames zs PCHMAX;
-      pclmax = unsignedOf admitNames zs PCLMAX;
-      w = unsignedOf admitNames zs W;
-      u = unsignedOf admitNames zs U;
-      monitoring = unsignedOf admitNames zs MONITORING;
-      ewma = unsignedOf admitNames zs ISEWMA;
-      uevening = unsignedOf admitNames zs U-EVENING;
-      autochange = unsignedOf admitNames zs AUTOCHANGE;
-      eveningmax = unsignedOf admitNames zs EVENINGMAX;
-      useexternal = unsignedOf admitNames zs USEEXTERNAL;
-    }
+-- the figures behind the named numbers: an admission's statics, an evaluation's rows, an evening's key maturities, a
+-- bond's cash flows
+unfoldable pub figuresBehind : List Name → List ℤ → List ℤ
+figuresBehind names zs = drop (length names) zs
 
 unfoldable pub admissionOf : List ℤ → Admission
+unfolding figuresBehind admissionNames
 admissionOf zs =
     record {
       id = unsignedOf admitNames zs ID;
@@ -87,7 +60,7 @@ admissionOf zs =
       p2 = unsignedOf admitNames zs P2;
       s = unsignedOf admitNames zs S;
       tentative = unsignedOf admitNames zs TENTATIVE;
-      given = givenOf zs;
+      given = givenOf (figuresBehind admissionNames zs);
     }
 
 unfoldable pub quoteOf : List ℤ → Quote
@@ -212,10 +185,6 @@ bondOf k zs p =
       third = termOf bondNames k zs (p .third) K2 RRCL2 RRCH2;
       repo = the bondNames zs REPO;
     }
-
--- the figures behind the named numbers: an evaluation's rows, an evening's key maturities, a bond's cash flows
-unfoldable pub figuresBehind : List Name → List ℤ → List ℤ
-figuresBehind names zs = drop (length names) zs
 
 -- ---- what a line asks for
 

@@ -7,6 +7,7 @@ use Prim.Native.Nat.{ℕ, zero, suc}
 use Prim.Native.String.{String}
 use lib.IntN.{ℤ, pos, negsuc}
 use lib.ListN.{replicate}
+use Rattle.paper.specs.PinnedValues.{zStatics}
 use Rattle.text_bytes.specs.Bytes.{isBlank, isNot, run, grow, pieces, full, words, same, bytes}
 use Rattle.text_bytes.specs.Numbers.{isDigit, sizeFrom, sizeOf, upTo, above, below, numberOf, slashAt}
 use Rattle.text_protocol.specs.Names.{admitKind, evaluateKind, quoteKind, moveKind, readKind, openKind}
@@ -21,23 +22,30 @@ use Rattle.text_protocol.specs.Line.{called, meaning}
 abbrev pub naturals : List ℕ → List ℤ
 naturals ns = map pos ns
 
--- a line, and what it means
+-- the statics of document 01's Z (`zStatics` of `paper`) as an admission's line ends with them, but for isEWMA
+unfoldable pub zText : (ewma : String) → List ℕ
+zText ewma =
+    bytes " 10 100 300 1000 500 5 2 5 8 50 500 700 900 4000 200 25 2000 2000 1000 60 1 " ++ bytes ewma
+    ++ bytes " 120 1 2 0"
+
+-- a line, and what it means; a line that ends with Z's statics
 pub data LineCase : Type 0 where
   line : String → Said → LineCase
+  ofZ : String → Said → LineCase
 
 unfoldable pub heard : LineCase → Said
 heard (line text said) = meaning (bytes text)
+heard (ofZ text said) = meaning (bytes text ++ zText "1")
 
 unfoldable pub meant : LineCase → Said
 meant (line text said) = said
+meant (ofZ text said) = said
 
 unfoldable pub lineCases : List LineCase
 lineCases =
     -- lines of examples/evening.txt: a line of each call, numbers below zero, pairs of terms
-    line
-    "admit 15 3 10 10 20000 600 10 100 300 1000 500 5 2 5 8 50 500 700 900 4000 200 25 2000 2000 1000 60 1 1 120 1 2 0"
-    (Call admitKind (naturals (15 ∷ 3 ∷ 10 ∷ 10 ∷ 20000 ∷ 600 ∷ 10 ∷ 100 ∷ 300 ∷ 1000 ∷ 500 ∷ 5 ∷ 2
-    ∷ 5 ∷ 8 ∷ 50 ∷ 500 ∷ 700 ∷ 900 ∷ 4000 ∷ 200 ∷ 25 ∷ 2000 ∷ 2000 ∷ 1000 ∷ 60 ∷ 1 ∷ 1 ∷ 120 ∷ 1 ∷ 2 ∷ 0 ∷ [])) noPairs)
+    ofZ "admit 15 3 10 10 20000 600"
+    (Call admitKind (naturals (15 ∷ 3 ∷ 10 ∷ 10 ∷ 20000 ∷ 600 ∷ []) ++ zStatics) noPairs)
     ∷ line "evaluate 7 4 0 0 0 0 0 0 0 0 0 0 0 0 10000 0 1030000 0 0 5"
     (Call evaluateKind (naturals (7 ∷ 4 ∷ 0 ∷ 0 ∷ 0 ∷ 0 ∷ 0 ∷ 0 ∷ 0 ∷ 0 ∷ 0 ∷ 0 ∷ 0 ∷ 0 ∷ 10000 ∷ 0 ∷ 1030000
     ∷ 0 ∷ 0 ∷ 5 ∷ [])) noPairs)
@@ -73,9 +81,7 @@ lineCases =
     ∷ line "evaluate 7 10 0 0 1/0 1 2 0/1 0 0 0" NoCall
     ∷ line "evaluate 7 10 0 0 1 0/1 2 0/1 0 0 0 0/10000 0 1010000 0 0 5" NoCall
     ∷ line "quote 7 36000 0 1000000/0" NoCall
-    ∷ line
-    "admit 15 3 10 10 20000 600/10 100 300 1000 500 5 2 5 8 50 500 700 900 4000 200 25 2000 2000 1000 60 1 1 120 1 2 0"
-    NoCall
+    ∷ ofZ "admit 15 3 10 10 20000/600" NoCall
     ∷ line
     "interest 0 0 1 1000 500 200/50 2 20 300 100 200 940 710 1 800 650 700 810 40 150 1 3 803 652 700 1150 40 150 1"
     NoCall
@@ -110,15 +116,14 @@ lineCases =
     ∷ line "read 7.0" NoCall
     ∷ line "read 7;" NoCall
     ∷ line "move 7 0;read 9" NoCall
-    -- too few numbers and too many; an admission without USEEXTERNAL
+    -- too few numbers and too many
     ∷ line "read" NoCall
     ∷ line "open" NoCall
     ∷ line "open 7 0" NoCall
     ∷ line "move 7" NoCall
     ∷ line "move 7 0 0" NoCall
-    ∷ line
-    "admit 15 3 10 10 20000 600 10 100 300 1000 500 5 2 5 8 50 500 700 900 4000 200 25 2000 2000 1000 60 1 1 120 1 2"
-    NoCall
+    ∷ ofZ "admit 15 3 10 10 20000" NoCall
+    ∷ ofZ "admit 15 3 10 10 20000 600 10" NoCall
     ∷ line "outside 18 1" NoCall
     ∷ line "outside 18 103.25 103.5" NoCall
     ∷ line "notice 18 0" NoCall
@@ -138,7 +143,7 @@ ones (suc n) = bytes " 1" ++ ones n
 pub meanings : (map heard lineCases ≡ map meant lineCases)
     × (meaning (bytes "evaluate" ++ ones 140) ≡ Call evaluateKind (replicate 126 (pos 1)) noPairs)
     × (longest ≡ 65535)
-unfolding lineCases heard meant bytes ones isBlank isNot run grow pieces full words same isDigit
+unfolding lineCases heard meant bytes zText zStatics ones isBlank isNot run grow pieces full words same isDigit
     sizeFrom sizeOf upTo above below numberOf slashAt admitNames evaluateNames quoteNames moveNames readNames
     openNames outsideNames noticeNames withdrawNames interestNames bondNames forms kindFrom kindOf countFits takesIn
     takes placeOf code oneOf twoOf itemOf

@@ -2,43 +2,24 @@
 -- call more is a line more of `forms`.
 use mathlib.Core.Path.{_≡_, refl}
 use mathlib.Core.Bool.{Bool, true, false}
-use mathlib.Core.List.{List, [], _∷_}
-use Prim.Native.Nat.{ℕ, zero, suc}
+use mathlib.Core.List.{List, [], _∷_, _++_}
+use Prim.Native.Nat.{ℕ, zero, suc, _+_}
 use lib.Dec.{leb, eqb}
 use lib.IntN.{ℤ, pos}
 use lib.ListN.{length, getD}
 use Rattle.paper.specs.Lists.{pick}
+use Rattle.paper.specs.Ranges.{staticsCount}
 use Rattle.text_bytes.specs.Bytes.{same}
 
+-- a static's name is its place in the table of statics (`staticsTable` of `paper`)
 pub data Name : Type 0 where
+  STATIC : (place : ℕ) → Name
   ID : Name
   DAY : Name
   P1 : Name
   P2 : Name
   S : Name
   TENTATIVE : Name
-  LOT : Name
-  H : Name
-  Q : Name
-  A-UP : Name
-  A-DOWN : Name
-  WAIT : Name
-  RH1 : Name
-  RH2 : Name
-  RH3 : Name
-  LIQ : Name
-  MIN1 : Name
-  MIN2 : Name
-  MIN3 : Name
-  SMAX : Name
-  XPR : Name
-  SHIFT : Name
-  PCHMAX : Name
-  PCLMAX : Name
-  W : Name
-  U : Name
-  MONITORING : Name
-  ISEWMA : Name
   B : Name
   M : Name
   K0 : Name
@@ -67,10 +48,6 @@ pub data Name : Type 0 where
   ACCRUED : Name
   REPO : Name
   AGE : Name
-  U-EVENING : Name
-  AUTOCHANGE : Name
-  EVENINGMAX : Name
-  USEEXTERNAL : Name
   BIDBITS : Name
   ASKBITS : Name
   BITS : Name
@@ -83,63 +60,93 @@ code P1 = 2
 code P2 = 3
 code S = 4
 code TENTATIVE = 5
-code LOT = 6
-code H = 7
-code Q = 8
-code A-UP = 9
-code A-DOWN = 10
-code WAIT = 11
-code RH1 = 12
-code RH2 = 13
-code RH3 = 14
-code LIQ = 15
-code MIN1 = 16
-code MIN2 = 17
-code MIN3 = 18
-code SMAX = 19
-code XPR = 20
-code SHIFT = 21
-code PCHMAX = 22
-code PCLMAX = 23
-code W = 24
-code U = 25
-code MONITORING = 26
-code ISEWMA = 27
-code B = 28
-code M = 29
-code K0 = 30
-code RRCL0 = 31
-code RRCH0 = 32
-code K1 = 33
-code RRCL1 = 34
-code RRCH1 = 35
-code K2 = 36
-code RRCL2 = 37
-code RRCH2 = 38
-code SECOND = 39
-code TERM = 40
-code BID = 41
-code ASK = 42
-code SIDE = 43
-code YM = 44
-code YN = 45
-code MM = 46
-code SEC = 47
-code XIR = 48
-code MONEY = 49
-code SECRATE = 50
-code NET = 51
-code FACE = 52
-code ACCRUED = 53
-code REPO = 54
-code AGE = 55
-code U-EVENING = 56
-code AUTOCHANGE = 57
-code EVENINGMAX = 58
-code USEEXTERNAL = 59
-code BIDBITS = 60
-code ASKBITS = 61
-code BITS = 62
+code B = 6
+code M = 7
+code K0 = 8
+code RRCL0 = 9
+code RRCH0 = 10
+code K1 = 11
+code RRCL1 = 12
+code RRCH1 = 13
+code K2 = 14
+code RRCL2 = 15
+code RRCH2 = 16
+code SECOND = 17
+code TERM = 18
+code BID = 19
+code ASK = 20
+code SIDE = 21
+code YM = 22
+code YN = 23
+code MM = 24
+code SEC = 25
+code XIR = 26
+code MONEY = 27
+code SECRATE = 28
+code NET = 29
+code FACE = 30
+code ACCRUED = 31
+code REPO = 32
+code AGE = 33
+code BIDBITS = 34
+code ASKBITS = 35
+code BITS = 36
+code (STATIC place) = 37 + place
+
+-- the statics that other calls than an admission name too
+abbrev pub H : Name
+H = STATIC 1
+
+abbrev pub Q : Name
+Q = STATIC 2
+
+abbrev pub A-UP : Name
+A-UP = STATIC 3
+
+abbrev pub A-DOWN : Name
+A-DOWN = STATIC 4
+
+abbrev pub WAIT : Name
+WAIT = STATIC 5
+
+abbrev pub RH1 : Name
+RH1 = STATIC 6
+
+abbrev pub RH2 : Name
+RH2 = STATIC 7
+
+abbrev pub RH3 : Name
+RH3 = STATIC 8
+
+abbrev pub LIQ : Name
+LIQ = STATIC 9
+
+abbrev pub MIN1 : Name
+MIN1 = STATIC 10
+
+abbrev pub MIN2 : Name
+MIN2 = STATIC 11
+
+abbrev pub MIN3 : Name
+MIN3 = STATIC 12
+
+abbrev pub SMAX : Name
+SMAX = STATIC 13
+
+abbrev pub XPR : Name
+XPR = STATIC 14
+
+abbrev pub PCHMAX : Name
+PCHMAX = STATIC 16
+
+abbrev pub PCLMAX : Name
+PCLMAX = STATIC 17
+
+abbrev pub MONITORING : Name
+MONITORING = STATIC 20
+
+abbrev pub ISEWMA : Name
+ISEWMA = STATIC 21
 
 -- ---- the calls
 
@@ -150,11 +157,18 @@ pub record Form : Type 0 where
   pub names : List Name
   pub more : Bool
 
+-- what an admission gives beside the statics
+unfoldable pub admissionNames : List Name
+admissionNames = ID ∷ DAY ∷ P1 ∷ P2 ∷ S ∷ TENTATIVE ∷ []
+
+-- so many statics from a place of the table on
+abbrev pub staticsFrom : (place count : ℕ) → List Name
+staticsFrom place zero = []
+staticsFrom place (suc count) = STATIC place ∷ staticsFrom (suc place) count
+
 unfoldable pub admitNames : List Name
-admitNames =
-    ID ∷ DAY ∷ P1 ∷ P2 ∷ S ∷ TENTATIVE ∷ LOT ∷ H ∷ Q ∷ A-UP ∷ A-DOWN ∷ WAIT ∷ RH1 ∷ RH2 ∷ RH3 ∷ LIQ ∷ MIN1 ∷ MIN2 ∷ MIN3
-    ∷ SMAX ∷ XPR ∷ SHIFT ∷ PCHMAX ∷ PCLMAX ∷ W ∷ U ∷ MONITORING ∷ ISEWMA ∷ U-EVENING ∷ AUTOCHANGE ∷ EVENINGMAX
-    ∷ USEEXTERNAL ∷ []
+unfolding admissionNames
+admitNames = admissionNames ++ staticsFrom 0 staticsCount
 
 -- a pair of terms stands for two numbers: in place of each RRCL RRCH a pair YM/YN may stand
 unfoldable pub evaluateNames : List Name
@@ -196,8 +210,11 @@ bondNames =
 
 -- how many numbers each call has; of an evaluation, an interest line and a bond, how many stand before its row figures,
 -- its key maturities and its cash flows: as many as they have names
+abbrev pub admissionCount : ℕ
+admissionCount = 6
+
 abbrev pub admitCount : ℕ
-admitCount = 32
+admitCount = admissionCount + staticsCount
 
 abbrev pub evaluateCount : ℕ
 evaluateCount = 13
@@ -229,7 +246,8 @@ interestCount = 14
 abbrev pub bondCount : ℕ
 bondCount = 33
 
-pub counts-are-of-the-names : (length admitNames ≡ admitCount)
+pub counts-are-of-the-names : (length admissionNames ≡ admissionCount)
+    × (length admitNames ≡ admitCount)
     × (length evaluateNames ≡ evaluateCount)
     × (length quoteNames ≡ quoteCount)
     × (length moveNames ≡ moveCount)
@@ -240,9 +258,9 @@ pub counts-are-of-the-names : (length admitNames ≡ admitCount)
     × (length withdrawNames ≡ withdrawCount)
     × (length interestNames ≡ interestCount)
     × (length bondNames ≡ bondCount)
-unfolding admitNames evaluateNames quoteNames moveNames readNames openNames
+unfolding admissionNames admitNames evaluateNames quoteNames moveNames readNames openNames
     outsideNames noticeNames withdrawNames interestNames bondNames
-counts-are-of-the-names = (refl, refl, refl, refl, refl, refl, refl, refl, refl, refl, refl)
+counts-are-of-the-names = (refl, refl, refl, refl, refl, refl, refl, refl, refl, refl, refl, refl)
 
 -- the words, as bytes
 abbrev pub admitWord : List ℕ

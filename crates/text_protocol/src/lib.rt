@@ -9,6 +9,7 @@ use paper::Notice;
 use paper::Outside;
 use paper::Quote;
 use paper::Row;
+use paper::Statics;
 use paper::WorkedBand;
 use paper_bonds::Bond;
 use paper_reasons::Why;
@@ -21,8 +22,10 @@ pub const ANSWER_MOST: usize = 1_200;
 pub const WAITING_MOST: usize = ROOM - ANSWER_MOST;
 
 // How many numbers each call has; of an evaluation, an interest line and a bond, how many stand before its row figures,
-// its key maturities and its cash flows.
-pub const ADMIT_COUNT: usize = 32;
+// its key maturities and its cash flows; of an admission, how many stand before its statics.
+pub const ADMISSION_COUNT: usize = 6;
+
+pub const ADMIT_COUNT: usize = ADMISSION_COUNT + Statics::COUNT;
 
 pub const EVALUATE_COUNT: usize = 13;
 

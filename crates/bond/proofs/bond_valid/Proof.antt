@@ -6,7 +6,7 @@ use mir.Facts.{toZ-ofZ}
 use borrow.Author.Needs.{needs}
 use Rattle.paper.specs.Ranges.{validGiven}
 use Rattle.inputs.proofs.Facts.{statics-step-positive, given-statics-valid}
-use Rattle.paper_bonds.specs.Bonds.{givenOf, bondStatics, validBond}
+use Rattle.paper_bonds.specs.Bonds.{bondGiven, bondStatics, validBond}
 use Rattle.bond.proofs.bond_valid.Statement.{statement}
 use Rattle.bond.proofs.bond_valid.Tie as tie
 
@@ -20,7 +20,7 @@ statics-of-requires : tie.Need-statics-of-requires
 statics-of-requires c κs = search needs
 
 -- the statics are in range, and what they are
-given-passed : (c : tie.Then1) → validGiven (givenOf (c .before .before .before .before .args .b .statics)) ≡ true
+given-passed : (c : tie.Then1) → validGiven (bondGiven (c .before .before .before .before .args .b .statics)) ≡ true
 given-passed c = rw (c .before .before .given-of .ensures) at (sym (c .before .valid-given .ensures) ∙ c .if1 .taken)
 
 statics-are : (c : tie.After-statics-of)

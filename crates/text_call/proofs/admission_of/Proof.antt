@@ -1,19 +1,14 @@
 -- `text_call::admission_of` meets its contract: each number is read at the place that its name has among
--- `admitNames`, and the statics are those of `given_of`.
+-- `admitNames`, and the statics are those of the numbers behind.
 use Rattle.text_protocol.specs.Names.{the, placeOf, admitNames, code}
 use Rattle.text_protocol.specs.Calls.{admissionOf}
-use mathlib.Core.Path.{_≡_}
 use Rattle.text_call.proofs.admission_of.Statement.{statement}
 use Rattle.text_call.proofs.admission_of.Tie as tie
-use Rattle.text_call.proofs.admission_of.Reads as reads
-use Rattle.text_call.proofs.admission_of.Lts as lts
-use Rattle.text_call.proofs.given_of.Reads as given-of-reads
-use Rattle.text_call.proofs.unsigned_at.Reads as unsigned-at-reads
 
 returns : tie.Need-returns
 unfolding admissionOf the placeOf admitNames code
 returns c =
-    let c1 = c .before in
+    let c1 = c .before .before in
     let c2 = c1 .before in
     let c3 = c2 .before in
     let c4 = c3 .before in
@@ -27,6 +22,7 @@ returns c =
       c2 .unsigned-at5 .ensures,
       c1 .unsigned-at6 .ensures,
       c .given-of .ensures,
+      c .before .figures .ensures,
     )
 
 -- what is called asks for nothing
@@ -34,5 +30,5 @@ pub admission-of-spec : {M : Type 1} → statement M
 admission-of-spec =
     tie.close
     (tie.spec
-    (λ c κs. tt) (λ c κs. tt) (λ c κs. tt) (λ c κs. tt) (λ c κs. tt) (λ c κs. tt) (λ c κs. tt)
+    (λ c κs. tt) (λ c κs. tt) (λ c κs. tt) (λ c κs. tt) (λ c κs. tt) (λ c κs. tt) (λ c κs. tt) (λ c κs. tt)
     returns)

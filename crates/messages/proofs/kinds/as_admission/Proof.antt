@@ -1,7 +1,14 @@
--- `as_admission` meets its contract: the id and the statics are judged by the two tests by which an admission judges
--- them.
-use Rattle.paper_messages.specs.Messages.{asAdmission}
+-- `as_admission` meets its contract: the id, and the statics behind it, are judged by the two tests by which an
+-- admission judges them.
+use mathlib.Core.List.{List}
+use Prim.Native.Nat.{_≤_}
+use native.Mathlib.Omega.{arith}
+use lib.IntN.{ℤ}
+use lib.ListN.{length, drop, length-drop}
+use lib.Seq.{take-all}
 use borrow.Author.Needs.{needs}
+use Rattle.paper.specs.Ranges.{staticsCount}
+use Rattle.paper_messages.specs.Messages.{asAdmission}
 use Rattle.messages.proofs.kinds.as_admission.Statement.{statement}
 use Rattle.messages.proofs.kinds.as_admission.Tie as tie
 
@@ -14,11 +21,17 @@ number-at-requires c κs = search needs
 valid-id-requires : tie.Need-valid-id-requires
 valid-id-requires c κs = search needs
 
-slice-aggregate-given-in : tie.Need-slice-aggregate-given-in
-slice-aggregate-given-in c = search needs
+sub-given-of : tie.Need-sub-given-of
+sub-given-of c = search needs
 
-given-in-requires : tie.Need-given-in-requires
-given-in-requires c κs = search needs
+part-given-of-start : tie.Need-part-given-of-start
+part-given-of-start c = search needs
+
+part-given-of-end : tie.Need-part-given-of-end
+part-given-of-end c = search needs
+
+given-of-requires : tie.Need-given-of-requires
+given-of-requires c κs = search needs
 
 valid-given-requires : tie.Need-valid-given-requires
 valid-given-requires c κs = search needs
@@ -26,11 +39,15 @@ valid-given-requires c κs = search needs
 returns : tie.Need-returns
 unfolding asAdmission
 returns c =
+    let at-id = c .before .before .before .before in
+    let values : List ℤ = at-id .before .before .before .args .t1 in
+    let short : length (drop 1 values) ≤ staticsCount = rw (length-drop 1 values) (omega arith) in
     rw (
       c .valid-given .ensures,
-      c .before .given-in .ensures,
-      c .before .before .before .valid-id .ensures,
-      c .before .before .before .before .number-at .ensures,
+      c .before .given-of .ensures,
+      take-all staticsCount (drop 1 values) short,
+      at-id .valid-id .ensures,
+      at-id .before .number-at .ensures,
     )
 
 pub as-admission-spec : {M : Type 1} → statement M
@@ -40,7 +57,9 @@ as-admission-spec =
     slice-aggregate-number-at
     number-at-requires
     valid-id-requires
-    slice-aggregate-given-in
-    given-in-requires
+    sub-given-of
+    part-given-of-start
+    part-given-of-end
+    given-of-requires
     valid-given-requires
     returns)

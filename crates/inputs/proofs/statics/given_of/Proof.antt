@@ -1,10 +1,10 @@
--- `given_in` meets its contract, number by number.
-use Rattle.paper_messages.specs.Messages.{givenIn}
-use Rattle.messages.proofs.kinds.given_in.Statement.{statement}
-use Rattle.messages.proofs.kinds.given_in.Tie as tie
+-- `inputs::given_of` meets its contract, number by number.
+use Rattle.paper.specs.Ranges.{givenOf}
+use Rattle.inputs.proofs.statics.given_of.Statement.{statement}
+use Rattle.inputs.proofs.statics.given_of.Tie as tie
 
 returns : tie.Need-returns
-unfolding givenIn
+unfolding givenOf
 returns c =
     let c26 = c in
     let c25 = c26 .before in
@@ -61,8 +61,8 @@ returns c =
       useexternal = c26 .number-at26 .ensures i;
     }
 
-pub given-in-spec : {M : Type 1} → statement M
-given-in-spec =
+pub given-of-spec : {M : Type 1} → statement M
+given-of-spec =
     tie.close
     (tie.spec
     (λ c κs. tt)

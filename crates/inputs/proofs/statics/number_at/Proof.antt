@@ -1,4 +1,4 @@
--- `number_at` meets its contract: before the end of the values it is the value as `exact::unsigned` reads it, and
+-- `number_at` meets its contract: before the end of the numbers it is the number as `exact::unsigned` reads it, and
 -- past the end the definition, too, has 0.
 use Rattle.paper.specs.Ranges.{unsigned}
 use mathlib.Core.Path.{sym, ap}
@@ -8,8 +8,8 @@ use lib.ListN.{List·getD-eq-default}
 use mir.Facts.{toZ-ofZ}
 use mir.Syntax.{w64}
 use borrow.Author.Needs.{needs}
-use Rattle.messages.proofs.kinds.number_at.Statement.{statement}
-use Rattle.messages.proofs.kinds.number_at.Tie as tie
+use Rattle.inputs.proofs.statics.number_at.Statement.{statement}
+use Rattle.inputs.proofs.statics.number_at.Tie as tie
 
 mul-unsigned : tie.Need-mul-unsigned
 mul-unsigned c = search needs
@@ -25,7 +25,7 @@ returns c = rw (toZ-ofZ {w = w64} (record { sfits = c .before .unsigned-arg .giv
 
 returns-2 : tie.Need-returns-2
 unfolding unsigned
-returns-2 c = sym (ap unsigned (List·getD-eq-default (now (c .before .args .values)) (pos 0) (c .if1 .left)))
+returns-2 c = sym (ap unsigned (List·getD-eq-default (now (c .before .args .numbers)) (pos 0) (c .if1 .left)))
 
 pub number-at-spec : {M : Type 1} → statement M
 number-at-spec =
