@@ -1,5 +1,7 @@
-//! What the proved rules are measured beside. It needs no archive, so that `cargo test --lib` runs without one.
+//! What the proved rules and the program `evening` are measured beside. It needs no archive, so that `cargo test --lib`
+//! runs without one.
 
+pub mod evening;
 pub mod tuned;
 
 /// A value that the compiler cannot see through, so that nothing is worked out before the clock starts, and nothing is

@@ -9,7 +9,7 @@ use super::divisor::Divisor;
 const ONE_IN_BP: u64 = 10_000;
 /// x_pr is in hundredths, a rate in ten-thousandths.
 const BP_IN_HUNDREDTH: u64 = 100;
-const YEAR: i64 = YEAR_IN_DAY_BP as i64;
+pub const YEAR: i64 = YEAR_IN_DAY_BP as i64;
 /// P·(x_pr + S_1) up to which its product with a term's growth, at most 3,949,970, and one divisor more fit 64 bits.
 const NARROW_MOST: u64 = 4_000_000_000_000;
 
@@ -79,7 +79,7 @@ pub fn bands<const GRID: u64>(
 
 /// P·(1 - PcL_max), up, and P·(1 + PcH_max), down: divisions by a constant.
 #[inline(always)]
-fn farthest<const GRID: u64>(statics: &Statics, p: u64) -> Band {
+pub fn farthest<const GRID: u64>(statics: &Statics, p: u64) -> Band {
     let whole = ONE_IN_BP * GRID;
     let lower = p * (ONE_IN_BP - statics.pcl_max as u64);
     let upper = p * (ONE_IN_BP + statics.pch_max as u64);
@@ -98,7 +98,7 @@ struct Spread {
 
 /// 3,650,000 + RR·k.
 #[inline(always)]
-fn growth(repo_rate: i64, days: i64) -> u64 {
+pub fn growth(repo_rate: i64, days: i64) -> u64 {
     (YEAR + repo_rate * days) as u64
 }
 
@@ -123,10 +123,10 @@ fn wide<const GRID: u64>(spread: &Spread, terms: &[RepoTerm; 3]) -> [Band; 3] {
     })
 }
 
-/// x·growth/by, down. Both factors are whole floats, and the quotient is at most 4·10^10, so that the float is within a
-/// thousandth of it: the guess is the quotient, rounded down, or one more.
+/// x·growth/by, down. The quotient is at most 4·10^10 in an evaluation and 2.3·10^12 behind 50 moves, and the float has
+/// five roundings at most. So it is within a hundredth of the quotient: the guess is that, rounded down, or one more.
 #[inline(always)]
-fn down_wide(x: u64, growth: u64, by: u64) -> u64 {
+pub fn down_wide(x: u64, growth: u64, by: u64) -> u64 {
     let guess = (x as f64 * growth as f64 / by as f64 + 0.5) as u64;
     let product = u128::from(x) * u128::from(growth);
     guess - u64::from(u128::from(guess) * u128::from(by) > product)
@@ -134,7 +134,7 @@ fn down_wide(x: u64, growth: u64, by: u64) -> u64 {
 
 /// x·growth/by, up: the guess is the quotient, rounded up, or one less.
 #[inline(always)]
-fn up_wide(x: u64, growth: u64, by: u64) -> u64 {
+pub fn up_wide(x: u64, growth: u64, by: u64) -> u64 {
     let guess = (x as f64 * growth as f64 / by as f64 + 0.5) as u64;
     let product = u128::from(x) * u128::from(growth);
     guess + u64::from(u128::from(guess) * u128::from(by) < product)

@@ -5,10 +5,11 @@
 //! the two on random days.
 //!
 //! Document 01 with W-202, W-205 and W-208 to W-211. The record is the reference's own, and is changed in its place.
+//! The rival of the text (`crate::evening`) evaluates by it, and its moves use the roundings of `limits`.
 
 mod divisor;
 mod levels;
-mod limits;
+pub(crate) mod limits;
 mod rates;
 mod rows;
 mod soundness;
@@ -26,7 +27,7 @@ use rates::Rated;
 
 /// Whether a number is in a range of the paper, with one comparison: a number below the start wraps to a great one.
 #[inline(always)]
-fn within(range: &Range, x: i64) -> bool {
+pub(crate) fn within(range: &Range, x: i64) -> bool {
     x.wrapping_sub(*range.start()) as u64 <= (*range.end() - *range.start()) as u64
 }
 
