@@ -1,13 +1,14 @@
-//! Runs two programs on texts, by turns, a process each, and prints the least and the median time of each on a text:
+//! Runs three programs on texts, by turns, a process each, and prints the least and the median time of each on a text:
 //! the processor's, of the process alone, and the clock's. Their answers must be equal.
 //!
-//!     turns OURS THEIRS TEXT...
+//!     turns OURS REFERENCE RIVAL TEXT...
 
 use std::fs::File;
 use std::process::{Command, Stdio};
 use std::time::Instant;
 
 const RUNS: usize = 15;
+const SIDES: [&str; 3] = ["ours", "the reference", "the rival"];
 
 /// What the system says of the processes that have ended: user and system time first, in seconds and microseconds.
 #[repr(C)]
@@ -35,8 +36,15 @@ fn processor_ms() -> f64 {
     usage.times.map(ms).iter().sum()
 }
 
-/// A run of a program on a text: the processor's time and the clock's in milliseconds, and its answer.
-fn run(command: &str, text: &str) -> ([f64; 2], Vec<u8>) {
+/// The times of a run, in milliseconds.
+#[derive(Clone, Copy)]
+struct Times {
+    processor: f64,
+    clock: f64,
+}
+
+/// A run of a program on a text: its times, and its answer.
+fn run(command: &str, text: &str) -> (Times, Vec<u8>) {
     let mut words = command.split_whitespace();
     let mut program = Command::new(words.next().expect("a command has a word"));
     let text = File::open(text).expect("the text can be read");
@@ -48,43 +56,61 @@ fn run(command: &str, text: &str) -> ([f64; 2], Vec<u8>) {
         output.status.success(),
         "{command} has another status than 0"
     );
-    ([processor_ms() - before, clock], output.stdout)
+    let processor = processor_ms() - before;
+    (Times { processor, clock }, output.stdout)
 }
 
 /// The least and the median.
-fn spread(times: impl Iterator<Item = f64>) -> String {
-    let mut times: Vec<f64> = times.collect();
-    times.sort_by(|a, b| a.total_cmp(b));
-    format!("{:.1} and {:.1}", times[0], times[times.len() / 2])
+struct Spread {
+    least: f64,
+    median: f64,
 }
 
-fn measure(text: &str, commands: [&str; 2]) {
-    let mut times = [Vec::new(), Vec::new()];
+fn spread(times: &[Times], of: fn(&Times) -> f64) -> Spread {
+    let mut times: Vec<f64> = times.iter().map(of).collect();
+    times.sort_by(|a, b| a.total_cmp(b));
+    Spread {
+        least: times[0],
+        median: times[times.len() / 2],
+    }
+}
+
+fn measure(text: &str, commands: [&str; 3]) {
+    let mut times = [(); 3].map(|()| Vec::new());
     for _ in 0..RUNS {
-        let [ours, theirs] = commands.map(|command| run(command, text));
-        assert_eq!(ours.1, theirs.1, "the two programs' answers differ");
-        times[0].push(ours.0);
-        times[1].push(theirs.0);
+        let runs = commands.map(|command| run(command, text));
+        for (side, (_, answer)) in SIDES.iter().zip(&runs) {
+            assert!(*answer == runs[0].1, "{side} answers otherwise than ours");
+        }
+        for (times, (taken, _)) in times.iter_mut().zip(runs) {
+            times.push(taken);
+        }
     }
     println!("{text}, {RUNS} runs by turns; least and median in ms:");
-    for (name, times) in ["ours", "the reference"].iter().zip(&times) {
-        let of = |place: usize| spread(times.iter().map(|both| both[place]));
+    for (side, times) in SIDES.iter().zip(&times) {
+        let processor = spread(times, |times| times.processor);
+        let clock = spread(times, |times| times.clock);
         println!(
-            "  {name:<14} {} of the processor, {} by the clock",
-            of(0),
-            of(1)
+            "  {side:<14} {:.1} and {:.1} of the processor, {:.1} and {:.1} by the clock",
+            processor.least, processor.median, clock.least, clock.median
         );
     }
+    let [ours, reference, rival] = times.map(|times| spread(&times, |times| times.processor).least);
+    println!(
+        "  ours beside the reference {:.2}, beside the rival {:.2} (the processor's, of the least)",
+        ours / reference,
+        ours / rival
+    );
 }
 
 fn main() {
     let words: Vec<String> = std::env::args().skip(1).collect();
     match &words[..] {
-        [ours, theirs, texts @ ..] => {
+        [ours, reference, rival, texts @ ..] => {
             for text in texts {
-                measure(text, [ours, theirs]);
+                measure(text, [ours, reference, rival]);
             }
         }
-        _ => panic!("turns OURS THEIRS TEXT..."),
+        _ => panic!("turns OURS REFERENCE RIVAL TEXT..."),
     }
 }
