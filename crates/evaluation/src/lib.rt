@@ -7,8 +7,7 @@ ghost use Prim.Native.Nat.{_*_, _≤_};
 ghost use Rattle.paper.specs.Lists.{every};
 ghost use Rattle.paper.specs.Numbers.{coarsestGrid, rouble, yearInDayBp, priceMost};
 ghost use Rattle.paper.specs.Roundings.{halfUp, toGrid, grown};
-ghost use Rattle.paper_desk.specs.Evaluation.{rowPrice, roublesOf, lesserAsk, median, between, dayRows, isCrossedRow};
-ghost use Rattle.paper_desk.specs.Evaluation.{rowFits};
+ghost use Rattle.paper_desk.specs.Evaluation.{rowPrice, roublesOf, lesserAsk, median, between, dayRows, rowFits};
 ghost use Rattle.rows.specs.RowLaws.{InRange};
 ghost use Rattle.evaluation.specs.Evaluation.{Discounts, Once, isRoubleToday, onceCentralMost, evaluationFrom};
 ghost use Rattle.evaluation.specs.Book.{Room, added, closeIn, isTaken, Bound, Gathers, isInRange, isCrossed};
@@ -231,20 +230,13 @@ fn add(book: Book, r: Roubles) -> Book
     }
 }
 
-// W-205: "a row whose bid and ask are both present and the bid is above the ask".
-fn is_crossed_row(row: Row) -> bool
-    ensures { λ b. ⌜ b ≡ isCrossedRow row ⌝ }
-{
-    (0 < row.bid) & (0 < row.ask) & (row.ask < row.bid)
-}
-
 // Whether neither 16 nor 7 refuses a row.
 fn row_taken(row: Row, r: Roubles) -> bool
     requires { ⌜ InRange row ⌝ }
     requires { ⌜ r ≡ roublesOf row ⌝ }
     ensures { λ b. ⌜ b ≡ isTaken row ⌝ }
 {
-    !is_crossed_row(row) & row_fits(row, r)
+    !rows::are_crossed(row.bid, row.ask) & row_fits(row, r)
 }
 
 // What refuses rows of which one is not taken. It is rare, and rows behind that one may still be out of range or

@@ -1,7 +1,8 @@
 // The day's rows (document 01, "Units and ranges"): seven signed numbers each, lent in one slice, checked and read.
 ghost use mathlib.Core.Path.{_≡_};
-ghost use mathlib.Core.Bool.{true};
+ghost use mathlib.Core.Bool.{true, _&&_};
 ghost use Prim.Native.Nat.{_+_, _%_, _≤_, _<_};
+ghost use lib.Dec.{ltb};
 ghost use lib.ListN.{length, getD};
 ghost use lib.IntN.{pos};
 ghost use Rattle.paper.specs.Lists.{every};
@@ -74,14 +75,23 @@ pub fn row_at(rows: &[i64], at: usize) -> Row
     }
 }
 
-// W-205: "a row whose bid and ask are both present and the bid is above the ask", of the numbers as they are lent.
+// W-205: "a row whose bid and ask are both present and the bid is above the ask". An evaluation asks it of a row that it
+// has read, a refusal of the numbers as they are lent, so that the two numbers alone stand here.
+pub fn are_crossed(bid: u64, ask: u64) -> bool
+    ensures { λ r. ⌜ r ≡ (ltb 0 bid && ltb 0 ask && ltb ask bid) ⌝ }
+{
+    (0 < bid) & (0 < ask) & (ask < bid)
+}
+
+// The same of a row as it is lent.
 pub fn row_crossed(rows: &[i64], at: usize) -> bool
     requires { ⌜ at + rowNumbers ≤ length (now rows) ⌝ }
     ensures { λ r. ⌜ r ≡ isCrossedRow (rowOf (rowAt (now (rows .entry)) at)) ⌝ }
 {
-    let bid = exact::unsigned_at(rows, at + 4);
-    let ask = exact::unsigned_at(rows, at + 5);
-    (0 < bid) & (0 < ask) & (ask < bid)
+    are_crossed(
+        exact::unsigned_at(rows, at + 4),
+        exact::unsigned_at(rows, at + 5),
+    )
 }
 
 fn row_passes(rows: &[i64], at: usize, test: RowTest) -> bool

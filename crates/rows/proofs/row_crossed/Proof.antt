@@ -1,5 +1,4 @@
--- `rows::row_crossed` meets its contract: the bid and the ask stand at their places of the row, and its three tests are
--- the definition's.
+-- `rows::row_crossed` meets its contract: the bid and the ask stand at their places of the row.
 use Rattle.paper.specs.Ranges.{rowOf, rowAt}
 use Rattle.paper_desk.specs.Evaluation.{isCrossedRow}
 use borrow.Author.Needs.{needs}
@@ -18,9 +17,13 @@ add-unsigned-at-2 c = search needs
 unsigned-at-requires-2 : tie.Need-unsigned-at-requires-2
 unsigned-at-requires-2 c κs = search needs
 
+are-crossed-requires : tie.Need-are-crossed-requires
+are-crossed-requires c κs = search needs
+
 returns : tie.Need-returns
 unfolding isCrossedRow rowOf rowAt
-returns c = rw (c .unsigned-at2 .ensures, c .before .unsigned-at .ensures)
+returns c =
+    rw (c .are-crossed .ensures, c .before .unsigned-at2 .ensures, c .before .before .unsigned-at .ensures)
 
 pub row-crossed-spec : {M : Type 1} → statement M
 row-crossed-spec =
@@ -30,4 +33,5 @@ row-crossed-spec =
     unsigned-at-requires
     add-unsigned-at-2
     unsigned-at-requires-2
+    are-crossed-requires
     returns)
