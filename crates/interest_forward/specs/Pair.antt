@@ -35,6 +35,9 @@ upperOf i rm rn h = limitFrom i ((pos (i .xir) *ℤ forwardOf i rm rn) +ℤ (pos
 unfoldable pub lowerOf : Interest → (rm rn l : ℤ) → ℤ
 lowerOf i rm rn l = limitFrom i ((pos (i .xir) *ℤ forwardOf i rm rn) -ℤ (pos (oneInHundredths * (i .yn - i .ym)) *ℤ l))
 
+unfoldable pub bandWorked : Interest → (rm rn l h : ℤ) → RepoLimits
+bandWorked i rm rn l h = record { low = lowerOf i rm rn l; high = upperOf i rm rn h }
+
 -- the band, held where the pair is 0/1
 unfoldable pub bandHeld : Interest → (rm rn l h : ℤ) → RepoLimits
 bandHeld i rm rn l h =

@@ -5,7 +5,7 @@ ghost use Prim.Native.Nat.{_-_, _*_, _^_, _≤_, _<_};
 ghost use lib.IntN.{pos, subℕ};
 ghost use Rattle.paper_interest.specs.Interest.{isHeld, limitFrom, lesserZ, greaterZ};
 ghost use Rattle.interest_forward.specs.Points.{figureMost, PointRange, rateOf, Line, linear, pointBetween};
-ghost use Rattle.interest_forward.specs.Pair.{PairRange, base, Margin, Risen, upperOf, lowerOf, bandHeld};
+ghost use Rattle.interest_forward.specs.Pair.{PairRange, base, Margin, Risen, bandWorked, bandHeld};
 use interest_repo::LIFT;
 use paper::Interest;
 use paper::ONE_IN_HUNDREDTHS;
@@ -86,22 +86,18 @@ fn limit_from(i: Interest, n: u64) -> i64
     lowered(exact::half_up(n, (i.yn - i.ym) * i.xir), BASE)
 }
 
-fn upper_worked(i: Interest, m: Point, n: Point) -> i64
+// Both limits before they are held: the forward rate less the downward margin, and with the upward one.
+fn worked(i: Interest, m: Point, n: Point) -> RepoLimits
     requires { ⌜ PairRange i ⌝ }
     requires { ⌜ PointRange m ⌝ }
     requires { ⌜ PointRange n ⌝ }
-    ensures { λ r. ⌜ r ≡ upperOf i (rateOf m) (rateOf n) (pos (n .up)) ⌝ }
+    ensures { λ r. ⌜ r ≡ bandWorked i (rateOf m) (rateOf n) (pos (n .down)) (pos (n .up)) ⌝ }
 {
-    limit_from(i, i.xir * risen(i, m, n) + margin(i, n.up))
-}
-
-fn lower_worked(i: Interest, m: Point, n: Point) -> i64
-    requires { ⌜ PairRange i ⌝ }
-    requires { ⌜ PointRange m ⌝ }
-    requires { ⌜ PointRange n ⌝ }
-    ensures { λ r. ⌜ r ≡ lowerOf i (rateOf m) (rateOf n) (pos (n .down)) ⌝ }
-{
-    limit_from(i, i.xir * risen(i, m, n) - margin(i, n.down))
+    let forward = i.xir * risen(i, m, n);
+    RepoLimits {
+        low: limit_from(i, forward - margin(i, n.down)),
+        high: limit_from(i, forward + margin(i, n.up)),
+    }
 }
 
 fn lesser(x: i64, y: i64) -> i64
@@ -130,14 +126,13 @@ pub fn band_of(i: Interest, m: Point, n: Point) -> RepoLimits
     requires { ⌜ PointRange n ⌝ }
     ensures { λ r. ⌜ r ≡ bandHeld i (rateOf m) (rateOf n) (pos (n .down)) (pos (n .up)) ⌝ }
 {
-    let low = lower_worked(i, m, n);
-    let high = upper_worked(i, m, n);
+    let band = worked(i, m, n);
     if is_held(i) {
         RepoLimits {
-            low: greater(low, i.secrate),
-            high: lesser(high, i.money),
+            low: greater(band.low, i.secrate),
+            high: lesser(band.high, i.money),
         }
     } else {
-        RepoLimits { low, high }
+        band
     }
 }
