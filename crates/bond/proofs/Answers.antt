@@ -15,7 +15,7 @@ use Rattle.paper.proofs.Logic.{and-both}
 use Rattle.paper_bonds.specs.declared.Bond.{Bond}
 use Rattle.paper_bonds.specs.Bonds.{validBond, validFlows, flowsOf, grossOf, allLimits, isCrossed, bondChecks}
 use Rattle.paper_bonds.specs.Bonds.{refusedBond, acceptedBond, bondAnswer}
-use Rattle.bond.specs.Priced.{Priced}
+use Rattle.bond.specs.PriceKnown.{PriceKnown}
 
 module _ (b : Bond) (numbers : List ℤ) where
   pub answers-out-of-range : (validBond b && validFlows numbers) ≡ false → refusedBond OutOfRange ≡ bondAnswer b numbers
@@ -33,7 +33,7 @@ module _ (b : Bond) (numbers : List ℤ) where
   unfolding bondAnswer bondChecks firstOf isDone
   answers-price-out-of-range e o p = rw (e, o, p)
 
-  module _ (p : Priced b numbers) where
+  module _ (p : PriceKnown b numbers) where
     valid : (validBond b && validFlows numbers) ≡ true
     valid = and-both (validBond b) (validFlows numbers) (p .valid) (p .flows)
 

@@ -14,9 +14,9 @@ use Rattle.paper_desk.specs.Rates.{tentativeRate, ratedBy, minimumOf, unmodelle
 use Rattle.paper.proofs.Logic.{and-left, and-right, each-of-three}
 use Rattle.paper_desk.proofs.Level.{level-rate-is}
 use Rattle.exact.specs.SignedLaws.{repo-within-most}
-use Rattle.rates_level.specs.Asked.{RateStatics}
+use Rattle.rates_level.specs.RateStatics.{RateStatics}
 use Rattle.rates_level.proofs.Statics.{valid-are-rate-statics, within-tentative-bound}
-use Rattle.rates.specs.Asked.{VolatilityRanges}
+use Rattle.rates.specs.RateRanges.{VolatilityRanges}
 use Rattle.paper_bonds.specs.declared.Bond.{Bond}
 use Rattle.paper_bonds.specs.BondNumbers.{netMost, moneyMost}
 use Rattle.paper_bonds.specs.Bonds.{bondStatics, termsOf, validNumbers, validBond, bondFigures, firstRate}

@@ -2,4 +2,4 @@
 -- for, and of a bond that is not refused before its limits.
 pub mod FlowLaws
 pub mod BondInputs
-pub mod Priced
+pub mod PriceKnown

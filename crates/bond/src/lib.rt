@@ -11,7 +11,7 @@ ghost use Rattle.paper.specs.Lists.{three, some};
 ghost use Rattle.paper.specs.Ranges.{validTerm};
 ghost use Rattle.paper_bonds.specs.Bonds.{bondGiven, bondStatics, termsOf, validNumbers, validBond, flowsOf, grossOf};
 ghost use Rattle.paper_bonds.specs.Bonds.{limitsOf, allLimits, isCrossed, refusedBond, bondAnswer};
-ghost use Rattle.bond.specs.Priced.{Priced, Figured, noBondLimits};
+ghost use Rattle.bond.specs.PriceKnown.{PriceKnown, Figured, noBondLimits};
 use crate::flows::carry_of;
 use crate::flows::flows_valid;
 use crate::limit::is_crossed;
@@ -112,7 +112,7 @@ fn gross_of(b: Bond) -> u64
 
 // The limits of a term, with the Carry of the cash flows up to it.
 fn term_limits(b: Bond, st: Statics, p: Price, s1: Rate, x: Term, flows: &[i64]) -> BondLimits
-    requires { ⌜ Priced b (now flows) ⌝ }
+    requires { ⌜ PriceKnown b (now flows) ⌝ }
     requires { ⌜ Figured b st p s1 ⌝ }
     requires { ⌜ validTerm x ≡ true ⌝ }
     ensures { λ r. ⌜ r ≡ limitsOf b (flowsOf (now (flows .entry))) x ⌝ }
@@ -134,7 +134,7 @@ fn all_limits(
     s1: Rate,
     flows: &[i64],
 ) -> [BondLimits; Record::TERMS]
-    requires { ⌜ Priced b (now flows) ⌝ }
+    requires { ⌜ PriceKnown b (now flows) ⌝ }
     requires { ⌜ Figured b st p s1 ⌝ }
     ensures { λ r. ⌜ r ≡ allLimits b (flowsOf (now (flows .entry))) ⌝ }
 {
@@ -174,7 +174,7 @@ pub fn refused(verdict: Verdict) -> BondAnswer
 
 // 9, or the figures, at the gross evaluation P of a bond that is not refused before.
 fn priced(b: Bond, p: Price, flows: &[i64]) -> BondAnswer
-    requires { ⌜ Priced b (now flows) ⌝ }
+    requires { ⌜ PriceKnown b (now flows) ⌝ }
     requires { ⌜ p .units ≡ grossOf b ⌝ }
     ensures { λ r. ⌜ r ≡ bondAnswer b (now (flows .entry)) ⌝ }
 {

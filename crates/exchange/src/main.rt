@@ -4,7 +4,7 @@ ghost use Prim.Native.Nat.{_+_};
 ghost use lib.ListN.{length};
 ghost use Rattle.exchange_protocol.specs.Exchange.{textMost};
 ghost use Rattle.exchange_serve.specs.Rows.{Asks, Answers};
-use exchange_serve::Asked;
+use exchange_serve::AskedId;
 use exchange_serve::Served;
 use exchange_serve::TEXT_ROOM;
 use libc::STDERR_FILENO;
@@ -36,11 +36,11 @@ fn say_failed() {
 }
 
 // Which security the only argument asks for.
-fn asked() -> Asked
+fn asked() -> AskedId
     ensures { λ r. ⌜ Asks r ⌝ }
 {
     if os::arg_count() != 2 {
-        return Asked::Bad;
+        return AskedId::Bad;
     }
     let mut word = word_buffer();
     let n = os::arg(1, &mut word);
@@ -68,7 +68,7 @@ fn report(served: Served) {
 fn main() {
     let asked = asked();
     match asked {
-        Asked::Id(id) => report(serve(id)),
-        Asked::Bad => say_usage(),
+        AskedId::Id(id) => report(serve(id)),
+        AskedId::Bad => say_usage(),
     }
 }

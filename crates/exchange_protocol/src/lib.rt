@@ -3,8 +3,8 @@
 use paper::Row;
 use paper::Verdict;
 
-// How a column of the table is written: how many decimals its unit has, whether further ones may stand behind those if
-// they are zeros, whether it may be empty, and whether it may have a minus.
+// How a column of the exchange's text is written: how many decimals its unit has, whether further ones may stand behind
+// those if they are zeros, whether it may be empty, and whether it may have a minus.
 pub struct Column {
     pub places: usize,
     pub zeros: bool,

@@ -1,2 +1,2 @@
 -- The laws of exchange_serve, a file each; its own proofs alone cite them.
-mod Turns
+mod Serving

@@ -16,8 +16,8 @@ use Rattle.exchange_protocol.specs.declared.Reading.{Reading}
 use Rattle.exchange_protocol.specs.Exchange.{textMost}
 use Rattle.exchange_protocol.specs.Scan.{reading}
 use Rattle.text_evidence.specs.Evidence.{Counted, hasEnded, hasFailed, unwritten, Hands}
-use Rattle.exchange_serve.specs.declared.Asked.{Asked}
-use Rattle.exchange_serve.specs.declared.Asked.the-variants as asked
+use Rattle.exchange_serve.specs.declared.AskedId.{AskedId}
+use Rattle.exchange_serve.specs.declared.AskedId.the-variants as asked
 use Rattle.exchange_serve.specs.declared.Taken.{Taken}
 use Rattle.exchange_serve.specs.declared.Served.{Served}
 use Rattle.text_out.specs.Wrote.{Wrote}
@@ -25,21 +25,25 @@ use Rattle.text_out.specs.Places.{numberBytes, nextBytes}
 use Rattle.text_out.specs.Sizes.{rowsBytes}
 
 -- one digit or more, zeros may lead; a number above the greatest id asks as 0 does, for a security that is in no text
-unfoldable pub settled : Size → Asked
+unfoldable pub settled : Size → AskedId
 settled (size.Is n) = asked.Id (pick (leb n idMost) n 0)
 settled size.Bad = asked.Bad
 
-unfoldable pub askedOf : List ℕ → Asked
+unfoldable pub askedOf : List ℕ → AskedId
 askedOf p = settled (sizeOf p)
 
 -- what is asked for is what some word asks for
-pub record Asks (r : Asked) : Type 0 where
+pub record Asks (r : AskedId) : Type 0 where
   pub word : List ℕ
   pub is : r ≡ askedOf word
 
+-- the first number past the ids
+abbrev pub pastIds : ℕ
+pastIds = suc idMost
+
 -- a digit more, where all numbers above the greatest id are one
 unfoldable pub grown : (n digit : ℕ) → ℕ
-grown n d = pick (leb (10 * n + d) idMost) (10 * n + d) (suc idMost)
+grown n d = pick (leb (10 * n + d) idMost) (10 * n + d) pastIds
 
 -- AS MANY BYTES AS `read` DELIVERED are taken in, up to `end`. The input has ended exactly where they leave room, so
 -- that a text that fills the buffer is never taken for one that a failed read cut off

@@ -4,7 +4,7 @@ ghost use Prim.Native.Nat.{_+_, _*_, _≤_};
 ghost use lib.ListN.{length};
 ghost use Rattle.exchange_protocol.specs.Scan.{reading};
 ghost use Rattle.text_out.specs.Wrote.{Wrote};
-ghost use Rattle.exchange_serve.specs.Rows.{grown, askedOf, TakesIn, Serves, readingText, readingMost};
+ghost use Rattle.exchange_serve.specs.Rows.{pastIds, grown, askedOf, TakesIn, Serves, readingText, readingMost};
 ghost use Rattle.text_bytes.specs.Bytes.{room};
 ghost use Rattle.paper.specs.Numbers.{allNumbersMost};
 ghost use Rattle.exchange_protocol.specs.Exchange.{rowsMost};
@@ -31,7 +31,7 @@ use text_out::put_numbers;
 
 // Which security the program's argument asks for. No security has the id 0, so 0 stands for every id that is out of
 // range.
-pub enum Asked {
+pub enum AskedId {
     Id(u64),
     Bad,
 }
@@ -42,42 +42,45 @@ fn wide(b: u8) -> u64
     b as u64
 }
 
+// The first number past the ids: it stands for every number that is above the greatest id.
+const PAST_IDS: u64 = Record::ID_MOST + 1;
+
 // A number with a digit more; all that are above the greatest id are one.
 fn grown(n: u64, d: u64) -> u64
-    requires { ⌜ (n ≤ 1000000001) × (d ≤ 9) ⌝ }
-    ensures { λ r. ⌜ (r ≡ grown n d) × (r ≤ 1000000001) ⌝ }
+    requires { ⌜ (n ≤ pastIds) × (d ≤ 9) ⌝ }
+    ensures { λ r. ⌜ (r ≡ grown n d) × (r ≤ pastIds) ⌝ }
 {
     let y = 10 * n + d;
     if y <= Record::ID_MOST {
         return y;
     }
-    Record::ID_MOST + 1
+    PAST_IDS
 }
 
 // One digit or more, and nothing else.
-pub fn id_of(p: &[u8]) -> Asked
+pub fn id_of(p: &[u8]) -> AskedId
     ensures { λ r. ⌜ r ≡ askedOf (now (p .entry)) ⌝ }
 {
     if p.len() == 0 {
-        return Asked::Bad;
+        return AskedId::Bad;
     }
     let mut i = 0;
     let mut n: u64 = 0;
     while i < p.len() {
         let b = wide(p[i]);
         if b < DIGIT_ZERO {
-            return Asked::Bad;
+            return AskedId::Bad;
         }
         if DIGIT_NINE < b {
-            return Asked::Bad;
+            return AskedId::Bad;
         }
         n = grown(n, b - DIGIT_ZERO);
         i += 1;
     }
     if Record::ID_MOST < n {
-        return Asked::Id(0);
+        return AskedId::Id(0);
     }
-    Asked::Id(n)
+    AskedId::Id(n)
 }
 
 // ---- the text

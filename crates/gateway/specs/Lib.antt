@@ -1,4 +1,4 @@
 -- The gateway's calls in the forms of the code.
-pub mod Priced
+pub mod PriceAndRate
 pub mod LimitCalls
 pub mod GatewayLaws

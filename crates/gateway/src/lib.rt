@@ -4,7 +4,7 @@
 mod answer; // the figure, or minus the refusal number
 mod level; // a level's rate
 mod limit; // a range limit, a band limit
-mod priced; // the price and the rate of a limit
+mod price_and_rate; // the price and the rate of a limit
 
 pub use level::level_answer;
 pub use limit::band_answer;

@@ -12,9 +12,9 @@ use Rattle.paper.specs.Ranges.{isRate, noRate, sound}
 use Rattle.paper_desk.specs.Rates.{modelOf, Weighing}
 use Rattle.paper.proofs.Logic.{and-left, and-right}
 use Rattle.paper_desk.proofs.TentativeRange.{valid-tentative-within-top}
-use Rattle.rates_level.specs.Asked.{RateStatics}
+use Rattle.rates_level.specs.RateStatics.{RateStatics}
 use Rattle.rates_level.proofs.Statics.{valid-are-rate-statics, within-tentative-bound}
-use Rattle.rates.specs.Asked.{FigureRanges}
+use Rattle.rates.specs.RateRanges.{FigureRanges}
 
 pub rates-weighing : (st : Statics) → RateStatics st → Weighing (modelOf st)
 rates-weighing st r = record { q = r .multiplier-low; aup = r .up-high; adown = r .down-high }

@@ -4,7 +4,7 @@ ghost use Prim.Native.Nat.{_+_, _*_, _^_, _≤_, _<_};
 ghost use Rattle.paper.specs.Numbers.{volatilityMost};
 ghost use Rattle.paper_desk.specs.Rates.{leastStep, tentativeRate, tentativeRateByMove, tentativeRateOf};
 ghost use Rattle.paper_desk.specs.Rates.{tentativeAfter};
-ghost use Rattle.rates_level.specs.Asked.{RateStatics};
+ghost use Rattle.rates_level.specs.RateStatics.{RateStatics};
 use paper::HUNDREDTHS_OF_MILLIONTHS_IN_BP;
 use paper::MILLIONTHS_IN_BP;
 use paper::Record;

@@ -20,7 +20,7 @@ use Rattle.paper.proofs.Search.{Mono, Between, between-below-hit, between-above
 use Rattle.paper.proofs.Search.{least-bound, least-monotone, multiple-holds-or-is-last, multiple-within-bound}
 use Rattle.rates_level.specs.declared.Level.{Level}
 use Rattle.rates_level.specs.declared.Squares.{Squares}
-use Rattle.rates_level.specs.Asked.{RateStatics, tentativeBound}
+use Rattle.rates_level.specs.RateStatics.{RateStatics, tentativeBound}
 use Rattle.rates_level.specs.Level.{levelOf, squaresOf, reaches, reachMost, leastReach, Sought, coversBy}
 use Rattle.rates_level.specs.Level.{leastRate, Tried, enough, noLess}
 use Rattle.rates_level.proofs.Statics.{level-statics}

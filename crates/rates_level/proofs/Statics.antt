@@ -12,7 +12,7 @@ use Rattle.paper.specs.Ranges.{validStatics, tentativeTop}
 use Rattle.paper_desk.specs.Rates.{daysOf, minimumOf}
 use Rattle.paper.proofs.StaticsFacts.{statics-facts}
 use Rattle.paper_desk.proofs.TentativeRange.{tentative-top-high}
-use Rattle.rates_level.specs.Asked.{RateStatics, tentativeBound}
+use Rattle.rates_level.specs.RateStatics.{RateStatics, tentativeBound}
 
 pub valid-are-rate-statics : (st : Statics) → validStatics st ≡ true → RateStatics st
 valid-are-rate-statics st v =

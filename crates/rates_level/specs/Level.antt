@@ -11,7 +11,7 @@ use Rattle.paper.specs.Numbers.{rateMost, stepMost, firstDaysMost, liquidityMos
 use Rattle.paper_desk.specs.Rates.{daysOf, minimumOf, rootsWithin}
 use Rattle.rates_level.specs.declared.Level.{Level}
 use Rattle.rates_level.specs.declared.Squares.{Squares}
-use Rattle.rates_level.specs.Asked.{tentativeBound}
+use Rattle.rates_level.specs.RateStatics.{tentativeBound}
 
 -- rh_L and S_L_min of a level
 abbrev pub levelOf : Statics → (level : ℕ) → Level

@@ -2,7 +2,7 @@
 // sides before it takes it. So its contracts say only how large it may be.
 ghost use Prim.Native.Nat.{_≤_, _<_};
 ghost use Rattle.paper.specs.Numbers.{aheadMost};
-ghost use Rattle.rates_level.specs.Asked.{RateStatics, tentativeBound};
+ghost use Rattle.rates_level.specs.RateStatics.{RateStatics, tentativeBound};
 ghost use Rattle.rates_level.specs.Level.{rootBound, guessMost, stepsBound};
 use paper::Statics;
 

@@ -7,7 +7,7 @@ ghost use Prim.Native.Nat.{_*_, _≤_};
 ghost use Rattle.paper.specs.Lists.{forLevels};
 ghost use Rattle.paper.specs.Numbers.{rateMost, aheadMost};
 ghost use Rattle.paper_desk.specs.Rates.{minimumOf, covers, levelRate};
-ghost use Rattle.rates_level.specs.Asked.{RateStatics, tentativeBound};
+ghost use Rattle.rates_level.specs.RateStatics.{RateStatics, tentativeBound};
 ghost use Rattle.rates_level.specs.Level.{levelOf, squaresOf, squareMost, reaches, reachMost, leastReach};
 ghost use Rattle.rates_level.specs.Level.{Sought, leastRate, guessMost};
 use guess::guess_of;

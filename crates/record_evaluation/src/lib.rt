@@ -102,11 +102,11 @@ fn worked_at(s: Slot, d: Day, e: Priced) -> Working
     let p2 = r.p2;
     let p = e.price;
     let figures = e.figures;
-    let moved = rates::volatility::move_of(p1, p2, p);
-    if rates::move_too_large(st, moved) {
+    let price_move = rates::volatility::move_of(p1, p2, p);
+    if rates::move_too_large(st, price_move) {
         return unmade(Verdict::MoveTooLarge);
     }
-    let f = rates::figures_of(st, d.b, d.m, rates[0], moved, r.s, tentative);
+    let f = rates::figures_of(st, d.b, d.m, rates[0], price_move, r.s, tentative);
     let made = record_figures::made_at(r, d, p, f);
     let bands = made.bands;
     if !in_order(bands) {

@@ -16,7 +16,7 @@ use Rattle.paper.specs.Ranges.{validTerm, termAt, sound, validDayNumbers, rateA
 use Rattle.paper_desk.specs.Rates.{minimumOf, levelRate, figuresOf, modelled, unmodelled}
 use Rattle.paper.proofs.Logic.{and-left, and-right}
 use Rattle.record_soundness.proofs.Facts.{sound-facts}
-use Rattle.rates_level.specs.Asked.{RateStatics}
+use Rattle.rates_level.specs.RateStatics.{RateStatics}
 use Rattle.rates_level.proofs.Statics.{valid-are-rate-statics, level-statics}
 use Rattle.rates_level.proofs.Reach.{level-rate-within-most}
 use Rattle.record_figures.specs.Evaluates.{moveTo, figuresAt}

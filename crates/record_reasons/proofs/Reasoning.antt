@@ -31,9 +31,9 @@ use Rattle.evaluation.specs.declared.PriceFigures.{PriceFigures}
 use Rattle.evaluation.specs.Evaluation.{priceFigures, pricedOf}
 use Rattle.record_soundness.proofs.Facts.{sound-facts}
 use Rattle.inputs.proofs.Facts.{day-facts}
-use Rattle.rates_level.specs.Asked.{tentativeBound}
+use Rattle.rates_level.specs.RateStatics.{tentativeBound}
 use Rattle.rates_level.proofs.Statics.{within-tentative-bound}
-use Rattle.rates.specs.Asked.{FigureRanges}
+use Rattle.rates.specs.RateRanges.{FigureRanges}
 use Rattle.rates.proofs.Statics.{sound-figures-in-ranges}
 use Rattle.record_figures.specs.declared.Made.{Made}
 use Rattle.record_figures.specs.Evaluates.{moveTo, figuresAt, madeOf}

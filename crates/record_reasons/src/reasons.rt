@@ -5,7 +5,7 @@ ghost use Prim.Native.Nat.{_+_, _^_, _≤_, _<_};
 ghost use Rattle.paper.specs.Numbers.{aheadMost, rateMost};
 ghost use Rattle.paper.specs.Ranges.{validStatics};
 ghost use Rattle.paper_desk.specs.Rates.{levelRate};
-ghost use Rattle.rates_level.specs.Asked.{tentativeBound};
+ghost use Rattle.rates_level.specs.RateStatics.{tentativeBound};
 ghost use Rattle.paper_reasons.specs.Reasons.{firstThatHolds, weightIs, weightReasons, replacementWas};
 ghost use Rattle.paper_reasons.specs.Reasons.{replacementReasons, tentativeDid, tentativeReasons, levelSetBy};
 ghost use Rattle.paper_reasons.specs.Reasons.{levelReason};
@@ -155,18 +155,18 @@ fn modelled(price: PriceReason, old: Record, d: Day, new: Made) -> Reasons
     let p = new.p1;
     let made = new.rates;
     let after = new.tentative;
-    let moved = move_of(p1, p2, p);
+    let price_move = move_of(p1, p2, p);
     let carried = choose(
         model_of(st),
         d.b,
         MILLIONTHS_IN_BP * last[0].bp,
-        moved,
+        price_move,
         old.s,
     );
-    let t = tentative_rate_of(st, carried.replaced, moved, carried.s);
+    let t = tentative_rate_of(st, carried.replaced, price_move, carried.s);
     Reasons {
         price,
-        weight: weight_reason(d.b, moved, old.s),
+        weight: weight_reason(d.b, price_move, old.s),
         replacement: replacement_reason(carried.replaced),
         tentative: tentative_reason(st.h, st.wait, t, tentative),
         level1: level_reason(st, 1, d.m, after.bp, made[0]),

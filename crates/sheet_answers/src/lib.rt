@@ -85,7 +85,7 @@ fn lasts(why: Why) -> u64 {
 
 // What is asked of a security on a day: an evaluation of the record as it then stands, one of the record as it was
 // admitted, why that one is answered as it is, or a reading.
-enum Asked {
+enum DailyAsk {
     Evaluation,
     EvaluationAnew,
     Why,
@@ -103,25 +103,25 @@ fn evaluated(r: Record, d: Day, rows: &[i64]) -> Record {
     effect.rec
 }
 
-fn asked_on(asked: Asked, r: Record, d: Day, rows: &[i64]) -> Asking {
+fn asked_on(asked: DailyAsk, r: Record, d: Day, rows: &[i64]) -> Asking {
     match asked {
-        Asked::Evaluation => {
+        DailyAsk::Evaluation => {
             let rec = evaluated(r, d, rows);
             let sum = figure(rec);
             Asking { rec, sum }
         }
-        Asked::EvaluationAnew => {
+        DailyAsk::EvaluationAnew => {
             let sum = figure(evaluated(r, d, rows));
             Asking { rec: r, sum }
         }
-        Asked::Why => {
+        DailyAsk::Why => {
             let why = record_reasons::why(first(r), d, rows);
             Asking {
                 rec: r,
                 sum: lasts(why),
             }
         }
-        Asked::Reading => {
+        DailyAsk::Reading => {
             let answer = record_calls::read(first(r));
             let rec = answer.rec;
             let sum = figure(rec);
@@ -131,7 +131,7 @@ fn asked_on(asked: Asked, r: Record, d: Day, rows: &[i64]) -> Asking {
 }
 
 fn over_days(
-    asked: Asked,
+    asked: DailyAsk,
     x: &[i64; ADMISSION_NUMBERS],
     y: &[i64; DAY_NUMBERS],
     rows: &[i64],
@@ -157,7 +157,7 @@ pub extern "C" fn nedrubal_answers(
     rows: &[i64],
     days: u64,
 ) -> u64 {
-    over_days(Asked::Evaluation, x, y, rows, days)
+    over_days(DailyAsk::Evaluation, x, y, rows, days)
 }
 
 // One security evaluated on so many days, each time as it was admitted: what asking is measured beside.
@@ -168,7 +168,7 @@ pub extern "C" fn nedrubal_evaluations(
     rows: &[i64],
     days: u64,
 ) -> u64 {
-    over_days(Asked::EvaluationAnew, x, y, rows, days)
+    over_days(DailyAsk::EvaluationAnew, x, y, rows, days)
 }
 
 // Why each of those evaluations is answered as it is.
@@ -179,7 +179,7 @@ pub extern "C" fn nedrubal_whys(
     rows: &[i64],
     days: u64,
 ) -> u64 {
-    over_days(Asked::Why, x, y, rows, days)
+    over_days(DailyAsk::Why, x, y, rows, days)
 }
 
 // The record judged sound and copied, so many times.
@@ -190,5 +190,5 @@ pub extern "C" fn nedrubal_reads(
     rows: &[i64],
     days: u64,
 ) -> u64 {
-    over_days(Asked::Reading, x, y, rows, days)
+    over_days(DailyAsk::Reading, x, y, rows, days)
 }

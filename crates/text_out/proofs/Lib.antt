@@ -1,5 +1,5 @@
 -- The laws of text_out, a file each; its own proofs alone cite them.
 mod Digits
 mod Sign
-mod Turns
+mod DigitTurns
 mod Lists

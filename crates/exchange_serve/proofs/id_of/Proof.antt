@@ -2,8 +2,8 @@
 use Prim.Native.Nat.{_-_}
 use lib.ListN.{length}
 use borrow.Author.Needs.{needs}
-use Rattle.exchange_serve.proofs.Turns.{Asking, none-asked, asking-none, asking-small, asking-over, asking-low}
-use Rattle.exchange_serve.proofs.Turns.{asking-high, asking-more}
+use Rattle.exchange_serve.proofs.Serving.{Asking, none-asked, asking-none, asking-small, asking-over, asking-low}
+use Rattle.exchange_serve.proofs.Serving.{asking-high, asking-more}
 use Rattle.exchange_serve.proofs.id_of.Statement.{statement}
 use Rattle.exchange_serve.proofs.id_of.Tie as tie
 

@@ -5,7 +5,7 @@ use native.Mathlib.Omega.{arith}
 use lib.ListN.{length}
 use lib.Seq.{length-take-le}
 use borrow.Author.Needs.{needs}
-use Rattle.exchange_serve.proofs.Turns.{say-bad-line, say-rows}
+use Rattle.exchange_serve.proofs.Serving.{say-bad-line, say-rows}
 use Rattle.exchange_serve.proofs.say_reading.Statement.{statement}
 use Rattle.exchange_serve.proofs.say_reading.Tie as tie
 use Rattle.paper.specs.Numbers.{rowNumbers}

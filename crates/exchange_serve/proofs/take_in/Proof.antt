@@ -4,7 +4,7 @@ use Prim.Native.Nat.{_-_}
 use native.Mathlib.Omega.{arith}
 use lib.ListN.{length}
 use borrow.Author.Needs.{needs}
-use Rattle.exchange_serve.proofs.Turns.{Taking, taking-none, taken-full, taken-ended, taking-more, more-came}
+use Rattle.exchange_serve.proofs.Serving.{Taking, taking-none, taken-full, taken-ended, taking-more, more-came}
 use Rattle.exchange_serve.proofs.take_in.Statement.{statement}
 use Rattle.exchange_serve.proofs.take_in.Tie as tie
 use Rattle.exchange_serve.proofs.take_in.Reads as reads

@@ -6,7 +6,7 @@ use mir.Facts.{toZ-ofZ}
 use mir.Syntax.{w64}
 use borrow.Author.Needs.{needs}
 use Rattle.paper.specs.Numbers.{rowNumbers}
-use Rattle.exchange_text.proofs.Turns.{Storing, storing-none, storing-more, storing-all}
+use Rattle.exchange_text.proofs.TextTurns.{Storing, storing-none, storing-more, storing-all}
 use Rattle.exchange_text.proofs.put_row.Statement.{statement}
 use Rattle.exchange_text.proofs.put_row.Tie as tie
 

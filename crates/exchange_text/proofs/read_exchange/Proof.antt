@@ -6,8 +6,8 @@ use native.Mathlib.Omega.{arith}
 use lib.ListN.{length}
 use borrow.Author.Needs.{needs}
 use Rattle.exchange_protocol.specs.Exchange.{too-long}
-use Rattle.exchange_text.proofs.Turns.{Reads, reads-none, reads-all, reads-bad, reads-other, reads-own}
-use Rattle.exchange_text.proofs.Turns.{reads-seventeenth, further}
+use Rattle.exchange_text.proofs.TextTurns.{Reads, reads-none, reads-all, reads-bad, reads-other, reads-own}
+use Rattle.exchange_text.proofs.TextTurns.{reads-seventeenth, further}
 use Rattle.exchange_text.proofs.read_exchange.Statement.{statement}
 use Rattle.exchange_text.proofs.read_exchange.Tie as tie
 

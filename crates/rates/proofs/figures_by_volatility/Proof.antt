@@ -8,7 +8,7 @@ use Rattle.paper_desk.specs.Rates.{tentativeRate, tentativeRateOf, figuresByVol
 use Rattle.paper.specs.Numbers.{volatilityMost}
 use Rattle.paper_desk.proofs.TentativeRange.{valid-tentative-within-top, tentative-rate-in}
 use Rattle.paper.proofs.Logic.{pick-false}
-use Rattle.rates_level.specs.Asked.{RateStatics, tentativeBound}
+use Rattle.rates_level.specs.RateStatics.{RateStatics, tentativeBound}
 use Rattle.rates_level.proofs.Statics.{within-tentative-bound}
 use Rattle.rates.proofs.figures_by_volatility.Statement.{statement}
 use Rattle.rates.proofs.figures_by_volatility.Tie as tie

@@ -7,7 +7,7 @@ use Rattle.paper.specs.Numbers.{volatilityMost}
 use Rattle.paper_desk.specs.Rates.{modelled, Weighing}
 use Rattle.paper_desk.proofs.Bounds.{volatility-high}
 use Rattle.paper_desk.proofs.TentativeRange.{valid-tentative-within-top, tentative-rate-in}
-use Rattle.rates_level.specs.Asked.{tentativeBound}
+use Rattle.rates_level.specs.RateStatics.{tentativeBound}
 use Rattle.rates_level.proofs.Statics.{within-tentative-bound}
 use Rattle.rates.proofs.Statics.{rates-weighing}
 use Rattle.rates.proofs.modelled.Statement.{statement}

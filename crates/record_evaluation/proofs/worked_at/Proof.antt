@@ -66,13 +66,13 @@ figures-of-requires c κs =
 made-at-requires : tie.Need-made-at-requires
 unfolding figuresAt moveTo
 made-at-requires c κs =
-    let moved = c .before .before .before .before in
-    let s = start moved in
+    let at-move = c .before .before .before .before in
+    let s = start at-move in
     record {
       sound-record = s .pre .0;
       day = s .pre .1 .0;
       price = s .pre .1 .1;
-      figures = rw (← moved .move-of .ensures) (c .figures-of .ensures);
+      figures = rw (← at-move .move-of .ensures) (c .figures-of .ensures);
     }
 
 in-order-requires : tie.Need-in-order-requires

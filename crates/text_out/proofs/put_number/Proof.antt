@@ -2,7 +2,7 @@
 use borrow.Author.Needs.{needs}
 use Prim.Native.Nat.{_-_}
 use native.Mathlib.Omega.{arith}
-use Rattle.text_out.proofs.Turns.{Spelling, spelling-none, spelling-more, spelling-all}
+use Rattle.text_out.proofs.DigitTurns.{Spelling, spelling-none, spelling-more, spelling-all}
 use Rattle.text_out.proofs.put_number.Statement.{statement}
 use Rattle.text_out.proofs.put_number.Tie as tie
 use Rattle.text_out.proofs.put_number.Reads as reads

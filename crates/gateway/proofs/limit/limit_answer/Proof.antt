@@ -7,7 +7,7 @@ use mathlib.Core.Bool.{true}
 use Rattle.paper.specs.Ranges.{validStatics}
 use Rattle.gateway.specs.LimitCalls.{limitInRange, LimitInputs, limitFigure, limitCall, limit-inputs, limit-high}
 use Rattle.gateway.proofs.Answers.{made-valid, answers-minus-four, answers-minus-six, answers-figure}
-use Rattle.gateway.proofs.InHand.{Held, priced-at-is-held, limit-out}
+use Rattle.gateway.proofs.InHand.{Held, made-is-held, limit-out}
 use Rattle.gateway.proofs.limit.limit_answer.Statement.{statement}
 use Rattle.gateway.proofs.limit.limit_answer.Tie as tie
 
@@ -17,7 +17,7 @@ valid c = made-valid _ (c .before .before .valid-given .ensures) (c .before .if1
 -- the price and the rate in hand
 in-hand : (c : tie.After-known-told) → let a = c .before .before .before .before .before .before .before .args in
     Held (a .p) (a .rate) (c .before .p .given .0 .0) (c .before .p .given .0 .1 .0)
-in-hand c = priced-at-is-held _ _ _ _ (sym (c .before .before .before .price-and-rate .ensures)
+in-hand c = made-is-held _ _ _ _ (sym (c .before .before .before .price-and-rate .ensures)
     ∙ c .before .p .given .1)
 
 -- what the test of what is left gave

@@ -4,7 +4,7 @@ use native.Mathlib.Nat.{mul-le-mul, mul-pos, le-trans, le-of-lt, div-le-self}
 use native.Mathlib.Omega.{arith}
 use borrow.Author.Needs.{needs}
 use Rattle.paper.specs.Numbers.{liquidityMost}
-use Rattle.rates_level.specs.Asked.{tentativeBound}
+use Rattle.rates_level.specs.RateStatics.{tentativeBound}
 use Rattle.rates_level.specs.Level.{rootBound}
 use Rattle.rates_level.proofs.guess.guess_of.Statement.{statement}
 use Rattle.rates_level.proofs.guess.guess_of.Tie as tie

@@ -7,7 +7,7 @@ use Rattle.rates.specs.declared.volatility.Volatility.{Volatility}
 use Rattle.rates.specs.Chosen.{chosen}
 use Rattle.paper_desk.proofs.Bounds.{volatility-high}
 use Rattle.paper_desk.proofs.TentativeRange.{valid-tentative-within-top, tentative-rate-in}
-use Rattle.rates_level.specs.Asked.{tentativeBound}
+use Rattle.rates_level.specs.RateStatics.{tentativeBound}
 use Rattle.rates_level.proofs.Statics.{within-tentative-bound}
 use Rattle.rates.proofs.Statics.{rates-weighing}
 use Rattle.record_figures.specs.Evaluates.{moveTo}
@@ -86,8 +86,8 @@ t-high : (c : tie.After-tentative-rate-of) → c .tentative-rate-of .result ≤ 
 t-high c =
     let s = start (c .before .before .before) in
     let st = figures-in-ranges _ _ _ (s .pre .0) (s .pre .1) .statics in
-    let moved = move-high (c .before .before .before) in
-    let in-range = tentative-rate-in _ _ _ _ (st .step-low) (st .multiplier-high) moved (s-high (c .before)) in
+    let move-small = move-high (c .before .before .before) in
+    let in-range = tentative-rate-in _ _ _ _ (st .step-low) (st .multiplier-high) move-small (s-high (c .before)) in
     rw (c .tentative-rate-of .ensures) (within-tentative-bound st (valid-tentative-within-top _ _ in-range))
 
 weight-reason-requires : tie.Need-weight-reason-requires
@@ -133,18 +133,18 @@ level-reason-requires-3 c κs =
 
 -- The move, whether the replacement won, new s and t are those at P. Where `rw` rewrites by the move the path is
 -- written out, since in `start` the stage of the move would be rewritten too.
-moved-to : (c : tie.After-move-of)
+move-is : (c : tie.After-move-of)
     → let a = start c .args in
     c .move-of .result ≡ moveTo (a .old) (a .new .p1 .units)
 unfolding moveTo
-moved-to c = c .move-of .ensures
+move-is c = c .move-of .ensures
 
 chosen-is : (c : tie.After-choose)
     → let a = c .before .before .before .before .before .before .before .before .before .before .before .args in
     c .choose .result
     ≡ chosen (modelOf (a .old .statics)) (a .d .b) (millionthsInBp * rateAt (a .old .rates) 0)
     (moveTo (a .old) (a .new .p1 .units)) (a .old .s)
-chosen-is c = rw (c .choose .ensures, c .before .model-of .ensures, moved-to (c .before .before))
+chosen-is c = rw (c .choose .ensures, c .before .model-of .ensures, move-is (c .before .before))
 
 replaced-is : (c : tie.After-choose)
     → let a = start (c .before .before) .args in
@@ -161,7 +161,7 @@ step-is c =
     rw (
       c .tentative-rate-of .ensures,
       chosen-is (c .before),
-      moved-to (c .before .before .before),
+      move-is (c .before .before .before),
       figures-modelled (s .args .old) (s .args .d) (s .args .new .p1 .units) (s .pre .1),
     )
 
@@ -174,10 +174,10 @@ returns c =
     let weight = replacement .before in
     let t = weight .before in
     let chosen = t .before in
-    let moved = chosen .before .before in
-    let s = start moved in
+    let at-move = chosen .before .before in
+    let s = start at-move in
     let old = s .args .old in
-    let w = rw (moved-to moved) at (weight .weight-reason .ensures) ∙ weight-by (old .statics) _ _ _ (s .pre .1) in
+    let w = rw (move-is at-move) at (weight .weight-reason .ensures) ∙ weight-by (old .statics) _ _ _ (s .pre .1) in
     let r = rw (replaced-is chosen) at (replacement .replacement-reason .ensures)
     ∙ replacement-by (old .statics) _ (s .pre .1) in
     let k = rw (step-is t) at (tentative .tentative-reason .ensures) ∙ tentative-by (old .statics) _ _ (s .pre .1) in

@@ -1,27 +1,27 @@
 // The price and the rate that a limit is made of: here plain numbers enter, by the constructors of the two kinds.
 ghost use mathlib.Core.Path.{_≡_};
-ghost use Rattle.gateway.specs.Priced.{pricedAt};
+ghost use Rattle.gateway.specs.PriceAndRate.{priceAndRate};
 use paper::MadePrice;
 use paper::MadeRate;
 use paper::Price;
 use paper::Rate;
 
 // Both of them, or that a number is out of range: refusal 6.
-pub enum Priced {
+pub enum PriceAndRate {
     At(Price, Rate),
     OutOfRange,
 }
 
-pub fn price_and_rate(p: u64, rate: u64) -> Priced
-    ensures { λ r. ⌜ r ≡ pricedAt p rate ⌝ }
+pub fn price_and_rate(p: u64, rate: u64) -> PriceAndRate
+    ensures { λ r. ⌜ r ≡ priceAndRate p rate ⌝ }
 {
     let price = Price::new(p);
     let rated = Rate::new(rate);
     match price {
-        MadePrice::OutOfRange => Priced::OutOfRange,
+        MadePrice::OutOfRange => PriceAndRate::OutOfRange,
         MadePrice::Made(x) => match rated {
-            MadeRate::OutOfRange => Priced::OutOfRange,
-            MadeRate::Made(y) => Priced::At(x, y),
+            MadeRate::OutOfRange => PriceAndRate::OutOfRange,
+            MadeRate::Made(y) => PriceAndRate::At(x, y),
         },
     }
 }

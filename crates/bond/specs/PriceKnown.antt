@@ -16,7 +16,7 @@ abbrev pub noBondLimits : BondLimits
 noBondLimits = record { band = noLimits; off = noLimits }
 
 -- it is in range, has a face value, and its gross evaluation is a price
-pub record Priced (b : Bond) (numbers : List ℤ) : Type 0 where
+pub record PriceKnown (b : Bond) (numbers : List ℤ) : Type 0 where
   pub valid : validBond b ≡ true
   pub flows : validFlows numbers ≡ true
   pub face : 0 < b .face

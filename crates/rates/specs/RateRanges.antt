@@ -4,7 +4,7 @@ use Rattle.paper.specs.declared.Rate.{Rate}
 use Rattle.paper.specs.declared.Statics.{Statics}
 use Rattle.paper.specs.declared.Tentative.{Tentative}
 use Rattle.paper.specs.Numbers.{rateMost, volatilityMost, ageMost, aheadMost}
-use Rattle.rates_level.specs.Asked.{RateStatics, tentativeBound}
+use Rattle.rates_level.specs.RateStatics.{RateStatics, tentativeBound}
 
 -- the figures that t is held against, and the days ahead
 pub record RatedRanges (st : Statics) (m t : ℕ) (old : Tentative) : Type 0 where

@@ -25,9 +25,10 @@ use Rattle.exchange_protocol.specs.declared.Reading.{Reading}
 use Rattle.text_evidence.specs.declared.Delivered.{Delivered}
 use Rattle.text_evidence.specs.Evidence.{Counted, counted-none, counted-on, unread, hasEnded, ended-is-none, Fills}
 use Rattle.text_evidence.specs.Evidence.{not-ended-is-some}
-use Rattle.exchange_serve.specs.declared.Asked.{Asked}
-use Rattle.exchange_serve.specs.declared.Asked.the-variants as asked
-use Rattle.exchange_serve.specs.Rows.{settled, askedOf, grown, TakesIn, readingNumbers, readingText, readingMost}
+use Rattle.exchange_serve.specs.declared.AskedId.{AskedId}
+use Rattle.exchange_serve.specs.declared.AskedId.the-variants as asked
+use Rattle.exchange_serve.specs.Rows.{settled, askedOf, pastIds, grown, TakesIn, readingNumbers, readingText}
+use Rattle.exchange_serve.specs.Rows.{readingMost}
 use Rattle.text_out.specs.Sizes.{rowsBytes}
 use Rattle.text_out.specs.Places.{numberBytes, nextBytes, nextSignedBytes}
 
@@ -52,21 +53,21 @@ unfolding grown
 grown-same n d t = go (leb (10 * n + d) idMost) refl
   where
     go : (z : Bool) → leb (10 * n + d) idMost ≡ z
-        → settled (sizeFrom (pick z (10 * n + d) (suc idMost)) t) ≡ settled (sizeFrom (10 * n + d) t)
+        → settled (sizeFrom (pick z (10 * n + d) pastIds) t) ≡ settled (sizeFrom (10 * n + d) t)
     go true e = refl
-    go false e = over (suc idMost) (10 * n + d) t (omega arith) (leb-false (10 * n + d) idMost e)
+    go false e = over pastIds (10 * n + d) t (omega arith) (leb-false (10 * n + d) idMost e)
 
 pub grown-small : (n d : ℕ) → 10 * n + d ≤ idMost → 10 * n + d ≡ grown n d
 unfolding grown
 grown-small n d h = rw (le-leb (10 * n + d) idMost h)
 
-pub grown-over : (n d : ℕ) → idMost < 10 * n + d → suc idMost ≡ grown n d
+pub grown-over : (n d : ℕ) → idMost < 10 * n + d → pastIds ≡ grown n d
 unfolding grown
 grown-over n d h = rw (lt-leb (10 * n + d) idMost h)
 
 pub record Asking (p : List ℕ) (i n : ℕ) : Type 0 where
   pub in-p : i ≤ length p
-  pub most : n ≤ suc idMost
+  pub most : n ≤ pastIds
   pub rest : settled (sizeFrom n (drop i p)) ≡ askedOf p
 
 pub none-asked : (p : List ℕ) → length p ≡ 0 → asked.Bad ≡ askedOf p
@@ -103,7 +104,7 @@ module _ (p : List ℕ) (i n : ℕ) (a : Asking p i n) where
     pub asking-high : digitNine < b → asked.Bad ≡ askedOf p
     asking-high k = no-digit (high-no-digit b k)
 
-    pub asking-more : digitZero ≤ b → b ≤ digitNine → (m : ℕ) → (m ≡ grown n (b - digitZero)) × (m ≤ suc idMost)
+    pub asking-more : digitZero ≤ b → b ≤ digitNine → (m : ℕ) → (m ≡ grown n (b - digitZero)) × (m ≤ pastIds)
         → Asking p (i + 1) m
     asking-more lo hi m g =
         let f : i + 1 ≡ suc i = omega arith in

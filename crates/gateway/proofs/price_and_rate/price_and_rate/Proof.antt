@@ -1,10 +1,10 @@
--- `priced::price_and_rate` meets its contract: both are made exactly where both numbers are in range.
+-- `price_and_rate::price_and_rate` meets its contract: both are made exactly where both numbers are in range.
 use mathlib.Core.Path.{_≡_, sym, _∙_}
 use borrow.Author.Needs.{needs}
 use Rattle.inputs.proofs.Made.{price-made, price-unmade, rate-made, rate-unmade}
-use Rattle.gateway.specs.Priced.{pricedAt}
-use Rattle.gateway.proofs.priced.price_and_rate.Statement.{statement}
-use Rattle.gateway.proofs.priced.price_and_rate.Tie as tie
+use Rattle.gateway.specs.PriceAndRate.{priceAndRate}
+use Rattle.gateway.proofs.price_and_rate.price_and_rate.Statement.{statement}
+use Rattle.gateway.proofs.price_and_rate.price_and_rate.Tie as tie
 
 new-requires : tie.Need-new-requires
 new-requires c κs = search needs
@@ -25,11 +25,11 @@ enum-known-rated : tie.Need-enum-known-rated
 enum-known-rated c = search needs
 
 returns : tie.Need-returns
-unfolding pricedAt
+unfolding priceAndRate
 returns c = rw (price-unmade _ (sym (c .before .before .before .new .ensures) ∙ c .enum-told .given .1))
 
 returns-2 : tie.Need-returns-2
-unfolding pricedAt
+unfolding priceAndRate
 returns-2 c =
     let k = c .before .before .before in
     let n = k .before .before in
@@ -39,7 +39,7 @@ returns-2 c =
     )
 
 returns-3 : tie.Need-returns-3
-unfolding pricedAt
+unfolding priceAndRate
 returns-3 c =
     let k = c .before .before .before .before in
     let n = k .before .before in
