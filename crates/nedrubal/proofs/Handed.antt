@@ -25,3 +25,8 @@ same-numbers (more f r) = rw (toZ-ofZ f, same-numbers r)
 -- the statics that were made of the bits were made of the numbers
 pub given-of-numbers : {g : GivenStatics} {read xs : List ℤ} → ReadBack read xs → g ≡ givenOf read → g ≡ givenOf xs
 given-of-numbers r e = e ∙ ap givenOf (same-numbers r)
+
+-- a call of the same statics and the same three numbers answers the same
+pub same-call : {A : Type 0} (call : GivenStatics → (x y z : ℕ) → A) {g g′ : GivenStatics} {x x′ y y′ z z′ : ℕ}
+    → g ≡ g′ → x ≡ x′ → y ≡ y′ → z ≡ z′ → call g x y z ≡ call g′ x′ y′ z′
+same-call call of-g of-x of-y of-z = λ i. call (of-g i) (of-x i) (of-y i) (of-z i)

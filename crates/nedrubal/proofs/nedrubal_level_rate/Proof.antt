@@ -1,21 +1,13 @@
 -- `nedrubal::nedrubal_level_rate` meets its contract: every number is handed on by its bits, read back, and made
 -- unsigned once.
-use mathlib.Core.Path.{_≡_}
-use Prim.Native.Nat.{ℕ}
 use mir.Syntax.{w64}
 use mir.Val.{SFits}
 use mir.Facts.{toZ-ofZ}
 use borrow.Author.Needs.{needs}
-use Rattle.paper.specs.declared.GivenStatics.{GivenStatics}
 use Rattle.paper_desk.specs.Gateway.{levelCall}
-use Rattle.nedrubal.proofs.Handed.{read-is-unsigned, none, more, given-of-numbers}
+use Rattle.nedrubal.proofs.Handed.{read-is-unsigned, none, more, given-of-numbers, same-call}
 use Rattle.nedrubal.proofs.nedrubal_level_rate.Statement.{statement}
 use Rattle.nedrubal.proofs.nedrubal_level_rate.Tie as tie
-
-same : {g g′ : GivenStatics} {tentative tentative′ m m′ level level′ : ℕ}
-    → g ≡ g′ → tentative ≡ tentative′ → m ≡ m′ → level ≡ level′
-    → levelCall g tentative m level ≡ levelCall g′ tentative′ m′ level′
-same of-g of-tentative of-m of-level = λ i. levelCall (of-g i) (of-tentative i) (of-m i) (of-level i)
 
 returns : tie.Need-returns
 returns c =
@@ -26,7 +18,7 @@ returns c =
     let f = g .before .before .fits in
     let answered : SFits w64 (c .level-answer .result) = search needs in
     rw (toZ-ofZ answered, c .level-answer .ensures)
-    (same
+    (same-call levelCall
     (given-of-numbers (search (none, more, f) depth 60) (g .given-of .ensures))
     (read-is-unsigned (f .tentative) (u1 .unsigned .ensures))
     (read-is-unsigned (f .m) (u2 .unsigned2 .ensures))

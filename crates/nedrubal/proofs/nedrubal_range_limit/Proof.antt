@@ -1,21 +1,13 @@
 -- `nedrubal::nedrubal_range_limit` meets its contract: every number is handed on by its bits, read back, and made
 -- unsigned once.
-use mathlib.Core.Path.{_≡_}
-use Prim.Native.Nat.{ℕ}
 use mir.Syntax.{w64}
 use mir.Val.{SFits}
 use mir.Facts.{toZ-ofZ}
 use borrow.Author.Needs.{needs}
-use Rattle.paper.specs.declared.GivenStatics.{GivenStatics}
 use Rattle.paper_desk.specs.Gateway.{rangeCall}
-use Rattle.nedrubal.proofs.Handed.{read-is-unsigned, none, more, given-of-numbers}
+use Rattle.nedrubal.proofs.Handed.{read-is-unsigned, none, more, given-of-numbers, same-call}
 use Rattle.nedrubal.proofs.nedrubal_range_limit.Statement.{statement}
 use Rattle.nedrubal.proofs.nedrubal_range_limit.Tie as tie
-
-same : {g g′ : GivenStatics} {p p′ rate rate′ side side′ : ℕ}
-    → g ≡ g′ → p ≡ p′ → rate ≡ rate′ → side ≡ side′
-    → rangeCall g p rate side ≡ rangeCall g′ p′ rate′ side′
-same of-g of-p of-rate of-side = λ i. rangeCall (of-g i) (of-p i) (of-rate i) (of-side i)
 
 returns : tie.Need-returns
 returns c =
@@ -26,7 +18,7 @@ returns c =
     let f = g .before .before .fits in
     let answered : SFits w64 (c .range-answer .result) = search needs in
     rw (toZ-ofZ answered, c .range-answer .ensures)
-    (same
+    (same-call rangeCall
     (given-of-numbers (search (none, more, f) depth 60) (g .given-of .ensures))
     (read-is-unsigned (f .p) (u1 .unsigned .ensures))
     (read-is-unsigned (f .rate) (u2 .unsigned2 .ensures))
