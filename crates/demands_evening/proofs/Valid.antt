@@ -32,7 +32,7 @@ use Rattle.paper_desk.specs.Sides.{limitOn}
 use Rattle.paper.proofs.StaticsFacts.{within-facts, given-statics-valid, ranges-hold, numbers-valid, unsignedFrom}
 use Rattle.paper.proofs.StaticsFacts.{given-in-table}
 use Rattle.record_soundness.proofs.Facts.{LimitsFacts, SoundRecord, sound-facts}
-use Rattle.paper_messages.specs.Fields.{staticsFields, ratesFields, bandsFields, moveFields, fieldsOf}
+use Rattle.paper_messages.specs.Fields.{fieldsOf}
 use Rattle.paper_messages.specs.Fields.{staticsMessageKind, fourBytes, yesNo, staticField}
 use Rattle.paper_messages.specs.Fields.{places, tentativeLast, filled, placesOf}
 use Rattle.paper_messages.specs.Messages.{isKnownKind, inRanges, asAdmission, valid}
@@ -84,7 +84,7 @@ module _ (r : Record) (sound-record : sound r ≡ true) where
       value-in 0 tentativeLast _ (omega arith) (omega arith) (omega (arith, top, step .most, most))
 
   pub rates-valid : valid (ratesMessage r) ≡ true
-  unfolding valid ratesMessage message filled placesOf fieldsOf ratesFields isKnownKind inRanges
+  unfolding valid ratesMessage message filled placesOf fieldsOf isKnownKind inRanges
   rates-valid =
       id-in
       & (day-in
@@ -119,7 +119,7 @@ module _ (r : Record) (sound-record : sound r ≡ true) where
       & (repo-in (termAt (r .terms) k .high) (term .high .size) & (band-in Lower k l & (band-in Upper k l & e))))
 
   pub bands-valid : valid (bandsMessage r) ≡ true
-  unfolding valid bandsMessage message filled placesOf fieldsOf bandsFields isKnownKind inRanges
+  unfolding valid bandsMessage message filled placesOf fieldsOf isKnownKind inRanges
   bands-valid =
       id-in
       & (day-in
@@ -136,7 +136,7 @@ module _ (r : Record) (sound-record : sound r ≡ true) where
   side-in Lower = value-in 0 1 1 (omega arith) (omega arith) (omega arith)
 
   pub move-valid : (side : Side) → valid (moveMessage r side) ≡ true
-  unfolding valid moveMessage message filled placesOf fieldsOf moveFields isKnownKind inRanges
+  unfolding valid moveMessage message filled placesOf fieldsOf isKnownKind inRanges
   move-valid side =
       id-in
       & (side-in side
@@ -205,7 +205,7 @@ rows-in (row ∷ rows) values i f t =
 -- what an admission accepts is in every field's own range
 admitted-in : (values : List ℤ) → asAdmission values ≡ true
     → inRanges (placesOf staticsMessageKind) (build places 0 values) ≡ true
-unfolding asAdmission placesOf fieldsOf filled staticsFields inRanges build every isField
+unfolding asAdmission placesOf fieldsOf filled inRanges build every isField
 admitted-in values v =
     let id : within 1 idMost (unsignedAt values 0) ≡ true =
     and-left (within 1 idMost (unsignedAt values 0)) (validGiven (givenOf (drop 1 values))) v in

@@ -1,2 +1,2 @@
 -- The laws of listen_lines, a file each; its own proofs alone cite them.
-mod Turns
+mod LineParts

@@ -1,24 +1,16 @@
 -- W-212, the program `listen`: the line of what is heard at a place of the input.
 use mathlib.Core.List.{List, [], _∷_, _++_}
 use Prim.Native.Nat.{ℕ, _+_}
-use lib.Dec.{eqb}
 use lib.IntN.{ℤ, pos}
 use lib.ListN.{length, take}
 use Rattle.paper.specs.Lists.{pick}
 use Rattle.paper.specs.Verdicts.{numberOf, isDone}
 use Rattle.paper_messages.specs.declared.Message.{Message}
-use Rattle.paper_messages.specs.declared.Heard.{Heard}
-use Rattle.paper_messages.specs.Fields.{staticsMessageKind, ratesMessageKind, bandsMessageKind, fieldsOf}
+use Rattle.paper_messages.specs.declared.ReaderAnswer.{ReaderAnswer}
+use Rattle.paper_messages.specs.Fields.{fieldsOf, kindWord}
 use Rattle.text_bytes.specs.Bytes.{lineFeed}
 use Rattle.text_bytes.specs.Numbers.{spaced}
 use Rattle.text_out.specs.Sizes.{wordBytes, rowsBytes}
-
--- "statics", "rates", "bands", "move"
-unfoldable pub kindWord : (kind : ℕ) → List ℕ
-kindWord kind =
-    pick (eqb kind staticsMessageKind) (115 ∷ 116 ∷ 97 ∷ 116 ∷ 105 ∷ 99 ∷ 115 ∷ [])
-    (pick (eqb kind ratesMessageKind) (114 ∷ 97 ∷ 116 ∷ 101 ∷ 115 ∷ [])
-    (pick (eqb kind bandsMessageKind) (98 ∷ 97 ∷ 110 ∷ 100 ∷ 115 ∷ []) (109 ∷ 111 ∷ 118 ∷ 101 ∷ [])))
 
 -- "unknown", "refused"
 abbrev pub unknownWord : List ℕ
@@ -37,7 +29,7 @@ fieldsIn m = take (length (fieldsOf (m .kind))) (m .fields)
 
 -- THE LINE of what is heard at a place of the input, counted from 0: `statics ..`, `rates ..`, `bands ..` or `move ..`,
 -- `unknown KIND LENGTH`, or `refused NUMBER PLACE`
-unfoldable pub lineOf : (place : ℕ) → Heard → List ℕ
+unfoldable pub lineOf : (place : ℕ) → ReaderAnswer → List ℕ
 lineOf place h =
     pick (isDone (h .verdict))
     (pick (h .known) (wordLine (kindWord (h .message .kind)) (fieldsIn (h .message)))

@@ -5,14 +5,16 @@ ghost use mathlib.Core.List.{[], _∷_, _++_};
 ghost use Prim.Native.Nat.{_+_, _≤_};
 ghost use lib.IntN.{pos};
 ghost use lib.ListN.{length};
-ghost use Rattle.paper_messages.specs.Fields.{places, fieldsOf};
+ghost use Rattle.paper_messages.specs.Fields.{places, kindWord};
 ghost use Rattle.text_bytes.specs.Bytes.{room};
 ghost use Rattle.text_out.specs.Wrote.{Wrote};
 ghost use Rattle.text_out.specs.Sizes.{wordBytes};
-ghost use Rattle.listen_lines.specs.Lines.{kindWord, wordLine, fieldsIn, lineOf, lineMost};
+ghost use Rattle.listen_lines.specs.Lines.{wordLine, fieldsIn, lineOf, lineMost};
+use messages::kinds::field_count;
+use messages::kinds::word_of;
 use paper::Row;
-use paper_messages::Heard;
 use paper_messages::Message;
+use paper_messages::ReaderAnswer;
 use text_bytes::ROOM;
 use text_out::put_byte;
 use text_out::put_bytes;
@@ -27,49 +29,15 @@ const NEXT_SIGNED_BYTES: usize = 22;
 // No line is longer: a word, as many numbers as any line has, and the line feed.
 pub const LINE_MOST: usize = WORD_BYTES + Row::ALL_NUMBERS_MOST * NEXT_SIGNED_BYTES + 1;
 
-// How many fields each kind has. The statics have one at every place.
-const STATICS_FIELDS: usize = Message::PLACES;
-
-const RATES_FIELDS: usize = 15;
-
-const BANDS_FIELDS: usize = 17;
-
-const MOVE_FIELDS: usize = 9;
-
-// How many fields a kind has.
-fn field_count(kind: u64) -> usize
-    ensures { λ r. ⌜ (r ≡ length (fieldsOf kind)) × (r ≤ places) ⌝ }
-{
-    if kind == Message::STATICS {
-        return STATICS_FIELDS;
-    }
-    if kind == Message::RATES {
-        return RATES_FIELDS;
-    }
-    if kind == Message::BANDS {
-        return BANDS_FIELDS;
-    }
-    if kind == Message::MOVE {
-        return MOVE_FIELDS;
-    }
-    0
-}
-
 // The word of a kind.
 fn put_kind(out: &mut [u8; ROOM], len: usize, kind: u64) -> usize
     requires { ⌜ len + wordBytes ≤ room ⌝ }
     ensures { λ r. ⌜ Wrote (now (out .entry)) len (now (out .exit)) r (kindWord kind) wordBytes ⌝ }
 {
-    if kind == Message::STATICS {
-        return put_bytes(out, len, b"statics");
-    }
-    if kind == Message::RATES {
-        return put_bytes(out, len, b"rates");
-    }
-    if kind == Message::BANDS {
-        return put_bytes(out, len, b"bands");
-    }
-    put_bytes(out, len, b"move")
+    let word = word_of(kind);
+    let letters = word.letters;
+    let count = word.count;
+    put_bytes(out, len, &letters[..count])
 }
 
 // A message of a known kind: its word and its fields.
@@ -99,7 +67,7 @@ fn say_two(out: &mut [u8; ROOM], len: usize, word: &[u8], x: u64, y: u64) -> usi
 }
 
 // What is heard at a place of the input.
-pub fn say_heard(out: &mut [u8; ROOM], len: usize, place: u64, h: Heard) -> usize
+pub fn say_heard(out: &mut [u8; ROOM], len: usize, place: u64, h: ReaderAnswer) -> usize
     requires { ⌜ (len + lineMost ≤ room) × (length (h .message .fields) ≡ places) ⌝ }
     ensures { λ r. ⌜ Wrote (now (out .entry)) len (now (out .exit)) r (lineOf place h) lineMost ⌝ }
 {

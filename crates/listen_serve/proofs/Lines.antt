@@ -14,7 +14,7 @@ use Rattle.paper.specs.Lists.{pick}
 use Rattle.paper.specs.declared.Verdict.the-variants.{CutShort}
 use Rattle.paper.specs.Verdicts.{numberOf, isDone, firstOf}
 use Rattle.paper.proofs.Logic.{not-true-and-false}
-use Rattle.paper_messages.specs.declared.Heard.{Heard}
+use Rattle.paper_messages.specs.declared.ReaderAnswer.{ReaderAnswer}
 use Rattle.paper_messages.specs.Messages.{readChecks, acceptedHeard, refusedHeard, heardAt}
 use Rattle.text_bytes.specs.Bytes.{room}
 use Rattle.text_evidence.specs.Evidence.{countMost, hasEnded, tookAll}

@@ -10,15 +10,15 @@ use lib.IntN.{pos, negsuc}
 use lib.ListN.{replicate}
 use Rattle.paper.specs.declared.Verdict.the-variants.{Done, CutShort, WrongLength, FieldOutOfRange}
 use Rattle.paper.specs.Verdicts.{isDone, firstOf}
-use Rattle.paper_messages.specs.declared.Heard.{Heard}
+use Rattle.paper_messages.specs.declared.ReaderAnswer.{ReaderAnswer}
 use Rattle.paper_messages.specs.Bytes.{spelled, signedOf}
-use Rattle.paper_messages.specs.Fields.{staticsFields, ratesFields, bandsFields, moveFields, fieldsOf, filled, placesOf}
+use Rattle.paper_messages.specs.Fields.{fieldsOf, filled, placesOf, kindWord}
 use Rattle.paper_messages.specs.Fields.{places}
 use Rattle.paper_messages.specs.Messages.{total, lengthOf, isKnownKind, inRanges, valid, valuesAt, messageAt, noMessage}
 use Rattle.paper_messages.specs.Messages.{readChecks, refusedHeard, acceptedHeard, heardAt}
 use Rattle.text_bytes.specs.Bytes.{lineFeed, bytes}
 use Rattle.text_bytes.specs.Numbers.{spelt, decimal, signed, next, spaced}
-use Rattle.listen_lines.specs.Lines.{kindWord, wordLine, fieldsIn, lineOf}
+use Rattle.listen_lines.specs.Lines.{wordLine, fieldsIn, lineOf}
 use Rattle.listen_serve.specs.Listen.{listenFrom, listenText}
 
 -- lines, each ended
@@ -34,7 +34,7 @@ counted from zero = []
 counted from (suc count) = from ∷ counted (suc from) count
 
 -- a message whose fields count up, the second below zero
-unfoldable pub counting : (kind : ℕ) → Heard
+unfoldable pub counting : (kind : ℕ) → ReaderAnswer
 counting kind =
     record {
       verdict = Done;
@@ -49,7 +49,7 @@ counting kind =
     }
 
 -- an unknown kind
-unfoldable pub skipped : Heard
+unfoldable pub skipped : ReaderAnswer
 skipped = record { verdict = Done; known = false; kind = 90; length = 20; next = 30; message = noMessage }
 
 -- each kind has its word and all of its fields in order; an unknown one its kind and length, a refusal its number and
@@ -64,7 +64,7 @@ pub lines-heard : (lineOf 8 (counting 1)
     × (lineOf 8 (refusedHeard WrongLength) ≡ ended ("refused 22 8" ∷ []))
     × (lineOf 8 (refusedHeard FieldOutOfRange) ≡ ended ("refused 23 8" ∷ []))
 unfolding counting skipped ended bytes lineOf wordLine kindWord fieldsIn spaced next signed decimal spelt isDone
-    refusedHeard fieldsOf staticsFields ratesFields bandsFields moveFields
+    refusedHeard fieldsOf
 lines-heard = (refl, refl, refl, refl, refl, refl, refl, refl)
 
 -- ---- the lines of an input
@@ -93,5 +93,5 @@ pub inputs-listened : (listenText [] ≡ [])
     × (listenText (1 ∷ 0 ∷ 0 ∷ 0 ∷ unknownBytes) ≡ ended ("refused 22 0" ∷ []))
 unfolding moveBytes ended bytes listenText listenFrom lineOf wordLine kindWord fieldsIn spaced next signed decimal spelt
     heardAt acceptedHeard refusedHeard readChecks firstOf isDone isKnownKind valid inRanges messageAt valuesAt spelled
-    signedOf lengthOf total placesOf fieldsOf filled staticsFields ratesFields bandsFields moveFields
+    signedOf lengthOf total placesOf fieldsOf filled
 inputs-listened = (refl, refl, refl, refl, refl, refl)

@@ -9,7 +9,7 @@ use lib.Dec.{eqb, ltb}
 use lib.ListN.{length, take, drop}
 use Rattle.paper.specs.declared.Verdict.the-variants.{CutShort}
 use Rattle.paper.specs.Verdicts.{numberOf, isDone}
-use Rattle.paper_messages.specs.declared.Heard.{Heard}
+use Rattle.paper_messages.specs.declared.ReaderAnswer.{ReaderAnswer}
 use Rattle.paper_messages.specs.Messages.{heardAt}
 use Rattle.text_bytes.specs.Bytes.{room}
 use Rattle.text_out.specs.Wrote.{Wrote}
@@ -30,11 +30,11 @@ abbrev pub placeOf : Listening → ℕ
 placeOf s = s .read .all - (s .len - s .at)
 
 -- what is heard there, of what is delivered
-abbrev pub heardIn : (buffer : List ℕ) → Listening → Heard
+abbrev pub heardIn : (buffer : List ℕ) → Listening → ReaderAnswer
 heardIn b s = heardAt (take (s .len) b) (s .at)
 
 -- a message that is cut short: more bytes may make it whole
-abbrev pub isCut : Heard → Bool
+abbrev pub isCut : ReaderAnswer → Bool
 isCut h = eqb (numberOf (h .verdict)) (numberOf CutShort)
 
 -- how the two buffers stand between steps; a write that failed is the last
@@ -68,7 +68,7 @@ pub record Gathers (s : Listening) (o : List ℕ) (r : Listening) (o' text : Lis
 
 -- THE LINE OF WHAT IS HEARD is gathered. The next place is behind it; nothing more is heard behind a refusal, or where
 -- `write` did not take all that was handed over
-pub record Tells (s : Listening) (h : Heard) (o : List ℕ) (r : Listening) (o' : List ℕ) : Type 0 where
+pub record Tells (s : Listening) (h : ReaderAnswer) (o : List ℕ) (r : Listening) (o' : List ℕ) : Type 0 where
   pub line : Gathers s o r o' (lineOf (placeOf s) h)
   pub accepted : isDone (h .verdict) ≡ true → (r .at ≡ h .next) × (r .over ≡ not (tookAll (r .told)))
   pub refused : isDone (h .verdict) ≡ false → (r .at ≡ s .at) × (r .over ≡ true) × (r .waiting ≡ 0)

@@ -13,7 +13,7 @@ use libc::STDERR_FILENO;
 use listen_lines::LINE_MOST;
 use listen_lines::say_heard;
 use paper::Verdict;
-use paper_messages::Heard;
+use paper_messages::ReaderAnswer;
 use text_bytes::ROOM;
 use text_evidence::Delivered;
 use text_evidence::Written;
@@ -104,7 +104,7 @@ fn place_of(s: Listening) -> u64
 
 // Gathers the line of what is heard. The lines are written where nothing more is heard, and where the buffer has no
 // room for one more.
-fn tell(out: &mut [u8; ROOM], s: Listening, h: Heard) -> Listening
+fn tell(out: &mut [u8; ROOM], s: Listening, h: ReaderAnswer) -> Listening
     requires { ⌜ Going s × (length (h .message .fields) ≡ places) ⌝ }
     ensures { λ r. ⌜ Tells s h (now (out .entry)) r (now (out .exit)) ⌝ }
 {
@@ -140,7 +140,7 @@ fn tell(out: &mut [u8; ROOM], s: Listening, h: Heard) -> Listening
 // ---- steps
 
 // "21, message cut short": more bytes may make it whole.
-fn is_cut(h: Heard) -> bool
+fn is_cut(h: ReaderAnswer) -> bool
     ensures { λ t. ⌜ t ≡ isCut h ⌝ }
 {
     let verdict = h.verdict;

@@ -13,7 +13,7 @@ use mir.Val.{SFits}
 use Rattle.paper.proofs.Logic.{le-or-lt}
 use Rattle.paper_messages.specs.Bytes.{inWidth, widthMost, complement, signedOf}
 use Rattle.exact.specs.SignedLaws.{natural-not-below-zero, negative-below-zero}
-use Rattle.messages.specs.Asked.{greatestOf}
+use Rattle.messages.specs.FieldRoom.{greatestOf}
 
 -- a width of at most eight bytes has at most 2^64 numbers
 pub width-fits : (width : ℕ) → width ≤ widthMost → inWidth width ≤ 2 ^ 64

@@ -3,6 +3,7 @@ pub mod ByteTurns
 pub mod Halves
 pub mod Walks
 pub mod RangeTurns
+pub mod Rows
 pub mod Reading
 pub mod Writing
 pub mod Determined

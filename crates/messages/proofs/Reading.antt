@@ -21,7 +21,7 @@ use Rattle.paper_messages.specs.Messages.{lengthWidth, kindWidth, lengthLeast, 
 use Rattle.paper_messages.specs.Messages.{isKnownKind, valid, valuesAt, messageAt, noMessage, readChecks, refusedHeard}
 use Rattle.paper_messages.specs.Messages.{acceptedHeard, heardAt}
 use Rattle.paper_messages.proofs.FieldLaws.{kinds-hold}
-use Rattle.messages.specs.Asked.{Room}
+use Rattle.messages.specs.FieldRoom.{Room}
 use Rattle.messages.specs.Promises.{Whole}
 
 module _ (b : List ℕ) (at : ℕ) where

@@ -20,7 +20,7 @@ use Rattle.paper_messages.specs.Messages.{bodyOf, total, inRanges, holdsRange, 
 use Rattle.paper_messages.proofs.ByteLaws.{bytes-length, fitting-mag-in-width}
 use Rattle.paper_messages.proofs.FieldLaws.{held-width-within-most, held-value-fits, values-length}
 pub use Rattle.exact.specs.StoreLaws.{sets-of-both}
-use Rattle.messages.specs.Asked.{Room, Holding}
+use Rattle.messages.specs.FieldRoom.{Room, Holding}
 
 -- ---- room for the field at hand, and for those behind it
 

@@ -20,7 +20,7 @@ use Rattle.paper_messages.specs.Messages.{valid, writeChecks, wroteOf, written}
 use Rattle.paper_messages.proofs.ByteLaws.{bytes-length}
 use Rattle.paper_messages.proofs.FieldLaws.{kinds-hold, kinds-length-in-range}
 use Rattle.paper_messages.proofs.MessageLaws.{valid-is-in-ranges, encode-length}
-use Rattle.messages.specs.Asked.{Room, Holding}
+use Rattle.messages.specs.FieldRoom.{Room, Holding}
 use Rattle.messages.proofs.Walks.{sets-of-both}
 use Rattle.messages.specs.Promises.{Writes}
 

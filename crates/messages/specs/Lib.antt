@@ -1,3 +1,4 @@
 -- The definitions of messages, a file each.
-pub mod Asked
+pub mod FieldRoom
+pub mod KindRows
 pub mod Promises

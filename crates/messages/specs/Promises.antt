@@ -4,18 +4,18 @@ use mathlib.Core.List.{List}
 use Prim.Native.Nat.{ℕ, _+_, _≤_}
 use lib.ListN.{length, drop}
 use Rattle.paper_messages.specs.declared.Message.{Message}
-use Rattle.paper_messages.specs.declared.Wrote.{Wrote}
-use Rattle.paper_messages.specs.declared.Heard.{Heard}
+use Rattle.paper_messages.specs.declared.WriterAnswer.{WriterAnswer}
+use Rattle.paper_messages.specs.declared.ReaderAnswer.{ReaderAnswer}
 use Rattle.paper_messages.specs.Bytes.{Bytes}
 use Rattle.paper_messages.specs.Messages.{lengthWidth, lengthLeast, lengthMost, lengthAt, wroteOf, written, heardAt}
 
 -- the writer: what it answers, and the whole buffer after it
-pub record Writes (buffer : List ℕ) (m : Message) (answer : Wrote) (after : List ℕ) : Type 0 where
+pub record Writes (buffer : List ℕ) (m : Message) (answer : WriterAnswer) (after : List ℕ) : Type 0 where
   pub answers : answer ≡ wroteOf buffer m
   pub leaves : after ≡ written buffer m
 
 -- the reader: what it answers, and that what it is lent are bytes, which is a fact of every `&[u8]`
-pub record HearsAt (buffer : List ℕ) (at : ℕ) (answer : Heard) : Type 0 where
+pub record HearsAt (buffer : List ℕ) (at : ℕ) (answer : ReaderAnswer) : Type 0 where
   pub answers : answer ≡ heardAt buffer at
   pub bytes : Bytes buffer
 

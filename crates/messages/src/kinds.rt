@@ -1,8 +1,11 @@
 // W-212: the fields of each kind of message, and whether a message is valid.
 ghost use mathlib.Core.Path.{_≡_};
+ghost use Prim.Native.Nat.{_≤_};
+ghost use lib.ListN.{length, take};
 ghost use Rattle.paper.specs.Ranges.{withinZ};
-ghost use Rattle.paper_messages.specs.Fields.{placesOf};
+ghost use Rattle.paper_messages.specs.Fields.{kindRow, fieldsOf, kindWord, places, placesOf};
 ghost use Rattle.paper_messages.specs.Messages.{lengthOf, isKnownKind, inRanges, asAdmission, valid};
+ghost use Rattle.messages.specs.KindRows.{rowIn, wordMost};
 use inputs::given_of;
 use inputs::number_at;
 use inputs::valid_given;
@@ -96,198 +99,259 @@ const REPO: Field = Field {
 
 // ---- kinds
 
+// The letters of a word at most.
+const WORD_MOST: usize = 11;
+
+// The word of a kind: its letters, of which so many count.
+pub struct Word {
+    pub count: usize,
+    pub letters: [u8; WORD_MOST],
+}
+
+// A kind's row: the length that its messages give, of the kind and the fields; how many fields it has, and a field at
+// every place; and its word.
+struct MessageKind {
+    length: u64,
+    count: usize,
+    places: [Field; Message::PLACES],
+    word: Word,
+}
+
+// Of an unknown kind we know that its length counts the kind.
+const UNKNOWN: MessageKind = MessageKind {
+    length: Message::LENGTH_LEAST,
+    count: 0,
+    places: [NONE; Message::PLACES],
+    word: Word {
+        count: 0,
+        letters: [0; WORD_MOST],
+    },
+};
+
 // ID LOT H Q A_UP A_DOWN WAIT RH1 RH2 RH3 LIQ MIN1 MIN2 MIN3 SMAX XPR SHIFT PCHMAX PCLMAX W U MONITORING ISEWMA
 // UEVENING AUTOCHANGE EVENINGMAX USEEXTERNAL
-const STATICS: [Field; Message::PLACES] = [
-    ID,
-    Field {
-        width: NUMBER_WIDTH,
-        low: 1,
-        high: Statics::LOT_MOST as i64,
+const STATICS: MessageKind = MessageKind {
+    length: Message::STATICS_LENGTH,
+    count: Message::PLACES,
+    places: [
+        ID,
+        Field {
+            width: NUMBER_WIDTH,
+            low: 1,
+            high: Statics::LOT_MOST as i64,
+        },
+        Field {
+            width: NUMBER_WIDTH,
+            low: 1,
+            high: Statics::STEP_MOST as i64,
+        },
+        Field {
+            width: NUMBER_WIDTH,
+            low: Statics::MULTIPLIER_LEAST as i64,
+            high: Statics::MULTIPLIER_MOST as i64,
+        },
+        WEIGHT,
+        WEIGHT,
+        Field {
+            width: NUMBER_WIDTH,
+            low: 1,
+            high: Statics::WAIT_MOST as i64,
+        },
+        Field {
+            width: NUMBER_WIDTH,
+            low: 1,
+            high: Statics::FIRST_DAYS_MOST as i64,
+        },
+        DAYS,
+        DAYS,
+        Field {
+            width: NUMBER_WIDTH,
+            low: 0,
+            high: Statics::LIQUIDITY_MOST as i64,
+        },
+        RATE,
+        RATE,
+        RATE,
+        RATE,
+        Field {
+            width: NUMBER_WIDTH,
+            low: Statics::DIVISOR_LEAST as i64,
+            high: Statics::DIVISOR_MOST as i64,
+        },
+        Field {
+            width: NUMBER_WIDTH,
+            low: 1,
+            high: Statics::SHIFT_MOST as i64,
+        },
+        RATE,
+        RATE,
+        Field {
+            width: NUMBER_WIDTH,
+            low: 0,
+            high: Statics::NEARNESS_MOST as i64,
+        },
+        SECONDS,
+        YES_NO,
+        YES_NO,
+        SECONDS,
+        YES_NO,
+        Field {
+            width: NUMBER_WIDTH,
+            low: 0,
+            high: Statics::EVENING_MOVES_MOST as i64,
+        },
+        YES_NO,
+    ],
+    word: Word {
+        count: 7,
+        letters: [b's', b't', b'a', b't', b'i', b'c', b's', 0, 0, 0, 0],
     },
-    Field {
-        width: NUMBER_WIDTH,
-        low: 1,
-        high: Statics::STEP_MOST as i64,
-    },
-    Field {
-        width: NUMBER_WIDTH,
-        low: Statics::MULTIPLIER_LEAST as i64,
-        high: Statics::MULTIPLIER_MOST as i64,
-    },
-    WEIGHT,
-    WEIGHT,
-    Field {
-        width: NUMBER_WIDTH,
-        low: 1,
-        high: Statics::WAIT_MOST as i64,
-    },
-    Field {
-        width: NUMBER_WIDTH,
-        low: 1,
-        high: Statics::FIRST_DAYS_MOST as i64,
-    },
-    DAYS,
-    DAYS,
-    Field {
-        width: NUMBER_WIDTH,
-        low: 0,
-        high: Statics::LIQUIDITY_MOST as i64,
-    },
-    RATE,
-    RATE,
-    RATE,
-    RATE,
-    Field {
-        width: NUMBER_WIDTH,
-        low: Statics::DIVISOR_LEAST as i64,
-        high: Statics::DIVISOR_MOST as i64,
-    },
-    Field {
-        width: NUMBER_WIDTH,
-        low: 1,
-        high: Statics::SHIFT_MOST as i64,
-    },
-    RATE,
-    RATE,
-    Field {
-        width: NUMBER_WIDTH,
-        low: 0,
-        high: Statics::NEARNESS_MOST as i64,
-    },
-    SECONDS,
-    YES_NO,
-    YES_NO,
-    SECONDS,
-    YES_NO,
-    Field {
-        width: NUMBER_WIDTH,
-        low: 0,
-        high: Statics::EVENING_MOVES_MOST as i64,
-    },
-    YES_NO,
-];
+};
 
 // ID DAY P S TENTATIVE AGE S1 S2 S3 UPPER1 UPPER2 UPPER3 LOWER1 LOWER2 LOWER3
-const RATES: [Field; Message::PLACES] = [
-    ID,
-    DAY,
-    Field {
-        width: PRICE_WIDTH,
-        low: Price::LEAST_UNITS as i64,
-        high: Price::MOST_UNITS as i64,
+const RATES: MessageKind = MessageKind {
+    length: 94,
+    count: 15,
+    places: [
+        ID,
+        DAY,
+        Field {
+            width: PRICE_WIDTH,
+            low: Price::LEAST_UNITS as i64,
+            high: Price::MOST_UNITS as i64,
+        },
+        Field {
+            width: PRICE_WIDTH,
+            low: 0,
+            high: Record::VOLATILITY_MOST as i64,
+        },
+        Field {
+            width: NUMBER_WIDTH,
+            low: 0,
+            high: (Tentative::MOST_BP + Statics::STEP_MOST - 1) as i64,
+        },
+        Field {
+            width: NUMBER_WIDTH,
+            low: 0,
+            high: Record::AGE_MOST as i64,
+        },
+        RATE,
+        RATE,
+        RATE,
+        LIMIT,
+        LIMIT,
+        LIMIT,
+        LIMIT,
+        LIMIT,
+        LIMIT,
+        NONE,
+        NONE,
+        NONE,
+        NONE,
+        NONE,
+        NONE,
+        NONE,
+        NONE,
+        NONE,
+        NONE,
+        NONE,
+        NONE,
+    ],
+    word: Word {
+        count: 5,
+        letters: [b'r', b'a', b't', b'e', b's', 0, 0, 0, 0, 0, 0],
     },
-    Field {
-        width: PRICE_WIDTH,
-        low: 0,
-        high: Record::VOLATILITY_MOST as i64,
-    },
-    Field {
-        width: NUMBER_WIDTH,
-        low: 0,
-        high: (Tentative::MOST_BP + Statics::STEP_MOST - 1) as i64,
-    },
-    Field {
-        width: NUMBER_WIDTH,
-        low: 0,
-        high: Record::AGE_MOST as i64,
-    },
-    RATE,
-    RATE,
-    RATE,
-    LIMIT,
-    LIMIT,
-    LIMIT,
-    LIMIT,
-    LIMIT,
-    LIMIT,
-    NONE,
-    NONE,
-    NONE,
-    NONE,
-    NONE,
-    NONE,
-    NONE,
-    NONE,
-    NONE,
-    NONE,
-    NONE,
-    NONE,
-];
+};
 
 // ID DAY, then for each of the three terms K RRCL RRCH LOWER UPPER
-const BANDS: [Field; Message::PLACES] = [
-    ID,
-    DAY,
-    TERM_DAYS,
-    REPO,
-    REPO,
-    LIMIT,
-    LIMIT,
-    TERM_DAYS,
-    REPO,
-    REPO,
-    LIMIT,
-    LIMIT,
-    TERM_DAYS,
-    REPO,
-    REPO,
-    LIMIT,
-    LIMIT,
-    NONE,
-    NONE,
-    NONE,
-    NONE,
-    NONE,
-    NONE,
-    NONE,
-    NONE,
-    NONE,
-    NONE,
-];
+const BANDS: MessageKind = MessageKind {
+    length: 94,
+    count: 17,
+    places: [
+        ID,
+        DAY,
+        TERM_DAYS,
+        REPO,
+        REPO,
+        LIMIT,
+        LIMIT,
+        TERM_DAYS,
+        REPO,
+        REPO,
+        LIMIT,
+        LIMIT,
+        TERM_DAYS,
+        REPO,
+        REPO,
+        LIMIT,
+        LIMIT,
+        NONE,
+        NONE,
+        NONE,
+        NONE,
+        NONE,
+        NONE,
+        NONE,
+        NONE,
+        NONE,
+        NONE,
+    ],
+    word: Word {
+        count: 5,
+        letters: [b'b', b'a', b'n', b'd', b's', 0, 0, 0, 0, 0, 0],
+    },
+};
 
 // ID SIDE COUNT, then the side's three range limits and its three band limits
-const MOVE: [Field; Message::PLACES] = [
-    ID,
-    Field {
-        width: NUMBER_WIDTH,
-        low: 0,
-        high: 1,
+const MOVE: MessageKind = MessageKind {
+    length: 62,
+    count: 9,
+    places: [
+        ID,
+        Field {
+            width: NUMBER_WIDTH,
+            low: 0,
+            high: 1,
+        },
+        Field {
+            width: NUMBER_WIDTH,
+            low: 0,
+            high: Record::MOVES_MOST as i64,
+        },
+        LIMIT,
+        LIMIT,
+        LIMIT,
+        LIMIT,
+        LIMIT,
+        LIMIT,
+        NONE,
+        NONE,
+        NONE,
+        NONE,
+        NONE,
+        NONE,
+        NONE,
+        NONE,
+        NONE,
+        NONE,
+        NONE,
+        NONE,
+        NONE,
+        NONE,
+        NONE,
+        NONE,
+        NONE,
+        NONE,
+    ],
+    word: Word {
+        count: 4,
+        letters: [b'm', b'o', b'v', b'e', 0, 0, 0, 0, 0, 0, 0],
     },
-    Field {
-        width: NUMBER_WIDTH,
-        low: 0,
-        high: Record::MOVES_MOST as i64,
-    },
-    LIMIT,
-    LIMIT,
-    LIMIT,
-    LIMIT,
-    LIMIT,
-    LIMIT,
-    NONE,
-    NONE,
-    NONE,
-    NONE,
-    NONE,
-    NONE,
-    NONE,
-    NONE,
-    NONE,
-    NONE,
-    NONE,
-    NONE,
-    NONE,
-    NONE,
-    NONE,
-    NONE,
-    NONE,
-    NONE,
-];
+};
 
-// The fields of a kind; past the last a place has no bytes and holds 0.
-pub fn places_of(kind: u64) -> [Field; Message::PLACES]
-    ensures { λ r. ⌜ r ≡ placesOf kind ⌝ }
+// The row of a kind, as `kindsTable` has it.
+fn kind_of(kind: u64) -> MessageKind
+    ensures { λ r. ⌜ r ≡ rowIn (kindRow kind) ⌝ }
 {
     if kind == Message::STATICS {
         return STATICS;
@@ -301,26 +365,40 @@ pub fn places_of(kind: u64) -> [Field; Message::PLACES]
     if kind == Message::MOVE {
         return MOVE;
     }
-    [NONE; Message::PLACES]
+    UNKNOWN
+}
+
+// The fields of a kind; past the last a place has no bytes and holds 0.
+pub fn places_of(kind: u64) -> [Field; Message::PLACES]
+    ensures { λ r. ⌜ r ≡ placesOf kind ⌝ }
+{
+    let row = kind_of(kind);
+    row.places
 }
 
 // The length that a kind's messages give: of the kind and the fields.
 pub fn length_of(kind: u64) -> u64
     ensures { λ r. ⌜ r ≡ lengthOf kind ⌝ }
 {
-    if kind == Message::STATICS {
-        return Message::STATICS_LENGTH;
-    }
-    if kind == Message::RATES {
-        return Message::RATES_LENGTH;
-    }
-    if kind == Message::BANDS {
-        return Message::BANDS_LENGTH;
-    }
-    if kind == Message::MOVE {
-        return Message::MOVE_LENGTH;
-    }
-    Message::LENGTH_LEAST
+    let row = kind_of(kind);
+    row.length
+}
+
+// How many fields a kind has.
+pub fn field_count(kind: u64) -> usize
+    ensures { λ r. ⌜ (r ≡ length (fieldsOf kind)) × (r ≤ places) ⌝ }
+{
+    let row = kind_of(kind);
+    row.count
+}
+
+// The word of a kind; an unknown kind has none.
+pub fn word_of(kind: u64) -> Word
+    ensures { λ r. ⌜ (take (r .count) (r .letters) ≡ kindWord kind) × (r .count ≤ wordMost)
+        × (length (r .letters) ≡ wordMost) ⌝ }
+{
+    let row = kind_of(kind);
+    row.word
 }
 
 // ---- when a message is valid
@@ -328,7 +406,7 @@ pub fn length_of(kind: u64) -> u64
 pub fn is_known_kind(kind: u64) -> bool
     ensures { λ r. ⌜ r ≡ isKnownKind kind ⌝ }
 {
-    (Message::STATICS <= kind) & (kind <= Message::MOVE)
+    (1 <= kind) & (kind <= Message::KINDS as u64)
 }
 
 // Whether a value is in its field's range.

@@ -1,5 +1,5 @@
 // W-212: the writer and the reader of messages to members, on a lent buffer.
-mod kinds; // the fields of each kind, and whether a message is valid
+pub mod kinds; // the fields of each kind, and whether a message is valid
 mod widths; // a number, and the fields of a message, as bytes at their widths
 
 ghost use mathlib.Core.Path.{_≡_};
@@ -16,18 +16,18 @@ use crate::widths::get_number;
 use crate::widths::put_fields;
 use crate::widths::put_number;
 use paper::Verdict;
-use paper_messages::Heard;
 use paper_messages::Message;
-use paper_messages::Wrote;
+use paper_messages::ReaderAnswer;
+use paper_messages::WriterAnswer;
 
 // ---- the writer
 
 // "The writer gives 23, then 24, no room, exactly when the message is longer than the buffer, which is left untouched."
-pub fn write(buf: &mut [u8], m: Message) -> Wrote
+pub fn write(buf: &mut [u8], m: Message) -> WriterAnswer
     ensures { λ r. ⌜ Writes (now (buf .entry)) m r (now (buf .exit)) ⌝ }
 {
     if !is_valid(m) {
-        return Wrote {
+        return WriterAnswer {
             verdict: Verdict::FieldOutOfRange,
             length: 0,
         };
@@ -37,7 +37,7 @@ pub fn write(buf: &mut [u8], m: Message) -> Wrote
     let length = length_of(kind);
     let whole = Message::LENGTH_WIDTH + (length as usize);
     if buf.len() < whole {
-        return Wrote {
+        return WriterAnswer {
             verdict: Verdict::NoRoom,
             length: 0,
         };
@@ -45,7 +45,7 @@ pub fn write(buf: &mut [u8], m: Message) -> Wrote
     put_number(buf, 0, Message::LENGTH_WIDTH, length);
     put_number(buf, Message::LENGTH_WIDTH, Message::KIND_WIDTH, kind);
     put_fields(buf, Message::HEAD, places_of(kind), values);
-    Wrote {
+    WriterAnswer {
         verdict: Verdict::Done,
         length: whole,
     }
@@ -63,10 +63,10 @@ fn no_message() -> Message
 }
 
 // A refusal has its verdict and zeros.
-fn refused(verdict: Verdict) -> Heard
+fn refused(verdict: Verdict) -> ReaderAnswer
     ensures { λ r. ⌜ r ≡ refusedHeard verdict ⌝ }
 {
-    Heard {
+    ReaderAnswer {
         verdict,
         known: false,
         kind: 0,
@@ -77,14 +77,14 @@ fn refused(verdict: Verdict) -> Heard
 }
 
 // A message that stands whole in the buffer: its kind, and what its fields say.
-fn read_whole(buf: &[u8], at: usize, length: u64) -> Heard
+fn read_whole(buf: &[u8], at: usize, length: u64) -> ReaderAnswer
     requires { ⌜ Whole (now buf) at length ⌝ }
     ensures { λ r. ⌜ r ≡ heardAt (now (buf .entry)) at ⌝ }
 {
     let kind = get_number(buf, at + Message::LENGTH_WIDTH, Message::KIND_WIDTH);
     let next = at + (Message::LENGTH_WIDTH + (length as usize));
     if !is_known_kind(kind) {
-        return Heard {
+        return ReaderAnswer {
             verdict: Verdict::Done,
             known: false,
             kind,
@@ -101,7 +101,7 @@ fn read_whole(buf: &[u8], at: usize, length: u64) -> Heard
     if !is_valid(message) {
         return refused(Verdict::FieldOutOfRange);
     }
-    Heard {
+    ReaderAnswer {
         verdict: Verdict::Done,
         known: true,
         kind,
@@ -112,7 +112,7 @@ fn read_whole(buf: &[u8], at: usize, length: u64) -> Heard
 }
 
 // What the reader hears at `at`. A place past the end has no bytes, so a message there is cut short.
-pub fn read(buf: &[u8], at: usize) -> Heard
+pub fn read(buf: &[u8], at: usize) -> ReaderAnswer
     ensures { λ r. ⌜ HearsAt (now (buf .entry)) at r ⌝ }
 {
     if buf.len() < Message::LENGTH_WIDTH {

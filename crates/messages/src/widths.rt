@@ -8,7 +8,7 @@ ghost use lib.Seq.{sets};
 ghost use lib.Signed.{mag};
 ghost use Rattle.paper_messages.specs.Bytes.{inWidth, widthMost, bytesOf, spelled, complement, signedOf};
 ghost use Rattle.paper_messages.specs.Messages.{bodyOf, valuesAt};
-ghost use Rattle.messages.specs.Asked.{greatestOf, Room, Holding};
+ghost use Rattle.messages.specs.FieldRoom.{greatestOf, Room, Holding};
 use paper_messages::Field;
 use paper_messages::Message;
 

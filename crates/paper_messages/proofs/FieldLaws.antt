@@ -3,23 +3,23 @@
 use mathlib.Core.Path.{_≡_, refl, sym, ap}
 use mathlib.Core.Bool.{Bool, true, false, _&&_}
 use mathlib.Core.List.{List, [], _∷_, _++_, append-assoc}
-use Prim.Native.Nat.{ℕ, suc, _+_, _<_, _≤_}
+use Prim.Native.Nat.{ℕ, zero, suc, _+_, _<_, _≤_}
 use native.Mathlib.Omega.{arith}
 use lib.Dec.{eqb, leb}
 use lib.IntN.{ℤ}
-use lib.ListN.{length, take, drop, length-append, length-drop}
+use lib.ListN.{length, take, drop, getD, length-append, length-drop}
 use lib.Seq.{take-at, drop-at, take-add, length-take-le}
-use borrow.Author.Tests.{leb-true}
-use Rattle.paper.specs.Lists.{pick, every}
+use borrow.Author.Tests.{leb-true, eqb-true}
+use Rattle.paper.specs.Lists.{every}
 use Rattle.paper.specs.Ranges.{within, withinZ}
 use Rattle.paper.proofs.Logic.{not-true-and-false, and-left, and-right}
 use Rattle.paper_messages.specs.declared.Field.{Field}
 use Rattle.paper_messages.specs.Bytes.{Bytes, inWidth, widthMost, fitsWidth, bytesOf, spelled, complement}
-use Rattle.paper_messages.specs.Fields.{staticsFields, ratesFields, bandsFields, moveFields, fieldsOf, places}
-use Rattle.paper_messages.specs.Fields.{filled, noField, placesOf, staticsMessageKind, ratesMessageKind}
-use Rattle.paper_messages.specs.Fields.{bandsMessageKind, moveMessageKind}
-use Rattle.paper_messages.specs.Messages.{kindWidth, lengthLeast, lengthMost, bodyOf, total, lengthOf, inRanges}
-use Rattle.paper_messages.specs.Messages.{holdsRange, valuesAt}
+use Rattle.paper_messages.specs.Fields.{MessageKind, kindsTable, noKind, fieldsOf, places, filled, noField}
+use Rattle.paper_messages.specs.Fields.{placesOf}
+use Rattle.paper_messages.specs.Messages.{lengthWidth, kindWidth, lengthLeast, lengthMost, bodyOf, total}
+use Rattle.paper_messages.specs.Messages.{lengthOf, inRanges, holdsRange, valuesAt}
+use Rattle.paper_messages.specs.Broadcast.{messageMost}
 use Rattle.paper_messages.proofs.ByteLaws.{take-bytes, drop-bytes, bytes-length, bytes-back, bytes-only}
 use Rattle.paper_messages.proofs.ByteLaws.{spelled-in-width, complement-in-width, complement-back}
 use Rattle.paper_messages.proofs.ByteLaws.{complement-only, fits-between}
@@ -118,38 +118,38 @@ values-length (f ∷ fields) bytes = ap suc (values-length fields (drop (f .widt
 -- ---- the kinds
 
 -- what holds of each kind's places, and of those of no kind, holds of every kind's
-of-every-kind : (P : List Field → Type 0) → P (filled noField staticsFields) → P (filled noField ratesFields)
-    → P (filled noField bandsFields)
-    → P (filled noField moveFields)
-    → P (filled noField [])
+of-every-kind : (p : List Field → Bool)
+    → every (λ (k : MessageKind). p (filled noField (k .fields))) (noKind ∷ kindsTable) ≡ true
     → (kind : ℕ)
-    → P (placesOf kind)
-unfolding placesOf fieldsOf
-of-every-kind P statics rates bands move none kind =
-    go (eqb kind staticsMessageKind) (eqb kind ratesMessageKind) (eqb kind bandsMessageKind) (eqb kind moveMessageKind)
+    → p (placesOf kind) ≡ true
+unfolding placesOf fieldsOf every
+of-every-kind p all kind = of (noKind ∷ kindsTable) all kind
   where
-    go : (a b c d : Bool)
-        → P (filled noField
-        (pick a staticsFields (pick b ratesFields (pick c bandsFields (pick d moveFields [])))))
-    go true b c d = statics
-    go false true c d = rates
-    go false false true d = bands
-    go false false false true = move
-    go false false false false = none
+    of : (rows : List MessageKind) → every (λ (k : MessageKind). p (filled noField (k .fields))) rows ≡ true
+        → (kind : ℕ)
+        → p (filled noField (getD rows kind noKind .fields)) ≡ true
+    of [] h kind = and-left (p (filled noField [])) _ all
+    of (k ∷ rows) h zero = and-left (p (filled noField (k .fields))) _ h
+    of (k ∷ rows) h (suc kind) = of rows (and-right (p (filled noField (k .fields))) _ h) kind
 
 -- every kind's widths hold its ranges
 pub kinds-hold : (kind : ℕ) → every holdsRange (placesOf kind) ≡ true
-unfolding every holdsRange fitsWidth filled staticsFields ratesFields bandsFields moveFields
-kinds-hold kind = of-every-kind (λ fields. every holdsRange fields ≡ true) refl refl refl refl refl kind
+unfolding every holdsRange fitsWidth filled
+kinds-hold kind = of-every-kind (every holdsRange) refl kind
 
 -- every kind has as many places as a message
 pub kinds-have-places : (kind : ℕ) → length (placesOf kind) ≡ places
-unfolding filled staticsFields ratesFields bandsFields moveFields
-kinds-have-places kind = of-every-kind (λ fields. length fields ≡ places) refl refl refl refl refl kind
+unfolding every filled
+kinds-have-places kind = eqb-true _ _ (of-every-kind (λ fields. eqb (length fields) places) refl kind)
 
 -- every kind's length is one that a message may have
 pub kinds-length-in-range : (kind : ℕ) → within lengthLeast lengthMost (lengthOf kind) ≡ true
-unfolding lengthOf total filled staticsFields ratesFields bandsFields moveFields
+unfolding lengthOf total every filled
 kinds-length-in-range kind =
-    of-every-kind (λ fields. within lengthLeast lengthMost (kindWidth + total fields) ≡ true) refl refl refl refl refl
-    kind
+    of-every-kind (λ fields. within lengthLeast lengthMost (kindWidth + total fields)) refl kind
+
+-- no kind's message has more bytes than a buffer of `messageMost` takes
+pub kinds-within-most : (kind : ℕ) → lengthWidth + lengthOf kind ≤ messageMost
+unfolding lengthOf total every filled
+kinds-within-most kind =
+    leb-true _ _ (of-every-kind (λ fields. leb (lengthWidth + (kindWidth + total fields)) messageMost) refl kind)

@@ -17,9 +17,9 @@ use Rattle.paper.specs.Verdicts.{firstOf, isDone, NoneApplies, none, also, allR
 use Rattle.paper.proofs.Logic.{and-left, and-right, and-right-false}
 use Rattle.paper_desk.proofs.Refusals.{done-is, done-means-none-applies}
 use Rattle.paper_messages.specs.declared.Message.{Message}
-use Rattle.paper_messages.specs.declared.Heard.{Heard}
+use Rattle.paper_messages.specs.declared.ReaderAnswer.{ReaderAnswer}
 use Rattle.paper_messages.specs.Bytes.{Bytes, bytesOf, spelled}
-use Rattle.paper_messages.specs.Fields.{staticsMessageKind, moveMessageKind, places, placesOf}
+use Rattle.paper_messages.specs.Fields.{kindsCount, places, placesOf}
 use Rattle.paper_messages.specs.Messages.{lengthWidth, kindWidth, bodyOf, total, lengthOf, encode, isKnownKind}
 use Rattle.paper_messages.specs.Messages.{inRanges, valid, lengthLeast, lengthMost, lengthAt, kindAt, messageAt}
 use Rattle.paper_messages.specs.Messages.{valuesAt, readChecks, AcceptedBytes, acceptedHeard, refusedHeard}
@@ -108,8 +108,8 @@ module _ (m : Message) (v : valid m ≡ true) (full : length (m .fields) ≡ pla
   kind-said : kindAt (encode m ++ rest) ≡ m .kind
   unfolding head tag isKnownKind
   kind-said =
-      let most : m .kind ≤ moveMessageKind = leb-true (m .kind) moveMessageKind
-      (and-right (leb staticsMessageKind (m .kind)) (leb (m .kind) moveMessageKind) (valid-is-known m v)) in
+      let most : m .kind ≤ kindsCount = leb-true (m .kind) kindsCount
+      (and-right (leb 1 (m .kind)) (leb (m .kind) kindsCount) (valid-is-known m v)) in
       rw (
         encode-in-parts,
         drop-at head (tag ++ (body ++ rest)) lengthWidth (bytes-length lengthWidth (lengthOf (m .kind))),
@@ -259,14 +259,14 @@ heard-only b at all e known =
     let bytes : List ℕ = drop at b in
     let first : firstOf (readChecks bytes) ≡ Done = sym (heard-verdict b at) ∙ e in
     let is : heardAt b at ≡ acceptedHeard at bytes = heard-accepted b at first in
-    let k : isKnownKind (kindAt bytes) ≡ true = sym (ap (λ (h : Heard). h .known) is) ∙ known in
+    let k : isKnownKind (kindAt bytes) ≡ true = sym (ap (λ (h : ReaderAnswer). h .known) is) ∙ known in
     let a : AcceptedBytes bytes = done-means-accepted bytes first in
-    let m-is : heardAt b at .message ≡ messageAt bytes = ap (λ (h : Heard). h .message) is ∙ said k in
+    let m-is : heardAt b at .message ≡ messageAt bytes = ap (λ (h : ReaderAnswer). h .message) is ∙ said k in
     let only : encode (messageAt bytes) ≡ take (lengthWidth + lengthAt bytes) bytes =
     only-encoding bytes (drop-bytes at b all) a k in
     let long : length (encode (messageAt bytes)) ≡ lengthWidth + lengthAt bytes =
     ap length only ∙ length-take-le (lengthWidth + lengthAt bytes) bytes (a .follows) in
-    rw (m-is, long) (a .in-range k, only, ap (λ (h : Heard). h .next) is)
+    rw (m-is, long) (a .in-range k, only, ap (λ (h : ReaderAnswer). h .next) is)
   where
     said : isKnownKind (kindAt (drop at b)) ≡ true → acceptedHeard at (drop at b) .message ≡ messageAt (drop at b)
     said k = rw k

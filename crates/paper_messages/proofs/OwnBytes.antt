@@ -17,7 +17,7 @@ use Rattle.paper.specs.Verdicts.{numberOf, isDone, firstOf}
 use Rattle.paper.proofs.Logic.{and-left, not-true-and-false}
 use Rattle.paper_desk.proofs.Refusals.{done-is}
 use Rattle.paper_messages.specs.declared.Field.{Field}
-use Rattle.paper_messages.specs.declared.Heard.{Heard}
+use Rattle.paper_messages.specs.declared.ReaderAnswer.{ReaderAnswer}
 use Rattle.paper_messages.specs.Bytes.{spelled}
 use Rattle.paper_messages.specs.Fields.{placesOf}
 use Rattle.paper_messages.specs.Messages.{lengthWidth, kindWidth, lengthLeast, lengthMost, total, lengthOf}
@@ -163,7 +163,7 @@ module _ (s t : List ℕ) (i : within lengthLeast lengthMost (lengthAt s) ≡ tr
   said-same done place = rw (length-same, kind-same) (of (isKnownKind (kindAt s)) refl)
     where
       of : (k : Bool) → isKnownKind (kindAt s) ≡ k
-          → _≡_ {A = Heard} (record {
+          → _≡_ {A = ReaderAnswer} (record {
             verdict = Done;
             known = k;
             kind = kindAt s;
@@ -216,7 +216,8 @@ heard-same b c at e same =
     let t : List ℕ = drop at c in
     let first : firstOf (readChecks s) ≡ Done = sym (heard-verdict b at) ∙ e in
     let next-is : heardAt b at .next ≡ at + ownBytes s =
-    ap (λ (h : Heard). h .next) (heard-accepted b at first) ∙ next-of s (done-means-accepted s first .in-length) in
+    ap (λ (h : ReaderAnswer). h .next) (heard-accepted b at first)
+    ∙ next-of s (done-means-accepted s first .in-length) in
     let alike = own-same s t (ap (λ (v : Verdict). eqb (numberOf v) (numberOf CutShort)) first)
     (rest-same at (ownBytes s) b c (rw next-is at same)) in
     heard-accepted c at (alike .0 ∙ first) ∙ alike .1 (ap isDone first) at ∙ sym (heard-accepted b at first)

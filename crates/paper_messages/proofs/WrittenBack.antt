@@ -9,7 +9,7 @@ use borrow.Author.Tests.{not-false}
 use Rattle.paper.specs.declared.Verdict.the-variants.{Done}
 use Rattle.paper.specs.Verdicts.{isDone, NoneApplies, also}
 use Rattle.paper_messages.specs.declared.Message.{Message}
-use Rattle.paper_messages.specs.declared.Heard.{Heard}
+use Rattle.paper_messages.specs.declared.ReaderAnswer.{ReaderAnswer}
 use Rattle.paper_messages.specs.Fields.{places}
 use Rattle.paper_messages.specs.Messages.{encode, valid, writeChecks, wroteOf, written, heardAt}
 use Rattle.paper_messages.proofs.MessageLaws.{reads-back}
@@ -32,4 +32,4 @@ module _ (b : List ℕ) (m : Message) (full : length (m .fields) ≡ places) (do
   written-reads-back =
       let heard = ap (λ (bytes : List ℕ). heardAt bytes 0) written-is
       ∙ reads-back m written-valid full (drop (length (encode m)) b) [] in
-      (ap (λ (h : Heard). h .verdict) heard, ap (λ (h : Heard). h .message) heard)
+      (ap (λ (h : ReaderAnswer). h .verdict) heard, ap (λ (h : ReaderAnswer). h .message) heard)

@@ -1,17 +1,17 @@
--- W-212: the fields of each kind of message, in the order, at the widths and with the ranges that docs/BROADCAST.md
--- lists; "prices, limits and volatility eight bytes, ids, rates and other numbers four, yes/no one (0 or 1)".
+-- W-212: the kinds of messages, each with its fields in the order, at the widths and with the ranges that
+-- docs/BROADCAST.md lists; "prices, limits and volatility eight bytes, ids, rates and other numbers four, yes/no one
+-- (0 or 1)".
 use mathlib.Core.List.{List, [], _∷_, _++_, map}
 use Prim.Native.Nat.{ℕ, _+_, _-_}
-use lib.Dec.{eqb}
 use lib.IntN.{ℤ, pos}
-use lib.ListN.{length, replicate}
+use lib.ListN.{length, getD, replicate}
 use Rattle.paper.specs.Lists.{pick}
 use Rattle.paper.specs.Numbers.{priceLeast, priceMost, rateMost, volatilityMost, tentativeMost, stepMost, idMost}
 use Rattle.paper.specs.Numbers.{dayMost, ageMost, limitMost, movesMost, termDaysMost, repoLeast, repoMost}
 use Rattle.paper.specs.Ranges.{Static, staticsTable, staticsCount}
 use Rattle.paper_messages.specs.declared.Field.{Field}
 
--- "Kinds: 1 statics, 2 rates and ranges, 3 bands, 4 move."
+-- "Kinds: 1 statics, 2 rates and ranges, 3 bands, 4 move.": the number of a kind is its place in `kindsTable`
 abbrev pub staticsMessageKind : ℕ
 staticsMessageKind = 1
 
@@ -57,16 +57,16 @@ limitField = eightBytes (pos 0) (pos limitMost)
 abbrev pub tentativeLast : ℕ
 tentativeLast = tentativeMost + stepMost - 1
 
--- ---- the kinds
+-- ---- the fields of each kind
 
 -- a static: its row of the table of statics, at its width
 abbrev pub staticField : Static → Field
 staticField row = pick (row .isFlag) yesNo (fourBytes (pos (row .least)) (pos (row .most)))
 
-unfoldable pub staticsFields : List Field
+abbrev pub staticsFields : List Field
 staticsFields = idField ∷ map staticField staticsTable
 
-unfoldable pub ratesFields : List Field
+abbrev pub ratesFields : List Field
 ratesFields =
     idField  -- ID
     ∷ dayField  -- DAY
@@ -95,13 +95,13 @@ termFields =
     ∷ limitField  -- UPPER
     ∷ []
 
-unfoldable pub bandsFields : List Field
+abbrev pub bandsFields : List Field
 bandsFields =
     idField  -- ID
     ∷ dayField  -- DAY
     ∷ (termFields ++ termFields ++ termFields)
 
-unfoldable pub moveFields : List Field
+abbrev pub moveFields : List Field
 moveFields =
     idField  -- ID
     ∷ fourBytes (pos 0) (pos 1)  -- SIDE
@@ -114,12 +114,37 @@ moveFields =
     ∷ limitField
     ∷ []
 
--- the fields of a kind; an unknown kind has none that we know
+-- ---- THE KINDS, one row each
+
+-- a kind of message: its fields, and the word that a member's line of it begins with
+pub record MessageKind : Type 0 where
+  pub fields : List Field
+  pub word : List ℕ
+
+-- from 1 on; the words are "statics", "rates", "bands" and "move"
+abbrev pub kindsTable : List MessageKind
+kindsTable =
+    record { fields = staticsFields; word = 115 ∷ 116 ∷ 97 ∷ 116 ∷ 105 ∷ 99 ∷ 115 ∷ [] }
+    ∷ record { fields = ratesFields; word = 114 ∷ 97 ∷ 116 ∷ 101 ∷ 115 ∷ [] }
+    ∷ record { fields = bandsFields; word = 98 ∷ 97 ∷ 110 ∷ 100 ∷ 115 ∷ [] }
+    ∷ record { fields = moveFields; word = 109 ∷ 111 ∷ 118 ∷ 101 ∷ [] }
+    ∷ []
+
+abbrev pub kindsCount : ℕ
+kindsCount = length kindsTable
+
+-- an unknown kind has no field that we know, and no word
+abbrev pub noKind : MessageKind
+noKind = record { fields = []; word = [] }
+
+abbrev pub kindRow : (kind : ℕ) → MessageKind
+kindRow kind = getD (noKind ∷ kindsTable) kind noKind
+
 unfoldable pub fieldsOf : (kind : ℕ) → List Field
-fieldsOf kind =
-    pick (eqb kind staticsMessageKind) staticsFields
-    (pick (eqb kind ratesMessageKind) ratesFields
-    (pick (eqb kind bandsMessageKind) bandsFields (pick (eqb kind moveMessageKind) moveFields [])))
+fieldsOf kind = kindRow kind .fields
+
+unfoldable pub kindWord : (kind : ℕ) → List ℕ
+kindWord kind = kindRow kind .word
 
 -- ---- the places of a message
 

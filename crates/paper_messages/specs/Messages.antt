@@ -16,10 +16,10 @@ use Rattle.paper.specs.Ranges.{within, withinZ, unsignedAt, givenOf, validGiven
 use Rattle.paper.specs.Verdicts.{Check, firstOf, isDone}
 use Rattle.paper_messages.specs.declared.Field.{Field}
 use Rattle.paper_messages.specs.declared.Message.{Message}
-use Rattle.paper_messages.specs.declared.Wrote.{Wrote}
-use Rattle.paper_messages.specs.declared.Heard.{Heard}
+use Rattle.paper_messages.specs.declared.WriterAnswer.{WriterAnswer}
+use Rattle.paper_messages.specs.declared.ReaderAnswer.{ReaderAnswer}
 use Rattle.paper_messages.specs.Bytes.{widthMost, fitsWidth, bytesOf, spelled, complement, signedOf}
-use Rattle.paper_messages.specs.Fields.{staticsMessageKind, moveMessageKind, places, placesOf}
+use Rattle.paper_messages.specs.Fields.{staticsMessageKind, kindsCount, places, placesOf}
 
 -- ---- the bytes of a message
 
@@ -54,7 +54,7 @@ encode m =
 -- ---- when a message is valid
 
 unfoldable pub isKnownKind : (kind : ℕ) → Bool
-isKnownKind kind = within staticsMessageKind moveMessageKind kind
+isKnownKind kind = within 1 kindsCount kind
 
 -- each value in its field's range
 unfoldable pub inRanges : List Field → (values : List ℤ) → Bool
@@ -88,7 +88,7 @@ writeChecks buffer m =
     ∷ record { verdict = NoRoom; applies = ltb (length buffer) (length (encode m)) }
     ∷ []
 
-unfoldable pub wroteOf : (buffer : List ℕ) → Message → Wrote
+unfoldable pub wroteOf : (buffer : List ℕ) → Message → WriterAnswer
 wroteOf buffer m =
     let v : Verdict = firstOf (writeChecks buffer m) in
     record { verdict = v; length = pick (isDone v) (length (encode m)) 0 }
@@ -151,12 +151,12 @@ pub record AcceptedBytes (bytes : List ℕ) : Type 0 where
 abbrev pub noMessage : Message
 noMessage = record { kind = 0; fields = replicate places (pos 0) }
 
-unfoldable pub refusedHeard : Verdict → Heard
+unfoldable pub refusedHeard : Verdict → ReaderAnswer
 refusedHeard v = record { verdict = v; known = false; kind = 0; length = 0; next = 0; message = noMessage }
 
 -- a message that is not refused: "A reader meeting an unknown kind skips it by its length .. and says so", and the next
 -- one begins behind it
-unfoldable pub acceptedHeard : (place : ℕ) → (bytes : List ℕ) → Heard
+unfoldable pub acceptedHeard : (place : ℕ) → (bytes : List ℕ) → ReaderAnswer
 acceptedHeard place bytes =
     record {
       verdict = Done;
@@ -168,7 +168,7 @@ acceptedHeard place bytes =
     }
 
 -- what the reader hears at a place of a lent buffer
-unfoldable pub heardAt : (buffer : List ℕ) → (place : ℕ) → Heard
+unfoldable pub heardAt : (buffer : List ℕ) → (place : ℕ) → ReaderAnswer
 heardAt buffer place =
     let bytes : List ℕ = drop place buffer in
     let v : Verdict = firstOf (readChecks bytes) in

@@ -19,7 +19,7 @@ use Rattle.paper_desk.specs.Desk.{Call, admit, evaluate, quote, move, read, ope
 use Rattle.paper_desk.specs.External.{notice}
 use Rattle.paper_messages.specs.declared.Message.{Message}
 use Rattle.paper_messages.specs.Bytes.{bytesOf, complement}
-use Rattle.paper_messages.specs.Fields.{staticsFields, ratesFields, bandsFields, moveFields, fieldsOf, filled}
+use Rattle.paper_messages.specs.Fields.{fieldsOf, filled}
 use Rattle.paper_messages.specs.Fields.{moveMessageKind}
 use Rattle.paper_messages.specs.Fields.{placesOf}
 use Rattle.paper_messages.specs.Messages.{bodyOf, total, lengthOf, encode, isKnownKind, inRanges}
@@ -80,7 +80,7 @@ moves-told = (refl, refl)
 
 -- the bytes of a message of each kind, with those of its length; none is longer than the longest
 pub lengths-are : map (λ (kind : ℕ). lengthWidth + lengthOf kind) (1 ∷ 2 ∷ 3 ∷ 4 ∷ []) ≡ messageMost ∷ 98 ∷ 98 ∷ 66 ∷ []
-unfolding lengthOf total placesOf fieldsOf filled staticsFields ratesFields bandsFields moveFields
+unfolding lengthOf total placesOf fieldsOf filled
 lengths-are = refl
 
 -- a record whose messages PinnedMessages tells: rates and ranges as they stand there, the bands under another id and
@@ -105,9 +105,8 @@ told =
 -- alone
 unfoldable pub bytesSent : Call → Answer → List ℕ
 unfolding broadcastOf allSent sent messagesOf staticsMessage ratesMessage bandsMessage moveMessage message valueOf
-    staticsOf sideOf lastDay isDone encode bodyOf bytesOf complement lengthOf total placesOf fieldsOf filled
-    staticsFields ratesFields bandsFields moveFields isKnownKind valid inRanges asAdmission givenOf validGiven
-    validStatics unsigned admission staticsBytes ratesBytes bandsBytes
+    staticsOf sideOf lastDay isDone encode bodyOf bytesOf complement lengthOf total placesOf fieldsOf filled isKnownKind
+    valid inRanges asAdmission givenOf validGiven validStatics unsigned admission staticsBytes ratesBytes bandsBytes
 bytesSent c a = broadcastOf c a
 
 -- of an accepted call all of its messages one behind the other, of a refused one nothing. A message with a field out of

@@ -86,7 +86,7 @@ unfolding straddles valuesOf inRanges
 fieldEnds fields ranges = straddles (inRanges fields) (valuesOf ranges) 0 ranges
 
 pub field-ends : List (List (List Bool))
-unfolding fieldEnds staticsRanges ratesRanges bandsRanges moveRanges staticsFields ratesFields bandsFields moveFields
+unfolding fieldEnds staticsRanges ratesRanges bandsRanges moveRanges
 field-ends =
     fieldEnds staticsFields staticsRanges
     ∷ fieldEnds ratesFields ratesRanges
@@ -107,7 +107,7 @@ widest-is = refl
 -- how many fields each kind has, and the kinds 0 and 5, which are unknown
 pub counts-are : map (λ (kind : ℕ). length (fieldsOf kind)) (0 ∷ 1 ∷ 2 ∷ 3 ∷ 4 ∷ 5 ∷ [])
     ≡ 0 ∷ 27 ∷ 15 ∷ 17 ∷ 9 ∷ 0 ∷ []
-unfolding fieldsOf staticsFields ratesFields bandsFields moveFields
+unfolding fieldsOf
 counts-are = refl
 
 -- ---- nothing is heard

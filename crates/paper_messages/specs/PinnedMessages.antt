@@ -9,11 +9,10 @@ use lib.Seq.{sets}
 use Rattle.paper.specs.Ranges.{unsigned, givenOf, flagOf, validStatics, staticsOf, validGiven}
 use Rattle.paper.specs.Verdicts.{numberOf, isDone, firstOf}
 use Rattle.paper_messages.specs.declared.Message.{Message}
-use Rattle.paper_messages.specs.declared.Heard.{Heard}
+use Rattle.paper_messages.specs.declared.ReaderAnswer.{ReaderAnswer}
 use Rattle.paper_messages.specs.Bytes.{bytesOf, spelled, complement, signedOf}
 use Rattle.paper_messages.specs.Fields.{staticsMessageKind, ratesMessageKind, bandsMessageKind, moveMessageKind}
-use Rattle.paper_messages.specs.Fields.{staticsFields, ratesFields}
-use Rattle.paper_messages.specs.Fields.{bandsFields, moveFields, yesNo, fieldsOf, filled, placesOf}
+use Rattle.paper_messages.specs.Fields.{yesNo, fieldsOf, filled, placesOf}
 use Rattle.paper_messages.specs.Messages.{bodyOf, total, lengthOf, encode, isKnownKind, inRanges}
 use Rattle.paper_messages.specs.Messages.{asAdmission, valid, writeChecks, wroteOf, written, valuesAt, messageAt}
 use Rattle.paper_messages.specs.Messages.{readChecks, refusedHeard, acceptedHeard, heardAt}
@@ -42,8 +41,7 @@ staticsBytes =
     ∷ 60 ∷ 0 ∷ 0 ∷ 0 ∷ 0 ∷ 3 ∷ 0 ∷ 0 ∷ 0 ∷ 1 ∷ []
 
 pub statics-encoded : encode staticsTold ≡ staticsBytes
-unfolding encode staticsTold staticsBytes message filled lengthOf total placesOf fieldsOf staticsFields bodyOf bytesOf
-    complement
+unfolding encode staticsTold staticsBytes message filled lengthOf total placesOf fieldsOf bodyOf bytesOf complement
 statics-encoded = refl
 
 unfoldable pub ratesTold : Message
@@ -61,8 +59,7 @@ ratesBytes =
     ∷ 236 ∷ 91 ∷ 13 ∷ 0 ∷ 0 ∷ 0 ∷ 0 ∷ 0 ∷ []
 
 pub rates-encoded : encode ratesTold ≡ ratesBytes
-unfolding encode ratesTold ratesBytes message filled lengthOf total placesOf fieldsOf ratesFields bodyOf bytesOf
-    complement
+unfolding encode ratesTold ratesBytes message filled lengthOf total placesOf fieldsOf bodyOf bytesOf complement
 rates-encoded = refl
 
 unfoldable pub bandsTold : Message
@@ -80,8 +77,7 @@ bandsBytes =
     ∷ 0 ∷ 0 ∷ 0 ∷ 1 ∷ 0 ∷ 0 ∷ 0 ∷ 0 ∷ []
 
 pub bands-encoded : encode bandsTold ≡ bandsBytes
-unfolding encode bandsTold bandsBytes message filled lengthOf total placesOf fieldsOf bandsFields bodyOf bytesOf
-    complement
+unfolding encode bandsTold bandsBytes message filled lengthOf total placesOf fieldsOf bodyOf bytesOf complement
 bands-encoded = refl
 
 unfoldable pub moveTold : Message
@@ -97,8 +93,7 @@ moveBytes =
     ∷ 0 ∷ 0 ∷ 0 ∷ 0 ∷ 0 ∷ 0 ∷ 0 ∷ 0 ∷ 1 ∷ 0 ∷ 0 ∷ 0 ∷ 0 ∷ 0 ∷ 0 ∷ 0 ∷ 0 ∷ 232 ∷ 97 ∷ 81 ∷ 214 ∷ 1 ∷ 0 ∷ 0 ∷ []
 
 pub move-encoded : encode moveTold ≡ moveBytes
-unfolding encode moveTold moveBytes message filled lengthOf total placesOf fieldsOf moveFields bodyOf bytesOf
-    complement
+unfolding encode moveTold moveBytes message filled lengthOf total placesOf fieldsOf bodyOf bytesOf complement
 move-encoded = refl
 
 -- ---- what is heard
@@ -106,7 +101,7 @@ move-encoded = refl
 -- the number, and of what is heard whether its kind is known, the kind, the length and the place of the next
 unfoldable pub heard : List ℕ → (place : ℕ) → List ℕ
 heard buffer place =
-    let h : Heard = heardAt buffer place in
+    let h : ReaderAnswer = heardAt buffer place in
     numberOf (h .verdict) ∷ flagOf (h .known) ∷ h .kind ∷ h .length ∷ h .next ∷ []
 
 -- a message of so many bytes behind its length, of a kind below 256, with zeros
@@ -143,7 +138,7 @@ pub lengths-are : lengths
     ∷ []
 unfolding lengths heard zeros heardAt acceptedHeard refusedHeard readChecks firstOf isDone isKnownKind valid inRanges
     asAdmission givenOf validGiven validStatics staticsOf unsigned messageAt valuesAt spelled signedOf lengthOf total
-    placesOf fieldsOf filled staticsFields ratesFields bandsFields moveFields
+    placesOf fieldsOf filled
 lengths-are = refl
 
 -- an unknown kind is skipped by its length, a known one has its own
@@ -180,8 +175,8 @@ pub kinds-are : kinds
     ∷ (22 ∷ 0 ∷ 0 ∷ 0 ∷ 0 ∷ [])
     ∷ []
 unfolding kinds heard moveBytes zeros heardAt acceptedHeard refusedHeard readChecks firstOf isDone isKnownKind valid
-    inRanges asAdmission givenOf validGiven validStatics staticsOf unsigned messageAt valuesAt spelled signedOf
-    lengthOf total placesOf fieldsOf filled staticsFields ratesFields bandsFields moveFields
+    inRanges asAdmission givenOf validGiven validStatics staticsOf unsigned messageAt valuesAt spelled signedOf lengthOf
+    total placesOf fieldsOf filled
 kinds-are = refl
 
 -- a field out of range, and its last number in it
@@ -230,10 +225,9 @@ fields =
 pub fields-are : fields
     ≡ 23 ∷ 0 ∷ 23 ∷ 0 ∷ 23 ∷ 0 ∷ 23 ∷ 23 ∷ 23 ∷ 23 ∷ 0 ∷ 23 ∷ 0 ∷ 23 ∷ 0 ∷ 23 ∷ 0 ∷ 23 ∷ 0 ∷ 23
     ∷ 23 ∷ 23 ∷ 23 ∷ 23 ∷ 0 ∷ 0 ∷ 23 ∷ 23 ∷ 23 ∷ 23 ∷ 23 ∷ 0 ∷ 23 ∷ 23 ∷ 23 ∷ []
-unfolding fields judged staticsBytes ratesBytes bandsBytes moveBytes zeros heardAt acceptedHeard refusedHeard
-    readChecks firstOf isDone isKnownKind valid inRanges asAdmission givenOf validGiven validStatics staticsOf unsigned
-    messageAt valuesAt spelled signedOf lengthOf total placesOf fieldsOf filled staticsFields ratesFields bandsFields
-    moveFields
+unfolding fields judged staticsBytes ratesBytes bandsBytes moveBytes zeros heardAt acceptedHeard refusedHeard readChecks
+    firstOf isDone isKnownKind valid inRanges asAdmission givenOf validGiven validStatics staticsOf unsigned messageAt
+    valuesAt spelled signedOf lengthOf total placesOf fieldsOf filled
 fields-are = refl
 
 -- a flag by its own range, whatever an admission says of it
@@ -250,9 +244,8 @@ pub heard-back : (heardAt staticsBytes 0 .message ≡ staticsTold) × (heardAt r
     × (heardAt bandsBytes 0 .message ≡ bandsTold)
     × (heardAt moveBytes 0 .message ≡ moveTold)
 unfolding staticsBytes ratesBytes bandsBytes moveBytes staticsTold ratesTold bandsTold moveTold message zeros heardAt
-    acceptedHeard refusedHeard readChecks firstOf isDone isKnownKind valid inRanges asAdmission givenOf
-    validGiven validStatics staticsOf unsigned messageAt valuesAt spelled signedOf lengthOf total placesOf fieldsOf
-    filled staticsFields ratesFields bandsFields moveFields
+    acceptedHeard refusedHeard readChecks firstOf isDone isKnownKind valid inRanges asAdmission givenOf validGiven
+    validStatics staticsOf unsigned messageAt valuesAt spelled signedOf lengthOf total placesOf fieldsOf filled
 heard-back = (refl, refl, refl, refl)
 
 -- ---- the writer
@@ -276,17 +269,15 @@ writes =
 
 pub writes-are : writes ≡ (0 ∷ 66 ∷ []) ∷ (24 ∷ 0 ∷ []) ∷ (23 ∷ 0 ∷ []) ∷ (23 ∷ 0 ∷ []) ∷ (23 ∷ 0 ∷ []) ∷ []
 unfolding writes answered pastLast moveTold message wroteOf writeChecks encode bodyOf bytesOf complement zeros heardAt
-    acceptedHeard refusedHeard readChecks firstOf isDone isKnownKind valid inRanges asAdmission givenOf
-    validGiven validStatics staticsOf unsigned messageAt valuesAt spelled signedOf lengthOf total placesOf fieldsOf
-    filled staticsFields ratesFields bandsFields moveFields
+    acceptedHeard refusedHeard readChecks firstOf isDone isKnownKind valid inRanges asAdmission givenOf validGiven
+    validStatics staticsOf unsigned messageAt valuesAt spelled signedOf lengthOf total placesOf fieldsOf filled
 writes-are = refl
 
 -- the message comes first and the rest stays; a refusal leaves every byte
 pub written-are : (written (replicate 68 9) moveTold ≡ moveBytes ++ 9 ∷ 9 ∷ [])
     × (written (replicate 65 9) moveTold ≡ replicate 65 9)
     × (written (replicate 68 9) pastLast ≡ replicate 68 9)
-unfolding written pastLast moveTold moveBytes message wroteOf writeChecks encode bodyOf bytesOf complement zeros
-    heardAt acceptedHeard refusedHeard readChecks firstOf isDone isKnownKind valid inRanges asAdmission givenOf
-    validGiven validStatics staticsOf unsigned messageAt valuesAt spelled signedOf lengthOf total placesOf fieldsOf
-    filled staticsFields ratesFields bandsFields moveFields
+unfolding written pastLast moveTold moveBytes message wroteOf writeChecks encode bodyOf bytesOf complement zeros heardAt
+    acceptedHeard refusedHeard readChecks firstOf isDone isKnownKind valid inRanges asAdmission givenOf validGiven
+    validStatics staticsOf unsigned messageAt valuesAt spelled signedOf lengthOf total placesOf fieldsOf filled
 written-are = (refl, refl, refl)

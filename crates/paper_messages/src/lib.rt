@@ -10,7 +10,7 @@ pub struct Field {
     pub high: i64,
 }
 
-// A message: its kind, 1 to 4, and its fields in the order of docs/BROADCAST.md. Past the kind's last field stand
+// A message: its kind, 1 to KINDS, and its fields in the order of docs/BROADCAST.md. Past the kind's last field stand
 // zeros.
 pub struct Message {
     pub kind: u64,
@@ -26,6 +26,9 @@ impl Message {
     pub const BANDS: u64 = 3;
 
     pub const MOVE: u64 = 4;
+
+    // How many kinds there are: their numbers are 1 to KINDS.
+    pub const KINDS: usize = 4;
 
     // The most fields that a kind has: an id and the statics.
     pub const PLACES: usize = Statics::COUNT + 1;
@@ -43,31 +46,25 @@ impl Message {
 
     pub const LENGTH_MOST: u64 = 4_096;
 
-    // The length of each kind's messages: of the kind and the fields, of which the statics are an id and other numbers
-    // of four bytes, and flags of one.
+    // The length of the messages of kind 1: of the kind and the fields, an id and other numbers of four bytes, and
+    // flags of one. No kind's are longer.
     pub const STATICS_LENGTH: u64 = (Message::KIND_WIDTH
         + 4 * (Message::PLACES - Statics::FLAGS)
         + Statics::FLAGS) as u64;
-
-    pub const RATES_LENGTH: u64 = 94;
-
-    pub const BANDS_LENGTH: u64 = 94;
-
-    pub const MOVE_LENGTH: u64 = 62;
 
     // The longest message of a known kind, whole: a buffer of so many bytes takes every message.
     pub const BYTES_MOST: usize = Message::LENGTH_WIDTH + Message::STATICS_LENGTH as usize;
 }
 
 // What the writer answers: the number, and how many bytes it wrote, 0 where it refused.
-pub struct Wrote {
+pub struct WriterAnswer {
     pub verdict: Verdict,
     pub length: usize,
 }
 
 // What the reader hears at a place: a message of a known kind, or one of an unknown kind, which it skips; either with
 // the kind, the length that the message gives, and the place behind it. A refusal has its verdict and zeros.
-pub struct Heard {
+pub struct ReaderAnswer {
     pub verdict: Verdict,
     pub known: bool,
     pub kind: u64,

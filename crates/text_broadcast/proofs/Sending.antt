@@ -4,7 +4,7 @@ use mathlib.Core.Bool.{Bool, true, false, not}
 use mathlib.Core.List.{List, [], _∷_, _++_, append-nil, append-assoc}
 use Prim.Native.Nat.{ℕ, _+_, _-_, _≤_, _<_}
 use native.Mathlib.Omega.{arith}
-use lib.Dec.{ltb, eqb}
+use lib.Dec.{ltb}
 use lib.ListN.{length, take, drop, length-drop, take-append-drop, drop-of-length-le}
 use lib.Seq.{sets, sets-eq, drop-drop, take-all}
 use borrow.Author.Tests.{le-ltb}
@@ -14,12 +14,9 @@ use Rattle.paper.specs.Lists.{pick}
 use Rattle.paper.specs.Verdicts.{isDone, firstOf}
 use Rattle.paper.proofs.Logic.{not-true, not-false}
 use Rattle.paper_messages.specs.declared.Message.{Message}
-use Rattle.paper_messages.specs.declared.Wrote.{Wrote as Answered}
-use Rattle.paper_messages.specs.Fields.{staticsMessageKind, ratesMessageKind, bandsMessageKind, moveMessageKind}
-use Rattle.paper_messages.specs.Fields.{staticsFields, ratesFields}
-use Rattle.paper_messages.specs.Fields.{bandsFields, moveFields, noField, fieldsOf, filled, placesOf}
-use Rattle.paper_messages.specs.Messages.{lengthWidth, kindWidth, total, lengthOf, encode, valid, writeChecks, wroteOf}
-use Rattle.paper_messages.specs.Messages.{written}
+use Rattle.paper_messages.specs.declared.WriterAnswer.{WriterAnswer}
+use Rattle.paper_messages.specs.Messages.{encode, valid, writeChecks, wroteOf, written}
+use Rattle.paper_messages.proofs.FieldLaws.{kinds-within-most}
 use Rattle.paper_messages.proofs.MessageLaws.{encode-length}
 use Rattle.messages.specs.Promises.{Writes}
 use Rattle.text_bytes.specs.Bytes.{room}
@@ -29,29 +26,13 @@ use Rattle.text_protocol.specs.Calls.{callAsked}
 use Rattle.paper_messages.specs.Broadcast.{messagesOf, messageMost, sent, allSent, broadcastOf}
 use Rattle.text_out.specs.Wrote.{Wrote, then, wider, nothing}
 
--- no kind's message is longer
-kind-within-message-most : (kind : ℕ) → lengthWidth + lengthOf kind ≤ messageMost
-unfolding lengthOf total placesOf filled fieldsOf staticsFields ratesFields bandsFields moveFields
-kind-within-message-most kind =
-    go (eqb kind staticsMessageKind) (eqb kind ratesMessageKind) (eqb kind bandsMessageKind)
-    (eqb kind moveMessageKind)
-  where
-    go : (a b c d : Bool)
-        → lengthWidth + (kindWidth + total (filled noField (pick a staticsFields (pick b ratesFields (pick c bandsFields
-        (pick d moveFields [])))))) ≤ messageMost
-    go true b c d = omega arith
-    go false true c d = omega arith
-    go false false true d = omega arith
-    go false false false true = omega arith
-    go false false false false = omega arith
-
-module _ (b : List ℕ) (len : ℕ) (m : Message) (w : Answered) (after : List ℕ) (fits : len + messageMost ≤ room)
+module _ (b : List ℕ) (len : ℕ) (m : Message) (w : WriterAnswer) (after : List ℕ) (fits : len + messageMost ≤ room)
     (long : length b ≡ room) (writes : Writes (drop len b) m w after) where
   -- a message with a field out of its range is not written
   refused-is-not-sent : valid m ≡ false → Wrote b len (take len b ++ after) (len + w .length) (sent m) messageMost
   unfolding sent wroteOf written writeChecks firstOf isDone
   refused-is-not-sent e =
-      let none : w .length ≡ 0 = ap (λ (x : Answered). x .length) (writes .answers) ∙ rw e in
+      let none : w .length ≡ 0 = ap (λ (x : WriterAnswer). x .length) (writes .answers) ∙ rw e in
       let left : after ≡ drop len b = writes .leaves ∙ rw e in
       record {
         bytes = rw (e, left) (take-append-drop len b);
@@ -63,11 +44,11 @@ module _ (b : List ℕ) (len : ℕ) (m : Message) (w : Answered) (after : List �
   valid-is-sent : valid m ≡ true → Wrote b len (take len b ++ after) (len + w .length) (sent m) messageMost
   unfolding sent wroteOf written writeChecks firstOf isDone
   valid-is-sent e =
-      let short : length (encode m) ≤ messageMost = rw (encode-length m e) (kind-within-message-most (m .kind)) in
+      let short : length (encode m) ≤ messageMost = rw (encode-length m e) (kinds-within-most (m .kind)) in
       let room-left : ltb (length (drop len b)) (length (encode m)) ≡ false =
       le-ltb (length (drop len b)) (length (encode m)) (omega (arith, length-drop len b, long, fits, short)) in
       let size : w .length ≡ length (encode m) =
-      ap (λ (x : Answered). x .length) (writes .answers) ∙ rw (e, room-left) in
+      ap (λ (x : WriterAnswer). x .length) (writes .answers) ∙ rw (e, room-left) in
       let left : after ≡ encode m ++ drop (length (encode m)) (drop len b) = writes .leaves ∙ rw (e, room-left) in
       record {
         bytes =
@@ -86,7 +67,7 @@ module _ (b : List ℕ) (len : ℕ) (m : Message) (w : Answered) (after : List �
       go false e = refused-is-not-sent e
 
 -- the part of the buffer from `len` on is all that stands there, and nothing stands behind it
-pub appended-to-part : (b : List ℕ) (len : ℕ) (m : Message) (w : Answered) (after : List ℕ)
+pub appended-to-part : (b : List ℕ) (len : ℕ) (m : Message) (w : WriterAnswer) (after : List ℕ)
     → len + messageMost ≤ room → length b ≡ room
     → Writes (take (length b - len) (drop len b)) m w after
     → Wrote b len (take len b ++ (after ++ drop (length b - len) (drop len b))) (len + w .length) (sent m) messageMost

@@ -1,5 +1,5 @@
 -- `listen_lines::say_heard` meets its contract: the line of what is heard, by the verdict's number.
-use Rattle.listen_lines.proofs.Turns.{refused-line-written, known-line-written, unknown-line-written}
+use Rattle.listen_lines.proofs.LineParts.{refused-line-written, known-line-written, unknown-line-written}
 use borrow.Author.Needs.{needs}
 use Rattle.listen_lines.proofs.say_heard.Statement.{statement}
 use Rattle.listen_lines.proofs.say_heard.Tie as tie

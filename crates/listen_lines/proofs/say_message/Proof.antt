@@ -2,13 +2,13 @@
 use mathlib.Core.Path.{sym}
 use native.Mathlib.Omega.{arith}
 use lib.Seq.{length-take-le}
-use Rattle.listen_lines.proofs.Turns.{word-line-written, fields-line-written}
+use Rattle.listen_lines.proofs.LineParts.{word-line-written, fields-line-written}
 use borrow.Author.Needs.{needs}
 use Rattle.listen_lines.proofs.say_message.Statement.{statement}
 use Rattle.listen_lines.proofs.say_message.Tie as tie
 use Rattle.listen_lines.proofs.say_message.Reads as reads
 use Rattle.listen_lines.proofs.say_message.Lts as lts
-use Rattle.listen_lines.proofs.field_count.Reads as field-count-reads
+use Rattle.messages.proofs.kinds.field_count.Reads as field-count-reads
 use Rattle.listen_lines.proofs.put_kind.Reads as put-kind-reads
 use Rattle.text_out.proofs.put_byte.Reads as put-byte-reads
 use Rattle.text_out.proofs.put_numbers.Reads as put-numbers-reads

@@ -1,7 +1,7 @@
 -- `listen_lines::say_two` meets its contract: the word, the two numbers and the end of the line.
 use native.Mathlib.Omega.{arith}
 use Rattle.text_out.specs.Told.{both}
-use Rattle.listen_lines.proofs.Turns.{word-line-written}
+use Rattle.listen_lines.proofs.LineParts.{word-line-written}
 use borrow.Author.Needs.{needs}
 use Rattle.listen_lines.proofs.say_two.Statement.{statement}
 use Rattle.listen_lines.proofs.say_two.Tie as tie

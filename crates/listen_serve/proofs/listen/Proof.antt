@@ -5,7 +5,7 @@ use native.Mathlib.Omega.{arith}
 use borrow.Author.Needs.{needs}
 use Rattle.paper.proofs.Logic.{not-true, not-false}
 use Rattle.listen_serve.specs.Steps.{toGo}
-use Rattle.listen_serve.proofs.Turns.{Came, came-first, came-more, came-over}
+use Rattle.listen_serve.proofs.ListeningTurns.{Came, came-first, came-more, came-over}
 use Rattle.listen_serve.proofs.listen.Statement.{statement}
 use Rattle.listen_serve.proofs.listen.Tie as tie
 use Rattle.listen_serve.proofs.listen.Reads as reads

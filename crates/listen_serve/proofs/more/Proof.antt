@@ -1,6 +1,6 @@
 -- `listen_serve::more` meets its contract: what is read stands behind what is not heard yet.
 use mathlib.Core.Path.{refl, _∙_}
-use Rattle.listen_serve.proofs.Turns.{delivered-both}
+use Rattle.listen_serve.proofs.ListeningTurns.{delivered-both}
 use borrow.Author.Needs.{needs}
 use Rattle.listen_serve.proofs.more.Statement.{statement}
 use Rattle.listen_serve.proofs.more.Tie as tie

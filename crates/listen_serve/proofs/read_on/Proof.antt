@@ -1,5 +1,5 @@
 -- `listen_serve::read_on` meets its contract: the lines are written, and more is read.
-use Rattle.listen_serve.proofs.Turns.{written-stands, write-failed, count-used-up, reads-more}
+use Rattle.listen_serve.proofs.ListeningTurns.{written-stands, write-failed, count-used-up, reads-more}
 use native.Mathlib.Omega.{arith}
 use borrow.Author.Needs.{needs}
 use Rattle.listen_serve.proofs.read_on.Statement.{statement}

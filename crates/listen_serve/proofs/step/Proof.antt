@@ -2,12 +2,12 @@
 use mathlib.Core.Path.{_≡_, sym, _∙_}
 use lib.ListN.{length}
 use contract.Lifetimes.{Lfts}
-use Rattle.paper_messages.specs.declared.Heard.{Heard}
+use Rattle.paper_messages.specs.declared.ReaderAnswer.{ReaderAnswer}
 use Rattle.paper_messages.specs.Fields.{places}
 use native.Mathlib.Omega.{arith}
 use lib.Seq.{length-take-le}
 use Rattle.paper.proofs.Logic.{not-true, not-false}
-use Rattle.listen_serve.proofs.Turns.{is-going, steps-room, steps-whole, steps-cut, steps-on, steps-end}
+use Rattle.listen_serve.proofs.ListeningTurns.{is-going, steps-room, steps-whole, steps-cut, steps-on, steps-end}
 use borrow.Author.Needs.{needs}
 use Rattle.listen_serve.proofs.step.Statement.{statement}
 use Rattle.listen_serve.proofs.step.Tie as tie
@@ -20,7 +20,7 @@ use Rattle.listen_serve.proofs.tell.Reads as tell-reads
 use Rattle.listen_serve.proofs.write_out.Reads as write-out-reads
 
 -- what is heard has a field at each place, since its array has
-fields-long : (κs : Lfts 1) (h : Heard) → lts.r·0 .is .Ok κs h → length (h .message .fields) ≡ places
+fields-long : (κs : Lfts 1) (h : ReaderAnswer) → lts.r·0 .is .Ok κs h → length (h .message .fields) ≡ places
 fields-long κs h ok = search needs
 
 slice-reshare-prefix-read : tie.Need-slice-reshare-prefix-read

@@ -1,6 +1,6 @@
 -- `listen_serve::tell` meets its contract: the line is gathered, and written where it has to be.
 use native.Mathlib.Omega.{arith}
-use Rattle.listen_serve.proofs.Turns.{told-refused, told-written, told-waits}
+use Rattle.listen_serve.proofs.ListeningTurns.{told-refused, told-written, told-waits}
 use borrow.Author.Needs.{needs}
 use Rattle.listen_serve.proofs.tell.Statement.{statement}
 use Rattle.listen_serve.proofs.tell.Tie as tie

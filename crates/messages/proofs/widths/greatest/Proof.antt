@@ -4,7 +4,7 @@ use mathlib.Core.List.{List, [], _∷_, map}
 use Prim.Native.Nat.{ℕ, zero, suc, _≤_}
 use native.Mathlib.Omega.{arith}
 use lib.ListN.{getD}
-use Rattle.messages.specs.Asked.{greatestOf}
+use Rattle.messages.specs.FieldRoom.{greatestOf}
 use borrow.Author.Needs.{needs}
 use Rattle.messages.proofs.widths.greatest.Statement.{statement}
 use Rattle.messages.proofs.widths.greatest.Tie as tie

@@ -4,7 +4,7 @@ use mir.Facts.{toZ-ofZ, toZ-pos}
 use mir.Syntax.{w64}
 use Rattle.paper.proofs.Differences.{minus-one-less-is-negsuc}
 use Rattle.paper_messages.specs.Bytes.{inWidth, widthMost}
-use Rattle.messages.specs.Asked.{greatestOf}
+use Rattle.messages.specs.FieldRoom.{greatestOf}
 use Rattle.messages.proofs.Halves.{lower-fits, lower-is-signed, upper-small}
 use Rattle.messages.proofs.Halves.{upper-fits, upper-is-signed}
 use borrow.Author.Needs.{needs}

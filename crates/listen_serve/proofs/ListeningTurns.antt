@@ -13,7 +13,7 @@ use lib.Seq.{length-take-le, take-take, length-sets}
 use borrow.Author.Tests.{ltb-true, ltb-false}
 use Rattle.paper.specs.Verdicts.{isDone}
 use Rattle.paper.proofs.Logic.{not-true-and-false, not-true, not-false}
-use Rattle.paper_messages.specs.declared.Heard.{Heard}
+use Rattle.paper_messages.specs.declared.ReaderAnswer.{ReaderAnswer}
 use Rattle.text_bytes.specs.Bytes.{room}
 use Rattle.text_out.specs.Wrote.{Wrote, appended}
 use Rattle.text_evidence.specs.declared.Delivered.{Delivered}
@@ -98,7 +98,8 @@ gathered s waiting at =
       told = s .told;
     }
 
-module _ (s : Listening) (h : Heard) (o o' : List ℕ) (n place : ℕ) (accepted : Bool) (where-is : place ≡ placeOf s)
+module _ (s : Listening) (h : ReaderAnswer) (o o' : List ℕ) (n place : ℕ) (accepted : Bool)
+    (where-is : place ≡ placeOf s)
     (is : accepted ≡ isDone (h .verdict)) (wrote : Wrote o (s .waiting) o' n (lineOf place h) lineMost) where
   line : Wrote o (s .waiting) o' n (lineOf (placeOf s) h) lineMost
   line = rw where-is at wrote
@@ -156,7 +157,7 @@ one-most false = omega arith
 
 module _ (b : List ℕ) (s : Listening) (stands : Stands b s) (going : s .over ≡ false) where
   -- a line is told
-  module _ (h : Heard) (o : List ℕ) (r : Listening) (o' : List ℕ) (tells : Tells s h o r o')
+  module _ (h : ReaderAnswer) (o : List ℕ) (r : Listening) (o' : List ℕ) (tells : Tells s h o r o')
       (within : isDone (h .verdict) ≡ true → (s .at < h .next) × (h .next ≤ s .len)) where
     told-place-within : (x : Bool) → isDone (h .verdict) ≡ x → (s .at ≤ r .at) × (r .at ≤ s .len)
     told-place-within true e = let q = within e in rw (tells .accepted e .0) (omega (arith, q .0), q .1)
@@ -300,7 +301,7 @@ module _ (b : List ℕ) (s : Listening) (stands : Stands b s) (going : s .over �
 
 -- ---- the steps
 
-module _ (b : List ℕ) (s : Listening) (o : List ℕ) (stands : Stands b s) (going : s .over ≡ false) (h : Heard)
+module _ (b : List ℕ) (s : Listening) (o : List ℕ) (stands : Stands b s) (going : s .over ≡ false) (h : ReaderAnswer)
     (heard : h ≡ heardIn b s) (cut : Bool) (is : cut ≡ isCut h) where
   cut-is : isCut (heardIn b s) ≡ cut
   cut-is = rw (is, heard)
@@ -518,7 +519,7 @@ why-over {s = r} (goes run on stands (delivers cut going same d out)) over =
 why-over (goes run on stands (ends why same same' v)) over = stopped why
 
 -- no line waits then
-none-told : {b : List ℕ} {s : Listening} {h : Heard} {o : List ℕ} {r : Listening} {o' : List ℕ} → Stands b s
+none-told : {b : List ℕ} {s : Listening} {h : ReaderAnswer} {o : List ℕ} {r : Listening} {o' : List ℕ} → Stands b s
     → s .over ≡ false → Tells s h o r o' → r .over ≡ true → r .waiting ≡ 0
 none-told {b} {s} {h} {o} {r} {o'} stands going t over = go (isDone (h .verdict)) refl (t .line .waits)
   where

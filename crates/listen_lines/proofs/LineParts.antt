@@ -10,12 +10,12 @@ use lib.ListN.{length, take}
 use borrow.Author.Tests.{eq-eqb, ne-eqb}
 use Rattle.paper.specs.Verdicts.{numberOf, isDone}
 use Rattle.paper_messages.specs.declared.Message.{Message}
-use Rattle.paper_messages.specs.declared.Heard.{Heard}
-use Rattle.paper_messages.specs.Fields.{fieldsOf}
+use Rattle.paper_messages.specs.declared.ReaderAnswer.{ReaderAnswer}
+use Rattle.paper_messages.specs.Fields.{fieldsOf, kindWord}
 use Rattle.text_bytes.specs.Bytes.{lineFeed}
 use Rattle.text_out.specs.Wrote.{Wrote, then, wider}
 use Rattle.text_out.specs.Told.{Told, wrote}
-use Rattle.listen_lines.specs.Lines.{kindWord, unknownWord, refusedWord, wordLine, fieldsIn, lineOf, lineMost}
+use Rattle.listen_lines.specs.Lines.{unknownWord, refusedWord, wordLine, fieldsIn, lineOf, lineMost}
 
 -- a word, numbers and the end of the line
 pub word-line-written : {b : List ℕ} {n : ℕ} {b' : List ℕ} {n' : ℕ} {b'' : List ℕ} {n'' : ℕ} {c : List ℕ} {e : ℕ}
@@ -33,7 +33,7 @@ unfolding fieldsIn
 fields-line-written m count h p = rw h at p
 
 -- ---- the line of what is heard
-module _ (h : Heard) (no place : ℕ) (is : no ≡ numberOf (h .verdict)) {b c : List ℕ} {n e : ℕ} where
+module _ (h : ReaderAnswer) (no place : ℕ) (is : no ≡ numberOf (h .verdict)) {b c : List ℕ} {n e : ℕ} where
   pub refused-line-written : (no ≡ 0 → ⊥) → Wrote b n c e (wordLine refusedWord (pos no ∷ pos place ∷ [])) lineMost
       → Wrote b n c e (lineOf place h) lineMost
   unfolding lineOf isDone
