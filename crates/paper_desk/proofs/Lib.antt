@@ -2,6 +2,7 @@
 pub mod Steps
 pub mod Units
 pub mod Slots
+pub mod Rules
 pub mod Refusals
 pub mod Others
 pub mod Drift

@@ -10,15 +10,13 @@ use lib.Seq.{getD-set-other}
 use borrow.Author.Tests.{eqb-true}
 use Rattle.paper.specs.declared.Record.{Record}
 use Rattle.paper.specs.Lists.{pick}
-use Rattle.paper.specs.Ranges.{sideOf}
-use Rattle.paper.specs.Verdicts.{isDone, firstOf, NoneApplies, none, also}
-use Rattle.paper_desk.specs.Desk.{Call, admit, evaluate, quote, move, read, openEvening, receive, idOf, Outcome}
-use Rattle.paper_desk.specs.Desk.{blank, admitted, evaluated, quoted, moved, eveningOpened, received, place}
-use Rattle.paper_desk.specs.Desk.{stands, found, known, checksOf, admitChecks, evaluateChecks, quoteChecks}
-use Rattle.paper_desk.specs.Desk.{moveChecks, openChecks, receiveChecks, acceptedOf, step}
+use Rattle.paper.specs.Verdicts.{isDone, firstOf, NoneApplies, also}
+use Rattle.paper_desk.specs.Desk.{Call, admit, about, idOf, Outcome, blank, admitted, place, found, known, ruleOf}
+use Rattle.paper_desk.specs.Desk.{checksOf, acceptedOf, step}
 use Rattle.paper_desk.specs.Kept.{writtenAt, Stays}
 use Rattle.paper.proofs.Logic.{not-false}
 use Rattle.paper_desk.proofs.Slots.{found-id, found-other, stands-other, known-stands}
+use Rattle.paper_desk.proofs.Rules.{rule-holds}
 use Rattle.paper_desk.proofs.Refusals.{verdict-first, refused-leaves, accepted-step, accepted-only}
 
 -- what holds of the table before, and after whatever the call would write, holds after the call
@@ -40,12 +38,7 @@ length-stays c t = holds-after-step (λ u. length u ≡ length t) c t refl (λ _
   where
     accepted : (c : Call) → length (acceptedOf c t .table) ≡ length t
     accepted (admit a) = length-set t _ _
-    accepted (evaluate id d rows) = length-set t _ _
-    accepted (quote id q) = length-set t _ _
-    accepted (move id side) = length-set t _ _
-    accepted (read id) = refl
-    accepted (openEvening id) = length-set t _ _
-    accepted (receive id x) = length-set t _ _
+    accepted (about id x) = length-set t _ _
 
 -- every other slot, whatever it holds
 pub slots-stay : (c : Call) (t : List Record) (k : ℕ) → k ≢ writtenAt c t
@@ -55,12 +48,7 @@ slots-stay c t k n = holds-after-step (λ u. getD u k blank ≡ getD t k blank) 
   where
     accepted : (c : Call) → k ≢ writtenAt c t → getD (acceptedOf c t .table) k blank ≡ getD t k blank
     accepted (admit a) n = getD-set-other t _ k _ blank n
-    accepted (evaluate id d rows) n = getD-set-other t _ k _ blank n
-    accepted (quote id q) n = getD-set-other t _ k _ blank n
-    accepted (move id side) n = getD-set-other t _ k _ blank n
-    accepted (read id) n = refl
-    accepted (openEvening id) n = getD-set-other t _ k _ blank n
-    accepted (receive id x) n = getD-set-other t _ k _ blank n
+    accepted (about id x) n = getD-set-other t _ k _ blank n
 
 -- what stands in the slot that a call may write has the id that the call looks for there, or the slot is empty
 found-or-empty : (t : List Record) (id : ℕ) → (found t id .id ≡ id) ⊎ (found t id .id ≡ 0)
@@ -90,12 +78,7 @@ other-records-stay c t k full other = slots-stay c t k (differs c other)
 
     differs : (c : Call) → getD t k blank .id ≢ idOf c → k ≢ writtenAt c t
     differs (admit a) n = not-at 0 full
-    differs (evaluate id d rows) n = not-at id n
-    differs (quote id q) n = not-at id n
-    differs (move id side) n = not-at id n
-    differs (read id) n = not-at id n
-    differs (openEvening id) n = not-at id n
-    differs (receive id x) n = not-at id n
+    differs (about id x) n = not-at id n
 
 stored-stays : (id i : ℕ) (t : List Record) (x : Record) → known t i ≡ true → x .id ≡ found t i .id → id ≢ i
     → Stays id t (set t (place t i) x)
@@ -105,19 +88,10 @@ stored-stays id i t x e m n =
     (stands-other i x t id n other, found-other i x t id n other)
 
 pub others-stay : (c : Call) (t : List Record) (id : ℕ) → id ≢ 0 → id ≢ idOf c → Stays id t (step c t .table)
-unfolding acceptedOf checksOf evaluateChecks quoteChecks moveChecks openChecks receiveChecks admitted evaluated quoted
-    moved eveningOpened received
+unfolding acceptedOf checksOf admitted
 others-stay c t id z n = holds-after-step (Stays id t) c t (refl, refl) (λ _ w. accepted c n w)
   where
     accepted : (c : Call) → id ≢ idOf c → NoneApplies (checksOf c t) → Stays id t (acceptedOf c t .table)
     accepted (admit a) n w = (stands-other 0 (admitted a) t id z n, found-other 0 (admitted a) t id z n)
-    accepted (evaluate i d rows) n (also q w) =
-        stored-stays id i t (evaluated (found t i) d rows) (not-false (known t i) q) refl n
-    accepted (quote i q) n (also v w) = stored-stays id i t (quoted (found t i) q) (not-false (known t i) v) refl n
-    accepted (move i side) n (also v w) =
-        stored-stays id i t (moved (found t i) (sideOf side)) (not-false (known t i) v) refl n
-    accepted (read i) n w = (refl, refl)
-    accepted (openEvening i) n (also v w) =
-        stored-stays id i t (eveningOpened (found t i)) (not-false (known t i) v) refl n
-    accepted (receive i x) n (also v w) =
-        stored-stays id i t (received (found t i) x) (not-false (known t i) v) refl n
+    accepted (about i x) n (also q w) =
+        stored-stays id i t (ruleOf x .made (found t i)) (not-false (known t i) q) (rule-holds x .id (found t i)) n

@@ -2,15 +2,16 @@
 -- leave, what a refusal and a read answer, who is refused with 1. Their figures stand in the tables of specs/Pinned...
 -- It may use every definition of document 01, and the laws of Slots and Refusals.
 use mathlib.Core.Path.{_≡_, refl, sym, _∙_, ap}
-use mathlib.Core.Logic.{_≢_, _⊎_, inl, inr}
+use mathlib.Core.Logic.{_≢_}
 use mathlib.Core.Bool.{Bool, true, false, not, _&&_, and-false}
 use mathlib.Core.List.{List, [], _∷_, map}
+use mathlib.Core.Option.{Option, none, some}
 use Prim.Native.Nat.{ℕ, zero, suc, _+_, _-_, _≤_, _<_}
 use native.Mathlib.Omega.{arith}
 use lib.Dec.{leb, eqb}
 use lib.IntN.{ℤ}
 use lib.ListN.{length, getD, set}
-use lib.Seq.{getD-set-other}
+use lib.Seq.{getD-set-other, set-getD}
 use borrow.Author.Tests.{eqb-false, le-leb, lt-leb}
 use Rattle.paper.specs.declared.Standing.the-variants.{Live}
 use Rattle.paper.specs.declared.Session.the-variants.{Main, Evening}
@@ -18,6 +19,7 @@ use Rattle.paper.specs.declared.Side.{Side}
 use Rattle.paper.specs.declared.Side.the-variants.{Upper, Lower}
 use Rattle.paper.specs.declared.Limits.{Limits}
 use Rattle.paper.specs.declared.Near.{Near}
+use Rattle.paper.specs.declared.External.{External}
 use Rattle.paper.specs.declared.Near.the-variants.{Not, Since}
 use Rattle.paper.specs.declared.Admission.{Admission}
 use Rattle.paper.specs.declared.Day.{Day}
@@ -27,23 +29,25 @@ use Rattle.paper.specs.declared.Answer.{Answer}
 use Rattle.paper.specs.declared.Verdict.{Verdict}
 use Rattle.paper.specs.declared.Verdict.the-variants.{NoSuchId, AdmissionOutOfRange}
 use Rattle.paper.specs.Lists.{pick, three}
-use Rattle.paper.specs.Ranges.{noLimits, notNear, termAt, sideOf, validSlots, sound, rateAt}
+use Rattle.paper.specs.Ranges.{noLimits, notNear, termAt, validSlots, sound, rateAt}
 use Rattle.paper_desk.specs.Limits.{bandLimit, bandOf, oneMore, countOf, rangeMoved, bandMoved}
 use Rattle.paper_desk.specs.Alerts.{isNear, keptSince, nearAfter, alert, nearCleared}
 use Rattle.paper_desk.specs.Evening.{sessionMoved}
 use Rattle.paper_desk.specs.External.{Told, keptAfter}
 use Rattle.paper.specs.Verdicts.{numberOf, isDone, firstOf, FirstAt, here, NoneApplies, also}
 use Rattle.paper_desk.specs.Desk.{blank, saying, showing, alerting, alertsOn, evaluated, priceOn, quoted, moved}
-use Rattle.paper_desk.specs.Desk.{eveningOpened, received, place, stands, found, known, Call, admit, evaluate}
-use Rattle.paper_desk.specs.Desk.{quote, move, read, openEvening, receive, idOf, checksOf, admitChecks}
-use Rattle.paper_desk.specs.Desk.{evaluateChecks, quoteChecks, moveChecks, readChecks, openChecks, receiveChecks}
-use Rattle.paper_desk.specs.Desk.{Outcome, judged, acceptedOf, step}
+use Rattle.paper_desk.specs.Desk.{eveningOpened, received, place, stands, found, known, Call, admit, about}
+use Rattle.paper_desk.specs.Desk.{evaluate, quote, move, read, openEvening, receive, idOf, checksOf, admitChecks}
+use Rattle.paper_desk.specs.Desk.{Reply, theRecord, theAlerts, replyOn, ruleOf, judged, acceptedOf, step}
 use Rattle.paper.specs.PinnedValues.{recordFrom}
 use Rattle.paper_desk.specs.PinnedSequence.{blank-is-zero}
 use Rattle.paper_desk.specs.History.{isAdmission}
-use Rattle.paper_desk.specs.Sides.{other, limitOn, nearSecondOn, repoOn, deltaFor, shows, isReceipt}
-use Rattle.paper.proofs.Logic.{not-false}
+use Rattle.paper_desk.specs.Sequences.{keptThen}
+use Rattle.paper_desk.specs.Sides.{other, limitOn, nearSecondOn, repoOn, deltaFor, showsRecord, shows, isTold}
+use Rattle.paper_desk.specs.Sides.{isReceipt}
+use Rattle.paper.proofs.Logic.{not-false, not-true-and-false}
 use Rattle.paper_desk.proofs.Slots.{found-stored, known-stands}
+use Rattle.paper_desk.proofs.Rules.{rule-holds}
 use Rattle.paper_desk.proofs.Refusals.{verdict-first, refused-always, refused-leaves, accepted-step}
 use Rattle.paper_desk.proofs.Refusals.{accepted-only}
 use Rattle.paper_desk.proofs.Others.{holds-after-step}
@@ -278,10 +282,14 @@ pub receipt-is-one-call : (a : Admission) (id : ℕ) (d : Day) (rows : List ℤ)
     ∷ receive id x ∷ []) ≡ false ∷ false ∷ false ∷ false ∷ false ∷ false ∷ true ∷ []
 receipt-is-one-call a id d rows q side x = refl
 
+untold : (o : Option Told) (kept : External) → isTold o ≡ false → keptThen o kept ≡ kept
+untold none kept s = refl
+untold (some told) kept s = absurd (not-true-and-false true refl s)
+
 -- and no call on a record but a receipt changes the pair, accepted or refused
 pub pair-left : (c : Call) (t : List Record) → isAdmission c ≡ false → isReceipt c ≡ false
     → found (step c t .table) (idOf c) .external ≡ found t (idOf c) .external
-unfolding acceptedOf checksOf evaluateChecks quoteChecks moveChecks openChecks evaluated quoted moved eveningOpened
+unfolding acceptedOf checksOf
 pair-left c t looks s =
     holds-after-step (λ u. found u (idOf c) .external ≡ found t (idOf c) .external) c t refl
     (λ _ n. accepted c looks s n)
@@ -297,12 +305,10 @@ pair-left c t looks s =
     accepted : (c : Call) → isAdmission c ≡ false → isReceipt c ≡ false → NoneApplies (checksOf c t)
         → found (acceptedOf c t .table) (idOf c) .external ≡ found t (idOf c) .external
     accepted (admit a) looks s n = absurd (let z : _≡_ {A = ℕ} 0 1 = cc in omega arith)
-    accepted (evaluate id d rows) looks s (also q n) = written id (evaluated (found t id) d rows) q refl refl
-    accepted (quote id x) looks s (also q n) = written id (quoted (found t id) x) q refl refl
-    accepted (move id side) looks s (also q n) = written id (moved (found t id) (sideOf side)) q refl refl
-    accepted (read id) looks s n = refl
-    accepted (openEvening id) looks s (also q n) = written id (eveningOpened (found t id)) q refl refl
-    accepted (receive id x) looks s n = absurd (let z : _≡_ {A = ℕ} 0 1 = cc in omega arith)
+    accepted (about id x) looks s (also q n) =
+        let made : Record = ruleOf x .made (found t id) in
+        written id made q (rule-holds x .id (found t id))
+        (rule-holds x .external (found t id) ∙ untold (ruleOf x .tells) (found t id .external) s)
 
 -- ---- evaluations
 
@@ -333,17 +339,12 @@ evaluation-is-latest r d rows = (refl, refl, refl)
 -- a security that is not known is refused with 1 whatever else holds
 pub unknown-refused : (c : Call) (t : List Record) → isAdmission c ≡ false → known t (idOf c) ≡ false
     → step c t .answer .verdict ≡ NoSuchId
-unfolding checksOf evaluateChecks quoteChecks moveChecks readChecks openChecks receiveChecks
+unfolding checksOf
 unknown-refused c t looks e = refused-always c t NoSuchId (first c looks e)
   where
     first : (c : Call) → isAdmission c ≡ false → known t (idOf c) ≡ false → FirstAt NoSuchId (checksOf c t)
     first (admit a) looks e = absurd (let z : _≡_ {A = ℕ} 0 1 = cc in omega arith)
-    first (evaluate id d rows) looks e = here refl (ap not e)
-    first (quote id q) looks e = here refl (ap not e)
-    first (move id side) looks e = here refl (ap not e)
-    first (read id) looks e = here refl (ap not e)
-    first (openEvening id) looks e = here refl (ap not e)
-    first (receive id x) looks e = here refl (ap not e)
+    first (about id x) looks e = here refl (ap not e)
 
 -- "Where an id stands in several slots the first alone counts": no slot before it has the id
 pub none-before-first : (t : List Record) (id i : ℕ) → i < place t id → getD t i blank .id ≡ id → ⊥
@@ -374,12 +375,7 @@ bad-table-refused c t s = go c
 
     go : (c : Call) → numberOf (step c t .answer .verdict) ≡ pick (isAdmission c) 4 1
     go (admit a) = ap numberOf (refused-always (admit a) t AdmissionOutOfRange (here refl (rw s)))
-    go (evaluate id d rows) = ap numberOf (unknown-refused (evaluate id d rows) t refl (unknown id))
-    go (quote id q) = ap numberOf (unknown-refused (quote id q) t refl (unknown id))
-    go (move id side) = ap numberOf (unknown-refused (move id side) t refl (unknown id))
-    go (read id) = ap numberOf (unknown-refused (read id) t refl (unknown id))
-    go (openEvening id) = ap numberOf (unknown-refused (openEvening id) t refl (unknown id))
-    go (receive id x) = ap numberOf (unknown-refused (receive id x) t refl (unknown id))
+    go (about id x) = ap numberOf (unknown-refused (about id x) t refl (unknown id))
 
 pub no-slots-invalid : (t : List Record) → length t ≡ 0 → validSlots (length t) ≡ false
 unfolding validSlots
@@ -393,15 +389,9 @@ slots-over-512-invalid t l = rw (lt-leb (length t) 512 l) (and-false (leb 1 (len
 
 -- "An accepted call writes one record, except a read, which writes none."
 pub read-writes-nothing : (id : ℕ) (t : List Record) → step (read id) t .table ≡ t
-unfolding step judged acceptedOf
-read-writes-nothing id t = go (isDone (firstOf (checksOf (read id) t)))
-  where
-    go : (b : Bool)
-        → pick {A = Outcome} b (record { answer = showing (found t id); table = t })
-        (record { answer = saying (firstOf (checksOf (read id) t)); table = t }) .table
-        ≡ t
-    go true = refl
-    go false = refl
+unfolding acceptedOf found
+read-writes-nothing id t =
+    holds-after-step (λ (u : List Record). u ≡ t) (read id) t refl (λ _ _. set-getD t (place t id) blank)
 
 -- "A refusal returns its number with all figures 0 (flags no, nothing near, admitted only)": no number but 0
 pub refused-zero : (c : Call) (t : List Record) → isDone (step c t .answer .verdict) ≡ false
@@ -412,45 +402,44 @@ refused-zero c t e =
     let shown : step c t .answer .rec ≡ blank = ap (λ (a : Answer). a .rec) zeros in
     (shown ∙ blank-is-zero, ap (λ (a : Answer). a .top) zeros, ap (λ (a : Answer). a .bottom) zeros)
 
+-- a record that is shown is the one made
+shown : (k : Reply) (r made : Record) → showsRecord k ≡ true → made ≡ replyOn k r made .rec
+unfolding replyOn showing
+shown theRecord r made s = refl
+shown (theAlerts q) r made s = absurd (not-true-and-false false s refl)
+
+unshown : (k : Reply) (r made : Record) → showsRecord k ≡ false → replyOn k r made .rec ≡ blank
+unfolding replyOn alertsOn alerting
+unshown theRecord r made s = absurd (not-true-and-false true refl s)
+unshown (theAlerts q) r made s = refl
+
 -- "Accepted evaluations, moves and reads return the record as it then stands"
 pub shown-stands : (c : Call) (t : List Record) → shows c ≡ true → isDone (step c t .answer .verdict) ≡ true
     → found (step c t .table) (idOf c) ≡ step c t .answer .rec
-unfolding acceptedOf showing checksOf evaluateChecks moveChecks openChecks receiveChecks evaluated moved
-    eveningOpened received
+unfolding acceptedOf checksOf
 shown-stands c t s e =
     let done : isDone (firstOf (checksOf c t)) ≡ true = ap isDone (sym (verdict-first c t)) ∙ e in
     rw (accepted-step c t done) (accepted c s (accepted-only c t e))
   where
     accepted : (c : Call) → shows c ≡ true → NoneApplies (checksOf c t)
         → found (acceptedOf c t .table) (idOf c) ≡ acceptedOf c t .answer .rec
-    accepted (admit a) s w = absurd (let z : _≡_ {A = ℕ} 0 1 = cc in omega arith)
-    accepted (evaluate id d rows) s (also q w) =
-        found-stored t id (evaluated (found t id) d rows) (known-stands t id (not-false (known t id) q)) refl
-    accepted (quote id q) s w = absurd (let z : _≡_ {A = ℕ} 0 1 = cc in omega arith)
-    accepted (move id side) s (also q w) =
-        found-stored t id (moved (found t id) (sideOf side)) (known-stands t id (not-false (known t id) q)) refl
-    accepted (read id) s w = refl
-    accepted (openEvening id) s (also q w) =
-        found-stored t id (eveningOpened (found t id)) (known-stands t id (not-false (known t id) q)) refl
-    accepted (receive id x) s (also q w) =
-        found-stored t id (received (found t id) x) (known-stands t id (not-false (known t id) q)) refl
+    accepted (admit a) s w = absurd (not-true-and-false false s refl)
+    accepted (about id x) s (also q w) =
+        found-stored t id (ruleOf x .made (found t id)) (known-stands t id (not-false (known t id) q))
+        (rule-holds x .id (found t id))
+        ∙ shown (ruleOf x .reply) (found t id) (ruleOf x .made (found t id)) s
 
 -- "a quote its two alerts, an admission the number 0 alone": neither shows a record
 pub no-record-shown : (c : Call) (t : List Record) → shows c ≡ false → step c t .answer .rec ≡ recordFrom []
-unfolding step judged acceptedOf saying alertsOn alerting
+unfolding step judged acceptedOf saying
 no-record-shown c t s = go c s (firstOf (checksOf c t)) (isDone (firstOf (checksOf c t))) ∙ blank-is-zero
   where
     go : (c : Call) → shows c ≡ false → (v : Verdict) (b : Bool)
         → pick b (acceptedOf c t) (record { answer = saying v; table = t }) .answer .rec ≡ blank
     go (admit a) s v true = refl
     go (admit a) s v false = refl
-    go (evaluate id d rows) s v b = absurd (let z : _≡_ {A = ℕ} 0 1 = cc in omega arith)
-    go (quote id q) s v true = refl
-    go (quote id q) s v false = refl
-    go (move id side) s v b = absurd (let z : _≡_ {A = ℕ} 0 1 = cc in omega arith)
-    go (read id) s v b = absurd (let z : _≡_ {A = ℕ} 0 1 = cc in omega arith)
-    go (openEvening id) s v b = absurd (let z : _≡_ {A = ℕ} 0 1 = cc in omega arith)
-    go (receive id x) s v b = absurd (let z : _≡_ {A = ℕ} 0 1 = cc in omega arith)
+    go (about id x) s v true = unshown (ruleOf x .reply) (found t id) (ruleOf x .made (found t id)) s
+    go (about id x) s v false = refl
 
 -- an admission gives no alert either
 pub admission-number-alone : (a : Admission) (t : List Record)

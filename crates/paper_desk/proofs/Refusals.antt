@@ -2,18 +2,9 @@
 -- refused call leaves the table as it was, and answers its number with every figure 0.
 use mathlib.Core.Path.{_≡_, refl, sym, _∙_, ap}
 use mathlib.Core.Logic.{_⊎_, inl, inr, ⊎-elim}
-use mathlib.Core.Bool.{Bool, true, false, not, _&&_}
+use mathlib.Core.Bool.{Bool, true, false, not}
 use mathlib.Core.List.{List, [], _∷_}
-use Prim.Native.Nat.{ℕ}
-use native.Mathlib.Omega.{arith}
-use lib.Dec.{eqb}
-use lib.IntN.{ℤ}
-use lib.ListN.{length}
 use Rattle.paper.specs.declared.Record.{Record}
-use Rattle.paper.specs.declared.Admission.{Admission}
-use Rattle.paper.specs.declared.Day.{Day}
-use Rattle.paper.specs.declared.Quote.{Quote}
-use Rattle.paper.specs.declared.Answer.{Answer}
 use Rattle.paper.specs.declared.Verdict.{Verdict}
 use Rattle.paper.specs.declared.Verdict.the-variants.{Done, NoSuchId, AlreadyAdmitted, NoEmptySlot, AdmissionOutOfRange}
 use Rattle.paper.specs.declared.Verdict.the-variants.{DayNotAfter, OutOfRange, PriceOutOfRange, MoveTooLarge}
@@ -22,13 +13,12 @@ use Rattle.paper.specs.declared.Verdict.the-variants.{NotAscending, BadLine, Ro
 use Rattle.paper.specs.declared.Verdict.the-variants.{OpenedTwice, BadFloat, CutShort, WrongLength, FieldOutOfRange}
 use Rattle.paper.specs.declared.Verdict.the-variants.{NoRoom}
 use Rattle.paper.specs.Lists.{pick, every}
-use Rattle.paper.specs.Verdicts.{numberOf, isDone, Naming, Check, firstNamed, firstOf, FirstAt, here, later}
-use Rattle.paper.specs.Verdicts.{NoneApplies, none, also, allRefusals, Exactly}
-use Rattle.paper_desk.specs.Desk.{Call, admit, evaluate, quote, move, read, openEvening, receive, admitChecks}
-use Rattle.paper_desk.specs.Desk.{evaluateChecks, quoteChecks, moveChecks, readChecks, openChecks, receiveChecks}
-use Rattle.paper_desk.specs.Desk.{checksOf, Outcome, saying, showing, alerting, alertsOn, judged, acceptedOf}
-use Rattle.paper_desk.specs.Desk.{step}
+use Rattle.paper.specs.Verdicts.{isDone, Naming, Check, firstNamed, firstOf, FirstAt, here, later, NoneApplies, none}
+use Rattle.paper.specs.Verdicts.{also, allRefusals, Exactly}
+use Rattle.paper_desk.specs.Desk.{Call, admit, about, found, admitChecks, ruleOf, checksOf, Outcome, saying}
+use Rattle.paper_desk.specs.Desk.{judged, acceptedOf, step}
 use Rattle.paper.proofs.Logic.{not-true-and-false, and-left, and-right, pick-true, pick-false}
+use Rattle.paper_desk.proofs.Rules.{rule-holds, reply-done}
 
 -- ---- the first check that applies
 
@@ -129,25 +119,14 @@ module _ (answer : Verdict) (checks : List Check) (is : answer ≡ firstOf check
 -- ---- each call
 
 all-refusals : (c : Call) (t : List Record) → allRefusals (checksOf c t) ≡ true
-unfolding checksOf admitChecks evaluateChecks quoteChecks moveChecks readChecks openChecks receiveChecks allRefusals
-    every isDone
+unfolding checksOf admitChecks allRefusals every isDone
 all-refusals (admit a) t = refl
-all-refusals (evaluate id d rows) t = refl
-all-refusals (quote id q) t = refl
-all-refusals (move id side) t = refl
-all-refusals (read id) t = refl
-all-refusals (openEvening id) t = refl
-all-refusals (receive id x) t = refl
+all-refusals (about id x) t = rule-holds x .refusals (found t id)
 
 accepted-done : (c : Call) (t : List Record) → acceptedOf c t .answer .verdict ≡ Done
-unfolding acceptedOf saying showing alertsOn alerting
+unfolding acceptedOf saying
 accepted-done (admit a) t = refl
-accepted-done (evaluate id d rows) t = refl
-accepted-done (quote id q) t = refl
-accepted-done (move id side) t = refl
-accepted-done (read id) t = refl
-accepted-done (openEvening id) t = refl
-accepted-done (receive id x) t = refl
+accepted-done (about id x) t = reply-done (ruleOf x .reply) (found t id) (ruleOf x .made (found t id))
 
 -- what is answered carries the first number that applies
 pub verdict-first : (c : Call) (t : List Record) → step c t .answer .verdict ≡ firstOf (checksOf c t)

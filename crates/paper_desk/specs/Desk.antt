@@ -2,6 +2,7 @@
 -- them.
 use mathlib.Core.Bool.{Bool, true, false, not, _&&_, _||_}
 use mathlib.Core.List.{List, [], _∷_}
+use mathlib.Core.Option.{Option, none, some}
 use Prim.Native.Nat.{ℕ, zero, suc, _+_, _-_}
 use lib.Dec.{leb, ltb, eqb}
 use lib.ListN.{length, getD, set}
@@ -38,7 +39,8 @@ use Rattle.paper_desk.specs.Evaluation.{dayRows, evaluationOf, hasCrosse
 use Rattle.paper_desk.specs.External.{Told, isBad, keptAfter}
 use Rattle.paper.specs.declared.Figures.{Figures}
 use Rattle.paper_desk.specs.Rates.{moveOf, minimumOf, figuresOf, moveTooLarge}
-use Rattle.paper_desk.specs.Limits.{rangeOf, bandOf, crossed, deltaOf, oneMore, countOf, rangeMoved, bandMoved}
+use Rattle.paper_desk.specs.Limits.{rangeOf, bandOf, crossed, deltaOf, oneMore, sameSide, countOf}
+use Rattle.paper_desk.specs.Limits.{rangeMoved, bandMoved}
 use Rattle.paper_desk.specs.Alerts.{isNear, nearAfter, alert, nearCleared}
 use Rattle.paper_desk.specs.Evening.{isEvening, alertSeconds, moveAllowed, sessionMoved}
 use Rattle.paper.specs.Verdicts.{isDone, Check, firstOf}
@@ -251,26 +253,46 @@ found t id = getD t (place t id) blank
 unfoldable pub known : List Record → (id : ℕ) → Bool
 known t id = validSlots (length t) && stands t id && sound (found t id)
 
--- ---- the calls: "First that applies"
+-- ---- the calls
 
+-- what is asked about one security
+pub data Ask : Type 0 where
+  evaluating : Day → (rows : List ℤ) → Ask
+  quoting : Quote → Ask
+  moving : (side : ℕ) → Ask
+  reading : Ask
+  opening : Ask
+  receiving : Told → Ask
+
+-- a call admits a security, or asks something about the one with an id
 pub data Call : Type 0 where
   admit : Admission → Call
-  evaluate : (id : ℕ) → Day → (rows : List ℤ) → Call
-  quote : (id : ℕ) → Quote → Call
-  move : (id : ℕ) → (side : ℕ) → Call
-  read : (id : ℕ) → Call
-  openEvening : (id : ℕ) → Call
-  receive : (id : ℕ) → Told → Call
+  about : (id : ℕ) → Ask → Call
+
+abbrev pub evaluate : (id : ℕ) → Day → (rows : List ℤ) → Call
+evaluate id d rows = about id (evaluating d rows)
+
+abbrev pub quote : (id : ℕ) → Quote → Call
+quote id q = about id (quoting q)
+
+abbrev pub move : (id : ℕ) → (side : ℕ) → Call
+move id side = about id (moving side)
+
+abbrev pub read : (id : ℕ) → Call
+read id = about id reading
+
+abbrev pub openEvening : (id : ℕ) → Call
+openEvening id = about id opening
+
+abbrev pub receive : (id : ℕ) → Told → Call
+receive id x = about id (receiving x)
 
 -- the id that a call is about
 abbrev pub idOf : Call → ℕ
 idOf (admit a) = a .id
-idOf (evaluate id d rows) = id
-idOf (quote id q) = id
-idOf (move id side) = id
-idOf (read id) = id
-idOf (openEvening id) = id
-idOf (receive id x) = id
+idOf (about id x) = id
+
+-- ---- "First that applies"
 
 -- "admit 4, 2, 3"
 unfoldable pub admitChecks : List Record → Admission → List Check
@@ -280,11 +302,14 @@ admitChecks t a =
     ∷ record { verdict = NoEmptySlot; applies = not (stands t 0) }
     ∷ []
 
+-- whatever is asked, 1 comes first; the lists below have what comes behind it
+abbrev pub oneThen : (there : Bool) → List Check → List Check
+oneThen there behind = record { verdict = NoSuchId; applies = not there } ∷ behind
+
 -- "evaluate 1, 6, 5, 7, 8, 9"; W-205: "16, after 6 and before 5 in an evaluation"
-unfoldable pub evaluateChecks : (there : Bool) → Record → Day → (rows : List ℤ) → List Check
-evaluateChecks there r d rows =
-    record { verdict = NoSuchId; applies = not there }
-    ∷ record { verdict = OutOfRange; applies = not (validDay d rows) }
+abbrev pub evaluatingChecks : Record → Day → (rows : List ℤ) → List Check
+evaluatingChecks r d rows =
+    record { verdict = OutOfRange; applies = not (validDay d rows) }
     ∷ record { verdict = RowCrossed; applies = hasCrossedRow (dayRows rows) }
     ∷ record { verdict = DayNotAfter; applies = leb (d .day) (lastDay (r .standing)) }
     ∷ record {
@@ -301,51 +326,156 @@ evaluateChecks there r d rows =
     ∷ []
 
 -- "quote 1, 6, 10, 11, 13"
-unfoldable pub quoteChecks : (there : Bool) → Record → Quote → List Check
-quoteChecks there r q =
-    record { verdict = NoSuchId; applies = not there }
-    ∷ record { verdict = OutOfRange; applies = not (validQuote q) }
+abbrev pub quotingChecks : Record → Quote → List Check
+quotingChecks r q =
+    record { verdict = OutOfRange; applies = not (validQuote q) }
     ∷ record { verdict = NotLive; applies = not (isLive (r .standing)) }
     ∷ record { verdict = NotMonitored; applies = not (r .statics .monitoring) }
     ∷ record { verdict = SecondEarlier; applies = ltb (q .second) (r .second) }
     ∷ []
 
 -- "move 1, 6, 10, 11, 12"; W-210: "18, evening moves not allowed or used up, after 11 and before 12"
-unfoldable pub moveChecks : (there : Bool) → Record → (side : ℕ) → List Check
-moveChecks there r side =
-    record { verdict = NoSuchId; applies = not there }
-    ∷ record { verdict = OutOfRange; applies = not (validSide side) }
+abbrev pub movingChecks : Record → (side : ℕ) → List Check
+movingChecks r side =
+    record { verdict = OutOfRange; applies = not (validSide side) }
     ∷ record { verdict = NotLive; applies = not (isLive (r .standing)) }
     ∷ record { verdict = NotMonitored; applies = not (r .statics .monitoring) }
     ∷ record { verdict = NoEveningMove; applies = not (moveAllowed (r .statics) (r .session)) }
     ∷ record { verdict = MovesUsedUp; applies = eqb (countOf (sideOf side) (r .moves)) movesMost }
     ∷ []
 
--- "read 1"
-unfoldable pub readChecks : (there : Bool) → List Check
-readChecks there = record { verdict = NoSuchId; applies = not there } ∷ []
-
 -- W-210, the opening: 1 and 10 as in document 01; "19, evening opened twice, after 10"
-unfoldable pub openChecks : (there : Bool) → Record → List Check
-openChecks there r =
-    record { verdict = NoSuchId; applies = not there }
-    ∷ record { verdict = NotLive; applies = not (isLive (r .standing)) }
+abbrev pub openingChecks : Record → List Check
+openingChecks r =
+    record { verdict = NotLive; applies = not (isLive (r .standing)) }
     ∷ record { verdict = OpenedTwice; applies = isEvening (r .session) }
     ∷ []
 
 -- W-211: "20 .. on receipt, after 1"
-unfoldable pub receiveChecks : (there : Bool) → Told → List Check
-receiveChecks there x =
-    record { verdict = NoSuchId; applies = not there } ∷ record { verdict = BadFloat; applies = isBad x } ∷ []
+abbrev pub receivingChecks : Told → List Check
+receivingChecks x = record { verdict = BadFloat; applies = isBad x } ∷ []
+
+-- ---- the rule of each ask
+
+-- what an accepted ask answers: the record as it then stands, or the two alerts of a quote
+pub data Reply : Type 0 where
+  theRecord : Reply
+  theAlerts : Quote → Reply
+
+unfoldable pub replyOn : Reply → (before after : Record) → Answer
+replyOn theRecord r made = showing made
+replyOn (theAlerts q) r made = alertsOn r q
+
+-- the rule of an ask: its checks behind 1, the record that it makes of the one found, and its answer. Below them is
+-- what an accepted ask leaves in the history of its security, from which Sequences works the figures out again
+pub record Rule : Type 0 where
+  pub checks : Record → List Check
+  pub made : Record → Record
+  pub reply : Reply
+  -- an evaluation: its day and its rows
+  pub evaluates : Option (Day × List ℤ)
+  -- a move: its side
+  pub moves : Option Side
+  -- a quote
+  pub quotes : Option Quote
+  -- the sides whose near seconds it clears in all terms
+  pub clears : Side → Bool
+  -- the session after it
+  pub session : Session → Session
+  -- a receipt of outside prices
+  pub tells : Option Told
+
+-- an ask more has its rule here
+abbrev pub ruleOf : Ask → Rule
+-- "An evaluation clears both counts, all near seconds and the last quote second (to 0)." W-210: "An evaluation puts the
+-- record back in main."
+ruleOf (evaluating d rows) =
+    record {
+      checks = λ r. evaluatingChecks r d rows;
+      made = λ r. evaluated r d rows;
+      reply = theRecord;
+      evaluates = some (d, rows);
+      moves = none;
+      quotes = none;
+      clears = λ side. true;
+      session = λ x. Main;
+      tells = none;
+    }
+ruleOf (quoting q) =
+    record {
+      checks = λ r. quotingChecks r q;
+      made = λ r. quoted r q;
+      reply = theAlerts q;
+      evaluates = none;
+      moves = none;
+      quotes = some q;
+      clears = λ side. false;
+      session = λ x. x;
+      tells = none;
+    }
+-- "It clears that side's near seconds in all terms."
+ruleOf (moving side) =
+    record {
+      checks = λ r. movingChecks r side;
+      made = λ r. moved r (sideOf side);
+      reply = theRecord;
+      evaluates = none;
+      moves = some (sideOf side);
+      quotes = none;
+      clears = sameSide (sideOf side);
+      session = sessionMoved;
+      tells = none;
+    }
+-- "read 1"; a read leaves everything
+ruleOf reading =
+    record {
+      checks = λ r. [];
+      made = λ r. r;
+      reply = theRecord;
+      evaluates = none;
+      moves = none;
+      quotes = none;
+      clears = λ side. false;
+      session = λ x. x;
+      tells = none;
+    }
+-- W-210: "Opening the evening clears the near seconds and keeps c"
+ruleOf opening =
+    record {
+      checks = λ r. openingChecks r;
+      made = λ r. eveningOpened r;
+      reply = theRecord;
+      evaluates = none;
+      moves = none;
+      quotes = none;
+      clears = λ side. true;
+      session = λ x. Evening 0;
+      tells = none;
+    }
+ruleOf (receiving x) =
+    record {
+      checks = λ r. receivingChecks x;
+      made = λ r. received r x;
+      reply = theRecord;
+      evaluates = none;
+      moves = none;
+      quotes = none;
+      clears = λ side. false;
+      session = λ x. x;
+      tells = some x;
+    }
+
+-- all the checks of an ask, of an id that is there or not, and of its record
+abbrev pub checksOn : (there : Bool) → Record → Ask → List Check
+checksOn there r x = oneThen there (ruleOf x .checks r)
+
+-- those of an evaluation, which is also asked why it was refused
+unfoldable pub evaluateChecks : (there : Bool) → Record → Day → (rows : List ℤ) → List Check
+evaluateChecks there r d rows = checksOn there r (evaluating d rows)
 
 unfoldable pub checksOf : Call → List Record → List Check
 checksOf (admit a) t = admitChecks t a
-checksOf (evaluate id d rows) t = evaluateChecks (known t id) (found t id) d rows
-checksOf (quote id q) t = quoteChecks (known t id) (found t id) q
-checksOf (move id side) t = moveChecks (known t id) (found t id) side
-checksOf (read id) t = readChecks (known t id)
-checksOf (openEvening id) t = openChecks (known t id) (found t id)
-checksOf (receive id x) t = receiveChecks (known t id) x
+checksOf (about id x) t = checksOn (known t id) (found t id) x
 
 -- ---- what a call answers, and the table after it
 
@@ -357,36 +487,13 @@ pub record Outcome : Type 0 where
 unfoldable pub judged : Verdict → List Record → Outcome → Outcome
 judged v t accepted = pick (isDone v) accepted (record { answer = saying v; table = t })
 
--- "An accepted call writes one record, except a read, which writes none." "Admission takes the first empty slot."
+-- "An accepted call writes one record, except a read, which writes none": a read makes the record that it finds, so that
+-- the table is as it was (`read-writes-nothing`). "Admission takes the first empty slot."
 unfoldable pub acceptedOf : Call → List Record → Outcome
 acceptedOf (admit a) t = record { answer = saying Done; table = set t (place t 0) (admitted a) }
-acceptedOf (evaluate id d rows) t =
-    record {
-      answer = showing (evaluated (found t id) d rows);
-      table =
-          set t (place t id) (evaluated (found t id) d rows);
-    }
-acceptedOf (quote id q) t =
-    record { answer = alertsOn (found t id) q; table = set t (place t id) (quoted (found t id) q) }
-acceptedOf (move id side) t =
-    record {
-      answer = showing (moved (found t id) (sideOf side));
-      table =
-          set t (place t id) (moved (found t id) (sideOf side));
-    }
-acceptedOf (read id) t = record { answer = showing (found t id); table = t }
-acceptedOf (openEvening id) t =
-    record {
-      answer = showing (eveningOpened (found t id));
-      table =
-          set t (place t id) (eveningOpened (found t id));
-    }
-acceptedOf (receive id x) t =
-    record {
-      answer = showing (received (found t id) x);
-      table =
-          set t (place t id) (received (found t id) x);
-    }
+acceptedOf (about id x) t =
+    let made : Record = ruleOf x .made (found t id) in
+    record { answer = replyOn (ruleOf x .reply) (found t id) made; table = set t (place t id) made }
 
 -- one call
 unfoldable pub step : Call → List Record → Outcome

@@ -2,15 +2,18 @@
 use mathlib.Core.Path.{_≡_}
 use mathlib.Core.Logic.{_⊎_}
 use mathlib.Core.List.{List, [], _∷_}
+use mathlib.Core.Option.{Option, none, some}
 use Prim.Native.Nat.{ℕ, suc, _+_, _-_, _*_, _≤_, _<_}
+use lib.IntN.{ℤ}
 use Rattle.paper.specs.declared.Model.{Model}
 use Rattle.paper.specs.declared.Admission.{Admission}
+use Rattle.paper.specs.declared.Day.{Day}
 use Rattle.paper.specs.Lists.{pick}
 use Rattle.paper.specs.Numbers.{oneInTenThousandths, oneInMillionths, millionthsInBp, oneInHundredths}
 use Rattle.paper.specs.Roundings.{Quotient, RoundedUp, greaterOf, apart}
 use Rattle.paper.specs.Ranges.{staticsOf, rateAt}
 use Rattle.paper_desk.specs.Rates.{modelOf, Weighing, moveOf, weightOf, replacementWins, volatilityOf}
-use Rattle.paper_desk.specs.History.{Event, evaluatedOn, quotedAt, movedBy, opening, receipt}
+use Rattle.paper_desk.specs.Desk.{Ask, ruleOf}
 use Rattle.paper_desk.specs.Sequences.{Carries, carries}
 
 -- which figure the carried volatility chose: the mean by a weight, or the replacement
@@ -48,21 +51,21 @@ pub data CarriedOn : (n s : ℕ) → Quotient → Type 0 where
       → RoundedUp r move
       → CarriedOn (suc n) (volatilityOf m b r last s) (nextSquare (m .q) x move (choiceOf m b r last s))
 
+-- the exact square after one ask more, from the square x before it, what was carried before it and the evaluation p after
+-- it: what is no evaluation carries nothing on
+unfoldable pub squareThen : Admission → Option (Day × List ℤ) → (x : Quotient) → (before : Carries) → (p : ℕ) → Quotient
+squareThen a none x before p = x
+squareThen a (some (d, rows)) x before p =
+    nextSquare (a .given .q) x (exactMove p (before .p1) (before .p2))
+    (choiceOf (modelOf (staticsOf (a .given))) (d .b) (moveOf p (before .p1) (before .p2))
+    (millionthsInBp * rateAt (before .rates) 0) (before .s))
+
 -- the exact square in square millionths: from the s of the admission, by the move of each accepted evaluation as it is,
--- not rounded, and by the choice that the carried figure made in it. Quotes, moves, openings and receipts carry
--- nothing on
-unfoldable pub exactSquare : Admission → List Event → Quotient
+-- not rounded, and by the choice that the carried figure made in it
+unfoldable pub exactSquare : Admission → List Ask → Quotient
 exactSquare a [] = record { num = a .s * a .s; den = 1 }
-exactSquare a (evaluatedOn d rows ∷ es) =
-    let x : Carries = carries a es in
-    let p : ℕ = carries a (evaluatedOn d rows ∷ es) .p1 in
-    nextSquare (a .given .q) (exactSquare a es) (exactMove p (x .p1) (x .p2))
-    (choiceOf (modelOf (staticsOf (a .given))) (d .b) (moveOf p (x .p1) (x .p2)) (millionthsInBp * rateAt (x .rates) 0)
-    (x .s))
-exactSquare a (quotedAt q ∷ es) = exactSquare a es
-exactSquare a (movedBy side ∷ es) = exactSquare a es
-exactSquare a (opening ∷ es) = exactSquare a es
-exactSquare a (receipt x ∷ es) = exactSquare a es
+exactSquare a (x ∷ xs) =
+    squareThen a (ruleOf x .evaluates) (exactSquare a xs) (carries a xs) (carries a (x ∷ xs) .p1)
 
 -- ---- the promise
 

@@ -10,8 +10,7 @@ use Rattle.paper.specs.declared.Record.{Record}
 use Rattle.paper.specs.Lists.{allThree, every}
 use Rattle.paper.specs.Numbers.{priceMost}
 use Rattle.paper.specs.Ranges.{sound, noLimits}
-use Rattle.paper_desk.specs.Desk.{Call, admit, evaluate, quote, move, read, openEvening, receive, place, stands}
-use Rattle.paper_desk.specs.Desk.{found}
+use Rattle.paper_desk.specs.Desk.{Call, admit, about, place, stands, found}
 
 -- the most that a fresh limit can be: P·(1 + rate) at the greatest price and the greatest rate, 2·10^10
 abbrev pub freshMost : ℕ
@@ -39,12 +38,7 @@ everySlot p t = every (λ (r : Record). eqb (r .id) 0 || p r) t
 -- the slot that a call may write: the first empty one for an admission, the first with the id for the rest
 abbrev pub writtenAt : Call → List Record → ℕ
 writtenAt (admit a) t = place t 0
-writtenAt (evaluate id d rows) t = place t id
-writtenAt (quote id q) t = place t id
-writtenAt (move id side) t = place t id
-writtenAt (read id) t = place t id
-writtenAt (openEvening id) t = place t id
-writtenAt (receive id x) t = place t id
+writtenAt (about id x) t = place t id
 
 -- every other id: it stands where it stood, with the record that it had
 abbrev pub Stays : (id : ℕ) → (before after : List Record) → Type 0

@@ -163,6 +163,12 @@ unfoldable pub oneMore : Side → Moves → Moves
 oneMore Upper c = record { lower = c .lower; upper = c .upper + 1 }
 oneMore Lower c = record { lower = c .lower + 1; upper = c .upper }
 
+abbrev pub sameSide : (x y : Side) → Bool
+sameSide Upper Upper = true
+sameSide Upper Lower = false
+sameSide Lower Upper = false
+sameSide Lower Lower = true
+
 abbrev pub countOf : Side → Moves → ℕ
 countOf Upper c = c .upper
 countOf Lower c = c .lower

@@ -4,13 +4,12 @@
 use mathlib.Core.Path.{_≡_, refl}
 use mathlib.Core.List.{List, [], _∷_, map}
 use Prim.Native.Nat.{ℕ, _+_, _*_, _/_, _%_}
-use lib.IntN.{ℤ, pos}
-use Rattle.paper.specs.declared.Side.the-variants.{Upper}
+use lib.IntN.{pos}
 use Rattle.paper.specs.declared.Admission.{Admission}
 use Rattle.paper.specs.Roundings.{Quotient}
-use Rattle.paper_desk.specs.History.{Event, evaluatedOn, quotedAt, movedBy}
+use Rattle.paper_desk.specs.Desk.{Ask, evaluating, quoting, moving, reading, opening}
 use Rattle.paper_desk.specs.Sequences.{carries, carriesFirst, carriesNext, externalNow}
-use Rattle.paper_desk.specs.Exact.{exactMove, nextSquare, choiceOf, exactSquare}
+use Rattle.paper_desk.specs.Exact.{exactMove, nextSquare, choiceOf, squareThen, exactSquare}
 use Rattle.paper.specs.PinnedValues.{_but_, hAt, liqAt, minimaAt, p1At, sAt, tentativeAt, admissionFrom, dayFrom}
 use Rattle.paper.specs.PinnedValues.{quoteFrom, closedAt, zNumbers}
 use Rattle.paper_desk.specs.PinnedSequence.{numbers}
@@ -30,39 +29,39 @@ security =
     but (tentativeAt, pos 1))
 
 -- the evaluation of a day, after b non-trading days, on which the security closes at a price
-closing : (day b price : ℕ) → Event
+closing : (day b price : ℕ) → Ask
 unfolding dayFrom closedAt
-closing day b price = evaluatedOn (dayFrom (pos day ∷ pos b ∷ [])) (closedAt price)
+closing day b price = evaluating (dayFrom (pos day ∷ pos b ∷ [])) (closedAt price)
 
--- one day, then a quote and a move; a second day; and a third after two non-trading days. The latest is the first
-oneDay : List Event
+-- one day, then a quote, an opening, a move and a read; a second day; and a third after two non-trading days. The latest is the first
+oneDay : List Ask
 unfolding closing quoteFrom
-oneDay = movedBy Upper ∷ quotedAt (quoteFrom []) ∷ closing 4 0 3000010 ∷ []
+oneDay = reading ∷ moving 0 ∷ opening ∷ quoting (quoteFrom []) ∷ closing 4 0 3000010 ∷ []
 
-twoDays : List Event
+twoDays : List Ask
 unfolding oneDay
 twoDays = closing 5 0 3000020 ∷ oneDay
 
-threeDays : List Event
+threeDays : List Ask
 unfolding twoDays
 threeDays = closing 6 2 3000020 ∷ twoDays
 
 -- a day on which r is 100·S_1; one on which the replacement is taken, and the day after
-dayAtLine : List Event
+dayAtLine : List Ask
 unfolding closing
 dayAtLine = closing 4 0 3000300 ∷ []
 
-replacedDay : List Event
+replacedDay : List Ask
 unfolding closing
 replacedDay = closing 4 0 3000400 ∷ []
 
-dayAfter : List Event
+dayAfter : List Ask
 unfolding replacedDay
 dayAfter = closing 5 0 3000400 ∷ replacedDay
 
 pub exact-squares : List (List ℕ)
 unfolding numbers security oneDay twoDays threeDays dayAtLine replacedDay dayAfter partsOf exactMove nextSquare
-    choiceOf exactSquare carries carriesFirst carriesNext externalNow
+    choiceOf squareThen exactSquare carries carriesFirst carriesNext externalNow
 exact-squares =
     -- the move as it is, up and down; by P2 and by P1: in thirds of a millionth
     partsOf 3 (exactMove 3000010 3000000 3000000)
@@ -80,7 +79,7 @@ exact-squares =
     ∷ partsOf 81 (exactSquare security replacedDay)
     ∷ partsOf 9 (exactSquare security dayAfter)
     -- the carried s of each
-    ∷ map (λ (es : List Event). carries security es .s)
+    ∷ map (λ (es : List Ask). carries security es .s)
     ([] ∷ oneDay ∷ twoDays ∷ threeDays ∷ dayAtLine ∷ replacedDay ∷ dayAfter ∷ [])
     ∷ []
 

@@ -1,10 +1,11 @@
 -- The figures of a security from its history: from its admission, its accepted evaluations and receipts of outside
--- prices, and its accepted quotes, moves and openings of the evening since the last evaluation.
-use mathlib.Core.Bool.{Bool, true, false}
+-- prices, and its accepted quotes, moves and openings of the evening since the last evaluation. What each ask leaves in a
+-- history stands in its rule (Desk).
+use mathlib.Core.Bool.{Bool}
 use mathlib.Core.List.{List, [], _∷_}
+use mathlib.Core.Option.{Option, none, some}
 use Prim.Native.Nat.{ℕ, _+_, _-_, _*_}
 use lib.Dec.{eqb}
-use lib.ListN.{getD}
 use lib.IntN.{ℤ}
 use Rattle.paper.specs.declared.Rate.{Rate}
 use Rattle.paper.specs.declared.Statics.{Statics}
@@ -12,7 +13,7 @@ use Rattle.paper.specs.declared.Tentative.{Tentative}
 use Rattle.paper.specs.declared.Standing.{Standing}
 use Rattle.paper.specs.declared.Standing.the-variants.{Admitted, Live}
 use Rattle.paper.specs.declared.Session.{Session}
-use Rattle.paper.specs.declared.Session.the-variants.{Main, Evening}
+use Rattle.paper.specs.declared.Session.the-variants.{Main}
 use Rattle.paper.specs.declared.External.{External}
 use Rattle.paper.specs.declared.Side.{Side}
 use Rattle.paper.specs.declared.Side.the-variants.{Upper, Lower}
@@ -28,13 +29,13 @@ use Rattle.paper.specs.declared.Quote.{Quote}
 use Rattle.paper.specs.Lists.{pick, forLevels}
 use Rattle.paper.specs.Ranges.{gridOf, staticsOf, noLimits, noTerm, termAt, rateAt, noExternal}
 use Rattle.paper_desk.specs.Evaluation.{dayRows, evaluationOf, usedPair}
-use Rattle.paper_desk.specs.External.{keptAfter}
+use Rattle.paper_desk.specs.External.{Told, keptAfter}
 use Rattle.paper.specs.declared.Figures.{Figures}
 use Rattle.paper_desk.specs.Rates.{moveOf, minimumOf, figuresOf}
-use Rattle.paper_desk.specs.Limits.{rangeLimit, bandOf, deltaOf}
+use Rattle.paper_desk.specs.Limits.{rangeLimit, bandOf, deltaOf, sameSide}
 use Rattle.paper_desk.specs.Alerts.{isNear}
-use Rattle.paper_desk.specs.Evening.{sessionMoved}
-use Rattle.paper_desk.specs.History.{Event, evaluatedOn, quotedAt, movedBy, opening, receipt}
+use Rattle.paper_desk.specs.Desk.{Ask, ruleOf}
+use Rattle.paper_desk.specs.History.{isEvaluation}
 
 -- ---- what the evaluations carry on
 
@@ -60,14 +61,14 @@ carriesFirst a =
 
 -- ---- the outside prices (W-211)
 
--- the pair that is kept: none at admission; evaluations, quotes, moves and openings leave it
-unfoldable pub externalNow : List Event → External
+-- the pair that is kept: none at admission; a receipt changes it, and whatever else is asked leaves it
+abbrev pub keptThen : Option Told → External → External
+keptThen none kept = kept
+keptThen (some told) kept = keptAfter kept told
+
+unfoldable pub externalNow : List Ask → External
 externalNow [] = noExternal
-externalNow (evaluatedOn d rows ∷ es) = externalNow es
-externalNow (quotedAt q ∷ es) = externalNow es
-externalNow (movedBy side ∷ es) = externalNow es
-externalNow (opening ∷ es) = externalNow es
-externalNow (receipt x ∷ es) = keptAfter (externalNow es) x
+externalNow (x ∷ xs) = keptThen (ruleOf x .tells) (externalNow xs)
 
 -- ---- the evaluations
 
@@ -80,15 +81,14 @@ carriesNext st d rows used x =
     let f : Figures = figuresOf st (d .b) (d .m) (rateAt (x .rates) 0) r (x .s) (x .tentative) in
     record { p1 = p; p2 = x .p1; s = f .s; tentative = f .tentative; rates = f .rates }
 
--- quotes, moves, openings and receipts carry nothing on
-unfoldable pub carries : Admission → List Event → Carries
+-- what is no evaluation carries nothing on
+abbrev pub carriesThen : Statics → Option (Day × List ℤ) → (kept : External) → Carries → Carries
+carriesThen st none kept x = x
+carriesThen st (some (d, rows)) kept x = carriesNext st d rows (usedPair st kept) x
+
+unfoldable pub carries : Admission → List Ask → Carries
 carries a [] = carriesFirst a
-carries a (evaluatedOn d rows ∷ es) =
-    carriesNext (staticsOf (a .given)) d rows (usedPair (staticsOf (a .given)) (externalNow es)) (carries a es)
-carries a (quotedAt q ∷ es) = carries a es
-carries a (movedBy side ∷ es) = carries a es
-carries a (opening ∷ es) = carries a es
-carries a (receipt x ∷ es) = carries a es
+carries a (x ∷ xs) = carriesThen (staticsOf (a .given)) (ruleOf x .evaluates) (externalNow xs) (carries a xs)
 
 -- ---- the last accepted evaluation, and the accepted moves since it
 
@@ -96,30 +96,25 @@ pub data LastDay : Type 0 where
   noDay : LastDay
   onDay : Day → LastDay
 
-unfoldable pub lastEvaluated : List Event → LastDay
-lastEvaluated [] = noDay
-lastEvaluated (evaluatedOn d rows ∷ es) = onDay d
-lastEvaluated (quotedAt q ∷ es) = lastEvaluated es
-lastEvaluated (movedBy side ∷ es) = lastEvaluated es
-lastEvaluated (opening ∷ es) = lastEvaluated es
-lastEvaluated (receipt x ∷ es) = lastEvaluated es
+abbrev pub dayThen : Option (Day × List ℤ) → LastDay → LastDay
+dayThen none last = last
+dayThen (some (d, rows)) last = onDay d
 
-abbrev pub sameSide : (x y : Side) → Bool
-sameSide Upper Upper = true
-sameSide Upper Lower = false
-sameSide Lower Upper = false
-sameSide Lower Lower = true
+unfoldable pub lastEvaluated : List Ask → LastDay
+lastEvaluated [] = noDay
+lastEvaluated (x ∷ xs) = dayThen (ruleOf x .evaluates) (lastEvaluated xs)
+
+-- one more for a move of that side
+abbrev pub movesThen : Option Side → Side → (count : ℕ) → ℕ
+movesThen none side c = c
+movesThen (some x) side c = pick (sameSide x side) (c + 1) c
 
 -- "c the moves of that side since the evaluation"; W-210: the opening "keeps c"
-unfoldable pub movesSince : Side → List Event → ℕ
+unfoldable pub movesSince : Side → List Ask → ℕ
 movesSince side [] = 0
-movesSince side (evaluatedOn d rows ∷ es) = 0
-movesSince side (quotedAt q ∷ es) = movesSince side es
-movesSince side (movedBy x ∷ es) = pick (sameSide x side) (movesSince side es + 1) (movesSince side es)
-movesSince side (opening ∷ es) = movesSince side es
-movesSince side (receipt x ∷ es) = movesSince side es
+movesSince side (x ∷ xs) = pick (isEvaluation x) 0 (movesThen (ruleOf x .moves) side (movesSince side xs))
 
-abbrev pub movesOf : List Event → Moves
+abbrev pub movesOf : List Ask → Moves
 movesOf es = record { lower = movesSince Lower es; upper = movesSince Upper es }
 
 -- ---- the standing and the terms, the ranges and the bands: by the last evaluation and the moves since
@@ -143,14 +138,14 @@ rangeAfter st p s1 rate c =
     }
 
 -- the range of the level i + 1, 0 before the first evaluation
-unfoldable pub rangeNow : Admission → List Event → LastDay → (i : ℕ) → Limits
+unfoldable pub rangeNow : Admission → List Ask → LastDay → (i : ℕ) → Limits
 rangeNow a es noDay i = noLimits
 rangeNow a es (onDay d) i =
     let x : Carries = carries a es in
     rangeAfter (staticsOf (a .given)) (x .p1) (rateAt (x .rates) 0) (rateAt (x .rates) i) (movesOf es)
 
 -- a term's band, made with the moves since the evaluation; 0 before the first evaluation
-unfoldable pub bandNow : Admission → List Event → LastDay → (term : ℕ) → Limits
+unfoldable pub bandNow : Admission → List Ask → LastDay → (term : ℕ) → Limits
 bandNow a es noDay k = noLimits
 bandNow a es (onDay d) k =
     let x : Carries = carries a es in
@@ -164,20 +159,22 @@ quotedPrice Upper q = q .bid
 quotedPrice Lower q = q .ask
 
 -- whether a quote after these calls is near a side of its term's band
-unfoldable pub nearIn : Admission → List Event → Side → Quote → Bool
+unfoldable pub nearIn : Admission → List Ask → Side → Quote → Bool
 nearIn a es side q = isNear side (a .given .w) (bandNow a es (lastEvaluated es) (q .term)) (quotedPrice side q)
+
+-- a quote of the term goes on with a side's near seconds in it, or breaks them off. "One quote touches one term only."
+unfoldable pub secondsThen : Admission → List Ask → Side → (term : ℕ) → Option Quote → (seconds : List ℕ) → List ℕ
+secondsThen a xs side k none seconds = seconds
+secondsThen a xs side k (some q) seconds =
+    pick (eqb (q .term) k) (pick (nearIn a xs side q) (q .second ∷ seconds) []) seconds
 
 -- the seconds of a side's near quotes in a term, unbroken up to now, the latest first. They break off at "a quote that
 -- isn't near", at a move of that side ("It clears that side's near seconds in all terms"), at an evaluation and at an
--- opening of the evening (W-210). "One quote touches one term only."
-unfoldable pub nearQuotes : Admission → Side → (term : ℕ) → List Event → List ℕ
+-- opening of the evening (W-210)
+unfoldable pub nearQuotes : Admission → Side → (term : ℕ) → List Ask → List ℕ
 nearQuotes a side k [] = []
-nearQuotes a side k (evaluatedOn d rows ∷ es) = []
-nearQuotes a side k (quotedAt q ∷ es) =
-    pick (eqb (q .term) k) (pick (nearIn a es side q) (q .second ∷ nearQuotes a side k es) []) (nearQuotes a side k es)
-nearQuotes a side k (movedBy x ∷ es) = pick (sameSide x side) [] (nearQuotes a side k es)
-nearQuotes a side k (opening ∷ es) = []
-nearQuotes a side k (receipt x ∷ es) = nearQuotes a side k es
+nearQuotes a side k (x ∷ xs) =
+    pick (ruleOf x .clears side) [] (secondsThen a xs side k (ruleOf x .quotes) (nearQuotes a side k xs))
 
 -- "A near side keeps the second at which it became near": that of the first of them
 unfoldable pub firstOfThem : (seconds : List ℕ) → Near
@@ -185,29 +182,25 @@ firstOfThem [] = Not
 firstOfThem (second ∷ []) = Since second
 firstOfThem (second ∷ earlier ∷ rest) = firstOfThem (earlier ∷ rest)
 
-abbrev pub nearSince : Admission → Side → (term : ℕ) → List Event → Near
+abbrev pub nearSince : Admission → Side → (term : ℕ) → List Ask → Near
 nearSince a side k es = firstOfThem (nearQuotes a side k es)
 
-abbrev pub nearNow : Admission → List Event → (term : ℕ) → NearSeconds
+abbrev pub nearNow : Admission → List Ask → (term : ℕ) → NearSeconds
 nearNow a es k = record { top = nearSince a Upper k es; bottom = nearSince a Lower k es }
 
+abbrev pub secondThen : Option Quote → (second : ℕ) → ℕ
+secondThen none second = second
+secondThen (some q) second = q .second
+
 -- "An evaluation clears .. the last quote second (to 0)."
-unfoldable pub lastSecond : List Event → ℕ
+unfoldable pub lastSecond : List Ask → ℕ
 lastSecond [] = 0
-lastSecond (evaluatedOn d rows ∷ es) = 0
-lastSecond (quotedAt q ∷ es) = q .second
-lastSecond (movedBy x ∷ es) = lastSecond es
-lastSecond (opening ∷ es) = lastSecond es
-lastSecond (receipt x ∷ es) = lastSecond es
+lastSecond (x ∷ xs) = pick (isEvaluation x) 0 (secondThen (ruleOf x .quotes) (lastSecond xs))
 
 -- ---- the session (W-210)
 
 -- "main, or evening with the evening moves made": the evening since the opening, if no evaluation came after it, with
 -- the moves since
-unfoldable pub sessionNow : List Event → Session
+unfoldable pub sessionNow : List Ask → Session
 sessionNow [] = Main
-sessionNow (evaluatedOn d rows ∷ es) = Main
-sessionNow (quotedAt q ∷ es) = sessionNow es
-sessionNow (movedBy side ∷ es) = sessionMoved (sessionNow es)
-sessionNow (opening ∷ es) = Evening 0
-sessionNow (receipt x ∷ es) = sessionNow es
+sessionNow (x ∷ xs) = ruleOf x .session (sessionNow xs)

@@ -3,9 +3,9 @@
 -- It may use the kinds of src/lib.rt, delta and the calls of Desk.
 use mathlib.Core.Path.{_≡_}
 use mathlib.Core.Bool.{Bool, true, false}
+use mathlib.Core.Option.{Option, none, some}
 use Prim.Native.Nat.{ℕ}
 use lib.IntN.{ℤ, pos}
-use lib.ListN.{getD}
 use lib.Signed.{leZ}
 use Rattle.paper.specs.declared.Side.{Side}
 use Rattle.paper.specs.declared.Side.the-variants.{Upper, Lower}
@@ -16,7 +16,8 @@ use Rattle.paper.specs.declared.Term.{Term}
 use Rattle.paper.specs.declared.Record.{Record}
 use Rattle.paper.specs.Ranges.{rateAt}
 use Rattle.paper_desk.specs.Limits.{deltaOf}
-use Rattle.paper_desk.specs.Desk.{Call, admit, evaluate, quote, move, read, openEvening, receive}
+use Rattle.paper_desk.specs.Desk.{Call, admit, about, Reply, theRecord, theAlerts, ruleOf}
+use Rattle.paper_desk.specs.External.{Told}
 
 abbrev pub other : Side → Side
 other Upper = Lower
@@ -47,21 +48,19 @@ deltaFor r = deltaOf (r .statics) (rateAt (r .rates) 0) (r .p1 .units)
 
 -- "Accepted evaluations, moves and reads return the record as it then stands, a quote its two alerts, an admission the
 -- number 0 alone."
+abbrev pub showsRecord : Reply → Bool
+showsRecord theRecord = true
+showsRecord (theAlerts q) = false
+
 abbrev pub shows : Call → Bool
 shows (admit a) = false
-shows (evaluate id d rows) = true
-shows (quote id q) = false
-shows (move id side) = true
-shows (read id) = true
-shows (openEvening id) = true
-shows (receive id x) = true
+shows (about id x) = showsRecord (ruleOf x .reply)
 
 -- W-211: both prices sent together, or a notice
+abbrev pub isTold : Option Told → Bool
+isTold none = false
+isTold (some told) = true
+
 abbrev pub isReceipt : Call → Bool
 isReceipt (admit a) = false
-isReceipt (evaluate id d rows) = false
-isReceipt (quote id q) = false
-isReceipt (move id side) = false
-isReceipt (read id) = false
-isReceipt (openEvening id) = false
-isReceipt (receive id x) = true
+isReceipt (about id x) = isTold (ruleOf x .tells)
