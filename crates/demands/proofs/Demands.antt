@@ -1,22 +1,22 @@
 -- The customer's demands, a theorem each. What they say stands in specs/Demands.antt.
 use mathlib.Core.Path.{_≡_, refl, sym, _∙_, ap, subst}
-use mathlib.Core.Bool.{true}
+use mathlib.Core.Bool.{true, false}
 use mathlib.Core.List.{List, map}
-use Prim.Native.Nat.{ℕ}
-use native.Mathlib.Omega.{arith}
+use Prim.Native.Nat.{ℕ, _<_}
 use Rattle.paper.specs.declared.Record.{Record}
 use Rattle.paper.specs.declared.Admission.{Admission}
 use Rattle.paper.specs.declared.Quote.{Quote}
 use Rattle.paper.specs.declared.Verdict.{Verdict}
 use Rattle.paper.specs.declared.Verdict.the-variants.{Done, NoSuchId, AlreadyAdmitted}
-use Rattle.paper.specs.Verdicts.{numberOf, isDone, Check, Exactly}
-use Rattle.paper_desk.specs.Desk.{Call, admit, evaluate, quote, move, read, openEvening, receive, idOf, Outcome, saying}
-use Rattle.paper_desk.specs.Desk.{showing, stands, found, known, checksOf, admitChecks, evaluateChecks, quoteChecks}
-use Rattle.paper_desk.specs.Desk.{moveChecks, readChecks, openChecks, receiveChecks, acceptedOf, step, run}
-use Rattle.paper_desk.specs.Sides.{shows}
-use Rattle.paper_desk.specs.History.{FreshTable, Event, unknown, since, historyOf, wasAdmitted}
+use Rattle.paper.specs.Verdicts.{numberOf, isDone, Check, NoneApplies, also, Exactly}
+use Rattle.paper_desk.specs.Desk.{Ask, Call, admit, about, quote, idOf, Outcome, saying, showing, Reply, theRecord}
+use Rattle.paper_desk.specs.Desk.{theAlerts, replyOn, ruleOf, stands, found, known, checksOf, admitChecks, acceptedOf}
+use Rattle.paper_desk.specs.Desk.{step, run}
+use Rattle.paper_desk.specs.Sides.{showsRecord, shows}
+use Rattle.paper_desk.specs.History.{FreshTable, unknown, since, historyOf, wasAdmitted}
 use Rattle.demands.specs.Demands.{answered, orderOf, Demand1, FiguresHold, alertsThen, Demand2, Demand3}
 use Rattle.demands.specs.Demands.{TableKept, BandsInOrder}
+use Rattle.paper.proofs.Logic.{not-true-and-false}
 use Rattle.paper_desk.proofs.Refusals.{verdict-first, refused-step, accepted-step, refused-only, refused-always}
 use Rattle.paper_desk.proofs.Refusals.{accepted-only, accepted-always}
 use Rattle.demands.proofs.Kept.{run-sound}
@@ -24,8 +24,9 @@ use Rattle.demands.proofs.Histories.{recordOf, Lawful}
 use Rattle.demands.proofs.Known.{one-exactly-unknown, history-since, known-admitted, no-such-id}
 use Rattle.demands.proofs.Known.{already-admitted, stays-known}
 use Rattle.paper_desk.proofs.PinnedLaws.{bad-table-refused, shown-stands, admission-number-alone}
-use Rattle.demands.proofs.Sequences.{accepted-term-below-three, alerts-noted, lawful-figures, lawful-statics}
-use Rattle.demands.proofs.Sequences.{rates-hold}
+use Rattle.demands.proofs.Sequences.{accepted-term-below-three, alerts-noted}
+use Rattle.demands.proofs.Asks.{ask-holds}
+use Rattle.demands.proofs.Figures.{lawful-figures, lawful-statics, rates-hold}
 use Rattle.demands.proofs.Bands.{lawful-uncrossed}
 use Rattle.demands.proofs.Carried.{lawful-near}
 use Rattle.demands.proofs.InterestCarried.{evenings-near}
@@ -40,7 +41,7 @@ table-kept cs t f =
       stays-known = λ later. stays-known cs later t (f .slots) (f .empty);
     }
 
-pub bands-in-order : (id : ℕ) (cs : List Call) (t : List Record) → FreshTable t → (a : Admission) (es : List Event)
+pub bands-in-order : (id : ℕ) (cs : List Call) (t : List Record) → FreshTable t → (a : Admission) (es : List Ask)
     → historyOf id cs t ≡ since a es → BandsInOrder (found (run cs t) id)
 bands-in-order id cs t f a es e =
     let k = history-since id cs t (f .empty) a es e in
@@ -49,14 +50,9 @@ bands-in-order id cs t f a es e =
 -- ---- Demand 1
 
 in-order : (c : Call) (t : List Record) → map (λ (x : Check). numberOf (x .verdict)) (checksOf c t) ≡ orderOf c
-unfolding checksOf admitChecks evaluateChecks quoteChecks moveChecks readChecks openChecks receiveChecks
+unfolding checksOf admitChecks
 in-order (admit a) t = refl
-in-order (evaluate id d rows) t = refl
-in-order (quote id q) t = refl
-in-order (move id side) t = refl
-in-order (read id) t = refl
-in-order (openEvening id) t = refl
-in-order (receive id x) t = refl
+in-order (about id x) t = ask-holds x .order (known t id) (found t id)
 
 pub demand-1 : (c : Call) (t : List Record) → Demand1 c t
 unfolding isDone
@@ -97,27 +93,28 @@ shown-answers c t s done =
     ∙ ap showing (sym (shown-stands c t s (ap isDone done)))
   where
     -- an accepted call of that kind answers a record and nothing else
+    alone : (k : Reply) (r made : Record) → showsRecord k ≡ true → replyOn k r made ≡ showing (replyOn k r made .rec)
+    alone theRecord r made s = refl
+    alone (theAlerts q) r made s = absurd (not-true-and-false false s refl)
+
     only : (c : Call) → shows c ≡ true → acceptedOf c t .answer ≡ showing (acceptedOf c t .answer .rec)
-    only (admit a) s = absurd (let z : _≡_ {A = ℕ} 0 1 = cc in omega arith)
-    only (evaluate id d rows) s = refl
-    only (quote id q) s = absurd (let z : _≡_ {A = ℕ} 0 1 = cc in omega arith)
-    only (move id side) s = refl
-    only (read id) s = refl
-    only (openEvening id) s = refl
-    only (receive id x) s = refl
+    only (admit a) s = absurd (not-true-and-false false s refl)
+    only (about id x) s = alone (ruleOf x .reply) (found t id) (ruleOf x .made (found t id)) s
 
 -- an accepted quote answers its alerts
-quote-answers : (id : ℕ) (a : Admission) (es : List Event) (t : List Record) (q : Quote)
+quote-answers : (id : ℕ) (a : Admission) (es : List Ask) (t : List Record) (q : Quote)
     → FiguresHold a es (found t id) → answered (quote id q) t ≡ Done
     → step (quote id q) t .answer ≡ alertsThen a es q
 unfolding isDone acceptedOf checksOf
 quote-answers id a es t q k done =
     ap (λ (o : Outcome). o .answer)
     (accepted-step (quote id q) t (ap isDone (sym (verdict-first (quote id q) t) ∙ done)))
-    ∙ alerts-noted a es (found t id) q k
-    (accepted-term-below-three (known t id) (found t id) q (accepted-only (quote id q) t (ap isDone done)))
+    ∙ alerts-noted a es (found t id) q k (term (accepted-only (quote id q) t (ap isDone done)))
+  where
+    term : NoneApplies (checksOf (quote id q) t) → q .term < 3
+    term (also v n) = accepted-term-below-three (found t id) q n
 
-pub demand-2 : (id : ℕ) (cs : List Call) (t : List Record) → FreshTable t → (a : Admission) (es : List Event)
+pub demand-2 : (id : ℕ) (cs : List Call) (t : List Record) → FreshTable t → (a : Admission) (es : List Ask)
     → historyOf id cs t ≡ since a es → Demand2 id a es (run cs t)
 unfolding wasAdmitted
 demand-2 id cs t f a es e =

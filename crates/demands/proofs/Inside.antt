@@ -20,8 +20,8 @@ use Rattle.paper.specs.Ranges.{staticsOf, validStatics, noLimits, isLive, bandA
 use Rattle.paper.specs.Verdicts.{numberOf, isDone, Check, FirstAt, here, later, NoneApplies, none, also, Exactly}
 use Rattle.paper_desk.specs.Limits.{crossed}
 use Rattle.paper_desk.specs.ExactBand.{RoundedInward, NoneOnGrid}
-use Rattle.paper_desk.specs.Desk.{Call, evaluate, evaluated, found, checksOf, evaluateChecks, run}
-use Rattle.paper_desk.specs.History.{FreshTable, Event, evaluatedOn, since, historyOf}
+use Rattle.paper_desk.specs.Desk.{Ask, evaluating, Call, evaluate, evaluated, found, checksOf, run}
+use Rattle.paper_desk.specs.History.{FreshTable, since, historyOf}
 use Rattle.paper_desk.specs.Sequences.{onDay, lastEvaluated, bandNow}
 use Rattle.demands.specs.Demands.{answered, FiguresHold}
 use Rattle.demands.specs.Inside.{bandedNow, BandsInside, NineExactly}
@@ -30,20 +30,21 @@ use Rattle.paper_desk.proofs.LimitSizes.{valid-limit-statics}
 use Rattle.paper_desk.proofs.ExactBand.{band-rounded-inward, between-exactly, limits-in-exact, crossed-exactly}
 use Rattle.paper_desk.proofs.Refusals.{refused-only, refused-always}
 use Rattle.demands.proofs.Known.{history-since}
-use Rattle.demands.proofs.Sequences.{band-next, lawful-statics}
+use Rattle.demands.proofs.Sequences.{band-next}
+use Rattle.demands.proofs.Figures.{lawful-statics}
 use Rattle.demands.proofs.Demands.{demand-2, bands-in-order}
 use Rattle.demands.proofs.Order.{live-has-day}
 
 -- ---- a band of the history is the exact one, rounded inward
 
-now-rounded-inward : (a : Admission) (es : List Event) (d : Day) (k : ℕ) → validStatics (staticsOf (a .given)) ≡ true
+now-rounded-inward : (a : Admission) (es : List Ask) (d : Day) (k : ℕ) → validStatics (staticsOf (a .given)) ≡ true
     → RoundedInward (bandedNow a es d k) (bandNow a es (onDay d) k)
 unfolding bandNow
 now-rounded-inward a es d k v = band-rounded-inward (bandedNow a es d k) (valid-limit-statics _ v)
 
 -- ---- the bands of a record whose last evaluation was of the day d
 
-pub bands-inside : (id : ℕ) (cs : List Call) (t : List Record) → FreshTable t → (a : Admission) (es : List Event)
+pub bands-inside : (id : ℕ) (cs : List Call) (t : List Record) → FreshTable t → (a : Admission) (es : List Ask)
     → historyOf id cs t ≡ since a es → (d : Day) → lastEvaluated es ≡ onDay d
     → BandsInside a es d (found (run cs t) id)
 bands-inside id cs t f a es e d last =
@@ -63,7 +64,7 @@ bands-inside id cs t f a es e d last =
         (now-rounded-inward a es d k (lawful-statics a es (history-since id cs t (f .empty) a es e .2)))
 
 -- and so of every live record: it was evaluated, on some day
-pub live-bands-inside : (id : ℕ) (cs : List Call) (t : List Record) → FreshTable t → (a : Admission) (es : List Event)
+pub live-bands-inside : (id : ℕ) (cs : List Call) (t : List Record) → FreshTable t → (a : Admission) (es : List Ask)
     → historyOf id cs t ≡ since a es → isLive (found (run cs t) id .standing) ≡ true
     → (d : Day) × (lastEvaluated es ≡ onDay d) × BandsInside a es d (found (run cs t) id)
 live-bands-inside id cs t f a es e live =
@@ -113,23 +114,23 @@ not-all-three p k l e = go (allThree (λ k. not (p k))) refl
     go true all = absurd (not-true-and-false (p k) e (not-true (p k) (each-of-three (λ k. not (p k)) all k l)))
     go false all = refl
 
-module _ (id : ℕ) (a : Admission) (es : List Event) (t : List Record) (v : validStatics (staticsOf (a .given)) ≡ true)
+module _ (id : ℕ) (a : Admission) (es : List Ask) (t : List Record) (v : validStatics (staticsOf (a .given)) ≡ true)
     (k : FiguresHold a es (found t id)) (d : Day) (rows : List ℤ) where
   abbrev bandAfter : ℕ → Limits
   bandAfter j = getD (evaluated (found t id) d rows .bands) j noLimits
 
   -- the band of a term, crossed or not
   next-crossed : (j : ℕ) → j < 3
-      → Exactly (crossed (bandAfter j) ≡ true) (NoneOnGrid (bandedNow a (evaluatedOn d rows ∷ es) d j))
+      → Exactly (crossed (bandAfter j) ≡ true) (NoneOnGrid (bandedNow a (evaluating d rows ∷ es) d j))
   next-crossed j l =
       rw (band-next a es (found t id) k d rows j l)
-      (crossed-exactly (bandedNow a (evaluatedOn d rows ∷ es) d j) _
-      (now-rounded-inward a (evaluatedOn d rows ∷ es) d j v))
+      (crossed-exactly (bandedNow a (evaluating d rows ∷ es) d j) _
+      (now-rounded-inward a (evaluating d rows ∷ es) d j v))
 
   nine-exactly : Exactly (answered (evaluate id d rows) t ≡ BandCrossed)
       (NoneApplies (take 6 (checksOf (evaluate id d rows) t))
-      × (j : ℕ) × (j < 3) × NoneOnGrid (bandedNow a (evaluatedOn d rows ∷ es) d j))
-  unfolding checksOf evaluateChecks isDone every
+      × (j : ℕ) × (j < 3) × NoneOnGrid (bandedNow a (evaluating d rows ∷ es) d j))
+  unfolding checksOf isDone every
   nine-exactly = (
     λ e.
         let at = first-at-the-last BandCrossed (take 6 (checksOf (evaluate id d rows) t)) _ refl
@@ -141,7 +142,7 @@ module _ (id : ℕ) (a : Admission) (es : List Event) (t : List Record) (v : val
         (not-all-three (λ j. crossed (bandAfter j)) (w .1) (w .2) (next-crossed (w .1) (w .2) .1 (w .3)))),
   )
 
-pub nine-at-crossed : (id : ℕ) (cs : List Call) (t : List Record) → FreshTable t → (a : Admission) (es : List Event)
+pub nine-at-crossed : (id : ℕ) (cs : List Call) (t : List Record) → FreshTable t → (a : Admission) (es : List Ask)
     → historyOf id cs t ≡ since a es → NineExactly id a es (run cs t)
 nine-at-crossed id cs t f a es e =
     record {

@@ -28,9 +28,8 @@ use Rattle.paper_desk.specs.Limits.{bandOf, Outward}
 use Rattle.paper.specs.PinnedValues.{recordFrom}
 use Rattle.paper.specs.Verdicts.{isDone}
 use Rattle.paper_desk.specs.Sides.{limitOn, repoOn, shows, PastZero}
-use Rattle.paper_desk.specs.Desk.{Call, admit, evaluate, quote, move, read, openEvening, receive, idOf, place, found}
-use Rattle.paper_desk.specs.Desk.{known, step, run}
-use Rattle.paper_desk.specs.History.{FreshTable, Event, isAdmission}
+use Rattle.paper_desk.specs.Desk.{Ask, Call, admit, about, idOf, place, found, known, step, run}
+use Rattle.paper_desk.specs.History.{FreshTable, isAdmission}
 use Rattle.paper_desk.specs.Sequences.{LastDay, noDay, onDay, lastEvaluated, standingNow, termNow, rangeAfter, rangeNow}
 use Rattle.paper_desk.specs.Sequences.{bandNow}
 use Rattle.demands.specs.Demands.{FiguresHold, RatesHold, BandsInOrder}
@@ -44,10 +43,11 @@ use Rattle.paper_desk.proofs.Others.{other-records-stay}
 use Rattle.paper_desk.proofs.PinnedLaws.{refused-zero, shown-stands, no-record-shown}
 use Rattle.paper_desk.proofs.Refusals.{accepted-only}
 use Rattle.demands.proofs.Sound.{Parts, sound-has-parts}
-use Rattle.demands.proofs.Kept.{good-sound, call-knows}
+use Rattle.demands.proofs.Good.{good-sound}
+use Rattle.demands.proofs.Kept.{call-knows}
 use Rattle.demands.proofs.Histories.{recordOf, Lawful}
 use Rattle.demands.proofs.Known.{lawful-good, stays-known}
-use Rattle.demands.proofs.Sequences.{lawful-figures, lawful-statics, rates-hold}
+use Rattle.demands.proofs.Figures.{lawful-figures, lawful-statics, rates-hold}
 use Rattle.demands.proofs.Bands.{lawful-uncrossed}
 use Rattle.demands.proofs.SlotHistories.{known-has-id, full-slot-made}
 
@@ -70,7 +70,7 @@ unfolding standingNow isLive
 live-has-day a noDay live = absurd (not-true-and-false false live refl)
 live-has-day a (onDay d) live = (d, refl)
 
-module _ (a : Admission) (es : List Event) (l : Lawful a es) where
+module _ (a : Admission) (es : List Ask) (l : Lawful a es) where
   figures-hold : FiguresHold a es (recordOf a es)
   figures-hold = lawful-figures a es l
 
@@ -254,12 +254,7 @@ not-live r e live = not-true-and-false false (sym (ap (λ (x : Record). isLive (
 -- a call that shows a record is no admission
 pub no-admission-shows : (c : Call) → shows c ≡ true → isAdmission c ≡ false
 no-admission-shows (admit a) e = absurd (not-true-and-false false e refl)
-no-admission-shows (evaluate id d rows) e = refl
-no-admission-shows (quote id q) e = refl
-no-admission-shows (move id side) e = refl
-no-admission-shows (read id) e = refl
-no-admission-shows (openEvening id) e = refl
-no-admission-shows (receive id x) e = refl
+no-admission-shows (about id x) e = refl
 
 -- Every live record that a call answers is in order, in the table after the call
 pub shown-in-order : (cs : List Call) (t : List Record) → FreshTable t → (c : Call)

@@ -2,7 +2,7 @@
 -- calls that were accepted in their turn (Histories).
 use mathlib.Core.Path.{_≡_, refl, ap, subst}
 use mathlib.Core.Logic.{_≢_}
-use mathlib.Core.Bool.{Bool, true}
+use mathlib.Core.Bool.{true}
 use mathlib.Core.List.{List, [], _∷_}
 use Prim.Native.Nat.{ℕ, zero, suc}
 use native.Mathlib.Omega.{arith}
@@ -13,22 +13,21 @@ use Rattle.paper.specs.declared.Record.{Record}
 use Rattle.paper.specs.declared.Admission.{Admission}
 use Rattle.paper.specs.Lists.{every}
 use Rattle.paper.specs.Numbers.{idMost}
-use Rattle.paper.specs.Ranges.{validAdmission, validSlots, sideOf}
+use Rattle.paper.specs.Ranges.{validAdmission, validSlots}
 use Rattle.paper.specs.Verdicts.{NoneApplies, also}
-use Rattle.paper_desk.specs.Desk.{Call, admit, evaluate, quote, move, read, openEvening, receive, blank, place, found}
-use Rattle.paper_desk.specs.Desk.{known, checksOf, admitChecks, acceptedOf, step, run, fresh}
-use Rattle.paper_desk.specs.History.{FreshTable, Event, evaluatedOn, quotedAt, movedBy, opening, receipt}
+use Rattle.paper_desk.specs.Desk.{Ask, Call, admit, about, blank, place, found, known, ruleOf, checksOf, admitChecks}
+use Rattle.paper_desk.specs.Desk.{acceptedOf, step, run, fresh}
+use Rattle.paper_desk.specs.History.{FreshTable}
 use Rattle.demands.specs.Order.{slotAt}
 use Rattle.paper.proofs.Logic.{and-left, and-right, not-false}
 use Rattle.paper_desk.proofs.Others.{holds-after-step}
 use Rattle.paper_desk.proofs.Slots.{known-sound}
 use Rattle.demands.proofs.Sound.{sound-has-parts, stored-holds}
-use Rattle.demands.proofs.Kept.{call-knows}
-use Rattle.demands.proofs.Histories.{after, recordOf, eventChecks, move-checks, Lawful}
+use Rattle.demands.proofs.Histories.{recordOf, Lawful}
 
 pub record Made (r : Record) : Type 0 where
   pub admission : Admission
-  pub events : List Event
+  pub events : List Ask
   pub same : r ≡ recordOf admission events
   pub lawful : Lawful admission events
 
@@ -51,29 +50,22 @@ known-has-id t i e w =
     omega (arith, leb-true 1 (found t i .id) low)
 
 -- one more accepted call
-made-after : (r : Record) (e : Event) → Made r → NoneApplies (eventChecks true r e) → Made (after r e)
+made-after : (r : Record) (x : Ask) → Made r → NoneApplies (ruleOf x .checks r) → Made (ruleOf x .made r)
 unfolding recordOf
-made-after r e k n =
+made-after r x k n =
     record {
       admission = k .admission;
-      events = e ∷ k .events;
-      same = ap (λ (x : Record). after x e) (k .same);
-      lawful = (k .lawful, subst (λ (x : Record). NoneApplies (eventChecks true x e)) (k .same) n);
+      events = x ∷ k .events;
+      same = ap (ruleOf x .made) (k .same);
+      lawful = (k .lawful, subst (λ (y : Record). NoneApplies (ruleOf x .checks y)) (k .same) n);
     }
 
 made-kept : (c : Call) (t : List Record) → SlotsMade t → SlotsMade (step c t .table)
-unfolding acceptedOf checksOf admitChecks eventChecks after recordOf found
+unfolding acceptedOf checksOf admitChecks recordOf found
 made-kept c t w = holds-after-step SlotsMade c t w (λ _ n. accepted c n)
   where
     stored : (j : ℕ) (x : Record) → Made x → SlotsMade (set t j x)
     stored j x k slot = stored-holds (λ (r : Record). r .id ≢ 0 → Made r) t j x blank slot (λ _. k) (w slot)
-
-    event : (i : ℕ) (e : Event) → known t i ≡ true → NoneApplies (eventChecks (known t i) (found t i) e)
-        → SlotsMade (set t (place t i) (after (found t i) e))
-    event i e there n =
-        stored (place t i) (after (found t i) e)
-        (made-after (found t i) e (w (place t i) (known-has-id t i there))
-        (subst (λ (b : Bool). NoneApplies (eventChecks b (found t i) e)) there n))
 
     accepted : (c : Call) → NoneApplies (checksOf c t) → SlotsMade (acceptedOf c t .table)
     accepted (admit a) (also v rest) =
@@ -84,13 +76,9 @@ made-kept c t w = holds-after-step SlotsMade c t w (λ _ n. accepted c n)
           same = refl;
           lawful = and-right (validSlots (length t)) (validAdmission a) (not-false _ v);
         })
-    accepted (evaluate i d rows) n = event i (evaluatedOn d rows) (call-knows (evaluate i d rows) t refl n) n
-    accepted (quote i q) n = event i (quotedAt q) (call-knows (quote i q) t refl n) n
-    accepted (move i side) n =
-        event i (movedBy (sideOf side)) (call-knows (move i side) t refl n) (move-checks (known t i) (found t i) side n)
-    accepted (read i) n = w
-    accepted (openEvening i) n = event i opening (call-knows (openEvening i) t refl n) n
-    accepted (receive i x) n = event i (receipt x) (call-knows (receive i x) t refl n) n
+    accepted (about i x) (also q n) =
+        stored (place t i) (ruleOf x .made (found t i))
+        (made-after (found t i) x (w (place t i) (known-has-id t i (not-false (known t i) q))) n)
 
 run-made : (cs : List Call) (t : List Record) → SlotsMade t → SlotsMade (run cs t)
 unfolding run

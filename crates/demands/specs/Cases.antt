@@ -2,26 +2,21 @@
 use mathlib.Core.Path.{_≡_, refl}
 use mathlib.Core.Bool.{Bool, true, false}
 use mathlib.Core.List.{List, [], _∷_, map}
-use Prim.Native.Nat.{ℕ, _+_, _*_}
+use Prim.Native.Nat.{ℕ, _*_}
 use lib.IntN.{ℤ, pos, negsuc}
-use lib.ListN.{getD}
-use Rattle.paper.specs.declared.Rate.{Rate}
 use Rattle.paper.specs.declared.Statics.{Statics}
-use Rattle.paper.specs.declared.Side.the-variants.{Upper, Lower}
-use Rattle.paper.specs.declared.Limits.{Limits}
+use Rattle.paper.specs.declared.Side.the-variants.{Upper}
 use Rattle.paper.specs.declared.Term.{Term}
-use Rattle.paper.specs.declared.Roubles.{Roubles}
 use Rattle.paper.specs.declared.Record.{Record}
 use Rattle.paper.specs.declared.Day.{Day}
-use Rattle.paper.specs.Lists.{pick, three, every, some, those}
+use Rattle.paper.specs.Lists.{three, every, some, those}
 use Rattle.paper.specs.Numbers.{millionthsInBp}
 use Rattle.paper.specs.Roundings.{down, up, halfUp, toGrid, lesserOf, greaterOf, grown, apart}
 use Rattle.paper.specs.Least.{first, least, leastRoot, leastTimes, leastMultiple}
 use Rattle.paper.specs.Ranges.{isPrice, isRate, isGridPrice, validStatics, tentativeTop, validTentative, validRow}
 use Rattle.paper.specs.Ranges.{wholeRows, validRows, validTerm, validDay, lastDay, isLimit, validLimits, validNear}
 use Rattle.paper.specs.Ranges.{validNearSeconds, validSession, validExternal, sound, validSlots, gridOf, staticsOf}
-use Rattle.paper.specs.Ranges.{rowAt, partsFrom, rowsOf, rowOf, unsigned, noTerm, noLimits, rateAt, rangeAt, bandAt}
-use Rattle.paper.specs.Ranges.{noExternal}
+use Rattle.paper.specs.Ranges.{rowAt, partsFrom, rowsOf, rowOf, unsigned, noTerm, rateAt, rangeAt, bandAt, noExternal}
 use Rattle.paper_desk.specs.Evaluation.{rowPrice, rowWeight, roublesOf, traded, weights, worth, mean, closeOf, bestBid}
 use Rattle.paper_desk.specs.Evaluation.{lesserAsk, bestAsk, usedPair, bidOf, askOf, median, between, evaluationOf}
 use Rattle.paper_desk.specs.Evaluation.{dayRows, isCrossedRow, hasCrossedRow, rowFits, evaluationFits}
@@ -34,8 +29,7 @@ use Rattle.paper_desk.specs.Limits.{bandLimit, bandOf, crossed, deltaOf, oneMor
 use Rattle.paper_desk.specs.Alerts.{distance, isNear, nearCleared}
 use Rattle.paper.specs.Verdicts.{numberOf, isDone, firstOf}
 use Rattle.paper_desk.specs.Desk.{saying, showing, admitted, usedBy, priceOn, moveOn, figuresOn, evaluated, moved}
-use Rattle.paper_desk.specs.Desk.{place, stands, found, known, evaluate, evaluateChecks, checksOf, judged, acceptedOf}
-use Rattle.paper_desk.specs.Desk.{step}
+use Rattle.paper_desk.specs.Desk.{place, stands, found, known, evaluate, checksOf, judged, acceptedOf, step}
 use Rattle.paper.specs.PinnedValues.{givenWith, admissionZ}
 
 unfoldable pub Z : Statics
@@ -81,7 +75,7 @@ rows11 close = roublesRow close 1010000 0 1 (roublesRow 0 0 1000000 0 [])
 
 -- the number that an evaluation of rows gets, once Z is admitted
 dayAnswer : (rows : List ℤ) → ℕ
-unfolding after step judged firstOf isDone checksOf evaluateChecks acceptedOf saying showing known found stands place
+unfolding after step judged firstOf isDone checksOf acceptedOf saying showing known found stands place
     validSlots sound validStatics isGridPrice isPrice isRate validTentative isLimit validLimits validNear
     validNearSeconds validSession validExternal lastDay validDay validTerm validRows wholeRows validRow every some
     isCrossedRow hasCrossedRow evaluationFits rowFits moveTooLarge crossed

@@ -1,7 +1,7 @@
 -- The customer's demands, a record each. proofs/Demands.antt proves them, a theorem each, for every sequence of calls
 -- on every fresh table.
 use mathlib.Core.Path.{_≡_}
-use mathlib.Core.Bool.{Bool, true, false}
+use mathlib.Core.Bool.{true, false}
 use mathlib.Core.List.{List, [], _∷_, _++_, map}
 use Prim.Native.Nat.{ℕ, _+_, _<_}
 use lib.ListN.{length, getD}
@@ -21,12 +21,11 @@ use Rattle.paper_desk.specs.Limits.{crossed}
 use Rattle.paper_desk.specs.Alerts.{alert}
 use Rattle.paper_desk.specs.Evening.{alertSeconds}
 use Rattle.paper.specs.Verdicts.{numberOf, isDone, Check, FirstAt, NoneApplies, Exactly}
-use Rattle.paper_desk.specs.Desk.{Call, admit, evaluate, quote, move, read, openEvening, receive, idOf, saying, showing}
-use Rattle.paper_desk.specs.Desk.{alerting, found, known, checksOf, step, run}
+use Rattle.paper_desk.specs.Desk.{Ask, evaluating, quoting, moving, reading, opening, receiving, Call, admit, about}
+use Rattle.paper_desk.specs.Desk.{quote, idOf, saying, showing, alerting, found, known, checksOf, step, run}
 use Rattle.paper_desk.specs.Kept.{everySlot}
 use Rattle.paper_desk.specs.Sides.{shows}
-use Rattle.paper_desk.specs.History.{FreshTable, Event, quotedAt, unknown, since, historyOf, wasAdmitted, isAdmission}
-use Rattle.paper_desk.specs.History.{evaluations}
+use Rattle.paper_desk.specs.History.{FreshTable, unknown, since, historyOf, wasAdmitted, isAdmission, evaluations}
 use Rattle.paper_desk.specs.Sequences.{carries, onDay, lastEvaluated, movesOf, standingNow, termNow, rangeNow, bandNow}
 use Rattle.paper_desk.specs.Sequences.{nearSince, nearNow, lastSecond, sessionNow, externalNow}
 use Rattle.paper_desk.specs.Exact.{exactSquare, NearExact}
@@ -41,14 +40,18 @@ answered c t = step c t .answer .verdict
 -- "First that applies: admit 4, 2, 3; evaluate 1, 6, 5, 7, 8, 9; quote 1, 6, 10, 11, 13; move 1, 6, 10, 11, 12; read
 -- 1"; W-205: "16, after 6 and before 5 in an evaluation"; W-210: "18 .. after 11 and before 12; 19 .. after 10";
 -- W-211: "20 .. on receipt, after 1"
+-- The numbers stand here once more, apart from the rules of Desk: a rule of another order is refused
+abbrev pub orderAsked : Ask → List ℕ
+orderAsked (evaluating d rows) = 1 ∷ 6 ∷ 16 ∷ 5 ∷ 7 ∷ 8 ∷ 9 ∷ []
+orderAsked (quoting q) = 1 ∷ 6 ∷ 10 ∷ 11 ∷ 13 ∷ []
+orderAsked (moving side) = 1 ∷ 6 ∷ 10 ∷ 11 ∷ 18 ∷ 12 ∷ []
+orderAsked reading = 1 ∷ []
+orderAsked opening = 1 ∷ 10 ∷ 19 ∷ []
+orderAsked (receiving x) = 1 ∷ 20 ∷ []
+
 abbrev pub orderOf : Call → List ℕ
 orderOf (admit a) = 4 ∷ 2 ∷ 3 ∷ []
-orderOf (evaluate id d rows) = 1 ∷ 6 ∷ 16 ∷ 5 ∷ 7 ∷ 8 ∷ 9 ∷ []
-orderOf (quote id q) = 1 ∷ 6 ∷ 10 ∷ 11 ∷ 13 ∷ []
-orderOf (move id side) = 1 ∷ 6 ∷ 10 ∷ 11 ∷ 18 ∷ 12 ∷ []
-orderOf (read id) = 1 ∷ []
-orderOf (openEvening id) = 1 ∷ 10 ∷ 19 ∷ []
-orderOf (receive id x) = 1 ∷ 20 ∷ []
+orderOf (about id x) = orderAsked x
 
 -- "Any input gets an answer. Every call refuses by a number from document 01's list, exactly when the list says so; a
 -- refused call leaves the table as it found it." Of any call, with any values, on any table at all: of no slots or of
@@ -81,7 +84,7 @@ pub record Demand1 (c : Call) (t : List Record) : Type 0 where
 
 -- every figure of the record r of a security that a admitted, with its accepted calls es since, is the one that
 -- document 01 defines from them
-pub record FiguresHold (a : Admission) (es : List Event) (r : Record) : Type 0 where
+pub record FiguresHold (a : Admission) (es : List Ask) (r : Record) : Type 0 where
   pub id : r .id ≡ a .id
   pub statics : r .statics ≡ staticsOf (a .given)
   pub standing : r .standing ≡ standingNow a (lastEvaluated es)
@@ -117,16 +120,16 @@ pub record RatesHold (st : Statics) (m : ℕ) (r : Record) : Type 0 where
 
 -- "a quote its two alerts": an alert is "near, and at least u seconds since that second"; W-210: in the evening by "its
 -- own seconds u"
-abbrev pub alertsThen : Admission → List Event → Quote → Answer
+abbrev pub alertsThen : Admission → List Ask → Quote → Answer
 alertsThen a es q =
     let u : ℕ = alertSeconds (staticsOf (a .given)) (sessionNow es) in
-    alerting (alert u (nearSince a Upper (q .term) (quotedAt q ∷ es)) (q .second))
-    (alert u (nearSince a Lower (q .term) (quotedAt q ∷ es)) (q .second))
+    alerting (alert u (nearSince a Upper (q .term) (quoting q ∷ es)) (q .second))
+    (alert u (nearSince a Lower (q .term) (quoting q ∷ es)) (q .second))
 
 -- "Each evaluation, rate, range and band is the one document 01 defines. .. For every sequence of admissions,
 -- evaluations, quotes and moves"; W-210: "over sequences that contain openings"; W-211: "these calls too". Of a
 -- security whose history in the calls that made the table t is its admission a and its accepted calls es
-pub record Demand2 (id : ℕ) (a : Admission) (es : List Event) (t : List Record) : Type 0 where
+pub record Demand2 (id : ℕ) (a : Admission) (es : List Ask) (t : List Record) : Type 0 where
   pub is-known : known t id ≡ true
   pub figures : FiguresHold a es (found t id)
   -- of the last accepted evaluation, with its m
@@ -144,7 +147,7 @@ pub record Demand2 (id : ℕ) (a : Admission) (es : List Event) (t : List Record
 -- n+1 millionths above it; at n = 0 they are equal."
 pub record Demand3 : Type 0 where
   -- of a security with the model on, in millionths: n is its accepted evaluations
-  pub share : (id : ℕ) (cs : List Call) (t : List Record) → FreshTable t → (a : Admission) (es : List Event)
+  pub share : (id : ℕ) (cs : List Call) (t : List Record) → FreshTable t → (a : Admission) (es : List Ask)
       → historyOf id cs t ≡ since a es → staticsOf (a .given) .ewma ≡ true
       → NearExact (evaluations es) (found (run cs t) id .s) (exactSquare a es)
   -- of a key maturity of the interest side, in bp: n is the accepted evenings, "each evening given the last one's

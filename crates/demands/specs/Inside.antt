@@ -15,14 +15,13 @@ use Rattle.paper.specs.Ranges.{within, gridOf, staticsOf, termAt, rateAt, bandA
 use Rattle.paper.specs.Verdicts.{NoneApplies, Exactly}
 use Rattle.paper_desk.specs.Sides.{limitOn}
 use Rattle.paper_desk.specs.ExactBand.{Banded, InExactBand, NoneOnGrid}
-use Rattle.paper_desk.specs.Desk.{evaluate, checksOf}
-use Rattle.paper_desk.specs.History.{Event, evaluatedOn}
+use Rattle.paper_desk.specs.Desk.{Ask, evaluating, evaluate, checksOf}
 use Rattle.paper_desk.specs.Sequences.{carries, movesOf}
 use Rattle.demands.specs.Demands.{answered}
 
 -- what a band is made from, by the history: the evaluation and S_1 that the accepted calls es carry on from the
 -- admission a, the accepted moves of each side since the last evaluation, which was of the day d, and a term of it
-abbrev pub bandedNow : Admission → List Event → Day → (term : ℕ) → Banded
+abbrev pub bandedNow : Admission → List Ask → Day → (term : ℕ) → Banded
 bandedNow a es d k =
     record {
       statics = staticsOf (a .given);
@@ -36,7 +35,7 @@ bandedNow a es d k =
 -- limit down and the lower limit up": of the record r of a security that a admitted, whose accepted calls since are es,
 -- the last evaluation among them of the day d. A move takes its side of the exact band outward, and each band lies in
 -- the exact band of the moves that were made
-pub record BandsInside (a : Admission) (es : List Event) (d : Day) (r : Record) : Type 0 where
+pub record BandsInside (a : Admission) (es : List Ask) (d : Day) (r : Record) : Type 0 where
   pub on-grid : (k : ℕ) → k < 3 → (side : Side)
       → limitOn side (bandAt r k) % gridOf (staticsOf (a .given) .lot) ≡ 0
   -- either limit lies in the exact band: not below its lower limit, and not above its upper one
@@ -48,8 +47,8 @@ pub record BandsInside (a : Admission) (es : List Event) (d : Day) (r : Record) 
 -- "A band narrower than a grid step may now cross and answers 9": the next evaluation of such a security, on the table
 -- t that the calls made. It is refused 9 exactly where none of the six numbers before 9 applies, and in some term no
 -- multiple of the grid lies in the exact band that this evaluation gives, with no move since it
-pub record NineExactly (id : ℕ) (a : Admission) (es : List Event) (t : List Record) : Type 0 where
+pub record NineExactly (id : ℕ) (a : Admission) (es : List Ask) (t : List Record) : Type 0 where
   pub nine : (d : Day) (rows : List ℤ)
       → Exactly (answered (evaluate id d rows) t ≡ BandCrossed)
       (NoneApplies (take 6 (checksOf (evaluate id d rows) t))
-      × (k : ℕ) × (k < 3) × NoneOnGrid (bandedNow a (evaluatedOn d rows ∷ es) d k))
+      × (k : ℕ) × (k < 3) × NoneOnGrid (bandedNow a (evaluating d rows ∷ es) d k))

@@ -19,7 +19,7 @@ use Rattle.paper_desk.specs.Limits.{limitOf, deltaOf, oneMore, rangeMoved}
 use Rattle.paper.specs.Verdicts.{isDone, firstOf}
 use Rattle.paper_desk.specs.Evening.{moveAllowed, sessionMoved}
 use Rattle.paper_desk.specs.Desk.{move, read, noMoves, saying, showing, moved, place, stands, found, known, checksOf}
-use Rattle.paper_desk.specs.Desk.{moveChecks, readChecks, judged, acceptedOf, step}
+use Rattle.paper_desk.specs.Desk.{judged, acceptedOf, step}
 use Rattle.paper.specs.PinnedValues.{givenWith}
 use Rattle.paper_desk.specs.Kept.{everySlot}
 
@@ -51,7 +51,7 @@ pub sound-not-kept : (everySlot sound (farOut ∷ []) ≡ true) × (step (move 7
     × (step (read 7) (step (move 7 0) (farOut ∷ []) .table) .answer .verdict ≡ NoSuchId)
 unfolding farOut everySlot every sound givenWith staticsOf validStatics lastDay isGridPrice isPrice gridOf
     tentativeTop validTentative isRate validLimits isLimit validTerm validNearSeconds validNear validSession
-    validExternal step judged firstOf isDone checksOf moveChecks readChecks known stands place found validSlots
+    validExternal step judged firstOf isDone checksOf known stands place found validSlots
     validSide isLive sideOf moveAllowed acceptedOf moved sessionMoved oneMore rangeMoved deltaOf limitOf toGrid
     halfUp up saying showing
 sound-not-kept = (refl, refl, refl, refl)

@@ -1,12 +1,11 @@
 -- W-209: where a limit that is rounded inward stands; an accepted evaluation writes no band that is crossed; and a move
 -- never takes its side inward, so that a moved band crosses only if it was crossed before.
-use mathlib.Core.Path.{_≡_, refl}
+use mathlib.Core.Path.{_≡_}
 use mathlib.Core.Bool.{Bool, true, false, not}
 use mathlib.Core.List.{List}
 use Prim.Native.Nat.{ℕ, _+_, _-_, _*_, _≤_, _<_}
 use native.Mathlib.Nat.{le-trans, mul-pos, mul-le-mul-left, mul-le-mul-right}
 use native.Mathlib.Omega.{arith}
-use lib.Dec.{leb}
 use lib.IntN.{ℤ}
 use lib.ListN.{getD}
 use borrow.Author.Tests.{ltb-false, le-ltb}
@@ -17,19 +16,18 @@ use Rattle.paper.specs.declared.BondScale.{BondScale}
 use Rattle.paper.specs.declared.Way.{Way}
 use Rattle.paper.specs.declared.Way.the-variants.{Down, Up}
 use Rattle.paper.specs.declared.Moves.{Moves}
-use Rattle.paper.specs.declared.Limits.{Limits}
 use Rattle.paper.specs.declared.Term.{Term}
 use Rattle.paper.specs.declared.Record.{Record}
 use Rattle.paper.specs.declared.Day.{Day}
 use Rattle.paper.specs.Lists.{pick}
 use Rattle.paper.specs.Numbers.{oneInBp, oneInHundredths, yearInDayBp, oneInPerCentHundredths}
-use Rattle.paper.specs.Roundings.{Quotient, roundedTo, KeepsOrder, lesserOf, greaterOf, grown}
+use Rattle.paper.specs.Roundings.{Quotient, grown}
 use Rattle.paper.specs.Ranges.{gridOf, noLimits}
 use Rattle.paper.specs.Verdicts.{NoneApplies, none, also}
-use Rattle.paper_desk.specs.Limits.{share, limitOf, inward, Inside, grownPrice, bondLimitOf, shifted, farthest}
-use Rattle.paper_desk.specs.Limits.{spread, monitored, narrower, narrowerOf, bandLimit, bandOf}
-use Rattle.paper_desk.specs.Limits.{crossed, oneMore, LimitStatics, Outward}
-use Rattle.paper_desk.specs.Desk.{evaluated, evaluateChecks}
+use Rattle.paper_desk.specs.Limits.{share, limitOf, inward, Inside, grownPrice, bondLimitOf, farthest, spread}
+use Rattle.paper_desk.specs.Limits.{monitored, narrower, narrowerOf, bandLimit, bandOf, crossed, oneMore}
+use Rattle.paper_desk.specs.Limits.{LimitStatics, Outward}
+use Rattle.paper_desk.specs.Desk.{evaluated, evaluatingChecks}
 use Rattle.paper.proofs.Logic.{each-of-three, not-true, not-false}
 use Rattle.paper.proofs.Roundings.{down-not-above, up-not-below}
 use Rattle.paper_desk.proofs.KindLaws.{bond-limit-is, limit-monotone, narrower-rounded, farthest-positive}
@@ -56,11 +54,9 @@ bond-inside Lower b x f = rw (bond-limit-is Up b x f) (up-not-below _ (b .face) 
 -- ---- 9
 
 -- 9 does not apply to an accepted evaluation, so that no band of its three terms is crossed
-pub evaluated-uncrossed : (there : Bool) (r : Record) (d : Day) (rows : List ℤ)
-    → NoneApplies (evaluateChecks there r d rows)
+pub evaluated-uncrossed : (r : Record) (d : Day) (rows : List ℤ) → NoneApplies (evaluatingChecks r d rows)
     → (k : ℕ) → k < 3 → crossed (getD (evaluated r d rows .bands) k noLimits) ≡ false
-unfolding evaluateChecks
-evaluated-uncrossed there r d rows (also n (also v (also x (also y (also p (also m (also c none))))))) k l =
+evaluated-uncrossed r d rows (also v (also x (also y (also p (also m (also c none)))))) k l =
     not-true _ (each-of-three (λ k. not (crossed (getD (evaluated r d rows .bands) k noLimits))) (not-false _ c) k l)
 
 -- ---- a move takes its side outward

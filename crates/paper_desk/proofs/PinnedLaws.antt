@@ -404,12 +404,12 @@ refused-zero c t e =
 
 -- a record that is shown is the one made
 shown : (k : Reply) (r made : Record) → showsRecord k ≡ true → made ≡ replyOn k r made .rec
-unfolding replyOn showing
+unfolding showing
 shown theRecord r made s = refl
 shown (theAlerts q) r made s = absurd (not-true-and-false false s refl)
 
 unshown : (k : Reply) (r made : Record) → showsRecord k ≡ false → replyOn k r made .rec ≡ blank
-unfolding replyOn alertsOn alerting
+unfolding alertsOn alerting
 unshown theRecord r made s = absurd (not-true-and-false true refl s)
 unshown (theAlerts q) r made s = refl
 

@@ -90,6 +90,6 @@ rule-holds (receiving x) =
 
 -- what is accepted answers 0
 pub reply-done : (k : Reply) (r made : Record) → replyOn k r made .verdict ≡ Done
-unfolding replyOn showing alertsOn alerting
+unfolding showing alertsOn alerting
 reply-done theRecord r made = refl
 reply-done (theAlerts q) r made = refl

@@ -362,7 +362,7 @@ pub data Reply : Type 0 where
   theRecord : Reply
   theAlerts : Quote → Reply
 
-unfoldable pub replyOn : Reply → (before after : Record) → Answer
+abbrev pub replyOn : Reply → (before after : Record) → Answer
 replyOn theRecord r made = showing made
 replyOn (theAlerts q) r made = alertsOn r q
 

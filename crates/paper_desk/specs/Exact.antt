@@ -53,7 +53,7 @@ pub data CarriedOn : (n s : ℕ) → Quotient → Type 0 where
 
 -- the exact square after one ask more, from the square x before it, what was carried before it and the evaluation p after
 -- it: what is no evaluation carries nothing on
-unfoldable pub squareThen : Admission → Option (Day × List ℤ) → (x : Quotient) → (before : Carries) → (p : ℕ) → Quotient
+abbrev pub squareThen : Admission → Option (Day × List ℤ) → (x : Quotient) → (before : Carries) → (p : ℕ) → Quotient
 squareThen a none x before p = x
 squareThen a (some (d, rows)) x before p =
     nextSquare (a .given .q) x (exactMove p (before .p1) (before .p2))

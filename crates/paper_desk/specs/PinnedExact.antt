@@ -9,7 +9,7 @@ use Rattle.paper.specs.declared.Admission.{Admission}
 use Rattle.paper.specs.Roundings.{Quotient}
 use Rattle.paper_desk.specs.Desk.{Ask, evaluating, quoting, moving, reading, opening}
 use Rattle.paper_desk.specs.Sequences.{carries, carriesFirst, carriesNext, externalNow}
-use Rattle.paper_desk.specs.Exact.{exactMove, nextSquare, choiceOf, squareThen, exactSquare}
+use Rattle.paper_desk.specs.Exact.{exactMove, nextSquare, choiceOf, exactSquare}
 use Rattle.paper.specs.PinnedValues.{_but_, hAt, liqAt, minimaAt, p1At, sAt, tentativeAt, admissionFrom, dayFrom}
 use Rattle.paper.specs.PinnedValues.{quoteFrom, closedAt, zNumbers}
 use Rattle.paper_desk.specs.PinnedSequence.{numbers}
@@ -61,7 +61,7 @@ dayAfter = closing 5 0 3000400 ∷ replacedDay
 
 pub exact-squares : List (List ℕ)
 unfolding numbers security oneDay twoDays threeDays dayAtLine replacedDay dayAfter partsOf exactMove nextSquare
-    choiceOf squareThen exactSquare carries carriesFirst carriesNext externalNow
+    choiceOf exactSquare carries carriesFirst carriesNext externalNow
 exact-squares =
     -- the move as it is, up and down; by P2 and by P1: in thirds of a millionth
     partsOf 3 (exactMove 3000010 3000000 3000000)

@@ -37,7 +37,7 @@ use Rattle.paper_desk.specs.Evening.{isEvening, alertSeconds, moveAllowe
 use Rattle.paper_desk.specs.Desk.{blank, saying, showing, alerting, admitted, usedBy, priceOn, moveOn, figuresOn}
 use Rattle.paper_desk.specs.Desk.{evaluated, nearOn, quoted, alertsOn, moved, eveningOpened, received, place}
 use Rattle.paper_desk.specs.Desk.{stands, found, known, Call, admit, evaluate, quote, move, read, openEvening}
-use Rattle.paper_desk.specs.Desk.{receive, admitChecks, replyOn, checksOf, Outcome, judged, acceptedOf, step, run}
+use Rattle.paper_desk.specs.Desk.{receive, admitChecks, checksOf, Outcome, judged, acceptedOf, step, run}
 use Rattle.paper_desk.specs.Desk.{fresh}
 use Rattle.paper.specs.PinnedValues.{_but_, rowBidAt, rowAskAt, pchmaxAt, monitoringAt, ewmaAt, idAt, sAt, aupAt}
 use Rattle.paper.specs.PinnedValues.{adownAt, admissionFrom, dayFrom, quoteFrom, closedAt, zNumbers, recordFrom}
@@ -57,7 +57,7 @@ unfolding unsigned isPrice priceMade isRate gridOf isGridPrice validStatics stat
     saying showing alerting admitted usedBy priceOn moveOn figuresOn evaluated nearOn quoted isNan toBits significand
     exactValue isAboveZero unitsOf priceOfBits priceOf hasNone isBad unitsMade keptAfter isEvening alertSeconds
     moveAllowed sessionMoved alertsOn moved eveningOpened received place stands found known admitChecks
-    replyOn checksOf judged acceptedOf step run
+    checksOf judged acceptedOf step run
     every some those up down halfUp toGrid lesserOf greaterOf grown apart first least leastRoot leastTimes
     leastMultiple
 answers [] t = []

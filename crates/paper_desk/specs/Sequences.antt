@@ -163,7 +163,7 @@ unfoldable pub nearIn : Admission → List Ask → Side → Quote → Bool
 nearIn a es side q = isNear side (a .given .w) (bandNow a es (lastEvaluated es) (q .term)) (quotedPrice side q)
 
 -- a quote of the term goes on with a side's near seconds in it, or breaks them off. "One quote touches one term only."
-unfoldable pub secondsThen : Admission → List Ask → Side → (term : ℕ) → Option Quote → (seconds : List ℕ) → List ℕ
+abbrev pub secondsThen : Admission → List Ask → Side → (term : ℕ) → Option Quote → (seconds : List ℕ) → List ℕ
 secondsThen a xs side k none seconds = seconds
 secondsThen a xs side k (some q) seconds =
     pick (eqb (q .term) k) (pick (nearIn a xs side q) (q .second ∷ seconds) []) seconds
