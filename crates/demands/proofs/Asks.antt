@@ -2,17 +2,23 @@
 use mathlib.Core.Path.{_≡_, refl, _∙_}
 use mathlib.Core.Bool.{Bool, true}
 use mathlib.Core.List.{List, _∷_, map}
+use mathlib.Core.Option.{Option, none, some}
 use lib.ListN.{length, length-set}
 use Rattle.paper.specs.declared.Record.{Record}
 use Rattle.paper.specs.declared.Admission.{Admission}
 use Rattle.paper.specs.Verdicts.{numberOf, Check, NoneApplies}
 use Rattle.paper_desk.specs.Kept.{good}
+use Rattle.paper_desk.specs.Sides.{showsRecord}
 use Rattle.paper_desk.specs.Desk.{Ask, evaluating, quoting, moving, reading, opening, receiving, nearOn, evaluated}
 use Rattle.paper_desk.specs.Desk.{quoted, moved, eveningOpened, received, ruleOf, checksOn}
 use Rattle.demands.specs.Demands.{orderAsked, FiguresHold}
 use Rattle.demands.proofs.Good.{evaluated-good, quoted-good, moved-good, opened-good, received-good}
 use Rattle.demands.proofs.Sequences.{evaluated-figures, accepted-term-below-three, quoted-figures, move-live}
 use Rattle.demands.proofs.Sequences.{moved-figures, read-figures, opened-figures, received-figures}
+
+abbrev pub WhereAny : {A : Type 0} → Option A → Type 0 → Type 0
+WhereAny none holds = Unit {0}
+WhereAny (some a) holds = holds
 
 pub record AskHolds (x : Ask) : Type 0 where
   -- its checks have the numbers of demand 1, in that order
@@ -24,6 +30,9 @@ pub record AskHolds (x : Ask) : Type 0 where
       → NoneApplies (ruleOf x .checks r) → FiguresHold a (x ∷ es) (ruleOf x .made r)
   -- with near seconds for three terms
   pub three-near : (r : Record) → length (r .near) ≡ 3 → length (ruleOf x .made r .near) ≡ 3
+  -- members get messages (W-212) of an evaluation and of a move, which show their records
+  pub evaluation-shows : WhereAny (ruleOf x .evaluates) (showsRecord (ruleOf x .reply) ≡ true)
+  pub move-shows : WhereAny (ruleOf x .moves) (showsRecord (ruleOf x .reply) ≡ true)
 
 pub ask-holds : (x : Ask) → AskHolds x
 unfolding evaluated quoted moved eveningOpened received
@@ -33,6 +42,8 @@ ask-holds (evaluating d rows) =
       good = λ r v n. evaluated-good r d rows v n;
       figures = λ a es r k near n. evaluated-figures a es r k d rows;
       three-near = λ r near. refl;
+      evaluation-shows = refl;
+      move-shows = tt;
     }
 ask-holds (quoting q) =
     record {
@@ -40,6 +51,8 @@ ask-holds (quoting q) =
       good = λ r v n. quoted-good r q v n;
       figures = λ a es r k near n. quoted-figures a es r q k (accepted-term-below-three r q n) near;
       three-near = λ r near. length-set (r .near) (q .term) (nearOn r q) ∙ near;
+      evaluation-shows = tt;
+      move-shows = tt;
     }
 ask-holds (moving side) =
     record {
@@ -47,6 +60,8 @@ ask-holds (moving side) =
       good = λ r v n. moved-good r side v n;
       figures = λ a es r k near n. moved-figures a es r side k (move-live r side n);
       three-near = λ r near. refl;
+      evaluation-shows = tt;
+      move-shows = refl;
     }
 ask-holds reading =
     record {
@@ -54,6 +69,8 @@ ask-holds reading =
       good = λ r v n. v;
       figures = λ a es r k near n. read-figures a es r k;
       three-near = λ r near. near;
+      evaluation-shows = tt;
+      move-shows = tt;
     }
 ask-holds opening =
     record {
@@ -61,6 +78,8 @@ ask-holds opening =
       good = λ r v n. opened-good r v;
       figures = λ a es r k near n. opened-figures a es r k;
       three-near = λ r near. refl;
+      evaluation-shows = tt;
+      move-shows = tt;
     }
 ask-holds (receiving x) =
     record {
@@ -68,4 +87,6 @@ ask-holds (receiving x) =
       good = λ r v n. received-good r x v;
       figures = λ a es r k near n. received-figures a es r x k;
       three-near = λ r near. near;
+      evaluation-shows = tt;
+      move-shows = tt;
     }

@@ -4,6 +4,7 @@
 use mathlib.Core.Path.{_≡_, refl, sym, _∙_, ap, subst}
 use mathlib.Core.Bool.{true, false}
 use mathlib.Core.List.{List, [], _∷_, _++_}
+use mathlib.Core.Option.{Option, none, some}
 use Prim.Native.Nat.{ℕ}
 use lib.IntN.{ℤ}
 use Rattle.paper.specs.declared.Record.{Record}
@@ -13,8 +14,7 @@ use Rattle.paper.specs.Lists.{every}
 use Rattle.paper.specs.Ranges.{isLive}
 use Rattle.paper.specs.Verdicts.{isDone}
 use Rattle.paper_desk.specs.Sides.{shows}
-use Rattle.paper_desk.specs.Desk.{Call, admit, evaluate, quote, move, read, openEvening, receive, idOf, place, found}
-use Rattle.paper_desk.specs.Desk.{known, step}
+use Rattle.paper_desk.specs.Desk.{Call, admit, about, evaluate, idOf, place, found, known, ruleOf, step}
 use Rattle.paper_desk.specs.History.{isAdmission}
 use Rattle.paper_messages.specs.declared.Message.{Message}
 use Rattle.paper_messages.specs.Messages.{encode, valid}
@@ -25,11 +25,12 @@ use Rattle.text_protocol.specs.Calls.{Deed, call}
 use Rattle.text_evening.specs.declared.Telling.{Telling}
 use Rattle.text_evening.specs.declared.Telling.the-variants.{Answers, Reasons, Messages}
 use Rattle.paper_messages.specs.Broadcast.{messagesOf, sent, allSent, broadcastOf}
-use Rattle.text_evening.specs.Evening.{Evening, startEvening, tableAfter, answerTo, reasonTo, callTold, textOf, askedBy}
-use Rattle.text_evening.specs.Evening.{after, answer}
+use Rattle.text_evening.specs.Evening.{Evening, startEvening, tableAfter, answerTo, reasonOn, reasonTo, callTold}
+use Rattle.text_evening.specs.Evening.{textOf, askedBy, after, answer}
 use Rattle.demands_evening.specs.Holds.{ownTable, eveningBehind, tableBehind, callsBehind, encodings}
 use Rattle.demands_evening.specs.Holds.{HistoryHolds, RecordHolds, LineHolds}
 use Rattle.paper.proofs.Logic.{and-left, and-right, pick-true, pick-false}
+use Rattle.paper_desk.proofs.Rules.{OnlyEvaluation, rule-holds}
 use Rattle.paper_desk.proofs.Refusals.{accepted-only}
 use Rattle.paper_desk.proofs.PinnedLaws.{shown-stands}
 use Rattle.demands.proofs.Kept.{call-knows}
@@ -54,12 +55,12 @@ reasons-are-answers : (c : Call) (t : List Record)
     → ((id : ℕ) (d : Day) (rows : List ℤ) → c ≡ evaluate id d rows → ⊥) → reasonTo c t ≡ answerTo c t
 unfolding reasonTo
 reasons-are-answers (admit a) t other = refl
-reasons-are-answers (evaluate id d rows) t other = absurd (other id d rows refl)
-reasons-are-answers (quote id q) t other = refl
-reasons-are-answers (move id side) t other = refl
-reasons-are-answers (read id) t other = refl
-reasons-are-answers (openEvening id) t other = refl
-reasons-are-answers (receive id x) t other = refl
+reasons-are-answers (about id x) t other = go (ruleOf x .evaluates) refl
+  where
+    go : (o : Option (Day × List ℤ)) → ruleOf x .evaluates ≡ o → reasonOn id x o t ≡ answerTo (about id x) t
+    go none e = refl
+    go (some (d, rows)) e =
+        absurd (other id d rows (ap (about id) (subst (OnlyEvaluation x) e (rule-holds x .evaluation))))
 
 module _ (before : List (List ℕ)) (l : List ℕ) (c : Call) (asked : askedBy l (eveningBehind before) ≡ call c) where
   -- the table before the line, and the lines with it

@@ -11,8 +11,8 @@ use Rattle.paper.specs.declared.Admission.{Admission}
 use Rattle.paper.specs.Lists.{every}
 use Rattle.paper.specs.Numbers.{slotsMost}
 use Rattle.paper.specs.Ranges.{validSlots}
-use Rattle.paper_desk.specs.Desk.{blank, known, run, fresh}
-use Rattle.paper_desk.specs.History.{FreshTable, Event, History, unknown, since, wasAdmitted}
+use Rattle.paper_desk.specs.Desk.{Ask, blank, known, run, fresh}
+use Rattle.paper_desk.specs.History.{FreshTable, History, unknown, since, wasAdmitted}
 use Rattle.demands.specs.Demands.{Demand2}
 use Rattle.text_evening.specs.Evening.{startEvening}
 use Rattle.demands_evening.specs.Holds.{ownTable, tableBehind, callsBehind, historyBehind, HistoryHolds}
@@ -42,12 +42,12 @@ own-table-fresh =
 pub table-made : (ls : List (List ℕ)) → tableBehind ls ≡ run (callsBehind ls) ownTable
 table-made ls = lines-run ls (startEvening ownTable)
 
-pub demand-2-behind : (ls : List (List ℕ)) (id : ℕ) (a : Admission) (es : List Event)
+pub demand-2-behind : (ls : List (List ℕ)) (id : ℕ) (a : Admission) (es : List Ask)
     → historyBehind ls id ≡ since a es → Demand2 id a es (tableBehind ls)
 demand-2-behind ls id a es e = rw (table-made ls) (demand-2 id (callsBehind ls) ownTable own-table-fresh a es e)
 
 -- an id that is known was admitted by one of the lines
-admitted-since : (h : History) → wasAdmitted h ≡ true → (a : Admission) × (es : List Event) × (h ≡ since a es)
+admitted-since : (h : History) → wasAdmitted h ≡ true → (a : Admission) × (es : List Ask) × (h ≡ since a es)
 unfolding wasAdmitted
 admitted-since unknown e = absurd (not-true-and-false false e refl)
 admitted-since (since a es) e = (a, es, refl)

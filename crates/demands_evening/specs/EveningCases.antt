@@ -6,13 +6,12 @@ use mathlib.Core.List.{List, [], _∷_, _++_, map}
 use Prim.Native.Nat.{ℕ}
 use Prim.Native.String.{String}
 use lib.IntN.{pos, negsuc}
-use Rattle.paper.specs.declared.Side.the-variants.{Upper}
 use Rattle.paper.specs.declared.Verdict.the-variants.{Done}
 use Rattle.paper.specs.Ranges.{unsigned, givenOf, isLive, noTerm}
 use Rattle.paper.specs.PinnedValues.{_but_, ewmaAt, zStatics}
 use Rattle.paper.specs.Terms.{repoOf, dayOf, termOf as dayTerm}
-use Rattle.paper_desk.specs.Desk.{move, read, found}
-use Rattle.paper_desk.specs.History.{evaluatedOn, movedBy, since, longer, counts, noted, history}
+use Rattle.paper_desk.specs.Desk.{evaluating, moving, reading, move, read, found}
+use Rattle.paper_desk.specs.History.{since, longer, counts, noted, history}
 use Rattle.paper_desk.specs.PinnedSequence.{answers}
 use Rattle.text_bytes.specs.Bytes.{isBlank, isNot, run, grow, pieces, full, words, same, bytes}
 use Rattle.text_bytes.specs.Numbers.{isDigit, sizeFrom, sizeOf, upTo, above, below, numberOf, slashAt}
@@ -79,8 +78,9 @@ pub short-holds : (historyBehind short 7
       tentative = 600;
       given = givenOf (zStatics but (ewmaAt, pos 0));
     })
-    (movedBy Upper
-    ∷ evaluatedOn (record {
+    (reading
+    ∷ moving 0
+    ∷ evaluating (record {
       day = 4;
       b = 0;
       m = 0;

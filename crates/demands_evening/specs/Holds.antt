@@ -15,8 +15,8 @@ use Rattle.paper.specs.Numbers.{slotsMost}
 use Rattle.paper.specs.Ranges.{staticsOf, isLive}
 use Rattle.paper.specs.Verdicts.{isDone}
 use Rattle.paper_desk.specs.Sides.{shows}
-use Rattle.paper_desk.specs.Desk.{Call, evaluate, idOf, blank, place, found, step, run}
-use Rattle.paper_desk.specs.History.{FreshTable, Event, History, since, historyOf, isAdmission, evaluations}
+use Rattle.paper_desk.specs.Desk.{Ask, Call, evaluate, idOf, blank, place, found, step, run}
+use Rattle.paper_desk.specs.History.{FreshTable, History, since, historyOf, isAdmission, evaluations}
 use Rattle.paper_desk.specs.Sequences.{onDay, lastEvaluated}
 use Rattle.paper_desk.specs.Exact.{exactSquare, NearExact}
 use Rattle.paper_messages.specs.declared.Message.{Message}
@@ -69,7 +69,7 @@ encodings (m ∷ ms) = encode m ++ encodings ms
 -- what the next accepted call about it answers, a quote its two alerts
 pub record HistoryHolds (lines : List (List ℕ)) (id : ℕ) : Type 0 where
   pub admission : Admission
-  pub events : List Event
+  pub events : List Ask
   pub history : historyBehind lines id ≡ since admission events
   pub demand-2 : Demand2 id admission events (tableBehind lines)
 
@@ -113,20 +113,20 @@ pub record EveningHolds (got : List ℕ) (t : List Record) : Type 0 where
   -- the demands, of t and of every security that these calls admitted. Demand 3 of the interest side goes over that
   -- side's own sequences, which stand beside the table: `Demand3` has it, in its `interest`
   pub demand-1 : (c : Call) → Demand1 c t
-  pub demand-2 : (id : ℕ) (a : Admission) (es : List Event) → historyBehind (lines got) id ≡ since a es
+  pub demand-2 : (id : ℕ) (a : Admission) (es : List Ask) → historyBehind (lines got) id ≡ since a es
       → Demand2 id a es t
-  pub demand-3 : (id : ℕ) (a : Admission) (es : List Event) → historyBehind (lines got) id ≡ since a es
+  pub demand-3 : (id : ℕ) (a : Admission) (es : List Ask) → historyBehind (lines got) id ≡ since a es
       → staticsOf (a .given) .ewma ≡ true → NearExact (evaluations es) (found t id .s) (exactSquare a es)
   -- what stands beneath them: the table, the bands, and the order of every live record (W-213)
   pub table-kept : TableKept (callsBehind (lines got)) ownTable
-  pub bands-in-order : (id : ℕ) (a : Admission) (es : List Event) → historyBehind (lines got) id ≡ since a es
+  pub bands-in-order : (id : ℕ) (a : Admission) (es : List Ask) → historyBehind (lines got) id ≡ since a es
       → BandsInOrder (found t id)
   -- W-209: the bands of a live record in the exact bands of its last evaluation and the moves since, and when the next
   -- evaluation of a security is refused 9
-  pub bands-inside : (id : ℕ) (a : Admission) (es : List Event) → historyBehind (lines got) id ≡ since a es
+  pub bands-inside : (id : ℕ) (a : Admission) (es : List Ask) → historyBehind (lines got) id ≡ since a es
       → isLive (found t id .standing) ≡ true
       → (d : Day) × (lastEvaluated es ≡ onDay d) × BandsInside a es d (found t id)
-  pub nine-exactly : (id : ℕ) (a : Admission) (es : List Event) → historyBehind (lines got) id ≡ since a es
+  pub nine-exactly : (id : ℕ) (a : Admission) (es : List Ask) → historyBehind (lines got) id ≡ since a es
       → NineExactly id a es t
   pub live-in-order : (slot : ℕ) → HoldsLive t slot → InOrder t slot (slotAt t slot)
   -- what is told of each line stands at its place in all that is told, behind what is told of the lines before it

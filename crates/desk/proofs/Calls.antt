@@ -11,9 +11,8 @@
 -- Assumes `Given`, and that the table's entries meet the contracts.
 --
 -- HOW TO ADD A CALL, as `pub fn further(t: &mut [Record], id: u64, q: Q) -> Answer`:
--- 1. Prove its rule in `record_calls`: `fn rule(s: Slot, q: Q) -> Effect` ensures that the effect is `furtherEffect s
---    q`. Add `further-steps` to `Steps`: what the effect stores and answers is the paper's step, by `judged-done`, in a
---    line.
+-- 1. Prove its rule in `record_calls`: `fn rule(s: Slot, q: Q) -> Effect` ensures that the effect is `effectOf s` of
+--    what is asked. What that stores and answers is the paper's step (`ask-steps` of `Steps`).
 -- 2. Where the code is `let s = take(t, id); let o = rule(s, q); put(t, o.at, o.rec); o.answer`, no walk is to be
 --    written: the head of `Changing` says which proof to copy, and what to change in it. A call that leaves the table
 --    is a case of `Telling`: copy read/Proof.antt.

@@ -19,8 +19,7 @@
 --     the call     its name, in the last four `use` lines and in `…-spec`
 --     the rule     `rule-def`, `rule-thm`, and `code.calls-…`, which names the rule's crate and function
 --     the value    its type and laws, of `Plain`, where a type that no call takes yet gets these two definitions
---     the step     the effect (`Effects` of `record_answers`), the paper's call (`Desk`), and the law of `Steps`, where
---                  each call has one, that the effect is the call's step
+--     the ask      what the call asks (`Desk`): its effect (`effectOf`) is the call's step by `ask-steps` (`Steps`)
 use mathlib.Core.Path.{_≡_, sym, subst}
 use mathlib.Core.Option.{none, some}
 use Prim.Native.Nat.{ℕ, suc, _+_, _<_, _^_}

@@ -2,9 +2,9 @@
 -- value beside the id, and the day's rows, which are lent as `&` and passed on to the rule:
 --     fn call(t: &mut [Record], id: u64, d: D, rows: &[i64]) -> Answer
 --     ended, clauses    its signature, and what it promises.        Rule    the rule's contract
---     meets             it meets its contract, where the rule's effect is the call's step
+--     meets             it meets its contract, where the rule's effect is that of the ask
 -- Assumes `Given`.
-use mathlib.Core.Path.{_≡_, refl}
+use mathlib.Core.Path.{refl}
 use mathlib.Core.List.{List}
 use Prim.Native.Nat.{ℕ}
 use lib.IntN.{ℤ}
@@ -23,11 +23,8 @@ use denote.Ref.{now}
 use denote.Triple.Statement.{Contract, Triple}
 use denote.Triple.Spec.{Meets}
 use denote.Triple.Clauses.{Clauses, Ended, closing}
-use Rattle.paper.specs.declared.Record.{Record}
-use Rattle.paper_desk.specs.Desk.{Call, step}
-use Rattle.record_answers.specs.declared.Slot.{Slot}
-use Rattle.record_answers.specs.declared.Effect.{Effect}
-use Rattle.record_answers.specs.Effects.{slotOf, doneBy}
+use Rattle.paper_desk.specs.Desk.{Ask, Call, about}
+use Rattle.record_answers.specs.Effects.{effectOf}
 use Rattle.record_answers.proofs.Effect as O
 use Rattle.desk.proofs.Frame.{value}
 use Rattle.desk.proofs.Calls.{Take, Put}
@@ -35,6 +32,7 @@ use Rattle.desk.proofs.Plain.{Plain, PlainLaws}
 use Rattle.desk.proofs.Passing.{Passing, OfSlot, no-more, and-plain, and-slice}
 use Rattle.desk.proofs.Passing as Passing
 use Rattle.desk.proofs.Changing as Changing
+use Rattle.desk.proofs.Steps.{ask-steps}
 use Rattle.desk.proofs.take.Symbol.{name as #take}
 use Rattle.desk.proofs.put.Symbol.{name as #put}
 
@@ -58,12 +56,12 @@ module _ (P : Plain) (L : PlainLaws P) where
   abbrev pub clauses : (ℕ → P .D → List ℤ → Call) → {M : Type 1} (𝓤 : URA M) → Clauses 𝓤 ended
   clauses K 𝓤 = Changing.clauses taken (said K) 𝓤
 
-  module _ (F : Slot → P .D → List ℤ → Effect) (K : ℕ → P .D → List ℤ → Call)
-      (steps : (t : List Record) (id : ℕ) (d : P .D) (rows : List ℤ) → doneBy t (F (slotOf t id) d rows) ≡ step
-      (K id d rows) t)
-      (#rule : Name) {M : Type 1} (𝓤 : URA M) (H : Heap 𝓤) (A : Atoms 𝓤) where
+  module _ (ask : P .D → List ℤ → Ask) (#rule : Name) {M : Type 1} (𝓤 : URA M) (H : Heap 𝓤) (A : Atoms 𝓤) where
+    abbrev asks : ℕ → P .D → List ℤ → Call
+    asks id d rows = about id (ask d rows)
+
     abbrev effect-of : OfSlot taken O.the-row
-    effect-of κs s a = F s (a .0) (now (a .1 .0))
+    effect-of κs s a = effectOf s (ask (a .0) (now (a .1 .0)))
 
     abbrev pub Rule : Contract 𝓤
     Rule = Passing.Rule taken O.the-row effect-of 𝓤 H A
@@ -72,10 +70,10 @@ module _ (P : Plain) (L : PlainLaws P) where
         → Triple 𝓤 (𝓣 .C #take) (Take 𝓤 H A mem run) → Triple 𝓤 (𝓣 .C #rule) Rule
         → Triple 𝓤 (𝓣 .C #put) (Put 𝓤 H A mem run)
         → Meets 𝓤 H A (ended .signature) (WpFn 𝓤 H (𝓣 .C) (𝓣 .Λ) (Changing.function taken #rule))
-        (closing 𝓤 H A ended (clauses K 𝓤))
+        (closing 𝓤 H A ended (clauses asks 𝓤))
     meets W mem run 𝓣 known-take known-rule known-put =
-        Changing.meets taken effect-of (said K) (λ t κs id a. steps t id (a .0) (now (a .1 .0))) #rule 𝓤 H A W mem run
-        𝓣 known-take known-rule known-put (record {
+        Changing.meets taken effect-of (said asks) (λ t κs id a. ask-steps t id (ask (a .0) (now (a .1 .0)))) #rule 𝓤 H A W
+        mem run 𝓣 known-take known-rule known-put (record {
           stands = λ κs x id a ls r. search;
           operands = λ κs qs x id a ls w Δ. and-then ! (value ! (Changing.ℓs taken) refl) (and-then !
               (value ! ℓd refl) (and-then ! (value ! ℓrows refl) (no-operand !)));

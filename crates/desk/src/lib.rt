@@ -14,9 +14,9 @@ use record_answers::Slot;
 ghost use mathlib.Core.Path.{_≡_};
 ghost use lib.ListN.{set};
 ghost use Rattle.paper_desk.specs.External.{Told};
-ghost use Rattle.paper_desk.specs.Desk.{Call, place, step};
+ghost use Rattle.paper_desk.specs.Desk.{Ask, Call, place, step};
 ghost use Rattle.paper.specs.Terms.{dayOf};
-ghost use Rattle.record_answers.specs.Effects.{slotOf, evaluateEffect};
+ghost use Rattle.record_answers.specs.Effects.{slotOf, effectOf};
 ghost use Rattle.desk.specs.Promises.{Promised};
 
 // "id 0 marks an empty slot"
@@ -73,7 +73,7 @@ pub fn admit(t: &mut [Record], a: Admission) -> Answer
 }
 
 pub fn evaluate(t: &mut [Record], id: u64, d: Day, rows: &[i64]) -> Answer
-    ensures { λ r. ⌜ Promised (Call.evaluate id d (now (rows .entry))) (now (t .entry)) r (now (t .exit)) ⌝ }
+    ensures { λ r. ⌜ Promised (Call.about id (Ask.evaluating d (now (rows .entry)))) (now (t .entry)) r (now (t .exit)) ⌝ }
 {
     let s = take(t, id);
     let o = record_evaluation::evaluated(s, d, rows);
@@ -83,7 +83,7 @@ pub fn evaluate(t: &mut [Record], id: u64, d: Day, rows: &[i64]) -> Answer
 
 // The rule of an evaluation, on the day that is asked for.
 fn asked(s: Slot, a: AskedDay, rows: &[i64]) -> Effect
-    ensures { λ o. ⌜ o ≡ evaluateEffect s (dayOf a) (now (rows .entry)) ⌝ }
+    ensures { λ o. ⌜ o ≡ effectOf s (Ask.evaluating (dayOf a) (now (rows .entry))) ⌝ }
 {
     let d = interest_terms::day_of(a);
     record_evaluation::evaluated(s, d, rows)
@@ -91,7 +91,8 @@ fn asked(s: Slot, a: AskedDay, rows: &[i64]) -> Effect
 
 // W-201: "The security's evaluation may take these limits or given ones."
 pub fn evaluate_asked(t: &mut [Record], id: u64, a: AskedDay, rows: &[i64]) -> Answer
-    ensures { λ r. ⌜ Promised (Call.evaluate id (dayOf a) (now (rows .entry))) (now (t .entry)) r (now (t .exit)) ⌝ }
+    ensures { λ r.
+        ⌜ Promised (Call.about id (Ask.evaluating (dayOf a) (now (rows .entry)))) (now (t .entry)) r (now (t .exit)) ⌝ }
 {
     let s = take(t, id);
     let o = asked(s, a, rows);
@@ -100,7 +101,7 @@ pub fn evaluate_asked(t: &mut [Record], id: u64, a: AskedDay, rows: &[i64]) -> A
 }
 
 pub fn quote(t: &mut [Record], id: u64, q: Quote) -> Answer
-    ensures { λ r. ⌜ Promised (Call.quote id q) (now (t .entry)) r (now (t .exit)) ⌝ }
+    ensures { λ r. ⌜ Promised (Call.about id (Ask.quoting q)) (now (t .entry)) r (now (t .exit)) ⌝ }
 {
     let s = take(t, id);
     let o = record_monitoring::quoted(s, q);
@@ -110,7 +111,7 @@ pub fn quote(t: &mut [Record], id: u64, q: Quote) -> Answer
 
 // The call `move`, which is a word of the language.
 pub fn moved(t: &mut [Record], id: u64, side: u64) -> Answer
-    ensures { λ r. ⌜ Promised (Call.move id side) (now (t .entry)) r (now (t .exit)) ⌝ }
+    ensures { λ r. ⌜ Promised (Call.about id (Ask.moving side)) (now (t .entry)) r (now (t .exit)) ⌝ }
 {
     let s = take(t, id);
     let o = record_monitoring::moved(s, side);
@@ -120,7 +121,7 @@ pub fn moved(t: &mut [Record], id: u64, side: u64) -> Answer
 
 // W-210: "Opening the evening clears the near seconds and keeps c".
 pub fn open_evening(t: &mut [Record], id: u64) -> Answer
-    ensures { λ r. ⌜ Promised (Call.openEvening id) (now (t .entry)) r (now (t .exit)) ⌝ }
+    ensures { λ r. ⌜ Promised (Call.about id Ask.opening) (now (t .entry)) r (now (t .exit)) ⌝ }
 {
     let s = take(t, id);
     let o = record_calls::opened(s);
@@ -130,7 +131,7 @@ pub fn open_evening(t: &mut [Record], id: u64) -> Answer
 
 // W-211: "Both sent together replace the kept pair".
 pub fn receive(t: &mut [Record], id: u64, sent: Outside) -> Answer
-    ensures { λ r. ⌜ Promised (Call.receive id (Told.together sent)) (now (t .entry)) r (now (t .exit)) ⌝ }
+    ensures { λ r. ⌜ Promised (Call.about id (Ask.receiving (Told.together sent))) (now (t .entry)) r (now (t .exit)) ⌝ }
 {
     let s = take(t, id);
     let o = record_calls::received(s, sent);
@@ -140,7 +141,7 @@ pub fn receive(t: &mut [Record], id: u64, sent: Outside) -> Answer
 
 // W-211: "a notice changes one side, a withdrawal clears both".
 pub fn notify(t: &mut [Record], id: u64, n: Notice) -> Answer
-    ensures { λ r. ⌜ Promised (Call.receive id (Told.notice n)) (now (t .entry)) r (now (t .exit)) ⌝ }
+    ensures { λ r. ⌜ Promised (Call.about id (Ask.receiving (Told.notice n))) (now (t .entry)) r (now (t .exit)) ⌝ }
 {
     let s = take(t, id);
     let o = record_calls::notified(s, n);
@@ -150,7 +151,7 @@ pub fn notify(t: &mut [Record], id: u64, n: Notice) -> Answer
 
 // A read leaves the table: it is lent as `&`.
 pub fn read(t: &[Record], id: u64) -> Answer
-    ensures { λ r. ⌜ r ≡ step (Call.read id) (now (t .entry)) .answer ⌝ }
+    ensures { λ r. ⌜ r ≡ step (Call.about id Ask.reading) (now (t .entry)) .answer ⌝ }
 {
     let s = take(t, id);
     record_calls::read(s)

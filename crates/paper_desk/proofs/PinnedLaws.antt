@@ -413,6 +413,12 @@ unfolding alertsOn alerting
 unshown theRecord r made s = absurd (not-true-and-false true refl s)
 unshown (theAlerts q) r made s = refl
 
+-- of the seven calls all but an admission and a quote show a record
+pub five-calls-show : (a : Admission) (id : ℕ) (d : Day) (rows : List ℤ) (q : Quote) (side : ℕ) (x : Told)
+    → map shows (admit a ∷ evaluate id d rows ∷ quote id q ∷ move id side ∷ read id ∷ openEvening id ∷ receive id x ∷ [])
+    ≡ false ∷ true ∷ false ∷ true ∷ true ∷ true ∷ true ∷ []
+five-calls-show a id d rows q side x = refl
+
 -- "Accepted evaluations, moves and reads return the record as it then stands"
 pub shown-stands : (c : Call) (t : List Record) → shows c ≡ true → isDone (step c t .answer .verdict) ≡ true
     → found (step c t .table) (idOf c) ≡ step c t .answer .rec

@@ -19,7 +19,8 @@ use Rattle.paper.specs.Verdicts.{FirstAt, NoneApplies, Exactly}
 use Rattle.paper_desk.specs.Evaluation.{dayRows}
 use Rattle.paper_desk.specs.Rates.{modelOf, modelled, unmodelled, figuresOf, tentativeRateOf, tentativeAfter}
 use Rattle.paper_desk.specs.Rates.{minimumOf, levelRate}
-use Rattle.paper_desk.specs.Desk.{usedBy, priceOn, moveOn, figuresOn, evaluated, evaluate, checksOf, step}
+use Rattle.paper_desk.specs.Desk.{usedBy, priceOn, moveOn, figuresOn, evaluated, evaluate, evaluateChecks, checksOf}
+use Rattle.paper_desk.specs.Desk.{step}
 use Rattle.paper.proofs.Logic.{pick-true, pick-false}
 use Rattle.paper_desk.proofs.Refusals.{verdict-first, named-is-first-or-otherwise, first-is-named, none-named}
 use Rattle.paper_desk.proofs.PinnedLaws.{three-gives-each}
@@ -37,7 +38,7 @@ use Rattle.paper_reasons.proofs.Figures.{level-unmodelled}
 -- THE NUMBER is that which `evaluate` answers
 pub number-agrees : (t : List Record) (id : ℕ) (d : Day) (rows : List ℤ)
     → whyOn t id d rows .verdict ≡ step (evaluate id d rows) t .answer .verdict
-unfolding whyOn whyOf checksOf
+unfolding whyOn whyOf checksOf evaluateChecks
 number-agrees t id d rows = sym (verdict-first (evaluate id d rows) t)
 
 -- THE FAULT is named exactly where it is the first row, else term, at fault; and none where none is

@@ -1,25 +1,21 @@
 -- What a call makes of the slot that it found: where to store, what, and what to answer. Each is `step` of the paper on
 -- one slot (proofs/Steps).
-use mathlib.Core.Bool.{Bool, true, false, not, _&&_}
+use mathlib.Core.Bool.{Bool, not, _&&_}
 use mathlib.Core.List.{List, [], _∷_}
 use Prim.Native.Nat.{ℕ}
 use lib.Dec.{ltb}
-use lib.ListN.{length, getD, set}
+use lib.ListN.{length, set}
 use lib.IntN.{ℤ}
 use Rattle.paper.specs.declared.Record.{Record}
 use Rattle.paper.specs.declared.Admission.{Admission}
 use Rattle.paper.specs.declared.Day.{Day}
-use Rattle.paper.specs.declared.Quote.{Quote}
-use Rattle.paper.specs.declared.Answer.{Answer}
 use Rattle.paper.specs.declared.Verdict.{Verdict}
-use Rattle.paper.specs.declared.Verdict.the-variants.{Done, NoSuchId, AlreadyAdmitted, NoEmptySlot, AdmissionOutOfRange}
+use Rattle.paper.specs.declared.Verdict.the-variants.{Done, AlreadyAdmitted, NoEmptySlot, AdmissionOutOfRange}
 use Rattle.paper.specs.Lists.{pick}
-use Rattle.paper.specs.Ranges.{validSlots, validAdmission, sound, sideOf}
+use Rattle.paper.specs.Ranges.{validSlots, validAdmission, sound}
 use Rattle.paper.specs.Verdicts.{isDone, Check, firstOf}
-use Rattle.paper_desk.specs.External.{Told}
-use Rattle.paper_desk.specs.Desk.{blank, saying, showing, admitted, evaluated, quoted, alertsOn, moved, eveningOpened}
-use Rattle.paper_desk.specs.Desk.{received, place, found, Outcome, evaluateChecks, quoteChecks, moveChecks, readChecks}
-use Rattle.paper_desk.specs.Desk.{openChecks, receiveChecks}
+use Rattle.paper_desk.specs.Desk.{blank, saying, admitted, place, found, Ask, evaluating, replyOn, ruleOf, checksOn}
+use Rattle.paper_desk.specs.Desk.{Outcome}
 use Rattle.record_answers.specs.declared.Slot.{Slot}
 use Rattle.record_answers.specs.declared.Effect.{Effect}
 
@@ -54,34 +50,15 @@ admitEffect s e a =
     judgedEffect (s .count) (firstOf (admitChecksOf s e a))
     (record { at = e .at; rec = admitted a; answer = saying Done })
 
-unfoldable pub evaluateEffect : Slot → Day → (rows : List ℤ) → Effect
-evaluateEffect s d rows =
-    judgedEffect (s .count) (firstOf (evaluateChecks (isKnown s) (s .rec) d rows))
-    (record { at = s .at; rec = evaluated (s .rec) d rows; answer = showing (evaluated (s .rec) d rows) })
+-- of what is asked about the id of the slot
+unfoldable pub effectOf : Slot → Ask → Effect
+effectOf s x =
+    let made : Record = ruleOf x .made (s .rec) in
+    judgedEffect (s .count) (firstOf (checksOn (isKnown s) (s .rec) x))
+    (record { at = s .at; rec = made; answer = replyOn (ruleOf x .reply) (s .rec) made })
 
-unfoldable pub quoteEffect : Slot → Quote → Effect
-quoteEffect s q =
-    judgedEffect (s .count) (firstOf (quoteChecks (isKnown s) (s .rec) q))
-    (record { at = s .at; rec = quoted (s .rec) q; answer = alertsOn (s .rec) q })
-
-unfoldable pub moveEffect : Slot → (side : ℕ) → Effect
-moveEffect s side =
-    judgedEffect (s .count) (firstOf (moveChecks (isKnown s) (s .rec) side))
-    (record { at = s .at; rec = moved (s .rec) (sideOf side); answer = showing (moved (s .rec) (sideOf side)) })
-
-unfoldable pub openEffect : Slot → Effect
-openEffect s =
-    judgedEffect (s .count) (firstOf (openChecks (isKnown s) (s .rec)))
-    (record { at = s .at; rec = eveningOpened (s .rec); answer = showing (eveningOpened (s .rec)) })
-
-unfoldable pub receiveEffect : Slot → Told → Effect
-receiveEffect s x =
-    judgedEffect (s .count) (firstOf (receiveChecks (isKnown s) x))
-    (record { at = s .at; rec = received (s .rec) x; answer = showing (received (s .rec) x) })
-
-unfoldable pub readAnswer : Slot → Answer
-readAnswer s = pick (isDone (firstOf (readChecks (isKnown s)))) (showing (s .rec))
-    (saying (firstOf (readChecks (isKnown s))))
+abbrev pub evaluateEffect : Slot → Day → (rows : List ℤ) → Effect
+evaluateEffect s d rows = effectOf s (evaluating d rows)
 
 -- the table after an effect, and its answer
 unfoldable pub doneBy : List Record → Effect → Outcome

@@ -1,3 +1,3 @@
 -- The laws of record_calls, a file each; other crates may cite the public ones.
 mod Exponents
-pub mod Judging
+pub mod NoPrice

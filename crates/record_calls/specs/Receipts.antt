@@ -4,11 +4,12 @@ use mathlib.Core.Path.{_≡_}
 use mathlib.Core.Bool.{Bool}
 use Rattle.paper.specs.declared.External.{External}
 use Rattle.paper_desk.specs.External.{Told, isBad, keptAfter}
+use Rattle.paper_desk.specs.Desk.{receiving}
 use Rattle.record_answers.specs.declared.Slot.{Slot}
 use Rattle.record_answers.specs.declared.Effect.{Effect}
-use Rattle.record_answers.specs.Effects.{receiveEffect}
+use Rattle.record_answers.specs.Effects.{effectOf}
 
 -- o is the effect of any receipt that is as bad as this, and leaves this pair
 abbrev pub Receives : Slot → (bad : Bool) → External → Effect → Type 0
 Receives s bad kept o =
-    (x : Told) → isBad x ≡ bad → keptAfter (s .rec .external) x ≡ kept → o ≡ receiveEffect s x
+    (x : Told) → isBad x ≡ bad → keptAfter (s .rec .external) x ≡ kept → o ≡ effectOf s (receiving x)

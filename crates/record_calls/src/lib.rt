@@ -5,7 +5,8 @@ mod floats; // the price of an outside source's float
 ghost use mathlib.Core.Path.{_≡_};
 ghost use Rattle.paper_floats.specs.Floats.{priceOf};
 ghost use Rattle.paper_desk.specs.External.{Told, unitsMade};
-ghost use Rattle.record_answers.specs.Effects.{openEffect, receiveEffect, readAnswer};
+ghost use Rattle.paper_desk.specs.Desk.{Ask};
+ghost use Rattle.record_answers.specs.Effects.{effectOf};
 ghost use Rattle.record_calls.specs.Receipts.{Receives};
 use crate::floats::price_of;
 use paper::Answer;
@@ -19,7 +20,7 @@ use record_answers::Slot;
 
 // W-210, the opening of the evening: 1, 10, "19, evening opened twice, after 10".
 pub fn opened(s: Slot) -> Effect
-    ensures { λ o. ⌜ o ≡ openEffect s ⌝ }
+    ensures { λ o. ⌜ o ≡ effectOf s Ask.opening ⌝ }
 {
     let count = s.count;
     let r = s.rec;
@@ -68,7 +69,7 @@ fn received_as(s: Slot, bad: bool, kept: External) -> Effect
 
 // "Both sent together replace the kept pair": one bad float of two refuses both.
 pub fn received(s: Slot, sent: Outside) -> Effect
-    ensures { λ o. ⌜ o ≡ receiveEffect s (Told.together sent) ⌝ }
+    ensures { λ o. ⌜ o ≡ effectOf s (Ask.receiving (Told.together sent)) ⌝ }
 {
     let bid = units_of(sent.bid);
     let ask = units_of(sent.ask);
@@ -77,7 +78,7 @@ pub fn received(s: Slot, sent: Outside) -> Effect
 
 // "a notice changes one side, a withdrawal clears both".
 pub fn notified(s: Slot, n: Notice) -> Effect
-    ensures { λ o. ⌜ o ≡ receiveEffect s (Told.notice n) ⌝ }
+    ensures { λ o. ⌜ o ≡ effectOf s (Ask.receiving (Told.notice n)) ⌝ }
 {
     let r = s.rec;
     let kept = r.external;
@@ -96,7 +97,7 @@ pub fn notified(s: Slot, n: Notice) -> Effect
 
 // "read 1".
 pub fn read(s: Slot) -> Answer
-    ensures { λ a. ⌜ a ≡ readAnswer s ⌝ }
+    ensures { λ a. ⌜ a ≡ effectOf s Ask.reading .answer ⌝ }
 {
     let r = s.rec;
     if !record_answers::is_known(s) {

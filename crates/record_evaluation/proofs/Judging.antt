@@ -24,7 +24,7 @@ use Rattle.record_figures.specs.Evaluates as writing
 use Rattle.record_figures.specs.Evaluates.{madeOf}
 use Rattle.record_answers.specs.declared.Slot.{Slot}
 use Rattle.record_evaluation.specs.declared.Working.{Working}
-use Rattle.record_answers.specs.Effects.{isKnown, refusedEffect, judgedEffect, evaluateEffect}
+use Rattle.record_answers.specs.Effects.{isKnown, refusedEffect, judgedEffect, effectOf, evaluateEffect}
 use Rattle.record_evaluation.specs.Workings.{pricedOn, unmadeBy, madeWith, isMade, workedOf, Begun, Evaluates}
 use Rattle.record_answers.proofs.Tests.{tested-true, tested-false}
 
@@ -109,14 +109,14 @@ module _ (s : Slot) (d : Day) (rows : List ℤ) where
 
   pub day-refused : isDone (workedOf s d rows .verdict) ≡ false
       → refusedEffect (s .count) (workedOf s d rows .verdict) ≡ evaluateEffect s d rows
-  unfolding evaluateEffect judgedEffect
+  unfolding effectOf evaluateChecks judgedEffect
   day-refused n =
       rw worked-verdict (sym (pick-false (isDone first) _ _ (ap isDone (sym worked-verdict) ∙ n)))
 
   pub day-stored : {new : Record} → isDone (workedOf s d rows .verdict) ≡ true
       → writing.Evaluates (s .rec) d (workedOf s d rows .made) new
       → record { at = s .at; rec = new; answer = showing new } ≡ evaluateEffect s d rows
-  unfolding evaluateEffect judgedEffect
+  unfolding effectOf evaluateChecks judgedEffect
   day-stored e written =
       let done : isDone first ≡ true = ap isDone (sym worked-verdict) ∙ e in
       rw (written rows (done-made done)) (sym (pick-true (isDone first) _ _ done))

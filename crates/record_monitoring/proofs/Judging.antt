@@ -17,13 +17,13 @@ use Rattle.paper.specs.Ranges.{validQuote, validSide, sideOf, isLive, sound}
 use Rattle.paper_desk.specs.Limits.{countOf}
 use Rattle.paper_desk.specs.Evening.{moveAllowed}
 use Rattle.paper.specs.Verdicts.{isDone, Check, firstOf, NoneApplies, none, also, allRefusals}
-use Rattle.paper_desk.specs.Desk.{showing, quoted, alertsOn, moved, quoteChecks, moveChecks}
+use Rattle.paper_desk.specs.Desk.{showing, quoted, alertsOn, moved, quoting, moving}
 use Rattle.paper.proofs.Logic.{not-true-and-false, not-false, pick-false}
 use Rattle.paper_desk.proofs.Refusals.{done-means-none-applies}
 use Rattle.record_soundness.proofs.Facts.{sound-facts}
 use Rattle.record_answers.specs.declared.Slot.{Slot}
 use Rattle.record_answers.specs.declared.Effect.{Effect}
-use Rattle.record_answers.specs.Effects.{isKnown, refusedEffect, judgedEffect, quoteEffect, moveEffect}
+use Rattle.record_answers.specs.Effects.{isKnown, refusedEffect, judgedEffect, effectOf}
 use Rattle.record_monitoring.specs.SharedChecks.{sharedChecks}
 
 -- ---- quote 1, 6, 10, 11, 13; move 1, 6, 10, 11, 18, 12
@@ -64,8 +64,8 @@ past-shared there inRange r e = go (done-means-none-applies (sharedChecks there 
 
 module _ (s : Slot) (q : Quote) where
   pub quote-stopped : isDone (firstOf (sharedChecks (isKnown s) (validQuote q) (s .rec))) ≡ false
-      → refusedEffect (s .count) (firstOf (sharedChecks (isKnown s) (validQuote q) (s .rec))) ≡ quoteEffect s q
-  unfolding quoteEffect quoteChecks sharedChecks
+      → refusedEffect (s .count) (firstOf (sharedChecks (isKnown s) (validQuote q) (s .rec))) ≡ effectOf s (quoting q)
+  unfolding effectOf sharedChecks
   quote-stopped n =
       effect-stays (s .count) (sharedChecks (isKnown s) (validQuote q) (s .rec))
       (record { verdict = SecondEarlier; applies = ltb (q .second) (s .rec .second) } ∷ [])
@@ -74,19 +74,19 @@ module _ (s : Slot) (q : Quote) where
 
   module _ (o : Passed (isKnown s) (validQuote q) (s .rec)) where
     pub quote-earlier : ltb (q .second) (s .rec .second) ≡ true → refusedEffect (s .count) SecondEarlier
-        ≡ quoteEffect s q
-    unfolding quoteEffect quoteChecks judgedEffect firstOf isDone
+        ≡ effectOf s (quoting q)
+    unfolding effectOf judgedEffect firstOf isDone
     quote-earlier t = rw (o .known, o .valid, o .live, o .monitored, t)
 
     pub quote-accepted : ltb (q .second) (s .rec .second) ≡ false
-        → record { at = s .at; rec = quoted (s .rec) q; answer = alertsOn (s .rec) q } ≡ quoteEffect s q
-    unfolding quoteEffect quoteChecks judgedEffect firstOf isDone
+        → record { at = s .at; rec = quoted (s .rec) q; answer = alertsOn (s .rec) q } ≡ effectOf s (quoting q)
+    unfolding effectOf judgedEffect firstOf isDone
     quote-accepted t = rw (o .known, o .valid, o .live, o .monitored, t)
 
 module _ (s : Slot) (side : ℕ) where
   pub move-stopped : isDone (firstOf (sharedChecks (isKnown s) (validSide side) (s .rec))) ≡ false
-      → refusedEffect (s .count) (firstOf (sharedChecks (isKnown s) (validSide side) (s .rec))) ≡ moveEffect s side
-  unfolding moveEffect moveChecks sharedChecks
+      → refusedEffect (s .count) (firstOf (sharedChecks (isKnown s) (validSide side) (s .rec))) ≡ effectOf s (moving side)
+  unfolding effectOf sharedChecks
   move-stopped n =
       effect-stays (s .count) (sharedChecks (isKnown s) (validSide side) (s .rec))
       (record { verdict = NoEveningMove; applies = not (moveAllowed (s .rec .statics) (s .rec .session)) }
@@ -97,20 +97,20 @@ module _ (s : Slot) (side : ℕ) where
 
   module _ (o : Passed (isKnown s) (validSide side) (s .rec)) where
     pub move-not-allowed : moveAllowed (s .rec .statics) (s .rec .session) ≡ false
-        → refusedEffect (s .count) NoEveningMove ≡ moveEffect s side
-    unfolding moveEffect moveChecks judgedEffect firstOf isDone
+        → refusedEffect (s .count) NoEveningMove ≡ effectOf s (moving side)
+    unfolding effectOf judgedEffect firstOf isDone
     move-not-allowed t = rw (t, o .known, o .valid, o .live, o .monitored)
 
     module _ (allowed : moveAllowed (s .rec .statics) (s .rec .session) ≡ true) where
       pub move-used-up : eqb (countOf (sideOf side) (s .rec .moves)) movesMost ≡ true
-          → refusedEffect (s .count) MovesUsedUp ≡ moveEffect s side
-      unfolding moveEffect moveChecks judgedEffect firstOf isDone
+          → refusedEffect (s .count) MovesUsedUp ≡ effectOf s (moving side)
+      unfolding effectOf judgedEffect firstOf isDone
       move-used-up t = rw (allowed, o .known, o .valid, o .live, o .monitored, t)
 
       pub move-accepted : eqb (countOf (sideOf side) (s .rec .moves)) movesMost ≡ false
           → record { at = s .at; rec = moved (s .rec) (sideOf side); answer = showing (moved (s .rec) (sideOf side)) }
-          ≡ moveEffect s side
-      unfolding moveEffect moveChecks judgedEffect firstOf isDone
+          ≡ effectOf s (moving side)
+      unfolding effectOf judgedEffect firstOf isDone
       move-accepted t = rw (allowed, o .known, o .valid, o .live, o .monitored, t)
 
 -- c is not 50, so a move is left

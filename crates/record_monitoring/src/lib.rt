@@ -2,8 +2,8 @@
 // inputs in, an effect out. Each judges the refusals in the paper's order.
 ghost use mathlib.Core.Path.{_≡_};
 ghost use Rattle.paper.specs.Verdicts.{firstOf};
-ghost use Rattle.paper_desk.specs.Desk.{nearOn, alertsOn};
-ghost use Rattle.record_answers.specs.Effects.{isKnown, quoteEffect, moveEffect};
+ghost use Rattle.paper_desk.specs.Desk.{Ask, nearOn, alertsOn};
+ghost use Rattle.record_answers.specs.Effects.{isKnown, effectOf};
 ghost use Rattle.record_monitoring.specs.SharedChecks.{sharedChecks};
 use paper::Answer;
 use paper::NearSeconds;
@@ -55,7 +55,7 @@ fn alerts_on(r: Record, q: Quote, n: NearSeconds) -> Answer
 
 // "quote 1, 6, 10, 11, 13".
 pub fn quoted(s: Slot, q: Quote) -> Effect
-    ensures { λ o. ⌜ o ≡ quoteEffect s q ⌝ }
+    ensures { λ o. ⌜ o ≡ effectOf s (Ask.quoting q) ⌝ }
 {
     let count = s.count;
     let r = s.rec;
@@ -78,7 +78,7 @@ pub fn quoted(s: Slot, q: Quote) -> Effect
 
 // "move 1, 6, 10, 11, 12"; W-210: "18, .. after 11 and before 12".
 pub fn moved(s: Slot, side: u64) -> Effect
-    ensures { λ o. ⌜ o ≡ moveEffect s side ⌝ }
+    ensures { λ o. ⌜ o ≡ effectOf s (Ask.moving side) ⌝ }
 {
     let count = s.count;
     let r = s.rec;

@@ -1,12 +1,15 @@
 -- docs/EVENING.md, "An evening": what lines do, one after the other, to the table and to what is kept, and what
 -- is answered to them.
 use mathlib.Core.List.{List, [], _∷_, _++_}
+use mathlib.Core.Option.{Option, none, some}
 use Prim.Native.Nat.{ℕ, _+_}
 use lib.Dec.{ltb}
+use lib.IntN.{ℤ}
 use Rattle.paper.specs.declared.Record.{Record}
+use Rattle.paper.specs.declared.Day.{Day}
 use Rattle.paper.specs.Lists.{pick}
 use Rattle.paper_interest.specs.Interest.{interestAnswer}
-use Rattle.paper_desk.specs.Desk.{Call, admit, evaluate, quote, move, read, openEvening, receive, step}
+use Rattle.paper_desk.specs.Desk.{Ask, Call, admit, about, ruleOf, step}
 use Rattle.paper_bonds.specs.Bonds.{bondAnswer}
 use Rattle.paper_reasons.specs.Why.{whyOn}
 use Rattle.text_protocol.specs.declared.Kept.{Kept}
@@ -48,14 +51,13 @@ abbrev pub answerTo : Call → List Record → List ℕ
 answerTo c t = callText c (step c t .answer)
 
 -- the same, but an evaluation is answered with why it is what it is
+abbrev pub reasonOn : (id : ℕ) → Ask → Option (Day × List ℤ) → List Record → List ℕ
+reasonOn id x none t = answerTo (about id x) t
+reasonOn id x (some (d, rows)) t = whyText (whyOn t id d rows)
+
 unfoldable pub reasonTo : Call → List Record → List ℕ
 reasonTo (admit g) t = answerTo (admit g) t
-reasonTo (evaluate id d rows) t = whyText (whyOn t id d rows)
-reasonTo (quote id q) t = answerTo (quote id q) t
-reasonTo (move id side) t = answerTo (move id side) t
-reasonTo (read id) t = answerTo (read id) t
-reasonTo (openEvening id) t = answerTo (openEvening id) t
-reasonTo (receive id x) t = answerTo (receive id x) t
+reasonTo (about id x) t = reasonOn id x (ruleOf x .evaluates) t
 
 -- what a call is told as: with its answer, as the program `evening` does, with why, as the program `why` does, or with
 -- the messages that members get of it, as the program `broadcast` does

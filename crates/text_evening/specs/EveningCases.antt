@@ -11,6 +11,7 @@ use Rattle.paper.specs.Lists.{three}
 use Rattle.paper.specs.PinnedValues.{_but_, p1At, sAt, admissionFrom, givenWith, admissionZ, zStatics, zNumbers}
 use Rattle.paper.specs.Ranges.{noTerm}
 use Rattle.paper_desk.specs.Desk.{Call, admit, evaluate, quote, move, read, openEvening, receive, admitted}
+use Rattle.paper_desk.specs.Desk.{evaluateChecks}
 use Rattle.paper_desk.specs.External.{notice}
 use Rattle.paper_desk.specs.PinnedSequence.{answers as deskAnswers, slots}
 use Rattle.paper_interest.specs.InterestCases.{answered as interestAnswered}
@@ -52,8 +53,8 @@ lines =
 -- an evening on one empty slot, as it is told. It opens every definition that lines are answered with, so that a table
 -- opens this one alone
 unfoldable pub told : Telling → List ℕ
-unfolding lines zText zStatics slots deskAnswers interestAnswered bondAnswered isSame faultsOf faultOf whyOf whyOn
-    deedBy callTexts interestText interestNumbers maturitiesNumbers maturityNumbers bondText faultWords spelled
+unfolding lines zText zStatics slots deskAnswers evaluateChecks interestAnswered bondAnswered isSame faultsOf faultOf
+    whyOf whyOn deedBy callTexts interestText interestNumbers maturitiesNumbers maturityNumbers bondText faultWords spelled
     wordsText whyText keptAfter bytesSent tableAfter keptBy reasonTo callTold worded textOf numberAfter after answer
     afterAll answers
 told telling = answers telling lines (startEvening (slots 1))

@@ -24,7 +24,7 @@ use Rattle.paper_bonds.specs.declared.BondAnswer.{BondAnswer}
 use Rattle.paper.specs.Lists.{pick}
 use Rattle.paper.specs.Ranges.{isLive, lastDay, noLimits, notNear, termAt, rateAt}
 use Rattle.paper.specs.Verdicts.{numberOf, isDone}
-use Rattle.paper_desk.specs.Desk.{Call, admit, evaluate, quote, move, read, openEvening, receive}
+use Rattle.paper_desk.specs.Desk.{Call, admit, about, Reply, theRecord, theAlerts, ruleOf}
 use Rattle.text_bytes.specs.Bytes.{room, lineFeed}
 use Rattle.text_bytes.specs.Numbers.{next, answerText}
 
@@ -124,15 +124,15 @@ recordNumbers r =
 
 -- ---- what a call answers
 
--- the figures of an accepted call: an admission none, a quote its two alerts, the others the record
+-- the record, or the two alerts of a quote
+abbrev pub replyNumbers : Reply → Answer → List ℤ
+replyNumbers theRecord a = recordNumbers (a .rec)
+replyNumbers (theAlerts q) a = flag (a .top) ∷ flag (a .bottom) ∷ []
+
+-- the figures of an accepted call: an admission none, the others what they answer
 unfoldable pub figuresAnswered : Call → Answer → List ℤ
 figuresAnswered (admit g) a = []
-figuresAnswered (evaluate id d rows) a = recordNumbers (a .rec)
-figuresAnswered (quote id q) a = flag (a .top) ∷ flag (a .bottom) ∷ []
-figuresAnswered (move id side) a = recordNumbers (a .rec)
-figuresAnswered (read id) a = recordNumbers (a .rec)
-figuresAnswered (openEvening id) a = recordNumbers (a .rec)
-figuresAnswered (receive id x) a = recordNumbers (a .rec)
+figuresAnswered (about id x) a = replyNumbers (ruleOf x .reply) a
 
 -- a refusal's number stands alone
 unfoldable pub callText : Call → Answer → List ℕ

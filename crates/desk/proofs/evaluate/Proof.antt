@@ -1,14 +1,12 @@
 -- `desk::evaluate` meets its contract: it has the shape that `ShapeWithRows` proves once, and the effect of its rule is
--- the paper's step (`evaluate-steps`).
+-- the paper's step (`ask-steps`).
 use contract.Running.{givenOf, tables, tablesOf}
 use denote.Triple.Spec.{tripleOf}
 use denote.Triple.Table.{entered, cited}
-use Rattle.paper_desk.specs.Desk.{evaluate}
-use Rattle.record_answers.specs.Effects.{evaluateEffect}
+use Rattle.paper_desk.specs.Desk.{evaluating}
 use Rattle.desk.proofs.Known.{take-known, put-known}
 use Rattle.desk.proofs.Plain.{day, day-laws}
 use Rattle.desk.proofs.ShapeWithRows.{Rule, meets}
-use Rattle.desk.proofs.Steps.{evaluate-steps}
 use Rattle.record_evaluation.proofs.evaluated.Symbol as rule-def
 use Rattle.record_evaluation.proofs.evaluated.Met as rule-thm
 use Rattle.desk.proofs.evaluate as f
@@ -21,9 +19,9 @@ unfolding code.routine tablesOf
 evaluate-spec 𝓤 H 𝓜 𝓖 𝓡 =
     entered 𝓤 H (tripleOf 𝓤 H (𝓖 .A) f.signature (f.spec 𝓤 H (𝓖 .A) (𝓜 .mem) (𝓡 .run))) (tables 𝓤 H 𝓜 𝓡 code.env .C)
     (tables 𝓤 H 𝓜 𝓡 code.env .Λ) key.name code.function (code.unfolded 𝓤 H 𝓜 𝓡)
-    (meets day day-laws evaluateEffect evaluate evaluate-steps rule-def.name 𝓤 H (𝓖 .A) (givenOf 𝓤 H 𝓜 𝓖) (𝓜 .mem)
+    (meets day day-laws evaluating rule-def.name 𝓤 H (𝓖 .A) (givenOf 𝓤 H 𝓜 𝓖) (𝓜 .mem)
     (𝓡 .run)
     (tablesOf 𝓤 H 𝓜 (tables 𝓤 H 𝓜 𝓡 code.env)) (take-known 𝓤 H 𝓜 𝓖 𝓡 code.env code.calls-desk·take)
-    (cited 𝓤 H (Rule day day-laws evaluateEffect evaluate evaluate-steps rule-def.name 𝓤 H
+    (cited 𝓤 H (Rule day day-laws evaluating rule-def.name 𝓤 H
     (𝓖 .A)) 𝓜 𝓡 code.env rule-def.name rule-def.routine code.calls-record-evaluation·evaluated (rule-thm.met 𝓤 H 𝓜 𝓖 𝓡))
     (put-known 𝓤 H 𝓜 𝓖 𝓡 code.env code.calls-desk·put))

@@ -6,8 +6,8 @@ use types.Kit.{ ! }
 use types.Run.{and-then, no-more as no-operand}
 use denote.Triple.Spec.{tripleOf}
 use denote.Triple.Table.{entered, cited}
-use Rattle.paper_desk.specs.Desk.{read, step}
-use Rattle.record_answers.specs.Effects.{readAnswer}
+use Rattle.paper_desk.specs.Desk.{reading, read, step}
+use Rattle.record_answers.specs.Effects.{effectOf}
 use Rattle.record_calls.proofs.read.Symbol as rule-def
 use Rattle.record_calls.proofs.read.Met as rule-thm
 use Rattle.desk.proofs.Frame.{value}
@@ -25,7 +25,7 @@ abbrev taken : Passing 0
 taken = no-more
 
 abbrev of-slot : OfSlot taken (row answer)
-of-slot κs s a = readAnswer s
+of-slot κs s a = effectOf s reading .answer
 
 abbrev of-table : Said taken answer answer-laws
 of-table κs t id a = step (read id) t .answer

@@ -1,13 +1,13 @@
 -- `desk::receive` meets its contract: it has the shape that `Shape` proves once, and the effect of its rule is the
--- paper's step (`receive-steps`).
+-- paper's step (`ask-steps`).
 use contract.Running.{givenOf, tables, tablesOf}
 use denote.Triple.Spec.{tripleOf}
 use denote.Triple.Table.{entered, cited}
 use Rattle.paper_desk.specs.External.{together}
+use Rattle.paper_desk.specs.Desk.{receiving}
 use Rattle.desk.proofs.Known.{take-known, put-known}
 use Rattle.desk.proofs.Plain.{outside, outside-laws}
 use Rattle.desk.proofs.Shape.{Rule, meets}
-use Rattle.desk.proofs.Steps.{receiveTold, callTold, receive-steps}
 use Rattle.record_calls.proofs.received.Symbol as rule-def
 use Rattle.record_calls.proofs.received.Met as rule-thm
 use Rattle.desk.proofs.receive as f
@@ -20,10 +20,10 @@ unfolding code.routine tablesOf
 receive-spec 𝓤 H 𝓜 𝓖 𝓡 =
     entered 𝓤 H (tripleOf 𝓤 H (𝓖 .A) f.signature (f.spec 𝓤 H (𝓖 .A) (𝓜 .mem) (𝓡 .run))) (tables 𝓤 H 𝓜 𝓡 code.env .C)
     (tables 𝓤 H 𝓜 𝓡 code.env .Λ) key.name code.function (code.unfolded 𝓤 H 𝓜 𝓡)
-    (meets outside outside-laws (receiveTold together) (callTold together) (receive-steps together) rule-def.name 𝓤 H
+    (meets outside outside-laws (λ x. receiving (together x)) rule-def.name 𝓤 H
     (𝓖 .A) (givenOf 𝓤 H 𝓜 𝓖) (𝓜 .mem) (𝓡 .run) (tablesOf 𝓤 H 𝓜 (tables 𝓤 H 𝓜 𝓡 code.env))
     (take-known 𝓤 H 𝓜 𝓖 𝓡 code.env code.calls-desk·take)
-    (cited 𝓤 H (Rule outside outside-laws (receiveTold together) (callTold together) (receive-steps together)
+    (cited 𝓤 H (Rule outside outside-laws (λ x. receiving (together x))
     rule-def.name 𝓤 H (𝓖 .A)) 𝓜 𝓡 code.env rule-def.name rule-def.routine
     code.calls-record-calls·received (rule-thm.met 𝓤 H 𝓜 𝓖 𝓡))
     (put-known 𝓤 H 𝓜 𝓖 𝓡 code.env code.calls-desk·put))

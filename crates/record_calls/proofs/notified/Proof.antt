@@ -2,7 +2,7 @@
 -- where its units are 0.
 use mathlib.Core.Path.{_≡_}
 use Rattle.paper_desk.specs.External.{isBad, keptAfter}
-use Rattle.record_calls.proofs.Judging.{none-zero}
+use Rattle.record_calls.proofs.NoPrice.{none-zero}
 use borrow.Author.Needs.{needs}
 use Rattle.record_calls.proofs.notified.Statement.{statement}
 use Rattle.record_calls.proofs.notified.Tie as tie

@@ -1,11 +1,13 @@
 -- `record_calls::opened` meets its contract: each return is the first check that applies, in the order 1, 10, 19, or
 -- the evening is opened.
-use mathlib.Core.Path.{_≡_, sym, _∙_}
-use mathlib.Core.Bool.{true}
+use mathlib.Core.Path.{_≡_, refl, sym, _∙_, ap}
+use mathlib.Core.Bool.{true, not}
 use Rattle.paper.specs.Ranges.{isLive}
+use Rattle.paper.specs.Verdicts.{here, later, none, also}
+use Rattle.paper_desk.specs.Desk.{opening}
 use Rattle.record_answers.specs.Effects.{isKnown}
 use Rattle.record_answers.proofs.Tests.{tested-true, tested-false}
-use Rattle.record_calls.proofs.Judging.{open-unknown, open-not-live, open-twice, open-accepted}
+use Rattle.record_answers.proofs.Judging.{unknown-refused, known-refused, known-accepted}
 use borrow.Author.Needs.{needs}
 use Rattle.record_calls.proofs.opened.Statement.{statement}
 use Rattle.record_calls.proofs.opened.Tie as tie
@@ -28,7 +30,7 @@ refused-requires c κs = search needs
 
 returns : tie.Need-returns
 returns c = c .refused .ensures
-    ∙ open-unknown _ (tested-false _ (c .before .before .is-known .ensures) (c .before .if1 .taken))
+    ∙ unknown-refused _ opening (tested-false _ (c .before .before .is-known .ensures) (c .before .if1 .taken))
 
 is-live-requires : tie.Need-is-live-requires
 is-live-requires c κs = search needs
@@ -40,7 +42,8 @@ returns-2 : tie.Need-returns-2
 returns-2 c =
     let test = c .before .before in
     c .refused2 .ensures
-    ∙ open-not-live _ (known (test .before)) (tested-false _ (test .is-live .ensures) (c .before .if2 .taken))
+    ∙ known-refused _ opening (known (test .before))
+    (here refl (ap not (tested-false _ (test .is-live .ensures) (c .before .if2 .taken))))
 
 is-evening-requires : tie.Need-is-evening-requires
 is-evening-requires c κs = search needs
@@ -53,7 +56,8 @@ returns-3 c =
     let test = c .before .before in
     let l = test .before in
     c .refused3 .ensures
-    ∙ open-twice _ (known (l .before .before)) (live l) (sym (test .is-evening .ensures) ∙ c .before .if3 .taken)
+    ∙ known-refused _ opening (known (l .before .before))
+    (later (ap not (live l)) (here refl (sym (test .is-evening .ensures) ∙ c .before .if3 .taken)))
 
 opened-requires : tie.Need-opened-requires
 opened-requires c κs = search needs
@@ -67,7 +71,8 @@ returns-4 c =
     let test = e .before in
     let l = test .before in
     rw (c .written .ensures, c .before .opened .ensures)
-    (open-accepted _ (known (l .before .before)) (live l) (sym (test .is-evening .ensures) ∙ e .if3 .left))
+    (known-accepted _ opening (known (l .before .before))
+    (also (ap not (live l)) (also (sym (test .is-evening .ensures) ∙ e .if3 .left) none)))
 
 pub opened-spec : {M : Type 1} → statement M
 opened-spec =

@@ -3,9 +3,8 @@
 use mathlib.Core.Path.{_≡_, sym, _∙_}
 use mathlib.Core.Bool.{true, false}
 use Rattle.paper.specs.Verdicts.{isDone, firstOf}
-use Rattle.paper_desk.specs.Desk.{readChecks}
 use Rattle.paper.proofs.Logic.{not-true, not-false}
-use Rattle.record_answers.specs.Effects.{isKnown, readAnswer}
+use Rattle.record_answers.specs.Effects.{isKnown, refusedEffect, judgedEffect, effectOf}
 use borrow.Author.Needs.{needs}
 use Rattle.record_calls.proofs.read.Statement.{statement}
 use Rattle.record_calls.proofs.read.Tie as tie
@@ -17,7 +16,7 @@ saying-requires : tie.Need-saying-requires
 saying-requires c κs = search needs
 
 returns : tie.Need-returns
-unfolding readAnswer readChecks firstOf isDone
+unfolding effectOf judgedEffect refusedEffect firstOf isDone
 returns c =
     let unknown : isKnown (c .before .before .before .before .args .s) ≡ false =
     sym (c .before .before .is-known .ensures) ∙ not-true _ (c .before .if1 .taken) in
@@ -27,7 +26,7 @@ showing-requires : tie.Need-showing-requires
 showing-requires c κs = search needs
 
 returns-2 : tie.Need-returns-2
-unfolding readAnswer readChecks firstOf isDone
+unfolding effectOf judgedEffect refusedEffect firstOf isDone
 returns-2 c =
     let known : isKnown (c .before .before .before .before .args .s) ≡ true =
     sym (c .before .before .is-known .ensures) ∙ not-false _ (c .before .if1 .left) in

@@ -1,6 +1,6 @@
 -- `record_calls::received` meets its contract: a float of two is bad where its units are 0, and the units are the pair.
 use Rattle.paper_desk.specs.External.{isBad, keptAfter}
-use Rattle.record_calls.proofs.Judging.{none-zero}
+use Rattle.record_calls.proofs.NoPrice.{none-zero}
 use borrow.Author.Needs.{needs}
 use Rattle.record_calls.proofs.received.Statement.{statement}
 use Rattle.record_calls.proofs.received.Tie as tie

@@ -1,10 +1,12 @@
 -- `record_calls::received_as` meets its contract: each return is the first check that applies, in the order 1, 20, or
 -- the pair is kept.
-use mathlib.Core.Path.{_≡_, sym, _∙_}
+use mathlib.Core.Path.{_≡_, refl, sym, _∙_}
 use mathlib.Core.Bool.{true}
+use Rattle.paper.specs.Verdicts.{here, none, also}
+use Rattle.paper_desk.specs.Desk.{receiving}
 use Rattle.record_answers.specs.Effects.{isKnown}
 use Rattle.record_answers.proofs.Tests.{tested-true, tested-false}
-use Rattle.record_calls.proofs.Judging.{receipt-unknown, receipt-bad, receipt-accepted}
+use Rattle.record_answers.proofs.Judging.{unknown-refused, known-refused, known-accepted}
 use borrow.Author.Needs.{needs}
 use Rattle.record_calls.proofs.received_as.Statement.{statement}
 use Rattle.record_calls.proofs.received_as.Tie as tie
@@ -20,13 +22,14 @@ refused-requires c κs = search needs
 
 returns : tie.Need-returns
 returns c x b k = c .refused .ensures
-    ∙ receipt-unknown _ x (tested-false _ (c .before .before .is-known .ensures) (c .before .if1 .taken))
+    ∙ unknown-refused _ (receiving x) (tested-false _ (c .before .before .is-known .ensures) (c .before .if1 .taken))
 
 refused-requires-2 : tie.Need-refused-requires-2
 refused-requires-2 c κs = search needs
 
 returns-2 : tie.Need-returns-2
-returns-2 c x b k = c .refused2 .ensures ∙ receipt-bad _ x (known (c .before .before)) (b ∙ c .before .if2 .taken)
+returns-2 c x b k = c .refused2 .ensures
+    ∙ known-refused _ (receiving x) (known (c .before .before)) (here refl (b ∙ c .before .if2 .taken))
 
 received-requires : tie.Need-received-requires
 received-requires c κs = search needs
@@ -38,7 +41,7 @@ returns-3 : tie.Need-returns-3
 returns-3 c x b k =
     let e = c .before .before in
     rw (c .written .ensures, c .before .received .ensures x k)
-    (receipt-accepted _ x (known (e .before)) (b ∙ e .if2 .left))
+    (known-accepted _ (receiving x) (known (e .before)) (also (b ∙ e .if2 .left) none))
 
 pub received-as-spec : {M : Type 1} → statement M
 received-as-spec =
