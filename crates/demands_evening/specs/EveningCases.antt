@@ -15,14 +15,12 @@ use Rattle.paper_desk.specs.History.{since, longer, counts, noted, history}
 use Rattle.paper_desk.specs.PinnedSequence.{answers}
 use Rattle.text_bytes.specs.Bytes.{isBlank, isNot, run, grow, pieces, full, words, same, bytes}
 use Rattle.text_bytes.specs.Numbers.{isDigit, sizeFrom, sizeOf, upTo, above, below, numberOf, slashAt}
-use Rattle.text_protocol.specs.Names.{code, admitNames, evaluateNames, quoteNames, moveNames, readNames}
-use Rattle.text_protocol.specs.Names.{openNames, outsideNames, noticeNames, withdrawNames, interestNames}
-use Rattle.text_protocol.specs.Names.{bondNames, forms, kindFrom, kindOf, countFits, takesIn, takes, placeOf, the}
+use Rattle.text_protocol.specs.Names.{code, forms, kindFrom, kindOf, countFits, takesIn, takes, placeOf, the}
 use Rattle.text_protocol.specs.Line.{oneOf, twoOf, itemOf, hasTerms, placeIn, pairFits, withPair, more, taking}
 use Rattle.text_protocol.specs.Line.{onWith, finished, fill, called, meaning}
 use Rattle.text_protocol.specs.LineCases.{zText}
 use Rattle.text_protocol.specs.Kept.{foundIn}
-use Rattle.text_protocol.specs.Calls.{admissionOf, bandOf, termOf, askedOf, figuresBehind, callOf, deedOf}
+use Rattle.text_protocol.specs.Calls.{admissionOf, bandOf, termOf, askedOf, figuresBehind, deskCall, callOf, deedOf}
 use Rattle.text_evening.specs.Evening.{tableAfter, after, afterAll}
 use Rattle.demands.specs.Demands.{answered}
 use Rattle.demands_evening.specs.Calls.{callsIn, callsOf}
@@ -31,10 +29,9 @@ use Rattle.demands_evening.specs.Holds.{ownTable, tableBehind, callsBehi
 -- lines as texts. It opens every definition that a line is read with, so that a table opens this one alone
 unfoldable pub linesOf : List String → List (List ℕ)
 unfolding bytes isBlank isNot run grow pieces full words same isDigit sizeFrom sizeOf upTo above below numberOf slashAt
-    code admitNames evaluateNames quoteNames moveNames readNames openNames outsideNames noticeNames withdrawNames
-    interestNames bondNames forms kindFrom kindOf countFits takesIn takes placeOf the oneOf twoOf itemOf hasTerms
-    placeIn pairFits withPair more taking onWith finished fill called meaning foundIn givenOf admissionOf bandOf termOf
-    askedOf figuresBehind callOf deedOf unsigned repoOf dayOf dayTerm
+    code forms kindFrom kindOf countFits takesIn takes placeOf the oneOf twoOf itemOf hasTerms placeIn pairFits withPair
+    more taking onWith finished fill called meaning foundIn givenOf admissionOf bandOf termOf askedOf figuresBehind
+    deskCall callOf deedOf unsigned repoOf dayOf dayTerm
 linesOf texts = map bytes texts
 
 -- a line that is no call, a blank one, an interest line and a bond's among calls

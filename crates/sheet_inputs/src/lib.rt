@@ -6,10 +6,10 @@ use paper::Day;
 use paper::Record;
 use paper::Term;
 use record_answers::Slot;
-use text_protocol::ADMIT_COUNT;
+use text_protocol::AdmitPlace;
 
 // The numbers of an admission as the evening's `admit` has them.
-pub const ADMISSION_NUMBERS: usize = ADMIT_COUNT;
+pub const ADMISSION_NUMBERS: usize = AdmitPlace::COUNT;
 
 // The numbers of a day with three terms alike: DAY B M K RRCL RRCH.
 pub const DAY_NUMBERS: usize = 6;

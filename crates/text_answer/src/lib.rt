@@ -7,8 +7,8 @@ ghost use mathlib.Core.List.{[], _∷_};
 ghost use Prim.Native.Nat.{_+_, _≤_};
 ghost use Rattle.text_bytes.specs.Bytes.{room};
 ghost use Rattle.text_bytes.specs.Numbers.{answerText};
-ghost use Rattle.text_protocol.specs.Answers.{badText, flag, recordNumbers, callText, answerMost};
-ghost use Rattle.text_protocol.specs.Calls.{callAsked};
+ghost use Rattle.text_protocol.specs.Answers.{badText, flag, recordNumbers, answerMost};
+ghost use Rattle.text_protocol.specs.Roles.{shownText};
 ghost use Rattle.text_out.specs.Places.{nextBytes};
 ghost use Rattle.text_out.specs.Wrote.{Wrote};
 ghost use Rattle.text_out.specs.Told.{Told};
@@ -24,7 +24,7 @@ use text_bytes::ROOM;
 use text_out::put_byte;
 use text_out::put_next;
 use text_out::put_number;
-use text_protocol::AskedCall;
+use text_protocol::Role;
 
 // A refusal's number, or an admission's 0, stands alone.
 pub fn say_number(out: &mut [u8; ROOM], len: usize, no: u64) -> usize
@@ -94,26 +94,22 @@ fn say_shown(out: &mut [u8; ROOM], len: usize, a: Answer) -> usize
     say_record(out, len, r)
 }
 
-// What a call answers: a refusal's number alone; where it is accepted, an admission has no figure, a quote its two
-// alerts, and every other call the record. The row figures of an evaluation are no part of its answer.
-pub fn say_answer(out: &mut [u8; ROOM], len: usize, c: AskedCall, a: Answer) -> usize
+// What is answered to a call of a role: a refusal's number alone; where it is accepted, what a call of the role shows.
+pub fn say_answer(out: &mut [u8; ROOM], len: usize, role: Role, a: Answer) -> usize
     requires { ⌜ len + answerMost ≤ room ⌝ }
-    ensures { λ r. ⌜ Wrote (now (out .entry)) len (now (out .exit)) r (callText (callAsked c []) a) answerMost ⌝ }
+    ensures { λ r. ⌜ Wrote (now (out .entry)) len (now (out .exit)) r (shownText role a) answerMost ⌝ }
 {
     let verdict = a.verdict;
     let no = verdict.number();
     if no != 0 {
         return say_number(out, len, no);
     }
-    match c {
-        AskedCall::Admit(_) => say_number(out, len, 0),
-        AskedCall::Evaluate(_, _) => say_shown(out, len, a),
-        AskedCall::Quote(_, _) => say_alerts(out, len, a.top, a.bottom),
-        AskedCall::Move(_, _) => say_shown(out, len, a),
-        AskedCall::Read(_) => say_shown(out, len, a),
-        AskedCall::Open(_) => say_shown(out, len, a),
-        AskedCall::Receive(_, _) => say_shown(out, len, a),
-        AskedCall::Notify(_, _) => say_shown(out, len, a),
+    match role {
+        Role::Admission(_) => say_number(out, len, 0),
+        Role::Evaluation(_, _) => say_shown(out, len, a),
+        Role::Quote => say_alerts(out, len, a.top, a.bottom),
+        Role::Move(_) => say_shown(out, len, a),
+        Role::Other => say_shown(out, len, a),
     }
 }
 

@@ -12,14 +12,15 @@ use Rattle.paper_reasons.specs.declared.Why.{Why}
 use Rattle.paper_reasons.specs.Why.{whyOn}
 use Rattle.desk.specs.Promises.{Promised}
 use Rattle.text_protocol.specs.declared.AskedCall.{AskedCall}
-use Rattle.text_protocol.specs.declared.AskedCall.the-variants.{Admit, Evaluate, Quote, Move, Read, Open, Receive}
-use Rattle.text_protocol.specs.declared.AskedCall.the-variants.{Notify}
+use Rattle.text_protocol.specs.declared.Role.{Role}
+use Rattle.text_protocol.specs.declared.Role.the-variants as role
 use Rattle.text_protocol.specs.declared.Ask.{Ask}
 use Rattle.text_protocol.specs.declared.Ask.the-variants as ask
 use Rattle.text_protocol.specs.declared.Explained.{Explained}
 use Rattle.text_protocol.specs.declared.Explained.the-variants.{No, Because}
 use Rattle.text_protocol.specs.declared.Performed.{Performed}
 use Rattle.text_protocol.specs.Calls.{callAsked}
+use Rattle.text_protocol.specs.Roles.{roleOf}
 
 -- an answer, and why it is that
 abbrev pub explained : Answer → Why → Performed
@@ -34,21 +35,18 @@ abbrev pub unasked : Performed
 unasked = unexplained (saying verdict.Done)
 
 -- why: only an evaluation has reasons. They are those of the table before it
-unfoldable pub explanation : AskedCall → (rows : List ℤ) → List Record → Explained
-explanation (Admit g) rows t = No
-explanation (Evaluate id d) rows t = Because (whyOn t id (dayOf d) rows)
-explanation (Quote id q) rows t = No
-explanation (Move id side) rows t = No
-explanation (Read id) rows t = No
-explanation (Open id) rows t = No
-explanation (Receive id x) rows t = No
-explanation (Notify id x) rows t = No
+unfoldable pub explanation : Role → (rows : List ℤ) → List Record → Explained
+explanation (role.Admission g) rows t = No
+explanation (role.Evaluation id d) rows t = Because (whyOn t id (dayOf d) rows)
+explanation role.Quote rows t = No
+explanation (role.Move side) rows t = No
+explanation role.Other rows t = No
 
 -- what the desk says to a call, with the row figures, from the table t to the table t'
 pub record Performs (asked : Bool) (c : AskedCall) (rows : List ℤ) (t : List Record) (r : Performed) (t' : List Record)
     : Type 0 where
   pub promised : Promised (callAsked c rows) t (r .answer) t'
-  pub why : asked ≡ true → r .why ≡ explanation c rows t
+  pub why : asked ≡ true → r .why ≡ explanation (roleOf c) rows t
 
 -- WHAT THE DESK SAYS to what a line asks for: it performs the call, and leaves the table where none is asked for
 unfoldable pub Asks : (asked : Bool) → Ask → (rows : List ℤ) → List Record → Performed → List Record → Type 0

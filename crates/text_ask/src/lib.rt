@@ -7,9 +7,9 @@ use paper::Verdict;
 use paper_reasons::Why;
 use text_perform::perform;
 use text_protocol::Ask;
-use text_protocol::AskedCall;
 use text_protocol::Explained;
 use text_protocol::Performed;
+use text_protocol::Role;
 ghost use mathlib.Core.Path.{_≡_};
 ghost use Rattle.text_ask.specs.Asked.{explained, unexplained, unasked, Asks};
 
@@ -40,8 +40,8 @@ fn unasked() -> Performed
     without_why(record_answers::saying(Verdict::Done))
 }
 
-// What the desk says to what a line asks for. Only an evaluation has reasons, and they are asked before the table
-// changes. A line that is no call of the desk leaves the table as it is.
+// What the desk says to what a line asks for. Only a call in the role of an evaluation has reasons, and they are asked
+// before the table changes. A line that is no call of the desk leaves the table as it is.
 pub fn ask(t: &mut [Record], a: Ask, rows: &[i64], asked: bool) -> Performed
     ensures { λ r. ⌜ Asks asked a (now (rows .entry)) (now (t .entry)) r (now (t .exit)) ⌝ }
 {
@@ -49,7 +49,8 @@ pub fn ask(t: &mut [Record], a: Ask, rows: &[i64], asked: bool) -> Performed
         return unasked();
     };
     if asked {
-        if let AskedCall::Evaluate(id, day) = c {
+        let role = c.role();
+        if let Role::Evaluation(id, day) = role {
             let why = why_asked(t, id, day, rows);
             let answer = perform(t, c, rows);
             return with_why(answer, why);

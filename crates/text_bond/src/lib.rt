@@ -11,6 +11,7 @@ ghost use Rattle.text_protocol.specs.Answers.{answerMost};
 ghost use Rattle.text_out.specs.Wrote.{Wrote};
 ghost use Rattle.text_out.specs.Told.{Told};
 ghost use Rattle.text_out.specs.Places.{nextBytes};
+use inputs::number_at;
 use paper::Tentative;
 use paper_bonds::Bond;
 use paper_bonds::BondAnswer;
@@ -19,12 +20,12 @@ use paper_bonds::BondStatics;
 use text_answer::record::put_rates;
 use text_answer::say_number;
 use text_bytes::ROOM;
-use text_call::number_at;
+use text_call::signed_at;
 use text_call::term_of;
-use text_call::unsigned_at;
 use text_out::put_byte;
 use text_out::put_next;
 use text_out::put_number;
+use text_protocol::BondPlace;
 use text_protocol::Kept;
 use text_protocol::Pairs;
 
@@ -34,22 +35,22 @@ fn statics_of(zs: &[i64]) -> BondStatics
     ensures { λ r. ⌜ r ≡ bondStaticsOf (now (zs .entry)) ⌝ }
 {
     BondStatics {
-        h: unsigned_at(zs, 17),
-        q: unsigned_at(zs, 18),
-        wait: unsigned_at(zs, 19),
-        rh1: unsigned_at(zs, 20),
-        rh2: unsigned_at(zs, 21),
-        rh3: unsigned_at(zs, 22),
-        liq: unsigned_at(zs, 23),
-        min1: unsigned_at(zs, 24),
-        min2: unsigned_at(zs, 25),
-        min3: unsigned_at(zs, 26),
-        smax: unsigned_at(zs, 27),
-        xpr: unsigned_at(zs, 28),
-        pchmax: unsigned_at(zs, 29),
-        pclmax: unsigned_at(zs, 30),
-        monitoring: unsigned_at(zs, 31),
-        ewma: unsigned_at(zs, 32),
+        h: number_at(zs, BondPlace::H),
+        q: number_at(zs, BondPlace::Q),
+        wait: number_at(zs, BondPlace::WAIT),
+        rh1: number_at(zs, BondPlace::RH1),
+        rh2: number_at(zs, BondPlace::RH2),
+        rh3: number_at(zs, BondPlace::RH3),
+        liq: number_at(zs, BondPlace::LIQ),
+        min1: number_at(zs, BondPlace::MIN1),
+        min2: number_at(zs, BondPlace::MIN2),
+        min3: number_at(zs, BondPlace::MIN3),
+        smax: number_at(zs, BondPlace::SMAX),
+        xpr: number_at(zs, BondPlace::XPR),
+        pchmax: number_at(zs, BondPlace::PCHMAX),
+        pclmax: number_at(zs, BondPlace::PCLMAX),
+        monitoring: number_at(zs, BondPlace::MONITORING),
+        ewma: number_at(zs, BondPlace::ISEWMA),
     }
 }
 
@@ -58,20 +59,20 @@ pub fn bond_of(k: Kept, p: Pairs, zs: &[i64]) -> Bond
     ensures { λ r. ⌜ r ≡ bondOf k (now (zs .entry)) p ⌝ }
 {
     Bond {
-        m: unsigned_at(zs, 0),
-        net: unsigned_at(zs, 1),
-        face: unsigned_at(zs, 2),
-        accrued: unsigned_at(zs, 3),
-        s: unsigned_at(zs, 5),
+        m: number_at(zs, BondPlace::M),
+        net: number_at(zs, BondPlace::NET),
+        face: number_at(zs, BondPlace::FACE),
+        accrued: number_at(zs, BondPlace::ACCRUED),
+        s: number_at(zs, BondPlace::S),
         tentative: Tentative {
-            bp: unsigned_at(zs, 6),
-            age: unsigned_at(zs, 7),
+            bp: number_at(zs, BondPlace::TENTATIVE),
+            age: number_at(zs, BondPlace::AGE),
         },
         statics: statics_of(zs),
-        first: term_of(k, p.first, zs, 8),
-        second: term_of(k, p.second, zs, 11),
-        third: term_of(k, p.third, zs, 14),
-        repo: number_at(zs, 4),
+        first: term_of(k, p.first, zs, BondPlace::K0),
+        second: term_of(k, p.second, zs, BondPlace::K1),
+        third: term_of(k, p.third, zs, BondPlace::K2),
+        repo: signed_at(zs, BondPlace::REPO),
     }
 }
 

@@ -1,4 +1,3 @@
 -- The laws of text_call, a file each; its own proofs alone cite them.
 mod Bits
 mod Rest
-mod LineCalls

@@ -1,17 +1,16 @@
 // What a call is given, from the numbers of its line. Each number is read at the place of its name
 // (text_protocol/specs/Names.antt). A float is made of the 64 bits that a number has.
 ghost use mathlib.Core.Path.{_≡_};
-ghost use mathlib.Core.Bool.{true};
 ghost use mathlib.Core.List.{List};
 ghost use Prim.Native.Nat.{_≤_, min};
 ghost use lib.IntN.{ℤ, pos};
 ghost use lib.ListN.{drop, getD};
-ghost use Rattle.paper.specs.Ranges.{within, unsigned};
 ghost use Rattle.text_protocol.specs.Calls.{admissionOf, quoteOf, bitsOf, floatOf, outsideOf, interestOf};
-ghost use Rattle.text_protocol.specs.Calls.{bandOf, askedOf, noticeCall, call, callOf, callAsked};
+ghost use Rattle.text_protocol.specs.Calls.{bandOf, askedOf, noticeCall, deskCall, callAsked};
 ghost use Rattle.text_call.specs.Terms.{termAtPlace};
-ghost use Rattle.text_protocol.specs.Names.{evaluateCount, admitKind, withdrawKind};
+ghost use Rattle.text_protocol.specs.Names.{evaluateCount};
 use inputs::given_of;
+use inputs::number_at;
 use paper::Admission;
 use paper::AskedDay;
 use paper::AskedTerm;
@@ -23,11 +22,18 @@ use paper::Quote;
 use paper::RepoBand;
 use paper::RepoLimits;
 use text_kept::found;
-use text_protocol::ADMISSION_COUNT;
+use text_protocol::AdmitPlace;
 use text_protocol::AskedCall;
+use text_protocol::EvaluatePlace;
+use text_protocol::IdPlace;
+use text_protocol::InterestPlace;
 use text_protocol::Kept;
 use text_protocol::Kind;
+use text_protocol::MovePlace;
+use text_protocol::NoticePlace;
+use text_protocol::OutsidePlace;
 use text_protocol::Pairs;
+use text_protocol::QuotePlace;
 
 // The number whose 64 bits are all 1: those of -1.
 const ALL_ONES: u64 = 18_446_744_073_709_551_615;
@@ -37,8 +43,8 @@ const SIGN_BIT: u64 = 9_223_372_036_854_775_808;
 
 const INFINITY_BITS: u64 = 9_218_868_437_227_405_312;
 
-// The number at a place; 0 where there is none.
-pub fn number_at(zs: &[i64], i: usize) -> i64
+// The number at a place, with its sign; 0 where there is none. `inputs::number_at` reads one that may not be below zero.
+pub fn signed_at(zs: &[i64], i: usize) -> i64
     ensures { λ r. ⌜ r ≡ getD (now (zs .entry)) i (pos 0) ⌝ }
 {
     if i < zs.len() {
@@ -47,26 +53,19 @@ pub fn number_at(zs: &[i64], i: usize) -> i64
     0
 }
 
-// The number at a place that may not be below zero.
-pub fn unsigned_at(zs: &[i64], i: usize) -> u64
-    ensures { λ r. ⌜ r ≡ unsigned (getD (now (zs .entry)) i (pos 0)) ⌝ }
-{
-    exact::unsigned(number_at(zs, i))
-}
-
 // ---- an admission
 
 pub fn admission_of(zs: &[i64]) -> Admission
     ensures { λ r. ⌜ r ≡ admissionOf (now (zs .entry)) ⌝ }
 {
     Admission {
-        id: unsigned_at(zs, 0),
-        day: unsigned_at(zs, 1),
-        p1: unsigned_at(zs, 2),
-        p2: unsigned_at(zs, 3),
-        s: unsigned_at(zs, 4),
-        tentative: unsigned_at(zs, 5),
-        given: given_of(figures(zs, ADMISSION_COUNT)),
+        id: number_at(zs, AdmitPlace::ID),
+        day: number_at(zs, AdmitPlace::DAY),
+        p1: number_at(zs, AdmitPlace::P1),
+        p2: number_at(zs, AdmitPlace::P2),
+        s: number_at(zs, AdmitPlace::S),
+        tentative: number_at(zs, AdmitPlace::TENTATIVE),
+        given: given_of(figures(zs, AdmitPlace::STATICS)),
     }
 }
 
@@ -89,8 +88,8 @@ pub fn term_of(k: Kept, pair: bool, zs: &[i64], at: usize) -> AskedTerm
     ensures { λ r. ⌜ r ≡ termAtPlace k pair (now (zs .entry)) at ⌝ }
 {
     AskedTerm {
-        k: unsigned_at(zs, at),
-        band: band_of(k, pair, number_at(zs, at + 1), number_at(zs, at + 2)),
+        k: number_at(zs, at),
+        band: band_of(k, pair, signed_at(zs, at + 1), signed_at(zs, at + 2)),
     }
 }
 
@@ -99,12 +98,12 @@ pub fn asked_of(k: Kept, p: Pairs, zs: &[i64]) -> AskedDay
     ensures { λ r. ⌜ r ≡ askedOf k (now (zs .entry)) p ⌝ }
 {
     AskedDay {
-        day: unsigned_at(zs, 1),
-        b: unsigned_at(zs, 2),
-        m: unsigned_at(zs, 3),
-        first: term_of(k, p.first, zs, 4),
-        second: term_of(k, p.second, zs, 7),
-        third: term_of(k, p.third, zs, 10),
+        day: number_at(zs, EvaluatePlace::DAY),
+        b: number_at(zs, EvaluatePlace::B),
+        m: number_at(zs, EvaluatePlace::M),
+        first: term_of(k, p.first, zs, EvaluatePlace::K0),
+        second: term_of(k, p.second, zs, EvaluatePlace::K1),
+        third: term_of(k, p.third, zs, EvaluatePlace::K2),
     }
 }
 
@@ -114,10 +113,10 @@ pub fn quote_of(zs: &[i64]) -> Quote
     ensures { λ r. ⌜ r ≡ quoteOf (now (zs .entry)) ⌝ }
 {
     Quote {
-        second: unsigned_at(zs, 1),
-        term: unsigned_at(zs, 2),
-        bid: unsigned_at(zs, 3),
-        ask: unsigned_at(zs, 4),
+        second: number_at(zs, QuotePlace::SECOND),
+        term: number_at(zs, QuotePlace::TERM),
+        bid: number_at(zs, QuotePlace::BID),
+        ask: number_at(zs, QuotePlace::ASK),
     }
 }
 
@@ -150,15 +149,15 @@ fn float_of(z: i64) -> f64
 fn float_at(zs: &[i64], i: usize) -> f64
     ensures { λ r. ⌜ r ≡ floatOf (getD (now (zs .entry)) i (pos 0)) ⌝ }
 {
-    float_of(number_at(zs, i))
+    float_of(signed_at(zs, i))
 }
 
 fn outside_of(zs: &[i64]) -> Outside
     ensures { λ r. ⌜ r ≡ outsideOf (now (zs .entry)) ⌝ }
 {
     Outside {
-        bid: float_at(zs, 1),
-        ask: float_at(zs, 2),
+        bid: float_at(zs, OutsidePlace::BIDBITS),
+        ask: float_at(zs, OutsidePlace::ASKBITS),
     }
 }
 
@@ -168,22 +167,22 @@ pub fn interest_of(zs: &[i64]) -> Interest
     ensures { λ r. ⌜ r ≡ interestOf (now (zs .entry)) ⌝ }
 {
     Interest {
-        b: unsigned_at(zs, 0),
-        ym: unsigned_at(zs, 1),
-        yn: unsigned_at(zs, 2),
+        b: number_at(zs, InterestPlace::B),
+        ym: number_at(zs, InterestPlace::YM),
+        yn: number_at(zs, InterestPlace::YN),
         model: Model {
-            aup: unsigned_at(zs, 3),
-            adown: unsigned_at(zs, 4),
-            q: unsigned_at(zs, 5),
+            aup: number_at(zs, InterestPlace::A_UP),
+            adown: number_at(zs, InterestPlace::A_DOWN),
+            q: number_at(zs, InterestPlace::Q),
         },
-        h: unsigned_at(zs, 6),
-        wait: unsigned_at(zs, 7),
-        liq: unsigned_at(zs, 8),
-        mm: unsigned_at(zs, 9),
-        sec: unsigned_at(zs, 10),
-        xir: unsigned_at(zs, 11),
-        money: number_at(zs, 12),
-        secrate: number_at(zs, 13),
+        h: number_at(zs, InterestPlace::H),
+        wait: number_at(zs, InterestPlace::WAIT),
+        liq: number_at(zs, InterestPlace::LIQ),
+        mm: number_at(zs, InterestPlace::MM),
+        sec: number_at(zs, InterestPlace::SEC),
+        xir: number_at(zs, InterestPlace::XIR),
+        money: signed_at(zs, InterestPlace::MONEY),
+        secrate: signed_at(zs, InterestPlace::SECRATE),
     }
 }
 
@@ -222,32 +221,36 @@ fn notice_of(id: u64, side: u64, x: f64) -> AskedCall
 
 // The call of the desk that a line of a kind is, with what it is given.
 pub fn call_of(zs: &[i64], kind: u64, p: Pairs, k: Kept) -> AskedCall
-    ensures { λ r. ⌜ (within admitKind withdrawKind kind ≡ true
-        → call (callAsked r (drop evaluateCount (now (zs .entry)))) ≡ callOf k kind (now (zs .entry)) p) ⌝ }
+    ensures { λ r. ⌜ callAsked r (drop evaluateCount (now (zs .entry))) ≡ deskCall k kind (now (zs .entry)) p ⌝ }
 {
     if kind == Kind::ADMIT {
         return AskedCall::Admit(admission_of(zs));
     }
     if kind == Kind::EVALUATE {
-        return AskedCall::Evaluate(unsigned_at(zs, 0), asked_of(k, p, zs));
+        return AskedCall::Evaluate(number_at(zs, EvaluatePlace::ID), asked_of(k, p, zs));
     }
     if kind == Kind::QUOTE {
-        return AskedCall::Quote(unsigned_at(zs, 0), quote_of(zs));
+        return AskedCall::Quote(number_at(zs, QuotePlace::ID), quote_of(zs));
     }
     if kind == Kind::MOVE {
-        return AskedCall::Move(unsigned_at(zs, 0), unsigned_at(zs, 1));
+        return AskedCall::Move(number_at(zs, MovePlace::ID), number_at(zs, MovePlace::SIDE));
     }
     if kind == Kind::READ {
-        return AskedCall::Read(unsigned_at(zs, 0));
+        return AskedCall::Read(number_at(zs, IdPlace::ID));
     }
     if kind == Kind::OPEN {
-        return AskedCall::Open(unsigned_at(zs, 0));
+        return AskedCall::Open(number_at(zs, IdPlace::ID));
     }
     if kind == Kind::OUTSIDE {
-        return AskedCall::Receive(unsigned_at(zs, 0), outside_of(zs));
+        return AskedCall::Receive(number_at(zs, OutsidePlace::ID), outside_of(zs));
     }
     if kind == Kind::NOTICE {
-        return notice_of(unsigned_at(zs, 0), unsigned_at(zs, 1), float_at(zs, 2));
+        let id = number_at(zs, NoticePlace::ID);
+        return notice_of(
+            id,
+            number_at(zs, NoticePlace::SIDE),
+            float_at(zs, NoticePlace::BITS),
+        );
     }
-    AskedCall::Notify(unsigned_at(zs, 0), Notice::Withdrawal)
+    AskedCall::Notify(number_at(zs, IdPlace::ID), Notice::Withdrawal)
 }

@@ -1,15 +1,12 @@
 -- What a line of each kind asks for is the deed that it says, and what is answered to it at once is that deed's answer.
 use mathlib.Core.Path.{_≡_, refl, sym, ap, subst, _∙_}
-use mathlib.Core.Bool.{true, false}
 use mathlib.Core.List.{List}
 use Prim.Native.Nat.{ℕ}
-use native.Mathlib.Omega.{arith}
 use lib.IntN.{ℤ}
 use lib.ListN.{drop}
 use borrow.Author.Tests.{ne-eqb}
 use Rattle.paper.specs.declared.Interest.{Interest}
 use Rattle.paper.specs.declared.InterestAnswer.{InterestAnswer}
-use Rattle.paper.specs.Ranges.{within}
 use Rattle.paper_interest.specs.Interest.{interestAnswer}
 use Rattle.paper_bonds.specs.declared.Bond.{Bond}
 use Rattle.paper_bonds.specs.declared.BondAnswer.{BondAnswer}
@@ -20,13 +17,12 @@ use Rattle.text_protocol.specs.declared.Ask.the-variants as ask
 use Rattle.text_protocol.specs.declared.Kept.{Kept}
 use Rattle.text_protocol.specs.declared.Pairs.{Pairs}
 use Rattle.text_protocol.specs.Kept.{keptAfter}
-use Rattle.text_protocol.specs.Names.{admitKind, evaluateKind, quoteKind, moveKind, readKind, openKind, outsideKind}
-use Rattle.text_protocol.specs.Names.{noticeKind, withdrawKind, interestKind, evaluateNames, interestNames, bondNames}
-use Rattle.text_protocol.specs.Names.{evaluateCount, interestCount, bondCount}
-use Rattle.text_protocol.specs.Calls.{Deed, call, interestOf, bondOf, figuresBehind, callOf, deedOf, callAsked}
+use Rattle.text_protocol.specs.Names.{interestKind, bondKind, blankKind, badKind, evaluateNames, interestNames}
+use Rattle.text_protocol.specs.Names.{bondNames, evaluateCount, interestCount, bondCount}
+use Rattle.text_protocol.specs.Calls.{Deed, interestOf, bondOf, figuresBehind, deskCall, callOf, deedOf, callAsked}
 use Rattle.text_protocol.specs.Calls.{deedAsked}
 use Rattle.text_evening.specs.Evening.{keptBy}
-use Rattle.text_line.specs.Heard.{blankKind, badKind, saidAs}
+use Rattle.text_line.specs.Heard.{saidAs}
 use Rattle.text_deed.specs.declared.Beside.{Beside}
 use Rattle.text_deed.specs.declared.LineDeed.{LineDeed}
 use Rattle.text_deed.specs.Deeds.{BesideIs, AsksFor}
@@ -47,40 +43,26 @@ module _ (k : Kept) (kind : ℕ) (zs : List ℤ) (p : Pairs) where
   asks-no-call e = rw e
 
   module _ (no-blank : kind ≡ blankKind → ⊥) (no-bad : kind ≡ badKind → ⊥) where
-    pub asks-call : (c : AskedCall) → within admitKind withdrawKind kind ≡ true
-        → (within admitKind withdrawKind kind ≡ true → call (callAsked c (drop evaluateCount zs)) ≡ callOf k kind zs p)
-        → IsAsked (ask.Call c)
-    unfolding deedOf deedAsked figuresBehind evaluateNames
-    asks-call c w e = rw (ne-eqb kind blankKind no-blank, ne-eqb kind badKind no-bad) (e w)
-
     pub asks-interest : (i : Interest) → kind ≡ interestKind → i ≡ interestOf zs → IsAsked (ask.Interest i)
     unfolding deedOf deedAsked callOf
     asks-interest i e f = rw (e, f)
 
-    -- a line of no other kind is a bond's
-    pub asks-bond : (b : Bond) → within admitKind withdrawKind kind ≡ false → (kind ≡ interestKind → ⊥)
-        → b ≡ bondOf k zs p → IsAsked (ask.Bond b)
+    pub asks-bond : (b : Bond) → kind ≡ bondKind → b ≡ bondOf k zs p → IsAsked (ask.Bond b)
     unfolding deedOf deedAsked callOf
-    asks-bond b w no-interest f =
+    asks-bond b e f = rw (e, f)
+
+    -- a line of no other kind is a call of the desk
+    pub asks-call : (c : AskedCall) → (kind ≡ interestKind → ⊥) → (kind ≡ bondKind → ⊥)
+        → callAsked c (drop evaluateCount zs) ≡ deskCall k kind zs p → IsAsked (ask.Call c)
+    unfolding deedOf deedAsked callOf figuresBehind evaluateNames
+    asks-call c no-interest no-bond e =
         rw (
-          f,
           ne-eqb kind blankKind no-blank,
           ne-eqb kind badKind no-bad,
-          ne-eqb kind admitKind (none admitKind refl),
-          ne-eqb kind evaluateKind (none evaluateKind refl),
-          ne-eqb kind quoteKind (none quoteKind refl),
-          ne-eqb kind moveKind (none moveKind refl),
-          ne-eqb kind readKind (none readKind refl),
-          ne-eqb kind openKind (none openKind refl),
-          ne-eqb kind outsideKind (none outsideKind refl),
-          ne-eqb kind noticeKind (none noticeKind refl),
-          ne-eqb kind withdrawKind (none withdrawKind refl),
           ne-eqb kind interestKind no-interest,
+          ne-eqb kind bondKind no-bond,
+          e,
         )
-      where
-        -- it is no call of the desk
-        none : (x : ℕ) → within admitKind withdrawKind x ≡ true → kind ≡ x → ⊥
-        none x t e = let z : _≡_ {A = ℕ} 0 1 = cc in omega arith
 
 -- ---- what is answered to it at once, and what is kept of it
 

@@ -16,7 +16,8 @@ use Rattle.text_protocol.specs.declared.Performed.{Performed}
 use Rattle.text_evening.specs.declared.Telling.{Telling}
 use Rattle.text_evening.specs.declared.Telling.the-variants.{Answers, Reasons, Messages}
 use Rattle.text_protocol.specs.Calls.{Deed, nothing, noCall, call, interest, bond, callAsked, deedAsked}
-use Rattle.text_protocol.specs.Answers.{badText, callText, interestText, bondText}
+use Rattle.text_protocol.specs.Answers.{badText, interestText, bondText}
+use Rattle.text_protocol.specs.Roles.{roleOf, shownText}
 use Rattle.text_protocol.specs.Reasons.{whyText}
 use Rattle.paper_messages.specs.Broadcast.{broadcastOf}
 use Rattle.text_evening.specs.Evening.{keptBy, worded}
@@ -55,7 +56,7 @@ inWords Messages = false
 
 -- why a call is answered as it is, or its answer where no reason is named. The row figures are no part of either
 unfoldable pub reasonFor : Explained → AskedCall → Performed → List ℕ
-reasonFor No c p = callText (callAsked c []) (p .answer)
+reasonFor No c p = shownText (roleOf c) (p .answer)
 reasonFor (Because y) c p = whyText y
 
 abbrev pub reasonSaid : AskedCall → Performed → List ℕ
@@ -63,7 +64,7 @@ reasonSaid c p = reasonFor (p .why) c p
 
 -- what a call is told as, by what the desk said
 unfoldable pub callSaid : Telling → AskedCall → Performed → List ℕ
-callSaid Answers c p = callText (callAsked c []) (p .answer)
+callSaid Answers c p = shownText (roleOf c) (p .answer)
 callSaid Reasons c p = reasonSaid c p
 callSaid Messages c p = broadcastOf (callAsked c []) (p .answer)
 

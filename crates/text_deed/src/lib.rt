@@ -27,9 +27,9 @@ use text_kept::kept_after;
 use text_line::Line;
 use text_protocol::Ask;
 use text_protocol::AskedCall;
-use text_protocol::BOND_COUNT;
+use text_protocol::BondPlace;
 use text_protocol::Explained;
-use text_protocol::INTEREST_COUNT;
+use text_protocol::InterestPlace;
 use text_protocol::Kept;
 use text_protocol::Kind;
 use text_protocol::Pairs;
@@ -63,13 +63,13 @@ fn ask_of(zs: &[i64], kind: u64, p: Pairs, k: Kept) -> Ask
     if kind == Kind::BAD {
         return Ask::NoCall;
     }
-    if (Kind::ADMIT <= kind) & (kind <= Kind::WITHDRAW) {
-        return Ask::Call(call_of(zs, kind, p, k));
-    }
     if kind == Kind::INTEREST {
         return Ask::Interest(interest_of(zs));
     }
-    Ask::Bond(bond_of(k, p, zs))
+    if kind == Kind::BOND {
+        return Ask::Bond(bond_of(k, p, zs));
+    }
+    Ask::Call(call_of(zs, kind, p, k))
 }
 
 // An answer of the interest side. The bond's beside it is a refusal, which nothing prints.
@@ -114,7 +114,7 @@ pub fn deed_of(zs: &[i64], l: Line, k: Kept) -> LineDeed
         Ask::NoCall => of_desk(ask, k),
         Ask::Call(_) => of_desk(ask, k),
         Ask::Interest(given) => {
-            let i = interest::answer(given, figures(zs, INTEREST_COUNT));
+            let i = interest::answer(given, figures(zs, InterestPlace::COUNT));
             LineDeed {
                 ask,
                 beside: of_interest(i),
@@ -122,7 +122,7 @@ pub fn deed_of(zs: &[i64], l: Line, k: Kept) -> LineDeed
             }
         }
         Ask::Bond(given) => {
-            let b = bond::answer(given, figures(zs, BOND_COUNT));
+            let b = bond::answer(given, figures(zs, BondPlace::COUNT));
             LineDeed {
                 ask,
                 beside: of_bond(b),
@@ -165,7 +165,7 @@ fn say_reason(out: &mut [u8; ROOM], len: usize, c: AskedCall, p: Performed) -> u
     match why {
         Explained::No => {
             let answer = p.answer;
-            say_answer(out, len, c, answer)
+            say_answer(out, len, c.role(), answer)
         }
         Explained::Because(reasons) => say_why(out, len, reasons),
     }
@@ -179,7 +179,7 @@ fn say_call(out: &mut [u8; ROOM], len: usize, telling: Telling, c: AskedCall, p:
     match telling {
         Telling::Answers => {
             let answer = p.answer;
-            say_answer(out, len, c, answer)
+            say_answer(out, len, c.role(), answer)
         }
         Telling::Reasons => say_reason(out, len, c, p),
         Telling::Messages => {

@@ -8,18 +8,11 @@ use lib.IntN.{ℤ}
 use lib.ListN.{length, take}
 use Rattle.paper.specs.Lists.{pick}
 use Rattle.text_protocol.specs.declared.Pairs.{Pairs}
-use Rattle.text_protocol.specs.Names.{RRCL0, RRCL1, RRCL2, takes}
+use Rattle.text_protocol.specs.Names.{RRCL0, RRCL1, RRCL2, blankKind, badKind, takes}
 use Rattle.text_protocol.specs.Line.{Said, Nothing, NoCall, Call, Reading, read, spoilt, noPairs, placeIn, more}
 use Rattle.text_protocol.specs.Line.{keptMost}
 use Rattle.text_line.specs.declared.Line.{Line}
 use Rattle.text_line.specs.declared.Taken.{Taken}
-
--- the kinds behind those of the calls
-abbrev pub blankKind : ℕ
-blankKind = 12
-
-abbrev pub badKind : ℕ
-badKind = 13
 
 abbrev pub blankLine : Line
 blankLine = record { kind = blankKind; count = 0; pairs = noPairs }
@@ -35,7 +28,7 @@ unfoldable pub said : Line → List ℤ → Said
 said l xs = saidAs (l .kind) (take (l .count) xs) (l .pairs)
 
 -- the reader's promise: the line says s, its numbers are the first of xs, xs is as long as it was, and the kind is one
--- of the thirteen
+-- of a call's or of the two behind them
 pub record Heard (s : Said) (l : Line) (xs : List ℤ) : Type 0 where
   pub says : said l xs ≡ s
   pub long : length xs ≡ keptMost

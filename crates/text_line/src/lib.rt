@@ -10,21 +10,15 @@ ghost use Rattle.text_protocol.specs.Names.{kindOf, takes};
 ghost use Rattle.text_protocol.specs.Line.{noPairs, hasTerms, pairFits, withPair, taking, fill, meaning, keptMost};
 ghost use Rattle.text_line.specs.Heard.{blankLine, badLine, Heard, lineOf, LowsAt, Keeps, Takes};
 use text_bytes::ROOM;
-use text_protocol::ADMIT_COUNT;
-use text_protocol::BOND_COUNT;
-use text_protocol::EVALUATE_COUNT;
-use text_protocol::INTEREST_COUNT;
+use text_protocol::BondPlace;
+use text_protocol::CALLS;
+use text_protocol::COUNTS;
+use text_protocol::EvaluatePlace;
 use text_protocol::Item;
 use text_protocol::KEPT;
 use text_protocol::Kind;
-use text_protocol::MOVE_COUNT;
-use text_protocol::NOTICE_COUNT;
-use text_protocol::OPEN_COUNT;
-use text_protocol::OUTSIDE_COUNT;
+use text_protocol::MORE;
 use text_protocol::Pairs;
-use text_protocol::QUOTE_COUNT;
-use text_protocol::READ_COUNT;
-use text_protocol::WITHDRAW_COUNT;
 use text_word::item_of;
 use text_word::past_blanks;
 use text_word::past_word;
@@ -32,11 +26,6 @@ use text_word::same_bytes;
 
 // A line of more bytes is no call: the buffer has no room for a line feed behind them.
 pub const LONGEST: usize = ROOM - 1;
-
-// The place of the first RRCL of an evaluation and of a bond, where a pair may stand.
-const EVALUATE_LOW: usize = 5;
-
-const BOND_LOW: usize = 9;
 
 // The numbers K RRCL RRCH of a term.
 const TERM_NUMBERS: usize = 3;
@@ -107,39 +96,7 @@ fn kind_of(p: &[u8]) -> u64
     kind_if(p, b"admit", Kind::ADMIT, k)
 }
 
-// The calls in the order of their kinds: how many numbers each has, and behind which more may follow, the row figures
-// of `evaluate`, the key maturities of `interest` and the cash flows of `bond`.
-const CALLS: usize = 11;
-
-const COUNTS: [usize; CALLS] = [
-    ADMIT_COUNT,
-    EVALUATE_COUNT,
-    QUOTE_COUNT,
-    MOVE_COUNT,
-    READ_COUNT,
-    OPEN_COUNT,
-    OUTSIDE_COUNT,
-    NOTICE_COUNT,
-    WITHDRAW_COUNT,
-    INTEREST_COUNT,
-    BOND_COUNT,
-];
-
-const MORE: [bool; CALLS] = [
-    false,
-    true, // evaluate
-    false,
-    false,
-    false,
-    false,
-    false,
-    false,
-    false,
-    true, // interest
-    true, // bond
-];
-
-// Whether a call of the kind has so many numbers.
+// Whether a call of the kind has so many numbers: by its row of the table of calls.
 fn takes(kind: u64, count: usize) -> bool
     ensures { λ r. ⌜ r ≡ takes kind count ⌝ }
 {
@@ -180,9 +137,9 @@ fn first_low(kind: u64) -> usize
     ensures { λ r. ⌜ LowsAt kind r ⌝ }
 {
     if kind == Kind::BOND {
-        return BOND_LOW;
+        return BondPlace::RRCL0;
     }
-    EVALUATE_LOW
+    EvaluatePlace::RRCL0
 }
 
 // A pair stands in a call with terms alone, in place of a term's RRCL RRCH.

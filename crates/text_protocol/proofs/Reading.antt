@@ -1,6 +1,6 @@
 -- What is written is read, what is read is written, and THE READING OF A LINE IS UNIQUE.
 use mathlib.Core.Path.{_≡_, refl, sym, ap, _∙_}
-use mathlib.Core.Bool.{Bool, true, false, not}
+use mathlib.Core.Bool.{Bool, true, false, not, _&&_}
 use mathlib.Core.List.{List, [], _∷_, _++_}
 use Prim.Native.Nat.{ℕ, suc, _≤_, _<_}
 use native.Mathlib.Omega.{arith}
@@ -10,6 +10,7 @@ use lib.ListN.{length, take, drop, length-append}
 use lib.Seq.{take-append-seam}
 use borrow.Author.Tests.{le-leb, leb-true, ne-eqb, eqb-true, lt-ltb, le-ltb, ltb-true}
 use Rattle.paper.specs.Lists.{pick}
+use Rattle.paper.proofs.Logic.{and-left, and-right}
 use Rattle.text_bytes.specs.declared.Number.{Number}
 use Rattle.text_bytes.specs.declared.Number.the-variants as number
 use Rattle.text_protocol.specs.declared.Item.{Item}
@@ -17,14 +18,11 @@ use Rattle.text_protocol.specs.declared.Item.the-variants as item
 use Rattle.text_protocol.specs.declared.Pairs.{Pairs}
 use Rattle.text_bytes.specs.Bytes.{isBlank, slash, digitZero, isNot, run, words, same}
 use Rattle.text_bytes.specs.Numbers.{numberOf, slashAt}
-use Rattle.text_protocol.specs.Names.{kindFrom, kindOf, forms, takes, admitWord, evaluateWord, quoteWord}
-use Rattle.text_protocol.specs.Names.{moveWord, readWord, openWord, outsideWord, noticeWord, withdrawWord}
-use Rattle.text_protocol.specs.Names.{interestWord, bondWord}
+use Rattle.text_protocol.specs.Names.{Form, kindFrom, kindOf, forms, takes}
 use Rattle.text_protocol.specs.Line.{NoCall, Call, oneOf, twoOf, itemOf, noPairs, pairFits, withPair, more}
 use Rattle.text_protocol.specs.Line.{finished, fill, called, longest, meaning}
 use Rattle.text_bytes.specs.Spells.{Blanks, no-blank, blank, Digits, no-digit, digit, Spells, plain, minus}
-use Rattle.text_protocol.specs.Written.{CallWord, admit, evaluate, quote, move, read, openEvening, outside}
-use Rattle.text_protocol.specs.Written.{notice, withdraw, interest, bond, Numbers, done, one, two, Says, says}
+use Rattle.text_protocol.specs.Written.{WordFrom, here, behind, CallWord, Numbers, done, one, two, Says, says}
 use Rattle.text_bytes.proofs.Words.{Solid, solid, Ends, end, parted, solid-append, words-blanks, words-solid}
 use Rattle.text_bytes.proofs.Words.{words-none, high-solid, allHigh, letters-are-solid, Split, last, word}
 use Rattle.text_bytes.proofs.Words.{SplitOf, split-words, split, word-not-here}
@@ -108,46 +106,48 @@ numbers-fill {k} {ys} {q} (two {b = b} {t} {v} {w} {rest} h bs s u f n) =
     ∙ fill-two k ys q (v ++ slash ∷ w) (words rest) (item-two s u) f
     ∙ numbers-fill n
 
-word-solid : {w : List ℕ} {k : ℕ} → CallWord w k → Solid w
-unfolding allHigh
-word-solid {w} admit = letters-are-solid w refl
-word-solid {w} evaluate = letters-are-solid w refl
-word-solid {w} quote = letters-are-solid w refl
-word-solid {w} move = letters-are-solid w refl
-word-solid {w} read = letters-are-solid w refl
-word-solid {w} openEvening = letters-are-solid w refl
-word-solid {w} outside = letters-are-solid w refl
-word-solid {w} notice = letters-are-solid w refl
-word-solid {w} withdraw = letters-are-solid w refl
-word-solid {w} interest = letters-are-solid w refl
-word-solid {w} bond = letters-are-solid w refl
+-- the word of a row is letters, not empty, and found at the row's place k
+isFound : (k : ℕ) → Form → Bool
+unfolding kindOf kindFrom forms same allHigh
+isFound k f = allHigh (f .word) && (ltb 0 (length (f .word)) && eqb (kindOf (f .word)) k)
 
-word-some : {w : List ℕ} {k : ℕ} → CallWord w k → 0 < length w
-word-some admit = omega arith
-word-some evaluate = omega arith
-word-some quote = omega arith
-word-some move = omega arith
-word-some read = omega arith
-word-some openEvening = omega arith
-word-some outside = omega arith
-word-some notice = omega arith
-word-some withdraw = omega arith
-word-some interest = omega arith
-word-some bond = omega arith
+-- each row of a table, the first of which has the place k
+allFound : (k : ℕ) → List Form → Bool
+allFound k [] = true
+allFound k (f ∷ fs) = isFound k f && allFound (suc k) fs
+
+every-word-is-found : allFound 1 forms ≡ true
+unfolding isFound allFound
+every-word-is-found = refl
+
+record Found (w : List ℕ) (k : ℕ) : Type 0 where
+  letters : allHigh w ≡ true
+  some : 0 < length w
+  at : kindOf w ≡ k
+
+found-word : {n : ℕ} (fs : List Form) {w : List ℕ} {k : ℕ} → allFound n fs ≡ true → WordFrom n fs w k → Found w k
+unfolding isFound allFound
+found-word {n} (f ∷ fs) e here =
+    let row = and-left (isFound n f) (allFound (suc n) fs) e in
+    let rest = and-right (allHigh (f .word)) (ltb 0 (length (f .word)) && eqb (kindOf (f .word)) n) row in
+    record {
+      letters = and-left (allHigh (f .word)) (ltb 0 (length (f .word)) && eqb (kindOf (f .word)) n) row;
+      some = ltb-true 0 (length (f .word)) (and-left (ltb 0 (length (f .word))) (eqb (kindOf (f .word)) n) rest);
+      at = eqb-true (kindOf (f .word)) n (and-right (ltb 0 (length (f .word))) (eqb (kindOf (f .word)) n) rest);
+    }
+found-word {n} (f ∷ fs) e (behind x) = found-word fs (and-right (isFound n f) (allFound (suc n) fs) e) x
+
+call-found : {w : List ℕ} {k : ℕ} → CallWord w k → Found w k
+call-found x = found-word forms every-word-is-found x
+
+-- no call is of kind 0
+call-some : {n : ℕ} (fs : List Form) {w : List ℕ} {k : ℕ} → WordFrom n fs w k → n ≤ k
+call-some (f ∷ fs) here = omega arith
+call-some (f ∷ fs) (behind x) = omega (arith, call-some fs x)
 
 word-called : {w : List ℕ} {k : ℕ} (ws : List (List ℕ)) → CallWord w k → called (w ∷ ws) ≡ fill k [] noPairs ws
-unfolding called kindOf kindFrom forms same
-word-called ws admit = refl
-word-called ws evaluate = refl
-word-called ws quote = refl
-word-called ws move = refl
-word-called ws read = refl
-word-called ws openEvening = refl
-word-called ws outside = refl
-word-called ws notice = refl
-word-called ws withdraw = refl
-word-called ws interest = refl
-word-called ws bond = refl
+unfolding called
+word-called {w} {k} ws x = rw (call-found x .at, ne-eqb k 0 (λ e. omega (arith, call-some forms x)))
 
 finished-right : (k : ℕ) (zs : List ℤ) (p : Pairs) → takes k (length zs) ≡ true → finished k zs p ≡ Call k zs p
 unfolding finished
@@ -162,7 +162,8 @@ short-line-is-called l h = rw (le-leb (length l) longest h)
 pub says-reads : {l : List ℕ} {k : ℕ} {zs : List ℤ} {p : Pairs} → Says l k zs p → meaning l ≡ Call k zs p
 says-reads (says {t} {w} {rest} {k} {zs} {p} bs x n h o) =
     short-line-is-called (t ++ (w ++ rest)) o
-    ∙ ap called (words-blanks (w ++ rest) bs ∙ words-solid w (word-solid x) (word-some x) (numbers-ends n))
+    ∙ ap called (words-blanks (w ++ rest) bs ∙ words-solid w (letters-are-solid w (call-found x .letters)) (call-found x .some)
+    (numbers-ends n))
     ∙ word-called (words rest) x
     ∙ numbers-fill n
     ∙ finished-right k zs p h
@@ -325,39 +326,21 @@ same-is (b ∷ w) (c ∷ v) e = go (eqb b c) refl e (λ f. same-is w v f)
     go false h f k = impossible cc
 
 -- a word that has a kind is a call's
-word-back : (w : List ℕ) → eqb (kindOf w) 0 ≡ false → CallWord w (kindOf w)
-unfolding kindOf kindFrom forms
-word-back w e =
-    go (same w admitWord) (same w evaluateWord) (same w quoteWord) (same w moveWord) (same w readWord) (same w openWord)
-    (same w outsideWord) (same w noticeWord) (same w withdrawWord) (same w interestWord) (same w bondWord)
-    refl refl refl refl refl refl refl refl refl refl refl e
+word-back : (k : ℕ) (fs : List Form) (w : List ℕ) → eqb (kindFrom k fs w) 0 ≡ false → WordFrom k fs w (kindFrom k fs w)
+unfolding kindFrom
+word-back k [] w e = impossible cc
+word-back k (f ∷ fs) w e = go (same w (f .word)) refl (λ h. word-back (suc k) fs w h) e
   where
-    go : (a b c d f o x y z g h : Bool) → same w admitWord ≡ a → same w evaluateWord ≡ b → same w quoteWord ≡ c
-        → same w moveWord ≡ d → same w readWord ≡ f → same w openWord ≡ o → same w outsideWord ≡ x
-        → same w noticeWord ≡ y → same w withdrawWord ≡ z → same w interestWord ≡ g → same w bondWord ≡ h
-        → eqb (pick a 1 (pick b 2 (pick c 3 (pick d 4 (pick f 5 (pick o 6 (pick x 7 (pick y 8 (pick z 9 (pick g 10 (pick
-        h 11 0))))))))))) 0 ≡ false
-        → CallWord w (pick a 1 (pick b 2 (pick c 3 (pick d 4 (pick f 5 (pick o 6 (pick x 7 (pick y 8 (pick z 9 (pick g
-        10 (pick h 11 0)))))))))))
-    go true b c d f o x y z g h ha hb hc hd hf ho hx hy hz hg hh e = rw (same-is w admitWord ha) admit
-    go false true c d f o x y z g h ha hb hc hd hf ho hx hy hz hg hh e = rw (same-is w evaluateWord hb) evaluate
-    go false false true d f o x y z g h ha hb hc hd hf ho hx hy hz hg hh e = rw (same-is w quoteWord hc) quote
-    go false false false true f o x y z g h ha hb hc hd hf ho hx hy hz hg hh e = rw (same-is w moveWord hd) move
-    go false false false false true o x y z g h ha hb hc hd hf ho hx hy hz hg hh e = rw (same-is w readWord hf) read
-    go false false false false false true x y z g h ha hb hc hd hf ho hx hy hz hg hh e =
-        rw (same-is w openWord ho) openEvening
-    go false false false false false false true y z g h ha hb hc hd hf ho hx hy hz hg hh e =
-        rw (same-is w outsideWord hx) outside
-    go false false false false false false false true z g h ha hb hc hd hf ho hx hy hz hg hh e =
-        rw (same-is w noticeWord hy) notice
-    go false false false false false false false false true g h ha hb hc hd hf ho hx hy hz hg hh e =
-        rw (same-is w withdrawWord hz) withdraw
-    go false false false false false false false false false true h ha hb hc hd hf ho hx hy hz hg hh e =
-        rw (same-is w interestWord hg) interest
-    go false false false false false false false false false false true ha hb hc hd hf ho hx hy hz hg hh e =
-        rw (same-is w bondWord hh) bond
-    go false false false false false false false false false false false ha hb hc hd hf ho hx hy hz hg hh e =
-        impossible cc
+    go : (x : Bool) → same w (f .word) ≡ x
+        → (eqb (kindFrom (suc k) fs w) 0 ≡ false → WordFrom (suc k) fs w (kindFrom (suc k) fs w))
+        → eqb (pick x k (kindFrom (suc k) fs w)) 0 ≡ false
+        → WordFrom k (f ∷ fs) w (pick x k (kindFrom (suc k) fs w))
+    go true h on e = rw (same-is w (f .word) h) here
+    go false h on e = behind (on e)
+
+call-back : (w : List ℕ) → eqb (kindOf w) 0 ≡ false → CallWord w (kindOf w)
+unfolding kindOf
+call-back w e = word-back 1 forms w e
 
 line-back : {l : List ℕ} {ws : List (List ℕ)} (k : ℕ) (zs : List ℤ) (p : Pairs) → Split l ws → length l ≤ longest
     → called ws ≡ Call k zs p → Says l k zs p
@@ -370,7 +353,7 @@ line-back k zs p (word {t} {w} {rest} {ws} bs s h en r) o e = go (eqb (kindOf w)
     go true i f = impossible cc
     go false i f =
         let b : FillBack (kindOf w) [] noPairs rest k zs p = fill-back (kindOf w) [] noPairs k zs p en r f in
-        rw (b .kind) at (says bs (word-back w i) (b .numbers) (b .count) o)
+        rw (b .kind) at (says bs (call-back w i) (b .numbers) (b .count) o)
 
 -- WHAT IS READ IS WRITTEN: a line that means a call is one that says it
 pub reads-says : (l : List ℕ) (k : ℕ) (zs : List ℤ) (p : Pairs) → meaning l ≡ Call k zs p → Says l k zs p

@@ -18,16 +18,14 @@ use Rattle.paper_desk.specs.External.{together, notice}
 use Rattle.text_protocol.specs.declared.Kept.{Kept}
 use Rattle.text_bytes.specs.Bytes.{isBlank, isNot, run, grow, pieces, full, words, same, bytes}
 use Rattle.text_bytes.specs.Numbers.{isDigit, sizeFrom, sizeOf, upTo, above, below, numberOf, slashAt}
-use Rattle.text_protocol.specs.Names.{code, admitNames, evaluateNames, quoteNames, moveNames, readNames}
-use Rattle.text_protocol.specs.Names.{openNames, outsideNames, noticeNames, withdrawNames, interestNames}
-use Rattle.text_protocol.specs.Names.{bondNames, forms, kindFrom, kindOf, countFits, takesIn, takes, placeOf, the}
+use Rattle.text_protocol.specs.Names.{code, forms, kindFrom, kindOf, countFits, takesIn, takes, placeOf, the}
 use Rattle.text_protocol.specs.Line.{oneOf, twoOf, itemOf, hasTerms, placeIn, pairFits, withPair, more, taking}
 use Rattle.text_protocol.specs.Line.{onWith, finished, fill, called, meaning}
 use Rattle.text_protocol.specs.LineCases.{naturals, zText}
 use Rattle.text_protocol.specs.Kept.{noPair, foundIn}
 use Rattle.text_protocol.specs.Calls.{Deed, call, interest, bond, admissionOf, quoteOf, bitsOf, floatOf}
 use Rattle.text_protocol.specs.Calls.{outsideOf, noticeCall, interestOf, bandOf, termOf, askedOf, bondStaticsOf}
-use Rattle.text_protocol.specs.Calls.{bondOf, figuresBehind, callOf, deedOf}
+use Rattle.text_protocol.specs.Calls.{bondOf, figuresBehind, deskCall, callOf, deedOf}
 
 -- of the pair 6/7 the limits 60 and 70 are kept, of no other pair any
 unfoldable pub keptLimits : Kept
@@ -45,11 +43,10 @@ floatAt bits = ofBits binary64 bits
 -- what a line asks for. It opens every definition that a line is read with, so that a table opens this one alone
 unfoldable pub deedIn : List ℕ → Deed
 unfolding floatAt keptLimits bytes isDone unsigned workedRepo repoOf dayOf dayTerm isBlank isNot run grow pieces full
-    words same isDigit sizeFrom sizeOf upTo above below numberOf slashAt code admitNames evaluateNames quoteNames
-    moveNames readNames openNames outsideNames noticeNames withdrawNames interestNames bondNames forms kindFrom kindOf
+    words same isDigit sizeFrom sizeOf upTo above below numberOf slashAt code forms kindFrom kindOf
     countFits takesIn takes placeOf the oneOf twoOf itemOf hasTerms placeIn pairFits withPair more taking onWith
     finished fill called meaning foundIn givenOf admissionOf quoteOf bitsOf floatOf outsideOf noticeCall interestOf
-    bandOf termOf askedOf bondStaticsOf bondOf figuresBehind callOf deedOf
+    bandOf termOf askedOf bondStaticsOf bondOf figuresBehind deskCall callOf deedOf
 deedIn text = deedOf keptLimits (meaning text)
 
 unfoldable pub deedBy : String → Deed

@@ -35,10 +35,9 @@ use Rattle.text_protocol.specs.Names.{RH3, LIQ, MIN1, MIN2, MIN3, SMAX, 
 use Rattle.text_protocol.specs.Names.{B, M, K0, RRCL0, RRCH0, K1, RRCL1, RRCH1, K2, RRCL2, RRCH2, SECOND, TERM}
 use Rattle.text_protocol.specs.Names.{BID, ASK, SIDE, YM, YN, MM, SEC, XIR, MONEY, SECRATE, NET, FACE, ACCRUED}
 use Rattle.text_protocol.specs.Names.{REPO, AGE, BIDBITS, ASKBITS, BITS, admissionNames, admitNames}
-use Rattle.text_protocol.specs.Names.{evaluateNames, quoteNames, moveNames, readNames, openNames, outsideNames}
-use Rattle.text_protocol.specs.Names.{noticeNames, withdrawNames, interestNames, bondNames, admitKind}
-use Rattle.text_protocol.specs.Names.{evaluateKind, quoteKind, moveKind, readKind, openKind, outsideKind}
-use Rattle.text_protocol.specs.Names.{noticeKind, withdrawKind, interestKind, the}
+use Rattle.text_protocol.specs.Names.{evaluateNames, quoteNames, moveNames, idNames, outsideNames, noticeNames}
+use Rattle.text_protocol.specs.Names.{interestNames, bondNames, admitKind, evaluateKind, quoteKind, moveKind}
+use Rattle.text_protocol.specs.Names.{readKind, openKind, outsideKind, noticeKind, interestKind, bondKind, the}
 use Rattle.text_protocol.specs.Line.{Said, Nothing, NoCall, Call as saysCall}
 
 -- a number that may not be below zero: one that is, is out of every range
@@ -195,22 +194,26 @@ pub data Deed : Type 0 where
   interest : Interest → (keys : List ℤ) → Deed
   bond : Bond → (flows : List ℤ) → Deed
 
--- the call of a kind, where k is what is kept of the interest lines
+-- the call of the desk of a kind, where k is what is kept of the interest lines. The last is a withdrawal
+unfoldable pub deskCall : Kept → (kind : ℕ) → List ℤ → Pairs → Call
+deskCall k kind zs p =
+    pick (eqb kind admitKind) (admit (admissionOf zs))
+    (pick (eqb kind evaluateKind)
+    (evaluate (unsignedOf evaluateNames zs ID) (dayOf (askedOf k zs p)) (figuresBehind evaluateNames zs))
+    (pick (eqb kind quoteKind) (quote (unsignedOf quoteNames zs ID) (quoteOf zs))
+    (pick (eqb kind moveKind) (move (unsignedOf moveNames zs ID) (unsignedOf moveNames zs SIDE))
+    (pick (eqb kind readKind) (read (unsignedOf idNames zs ID))
+    (pick (eqb kind openKind) (openEvening (unsignedOf idNames zs ID))
+    (pick (eqb kind outsideKind) (receive (unsignedOf outsideNames zs ID) (together (outsideOf zs)))
+    (pick (eqb kind noticeKind)
+    (noticeCall (unsignedOf noticeNames zs ID) (unsignedOf noticeNames zs SIDE) (floatOf (the noticeNames zs BITS)))
+    (receive (unsignedOf idNames zs ID) (notice sent.Withdrawal)))))))))
+
+-- what a line of a kind asks for
 unfoldable pub callOf : Kept → (kind : ℕ) → List ℤ → Pairs → Deed
 callOf k kind zs p =
-    pick (eqb kind admitKind) (call (admit (admissionOf zs)))
-    (pick (eqb kind evaluateKind)
-    (call (evaluate (unsignedOf evaluateNames zs ID) (dayOf (askedOf k zs p)) (figuresBehind evaluateNames zs)))
-    (pick (eqb kind quoteKind) (call (quote (unsignedOf quoteNames zs ID) (quoteOf zs)))
-    (pick (eqb kind moveKind) (call (move (unsignedOf moveNames zs ID) (unsignedOf moveNames zs SIDE)))
-    (pick (eqb kind readKind) (call (read (unsignedOf readNames zs ID)))
-    (pick (eqb kind openKind) (call (openEvening (unsignedOf openNames zs ID)))
-    (pick (eqb kind outsideKind) (call (receive (unsignedOf outsideNames zs ID) (together (outsideOf zs))))
-    (pick (eqb kind noticeKind) (call (noticeCall (unsignedOf noticeNames zs ID) (unsignedOf noticeNames zs SIDE)
-    (floatOf (the noticeNames zs BITS))))
-    (pick (eqb kind withdrawKind) (call (receive (unsignedOf withdrawNames zs ID) (notice sent.Withdrawal)))
-    (pick (eqb kind interestKind) (interest (interestOf zs) (figuresBehind interestNames zs))
-    (bond (bondOf k zs p) (figuresBehind bondNames zs)))))))))))
+    pick (eqb kind interestKind) (interest (interestOf zs) (figuresBehind interestNames zs))
+    (pick (eqb kind bondKind) (bond (bondOf k zs p) (figuresBehind bondNames zs)) (call (deskCall k kind zs p)))
 
 unfoldable pub deedOf : Kept → Said → Deed
 deedOf k Nothing = nothing

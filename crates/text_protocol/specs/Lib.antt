@@ -9,5 +9,6 @@ pub mod Calls
 pub mod CallCases
 pub mod Answers
 pub mod AnswerCases
+pub mod Roles
 pub mod Reasons
 pub mod ReasonCases

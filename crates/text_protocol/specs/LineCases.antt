@@ -11,10 +11,8 @@ use Rattle.paper.specs.PinnedValues.{zStatics}
 use Rattle.text_bytes.specs.Bytes.{isBlank, isNot, run, grow, pieces, full, words, same, bytes}
 use Rattle.text_bytes.specs.Numbers.{isDigit, sizeFrom, sizeOf, upTo, above, below, numberOf, slashAt}
 use Rattle.text_protocol.specs.Names.{admitKind, evaluateKind, quoteKind, moveKind, readKind, openKind}
-use Rattle.text_protocol.specs.Names.{outsideKind, noticeKind, withdrawKind, interestKind, bondKind, admitNames}
-use Rattle.text_protocol.specs.Names.{evaluateNames, quoteNames, moveNames, readNames, openNames, outsideNames}
-use Rattle.text_protocol.specs.Names.{noticeNames, withdrawNames, interestNames, bondNames, forms, kindFrom}
-use Rattle.text_protocol.specs.Names.{kindOf, countFits, takesIn, takes, placeOf, code}
+use Rattle.text_protocol.specs.Names.{outsideKind, noticeKind, withdrawKind, interestKind, bondKind, forms}
+use Rattle.text_protocol.specs.Names.{kindFrom, kindOf, countFits, takesIn, takes, placeOf, code}
 use Rattle.text_protocol.specs.Line.{Said, Nothing, NoCall, Call, oneOf, twoOf, itemOf, noPairs, longest}
 use Rattle.text_protocol.specs.Line.{hasTerms, placeIn, pairFits, withPair, more, taking, onWith, finished, fill}
 use Rattle.text_protocol.specs.Line.{called, meaning}
@@ -144,8 +142,7 @@ pub meanings : (map heard lineCases ≡ map meant lineCases)
     × (meaning (bytes "evaluate" ++ ones 140) ≡ Call evaluateKind (replicate 126 (pos 1)) noPairs)
     × (longest ≡ 65535)
 unfolding lineCases heard meant bytes zText zStatics ones isBlank isNot run grow pieces full words same isDigit
-    sizeFrom sizeOf upTo above below numberOf slashAt admitNames evaluateNames quoteNames moveNames readNames
-    openNames outsideNames noticeNames withdrawNames interestNames bondNames forms kindFrom kindOf countFits takesIn
+    sizeFrom sizeOf upTo above below numberOf slashAt forms kindFrom kindOf countFits takesIn
     takes placeOf code oneOf twoOf itemOf
     hasTerms placeIn pairFits withPair more taking onWith finished fill called meaning
 meanings = (refl, refl, refl)

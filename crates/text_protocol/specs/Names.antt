@@ -180,23 +180,17 @@ quoteNames = ID ∷ SECOND ∷ TERM ∷ BID ∷ ASK ∷ []
 unfoldable pub moveNames : List Name
 moveNames = ID ∷ SIDE ∷ []
 
-unfoldable pub readNames : List Name
-readNames = ID ∷ []
+-- a call about an id alone: a read, the opening of the evening (W-210), the withdrawal of the outside prices (W-211)
+unfoldable pub idNames : List Name
+idNames = ID ∷ []
 
--- the opening of the evening (W-210)
-unfoldable pub openNames : List Name
-openNames = ID ∷ []
-
--- what the outside source sends (W-211): a bid and an ask together, a notice of one side, the withdrawal of both. BITS
--- are the 64 bits of a float, as a signed number
+-- what the outside source sends (W-211): a bid and an ask together, a notice of one side. BITS are the 64 bits of a
+-- float, as a signed number
 unfoldable pub outsideNames : List Name
 outsideNames = ID ∷ BIDBITS ∷ ASKBITS ∷ []
 
 unfoldable pub noticeNames : List Name
 noticeNames = ID ∷ SIDE ∷ BITS ∷ []
-
-unfoldable pub withdrawNames : List Name
-withdrawNames = ID ∷ []
 
 unfoldable pub interestNames : List Name
 interestNames = B ∷ YM ∷ YN ∷ A-UP ∷ A-DOWN ∷ Q ∷ H ∷ WAIT ∷ LIQ ∷ MM ∷ SEC ∷ XIR ∷ MONEY ∷ SECRATE ∷ []
@@ -208,37 +202,13 @@ bondNames =
     ∷ H ∷ Q ∷ WAIT ∷ RH1 ∷ RH2 ∷ RH3 ∷ LIQ ∷ MIN1 ∷ MIN2 ∷ MIN3 ∷ SMAX ∷ XPR ∷ PCHMAX ∷ PCLMAX ∷ MONITORING ∷ ISEWMA
     ∷ []
 
--- how many numbers each call has; of an evaluation, an interest line and a bond, how many stand before its row figures,
--- its key maturities and its cash flows: as many as they have names
+-- how many numbers stand before an admission's statics, an evaluation's row figures, an interest line's key maturities
+-- and a bond's cash flows: as many as there are names
 abbrev pub admissionCount : ℕ
 admissionCount = 6
 
-abbrev pub admitCount : ℕ
-admitCount = admissionCount + staticsCount
-
 abbrev pub evaluateCount : ℕ
 evaluateCount = 13
-
-abbrev pub quoteCount : ℕ
-quoteCount = 5
-
-abbrev pub moveCount : ℕ
-moveCount = 2
-
-abbrev pub readCount : ℕ
-readCount = 1
-
-abbrev pub openCount : ℕ
-openCount = 1
-
-abbrev pub outsideCount : ℕ
-outsideCount = 3
-
-abbrev pub noticeCount : ℕ
-noticeCount = 3
-
-abbrev pub withdrawCount : ℕ
-withdrawCount = 1
 
 abbrev pub interestCount : ℕ
 interestCount = 14
@@ -247,20 +217,11 @@ abbrev pub bondCount : ℕ
 bondCount = 33
 
 pub counts-are-of-the-names : (length admissionNames ≡ admissionCount)
-    × (length admitNames ≡ admitCount)
     × (length evaluateNames ≡ evaluateCount)
-    × (length quoteNames ≡ quoteCount)
-    × (length moveNames ≡ moveCount)
-    × (length readNames ≡ readCount)
-    × (length openNames ≡ openCount)
-    × (length outsideNames ≡ outsideCount)
-    × (length noticeNames ≡ noticeCount)
-    × (length withdrawNames ≡ withdrawCount)
     × (length interestNames ≡ interestCount)
     × (length bondNames ≡ bondCount)
-unfolding admissionNames admitNames evaluateNames quoteNames moveNames readNames openNames
-    outsideNames noticeNames withdrawNames interestNames bondNames
-counts-are-of-the-names = (refl, refl, refl, refl, refl, refl, refl, refl, refl, refl, refl, refl)
+unfolding admissionNames evaluateNames interestNames bondNames
+counts-are-of-the-names = (refl, refl, refl, refl)
 
 -- the words, as bytes
 abbrev pub admitWord : List ℕ
@@ -296,18 +257,19 @@ interestWord = 105 ∷ 110 ∷ 116 ∷ 101 ∷ 114 ∷ 101 ∷ 115 ∷ 116 ∷ [
 abbrev pub bondWord : List ℕ
 bondWord = 98 ∷ 111 ∷ 110 ∷ 100 ∷ []  -- "bond"
 
--- THE CALLS: the kind of a call is its place in this list, counted from 1
+-- THE CALLS: the kind of a call is its place in this list, counted from 1. Who opens it opens the names too
 unfoldable pub forms : List Form
+unfolding admitNames evaluateNames quoteNames moveNames idNames outsideNames noticeNames interestNames bondNames
 forms =
     record { word = admitWord; names = admitNames; more = false }
     ∷ record { word = evaluateWord; names = evaluateNames; more = true }
     ∷ record { word = quoteWord; names = quoteNames; more = false }
     ∷ record { word = moveWord; names = moveNames; more = false }
-    ∷ record { word = readWord; names = readNames; more = false }
-    ∷ record { word = openWord; names = openNames; more = false }
+    ∷ record { word = readWord; names = idNames; more = false }
+    ∷ record { word = openWord; names = idNames; more = false }
     ∷ record { word = outsideWord; names = outsideNames; more = false }
     ∷ record { word = noticeWord; names = noticeNames; more = false }
-    ∷ record { word = withdrawWord; names = withdrawNames; more = false }
+    ∷ record { word = withdrawWord; names = idNames; more = false }
     ∷ record { word = interestWord; names = interestNames; more = true }
     ∷ record { word = bondWord; names = bondNames; more = true }
     ∷ []
@@ -344,6 +306,13 @@ interestKind = 10
 
 abbrev pub bondKind : ℕ
 bondKind = 11
+
+-- behind them, a line with no word, and one that is no call
+abbrev pub blankKind : ℕ
+blankKind = 12
+
+abbrev pub badKind : ℕ
+badKind = 13
 
 -- ---- a word's call, and a name's number
 

@@ -4,30 +4,23 @@
 use mathlib.Core.Path.{_≡_}
 use mathlib.Core.Bool.{true}
 use mathlib.Core.List.{List, [], _∷_, _++_}
-use Prim.Native.Nat.{ℕ, _≤_}
+use Prim.Native.Nat.{ℕ, suc, _≤_}
 use lib.IntN.{ℤ}
 use lib.ListN.{length}
 use Rattle.text_protocol.specs.declared.Pairs.{Pairs}
 use Rattle.text_bytes.specs.Bytes.{isBlank, slash}
 use Rattle.text_bytes.specs.Spells.{Blanks, Spells}
-use Rattle.text_protocol.specs.Names.{admitWord, evaluateWord, quoteWord, moveWord, readWord, openWord}
-use Rattle.text_protocol.specs.Names.{outsideWord, noticeWord, withdrawWord, interestWord, bondWord, admitKind}
-use Rattle.text_protocol.specs.Names.{evaluateKind, quoteKind, moveKind, readKind, openKind, outsideKind}
-use Rattle.text_protocol.specs.Names.{noticeKind, withdrawKind, interestKind, bondKind, takes}
+use Rattle.text_protocol.specs.Names.{Form, forms, takes}
 use Rattle.text_protocol.specs.Line.{noPairs, pairFits, withPair, more, longest}
 
-pub data CallWord : List ℕ → ℕ → Type 0 where
-  admit : CallWord admitWord admitKind
-  evaluate : CallWord evaluateWord evaluateKind
-  quote : CallWord quoteWord quoteKind
-  move : CallWord moveWord moveKind
-  read : CallWord readWord readKind
-  openEvening : CallWord openWord openKind
-  outside : CallWord outsideWord outsideKind
-  notice : CallWord noticeWord noticeKind
-  withdraw : CallWord withdrawWord withdrawKind
-  interest : CallWord interestWord interestKind
-  bond : CallWord bondWord bondKind
+-- w is the word of the call that has the place k in a table of calls, where the first has the place n
+pub data WordFrom : (n : ℕ) → List Form → (w : List ℕ) → (k : ℕ) → Type 0 where
+  here : {n : ℕ} {f : Form} {fs : List Form} → WordFrom n (f ∷ fs) (f .word) n
+  behind : {n : ℕ} {f : Form} {fs : List Form} {w : List ℕ} {k : ℕ} → WordFrom (suc n) fs w k → WordFrom n (f ∷ fs) w k
+
+-- THE WORD OF A CALL of kind k
+abbrev pub CallWord : List ℕ → ℕ → Type 0
+CallWord w k = WordFrom 1 forms w k
 
 -- Behind the word of a call of kind k, where the numbers ys are read with the pairs q: each number or pair stands
 -- behind a blank or more, blanks may end the line, and then zs are read with the pairs p

@@ -5,16 +5,22 @@ use Prim.Native.Nat.{ℕ}
 use lib.IntN.{ℤ}
 use Rattle.paper.specs.declared.Answer.{Answer}
 use Rattle.paper.specs.declared.Record.{Record}
+use Rattle.paper.specs.Terms.{dayOf}
 use Rattle.paper_desk.specs.Desk.{step}
+use Rattle.paper_reasons.specs.Why.{whyOn}
 use Rattle.text_protocol.specs.declared.AskedCall.{AskedCall}
 use Rattle.text_protocol.specs.declared.AskedCall.the-variants.{Admit, Evaluate, Quote, Move, Read, Open, Receive}
 use Rattle.text_protocol.specs.declared.AskedCall.the-variants.{Notify}
+use Rattle.text_protocol.specs.declared.Role.{Role}
+use Rattle.text_protocol.specs.declared.Role.the-variants as role
 use Rattle.text_protocol.specs.declared.Ask.{Ask}
 use Rattle.text_protocol.specs.declared.Ask.the-variants as ask
 use Rattle.text_protocol.specs.declared.Performed.{Performed}
 use Rattle.text_protocol.specs.Answers.{figuresAnswered, callText}
 use Rattle.text_protocol.specs.Calls.{figuresBehind, callAsked, deedAsked}
 use Rattle.text_protocol.specs.Names.{evaluateNames}
+use Rattle.text_protocol.specs.Reasons.{whyText}
+use Rattle.text_protocol.specs.Roles.{roleOf, figuresShown, shownText}
 use Rattle.text_evening.specs.declared.Telling.{Telling}
 use Rattle.text_evening.specs.declared.Telling.the-variants.{Answers, Reasons, Messages}
 use Rattle.paper_messages.specs.Broadcast.{messagesOf, broadcastOf}
@@ -23,50 +29,55 @@ use Rattle.text_deed.specs.declared.Beside.{Beside}
 use Rattle.text_deed.specs.Deeds.{BesideIs, asksWhy, reasonFor, callSaid, lineText}
 use Rattle.text_ask.specs.Asked.{explanation, Performs, Asks}
 
--- ---- the row figures are no part of an answer, nor of a message
+-- ---- each call is told by its role
 
-text-of : (c : AskedCall) (rows : List ℤ) (a : Answer) → callText (callAsked c []) a ≡ callText (callAsked c rows) a
-unfolding callAsked callText figuresAnswered
-text-of (Admit g) rows a = refl
-text-of (Evaluate id d) rows a = refl
-text-of (Quote id q) rows a = refl
-text-of (Move id side) rows a = refl
-text-of (Read id) rows a = refl
-text-of (Open id) rows a = refl
-text-of (Receive id x) rows a = refl
-text-of (Notify id x) rows a = refl
+-- what a call of a role is told as with reasons
+unfoldable reasonShown : Role → (rows : List ℤ) → Answer → List Record → List ℕ
+reasonShown (role.Admission g) rows a t = shownText (role.Admission g) a
+reasonShown (role.Evaluation id d) rows a t = whyText (whyOn t id (dayOf d) rows)
+reasonShown role.Quote rows a t = shownText role.Quote a
+reasonShown (role.Move side) rows a t = shownText (role.Move side) a
+reasonShown role.Other rows a t = shownText role.Other a
 
-messages-of : (c : AskedCall) (rows : List ℤ) (a : Answer)
-    → broadcastOf (callAsked c []) a ≡ broadcastOf (callAsked c rows) a
-unfolding callAsked broadcastOf messagesOf
-messages-of (Admit g) rows a = refl
-messages-of (Evaluate id d) rows a = refl
-messages-of (Quote id q) rows a = refl
-messages-of (Move id side) rows a = refl
-messages-of (Read id) rows a = refl
-messages-of (Open id) rows a = refl
-messages-of (Receive id x) rows a = refl
-messages-of (Notify id x) rows a = refl
+-- A CALL IS TOLD BY ITS ROLE: its answer, and its reason; and the row figures are no part of its messages
+record ByRole (c : AskedCall) (rows : List ℤ) (a : Answer) (t : List Record) : Type 0 where
+  shown : shownText (roleOf c) a ≡ callText (callAsked c rows) a
+  sent : broadcastOf (callAsked c []) a ≡ broadcastOf (callAsked c rows) a
+  reason : reasonShown (roleOf c) rows (step (callAsked c rows) t .answer) t ≡ reasonTo (callAsked c rows) t
+
+by-role : (c : AskedCall) (rows : List ℤ) (a : Answer) (t : List Record) → ByRole c rows a t
+unfolding callAsked roleOf shownText figuresShown callText figuresAnswered broadcastOf messagesOf reasonShown reasonTo
+by-role (Admit g) rows a t = record { shown = refl; sent = refl; reason = refl }
+by-role (Evaluate id d) rows a t = record { shown = refl; sent = refl; reason = refl }
+by-role (Quote id q) rows a t = record { shown = refl; sent = refl; reason = refl }
+by-role (Move id side) rows a t = record { shown = refl; sent = refl; reason = refl }
+by-role (Read id) rows a t = record { shown = refl; sent = refl; reason = refl }
+by-role (Open id) rows a t = record { shown = refl; sent = refl; reason = refl }
+by-role (Receive id x) rows a t = record { shown = refl; sent = refl; reason = refl }
+by-role (Notify id x) rows a t = record { shown = refl; sent = refl; reason = refl }
 
 -- ---- a call
 
 module _ (rows : List ℤ) (p : Performed) (t t' : List Record) where
   answered : (c : AskedCall) → p .answer ≡ step (callAsked c rows) t .answer
-      → callText (callAsked c []) (p .answer) ≡ answerTo (callAsked c rows) t
-  answered c e = text-of c rows (p .answer) ∙ ap (callText (callAsked c rows)) e
+      → shownText (roleOf c) (p .answer) ≡ answerTo (callAsked c rows) t
+  answered c e = by-role c rows (p .answer) t .shown ∙ ap (callText (callAsked c rows)) e
 
-  -- an evaluation is told why, and every other call as without reasons
-  reasoned : (c : AskedCall) → p .answer ≡ step (callAsked c rows) t .answer → p .why ≡ explanation c rows t
+  -- one in the role of an evaluation is told why, and every other as without reasons
+  reason-of : (c : AskedCall) (x : Role) → roleOf c ≡ x → p .why ≡ explanation x rows t
+      → reasonFor (p .why) c p ≡ reasonShown x rows (p .answer) t
+  unfolding reasonFor explanation reasonShown
+  reason-of c (role.Admission g) e y = rw (y, e)
+  reason-of c (role.Evaluation id d) e y = rw y
+  reason-of c role.Quote e y = rw (y, e)
+  reason-of c (role.Move side) e y = rw (y, e)
+  reason-of c role.Other e y = rw (y, e)
+
+  reasoned : (c : AskedCall) → p .answer ≡ step (callAsked c rows) t .answer → p .why ≡ explanation (roleOf c) rows t
       → reasonFor (p .why) c p ≡ reasonTo (callAsked c rows) t
-  unfolding reasonFor explanation callAsked reasonTo
-  reasoned (Admit g) e y = rw y (answered (Admit g) e)
-  reasoned (Evaluate id d) e y = rw y
-  reasoned (Quote id q) e y = rw y (answered (Quote id q) e)
-  reasoned (Move id side) e y = rw y (answered (Move id side) e)
-  reasoned (Read id) e y = rw y (answered (Read id) e)
-  reasoned (Open id) e y = rw y (answered (Open id) e)
-  reasoned (Receive id x) e y = rw y (answered (Receive id x) e)
-  reasoned (Notify id x) e y = rw y (answered (Notify id x) e)
+  reasoned c e y =
+      reason-of c (roleOf c) refl y ∙ ap (λ (a : Answer). reasonShown (roleOf c) rows a t) e
+      ∙ by-role c rows (p .answer) t .reason
 
   call-told-as : (telling : Telling) (c : AskedCall) → Performs (asksWhy telling) c rows t p t'
       → callSaid telling c p ≡ callTold telling (callAsked c rows) t
@@ -74,7 +85,7 @@ module _ (rows : List ℤ) (p : Performed) (t t' : List Record) where
   call-told-as Answers c h = answered c (h .promised .answer)
   call-told-as Reasons c h = reasoned c (h .promised .answer) (h .why refl)
   call-told-as Messages c h =
-      messages-of c rows (p .answer) ∙ ap (broadcastOf (callAsked c rows)) (h .promised .answer)
+      by-role c rows (p .answer) t .sent ∙ ap (broadcastOf (callAsked c rows)) (h .promised .answer)
 
 -- ---- a line
 

@@ -8,6 +8,7 @@ ghost use Rattle.text_input.specs.Input.{Stands};
 ghost use Rattle.text_turn.specs.Turn.{Prepares, startState};
 ghost use Rattle.text_protocol.specs.Line.{keptMost};
 ghost use Rattle.text_protocol.specs.Names.{evaluateCount};
+use text_call::figures;
 use text_call::least;
 use text_deed::Beside;
 use text_deed::asks_why;
@@ -17,7 +18,7 @@ use text_evidence::Written;
 use text_input::Input;
 use text_input::hear;
 use text_protocol::Ask;
-use text_protocol::EVALUATE_COUNT;
+use text_protocol::EvaluatePlace;
 use text_protocol::Kept;
 
 // What goes on from line to line: what is left of the input, the number of the next line, what is kept of the interest
@@ -84,8 +85,7 @@ pub fn rows_of(xs: &[i64], count: usize) -> &[i64]
     ensures { λ r. ⌜ now r ≡ drop evaluateCount (take count (now (xs .entry))) ⌝ }
 {
     let end = least(count, xs.len());
-    let start = least(EVALUATE_COUNT, end);
-    &xs[start..end]
+    figures(&xs[..end], EvaluatePlace::COUNT)
 }
 
 // At the start nothing is read and nothing waits. Nothing says that the input ends, so the lines are counted down from

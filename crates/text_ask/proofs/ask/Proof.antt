@@ -1,10 +1,11 @@
 -- `text_ask::ask` meets its contract. A line that is no call of the desk leaves t alone. Where it is asked why of an
 -- evaluation, t is lent as `&` to the call that says it, and comes back as it was; then t is given up to `perform`. The
 -- rows are a `&`, which is Copy: what they own is had twice, for a call and for what follows. The walk goes by cases on
--- what is asked for, with a step for each statement: `unasking`, `let-why`, `performing`, `explaining` and `answering`.
+-- what is asked for and on the call's role, with a step for each statement: `unasking`, `let-role`, `let-why`,
+-- `performing`, `explaining` and `answering`.
 use mathlib.Core.Path.{_≡_, refl, sym, subst}
 use mathlib.Core.Bool.{Bool, true, false, not}
-use mathlib.Core.Option.{none, some}
+use mathlib.Core.Option.{Option, none, some}
 use Prim.Native.Nat.{ℕ, _<_, _^_}
 use mathlib.Core.List.{List, [], _∷_}
 use native.Mathlib.Omega.{arith}
@@ -52,6 +53,7 @@ use Rattle.paper.specs.declared.Record.{Record}
 use Rattle.paper.specs.declared.Answer.{Answer}
 use Rattle.paper.specs.declared.AskedDay.{AskedDay}
 use Rattle.paper.specs.Terms.{dayOf}
+use Rattle.paper.proofs.Admission.Laws as X′
 use Rattle.paper.proofs.Answer as N
 use Rattle.paper.proofs.Answer.Laws as N′
 use Rattle.paper.proofs.AskedDay as D
@@ -67,13 +69,19 @@ use Rattle.text_protocol.specs.declared.Performed.{Performed}
 use Rattle.text_protocol.proofs.Performed as F
 use Rattle.text_protocol.proofs.Performed.Laws as F′
 use Rattle.text_protocol.specs.declared.AskedCall.{AskedCall}
-use Rattle.text_protocol.specs.declared.AskedCall.the-variants.{Admit, Evaluate, Quote, Move, Read, Open, Receive}
-use Rattle.text_protocol.specs.declared.AskedCall.the-variants.{Notify}
+use Rattle.text_protocol.specs.declared.Role.{Role}
+use Rattle.text_protocol.specs.declared.Role.the-variants as role
 use Rattle.text_protocol.specs.declared.Ask.{Ask}
 use Rattle.text_protocol.specs.declared.Ask.the-variants.{Nothing, NoCall, Call, Interest, Bond}
 use Rattle.text_protocol.specs.Calls.{callAsked}
+use Rattle.text_protocol.specs.Roles.{roleOf}
 use Rattle.text_protocol.proofs.AskedCall as G
 use Rattle.text_protocol.proofs.AskedCall.Laws as G′
+use Rattle.text_protocol.proofs.Role as P
+use Rattle.text_protocol.proofs.Role.Laws as P′
+use Rattle.text_protocol.proofs.AskedCall.role as role-fn
+use Rattle.text_protocol.proofs.AskedCall.role.Symbol as role-def
+use Rattle.text_protocol.proofs.AskedCall.role.Met as role-thm
 use Rattle.text_protocol.proofs.Ask as B
 use Rattle.text_protocol.proofs.Ask.Laws as B′
 use Rattle.desk.specs.Promises.{Promised}
@@ -130,32 +138,35 @@ abbrev ℓasked : ℕ
 abbrev ℓc : ℕ
 ℓc = 5
 
+abbrev ℓrole : ℕ
+ℓrole = 6
+
 abbrev ℓid : ℕ
-ℓid = 6
+ℓid = 7
 
 abbrev ℓday : ℕ
-ℓday = 7
+ℓday = 8
 
 abbrev ℓwhy : ℕ
-ℓwhy = 8
+ℓwhy = 9
 
 abbrev ℓanswer : ℕ
-ℓanswer = 9
+ℓanswer = 10
 
 abbrev ℓalone : ℕ
-ℓalone = 10
+ℓalone = 11
 
 abbrev ℓtest : ℕ
-ℓtest = 11
+ℓtest = 12
 
 abbrev for-why : Lending
-for-why = (12, 13)
+for-why = (13, 14)
 
 abbrev for-answer : Lending
-for-answer = (14, 15)
+for-answer = (15, 16)
 
 abbrev for-alone : Lending
-for-alone = (16, 17)
+for-alone = (17, 18)
 
 -- return unasked();
 abbrev code-unasked : Body
@@ -178,11 +189,11 @@ code-with = seq (call with-def.name (copy (place ℓanswer []) ∷ copy (place �
 abbrev code-without : Body
 code-without = seq (call without-def.name (copy (place ℓalone []) ∷ []) (place 0 [])) return
 
--- AskedCall::Evaluate(id, day) = c
+-- Role::Evaluation(id, day) = role
 abbrev code-explained : Body
 code-explained =
-    seq (assign (place ℓid []) (rvOpd (copy (place ℓc (variant 1 ∷ field 1 ∷ [])))))
-    (seq (assign (place ℓday []) (rvOpd (copy (place ℓc (variant 1 ∷ field 2 ∷ [])))))
+    seq (assign (place ℓid []) (rvOpd (copy (place ℓrole (variant 1 ∷ field 1 ∷ [])))))
+    (seq (assign (place ℓday []) (rvOpd (copy (place ℓrole (variant 1 ∷ field 2 ∷ [])))))
     (code-why (code-perform for-answer ℓanswer code-with)))
 
 abbrev code-unexplained : Body
@@ -199,14 +210,18 @@ code-if-call =
 
 abbrev code-if-evaluation : Body
 code-if-evaluation =
-    switch (copy (place ℓc (variant 0 ∷ field 0 ∷ [])))
-    (arm (1 ∷ []) code-explained (arm (0 ∷ 2 ∷ 3 ∷ 4 ∷ 5 ∷ 6 ∷ 7 ∷ []) skip noDefault))
+    switch (copy (place ℓrole (variant 0 ∷ field 0 ∷ [])))
+    (arm (1 ∷ []) code-explained (arm (0 ∷ 2 ∷ 3 ∷ 4 ∷ []) skip noDefault))
+
+-- let role = c.role(); and what follows it
+abbrev code-role : Body
+code-role = seq (call role-def.name (copy (place ℓc []) ∷ []) (place ℓrole [])) code-if-evaluation
 
 -- if asked { .. }, and what follows it
 abbrev code-asked : Body
 code-asked =
     seq (assign (place ℓtest []) (rvOpd (copy (place ℓasked []))))
-    (seq (cond (copy (place ℓtest [])) code-if-evaluation skip) code-unexplained)
+    (seq (cond (copy (place ℓtest [])) code-role skip) code-unexplained)
 
 abbrev rows-ty : Ty
 rows-ty = sliceTy (tyRef (named 1) imm (pointee (i64 .written)))
@@ -218,14 +233,21 @@ ask-ty =
     (ttcons tnil (ttcons tnil (ttcons (tcons G′.mir tnil) (ttcons (tcons I′.mir tnil) (ttcons (tcons K′.mir tnil)
     ttnil)))))
 
+-- the machine type of a role, with the types of what it holds by name
+abbrev role-ty : Ty
+role-ty =
+    tyEnum (P.the-type .name)
+    (ttcons (tcons X′.mir tnil) (ttcons (tcons (tyInt w64) (tcons D′.mir tnil)) (ttcons tnil
+    (ttcons (tcons (tyInt w64) tnil) (ttcons tnil ttnil)))))
+
 abbrev function : Fn
 function = record {
   lifetimes = 2;
   outlives = [];
   params = 4;
   locals =
-      of-types (F′.mir ∷ table-ty ∷ ask-ty ∷ rows-ty ∷ tyBool ∷ call-ty ∷ tyInt w64 ∷ D′.mir ∷ Y′.mir ∷ N′.mir ∷ N′.mir
-      ∷ tyBool ∷ rref ∷ sliceTy rref ∷ wref ∷ sliceTy wref ∷ wref ∷ sliceTy wref ∷ []);
+      of-types (F′.mir ∷ table-ty ∷ ask-ty ∷ rows-ty ∷ tyBool ∷ call-ty ∷ role-ty ∷ tyInt w64 ∷ D′.mir ∷ Y′.mir ∷ N′.mir
+      ∷ N′.mir ∷ tyBool ∷ rref ∷ sliceTy rref ∷ wref ∷ sliceTy wref ∷ wref ∷ sliceTy wref ∷ []);
   body = seq code-if-call code-asked;
 }
 
@@ -241,6 +263,12 @@ call-val = EL.val G.the-type G′.the-laws
 abbrev IsCall : AskedCall → Type 0
 IsCall c = Is G.the-row c (call-val c ∷ [])
 
+abbrev role-val : Role → Val
+role-val = EL.val P.the-type P′.the-laws
+
+abbrev IsRole : Role → Type 0
+IsRole x = Is P.the-row x (role-val x ∷ [])
+
 abbrev day-val : AskedDay → Val
 day-val = LL.val D.the-type D′.the-laws
 
@@ -254,6 +282,9 @@ module _ {M : Type 1} (𝓤 : URA M) (H : Heap 𝓤) (A : Atoms 𝓤) (mem : Mem
 
   abbrev Performs : Contract 𝓤
   Performs = Callee 𝓤 H A perform.ended (perform.clauses 𝓤 H A mem run)
+
+  abbrev Roles : Contract 𝓤
+  Roles = Callee 𝓤 H A role-fn.ended (role-fn.clauses 𝓤 H A mem run)
 
   abbrev With : Contract 𝓤
   With = Callee 𝓤 H A with-why.ended (with-why.clauses 𝓤 H A mem run)
@@ -361,6 +392,19 @@ module _ {M : Type 1} (𝓤 : URA M) (H : Heap 𝓤) (A : Atoms 𝓤) (W : Given
       owned ! G.the-row (Is G.the-row) (EL.makes G.the-type G′.the-plain 𝓤 H A) c (call-val c ∷ []) gc $ fjoin ! $
       move ! (2 ∷ 0 ∷ []) $ fjoin ! $ move ! (1 ∷ 0 ∷ []) $ join ! $ framed ! $ done !
 
+  -- `role`
+  abbrev to-role : AskedCall → Bound 𝓤 H A role-fn.signature
+  to-role c = (tt, tt, tt, (c, tt), (call-val c ∷ [], tt))
+
+  goes-role : (c : AskedCall) → IsCall c → ent 𝓤 (emp 𝓤) (Roles 𝓤 H A mem run .pre (to-role c, tt))
+  goes-role c gc =
+      qed W [] ∵ nothing ! $
+      owned ! G.the-row (Is G.the-row) (EL.makes G.the-type G′.the-plain 𝓤 H A) c (call-val c ∷ []) gc $ fjoin ! $
+      nothing ! $ join ! $ framed ! $ done !
+
+  typed-role : (x : Role) (v : Val) → Is P.the-row x (v ∷ []) → T (hasTy role-ty v) × WT v
+  typed-role x v is = EL.lawful P.the-type P′.the-laws 𝓤 H A W tt .typed x (v ∷ []) is .0
+
   -- an answer r, whose machine value is v, and why, whose machine value is w
   abbrev to-with : Answer → Why → Val → Val → Bound 𝓤 H A with-why.signature
   to-with r y v w = (tt, tt, tt, (r, (y, tt)), (v ∷ [], (w ∷ [], tt)))
@@ -402,6 +446,7 @@ module _ {M : Type 1} (𝓤 : URA M) (H : Heap 𝓤) (A : Atoms 𝓤) (W : Given
   module _ (C : Calls 𝓤 H) (Λ : Loops 𝓤 H) (fm : FmC 𝓤 H (W .laws) C)
       (known-why : Triple 𝓤 (C why-def.name) (Says 𝓤 H A mem run))
       (known-perform : Triple 𝓤 (C perform-def.name) (Performs 𝓤 H A mem run))
+      (known-role : Triple 𝓤 (C role-def.name) (Roles 𝓤 H A mem run))
       (known-with : Triple 𝓤 (C with-def.name) (With 𝓤 H A mem run))
       (known-without : Triple 𝓤 (C without-def.name) (Without 𝓤 H A mem run))
       (known-unasked : Triple 𝓤 (C unasked-def.name) (Unasked 𝓤 H A mem run)) where
@@ -412,22 +457,23 @@ module _ {M : Type 1} (𝓤 : URA M) (H : Heap 𝓤) (A : Atoms 𝓤) (W : Given
       -- what the locals hold at first
       abbrev at-first : Ask → Locals
       at-first l =
-          none ∷ some (machine b o ys) ∷ some (value l) ∷ some mrows ∷ some (vbool asked) ∷ spare 13
+          none ∷ some (machine b o ys) ∷ some (value l) ∷ some mrows ∷ some (vbool asked) ∷ spare 14
 
-      -- once it is a call, and it is known whether why is asked
-      abbrev once-called : AskedCall → Locals
-      once-called c =
+      -- once it is a call, and it is known whether why is asked; x is the machine value of its role, where that is known
+      abbrev once-called : AskedCall → (x : Option Val) → Locals
+      once-called c x =
           none ∷ some (machine b o ys) ∷ some (value (Call c)) ∷ some mrows ∷ some (vbool asked) ∷ some (call-val c)
-          ∷ none ∷ none ∷ none ∷ none ∷ none ∷ some (vbool asked) ∷ spare 6
+          ∷ x ∷ none ∷ none ∷ none ∷ none ∷ none ∷ some (vbool asked) ∷ spare 6
 
-      -- of an evaluation
-      abbrev once-bound : ℕ → AskedDay → Locals
-      once-bound id d =
-          holding (holding (once-called (Evaluate id d)) ℓid (some (vint w64 id))) ℓday (some (day-val d))
+      -- in the role of an evaluation
+      abbrev once-bound : AskedCall → ℕ → AskedDay → Locals
+      once-bound c id d =
+          holding (holding (once-called c (some (role-val (role.Evaluation id d)))) ℓid (some (vint w64 id))) ℓday
+          (some (day-val d))
 
       -- and once it is said why
-      abbrev once-told : ℕ → AskedDay → Val → Locals
-      once-told id d w = holding (lent (once-bound id d) for-why b o ys) ℓwhy (some w)
+      abbrev once-told : AskedCall → ℕ → AskedDay → Val → Locals
+      once-told c id d w = holding (lent (once-bound c id d) for-why b o ys) ℓwhy (some w)
 
       -- the table is ours; the rows' token, and what the rows own
       abbrev Had : List (Item 𝓤)
@@ -457,11 +503,11 @@ module _ {M : Type 1} (𝓤 : URA M) (H : Heap 𝓤) (A : Atoms 𝓤) (W : Given
 
       module _ {p : Posts 𝓤 H} where
         -- let why = why_asked(t, id, day, rows);
-        let-why : (id : ℕ) (d : AskedDay) → Is u64 id (vint w64 id ∷ []) → Is D.the-row d (day-val d ∷ [])
+        let-why : (c : AskedCall) (id : ℕ) (d : AskedDay) → Is u64 id (vint w64 id ∷ []) → Is D.the-row d (day-val d ∷ [])
             → {rest : Body} → ((w : Val) → Is Y.the-row (told id d) (w ∷ [])
-            → Sq W (frame H En (once-told id d w) ∷ Had) (runs C Λ En rest p))
-            → Sq W (frame H En (once-bound id d) ∷ Had) (runs C Λ En (code-why rest) p)
-        let-why id d id-is day-is k =
+            → Sq W (frame H En (once-told c id d w) ∷ Had) (runs C Λ En rest p))
+            → Sq W (frame H En (once-bound c id d) ∷ Had) (runs C Λ En (code-why rest) p)
+        let-why c id d id-is day-is k =
             lends 𝓤 H A W b o ys room ℓt for-why (refl, refl, tt, tt, tt, tt, tt) $
             -- [the frame; t and its token; the rows' token; the rows]
             move ! (3 ∷ []) $
@@ -511,30 +557,31 @@ module _ {M : Type 1} (𝓤 : URA M) (H : Heap 𝓤) (A : Atoms 𝓤) (W : Given
             move ! (2 ∷ []) $ split ! $ move ! (2 ∷ 3 ∷ 0 ∷ 1 ∷ []) $ k zs r v as-long kept is)
 
         -- return with_why(answer, why);
-        explaining : (id : ℕ) (d : AskedDay) → IsAsk (Call (Evaluate id d)) → Arm (Call (Evaluate id d)) p → (w : Val)
+        explaining : (c : AskedCall) (id : ℕ) (d : AskedDay) → roleOf c ≡ role.Evaluation id d → IsAsk (Call c)
+            → Arm (Call c) p → (w : Val)
             → Is Y.the-row (told id d) (w ∷ []) → (zs : List Record) (r : Answer) (v : Val)
-            → length zs ≡ length ys → Promised (callAsked (Evaluate id d) (rows .now)) ys r zs → Is N.the-row r (v ∷ [])
-            → Sq W (frame H En (holding (lent (once-told id d w) for-answer b o ys) ℓanswer (some v)) ∷ Left zs)
+            → length zs ≡ length ys → Promised (callAsked c (rows .now)) ys r zs → Is N.the-row r (v ∷ [])
+            → Sq W (frame H En (holding (lent (once-told c id d w) for-answer b o ys) ℓanswer (some v)) ∷ Left zs)
             (runs C Λ En code-with p)
         unfolding Asks explanation
-        explaining id d gl within w iw zs r v as-long kept is =
+        explaining c id d e gl within w iw zs r v as-long kept is =
             consults 𝓤 H A W with-why.ended (with-why.clauses 𝓤 H A mem run) (to-with r (told id d) v w) tt fm
             known-with (goes-with r (told id d) v w is iw) (explained r (told id d)) (λ y e. id⊢ 𝓤 _)
             (typed-performed 𝓤 H A W) tt
             (and-then ! (local′ ! ℓanswer refl) (and-then ! (local′ ! ℓwhy refl) (no-more !))) (λ u iu.
-            leaves-within ! (Post (Call (Evaluate id d))) within refl $
-            by ! (exits (Call (Evaluate id d)) gl zs (explained r (told id d)) u as-long
-            (record { promised = kept; why = λ _. refl }) iu))
+            leaves-within ! (Post (Call c)) within refl $
+            by ! (exits (Call c) gl zs (explained r (told id d)) u as-long
+            (record { promised = kept; why = λ _. rw e }) iu))
 
         -- without_why(answer)
         answering : (c : AskedCall) → IsAsk (Call c) → Arm (Call c) p
-            → (asked ≡ true → No ≡ explanation c (rows .now) ys)
+            → (asked ≡ true → No ≡ explanation (roleOf c) (rows .now) ys) → (x : Option Val)
             → (zs : List Record) (r : Answer) (v : Val)
             → length zs ≡ length ys → Promised (callAsked c (rows .now)) ys r zs → Is N.the-row r (v ∷ [])
-            → Sq W (frame H En (holding (lent (once-called c) for-alone b o ys) ℓalone (some v)) ∷ Left zs)
+            → Sq W (frame H En (holding (lent (once-called c x) for-alone b o ys) ℓalone (some v)) ∷ Left zs)
             (runs C Λ En code-without p)
         unfolding Asks
-        answering c gl within why zs r v as-long kept is =
+        answering c gl within why x zs r v as-long kept is =
             consults 𝓤 H A W without-why.ended (without-why.clauses 𝓤 H A mem run) (to-without r v) tt fm known-without
             (goes-without r v is) (unexplained r) (λ y e. id⊢ 𝓤 _) (typed-performed 𝓤 H A W) tt
             (and-then ! (local′ ! ℓalone refl) (no-more !)) (λ u iu.
@@ -544,56 +591,66 @@ module _ {M : Type 1} (𝓤 : URA M) (H : Heap 𝓤) (A : Atoms 𝓤) (W : Given
 
       -- the answer alone
       alone : (c : AskedCall) → IsAsk (Call c) → IsCall c
-          → (asked ≡ true → No ≡ explanation c (rows .now) ys)
-          → Sq W (frame H En (once-called c) ∷ Had) (runs C Λ En code-unexplained (atRet En (Post (Call c))))
-      alone c gl gc why =
-          performing c gc (once-called c) for-alone ℓalone (refl, refl, tt, tt, tt, tt, tt) tt refl refl refl refl
-          (answering c gl refl why)
+          → (asked ≡ true → No ≡ explanation (roleOf c) (rows .now) ys) → (x : Option Val)
+          → Sq W (frame H En (once-called c x) ∷ Had) (runs C Λ En code-unexplained (atRet En (Post (Call c))))
+      alone c gl gc why x =
+          performing c gc (once-called c x) for-alone ℓalone (refl, refl, tt, tt, tt, tt, tt) tt refl refl refl refl
+          (answering c gl refl why x)
 
-      -- an evaluation, and why
-      explained-it : (id : ℕ) (d : AskedDay) → IsAsk (Call (Evaluate id d)) → IsCall (Evaluate id d)
-          → Sq W (frame H En (once-called (Evaluate id d)) ∷ Had)
-          (runs C Λ En code-explained (Then′ (Call (Evaluate id d))))
-      explained-it id d gl gc =
-          let are = EL.owed G.the-type G′.the-laws (Evaluate id d) _ gc in
-          assigns ! (of-opd ! (payload ! ℓc 1 0 refl refl refl refl)) (from ! (stop !))
+      -- a call in the role of an evaluation, and why
+      explained-it : (c : AskedCall) (id : ℕ) (d : AskedDay) → roleOf c ≡ role.Evaluation id d
+          → IsRole (role.Evaluation id d) → IsAsk (Call c) → IsCall c
+          → Sq W (frame H En (once-called c (some (role-val (role.Evaluation id d)))) ∷ Had)
+          (runs C Λ En code-explained (Then′ (Call c)))
+      explained-it c id d e gr gl gc =
+          let are = EL.owed P.the-type P′.the-laws (role.Evaluation id d) _ gr in
+          assigns ! (of-opd ! (payload ! ℓrole 1 0 refl refl refl refl)) (from ! (stop !))
           (sets ! ℓid tt (tt, record { fits = are .0 .1 })) $
-          assigns ! (of-opd ! (payload ! ℓc 1 1 refl refl refl refl)) (from ! (stop !))
+          assigns ! (of-opd ! (payload ! ℓrole 1 1 refl refl refl refl)) (from ! (stop !))
           (sets ! ℓday tt (LL.lawful D.the-type D′.the-laws 𝓤 H A W .typed d _ (are .1 .0) .0)) $
-          let-why id d (are .0) (are .1 .0) (λ w iw.
-          performing (Evaluate id d) gc (once-told id d w) for-answer ℓanswer (refl, refl, tt, tt, tt, tt, tt) tt refl
-          refl refl refl (explaining id d gl refl w iw))
+          let-why c id d (are .0) (are .1 .0) (λ w iw.
+          performing c gc (once-told c id d w) for-answer ℓanswer (refl, refl, tt, tt, tt, tt, tt) tt refl
+          refl refl refl (explaining c id d e gl refl w iw))
 
-      -- if let AskedCall::Evaluate(id, day) = c { .. }, where why is asked
-      if-evaluation : (c : AskedCall) → IsAsk (Call c) → IsCall c
-          → Sq W (frame H En (once-called c) ∷ Had) (runs C Λ En code-if-evaluation (Then′ (Call c)))
+      -- a call in another role
+      unexplained-it : (c : AskedCall) (x : Role) → (No ≡ explanation (roleOf c) (rows .now) ys) → IsAsk (Call c)
+          → IsCall c → Sq W (frame H En (once-called c (some (role-val x))) ∷ Had) (runs C Λ En skip (Then′ (Call c)))
+      unexplained-it c x why gl gc =
+          skips ! $ exec ! C Λ En code-unexplained (atRet En (Post (Call c))) $
+          alone c gl gc (λ _. why) (some (role-val x))
+
+      -- if let Role::Evaluation(id, day) = role { .. }, where why is asked
+      if-evaluation : (c : AskedCall) (x : Role) → roleOf c ≡ x → IsRole x → IsAsk (Call c) → IsCall c
+          → Sq W (frame H En (once-called c (some (role-val x))) ∷ Had) (runs C Λ En code-if-evaluation (Then′ (Call c)))
       unfolding explanation
-      if-evaluation (Evaluate id d) gl gc =
-          switches-on ! (tag ! ℓc refl refl refl) $ exec ! C Λ En code-explained (Then′ (Call (Evaluate id d))) $
-          explained-it id d gl gc
-      if-evaluation (Admit g) gl gc =
-          switches-on ! (tag ! ℓc refl refl refl) $ exec ! C Λ En skip (Then′ (Call (Admit g))) $ skips ! $
-          exec ! C Λ En code-unexplained (atRet En (Post (Call (Admit g)))) $ alone (Admit g) gl gc (λ _. refl)
-      if-evaluation (Quote id d) gl gc =
-          switches-on ! (tag ! ℓc refl refl refl) $ exec ! C Λ En skip (Then′ (Call (Quote id d))) $ skips ! $
-          exec ! C Λ En code-unexplained (atRet En (Post (Call (Quote id d)))) $ alone (Quote id d) gl gc (λ _. refl)
-      if-evaluation (Move id side) gl gc =
-          switches-on ! (tag ! ℓc refl refl refl) $ exec ! C Λ En skip (Then′ (Call (Move id side))) $ skips ! $
-          exec ! C Λ En code-unexplained (atRet En (Post (Call (Move id side)))) $
-          alone (Move id side) gl gc (λ _. refl)
-      if-evaluation (Read id) gl gc =
-          switches-on ! (tag ! ℓc refl refl refl) $ exec ! C Λ En skip (Then′ (Call (Read id))) $ skips ! $
-          exec ! C Λ En code-unexplained (atRet En (Post (Call (Read id)))) $ alone (Read id) gl gc (λ _. refl)
-      if-evaluation (Open id) gl gc =
-          switches-on ! (tag ! ℓc refl refl refl) $ exec ! C Λ En skip (Then′ (Call (Open id))) $ skips ! $
-          exec ! C Λ En code-unexplained (atRet En (Post (Call (Open id)))) $ alone (Open id) gl gc (λ _. refl)
-      if-evaluation (Receive id d) gl gc =
-          switches-on ! (tag ! ℓc refl refl refl) $ exec ! C Λ En skip (Then′ (Call (Receive id d))) $ skips ! $
-          exec ! C Λ En code-unexplained (atRet En (Post (Call (Receive id d)))) $
-          alone (Receive id d) gl gc (λ _. refl)
-      if-evaluation (Notify id d) gl gc =
-          switches-on ! (tag ! ℓc refl refl refl) $ exec ! C Λ En skip (Then′ (Call (Notify id d))) $ skips ! $
-          exec ! C Λ En code-unexplained (atRet En (Post (Call (Notify id d)))) $ alone (Notify id d) gl gc (λ _. refl)
+      if-evaluation c (role.Evaluation id d) e gr gl gc =
+          switches-on ! (tag ! ℓrole refl refl refl) $ exec ! C Λ En code-explained (Then′ (Call c)) $
+          explained-it c id d e gr gl gc
+      if-evaluation c (role.Admission a) e gr gl gc =
+          switches-on ! (tag ! ℓrole refl refl refl) $ exec ! C Λ En skip (Then′ (Call c)) $
+          unexplained-it c (role.Admission a) (rw e) gl gc
+      if-evaluation c role.Quote e gr gl gc =
+          switches-on ! (tag ! ℓrole refl refl refl) $ exec ! C Λ En skip (Then′ (Call c)) $
+          unexplained-it c role.Quote (rw e) gl gc
+      if-evaluation c (role.Move side) e gr gl gc =
+          switches-on ! (tag ! ℓrole refl refl refl) $ exec ! C Λ En skip (Then′ (Call c)) $
+          unexplained-it c (role.Move side) (rw e) gl gc
+      if-evaluation c role.Other e gr gl gc =
+          switches-on ! (tag ! ℓrole refl refl refl) $ exec ! C Λ En skip (Then′ (Call c)) $
+          unexplained-it c role.Other (rw e) gl gc
+
+      -- let role = c.role();
+      let-role : (c : AskedCall) → IsAsk (Call c) → IsCall c
+          → Sq W (frame H En (once-called c none) ∷ Had) (runs C Λ En code-role (Then′ (Call c)))
+      let-role c gl gc =
+          consults 𝓤 H A W role-fn.ended (role-fn.clauses 𝓤 H A mem run) (to-role c) tt fm known-role (goes-role c gc)
+          (roleOf c) (λ y e. id⊢ 𝓤 _) typed-role tt (and-then ! (local′ ! ℓc refl) (no-more !)) (λ v iv.
+          let is : _≡_ {A = List Val} (v ∷ []) (role-val (roleOf c) ∷ []) =
+          EL.tells P.the-type P′.the-laws (roleOf c) (v ∷ []) iv in
+          let same : v ≡ role-val (roleOf c) = cc in
+          subst (λ (w : Val). Sq W (frame H En (once-called c (some w)) ∷ Had)
+          (runs C Λ En code-if-evaluation (Then′ (Call c)))) (sym same)
+          (if-evaluation c (roleOf c) refl (subst (λ (w : Val). Is P.the-row (roleOf c) (w ∷ [])) same iv) gl gc))
 
       -- let Ask::Call(c) = a else { .. };
       if-call : (l : Ask) → IsAsk l → Sq W (frame H En (at-first l) ∷ Had) (runs C Λ En code-if-call (Then l))
@@ -618,9 +675,9 @@ module _ {M : Type 1} (𝓤 : URA M) (H : Heap 𝓤) (A : Atoms 𝓤) (W : Given
           exec ! C Λ En code-asked (atRet En (Post (Call c))) $
           assigns ! (of-opd ! (local′ ! ℓasked refl)) (from ! (stop !)) (sets ! ℓtest tt (tt, tt)) $
           first ! $ branches ! (local′ ! ℓtest refl)
-          (λ asks. if-evaluation c gl gc)
+          (λ asks. let-role c gl gc)
           (λ unasked. skips ! $ exec ! C Λ En code-unexplained (atRet En (Post (Call c))) $
-          alone c gl gc (never asked unasked))
+          alone c gl gc (never asked unasked) none)
 
     walk : (l : Ask) → IsAsk l → ent 𝓤 (onEntry 𝓤 H A f.signature (κ, (κ₂, tt)) (q, (q₂, tt)) (x l) (at l))
         (WpFn 𝓤 H C Λ function (machine b o ys ∷ value l ∷ mrows ∷ vbool asked ∷ []) (Post l))
@@ -645,6 +702,7 @@ module _ {M : Type 1} (𝓤 : URA M) (H : Heap 𝓤) (A : Atoms 𝓤) (W : Given
 module _ {M : Type 1} (𝓤 : URA M) (H : Heap 𝓤) (A : Atoms 𝓤) (W : Given 𝓤 H A) (mem : Memory → SProp 𝓤)
     (run : Routine → Fun 𝓤) (𝓣 : Tables 𝓤 H) (known-why : Triple 𝓤 (𝓣 .C why-def.name) (Says 𝓤 H A mem run))
     (known-perform : Triple 𝓤 (𝓣 .C perform-def.name) (Performs 𝓤 H A mem run))
+    (known-role : Triple 𝓤 (𝓣 .C role-def.name) (Roles 𝓤 H A mem run))
     (known-with : Triple 𝓤 (𝓣 .C with-def.name) (With 𝓤 H A mem run))
     (known-without : Triple 𝓤 (𝓣 .C without-def.name) (Without 𝓤 H A mem run))
     (known-unasked : Triple 𝓤 (𝓣 .C unasked-def.name) (Unasked 𝓤 H A mem run)) where
@@ -665,7 +723,7 @@ module _ {M : Type 1} (𝓤 : URA M) (H : Heap 𝓤) (A : Atoms 𝓤) (W : Given
       (λ κs qs bounds a g are. via 𝓤 _ (fst∗ 𝓤 _ (emp 𝓤))
       (walk 𝓤 H A W mem run (κs .0) (κs .1 .0) (qs .0) (qs .1 .0) (a .0 .ptr .0) (a .0 .ptr .1) (a .0 .name) (a .0 .now)
       (a .1 .1 .0) (a .1 .1 .1 .0) (are .0 .0 .1) (are .1 .1 .0 .0 .1) (𝓣 .C) (𝓣 .Λ)
-      (fmOf 𝓤 H (W .laws) 𝓣) known-why known-perform known-with known-without known-unasked (a .1 .0) (are .1 .0)))
+      (fmOf 𝓤 H (W .laws) 𝓣) known-why known-perform known-role known-with known-without known-unasked (a .1 .0) (are .1 .0)))
 
   meets : Meets 𝓤 H A f.signature Run (f.spec 𝓤 H A mem run)
   meets =
@@ -690,6 +748,8 @@ ask-spec 𝓤 H 𝓜 𝓖 𝓡 =
     code.calls-desk-reasons·why-asked (why-thm.met 𝓤 H 𝓜 𝓖 𝓡))
     (cited 𝓤 H (Performs 𝓤 H (𝓖 .A) (𝓜 .mem) (𝓡 .run)) 𝓜 𝓡 code.env perform-def.name perform-def.routine
     code.calls-text-perform·perform (perform-thm.met 𝓤 H 𝓜 𝓖 𝓡))
+    (cited 𝓤 H (Roles 𝓤 H (𝓖 .A) (𝓜 .mem) (𝓡 .run)) 𝓜 𝓡 code.env role-def.name role-def.routine
+    code.calls-text-protocol·AskedCall·role (role-thm.met 𝓤 H 𝓜 𝓖 𝓡))
     (cited 𝓤 H (With 𝓤 H (𝓖 .A) (𝓜 .mem) (𝓡 .run)) 𝓜 𝓡 code.env with-def.name with-def.routine
     code.calls-text-ask·with-why (with-thm.met 𝓤 H 𝓜 𝓖 𝓡))
     (cited 𝓤 H (Without 𝓤 H (𝓖 .A) (𝓜 .mem) (𝓡 .run)) 𝓜 𝓡 code.env without-def.name without-def.routine

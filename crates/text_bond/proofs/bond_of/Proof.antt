@@ -10,30 +10,29 @@ use Rattle.text_bond.proofs.bond_of.Tie as tie
 use Rattle.text_bond.proofs.bond_of.Reads as reads
 use Rattle.text_bond.proofs.bond_of.Lts as lts
 use Rattle.text_bond.proofs.statics_of.Reads as statics-of-reads
-use Rattle.text_call.proofs.number_at.Reads as number-at-reads
+use Rattle.text_call.proofs.signed_at.Reads as signed-at-reads
 use Rattle.text_call.proofs.term_of.Reads as term-of-reads
-use Rattle.text_call.proofs.unsigned_at.Reads as unsigned-at-reads
 
-unsigned-at-requires : tie.Need-unsigned-at-requires
-unsigned-at-requires c κs = search needs
+number-at-requires : tie.Need-number-at-requires
+number-at-requires c κs = search needs
 
-unsigned-at-requires-2 : tie.Need-unsigned-at-requires-2
-unsigned-at-requires-2 c κs = search needs
+number-at-requires-2 : tie.Need-number-at-requires-2
+number-at-requires-2 c κs = search needs
 
-unsigned-at-requires-3 : tie.Need-unsigned-at-requires-3
-unsigned-at-requires-3 c κs = search needs
+number-at-requires-3 : tie.Need-number-at-requires-3
+number-at-requires-3 c κs = search needs
 
-unsigned-at-requires-4 : tie.Need-unsigned-at-requires-4
-unsigned-at-requires-4 c κs = search needs
+number-at-requires-4 : tie.Need-number-at-requires-4
+number-at-requires-4 c κs = search needs
 
-unsigned-at-requires-5 : tie.Need-unsigned-at-requires-5
-unsigned-at-requires-5 c κs = search needs
+number-at-requires-5 : tie.Need-number-at-requires-5
+number-at-requires-5 c κs = search needs
 
-unsigned-at-requires-6 : tie.Need-unsigned-at-requires-6
-unsigned-at-requires-6 c κs = search needs
+number-at-requires-6 : tie.Need-number-at-requires-6
+number-at-requires-6 c κs = search needs
 
-unsigned-at-requires-7 : tie.Need-unsigned-at-requires-7
-unsigned-at-requires-7 c κs = search needs
+number-at-requires-7 : tie.Need-number-at-requires-7
+number-at-requires-7 c κs = search needs
 
 statics-of-requires : tie.Need-statics-of-requires
 statics-of-requires c κs = search needs
@@ -47,8 +46,8 @@ term-of-requires-2 c κs = search needs
 term-of-requires-3 : tie.Need-term-of-requires-3
 term-of-requires-3 c κs = search needs
 
-number-at-requires : tie.Need-number-at-requires
-number-at-requires c κs = search needs
+signed-at-requires : tie.Need-signed-at-requires
+signed-at-requires c κs = search needs
 
 returns : tie.Need-returns
 unfolding bondOf termOf the placeOf bondNames code
@@ -64,37 +63,37 @@ returns c =
     let c9 = c8 .before in
     let c10 = c9 .before in
     let c11 = c10 .before in
-    let repo = toZ-ofZ {w = w64} {z = c .number-at .result} (search needs) in
+    let repo = toZ-ofZ {w = w64} {z = c .signed-at .result} (search needs) in
     rw (
       repo,
-      c11 .unsigned-at .ensures,
-      c10 .unsigned-at2 .ensures,
-      c9 .unsigned-at3 .ensures,
-      c8 .unsigned-at4 .ensures,
-      c7 .unsigned-at5 .ensures,
-      c6 .unsigned-at6 .ensures,
-      c5 .unsigned-at7 .ensures,
+      c11 .number-at .ensures,
+      c10 .number-at2 .ensures,
+      c9 .number-at3 .ensures,
+      c8 .number-at4 .ensures,
+      c7 .number-at5 .ensures,
+      c6 .number-at6 .ensures,
+      c5 .number-at7 .ensures,
       c4 .statics-of .ensures,
       c3 .term-of .ensures,
       c2 .term-of2 .ensures,
       c1 .term-of3 .ensures,
-      c .number-at .ensures,
+      c .signed-at .ensures,
     )
 
 pub bond-of-spec : {M : Type 1} → statement M
 bond-of-spec =
     tie.close
     (tie.spec
-    unsigned-at-requires
-    unsigned-at-requires-2
-    unsigned-at-requires-3
-    unsigned-at-requires-4
-    unsigned-at-requires-5
-    unsigned-at-requires-6
-    unsigned-at-requires-7
+    number-at-requires
+    number-at-requires-2
+    number-at-requires-3
+    number-at-requires-4
+    number-at-requires-5
+    number-at-requires-6
+    number-at-requires-7
     statics-of-requires
     term-of-requires
     term-of-requires-2
     term-of-requires-3
-    number-at-requires
+    signed-at-requires
     returns)

@@ -6,7 +6,6 @@ use Rattle.text_bond.proofs.statics_of.Statement.{statement}
 use Rattle.text_bond.proofs.statics_of.Tie as tie
 use Rattle.text_bond.proofs.statics_of.Reads as reads
 use Rattle.text_bond.proofs.statics_of.Lts as lts
-use Rattle.text_call.proofs.unsigned_at.Reads as unsigned-at-reads
 
 returns : tie.Need-returns
 unfolding bondStaticsOf the placeOf bondNames code
@@ -27,22 +26,22 @@ returns c =
     let c14 = c13 .before in
     let c15 = c14 .before in
     rw (
-      c15 .unsigned-at .ensures,
-      c14 .unsigned-at2 .ensures,
-      c13 .unsigned-at3 .ensures,
-      c12 .unsigned-at4 .ensures,
-      c11 .unsigned-at5 .ensures,
-      c10 .unsigned-at6 .ensures,
-      c9 .unsigned-at7 .ensures,
-      c8 .unsigned-at8 .ensures,
-      c7 .unsigned-at9 .ensures,
-      c6 .unsigned-at10 .ensures,
-      c5 .unsigned-at11 .ensures,
-      c4 .unsigned-at12 .ensures,
-      c3 .unsigned-at13 .ensures,
-      c2 .unsigned-at14 .ensures,
-      c1 .unsigned-at15 .ensures,
-      c .unsigned-at16 .ensures,
+      c15 .number-at .ensures,
+      c14 .number-at2 .ensures,
+      c13 .number-at3 .ensures,
+      c12 .number-at4 .ensures,
+      c11 .number-at5 .ensures,
+      c10 .number-at6 .ensures,
+      c9 .number-at7 .ensures,
+      c8 .number-at8 .ensures,
+      c7 .number-at9 .ensures,
+      c6 .number-at10 .ensures,
+      c5 .number-at11 .ensures,
+      c4 .number-at12 .ensures,
+      c3 .number-at13 .ensures,
+      c2 .number-at14 .ensures,
+      c1 .number-at15 .ensures,
+      c .number-at16 .ensures,
     )
 
 -- what is called asks for nothing

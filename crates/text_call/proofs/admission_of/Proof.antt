@@ -15,12 +15,12 @@ returns c =
     let c5 = c4 .before in
     let c6 = c5 .before in
     rw (
-      c6 .unsigned-at .ensures,
-      c5 .unsigned-at2 .ensures,
-      c4 .unsigned-at3 .ensures,
-      c3 .unsigned-at4 .ensures,
-      c2 .unsigned-at5 .ensures,
-      c1 .unsigned-at6 .ensures,
+      c6 .number-at .ensures,
+      c5 .number-at2 .ensures,
+      c4 .number-at3 .ensures,
+      c3 .number-at4 .ensures,
+      c2 .number-at5 .ensures,
+      c1 .number-at6 .ensures,
       c .given-of .ensures,
       c .before .figures .ensures,
     )

@@ -7,17 +7,16 @@ use Rattle.text_call.proofs.asked_of.Statement.{statement}
 use Rattle.text_call.proofs.asked_of.Tie as tie
 use Rattle.text_call.proofs.asked_of.Reads as reads
 use Rattle.text_call.proofs.asked_of.Lts as lts
-use Rattle.text_call.proofs.unsigned_at.Reads as unsigned-at-reads
 use Rattle.text_call.proofs.term_of.Reads as term-of-reads
 
-unsigned-at-requires : tie.Need-unsigned-at-requires
-unsigned-at-requires c κs = search needs
+number-at-requires : tie.Need-number-at-requires
+number-at-requires c κs = search needs
 
-unsigned-at-requires-2 : tie.Need-unsigned-at-requires-2
-unsigned-at-requires-2 c κs = search needs
+number-at-requires-2 : tie.Need-number-at-requires-2
+number-at-requires-2 c κs = search needs
 
-unsigned-at-requires-3 : tie.Need-unsigned-at-requires-3
-unsigned-at-requires-3 c κs = search needs
+number-at-requires-3 : tie.Need-number-at-requires-3
+number-at-requires-3 c κs = search needs
 
 term-of-requires : tie.Need-term-of-requires
 term-of-requires c κs = search needs
@@ -37,9 +36,9 @@ returns c =
     let c4 = c3 .before in
     let c5 = c4 .before in
     rw (
-      c5 .unsigned-at .ensures,
-      c4 .unsigned-at2 .ensures,
-      c3 .unsigned-at3 .ensures,
+      c5 .number-at .ensures,
+      c4 .number-at2 .ensures,
+      c3 .number-at3 .ensures,
       c2 .term-of .ensures,
       c1 .term-of2 .ensures,
       c .term-of3 .ensures,
@@ -49,9 +48,9 @@ pub asked-of-spec : {M : Type 1} → statement M
 asked-of-spec =
     tie.close
     (tie.spec
-    unsigned-at-requires
-    unsigned-at-requires-2
-    unsigned-at-requires-3
+    number-at-requires
+    number-at-requires-2
+    number-at-requires-3
     term-of-requires
     term-of-requires-2
     term-of-requires-3

@@ -10,8 +10,7 @@ use Rattle.text_call.proofs.interest_of.Statement.{statement}
 use Rattle.text_call.proofs.interest_of.Tie as tie
 use Rattle.text_call.proofs.interest_of.Reads as reads
 use Rattle.text_call.proofs.interest_of.Lts as lts
-use Rattle.text_call.proofs.unsigned_at.Reads as unsigned-at-reads
-use Rattle.text_call.proofs.number_at.Reads as number-at-reads
+use Rattle.text_call.proofs.signed_at.Reads as signed-at-reads
 
 returns : tie.Need-returns
 unfolding interestOf the placeOf interestNames code
@@ -29,25 +28,25 @@ returns c =
     let c11 = c10 .before in
     let c12 = c11 .before in
     let c13 = c12 .before in
-    let money = toZ-ofZ {w = w64} {z = c1 .number-at .result} (search needs) in
-    let secrate = toZ-ofZ {w = w64} {z = c .number-at2 .result} (search needs) in
+    let money = toZ-ofZ {w = w64} {z = c1 .signed-at .result} (search needs) in
+    let secrate = toZ-ofZ {w = w64} {z = c .signed-at2 .result} (search needs) in
     rw (
       money,
       secrate,
-      c13 .unsigned-at .ensures,
-      c12 .unsigned-at2 .ensures,
-      c11 .unsigned-at3 .ensures,
-      c10 .unsigned-at4 .ensures,
-      c9 .unsigned-at5 .ensures,
-      c8 .unsigned-at6 .ensures,
-      c7 .unsigned-at7 .ensures,
-      c6 .unsigned-at8 .ensures,
-      c5 .unsigned-at9 .ensures,
-      c4 .unsigned-at10 .ensures,
-      c3 .unsigned-at11 .ensures,
-      c2 .unsigned-at12 .ensures,
-      c1 .number-at .ensures,
-      c .number-at2 .ensures,
+      c13 .number-at .ensures,
+      c12 .number-at2 .ensures,
+      c11 .number-at3 .ensures,
+      c10 .number-at4 .ensures,
+      c9 .number-at5 .ensures,
+      c8 .number-at6 .ensures,
+      c7 .number-at7 .ensures,
+      c6 .number-at8 .ensures,
+      c5 .number-at9 .ensures,
+      c4 .number-at10 .ensures,
+      c3 .number-at11 .ensures,
+      c2 .number-at12 .ensures,
+      c1 .signed-at .ensures,
+      c .signed-at2 .ensures,
     )
 
 -- what is called asks for nothing

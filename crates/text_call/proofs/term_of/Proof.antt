@@ -8,44 +8,43 @@ use Rattle.text_call.proofs.term_of.Tie as tie
 use Rattle.text_call.proofs.term_of.Reads as reads
 use Rattle.text_call.proofs.term_of.Lts as lts
 use Rattle.text_call.proofs.band_of.Reads as band-of-reads
-use Rattle.text_call.proofs.unsigned_at.Reads as unsigned-at-reads
-use Rattle.text_call.proofs.number_at.Reads as number-at-reads
-
-unsigned-at-requires : tie.Need-unsigned-at-requires
-unsigned-at-requires c κs = search needs
-
-add-number-at : tie.Need-add-number-at
-add-number-at c = search needs
+use Rattle.text_call.proofs.signed_at.Reads as signed-at-reads
 
 number-at-requires : tie.Need-number-at-requires
 number-at-requires c κs = search needs
 
-add-number-at-2 : tie.Need-add-number-at-2
-add-number-at-2 c = search needs
+add-signed-at : tie.Need-add-signed-at
+add-signed-at c = search needs
 
-number-at-requires-2 : tie.Need-number-at-requires-2
-number-at-requires-2 c κs = search needs
+signed-at-requires : tie.Need-signed-at-requires
+signed-at-requires c κs = search needs
+
+add-signed-at-2 : tie.Need-add-signed-at-2
+add-signed-at-2 c = search needs
+
+signed-at-requires-2 : tie.Need-signed-at-requires-2
+signed-at-requires-2 c κs = search needs
 
 band-of-requires : tie.Need-band-of-requires
 band-of-requires c κs = search needs
 
 returns : tie.Need-returns
-returns c = let low = toZ-ofZ {w = w64} {z = c .before .before .number-at .result} (search needs) in let high = toZ-ofZ
-    {w = w64} {z = c .before .number-at2 .result} (search needs) in rw (
-      c .before .before .before .unsigned-at .ensures,
+returns c = let low = toZ-ofZ {w = w64} {z = c .before .before .signed-at .result} (search needs) in let high = toZ-ofZ
+    {w = w64} {z = c .before .signed-at2 .result} (search needs) in rw (
+      c .before .before .before .number-at .ensures,
       (rw (low, high) at (c .band-of .ensures)),
-      c .before .before .number-at .ensures,
-      c .before .number-at2 .ensures,
+      c .before .before .signed-at .ensures,
+      c .before .signed-at2 .ensures,
     )
 
 pub term-of-spec : {M : Type 1} → statement M
 term-of-spec =
     tie.close
     (tie.spec
-    unsigned-at-requires
-    add-number-at
     number-at-requires
-    add-number-at-2
-    number-at-requires-2
+    add-signed-at
+    signed-at-requires
+    add-signed-at-2
+    signed-at-requires-2
     band-of-requires
     returns)

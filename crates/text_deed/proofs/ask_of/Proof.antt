@@ -15,28 +15,19 @@ returns c = asks-nothing _ _ _ _ (c .if1 .taken)
 returns-2 : tie.Need-returns-2
 returns-2 c = asks-no-call _ _ _ _ (c .if2 .taken)
 
-call-of-requires : tie.Need-call-of-requires
-call-of-requires c κs = search needs
-
 returns-3 : tie.Need-returns-3
 returns-3 c =
     let at-if3 = c .before in
     let at-if2 = at-if3 .before in
     let at-if1 = at-if2 .before in
-    asks-call _ _ _ _ (at-if1 .if1 .left) (at-if2 .if2 .left) _ (at-if3 .if3 .taken) (c .call-of .ensures)
-
-interest-of-requires : tie.Need-interest-of-requires
-interest-of-requires c κs = search needs
+    asks-interest _ _ _ _ (at-if1 .if1 .left) (at-if2 .if2 .left) _ (at-if3 .if3 .taken) (c .interest-of .ensures)
 
 returns-4 : tie.Need-returns-4
 returns-4 c =
     let at-if4 = c .before in
     let at-if2 = at-if4 .before .before in
     let at-if1 = at-if2 .before in
-    asks-interest _ _ _ _ (at-if1 .if1 .left) (at-if2 .if2 .left) _ (at-if4 .if4 .taken) (c .interest-of .ensures)
-
-bond-of-requires : tie.Need-bond-of-requires
-bond-of-requires c κs = search needs
+    asks-bond _ _ _ _ (at-if1 .if1 .left) (at-if2 .if2 .left) _ (at-if4 .if4 .taken) (c .bond-of .ensures)
 
 returns-5 : tie.Need-returns-5
 returns-5 c =
@@ -44,8 +35,8 @@ returns-5 c =
     let at-if3 = at-if4 .before in
     let at-if2 = at-if3 .before in
     let at-if1 = at-if2 .before in
-    asks-bond _ _ _ _ (at-if1 .if1 .left) (at-if2 .if2 .left) _ (at-if3 .if3 .left) (at-if4 .if4 .left)
-    (c .bond-of .ensures)
+    asks-call _ _ _ _ (at-if1 .if1 .left) (at-if2 .if2 .left) _ (at-if3 .if3 .left) (at-if4 .if4 .left)
+    (c .call-of .ensures)
 
 pub ask-of-spec : {M : Type 1} → statement M
 ask-of-spec =
@@ -53,9 +44,9 @@ ask-of-spec =
     (tie.spec
     returns
     returns-2
-    call-of-requires
+    (λ c κs. search needs)
     returns-3
-    interest-of-requires
+    (λ c κs. search needs)
     returns-4
-    bond-of-requires
+    (λ c κs. search needs)
     returns-5)

@@ -1,0 +1,36 @@
+-- What a call is to the text: the rest of the text goes by its role, and not by the call.
+use mathlib.Core.List.{List, [], _∷_}
+use Prim.Native.Nat.{ℕ}
+use lib.IntN.{ℤ}
+use Rattle.paper.specs.declared.Answer.{Answer}
+use Rattle.paper.specs.Lists.{pick}
+use Rattle.paper.specs.Verdicts.{numberOf, isDone}
+use Rattle.text_bytes.specs.Numbers.{answerText}
+use Rattle.text_protocol.specs.declared.AskedCall.{AskedCall}
+use Rattle.text_protocol.specs.declared.AskedCall.the-variants as asked
+use Rattle.text_protocol.specs.declared.Role.{Role}
+use Rattle.text_protocol.specs.declared.Role.the-variants as role
+use Rattle.text_protocol.specs.Answers.{flag, recordNumbers}
+
+-- THE ROLE OF A CALL
+unfoldable pub roleOf : AskedCall → Role
+roleOf (asked.Admit a) = role.Admission a
+roleOf (asked.Evaluate id d) = role.Evaluation id d
+roleOf (asked.Quote id q) = role.Quote
+roleOf (asked.Move id side) = role.Move side
+roleOf (asked.Read id) = role.Other
+roleOf (asked.Open id) = role.Other
+roleOf (asked.Receive id x) = role.Other
+roleOf (asked.Notify id x) = role.Other
+
+-- the figures that an accepted call of a role shows
+unfoldable pub figuresShown : Role → Answer → List ℤ
+figuresShown (role.Admission a) r = []
+figuresShown (role.Evaluation id d) r = recordNumbers (r .rec)
+figuresShown role.Quote r = flag (r .top) ∷ flag (r .bottom) ∷ []
+figuresShown (role.Move side) r = recordNumbers (r .rec)
+figuresShown role.Other r = recordNumbers (r .rec)
+
+-- what is answered to a call of a role: a refusal's number stands alone
+unfoldable pub shownText : Role → Answer → List ℕ
+shownText x r = answerText (numberOf (r .verdict)) (pick (isDone (r .verdict)) (figuresShown x r) [])
