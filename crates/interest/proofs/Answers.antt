@@ -12,7 +12,7 @@ use Rattle.paper_interest.specs.Interest.{refusedInterest, acceptedInterest, in
 use Rattle.paper.specs.Verdicts.{isDone, firstOf}
 use Rattle.paper.proofs.Logic.{and-left, and-right}
 use Rattle.paper_interest.proofs.InterestRanges.{valid-interest-in-range}
-use Rattle.interest_forward.specs.Pair.{PairRange}
+use Rattle.interest_maturities.specs.Pair.{PairRange}
 
 module _ (i : Interest) (numbers : List ℤ) where
   -- what is not refused gives the ranges that the rules ask for

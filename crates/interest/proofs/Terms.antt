@@ -22,10 +22,10 @@ use Rattle.paper_interest.proofs.InterestRanges.{valid-key-in-range, figures-he
 use Rattle.interest_maturities.specs.KeyLaws.{maturityAt, valid-key}
 use Rattle.interest_maturities.specs.Reads.{Reads}
 use Rattle.interest_repo.specs.Lift.{lift, lifted, lifted-within}
-use Rattle.interest_forward.specs.declared.Point.{Point}
-use Rattle.interest_forward.specs.Pair.{bandHeld, band-is}
-use Rattle.interest_forward.specs.Points.{PointRange, rateOf, linear, pointBetween}
-use Rattle.interest_forward.proofs.Lines.{interpolated-lifted, point-between-in-range}
+use Rattle.interest_maturities.specs.declared.forward.Point.{Point}
+use Rattle.interest_maturities.specs.Pair.{bandHeld, band-is}
+use Rattle.interest_maturities.specs.Points.{PointRange, rateOf, linear, pointBetween}
+use Rattle.interest_maturities.proofs.Lines.{interpolated-lifted, point-between-in-range}
 use Rattle.interest.specs.Figures.{pointOf, PointAt}
 
 -- a key maturity of numbers that are not refused is in range

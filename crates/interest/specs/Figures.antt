@@ -8,8 +8,8 @@ use Rattle.paper.specs.declared.Interest.{Interest}
 use Rattle.paper.specs.declared.Maturity.{Maturity}
 use Rattle.paper_interest.specs.Interest.{upward, downward, figureAt}
 use Rattle.interest_repo.specs.Lift.{lifted}
-use Rattle.interest_forward.specs.declared.Point.{Point}
-use Rattle.interest_forward.specs.Points.{PointRange, rateOf}
+use Rattle.interest_maturities.specs.declared.forward.Point.{Point}
+use Rattle.interest_maturities.specs.Points.{PointRange, rateOf}
 
 abbrev pub pointOf : Interest → Maturity → Point
 pointOf i k = record { t = k .t; rate = lifted (k .r); up = upward i k; down = downward i k }

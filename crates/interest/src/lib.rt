@@ -1,5 +1,5 @@
 // The interest side (document 02, W-201): an evening's key maturities, lent in one slice, to the figures of each and to
-// the repo band of a pair of terms. The rules are those of `interest_repo` and `interest_forward`; this crate judges
+// the repo band of a pair of terms. The rules are those of `interest_repo` and `interest_maturities`; this crate judges
 // what is given, asks them, and puts the answer together.
 ghost use mathlib.Core.Path.{_≡_};
 ghost use mathlib.Core.Bool.{true, _&&_};
@@ -13,9 +13,9 @@ ghost use Rattle.paper_interest.specs.Interest.{validInterest, validKeys, matur
 ghost use Rattle.paper_interest.specs.Interest.{maturityFigures, noFigures, refusedInterest, acceptedInterest};
 ghost use Rattle.paper_interest.specs.Interest.{interestAnswer, InterestRange};
 ghost use Rattle.interest_maturities.specs.KeyLaws.{maturityAt};
-ghost use Rattle.interest_forward.specs.Pair.{PairRange};
+ghost use Rattle.interest_maturities.specs.Pair.{PairRange};
 ghost use Rattle.interest.specs.Figures.{pointOf, PointAt};
-use interest_forward::Point;
+use interest_maturities::forward::Point;
 use paper::Day;
 use paper::Interest;
 use paper::InterestAnswer;
@@ -152,7 +152,7 @@ fn point_at(i: Interest, numbers: &[i64], y: u64) -> Point
         return before;
     }
     let after = point_of(i, numbers, places.after);
-    interest_forward::between(before, after, y)
+    interest_maturities::forward::between(before, after, y)
 }
 
 // ---- the answer
@@ -164,7 +164,7 @@ fn accepted(i: Interest, numbers: &[i64]) -> InterestAnswer
 {
     let m = point_at(i, numbers, i.ym);
     let n = point_at(i, numbers, i.yn);
-    let band = interest_forward::band_of(i, m, n);
+    let band = interest_maturities::forward::band_of(i, m, n);
     let figures = all_figures(i, numbers);
     InterestAnswer {
         pair: WorkedBand {

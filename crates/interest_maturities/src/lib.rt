@@ -1,5 +1,7 @@
 // The key maturities of an evening (document 02, W-201): eight signed numbers each, lent in one slice, checked and
 // read.
+pub mod forward; // what lies between them, and the repo band of a pair of terms
+
 ghost use mathlib.Core.Path.{_≡_};
 ghost use Prim.Native.Nat.{_+_, _%_, _≤_};
 ghost use lib.ListN.{length};
