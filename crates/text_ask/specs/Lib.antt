@@ -1,2 +1,2 @@
 -- The definitions of text_ask, a file each.
-pub mod Asked
+pub mod WithReasons

@@ -11,7 +11,7 @@ use text_protocol::Explained;
 use text_protocol::Performed;
 use text_protocol::Role;
 ghost use mathlib.Core.Path.{_≡_};
-ghost use Rattle.text_ask.specs.Asked.{explained, unexplained, unasked, Asks};
+ghost use Rattle.text_ask.specs.WithReasons.{explained, unexplained, unasked, Asks};
 
 // An answer, and why it is that.
 fn with_why(answer: Answer, why: Why) -> Performed

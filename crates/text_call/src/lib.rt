@@ -24,11 +24,11 @@ use paper::RepoLimits;
 use text_kept::found;
 use text_protocol::AdmitPlace;
 use text_protocol::AskedCall;
+use text_protocol::CallKind;
 use text_protocol::EvaluatePlace;
 use text_protocol::IdPlace;
 use text_protocol::InterestPlace;
 use text_protocol::Kept;
-use text_protocol::Kind;
 use text_protocol::MovePlace;
 use text_protocol::NoticePlace;
 use text_protocol::OutsidePlace;
@@ -43,7 +43,7 @@ const SIGN_BIT: u64 = 9_223_372_036_854_775_808;
 
 const INFINITY_BITS: u64 = 9_218_868_437_227_405_312;
 
-// The number at a place, with its sign; 0 where there is none. `inputs::number_at` reads one that may not be below zero.
+// The number at a place, with its sign; 0 where there is none. `inputs::number_at` reads one that has none.
 pub fn signed_at(zs: &[i64], i: usize) -> i64
     ensures { λ r. ⌜ r ≡ getD (now (zs .entry)) i (pos 0) ⌝ }
 {
@@ -223,28 +223,28 @@ fn notice_of(id: u64, side: u64, x: f64) -> AskedCall
 pub fn call_of(zs: &[i64], kind: u64, p: Pairs, k: Kept) -> AskedCall
     ensures { λ r. ⌜ callAsked r (drop evaluateCount (now (zs .entry))) ≡ deskCall k kind (now (zs .entry)) p ⌝ }
 {
-    if kind == Kind::ADMIT {
+    if kind == CallKind::ADMIT {
         return AskedCall::Admit(admission_of(zs));
     }
-    if kind == Kind::EVALUATE {
+    if kind == CallKind::EVALUATE {
         return AskedCall::Evaluate(number_at(zs, EvaluatePlace::ID), asked_of(k, p, zs));
     }
-    if kind == Kind::QUOTE {
+    if kind == CallKind::QUOTE {
         return AskedCall::Quote(number_at(zs, QuotePlace::ID), quote_of(zs));
     }
-    if kind == Kind::MOVE {
+    if kind == CallKind::MOVE {
         return AskedCall::Move(number_at(zs, MovePlace::ID), number_at(zs, MovePlace::SIDE));
     }
-    if kind == Kind::READ {
+    if kind == CallKind::READ {
         return AskedCall::Read(number_at(zs, IdPlace::ID));
     }
-    if kind == Kind::OPEN {
+    if kind == CallKind::OPEN {
         return AskedCall::Open(number_at(zs, IdPlace::ID));
     }
-    if kind == Kind::OUTSIDE {
+    if kind == CallKind::OUTSIDE {
         return AskedCall::Receive(number_at(zs, OutsidePlace::ID), outside_of(zs));
     }
-    if kind == Kind::NOTICE {
+    if kind == CallKind::NOTICE {
         let id = number_at(zs, NoticePlace::ID);
         return notice_of(
             id,

@@ -22,7 +22,7 @@ use Rattle.text_protocol.specs.Names.{bondNames, evaluateCount, interestCount, 
 use Rattle.text_protocol.specs.Calls.{Deed, interestOf, bondOf, figuresBehind, deskCall, callOf, deedOf, callAsked}
 use Rattle.text_protocol.specs.Calls.{deedAsked}
 use Rattle.text_evening.specs.Evening.{keptBy}
-use Rattle.text_line.specs.Heard.{saidAs}
+use Rattle.text_line.specs.ReadLine.{saidAs}
 use Rattle.text_deed.specs.declared.Beside.{Beside}
 use Rattle.text_deed.specs.declared.LineDeed.{LineDeed}
 use Rattle.text_deed.specs.Deeds.{BesideIs, AsksFor}

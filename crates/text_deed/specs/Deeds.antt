@@ -15,9 +15,9 @@ use Rattle.text_protocol.specs.declared.Kept.{Kept}
 use Rattle.text_protocol.specs.declared.Performed.{Performed}
 use Rattle.text_evening.specs.declared.Telling.{Telling}
 use Rattle.text_evening.specs.declared.Telling.the-variants.{Answers, Reasons, Messages}
-use Rattle.text_protocol.specs.Calls.{Deed, nothing, noCall, call, interest, bond, callAsked, deedAsked}
+use Rattle.text_protocol.specs.Calls.{Deed, nothing, noCall, call, interest, bond, callAsked, roleOf, deedAsked}
 use Rattle.text_protocol.specs.Answers.{badText, interestText, bondText}
-use Rattle.text_protocol.specs.Roles.{roleOf, shownText}
+use Rattle.text_protocol.specs.Roles.{shownText}
 use Rattle.text_protocol.specs.Reasons.{whyText}
 use Rattle.paper_messages.specs.Broadcast.{broadcastOf}
 use Rattle.text_evening.specs.Evening.{keptBy, worded}

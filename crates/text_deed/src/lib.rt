@@ -7,7 +7,7 @@ ghost use Rattle.text_bytes.specs.Bytes.{room};
 ghost use Rattle.text_protocol.specs.Calls.{deedOf, deedAsked};
 ghost use Rattle.text_protocol.specs.Answers.{answerMost};
 ghost use Rattle.text_out.specs.Wrote.{Wrote};
-ghost use Rattle.text_line.specs.Heard.{saidAs};
+ghost use Rattle.text_line.specs.ReadLine.{saidAs};
 ghost use Rattle.text_deed.specs.Deeds.{asksWhy, inWords, reasonSaid, callSaid, lineText, AsksFor};
 use paper::InterestAnswer;
 use paper::Verdict;
@@ -28,10 +28,10 @@ use text_line::Line;
 use text_protocol::Ask;
 use text_protocol::AskedCall;
 use text_protocol::BondPlace;
+use text_protocol::CallKind;
 use text_protocol::Explained;
 use text_protocol::InterestPlace;
 use text_protocol::Kept;
-use text_protocol::Kind;
 use text_protocol::Pairs;
 use text_protocol::Performed;
 use text_why::say_why;
@@ -57,16 +57,16 @@ pub struct LineDeed {
 fn ask_of(zs: &[i64], kind: u64, p: Pairs, k: Kept) -> Ask
     ensures { λ r. ⌜ deedAsked r (now (zs .entry)) ≡ deedOf k (saidAs kind (now (zs .entry)) p) ⌝ }
 {
-    if kind == Kind::BLANK {
+    if kind == CallKind::BLANK {
         return Ask::Nothing;
     }
-    if kind == Kind::BAD {
+    if kind == CallKind::BAD {
         return Ask::NoCall;
     }
-    if kind == Kind::INTEREST {
+    if kind == CallKind::INTEREST {
         return Ask::Interest(interest_of(zs));
     }
-    if kind == Kind::BOND {
+    if kind == CallKind::BOND {
         return Ask::Bond(bond_of(k, p, zs));
     }
     Ask::Call(call_of(zs, kind, p, k))

@@ -1,3 +1,3 @@
 -- The laws of text_input, a file each; other crates may cite them.
-pub mod Turns
+pub mod InputLoops
 pub mod Lines

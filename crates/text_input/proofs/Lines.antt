@@ -16,14 +16,14 @@ use Rattle.text_protocol.specs.Line.{meaning, keptMost, longest}
 use Rattle.text_evidence.specs.declared.Delivered.{Delivered}
 use Rattle.text_evidence.specs.Evidence.{countMost, counted, hasEnded, Counted, counted-none, counted-on}
 use Rattle.text_line.specs.declared.Line.{Line}
-use Rattle.text_line.specs.Heard.{badLine, Heard as Said}
-use Rattle.text_line.proofs.Turns.{long-line}
+use Rattle.text_line.specs.ReadLine.{badLine, LineSays}
+use Rattle.text_line.proofs.LineLoop.{long-line}
 use Rattle.text_input.specs.declared.Input.{Input}
 use Rattle.text_input.specs.declared.Passed.{Passed}
 use Rattle.text_input.specs.declared.Heard.{Heard}
 use Rattle.text_input.specs.Input.{lineLength, Unbroken, unread, Stands, Over, Ends, Next, Passes, Readied, LongPassed}
 use Rattle.paper.proofs.Logic.{not-true-and-false}
-use Rattle.text_input.proofs.Turns.{unbroken-both, line-le}
+use Rattle.text_input.proofs.InputLoops.{unbroken-both, line-le}
 use Rattle.text_evidence.proofs.Shifting.{drop-take-of}
 
 -- ---- the first line feed of a text
@@ -196,7 +196,7 @@ module _ (b : List ℕ) (i : Input) (p : Stands b i) where
           more : {t : List ℕ} → q .got ≡ t → unread b i ++ q .got ≡ unread b i ++ t
           more e = ap (λ (t : List ℕ). unread b i ++ t) e
 
-      pub long-says : (l : Line) (xs : List ℤ) → length xs ≡ keptMost → l ≡ badLine → Said (meaning long) l xs
+      pub long-says : (l : Line) (xs : List ℤ) → length xs ≡ keptMost → l ≡ badLine → LineSays (meaning long) l xs
       long-says l xs x e = long-line long l xs x (omega (arith, long-size)) e
 
 -- ---- the input that was made ready

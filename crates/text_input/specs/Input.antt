@@ -8,7 +8,7 @@ use lib.IntN.{ℤ}
 use lib.ListN.{length, take, drop}
 use Rattle.text_bytes.specs.Bytes.{room, lineFeed, isNot, run}
 use Rattle.text_protocol.specs.Line.{meaning}
-use Rattle.text_line.specs.Heard.{Heard as Said}
+use Rattle.text_line.specs.ReadLine.{LineSays}
 use Rattle.text_evidence.specs.declared.Delivered.{Delivered}
 use Rattle.text_evidence.specs.Evidence.{countMost, hasEnded, Counted}
 use Rattle.text_input.specs.declared.Input.{Input}
@@ -108,4 +108,4 @@ pub record LongPassed (was : Delivered) (b' : List ℕ) (left : ℕ) (r : Input)
 pub record Hears (b : List ℕ) (s : Input) (b' : List ℕ) (r : Heard) (xs : List ℤ) : Type 0 where
   pub line : List ℕ
   pub next : Next b s b' (r .input) line
-  pub says : Said (meaning line) (r .line) xs
+  pub says : LineSays (meaning line) (r .line) xs

@@ -14,7 +14,7 @@ use Rattle.text_protocol.specs.Names.{Form, countFits, takesIn, takes, forms, b
 use Rattle.text_protocol.specs.Names.{evaluateNames, bondNames}
 use Rattle.text_line.specs.declared.Line.{Line}
 use Rattle.text_protocol.specs.Line.{placeIn}
-use Rattle.text_line.specs.Heard.{badLine, lineOf, LowsAt}
+use Rattle.text_line.specs.ReadLine.{badLine, lineOf, LowsAt}
 
 -- no call stands behind the last of a table
 takes-behind : (fs : List Form) (k n : ℕ) → length fs ≤ k → takesIn fs k n ≡ false

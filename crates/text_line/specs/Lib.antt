@@ -1,2 +1,2 @@
 -- The definitions of text_line, a file each.
-pub mod Heard
+pub mod ReadLine

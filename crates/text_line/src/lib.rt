@@ -8,15 +8,15 @@ ghost use Rattle.paper.specs.Lists.{pick};
 ghost use Rattle.text_bytes.specs.Bytes.{words, same};
 ghost use Rattle.text_protocol.specs.Names.{kindOf, takes};
 ghost use Rattle.text_protocol.specs.Line.{noPairs, hasTerms, pairFits, withPair, taking, fill, meaning, keptMost};
-ghost use Rattle.text_line.specs.Heard.{blankLine, badLine, Heard, lineOf, LowsAt, Keeps, Takes};
+ghost use Rattle.text_line.specs.ReadLine.{blankLine, badLine, LineSays, lineOf, LowsAt, Keeps, Takes};
 use text_bytes::ROOM;
 use text_protocol::BondPlace;
 use text_protocol::CALLS;
 use text_protocol::COUNTS;
+use text_protocol::CallKind;
 use text_protocol::EvaluatePlace;
 use text_protocol::Item;
 use text_protocol::KEPT;
-use text_protocol::Kind;
 use text_protocol::MORE;
 use text_protocol::Pairs;
 use text_word::item_of;
@@ -53,7 +53,7 @@ fn blank() -> Line
     ensures { λ r. ⌜ r ≡ blankLine ⌝ }
 {
     Line {
-        kind: Kind::BLANK,
+        kind: CallKind::BLANK,
         count: 0,
         pairs: no_pairs(),
     }
@@ -63,7 +63,7 @@ pub fn bad() -> Line
     ensures { λ r. ⌜ r ≡ badLine ⌝ }
 {
     Line {
-        kind: Kind::BAD,
+        kind: CallKind::BAD,
         count: 0,
         pairs: no_pairs(),
     }
@@ -83,27 +83,27 @@ fn kind_if(p: &[u8], word: &[u8], kind: u64, other: u64) -> u64
 fn kind_of(p: &[u8]) -> u64
     ensures { λ r. ⌜ r ≡ kindOf (now (p .entry)) ⌝ }
 {
-    let k = kind_if(p, b"bond", Kind::BOND, 0);
-    let k = kind_if(p, b"interest", Kind::INTEREST, k);
-    let k = kind_if(p, b"withdraw", Kind::WITHDRAW, k);
-    let k = kind_if(p, b"notice", Kind::NOTICE, k);
-    let k = kind_if(p, b"outside", Kind::OUTSIDE, k);
-    let k = kind_if(p, b"open", Kind::OPEN, k);
-    let k = kind_if(p, b"read", Kind::READ, k);
-    let k = kind_if(p, b"move", Kind::MOVE, k);
-    let k = kind_if(p, b"quote", Kind::QUOTE, k);
-    let k = kind_if(p, b"evaluate", Kind::EVALUATE, k);
-    kind_if(p, b"admit", Kind::ADMIT, k)
+    let k = kind_if(p, b"bond", CallKind::BOND, 0);
+    let k = kind_if(p, b"interest", CallKind::INTEREST, k);
+    let k = kind_if(p, b"withdraw", CallKind::WITHDRAW, k);
+    let k = kind_if(p, b"notice", CallKind::NOTICE, k);
+    let k = kind_if(p, b"outside", CallKind::OUTSIDE, k);
+    let k = kind_if(p, b"open", CallKind::OPEN, k);
+    let k = kind_if(p, b"read", CallKind::READ, k);
+    let k = kind_if(p, b"move", CallKind::MOVE, k);
+    let k = kind_if(p, b"quote", CallKind::QUOTE, k);
+    let k = kind_if(p, b"evaluate", CallKind::EVALUATE, k);
+    kind_if(p, b"admit", CallKind::ADMIT, k)
 }
 
 // Whether a call of the kind has so many numbers: by its row of the table of calls.
 fn takes(kind: u64, count: usize) -> bool
     ensures { λ r. ⌜ r ≡ takes kind count ⌝ }
 {
-    if kind < Kind::ADMIT {
+    if kind < CallKind::ADMIT {
         return false;
     }
-    let call = (kind - Kind::ADMIT) as usize;
+    let call = (kind - CallKind::ADMIT) as usize;
     if CALLS <= call {
         return false;
     }
@@ -129,14 +129,14 @@ fn finish(kind: u64, count: usize, pairs: Pairs) -> Line
 fn has_terms(kind: u64) -> bool
     ensures { λ r. ⌜ r ≡ hasTerms kind ⌝ }
 {
-    (kind == Kind::EVALUATE) | (kind == Kind::BOND)
+    (kind == CallKind::EVALUATE) | (kind == CallKind::BOND)
 }
 
 // Where the first term's RRCL stands in a call with terms. Those of the other two follow a term's numbers apart.
 fn first_low(kind: u64) -> usize
     ensures { λ r. ⌜ LowsAt kind r ⌝ }
 {
-    if kind == Kind::BOND {
+    if kind == CallKind::BOND {
         return BondPlace::RRCL0;
     }
     EvaluatePlace::RRCL0
@@ -220,7 +220,7 @@ fn take_word(xs: &mut [i64], kind: u64, n: usize, pairs: Pairs, w: Item) -> Take
 // The words from `from` on, behind the call's.
 fn numbers(l: &[u8], from: usize, kind: u64, xs: &mut [i64]) -> Line
     requires { ⌜ (from ≤ length (now l)) × (length (now xs) ≡ keptMost) ⌝ }
-    ensures { λ r. ⌜ Heard (fill kind [] noPairs (words (drop from (now (l .entry))))) r (now (xs .exit)) ⌝ }
+    ensures { λ r. ⌜ LineSays (fill kind [] noPairs (words (drop from (now (l .entry))))) r (now (xs .exit)) ⌝ }
 {
     let mut s = from;
     let mut n: usize = 0;
@@ -246,7 +246,7 @@ fn numbers(l: &[u8], from: usize, kind: u64, xs: &mut [i64]) -> Line
 // What a line says.
 pub fn read_line(l: &[u8], xs: &mut [i64]) -> Line
     requires { ⌜ length (now xs) ≡ keptMost ⌝ }
-    ensures { λ r. ⌜ Heard (meaning (now (l .entry))) r (now (xs .exit)) ⌝ }
+    ensures { λ r. ⌜ LineSays (meaning (now (l .entry))) r (now (xs .exit)) ⌝ }
 {
     if LONGEST < l.len() {
         return bad();

@@ -162,8 +162,8 @@ short-line-is-called l h = rw (le-leb (length l) longest h)
 pub says-reads : {l : List ℕ} {k : ℕ} {zs : List ℤ} {p : Pairs} → Says l k zs p → meaning l ≡ Call k zs p
 says-reads (says {t} {w} {rest} {k} {zs} {p} bs x n h o) =
     short-line-is-called (t ++ (w ++ rest)) o
-    ∙ ap called (words-blanks (w ++ rest) bs ∙ words-solid w (letters-are-solid w (call-found x .letters)) (call-found x .some)
-    (numbers-ends n))
+    ∙ ap called (words-blanks (w ++ rest) bs
+    ∙ words-solid w (letters-are-solid w (call-found x .letters)) (call-found x .some) (numbers-ends n))
     ∙ word-called (words rest) x
     ∙ numbers-fill n
     ∙ finished-right k zs p h

@@ -25,6 +25,8 @@ use Rattle.paper_desk.specs.Desk.{Call, admit, evaluate, quote, move, read, ope
 use Rattle.paper_desk.specs.External.{together, notice}
 use Rattle.text_protocol.specs.declared.AskedCall.{AskedCall}
 use Rattle.text_protocol.specs.declared.AskedCall.the-variants as asked
+use Rattle.text_protocol.specs.declared.Role.{Role}
+use Rattle.text_protocol.specs.declared.Role.the-variants as role
 use Rattle.text_protocol.specs.declared.Ask.{Ask}
 use Rattle.text_protocol.specs.declared.Ask.the-variants as ask
 use Rattle.text_protocol.specs.declared.Kept.{Kept}
@@ -232,6 +234,17 @@ callAsked (asked.Read id) rows = read id
 callAsked (asked.Open id) rows = openEvening id
 callAsked (asked.Receive id x) rows = receive id (together x)
 callAsked (asked.Notify id x) rows = receive id (notice x)
+
+-- what the call is to the text
+unfoldable pub roleOf : AskedCall → Role
+roleOf (asked.Admit a) = role.Admission a
+roleOf (asked.Evaluate id d) = role.Evaluation id d
+roleOf (asked.Quote id q) = role.Quote
+roleOf (asked.Move id side) = role.Move side
+roleOf (asked.Read id) = role.Other
+roleOf (asked.Open id) = role.Other
+roleOf (asked.Receive id x) = role.Other
+roleOf (asked.Notify id x) = role.Other
 
 -- THE DEED that is asked for by a line of these numbers: the figures stand behind the numbers that have names
 unfoldable pub deedAsked : Ask → (numbers : List ℤ) → Deed

@@ -1,4 +1,4 @@
--- What a call is to the text: the rest of the text goes by its role, and not by the call.
+-- What is answered to a call, by its role (`roleOf`, Calls.antt): the text goes by the role, and not by the call.
 use mathlib.Core.List.{List, [], _∷_}
 use Prim.Native.Nat.{ℕ}
 use lib.IntN.{ℤ}
@@ -6,22 +6,9 @@ use Rattle.paper.specs.declared.Answer.{Answer}
 use Rattle.paper.specs.Lists.{pick}
 use Rattle.paper.specs.Verdicts.{numberOf, isDone}
 use Rattle.text_bytes.specs.Numbers.{answerText}
-use Rattle.text_protocol.specs.declared.AskedCall.{AskedCall}
-use Rattle.text_protocol.specs.declared.AskedCall.the-variants as asked
 use Rattle.text_protocol.specs.declared.Role.{Role}
 use Rattle.text_protocol.specs.declared.Role.the-variants as role
 use Rattle.text_protocol.specs.Answers.{flag, recordNumbers}
-
--- THE ROLE OF A CALL
-unfoldable pub roleOf : AskedCall → Role
-roleOf (asked.Admit a) = role.Admission a
-roleOf (asked.Evaluate id d) = role.Evaluation id d
-roleOf (asked.Quote id q) = role.Quote
-roleOf (asked.Move id side) = role.Move side
-roleOf (asked.Read id) = role.Other
-roleOf (asked.Open id) = role.Other
-roleOf (asked.Receive id x) = role.Other
-roleOf (asked.Notify id x) = role.Other
 
 -- the figures that an accepted call of a role shows
 unfoldable pub figuresShown : Role → Answer → List ℤ

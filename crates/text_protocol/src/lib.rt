@@ -2,7 +2,7 @@
 // The definitions say what a line of text means and what is printed, and every other crate of the evening is proved
 // equal to them. What bytes, words and numbers are stands below, in text_bytes.
 ghost use mathlib.Core.Path.{_≡_};
-ghost use Rattle.text_protocol.specs.Roles.{roleOf};
+ghost use Rattle.text_protocol.specs.Calls.{roleOf};
 use paper::Admission;
 use paper::Answer;
 use paper::AskedDay;
@@ -25,8 +25,8 @@ pub const WAITING_MOST: usize = ROOM - ANSWER_MOST;
 
 // ---- the places of a call's numbers behind its word, by the names that specs/Names.antt gives them
 
-// COUNT is how many there are; of an evaluation, an interest line and a bond, how many stand before the row figures, the
-// key maturities and the cash flows. Whoever reads a number at one of these places is proved to read the one of the
+// COUNT is how many there are; of an evaluation, an interest line and a bond, how many stand before the row figures,
+// the key maturities and the cash flows. Whoever reads a number at one of these places is proved to read the one of the
 // name, so that a wrong place is refused there. Each of these types is a list of places: no value of it is made.
 
 // An admission: its statics stand behind its other numbers.
@@ -256,11 +256,11 @@ pub const KEPT: usize = EvaluatePlace::COUNT + Row::ALL_NUMBERS_MOST + 1;
 
 // The place of a call in the table of the calls' forms (specs/Names.antt), counted from 1. A line's word is looked up
 // by it; once a line is read, `Ask` says what it asks for.
-pub struct Kind {
+pub struct CallKind {
     pub number: u64,
 }
 
-impl Kind {
+impl CallKind {
     pub const ADMIT: u64 = 1;
 
     pub const EVALUATE: u64 = 2;

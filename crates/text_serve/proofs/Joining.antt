@@ -250,12 +250,12 @@ module _ {telling : Telling} {t : List Record} {b : List ℕ} {s : State} {u : L
       text-is = rw (so .one-way, so .evening)
 
   -- what is known of the answers behind the turn: they wait on, or they were handed to `write`
-  pub record Told (told : List ℕ) (q : State) : Type 0 where
+  pub record SaidSofar (told : List ℕ) (q : State) : Type 0 where
     pub said : told ++ take (q .waiting) o' ≡ answers telling all start
     pub handed : Counted 0 (length told) (q .told .all)
 
   told-on : {i : Input} {end : ℕ} {q : State} → end ≡ turn .end → (g : Goes i (s .told) end q)
-      → Told (so .told ++ handedOf g o') q
+      → SaidSofar (so .told ++ handedOf g o') q
   told-on {i} {end} {q} e (wait waiting same g) =
       record {
         said = rw (append-nil (so .told), waiting, e) said-so;
@@ -277,7 +277,7 @@ module _ {telling : Telling} {t : List Record} {b : List ℕ} {s : State} {u : L
   onward : Behind r
   onward = behind (turn .goes)
 
-  output : Told (so .told ++ handedOf (turn .goes) o') r
+  output : SaidSofar (so .told ++ handedOf (turn .goes) o') r
   output = told-on refl (turn .goes)
 
   pub one-more : Sofar telling t b' r u' o'

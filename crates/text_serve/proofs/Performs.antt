@@ -49,7 +49,7 @@ use Rattle.text_protocol.proofs.Performed.Laws as F′
 use Rattle.text_protocol.specs.declared.Ask.{Ask as Asked}
 use Rattle.text_protocol.proofs.Ask as B
 use Rattle.text_protocol.proofs.Ask.Laws as B′
-use Rattle.text_ask.specs.Asked.{Asks}
+use Rattle.text_ask.specs.WithReasons.{Asks}
 use Rattle.text_ask.proofs.ask as ask
 use Rattle.text_ask.proofs.ask.Symbol as ask-def
 use Rattle.text_ask.proofs.Typed.{typed-performed}

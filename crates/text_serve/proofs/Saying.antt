@@ -17,17 +17,17 @@ use Rattle.text_protocol.specs.declared.Ask.{Ask}
 use Rattle.text_protocol.specs.declared.Ask.the-variants as ask
 use Rattle.text_protocol.specs.declared.Performed.{Performed}
 use Rattle.text_protocol.specs.Answers.{figuresAnswered, callText}
-use Rattle.text_protocol.specs.Calls.{figuresBehind, callAsked, deedAsked}
+use Rattle.text_protocol.specs.Calls.{figuresBehind, callAsked, roleOf, deedAsked}
 use Rattle.text_protocol.specs.Names.{evaluateNames}
 use Rattle.text_protocol.specs.Reasons.{whyText}
-use Rattle.text_protocol.specs.Roles.{roleOf, figuresShown, shownText}
+use Rattle.text_protocol.specs.Roles.{figuresShown, shownText}
 use Rattle.text_evening.specs.declared.Telling.{Telling}
 use Rattle.text_evening.specs.declared.Telling.the-variants.{Answers, Reasons, Messages}
 use Rattle.paper_messages.specs.Broadcast.{messagesOf, broadcastOf}
 use Rattle.text_evening.specs.Evening.{answerTo, reasonTo, callTold, textOf}
 use Rattle.text_deed.specs.declared.Beside.{Beside}
 use Rattle.text_deed.specs.Deeds.{BesideIs, asksWhy, reasonFor, callSaid, lineText}
-use Rattle.text_ask.specs.Asked.{explanation, Performs, Asks}
+use Rattle.text_ask.specs.WithReasons.{explanation, Performs, Asks}
 
 -- ---- each call is told by its role
 

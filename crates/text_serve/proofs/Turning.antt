@@ -21,7 +21,7 @@ use Rattle.text_turn.specs.declared.State.{State}
 use Rattle.text_turn.specs.declared.Prepared.{Prepared}
 use Rattle.text_turn.specs.Turn.{Prepares}
 use Rattle.text_turn.specs.Tells.{Goes, Tells}
-use Rattle.text_ask.specs.Asked.{Asks}
+use Rattle.text_ask.specs.WithReasons.{Asks}
 use Rattle.text_serve.specs.Serve.{eveningOf, Turns}
 use Rattle.text_serve.proofs.Saying.{told-as}
 

@@ -8,7 +8,7 @@ use lib.ListN.{take}
 use Rattle.text_protocol.specs.Line.{Said, meaning}
 use Rattle.text_protocol.specs.Calls.{deedOf}
 use Rattle.text_line.specs.declared.Line.{Line}
-use Rattle.text_line.specs.Heard.{saidAs, said}
+use Rattle.text_line.specs.ReadLine.{saidAs, said}
 use Rattle.text_input.specs.declared.Heard.{Heard}
 use Rattle.text_input.specs.Input.{Hears}
 use Rattle.text_deed.specs.declared.LineDeed.{LineDeed}

@@ -1,4 +1,4 @@
 -- The laws of text_word, a file each; other crates may cite the public ones.
 pub mod Words
-mod Turns
+mod WordLoops
 mod Items

@@ -73,8 +73,7 @@ use Rattle.text_protocol.specs.declared.Role.{Role}
 use Rattle.text_protocol.specs.declared.Role.the-variants as role
 use Rattle.text_protocol.specs.declared.Ask.{Ask}
 use Rattle.text_protocol.specs.declared.Ask.the-variants.{Nothing, NoCall, Call, Interest, Bond}
-use Rattle.text_protocol.specs.Calls.{callAsked}
-use Rattle.text_protocol.specs.Roles.{roleOf}
+use Rattle.text_protocol.specs.Calls.{callAsked, roleOf}
 use Rattle.text_protocol.proofs.AskedCall as G
 use Rattle.text_protocol.proofs.AskedCall.Laws as G′
 use Rattle.text_protocol.proofs.Role as P
@@ -94,13 +93,13 @@ use Rattle.desk.proofs.Asks.{Callee, calls, consults, says as learned}
 use Rattle.desk_reasons.proofs.why_asked as why
 use Rattle.desk_reasons.proofs.why_asked.Symbol as why-def
 use Rattle.desk_reasons.proofs.why_asked.Met as why-thm
-use Rattle.text_perform.proofs.Asked.{call-ty}
+use Rattle.text_perform.proofs.CallType.{call-ty}
 use Rattle.text_perform.proofs.Hands.{handing, hands, tokens-back}
 use Rattle.text_perform.proofs.perform as perform
 use Rattle.text_perform.proofs.perform.Symbol as perform-def
 use Rattle.text_perform.proofs.perform.Met as perform-thm
 use Rattle.text_ask.proofs.Typed.{typed-performed}
-use Rattle.text_ask.specs.Asked.{explained, unexplained, unasked, explanation, Asks}
+use Rattle.text_ask.specs.WithReasons.{explained, unexplained, unasked, explanation, Asks}
 use Rattle.text_ask.proofs.unasked as un-asked
 use Rattle.text_ask.proofs.unasked.Symbol as unasked-def
 use Rattle.text_ask.proofs.unasked.Met as unasked-thm
@@ -459,7 +458,7 @@ module _ {M : Type 1} (𝓤 : URA M) (H : Heap 𝓤) (A : Atoms 𝓤) (W : Given
       at-first l =
           none ∷ some (machine b o ys) ∷ some (value l) ∷ some mrows ∷ some (vbool asked) ∷ spare 14
 
-      -- once it is a call, and it is known whether why is asked; x is the machine value of its role, where that is known
+      -- once it is a call, and it is known whether why is asked; x is the machine value of its role, once that is known
       abbrev once-called : AskedCall → (x : Option Val) → Locals
       once-called c x =
           none ∷ some (machine b o ys) ∷ some (value (Call c)) ∷ some mrows ∷ some (vbool asked) ∷ some (call-val c)
@@ -503,7 +502,8 @@ module _ {M : Type 1} (𝓤 : URA M) (H : Heap 𝓤) (A : Atoms 𝓤) (W : Given
 
       module _ {p : Posts 𝓤 H} where
         -- let why = why_asked(t, id, day, rows);
-        let-why : (c : AskedCall) (id : ℕ) (d : AskedDay) → Is u64 id (vint w64 id ∷ []) → Is D.the-row d (day-val d ∷ [])
+        let-why : (c : AskedCall) (id : ℕ) (d : AskedDay) → Is u64 id (vint w64 id ∷ [])
+            → Is D.the-row d (day-val d ∷ [])
             → {rest : Body} → ((w : Val) → Is Y.the-row (told id d) (w ∷ [])
             → Sq W (frame H En (once-told c id d w) ∷ Had) (runs C Λ En rest p))
             → Sq W (frame H En (once-bound c id d) ∷ Had) (runs C Λ En (code-why rest) p)
@@ -621,7 +621,8 @@ module _ {M : Type 1} (𝓤 : URA M) (H : Heap 𝓤) (A : Atoms 𝓤) (W : Given
 
       -- if let Role::Evaluation(id, day) = role { .. }, where why is asked
       if-evaluation : (c : AskedCall) (x : Role) → roleOf c ≡ x → IsRole x → IsAsk (Call c) → IsCall c
-          → Sq W (frame H En (once-called c (some (role-val x))) ∷ Had) (runs C Λ En code-if-evaluation (Then′ (Call c)))
+          → Sq W (frame H En (once-called c (some (role-val x))) ∷ Had)
+          (runs C Λ En code-if-evaluation (Then′ (Call c)))
       unfolding explanation
       if-evaluation c (role.Evaluation id d) e gr gl gc =
           switches-on ! (tag ! ℓrole refl refl refl) $ exec ! C Λ En code-explained (Then′ (Call c)) $
@@ -723,7 +724,8 @@ module _ {M : Type 1} (𝓤 : URA M) (H : Heap 𝓤) (A : Atoms 𝓤) (W : Given
       (λ κs qs bounds a g are. via 𝓤 _ (fst∗ 𝓤 _ (emp 𝓤))
       (walk 𝓤 H A W mem run (κs .0) (κs .1 .0) (qs .0) (qs .1 .0) (a .0 .ptr .0) (a .0 .ptr .1) (a .0 .name) (a .0 .now)
       (a .1 .1 .0) (a .1 .1 .1 .0) (are .0 .0 .1) (are .1 .1 .0 .0 .1) (𝓣 .C) (𝓣 .Λ)
-      (fmOf 𝓤 H (W .laws) 𝓣) known-why known-perform known-role known-with known-without known-unasked (a .1 .0) (are .1 .0)))
+      (fmOf 𝓤 H (W .laws) 𝓣) known-why known-perform known-role known-with known-without known-unasked (a .1 .0)
+      (are .1 .0)))
 
   meets : Meets 𝓤 H A f.signature Run (f.spec 𝓤 H A mem run)
   meets =

@@ -2,7 +2,7 @@
 use mathlib.Core.Path.{ap, _∙_}
 use Rattle.paper.specs.declared.Answer.{Answer}
 use borrow.Author.Needs.{needs}
-use Rattle.text_ask.specs.Asked.{unexplained}
+use Rattle.text_ask.specs.WithReasons.{unexplained}
 use Rattle.text_ask.proofs.unasked.Statement.{statement}
 use Rattle.text_ask.proofs.unasked.Tie as tie
 use Rattle.text_ask.proofs.unasked.Reads as reads

@@ -1,5 +1,5 @@
--- `text_call::call_of` meets its contract: the branch of each kind makes the call that the definition has for it, and the
--- last is of no other kind. What it calls asks nothing of it.
+-- `text_call::call_of` meets its contract: the branch of each kind makes the call that the definition has for it, and
+-- the last is of no other kind. What it calls asks nothing of it.
 use lib.ListN.{drop}
 use borrow.Author.Tests.{ne-eqb}
 use Rattle.text_protocol.specs.Names.{the, placeOf, code, forms, evaluateCount}

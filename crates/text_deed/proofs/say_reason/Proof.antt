@@ -34,4 +34,6 @@ unfolding reasonFor
 returns-2 c = rw (c .before .before .before .why .given .1) (c .say-why .ensures)
 
 pub say-reason-spec : {M : Type 1} → statement M
-say-reason-spec = tie.close (tie.spec enum-told role-requires say-answer-requires enum-known-why say-why-requires returns returns-2)
+say-reason-spec =
+    tie.close
+    (tie.spec enum-told role-requires say-answer-requires enum-known-why say-why-requires returns returns-2)

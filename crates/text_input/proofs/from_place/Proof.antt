@@ -1,5 +1,5 @@
 -- `text_input::from_place` meets its contract: the input from `at` on, with a line fewer to hear.
-use Rattle.text_input.proofs.Turns.{stands-from}
+use Rattle.text_input.proofs.InputLoops.{stands-from}
 use lib.Seq.{length-take-le}
 use lib.ListN.{length, take}
 use native.Mathlib.Omega.{arith}

@@ -1,7 +1,7 @@
 -- `text_input::pass_over` meets its contract: passes over the rest of a line that is longer than the buffer.
 use borrow.Author.Needs.{needs}
-use Rattle.text_input.proofs.Turns.{Passing, passing-none, passing-spent, passing-end, passing-found}
-use Rattle.text_input.proofs.Turns.{passing-more}
+use Rattle.text_input.proofs.InputLoops.{Passing, passing-none, passing-spent, passing-end, passing-found}
+use Rattle.text_input.proofs.InputLoops.{passing-more}
 use lib.Seq.{length-take-le}
 use lib.ListN.{length, take}
 use native.Mathlib.Omega.{arith}

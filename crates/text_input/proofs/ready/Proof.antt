@@ -1,5 +1,5 @@
 -- `text_input::ready` meets its contract: a line is whole, or the buffer is full, or the input has ended.
-use Rattle.text_input.proofs.Turns.{readied-now, unbroken-now, readied-later}
+use Rattle.text_input.proofs.InputLoops.{readied-now, unbroken-now, readied-later}
 use lib.Seq.{length-take-le}
 use lib.ListN.{length, take}
 use native.Mathlib.Omega.{arith}

@@ -1,8 +1,8 @@
 -- `text_input::wait` meets its contract: reads until a line feed stands behind the first `have` bytes, which have none,
 -- or the buffer is full, or the input has ended.
 use borrow.Author.Needs.{needs}
-use Rattle.text_input.proofs.Turns.{Waiting, waiting-none, waiting-full, waiting-ended, waiting-found}
-use Rattle.text_input.proofs.Turns.{waiting-more}
+use Rattle.text_input.proofs.InputLoops.{Waiting, waiting-none, waiting-full, waiting-ended, waiting-found}
+use Rattle.text_input.proofs.InputLoops.{waiting-more}
 use lib.Seq.{length-take-le}
 use lib.ListN.{length, take}
 use native.Mathlib.Omega.{arith}

@@ -1,5 +1,5 @@
 -- `text_line::keep` meets its contract: a number more, kept where there is room for it.
-use Rattle.text_line.proofs.Turns.{keeps-room, keeps-full}
+use Rattle.text_line.proofs.LineLoop.{keeps-room, keeps-full}
 use mir.Facts.{toZ-ofZ}
 use native.Mathlib.Omega.{arith}
 use mathlib.Core.Path.{_≡_, refl, sym, ap, _∙_}

@@ -1,7 +1,7 @@
 -- `text_line::numbers` meets its contract: the words from `from` on, behind the call's.
 use borrow.Author.Tests.{not-true, not-false}
 use borrow.Author.Needs.{needs}
-use Rattle.text_line.proofs.Turns.{Filling, filling-none, filling-end, filling-bad, filling-more}
+use Rattle.text_line.proofs.LineLoop.{Filling, filling-none, filling-end, filling-bad, filling-more}
 use Rattle.text_word.proofs.Words.{word-some}
 use Rattle.text_protocol.specs.Line.{noPairs, fill}
 use Rattle.text_bytes.specs.Bytes.{words}

@@ -1,5 +1,5 @@
 -- `text_line::read_line` meets its contract: what a line says.
-use Rattle.text_line.proofs.Turns.{long-line, blank-line, no-call, some-call}
+use Rattle.text_line.proofs.LineLoop.{long-line, blank-line, no-call, some-call}
 use native.Mathlib.Omega.{arith}
 use mathlib.Core.Path.{_≡_, refl, sym, ap, _∙_}
 use borrow.Author.Needs.{needs}

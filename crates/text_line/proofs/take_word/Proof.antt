@@ -1,5 +1,5 @@
 -- `text_line::take_word` meets its contract: a word more.
-use Rattle.text_line.proofs.Turns.{takes-one, takes-two, takes-unfit, takes-neither}
+use Rattle.text_line.proofs.LineLoop.{takes-one, takes-two, takes-unfit, takes-neither}
 use mir.Facts.{toZ-ofZ}
 use mir.Syntax.{w64}
 use native.Mathlib.Omega.{arith}

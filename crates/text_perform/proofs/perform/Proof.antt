@@ -86,7 +86,7 @@ use Rattle.desk.proofs.evaluate_asked.Symbol as evaluate-def
 use Rattle.desk.proofs.evaluate_asked.Met as evaluate-thm
 use Rattle.desk.proofs.Plain.{Plain, PlainLaws, row, number, number-laws, admission, admission-laws, asked, asked-laws}
 use Rattle.desk.proofs.Plain.{quoted, quoted-laws, outside, outside-laws, notice, notice-laws}
-use Rattle.text_perform.proofs.Asked.{call-ty, evaluation, sending, notifying}
+use Rattle.text_perform.proofs.CallType.{call-ty, evaluation, sending, notifying}
 use Rattle.text_perform.proofs.Hands.{handing}
 use Rattle.text_perform.proofs.Arms.{Ask, AskRows, AskOne, Read, Ours, asks, asks-rows, asks-one, reads}
 use Rattle.text_perform.proofs.perform as f

@@ -66,7 +66,7 @@ use Rattle.text_turn.proofs.State as G
 use Rattle.text_turn.proofs.State.Laws as G′
 use Rattle.text_turn.proofs.Prepared as P
 use Rattle.text_turn.proofs.Prepared.Laws as P′
-use Rattle.text_ask.specs.Asked.{Asks}
+use Rattle.text_ask.specs.WithReasons.{Asks}
 use Rattle.text_ask.proofs.ask.Symbol as ask-def
 use Rattle.text_ask.proofs.ask.Met as ask-thm
 use Rattle.text_turn.proofs.after.tell.Symbol as tell-def
@@ -292,8 +292,8 @@ module _ {M : Type 1} (𝓤 : URA M) (H : Heap 𝓤) (A : Atoms 𝓤) (W : Given
     abbrev Token : Item 𝓤
     Token = ‵ (flft κ q)
 
-    abbrev Heard : List ℕ → Item 𝓤
-    Heard bs′ = ‵ (fres γb (Bytes .coded .code bs′))
+    abbrev Filled : List ℕ → Item 𝓤
+    Filled bs′ = ‵ (fres γb (Bytes .coded .code bs′))
 
     abbrev Opened : List ℤ → List (Item 𝓤) → List (Item 𝓤)
     Opened xs′ Γ = ‵ (mem Numbers .lies xs′ bx ox) ∷ ‵ (fobor κ₂ q₂ (Body (mem Numbers) bx ox γx))
@@ -301,7 +301,7 @@ module _ {M : Type 1} (𝓤 : URA M) (H : Heap 𝓤) (A : Atoms 𝓤) (W : Given
 
     -- let p = hear_in(buf, xs, s);
     let-p : ((bs′ : List ℕ) (xs′ : List ℤ) (p : Prepared) → Prepares bs s bs′ p xs′ → IsHeard p
-        → Sq W (frame H En (with-p p) ∷ Token ∷ Heard bs′ ∷ Opened xs′ (Answers ∷ Table ∷ [])) (Runs code-a))
+        → Sq W (frame H En (with-p p) ∷ Token ∷ Filled bs′ ∷ Opened xs′ (Answers ∷ Table ∷ [])) (Runs code-a))
         → Sq W (frame H En at-first ∷ Token ∷ Buffer ∷ Opened xs (Answers ∷ Table ∷ [])) (Runs code-p)
     let-p k =
         assigns ! (addr ! (from ! (hop ! (whole ! ℓbuf refl) (stop !)))) (from ! (stop !)) (sets ! for-buf tt (tt, tt))
@@ -323,9 +323,9 @@ module _ {M : Type 1} (𝓤 : URA M) (H : Heap 𝓤) (A : Atoms 𝓤) (W : Given
         → ((fs : RefT (List ℤ)) (zs : List Record) (a : Performed) (v : Val)
         → fs .now ≡ from-at evaluateCount (take (p .count) xs′) → Asks (p .asked) (p .ask) (fs .now) ys a zs
         → length zs ≡ length ys → Is F.the-row a (v ∷ [])
-        → Sq W (frame H En (with-a p (figures-val fs) v) ∷ Token ∷ Heard bs′ ∷ ‵ (finally R γ zs)
+        → Sq W (frame H En (with-a p (figures-val fs) v) ∷ Token ∷ Filled bs′ ∷ ‵ (finally R γ zs)
         ∷ Opened xs′ (Answers ∷ [])) (Runs code-tell))
-        → Sq W (frame H En (with-p p) ∷ Token ∷ Heard bs′ ∷ Opened xs′ (Answers ∷ Table ∷ [])) (Runs code-a)
+        → Sq W (frame H En (with-p p) ∷ Token ∷ Filled bs′ ∷ Opened xs′ (Answers ∷ Table ∷ [])) (Runs code-a)
     let-a bs′ xs′ p ip k =
         lends 𝓤 H A W b o ys room ℓt for-t (refl, refl, tt, tt, tt, tt, tt) $
         assigns ! (addr ! (from ! (hop ! (whole ! ℓxs refl) (stop !)))) (from ! (stop !))
@@ -356,7 +356,7 @@ module _ {M : Type 1} (𝓤 : URA M) (H : Heap 𝓤) (A : Atoms 𝓤) (W : Given
     tell : {bs′ : List ℕ} {xs′ : List ℤ} {zs : List Record} (fs : RefT (List ℤ)) (p : Prepared) (a : Performed)
         (v : Val) → Prepares bs s bs′ p xs′ → IsHeard p → fs .now ≡ from-at evaluateCount (take (p .count) xs′)
         → Asks (p .asked) (p .ask) (fs .now) ys a zs → length zs ≡ length ys → Is F.the-row a (v ∷ [])
-        → Sq W (frame H En (with-a p (figures-val fs) v) ∷ Token ∷ Heard bs′ ∷ ‵ (finally R γ zs)
+        → Sq W (frame H En (with-a p (figures-val fs) v) ∷ Token ∷ Filled bs′ ∷ ‵ (finally R γ zs)
         ∷ Opened xs′ (Answers ∷ [])) (Runs code-tell)
     tell {bs′} {xs′} {zs} fs p a v heard ip are done′ l ia =
         -- the borrow of the numbers is closed

@@ -1,7 +1,7 @@
 -- `text_why::put_level` meets its contract: the word of what set a level, case by case.
 use borrow.Author.Needs.{needs}
 use Rattle.paper_reasons.specs.Words.{levelWord}
-use Rattle.text_why.proofs.Turns.{named}
+use Rattle.text_why.proofs.ReasonWords.{named}
 use Rattle.text_why.proofs.put_level.Statement.{statement}
 use Rattle.text_why.proofs.put_level.Tie as tie
 

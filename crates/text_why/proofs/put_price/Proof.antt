@@ -1,7 +1,7 @@
 -- `text_why::put_price` meets its contract: the word of what set the price, case by case.
 use borrow.Author.Needs.{needs}
 use Rattle.paper_reasons.specs.Words.{priceWord}
-use Rattle.text_why.proofs.Turns.{named}
+use Rattle.text_why.proofs.ReasonWords.{named}
 use Rattle.text_why.proofs.put_price.Statement.{statement}
 use Rattle.text_why.proofs.put_price.Tie as tie
 

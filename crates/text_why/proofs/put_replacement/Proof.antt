@@ -1,7 +1,7 @@
 -- `text_why::put_replacement` meets its contract: the word of whether the replacement won, case by case.
 use borrow.Author.Needs.{needs}
 use Rattle.paper_reasons.specs.Words.{replacementWord}
-use Rattle.text_why.proofs.Turns.{named}
+use Rattle.text_why.proofs.ReasonWords.{named}
 use Rattle.text_why.proofs.put_replacement.Statement.{statement}
 use Rattle.text_why.proofs.put_replacement.Tie as tie
 

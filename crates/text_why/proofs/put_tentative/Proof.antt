@@ -1,7 +1,7 @@
 -- `text_why::put_tentative` meets its contract: the word of what the tentative rate did, case by case.
 use borrow.Author.Needs.{needs}
 use Rattle.paper_reasons.specs.Words.{tentativeWord}
-use Rattle.text_why.proofs.Turns.{named}
+use Rattle.text_why.proofs.ReasonWords.{named}
 use Rattle.text_why.proofs.put_tentative.Statement.{statement}
 use Rattle.text_why.proofs.put_tentative.Tie as tie
 

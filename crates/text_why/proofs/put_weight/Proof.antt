@@ -1,7 +1,7 @@
 -- `text_why::put_weight` meets its contract: the word of the weight, case by case.
 use borrow.Author.Needs.{needs}
 use Rattle.paper_reasons.specs.Words.{weightWord}
-use Rattle.text_why.proofs.Turns.{named}
+use Rattle.text_why.proofs.ReasonWords.{named}
 use Rattle.text_why.proofs.put_weight.Statement.{statement}
 use Rattle.text_why.proofs.put_weight.Tie as tie
 

@@ -1,5 +1,5 @@
 -- `text_why::say_why` meets its contract: the number of the verdict, and why.
-use Rattle.text_why.proofs.Turns.{accepted, refused}
+use Rattle.text_why.proofs.ReasonWords.{accepted, refused}
 use borrow.Author.Needs.{needs}
 use Rattle.text_why.proofs.say_why.Statement.{statement}
 use Rattle.text_why.proofs.say_why.Tie as tie

@@ -1,6 +1,7 @@
 -- `text_word::same_bytes` meets its contract: whether two words are the same, byte by byte.
 use borrow.Author.Needs.{needs}
-use Rattle.text_word.proofs.Turns.{Matching, matching-none, matching-not, matching-more, matching-all, same-long}
+use Rattle.text_word.proofs.WordLoops.{Matching, matching-none, matching-not, matching-more, matching-all}
+use Rattle.text_word.proofs.WordLoops.{same-long}
 use Rattle.text_bytes.specs.Bytes.{isBlank, run, same}
 use Rattle.text_bytes.specs.Numbers.{sizeFrom, upTo, above, below, numberOf}
 use Rattle.text_word.specs.Parts.{isSolid, Capped}

@@ -1,6 +1,6 @@
 -- `text_protocol::AskedCall::role` meets its contract: the role of each call, by the variant that its arm knows.
 use borrow.Author.Needs.{needs}
-use Rattle.text_protocol.specs.Roles.{roleOf}
+use Rattle.text_protocol.specs.Calls.{roleOf}
 use Rattle.text_protocol.proofs.AskedCall.role.Statement.{statement}
 use Rattle.text_protocol.proofs.AskedCall.role.Tie as tie
 

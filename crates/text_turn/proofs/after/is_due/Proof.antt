@@ -1,5 +1,5 @@
 -- `text_turn::after::is_due` meets its contract: whether the answers are written now.
-use Rattle.text_turn.proofs.Told.{not-due, always-due}
+use Rattle.text_turn.proofs.WaysOut.{not-due, always-due}
 use Rattle.text_turn.proofs.after.is_due.Statement.{statement}
 use Rattle.text_turn.proofs.after.is_due.Tie as tie
 use Rattle.text_turn.proofs.after.is_due.Reads as reads

@@ -2,7 +2,7 @@
 use mathlib.Core.Path.{refl}
 use native.Mathlib.Omega.{arith}
 use Rattle.text_turn.specs.Tells.{Goes, wait, handed}
-use Rattle.text_turn.proofs.Told.{a-line-is-whole, a-line-is-left}
+use Rattle.text_turn.proofs.WaysOut.{a-line-is-whole, a-line-is-left}
 use borrow.Author.Needs.{needs}
 use Rattle.text_turn.proofs.after.tell.Statement.{statement}
 use Rattle.text_turn.proofs.after.tell.Tie as tie

@@ -29,7 +29,7 @@ said l xs = saidAs (l .kind) (take (l .count) xs) (l .pairs)
 
 -- the reader's promise: the line says s, its numbers are the first of xs, xs is as long as it was, and the kind is one
 -- of a call's or of the two behind them
-pub record Heard (s : Said) (l : Line) (xs : List ℤ) : Type 0 where
+pub record LineSays (s : Said) (l : Line) (xs : List ℤ) : Type 0 where
   pub says : said l xs ≡ s
   pub long : length xs ≡ keptMost
   pub most : l .count ≤ keptMost

@@ -19,8 +19,7 @@ use Rattle.text_protocol.specs.declared.Ask.the-variants as ask
 use Rattle.text_protocol.specs.declared.Explained.{Explained}
 use Rattle.text_protocol.specs.declared.Explained.the-variants.{No, Because}
 use Rattle.text_protocol.specs.declared.Performed.{Performed}
-use Rattle.text_protocol.specs.Calls.{callAsked}
-use Rattle.text_protocol.specs.Roles.{roleOf}
+use Rattle.text_protocol.specs.Calls.{callAsked, roleOf}
 
 -- an answer, and why it is that
 abbrev pub explained : Answer → Why → Performed

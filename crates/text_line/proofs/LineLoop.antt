@@ -22,7 +22,7 @@ use Rattle.text_word.proofs.Words.{words-part, words-end}
 use Rattle.text_line.specs.declared.Line.{Line}
 use Rattle.text_line.specs.declared.Taken.{Taken}
 use Rattle.text_line.proofs.Table.{takes-call}
-use Rattle.text_line.specs.Heard.{blankLine, badLine, said, Heard, lineOf, Keeps, readingOf, Takes}
+use Rattle.text_line.specs.ReadLine.{blankLine, badLine, said, LineSays, lineOf, Keeps, readingOf, Takes}
 
 -- ---- one number more
 
@@ -107,7 +107,7 @@ blank-says xs = refl
 
 module _ (l : List ℕ) (k : ℕ) (goal : Said) (xs : List ℤ) (s n : ℕ) (p : Pairs) (f : Filling l k goal xs s n p) (a : ℕ)
     (skip : a ≡ s + run isBlank (drop s l)) where
-  pub filling-end : (r : Line) → length l ≤ a → r ≡ lineOf k n p → Heard goal r xs
+  pub filling-end : (r : Line) → length l ≤ a → r ≡ lineOf k n p → LineSays goal r xs
   unfolding fill finished said lineOf
   filling-end r h e = rw e (by (takes k n) refl)
     where
@@ -117,7 +117,7 @@ module _ (l : List ℕ) (k : ℕ) (goal : Said) (xs : List ℤ) (s n : ℕ) (p :
       g : pick (takes k n) (Call k (take n xs) p) NoCall ≡ goal
       g = rw m at (rw (words-end l s a skip h) at (f .rest))
 
-      by : (x : Bool) → takes k n ≡ x → Heard goal (pick x (record { kind = k; count = n; pairs = p }) badLine) xs
+      by : (x : Bool) → takes k n ≡ x → LineSays goal (pick x (record { kind = k; count = n; pairs = p }) badLine) xs
       by true t =
           let o = takes-call k n t in
           let not-blank : k ≡ blankKind → ⊥ = λ e. omega (arith, o .1) in
@@ -143,7 +143,7 @@ module _ (l : List ℕ) (k : ℕ) (goal : Said) (xs : List ℤ) (s n : ℕ) (p :
     unfolding fill
     first = rw (q .are, is) (rw (words-part l s a skip e h word) at (f .rest))
 
-    pub filling-bad : (r : Line) → r ≡ badLine → t .ok ≡ false → Heard goal r xs'
+    pub filling-bad : (r : Line) → r ≡ badLine → t .ok ≡ false → LineSays goal r xs'
     unfolding readingOf onWith
     filling-bad r b o = rw b (record {
       says = bad-says xs' ∙ (rw o at first);
@@ -161,7 +161,7 @@ module _ (l : List ℕ) (k : ℕ) (goal : Said) (xs : List ℤ) (s n : ℕ) (p :
 -- ---- the line
 
 pub long-line : (l : List ℕ) (r : Line) (xs : List ℤ) → length xs ≡ keptMost → longest < length l → r ≡ badLine
-    → Heard (meaning l) r xs
+    → LineSays (meaning l) r xs
 unfolding meaning
 long-line l r xs e h b = rw (b, lt-leb (length l) longest h) (record {
   says = bad-says xs;
@@ -173,7 +173,7 @@ long-line l r xs e h b = rw (b, lt-leb (length l) longest h) (record {
 
 module _ (l : List ℕ) (short : length l ≤ longest) (a : ℕ) (skip : a ≡ 0 + run isBlank (drop 0 l)) where
   pub blank-line : (r : Line) (xs : List ℤ) → length xs ≡ keptMost → length l ≤ a → r ≡ blankLine
-      → Heard (meaning l) r xs
+      → LineSays (meaning l) r xs
   unfolding meaning called
   blank-line r xs e h b =
       rw (b, le-leb (length l) longest short, words-end l 0 a skip h) (record {
@@ -191,7 +191,7 @@ module _ (l : List ℕ) (short : length l ≤ longest) (a : ℕ) (skip : a ≡ 0
     unfolding meaning called
     meant = rw (le-leb (length l) longest short, words-part l 0 a skip e h word, ← kind)
 
-    pub no-call : (r : Line) (xs : List ℤ) → length xs ≡ keptMost → k ≡ 0 → r ≡ badLine → Heard (meaning l) r xs
+    pub no-call : (r : Line) (xs : List ℤ) → length xs ≡ keptMost → k ≡ 0 → r ≡ badLine → LineSays (meaning l) r xs
     no-call r xs x z b = rw (b, meant, eq-eqb k 0 z) (record {
       says = bad-says xs;
       long = x;
@@ -201,8 +201,8 @@ module _ (l : List ℕ) (short : length l ≤ longest) (a : ℕ) (skip : a ≡ 0
       high = omega arith;
     })
 
-    pub some-call : (r : Line) (xs : List ℤ) → (k ≡ 0 → ⊥) → Heard (fill k [] noPairs (words (drop e l))) r xs → Heard
-        (meaning l) r xs
+    pub some-call : (r : Line) (xs : List ℤ) → (k ≡ 0 → ⊥)
+        → LineSays (fill k [] noPairs (words (drop e l))) r xs → LineSays (meaning l) r xs
     some-call r xs z q = record {
       says = q .says ∙ sym (meant ∙ rw (ne-eqb k 0 z));
       long = q .long;
