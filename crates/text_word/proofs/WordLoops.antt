@@ -1,6 +1,6 @@
 -- One turn of each loop over a line, on plain values.
 use mathlib.Core.Path.{_≡_, refl, sym, ap, _∙_}
-use mathlib.Core.Bool.{Bool, true, false, _&&_, _||_, not}
+use mathlib.Core.Bool.{Bool, true, false, _&&_, _||_, not, Bool·beq}
 use mathlib.Core.List.{List, [], _∷_, _++_}
 use Prim.Native.Nat.{ℕ, suc, _+_, _-_, _*_, _^_, _≤_, _<_}
 use native.Mathlib.Omega.{arith}
@@ -19,12 +19,27 @@ use Rattle.text_bytes.specs.declared.Number.{Number}
 use Rattle.text_bytes.specs.declared.Number.the-variants as number
 use Rattle.text_bytes.specs.declared.Size.{Size}
 use Rattle.text_bytes.specs.declared.Size.the-variants as size
-use Rattle.text_bytes.specs.Bytes.{run, same, digitZero, digitNine, minusSign}
+use Rattle.text_bytes.specs.Bytes.{isBlank, run, same, digitZero, digitNine, minusSign}
 use Rattle.text_bytes.specs.Numbers.{isDigit, sizeFrom, sizeOf, upTo, above, below, numberOf, greatest, least}
 use Rattle.text_bytes.proofs.Spelling.{within-is-digit, low-no-digit, high-no-digit}
-use Rattle.text_word.specs.Parts.{Capped}
+use Rattle.text_word.specs.Parts.{isSolid, isPart, Capped}
 
 -- ---- a run of bytes that pass a test
+
+-- a byte is in a run of blanks, or of a word's bytes, where it is a blank as they are
+pub in-part : (b : ℕ) (blanks x : Bool) → x ≡ isBlank b → not (Bool·beq x blanks) ≡ false → isPart blanks b ≡ true
+unfolding isPart isSolid
+in-part b true true e f = sym e
+in-part b true false e f = sym e ∙ sym f
+in-part b false true e f = ap not (sym e) ∙ sym f
+in-part b false false e f = ap not (sym e)
+
+pub not-in-part : (b : ℕ) (blanks x : Bool) → x ≡ isBlank b → not (Bool·beq x blanks) ≡ true → isPart blanks b ≡ false
+unfolding isPart isSolid
+not-in-part b true true e f = sym e ∙ sym f
+not-in-part b true false e f = sym e
+not-in-part b false true e f = ap not (sym e)
+not-in-part b false false e f = ap not (sym e) ∙ sym f
 
 pub record Running (q : ℕ → Bool) (t : List ℕ) (from i : ℕ) : Type 0 where
   pub in-t : i ≤ length t

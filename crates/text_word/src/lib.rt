@@ -5,7 +5,7 @@ ghost use lib.ListN.{length, take, drop};
 ghost use Rattle.text_bytes.specs.Bytes.{isBlank, isNot, run, same};
 ghost use Rattle.text_bytes.specs.Numbers.{sizeFrom, upTo, above, below, numberOf, greatest, least};
 ghost use Rattle.text_protocol.specs.Line.{twoOf, itemOf};
-ghost use Rattle.text_word.specs.Parts.{isSolid, Capped};
+ghost use Rattle.text_word.specs.Parts.{isSolid, isPart, Capped};
 use text_bytes::DIGIT_NINE;
 use text_bytes::DIGIT_ZERO;
 use text_bytes::Number;
@@ -35,14 +35,14 @@ fn is_blank(b: u8) -> bool
     b == b'\r'
 }
 
-// The end of the blanks from `from` on.
-pub fn past_blanks(l: &[u8], from: usize) -> usize
+// The end of the run from `from` on of bytes that are blanks, or of bytes that are none.
+fn past(l: &[u8], from: usize, blanks: bool) -> usize
     requires { ⌜ from ≤ length (now l) ⌝ }
-    ensures { λ r. ⌜ (r ≡ from + run isBlank (drop from (now (l .entry)))) × (r ≤ length (now (l .entry))) ⌝ }
+    ensures { λ r. ⌜ (r ≡ from + run (isPart blanks) (drop from (now (l .entry)))) × (r ≤ length (now (l .entry))) ⌝ }
 {
     let mut i = from;
     while i < l.len() {
-        if !is_blank(l[i]) {
+        if is_blank(l[i]) != blanks {
             return i;
         }
         i += 1;
@@ -50,19 +50,20 @@ pub fn past_blanks(l: &[u8], from: usize) -> usize
     i
 }
 
+// The end of the blanks from `from` on.
+pub fn past_blanks(l: &[u8], from: usize) -> usize
+    requires { ⌜ from ≤ length (now l) ⌝ }
+    ensures { λ r. ⌜ (r ≡ from + run isBlank (drop from (now (l .entry)))) × (r ≤ length (now (l .entry))) ⌝ }
+{
+    past(l, from, true)
+}
+
 // The end of the word from `from` on.
 pub fn past_word(l: &[u8], from: usize) -> usize
     requires { ⌜ from ≤ length (now l) ⌝ }
     ensures { λ r. ⌜ (r ≡ from + run isSolid (drop from (now (l .entry)))) × (r ≤ length (now (l .entry))) ⌝ }
 {
-    let mut i = from;
-    while i < l.len() {
-        if is_blank(l[i]) {
-            return i;
-        }
-        i += 1;
-    }
-    i
+    past(l, from, false)
 }
 
 // Where the first byte b stands from `from` on, or the end.
