@@ -49,10 +49,7 @@ word = tyInt w64
 
 -- the bytes of a slot of the row
 abbrev pub bytes : ℕ
-bytes = 608
-
-pub bytes-is : mem R .size ≡ bytes
-bytes-is = refl
+bytes = mem R .size
 
 abbrev pub val : Record → Val
 val = LL.val T.the-type T′.the-laws
