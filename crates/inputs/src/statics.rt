@@ -3,7 +3,7 @@
 ghost use mathlib.Core.Path.{_≡_};
 ghost use Prim.Native.Nat.{_<_};
 ghost use Rattle.paper.specs.Ranges.{unsignedAt, givenOf, staticsOf, inOrder, multiplesOfStep, validStatics};
-ghost use Rattle.paper.specs.Ranges.{validGiven, validTentative};
+ghost use Rattle.paper.specs.Ranges.{validFlags, validGiven, validTentative};
 ghost use Rattle.inputs.specs.Table.{testsPass};
 use paper::GivenStatics;
 use paper::Rate;
@@ -147,14 +147,16 @@ pub fn statics_of(g: GivenStatics) -> Statics
 }
 
 // A flag that is neither 0 nor 1 is out of range.
+fn valid_flags(g: GivenStatics) -> bool
+    ensures { λ r. ⌜ r ≡ validFlags g ⌝ }
+{
+    (g.monitoring <= 1) & (g.ewma <= 1) & (g.autochange <= 1) & (g.useexternal <= 1)
+}
+
 pub fn valid_given(g: GivenStatics) -> bool
     ensures { λ r. ⌜ r ≡ validGiven g ⌝ }
 {
-    valid_statics(statics_of(g))
-        & (g.monitoring <= 1)
-        & (g.ewma <= 1)
-        & (g.autochange <= 1)
-        & (g.useexternal <= 1)
+    valid_statics(statics_of(g)) & valid_flags(g)
 }
 
 // From 0 to the top, a multiple of h: of a share's tentative rate, and of whatever else has one. The top is "the least

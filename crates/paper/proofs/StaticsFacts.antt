@@ -17,7 +17,7 @@ use Rattle.paper.specs.Numbers.{waitMost, firstDaysMost, daysMost, liqui
 use Rattle.paper.specs.Numbers.{shiftMost, nearnessMost, secondsMost, eveningMovesMost}
 use Rattle.paper.specs.Ranges.{within, unsignedAt, Static, yesOrNo, staticsTable, staticsCount, givenOf}
 use Rattle.paper.specs.Ranges.{staticsOf, flagOf, numbersOf, inTable, inOrder, multiplesOfStep, validStatics}
-use Rattle.paper.specs.Ranges.{validGiven}
+use Rattle.paper.specs.Ranges.{validFlags, validGiven}
 use Rattle.paper.proofs.Logic.{and-left, and-right, and-both}
 
 -- "low..high"
@@ -128,7 +128,7 @@ module _ (st : Statics) (v : validStatics st ≡ true) where
 
 pub given-statics-valid : (g : GivenStatics) → validGiven g ≡ true → validStatics (staticsOf g) ≡ true
 unfolding validGiven
-given-statics-valid g v = and-left _ _ (and-left _ _ (and-left _ _ (and-left _ _ v)))
+given-statics-valid g v = and-left _ (validFlags g) v
 
 -- ---- numbers and back
 

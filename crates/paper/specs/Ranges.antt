@@ -274,10 +274,12 @@ multiplesOfStep st =
 unfoldable pub validStatics : Statics → Bool
 validStatics st = inTable staticsTable (numbersOf st) && inOrder st && multiplesOfStep st
 
+-- "yes 1, no 0": each yes or no is one of them
+abbrev pub validFlags : GivenStatics → Bool
+validFlags g = leb (g .monitoring) 1 && leb (g .ewma) 1 && leb (g .autochange) 1 && leb (g .useexternal) 1
+
 unfoldable pub validGiven : GivenStatics → Bool
-validGiven g =
-    validStatics (staticsOf g) && leb (g .monitoring) 1 && leb (g .ewma) 1 && leb (g .autochange) 1
-    && leb (g .useexternal) 1
+validGiven g = validStatics (staticsOf g) && validFlags g
 
 -- ---- the tentative rate
 
