@@ -17,12 +17,12 @@ use Rattle.text_protocol.specs.declared.Ask.the-variants as ask
 use Rattle.text_protocol.specs.declared.Kept.{Kept}
 use Rattle.text_protocol.specs.declared.Pairs.{Pairs}
 use Rattle.text_protocol.specs.Kept.{keptAfter}
-use Rattle.text_protocol.specs.Names.{interestKind, bondKind, blankKind, badKind, evaluateNames, interestNames}
+use Rattle.text_protocol.specs.Names.{interestKind, bondKind, evaluateNames, interestNames}
 use Rattle.text_protocol.specs.Names.{bondNames, evaluateCount, interestCount, bondCount}
 use Rattle.text_protocol.specs.Calls.{Deed, interestOf, bondOf, figuresBehind, deskCall, callOf, deedOf, callAsked}
 use Rattle.text_protocol.specs.Calls.{deedAsked}
 use Rattle.text_evening.specs.Evening.{keptBy}
-use Rattle.text_line.specs.ReadLine.{saidAs}
+use Rattle.text_line.specs.ReadLine.{blankKind, badKind, saidAs}
 use Rattle.text_deed.specs.declared.Beside.{Beside}
 use Rattle.text_deed.specs.declared.LineDeed.{LineDeed}
 use Rattle.text_deed.specs.Deeds.{BesideIs, AsksFor}

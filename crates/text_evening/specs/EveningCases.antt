@@ -31,7 +31,7 @@ use Rattle.text_protocol.specs.Reasons.{faultWords, spelled, wordsText, whyText
 use Rattle.text_evening.specs.declared.Telling.{Telling}
 use Rattle.text_evening.specs.declared.Telling.the-variants.{Answers, Reasons, Messages}
 use Rattle.paper_messages.specs.PinnedBroadcast.{bytesSent}
-use Rattle.text_evening.specs.Evening.{tableAfter, keptBy, reasonTo, callTold, worded, textOf, lastNumber}
+use Rattle.text_evening.specs.Evening.{tableAfter, keptBy, reasonTo, callTold, worded, textOf}
 use Rattle.text_evening.specs.Evening.{numberAfter, after, answer, startEvening, afterAll, answers}
 
 -- ---- an evening
@@ -83,7 +83,8 @@ unfolding told admissionZ givenWith
 left-is = refl
 
 -- lines are counted up to the greatest number of 64 bits
-pub numbers-are : map numberAfter (1 ∷ 18446744073709551614 ∷ lastNumber ∷ []) ≡ 2 ∷ lastNumber ∷ lastNumber ∷ []
+pub numbers-are : map numberAfter (1 ∷ 18446744073709551614 ∷ 18446744073709551615 ∷ [])
+    ≡ 2 ∷ 18446744073709551615 ∷ 18446744073709551615 ∷ []
 unfolding numberAfter
 numbers-are = refl
 

@@ -14,7 +14,7 @@ use Rattle.text_protocol.specs.declared.Item.{Item}
 use Rattle.text_protocol.specs.declared.Item.the-variants as item
 use Rattle.text_protocol.specs.declared.Pairs.{Pairs}
 use Rattle.text_bytes.specs.Bytes.{isBlank, run, words}
-use Rattle.text_protocol.specs.Names.{blankKind, badKind, kindOf, takes}
+use Rattle.text_protocol.specs.Names.{kindOf, takes}
 use Rattle.text_protocol.specs.Line.{Said, Nothing, NoCall, Call, noPairs, pairFits, withPair, more, Reading, read}
 use Rattle.text_protocol.specs.Line.{spoilt, taking, onWith, finished, itemOf, fill, called, meaning, keptMost, longest}
 use Rattle.text_word.specs.Parts.{isSolid}
@@ -22,7 +22,8 @@ use Rattle.text_word.proofs.Words.{words-part, words-end}
 use Rattle.text_line.specs.declared.Line.{Line}
 use Rattle.text_line.specs.declared.Taken.{Taken}
 use Rattle.text_line.proofs.Table.{takes-call}
-use Rattle.text_line.specs.ReadLine.{blankLine, badLine, said, LineSays, lineOf, Keeps, readingOf, Takes}
+use Rattle.text_line.specs.ReadLine.{blankKind, badKind, blankLine, badLine, said, LineSays, lineOf}
+use Rattle.text_line.specs.ReadLine.{Keeps, readingOf, Takes}
 
 -- ---- one number more
 

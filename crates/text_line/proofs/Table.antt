@@ -10,11 +10,11 @@ use lib.ListN.{length, getD}
 use borrow.Author.Tests.{leb-true, leb-false, ne-eqb}
 use Rattle.paper.specs.Lists.{pick}
 use Rattle.text_protocol.specs.declared.Pairs.{Pairs}
-use Rattle.text_protocol.specs.Names.{Form, countFits, takesIn, takes, forms, bondKind, blankKind, placeOf, code}
+use Rattle.text_protocol.specs.Names.{Form, countFits, takesIn, takes, forms, bondKind, placeOf, code}
 use Rattle.text_protocol.specs.Names.{evaluateNames, bondNames}
 use Rattle.text_line.specs.declared.Line.{Line}
 use Rattle.text_protocol.specs.Line.{placeIn}
-use Rattle.text_line.specs.ReadLine.{badLine, lineOf, LowsAt}
+use Rattle.text_line.specs.ReadLine.{blankKind, badLine, lineOf, LowsAt}
 
 -- no call stands behind the last of a table
 takes-behind : (fs : List Form) (k n : ℕ) → length fs ≤ k → takesIn fs k n ≡ false

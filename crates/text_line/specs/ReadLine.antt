@@ -8,11 +8,18 @@ use lib.IntN.{ℤ}
 use lib.ListN.{length, take}
 use Rattle.paper.specs.Lists.{pick}
 use Rattle.text_protocol.specs.declared.Pairs.{Pairs}
-use Rattle.text_protocol.specs.Names.{RRCL0, RRCL1, RRCL2, blankKind, badKind, takes}
+use Rattle.text_protocol.specs.Names.{RRCL0, RRCL1, RRCL2, takes}
 use Rattle.text_protocol.specs.Line.{Said, Nothing, NoCall, Call, Reading, read, spoilt, noPairs, placeIn, more}
 use Rattle.text_protocol.specs.Line.{keptMost}
 use Rattle.text_line.specs.declared.Line.{Line}
 use Rattle.text_line.specs.declared.Taken.{Taken}
+
+-- behind the kinds of the calls, that of a line with no word, and that of one that is no call
+abbrev pub blankKind : ℕ
+blankKind = 12
+
+abbrev pub badKind : ℕ
+badKind = 13
 
 abbrev pub blankLine : Line
 blankLine = record { kind = blankKind; count = 0; pairs = noPairs }

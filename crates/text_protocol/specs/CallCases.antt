@@ -81,6 +81,14 @@ pub asked : (deedIn (bytes "admit 1 2 3 4 5 6" ++ zText "1")
       terms = record { k = 5; low = pos 60; high = pos 70 } ∷ record { k = 8; low = pos 9; high = pos 10 }
           ∷ record { k = 11; low = pos 12; high = pos 13 } ∷ [];
     }) []))
+    × (deedBy "evaluate 1 2 3 4 5 6 7 8 9 10 11 6/7"
+    ≡ call (evaluate 1 (record {
+      day = 2;
+      b = 3;
+      m = 4;
+      terms = record { k = 5; low = pos 6; high = pos 7 } ∷ record { k = 8; low = pos 9; high = pos 10 }
+          ∷ record { k = 11; low = pos 60; high = pos 70 } ∷ [];
+    }) []))
     × (deedBy "quote 1 2 3 4 5" ≡ call (quote 1 (record { second = 2; term = 3; bid = 4; ask = 5 })))
     × (deedBy "move 1 2" ≡ call (move 1 2))
     × (deedBy "read 1" ≡ call (read 1))
@@ -139,5 +147,36 @@ pub asked : (deedIn (bytes "admit 1 2 3 4 5 6" ++ zText "1")
       third = record { k = 15; band = band.AsGiven (record { low = pos 16; high = pos 17 }) };
       repo = pos 5;
     }) (naturals (34 ∷ 35 ∷ [])))
+    × (deedBy "bond 1 2 3 4 5 6 7 8 9 10 11 12 13 14 15 6/7 18 19 20 21 22 23 24 25 26 27 28 29 30 31 32 33 34 35"
+    ≡ bond (record {
+      m = 1;
+      net = 2;
+      face = 3;
+      accrued = 4;
+      s = 6;
+      tentative = record { bp = 7; age = 8 };
+      statics = record {
+        h = 18;
+        q = 19;
+        wait = 20;
+        rh1 = 21;
+        rh2 = 22;
+        rh3 = 23;
+        liq = 24;
+        min1 = 25;
+        min2 = 26;
+        min3 = 27;
+        smax = 28;
+        xpr = 29;
+        pchmax = 30;
+        pclmax = 31;
+        monitoring = 32;
+        ewma = 33;
+      };
+      first = record { k = 9; band = band.AsGiven (record { low = pos 10; high = pos 11 }) };
+      second = record { k = 12; band = band.AsGiven (record { low = pos 13; high = pos 14 }) };
+      third = record { k = 15; band = band.WorkedOut (record { verdict = Done; lower = pos 60; upper = pos 70 }) };
+      repo = pos 5;
+    }) (naturals (34 ∷ 35 ∷ [])))
 unfolding deedBy zText givenWith
-asked = (refl, refl, refl, refl, refl, refl, refl, refl, refl, refl, refl, refl, refl, refl, refl, refl)
+asked = (refl, refl, refl, refl, refl, refl, refl, refl, refl, refl, refl, refl, refl, refl, refl, refl, refl, refl)

@@ -307,13 +307,6 @@ interestKind = 10
 abbrev pub bondKind : ℕ
 bondKind = 11
 
--- behind them, a line with no word, and one that is no call
-abbrev pub blankKind : ℕ
-blankKind = 12
-
-abbrev pub badKind : ℕ
-badKind = 13
-
 -- ---- a word's call, and a name's number
 
 unfoldable pub kindFrom : (kind : ℕ) → List Form → (word : List ℕ) → ℕ

@@ -21,6 +21,7 @@ use Rattle.text_protocol.specs.Calls.{figuresBehind, callAsked, roleOf, deedAsk
 use Rattle.text_protocol.specs.Names.{evaluateNames}
 use Rattle.text_protocol.specs.Reasons.{whyText}
 use Rattle.text_protocol.specs.Roles.{figuresShown, shownText}
+use Rattle.text_protocol.proofs.Asked.{shown-by-role}
 use Rattle.text_evening.specs.declared.Telling.{Telling}
 use Rattle.text_evening.specs.declared.Telling.the-variants.{Answers, Reasons, Messages}
 use Rattle.paper_messages.specs.Broadcast.{messagesOf, broadcastOf}
@@ -39,29 +40,28 @@ reasonShown role.Quote rows a t = shownText role.Quote a
 reasonShown (role.Move side) rows a t = shownText (role.Move side) a
 reasonShown role.Other rows a t = shownText role.Other a
 
--- A CALL IS TOLD BY ITS ROLE: its answer, and its reason; and the row figures are no part of its messages
+-- A CALL IS TOLD BY ITS ROLE, its reason too; and the row figures are no part of its messages
 record ByRole (c : AskedCall) (rows : List ℤ) (a : Answer) (t : List Record) : Type 0 where
-  shown : shownText (roleOf c) a ≡ callText (callAsked c rows) a
   sent : broadcastOf (callAsked c []) a ≡ broadcastOf (callAsked c rows) a
   reason : reasonShown (roleOf c) rows (step (callAsked c rows) t .answer) t ≡ reasonTo (callAsked c rows) t
 
 by-role : (c : AskedCall) (rows : List ℤ) (a : Answer) (t : List Record) → ByRole c rows a t
 unfolding callAsked roleOf shownText figuresShown callText figuresAnswered broadcastOf messagesOf reasonShown reasonTo
-by-role (Admit g) rows a t = record { shown = refl; sent = refl; reason = refl }
-by-role (Evaluate id d) rows a t = record { shown = refl; sent = refl; reason = refl }
-by-role (Quote id q) rows a t = record { shown = refl; sent = refl; reason = refl }
-by-role (Move id side) rows a t = record { shown = refl; sent = refl; reason = refl }
-by-role (Read id) rows a t = record { shown = refl; sent = refl; reason = refl }
-by-role (Open id) rows a t = record { shown = refl; sent = refl; reason = refl }
-by-role (Receive id x) rows a t = record { shown = refl; sent = refl; reason = refl }
-by-role (Notify id x) rows a t = record { shown = refl; sent = refl; reason = refl }
+by-role (Admit g) rows a t = record { sent = refl; reason = refl }
+by-role (Evaluate id d) rows a t = record { sent = refl; reason = refl }
+by-role (Quote id q) rows a t = record { sent = refl; reason = refl }
+by-role (Move id side) rows a t = record { sent = refl; reason = refl }
+by-role (Read id) rows a t = record { sent = refl; reason = refl }
+by-role (Open id) rows a t = record { sent = refl; reason = refl }
+by-role (Receive id x) rows a t = record { sent = refl; reason = refl }
+by-role (Notify id x) rows a t = record { sent = refl; reason = refl }
 
 -- ---- a call
 
 module _ (rows : List ℤ) (p : Performed) (t t' : List Record) where
   answered : (c : AskedCall) → p .answer ≡ step (callAsked c rows) t .answer
       → shownText (roleOf c) (p .answer) ≡ answerTo (callAsked c rows) t
-  answered c e = by-role c rows (p .answer) t .shown ∙ ap (callText (callAsked c rows)) e
+  answered c e = shown-by-role c rows (p .answer) ∙ ap (callText (callAsked c rows)) e
 
   -- one in the role of an evaluation is told why, and every other as without reasons
   reason-of : (c : AskedCall) (x : Role) → roleOf c ≡ x → p .why ≡ explanation x rows t
