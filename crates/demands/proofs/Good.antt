@@ -23,7 +23,7 @@ use Rattle.paper_desk.specs.Limits.{countOf}
 use Rattle.paper.specs.Verdicts.{NoneApplies, none, also}
 use Rattle.paper_desk.specs.Desk.{admitted, evaluated, watching, quoted, moved, eveningOpened, received}
 use Rattle.paper_desk.specs.Desk.{evaluatingChecks, quotingChecks, movingChecks}
-use Rattle.paper_desk.specs.External.{Told}
+use Rattle.paper_desk.specs.External.{Receipt}
 use Rattle.paper_desk.specs.Kept.{withinMoves, good}
 use Rattle.paper.proofs.Logic.{and-left, and-right, and-both, not-false}
 use Rattle.demands.proofs.Sound.{Parts, sound-has-parts, parts-are-sound, Evaluates, evaluated-sound}
@@ -73,7 +73,7 @@ pub opened-good : (r : Record) → good r ≡ true → good (eveningOpened r) �
 unfolding eveningOpened
 opened-good r v = watching-good r _ _ _ _ v (opened-sound r (sound-has-parts r (good-sound r v)))
 
-pub received-good : (r : Record) (x : Told) → good r ≡ true → good (received r x) ≡ true
+pub received-good : (r : Record) (x : Receipt) → good r ≡ true → good (received r x) ≡ true
 unfolding received
 received-good r x v = watching-good r _ _ _ _ v (received-sound r x (sound-has-parts r (good-sound r v)))
 

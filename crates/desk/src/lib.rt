@@ -13,7 +13,7 @@ use record_answers::Effect;
 use record_answers::Slot;
 ghost use mathlib.Core.Path.{_≡_};
 ghost use lib.ListN.{set};
-ghost use Rattle.paper_desk.specs.External.{Told};
+ghost use Rattle.paper_desk.specs.External.{Receipt};
 ghost use Rattle.paper_desk.specs.Desk.{Ask, Call, place, step};
 ghost use Rattle.paper.specs.Terms.{dayOf};
 ghost use Rattle.record_answers.specs.Effects.{slotOf, effectOf};
@@ -131,7 +131,7 @@ pub fn open_evening(t: &mut [Record], id: u64) -> Answer
 
 // W-211: "Both sent together replace the kept pair".
 pub fn receive(t: &mut [Record], id: u64, sent: Outside) -> Answer
-    ensures { λ r. ⌜ Promised (Call.about id (Ask.receiving (Told.together sent))) (now (t .entry)) r (now (t .exit)) ⌝ }
+    ensures { λ r. ⌜ Promised (Call.about id (Ask.receiving (Receipt.together sent))) (now (t .entry)) r (now (t .exit)) ⌝ }
 {
     let s = take(t, id);
     let o = record_calls::received(s, sent);
@@ -141,7 +141,7 @@ pub fn receive(t: &mut [Record], id: u64, sent: Outside) -> Answer
 
 // W-211: "a notice changes one side, a withdrawal clears both".
 pub fn notify(t: &mut [Record], id: u64, n: Notice) -> Answer
-    ensures { λ r. ⌜ Promised (Call.about id (Ask.receiving (Told.notice n))) (now (t .entry)) r (now (t .exit)) ⌝ }
+    ensures { λ r. ⌜ Promised (Call.about id (Ask.receiving (Receipt.notice n))) (now (t .entry)) r (now (t .exit)) ⌝ }
 {
     let s = take(t, id);
     let o = record_calls::notified(s, n);

@@ -700,3 +700,14 @@ pub struct AskedDay {
     pub second: AskedTerm,
     pub third: AskedTerm,
 }
+
+// What is asked about one security. The row figures of an evaluation are lent beside it.
+pub enum AskedAbout {
+    Evaluate(AskedDay),
+    Quote(Quote),
+    Move(u64), // the side
+    Read,
+    Open,
+    Receive(Outside),
+    Notify(Notice),
+}

@@ -33,7 +33,7 @@ use Rattle.paper.specs.Ranges.{noLimits, notNear, termAt, validSlots, sound, ra
 use Rattle.paper_desk.specs.Limits.{bandLimit, bandOf, oneMore, countOf, rangeMoved, bandMoved}
 use Rattle.paper_desk.specs.Alerts.{isNear, keptSince, nearAfter, alert, nearCleared}
 use Rattle.paper_desk.specs.Evening.{sessionMoved}
-use Rattle.paper_desk.specs.External.{Told, keptAfter}
+use Rattle.paper_desk.specs.External.{Receipt, keptAfter}
 use Rattle.paper.specs.Verdicts.{numberOf, isDone, firstOf, FirstAt, here, NoneApplies, also}
 use Rattle.paper_desk.specs.Desk.{blank, saying, showing, alerting, alertsOn, evaluated, priceOn, quoted, moved}
 use Rattle.paper_desk.specs.Desk.{eveningOpened, received, place, stands, found, known, Call, admit, about}
@@ -43,7 +43,7 @@ use Rattle.paper.specs.PinnedValues.{recordFrom}
 use Rattle.paper_desk.specs.PinnedSequence.{blank-is-zero}
 use Rattle.paper_desk.specs.History.{isAdmission}
 use Rattle.paper_desk.specs.Sequences.{keptThen}
-use Rattle.paper_desk.specs.Sides.{other, limitOn, nearSecondOn, repoOn, deltaFor, showsRecord, shows, isTold}
+use Rattle.paper_desk.specs.Sides.{other, limitOn, nearSecondOn, repoOn, deltaFor, showsRecord, shows, isReceipt}
 use Rattle.paper_desk.specs.Sides.{isReceipt}
 use Rattle.paper.proofs.Logic.{not-false, not-true-and-false}
 use Rattle.paper_desk.proofs.Slots.{found-stored, known-stands}
@@ -256,7 +256,7 @@ opening-leaves r = (refl, refl, refl, refl, refl, refl, refl, refl, refl, refl, 
 -- ---- the receipt of outside prices
 
 -- W-211: it changes the kept pair, and leaves everything else
-pub receipt-leaves : (r : Record) (x : Told)
+pub receipt-leaves : (r : Record) (x : Receipt)
     → (received r x .external ≡ keptAfter (r .external) x)
     × (received r x .id ≡ r .id)
     × (received r x .statics ≡ r .statics)
@@ -277,14 +277,14 @@ unfolding received
 receipt-leaves r x = (refl, refl, refl, refl, refl, refl, refl, refl, refl, refl, refl, refl, refl, refl, refl, refl)
 
 -- of the seven calls the last alone is a receipt
-pub receipt-is-one-call : (a : Admission) (id : ℕ) (d : Day) (rows : List ℤ) (q : Quote) (side : ℕ) (x : Told)
+pub receipt-is-one-call : (a : Admission) (id : ℕ) (d : Day) (rows : List ℤ) (q : Quote) (side : ℕ) (x : Receipt)
     → map isReceipt (admit a ∷ evaluate id d rows ∷ quote id q ∷ move id side ∷ read id ∷ openEvening id
     ∷ receive id x ∷ []) ≡ false ∷ false ∷ false ∷ false ∷ false ∷ false ∷ true ∷ []
 receipt-is-one-call a id d rows q side x = refl
 
-untold : (o : Option Told) (kept : External) → isTold o ≡ false → keptThen o kept ≡ kept
-untold none kept s = refl
-untold (some told) kept s = absurd (not-true-and-false true refl s)
+unreceived : (o : Option Receipt) (kept : External) → isReceipt o ≡ false → keptThen o kept ≡ kept
+unreceived none kept s = refl
+unreceived (some told) kept s = absurd (not-true-and-false true refl s)
 
 -- and no call on a record but a receipt changes the pair, accepted or refused
 pub pair-left : (c : Call) (t : List Record) → isAdmission c ≡ false → isReceipt c ≡ false
@@ -308,7 +308,7 @@ pair-left c t looks s =
     accepted (about id x) looks s (also q n) =
         let made : Record = ruleOf x .made (found t id) in
         written id made q (rule-holds x .id (found t id))
-        (rule-holds x .external (found t id) ∙ untold (ruleOf x .tells) (found t id .external) s)
+        (rule-holds x .external (found t id) ∙ unreceived (ruleOf x .receives) (found t id .external) s)
 
 -- ---- evaluations
 
@@ -414,7 +414,7 @@ unshown theRecord r made s = absurd (not-true-and-false true refl s)
 unshown (theAlerts q) r made s = refl
 
 -- of the seven calls all but an admission and a quote show a record
-pub five-calls-show : (a : Admission) (id : ℕ) (d : Day) (rows : List ℤ) (q : Quote) (side : ℕ) (x : Told)
+pub five-calls-show : (a : Admission) (id : ℕ) (d : Day) (rows : List ℤ) (q : Quote) (side : ℕ) (x : Receipt)
     → map shows (admit a ∷ evaluate id d rows ∷ quote id q ∷ move id side ∷ read id ∷ openEvening id ∷ receive id x ∷ [])
     ≡ false ∷ true ∷ false ∷ true ∷ true ∷ true ∷ true ∷ []
 five-calls-show a id d rows q side x = refl

@@ -28,7 +28,7 @@ pub record RuleHolds (x : Ask) : Type 0 where
   pub id : (r : Record) → ruleOf x .made r .id ≡ r .id
   -- and the session and the outside prices that the rule leaves
   pub session : (r : Record) → ruleOf x .made r .session ≡ ruleOf x .session (r .session)
-  pub external : (r : Record) → ruleOf x .made r .external ≡ keptThen (ruleOf x .tells) (r .external)
+  pub external : (r : Record) → ruleOf x .made r .external ≡ keptThen (ruleOf x .receives) (r .external)
   pub evaluation : OnlyEvaluation x (ruleOf x .evaluates)
 
 pub rule-holds : (x : Ask) → RuleHolds x

@@ -24,6 +24,8 @@ use Rattle.paper.specs.declared.Record.{Record}
 use Rattle.paper.specs.declared.Admission.{Admission}
 use Rattle.paper.specs.declared.Day.{Day}
 use Rattle.paper.specs.declared.Quote.{Quote}
+use Rattle.paper.specs.declared.AskedAbout.{AskedAbout}
+use Rattle.paper.specs.declared.AskedAbout.the-variants as asked
 use Rattle.paper.specs.declared.Answer.{Answer}
 use Rattle.paper.specs.declared.Verdict.{Verdict}
 use Rattle.paper.specs.declared.Verdict.the-variants.{Done, NoSuchId, AlreadyAdmitted, NoEmptySlot, AdmissionOutOfRange}
@@ -35,8 +37,9 @@ use Rattle.paper.specs.Numbers.{movesMost}
 use Rattle.paper.specs.Ranges.{gridOf, givenOf, staticsOf, validAdmission, validDay, validQuote, validSide, sideOf}
 use Rattle.paper.specs.Ranges.{lastDay, sound, validSlots, noRate, noLimits, notNear, noTerm, termAt, rateAt}
 use Rattle.paper.specs.Ranges.{isLive, noExternal}
+use Rattle.paper.specs.Terms.{dayOf}
 use Rattle.paper_desk.specs.Evaluation.{dayRows, evaluationOf, hasCrossedRow, evaluationFits, usedPair}
-use Rattle.paper_desk.specs.External.{Told, isBad, keptAfter}
+use Rattle.paper_desk.specs.External.{Receipt, together, notice, isBad, keptAfter}
 use Rattle.paper.specs.declared.Figures.{Figures}
 use Rattle.paper_desk.specs.Rates.{moveOf, minimumOf, figuresOf, moveTooLarge}
 use Rattle.paper_desk.specs.Limits.{rangeOf, bandOf, crossed, deltaOf, oneMore, sameSide, countOf}
@@ -232,7 +235,7 @@ unfoldable pub eveningOpened : Record → Record
 eveningOpened r = watching r (three (λ k. notNear)) (r .second) (Evening 0) (r .external)
 
 -- W-211: what is received changes the kept pair alone
-unfoldable pub received : Record → Told → Record
+unfoldable pub received : Record → Receipt → Record
 received r x = watching r (r .near) (r .second) (r .session) (keptAfter (r .external) x)
 
 -- ---- the table
@@ -262,7 +265,17 @@ pub data Ask : Type 0 where
   moving : (side : ℕ) → Ask
   reading : Ask
   opening : Ask
-  receiving : Told → Ask
+  receiving : Receipt → Ask
+
+-- the same, as the code is asked: the row figures are lent beside it
+unfoldable pub askOf : AskedAbout → (rows : List ℤ) → Ask
+askOf (asked.Evaluate d) rows = evaluating (dayOf d) rows
+askOf (asked.Quote q) rows = quoting q
+askOf (asked.Move side) rows = moving side
+askOf asked.Read rows = reading
+askOf asked.Open rows = opening
+askOf (asked.Receive sent) rows = receiving (together sent)
+askOf (asked.Notify n) rows = receiving (notice n)
 
 -- a call admits a security, or asks something about the one with an id
 pub data Call : Type 0 where
@@ -284,7 +297,7 @@ read id = about id reading
 abbrev pub openEvening : (id : ℕ) → Call
 openEvening id = about id opening
 
-abbrev pub receive : (id : ℕ) → Told → Call
+abbrev pub receive : (id : ℕ) → Receipt → Call
 receive id x = about id (receiving x)
 
 -- the id that a call is about
@@ -352,7 +365,7 @@ openingChecks r =
     ∷ []
 
 -- W-211: "20 .. on receipt, after 1"
-abbrev pub receivingChecks : Told → List Check
+abbrev pub receivingChecks : Receipt → List Check
 receivingChecks x = record { verdict = BadFloat; applies = isBad x } ∷ []
 
 -- ---- the rule of each ask
@@ -383,7 +396,7 @@ pub record Rule : Type 0 where
   -- the session after it
   pub session : Session → Session
   -- a receipt of outside prices
-  pub tells : Option Told
+  pub receives : Option Receipt
 
 -- an ask more has its rule here
 abbrev pub ruleOf : Ask → Rule
@@ -399,7 +412,7 @@ ruleOf (evaluating d rows) =
       quotes = none;
       clears = λ side. true;
       session = λ x. Main;
-      tells = none;
+      receives = none;
     }
 ruleOf (quoting q) =
     record {
@@ -411,7 +424,7 @@ ruleOf (quoting q) =
       quotes = some q;
       clears = λ side. false;
       session = λ x. x;
-      tells = none;
+      receives = none;
     }
 -- "It clears that side's near seconds in all terms."
 ruleOf (moving side) =
@@ -424,7 +437,7 @@ ruleOf (moving side) =
       quotes = none;
       clears = sameSide (sideOf side);
       session = sessionMoved;
-      tells = none;
+      receives = none;
     }
 -- "read 1"; a read leaves everything
 ruleOf reading =
@@ -437,7 +450,7 @@ ruleOf reading =
       quotes = none;
       clears = λ side. false;
       session = λ x. x;
-      tells = none;
+      receives = none;
     }
 -- W-210: "Opening the evening clears the near seconds and keeps c"
 ruleOf opening =
@@ -450,7 +463,7 @@ ruleOf opening =
       quotes = none;
       clears = λ side. true;
       session = λ x. Evening 0;
-      tells = none;
+      receives = none;
     }
 ruleOf (receiving x) =
     record {
@@ -462,7 +475,7 @@ ruleOf (receiving x) =
       quotes = none;
       clears = λ side. false;
       session = λ x. x;
-      tells = some x;
+      receives = some x;
     }
 
 -- all the checks of an ask, of an id that is there or not, and of its record

@@ -13,9 +13,9 @@ use Rattle.paper.specs.Ranges.{noExternal}
 use Rattle.paper_floats.specs.Floats.{priceOf}
 
 -- "our outside source sends a bid and an ask as 64-bit floats, and a notice": both together, or a notice
-pub data Told : Type 0 where
-  together : Outside → Told
-  notice : Notice → Told
+pub data Receipt : Type 0 where
+  together : Outside → Receipt
+  notice : Notice → Receipt
 
 -- ---- 20
 
@@ -25,7 +25,7 @@ hasNone (Made price) = false
 hasNone OutOfRange = true
 
 -- "20 .. on receipt": one bad float of two refuses both
-unfoldable pub isBad : Told → Bool
+unfoldable pub isBad : Receipt → Bool
 isBad (together sent) = hasNone (priceOf (sent .bid)) || hasNone (priceOf (sent .ask))
 isBad (notice (Bid bid)) = hasNone (priceOf bid)
 isBad (notice (Ask ask)) = hasNone (priceOf ask)
@@ -39,7 +39,7 @@ unitsMade (Made price) = price .units
 unitsMade OutOfRange = 0
 
 -- "Both sent together replace the kept pair, a notice changes one side, a withdrawal clears both"
-unfoldable pub keptAfter : External → Told → External
+unfoldable pub keptAfter : External → Receipt → External
 keptAfter kept (together sent) =
     record { bid = unitsMade (priceOf (sent .bid)); ask = unitsMade (priceOf (sent .ask)) }
 keptAfter kept (notice (Bid bid)) = record { bid = unitsMade (priceOf bid); ask = kept .ask }

@@ -29,7 +29,7 @@ use Rattle.paper.specs.declared.Quote.{Quote}
 use Rattle.paper.specs.Lists.{pick, forLevels}
 use Rattle.paper.specs.Ranges.{gridOf, staticsOf, noLimits, noTerm, termAt, rateAt, noExternal}
 use Rattle.paper_desk.specs.Evaluation.{dayRows, evaluationOf, usedPair}
-use Rattle.paper_desk.specs.External.{Told, keptAfter}
+use Rattle.paper_desk.specs.External.{Receipt, keptAfter}
 use Rattle.paper.specs.declared.Figures.{Figures}
 use Rattle.paper_desk.specs.Rates.{moveOf, minimumOf, figuresOf}
 use Rattle.paper_desk.specs.Limits.{rangeLimit, bandOf, deltaOf, sameSide}
@@ -62,13 +62,13 @@ carriesFirst a =
 -- ---- the outside prices (W-211)
 
 -- the pair that is kept: none at admission; a receipt changes it, and whatever else is asked leaves it
-abbrev pub keptThen : Option Told → External → External
+abbrev pub keptThen : Option Receipt → External → External
 keptThen none kept = kept
 keptThen (some told) kept = keptAfter kept told
 
 unfoldable pub externalNow : List Ask → External
 externalNow [] = noExternal
-externalNow (x ∷ xs) = keptThen (ruleOf x .tells) (externalNow xs)
+externalNow (x ∷ xs) = keptThen (ruleOf x .receives) (externalNow xs)
 
 -- ---- the evaluations
 

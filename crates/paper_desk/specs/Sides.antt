@@ -17,7 +17,7 @@ use Rattle.paper.specs.declared.Record.{Record}
 use Rattle.paper.specs.Ranges.{rateAt}
 use Rattle.paper_desk.specs.Limits.{deltaOf}
 use Rattle.paper_desk.specs.Desk.{Call, admit, about, Reply, theRecord, theAlerts, ruleOf}
-use Rattle.paper_desk.specs.External.{Told}
+use Rattle.paper_desk.specs.External.{Receipt}
 
 abbrev pub other : Side → Side
 other Upper = Lower
@@ -57,10 +57,10 @@ shows (admit a) = false
 shows (about id x) = showsRecord (ruleOf x .reply)
 
 -- W-211: both prices sent together, or a notice
-abbrev pub isTold : Option Told → Bool
-isTold none = false
-isTold (some told) = true
+abbrev pub isReceipt : Option Receipt → Bool
+isReceipt none = false
+isReceipt (some told) = true
 
 abbrev pub isReceipt : Call → Bool
 isReceipt (admit a) = false
-isReceipt (about id x) = isTold (ruleOf x .tells)
+isReceipt (about id x) = isReceipt (ruleOf x .receives)

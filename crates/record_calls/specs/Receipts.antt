@@ -3,7 +3,7 @@
 use mathlib.Core.Path.{_≡_}
 use mathlib.Core.Bool.{Bool}
 use Rattle.paper.specs.declared.External.{External}
-use Rattle.paper_desk.specs.External.{Told, isBad, keptAfter}
+use Rattle.paper_desk.specs.External.{Receipt, isBad, keptAfter}
 use Rattle.paper_desk.specs.Desk.{receiving}
 use Rattle.record_answers.specs.declared.Slot.{Slot}
 use Rattle.record_answers.specs.declared.Effect.{Effect}
@@ -12,4 +12,4 @@ use Rattle.record_answers.specs.Effects.{effectOf}
 -- o is the effect of any receipt that is as bad as this, and leaves this pair
 abbrev pub Receives : Slot → (bad : Bool) → External → Effect → Type 0
 Receives s bad kept o =
-    (x : Told) → isBad x ≡ bad → keptAfter (s .rec .external) x ≡ kept → o ≡ effectOf s (receiving x)
+    (x : Receipt) → isBad x ≡ bad → keptAfter (s .rec .external) x ≡ kept → o ≡ effectOf s (receiving x)

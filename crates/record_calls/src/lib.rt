@@ -4,7 +4,7 @@ mod floats; // the price of an outside source's float
 
 ghost use mathlib.Core.Path.{_≡_};
 ghost use Rattle.paper_floats.specs.Floats.{priceOf};
-ghost use Rattle.paper_desk.specs.External.{Told, unitsMade};
+ghost use Rattle.paper_desk.specs.External.{Receipt, unitsMade};
 ghost use Rattle.paper_desk.specs.Desk.{Ask};
 ghost use Rattle.record_answers.specs.Effects.{effectOf};
 ghost use Rattle.record_calls.specs.Receipts.{Receives};
@@ -69,7 +69,7 @@ fn received_as(s: Slot, bad: bool, kept: External) -> Effect
 
 // "Both sent together replace the kept pair": one bad float of two refuses both.
 pub fn received(s: Slot, sent: Outside) -> Effect
-    ensures { λ o. ⌜ o ≡ effectOf s (Ask.receiving (Told.together sent)) ⌝ }
+    ensures { λ o. ⌜ o ≡ effectOf s (Ask.receiving (Receipt.together sent)) ⌝ }
 {
     let bid = units_of(sent.bid);
     let ask = units_of(sent.ask);
@@ -78,7 +78,7 @@ pub fn received(s: Slot, sent: Outside) -> Effect
 
 // "a notice changes one side, a withdrawal clears both".
 pub fn notified(s: Slot, n: Notice) -> Effect
-    ensures { λ o. ⌜ o ≡ effectOf s (Ask.receiving (Told.notice n)) ⌝ }
+    ensures { λ o. ⌜ o ≡ effectOf s (Ask.receiving (Receipt.notice n)) ⌝ }
 {
     let r = s.rec;
     let kept = r.external;

@@ -3,9 +3,9 @@
 use mathlib.Core.Path.{_≡_}
 use Rattle.paper.specs.declared.External.{External}
 use Rattle.paper.specs.declared.Record.{Record}
-use Rattle.paper_desk.specs.External.{Told, keptAfter}
+use Rattle.paper_desk.specs.External.{Receipt, keptAfter}
 use Rattle.paper_desk.specs.Desk.{received}
 
 -- o is the record after any receipt that leaves this pair
 abbrev pub Receives : (before : Record) → External → (after : Record) → Type 0
-Receives r kept o = (x : Told) → keptAfter (r .external) x ≡ kept → o ≡ received r x
+Receives r kept o = (x : Receipt) → keptAfter (r .external) x ≡ kept → o ≡ received r x
