@@ -43,8 +43,8 @@ use Rattle.paper.specs.PinnedValues.{recordFrom}
 use Rattle.paper_desk.specs.PinnedSequence.{blank-is-zero}
 use Rattle.paper_desk.specs.History.{isAdmission}
 use Rattle.paper_desk.specs.Sequences.{keptThen}
-use Rattle.paper_desk.specs.Sides.{other, limitOn, nearSecondOn, repoOn, deltaFor, showsRecord, shows, isReceipt}
-use Rattle.paper_desk.specs.Sides.{isReceipt}
+use Rattle.paper_desk.specs.Sides.{other, limitOn, nearSecondOn, repoOn, deltaFor, showsRecord, shows}
+use Rattle.paper_desk.specs.Sides.{isReceived, isReceipt}
 use Rattle.paper.proofs.Logic.{not-false, not-true-and-false}
 use Rattle.paper_desk.proofs.Slots.{found-stored, known-stands}
 use Rattle.paper_desk.proofs.Rules.{rule-holds}
@@ -282,7 +282,7 @@ pub receipt-is-one-call : (a : Admission) (id : ℕ) (d : Day) (rows : List ℤ)
     ∷ receive id x ∷ []) ≡ false ∷ false ∷ false ∷ false ∷ false ∷ false ∷ true ∷ []
 receipt-is-one-call a id d rows q side x = refl
 
-unreceived : (o : Option Receipt) (kept : External) → isReceipt o ≡ false → keptThen o kept ≡ kept
+unreceived : (o : Option Receipt) (kept : External) → isReceived o ≡ false → keptThen o kept ≡ kept
 unreceived none kept s = refl
 unreceived (some told) kept s = absurd (not-true-and-false true refl s)
 

@@ -57,10 +57,10 @@ shows (admit a) = false
 shows (about id x) = showsRecord (ruleOf x .reply)
 
 -- W-211: both prices sent together, or a notice
-abbrev pub isReceipt : Option Receipt → Bool
-isReceipt none = false
-isReceipt (some told) = true
+abbrev pub isReceived : Option Receipt → Bool
+isReceived none = false
+isReceived (some x) = true
 
 abbrev pub isReceipt : Call → Bool
 isReceipt (admit a) = false
-isReceipt (about id x) = isReceipt (ruleOf x .receives)
+isReceipt (about id x) = isReceived (ruleOf x .receives)
