@@ -1,7 +1,5 @@
--- The one walk of the calls that change one record: `quote`, `moved`, `receive` and `notify` (by `Shape`), `evaluate`
--- and `evaluate_asked` (by `ShapeWithRows`), and `open_evening`. They have one shape, over what else a call takes, its
--- rule and the paper's call:
---     fn call(t: &mut [Record], id: u64, ..) -> Answer {
+-- The walk of `about`, the call that changes one record, whatever is asked and however it is passed on:
+--     fn about(t: &mut [Record], id: u64, ..) -> Answer {
 --         let s = take(t, id); let o = rule(s, ..); put(t, o.at, o.rec); o.answer
 --     }
 -- The rule makes an effect of the slot of the id, the effect's record is stored at its place, and that is the paper's
@@ -12,14 +10,8 @@
 --     Located      what a call gives of its own locals: `Stands`, and its rule's operands
 --     meets        the shape meets its contract, where `take`, the rule and `put` meet theirs, and the rule's effect is
 --                  the call's step
+-- A further ask changes nothing here, nor in any file of `desk`: it is an arm of the rule, `record_calls::effect_of`.
 -- Assumes `Given`.
---
--- A FURTHER CALL of this shape writes no walk. Copy quote/Proof.antt where it takes a plain value beside the id,
--- evaluate/Proof.antt where it takes rows too, open_evening/Proof.antt where it takes nothing, and change four things:
---     the call     its name, in the last four `use` lines and in `…-spec`
---     the rule     `rule-def`, `rule-thm`, and `code.calls-…`, which names the rule's crate and function
---     the value    its type and laws, of `Plain`, where a type that no call takes yet gets these two definitions
---     the ask      what the call asks (`Desk`): its effect (`effectOf`) is the call's step by `ask-steps` (`Steps`)
 use mathlib.Core.Path.{_≡_, sym, subst}
 use mathlib.Core.Option.{none, some}
 use Prim.Native.Nat.{ℕ, suc, _+_, _<_, _^_}
@@ -122,16 +114,17 @@ module _ {n : ℕ} (Y : Passing n) where
   }
 
   -- ---- the contracts
-  abbrev pub Said : Type 0
-  Said = (κs : Lfts (suc n)) → ℕ → Denots (typesAt (Y .call .slots) κs) → Call
+  -- the paper's call, of what was passed
+  abbrev pub CallMade : Type 0
+  CallMade = (κs : Lfts (suc n)) → ℕ → Denots (typesAt (Y .call .slots) κs) → Call
 
-  abbrev promises : Said → Meeting.Says changes (taken Y) N.the-row
+  abbrev promises : CallMade → Meeting.Says changes (taken Y) N.the-row
   promises K κs x a r e = Promised (K κs (a .0) (a .1)) (now x) r (now e)
 
   abbrev pub ended : Ended
   ended = Meeting.ended changes (taken Y) N.the-row
 
-  abbrev pub clauses : Said → {M : Type 1} (𝓤 : URA M) → Clauses 𝓤 ended
+  abbrev pub clauses : CallMade → {M : Type 1} (𝓤 : URA M) → Clauses 𝓤 ended
   clauses K 𝓤 = Meeting.clauses changes (taken Y) N.the-row (promises K) 𝓤
 
   -- ---- what is asked of the locals
@@ -160,7 +153,7 @@ module _ {n : ℕ} (Y : Passing n) where
       pub answer-in : In-frame E 0
       pub answer-is : spotOf 𝓤 H E 0 .0 ≡ N′.mir
 
-  module _ (F : OfSlot Y O.the-row) (K : Said)
+  module _ (F : OfSlot Y O.the-row) (K : CallMade)
       (steps : (t : List Record) (κs : Lfts (suc n)) (id : ℕ) (a : Denots (typesAt (Y .call .slots) κs))
       → doneBy t (F (κs .1) (slotOf t id) (Y .to κs a)) ≡ step (K κs id a) t) (#rule : Name)
       {M : Type 1} (𝓤 : URA M) (H : Heap 𝓤) (A : Atoms 𝓤) where

@@ -13,7 +13,5 @@ pub mod Looking
 pub mod Calls
 pub mod Passing
 pub mod Changing
-pub mod Telling
-pub mod Shape
 pub mod ShapeWithRows
 pub mod Determined

@@ -1,5 +1,4 @@
--- `evaluate` and `evaluate_asked` meet their contracts: they have the shape that `Changing` proves once, with a plain
--- value beside the id, and the day's rows, which are lent as `&` and passed on to the rule:
+-- The shape of `Changing`, with a plain value beside the id, and rows, which are lent as `&` and passed on to the rule:
 --     fn call(t: &mut [Record], id: u64, d: D, rows: &[i64]) -> Answer
 --     ended, clauses    its signature, and what it promises.        Rule    the rule's contract
 --     meets             it meets its contract, where the rule's effect is that of the ask
@@ -47,14 +46,14 @@ module _ (P : Plain) (L : PlainLaws P) where
   abbrev pub ℓrows : ℕ
   ℓrows = 4
 
-  abbrev said : (ℕ → P .D → List ℤ → Call) → Changing.Said taken
-  said K κs id a = K id (a .0) (now (a .1 .0))
+  abbrev made-of : (ℕ → P .D → List ℤ → Call) → Changing.CallMade taken
+  made-of K κs id a = K id (a .0) (now (a .1 .0))
 
   abbrev pub ended : Ended
   ended = Changing.ended taken
 
   abbrev pub clauses : (ℕ → P .D → List ℤ → Call) → {M : Type 1} (𝓤 : URA M) → Clauses 𝓤 ended
-  clauses K 𝓤 = Changing.clauses taken (said K) 𝓤
+  clauses K 𝓤 = Changing.clauses taken (made-of K) 𝓤
 
   module _ (ask : P .D → List ℤ → Ask) (#rule : Name) {M : Type 1} (𝓤 : URA M) (H : Heap 𝓤) (A : Atoms 𝓤) where
     abbrev asks : ℕ → P .D → List ℤ → Call
@@ -72,7 +71,7 @@ module _ (P : Plain) (L : PlainLaws P) where
         → Meets 𝓤 H A (ended .signature) (WpFn 𝓤 H (𝓣 .C) (𝓣 .Λ) (Changing.function taken #rule))
         (closing 𝓤 H A ended (clauses asks 𝓤))
     meets W mem run 𝓣 known-take known-rule known-put =
-        Changing.meets taken effect-of (said asks) (λ t κs id a. ask-steps t id (ask (a .0) (now (a .1 .0)))) #rule 𝓤 H A W
+        Changing.meets taken effect-of (made-of asks) (λ t κs id a. ask-steps t id (ask (a .0) (now (a .1 .0)))) #rule 𝓤 H A W
         mem run 𝓣 known-take known-rule known-put (record {
           stands = λ κs x id a ls r. search;
           operands = λ κs qs x id a ls w Δ. and-then ! (value ! (Changing.ℓs taken) refl) (and-then !

@@ -12,9 +12,8 @@ use Rattle.paper.specs.declared.Admission.{Admission}
 use Rattle.paper.specs.declared.Verdict.{Verdict}
 use Rattle.paper.specs.Lists.{pick}
 use Rattle.paper.specs.Verdicts.{isDone}
-use Rattle.paper_desk.specs.Desk.{Ask, reading, Call, admit, about, read, Outcome, blank, saying, stands, known}
-use Rattle.paper_desk.specs.Desk.{admitChecks, checksOf, judged, acceptedOf, step}
-use Rattle.paper_desk.proofs.PinnedLaws.{read-writes-nothing}
+use Rattle.paper_desk.specs.Desk.{Ask, Call, admit, about, Outcome, blank, saying, stands, known, admitChecks, checksOf}
+use Rattle.paper_desk.specs.Desk.{judged, acceptedOf, step}
 use Rattle.record_answers.specs.declared.Effect.{Effect}
 use Rattle.record_answers.specs.Effects.{slotOf, holds, isKnown, refusedEffect, judgedEffect, admitChecksOf}
 use Rattle.record_answers.specs.Effects.{admitEffect, effectOf, doneBy}
@@ -40,14 +39,6 @@ admit-steps t a = judged-done t _ _
 pub ask-steps : (t : List Record) (id : ℕ) (x : Ask) → doneBy t (effectOf (slotOf t id) x) ≡ step (about id x) t
 unfolding slotOf holds isKnown effectOf doneBy stands known checksOf acceptedOf step
 ask-steps t id x = judged-done t _ _
-
-pub read-answers : (t : List Record) (id : ℕ) → effectOf (slotOf t id) reading .answer ≡ step (read id) t .answer
-unfolding doneBy
-read-answers t id = ap (λ (o : Outcome). o .answer) (ask-steps t id reading)
-
--- "An accepted call writes one record, except a read, which writes none."
-pub read-leaves : (t : List Record) (id : ℕ) → step (read id) t .table ≡ t
-read-leaves t id = read-writes-nothing id t
 
 -- what an effect stores and answers is promised, where the effect is the paper's step
 pub promised : (c : Call) (t : List Record) (o : Effect) → doneBy t o ≡ step c t

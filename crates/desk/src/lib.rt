@@ -3,20 +3,13 @@
 // end, where nothing is.
 use paper::Admission;
 use paper::Answer;
-use paper::AskedDay;
-use paper::Day;
-use paper::Notice;
-use paper::Outside;
-use paper::Quote;
+use paper::AskedAbout;
 use paper::Record;
-use record_answers::Effect;
 use record_answers::Slot;
 ghost use mathlib.Core.Path.{_≡_};
 ghost use lib.ListN.{set};
-ghost use Rattle.paper_desk.specs.External.{Receipt};
-ghost use Rattle.paper_desk.specs.Desk.{Ask, Call, place, step};
-ghost use Rattle.paper.specs.Terms.{dayOf};
-ghost use Rattle.record_answers.specs.Effects.{slotOf, effectOf};
+ghost use Rattle.paper_desk.specs.Desk.{Call, askOf, place};
+ghost use Rattle.record_answers.specs.Effects.{slotOf};
 ghost use Rattle.desk.specs.Promises.{Promised};
 
 // "id 0 marks an empty slot"
@@ -72,87 +65,12 @@ pub fn admit(t: &mut [Record], a: Admission) -> Answer
     o.answer
 }
 
-pub fn evaluate(t: &mut [Record], id: u64, d: Day, rows: &[i64]) -> Answer
-    ensures { λ r. ⌜ Promised (Call.about id (Ask.evaluating d (now (rows .entry)))) (now (t .entry)) r (now (t .exit)) ⌝ }
+// Whatever is asked about the security with an id. The row figures of an evaluation are lent beside the ask.
+pub fn about(t: &mut [Record], id: u64, a: AskedAbout, rows: &[i64]) -> Answer
+    ensures { λ r. ⌜ Promised (Call.about id (askOf a (now (rows .entry)))) (now (t .entry)) r (now (t .exit)) ⌝ }
 {
     let s = take(t, id);
-    let o = record_evaluation::evaluated(s, d, rows);
+    let o = record_calls::effect_of(s, a, rows);
     put(t, o.at, o.rec);
     o.answer
-}
-
-// The rule of an evaluation, on the day that is asked for.
-fn asked(s: Slot, a: AskedDay, rows: &[i64]) -> Effect
-    ensures { λ o. ⌜ o ≡ effectOf s (Ask.evaluating (dayOf a) (now (rows .entry))) ⌝ }
-{
-    let d = interest_terms::day_of(a);
-    record_evaluation::evaluated(s, d, rows)
-}
-
-// W-201: "The security's evaluation may take these limits or given ones."
-pub fn evaluate_asked(t: &mut [Record], id: u64, a: AskedDay, rows: &[i64]) -> Answer
-    ensures { λ r.
-        ⌜ Promised (Call.about id (Ask.evaluating (dayOf a) (now (rows .entry)))) (now (t .entry)) r (now (t .exit)) ⌝ }
-{
-    let s = take(t, id);
-    let o = asked(s, a, rows);
-    put(t, o.at, o.rec);
-    o.answer
-}
-
-pub fn quote(t: &mut [Record], id: u64, q: Quote) -> Answer
-    ensures { λ r. ⌜ Promised (Call.about id (Ask.quoting q)) (now (t .entry)) r (now (t .exit)) ⌝ }
-{
-    let s = take(t, id);
-    let o = record_monitoring::quoted(s, q);
-    put(t, o.at, o.rec);
-    o.answer
-}
-
-// The call `move`, which is a word of the language.
-pub fn moved(t: &mut [Record], id: u64, side: u64) -> Answer
-    ensures { λ r. ⌜ Promised (Call.about id (Ask.moving side)) (now (t .entry)) r (now (t .exit)) ⌝ }
-{
-    let s = take(t, id);
-    let o = record_monitoring::moved(s, side);
-    put(t, o.at, o.rec);
-    o.answer
-}
-
-// W-210: "Opening the evening clears the near seconds and keeps c".
-pub fn open_evening(t: &mut [Record], id: u64) -> Answer
-    ensures { λ r. ⌜ Promised (Call.about id Ask.opening) (now (t .entry)) r (now (t .exit)) ⌝ }
-{
-    let s = take(t, id);
-    let o = record_calls::opened(s);
-    put(t, o.at, o.rec);
-    o.answer
-}
-
-// W-211: "Both sent together replace the kept pair".
-pub fn receive(t: &mut [Record], id: u64, sent: Outside) -> Answer
-    ensures { λ r. ⌜ Promised (Call.about id (Ask.receiving (Receipt.together sent))) (now (t .entry)) r (now (t .exit)) ⌝ }
-{
-    let s = take(t, id);
-    let o = record_calls::received(s, sent);
-    put(t, o.at, o.rec);
-    o.answer
-}
-
-// W-211: "a notice changes one side, a withdrawal clears both".
-pub fn notify(t: &mut [Record], id: u64, n: Notice) -> Answer
-    ensures { λ r. ⌜ Promised (Call.about id (Ask.receiving (Receipt.notice n))) (now (t .entry)) r (now (t .exit)) ⌝ }
-{
-    let s = take(t, id);
-    let o = record_calls::notified(s, n);
-    put(t, o.at, o.rec);
-    o.answer
-}
-
-// A read leaves the table: it is lent as `&`.
-pub fn read(t: &[Record], id: u64) -> Answer
-    ensures { λ r. ⌜ r ≡ step (Call.about id Ask.reading) (now (t .entry)) .answer ⌝ }
-{
-    let s = take(t, id);
-    record_calls::read(s)
 }

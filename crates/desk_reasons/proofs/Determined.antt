@@ -1,5 +1,5 @@
--- "Any two outcomes it allows are shown equal": of each call's own contract; and that its number is the one which
--- `evaluate` answers, and its reasons are true of what `evaluate` writes. The table is lent as `&`, so it is left.
+-- "Any two outcomes it allows are shown equal": of each call's own contract; and that its number is the one which the
+-- evaluation answers, and its reasons are true of what the evaluation writes. The table is lent as `&`, so it is left.
 use mathlib.Core.Path.{_≡_, refl, sym, ap, _∙_}
 use mathlib.Core.Bool.{true}
 use mathlib.Core.List.{List}
@@ -35,14 +35,14 @@ module _ {M : Type 1} (𝓤 : URA M) (H : Heap 𝓤) (A : Atoms 𝓤) (mem : Mem
   pub why-asked-determined : Determined 𝓤 why-asked.ended (why-asked.clauses 𝓤 H A mem run) (λ κs e. tt {0})
   why-asked-determined κs a g y y′ e e′ = together 𝓤 _ _ _ (λ p p′. (p ∙ sym p′, refl))
 
--- WHAT `evaluate` PROMISES AND WHAT `why` SAYS have one number, for every table, id, day and rows
+-- WHAT AN EVALUATION PROMISES AND WHAT `why` SAYS have one number, for every table, id, day and rows
 pub numbers-agree : (t : List Record) (id : ℕ) (d : Day) (rows : List ℤ) (r : Answer) (u : List Record) (y : Why)
     → Promised (evaluate id d rows) t r u → y ≡ whyOn t id d rows → y .verdict ≡ r .verdict
 numbers-agree t id d rows r u y p q =
     ap (λ (x : Why). x .verdict) q ∙ number-agrees t id d rows ∙ sym (ap (λ (x : Answer). x .verdict) (p .answer))
 
--- and where `evaluate` accepts, each reason that `why` says is the true one of the record before and of the one in the
--- table after it
+-- and where the evaluation is accepted, each reason that `why` says is the true one of the record before and of the one
+-- in the table after it
 pub reasons-agree : (t : List Record) (id : ℕ) (d : Day) (rows : List ℤ) (r : Answer) (u : List Record) (y : Why)
     → Promised (evaluate id d rows) t r u → y ≡ whyOn t id d rows → isDone (r .verdict) ≡ true
     → ReasonsTrue (found t id) (found u id) d rows (y .reasons)

@@ -1,4 +1,5 @@
 -- The laws of desk_reasons, a file each; other crates may cite the public ones.
-pub mod Said
+pub mod OfSlot
+pub mod Telling
 pub mod Shape
 pub mod Determined

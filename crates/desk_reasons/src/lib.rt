@@ -11,7 +11,7 @@ ghost use Rattle.paper.specs.Terms.{dayOf};
 ghost use Rattle.paper_reasons.specs.Why.{whyOn};
 ghost use Rattle.record_reasons.specs.Whys.{whySlot};
 
-// Why `evaluate` would answer as it does.
+// Of an evaluation of a day.
 pub fn why(t: &[Record], id: u64, d: Day, rows: &[i64]) -> Why
     ensures { λ y. ⌜ y ≡ whyOn (now (t .entry)) id d (now (rows .entry)) ⌝ }
 {
@@ -27,7 +27,7 @@ fn asked(s: Slot, a: AskedDay, rows: &[i64]) -> Why
     record_reasons::why(s, d, rows)
 }
 
-// Why `evaluate_asked` would answer as it does.
+// Of an evaluation as it is asked for.
 pub fn why_asked(t: &[Record], id: u64, a: AskedDay, rows: &[i64]) -> Why
     ensures { λ y. ⌜ y ≡ whyOn (now (t .entry)) id (dayOf a) (now (rows .entry)) ⌝ }
 {

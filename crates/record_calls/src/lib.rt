@@ -1,15 +1,16 @@
-// One rule for each call that has no crate of its own (`record_admission`, `record_evaluation`, `record_monitoring`),
-// by value: the slot found and the inputs in, an effect out. Each judges the refusals in the paper's order.
+// The rule of whatever is asked about a security (`effect_of`), by value: the slot found and the inputs in, an effect
+// out. Evaluations, quotes and moves have crates of their own (`record_evaluation`, `record_monitoring`); the rules of
+// the other asks stand here. Each judges the refusals in the paper's order.
 mod floats; // the price of an outside source's float
 
 ghost use mathlib.Core.Path.{_≡_};
 ghost use Rattle.paper_floats.specs.Floats.{priceOf};
 ghost use Rattle.paper_desk.specs.External.{Receipt, unitsMade};
-ghost use Rattle.paper_desk.specs.Desk.{Ask};
+ghost use Rattle.paper_desk.specs.Desk.{Ask, askOf};
 ghost use Rattle.record_answers.specs.Effects.{effectOf};
 ghost use Rattle.record_calls.specs.Receipts.{Receives};
 use crate::floats::price_of;
-use paper::Answer;
+use paper::AskedAbout;
 use paper::External;
 use paper::MadePrice;
 use paper::Notice;
@@ -95,13 +96,31 @@ pub fn notified(s: Slot, n: Notice) -> Effect
     }
 }
 
-// "read 1".
-pub fn read(s: Slot) -> Answer
-    ensures { λ a. ⌜ a ≡ effectOf s Ask.reading .answer ⌝ }
+// "read 1". A read stores the record that it found, so it leaves the table as it was.
+pub fn read(s: Slot) -> Effect
+    ensures { λ o. ⌜ o ≡ effectOf s Ask.reading ⌝ }
 {
+    let count = s.count;
     let r = s.rec;
     if !record_answers::is_known(s) {
-        return record_answers::saying(Verdict::NoSuchId);
+        return record_answers::refused(count, Verdict::NoSuchId);
     }
-    record_answers::showing(r)
+    record_answers::written(s.at, r)
+}
+
+// ---- the rule of each ask
+
+// An ask more has its arm here.
+pub fn effect_of(s: Slot, a: AskedAbout, rows: &[i64]) -> Effect
+    ensures { λ o. ⌜ o ≡ effectOf s (askOf a (now (rows .entry))) ⌝ }
+{
+    match a {
+        AskedAbout::Evaluate(d) => record_evaluation::evaluated(s, interest_terms::day_of(d), rows),
+        AskedAbout::Quote(q) => record_monitoring::quoted(s, q),
+        AskedAbout::Move(side) => record_monitoring::moved(s, side),
+        AskedAbout::Read => read(s),
+        AskedAbout::Open => opened(s),
+        AskedAbout::Receive(sent) => received(s, sent),
+        AskedAbout::Notify(n) => notified(s, n),
+    }
 }

@@ -122,7 +122,8 @@ fn asked_on(asked: DailyAsk, r: Record, d: Day, rows: &[i64]) -> Asking {
             }
         }
         DailyAsk::Reading => {
-            let answer = record_calls::read(first(r));
+            let effect = record_calls::read(first(r));
+            let answer = effect.answer;
             let rec = answer.rec;
             let sum = figure(rec);
             Asking { rec, sum }
@@ -149,7 +150,7 @@ fn over_days(
     sum
 }
 
-// One security evaluated on so many days, with the answer of `evaluate` made on each.
+// One security evaluated on so many days, with the answer made on each.
 #[no_mangle]
 pub extern "C" fn nedrubal_answers(
     x: &[i64; ADMISSION_NUMBERS],

@@ -1,10 +1,10 @@
--- `record_calls::read` meets its contract: a known record is shown, and an unknown one is refused 1, which is the only
--- check of a read.
-use mathlib.Core.Path.{_≡_, sym, _∙_}
-use mathlib.Core.Bool.{true, false}
-use Rattle.paper.specs.Verdicts.{isDone, firstOf}
-use Rattle.paper.proofs.Logic.{not-true, not-false}
-use Rattle.record_answers.specs.Effects.{isKnown, refusedEffect, judgedEffect, effectOf}
+-- `record_calls::read` meets its contract: an unknown record is refused 1, which is the only check of a read, and a
+-- known one is stored as it was found.
+use mathlib.Core.Path.{_∙_}
+use Rattle.paper.specs.Verdicts.{none}
+use Rattle.paper_desk.specs.Desk.{reading}
+use Rattle.record_answers.proofs.Tests.{tested-true, tested-false}
+use Rattle.record_answers.proofs.Judging.{unknown-refused, known-accepted}
 use borrow.Author.Needs.{needs}
 use Rattle.record_calls.proofs.read.Statement.{statement}
 use Rattle.record_calls.proofs.read.Tie as tie
@@ -12,26 +12,21 @@ use Rattle.record_calls.proofs.read.Tie as tie
 is-known-requires : tie.Need-is-known-requires
 is-known-requires c κs = search needs
 
-saying-requires : tie.Need-saying-requires
-saying-requires c κs = search needs
+refused-requires : tie.Need-refused-requires
+refused-requires c κs = search needs
 
 returns : tie.Need-returns
-unfolding effectOf judgedEffect refusedEffect firstOf isDone
-returns c =
-    let unknown : isKnown (c .before .before .before .before .args .s) ≡ false =
-    sym (c .before .before .is-known .ensures) ∙ not-true _ (c .before .if1 .taken) in
-    rw (c .saying .ensures, unknown)
+returns c = c .refused .ensures
+    ∙ unknown-refused _ reading (tested-false _ (c .before .before .is-known .ensures) (c .before .if1 .taken))
 
-showing-requires : tie.Need-showing-requires
-showing-requires c κs = search needs
+written-requires : tie.Need-written-requires
+written-requires c κs = search needs
 
 returns-2 : tie.Need-returns-2
-unfolding effectOf judgedEffect refusedEffect firstOf isDone
 returns-2 c =
-    let known : isKnown (c .before .before .before .before .args .s) ≡ true =
-    sym (c .before .before .is-known .ensures) ∙ not-false _ (c .before .if1 .left) in
-    rw (c .showing .ensures, known)
+    let e = c .before in
+    c .written .ensures ∙ known-accepted _ reading (tested-true _ (e .before .is-known .ensures) (e .if1 .left)) none
 
 pub read-spec : {M : Type 1} → statement M
 read-spec =
-    tie.close (tie.spec is-known-requires saying-requires returns showing-requires returns-2)
+    tie.close (tie.spec is-known-requires refused-requires returns written-requires returns-2)

@@ -1,13 +1,13 @@
--- The one walk of the calls that leave the table: `read` here, and `why` and `why_asked` of `desk_reasons`. They have
--- one shape, over what else a call takes, its rule and what is said:
+-- The one walk of the calls that leave the table, `why` and `why_asked`. They have one shape, over what else a call
+-- takes, its rule and what is told:
 --     fn call(t: &[Record], id: u64, ..) -> X { let s = take(t, id); rule(s, ..) }
 -- The table is a `&`, as what else is lent is: what each owns is had twice, once for a call and once for the exit. The
 -- walk has a step for each statement: `let-s` and `answer`.
---     function     the MIR of the shape.        ended, clauses    its signature, and what is said
+--     function     the MIR of the shape.        ended, clauses    its signature, and what is told
 --     Stands       what is asked of the locals: `search` finds it where the parameters are written out
 --     Located      what a call gives of its own locals: `Stands`, and its rule's operands
---     meets        the shape meets its contract, where `take` and the rule meet theirs, and what the rule says of the
---                  slot is what is said of the table
+--     meets        the shape meets its contract, where `take` and the rule meet theirs, and what the rule tells of the
+--                  slot is what is told of the table
 -- Assumes `Given`.
 use mathlib.Core.Path.{_≡_, sym, subst}
 use mathlib.Core.Option.{some}
@@ -81,16 +81,17 @@ module _ {n : ℕ} (Y : Passing n) (P : Plain) (L : PlainLaws P) where
   }
 
   -- ---- the contracts
-  abbrev pub Said : Type 0
-  Said = (κs : Lfts (suc n)) → List Record → ℕ → Denots (typesAt (Y .call .slots) κs) → P .D
+  -- what is told of the table, of an id in it and of what else was passed
+  abbrev pub ToldOf : Type 0
+  ToldOf = (κs : Lfts (suc n)) → List Record → ℕ → Denots (typesAt (Y .call .slots) κs) → P .D
 
-  abbrev tells : Said → Meeting.Says reads (taken Y) (row P)
+  abbrev tells : ToldOf → Meeting.Says reads (taken Y) (row P)
   tells K κs x a r e = r ≡ K κs (now x) (a .0) (a .1)
 
   abbrev pub ended : Ended
   ended = Meeting.ended reads (taken Y) (row P)
 
-  abbrev pub clauses : Said → {M : Type 1} (𝓤 : URA M) → Clauses 𝓤 ended
+  abbrev pub clauses : ToldOf → {M : Type 1} (𝓤 : URA M) → Clauses 𝓤 ended
   clauses K 𝓤 = Meeting.clauses reads (taken Y) (row P) (tells K) 𝓤
 
   -- ---- what is asked of the locals
@@ -104,8 +105,8 @@ module _ {n : ℕ} (Y : Passing n) (P : Plain) (L : PlainLaws P) where
       pub result-in : Within E 0
       pub result-is : spotOf 𝓤 H E 0 .0 ≡ P .τ
 
-  module _ (F : OfSlot Y (row P)) (K : Said)
-      (said : (t : List Record) (κs : Lfts (suc n)) (id : ℕ) (a : Denots (typesAt (Y .call .slots) κs))
+  module _ (F : OfSlot Y (row P)) (K : ToldOf)
+      (agree : (t : List Record) (κs : Lfts (suc n)) (id : ℕ) (a : Denots (typesAt (Y .call .slots) κs))
       → F (κs .1) (slotOf t id) (Y .to κs a) ≡ K κs t id a) (#rule : Name)
       {M : Type 1} (𝓤 : URA M) (H : Heap 𝓤) (A : Atoms 𝓤) where
     module _ (W : Given 𝓤 H A) (mem : Memory → SProp 𝓤) (run : Routine → Fun 𝓤) where
@@ -120,7 +121,7 @@ module _ {n : ℕ} (Y : Passing n) (P : Plain) (L : PlainLaws P) where
         abbrev ys : List Record
         ys = x .now
 
-        -- the slot that is taken, and what the rule says of it
+        -- the slot that is taken, and what the rule tells of it
         abbrev slot : Slot
         slot = slotOf ys id
 
@@ -145,7 +146,7 @@ module _ {n : ℕ} (Y : Passing n) (P : Plain) (L : PlainLaws P) where
         exits : (v : Val) → Is (row P) told (v ∷ []) → ent 𝓤 (⋆ 𝓤 H A Ours) (Post v)
         exits v is =
             Meeting.exits reads (taken Y) (row P) (tells K) 𝓤 H A W κs x (id, a) qs (L .makes 𝓤 H A W) tt told v tt
-            (said ys κs id a) is
+            (agree ys κs id a) is
 
         module _ (E : Env 𝓤 H) (cs : Locals) (C : Calls 𝓤 H) (Λ : Loops 𝓤 H) where
           -- where the walk stands: at the entry, and with s

@@ -1,4 +1,4 @@
--- What the rule says of the slot of an id is what the paper says of the table.
+-- What the rule tells of the slot of an id is what the paper says of the table.
 use mathlib.Core.Path.{_≡_, refl}
 use mathlib.Core.List.{List}
 use Prim.Native.Nat.{ℕ}
@@ -10,6 +10,6 @@ use Rattle.paper_reasons.specs.Why.{whyOn}
 use Rattle.record_answers.specs.Effects.{slotOf, holds, isKnown}
 use Rattle.record_reasons.specs.Whys.{whySlot}
 
-pub slot-said : (t : List Record) (id : ℕ) (d : Day) (rows : List ℤ) → whySlot (slotOf t id) d rows ≡ whyOn t id d rows
+pub why-of-slot : (t : List Record) (id : ℕ) (d : Day) (rows : List ℤ) → whySlot (slotOf t id) d rows ≡ whyOn t id d rows
 unfolding whySlot whyOn slotOf isKnown holds known stands
-slot-said t id d rows = refl
+why-of-slot t id d rows = refl
