@@ -13,13 +13,18 @@ use crate::floats::price_of;
 use paper::AskedAbout;
 use paper::External;
 use paper::MadePrice;
+use paper::Near;
+use paper::NearSeconds;
 use paper::Notice;
 use paper::Outside;
+use paper::Record;
+use paper::Session;
 use paper::Verdict;
 use record_answers::Effect;
 use record_answers::Slot;
 
-// W-210, the opening of the evening: 1, 10, "19, evening opened twice, after 10".
+// W-210, the opening of the evening: 1, 10, "19, evening opened twice, after 10". It "clears the near seconds and keeps
+// c".
 pub fn opened(s: Slot) -> Effect
     ensures { λ o. ⌜ o ≡ effectOf s Ask.opening ⌝ }
 {
@@ -36,7 +41,14 @@ pub fn opened(s: Slot) -> Effect
     if alerts::session::is_evening(session) {
         return record_answers::refused(count, Verdict::OpenedTwice);
     }
-    record_answers::written(s.at, record_writing::opened(r))
+    let none = NearSeconds {
+        top: Near::Not,
+        bottom: Near::Not,
+    };
+    let near = [none; Record::TERMS];
+    let external = r.external;
+    let rec = record_writing::watching(r, near, r.second, Session::Evening(0), external);
+    record_answers::written(s.at, rec)
 }
 
 // ---- a receipt of outside prices (W-211)
@@ -65,7 +77,10 @@ fn received_as(s: Slot, bad: bool, kept: External) -> Effect
     if bad {
         return record_answers::refused(count, Verdict::BadFloat);
     }
-    record_answers::written(s.at, record_writing::received(r, kept))
+    let near = r.near;
+    let session = r.session;
+    let rec = record_writing::watching(r, near, r.second, session, kept);
+    record_answers::written(s.at, rec)
 }
 
 // "Both sent together replace the kept pair": one bad float of two refuses both.

@@ -1,8 +1,10 @@
 // The rules of the two calls that only a monitored security takes, a quote and a move, by value: the slot found and the
 // inputs in, an effect out. Each judges the refusals in the paper's order.
 ghost use mathlib.Core.Path.{_≡_};
+ghost use mathlib.Core.Bool.{true};
+ghost use Rattle.paper.specs.Ranges.{validQuote};
 ghost use Rattle.paper.specs.Verdicts.{firstOf};
-ghost use Rattle.paper_desk.specs.Desk.{Ask, nearOn, alertsOn};
+ghost use Rattle.paper_desk.specs.Desk.{Ask, nearOn, quoted, alertsOn};
 ghost use Rattle.record_answers.specs.Effects.{isKnown, effectOf};
 ghost use Rattle.record_monitoring.specs.SharedChecks.{sharedChecks};
 use paper::Answer;
@@ -32,6 +34,20 @@ fn shared_checks(s: Slot, in_range: bool) -> Verdict
         return Verdict::NotMonitored;
     }
     Verdict::Done
+}
+
+// "One quote touches one term only."
+fn watched(r: Record, q: Quote, n: NearSeconds) -> Record
+    requires { ⌜ validQuote q ≡ true ⌝ }
+    requires { ⌜ n ≡ nearOn r q ⌝ }
+    ensures { λ o. ⌜ o ≡ quoted r q ⌝ }
+{
+    let term = q.term as usize;
+    let mut near = r.near;
+    near[term] = n;
+    let session = r.session;
+    let external = r.external;
+    record_writing::watching(r, near, q.second, session, external)
 }
 
 // "a quote its two alerts": of the near seconds after it, by the session's own seconds.
@@ -67,7 +83,7 @@ pub fn quoted(s: Slot, q: Quote) -> Effect
         return record_answers::refused(count, Verdict::SecondEarlier);
     }
     let n = record_writing::near_on(r, q);
-    let rec = record_writing::quoted(r, q, n);
+    let rec = watched(r, q, n);
     let answer = alerts_on(r, q, n);
     Effect {
         at: s.at,

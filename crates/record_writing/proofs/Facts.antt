@@ -16,7 +16,7 @@ use Rattle.record_soundness.proofs.Facts.{sound-facts}
 use Rattle.limits.specs.LimitRanges.{RangeInputs, valid-limit-statics}
 use Rattle.limits.specs.LimitBounds.{delta-high}
 use Rattle.alerts.specs.Nearness.{NearRange}
-use Rattle.record_writing.specs.Asked.{ShiftsAsked}
+use Rattle.record_writing.specs.Needs.{Shiftable}
 
 -- ---- a quote
 
@@ -43,9 +43,9 @@ sound-range-inputs r v =
     let known = sound-facts r v in
     record { price = known .figures .later .price .most; rate-high = known .rates 0 (omega arith) }
 
-pub shifts-asked : (r : Record) → sound r ≡ true
-    → ShiftsAsked (deltaOf (r .statics) (rateAt (r .rates) 0) (r .p1 .units)) (r .ranges)
-shifts-asked r v =
+pub sound-shiftable : (r : Record) → sound r ≡ true
+    → Shiftable (deltaOf (r .statics) (rateAt (r .rates) 0) (r .p1 .units)) (r .ranges)
+sound-shiftable r v =
     let known = sound-facts r v in
     let held = delta-high (r .statics) _ _ (valid-limit-statics (r .statics) (known .valid)) (sound-range-inputs r v) in
     let upper = known .ranges in (

@@ -1,3 +1,2 @@
--- What is asked where a record is written, and what is then written, a file each.
-pub mod Asked
-pub mod Receives
+-- The definitions of record_writing, a file each.
+pub mod Needs

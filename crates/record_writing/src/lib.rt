@@ -1,5 +1,5 @@
-// What each call but an evaluation writes (`record_figures` has that): the record after an admission, a quote, a move,
-// an opening of the evening or a receipt of outside prices, made anew in one function for each.
+// What each call but an evaluation writes (`record_figures` has that): the record after an admission, the record after
+// a move, and the record that a quote, an opening of the evening or a receipt of outside prices leaves (`watching`).
 ghost use mathlib.Core.Path.{_≡_};
 ghost use mathlib.Core.Bool.{true};
 ghost use Prim.Native.Nat.{_<_};
@@ -9,9 +9,8 @@ ghost use Rattle.paper.specs.Numbers.{movesMost};
 ghost use Rattle.paper.specs.Ranges.{validQuote, sound, noLimits, notNear};
 ghost use Rattle.paper_desk.specs.Limits.{countOf, rangeMoved, bandMoved};
 ghost use Rattle.paper_desk.specs.Alerts.{nearCleared};
-ghost use Rattle.paper_desk.specs.Desk.{admitted, nearOn, quoted, moved, eveningOpened};
-ghost use Rattle.record_writing.specs.Asked.{Admitting, ShiftsAsked};
-ghost use Rattle.record_writing.specs.Receives.{Receives};
+ghost use Rattle.paper_desk.specs.Desk.{admitted, nearOn, moved, watching};
+ghost use Rattle.record_writing.specs.Needs.{Admitting, Shiftable};
 use paper::Admission;
 use paper::External;
 use paper::Limits;
@@ -91,21 +90,6 @@ pub fn near_on(r: Record, q: Quote) -> NearSeconds
     }
 }
 
-// "One quote touches one term only."
-pub fn quoted(r: Record, q: Quote, n: NearSeconds) -> Record
-    requires { ⌜ validQuote q ≡ true ⌝ }
-    requires { ⌜ n ≡ nearOn r q ⌝ }
-    ensures { λ o. ⌜ o ≡ quoted r q ⌝ }
-{
-    let term = q.term as usize;
-    let mut near = r.near;
-    near[term] = n;
-    let mut o = r;
-    o.near = near;
-    o.second = q.second;
-    o
-}
-
 // ---- a move
 
 fn ranges_moved(
@@ -113,7 +97,7 @@ fn ranges_moved(
     delta: u64,
     ranges: [Limits; Record::LEVELS],
 ) -> [Limits; Record::LEVELS]
-    requires { ⌜ ShiftsAsked delta ranges ⌝ }
+    requires { ⌜ Shiftable delta ranges ⌝ }
     ensures { λ r. ⌜ r ≡ three (λ i. rangeMoved side delta (getD ranges i noLimits)) ⌝ }
 {
     [
@@ -197,11 +181,18 @@ pub fn moved(r: Record, side: Side) -> Record
     }
 }
 
-// ---- an opening of the evening
+// ---- a quote, an opening of the evening and a receipt of outside prices
 
-// W-210: "Opening the evening clears the near seconds and keeps c".
-pub fn opened(r: Record) -> Record
-    ensures { λ o. ⌜ o ≡ eveningOpened r ⌝ }
+// The record with other near seconds, another last quote second, another session and another outside pair, and the rest
+// of it as it was.
+pub fn watching(
+    r: Record,
+    near: [NearSeconds; Record::TERMS],
+    second: u64,
+    session: Session,
+    external: External,
+) -> Record
+    ensures { λ o. ⌜ o ≡ watching r near second session external ⌝ }
 {
     let statics = r.statics;
     let standing = r.standing;
@@ -213,12 +204,6 @@ pub fn opened(r: Record) -> Record
     let terms = r.terms;
     let bands = r.bands;
     let kept = r.moves;
-    let external = r.external;
-    let none = NearSeconds {
-        top: Near::Not,
-        bottom: Near::Not,
-    };
-    let near = [none; Record::TERMS];
     Record {
         id: r.id,
         statics,
@@ -233,19 +218,8 @@ pub fn opened(r: Record) -> Record
         bands,
         moves: kept,
         near,
-        second: r.second,
-        session: Session::Evening(0),
+        second,
+        session,
         external,
     }
-}
-
-// ---- a receipt of outside prices
-
-// W-211: what is received changes the kept pair alone.
-pub fn received(r: Record, kept: External) -> Record
-    ensures { λ o. ⌜ Receives r kept o ⌝ }
-{
-    let mut o = r;
-    o.external = kept;
-    o
 }

@@ -4,7 +4,7 @@ use mathlib.Core.Path.{_≡_, refl, sym, _∙_, ap}
 use mathlib.Core.Bool.{true, not}
 use Rattle.paper.specs.Ranges.{isLive}
 use Rattle.paper.specs.Verdicts.{here, later, none, also}
-use Rattle.paper_desk.specs.Desk.{opening}
+use Rattle.paper_desk.specs.Desk.{eveningOpened, opening}
 use Rattle.record_answers.specs.Effects.{isKnown}
 use Rattle.record_answers.proofs.Tests.{tested-true, tested-false}
 use Rattle.record_answers.proofs.Judging.{unknown-refused, known-refused, known-accepted}
@@ -59,18 +59,19 @@ returns-3 c =
     ∙ known-refused _ opening (known (l .before .before))
     (later (ap not (live l)) (here refl (sym (test .is-evening .ensures) ∙ c .before .if3 .taken)))
 
-opened-requires : tie.Need-opened-requires
-opened-requires c κs = search needs
+watching-requires : tie.Need-watching-requires
+watching-requires c κs = search needs
 
 written-requires : tie.Need-written-requires
 written-requires c κs = search needs
 
 returns-4 : tie.Need-returns-4
+unfolding eveningOpened
 returns-4 c =
-    let e = c .before .before in
+    let e = c .before .before .before in
     let test = e .before in
     let l = test .before in
-    rw (c .written .ensures, c .before .opened .ensures)
+    rw (c .written .ensures, c .before .watching .ensures)
     (known-accepted _ opening (known (l .before .before))
     (also (ap not (live l)) (also (sym (test .is-evening .ensures) ∙ e .if3 .left) none)))
 
@@ -87,6 +88,6 @@ opened-spec =
     is-evening-requires
     refused-requires-3
     returns-3
-    opened-requires
+    watching-requires
     written-requires
     returns-4)

@@ -3,7 +3,7 @@
 use mathlib.Core.Path.{_≡_, refl, sym, _∙_}
 use mathlib.Core.Bool.{true}
 use Rattle.paper.specs.Verdicts.{here, none, also}
-use Rattle.paper_desk.specs.Desk.{receiving}
+use Rattle.paper_desk.specs.Desk.{received, receiving}
 use Rattle.record_answers.specs.Effects.{isKnown}
 use Rattle.record_answers.proofs.Tests.{tested-true, tested-false}
 use Rattle.record_answers.proofs.Judging.{unknown-refused, known-refused, known-accepted}
@@ -31,16 +31,17 @@ returns-2 : tie.Need-returns-2
 returns-2 c x b k = c .refused2 .ensures
     ∙ known-refused _ (receiving x) (known (c .before .before)) (here refl (b ∙ c .before .if2 .taken))
 
-received-requires : tie.Need-received-requires
-received-requires c κs = search needs
+watching-requires : tie.Need-watching-requires
+watching-requires c κs = search needs
 
 written-requires : tie.Need-written-requires
 written-requires c κs = search needs
 
 returns-3 : tie.Need-returns-3
+unfolding received
 returns-3 c x b k =
-    let e = c .before .before in
-    rw (c .written .ensures, c .before .received .ensures x k)
+    let e = c .before .before .before in
+    rw (c .written .ensures, c .before .watching .ensures, sym k)
     (known-accepted _ (receiving x) (known (e .before)) (also (b ∙ e .if2 .left) none))
 
 pub received-as-spec : {M : Type 1} → statement M
@@ -52,6 +53,6 @@ received-as-spec =
     returns
     refused-requires-2
     returns-2
-    received-requires
+    watching-requires
     written-requires
     returns-3)

@@ -62,8 +62,8 @@ near-on-requires c κs =
     let o = past (c .before .before .before) in
     (known-sound _ (o .known), o .valid)
 
-quoted-requires : tie.Need-quoted-requires
-quoted-requires c κs = (past (c .before .before .before .before) .valid, c .near-on .ensures)
+watched-requires : tie.Need-watched-requires
+watched-requires c κs = (past (c .before .before .before .before) .valid, c .near-on .ensures)
 
 alerts-on-requires : tie.Need-alerts-on-requires
 alerts-on-requires c κs = search needs
@@ -71,7 +71,7 @@ alerts-on-requires c κs = search needs
 returns-3 : tie.Need-returns-3
 returns-3 c =
     let e = c .before .before .before in
-    rw (c .alerts-on .ensures, c .before .quoted .ensures)
+    rw (c .alerts-on .ensures, c .before .watched .ensures)
     (quote-accepted _ _ (past (e .before .before .before)) (le-ltb _ _ (e .if2 .left)))
 
 pub quoted-spec : {M : Type 1} → statement M
@@ -86,6 +86,6 @@ quoted-spec =
     refused-requires-2
     returns-2
     near-on-requires
-    quoted-requires
+    watched-requires
     alerts-on-requires
     returns-3)

@@ -4,7 +4,7 @@ use borrow.Author.Needs.{needs}
 use Rattle.paper_desk.specs.Desk.{moved}
 use Rattle.record_soundness.proofs.Facts.{sound-facts}
 use Rattle.limits.specs.LimitRanges.{one-more-high, bands-asked}
-use Rattle.record_writing.proofs.Facts.{sound-terms-valid, sound-range-inputs, shifts-asked}
+use Rattle.record_writing.proofs.Facts.{sound-terms-valid, sound-range-inputs, sound-shiftable}
 use Rattle.record_writing.proofs.moved.Statement.{statement}
 use Rattle.record_writing.proofs.moved.Tie as tie
 
@@ -38,7 +38,7 @@ delta-requires c κs =
 ranges-moved-requires : tie.Need-ranges-moved-requires
 ranges-moved-requires c κs =
     let s = start (c .before .before) in
-    rw (c .delta .ensures) (shifts-asked (s .args .r) (s .pre .0))
+    rw (c .delta .ensures) (sound-shiftable (s .args .r) (s .pre .0))
 
 bands-moved-requires : tie.Need-bands-moved-requires
 bands-moved-requires c κs = search needs

@@ -19,6 +19,6 @@ pub record Admitting (a : Admission) (p1 p2 : Price) : Type 0 where
   pub later : p1 ≡ record { units = a .p1 }
   pub earlier : p2 ≡ record { units = a .p2 }
 
--- of three ranges that are shifted: delta and each upper limit
-abbrev pub ShiftsAsked : (delta : ℕ) → (ranges : List Limits) → Type 0
-ShiftsAsked delta ranges = EachOfThree (λ i. (delta ≤ deltaMost) × (getD ranges i noLimits .upper ≤ limitMost))
+-- of three ranges that are shifted, delta and each upper limit are in range
+abbrev pub Shiftable : (delta : ℕ) → (ranges : List Limits) → Type 0
+Shiftable delta ranges = EachOfThree (λ i. (delta ≤ deltaMost) × (getD ranges i noLimits .upper ≤ limitMost))
