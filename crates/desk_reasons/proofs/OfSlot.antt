@@ -10,6 +10,7 @@ use Rattle.paper_reasons.specs.Why.{whyOn}
 use Rattle.record_answers.specs.Effects.{slotOf, holds, isKnown}
 use Rattle.record_reasons.specs.Whys.{whySlot}
 
-pub why-of-slot : (t : List Record) (id : ℕ) (d : Day) (rows : List ℤ) → whySlot (slotOf t id) d rows ≡ whyOn t id d rows
+pub why-of-slot : (t : List Record) (id : ℕ) (d : Day) (rows : List ℤ)
+    → whySlot (slotOf t id) d rows ≡ whyOn t id d rows
 unfolding whySlot whyOn slotOf isKnown holds known stands
 why-of-slot t id d rows = refl

@@ -1,5 +1,5 @@
--- What the code is asked about a security (`AskedAbout`), ask by ask: each is the ask of its name, and an evaluation alone
--- takes the rows. The file may use the definitions of `Desk`.
+-- What the code is asked about a security (`AskedAbout`), ask by ask: each is the ask of its name, and an evaluation
+-- alone takes the rows. The file may use the definitions of `Desk`.
 use mathlib.Core.Path.{_≡_, refl}
 use mathlib.Core.List.{List}
 use Prim.Native.Nat.{ℕ}
