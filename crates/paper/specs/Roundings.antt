@@ -1,7 +1,9 @@
 -- Document 01, "Places of rounding", and W-209, "The shared rounding rule now says which way it goes": one rule over
 -- the ways down, half up and up, of which every rounding to a unit or to a grid is an instance. A quotient n/d is kept
 -- as n and d until one of these places.
+use mathlib.Core.Path.{_≡_, refl}
 use mathlib.Core.Bool.{Bool}
+use mathlib.Core.List.{List, [], _∷_, map}
 use Prim.Native.Nat.{ℕ, suc, _+_, _-_, _*_, _/_, _≤_, _<_}
 use lib.Dec.{leb}
 use lib.IntN.{ℤ, pos, negsuc, negℤ}
@@ -90,6 +92,13 @@ mirrored Up n d = down n d
 abbrev pub roundedZ : Way → (n : ℤ) → (d : ℕ) → ℤ
 roundedZ way (pos n) d = pos (rounded way n d)
 roundedZ way (negsuc n) d = negℤ (pos (mirrored way (suc n) d))
+
+-- 7/2 below zero, and 3 below zero, rounded down, half up and up
+pub below-zero-are : (map (λ (way : Way). roundedZ way (negsuc 6) 2) (Down ∷ HalfUp ∷ Up ∷ [])
+    ≡ negsuc 3 ∷ negsuc 2 ∷ negsuc 2 ∷ [])
+    × (map (λ (way : Way). roundedZ way (negsuc 5) 2) (Down ∷ HalfUp ∷ Up ∷ []) ≡ negsuc 2 ∷ negsuc 2 ∷ negsuc 2 ∷ [])
+unfolding rounded up halfDown down
+below-zero-are = (refl, refl)
 
 -- W-201, "half up to a bp": to nearest, ties up, also below zero
 unfoldable pub halfUpZ : (x : ℤ) → (d : ℕ) → ℤ

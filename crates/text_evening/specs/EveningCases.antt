@@ -18,7 +18,7 @@ use Rattle.paper_interest.specs.InterestCases.{answered as interestAnswered}
 use Rattle.paper_bonds.specs.BondCases.{answered as bondAnswered}
 use Rattle.paper_reasons.specs.Faults.{isSame, faultsOf, faultOf}
 use Rattle.paper_reasons.specs.Why.{whyOf, whyOn}
-use Rattle.paper_messages.specs.Fields.{staticsMessageKind}
+use Rattle.paper_messages.specs.Fields.{staticsMessageKind, kindWord}
 use Rattle.paper_messages.specs.Messages.{encode}
 use Rattle.paper_messages.specs.Records.{message}
 use Rattle.text_bytes.specs.Bytes.{bytes}
@@ -127,3 +127,11 @@ pub each-told : (eachTold Answers ≡ inWords (bytes "1\n"))
     × (eachTold Messages ≡ [] ∷ [] ∷ [] ∷ [] ∷ [] ∷ [] ∷ [] ∷ [])
 unfolding eachTold inWords shown
 each-told = (refl, refl, refl)
+
+-- ---- a member's words
+
+-- the word of each kind of message (W-212), and of the kinds 0 and 5, which are unknown
+pub words-are : map kindWord (0 ∷ 1 ∷ 2 ∷ 3 ∷ 4 ∷ 5 ∷ [])
+    ≡ [] ∷ bytes "statics" ∷ bytes "rates" ∷ bytes "bands" ∷ bytes "move" ∷ [] ∷ []
+unfolding kindWord bytes
+words-are = refl
