@@ -1,17 +1,32 @@
 // What a line asks for goes to the desk. Where it is asked why of an evaluation, `desk_reasons` says it first, on the
 // table as it stands; then the call is performed. Nothing here looks into an answer or a reason.
+use desk::about;
+use desk::admit;
 use desk_reasons::why_asked;
 use paper::Answer;
 use paper::Record;
 use paper::Verdict;
 use paper_reasons::Why;
-use text_perform::perform;
 use text_protocol::Ask;
+use text_protocol::AskedCall;
 use text_protocol::Explained;
 use text_protocol::Performed;
 use text_protocol::Role;
 ghost use mathlib.Core.Path.{_≡_};
+ghost use Rattle.desk.specs.Promises.{Promised};
+ghost use Rattle.text_protocol.specs.Calls.{callAsked};
 ghost use Rattle.text_ask.specs.WithReasons.{explained, unexplained, unasked, Asks};
+
+// A call goes to the public call of the desk that it is. Every table is taken, and nothing is refused here: the desk's
+// call refuses.
+fn perform(t: &mut [Record], c: AskedCall, rows: &[i64]) -> Answer
+    ensures { λ r. ⌜ Promised (callAsked c (now (rows .entry))) (now (t .entry)) r (now (t .exit)) ⌝ }
+{
+    match c {
+        AskedCall::Admit(a) => return admit(t, a),
+        AskedCall::About(id, x) => return about(t, id, x, rows),
+    }
+}
 
 // An answer, and why it is that.
 fn with_why(answer: Answer, why: Why) -> Performed

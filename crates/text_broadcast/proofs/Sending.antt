@@ -21,10 +21,10 @@ use Rattle.paper_messages.proofs.MessageLaws.{encode-length}
 use Rattle.messages.specs.Promises.{Writes}
 use Rattle.text_bytes.specs.Bytes.{room}
 use Rattle.text_protocol.specs.Answers.{answerMost}
-use Rattle.text_protocol.specs.declared.AskedCall.{AskedCall}
-use Rattle.text_protocol.specs.Calls.{callAsked}
-use Rattle.paper_messages.specs.Broadcast.{messagesOf, messageMost, sent, allSent, broadcastOf}
+use Rattle.text_protocol.specs.declared.Role.{Role}
+use Rattle.paper_messages.specs.Broadcast.{messageMost, sent, allSent}
 use Rattle.text_out.specs.Wrote.{Wrote, then, wider, nothing}
+use Rattle.text_broadcast.specs.Sent.{messagesShown, broadcastShown}
 
 module _ (b : List ℕ) (len : ℕ) (m : Message) (w : WriterAnswer) (after : List ℕ) (fits : len + messageMost ≤ room)
     (long : length b ≡ room) (writes : Writes (drop len b) m w after) where
@@ -76,30 +76,30 @@ appended-to-part b len m w after fits long writes =
     rw (drop-of-length-le (drop len b) size, append-nil after)
     (appended b len m w after fits long (rw (take-all (length b - len) (drop len b) size) at writes))
 
--- ---- the messages of a call
+-- ---- the messages of a call of a role
 
-module _ (c : AskedCall) (a : Answer) (done : Bool) (is : done ≡ isDone (a .verdict)) where
+module _ (x : Role) (a : Answer) (done : Bool) (is : done ≡ isDone (a .verdict)) where
   -- a refused call sends nothing
   pub refusal-sends-nothing : (b : List ℕ) (n : ℕ) → not done ≡ true
-      → Wrote b n b n (broadcastOf (callAsked c []) a) answerMost
-  unfolding broadcastOf
+      → Wrote b n b n (broadcastShown x a) answerMost
+  unfolding broadcastShown
   refusal-sends-nothing b n refused = rw (← is, not-true done refused) (nothing b n answerMost)
 
   module _ (accepted : not done ≡ false) where
-    pub one-sent : {b b″ : List ℕ} {n e : ℕ} (m : Message) → messagesOf (callAsked c []) a ≡ m ∷ []
+    pub one-sent : {b b″ : List ℕ} {n e : ℕ} (m : Message) → messagesShown x a ≡ m ∷ []
         → Wrote b n b″ e (sent m) messageMost
-        → Wrote b n b″ e (broadcastOf (callAsked c []) a) answerMost
-    unfolding broadcastOf allSent
+        → Wrote b n b″ e (broadcastShown x a) answerMost
+    unfolding broadcastShown allSent
     one-sent m are p = rw (← is, not-false done accepted, are, append-nil (sent m)) (wider p (omega arith))
 
-    pub two-sent : {b b' b″ : List ℕ} {n n' e : ℕ} (m m' : Message) → messagesOf (callAsked c []) a ≡ m ∷ m' ∷ []
+    pub two-sent : {b b' b″ : List ℕ} {n n' e : ℕ} (m m' : Message) → messagesShown x a ≡ m ∷ m' ∷ []
         → Wrote b n b' n' (sent m) messageMost → Wrote b' n' b″ e (sent m') messageMost
-        → Wrote b n b″ e (broadcastOf (callAsked c []) a) answerMost
-    unfolding broadcastOf allSent
+        → Wrote b n b″ e (broadcastShown x a) answerMost
+    unfolding broadcastShown allSent
     two-sent m m' are p q =
         rw (← is, not-false done accepted, are, append-nil (sent m')) (wider (then p q) (omega arith))
 
-    pub none-sent : (b : List ℕ) (n : ℕ) → messagesOf (callAsked c []) a ≡ []
-        → Wrote b n b n (broadcastOf (callAsked c []) a) answerMost
-    unfolding broadcastOf allSent
+    pub none-sent : (b : List ℕ) (n : ℕ) → messagesShown x a ≡ []
+        → Wrote b n b n (broadcastShown x a) answerMost
+    unfolding broadcastShown allSent
     none-sent b n are = rw (← is, not-false done accepted, are) (nothing b n answerMost)

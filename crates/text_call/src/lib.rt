@@ -12,6 +12,7 @@ ghost use Rattle.text_protocol.specs.Names.{evaluateCount};
 use inputs::given_of;
 use inputs::number_at;
 use paper::Admission;
+use paper::AskedAbout;
 use paper::AskedDay;
 use paper::AskedTerm;
 use paper::Interest;
@@ -211,12 +212,12 @@ fn notice_of(id: u64, side: u64, x: f64) -> AskedCall
     ensures { λ r. ⌜ ((rows : List ℤ) → callAsked r rows ≡ noticeCall id side x) ⌝ }
 {
     if side == 0 {
-        return AskedCall::Notify(id, Notice::Bid(x));
+        return AskedCall::About(id, AskedAbout::Notify(Notice::Bid(x)));
     }
     if side == 1 {
-        return AskedCall::Notify(id, Notice::Ask(x));
+        return AskedCall::About(id, AskedAbout::Notify(Notice::Ask(x)));
     }
-    AskedCall::Move(id, side)
+    AskedCall::About(id, AskedAbout::Move(side))
 }
 
 // The call of the desk that a line of a kind is, with what it is given.
@@ -227,22 +228,26 @@ pub fn call_of(zs: &[i64], kind: u64, p: Pairs, k: Kept) -> AskedCall
         return AskedCall::Admit(admission_of(zs));
     }
     if kind == CallKind::EVALUATE {
-        return AskedCall::Evaluate(number_at(zs, EvaluatePlace::ID), asked_of(k, p, zs));
+        let id = number_at(zs, EvaluatePlace::ID);
+        return AskedCall::About(id, AskedAbout::Evaluate(asked_of(k, p, zs)));
     }
     if kind == CallKind::QUOTE {
-        return AskedCall::Quote(number_at(zs, QuotePlace::ID), quote_of(zs));
+        let id = number_at(zs, QuotePlace::ID);
+        return AskedCall::About(id, AskedAbout::Quote(quote_of(zs)));
     }
     if kind == CallKind::MOVE {
-        return AskedCall::Move(number_at(zs, MovePlace::ID), number_at(zs, MovePlace::SIDE));
+        let id = number_at(zs, MovePlace::ID);
+        return AskedCall::About(id, AskedAbout::Move(number_at(zs, MovePlace::SIDE)));
     }
     if kind == CallKind::READ {
-        return AskedCall::Read(number_at(zs, IdPlace::ID));
+        return AskedCall::About(number_at(zs, IdPlace::ID), AskedAbout::Read);
     }
     if kind == CallKind::OPEN {
-        return AskedCall::Open(number_at(zs, IdPlace::ID));
+        return AskedCall::About(number_at(zs, IdPlace::ID), AskedAbout::Open);
     }
     if kind == CallKind::OUTSIDE {
-        return AskedCall::Receive(number_at(zs, OutsidePlace::ID), outside_of(zs));
+        let id = number_at(zs, OutsidePlace::ID);
+        return AskedCall::About(id, AskedAbout::Receive(outside_of(zs)));
     }
     if kind == CallKind::NOTICE {
         let id = number_at(zs, NoticePlace::ID);
@@ -252,5 +257,6 @@ pub fn call_of(zs: &[i64], kind: u64, p: Pairs, k: Kept) -> AskedCall
             float_at(zs, NoticePlace::BITS),
         );
     }
-    AskedCall::Notify(number_at(zs, IdPlace::ID), Notice::Withdrawal)
+    let id = number_at(zs, IdPlace::ID);
+    AskedCall::About(id, AskedAbout::Notify(Notice::Withdrawal))
 }

@@ -6,20 +6,20 @@ use Prim.Native.Nat.{ℕ}
 use lib.IntN.{ℤ}
 use Rattle.paper_interest.specs.Interest.{interestAnswer}
 use Rattle.paper_bonds.specs.Bonds.{bondAnswer}
-use Rattle.text_protocol.specs.declared.AskedCall.{AskedCall}
 use Rattle.text_protocol.specs.declared.Ask.{Ask}
 use Rattle.text_protocol.specs.declared.Ask.the-variants as ask
 use Rattle.text_protocol.specs.declared.Explained.{Explained}
 use Rattle.text_protocol.specs.declared.Explained.the-variants.{No, Because}
 use Rattle.text_protocol.specs.declared.Kept.{Kept}
 use Rattle.text_protocol.specs.declared.Performed.{Performed}
+use Rattle.text_protocol.specs.declared.Role.{Role}
 use Rattle.text_evening.specs.declared.Telling.{Telling}
 use Rattle.text_evening.specs.declared.Telling.the-variants.{Answers, Reasons, Messages}
-use Rattle.text_protocol.specs.Calls.{Deed, nothing, noCall, call, interest, bond, callAsked, roleOf, deedAsked}
+use Rattle.text_protocol.specs.Calls.{Deed, nothing, noCall, call, interest, bond, roleOf, deedAsked}
 use Rattle.text_protocol.specs.Answers.{badText, interestText, bondText}
 use Rattle.text_protocol.specs.Roles.{shownText}
 use Rattle.text_protocol.specs.Reasons.{whyText}
-use Rattle.paper_messages.specs.Broadcast.{broadcastOf}
+use Rattle.text_broadcast.specs.Sent.{broadcastShown}
 use Rattle.text_evening.specs.Evening.{keptBy, worded}
 use Rattle.text_deed.specs.declared.Beside.{Beside}
 use Rattle.text_deed.specs.declared.LineDeed.{LineDeed}
@@ -54,24 +54,24 @@ inWords Answers = true
 inWords Reasons = true
 inWords Messages = false
 
--- why a call is answered as it is, or its answer where no reason is named. The row figures are no part of either
-unfoldable pub reasonFor : Explained → AskedCall → Performed → List ℕ
-reasonFor No c p = shownText (roleOf c) (p .answer)
-reasonFor (Because y) c p = whyText y
+-- why a call of a role is answered as it is, or its answer where no reason is named
+unfoldable pub reasonFor : Explained → Role → Performed → List ℕ
+reasonFor No x p = shownText x (p .answer)
+reasonFor (Because y) x p = whyText y
 
-abbrev pub reasonSaid : AskedCall → Performed → List ℕ
-reasonSaid c p = reasonFor (p .why) c p
+abbrev pub reasonSaid : Role → Performed → List ℕ
+reasonSaid x p = reasonFor (p .why) x p
 
--- what a call is told as, by what the desk said
-unfoldable pub callSaid : Telling → AskedCall → Performed → List ℕ
-callSaid Answers c p = shownText (roleOf c) (p .answer)
-callSaid Reasons c p = reasonSaid c p
-callSaid Messages c p = broadcastOf (callAsked c []) (p .answer)
+-- what a call of a role is told as, by what the desk said
+unfoldable pub callSaid : Telling → Role → Performed → List ℕ
+callSaid Answers x p = shownText x (p .answer)
+callSaid Reasons x p = reasonSaid x p
+callSaid Messages x p = broadcastShown x (p .answer)
 
 -- WHAT A LINE IS TOLD AS, by what the desk said and what was answered beside the table
 unfoldable pub lineText : Telling → Ask → (number : ℕ) → Beside → Performed → List ℕ
 lineText telling ask.Nothing n b p = []
 lineText telling ask.NoCall n b p = worded telling (badText n)
-lineText telling (ask.Call c) n b p = callSaid telling c p
+lineText telling (ask.Call c) n b p = callSaid telling (roleOf c) p
 lineText telling (ask.Interest i) n b p = worded telling (interestText (b .interest))
 lineText telling (ask.Bond x) n b p = worded telling (bondText (b .bond))

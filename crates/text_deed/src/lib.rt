@@ -26,7 +26,6 @@ use text_evening::Telling;
 use text_kept::kept_after;
 use text_line::Line;
 use text_protocol::Ask;
-use text_protocol::AskedCall;
 use text_protocol::BondPlace;
 use text_protocol::CallKind;
 use text_protocol::Explained;
@@ -34,6 +33,7 @@ use text_protocol::InterestPlace;
 use text_protocol::Kept;
 use text_protocol::Pairs;
 use text_protocol::Performed;
+use text_protocol::Role;
 use text_why::say_why;
 
 // What the calls beside the table answer to a line, the interest side's and a bond's: only the one that the line asks
@@ -156,35 +156,35 @@ fn in_words(telling: Telling) -> bool
     }
 }
 
-// Appends why a call is answered as it is, or its answer where no reason is named.
-fn say_reason(out: &mut [u8; ROOM], len: usize, c: AskedCall, p: Performed) -> usize
+// Appends why a call of a role is answered as it is, or its answer where no reason is named.
+fn say_reason(out: &mut [u8; ROOM], len: usize, role: Role, p: Performed) -> usize
     requires { ⌜ len + answerMost ≤ room ⌝ }
-    ensures { λ n. ⌜ Wrote (now (out .entry)) len (now (out .exit)) n (reasonSaid c p) answerMost ⌝ }
+    ensures { λ n. ⌜ Wrote (now (out .entry)) len (now (out .exit)) n (reasonSaid role p) answerMost ⌝ }
 {
     let why = p.why;
     match why {
         Explained::No => {
             let answer = p.answer;
-            say_answer(out, len, c.role(), answer)
+            say_answer(out, len, role, answer)
         }
         Explained::Because(reasons) => say_why(out, len, reasons),
     }
 }
 
-// Appends what a call of the desk is told as.
-fn say_call(out: &mut [u8; ROOM], len: usize, telling: Telling, c: AskedCall, p: Performed) -> usize
+// Appends what a call of a role is told as.
+fn say_call(out: &mut [u8; ROOM], len: usize, telling: Telling, role: Role, p: Performed) -> usize
     requires { ⌜ len + answerMost ≤ room ⌝ }
-    ensures { λ n. ⌜ Wrote (now (out .entry)) len (now (out .exit)) n (callSaid telling c p) answerMost ⌝ }
+    ensures { λ n. ⌜ Wrote (now (out .entry)) len (now (out .exit)) n (callSaid telling role p) answerMost ⌝ }
 {
     match telling {
         Telling::Answers => {
             let answer = p.answer;
-            say_answer(out, len, c.role(), answer)
+            say_answer(out, len, role, answer)
         }
-        Telling::Reasons => say_reason(out, len, c, p),
+        Telling::Reasons => say_reason(out, len, role, p),
         Telling::Messages => {
             let answer = p.answer;
-            say_messages(out, len, c, answer)
+            say_messages(out, len, role, answer)
         }
     }
 }
@@ -211,7 +211,7 @@ pub fn say(
             }
             len
         }
-        Ask::Call(c) => say_call(out, len, telling, c, p),
+        Ask::Call(c) => say_call(out, len, telling, c.role(), p),
         Ask::Interest(_) => {
             if words {
                 let interest = b.interest;

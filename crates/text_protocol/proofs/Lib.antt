@@ -1,4 +1,4 @@
 -- The laws of text_protocol, a file each; other crates may cite them.
-pub mod Asked
+pub mod Variants
 pub mod Filling
 pub mod Reading

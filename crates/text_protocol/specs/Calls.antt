@@ -11,6 +11,8 @@ use Rattle.paper.specs.declared.Admission.{Admission}
 use Rattle.paper.specs.declared.Quote.{Quote}
 use Rattle.paper.specs.declared.Outside.{Outside}
 use Rattle.paper.specs.declared.Notice.the-variants as sent
+use Rattle.paper.specs.declared.AskedAbout.{AskedAbout}
+use Rattle.paper.specs.declared.AskedAbout.the-variants as about
 use Rattle.paper.specs.declared.Interest.{Interest}
 use Rattle.paper.specs.declared.RepoBand.{RepoBand}
 use Rattle.paper.specs.declared.RepoBand.the-variants as band
@@ -19,9 +21,9 @@ use Rattle.paper.specs.declared.AskedDay.{AskedDay}
 use Rattle.paper_bonds.specs.declared.BondStatics.{BondStatics}
 use Rattle.paper_bonds.specs.declared.Bond.{Bond}
 use Rattle.paper.specs.Lists.{pick}
-use Rattle.paper.specs.Ranges.{unsigned, givenOf}
+use Rattle.paper.specs.Ranges.{unsigned, givenOf, sideOf}
 use Rattle.paper.specs.Terms.{dayOf}
-use Rattle.paper_desk.specs.Desk.{Call, admit, evaluate, quote, move, read, openEvening, receive}
+use Rattle.paper_desk.specs.Desk.{askOf, Call, admit, about as asks, evaluate, quote, move, read, openEvening, receive}
 use Rattle.paper_desk.specs.External.{together, notice}
 use Rattle.text_protocol.specs.declared.AskedCall.{AskedCall}
 use Rattle.text_protocol.specs.declared.AskedCall.the-variants as asked
@@ -227,24 +229,22 @@ deedOf k (saysCall kind zs p) = callOf k kind zs p
 -- the call of document 01 that is asked for, with the row figures
 unfoldable pub callAsked : AskedCall → (rows : List ℤ) → Call
 callAsked (asked.Admit a) rows = admit a
-callAsked (asked.Evaluate id d) rows = evaluate id (dayOf d) rows
-callAsked (asked.Quote id q) rows = quote id q
-callAsked (asked.Move id side) rows = move id side
-callAsked (asked.Read id) rows = read id
-callAsked (asked.Open id) rows = openEvening id
-callAsked (asked.Receive id x) rows = receive id (together x)
-callAsked (asked.Notify id x) rows = receive id (notice x)
+callAsked (asked.About id x) rows = asks id (askOf x rows)
 
--- what the call is to the text
+-- what a call about a security is to the text
+unfoldable pub roleAbout : (id : ℕ) → AskedAbout → Role
+roleAbout id (about.Evaluate d) = role.Evaluation id d
+roleAbout id (about.Quote q) = role.Quote
+roleAbout id (about.Move side) = role.Move (sideOf side)
+roleAbout id about.Read = role.Other
+roleAbout id about.Open = role.Other
+roleAbout id (about.Receive x) = role.Other
+roleAbout id (about.Notify x) = role.Other
+
+-- what a call is to the text
 unfoldable pub roleOf : AskedCall → Role
 roleOf (asked.Admit a) = role.Admission a
-roleOf (asked.Evaluate id d) = role.Evaluation id d
-roleOf (asked.Quote id q) = role.Quote
-roleOf (asked.Move id side) = role.Move side
-roleOf (asked.Read id) = role.Other
-roleOf (asked.Open id) = role.Other
-roleOf (asked.Receive id x) = role.Other
-roleOf (asked.Notify id x) = role.Other
+roleOf (asked.About id x) = roleAbout id x
 
 -- THE DEED that is asked for by a line of these numbers: the figures stand behind the numbers that have names
 unfoldable pub deedAsked : Ask → (numbers : List ℤ) → Deed

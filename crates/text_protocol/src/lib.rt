@@ -3,14 +3,14 @@
 // equal to them. What bytes, words and numbers are stands below, in text_bytes.
 ghost use mathlib.Core.Path.{_≡_};
 ghost use Rattle.text_protocol.specs.Calls.{roleOf};
+use inputs::side_of;
 use paper::Admission;
 use paper::Answer;
+use paper::AskedAbout;
 use paper::AskedDay;
 use paper::Interest;
-use paper::Notice;
-use paper::Outside;
-use paper::Quote;
 use paper::Row;
+use paper::Side;
 use paper::Statics;
 use paper::WorkedBand;
 use paper_bonds::Bond;
@@ -349,16 +349,11 @@ pub struct Pairs {
     pub third: bool,
 }
 
-// A call of the desk, with what it is given. The row figures of an evaluation are lent beside it.
+// A call of the desk: it admits a security, or asks something about the one with an id. The row figures of an evaluation
+// are lent beside it.
 pub enum AskedCall {
     Admit(Admission),
-    Evaluate(u64, AskedDay),
-    Quote(u64, Quote),
-    Move(u64, u64),
-    Read(u64),
-    Open(u64),
-    Receive(u64, Outside),
-    Notify(u64, Notice),
+    About(u64, AskedAbout),
 }
 
 // What an accepted call is to the text. All but four calls are alike to it, and a call more is `Other` where it is too:
@@ -372,7 +367,7 @@ pub enum Role {
     Admission(Admission),
     Evaluation(u64, AskedDay),
     Quote,
-    Move(u64),
+    Move(Side),
     Other,
 }
 
@@ -383,13 +378,12 @@ impl AskedCall {
     {
         match self {
             AskedCall::Admit(a) => Role::Admission(a),
-            AskedCall::Evaluate(id, d) => Role::Evaluation(id, d),
-            AskedCall::Quote(_, _) => Role::Quote,
-            AskedCall::Move(_, side) => Role::Move(side),
-            AskedCall::Read(_) => Role::Other,
-            AskedCall::Open(_) => Role::Other,
-            AskedCall::Receive(_, _) => Role::Other,
-            AskedCall::Notify(_, _) => Role::Other,
+            AskedCall::About(id, x) => match x {
+                AskedAbout::Evaluate(d) => Role::Evaluation(id, d),
+                AskedAbout::Quote(_) => Role::Quote,
+                AskedAbout::Move(side) => Role::Move(side_of(side)),
+                _ => Role::Other,
+            },
         }
     }
 }

@@ -79,8 +79,8 @@ state-ty = tyStruct (G.struct .name) (tcons I′.mir (tcons (tyInt w64) (tcons K
     (tcons E′.mir tnil))))))
 
 abbrev pub heard-ty : Ty
-heard-ty = tyStruct (P.struct .name) (tcons I′.mir (tcons (tyInt w64) (tcons K′.mir (tcons (tyInt w64) (tcons V′.mir
-    (tcons (tyInt w64) (tcons A′.mir (tcons B′.mir (tcons E′.mir (tcons tyBool tnil))))))))))
+heard-ty = tyStruct (P.struct .name) (tcons G′.mir (tcons (tyInt w64) (tcons A′.mir (tcons B′.mir (tcons tyBool
+    tnil)))))
 
 abbrev pub state-val : State → Val
 state-val = LL.val G.the-type G′.the-laws

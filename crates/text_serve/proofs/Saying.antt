@@ -1,60 +1,94 @@
 -- What a line is told as, by what the desk said to it, is what the evening tells it as.
 use mathlib.Core.Path.{_≡_, refl, ap, _∙_}
-use mathlib.Core.List.{List, []}
+use mathlib.Core.List.{List, [], _∷_, _++_}
+use mathlib.Core.Option.{Option, none, some}
 use Prim.Native.Nat.{ℕ}
 use lib.IntN.{ℤ}
+use Rattle.paper.specs.declared.Admission.{Admission}
 use Rattle.paper.specs.declared.Answer.{Answer}
+use Rattle.paper.specs.declared.Day.{Day}
 use Rattle.paper.specs.declared.Record.{Record}
-use Rattle.paper.specs.Terms.{dayOf}
-use Rattle.paper_desk.specs.Desk.{step}
+use Rattle.paper.specs.Ranges.{staticsOf}
+use Rattle.paper_desk.specs.Desk.{Ask as DeskAsk, askOf, about, ruleOf, step}
 use Rattle.paper_reasons.specs.Why.{whyOn}
 use Rattle.text_protocol.specs.declared.AskedCall.{AskedCall}
-use Rattle.text_protocol.specs.declared.AskedCall.the-variants.{Admit, Evaluate, Quote, Move, Read, Open, Receive}
-use Rattle.text_protocol.specs.declared.AskedCall.the-variants.{Notify}
+use Rattle.text_protocol.specs.declared.AskedCall.the-variants.{Admit, About}
 use Rattle.text_protocol.specs.declared.Role.{Role}
 use Rattle.text_protocol.specs.declared.Role.the-variants as role
 use Rattle.text_protocol.specs.declared.Ask.{Ask}
 use Rattle.text_protocol.specs.declared.Ask.the-variants as ask
 use Rattle.text_protocol.specs.declared.Performed.{Performed}
-use Rattle.text_protocol.specs.Answers.{figuresAnswered, callText}
-use Rattle.text_protocol.specs.Calls.{figuresBehind, callAsked, roleOf, deedAsked}
+use Rattle.text_protocol.specs.Answers.{callText}
+use Rattle.text_protocol.specs.Calls.{figuresBehind, callAsked, roleAbout, roleOf, deedAsked}
 use Rattle.text_protocol.specs.Names.{evaluateNames}
 use Rattle.text_protocol.specs.Reasons.{whyText}
-use Rattle.text_protocol.specs.Roles.{figuresShown, shownText}
-use Rattle.text_protocol.proofs.Asked.{shown-by-role}
+use Rattle.text_protocol.specs.Roles.{shownText, admittedAs, evaluatedAs, movedAs}
+use Rattle.text_protocol.proofs.Variants.{of-id, role-by-rule, shown-by-role}
 use Rattle.text_evening.specs.declared.Telling.{Telling}
 use Rattle.text_evening.specs.declared.Telling.the-variants.{Answers, Reasons, Messages}
-use Rattle.paper_messages.specs.Broadcast.{messagesOf, broadcastOf}
-use Rattle.text_evening.specs.Evening.{answerTo, reasonTo, callTold, textOf}
+use Rattle.paper_messages.specs.declared.Message.{Message}
+use Rattle.paper_messages.specs.Records.{staticsMessage, ratesMessage, bandsMessage}
+use Rattle.paper_messages.specs.Broadcast.{ofEvaluation, ofMove, messagesOf, broadcastOf}
+use Rattle.text_evening.specs.Evening.{answerTo, reasonOn, reasonTo, callTold, textOf}
+use Rattle.text_broadcast.specs.Sent.{messagesShown, broadcastShown}
 use Rattle.text_deed.specs.declared.Beside.{Beside}
 use Rattle.text_deed.specs.Deeds.{BesideIs, asksWhy, reasonFor, callSaid, lineText}
 use Rattle.text_ask.specs.WithReasons.{explanation, Performs, Asks}
 
--- ---- each call is told by its role
+-- ---- each call is told by its role, since its role goes by its rule
 
--- what a call of a role is told as with reasons
-unfoldable reasonShown : Role → (rows : List ℤ) → Answer → List Record → List ℕ
-reasonShown (role.Admission g) rows a t = shownText (role.Admission g) a
-reasonShown (role.Evaluation id d) rows a t = whyText (whyOn t id (dayOf d) rows)
-reasonShown role.Quote rows a t = shownText role.Quote a
-reasonShown (role.Move side) rows a t = shownText (role.Move side) a
-reasonShown role.Other rows a t = shownText role.Other a
+module _ (rows : List ℤ) (a : Answer) where
+  -- what is sent of a role: the statics, the rates and bands, the move
+  abbrev ofAdmission : Option Admission → List Message
+  ofAdmission none = []
+  ofAdmission (some g) = staticsMessage (g .id) (staticsOf (g .given)) ∷ []
 
--- A CALL IS TOLD BY ITS ROLE, its reason too; and the row figures are no part of its messages
-record ByRole (c : AskedCall) (rows : List ℤ) (a : Answer) (t : List Record) : Type 0 where
-  sent : broadcastOf (callAsked c []) a ≡ broadcastOf (callAsked c rows) a
-  reason : reasonShown (roleOf c) rows (step (callAsked c rows) t .answer) t ≡ reasonTo (callAsked c rows) t
+  abbrev ofEvaluated : Option (ℕ × (Day × List ℤ)) → List Message
+  ofEvaluated none = []
+  ofEvaluated (some evaluated) = ratesMessage (a .rec) ∷ bandsMessage (a .rec) ∷ []
 
-by-role : (c : AskedCall) (rows : List ℤ) (a : Answer) (t : List Record) → ByRole c rows a t
-unfolding callAsked roleOf shownText figuresShown callText figuresAnswered broadcastOf messagesOf reasonShown reasonTo
-by-role (Admit g) rows a t = record { sent = refl; reason = refl }
-by-role (Evaluate id d) rows a t = record { sent = refl; reason = refl }
-by-role (Quote id q) rows a t = record { sent = refl; reason = refl }
-by-role (Move id side) rows a t = record { sent = refl; reason = refl }
-by-role (Read id) rows a t = record { sent = refl; reason = refl }
-by-role (Open id) rows a t = record { sent = refl; reason = refl }
-by-role (Receive id x) rows a t = record { sent = refl; reason = refl }
-by-role (Notify id x) rows a t = record { sent = refl; reason = refl }
+  sent-as : (x : Role)
+      → messagesShown x a ≡ ofAdmission (admittedAs x) ++ (ofEvaluated (evaluatedAs x rows) ++ ofMove (movedAs x) a)
+  unfolding messagesShown admittedAs evaluatedAs movedAs
+  sent-as (role.Admission g) = refl
+  sent-as (role.Evaluation id d) = refl
+  sent-as role.Quote = refl
+  sent-as (role.Move side) = refl
+  sent-as role.Other = refl
+
+  of-id-sends : (id : ℕ) (e : Option (Day × List ℤ)) → ofEvaluated (of-id id e) ≡ ofEvaluation e a
+  of-id-sends id none = refl
+  of-id-sends id (some dayAndRows) = refl
+
+  messages-by-role : (c : AskedCall) → messagesShown (roleOf c) a ≡ messagesOf (callAsked c rows) a
+  unfolding callAsked roleOf messagesShown messagesOf
+  messages-by-role (Admit g) = refl
+  messages-by-role (About id x) =
+      let by = role-by-rule id x rows in
+      sent-as (roleAbout id x)
+      ∙ rw (by .admits, by .evaluates, by .moves, of-id-sends id (ruleOf (askOf x rows) .evaluates))
+
+  sent-by-role : (c : AskedCall) → broadcastShown (roleOf c) a ≡ broadcastOf (callAsked c rows) a
+  unfolding broadcastShown broadcastOf
+  sent-by-role c = rw (messages-by-role c)
+
+-- what a call of a role is told as with reasons: only an evaluation has them
+unfoldable reasonShown : Option (ℕ × (Day × List ℤ)) → (answer : List ℕ) → List Record → List ℕ
+reasonShown none answer t = answer
+reasonShown (some (id, (d, rows))) answer t = whyText (whyOn t id d rows)
+
+of-id-reasons : (id : ℕ) (x : DeskAsk) (e : Option (Day × List ℤ)) (t : List Record)
+    → reasonShown (of-id id e) (answerTo (about id x) t) t ≡ reasonOn id x e t
+unfolding reasonShown
+of-id-reasons id x none t = refl
+of-id-reasons id x (some (d, rows)) t = refl
+
+reasons-by-role : (c : AskedCall) (rows : List ℤ) (t : List Record)
+    → reasonShown (evaluatedAs (roleOf c) rows) (answerTo (callAsked c rows) t) t ≡ reasonTo (callAsked c rows) t
+unfolding callAsked roleOf evaluatedAs reasonTo reasonShown
+reasons-by-role (Admit g) rows t = refl
+reasons-by-role (About id x) rows t =
+    rw (role-by-rule id x rows .evaluates) (of-id-reasons id (askOf x rows) (ruleOf (askOf x rows) .evaluates) t)
 
 -- ---- a call
 
@@ -64,28 +98,29 @@ module _ (rows : List ℤ) (p : Performed) (t t' : List Record) where
   answered c e = shown-by-role c rows (p .answer) ∙ ap (callText (callAsked c rows)) e
 
   -- one in the role of an evaluation is told why, and every other as without reasons
-  reason-of : (c : AskedCall) (x : Role) → roleOf c ≡ x → p .why ≡ explanation x rows t
-      → reasonFor (p .why) c p ≡ reasonShown x rows (p .answer) t
-  unfolding reasonFor explanation reasonShown
-  reason-of c (role.Admission g) e y = rw (y, e)
-  reason-of c (role.Evaluation id d) e y = rw y
-  reason-of c role.Quote e y = rw (y, e)
-  reason-of c (role.Move side) e y = rw (y, e)
-  reason-of c role.Other e y = rw (y, e)
+  reason-of : (x : Role) → p .why ≡ explanation x rows t
+      → reasonFor (p .why) x p ≡ reasonShown (evaluatedAs x rows) (shownText x (p .answer)) t
+  unfolding reasonFor explanation reasonShown evaluatedAs
+  reason-of (role.Admission g) y = rw y
+  reason-of (role.Evaluation id d) y = rw y
+  reason-of role.Quote y = rw y
+  reason-of (role.Move side) y = rw y
+  reason-of role.Other y = rw y
 
   reasoned : (c : AskedCall) → p .answer ≡ step (callAsked c rows) t .answer → p .why ≡ explanation (roleOf c) rows t
-      → reasonFor (p .why) c p ≡ reasonTo (callAsked c rows) t
+      → reasonFor (p .why) (roleOf c) p ≡ reasonTo (callAsked c rows) t
   reasoned c e y =
-      reason-of c (roleOf c) refl y ∙ ap (λ (a : Answer). reasonShown (roleOf c) rows a t) e
-      ∙ by-role c rows (p .answer) t .reason
+      reason-of (roleOf c) y
+      ∙ ap (λ (text : List ℕ). reasonShown (evaluatedAs (roleOf c) rows) text t) (answered c e)
+      ∙ reasons-by-role c rows t
 
   call-told-as : (telling : Telling) (c : AskedCall) → Performs (asksWhy telling) c rows t p t'
-      → callSaid telling c p ≡ callTold telling (callAsked c rows) t
+      → callSaid telling (roleOf c) p ≡ callTold telling (callAsked c rows) t
   unfolding asksWhy callSaid callTold
   call-told-as Answers c h = answered c (h .promised .answer)
   call-told-as Reasons c h = reasoned c (h .promised .answer) (h .why refl)
   call-told-as Messages c h =
-      by-role c rows (p .answer) t .sent ∙ ap (broadcastOf (callAsked c rows)) (h .promised .answer)
+      sent-by-role rows (p .answer) c ∙ ap (broadcastOf (callAsked c rows)) (h .promised .answer)
 
 -- ---- a line
 

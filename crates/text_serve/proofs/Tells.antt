@@ -50,7 +50,7 @@ module _ {M : Type 1} (𝓤 : URA M) (H : Heap 𝓤) (A : Atoms 𝓤) (mem′ : 
 
   module _ (W : Given 𝓤 H A) (κ : Lft) (q : Share) (b o : ℕ) (γ : GName) (os : List ℕ) (p : Prepared) (held : IsHeard p)
       (a : Performed) (v : Val)
-      (ia : Is F.the-row a (v ∷ [])) (space : p .waiting + answerMost ≤ bufferRoom) where
+      (ia : Is F.the-row a (v ∷ [])) (space : p .state .waiting + answerMost ≤ bufferRoom) where
     abbrev to-tell : Bound 𝓤 H A tell.signature
     to-tell = (
       (κ, tt),

@@ -65,7 +65,8 @@ module _ (t t' : List Record) {b : List ℕ} {s : State} {b' : List ℕ} {p : Pr
       table-of (p .asked) (p .ask) zs a t t' performed ∙ ap (λ (d : Deed). tableAfter d t) (heard .asks) in
       λ i. record { number = number i; kept = kept i; table = table i }
 
-  text-is : lineText (p .telling) (p .ask) (p .number) (p .beside) a ≡ answer (s .telling) (heard .line) (eveningOf s t)
+  text-is : lineText (p .state .telling) (p .ask) (p .state .number) (p .beside) a
+      ≡ answer (s .telling) (heard .line) (eveningOf s t)
   unfolding answer
   text-is =
       rw (heard .telling, heard .number, ← heard .asks)
@@ -76,19 +77,19 @@ module _ (t t' : List Record) {b : List ℕ} {s : State} {b' : List ℕ} {p : Pr
   wrote =
       subst (λ (n : ℕ). Wrote o n o' (told .end) (answer (s .telling) (heard .line) (eveningOf s t)) answerMost)
       (heard .waiting)
-      (subst (λ (u : List ℕ). Wrote o (p .waiting) o' (told .end) u answerMost) text-is (told .wrote))
+      (subst (λ (u : List ℕ). Wrote o (p .state .waiting) o' (told .end) u answerMost) text-is (told .wrote))
 
   -- A LINE THAT IS HEARD, PERFORMED AND ANSWERED IS ONE TURN
   pub turned : Turns b s t o b' r t' o'
   turned =
       record {
         line = heard .line;
-        behind = p .input;
+        behind = p .state .input;
         next = heard .next;
         evening = evening-is;
         end = told .end;
         wrote = wrote;
-        goes = subst (λ (w : Written). Goes (p .input) w (told .end) r) (heard .told) (told .goes);
+        goes = subst (λ (w : Written). Goes (p .state .input) w (told .end) r) (heard .told) (told .goes);
         telling = told .telling ∙ heard .telling;
         room = told .room;
         prompt = told .prompt;

@@ -28,15 +28,18 @@ pub prepared : (b : List ℕ) (s : State) (b' : List ℕ) (h : Heard) (xs : List
     → asked ≡ asksWhy (s .telling)
     → Prepares b s b'
     (record {
-      input = h .input;
-      number = s .number;
-      kept = w .kept;
-      waiting = s .waiting;
-      told = s .told;
+      state =
+          record {
+            input = h .input;
+            number = s .number;
+            kept = w .kept;
+            waiting = s .waiting;
+            told = s .told;
+            telling = s .telling;
+          };
       count = h .line .count;
       ask = w .ask;
       beside = w .beside;
-      telling = s .telling;
       asked = asked;
     }) xs
 prepared b s b' h xs w asked p q e =

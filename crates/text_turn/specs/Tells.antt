@@ -30,11 +30,12 @@ pub data Goes (i : Input) (told : Written) (end : ℕ) (r : State) : Type 0 wher
 -- next line has to be waited for, and where no line is left to hear
 pub record Tells (b : List ℕ) (p : Prepared) (a : Performed) (b' : List ℕ) (r : State) : Type 0 where
   pub end : ℕ
-  pub wrote : Wrote b (p .waiting) b' end (lineText (p .telling) (p .ask) (p .number) (p .beside) a) answerMost
-  pub goes : Goes (p .input) (p .told) end r
+  pub wrote : Wrote b (p .state .waiting) b' end
+      (lineText (p .state .telling) (p .ask) (p .state .number) (p .beside) a) answerMost
+  pub goes : Goes (p .state .input) (p .state .told) end r
   pub room : r .waiting + answerMost ≤ room
   pub prompt : r .input .len ≤ r .input .end → r .waiting ≡ 0
   pub last : r .input .left ≡ 0 → r .waiting ≡ 0
-  pub kept : r .kept ≡ p .kept
-  pub telling : r .telling ≡ p .telling
-  pub number : r .number ≡ numberAfter (p .number)
+  pub kept : r .kept ≡ p .state .kept
+  pub telling : r .telling ≡ p .state .telling
+  pub number : r .number ≡ numberAfter (p .state .number)

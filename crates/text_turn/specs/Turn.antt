@@ -18,15 +18,15 @@ use Rattle.text_turn.specs.declared.Prepared.{Prepared}
 -- BEFORE THE TABLE IS ASKED: the next line is heard, and what it asks for is known
 pub record Prepares (b : List ℕ) (s : State) (b' : List ℕ) (r : Prepared) (xs : List ℤ) : Type 0 where
   pub line : List ℕ
-  pub next : Next b (s .input) b' (r .input) line
+  pub next : Next b (s .input) b' (r .state .input) line
   pub asks : deedAsked (r .ask) (take (r .count) xs) ≡ deedOf (s .kept) (meaning line)
-  pub kept : r .kept ≡ keptBy (deedOf (s .kept) (meaning line)) (s .kept)
+  pub kept : r .state .kept ≡ keptBy (deedOf (s .kept) (meaning line)) (s .kept)
   pub beside : BesideIs (deedOf (s .kept) (meaning line)) (r .beside)
   pub asked : r .asked ≡ asksWhy (s .telling)
-  pub telling : r .telling ≡ s .telling
-  pub number : r .number ≡ s .number
-  pub waiting : r .waiting ≡ s .waiting
-  pub told : r .told ≡ s .told
+  pub telling : r .state .telling ≡ s .telling
+  pub number : r .state .number ≡ s .number
+  pub waiting : r .state .waiting ≡ s .waiting
+  pub told : r .state .told ≡ s .told
 
 -- at the start nothing is read, nothing is kept and nothing waits, and the first line is the next; `telling` is how
 -- lines are told, from the start to the end

@@ -61,17 +61,18 @@ fn is_due(i: Input, n: usize) -> bool
 
 // Tells the answer to a line: it is appended to those that wait, and they are written where they are due.
 pub fn tell(out: &mut [u8; ROOM], p: Prepared, a: Performed) -> State
-    requires { ⌜ p .waiting + answerMost ≤ room ⌝ }
+    requires { ⌜ p .state .waiting + answerMost ≤ room ⌝ }
     ensures { λ r. ⌜ Tells (now (out .entry)) p a (now (out .exit)) r ⌝ }
 {
-    let i = p.input;
-    let kept = p.kept;
+    let s = p.state;
+    let i = s.input;
+    let kept = s.kept;
     let beside = p.beside;
-    let telling = p.telling;
+    let telling = s.telling;
     let ask = p.ask;
-    let told = p.told;
-    let n = say(out, p.waiting, telling, ask, p.number, beside, a);
-    let number = number_after(p.number);
+    let told = s.told;
+    let n = say(out, s.waiting, telling, ask, s.number, beside, a);
+    let number = number_after(s.number);
     if is_due(i, n) {
         let told = hand(out, n, told);
         let all = told.took_all();

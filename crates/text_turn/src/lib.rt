@@ -33,18 +33,13 @@ pub struct State {
     pub telling: Telling,
 }
 
-// A line that was heard: how many numbers it has, what it asks for, what is answered to it beside the table, how it is
-// told, and whether why is asked.
+// A line that was heard: the state behind it, but for the number of the line, which goes on once it is told; how many
+// numbers the line has, what it asks for, what is answered to it beside the table, and whether why is asked.
 pub struct Prepared {
-    pub input: Input,
-    pub number: u64,
-    pub kept: Kept,
-    pub waiting: usize,
-    pub told: Written,
+    pub state: State,
     pub count: usize,
     pub ask: Ask,
     pub beside: Beside,
-    pub telling: Telling,
     pub asked: bool,
 }
 
@@ -67,15 +62,17 @@ pub fn prepare(buf: &mut [u8], xs: &mut [i64], s: State) -> Prepared
     let ask = deed.ask;
     let beside = deed.beside;
     Prepared {
-        input,
-        number: s.number,
-        kept,
-        waiting: s.waiting,
-        told,
+        state: State {
+            input,
+            number: s.number,
+            kept,
+            waiting: s.waiting,
+            told,
+            telling,
+        },
         count,
         ask,
         beside,
-        telling,
         asked: asks_why(telling),
     }
 }

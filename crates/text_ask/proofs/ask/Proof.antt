@@ -59,6 +59,7 @@ use Rattle.paper.proofs.Answer.Laws as N′
 use Rattle.paper.proofs.AskedDay as D
 use Rattle.paper.proofs.AskedDay.Laws as D′
 use Rattle.paper.proofs.Interest.Laws as I′
+use Rattle.paper.proofs.Side.Laws as S′
 use Rattle.paper_bonds.proofs.Bond.Laws as K′
 use Rattle.paper_reasons.specs.declared.Why.{Why}
 use Rattle.paper_reasons.specs.Why.{whyOn}
@@ -93,13 +94,12 @@ use Rattle.desk.proofs.Asks.{Callee, calls, consults, says as learned}
 use Rattle.desk_reasons.proofs.why_asked as why
 use Rattle.desk_reasons.proofs.why_asked.Symbol as why-def
 use Rattle.desk_reasons.proofs.why_asked.Met as why-thm
-use Rattle.text_perform.proofs.CallType.{call-ty}
-use Rattle.text_perform.proofs.Hands.{handing, hands, tokens-back}
-use Rattle.text_perform.proofs.perform as perform
-use Rattle.text_perform.proofs.perform.Symbol as perform-def
-use Rattle.text_perform.proofs.perform.Met as perform-thm
-use Rattle.text_ask.proofs.Typed.{typed-performed}
+use Rattle.text_ask.proofs.Hands.{handing, hands, tokens-back}
+use Rattle.text_ask.proofs.Typed.{call-ty, typed-performed}
 use Rattle.text_ask.specs.WithReasons.{explained, unexplained, unasked, explanation, Asks}
+use Rattle.text_ask.proofs.perform as perform
+use Rattle.text_ask.proofs.perform.Symbol as perform-def
+use Rattle.text_ask.proofs.perform.Met as perform-thm
 use Rattle.text_ask.proofs.unasked as un-asked
 use Rattle.text_ask.proofs.unasked.Symbol as unasked-def
 use Rattle.text_ask.proofs.unasked.Met as unasked-thm
@@ -237,7 +237,7 @@ abbrev role-ty : Ty
 role-ty =
     tyEnum (P.the-type .name)
     (ttcons (tcons X′.mir tnil) (ttcons (tcons (tyInt w64) (tcons D′.mir tnil)) (ttcons tnil
-    (ttcons (tcons (tyInt w64) tnil) (ttcons tnil ttnil)))))
+    (ttcons (tcons S′.mir tnil) (ttcons tnil ttnil)))))
 
 abbrev function : Fn
 function = record {
@@ -749,7 +749,7 @@ ask-spec 𝓤 H 𝓜 𝓖 𝓡 =
     (cited 𝓤 H (Says 𝓤 H (𝓖 .A) (𝓜 .mem) (𝓡 .run)) 𝓜 𝓡 code.env why-def.name why-def.routine
     code.calls-desk-reasons·why-asked (why-thm.met 𝓤 H 𝓜 𝓖 𝓡))
     (cited 𝓤 H (Performs 𝓤 H (𝓖 .A) (𝓜 .mem) (𝓡 .run)) 𝓜 𝓡 code.env perform-def.name perform-def.routine
-    code.calls-text-perform·perform (perform-thm.met 𝓤 H 𝓜 𝓖 𝓡))
+    code.calls-text-ask·perform (perform-thm.met 𝓤 H 𝓜 𝓖 𝓡))
     (cited 𝓤 H (Roles 𝓤 H (𝓖 .A) (𝓜 .mem) (𝓡 .run)) 𝓜 𝓡 code.env role-def.name role-def.routine
     code.calls-text-protocol·AskedCall·role (role-thm.met 𝓤 H 𝓜 𝓖 𝓡))
     (cited 𝓤 H (With 𝓤 H (𝓖 .A) (𝓜 .mem) (𝓡 .run)) 𝓜 𝓡 code.env with-def.name with-def.routine

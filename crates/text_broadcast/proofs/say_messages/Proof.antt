@@ -1,13 +1,11 @@
--- `text_broadcast::say_messages` meets its contract: the messages of the call, arm by arm.
-use Rattle.text_protocol.specs.Calls.{callAsked}
-use Rattle.paper_messages.specs.Broadcast.{messagesOf}
+-- `text_broadcast::say_messages` meets its contract: the messages of a call, role by role.
+use Rattle.text_broadcast.specs.Sent.{messagesShown}
 use Rattle.text_broadcast.proofs.Sending.{refusal-sends-nothing, one-sent, two-sent, none-sent}
 use borrow.Author.Needs.{needs}
 use Rattle.text_broadcast.proofs.say_messages.Statement.{statement}
 use Rattle.text_broadcast.proofs.say_messages.Tie as tie
 use Rattle.text_broadcast.proofs.say_messages.Reads as reads
 use Rattle.text_broadcast.proofs.say_messages.Lts as lts
-use Rattle.inputs.proofs.side_of.Reads as side-of-reads
 use Rattle.inputs.proofs.statics_of.Reads as statics-of-reads
 use Rattle.message_records.proofs.bands_message.Reads as bands-message-reads
 use Rattle.message_records.proofs.move_message.Reads as move-message-reads
@@ -23,10 +21,10 @@ returns : tie.Need-returns
 returns c =
     let at-done = c .before in
     let at-start = at-done .before .before in
-    refusal-sends-nothing (at-start .args .c) (at-start .args .answer) _ (at-done .is-done .ensures) _ _ (c .if1 .taken)
+    refusal-sends-nothing (at-start .args .role) (at-start .args .answer) _ (at-done .is-done .ensures) _ _ (c .if1 .taken)
 
-enum-known-c : tie.Need-enum-known-c
-enum-known-c c = search needs
+enum-known-role : tie.Need-enum-known-role
+enum-known-role c = search needs
 
 statics-of-requires : tie.Need-statics-of-requires
 statics-of-requires c κs = search needs
@@ -55,11 +53,8 @@ send-requires-3 c κs = search needs
 enum-told-2 : tie.Need-enum-told-2
 enum-told-2 c = search needs
 
-enum-known-c-2 : tie.Need-enum-known-c-2
-enum-known-c-2 c = search needs
-
-side-of-requires : tie.Need-side-of-requires
-side-of-requires c κs = search needs
+enum-known-role-2 : tie.Need-enum-known-role-2
+enum-known-role-2 c = search needs
 
 move-message-requires : tie.Need-move-message-requires
 move-message-requires c κs = search needs
@@ -70,17 +65,8 @@ send-requires-4 c κs = search needs
 enum-told-3 : tie.Need-enum-told-3
 enum-told-3 c = search needs
 
-enum-told-4 : tie.Need-enum-told-4
-enum-told-4 c = search needs
-
-enum-told-5 : tie.Need-enum-told-5
-enum-told-5 c = search needs
-
-enum-told-6 : tie.Need-enum-told-6
-enum-told-6 c = search needs
-
 returns-2 : tie.Need-returns-2
-unfolding callAsked messagesOf
+unfolding messagesShown
 returns-2 c =
     let at-message = c .before in
     let at-statics = at-message .before in
@@ -88,12 +74,12 @@ returns-2 c =
     let at-if1 = at-match .before .before in
     let at-done = at-if1 .before in
     let at-start = at-done .before .before in
-    one-sent (at-start .args .c) (at-start .args .answer) _ (at-done .is-done .ensures) (at-if1 .if1 .left) _
-    (rw (at-match .c .given .1, at-message .statics-message .ensures, at-statics .statics-of .ensures))
+    one-sent (at-start .args .role) (at-start .args .answer) _ (at-done .is-done .ensures) (at-if1 .if1 .left) _
+    (rw (at-match .role .given .1, at-message .statics-message .ensures, at-statics .statics-of .ensures))
     (c .send .ensures)
 
 returns-3 : tie.Need-returns-3
-unfolding callAsked messagesOf
+unfolding messagesShown
 returns-3 c =
     let at-bands = c .before in
     let at-first = at-bands .before .before in
@@ -102,66 +88,38 @@ returns-3 c =
     let at-if1 = at-match .before .before in
     let at-done = at-if1 .before in
     let at-start = at-done .before .before in
-    two-sent (at-start .args .c) (at-start .args .answer) _ (at-done .is-done .ensures) (at-if1 .if1 .left) _ _
+    two-sent (at-start .args .role) (at-start .args .answer) _ (at-done .is-done .ensures) (at-if1 .if1 .left) _ _
     (rw (at-match .enum-told .given .1, at-rates .rates-message .ensures, at-bands .bands-message .ensures))
     (at-first .send2 .ensures) (c .send3 .ensures)
 
 returns-4 : tie.Need-returns-4
-unfolding callAsked messagesOf
+unfolding messagesShown
 returns-4 c =
     let at-if1 = c .before .before in
     let at-done = at-if1 .before in
     let at-start = at-done .before .before in
-    none-sent (at-start .args .c) (at-start .args .answer) _ (at-done .is-done .ensures) (at-if1 .if1 .left) _ _
+    none-sent (at-start .args .role) (at-start .args .answer) _ (at-done .is-done .ensures) (at-if1 .if1 .left) _ _
     (rw (c .enum-told2 .given .1))
 
 returns-5 : tie.Need-returns-5
-unfolding callAsked messagesOf
+unfolding messagesShown
 returns-5 c =
     let at-message = c .before in
-    let at-side = at-message .before in
-    let at-match = at-side .before .before .before in
+    let at-match = at-message .before .before .before in
     let at-if1 = at-match .before .before in
     let at-done = at-if1 .before in
     let at-start = at-done .before .before in
-    one-sent (at-start .args .c) (at-start .args .answer) _ (at-done .is-done .ensures) (at-if1 .if1 .left) _
-    (rw (at-match .c2 .given .1, at-message .move-message .ensures, at-side .side-of .ensures)) (c .send4 .ensures)
+    one-sent (at-start .args .role) (at-start .args .answer) _ (at-done .is-done .ensures) (at-if1 .if1 .left) _
+    (rw (at-match .role2 .given .1, at-message .move-message .ensures)) (c .send4 .ensures)
 
 returns-6 : tie.Need-returns-6
-unfolding callAsked messagesOf
+unfolding messagesShown
 returns-6 c =
     let at-if1 = c .before .before in
     let at-done = at-if1 .before in
     let at-start = at-done .before .before in
-    none-sent (at-start .args .c) (at-start .args .answer) _ (at-done .is-done .ensures) (at-if1 .if1 .left) _ _
+    none-sent (at-start .args .role) (at-start .args .answer) _ (at-done .is-done .ensures) (at-if1 .if1 .left) _ _
     (rw (c .enum-told3 .given .1))
-
-returns-7 : tie.Need-returns-7
-unfolding callAsked messagesOf
-returns-7 c =
-    let at-if1 = c .before .before in
-    let at-done = at-if1 .before in
-    let at-start = at-done .before .before in
-    none-sent (at-start .args .c) (at-start .args .answer) _ (at-done .is-done .ensures) (at-if1 .if1 .left) _ _
-    (rw (c .enum-told4 .given .1))
-
-returns-8 : tie.Need-returns-8
-unfolding callAsked messagesOf
-returns-8 c =
-    let at-if1 = c .before .before in
-    let at-done = at-if1 .before in
-    let at-start = at-done .before .before in
-    none-sent (at-start .args .c) (at-start .args .answer) _ (at-done .is-done .ensures) (at-if1 .if1 .left) _ _
-    (rw (c .enum-told5 .given .1))
-
-returns-9 : tie.Need-returns-9
-unfolding callAsked messagesOf
-returns-9 c =
-    let at-if1 = c .before .before in
-    let at-done = at-if1 .before in
-    let at-start = at-done .before .before in
-    none-sent (at-start .args .c) (at-start .args .answer) _ (at-done .is-done .ensures) (at-if1 .if1 .left) _ _
-    (rw (c .enum-told6 .given .1))
 
 pub say-messages-spec : {M : Type 1} → statement M
 say-messages-spec =
@@ -169,7 +127,7 @@ say-messages-spec =
     (tie.spec
     is-done-requires
     returns
-    enum-known-c
+    enum-known-role
     statics-of-requires
     statics-message-requires
     send-requires
@@ -179,19 +137,12 @@ say-messages-spec =
     bands-message-requires
     send-requires-3
     enum-told-2
-    enum-known-c-2
-    side-of-requires
+    enum-known-role-2
     move-message-requires
     send-requires-4
     enum-told-3
-    enum-told-4
-    enum-told-5
-    enum-told-6
     returns-2
     returns-3
     returns-4
     returns-5
-    returns-6
-    returns-7
-    returns-8
-    returns-9)
+    returns-6)

@@ -2,37 +2,38 @@
 -- the last is of no other kind. What it calls asks nothing of it.
 use lib.ListN.{drop}
 use borrow.Author.Tests.{ne-eqb}
+use Rattle.paper_desk.specs.Desk.{askOf}
 use Rattle.text_protocol.specs.Names.{the, placeOf, code, forms, evaluateCount}
 use Rattle.text_protocol.specs.Calls.{deskCall, figuresBehind, callAsked}
 use Rattle.text_call.proofs.call_of.Statement.{statement}
 use Rattle.text_call.proofs.call_of.Tie as tie
 
 returns : tie.Need-returns
-unfolding deskCall callAsked figuresBehind the placeOf code forms
+unfolding deskCall callAsked askOf figuresBehind the placeOf code forms
 returns c = rw (c .before .if1 .taken, c .admission-of .ensures)
 
 returns-2 : tie.Need-returns-2
-unfolding deskCall callAsked figuresBehind the placeOf code forms
+unfolding deskCall callAsked askOf figuresBehind the placeOf code forms
 returns-2 c = rw (c .before .before .if2 .taken, c .before .number-at .ensures, c .asked-of .ensures)
 
 returns-3 : tie.Need-returns-3
-unfolding deskCall callAsked figuresBehind the placeOf code forms
+unfolding deskCall callAsked askOf figuresBehind the placeOf code forms
 returns-3 c = rw (c .before .before .if3 .taken, c .before .number-at2 .ensures, c .quote-of .ensures)
 
 returns-4 : tie.Need-returns-4
-unfolding deskCall callAsked figuresBehind the placeOf code forms
+unfolding deskCall callAsked askOf figuresBehind the placeOf code forms
 returns-4 c = rw (c .before .before .if4 .taken, c .before .number-at3 .ensures, c .number-at4 .ensures)
 
 returns-5 : tie.Need-returns-5
-unfolding deskCall callAsked figuresBehind the placeOf code forms
+unfolding deskCall callAsked askOf figuresBehind the placeOf code forms
 returns-5 c = rw (c .before .if5 .taken, c .number-at5 .ensures)
 
 returns-6 : tie.Need-returns-6
-unfolding deskCall callAsked figuresBehind the placeOf code forms
+unfolding deskCall callAsked askOf figuresBehind the placeOf code forms
 returns-6 c = rw (c .before .if6 .taken, c .number-at6 .ensures)
 
 returns-7 : tie.Need-returns-7
-unfolding deskCall callAsked figuresBehind the placeOf code forms
+unfolding deskCall callAsked askOf figuresBehind the placeOf code forms
 returns-7 c = rw (c .before .before .if7 .taken, c .before .number-at7 .ensures, c .outside-of .ensures)
 
 returns-8 : tie.Need-returns-8
@@ -50,7 +51,7 @@ returns-8 c =
     ) (c .notice-of .ensures (drop evaluateCount zs))
 
 returns-9 : tie.Need-returns-9
-unfolding deskCall callAsked figuresBehind the placeOf code forms
+unfolding deskCall callAsked askOf figuresBehind the placeOf code forms
 returns-9 c =
     let at-if8 = c .before in
     let at-if7 = at-if8 .before in

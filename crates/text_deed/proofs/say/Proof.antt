@@ -42,6 +42,9 @@ returns c =
 enum-known-a : tie.Need-enum-known-a
 enum-known-a c = search needs
 
+role-requires : tie.Need-role-requires
+role-requires c κs = search needs
+
 say-call-requires : tie.Need-say-call-requires
 say-call-requires c κs = search needs
 
@@ -99,7 +102,9 @@ returns-5 c =
 
 returns-6 : tie.Need-returns-6
 unfolding lineText
-returns-6 c = rw (c .before .before .before .a .given .1) (c .say-call .ensures)
+returns-6 c =
+    let at-role = c .before in
+    rw (at-role .before .before .before .a .given .1, ← at-role .role .ensures) (c .say-call .ensures)
 
 returns-7 : tie.Need-returns-7
 unfolding lineText
@@ -135,6 +140,7 @@ say-spec =
     say-bad-requires
     returns
     enum-known-a
+    role-requires
     say-call-requires
     enum-told-3
     say-interest-requires

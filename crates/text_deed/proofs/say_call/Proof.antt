@@ -12,9 +12,6 @@ use Rattle.text_deed.proofs.say_reason.Reads as say-reason-reads
 enum-told : tie.Need-enum-told
 enum-told c = search needs
 
-role-requires : tie.Need-role-requires
-role-requires c κs = search needs
-
 say-answer-requires : tie.Need-say-answer-requires
 say-answer-requires c κs = search needs
 
@@ -32,9 +29,7 @@ say-messages-requires c κs = search needs
 
 returns : tie.Need-returns
 unfolding callSaid
-returns c =
-    let at-role = c .before in
-    rw (at-role .before .before .before .enum-told .given .1, ← at-role .role .ensures) (c .say-answer .ensures)
+returns c = rw (c .before .before .before .enum-told .given .1) (c .say-answer .ensures)
 
 returns-2 : tie.Need-returns-2
 unfolding callSaid
@@ -49,7 +44,6 @@ say-call-spec =
     tie.close
     (tie.spec
     enum-told
-    role-requires
     say-answer-requires
     enum-told-2
     say-reason-requires

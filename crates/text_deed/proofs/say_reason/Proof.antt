@@ -11,9 +11,6 @@ use Rattle.text_why.proofs.say_why.Reads as say-why-reads
 enum-told : tie.Need-enum-told
 enum-told c = search needs
 
-role-requires : tie.Need-role-requires
-role-requires c κs = search needs
-
 say-answer-requires : tie.Need-say-answer-requires
 say-answer-requires c κs = search needs
 
@@ -25,9 +22,7 @@ say-why-requires c κs = search needs
 
 returns : tie.Need-returns
 unfolding reasonFor
-returns c =
-    let at-role = c .before in
-    rw (at-role .before .before .before .enum-told .given .1, ← at-role .role .ensures) (c .say-answer .ensures)
+returns c = rw (c .before .before .before .enum-told .given .1) (c .say-answer .ensures)
 
 returns-2 : tie.Need-returns-2
 unfolding reasonFor
@@ -36,4 +31,4 @@ returns-2 c = rw (c .before .before .before .why .given .1) (c .say-why .ensures
 pub say-reason-spec : {M : Type 1} → statement M
 say-reason-spec =
     tie.close
-    (tie.spec enum-told role-requires say-answer-requires enum-known-why say-why-requires returns returns-2)
+    (tie.spec enum-told say-answer-requires enum-known-why say-why-requires returns returns-2)

@@ -56,7 +56,7 @@ use Rattle.paper.proofs.Record.Laws as T′
 use Rattle.desk.proofs.Row.{R, vals, tells, makes, env-of, after}
 use Rattle.desk.proofs.Lending.{wref, ref, machine}
 use Rattle.desk.proofs.Calls.{Owned}
-use Rattle.text_perform.proofs.Gives.{gives-up, freed}
+use Rattle.text_ask.proofs.Gives.{gives-up, freed}
 use Rattle.text_evening.specs.declared.Telling.{Telling}
 use Rattle.text_evening.proofs.Telling as E
 use Rattle.text_evening.proofs.Telling.Laws as E′

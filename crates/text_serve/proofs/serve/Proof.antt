@@ -78,7 +78,7 @@ use Rattle.text_turn.proofs.State.Laws as G′
 use Rattle.text_turn.proofs.start as start
 use Rattle.text_turn.proofs.start.Symbol as start-def
 use Rattle.text_turn.proofs.start.Met as start-thm
-use Rattle.text_perform.proofs.Gives.{freed}
+use Rattle.text_ask.proofs.Gives.{freed}
 use Rattle.text_serve.specs.Serve.{Turns, Serves}
 use Rattle.text_serve.proofs.Joining.{Sofar, none-yet, one-more, fewer, served}
 use Rattle.text_serve.proofs.Arrays.{Bytes, Numbers, mref, Lent, telling-val, telling-is, typed-telling}

@@ -188,18 +188,18 @@ code-tell = after (after (after (after (after code-a))))
 fields-are : (p : Prepared) → IsHeard p
     → (p .count < 2 ^ 64) × Is B.the-row (p .ask) (EL.val B.the-type B′.the-laws (p .ask) ∷ [])
 fields-are p is =
-    let from-count = LL.owed P.the-type P′.the-laws p (heard-val p ∷ []) is .1 .1 .1 .1 .1 in
+    let from-count = LL.owed P.the-type P′.the-laws p (heard-val p ∷ []) is .1 in
     (from-count .0 .1, from-count .1 .0)
 
 -- the places of these fields in the line
 abbrev at-count : ℕ
-at-count = 5
+at-count = 1
 
 abbrev at-ask : ℕ
-at-ask = 6
+at-ask = 2
 
 abbrev at-asked : ℕ
-at-asked = 9
+at-asked = 4
 
 module _ {M : Type 1} (𝓤 : URA M) (H : Heap 𝓤) (A : Atoms 𝓤) (W : Given 𝓤 H A) (mem′ : Memory → SProp 𝓤) (run : Routine
     → Fun 𝓤) (κ κ₂ : Lft)
@@ -373,7 +373,7 @@ module _ {M : Type 1} (𝓤 : URA M) (H : Heap 𝓤) (A : Atoms 𝓤) (W : Given
         move ! (0 ∷ 3 ∷ 5 ∷ 4 ∷ 2 ∷ []) $
         by ! (exits zs bs′ xs′ os′ r u l (turned ys zs heard are done′ told) ir))
       where
-        space : p .waiting + answerMost ≤ bufferRoom
+        space : p .state .waiting + answerMost ≤ bufferRoom
         space = omega (arith, heard .waiting, asked .1)
 
     statements : Sq W (frame H En at-first ∷ Token ∷ Buffer ∷ Opened xs (Answers ∷ Table ∷ [])) (Runs code-p)

@@ -3,7 +3,7 @@
 --     hands       its step: the caller has t's last list, as long as t was, and the tokens of f's lifetimes. Its first
 --                 two statements are desk's `lends`
 --     tokens-back the tokens of an f that has two lifetimes come back
--- It leaves the other locals and the rest of the context as they were. `Arms` has the calls of the desk.
+-- It leaves the other locals and the rest of the context as they were.
 -- Assumes `Given`, and that the table's entry meets the contract.
 use mathlib.Core.Path.{_≡_}
 use mathlib.Core.Option.{some}
@@ -32,7 +32,7 @@ use Rattle.desk.proofs.Row.{R}
 use Rattle.desk.proofs.Frame.{Locals, holding, Within, frame}
 use Rattle.desk.proofs.Lending.{Lending, lending, lent, Lends, lends}
 use Rattle.desk.proofs.Asks.{Callee, Result, Stores, calls}
-use Rattle.text_perform.proofs.Gives.{Last}
+use Rattle.text_ask.proofs.Gives.{Last}
 
 abbrev pub handing : (t : ℕ) (m : Lending) (d : ℕ) → Name → List Operand → Body → Body
 handing t m d #f xs rest = lending t m (seq (call #f (copy (place (m .1) []) ∷ xs) (place d [])) rest)

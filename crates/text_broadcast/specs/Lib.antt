@@ -1,0 +1,2 @@
+-- The definitions of text_broadcast, a file each.
+pub mod Sent
