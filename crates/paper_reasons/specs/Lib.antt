@@ -7,3 +7,4 @@ pub mod Truth
 pub mod Words
 pub mod PinnedWords
 pub mod PinnedReasons
+pub mod PinnedFigures

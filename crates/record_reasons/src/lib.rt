@@ -9,6 +9,7 @@ ghost use Rattle.record_reasons.specs.Whys.{whySlot};
 use crate::faults::fault_of;
 use crate::reasons::reasons_of;
 use paper::Day;
+use paper_reasons::Decided;
 use paper_reasons::LevelReason;
 use paper_reasons::PriceReason;
 use paper_reasons::Reasons;
@@ -30,6 +31,7 @@ fn no_reasons() -> Reasons
         level1: LevelReason::None,
         level2: LevelReason::None,
         level3: LevelReason::None,
+        figures: Decided::None,
     }
 }
 

@@ -6,6 +6,9 @@ use Rattle.paper.specs.Lists.{pick}
 use Rattle.paper.specs.Verdicts.{numberOf, isDone}
 use Rattle.paper_reasons.specs.declared.Fault.{Fault}
 use Rattle.paper_reasons.specs.declared.Fault.the-variants as fault
+use Rattle.paper_reasons.specs.declared.Deciding.{Deciding}
+use Rattle.paper_reasons.specs.declared.Decided.{Decided}
+use Rattle.paper_reasons.specs.declared.Decided.the-variants as decided
 use Rattle.paper_reasons.specs.declared.Reasons.{Reasons}
 use Rattle.paper_reasons.specs.declared.Why.{Why}
 use Rattle.paper_reasons.specs.Words.{noneWord, priceWord, weightWord, replacementWord, tentativeWord, levelWord}
@@ -30,6 +33,9 @@ tentativeName = 116 ∷ 101 ∷ 110 ∷ 116 ∷ 97 ∷ 116 ∷ 105 ∷ 118 ∷ 1
 abbrev pub levelName : (digit : ℕ) → List ℕ
 levelName digit = 108 ∷ 101 ∷ 118 ∷ 101 ∷ 108 ∷ digit ∷ []
 
+abbrev pub figuresName : List ℕ
+figuresName = 102 ∷ 105 ∷ 103 ∷ 117 ∷ 114 ∷ 101 ∷ 115 ∷ []  -- "figures"
+
 abbrev pub rowName : List ℕ
 rowName = 114 ∷ 111 ∷ 119 ∷ []  -- "row"
 
@@ -38,7 +44,24 @@ termName = 116 ∷ 101 ∷ 114 ∷ 109 ∷ []  -- "term"
 
 -- ---- the words
 
--- of an accepted evaluation: what is named, and its reason
+-- R S0 X Y S T: the figures that decided
+abbrev pub decidingWords : Deciding → List (List ℕ)
+decidingWords f =
+    figuresName
+    ∷ decimal (f .r)
+    ∷ decimal (f .before)
+    ∷ decimal (f .x)
+    ∷ decimal (f .y)
+    ∷ decimal (f .s)
+    ∷ decimal (f .t)
+    ∷ []
+
+-- nothing where none did
+unfoldable pub figureWords : Decided → List (List ℕ)
+figureWords decided.None = []
+figureWords (decided.By f) = decidingWords f
+
+-- of an accepted evaluation: what is named, and its reason; then the figures that decided
 unfoldable pub reasonWords : Reasons → List (List ℕ)
 reasonWords r =
     priceName ∷ priceWord (r .price)
@@ -48,7 +71,7 @@ reasonWords r =
     ∷ levelName 49 ∷ levelWord (r .level1)
     ∷ levelName 50 ∷ levelWord (r .level2)
     ∷ levelName 51 ∷ levelWord (r .level3)
-    ∷ []
+    ∷ figureWords (r .figures)
 
 -- of a refused one: the row or the term at fault, or none
 unfoldable pub faultWords : Fault → List (List ℕ)
