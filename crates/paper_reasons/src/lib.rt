@@ -84,3 +84,9 @@ pub struct Why {
     pub fault: Fault,
     pub reasons: Reasons,
 }
+
+// The number at fault in an admission that is refused 4, by its place in the line: the id is 1. `None` where none is.
+pub enum FieldAtFault {
+    None,
+    Number(u64),
+}

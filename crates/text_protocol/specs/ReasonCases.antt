@@ -1,5 +1,5 @@
 -- docs/EVENING.md, "Why" (document 02, W-207): answers to evaluations, byte for byte: of one that is
--- accepted, of a share that is not modelled, and of refusals.
+-- accepted, of a share that is not modelled, and of refusals; and answers to admissions.
 use mathlib.Core.Path.{_≡_, refl}
 use mathlib.Core.List.{List, [], _∷_, _++_}
 use Prim.Native.Nat.{ℕ}
@@ -13,12 +13,14 @@ use Rattle.paper_reasons.specs.declared.LevelReason.the-variants as level
 use Rattle.paper_reasons.specs.declared.Decided.the-variants as decided
 use Rattle.paper_reasons.specs.declared.Fault.{Fault}
 use Rattle.paper_reasons.specs.declared.Fault.the-variants as fault
+use Rattle.paper_reasons.specs.declared.FieldAtFault.the-variants as field
 use Rattle.paper_reasons.specs.declared.Reasons.{Reasons}
 use Rattle.paper.specs.declared.Verdict.{Verdict}
 use Rattle.paper_reasons.specs.Words.{priceWord, weightWord, replacementWord, tentativeWord, levelWord}
 use Rattle.text_bytes.specs.Numbers.{spelt, decimal}
 use Rattle.text_bytes.specs.Bytes.{bytes}
-use Rattle.text_protocol.specs.Reasons.{figureWords, reasonWords, faultWords, spelled, wordsText, whyText}
+use Rattle.text_protocol.specs.Reasons.{figureWords, reasonWords, faultWords, fieldWords, spelled, wordsText}
+use Rattle.text_protocol.specs.Reasons.{whyText, fieldText}
 
 -- document 02's example, a share that is not modelled, and no reason at all
 abbrev rising : Reasons
@@ -88,3 +90,16 @@ pub answers-why-are : answersWhy
     ∷ []
 unfolding answersWhy bytes
 answers-why-are = refl
+
+-- an admission that is accepted, one whose number 32 is at fault, and one that is admitted already
+pub answersToAdmissions : List (List ℕ)
+unfolding fieldText fieldWords wordsText spelled decimal spelt
+answersToAdmissions =
+    fieldText verdict.Done field.None
+    ∷ fieldText verdict.AdmissionOutOfRange (field.Number 32)
+    ∷ fieldText verdict.AlreadyAdmitted field.None
+    ∷ []
+
+pub answers-to-admissions-are : answersToAdmissions ≡ bytes "0\n" ∷ bytes "4 field 32\n" ∷ bytes "2\n" ∷ []
+unfolding answersToAdmissions bytes
+answers-to-admissions-are = refl

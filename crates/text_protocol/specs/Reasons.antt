@@ -1,7 +1,9 @@
 -- docs/EVENING.md, "Why" (document 02, W-207): the words of the answer to an evaluation where it is said why, in their
--- order, and its bytes. Which reason is named is `whyOn` of paper_reasons, and each reason's word is there too.
+-- order, and its bytes; and those of an admission. Which reason is named is `whyOn` of paper_reasons, and each reason's
+-- word is there too; which number of an admission is at fault is its `fieldAtFault`.
 use mathlib.Core.List.{List, [], _∷_, _++_}
 use Prim.Native.Nat.{ℕ}
+use Rattle.paper.specs.declared.Verdict.{Verdict}
 use Rattle.paper.specs.Lists.{pick}
 use Rattle.paper.specs.Verdicts.{numberOf, isDone}
 use Rattle.paper_reasons.specs.declared.Fault.{Fault}
@@ -9,6 +11,8 @@ use Rattle.paper_reasons.specs.declared.Fault.the-variants as fault
 use Rattle.paper_reasons.specs.declared.Deciding.{Deciding}
 use Rattle.paper_reasons.specs.declared.Decided.{Decided}
 use Rattle.paper_reasons.specs.declared.Decided.the-variants as decided
+use Rattle.paper_reasons.specs.declared.FieldAtFault.{FieldAtFault}
+use Rattle.paper_reasons.specs.declared.FieldAtFault.the-variants as field
 use Rattle.paper_reasons.specs.declared.Reasons.{Reasons}
 use Rattle.paper_reasons.specs.declared.Why.{Why}
 use Rattle.paper_reasons.specs.Words.{noneWord, priceWord, weightWord, replacementWord, tentativeWord, levelWord}
@@ -41,6 +45,9 @@ rowName = 114 ∷ 111 ∷ 119 ∷ []  -- "row"
 
 abbrev pub termName : List ℕ
 termName = 116 ∷ 101 ∷ 114 ∷ 109 ∷ []  -- "term"
+
+abbrev pub fieldName : List ℕ
+fieldName = 102 ∷ 105 ∷ 101 ∷ 108 ∷ 100 ∷ []  -- "field"
 
 -- ---- the words
 
@@ -79,6 +86,11 @@ faultWords fault.None = noneWord ∷ []
 faultWords (fault.Row number) = rowName ∷ decimal number ∷ []
 faultWords (fault.Term number) = termName ∷ decimal number ∷ []
 
+-- of an admission: the number of the line that is at fault, or nothing
+unfoldable pub fieldWords : FieldAtFault → List (List ℕ)
+fieldWords field.None = []
+fieldWords (field.Number place) = fieldName ∷ decimal place ∷ []
+
 -- ---- the bytes
 
 -- a blank before each word
@@ -94,3 +106,7 @@ wordsText v ws = decimal v ++ spelled ws ++ (lineFeed ∷ [])
 unfoldable pub whyText : Why → List ℕ
 whyText y =
     wordsText (numberOf (y .verdict)) (pick (isDone (y .verdict)) (reasonWords (y .reasons)) (faultWords (y .fault)))
+
+-- AND THOSE OF AN ADMISSION: its number, and the number of the line that is at fault
+unfoldable pub fieldText : Verdict → FieldAtFault → List ℕ
+fieldText v field = wordsText (numberOf v) (fieldWords field)

@@ -1,4 +1,4 @@
-// The answer that says why (document 02, W-207), appended to a lent buffer. A word is appended with a blank before it,
+// The answers that say why (document 02, W-207), appended to a lent buffer. A word is appended with a blank before it,
 // so that each contract is the bytes of some words, and each proof the one law `then`. Nothing here depends on how a
 // reason is found.
 ghost use mathlib.Core.List.{[], _∷_};
@@ -9,13 +9,15 @@ ghost use Rattle.text_bytes.specs.Bytes.{room, space};
 ghost use Rattle.text_bytes.specs.Numbers.{decimal};
 ghost use Rattle.text_protocol.specs.Answers.{answerMost};
 ghost use Rattle.text_protocol.specs.Reasons.{levelName, decidingWords, figureWords, reasonWords, faultWords, spelled};
-ghost use Rattle.text_protocol.specs.Reasons.{whyText};
+ghost use Rattle.text_protocol.specs.Reasons.{fieldWords, whyText, fieldText};
 ghost use Rattle.text_out.specs.Wrote.{Wrote};
 ghost use Rattle.text_out.specs.Sizes.{wordBytes, nextWordBytes};
 ghost use Rattle.text_why.specs.Sizes.{faultBytes, levelsBytes, figuresBytes, reasonsBytes};
+use paper::Verdict;
 use paper_reasons::Decided;
 use paper_reasons::Deciding;
 use paper_reasons::Fault;
+use paper_reasons::FieldAtFault;
 use paper_reasons::LevelReason;
 use paper_reasons::PriceReason;
 use paper_reasons::Reasons;
@@ -210,5 +212,27 @@ pub fn say_why(out: &mut [u8; ROOM], len: usize, y: Why) -> usize
         return put_byte(out, n, b'\n');
     }
     let n = put_fault(out, n, fault);
+    put_byte(out, n, b'\n')
+}
+
+// The number at fault in an admission, or nothing.
+fn put_field(out: &mut [u8; ROOM], len: usize, field: FieldAtFault) -> usize
+    requires { ⌜ len + faultBytes ≤ room ⌝ }
+    ensures { λ r. ⌜ Wrote (now (out .entry)) len (now (out .exit)) r (spelled (fieldWords field)) faultBytes ⌝ }
+{
+    match field {
+        FieldAtFault::None => len,
+        FieldAtFault::Number(place) => put_numbered(out, len, b"field", place),
+    }
+}
+
+// The number of an admission's verdict, and the number of the line that is at fault.
+pub fn say_field(out: &mut [u8; ROOM], len: usize, verdict: Verdict, field: FieldAtFault) -> usize
+    requires { ⌜ len + answerMost ≤ room ⌝ }
+    ensures { λ r. ⌜ Wrote (now (out .entry)) len (now (out .exit)) r (fieldText verdict field) answerMost ⌝ }
+{
+    let no = verdict.number();
+    let n = put_number(out, len, no);
+    let n = put_field(out, n, field);
     put_byte(out, n, b'\n')
 }
