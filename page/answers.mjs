@@ -119,8 +119,8 @@ export const FIGURES = ['r', 's0', 'x', 'y', 's', 't'];
  * The answer of `why` to an evaluation: the reasons by their names, or the place at fault.
  * @param {string} answer
  * @returns {Object<string, any>} `kind` is 'reasons', with price, weight, replacement, tentative, level1 to level3 and,
- *   of a share that is modelled, `figures` by their names in FIGURES; 'fault', with its number, `at` ('row', 'term' or
- *   'none') and `which`; or 'bad', with its line
+ *   of a share that is modelled, `figures` by their names in FIGURES; 'fault', with its number, `at` ('row', 'term',
+ *   'field' or 'none') and `which`; or 'bad', with its line
  */
 export function reasonsOf(answer) {
     const [verdict, ...words] = wordsOf(answer);

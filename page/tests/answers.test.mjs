@@ -67,6 +67,7 @@ test('why: reasons, and the place at fault', () => {
         figures: { r: 200000, s0: 20000, x: 66031, y: 66667, s: 66668, t: 2000 },
     });
     assert.deepEqual(reasonsOf('6 row 3'), { kind: 'fault', number: 6, at: 'row', which: 3 });
+    assert.deepEqual(reasonsOf('4 field 32'), { kind: 'fault', number: 4, at: 'field', which: 32 });
     assert.deepEqual(reasonsOf('8 none'), { kind: 'fault', number: 8, at: 'none' });
     assert.deepEqual(reasonsOf('bad 2'), { kind: 'bad', line: 2 });
 });
