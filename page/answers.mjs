@@ -112,11 +112,15 @@ export function dayOf(line) {
     return named(['id', 'day', 'b', 'm'], wordsOf(line).slice(1, 5));
 }
 
+/** The figures that decided: the move, the volatility before, the root, the replacement, the volatility now, and t. */
+export const FIGURES = ['r', 's0', 'x', 'y', 's', 't'];
+
 /**
  * The answer of `why` to an evaluation: the reasons by their names, or the place at fault.
  * @param {string} answer
- * @returns {Object<string, any>} `kind` is 'reasons', with price, weight, replacement, tentative and level1 to level3;
- *   'fault', with its number, `at` ('row', 'term' or 'none') and `which`; or 'bad', with its line
+ * @returns {Object<string, any>} `kind` is 'reasons', with price, weight, replacement, tentative, level1 to level3 and,
+ *   of a share that is modelled, `figures` by their names in FIGURES; 'fault', with its number, `at` ('row', 'term',
+ *   'field' or 'none') and `which`; or 'bad', with its line
  */
 export function reasonsOf(answer) {
     const [verdict, ...words] = wordsOf(answer);
@@ -127,7 +131,10 @@ export function reasonsOf(answer) {
     }
     /** @type {Object<string, any>} */
     const reasons = { kind: 'reasons' };
-    for (let at = 0; at + 1 < words.length; at += 2) reasons[words[at]] = words[at + 1];
+    const figuresAt = words.indexOf('figures');
+    const ends = figuresAt < 0 ? words.length : figuresAt;
+    for (let at = 0; at + 1 < ends; at += 2) reasons[words[at]] = words[at + 1];
+    if (figuresAt >= 0) reasons.figures = named(FIGURES, words.slice(figuresAt + 1));
     return reasons;
 }
 

@@ -130,6 +130,6 @@ function refusalOf({ line, answer, why }) {
     const { kind, number } = answerOf(call, answer);
     const at = { line: line.number, text: line.text };
     if (kind === 'bad') return { ...at, number: null, words: 'the line is no call', place: '' };
-    const place = call === 'evaluate' ? placeOf(reasonsOf(why)) : '';
+    const place = call === 'evaluate' || call === 'admit' ? placeOf(reasonsOf(why)) : '';
     return { ...at, number, words: inWords(number), place };
 }

@@ -28,7 +28,8 @@ export const isAccepted = (/** @type {string} */ answer) => answer === '0' || an
 export function heardOf(text, { answer, why }) {
     const call = firstWord(text);
     const heard = { text, call, answer, why, accepted: isAccepted(answer) };
-    // `why` names the row or the term of an evaluation; what else is refused, both answer alike.
+    // `why` names the row or the term of an evaluation and the number of an admission; what else is refused, both answer
+    // alike.
     const refused = heard.accepted ? undefined : refusedOf(why);
     if (refused === undefined) return heard;
     const read = formOf(text);

@@ -149,13 +149,13 @@ const UNKNOWN_PAIR = 'is not of the three latest accepted interest lines, or has
 
 /**
  * The fields of a form that a refusal is about: those at fault by their own ranges and orders, in the row or term that
- * is named; else those that the number is about.
+ * is named; else the number of the line that is named, or those that the number is about.
  * @param {import('./refusals.mjs').Refused} refused
  * @param {Call} call
  * @param {Form} form
  * @returns {{ name: string, row?: number, text?: string }[]}
  */
-export function fieldsOf({ number = 0, row, term }, call, form) {
+export function fieldsOf({ number = 0, row, term, field }, call, form) {
     const ofTerm = [`K${term}`, `RRCL${term}`, `RRCH${term}`];
     const aPair = `PAIR${term}`;
     const faults = lineOf(call, form).faults.filter((fault) => (
@@ -163,6 +163,7 @@ export function fieldsOf({ number = 0, row, term }, call, form) {
     if (OF_THE_FORM.includes(number) && faults.length > 0) {
         return faults.map(({ name, row: at, text }) => ({ name, row: at, text }));
     }
+    if (field !== undefined) return call.fields.slice(field - 1, field).map(({ name }) => ({ name }));
     if (term !== undefined && number === 6 && form.values[aPair]) return [{ name: aPair, text: UNKNOWN_PAIR }];
     const about = term === undefined ? refusals[number]?.fields ?? [] : ofTerm;
     const fields = row === undefined ? call.fields : call.rows?.fields ?? [];

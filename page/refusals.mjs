@@ -72,8 +72,9 @@ export function inWords(/** @type {number} */ number) {
     return refusals[number]?.text ?? `refused ${number}`;
 }
 
-/** The place that `why` names of a refused evaluation. */
+/** The place that `why` names of a refused evaluation or admission. */
 export function placeOf(/** @type {{ at?: string, which?: number }} */ fault) {
+    if (fault.at === 'field') return `number ${fault.which} of the line`;
     return fault.at === 'row' || fault.at === 'term' ? `${fault.at} ${fault.which}` : '';
 }
 
@@ -84,6 +85,7 @@ export function placeOf(/** @type {{ at?: string, which?: number }} */ fault) {
  * @property {string} todo
  * @property {number} [row]  The row at fault, counted from 1, where `why` names one.
  * @property {number} [term]  The term at fault, 0 to 2, where `why` names one.
+ * @property {number} [field]  The number of an admission at fault, counted from 1, where `why` names one.
  * @property {number} [line]  The line at fault, of the exchange's text (0 where it is too long) or of the evening's.
  * @property {number} [offset]  The place in the broadcast's bytes, counted from 0.
  */
@@ -102,6 +104,6 @@ export function refusedOf(answer) {
     if (number === 0 || refusal === undefined) return undefined;
     const said = { number, text: refusal.text, todo: refusal.todo };
     if (isHeard) return { ...said, offset: Number(third) };
-    if (second === 'row' || second === 'term') return { ...said, [second]: Number(third) };
+    if (['row', 'term', 'field'].includes(second)) return { ...said, [second]: Number(third) };
     return second === undefined || second === 'none' ? said : { ...said, line: Number(second) };
 }

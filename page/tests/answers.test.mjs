@@ -61,7 +61,13 @@ test('why: reasons, and the place at fault', () => {
             level1: 'requirement', level2: 'minimum', level3: 'maximum',
         },
     );
+    const modelled = reasonsOf('0 price bid level3 minimum figures 200000 20000 66031 66667 66668 2000');
+    assert.deepEqual(modelled, {
+        kind: 'reasons', price: 'bid', level3: 'minimum',
+        figures: { r: 200000, s0: 20000, x: 66031, y: 66667, s: 66668, t: 2000 },
+    });
     assert.deepEqual(reasonsOf('6 row 3'), { kind: 'fault', number: 6, at: 'row', which: 3 });
+    assert.deepEqual(reasonsOf('4 field 32'), { kind: 'fault', number: 4, at: 'field', which: 32 });
     assert.deepEqual(reasonsOf('8 none'), { kind: 'fault', number: 8, at: 'none' });
     assert.deepEqual(reasonsOf('bad 2'), { kind: 'bad', line: 2 });
 });

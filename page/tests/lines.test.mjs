@@ -117,16 +117,18 @@ test('every number of a refusal is in words', () => {
     assert.equal(inWords(16), 'a row has its bid above its ask');
     assert.equal(inWords(99), 'refused 99');
     assert.equal(placeOf({ at: 'row', which: 3 }), 'row 3');
+    assert.equal(placeOf({ at: 'field', which: 32 }), 'number 32 of the line');
 });
 
 test('an answer says what is refused, and where', () => {
-    const place = ({ number, row, term, line, offset }) => ({ number, row, term, line, offset });
-    const none = { number: undefined, row: undefined, term: undefined, line: undefined, offset: undefined };
+    const place = ({ number, row, term, field, line, offset }) => ({ number, row, term, field, line, offset });
+    const none = place({});
     const said = (answer) => place(refusedOf(answer));
     assert.equal(refusedOf('0 0 0'), undefined);
     assert.equal(refusedOf('0 price close'), undefined);
     assert.deepEqual(said('6 row 3'), { ...none, number: 6, row: 3 });
     assert.deepEqual(said('9 term 0'), { ...none, number: 9, term: 0 });
+    assert.deepEqual(said('4 field 32'), { ...none, number: 4, field: 32 });
     assert.deepEqual(said('5 none'), { ...none, number: 5 });
     assert.deepEqual(said('5'), { ...none, number: 5 });
     assert.deepEqual(said('bad 26'), { ...none, line: 26 });
@@ -152,4 +154,5 @@ test('a refusal of why names the fields of its row or term', () => {
     assert.deepEqual(about('evaluate 7 3 0 0 0 0 0 0 0 0 0 0 0'), ['DAY']);
     assert.deepEqual(about('evaluate 8 4 31 0 0 0 0 0 0 0 0 0 0'), ['ID']);
     assert.deepEqual(about(admitted), ['ID']);
+    assert.deepEqual(fieldsOf(refusedOf('4 field 3'), callOf('admit'), form(admitted).form), [{ name: 'P1' }]);
 });

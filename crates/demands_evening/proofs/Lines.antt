@@ -8,6 +8,7 @@ use mathlib.Core.Option.{Option, none, some}
 use Prim.Native.Nat.{ℕ}
 use lib.IntN.{ℤ}
 use Rattle.paper.specs.declared.Record.{Record}
+use Rattle.paper.specs.declared.Admission.{Admission}
 use Rattle.paper.specs.declared.Day.{Day}
 use Rattle.paper.specs.declared.Verdict.the-variants.{Done}
 use Rattle.paper.specs.Lists.{every}
@@ -16,12 +17,17 @@ use Rattle.paper.specs.Verdicts.{isDone}
 use Rattle.paper_desk.specs.Sides.{shows}
 use Rattle.paper_desk.specs.Desk.{Call, admit, about, evaluate, idOf, place, found, known, ruleOf, step}
 use Rattle.paper_desk.specs.History.{isAdmission}
+use Rattle.paper_reasons.specs.declared.FieldAtFault.the-variants as field
+use Rattle.paper_reasons.specs.AdmissionFaults.{fieldAtFault}
 use Rattle.paper_messages.specs.declared.Message.{Message}
 use Rattle.paper_messages.specs.Messages.{encode, valid}
 use Rattle.demands.specs.Demands.{answered, FiguresHold}
 use Rattle.demands.specs.Order.{InOrder}
 use Rattle.demands_evening.specs.Whole.{SentWhole}
+use Rattle.text_bytes.specs.Numbers.{spaced, answerText}
 use Rattle.text_protocol.specs.Calls.{Deed, call}
+use Rattle.text_protocol.specs.Answers.{figuresAnswered, callText}
+use Rattle.text_protocol.specs.Reasons.{fieldWords, spelled, wordsText, fieldText}
 use Rattle.text_evening.specs.declared.Telling.{Telling}
 use Rattle.text_evening.specs.declared.Telling.the-variants.{Answers, Reasons, Messages}
 use Rattle.paper_messages.specs.Broadcast.{messagesOf, sent, allSent, broadcastOf}
@@ -29,7 +35,7 @@ use Rattle.text_evening.specs.Evening.{Evening, startEvening, tableAfter, answe
 use Rattle.text_evening.specs.Evening.{textOf, askedBy, after, answer}
 use Rattle.demands_evening.specs.Holds.{ownTable, eveningBehind, tableBehind, callsBehind, encodings}
 use Rattle.demands_evening.specs.Holds.{HistoryHolds, RecordHolds, LineHolds}
-use Rattle.paper.proofs.Logic.{and-left, and-right, pick-true, pick-false}
+use Rattle.paper.proofs.Logic.{and-left, and-right, pick-true, pick-false, pick-same}
 use Rattle.paper_desk.proofs.Rules.{OnlyEvaluation, rule-holds}
 use Rattle.paper_desk.proofs.Refusals.{accepted-only}
 use Rattle.paper_desk.proofs.PinnedLaws.{shown-stands}
@@ -50,12 +56,14 @@ valid-sent (m ∷ ms) v =
     rw (and-left (valid m) (every valid ms) v)
     (ap (λ (rest : List ℕ). encode m ++ rest) (valid-sent ms (and-right (valid m) (every valid ms) v)))
 
--- all calls but an evaluation are told with why as they are answered
+-- all calls but an evaluation, and an admission with a number at fault, are told with why as they are answered
 reasons-are-answers : (c : Call) (t : List Record)
-    → ((id : ℕ) (d : Day) (rows : List ℤ) → c ≡ evaluate id d rows → ⊥) → reasonTo c t ≡ answerTo c t
-unfolding reasonTo
-reasons-are-answers (admit a) t other = refl
-reasons-are-answers (about id x) t other = go (ruleOf x .evaluates) refl
+    → ((id : ℕ) (d : Day) (rows : List ℤ) → c ≡ evaluate id d rows → ⊥)
+    → ((a : Admission) → c ≡ admit a → fieldAtFault a ≡ field.None) → reasonTo c t ≡ answerTo c t
+unfolding reasonTo fieldText fieldWords wordsText spelled callText figuresAnswered answerText spaced
+reasons-are-answers (admit a) t other unnamed =
+    rw (unnamed a refl, pick-same {A = List ℤ} (isDone (step (admit a) t .answer .verdict)) [])
+reasons-are-answers (about id x) t other unnamed = go (ruleOf x .evaluates) refl
   where
     go : (o : Option (Day × List ℤ)) → ruleOf x .evaluates ≡ o → reasonOn id x o t ≡ answerTo (about id x) t
     go none e = refl
@@ -139,6 +147,11 @@ module _ (before : List (List ℕ)) (l : List ℕ) (c : Call) (asked : askedBy l
   unfolding callTold broadcastOf
   sent-of-refused refused = told Messages ∙ pick-false (isDone (answered c t)) _ _ refused
 
+  -- an admission is told with why by its number, and the number at fault
+  fault-told : (a : Admission) → c ≡ admit a → reasonTo c t ≡ fieldText (answered c t) (fieldAtFault a)
+  unfolding reasonTo
+  fault-told a e = rw e
+
   -- OF A LINE THAT SAYS A CALL
   pub line-holds : LineHolds before l c
   unfolding callTold
@@ -147,7 +160,8 @@ module _ (before : List (List ℕ)) (l : List ℕ) (c : Call) (asked : askedBy l
         said = calls-behind;
         demand-1 = demand-1 c t;
         printed = told Answers;
-        printed-by-why = λ other. told Reasons ∙ reasons-are-answers c t other;
+        printed-by-why = λ other unnamed. told Reasons ∙ reasons-are-answers c t other unnamed;
+        fault-by-why = λ a e. told Reasons ∙ fault-told a e;
         shown = record-holds;
         says = λ about done. known-holds before (idOf c) (known-before about done);
         whole = whole;

@@ -15,10 +15,12 @@ use Rattle.paper.specs.Numbers.{slotsMost}
 use Rattle.paper.specs.Ranges.{staticsOf, isLive}
 use Rattle.paper.specs.Verdicts.{isDone}
 use Rattle.paper_desk.specs.Sides.{shows}
-use Rattle.paper_desk.specs.Desk.{Ask, Call, evaluate, idOf, blank, place, found, step, run}
+use Rattle.paper_desk.specs.Desk.{Ask, Call, admit, evaluate, idOf, blank, place, found, step, run}
 use Rattle.paper_desk.specs.History.{FreshTable, History, since, historyOf, isAdmission, evaluations}
 use Rattle.paper_desk.specs.Sequences.{onDay, lastEvaluated}
 use Rattle.paper_desk.specs.Exact.{exactSquare, NearExact}
+use Rattle.paper_reasons.specs.declared.FieldAtFault.the-variants as field
+use Rattle.paper_reasons.specs.AdmissionFaults.{fieldAtFault}
 use Rattle.paper_messages.specs.declared.Message.{Message}
 use Rattle.paper_messages.specs.Messages.{encode}
 use Rattle.demands.specs.Demands.{answered, Demand1, FiguresHold, Demand2, TableKept, BandsInOrder}
@@ -28,6 +30,7 @@ use Rattle.demands_evening.specs.Whole.{SentWhole}
 use Rattle.text_bytes.specs.Bytes.{lines}
 use Rattle.text_protocol.specs.Calls.{call}
 use Rattle.text_protocol.specs.Answers.{callText}
+use Rattle.text_protocol.specs.Reasons.{fieldText}
 use Rattle.text_evening.specs.declared.Telling.{Telling}
 use Rattle.text_evening.specs.declared.Telling.the-variants.{Answers, Reasons, Messages}
 use Rattle.paper_messages.specs.Broadcast.{messagesOf}
@@ -88,10 +91,14 @@ pub record LineHolds (before : List (List ℕ)) (l : List ℕ) (c : Call) : Type
   -- it is answered or refused by document 01's list
   pub demand-1 : Demand1 c (tableBehind before)
   -- it is told with the text of that answer by the program `evening`: 0 and its figures, or the number of the refusal
-  -- alone; and so by `why`, unless it is an evaluation
+  -- alone; and so by `why`, unless it is an evaluation, or an admission with a number at fault: that one is told with
+  -- its number and with the place of the number at fault in the line
   pub printed : answer Answers l (eveningBehind before) ≡ callText c (step c (tableBehind before) .answer)
   pub printed-by-why : ((id : ℕ) (d : Day) (rows : List ℤ) → c ≡ evaluate id d rows → ⊥)
+      → ((a : Admission) → c ≡ admit a → fieldAtFault a ≡ field.None)
       → answer Reasons l (eveningBehind before) ≡ callText c (step c (tableBehind before) .answer)
+  pub fault-by-why : (a : Admission) → c ≡ admit a
+      → answer Reasons l (eveningBehind before) ≡ fieldText (answered c (tableBehind before)) (fieldAtFault a)
   -- the record of an accepted call, where it shows one, is the one of its history with this call
   pub shown : shows c ≡ true → answered c (tableBehind before) ≡ Done
       → RecordHolds (before ++ l ∷ []) (idOf c) (step c (tableBehind before) .answer .rec)

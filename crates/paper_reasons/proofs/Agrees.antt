@@ -5,35 +5,38 @@ use mathlib.Core.Path.{_≡_, refl, sym, ap, _∙_}
 use mathlib.Core.Logic.{_⊎_, ⊎-elim}
 use mathlib.Core.Bool.{Bool, true, false}
 use mathlib.Core.List.{List}
-use Prim.Native.Nat.{ℕ, _+_, _*_, _<_}
+use Prim.Native.Nat.{ℕ, _+_, _*_, _<_, max}
 use lib.IntN.{ℤ}
 use Rattle.paper.specs.declared.Record.{Record}
 use Rattle.paper.specs.declared.Day.{Day}
 use Rattle.paper.specs.declared.Figures.{Figures}
 use Rattle.paper.specs.declared.Model.{Model}
 use Rattle.paper.specs.declared.Rate.{Rate}
+use Rattle.paper.specs.declared.Tentative.{Tentative}
 use Rattle.paper.specs.declared.Verdict.{Verdict}
 use Rattle.paper.specs.Numbers.{millionthsInBp}
 use Rattle.paper.specs.Ranges.{gridOf, rateAt, noRate, validStatics}
 use Rattle.paper.specs.Verdicts.{FirstAt, NoneApplies, Exactly}
 use Rattle.paper_desk.specs.Evaluation.{dayRows}
 use Rattle.paper_desk.specs.Rates.{modelOf, modelled, unmodelled, figuresOf, tentativeRateOf, tentativeAfter}
-use Rattle.paper_desk.specs.Rates.{minimumOf, levelRate}
+use Rattle.paper_desk.specs.Rates.{weighted, minimumOf, levelRate}
 use Rattle.paper_desk.specs.Desk.{usedBy, priceOn, moveOn, figuresOn, evaluated, evaluate, evaluateChecks, checksOf}
 use Rattle.paper_desk.specs.Desk.{step}
 use Rattle.paper.proofs.Logic.{pick-true, pick-false}
 use Rattle.paper_desk.proofs.Refusals.{verdict-first, named-is-first-or-otherwise, first-is-named, none-named}
 use Rattle.paper_desk.proofs.PinnedLaws.{three-gives-each}
+use Rattle.paper_reasons.specs.declared.Decided.the-variants as decided
 use Rattle.paper_reasons.specs.declared.Fault.{Fault}
 use Rattle.paper_reasons.specs.declared.Fault.the-variants as fault
 use Rattle.paper_reasons.specs.declared.LevelReason.the-variants as level
 use Rattle.paper_reasons.specs.Reasons.{levelReason}
 use Rattle.paper_reasons.specs.Faults.{faultsOf, faultOf}
-use Rattle.paper_reasons.specs.Figures.{volatilityFigure, tentativeFigure, levelFigure}
-use Rattle.paper_reasons.specs.Why.{replacedOn, stepOn, levelOn, reasonsOf, whyOf, whyOn}
-use Rattle.paper_reasons.specs.Truth.{priceSaid, volatilitySaid, stepSaid, tentativeSaid, levelNamed, rateSaid}
+use Rattle.paper_reasons.specs.Figures.{volatilityFigure, tentativeFigure, levelFigure, replacementTaken}
+use Rattle.paper_reasons.specs.Why.{replacedOn, stepOn, decidingOn, levelOn, reasonsOf, whyOf, whyOn}
+use Rattle.paper_reasons.specs.Truth.{priceSaid, volatilitySaid, stepSaid, tentativeSaid, figuresSaid}
+use Rattle.paper_reasons.specs.Truth.{levelNamed, rateSaid}
 use Rattle.paper_reasons.proofs.Figures.{price-is, weight-is, volatility-is, step-is, tentative-is, level-is}
-use Rattle.paper_reasons.proofs.Figures.{level-unmodelled}
+use Rattle.paper_reasons.proofs.Figures.{greater-is, level-unmodelled}
 
 -- THE NUMBER is that which `evaluate` answers
 pub number-agrees : (t : List Record) (id : ℕ) (d : Day) (rows : List ℤ)
@@ -87,19 +90,53 @@ module _ (r : Record) (d : Day) (rows : List ℤ) (ewma : r .statics .ewma ≡ t
   unfolding evaluated moveOn stepOn reasonsOf
   step-agrees = step-is (r .statics) ewma (replacedOn r d rows) (moveOn r rows) (figuresOn r d rows .s)
 
+  -- the t of the day makes the tentative rate
+  tentative-made : figuresOn r d rows .tentative
+      ≡ tentativeAfter (r .statics .h) (r .statics .wait) (stepOn r d rows) (r .tentative)
+  unfolding modelled stepOn replacedOn
+  tentative-made =
+      ap (λ (f : Figures). f .tentative) figures-modelled
+      ∙ ap (λ (f : Figures). tentativeAfter (r .statics .h) (r .statics .wait)
+      (tentativeRateOf (r .statics) (replacedOn r d rows) (moveOn r rows) (f .s)) (r .tentative)) (sym figures-modelled)
+
   -- THE TENTATIVE RATE that an evaluation writes is the figure that is named
   pub tentative-agrees : evaluated r d rows .tentative .bp ≡ tentativeSaid r (evaluated r d rows) (reasonsOf r d rows)
-  unfolding evaluated modelled reasonsOf stepOn replacedOn
+  unfolding evaluated reasonsOf
   tentative-agrees =
-      ap (λ (f : Figures). f .tentative .bp) figures-modelled
-      ∙ ap (λ (t : ℕ). tentativeAfter (r .statics .h) (r .statics .wait) t (r .tentative) .bp) (sym t-is)
+      ap (λ (x : Tentative). x .bp) tentative-made
       ∙ tentative-is (r .statics) ewma (stepOn r d rows) (r .tentative)
       ∙ ap (λ (t : ℕ). tentativeFigure (r .statics .h) t (r .tentative .bp) (reasonsOf r d rows .tentative)) step-agrees
-    where
-      t-is : stepOn r d rows ≡ tentativeRateOf (r .statics) (replacedOn r d rows) (moveOn r rows) (made r d rows .s)
-      t-is =
-          ap (λ (f : Figures). tentativeRateOf (r .statics) (replacedOn r d rows) (moveOn r rows) (f .s))
-          figures-modelled
+
+  -- THE FIGURES that decided are those of the record before and of the one that the evaluation writes
+  pub figures-agree : reasonsOf r d rows .figures
+      ≡ decided.By (figuresSaid r (evaluated r d rows) d (reasonsOf r d rows))
+  unfolding evaluated moveOn reasonsOf decidingOn
+  figures-agree =
+      pick-true (r .statics .ewma) (decided.By (decidingOn r d rows)) decided.None ewma
+      ∙ rw (step-agrees, weight-is (r .statics) ewma (modelOf (r .statics)) (d .b) (moveOn r rows) (r .s))
+
+  -- s is the greater of x and y
+  pub greater-agrees : evaluated r d rows .s
+      ≡ max (figuresSaid r (evaluated r d rows) d (reasonsOf r d rows) .x)
+      (figuresSaid r (evaluated r d rows) d (reasonsOf r d rows) .y)
+  unfolding evaluated moveOn modelled reasonsOf
+  greater-agrees =
+      let m : Model = modelOf (r .statics) in
+      let move : ℕ = moveOn r rows in
+      let last : ℕ = millionthsInBp * rateAt (r .rates) 0 in
+      ap (λ (f : Figures). f .s) figures-modelled
+      ∙ greater-is m (d .b) move last (r .s)
+      ∙ ap (λ (a : ℕ). max (weighted a (r .s) move) (replacementTaken m (d .b) move last))
+      (weight-is (r .statics) ewma m (d .b) move (r .s))
+
+  -- t makes the tentative rate, with its age
+  pub tentative-stepped : evaluated r d rows .tentative
+      ≡ tentativeAfter (r .statics .h) (r .statics .wait)
+      (figuresSaid r (evaluated r d rows) d (reasonsOf r d rows) .t) (r .tentative)
+  unfolding evaluated
+  tentative-stepped =
+      tentative-made
+      ∙ ap (λ (t : ℕ). tentativeAfter (r .statics .h) (r .statics .wait) t (r .tentative)) step-agrees
 
   pub rate-modelled : (i : ℕ) → i < 3
       → rateAt (figuresOn r d rows .rates) i ≡ levelRate (r .statics) (figuresOn r d rows .tentative .bp) (d .m) (i + 1)

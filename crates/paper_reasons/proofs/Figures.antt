@@ -3,10 +3,11 @@
 use mathlib.Core.Path.{_≡_, refl, sym, ap, _∙_}
 use mathlib.Core.Bool.{Bool, true, false, not, _&&_}
 use mathlib.Core.List.{List, [], _∷_, map}
-use Prim.Native.Nat.{ℕ, _+_, _-_, _≤_, _<_, min}
+use Prim.Native.Nat.{ℕ, _+_, _-_, _≤_, _<_, min, max}
+use native.Mathlib.Nat.{max-zero, max-eq-left, max-eq-right}
 use native.Mathlib.Omega.{arith}
 use lib.Dec.{leb, ltb, eqb}
-use borrow.Author.Tests.{eqb-true, ltb-false, leb-false, le-leb, lt-ltb}
+use borrow.Author.Tests.{eqb-true, ltb-true, ltb-false, leb-false, le-leb, lt-ltb, le-ltb}
 use Rattle.paper.specs.declared.Row.{Row}
 use Rattle.paper.specs.declared.External.{External}
 use Rattle.paper.specs.declared.Roubles.{Roubles}
@@ -18,7 +19,8 @@ use Rattle.paper.specs.Numbers.{ageMost}
 use Rattle.paper.specs.Roundings.{toGrid}
 use Rattle.paper.specs.Ranges.{validStatics}
 use Rattle.paper_desk.specs.Evaluation.{roublesOf, closeOf, bidOf, askOf, evaluationOf}
-use Rattle.paper_desk.specs.Rates.{weightOf, weighted, replacement, replacementWins, volatilityOf, tentativeAfter}
+use Rattle.paper_desk.specs.Rates.{weightOf, weighted, replacement, replaces, replacementWins, volatilityOf}
+use Rattle.paper_desk.specs.Rates.{tentativeAfter}
 use Rattle.paper_desk.specs.Rates.{tentativeRate, tentativeRateByMove, tentativeRateOf, minimumOf, covers, levelRate}
 use Rattle.paper.proofs.Logic.{not-true-and-false, and-right, and-both, pick-true}
 use Rattle.paper_reasons.specs.declared.PriceReason.{PriceReason}
@@ -32,7 +34,7 @@ use Rattle.paper_reasons.specs.Reasons.{isTraded, beforeGrid, priceSetBy
 use Rattle.paper_reasons.specs.Reasons.{replacementWas, replacementReason, tentativeDid, tentativeReason}
 use Rattle.paper_reasons.specs.Reasons.{requirementStep, levelSetBy, levelReason}
 use Rattle.paper_reasons.specs.Figures.{priceFigure, weightFigure, volatilityFigure, stepFigure, tentativeFigure}
-use Rattle.paper_reasons.specs.Figures.{levelFigure}
+use Rattle.paper_reasons.specs.Figures.{levelFigure, replacementTaken}
 use Rattle.paper_reasons.proofs.Prices.{price-named}
 use Rattle.paper_reasons.proofs.Levels.{level-named}
 
@@ -55,6 +57,37 @@ price-is g previous used rows =
     let rs : List Roubles = map roublesOf rows in
     ap (λ (x : ℕ). toGrid g x 1)
     (set-by previous used rs (priceReason previous used rs) (price-named previous used rs .condition))
+
+-- ---- x and y
+
+module _ (m : Model) (b r last s : ℕ) where
+  abbrev x : ℕ
+  x = weighted (weightOf m b r s) s r
+
+  abbrev y : ℕ
+  y = replacement (m .q) r
+
+  -- "s is the greater": new s is the greater of x and y, which is 0 where it is not taken
+  pub greater-is : volatilityOf m b r last s ≡ max x (replacementTaken m b r last)
+  unfolding volatilityOf replaces replacementTaken
+  greater-is = go (leb b 1) (ltb last r) (ltb x y) refl
+    where
+      go : (few above : Bool) (less : Bool) → ltb x y ≡ less
+          → pick (few && above && less) y x ≡ max x (pick (few && above) y 0)
+      go true true true e = sym (max-eq-right (omega (arith, ltb-true x y e)))
+      go true true false e = sym (max-eq-left (ltb-false x y e))
+      go true false less e = sym (max-zero x)
+      go false above less e = sym (max-zero x)
+
+  -- the replacement won where y is above x
+  pub won-is : ltb x (replacementTaken m b r last) ≡ replacementWins m b r last s
+  unfolding replaces replacementTaken
+  won-is = go (leb b 1) (ltb last r)
+    where
+      go : (few above : Bool) → ltb x (pick (few && above) y 0) ≡ (few && above && ltb x y)
+      go true true = refl
+      go true false = le-ltb x 0 (omega arith)
+      go false above = le-ltb x 0 (omega arith)
 
 -- With isEWMA yes:
 module _ (st : Statics) (ewma : st .ewma ≡ true) where

@@ -6,3 +6,4 @@ pub mod Levels
 pub mod Figures
 pub mod Agrees
 pub mod Truth
+pub mod AdmissionFaults

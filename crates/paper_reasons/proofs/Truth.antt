@@ -26,7 +26,8 @@ use Rattle.paper_reasons.proofs.Prices.{price-named}
 use Rattle.paper_reasons.proofs.Rates.{weight-named, replacement-named, tentative-named}
 use Rattle.paper_reasons.proofs.Levels.{level-named}
 use Rattle.paper_reasons.proofs.Agrees.{number-agrees, fault-is, price-agrees, volatility-agrees, step-agrees}
-use Rattle.paper_reasons.proofs.Agrees.{tentative-agrees, rate-modelled, level-named-is, rate-agrees}
+use Rattle.paper_reasons.proofs.Agrees.{tentative-agrees, figures-agree, greater-agrees, tentative-stepped}
+use Rattle.paper_reasons.proofs.Agrees.{rate-modelled, level-named-is, rate-agrees}
 
 module _ (r : Record) (d : Day) (rows : List ℤ) where
   -- with isEWMA yes
@@ -44,6 +45,9 @@ module _ (r : Record) (d : Day) (rows : List ℤ) where
             (tentative-named (r .statics) on (stepOn r d rows) (r .tentative));
         tentative-rate = tentative-agrees r d rows on;
         level = level-true;
+        figures = figures-agree r d rows on;
+        greater = greater-agrees r d rows on;
+        step = tentative-stepped r d rows on;
       }
     where
       t : ℕ
@@ -69,6 +73,7 @@ module _ (r : Record) (d : Day) (rows : List ℤ) where
         tentative = rw off;
         tentative-rate = rw off;
         level = λ i k. level-named-is r d rows i k ∙ rw off;
+        figures = rw off;
       }
 
   pub reasons-true : validStatics (r .statics) ≡ true

@@ -1,12 +1,14 @@
 -- W-207: the figure of documents 01 and 02 that each reason names. `None` names no figure, which stands as 0.
-use mathlib.Core.Bool.{Bool}
+use mathlib.Core.Bool.{Bool, _&&_}
 use mathlib.Core.List.{List}
 use Prim.Native.Nat.{ℕ, _-_}
+use lib.Dec.{leb, ltb}
 use Rattle.paper.specs.declared.External.{External}
 use Rattle.paper.specs.declared.Roubles.{Roubles}
 use Rattle.paper.specs.declared.Model.{Model}
 use Rattle.paper.specs.declared.Statics.{Statics}
 use Rattle.paper.specs.declared.Tentative.{Tentative}
+use Rattle.paper.specs.Lists.{pick}
 use Rattle.paper_desk.specs.Evaluation.{closeOf, bidOf, askOf}
 use Rattle.paper_desk.specs.Rates.{weighted, replacement, tentativeRate, tentativeRateByMove, minimumOf}
 use Rattle.paper_reasons.specs.declared.PriceReason.{PriceReason}
@@ -41,6 +43,11 @@ unfoldable pub volatilityFigure : Model → (a r s : ℕ) → ReplacementReason 
 volatilityFigure m a r s chosen.None = 0
 volatilityFigure m a r s chosen.Yes = replacement (m .q) r
 volatilityFigure m a r s chosen.No = weighted a s r
+
+-- "When b ≤ 1 and r > 100·S_1 (last rate), also take the least y": y, and 0 where it is not taken. The last rate is in
+-- the unit of the move
+unfoldable pub replacementTaken : Model → (b r last : ℕ) → ℕ
+replacementTaken m b r last = pick (leb b 1 && ltb last r) (replacement (m .q) r) 0
 
 -- the t of the day: where the replacement won, that of the move r (W-202), else that of new s
 unfoldable pub stepFigure : Statics → (r s : ℕ) → ReplacementReason → ℕ

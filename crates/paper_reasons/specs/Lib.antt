@@ -2,8 +2,11 @@
 pub mod Reasons
 pub mod Faults
 pub mod Figures
+pub mod AdmissionFaults
 pub mod Why
 pub mod Truth
 pub mod Words
 pub mod PinnedWords
 pub mod PinnedReasons
+pub mod PinnedFigures
+pub mod PinnedAdmissions

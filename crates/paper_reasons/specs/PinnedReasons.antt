@@ -41,7 +41,7 @@ use Rattle.paper_reasons.specs.Words.{faultNumbers}
 -- why a day is answered as it is, on a table of one record, in the numbers of Words: the price, the weight, the
 -- replacement, the tentative rate and the three levels of a day that is accepted; the number and the fault of one that
 -- is refused. It opens every definition that it computes with, so that a table opens this one alone
-said : (admitted day rows : List ℤ) → List ℕ
+unfoldable pub said : (admitted day rows : List ℤ) → List ℕ
 unfolding unsigned isPrice isRate gridOf isGridPrice validStatics staticsOf tentativeTop validTentative partsFrom
     rowAt rowsOf wholeRows validRow validRows rowOf validTerm validDay lastDay isLimit validLimits validNear
     validNearSeconds validSession validExternal sound validSlots rowPrice rowWeight roublesOf traded weights worth
@@ -71,7 +71,7 @@ calm =
     but (ratesAt, pos 4000)
 
 -- day 4, without holidays
-today : List ℤ
+unfoldable pub today : List ℤ
 today = pos 4 ∷ []
 
 -- that security with UseEXTERNAL no (0) or yes (1), and an outside bid and ask that it keeps (W-211)
@@ -143,21 +143,21 @@ prices-are = refl
 -- ---- the weight, the replacement and the tentative rate
 
 -- day 4 after two holidays: the weight is 0, and the volatility stays
-rested : List ℤ
+unfoldable pub rested : List ℤ
 rested = pos 4 ∷ pos 2 ∷ []
 
 -- case 7's security: "Earlier prices 300,000,000", its last rates at their minima
-seventh : List ℤ
+unfoldable pub seventh : List ℤ
 unfolding zRecord zNumbers
 seventh = zRecord but (p1At, pos 300000000) but (p1At + 1, pos 300000000) but (ratesAt, pos 500)
 
 -- Z with a volatility and a tentative rate, after a last rate S_1
-restless : (s s1 tentative : ℕ) → List ℤ
+unfoldable pub restless : (s s1 tentative : ℕ) → List ℤ
 unfolding zRecord zNumbers
 restless s s1 tentative = zRecord but (sAt, pos s) but (ratesAt, pos s1) but (tentativeAt, pos tentative)
 
 -- Z with a tentative rate of an age and a volatility
-aged : (tentative age s : ℕ) → List ℤ
+unfoldable pub aged : (tentative age s : ℕ) → List ℤ
 unfolding zRecord zNumbers
 aged tentative age s = zRecord but (tentativeAt, pos tentative) but (ageAt, pos age) but (sAt, pos s)
 

@@ -5,7 +5,7 @@ use mathlib.Core.Path.{_≡_}
 use mathlib.Core.Logic.{_⊎_}
 use mathlib.Core.Bool.{Bool, true, false}
 use mathlib.Core.List.{List, [], _∷_, map}
-use Prim.Native.Nat.{ℕ, _+_, _*_, _<_}
+use Prim.Native.Nat.{ℕ, _+_, _*_, _<_, max}
 use lib.IntN.{ℤ}
 use lib.ListN.{getD}
 use Rattle.paper.specs.declared.Record.{Record}
@@ -15,13 +15,15 @@ use Rattle.paper.specs.Roundings.{toGrid}
 use Rattle.paper.specs.Ranges.{gridOf, rateAt}
 use Rattle.paper.specs.Verdicts.{isDone, FirstAt, NoneApplies, Exactly}
 use Rattle.paper_desk.specs.Evaluation.{roublesOf, dayRows}
-use Rattle.paper_desk.specs.Rates.{moveOf, modelOf, replacementWins}
+use Rattle.paper_desk.specs.Rates.{moveOf, modelOf, weighted, replacementWins, tentativeAfter}
 use Rattle.paper_desk.specs.Desk.{usedBy, found, evaluate, step}
 use Rattle.paper_reasons.specs.declared.WeightReason.the-variants as weight
 use Rattle.paper_reasons.specs.declared.ReplacementReason.the-variants as replacement
 use Rattle.paper_reasons.specs.declared.TentativeReason.the-variants as tentative
 use Rattle.paper_reasons.specs.declared.LevelReason.{LevelReason}
 use Rattle.paper_reasons.specs.declared.LevelReason.the-variants as level
+use Rattle.paper_reasons.specs.declared.Deciding.{Deciding}
+use Rattle.paper_reasons.specs.declared.Decided.the-variants as decided
 use Rattle.paper_reasons.specs.declared.Fault.{Fault}
 use Rattle.paper_reasons.specs.declared.Fault.the-variants as fault
 use Rattle.paper_reasons.specs.declared.Reasons.{Reasons}
@@ -30,7 +32,7 @@ use Rattle.paper_reasons.specs.Reasons.{replacementWas, replacementReaso
 use Rattle.paper_reasons.specs.Reasons.{levelSetBy, levelReasons}
 use Rattle.paper_reasons.specs.Faults.{faultsOf}
 use Rattle.paper_reasons.specs.Figures.{priceFigure, weightFigure, volatilityFigure, stepFigure, tentativeFigure}
-use Rattle.paper_reasons.specs.Figures.{levelFigure}
+use Rattle.paper_reasons.specs.Figures.{levelFigure, replacementTaken}
 use Rattle.paper_reasons.specs.Why.{noReasons, whyOn}
 
 -- ---- what the reasons y say. old is the record that an evaluation finds, and new the one that it writes
@@ -59,6 +61,19 @@ abbrev pub tentativeSaid : (old new : Record) → Reasons → ℕ
 tentativeSaid old new y =
     tentativeFigure (old .statics .h) (stepSaid old new y) (old .tentative .bp) (y .tentative)
 
+-- the figures that decided: x is by the weight that is named, t by the replacement, and the rest is of the two records
+abbrev pub figuresSaid : (old new : Record) → Day → Reasons → Deciding
+figuresSaid old new d y =
+    record {
+      r = moveBetween old new;
+      before = old .s;
+      x = weighted (weightFigure (modelOf (old .statics)) (y .weight)) (old .s) (moveBetween old new);
+      y = replacementTaken (modelOf (old .statics)) (d .b) (moveBetween old new)
+          (millionthsInBp * rateAt (old .rates) 0);
+      s = new .s;
+      t = stepSaid old new y;
+    }
+
 -- of the levels 1, 2, 3, at the places 0, 1, 2: the reason, and the rate
 abbrev pub levelNamed : Reasons → (place : ℕ) → LevelReason
 levelNamed y place = getD (y .level1 ∷ y .level2 ∷ y .level3 ∷ []) place level.None
@@ -86,6 +101,12 @@ pub record ModelledTrue (old new : Record) (d : Day) (y : Reasons) : Type 0 wher
   pub level : (i : ℕ) → i < 3
       → TrueReason (levelSetBy (old .statics) (new .tentative .bp) (d .m) (i + 1) (rateAt (new .rates) i)) levelReasons
       (levelNamed y i)
+  -- each figure is the one that made the record: "s is the greater" of x and y, and t makes the tentative rate with its
+  -- age
+  pub figures : y .figures ≡ decided.By (figuresSaid old new d y)
+  pub greater : new .s ≡ max (figuresSaid old new d y .x) (figuresSaid old new d y .y)
+  pub step : new .tentative
+      ≡ tentativeAfter (old .statics .h) (old .statics .wait) (figuresSaid old new d y .t) (old .tentative)
 
 -- "With isEWMA no, each level names the minimum, and weight, replacement and tentative rate none"; s and the tentative
 -- rate with its age stay
@@ -96,6 +117,7 @@ pub record UnmodelledTrue (old new : Record) (y : Reasons) : Type 0 where
   pub tentative : y .tentative ≡ tentative.None
   pub tentative-rate : new .tentative ≡ old .tentative
   pub level : (i : ℕ) → i < 3 → levelNamed y i ≡ level.Minimum
+  pub figures : y .figures ≡ decided.None
 
 -- of an accepted evaluation
 pub record ReasonsTrue (old new : Record) (d : Day) (rows : List ℤ) (y : Reasons) : Type 0 where

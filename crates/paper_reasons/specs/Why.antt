@@ -6,12 +6,14 @@ use lib.IntN.{ℤ}
 use Rattle.paper.specs.declared.Record.{Record}
 use Rattle.paper.specs.declared.Day.{Day}
 use Rattle.paper.specs.declared.Figures.{Figures}
+use Rattle.paper.specs.declared.Model.{Model}
+use Rattle.paper.specs.declared.Statics.{Statics}
 use Rattle.paper.specs.declared.Verdict.{Verdict}
 use Rattle.paper.specs.Lists.{pick}
 use Rattle.paper.specs.Numbers.{millionthsInBp}
 use Rattle.paper.specs.Ranges.{rateAt}
 use Rattle.paper_desk.specs.Evaluation.{roublesOf, dayRows}
-use Rattle.paper_desk.specs.Rates.{modelOf, replacementWins, tentativeRateOf}
+use Rattle.paper_desk.specs.Rates.{modelOf, weightOf, weighted, replacementWins, tentativeRateOf}
 use Rattle.paper.specs.Verdicts.{isDone, firstOf}
 use Rattle.paper_desk.specs.Desk.{moveOn, figuresOn, found, known, evaluateChecks, usedBy}
 use Rattle.paper_reasons.specs.declared.PriceReason.the-variants as price
@@ -20,11 +22,15 @@ use Rattle.paper_reasons.specs.declared.ReplacementReason.the-variants a
 use Rattle.paper_reasons.specs.declared.TentativeReason.the-variants as tentative
 use Rattle.paper_reasons.specs.declared.LevelReason.{LevelReason}
 use Rattle.paper_reasons.specs.declared.LevelReason.the-variants as level
+use Rattle.paper_reasons.specs.declared.Deciding.{Deciding}
+use Rattle.paper_reasons.specs.declared.Decided.{Decided}
+use Rattle.paper_reasons.specs.declared.Decided.the-variants as decided
 use Rattle.paper_reasons.specs.declared.Reasons.{Reasons}
 use Rattle.paper_reasons.specs.declared.Why.{Why}
 use Rattle.paper_reasons.specs.Reasons.{priceReason, weightReason, replacementReason, tentativeReason}
 use Rattle.paper_reasons.specs.Reasons.{levelReason}
 use Rattle.paper_reasons.specs.Faults.{faultOf}
+use Rattle.paper_reasons.specs.Figures.{replacementTaken}
 
 -- of a refused evaluation no figure has a reason
 abbrev pub noReasons : Reasons
@@ -37,6 +43,7 @@ noReasons =
       level1 = level.None;
       level2 = level.None;
       level3 = level.None;
+      figures = decided.None;
     }
 
 -- whether the replacement is the one chosen on a day, and the t of that day
@@ -46,6 +53,24 @@ replacedOn r d rows =
 
 unfoldable pub stepOn : Record → Day → (rows : List ℤ) → ℕ
 stepOn r d rows = tentativeRateOf (r .statics) (replacedOn r d rows) (moveOn r rows) (figuresOn r d rows .s)
+
+-- the figures that decided: r, s before, x, y, new s and t. Each is the figure of the rule that makes the record
+unfoldable pub decidingOn : Record → Day → (rows : List ℤ) → Deciding
+decidingOn r d rows =
+    let m : Model = modelOf (r .statics) in
+    let move : ℕ = moveOn r rows in
+    record {
+      r = move;
+      before = r .s;
+      x = weighted (weightOf m (d .b) move (r .s)) (r .s) move;
+      y = replacementTaken m (d .b) move (millionthsInBp * rateAt (r .rates) 0);
+      s = figuresOn r d rows .s;
+      t = stepOn r d rows;
+    }
+
+-- with isEWMA no, none did
+abbrev pub decidedBy : Statics → Deciding → Decided
+decidedBy st f = pick (st .ewma) (decided.By f) decided.None
 
 -- of the levels 1, 2, 3: the rate of level L stands at L - 1
 unfoldable pub levelOn : Record → Day → (rows : List ℤ) → (level place : ℕ) → LevelReason
@@ -64,6 +89,7 @@ reasonsOf r d rows =
       level1 = levelOn r d rows 1 0;
       level2 = levelOn r d rows 2 1;
       level3 = levelOn r d rows 3 2;
+      figures = decidedBy (r .statics) (decidingOn r d rows);
     }
 
 -- "For an accepted evaluation, name: ..". "For a refused evaluation it names the number and ..": `there` is whether the

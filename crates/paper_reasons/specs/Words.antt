@@ -12,6 +12,8 @@ use Rattle.paper_reasons.specs.declared.TentativeReason.{TentativeReason
 use Rattle.paper_reasons.specs.declared.TentativeReason.the-variants as tentative
 use Rattle.paper_reasons.specs.declared.LevelReason.{LevelReason}
 use Rattle.paper_reasons.specs.declared.LevelReason.the-variants as level
+use Rattle.paper_reasons.specs.declared.Decided.{Decided}
+use Rattle.paper_reasons.specs.declared.Decided.the-variants as decided
 use Rattle.paper_reasons.specs.declared.Fault.{Fault}
 use Rattle.paper_reasons.specs.declared.Fault.the-variants as fault
 
@@ -47,6 +49,11 @@ levelNumber level.None = 0
 levelNumber level.Requirement = 1
 levelNumber level.Minimum = 2
 levelNumber level.Maximum = 3
+
+-- R S0 X Y S T, or nothing
+unfoldable pub decidedNumbers : Decided → List ℕ
+decidedNumbers decided.None = []
+decidedNumbers (decided.By f) = f .r ∷ f .before ∷ f .x ∷ f .y ∷ f .s ∷ f .t ∷ []
 
 -- 1 and the row, 2 and the term
 unfoldable pub faultNumbers : Fault → List ℕ

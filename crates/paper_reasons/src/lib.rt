@@ -50,6 +50,22 @@ pub enum Fault {
     Term(u64),
 }
 
+// The figures that decided, with isEWMA yes: document 01's letters, and s before the evaluation.
+pub struct Deciding {
+    pub r: u64, // millionths, 0 to 1,000,000: the move
+    pub before: u64, // millionths, 0 to 1,000,000: the volatility before
+    pub x: u64, // millionths, 0 to 1,000,000: the root of the weighted mean
+    pub y: u64, // millionths, 0 to 1,000,000: the replacement, 0 where it is not taken
+    pub s: u64, // millionths, 0 to 1,000,000: the volatility now
+    pub t: u64, // bp: the least step, before any wait
+}
+
+// With isEWMA no, no figure decided.
+pub enum Decided {
+    None,
+    By(Deciding),
+}
+
 // The reasons of an accepted evaluation; all `None` of a refused one.
 pub struct Reasons {
     pub price: PriceReason,
@@ -59,6 +75,7 @@ pub struct Reasons {
     pub level1: LevelReason,
     pub level2: LevelReason,
     pub level3: LevelReason,
+    pub figures: Decided,
 }
 
 // Why an evaluation is answered as it is.
@@ -66,4 +83,10 @@ pub struct Why {
     pub verdict: Verdict,
     pub fault: Fault,
     pub reasons: Reasons,
+}
+
+// The number at fault in an admission that is refused 4, by its place in the line: the id is 1. `None` where none is.
+pub enum FieldAtFault {
+    None,
+    Number(u64),
 }

@@ -3,3 +3,4 @@ pub mod Seeking
 pub mod AtFault
 pub mod Reasoning
 pub mod Answering
+mod SeekingOut

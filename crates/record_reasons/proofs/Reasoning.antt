@@ -2,7 +2,7 @@
 use mathlib.Core.Path.{_≡_, refl, sym, ap, subst, _∙_}
 use mathlib.Core.Bool.{Bool, true, false, not, _&&_, _||_}
 use mathlib.Core.List.{List, [], _∷_, map}
-use Prim.Native.Nat.{ℕ, zero, suc, _+_, _≤_}
+use Prim.Native.Nat.{ℕ, zero, suc, _+_, _*_, _≤_}
 use native.Mathlib.Omega.{arith}
 use lib.Dec.{leb, ltb, eqb}
 use lib.IntN.{ℤ}
@@ -19,13 +19,15 @@ use Rattle.paper.specs.declared.Figures.{Figures}
 use Rattle.paper.specs.Lists.{pick, every, some, forLevels}
 use Rattle.paper.specs.Ranges.{isPrice, gridOf, validStatics, validTentative, sound, validDay, rateAt, noRate}
 use Rattle.paper_desk.specs.Evaluation.{roublesOf, weights, rowFits, evaluationOf, evaluationFits, dayRows}
-use Rattle.paper_desk.specs.Rates.{moveTooLarge, levelRate, modelled, figuresOf}
-use Rattle.paper.specs.Numbers.{volatilityMost, aheadMost}
+use Rattle.paper_desk.specs.Rates.{modelOf, weightOf, weighted, tentativeRateOf, moveTooLarge, levelRate, modelled}
+use Rattle.paper_desk.specs.Rates.{figuresOf}
+use Rattle.paper.specs.Numbers.{millionthsInBp, volatilityMost, aheadMost}
 use Rattle.paper.specs.Verdicts.{isDone, firstOf, NoneApplies, none, also, allRefusals}
 use Rattle.paper_desk.specs.Desk.{usedBy, priceOn, moveOn, figuresOn, evaluated, evaluateChecks}
 use Rattle.paper.proofs.Logic.{not-true-and-false, and-left, and-right, and-right-false, not-false, pick-true}
 use Rattle.paper.proofs.Logic.{pick-false}
-use Rattle.paper_desk.proofs.TentativeRange.{valid-tentative-within-top, modelled-stays}
+use Rattle.paper_desk.proofs.Bounds.{volatility-high}
+use Rattle.paper_desk.proofs.TentativeRange.{valid-tentative-within-top, tentative-rate-in, modelled-stays}
 use Rattle.paper_desk.proofs.Refusals.{done-means-none-applies}
 use Rattle.evaluation.specs.declared.PriceFigures.{PriceFigures}
 use Rattle.evaluation.specs.Evaluation.{priceFigures, pricedOf}
@@ -34,7 +36,7 @@ use Rattle.inputs.proofs.Facts.{day-facts}
 use Rattle.rates_level.specs.RateStatics.{tentativeBound}
 use Rattle.rates_level.proofs.Statics.{within-tentative-bound}
 use Rattle.rates.specs.RateRanges.{FigureRanges}
-use Rattle.rates.proofs.Statics.{sound-figures-in-ranges}
+use Rattle.rates.proofs.Statics.{sound-figures-in-ranges, rates-weighing}
 use Rattle.record_figures.specs.declared.Made.{Made}
 use Rattle.record_figures.specs.Evaluates.{moveTo, figuresAt, madeOf}
 use Rattle.record_answers.specs.declared.Slot.{Slot}
@@ -43,15 +45,23 @@ use Rattle.record_evaluation.specs.Workings.{pricedOn}
 use Rattle.record_answers.proofs.Tests.{known-sound}
 use Rattle.record_evaluation.proofs.Evaluations.{day-valid-parts}
 use Rattle.paper_reasons.specs.declared.PriceReason.{PriceReason}
+use Rattle.paper_reasons.specs.declared.WeightReason.{WeightReason}
 use Rattle.paper_reasons.specs.declared.WeightReason.the-variants as weight
+use Rattle.paper_reasons.specs.declared.ReplacementReason.{ReplacementReason}
 use Rattle.paper_reasons.specs.declared.ReplacementReason.the-variants as replacement
+use Rattle.paper_reasons.specs.declared.TentativeReason.{TentativeReason}
 use Rattle.paper_reasons.specs.declared.TentativeReason.the-variants as tentative
+use Rattle.paper_reasons.specs.declared.LevelReason.{LevelReason}
+use Rattle.paper_reasons.specs.declared.Deciding.{Deciding}
+use Rattle.paper_reasons.specs.declared.Decided.the-variants as decided
 use Rattle.paper_reasons.specs.Reasons.{firstThatHolds, isTraded, priceSetBy, priceReason, weightIs, weightReasons}
 use Rattle.paper_reasons.specs.Reasons.{weightReason, replacementWas, replacementReasons, replacementReason}
 use Rattle.paper_reasons.specs.Reasons.{tentativeDid, tentativeReasons, tentativeReason, levelReason}
-use Rattle.paper_reasons.specs.Why.{replacedOn, stepOn, levelOn, reasonsOf}
-use Rattle.record_reasons.specs.Reasoned.{setBy, reasonFrom, replacedAt, stepAt, levelAt, unmodelledWith}
-use Rattle.record_reasons.specs.Reasoned.{modelledWith, reasonsAt, Accepted}
+use Rattle.paper_reasons.specs.Figures.{replacementTaken}
+use Rattle.paper_reasons.proofs.Figures.{won-is}
+use Rattle.paper_reasons.specs.Why.{replacedOn, stepOn, decidingOn, decidedBy, levelOn, reasonsOf}
+use Rattle.record_reasons.specs.Reasoned.{setBy, reasonFrom, replacedAt, stepAt, decidingAt, levelAt}
+use Rattle.record_reasons.specs.Reasoned.{unmodelledWith, modelledWith, reasonsAt, Accepted}
 
 -- the weights together are above 0 where some row's is
 weights-traded : (rs : List Roubles) → ltb 0 (weights rs) ≡ isTraded rs
@@ -74,8 +84,8 @@ reason-from previous used rs = rw (weights-traded rs)
 -- THE REASONS of the rows of a day
 pub reasons-are : (r : Record) (d : Day) (rows : List ℤ)
     → reasonsAt r d (priceOn r rows) (pricedOn r rows .figures) ≡ reasonsOf r d rows
-unfolding pricedOf modelledWith reasonsOf moveTo moveOn figuresAt figuresOn replacedAt replacedOn stepAt stepOn levelAt
-    levelOn
+unfolding pricedOf modelledWith reasonsOf moveTo moveOn figuresAt figuresOn replacedAt replacedOn stepAt stepOn
+    decidingAt decidingOn levelAt levelOn
 reasons-are r d rows = rw (reason-from (r .p1 .units) (usedBy r) (map roublesOf (dayRows rows)))
 
 -- WHERE NO NUMBER APPLIES
@@ -95,6 +105,7 @@ accepted s d rows e = go (done-means-none-applies (evaluateChecks (isKnown s) (s
           price =
               and-right (every rowFits (dayRows rows)) (isPrice (priceOn (s .rec) rows)) (not-false _ f);
           near = m;
+          volatility = refl;
           tentative = refl;
           rates = refl;
         }
@@ -131,12 +142,30 @@ module _ (old : Record) (d : Day) (new : Made) (a : Accepted old d new) (on : ol
   tentative-is : new .tentative ≡ made .tentative
   tentative-is = a .tentative ∙ ap (λ (f : Figures). f .tentative) is-made
 
+  move-high : moveTo old (new .p1 .units) ≤ volatilityMost
+  move-high = allowed-move-within-most (old .statics) _ on (a .near)
+
+  -- new s is a volatility
+  pub made-volatility-high : new .s ≤ volatilityMost
+  unfolding modelled
+  made-volatility-high =
+      rw (a .volatility ∙ ap (λ (f : Figures). f .s) is-made)
+      (volatility-high _ _ _ _ _ _ (rates-weighing _ (figures-in-ranges .statics)) (figures-in-ranges .volatility)
+      move-high)
+
+  -- t is in the tentative rate's range
+  pub step-high : stepAt old d (new .p1 .units) ≤ tentativeBound
+  unfolding stepAt
+  step-high =
+      let st = figures-in-ranges .statics in
+      within-tentative-bound st (valid-tentative-within-top _ _ (tentative-rate-in _ _ _ _ (st .step-low)
+      (st .multiplier-high) move-high (rw (a .volatility) at made-volatility-high)))
+
   pub tentative-high : new .tentative .bp ≤ tentativeBound
   tentative-high =
       let stays =
       modelled-stays (old .statics) (d .b) (d .m) _ _ (old .s) (old .tentative)
-      (sound-facts old (a .sound-record) .valid) (allowed-move-within-most (old .statics) _ on (a .near))
-      (figures-in-ranges .volatility)
+      (sound-facts old (a .sound-record) .valid) move-high (figures-in-ranges .volatility)
       (tentative-valid old (a .sound-record)) in
       rw tentative-is (within-tentative-bound (figures-in-ranges .statics) (valid-tentative-within-top _ _ stays))
 
@@ -178,12 +207,66 @@ pub tentative-by : (st : Statics) (t : ℕ) (old : Tentative) → st .ewma ≡ t
 unfolding tentativeReason
 tentative-by st t old on = sym (pick-true (st .ewma) _ _ on)
 
+-- ---- what the code has worked out is what was asked for
+
+module _ (old : Record) (d : Day) (new : Made) (a : Accepted old d new) (on : old .statics .ewma ≡ true) where
+  abbrev p : ℕ
+  p = new .p1 .units
+
+  -- y won where it is above x
+  won-at : ltb (decidingAt old d p .x) (decidingAt old d p .y) ≡ replacedAt old d p
+  unfolding decidingAt replacedAt
+  won-at = won-is (modelOf (old .statics)) (d .b) (moveTo old p) (millionthsInBp * rateAt (old .rates) 0) (old .s)
+
+  -- THE FIGURES THAT DECIDED, each from those before it
+  pub deciding-is : (r x y t : ℕ) → r ≡ moveTo old p
+      → x ≡ weighted (weightOf (modelOf (old .statics)) (d .b) r (old .s)) (old .s) r
+      → y ≡ replacementTaken (modelOf (old .statics)) (d .b) r (millionthsInBp * rateAt (old .rates) 0)
+      → t ≡ tentativeRateOf (old .statics) (ltb x y) r (new .s)
+      → record { r = r; before = old .s; x = x; y = y; s = new .s; t = t } ≡ decidingAt old d p
+  unfolding decidingAt stepAt
+  deciding-is r x y t r-is x-is y-is t-is = rw (t-is, x-is, y-is, r-is, a .volatility, ← won-at)
+
+  -- THE REASONS, by the figures that decided
+  pub modelled-is : (x : PriceReason) (f : Deciding) (w : WeightReason) (c : ReplacementReason) (k : TentativeReason)
+      (level1 level2 level3 : LevelReason)
+      → f ≡ decidingAt old d p
+      → w ≡ firstThatHolds weight.None (weightIs (d .b) (f .r) (old .s)) weightReasons
+      → c ≡ firstThatHolds replacement.None (replacementWas (ltb (f .x) (f .y))) replacementReasons
+      → k ≡ firstThatHolds tentative.None (tentativeDid (old .statics .h) (old .statics .wait) (f .t) (old .tentative))
+      tentativeReasons
+      → level1 ≡ levelReason (old .statics) (new .tentative .bp) (d .m) 1 (rateAt (new .rates) 0)
+      → level2 ≡ levelReason (old .statics) (new .tentative .bp) (d .m) 2 (rateAt (new .rates) 1)
+      → level3 ≡ levelReason (old .statics) (new .tentative .bp) (d .m) 3 (rateAt (new .rates) 2)
+      → record {
+        price = x;
+        weight = w;
+        replacement = c;
+        tentative = k;
+        level1 = level1;
+        level2 = level2;
+        level3 = level3;
+        figures = decided.By f;
+      } ≡ modelledWith x old d p
+  unfolding modelledWith decidingAt
+  modelled-is x f w c k level1 level2 level3 f-is w-is c-is k-is is1 is2 is3 =
+      rw (
+        (rw f-is at w-is) ∙ weight-by (old .statics) _ _ _ on,
+        (rw (f-is, won-at) at c-is) ∙ replacement-by (old .statics) _ on,
+        (rw f-is at k-is) ∙ tentative-by (old .statics) _ _ on,
+        is1 ∙ level-at old d new a 1 0,
+        is2 ∙ level-at old d new a 2 1,
+        is3 ∙ level-at old d new a 3 2,
+        ap decided.By f-is ∙ sym (pick-true (old .statics .ewma) (decided.By (decidingAt old d p)) decided.None on),
+      )
+
 -- and where it is no
 pub unmodelled-is : (x : PriceReason) (r : Record) (d : Day) (p : ℕ) → r .statics .ewma ≡ false
     → unmodelledWith x ≡ modelledWith x r d p
 unfolding modelledWith weightReason replacementReason tentativeReason levelAt levelReason
 unmodelled-is x r d p off =
     rw (
+      none-picked _ _ off,
       none-picked _ _ off,
       none-picked _ _ off,
       none-picked _ _ off,

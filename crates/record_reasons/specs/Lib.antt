@@ -2,3 +2,4 @@
 pub mod RowFaults
 pub mod Reasoned
 pub mod Whys
+pub mod FirstOut

@@ -7,10 +7,11 @@ use lib.Dec.{ltb, eqb}
 use Rattle.paper.specs.declared.Record.{Record}
 use Rattle.paper.specs.declared.Day.{Day}
 use Rattle.paper.specs.declared.Figures.{Figures}
+use Rattle.paper.specs.declared.Model.{Model}
 use Rattle.paper.specs.Numbers.{millionthsInBp}
 use Rattle.paper.specs.Ranges.{isPrice, validDayNumbers, rateAt, sound}
 use Rattle.paper_desk.specs.Evaluation.{between}
-use Rattle.paper_desk.specs.Rates.{modelOf, replacementWins, tentativeRateOf, moveTooLarge}
+use Rattle.paper_desk.specs.Rates.{modelOf, weightOf, weighted, replacementWins, tentativeRateOf, moveTooLarge}
 use Rattle.evaluation.specs.declared.PriceFigures.{PriceFigures}
 use Rattle.record_figures.specs.declared.Made.{Made}
 use Rattle.record_figures.specs.Evaluates.{moveTo, figuresAt}
@@ -21,9 +22,13 @@ use Rattle.paper_reasons.specs.declared.ReplacementReason.the-variants as repla
 use Rattle.paper_reasons.specs.declared.TentativeReason.the-variants as tentative
 use Rattle.paper_reasons.specs.declared.LevelReason.{LevelReason}
 use Rattle.paper_reasons.specs.declared.LevelReason.the-variants as level
+use Rattle.paper_reasons.specs.declared.Deciding.{Deciding}
+use Rattle.paper_reasons.specs.declared.Decided.the-variants as decided
 use Rattle.paper_reasons.specs.declared.Reasons.{Reasons}
 use Rattle.paper_reasons.specs.Reasons.{firstThatHolds, priceReasons, weightReason, replacementReason, tentativeReason}
 use Rattle.paper_reasons.specs.Reasons.{levelReason}
+use Rattle.paper_reasons.specs.Figures.{replacementTaken}
+use Rattle.paper_reasons.specs.Why.{decidedBy}
 
 -- which of the figures set the price: the rows have a weight where the weights together are above 0
 unfoldable pub setBy : (previous : ℕ) → PriceFigures → PriceReason → Bool
@@ -44,6 +49,20 @@ replacedAt r d p =
 unfoldable pub stepAt : Record → Day → (p : ℕ) → ℕ
 stepAt r d p = tentativeRateOf (r .statics) (replacedAt r d p) (moveTo r p) (figuresAt r d p .s)
 
+-- the figures that decided at P
+unfoldable pub decidingAt : Record → Day → (p : ℕ) → Deciding
+decidingAt r d p =
+    let m : Model = modelOf (r .statics) in
+    let move : ℕ = moveTo r p in
+    record {
+      r = move;
+      before = r .s;
+      x = weighted (weightOf m (d .b) move (r .s)) (r .s) move;
+      y = replacementTaken m (d .b) move (millionthsInBp * rateAt (r .rates) 0);
+      s = figuresAt r d p .s;
+      t = stepAt r d p;
+    }
+
 unfoldable pub levelAt : Record → Day → (p level place : ℕ) → LevelReason
 levelAt r d p level place =
     let f : Figures = figuresAt r d p in
@@ -60,6 +79,7 @@ unmodelledWith x =
       level1 = level.Minimum;
       level2 = level.Minimum;
       level3 = level.Minimum;
+      figures = decided.None;
     }
 
 -- with isEWMA yes
@@ -73,6 +93,7 @@ modelledWith x r d p =
       level1 = levelAt r d p 1 0;
       level2 = levelAt r d p 2 1;
       level3 = levelAt r d p 3 2;
+      figures = decidedBy (r .statics) (decidingAt r d p);
     }
 
 abbrev pub reasonsAt : Record → Day → (p : ℕ) → PriceFigures → Reasons
@@ -84,5 +105,6 @@ pub record Accepted (old : Record) (d : Day) (new : Made) : Type 0 where
   pub day : validDayNumbers d ≡ true
   pub price : isPrice (new .p1 .units) ≡ true
   pub near : moveTooLarge (old .statics) (moveTo old (new .p1 .units)) ≡ false
+  pub volatility : new .s ≡ figuresAt old d (new .p1 .units) .s
   pub tentative : new .tentative ≡ figuresAt old d (new .p1 .units) .tentative
   pub rates : new .rates ≡ figuresAt old d (new .p1 .units) .rates

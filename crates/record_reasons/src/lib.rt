@@ -1,6 +1,7 @@
 // W-207, "Say why", by value: the slot found and the inputs in, why an evaluation of them is answered as it is out. The
 // evaluation itself is worked out once, by the rule that `evaluate` has (`record_evaluation::worked`).
 mod faults; // which row or term is at fault in a refused evaluation
+pub mod fields; // which number is at fault in an admission that is refused 4
 pub mod reasons; // which figure set each of the record's
 
 ghost use mathlib.Core.Path.{_≡_};
@@ -9,6 +10,7 @@ ghost use Rattle.record_reasons.specs.Whys.{whySlot};
 use crate::faults::fault_of;
 use crate::reasons::reasons_of;
 use paper::Day;
+use paper_reasons::Decided;
 use paper_reasons::LevelReason;
 use paper_reasons::PriceReason;
 use paper_reasons::Reasons;
@@ -30,6 +32,7 @@ fn no_reasons() -> Reasons
         level1: LevelReason::None,
         level2: LevelReason::None,
         level3: LevelReason::None,
+        figures: Decided::None,
     }
 }
 

@@ -2,22 +2,27 @@
 ghost use mathlib.Core.Path.{_≡_};
 ghost use mathlib.Core.Bool.{true};
 ghost use Prim.Native.Nat.{_+_, _^_, _≤_, _<_};
-ghost use Rattle.paper.specs.Numbers.{aheadMost, rateMost};
+ghost use Rattle.paper.specs.Numbers.{aheadMost, rateMost, volatilityMost};
 ghost use Rattle.paper.specs.Ranges.{validStatics};
 ghost use Rattle.paper_desk.specs.Rates.{levelRate};
 ghost use Rattle.rates_level.specs.RateStatics.{tentativeBound};
 ghost use Rattle.paper_reasons.specs.Reasons.{firstThatHolds, weightIs, weightReasons, replacementWas};
 ghost use Rattle.paper_reasons.specs.Reasons.{replacementReasons, tentativeDid, tentativeReasons, levelSetBy};
 ghost use Rattle.paper_reasons.specs.Reasons.{levelReason};
-ghost use Rattle.record_reasons.specs.Reasoned.{reasonFrom, unmodelledWith, modelledWith, reasonsAt, Accepted};
+ghost use Rattle.paper_reasons.specs.Figures.{replacementTaken};
+ghost use Rattle.record_reasons.specs.Reasoned.{reasonFrom, decidingAt, unmodelledWith, modelledWith, reasonsAt};
+ghost use Rattle.record_reasons.specs.Reasoned.{Accepted};
 use evaluation::PriceFigures;
 use paper::Day;
 use paper::MILLIONTHS_IN_BP;
+use paper::Model;
 use paper::Price;
 use paper::Rate;
 use paper::Record;
 use paper::Statics;
 use paper::Tentative;
+use paper_reasons::Decided;
+use paper_reasons::Deciding;
 use paper_reasons::LevelReason;
 use paper_reasons::PriceReason;
 use paper_reasons::Reasons;
@@ -25,9 +30,11 @@ use paper_reasons::ReplacementReason;
 use paper_reasons::TentativeReason;
 use paper_reasons::WeightReason;
 use rates::tentative::tentative_rate_of;
-use rates::volatility::choose;
 use rates::volatility::model_of;
 use rates::volatility::move_of;
+use rates::volatility::replacement;
+use rates::volatility::weight_of;
+use rates::volatility::weighted;
 use rates_level::covers;
 use rates_level::level_of;
 use record_figures::Made;
@@ -138,6 +145,43 @@ fn unmodelled(price: PriceReason) -> Reasons
         level1: LevelReason::Minimum,
         level2: LevelReason::Minimum,
         level3: LevelReason::Minimum,
+        figures: Decided::None,
+    }
+}
+
+// The y of the paper where it is taken, and 0 where it is not.
+fn replacement_taken(m: Model, b: u64, r: u64, last: u64) -> u64
+    requires { ⌜ (0 < m .q) × (r ≤ volatilityMost) ⌝ }
+    ensures { λ y. ⌜ y ≡ replacementTaken m b r last ⌝ }
+{
+    if (b <= 1) & (last < r) {
+        return replacement(m.q, r);
+    }
+    0
+}
+
+// The figures that decided, with isEWMA yes: s is the one that was made, and y won where it is above x.
+fn deciding(old: Record, d: Day, new: Made) -> Deciding
+    requires { ⌜ Accepted old d new ⌝ }
+    requires { ⌜ old .statics .ewma ≡ true ⌝ }
+    ensures { λ f. ⌜ f ≡ decidingAt old d (new .p1 .units) ⌝ }
+{
+    let st = old.statics;
+    let last = old.rates;
+    let p1 = old.p1;
+    let p2 = old.p2;
+    let p = new.p1;
+    let r = move_of(p1, p2, p);
+    let m = model_of(st);
+    let x = weighted(weight_of(m, d.b, r, old.s), old.s, r);
+    let y = replacement_taken(m, d.b, r, MILLIONTHS_IN_BP * last[0].bp);
+    Deciding {
+        r,
+        before: old.s,
+        x,
+        y,
+        s: new.s,
+        t: tentative_rate_of(st, x < y, r, new.s),
     }
 }
 
@@ -148,30 +192,19 @@ fn modelled(price: PriceReason, old: Record, d: Day, new: Made) -> Reasons
     ensures { λ r. ⌜ r ≡ modelledWith price old d (new .p1 .units) ⌝ }
 {
     let st = old.statics;
-    let last = old.rates;
     let tentative = old.tentative;
-    let p1 = old.p1;
-    let p2 = old.p2;
-    let p = new.p1;
     let made = new.rates;
     let after = new.tentative;
-    let price_move = move_of(p1, p2, p);
-    let carried = choose(
-        model_of(st),
-        d.b,
-        MILLIONTHS_IN_BP * last[0].bp,
-        price_move,
-        old.s,
-    );
-    let t = tentative_rate_of(st, carried.replaced, price_move, carried.s);
+    let f = deciding(old, d, new);
     Reasons {
         price,
-        weight: weight_reason(d.b, price_move, old.s),
-        replacement: replacement_reason(carried.replaced),
-        tentative: tentative_reason(st.h, st.wait, t, tentative),
+        weight: weight_reason(d.b, f.r, old.s),
+        replacement: replacement_reason(f.x < f.y),
+        tentative: tentative_reason(st.h, st.wait, f.t, tentative),
         level1: level_reason(st, 1, d.m, after.bp, made[0]),
         level2: level_reason(st, 2, d.m, after.bp, made[1]),
         level3: level_reason(st, 3, d.m, after.bp, made[2]),
+        figures: Decided::By(f),
     }
 }
 

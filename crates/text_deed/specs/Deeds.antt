@@ -4,6 +4,7 @@ use mathlib.Core.Bool.{Bool, true, false}
 use mathlib.Core.List.{List, []}
 use Prim.Native.Nat.{ℕ}
 use lib.IntN.{ℤ}
+use Rattle.paper.specs.declared.Answer.{Answer}
 use Rattle.paper_interest.specs.Interest.{interestAnswer}
 use Rattle.paper_bonds.specs.Bonds.{bondAnswer}
 use Rattle.text_protocol.specs.declared.Ask.{Ask}
@@ -13,12 +14,14 @@ use Rattle.text_protocol.specs.declared.Explained.the-variants.{No, Because}
 use Rattle.text_protocol.specs.declared.Kept.{Kept}
 use Rattle.text_protocol.specs.declared.Performed.{Performed}
 use Rattle.text_protocol.specs.declared.Role.{Role}
+use Rattle.text_protocol.specs.declared.Role.the-variants as role
 use Rattle.text_evening.specs.declared.Telling.{Telling}
 use Rattle.text_evening.specs.declared.Telling.the-variants.{Answers, Reasons, Messages}
 use Rattle.text_protocol.specs.Calls.{Deed, nothing, noCall, call, interest, bond, roleOf, deedAsked}
 use Rattle.text_protocol.specs.Answers.{badText, interestText, bondText}
 use Rattle.text_protocol.specs.Roles.{shownText}
-use Rattle.text_protocol.specs.Reasons.{whyText}
+use Rattle.paper_reasons.specs.AdmissionFaults.{fieldAtFault}
+use Rattle.text_protocol.specs.Reasons.{whyText, fieldText}
 use Rattle.text_broadcast.specs.Sent.{broadcastShown}
 use Rattle.text_evening.specs.Evening.{keptBy, worded}
 use Rattle.text_deed.specs.declared.Beside.{Beside}
@@ -54,9 +57,17 @@ inWords Answers = true
 inWords Reasons = true
 inWords Messages = false
 
+-- where no reason is named: the answer, and of an admission the number of its line that is at fault
+unfoldable pub faultShown : Role → Answer → List ℕ
+faultShown (role.Admission g) a = fieldText (a .verdict) (fieldAtFault g)
+faultShown (role.Evaluation id d) a = shownText (role.Evaluation id d) a
+faultShown role.Quote a = shownText role.Quote a
+faultShown (role.Move side) a = shownText (role.Move side) a
+faultShown role.Other a = shownText role.Other a
+
 -- why a call of a role is answered as it is, or its answer where no reason is named
 unfoldable pub reasonFor : Explained → Role → Performed → List ℕ
-reasonFor No x p = shownText x (p .answer)
+reasonFor No x p = faultShown x (p .answer)
 reasonFor (Because y) x p = whyText y
 
 abbrev pub reasonSaid : Role → Performed → List ℕ

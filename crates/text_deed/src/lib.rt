@@ -8,10 +8,12 @@ ghost use Rattle.text_protocol.specs.Calls.{deedOf, deedAsked};
 ghost use Rattle.text_protocol.specs.Answers.{answerMost};
 ghost use Rattle.text_out.specs.Wrote.{Wrote};
 ghost use Rattle.text_line.specs.ReadLine.{saidAs};
-ghost use Rattle.text_deed.specs.Deeds.{asksWhy, inWords, reasonSaid, callSaid, lineText, AsksFor};
+ghost use Rattle.text_deed.specs.Deeds.{asksWhy, inWords, faultShown, reasonSaid, callSaid, lineText, AsksFor};
+use paper::Answer;
 use paper::InterestAnswer;
 use paper::Verdict;
 use paper_bonds::BondAnswer;
+use record_reasons::fields::field_at_fault;
 use text_answer::interest_line::say_interest;
 use text_answer::say_answer;
 use text_answer::say_bad;
@@ -34,6 +36,7 @@ use text_protocol::Kept;
 use text_protocol::Pairs;
 use text_protocol::Performed;
 use text_protocol::Role;
+use text_why::say_field;
 use text_why::say_why;
 
 // What the calls beside the table answer to a line, the interest side's and a bond's: only the one that the line asks
@@ -156,6 +159,24 @@ fn in_words(telling: Telling) -> bool
     }
 }
 
+// Appends an answer without a reason, and of an admission the number of its line that is at fault.
+fn say_fault(out: &mut [u8; ROOM], len: usize, role: Role, answer: Answer) -> usize
+    requires { ⌜ len + answerMost ≤ room ⌝ }
+    ensures { λ n. ⌜ Wrote (now (out .entry)) len (now (out .exit)) n (faultShown role answer) answerMost ⌝ }
+{
+    match role {
+        Role::Admission(given) => {
+            let verdict = answer.verdict;
+            let field = field_at_fault(given);
+            say_field(out, len, verdict, field)
+        }
+        Role::Evaluation(_, _) => say_answer(out, len, role, answer),
+        Role::Quote => say_answer(out, len, role, answer),
+        Role::Move(_) => say_answer(out, len, role, answer),
+        Role::Other => say_answer(out, len, role, answer),
+    }
+}
+
 // Appends why a call of a role is answered as it is, or its answer where no reason is named.
 fn say_reason(out: &mut [u8; ROOM], len: usize, role: Role, p: Performed) -> usize
     requires { ⌜ len + answerMost ≤ room ⌝ }
@@ -165,7 +186,7 @@ fn say_reason(out: &mut [u8; ROOM], len: usize, role: Role, p: Performed) -> usi
     match why {
         Explained::No => {
             let answer = p.answer;
-            say_answer(out, len, role, answer)
+            say_fault(out, len, role, answer)
         }
         Explained::Because(reasons) => say_why(out, len, reasons),
     }

@@ -11,6 +11,7 @@ use Rattle.paper.specs.Lists.{pick}
 use Rattle.paper_interest.specs.Interest.{interestAnswer}
 use Rattle.paper_desk.specs.Desk.{Ask, Call, admit, about, ruleOf, step}
 use Rattle.paper_bonds.specs.Bonds.{bondAnswer}
+use Rattle.paper_reasons.specs.AdmissionFaults.{fieldAtFault}
 use Rattle.paper_reasons.specs.Why.{whyOn}
 use Rattle.text_protocol.specs.declared.Kept.{Kept}
 use Rattle.text_evening.specs.declared.Telling.{Telling}
@@ -19,7 +20,7 @@ use Rattle.text_protocol.specs.Kept.{noneKept, keptAfter}
 use Rattle.text_protocol.specs.Line.{meaning}
 use Rattle.text_protocol.specs.Calls.{Deed, nothing, noCall, call, interest, bond, deedOf}
 use Rattle.text_protocol.specs.Answers.{badText, callText, interestText, bondText}
-use Rattle.text_protocol.specs.Reasons.{whyText}
+use Rattle.text_protocol.specs.Reasons.{whyText, fieldText}
 use Rattle.paper_messages.specs.Broadcast.{broadcastOf}
 
 -- the number of the line that comes next, what is kept of the interest lines, and the table
@@ -50,13 +51,14 @@ keptBy (bond b flows) k = k
 abbrev pub answerTo : Call → List Record → List ℕ
 answerTo c t = callText c (step c t .answer)
 
--- the same, but an evaluation is answered with why it is what it is
+-- the same, but an evaluation is answered with why it is what it is, and an admission with the number of its line that
+-- is at fault
 abbrev pub reasonOn : (id : ℕ) → Ask → Option (Day × List ℤ) → List Record → List ℕ
 reasonOn id x none t = answerTo (about id x) t
 reasonOn id x (some (d, rows)) t = whyText (whyOn t id d rows)
 
 unfoldable pub reasonTo : Call → List Record → List ℕ
-reasonTo (admit g) t = answerTo (admit g) t
+reasonTo (admit g) t = fieldText (step (admit g) t .answer .verdict) (fieldAtFault g)
 reasonTo (about id x) t = reasonOn id x (ruleOf x .evaluates) t
 
 -- what a call is told as: with its answer, as the program `evening` does, with why, as the program `why` does, or with

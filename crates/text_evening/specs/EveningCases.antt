@@ -17,6 +17,7 @@ use Rattle.paper_desk.specs.PinnedSequence.{answers as deskAnswers, slots}
 use Rattle.paper_interest.specs.InterestCases.{answered as interestAnswered}
 use Rattle.paper_bonds.specs.BondCases.{answered as bondAnswered}
 use Rattle.paper_reasons.specs.Faults.{isSame, faultsOf, faultOf}
+use Rattle.paper_reasons.specs.AdmissionFaults.{fieldsAtFault, fieldAtFault}
 use Rattle.paper_reasons.specs.Why.{whyOf, whyOn}
 use Rattle.paper_messages.specs.Fields.{staticsMessageKind, kindWord}
 use Rattle.paper_messages.specs.Messages.{encode}
@@ -27,7 +28,7 @@ use Rattle.text_protocol.specs.Kept.{noPair, keptAfter}
 use Rattle.text_protocol.specs.CallCases.{deedBy}
 use Rattle.text_protocol.specs.Answers.{interestText, interestNumbers, maturitiesNumbers, maturityNumbers, bondText}
 use Rattle.text_protocol.specs.AnswerCases.{callTexts}
-use Rattle.text_protocol.specs.Reasons.{faultWords, spelled, wordsText, whyText}
+use Rattle.text_protocol.specs.Reasons.{faultWords, fieldWords, spelled, wordsText, whyText, fieldText}
 use Rattle.text_evening.specs.declared.Telling.{Telling}
 use Rattle.text_evening.specs.declared.Telling.the-variants.{Answers, Reasons, Messages}
 use Rattle.paper_messages.specs.PinnedBroadcast.{bytesSent}
@@ -37,7 +38,7 @@ use Rattle.text_evening.specs.Evening.{numberAfter, after, answer, start
 -- ---- an evening
 
 -- no call; the admission of document 01's Z; a blank line; an evaluation of an id that was not admitted; an interest
--- line and a bond line; no call
+-- line and a bond line; no call; an admission whose P1 is off the grid
 unfoldable pub lines : List (List ℕ)
 lines =
     bytes "hello"
@@ -48,21 +49,22 @@ lines =
     "interest 0 0 1 1000 500 200 50 2 20 300 100 200 940 710 1 800 650 700 810 40 150 1 3 803 652 700 1150 40 150 1"
     ∷ bytes "bond 0 9850 0 0 0 0 0 0 0 0 0 0 0 0 0 0 0 100 300 5 2 5 8 50 500 700 900 4000 200 250 250 1 1"
     ∷ bytes "read"
+    ∷ (bytes "admit 9 3 1000005 1000000 20000 600" ++ zText "1")
     ∷ []
 
 -- an evening on one empty slot, as it is told. It opens every definition that lines are answered with, so that a table
 -- opens this one alone
 unfoldable pub told : Telling → List ℕ
 unfolding lines zText zStatics slots deskAnswers evaluateChecks interestAnswered bondAnswered isSame faultsOf faultOf
-    whyOf whyOn deedBy callTexts interestText interestNumbers maturitiesNumbers maturityNumbers bondText faultWords spelled
+    fieldsAtFault fieldAtFault fieldWords fieldText whyOf whyOn deedBy callTexts interestText interestNumbers maturitiesNumbers maturityNumbers bondText faultWords spelled
     wordsText whyText keptAfter bytesSent tableAfter keptBy reasonTo callTold worded textOf numberAfter after answer
     afterAll answers
 told telling = answers telling lines (startEvening (slots 1))
 
 -- EACH LINE IN ITS TURN, AS ITS PROGRAM TELLS IT: a line that is no call by its number, counted from 1, blank ones too;
--- an evaluation with its number, or with why; where messages are told, those of accepted calls and nothing else
-pub told-are : (told Answers ≡ bytes "bad 1\n0\n1\n0 710 940 150 61 150 2 300 200 151 76 200 0 300 450\n17\nbad 7\n")
-    × (told Reasons ≡ bytes "bad 1\n0\n1 none\n0 710 940 150 61 150 2 300 200 151 76 200 0 300 450\n17\nbad 7\n")
+-- an evaluation and an admission with its number, or with why; where messages are told, those of accepted calls and nothing else
+pub told-are : (told Answers ≡ bytes "bad 1\n0\n1\n0 710 940 150 61 150 2 300 200 151 76 200 0 300 450\n17\nbad 7\n4\n")
+    × (told Reasons ≡ bytes "bad 1\n0\n1 none\n0 710 940 150 61 150 2 300 200 151 76 200 0 300 450\n17\nbad 7\n4 field 3\n")
     × (told Messages ≡ encode (message staticsMessageKind (pos 7 ∷ zStatics)))
 unfolding told
 told-are = (refl, refl, refl)
@@ -70,7 +72,7 @@ told-are = (refl, refl, refl)
 -- what the evening leaves: the number of the line that comes next, the pair 0/1, and the admission's record
 pub left-is : afterAll lines (startEvening (slots 1))
     ≡ record {
-      number = 8;
+      number = 9;
       kept =
           record {
             newest = record { ym = 0; yn = 1; worked = record { verdict = Done; lower = pos 710; upper = pos 940 } };

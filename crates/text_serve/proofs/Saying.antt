@@ -3,6 +3,7 @@ use mathlib.Core.Path.{_≡_, refl, ap, _∙_}
 use mathlib.Core.List.{List, [], _∷_, _++_}
 use mathlib.Core.Option.{Option, none, some}
 use Prim.Native.Nat.{ℕ}
+use native.Mathlib.Omega.{arith}
 use lib.IntN.{ℤ}
 use Rattle.paper.specs.declared.Admission.{Admission}
 use Rattle.paper.specs.declared.Answer.{Answer}
@@ -10,6 +11,7 @@ use Rattle.paper.specs.declared.Day.{Day}
 use Rattle.paper.specs.declared.Record.{Record}
 use Rattle.paper.specs.Ranges.{staticsOf}
 use Rattle.paper_desk.specs.Desk.{Ask as DeskAsk, askOf, about, ruleOf, step}
+use Rattle.paper_reasons.specs.AdmissionFaults.{fieldAtFault}
 use Rattle.paper_reasons.specs.Why.{whyOn}
 use Rattle.text_protocol.specs.declared.AskedCall.{AskedCall}
 use Rattle.text_protocol.specs.declared.AskedCall.the-variants.{Admit, About}
@@ -32,7 +34,7 @@ use Rattle.paper_messages.specs.Broadcast.{ofEvaluation, ofMove, messagesOf, br
 use Rattle.text_evening.specs.Evening.{answerTo, reasonOn, reasonTo, callTold, textOf}
 use Rattle.text_broadcast.specs.Sent.{messagesShown, broadcastShown}
 use Rattle.text_deed.specs.declared.Beside.{Beside}
-use Rattle.text_deed.specs.Deeds.{BesideIs, asksWhy, reasonFor, callSaid, lineText}
+use Rattle.text_deed.specs.Deeds.{BesideIs, asksWhy, faultShown, reasonFor, callSaid, lineText}
 use Rattle.text_ask.specs.WithReasons.{explanation, Performs, Asks}
 
 -- ---- each call is told by its role, since its role goes by its rule
@@ -83,12 +85,22 @@ unfolding reasonShown
 of-id-reasons id x none t = refl
 of-id-reasons id x (some (d, rows)) t = refl
 
-reasons-by-role : (c : AskedCall) (rows : List ℤ) (t : List Record)
+-- of a call that is no admission
+reasons-by-role : (c : AskedCall) (rows : List ℤ) (t : List Record) → admittedAs (roleOf c) ≡ none
     → reasonShown (evaluatedAs (roleOf c) rows) (answerTo (callAsked c rows) t) t ≡ reasonTo (callAsked c rows) t
-unfolding callAsked roleOf evaluatedAs reasonTo reasonShown
-reasons-by-role (Admit g) rows t = refl
-reasons-by-role (About id x) rows t =
+unfolding callAsked roleOf admittedAs evaluatedAs reasonTo reasonShown
+reasons-by-role (Admit g) rows t e = absurd (let z : _≡_ {A = ℕ} 0 1 = cc in omega arith)
+reasons-by-role (About id x) rows t e =
     rw (role-by-rule id x rows .evaluates) (of-id-reasons id (askOf x rows) (ruleOf (askOf x rows) .evaluates) t)
+
+-- only an admission has a number at fault
+fault-of : (x : Role) (a : Answer) → admittedAs x ≡ none → faultShown x a ≡ shownText x a
+unfolding faultShown admittedAs
+fault-of (role.Admission g) a e = absurd (let z : _≡_ {A = ℕ} 0 1 = cc in omega arith)
+fault-of (role.Evaluation id d) a e = refl
+fault-of role.Quote a e = refl
+fault-of (role.Move side) a e = refl
+fault-of role.Other a e = refl
 
 -- ---- a call
 
@@ -97,9 +109,9 @@ module _ (rows : List ℤ) (p : Performed) (t t' : List Record) where
       → shownText (roleOf c) (p .answer) ≡ answerTo (callAsked c rows) t
   answered c e = shown-by-role c rows (p .answer) ∙ ap (callText (callAsked c rows)) e
 
-  -- one in the role of an evaluation is told why, and every other as without reasons
+  -- one in the role of an evaluation is told why, and every other without reasons
   reason-of : (x : Role) → p .why ≡ explanation x rows t
-      → reasonFor (p .why) x p ≡ reasonShown (evaluatedAs x rows) (shownText x (p .answer)) t
+      → reasonFor (p .why) x p ≡ reasonShown (evaluatedAs x rows) (faultShown x (p .answer)) t
   unfolding reasonFor explanation reasonShown evaluatedAs
   reason-of (role.Admission g) y = rw y
   reason-of (role.Evaluation id d) y = rw y
@@ -107,12 +119,27 @@ module _ (rows : List ℤ) (p : Performed) (t t' : List Record) where
   reason-of (role.Move side) y = rw y
   reason-of role.Other y = rw y
 
+  -- of an admission
+  faulted : (g : Admission) → p .answer ≡ step (callAsked (Admit g) rows) t .answer
+      → p .why ≡ explanation (roleOf (Admit g)) rows t
+      → reasonFor (p .why) (roleOf (Admit g)) p ≡ reasonTo (callAsked (Admit g) rows) t
+  unfolding callAsked roleOf reasonFor faultShown explanation reasonTo
+  faulted g e y = rw (y, e)
+
+  -- and of every other call
+  unfaulted : (c : AskedCall) → admittedAs (roleOf c) ≡ none → p .answer ≡ step (callAsked c rows) t .answer
+      → p .why ≡ explanation (roleOf c) rows t → reasonFor (p .why) (roleOf c) p ≡ reasonTo (callAsked c rows) t
+  unfaulted c n e y =
+      reason-of (roleOf c) y
+      ∙ ap (λ (text : List ℕ). reasonShown (evaluatedAs (roleOf c) rows) text t)
+      (fault-of (roleOf c) (p .answer) n ∙ answered c e)
+      ∙ reasons-by-role c rows t n
+
   reasoned : (c : AskedCall) → p .answer ≡ step (callAsked c rows) t .answer → p .why ≡ explanation (roleOf c) rows t
       → reasonFor (p .why) (roleOf c) p ≡ reasonTo (callAsked c rows) t
-  reasoned c e y =
-      reason-of (roleOf c) y
-      ∙ ap (λ (text : List ℕ). reasonShown (evaluatedAs (roleOf c) rows) text t) (answered c e)
-      ∙ reasons-by-role c rows t
+  unfolding roleOf
+  reasoned (Admit g) e y = faulted g e y
+  reasoned (About id x) e y = unfaulted (About id x) (role-by-rule id x rows .admits) e y
 
   call-told-as : (telling : Telling) (c : AskedCall) → Performs (asksWhy telling) c rows t p t'
       → callSaid telling (roleOf c) p ≡ callTold telling (callAsked c rows) t

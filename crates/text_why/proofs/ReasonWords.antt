@@ -1,8 +1,8 @@
 -- What the functions need, on plain values: the word of a reason in the arm that knows it, and the two answers of
 -- `say_why`.
-use mathlib.Core.Path.{_≡_}
-use mathlib.Core.List.{List, [], _∷_}
-use Prim.Native.Nat.{ℕ}
+use mathlib.Core.Path.{_≡_, refl, sym}
+use mathlib.Core.List.{List, [], _∷_, _++_, append-assoc}
+use Prim.Native.Nat.{ℕ, _+_}
 use native.Mathlib.Omega.{arith}
 use borrow.Author.Tests.{eq-eqb, ne-eqb}
 use Rattle.paper.specs.Verdicts.{numberOf, isDone}
@@ -20,6 +20,18 @@ use Rattle.text_why.specs.Sizes.{faultBytes, reasonsBytes}
 pub named : {R : Type 0} (word : R → List ℕ) {x v : R} {b b' : List ℕ} {n n' : ℕ} → x ≡ v
     → Wrote b n b' n' (space ∷ word v) nextWordBytes → Wrote b n b' n' (space ∷ word x) nextWordBytes
 named word e p = rw e p
+
+-- ---- words and then others
+
+spelled-both : (xs ys : List (List ℕ)) → spelled (xs ++ ys) ≡ spelled xs ++ spelled ys
+unfolding spelled
+spelled-both [] ys = refl
+spelled-both (x ∷ xs) ys = rw (spelled-both xs ys) (sym (append-assoc (space ∷ x) (spelled xs) (spelled ys)))
+
+pub words-then : (xs ys : List (List ℕ)) {b : List ℕ} {n : ℕ} {b' : List ℕ} {n' : ℕ} {b'' : List ℕ} {n'' : ℕ} {k m : ℕ}
+    → Wrote b n b' n' (spelled xs) k → Wrote b' n' b'' n'' (spelled ys) m
+    → Wrote b n b'' n'' (spelled (xs ++ ys)) (k + m)
+words-then xs ys p q = rw (spelled-both xs ys) (then p q)
 
 -- ---- the answer, by the verdict's number
 module _ (y : Why) (no : ℕ) (is : no ≡ numberOf (y .verdict)) {b : List ℕ} {n : ℕ} {b' : List ℕ} {n' : ℕ} {b'' : List ℕ}

@@ -11,6 +11,10 @@ faultBytes = nextWordBytes + nextBytes
 abbrev pub levelsBytes : ℕ
 levelsBytes = 6 * nextWordBytes
 
--- the four names before the levels, each with its reason, and the levels
+-- the figures that decided: their name, and six numbers
+abbrev pub figuresBytes : ℕ
+figuresBytes = nextWordBytes + 6 * nextBytes
+
+-- the four names before the levels, each with its reason, the levels, and the figures
 abbrev pub reasonsBytes : ℕ
-reasonsBytes = 8 * nextWordBytes + levelsBytes
+reasonsBytes = 8 * nextWordBytes + (levelsBytes + figuresBytes)

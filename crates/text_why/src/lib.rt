@@ -1,4 +1,4 @@
-// The answer that says why (document 02, W-207), appended to a lent buffer. A word is appended with a blank before it,
+// The answers that say why (document 02, W-207), appended to a lent buffer. A word is appended with a blank before it,
 // so that each contract is the bytes of some words, and each proof the one law `then`. Nothing here depends on how a
 // reason is found.
 ghost use mathlib.Core.List.{[], _∷_};
@@ -8,11 +8,16 @@ ghost use Rattle.paper_reasons.specs.Words.{priceWord, weightWord, replacementW
 ghost use Rattle.text_bytes.specs.Bytes.{room, space};
 ghost use Rattle.text_bytes.specs.Numbers.{decimal};
 ghost use Rattle.text_protocol.specs.Answers.{answerMost};
-ghost use Rattle.text_protocol.specs.Reasons.{levelName, reasonWords, faultWords, spelled, whyText};
+ghost use Rattle.text_protocol.specs.Reasons.{levelName, decidingWords, figureWords, reasonWords, faultWords, spelled};
+ghost use Rattle.text_protocol.specs.Reasons.{fieldWords, whyText, fieldText};
 ghost use Rattle.text_out.specs.Wrote.{Wrote};
 ghost use Rattle.text_out.specs.Sizes.{wordBytes, nextWordBytes};
-ghost use Rattle.text_why.specs.Sizes.{faultBytes, levelsBytes, reasonsBytes};
+ghost use Rattle.text_why.specs.Sizes.{faultBytes, levelsBytes, figuresBytes, reasonsBytes};
+use paper::Verdict;
+use paper_reasons::Decided;
+use paper_reasons::Deciding;
 use paper_reasons::Fault;
+use paper_reasons::FieldAtFault;
 use paper_reasons::LevelReason;
 use paper_reasons::PriceReason;
 use paper_reasons::Reasons;
@@ -120,7 +125,32 @@ fn put_levels(
     put_level(out, n, level3)
 }
 
-// What is named of an accepted evaluation, each with its reason.
+// The figures that decided: R S0 X Y S T.
+fn put_deciding(out: &mut [u8; ROOM], len: usize, f: Deciding) -> usize
+    requires { ⌜ len + figuresBytes ≤ room ⌝ }
+    ensures { λ r. ⌜ Wrote (now (out .entry)) len (now (out .exit)) r (spelled (decidingWords f)) figuresBytes ⌝ }
+{
+    let n = put_word(out, len, b"figures");
+    let n = put_next(out, n, f.r);
+    let n = put_next(out, n, f.before);
+    let n = put_next(out, n, f.x);
+    let n = put_next(out, n, f.y);
+    let n = put_next(out, n, f.s);
+    put_next(out, n, f.t)
+}
+
+// The figures that decided, or nothing where none did.
+fn put_figures(out: &mut [u8; ROOM], len: usize, figures: Decided) -> usize
+    requires { ⌜ len + figuresBytes ≤ room ⌝ }
+    ensures { λ r. ⌜ Wrote (now (out .entry)) len (now (out .exit)) r (spelled (figureWords figures)) figuresBytes ⌝ }
+{
+    match figures {
+        Decided::None => len,
+        Decided::By(f) => put_deciding(out, len, f),
+    }
+}
+
+// What is named of an accepted evaluation, each with its reason, and the figures that decided.
 fn put_reasons(out: &mut [u8; ROOM], len: usize, r: Reasons) -> usize
     requires { ⌜ len + reasonsBytes ≤ room ⌝ }
     ensures { λ n. ⌜ Wrote (now (out .entry)) len (now (out .exit)) n (spelled (reasonWords r)) reasonsBytes ⌝ }
@@ -132,6 +162,7 @@ fn put_reasons(out: &mut [u8; ROOM], len: usize, r: Reasons) -> usize
     let level1 = r.level1;
     let level2 = r.level2;
     let level3 = r.level3;
+    let figures = r.figures;
     let n = put_word(out, len, b"price");
     let n = put_price(out, n, price);
     let n = put_word(out, n, b"weight");
@@ -140,7 +171,8 @@ fn put_reasons(out: &mut [u8; ROOM], len: usize, r: Reasons) -> usize
     let n = put_replacement(out, n, replacement);
     let n = put_word(out, n, b"tentative");
     let n = put_tentative(out, n, tentative);
-    put_levels(out, n, level1, level2, level3)
+    let n = put_levels(out, n, level1, level2, level3);
+    put_figures(out, n, figures)
 }
 
 // A word, and a number.
@@ -180,5 +212,27 @@ pub fn say_why(out: &mut [u8; ROOM], len: usize, y: Why) -> usize
         return put_byte(out, n, b'\n');
     }
     let n = put_fault(out, n, fault);
+    put_byte(out, n, b'\n')
+}
+
+// The number at fault in an admission, or nothing.
+fn put_field(out: &mut [u8; ROOM], len: usize, field: FieldAtFault) -> usize
+    requires { ⌜ len + faultBytes ≤ room ⌝ }
+    ensures { λ r. ⌜ Wrote (now (out .entry)) len (now (out .exit)) r (spelled (fieldWords field)) faultBytes ⌝ }
+{
+    match field {
+        FieldAtFault::None => len,
+        FieldAtFault::Number(place) => put_numbered(out, len, b"field", place),
+    }
+}
+
+// The number of an admission's verdict, and the number of the line that is at fault.
+pub fn say_field(out: &mut [u8; ROOM], len: usize, verdict: Verdict, field: FieldAtFault) -> usize
+    requires { ⌜ len + answerMost ≤ room ⌝ }
+    ensures { λ r. ⌜ Wrote (now (out .entry)) len (now (out .exit)) r (fieldText verdict field) answerMost ⌝ }
+{
+    let no = verdict.number();
+    let n = put_number(out, len, no);
+    let n = put_field(out, n, field);
     put_byte(out, n, b'\n')
 }

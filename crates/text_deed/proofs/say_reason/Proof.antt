@@ -5,14 +5,14 @@ use Rattle.text_deed.proofs.say_reason.Statement.{statement}
 use Rattle.text_deed.proofs.say_reason.Tie as tie
 use Rattle.text_deed.proofs.say_reason.Reads as reads
 use Rattle.text_deed.proofs.say_reason.Lts as lts
-use Rattle.text_answer.proofs.say_answer.Reads as say-answer-reads
+use Rattle.text_deed.proofs.say_fault.Reads as say-fault-reads
 use Rattle.text_why.proofs.say_why.Reads as say-why-reads
 
 enum-told : tie.Need-enum-told
 enum-told c = search needs
 
-say-answer-requires : tie.Need-say-answer-requires
-say-answer-requires c κs = search needs
+say-fault-requires : tie.Need-say-fault-requires
+say-fault-requires c κs = search needs
 
 enum-known-why : tie.Need-enum-known-why
 enum-known-why c = search needs
@@ -22,7 +22,7 @@ say-why-requires c κs = search needs
 
 returns : tie.Need-returns
 unfolding reasonFor
-returns c = rw (c .before .before .before .enum-told .given .1) (c .say-answer .ensures)
+returns c = rw (c .before .before .before .enum-told .given .1) (c .say-fault .ensures)
 
 returns-2 : tie.Need-returns-2
 unfolding reasonFor
@@ -31,4 +31,4 @@ returns-2 c = rw (c .before .before .before .why .given .1) (c .say-why .ensures
 pub say-reason-spec : {M : Type 1} → statement M
 say-reason-spec =
     tie.close
-    (tie.spec enum-told say-answer-requires enum-known-why say-why-requires returns returns-2)
+    (tie.spec enum-told say-fault-requires enum-known-why say-why-requires returns returns-2)

@@ -1,6 +1,11 @@
--- `text_why::put_reasons` meets its contract: what is named, each with its reason.
-use Rattle.text_protocol.specs.Reasons.{reasonWords, spelled}
+-- `text_why::put_reasons` meets its contract: what is named, each with its reason, and the figures.
+use mathlib.Core.List.{List, [], _∷_}
+use Prim.Native.Nat.{ℕ}
+use Rattle.paper_reasons.specs.declared.Reasons.{Reasons}
+use Rattle.paper_reasons.specs.Words.{levelWord}
+use Rattle.text_protocol.specs.Reasons.{levelName, figureWords, reasonWords, spelled}
 use Rattle.text_out.specs.Wrote.{then}
+use Rattle.text_why.proofs.ReasonWords.{words-then}
 use borrow.Author.Needs.{needs}
 use Rattle.text_why.proofs.put_reasons.Statement.{statement}
 use Rattle.text_why.proofs.put_reasons.Tie as tie
@@ -52,10 +57,20 @@ put-tentative-requires c κs = search needs
 put-levels-requires : tie.Need-put-levels-requires
 put-levels-requires c κs = search needs
 
+put-figures-requires : tie.Need-put-figures-requires
+put-figures-requires c κs = search needs
+
+-- the words of the levels, before the figures
+abbrev levelsWords : Reasons → List (List ℕ)
+levelsWords r =
+    levelName 49 ∷ levelWord (r .level1) ∷ levelName 50 ∷ levelWord (r .level2) ∷ levelName 51 ∷ levelWord (r .level3)
+    ∷ []
+
 returns : tie.Need-returns
 unfolding reasonWords spelled
 returns c =
-    let c1 = c .before .before in
+    let c0 = c .before .before in
+    let c1 = c0 .before .before in
     let c2 = c1 .before .before in
     let c3 = c2 .before .before .before in
     let c4 = c3 .before .before in
@@ -63,9 +78,11 @@ returns c =
     let c6 = c5 .before .before in
     let c7 = c6 .before .before .before in
     let c8 = c7 .before .before in
+    let r = c8 .before .before .before .args .r in
     then (c8 .put-word .ensures) (then (c7 .put-price .ensures) (then (c6 .put-word2 .ensures)
     (then (c5 .put-weight .ensures) (then (c4 .put-word3 .ensures) (then (c3 .put-replacement .ensures)
-    (then (c2 .put-word4 .ensures) (then (c1 .put-tentative .ensures) (c .put-levels .ensures))))))))
+    (then (c2 .put-word4 .ensures) (then (c1 .put-tentative .ensures)
+    (words-then (levelsWords r) (figureWords (r .figures)) (c0 .put-levels .ensures) (c .put-figures .ensures)))))))))
 
 pub put-reasons-spec : {M : Type 1} → statement M
 put-reasons-spec =
@@ -84,4 +101,5 @@ put-reasons-spec =
     put-word-requires-4
     put-tentative-requires
     put-levels-requires
+    put-figures-requires
     returns)
