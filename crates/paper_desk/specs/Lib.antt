@@ -16,7 +16,6 @@ pub mod ExactBand
 pub mod PinnedKinds
 pub mod PinnedSequence
 pub mod PinnedErrors
-pub mod PinnedAsks
 pub mod PinnedOrders
 pub mod PinnedSession
 pub mod PinnedEvening

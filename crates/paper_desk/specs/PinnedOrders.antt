@@ -1,25 +1,46 @@
 -- Document 01, "Numbers a member may see": the order of refusal of each call, and each number on both sides of its
--- condition, on tables that a line spells out. Each answer is the first of all the numbers that apply.
+-- condition, on tables that a line spells out. Each answer is the first of all the numbers that apply. Before them, which
+-- ask each thing is that the code is asked.
 -- It may use every definition of document 01, and the values of PinnedValues.
 use mathlib.Core.Path.{_≡_, refl}
 use mathlib.Core.List.{List, [], _∷_, _++_, map}
 use Prim.Native.Nat.{ℕ, zero, suc, _+_}
 use lib.Ieee.{binary64, ofBits}
 use lib.IntN.{ℤ, pos}
+use Rattle.paper.specs.declared.Notice.{Notice}
 use Rattle.paper.specs.declared.Notice.the-variants.{Ask}
+use Rattle.paper.specs.declared.Outside.{Outside}
+use Rattle.paper.specs.declared.Quote.{Quote}
+use Rattle.paper.specs.declared.AskedDay.{AskedDay}
+use Rattle.paper.specs.declared.AskedAbout.the-variants as asked
 use Rattle.paper.specs.declared.Record.{Record}
 use Rattle.paper.specs.declared.Limits.{Limits}
 use Rattle.paper.specs.Lists.{those}
+use Rattle.paper.specs.Terms.{dayOf}
 use Rattle.paper_desk.specs.Limits.{crossed}
 use Rattle.paper.specs.Verdicts.{numberOf, Check}
-use Rattle.paper_desk.specs.External.{notice}
+use Rattle.paper_desk.specs.External.{together, notice}
 use Rattle.paper_desk.specs.Desk.{blank, Call, admit, evaluate, quote, move, read, openEvening, receive, checksOf}
-use Rattle.paper_desk.specs.Desk.{run}
+use Rattle.paper_desk.specs.Desk.{run, evaluating, quoting, moving, reading, opening, receiving, askOf}
 use Rattle.paper.specs.PinnedValues.{_but_, minimaAt, p1At, centralAt, rowBidAt, rowAskAt, volumeAt, aupAt, adownAt}
 use Rattle.paper.specs.PinnedValues.{liqAt, pchmaxAt, monitoringAt, ewmaAt, idAt, dayAt, sAt, tentativeAt, liveAt}
 use Rattle.paper.specs.PinnedValues.{ageAt, upperMovesAt, lowerMovesAt, secondAt, sessionAt, autochangeAt}
 use Rattle.paper.specs.PinnedValues.{admissionFrom, recordFrom, dayFrom, quoteFrom, closedAt, zNumbers, zRecord, yesNo}
 use Rattle.paper_desk.specs.PinnedSequence.{numbers}
+
+-- ---- what the code is asked (`AskedAbout`)
+
+-- each is the ask of its name, and an evaluation alone takes the rows
+pub asks-are : (d : AskedDay) (q : Quote) (side : ℕ) (sent : Outside) (n : Notice) (rows : List ℤ)
+    → (askOf (asked.Evaluate d) rows ≡ evaluating (dayOf d) rows)
+    × (askOf (asked.Quote q) rows ≡ quoting q)
+    × (askOf (asked.Move side) rows ≡ moving side)
+    × (askOf asked.Read rows ≡ reading)
+    × (askOf asked.Open rows ≡ opening)
+    × (askOf (asked.Receive sent) rows ≡ receiving (together sent))
+    × (askOf (asked.Notify n) rows ≡ receiving (notice n))
+unfolding askOf
+asks-are d q side sent n rows = (refl, refl, refl, refl, refl, refl, refl)
 
 -- ---- "First that applies"
 

@@ -16,10 +16,10 @@ use Rattle.text_line.specs.declared.Taken.{Taken}
 
 -- behind the kinds of the calls, that of a line with no word, and that of one that is no call
 abbrev pub blankKind : ℕ
-blankKind = 12
+blankKind = 100
 
 abbrev pub badKind : ℕ
-badKind = 13
+badKind = 101
 
 abbrev pub blankLine : Line
 blankLine = record { kind = blankKind; count = 0; pairs = noPairs }

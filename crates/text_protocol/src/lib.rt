@@ -283,10 +283,10 @@ impl CallKind {
 
     pub const BOND: u64 = 11;
 
-    // No call: a line with no word, and one that says no call.
-    pub const BLANK: u64 = 12;
+    // No call: a line with no word, and one that says no call. A call more leaves these two as they are.
+    pub const BLANK: u64 = 100;
 
-    pub const BAD: u64 = 13;
+    pub const BAD: u64 = 101;
 }
 
 // The calls in the order of their kinds: how many numbers each has, and behind which more may follow, the row figures
