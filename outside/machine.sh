@@ -57,9 +57,17 @@ has() {
     command -v "$1" >/dev/null 2>&1
 }
 
+# Under a short PATH, as a job of the night has it, the kit is the one that built what is there: `build` has noted it.
+find_kit() {
+    has rt && return
+    noted=${RATTLE_HOME:-$(cat "${top:-.}/target/built/kit" 2>/dev/null)}
+    [ ! -x "$noted/bin/rt" ] || PATH=$PATH:$noted/bin
+    has rt || cannot "there is no rt: install the Rattle kit, and put its rt on PATH"
+}
+
 # The folder that the kit's toolchain for this machine has; `rt` itself looks in the same place.
 toolchain() {
-    has rt || cannot "there is no rt: install the Rattle kit, and put its rt on PATH"
+    find_kit
     kit=${RATTLE_HOME:-$(dirname "$(dirname "$(readlink -f "$(command -v rt)")")")}
     [ -d "$kit/on/$(uname -m)/toolchain" ] || cannot "the kit at $kit has no toolchain for this machine, $(uname -m)"
     echo "$kit/on/$(uname -m)/toolchain"
@@ -267,9 +275,12 @@ need_python() {
 
 # ---- what is built: from the present sources or not at all
 
-# One number for all that a program or an archive is built from: the crates, their list and the kit.
+# One number for all that a program or an archive is built from: the crates' own files, their list and the kit. What an
+# editor leaves beside them is none of it.
 sources() {
-    { rt version && find crates crates.txt -type f -exec sha256sum {} + | sort; } | sha256sum | cut -d' ' -f1
+    find_kit
+    { rt version && find crates crates.txt -type f \( -name '[!.]*.rt' -o -name '[!.]*.antt' -o -name crates.txt \) \
+        -exec sha256sum {} + | sort; } | sha256sum | cut -d' ' -f1
 }
 
 # Whether a file was built from the present sources. The gate and `rt ci` remove target/, and the notes on it with it.
@@ -286,6 +297,7 @@ build() { # FILE COMMAND...
     rm -f "target/built/${file##*/}"
     before=$(sources)
     "$@" || return
+    dirname "$(dirname "$(readlink -f "$(command -v rt)")")" >target/built/kit
     echo "$before" >"target/built/${file##*/}"
 }
 
@@ -341,25 +353,111 @@ need_program() { # NAME
     cannot "$1 is not proved; see target/log/$1.check"
 }
 
-# Runs a proved program on the lines, or the messages, of a file or of standard input, from the folder `top` on.
-serve_lines() { # NAME [FILE]
+# ---- a proved program, run to its end
+
+# A shell that a signal ends takes what it runs with it, and then ends by that signal itself.
+running=''
+kept=''
+end_with_all() {
+    for one in $running; do kill "$one" 2>/dev/null; done
+    for one in $running; do wait "$one" 2>/dev/null; done
+    running=''
+    [ -z "$kept" ] || rm -rf "$kept"
+}
+end_by() { # SIGNAL
+    end_with_all
+    trap - EXIT "$1"
+    kill -s "$1" $$
+}
+take_signals() {
+    kept=$(mktemp -d) || cannot "there is no room in ${TMPDIR:-/tmp}"
+    trap end_with_all EXIT
+    # shellcheck disable=SC2064
+    for signal in HUP INT QUIT ALRM TERM USR1 USR2; do trap "end_by $signal" "$signal"; done
+}
+
+# A stream that is closed is said before anything is done: a file that is opened next would take its place.
+need_output() {
+    (: 3>&1) 2>/dev/null || fail "could not write: standard output is closed"
+}
+need_input() {
+    (: 3<&0) 2>/dev/null || fail "could not read: standard input is closed"
+}
+
+# Standard output is the program's own; what it says on standard error is kept until it ends. It runs beside the shell,
+# which hears a signal while it waits. Leaves `status`.
+run_to_end() { # PROGRAM [WORD...]
+    exec 4<&0
+    outside/runner "$@" <&4 4<&- 2>"$kept/said" &
+    running="$running $!"
+    wait "$!"
+    status=$?
+    running=${feeder-}
+    [ -s "$kept/said" ] || return 0
+    cat "$kept/said" >&2
+    case $(head -n 1 "$kept/said") in
+    usage:*) status=2 ;;
+    esac
+    [ "$status" -ne 0 ] || status=1
+}
+
+# The same, and a copy of what it reads is kept, which has each byte before the program has it.
+run_and_keep_input() { # PROGRAM [WORD...]
+    mkfifo "$kept/input" || cannot "there is no room in ${TMPDIR:-/tmp}"
+    exec 5<&0
+    tee "$kept/input" <&5 5<&- >"$kept/copy" 2>"$kept/unread" &
+    feeder=$!
+    running=$feeder
+    exec <"$kept/input" 5<&-
+    run_to_end "$@"
+    # A program that ended early leaves its feeder behind.
+    kill "$feeder" 2>/dev/null
+    wait "$feeder"
+    running=''
+    if [ "$status" -eq 0 ] && [ -s "$kept/unread" ]; then
+        echo "${0##*/}: could not read: $(sed -n 's/^tee: //; 1p' "$kept/unread")" >&2
+        status=1
+    fi
+}
+
+# Whether a line of what a program prints of that copy passes a test of awk.
+prints_of_copy() { # PROGRAM TEST
+    outside/runner "target/bin/$1" <"$kept/copy" | awk "$2 { found = 1; exit } END { exit !found }"
+}
+
+# Runs a proved program on the lines, or the messages, of a file or of standard input. A message that is refused is
+# status 1; with --strict, a line that is refused or no call is status 3. Since messages do not show that, the program
+# `evening` says it of the same lines.
+serve_lines() { # NAME [--strict] [FILE]
     served=$1
     shift
+    strict=no
+    if [ "${1:-}" = --strict ] && [ "$served" != listen ]; then
+        strict=yes
+        shift
+    fi
     take_words 1 "$@"
+    need_output
     # The file is opened here, where the caller names it.
     if [ $# -eq 1 ]; then
         [ -f "$1" ] && [ -r "$1" ] || [ -p "$1" ] || [ -c "$1" ] || cannot "$1 is no file that can be read"
         exec <"$1"
     fi
+    need_input
     cd "$top" || exit 2
     toolchain >/dev/null || exit 2
     need_program "$served"
-    # Standard output is the program's own; what it says on standard error is kept until it ends.
-    { said=$(outside/runner "target/bin/$served" 2>&1 >&3 3>&-); } 3>&1
-    status=$?
-    [ -n "$said" ] || exit "$status"
-    echo "$said" >&2
-    [ "$status" -ne 0 ] || status=1
+    [ "$strict" = no ] || need_program evening
+    take_signals
+    if [ "$served" = listen ]; then
+        run_and_keep_input target/bin/listen
+        [ "$status" -ne 0 ] || ! prints_of_copy listen '$1 == "refused"' || status=1
+    elif [ "$strict" = yes ]; then
+        run_and_keep_input "target/bin/$served"
+        [ "$status" -ne 0 ] || ! prints_of_copy evening '$1 != "0"' || status=3
+    else
+        run_to_end "target/bin/$served"
+    fi
     exit "$status"
 }
 
@@ -378,7 +476,7 @@ release_sources() {
     {
         sources
         # shellcheck disable=SC2086
-        find $release_of -type f -exec sha256sum {} + 2>/dev/null | sort
+        find $release_of -type f ! -name '.*' ! -name '*~' ! -name '#*#' -exec sha256sum {} + 2>/dev/null | sort
     } | sha256sum | cut -d' ' -f1
 }
 

@@ -72,10 +72,12 @@ function groups(names, numbers) {
  * The answer of `evening` to a line.
  * @param {string} call the first word of the line
  * @param {string} answer the line that was answered
- * @returns {Object<string, any>} `kind` is 'admitted', 'record', 'quote', 'interest', 'bond', 'refused' or 'bad'
+ * @returns {Object<string, any>} `kind` is 'admitted', 'record', 'quote', 'interest', 'bond', 'refused' or 'bad', or
+ *     'heading' where nothing was answered
  */
 export function answerOf(call, answer) {
     const [verdict, ...numbers] = wordsOf(answer);
+    if (verdict === undefined) return { kind: 'heading' };
     if (verdict === 'bad') return { kind: 'bad', line: Number(numbers[0]) };
     if (verdict !== '0') return { kind: 'refused', number: Number(verdict) };
     if (call === 'admit') return { kind: 'admitted' };

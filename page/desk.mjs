@@ -1,7 +1,7 @@
 // The evening that the caseworker works on: its text, what the programs answered to each line, and the sheet, kept up
 // line by line. A line that is refused is not kept. Nothing is shown here; the views ask this room.
 import { makeBreath } from './breath.mjs';
-import { isAnswered, makeEveningSheet } from './evening-sheet.mjs';
+import { isAnswered, isHeading, makeEveningSheet } from './evening-sheet.mjs';
 import { rowsOfExchange } from './exchange.mjs';
 import { heardOf } from './heard.mjs';
 import { perform } from './performing.mjs';
@@ -33,7 +33,7 @@ export function makeDesk(programs) {
     /** @type {Awaited<ReturnType<typeof startTelling>>} */
     let telling;
     let paper = makeEveningSheet();
-    /** @type {Line[]} Every line of the text, blank ones too. */
+    /** @type {Line[]} Every line of the text, blank ones and headings too. */
     let lines = [];
     let stations = makeStations();
     /** @type {(Adopted | null)[]} What was done since the text was opened, the last at the end: a line said is null. */
@@ -74,6 +74,7 @@ export function makeDesk(programs) {
         const line = { line: { number: lines.length + 1, text }, ...told };
         lines.push(line);
         if (isAnswered(text)) paper.hear(line);
+        else paper.pass(line);
     }
 
     /** Has lines performed and keeps them all, refused ones too. */
@@ -101,7 +102,7 @@ export function makeDesk(programs) {
     /** All as it was behind so many lines; the answer is the lines that stood there. */
     async function cutTo(/** @type {number} */ count) {
         const cut = lines.splice(count);
-        paper.forget(cut.filter(({ line }) => isAnswered(line.text)));
+        paper.forget(cut);
         let at = stations.goBackTo(count, telling);
         if (at === null) {
             telling = await startTelling(programs);
@@ -114,7 +115,9 @@ export function makeDesk(programs) {
         return cut;
     }
 
-    const given = (/** @type {string[]} */ texts) => texts.flatMap((text) => text.split('\n')).filter(isAnswered);
+    /** Whether a line is more than blanks. */
+    const isSome = (/** @type {string} */ text) => isAnswered(text) || isHeading(text);
+    const given = (/** @type {string[]} */ texts) => texts.flatMap((text) => text.split('\n')).filter(isSome);
 
     /**
      * Puts a line in place of another, and performs those behind it anew.
@@ -185,7 +188,7 @@ export function makeDesk(programs) {
          */
         undo: () => inTurn(async () => {
             let at = lines.length - 1;
-            while (at >= 0 && !isAnswered(lines[at].line.text)) at -= 1;
+            while (at >= 0 && !isSome(lines[at].line.text)) at -= 1;
             if (at < 0) return null;
             const what = done.pop() ?? null;
             if (unsaved.done > 0) unsaved.done -= 1;
@@ -200,7 +203,7 @@ export function makeDesk(programs) {
         }),
 
         get canUndo() {
-            return paper.sheet.lines > 0;
+            return paper.sheet.lines + paper.sheet.headings.length > 0;
         },
 
         /** The last accepted evaluation of a security, or null. */

@@ -3,7 +3,7 @@ import { RECORD_CALLS, admissionOf, answerOf, reasonsOf } from './answers.mjs';
 import { inWords, placeOf } from './refusals.mjs';
 import { Security, emptySheet } from './security.mjs';
 
-const LONGEST_LINE = 65535; // a longer line is answered, even a blank one
+const LONGEST_LINE = 65535; // a longer line is answered, even a blank one and a heading
 
 /**
  * @typedef {object} Line  A line of an evening's text with what the programs answered.
@@ -12,17 +12,28 @@ const LONGEST_LINE = 65535; // a longer line is answered, even a blank one
  * @property {string} why of `why`
  */
 
-/** Whether a line of an evening's text has an answer: a line with no word says nothing. */
+/** Whether a line of an evening's text has an answer: a line with no word says nothing, and neither does a heading. */
 export function isAnswered(line) {
-    return line.length > LONGEST_LINE || /[^ \t\r]/.test(line);
+    return line.length > LONGEST_LINE || /^[ \t\r]*[^ \t\r#]/.test(line);
 }
 
-/** The lines of an evening's text that have an answer, with their numbers. */
-export function answeredLines(text) {
+/** Whether a line is a heading: its first word begins with '#'. */
+export function isHeading(line) {
+    return line.length <= LONGEST_LINE && /^[ \t\r]*#/.test(line);
+}
+
+/** What a heading says to a reader. */
+export const headingIn = (line) => line.replace(/^[ \t\r]*#+/, '').trim();
+
+/** The lines of an evening's text, with their numbers. */
+function numberedLines(text) {
     const lines = text.split('\n');
     if (lines.at(-1) === '') lines.pop();
-    return lines.map((line, at) => ({ number: at + 1, text: line })).filter((line) => isAnswered(line.text));
+    return lines.map((line, at) => ({ number: at + 1, text: line }));
 }
+
+/** Those that have an answer. */
+export const answeredLines = (text) => numberedLines(text).filter((line) => isAnswered(line.text));
 
 /** The first word of a line, which is the call's; '' where there is none. */
 export const firstWord = (line) => /[^ \t\r]+/.exec(line)?.[0] ?? '';
@@ -65,6 +76,11 @@ export function makeEveningSheet() {
         if (own.lines.length === 1) sheet.securities.push(own.security);
     }
 
+    /** A line of the text that has no answer; only a heading is shown. */
+    function pass(/** @type {Line} */ { line }) {
+        if (isHeading(line.text)) sheet.headings.push({ line: line.number, text: headingIn(line.text) });
+    }
+
     /** The security as it was at its first lines, in the place that it has. */
     function cutTo(own, count) {
         const place = sheet.securities.indexOf(own.security);
@@ -78,6 +94,7 @@ export function makeEveningSheet() {
     return {
         sheet,
         hear,
+        pass,
         interests,
         /**
          * The accepted lines of a security, its admission first.
@@ -94,6 +111,10 @@ export function makeEveningSheet() {
         forget(/** @type {Line[]} */ last) {
             const left = new Map();
             for (const heard of last) {
+                if (!isAnswered(heard.line.text)) {
+                    if (isHeading(heard.line.text)) sheet.headings.pop();
+                    continue;
+                }
                 sheet.lines -= 1;
                 if (!heard.answer.startsWith('0')) {
                     sheet.refusals.pop();
@@ -116,12 +137,19 @@ export function makeEveningSheet() {
  * @param {string[]} whys the lines of `why`
  */
 export function sheetOfEvening(text, answers, whys) {
-    const lines = answeredLines(text);
-    if (lines.length !== answers.length || lines.length !== whys.length) {
-        throw new Error(`${lines.length} lines have ${answers.length} answers and ${whys.length} reasons`);
+    const { sheet, hear, pass } = makeEveningSheet();
+    let at = 0;
+    for (const line of numberedLines(text)) {
+        if (isAnswered(line.text)) {
+            hear({ line, answer: answers[at] ?? '', why: whys[at] ?? '' });
+            at += 1;
+        } else {
+            pass({ line, answer: '', why: '' });
+        }
     }
-    const { sheet, hear } = makeEveningSheet();
-    lines.forEach((line, at) => hear({ line, answer: answers[at], why: whys[at] }));
+    if (at !== answers.length || at !== whys.length) {
+        throw new Error(`${at} lines have ${answers.length} answers and ${whys.length} reasons`);
+    }
     return sheet;
 }
 

@@ -17,8 +17,8 @@ import { refusedOf } from './refusals.mjs';
  * @property {{ name: string, row?: number, text?: string }[]} [faults]  The same with their rows and what they must be.
  */
 
-/** Whether an answer of `evening` is an acceptance. */
-export const isAccepted = (/** @type {string} */ answer) => answer === '0' || answer.startsWith('0 ');
+/** Whether an answer of `evening` is an acceptance; a heading has none, and is kept as an accepted line is. */
+export const isAccepted = (/** @type {string} */ answer) => ['', '0'].includes(answer) || answer.startsWith('0 ');
 
 /**
  * @param {string} text

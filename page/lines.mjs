@@ -127,7 +127,9 @@ function valuesOf(fields, words) {
 export function formOf(line) {
     const [word = '', ...words] = line.split(/[ \t\r]+/).filter((piece) => piece !== '');
     const call = callOf(word);
-    if (call === undefined) return { fault: word === '' ? 'The line is blank.' : `'${word}' is no call.` };
+    if (word === '') return { fault: 'The line is blank.' };
+    if (word.startsWith('#')) return { fault: 'The line is a heading, which has no form.' };
+    if (call === undefined) return { fault: `'${word}' is no call.` };
     const values = valuesOf(call.fields, words);
     if (values === undefined) return { fault: `A number of '${word}' is missing, or a word is no number.` };
     if (call.rows === undefined && words.length > 0) return { fault: `'${word}' takes no further '${words[0]}'.` };

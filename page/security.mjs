@@ -132,6 +132,7 @@ export class Security {
  * @typedef {object} Sheet
  * @property {'evening'|'broadcast'} source
  * @property {Security[]} securities in the order of their admissions, or of their first messages
+ * @property {{ line: number, text: string }[]} headings of an evening's text
  * @property {object[]} refusals the lines that were refused, with their words and places
  * @property {object[]} unknown messages of other kinds
  * @property {object|null} damage where a broadcast cannot be read on
@@ -140,4 +141,4 @@ export class Security {
 
 /** @returns {Sheet} */
 export const emptySheet = (/** @type {'evening'|'broadcast'} */ source) => (
-    { source, securities: [], refusals: [], unknown: [], damage: null, lines: 0 });
+    { source, securities: [], headings: [], refusals: [], unknown: [], damage: null, lines: 0 });

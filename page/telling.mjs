@@ -5,7 +5,8 @@ import { startLive } from './live.mjs';
 import { bytesOf } from './programs.mjs';
 
 /**
- * @typedef {{ answer: string, why: string }} Told  What the two answered to a line; both are '' for a blank one.
+ * @typedef {{ answer: string, why: string }} Told  What the two answered to a line; both are '' for one that says
+ *     nothing.
  * @typedef {{ evening: import('./live.mjs').Kept, why: import('./live.mjs').Kept }} Known
  */
 

@@ -88,7 +88,10 @@ export function figuresOf(/** @type {Heard} */ { call, answer, text }, /** @type
     case 'interest': return ofInterest(named, text, figures);
     case 'bond': return ofBond(named, figures);
     case 'quote': return [list([['Alert at the top', yes(named.top)], ['Alert at the bottom', yes(named.bottom)]])];
-    default: return [el('p', { class: 'dim' }, 'It is in the table. It has figures from its first evaluation on.')];
+    case 'admitted': return [
+        el('p', { class: 'dim' }, 'It is in the table. It has figures from its first evaluation on.'),
+    ];
+    default: return [];
     }
 }
 
@@ -96,6 +99,7 @@ export function figuresOf(/** @type {Heard} */ { call, answer, text }, /** @type
 function doneOf(/** @type {Heard} */ { call, answer, text }, /** @type {Figures} */ figures) {
     const id = wordsOf(text)[1];
     const named = answerOf(call, answer);
+    if (named.kind === 'heading') return 'A heading: it stands in the text, and the program passes over it.';
     if (named.kind === 'record' && call === 'evaluate') {
         return `Security ${id}, day ${figures.whole(named.day)}: ${figures.roubles(named.p1)} roubles.`;
     }

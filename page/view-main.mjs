@@ -82,7 +82,8 @@ function redrawn(ids) {
 }
 
 /** What the notices are about, so that they are drawn anew only where it has changed. */
-const noticedOf = ({ refusals, securities: all }) => `${refusals.length} ${all.length === 0}`;
+const noticedOf = ({ headings, refusals, securities: all }) => (
+    `${headings.length} ${refusals.length} ${all.length === 0}`);
 
 function notices() {
     shown.noticed = noticedOf(shown.sheet);

@@ -1,4 +1,5 @@
-// What was refused, in words with its place: a damaged broadcast, messages of an unknown kind, lines of an evening.
+// What was refused, in words with its place: a damaged broadcast, messages of an unknown kind, lines of an evening; and
+// the headings of an evening.
 import { el, table } from './element.mjs';
 
 const MOST_SHOWN = 500;
@@ -37,7 +38,16 @@ function refusedOf(refusals, figures) {
         more > 0 && el('p', { class: 'dim' }, `and ${figures.whole(more)} more`));
 }
 
-/** Shows what a sheet has of refusals; a sheet without any has an empty room. */
+function headingsOf(headings, figures) {
+    const rows = headings.slice(0, MOST_SHOWN).map(({ line, text }) => [figures.whole(line), { words: text }]);
+    const more = headings.length - rows.length;
+    return el('details', { class: 'card', open: true },
+        el('summary', {}, `${figures.whole(headings.length)} ${headings.length === 1 ? 'heading' : 'headings'}`),
+        el('div', { class: 'scroll' }, table('Headings', ['line', { words: 'heading' }], rows)),
+        more > 0 && el('p', { class: 'dim' }, `and ${figures.whole(more)} more`));
+}
+
+/** Shows what a sheet has of headings and refusals; a sheet without any has an empty room. */
 export function showNotices(room, sheet, figures, isNew = false) {
     const empty = isNew
         ? 'The evening has no security yet: admit one, or open a file of admissions.'
@@ -46,6 +56,7 @@ export function showNotices(room, sheet, figures, isNew = false) {
         sheet.securities.length === 0 && el('div', { class: 'card' }, el('p', {}, empty)),
         sheet.damage && damageOf(sheet.damage, figures),
         sheet.unknown.length > 0 && unknownOf(sheet.unknown, figures),
+        sheet.headings.length > 0 && headingsOf(sheet.headings, figures),
         sheet.refusals.length > 0 && refusedOf(sheet.refusals, figures),
     ].filter(Boolean));
 }

@@ -2,11 +2,14 @@
  * The program `nedrubal`: its first word names one of the proved programs, which then runs in this process. What stands
  * here opens a file, answers -h and gives a status; no figure comes from it.
  *
- *     nedrubal evening|why|broadcast|listen [FILE]
+ *     nedrubal evening|why|broadcast [--strict] [FILE]
+ *     nedrubal listen [FILE]
  *     nedrubal exchange ID <TEXT
  *
  * A proved program always ends with 0, and says on standard error that it could not read or write. So its `write` is
- * the one below, which sees that: status 1. Status 2 says that the words are wrong or that FILE cannot be read.
+ * the one below, which sees that: status 1. Status 2 says that the words are wrong or that FILE cannot be read. It also
+ * sees the lines that are answered: with --strict, one that is refused or no call is status 3, and a message that
+ * `listen` refuses is status 1.
  */
 #include "arguments.h"
 #include <errno.h>
@@ -14,13 +17,15 @@
 #include <stddef.h>
 #include <string.h>
 #include <sys/stat.h>
+#include <sys/types.h>
+#include <sys/wait.h>
 #include <unistd.h>
 
 #ifndef VERSION
 #error VERSION is the text of the file VERSION
 #endif
 
-enum { COULD_NOT = 1, USAGE = 2 };
+enum { COULD_NOT = 1, USAGE = 2, REFUSED = 3 };
 
 /* `main` of each proved program, by the name that outside/release gives it. */
 int nedrubal_evening(void);
@@ -35,19 +40,23 @@ struct program {
     const char *usage;
 };
 
+#define STRICT "With --strict the status is 3 where a line was refused or was no call.\n"
+
 static const struct program programs[] = {
     { " evening", nedrubal_evening,
-      "usage: nedrubal evening [FILE]\n"
-      "Runs an evening on FILE, or on standard input. A line is a call and gets a line of answer.\n" },
+      "usage: nedrubal evening [--strict] [FILE]\n"
+      "Runs an evening on FILE, or on standard input. A line is a call and gets a line of answer.\n" STRICT },
     { " why", nedrubal_why,
-      "usage: nedrubal why [FILE]\n"
-      "Runs an evening on FILE, or on standard input. An evaluation is answered with what set its figures.\n" },
+      "usage: nedrubal why [--strict] [FILE]\n"
+      "Runs an evening on FILE, or on standard input. An evaluation is answered with what set its figures.\n" STRICT },
     { " broadcast", nedrubal_broadcast,
-      "usage: nedrubal broadcast [FILE]\n"
-      "Runs an evening on FILE, or on standard input, and writes the messages that members are sent, in bytes.\n" },
+      "usage: nedrubal broadcast [--strict] [FILE]\n"
+      "Runs an evening on FILE, or on standard input, and writes the messages that members are sent, in bytes.\n"
+      STRICT },
     { " listen", nedrubal_listen,
       "usage: nedrubal listen [FILE]\n"
-      "Reads messages from FILE, or from standard input, and prints a line for each.\n" },
+      "Reads messages from FILE, or from standard input, and prints a line for each.\n"
+      "The status is 1 where one is refused.\n" },
     { " exchange", nedrubal_exchange,
       "usage: nedrubal exchange ID <TEXT\n"
       "Reads the exchange's text and prints the rows of security ID, as the end of an evaluate line takes them.\n" },
@@ -63,8 +72,9 @@ static const char about[] =
     "  exchange ID <TEXT    the rows of one security in the exchange's text\n"
     "  PROGRAM -h           what one program takes\n"
     "  --version            which release this is\n"
-    "Without FILE a program reads standard input. The status is 0; 1 where it could not read or write; 2 where the\n"
-    "words are wrong or FILE cannot be read.\n";
+    "Without FILE a program reads standard input. The status is 0; 1 where it could not read or write, or listen\n"
+    "printed a refusal; 2 where the words are wrong or FILE cannot be read. With --strict behind evening, why or\n"
+    "broadcast it is 3 where a line was refused or was no call.\n";
 
 /* Writes a text whole, and says whether it could. */
 static int say(int to, const char *text)
@@ -106,8 +116,48 @@ static int refuse(const char *who, const char *before, const char *word, const c
     return USAGE;
 }
 
-/* What the proved program has said on standard error: nothing, that it could not, or a usage. */
+static int is_closed(int stream)
+{
+    return fcntl(stream, F_GETFD) < 0;
+}
+
+static int stream_is_closed(const struct program *program, const char *what)
+{
+    say(STDERR_FILENO, "nedrubal");
+    say(STDERR_FILENO, program->name);
+    say(STDERR_FILENO, what);
+    return COULD_NOT;
+}
+
+/* ---- what the proved program does */
+
+/* What it has said on standard error: nothing, that it could not, or a usage. */
 static int said;
+
+/* Which lines that it prints are looked for, and whether one was found. */
+static enum { ANY, NOT_ACCEPTED, REFUSED_MESSAGE } looked_for;
+static int found;
+
+/* An accepted line is answered with 0 in front, whatever else with another number or a word. */
+static void look_at(const char *text, size_t length)
+{
+    static const char word[] = "refused ";
+    static size_t place; /* in the line */
+    static int is_word;
+    for (size_t i = 0; i < length; i++) {
+        if (looked_for == NOT_ACCEPTED && place == 0 && text[i] != '0')
+            found = 1;
+        is_word = (place == 0 || is_word) && place < sizeof word - 1 && text[i] == word[place];
+        if (looked_for == REFUSED_MESSAGE && is_word && place == sizeof word - 2)
+            found = 1;
+        place = text[i] == '\n' ? 0 : place + 1;
+    }
+}
+
+/* Where the messages are written, the same lines are heard by `evening` in a process of its own, whose answers are
+   looked at and go nowhere: a pipe brings it what is read. */
+static int is_judge;
+static int to_judge = -1;
 
 /* In place of `write` in the proved programs. */
 ssize_t nedrubal_write(int to, const void *from, size_t length)
@@ -117,7 +167,77 @@ ssize_t nedrubal_write(int to, const void *from, size_t length)
         size_t known = sizeof usage - 1;
         said = length >= known && memcmp(from, usage, known) == 0 ? USAGE : COULD_NOT;
     }
-    return write(to, from, length);
+    ssize_t wrote = is_judge ? (ssize_t)length : write(to, from, length);
+    if (to == STDOUT_FILENO && wrote > 0)
+        look_at(from, (size_t)wrote);
+    return wrote;
+}
+
+/* In place of `read`. */
+ssize_t nedrubal_read(int from, void *to, size_t length)
+{
+    ssize_t came = read(from, to, length);
+    for (ssize_t done = 0; to_judge >= 0 && done < came;) {
+        ssize_t more = write(to_judge, (const char *)to + done, (size_t)(came - done));
+        if (more < 0 && errno == EINTR)
+            continue;
+        if (more <= 0)
+            to_judge = -1;
+        else
+            done += more;
+    }
+    return came;
+}
+
+/* Starts the judge, and says whether it could. */
+static int call_judge(pid_t *judge)
+{
+    int ends[2];
+    if (pipe(ends) != 0)
+        return 0;
+    *judge = fork();
+    if (*judge < 0)
+        return 0;
+    if (*judge == 0) {
+        is_judge = 1;
+        looked_for = NOT_ACCEPTED;
+        close(ends[1]);
+        if (dup2(ends[0], STDIN_FILENO) < 0)
+            _exit(COULD_NOT);
+        nedrubal_evening();
+        _exit(said ? COULD_NOT : found ? REFUSED : 0);
+    }
+    close(ends[0]);
+    to_judge = ends[1];
+    return 1;
+}
+
+/* What the judge says when there is no line more. */
+static int judged(pid_t judge)
+{
+    int status;
+    close(to_judge);
+    while (waitpid(judge, &status, 0) < 0)
+        if (errno != EINTR)
+            return COULD_NOT;
+    return WIFEXITED(status) ? WEXITSTATUS(status) : COULD_NOT;
+}
+
+static int run_strictly(const struct program *program)
+{
+    if (program->run != nedrubal_broadcast) {
+        looked_for = NOT_ACCEPTED;
+        int status = program->run();
+        return said ? said : found ? REFUSED : status;
+    }
+    pid_t judge;
+    if (!call_judge(&judge)) {
+        say(STDERR_FILENO, "nedrubal broadcast: there is no second process for --strict\n");
+        return COULD_NOT;
+    }
+    int status = program->run();
+    int verdict = judged(judge);
+    return said ? said : status ? status : verdict;
 }
 
 /* Puts a file on standard input: a file, a pipe or a terminal that can be read. */
@@ -145,7 +265,15 @@ static int run(const struct program *program, int count, char **words)
 {
     if (count > 1 && (strcmp(words[1], "-h") == 0 || strcmp(words[1], "--help") == 0))
         return answer(program->usage);
+    if (is_closed(STDOUT_FILENO))
+        return stream_is_closed(program, ": could not write: standard output is closed\n");
+    int is_strict = 0;
     if (program->run != nedrubal_exchange) {
+        if (count > 1 && program->run != nedrubal_listen && strcmp(words[1], "--strict") == 0) {
+            is_strict = 1;
+            words++;
+            count--;
+        }
         if (count > 1 && words[1][0] == '-' && words[1][1] != 0)
             return refuse(program->name, "there is no option ", words[1], "");
         if (count > 2)
@@ -153,9 +281,15 @@ static int run(const struct program *program, int count, char **words)
         if (count > 1 && !put_on_input(words[1]))
             return refuse(program->name, "", words[1], " is no file that can be read");
     }
+    if (is_closed(STDIN_FILENO))
+        return stream_is_closed(program, ": could not read: standard input is closed\n");
+    if (is_strict)
+        return run_strictly(program);
+    if (program->run == nedrubal_listen)
+        looked_for = REFUSED_MESSAGE;
     give_arguments(count, words);
     int status = program->run();
-    return said ? said : status;
+    return said ? said : found ? COULD_NOT : status;
 }
 
 int main(int argc, char **argv)

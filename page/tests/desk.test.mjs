@@ -162,6 +162,24 @@ test('a blank line says nothing, and one with a line feed is two', async () => {
     assert.equal((await desk.say(['read –7']))[0].accepted, false);
 });
 
+test('a heading is kept in the text, counted, shown and taken back', async () => {
+    const [admit] = example('evening.txt');
+    const desk = await openDesk(`# 16 November\n${admit}\n`);
+    assert.deepEqual(desk.sheet.headings, [{ line: 1, text: '16 November' }]);
+    const [heading, read, bad] = await desk.say(['# shares', 'read 7', 'hello']);
+    assert.deepEqual([heading.accepted, heading.answer, read.accepted, bad.answer], [true, '', true, 'bad 5']);
+    assert.equal(desk.text(), `# 16 November\n${admit}\n# shares\nread 7\n`);
+    assert.deepEqual(desk.sheet.headings.map(({ line }) => line), [1, 3]);
+    assert.equal(desk.unsaved, 2);
+    assert.equal(await desk.undo(), 'read 7');
+    assert.equal(await desk.undo(), '# shares');
+    assert.deepEqual(desk.sheet.headings.map(({ line }) => line), [1]);
+    assert.equal(await desk.undo(), admit);
+    assert.equal(await desk.undo(), '# 16 November');
+    assert.equal(desk.canUndo, false);
+    assert.equal(await desk.undo(), null);
+});
+
 test('what is asked while another is being done waits for it', async () => {
     const desk = await openDesk();
     const lines = evenings['a random evening'];

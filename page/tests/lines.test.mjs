@@ -106,6 +106,7 @@ test('what several fields owe to each other is refused by field', () => {
 test('a line that is no call has no form, in words', () => {
     assert.deepEqual(formOf('hello'), { fault: "'hello' is no call." });
     assert.deepEqual(formOf(' \t'), { fault: 'The line is blank.' });
+    assert.deepEqual(formOf(' # read 7'), { fault: 'The line is a heading, which has no form.' });
     assert.deepEqual(formOf('read 7 8'), { fault: "'read' takes no further '8'." });
     assert.deepEqual(formOf('evaluate 7 4 0 0 0 0 0 0 0 0 0 0 0 1 2'), { fault: 'Row 1 is not whole.' });
     assert.ok('fault' in formOf('quote 7 36000 0 1000000/0'));

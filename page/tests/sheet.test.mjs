@@ -137,6 +137,17 @@ test('lines without an answer are passed over, and a long blank one is answered'
     assert.deepEqual(sheet.refusals.map((one) => [one.line, one.number]), [[3, null], [4, 1], [6, null]]);
 });
 
+test('a heading has no answer and is shown with its line; behind another word, or too long, it is none', async () => {
+    const long = `#${' '.repeat(65535)}`;
+    const input = bytes(`# the evening of 16 November\nread 1\n \t## shares \r\n#\nread 1 # one\n${long}\n`);
+    const { answers, sheet } = await opened(input);
+    assert.deepEqual(answers, ['1', 'bad 5', 'bad 6']);
+    assert.deepEqual(sheet.headings, [
+        { line: 1, text: 'the evening of 16 November' }, { line: 3, text: 'shares' }, { line: 4, text: '' },
+    ]);
+    assert.deepEqual(sheet.refusals.map((one) => [one.line, one.number]), [[2, 1], [5, null], [6, null]]);
+});
+
 test('a damaged broadcast: what was read before stays', async () => {
     const whole = await programs.run('broadcast', example('evening.txt'));
     const cut = sheetOfMessages(linesOf(await programs.run('listen', whole.subarray(0, 102 + 102 + 98 + 50))));

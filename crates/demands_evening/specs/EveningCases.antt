@@ -17,7 +17,7 @@ use Rattle.text_bytes.specs.Bytes.{isBlank, isNot, run, grow, pieces, full, wor
 use Rattle.text_bytes.specs.Numbers.{isDigit, sizeFrom, sizeOf, upTo, above, below, numberOf, slashAt}
 use Rattle.text_protocol.specs.Names.{code, forms, kindFrom, kindOf, countFits, takesIn, takes, placeOf, the}
 use Rattle.text_protocol.specs.Line.{oneOf, twoOf, itemOf, hasTerms, placeIn, pairFits, withPair, more, taking}
-use Rattle.text_protocol.specs.Line.{onWith, finished, fill, called, meaning}
+use Rattle.text_protocol.specs.Line.{onWith, finished, fill, isHeading, called, meaning}
 use Rattle.text_protocol.specs.LineCases.{zText}
 use Rattle.text_protocol.specs.Kept.{foundIn}
 use Rattle.text_protocol.specs.Calls.{admissionOf, bandOf, termOf, askedOf, figuresBehind, deskCall, callOf, deedOf}
@@ -30,7 +30,7 @@ use Rattle.demands_evening.specs.Holds.{ownTable, tableBehind, callsBehi
 unfoldable pub linesOf : List String → List (List ℕ)
 unfolding bytes isBlank isNot run grow pieces full words same isDigit sizeFrom sizeOf upTo above below numberOf slashAt
     code forms kindFrom kindOf countFits takesIn takes placeOf the oneOf twoOf itemOf hasTerms placeIn pairFits withPair
-    more taking onWith finished fill called meaning foundIn givenOf admissionOf bandOf termOf askedOf figuresBehind
+    more taking onWith finished fill isHeading called meaning foundIn givenOf admissionOf bandOf termOf askedOf figuresBehind
     deskCall callOf deedOf unsigned repoOf dayOf dayTerm
 linesOf texts = map bytes texts
 

@@ -31,8 +31,12 @@ fn say_usage() {
     );
 }
 
-fn say_failed() {
-    io::write_all(STDERR_FILENO, b"exchange: could not read or write\n");
+fn say_failed(wrote: bool) {
+    if wrote {
+        io::write_all(STDERR_FILENO, b"exchange: could not read\n");
+        return;
+    }
+    io::write_all(STDERR_FILENO, b"exchange: could not write\n");
 }
 
 // Which security the only argument asks for.
@@ -61,7 +65,7 @@ fn report(served: Served) {
     let read = served.read;
     let told = served.told;
     if read.has_failed() | !told.took_all() {
-        say_failed();
+        say_failed(told.took_all());
     }
 }
 

@@ -232,10 +232,20 @@ fn went_well(s: Listening) -> bool
     !read.has_failed() & told.took_all() & ((ROOM as u64) < u64::MAX - read.all())
 }
 
+// Says on standard error which failed.
+fn say_failed(wrote: bool) {
+    if wrote {
+        io::write_all(STDERR_FILENO, b"listen: could not read\n");
+        return;
+    }
+    io::write_all(STDERR_FILENO, b"listen: could not write\n");
+}
+
 // The program: says on standard error where a read or a write failed.
 pub fn on() {
     let s = listen();
     if !went_well(s) {
-        io::write_all(STDERR_FILENO, b"listen: could not read or write\n");
+        let told = s.told;
+        say_failed(told.took_all());
     }
 }

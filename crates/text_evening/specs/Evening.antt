@@ -74,7 +74,7 @@ worded Answers text = text
 worded Reasons text = text
 worded Messages text = []
 
--- what the n-th line is told as; a blank line is told nothing
+-- what the n-th line is told as; a line that says nothing is told nothing
 unfoldable pub textOf : Telling → (n : ℕ) → Deed → List Record → List ℕ
 textOf telling n nothing t = []
 textOf telling n noCall t = worded telling (badText n)
@@ -82,7 +82,7 @@ textOf telling n (call c) t = callTold telling c t
 textOf telling n (interest i keys) t = worded telling (interestText (interestAnswer i keys))
 textOf telling n (bond b flows) t = worded telling (bondText (bondAnswer b flows))
 
--- lines are counted from 1, blank ones too, up to the greatest number of 64 bits
+-- lines are counted from 1, blank ones and headings too, up to the greatest number of 64 bits
 abbrev pub lastNumber : ℕ
 lastNumber = 18446744073709551615
 

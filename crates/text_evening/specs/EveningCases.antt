@@ -37,13 +37,14 @@ use Rattle.text_evening.specs.Evening.{numberAfter, after, answer, start
 
 -- ---- an evening
 
--- no call; the admission of document 01's Z; a blank line; an evaluation of an id that was not admitted; an interest
--- line and a bond line; no call; an admission whose P1 is off the grid
+-- no call; the admission of document 01's Z; a blank line and a heading; an evaluation of an id that was not admitted;
+-- an interest line and a bond line; no call; an admission whose P1 is off the grid
 unfoldable pub lines : List (List ℕ)
 lines =
     bytes "hello"
     ∷ (bytes "admit 7 3 1000000 1000000 20000 600" ++ zText "1")
     ∷ []
+    ∷ bytes "# 8 is a new share"
     ∷ bytes "evaluate 8 4 0 0 0 0 0 0 0 0 0 0 0"
     ∷ bytes
     "interest 0 0 1 1000 500 200 50 2 20 300 100 200 940 710 1 800 650 700 810 40 150 1 3 803 652 700 1150 40 150 1"
@@ -61,10 +62,11 @@ unfolding lines zText zStatics slots deskAnswers evaluateChecks interestAnswered
     afterAll answers
 told telling = answers telling lines (startEvening (slots 1))
 
--- EACH LINE IN ITS TURN, AS ITS PROGRAM TELLS IT: a line that is no call by its number, counted from 1, blank ones too;
--- an evaluation and an admission with its number, or with why; where messages are told, those of accepted calls and nothing else
-pub told-are : (told Answers ≡ bytes "bad 1\n0\n1\n0 710 940 150 61 150 2 300 200 151 76 200 0 300 450\n17\nbad 7\n4\n")
-    × (told Reasons ≡ bytes "bad 1\n0\n1 none\n0 710 940 150 61 150 2 300 200 151 76 200 0 300 450\n17\nbad 7\n4 field 3\n")
+-- EACH LINE IN ITS TURN, AS ITS PROGRAM TELLS IT: a line that is no call by its number, counted from 1, blank ones and
+-- headings too; an evaluation and an admission with its number, or with why; where messages are told, those of accepted
+-- calls and nothing else
+pub told-are : (told Answers ≡ bytes "bad 1\n0\n1\n0 710 940 150 61 150 2 300 200 151 76 200 0 300 450\n17\nbad 8\n4\n")
+    × (told Reasons ≡ bytes "bad 1\n0\n1 none\n0 710 940 150 61 150 2 300 200 151 76 200 0 300 450\n17\nbad 8\n4 field 3\n")
     × (told Messages ≡ encode (message staticsMessageKind (pos 7 ∷ zStatics)))
 unfolding told
 told-are = (refl, refl, refl)

@@ -6,7 +6,7 @@ use Prim.Native.Nat.{ℕ, zero, suc, _+_, _-_, _≤_, _<_}
 use native.Mathlib.Omega.{arith}
 use lib.Dec.{leb, eqb}
 use lib.IntN.{ℤ}
-use lib.ListN.{length, take, drop, set, length-set, length-append}
+use lib.ListN.{length, take, drop, set, getD, length-set, length-append}
 use lib.Seq.{take-all, take-take, take-append-le, length-take-le, take-suc-set}
 use borrow.Author.Tests.{le-leb, lt-leb, eq-eqb, ne-eqb}
 use Rattle.paper.specs.Lists.{pick}
@@ -16,7 +16,8 @@ use Rattle.text_protocol.specs.declared.Pairs.{Pairs}
 use Rattle.text_bytes.specs.Bytes.{isBlank, run, words}
 use Rattle.text_protocol.specs.Names.{kindOf, takes}
 use Rattle.text_protocol.specs.Line.{Said, Nothing, NoCall, Call, noPairs, pairFits, withPair, more, Reading, read}
-use Rattle.text_protocol.specs.Line.{spoilt, taking, onWith, finished, itemOf, fill, called, meaning, keptMost, longest}
+use Rattle.text_protocol.specs.Line.{spoilt, taking, onWith, finished, itemOf, fill, headingSign, isHeading, called}
+use Rattle.text_protocol.specs.Line.{meaning, keptMost, longest}
 use Rattle.text_word.specs.Parts.{isSolid}
 use Rattle.text_word.proofs.Words.{words-part, words-end}
 use Rattle.text_line.specs.declared.Line.{Line}
@@ -161,6 +162,16 @@ module _ (l : List ℕ) (k : ℕ) (goal : Said) (xs : List ℤ) (s n : ℕ) (p :
 
 -- ---- the line
 
+pub heading-none : (w : List ℕ) → length w ≡ 0 → false ≡ isHeading w
+unfolding isHeading
+heading-none [] h = refl
+heading-none (b ∷ w) h = let z : ⊥ = omega arith in absurd z
+
+pub heading-some : (w : List ℕ) → (length w ≡ 0 → ⊥) → eqb (getD w 0 0) headingSign ≡ isHeading w
+unfolding isHeading
+heading-some [] h = absurd (h refl)
+heading-some (b ∷ w) h = refl
+
 pub long-line : (l : List ℕ) (r : Line) (xs : List ℤ) → length xs ≡ keptMost → longest < length l → r ≡ badLine
     → LineSays (meaning l) r xs
 unfolding meaning
@@ -186,29 +197,42 @@ module _ (l : List ℕ) (short : length l ≤ longest) (a : ℕ) (skip : a ≡ 0
         high = omega arith;
       })
 
-  module _ (e k : ℕ) (h : a < length l) (word : e ≡ a + run isSolid (drop a l)) (kind : k ≡ kindOf (take (e - a) (drop
-      a l))) where
-    meant : meaning l ≡ pick (eqb k 0) NoCall (fill k [] noPairs (words (drop e l)))
+  module _ (e : ℕ) (first : Bool) (h : a < length l) (word : e ≡ a + run isSolid (drop a l))
+      (is : first ≡ isHeading (take (e - a) (drop a l))) where
+    pub heading-line : (r : Line) (xs : List ℤ) → length xs ≡ keptMost → first ≡ true → r ≡ blankLine
+        → LineSays (meaning l) r xs
     unfolding meaning called
-    meant = rw (le-leb (length l) longest short, words-part l 0 a skip e h word, ← kind)
+    heading-line r xs x y b =
+        rw (b, le-leb (length l) longest short, words-part l 0 a skip e h word, ← is, y) (record {
+          says = blank-says xs;
+          long = x;
+          most = omega arith;
+          low = omega arith;
+          high = omega arith;
+        })
 
-    pub no-call : (r : Line) (xs : List ℤ) → length xs ≡ keptMost → k ≡ 0 → r ≡ badLine → LineSays (meaning l) r xs
-    no-call r xs x z b = rw (b, meant, eq-eqb k 0 z) (record {
-      says = bad-says xs;
-      long = x;
-      most = omega arith;
-      low =
-          omega arith;
-      high = omega arith;
-    })
+    module _ (k : ℕ) (other : first ≡ false) (kind : k ≡ kindOf (take (e - a) (drop a l))) where
+      meant : meaning l ≡ pick (eqb k 0) NoCall (fill k [] noPairs (words (drop e l)))
+      unfolding meaning called
+      meant = rw (le-leb (length l) longest short, words-part l 0 a skip e h word, ← is, other, ← kind)
 
-    pub some-call : (r : Line) (xs : List ℤ) → (k ≡ 0 → ⊥)
-        → LineSays (fill k [] noPairs (words (drop e l))) r xs → LineSays (meaning l) r xs
-    some-call r xs z q = record {
-      says = q .says ∙ sym (meant ∙ rw (ne-eqb k 0 z));
-      long = q .long;
-      most = q .most;
-      low
-          = q .low;
-      high = q .high;
-    }
+      pub no-call : (r : Line) (xs : List ℤ) → length xs ≡ keptMost → k ≡ 0 → r ≡ badLine → LineSays (meaning l) r xs
+      no-call r xs x z b = rw (b, meant, eq-eqb k 0 z) (record {
+        says = bad-says xs;
+        long = x;
+        most = omega arith;
+        low =
+            omega arith;
+        high = omega arith;
+      })
+
+      pub some-call : (r : Line) (xs : List ℤ) → (k ≡ 0 → ⊥)
+          → LineSays (fill k [] noPairs (words (drop e l))) r xs → LineSays (meaning l) r xs
+      some-call r xs z q = record {
+        says = q .says ∙ sym (meant ∙ rw (ne-eqb k 0 z));
+        long = q .long;
+        most = q .most;
+        low
+            = q .low;
+        high = q .high;
+      }

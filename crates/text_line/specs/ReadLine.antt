@@ -14,7 +14,7 @@ use Rattle.text_protocol.specs.Line.{keptMost}
 use Rattle.text_line.specs.declared.Line.{Line}
 use Rattle.text_line.specs.declared.Taken.{Taken}
 
--- behind the kinds of the calls, that of a line with no word, and that of one that is no call
+-- behind the kinds of the calls, that of a line that says nothing, and that of one that is no call
 abbrev pub blankKind : ℕ
 blankKind = 100
 

@@ -7,7 +7,8 @@ ghost use lib.ListN.{length, take, drop};
 ghost use Rattle.paper.specs.Lists.{pick};
 ghost use Rattle.text_bytes.specs.Bytes.{words, same};
 ghost use Rattle.text_protocol.specs.Names.{kindOf, takes};
-ghost use Rattle.text_protocol.specs.Line.{noPairs, hasTerms, pairFits, withPair, taking, fill, meaning, keptMost};
+ghost use Rattle.text_protocol.specs.Line.{noPairs, hasTerms, pairFits, withPair, taking, fill, isHeading, meaning};
+ghost use Rattle.text_protocol.specs.Line.{keptMost};
 ghost use Rattle.text_line.specs.ReadLine.{blankLine, badLine, LineSays, lineOf, LowsAt, Keeps, Takes};
 use text_bytes::ROOM;
 use text_protocol::BondPlace;
@@ -67,6 +68,16 @@ pub fn bad() -> Line
         count: 0,
         pairs: no_pairs(),
     }
+}
+
+// Whether a word is the first of a heading, which says nothing.
+fn is_heading(p: &[u8]) -> bool
+    ensures { λ r. ⌜ r ≡ isHeading (now (p .entry)) ⌝ }
+{
+    if p.len() == 0 {
+        return false;
+    }
+    p[0] == b'#'
 }
 
 // A kind, where the word is that of its call, or else another.
@@ -256,6 +267,9 @@ pub fn read_line(l: &[u8], xs: &mut [i64]) -> Line
         return blank();
     }
     let e = past_word(l, a);
+    if is_heading(&l[a..e]) {
+        return blank();
+    }
     let kind = kind_of(&l[a..e]);
     if kind == 0 {
         return bad();

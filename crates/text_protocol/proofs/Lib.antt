@@ -2,3 +2,4 @@
 pub mod Variants
 pub mod Filling
 pub mod Reading
+pub mod Silence

@@ -16,11 +16,12 @@ use Rattle.text_bytes.specs.declared.Number.the-variants as number
 use Rattle.text_protocol.specs.declared.Item.{Item}
 use Rattle.text_protocol.specs.declared.Item.the-variants as item
 use Rattle.text_protocol.specs.declared.Pairs.{Pairs}
-use Rattle.text_bytes.specs.Bytes.{isBlank, slash, digitZero, isNot, run, words, same}
+use Rattle.text_bytes.specs.Bytes.{isBlank, minusSign, slash, digitZero, isNot, run, words, same}
 use Rattle.text_bytes.specs.Numbers.{numberOf, slashAt}
 use Rattle.text_protocol.specs.Names.{Form, kindFrom, kindOf, forms, takes}
-use Rattle.text_protocol.specs.Line.{NoCall, Call, oneOf, twoOf, itemOf, noPairs, pairFits, withPair, more}
-use Rattle.text_protocol.specs.Line.{finished, fill, called, longest, meaning}
+use Rattle.text_protocol.specs.Line.{Said, Nothing, NoCall, Call, oneOf, twoOf, itemOf, noPairs, pairFits}
+use Rattle.text_protocol.specs.Line.{withPair, more, finished, fill, headingSign, isHeading, called, longest}
+use Rattle.text_protocol.specs.Line.{meaning}
 use Rattle.text_bytes.specs.Spells.{Blanks, no-blank, blank, Digits, no-digit, digit, Spells, plain, minus}
 use Rattle.text_protocol.specs.Written.{WordFrom, here, behind, CallWord, Numbers, done, one, two, Says, says}
 use Rattle.text_bytes.proofs.Words.{Solid, solid, Ends, end, parted, solid-append, words-blanks, words-solid}
@@ -145,9 +146,25 @@ call-some : {n : ℕ} (fs : List Form) {w : List ℕ} {k : ℕ} → WordFrom n f
 call-some (f ∷ fs) here = omega arith
 call-some (f ∷ fs) (behind x) = omega (arith, call-some fs x)
 
+-- a word of letters is no heading's
+letters-are-no-heading : (w : List ℕ) → allHigh w ≡ true → isHeading w ≡ false
+unfolding isHeading allHigh
+letters-are-no-heading [] e = refl
+letters-are-no-heading (b ∷ t) e =
+    let h : minusSign ≤ b = leb-true minusSign b (and-left (leb minusSign b) (allHigh t) e) in
+    ne-eqb b headingSign (λ i. low b h i)
+  where
+    low : (b : ℕ) → minusSign ≤ b → b ≡ headingSign → ⊥
+    low b h i = omega arith
+
 word-called : {w : List ℕ} {k : ℕ} (ws : List (List ℕ)) → CallWord w k → called (w ∷ ws) ≡ fill k [] noPairs ws
 unfolding called
-word-called {w} {k} ws x = rw (call-found x .at, ne-eqb k 0 (λ e. omega (arith, call-some forms x)))
+word-called {w} {k} ws x =
+    rw (
+      letters-are-no-heading w (call-found x .letters),
+      call-found x .at,
+      ne-eqb k 0 (λ e. omega (arith, call-some forms x)),
+    )
 
 finished-right : (k : ℕ) (zs : List ℤ) (p : Pairs) → takes k (length zs) ≡ true → finished k zs p ≡ Call k zs p
 unfolding finished
@@ -346,12 +363,14 @@ line-back : {l : List ℕ} {ws : List (List ℕ)} (k : ℕ) (zs : List ℤ) (p :
     → called ws ≡ Call k zs p → Says l k zs p
 unfolding called
 line-back k zs p (last b) o e = impossible cc
-line-back k zs p (word {t} {w} {rest} {ws} bs s h en r) o e = go (eqb (kindOf w) 0) refl e
+line-back k zs p (word {t} {w} {rest} {ws} bs s h en r) o e = go (isHeading w) (eqb (kindOf w) 0) refl e
   where
-    go : (x : Bool) → eqb (kindOf w) 0 ≡ x → pick x NoCall (fill (kindOf w) [] noPairs ws) ≡ Call k zs p
+    go : (x y : Bool) → eqb (kindOf w) 0 ≡ y
+        → pick x Nothing (pick y NoCall (fill (kindOf w) [] noPairs ws)) ≡ Call k zs p
         → Says (t ++ (w ++ rest)) k zs p
-    go true i f = impossible cc
-    go false i f =
+    go true y i f = impossible cc
+    go false true i f = impossible cc
+    go false false i f =
         let b : FillBack (kindOf w) [] noPairs rest k zs p = fill-back (kindOf w) [] noPairs k zs p en r f in
         rw (b .kind) at (says bs (call-back w i) (b .numbers) (b .count) o)
 

@@ -20,7 +20,7 @@ use Rattle.text_bytes.specs.Bytes.{isBlank, isNot, run, grow, pieces, full, wor
 use Rattle.text_bytes.specs.Numbers.{isDigit, sizeFrom, sizeOf, upTo, above, below, numberOf, slashAt}
 use Rattle.text_protocol.specs.Names.{code, forms, kindFrom, kindOf, countFits, takesIn, takes, placeOf, the}
 use Rattle.text_protocol.specs.Line.{oneOf, twoOf, itemOf, hasTerms, placeIn, pairFits, withPair, more, taking}
-use Rattle.text_protocol.specs.Line.{onWith, finished, fill, called, meaning}
+use Rattle.text_protocol.specs.Line.{onWith, finished, fill, isHeading, called, meaning}
 use Rattle.text_protocol.specs.LineCases.{naturals, zText}
 use Rattle.text_protocol.specs.Kept.{noPair, foundIn}
 use Rattle.text_protocol.specs.Calls.{Deed, call, interest, bond, admissionOf, quoteOf, bitsOf, floatOf}
@@ -45,8 +45,8 @@ unfoldable pub deedIn : List ℕ → Deed
 unfolding floatAt keptLimits bytes isDone unsigned workedRepo repoOf dayOf dayTerm isBlank isNot run grow pieces full
     words same isDigit sizeFrom sizeOf upTo above below numberOf slashAt code forms kindFrom kindOf
     countFits takesIn takes placeOf the oneOf twoOf itemOf hasTerms placeIn pairFits withPair more taking onWith
-    finished fill called meaning foundIn givenOf admissionOf quoteOf bitsOf floatOf outsideOf noticeCall interestOf
-    bandOf termOf askedOf bondStaticsOf bondOf figuresBehind deskCall callOf deedOf
+    finished fill isHeading called meaning foundIn givenOf admissionOf quoteOf bitsOf floatOf outsideOf noticeCall
+    interestOf bandOf termOf askedOf bondStaticsOf bondOf figuresBehind deskCall callOf deedOf
 deedIn text = deedOf keptLimits (meaning text)
 
 unfoldable pub deedBy : String → Deed

@@ -99,9 +99,20 @@ unfoldable pub fill : (kind : ℕ) → List ℤ → Pairs → List (List ℕ) �
 fill k zs p [] = finished k zs p
 fill k zs p (w ∷ ws) = onWith (taking k zs p (itemOf w)) (λ zs p. fill k zs p ws)
 
+-- a heading begins with this byte, "#"
+abbrev pub headingSign : ℕ
+headingSign = 35
+
+-- the first word of a heading
+unfoldable pub isHeading : (word : List ℕ) → Bool
+isHeading [] = false
+isHeading (b ∷ w) = eqb b headingSign
+
+-- a line without a word says nothing, and neither does a heading
 unfoldable pub called : List (List ℕ) → Said
 called [] = Nothing
-called (w ∷ ws) = pick (eqb (kindOf w) 0) NoCall (fill (kindOf w) [] noPairs ws)
+called (w ∷ ws) =
+    pick (isHeading w) Nothing (pick (eqb (kindOf w) 0) NoCall (fill (kindOf w) [] noPairs ws))
 
 -- a line of more bytes is no call: a buffer has no room for a line feed behind them
 abbrev pub longest : ℕ

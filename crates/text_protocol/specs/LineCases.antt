@@ -15,7 +15,7 @@ use Rattle.text_protocol.specs.Names.{outsideKind, noticeKind, withdrawK
 use Rattle.text_protocol.specs.Names.{kindFrom, kindOf, countFits, takesIn, takes, placeOf, code}
 use Rattle.text_protocol.specs.Line.{Said, Nothing, NoCall, Call, oneOf, twoOf, itemOf, noPairs, longest}
 use Rattle.text_protocol.specs.Line.{hasTerms, placeIn, pairFits, withPair, more, taking, onWith, finished, fill}
-use Rattle.text_protocol.specs.Line.{called, meaning}
+use Rattle.text_protocol.specs.Line.{isHeading, called, meaning}
 
 abbrev pub naturals : List ℕ → List ℤ
 naturals ns = map pos ns
@@ -97,6 +97,15 @@ lineCases =
     -- a line says nothing where it is empty or blanks alone
     ∷ line "" Nothing
     ∷ line " \t \r" Nothing
+    -- or where its first word begins with "#", whatever follows; behind another word that is no number
+    ∷ line "# the evening of 16 November" Nothing
+    ∷ line "#" Nothing
+    ∷ line "  \t#read 7" Nothing
+    ∷ line "## 7 0/1 #" Nothing
+    ∷ line "read 7 # the first share" NoCall
+    ∷ line "read #7" NoCall
+    ∷ line "read# 7" NoCall
+    ∷ line "7 # read" NoCall
     -- blanks, tabs and carriage returns part words, at both ends too
     ∷ line "  move\t7  0 \r" (Call moveKind (naturals (7 ∷ 0 ∷ [])) noPairs)
     -- zeros may lead, and minus zero is zero
@@ -144,5 +153,5 @@ pub meanings : (map heard lineCases ≡ map meant lineCases)
 unfolding lineCases heard meant bytes zText zStatics ones isBlank isNot run grow pieces full words same isDigit
     sizeFrom sizeOf upTo above below numberOf slashAt forms kindFrom kindOf countFits takesIn
     takes placeOf code oneOf twoOf itemOf
-    hasTerms placeIn pairFits withPair more taking onWith finished fill called meaning
+    hasTerms placeIn pairFits withPair more taking onWith finished fill isHeading called meaning
 meanings = (refl, refl, refl)

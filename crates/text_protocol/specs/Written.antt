@@ -11,7 +11,7 @@ use Rattle.text_protocol.specs.declared.Pairs.{Pairs}
 use Rattle.text_bytes.specs.Bytes.{isBlank, slash}
 use Rattle.text_bytes.specs.Spells.{Blanks, Spells}
 use Rattle.text_protocol.specs.Names.{Form, forms, takes}
-use Rattle.text_protocol.specs.Line.{noPairs, pairFits, withPair, more, longest}
+use Rattle.text_protocol.specs.Line.{noPairs, pairFits, withPair, more, headingSign, longest}
 
 -- w is the word of the call that has the place k in a table of calls, where the first has the place n
 pub data WordFrom : (n : ℕ) → List Form → (w : List ℕ) → (k : ℕ) → Type 0 where
@@ -39,3 +39,9 @@ pub data Says : List ℕ → ℕ → List ℤ → Pairs → Type 0 where
   says : {t w rest : List ℕ} {k : ℕ} {zs : List ℤ} {p : Pairs} → Blanks t → CallWord w k
       → Numbers k [] noPairs rest zs p
       → takes k (length zs) ≡ true → length (t ++ (w ++ rest)) ≤ longest → Says (t ++ (w ++ rest)) k zs p
+
+-- A LINE THAT SAYS NOTHING: blanks, or a heading, which has a `#` behind blanks or none, and then whatever it likes
+pub data Silent : List ℕ → Type 0 where
+  blanks : {t : List ℕ} → Blanks t → length t ≤ longest → Silent t
+  heading : {t : List ℕ} (rest : List ℕ) → Blanks t → length (t ++ headingSign ∷ rest) ≤ longest
+      → Silent (t ++ headingSign ∷ rest)

@@ -86,7 +86,16 @@ pub fn fresh() -> [Record; Record::SLOTS_MOST]
     [e; Record::SLOTS_MOST]
 }
 
-// Says on standard error where a read or a write failed, or the input has not ended.
+// The line that was heard last, by the number of the next one.
+fn last_heard(next: u64) -> u64 {
+    if next < 2 {
+        return 1;
+    }
+    next - 1
+}
+
+// Says on standard error which failed, a read or a write, and at which line; or that the input has not ended. What came
+// before a read that failed is the last line that was heard.
 fn report(s: State) {
     let told = s.told;
     let input = s.input;
@@ -96,11 +105,18 @@ fn report(s: State) {
     }
     let telling = s.telling;
     match telling {
-        Telling::Answers => io::write_all(STDERR_FILENO, b"evening: could not read or write\n"),
-        Telling::Reasons => io::write_all(STDERR_FILENO, b"why: could not read or write\n"),
-        Telling::Messages => io::write_all(STDERR_FILENO, b"broadcast: could not read or write\n"),
+        Telling::Answers => io::write_all(STDERR_FILENO, b"evening: "),
+        Telling::Reasons => io::write_all(STDERR_FILENO, b"why: "),
+        Telling::Messages => io::write_all(STDERR_FILENO, b"broadcast: "),
     }
     ;
+    if told.took_all() {
+        io::write_all(STDERR_FILENO, b"could not read, at line ");
+    } else {
+        io::write_all(STDERR_FILENO, b"could not write, at line ");
+    }
+    io::print_decimal(STDERR_FILENO, last_heard(s.number));
+    io::write_all(STDERR_FILENO, b"\n");
 }
 
 // A table by value, lent once to every line of standard input: `evening`, `why` and `broadcast` are this, told in three

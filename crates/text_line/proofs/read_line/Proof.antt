@@ -1,5 +1,5 @@
 -- `text_line::read_line` meets its contract: what a line says.
-use Rattle.text_line.proofs.LineLoop.{long-line, blank-line, no-call, some-call}
+use Rattle.text_line.proofs.LineLoop.{long-line, blank-line, heading-line, no-call, some-call}
 use native.Mathlib.Omega.{arith}
 use mathlib.Core.Path.{_≡_, refl, sym, ap, _∙_}
 use borrow.Author.Needs.{needs}
@@ -9,6 +9,7 @@ use Rattle.text_line.proofs.read_line.Reads as reads
 use Rattle.text_line.proofs.read_line.Lts as lts
 use Rattle.text_line.proofs.bad.Reads as bad-reads
 use Rattle.text_line.proofs.blank.Reads as blank-reads
+use Rattle.text_line.proofs.is_heading.Reads as is-heading-reads
 use Rattle.text_line.proofs.kind_of.Reads as kind-of-reads
 use Rattle.text_line.proofs.numbers.Reads as numbers-reads
 use Rattle.text_word.proofs.past_blanks.Reads as past-blanks-reads
@@ -35,6 +36,32 @@ returns-2 c =
 past-word-requires : tie.Need-past-word-requires
 past-word-requires c κs = search needs
 
+sub-is-heading : tie.Need-sub-is-heading
+sub-is-heading c = search needs
+
+part-is-heading-start : tie.Need-part-is-heading-start
+part-is-heading-start c = search needs
+
+part-is-heading-end : tie.Need-part-is-heading-end
+part-is-heading-end c = search needs
+
+is-heading-requires : tie.Need-is-heading-requires
+is-heading-requires c κs = search needs
+
+blank-requires-2 : tie.Need-blank-requires-2
+blank-requires-2 c κs = search needs
+
+returns-3 : tie.Need-returns-3
+returns-3 c =
+    let at-is-heading = c .before .before in
+    let at-past-word = at-is-heading .before .before in
+    let at-past-blanks = at-past-word .before .before in
+    let at-if1 = at-past-blanks .before in
+    let entered = at-if1 .before .before in
+    heading-line _ (at-if1 .if1 .left) _ (at-past-blanks .past-blanks .ensures .0) _ _ (omega arith)
+    (at-past-word .past-word .ensures .0) (at-is-heading .is-heading .ensures) _ _ (entered .pre)
+    (c .before .if3 .taken) (c .blank2 .ensures)
+
 sub-kind-of : tie.Need-sub-kind-of
 sub-kind-of c = search needs
 
@@ -50,16 +77,17 @@ kind-of-requires c κs = search needs
 bad-requires-2 : tie.Need-bad-requires-2
 bad-requires-2 c κs = search needs
 
-returns-3 : tie.Need-returns-3
-returns-3 c =
+returns-4 : tie.Need-returns-4
+returns-4 c =
     let at-kind-of = c .before .before in
-    let at-past-word = at-kind-of .before .before in
+    let at-is-heading = at-kind-of .before .before .before in
+    let at-past-word = at-is-heading .before .before in
     let at-past-blanks = at-past-word .before .before in
     let at-if1 = at-past-blanks .before in
     let entered = at-if1 .before .before in
     no-call _ (at-if1 .if1 .left) _ (at-past-blanks .past-blanks .ensures .0) _ _ (omega arith)
-    (at-past-word .past-word .ensures .0) (at-kind-of .kind-of .ensures) _ _ (entered .pre) (c .before .if3 .taken)
-    (c .bad2 .ensures)
+    (at-past-word .past-word .ensures .0) (at-is-heading .is-heading .ensures) _ (at-kind-of .before .before .if3 .left)
+    (at-kind-of .kind-of .ensures) _ _ (entered .pre) (c .before .if4 .taken) (c .bad2 .ensures)
 
 numbers-requires : tie.Need-numbers-requires
 numbers-requires c κs = search needs
@@ -67,14 +95,16 @@ numbers-requires c κs = search needs
 same-length : tie.Need-same-length
 same-length c = search needs
 
-returns-4 : tie.Need-returns-4
-returns-4 c =
-    let at-past-word = c .before .before .before .before .before .before in
+returns-5 : tie.Need-returns-5
+returns-5 c =
+    let at-kind-of = c .before .before .before .before in
+    let at-is-heading = at-kind-of .before .before .before in
+    let at-past-word = at-is-heading .before .before in
     let at-past-blanks = at-past-word .before .before in
     let at-if1 = at-past-blanks .before in
     some-call _ (at-if1 .if1 .left) _ (at-past-blanks .past-blanks .ensures .0) _ _ (omega arith)
-    (at-past-word .past-word .ensures .0) (c .before .before .before .before .kind-of .ensures) _ _
-    (c .before .before .before .if3 .left) (c .before .numbers .ensures)
+    (at-past-word .past-word .ensures .0) (at-is-heading .is-heading .ensures) _ (at-kind-of .before .before .if3 .left)
+    (at-kind-of .kind-of .ensures) _ _ (c .before .before .before .if4 .left) (c .before .numbers .ensures)
 
 pub read-line-spec : {M : Type 1} → statement M
 read-line-spec =
@@ -86,12 +116,18 @@ read-line-spec =
     blank-requires
     returns-2
     past-word-requires
+    sub-is-heading
+    part-is-heading-start
+    part-is-heading-end
+    is-heading-requires
+    blank-requires-2
+    returns-3
     sub-kind-of
     part-kind-of-start
     part-kind-of-end
     kind-of-requires
     bad-requires-2
-    returns-3
+    returns-4
     numbers-requires
     same-length
-    returns-4)
+    returns-5)
