@@ -14,6 +14,7 @@ pub mod count_admission;
 pub mod count_bond;
 pub mod count_crossed;
 pub mod count_exchange;
+pub mod count_headings;
 pub mod count_interest;
 pub mod count_inward;
 pub mod count_listen;

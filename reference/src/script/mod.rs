@@ -8,6 +8,7 @@ pub mod evening;
 pub mod exchange;
 mod field;
 pub mod gateway;
+mod headings;
 mod interest;
 mod inward;
 pub mod listen;
