@@ -49,7 +49,7 @@ givenNumbers g =
 abbrev pub admissionNumbers : Admission → List ℕ
 admissionNumbers a = a .id ∷ a .day ∷ a .p1 ∷ a .p2 ∷ a .s ∷ a .tentative ∷ givenNumbers (a .given)
 
--- the greatest tentative rate of any step: "the least multiple of h at or above 100,000 bp", with h up to 1,000
+-- the top of no step passes this: it is "the least multiple of h at or above 100,000 bp", with h up to 1,000
 abbrev pub tentativeFarthest : ℕ
 tentativeFarthest = 100999
 

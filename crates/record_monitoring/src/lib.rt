@@ -45,9 +45,10 @@ fn watched(r: Record, q: Quote, n: NearSeconds) -> Record
     let term = q.term as usize;
     let mut near = r.near;
     near[term] = n;
-    let session = r.session;
-    let external = r.external;
-    record_writing::watching(r, near, q.second, session, external)
+    let mut o = r;
+    o.near = near;
+    o.second = q.second;
+    o
 }
 
 // "a quote its two alerts": of the near seconds after it, by the session's own seconds.

@@ -23,7 +23,7 @@ use paper_reasons::FieldAtFault;
 // How many numbers an admission has: six, and the statics.
 const NUMBERS: usize = 6 + Statics::COUNT;
 
-// The greatest tentative rate of any step, in bp.
+// The top of no step passes this, in bp: TENTATIVE has its own range before H is looked at.
 const TENTATIVE_FARTHEST: u64 = 100_999;
 
 // The range of each, in the order of the line (`admissionTable` of `paper_reasons`).

@@ -194,10 +194,32 @@ pub fn watching(
 ) -> Record
     ensures { λ o. ⌜ o ≡ watching r near second session external ⌝ }
 {
-    let mut o = r;
-    o.near = near;
-    o.second = second;
-    o.session = session;
-    o.external = external;
-    o
+    let statics = r.statics;
+    let standing = r.standing;
+    let p1 = r.p1;
+    let p2 = r.p2;
+    let tentative = r.tentative;
+    let rates = r.rates;
+    let ranges = r.ranges;
+    let terms = r.terms;
+    let bands = r.bands;
+    let kept = r.moves;
+    Record {
+        id: r.id,
+        statics,
+        standing,
+        p1,
+        p2,
+        s: r.s,
+        tentative,
+        rates,
+        ranges,
+        terms,
+        bands,
+        moves: kept,
+        near,
+        second,
+        session,
+        external,
+    }
 }
