@@ -74,7 +74,7 @@ told-are = (refl, refl, refl)
 -- what the evening leaves: the number of the line that comes next, the pair 0/1, and the admission's record
 pub left-is : afterAll lines (startEvening (slots 1))
     ≡ record {
-      number = 9;
+      number = 10;
       kept =
           record {
             newest = record { ym = 0; yn = 1; worked = record { verdict = Done; lower = pos 710; upper = pos 940 } };

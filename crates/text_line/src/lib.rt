@@ -4,8 +4,7 @@ ghost use mathlib.Core.Bool.{false};
 ghost use mathlib.Core.List.{[]};
 ghost use Prim.Native.Nat.{_≤_};
 ghost use lib.ListN.{length, take, drop};
-ghost use Rattle.paper.specs.Lists.{pick};
-ghost use Rattle.text_bytes.specs.Bytes.{words, same};
+ghost use Rattle.text_bytes.specs.Bytes.{words};
 ghost use Rattle.text_protocol.specs.Names.{kindOf, takes};
 ghost use Rattle.text_protocol.specs.Line.{noPairs, hasTerms, pairFits, withPair, taking, fill, isHeading, meaning};
 ghost use Rattle.text_protocol.specs.Line.{keptMost};
@@ -18,8 +17,11 @@ use text_protocol::CallKind;
 use text_protocol::EvaluatePlace;
 use text_protocol::Item;
 use text_protocol::KEPT;
+use text_protocol::LENGTHS;
 use text_protocol::MORE;
 use text_protocol::Pairs;
+use text_protocol::WORD_ROOM;
+use text_protocol::WORDS;
 use text_word::item_of;
 use text_word::past_blanks;
 use text_word::past_word;
@@ -80,31 +82,20 @@ fn is_heading(p: &[u8]) -> bool
     p[0] == b'#'
 }
 
-// A kind, where the word is that of its call, or else another.
-fn kind_if(p: &[u8], word: &[u8], kind: u64, other: u64) -> u64
-    ensures { λ r. ⌜ r ≡ pick (same (now (p .entry)) (now (word .entry))) kind other ⌝ }
-{
-    if same_bytes(p, word) {
-        return kind;
-    }
-    other
-}
-
-// Which call a word is, 0 where it is no call's.
+// Which call a word is, 0 where it is no call's: by the table of the calls' words.
 fn kind_of(p: &[u8]) -> u64
     ensures { λ r. ⌜ r ≡ kindOf (now (p .entry)) ⌝ }
 {
-    let k = kind_if(p, b"bond", CallKind::BOND, 0);
-    let k = kind_if(p, b"interest", CallKind::INTEREST, k);
-    let k = kind_if(p, b"withdraw", CallKind::WITHDRAW, k);
-    let k = kind_if(p, b"notice", CallKind::NOTICE, k);
-    let k = kind_if(p, b"outside", CallKind::OUTSIDE, k);
-    let k = kind_if(p, b"open", CallKind::OPEN, k);
-    let k = kind_if(p, b"read", CallKind::READ, k);
-    let k = kind_if(p, b"move", CallKind::MOVE, k);
-    let k = kind_if(p, b"quote", CallKind::QUOTE, k);
-    let k = kind_if(p, b"evaluate", CallKind::EVALUATE, k);
-    kind_if(p, b"admit", CallKind::ADMIT, k)
+    let mut call: usize = 0;
+    while call < CALLS {
+        let from = WORD_ROOM * call;
+        let to = from + LENGTHS[call];
+        if same_bytes(p, &WORDS[from..to]) {
+            return call as u64 + CallKind::ADMIT;
+        }
+        call += 1;
+    }
+    0
 }
 
 // Whether a call of the kind has so many numbers: by its row of the table of calls.

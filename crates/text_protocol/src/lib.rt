@@ -321,6 +321,24 @@ pub const MORE: [bool; CALLS] = [
     true, // bond
 ];
 
+// Their words, each in so much room with spaces behind it, and how long each is.
+pub const WORD_ROOM: usize = 8;
+
+pub const WORDS: [u8; WORD_ROOM * CALLS] = *b"\
+    admit   \
+    evaluate\
+    quote   \
+    move    \
+    read    \
+    open    \
+    outside \
+    notice  \
+    withdraw\
+    interest\
+    bond    ";
+
+pub const LENGTHS: [usize; CALLS] = [5, 8, 5, 4, 4, 4, 7, 6, 8, 8, 4];
+
 // What a word behind the call's is: one number, a pair of terms Ym/Yn, or neither.
 pub enum Item {
     One(i64),
