@@ -32,7 +32,7 @@ array-read-to c = search needs
 
 add-to : tie.Need-add-to Inv-loop μ-loop
 unfolding forms every
-add-to c = end-fits _ _ refl (c .loop-test .taken) (omega arith)
+add-to c = end-fits _ _ refl (omega arith) (omega arith)
 
 sub-same-bytes : tie.Need-sub-same-bytes Inv-loop μ-loop
 sub-same-bytes c = search needs
@@ -42,7 +42,7 @@ part-same-bytes-start c = search needs
 
 part-same-bytes-end : tie.Need-part-same-bytes-end Inv-loop μ-loop
 unfolding forms every
-part-same-bytes-end c = ends-within _ _ refl (c .before .loop-test .taken)
+part-same-bytes-end c = ends-within _ _ refl (omega arith)
 
 same-bytes-requires : tie.Need-same-bytes-requires Inv-loop μ-loop
 same-bytes-requires c κs = search needs
@@ -53,9 +53,8 @@ add-result c = search needs
 returns : tie.Need-returns Inv-loop μ-loop
 unfolding forms
 returns c =
-    let looping = c .before .before .before .before in
-    seeking-found _ _ (looping .before .loop .inv) (looping .loop-test .taken) _ _ (c .before .same-bytes .ensures)
-    refl (c .if1 .taken)
+    let looping = c .before .before .before .before .before in
+    seeking-found _ _ (looping .loop .inv) (omega arith) _ _ (c .before .same-bytes .ensures) refl (c .if1 .taken)
 
 add-call : tie.Need-add-call Inv-loop μ-loop
 add-call c = search needs
@@ -67,9 +66,8 @@ loop-less c = omega arith
 loop-again : tie.Need-loop-again Inv-loop μ-loop
 unfolding forms
 loop-again c =
-    let looping = c .before .before .before .before in
-    seeking-more _ _ (looping .before .loop .inv) (looping .loop-test .taken) _ _ (c .before .same-bytes .ensures)
-    refl (c .if1 .left)
+    let looping = c .before .before .before .before .before in
+    seeking-more _ _ (looping .loop .inv) (omega arith) _ _ (c .before .same-bytes .ensures) refl (c .if1 .left)
 
 returns-2 : tie.Need-returns-2 Inv-loop μ-loop
 unfolding forms
