@@ -6,17 +6,40 @@ use std::io::{self, Write};
 use std::path::Path;
 use std::process::ExitCode;
 
-use reference::{
-    broadcast, compare, count, count_bond, count_crossed, count_exchange, count_interest,
-    count_inward, count_listen, count_outside, count_replacement, count_session, count_tentative,
-    count_why, exchange, gateway, listen, protocol, script, why,
-};
+use reference::count_bond::count_bond;
+use reference::count_crossed::count_crossed;
+use reference::count_exchange::count_exchange;
+use reference::count_interest::count_interest;
+use reference::count_inward::count_inward;
+use reference::count_listen::count_listen;
+use reference::count_outside::count_outside;
+use reference::count_replacement::count_replacement;
+use reference::count_session::count_session;
+use reference::count_tentative::count_tentative;
+use reference::count_why::count_why;
+use reference::{broadcast, compare, count, exchange, gateway, listen, protocol, script, why};
 
-const USAGE: &str = "usage: reference evening | why | gateway | exchange ID | exchange-index | \
-broadcast | listen | listen-index | script-evening SEED LINES | script-gateway SEED LINES | \
-script-exchange SEED TEXTS FOLDER | script-listen SEED STREAMS FOLDER | \
-count [gateway | interest | replacement | exchange | crossed | bond | why | tentative | inward | \
-session | outside | listen] | compare FILE_A FILE_B SCRIPT";
+const USAGE: &str = "usage: reference evening | why | gateway | \
+exchange ID | \
+exchange-index | \
+broadcast | listen | listen-index | \
+script-evening SEED LINES | \
+script-gateway SEED LINES | \
+script-exchange SEED TEXTS FOLDER | \
+script-listen SEED STREAMS FOLDER | \
+count [gateway | \
+interest | \
+replacement | \
+exchange | \
+crossed | \
+bond | \
+why | \
+tentative | \
+inward | \
+session | \
+outside | \
+listen] | \
+compare FILE_A FILE_B SCRIPT";
 /// The exit code of a comparison that fails or a count with a gap.
 const DIFFERENT: u8 = 1;
 /// The exit code of a command that cannot be run.
@@ -68,17 +91,17 @@ fn run(words: &[&str]) -> io::Result<ExitCode> {
         }
         ["count"] => return told(&count::count(input, count::Answers::Evening)?),
         ["count", "gateway"] => return told(&count::count(input, count::Answers::Gateway)?),
-        ["count", "interest"] => return told(&count_interest::count_interest(input)?),
-        ["count", "replacement"] => return told(&count_replacement::count_replacement(input)?),
-        ["count", "crossed"] => return told(&count_crossed::count_crossed(input)?),
-        ["count", "bond"] => return told(&count_bond::count_bond(input)?),
-        ["count", "tentative"] => return told(&count_tentative::count_tentative(input)?),
-        ["count", "inward"] => return told(&count_inward::count_inward(input)?),
-        ["count", "session"] => return told(&count_session::count_session(input)?),
-        ["count", "outside"] => return told(&count_outside::count_outside(input)?),
-        ["count", "why"] => return told(&count_why::count_why(input)?),
-        ["count", "exchange"] => return told(&count_exchange::count_exchange(input)?),
-        ["count", "listen"] => return told(&count_listen::count_listen(input)?),
+        ["count", "interest"] => return told(&count_interest(input)?),
+        ["count", "replacement"] => return told(&count_replacement(input)?),
+        ["count", "crossed"] => return told(&count_crossed(input)?),
+        ["count", "bond"] => return told(&count_bond(input)?),
+        ["count", "tentative"] => return told(&count_tentative(input)?),
+        ["count", "inward"] => return told(&count_inward(input)?),
+        ["count", "session"] => return told(&count_session(input)?),
+        ["count", "outside"] => return told(&count_outside(input)?),
+        ["count", "why"] => return told(&count_why(input)?),
+        ["count", "exchange"] => return told(&count_exchange(input)?),
+        ["count", "listen"] => return told(&count_listen(input)?),
         ["compare", first, second, script] => return compared(first, second, script),
         _ => return Err(unusable(USAGE)),
     }

@@ -151,7 +151,7 @@ pub fn perform(
 }
 
 /// Words that are all numbers.
-fn numbers(words: &[Word]) -> Option<Vec<i64>> {
+pub fn numbers(words: &[Word]) -> Option<Vec<i64>> {
     words.iter().map(|word| word.number()).collect()
 }
 

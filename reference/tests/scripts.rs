@@ -20,7 +20,7 @@ use reference::script;
 /// A count of the edges that a script meets.
 type CountOf = fn(&[u8]) -> io::Result<Count>;
 
-const COUNTS: [(&str, CountOf); 9] = [
+const COUNTS: &[(&str, CountOf)] = &[
     ("interest", |script| count_interest(script)),
     ("replacement", |script| count_replacement(script)),
     ("crossed", |script| count_crossed(script)),

@@ -58,7 +58,7 @@ const ALSO_REFUSED: [Refusal; 8] = [
     Refusal::BandCrossed,
 ];
 /// After how many of a hundred lines each spell comes.
-const SPELLS: [(usize, Spell); 9] = [
+const SPELLS: &[(usize, Spell)] = &[
     (6, Spell::Outside),
     (8, Spell::Falls),
     (11, Spell::Replaced),
