@@ -209,7 +209,7 @@ def whole_in(program, first):
 
 # ---- what is sent
 
-LINES = b"admit 7 3 400 600 8 9 1 1 123 4 5 6 1 2 3 4 1 2 3 4 56 7 8 9 5 6 0 1 2 1 3 0\nhello\nread 7\n"
+LINES = b"admit 7 3 400 600 8 9 1 1 123 4 5 6 1 2 3 4 1 2 3 4 56 7 8 9 5 6 0 1 2 1 3 0\n #read 7\nhello\n#\nread 7\n"
 MOVE = struct.pack("<IH3i6q", 62, 4, 7, 0, 1, 1133000, 1174200, 1205100, 1091800, 1091801, 1091802)
 UNKNOWN = struct.pack("<IH3s", 5, 9, b"abc")
 ROW = b"7;0;1;0;103;;;5\n"
@@ -254,8 +254,9 @@ def long_inputs(name):
         return [(text, [len(text) - 1]) for text in texts]
     inputs = []
     for length in LONGEST, LONGEST + 1, LONGEST + 2, 2 * LONGEST + 1, 3 * LONGEST:
-        line = LINES + b"read 7".ljust(length)
-        inputs += [(line + behind, [len(line), len(line) + 1]) for behind in (b"", b"\n", b"\nhello\n\nread 7")]
+        for start in b"read 7", b"#":
+            line = LINES + start.ljust(length)
+            inputs += [(line + behind, [len(line), len(line) + 1]) for behind in (b"", b"\n", b"\nhello\n\nread 7")]
     return inputs
 
 

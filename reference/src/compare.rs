@@ -2,7 +2,7 @@
 
 use std::fmt;
 
-use crate::words::{words, EVENING_LINE_MAX};
+use crate::words::Manner;
 
 /// The first place where two files of answers part.
 #[derive(Debug, PartialEq, Eq)]
@@ -14,13 +14,13 @@ pub struct Difference {
     pub second: Option<String>,
 }
 
-/// The calls of a script with their line numbers: blank lines have no answer,
-/// unless they are too long.
-fn calls(script: &[u8]) -> impl Iterator<Item = (usize, &[u8])> {
+/// The calls of a script with their line numbers: blank lines and headings have
+/// no answer, unless they are too long.
+fn calls<'s>(script: &'s [u8], manner: &'s Manner) -> impl Iterator<Item = (usize, &'s [u8])> {
     lines(script)
         .enumerate()
         .map(|(index, line)| (index + 1, line))
-        .filter(|(_, line)| line.len() > EVENING_LINE_MAX || words(line).next().is_some())
+        .filter(|(_, line)| manner.is_answered(line))
 }
 
 /// Lines without their ends; the last may lack its end.
@@ -31,9 +31,9 @@ fn lines(text: &[u8]) -> impl Iterator<Item = &[u8]> {
 
 /// The first difference between two files of answers, if any. Files that are
 /// equal but do not answer each call of the script once differ from it.
-pub fn compare(first: &[u8], second: &[u8], script: &[u8]) -> Option<Difference> {
+pub fn compare(first: &[u8], second: &[u8], script: &[u8], manner: &Manner) -> Option<Difference> {
     let (mut first, mut second) = (lines(first), lines(second));
-    let mut calls = calls(script);
+    let mut calls = calls(script, manner);
     loop {
         let (a, b, call) = (first.next(), second.next(), calls.next());
         if a == b && a.is_some() == call.is_some() {
@@ -67,8 +67,13 @@ impl fmt::Display for Difference {
 #[cfg(test)]
 mod tests {
     use super::*;
+    use crate::words::{EVENING, GATEWAY};
 
     const SCRIPT: &[u8] = b"read 1\n\n \t\r\nread 2\nx";
+
+    fn compare(first: &[u8], second: &[u8], script: &[u8]) -> Option<Difference> {
+        super::compare(first, second, script, &EVENING)
+    }
 
     #[test]
     fn equal_answers_have_no_difference() {
@@ -95,5 +100,15 @@ mod tests {
     fn equal_files_must_answer_the_whole_script() {
         assert!(compare(b"", b"", SCRIPT).is_some());
         assert!(compare(b"1\n1\n1\n1\n", b"1\n1\n1\n1\n", SCRIPT).is_some());
+    }
+
+    #[test]
+    fn a_heading_is_answered_by_the_gateway_alone() {
+        let script = b" # read 1\nread 2";
+        assert_eq!(compare(b"1\n", b"1\n", script), None);
+        assert!(super::compare(b"1\n", b"1\n", script, &GATEWAY).is_some());
+        let answers = b"bad 1\nbad 2\n";
+        assert!(compare(answers, answers, script).is_some());
+        assert_eq!(super::compare(answers, answers, script, &GATEWAY), None);
     }
 }

@@ -10,7 +10,7 @@ use crate::refusal::Refusal;
 use crate::slices::split_last;
 use crate::statics::{Statics, STATICS};
 use crate::units::{DAYS_AHEAD, DAYS_CLOSED, MOVE_COUNT, RATE, REPO_RATE};
-use crate::words::{number, serve, GATEWAY_LINE_MAX};
+use crate::words::{number, serve, GATEWAY};
 
 /// A static out of range, judged before every other value.
 fn statics(numbers: &[i64; STATICS]) -> Result<Statics, Refusal> {
@@ -100,5 +100,5 @@ pub fn perform(verb: &[u8], numbers: &[i64]) -> Option<i64> {
 
 /// Answers every line of the input.
 pub fn gateway(input: impl BufRead, output: impl Write) -> io::Result<()> {
-    serve(input, output, GATEWAY_LINE_MAX, number, perform)
+    serve(input, output, &GATEWAY, number, perform)
 }

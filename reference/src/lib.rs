@@ -13,6 +13,7 @@ pub mod count;
 pub mod count_bond;
 pub mod count_crossed;
 pub mod count_exchange;
+pub mod count_headings;
 pub mod count_interest;
 pub mod count_inward;
 pub mod count_listen;

@@ -9,6 +9,7 @@ use std::process::ExitCode;
 use reference::count_bond::count_bond;
 use reference::count_crossed::count_crossed;
 use reference::count_exchange::count_exchange;
+use reference::count_headings::count_headings;
 use reference::count_interest::count_interest;
 use reference::count_inward::count_inward;
 use reference::count_listen::count_listen;
@@ -17,6 +18,7 @@ use reference::count_replacement::count_replacement;
 use reference::count_session::count_session;
 use reference::count_tentative::count_tentative;
 use reference::count_why::count_why;
+use reference::words::{Manner, EVENING, GATEWAY};
 use reference::{broadcast, compare, count, exchange, gateway, listen, protocol, script, why};
 
 const USAGE: &str = "usage: reference evening | why | gateway | \
@@ -38,8 +40,9 @@ tentative | \
 inward | \
 session | \
 outside | \
-listen] | \
-compare FILE_A FILE_B SCRIPT";
+listen | \
+headings] | \
+compare FILE_A FILE_B SCRIPT [gateway]";
 /// The exit code of a comparison that fails or a count with a gap.
 const DIFFERENT: u8 = 1;
 /// The exit code of a command that cannot be run.
@@ -102,7 +105,13 @@ fn run(words: &[&str]) -> io::Result<ExitCode> {
         ["count", "why"] => return told(&count_why(input)?),
         ["count", "exchange"] => return told(&count_exchange(input)?),
         ["count", "listen"] => return told(&count_listen(input)?),
-        ["compare", first, second, script] => return compared(first, second, script),
+        ["count", "headings"] => return told(&count_headings(input)?),
+        ["compare", first, second, script] => {
+            return compared(first, second, script, &EVENING);
+        }
+        ["compare", first, second, script, "gateway"] => {
+            return compared(first, second, script, &GATEWAY);
+        }
         _ => return Err(unusable(USAGE)),
     }
     Ok(ExitCode::SUCCESS)
@@ -126,10 +135,10 @@ fn told(count: &count::Count) -> io::Result<ExitCode> {
     Ok(ExitCode::from(DIFFERENT))
 }
 
-fn compared(first: &str, second: &str, script: &str) -> io::Result<ExitCode> {
+fn compared(first: &str, second: &str, script: &str, manner: &Manner) -> io::Result<ExitCode> {
     let read =
         |path: &str| std::fs::read(path).map_err(|error| unusable(&format!("{path}: {error}")));
-    let difference = compare::compare(&read(first)?, &read(second)?, &read(script)?);
+    let difference = compare::compare(&read(first)?, &read(second)?, &read(script)?, manner);
     Ok(match difference {
         None => ExitCode::SUCCESS,
         Some(difference) => {

@@ -11,7 +11,7 @@ use crate::record::{self, Record};
 use crate::refusal::Refusal;
 use crate::security::{Admission, Alerts, Day, Quote, RepoTerm};
 use crate::slices::split_first;
-use crate::words::{number_or_pair, serve, Word, EVENING_LINE_MAX};
+use crate::words::{number_or_pair, serve, Word, EVENING};
 
 /// The number of a call that is done.
 const DONE: i64 = 0;
@@ -264,11 +264,7 @@ fn term<'w>(kept: &Kept, words: &'w [Word]) -> Option<(RepoTerm, &'w [Word])> {
 pub fn evening(input: impl BufRead, output: impl Write) -> io::Result<()> {
     let mut table = desk::fresh_table(desk::SLOTS_MAX);
     let mut kept = Kept::default();
-    serve(
-        input,
-        output,
-        EVENING_LINE_MAX,
-        number_or_pair,
-        |verb, words| perform(&mut table, &mut kept, verb, words),
-    )
+    serve(input, output, &EVENING, number_or_pair, |verb, words| {
+        perform(&mut table, &mut kept, verb, words)
+    })
 }

@@ -8,7 +8,7 @@ use crate::kept::Kept;
 use crate::protocol::{admission, perform, Answer, Asked};
 use crate::record::{Record, Side};
 use crate::security::Admission;
-use crate::words::{hear, number_or_pair, Word, EVENING_LINE_MAX};
+use crate::words::{hear, number_or_pair, Word, EVENING};
 
 /// A call of a script.
 pub struct Call<'a> {
@@ -71,13 +71,7 @@ pub fn calls(input: impl BufRead, mut see: impl FnMut(&Call)) -> io::Result<()> 
             });
             Some(answer)
         };
-        hear(
-            &line?,
-            EVENING_LINE_MAX,
-            &mut heard,
-            number_or_pair,
-            perform,
-        );
+        hear(&line?, &EVENING, &mut heard, number_or_pair, perform);
     }
     Ok(())
 }

@@ -17,7 +17,7 @@ use crate::record::{Record, Term};
 use crate::refusal::Refusal;
 use crate::security::{day_move, evaluated, made, Day};
 use crate::statics::Statics;
-use crate::words::{number_or_pair, serve, Word, EVENING_LINE_MAX};
+use crate::words::{number_or_pair, serve, Word, EVENING};
 
 /// Non-trading days above which a move has no weight.
 const HOLIDAYS_MAX: i64 = 1;
@@ -322,11 +322,7 @@ fn say(table: &mut [Record], kept: &mut Kept, verb: &[u8], words: &[Word]) -> Op
 pub fn evening(input: impl BufRead, output: impl Write) -> io::Result<()> {
     let mut table = fresh_table(SLOTS_MAX);
     let mut kept = Kept::default();
-    serve(
-        input,
-        output,
-        EVENING_LINE_MAX,
-        number_or_pair,
-        |verb, words| say(&mut table, &mut kept, verb, words),
-    )
+    serve(input, output, &EVENING, number_or_pair, |verb, words| {
+        say(&mut table, &mut kept, verb, words)
+    })
 }

@@ -9,8 +9,44 @@ use crate::interest::Pair;
 /// one is no call.
 pub const EVENING_LINE_MAX: usize = 65_535;
 
-/// A gateway's line may have any number of bytes.
-pub const GATEWAY_LINE_MAX: usize = usize::MAX;
+/// How the lines of a text are heard.
+#[derive(Clone, Copy, Debug)]
+pub struct Manner {
+    /// The most bytes of a line, its line feed aside: a longer one is no call.
+    bytes_max: usize,
+    /// The byte that begins the first word of a heading, which says nothing.
+    heading: Option<u8>,
+}
+
+pub const EVENING: Manner = Manner {
+    bytes_max: EVENING_LINE_MAX,
+    heading: Some(b'#'),
+};
+
+/// A gateway's line may have any number of bytes, and there are no headings.
+pub const GATEWAY: Manner = Manner {
+    bytes_max: usize::MAX,
+    heading: None,
+};
+
+impl Manner {
+    fn is_too_long(&self, line: &[u8]) -> bool {
+        line.strip_suffix(b"\n").unwrap_or(line).len() > self.bytes_max
+    }
+
+    /// The first word of a line that says something, and the words behind it.
+    fn first_word<'l>(&self, line: &'l [u8]) -> Option<(&'l [u8], impl Iterator<Item = &'l [u8]>)> {
+        let mut words = words(line);
+        let first = words.next()?;
+        let is_heading = self.heading.is_some() && self.heading.as_ref() == first.first();
+        (!is_heading).then_some((first, words))
+    }
+
+    /// Whether a line has an answer: it is too long, or it says something.
+    pub fn is_answered(&self, line: &[u8]) -> bool {
+        self.is_too_long(line) || self.first_word(line).is_some()
+    }
+}
 
 /// Whether a byte parts words; a carriage return does too.
 fn is_blank(byte: u8) -> bool {
@@ -101,40 +137,39 @@ fn read_words<'a, W>(
 /// What a line says.
 #[derive(Debug, PartialEq, Eq)]
 pub enum Heard<A> {
-    /// Nothing but blanks: no answer.
-    Blank,
+    /// Nothing but blanks, or a heading: no answer.
+    Nothing,
     /// No call at all.
     Bad,
     Answer(A),
 }
 
-/// Hears one line of at most so many bytes: its first word and the others as
-/// `read` takes them go to `answer`, which gives none where they are no call.
+/// Hears one line: its first word and the others as `read` takes them go to
+/// `answer`, which gives none where they are no call.
 pub fn hear<W, A>(
     line: &[u8],
-    bytes_max: usize,
+    manner: &Manner,
     heard: &mut Vec<W>,
     read: impl Fn(&[u8]) -> Option<W>,
     answer: impl FnOnce(&[u8], &[W]) -> Option<A>,
 ) -> Heard<A> {
-    if line.strip_suffix(b"\n").unwrap_or(line).len() > bytes_max {
+    if manner.is_too_long(line) {
         return Heard::Bad;
     }
-    let mut words = words(line);
-    let verb = match words.next() {
-        Some(verb) => verb,
-        None => return Heard::Blank,
+    let (verb, words) = match manner.first_word(line) {
+        Some(said) => said,
+        None => return Heard::Nothing,
     };
     let said = read_words(words, heard, read).and_then(|words| answer(verb, words));
     said.map_or(Heard::Bad, Heard::Answer)
 }
 
 /// Answers every line of the input: one line a call, `bad LINE` for what is
-/// no call, nothing for a blank line. Lines are counted from 1.
+/// no call, nothing for a blank line or a heading. Lines are counted from 1.
 pub fn serve<W, A: Display>(
     mut input: impl BufRead,
     mut output: impl Write,
-    bytes_max: usize,
+    manner: &Manner,
     read: impl Fn(&[u8]) -> Option<W>,
     mut answer: impl FnMut(&[u8], &[W]) -> Option<A>,
 ) -> io::Result<()> {
@@ -143,8 +178,8 @@ pub fn serve<W, A: Display>(
     let mut count = 0_u64;
     while input.read_until(b'\n', &mut line)? > 0 {
         count += 1;
-        match hear(&line, bytes_max, &mut heard, &read, &mut answer) {
-            Heard::Blank => {}
+        match hear(&line, manner, &mut heard, &read, &mut answer) {
+            Heard::Nothing => {}
             Heard::Bad => writeln!(output, "bad {count}")?,
             Heard::Answer(said) => writeln!(output, "{said}")?,
         }
@@ -171,14 +206,31 @@ mod tests {
     fn a_line_past_its_most_bytes_is_no_call() {
         let said = |bytes: usize, end: &[u8]| {
             let line = [vec![b' '; bytes].as_slice(), end].concat();
-            hear(&line, EVENING_LINE_MAX, &mut Vec::new(), number, |_, _| {
-                Some(())
-            })
+            hear(&line, &EVENING, &mut Vec::new(), number, |_, _| Some(()))
         };
-        assert_eq!(said(EVENING_LINE_MAX, b"\n"), Heard::Blank);
+        assert_eq!(said(EVENING_LINE_MAX, b"\n"), Heard::Nothing);
+        assert_eq!(said(EVENING_LINE_MAX - 1, b"#\n"), Heard::Nothing);
+        assert_eq!(said(EVENING_LINE_MAX, b"#\n"), Heard::Bad);
         assert_eq!(said(EVENING_LINE_MAX + 1, b""), Heard::Bad);
         assert_eq!(said(EVENING_LINE_MAX - 1, b"x\n"), Heard::Answer(()));
         assert_eq!(said(EVENING_LINE_MAX, b"x\n"), Heard::Bad);
+    }
+
+    #[test]
+    fn a_heading_says_nothing_in_an_evening() {
+        let said = |line: &[u8], manner: &Manner| {
+            hear(line, manner, &mut Vec::new(), number, |_, _| Some(()))
+        };
+        for line in [&b"#"[..], b" \t\r# x", b"#read 7", b"##", b"#\0\xff\n"] {
+            assert_eq!(said(line, &EVENING), Heard::Nothing);
+            assert!(!EVENING.is_answered(line));
+            assert_ne!(said(line, &GATEWAY), Heard::Nothing);
+            assert!(GATEWAY.is_answered(line));
+        }
+        for line in [&b"read 7 #"[..], b"read #7", b"read 7#", b"\x0b#"] {
+            assert_ne!(said(line, &EVENING), Heard::Nothing);
+            assert!(EVENING.is_answered(line));
+        }
     }
 
     #[test]

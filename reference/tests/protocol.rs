@@ -60,6 +60,39 @@ fn blank_lines_are_counted_and_not_answered() {
 }
 
 #[test]
+fn a_line_whose_first_word_begins_with_a_sign_says_nothing() {
+    let script = "# 17 November\n  #\n\t#read 7\r\nread 7\n##\nreads 7\n#";
+    assert_eq!(said(script), ["1", "bad 6"]);
+    assert_eq!(
+        said(format!("#{ADMIT}\nread 7\n{ADMIT}\n# {ADMIT}")),
+        ["1", "0"]
+    );
+    assert!(said("#").is_empty());
+    // The sign elsewhere is no comment.
+    for line in [
+        "read 7 #",
+        "read 7 # x",
+        "read #7",
+        "read 7#",
+        "read# 7",
+        "-# 7",
+        "\u{feff}# 7",
+    ] {
+        assert_eq!(said(line), ["bad 1"], "{line}");
+    }
+}
+
+#[test]
+fn a_heading_that_is_too_long_is_no_call() {
+    let heading = |bytes: usize| "#".repeat(bytes);
+    assert_eq!(said(format!("{}\nread 7\n", heading(65_535))), ["1"]);
+    assert_eq!(
+        said(format!("{}\nread 7\n", heading(65_536))),
+        ["bad 1", "1"]
+    );
+}
+
+#[test]
 fn lines_that_are_no_call_are_bad() {
     for line in [
         "read",

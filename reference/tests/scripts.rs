@@ -6,6 +6,7 @@ use std::io;
 use reference::count::{count, Answers, Count};
 use reference::count_bond::count_bond;
 use reference::count_crossed::count_crossed;
+use reference::count_headings::count_headings;
 use reference::count_interest::count_interest;
 use reference::count_inward::count_inward;
 use reference::count_outside::count_outside;
@@ -30,6 +31,7 @@ const COUNTS: &[(&str, CountOf)] = &[
     ("inward", |script| count_inward(script)),
     ("session", |script| count_session(script)),
     ("outside", |script| count_outside(script)),
+    ("headings", |script| count_headings(script)),
 ];
 
 fn lines(text: &[u8]) -> usize {

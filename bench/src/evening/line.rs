@@ -9,6 +9,8 @@ use reference::words;
 const KEPT: usize = 126;
 /// A number of so many digits fits 64 bits with either sign.
 const SAFE_DIGITS: usize = 18;
+/// The byte that begins the first word of a heading.
+const HEADING: u8 = b'#';
 /// A pair that is not kept is out of range.
 const NOT_KEPT: RepoBand = RepoBand {
     rrcl: i64::MAX,
@@ -61,7 +63,8 @@ impl Call {
 
 /// What a line says; its numbers stand beside it.
 pub enum Line {
-    Blank,
+    /// Nothing but blanks, or a heading.
+    Nothing,
     Bad,
     Call(Call),
 }
@@ -118,11 +121,22 @@ pub fn read(text: &[u8], start: usize, numbers: &mut Numbers, kept: &Kept) -> (L
         end += 1;
     }
     if first == end {
-        return (Line::Blank, end);
+        return (Line::Nothing, end);
     }
     match Call::named(&text[first..end]) {
         Some(call) => read_numbers(text, end, call, numbers, kept),
-        None => bad(text, end),
+        None => no_call(text, first),
+    }
+}
+
+/// A line whose first word names no call: a heading says nothing.
+#[cold]
+#[inline(never)]
+fn no_call(text: &[u8], first: usize) -> (Line, usize) {
+    let (line, end) = bad(text, first);
+    match text[first] {
+        HEADING => (Line::Nothing, end),
+        _ => (line, end),
     }
 }
 

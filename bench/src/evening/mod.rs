@@ -97,7 +97,7 @@ impl<W: Write> Evening<W> {
             let is_too_long = end - start > EVENING_LINE_MAX;
             let is_answered = match line {
                 _ if is_too_long => false,
-                Line::Blank => true,
+                Line::Nothing => true,
                 Line::Bad => false,
                 Line::Call(call) => self.perform(call).is_some(),
             };

@@ -8,7 +8,7 @@ use reference::count::{count, Answers};
 use reference::protocol;
 use reference::random::Random;
 use reference::script::evening::script;
-use reference::words::{words, EVENING_LINE_MAX};
+use reference::words::{words, EVENING, EVENING_LINE_MAX};
 
 use super::{evening, PIECE};
 
@@ -38,7 +38,7 @@ fn by_rival(text: &[u8]) -> Vec<u8> {
 
 /// Where a program's answers to a text differ from the reference's, in words.
 fn difference(text: &[u8], expected: &[u8], answers: &[u8]) -> Option<String> {
-    match compare(expected, answers, text) {
+    match compare(expected, answers, text, &EVENING) {
         Some(difference) => Some(difference.to_string()),
         None => (expected != answers).then(|| "the bytes of equal answers differ".to_string()),
     }
@@ -60,8 +60,8 @@ fn drawn() -> Vec<(u64, usize)> {
 
 /// Counts the calls of a text that are accepted, by their word.
 fn count_accepted(text: &[u8], answers: &[u8], accepted: &mut BTreeMap<Vec<u8>, usize>) {
-    let is_call = |line: &&[u8]| line.len() > EVENING_LINE_MAX || words(line).next().is_some();
-    let calls = text.split(|byte| *byte == b'\n').filter(is_call);
+    let lines = text.split(|byte| *byte == b'\n');
+    let calls = lines.filter(|line| EVENING.is_answered(line));
     for (call, answer) in calls.zip(answers.split(|byte| *byte == b'\n')) {
         if answer == b"0" || answer.starts_with(b"0 ") {
             let word = words(call).next().expect("an accepted call has a word");
@@ -127,13 +127,53 @@ fn the_pieces_of_the_input_do_not_matter() {
 fn a_line_past_its_most_bytes_is_no_call() {
     let lengths = [0, 1, 2, PIECE - EVENING_LINE_MAX, PIECE, 3 * PIECE];
     for length in lengths.map(|past| EVENING_LINE_MAX - 1 + past) {
-        for (start, filling) in [("", b' '), ("read 7 ", b' '), ("read ", b'0'), ("x", b'x')] {
+        for (start, filling) in [
+            ("", b' '),
+            ("read 7 ", b' '),
+            ("read ", b'0'),
+            ("x", b'x'),
+            ("#", b' '),
+            (" #", b'#'),
+        ] {
             let mut line = start.as_bytes().to_vec();
             line.resize(length, filling);
             must_agree(&line);
             must_agree(&[&line[..], b"\n"].concat());
             must_agree(&[b"read 1\n", &line[..], b"\r\n\nread 2\n", &line[..]].concat());
         }
+    }
+}
+
+#[test]
+fn a_heading_says_nothing() {
+    let admit = admission(7, 600);
+    let headings = [
+        "#",
+        " \t\r#",
+        "# read 7",
+        "#read 7",
+        "##",
+        "#\u{0}\u{ff}",
+        "#\r",
+    ];
+    for heading in headings {
+        assert!(by_rival(heading.as_bytes()).is_empty(), "{heading}");
+        let text = format!(
+            "{heading}\n{admit}\n{heading}\nx\n{heading}\n\nread 7 #\n#{admit}\nread 7\n{heading}"
+        );
+        must_agree(text.as_bytes());
+    }
+    for line in [
+        "read 7 #",
+        "read #7",
+        "read 7#",
+        "read# 7",
+        "-#",
+        "\u{b}#",
+        "\u{feff}#",
+    ] {
+        assert_eq!(by_rival(line.as_bytes()), b"bad 1\n", "{line}");
+        must_agree(line.as_bytes());
     }
 }
 
@@ -203,7 +243,7 @@ fn a_full_table_has_each_id_in_its_own_place() {
 /// A wrong program: it hears one call as another, or has one answer wrong.
 type Wrong = fn(&[u8]) -> Vec<u8>;
 
-const WRONG: [(&str, Wrong); 11] = [
+const WRONG: [(&str, Wrong); 13] = [
     ("no security is admitted", |text| {
         misheard(text, "admit", "read")
     }),
@@ -224,6 +264,14 @@ const WRONG: [(&str, Wrong); 11] = [
     }),
     ("a withdrawal only reads", |text| {
         misheard(text, "withdraw", "read")
+    }),
+    ("a heading is no call", |text| {
+        misheard(text, "#", "hello #")
+    }),
+    ("a heading is not counted", |text| {
+        let is_heard = |line: &&[u8]| !line.starts_with(b"#");
+        let lines = text.split_inclusive(|byte| *byte == b'\n');
+        by_rival(&lines.filter(is_heard).collect::<Vec<_>>().concat())
     }),
     ("no band is kept", |text| {
         misheard(text, "interest", "interest 0")

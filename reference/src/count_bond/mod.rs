@@ -17,7 +17,7 @@ use crate::refusal::Refusal;
 use crate::slices::split_first;
 use crate::tally::{Edge, Tally};
 use crate::units::{AGE, BOND_MONEY, MILLIONTHS_IN_BP, PRICE, TARGET_MAX};
-use crate::words::{hear, number_or_pair, words, Word, EVENING_LINE_MAX};
+use crate::words::{hear, number_or_pair, words, Word, EVENING};
 
 /// A bond's line and what is answered.
 pub struct SeenBond {
@@ -661,7 +661,7 @@ pub fn count_bond(input: impl BufRead) -> io::Result<Count> {
         let mut numbers = None;
         hear(
             &line,
-            EVENING_LINE_MAX,
+            &EVENING,
             &mut heard,
             number_or_pair,
             |verb, words| {

@@ -16,7 +16,7 @@ use crate::protocol::perform;
 use crate::record::Record;
 use crate::slices::split_first;
 use crate::tally::{names, Tally};
-use crate::words::{hear, number_or_pair, words, Heard, Word, EVENING_LINE_MAX};
+use crate::words::{hear, number_or_pair, words, Heard, Word, EVENING};
 
 use days::SeenDay;
 use keys::SeenKey;
@@ -51,13 +51,9 @@ struct Reader {
 impl Reader {
     fn read(&mut self, line: &[u8], heard: &mut Vec<Word>) {
         let (table, kept) = (&mut self.table, &mut self.kept);
-        let said = hear(
-            line,
-            EVENING_LINE_MAX,
-            heard,
-            number_or_pair,
-            |verb, words| Some(perform(table, kept, verb, words)?.number()),
-        );
+        let said = hear(line, &EVENING, heard, number_or_pair, |verb, words| {
+            Some(perform(table, kept, verb, words)?.number())
+        });
         let verb = words(line).next().unwrap_or_default();
         match said {
             Heard::Answer(number) if verb == b"interest" => self.read_interest(heard, number),

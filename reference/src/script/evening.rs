@@ -14,11 +14,12 @@ use crate::random::Random;
 use crate::record::Record;
 use crate::refusal::Refusal;
 use crate::units::{Range, ID, MOVE_COUNT};
-use crate::words::{hear, number_or_pair, Word, EVENING_LINE_MAX};
+use crate::words::{hear, number_or_pair, Word, EVENING, EVENING_LINE_MAX};
 
 use super::edges::{edge, neighbours, unsettled_count, Ends};
 use super::{
-    crossed, day, edges, inward, outside, quote, replacement, share, spelling, tentative, why,
+    crossed, day, edges, headings, inward, outside, quote, replacement, share, spelling, tentative,
+    why,
 };
 
 /// Securities that the author works on at a time.
@@ -59,6 +60,7 @@ const ALSO_REFUSED: [Refusal; 8] = [
 ];
 /// After how many of a hundred lines each spell comes.
 const SPELLS: &[(usize, Spell)] = &[
+    (4, Spell::Headings),
     (6, Spell::Outside),
     (8, Spell::Falls),
     (11, Spell::Replaced),
@@ -92,6 +94,8 @@ enum Spell {
     Sessions,
     /// Many, each with outside prices of every kind.
     Outside,
+    /// No security, but every kind of heading.
+    Headings,
 }
 
 /// A script of so many lines. Scripts of odd seeds lack the last line's end.
@@ -146,7 +150,19 @@ impl Author {
         }
     }
 
+    /// A long script begins and ends with a heading.
     fn write(&mut self) {
+        if self.lines < SPELL_LINES {
+            return self.write_turns();
+        }
+        self.heading();
+        self.lines -= 1;
+        self.write_turns();
+        self.lines += 1;
+        self.heading();
+    }
+
+    fn write_turns(&mut self) {
         let mut spells = SPELLS.iter();
         let mut spell = spells.next();
         while !self.is_done() {
@@ -188,19 +204,13 @@ impl Author {
         self.written += 1;
         let (table, kept) = (&mut self.table, &mut self.kept);
         let (heard, reasons) = (&mut self.heard, &mut self.reasons);
-        hear(
-            line,
-            EVENING_LINE_MAX,
-            heard,
-            number_or_pair,
-            |verb, words| {
-                if verb == b"evaluate" {
-                    let asked = Asked::from_words(kept, words)?;
-                    reasons.look(&asked, desk::read(table, asked.id).ok());
-                }
-                perform(table, kept, verb, words)
-            },
-        );
+        hear(line, &EVENING, heard, number_or_pair, |verb, words| {
+            if verb == b"evaluate" {
+                let asked = Asked::from_words(kept, words)?;
+                reasons.look(&asked, desk::read(table, asked.id).ok());
+            }
+            perform(table, kept, verb, words)
+        });
         self.admitted = self.table.partition_point(|record| record.id != 0);
     }
 
@@ -222,7 +232,7 @@ impl Author {
 
     /// One thing of the desk, by its weight.
     fn desk_turn(&mut self) {
-        match self.random.below(1_050) {
+        match self.random.below(1_062) {
             0..=159 => self.day(),
             160..=234 => self.reasoned_day(),
             235..=294 => self.replaced_day(),
@@ -246,6 +256,10 @@ impl Author {
             980..=981 => self.long_line(),
             982..=984 => self.all_moves(),
             985..=999 => self.days(),
+            1_000..=1_011 => {
+                let theme = headings::Theme::any(&mut self.random);
+                self.headed(theme);
+            }
             _ => self.outside_turn(),
         }
     }
@@ -459,6 +473,9 @@ impl Author {
             Spell::Reasoned => (0..why::SHARES).for_each(|turn| self.reasoned_security(turn)),
             Spell::Sessions => self.every_plan(),
             Spell::Outside => self.outside_spell(),
+            Spell::Headings => headings::THEMES
+                .iter()
+                .for_each(|theme| self.headed(*theme)),
         }
     }
 
@@ -714,6 +731,20 @@ impl Author {
     fn blank(&mut self) {
         let line = spelling::blank(&mut self.random);
         self.say_line(&line);
+    }
+
+    fn heading(&mut self) {
+        let line = headings::any(&mut self.random);
+        self.say_line(&line);
+    }
+
+    /// Lines with a heading among them, or what looks like one.
+    fn headed(&mut self, theme: headings::Theme) {
+        let (verb, numbers) = self.any_call();
+        let call = spelling::spelled(&mut self.random, verb, &numbers);
+        for line in theme.lines(&mut self.random, &call) {
+            self.say_line(&line);
+        }
     }
 
     /// An evaluation with far too many figures, or a call or nothing with far too

@@ -7,6 +7,7 @@ mod edges;
 pub mod evening;
 pub mod exchange;
 pub mod gateway;
+mod headings;
 mod interest;
 mod inward;
 pub mod listen;
