@@ -7,15 +7,15 @@ use std::io::{self, BufRead};
 use crate::count::Count;
 use crate::evaluation::{crossed_rows, is_row_length, rows_out_of_range, settled, unfit_rows};
 use crate::evaluation::{Settled, ROW};
-use crate::ewma;
+use crate::ewma::Chosen;
 use crate::protocol::Asked;
-use crate::rates::{least_covering, Turn};
+use crate::rates::{least_covering, target, Turn};
 use crate::record::{Record, Term};
 use crate::refusal::Refusal;
 use crate::replay::evaluations;
 use crate::security::{evaluated, made};
 use crate::tally::Tally;
-use crate::units::{MILLIONTHS_IN_BP, VOLATILITY};
+use crate::units::{MILLIONTHS_IN_BP, TARGET_MAX, VOLATILITY};
 use crate::why::{turn_of, why, Fault, Level, Price, Why};
 
 /// An evaluation, and everything that holds of it.
@@ -100,12 +100,15 @@ impl SeenWhy {
 
     /// The weighed volatility x and the replacement y, where it is asked for.
     fn volatilities(&self) -> Option<(i64, i64)> {
-        let (before, turn) = (self.before.as_ref()?, self.turn.as_ref()?);
-        let model = before.statics.model();
-        let days_between = self.asked.days_between;
-        let last_rate = MILLIONTHS_IN_BP * before.rates[0];
-        let y = ewma::replacement(&model, turn.r, last_rate, days_between)?;
-        Some((ewma::weighed(&model, before.s, turn.r, days_between), y))
+        let turn = self.turn.as_ref()?;
+        Some((turn.x, turn.y?))
+    }
+
+    /// Holds of the move beside the last rate, in millionths, where at most one
+    /// holiday lies between, or more.
+    fn moves(&self, has_weight: bool, holds: impl Fn(i64, i64) -> bool) -> bool {
+        has_weight == (self.asked.days_between < 2)
+            && self.turns(|before, turn, _| holds(turn.r, MILLIONTHS_IN_BP * before.rates[0]))
     }
 
     /// Refused by the number, at that fault.
@@ -228,7 +231,7 @@ fn level_edges() -> Vec<NamedEdge> {
 
 type Plain = (&'static str, fn(&SeenWhy) -> bool);
 
-const OTHERS: [Plain; 55] = [
+const OTHERS: [Plain; 71] = [
     ("the grid moves the price that the close set", |w| {
         let price = w.settled.map(|settled| settled.price);
         w.prices == [Price::Close] && price != w.after.map(|after| after.p1)
@@ -271,6 +274,59 @@ const OTHERS: [Plain; 55] = [
     }),
     ("replacement one above x", |w| {
         w.volatilities().map_or(false, |(x, y)| y == x + 1)
+    }),
+    ("figures: no move", |w| {
+        w.turns(|before, turn, _| turn.r == 0 && before.s > 0)
+    }),
+    ("figures: a move of 100 per cent", |w| {
+        w.turns(|_, turn, _| turn.r == *VOLATILITY.end())
+    }),
+    ("figures: each is 0", |w| {
+        w.turns(|before, turn, _| [turn.r, before.s, turn.t] == [0; 3])
+    }),
+    ("figures: from a volatility of 0", |w| {
+        w.turns(|before, turn, _| before.s == 0 && turn.r > 0)
+    }),
+    ("figures: a volatility of 100 per cent", |w| {
+        w.turns(|_, _, after| after.s == *VOLATILITY.end())
+    }),
+    (
+        "figures: x between the volatility and a greater move",
+        |w| w.turns(|before, turn, _| before.s < turn.x && turn.x < turn.r),
+    ),
+    ("figures: x between the volatility and a lesser move", |w| {
+        w.turns(|before, turn, _| turn.r < turn.x && turn.x < before.s)
+    }),
+    ("figures: no replacement, r at the last rate", |w| {
+        w.moves(true, |r, rate| r == rate && r > 0)
+    }),
+    ("figures: a replacement, r one above the last rate", |w| {
+        w.moves(true, |r, rate| r == rate + 1)
+    }),
+    ("figures: no replacement, r above the last rate", |w| {
+        w.moves(false, |r, rate| r > rate)
+    }),
+    ("figures: the replacement loses", |w| {
+        w.volatilities().map_or(false, |(x, y)| y < x)
+    }),
+    ("figures: the replacement wins, one holiday", |w| {
+        w.asked.days_between == 1
+            && w.turns(|_, turn, _| matches!(turn.chosen, Chosen::Replacement(_)))
+    }),
+    ("figures: the replacement wins, t not that of s", |w| {
+        w.turns(|before, turn, after| {
+            let is_replaced = matches!(turn.chosen, Chosen::Replacement(_));
+            is_replaced && turn.t != target(&before.statics, after.s)
+        })
+    }),
+    ("figures: t of six digits", |w| {
+        w.turns(|_, turn, _| turn.t >= TARGET_MAX)
+    }),
+    ("figures: t above S_max", |w| {
+        w.turns(|before, turn, _| turn.t > before.statics.s_max)
+    }),
+    ("figures: the tentative rate is not t", |w| {
+        w.turns(|_, turn, after| turn.t != after.tentative)
     }),
     ("rose: t one step above", |w| {
         w.turns(|before, turn, _| turn.t == before.tentative + before.statics.step)

@@ -80,14 +80,19 @@ impl Chosen {
     }
 }
 
-/// The greater of the weighed volatility and the replacement; on a tie the
+/// The greater of the weighed volatility x and the replacement y; on a tie the
 /// weighed one is chosen.
-pub fn volatility(model: &Model, s: i64, change: i64, last_rate: i64, days_between: i64) -> Chosen {
-    let x = weighed(model, s, change, days_between);
-    match replacement(model, change, last_rate, days_between) {
+pub fn chosen(x: i64, y: Option<i64>) -> Chosen {
+    match y {
         Some(y) if y > x => Chosen::Replacement(y),
         _ => Chosen::Weighed(x),
     }
+}
+
+/// New s of a change.
+pub fn volatility(model: &Model, s: i64, change: i64, last_rate: i64, days_between: i64) -> Chosen {
+    let x = weighed(model, s, change, days_between);
+    chosen(x, replacement(model, change, last_rate, days_between))
 }
 
 /// t: the least multiple of h at or above q·s, where s has so many units to a

@@ -36,6 +36,10 @@ pub fn price_move(p: i64, p1: i64, p2: i64) -> i64 {
 pub struct Turn {
     /// The move, by (e).
     pub r: i64,
+    /// The weighed volatility.
+    pub x: i64,
+    /// The replacement, where its condition holds.
+    pub y: Option<i64>,
     pub chosen: Chosen,
     pub t: i64,
 }
@@ -48,12 +52,15 @@ pub fn turn(statics: &Statics, before: &Volatility, day: &DayMove) -> Result<Tur
     }
     let model = statics.model();
     let last_rate = MILLIONTHS_IN_BP * day.last_s_1;
-    let chosen = ewma::volatility(&model, before.s, r, last_rate, day.days_between);
+    let x = ewma::weighed(&model, before.s, r, day.days_between);
+    let y = ewma::replacement(&model, r, last_rate, day.days_between);
+    let chosen = ewma::chosen(x, y);
     let t = match chosen {
         Chosen::Weighed(s) => target(statics, s),
         Chosen::Replacement(_) => move_target(statics, r),
     };
-    Ok(Turn { r, chosen, t })
+    let turn = Turn { r, x, y, chosen, t };
+    Ok(turn)
 }
 
 /// Volatility, tentative rate and age after a day. With isEWMA no they stay.

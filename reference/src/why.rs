@@ -1,6 +1,7 @@
 //! Why an evaluation is answered as it is (W-207): the figure that set each
-//! figure of an accepted one, and where a refused one is at fault. Each reason
-//! is its condition, and the first that holds is named.
+//! figure of an accepted one, with the figures that decided, and where a refused
+//! one is at fault. Each reason is its condition, and the first that holds is
+//! named.
 
 use std::fmt;
 use std::io::{self, BufRead, Write};
@@ -56,6 +57,23 @@ pub enum Level {
     Maximum,
 }
 
+/// The figures that decided about the volatility and the tentative rate.
+#[derive(Clone, Copy, Debug, PartialEq, Eq)]
+pub struct Figures {
+    /// The move.
+    pub r: i64,
+    /// The volatility before.
+    pub s_before: i64,
+    /// The root of the weighed mean.
+    pub x: i64,
+    /// The replacement; 0 where its condition does not hold.
+    pub y: i64,
+    /// The volatility now.
+    pub s: i64,
+    /// The least step, before any wait.
+    pub t: i64,
+}
+
 /// The reasons of the volatility model.
 #[derive(Clone, Copy, Debug, PartialEq, Eq)]
 pub struct Model {
@@ -63,6 +81,7 @@ pub struct Model {
     /// Whether the replacement won.
     pub is_replaced: bool,
     pub tentative: Tentative,
+    pub figures: Figures,
 }
 
 /// Why an accepted evaluation has its figures.
@@ -186,13 +205,21 @@ fn reasons(before: &Record, day: &Day, after: &Record) -> Reasons {
 }
 
 fn model(before: &Record, day: &Day, p: i64) -> Model {
-    let Turn { r, chosen, t } = turn_of(before, day, p);
+    let Turn { r, x, y, chosen, t } = turn_of(before, day, p);
     Model {
         weight: first(&Weight::ALL, |reason| {
             reason.holds(day.days_between, r, before.s)
         }),
         is_replaced: matches!(chosen, Chosen::Replacement(_)),
         tentative: first(&Tentative::ALL, |reason| reason.holds(before, t)),
+        figures: Figures {
+            r,
+            s_before: before.s,
+            x,
+            y: y.unwrap_or(0),
+            s: chosen.s(),
+            t,
+        },
     }
 }
 
@@ -274,8 +301,27 @@ impl fmt::Display for Reasons {
             self.model.map_or(["none"; 3], |model| model.words());
         write!(f, "0 price {} weight {weight}", self.price.word())?;
         write!(f, " replacement {replacement} tentative {tentative}")?;
-        let mut levels = self.levels.iter().enumerate();
-        levels.try_for_each(|(level, reason)| write!(f, " level{} {}", level + 1, reason.word()))
+        for (level, reason) in self.levels.iter().enumerate() {
+            write!(f, " level{} {}", level + 1, reason.word())?;
+        }
+        match self.model {
+            Some(model) => model.figures.fmt(f),
+            None => Ok(()),
+        }
+    }
+}
+
+impl fmt::Display for Figures {
+    fn fmt(&self, f: &mut fmt::Formatter<'_>) -> fmt::Result {
+        let Figures {
+            r,
+            s_before,
+            x,
+            y,
+            s,
+            t,
+        } = self;
+        write!(f, " figures {r} {s_before} {x} {y} {s} {t}")
     }
 }
 

@@ -7,9 +7,10 @@ use common::{admission, day, security, traded, z_with, IS_EWMA, NO_REPO};
 use reference::protocol;
 use reference::record::Record;
 use reference::refusal::Refusal;
+use reference::replay::evaluations;
 use reference::script;
 use reference::security::{admitted, Admission, Day, RepoTerm};
-use reference::why::{evening, why, Fault, Level, Price, Tentative, Weight};
+use reference::why::{evening, why, Fault, Figures, Level, Price, Tentative, Weight};
 
 /// Places in Z.
 const MIN1: usize = 10;
@@ -96,6 +97,80 @@ fn the_replacement_wins_strictly() {
     };
     assert!(of(66_666));
     assert!(!of(66_667));
+}
+
+/// The figures of the paper's security, its volatility s and weight a_up, on a
+/// day with so many holidays behind it.
+fn figures(s: i64, a_up: i64, holidays: i64, price: i64) -> [i64; 6] {
+    let mut record = security(1_000_000, 600);
+    record.s = s;
+    record.statics.a_up = a_up;
+    let rows = traded(price);
+    let day = Day {
+        days_between: holidays,
+        ..day(1, &rows)
+    };
+    let Figures {
+        r,
+        s_before,
+        x,
+        y,
+        s,
+        t,
+    } = why(Some(&record), &day).unwrap().model.unwrap().figures;
+    [r, s_before, x, y, s, t]
+}
+
+#[test]
+fn the_figures_that_decided() {
+    // Case 1: a move of 3 per cent, and the root of 0.9·20,000² + 0.1·30,000².
+    let case_1 = [30_000, 20_000, 21_214, 0, 21_214, 700];
+    assert_eq!(figures(20_000, 1_000, 0, 1_030_000), case_1);
+    // Case 8: 20 per cent are above S_1, 5 per cent; the replacement wins, and t
+    // covers the move.
+    let case_8 = [200_000, 20_000, 66_031, 66_667, 66_667, 2_000];
+    assert_eq!(figures(20_000, 1_000, 0, 1_200_000), case_8);
+    // It stands and does not win: on a tie t is of the volatility.
+    let tie = [200_000, 66_667, 66_667, 66_667, 66_667, 2_100];
+    assert_eq!(figures(66_667, 0, 1, 1_200_000), tie);
+    let loses = [200_000, 90_000, 90_000, 66_667, 90_000, 2_700];
+    assert_eq!(figures(90_000, 0, 0, 1_200_000), loses);
+    // After two holidays the move has no weight, and there is no replacement.
+    let holidays = [200_000, 20_000, 20_000, 0, 20_000, 600];
+    assert_eq!(figures(20_000, 1_000, 2, 1_200_000), holidays);
+    // S_1 is 500: a move of 5 per cent is not above it.
+    let at_rate = [50_000, 20_000, 24_699, 0, 24_699, 800];
+    assert_eq!(figures(20_000, 1_000, 0, 1_050_000), at_rate);
+    assert_eq!(figures(0, 1_000, 0, 1_000_000), [0; 6]);
+}
+
+#[test]
+fn the_figures_are_those_of_the_record() {
+    let script = script::evening::script(2, 5_000);
+    let mut seen = 0;
+    evaluations(&script[..], |evaluation| {
+        let (before, after) = match (evaluation.before, evaluation.after) {
+            (Some(before), Some(after)) if evaluation.number == 0 => (before, after),
+            _ => return,
+        };
+        let reasons = why(Some(&before), &evaluation.asked.day()).unwrap();
+        assert_eq!(reasons.model.is_some(), before.statics.is_ewma);
+        if let Some(model) = reasons.model {
+            let figures = model.figures;
+            assert_eq!((figures.s_before, figures.s), (before.s, after.s));
+            assert_eq!(figures.s, figures.x.max(figures.y));
+            assert_eq!(model.is_replaced, figures.y > figures.x);
+            match model.tentative {
+                Tentative::Rose => assert_eq!(figures.t, after.tentative),
+                Tentative::Fell => assert!(figures.t <= after.tentative),
+                Tentative::Waited => assert!(figures.t < after.tentative),
+                Tentative::Level => assert_eq!(after.tentative, before.tentative),
+            }
+            seen += 1;
+        }
+    })
+    .unwrap();
+    assert!(seen > 500, "{seen}");
 }
 
 #[test]
@@ -268,7 +343,8 @@ open 7";
     let expected = [
         "0",
         "0 price close weight up replacement no tentative rose \
-level1 requirement level2 requirement level3 requirement",
+level1 requirement level2 requirement level3 requirement \
+figures 30000 20000 21214 0 21214 700",
         "5 none",
         "6 term 1",
         "1 none",

@@ -70,10 +70,11 @@ pub fn attempt(
     is_admitted: bool,
     edge: &NamedEdge,
 ) -> Option<Vec<i64>> {
-    let numbers = match random.below(6) {
+    let numbers = match random.below(7) {
         0 | 1 => meeting(random, record),
         2 | 3 => faulty(random, record),
         4 => crossing(random, record),
+        5 => moving(random, record),
         _ => day::numbers(random, record),
     };
     let words: Vec<Word> = numbers.iter().copied().map(Word::from).collect();
@@ -162,6 +163,17 @@ fn meeting(random: &mut Random, record: &Record) -> Vec<i64> {
             [0, rate, 0, *ROW_PRICE.end(), 0, 0, volume]
         });
     }
+    numbers
+}
+
+/// A day whose move is that of the last rate, a little more, or 100 per cent.
+fn moving(random: &mut Random, record: &Record) -> Vec<i64> {
+    let mut numbers = next_day(random, record);
+    let grid = record.statics.grid();
+    let by_rate = record.p1 / *RATE.end() * record.rates[0];
+    let moved = random.pick(&[by_rate, by_rate + grid, -by_rate, record.p1]);
+    let price = (record.p1 + moved).clamp(1, *ROW_PRICE.end());
+    numbers.extend(day::traded_row(price));
     numbers
 }
 
