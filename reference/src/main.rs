@@ -6,6 +6,7 @@ use std::io::{self, Write};
 use std::path::Path;
 use std::process::ExitCode;
 
+use reference::count_admission::count_admission;
 use reference::count_bond::count_bond;
 use reference::count_crossed::count_crossed;
 use reference::count_exchange::count_exchange;
@@ -36,6 +37,7 @@ exchange | \
 crossed | \
 bond | \
 why | \
+admission | \
 tentative | \
 inward | \
 session | \
@@ -103,6 +105,7 @@ fn run(words: &[&str]) -> io::Result<ExitCode> {
         ["count", "session"] => return told(&count_session(input)?),
         ["count", "outside"] => return told(&count_outside(input)?),
         ["count", "why"] => return told(&count_why(input)?),
+        ["count", "admission"] => return told(&count_admission(input)?),
         ["count", "exchange"] => return told(&count_exchange(input)?),
         ["count", "listen"] => return told(&count_listen(input)?),
         ["count", "headings"] => return told(&count_headings(input)?),

@@ -11,8 +11,9 @@ use crate::evaluation::{
     crossed_rows, is_row_length, rows_out_of_range, settled, unfit_rows, Settled,
 };
 use crate::ewma::Chosen;
+use crate::field;
 use crate::kept::Kept;
-use crate::protocol::{perform, Answer, Asked};
+use crate::protocol::{admission, numbers, perform, Answer, Asked};
 use crate::rates::{least_covering, turn, Turn};
 use crate::record::{Record, Term};
 use crate::refusal::Refusal;
@@ -335,9 +336,11 @@ impl fmt::Display for Fault {
     }
 }
 
-/// The answer to a line: why to an evaluation, and the evening's to another.
+/// The answer to a line: why to an evaluation, the place of the number at fault
+/// to an admission that is refused 4, and the evening's to another.
 enum Said {
     Why(Why),
+    Field(usize),
     Answer(Answer),
 }
 
@@ -346,12 +349,17 @@ impl fmt::Display for Said {
         match self {
             Said::Why(Ok(reasons)) => reasons.fmt(f),
             Said::Why(Err((refusal, fault))) => write!(f, "{} {fault}", refusal.number()),
+            Said::Field(place) => {
+                let refusal = Refusal::AdmissionOutOfRange;
+                write!(f, "{} field {place}", refusal.number())
+            }
             Said::Answer(answer) => answer.fmt(f),
         }
     }
 }
 
-/// Performs a call; an evaluation is answered by why.
+/// Performs a call; an evaluation is answered by why, and an admission that is
+/// refused 4 by the number at fault. The table is good, so some number is.
 fn say(table: &mut [Record], kept: &mut Kept, verb: &[u8], words: &[Word]) -> Option<Said> {
     let why = match verb {
         b"evaluate" => {
@@ -361,6 +369,10 @@ fn say(table: &mut [Record], kept: &mut Kept, verb: &[u8], words: &[Word]) -> Op
         _ => None,
     };
     let answer = perform(table, kept, verb, words)?;
+    if verb == b"admit" && answer.number() == Refusal::AdmissionOutOfRange.number() {
+        let given = admission(&numbers(words)?)?;
+        return field::at_fault(&given).map(Said::Field);
+    }
     Some(why.map_or(Said::Answer(answer), Said::Why))
 }
 

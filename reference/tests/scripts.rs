@@ -4,6 +4,7 @@
 use std::io;
 
 use reference::count::{count, Answers, Count};
+use reference::count_admission::count_admission;
 use reference::count_bond::count_bond;
 use reference::count_crossed::count_crossed;
 use reference::count_headings::count_headings;
@@ -27,6 +28,7 @@ const COUNTS: &[(&str, CountOf)] = &[
     ("crossed", |script| count_crossed(script)),
     ("bond", |script| count_bond(script)),
     ("why", |script| count_why(script)),
+    ("admission", |script| count_admission(script)),
     ("tentative", |script| count_tentative(script)),
     ("inward", |script| count_inward(script)),
     ("session", |script| count_session(script)),

@@ -66,6 +66,7 @@ const SPELLS: &[(usize, Spell)] = &[
     (11, Spell::Replaced),
     (13, Spell::Sessions),
     (14, Spell::Stays),
+    (15, Spell::Admissions),
     (17, Spell::Reasoned),
     (20, Spell::Widest),
     (22, Spell::Uncapped),
@@ -86,6 +87,8 @@ enum Spell {
     Replaced,
     /// Many, each made for the reasons of a level.
     Reasoned,
+    /// None, but an admission for each number at fault.
+    Admissions,
     /// Many, each with a band limit beside a multiple of the grid.
     Inward,
     /// Many, each with a tentative rate beside S_max, above it or at its top.
@@ -467,6 +470,7 @@ impl Author {
             Spell::Falls => self.quiet_spell(&share::quiet_admission(id, true)),
             Spell::Stays => self.quiet_spell(&share::quiet_admission(id, false)),
             Spell::Widest => self.widest_spell(id),
+            Spell::Admissions => self.refused_admissions(id),
             Spell::Replaced => (0..REPLACED).for_each(|turn| self.replaced_security(turn)),
             Spell::Uncapped => (0..tentative::SHARES).for_each(|turn| self.uncapped_security(turn)),
             Spell::Inward => (0..inward::SHARES).for_each(|turn| self.inward_security(turn)),
@@ -482,6 +486,13 @@ impl Author {
     fn quiet_spell(&mut self, admission: &[i64]) {
         self.say("admit", admission);
         self.quiet_days(admission[0], 1..=QUIET_DAYS);
+    }
+
+    /// Admissions that are refused for each number.
+    fn refused_admissions(&mut self, id: i64) {
+        for numbers in super::field::every(&mut self.random, id) {
+            self.say("admit", &numbers);
+        }
     }
 
     fn widest_spell(&mut self, id: i64) {

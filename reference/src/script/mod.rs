@@ -6,6 +6,7 @@ mod day;
 mod edges;
 pub mod evening;
 pub mod exchange;
+mod field;
 pub mod gateway;
 mod headings;
 mod interest;
