@@ -5,12 +5,21 @@ use mathlib.Core.List.{List, _∷_, map}
 use mathlib.Core.Option.{Option, none, some}
 use lib.ListN.{length, length-set}
 use Rattle.paper.specs.declared.Record.{Record}
+use Rattle.paper.specs.declared.Session.the-variants.{Main}
+use Rattle.paper.specs.Lists.{three}
+use Rattle.paper.specs.Ranges.{notNear, validNearSeconds, validNear, validSession}
 use Rattle.paper.specs.declared.Admission.{Admission}
 use Rattle.paper.specs.Verdicts.{numberOf, Check, NoneApplies}
 use Rattle.paper_desk.specs.Kept.{good}
 use Rattle.paper_desk.specs.Sides.{showsRecord}
 use Rattle.paper_desk.specs.Desk.{Ask, evaluating, quoting, moving, reading, opening, receiving, nearOn, evaluated}
-use Rattle.paper_desk.specs.Desk.{quoted, moved, eveningOpened, received, ruleOf, checksOn}
+use Rattle.paper_desk.specs.Desk.{quoted, moved, eveningOpened, received, ruleOf, checksOn, closing, eveningClosed}
+use Rattle.paper_desk.specs.Sequences.{carries, lastEvaluated, movesSince, nearQuotes, firstOfThem, lastSecond}
+use Rattle.paper_desk.specs.Sequences.{sessionNow, externalNow}
+use Rattle.paper_desk.proofs.PinnedLaws.{three-gives-each}
+use Rattle.demands.proofs.Sound.{watching-sound, sound-has-parts}
+use Rattle.demands.proofs.Good.{good-sound, watching-good}
+use Rattle.demands.proofs.Sequences.{watching-figures}
 use Rattle.demands.specs.Demands.{orderAsked, FiguresHold}
 use Rattle.demands.proofs.Good.{evaluated-good, quoted-good, moved-good, opened-good, received-good}
 use Rattle.demands.proofs.Sequences.{evaluated-figures, accepted-term-below-three, quoted-figures, move-live}
@@ -34,8 +43,22 @@ pub record AskHolds (x : Ask) : Type 0 where
   pub evaluation-shows : WhereAny (ruleOf x .evaluates) (showsRecord (ruleOf x .reply) ≡ true)
   pub move-shows : WhereAny (ruleOf x .moves) (showsRecord (ruleOf x .reply) ≡ true)
 
+closed-good : (r : Record) → good r ≡ true → good (eveningClosed r) ≡ true
+unfolding eveningClosed validNearSeconds validNear validSession
+closed-good r v =
+    let k = sound-has-parts r (good-sound r v) in
+    watching-good r _ _ _ _ v
+    (watching-sound r (three (λ k. notNear)) (r .second) Main (r .external) k refl (k .second) refl (k .external))
+
+closed-figures : (a : Admission) (es : List Ask) (r : Record) → FiguresHold a es r
+    → FiguresHold a (closing ∷ es) (eveningClosed r)
+unfolding eveningClosed carries lastEvaluated movesSince nearQuotes firstOfThem lastSecond sessionNow externalNow
+closed-figures a es r k =
+    watching-figures a es r k closing (record { carried = refl; last = refl; moves = refl }) (three (λ j. notNear))
+    (r .second) Main (r .external) (λ j l. three-gives-each (λ j. notNear) notNear j l) (k .second) refl (k .external)
+
 pub ask-holds : (x : Ask) → AskHolds x
-unfolding evaluated quoted moved eveningOpened received
+unfolding evaluated quoted moved eveningOpened eveningClosed received
 ask-holds (evaluating d rows) =
     record {
       order = λ there r. refl;
@@ -87,6 +110,15 @@ ask-holds (receiving x) =
       good = λ r v n. received-good r x v;
       figures = λ a es r k near n. received-figures a es r x k;
       three-near = λ r near. near;
+      evaluation-shows = tt;
+      move-shows = tt;
+    }
+ask-holds closing =
+    record {
+      order = λ there r. refl;
+      good = λ r v n. closed-good r v;
+      figures = λ a es r k near n. closed-figures a es r k;
+      three-near = λ r near. refl;
       evaluation-shows = tt;
       move-shows = tt;
     }

@@ -21,7 +21,8 @@ use Rattle.paper_desk.specs.Limits.{crossed}
 use Rattle.paper_desk.specs.Alerts.{alert}
 use Rattle.paper_desk.specs.Evening.{alertSeconds}
 use Rattle.paper.specs.Verdicts.{numberOf, isDone, Check, FirstAt, NoneApplies, Exactly}
-use Rattle.paper_desk.specs.Desk.{Ask, evaluating, quoting, moving, reading, opening, receiving, Call, admit, about}
+use Rattle.paper_desk.specs.Desk.{Ask, evaluating, quoting, moving, reading, opening, receiving, closing}
+use Rattle.paper_desk.specs.Desk.{Call, admit, about}
 use Rattle.paper_desk.specs.Desk.{quote, idOf, saying, showing, alerting, found, known, checksOf, step, run}
 use Rattle.paper_desk.specs.Kept.{everySlot}
 use Rattle.paper_desk.specs.Sides.{shows}
@@ -48,6 +49,7 @@ orderAsked (moving side) = 1 ∷ 6 ∷ 10 ∷ 11 ∷ 18 ∷ 12 ∷ []
 orderAsked reading = 1 ∷ []
 orderAsked opening = 1 ∷ 10 ∷ 19 ∷ []
 orderAsked (receiving x) = 1 ∷ 20 ∷ []
+orderAsked closing = 1 ∷ 10 ∷ 19 ∷ []
 
 abbrev pub orderOf : Call → List ℕ
 orderOf (admit a) = 4 ∷ 2 ∷ 3 ∷ []

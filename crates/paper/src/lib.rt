@@ -710,4 +710,5 @@ pub enum AskedAbout {
     Open,
     Receive(Outside),
     Notify(Notice),
+    Close,
 }

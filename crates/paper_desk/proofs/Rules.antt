@@ -10,7 +10,8 @@ use Rattle.paper.specs.declared.Day.{Day}
 use Rattle.paper.specs.declared.Verdict.the-variants.{Done}
 use Rattle.paper.specs.Lists.{every}
 use Rattle.paper.specs.Verdicts.{numberOf, isDone, Check, allRefusals}
-use Rattle.paper_desk.specs.Desk.{Ask, evaluating, quoting, moving, reading, opening, receiving, showing}
+use Rattle.paper_desk.specs.Desk.{Ask, evaluating, quoting, moving, reading, opening, receiving, closing}
+use Rattle.paper_desk.specs.Desk.{eveningClosed, showing}
 use Rattle.paper_desk.specs.Desk.{alerting, alertsOn, evaluated, quoted, moved, eveningOpened, received, Reply}
 use Rattle.paper_desk.specs.Desk.{theRecord, theAlerts, replyOn, ruleOf}
 use Rattle.paper_desk.specs.Sequences.{keptThen}
@@ -32,7 +33,7 @@ pub record RuleHolds (x : Ask) : Type 0 where
   pub evaluation : OnlyEvaluation x (ruleOf x .evaluates)
 
 pub rule-holds : (x : Ask) → RuleHolds x
-unfolding allRefusals every isDone evaluated quoted moved eveningOpened received
+unfolding allRefusals every isDone evaluated quoted moved eveningOpened eveningClosed received
 rule-holds (evaluating d rows) =
     record {
       refusals = λ r. refl;
@@ -79,6 +80,15 @@ rule-holds opening =
       evaluation = tt;
     }
 rule-holds (receiving x) =
+    record {
+      refusals = λ r. refl;
+      others = λ r. refl;
+      id = λ r. refl;
+      session = λ r. refl;
+      external = λ r. refl;
+      evaluation = tt;
+    }
+rule-holds closing =
     record {
       refusals = λ r. refl;
       others = λ r. refl;

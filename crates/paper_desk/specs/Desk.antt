@@ -234,6 +234,10 @@ moved r side =
 unfoldable pub eveningOpened : Record → Record
 eveningOpened r = watching r (three (λ k. notNear)) (r .second) (Evening 0) (r .external)
 
+-- the closing of the evening: the record is back in main, and its near seconds are cleared
+unfoldable pub eveningClosed : Record → Record
+eveningClosed r = watching r (three (λ k. notNear)) (r .second) Main (r .external)
+
 -- W-211: what is received changes the kept pair alone
 unfoldable pub received : Record → Receipt → Record
 received r x = watching r (r .near) (r .second) (r .session) (keptAfter (r .external) x)
@@ -266,6 +270,7 @@ pub data Ask : Type 0 where
   reading : Ask
   opening : Ask
   receiving : Receipt → Ask
+  closing : Ask
 
 -- the same, as the code is asked: the row figures are lent beside it
 unfoldable pub askOf : AskedAbout → (rows : List ℤ) → Ask
@@ -276,6 +281,7 @@ askOf asked.Read rows = reading
 askOf asked.Open rows = opening
 askOf (asked.Receive sent) rows = receiving (together sent)
 askOf (asked.Notify n) rows = receiving (notice n)
+askOf asked.Close rows = closing
 
 -- a call admits a security, or asks something about the one with an id
 pub data Call : Type 0 where
@@ -299,6 +305,9 @@ openEvening id = about id opening
 
 abbrev pub receive : (id : ℕ) → Receipt → Call
 receive id x = about id (receiving x)
+
+abbrev pub closeEvening : (id : ℕ) → Call
+closeEvening id = about id closing
 
 -- the id that a call is about
 abbrev pub idOf : Call → ℕ
@@ -362,6 +371,13 @@ abbrev pub openingChecks : Record → List Check
 openingChecks r =
     record { verdict = NotLive; applies = not (isLive (r .standing)) }
     ∷ record { verdict = OpenedTwice; applies = isEvening (r .session) }
+    ∷ []
+
+-- the closing: 1, 10, and 19 where no evening is open
+abbrev pub closingChecks : Record → List Check
+closingChecks r =
+    record { verdict = NotLive; applies = not (isLive (r .standing)) }
+    ∷ record { verdict = OpenedTwice; applies = not (isEvening (r .session)) }
     ∷ []
 
 -- W-211: "20 .. on receipt, after 1"
@@ -476,6 +492,18 @@ ruleOf (receiving x) =
       clears = λ side. false;
       session = λ x. x;
       receives = some x;
+    }
+ruleOf closing =
+    record {
+      checks = λ r. closingChecks r;
+      made = λ r. eveningClosed r;
+      reply = theRecord;
+      evaluates = none;
+      moves = none;
+      quotes = none;
+      clears = λ side. true;
+      session = λ x. Main;
+      receives = none;
     }
 
 -- all the checks of an ask, of an id that is there or not, and of its record

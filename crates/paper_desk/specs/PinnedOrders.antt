@@ -20,8 +20,9 @@ use Rattle.paper.specs.Terms.{dayOf}
 use Rattle.paper_desk.specs.Limits.{crossed}
 use Rattle.paper.specs.Verdicts.{numberOf, Check}
 use Rattle.paper_desk.specs.External.{together, notice}
-use Rattle.paper_desk.specs.Desk.{blank, Call, admit, evaluate, quote, move, read, openEvening, receive, checksOf}
-use Rattle.paper_desk.specs.Desk.{run, evaluating, quoting, moving, reading, opening, receiving, askOf}
+use Rattle.paper_desk.specs.Desk.{blank, Call, admit, evaluate, quote, move, read, openEvening, receive}
+use Rattle.paper_desk.specs.Desk.{closeEvening, checksOf}
+use Rattle.paper_desk.specs.Desk.{run, evaluating, quoting, moving, reading, opening, receiving, closing, askOf}
 use Rattle.paper.specs.PinnedValues.{_but_, minimaAt, p1At, centralAt, rowBidAt, rowAskAt, volumeAt, aupAt, adownAt}
 use Rattle.paper.specs.PinnedValues.{liqAt, pchmaxAt, monitoringAt, ewmaAt, idAt, dayAt, sAt, tentativeAt, liveAt}
 use Rattle.paper.specs.PinnedValues.{ageAt, upperMovesAt, lowerMovesAt, secondAt, sessionAt, autochangeAt}
@@ -39,8 +40,9 @@ pub asks-are : (d : AskedDay) (q : Quote) (side : ℕ) (sent : Outside) (n : Not
     × (askOf asked.Open rows ≡ opening)
     × (askOf (asked.Receive sent) rows ≡ receiving (together sent))
     × (askOf (asked.Notify n) rows ≡ receiving (notice n))
+    × (askOf asked.Close rows ≡ closing)
 unfolding askOf
-asks-are d q side sent n rows = (refl, refl, refl, refl, refl, refl, refl)
+asks-are d q side sent n rows = (refl, refl, refl, refl, refl, refl, refl, refl)
 
 -- ---- "First that applies"
 
@@ -146,6 +148,11 @@ orders =
     ∷ judgement (openEvening 7) (holding idle)
     ∷ judgement (openEvening 7) (holding (idle but (liveAt, pos 1)))
     ∷ judgement (openEvening 7) (holding (idle but (liveAt, pos 1) but (sessionAt, pos 0)))
+    -- the closing: 1, 10, and 19 behind it
+    ∷ judgement (closeEvening 7) (holding (damaged (idle but (sessionAt, pos 0))))
+    ∷ judgement (closeEvening 7) (holding (idle but (sessionAt, pos 0)))
+    ∷ judgement (closeEvening 7) (holding (idle but (liveAt, pos 1) but (sessionAt, pos 0)))
+    ∷ judgement (closeEvening 7) (holding (idle but (liveAt, pos 1)))
     -- W-211: "20 .. on receipt, after 1": the float of zero, and that of 1/32
     ∷ judgement (askOfBits 0x0000_0000_0000_0000) (holding (damaged idle))
     ∷ judgement (askOfBits 0x0000_0000_0000_0000) (holding idle)
@@ -179,6 +186,10 @@ pub orders-are : orders
     ∷ (3 ∷ 3 ∷ [])
     ∷ (0 ∷ [])
     ∷ (1 ∷ 1 ∷ [])
+    ∷ (0 ∷ [])
+    ∷ (1 ∷ 1 ∷ 10 ∷ 19 ∷ [])
+    ∷ (10 ∷ 10 ∷ 19 ∷ [])
+    ∷ (19 ∷ 19 ∷ [])
     ∷ (0 ∷ [])
     ∷ (1 ∷ 1 ∷ 10 ∷ 19 ∷ [])
     ∷ (10 ∷ 10 ∷ 19 ∷ [])

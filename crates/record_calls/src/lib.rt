@@ -51,6 +51,34 @@ pub fn opened(s: Slot) -> Effect
     record_answers::written(s.at, rec)
 }
 
+// The closing of the evening: 1, 10, and 19 where no evening is open. It "clears the near seconds and keeps
+// c".
+pub fn closed(s: Slot) -> Effect
+    ensures { λ o. ⌜ o ≡ effectOf s Ask.closing ⌝ }
+{
+    let count = s.count;
+    let r = s.rec;
+    let standing = r.standing;
+    let session = r.session;
+    if !record_answers::is_known(s) {
+        return record_answers::refused(count, Verdict::NoSuchId);
+    }
+    if !record_soundness::is_live(standing) {
+        return record_answers::refused(count, Verdict::NotLive);
+    }
+    if !alerts::session::is_evening(session) {
+        return record_answers::refused(count, Verdict::OpenedTwice);
+    }
+    let none = NearSeconds {
+        top: Near::Not,
+        bottom: Near::Not,
+    };
+    let near = [none; Record::TERMS];
+    let external = r.external;
+    let rec = record_writing::watching(r, near, r.second, Session::Main, external);
+    record_answers::written(s.at, rec)
+}
+
 // ---- a receipt of outside prices (W-211)
 
 // The units of a float's price, and 0 where it has none.
@@ -137,5 +165,6 @@ pub fn effect_of(s: Slot, a: AskedAbout, rows: &[i64]) -> Effect
         AskedAbout::Open => opened(s),
         AskedAbout::Receive(sent) => received(s, sent),
         AskedAbout::Notify(n) => notified(s, n),
+        AskedAbout::Close => closed(s),
     }
 }

@@ -245,6 +245,9 @@ pub fn call_of(zs: &[i64], kind: u64, p: Pairs, k: Kept) -> AskedCall
     if kind == CallKind::OPEN {
         return AskedCall::About(number_at(zs, IdPlace::ID), AskedAbout::Open);
     }
+    if kind == CallKind::CLOSE {
+        return AskedCall::About(number_at(zs, IdPlace::ID), AskedAbout::Close);
+    }
     if kind == CallKind::OUTSIDE {
         let id = number_at(zs, OutsidePlace::ID);
         return AskedCall::About(id, AskedAbout::Receive(outside_of(zs)));

@@ -85,6 +85,8 @@ role-by-rule id (about.Receive sent) rows =
     record { shows = λ a. refl; admits = refl; evaluates = refl; moves = refl; other = λ h. refl }
 role-by-rule id (about.Notify n) rows =
     record { shows = λ a. refl; admits = refl; evaluates = refl; moves = refl; other = λ h. refl }
+role-by-rule id about.Close rows =
+    record { shows = λ a. refl; admits = refl; evaluates = refl; moves = refl; other = λ h. refl }
 
 -- ---- what follows for every ask
 

@@ -13,7 +13,7 @@ use Rattle.paper.specs.Verdicts.{isDone}
 use Rattle.paper.specs.Ranges.{unsigned, givenOf}
 use Rattle.paper.specs.PinnedValues.{givenWith}
 use Rattle.paper.specs.Terms.{workedRepo, repoOf, dayOf, termOf as dayTerm}
-use Rattle.paper_desk.specs.Desk.{admit, evaluate, quote, move, read, openEvening, receive}
+use Rattle.paper_desk.specs.Desk.{admit, evaluate, quote, move, read, openEvening, closeEvening, receive}
 use Rattle.paper_desk.specs.External.{together, notice}
 use Rattle.text_protocol.specs.declared.Kept.{Kept}
 use Rattle.text_bytes.specs.Bytes.{isBlank, isNot, run, grow, pieces, full, words, same, bytes}
@@ -93,6 +93,7 @@ pub asked : (deedIn (bytes "admit 1 2 3 4 5 6" ++ zText "1")
     × (deedBy "move 1 2" ≡ call (move 1 2))
     × (deedBy "read 1" ≡ call (read 1))
     × (deedBy "open 1" ≡ call (openEvening 1))
+    × (deedBy "close 1" ≡ call (closeEvening 1))
     × (deedBy "outside 1 2 3" ≡ call (receive 1 (together (record { bid = floatAt 2; ask = floatAt 3 }))))
     × (deedBy "notice 1 0 2" ≡ call (receive 1 (notice (Bid (floatAt 2)))))
     × (deedBy "notice 1 1 4637300241308057600" ≡ call (receive 1 (notice (Ask (floatAt 0x405b_0000_0000_0000)))))
@@ -179,4 +180,4 @@ pub asked : (deedIn (bytes "admit 1 2 3 4 5 6" ++ zText "1")
       repo = pos 5;
     }) (naturals (34 ∷ 35 ∷ [])))
 unfolding deedBy zText givenWith
-asked = (refl, refl, refl, refl, refl, refl, refl, refl, refl, refl, refl, refl, refl, refl, refl, refl, refl, refl)
+asked = (refl, refl, refl, refl, refl, refl, refl, refl, refl, refl, refl, refl, refl, refl, refl, refl, refl, refl, refl)

@@ -23,7 +23,7 @@ use Rattle.paper_bonds.specs.declared.Bond.{Bond}
 use Rattle.paper.specs.Lists.{pick}
 use Rattle.paper.specs.Ranges.{unsigned, givenOf, sideOf}
 use Rattle.paper.specs.Terms.{dayOf}
-use Rattle.paper_desk.specs.Desk.{askOf, Call, admit, about as asks, evaluate, quote, move, read, openEvening, receive}
+use Rattle.paper_desk.specs.Desk.{askOf, Call, admit, about as asks, evaluate, quote, move, read, openEvening, closeEvening, receive}
 use Rattle.paper_desk.specs.External.{together, notice}
 use Rattle.text_protocol.specs.declared.AskedCall.{AskedCall}
 use Rattle.text_protocol.specs.declared.AskedCall.the-variants as asked
@@ -41,7 +41,7 @@ use Rattle.text_protocol.specs.Names.{BID, ASK, SIDE, YM, YN, MM, SEC, X
 use Rattle.text_protocol.specs.Names.{REPO, AGE, BIDBITS, ASKBITS, BITS, admissionNames, admitNames}
 use Rattle.text_protocol.specs.Names.{evaluateNames, quoteNames, moveNames, idNames, outsideNames, noticeNames}
 use Rattle.text_protocol.specs.Names.{interestNames, bondNames, admitKind, evaluateKind, quoteKind, moveKind}
-use Rattle.text_protocol.specs.Names.{readKind, openKind, outsideKind, noticeKind, interestKind, bondKind, the}
+use Rattle.text_protocol.specs.Names.{readKind, openKind, outsideKind, noticeKind, interestKind, bondKind, closeKind, the}
 use Rattle.text_protocol.specs.Line.{Said, Nothing, NoCall, Call as saysCall}
 
 -- a number that may not be below zero: one that is, is out of every range
@@ -208,10 +208,11 @@ deskCall k kind zs p =
     (pick (eqb kind moveKind) (move (unsignedOf moveNames zs ID) (unsignedOf moveNames zs SIDE))
     (pick (eqb kind readKind) (read (unsignedOf idNames zs ID))
     (pick (eqb kind openKind) (openEvening (unsignedOf idNames zs ID))
+    (pick (eqb kind closeKind) (closeEvening (unsignedOf idNames zs ID))
     (pick (eqb kind outsideKind) (receive (unsignedOf outsideNames zs ID) (together (outsideOf zs)))
     (pick (eqb kind noticeKind)
     (noticeCall (unsignedOf noticeNames zs ID) (unsignedOf noticeNames zs SIDE) (floatOf (the noticeNames zs BITS)))
-    (receive (unsignedOf idNames zs ID) (notice sent.Withdrawal)))))))))
+    (receive (unsignedOf idNames zs ID) (notice sent.Withdrawal))))))))))
 
 -- what a line of a kind asks for
 unfoldable pub callOf : Kept → (kind : ℕ) → List ℤ → Pairs → Deed
@@ -240,6 +241,7 @@ roleAbout id about.Read = role.Other
 roleAbout id about.Open = role.Other
 roleAbout id (about.Receive x) = role.Other
 roleAbout id (about.Notify x) = role.Other
+roleAbout id about.Close = role.Other
 
 -- what a call is to the text
 unfoldable pub roleOf : AskedCall → Role

@@ -257,6 +257,9 @@ interestWord = 105 ∷ 110 ∷ 116 ∷ 101 ∷ 114 ∷ 101 ∷ 115 ∷ 116 ∷ [
 abbrev pub bondWord : List ℕ
 bondWord = 98 ∷ 111 ∷ 110 ∷ 100 ∷ []  -- "bond"
 
+abbrev pub closeWord : List ℕ
+closeWord = 99 ∷ 108 ∷ 111 ∷ 115 ∷ 101 ∷ []  -- "close"
+
 -- THE CALLS: the kind of a call is its place in this list, counted from 1. Who opens it opens the names too
 unfoldable pub forms : List Form
 unfolding admitNames evaluateNames quoteNames moveNames idNames outsideNames noticeNames interestNames bondNames
@@ -272,6 +275,7 @@ forms =
     ∷ record { word = withdrawWord; names = idNames; more = false }
     ∷ record { word = interestWord; names = interestNames; more = true }
     ∷ record { word = bondWord; names = bondNames; more = true }
+    ∷ record { word = closeWord; names = idNames; more = false }
     ∷ []
 
 abbrev pub admitKind : ℕ
@@ -306,6 +310,9 @@ interestKind = 10
 
 abbrev pub bondKind : ℕ
 bondKind = 11
+
+abbrev pub closeKind : ℕ
+closeKind = 12
 
 -- ---- a word's call, and a name's number
 

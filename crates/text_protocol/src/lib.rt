@@ -283,6 +283,8 @@ impl CallKind {
 
     pub const BOND: u64 = 11;
 
+    pub const CLOSE: u64 = 12;
+
     // No call: a line with no word, and one that says no call. A call more leaves these two as they are.
     pub const BLANK: u64 = 100;
 
@@ -291,7 +293,7 @@ impl CallKind {
 
 // The calls in the order of their kinds: how many numbers each has, and behind which more may follow, the row figures
 // of `evaluate`, the key maturities of `interest` and the cash flows of `bond`.
-pub const CALLS: usize = 11;
+pub const CALLS: usize = 12;
 
 pub const COUNTS: [usize; CALLS] = [
     AdmitPlace::COUNT,
@@ -305,6 +307,7 @@ pub const COUNTS: [usize; CALLS] = [
     IdPlace::COUNT, // withdraw
     InterestPlace::COUNT,
     BondPlace::COUNT,
+    IdPlace::COUNT, // close
 ];
 
 pub const MORE: [bool; CALLS] = [
@@ -319,6 +322,7 @@ pub const MORE: [bool; CALLS] = [
     false,
     true, // interest
     true, // bond
+    false,
 ];
 
 // Their words, each in so much room with spaces behind it, and how long each is.
@@ -335,9 +339,10 @@ pub const WORDS: [u8; WORD_ROOM * CALLS] = *b"\
     notice  \
     withdraw\
     interest\
-    bond    ";
+    bond    \
+    close   ";
 
-pub const LENGTHS: [usize; CALLS] = [5, 8, 5, 4, 4, 4, 7, 6, 8, 8, 4];
+pub const LENGTHS: [usize; CALLS] = [5, 8, 5, 4, 4, 4, 7, 6, 8, 8, 4, 5];
 
 // What a word behind the call's is: one number, a pair of terms Ym/Yn, or neither.
 pub enum Item {

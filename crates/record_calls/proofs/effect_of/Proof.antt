@@ -49,6 +49,12 @@ enum-known-a-5 c = search needs
 notified-requires : tie.Need-notified-requires
 notified-requires c κs = search needs
 
+enum-told-3 : tie.Need-enum-told-3
+enum-told-3 c = search needs
+
+closed-requires : tie.Need-closed-requires
+closed-requires c κs = search needs
+
 returns : tie.Need-returns
 unfolding askOf
 returns c =
@@ -79,6 +85,10 @@ returns-7 : tie.Need-returns-7
 unfolding askOf
 returns-7 c = rw (c .notified .ensures, c .before .before .a5 .given .1)
 
+returns-8 : tie.Need-returns-8
+unfolding askOf
+returns-8 c = rw (c .closed .ensures, c .before .enum-told3 .given .1)
+
 pub effect-of-spec : {M : Type 1} → statement M
 effect-of-spec =
     tie.close
@@ -98,10 +108,13 @@ effect-of-spec =
     received-requires
     enum-known-a-5
     notified-requires
+    enum-told-3
+    closed-requires
     returns
     returns-2
     returns-3
     returns-4
     returns-5
     returns-6
-    returns-7)
+    returns-7
+    returns-8)

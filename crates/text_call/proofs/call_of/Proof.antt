@@ -34,26 +34,31 @@ returns-6 c = rw (c .before .if6 .taken, c .number-at6 .ensures)
 
 returns-7 : tie.Need-returns-7
 unfolding deskCall callAsked askOf figuresBehind the placeOf code forms
-returns-7 c = rw (c .before .before .if7 .taken, c .before .number-at7 .ensures, c .outside-of .ensures)
+returns-7 c = rw (c .before .if7 .taken, c .number-at7 .ensures)
 
 returns-8 : tie.Need-returns-8
+unfolding deskCall callAsked askOf figuresBehind the placeOf code forms
+returns-8 c = rw (c .before .before .if8 .taken, c .before .number-at8 .ensures, c .outside-of .ensures)
+
+returns-9 : tie.Need-returns-9
 unfolding deskCall the placeOf code forms
-returns-8 c =
+returns-9 c =
     let at-bits = c .before in
     let at-side = at-bits .before in
     let at-id = at-side .before in
-    let zs = at-id .before .before .before .before .before .before .before .before .before .args .zs .now in
+    let zs = at-id .before .before .before .before .before .before .before .before .before .before .args .zs .now in
     rw (
-      at-id .before .if8 .taken,
-      ← at-id .number-at8 .ensures,
-      ← at-side .number-at9 .ensures,
+      at-id .before .if9 .taken,
+      ← at-id .number-at9 .ensures,
+      ← at-side .number-at10 .ensures,
       ← at-bits .float-at .ensures,
     ) (c .notice-of .ensures (drop evaluateCount zs))
 
-returns-9 : tie.Need-returns-9
+returns-10 : tie.Need-returns-10
 unfolding deskCall callAsked askOf figuresBehind the placeOf code forms
-returns-9 c =
-    let at-if8 = c .before in
+returns-10 c =
+    let at-if9 = c .before in
+    let at-if8 = at-if9 .before in
     let at-if7 = at-if8 .before in
     let at-if6 = at-if7 .before in
     let at-if5 = at-if6 .before in
@@ -70,7 +75,8 @@ returns-9 c =
       ne-eqb _ _ (at-if6 .if6 .left),
       ne-eqb _ _ (at-if7 .if7 .left),
       ne-eqb _ _ (at-if8 .if8 .left),
-      c .number-at10 .ensures,
+      ne-eqb _ _ (at-if9 .if9 .left),
+      c .number-at11 .ensures,
     )
 
 pub call-of-spec : {M : Type 1} → statement M
@@ -93,12 +99,14 @@ call-of-spec =
     (λ c κs. tt)
     returns-6
     (λ c κs. tt)
-    (λ c κs. tt)
     returns-7
-    (λ c κs. tt)
-    (λ c κs. tt)
     (λ c κs. tt)
     (λ c κs. tt)
     returns-8
     (λ c κs. tt)
-    returns-9)
+    (λ c κs. tt)
+    (λ c κs. tt)
+    (λ c κs. tt)
+    returns-9
+    (λ c κs. tt)
+    returns-10)
