@@ -3,8 +3,8 @@
 #
 # The LLVM code that the toolchain hands to its clang is compiled once more with marks: every instruction says, as a
 # debugger's lines are said, whether it stands in that function or in what it calls (line 1) or elsewhere (line 2). LLVM
-# carries such marks through its passes and makes the same instructions with them as without: `same_code` asks for that,
-# function by function.
+# carries such marks through its passes and makes the same instructions with them as without, but that it may fold a sum
+# into one `lea` with them and not without: `same_code` asks for that, function by function.
 
 # The LLVM code of a program, as FOLDER/handed.ll, and the words by which the kit's clang compiles it, as FOLDER/words.
 handed_code() { # NAME FOLDER
@@ -150,12 +150,21 @@ functions_of() { # OBJECT
         END { print text }' | sort
 }
 
-# Two objects have the same functions; says which they have not.
+# The same functions without `lea` and `inc`, which neither divide nor multiply, and so without where an instruction
+# stands and where a jump goes: a folded sum moves both.
+without_sums() { # FUNCTIONS
+    sed 's/;/\n/g' "$1" | sed 's/^ *[0-9a-f]*: //; /^\(lea\|inc\) /d; s/^\(j[a-z]*\) .*/\1/'
+}
+
+# Two objects have the same functions, sums aside; says which they have not.
 same_code() { # OBJECT OBJECT FOLDER
     functions_of "$1" >"$3/first"
     functions_of "$2" >"$3/second"
     [ -s "$3/first" ] || cannot "$objdump does not take $1"
     cmp -s "$3/first" "$3/second" && return
+    without_sums "$3/first" >"$3/first.plain"
+    without_sums "$3/second" >"$3/second.plain"
+    cmp -s "$3/first.plain" "$3/second.plain" && return
     diff "$3/first" "$3/second" | sed -n 's/^[<>] <\([^>]*\)>:.*/\1 is another function with marks/p' | sort -u >&2
     return 1
 }
