@@ -58,6 +58,12 @@ def unread(pipe):
     return number[0]
 
 
+def ends_well(command, status, answered):
+    """Whether the status is a right one: 0, or 1 where `nedrubal listen` printed `refused`."""
+    refused = command[-1] == "listen" and any(line.startswith(b"refused ") for line in answered.splitlines())
+    return status == 0 or (status == 1 and refused)
+
+
 class Run:
     """One run. With `few`, which draws numbers, the answers go through a pipe of one page and are taken by few bytes,
     and the program is stopped and continued whenever that pipe is full, so that its `write` of more returns early."""
@@ -65,6 +71,7 @@ class Run:
     def __init__(self, command, few=None):
         their_input, self.input = os.pipe()
         self.output, their_output = os.pipe()
+        self.command = command
         self.few = few
         self.answered = bytearray()
         if few:
@@ -126,7 +133,7 @@ class Run:
             self.wait(lambda: False, "end where its input ends")
         except Ended:
             said, status = self.process.stderr.read(), self.process.wait()
-        if said or status:
+        if said or not ends_well(self.command, status, bytes(self.answered)):
             raise Wrong("it ends with status %d and says %r" % (status, said))
         return bytes(self.answered)
 
@@ -307,7 +314,10 @@ def send_each(pool, seed, reference, name, command):
         *words, file = line.split()
         asked = asking(program, words)
         with open(file, "rb") as script:
-            whole = subprocess.run(asked.command, stdin=script, stdout=subprocess.PIPE, check=True).stdout
+            ran = subprocess.run(asked.command, stdin=script, stdout=subprocess.PIPE)
+            whole = ran.stdout
+            if not ends_well(asked.command, ran.returncode, whole):
+                raise Wrong("%s: it ends with status %d" % (line, ran.returncode))
             script.seek(0)
             text = script.read()
         drawn = random.Random("%s %s" % (seed, line))
