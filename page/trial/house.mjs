@@ -1,6 +1,7 @@
 // What the trials have beside a browser: the page, the example and the random evening, the answers of the released
 // program for this machine, and files of their own.
-import { execFileSync } from 'node:child_process';
+import assert from 'node:assert/strict';
+import { execFileSync, spawnSync } from 'node:child_process';
 import fs from 'node:fs';
 import os from 'node:os';
 import path from 'node:path';
@@ -31,9 +32,12 @@ export function makeHouse({ page, random }) {
             fs.writeFileSync(path.join(folder, name), bytes);
             return path.join(folder, name);
         },
-        /** What a program answers to bytes. */
-        run: (/** @type {string} */ name, /** @type {Uint8Array} */ bytes, /** @type {string[]} */ ...words) => (
-            execFileSync(program, [name, ...words], { input: bytes, maxBuffer: ANSWERS_MOST })),
+        /** What a program answers to bytes. `listen` ends with status 1 where it printed `refused`. */
+        run(/** @type {string} */ name, /** @type {Uint8Array} */ bytes, /** @type {string[]} */ ...words) {
+            const { status, stdout } = spawnSync(program, [name, ...words], { input: bytes, maxBuffer: ANSWERS_MOST });
+            assert.ok(status === 0 || (name === 'listen' && status === 1), `${name} ends with status ${status}`);
+            return stdout;
+        },
         pictureOf: (/** @type {string} */ browser, /** @type {string} */ name) => (
             path.join(pictures, `${browser.split(' ')[0].toLowerCase()}-${name}.png`)),
         paperOf: (/** @type {string} */ browser, /** @type {string} */ name) => (

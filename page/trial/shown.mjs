@@ -27,7 +27,8 @@ export function wholeOf(/** @type {string} */ shown, /** @type {number} */ decim
  */
 export function toldOf(/** @type {string[]} */ lines, /** @type {string[]} */ answers) {
     const told = new Map();
-    const answered = lines.filter((line) => line.length > 65535 || /[^ \t\r]/.test(line));
+    // A blank line and a heading are not answered, unless they are too long.
+    const answered = lines.filter((line) => line.length > 65535 || /^[ \t\r]*[^ \t\r#]/.test(line));
     assert.equal(answered.length, answers.length);
     answered.forEach((text, at) => {
         const line = text.split(/[ \t\r]+/).filter((word) => word !== '');
