@@ -1,6 +1,7 @@
 // Damaged and duplicate records, which no line of text can make: a table that is lent as it stands, with one damage to
 // a slot, and then the calls on it.
 use paper::External;
+use paper::GivenStatics;
 use paper::Limit;
 use paper::Limits;
 use paper::Moves;
@@ -16,38 +17,35 @@ use paper::Tentative;
 use paper::Term;
 use text_evening::Telling;
 
-// Document 01's Z, as an `admit` line gives it, with an evening of its own; a static behind these is 0.
-const Z: [i64; 26] = [
-    10,
-    100,
-    300,
-    1000,
-    500,
-    5,
-    2,
-    5,
-    8,
-    50,
-    500,
-    700,
-    900,
-    4000,
-    200,
-    25,
-    2000,
-    2000,
-    1000,
-    60,
-    1,
-    1,
-    60,
-    1,
-    10,
-    0,
-];
-
+// Document 01's Z, with an evening of its own; a static that is not named here is at the least of its range.
 fn statics() -> Statics {
-    inputs::statics_of(inputs::given_of(&Z))
+    let mut given = GivenStatics::LEAST;
+    given.lot = 10;
+    given.h = 100;
+    given.q = 300;
+    given.aup = 1_000;
+    given.adown = 500;
+    given.wait = 5;
+    given.rh1 = 2;
+    given.rh2 = 5;
+    given.rh3 = 8;
+    given.liq = 50;
+    given.min1 = 500;
+    given.min2 = 700;
+    given.min3 = 900;
+    given.smax = 4_000;
+    given.xpr = 200;
+    given.shift = 25;
+    given.pchmax = 2_000;
+    given.pclmax = 2_000;
+    given.w = 1_000;
+    given.u = 60;
+    given.monitoring = 1;
+    given.ewma = 1;
+    given.uevening = 60;
+    given.autochange = 1;
+    given.eveningmax = 10;
+    inputs::statics_of(given)
 }
 
 // Case 1's security after its evaluation, with an id, in a session: a sound record, where the session is.
