@@ -21,6 +21,7 @@ pub use prices::is_price;
 pub use prices::is_rate;
 pub use statics::given_of;
 pub use statics::number_at;
+pub use statics::numbers_of;
 pub use statics::statics_of;
 pub use statics::valid_given;
 pub use statics::valid_statics;

@@ -3,8 +3,9 @@
 ghost use mathlib.Core.Path.{_≡_};
 ghost use Prim.Native.Nat.{_<_};
 ghost use Rattle.paper.specs.Ranges.{unsignedAt, givenOf, staticsOf, inOrder, multiplesOfStep, validStatics};
-ghost use Rattle.paper.specs.Ranges.{validFlags, validGiven, validTentative};
+ghost use Rattle.paper.specs.Ranges.{validFlags, validGiven, validTentative, admissionNumbers};
 ghost use Rattle.inputs.specs.Table.{testsPass};
+use paper::Admission;
 use paper::GivenStatics;
 use paper::Rate;
 use paper::Statics;
@@ -53,6 +54,47 @@ pub fn given_of(numbers: &[i64]) -> GivenStatics
         eveningmax: number_at(numbers, 24),
         useexternal: number_at(numbers, 25),
     }
+}
+
+// The numbers of an admission, in the order of its line.
+pub fn numbers_of(a: Admission) -> [u64; Admission::NUMBERS]
+    ensures { λ r. ⌜ r ≡ admissionNumbers a ⌝ }
+{
+    let g = a.given;
+    [
+        a.id,
+        a.day,
+        a.p1,
+        a.p2,
+        a.s,
+        a.tentative,
+        g.lot,
+        g.h,
+        g.q,
+        g.aup,
+        g.adown,
+        g.wait,
+        g.rh1,
+        g.rh2,
+        g.rh3,
+        g.liq,
+        g.min1,
+        g.min2,
+        g.min3,
+        g.smax,
+        g.xpr,
+        g.shift,
+        g.pchmax,
+        g.pclmax,
+        g.w,
+        g.u,
+        g.monitoring,
+        g.ewma,
+        g.uevening,
+        g.autochange,
+        g.eveningmax,
+        g.useexternal,
+    ]
 }
 
 // Each in its range. Yes and no need none.

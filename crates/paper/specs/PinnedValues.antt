@@ -24,7 +24,7 @@ use Rattle.paper.specs.declared.Quote.{Quote}
 use Rattle.paper.specs.Lists.{pick, three, those}
 use Rattle.paper.specs.Numbers.{rouble}
 use Rattle.paper.specs.Ranges.{unsigned, unsignedAt, Static, staticsTable, staticsCount, flagsCount}
-use Rattle.paper.specs.Ranges.{givenOf, staticsOf}
+use Rattle.paper.specs.Ranges.{givenOf, givenNumbers, staticsOf}
 
 -- ---- a row of numbers, and a change of one of them
 
@@ -316,9 +316,14 @@ pub z-is-Z : admissionFrom zNumbers ≡ admissionZ
 unfolding zNumbers admissionFrom admissionZ givenWith
 z-is-Z = refl
 
--- of numbers that count up from 1, so that each is its own place: which static stands where
-pub given-are : givenOf (map pos (1 ∷ 2 ∷ 3 ∷ 4 ∷ 5 ∷ 6 ∷ 7 ∷ 8 ∷ 9 ∷ 10 ∷ 11 ∷ 12 ∷ 13 ∷ 14 ∷ 15 ∷ 16 ∷ 17 ∷ 18 ∷ 19
-    ∷ 20 ∷ 21 ∷ 22 ∷ 23 ∷ 24 ∷ 25 ∷ 26 ∷ []))
+-- numbers that count up from 1, so that each is its own place
+abbrev counted : List ℕ
+counted =
+    1 ∷ 2 ∷ 3 ∷ 4 ∷ 5 ∷ 6 ∷ 7 ∷ 8 ∷ 9 ∷ 10 ∷ 11 ∷ 12 ∷ 13 ∷ 14 ∷ 15 ∷ 16 ∷ 17 ∷ 18 ∷ 19 ∷ 20 ∷ 21 ∷ 22 ∷ 23 ∷ 24 ∷ 25 ∷ 26
+    ∷ []
+
+-- which static stands where
+pub given-are : givenOf (map pos counted)
     ≡ record {
       lot = 1;
       h = 2;
@@ -349,6 +354,11 @@ pub given-are : givenOf (map pos (1 ∷ 2 ∷ 3 ∷ 4 ∷ 5 ∷ 6 ∷ 7 ∷ 8 �
     }
 unfolding givenOf
 given-are = refl
+
+-- and each is given back at its place
+pub given-numbers-are : givenNumbers (givenOf (map pos counted)) ≡ counted
+unfolding givenOf
+given-numbers-are = refl
 
 -- the table has a row for each
 pub counts-are : (length staticsTable ≡ staticsCount)

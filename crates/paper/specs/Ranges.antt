@@ -183,6 +183,37 @@ givenOf numbers =
       useexternal = unsignedAt numbers 25;
     }
 
+-- and back: the numbers of given statics, in the order of the table
+abbrev pub givenNumbers : GivenStatics → List ℕ
+givenNumbers g =
+    g .lot
+    ∷ g .h
+    ∷ g .q
+    ∷ g .aup
+    ∷ g .adown
+    ∷ g .wait
+    ∷ g .rh1
+    ∷ g .rh2
+    ∷ g .rh3
+    ∷ g .liq
+    ∷ g .min1
+    ∷ g .min2
+    ∷ g .min3
+    ∷ g .smax
+    ∷ g .xpr
+    ∷ g .shift
+    ∷ g .pchmax
+    ∷ g .pclmax
+    ∷ g .w
+    ∷ g .u
+    ∷ g .monitoring
+    ∷ g .ewma
+    ∷ g .uevening
+    ∷ g .autochange
+    ∷ g .eveningmax
+    ∷ g .useexternal
+    ∷ []
+
 -- the statics that are given as numbers: "yes 1, no 0"
 unfoldable pub staticsOf : GivenStatics → Statics
 staticsOf g =
@@ -303,6 +334,10 @@ validFigures st day p1 p2 s tentative =
     && isGridPrice (gridOf (st .lot)) p2
     && leb s volatilityMost
     && validTentative (st .h) tentative
+
+-- the numbers of an admission, in the order of its line: ID DAY P1 P2 S TENTATIVE, and the statics
+abbrev pub admissionNumbers : Admission → List ℕ
+admissionNumbers a = a .id ∷ a .day ∷ a .p1 ∷ a .p2 ∷ a .s ∷ a .tentative ∷ givenNumbers (a .given)
 
 -- "Admission also gives id (1..10^9)" and these figures
 unfoldable pub validAdmission : Admission → Bool

@@ -307,6 +307,36 @@ impl GivenStatics {
         eveningmax: 0,
         useexternal: 0,
     };
+
+    // Each at the most of its range.
+    pub const MOST: GivenStatics = GivenStatics {
+        lot: Statics::LOT_MOST,
+        h: Statics::STEP_MOST,
+        q: Statics::MULTIPLIER_MOST,
+        aup: Statics::WEIGHT_MOST,
+        adown: Statics::WEIGHT_MOST,
+        wait: Statics::WAIT_MOST,
+        rh1: Statics::FIRST_DAYS_MOST,
+        rh2: Statics::DAYS_MOST,
+        rh3: Statics::DAYS_MOST,
+        liq: Statics::LIQUIDITY_MOST,
+        min1: Rate::MOST_BP,
+        min2: Rate::MOST_BP,
+        min3: Rate::MOST_BP,
+        smax: Rate::MOST_BP,
+        xpr: Statics::DIVISOR_MOST,
+        shift: Statics::SHIFT_MOST,
+        pchmax: Rate::MOST_BP,
+        pclmax: Rate::MOST_BP,
+        w: Statics::NEARNESS_MOST,
+        u: Statics::SECONDS_MOST,
+        monitoring: 1,
+        ewma: 1,
+        uevening: Statics::SECONDS_MOST,
+        autochange: 1,
+        eveningmax: Statics::EVENING_MOVES_MOST,
+        useexternal: 1,
+    };
 }
 
 // "A record has a standing: admitted only, or live with its day number." Either holds the last day.
@@ -457,6 +487,11 @@ pub struct Admission {
     pub s: u64, // millionths, 0 to 1,000,000
     pub tentative: u64, // bp, 0 to the least multiple of h at or above 100,000, a multiple of h
     pub given: GivenStatics,
+}
+
+impl Admission {
+    // How many numbers it has: six, and the statics.
+    pub const NUMBERS: usize = 6 + Statics::COUNT;
 }
 
 // What a day gives beside its rows.

@@ -19,7 +19,7 @@ use Rattle.paper.specs.Lists.{pick}
 use Rattle.paper.specs.Numbers.{priceLeast, priceMost, volatilityMost, idMost, dayMost}
 use Rattle.paper.specs.Ranges.{within, isPrice, gridOf, isGridPrice, Static, staticsTable, staticsOf, flagOf, numbersOf}
 use Rattle.paper.specs.Ranges.{inTable, inOrder, multiplesOfStep, validStatics, validFlags, validGiven, tentativeTop}
-use Rattle.paper.specs.Ranges.{validTentative, validAdmission, validSlots}
+use Rattle.paper.specs.Ranges.{validTentative, validAdmission, validSlots, givenNumbers, admissionNumbers}
 use Rattle.paper.specs.Verdicts.{Naming, firstNamed, firstOf, FirstAt, here, later, NoneApplies, none, also, Exactly}
 use Rattle.paper.proofs.Logic.{not-true-and-false, and-left, and-right, and-both}
 use Rattle.paper.proofs.StaticsFacts.{flag-in-row, statics-facts}
@@ -28,8 +28,8 @@ use Rattle.paper_desk.proofs.Refusals.{verdict-first, named-is-first-or-otherwi
 use Rattle.paper_desk.proofs.TentativeRange.{tentative-top-high}
 use Rattle.paper_reasons.specs.declared.FieldAtFault.{FieldAtFault}
 use Rattle.paper_reasons.specs.declared.FieldAtFault.the-variants as field
-use Rattle.paper_reasons.specs.AdmissionFaults.{givenNumbers, admissionNumbers, tentativeFarthest, admissionTable}
-use Rattle.paper_reasons.specs.AdmissionFaults.{outOfTable, isOff, unfit, firstPlace, fieldsAtFault, fieldAtFault}
+use Rattle.paper_reasons.specs.AdmissionFaults.{tentativeFarthest, admissionTable, outOfTable, isOff, unfit}
+use Rattle.paper_reasons.specs.AdmissionFaults.{firstPlace, fieldsAtFault, fieldAtFault}
 
 -- EACH NUMBER IS NAMED EXACTLY WHERE IT IS THE FIRST AT FAULT, and none where none is
 pub field-is : (a : Admission) (x : FieldAtFault)

@@ -7,47 +7,12 @@ use lib.Dec.{ltb, eqb}
 use Rattle.paper.specs.declared.Admission.{Admission}
 use Rattle.paper.specs.declared.GivenStatics.{GivenStatics}
 use Rattle.paper.specs.Numbers.{priceLeast, priceMost, volatilityMost, idMost, dayMost}
-use Rattle.paper.specs.Ranges.{within, gridOf, Static, ranging, staticsTable, validTentative}
+use Rattle.paper.specs.Ranges.{within, gridOf, Static, ranging, staticsTable, validTentative, admissionNumbers}
 use Rattle.paper.specs.Verdicts.{Naming, firstNamed}
 use Rattle.paper_reasons.specs.declared.FieldAtFault.{FieldAtFault}
 use Rattle.paper_reasons.specs.declared.FieldAtFault.the-variants as field
 
--- ---- the numbers of an admission, in the order of its line
-
--- the statics that are given, in the order of the table
-abbrev pub givenNumbers : GivenStatics → List ℕ
-givenNumbers g =
-    g .lot
-    ∷ g .h
-    ∷ g .q
-    ∷ g .aup
-    ∷ g .adown
-    ∷ g .wait
-    ∷ g .rh1
-    ∷ g .rh2
-    ∷ g .rh3
-    ∷ g .liq
-    ∷ g .min1
-    ∷ g .min2
-    ∷ g .min3
-    ∷ g .smax
-    ∷ g .xpr
-    ∷ g .shift
-    ∷ g .pchmax
-    ∷ g .pclmax
-    ∷ g .w
-    ∷ g .u
-    ∷ g .monitoring
-    ∷ g .ewma
-    ∷ g .uevening
-    ∷ g .autochange
-    ∷ g .eveningmax
-    ∷ g .useexternal
-    ∷ []
-
--- ID DAY P1 P2 S TENTATIVE, and the statics
-abbrev pub admissionNumbers : Admission → List ℕ
-admissionNumbers a = a .id ∷ a .day ∷ a .p1 ∷ a .p2 ∷ a .s ∷ a .tentative ∷ givenNumbers (a .given)
+-- ---- the ranges of an admission's numbers, in the order of its line (`admissionNumbers` of `paper`)
 
 -- the top of no step passes this: it is "the least multiple of h at or above 100,000 bp", with h up to 1,000
 abbrev pub tentativeFarthest : ℕ

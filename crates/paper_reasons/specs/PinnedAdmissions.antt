@@ -2,11 +2,12 @@
 -- sides of each line that two numbers have, and which of two comes first.
 -- It may use the definitions of document 01's ranges, and the values of PinnedValues.
 use mathlib.Core.Path.{_≡_, refl}
-use mathlib.Core.List.{List, [], _∷_, map}
-use Prim.Native.Nat.{ℕ, _+_}
-use lib.IntN.{ℤ, pos}
+use mathlib.Core.List.{List, [], _∷_}
+use Prim.Native.Nat.{ℕ, zero, suc, _+_}
+use lib.IntN.{ℤ, pos, predℤ}
 use Rattle.paper.specs.Roundings.{up}
-use Rattle.paper.specs.Ranges.{unsigned, gridOf, givenOf, tentativeTop, validTentative}
+use Rattle.paper.specs.Ranges.{unsigned, gridOf, Static, staticsTable, staticsCount, givenOf, tentativeTop}
+use Rattle.paper.specs.Ranges.{validTentative}
 use Rattle.paper.specs.PinnedValues.{_but_, lotAt, hAt, waitAt, minimaAt, monitoringAt, useexternalAt, idAt, dayAt, p1At}
 use Rattle.paper.specs.PinnedValues.{sAt, tentativeAt, admissionFrom, zNumbers}
 use Rattle.paper_reasons.specs.declared.FieldAtFault.{FieldAtFault}
@@ -23,8 +24,9 @@ named : List ℤ → ℕ
 unfolding up unsigned gridOf givenOf tentativeTop validTentative admissionFrom fieldsAtFault fieldAtFault placeOf
 named numbers = placeOf (fieldAtFault (admissionFrom numbers))
 
--- EVERY PLACE: Z itself; an id of 0 and of 10^9 + 1, a day, P1, P2, s and a tentative rate out of range; each static at
--- 10,001, which is in no static's range
+-- ---- every place
+
+-- Z itself; an id of 0 and of 10^9 + 1, a day, P1, P2, s and a tentative rate out of range
 pub places : List ℕ
 unfolding named zNumbers
 places =
@@ -36,15 +38,30 @@ places =
     ∷ named (zNumbers but (p1At + 1, pos 10000000010))
     ∷ named (zNumbers but (sAt, pos 1000001))
     ∷ named (zNumbers but (tentativeAt, pos 101000))
-    ∷ map (λ static. named (zNumbers but (static, pos 10001)))
-    (0 ∷ 1 ∷ 2 ∷ 3 ∷ 4 ∷ 5 ∷ 6 ∷ 7 ∷ 8 ∷ 9 ∷ 10 ∷ 11 ∷ 12 ∷ 13 ∷ 14 ∷ 15 ∷ 16 ∷ 17 ∷ 18 ∷ 19 ∷ 20 ∷ 21 ∷ 22 ∷ 23 ∷ 24 ∷ 25
-    ∷ [])
+    ∷ []
 
-pub places-are : places
-    ≡ 0 ∷ 1 ∷ 1 ∷ 2 ∷ 3 ∷ 4 ∷ 5 ∷ 6 ∷ 7 ∷ 8 ∷ 9 ∷ 10 ∷ 11 ∷ 12 ∷ 13 ∷ 14 ∷ 15 ∷ 16 ∷ 17 ∷ 18 ∷ 19 ∷ 20 ∷ 21 ∷ 22 ∷ 23
-    ∷ 24 ∷ 25 ∷ 26 ∷ 27 ∷ 28 ∷ 29 ∷ 30 ∷ 31 ∷ 32 ∷ []
+pub places-are : places ≡ 0 ∷ 1 ∷ 1 ∷ 2 ∷ 3 ∷ 4 ∷ 5 ∷ 6 ∷ []
 unfolding places
 places-are = refl
+
+-- the statics, whose ends PinnedRanges spells: from a place of the table on, each at one below the least of its row and
+-- at one above the most
+pub pastEnds : (at : ℕ) → List Static → List (List ℕ)
+unfolding named zNumbers
+pastEnds at [] = []
+pastEnds at (row ∷ rows) =
+    (named (zNumbers but (at, predℤ (pos (row .least)))) ∷ named (zNumbers but (at, pos (suc (row .most)))) ∷ [])
+    ∷ pastEnds (suc at) rows
+
+-- so many places from one on, each for both ends
+pub bothFrom : (place count : ℕ) → List (List ℕ)
+bothFrom place zero = []
+bothFrom place (suc count) = (place ∷ place ∷ []) ∷ bothFrom (suc place) count
+
+-- EVERY STATIC AT ITS OWN PLACE, the lot at 7
+pub statics-are : pastEnds 0 staticsTable ≡ bothFrom 7 staticsCount
+unfolding pastEnds bothFrom
+statics-are = refl
 
 -- rh_1 stands before rh_2 and rh_3
 abbrev daysAt : ℕ

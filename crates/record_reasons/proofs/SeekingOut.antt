@@ -9,12 +9,13 @@ use lib.ListN.{length, drop, drop-of-length-le}
 use lib.Seq.{drop-cons}
 use Rattle.paper.specs.declared.Admission.{Admission}
 use Rattle.paper.specs.Lists.{pick}
+use Rattle.paper.specs.Ranges.{admissionNumbers}
 use Rattle.paper.specs.Verdicts.{firstNamed}
 use Rattle.paper.proofs.StaticsFacts.{row-facts}
 use Rattle.paper_reasons.specs.declared.FieldAtFault.{FieldAtFault}
 use Rattle.paper_reasons.specs.declared.FieldAtFault.the-variants as field
-use Rattle.paper_reasons.specs.AdmissionFaults.{admissionNumbers, admissionTable, outOfTable, unfit, firstPlace}
-use Rattle.paper_reasons.specs.AdmissionFaults.{fieldsAtFault, fieldAtFault}
+use Rattle.paper_reasons.specs.AdmissionFaults.{admissionTable, outOfTable, unfit, firstPlace, fieldsAtFault}
+use Rattle.paper_reasons.specs.AdmissionFaults.{fieldAtFault}
 use Rattle.paper_reasons.proofs.AdmissionFaults.{unnamed-in-table, table-before, table-passed}
 use Rattle.record_reasons.specs.FirstOut.{outAt, firstOut}
 

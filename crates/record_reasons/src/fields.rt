@@ -7,135 +7,42 @@ ghost use lib.Dec.{ltb};
 ghost use lib.ListN.{length};
 ghost use Rattle.paper.specs.Lists.{pick};
 ghost use Rattle.paper.specs.Verdicts.{firstNamed};
-ghost use Rattle.paper_reasons.specs.AdmissionFaults.{admissionNumbers, isOff, unfit, firstPlace, fieldAtFault};
+ghost use Rattle.paper_reasons.specs.AdmissionFaults.{isOff, unfit, firstPlace, fieldAtFault};
 ghost use Rattle.record_reasons.specs.FirstOut.{outAt, firstOut};
 use inputs::is_on_grid;
+use inputs::numbers_of;
 use inputs::valid_tentative;
 use paper::Admission;
+use paper::GivenStatics;
 use paper::Price;
-use paper::Rate;
 use paper::Record;
-use paper::Statics;
 use paper_reasons::FieldAtFault;
 
 // ---- out of range
 
-// How many numbers an admission has: six, and the statics.
-const NUMBERS: usize = 6 + Statics::COUNT;
-
 // The top of no step passes this, in bp: TENTATIVE has its own range before H is looked at.
 const TENTATIVE_FARTHEST: u64 = 100_999;
 
-// The range of each, in the order of the line (`admissionTable` of `paper_reasons`).
-const LEAST: [u64; NUMBERS] = [
-    1,
-    0,
-    Price::LEAST_UNITS,
-    Price::LEAST_UNITS,
-    0,
-    0,
-    1,
-    1,
-    Statics::MULTIPLIER_LEAST,
-    0,
-    0,
-    1,
-    1,
-    1,
-    1,
-    0,
-    0,
-    0,
-    0,
-    0,
-    Statics::DIVISOR_LEAST,
-    1,
-    0,
-    0,
-    0,
-    1,
-    0,
-    0,
-    1,
-    0,
-    0,
-    0,
-];
+// Each number at the least and at the most of its range (`admissionTable` of `paper_reasons`).
+const LEAST: Admission = Admission {
+    id: 1,
+    day: 0,
+    p1: Price::LEAST_UNITS,
+    p2: Price::LEAST_UNITS,
+    s: 0,
+    tentative: 0,
+    given: GivenStatics::LEAST,
+};
 
-const MOST: [u64; NUMBERS] = [
-    Record::ID_MOST,
-    Record::DAY_MOST,
-    Price::MOST_UNITS,
-    Price::MOST_UNITS,
-    Record::VOLATILITY_MOST,
-    TENTATIVE_FARTHEST,
-    Statics::LOT_MOST,
-    Statics::STEP_MOST,
-    Statics::MULTIPLIER_MOST,
-    Statics::WEIGHT_MOST,
-    Statics::WEIGHT_MOST,
-    Statics::WAIT_MOST,
-    Statics::FIRST_DAYS_MOST,
-    Statics::DAYS_MOST,
-    Statics::DAYS_MOST,
-    Statics::LIQUIDITY_MOST,
-    Rate::MOST_BP,
-    Rate::MOST_BP,
-    Rate::MOST_BP,
-    Rate::MOST_BP,
-    Statics::DIVISOR_MOST,
-    Statics::SHIFT_MOST,
-    Rate::MOST_BP,
-    Rate::MOST_BP,
-    Statics::NEARNESS_MOST,
-    Statics::SECONDS_MOST,
-    1,
-    1,
-    Statics::SECONDS_MOST,
-    1,
-    Statics::EVENING_MOVES_MOST,
-    1,
-];
-
-fn numbers_of(a: Admission) -> [u64; NUMBERS]
-    ensures { λ r. ⌜ r ≡ admissionNumbers a ⌝ }
-{
-    let g = a.given;
-    [
-        a.id,
-        a.day,
-        a.p1,
-        a.p2,
-        a.s,
-        a.tentative,
-        g.lot,
-        g.h,
-        g.q,
-        g.aup,
-        g.adown,
-        g.wait,
-        g.rh1,
-        g.rh2,
-        g.rh3,
-        g.liq,
-        g.min1,
-        g.min2,
-        g.min3,
-        g.smax,
-        g.xpr,
-        g.shift,
-        g.pchmax,
-        g.pclmax,
-        g.w,
-        g.u,
-        g.monitoring,
-        g.ewma,
-        g.uevening,
-        g.autochange,
-        g.eveningmax,
-        g.useexternal,
-    ]
-}
+const MOST: Admission = Admission {
+    id: Record::ID_MOST,
+    day: Record::DAY_MOST,
+    p1: Price::MOST_UNITS,
+    p2: Price::MOST_UNITS,
+    s: Record::VOLATILITY_MOST,
+    tentative: TENTATIVE_FARTHEST,
+    given: GivenStatics::MOST,
+};
 
 // Whether the number at a place of the slices is out of its range.
 fn is_out(numbers: &[u64], least: &[u64], most: &[u64], at: usize) -> bool
@@ -212,7 +119,9 @@ pub fn field_at_fault(a: Admission) -> FieldAtFault
     ensures { λ r. ⌜ r ≡ fieldAtFault a ⌝ }
 {
     let numbers = numbers_of(a);
-    let out = first_out(&numbers, &LEAST, &MOST);
+    let least = numbers_of(LEAST);
+    let most = numbers_of(MOST);
+    let out = first_out(&numbers, &least, &most);
     match out {
         FieldAtFault::None => first_unfit(a),
         FieldAtFault::Number(place) => FieldAtFault::Number(place),

@@ -3,9 +3,10 @@
 use mathlib.Core.Path.{_≡_}
 use borrow.Author.Needs.{needs}
 use Rattle.paper.specs.declared.Admission.{Admission}
+use Rattle.paper.specs.Ranges.{admissionNumbers}
 use Rattle.paper.specs.Verdicts.{firstNamed}
 use Rattle.paper_reasons.specs.declared.FieldAtFault.the-variants as field
-use Rattle.paper_reasons.specs.AdmissionFaults.{admissionNumbers, admissionTable, outOfTable, firstPlace}
+use Rattle.paper_reasons.specs.AdmissionFaults.{admissionTable, outOfTable, firstPlace}
 use Rattle.record_reasons.specs.FirstOut.{firstOut}
 use Rattle.record_reasons.proofs.SeekingOut.{step-positive, table-named, table-passed-by}
 use Rattle.record_reasons.proofs.fields.field_at_fault.Statement.{statement}
@@ -13,13 +14,17 @@ use Rattle.record_reasons.proofs.fields.field_at_fault.Tie as tie
 
 -- the admission, of the stage that has what is found
 abbrev given : tie.After-first-out → Admission
-given c = c .before .before .before .before .before .args .a
+given c = c .before .before .before .before .before .before .before .args .a
 
 -- what is found is what the table names
 out-is : (c : tie.After-first-out) → c .first-out .result
     ≡ firstNamed field.None (outOfTable firstPlace admissionTable (admissionNumbers (given c)))
 unfolding firstOut
-out-is c = rw (c .before .before .before .before .numbers-of .ensures) at (c .first-out .ensures)
+out-is c =
+    let most = c .before .before .before .before in
+    let least = most .before in
+    let numbers = least .before in
+    rw (numbers .numbers-of .ensures, least .numbers-of2 .ensures, most .numbers-of3 .ensures) at (c .first-out .ensures)
 
 first-unfit-requires : tie.Need-first-unfit-requires
 first-unfit-requires c κs =
@@ -40,6 +45,8 @@ pub field-at-fault-spec : {M : Type 1} → statement M
 field-at-fault-spec =
     tie.close
     (tie.spec
+    (λ c κs. search needs)
+    (λ c κs. search needs)
     (λ c κs. search needs)
     (λ c. search needs)
     (λ c. search needs)
