@@ -3,7 +3,7 @@ ghost use mathlib.Core.Path.{_≡_};
 ghost use Prim.Native.Nat.{_<_};
 ghost use Rattle.paper.specs.Lists.{allThree};
 ghost use Rattle.paper.specs.Numbers.{idMost};
-ghost use Rattle.paper.specs.Ranges.{within, validAdmission, validTerm, termAt, validQuote, validSide, sideOf};
+ghost use Rattle.paper.specs.Ranges.{within, validAdmission, validTerm, termAt, validQuote, validSide};
 ghost use Rattle.paper.specs.Ranges.{validFigures, validDayNumbers};
 use crate::prices::is_grid_price;
 use crate::statics::statics_of;
@@ -13,7 +13,6 @@ use paper::Admission;
 use paper::Day;
 use paper::Quote;
 use paper::Record;
-use paper::Side;
 use paper::Statics;
 use paper::Term;
 
@@ -90,10 +89,4 @@ pub fn valid_side(side: u64) -> bool
     ensures { λ r. ⌜ r ≡ validSide side ⌝ }
 {
     side <= 1
-}
-
-pub fn side_of(side: u64) -> Side
-    ensures { λ r. ⌜ r ≡ sideOf side ⌝ }
-{
-    if side == 0 { Side::Upper } else { Side::Lower }
 }

@@ -5,7 +5,6 @@ mod calls;
 mod prices;
 mod statics;
 
-pub use calls::side_of;
 pub use calls::valid_admission;
 pub use calls::valid_day_numbers;
 pub use calls::valid_figures;

@@ -3,7 +3,7 @@
 ghost use mathlib.Core.Path.{_≡_};
 ghost use Prim.Native.Nat.{_≤_};
 ghost use Rattle.paper.specs.Numbers.{rateMost, limitMost};
-ghost use Rattle.paper.specs.Ranges.{priceMade, rateMade, limitMade};
+ghost use Rattle.paper.specs.Ranges.{priceMade, rateMade, limitMade, sideOf};
 ghost use Rattle.paper.specs.Verdicts.{numberOf, isDone};
 
 // "10,000 = 100 per cent": one, in basis points.
@@ -387,6 +387,13 @@ pub struct Limits {
 pub enum Side {
     Upper,
     Lower,
+}
+
+// "A move names a side, 0 upper or 1 lower."
+pub fn side_of(side: u64) -> Side
+    ensures { λ r. ⌜ r ≡ sideOf side ⌝ }
+{
+    if side == 0 { Side::Upper } else { Side::Lower }
 }
 
 // A side is near since a second, or not near.

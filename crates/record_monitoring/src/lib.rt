@@ -109,7 +109,7 @@ pub fn moved(s: Slot, side: u64) -> Effect
     if !alerts::session::move_allowed(statics, session) {
         return record_answers::refused(count, Verdict::NoEveningMove);
     }
-    let named = inputs::side_of(side);
+    let named = paper::side_of(side);
     if limits::count_of(named, moves) == Record::MOVES_MOST {
         return record_answers::refused(count, Verdict::MovesUsedUp);
     }

@@ -3,7 +3,6 @@
 // equal to them. What bytes, words and numbers are stands below, in text_bytes.
 ghost use mathlib.Core.Path.{_≡_};
 ghost use Rattle.text_protocol.specs.Calls.{roleOf};
-use inputs::side_of;
 use paper::Admission;
 use paper::Answer;
 use paper::AskedAbout;
@@ -13,6 +12,7 @@ use paper::Row;
 use paper::Side;
 use paper::Statics;
 use paper::WorkedBand;
+use paper::side_of;
 use paper_bonds::Bond;
 use paper_reasons::Why;
 use text_bytes::ROOM;

@@ -1,8 +1,8 @@
--- `inputs::side_of` meets its contract: each way rewrites with the test that led there.
+-- `paper::side_of` meets its contract: each way rewrites with the test that led there.
 use borrow.Author.Tests.{ne-eqb}
 use Rattle.paper.specs.Ranges.{sideOf}
-use Rattle.inputs.proofs.calls.side_of.Statement.{statement}
-use Rattle.inputs.proofs.calls.side_of.Tie as tie
+use Rattle.paper.proofs.side_of.Statement.{statement}
+use Rattle.paper.proofs.side_of.Tie as tie
 
 returns : tie.Need-returns
 unfolding sideOf
