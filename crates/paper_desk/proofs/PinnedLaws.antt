@@ -402,6 +402,11 @@ refused-zero c t e =
     let shown : step c t .answer .rec ≡ blank = ap (λ (a : Answer). a .rec) zeros in
     (shown ∙ blank-is-zero, ap (λ (a : Answer). a .top) zeros, ap (λ (a : Answer). a .bottom) zeros)
 
+-- a record is shown with no alert: only a quote has one
+pub shown-without-alert : (r : Record) → (showing r .top ≡ false) × (showing r .bottom ≡ false)
+unfolding showing
+shown-without-alert r = (refl, refl)
+
 -- a record that is shown is the one made
 shown : (k : Reply) (r made : Record) → showsRecord k ≡ true → made ≡ replyOn k r made .rec
 unfolding showing
