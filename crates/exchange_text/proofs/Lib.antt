@@ -1,5 +1,5 @@
 -- The laws of exchange_text, a file each; other crates may cite the public ones.
 mod CellTurns
 mod LineTurns
-mod TextTurns
+pub mod TextTurns
 pub mod Determined

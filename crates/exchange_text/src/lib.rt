@@ -1,7 +1,7 @@
 // The exchange's evening text: the rows of one security in a lent text. One pass over the bytes; the rows stay where
 // they are while it goes on.
 mod cell; // a field
-mod row; // a line
+pub mod row; // a line
 
 ghost use mathlib.Core.Path.{_≡_};
 ghost use Prim.Native.Nat.{_*_, _≤_, _<_};
@@ -20,7 +20,7 @@ use paper::Verdict;
 pub const TEXT_MOST: usize = 65_536;
 
 // "16 rows"
-const ROWS_MOST: usize = Row::ALL_NUMBERS_MOST / Row::NUMBERS;
+pub const ROWS_MOST: usize = Row::ALL_NUMBERS_MOST / Row::NUMBERS;
 
 // "15, bad line, with its line number"
 fn refused(line: u64) -> Reading

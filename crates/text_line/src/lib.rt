@@ -145,14 +145,14 @@ fn first_low(kind: u64) -> usize
 }
 
 // A pair stands in a call with terms alone, in place of a term's RRCL RRCH.
-fn pair_fits(kind: u64, n: usize) -> bool
+pub fn pair_fits(kind: u64, n: usize) -> bool
     ensures { λ r. ⌜ r ≡ pairFits kind n ⌝ }
 {
     let low = first_low(kind);
     has_terms(kind) & ((n == low) | ((n == low + TERM_NUMBERS) | (n == low + 2 * TERM_NUMBERS)))
 }
 
-fn with_pair(kind: u64, n: usize, p: Pairs) -> Pairs
+pub fn with_pair(kind: u64, n: usize, p: Pairs) -> Pairs
     ensures { λ r. ⌜ r ≡ withPair kind n p ⌝ }
 {
     let low = first_low(kind);
