@@ -1,0 +1,2 @@
+-- The definitions of night_text, a file each.
+pub mod Tables
