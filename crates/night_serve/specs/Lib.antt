@@ -1,0 +1,2 @@
+-- The definitions of night_serve, a file each.
+pub mod Serving
