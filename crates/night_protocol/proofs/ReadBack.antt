@@ -10,7 +10,7 @@ use lib.Dec.{ltb, eqb, leb}
 use lib.IntN.{ℤ, pos, negsuc}
 use lib.Signed.{mag}
 use lib.ListN.{length, length-append}
-use lib.Seq.{take-all}
+use lib.Seq.{take-all, drop-at}
 use borrow.Author.Tests.{lt-ltb, le-leb}
 use Rattle.paper.specs.Lists.{pick}
 use Rattle.paper.specs.Numbers.{allNumbersMost}
@@ -25,6 +25,12 @@ use Rattle.text_protocol.specs.Line.{Call, noPairs, hasTerms, placeIn, pairFits
 use Rattle.text_protocol.specs.Line.{meaning}
 use Rattle.text_protocol.specs.Written.{CallWord, here, behind, Numbers, done, one, two, Says, says}
 use Rattle.text_protocol.proofs.Reading.{says-reads}
+use Rattle.text_protocol.specs.declared.Kept.{Kept}
+use Rattle.text_protocol.specs.Names.{the}
+use Rattle.text_protocol.specs.Calls.{call, deedOf, callOf, deskCall, figuresBehind, askedOf}
+use Rattle.paper_desk.specs.Desk.{evaluate}
+use Rattle.paper.specs.Terms.{dayOf}
+use Rattle.paper.specs.Ranges.{unsigned}
 use Rattle.night_protocol.specs.Sheet.{termText, dayText, headText}
 
 evaluate-called : CallWord evaluateWord evaluateKind
@@ -229,3 +235,12 @@ module _ (p : Pairs) (id : ℕ) (day b m k0 l0 h0 k1 l1 h1 k2 l2 h2 : ℤ) (ids 
             behind-short (pick (p .third) slash space) h2 fh2,
             spaced-short figures ff,
           ))
+
+-- the same as a call of the desk, whatever is kept of interest lines: the evaluation of the security on that day, with
+-- those rows
+pub evaluation-of-that-day : (k : Kept) (p : Pairs) (id : ℕ) (figures zs : List ℤ) → length zs ≡ 12
+    → deedOf k (Call evaluateKind (pos id ∷ (zs ++ figures)) p)
+    ≡ call (evaluate id (dayOf (askedOf k (pos id ∷ (zs ++ figures)) p)) figures)
+unfolding deedOf callOf deskCall figuresBehind evaluateNames placeOf code the unsigned
+evaluation-of-that-day k p id figures zs l =
+    ap (λ (x : List ℤ). call (evaluate id (dayOf (askedOf k (pos id ∷ (zs ++ figures)) p)) x)) (drop-at zs figures 12 l)
