@@ -1,6 +1,6 @@
 // Runs a WebAssembly program of a release on each file of an index, in one process, as outside/pieces.py runs a program
 // for `each`: a line of the index is the words and then the file. It prints the answers, and the line before those of
-// `listen`.
+// `listen` and `night`. What `night` says of a bad text, on standard error and perhaps with status 1, is its answer.
 //   node outside/modules.mjs FOLDER NAME <INDEX
 // FOLDER is an unpacked release of WebAssembly. Status 1 says that a program ended with another status than 0.
 import fs from 'node:fs';
@@ -21,11 +21,14 @@ function answers(words, input) {
         return some.length;
     };
     const write = (to, bytes) => {
-        if (to === 1) answered.push(Buffer.from(bytes));
+        if (to === 1 || name === 'night') answered.push(Buffer.from(bytes));
         return bytes.length;
     };
-    if (run(module, [name, ...words], read, write) !== 0) throw new Error(`${name} fails on ${words.join(' ')}`);
-    return Buffer.concat(answered);
+    const status = run(module, [name, ...words], read, write);
+    const answer = Buffer.concat(answered);
+    const isBadText = name === 'night' && status === 1 && /^15 [0-9]+\n$/.test(answer.toString());
+    if (status !== 0 && !isBadText) throw new Error(`${name} fails on ${words.join(' ')}`);
+    return answer;
 }
 
 try {
@@ -33,7 +36,8 @@ try {
         const words = line.split(' ');
         const file = words.pop();
         const text = answers(words, fs.readFileSync(file));
-        process.stdout.write(name === 'listen' ? Buffer.concat([Buffer.from(`${line}\n`), text]) : text);
+        if (['listen', 'night'].includes(name)) process.stdout.write(`${line}\n`);
+        process.stdout.write(text);
     }
 } catch (error) {
     console.error(`modules: ${error.message}`);

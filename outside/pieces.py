@@ -1,12 +1,12 @@
 #!/usr/bin/env python3
 """In pieces: the proved programs answer alike whatever pieces their input comes in, and however slowly they are read.
 
-    outside/pieces.py SEED REFERENCE all FOLDER          sends each program (evening, why, broadcast, listen, exchange)
-                                                         a short input, cut at every byte and ended at every byte; the
-                                                         evening and the messages that outside/compare left in the
-                                                         folder, in random pieces, and to a reader that takes few bytes
-                                                         at a time; lines, messages and texts of the greatest lengths
-                                                         in pieces. The answers have to be the reference's
+    outside/pieces.py SEED REFERENCE all FOLDER          sends each program (evening, why, broadcast, listen, exchange,
+                                                         night) a short input, cut at every byte and ended at every
+                                                         byte; the evening and the messages that outside/compare left
+                                                         in the folder, in random pieces, and to a reader that takes
+                                                         few bytes at a time; lines, messages and texts of the greatest
+                                                         lengths in pieces. The answers have to be the reference's
     outside/pieces.py SEED REFERENCE some FOLDER         the same without the short inputs, of which there are many
     outside/pieces.py SEED REFERENCE each NAME <INDEX    prints what the program answers to each file of the index, read
                                                          whole; in random pieces it has to be answered the same
@@ -24,6 +24,7 @@ import concurrent.futures
 import fcntl
 import os
 import random
+import re
 import signal
 import struct
 import subprocess
@@ -35,7 +36,12 @@ PATIENCE = 60  # seconds without a byte of answer after which a program is stuck
 PAGE = os.sysconf("SC_PAGE_SIZE")  # the least that a pipe holds
 SET_PIPE_SIZE = 1031  # Linux's F_SETPIPE_SZ, which older versions of Python do not name
 LONGEST = 65_535  # bytes of the longest line that may be a call (docs/EVENING.md)
-TEXT_MOST = 65_536  # bytes of the longest text of the exchange (docs/EXCHANGE.md)
+TEXT_MOST = 65_536  # bytes of the longest text that `exchange` takes (docs/EXCHANGE.md)
+NIGHT_MOST = 1_048_576  # bytes of the longest text that `night` takes
+# What is asked of a program that takes words.
+WORDS = {"exchange": ["7"], "night": "4 0 0 0 -1 1 1 0/1 2 0 0 8 7".split()}
+# The programs that answer at the end, to all of their input.
+AT_THE_END = ("exchange", "night")
 
 # A program's name, the command that runs it, and the command that asks the reference the same.
 Program = collections.namedtuple("Program", "name command reference")
@@ -49,6 +55,16 @@ class Ended(Exception):
     """A program ends before its input does, as `listen` has to behind a refused message."""
 
 
+def answer_of(name, said, error, status):
+    """What a program answers, or none where it fails. Of a bad text `night` says nothing but the line, on standard
+    error. It may then end with status 1, and so may `listen` where it printed `refused`."""
+    if name == "night" and status in (0, 1) and not said and re.fullmatch(rb"15 [0-9]+\n", error):
+        return error
+    if name == "listen" and status == 1 and any(line.startswith(b"refused ") for line in said.splitlines()):
+        status = 0
+    return None if error or status else said
+
+
 # ---- a program that is fed and read by hand
 
 def unread(pipe):
@@ -58,27 +74,21 @@ def unread(pipe):
     return number[0]
 
 
-def ends_well(command, status, answered):
-    """Whether the status is a right one: 0, or 1 where `nedrubal listen` printed `refused`."""
-    refused = command[-1] == "listen" and any(line.startswith(b"refused ") for line in answered.splitlines())
-    return status == 0 or (status == 1 and refused)
-
-
 class Run:
     """One run. With `few`, which draws numbers, the answers go through a pipe of one page and are taken by few bytes,
     and the program is stopped and continued whenever that pipe is full, so that its `write` of more returns early."""
 
-    def __init__(self, command, few=None):
+    def __init__(self, program, few=None):
         their_input, self.input = os.pipe()
         self.output, their_output = os.pipe()
-        self.command = command
+        self.name = program.name
         self.few = few
         self.answered = bytearray()
         if few:
             fcntl.fcntl(self.output, SET_PIPE_SIZE, PAGE)
         os.set_blocking(self.input, False)
         os.set_blocking(self.output, False)
-        self.process = subprocess.Popen(command, stdin=their_input, stdout=their_output, stderr=subprocess.PIPE)
+        self.process = subprocess.Popen(program.command, stdin=their_input, stdout=their_output, stderr=subprocess.PIPE)
         os.close(their_input)
         os.close(their_output)
 
@@ -133,9 +143,10 @@ class Run:
             self.wait(lambda: False, "end where its input ends")
         except Ended:
             said, status = self.process.stderr.read(), self.process.wait()
-        if said or not ends_well(self.command, status, bytes(self.answered)):
+        answer = answer_of(self.name, bytes(self.answered), said, status)
+        if answer is None:
             raise Wrong("it ends with status %d and says %r" % (status, said))
-        return bytes(self.answered)
+        return answer
 
     def close(self):
         """Leaves nothing behind, also where the program is stuck."""
@@ -149,9 +160,18 @@ class Run:
 
 # ---- an input in pieces
 
+def asked(name, command, **of):
+    """What a command answers that is run by itself."""
+    run = subprocess.run(command, stdout=subprocess.PIPE, stderr=subprocess.PIPE, **of)
+    answer = answer_of(name, run.stdout, run.stderr, run.returncode)
+    if answer is None:
+        raise subprocess.CalledProcessError(run.returncode, command, run.stdout, run.stderr)
+    return answer
+
+
 def theirs(program, script):
     """What the reference answers."""
-    return subprocess.run(program.reference, input=script, stdout=subprocess.PIPE, check=True).stdout
+    return asked(program.name, program.reference, input=script)
 
 
 def cut(script, places):
@@ -173,7 +193,7 @@ def random_places(drawn, length, mean):
 def sent(program, how, pieces, expected, few=None, at_once=b""):
     """Sends an input in pieces, and holds the answers to what is expected. What is expected `at_once` has to be
     answered to the first piece before the second is sent."""
-    run = Run(program.command, few)
+    run = Run(program, few)
     number = 0
     try:
         try:
@@ -205,9 +225,9 @@ def at_fault(program, pieces, same):
 
 
 def whole_in(program, first):
-    """What is answered to the first bytes of an input before more of it is there: all that is whole in them. The
-    exchange has one answer, to all of its text."""
-    if program.name == "exchange":
+    """What is answered to the first bytes of an input before more of it is there: all that is whole in them. A text
+    of the exchange has one answer, to all of it."""
+    if program.name in AT_THE_END:
         return b""
     if program.name == "listen":
         return theirs(program, first).split(b"refused")[0]
@@ -226,6 +246,7 @@ SHORT = {
     "broadcast": LINES,
     "listen": UNKNOWN + MOVE,
     "exchange": ROW + b"9;1;2.5;0;;1;2;0\r\n007;1;1;-7.3;4;2;3;9\n",
+    "night": ROW + b"9;1;2.5;0;;1;2;0\r\n007;1;1;-7.3;4;2;3;9\n",
 }
 
 
@@ -258,6 +279,11 @@ def long_inputs(name):
     if name == "exchange":
         texts = [ROW.rjust(TEXT_MOST + more, b"0") for more in (-1, 0, 1, TEXT_MOST)]
         texts += [texts[1][:-1], (b"9" + ROW[1:]) * (TEXT_MOST // len(ROW) - 1) + ROW]
+        return [(text, [len(text) - 1]) for text in texts]
+    if name == "night":
+        rows = b"".join(b"%d" % (1 + number % 512) + ROW[1:] for number in range(512 * 16))
+        texts = [ROW.rjust(NIGHT_MOST + more, b"0") for more in (-1, 0, 1, NIGHT_MOST)]
+        texts += [texts[1][:-1], rows, rows + ROW, rows.rjust(NIGHT_MOST, b"0")]
         return [(text, [len(text) - 1]) for text in texts]
     inputs = []
     for length in LONGEST, LONGEST + 1, LONGEST + 2, 2 * LONGEST + 1, 3 * LONGEST:
@@ -292,8 +318,8 @@ def send_all(pool, seed, reference, folder, command, with_short):
     def inputs():
         for program in programs(reference, SHORT, command):
             drawn = random.Random("%s %s" % (seed, program.name))
-            if program.name == "exchange":
-                program = asking(program, ["7"])
+            program = asking(program, WORDS.get(program.name, []))
+            if program.name in AT_THE_END:
                 few = random.Random(drawn.random())
                 yield program, "read by few bytes", [ROW * 16], theirs(program, ROW * 16), few
             else:
@@ -312,22 +338,20 @@ def send_each(pool, seed, reference, name, command):
 
     def both(line):
         *words, file = line.split()
-        asked = asking(program, words)
+        of_words = asking(program, words)
         with open(file, "rb") as script:
-            ran = subprocess.run(asked.command, stdin=script, stdout=subprocess.PIPE)
-            whole = ran.stdout
-            if not ends_well(asked.command, ran.returncode, whole):
-                raise Wrong("%s: it ends with status %d" % (line, ran.returncode))
+            whole = asked(name, of_words.command, stdin=script)
             script.seek(0)
             text = script.read()
         drawn = random.Random("%s %s" % (seed, line))
         places = [drawn.randrange(len(text) + 1) for _ in range(drawn.randrange(1, 6))]
-        sent(asked, line, cut(text, places), whole)
+        sent(of_words, line, cut(text, places), whole)
         return whole
     index = sys.stdin.read().splitlines()
     for line, answers in zip(index, pool.map(both, index)):
-        # The lines of a stream stand behind its name, as the other readers print them.
-        sys.stdout.buffer.write((line.encode() + b"\n" if name == "listen" else b"") + answers)
+        # Where an answer may have many lines they stand behind that of the index, as the other readers print them.
+        is_headed = name in ("listen", "night")
+        sys.stdout.buffer.write((line.encode() + b"\n" if is_headed else b"") + answers)
 
 
 def main(words):

@@ -14,6 +14,7 @@ use reference::count_headings::count_headings;
 use reference::count_interest::count_interest;
 use reference::count_inward::count_inward;
 use reference::count_listen::count_listen;
+use reference::count_night::count_night;
 use reference::count_outside::count_outside;
 use reference::count_replacement::count_replacement;
 use reference::count_session::count_session;
@@ -25,15 +26,18 @@ use reference::{broadcast, compare, count, exchange, gateway, listen, protocol, 
 const USAGE: &str = "usage: reference evening | why | gateway | \
 exchange ID | \
 exchange-index | \
+night DAY B M K0 RRCL0 RRCH0 K1 RRCL1 RRCH1 K2 RRCL2 RRCH2 [ID...] | night-index | \
 broadcast | listen | listen-index | \
 script-evening SEED LINES | \
 script-gateway SEED LINES | \
 script-exchange SEED TEXTS FOLDER | \
+script-night SEED TEXTS FOLDER | \
 script-listen SEED STREAMS FOLDER | \
 count [gateway | \
 interest | \
 replacement | \
 exchange | \
+night | \
 crossed | \
 bond | \
 why | \
@@ -72,16 +76,34 @@ fn run(words: &[&str]) -> io::Result<ExitCode> {
         ["gateway"] => gateway::gateway(input, output)?,
         ["exchange", id] => {
             let id = exchange::asked_id(id.as_bytes()).ok_or_else(|| unusable(USAGE))?;
-            let text = exchange::taken(input)?;
+            let text = exchange::taken(input, exchange::TEXT_MAX)?;
             writeln!(output, "{}", exchange::Printed(exchange::read(&text, id)))?;
             output.flush()?;
         }
         ["exchange-index"] => exchange::index::answer(input, output)?,
+        ["night", words @ ..] => {
+            let words: Vec<&[u8]> = words.iter().map(|word| word.as_bytes()).collect();
+            let asked =
+                reference::night::Asked::from_words(&words).ok_or_else(|| unusable(USAGE))?;
+            let text = exchange::taken(input, reference::night::TEXT_MAX)?;
+            match reference::night::evaluations(&asked, &text) {
+                Ok(lines) => output.write_all(lines.as_bytes())?,
+                Err(bad) => {
+                    eprintln!("{bad}");
+                    return Ok(ExitCode::from(DIFFERENT));
+                }
+            }
+            output.flush()?;
+        }
+        ["night-index"] => reference::night::index::answer(input, output)?,
         ["broadcast"] => broadcast::broadcast(input, output)?,
         ["listen"] => listen::listen(input, output)?,
         ["listen-index"] => listen::listen_index(input, output)?,
         ["script-exchange", seed, texts, folder] => {
             script::exchange::write(parsed(seed)?, parsed(texts)?, Path::new(folder), output)?;
+        }
+        ["script-night", seed, texts, folder] => {
+            script::night::write(parsed(seed)?, parsed(texts)?, Path::new(folder), output)?;
         }
         ["script-listen", seed, streams, folder] => {
             script::listen::write(parsed(seed)?, parsed(streams)?, Path::new(folder), output)?;
@@ -107,6 +129,7 @@ fn run(words: &[&str]) -> io::Result<ExitCode> {
         ["count", "why"] => return told(&count_why(input)?),
         ["count", "admission"] => return told(&count_admission(input)?),
         ["count", "exchange"] => return told(&count_exchange(input)?),
+        ["count", "night"] => return told(&count_night(input)?),
         ["count", "listen"] => return told(&count_listen(input)?),
         ["count", "headings"] => return told(&count_headings(input)?),
         ["compare", first, second, script] => {

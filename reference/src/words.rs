@@ -1,6 +1,6 @@
 //! Lines of words and numbers, and the loop that answers them.
 
-use std::fmt::Display;
+use std::fmt::{self, Display};
 use std::io::{self, BufRead, Write};
 
 use crate::interest::Pair;
@@ -95,6 +95,15 @@ impl Word {
         match self {
             Word::Number(_) => None,
             Word::Pair(pair) => Some(pair),
+        }
+    }
+}
+
+impl fmt::Display for Word {
+    fn fmt(&self, f: &mut fmt::Formatter<'_>) -> fmt::Result {
+        match self {
+            Word::Number(number) => number.fmt(f),
+            Word::Pair(Pair { ym, yn }) => write!(f, "{ym}/{yn}"),
         }
     }
 }

@@ -15,7 +15,7 @@ use crate::units::{Range, CENTRAL_RATE, DAYS_AHEAD, ID, REPO_RATE, ROW_PRICE, RO
 /// The most bytes of a text.
 pub const TEXT_MAX: usize = 65_536;
 /// The line at which a longer text is bad.
-const TOO_LONG: usize = 0;
+pub const TOO_LONG: usize = 0;
 /// Every number above it is as far out of every range as itself, with four
 /// decimals or without.
 const FAR: i64 = 1_000_000_000_000;
@@ -39,7 +39,7 @@ pub struct BadLine(pub usize);
 pub type Reading = Result<Rows, BadLine>;
 
 impl Rows {
-    const NONE: Rows = Rows {
+    pub const NONE: Rows = Rows {
         numbers: [0; ROWS_MAX],
         count: 0,
     };
@@ -54,7 +54,7 @@ impl Rows {
     }
 
     /// Adds a row; none where there is no room for it.
-    fn push(&mut self, row: &[i64; ROW]) -> Option<()> {
+    pub fn push(&mut self, row: &[i64; ROW]) -> Option<()> {
         let start = ROW * self.count;
         let place = self.numbers.get_mut(start..start + ROW)?;
         place.copy_from_slice(row);
@@ -88,13 +88,13 @@ pub fn read(text: &[u8], id: i64) -> Reading {
 }
 
 /// What is left of the text.
-struct Cursor<'t> {
-    rest: &'t [u8],
+pub struct Cursor<'t> {
+    pub rest: &'t [u8],
 }
 
 impl Cursor<'_> {
     /// A line with its end: the id and the row. None where it is bad.
-    fn line(&mut self) -> Option<(i64, [i64; ROW])> {
+    pub fn line(&mut self) -> Option<(i64, [i64; ROW])> {
         let id = self.whole(&ID)?;
         self.semicolon()?;
         let days = self.whole(&DAYS_AHEAD)?;
@@ -218,14 +218,21 @@ impl fmt::Display for Printed {
                 let mut numbers = rows.numbers().iter();
                 numbers.try_for_each(|number| write!(f, " {number}"))
             }
-            Err(BadLine(line)) => write!(f, "{} {line}", Refusal::BadLine.number()),
+            Err(bad) => bad.fmt(f),
         }
     }
 }
 
-/// Takes a text from an input: no more of it than tells that it is too long.
-pub fn taken(input: impl BufRead) -> io::Result<Vec<u8>> {
-    let mut text = Vec::with_capacity(TEXT_MAX + 2);
-    input.take(TEXT_MAX as u64 + 1).read_to_end(&mut text)?;
+impl fmt::Display for BadLine {
+    fn fmt(&self, f: &mut fmt::Formatter<'_>) -> fmt::Result {
+        write!(f, "{} {}", Refusal::BadLine.number(), self.0)
+    }
+}
+
+/// Takes a text of at most so many bytes from an input: no more of it than tells
+/// that it is too long.
+pub fn taken(input: impl BufRead, most: usize) -> io::Result<Vec<u8>> {
+    let mut text = Vec::with_capacity(most + 2);
+    input.take(most as u64 + 1).read_to_end(&mut text)?;
     Ok(text)
 }

@@ -12,6 +12,7 @@ mod headings;
 mod interest;
 mod inward;
 pub mod listen;
+pub mod night;
 mod outside;
 mod quote;
 mod replacement;

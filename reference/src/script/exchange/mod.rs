@@ -2,8 +2,8 @@
 //! edge of a text, then texts of any kind.
 
 mod fields;
-mod sheet;
-mod themes;
+pub(super) mod sheet;
+pub(super) mod themes;
 
 use std::io::{self, Write};
 use std::path::Path;

@@ -214,7 +214,7 @@ fn faulty_line(random: &mut Random, id: i64, place: usize, fault: Fault) -> Line
 }
 
 /// A line with any one fault.
-fn any_faulty_line(random: &mut Random, id: i64) -> Line {
+pub fn any_faulty_line(random: &mut Random, id: i64) -> Line {
     let place = random.below(LINE.len());
     let (fault, _) = random.pick(&Fault::ALL);
     let fault = if fault.is_of(&LINE[place]) {
