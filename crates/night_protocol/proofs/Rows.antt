@@ -126,17 +126,35 @@ room-rows lines zs e =
     first true b h = refl
     first false b h = h
 
-is-of : (id : ℕ) (zs : List ℤ) → isOf id zs ≡ eqb (idOf zs) id
+pub is-of : (id : ℕ) (zs : List ℤ) → isOf id zs ≡ eqb (idOf zs) id
 unfolding isOf idOf
 is-of id zs = refl
 
 -- what the reading makes of a line behind which others stand
-abbrev onWith : (id n : ℕ) → List (List ℤ) → List ℕ → List (List ℕ) → List ℤ → Reading
+abbrev pub onWith : (id n : ℕ) → List (List ℤ) → List ℕ → List (List ℕ) → List ℤ → Reading
 onWith id n lines q ps zs =
     pick (isOf id zs)
     (pick (ltb (length (rowsIn id lines)) rowsMost) (collect id (suc n) (rowsIn id lines ++ drop 1 zs ∷ []) (q ∷ ps))
     (refused n))
     (collect id (suc n) (rowsIn id lines) (q ∷ ps))
+
+-- a line that has room is read as the reading reads it, whichever the id
+pub line-collects : (id n : ℕ) (lines : List (List ℤ)) (q : List ℕ) (ps : List (List ℕ)) (zs : List ℤ)
+    → hasRoom lines zs ≡ true
+    → onWith id n lines q ps zs ≡ collect id (suc n) (rowsIn id (lines ++ zs ∷ [])) (q ∷ ps)
+line-collects id n lines q ps zs r = rw (is-of id zs) (go (eqb (idOf zs) id) refl)
+  where
+    go : (b : Bool) → eqb (idOf zs) id ≡ b
+        → pick b
+        (pick (ltb (length (rowsIn id lines)) rowsMost)
+        (collect id (suc n) (rowsIn id lines ++ drop 1 zs ∷ []) (q ∷ ps))
+        (refused n))
+        (collect id (suc n) (rowsIn id lines) (q ∷ ps))
+        ≡ collect id (suc n) (rowsIn id (lines ++ zs ∷ [])) (q ∷ ps)
+    go true f =
+        let g : idOf zs ≡ id = eqb-true (idOf zs) id f in
+        rw (rw g at (room-rows lines zs r), rows-own id lines zs g)
+    go false f = rw (rows-other id lines zs (eqb-false (idOf zs) id f))
 
 collects : (id n : ℕ) (lines : List (List ℤ)) (ps : List (List ℕ)) (all : List (List ℤ))
     → gather n lines ps ≡ good all → collect id n (rowsIn id lines) ps ≡ accepted (rowsIn id all)
@@ -151,23 +169,6 @@ collects id n lines (p ∷ []) all e = go (eqb (length p) 0) e
 collects id n lines (p ∷ q ∷ ps) all e =
     at-line (line (p ++ lineFeed ∷ [])) e (λ zs h. collects id (suc n) (lines ++ zs ∷ []) (q ∷ ps) all h)
   where
-    at-id : (zs : List ℤ) → hasRoom lines zs ≡ true
-        → collect id (suc n) (rowsIn id (lines ++ zs ∷ [])) (q ∷ ps) ≡ accepted (rowsIn id all)
-        → onWith id n lines q ps zs ≡ accepted (rowsIn id all)
-    at-id zs r h = rw (is-of id zs) (go (eqb (idOf zs) id) refl)
-      where
-        go : (b : Bool) → eqb (idOf zs) id ≡ b
-            → pick b
-            (pick (ltb (length (rowsIn id lines)) rowsMost)
-            (collect id (suc n) (rowsIn id lines ++ drop 1 zs ∷ []) (q ∷ ps))
-            (refused n))
-            (collect id (suc n) (rowsIn id lines) (q ∷ ps))
-            ≡ accepted (rowsIn id all)
-        go true f =
-            let g : idOf zs ≡ id = eqb-true (idOf zs) id f in
-            rw (rw g at (room-rows lines zs r)) (rw (rows-own id lines zs g) at h)
-        go false f = rw (rows-other id lines zs (eqb-false (idOf zs) id f)) at h
-
     at-line : (x : Front (List ℤ))
         → orBad x n (λ zs. pick (hasRoom lines zs) (gather (suc n) (lines ++ zs ∷ []) (q ∷ ps)) (bad n)) ≡ good all
         → ((zs : List ℤ) → gather (suc n) (lines ++ zs ∷ []) (q ∷ ps) ≡ good all
@@ -178,7 +179,7 @@ collects id n lines (p ∷ q ∷ ps) all e =
       where
         go : (b : Bool) → hasRoom lines zs ≡ b → pick b (gather (suc n) (lines ++ zs ∷ []) (q ∷ ps)) (bad n) ≡ good all
             → onWith id n lines q ps zs ≡ accepted (rowsIn id all)
-        go true r g = at-id zs r (on zs g)
+        go true r g = line-collects id n lines q ps zs r ∙ on zs g
         go false r g = impossible cc
 
 -- THE READING OF `exchange`, which takes shorter texts, SAYS THE SAME ROWS of every id
