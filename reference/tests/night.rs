@@ -55,7 +55,8 @@ fn then_a_line_without_rows_for_each_other_given_id() {
     assert_eq!(of("9 7 8 9 08"), more);
     assert_eq!(said(&format!("{DAY} 8"), ""), Ok(vec![evaluation(8, "")]));
     // An id that no security has is a number too: the evening refuses it.
-    assert_eq!(of("0 -5")[1..], [evaluation(0, ""), evaluation(-5, "")]);
+    let more = [evaluation(0, ""), evaluation(1_000_000_001, "")];
+    assert_eq!(of("-0 1000000001")[1..], more);
 }
 
 #[test]
@@ -116,6 +117,12 @@ fn wrong_words() {
     // With a pair in place of two numbers the last words are ids.
     assert!(is_asked("4 0 0 0 0/1 1 0/1 2 0/1"));
     assert!(!is_asked("4 0 0 0 0/1 1 0/1 2 0"));
+    // An id is not below 0, and there are at most 512.
+    assert!(is_asked(&format!("{DAY} -0 9223372036854775807")));
+    assert!(!is_asked(&format!("{DAY} -1")));
+    assert!(!is_asked(&format!("{DAY} 7 -9223372036854775808 8")));
+    assert!(is_asked(&format!("{DAY}{}", " 7".repeat(512))));
+    assert!(!is_asked(&format!("{DAY}{}", " 7".repeat(513))));
 }
 
 #[test]

@@ -18,6 +18,8 @@ use crate::words::{number_or_pair, Word};
 pub const TEXT_MAX: usize = 1_048_576;
 /// The most securities of a text: a table has no more slots.
 pub const SECURITIES_MAX: usize = SLOTS_MAX;
+/// The most ids that may be given, as many as a table has slots.
+pub const IDS_MAX: usize = SLOTS_MAX;
 /// Terms of an evaluation.
 const TERMS: usize = 3;
 
@@ -30,8 +32,9 @@ pub struct Asked {
 }
 
 impl Asked {
-    /// What the words of a command ask; none where one is no number, or a number
-    /// is missing. A pair may stand for the band of a term.
+    /// What the words of a command ask; none where one is no number, a number is
+    /// missing, an id is below 0, or there are too many ids. A pair may stand for
+    /// the band of a term.
     pub fn from_words(words: &[&[u8]]) -> Option<Asked> {
         use Word::{Number, Pair};
         let words: Option<Vec<Word>> = words.iter().map(|word| number_or_pair(word)).collect();
@@ -47,9 +50,13 @@ impl Asked {
                 _ => return None,
             };
         }
+        let ids = numbers(rest)?;
+        if ids.len() > IDS_MAX || ids.iter().any(|id| *id < 0) {
+            return None;
+        }
         Some(Asked {
             day: words[..words.len() - rest.len()].to_vec(),
-            ids: numbers(rest)?,
+            ids,
         })
     }
 }

@@ -7,7 +7,7 @@ use std::path::Path;
 
 use crate::exchange::TEXT_MAX as EXCHANGE_MAX;
 use crate::night::plain::ROWS_MAX;
-use crate::night::{SECURITIES_MAX, TEXT_MAX};
+use crate::night::{IDS_MAX, SECURITIES_MAX, TEXT_MAX};
 use crate::random::Random;
 use crate::units::ID;
 
@@ -189,7 +189,7 @@ const BAD_LINES: [BadLine; 11] = [
     BadLine::WithIds,
 ];
 const ENDS: [&[&[u8]]; 2] = [&[b"\r\n"], &[b"\n", b"\r\n"]];
-const IDS: [Ids; 19] = [
+const IDS: [Ids; 17] = [
     Ids::None,
     Ids::Has,
     Ids::HasAlone,
@@ -203,10 +203,8 @@ const IDS: [Ids; 19] = [
     Ids::TwoSpellings,
     Ids::Word("0"),
     Ids::Word("-0"),
-    Ids::Word("-7"),
     Ids::Word("1000000001"),
     Ids::Word("1000000000"),
-    Ids::Word("-9223372036854775808"),
     Ids::Word("9223372036854775807"),
     Ids::Wraps,
 ];
@@ -577,9 +575,10 @@ fn ids_text(random: &mut Random, theme: Ids, words: &mut Vec<String>) -> Vec<u8>
         Ids::TwiceHas => vec![has.clone(), has],
         Ids::TwiceHasNot => vec![other.clone(), has, other],
         Ids::Descending | Ids::Many => {
-            let count = if matches!(theme, Ids::Many) { 700 } else { 9 };
-            let mut given = some_ids(random, count);
+            let count = if matches!(theme, Ids::Many) { IDS_MAX } else { 9 };
+            let mut given = some_ids(random, count + ids.len());
             given.retain(|id| !ids.contains(id));
+            given.truncate(count);
             if matches!(theme, Ids::Descending) {
                 given.sort_unstable_by(|one, other| other.cmp(one));
             }
@@ -615,7 +614,7 @@ fn of_exchange(random: &mut Random) -> Night {
     let text = random.pick(&exchange_themes()).text(random);
     let mut words = any_day(random);
     // An exchange's id may have any size; a number of an evening may not.
-    if text.id.parse::<i64>().is_ok() && random.chance(50) {
+    if text.id.parse::<i64>().map_or(false, |id| id >= 0) && random.chance(50) {
         words.push(text.id);
     }
     Night {
