@@ -175,7 +175,7 @@ same_code() { # OBJECT OBJECT FOLDER
 linked_functions() { # KIND FILE [MAIN]
     "$(tool_for "$1" objdump)" -d --no-show-raw-insn "$2" | awk -v kind="$1" -v main="${3:-}" '
         function tell() {
-            if (name ~ /::|^nedrubal_(evening|why|broadcast|listen|exchange)$/) print name text
+            if (name ~ /::|^nedrubal_(evening|why|broadcast|listen|exchange|night)$/) print name text
             text = ""
         }
         /^[0-9a-f]+ <.*>:$/ {

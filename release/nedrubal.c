@@ -5,11 +5,12 @@
  *     nedrubal evening|why|broadcast [--strict] [FILE]
  *     nedrubal listen [FILE]
  *     nedrubal exchange ID <TEXT
+ *     nedrubal night DAY B M K0 RRCL0 RRCH0 K1 RRCL1 RRCH1 K2 RRCL2 RRCH2 [ID...] <TEXT
  *
- * A proved program always ends with 0, and says on standard error that it could not read or write. So its `write` is
- * the one below, which sees that: status 1. Status 2 says that the words are wrong or that FILE cannot be read. It also
- * sees the lines that are answered: with --strict, one that is refused or no call is status 3, and a message that
- * `listen` refuses is status 1.
+ * A proved program always ends with 0, and says on standard error that it could not read or write, or `night` which line
+ * of its text is bad. So its `write` is the one below, which sees that: status 1. Status 2 says that the words are wrong
+ * or that FILE cannot be read. It also sees the lines that are answered: with --strict, one that is refused or no call
+ * is status 3, and a message that `listen` refuses is status 1.
  */
 #include "arguments.h"
 #include <errno.h>
@@ -33,33 +34,43 @@ int nedrubal_why(void);
 int nedrubal_broadcast(void);
 int nedrubal_listen(void);
 int nedrubal_exchange(void);
+int nedrubal_night(void);
+
+/* What stands behind a program's name: --strict and a FILE, a FILE, or words that the program itself reads. */
+enum words { STRICT_FILE, A_FILE, OWN_WORDS };
 
 struct program {
     const char *name; /* behind a space */
     int (*run)(void);
+    enum words words;
     const char *usage;
 };
 
 #define STRICT "With --strict the status is 3 where a line was refused or was no call.\n"
 
 static const struct program programs[] = {
-    { " evening", nedrubal_evening,
+    { " evening", nedrubal_evening, STRICT_FILE,
       "usage: nedrubal evening [--strict] [FILE]\n"
       "Runs an evening on FILE, or on standard input. A line is a call and gets a line of answer.\n" STRICT },
-    { " why", nedrubal_why,
+    { " why", nedrubal_why, STRICT_FILE,
       "usage: nedrubal why [--strict] [FILE]\n"
       "Runs an evening on FILE, or on standard input. An evaluation is answered with what set its figures.\n" STRICT },
-    { " broadcast", nedrubal_broadcast,
+    { " broadcast", nedrubal_broadcast, STRICT_FILE,
       "usage: nedrubal broadcast [--strict] [FILE]\n"
       "Runs an evening on FILE, or on standard input, and writes the messages that members are sent, in bytes.\n"
       STRICT },
-    { " listen", nedrubal_listen,
+    { " listen", nedrubal_listen, A_FILE,
       "usage: nedrubal listen [FILE]\n"
       "Reads messages from FILE, or from standard input, and prints a line for each.\n"
       "The status is 1 where one is refused.\n" },
-    { " exchange", nedrubal_exchange,
+    { " exchange", nedrubal_exchange, OWN_WORDS,
       "usage: nedrubal exchange ID <TEXT\n"
       "Reads the exchange's text and prints the rows of security ID, as the end of an evaluate line takes them.\n" },
+    { " night", nedrubal_night, OWN_WORDS,
+      "usage: nedrubal night DAY B M K0 RRCL0 RRCH0 K1 RRCL1 RRCH1 K2 RRCL2 RRCH2 [ID...] <TEXT\n"
+      "Reads the exchange's text and prints an evaluate line for each of its securities, then one without rows for\n"
+      "each ID that the text does not have. A pair YM/YN may stand in place of each RRCL RRCH.\n"
+      "The status is 1 where the text is bad: standard error says 15 and the line.\n" },
 };
 enum { PROGRAMS = sizeof programs / sizeof *programs };
 
@@ -70,11 +81,12 @@ static const char about[] =
     "  broadcast [FILE]     the same, where the messages to members are written, in bytes\n"
     "  listen [FILE]        reads such messages, and prints a line for each\n"
     "  exchange ID <TEXT    the rows of one security in the exchange's text\n"
+    "  night DAY.. <TEXT    an evaluate line for each security of the exchange's text\n"
     "  PROGRAM -h           what one program takes\n"
     "  --version            which release this is\n"
-    "Without FILE a program reads standard input. The status is 0; 1 where it could not read or write, or listen\n"
-    "printed a refusal; 2 where the words are wrong or FILE cannot be read. With --strict behind evening, why or\n"
-    "broadcast it is 3 where a line was refused or was no call.\n";
+    "Without FILE a program reads standard input. The status is 0; 1 where it could not read or write, listen printed\n"
+    "a refusal, or night's text is bad; 2 where the words are wrong or FILE cannot be read. With --strict behind\n"
+    "evening, why or broadcast it is 3 where a line was refused or was no call.\n";
 
 /* Writes a text whole, and says whether it could. */
 static int say(int to, const char *text)
@@ -131,7 +143,7 @@ static int stream_is_closed(const struct program *program, const char *what)
 
 /* ---- what the proved program does */
 
-/* What it has said on standard error: nothing, that it could not, or a usage. */
+/* What it has said on standard error: nothing, that it could not or that a text is bad, or a usage. */
 static int said;
 
 /* Which lines that it prints are looked for, and whether one was found. */
@@ -268,8 +280,8 @@ static int run(const struct program *program, int count, char **words)
     if (is_closed(STDOUT_FILENO))
         return stream_is_closed(program, ": could not write: standard output is closed\n");
     int is_strict = 0;
-    if (program->run != nedrubal_exchange) {
-        if (count > 1 && program->run != nedrubal_listen && strcmp(words[1], "--strict") == 0) {
+    if (program->words != OWN_WORDS) {
+        if (count > 1 && program->words == STRICT_FILE && strcmp(words[1], "--strict") == 0) {
             is_strict = 1;
             words++;
             count--;
