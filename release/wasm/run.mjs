@@ -1,9 +1,11 @@
 // Runs a proved program that is compiled to WebAssembly, by node: standard input and output are the program's own.
-//   node run.mjs PROGRAM [WORD...] <INPUT
-// PROGRAM is the path of a module, or the name of one that stands beside this file: evening, why, broadcast, listen, or
-// exchange, which takes a WORD, the security's id. INTERFACE.md says what a module needs.
-// The status is 0; 1 where the program says on standard error that it could not read or write; 2 where the words are
-// wrong, or PROGRAM cannot be read.
+//   node run.mjs PROGRAM [--strict] [WORD...] <INPUT
+// PROGRAM is the path of a module, or the name of one that stands beside this file: evening, why, broadcast, listen;
+// exchange, which takes a WORD, the security's id; or night, which takes the numbers of a day and ids. INTERFACE.md says
+// what a module needs.
+// The status is 0; 1 where the program says on standard error that it could not read or write, listen printed a refusal,
+// or night's text is bad; 2 where the words are wrong, or PROGRAM cannot be read; 3, with --strict behind evening, why
+// or broadcast, where a line was refused or was no call.
 import fs from 'node:fs';
 import path from 'node:path';
 import process from 'node:process';
@@ -11,6 +13,7 @@ import { fileURLToPath } from 'node:url';
 
 const COULD_NOT = 1;
 const USAGE = 2;
+const REFUSED = 3;
 const STANDARD_OUTPUT = 1;
 const STANDARD_ERROR = 2;
 
@@ -85,21 +88,83 @@ function patiently(transfer) {
     }
 }
 
+// ---- what is printed
+
+const isNotAccepted = (line) => !line.startsWith('0');
+const isRefusedMessage = (line) => line.startsWith('refused ');
+
+// Looks at what is printed, in whatever pieces, and says whether a line passes a test of its beginning.
+function makeLooker(passes) {
+    const most = 'refused '.length;
+    let line = '';
+    let found = false;
+    return {
+        look: (bytes) => {
+            for (const byte of bytes) {
+                if (byte === 10) {
+                    found ||= passes(line);
+                    line = '';
+                } else if (line.length < most) {
+                    line += String.fromCharCode(byte);
+                }
+            }
+        },
+        found: () => found,
+    };
+}
+
+// Whether a line of an evening is refused, or is no call. What is written for members does not say so: `evening` does.
+function isRefusedBy(evening, input) {
+    const looker = makeLooker(isNotAccepted);
+    let at = 0;
+    const read = (_, bytes) => {
+        const some = input.subarray(at, at + bytes.length);
+        bytes.set(some);
+        at += some.length;
+        return some.length;
+    };
+    const write = (to, bytes) => {
+        if (to === STANDARD_OUTPUT) looker.look(bytes);
+        return bytes.length;
+    };
+    run(evening, ['evening'], read, write);
+    return looker.found();
+}
+
 function main(words) {
     if (words.length === 0) refuse('which program?');
     if (words[0] === '-h' || words[0] === '--help') {
         fs.writeSync(STANDARD_OUTPUT, usage());
         return 0;
     }
-    const module = load(words[0]);
+    const [program, ...given] = words;
+    const name = path.basename(program, '.wasm');
+    const module = load(program);
+    const isStrict = given[0] === '--strict' && ['evening', 'why', 'broadcast'].includes(name);
+    if (isStrict) given.shift();
     const takesWords = WebAssembly.Module.imports(module).some((one) => one.name === 'rattle_arg');
-    if (words.length > 1 && !takesWords) refuse(`${words[0]} reads standard input, and takes no '${words[1]}'`);
-    return run(
+    if (given.length > 0 && !takesWords) refuse(`${program} reads standard input, and takes no '${given[0]}'`);
+    const evening = isStrict && name === 'broadcast' ? load('evening') : null;
+    const heard = [];
+    const looker = makeLooker(name === 'listen' ? isRefusedMessage : isNotAccepted);
+    const isLookedAt = name === 'listen' || (isStrict && !evening);
+    const status = run(
         module,
-        words,
-        (from, bytes) => patiently(() => fs.readSync(from, bytes)),
-        (to, bytes) => patiently(() => fs.writeSync(to, bytes)),
+        [program, ...given],
+        (from, bytes) => {
+            const came = patiently(() => fs.readSync(from, bytes));
+            if (evening && came > 0) heard.push(Buffer.from(bytes.subarray(0, came)));
+            return came;
+        },
+        (to, bytes) => {
+            const taken = patiently(() => fs.writeSync(to, bytes));
+            if (isLookedAt && to === STANDARD_OUTPUT && taken > 0) looker.look(bytes.subarray(0, taken));
+            return taken;
+        },
     );
+    if (status !== 0) return status;
+    if (looker.found()) return name === 'listen' ? COULD_NOT : REFUSED;
+    return evening && isRefusedBy(evening, Buffer.concat(heard)) ? REFUSED : 0;
 }
 
 if (process.argv[1] !== undefined && fs.realpathSync(process.argv[1]) === here) {
