@@ -575,7 +575,11 @@ fn ids_text(random: &mut Random, theme: Ids, words: &mut Vec<String>) -> Vec<u8>
         Ids::TwiceHas => vec![has.clone(), has],
         Ids::TwiceHasNot => vec![other.clone(), has, other],
         Ids::Descending | Ids::Many => {
-            let count = if matches!(theme, Ids::Many) { IDS_MAX } else { 9 };
+            let count = if matches!(theme, Ids::Many) {
+                IDS_MAX
+            } else {
+                9
+            };
             let mut given = some_ids(random, count + ids.len());
             given.retain(|id| !ids.contains(id));
             given.truncate(count);
