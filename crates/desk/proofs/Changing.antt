@@ -1,15 +1,16 @@
--- The walk of `about`, the call that changes one record, whatever is asked and however it is passed on:
---     fn about(t: &mut [Record], id: u64, ..) -> Answer {
+-- The walk of `about` and `about_at`, the calls that change one record, whatever is asked and however it is passed on:
+--     fn call(t: &mut [Record], id: u64, ..) -> Answer {
 --         let s = take(t, id); let o = rule(s, ..); put(t, o.at, o.rec); o.answer
 --     }
--- The rule makes an effect of the slot of the id, the effect's record is stored at its place, and that is the paper's
--- step (`steps`). The walk has a step for each statement: `let-s`, `let-o`, `put-o` and `answer`.
+-- `about` takes the slot of an id, and `about_at` the one at a place: #take and `slot-of` say which. The rule makes an
+-- effect of the slot, the effect's record is stored at its place, and that is what is promised (`done`). The walk has a
+-- step for each statement: `let-s`, `let-o`, `put-o` and `answer`.
 --     function     the MIR of the shape
 --     ended, clauses    its signature, and what it promises
 --     Stands       what is asked of the locals: `search` finds it where the parameters are written out
 --     Located      what a call gives of its own locals: `Stands`, and its rule's operands
---     meets        the shape meets its contract, where `take`, the rule and `put` meet theirs, and the rule's effect is
---                  the call's step
+--     meets        the shape meets its contract, where the function that takes, the rule and `put` meet theirs, and the
+--                  rule's effect is what is promised
 -- A further ask changes nothing here, nor in any file of `desk`: it is an arm of the rule, `record_calls::effect_of`.
 -- Assumes `Given`.
 use mathlib.Core.Path.{_≡_, sym, subst}
@@ -42,15 +43,13 @@ use denote.Triple.Bound.{passed}
 use denote.Triple.Spec.{Meets}
 use denote.Triple.Clauses.{Clauses, Ended, closing}
 use Rattle.paper.specs.declared.Record.{Record}
-use Rattle.paper_desk.specs.Desk.{Call, step}
+use Rattle.paper.specs.declared.Answer.{Answer}
 use Rattle.paper.proofs.Answer as N
 use Rattle.paper.proofs.Answer.Laws as N′
 use Rattle.record_answers.specs.declared.Slot.{Slot}
 use Rattle.record_answers.specs.declared.Effect.{Effect}
-use Rattle.record_answers.specs.Effects.{slotOf, doneBy}
 use Rattle.record_answers.proofs.Slot.Laws as U′
 use Rattle.record_answers.proofs.Effect as O
-use Rattle.desk.specs.Promises.{Promised}
 use Rattle.desk.proofs.Row.{R, table-ty, word, S, effect-ty, effect-val, effect-is, typed-effect, answer-val}
 use Rattle.desk.proofs.Row.{makes-answer}
 use Rattle.desk.proofs.Frame.{Addresses, Locals, of-types, env-of, entry, held, holding, Within as In-frame}
@@ -60,14 +59,12 @@ use Rattle.desk.proofs.Meeting as Meeting
 use Rattle.desk.proofs.Passing.{Passing, taken, copies, OfSlot, rule-ended, rule-clauses, Rule, to-rule, Others}
 use Rattle.desk.proofs.Passing.{goes-rule}
 use Rattle.desk.proofs.Lending.{ℓt, Lending, rref, wref, Lends, lent}
-use Rattle.desk.proofs.Calls.{Take, Put, Owned, returned, taking, putting-effect, answering, takes}
+use Rattle.desk.proofs.Calls.{Taken, Put, Owned, returned, taking, putting-effect, answering, takes}
 use Rattle.desk.proofs.Calls.{effect-spelled, puts-effect, answers}
 use Rattle.desk.proofs.Asks.{consults-lent}
-use Rattle.desk.proofs.Steps.{promised}
-use Rattle.desk.proofs.take.Symbol.{name as #take}
 use Rattle.desk.proofs.put.Symbol.{name as #put}
 
-module _ {n : ℕ} (Y : Passing n) where
+module _ {n : ℕ} (Y : Passing n) (#take : Name) (slot-of : List Record → ℕ → Slot) where
   -- ---- the locals, by the names of the code; those after o are the compiler's own
   abbrev ℓid : ℕ
   ℓid = 2
@@ -90,7 +87,7 @@ module _ {n : ℕ} (Y : Passing n) where
   -- ---- the code
   -- let s = take(t, id);
   abbrev code-s : Body → Body
-  code-s = taking ℓt for-s ℓs (copy (place ℓid []))
+  code-s = taking #take ℓt for-s ℓs (copy (place ℓid []))
 
   -- let o = rule(s, ..);
   abbrev code-o : Name → Body → Body
@@ -114,17 +111,17 @@ module _ {n : ℕ} (Y : Passing n) where
   }
 
   -- ---- the contracts
-  -- the paper's call, of what was passed
-  abbrev pub CallMade : Type 0
-  CallMade = (κs : Lfts (suc n)) → ℕ → Denots (typesAt (Y .call .slots) κs) → Call
+  -- of what was passed and the table before: the answer and the table after
+  abbrev pub Ends : Type 1
+  Ends = (κs : Lfts (suc n)) → ℕ → Denots (typesAt (Y .call .slots) κs) → List Record → Answer → List Record → Type 0
 
-  abbrev promises : CallMade → Meeting.Says changes (taken Y) N.the-row
-  promises K κs x a r e = Promised (K κs (a .0) (a .1)) (now x) r (now e)
+  abbrev promises : Ends → Meeting.Says changes (taken Y) N.the-row
+  promises K κs x a r e = K κs (a .0) (a .1) (now x) r (now e)
 
   abbrev pub ended : Ended
   ended = Meeting.ended changes (taken Y) N.the-row
 
-  abbrev pub clauses : CallMade → {M : Type 1} (𝓤 : URA M) → Clauses 𝓤 ended
+  abbrev pub clauses : Ends → {M : Type 1} (𝓤 : URA M) → Clauses 𝓤 ended
   clauses K 𝓤 = Meeting.clauses changes (taken Y) N.the-row (promises K) 𝓤
 
   -- ---- what is asked of the locals
@@ -153,9 +150,10 @@ module _ {n : ℕ} (Y : Passing n) where
       pub answer-in : In-frame E 0
       pub answer-is : spotOf 𝓤 H E 0 .0 ≡ N′.mir
 
-  module _ (F : OfSlot Y O.the-row) (K : CallMade)
-      (steps : (t : List Record) (κs : Lfts (suc n)) (id : ℕ) (a : Denots (typesAt (Y .call .slots) κs))
-      → doneBy t (F (κs .1) (slotOf t id) (Y .to κs a)) ≡ step (K κs id a) t) (#rule : Name)
+  module _ (F : OfSlot Y O.the-row) (K : Ends)
+      (done : (t : List Record) (κs : Lfts (suc n)) (id : ℕ) (a : Denots (typesAt (Y .call .slots) κs))
+      → let o = F (κs .1) (slot-of t id) (Y .to κs a) in
+      K κs id a t (o .answer) (set t (o .at) (o .rec))) (#rule : Name)
       {M : Type 1} (𝓤 : URA M) (H : Heap 𝓤) (A : Atoms 𝓤) where
     module _ (W : Given 𝓤 H A) (mem : Memory → SProp 𝓤) (run : Routine → Fun 𝓤) where
       module _ (κs : Lfts (suc n)) (qs : Shares (suc n)) (x : RefT (List Record)) (id : ℕ)
@@ -171,7 +169,7 @@ module _ {n : ℕ} (Y : Passing n) where
 
         -- the slot that is taken, and the effect that the rule makes of it
         abbrev slot : Slot
-        slot = slotOf ys id
+        slot = slot-of ys id
 
         abbrev pub effect : Effect
         effect = F (κs .1) slot (Y .to κs a)
@@ -192,7 +190,7 @@ module _ {n : ℕ} (Y : Passing n) where
         exits is =
             Meeting.exits changes (taken Y) N.the-row (promises K) 𝓤 H A W κs x (id, a) qs (makes-answer 𝓤 H A)
             (set ys (effect .at) (effect .rec)) (effect .answer) (answer-val (effect .answer))
-            (length-set ys (effect .at) (effect .rec)) (promised (K κs id a) ys effect (steps ys κs id a))
+            (length-set ys (effect .at) (effect .rec)) (done ys κs id a)
             (effect-is effect (effect-val effect) is .1 .1)
 
         module _ (E : Env 𝓤 H) (cs : Locals) (C : Calls 𝓤 H) (Λ : Loops 𝓤 H) where
@@ -231,15 +229,15 @@ module _ {n : ℕ} (Y : Passing n) where
 
           module _ (room : Room R (length ys)) (gi : id < 2 ^ 64) (st : Stands 𝓤 H E cs b o ys id effect)
               (operands : Operands) (fm : FmC 𝓤 H (W .laws) C)
-              (known-take : Triple 𝓤 (C #take) (Take 𝓤 H A mem run)) (known-rule : Triple 𝓤 (C #rule)
+              (known-take : Triple 𝓤 (C #take) (Taken slot-of 𝓤 H A)) (known-rule : Triple 𝓤 (C #rule)
               (Rule Y O.the-row F 𝓤 H A))
               (known-put : Triple 𝓤 (C #put) (Put 𝓤 H A mem run)) where
             -- let s = take(t, id);
             let-s : {rest : Body} → ((w : Val) → Is S slot (w ∷ []) → Sq W (At-s w ∷ Ours) (Runs rest))
                 → Sq W (At ∷ Ours) (Runs (code-s rest))
             let-s =
-                takes 𝓤 H A W mem run (κs .0) (qs .0) b o (x .name) ys room fm known-take ℓt for-s ℓs (st .lends-s)
-                (st .s-in) (st .s-slot) id gi (λ Δ. value ! ℓid (st .id-held))
+                takes 𝓤 H A W mem run (κs .0) (qs .0) b o (x .name) ys room slot-of fm known-take ℓt for-s ℓs
+                (st .lends-s) (st .s-in) (st .s-slot) id gi (λ Δ. value ! ℓid (st .id-held))
 
             -- let o = rule(s, ..);
             let-o : {rest : Body} (w : Val) → Is S slot (w ∷ [])
@@ -276,7 +274,7 @@ module _ {n : ℕ} (Y : Passing n) where
             walk = let-s (λ w is. let-o w is (λ io. put-o w io (λ u. answer w u io)))
 
       -- what a call shows of its own locals, where its parameters are written out
-      module _ (𝓣 : Tables 𝓤 H) (known-take : Triple 𝓤 (𝓣 .C #take) (Take 𝓤 H A mem run))
+      module _ (𝓣 : Tables 𝓤 H) (known-take : Triple 𝓤 (𝓣 .C #take) (Taken slot-of 𝓤 H A))
           (known-rule : Triple 𝓤 (𝓣 .C #rule) (Rule Y O.the-row F 𝓤 H A)) (known-put : Triple 𝓤 (𝓣 .C #put)
           (Put 𝓤 H A mem run)) where
         abbrev En : Addresses (function #rule .locals) → Env 𝓤 H

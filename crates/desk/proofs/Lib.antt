@@ -1,6 +1,8 @@
 -- The laws of desk, a file each; other crates may cite the public ones.
 pub mod Places
+pub mod Guesses
 pub mod Steps
+pub mod Unique
 pub mod Row
 pub mod Frame
 pub mod Slots

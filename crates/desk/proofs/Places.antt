@@ -54,7 +54,7 @@ unfolding place
 place-absent t id p =
     sym (p ∙ ap (λ (u : List Record). length t + place u id) (drop-length t) ∙ add-zero (length t))
 
-place-within : (t : List Record) (id : ℕ) → place t id ≤ length t
+pub place-within : (t : List Record) (id : ℕ) → place t id ≤ length t
 unfolding place
 place-within [] id = zero-le
 place-within (r ∷ t) id = go (eqb (r .id) id) (place-within t id)

@@ -1,6 +1,6 @@
-// The calls over the table, a lent row of records. Only `place_of`, `take` and `put` touch the row. Each call takes the
-// slot, asks its rule by value and stores what the rule says, with no branch of its own: a refusal is stored past the
-// end, where nothing is.
+// The calls over the table, a lent row of records. Only `place_of`, `take_at` and `put` touch the row. Each call takes
+// the slot, asks its rule by value and stores what the rule says, with no branch of its own: a refusal is stored past
+// the end, where nothing is.
 use paper::Admission;
 use paper::Answer;
 use paper::AskedAbout;
@@ -11,6 +11,7 @@ ghost use lib.ListN.{set};
 ghost use Rattle.paper_desk.specs.Desk.{Call, askOf, place};
 ghost use Rattle.record_answers.specs.Effects.{slotOf};
 ghost use Rattle.desk.specs.Promises.{Promised};
+ghost use Rattle.desk.specs.Guesses.{slotAt, isOf, placeNear, DoneAt};
 
 // "id 0 marks an empty slot"
 const EMPTY: u64 = 0;
@@ -30,11 +31,10 @@ pub fn place_of(t: &[Record], id: u64) -> usize
     i
 }
 
-// The first slot with an id, and the record in it.
-pub fn take(t: &[Record], id: u64) -> Slot
-    ensures { λ r. ⌜ r ≡ slotOf (now (t .entry)) id ⌝ }
+// The slot at a place, and the record in it.
+pub fn take_at(t: &[Record], i: usize) -> Slot
+    ensures { λ r. ⌜ r ≡ slotAt (now (t .entry)) i ⌝ }
 {
-    let i = place_of(t, id);
     if i < t.len() {
         return Slot {
             count: t.len(),
@@ -42,7 +42,34 @@ pub fn take(t: &[Record], id: u64) -> Slot
             rec: t[i],
         };
     }
-    record_answers::absent(i)
+    record_answers::absent(t.len())
+}
+
+// The first slot with an id, and the record in it.
+pub fn take(t: &[Record], id: u64) -> Slot
+    ensures { λ r. ⌜ r ≡ slotOf (now (t .entry)) id ⌝ }
+{
+    let i = place_of(t, id);
+    take_at(t, i)
+}
+
+// Whether a slot has an id, which is not 0.
+fn is_of(s: Slot, id: u64) -> bool
+    ensures { λ b. ⌜ b ≡ isOf s id ⌝ }
+{
+    let r = s.rec;
+    (id != EMPTY) & record_answers::holds(s) & (r.id == id)
+}
+
+// The place of an id, with no walk where it is guessed.
+pub fn place_near(t: &[Record], guess: usize, id: u64) -> usize
+    ensures { λ r. ⌜ r ≡ placeNear (now (t .entry)) guess id ⌝ }
+{
+    let s = take_at(t, guess);
+    if is_of(s, id) {
+        return guess;
+    }
+    place_of(t, id)
 }
 
 // The record is stored at a place. Past the end nothing is.
@@ -70,6 +97,16 @@ pub fn about(t: &mut [Record], id: u64, a: AskedAbout, rows: &[i64]) -> Answer
     ensures { λ r. ⌜ Promised (Call.about id (askOf a (now (rows .entry)))) (now (t .entry)) r (now (t .exit)) ⌝ }
 {
     let s = take(t, id);
+    let o = record_calls::effect_of(s, a, rows);
+    put(t, o.at, o.rec);
+    o.answer
+}
+
+// The same, with no walk: the security is the one at a place.
+pub fn about_at(t: &mut [Record], at: usize, a: AskedAbout, rows: &[i64]) -> Answer
+    ensures { λ r. ⌜ DoneAt at (askOf a (now (rows .entry))) (now (t .entry)) r (now (t .exit)) ⌝ }
+{
+    let s = take_at(t, at);
     let o = record_calls::effect_of(s, a, rows);
     put(t, o.at, o.rec);
     o.answer

@@ -103,11 +103,11 @@ for-put = (11, 12)
 
 -- let s = take(t, a.id);
 abbrev code-s : Body → Body
-code-s = taking ℓt for-s ℓs (copy (place ℓa (field 0 ∷ [])))
+code-s = taking #take ℓt for-s ℓs (copy (place ℓa (field 0 ∷ [])))
 
 -- let e = take(t, EMPTY);
 abbrev code-e : Body → Body
-code-e = taking ℓt for-e ℓe (int w64 0)
+code-e = taking #take ℓt for-e ℓe (int w64 0)
 
 -- let o = record_admission::admitted(s, e, a);
 abbrev code-o : Body → Body
@@ -220,7 +220,7 @@ module _ {M : Type 1} (𝓤 : URA M) (H : Heap 𝓤) (A : Atoms 𝓤) (W : Given
       let-s : {rest : Body} → ((v : Val) → Is S slot (v ∷ []) → Sq W (In (some v) none none ∷ Ours) (Runs rest))
           → Sq W (In none none none ∷ Ours) (Runs (code-s rest))
       let-s =
-          takes 𝓤 H A W mem run (κs .0) (qs .0) b o (x .name) ys room fm known-take ℓt for-s ℓs
+          takes 𝓤 H A W mem run (κs .0) (qs .0) b o (x .name) ys room slotOf fm known-take ℓt for-s ℓs
           (refl, refl, tt, tt, tt, tt, tt) tt refl (a .id) id-fits (λ Δ. field′ ! ℓa 0 refl refl refl)
 
       -- let e = take(t, EMPTY);
@@ -228,7 +228,7 @@ module _ {M : Type 1} (𝓤 : URA M) (H : Heap 𝓤) (A : Atoms 𝓤) (W : Given
           → ((u : Val) → Is S first-empty (u ∷ []) → Sq W (In (some v) (some u) none ∷ Ours) (Runs rest))
           → Sq W (In (some v) none none ∷ Ours) (Runs (code-e rest))
       let-e v =
-          takes 𝓤 H A W mem run (κs .0) (qs .0) b o (x .name) ys room fm known-take ℓt for-e ℓe
+          takes 𝓤 H A W mem run (κs .0) (qs .0) b o (x .name) ys room slotOf fm known-take ℓt for-e ℓe
           (refl, refl, tt, tt, tt, tt, tt) tt refl 0 (lit< tt) (λ Δ. lit ! tt)
 
       -- let o = record_admission::admitted(s, e, a);

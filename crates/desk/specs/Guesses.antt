@@ -1,0 +1,38 @@
+-- The slot at a place, and a place that is guessed: where the slot there has the id, no slot has to be searched for it.
+use mathlib.Core.Path.{_≡_}
+use mathlib.Core.Logic.{_≢_}
+use mathlib.Core.Bool.{Bool, not, _&&_}
+use mathlib.Core.List.{List}
+use Prim.Native.Nat.{ℕ, _<_}
+use lib.Dec.{ltb, eqb}
+use lib.ListN.{length, getD}
+use Rattle.paper.specs.declared.Record.{Record}
+use Rattle.paper.specs.declared.Answer.{Answer}
+use Rattle.paper.specs.Lists.{pick}
+use Rattle.paper_desk.specs.Desk.{Ask, blank, place}
+use Rattle.record_answers.specs.declared.Slot.{Slot}
+use Rattle.record_answers.specs.Effects.{holds, effectOf, doneBy}
+
+-- the slot at a place; past the end, what is found of an id that no slot has
+unfoldable pub slotAt : List Record → (i : ℕ) → Slot
+slotAt t i =
+    pick (ltb i (length t)) (record { count = length t; at = i; rec = getD t i blank })
+    (record { count = length t; at = length t; rec = blank })
+
+-- whether a slot has an id, which is not 0
+unfoldable pub isOf : Slot → (id : ℕ) → Bool
+isOf s id = not (eqb id 0) && holds s && eqb (s .rec .id) id
+
+-- the guess, where the slot there has the id, or else the place of the first slot with it
+unfoldable pub placeNear : List Record → (guess id : ℕ) → ℕ
+placeNear t guess id = pick (isOf (slotAt t guess) id) guess (place t id)
+
+-- no two slots have one id, but for empty ones
+abbrev pub Unique : List Record → Type 0
+Unique t =
+    (i k : ℕ) → i < length t → k < length t → getD t i blank .id ≢ 0 → getD t i blank .id ≡ getD t k blank .id → i ≡ k
+
+-- of what is asked at a place of the table t: the answer r and the table t′ are those of the slot there
+pub record DoneAt (i : ℕ) (x : Ask) (t : List Record) (r : Answer) (t′ : List Record) : Type 0 where
+  pub answer : r ≡ doneBy t (effectOf (slotAt t i) x) .answer
+  pub table : t′ ≡ doneBy t (effectOf (slotAt t i) x) .table
