@@ -5,7 +5,7 @@
 --     puts            put(t, x, y);           t is given up to `put`, and the caller has what says t's last list
 --     puts-effect     put(t, o.at, o.rec);
 --     effect-spelled  after let o = rule(…);  the fields of the effect can be read
---     answers         o.answer
+--     answers         answered(o)
 -- Each is told which locals the statement uses, and leaves the other locals and the rest of the context as they were.
 -- `Asks` has the call of a rule, and `Frame` the locals.
 -- Assumes `Given`, and that the table's entries meet the contracts.
@@ -71,20 +71,23 @@ use denote.Triple.Clauses.{ensured, lasts}
 use Rattle.paper.specs.declared.Record.{Record}
 use Rattle.record_answers.specs.declared.Slot.{Slot}
 use Rattle.record_answers.specs.declared.Effect.{Effect}
-use Rattle.record_answers.specs.Effects.{slotOf}
+use Rattle.record_answers.specs.Effects.{slotOf, answerOf}
 use Rattle.record_answers.proofs.Slot.Laws as U′
 use Rattle.record_answers.proofs.Effect as O
+use Rattle.paper.proofs.Answer as N
 use Rattle.paper.proofs.Answer.Laws as N′
 use Rattle.desk.proofs.Row.{R, val, makes, S, typed-slot, effect-ty, effect-val, effect-is, effect-tells}
-use Rattle.desk.proofs.Row.{answer-val, typed-answer}
+use Rattle.desk.proofs.Row.{makes-effect, typed-answer}
 use Rattle.desk.proofs.Frame.{Locals, held, holding, Within, held-own, frame, value, field as field′, sets}
 use Rattle.desk.proofs.Frame.{clears, leaves}
 use Rattle.desk.proofs.Lending.{Lending, ref, machine, Lent, lending, lent, Lends, lends}
-use Rattle.desk.proofs.Asks.{Callee, calls, says}
+use Rattle.desk.proofs.Asks.{Callee, calls, says, consults}
 use Rattle.desk.proofs.Meeting.{reads, ended, clauses}
 use Rattle.desk.proofs.Looking.{taken, says as is-said, to-look, goes-look, looks}
 use Rattle.desk.proofs.take as take
 use Rattle.desk.proofs.take.Symbol.{name as #take}
+use Rattle.record_answers.proofs.answered as answered
+use Rattle.record_answers.proofs.answered.Symbol.{name as #answered}
 use Rattle.desk.proofs.put as put
 use Rattle.desk.proofs.put.Symbol.{name as #put}
 
@@ -94,6 +97,9 @@ module _ {M : Type 1} (𝓤 : URA M) (H : Heap 𝓤) (A : Atoms 𝓤) (mem : Mem
 
   abbrev pub Put : Contract 𝓤
   Put = tripleOf 𝓤 H A put.signature (put.spec 𝓤 H A mem run)
+
+  abbrev pub Answered : Contract 𝓤
+  Answered = Callee 𝓤 H A answered.ended (answered.clauses 𝓤 H A mem run)
 
 -- the contract of a function that looks into the table for a slot
 abbrev pub Taken : (List Record → ℕ → Slot) → {M : Type 1} (𝓤 : URA M) (H : Heap 𝓤) → Atoms 𝓤 → Contract 𝓤
@@ -123,9 +129,9 @@ putting t m d x y rest = lending t m (seq (call #put (copy (place (m .1) []) ∷
 abbrev pub putting-effect : (t : ℕ) (m : Lending) (d o : ℕ) → Body → Body
 putting-effect t m d o = putting t m d (copy (place o (field 0 ∷ []))) (copy (place o (field 1 ∷ [])))
 
--- o.answer
+-- answered(o)
 abbrev pub answering : (o : ℕ) → Body
-answering o = seq (assign (place 0 []) (rvOpd (copy (place o (field 2 ∷ []))))) return
+answering o = seq (call #answered (copy (place o []) ∷ []) (place 0 [])) return
 
 -- ---- the locals
 -- once the call has returned v: m is room again
@@ -287,7 +293,7 @@ module _ {M : Type 1} (𝓤 : URA M) (H : Heap 𝓤) (A : Atoms 𝓤) (W : Given
         → Sq W (frame H E cs ∷ ‵ (Owned κ b o γ ys) ∷ ‵ (flft κ q) ∷ Γ) (runs C Λ E (putting-effect t m d o′ rest) post)
     puts-effect fm known t m d o′ l in-d is-unit r is holds is-effect =
         puts fm known t m d l in-d is-unit (r .at) (r .rec) (val (r .rec)) (effect-is r (effect-val r) is .0)
-        (effect-is r (effect-val r) is .1 .0) (λ Δ. field′ ! o′ 0 holds is-effect refl)
+        (effect-is r (effect-val r) is .1) (λ Δ. field′ ! o′ 0 holds is-effect refl)
         (λ Δ. field′ ! o′ 1 holds is-effect refl)
 
 -- let o = rule(…); has returned v, and the effect's fields can be read
@@ -297,17 +303,27 @@ pub effect-spelled : {M : Type 1} {𝓤 : URA M} {H : Heap 𝓤} {A : Atoms 𝓤
 effect-spelled W F r v is k =
     rewrite ! 0 F (effect-tells r v is) refl $ k (subst (λ (z : Val). Is O.the-row r (z ∷ [])) (effect-tells r v is) is)
 
-module _ {M : Type 1} {𝓤 : URA M} {H : Heap 𝓤} {A : Atoms 𝓤} (W : Given 𝓤 H A) {Γ : List (Item 𝓤)} {E : Env 𝓤 H}
-    {cs : Locals} {C : Calls 𝓤 H} {Λ : Loops 𝓤 H} {Kf : Val → SProp 𝓤} where
-  -- o.answer
-  pub answers : (o : ℕ) (r : Effect) → Is O.the-row r (effect-val r ∷ []) → held E cs o ≡ some (effect-val r)
-      → spotOf 𝓤 H E o .0 ≡ effect-ty → Within E 0 → spotOf 𝓤 H E 0 .0 ≡ N′.mir
-      → ent 𝓤 (⋆ 𝓤 H A Γ) (Kf (answer-val (r .answer)))
-      → Sq W (frame H E cs ∷ Γ) (runs C Λ E (answering o) (atRet E Kf))
-  answers o r is holds is-effect in-0 is-answer exits =
-      assigns ! (of-opd ! (field′ ! o 2 holds is-effect refl)) (from ! (stop !))
-      (sets ! 0 in-0 (subst (λ (τ : Ty). T (hasTy τ (answer-val (r .answer))) × WT (answer-val (r .answer)))
-      (sym is-answer) (typed-answer 𝓤 H A W (r .answer) (answer-val (r .answer))
-      (effect-is r (effect-val r) is .1 .1)))) $
-      leaves ! (held-own E cs 0 (some (answer-val (r .answer))) in-0) $
-      by ! exits
+module _ {M : Type 1} (𝓤 : URA M) (H : Heap 𝓤) (A : Atoms 𝓤) (W : Given 𝓤 H A) (mem : Memory → SProp 𝓤)
+    (run : Routine → Fun 𝓤) where
+  abbrev to-answered : Effect → Bound 𝓤 H A answered.signature
+  to-answered r = (tt, tt, tt, (r, tt), (effect-val r ∷ [], tt))
+
+  goes-answered : (r : Effect) → Is O.the-row r (effect-val r ∷ [])
+      → ent 𝓤 (emp 𝓤) (Answered 𝓤 H A mem run .pre (to-answered r, tt))
+  goes-answered r is =
+      qed W [] ∵ nothing ! $ owned ! O.the-row (Is O.the-row) (makes-effect 𝓤 H A) r (effect-val r ∷ []) is $
+      fjoin ! $ nothing ! $ join ! $ framed ! $ done !
+
+  module _ {Γ : List (Item 𝓤)} {E : Env 𝓤 H} {cs : Locals} {C : Calls 𝓤 H} {Λ : Loops 𝓤 H} {Kf : Val → SProp 𝓤} where
+    -- answered(o)
+    pub answers : FmC 𝓤 H (W .laws) C → Triple 𝓤 (C #answered) (Answered 𝓤 H A mem run) → (o : ℕ) (r : Effect)
+        → Is O.the-row r (effect-val r ∷ []) → held E cs o ≡ some (effect-val r) → Within E 0
+        → spotOf 𝓤 H E 0 .0 ≡ N′.mir
+        → ((v : Val) → Is N.the-row (answerOf r) (v ∷ []) → ent 𝓤 (⋆ 𝓤 H A Γ) (Kf v))
+        → Sq W (frame H E cs ∷ Γ) (runs C Λ E (answering o) (atRet E Kf))
+    answers fm known o r is holds in-0 is-answer exits =
+        consults 𝓤 H A W answered.ended (answered.clauses 𝓤 H A mem run) (to-answered r) tt fm known
+        (goes-answered r is) (answerOf r) (λ a e. id⊢ 𝓤 _)
+        (λ a v ia. subst (λ (τ : Ty). T (hasTy τ v) × WT v) (sym is-answer) (typed-answer 𝓤 H A W a v ia)) in-0
+        (and-then ! (value ! o holds) (no-more !))
+        (λ v ia. leaves ! (held-own E cs 0 (some v) in-0) $ by ! (exits v ia))

@@ -1,6 +1,6 @@
 -- The walk of `about` and `about_at`, the calls that change one record, whatever is asked and however it is passed on:
 --     fn call(t: &mut [Record], id: u64, ..) -> Answer {
---         let s = take(t, id); let o = rule(s, ..); put(t, o.at, o.rec); o.answer
+--         let s = take(t, id); let o = rule(s, ..); put(t, o.at, o.rec); answered(o)
 --     }
 -- `about` takes the slot of an id, and `about_at` the one at a place: #take and `slot-of` say which. The rule makes an
 -- effect of the slot, the effect's record is stored at its place, and that is what is promised (`done`). The walk has a
@@ -48,9 +48,10 @@ use Rattle.paper.proofs.Answer as N
 use Rattle.paper.proofs.Answer.Laws as N′
 use Rattle.record_answers.specs.declared.Slot.{Slot}
 use Rattle.record_answers.specs.declared.Effect.{Effect}
+use Rattle.record_answers.specs.Effects.{answerOf}
 use Rattle.record_answers.proofs.Slot.Laws as U′
 use Rattle.record_answers.proofs.Effect as O
-use Rattle.desk.proofs.Row.{R, table-ty, word, S, effect-ty, effect-val, effect-is, typed-effect, answer-val}
+use Rattle.desk.proofs.Row.{R, table-ty, word, S, effect-ty, effect-val, typed-effect}
 use Rattle.desk.proofs.Row.{makes-answer}
 use Rattle.desk.proofs.Frame.{Addresses, Locals, of-types, env-of, entry, held, holding, Within as In-frame}
 use Rattle.desk.proofs.Frame.{frame, value}
@@ -59,9 +60,10 @@ use Rattle.desk.proofs.Meeting as Meeting
 use Rattle.desk.proofs.Passing.{Passing, taken, copies, OfSlot, rule-ended, rule-clauses, Rule, to-rule, Others}
 use Rattle.desk.proofs.Passing.{goes-rule}
 use Rattle.desk.proofs.Lending.{ℓt, Lending, rref, wref, Lends, lent}
-use Rattle.desk.proofs.Calls.{Taken, Put, Owned, returned, taking, putting-effect, answering, takes}
+use Rattle.desk.proofs.Calls.{Taken, Put, Answered, Owned, returned, taking, putting-effect, answering, takes}
 use Rattle.desk.proofs.Calls.{effect-spelled, puts-effect, answers}
 use Rattle.desk.proofs.Asks.{consults-lent}
+use Rattle.record_answers.proofs.answered.Symbol.{name as #answered}
 use Rattle.desk.proofs.put.Symbol.{name as #put}
 
 module _ {n : ℕ} (Y : Passing n) (#take : Name) (slot-of : List Record → ℕ → Slot) where
@@ -153,7 +155,7 @@ module _ {n : ℕ} (Y : Passing n) (#take : Name) (slot-of : List Record → ℕ
   module _ (F : OfSlot Y O.the-row) (K : Ends)
       (done : (t : List Record) (κs : Lfts (suc n)) (id : ℕ) (a : Denots (typesAt (Y .call .slots) κs))
       → let o = F (κs .1) (slot-of t id) (Y .to κs a) in
-      K κs id a t (o .answer) (set t (o .at) (o .rec))) (#rule : Name)
+      K κs id a t (answerOf o) (set t (o .at) (o .rec))) (#rule : Name)
       {M : Type 1} (𝓤 : URA M) (H : Heap 𝓤) (A : Atoms 𝓤) where
     module _ (W : Given 𝓤 H A) (mem : Memory → SProp 𝓤) (run : Routine → Fun 𝓤) where
       module _ (κs : Lfts (suc n)) (qs : Shares (suc n)) (x : RefT (List Record)) (id : ℕ)
@@ -184,14 +186,13 @@ module _ {n : ℕ} (Y : Passing n) (#take : Name) (slot-of : List Record → ℕ
         abbrev Rest : Fml
         Rest = Others Y O.the-row F 𝓤 H A κs qs a slot id
 
-        exits : Is O.the-row effect (effect-val effect ∷ [])
+        exits : (v : Val) → Is N.the-row (answerOf effect) (v ∷ [])
             → ent 𝓤 (⋆ 𝓤 H A (‵ (finally R (x .name) (set ys (effect .at) (effect .rec))) ∷ ‵ (flft (κs .0) (qs .0))
-            ∷ Tokens ∷ ‵ Rest ∷ [])) (Post (answer-val (effect .answer)))
-        exits is =
+            ∷ Tokens ∷ ‵ Rest ∷ [])) (Post v)
+        exits v is =
             Meeting.exits changes (taken Y) N.the-row (promises K) 𝓤 H A W κs x (id, a) qs (makes-answer 𝓤 H A)
-            (set ys (effect .at) (effect .rec)) (effect .answer) (answer-val (effect .answer))
-            (length-set ys (effect .at) (effect .rec)) (done ys κs id a)
-            (effect-is effect (effect-val effect) is .1 .1)
+            (set ys (effect .at) (effect .rec)) (answerOf effect) v (length-set ys (effect .at) (effect .rec))
+            (done ys κs id a) is
 
         module _ (E : Env 𝓤 H) (cs : Locals) (C : Calls 𝓤 H) (Λ : Loops 𝓤 H) where
           -- where the walk stands: at the entry; with s; with s and o; and at the end
@@ -231,7 +232,8 @@ module _ {n : ℕ} (Y : Passing n) (#take : Name) (slot-of : List Record → ℕ
               (operands : Operands) (fm : FmC 𝓤 H (W .laws) C)
               (known-take : Triple 𝓤 (C #take) (Taken slot-of 𝓤 H A)) (known-rule : Triple 𝓤 (C #rule)
               (Rule Y O.the-row F 𝓤 H A))
-              (known-put : Triple 𝓤 (C #put) (Put 𝓤 H A mem run)) where
+              (known-put : Triple 𝓤 (C #put) (Put 𝓤 H A mem run))
+              (known-answered : Triple 𝓤 (C #answered) (Answered 𝓤 H A mem run)) where
             -- let s = take(t, id);
             let-s : {rest : Body} → ((w : Val) → Is S slot (w ∷ []) → Sq W (At-s w ∷ Ours) (Runs rest))
                 → Sq W (At ∷ Ours) (Runs (code-s rest))
@@ -264,19 +266,21 @@ module _ {n : ℕ} (Y : Passing n) (#take : Name) (slot-of : List Record → ℕ
                 puts-effect 𝓤 H A W mem run (κs .0) (qs .0) b o (x .name) ys room fm known-put ℓt for-put ℓunit ℓo
                 (st .lends-put w) (st .unit-in) (st .unit-is) effect is (st .o-held w) (st .o-effect)
 
-            -- o.answer
+            -- answered(o)
             answer : (w u : Val) → Is O.the-row effect (effect-val effect ∷ [])
                 → Sq W (At-end w u ∷ Left) (Runs (answering ℓo))
             answer w u is =
-                answers W ℓo effect is (st .o-kept w u) (st .o-effect) (st .answer-in) (st .answer-is) (exits is)
+                answers 𝓤 H A W mem run fm known-answered ℓo effect is (st .o-kept w u) (st .answer-in) (st .answer-is)
+                exits
 
             walk : Sq W (At ∷ Ours) (Runs (function #rule .body))
             walk = let-s (λ w is. let-o w is (λ io. put-o w io (λ u. answer w u io)))
 
       -- what a call shows of its own locals, where its parameters are written out
       module _ (𝓣 : Tables 𝓤 H) (known-take : Triple 𝓤 (𝓣 .C #take) (Taken slot-of 𝓤 H A))
-          (known-rule : Triple 𝓤 (𝓣 .C #rule) (Rule Y O.the-row F 𝓤 H A)) (known-put : Triple 𝓤 (𝓣 .C #put)
-          (Put 𝓤 H A mem run)) where
+          (known-rule : Triple 𝓤 (𝓣 .C #rule) (Rule Y O.the-row F 𝓤 H A))
+          (known-put : Triple 𝓤 (𝓣 .C #put) (Put 𝓤 H A mem run))
+          (known-answered : Triple 𝓤 (𝓣 .C #answered) (Answered 𝓤 H A mem run)) where
         abbrev En : Addresses (function #rule .locals) → Env 𝓤 H
         En ls = env-of (function #rule .locals) ls
 
@@ -304,5 +308,6 @@ module _ {n : ℕ} (Y : Passing n) (#take : Name) (slot-of : List Record → ℕ
               );
               goes = λ κs qs x a is are ls. walk κs qs x (a .0) (a .1) (En ls) (first κs x (a .0) (a .1)) (𝓣 .C) (𝓣 .Λ)
                   (is .0 .1) (are .0 .1) (at .stands κs x (a .0) (a .1) ls (effect κs qs x (a .0) (a .1)))
-                  (at .operands κs qs x (a .0) (a .1) ls) (fmOf 𝓤 H (W .laws) 𝓣) known-take known-rule known-put;
+                  (at .operands κs qs x (a .0) (a .1) ls) (fmOf 𝓤 H (W .laws) 𝓣) known-take known-rule known-put
+                  known-answered;
             })

@@ -31,6 +31,7 @@ use Rattle.record_answers.proofs.Slot as U
 use Rattle.record_answers.proofs.Slot.Laws as U′
 use Rattle.record_answers.proofs.Effect as O
 use Rattle.record_answers.proofs.Effect.Laws as O′
+use Rattle.record_answers.proofs.Replied.Laws as P′
 
 -- ---- a record
 
@@ -108,16 +109,13 @@ slot-is n i r gn gi g =
 
 -- ---- the effect that a rule makes, and its answer
 
-abbrev pub answer-val : Answer → Val
-answer-val = LL.val N.the-type N′.the-laws
-
 abbrev pub effect-val : Effect → Val
 effect-val = LL.val O.the-type O′.the-laws
 
 -- an effect's machine type, with the types of its fields by name: spelled out, as it is in the code, it makes every
 -- step of a walk ten times as long
 abbrev pub effect-ty : Ty
-effect-ty = tyStruct (O.struct .name) (tcons (tyInt w64) (tcons T′.mir (tcons N′.mir tnil)))
+effect-ty = tyStruct (O.struct .name) (tcons (tyInt w64) (tcons T′.mir (tcons P′.mir tnil)))
 
 -- what whoever holds an effect knows of its machine value and of its fields
 pub effect-tells : (o : Effect) (w : Val) → Is O.the-row o (w ∷ []) → w ≡ effect-val o
@@ -125,13 +123,15 @@ effect-tells o w is = ap only (LL.tells O.the-type O′.the-laws o (w ∷ []) is
 
 pub effect-is :
     (o : Effect) (w : Val) → Is O.the-row o (w ∷ [])
-    → (o .at < 2 ^ 64) × (Is R (o .rec) (vals (o .rec)) × Is N.the-row (o .answer)
-    (answer-val (o .answer) ∷ []))
-effect-is o w is = let fs = LL.owed O.the-type O′.the-laws o (w ∷ []) is in (fs .0 .1, (fs .1 .0, fs .1 .1 .0))
+    → (o .at < 2 ^ 64) × Is R (o .rec) (vals (o .rec))
+effect-is o w is = let fs = LL.owed O.the-type O′.the-laws o (w ∷ []) is in (fs .0 .1, fs .1 .0)
 
 module _ {M : Type 1} (𝓤 : URA M) (H : Heap 𝓤) (A : Atoms 𝓤) where
   pub makes-answer : Makes 𝓤 H A N.the-row (Is N.the-row)
   makes-answer = LL.makes N.the-type N′.the-plain 𝓤 H A
+
+  pub makes-effect : Makes 𝓤 H A O.the-row (Is O.the-row)
+  makes-effect = LL.makes O.the-type O′.the-plain 𝓤 H A
 
   module _ (W : Given 𝓤 H A) where
     pub typed-answer : (r : Answer) (v : Val) → Is N.the-row r (v ∷ []) → T (hasTy N′.mir v) × WT v

@@ -27,15 +27,16 @@ use Rattle.paper.specs.declared.Record.{Record}
 use Rattle.paper.specs.declared.Answer.{Answer}
 use Rattle.paper_desk.specs.Desk.{Ask}
 use Rattle.record_answers.specs.declared.Slot.{Slot}
-use Rattle.record_answers.specs.Effects.{effectOf}
+use Rattle.record_answers.specs.Effects.{answerOf, effectOf}
 use Rattle.record_answers.proofs.Effect as O
 use Rattle.desk.proofs.Frame.{value}
-use Rattle.desk.proofs.Calls.{Taken, Put}
+use Rattle.desk.proofs.Calls.{Taken, Put, Answered}
 use Rattle.desk.proofs.Plain.{Plain, PlainLaws}
 use Rattle.desk.proofs.Passing.{Passing, OfSlot, no-more, and-plain, and-slice}
 use Rattle.desk.proofs.Passing as Passing
 use Rattle.desk.proofs.Changing as Changing
 use Rattle.desk.proofs.put.Symbol.{name as #put}
+use Rattle.record_answers.proofs.answered.Symbol.{name as #answered}
 
 module _ (P : Plain) (L : PlainLaws P) where
   abbrev pub taken : Passing 1
@@ -72,15 +73,15 @@ module _ (P : Plain) (L : PlainLaws P) where
       pub meets : (K : Ends)
           → ((t : List Record) (id : ℕ) (d : P .D) (rows : List ℤ)
           → let o = effectOf (slot-of t id) (ask d rows) in
-          K id d rows t (o .answer) (set t (o .at) (o .rec)))
+          K id d rows t (answerOf o) (set t (o .at) (o .rec)))
           → (W : Given 𝓤 H A) (mem : Memory → SProp 𝓤) (run : Routine → Fun 𝓤) (𝓣 : Tables 𝓤 H)
           → Triple 𝓤 (𝓣 .C #take) (Taken slot-of 𝓤 H A) → Triple 𝓤 (𝓣 .C #rule) Rule
-          → Triple 𝓤 (𝓣 .C #put) (Put 𝓤 H A mem run)
+          → Triple 𝓤 (𝓣 .C #put) (Put 𝓤 H A mem run) → Triple 𝓤 (𝓣 .C #answered) (Answered 𝓤 H A mem run)
           → Meets 𝓤 H A (ended .signature) (WpFn 𝓤 H (𝓣 .C) (𝓣 .Λ) (Changing.function taken #take slot-of #rule))
           (closing 𝓤 H A ended (clauses K 𝓤))
-      meets K done W mem run 𝓣 known-take known-rule known-put =
+      meets K done W mem run 𝓣 known-take known-rule known-put known-answered =
           Changing.meets taken #take slot-of effect-of (ends K) (λ t κs id a. done t id (a .0) (now (a .1 .0))) #rule 𝓤
-          H A W mem run 𝓣 known-take known-rule known-put (record {
+          H A W mem run 𝓣 known-take known-rule known-put known-answered (record {
             stands = λ κs x id a ls r. search;
             operands = λ κs qs x id a ls w Δ. and-then ! (value ! (Changing.ℓs taken #take slot-of) refl) (and-then !
                 (value ! ℓd refl) (and-then ! (value ! ℓrows refl) (no-operand !)));

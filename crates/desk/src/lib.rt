@@ -1,6 +1,6 @@
 // The calls over the table, a lent row of records. Only `place_of`, `take_at` and `put` touch the row. Each call takes
-// the slot, asks its rule by value and stores what the rule says, with no branch of its own: a refusal is stored past
-// the end, where nothing is.
+// the slot, asks its rule by value, stores what the rule says and makes the answer of it, with no branch of its own: a
+// refusal is stored past the end, where nothing is.
 use paper::Admission;
 use paper::Answer;
 use paper::AskedAbout;
@@ -89,7 +89,7 @@ pub fn admit(t: &mut [Record], a: Admission) -> Answer
     let e = take(t, EMPTY);
     let o = record_admission::admitted(s, e, a);
     put(t, o.at, o.rec);
-    o.answer
+    record_answers::answered(o)
 }
 
 // Whatever is asked about the security with an id. The row figures of an evaluation are lent beside the ask.
@@ -99,7 +99,7 @@ pub fn about(t: &mut [Record], id: u64, a: AskedAbout, rows: &[i64]) -> Answer
     let s = take(t, id);
     let o = record_calls::effect_of(s, a, rows);
     put(t, o.at, o.rec);
-    o.answer
+    record_answers::answered(o)
 }
 
 // The same, with no walk: the security is the one at a place.
@@ -109,5 +109,5 @@ pub fn about_at(t: &mut [Record], at: usize, a: AskedAbout, rows: &[i64]) -> Ans
     let s = take_at(t, at);
     let o = record_calls::effect_of(s, a, rows);
     put(t, o.at, o.rec);
-    o.answer
+    record_answers::answered(o)
 }

@@ -6,9 +6,10 @@ use Rattle.paper.specs.declared.Admission.{Admission}
 use Rattle.paper.specs.declared.Verdict.the-variants.{Done, AlreadyAdmitted, NoEmptySlot, AdmissionOutOfRange}
 use Rattle.paper.specs.Ranges.{validSlots, validAdmission, isPrice, isGridPrice}
 use Rattle.paper.specs.Verdicts.{isDone, firstOf}
-use Rattle.paper_desk.specs.Desk.{saying, admitted}
+use Rattle.paper_desk.specs.Desk.{admitted}
 use Rattle.paper.proofs.Logic.{and-right, and-left}
 use Rattle.record_answers.specs.declared.Slot.{Slot}
+use Rattle.record_answers.specs.declared.Replied.the-variants.{Number}
 use Rattle.record_answers.specs.Effects.{holds, refusedEffect, judgedEffect, admitChecksOf, admitEffect}
 
 module _ (s e : Slot) (a : Admission) where
@@ -37,7 +38,7 @@ module _ (s e : Slot) (a : Admission) where
     admission-full new t = rw (valid, new, t)
 
     pub admission-accepted : holds s ≡ false → holds e ≡ true
-        → record { at = e .at; rec = admitted a; answer = saying Done } ≡ admitEffect s e a
+        → record { at = e .at; rec = admitted a; replied = Number Done } ≡ admitEffect s e a
     unfolding admitEffect admitChecksOf judgedEffect firstOf isDone
     admission-accepted new t = rw (valid, new, t)
 

@@ -7,6 +7,7 @@ use paper::MadePrice;
 use paper::Price;
 use paper::Verdict;
 use record_answers::Effect;
+use record_answers::Replied;
 use record_answers::Slot;
 
 // 4 of what else an admission gives, 2, 3 and what is written, at the two latest evaluations that it gives.
@@ -25,11 +26,10 @@ fn admitted_at(s: Slot, e: Slot, a: Admission, p1: Price, p2: Price) -> Effect
         return record_answers::refused(count, Verdict::NoEmptySlot);
     }
     let rec = record_writing::admitted(a, p1, p2);
-    let answer = record_answers::saying(Verdict::Done);
     Effect {
         at: e.at,
         rec,
-        answer,
+        replied: Replied::Number(Verdict::Done), // "an admission the number 0 alone"
     }
 }
 

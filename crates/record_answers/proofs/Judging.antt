@@ -7,12 +7,12 @@ use Rattle.paper.specs.declared.Verdict.{Verdict}
 use Rattle.paper.specs.declared.Verdict.the-variants.{Done, NoSuchId}
 use Rattle.paper.specs.Lists.{every}
 use Rattle.paper.specs.Verdicts.{isDone, Check, firstOf, FirstAt, here, later, NoneApplies, also, allRefusals}
-use Rattle.paper_desk.specs.Desk.{Ask, replyOn, ruleOf, checksOn}
+use Rattle.paper_desk.specs.Desk.{Ask, ruleOf, checksOn}
 use Rattle.paper.proofs.Logic.{and-left, and-right, not-true, pick-true, pick-false}
 use Rattle.paper_desk.proofs.Rules.{rule-holds}
 use Rattle.paper_desk.proofs.Refusals.{first-is-given, none-applies-gives-done}
 use Rattle.record_answers.specs.declared.Slot.{Slot}
-use Rattle.record_answers.specs.Effects.{isKnown, refusedEffect, judgedEffect, effectOf}
+use Rattle.record_answers.specs.Effects.{isKnown, refusedEffect, judgedEffect, repliedOn, effectOf}
 
 -- what is the first of checks that all refuse refuses
 first-refuses : (cs : List Check) (v : Verdict) → allRefusals cs ≡ true → FirstAt v cs → isDone v ≡ false
@@ -42,7 +42,7 @@ module _ (s : Slot) (x : Ask) where
         → record {
           at = s .at;
           rec = ruleOf x .made (s .rec);
-          answer = replyOn (ruleOf x .reply) (s .rec) (ruleOf x .made (s .rec));
+          replied = repliedOn (ruleOf x .reply) (s .rec);
         } ≡ effectOf s x
     unfolding effectOf judgedEffect isDone
     known-accepted n =

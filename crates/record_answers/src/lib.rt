@@ -1,9 +1,8 @@
-// What is found of an id in a table, and what a call makes of it: the slot, the effect, the answer of a refusal and of
-// a record as it stands. The rules of the calls (`record_evaluation`, `record_admission`, `record_monitoring`,
-// `record_calls`) stand on it.
+// What is found of an id in a table, and what a call makes of it: the slot, the effect, and the answer of an effect.
+// The rules of the calls (`record_evaluation`, `record_admission`, `record_monitoring`, `record_calls`) stand on it.
 ghost use mathlib.Core.Path.{_≡_};
-ghost use Rattle.paper_desk.specs.Desk.{blank, saying, showing};
-ghost use Rattle.record_answers.specs.Effects.{holds, isKnown, refusedEffect};
+ghost use Rattle.paper_desk.specs.Desk.{blank, saying, showing, alerting};
+ghost use Rattle.record_answers.specs.Effects.{holds, isKnown, refusedEffect, answerOf};
 use paper::Answer;
 use paper::External;
 use paper::Limits;
@@ -28,11 +27,20 @@ pub struct Slot {
     pub rec: Record,
 }
 
-// Where to store, what, and what to answer. A refusal stores past the end.
+// What a call replies, of the record that its effect has: a number alone, which is a refusal's or an admission's 0; the
+// record; or the two alerts of a quote, the top's and the bottom's.
+pub enum Replied {
+    Number(Verdict),
+    TheRecord,
+    Alerts(bool, bool),
+}
+
+// Where to store, what, and what to reply. A refusal stores past the end. The record stands here once: `answered` makes
+// the answer of it.
 pub struct Effect {
     pub at: usize,
     pub rec: Record,
-    pub answer: Answer,
+    pub replied: Replied,
 }
 
 // "all figures 0 (flags no, nothing near, admitted only)", in the main session. A price of 0 is none of document 01's
@@ -98,7 +106,7 @@ pub fn saying(v: Verdict) -> Answer
 
 // "Accepted evaluations, moves and reads return the record as it then stands"; W-210: "An accepted opening returns the
 // record", and so does each receipt of outside prices (W-211).
-pub fn showing(r: Record) -> Answer
+fn showing(r: Record) -> Answer
     ensures { λ a. ⌜ a ≡ showing r ⌝ }
 {
     Answer {
@@ -109,24 +117,54 @@ pub fn showing(r: Record) -> Answer
     }
 }
 
+// "The answer has two yes/no alerts, one for the top and one for the bottom."
+fn alerting(top: bool, bottom: bool) -> Answer
+    ensures { λ a. ⌜ a ≡ alerting «top» «bottom» ⌝ }
+{
+    let rec = blank();
+    Answer {
+        verdict: Verdict::Done,
+        rec,
+        top,
+        bottom,
+    }
+}
+
+// What an effect answers. Each call of the desk makes its answer here.
+pub fn answered(o: Effect) -> Answer
+    ensures { λ a. ⌜ a ≡ answerOf o ⌝ }
+{
+    let replied = o.replied;
+    match replied {
+        Replied::Number(v) => saying(v),
+        Replied::TheRecord => {
+            let rec = o.rec;
+            showing(rec)
+        }
+        Replied::Alerts(top, bottom) => alerting(top, bottom),
+    }
+}
+
 pub fn refused(count: usize, v: Verdict) -> Effect
     ensures { λ o. ⌜ o ≡ refusedEffect count v ⌝ }
 {
     let rec = blank();
-    let answer = saying(v);
     Effect {
         at: count,
         rec,
-        answer,
+        replied: Replied::Number(v),
     }
 }
 
 // A record that is stored, and answered as it then stands.
 pub fn written(at: usize, r: Record) -> Effect
-    ensures { λ o. ⌜ o ≡ record { at = at; rec = r; answer = showing r } ⌝ }
+    ensures { λ o. ⌜ o ≡ record { at = at; rec = r; replied = Replied.TheRecord } ⌝ }
 {
-    let answer = showing(r);
-    Effect { at, rec: r, answer }
+    Effect {
+        at,
+        rec: r,
+        replied: Replied::TheRecord,
+    }
 }
 
 // ---- what is found

@@ -16,13 +16,14 @@ use Rattle.paper_desk.specs.Evaluation.{dayRows, hasCrossedRow, evaluationFits}
 use Rattle.paper_desk.specs.Rates.{moveTooLarge}
 use Rattle.paper_desk.specs.Limits.{crossed}
 use Rattle.paper.specs.Verdicts.{isDone, firstOf}
-use Rattle.paper_desk.specs.Desk.{showing, usedBy, moveOn, evaluated, evaluateChecks}
+use Rattle.paper_desk.specs.Desk.{usedBy, moveOn, evaluated, evaluateChecks}
 use Rattle.paper.proofs.Logic.{pick-true, pick-false}
 use Rattle.evaluation.specs.declared.PriceFigures.{PriceFigures}
 use Rattle.record_figures.specs.declared.Made.{Made}
 use Rattle.record_figures.specs.Evaluates as writing
 use Rattle.record_figures.specs.Evaluates.{madeOf}
 use Rattle.record_answers.specs.declared.Slot.{Slot}
+use Rattle.record_answers.specs.declared.Replied.the-variants.{TheRecord}
 use Rattle.record_evaluation.specs.declared.Working.{Working}
 use Rattle.record_answers.specs.Effects.{isKnown, refusedEffect, judgedEffect, effectOf, evaluateEffect}
 use Rattle.record_evaluation.specs.Workings.{pricedOn, unmadeBy, madeWith, isMade, workedOf, Begun, Evaluates}
@@ -115,7 +116,7 @@ module _ (s : Slot) (d : Day) (rows : List ℤ) where
 
   pub day-stored : {new : Record} → isDone (workedOf s d rows .verdict) ≡ true
       → writing.Evaluates (s .rec) d (workedOf s d rows .made) new
-      → record { at = s .at; rec = new; answer = showing new } ≡ evaluateEffect s d rows
+      → record { at = s .at; rec = new; replied = TheRecord } ≡ evaluateEffect s d rows
   unfolding effectOf evaluateChecks judgedEffect
   day-stored e written =
       let done : isDone first ≡ true = ap isDone (sym worked-verdict) ∙ e in

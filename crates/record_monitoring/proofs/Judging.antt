@@ -17,13 +17,14 @@ use Rattle.paper.specs.Ranges.{validQuote, validSide, sideOf, isLive, sound}
 use Rattle.paper_desk.specs.Limits.{countOf}
 use Rattle.paper_desk.specs.Evening.{moveAllowed}
 use Rattle.paper.specs.Verdicts.{isDone, Check, firstOf, NoneApplies, none, also, allRefusals}
-use Rattle.paper_desk.specs.Desk.{showing, quoted, alertsOn, moved, quoting, moving}
+use Rattle.paper_desk.specs.Desk.{theAlerts, quoted, moved, quoting, moving}
 use Rattle.paper.proofs.Logic.{not-true-and-false, not-false, pick-false}
 use Rattle.paper_desk.proofs.Refusals.{done-means-none-applies}
 use Rattle.record_soundness.proofs.Facts.{sound-facts}
 use Rattle.record_answers.specs.declared.Slot.{Slot}
 use Rattle.record_answers.specs.declared.Effect.{Effect}
-use Rattle.record_answers.specs.Effects.{isKnown, refusedEffect, judgedEffect, effectOf}
+use Rattle.record_answers.specs.declared.Replied.the-variants.{TheRecord}
+use Rattle.record_answers.specs.Effects.{isKnown, refusedEffect, judgedEffect, repliedOn, effectOf}
 use Rattle.record_monitoring.specs.SharedChecks.{sharedChecks}
 
 -- ---- quote 1, 6, 10, 11, 13; move 1, 6, 10, 11, 18, 12
@@ -69,7 +70,7 @@ module _ (s : Slot) (q : Quote) where
   quote-stopped n =
       effect-stays (s .count) (sharedChecks (isKnown s) (validQuote q) (s .rec))
       (record { verdict = SecondEarlier; applies = ltb (q .second) (s .rec .second) } ∷ [])
-      (record { at = s .at; rec = quoted (s .rec) q; answer = alertsOn (s .rec) q })
+      (record { at = s .at; rec = quoted (s .rec) q; replied = repliedOn (theAlerts q) (s .rec) })
       n
 
   module _ (o : Passed (isKnown s) (validQuote q) (s .rec)) where
@@ -79,7 +80,8 @@ module _ (s : Slot) (q : Quote) where
     quote-earlier t = rw (o .known, o .valid, o .live, o .monitored, t)
 
     pub quote-accepted : ltb (q .second) (s .rec .second) ≡ false
-        → record { at = s .at; rec = quoted (s .rec) q; answer = alertsOn (s .rec) q } ≡ effectOf s (quoting q)
+        → record { at = s .at; rec = quoted (s .rec) q; replied = repliedOn (theAlerts q) (s .rec) }
+        ≡ effectOf s (quoting q)
     unfolding effectOf judgedEffect firstOf isDone
     quote-accepted t = rw (o .known, o .valid, o .live, o .monitored, t)
 
@@ -92,7 +94,7 @@ module _ (s : Slot) (side : ℕ) where
       (record { verdict = NoEveningMove; applies = not (moveAllowed (s .rec .statics) (s .rec .session)) }
       ∷ record { verdict = MovesUsedUp; applies = eqb (countOf (sideOf side) (s .rec .moves)) movesMost }
       ∷ [])
-      (record { at = s .at; rec = moved (s .rec) (sideOf side); answer = showing (moved (s .rec) (sideOf side)) })
+      (record { at = s .at; rec = moved (s .rec) (sideOf side); replied = TheRecord })
       n
 
   module _ (o : Passed (isKnown s) (validSide side) (s .rec)) where
@@ -108,8 +110,7 @@ module _ (s : Slot) (side : ℕ) where
       move-used-up t = rw (allowed, o .known, o .valid, o .live, o .monitored, t)
 
       pub move-accepted : eqb (countOf (sideOf side) (s .rec .moves)) movesMost ≡ false
-          → record { at = s .at; rec = moved (s .rec) (sideOf side); answer = showing (moved (s .rec) (sideOf side)) }
-          ≡ effectOf s (moving side)
+          → record { at = s .at; rec = moved (s .rec) (sideOf side); replied = TheRecord } ≡ effectOf s (moving side)
       unfolding effectOf judgedEffect firstOf isDone
       move-accepted t = rw (allowed, o .known, o .valid, o .live, o .monitored, t)
 

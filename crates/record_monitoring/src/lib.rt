@@ -4,15 +4,15 @@ ghost use mathlib.Core.Path.{_≡_};
 ghost use mathlib.Core.Bool.{true};
 ghost use Rattle.paper.specs.Ranges.{validQuote};
 ghost use Rattle.paper.specs.Verdicts.{firstOf};
-ghost use Rattle.paper_desk.specs.Desk.{Ask, nearOn, quoted, alertsOn};
-ghost use Rattle.record_answers.specs.Effects.{isKnown, effectOf};
+ghost use Rattle.paper_desk.specs.Desk.{Ask, theAlerts, nearOn, quoted};
+ghost use Rattle.record_answers.specs.Effects.{isKnown, repliedOn, effectOf};
 ghost use Rattle.record_monitoring.specs.SharedChecks.{sharedChecks};
-use paper::Answer;
 use paper::NearSeconds;
 use paper::Quote;
 use paper::Record;
 use paper::Verdict;
 use record_answers::Effect;
+use record_answers::Replied;
 use record_answers::Slot;
 
 // 1, 6, 10 and 11, which a quote and a move have in this order: the first that applies, or done.
@@ -52,22 +52,19 @@ fn watched(r: Record, q: Quote, n: NearSeconds) -> Record
 }
 
 // "a quote its two alerts": of the near seconds after it, by the session's own seconds.
-fn alerts_on(r: Record, q: Quote, n: NearSeconds) -> Answer
+fn alerts_on(r: Record, q: Quote, n: NearSeconds) -> Replied
     requires { ⌜ n ≡ nearOn r q ⌝ }
-    ensures { λ a. ⌜ a ≡ alertsOn r q ⌝ }
+    ensures { λ a. ⌜ a ≡ repliedOn (theAlerts q) r ⌝ }
 {
-    let rec = record_answers::blank();
     let top = n.top;
     let bottom = n.bottom;
     let statics = r.statics;
     let session = r.session;
     let u = alerts::session::alert_seconds(statics, session);
-    Answer {
-        verdict: Verdict::Done,
-        rec,
-        top: alerts::alert(u, top, q.second),
-        bottom: alerts::alert(u, bottom, q.second),
-    }
+    Replied::Alerts(
+        alerts::alert(u, top, q.second),
+        alerts::alert(u, bottom, q.second),
+    )
 }
 
 // "quote 1, 6, 10, 11, 13".
@@ -85,11 +82,11 @@ pub fn quoted(s: Slot, q: Quote) -> Effect
     }
     let n = record_writing::near_on(r, q);
     let rec = watched(r, q, n);
-    let answer = alerts_on(r, q, n);
+    let replied = alerts_on(r, q, n);
     Effect {
         at: s.at,
         rec,
-        answer,
+        replied,
     }
 }
 

@@ -10,6 +10,7 @@ use paper_reasons::ReplacementReason;
 use paper_reasons::TentativeReason;
 use paper_reasons::WeightReason;
 use paper_reasons::Why;
+use record_answers::Effect;
 use sheet_inputs::ADMISSION_NUMBERS;
 use sheet_inputs::DAY_NUMBERS;
 use sheet_inputs::admitted;
@@ -98,21 +99,30 @@ struct Asking {
     sum: u64,
 }
 
-fn evaluated(r: Record, d: Day, rows: &[i64]) -> Record {
-    let effect = record_evaluation::evaluated(first(r), d, rows);
-    effect.rec
+// The record that an effect stores, and what is added up of the one that it answers.
+fn asking_of(effect: Effect) -> Asking {
+    let rec = effect.rec;
+    let answer = record_answers::answered(effect);
+    let shown = answer.rec;
+    Asking {
+        rec,
+        sum: figure(shown),
+    }
+}
+
+fn evaluated(r: Record, d: Day, rows: &[i64]) -> Asking {
+    asking_of(record_evaluation::evaluated(first(r), d, rows))
 }
 
 fn asked_on(asked: DailyAsk, r: Record, d: Day, rows: &[i64]) -> Asking {
     match asked {
-        DailyAsk::Evaluation => {
-            let rec = evaluated(r, d, rows);
-            let sum = figure(rec);
-            Asking { rec, sum }
-        }
+        DailyAsk::Evaluation => evaluated(r, d, rows),
         DailyAsk::EvaluationAnew => {
-            let sum = figure(evaluated(r, d, rows));
-            Asking { rec: r, sum }
+            let asking = evaluated(r, d, rows);
+            Asking {
+                rec: r,
+                sum: asking.sum,
+            }
         }
         DailyAsk::Why => {
             let why = record_reasons::why(first(r), d, rows);
@@ -121,13 +131,7 @@ fn asked_on(asked: DailyAsk, r: Record, d: Day, rows: &[i64]) -> Asking {
                 sum: lasts(why),
             }
         }
-        DailyAsk::Reading => {
-            let effect = record_calls::read(first(r));
-            let answer = effect.answer;
-            let rec = answer.rec;
-            let sum = figure(rec);
-            Asking { rec, sum }
-        }
+        DailyAsk::Reading => asking_of(record_calls::read(first(r))),
     }
 }
 

@@ -10,9 +10,9 @@ use denote.Triple.Table.{entered, cited}
 use Rattle.paper.specs.declared.Record.{Record}
 use Rattle.paper.specs.declared.AskedAbout.{AskedAbout}
 use Rattle.paper_desk.specs.Desk.{about, askOf}
-use Rattle.record_answers.specs.Effects.{slotOf, effectOf}
+use Rattle.record_answers.specs.Effects.{slotOf, answerOf, effectOf}
 use Rattle.desk.specs.Promises.{Promised}
-use Rattle.desk.proofs.Known.{take-known, put-known}
+use Rattle.desk.proofs.Known.{take-known, put-known, answered-known}
 use Rattle.desk.proofs.Plain.{asking, asking-laws}
 use Rattle.desk.proofs.ShapeWithRows.{Ends, Rule, meets}
 use Rattle.desk.proofs.Steps.{ask-steps, promised}
@@ -29,7 +29,7 @@ ends id a rows t r u = Promised (about id (askOf a rows)) t r u
 
 done : (t : List Record) (id : ℕ) (a : AskedAbout) (rows : List ℤ)
     → let o = effectOf (slotOf t id) (askOf a rows) in
-    ends id a rows t (o .answer) (set t (o .at) (o .rec))
+    ends id a rows t (answerOf o) (set t (o .at) (o .rec))
 done t id a rows =
     promised (about id (askOf a rows)) t (effectOf (slotOf t id) (askOf a rows)) (ask-steps t id (askOf a rows))
 
@@ -42,4 +42,5 @@ about-spec 𝓤 H 𝓜 𝓖 𝓡 =
     (tablesOf 𝓤 H 𝓜 (tables 𝓤 H 𝓜 𝓡 code.env)) (take-known 𝓤 H 𝓜 𝓖 𝓡 code.env code.calls-desk·take)
     (cited 𝓤 H (Rule asking asking-laws #take slotOf askOf rule-def.name 𝓤 H
     (𝓖 .A)) 𝓜 𝓡 code.env rule-def.name rule-def.routine code.calls-record-calls·effect-of (rule-thm.met 𝓤 H 𝓜 𝓖 𝓡))
-    (put-known 𝓤 H 𝓜 𝓖 𝓡 code.env code.calls-desk·put))
+    (put-known 𝓤 H 𝓜 𝓖 𝓡 code.env code.calls-desk·put)
+    (answered-known 𝓤 H 𝓜 𝓖 𝓡 code.env code.calls-record-answers·answered))

@@ -10,9 +10,9 @@ use denote.Triple.Table.{entered, cited}
 use Rattle.paper.specs.declared.Record.{Record}
 use Rattle.paper.specs.declared.AskedAbout.{AskedAbout}
 use Rattle.paper_desk.specs.Desk.{askOf}
-use Rattle.record_answers.specs.Effects.{effectOf, doneBy}
+use Rattle.record_answers.specs.Effects.{answerOf, effectOf, doneBy}
 use Rattle.desk.specs.Guesses.{slotAt, DoneAt}
-use Rattle.desk.proofs.Known.{take-at-known, put-known}
+use Rattle.desk.proofs.Known.{take-at-known, put-known, answered-known}
 use Rattle.desk.proofs.Plain.{asking, asking-laws}
 use Rattle.desk.proofs.ShapeWithRows.{Ends, Rule, meets}
 use Rattle.desk.proofs.take_at.Symbol.{name as #take-at}
@@ -28,7 +28,7 @@ ends i a rows t r u = DoneAt i (askOf a rows) t r u
 
 done : (t : List Record) (i : ℕ) (a : AskedAbout) (rows : List ℤ)
     → let o = effectOf (slotAt t i) (askOf a rows) in
-    ends i a rows t (o .answer) (set t (o .at) (o .rec))
+    ends i a rows t (answerOf o) (set t (o .at) (o .rec))
 unfolding doneBy
 done t i a rows = record { answer = refl; table = refl }
 
@@ -41,4 +41,5 @@ about-at-spec 𝓤 H 𝓜 𝓖 𝓡 =
     (𝓡 .run) (tablesOf 𝓤 H 𝓜 (tables 𝓤 H 𝓜 𝓡 code.env)) (take-at-known 𝓤 H 𝓜 𝓖 𝓡 code.env code.calls-desk·take-at)
     (cited 𝓤 H (Rule asking asking-laws #take-at slotAt askOf rule-def.name 𝓤 H
     (𝓖 .A)) 𝓜 𝓡 code.env rule-def.name rule-def.routine code.calls-record-calls·effect-of (rule-thm.met 𝓤 H 𝓜 𝓖 𝓡))
-    (put-known 𝓤 H 𝓜 𝓖 𝓡 code.env code.calls-desk·put))
+    (put-known 𝓤 H 𝓜 𝓖 𝓡 code.env code.calls-desk·put)
+    (answered-known 𝓤 H 𝓜 𝓖 𝓡 code.env code.calls-record-answers·answered))

@@ -42,24 +42,24 @@ use Rattle.paper.proofs.Admission.Laws as B′
 use Rattle.paper.proofs.GivenStatics.Laws as G′
 use Rattle.record_answers.specs.declared.Slot.{Slot}
 use Rattle.record_answers.specs.declared.Effect.{Effect}
-use Rattle.record_answers.specs.Effects.{slotOf, admitEffect}
+use Rattle.record_answers.specs.Effects.{slotOf, answerOf, admitEffect}
 use Rattle.record_answers.proofs.Slot.Laws as U′
 use Rattle.record_answers.proofs.Effect as O
 use Rattle.desk.specs.Promises.{Promised}
-use Rattle.desk.proofs.Row.{R, table-ty, S, makes-slot, effect-ty, effect-val, effect-is, typed-effect}
-use Rattle.desk.proofs.Row.{answer-val, makes-answer}
+use Rattle.desk.proofs.Row.{R, table-ty, S, makes-slot, effect-ty, effect-val, typed-effect, makes-answer}
 use Rattle.desk.proofs.Frame.{Addresses, of-types, env-of, spare, frame, value as local′, field as field′}
 use Rattle.desk.proofs.Plain.{admission, admission-laws}
 use Rattle.desk.proofs.Meeting.{Staying, changes, no-more, and-plain}
 use Rattle.desk.proofs.Meeting as Meeting
 use Rattle.desk.proofs.Lending.{ℓt, Lending, rref, wref, machine}
-use Rattle.desk.proofs.Calls.{Take, Put, Owned, taking, putting-effect, answering, takes, effect-spelled}
-use Rattle.desk.proofs.Calls.{puts-effect, answers}
-use Rattle.desk.proofs.Known.{take-known, put-known}
+use Rattle.desk.proofs.Calls.{Take, Put, Answered, Owned, taking, putting-effect, answering, takes}
+use Rattle.desk.proofs.Calls.{effect-spelled, puts-effect, answers}
+use Rattle.desk.proofs.Known.{take-known, put-known, answered-known}
 use Rattle.desk.proofs.Asks.{Callee, consults}
 use Rattle.desk.proofs.Steps.{admit-steps, promised}
 use Rattle.desk.proofs.take.Symbol.{name as #take}
 use Rattle.desk.proofs.put.Symbol.{name as #put}
+use Rattle.record_answers.proofs.answered.Symbol.{name as #answered}
 use Rattle.record_admission.proofs.admitted as rule
 use Rattle.record_admission.proofs.admitted.Symbol as rule-def
 use Rattle.record_admission.proofs.admitted.Symbol.{name as #rule}
@@ -175,14 +175,12 @@ module _ {M : Type 1} (𝓤 : URA M) (H : Heap 𝓤) (A : Atoms 𝓤) (W : Given
     abbrev effect : Effect
     effect = admitEffect slot first-empty a
 
-    exits : Is O.the-row effect (effect-val effect ∷ [])
-        → ent 𝓤 (⋆ 𝓤 H A (‵ (finally R (x .name) (set ys (effect .at) (effect .rec))) ∷ Beside))
-        (Post (answer-val (effect .answer)))
-    exits is =
+    exits : (v : Val) → Is N.the-row (answerOf effect) (v ∷ [])
+        → ent 𝓤 (⋆ 𝓤 H A (‵ (finally R (x .name) (set ys (effect .at) (effect .rec))) ∷ Beside)) (Post v)
+    exits v is =
         Meeting.exits changes taken N.the-row promises 𝓤 H A W κs x (a, tt) qs (makes-answer 𝓤 H A)
-        (set ys (effect .at) (effect .rec)) (effect .answer) (answer-val (effect .answer))
-        (length-set ys (effect .at) (effect .rec)) (promised (admit a) ys effect (admit-steps ys a))
-        (effect-is effect (effect-val effect) is .1 .1)
+        (set ys (effect .at) (effect .rec)) (answerOf effect) v (length-set ys (effect .at) (effect .rec))
+        (promised (admit a) ys effect (admit-steps ys a)) is
 
     -- what the rule is passed: the slots, whose machine values are v and u, and the admission
     abbrev to-rule : Val → Val → Bound 𝓤 H A rule.signature
@@ -197,7 +195,8 @@ module _ {M : Type 1} (𝓤 : URA M) (H : Heap 𝓤) (A : Atoms 𝓤) (W : Given
 
     module _ (C : Calls 𝓤 H) (Λ : Loops 𝓤 H) (fm : FmC 𝓤 H (W .laws) C)
         (known-take : Triple 𝓤 (C #take) (Take 𝓤 H A mem run)) (known-rule : Triple 𝓤 (C #rule) (Rule 𝓤 H A mem run))
-        (known-put : Triple 𝓤 (C #put) (Put 𝓤 H A mem run)) (ls : Addresses (function .locals)) where
+        (known-put : Triple 𝓤 (C #put) (Put 𝓤 H A mem run))
+        (known-answered : Triple 𝓤 (C #answered) (Answered 𝓤 H A mem run)) (ls : Addresses (function .locals)) where
       abbrev En : Env 𝓤 H
       En = env-of (function .locals) ls
 
@@ -250,17 +249,18 @@ module _ {M : Type 1} (𝓤 : URA M) (H : Heap 𝓤) (A : Atoms 𝓤) (W : Given
           puts-effect 𝓤 H A W mem run (κs .0) (qs .0) b o (x .name) ys room fm known-put ℓt for-put ℓunit ℓo
           (refl, refl, tt, tt, tt, tt, tt) tt refl effect is refl refl (λ _. k)
 
-      -- o.answer
+      -- answered(o)
       answer : (v u : Val) → Is O.the-row effect (effect-val effect ∷ [])
           → Sq W (In (some v) (some u) (some (effect-val effect)) ∷ Left) (Runs (answering ℓo))
-      answer v u is = answers W ℓo effect is refl refl tt refl (exits is)
+      answer v u is = answers 𝓤 H A W mem run fm known-answered ℓo effect is refl tt refl exits
 
       walk : Sq W (In none none none ∷ Ours) (Runs (function .body))
       walk = let-s (λ v is. let-e v (λ u ie. let-o v u is ie (λ io. put-o v u io (answer v u io))))
 
   module _ (𝓣 : Tables 𝓤 H) (known-take : Triple 𝓤 (𝓣 .C #take) (Take 𝓤 H A mem run))
       (known-rule : Triple 𝓤 (𝓣 .C #rule) (Rule 𝓤 H A mem run))
-      (known-put : Triple 𝓤 (𝓣 .C #put) (Put 𝓤 H A mem run)) where
+      (known-put : Triple 𝓤 (𝓣 .C #put) (Put 𝓤 H A mem run))
+      (known-answered : Triple 𝓤 (𝓣 .C #answered) (Answered 𝓤 H A mem run)) where
     goes : Meeting.Runs changes taken N.the-row promises 𝓤 H A W 𝓣 function
     unfolding admission-laws
     goes = record {
@@ -273,7 +273,7 @@ module _ {M : Type 1} (𝓤 : URA M) (H : Heap 𝓤) (A : Atoms 𝓤) (W : Given
         ),
       );
       goes = λ κs qs x a is are ls. walk κs qs x (a .0) (is .0 .1) (are .0) (𝓣 .C) (𝓣 .Λ) (fmOf 𝓤 H (W .laws) 𝓣)
-          known-take known-rule known-put ls;
+          known-take known-rule known-put known-answered ls;
     }
 
 pub admit-spec : {M : Type 1} → stated.statement M
@@ -286,4 +286,5 @@ admit-spec 𝓤 H 𝓜 𝓖 𝓡 =
     (goes 𝓤 H (𝓖 .A) (givenOf 𝓤 H 𝓜 𝓖) (𝓜 .mem) (𝓡 .run) (tablesOf 𝓤 H 𝓜 (tables 𝓤 H 𝓜 𝓡 code.env))
     (take-known 𝓤 H 𝓜 𝓖 𝓡 code.env code.calls-desk·take)
     (cited 𝓤 H (Rule 𝓤 H (𝓖 .A) (𝓜 .mem) (𝓡 .run)) 𝓜 𝓡 code.env #rule rule-def.routine
-    code.calls-record-admission·admitted (rule-thm.met 𝓤 H 𝓜 𝓖 𝓡)) (put-known 𝓤 H 𝓜 𝓖 𝓡 code.env code.calls-desk·put)))
+    code.calls-record-admission·admitted (rule-thm.met 𝓤 H 𝓜 𝓖 𝓡)) (put-known 𝓤 H 𝓜 𝓖 𝓡 code.env code.calls-desk·put)
+    (answered-known 𝓤 H 𝓜 𝓖 𝓡 code.env code.calls-record-answers·answered)))

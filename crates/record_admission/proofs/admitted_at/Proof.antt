@@ -73,15 +73,12 @@ admitted-requires c κs =
       earlier = s .pre .1;
     }
 
-saying-requires : tie.Need-saying-requires
-saying-requires c κs = search needs
-
 returns-4 : tie.Need-returns-4
 returns-4 c =
-    let f = c .before .before in
+    let f = c .before in
     let e = f .before .before in
     let test = tested-true _ (f .before .holds2 .ensures) (f .if3 .left) in
-    rw (c .saying .ensures, c .before .admitted .ensures)
+    rw (c .admitted .ensures)
     (admission-accepted _ _ _ (valid (e .before .before)) (new e) test)
 
 pub admitted-at-spec : {M : Type 1} → statement M
@@ -99,5 +96,4 @@ admitted-at-spec =
     refused-requires-3
     returns-3
     admitted-requires
-    saying-requires
     returns-4)

@@ -5,9 +5,6 @@ use Rattle.paper_desk.specs.Desk.{alerting, alertsOn}
 use Rattle.record_monitoring.proofs.alerts_on.Statement.{statement}
 use Rattle.record_monitoring.proofs.alerts_on.Tie as tie
 
-blank-requires : tie.Need-blank-requires
-blank-requires c κs = search needs
-
 alert-seconds-requires : tie.Need-alert-seconds-requires
 alert-seconds-requires c κs = search needs
 
@@ -21,15 +18,8 @@ returns : tie.Need-returns
 unfolding alertsOn alerting
 returns c =
     let seconds = c .before .before in
-    let blanked = seconds .before .before in
-    rw (
-      c .alert2 .ensures,
-      c .before .alert .ensures,
-      seconds .alert-seconds .ensures,
-      blanked .blank .ensures,
-      blanked .before .pre,
-    )
+    rw (c .alert2 .ensures, c .before .alert .ensures, seconds .alert-seconds .ensures, seconds .before .before .pre)
 
 pub alerts-on-spec : {M : Type 1} → statement M
 alerts-on-spec =
-    tie.close (tie.spec blank-requires alert-seconds-requires alert-requires alert-requires-2 returns)
+    tie.close (tie.spec alert-seconds-requires alert-requires alert-requires-2 returns)
