@@ -4,7 +4,7 @@ use mathlib.Core.Bool.{Bool, true, false, not}
 use mathlib.Core.List.{List}
 use Prim.Native.Nat.{ℕ, _≤_}
 use native.Mathlib.Nat.{le-antisymm}
-use lib.Dec.{T, ltb, nltb→le}
+use lib.Dec.{T, ltb, eqb, nltb→le}
 use lib.ListN.{length, getD}
 use Rattle.paper.specs.declared.Record.{Record}
 use Rattle.paper.specs.Lists.{pick}
@@ -44,12 +44,19 @@ slot-at-first t id = go (ltb (place t id) (length t)) refl
         let past : length t ≤ place t id = nltb→le (place t id) (length t) over in
         sym (slot-past t (place t id) over) ∙ ap absentOf (le-antisymm past (place-within t id)) ∙ slot-absent t id past
 
--- a guess that has the id is taken, and another is not
-pub guess-taken : (t : List Record) (guess id : ℕ) → T (isOf (slotAt t guess) id) → guess ≡ placeNear t guess id
+-- of the id 0 there is no place
+pub guess-none : (t : List Record) (guess id : ℕ) → T (eqb id 0) → length t ≡ placeNear t guess id
 unfolding placeNear
-guess-taken t guess id h = picked (isOf (slotAt t guess) id) guess (place t id) h
+guess-none t guess id h = picked (eqb id 0) _ _ h
 
-pub guess-left : (t : List Record) (guess id : ℕ) → T (not (isOf (slotAt t guess) id))
+-- a guess that has the id is taken, and another is not
+pub guess-taken : (t : List Record) (guess id : ℕ) → T (not (eqb id 0)) → T (isOf (slotAt t guess) id)
+    → guess ≡ placeNear t guess id
+unfolding placeNear
+guess-taken t guess id full h =
+    picked (isOf (slotAt t guess) id) guess (place t id) h ∙ left (eqb id 0) _ _ full
+
+pub guess-left : (t : List Record) (guess id : ℕ) → T (not (eqb id 0)) → T (not (isOf (slotAt t guess) id))
     → place t id ≡ placeNear t guess id
 unfolding placeNear
-guess-left t guess id h = left (isOf (slotAt t guess) id) guess (place t id) h
+guess-left t guess id full h = left (isOf (slotAt t guess) id) guess (place t id) h ∙ left (eqb id 0) _ _ full

@@ -2,7 +2,7 @@
 pub mod Places
 pub mod Guesses
 pub mod Steps
-pub mod Unique
+pub mod First
 pub mod Row
 pub mod Frame
 pub mod Slots

@@ -1,7 +1,8 @@
 -- The slot at a place, and a place that is guessed: where the slot there has the id, no slot has to be searched for it.
+-- proofs/Guesses says what a guess is worth.
 use mathlib.Core.Path.{_≡_}
 use mathlib.Core.Logic.{_≢_}
-use mathlib.Core.Bool.{Bool, not, _&&_}
+use mathlib.Core.Bool.{Bool, _&&_}
 use mathlib.Core.List.{List}
 use Prim.Native.Nat.{ℕ, _<_}
 use lib.Dec.{ltb, eqb}
@@ -19,18 +20,18 @@ slotAt t i =
     pick (ltb i (length t)) (record { count = length t; at = i; rec = getD t i blank })
     (record { count = length t; at = length t; rec = blank })
 
--- whether a slot has an id, which is not 0
+-- whether a slot has an id
 unfoldable pub isOf : Slot → (id : ℕ) → Bool
-isOf s id = not (eqb id 0) && holds s && eqb (s .rec .id) id
+isOf s id = holds s && eqb (s .rec .id) id
 
--- the guess, where the slot there has the id, or else the place of the first slot with it
+-- the place of the security with an id: the guess, where the slot there has the id, or else the first slot with it. The
+-- id 0 is no security's
 unfoldable pub placeNear : List Record → (guess id : ℕ) → ℕ
-placeNear t guess id = pick (isOf (slotAt t guess) id) guess (place t id)
+placeNear t guess id = pick (eqb id 0) (length t) (pick (isOf (slotAt t guess) id) guess (place t id))
 
--- no two slots have one id, but for empty ones
-abbrev pub Unique : List Record → Type 0
-Unique t =
-    (i k : ℕ) → i < length t → k < length t → getD t i blank .id ≢ 0 → getD t i blank .id ≡ getD t k blank .id → i ≡ k
+-- A SOUND GUESS: no slot before it has its id, but for an empty one. A place past the end is one too
+abbrev pub First : List Record → (i : ℕ) → Type 0
+First t i = i < length t → getD t i blank .id ≢ 0 → (k : ℕ) → k < i → getD t k blank .id ≢ getD t i blank .id
 
 -- of what is asked at a place of the table t: the answer r and the table t′ are those of the slot there
 pub record DoneAt (i : ℕ) (x : Ask) (t : List Record) (r : Answer) (t′ : List Record) : Type 0 where

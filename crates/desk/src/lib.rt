@@ -53,18 +53,21 @@ pub fn take(t: &[Record], id: u64) -> Slot
     take_at(t, i)
 }
 
-// Whether a slot has an id, which is not 0.
+// Whether a slot has an id.
 fn is_of(s: Slot, id: u64) -> bool
     ensures { λ b. ⌜ b ≡ isOf s id ⌝ }
 {
     let r = s.rec;
-    (id != EMPTY) & record_answers::holds(s) & (r.id == id)
+    record_answers::holds(s) & (r.id == id)
 }
 
-// The place of an id, with no walk where it is guessed.
+// The place of a security, with no walk where it is guessed. The id 0 is no security's, and nothing is searched for it.
 pub fn place_near(t: &[Record], guess: usize, id: u64) -> usize
     ensures { λ r. ⌜ r ≡ placeNear (now (t .entry)) guess id ⌝ }
 {
+    if id == EMPTY {
+        return t.len();
+    }
     let s = take_at(t, guess);
     if is_of(s, id) {
         return guess;

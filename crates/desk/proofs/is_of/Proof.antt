@@ -1,4 +1,4 @@
--- `desk::is_of` meets its contract: its three tests are the definition's, in the definition's order.
+-- `desk::is_of` meets its contract: its two tests are the definition's, in the definition's order.
 use borrow.Author.Needs.{needs}
 use Rattle.desk.specs.Guesses.{isOf}
 use Rattle.desk.proofs.is_of.Statement.{statement}
