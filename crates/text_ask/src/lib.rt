@@ -1,6 +1,6 @@
 // What a line asks for goes to the desk. Where it is asked why of an evaluation, `desk_reasons` says it first, on the
 // table as it stands; then the call is performed. Nothing here looks into an answer or a reason.
-use desk::about;
+use desk::about_at;
 use desk::admit;
 use desk_reasons::why_asked;
 use paper::Answer;
@@ -13,18 +13,32 @@ use text_protocol::Explained;
 use text_protocol::Performed;
 use text_protocol::Role;
 ghost use mathlib.Core.Path.{_≡_};
-ghost use Rattle.desk.specs.Promises.{Promised};
-ghost use Rattle.text_protocol.specs.Calls.{callAsked};
-ghost use Rattle.text_ask.specs.WithReasons.{explained, unexplained, unasked, Asks};
+ghost use Rattle.text_ask.specs.WithReasons.{explained, unexplained, unasked, idAsked, DoneOf, AsksAt};
 
-// A call goes to the public call of the desk that it is. Every table is taken, and nothing is refused here: the desk's
-// call refuses.
-fn perform(t: &mut [Record], c: AskedCall, rows: &[i64]) -> Answer
-    ensures { λ r. ⌜ Promised (callAsked c (now (rows .entry))) (now (t .entry)) r (now (t .exit)) ⌝ }
+// The id of the security that is asked about; 0 where none is.
+pub fn id_asked(a: Ask) -> u64
+    ensures { λ r. ⌜ r ≡ idAsked a ⌝ }
+{
+    match a {
+        Ask::Nothing => return 0,
+        Ask::NoCall => return 0,
+        Ask::Call(c) => match c {
+            AskedCall::Admit(_) => return 0,
+            AskedCall::About(id, _) => return id,
+        },
+        Ask::Interest(_) => return 0,
+        Ask::Bond(_) => return 0,
+    }
+}
+
+// A call goes to the public call of the desk that it is. The security that it asks about stands at a place, which the
+// caller has found. Every table is taken, and nothing is refused here: the desk's call refuses.
+fn perform(t: &mut [Record], at: usize, c: AskedCall, rows: &[i64]) -> Answer
+    ensures { λ r. ⌜ DoneOf at c (now (rows .entry)) (now (t .entry)) r (now (t .exit)) ⌝ }
 {
     match c {
         AskedCall::Admit(a) => return admit(t, a),
-        AskedCall::About(id, x) => return about(t, id, x, rows),
+        AskedCall::About(_, x) => return about_at(t, at, x, rows),
     }
 }
 
@@ -57,8 +71,8 @@ fn unasked() -> Performed
 
 // What the desk says to what a line asks for. Only a call in the role of an evaluation has reasons, and they are asked
 // before the table changes. A line that is no call of the desk leaves the table as it is.
-pub fn ask(t: &mut [Record], a: Ask, rows: &[i64], asked: bool) -> Performed
-    ensures { λ r. ⌜ Asks asked a (now (rows .entry)) (now (t .entry)) r (now (t .exit)) ⌝ }
+pub fn ask(t: &mut [Record], at: usize, a: Ask, rows: &[i64], asked: bool) -> Performed
+    ensures { λ r. ⌜ AsksAt at asked a (now (rows .entry)) (now (t .entry)) r (now (t .exit)) ⌝ }
 {
     let Ask::Call(c) = a else {
         return unasked();
@@ -67,10 +81,10 @@ pub fn ask(t: &mut [Record], a: Ask, rows: &[i64], asked: bool) -> Performed
         let role = c.role();
         if let Role::Evaluation(id, day) = role {
             let why = why_asked(t, id, day, rows);
-            let answer = perform(t, c, rows);
+            let answer = perform(t, at, c, rows);
             return with_why(answer, why);
         }
     }
-    let answer = perform(t, c, rows);
+    let answer = perform(t, at, c, rows);
     without_why(answer)
 }

@@ -16,7 +16,7 @@ use denote.RattleType.{RattleType}
 use denote.Laws.{Is}
 use denote.Array.{Array}
 use denote.Memory.{pointee}
-use denote.Builtin.{u8, i64}
+use denote.Builtin.{u8, i64, usize}
 use denote.Ref.{RefT, MutRef}
 use denote.Steps.{only}
 use denote.Enum.Laws as EL
@@ -32,6 +32,7 @@ use Rattle.text_protocol.proofs.Kept.Laws as K′
 use Rattle.text_evidence.proofs.Written.Laws as V′
 use Rattle.text_input.proofs.Input.Laws as I′
 use Rattle.text_turn.specs.declared.State.{State}
+use Rattle.text_serve.specs.Places.{placesMost}
 use Rattle.text_turn.specs.declared.Prepared.{Prepared}
 use Rattle.text_turn.proofs.State as G
 use Rattle.text_turn.proofs.State.Laws as G′
@@ -46,6 +47,9 @@ Bytes = Array u8 bufferRoom
 
 abbrev pub Numbers : RattleType
 Numbers = Array i64 keptMost
+
+abbrev pub Places : RattleType
+Places = Array usize placesMost
 
 -- a reference to an array, as `&mut` and as `&`, whose lifetime no type names
 abbrev pub mref : RattleType → Ty

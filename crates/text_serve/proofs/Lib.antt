@@ -4,6 +4,8 @@ mod Turning
 mod Joining
 pub mod Arrays
 mod Hears
+mod Finds
+mod Noted
 mod Performs
 mod Tells
 mod Held

@@ -49,7 +49,7 @@ use Rattle.text_protocol.proofs.Performed.Laws as F′
 use Rattle.text_protocol.specs.declared.Ask.{Ask as Asked}
 use Rattle.text_protocol.proofs.Ask as B
 use Rattle.text_protocol.proofs.Ask.Laws as B′
-use Rattle.text_ask.specs.WithReasons.{Asks}
+use Rattle.text_ask.specs.WithReasons.{AsksAt}
 use Rattle.text_ask.proofs.ask as ask
 use Rattle.text_ask.proofs.ask.Symbol as ask-def
 use Rattle.text_ask.proofs.Typed.{typed-performed}
@@ -166,61 +166,65 @@ module _ {M : Type 1} (𝓤 : URA M) (H : Heap 𝓤) (A : Atoms 𝓤) (mem′ : 
           rewrite ! 0 (λ (z : Val). frame H E (holding cs d (some z))) (figures-are α f w is) refl $ k f e))))
 
   -- ---- `ask`
-  module _ (W : Given 𝓤 H A) (κ α : Lft) (q : Share) (b o : ℕ) (γ : GName) (ys : List Record) (f : RefT (List ℤ)) (l :
-      Asked) (asked : Bool) (gl : Is B.the-row l (ask-val l ∷ [])) where
-    abbrev to-ask : Bound 𝓤 H A ask.signature
-    to-ask = (
-      (κ, (α, tt)),
-      (q, (fullShare, tt)),
-      tt,
-      (ref b o γ ys, (l, (f, (asked, tt)))),
-      (machine b o ys ∷ [], (ask-val l ∷ [], (figures-val f ∷ [], (vbool asked ∷ [], tt)))),
-    )
+  module _ (W : Given 𝓤 H A) (κ α : Lft) (q : Share) (b o : ℕ) (γ : GName) (ys : List Record) (at : ℕ)
+      (at-fits : at < 2 ^ 64) (f : RefT (List ℤ)) (l : Asked) (asked : Bool) (gl : Is B.the-row l (ask-val l ∷ []))
+    where
+      abbrev to-ask : Bound 𝓤 H A ask.signature
+      to-ask = (
+        (κ, (α, tt)),
+        (q, (fullShare, tt)),
+        tt,
+        (ref b o γ ys, (at, (l, (f, (asked, tt))))),
+        (machine b o ys ∷ [], (vint w64 at ∷ [], (ask-val l ∷ [], (figures-val f ∷ [], (vbool asked ∷ [], tt))))),
+      )
 
-    -- the table and the row figures, each with the token of its lifetime
-    abbrev HandedToAsk : Item 𝓤
-    HandedToAsk =
-        (‵ (Owned κ b o γ ys) ⊛ ‵ (flft κ q)) ⊛ (‵ (Figures 1 α f (figures-val f)) ⊛ ‵ (flft α fullShare))
+      -- the table and the row figures, each with the token of its lifetime
+      abbrev HandedToAsk : Item 𝓤
+      HandedToAsk =
+          (‵ (Owned κ b o γ ys) ⊛ ‵ (flft κ q)) ⊛ (‵ (Figures 1 α f (figures-val f)) ⊛ ‵ (flft α fullShare))
 
-    goes-ask : ent 𝓤 (mean 𝓤 H A HandedToAsk) (Ask .pre (to-ask, tt))
-    goes-ask =
-        qed W (HandedToAsk ∷ []) ∵ split ! $
-        split ! $ move ! (2 ∷ []) $ split ! $
-        -- [the figures; their token; t; its token]
-        nothing ! $ move ! (2 ∷ 0 ∷ []) $ join ! $ move ! (3 ∷ 0 ∷ []) $ join ! $
-        -- [the tokens; the figures; t]
-        nothing ! $ owned ! bool (Is bool) (bool-makes 𝓤 H A W) asked (vbool asked ∷ []) refl $ fjoin ! $
-        move ! (2 ∷ 0 ∷ []) $ fjoin ! $
-        owned ! B.the-row (Is B.the-row) (EL.makes B.the-type B′.the-plain 𝓤 H A) l (ask-val l ∷ []) gl $ fjoin ! $
-        move ! (2 ∷ 0 ∷ []) $ fjoin ! $
-        move ! (1 ∷ 0 ∷ []) $ join ! $ framed ! $ done !
+      goes-ask : ent 𝓤 (mean 𝓤 H A HandedToAsk) (Ask .pre (to-ask, tt))
+      goes-ask =
+          qed W (HandedToAsk ∷ []) ∵ split ! $
+          split ! $ move ! (2 ∷ []) $ split ! $
+          -- [the figures; their token; t; its token]
+          nothing ! $ move ! (2 ∷ 0 ∷ []) $ join ! $ move ! (3 ∷ 0 ∷ []) $ join ! $
+          -- [the tokens; the figures; t]
+          nothing ! $ owned ! bool (Is bool) (bool-makes 𝓤 H A W) asked (vbool asked ∷ []) refl $ fjoin ! $
+          move ! (2 ∷ 0 ∷ []) $ fjoin ! $
+          owned ! B.the-row (Is B.the-row) (EL.makes B.the-type B′.the-plain 𝓤 H A) l (ask-val l ∷ []) gl $ fjoin ! $
+          owned ! usize (Is usize) (uint-makes 𝓤 H A W w64) at _ (refl, at-fits) $ fjoin ! $
+          move ! (2 ∷ 0 ∷ []) $ fjoin ! $
+          move ! (1 ∷ 0 ∷ []) $ join ! $ framed ! $ done !
 
-    -- what is ensured of what the desk said
-    abbrev Ensured : Performed → Item 𝓤
-    Ensured a = some′ (λ (zs : List Record × (Unit {0} × (Unit {0} × (Unit {0} × Unit {0})))).
-        ‵ (fsep (fsep (finally R γ (zs .0)) (feq ℕ (length (zs .0)) (length ys)))
-        (fsep ftrue (fsep ftrue (fsep ftrue ftrue)))) ⊛ raw (fact 𝓤 (Asks asked l (f .now) ys a (zs .0))))
+      -- what is ensured of what the desk said
+      abbrev Ensured : Performed → Item 𝓤
+      Ensured a = some′ (λ (zs : List Record × (Unit {0} × (Unit {0} × (Unit {0} × (Unit {0} × Unit {0}))))).
+          ‵ (fsep (fsep (finally R γ (zs .0)) (feq ℕ (length (zs .0)) (length ys)))
+          (fsep ftrue (fsep ftrue (fsep ftrue (fsep ftrue ftrue)))))
+          ⊛ raw (fact 𝓤 (AsksAt at asked l (f .now) ys a (zs .0))))
 
-    module _ {Γ : List (Item 𝓤)} {E : Env 𝓤 H} {cs : Locals} {C : Calls 𝓤 H} {Λ : Loops 𝓤 H} {post : Post 𝓤 H}
-        {args : List Operand} {d : ℕ} {rest : Code} where
-      pub asks : FmC 𝓤 H (W .laws) C → Triple 𝓤 (C ask-def.name) Ask → Within E d → spotOf 𝓤 H E d .0 ≡ F′.mir
-          → ((Δ : List (Item 𝓤)) → Opds (Go {0}) W (frame H E cs ∷ Δ) E args
-          (machine b o ys ∷ ask-val l ∷ figures-val f ∷ vbool asked ∷ []))
-          → ((zs : List Record) (a : Performed) (w : Val) → length zs ≡ length ys → Asks asked l (f .now) ys a zs
-          → Is F.the-row a (w ∷ [])
-          → Sq W (frame H E (holding cs d (some w)) ∷ ‵ (finally R γ zs) ∷ ‵ (flft κ q) ∷ ‵ (flft α fullShare) ∷ Γ)
-          (runs C Λ E rest post))
-          → Sq W (frame H E cs ∷ ‵ (Owned κ b o γ ys) ∷ ‵ (flft κ q) ∷ ‵ (Figures 1 α f (figures-val f))
-          ∷ ‵ (flft α fullShare) ∷ Γ) (runs C Λ E (seq (call ask-def.name args (place d [])) rest) post)
-      asks fm known in-d is-said os k =
-          move ! (1 ∷ 2 ∷ []) $ join ! $ move ! (2 ∷ 3 ∷ []) $ join ! $ move ! (1 ∷ 0 ∷ []) $ join ! $
-          calls 𝓤 H A W ask.ended (ask.clauses 𝓤 H A mem′ run) to-ask tt fm known HandedToAsk goes-ask
-          (λ a w is. subst (λ (τ : Ty). T (hasTy τ w) × WT w) (sym is-said) (typed-performed 𝓤 H A W a w is)) in-d
-          (os _) (λ a w is. use1 W (Ensured a) (id⊢ 𝓤 _) $ pick ! (λ zs. split ! $ move ! (1 ∷ []) $
-          heard ! (Asks asked l (f .now) ys a (zs .0)) (λ e. fsplit ! $ fsplit ! $ move ! (1 ∷ []) $ feqL !
-          (λ n. move ! (1 ∷ []) $ drop ! $
-          -- [the last list; the tokens; the frame; …]
-          move ! (1 ∷ []) $ use1 W (‵ (flft κ q) ⊛ (‵ (flft α fullShare) ⊛ ‵ ftrue)) (id⊢ 𝓤 _) $ split ! $
-          move ! (1 ∷ []) $ split ! $ move ! (1 ∷ []) $ drop ! $
-          -- [the figures' token; the table's; the last list; the frame; …]
-          move ! (3 ∷ 2 ∷ 1 ∷ 0 ∷ []) $ k (zs .0) a w n e is))))
+      module _ {Γ : List (Item 𝓤)} {E : Env 𝓤 H} {cs : Locals} {C : Calls 𝓤 H} {Λ : Loops 𝓤 H} {post : Post 𝓤 H}
+          {args : List Operand} {d : ℕ} {rest : Code} where
+        pub asks : FmC 𝓤 H (W .laws) C → Triple 𝓤 (C ask-def.name) Ask → Within E d → spotOf 𝓤 H E d .0 ≡ F′.mir
+            → ((Δ : List (Item 𝓤)) → Opds (Go {0}) W (frame H E cs ∷ Δ) E args
+            (machine b o ys ∷ vint w64 at ∷ ask-val l ∷ figures-val f ∷ vbool asked ∷ []))
+            → ((zs : List Record) (a : Performed) (w : Val) → length zs ≡ length ys
+            → AsksAt at asked l (f .now) ys a zs
+            → Is F.the-row a (w ∷ [])
+            → Sq W (frame H E (holding cs d (some w)) ∷ ‵ (finally R γ zs) ∷ ‵ (flft κ q) ∷ ‵ (flft α fullShare) ∷ Γ)
+            (runs C Λ E rest post))
+            → Sq W (frame H E cs ∷ ‵ (Owned κ b o γ ys) ∷ ‵ (flft κ q) ∷ ‵ (Figures 1 α f (figures-val f))
+            ∷ ‵ (flft α fullShare) ∷ Γ) (runs C Λ E (seq (call ask-def.name args (place d [])) rest) post)
+        asks fm known in-d is-said os k =
+            move ! (1 ∷ 2 ∷ []) $ join ! $ move ! (2 ∷ 3 ∷ []) $ join ! $ move ! (1 ∷ 0 ∷ []) $ join ! $
+            calls 𝓤 H A W ask.ended (ask.clauses 𝓤 H A mem′ run) to-ask tt fm known HandedToAsk goes-ask
+            (λ a w is. subst (λ (τ : Ty). T (hasTy τ w) × WT w) (sym is-said) (typed-performed 𝓤 H A W a w is)) in-d
+            (os _) (λ a w is. use1 W (Ensured a) (id⊢ 𝓤 _) $ pick ! (λ zs. split ! $ move ! (1 ∷ []) $
+            heard ! (AsksAt at asked l (f .now) ys a (zs .0)) (λ e. fsplit ! $ fsplit ! $ move ! (1 ∷ []) $ feqL !
+            (λ n. move ! (1 ∷ []) $ drop ! $
+            -- [the last list; the tokens; the frame; …]
+            move ! (1 ∷ []) $ use1 W (‵ (flft κ q) ⊛ (‵ (flft α fullShare) ⊛ ‵ ftrue)) (id⊢ 𝓤 _) $ split ! $
+            move ! (1 ∷ []) $ split ! $ move ! (1 ∷ []) $ drop ! $
+            -- [the figures' token; the table's; the last list; the frame; …]
+            move ! (3 ∷ 2 ∷ 1 ∷ 0 ∷ []) $ k (zs .0) a w n e is))))

@@ -35,6 +35,7 @@ use Rattle.text_evening.specs.Evening.{answerTo, reasonOn, reasonTo, callTold, 
 use Rattle.text_broadcast.specs.Sent.{messagesShown, broadcastShown}
 use Rattle.text_deed.specs.declared.Beside.{Beside}
 use Rattle.text_deed.specs.Deeds.{BesideIs, asksWhy, faultShown, reasonFor, callSaid, lineText}
+use Rattle.desk.specs.Promises.{Promised}
 use Rattle.text_ask.specs.WithReasons.{explanation, Performs, Asks}
 
 -- ---- each call is told by its role, since its role goes by its rule
@@ -141,7 +142,8 @@ module _ (rows : List ℤ) (p : Performed) (t t' : List Record) where
   reasoned (Admit g) e y = faulted g e y
   reasoned (About id x) e y = unfaulted (About id x) (role-by-rule id x rows .admits) e y
 
-  call-told-as : (telling : Telling) (c : AskedCall) → Performs (asksWhy telling) c rows t p t'
+  call-told-as : (telling : Telling) (c : AskedCall)
+      → Performs (Promised (callAsked c rows) t) (asksWhy telling) c rows t p t'
       → callSaid telling (roleOf c) p ≡ callTold telling (callAsked c rows) t
   unfolding asksWhy callSaid callTold
   call-told-as Answers c h = answered c (h .promised .answer)

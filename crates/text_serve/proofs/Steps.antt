@@ -35,7 +35,8 @@ use Rattle.text_turn.specs.declared.State.{State}
 use Rattle.text_turn.proofs.State as G
 use Rattle.text_turn.proofs.State.Laws as G′
 use Rattle.text_serve.specs.Serve.{Turns}
-use Rattle.text_serve.proofs.Arrays.{Bytes, Numbers, to, Lent, state-val, IsState}
+use Rattle.text_serve.specs.Places.{Sound}
+use Rattle.text_serve.proofs.Arrays.{Bytes, Numbers, Places, to, Lent, state-val, IsState}
 use Rattle.text_serve.proofs.step as one
 
 module _ {M : Type 1} (𝓤 : URA M) (H : Heap 𝓤) (A : Atoms 𝓤) (mem′ : Memory → SProp 𝓤) (run : Routine → Fun 𝓤) where
@@ -44,15 +45,18 @@ module _ {M : Type 1} (𝓤 : URA M) (H : Heap 𝓤) (A : Atoms 𝓤) (mem′ : 
 
   module _ (W : Given 𝓤 H A) (α β : Lft) (b o : ℕ) (γ : GName) (ys : List Record) (lb : ℕ) (γb : GName) (bs : List ℕ)
       (lx : ℕ) (γx : GName) (xs : List ℤ)
-      (lo : ℕ) (γo : GName) (os : List ℕ) (s : State) where
+      (lo : ℕ) (γo : GName) (os : List ℕ) (lp : ℕ) (γp : GName) (ps : List ℕ) (s : State) where
     abbrev pub to-one : One .Ghost
     to-one = (
       (
         (α, (β, tt)),
         (fullShare, (fullShare, tt)),
         tt,
-        (ref b o γ ys, (to lb 0 γb bs, (to lx 0 γx xs, (to lo 0 γo os, (s, tt))))),
-        (machine b o ys ∷ [], (vptr lb 0 ∷ [], (vptr lx 0 ∷ [], (vptr lo 0 ∷ [], (state-val s ∷ [], tt))))),
+        (ref b o γ ys, (to lb 0 γb bs, (to lx 0 γx xs, (to lo 0 γo os, (to lp 0 γp ps, (s, tt)))))),
+        (
+          machine b o ys ∷ [],
+          (vptr lb 0 ∷ [], (vptr lx 0 ∷ [], (vptr lo 0 ∷ [], (vptr lp 0 ∷ [], (state-val s ∷ [], tt))))),
+        ),
       ),
       tt,
     )
@@ -61,50 +65,56 @@ module _ {M : Type 1} (𝓤 : URA M) (H : Heap 𝓤) (A : Atoms 𝓤) (mem′ : 
     abbrev pub HandedToStep : Item 𝓤
     HandedToStep =
         ‵ (Owned α b o γ ys) ⊛ (‵ (Lent Bytes 0 α lb 0 γb bs) ⊛ (‵ (Lent Numbers 1 β lx 0 γx xs)
-        ⊛ (‵ (Lent Bytes 0 α lo 0 γo os) ⊛ (‵ (flft α fullShare) ⊛ ‵ (flft β fullShare)))))
+        ⊛ (‵ (Lent Bytes 0 α lo 0 γo os) ⊛ (‵ (Lent Places 0 α lp 0 γp ps)
+        ⊛ (‵ (flft α fullShare) ⊛ ‵ (flft β fullShare))))))
 
-    pub goes-one : IsState s → Stands bs (s .input) → s .waiting + answerMost ≤ bufferRoom → ent 𝓤
-        (mean 𝓤 H A HandedToStep) (One .pre
-        to-one)
-    goes-one held stands space =
+    pub goes-one : IsState s → Stands bs (s .input) → s .waiting + answerMost ≤ bufferRoom → Sound ys ps
+        → ent 𝓤 (mean 𝓤 H A HandedToStep) (One .pre to-one)
+    goes-one held stands space sound =
         qed W (HandedToStep ∷ []) ∵ split ! $ move ! (1 ∷ []) $ split ! $ move ! (1 ∷ []) $ split ! $
-        move ! (1 ∷ []) $ split ! $ move ! (1 ∷ []) $ split ! $
-        -- [α's token; β's token; the answers; the numbers; the buffer; t]
-        says ! (stands, space) $ nothing ! $ move ! (2 ∷ 0 ∷ []) $ join ! $ move ! (1 ∷ 0 ∷ []) $ join ! $ frame ! $
-        -- [the answers; the numbers; the buffer; t]
+        move ! (1 ∷ []) $ split ! $ move ! (1 ∷ []) $ split ! $ move ! (1 ∷ []) $ split ! $
+        -- [α's token; β's token; the places; the answers; the numbers; the buffer; t]
+        says ! (stands, space, sound) $ nothing ! $ move ! (2 ∷ 0 ∷ []) $ join ! $ move ! (1 ∷ 0 ∷ []) $ join ! $ frame ! $
+        -- [the places; the answers; the numbers; the buffer; t]
         nothing ! $ owned ! G.the-row (Is G.the-row) (LL.makes G.the-type G′.the-plain 𝓤 H A) s (state-val s ∷ []) held
         $ fjoin ! $
-        move ! (1 ∷ 0 ∷ []) $ fjoin ! $ move ! (1 ∷ 0 ∷ []) $ fjoin ! $ move ! (1 ∷ 0 ∷ []) $ fjoin ! $ move ! (1 ∷ 0 ∷
-        []) $ fjoin ! $ done !
+        move ! (1 ∷ 0 ∷ []) $ fjoin ! $ move ! (1 ∷ 0 ∷ []) $ fjoin ! $ move ! (1 ∷ 0 ∷ []) $ fjoin ! $
+        move ! (1 ∷ 0 ∷ []) $ fjoin ! $ move ! (1 ∷ 0 ∷ []) $ fjoin ! $ done !
 
     -- what comes of the call
     abbrev Back : Val → Item 𝓤
     Back w = later (some (λ (r : State). ((‵ (flft α fullShare) ⊛ (‵ (flft β fullShare) ⊛ ‵ ftrue)) ⊛ ‵ (G.the-row .own
         r (w ∷ [])))
-        ⊛ some (λ (zs : List Record × (List ℕ × (List ℤ × (List ℕ × (Unit {0} × Unit {0}))))).
+        ⊛ some (λ (zs : List Record × (List ℕ × (List ℤ × (List ℕ × (List ℕ × (Unit {0} × Unit {0})))))).
         ‵ (fsep (fsep (finally R γ (zs .0)) (feq ℕ (length (zs .0)) (length ys))) (fsep (fres γb (Bytes .coded .code
         (zs .1 .0)))
-        (fsep (fres γx (Numbers .coded .code (zs .1 .1 .0))) (fsep (fres γo (Bytes .coded .code (zs .1 .1 .1 .0))) (fsep
-        ftrue ftrue)))))
-        ⊛ raw (fact 𝓤 (Turns bs s ys os (zs .1 .0) r (zs .0) (zs .1 .1 .1 .0))))))
+        (fsep (fres γx (Numbers .coded .code (zs .1 .1 .0))) (fsep (fres γo (Bytes .coded .code (zs .1 .1 .1 .0)))
+        (fsep (fres γp (Places .coded .code (zs .1 .1 .1 .1 .0))) (fsep ftrue ftrue))))))
+        ⊛ raw (fact 𝓤 (Turns bs s ys os (zs .1 .0) r (zs .0) (zs .1 .1 .1 .0)
+        × Sound (zs .0) (zs .1 .1 .1 .1 .0))))))
 
     module _ {Γ : List (Item 𝓤)} {g : Goal 𝓤 H} where
       pub comes-back : Soaks g → (w : Val)
-          → ((zs : List Record) (bs′ : List ℕ) (xs′ : List ℤ) (os′ : List ℕ) (r : State) → length zs ≡ length ys → Turns
-          bs s ys os bs′ r zs os′
+          → ((zs : List Record) (bs′ : List ℕ) (xs′ : List ℤ) (os′ ps′ : List ℕ) (r : State) → length zs ≡ length ys
+          → Turns bs s ys os bs′ r zs os′ × Sound zs ps′
           → Is G.the-row r (w ∷ []) → Sq W (‵ (finally R γ zs) ∷ ‵ (fres γb (Bytes .coded .code bs′)) ∷ ‵ (fres γx
           (Numbers .coded .code xs′))
-          ∷ ‵ (fres γo (Bytes .coded .code os′)) ∷ ‵ (flft α fullShare) ∷ ‵ (flft β fullShare) ∷ Γ) g)
+          ∷ ‵ (fres γo (Bytes .coded .code os′)) ∷ ‵ (fres γp (Places .coded .code ps′)) ∷ ‵ (flft α fullShare) ∷ ‵ (flft β fullShare) ∷ Γ) g)
           → Sq W (raw (One .post to-one w) ∷ Γ) g
       comes-back soaks w k =
           use1 W (Back w) (id⊢ 𝓤 _) $ await ! soaks $ pick ! (λ r. split ! $ move ! (1 ∷ []) $ pick ! (λ zs. split ! $
           move ! (1 ∷ []) $
-          heard ! (Turns bs s ys os (zs .1 .0) r (zs .0) (zs .1 .1 .1 .0)) (λ e. fsplit ! $ fsplit ! $ move ! (1 ∷ []) $
+          heard ! (Turns bs s ys os (zs .1 .0) r (zs .0) (zs .1 .1 .1 .0) × Sound (zs .0) (zs .1 .1 .1 .1 .0)) (λ e.
+          fsplit ! $ fsplit ! $ move ! (1 ∷ []) $
           feqL ! (λ l. move ! (1 ∷ []) $
-          fsplit ! $ move ! (1 ∷ []) $ fsplit ! $ move ! (1 ∷ []) $ fsplit ! $ move ! (1 ∷ []) $ drop ! $
-          -- [the answers' last; the numbers' last; the buffer's last; t's last list; the tokens and the state; …]
-          move ! (4 ∷ []) $ split ! $ move ! (1 ∷ []) $ facts ! G.the-row (Is G.the-row) (shows 𝓤 H A G.the-row) r (w ∷
+          fsplit ! $ move ! (1 ∷ []) $ fsplit ! $ move ! (1 ∷ []) $ fsplit ! $ move ! (1 ∷ []) $ fsplit ! $
+          move ! (1 ∷ []) $ drop ! $
+          -- [the places' last; the answers' last; the numbers' last; the buffer's last; t's last list; the tokens and
+          -- the state; …]
+          move ! (5 ∷ []) $ split ! $ move ! (1 ∷ []) $ facts ! G.the-row (Is G.the-row) (shows 𝓤 H A G.the-row) r (w ∷
           []) (λ is.
           split ! $ move ! (1 ∷ []) $ split ! $ move ! (1 ∷ []) $ drop ! $
-          -- [β's token; α's token; the answers' last; the numbers' last; the buffer's last; t's last list; …]
-          move ! (5 ∷ 4 ∷ 3 ∷ 2 ∷ 1 ∷ 0 ∷ []) $ k (zs .0) (zs .1 .0) (zs .1 .1 .0) (zs .1 .1 .1 .0) r l e is)))))
+          -- [β's token; α's token; the places' last; the answers' last; the numbers' last; the buffer's last; t's last
+          -- list; …]
+          move ! (6 ∷ 5 ∷ 4 ∷ 3 ∷ 2 ∷ 1 ∷ 0 ∷ []) $
+          k (zs .0) (zs .1 .0) (zs .1 .1 .0) (zs .1 .1 .1 .0) (zs .1 .1 .1 .1 .0) r l e is)))))

@@ -2,19 +2,22 @@
 // answered.
 ghost use mathlib.Core.Path.{_≡_};
 ghost use Prim.Native.Nat.{_+_, _≤_};
-ghost use lib.ListN.{length, take, drop, replicate};
+ghost use lib.ListN.{length, take, drop, replicate, getD, set};
 ghost use Rattle.paper_desk.specs.Desk.{blank};
 ghost use Rattle.text_input.specs.Input.{Stands};
 ghost use Rattle.text_turn.specs.Turn.{Prepares};
 ghost use Rattle.text_serve.specs.Serve.{Turns, Serves};
+ghost use Rattle.text_serve.specs.Places.{placesMost, entryOf, Sound};
 ghost use Rattle.text_bytes.specs.Bytes.{room};
 ghost use Rattle.text_protocol.specs.Answers.{answerMost};
 ghost use Rattle.text_protocol.specs.Line.{keptMost};
 ghost use Rattle.text_protocol.specs.Names.{evaluateCount};
 ghost use Rattle.paper.specs.Numbers.{slotsMost};
+use desk::place_near;
 use libc::STDERR_FILENO;
 use paper::Record;
 use text_ask::ask;
+use text_ask::id_asked;
 use text_bytes::ROOM;
 use text_evening::Telling;
 use text_protocol::KEPT;
@@ -40,20 +43,55 @@ fn rows_in(xs: &[i64; KEPT], count: usize) -> &[i64]
     rows_of(xs, count)
 }
 
-// One line: heard, asked of the desk, answered. The numbers of the line have a lifetime of their own.
+// As many places are noted, an entry for the ids with one rest: a power of two above the slots.
+const PLACES: usize = 1024;
+
+// The same, for an id to be divided by.
+const RESTS: u64 = 1024;
+
+// The entry of an id.
+fn entry_of(id: u64) -> usize
+    ensures { λ r. ⌜ r ≡ entryOf id ⌝ }
+{
+    (id % RESTS) as usize
+}
+
+// Where an id was found last, or another with its entry.
+fn guess_in(places: &[usize; PLACES], id: u64) -> usize
+    ensures { λ r. ⌜ r ≡ getD (now (places .entry)) (entryOf id) 0 ⌝ }
+{
+    let k = entry_of(id);
+    places[k]
+}
+
+// Notes where an id was found.
+fn note_in(places: &mut [usize; PLACES], id: u64, at: usize)
+    ensures { λ _. ⌜ now (places .exit) ≡ set (now (places .entry)) (entryOf id) at ⌝ }
+{
+    let k = entry_of(id);
+    places[k] = at;
+}
+
+// One line: heard, asked of the desk, answered. The place of the security that it asks about is guessed, and noted for
+// the next line about it. The numbers of the line have a lifetime of their own.
 pub fn step<'a, 'b>(
     t: &'a mut [Record],
     buf: &'a mut [u8; ROOM],
     xs: &'b mut [i64; KEPT],
     out: &'a mut [u8; ROOM],
+    places: &'a mut [usize; PLACES],
     s: State,
 ) -> State
-    requires { ⌜ (Stands (now buf) (s .input)) × (s .waiting + answerMost ≤ room) ⌝ }
-    ensures { λ r. ⌜ Turns (now (buf .entry)) s (now (t .entry)) (now (out .entry))
-        (now (buf .exit)) r (now (t .exit)) (now (out .exit)) ⌝ }
+    requires { ⌜ (Stands (now buf) (s .input)) × (s .waiting + answerMost ≤ room) × Sound (now t) (now places) ⌝ }
+    ensures { λ r. ⌜ (Turns (now (buf .entry)) s (now (t .entry)) (now (out .entry))
+        (now (buf .exit)) r (now (t .exit)) (now (out .exit))) × Sound (now (t .exit)) (now (places .exit)) ⌝ }
 {
     let p = hear_in(buf, xs, s);
-    let a = ask(t, p.ask, rows_in(xs, p.count), p.asked);
+    let id = id_asked(p.ask);
+    let guess = guess_in(places, id);
+    let at = place_near(t, guess, id);
+    note_in(places, id, at);
+    let a = ask(t, at, p.ask, rows_in(xs, p.count), p.asked);
     tell(out, p, a)
 }
 
@@ -64,6 +102,13 @@ fn no_numbers() -> [i64; KEPT]
     [0; KEPT]
 }
 
+// No place is noted: the first slot is a sound guess of every table.
+fn no_places() -> [usize; PLACES]
+    ensures { λ r. ⌜ r ≡ replicate placesMost 0 ⌝ }
+{
+    [0; PLACES]
+}
+
 // Every line of standard input, told in one way. The state at the end has the evidence of what was read and written.
 pub fn serve(t: &mut [Record], telling: Telling) -> State
     ensures { λ r. ⌜ Serves telling (now (t .entry)) r (now (t .exit)) ⌝ }
@@ -71,9 +116,10 @@ pub fn serve(t: &mut [Record], telling: Telling) -> State
     let mut buf = io::large_buffer();
     let mut xs = no_numbers();
     let mut out = io::large_buffer();
+    let mut places = no_places();
     let mut s = start(telling);
     while s.input.left > 0 {
-        s = step(t, &mut buf, &mut xs, &mut out, s);
+        s = step(t, &mut buf, &mut xs, &mut out, &mut places, s);
     }
     s
 }

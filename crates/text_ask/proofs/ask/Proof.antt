@@ -32,8 +32,8 @@ use sound.WpLaws.{FmC, fmOf, WpFn-mono}
 use denote.RattleType.{owns}
 use denote.Laws.{Is}
 use denote.Memory.{pointee}
-use denote.Plain.{uint-makes, bool-vals, bool-tells, bool-makes}
-use denote.Builtin.{u64, i64, bool}
+use denote.Plain.{uint-makes, uint-vals, uint-tells, bool-vals, bool-tells, bool-makes}
+use denote.Builtin.{usize, u64, i64, bool}
 use denote.Ref.{RefT}
 use denote.Slice.{sliceTy, sliceVal, MutSlice, ShrSlice, Room, slice-vals, mut-slice-tells, shr-slice-tells}
 use denote.Slice.{shr-slice-copy, finally, res-finally, heres, codedHoleys}
@@ -74,7 +74,7 @@ use Rattle.text_protocol.specs.declared.Role.{Role}
 use Rattle.text_protocol.specs.declared.Role.the-variants as role
 use Rattle.text_protocol.specs.declared.Ask.{Ask}
 use Rattle.text_protocol.specs.declared.Ask.the-variants.{Nothing, NoCall, Call, Interest, Bond}
-use Rattle.text_protocol.specs.Calls.{callAsked, roleOf}
+use Rattle.text_protocol.specs.Calls.{roleOf}
 use Rattle.text_protocol.proofs.AskedCall as G
 use Rattle.text_protocol.proofs.AskedCall.Laws as G′
 use Rattle.text_protocol.proofs.Role as P
@@ -84,7 +84,6 @@ use Rattle.text_protocol.proofs.AskedCall.role.Symbol as role-def
 use Rattle.text_protocol.proofs.AskedCall.role.Met as role-thm
 use Rattle.text_protocol.proofs.Ask as B
 use Rattle.text_protocol.proofs.Ask.Laws as B′
-use Rattle.desk.specs.Promises.{Promised}
 use Rattle.desk.proofs.Row.{R, table-ty, makes-answer, typed-answer}
 use Rattle.desk.proofs.Frame.{Addresses, of-types, env-of, Locals, held, holding, Within, spare, frame, enters}
 use Rattle.desk.proofs.Frame.{value as local′, tag, payload, sets, leaves-within}
@@ -96,7 +95,7 @@ use Rattle.desk_reasons.proofs.why_asked.Symbol as why-def
 use Rattle.desk_reasons.proofs.why_asked.Met as why-thm
 use Rattle.text_ask.proofs.Hands.{handing, hands, tokens-back}
 use Rattle.text_ask.proofs.Typed.{call-ty, typed-performed}
-use Rattle.text_ask.specs.WithReasons.{explained, unexplained, unasked, explanation, Asks}
+use Rattle.text_ask.specs.WithReasons.{explained, unexplained, unasked, explanation, DoneOf, AsksAt}
 use Rattle.text_ask.proofs.perform as perform
 use Rattle.text_ask.proofs.perform.Symbol as perform-def
 use Rattle.text_ask.proofs.perform.Met as perform-thm
@@ -118,54 +117,60 @@ abbrev stayed : Stays (f.ended .signature .params) (f.ended .kept)
 stayed = (
   gave-slice (0 ∷ []) tt (plain (λ _. R)),
   (
-    stay-none (λ _. B.the-row) yes,
-    (stay-none-slice (1 ∷ []) tt (plain (λ _. i64)) yes, (stay-none (λ _. bool) yes, tt)),
+    stay-none (λ _. usize) yes,
+    (
+      stay-none (λ _. B.the-row) yes,
+      (stay-none-slice (1 ∷ []) tt (plain (λ _. i64)) yes, (stay-none (λ _. bool) yes, tt)),
+    ),
   ),
 )
 
 -- the locals, by the names of the code; those after `alone`, the answer where no reason is named, are the compiler's
 -- own: the test's, and a pair for each call that t goes to
+abbrev ℓat : ℕ
+ℓat = 2
+
 abbrev ℓa : ℕ
-ℓa = 2
+ℓa = 3
 
 abbrev ℓrows : ℕ
-ℓrows = 3
+ℓrows = 4
 
 abbrev ℓasked : ℕ
-ℓasked = 4
+ℓasked = 5
 
 abbrev ℓc : ℕ
-ℓc = 5
+ℓc = 6
 
 abbrev ℓrole : ℕ
-ℓrole = 6
+ℓrole = 7
 
 abbrev ℓid : ℕ
-ℓid = 7
+ℓid = 8
 
 abbrev ℓday : ℕ
-ℓday = 8
+ℓday = 9
 
 abbrev ℓwhy : ℕ
-ℓwhy = 9
+ℓwhy = 10
 
 abbrev ℓanswer : ℕ
-ℓanswer = 10
+ℓanswer = 11
 
 abbrev ℓalone : ℕ
-ℓalone = 11
+ℓalone = 12
 
 abbrev ℓtest : ℕ
-ℓtest = 12
+ℓtest = 13
 
 abbrev for-why : Lending
-for-why = (13, 14)
+for-why = (14, 15)
 
 abbrev for-answer : Lending
-for-answer = (15, 16)
+for-answer = (16, 17)
 
 abbrev for-alone : Lending
-for-alone = (17, 18)
+for-alone = (18, 19)
 
 -- return unasked();
 abbrev code-unasked : Body
@@ -176,9 +181,10 @@ abbrev code-why : Body → Body
 code-why =
     handing ℓt for-why ℓwhy why-def.name (copy (place ℓid []) ∷ copy (place ℓday []) ∷ copy (place ℓrows []) ∷ [])
 
--- let d = perform(t, c, rows);
+-- let d = perform(t, at, c, rows);
 abbrev code-perform : Lending → (d : ℕ) → Body → Body
-code-perform m d = handing ℓt m d perform-def.name (copy (place ℓc []) ∷ copy (place ℓrows []) ∷ [])
+code-perform m d =
+    handing ℓt m d perform-def.name (copy (place ℓat []) ∷ copy (place ℓc []) ∷ copy (place ℓrows []) ∷ [])
 
 -- return with_why(answer, why);
 abbrev code-with : Body
@@ -243,9 +249,9 @@ abbrev function : Fn
 function = record {
   lifetimes = 2;
   outlives = [];
-  params = 4;
+  params = 5;
   locals =
-      of-types (F′.mir ∷ table-ty ∷ ask-ty ∷ rows-ty ∷ tyBool ∷ call-ty ∷ role-ty ∷ tyInt w64 ∷ D′.mir ∷ Y′.mir ∷ N′.mir
+      of-types (F′.mir ∷ table-ty ∷ tyInt w64 ∷ ask-ty ∷ rows-ty ∷ tyBool ∷ call-ty ∷ role-ty ∷ tyInt w64 ∷ D′.mir ∷ Y′.mir ∷ N′.mir
       ∷ N′.mir ∷ tyBool ∷ rref ∷ sliceTy rref ∷ wref ∷ sliceTy wref ∷ wref ∷ sliceTy wref ∷ []);
   body = seq code-if-call code-asked;
 }
@@ -296,15 +302,16 @@ module _ {M : Type 1} (𝓤 : URA M) (H : Heap 𝓤) (A : Atoms 𝓤) (mem : Mem
 
 module _ {M : Type 1} (𝓤 : URA M) (H : Heap 𝓤) (A : Atoms 𝓤) (W : Given 𝓤 H A) (mem : Memory → SProp 𝓤)
     (run : Routine → Fun 𝓤) (κ κ₂ : Lft) (q q₂ : Share) (b o : ℕ) (γ : GName) (ys : List Record)
-    (rows : RefT (List ℤ)) (asked : Bool) (room : Room R (length ys)) (room₂ : Room i64 (length (rows .now))) where
-  abbrev x : Ask → RefT (List Record) × (Ask × (RefT (List ℤ) × (Bool × Unit {0})))
-  x l = (ref b o γ ys, (l, (rows, (asked, tt))))
+    (there : ℕ) (rows : RefT (List ℤ)) (asked : Bool) (room : Room R (length ys)) (there-fits : there < 2 ^ 64)
+    (room₂ : Room i64 (length (rows .now))) where
+  abbrev x : Ask → RefT (List Record) × (ℕ × (Ask × (RefT (List ℤ) × (Bool × Unit {0}))))
+  x l = (ref b o γ ys, (there, (l, (rows, (asked, tt)))))
 
   abbrev mrows : Val
   mrows = sliceVal (rows .ptr) (length (rows .now))
 
   abbrev at : Ask → Vals f.signature (κ, (κ₂, tt))
-  at l = (machine b o ys ∷ [], (value l ∷ [], (mrows ∷ [], (vbool asked ∷ [], tt))))
+  at l = (machine b o ys ∷ [], (vint w64 there ∷ [], (value l ∷ [], (mrows ∷ [], (vbool asked ∷ [], tt)))))
 
   -- what the rows own
   abbrev Rows : Fml
@@ -320,15 +327,17 @@ module _ {M : Type 1} (𝓤 : URA M) (H : Heap 𝓤) (A : Atoms 𝓤) (W : Given
   Left zs = ‵ (finally R γ zs) ∷ ‵ (flft κ q) ∷ ‵ (flft κ₂ q₂) ∷ ‵ Rows ∷ []
 
   exits : (l : Ask) → IsAsk l → (zs : List Record) (r : Performed) (w : Val) → length zs ≡ length ys
-      → Asks asked l (rows .now) ys r zs → Is F.the-row r (w ∷ []) → ent 𝓤 (⋆ 𝓤 H A (Left zs)) (Post l w)
+      → AsksAt there asked l (rows .now) ys r zs → Is F.the-row r (w ∷ []) → ent 𝓤 (⋆ 𝓤 H A (Left zs)) (Post l w)
   exits l gl zs r w e asks is =
       qed W (Left zs) ∵
       suffices ! _ (ends-at 𝓤 H A f.ended stayed (f.clauses 𝓤 H A mem run) W
-      (((κ, (κ₂, tt)), (q, (q₂, tt)), tt, x l, at l), tt) w r (zs, (tt, (tt, (tt, tt)))) (e, (tt, (tt, (tt, tt))))) $
+      (((κ, (κ₂, tt)), (q, (q₂, tt)), tt, x l, at l), tt) w r (zs, (tt, (tt, (tt, (tt, tt)))))
+      (e, (tt, (tt, (tt, (tt, tt)))))) $
       says ! asks $ nothing ! $ move ! (3 ∷ 0 ∷ []) $ join ! $ move ! (2 ∷ 0 ∷ []) $ join ! $ framed ! $
       nothing ! $ owned ! bool (Is bool) (bool-makes 𝓤 H A W) asked (vbool asked ∷ []) refl $ fjoin ! $
       move ! (2 ∷ 0 ∷ []) $ fjoin ! $
       owned ! B.the-row (Is B.the-row) (EL.makes B.the-type B′.the-plain 𝓤 H A) l (value l ∷ []) gl $ fjoin ! $
+      owned ! usize (Is usize) (uint-makes 𝓤 H A W w64) there _ (refl, there-fits) $ fjoin ! $
       move ! (1 ∷ 0 ∷ []) $ fjoin ! $
       owned ! F.the-row (Is F.the-row) (LL.makes F.the-type F′.the-plain 𝓤 H A) r _ is $
       move ! (1 ∷ 0 ∷ []) $ done !
@@ -376,8 +385,8 @@ module _ {M : Type 1} (𝓤 : URA M) (H : Heap 𝓤) (A : Atoms 𝓤) (W : Given
     (κ, (κ₂, tt)),
     (q, (q₂, tt)),
     tt,
-    (ref b o γ ys, (c, (rows, tt))),
-    (machine b o ys ∷ [], (call-val c ∷ [], (mrows ∷ [], tt))),
+    (ref b o γ ys, (there, (c, (rows, tt)))),
+    (machine b o ys ∷ [], (vint w64 there ∷ [], (call-val c ∷ [], (mrows ∷ [], tt)))),
   )
 
   goes-perform : (c : AskedCall) → IsCall c → ent 𝓤 (sep 𝓤 (sep 𝓤 (sem 𝓤 H A (Owned κ b o γ ys)) (A .lft κ q)) (sep 𝓤
@@ -389,6 +398,7 @@ module _ {M : Type 1} (𝓤 : URA M) (H : Heap 𝓤) (A : Atoms 𝓤) (W : Given
       -- [the tokens; the rows; t]
       nothing ! $ move ! (2 ∷ 0 ∷ []) $ fjoin ! $
       owned ! G.the-row (Is G.the-row) (EL.makes G.the-type G′.the-plain 𝓤 H A) c (call-val c ∷ []) gc $ fjoin ! $
+      owned ! usize (Is usize) (uint-makes 𝓤 H A W w64) there _ (refl, there-fits) $ fjoin ! $
       move ! (2 ∷ 0 ∷ []) $ fjoin ! $ move ! (1 ∷ 0 ∷ []) $ join ! $ framed ! $ done !
 
   -- `role`
@@ -456,13 +466,14 @@ module _ {M : Type 1} (𝓤 : URA M) (H : Heap 𝓤) (A : Atoms 𝓤) (W : Given
       -- what the locals hold at first
       abbrev at-first : Ask → Locals
       at-first l =
-          none ∷ some (machine b o ys) ∷ some (value l) ∷ some mrows ∷ some (vbool asked) ∷ spare 14
+          none ∷ some (machine b o ys) ∷ some (vint w64 there) ∷ some (value l) ∷ some mrows ∷ some (vbool asked)
+          ∷ spare 14
 
       -- once it is a call, and it is known whether why is asked; x is the machine value of its role, once that is known
       abbrev once-called : AskedCall → (x : Option Val) → Locals
       once-called c x =
-          none ∷ some (machine b o ys) ∷ some (value (Call c)) ∷ some mrows ∷ some (vbool asked) ∷ some (call-val c)
-          ∷ x ∷ none ∷ none ∷ none ∷ none ∷ none ∷ some (vbool asked) ∷ spare 6
+          none ∷ some (machine b o ys) ∷ some (vint w64 there) ∷ some (value (Call c)) ∷ some mrows
+          ∷ some (vbool asked) ∷ some (call-val c) ∷ x ∷ none ∷ none ∷ none ∷ none ∷ none ∷ some (vbool asked) ∷ spare 6
 
       -- in the role of an evaluation
       abbrev once-bound : AskedCall → ℕ → AskedDay → Locals
@@ -491,7 +502,7 @@ module _ {M : Type 1} (𝓤 : URA M) (H : Heap 𝓤) (A : Atoms 𝓤) (W : Given
           anyQ (afterSeq 𝓤 H (Wp 𝓤 H C Λ En code-unexplained (atReturn 𝓤 H En (Post l))) (atReturn 𝓤 H En (Post l)))
 
       -- return unasked();
-      unasking : (l : Ask) → IsAsk l → Asks asked l (rows .now) ys unasked ys
+      unasking : (l : Ask) → IsAsk l → AsksAt there asked l (rows .now) ys unasked ys
           → Sq W (frame H En (at-first l) ∷ Had) (runs C Λ En code-unasked (Then l))
       unasking l gl asks =
           consults 𝓤 H A W un-asked.ended (un-asked.clauses 𝓤 H A mem run) to-unasked tt fm known-unasked goes-unasked
@@ -532,27 +543,28 @@ module _ {M : Type 1} (𝓤 : URA M) (H : Heap 𝓤) (A : Atoms 𝓤) (W : Given
             -- [t and its token; the rows' token; true; the frame; the rows]
             keep ! (3 ∷ 0 ∷ 1 ∷ 4 ∷ []) $ k w (subst (λ (z : Why). Is Y.the-row z (w ∷ [])) e iw))))
 
-        -- let d = perform(t, c, rows);
+        -- let d = perform(t, at, c, rows);
         performing : (c : AskedCall) → IsCall c → {rest : Body} (cs : Locals) (m : Lending) (d : ℕ)
             → Lends 𝓤 H En cs ℓt m b o ys → Within En d
             → spotOf 𝓤 H En d .0 ≡ N′.mir → held En (lent cs m b o ys) (m .1) ≡ some (machine b o ys)
+            → held En (lent cs m b o ys) ℓat ≡ some (vint w64 there)
             → held En (lent cs m b o ys) ℓc ≡ some (call-val c) → held En (lent cs m b o ys) ℓrows ≡ some mrows
             → ((zs : List Record) (r : Answer) (v : Val) → length zs ≡ length ys
-            → Promised (callAsked c (rows .now)) ys r zs → Is N.the-row r (v ∷ [])
+            → DoneOf there c (rows .now) ys r zs → Is N.the-row r (v ∷ [])
             → Sq W (frame H En (holding (lent cs m b o ys) d (some v)) ∷ Left zs) (runs C Λ En rest p))
             → Sq W (frame H En cs ∷ Had) (runs C Λ En (code-perform m d rest) p)
-        performing c gc cs m d lend in-d is-answer has-t has-c has-rows k =
+        performing c gc cs m d lend in-d is-answer has-t has-at has-c has-rows k =
             move ! (3 ∷ []) $
             use1 W (‵ Rows ⊛ ‵ Rows) (shr-slice-copy 𝓤 H A W (named 1) κ₂ i64 .twice rows (mrows ∷ [])) $ split ! $
             -- [the rows; the rows; the frame; t and its token; the rows' token]
             move ! (0 ∷ 4 ∷ []) $ join ! $ move ! (3 ∷ 0 ∷ []) $ join ! $ move ! (2 ∷ 0 ∷ []) $
             hands 𝓤 H A γ ys W b o room perform.ended (perform.clauses 𝓤 H A mem run) (to-perform c) tt
-            (Ours ⊛ (‵ Rows ⊛ ‵ (flft κ₂ q₂))) (‵ (flft κ q) ⊛ ‵ (flft κ₂ q₂)) 2
-            (λ r zs. Promised (callAsked c (rows .now)) ys r zs) fm known-perform (goes-perform c gc)
+            (Ours ⊛ (‵ Rows ⊛ ‵ (flft κ₂ q₂))) (‵ (flft κ q) ⊛ ‵ (flft κ₂ q₂)) 3
+            (λ r zs. DoneOf there c (rows .now) ys r zs) fm known-perform (goes-perform c gc)
             (tokens-back 𝓤 A κ κ₂ q q₂) (λ r. id⊢ 𝓤 _) ℓt m d lend
             (λ r v is. subst (λ (τ : Ty). T (hasTy τ v) × WT v) (sym is-answer) (typed-answer 𝓤 H A W r v is)) in-d
-            (and-then ! (local′ ! (m .1) has-t) (and-then ! (local′ ! ℓc has-c) (and-then ! (local′ ! ℓrows has-rows)
-            (no-more !)))) (λ zs r v as-long kept is.
+            (and-then ! (local′ ! (m .1) has-t) (and-then ! (local′ ! ℓat has-at) (and-then ! (local′ ! ℓc has-c)
+            (and-then ! (local′ ! ℓrows has-rows) (no-more !))))) (λ zs r v as-long kept is.
             -- [the frame; t's last list; the tokens; the rows]
             move ! (2 ∷ []) $ split ! $ move ! (2 ∷ 3 ∷ 0 ∷ 1 ∷ []) $ k zs r v as-long kept is)
 
@@ -560,10 +572,10 @@ module _ {M : Type 1} (𝓤 : URA M) (H : Heap 𝓤) (A : Atoms 𝓤) (W : Given
         explaining : (c : AskedCall) (id : ℕ) (d : AskedDay) → roleOf c ≡ role.Evaluation id d → IsAsk (Call c)
             → Arm (Call c) p → (w : Val)
             → Is Y.the-row (told id d) (w ∷ []) → (zs : List Record) (r : Answer) (v : Val)
-            → length zs ≡ length ys → Promised (callAsked c (rows .now)) ys r zs → Is N.the-row r (v ∷ [])
+            → length zs ≡ length ys → DoneOf there c (rows .now) ys r zs → Is N.the-row r (v ∷ [])
             → Sq W (frame H En (holding (lent (once-told c id d w) for-answer b o ys) ℓanswer (some v)) ∷ Left zs)
             (runs C Λ En code-with p)
-        unfolding Asks explanation
+        unfolding AsksAt explanation
         explaining c id d e gl within w iw zs r v as-long kept is =
             consults 𝓤 H A W with-why.ended (with-why.clauses 𝓤 H A mem run) (to-with r (told id d) v w) tt fm
             known-with (goes-with r (told id d) v w is iw) (explained r (told id d)) (λ y e. id⊢ 𝓤 _)
@@ -577,10 +589,10 @@ module _ {M : Type 1} (𝓤 : URA M) (H : Heap 𝓤) (A : Atoms 𝓤) (W : Given
         answering : (c : AskedCall) → IsAsk (Call c) → Arm (Call c) p
             → (asked ≡ true → No ≡ explanation (roleOf c) (rows .now) ys) → (x : Option Val)
             → (zs : List Record) (r : Answer) (v : Val)
-            → length zs ≡ length ys → Promised (callAsked c (rows .now)) ys r zs → Is N.the-row r (v ∷ [])
+            → length zs ≡ length ys → DoneOf there c (rows .now) ys r zs → Is N.the-row r (v ∷ [])
             → Sq W (frame H En (holding (lent (once-called c x) for-alone b o ys) ℓalone (some v)) ∷ Left zs)
             (runs C Λ En code-without p)
-        unfolding Asks
+        unfolding AsksAt
         answering c gl within why x zs r v as-long kept is =
             consults 𝓤 H A W without-why.ended (without-why.clauses 𝓤 H A mem run) (to-without r v) tt fm known-without
             (goes-without r v is) (unexplained r) (λ y e. id⊢ 𝓤 _) (typed-performed 𝓤 H A W) tt
@@ -595,6 +607,7 @@ module _ {M : Type 1} (𝓤 : URA M) (H : Heap 𝓤) (A : Atoms 𝓤) (W : Given
           → Sq W (frame H En (once-called c x) ∷ Had) (runs C Λ En code-unexplained (atRet En (Post (Call c))))
       alone c gl gc why x =
           performing c gc (once-called c x) for-alone ℓalone (refl, refl, tt, tt, tt, tt, tt) tt refl refl refl refl
+          refl
           (answering c gl refl why x)
 
       -- a call in the role of an evaluation, and why
@@ -610,7 +623,7 @@ module _ {M : Type 1} (𝓤 : URA M) (H : Heap 𝓤) (A : Atoms 𝓤) (W : Given
           (sets ! ℓday tt (LL.lawful D.the-type D′.the-laws 𝓤 H A W .typed d _ (are .1 .0) .0)) $
           let-why c id d (are .0) (are .1 .0) (λ w iw.
           performing c gc (once-told c id d w) for-answer ℓanswer (refl, refl, tt, tt, tt, tt, tt) tt refl
-          refl refl refl (explaining c id d e gl refl w iw))
+          refl refl refl refl (explaining c id d e gl refl w iw))
 
       -- a call in another role
       unexplained-it : (c : AskedCall) (x : Role) → (No ≡ explanation (roleOf c) (rows .now) ys) → IsAsk (Call c)
@@ -655,7 +668,7 @@ module _ {M : Type 1} (𝓤 : URA M) (H : Heap 𝓤) (A : Atoms 𝓤) (W : Given
 
       -- let Ask::Call(c) = a else { .. };
       if-call : (l : Ask) → IsAsk l → Sq W (frame H En (at-first l) ∷ Had) (runs C Λ En code-if-call (Then l))
-      unfolding Asks
+      unfolding AsksAt
       if-call Nothing gl =
           switches-on ! (tag ! ℓa refl refl refl) $ exec ! C Λ En code-unasked (Then Nothing) $
           unasking Nothing gl refl
@@ -681,20 +694,25 @@ module _ {M : Type 1} (𝓤 : URA M) (H : Heap 𝓤) (A : Atoms 𝓤) (W : Given
           alone c gl gc (never asked unasked) none)
 
     walk : (l : Ask) → IsAsk l → ent 𝓤 (onEntry 𝓤 H A f.signature (κ, (κ₂, tt)) (q, (q₂, tt)) (x l) (at l))
-        (WpFn 𝓤 H C Λ function (machine b o ys ∷ value l ∷ mrows ∷ vbool asked ∷ []) (Post l))
+        (WpFn 𝓤 H C Λ function (machine b o ys ∷ vint w64 there ∷ value l ∷ mrows ∷ vbool asked ∷ []) (Post l))
     walk l gl =
         qed W ((‵ (flft κ q) ⊛ (‵ (flft κ₂ q₂) ⊛ ‵ ftrue))
-        ∷ ‵ (owns (MutSlice (named 0) κ R ∷ B.the-row ∷ ShrSlice (named 1) κ₂ i64 ∷ bool ∷ []) (x l) (at l)) ∷ []) ∵
-        enters ! C Λ function (machine b o ys ∷ value l ∷ mrows ∷ vbool asked ∷ []) (Post l)
+        ∷ ‵ (owns (MutSlice (named 0) κ R ∷ usize ∷ B.the-row ∷ ShrSlice (named 1) κ₂ i64 ∷ bool ∷ []) (x l) (at l))
+        ∷ []) ∵
+        enters ! C Λ function (machine b o ys ∷ vint w64 there ∷ value l ∷ mrows ∷ vbool asked ∷ []) (Post l)
         (λ ls. (
           (tt, (tt, (record { fits = room .0 }, tt))),
           (
-            EL.lawful B.the-type B′.the-laws 𝓤 H A W tt .typed l (value l ∷ []) gl .0,
-            ((tt, (tt, (record { fits = room₂ .0 }, tt))), ((tt, tt), tt)),
+            (tt, record { fits = there-fits }),
+            (
+              EL.lawful B.the-type B′.the-laws 𝓤 H A W tt .typed l (value l ∷ []) gl .0,
+              ((tt, (tt, (record { fits = room₂ .0 }, tt))), ((tt, tt), tt)),
+            ),
           ),
         )) (λ ls.
         -- [the frame; the tokens; what the parameters own]
-        move ! (2 ∷ []) $ fsplit ! $ move ! (1 ∷ []) $ fsplit ! $ drop ! $ fsplit ! $ move ! (1 ∷ []) $ drop ! $
+        move ! (2 ∷ []) $ fsplit ! $ move ! (1 ∷ []) $ fsplit ! $ drop ! $ fsplit ! $ drop ! $ fsplit ! $
+        move ! (1 ∷ []) $ drop ! $
         -- [what the rows own; what t owns; the frame; the tokens]
         move ! (3 ∷ []) $ split ! $ move ! (1 ∷ []) $ split ! $ move ! (1 ∷ []) $ drop ! $
         -- [the rows' token; t's token; what the rows own; what t owns; the frame]
@@ -713,29 +731,32 @@ module _ {M : Type 1} (𝓤 : URA M) (H : Heap 𝓤) (A : Atoms 𝓤) (W : Given
   walks : Walks 𝓤 H A f.ended stayed Run (f.clauses 𝓤 H A mem run)
   walks =
       walked 𝓤 H A f.ended stayed (f.clauses 𝓤 H A mem run) Run
-      (λ κs. (slice-vals, (EL.vals B.the-type B′.the-laws, (slice-vals, (bool-vals, tt)))))
+      (λ κs. (slice-vals, (uint-vals w64, (EL.vals B.the-type B′.the-laws, (slice-vals, (bool-vals, tt))))))
       (λ κs. (
         mut-slice-tells (named 0) (κs .0) R,
         (
-          EL.tells B.the-type B′.the-laws,
-          (shr-slice-tells (named 1) (κs .1 .0) i64, (bool-tells, tt)),
+          uint-tells w64,
+          (EL.tells B.the-type B′.the-laws, (shr-slice-tells (named 1) (κs .1 .0) i64, (bool-tells, tt))),
         ),
       ))
       (λ κs qs bounds a g are. via 𝓤 _ (fst∗ 𝓤 _ (emp 𝓤))
       (walk 𝓤 H A W mem run (κs .0) (κs .1 .0) (qs .0) (qs .1 .0) (a .0 .ptr .0) (a .0 .ptr .1) (a .0 .name) (a .0 .now)
-      (a .1 .1 .0) (a .1 .1 .1 .0) (are .0 .0 .1) (are .1 .1 .0 .0 .1) (𝓣 .C) (𝓣 .Λ)
-      (fmOf 𝓤 H (W .laws) 𝓣) known-why known-perform known-role known-with known-without known-unasked (a .1 .0)
-      (are .1 .0)))
+      (a .1 .0) (a .1 .1 .1 .0) (a .1 .1 .1 .1 .0) (are .0 .0 .1) (are .1 .0 .1) (are .1 .1 .1 .0 .0 .1) (𝓣 .C) (𝓣 .Λ)
+      (fmOf 𝓤 H (W .laws) 𝓣) known-why known-perform known-role known-with known-without known-unasked (a .1 .1 .0)
+      (are .1 .1 .0)))
 
   meets : Meets 𝓤 H A f.signature Run (f.spec 𝓤 H A mem run)
   meets =
       walk-meets 𝓤 H A f.ended stayed W (
         goes-gave-slice 𝓤 H A W 2 0 tt (plain (λ _. R)),
         (
-          goes-none 𝓤 H A W 2 (λ _. B.the-row) yes (λ κs x f. refl),
+          goes-none 𝓤 H A W 2 (λ _. usize) yes (λ κs x f. refl),
           (
-            goes-none-slice 𝓤 H A W 2 (1 ∷ []) tt (plain (λ _. i64)) yes,
-            (goes-none 𝓤 H A W 2 (λ _. bool) yes (λ κs x f. refl), tt),
+            goes-none 𝓤 H A W 2 (λ _. B.the-row) yes (λ κs x f. refl),
+            (
+              goes-none-slice 𝓤 H A W 2 (1 ∷ []) tt (plain (λ _. i64)) yes,
+              (goes-none 𝓤 H A W 2 (λ _. bool) yes (λ κs x f. refl), tt),
+            ),
           ),
         ),
       ) (f.clauses 𝓤 H A mem run) Run (WpFn-mono 𝓤 H (W .laws) 𝓣 function) walks

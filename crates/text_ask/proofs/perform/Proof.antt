@@ -27,8 +27,8 @@ use sound.WpLaws.{FmC, fmOf, WpFn-mono}
 use denote.RattleType.{owns}
 use denote.Laws.{Is}
 use denote.Memory.{pointee}
-use denote.Plain.{uint-makes}
-use denote.Builtin.{u64, i64}
+use denote.Plain.{uint-makes, uint-vals, uint-tells}
+use denote.Builtin.{usize, i64}
 use denote.Ref.{RefT}
 use denote.Slice.{sliceTy, sliceVal, MutSlice, ShrSlice, Room, slice-vals, mut-slice-tells, shr-slice-tells}
 use denote.Slice.{shr-slice-copy, finally}
@@ -48,7 +48,7 @@ use Rattle.paper.specs.declared.Record.{Record}
 use Rattle.paper.specs.declared.Admission.{Admission}
 use Rattle.paper.specs.declared.Answer.{Answer}
 use Rattle.paper.specs.declared.AskedAbout.{AskedAbout}
-use Rattle.paper_desk.specs.Desk.{askOf, admit, about}
+use Rattle.paper_desk.specs.Desk.{askOf, admit}
 use Rattle.paper.proofs.Answer as N
 use Rattle.paper.proofs.Answer.Laws as N′
 use Rattle.paper.proofs.Admission as Y
@@ -57,10 +57,10 @@ use Rattle.paper.proofs.AskedAbout as X
 use Rattle.paper.proofs.AskedAbout.Laws as X′
 use Rattle.text_protocol.specs.declared.AskedCall.{AskedCall}
 use Rattle.text_protocol.specs.declared.AskedCall.the-variants.{Admit, About}
-use Rattle.text_protocol.specs.Calls.{callAsked}
 use Rattle.text_protocol.proofs.AskedCall as B
 use Rattle.text_protocol.proofs.AskedCall.Laws as B′
 use Rattle.desk.specs.Promises.{Promised}
+use Rattle.desk.specs.Guesses.{DoneAt}
 use Rattle.desk.proofs.Row.{R, table-ty, makes-answer, typed-answer}
 use Rattle.desk.proofs.Frame.{Addresses, of-types, env-of, Locals, held, spare, frame, enters, value as local′, tag}
 use Rattle.desk.proofs.Frame.{payload, sets, leaves-within}
@@ -70,9 +70,10 @@ use Rattle.desk.proofs.Asks.{Callee}
 use Rattle.desk.proofs.admit as admit-fn
 use Rattle.desk.proofs.admit.Symbol as admit-def
 use Rattle.desk.proofs.admit.Met as admit-thm
-use Rattle.desk.proofs.about as about-fn
-use Rattle.desk.proofs.about.Symbol as about-def
-use Rattle.desk.proofs.about.Met as about-thm
+use Rattle.desk.proofs.about_at as about-fn
+use Rattle.desk.proofs.about_at.Symbol as about-def
+use Rattle.desk.proofs.about_at.Met as about-thm
+use Rattle.text_ask.specs.WithReasons.{DoneOf}
 use Rattle.text_ask.proofs.Hands.{handing, hands, tokens-back}
 use Rattle.text_ask.proofs.Typed.{call-ty}
 use Rattle.text_ask.proofs.perform as f
@@ -83,22 +84,25 @@ use Rattle.text_ask.proofs.perform.Code as code
 abbrev stayed : Stays (f.ended .signature .params) (f.ended .kept)
 stayed = (
   gave-slice (0 ∷ []) tt (plain (λ _. R)),
-  (stay-none (λ _. B.the-row) yes, (stay-none-slice (1 ∷ []) tt (plain (λ _. i64)) yes, tt)),
+  (
+    stay-none (λ _. usize) yes,
+    (stay-none (λ _. B.the-row) yes, (stay-none-slice (1 ∷ []) tt (plain (λ _. i64)) yes, tt)),
+  ),
 )
 
 -- the locals, by the names of the code: the parameters; what the patterns bind, arm by arm; and the compiler's own, a
 -- pair for each call that t goes to
+abbrev ℓat : ℕ
+ℓat = 2
+
 abbrev ℓc : ℕ
-ℓc = 2
+ℓc = 3
 
 abbrev ℓrows : ℕ
-ℓrows = 3
+ℓrows = 4
 
 abbrev ℓa : ℕ
-ℓa = 4
-
-abbrev ℓid : ℕ
-ℓid = 5
+ℓa = 5
 
 abbrev ℓx : ℕ
 ℓx = 6
@@ -117,11 +121,11 @@ binding x k j rest = seq (assign (place x []) (rvOpd (copy (place ℓc (variant 
 abbrev code-admit : Body
 code-admit = binding ℓa 0 0 (handing ℓt for-admit 0 admit-def.name (copy (place ℓa []) ∷ []) return)
 
--- AskedCall::About(id, x) => return about(t, id, x, rows),
+-- AskedCall::About(_, x) => return about_at(t, at, x, rows),
 abbrev code-about : Body
 code-about =
-    binding ℓid 1 0 (binding ℓx 1 1 (handing ℓt for-about 0 about-def.name
-    (copy (place ℓid []) ∷ copy (place ℓx []) ∷ copy (place ℓrows []) ∷ []) return))
+    binding ℓx 1 1 (handing ℓt for-about 0 about-def.name
+    (copy (place ℓat []) ∷ copy (place ℓx []) ∷ copy (place ℓrows []) ∷ []) return)
 
 -- match c { .. }
 abbrev code-match : Body
@@ -133,10 +137,10 @@ abbrev function : Fn
 function = record {
   lifetimes = 2;
   outlives = [];
-  params = 3;
+  params = 4;
   locals =
-      of-types (N′.mir ∷ table-ty ∷ call-ty ∷ sliceTy (tyRef (named 1) imm (pointee (i64 .written)))
-      ∷ Y′.mir ∷ tyInt w64 ∷ X′.mir ∷ wref ∷ sliceTy wref ∷ wref ∷ sliceTy wref ∷ []);
+      of-types (N′.mir ∷ table-ty ∷ tyInt w64 ∷ call-ty ∷ sliceTy (tyRef (named 1) imm (pointee (i64 .written)))
+      ∷ Y′.mir ∷ X′.mir ∷ wref ∷ sliceTy wref ∷ wref ∷ sliceTy wref ∷ []);
   body = code.function .body;
 }
 
@@ -161,15 +165,16 @@ module _ {M : Type 1} (𝓤 : URA M) (H : Heap 𝓤) (A : Atoms 𝓤) (mem : Mem
 
 module _ {M : Type 1} (𝓤 : URA M) (H : Heap 𝓤) (A : Atoms 𝓤) (W : Given 𝓤 H A) (mem : Memory → SProp 𝓤)
     (run : Routine → Fun 𝓤) (κ κ₂ : Lft) (q q₂ : Share) (b o : ℕ) (γ : GName) (ys : List Record)
-    (rows : RefT (List ℤ)) (room : Room R (length ys)) (room₂ : Room i64 (length (rows .now))) where
-  abbrev x : AskedCall → RefT (List Record) × (AskedCall × (RefT (List ℤ) × Unit {0}))
-  x l = (ref b o γ ys, (l, (rows, tt)))
+    (there : ℕ) (rows : RefT (List ℤ)) (room : Room R (length ys)) (there-fits : there < 2 ^ 64)
+    (room₂ : Room i64 (length (rows .now))) where
+  abbrev x : AskedCall → RefT (List Record) × (ℕ × (AskedCall × (RefT (List ℤ) × Unit {0})))
+  x l = (ref b o γ ys, (there, (l, (rows, tt))))
 
   abbrev mrows : Val
   mrows = sliceVal (rows .ptr) (length (rows .now))
 
   abbrev at : AskedCall → Vals f.signature (κ, (κ₂, tt))
-  at l = (machine b o ys ∷ [], (value l ∷ [], (mrows ∷ [], tt)))
+  at l = (machine b o ys ∷ [], (vint w64 there ∷ [], (value l ∷ [], (mrows ∷ [], tt))))
 
   -- what the rows own, which stay ours
   abbrev Rows : Fml
@@ -184,15 +189,16 @@ module _ {M : Type 1} (𝓤 : URA M) (H : Heap 𝓤) (A : Atoms 𝓤) (W : Given
       (((κ, (κ₂, tt)), (q, (q₂, tt)), tt, x l, at l), tt)
 
   exits : (l : AskedCall) → IsCall l → (zs : List Record) (r : Answer) (w : Val) → length zs ≡ length ys
-      → Promised (callAsked l (rows .now)) ys r zs → Is N.the-row r (w ∷ [])
+      → DoneOf there l (rows .now) ys r zs → Is N.the-row r (w ∷ [])
       → ent 𝓤 (⋆ 𝓤 H A (‵ (finally R γ zs) ∷ ‵ (flft κ q) ∷ ‵ (flft κ₂ q₂) ∷ Lent ∷ [])) (Post l w)
   exits l gl zs r w e kept is =
       qed W (‵ (finally R γ zs) ∷ ‵ (flft κ q) ∷ ‵ (flft κ₂ q₂) ∷ Lent ∷ []) ∵
       suffices ! _ (ends-at 𝓤 H A f.ended stayed (f.clauses 𝓤 H A mem run) W
-      (((κ, (κ₂, tt)), (q, (q₂, tt)), tt, x l, at l), tt) w r (zs, (tt, (tt, tt))) (e, (tt, (tt, tt)))) $
+      (((κ, (κ₂, tt)), (q, (q₂, tt)), tt, x l, at l), tt) w r (zs, (tt, (tt, (tt, tt)))) (e, (tt, (tt, (tt, tt))))) $
       says ! kept $ nothing ! $ move ! (3 ∷ 0 ∷ []) $ join ! $ move ! (2 ∷ 0 ∷ []) $ join ! $ framed ! $
       nothing ! $ move ! (2 ∷ 0 ∷ []) $ fjoin ! $
       owned ! B.the-row (Is B.the-row) (EL.makes B.the-type B′.the-plain 𝓤 H A) l (value l ∷ []) gl $ fjoin ! $
+      owned ! usize (Is usize) (uint-makes 𝓤 H A W w64) there _ (refl, there-fits) $ fjoin ! $
       move ! (1 ∷ 0 ∷ []) $ fjoin ! $ owned ! N.the-row (Is N.the-row) (makes-answer 𝓤 H A) r _ is $
       move ! (1 ∷ 0 ∷ []) $ done !
 
@@ -219,26 +225,26 @@ module _ {M : Type 1} (𝓤 : URA M) (H : Heap 𝓤) (A : Atoms 𝓤) (W : Given
       owned ! Y.the-row (Is Y.the-row) (LL.makes Y.the-type Y′.the-plain 𝓤 H A) a (admission-val a ∷ []) is $ fjoin ! $
       move ! (1 ∷ 0 ∷ []) $ fjoin ! $ move ! (1 ∷ 0 ∷ []) $ join ! $ framed ! $ done !
 
-  abbrev to-about : ℕ → AskedAbout → Bound 𝓤 H A about-fn.signature
-  to-about id x = (
+  abbrev to-about : AskedAbout → Bound 𝓤 H A about-fn.signature
+  to-about x = (
     (κ, (κ₂, tt)),
     (q, (q₂, tt)),
     tt,
-    (ref b o γ ys, (id, (x, (rows, tt)))),
-    (machine b o ys ∷ [], (vint w64 id ∷ [], (ask-val x ∷ [], (mrows ∷ [], tt)))),
+    (ref b o γ ys, (there, (x, (rows, tt)))),
+    (machine b o ys ∷ [], (vint w64 there ∷ [], (ask-val x ∷ [], (mrows ∷ [], tt)))),
   )
 
-  goes-about : (id : ℕ) (x : AskedAbout) → id < 2 ^ 64 → Is X.the-row x (ask-val x ∷ [])
+  goes-about : (x : AskedAbout) → Is X.the-row x (ask-val x ∷ [])
       → ent 𝓤 (sep 𝓤 (sep 𝓤 (sem 𝓤 H A (Owned κ b o γ ys)) (A .lft κ q)) (sep 𝓤 (sem 𝓤 H A Rows) (A .lft κ₂ q₂)))
-      (Asks 𝓤 H A mem run .pre (to-about id x, tt))
-  goes-about id x gi is =
+      (Asks 𝓤 H A mem run .pre (to-about x, tt))
+  goes-about x is =
       qed W (Ours ∷ (Lent ⊛ ‵ (flft κ₂ q₂)) ∷ []) ∵ split ! $ move ! (2 ∷ []) $ split ! $
       -- [the rows; their token; t; its token]
       nothing ! $ move ! (2 ∷ 0 ∷ []) $ join ! $ move ! (3 ∷ 0 ∷ []) $ join ! $
       -- [the tokens; the rows; t]
       nothing ! $ move ! (2 ∷ 0 ∷ []) $ fjoin ! $
       owned ! X.the-row (Is X.the-row) (EL.makes X.the-type X′.the-plain 𝓤 H A) x (ask-val x ∷ []) is $ fjoin ! $
-      owned ! u64 (Is u64) (uint-makes 𝓤 H A W w64) id _ (refl, gi) $ fjoin ! $ move ! (2 ∷ 0 ∷ []) $ fjoin ! $
+      owned ! usize (Is usize) (uint-makes 𝓤 H A W w64) there _ (refl, there-fits) $ fjoin ! $ move ! (2 ∷ 0 ∷ []) $ fjoin ! $
       move ! (1 ∷ 0 ∷ []) $ join ! $ framed ! $ done !
 
   -- an answer can be stored where answers are
@@ -258,7 +264,8 @@ module _ {M : Type 1} (𝓤 : URA M) (H : Heap 𝓤) (A : Atoms 𝓤) (W : Given
 
       -- the parameters are in their locals
       abbrev In : AskedCall → Item 𝓤
-      In l = frame H En (none ∷ some (machine b o ys) ∷ some (value l) ∷ some mrows ∷ spare 7)
+      In l =
+          frame H En (none ∷ some (machine b o ys) ∷ some (vint w64 there) ∷ some (value l) ∷ some mrows ∷ spare 6)
 
       -- the table is ours; the rows' token, and the rows
       abbrev Had : List (Item 𝓤)
@@ -266,7 +273,7 @@ module _ {M : Type 1} (𝓤 : URA M) (H : Heap 𝓤) (A : Atoms 𝓤) (W : Given
 
       -- what is asked for is answered: the function returns the answer
       returned : (l : AskedCall) → IsCall l → {cs : Locals} (zs : List Record) (r : Answer) (v : Val)
-          → held En cs 0 ≡ some v → length zs ≡ length ys → Promised (callAsked l (rows .now)) ys r zs
+          → held En cs 0 ≡ some v → length zs ≡ length ys → DoneOf there l (rows .now) ys r zs
           → Is N.the-row r (v ∷ [])
           → Sq W (frame H En cs ∷ ‵ (finally R γ zs) ∷ ‵ (flft κ q) ∷ ‵ (flft κ₂ q₂) ∷ Lent ∷ [])
           (runs C Λ En return (Then l))
@@ -276,7 +283,7 @@ module _ {M : Type 1} (𝓤 : URA M) (H : Heap 𝓤) (A : Atoms 𝓤) (W : Given
       -- AskedCall::Admit(a) => return admit(t, a),
       admit-it : (a : Admission) → IsCall (Admit a)
           → Sq W (In (Admit a) ∷ Had) (runs C Λ En code-admit (Then (Admit a)))
-      unfolding callAsked
+      unfolding DoneOf
       admit-it a gl =
           let is = EL.owed B.the-type B′.the-laws (Admit a) _ gl .0 in
           assigns ! (of-opd ! (payload ! ℓc 0 0 refl refl refl refl)) (from ! (stop !))
@@ -288,26 +295,24 @@ module _ {M : Type 1} (𝓤 : URA M) (H : Heap 𝓤) (A : Atoms 𝓤) (W : Given
           (and-then ! (local′ ! (for-admit .1) refl) (and-then ! (local′ ! ℓa refl) (no-more !)))
           (λ zs r v as-long kept is. returned (Admit a) gl zs r v refl as-long kept is)
 
-      -- AskedCall::About(id, x) => return about(t, id, x, rows),
+      -- AskedCall::About(_, x) => return about_at(t, at, x, rows),
       about-it : (id : ℕ) (x : AskedAbout) → IsCall (About id x)
           → Sq W (In (About id x) ∷ Had) (runs C Λ En code-about (Then (About id x)))
-      unfolding callAsked
+      unfolding DoneOf
       about-it id x gl =
           let are = EL.owed B.the-type B′.the-laws (About id x) _ gl in
-          assigns ! (of-opd ! (payload ! ℓc 1 0 refl refl refl refl)) (from ! (stop !))
-          (sets ! ℓid tt (tt, record { fits = are .0 .1 })) $
           assigns ! (of-opd ! (payload ! ℓc 1 1 refl refl refl refl)) (from ! (stop !))
           (sets ! ℓx tt (EL.lawful X.the-type X′.the-laws 𝓤 H A W tt .typed x _ (are .1 .0) .0)) $
           move ! (3 ∷ []) $
           use1 W (Lent ⊛ Lent) (shr-slice-copy 𝓤 H A W (named 1) κ₂ i64 .twice rows (mrows ∷ [])) $ split ! $
           -- [the rows; the rows; the frame; t and its token; the rows' token]
           move ! (0 ∷ 4 ∷ []) $ join ! $ move ! (3 ∷ 0 ∷ []) $ join ! $ move ! (2 ∷ 0 ∷ []) $
-          hands 𝓤 H A γ ys W b o room about-fn.ended (about-fn.clauses 𝓤 H A mem run) (to-about id x) tt
+          hands 𝓤 H A γ ys W b o room about-fn.ended (about-fn.clauses 𝓤 H A mem run) (to-about x) tt
           (Ours ⊛ (Lent ⊛ ‵ (flft κ₂ q₂))) (‵ (flft κ q) ⊛ ‵ (flft κ₂ q₂)) 3
-          (λ r zs. Promised (about id (askOf x (rows .now))) ys r zs) fm known-about
-          (goes-about id x (are .0 .1) (are .1 .0)) (tokens-back 𝓤 A κ κ₂ q q₂) (λ r. id⊢ 𝓤 _) ℓt for-about 0
+          (λ r zs. DoneAt there (askOf x (rows .now)) ys r zs) fm known-about
+          (goes-about x (are .1 .0)) (tokens-back 𝓤 A κ κ₂ q q₂) (λ r. id⊢ 𝓤 _) ℓt for-about 0
           (refl, refl, tt, tt, tt, tt, tt) (stores _ refl) tt
-          (and-then ! (local′ ! (for-about .1) refl) (and-then ! (local′ ! ℓid refl) (and-then ! (local′ ! ℓx refl)
+          (and-then ! (local′ ! (for-about .1) refl) (and-then ! (local′ ! ℓat refl) (and-then ! (local′ ! ℓx refl)
           (and-then ! (local′ ! ℓrows refl) (no-more !))))) (λ zs r v as-long kept is.
           -- [the frame; t's last list; the tokens; the rows]
           move ! (2 ∷ []) $ split ! $ move ! (2 ∷ 3 ∷ 0 ∷ 1 ∷ []) $
@@ -322,20 +327,24 @@ module _ {M : Type 1} (𝓤 : URA M) (H : Heap 𝓤) (A : Atoms 𝓤) (W : Given
 
     walk : (l : AskedCall) → IsCall l
         → ent 𝓤 (onEntry 𝓤 H A f.signature (κ, (κ₂, tt)) (q, (q₂, tt)) (x l) (at l))
-        (WpFn 𝓤 H C Λ function (machine b o ys ∷ value l ∷ mrows ∷ []) (Post l))
+        (WpFn 𝓤 H C Λ function (machine b o ys ∷ vint w64 there ∷ value l ∷ mrows ∷ []) (Post l))
     walk l gl =
         qed W ((‵ (flft κ q) ⊛ (‵ (flft κ₂ q₂) ⊛ ‵ ftrue))
-        ∷ ‵ (owns (MutSlice (named 0) κ R ∷ B.the-row ∷ ShrSlice (named 1) κ₂ i64 ∷ []) (x l) (at l)) ∷ []) ∵
-        enters ! C Λ function (machine b o ys ∷ value l ∷ mrows ∷ []) (Post l)
+        ∷ ‵ (owns (MutSlice (named 0) κ R ∷ usize ∷ B.the-row ∷ ShrSlice (named 1) κ₂ i64 ∷ []) (x l) (at l)) ∷ []) ∵
+        enters ! C Λ function (machine b o ys ∷ vint w64 there ∷ value l ∷ mrows ∷ []) (Post l)
         (λ ls. (
           (tt, (tt, (record { fits = room .0 }, tt))),
           (
-            EL.lawful B.the-type B′.the-laws 𝓤 H A W tt .typed l (value l ∷ []) gl .0,
-            ((tt, (tt, (record { fits = room₂ .0 }, tt))), tt),
+            (tt, record { fits = there-fits }),
+            (
+              EL.lawful B.the-type B′.the-laws 𝓤 H A W tt .typed l (value l ∷ []) gl .0,
+              ((tt, (tt, (record { fits = room₂ .0 }, tt))), tt),
+            ),
           ),
         )) (λ ls.
         -- [the frame; the tokens; what the parameters own]
-        move ! (2 ∷ []) $ fsplit ! $ move ! (1 ∷ []) $ fsplit ! $ drop ! $ fsplit ! $ move ! (1 ∷ []) $ drop ! $
+        move ! (2 ∷ []) $ fsplit ! $ move ! (1 ∷ []) $ fsplit ! $ drop ! $ fsplit ! $ drop ! $ fsplit ! $
+        move ! (1 ∷ []) $ drop ! $
         -- [what the rows own; what t owns; the frame; the tokens]
         move ! (3 ∷ []) $ split ! $ move ! (1 ∷ []) $ split ! $ move ! (1 ∷ []) $ drop ! $
         -- [the rows' token; t's token; what the rows own; what t owns; the frame]
@@ -346,30 +355,29 @@ module _ {M : Type 1} (𝓤 : URA M) (H : Heap 𝓤) (A : Atoms 𝓤) (W : Given
     (known-about : Triple 𝓤 (𝓣 .C about-def.name) (Asks 𝓤 H A mem run)) where
   walks : Walks 𝓤 H A f.ended stayed (WpFn 𝓤 H (𝓣 .C) (𝓣 .Λ) function) (f.clauses 𝓤 H A mem run)
   walks = walked 𝓤 H A f.ended stayed (f.clauses 𝓤 H A mem run) (WpFn 𝓤 H (𝓣 .C) (𝓣 .Λ) function)
-      (λ κs. (slice-vals, (EL.vals B.the-type B′.the-laws, (slice-vals, tt))))
+      (λ κs. (slice-vals, (uint-vals w64, (EL.vals B.the-type B′.the-laws, (slice-vals, tt)))))
       (λ κs. (
         mut-slice-tells (named 0) (κs .0) R,
         (
-          EL.tells B.the-type B′.the-laws,
-          (
-            shr-slice-tells (named 1) (κs .1 .0) i64,
-            tt,
-          ),
+          uint-tells w64,
+          (EL.tells B.the-type B′.the-laws, (shr-slice-tells (named 1) (κs .1 .0) i64, tt)),
         ),
       ))
       (λ κs qs bounds a g are. via 𝓤 _ (fst∗ 𝓤 _ (emp 𝓤))
       (walk 𝓤 H A W mem run (κs .0) (κs .1 .0) (qs .0) (qs .1 .0) (a .0 .ptr .0) (a .0 .ptr .1) (a .0 .name)
-      (a .0 .now) (a .1 .1 .0)
-      (are .0 .0 .1) (are .1 .1 .0 .0 .1) (𝓣 .C) (𝓣 .Λ)
-      (fmOf 𝓤 H (W .laws) 𝓣) known-admit known-about (a .1 .0) (are .1 .0)))
+      (a .0 .now) (a .1 .0) (a .1 .1 .1 .0) (are .0 .0 .1) (are .1 .0 .1) (are .1 .1 .1 .0 .0 .1) (𝓣 .C) (𝓣 .Λ)
+      (fmOf 𝓤 H (W .laws) 𝓣) known-admit known-about (a .1 .1 .0) (are .1 .1 .0)))
 
   meets : Meets 𝓤 H A f.signature (WpFn 𝓤 H (𝓣 .C) (𝓣 .Λ) function) (f.spec 𝓤 H A mem run)
   meets =
       walk-meets 𝓤 H A f.ended stayed W (
         goes-gave-slice 𝓤 H A W 2 0 tt (plain (λ _. R)),
         (
-          goes-none 𝓤 H A W 2 (λ _. B.the-row) yes (λ κs x f. refl),
-          (goes-none-slice 𝓤 H A W 2 (1 ∷ []) tt (plain (λ _. i64)) yes, tt),
+          goes-none 𝓤 H A W 2 (λ _. usize) yes (λ κs x f. refl),
+          (
+            goes-none 𝓤 H A W 2 (λ _. B.the-row) yes (λ κs x f. refl),
+            (goes-none-slice 𝓤 H A W 2 (1 ∷ []) tt (plain (λ _. i64)) yes, tt),
+          ),
         ),
       )
       (f.clauses 𝓤 H A mem run)
@@ -384,4 +392,4 @@ perform-spec 𝓤 H 𝓜 𝓖 𝓡 =
     (cited 𝓤 H (Admits 𝓤 H (𝓖 .A) (𝓜 .mem) (𝓡 .run)) 𝓜 𝓡 code.env admit-def.name admit-def.routine
     code.calls-desk·admit (admit-thm.met 𝓤 H 𝓜 𝓖 𝓡))
     (cited 𝓤 H (Asks 𝓤 H (𝓖 .A) (𝓜 .mem) (𝓡 .run)) 𝓜 𝓡 code.env about-def.name about-def.routine
-    code.calls-desk·about (about-thm.met 𝓤 H 𝓜 𝓖 𝓡)))
+    code.calls-desk·about-at (about-thm.met 𝓤 H 𝓜 𝓖 𝓡)))
