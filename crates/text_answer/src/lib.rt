@@ -84,17 +84,8 @@ pub fn say_record(out: &mut [u8; ROOM], len: usize, r: Record) -> usize
     put_byte(out, n, b'\n')
 }
 
-// The record that an accepted call answers with.
-fn say_shown(out: &mut [u8; ROOM], len: usize, a: Answer) -> usize
-    requires { ⌜ len + answerMost ≤ room ⌝ }
-    ensures { λ n. ⌜ Wrote (now (out .entry)) len (now (out .exit)) n (answerText 0 (recordNumbers (a .rec)))
-        answerMost ⌝ }
-{
-    let r = a.rec;
-    say_record(out, len, r)
-}
-
 // What is answered to a call of a role: a refusal's number alone; where it is accepted, what a call of the role shows.
+// The record is taken out of the answer where it is shown, so that no other answer copies it.
 pub fn say_answer(out: &mut [u8; ROOM], len: usize, role: Role, a: Answer) -> usize
     requires { ⌜ len + answerMost ≤ room ⌝ }
     ensures { λ r. ⌜ Wrote (now (out .entry)) len (now (out .exit)) r (shownText role a) answerMost ⌝ }
@@ -106,10 +97,19 @@ pub fn say_answer(out: &mut [u8; ROOM], len: usize, role: Role, a: Answer) -> us
     }
     match role {
         Role::Admission(_) => say_number(out, len, 0),
-        Role::Evaluation(_, _) => say_shown(out, len, a),
+        Role::Evaluation(_, _) => {
+            let r = a.rec;
+            say_record(out, len, r)
+        }
         Role::Quote => say_alerts(out, len, a.top, a.bottom),
-        Role::Move(_) => say_shown(out, len, a),
-        Role::Other => say_shown(out, len, a),
+        Role::Move(_) => {
+            let r = a.rec;
+            say_record(out, len, r)
+        }
+        Role::Other => {
+            let r = a.rec;
+            say_record(out, len, r)
+        }
     }
 }
 

@@ -28,13 +28,13 @@ returns-2 c =
 returns-3 : tie.Need-returns-3
 unfolding figuresShown
 returns-3 c =
-    let at-match = c .before .before in
+    let at-match = c .before .before .before in
     let at-if1 = at-match .before .before in
     let at-number = at-if1 .before in
     let start = at-number .before in
     rw (done-call (start .args .role) (start .args .a) _ (at-number .number .ensures) (at-if1 .if1 .left)
     (recordNumbers (start .args .a .rec))
-    (rw (at-match .enum-told2 .given .1))) at (c .say-shown .ensures)
+    (rw (at-match .enum-told2 .given .1))) at (c .say-record .ensures)
 
 returns-4 : tie.Need-returns-4
 unfolding figuresShown
@@ -50,24 +50,24 @@ returns-4 c =
 returns-5 : tie.Need-returns-5
 unfolding figuresShown
 returns-5 c =
-    let at-match = c .before .before in
+    let at-match = c .before .before .before in
     let at-if1 = at-match .before .before in
     let at-number = at-if1 .before in
     let start = at-number .before in
     rw (done-call (start .args .role) (start .args .a) _ (at-number .number .ensures) (at-if1 .if1 .left)
     (recordNumbers (start .args .a .rec))
-    (rw (at-match .enum-told4 .given .1))) at (c .say-shown2 .ensures)
+    (rw (at-match .enum-told4 .given .1))) at (c .say-record2 .ensures)
 
 returns-6 : tie.Need-returns-6
 unfolding figuresShown
 returns-6 c =
-    let at-match = c .before .before in
+    let at-match = c .before .before .before in
     let at-if1 = at-match .before .before in
     let at-number = at-if1 .before in
     let start = at-number .before in
     rw (done-call (start .args .role) (start .args .a) _ (at-number .number .ensures) (at-if1 .if1 .left)
     (recordNumbers (start .args .a .rec))
-    (rw (at-match .enum-told5 .given .1))) at (c .say-shown3 .ensures)
+    (rw (at-match .enum-told5 .given .1))) at (c .say-record3 .ensures)
 
 pub say-answer-spec : {M : Type 1} → statement M
 say-answer-spec =
