@@ -13,16 +13,17 @@ use mir.Val.{SFits, toZ, ofZ}
 use mir.ValLaws.{toZ-pos}
 use mir.Facts.{toZ-ofZ}
 use borrow.Author.Tests.{leb-true, le-leb, lt-leb, eq-eqb, ne-eqb}
+use Rattle.paper.proofs.Logic.{and-left, and-right}
 use Rattle.paper.proofs.Differences.{minus-one-less-is-negsuc}
 use Rattle.paper.specs.Lists.{pick}
 use Rattle.text_bytes.specs.declared.Number.{Number}
 use Rattle.text_bytes.specs.declared.Number.the-variants as number
 use Rattle.text_bytes.specs.declared.Size.{Size}
 use Rattle.text_bytes.specs.declared.Size.the-variants as size
-use Rattle.text_bytes.specs.Bytes.{isBlank, run, same, digitZero, digitNine, minusSign}
+use Rattle.text_bytes.specs.Bytes.{isBlank, isNot, run, same, digitZero, digitNine, minusSign}
 use Rattle.text_bytes.specs.Numbers.{isDigit, sizeFrom, sizeOf, upTo, above, below, numberOf, greatest, least}
 use Rattle.text_bytes.proofs.Spelling.{within-is-digit, low-no-digit, high-no-digit}
-use Rattle.text_word.specs.Parts.{isSolid, isPart, Capped}
+use Rattle.text_word.specs.Parts.{isSolid, isPart, Onward, Capped}
 
 -- ---- a run of bytes that pass a test
 
@@ -41,20 +42,23 @@ not-in-part b true false e f = sym e
 not-in-part b false true e f = ap not (sym e)
 not-in-part b false false e f = ap not (sym e) ∙ sym f
 
-pub record Running (q : ℕ → Bool) (t : List ℕ) (from i : ℕ) : Type 0 where
-  pub in-t : i ≤ length t
-  pub rest : i + run q (drop i t) ≡ from + run q (drop from t)
-
-pub running-none : (q : ℕ → Bool) (t : List ℕ) (from : ℕ) → from ≤ length t → Running q t from from
+pub running-none : (q : ℕ → Bool) (t : List ℕ) (from : ℕ) → from ≤ length t → Onward q t from from
 running-none q t from h = record { in-t = h; rest = refl }
 
-module _ (q : ℕ → Bool) (t : List ℕ) (from i : ℕ) (p : Running q t from i) where
-  pub running-more : i < length t → q (getD t i 0) ≡ true → Running q t from (i + 1)
+module _ (q : ℕ → Bool) (t : List ℕ) (from i : ℕ) (p : Onward q t from i) where
+  pub running-more : i < length t → q (getD t i 0) ≡ true → Onward q t from (i + 1)
   unfolding run
   running-more h e =
       let f : i + 1 ≡ suc i = omega arith in
       let r : i + suc (run q (drop (suc i) t)) ≡ from + run q (drop from t) = rw (drop-cons t i 0 h, e) at (p .rest) in
       record { in-t = omega arith; rest = rw f (omega (arith, r)) }
+
+  running-at : (j : ℕ) → j ≡ i + 1 → i < length t → q (getD t i 0) ≡ true → Onward q t from j
+  running-at j f h e = rw f (running-more h e)
+
+  pub running-end : (r : ℕ) → (r ≡ i + run q (drop i t)) × (r ≤ length t)
+      → (r ≡ from + run q (drop from t)) × (r ≤ length t)
+  running-end r e = (e .0 ∙ p .rest, e .1)
 
   pub running-stop : i < length t → q (getD t i 0) ≡ false → (i ≡ from + run q (drop from t)) × (i ≤ length t)
   unfolding run
@@ -67,6 +71,33 @@ module _ (q : ℕ → Bool) (t : List ℕ) (from i : ℕ) (p : Running q t from 
   running-all h =
       let r : i + 0 ≡ from + run q (drop from t) = rw (drop-of-length-le t h) at (p .rest) in
       (omega (arith, r), p .in-t)
+
+pub onward-both : (q : ℕ → Bool) (t : List ℕ) (i j k m : ℕ) → Onward q t i j → Onward q t j k → k ≡ m → Onward q t i m
+onward-both q t i j k m o p e = rw (← e) (record { in-t = p .in-t; rest = p .rest ∙ o .rest })
+
+four-more : (q : ℕ → Bool) (t : List ℕ) (i : ℕ) → i + 4 ≤ length t → q (getD t i 0) ≡ true
+    → q (getD t (i + 1) 0) ≡ true → q (getD t (i + 2) 0) ≡ true → q (getD t (i + 3) 0) ≡ true → Onward q t i (i + 4)
+four-more q t i h a b c d =
+    let none : Onward q t i i = running-none q t i (omega arith) in
+    let one : Onward q t i (i + 1) = running-at q t i i none (i + 1) (omega arith) (omega arith) a in
+    let two : Onward q t i (i + 2) = running-at q t i (i + 1) one (i + 2) (omega arith) (omega arith) b in
+    let three : Onward q t i (i + 3) = running-at q t i (i + 2) two (i + 3) (omega arith) (omega arith) c in
+    running-at q t i (i + 3) three (i + 4) (omega arith) (omega arith) d
+
+pub four-none : (b : ℕ) (t : List ℕ) (i : ℕ) → i + 4 ≤ length t
+    → ((not (eqb (getD t i 0) b) && not (eqb (getD t (i + 1) 0) b)) && not (eqb (getD t (i + 2) 0) b))
+    && not (eqb (getD t (i + 3) 0) b) ≡ true
+    → Onward (isNot b) t i (i + 4)
+unfolding isNot
+four-none b t i h e =
+    let first : Bool = not (eqb (getD t i 0) b) in
+    let second : Bool = not (eqb (getD t (i + 1) 0) b) in
+    let third : Bool = not (eqb (getD t (i + 2) 0) b) in
+    let fourth : Bool = not (eqb (getD t (i + 3) 0) b) in
+    let three : (first && second) && third ≡ true = and-left ((first && second) && third) fourth e in
+    let two : first && second ≡ true = and-left (first && second) third three in
+    four-more (isNot b) t i h (and-left first second two) (and-right first second two)
+    (and-right (first && second) third three) (and-right ((first && second) && third) fourth e)
 
 -- ---- digits
 

@@ -1,10 +1,13 @@
 -- What the contracts of this crate need beside the protocol's words: a byte of a word, which is any that is no
--- blank, and a size under a bound.
+-- blank, a run of bytes from a later place on, and a size under a bound.
+use mathlib.Core.Path.{_≡_}
 use mathlib.Core.Bool.{Bool, true, false, not}
-use Prim.Native.Nat.{ℕ, _≤_}
+use mathlib.Core.List.{List}
+use Prim.Native.Nat.{ℕ, _+_, _≤_}
+use lib.ListN.{length, drop}
 use Rattle.text_bytes.specs.declared.Size.{Size}
 use Rattle.text_bytes.specs.declared.Size.the-variants as size
-use Rattle.text_bytes.specs.Bytes.{isBlank}
+use Rattle.text_bytes.specs.Bytes.{isBlank, run}
 
 -- a byte of a word
 unfoldable pub isSolid : ℕ → Bool
@@ -14,6 +17,11 @@ isSolid b = not (isBlank b)
 unfoldable pub isPart : (blanks : Bool) → ℕ → Bool
 isPart true = isBlank
 isPart false = isSolid
+
+-- the run of bytes from i on that pass a test goes on from j: it ends where the one from j on ends
+pub record Onward (passes : ℕ → Bool) (t : List ℕ) (i j : ℕ) : Type 0 where
+  pub in-t : j ≤ length t
+  pub rest : j + run passes (drop j t) ≡ i + run passes (drop i t)
 
 -- a size that is at most `most`
 unfoldable pub Capped : (most : ℕ) → Size → Type 0

@@ -1,11 +1,12 @@
 // The words of a line, lent: where they begin and end, and which number a word spells.
 ghost use mathlib.Core.Path.{_≡_};
+ghost use mathlib.Core.Bool.{true};
 ghost use Prim.Native.Nat.{_+_, _≤_, _<_, _^_};
 ghost use lib.ListN.{length, take, drop};
 ghost use Rattle.text_bytes.specs.Bytes.{isBlank, isNot, run, same};
 ghost use Rattle.text_bytes.specs.Numbers.{sizeFrom, upTo, above, below, numberOf, greatest, least};
 ghost use Rattle.text_protocol.specs.Line.{twoOf, itemOf};
-ghost use Rattle.text_word.specs.Parts.{isSolid, isPart, Capped};
+ghost use Rattle.text_word.specs.Parts.{isSolid, isPart, Onward, Capped};
 use text_bytes::DIGIT_NINE;
 use text_bytes::DIGIT_ZERO;
 use text_bytes::Number;
@@ -66,12 +67,62 @@ pub fn past_word(l: &[u8], from: usize) -> usize
     past(l, from, false)
 }
 
-// Where the first byte b stands from `from` on, or the end.
-pub fn find(l: &[u8], from: usize, b: u8) -> usize
+// Whether none of the four bytes from i on is b. The compiler compares as many as are asked for at once, so that these
+// tests have no branch of their own.
+fn none_of_4(l: &[u8], i: usize, b: u8) -> bool
+    requires { ⌜ i + 4 ≤ length (now l) ⌝ }
+    ensures { λ r. ⌜ (r ≡ true → Onward (isNot b) (now (l .entry)) i (i + 4)) ⌝ }
+{
+    (l[i] != b) & (l[i + 1] != b) & (l[i + 2] != b) & (l[i + 3] != b)
+}
+
+fn none_of_8(l: &[u8], i: usize, b: u8) -> bool
+    requires { ⌜ i + 8 ≤ length (now l) ⌝ }
+    ensures { λ r. ⌜ (r ≡ true → Onward (isNot b) (now (l .entry)) i (i + 8)) ⌝ }
+{
+    none_of_4(l, i, b) & none_of_4(l, i + 4, b)
+}
+
+fn none_of_16(l: &[u8], i: usize, b: u8) -> bool
+    requires { ⌜ i + 16 ≤ length (now l) ⌝ }
+    ensures { λ r. ⌜ (r ≡ true → Onward (isNot b) (now (l .entry)) i (i + 16)) ⌝ }
+{
+    none_of_8(l, i, b) & none_of_8(l, i + 8, b)
+}
+
+// Past the next eight bytes, where none of them is b.
+fn past_8(l: &[u8], i: usize, b: u8) -> usize
+    requires { ⌜ i ≤ length (now l) ⌝ }
+    ensures { λ r. ⌜ Onward (isNot b) (now (l .entry)) i r ⌝ }
+{
+    if 8 <= l.len() - i {
+        if none_of_8(l, i, b) {
+            return i + 8;
+        }
+    }
+    i
+}
+
+// Past the next four.
+fn past_4(l: &[u8], i: usize, b: u8) -> usize
+    requires { ⌜ i ≤ length (now l) ⌝ }
+    ensures { λ r. ⌜ Onward (isNot b) (now (l .entry)) i r ⌝ }
+{
+    if 4 <= l.len() - i {
+        if none_of_4(l, i, b) {
+            return i + 4;
+        }
+    }
+    i
+}
+
+// Where the first byte b stands from `from` on, or the end: eight bytes, four, and then each.
+fn find_near(l: &[u8], from: usize, b: u8) -> usize
     requires { ⌜ from ≤ length (now l) ⌝ }
     ensures { λ r. ⌜ (r ≡ from + run (isNot b) (drop from (now (l .entry)))) × (r ≤ length (now (l .entry))) ⌝ }
 {
-    let mut i = from;
+    let start = past_4(l, past_8(l, from, b), b);
+    let mut i = start;
     while i < l.len() {
         if l[i] == b {
             return i;
@@ -79,6 +130,21 @@ pub fn find(l: &[u8], from: usize, b: u8) -> usize
         i += 1;
     }
     i
+}
+
+// Where the first byte b stands from `from` on, or the end. Most bytes of a line are passed sixteen at a time.
+pub fn find(l: &[u8], from: usize, b: u8) -> usize
+    requires { ⌜ from ≤ length (now l) ⌝ }
+    ensures { λ r. ⌜ (r ≡ from + run (isNot b) (drop from (now (l .entry)))) × (r ≤ length (now (l .entry))) ⌝ }
+{
+    let mut i = from;
+    while 16 <= l.len() - i {
+        if !none_of_16(l, i, b) {
+            return find_near(l, i, b);
+        }
+        i += 16;
+    }
+    find_near(l, i, b)
 }
 
 // Whether two words are the same, byte by byte.

@@ -9,7 +9,7 @@ use borrow.Author.Tests.{eq-eqb, ne-eqb, not-true, not-false}
 use Rattle.text_bytes.specs.Bytes.{isBlank, run, same}
 use Rattle.text_bytes.specs.Numbers.{sizeFrom, upTo, above, below, numberOf}
 use Rattle.text_word.specs.Parts.{isSolid, Capped}
-use Rattle.text_word.proofs.WordLoops.{Running, running-none, running-more, running-stop, running-all, Counting}
+use Rattle.text_word.proofs.WordLoops.{Counting}
 use Rattle.text_word.proofs.WordLoops.{counting-none, counting-low, counting-high, counting-over, counting-more}
 use Rattle.text_word.proofs.WordLoops.{counting-all}
 use Rattle.text_word.proofs.number_from.Statement.{statement}

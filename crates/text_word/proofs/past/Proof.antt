@@ -8,8 +8,8 @@ use native.Mathlib.Omega.{arith}
 use borrow.Author.Tests.{eq-eqb, ne-eqb, not-true, not-false}
 use Rattle.text_bytes.specs.Bytes.{isBlank, run, same}
 use Rattle.text_bytes.specs.Numbers.{sizeFrom, upTo, above, below, numberOf}
-use Rattle.text_word.specs.Parts.{isPart}
-use Rattle.text_word.proofs.WordLoops.{not-in-part, in-part, Running, running-none, running-more, running-stop}
+use Rattle.text_word.specs.Parts.{isPart, Onward}
+use Rattle.text_word.proofs.WordLoops.{not-in-part, in-part, running-none, running-more, running-stop}
 use Rattle.text_word.proofs.WordLoops.{running-all}
 use Rattle.text_word.proofs.past.Statement.{statement}
 use Rattle.text_word.proofs.past.Tie as tie
@@ -18,7 +18,7 @@ use Rattle.text_word.proofs.past.Lts as lts
 use Rattle.text_word.proofs.is_blank.Reads as is-blank-reads
 
 abbrev Inv-loop : tie.InvT-loop
-Inv-loop l from blanks i₀ i = Running (isPart blanks) l from i
+Inv-loop l from blanks i₀ i = Onward (isPart blanks) l from i
 
 abbrev μ-loop : tie.MeasureT-loop
 μ-loop l from blanks i₀ i = length l - i
