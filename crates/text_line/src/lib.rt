@@ -22,10 +22,10 @@ use text_protocol::MORE;
 use text_protocol::Pairs;
 use text_protocol::WORD_ROOM;
 use text_protocol::WORDS;
-use text_word::item_of;
 use text_word::past_blanks;
 use text_word::past_word;
 use text_word::same_bytes;
+use text_word::word_at;
 
 // A line of more bytes is no call: the buffer has no room for a line feed behind them.
 pub const LONGEST: usize = ROOM - 1;
@@ -232,8 +232,9 @@ fn numbers(l: &[u8], from: usize, kind: u64, xs: &mut [i64]) -> Line
         if a == l.len() {
             return finish(kind, n, pairs);
         }
-        let e = past_word(l, a);
-        let t = take_word(xs, kind, n, pairs, item_of(&l[a..e]));
+        let w = word_at(l, a);
+        let item = w.item;
+        let t = take_word(xs, kind, n, pairs, item);
         let ok = t.ok;
         if !ok {
             return bad();
@@ -241,7 +242,7 @@ fn numbers(l: &[u8], from: usize, kind: u64, xs: &mut [i64]) -> Line
         n = t.count;
         let p = t.pairs;
         pairs = p;
-        s = e;
+        s = w.end;
     }
 }
 

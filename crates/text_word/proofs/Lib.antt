@@ -2,3 +2,4 @@
 pub mod Words
 mod WordLoops
 mod Items
+mod Leading

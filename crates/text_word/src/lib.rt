@@ -6,7 +6,7 @@ ghost use lib.ListN.{length, take, drop};
 ghost use Rattle.text_bytes.specs.Bytes.{isBlank, isNot, run, same};
 ghost use Rattle.text_bytes.specs.Numbers.{sizeFrom, upTo, above, below, numberOf, greatest, least};
 ghost use Rattle.text_protocol.specs.Line.{twoOf, itemOf};
-ghost use Rattle.text_word.specs.Parts.{isSolid, isPart, Onward, Capped};
+ghost use Rattle.text_word.specs.Parts.{isSolid, isPart, Onward, Capped, Leads, WordAt};
 use text_bytes::DIGIT_NINE;
 use text_bytes::DIGIT_ZERO;
 use text_bytes::Number;
@@ -20,6 +20,9 @@ const LEAST_SIZE: u64 = 9_223_372_036_854_775_808;
 
 // The greatest number that takes one digit more and may still be within them.
 const SIZE_BEFORE_ONE_MORE_DIGIT: u64 = 922_337_203_685_477_580;
+
+// The greatest that takes any digit more and is within them.
+const SIZE_BEFORE_ANY_DIGIT: u64 = 922_337_203_685_477_579;
 
 // ---- where words begin and end
 
@@ -164,6 +167,17 @@ pub fn same_bytes(p: &[u8], w: &[u8]) -> bool
     true
 }
 
+// Whether a word ends at a place: the text ends there, or a blank stands there.
+fn ends_at(l: &[u8], at: usize) -> bool
+    requires { ⌜ at ≤ length (now l) ⌝ }
+    ensures { λ r. ⌜ (r ≡ true → run isSolid (drop at (now (l .entry))) ≡ 0) ⌝ }
+{
+    if at < l.len() {
+        return is_blank(l[at]);
+    }
+    true
+}
+
 // ---- numbers
 
 fn wide(b: u8) -> u64
@@ -273,4 +287,67 @@ pub fn item_of(p: &[u8]) -> Item
         return pair_at(p, at);
     }
     Item::Neither
+}
+
+// ---- a word where it stands
+
+// Digits in front of a word: where they end, and the size that they spell.
+pub struct Digits {
+    pub end: usize,
+    pub size: u64,
+}
+
+// The digits from `from` on, up to a size that takes one digit more, whichever it is, and stays within 64 bits with a
+// sign.
+fn digits_at(l: &[u8], from: usize) -> Digits
+    requires { ⌜ from ≤ length (now l) ⌝ }
+    ensures { λ r. ⌜ Leads (now (l .entry)) from (r .end) (r .size) ⌝ }
+{
+    let mut i = from;
+    let mut x: u64 = 0;
+    while i < l.len() {
+        let b = wide(l[i]);
+        if b < DIGIT_ZERO {
+            return Digits { end: i, size: x };
+        }
+        if b > DIGIT_NINE {
+            return Digits { end: i, size: x };
+        }
+        if SIZE_BEFORE_ANY_DIGIT < x {
+            return Digits { end: i, size: x };
+        }
+        x = 10 * x + (b - DIGIT_ZERO);
+        i += 1;
+    }
+    Digits { end: i, size: x }
+}
+
+// A word of a line: where it ends, and what it is behind the call's.
+pub struct Word {
+    pub end: usize,
+    pub item: Item,
+}
+
+// The word from `from` on. Nearly every word is digits, so that its number is known where its end is found. Any other
+// word is passed first, and then looked at.
+pub fn word_at(l: &[u8], from: usize) -> Word
+    requires { ⌜ from ≤ length (now l) ⌝ }
+    ensures { λ r. ⌜ WordAt (now (l .entry)) from r ⌝ }
+{
+    let d = digits_at(l, from);
+    let end = d.end;
+    let size = d.size;
+    if from < end {
+        if ends_at(l, end) {
+            return Word {
+                end,
+                item: Item::One(size as i64),
+            };
+        }
+    }
+    let e = past_word(l, from);
+    Word {
+        end: e,
+        item: item_of(&l[from..e]),
+    }
 }

@@ -18,9 +18,8 @@ use Rattle.text_line.proofs.bad.Reads as bad-reads
 use Rattle.text_line.proofs.finish.Reads as finish-reads
 use Rattle.text_line.proofs.no_pairs.Reads as no-pairs-reads
 use Rattle.text_line.proofs.take_word.Reads as take-word-reads
-use Rattle.text_word.proofs.item_of.Reads as item-of-reads
 use Rattle.text_word.proofs.past_blanks.Reads as past-blanks-reads
-use Rattle.text_word.proofs.past_word.Reads as past-word-reads
+use Rattle.text_word.proofs.word_at.Reads as word-at-reads
 
 abbrev Inv-loop : tie.InvT-loop
 Inv-loop l from kind xs₀ s₀ n₀ pairs₀ xs s n pairs =
@@ -48,20 +47,8 @@ returns : tie.Need-returns Inv-loop μ-loop
 returns c = filling-end _ _ _ _ _ _ _ (c .before .before .before .loop .inv) _
     (c .before .before .past-blanks .ensures .0) _ (omega (arith, c .before .if1 .taken)) (c .finish .ensures)
 
-past-word-requires : tie.Need-past-word-requires Inv-loop μ-loop
-past-word-requires c κs = search needs
-
-sub-item-of : tie.Need-sub-item-of Inv-loop μ-loop
-sub-item-of c = search needs
-
-part-item-of-start : tie.Need-part-item-of-start Inv-loop μ-loop
-part-item-of-start c = search needs
-
-part-item-of-end : tie.Need-part-item-of-end Inv-loop μ-loop
-part-item-of-end c = search needs
-
-item-of-requires : tie.Need-item-of-requires Inv-loop μ-loop
-item-of-requires c κs = search needs
+word-at-requires : tie.Need-word-at-requires Inv-loop μ-loop
+word-at-requires c κs = search needs
 
 take-word-requires : tie.Need-take-word-requires Inv-loop μ-loop
 take-word-requires c κs = search needs
@@ -75,33 +62,32 @@ same-length-2 c = search needs
 returns-2 : tie.Need-returns-2 Inv-loop μ-loop
 returns-2 c =
     let at-take-word = c .before .before .before in
-    let at-item-of = at-take-word .before in
-    let at-past-word = at-item-of .before .before .before in
-    let at-past-blanks = at-past-word .before .before in
-    let looping = at-past-blanks .before in
-    filling-bad _ _ _ _ _ _ _ (looping .loop .inv) _ (at-past-blanks .past-blanks .ensures .0) _ (omega arith)
-    (at-past-word .past-word .ensures .0) _ _ _ (at-item-of .item-of .ensures) (at-take-word .take-word .ensures) _
-    (c .bad .ensures) (not-true _ (c .before .if2 .taken))
+    let at-word = at-take-word .before .before in
+    let at-past-blanks = at-word .before .before in
+    let word = at-word .word-at .ensures in
+    filling-bad _ _ _ _ _ _ _ (at-past-blanks .before .loop .inv) _ (at-past-blanks .past-blanks .ensures .0) _
+    (omega arith) (word .is) _ _ _ (word .item) (at-take-word .take-word .ensures) _ (c .bad .ensures)
+    (not-true _ (c .before .if2 .taken))
 
 loop-less : tie.Need-loop-less Inv-loop μ-loop
 loop-less c =
-    let at-past-word = c .before .before .before .before .before .before .before in
-    let at-past-blanks = at-past-word .before .before in
+    let at-word = c .before .before .before .before .before in
+    let at-past-blanks = at-word .before .before in
     let entered = at-past-blanks .before .before .before .before in
-    let w : at-past-blanks .past-blanks .result < at-past-word .past-word .result = word-some (entered .args .l .now)
-    _ _ _ (at-past-blanks .past-blanks .ensures .0) (omega arith) (at-past-word .past-word .ensures .0) in
-    omega arith
+    let w : at-past-blanks .past-blanks .result < at-word .word-at .result .end =
+    word-some (entered .args .l .now) _ _ _ (at-past-blanks .past-blanks .ensures .0) (omega arith)
+    (at-word .word-at .ensures .is) in
+    omega (arith, w, at-word .word-at .ensures .in-t)
 
 loop-again : tie.Need-loop-again Inv-loop μ-loop
 loop-again c =
     let at-take-word = c .before .before .before in
-    let at-item-of = at-take-word .before in
-    let at-past-word = at-item-of .before .before .before in
-    let at-past-blanks = at-past-word .before .before in
-    let looping = at-past-blanks .before in
-    filling-more _ _ _ _ _ _ _ (looping .loop .inv) _ (at-past-blanks .past-blanks .ensures .0) _ (omega arith)
-    (at-past-word .past-word .ensures .0) _ _ _ (at-item-of .item-of .ensures) (at-take-word .take-word .ensures)
-    (at-past-word .past-word .ensures .1) (not-false _ (c .before .if2 .left))
+    let at-word = at-take-word .before .before in
+    let at-past-blanks = at-word .before .before in
+    let word = at-word .word-at .ensures in
+    filling-more _ _ _ _ _ _ _ (at-past-blanks .before .loop .inv) _ (at-past-blanks .past-blanks .ensures .0) _
+    (omega arith) (word .is) _ _ _ (word .item) (at-take-word .take-word .ensures) (word .in-t)
+    (not-false _ (c .before .if2 .left))
 
 pub numbers-spec : {M : Type 1} → statement M
 numbers-spec =
@@ -115,11 +101,7 @@ numbers-spec =
     finish-requires
     same-length
     returns
-    past-word-requires
-    sub-item-of
-    part-item-of-start
-    part-item-of-end
-    item-of-requires
+    word-at-requires
     take-word-requires
     bad-requires
     same-length-2
