@@ -62,7 +62,7 @@ export function makeFigures(language) {
             return `${hundredths > 0n ? '+' : ''}${scaled(hundredths, 2, 2)} %`;
         },
         /** A fraction as a whole number and the rest in lowest terms: 20,000 + 1/3. */
-        fraction: (/** @type {import('./why.mjs').Move} */ move) => {
+        fraction: (/** @type {import('./move.mjs').Move} */ move) => {
             const whole = move.over / move.under;
             const rest = move.over % move.under;
             if (rest === 0n) return grouping.format(whole);
@@ -71,7 +71,7 @@ export function makeFigures(language) {
             return whole === 0n ? part : `${grouping.format(whole)} + ${part}`;
         },
         /** Its first three places, with dots where there are more. */
-        places: (/** @type {import('./why.mjs').Move} */ move) => {
+        places: (/** @type {import('./move.mjs').Move} */ move) => {
             const thousandths = (move.over * 1000n) / move.under;
             const more = (move.over * 1000n) % move.under !== 0n;
             return more ? `${scaled(thousandths, 3, 3)}…` : scaled(thousandths, 3, 0);

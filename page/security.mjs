@@ -1,7 +1,7 @@
 // A security with its days and what happened to it, as the programs printed them, and the sheet that has them. Nothing
 // that a program prints is worked out here.
 import { answerOf, briefOf, dayOf, reasonsOf } from './answers.mjs';
-import { exactMove, hiddenByRounding } from './why.mjs';
+import { exactMove, hiddenByRounding } from './move.mjs';
 
 /** What may have happened to a security, in the order in which it is shown. */
 export const HAPPENED = {

@@ -7,7 +7,7 @@ import { dayAt } from './security.mjs';
 import { daysChart } from './view-days.mjs';
 import { ladder } from './view-ladder.mjs';
 import { badges, sessionOf } from './view-table.mjs';
-import { sentencesOf } from './why.mjs';
+import { whyOf } from './view-why.mjs';
 
 const LEAST_WIDTH = 260;
 
@@ -114,15 +114,6 @@ function staticsOf(statics, figures) {
             STATICS.map(([key, name, as]) => [{ words: name }, shown[as](statics[key])]))));
 }
 
-function whyOf(security, at, figures) {
-    const day = dayAt(security, at);
-    const sentences = sentencesOf(day, figures);
-    const item = (one) => el('li', { class: one.mark ? 'mark' : null }, one.text);
-    const list = el('ul', { class: 'why' }, ...sentences.map(item));
-    if (day.reasons !== null) return [list];
-    return [list, el('p', { class: 'dim' }, 'A broadcast carries no reasons: open the evening’s text to see why.')];
-}
-
 /** The days as a table; it is made when it is opened. */
 function daysTable(security, figures) {
     const details = el('details', {}, el('summary', {}, 'Days as a table'));
@@ -196,7 +187,7 @@ export function showSecurity(room, security, figures, at = security.days.length 
         priceOf(record, figures),
         cards(record, figures),
         el('h3', {}, `Why, on day ${figures.whole(record.day)}`),
-        ...whyOf(security, at, figures),
+        ...whyOf(dayAt(security, at), figures),
         el('h3', {}, isLast ? 'Ranges and bands' : 'Ranges and bands, as evaluated'),
         drawn((width) => ladder(record, figures, width)),
         legend(['k1', 'level 1'], ['k2', 'level 2'], ['k3', 'level 3'], ['kb', 'band of a term, in days']),

@@ -6,6 +6,7 @@ import { callOf } from './fields.mjs';
 import { formOf, lineOf, sentenceOf } from './lines.mjs';
 import { refusalIn } from './view-answer.mjs';
 import { makeForm } from './view-form.mjs';
+import { decidingTable, listOf } from './view-why.mjs';
 import { sentencesOf } from './why.mjs';
 
 /**
@@ -63,19 +64,15 @@ function recordsOf(/** @type {Heard} */ before, /** @type {Heard} */ after, /** 
         el('tbody', {}, ...rows));
 }
 
-function sentencesList(/** @type {string} */ title, /** @type {any[]} */ sentences, /** @type {Set<string>} */ others) {
-    return el('section', {}, el('h3', {}, title), el('ul', { class: 'why' }, ...sentences.map(({ text, mark }) => {
-        const how = [mark ? 'mark' : '', others.has(text) ? '' : 'changed'].filter(Boolean).join(' ');
-        return el('li', { class: how || null }, text);
-    })));
-}
-
 /** The reasons of two days side by side. */
 function reasonsOf(/** @type {{ before: any, after: any }} */ days, /** @type {Figures} */ figures) {
     const [was, is] = [days.before, days.after].map((day) => sentencesOf(day, figures));
     const texts = (/** @type {any[]} */ some) => new Set(some.map(({ text }) => text));
+    const part = (/** @type {string} */ title, /** @type {any} */ day, /** @type {any[]} */ own,
+        /** @type {any[]} */ others) => (
+        el('section', {}, el('h3', {}, title), listOf(own, texts(others)), ...decidingTable(day, figures)));
     return el('div', { class: 'two' },
-        sentencesList('Why, before', was, texts(is)), sentencesList('Why, after', is, texts(was)));
+        part('Why, before', days.before, was, is), part('Why, after', days.after, is, was));
 }
 
 /**

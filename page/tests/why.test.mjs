@@ -3,9 +3,11 @@ import assert from 'node:assert/strict';
 import { test } from 'node:test';
 import { sheetOfEvening } from '../evening-sheet.mjs';
 import { makeFigures } from '../figures.mjs';
+import { exactMove, hiddenByRounding, isAbove } from '../move.mjs';
 import { bytesOf, linesOf, textOf } from '../programs.mjs';
 import { dayAt } from '../security.mjs';
-import { exactMove, hiddenByRounding, isAbove, sentencesOf } from '../why.mjs';
+import { decidingOf, sentencesOf } from '../why.mjs';
+import { makeEvening } from './evenings.mjs';
 import { example, programs } from './release.mjs';
 
 const figures = makeFigures('en');
@@ -36,12 +38,13 @@ test('case 7: a third of a millionth over the volatility, which rounding first w
     const sentences = said(7, 0);
     assert.equal(
         sentences[1].text,
-        'The exact move, from 30,000.00 to 30,600.01 roubles, is 20,000 + 1/3 millionths (20,000.333…), above the ' +
-            'volatility before, 20,000: the upward weight of 10.00 % was taken.',
+        'The price moved by 2.0001 % (rounded up), from 30,000.00 to 30,600.01 roubles. That is above the volatility ' +
+            'before, 2.0000 %, so the upward weight of 10.00 % was taken.',
     );
     assert.deepEqual(sentences.filter((one) => one.mark).map((one) => one.text), [
-        'Rounded to the nearest millionth first it would have been 20,000, not above the volatility of 20,000: the ' +
-            'move would have been hidden.',
+        'Exactly, the move is 20,000 + 1/3 millionths (20,000.333…), and the volatility before is 20,000 millionths. ' +
+            'Rounded to the nearest millionth first it would have been 20,000, not above that: the move would have ' +
+            'been hidden.',
     ]);
 });
 
@@ -68,7 +71,7 @@ test('on a later day the mark looks at both evaluations before it, and at the vo
 test('a hundredth of a rouble less is level, and nothing is hidden', () => {
     assert.equal(figures.fraction(dayAt(security(8), 0).move), '20,000');
     assert.deepEqual(security(8).hidden, []);
-    has(8, 0, /not above the volatility before, 20,000: the downward weight/);
+    has(8, 0, /moved by 2\.0000 %, .* not above the volatility before, 2\.0000 %, so the downward weight of 5\.00 %/);
 });
 
 test('half a millionth and more is not hidden; a rate that lets the replacement in can be', () => {
@@ -84,8 +87,10 @@ test('half a millionth and more is not hidden; a rate that lets the replacement 
 });
 
 test('the tentative rate waits, and falls when the wait is over', () => {
-    has(9, 3, /^The tentative rate waits at 7\.00 %: less would do, but it has stood for 4 of the 5 trading days/);
-    has(9, 4, /^The tentative rate fell one step, from 7\.00 % to 6\.00 %: .* the wait of 5 trading days was over\.$/);
+    has(9, 3, /^The least step that covers 3\.00 times the volatility is 100 basis points, 1\.00 %\. The tentative /);
+    has(9, 3, / rate waits at 7\.00 % before it falls towards it: it has stood for 4 of the 5 trading days of the /);
+    has(9, 4, / 100 basis points, 1\.00 %: the tentative rate fell one step towards it, from 7\.00 % to 6\.00 %, /);
+    has(9, 4, / since the wait of 5 trading days was over\.$/);
 });
 
 test('yesterday’s price, a share that is not modelled, a replacement, a maximum, days off', () => {
@@ -93,13 +98,70 @@ test('yesterday’s price, a share that is not modelled, a replacement, a maximu
     assert.deepEqual(said(11, 0).length, 2);
     assert.match(said(11, 0)[1].text, /not modelled/);
     const replaced = said(12, 0).map((one) => one.text).join(' ');
-    assert.match(replaced, /above the last rate of level 1, 5\.00 %, and the replacement, /);
-    assert.match(replaced, /multiplier of 3\.00, is above the mean: it set the volatility, 66,667 millionths/);
-    assert.match(replaced, /the least step that covers the move itself/);
+    assert.match(replaced, /is now 6\.6667 %, the replacement: the move is above the last rate of level 1, 5\.00 %, /);
+    assert.match(replaced, /the move over the multiplier of 3\.00 is 6\.6667 %, above 6\.6031 %, the root /);
+    assert.match(replaced, /covers the move itself is 2,000 basis points, 20\.00 %: the tentative rate rose to it /);
     assert.match(replaced, /Rate 3 is held at the maximum, 40\.00 %/);
     const off = said(12, 1).map((one) => one.text).join(' ');
     assert.match(off, /^The least ask set the price: 119\.00 roubles/);
-    assert.match(off, /2 days off lay before, so it has no weight\. The volatility stays at 66,667 millionths/);
+    assert.match(off, /2 days off lay before, so the move has no weight\. The volatility stays at 6\.6667 %\./);
+});
+
+test('the move may be from the evaluation before the last one, and there may be none', () => {
+    assert.match(said(12, 1)[1].text, /^The price moved by 19\.0000 %, from 100\.00 roubles, the evaluation before /);
+    assert.match(said(9, 0)[1].text, /^The price did not move from 100\.00 roubles\. That is not above the /);
+});
+
+// The figures are the answer's own: with others in their places the sentences say the others.
+const OWN = { r: 123401, s0: 23402, x: 33403, y: 43404, s: 53405, t: 5406 };
+const changed = (id, at, reasons, own = OWN) => {
+    const day = dayAt(security(id), at);
+    return { ...day, reasons: { ...day.reasons, ...reasons, figures: own } };
+};
+const inWords = (day) => sentencesOf(day, figures).map((one) => one.text).join(' ');
+
+test('every figure of a sentence is the answer’s own, at its own place', () => {
+    const replaced = inWords(changed(12, 0, {}));
+    assert.match(replaced, /moved by 12\.3401 %, from .* above the volatility before, 2\.3402 %, so the upward/);
+    assert.match(replaced, /is now 5\.3405 %, the replacement: .* of 3\.00 is 4\.3404 %, above 3\.3403 %, the root /);
+    assert.match(replaced, /covers the move itself is 5,406 basis points, 54\.06 %: the tentative rate rose/);
+    const not = inWords(changed(12, 0, { replacement: 'no' }));
+    assert.match(not, /is now 5\.3405 %, the root .*\. The replacement, .* of 3\.00, is 4\.3404 % and not above it\. /);
+    assert.match(not, /covers 3\.00 times the volatility is 5,406 basis points/);
+    const none = inWords(changed(12, 0, { replacement: 'no' }, { ...OWN, y: 0 }));
+    assert.match(none, /There is no replacement, since the move is not above the last rate of level 1, 5\.00 %\. /);
+    assert.match(inWords(changed(7, 0, {})), /Exactly, the move is 20,000 \+ 1\/3 .* before is 23,402 millionths\. /);
+    assert.match(inWords(changed(12, 1, {})), /The volatility stays at 5\.3405 %\. The least step .* 5,406 basis /);
+});
+
+test('the figures that decided stand in a table with their units', () => {
+    assert.deepEqual(decidingOf(changed(12, 0, {}), figures), [
+        ['Move', '12.3401 %', '123,401 millionths'],
+        ['Volatility before', '2.3402 %', '23,402 millionths'],
+        ['Root of the weighted mean', '3.3403 %', '33,403 millionths'],
+        ['Replacement', '4.3404 %', '43,404 millionths'],
+        ['Volatility now', '5.3405 %', '53,405 millionths'],
+        ['Least step that covers it', '54.06 %', '5,406 basis points'],
+    ]);
+    assert.deepEqual(decidingOf(dayAt(security(7), 0), figures)[3], ['Replacement', 'none', '0']);
+    assert.deepEqual(decidingOf(dayAt(security(11), 0), figures), []);
+});
+
+test('the exact move, rounded up, is the move that why says', async () => {
+    const lines = makeEvening({ seed: 19, securities: 8, days: 30 });
+    const input = bytesOf(lines.map((line) => `${line}\n`).join(''));
+    const [answers, whys] = [await programs.run('evening', input), await programs.run('why', input)].map(linesOf);
+    let count = 0;
+    for (const one of [...sheet.securities, ...sheetOfEvening(textOf(input), answers, whys).securities]) {
+        one.days.forEach((_, at) => {
+            const { move, before, reasons } = dayAt(one, at);
+            if (reasons.figures === undefined) return;
+            assert.equal(Number((move.over + move.under - 1n) / move.under), reasons.figures.r);
+            assert.equal(before.s, reasons.figures.s0);
+            count += 1;
+        });
+    }
+    assert.ok(count > 100);
 });
 
 test('one day is a day', () => {

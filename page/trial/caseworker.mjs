@@ -221,7 +221,8 @@ export async function whatIf(/** @type {Browser} */ browser, /** @type {House} *
     assert.equal(looked, 2 * Object.keys(places).length);
     for (const [line, room] of [[before[place], 1], [words.join(' '), 2]]) {
         const lines = [...before.slice(0, place), String(line)];
-        const told = toldOf(lines, linesOf(house.run('evening', bytesOf(lines)))).get('16');
+        const answers = ['evening', 'why'].map((program) => linesOf(house.run(program, bytesOf(lines))));
+        const told = toldOf(lines, ...answers).get('16');
         looked += await lookAtReasons(browser, `#panel-what-if .reasons section:nth-of-type(${room}) ul`, told);
     }
     await browser.picture(house.pictureOf(browser.name, 'what-if'));

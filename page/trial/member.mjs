@@ -37,7 +37,7 @@ function toldIn(/** @type {House} */ house, /** @type {string} */ file) {
     const bytes = fs.readFileSync(file);
     const lines = bytes.toString('latin1').split('\n');
     if (lines.at(-1) === '') lines.pop();
-    return toldOf(lines, linesOf(house.run('evening', bytes)));
+    return toldOf(lines, ...['evening', 'why'].map((program) => linesOf(house.run(program, bytes))));
 }
 
 const showLimits = (/** @type {boolean} */ isShown) => `for (const name of ['ranges', 'bands']) {
@@ -115,8 +115,11 @@ export async function why(/** @type {Browser} */ browser, /** @type {House} */ h
     await browser.click('#table tbody button[data-id="7"]');
     const marks = await browser.value("[...document.querySelectorAll('.why .mark')].map((one) => one.textContent)");
     assert.equal(marks.length, 1);
-    assert.match(marks[0], /^Rounded to the nearest millionth first it would have been 20,000/);
+    assert.match(marks[0], /^Exactly, the move is 20,000 \+ 1\/3 millionths .* is 20,000 millionths\. Rounded to the /);
+    const moved = await browser.text('#one .why li:nth-of-type(2)');
+    assert.match(moved, /^The price moved by 2\.0001 % \(rounded up\), .* above the volatility before, 2\.0000 %, so /);
     await browser.picture(house.pictureOf(browser.name, 'why'));
+    await fitsPhone(browser, house, 'why');
     await browser.size(1500, 1050, true);
     await browser.picture(house.pictureOf(browser.name, 'why-dark'));
     await browser.size(1500, 1050);
@@ -229,6 +232,16 @@ export const PHONE = /** @type {const} */ ([390, 844]);
 export async function fits(/** @type {Browser} */ browser, /** @type {string} */ what) {
     const widths = await browser.value('[document.documentElement.scrollWidth, innerWidth]');
     for (const width of widths) assert.ok(width <= PHONE[0], `${what} is ${width} wide, and a phone ${PHONE[0]}`);
+}
+
+/** What is seen now fits a phone too; a picture has what the keyboard is in. */
+export async function fitsPhone(/** @type {Browser} */ browser, /** @type {House} */ house,
+    /** @type {string} */ name) {
+    await browser.size(...PHONE);
+    await fits(browser, name);
+    await browser.value("document.activeElement.scrollIntoView({ block: 'center' })");
+    await browser.picture(house.pictureOf(browser.name, `phone-${name}`));
+    await browser.size(1500, 1050);
 }
 
 /** A phone's width: nothing runs over. */

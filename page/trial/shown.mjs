@@ -1,6 +1,7 @@
-// Every figure that the page shows, against the answers of `evening`: those of the tables by their places in the answer
-// (docs/EVENING.md, "The answers"), all others of a security among the numbers that stand in its lines and answers.
-// Places and units are written here once more, and nothing is taken from the page's own lists.
+// Every figure that the page shows, against the answers of `evening` and `why`: those of the tables and the sentences
+// by their places in the answer (docs/EVENING.md, "The answers" and "Why"), all others of a security among the numbers
+// that stand in its lines and answers. Places and units are written here once more, and nothing is taken from the
+// page's own lists.
 import assert from 'node:assert/strict';
 
 const RECORD_WORDS = 46;
@@ -21,11 +22,13 @@ export function wholeOf(/** @type {string} */ shown, /** @type {number} */ decim
 }
 
 /**
- * What the lines and their answers say of each security, in order: its admission and its records.
- * @typedef {{ call: string, line: string[], answer: string[] }} Told
+ * What the lines and their answers say of each security, in order: its admission and its records, an evaluation with
+ * the figures that `why` says (R S0 X Y S T) where it says some.
+ * @typedef {{ call: string, line: string[], answer: string[], figures: string[] }} Told
  * @returns {Map<string, Told[]>}
  */
-export function toldOf(/** @type {string[]} */ lines, /** @type {string[]} */ answers) {
+export function toldOf(/** @type {string[]} */ lines, /** @type {string[]} */ answers,
+    /** @type {string[]} */ whys = []) {
     const told = new Map();
     // A blank line and a heading are not answered, unless they are too long.
     const answered = lines.filter((line) => line.length > 65535 || /^[ \t\r]*[^ \t\r#]/.test(line));
@@ -35,7 +38,8 @@ export function toldOf(/** @type {string[]} */ lines, /** @type {string[]} */ an
         const answer = answers[at].split(' ');
         if (answer[0] !== '0') return;
         const plain = line.map((word) => (/^-?\d+$/.test(word) ? String(BigInt(word)) : word)); // 007 is 7
-        const one = { call: line[0], line: plain, answer };
+        const figures = / figures (.*)$/.exec(whys[at] ?? '')?.[1].split(' ') ?? [];
+        const one = { call: line[0], line: plain, answer, figures };
         if (one.call === 'admit') told.set(one.line[1], [one]);
         else if (answer.length === RECORD_WORDS) told.get(answer[1]).push(one);
     });
@@ -141,6 +145,7 @@ function numbersOf(/** @type {Told[]} */ told) {
         ...(call === 'admit' ? line : call === 'evaluate' ? line.slice(3, 5) : []), ...answer]));
     const days = told.filter(({ call }) => call === 'evaluate');
     if (days.length === 0) return { numbers, move: [0n, 1n] };
+    days[days.length - 1].figures.forEach((figure) => numbers.add(figure));
     const before = days.length > 1 ? days[days.length - 2].answer.slice(4, 6) : told[0].line.slice(3, 5);
     return { numbers, move: moveOf(BigInt(days[days.length - 1].answer[4]), before.map(BigInt)) };
 }
@@ -148,6 +153,7 @@ function numbersOf(/** @type {Told[]} */ told) {
 /** The places of what one security shows in tables and cards: those of its last record, and of each of its days. */
 function expectedOf(/** @type {Told[]} */ told) {
     const last = told[told.length - 1].answer;
+    const [r, s0, x, y, s, t] = told.findLast(({ call }) => call === 'evaluate').figures;
     const dayOf = (/** @type {string[]} */ w) => [w[3], w[4], w[6], w[7], w[9], w[10], w[11]];
     return {
         price: last[4],
@@ -155,7 +161,38 @@ function expectedOf(/** @type {Told[]} */ told) {
         ranges: [0, 1, 2].map((level) => [String(level + 1), last[15 + level], last[12 + level]]),
         bands: [0, 1, 2].map((term) => [0, 1, 2, 3, 4].map((place) => last[18 + 7 * term + place])),
         days: told.filter(({ call }) => call === 'evaluate').map(({ answer }) => dayOf(answer)).reverse(),
+        deciding: r === undefined ? [] : [
+            ['Move', r, `${r} millionths`], ['Volatility before', s0, `${s0} millionths`],
+            ['Root of the weighted mean', x, `${x} millionths`],
+            ['Replacement', y === '0' ? 'none' : y, y === '0' ? '0' : `${y} millionths`],
+            ['Volatility now', s, `${s} millionths`], ['Least step that covers it', t, `${t} basis points`],
+        ],
     };
+}
+
+/** What the sentences say of R, S0, X, Y, S and T, by their places among those figures, with their decimals. */
+const SAID = /** @type {[RegExp, number, number][]} */ ([
+    [/^The price moved by ([\d.]+) %/, 0, 4], [/(?:is|is not) above the volatility before, ([\d.]+) %/, 1, 4],
+    [/, above ([\d.]+) %, the root of/, 2, 4], [/^The volatility is now ([\d.]+) %, the root of/, 2, 4],
+    [/over the multiplier of [\d.]+,? is ([\d.]+) %/, 3, 4], [/^The volatility (?:is now|stays at) ([\d.]+) %/, 4, 4],
+    [/ is ([\d,]+) basis points/, 5, 0], [/ basis points, ([\d,.]+) %/, 5, 2],
+]);
+const SAID_LEAST = 3; // S, and T twice, stand in every day's sentences
+
+/** Every figure that a sentence names is the one that `why` has at its place. */
+function lookAtSentences(/** @type {{ text: string, where: string }[]} */ pieces, /** @type {string[]} */ figures,
+    /** @type {string} */ whose) {
+    let looked = 0;
+    for (const { text } of pieces.filter(({ where }) => where.startsWith('li'))) {
+        for (const [pattern, place, decimals] of SAID) {
+            const shown = pattern.exec(text)?.[1];
+            if (shown === undefined) continue;
+            assert.equal(wholeOf(shown, decimals), figures[place], `${whose}: '${text}'`);
+            looked += 1;
+        }
+    }
+    assert.ok(figures.length === 0 ? looked === 0 : looked >= SAID_LEAST, `${whose} has ${looked} figures of why`);
+    return looked;
 }
 
 /** The statics by the names that the page gives them: their place in an admission's line, decimals and unit. */
@@ -199,12 +236,15 @@ function placedOf(/** @type {any} */ { price, cards, tables }) {
         .map((/** @type {string[]} */ cells) => cells.filter((_, place) => place !== 2));
     assert.deepEqual(cards.map((/** @type {string[]} */ [name]) => name),
         ['rate 1', 'rate 2', 'rate 3', 'tentative', 'volatility']);
+    const deciding = (tables['The figures that decided'] ?? []).map((/** @type {string[]} */ [name, shown, own]) => (
+        [name, shown === 'none' ? shown : wholeOf(shown, name.startsWith('Least') ? 2 : 4), own.replace(/,/g, '')]));
     return {
         price: wholeOf(price, 4),
         cards: each(cards.map((/** @type {string[]} */ [, figure]) => figure), [2, 2, 2, 2, 4]),
         ranges: rows('Ranges, in roubles', [0, 4, 4]),
         bands,
         days: withoutChange.map((/** @type {string[]} */ cells) => each(cells, [0, 4, 4, 2, 2, 2, 2])),
+        deciding,
     };
 }
 
@@ -251,7 +291,8 @@ export async function lookAtReasons(/** @type {import('./browser.mjs').Browser} 
     /** @type {Told[]} */ told) {
     const pieces = await browser.value(`(${PIECES})(document.querySelector(${JSON.stringify(room)}))`);
     const { numbers, move } = numbersOf(told);
-    return lookAtPieces(pieces, numbers, move, room);
+    const { figures } = told[told.length - 1];
+    return lookAtPieces(pieces, numbers, move, room) + lookAtSentences(pieces, figures, room);
 }
 
 /** Looks at all that is shown of some securities; every figure has to stand in their lines and answers. */
@@ -263,7 +304,11 @@ export async function lookAtEach(/** @type {import('./browser.mjs').Browser} */ 
         const { numbers, move } = numbersOf(ofIt);
         assert.ok(pieces.length > 3, `security ${id} shows nothing`);
         const isEvaluated = ofIt.some(({ call }) => call === 'evaluate');
-        if (isEvaluated) assert.deepEqual(placedOf(placed), expectedOf(ofIt), `security ${id}`);
+        if (isEvaluated) {
+            assert.deepEqual(placedOf(placed), expectedOf(ofIt), `security ${id}`);
+            const { figures } = ofIt.findLast(({ call }) => call === 'evaluate');
+            looked += lookAtSentences(pieces, figures, `security ${id}`);
+        }
         lookAtStatics(placed.tables.Statics, ofIt[0].line);
         looked += lookAtPieces(pieces, numbers, move, `security ${id}`);
     }
