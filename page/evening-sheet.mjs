@@ -1,6 +1,7 @@
 // The sheet of an evening: the securities of its text, with what the programs answered to each line.
-import { RECORD_CALLS, admissionOf, answerOf, reasonsOf } from './answers.mjs';
-import { inWords, placeOf } from './refusals.mjs';
+import { RECORD_CALLS, admissionOf, answerOf } from './answers.mjs';
+import { placeOf } from './places.mjs';
+import { inWords, refusedOf } from './refusals.mjs';
 import { Security, emptySheet } from './security.mjs';
 
 const LONGEST_LINE = 65535; // a longer line is answered, even a blank one and a heading
@@ -153,11 +154,10 @@ export function sheetOfEvening(text, answers, whys) {
     return sheet;
 }
 
-function refusalOf({ line, answer, why }) {
-    const call = firstWord(line.text);
-    const { kind, number } = answerOf(call, answer);
-    const at = { line: line.number, text: line.text };
+/** A refused line, with its number, its words and the place that `why` names. */
+function refusalOf(/** @type {Line} */ { line, answer, why }) {
+    const { kind, number } = answerOf(firstWord(line.text), answer);
+    const at = { line: line.number, text: line.text, answer, why };
     if (kind === 'bad') return { ...at, number: null, words: 'the line is no call', place: '' };
-    const place = call === 'evaluate' || call === 'admit' ? placeOf(reasonsOf(why)) : '';
-    return { ...at, number, words: inWords(number), place };
+    return { ...at, number, words: inWords(number), place: placeOf(refusedOf(why) ?? {}) };
 }

@@ -393,6 +393,10 @@ export function rangeOf(/** @type {Field} */ { kind, least, most }) {
     return kind.unit === '' || kind === timeOfDay ? ends : `${ends} ${kind.unit}`;
 }
 
+/** What a field must be, in words: its range. */
+export const mustBe = (/** @type {Field} */ field) => (
+    `must be ${field.kind.names === undefined ? 'from ' : ''}${rangeOf(field)}`);
+
 /**
  * The word of a typed value. A value that is a number out of its range has both a word and a fault: the text can carry
  * it, and the program refuses it.
@@ -406,5 +410,5 @@ export function wordOf(field, typed) {
     const read = field.kind.read(text);
     if ('fault' in read) return read;
     const inRange = field.kind.numbers(read.word).every((number) => field.least <= number && number <= field.most);
-    return inRange ? read : { ...read, fault: `must be ${field.kind.names ? '' : 'from '}${rangeOf(field)}` };
+    return inRange ? read : { ...read, fault: mustBe(field) };
 }

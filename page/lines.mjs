@@ -1,6 +1,7 @@
 // A form's values as a line of the evening's text, a line as a form's values, and the fields that a refusal is about.
 // All goes over the list of fields.mjs.
-import { callOf, wordOf } from './fields.mjs';
+import { callOf, mustBe, rangeOf, wordOf } from './fields.mjs';
+import { takenBy } from './places.mjs';
 import { refusals } from './refusals.mjs';
 
 /**
@@ -8,8 +9,9 @@ import { refusals } from './refusals.mjs';
  * @typedef {import('./fields.mjs').Field} Field
  * @typedef {Record<string, string>} Values  What is typed in each field, by its name.
  * @typedef {{ values: Values, rows: Values[] }} Form  A call's fields, and its rows in their order.
- * @typedef {{ name: string, label: string, row?: number, text: string }} Fault
- *     The field at fault (of a row, counted from 1 as `why` does), and what it must be.
+ * @typedef {{ name: string, label: string, row?: number, text: string, range?: string }} Fault
+ *     The field at fault (of a row, counted from 1 as `why` does), and what it must be; its range where that is no part
+ *     of the text and is to be named.
  */
 
 /** A form with nothing typed. @returns {Form} */
@@ -19,8 +21,10 @@ export const emptyForm = (/** @type {Call} */ call) => ({ values: emptyValues(ca
 export const emptyValues = (/** @type {Field[]} */ fields) => Object.fromEntries(fields.map(({ name }) => [name, '']));
 
 /** A fault as a sentence. */
-export function sentenceOf(/** @type {Fault} */ { name, label, row, text }, rowLabel = 'Row') {
-    return `${row === undefined ? '' : `${rowLabel} ${row}: `}${label}${label === name ? '' : ` (${name})`} ${text}.`;
+export function sentenceOf(/** @type {Fault} */ { name, label, row, text, range }, rowLabel = 'Row') {
+    const where = row === undefined ? '' : `${rowLabel} ${row}: `;
+    const inRange = range === undefined ? '' : `; its range is ${range}`;
+    return `${where}${label}${label === name ? '' : ` (${name})`} ${text}${inRange}.`;
 }
 
 /**
@@ -106,15 +110,12 @@ export function lineOf(call, form) {
  */
 function valuesOf(fields, words) {
     const values = emptyValues(fields);
-    const instead = new Set();
-    for (const field of fields) {
-        const isPair = field.instead !== undefined;
-        if (instead.has(field.name) || (isPair && !words[0]?.includes('/'))) continue;
+    for (const field of takenBy(fields, words)) {
         const word = words.shift();
-        if (word === undefined || !(isPair ? /^-?\d+\/-?\d+$/ : /^-?\d+$/).test(word)) return undefined;
+        const looks = field.instead === undefined ? /^-?\d+$/ : /^-?\d+\/-?\d+$/;
+        if (word === undefined || !looks.test(word)) return undefined;
         const exact = word.split('/').map((number) => String(BigInt(number))).join('/');
         values[field.name] = field.kind.typed(exact);
-        field.instead?.forEach((name) => instead.add(name));
     }
     return values;
 }
@@ -150,22 +151,34 @@ const OF_THE_FORM = [4, 6, 14, 16, 17, 20];
 const UNKNOWN_PAIR = 'is not of the three latest accepted interest lines, or has a band out of range';
 
 /**
- * The fields of a form that a refusal is about: those at fault by their own ranges and orders, in the row or term that
- * is named; else the number of the line that is named, or those that the number is about.
+ * The field that the program names, with its range, and behind it the others that are at fault by the page's own list.
+ * @param {Field} named
+ * @param {Fault[]} faults
+ */
+function namedFirst(named, faults) {
+    const { text = mustBe(named) } = faults.find(({ name }) => name === named.name) ?? {};
+    const range = text === mustBe(named) ? undefined : rangeOf(named);
+    const others = faults.filter(({ name }) => name !== named.name);
+    return [{ name: named.name, text, range }, ...others.map((other) => ({ name: other.name, text: other.text }))];
+}
+
+/**
+ * The fields of a form that a refusal is about: the number of an admission that is named first; else those at fault by
+ * their own ranges and orders, in the row or term that is named; else those that the refusal's number is about.
  * @param {import('./refusals.mjs').Refused} refused
  * @param {Call} call
  * @param {Form} form
- * @returns {{ name: string, row?: number, text?: string }[]}
+ * @returns {{ name: string, row?: number, text?: string, range?: string }[]}
  */
 export function fieldsOf({ number = 0, row, term, field }, call, form) {
     const ofTerm = [`K${term}`, `RRCL${term}`, `RRCH${term}`];
     const aPair = `PAIR${term}`;
     const faults = lineOf(call, form).faults.filter((fault) => (
         row !== undefined ? fault.row === row : term === undefined || [...ofTerm, aPair].includes(fault.name)));
+    if (field !== undefined) return namedFirst(call.fields[field - 1], faults);
     if (OF_THE_FORM.includes(number) && faults.length > 0) {
         return faults.map(({ name, row: at, text }) => ({ name, row: at, text }));
     }
-    if (field !== undefined) return call.fields.slice(field - 1, field).map(({ name }) => ({ name }));
     if (term !== undefined && number === 6 && form.values[aPair]) return [{ name: aPair, text: UNKNOWN_PAIR }];
     const about = term === undefined ? refusals[number]?.fields ?? [] : ofTerm;
     const fields = row === undefined ? call.fields : call.rows?.fields ?? [];

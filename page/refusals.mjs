@@ -16,7 +16,7 @@ export const refusals = [
     { text: 'there is no security with this id', todo: 'look at the id, or admit the security first', fields: ['ID'] },
     { text: 'this id is admitted already', todo: 'look at the id; an admission cannot be changed', fields: ['ID'] },
     { text: 'the table has no empty slot', todo: 'an evening has room for 512 securities' },
-    { text: 'a number of the admission is out of its range', todo: 'correct the field that is marked' },
+    { text: 'a number of the admission is at fault', todo: 'correct the number that is named' },
     { text: 'the day is not after the last one', todo: 'give a day number above the last one', fields: ['DAY'] },
     { text: 'a number is out of its range', todo: 'correct the field, row or term that is marked' },
     {
@@ -70,12 +70,6 @@ const NO_CALL = {
 /** A refusal in words; a number that the list has not stays a number. */
 export function inWords(/** @type {number} */ number) {
     return refusals[number]?.text ?? `refused ${number}`;
-}
-
-/** The place that `why` names of a refused evaluation or admission. */
-export function placeOf(/** @type {{ at?: string, which?: number }} */ fault) {
-    if (fault.at === 'field') return `number ${fault.which} of the line`;
-    return fault.at === 'row' || fault.at === 'term' ? `${fault.at} ${fault.which}` : '';
 }
 
 /**

@@ -1,4 +1,4 @@
-// Admissions from a file of comma-separated values with named columns, a security a line.
+// Admissions from a file of comma-separated values with named columns, a security a row.
 import { admissionsOf, admissionsText } from './admissions.mjs';
 import { button, el, table } from './element.mjs';
 import { makeBatch, sumOf } from './view-batch.mjs';
@@ -12,7 +12,7 @@ const TEMPLATE = 'admissions.csv';
  * @param {import('./view-work.mjs').Work} work
  */
 export function makeAdmissions(room, work) {
-    const { desk, figures } = work;
+    const { desk, figures, typing } = work;
     const batch = makeBatch('Admissions', { figures, hasFigures: false, changed: count });
     const status = el('p', { class: 'verdict', role: 'status', id: 'admissions-status' });
     const faults = el('div', { class: 'scroll', id: 'admissions-faults', hidden: true });
@@ -23,7 +23,7 @@ export function makeAdmissions(room, work) {
     const say = button('Say all', sayAll, { id: 'admissions-say', class: 'main', hidden: true });
 
     room.append(
-        el('p', { class: 'dim' }, 'A file of comma-separated values, a security a line. The first line names the ' +
+        el('p', { class: 'dim' }, 'A file of comma-separated values, a security a row. The first row names the ' +
             'columns; the template has all of them. A price is in roubles, a rate in per cent, as in the form.'),
         el('div', { class: 'buttons' },
             button('Download the template', () => download(TEMPLATE, admissionsText([]), 'text/csv'),
@@ -44,21 +44,22 @@ export function makeAdmissions(room, work) {
         read();
     }
 
-    function read() {
-        const made = admissionsOf(text.value);
-        const known = new Set(work.securities().map(({ id }) => String(id)));
-        const rows = made.faults.slice(0, MOST_SHOWN).map(({ at, text: words }) => [figures.whole(at), { words }]);
-        const head = ['line of the file', { words: 'what is wrong' }];
+    async function read() {
+        status.textContent = 'Reading …';
+        const { admissions, faults: wrong } = await admissionsOf(text.value, desk.ask);
+        const rows = wrong.slice(0, MOST_SHOWN).map(({ at, column = '', text: words }) => (
+            [figures.whole(at), { words: column }, { words: typing.range(words) }]));
+        const head = ['row', { words: 'column' }, { words: 'what is wrong' }];
         faults.replaceChildren(table('What is wrong in the file', head, rows));
         faults.hidden = rows.length === 0;
-        batch.show(made.admissions.map(({ values, line }) => {
-            const id = line.split(' ')[1];
-            return { id, line, state: known.has(id) ? 'admitted already' : 'new', isChosen: !known.has(id) };
-        }));
-        const good = `${figures.whole(made.admissions.length)} admissions can be said`;
-        const { length } = made.faults;
-        status.textContent = length === 0 ? `${good}.` : `${good}; ${figures.whole(length)} things are wrong in the file.`;
-        if (made.admissions.length > 0) say.focus();
+        batch.show(admissions.map(({ line, heard }) => (
+            { id: line.split(' ')[1], line, state: heard.refused?.text ?? 'new', isChosen: heard.accepted })));
+        const good = admissions.filter(({ heard }) => heard.accepted).length;
+        const can = `${figures.whole(good)} ${good === 1 ? 'admission' : 'admissions'} can be said`;
+        const are = wrong.length === 1 ? 'thing is' : 'things are';
+        status.textContent = wrong.length === 0 ? `${can}.`
+            : `${can}; ${figures.whole(wrong.length)} ${are} wrong in the file.`;
+        if (!say.hidden) say.focus();
     }
 
     function count() {

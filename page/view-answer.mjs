@@ -1,7 +1,10 @@
 // What the program answered to a line: named figures, or the refusal in words with what to do.
 import { answerOf, wordsOf } from './answers.mjs';
 import { el, table } from './element.mjs';
+import { callOf } from './fields.mjs';
 import { sentenceOf } from './lines.mjs';
+import { placeOf } from './places.mjs';
+import { markedLine } from './view-line.mjs';
 import { cards, limitsOf, outsideOf, priceOf, timeOf } from './view-security.mjs';
 import { sessionOf } from './view-table.mjs';
 
@@ -119,22 +122,33 @@ function alertOf(/** @type {any} */ { top, bottom }) {
     return top === 1 ? 'alert at the top' : bottom === 1 ? 'alert at the bottom' : 'no alert';
 }
 
-/** The place that a refusal names. */
-export function placeIn(/** @type {import('./refusals.mjs').Refused} */ { row, term }) {
-    return row !== undefined ? `row ${row}` : term !== undefined ? `term ${term}` : '';
-}
-
 /** A refusal in one sentence. */
 export function refusalIn(/** @type {NonNullable<Heard['refused']>} */ refused) {
     if (refused.number === undefined) return `Refused: ${refused.detail ?? `${refused.text}.`}`;
-    const place = placeIn(refused);
-    return `Refused (${refused.number}): ${refused.text}${place === '' ? '' : `, in ${place}`}.`;
+    const place = placeOf(refused);
+    const where = place === '' ? '' : refused.field === undefined ? `, in ${place}` : `: ${place}`;
+    return `Refused (${refused.number}): ${refused.text}${where}.`;
+}
+
+/** What each field at fault must be, in sentences. @returns {string[]} */
+export function faultsIn(/** @type {Heard} */ { call: word, faults = [] }) {
+    const call = callOf(word);
+    const labels = [...call?.fields ?? [], ...call?.rows?.fields ?? []];
+    return faults.filter(({ text }) => text !== undefined).map(({ name, row, text = '', range }) => {
+        const label = labels.find((field) => field.name === name)?.label ?? name;
+        return sentenceOf({ name, label, row, text, range }, call?.rows?.label);
+    });
 }
 
 const upper = (/** @type {string} */ words) => words[0].toUpperCase() + words.slice(1);
 
-/** The room of an answer: a sentence that is read out, and the figures below it. */
-export function makeAnswer(/** @type {Figures} */ figures, /** @type {Object<string, string>} */ attributes = {}) {
+/**
+ * The room of an answer: a sentence that is read out, and the figures below it.
+ * @param {Figures} figures
+ * @param {ReturnType<import('./view-typing.mjs').makeTyping>} typing
+ * @param {Object<string, string>} [attributes]
+ */
+export function makeAnswer(figures, typing, attributes = {}) {
     const verdict = el('p', { class: 'verdict', role: 'status', 'aria-live': 'polite' });
     const more = el('div');
     const node = el('div', { class: 'answer', 'data-answer': '', ...attributes }, verdict, more);
@@ -143,15 +157,18 @@ export function makeAnswer(/** @type {Figures} */ figures, /** @type {Object<str
         verdict.textContent = words;
         more.replaceChildren(...inside);
     };
+    const listOf = (/** @type {string[]} */ items) => (
+        el('ul', {}, ...items.map((item) => el('li', {}, typing.range(item)))));
     const raw = (/** @type {Heard} */ { answer }) => el('details', {}, el('summary', {}, 'The program’s own line'),
         el('code', { class: 'typed' }, answer));
     return {
         node,
         /**
          * @param {Heard} heard
-         * @param {{ kept: boolean, faults?: import('./lines.mjs').Fault[], rowLabel?: string }} how
+         * @param {{ kept: boolean, span?: import('./places.mjs').Span | null }} how  `span` is the part of a typed
+         *     line that is at fault, where no form shows it.
          */
-        show(heard, { kept, faults = [], rowLabel }) {
+        show(heard, { kept, span = null }) {
             node.dataset.answer = heard.answer;
             node.dataset.accepted = String(heard.accepted);
             const { refused } = heard;
@@ -160,16 +177,15 @@ export function makeAnswer(/** @type {Figures} */ figures, /** @type {Object<str
                 say(kept ? 'accepted' : 'tried', words, ...figuresOf(heard, figures), raw(heard));
                 return;
             }
-            const items = faults.map((fault) => el('li', {}, sentenceOf(fault, rowLabel)));
-            say('refused', refusalIn(refused),
+            say('refused', refusalIn(refused), ...(span === null ? [] : [markedLine(heard.text, span)]),
                 el('p', {}, el('strong', {}, 'What to do: '), `${upper(refused.todo)}. The line is not kept.`),
-                el('ul', {}, ...items), raw(heard));
+                listOf(faultsIn(heard)), raw(heard));
         },
         /** Words of the page itself: the program was not asked. */
         tell(/** @type {string} */ words, /** @type {string[]} */ ...items) {
             node.dataset.answer = '';
             node.dataset.accepted = 'false';
-            say('refused', words, el('ul', {}, ...items.map((item) => el('li', {}, item))));
+            say('refused', words, listOf(items));
         },
         clear() {
             node.dataset.answer = '';

@@ -11,6 +11,7 @@ import { rangeOf } from './fields.mjs';
  * @property {HTMLElement} fault  The words about what is wrong, which stand below it.
  * @property {() => string} value  What is typed, as kinds.mjs reads it.
  * @property {(plain: string) => void} set
+ * @property {() => void} take  Puts the caret into it, with what is typed chosen: the next key replaces it.
  * @property {(text: string | null, isQuiet?: boolean) => void} mark  What is at fault, or nothing; quiet words are for
  *     a screen reader alone.
  */
@@ -60,6 +61,10 @@ export function makeControl(field, { id, typing, hint, attributes = {} }) {
                 input.append(el('option', { value: text }, text));
             }
             input.value = text;
+        },
+        take() {
+            input.focus();
+            if (input.options === undefined) input.select();
         },
         mark(text, isQuiet = false) {
             fault.hidden = text === null;

@@ -91,15 +91,21 @@ export function makeForm(call, { id, typing, changed, focused = () => {} }) {
         rows: rows?.read() ?? [],
     });
 
-    /** Marks fields, and answers with the first of them. Words that many fields would share are seen once. */
-    function mark(/** @type {Mark[]} */ marks, otherwise = '') {
+    /**
+     * Marks fields, and answers with that of the first mark. Words that many fields would share are seen once.
+     * @param {Mark[]} marks
+     * @param {string} [otherwise]
+     * @returns {Control | null}
+     */
+    function mark(marks, otherwise = '') {
         /** @type {Control | null} */
         let first = null;
+        let isSaid = false;
         for (const { control, row } of all()) {
             const found = marks.find((one) => one.name === control.field.name && one.row === row);
-            const isQuiet = first !== null && found?.text === undefined;
-            control.mark(found === undefined ? null : found.text ?? otherwise, isQuiet);
-            if (found !== undefined) first ??= control;
+            control.mark(found === undefined ? null : found.text ?? otherwise, isSaid && found?.text === undefined);
+            isSaid ||= found !== undefined;
+            if (found !== undefined && found === marks[0]) first = control;
         }
         return first;
     }

@@ -47,6 +47,19 @@ export function makeLine(/** @type {string} */ id) {
     };
 }
 
+/**
+ * A line with a part of it marked. Of a long one what stands around that part is left.
+ * @param {string} line
+ * @param {import('./places.mjs').Span} span
+ * @param {number} [around] how many characters at each side
+ */
+export function markedLine(line, { start, end }, around = line.length) {
+    const from = Math.max(0, start - around);
+    const to = end + around;
+    return el('code', { class: 'typed' }, from > 0 && '…', line.slice(from, start),
+        el('mark', {}, line.slice(start, end)), line.slice(end, to), to < line.length && '…');
+}
+
 /** A page from a folder may have no clipboard of its own; the older way is there always. */
 async function copyText(/** @type {string} */ text) {
     try {

@@ -1,8 +1,12 @@
 // What was refused, in words with its place: a damaged broadcast, messages of an unknown kind, lines of an evening; and
 // the headings of an evening.
 import { el, table } from './element.mjs';
+import { faultIn, heardOf } from './heard.mjs';
+import { markedLine } from './view-line.mjs';
 
 const MOST_SHOWN = 500;
+const LINE_MOST = 60; // characters of a line
+const AROUND = 20; // on each side of what is at fault in it
 
 function damageOf(damage, figures) {
     const before = damage.message - 1;
@@ -23,12 +27,19 @@ function unknownOf(unknown, figures) {
         el('p', {}, `Skipped: ${count} of a kind of message that the program does not know (${kinds}).`));
 }
 
+/** A refused line: what is at fault in it, or how it begins. */
+function lineIn({ text, answer, why }) {
+    const span = faultIn(heardOf(text, { answer, why }));
+    if (span !== null) return markedLine(text, span, AROUND);
+    return text.length > LINE_MOST ? `${text.slice(0, LINE_MOST)}…` : text;
+}
+
 function refusedOf(refusals, figures) {
     const rows = refusals.slice(0, MOST_SHOWN).map((one) => [
         figures.whole(one.line),
         one.number === null ? 'bad' : String(one.number),
         { words: one.place === '' ? one.words : `${one.words}: ${one.place}` },
-        { words: one.text.length > 60 ? `${one.text.slice(0, 60)}…` : one.text },
+        { words: lineIn(one) },
     ]);
     const head = ['line', 'answer', { words: 'why' }, { words: 'the line' }];
     const more = refusals.length - rows.length;

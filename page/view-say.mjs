@@ -3,8 +3,9 @@
 import { ADMISSION } from './answers.mjs';
 import { button, el } from './element.mjs';
 import { callOf, calls, staticNames } from './fields.mjs';
+import { faultIn } from './heard.mjs';
 import { formOf, sentenceOf } from './lines.mjs';
-import { makeAnswer } from './view-answer.mjs';
+import { faultsIn, makeAnswer } from './view-answer.mjs';
 import { makeForm } from './view-form.mjs';
 import { makeLine } from './view-line.mjs';
 import { makeSaid } from './view-said.mjs';
@@ -44,7 +45,7 @@ export function makeSay(room, work) {
     /** @type {Map<string, FormView>} */
     const forms = new Map();
     const line = makeLine('say');
-    const answer = makeAnswer(figures, { id: 'say-answer' });
+    const answer = makeAnswer(figures, typing, { id: 'say-answer' });
     const said = makeSaid(again);
     /** @type {FormView} */
     let form;
@@ -78,13 +79,15 @@ export function makeSay(room, work) {
 
     const typed = el('input', {
         type: 'text', id: 'line', class: 'typed', autocomplete: 'off', spellcheck: 'false', autocapitalize: 'off',
+        'aria-describedby': 'line-fault', oninput: () => { typedFault.textContent = ''; },
     });
+    const typedFault = el('p', { class: 'fault', id: 'line-fault' });
     const raw = el('form', { class: 'raw', novalidate: true, onsubmit: (/** @type {Event} */ event) => {
         event.preventDefault();
         submitTyped();
     } }, el('label', { for: 'line' }, 'Or type a line of the evening’s text'), typed,
     el('button', { id: 'say-line' }, 'Say the line'),
-    button('Into the form', () => again(typed.value), { id: 'line-to-form' }));
+    button('Into the form', () => again(typed.value), { id: 'line-to-form' }), typedFault);
 
     room.append(chooser, node, raw, said.node);
     // A security that is typed is the one that is worked on.
@@ -194,7 +197,7 @@ export function makeSay(room, work) {
         const more = faults.length - named.length;
         answer.tell('The line is not whole, so the program was not asked.', ...named,
             ...(more > 0 ? [`and ${figures.whole(more)} more`] : []));
-        first?.input.focus();
+        first?.take();
     }
 
     async function submit(/** @type {boolean} */ isKept) {
@@ -221,14 +224,9 @@ export function makeSay(room, work) {
     }
 
     function showAnswer(/** @type {Heard} */ heard, /** @type {boolean} */ isKept) {
-        const { call } = form;
-        const marks = heard.faults ?? [];
-        const first = form.mark(marks, heard.refused?.text);
-        const labels = [...call.fields, ...call.rows?.fields ?? []];
-        const faults = marks.filter(({ text }) => text !== undefined).map(({ name, row, text = '' }) => (
-            { name, row, text, label: labels.find((field) => field.name === name)?.label ?? name }));
-        answer.show(heard, { kept: isKept, faults, rowLabel: call.rows?.label });
-        first?.input.focus();
+        const first = form.mark(heard.faults ?? [], heard.refused?.text);
+        answer.show(heard, { kept: isKept });
+        first?.take();
         if (isKept) showExtras();
     }
 
@@ -239,8 +237,15 @@ export function makeSay(room, work) {
         }
         const heard = await hear(typed.value, true);
         if (heard === null) return;
-        answer.show(heard, { kept: true });
+        const span = faultIn(heard);
+        const [fault = ''] = faultsIn(heard);
+        answer.show(heard, { kept: true, span });
+        typedFault.textContent = typing.range(fault);
         if (heard.accepted) typed.value = '';
+        if (span === null) return;
+        typed.setSelectionRange(span.start, span.end);
+        typed.focus();
+        typed.scrollLeft = typed.scrollWidth * span.start / typed.value.length - typed.clientWidth / 2;
     }
 
     return {

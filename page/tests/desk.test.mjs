@@ -220,16 +220,17 @@ test('a refused line names what is at fault: fields by their ranges, rows and te
     const desk = await openDesk(asText([admit]));
     const faults = async (line) => {
         const [{ refused, fields, faults: places }] = await desk.ask([line]);
-        const { number, row, term } = refused;
-        return { number, row, term, fields, rows: places.map((place) => place.row) };
+        const { number, row, term, field } = refused;
+        return { number, row, term, field, fields, rows: places.map((place) => place.row) };
     };
     const words = admit.split(' ');
     const put = (others) => Object.assign([...words], { 1: '8', ...others }).join(' ');
-    const none = { row: undefined, term: undefined };
-    assert.deepEqual(await faults(put({ 7: '101' })), { ...none, number: 4, fields: ['LOT'], rows: [undefined] });
-    assert.deepEqual(await faults(put({ 3: '1000005' })), { ...none, number: 4, fields: ['P1'], rows: [undefined] });
-    assert.deepEqual(await faults(put({ 9: '99', 31: '11' })),
-        { ...none, number: 4, fields: ['Q', 'EVENINGMAX'], rows: [undefined, undefined] });
+    const none = { row: undefined, term: undefined, field: undefined };
+    const number = (at, ...fields) => ({ ...none, number: 4, field: at, fields, rows: fields.map(() => undefined) });
+    assert.deepEqual(await faults(put({ 7: '101' })), number(7, 'LOT'));
+    assert.deepEqual(await faults(put({ 3: '1000005' })), number(3, 'P1'));
+    assert.deepEqual(await faults(put({ 9: '99', 31: '11' })), number(9, 'Q', 'EVENINGMAX'));
+    assert.deepEqual(await faults(put({ 3: '1000005', 31: '11' })), number(31, 'EVENINGMAX', 'P1'));
     assert.deepEqual(await faults(admit), { ...none, number: 2, fields: ['ID'], rows: [undefined] });
     const day = 'evaluate 7 4 0 0 0 0 0 0 0 0 0 0 0';
     const good = ' 0 10000 0 1000000 0 0 5';
@@ -242,7 +243,7 @@ test('a refused line names what is at fault: fields by their ranges, rows and te
     assert.deepEqual(await faults('evaluate 7 4 0 0 1 0/1 0 0 0 0 0 0'),
         { ...none, number: 6, term: 0, fields: ['PAIR0'], rows: [undefined] });
     const [{ faults: [fault] }] = await desk.ask([put({ 7: '101' })]);
-    assert.deepEqual(fault, { name: 'LOT', row: undefined, text: 'must be from 1 to 100 pieces' });
+    assert.deepEqual(fault, { name: 'LOT', text: 'must be from 1 to 100 pieces', range: undefined });
     const [bad] = await desk.ask(['evaluate 7 4']);
     assert.deepEqual([bad.refused.text, bad.refused.line, bad.fields], ['the line is no call', 2, []]);
     assert.equal(bad.refused.detail, "A number of 'evaluate' is missing, or a word is no number.");

@@ -3,7 +3,8 @@ import assert from 'node:assert/strict';
 import { test } from 'node:test';
 import { callOf } from '../fields.mjs';
 import { emptyForm, fieldsOf, formOf, lineOf, sentenceOf } from '../lines.mjs';
-import { inWords, placeOf, refusals, refusedOf } from '../refusals.mjs';
+import { placeOf, spanOf } from '../places.mjs';
+import { inWords, refusals, refusedOf } from '../refusals.mjs';
 import { answersTo, example } from './ask.mjs';
 
 const examples = ['evening.txt', 'cases.txt', 'why.txt'];
@@ -117,8 +118,11 @@ test('every number of a refusal is in words', () => {
     refusals.slice(1).forEach(({ text, todo }) => assert.ok(text !== '' && todo !== ''));
     assert.equal(inWords(16), 'a row has its bid above its ask');
     assert.equal(inWords(99), 'refused 99');
-    assert.equal(placeOf({ at: 'row', which: 3 }), 'row 3');
-    assert.equal(placeOf({ at: 'field', which: 32 }), 'number 32 of the line');
+    assert.equal(placeOf({ row: 3 }), 'row 3');
+    assert.equal(placeOf({ term: 0 }), 'term 0');
+    assert.equal(placeOf({ field: 1 }), 'Security (ID), number 1 of the line');
+    assert.equal(placeOf({ field: 32 }), 'Outside prices (USEEXTERNAL), number 32 of the line');
+    assert.equal(placeOf({}), '');
 });
 
 test('an answer says what is refused, and where', () => {
@@ -155,5 +159,59 @@ test('a refusal of why names the fields of its row or term', () => {
     assert.deepEqual(about('evaluate 7 3 0 0 0 0 0 0 0 0 0 0 0'), ['DAY']);
     assert.deepEqual(about('evaluate 8 4 31 0 0 0 0 0 0 0 0 0 0'), ['ID']);
     assert.deepEqual(about(admitted), ['ID']);
-    assert.deepEqual(fieldsOf(refusedOf('4 field 3'), callOf('admit'), form(admitted).form), [{ name: 'P1' }]);
+});
+
+test('an admission that is refused 4 names the field that why names first, with its range', () => {
+    const put = (others) => Object.assign(admitted.split(' '), others).join(' ');
+    const about = (others) => {
+        const line = put(others);
+        const answer = answersTo('why', [line])[0];
+        const { call, form: values } = form(line);
+        const faults = fieldsOf(refusedOf(answer), call, values);
+        return [answer, ...faults.map((fault) => sentenceOf({ ...fault, label: fault.name }))];
+    };
+    assert.deepEqual(about({ 7: '101' }), ['4 field 7', 'LOT must be from 1 to 100 pieces.']);
+    assert.deepEqual(about({ 14: '1' }), ['4 field 14', 'RH2 must not be below RH1; its range is 1 to 30 days.']);
+    // A number out of its range comes first, wherever it stands; the page marks what else it finds.
+    assert.deepEqual(about({ 18: '400', 32: '2' }), [
+        '4 field 32', 'USEEXTERNAL must be no or yes.', 'MIN2 must not be below MIN1.',
+    ]);
+    // What the program names is named, whatever the page's own list says.
+    const { call, form: values } = form(admitted);
+    assert.deepEqual(fieldsOf(refusedOf('4 field 3'), call, values), [
+        { name: 'P1', text: 'must be from 0.0001 to 1000000 roubles', range: undefined },
+    ]);
+});
+
+test('each number of an admission that is out of its range is named, with its own words and its place', () => {
+    const words = admitted.split(' ');
+    const wrong = words.map((word, at) => Object.assign([...words], { [at]: '-1' }).join(' ')).slice(1);
+    answersTo('why', wrong).forEach((answer, at) => {
+        assert.equal(answer, `4 field ${at + 1}`);
+        const { call, form: values } = form(wrong[at]);
+        const [first, ...more] = fieldsOf(refusedOf(answer), call, values);
+        assert.equal(first.name, call.fields[at].name);
+        assert.match(first.text, /^must be /);
+        assert.deepEqual(more, []);
+        const { start, end } = spanOf(wrong[at], [first]);
+        assert.equal(wrong[at].slice(start, end), '-1');
+    });
+});
+
+test('a place is a part of the line: a number, a row or a term, with pairs and blanks between', () => {
+    const line = 'evaluate  7 4 0 0\t1 0/1 2 -30 1950 3 5 6  0 10000 0 8 0 0 5   1 10001 0 9 0 0 6';
+    const part = (...marks) => {
+        const span = spanOf(line, marks);
+        return span === null ? null : line.slice(span.start, span.end);
+    };
+    assert.equal(part({ name: 'ID' }), '7');
+    assert.equal(part({ name: 'PAIR0' }), '0/1');
+    assert.equal(part({ name: 'K0' }, { name: 'RRCL0' }, { name: 'RRCH0' }), '1');
+    assert.equal(part({ name: 'RRCL1' }, { name: 'RRCH1' }), '-30 1950');
+    assert.equal(part({ name: 'PAIR1' }), null);
+    assert.equal(part({ name: 'VOLUME', row: 1 }), '5');
+    assert.equal(part({ name: 'T', row: 2 }, { name: 'RC', row: 2 }), '1 10001');
+    assert.equal(part({ name: 'T', row: 3 }), null);
+    assert.equal(part(), null);
+    assert.equal(spanOf('hello 7', [{ name: 'ID' }]), null);
 });
