@@ -10,7 +10,7 @@ import path from 'node:path';
 import process from 'node:process';
 
 const FIRST = 'view-main.mjs';
-const PROGRAMS = ['evening', 'why', 'broadcast', 'listen', 'exchange'];
+const PROGRAMS = ['evening', 'why', 'broadcast', 'listen', 'night'];
 const EXAMPLES = ['evening.txt', 'why.txt'];
 const IMPORT = /^import \{([^}]*)\} from '\.\/([a-z-]+\.mjs)';$/gm;
 const PASSED_ON = /^export \{([^}]*)\} from '\.\/([a-z-]+\.mjs)';$/gm;

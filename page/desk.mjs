@@ -2,7 +2,7 @@
 // line by line. A line that is refused is not kept. Nothing is shown here; the views ask this room.
 import { makeBreath } from './breath.mjs';
 import { isAnswered, isHeading, makeEveningSheet } from './evening-sheet.mjs';
-import { rowsOfExchange } from './exchange.mjs';
+import { nightOf } from './exchange.mjs';
 import { heardOf } from './heard.mjs';
 import { perform } from './performing.mjs';
 import { bytesOf, textOf } from './programs.mjs';
@@ -230,8 +230,9 @@ export function makeDesk(programs) {
         /** The messages of the text. @returns {Promise<Uint8Array>} */
         broadcast: () => inTurn(() => programs.run('broadcast', bytesOf(text()))),
 
-        /** The rows of every security in the exchange's text, as the end of an evaluation has them. */
-        exchange: (/** @type {Uint8Array} */ bytes) => rowsOfExchange(programs, bytes),
+        /** The evaluations of a night, from the exchange's text, the words of the day and further ids. */
+        night: (/** @type {Uint8Array} */ bytes, /** @type {string[]} */ day, /** @type {string[]} */ ids) => (
+            nightOf(programs, bytes, day, ids)),
 
         /** How many lines were said, undone or adopted since the text was opened or saved. */
         get unsaved() {

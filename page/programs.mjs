@@ -104,9 +104,7 @@ async function makeRunner(name, module) {
         putBack(memory, first);
         host = hostOf(memory, input, [name, ...words]);
         program.main();
-        const said = textOf(host.said.take()).trim();
-        if (said !== '') throw new Error(`${name}: ${said}`);
-        return host.answers.take();
+        return { output: host.answers.take(), said: textOf(host.said.take()).trim() };
     };
 }
 
@@ -128,21 +126,35 @@ export function makePrograms(modules) {
         return module;
     }
 
+    /**
+     * Runs a program to the end of its input.
+     * @param {string} name
+     * @param {Uint8Array} input
+     * @param {string[]} [words] those behind the program's name
+     * @returns {Promise<{ output: Uint8Array, said: string }>} what it wrote, and what it said on standard error
+     */
+    async function runSaying(name, input, words = []) {
+        const runner = runners.get(name) ?? makeRunner(name, await compile(name));
+        runners.delete(name); // one that is stopped in its run is not used again
+        const made = (await runner)(input, words);
+        runners.set(name, runner);
+        return made;
+    }
+
     return {
         compiled: compile,
+        runSaying,
 
         /**
-         * Runs a program to the end of its input.
+         * The same of a program that has nothing to say there.
          * @param {string} name
          * @param {Uint8Array} input
-         * @param {string[]} [words] those behind the program's name
+         * @param {string[]} [words]
          * @returns {Promise<Uint8Array>} what it wrote
          */
-        async run(name, input, words = []) {
-            const runner = runners.get(name) ?? makeRunner(name, await compile(name));
-            runners.delete(name); // one that is stopped in its run is not used again
-            const output = (await runner)(input, words);
-            runners.set(name, runner);
+        async run(name, input, words) {
+            const { output, said } = await runSaying(name, input, words);
+            if (said !== '') throw new Error(`${name}: ${said}`);
             return output;
         },
     };

@@ -1,8 +1,9 @@
-// Tonight's rows from the exchange's own text, pasted or a file: an evaluation for each of its securities. The day, the
-// days off and the terms are given once.
+// Tonight's evaluations from the exchange's own text, pasted or a file: a line for each of its securities, which is
+// seen before it is performed. The day, the days off and the terms are given once.
 import { button, el } from './element.mjs';
 import { callOf } from './fields.mjs';
-import { lineOf, sentenceOf } from './lines.mjs';
+import { sentenceOf } from './lines.mjs';
+import { makeBadText } from './view-bad-text.mjs';
 import { makeBatch, sumOf } from './view-batch.mjs';
 import { fileField } from './view-files.mjs';
 import { makeForm } from './view-form.mjs';
@@ -19,6 +20,7 @@ const KNOWN = 'known';
 const WAITS = 'admitted, not evaluated yet';
 const UNKNOWN = 'unknown: admit it first';
 const NO_ROWS = 'has no rows tonight';
+const MOST_NAMED = 3;
 
 /** A pasted text seldom has the line feed that ends its last line. */
 const endedText = (/** @type {string} */ text) => (text === '' || text.endsWith('\n') ? text : `${text}\n`);
@@ -29,8 +31,8 @@ const endedText = (/** @type {string} */ text) => (text === '' || text.endsWith(
  */
 export function makeExchange(room, work) {
     const { desk, figures, typing } = work;
-    /** @type {Map<string, string> | null} The words of the rows, by id. */
-    let rows = null;
+    let isRead = false; // the lines follow the day from then on
+    let asked = 0;
     /** @type {Uint8Array | null} A file as it is; the field shows it. */
     let file = null;
 
@@ -41,6 +43,7 @@ export function makeExchange(room, work) {
         id: 'exchange-text', rows: 14, spellcheck: 'false', autocomplete: 'off', class: 'typed',
         oninput: () => { file = null; forget(); },
     });
+    const bad = makeBadText(text, { figures, typing });
     const others = el('input', { type: 'checkbox', id: 'exchange-others', onchange: lines });
     const say = button('Say all', sayAll, { id: 'exchange-say', class: 'main', hidden: true });
     const fromLast = button('Days off and terms of the last evaluation, next day', () => {
@@ -49,7 +52,7 @@ export function makeExchange(room, work) {
         if (next !== null) form.fill({ values: next.values, rows: [] });
     }, { id: 'exchange-from-last' });
 
-    const node = el('form', { 'data-call': 'evaluate', novalidate: true, 'aria-label': 'Exchange’s rows',
+    const node = el('form', { 'data-call': 'evaluate', novalidate: true, 'aria-label': 'Exchange’s text',
         onsubmit: (/** @type {Event} */ event) => {
             event.preventDefault();
             read();
@@ -58,14 +61,15 @@ export function makeExchange(room, work) {
         el('label', { for: 'exchange-text' }, el('strong', {}, '1. The exchange’s text')),
         el('p', { class: 'hint' }, 'id; days to settlement; central rate; repo rate; close; bid; ask; volume'),
         text,
-        el('div', { class: 'buttons' }, ...fileField('exchange-file', 'Open the exchange’s file…', openFile))),
+        el('div', { class: 'buttons' }, ...fileField('exchange-file', 'Open the exchange’s file…', openFile)),
+        bad.node),
     el('div', { class: 'right' },
         el('p', {}, el('strong', {}, '2. The day, for all of them')),
         el('div', { class: 'extras' }, fromLast),
         form.node,
         el('label', { class: 'check' }, others, ' also evaluate the securities that have no rows tonight'),
         el('div', { class: 'buttons' },
-            el('button', { id: 'exchange-read', class: 'main' }, 'Read the rows'))));
+            el('button', { id: 'exchange-read', class: 'main' }, 'Make the lines'))));
     room.append(node, status, batch.node, el('div', { class: 'buttons' }, say));
 
     const lastLine = () => {
@@ -74,80 +78,81 @@ export function makeExchange(room, work) {
     };
 
     function forget() {
-        rows = null;
-        status.textContent = '';
+        isRead = false;
+        asked += 1;
+        tell('');
+        bad.hide();
         batch.clear();
+    }
+
+    function tell(/** @type {string} */ words, isBad = false) {
+        status.textContent = words;
+        status.className = isBad ? 'verdict bad' : 'verdict';
     }
 
     async function openFile(/** @type {File} */ opened) {
         file = new Uint8Array(await opened.arrayBuffer());
         text.value = new TextDecoder('latin1').decode(file);
         forget();
-        status.textContent = `${opened.name}: ${figures.whole(file.length)} bytes.`;
+        tell(`${opened.name}: ${figures.whole(file.length)} bytes.`);
     }
 
     async function read() {
-        const bytes = file ?? new TextEncoder().encode(endedText(text.value));
-        status.textContent = 'Reading …';
-        const made = await desk.exchange(bytes);
-        if (made.refused) {
-            const { number, line, todo } = made.refused;
-            forget();
-            const words = line === 0 ? 'the exchange’s text has more than 65,536 bytes'
-                : `line ${figures.whole(line)} of the exchange’s text is bad`;
-            status.textContent = `Refused (${number}): ${words}. What to do: ${todo}.`;
-            status.dataset.line = String(line);
-            markLine(line);
-            return;
-        }
-        rows = new Map([...made.rows].map(([id, words]) => [String(id), words]));
-        const { faults } = form.line();
+        isRead = true;
+        const { line, faults } = form.line();
         const first = form.mark(faults);
-        lines();
-        if (first !== null) first.input.focus();
-        else if (rows?.size > 0) say.focus();
+        await lines();
+        if (line === undefined) first?.take();
+        else if (!say.hidden) say.focus();
     }
 
-    /** Chooses the bad line in the field, so that it is seen. */
-    function markLine(/** @type {number} */ line) {
-        if (line === 0) return;
-        const before = text.value.split('\n').slice(0, line - 1).join('\n').length;
-        const start = line === 1 ? 0 : before + 1;
-        const end = text.value.indexOf('\n', start);
-        text.focus();
-        text.setSelectionRange(start, end < 0 ? text.value.length : end);
-    }
-
-    /** A line for each security, with the numbers of the form as they are. */
-    function lines() {
-        if (rows === null) return;
-        const { values } = form.read();
+    /** A line for each security, by the program, with the numbers of the form as they are. */
+    async function lines() {
+        if (!isRead) return;
+        asked += 1;
+        const which = asked;
         const { line, faults } = form.line();
         if (line === undefined) {
+            const named = faults.slice(0, MOST_NAMED).map((fault) => sentenceOf(fault)).join(' ');
             batch.clear();
-            const named = faults.slice(0, 3).map((fault) => sentenceOf(fault)).join(' ');
-            status.textContent = `${figures.whole(rows.size)} securities have rows. The day is not whole: ${named}`;
+            tell(`The day is not whole. ${named}`, true);
             return;
         }
+        const [, ...day] = line.split(' ');
+        const bytes = file ?? new TextEncoder().encode(endedText(text.value));
         const known = new Map(work.securities().map((one) => [String(one.id), one]));
-        const without = others.checked ? [...known.keys()].filter((id) => !rows?.has(id)) : [];
-        const stateOf = (/** @type {string} */ id) => {
+        const made = await desk.night(bytes, day, others.checked ? [...known.keys()] : []);
+        if (which !== asked) return; // another number was typed meanwhile
+        if (made.refused === undefined) {
+            bad.hide();
+            showLines(made.lines, day.length, known);
+        } else {
+            batch.clear();
+            tell(bad.show(made.refused, made.bad));
+            status.className = 'apart'; // it is seen beside the text, and read out
+        }
+    }
+
+    /**
+     * The lines, each with what is known of its security.
+     * @param {string[]} made
+     * @param {number} dayWords  A line with no more words behind the id has no rows.
+     * @param {Map<string, import('./security.mjs').Security>} known
+     */
+    function showLines(made, dayWords, known) {
+        const items = made.map((line) => {
+            const [, id, ...words] = line.split(' ');
             const one = known.get(id);
-            return one === undefined ? UNKNOWN : one.days.length === 0 ? WAITS : KNOWN;
-        };
-        const itemOf = (/** @type {string} */ id, /** @type {string} */ state) => {
-            const head = lineOf(evaluate, { values: { ...values, ID: id }, rows: [] }).line;
-            return { id, state, isChosen: known.has(id), line: [head, rows?.get(id)].filter(Boolean).join(' ') };
-        };
-        const items = [
-            ...[...rows.keys()].map((id) => itemOf(id, stateOf(id))),
-            ...without.map((id) => itemOf(id, NO_ROWS)),
-        ];
+            const state = words.length === dayWords ? NO_ROWS
+                : one === undefined ? UNKNOWN : one.days.length === 0 ? WAITS : KNOWN;
+            return { id, line, state, isChosen: one !== undefined };
+        });
         batch.show(items);
-        const unknown = items.filter(({ state }) => state === UNKNOWN).length;
-        const found = `${figures.whole(rows.size)} securities have rows`;
-        status.textContent = items.length === 0 ? 'The text has no rows.'
-            : unknown === 0 ? `${found}.` : `${found}, ${figures.whole(unknown)} of them unknown.`;
+        const many = (/** @type {string} */ state) => items.filter((item) => item.state === state).length;
+        const withRows = items.length - many(NO_ROWS);
+        const found = `${figures.whole(withRows)} ${withRows === 1 ? 'security has' : 'securities have'} rows`;
+        const unknown = many(UNKNOWN) === 0 ? '' : `, ${figures.whole(many(UNKNOWN))} of them unknown`;
+        tell(items.length === 0 ? 'The text has no rows.' : `${found}${unknown}. Nothing is performed yet.`);
     }
 
     function count() {
@@ -158,11 +163,12 @@ export function makeExchange(room, work) {
 
     async function sayAll() {
         say.hidden = true;
-        status.textContent = 'Saying …';
+        isRead = false; // what was said stands as it was answered
+        tell('Saying …');
         const heard = await desk.say(batch.chosen());
         batch.answer(heard);
         work.changed(heard);
-        status.textContent = sumOf(heard, figures);
+        tell(sumOf(heard, figures));
     }
 
     return {

@@ -257,29 +257,47 @@ test('the broadcast is that of the text', async () => {
     assert.ok((await desk.broadcast()).length > 1000);
 });
 
-test('the exchange’s text gives the rows of each security as evaluations have them', async () => {
+const DAY = '4 0 0 1 -730 1460 1 0/1 1 0 0'.split(' ');
+const row = (id) => `${id};0;1;0;103;;;5\n`;
+
+test('the exchange’s text becomes an evaluation of each of its securities, with its rows', async () => {
     const desk = await openDesk();
     const text = textOf(bytesOfExample('exchange.txt'));
-    const { rows } = await desk.exchange(bytesOf(text));
-    assert.deepEqual([...rows.keys()], [7, 9]);
-    for (const [id, words] of rows) {
-        const [verdict, count, ...answered] = ask('exchange', text, String(id)).trim().split(' ');
-        assert.deepEqual([verdict, 7 * count, words], ['0', answered.length, answered.join(' ')]);
-    }
-    assert.deepEqual(await desk.exchange(bytesOf('')), { rows: new Map() });
-    const zeros = await desk.exchange(bytesOf('7;0;1;0;103;;;5\n007;1;1;0;104;;;6\n'));
-    assert.deepEqual([...zeros.rows], [[7, '0 10000 0 1030000 0 0 5 1 10000 0 1040000 0 0 6']]);
+    const { lines } = await desk.night(bytesOf(text), DAY, ['11', '9', '11']);
+    const rowsOf = (id) => ask('exchange', text, id).trim().split(' ').slice(2).join(' ');
+    const head = (id) => `evaluate ${id} ${DAY.join(' ')}`;
+    assert.deepEqual(lines, [`${head(7)} ${rowsOf('7')}`, `${head(9)} ${rowsOf('9')}`, head(11)]);
+    assert.deepEqual(await desk.night(bytesOf(''), DAY, []), { lines: [] });
+    const zeros = await desk.night(bytesOf('7;0;1;0;103;;;5\n007;1;1;0;104;;;6\n'), DAY, []);
+    assert.deepEqual(zeros.lines, [`${head(7)} 0 10000 0 1030000 0 0 5 1 10000 0 1040000 0 0 6`]);
 });
 
-test('a bad line of the exchange’s text is refused with its place', async () => {
+test('the lines of a night are said as they are', async () => {
+    const [admit, other] = example('evening.txt');
+    const desk = await openDesk(asText([admit, other]));
+    const { lines } = await desk.night(bytesOfExample('exchange.txt'), '4 0 0 0 0 0 0 0 0 0 0 0'.split(' '), []);
+    const heard = await desk.say(lines);
+    assert.deepEqual(heard.map(({ text, accepted }) => [text, accepted]), lines.map((line) => [line, true]));
+    assert.deepEqual(heard.map(({ answer }) => answer), answersTo('evening', [admit, other, ...lines]).slice(2));
+});
+
+test('a bad line of the exchange’s text is refused with its number, and shown', async () => {
     const desk = await openDesk();
     const refused = async (text) => {
-        const { refused: said } = await desk.exchange(bytesOf(text));
-        return [said.number, said.line, said.text];
+        const { refused: said, bad, lines } = await desk.night(bytesOf(text), DAY, []);
+        assert.equal(lines, undefined);
+        assert.equal(said.text, 'a line of the exchange’s text is bad');
+        return [said.number, said.line, bad];
     };
-    const words = 'a line of the exchange’s text is bad';
-    assert.deepEqual(await refused('7;0;1;0;103;;;5\n7;0;1\n'), [15, 2, words]);
-    assert.deepEqual(await refused('nothing\n'), [15, 1, words]);
-    assert.deepEqual(await refused('7;0;1;0;103;;;5\n'.repeat(17)), [15, 17, words]);
-    assert.deepEqual(await refused('7;0;1;0;103;;;5\n'.repeat(5000)), [15, 0, words]);
+    assert.deepEqual(await refused(`${row(7)}7;0;1\n`), [15, 2, '7;0;1']);
+    assert.deepEqual(await refused('nothing\r\n'), [15, 1, 'nothing']);
+    assert.deepEqual(await refused(`${row(7)}\n${row(7)}`), [15, 2, '']);
+    assert.deepEqual(await refused(`${row(7)}${row(8)}`.repeat(16) + row(8) + row(7)), [15, 33, row(8).trim()]);
+    assert.deepEqual(await refused(`${'9'.repeat(300)}\n`), [15, 1, `${'9'.repeat(200)}…`]);
+    assert.deepEqual(await refused(row(7).repeat(70000)), [15, 0, '']);
+});
+
+test('words that are no day are said as the program says it', async () => {
+    const desk = await openDesk();
+    await assert.rejects(desk.night(bytesOf(row(7)), ['4'], []), /night: usage:/);
 });

@@ -25,10 +25,14 @@ test('a broadcast is heard', async () => {
     assert.ok(heard.includes('move 7 0 1 1133000 1174200 1205100 1091800 1091800 1091800'));
 });
 
-test('the exchange’s text is asked for one security', async () => {
-    const [answer] = linesOf(await programs.run('exchange', example('exchange.txt'), ['7']));
-    assert.match(answer, /^0 4 0 10000 0 1030000 0 0 5 /);
-    await assert.rejects(programs.run('exchange', example('exchange.txt')), /usage:/);
+test('a program may say something on standard error, and then nothing is taken for its answer', async () => {
+    const words = '4 0 0 0 0 0 0 0 0 0 0 0'.split(' ');
+    const lines = linesOf(await programs.run('night', example('exchange.txt'), words));
+    assert.match(lines[0], /^evaluate 7 4 0 0 0 0 0 0 0 0 0 0 0 0 10000 0 1030000 0 0 5 /);
+    const made = await programs.runSaying('night', bytes('7;0;1\n'), words);
+    assert.deepEqual([made.output.length, made.said], [0, '15 1']);
+    await assert.rejects(programs.run('night', bytes('7;0;1\n'), words), /^Error: night: 15 1$/);
+    await assert.rejects(programs.run('night', example('exchange.txt')), /usage:/);
 });
 
 test('there is no other program', async () => {

@@ -90,17 +90,16 @@ for (const [name, each] of [['all taken', 0], ['each fourth refused', 4], ['all 
     });
 }
 
-test('the exchange’s text of all securities is read, and the page has its turn meanwhile', async (t) => {
-    const rowOf = (id, day) => `${id};${day};1.00;7.30;103.00;102.95;103.05;12\n`;
-    const text = ids.flatMap((id) => [0, 1, 2].map((day) => rowOf(id, day))).join('');
-    assert.ok(text.length > 60000 && text.length <= 65536);
-    let turns = 0;
-    const ticking = setInterval(() => { turns += 1; }, 1);
-    const { result, clock, processor } = await timed(() => desk.exchange(bytesOf(text)));
-    clearInterval(ticking);
-    t.diagnostic(`512 securities: ${whole(processor)} ms of the processor, ${whole(clock)} ms by the clock`);
-    assert.deepEqual([...result.rows.keys()], ids);
-    assert.ok([...result.rows.values()].every((words) => words.split(' ').length === 21));
-    assert.ok(processor <= OPENED_MOST, `${whole(processor)} ms`);
-    assert.ok(turns > 2);
+test('the exchange’s text of all securities with sixteen rows each becomes their evaluations', async (t) => {
+    const rowOf = (id, day) => `${id};${day};1.0000;7.30;103.0000;102.9500;103.0500;12\n`;
+    const rows = Array.from({ length: 16 }, (_, day) => day);
+    const text = rows.flatMap((day) => ids.map((id) => rowOf(id, day))).join('');
+    assert.ok(text.length > 300000);
+    const day = '900 0 0 0 0 0 0 0 0 0 0 0'.split(' ');
+    await desk.night(bytesOf(''), day, []); // the module is compiled once
+    const { result, clock, processor } = await timed(() => desk.night(bytesOf(text), day, []));
+    t.diagnostic(`${text.length} bytes: ${whole(processor)} ms of the processor, ${whole(clock)} ms by the clock`);
+    assert.deepEqual(result.lines.map((line) => Number(line.split(' ')[1])), ids);
+    assert.ok(result.lines.every((line) => line.split(' ').length === 14 + 7 * rows.length));
+    assert.ok(processor <= LINE_MOST, `${whole(processor)} ms`);
 });
