@@ -1,6 +1,6 @@
-// What the caseworker does with the page: says lines by forms, sees a refusal, asks what if, takes the exchange's text
-// and admissions from a file, takes a line back, saves and opens again. The released program for this machine answers
-// the same lines, and the page has to show what it answers.
+// What the caseworker does with the page: says lines by forms, sees a refusal, asks what if, takes a line back, saves
+// and opens again. The released program for this machine answers the same lines, and the page has to show what it
+// answers. Admissions are tried in admitting.mjs, the exchange's text in night.mjs.
 import assert from 'node:assert/strict';
 import fs from 'node:fs';
 import { at } from './browser.mjs';
@@ -14,8 +14,9 @@ import { TABLE, lookAtAnswer, lookAtReasons, toldOf, wholeOf } from './shown.mjs
  * @typedef {import('./house.mjs').House} House
  */
 
-const ANSWER = '#panel-say [data-answer]';
-const bytesOf = (/** @type {string[]} */ lines) => Buffer.from(lines.map((line) => `${line}\n`).join(''), 'latin1');
+export const ANSWER = '#panel-say [data-answer]';
+export const bytesOf = (/** @type {string[]} */ lines) => (
+    Buffer.from(lines.map((line) => `${line}\n`).join(''), 'latin1'));
 
 /** What the program answers to a line behind others. */
 export function answerTo(/** @type {House} */ house, /** @type {string[]} */ before, /** @type {string} */ line,
@@ -25,19 +26,20 @@ export function answerTo(/** @type {House} */ house, /** @type {string[]} */ bef
 
 /** Opens a panel, if it is not open. */
 export async function panel(/** @type {Browser} */ browser, /** @type {string} */ name) {
+    await browser.value('scrollTo(0, 0)'); // the head of the page stays, and may stand over the tabs
     if (await browser.value(`${at(`#panel-${name}`)}.hidden`)) await browser.click(`#tab-${name}`);
     await browser.until(`!${at(`#panel-${name}`)}.hidden`);
 }
 
 /** Starts an evening with nothing in it. */
-async function newEvening(/** @type {Browser} */ browser, /** @type {House} */ house) {
+export async function newEvening(/** @type {Browser} */ browser, /** @type {House} */ house) {
     await openPage(browser, house);
     await browser.click('#new-evening');
     await browser.until(`!${at('#work')}.hidden`);
 }
 
 /** Types a form's values, from field to field by the key Tab. */
-async function fill(/** @type {Browser} */ browser, /** @type {string} */ form,
+export async function fill(/** @type {Browser} */ browser, /** @type {string} */ form,
     /** @type {Record<string, string>} */ values, row = '') {
     for (const [name, typed] of Object.entries(values)) {
         const selector = `${form} [name="${name}"]${row === '' ? ':not([data-row])' : `[data-row="${row}"]`}`;
@@ -47,7 +49,7 @@ async function fill(/** @type {Browser} */ browser, /** @type {string} */ form,
 }
 
 /** Fills a call's form by keys, with its rows. */
-async function fillCall(/** @type {Browser} */ browser, /** @type {import('./forms.mjs').Said} */ said) {
+export async function fillCall(/** @type {Browser} */ browser, /** @type {import('./forms.mjs').Said} */ said) {
     const { call, values, rows = [] } = said;
     const form = `#panel-say form[data-call=${call}]`;
     await fill(browser, form, values);
@@ -62,7 +64,7 @@ async function fillCall(/** @type {Browser} */ browser, /** @type {import('./for
 }
 
 /** Presses a key, and waits for the answer in a room. */
-async function answered(/** @type {Browser} */ browser, /** @type {() => Promise<void>} */ act, room = ANSWER) {
+export async function answered(/** @type {Browser} */ browser, /** @type {() => Promise<void>} */ act, room = ANSWER) {
     await browser.value(`void (${at(room)}.dataset.answer = 'not yet')`);
     await act();
     await browser.until(`${at(room)}.dataset.answer !== 'not yet'`);
@@ -76,7 +78,7 @@ async function enter(/** @type {Browser} */ browser) {
 }
 
 /** Types a line as it stands. */
-async function say(/** @type {Browser} */ browser, /** @type {string} */ line) {
+export async function say(/** @type {Browser} */ browser, /** @type {string} */ line) {
     await browser.click('#line');
     await browser.write(line);
     return answered(browser, () => browser.press('Enter'));
@@ -123,14 +125,27 @@ async function copies(/** @type {Browser} */ browser, /** @type {string[]} */ ke
 }
 
 /** The evening's text as it is saved. */
-async function saved(/** @type {Browser} */ browser) {
+export async function saved(/** @type {Browser} */ browser) {
     await panel(browser, 'save');
     return (await browser.downloaded(() => browser.click('#save-text'))).bytes;
 }
 
 /** The fields that are marked, with their rows. */
-const MARKED = `[...document.querySelectorAll('#panel-say [aria-invalid=true]')].map((one) => (
+export const MARKED = `[...document.querySelectorAll('#panel-say [aria-invalid=true]')].map((one) => (
     one.name + (one.dataset.row === undefined ? '' : ' ' + one.dataset.row)))`;
+
+/** What the keyboard is in: the field's name, and what is chosen of it. */
+export const CARET = `(() => {
+    const { name, id, value, selectionStart, selectionEnd } = document.activeElement;
+    return [name || id, typeof selectionStart === 'number' ? value.slice(selectionStart, selectionEnd) : ''];
+})()`;
+
+/** What stands in the rows of many lines. */
+export const BATCH = (/** @type {string} */ name) => `[...document.querySelectorAll('#panel-${name} tr[data-id]')]
+    .map((row) => ({
+        line: row.querySelector('[data-line]').textContent,
+        answer: row.querySelector('[data-answer]').dataset.answer,
+    }))`;
 
 /** Lines that the program refuses: the words, what is marked, and that nothing is kept. */
 export async function refused(/** @type {Browser} */ browser, /** @type {House} */ house) {
@@ -279,85 +294,6 @@ export async function saveAndUndo(/** @type {Browser} */ browser, /** @type {Hou
     assert.deepEqual(linesOf(await saved(browser)), before);
     assert.equal(await browser.leave(), false, 'it asks though all lines are saved');
     return `${bytes.length} bytes of text, ${messages.bytes.length} of messages; three lines taken back; it asks first`;
-}
-
-/** What stands in the rows of many lines. */
-const BATCH = (/** @type {string} */ name) => `[...document.querySelectorAll('#panel-${name} tr[data-id]')]
-    .map((row) => ({
-        line: row.querySelector('[data-line]').textContent,
-        answer: row.querySelector('[data-answer]').dataset.answer,
-    }))`;
-
-/** The exchange's text, typed and as a file: a line for each of its securities. */
-export async function exchange(/** @type {Browser} */ browser, /** @type {House} */ house) {
-    const file = house.example('evening.txt');
-    const before = linesOf(fs.readFileSync(file));
-    const text = fs.readFileSync(house.example('exchange.txt'));
-    await openPage(browser, house);
-    await openFile(browser, file);
-    await panel(browser, 'exchange');
-    await browser.click('#exchange-text');
-    await browser.type('7;0;1;0;103;;;5');
-    await browser.press('Enter');
-    await browser.type('7;0;1;0;103;104');
-    await browser.click('#exchange-read');
-    await browser.until(`${at('#exchange-status')}.textContent !== ''`);
-    assert.match(await browser.text('#exchange-status'), /^Refused \(15\): line 2 of the exchange’s text is bad/);
-    await browser.give('#exchange-file', house.example('exchange.txt'));
-    await browser.until(`${at('#exchange-status')}.textContent.startsWith('exchange.txt: ')`);
-    const form = '#panel-exchange form[data-call=evaluate]';
-    await browser.click(`${form} [name=DAY]`);
-    await fill(browser, form, { DAY: '30', B: '0', M: '0', K0: '1', RRCL0: '0', RRCH0: '0', K1: '2', RRCL1: '0',
-        RRCH1: '0', K2: '3', RRCL2: '0', RRCH2: '0' });
-    await browser.press('Enter');
-    await browser.until(`(${BATCH('exchange')}).length > 0`);
-    const kept = [...before];
-    const lines = ['7', '9'].map((id) => {
-        const rows = linesOf(house.run('exchange', text, id))[0].split(' ').slice(2).join(' ');
-        return `evaluate ${id} 30 0 0 1 0 0 2 0 0 3 0 0 ${rows}`;
-    });
-    assert.deepEqual((await browser.value(BATCH('exchange'))).map((/** @type {any} */ one) => one.line), lines);
-    await browser.tabTo('#exchange-say');
-    await browser.press('Enter');
-    await browser.until(`(${BATCH('exchange')}).every(({ answer }) => answer !== '')`);
-    for (const { line, answer } of await browser.value(BATCH('exchange'))) {
-        assert.equal(answer, answerTo(house, kept, line));
-        kept.push(line);
-    }
-    await browser.picture(house.pictureOf(browser.name, 'exchange'));
-    assert.deepEqual(linesOf(await saved(browser)), kept);
-    return `${lines.length} securities of ${text.length} bytes; a bad line is named`;
-}
-
-/** Admissions from a file with named columns, in another order than the form's. */
-export async function admissions(/** @type {Browser} */ browser, /** @type {House} */ house) {
-    await newEvening(browser, house);
-    await panel(browser, 'admissions');
-    const { name, bytes } = await browser.downloaded(() => browser.click('#admissions-template'));
-    assert.equal(name, 'admissions.csv');
-    const heads = bytes.toString().trim().split(',');
-    const [{ values, line }] = FORMS;
-    assert.deepEqual(heads.map((head) => head.replace(/ \(.*/, '')), Object.keys(values));
-    assert.ok(heads.includes('P1 (roubles)') && heads.includes('S (per cent)'));
-    const order = heads.map((_, index) => heads.length - 1 - index);
-    const rowOf = (/** @type {Record<string, string>} */ other) => (
-        order.map((index) => ({ ...values, ...other })[Object.keys(values)[index]]).join(','));
-    const csv = [order.map((index) => heads[index]).join(','), rowOf({}), rowOf({ ID: '22' }),
-        rowOf({ ID: '23', LOT: '101' })].join('\r\n');
-    await browser.give('#admissions-file', house.fileOf('new.csv', `${csv}\r\n`));
-    await browser.until(`(${BATCH('admissions')}).length > 0`);
-    assert.match(await browser.text('#admissions-faults tbody'), /^4Lot \(LOT\) must be from 1 to 100 pieces/);
-    const lines = [line, line.replace('admit 21', 'admit 22')];
-    assert.deepEqual((await browser.value(BATCH('admissions'))).map((/** @type {any} */ one) => one.line), lines);
-    await browser.tabTo('#admissions-say');
-    await browser.press('Enter');
-    await browser.until(`(${BATCH('admissions')}).every(({ answer }) => answer !== '')`);
-    const answers = (await browser.value(BATCH('admissions'))).map((/** @type {any} */ one) => one.answer);
-    assert.deepEqual(answers, ['0', '0']);
-    assert.deepEqual((await browser.value(TABLE)).map((/** @type {any} */ row) => row.id), ['21', '22']);
-    await browser.picture(house.pictureOf(browser.name, 'admissions'));
-    assert.deepEqual(linesOf(await saved(browser)), lines);
-    return 'two of three lines of a file; the third is refused by its field';
 }
 
 /** From the top of a new page by keys alone: an evening, a line by its form, saved. */

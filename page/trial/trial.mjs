@@ -6,11 +6,13 @@
 import assert from 'node:assert/strict';
 import path from 'node:path';
 import process from 'node:process';
+import * as admitting from './admitting.mjs';
 import { start } from './browsers.mjs';
 import * as caseworker from './caseworker.mjs';
 import { greatEvening } from './great.mjs';
 import { makeHouse, timed } from './house.mjs';
 import * as member from './member.mjs';
+import * as night from './night.mjs';
 import { onPaper } from './paper.mjs';
 
 const WIDE = /** @type {const} */ ([1500, 1050]);
@@ -31,13 +33,15 @@ const TRIALS = [
     ['a member on a phone', member.phone],
     ['forms', caseworker.forms],
     ['refused lines', caseworker.refused],
+    ['a refused admission', admitting.refused],
     ['what if', caseworker.whatIf],
     ['saving and undo', caseworker.saveAndUndo],
-    ['the exchange', caseworker.exchange],
-    ['admissions', caseworker.admissions],
+    ['the exchange', night.exchange],
+    ['admissions', admitting.fromFile],
     ['the caseworker by keyboard', caseworker.byKeyboard],
     ['the caseworker on a phone', caseworker.onPhone],
     ['on paper', onPaper],
+    ['the exchange’s 512 securities, 16 rows', night.great],
     ['512 securities, 250 days', greatEvening],
 ];
 
