@@ -127,6 +127,7 @@ export function makeExchange(room, work) {
             bad.hide();
             showLines(made.lines, day.length, known);
         } else {
+            isRead = false; // she corrects the text, or a number of the day, with the keyboard where she has it
             batch.clear();
             tell(bad.show(made.refused, made.bad));
             status.className = 'apart'; // it is seen beside the text, and read out

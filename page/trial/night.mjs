@@ -48,6 +48,12 @@ export async function exchange(/** @type {Browser} */ browser, /** @type {House}
     assert.equal((await browser.value(BATCH('exchange'))).length, 0);
     await browser.picture(house.pictureOf(browser.name, 'exchange-bad'));
     await fitsPhone(browser, house, 'exchange-bad');
+    // The keyboard stays in a number of the day that is corrected meanwhile.
+    await browser.click(`${EXCHANGE} [name=M]`);
+    await browser.write('1');
+    await browser.write('0');
+    assert.equal(await browser.value(`${at(`${EXCHANGE} [name=M]`)}.value`), '0');
+    assert.equal(await browser.value('document.activeElement.name'), 'M');
     await saidOfText(browser, () => browser.give('#exchange-file', house.example('exchange.txt')));
     assert.equal(await browser.value(`${at('#exchange-bad')}.hidden`), true);
     await browser.click('#exchange-others');
