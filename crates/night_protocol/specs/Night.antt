@@ -8,6 +8,7 @@ use lib.Dec.{leb, ltb, eqb}
 use lib.IntN.{ℤ, pos}
 use lib.ListN.{length, drop, getD}
 use Rattle.paper.specs.Lists.{pick, some}
+use Rattle.paper.specs.Numbers.{slotsMost}
 use Rattle.paper.specs.Ranges.{unsigned}
 use Rattle.text_bytes.specs.Bytes.{lineFeed, isLineFeed, pieces}
 use Rattle.exchange_protocol.specs.Exchange.{rowsMost}
@@ -19,7 +20,7 @@ nightMost = 1048576
 
 -- the securities of a text at most: a table has so many slots
 abbrev pub securitiesMost : ℕ
-securitiesMost = 512
+securitiesMost = slotsMost
 
 -- ---- ids
 

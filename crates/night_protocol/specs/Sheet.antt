@@ -8,6 +8,7 @@ use lib.IntN.{ℤ, pos}
 use lib.Signed.{ltZ}
 use lib.ListN.{length, take, drop, getD}
 use Rattle.paper.specs.Lists.{pick}
+use Rattle.paper.specs.Numbers.{slotsMost}
 use Rattle.paper.specs.Ranges.{unsigned}
 use Rattle.text_bytes.specs.Bytes.{lineFeed, space, slash}
 use Rattle.text_bytes.specs.Numbers.{signed, next, spaced, answerText}
@@ -27,7 +28,7 @@ dayNumbers = 12
 
 -- so many ids may be asked for: a table has so many slots
 abbrev pub askedMost : ℕ
-askedMost = 512
+askedMost = slotsMost
 
 abbrev pub wordsMost : ℕ
 wordsMost = dayNumbers + askedMost
