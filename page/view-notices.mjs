@@ -31,7 +31,7 @@ function unknownOf(unknown, figures) {
 function lineIn({ text, answer, why }) {
     const span = faultIn(heardOf(text, { answer, why }));
     if (span !== null) return markedLine(text, span, AROUND);
-    return text.length > LINE_MOST ? `${text.slice(0, LINE_MOST)}…` : text;
+    return el('code', { class: 'typed' }, text.length > LINE_MOST ? `${text.slice(0, LINE_MOST)}…` : text);
 }
 
 function refusedOf(refusals, figures) {
