@@ -1,13 +1,16 @@
 // The rule of whatever is asked about a security (`effect_of`), by value: the slot found and the inputs in, an effect
 // out. Evaluations, quotes and moves have crates of their own (`record_evaluation`, `record_monitoring`); the rules of
-// the other asks stand here. Each judges the refusals in the paper's order.
+// the other asks stand here. 1 comes first whatever is asked, so `effect_of` judges it; each rule is asked of a slot
+// that is known, and judges the refusals behind 1 in the paper's order. So the test of a sound record stands once on the
+// way of a call.
 mod floats; // the price of an outside source's float
 
 ghost use mathlib.Core.Path.{_≡_};
+ghost use mathlib.Core.Bool.{true};
 ghost use Rattle.paper_floats.specs.Floats.{priceOf};
 ghost use Rattle.paper_desk.specs.External.{Receipt, unitsMade};
 ghost use Rattle.paper_desk.specs.Desk.{Ask, askOf};
-ghost use Rattle.record_answers.specs.Effects.{effectOf};
+ghost use Rattle.record_answers.specs.Effects.{isKnown, effectOf};
 ghost use Rattle.record_calls.specs.Receipts.{Receives};
 use crate::floats::price_of;
 use paper::AskedAbout;
@@ -23,18 +26,16 @@ use paper::Verdict;
 use record_answers::Effect;
 use record_answers::Slot;
 
-// W-210, the opening of the evening: 1, 10, "19, evening opened twice, after 10". It "clears the near seconds and keeps
+// W-210, the opening of the evening: 10, "19, evening opened twice, after 10". It "clears the near seconds and keeps
 // c".
 pub fn opened(s: Slot) -> Effect
+    requires { ⌜ isKnown s ≡ true ⌝ }
     ensures { λ o. ⌜ o ≡ effectOf s Ask.opening ⌝ }
 {
     let count = s.count;
     let r = s.rec;
     let standing = r.standing;
     let session = r.session;
-    if !record_answers::is_known(s) {
-        return record_answers::refused(count, Verdict::NoSuchId);
-    }
     if !record_soundness::is_live(standing) {
         return record_answers::refused(count, Verdict::NotLive);
     }
@@ -64,16 +65,14 @@ fn units_of(x: f64) -> u64
     }
 }
 
-// 1, 20 and what is written. `bad` says whether a float that was received has no price, and `kept` is the pair that the
+// 20 and what is written. `bad` says whether a float that was received has no price, and `kept` is the pair that the
 // record keeps where none is bad.
 fn received_as(s: Slot, bad: bool, kept: External) -> Effect
+    requires { ⌜ isKnown s ≡ true ⌝ }
     ensures { λ o. ⌜ Receives s «bad» kept o ⌝ }
 {
     let count = s.count;
     let r = s.rec;
-    if !record_answers::is_known(s) {
-        return record_answers::refused(count, Verdict::NoSuchId);
-    }
     if bad {
         return record_answers::refused(count, Verdict::BadFloat);
     }
@@ -85,6 +84,7 @@ fn received_as(s: Slot, bad: bool, kept: External) -> Effect
 
 // "Both sent together replace the kept pair": one bad float of two refuses both.
 pub fn received(s: Slot, sent: Outside) -> Effect
+    requires { ⌜ isKnown s ≡ true ⌝ }
     ensures { λ o. ⌜ o ≡ effectOf s (Ask.receiving (Receipt.together sent)) ⌝ }
 {
     let bid = units_of(sent.bid);
@@ -94,6 +94,7 @@ pub fn received(s: Slot, sent: Outside) -> Effect
 
 // "a notice changes one side, a withdrawal clears both".
 pub fn notified(s: Slot, n: Notice) -> Effect
+    requires { ⌜ isKnown s ≡ true ⌝ }
     ensures { λ o. ⌜ o ≡ effectOf s (Ask.receiving (Receipt.notice n)) ⌝ }
 {
     let r = s.rec;
@@ -111,24 +112,25 @@ pub fn notified(s: Slot, n: Notice) -> Effect
     }
 }
 
-// "read 1". A read stores the record that it found, so it leaves the table as it was.
+// "read 1", which is judged before. A read stores the record that it found, so it leaves the table as it was.
 pub fn read(s: Slot) -> Effect
+    requires { ⌜ isKnown s ≡ true ⌝ }
     ensures { λ o. ⌜ o ≡ effectOf s Ask.reading ⌝ }
 {
-    let count = s.count;
     let r = s.rec;
-    if !record_answers::is_known(s) {
-        return record_answers::refused(count, Verdict::NoSuchId);
-    }
     record_answers::written(s.at, r)
 }
 
 // ---- the rule of each ask
 
-// An ask more has its arm here.
+// 1, and then the rule of the ask. An ask more has its arm here.
 pub fn effect_of(s: Slot, a: AskedAbout, rows: &[i64]) -> Effect
     ensures { λ o. ⌜ o ≡ effectOf s (askOf a (now (rows .entry))) ⌝ }
 {
+    let count = s.count;
+    if !record_answers::is_known(s) {
+        return record_answers::refused(count, Verdict::NoSuchId);
+    }
     match a {
         AskedAbout::Evaluate(d) => record_evaluation::evaluated(s, interest_terms::day_of(d), rows),
         AskedAbout::Quote(q) => record_monitoring::quoted(s, q),

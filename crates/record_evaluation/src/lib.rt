@@ -1,5 +1,5 @@
 // The rule of an evaluation, by value: the slot found, the day and its rows in, an effect out. It judges the refusals
-// in the paper's order.
+// behind 1 in the paper's order: `record_calls::effect_of` judges 1. Of a slot that may be unknown `worked` is asked.
 ghost use mathlib.Core.Path.{_≡_};
 ghost use mathlib.Core.Bool.{true, not, _&&_};
 ghost use lib.ListN.{getD};
@@ -8,7 +8,7 @@ ghost use Rattle.paper.specs.Ranges.{isPrice, noLimits, sound, validDayNumbers}
 ghost use Rattle.paper_desk.specs.Limits.{crossed};
 ghost use Rattle.paper_desk.specs.Desk.{usedBy};
 ghost use Rattle.evaluation.specs.Book.{isInRange};
-ghost use Rattle.record_answers.specs.Effects.{evaluateEffect};
+ghost use Rattle.record_answers.specs.Effects.{isKnown, evaluateEffect};
 ghost use Rattle.record_evaluation.specs.Workings.{unmadeBy, workedOf, Prices};
 use evaluation::Evaluation;
 use evaluation::Gathered;
@@ -123,16 +123,14 @@ fn worked_at(s: Slot, d: Day, e: Priced) -> Working
     }
 }
 
-// "evaluate 1, 6, 5, 7, 8, 9"; W-205: "16, after 6 and before 5". One walk over the rows says what 6, 16 and 7 ask of
-// them (W-214).
-pub fn worked(s: Slot, d: Day, rows: &[i64]) -> Working
+// "evaluate 1, 6, 5, 7, 8, 9" behind 1; W-205: "16, after 6 and before 5". One walk over the rows says what 6, 16 and 7
+// ask of them (W-214).
+fn worked_behind(s: Slot, d: Day, rows: &[i64]) -> Working
+    requires { ⌜ isKnown s ≡ true ⌝ }
     ensures { λ w. ⌜ w ≡ workedOf s d (now (rows .entry)) ⌝ }
 {
     let r = s.rec;
     let standing = r.standing;
-    if !record_answers::is_known(s) {
-        return unmade(Verdict::NoSuchId);
-    }
     let gathered = evaluation::gather(rows);
     if !valid_day(d, gathered) {
         return unmade(Verdict::OutOfRange);
@@ -153,12 +151,23 @@ pub fn worked(s: Slot, d: Day, rows: &[i64]) -> Working
     }
 }
 
+// The same with 1, which comes first.
+pub fn worked(s: Slot, d: Day, rows: &[i64]) -> Working
+    ensures { λ w. ⌜ w ≡ workedOf s d (now (rows .entry)) ⌝ }
+{
+    if !record_answers::is_known(s) {
+        return unmade(Verdict::NoSuchId);
+    }
+    worked_behind(s, d, rows)
+}
+
 // The record that an evaluation makes is stored and answered, unless a number applies.
 pub fn evaluated(s: Slot, d: Day, rows: &[i64]) -> Effect
+    requires { ⌜ isKnown s ≡ true ⌝ }
     ensures { λ o. ⌜ o ≡ evaluateEffect s d (now (rows .entry)) ⌝ }
 {
     let count = s.count;
-    let w = worked(s, d, rows);
+    let w = worked_behind(s, d, rows);
     let v = w.verdict;
     if !v.is_done() {
         return record_answers::refused(count, v);

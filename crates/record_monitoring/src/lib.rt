@@ -1,5 +1,5 @@
 // The rules of the two calls that only a monitored security takes, a quote and a move, by value: the slot found and the
-// inputs in, an effect out. Each judges the refusals in the paper's order.
+// inputs in, an effect out. Each judges the refusals behind 1 in the paper's order: `record_calls::effect_of` judges 1.
 ghost use mathlib.Core.Path.{_≡_};
 ghost use mathlib.Core.Bool.{true};
 ghost use Rattle.paper.specs.Ranges.{validQuote};
@@ -15,15 +15,13 @@ use record_answers::Effect;
 use record_answers::Replied;
 use record_answers::Slot;
 
-// 1, 6, 10 and 11, which a quote and a move have in this order: the first that applies, or done.
+// 6, 10 and 11 behind 1, which a quote and a move have in this order: the first that applies, or done.
 fn shared_checks(s: Slot, in_range: bool) -> Verdict
+    requires { ⌜ isKnown s ≡ true ⌝ }
     ensures { λ v. ⌜ v ≡ firstOf (sharedChecks (isKnown s) «in_range» (s .rec)) ⌝ }
 {
     let r = s.rec;
     let standing = r.standing;
-    if !record_answers::is_known(s) {
-        return Verdict::NoSuchId;
-    }
     if !in_range {
         return Verdict::OutOfRange;
     }
@@ -69,6 +67,7 @@ fn alerts_on(r: Record, q: Quote, n: NearSeconds) -> Replied
 
 // "quote 1, 6, 10, 11, 13".
 pub fn quoted(s: Slot, q: Quote) -> Effect
+    requires { ⌜ isKnown s ≡ true ⌝ }
     ensures { λ o. ⌜ o ≡ effectOf s (Ask.quoting q) ⌝ }
 {
     let count = s.count;
@@ -92,6 +91,7 @@ pub fn quoted(s: Slot, q: Quote) -> Effect
 
 // "move 1, 6, 10, 11, 12"; W-210: "18, .. after 11 and before 12".
 pub fn moved(s: Slot, side: u64) -> Effect
+    requires { ⌜ isKnown s ≡ true ⌝ }
     ensures { λ o. ⌜ o ≡ effectOf s (Ask.moving side) ⌝ }
 {
     let count = s.count;

@@ -110,8 +110,25 @@ fn asking_of(effect: Effect) -> Asking {
     }
 }
 
+// What is asked of a record that is unknown, which none here is.
+fn unknown(r: Record) -> Asking {
+    Asking { rec: r, sum: 0 }
+}
+
 fn evaluated(r: Record, d: Day, rows: &[i64]) -> Asking {
-    asking_of(record_evaluation::evaluated(first(r), d, rows))
+    let s = first(r);
+    if !record_answers::is_known(s) {
+        return unknown(r);
+    }
+    asking_of(record_evaluation::evaluated(s, d, rows))
+}
+
+fn shown(r: Record) -> Asking {
+    let s = first(r);
+    if !record_answers::is_known(s) {
+        return unknown(r);
+    }
+    asking_of(record_calls::read(s))
 }
 
 fn asked_on(asked: DailyAsk, r: Record, d: Day, rows: &[i64]) -> Asking {
@@ -131,7 +148,7 @@ fn asked_on(asked: DailyAsk, r: Record, d: Day, rows: &[i64]) -> Asking {
                 sum: lasts(why),
             }
         }
-        DailyAsk::Reading => asking_of(record_calls::read(first(r))),
+        DailyAsk::Reading => shown(r),
     }
 }
 

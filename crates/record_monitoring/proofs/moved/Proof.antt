@@ -46,7 +46,7 @@ valid-side-requires : tie.Need-valid-side-requires
 valid-side-requires c κs = search needs
 
 shared-checks-requires : tie.Need-shared-checks-requires
-shared-checks-requires c κs = search needs
+shared-checks-requires c κs = c .before .before .before .before .pre
 
 is-done-requires : tie.Need-is-done-requires
 is-done-requires c κs = search needs

@@ -36,7 +36,7 @@ valid-quote-requires : tie.Need-valid-quote-requires
 valid-quote-requires c κs = search needs
 
 shared-checks-requires : tie.Need-shared-checks-requires
-shared-checks-requires c κs = search needs
+shared-checks-requires c κs = c .before .before .pre
 
 is-done-requires : tie.Need-is-done-requires
 is-done-requires c κs = search needs

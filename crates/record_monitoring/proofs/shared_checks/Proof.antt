@@ -1,5 +1,5 @@
--- `record_monitoring::shared_checks` meets its contract: each return is the first check that applies, in the order 1,
--- 6, 10, 11, or none.
+-- `record_monitoring::shared_checks` meets its contract: each return is the first check behind 1 that applies, in
+-- the order 6, 10, 11, or none.
 use mathlib.Core.Path.{_≡_}
 use mathlib.Core.Bool.{true}
 use Rattle.paper.specs.Ranges.{isLive}
@@ -12,38 +12,43 @@ use borrow.Author.Needs.{needs}
 use Rattle.record_monitoring.proofs.shared_checks.Statement.{statement}
 use Rattle.record_monitoring.proofs.shared_checks.Tie as tie
 
-known : (c : tie.Else1) → isKnown (c .before .before .before .args .s) ≡ true
-known c = tested-true _ (c .before .is-known .ensures) (c .if1 .left)
+known : (c : tie.After-r) → isKnown (c .before .args .s) ≡ true
+known c = c .before .pre
 
 -- the start, seen from where the record is live
-abbrev live-from : tie.Else3 → tie.Start
-live-from c = c .before .before .before .before .before .before
+abbrev live-from : tie.Else2 → tie.Start
+live-from c = c .before .before .before .before
 
-live : (c : tie.Else3) → isLive (live-from c .args .s .rec .standing) ≡ true
-live c = tested-true _ (c .before .is-live .ensures) (c .if3 .left)
-
-is-known-requires : tie.Need-is-known-requires
-is-known-requires c κs = search needs
+live : (c : tie.Else2) → isLive (live-from c .args .s .rec .standing) ≡ true
+live c = tested-true _ (c .before .is-live .ensures) (c .if2 .left)
 
 returns : tie.Need-returns
 unfolding sharedChecks firstOf
-returns c = rw (tested-false _ (c .before .is-known .ensures) (c .if1 .taken))
-
-returns-2 : tie.Need-returns-2
-unfolding sharedChecks firstOf
-returns-2 c = rw (known (c .before), not-true (c .before .before .before .before .args .in-range) (c .if2 .taken))
+returns c = rw (known (c .before), not-true (c .before .before .args .in-range) (c .if1 .taken))
 
 is-live-requires : tie.Need-is-live-requires
 is-live-requires c κs = search needs
 
-returns-3 : tie.Need-returns-3
+returns-2 : tie.Need-returns-2
 unfolding sharedChecks firstOf
-returns-3 c =
+returns-2 c =
     let e = c .before .before in
     rw (
       known (e .before),
-      not-false (e .before .before .before .before .args .in-range) (e .if2 .left),
-      tested-false _ (c .before .is-live .ensures) (c .if3 .taken),
+      not-false (e .before .before .args .in-range) (e .if1 .left),
+      tested-false _ (c .before .is-live .ensures) (c .if2 .taken),
+    )
+
+returns-3 : tie.Need-returns-3
+unfolding sharedChecks firstOf
+returns-3 c =
+    let l = c .before .before in
+    let e = l .before .before in
+    rw (
+      known (e .before),
+      not-false (e .before .before .args .in-range) (e .if1 .left),
+      live l,
+      not-true (live-from l .args .s .rec .statics .monitoring) (c .if3 .taken),
     )
 
 returns-4 : tie.Need-returns-4
@@ -53,24 +58,12 @@ returns-4 c =
     let e = l .before .before in
     rw (
       known (e .before),
-      not-false (e .before .before .before .before .args .in-range) (e .if2 .left),
+      not-false (e .before .before .args .in-range) (e .if1 .left),
       live l,
-      not-true (live-from l .args .s .rec .statics .monitoring) (c .if4 .taken),
-    )
-
-returns-5 : tie.Need-returns-5
-unfolding sharedChecks firstOf
-returns-5 c =
-    let l = c .before .before in
-    let e = l .before .before in
-    rw (
-      known (e .before),
-      not-false (e .before .before .before .before .args .in-range) (e .if2 .left),
-      live l,
-      not-false (live-from l .args .s .rec .statics .monitoring) (c .if4 .left),
+      not-false (live-from l .args .s .rec .statics .monitoring) (c .if3 .left),
     )
 
 pub shared-checks-spec : {M : Type 1} → statement M
 shared-checks-spec =
     tie.close
-    (tie.spec is-known-requires returns returns-2 is-live-requires returns-3 returns-4 returns-5)
+    (tie.spec returns is-live-requires returns-2 returns-3 returns-4)
