@@ -53,6 +53,7 @@ pub fn given_of(numbers: &[i64]) -> GivenStatics
         autochange: number_at(numbers, 23),
         eveningmax: number_at(numbers, 24),
         useexternal: number_at(numbers, 25),
+        cooling: number_at(numbers, 26),
     }
 }
 
@@ -94,6 +95,7 @@ pub fn numbers_of(a: Admission) -> [u64; Admission::NUMBERS]
         g.autochange,
         g.eveningmax,
         g.useexternal,
+        g.cooling,
     ]
 }
 
@@ -123,6 +125,7 @@ fn in_table(st: Statics) -> bool
         & ((1 <= st.u) & (st.u <= Statics::SECONDS_MOST))
         & ((1 <= st.uevening) & (st.uevening <= Statics::SECONDS_MOST))
         & (st.eveningmax <= Statics::EVENING_MOVES_MOST)
+        & ((Statics::COOLING_LEAST <= st.cooling) & (st.cooling <= Statics::COOLING_MOST))
 }
 
 // "rh_1 ≤ rh_2 ≤ rh_3", "S_1_min ≤ S_2_min ≤ S_3_min ≤ S_max"
@@ -185,6 +188,7 @@ pub fn statics_of(g: GivenStatics) -> Statics
         autochange: g.autochange == 1,
         eveningmax: g.eveningmax,
         useexternal: g.useexternal == 1,
+        cooling: g.cooling,
     }
 }
 

@@ -109,6 +109,7 @@ pub fn statics_message(id: u64, st: Statics) -> Message
         autochange,
         st.eveningmax,
         useexternal,
+        st.cooling,
     ]);
     Message {
         kind: Message::STATICS,
@@ -139,6 +140,7 @@ pub fn rates_message(r: Record) -> Message
         ranges[0].lower,
         ranges[1].lower,
         ranges[2].lower,
+        0,
         0,
         0,
         0,
@@ -206,6 +208,7 @@ pub fn bands_message(r: Record) -> Message
         0,
         0,
         0,
+        0,
     ]);
     let fields = with_repo(fields, FIRST_LOW, terms[0]);
     let fields = with_repo(fields, SECOND_LOW, terms[1]);
@@ -232,6 +235,7 @@ pub fn move_message(r: Record, side: Side) -> Message
         limit_on(side, bands[0]),
         limit_on(side, bands[1]),
         limit_on(side, bands[2]),
+        0,
         0,
         0,
         0,

@@ -129,7 +129,7 @@ const UNKNOWN: MessageKind = MessageKind {
 };
 
 // ID LOT H Q A_UP A_DOWN WAIT RH1 RH2 RH3 LIQ MIN1 MIN2 MIN3 SMAX XPR SHIFT PCHMAX PCLMAX W U MONITORING ISEWMA
-// UEVENING AUTOCHANGE EVENINGMAX USEEXTERNAL
+// UEVENING AUTOCHANGE EVENINGMAX USEEXTERNAL COOLING
 const STATICS: MessageKind = MessageKind {
     length: Message::STATICS_LENGTH,
     count: Message::PLACES,
@@ -201,6 +201,11 @@ const STATICS: MessageKind = MessageKind {
             high: Statics::EVENING_MOVES_MOST as i64,
         },
         YES_NO,
+        Field {
+            width: NUMBER_WIDTH,
+            low: Statics::COOLING_LEAST as i64,
+            high: Statics::COOLING_MOST as i64,
+        },
     ],
     word: Word {
         count: 7,
@@ -256,6 +261,7 @@ const RATES: MessageKind = MessageKind {
         NONE,
         NONE,
         NONE,
+        NONE,
     ],
     word: Word {
         count: 5,
@@ -295,6 +301,7 @@ const BANDS: MessageKind = MessageKind {
         NONE,
         NONE,
         NONE,
+        NONE,
     ],
     word: Word {
         count: 5,
@@ -324,6 +331,7 @@ const MOVE: MessageKind = MessageKind {
         LIMIT,
         LIMIT,
         LIMIT,
+        NONE,
         NONE,
         NONE,
         NONE,

@@ -39,10 +39,11 @@ pub extern "C" fn nedrubal_level_rate(
     autochange: i64,
     eveningmax: i64,
     useexternal: i64,
+    cooling: i64,
 ) -> i64
     ensures { λ r. ⌜ r ≡ levelCall (givenOf (lot ∷ h ∷ q ∷ aup ∷ adown ∷ wait ∷ rh1 ∷ rh2 ∷ rh3 ∷ liq
         ∷ min1 ∷ min2 ∷ min3 ∷ smax ∷ xpr ∷ shift ∷ pchmax ∷ pclmax ∷ w ∷ u ∷ monitoring ∷ ewma ∷ uevening
-        ∷ autochange ∷ eveningmax ∷ useexternal ∷ []))
+        ∷ autochange ∷ eveningmax ∷ useexternal ∷ cooling ∷ []))
         (unsigned tentative) (unsigned m) (unsigned level) ⌝ }
 {
     let given = inputs::given_of(
@@ -73,6 +74,7 @@ pub extern "C" fn nedrubal_level_rate(
             autochange,
             eveningmax,
             useexternal,
+            cooling,
         ],
     );
     gateway::level_answer(
@@ -115,10 +117,11 @@ pub extern "C" fn nedrubal_range_limit(
     autochange: i64,
     eveningmax: i64,
     useexternal: i64,
+    cooling: i64,
 ) -> i64
     ensures { λ r. ⌜ r ≡ rangeCall (givenOf (lot ∷ h ∷ q ∷ aup ∷ adown ∷ wait ∷ rh1 ∷ rh2 ∷ rh3 ∷ liq
         ∷ min1 ∷ min2 ∷ min3 ∷ smax ∷ xpr ∷ shift ∷ pchmax ∷ pclmax ∷ w ∷ u ∷ monitoring ∷ ewma ∷ uevening
-        ∷ autochange ∷ eveningmax ∷ useexternal ∷ []))
+        ∷ autochange ∷ eveningmax ∷ useexternal ∷ cooling ∷ []))
         (unsigned p) (unsigned rate) (unsigned side) ⌝ }
 {
     let given = inputs::given_of(
@@ -149,6 +152,7 @@ pub extern "C" fn nedrubal_range_limit(
             autochange,
             eveningmax,
             useexternal,
+            cooling,
         ],
     );
     gateway::range_answer(
@@ -194,10 +198,11 @@ pub extern "C" fn nedrubal_band_limit(
     autochange: i64,
     eveningmax: i64,
     useexternal: i64,
+    cooling: i64,
 ) -> i64
     ensures { λ r. ⌜ r ≡ bandCall (givenOf (lot ∷ h ∷ q ∷ aup ∷ adown ∷ wait ∷ rh1 ∷ rh2 ∷ rh3 ∷ liq
         ∷ min1 ∷ min2 ∷ min3 ∷ smax ∷ xpr ∷ shift ∷ pchmax ∷ pclmax ∷ w ∷ u ∷ monitoring ∷ ewma ∷ uevening
-        ∷ autochange ∷ eveningmax ∷ useexternal ∷ []))
+        ∷ autochange ∷ eveningmax ∷ useexternal ∷ cooling ∷ []))
         (unsigned p)
         (unsigned s1) (unsigned k) repo (unsigned c) (unsigned side) ⌝ }
 {
@@ -229,6 +234,7 @@ pub extern "C" fn nedrubal_band_limit(
             autochange,
             eveningmax,
             useexternal,
+            cooling,
         ],
     );
     gateway::band_answer(

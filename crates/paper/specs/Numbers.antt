@@ -138,6 +138,13 @@ secondsMost = 3600
 abbrev pub eveningMovesMost : ℕ
 eveningMovesMost = 10
 
+-- cooling, in seconds
+abbrev pub coolingLeast : ℕ
+coolingLeast = 5
+
+abbrev pub coolingMost : ℕ
+coolingMost = 900
+
 -- ---- records and the table
 
 -- an id

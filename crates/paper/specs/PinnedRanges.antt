@@ -18,7 +18,7 @@ use Rattle.paper.specs.Ranges.{isLimit, validLimits, validNear, validNea
 use Rattle.paper.specs.Ranges.{sound, validSlots, isLive}
 use Rattle.paper.specs.PinnedValues.{_but_, lotAt, hAt, minimaAt, ueveningAt, eveningmaxAt, idAt, p1At}
 use Rattle.paper.specs.PinnedValues.{tentativeAt, ageAt, rangesAt, bandsAt, admissionFrom, recordFrom, dayFrom}
-use Rattle.paper.specs.PinnedValues.{quoteFrom, liveAt}
+use Rattle.paper.specs.PinnedValues.{quoteFrom, liveAt, coolingAt}
 
 -- ---- a row of numbers with their ranges
 
@@ -95,10 +95,14 @@ eveningRanges = range 120 1 3600 ∷ range 1 0 1 ∷ range 2 0 10 ∷ []
 externalRanges : List Ranged
 externalRanges = range 0 0 1 ∷ []
 
+-- cooling 5..900 seconds
+coolingRanges : List Ranged
+coolingRanges = range 30 5 900 ∷ []
+
 -- the statics behind isEWMA, in their order
 laterRanges : List Ranged
-unfolding eveningRanges externalRanges
-laterRanges = eveningRanges ++ externalRanges
+unfolding eveningRanges externalRanges coolingRanges
+laterRanges = eveningRanges ++ (externalRanges ++ coolingRanges)
 
 -- "id (1..10^9), last day number (0..10^6, as every day number), the two latest evaluations (on the grid, in range), s,
 -- and the tentative rate", which W-208 takes to 100,000 where h is 1; "Price: .. 1 to 10^10"; "Volatility s: .. 0 to
@@ -163,22 +167,23 @@ unfolding straddles validAdmissionRow admissionRow
 admission-ends =
     straddles validAdmissionRow admissionRow 0 (staticRanges ++ (flagRanges ++ (laterRanges ++ admissionRanges)))
 
-pub admission-ends-are : admission-ends ≡ atTheEndsAlone 32
+pub admission-ends-are : admission-ends ≡ atTheEndsAlone 33
 unfolding admission-ends atTheEndsAlone
 admission-ends-are = refl
 
 -- "A record with a field outside the ranges, orders, multiples of h or grid that this paper gives as input ranges (and
 -- ..) counts as no such id"
 pub record-ends : List (List Bool)
-unfolding straddles soundRow recordRow
+unfolding straddles soundRow recordRow coolingRanges
 record-ends =
     straddles soundRow recordRow 0 staticRanges
     -- Autochange and UseEXTERNAL are yes or no in a record, with no number out of range
     ++ (straddles soundRow recordRow ueveningAt (range 120 1 3600 ∷ [])
-    ++ straddles soundRow recordRow eveningmaxAt (range 2 0 10 ∷ []))
+    ++ straddles soundRow recordRow eveningmaxAt (range 2 0 10 ∷ [])
+    ++ straddles soundRow recordRow coolingAt coolingRanges)
     ++ (straddles soundRow recordRow idAt admissionRanges ++ straddles soundRow recordRow ageAt recordRanges)
 
-pub record-ends-are : record-ends ≡ atTheEndsAlone 65
+pub record-ends-are : record-ends ≡ atTheEndsAlone 66
 unfolding record-ends atTheEndsAlone
 record-ends-are = refl
 

@@ -94,6 +94,9 @@ eveningmaxAt = 24
 abbrev pub useexternalAt : ℕ
 useexternalAt = 25
 
+abbrev pub coolingAt : ℕ
+coolingAt = 26
+
 abbrev pub idAt : ℕ
 idAt = staticsCount
 
@@ -277,6 +280,7 @@ givenWith lot =
       autochange = 1;
       eveningmax = 2;
       useexternal = 0;
+      cooling = 30;
     }
 
 -- "Earlier prices 1,000,000 unless given; s 20,000"; tentative 600
@@ -295,8 +299,8 @@ zStatics =
     ∷ pos 200 ∷ pos 25 ∷ pos 2000 ∷ pos 2000 ∷ pos 1000 ∷ pos 60
     -- Monitoring, isEWMA
     ∷ pos 1 ∷ pos 1
-    -- u_evening, Autochange, the evening maximum (W-210), UseEXTERNAL (W-211)
-    ∷ pos 120 ∷ pos 1 ∷ pos 2 ∷ pos 0
+    -- u_evening, Autochange, the evening maximum (W-210), UseEXTERNAL (W-211), cooling
+    ∷ pos 120 ∷ pos 1 ∷ pos 2 ∷ pos 0 ∷ pos 30
     ∷ []
 
 unfoldable pub zNumbers : List ℤ
@@ -320,7 +324,7 @@ z-is-Z = refl
 abbrev counted : List ℕ
 counted =
     1 ∷ 2 ∷ 3 ∷ 4 ∷ 5 ∷ 6 ∷ 7 ∷ 8 ∷ 9 ∷ 10 ∷ 11 ∷ 12 ∷ 13 ∷ 14 ∷ 15 ∷ 16 ∷ 17 ∷ 18 ∷ 19 ∷ 20 ∷ 21 ∷ 22 ∷ 23 ∷ 24 ∷ 25 ∷ 26
-    ∷ []
+    ∷ 27 ∷ []
 
 -- which static stands where
 pub given-are : givenOf (map pos counted)
@@ -351,6 +355,7 @@ pub given-are : givenOf (map pos counted)
       autochange = 24;
       eveningmax = 25;
       useexternal = 26;
+      cooling = 27;
     }
 unfolding givenOf
 given-are = refl

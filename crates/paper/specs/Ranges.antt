@@ -43,7 +43,7 @@ use Rattle.paper.specs.Numbers.{waitMost, firstDaysMost, daysMost, liqui
 use Rattle.paper.specs.Numbers.{shiftMost, nearnessMost, secondsMost, eveningMovesMost, idMost, dayMost, ageMost}
 use Rattle.paper.specs.Numbers.{limitMost, movesMost, secondLast, slotsMost, behindMost, aheadMost, termDaysMost}
 use Rattle.paper.specs.Numbers.{repoLeast, repoMost, rowNumbers, allNumbersMost, rowTermMost, centralMost}
-use Rattle.paper.specs.Numbers.{volumeMost, termLast, quoteMost, pastEvery}
+use Rattle.paper.specs.Numbers.{volumeMost, termLast, quoteMost, pastEvery, coolingLeast, coolingMost}
 use Rattle.paper.specs.Roundings.{up}
 
 -- "low..high"
@@ -141,11 +141,12 @@ staticsTable =
     ∷ yesOrNo  -- Autochange
     ∷ ranging 0 eveningMovesMost  -- the evening maximum, moves
     ∷ yesOrNo  -- UseEXTERNAL (W-211)
+    ∷ ranging coolingLeast coolingMost  -- cooling, seconds
     ∷ []
 
 -- how many there are, and how many of them are yes or no
 abbrev pub staticsCount : ℕ
-staticsCount = 26
+staticsCount = 27
 
 abbrev pub flagsCount : ℕ
 flagsCount = 4
@@ -181,6 +182,7 @@ givenOf numbers =
       autochange = unsignedAt numbers 23;
       eveningmax = unsignedAt numbers 24;
       useexternal = unsignedAt numbers 25;
+      cooling = unsignedAt numbers 26;
     }
 
 -- and back: the numbers of given statics, in the order of the table
@@ -212,6 +214,7 @@ givenNumbers g =
     ∷ g .autochange
     ∷ g .eveningmax
     ∷ g .useexternal
+    ∷ g .cooling
     ∷ []
 
 -- the statics that are given as numbers: "yes 1, no 0"
@@ -244,6 +247,7 @@ staticsOf g =
       autochange = eqb (g .autochange) 1;
       eveningmax = g .eveningmax;
       useexternal = eqb (g .useexternal) 1;
+      cooling = g .cooling;
     }
 
 -- and back: the numbers of statics, in the order of the table
@@ -279,6 +283,7 @@ numbersOf st =
     ∷ flagOf (st .autochange)
     ∷ st .eveningmax
     ∷ flagOf (st .useexternal)
+    ∷ st .cooling
     ∷ []
 
 -- each number in the range of its row

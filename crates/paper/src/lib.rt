@@ -177,6 +177,7 @@ pub struct Statics {
     pub autochange: bool, // yes or no
     pub eveningmax: u64, // evening moves, 0 to 10
     pub useexternal: bool, // yes or no (W-211)
+    pub cooling: u64, // seconds, 5 to 900
 }
 
 impl Statics {
@@ -210,8 +211,12 @@ impl Statics {
 
     pub const EVENING_MOVES_MOST: u64 = 10;
 
+    pub const COOLING_LEAST: u64 = 5; // seconds
+
+    pub const COOLING_MOST: u64 = 900; // seconds
+
     // How many there are, and how many of them are yes or no.
-    pub const COUNT: usize = 26;
+    pub const COUNT: usize = 27;
 
     pub const FLAGS: usize = 4;
 
@@ -243,6 +248,7 @@ impl Statics {
         autochange: false,
         eveningmax: 0,
         useexternal: false,
+        cooling: 0,
     };
 }
 
@@ -275,6 +281,7 @@ pub struct GivenStatics {
     pub autochange: u64,
     pub eveningmax: u64,
     pub useexternal: u64,
+    pub cooling: u64,
 }
 
 impl GivenStatics {
@@ -306,6 +313,7 @@ impl GivenStatics {
         autochange: 0,
         eveningmax: 0,
         useexternal: 0,
+        cooling: Statics::COOLING_LEAST,
     };
 
     // Each at the most of its range.
@@ -336,6 +344,7 @@ impl GivenStatics {
         autochange: 1,
         eveningmax: Statics::EVENING_MOVES_MOST,
         useexternal: 1,
+        cooling: Statics::COOLING_MOST,
     };
 }
 

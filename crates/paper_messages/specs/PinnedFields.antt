@@ -55,6 +55,7 @@ staticsRanges =
     ∷ flags  -- AUTOCHANGE
     ∷ range 2 0 10  -- EVENINGMAX
     ∷ flags  -- USEEXTERNAL
+    ∷ range 30 5 900  -- COOLING
     ∷ []
 
 ratesRanges : List Ranged
@@ -94,7 +95,7 @@ field-ends =
     ∷ fieldEnds moveFields moveRanges
     ∷ []
 
-pub field-ends-are : field-ends ≡ map atTheEndsAlone (27 ∷ 15 ∷ 17 ∷ 9 ∷ [])
+pub field-ends-are : field-ends ≡ map atTheEndsAlone (28 ∷ 15 ∷ 17 ∷ 9 ∷ [])
 unfolding field-ends atTheEndsAlone
 field-ends-are = refl
 
@@ -106,14 +107,14 @@ widest-is = refl
 
 -- how many fields each kind has, and the kinds 0 and 5, which are unknown
 pub counts-are : map (λ (kind : ℕ). length (fieldsOf kind)) (0 ∷ 1 ∷ 2 ∷ 3 ∷ 4 ∷ 5 ∷ [])
-    ≡ 0 ∷ 27 ∷ 15 ∷ 17 ∷ 9 ∷ 0 ∷ []
+    ≡ 0 ∷ 28 ∷ 15 ∷ 17 ∷ 9 ∷ 0 ∷ []
 unfolding fieldsOf
 counts-are = refl
 
 -- ---- nothing is heard
 
 -- of no byte, and of two messages of the unknown kind 9, the second behind the first: no message, whose kind is 0 and
--- whose 27 fields are 0
+-- whose 28 fields are 0
 pub unheard-are : (heardAt [] 0
     ≡ record {
       verdict = CutShort;
@@ -121,7 +122,7 @@ pub unheard-are : (heardAt [] 0
       kind = 0;
       length = 0;
       next = 0;
-      message = record { kind = 0; fields = replicate 27 (pos 0) };
+      message = record { kind = 0; fields = replicate 28 (pos 0) };
     })
     × (heardAt (2 ∷ 0 ∷ 0 ∷ 0 ∷ 9 ∷ 0 ∷ 3 ∷ 0 ∷ 0 ∷ 0 ∷ 9 ∷ 0 ∷ 1 ∷ []) 6
     ≡ record {
@@ -130,7 +131,7 @@ pub unheard-are : (heardAt [] 0
       kind = 9;
       length = 3;
       next = 13;
-      message = record { kind = 0; fields = replicate 27 (pos 0) };
+      message = record { kind = 0; fields = replicate 28 (pos 0) };
     })
 unfolding heardAt acceptedHeard refusedHeard readChecks firstOf isDone isKnownKind spelled
 unheard-are = (refl, refl)

@@ -24,7 +24,7 @@ naturals ns = map pos ns
 unfoldable pub zText : (ewma : String) → List ℕ
 zText ewma =
     bytes " 10 100 300 1000 500 5 2 5 8 50 500 700 900 4000 200 25 2000 2000 1000 60 1 " ++ bytes ewma
-    ++ bytes " 120 1 2 0"
+    ++ bytes " 120 1 2 0 30"
 
 -- a line, and what it means; a line that ends with Z's statics
 pub data LineCase : Type 0 where

@@ -6,7 +6,8 @@ use Rattle.inputs.proofs.statics.given_of.Tie as tie
 returns : tie.Need-returns
 unfolding givenOf
 returns c =
-    let c26 = c in
+    let c27 = c in
+    let c26 = c27 .before in
     let c25 = c26 .before in
     let c24 = c25 .before in
     let c23 = c24 .before in
@@ -59,12 +60,14 @@ returns c =
       autochange = c24 .number-at24 .ensures i;
       eveningmax = c25 .number-at25 .ensures i;
       useexternal = c26 .number-at26 .ensures i;
+      cooling = c27 .number-at27 .ensures i;
     }
 
 pub given-of-spec : {M : Type 1} → statement M
 given-of-spec =
     tie.close
     (tie.spec
+    (λ c κs. tt)
     (λ c κs. tt)
     (λ c κs. tt)
     (λ c κs. tt)
