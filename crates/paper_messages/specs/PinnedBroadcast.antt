@@ -79,7 +79,8 @@ moves-told = (refl, refl)
 -- ---- the bytes
 
 -- the bytes of a message of each kind, with those of its length; none is longer than the longest
-pub lengths-are : map (λ (kind : ℕ). lengthWidth + lengthOf kind) (1 ∷ 2 ∷ 3 ∷ 4 ∷ []) ≡ messageMost ∷ 98 ∷ 98 ∷ 66 ∷ []
+pub lengths-are : map (λ (kind : ℕ). lengthWidth + lengthOf kind) (1 ∷ 2 ∷ 3 ∷ 4 ∷ 5 ∷ 6 ∷ 7 ∷ 8 ∷ [])
+    ≡ messageMost ∷ 98 ∷ 98 ∷ 66 ∷ 21 ∷ 10 ∷ 18 ∷ 14 ∷ []
 unfolding lengthOf total placesOf fieldsOf filled
 lengths-are = refl
 
