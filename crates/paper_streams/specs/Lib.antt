@@ -1,0 +1,3 @@
+-- The definition of a whole stream, and the table that pins it.
+pub mod Streams
+pub mod PinnedStreams
