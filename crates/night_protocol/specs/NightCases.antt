@@ -87,6 +87,16 @@ unfolding wordsOf bytes isNot run isDigit sizeFrom sizeOf upTo above below numbe
     placeOf code oneOf twoOf itemOf hasTerms placeIn pairFits withPair mayStand asking askedOn askedFrom askedBy
 words-are = (refl, refl, refl, refl, refl, refl, refl)
 
+-- WHERE A NUMBER MAY STAND: any number as one of the day's twelve; behind them an id, which is not below zero, up to
+-- 512 of them
+pub places-are : (mayStand 11 (negsuc 0) ≡ true)
+    × (mayStand 12 (negsuc 0) ≡ false)
+    × (mayStand 12 (pos 0) ≡ true)
+    × (mayStand 523 (pos 7) ≡ true)
+    × (mayStand 524 (pos 7) ≡ false)
+unfolding mayStand
+places-are = (refl, refl, refl, refl, refl)
+
 -- ---- what is printed
 
 -- AN EVALUATION FOR EACH SECURITY of the text, and one without rows for each other id that is asked for, each once;
