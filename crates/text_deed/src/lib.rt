@@ -25,7 +25,6 @@ use text_call::call_of;
 use text_call::figures;
 use text_call::interest_of;
 use text_evening::Telling;
-use text_kept::kept_after;
 use text_line::Line;
 use text_protocol::Ask;
 use text_protocol::BondPlace;
@@ -50,7 +49,6 @@ pub struct Beside {
 pub struct LineDeed {
     pub ask: Ask,
     pub beside: Beside,
-    pub kept: Kept,
 }
 
 // ---- what a line asks for
@@ -96,13 +94,10 @@ fn of_bond(bond: BondAnswer) -> Beside
 }
 
 // What a line that is answered by the desk, or not at all, asks for.
-fn of_desk(ask: Ask, k: Kept) -> LineDeed
-    ensures { λ r. ⌜ (r .ask ≡ ask) × (r .kept ≡ k) ⌝ }
-{
+fn of_desk(ask: Ask) -> LineDeed {
     LineDeed {
         ask,
         beside: of_bond(bond::refused(Verdict::OutOfRange)),
-        kept: k,
     }
 }
 
@@ -113,15 +108,14 @@ pub fn deed_of(zs: &[i64], l: Line, k: Kept) -> LineDeed
     let pairs = l.pairs;
     let ask = ask_of(zs, l.kind, pairs, k);
     match ask {
-        Ask::Nothing => of_desk(ask, k),
-        Ask::NoCall => of_desk(ask, k),
-        Ask::Call(_) => of_desk(ask, k),
+        Ask::Nothing => of_desk(ask),
+        Ask::NoCall => of_desk(ask),
+        Ask::Call(_) => of_desk(ask),
         Ask::Interest(given) => {
             let i = interest::answer(given, figures(zs, InterestPlace::COUNT));
             LineDeed {
                 ask,
                 beside: of_interest(i),
-                kept: kept_after(k, given, i),
             }
         }
         Ask::Bond(given) => {
@@ -129,7 +123,6 @@ pub fn deed_of(zs: &[i64], l: Line, k: Kept) -> LineDeed
             LineDeed {
                 ask,
                 beside: of_bond(b),
-                kept: k,
             }
         }
     }

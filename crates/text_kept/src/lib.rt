@@ -81,3 +81,62 @@ pub fn found(k: Kept, ym: u64, yn: u64) -> WorkedBand
     }
     unknown()
 }
+
+// The numbers of the terms' row and of the bands' row: of each pair three and two.
+pub const TERMS: usize = 9;
+
+pub const BANDS: usize = 6;
+
+// The pair at a place of the two rows: 1, its terms and its band, where there is one.
+fn pair_at(terms: &[u64; TERMS], bands: &[i64; BANDS], at: usize) -> Pair {
+    let i = 3 * at;
+    let j = 2 * at;
+    if terms[i] == 1 {
+        return Pair {
+            ym: terms[i + 1],
+            yn: terms[i + 2],
+            worked: WorkedBand {
+                verdict: Verdict::Done,
+                lower: bands[j],
+                upper: bands[j + 1],
+            },
+        };
+    }
+    Pair {
+        ym: 0,
+        yn: 0,
+        worked: unknown(),
+    }
+}
+
+// What two rows keep.
+pub fn kept_in(terms: &[u64; TERMS], bands: &[i64; BANDS]) -> Kept {
+    Kept {
+        newest: pair_at(terms, bands, 0),
+        middle: pair_at(terms, bands, 1),
+        oldest: pair_at(terms, bands, 2),
+    }
+}
+
+// The pair of an accepted interest line becomes the newest.
+pub fn keep_in(terms: &mut [u64; TERMS], bands: &mut [i64; BANDS], i: Interest, a: InterestAnswer) {
+    let worked = a.pair;
+    let verdict = worked.verdict;
+    if verdict.is_done() {
+        terms[6] = terms[3];
+        terms[7] = terms[4];
+        terms[8] = terms[5];
+        terms[3] = terms[0];
+        terms[4] = terms[1];
+        terms[5] = terms[2];
+        terms[0] = 1;
+        terms[1] = i.ym;
+        terms[2] = i.yn;
+        bands[4] = bands[2];
+        bands[5] = bands[3];
+        bands[2] = bands[0];
+        bands[3] = bands[1];
+        bands[0] = worked.lower;
+        bands[1] = worked.upper;
+    }
+}

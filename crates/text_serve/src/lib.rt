@@ -20,6 +20,8 @@ use text_ask::ask;
 use text_ask::id_asked;
 use text_bytes::ROOM;
 use text_evening::Telling;
+use text_kept::BANDS;
+use text_kept::TERMS;
 use text_protocol::KEPT;
 use text_turn::Prepared;
 use text_turn::State;
@@ -29,11 +31,17 @@ use text_turn::rows_of;
 use text_turn::start;
 
 // Hears the next line, with the bytes and the numbers of it in arrays, whose lengths their types say.
-fn hear_in(buf: &mut [u8; ROOM], xs: &mut [i64; KEPT], s: State) -> Prepared
+fn hear_in(
+    buf: &mut [u8; ROOM],
+    xs: &mut [i64; KEPT],
+    terms: &mut [u64; TERMS],
+    bands: &mut [i64; BANDS],
+    s: State,
+) -> Prepared
     requires { ⌜ Stands (now buf) (s .input) ⌝ }
     ensures { λ r. ⌜ Prepares (now (buf .entry)) s (now (buf .exit)) r (now (xs .exit)) ⌝ }
 {
-    prepare(buf, xs, s)
+    prepare(buf, xs, terms, bands, s)
 }
 
 // The row figures of a line of so many numbers.
@@ -80,13 +88,15 @@ pub fn step<'a, 'b>(
     xs: &'b mut [i64; KEPT],
     out: &'a mut [u8; ROOM],
     places: &'a mut [usize; PLACES],
+    terms: &'a mut [u64; TERMS],
+    bands: &'a mut [i64; BANDS],
     s: State,
 ) -> State
     requires { ⌜ (Stands (now buf) (s .input)) × (s .waiting + answerMost ≤ room) × Sound (now t) (now places) ⌝ }
     ensures { λ r. ⌜ (Turns (now (buf .entry)) s (now (t .entry)) (now (out .entry))
         (now (buf .exit)) r (now (t .exit)) (now (out .exit))) × Sound (now (t .exit)) (now (places .exit)) ⌝ }
 {
-    let p = hear_in(buf, xs, s);
+    let p = hear_in(buf, xs, terms, bands, s);
     let id = id_asked(p.ask);
     let guess = guess_in(places, id);
     let at = place_near(t, guess, id);
@@ -117,9 +127,20 @@ pub fn serve(t: &mut [Record], telling: Telling) -> State
     let mut xs = no_numbers();
     let mut out = io::large_buffer();
     let mut places = no_places();
+    let mut terms = [0; TERMS];
+    let mut bands = [0; BANDS];
     let mut s = start(telling);
     while s.input.left > 0 {
-        s = step(t, &mut buf, &mut xs, &mut out, &mut places, s);
+        s = step(
+            t,
+            &mut buf,
+            &mut xs,
+            &mut out,
+            &mut places,
+            &mut terms,
+            &mut bands,
+            s,
+        );
     }
     s
 }

@@ -66,7 +66,6 @@ pub fn tell(out: &mut [u8; ROOM], p: Prepared, a: Performed) -> State
 {
     let s = p.state;
     let i = s.input;
-    let kept = s.kept;
     let beside = p.beside;
     let telling = s.telling;
     let ask = p.ask;
@@ -79,7 +78,6 @@ pub fn tell(out: &mut [u8; ROOM], p: Prepared, a: Performed) -> State
         return State {
             input: stopped(i, all),
             number,
-            kept,
             waiting: 0,
             told,
             telling,
@@ -88,7 +86,6 @@ pub fn tell(out: &mut [u8; ROOM], p: Prepared, a: Performed) -> State
     State {
         input: i,
         number,
-        kept,
         waiting: n,
         told,
         telling,

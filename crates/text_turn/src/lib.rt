@@ -17,9 +17,12 @@ use text_evening::Telling;
 use text_evidence::Written;
 use text_input::Input;
 use text_input::hear;
+use text_kept::BANDS;
+use text_kept::TERMS;
+use text_kept::keep_in;
+use text_kept::kept_in;
 use text_protocol::Ask;
 use text_protocol::EvaluatePlace;
-use text_protocol::Kept;
 
 // What goes on from line to line: what is left of the input, the number of the next line, what is kept of the interest
 // lines, how many bytes of answers wait to be written, the evidence of what was handed to `write`, and how lines are
@@ -27,7 +30,6 @@ use text_protocol::Kept;
 pub struct State {
     pub input: Input,
     pub number: u64,
-    pub kept: Kept,
     pub waiting: usize,
     pub told: Written,
     pub telling: Telling,
@@ -44,28 +46,35 @@ pub struct Prepared {
 }
 
 // Hears the next line.
-pub fn prepare(buf: &mut [u8], xs: &mut [i64], s: State) -> Prepared
+pub fn prepare(
+    buf: &mut [u8],
+    xs: &mut [i64],
+    terms: &mut [u64; TERMS],
+    bands: &mut [i64; BANDS],
+    s: State,
+) -> Prepared
     requires { ⌜ (Stands (now buf) (s .input)) × (length (now xs) ≡ keptMost) ⌝ }
     ensures { λ r. ⌜ (Prepares (now (buf .entry)) s (now (buf .exit)) r (now (xs .exit))) × (length (now (xs .exit))
         ≡ keptMost) ⌝ }
 {
     let input = s.input;
-    let kept = s.kept;
     let telling = s.telling;
     let told = s.told;
     let h = hear(buf, xs, input);
     let line = h.line;
     let count = line.count;
+    let kept = kept_in(terms, bands);
     let deed = deed_of(&xs[..count], line, kept);
     let input = h.input;
-    let kept = deed.kept;
     let ask = deed.ask;
     let beside = deed.beside;
+    if let Ask::Interest(given) = ask {
+        keep_in(terms, bands, given, beside.interest);
+    }
     Prepared {
         state: State {
             input,
             number: s.number,
-            kept,
             waiting: s.waiting,
             told,
             telling,
@@ -99,7 +108,6 @@ pub fn start(telling: Telling) -> State
             read: text_evidence::unread(),
         },
         number: 1,
-        kept: text_kept::none(),
         waiting: 0,
         told: text_evidence::unwritten(),
         telling,
