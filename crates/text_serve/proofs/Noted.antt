@@ -1,5 +1,5 @@
--- An entry is one of the row's (`entry-within`). The row of places stays a row of sound guesses: at the start (`none-sound`), and where a place that a guess gave is
--- noted and the line is performed (`noted-sound`).
+-- An entry is one of the row's (`entry-within`). The row of places stays a row of sound guesses: at the start
+-- (`none-sound`), and where a place that a guess gave is noted and the line is performed (`noted-sound`).
 use mathlib.Core.Path.{_≡_, refl, sym, _∙_, subst}
 use mathlib.Core.Bool.{Bool, true, false}
 use mathlib.Core.List.{List, [], _∷_}
