@@ -24,17 +24,20 @@ use Rattle.text_protocol.specs.declared.Explained.the-variants.{No, Because}
 use Rattle.text_protocol.specs.declared.Performed.{Performed}
 use Rattle.text_protocol.specs.Calls.{callAsked, roleOf}
 
--- an answer, and why it is that
-abbrev pub explained : Answer → Why → Performed
-explained answer why = record { answer = answer; why = Because why }
+-- no reason, and one
+abbrev pub noReason : Explained
+noReason = No
 
--- an answer alone: no reason is named
-abbrev pub unexplained : Answer → Performed
-unexplained answer = record { answer = answer; why = No }
+abbrev pub because : Why → Explained
+because why = Because why
+
+-- an answer, and why it is that
+abbrev pub explained : Answer → Explained → Performed
+explained answer why = record { answer = answer; why = why }
 
 -- what stands for an answer where the desk was asked nothing
 abbrev pub unasked : Performed
-unasked = unexplained (saying verdict.Done)
+unasked = explained (saying verdict.Done) noReason
 
 -- why: only an evaluation has reasons. They are those of the table before it
 unfoldable pub explanation : Role → (rows : List ℤ) → List Record → Explained

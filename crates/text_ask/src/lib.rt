@@ -13,7 +13,8 @@ use text_protocol::Explained;
 use text_protocol::Performed;
 use text_protocol::Role;
 ghost use mathlib.Core.Path.{_≡_};
-ghost use Rattle.text_ask.specs.WithReasons.{explained, unexplained, unasked, idAsked, DoneOf, AsksAt};
+ghost use Rattle.text_ask.specs.WithReasons.{noReason, because, explained, unasked, idAsked};
+ghost use Rattle.text_ask.specs.WithReasons.{DoneOf, AsksAt};
 
 // The id of the security that is asked about; 0 where none is.
 pub fn id_asked(a: Ask) -> u64
@@ -42,49 +43,52 @@ fn perform(t: &mut [Record], at: usize, c: AskedCall, rows: &[i64]) -> Answer
     }
 }
 
-// An answer, and why it is that.
-fn with_why(answer: Answer, why: Why) -> Performed
-    ensures { λ r. ⌜ r ≡ explained answer why ⌝ }
+// No reason: it is not asked why, or the call has none.
+fn no_reason() -> Explained
+    ensures { λ r. ⌜ r ≡ noReason ⌝ }
 {
-    Performed {
-        answer,
-        why: Explained::Because(why),
-    }
+    Explained::No
 }
 
-// An answer alone.
-fn without_why(answer: Answer) -> Performed
-    ensures { λ r. ⌜ r ≡ unexplained answer ⌝ }
+// A reason.
+fn because(why: Why) -> Explained
+    ensures { λ r. ⌜ r ≡ because why ⌝ }
 {
-    Performed {
-        answer,
-        why: Explained::No,
-    }
+    Explained::Because(why)
+}
+
+// An answer, and why it is that.
+fn with_why(answer: Answer, why: Explained) -> Performed
+    ensures { λ r. ⌜ r ≡ explained answer why ⌝ }
+{
+    Performed { answer, why }
 }
 
 // To a line that is no call of the desk, nothing is answered here: nothing prints this.
 fn unasked() -> Performed
     ensures { λ r. ⌜ r ≡ unasked ⌝ }
 {
-    without_why(record_answers::saying(Verdict::Done))
+    with_why(record_answers::saying(Verdict::Done), no_reason())
 }
 
 // What the desk says to what a line asks for. Only a call in the role of an evaluation has reasons, and they are asked
-// before the table changes. A line that is no call of the desk leaves the table as it is.
+// before the table changes. A line that is no call of the desk leaves the table as it is. `perform` is called at one
+// place, so that it is no call of the machine's, which would copy what goes in and out.
 pub fn ask(t: &mut [Record], at: usize, a: Ask, rows: &[i64], asked: bool) -> Performed
     ensures { λ r. ⌜ AsksAt at asked a (now (rows .entry)) (now (t .entry)) r (now (t .exit)) ⌝ }
 {
     let Ask::Call(c) = a else {
         return unasked();
     };
+    let mut why = no_reason();
     if asked {
         let role = c.role();
         if let Role::Evaluation(id, day) = role {
-            let why = why_asked(t, id, day, rows);
-            let answer = perform(t, at, c, rows);
-            return with_why(answer, why);
+            let said = why_asked(t, id, day, rows);
+            let reason = because(said);
+            why = reason;
         }
     }
     let answer = perform(t, at, c, rows);
-    without_why(answer)
+    with_why(answer, why)
 }
