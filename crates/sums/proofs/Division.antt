@@ -1,12 +1,11 @@
 -- The division, step by step: a step of a sum is the sum of the steps, no two remainders have the same step, and eight
 -- steps are a table's entry and the bits that are left.
-use mathlib.Core.Path.{_≡_, refl, sym, ap, ap₂, _∙_, subst}
-use mathlib.Core.List.{List, [], _∷_}
+use mathlib.Core.Path.{_≡_, refl, sym, ap, ap₂, _∙_}
 use Prim.Native.Nat.{ℕ, zero, suc, _+_, _*_, _/_, _%_, _^_, _<_}
 use native.Mathlib.Nat.{mod-lt, zero-lt-suc, not-suc-le-zero, le-of-suc-le-suc, div-add-mod', div-lt-iff-lt-mul}
 use native.Mathlib.Nat.{pow-suc}
 use native.Mathlib.Omega.{arith}
-use lib.Bits.{bitXor, differ, xor-zero-l, xor-zero-r, xor-self, xor-shr, xor-lt, xor-shifted, shifted-half}
+use lib.Bits.{bitXor, differ, xor-zero-r, xor-shr, xor-lt, xor-shifted, shifted-half}
 use lib.Bits.{shifted-even, xor-comm, bitAnd, and-mask}
 use lib.Arith.{lt-one}
 use lib.Pow.{split, pow-pos}

@@ -4,7 +4,7 @@ use mathlib.Core.Path.{_≡_, refl, sym, ap, ap₂, _∙_}
 use Prim.Native.Nat.{ℕ, zero, suc, _+_, _*_, _/_, _%_, _<_}
 use native.Mathlib.Nat.{mod-lt, zero-lt-suc, not-suc-le-zero, le-of-suc-le-suc}
 use lib.Arith.{bin-ind}
-use lib.Bits.{bitXor, differ, xor-step, xor-zero-l, xor-zero-r, xor-self, xor-comm, xor-shr, xor-mod}
+use lib.Bits.{bitXor, differ, xor-step, xor-zero-r, xor-self, xor-comm, xor-shr, xor-mod}
 
 -- ---- a bit
 

@@ -1,6 +1,6 @@
 -- Sums of texts, as the standard and other programs (zlib's crc32, cksum -o 3) give them.
 use mathlib.Core.Path.{_≡_, refl}
-use mathlib.Core.List.{List, [], _∷_, map, _++_}
+use mathlib.Core.List.{List, [], _∷_}
 use Prim.Native.Nat.{ℕ}
 use Rattle.sums.specs.Sums.{divided, bitsOf, afterBits, afterBytes, sumOn, sumOf}
 

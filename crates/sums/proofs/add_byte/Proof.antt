@@ -1,6 +1,6 @@
 -- `sums::add_byte` meets its contract: the bits of a byte come in at once (`byte-steps`).
-use mathlib.Core.Path.{_≡_, _∙_, ap}
-use Prim.Native.Nat.{ℕ, _/_}
+use mathlib.Core.Path.{_∙_, ap}
+use Prim.Native.Nat.{_/_}
 use native.Mathlib.Omega.{arith}
 use lib.Bits.{bitXor, mask-lt}
 use borrow.Author.Needs.{needs}

@@ -1,5 +1,5 @@
 -- `sums::sum_on` meets its contract: the sum inverted is what is left, and what is left inverted the sum.
-use mathlib.Core.Path.{_≡_, ap}
+use mathlib.Core.Path.{ap}
 use borrow.Author.Needs.{needs}
 use Rattle.sums.specs.Sums.{inverted, sumOn}
 use Rattle.sums.proofs.sum_on.Statement.{statement}
