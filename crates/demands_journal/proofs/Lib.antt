@@ -1,0 +1,2 @@
+-- What is proved of a recovered desk; other crates may cite it.
+pub mod Holds

@@ -1,0 +1,2 @@
+-- What holds of a recovered desk.
+pub mod Holds
