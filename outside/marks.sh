@@ -171,7 +171,8 @@ same_code() { # OBJECT OBJECT FOLDER
 
 # The proved functions of a linked program, or of an object whose `main` has a name there, a line each: the name and the
 # instructions, without what a linker fills in. That is where a jump or a call goes, and where other data stands: on
-# aarch64 the number that is added to an address, or that stands behind one.
+# aarch64 the number that is added to an address, or that stands behind one, and whether the address of a page comes
+# from `adrp` or from `adr` (outside/release says why).
 linked_functions() { # KIND FILE [MAIN]
     "$(tool_for "$1" objdump)" -d --no-show-raw-insn "$2" | awk -v kind="$1" -v main="${3:-}" '
         function tell() {
@@ -193,6 +194,7 @@ linked_functions() { # KIND FILE [MAIN]
             if ($0 ~ /^(data16 |cs )*nop|^xchg %ax,%ax|^udf/) next
             if ($1 ~ /^(call|j|b$|b\.|bl$|cb|tb|adrp?$)/) sub(/[0-9a-f]+$/, "")
             sub(/-?0x[0-9a-f]+\(%rip\)/, "(%rip)")
+            if (kind == "aarch64") sub(/^adr /, "adrp ")
             if (kind == "aarch64" && $1 ~ /^(add|ld|st)/) sub(/, #(0x)?[0-9a-f]+\]?$/, "")
             if (kind == "aarch64" && $1 ~ /^(ld|st)/) sub(/\]$/, "")
             text = text ";" $0
