@@ -90,7 +90,7 @@ pub fn admit(t: &mut [Record], a: Admission) -> Answer
 {
     let s = take(t, a.id);
     let e = take(t, EMPTY);
-    let o = record_admission::admitted(s, e, a);
+    let o = record_calls::admission::admitted(s, e, a);
     put(t, o.at, o.rec);
     record_answers::answered(o)
 }

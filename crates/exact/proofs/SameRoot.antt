@@ -1,7 +1,7 @@
 -- W-204, "Its answers stay the same": on every input that shares hand to `least_root`, its contract allows one answer,
 -- which is the least root however it is found, and the x of clause 7.1. `Pre` and `Post` are the plain reading of the
 -- function's own `requires` and `ensures`. The interest side says the same of its inputs by `same-root`, in the crate
--- that works them out (interest_repo, proofs/SameRoot.antt).
+-- that works them out (interest_maturities, proofs/SameRoot.antt).
 use mathlib.Core.Path.{_≡_, _∙_}
 use mathlib.Core.Bool.{true}
 use Prim.{tt}

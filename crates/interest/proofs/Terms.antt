@@ -21,7 +21,7 @@ use Rattle.paper_interest.proofs.Lifted.{lifted-is}
 use Rattle.paper_interest.proofs.InterestRanges.{valid-key-in-range, figures-held}
 use Rattle.interest_maturities.specs.KeyLaws.{maturityAt, valid-key}
 use Rattle.interest_maturities.specs.Reads.{Reads}
-use Rattle.interest_repo.specs.Lift.{lift, lifted, lifted-within}
+use Rattle.interest_maturities.specs.Lift.{lift, lifted, lifted-within}
 use Rattle.interest_maturities.specs.declared.forward.Point.{Point}
 use Rattle.interest_maturities.specs.Pair.{bandHeld, band-is}
 use Rattle.interest_maturities.specs.Points.{PointRange, rateOf, linear, pointBetween}

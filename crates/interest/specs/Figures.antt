@@ -7,7 +7,7 @@ use lib.IntN.{pos}
 use Rattle.paper.specs.declared.Interest.{Interest}
 use Rattle.paper.specs.declared.Maturity.{Maturity}
 use Rattle.paper_interest.specs.Interest.{upward, downward, figureAt}
-use Rattle.interest_repo.specs.Lift.{lifted}
+use Rattle.interest_maturities.specs.Lift.{lifted}
 use Rattle.interest_maturities.specs.declared.forward.Point.{Point}
 use Rattle.interest_maturities.specs.Points.{PointRange, rateOf}
 

@@ -1,6 +1,6 @@
 // The interest side (document 02, W-201): an evening's key maturities, lent in one slice, to the figures of each and to
-// the repo band of a pair of terms. The rules are those of `interest_repo` and `interest_maturities`; this crate judges
-// what is given, asks them, and puts the answer together.
+// the repo band of a pair of terms. The rules are those of `interest_maturities`; this crate judges what is given,
+// asks them, and puts the answer together.
 ghost use mathlib.Core.Path.{_≡_};
 ghost use mathlib.Core.Bool.{true, _&&_};
 ghost use mathlib.Core.List.{map};
@@ -97,7 +97,7 @@ fn figures_at(i: Interest, numbers: &[i64], n: usize) -> MaturityFigures
 {
     let at = Maturity::NUMBERS * n;
     if at < numbers.len() {
-        interest_repo::figures_of(i, interest_maturities::maturity_at(numbers, at))
+        interest_maturities::repo::figures_of(i, interest_maturities::maturity_at(numbers, at))
     } else {
         no_figures()
     }
@@ -131,10 +131,10 @@ fn point_of(i: Interest, numbers: &[i64], at: usize) -> Point
     ensures { λ r. ⌜ r ≡ pointOf i (maturityAt (now (numbers .entry)) at) ⌝ }
 {
     let k = interest_maturities::maturity_at(numbers, at);
-    let figures = interest_repo::figures_of(i, k);
+    let figures = interest_maturities::repo::figures_of(i, k);
     Point {
         t: k.t,
-        rate: interest_repo::lifted(k.r),
+        rate: interest_maturities::repo::lifted(k.r),
         up: figures.up,
         down: figures.down,
     }

@@ -3,3 +3,5 @@
 pub mod Walk
 pub mod Lines
 pub mod Limits
+pub mod Bits
+pub mod SameRoot

@@ -13,7 +13,7 @@ use Rattle.paper.proofs.Differences.{difference-times, difference-plus, differe
 use Rattle.paper.proofs.Differences.{whole-is-difference}
 use Rattle.paper_interest.proofs.Lifted.{half-shifts}
 use Rattle.interest_maturities.specs.declared.forward.Point.{Point}
-use Rattle.interest_repo.specs.Lift.{lift}
+use Rattle.interest_maturities.specs.Lift.{lift}
 use Rattle.interest_maturities.specs.Points.{figureMost, PointRange, rateOf}
 use Rattle.interest_maturities.specs.Pair.{base, PairRange, forwardOf, upperOf, lowerOf, marginOf, Risen}
 

@@ -4,3 +4,5 @@ pub mod KeyLaws
 pub mod Reads
 pub mod Points
 pub mod Pair
+pub mod Lift
+pub mod Estimates

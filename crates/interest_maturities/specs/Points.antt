@@ -3,7 +3,7 @@ use Prim.Native.Nat.{ℕ, _+_, _-_, _*_, _≤_, _<_}
 use lib.IntN.{ℤ, subℕ}
 use Rattle.paper.specs.Numbers.{maturityMost}
 use Rattle.paper.specs.Roundings.{halfUp}
-use Rattle.interest_repo.specs.Lift.{lift}
+use Rattle.interest_maturities.specs.Lift.{lift}
 use Rattle.interest_maturities.specs.declared.forward.Point.{Point}
 
 -- no lifted rate and no estimate is above it

@@ -6,7 +6,7 @@ ghost use lib.IntN.{pos, subℕ};
 ghost use Rattle.paper_interest.specs.Interest.{isHeld, limitFrom, lesserZ, greaterZ};
 ghost use Rattle.interest_maturities.specs.Points.{figureMost, PointRange, rateOf, Line, linear, pointBetween};
 ghost use Rattle.interest_maturities.specs.Pair.{PairRange, base, Margin, Risen, bandWorked, bandHeld};
-use interest_repo::LIFT;
+use crate::repo::LIFT;
 use paper::Interest;
 use paper::ONE_IN_HUNDREDTHS;
 use paper::RepoLimits;

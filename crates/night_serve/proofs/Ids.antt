@@ -12,7 +12,7 @@ use Rattle.paper.specs.Lists.{pick, some}
 use Rattle.paper.specs.Ranges.{unsigned}
 use Rattle.night_protocol.specs.Night.{isAmong, joined, firsts, firstsBehind}
 use Rattle.night_protocol.specs.Sheet.{dayNumbers}
-use Rattle.night_text.specs.Tables.{idAt, idsRoom, Finds}
+use Rattle.night_serve.specs.Tables.{idAt, idsRoom, Finds}
 use Rattle.night_protocol.proofs.Rows.{among-at, among-none}
 use Rattle.night_serve.specs.Serving.{JoinsOne, Joins}
 

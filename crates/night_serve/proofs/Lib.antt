@@ -3,3 +3,5 @@ mod Lines
 mod Ids
 pub mod Words
 mod Whole
+mod Entering
+mod Walking

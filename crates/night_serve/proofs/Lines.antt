@@ -16,7 +16,7 @@ use Rattle.text_protocol.specs.declared.Pairs.{Pairs}
 use Rattle.exchange_protocol.specs.Exchange.{inOne}
 use Rattle.night_protocol.specs.Night.{rowsIn}
 use Rattle.night_protocol.specs.Sheet.{headText, evaluateText, evaluateAll}
-use Rattle.night_text.specs.Tables.{idAt, Held}
+use Rattle.night_serve.specs.Tables.{idAt, Held}
 use Rattle.night_serve.specs.Serving.{headMost, lineMost, sheetRoom, HeldSome, PrintsText}
 
 -- ---- a line, copied

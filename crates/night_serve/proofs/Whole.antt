@@ -18,9 +18,9 @@ use Rattle.night_protocol.specs.Night.{Night, good, bad, nightOf, isAmong, join
 use Rattle.night_protocol.specs.Night.{rowsIn, securitiesMost}
 use Rattle.night_protocol.specs.Sheet.{dayNumbers, wordsMost, askedMost, evaluateText, evaluateAll, sheetIds, sheetText}
 use Rattle.night_protocol.proofs.Rows.{among-at, firsts-both}
-use Rattle.night_text.specs.Tables.{Held, HeldNight, Reads}
-use Rattle.night_text.specs.declared.Gathered.{Gathered}
-use Rattle.night_text.specs.declared.Gathered.the-variants as gathered
+use Rattle.night_serve.specs.Tables.{Held, HeldNight, Reads}
+use Rattle.night_serve.specs.declared.reading.Gathered.{Gathered}
+use Rattle.night_serve.specs.declared.reading.Gathered.the-variants as gathered
 use Rattle.text_evidence.specs.Evidence.{unwritten, Hands}
 use Rattle.night_serve.specs.declared.Served.{Served}
 use Rattle.night_serve.specs.Serving.{headMost, lineMost, sheetRoom, Joins, HeldSome, PrintsText, PrintsAll}

@@ -1,2 +1,3 @@
 -- The definitions of night_serve, a file each.
 pub mod Serving
+pub mod Tables

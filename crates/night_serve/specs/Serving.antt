@@ -21,7 +21,7 @@ use Rattle.night_protocol.specs.Sheet.{dayNumbers, askedMost, wordsMost, asking
 use Rattle.night_protocol.specs.Sheet.{sheetText}
 use Rattle.exchange_serve.specs.Rows.{TakesIn}
 use Rattle.text_evidence.specs.Evidence.{hasFailed, unwritten, Hands}
-use Rattle.night_text.specs.Tables.{idsRoom, Held}
+use Rattle.night_serve.specs.Tables.{idsRoom, Held}
 use Rattle.night_serve.specs.declared.Served.{Served}
 
 -- ---- how long a line may be

@@ -1,4 +1,6 @@
 // The program `night`: what its words ask for, the lines that it prints, and the text that it takes in.
+pub mod reading; // the text, all its securities at once
+
 ghost use mathlib.Core.Path.{_≡_};
 ghost use mathlib.Core.Bool.{false};
 ghost use mathlib.Core.List.{[], _∷_};
@@ -13,21 +15,21 @@ ghost use Rattle.text_out.specs.Places.{nextSignedBytes};
 ghost use Rattle.night_protocol.specs.Night.{bad, securitiesMost};
 ghost use Rattle.night_protocol.specs.Sheet.{dayNumbers, wordsMost, mayStand, asking, termText, dayText, headText};
 ghost use Rattle.night_protocol.specs.Sheet.{evaluateText, evaluateAll, faultText};
-ghost use Rattle.night_text.specs.Tables.{idsRoom, figuresRoom};
+ghost use Rattle.night_serve.specs.Tables.{idsRoom, figuresRoom};
 ghost use Rattle.night_serve.specs.Serving.{termMost, dayMost, headMost, lineMost, faultMost, sheetRoom};
 ghost use Rattle.night_serve.specs.Serving.{JoinsOne};
 ghost use Rattle.night_serve.specs.Serving.{Joins, HeldSome, PrintsText, PrintsAll, startTaken, TakesWord};
 ghost use Rattle.night_serve.specs.Serving.{askedTaken, Serves};
+use crate::reading::FIGURES_ROOM;
+use crate::reading::Gathered;
+use crate::reading::IDS_ROOM;
+use crate::reading::find;
+use crate::reading::read_night;
 use exchange_serve::take_in;
 use night_protocol::ASKED_MOST;
 use night_protocol::DAY_NUMBERS;
 use night_protocol::SECURITIES_MOST;
 use night_protocol::WORDS_MOST;
-use night_text::FIGURES_ROOM;
-use night_text::Gathered;
-use night_text::IDS_ROOM;
-use night_text::find;
-use night_text::read_night;
 use paper::Row;
 use text_bytes::ROOM;
 use text_evidence::Delivered;

@@ -3,6 +3,7 @@
 // the other asks stand here. 1 comes first whatever is asked, so `effect_of` judges it; each rule is asked of a slot
 // that is known, and judges the refusals behind 1 in the paper's order. So the test of a sound record stands once on the
 // way of a call.
+pub mod admission; // the rule of an admission
 mod floats; // the price of an outside source's float
 
 ghost use mathlib.Core.Path.{_≡_};

@@ -19,9 +19,9 @@ use Rattle.paper.specs.Verdicts.{isDone, firstOf}
 use Rattle.paper_desk.specs.Desk.{usedBy, moveOn, evaluated, evaluateChecks}
 use Rattle.paper.proofs.Logic.{pick-true, pick-false}
 use Rattle.evaluation.specs.declared.PriceFigures.{PriceFigures}
-use Rattle.record_figures.specs.declared.Made.{Made}
-use Rattle.record_figures.specs.Evaluates as writing
-use Rattle.record_figures.specs.Evaluates.{madeOf}
+use Rattle.record_writing.specs.declared.figures.Made.{Made}
+use Rattle.record_writing.specs.Evaluates as writing
+use Rattle.record_writing.specs.Evaluates.{madeOf}
 use Rattle.record_answers.specs.declared.Slot.{Slot}
 use Rattle.record_answers.specs.declared.Replied.the-variants.{TheRecord}
 use Rattle.record_evaluation.specs.declared.Working.{Working}

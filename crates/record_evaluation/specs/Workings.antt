@@ -18,7 +18,7 @@ use Rattle.paper_desk.specs.Desk.{blank, usedBy, evaluated, evaluateChecks}
 use Rattle.evaluation.specs.declared.PriceFigures.{PriceFigures}
 use Rattle.evaluation.specs.declared.Priced.{Priced}
 use Rattle.evaluation.specs.Evaluation.{pricedOf}
-use Rattle.record_figures.specs.Evaluates.{madeOf}
+use Rattle.record_writing.specs.Evaluates.{madeOf}
 use Rattle.record_answers.specs.declared.Slot.{Slot}
 use Rattle.record_evaluation.specs.declared.Working.{Working}
 use Rattle.record_answers.specs.Effects.{isKnown}

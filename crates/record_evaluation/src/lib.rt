@@ -24,7 +24,7 @@ use paper::Tentative;
 use paper::Verdict;
 use record_answers::Effect;
 use record_answers::Slot;
-use record_figures::Made;
+use record_writing::figures::Made;
 
 // 6 of a day: its numbers, and its rows as they were gathered.
 fn valid_day(d: Day, gathered: Gathered) -> bool
@@ -107,7 +107,7 @@ fn worked_at(s: Slot, d: Day, e: Priced) -> Working
         return unmade(Verdict::MoveTooLarge);
     }
     let f = rates::figures_of(st, d.b, d.m, rates[0], price_move, r.s, tentative);
-    let made = record_figures::made_at(r, d, p, f);
+    let made = record_writing::figures::made_at(r, d, p, f);
     let bands = made.bands;
     if !in_order(bands) {
         return Working {
@@ -174,6 +174,6 @@ pub fn evaluated(s: Slot, d: Day, rows: &[i64]) -> Effect
     }
     let r = s.rec;
     let made = w.made;
-    let rec = record_figures::evaluated(r, d, made);
+    let rec = record_writing::figures::evaluated(r, d, made);
     record_answers::written(s.at, rec)
 }

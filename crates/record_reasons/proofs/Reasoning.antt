@@ -37,8 +37,8 @@ use Rattle.rates_level.specs.RateStatics.{tentativeBound}
 use Rattle.rates_level.proofs.Statics.{within-tentative-bound}
 use Rattle.rates.specs.RateRanges.{FigureRanges}
 use Rattle.rates.proofs.Statics.{sound-figures-in-ranges, rates-weighing}
-use Rattle.record_figures.specs.declared.Made.{Made}
-use Rattle.record_figures.specs.Evaluates.{moveTo, figuresAt, madeOf}
+use Rattle.record_writing.specs.declared.figures.Made.{Made}
+use Rattle.record_writing.specs.Evaluates.{moveTo, figuresAt, madeOf}
 use Rattle.record_answers.specs.declared.Slot.{Slot}
 use Rattle.record_answers.specs.Effects.{isKnown}
 use Rattle.record_evaluation.specs.Workings.{pricedOn}

@@ -13,8 +13,8 @@ use Rattle.paper.specs.Ranges.{isPrice, validDayNumbers, rateAt, sound}
 use Rattle.paper_desk.specs.Evaluation.{between}
 use Rattle.paper_desk.specs.Rates.{modelOf, weightOf, weighted, replacementWins, tentativeRateOf, moveTooLarge}
 use Rattle.evaluation.specs.declared.PriceFigures.{PriceFigures}
-use Rattle.record_figures.specs.declared.Made.{Made}
-use Rattle.record_figures.specs.Evaluates.{moveTo, figuresAt}
+use Rattle.record_writing.specs.declared.figures.Made.{Made}
+use Rattle.record_writing.specs.Evaluates.{moveTo, figuresAt}
 use Rattle.paper_reasons.specs.declared.PriceReason.{PriceReason}
 use Rattle.paper_reasons.specs.declared.PriceReason.the-variants as price
 use Rattle.paper_reasons.specs.declared.WeightReason.the-variants as weight

@@ -37,7 +37,7 @@ use rates::volatility::weight_of;
 use rates::volatility::weighted;
 use rates_level::covers;
 use rates_level::level_of;
-use record_figures::Made;
+use record_writing::figures::Made;
 
 // "(close, bid, ask, or yesterday)"
 fn price_reason(previous: Price, f: PriceFigures) -> PriceReason

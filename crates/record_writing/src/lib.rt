@@ -1,5 +1,7 @@
-// What each call but an evaluation writes (`record_figures` has that): the record after an admission, the record after
-// a move, and the record that a quote, an opening of the evening or a receipt of outside prices leaves (`watching`).
+// What each call but an evaluation writes (`figures` has that): the record after an admission, the record after a move,
+// and the record that a quote, an opening of the evening or a receipt of outside prices leaves (`watching`).
+pub mod figures; // the record that an evaluation writes
+
 ghost use mathlib.Core.Path.{_≡_};
 ghost use mathlib.Core.Bool.{true};
 ghost use Prim.Native.Nat.{_<_};

@@ -34,7 +34,7 @@ pub extern "C" fn nedrubal_days(
             return sum;
         }
         let made = w.made;
-        r = record_figures::evaluated(r, d, made);
+        r = record_writing::figures::evaluated(r, d, made);
         sum = std::num::wrapping_add_u64(sum, figure(r));
         i += 1;
     }

@@ -1,5 +1,5 @@
 // What the benchmark hands to the proved rules, and what it adds up of a record: one security, read as the evening
-// reads an `admit` and admitted by the rule of `record_admission`, and its days. `sheet` evaluates them, and
+// reads an `admit` and admitted by its rule (`record_calls::admission`), and its days. `sheet` evaluates them, and
 // `sheet_answers` asks the rest of them.
 use exact::unsigned;
 use paper::Day;
@@ -42,7 +42,11 @@ pub fn first(r: Record) -> Slot {
 pub fn admitted(x: &[i64; ADMISSION_NUMBERS]) -> Record {
     let a = text_call::admission_of(x);
     let empty = first(record_answers::blank());
-    let effect = record_admission::admitted(record_answers::absent(Record::SLOTS_MOST), empty, a);
+    let effect = record_calls::admission::admitted(
+        record_answers::absent(Record::SLOTS_MOST),
+        empty,
+        a,
+    );
     effect.rec
 }
 

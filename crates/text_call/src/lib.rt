@@ -1,5 +1,7 @@
 // What a call is given, from the numbers of its line. Each number is read at the place of its name
 // (text_protocol/specs/Names.antt). A float is made of the 64 bits that a number has.
+pub mod kept; // what is kept of the interest lines
+
 ghost use mathlib.Core.Path.{_≡_};
 ghost use mathlib.Core.List.{List};
 ghost use Prim.Native.Nat.{_≤_, min};
@@ -9,6 +11,7 @@ ghost use Rattle.text_protocol.specs.Calls.{admissionOf, quoteOf, bitsOf, float
 ghost use Rattle.text_protocol.specs.Calls.{bandOf, askedOf, noticeCall, deskCall, callAsked};
 ghost use Rattle.text_call.specs.Terms.{termAtPlace};
 ghost use Rattle.text_protocol.specs.Names.{evaluateCount};
+use crate::kept::found;
 use inputs::given_of;
 use inputs::number_at;
 use paper::Admission;
@@ -22,7 +25,6 @@ use paper::Outside;
 use paper::Quote;
 use paper::RepoBand;
 use paper::RepoLimits;
-use text_kept::found;
 use text_protocol::AdmitPlace;
 use text_protocol::AskedCall;
 use text_protocol::CallKind;

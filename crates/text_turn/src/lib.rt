@@ -99,7 +99,7 @@ pub fn start(telling: Telling) -> State
             read: text_evidence::unread(),
         },
         number: 1,
-        kept: text_kept::none(),
+        kept: text_call::kept::none(),
         waiting: 0,
         told: text_evidence::unwritten(),
         telling,

@@ -60,10 +60,10 @@ use Rattle.desk.proofs.Steps.{admit-steps, promised}
 use Rattle.desk.proofs.take.Symbol.{name as #take}
 use Rattle.desk.proofs.put.Symbol.{name as #put}
 use Rattle.record_answers.proofs.answered.Symbol.{name as #answered}
-use Rattle.record_admission.proofs.admitted as rule
-use Rattle.record_admission.proofs.admitted.Symbol as rule-def
-use Rattle.record_admission.proofs.admitted.Symbol.{name as #rule}
-use Rattle.record_admission.proofs.admitted.Met as rule-thm
+use Rattle.record_calls.proofs.admission.admitted as rule
+use Rattle.record_calls.proofs.admission.admitted.Symbol as rule-def
+use Rattle.record_calls.proofs.admission.admitted.Symbol.{name as #rule}
+use Rattle.record_calls.proofs.admission.admitted.Met as rule-thm
 use Rattle.desk.proofs.admit as f
 use Rattle.desk.proofs.admit.Key.{name as #admit}
 use Rattle.desk.proofs.admit.Statement as stated
@@ -109,7 +109,7 @@ code-s = taking #take ℓt for-s ℓs (copy (place ℓa (field 0 ∷ [])))
 abbrev code-e : Body → Body
 code-e = taking #take ℓt for-e ℓe (int w64 0)
 
--- let o = record_admission::admitted(s, e, a);
+-- let o = record_calls::admission::admitted(s, e, a);
 abbrev code-o : Body → Body
 code-o = seq (call #rule (copy (place ℓs []) ∷ copy (place ℓe []) ∷ copy (place ℓa []) ∷ []) (place ℓo []))
 
@@ -230,7 +230,7 @@ module _ {M : Type 1} (𝓤 : URA M) (H : Heap 𝓤) (A : Atoms 𝓤) (W : Given
           takes 𝓤 H A W mem run (κs .0) (qs .0) b o (x .name) ys room slotOf fm known-take ℓt for-e ℓe
           (refl, refl, tt, tt, tt, tt, tt) tt refl 0 (lit< tt) (λ Δ. lit ! tt)
 
-      -- let o = record_admission::admitted(s, e, a);
+      -- let o = record_calls::admission::admitted(s, e, a);
       let-o : {rest : Body} (v u : Val) → Is S slot (v ∷ []) → Is S first-empty (u ∷ [])
           → (Is O.the-row effect (effect-val effect ∷ [])
           → Sq W (In (some v) (some u) (some (effect-val effect)) ∷ Ours) (Runs rest))
@@ -286,5 +286,5 @@ admit-spec 𝓤 H 𝓜 𝓖 𝓡 =
     (goes 𝓤 H (𝓖 .A) (givenOf 𝓤 H 𝓜 𝓖) (𝓜 .mem) (𝓡 .run) (tablesOf 𝓤 H 𝓜 (tables 𝓤 H 𝓜 𝓡 code.env))
     (take-known 𝓤 H 𝓜 𝓖 𝓡 code.env code.calls-desk·take)
     (cited 𝓤 H (Rule 𝓤 H (𝓖 .A) (𝓜 .mem) (𝓡 .run)) 𝓜 𝓡 code.env #rule rule-def.routine
-    code.calls-record-admission·admitted (rule-thm.met 𝓤 H 𝓜 𝓖 𝓡)) (put-known 𝓤 H 𝓜 𝓖 𝓡 code.env code.calls-desk·put)
+    code.calls-record-calls·admission·admitted (rule-thm.met 𝓤 H 𝓜 𝓖 𝓡)) (put-known 𝓤 H 𝓜 𝓖 𝓡 code.env code.calls-desk·put)
     (answered-known 𝓤 H 𝓜 𝓖 𝓡 code.env code.calls-record-answers·answered)))

@@ -1,7 +1,7 @@
 -- `interest::point_of` meets its contract: the figures of the key maturity, and its rate lifted.
 use borrow.Author.Needs.{needs}
 use Rattle.paper_interest.specs.Interest.{maturityFigures, KeyRange}
-use Rattle.interest_repo.proofs.Bits.{rate-kept-in-bits}
+use Rattle.interest_maturities.proofs.Bits.{rate-kept-in-bits}
 use Rattle.interest.proofs.Terms.{key-in-range}
 use Rattle.interest.proofs.point_of.Statement.{statement}
 use Rattle.interest.proofs.point_of.Tie as tie

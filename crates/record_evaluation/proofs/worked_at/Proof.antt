@@ -10,7 +10,7 @@ use Rattle.evaluation.specs.Evaluation.{pricedOf}
 use Rattle.record_evaluation.specs.Workings.{pricedOn}
 use Rattle.inputs.proofs.Facts.{day-facts}
 use Rattle.rates.proofs.Statics.{sound-figures-in-ranges}
-use Rattle.record_figures.specs.Evaluates.{moveTo, figuresAt}
+use Rattle.record_writing.specs.Evaluates.{moveTo, figuresAt}
 use Rattle.record_evaluation.proofs.Judging.{day-moved-far, day-crossed, day-accepted}
 use Rattle.record_evaluation.proofs.Evaluations.{sound-prices-valid}
 use borrow.Author.Needs.{needs}

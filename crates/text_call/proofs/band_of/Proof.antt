@@ -12,7 +12,7 @@ use Rattle.text_call.proofs.band_of.Tie as tie
 use Rattle.text_call.proofs.band_of.Reads as reads
 use Rattle.text_call.proofs.band_of.Lts as lts
 use Rattle.exact.proofs.unsigned.Reads as unsigned-reads
-use Rattle.text_kept.proofs.found.Reads as found-reads
+use Rattle.text_call.proofs.kept.found.Reads as found-reads
 
 unsigned-requires : tie.Need-unsigned-requires
 unsigned-requires c κs = search needs

@@ -8,7 +8,7 @@ use Rattle.text_deed.proofs.deed_of.Lts as lts
 use Rattle.bond.proofs.answer.Reads as answer-reads
 use Rattle.interest.proofs.answer.Reads as answer-reads′
 use Rattle.text_call.proofs.figures.Reads as figures-reads
-use Rattle.text_kept.proofs.kept_after.Reads as kept-after-reads
+use Rattle.text_call.proofs.kept.kept_after.Reads as kept-after-reads
 use Rattle.text_deed.proofs.ask_of.Reads as ask-of-reads
 use Rattle.text_deed.proofs.of_bond.Reads as of-bond-reads
 use Rattle.text_deed.proofs.of_desk.Reads as of-desk-reads

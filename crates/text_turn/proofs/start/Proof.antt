@@ -6,7 +6,7 @@ use Rattle.text_turn.proofs.start.Reads as reads
 use Rattle.text_turn.proofs.start.Lts as lts
 use Rattle.text_evidence.proofs.unread.Reads as unread-reads
 use Rattle.text_evidence.proofs.unwritten.Reads as unwritten-reads
-use Rattle.text_kept.proofs.none.Reads as none-reads
+use Rattle.text_call.proofs.kept.none.Reads as none-reads
 
 unread-requires : tie.Need-unread-requires
 unread-requires c κs = search needs

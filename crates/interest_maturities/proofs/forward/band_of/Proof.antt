@@ -3,7 +3,7 @@ use mir.Syntax.{w64}
 use mir.Val.{SFits}
 use mir.Facts.{toZ-ofZ}
 use borrow.Author.Needs.{needs}
-use Rattle.interest_repo.proofs.Bits.{rate-kept-in-bits}
+use Rattle.interest_maturities.proofs.Bits.{rate-kept-in-bits}
 use Rattle.interest_maturities.specs.Pair.{bandWorked, bandHeld}
 use Rattle.interest_maturities.proofs.forward.band_of.Statement.{statement}
 use Rattle.interest_maturities.proofs.forward.band_of.Tie as tie

@@ -7,7 +7,7 @@ use Rattle.paper.specs.Numbers.{volatilityMost}
 use Rattle.paper_desk.specs.Rates.{Weighing}
 use Rattle.paper_desk.proofs.Volatility.{weight-most}
 use Rattle.rates.proofs.Statics.{rates-weighing}
-use Rattle.record_figures.specs.Evaluates.{moveTo}
+use Rattle.record_writing.specs.Evaluates.{moveTo}
 use Rattle.record_evaluation.proofs.Evaluations.{sound-prices-valid}
 use Rattle.record_reasons.proofs.Reasoning.{allowed-move-within-most, figures-in-ranges, made-volatility-high}
 use Rattle.record_reasons.proofs.Reasoning.{deciding-is}

@@ -1,2 +1,0 @@
--- The definitions of night_text, a file each.
-pub mod Tables

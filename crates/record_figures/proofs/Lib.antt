@@ -1,2 +1,0 @@
--- The facts of a day and of the figures that an evaluation needs; other crates may cite the public ones.
-pub mod Facts

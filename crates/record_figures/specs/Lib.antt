@@ -1,2 +1,0 @@
--- What an evaluation asks for, makes and writes.
-pub mod Evaluates
