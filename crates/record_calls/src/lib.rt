@@ -1,10 +1,11 @@
 // The rule of whatever is asked about a security (`effect_of`), by value: the slot found and the inputs in, an effect
 // out. Evaluations, quotes and moves have crates of their own (`record_evaluation`, `record_monitoring`); the rules of
-// the other asks stand here. 1 comes first whatever is asked, so `effect_of` judges it; each rule is asked of a slot
+// the other asks stand here. 1 comes first whatever is asked, so `effect_known` judges it; each rule is asked of a slot
 // that is known, and judges the refusals behind 1 in the paper's order. So the test of a sound record stands once on the
-// way of a call.
+// way of a call, and a caller that knows its outcome goes without it.
 pub mod admission; // the rule of an admission
 mod floats; // the price of an outside source's float
+pub mod good; // a record that every accepted call keeps sound
 
 ghost use mathlib.Core.Path.{_≡_};
 ghost use mathlib.Core.Bool.{true};
@@ -124,12 +125,24 @@ pub fn read(s: Slot) -> Effect
 
 // ---- the rule of each ask
 
-// 1, and then the rule of the ask. An ask more has its arm here.
-pub fn effect_of(s: Slot, a: AskedAbout, rows: &[i64]) -> Effect
+// Whether 1 does not apply: nothing is tested where the caller knows it of the slot.
+fn passes_1(s: Slot, known: bool) -> bool
+    requires { ⌜ (known ≡ true → isKnown s ≡ true) ⌝ }
+    ensures { λ r. ⌜ r ≡ isKnown s ⌝ }
+{
+    if known {
+        return true;
+    }
+    record_answers::is_known(s)
+}
+
+// 1, and then the rule of the ask, for a caller that may know that 1 does not apply. An ask more has its arm here.
+pub fn effect_known(s: Slot, known: bool, a: AskedAbout, rows: &[i64]) -> Effect
+    requires { ⌜ (known ≡ true → isKnown s ≡ true) ⌝ }
     ensures { λ o. ⌜ o ≡ effectOf s (askOf a (now (rows .entry))) ⌝ }
 {
     let count = s.count;
-    if !record_answers::is_known(s) {
+    if !passes_1(s, known) {
         return record_answers::refused(count, Verdict::NoSuchId);
     }
     match a {
@@ -141,4 +154,11 @@ pub fn effect_of(s: Slot, a: AskedAbout, rows: &[i64]) -> Effect
         AskedAbout::Receive(sent) => received(s, sent),
         AskedAbout::Notify(n) => notified(s, n),
     }
+}
+
+// The same for a caller that knows nothing of the slot.
+pub fn effect_of(s: Slot, a: AskedAbout, rows: &[i64]) -> Effect
+    ensures { λ o. ⌜ o ≡ effectOf s (askOf a (now (rows .entry))) ⌝ }
+{
+    effect_known(s, false, a, rows)
 }
