@@ -1,9 +1,10 @@
--- The walk of `about` and `about_at`, the calls that change one record, whatever is asked and however it is passed on:
+-- The walk of `about`, `about_at` and `about_known`, the calls that change one record, whatever is asked and however it
+-- is passed on:
 --     fn call(t: &mut [Record], id: u64, ..) -> Answer {
 --         let s = take(t, id); let o = rule(s, ..); put(t, o.at, o.rec); answered(o)
 --     }
--- `about` takes the slot of an id, and `about_at` the one at a place: #take and `slot-of` say which. The rule makes an
--- effect of the slot, the effect's record is stored at its place, and that is what is promised (`done`). The walk has a
+-- `about` takes the slot of an id, and the other two the one at a place: #take and `slot-of` say which. What the rule
+-- asks of its caller (Q), the call asks of its own, of the slot that it takes. The rule makes an effect of the slot, the effect's record is stored at its place, and that is what is promised (`done`). The walk has a
 -- step for each statement: `let-s`, `let-o`, `put-o` and `answer`.
 --     function     the MIR of the shape
 --     ended, clauses    its signature, and what it promises
@@ -55,10 +56,10 @@ use Rattle.desk.proofs.Row.{R, table-ty, word, S, effect-ty, effect-val
 use Rattle.desk.proofs.Row.{makes-answer}
 use Rattle.desk.proofs.Frame.{Addresses, Locals, of-types, env-of, entry, held, holding, Within as In-frame}
 use Rattle.desk.proofs.Frame.{frame, value}
-use Rattle.desk.proofs.Meeting.{changes}
+use Rattle.desk.proofs.Meeting.{changes, Granted}
 use Rattle.desk.proofs.Meeting as Meeting
-use Rattle.desk.proofs.Passing.{Passing, taken, copies, OfSlot, rule-ended, rule-clauses, Rule, to-rule, Others}
-use Rattle.desk.proofs.Passing.{goes-rule}
+use Rattle.desk.proofs.Passing.{Passing, taken, copies, OfSlot, NeedOfSlot, rule-ended, rule-clauses-where}
+use Rattle.desk.proofs.Passing.{RuleWhere, to-rule, Others, goes-rule-where}
 use Rattle.desk.proofs.Lending.{ℓt, Lending, rref, wref, Lends, lent}
 use Rattle.desk.proofs.Calls.{Taken, Put, Answered, Owned, returned, taking, putting-effect, answering, takes}
 use Rattle.desk.proofs.Calls.{effect-spelled, puts-effect, answers}
@@ -123,8 +124,11 @@ module _ {n : ℕ} (Y : Passing n) (#take : Name) (slot-of : List Record → ℕ
   abbrev pub ended : Ended
   ended = Meeting.ended changes (taken Y) N.the-row
 
-  abbrev pub clauses : Ends → {M : Type 1} (𝓤 : URA M) → Clauses 𝓤 ended
-  clauses K 𝓤 = Meeting.clauses changes (taken Y) N.the-row (promises K) 𝓤
+  abbrev need : NeedOfSlot Y O.the-row → Meeting.NeedsOf changes (taken Y) N.the-row
+  need Q κs x a = Q (κs .1) (slot-of (now x) (a .0)) (Y .to κs (a .1))
+
+  abbrev pub clauses : NeedOfSlot Y O.the-row → Ends → {M : Type 1} (𝓤 : URA M) → Clauses 𝓤 ended
+  clauses Q K 𝓤 = Meeting.clauses-where changes (taken Y) N.the-row (need Q) (promises K) 𝓤
 
   -- ---- what is asked of the locals
   module _ {M : Type 1} (𝓤 : URA M) (H : Heap 𝓤) (E : Env 𝓤 H) (cs : Locals) (b o : ℕ) (ys : List Record) (id : ℕ)
@@ -152,7 +156,7 @@ module _ {n : ℕ} (Y : Passing n) (#take : Name) (slot-of : List Record → ℕ
       pub answer-in : In-frame E 0
       pub answer-is : spotOf 𝓤 H E 0 .0 ≡ N′.mir
 
-  module _ (F : OfSlot Y O.the-row) (K : Ends)
+  module _ (Q : NeedOfSlot Y O.the-row) (F : OfSlot Y O.the-row) (K : Ends)
       (done : (t : List Record) (κs : Lfts (suc n)) (id : ℕ) (a : Denots (typesAt (Y .call .slots) κs))
       → let o = F (κs .1) (slot-of t id) (Y .to κs a) in
       K κs id a t (answerOf o) (set t (o .at) (o .rec))) (#rule : Name)
@@ -230,8 +234,9 @@ module _ {n : ℕ} (Y : Passing n) (#take : Name) (slot-of : List Record → ℕ
 
           module _ (room : Room R (length ys)) (gi : id < 2 ^ 64) (st : Stands 𝓤 H E cs b o ys id effect)
               (operands : Operands) (fm : FmC 𝓤 H (W .laws) C)
+              (grant : Granted (Q (κs .1) slot (Y .to κs a)))
               (known-take : Triple 𝓤 (C #take) (Taken slot-of 𝓤 H A)) (known-rule : Triple 𝓤 (C #rule)
-              (Rule Y O.the-row F 𝓤 H A))
+              (RuleWhere Y O.the-row Q F 𝓤 H A))
               (known-put : Triple 𝓤 (C #put) (Put 𝓤 H A mem run))
               (known-answered : Triple 𝓤 (C #answered) (Answered 𝓤 H A mem run)) where
             -- let s = take(t, id);
@@ -248,9 +253,10 @@ module _ {n : ℕ} (Y : Passing n) (#take : Name) (slot-of : List Record → ℕ
             let-o w is k =
                 -- [the frame; t; its token; the tokens; what the others own]
                 move ! (0 ∷ 3 ∷ 4 ∷ []) $
-                consults-lent 𝓤 H A W (rule-ended Y O.the-row) (rule-clauses Y O.the-row F 𝓤)
+                consults-lent 𝓤 H A W (rule-ended Y O.the-row) (rule-clauses-where Y O.the-row Q F 𝓤)
                 (to-rule Y O.the-row F 𝓤 H A κs qs a slot w) tt fm known-rule Rest
-                (taken Y .twice 𝓤 H A W κs (id, a) _) (goes-rule Y O.the-row F 𝓤 H A κs qs a slot W id w is) effect
+                (taken Y .twice 𝓤 H A W κs (id, a) _) (goes-rule-where Y O.the-row F 𝓤 H A κs qs a slot Q grant W id w is)
+                effect
                 (λ r e. id⊢ 𝓤 _)
                 (λ r v iv. subst (λ (τ : Ty). T (hasTy τ v) × WT v) (sym (st .o-effect)) (typed-effect 𝓤 H A W r v iv))
                 (st .o-in) (operands w _) (λ u iu.
@@ -278,7 +284,7 @@ module _ {n : ℕ} (Y : Passing n) (#take : Name) (slot-of : List Record → ℕ
 
       -- what a call shows of its own locals, where its parameters are written out
       module _ (𝓣 : Tables 𝓤 H) (known-take : Triple 𝓤 (𝓣 .C #take) (Taken slot-of 𝓤 H A))
-          (known-rule : Triple 𝓤 (𝓣 .C #rule) (Rule Y O.the-row F 𝓤 H A))
+          (known-rule : Triple 𝓤 (𝓣 .C #rule) (RuleWhere Y O.the-row Q F 𝓤 H A))
           (known-put : Triple 𝓤 (𝓣 .C #put) (Put 𝓤 H A mem run))
           (known-answered : Triple 𝓤 (𝓣 .C #answered) (Answered 𝓤 H A mem run)) where
         abbrev En : Addresses (function #rule .locals) → Env 𝓤 H
@@ -298,16 +304,16 @@ module _ {n : ℕ} (Y : Passing n) (#take : Name) (slot-of : List Record → ℕ
               → Operands κs qs x id a (En ls) (first κs x id a) (𝓣 .C) (𝓣 .Λ)
 
         pub meets : Located → Meets 𝓤 H A (ended .signature) (WpFn 𝓤 H (𝓣 .C) (𝓣 .Λ) (function #rule))
-            (closing 𝓤 H A ended (clauses K 𝓤))
+            (closing 𝓤 H A ended (clauses Q K 𝓤))
         meets at =
-            Meeting.meets changes (taken Y) N.the-row (promises K) 𝓤 H A W 𝓣 (function #rule) (record {
+            Meeting.meets-where changes (taken Y) N.the-row (promises K) 𝓤 H A W 𝓣 (function #rule) (need Q) (record {
               -- the table fits, the id does, and so does what else is taken
               fits = λ κs x a is are ls. (
                 (tt, (tt, (record { fits = is .0 .1 .0 }, tt))),
                 ((tt, record { fits = are .0 .1 }), Y .fits 𝓤 H A W own-types κs (a .1) (are .1) (ls .1 .1 .1)),
               );
-              goes = λ κs qs x a is are ls. walk κs qs x (a .0) (a .1) (En ls) (first κs x (a .0) (a .1)) (𝓣 .C) (𝓣 .Λ)
+              goes = λ κs qs x a is are grant ls. walk κs qs x (a .0) (a .1) (En ls) (first κs x (a .0) (a .1)) (𝓣 .C) (𝓣 .Λ)
                   (is .0 .1) (are .0 .1) (at .stands κs x (a .0) (a .1) ls (effect κs qs x (a .0) (a .1)))
-                  (at .operands κs qs x (a .0) (a .1) ls) (fmOf 𝓤 H (W .laws) 𝓣) known-take known-rule known-put
+                  (at .operands κs qs x (a .0) (a .1) ls) (fmOf 𝓤 H (W .laws) 𝓣) grant known-take known-rule known-put
                   known-answered;
             })

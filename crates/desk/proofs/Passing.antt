@@ -5,6 +5,7 @@
 --     copies                           the operands that pass it on
 --     rule-ended, rule-clauses, Rule   a rule's contract: what it says of a slot and of what is passed on
 --     to-rule, goes-rule               what the rule is passed, and that the caller has it
+--     NeedOfSlot, RuleWhere, goes-rule-where    the same of a rule that asks something of its caller
 -- Assumes `Given`.
 use mathlib.Core.Path.{_≡_, refl, ap}
 use Prim.Native.Nat.{ℕ, suc}
@@ -18,7 +19,7 @@ use prog.Wp.{Heap}
 use ghost.Atoms.{Atoms, sem}
 use contract.Monad.{fact}
 use contract.Lifetimes.{Lfts, Shares, Within, lftAt, toks}
-use types.Kit.{Given, ‵, raw, _$_, _∵_, !, qed, move, join, fsplit, fjoin, drop, rewrite, frame as framed, done}
+use types.Kit.{Given, ‵, raw, _$_, _∵_, !, qed, move, join, fsplit, fjoin, drop, rewrite, use0, frame as framed, done}
 use denote.RattleType.{RattleType, Denots, Valss, owns, flat}
 use denote.Memory.{pointee}
 use denote.Laws.{Is, Ises, Are, valss}
@@ -33,7 +34,7 @@ use Rattle.record_answers.specs.declared.Slot.{Slot}
 use Rattle.desk.proofs.Row.{S, makes-slot}
 use Rattle.desk.proofs.Frame.{Addresses, of-types, env-of, Fits}
 use Rattle.desk.proofs.Plain.{Plain, PlainLaws, number, number-laws}
-use Rattle.desk.proofs.Meeting.{Staying}
+use Rattle.desk.proofs.Meeting.{Staying, Need, none-asked, Granted, requirement, grants}
 use Rattle.desk.proofs.Meeting as Meeting
 use Rattle.desk.proofs.Asks.{Callee}
 
@@ -126,6 +127,20 @@ module _ {n : ℕ} (Y : Passing n) (X : RattleType) where
   rule-clauses F 𝓤 κs a =
       record { ghost = Unit {0}; requires = λ _. emp 𝓤; ensures = λ _ r _. fact 𝓤 (r ≡ F κs (a .0) (a .1)) }
 
+  -- what the rule asks of its caller
+  abbrev pub NeedOfSlot : Type 1
+  NeedOfSlot = (κs : Lfts n) → Slot → Denots (typesAt (Y .rule .slots) κs) → Need
+
+  abbrev pub rule-clauses-where : NeedOfSlot → OfSlot → {M : Type 1} (𝓤 : URA M) → Clauses 𝓤 rule-ended
+  rule-clauses-where Q F 𝓤 κs a = record {
+    ghost = Unit {0};
+    requires = λ _. requirement 𝓤 (Q κs (a .0) (a .1));
+    ensures = λ _ r _. fact 𝓤 (r ≡ F κs (a .0) (a .1));
+  }
+
+  abbrev pub RuleWhere : NeedOfSlot → OfSlot → {M : Type 1} (𝓤 : URA M) (H : Heap 𝓤) → Atoms 𝓤 → Contract 𝓤
+  RuleWhere Q F 𝓤 H A = Callee 𝓤 H A rule-ended (rule-clauses-where Q F 𝓤)
+
   module _ (F : OfSlot) {M : Type 1} (𝓤 : URA M) (H : Heap 𝓤) (A : Atoms 𝓤) where
     abbrev pub Rule : Contract 𝓤
     Rule = Callee 𝓤 H A rule-ended (rule-clauses F 𝓤)
@@ -143,11 +158,20 @@ module _ {n : ℕ} (Y : Passing n) (X : RattleType) where
       Others id =
           owns (typesAt (taken Y .slots) κs) (id, a) (valss (typesAt (taken Y .slots) κs) (taken Y .vals κs) (id, a))
 
-      pub goes-rule : Given 𝓤 H A → (id : ℕ) (w : Val) → Is S slot (w ∷ [])
-          → ent 𝓤 (sep 𝓤 (toks 𝓤 A n (κs .1) (qs .1)) (sem 𝓤 H A (Others id))) (Rule .pre (to-rule w, tt))
-      goes-rule W id w is =
-          qed W (raw (toks 𝓤 A n (κs .1) (qs .1)) ∷ ‵ (Others id) ∷ []) ∵ move ! (1 ∷ []) $ fsplit ! $ drop ! $
+      pub goes-rule-where : (Q : NeedOfSlot) → Granted (Q (κs .1) slot (Y .to κs a)) → Given 𝓤 H A → (id : ℕ) (w : Val)
+          → Is S slot (w ∷ [])
+          → ent 𝓤 (sep 𝓤 (toks 𝓤 A n (κs .1) (qs .1)) (sem 𝓤 H A (Others id)))
+          (RuleWhere Q F 𝓤 H A .pre (to-rule w, tt))
+      goes-rule-where Q grant W id w is =
+          qed W (raw (toks 𝓤 A n (κs .1) (qs .1)) ∷ ‵ (Others id) ∷ []) ∵
+          use0 W (raw (requirement 𝓤 (Q (κs .1) slot (Y .to κs a)))) (grants 𝓤 (Q (κs .1) slot (Y .to κs a)) grant) $
+          -- [what is asked; the tokens; what the parameters own]
+          move ! (2 ∷ []) $ fsplit ! $ drop ! $
           rewrite ! 0 (λ (P : Fml). ‵ P) (Y .same κs a) refl $
           owned ! S (Is S) (makes-slot 𝓤 H A) slot (w ∷ []) is $ fjoin ! $
-          -- [what the rule's parameters own; the tokens]
-          move ! (1 ∷ 0 ∷ []) $ join ! $ framed ! $ done !
+          -- [what the rule's parameters own; what is asked; the tokens]
+          move ! (2 ∷ 0 ∷ []) $ join ! $ framed ! $ done !
+
+      pub goes-rule : Given 𝓤 H A → (id : ℕ) (w : Val) → Is S slot (w ∷ [])
+          → ent 𝓤 (sep 𝓤 (toks 𝓤 A n (κs .1) (qs .1)) (sem 𝓤 H A (Others id))) (Rule .pre (to-rule w, tt))
+      goes-rule = goes-rule-where (λ κs s a. none-asked) tt

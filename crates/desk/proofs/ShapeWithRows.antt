@@ -32,7 +32,8 @@ use Rattle.record_answers.proofs.Effect as O
 use Rattle.desk.proofs.Frame.{value}
 use Rattle.desk.proofs.Calls.{Taken, Put, Answered}
 use Rattle.desk.proofs.Plain.{Plain, PlainLaws}
-use Rattle.desk.proofs.Passing.{Passing, OfSlot, no-more, and-plain, and-slice}
+use Rattle.desk.proofs.Meeting.{none-asked}
+use Rattle.desk.proofs.Passing.{Passing, OfSlot, NeedOfSlot, no-more, and-plain, and-slice}
 use Rattle.desk.proofs.Passing as Passing
 use Rattle.desk.proofs.Changing as Changing
 use Rattle.desk.proofs.put.Symbol.{name as #put}
@@ -60,8 +61,12 @@ module _ (P : Plain) (L : PlainLaws P) where
     abbrev pub ended : Ended
     ended = Changing.ended taken #take slot-of
 
+    -- nothing is asked of the caller
+    abbrev unasked : NeedOfSlot taken O.the-row
+    unasked κs s a = none-asked
+
     abbrev pub clauses : Ends → {M : Type 1} (𝓤 : URA M) → Clauses 𝓤 ended
-    clauses K 𝓤 = Changing.clauses taken #take slot-of (ends K) 𝓤
+    clauses K 𝓤 = Changing.clauses taken #take slot-of unasked (ends K) 𝓤
 
     module _ (ask : P .D → List ℤ → Ask) (#rule : Name) {M : Type 1} (𝓤 : URA M) (H : Heap 𝓤) (A : Atoms 𝓤) where
       abbrev effect-of : OfSlot taken O.the-row
@@ -80,7 +85,7 @@ module _ (P : Plain) (L : PlainLaws P) where
           → Meets 𝓤 H A (ended .signature) (WpFn 𝓤 H (𝓣 .C) (𝓣 .Λ) (Changing.function taken #take slot-of #rule))
           (closing 𝓤 H A ended (clauses K 𝓤))
       meets K done W mem run 𝓣 known-take known-rule known-put known-answered =
-          Changing.meets taken #take slot-of effect-of (ends K) (λ t κs id a. done t id (a .0) (now (a .1 .0))) #rule 𝓤
+          Changing.meets taken #take slot-of unasked effect-of (ends K) (λ t κs id a. done t id (a .0) (now (a .1 .0))) #rule 𝓤
           H A W mem run 𝓣 known-take known-rule known-put known-answered (record {
             stands = λ κs x id a ls r. search;
             operands = λ κs qs x id a ls w Δ. and-then ! (value ! (Changing.ℓs taken #take slot-of) refl) (and-then !

@@ -2,7 +2,7 @@
 -- proofs/Guesses says what a guess is worth.
 use mathlib.Core.Path.{_≡_}
 use mathlib.Core.Logic.{_≢_}
-use mathlib.Core.Bool.{Bool, _&&_}
+use mathlib.Core.Bool.{Bool, _&&_, _||_}
 use mathlib.Core.List.{List}
 use Prim.Native.Nat.{ℕ, _<_}
 use lib.Dec.{ltb, eqb}
@@ -13,6 +13,7 @@ use Rattle.paper.specs.Lists.{pick}
 use Rattle.paper_desk.specs.Desk.{Ask, blank, place}
 use Rattle.record_answers.specs.declared.Slot.{Slot}
 use Rattle.record_answers.specs.Effects.{holds, effectOf, doneBy}
+use Rattle.record_calls.specs.Good.{isGood}
 
 -- the slot at a place; past the end, what is found of an id that no slot has
 unfoldable pub slotAt : List Record → (i : ℕ) → Slot
@@ -28,6 +29,10 @@ isOf s id = holds s && eqb (s .rec .id) id
 -- id 0 is no security's
 unfoldable pub placeNear : List Record → (guess id : ℕ) → ℕ
 placeNear t guess id = pick (eqb id 0) (length t) (pick (isOf (slotAt t guess) id) guess (place t id))
+
+-- whether the slot at a place is good, where the caller does not know it already
+unfoldable pub goodAt : List Record → (i : ℕ) → (known : Bool) → Bool
+goodAt t i known = known || isGood (slotAt t i)
 
 -- A SOUND GUESS: no slot before it has its id, but for an empty one. A place past the end is one too
 abbrev pub First : List Record → (i : ℕ) → Type 0

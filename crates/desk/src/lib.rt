@@ -6,12 +6,14 @@ use paper::Answer;
 use paper::AskedAbout;
 use paper::Record;
 use record_answers::Slot;
+use record_calls::good::is_good;
 ghost use mathlib.Core.Path.{_≡_};
+ghost use mathlib.Core.Bool.{true};
 ghost use lib.ListN.{set};
 ghost use Rattle.paper_desk.specs.Desk.{Call, askOf, place};
-ghost use Rattle.record_answers.specs.Effects.{slotOf};
+ghost use Rattle.record_answers.specs.Effects.{slotOf, isKnown};
 ghost use Rattle.desk.specs.Promises.{Promised};
-ghost use Rattle.desk.specs.Guesses.{slotAt, isOf, placeNear, DoneAt};
+ghost use Rattle.desk.specs.Guesses.{slotAt, isOf, placeNear, goodAt, DoneAt};
 
 // "id 0 marks an empty slot"
 const EMPTY: u64 = 0;
@@ -75,6 +77,17 @@ pub fn place_near(t: &[Record], guess: usize, id: u64) -> usize
     place_of(t, id)
 }
 
+// Whether the slot at a place is good. Where the caller knows that it is, nothing is tested.
+pub fn good_at(t: &[Record], at: usize, known: bool) -> bool
+    ensures { λ r. ⌜ r ≡ goodAt (now (t .entry)) at known ⌝ }
+{
+    if known {
+        return known;
+    }
+    let s = take_at(t, at);
+    is_good(s)
+}
+
 // The record is stored at a place. Past the end nothing is.
 pub fn put(t: &mut [Record], i: usize, r: Record)
     ensures { λ _. ⌜ now (t .exit) ≡ set (now (t .entry)) i r ⌝ }
@@ -111,6 +124,17 @@ pub fn about_at(t: &mut [Record], at: usize, a: AskedAbout, rows: &[i64]) -> Ans
 {
     let s = take_at(t, at);
     let o = record_calls::effect_of(s, a, rows);
+    put(t, o.at, o.rec);
+    record_answers::answered(o)
+}
+
+// The same, for a caller that may know that the slot there is known: its record is then not tested once more.
+pub fn about_known(t: &mut [Record], at: usize, known: bool, a: AskedAbout, rows: &[i64]) -> Answer
+    requires { ⌜ (known ≡ true → isKnown (slotAt (now t) at) ≡ true) ⌝ }
+    ensures { λ r. ⌜ DoneAt at (askOf a (now (rows .entry))) (now (t .entry)) r (now (t .exit)) ⌝ }
+{
+    let s = take_at(t, at);
+    let o = record_calls::effect_known(s, known, a, rows);
     put(t, o.at, o.rec);
     record_answers::answered(o)
 }
