@@ -1,6 +1,6 @@
 // What a line asks for goes to the desk. Where it is asked why of an evaluation, `desk_reasons` says it first, on the
 // table as it stands; then the call is performed. Nothing here looks into an answer or a reason.
-use desk::about_at;
+use desk::about_known;
 use desk::admit;
 use desk_reasons::why_asked;
 use paper::Answer;
@@ -13,6 +13,9 @@ use text_protocol::Explained;
 use text_protocol::Performed;
 use text_protocol::Role;
 ghost use mathlib.Core.Path.{_≡_};
+ghost use mathlib.Core.Bool.{true};
+ghost use Rattle.record_answers.specs.Effects.{isKnown};
+ghost use Rattle.desk.specs.Guesses.{slotAt};
 ghost use Rattle.text_ask.specs.WithReasons.{noReason, because, explained, unasked, idAsked};
 ghost use Rattle.text_ask.specs.WithReasons.{DoneOf, AsksAt};
 
@@ -32,14 +35,15 @@ pub fn id_asked(a: Ask) -> u64
     }
 }
 
-// A call goes to the public call of the desk that it is. The security that it asks about stands at a place, which the
-// caller has found. Every table is taken, and nothing is refused here: the desk's call refuses.
-fn perform(t: &mut [Record], at: usize, c: AskedCall, rows: &[i64]) -> Answer
+// A call goes to the call of the desk that it is. The security that it asks about stands at a place, which the caller
+// has found, and may know to be a known one. Every table is taken, and nothing is refused here: the desk's call refuses.
+fn perform(t: &mut [Record], at: usize, known: bool, c: AskedCall, rows: &[i64]) -> Answer
+    requires { ⌜ (known ≡ true → isKnown (slotAt (now t) at) ≡ true) ⌝ }
     ensures { λ r. ⌜ DoneOf at c (now (rows .entry)) (now (t .entry)) r (now (t .exit)) ⌝ }
 {
     match c {
         AskedCall::Admit(a) => return admit(t, a),
-        AskedCall::About(_, x) => return about_at(t, at, x, rows),
+        AskedCall::About(_, x) => return about_known(t, at, known, x, rows),
     }
 }
 
@@ -74,7 +78,8 @@ fn unasked() -> Performed
 // What the desk says to what a line asks for. Only a call in the role of an evaluation has reasons, and they are asked
 // before the table changes. A line that is no call of the desk leaves the table as it is. `perform` is called at one
 // place, so that it is no call of the machine's, which would copy what goes in and out.
-pub fn ask(t: &mut [Record], at: usize, a: Ask, rows: &[i64], asked: bool) -> Performed
+pub fn ask(t: &mut [Record], at: usize, known: bool, a: Ask, rows: &[i64], asked: bool) -> Performed
+    requires { ⌜ (known ≡ true → isKnown (slotAt (now t) at) ≡ true) ⌝ }
     ensures { λ r. ⌜ AsksAt at asked a (now (rows .entry)) (now (t .entry)) r (now (t .exit)) ⌝ }
 {
     let Ask::Call(c) = a else {
@@ -89,6 +94,6 @@ pub fn ask(t: &mut [Record], at: usize, a: Ask, rows: &[i64], asked: bool) -> Pe
             why = reason;
         }
     }
-    let answer = perform(t, at, c, rows);
+    let answer = perform(t, at, known, c, rows);
     with_why(answer, why)
 }

@@ -5,6 +5,7 @@ mod Joining
 pub mod Arrays
 mod Hears
 mod Finds
+mod Keeping
 mod Noted
 mod Performs
 mod Tells

@@ -3,7 +3,7 @@
 -- and knows what the desk said. Assumes `Given`, and that the table's entries meet the contracts.
 use mathlib.Core.Path.{_≡_, refl, sym, ap, subst}
 use mathlib.Core.Option.{some}
-use mathlib.Core.Bool.{Bool}
+use mathlib.Core.Bool.{Bool, true}
 use Prim.Native.Nat.{ℕ, _<_, _^_}
 use mathlib.Core.List.{List, [], _∷_}
 use lib.Dec.{T}
@@ -36,8 +36,11 @@ use denote.Triple.Statement.{Contract, Triple}
 use denote.Triple.Bound.{Bound}
 use denote.Triple.Call.{calls-at}
 use denote.Triple.Spec.{tripleOf}
+use denote.Triple.Walked.{says}
 use denote.Triple.Clauses.{ensured, lasts}
 use Rattle.paper.specs.declared.Record.{Record}
+use Rattle.record_answers.specs.Effects.{isKnown}
+use Rattle.desk.specs.Guesses.{slotAt}
 use Rattle.desk.proofs.Row.{R}
 use Rattle.desk.proofs.Frame.{Locals, holding, Within, frame, sets}
 use Rattle.desk.proofs.Asks.{calls}
@@ -167,15 +170,19 @@ module _ {M : Type 1} (𝓤 : URA M) (H : Heap 𝓤) (A : Atoms 𝓤) (mem′ : 
 
   -- ---- `ask`
   module _ (W : Given 𝓤 H A) (κ α : Lft) (q : Share) (b o : ℕ) (γ : GName) (ys : List Record) (at : ℕ)
-      (at-fits : at < 2 ^ 64) (f : RefT (List ℤ)) (l : Asked) (asked : Bool) (gl : Is B.the-row l (ask-val l ∷ []))
+      (at-fits : at < 2 ^ 64) (sure : Bool) (grant : sure ≡ true → isKnown (slotAt ys at) ≡ true)
+      (f : RefT (List ℤ)) (l : Asked) (asked : Bool) (gl : Is B.the-row l (ask-val l ∷ []))
     where
       abbrev to-ask : Bound 𝓤 H A ask.signature
       to-ask = (
         (κ, (α, tt)),
         (q, (fullShare, tt)),
         tt,
-        (ref b o γ ys, (at, (l, (f, (asked, tt))))),
-        (machine b o ys ∷ [], (vint w64 at ∷ [], (ask-val l ∷ [], (figures-val f ∷ [], (vbool asked ∷ [], tt))))),
+        (ref b o γ ys, (at, (sure, (l, (f, (asked, tt)))))),
+        (
+          machine b o ys ∷ [],
+          (vint w64 at ∷ [], (vbool sure ∷ [], (ask-val l ∷ [], (figures-val f ∷ [], (vbool asked ∷ [], tt))))),
+        ),
       )
 
       -- the table and the row figures, each with the token of its lifetime
@@ -188,27 +195,27 @@ module _ {M : Type 1} (𝓤 : URA M) (H : Heap 𝓤) (A : Atoms 𝓤) (mem′ : 
           qed W (HandedToAsk ∷ []) ∵ split ! $
           split ! $ move ! (2 ∷ []) $ split ! $
           -- [the figures; their token; t; its token]
-          nothing ! $ move ! (2 ∷ 0 ∷ []) $ join ! $ move ! (3 ∷ 0 ∷ []) $ join ! $
-          -- [the tokens; the figures; t]
+          says ! grant $ nothing ! $ move ! (2 ∷ 0 ∷ []) $ join ! $ move ! (3 ∷ 0 ∷ []) $ join ! $ framed ! $
+          -- [the figures; t]
           nothing ! $ owned ! bool (Is bool) (bool-makes 𝓤 H A W) asked (vbool asked ∷ []) refl $ fjoin ! $
-          move ! (2 ∷ 0 ∷ []) $ fjoin ! $
+          move ! (1 ∷ 0 ∷ []) $ fjoin ! $
           owned ! B.the-row (Is B.the-row) (EL.makes B.the-type B′.the-plain 𝓤 H A) l (ask-val l ∷ []) gl $ fjoin ! $
+          owned ! bool (Is bool) (bool-makes 𝓤 H A W) sure (vbool sure ∷ []) refl $ fjoin ! $
           owned ! usize (Is usize) (uint-makes 𝓤 H A W w64) at _ (refl, at-fits) $ fjoin ! $
-          move ! (2 ∷ 0 ∷ []) $ fjoin ! $
-          move ! (1 ∷ 0 ∷ []) $ join ! $ framed ! $ done !
+          move ! (1 ∷ 0 ∷ []) $ fjoin ! $ done !
 
       -- what is ensured of what the desk said
       abbrev Ensured : Performed → Item 𝓤
-      Ensured a = some′ (λ (zs : List Record × (Unit {0} × (Unit {0} × (Unit {0} × (Unit {0} × Unit {0}))))).
+      Ensured a = some′ (λ (zs : List Record × (Unit {0} × (Unit {0} × (Unit {0} × (Unit {0} × (Unit {0} × Unit {0})))))).
           ‵ (fsep (fsep (finally R γ (zs .0)) (feq ℕ (length (zs .0)) (length ys)))
-          (fsep ftrue (fsep ftrue (fsep ftrue (fsep ftrue ftrue)))))
+          (fsep ftrue (fsep ftrue (fsep ftrue (fsep ftrue (fsep ftrue ftrue))))))
           ⊛ raw (fact 𝓤 (AsksAt at asked l (f .now) ys a (zs .0))))
 
       module _ {Γ : List (Item 𝓤)} {E : Env 𝓤 H} {cs : Locals} {C : Calls 𝓤 H} {Λ : Loops 𝓤 H} {post : Post 𝓤 H}
           {args : List Operand} {d : ℕ} {rest : Code} where
         pub asks : FmC 𝓤 H (W .laws) C → Triple 𝓤 (C ask-def.name) Ask → Within E d → spotOf 𝓤 H E d .0 ≡ F′.mir
             → ((Δ : List (Item 𝓤)) → Opds (Go {0}) W (frame H E cs ∷ Δ) E args
-            (machine b o ys ∷ vint w64 at ∷ ask-val l ∷ figures-val f ∷ vbool asked ∷ []))
+            (machine b o ys ∷ vint w64 at ∷ vbool sure ∷ ask-val l ∷ figures-val f ∷ vbool asked ∷ []))
             → ((zs : List Record) (a : Performed) (w : Val) → length zs ≡ length ys
             → AsksAt at asked l (f .now) ys a zs
             → Is F.the-row a (w ∷ [])

@@ -1,18 +1,20 @@
 // A turn of the evening on a lent table, and every turn: a line of standard input is heard, performed on the table and
 // answered.
 ghost use mathlib.Core.Path.{_≡_};
-ghost use Prim.Native.Nat.{_+_, _≤_};
+ghost use Prim.Native.Nat.{_+_, _-_, _≤_};
+ghost use lib.Dec.{eqb};
 ghost use lib.ListN.{length, take, drop, replicate, getD, set};
 ghost use Rattle.paper_desk.specs.Desk.{blank};
 ghost use Rattle.text_input.specs.Input.{Stands};
 ghost use Rattle.text_turn.specs.Turn.{Prepares};
 ghost use Rattle.text_serve.specs.Serve.{Turns, Serves};
-ghost use Rattle.text_serve.specs.Places.{placesMost, entryOf, Sound};
+ghost use Rattle.text_serve.specs.Places.{placesMost, entryOf, noteOf, Sound};
 ghost use Rattle.text_bytes.specs.Bytes.{room};
 ghost use Rattle.text_protocol.specs.Answers.{answerMost};
 ghost use Rattle.text_protocol.specs.Line.{keptMost};
 ghost use Rattle.text_protocol.specs.Names.{evaluateCount};
 ghost use Rattle.paper.specs.Numbers.{slotsMost};
+use desk::good_at;
 use desk::place_near;
 use libc::STDERR_FILENO;
 use paper::Record;
@@ -56,7 +58,7 @@ fn entry_of(id: u64) -> usize
     (id % RESTS) as usize
 }
 
-// Where an id was found last, or another with its entry.
+// What is noted of an id, or of another with its entry: 0, or one more than a place whose slot is good.
 fn guess_in(places: &[usize; PLACES], id: u64) -> usize
     ensures { λ r. ⌜ r ≡ getD (now (places .entry)) (entryOf id) 0 ⌝ }
 {
@@ -64,16 +66,47 @@ fn guess_in(places: &[usize; PLACES], id: u64) -> usize
     places[k]
 }
 
-// Notes where an id was found.
-fn note_in(places: &mut [usize; PLACES], id: u64, at: usize)
-    ensures { λ _. ⌜ now (places .exit) ≡ set (now (places .entry)) (entryOf id) at ⌝ }
+// The place that is noted; the first slot where none is.
+fn place_noted(noted: usize) -> usize
+    ensures { λ r. ⌜ r ≡ noted - 1 ⌝ }
+{
+    if noted == 0 {
+        return 0;
+    }
+    noted - 1
+}
+
+// Whether a place is the one that is noted.
+fn is_noted(noted: usize, at: usize) -> bool
+    ensures { λ r. ⌜ r ≡ eqb noted (at + 1) ⌝ }
+{
+    if noted == 0 {
+        return false;
+    }
+    noted - 1 == at
+}
+
+// What there is to note of a place: nothing where its slot is not good.
+fn note_of(at: usize, good: bool) -> usize
+    ensures { λ r. ⌜ r ≡ noteOf at good ⌝ }
+{
+    if good & (at < usize::MAX) {
+        return at + 1;
+    }
+    0
+}
+
+// Notes it of an id.
+fn note_in(places: &mut [usize; PLACES], id: u64, note: usize)
+    ensures { λ _. ⌜ now (places .exit) ≡ set (now (places .entry)) (entryOf id) note ⌝ }
 {
     let k = entry_of(id);
-    places[k] = at;
+    places[k] = note;
 }
 
 // One line: heard, asked of the desk, answered. The place of the security that it asks about is guessed, and noted for
-// the next line about it. The numbers of the line have a lifetime of their own.
+// the next line about it where its slot is good: that line finds it without a search, and its record is not tested once
+// more. The numbers of the line have a lifetime of their own.
 pub fn step<'a, 'b>(
     t: &'a mut [Record],
     buf: &'a mut [u8; ROOM],
@@ -88,10 +121,14 @@ pub fn step<'a, 'b>(
 {
     let p = hear_in(buf, xs, s);
     let id = id_asked(p.ask);
-    let guess = guess_in(places, id);
+    let noted = guess_in(places, id);
+    let guess = place_noted(noted);
     let at = place_near(t, guess, id);
-    note_in(places, id, at);
-    let a = ask(t, at, p.ask, rows_in(xs, p.count), p.asked);
+    let known = is_noted(noted, at);
+    let good = good_at(t, at, known);
+    let note = note_of(at, good);
+    note_in(places, id, note);
+    let a = ask(t, at, good, p.ask, rows_in(xs, p.count), p.asked);
     tell(out, p, a)
 }
 
@@ -102,7 +139,7 @@ fn no_numbers() -> [i64; KEPT]
     [0; KEPT]
 }
 
-// No place is noted: the first slot is a sound guess of every table.
+// No place is noted.
 fn no_places() -> [usize; PLACES]
     ensures { λ r. ⌜ r ≡ replicate placesMost 0 ⌝ }
 {
