@@ -12,7 +12,7 @@ use Rattle.paper_desk.specs.Sides.{showsRecord}
 use Rattle.paper_desk.specs.Desk.{Ask, evaluating, quoting, moving, reading, opening, receiving, nearOn, evaluated}
 use Rattle.paper_desk.specs.Desk.{quoted, moved, eveningOpened, received, ruleOf, checksOn}
 use Rattle.demands.specs.Demands.{orderAsked, FiguresHold}
-use Rattle.demands.proofs.Good.{evaluated-good, quoted-good, moved-good, opened-good, received-good}
+use Rattle.paper_kept.proofs.Made.{made-good}
 use Rattle.demands.proofs.Sequences.{evaluated-figures, accepted-term-below-three, quoted-figures, move-live}
 use Rattle.demands.proofs.Sequences.{moved-figures, read-figures, opened-figures, received-figures}
 
@@ -39,7 +39,7 @@ unfolding evaluated quoted moved eveningOpened received
 ask-holds (evaluating d rows) =
     record {
       order = λ there r. refl;
-      good = λ r v n. evaluated-good r d rows v n;
+      good = made-good (evaluating d rows);
       figures = λ a es r k near n. evaluated-figures a es r k d rows;
       three-near = λ r near. refl;
       evaluation-shows = refl;
@@ -48,7 +48,7 @@ ask-holds (evaluating d rows) =
 ask-holds (quoting q) =
     record {
       order = λ there r. refl;
-      good = λ r v n. quoted-good r q v n;
+      good = made-good (quoting q);
       figures = λ a es r k near n. quoted-figures a es r q k (accepted-term-below-three r q n) near;
       three-near = λ r near. length-set (r .near) (q .term) (nearOn r q) ∙ near;
       evaluation-shows = tt;
@@ -57,7 +57,7 @@ ask-holds (quoting q) =
 ask-holds (moving side) =
     record {
       order = λ there r. refl;
-      good = λ r v n. moved-good r side v n;
+      good = made-good (moving side);
       figures = λ a es r k near n. moved-figures a es r side k (move-live r side n);
       three-near = λ r near. refl;
       evaluation-shows = tt;
@@ -66,7 +66,7 @@ ask-holds (moving side) =
 ask-holds reading =
     record {
       order = λ there r. refl;
-      good = λ r v n. v;
+      good = made-good reading;
       figures = λ a es r k near n. read-figures a es r k;
       three-near = λ r near. near;
       evaluation-shows = tt;
@@ -75,7 +75,7 @@ ask-holds reading =
 ask-holds opening =
     record {
       order = λ there r. refl;
-      good = λ r v n. opened-good r v;
+      good = made-good opening;
       figures = λ a es r k near n. opened-figures a es r k;
       three-near = λ r near. refl;
       evaluation-shows = tt;
@@ -84,7 +84,7 @@ ask-holds opening =
 ask-holds (receiving x) =
     record {
       order = λ there r. refl;
-      good = λ r v n. received-good r x v;
+      good = made-good (receiving x);
       figures = λ a es r k near n. received-figures a es r x k;
       three-near = λ r near. near;
       evaluation-shows = tt;

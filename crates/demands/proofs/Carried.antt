@@ -26,8 +26,8 @@ use Rattle.demands.specs.Demands.{FiguresHold}
 use Rattle.paper.proofs.Logic.{and-left, pick-true}
 use Rattle.paper_desk.proofs.Volatility.{valid-weighs, move-rounded}
 use Rattle.paper_desk.proofs.CarriedOn.{carried-near}
-use Rattle.demands.proofs.Sound.{Parts, sound-has-parts}
-use Rattle.demands.proofs.Good.{good-sound}
+use Rattle.paper_kept.proofs.Sound.{Parts, sound-has-parts}
+use Rattle.paper_kept.proofs.Good.{good-sound}
 use Rattle.demands.proofs.Histories.{recordOf, Lawful}
 use Rattle.demands.proofs.Known.{lawful-good}
 use Rattle.demands.proofs.Figures.{lawful-figures, lawful-statics}

@@ -25,7 +25,7 @@ use Rattle.paper_desk.specs.Sequences.{carriesThen, externalNow}
 use Rattle.demands.specs.Demands.{FiguresHold, RatesHold}
 use Rattle.paper.proofs.Logic.{not-true-and-false}
 use Rattle.paper_desk.proofs.Level.{level-rate-is}
-use Rattle.demands.proofs.Sound.{admitted-statics-valid}
+use Rattle.paper_kept.proofs.Sound.{admitted-statics-valid}
 use Rattle.demands.proofs.Sequences.{admitted-figures}
 use Rattle.demands.proofs.Asks.{ask-holds}
 use Rattle.demands.proofs.Histories.{recordOf, Lawful}

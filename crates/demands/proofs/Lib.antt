@@ -1,7 +1,5 @@
 -- The proofs of the demands and of that order, each file after those that it stands on.
 pub mod InterestCarried
-pub mod Sound
-pub mod Good
 pub mod Sequences
 pub mod Asks
 pub mod Kept

@@ -42,8 +42,8 @@ use Rattle.paper_desk.proofs.Order.{band-around}
 use Rattle.paper_desk.proofs.Others.{other-records-stay}
 use Rattle.paper_desk.proofs.PinnedLaws.{refused-zero, shown-stands, no-record-shown}
 use Rattle.paper_desk.proofs.Refusals.{accepted-only}
-use Rattle.demands.proofs.Sound.{Parts, sound-has-parts}
-use Rattle.demands.proofs.Good.{good-sound}
+use Rattle.paper_kept.proofs.Sound.{Parts, sound-has-parts}
+use Rattle.paper_kept.proofs.Good.{good-sound}
 use Rattle.demands.proofs.Kept.{call-knows}
 use Rattle.demands.proofs.Histories.{recordOf, Lawful}
 use Rattle.demands.proofs.Known.{lawful-good, stays-known}

@@ -22,7 +22,7 @@ use Rattle.demands.specs.Order.{slotAt}
 use Rattle.paper.proofs.Logic.{and-left, and-right, not-false}
 use Rattle.paper_desk.proofs.Others.{holds-after-step}
 use Rattle.paper_desk.proofs.Slots.{known-sound}
-use Rattle.demands.proofs.Sound.{sound-has-parts, stored-holds}
+use Rattle.paper_kept.proofs.Sound.{sound-has-parts, stored-holds}
 use Rattle.demands.proofs.Histories.{recordOf, Lawful}
 
 pub record Made (r : Record) : Type 0 where

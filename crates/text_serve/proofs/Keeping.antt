@@ -1,5 +1,5 @@
 -- A good slot stays good: whatever call is performed leaves it as it was, or writes a good record there (`good-stays`).
--- `demands` says what an accepted call makes of a good record.
+-- `paper_kept` says what an accepted call makes of a good record.
 use mathlib.Core.Path.{_≡_, refl, sym, _∙_, ap, subst}
 use mathlib.Core.Bool.{Bool, true, false, not, _&&_}
 use mathlib.Core.List.{List}
@@ -17,8 +17,8 @@ use Rattle.paper_desk.specs.Desk.{acceptedOf, step}
 use Rattle.paper_desk.specs.Kept.{withinMoves, good}
 use Rattle.paper.proofs.Logic.{and-left, and-right, and-both, not-false}
 use Rattle.paper_desk.proofs.Others.{holds-after-step}
-use Rattle.demands.proofs.Good.{admitted-good}
-use Rattle.demands.proofs.Asks.{ask-holds}
+use Rattle.paper_kept.proofs.Good.{admitted-good}
+use Rattle.paper_kept.proofs.Made.{made-good}
 use Rattle.record_answers.specs.declared.Slot.{Slot}
 use Rattle.record_answers.specs.Effects.{holds, isKnown}
 use Rattle.record_calls.specs.Good.{isGood}
@@ -109,5 +109,5 @@ good-stays c t i h =
         (λ _. admitted-good a (and-right (validSlots (length t)) (validAdmission a) (not-false _ v)))
     accepted (about id x) (also q n) =
         stored t (place t id) (ruleOf x .made (found t id)) i g
-        (λ (e : i ≡ place t id). ask-holds x .good (found t id)
+        (λ (e : i ≡ place t id). made-good x (found t id)
         (subst (λ (j : ℕ). good (getD t j blank) ≡ true) e (g .is-good)) n)

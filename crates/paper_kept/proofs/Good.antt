@@ -26,9 +26,9 @@ use Rattle.paper_desk.specs.Desk.{evaluatingChecks, quotingChecks, movingChecks
 use Rattle.paper_desk.specs.External.{Receipt}
 use Rattle.paper_desk.specs.Kept.{withinMoves, good}
 use Rattle.paper.proofs.Logic.{and-left, and-right, and-both, not-false}
-use Rattle.demands.proofs.Sound.{Parts, sound-has-parts, parts-are-sound, Evaluates, evaluated-sound}
-use Rattle.demands.proofs.Sound.{evaluated-within, quoted-sound, watching-within, opened-sound, received-sound}
-use Rattle.demands.proofs.Sound.{moved-sound, moved-within, admits, admitted-within}
+use Rattle.paper_kept.proofs.Sound.{Parts, sound-has-parts, parts-are-sound, Evaluates, evaluated-sound}
+use Rattle.paper_kept.proofs.Sound.{evaluated-within, quoted-sound, watching-within, opened-sound, received-sound}
+use Rattle.paper_kept.proofs.Sound.{moved-sound, moved-within, admits, admitted-within}
 
 -- ---- a good record
 
