@@ -1,0 +1,2 @@
+-- What is proved of pruning, a file each.
+pub mod Records
