@@ -1,2 +1,3 @@
 -- What is proved of pruning, a file each.
 pub mod Records
+pub mod Tables
