@@ -1,3 +1,5 @@
 -- What is proved of pruning, a file each.
 pub mod Records
 pub mod Tables
+pub mod Answers
+pub mod Asked

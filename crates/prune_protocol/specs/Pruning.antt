@@ -117,7 +117,7 @@ unfoldable pub takenBy : (ym yn : ℕ) → Said → Part → (n : ℕ) → (late
 takenBy ym yn said (evaluates i) n later = takes said ym yn || later n
 takenBy ym yn said (watches i) n later = later n
 takenBy ym yn said (receives i x) n later = later n
-takenBy ym yn said (works m k) n later = not (eqb ym m && eqb yn k) && outlives n later
+takenBy ym yn said (works m k) n later = not (eqb m ym && eqb k yn) && outlives n later
 takenBy ym yn said other n later = later n
 
 -- whether an evaluation among lines takes the answer of a pair that is kept for n further interest lines
