@@ -3,3 +3,4 @@ pub mod Records
 pub mod Tables
 pub mod Answers
 pub mod Asked
+pub mod Pruned

@@ -7,7 +7,7 @@ use Prim.Native.Nat.{ℕ, zero, suc, _<_}
 use native.Mathlib.Omega.{arith}
 use lib.Dec.{leb, ltb, eqb}
 use lib.ListN.{length, getD, set, length-set}
-use lib.Seq.{getD-set-same, getD-set-other}
+use lib.Seq.{getD-set-same, getD-set-other, ext-getD}
 use borrow.Author.Tests.{eqb-true, eqb-false, ne-eqb, ltb-true, leb-true, lt-ltb}
 use Rattle.paper.specs.declared.Record.{Record}
 use Rattle.paper.specs.declared.Admission.{Admission}
@@ -28,7 +28,7 @@ use Rattle.demands.proofs.Kept.{slot-passes}
 use Rattle.journal_protocol.specs.Lines.{readsOnly}
 use Rattle.prune_protocol.specs.Pruning.{Part, evaluates, watches, receives, works, other, askPart, partOf}
 use Rattle.prune_protocol.specs.Pruning.{evaluatedIn, writesBid, writesAsk, replacedIn, matters}
-use Rattle.prune_protocol.proofs.Records.{Alike, alike-self, AlikeFor, Elsewhere, line-passes, KeptAsk, ask-kept}
+use Rattle.prune_protocol.proofs.Records.{Alike, alike-self, alike-same, AlikeFor, Elsewhere, line-passes, KeptAsk, ask-kept}
 use Rattle.prune_protocol.proofs.Records.{ask-left}
 
 -- ---- each id stands in one slot
@@ -252,16 +252,20 @@ module _ (l : List ℕ) (ls : List (List ℕ)) (i : ℕ) (x : Ask) (says : partO
             others;
       }
 
+-- ---- a line of no security
+
+pub line-of-none : (l : List ℕ) (ls : List (List ℕ)) → ((id : ℕ) → Elsewhere (partOf l) id) → (t u : List Record)
+    → Tables (l ∷ ls) t u → Tables ls t u
+line-of-none l ls h t u k =
+    record {
+      size = k .size;
+      slots = λ n. line-passes l ls (getD t n blank) (getD u n blank) (h (getD t n blank .id)) (k .slots n);
+    }
+
 -- ---- an admission
 
 module _ (l : List ℕ) (ls : List (List ℕ)) (a : Admission) (says : partOf l ≡ other) (t u : List Record)
     (k : Tables (l ∷ ls) t u) where
-  pub line-of-none : Tables ls t u
-  line-of-none =
-      record {
-        size = k .size;
-        slots = λ n. line-passes l ls (getD t n blank) (getD u n blank) (rw says tt) (k .slots n);
-      }
 
   pub admit-checks : NoneApplies (checksOf (admit a) t) → NoneApplies (checksOf (admit a) u)
   unfolding checksOf admitChecks
@@ -282,5 +286,12 @@ module _ (l : List ℕ) (ls : List (List ℕ)) (a : Admission) (says : partOf l 
             (sym (getD-set-same u (place t 0) (admitted a) blank (rw (k .size) inside)))
             (alike-self _ _ _ (admitted a)))
             (λ n d. subst (λ (z : Record). AlikeFor ls (getD t n blank) z)
-            (sym (getD-set-other u (place t 0) n (admitted a) blank d)) (line-of-none .slots n));
+            (sym (getD-set-other u (place t 0) n (admitted a) blank d)) (line-of-none l ls (λ id. rw says tt) t u k .slots n));
       })
+
+-- ---- behind all lines
+
+pub tables-same : (t u : List Record) → Tables [] t u → u ≡ t
+unfolding evaluatedIn replacedIn
+tables-same t u k =
+    ext-getD blank u t (k .size) (λ n _. alike-same (getD t n blank) (getD u n blank) (k .slots n))

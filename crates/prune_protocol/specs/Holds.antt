@@ -3,13 +3,29 @@
 use mathlib.Core.Path.{_≡_}
 use mathlib.Core.List.{List, [], _∷_}
 use Prim.Native.Nat.{ℕ}
+use lib.ListN.{length}
 use Rattle.text_evening.specs.Evening.{Evening, afterAll}
-use Rattle.journal_protocol.specs.Lines.{keptOf}
-use Rattle.journal_protocol.specs.Holds.{SameDesk}
+use Rattle.journal_protocol.specs.Journal.{journalText, entriesAt}
+use Rattle.journal_protocol.specs.Recovery.{keptAgain}
+use Rattle.journal_protocol.specs.Holds.{SameDesk, RecoveredTo}
 use Rattle.prune_protocol.specs.Pruning.{pruned}
 
--- THE PRUNED LINES LEAD TO THE SAME DESK: the same table and the same kept interest answers
+-- THE PRUNED LINES LEAD TO THE SAME DESK, the same table and the same kept interest answers, and each of them would be
+-- kept again
 pub record PrunedLead (lines : List (List ℕ)) (start : Evening) : Type 0 where
   pub desk : SameDesk (afterAll (pruned lines) start) (afterAll lines start)
-  -- each of them would be kept again
-  pub again : keptOf (pruned lines) start ≡ pruned lines
+  pub again : keptAgain (pruned lines) start ≡ length (pruned lines)
+
+-- the lines of a pruned journal are a batch each
+unfoldable pub eachAlone : List (List ℕ) → List (List (List ℕ))
+eachAlone [] = []
+eachAlone (l ∷ ls) = (l ∷ []) ∷ eachAlone ls
+
+-- THE BYTES OF A PRUNED JOURNAL
+unfoldable pub prunedText : (lines : List (List ℕ)) → List ℕ
+prunedText ls = journalText (entriesAt 1 (eachAlone (pruned ls)))
+
+-- RECOVERY SERVES IT, on the desk of the journal that was pruned
+pub record PrunedServes (lines : List (List ℕ)) (start : Evening) : Type 0 where
+  pub recovers : RecoveredTo (pruned lines) start (prunedText lines)
+  pub desk : SameDesk (recovers .evening) (afterAll lines start)
