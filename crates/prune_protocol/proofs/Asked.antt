@@ -120,8 +120,11 @@ module _ (l : List ℕ) (ls : List (List ℕ)) (k m : Kept) (thin : Thinned (l �
     names-own : (pair : Bool) (low high : Name) → pair ≡ true
         → namesPair zs pair low high (unsignedOf evaluateNames zs low) (unsignedOf evaluateNames zs high) ≡ true
     names-own pair low high e =
-        rw (e, eq-eqb (unsignedOf evaluateNames zs low) (unsignedOf evaluateNames zs low) refl,
-        eq-eqb (unsignedOf evaluateNames zs high) (unsignedOf evaluateNames zs high) refl)
+        rw (
+          e,
+          eq-eqb (unsignedOf evaluateNames zs low) (unsignedOf evaluateNames zs low) refl,
+          eq-eqb (unsignedOf evaluateNames zs high) (unsignedOf evaluateNames zs high) refl,
+        )
 
     or-last : (a : Bool) → (a || true) ≡ true
     or-last true = refl
@@ -160,17 +163,17 @@ module _ (l : List ℕ) (ls : List (List ℕ)) (k m : Kept) (thin : Thinned (l �
     unfolding askedOf askedTerm dayOf
     day-same =
         let first : bandOf m (p .first) (the evaluateNames zs RRCL0) (the evaluateNames zs RRCH0)
-            ≡ bandOf k (p .first) (the evaluateNames zs RRCL0) (the evaluateNames zs RRCH0) =
+        ≡ bandOf k (p .first) (the evaluateNames zs RRCL0) (the evaluateNames zs RRCH0) =
         term-same id (unsignedOf evaluateNames zs K0) (p .first) (the evaluateNames zs RRCL0)
         (the evaluateNames zs RRCH0) says
         (λ e. takes-first _ _ (names-own (p .first) RRCL0 RRCH0 e)) (terms-valid 0 (omega arith)) in
         let second : bandOf m (p .second) (the evaluateNames zs RRCL1) (the evaluateNames zs RRCH1)
-            ≡ bandOf k (p .second) (the evaluateNames zs RRCL1) (the evaluateNames zs RRCH1) =
+        ≡ bandOf k (p .second) (the evaluateNames zs RRCL1) (the evaluateNames zs RRCH1) =
         term-same id (unsignedOf evaluateNames zs K1) (p .second) (the evaluateNames zs RRCL1)
         (the evaluateNames zs RRCH1) says
         (λ e. takes-second _ _ (names-own (p .second) RRCL1 RRCH1 e)) (terms-valid 1 (omega arith)) in
         let third : bandOf m (p .third) (the evaluateNames zs RRCL2) (the evaluateNames zs RRCH2)
-            ≡ bandOf k (p .third) (the evaluateNames zs RRCL2) (the evaluateNames zs RRCH2) =
+        ≡ bandOf k (p .third) (the evaluateNames zs RRCL2) (the evaluateNames zs RRCH2) =
         term-same id (unsignedOf evaluateNames zs K2) (p .third) (the evaluateNames zs RRCL2)
         (the evaluateNames zs RRCH2) says
         (λ e. takes-third _ _ (names-own (p .third) RRCL2 RRCH2 e)) (terms-valid 2 (omega arith)) in

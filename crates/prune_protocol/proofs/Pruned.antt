@@ -2,11 +2,12 @@
 -- that matter are alike but for what later lines write anew, and behind all lines they are the same.
 use mathlib.Core.Path.{_≡_, refl, sym, ap, subst, _∙_}
 use mathlib.Core.Bool.{Bool, true, false, not, _&&_, _||_}
-use mathlib.Core.List.{List, [], _∷_, _++_}
+use mathlib.Core.List.{List, [], _∷_, _++_, append-nil}
 use Prim.Native.Nat.{ℕ, zero, suc}
 use native.Mathlib.Omega.{arith}
 use lib.Dec.{eqb}
-use lib.ListN.{length, getD}
+use lib.ListN.{length, getD, take}
+use lib.Seq.{take-nil}
 use borrow.Author.Tests.{eqb-true}
 use lib.IntN.{ℤ}
 use Rattle.paper.specs.declared.Record.{Record}
@@ -20,7 +21,8 @@ use Rattle.paper_desk.specs.Kept.{good, everySlot}
 use Rattle.paper_desk.proofs.Refusals.{verdict-first, accepted-step, accepted-only, accepted-always}
 use Rattle.paper_interest.specs.Interest.{interestAnswer}
 use Rattle.demands.proofs.Kept.{good-kept, fresh-good}
-use Rattle.text_bytes.specs.Bytes.{same, bytes}
+use Rattle.text_bytes.specs.Bytes.{isLineFeed, same, bytes}
+use Rattle.text_bytes.specs.Split.{AllFree, piece}
 use Rattle.text_protocol.specs.declared.Pair.{Pair}
 use Rattle.text_protocol.specs.declared.Kept.{Kept}
 use Rattle.text_protocol.specs.Kept.{noneKept, keptAfter}
@@ -28,14 +30,16 @@ use Rattle.text_protocol.specs.CallCases.{deedBy}
 use Rattle.text_protocol.specs.Line.{Said, Nothing, meaning}
 use Rattle.text_protocol.specs.Calls.{Deed, nothing, noCall, call, interest, bond, deedOf}
 use Rattle.text_evening.specs.Evening.{Evening, tableAfter, keptBy, askedBy, after, startEvening, afterAll}
-use Rattle.journal_protocol.specs.Lines.{readsOnly, mayChange, changes, closedLine, isKept}
+use Rattle.journal_protocol.specs.Lines.{readsOnly, mayChange, changes, closedLine, isKept, keptOf, keptBatches, allLines}
 use Rattle.journal_protocol.specs.Recovery.{keptAgain}
-use Rattle.journal_protocol.specs.Holds.{SameDesk}
+use Rattle.journal_protocol.specs.Journal.{journalText, entriesAt}
+use Rattle.journal_protocol.specs.Holds.{SameDesk, no-line, entriesOf, RecoveredTo, TornRecovered}
 use Rattle.journal_protocol.proofs.EntryLaws.{same-is}
 use Rattle.journal_protocol.proofs.JournalLaws.{or-other}
+use Rattle.journal_protocol.proofs.RecoveryLaws.{torn-recovered, cut-is-torn}
 use Rattle.prune_protocol.specs.Pruning.{Part, evaluates, watches, receives, works, other, askPart, deedPart, partOf}
 use Rattle.prune_protocol.specs.Pruning.{partMatters, matters, pruned}
-use Rattle.prune_protocol.specs.Holds.{PrunedLead}
+use Rattle.prune_protocol.specs.Holds.{PrunedLead, eachAlone, prunedText, PrunedServes}
 use Rattle.prune_protocol.proofs.Records.{alike-self}
 use Rattle.prune_protocol.proofs.Tables.{Own, own-kept, Tables, line-of-none, about-checks, about-kept, about-left}
 use Rattle.prune_protocol.proofs.Tables.{admit-checks, admit-kept, tables-same}
@@ -252,13 +256,14 @@ module _ (l : List ℕ) (ls : List (List ℕ)) (e f : Evening) (d : Evenings (l 
       asked-same l ls (e .kept) (f .kept) (d .desks .answers) (e .table) c in
       let s : Stays l ls (e .table) (f .table) (e .kept) (f .kept) (d .own) (d .good-slots) (d .desks) (askedBy l e) =
       line-stays l ls (e .table) (f .table) (e .kept) (f .kept) (d .own) (d .good-slots) (d .desks) (askedBy l e) says
-      m c in
-      (rw (asked, s .changes-too),
-      record {
-        desks = rw asked (s .desks);
-        own = own-after (askedBy l e) (e .table) (d .own);
-        good-slots = good-after (askedBy l f) (f .table) (d .good-slots);
-      })
+      m c in (
+        rw (asked, s .changes-too),
+        record {
+          desks = rw asked (s .desks);
+          own = own-after (askedBy l e) (e .table) (d .own);
+          good-slots = good-after (askedBy l f) (f .table) (d .good-slots);
+        },
+      )
 
   -- A LINE THAT MATTERS is kept on both
   stays-on : matters l ls ≡ true → (isKept l f ≡ true) × Evenings ls (after l e) (after l f)
@@ -293,11 +298,13 @@ module _ (l : List ℕ) (ls : List (List ℕ)) (e f : Evening) (d : Evenings (l 
 leads : (ls : List (List ℕ)) (e f : Evening) → keptAgain ls e ≡ length ls → Evenings ls e f
     → SameDesk (afterAll (pruned ls) f) (afterAll ls e) × (keptAgain (pruned ls) f ≡ length (pruned ls))
 unfolding afterAll pruned keptAgain
-leads [] e f h d =
-    (record {
-      table = tables-same (e .table) (f .table) (d .desks .tables);
-      kept = kept-same (e .kept) (f .kept) (d .desks .answers);
-    }, refl)
+leads [] e f h d = (
+  record {
+    table = tables-same (e .table) (f .table) (d .desks .tables);
+    kept = kept-same (e .kept) (f .kept) (d .desks .answers);
+  },
+  refl,
+)
 leads (l ∷ ls) e f h d = go (isKept l e) refl (matters l ls) refl h (λ n g c. leads ls (after l e) g n c)
   where
     go : (x : Bool) → isKept l e ≡ x → (y : Bool) → matters l ls ≡ y
@@ -341,3 +348,71 @@ pruned-lead ls t h n = record { desk = both .0; again = both .1 }
           own = fresh-own t h;
           good-slots = fresh-good t h;
         })
+
+-- ---- recovery of a pruned journal
+
+alone-lines : (ls : List (List ℕ)) → allLines (eachAlone ls) ≡ ls
+unfolding allLines eachAlone
+alone-lines [] = refl
+alone-lines (l ∷ ls) = ap (λ (ks : List (List ℕ)). l ∷ ks) (alone-lines ls)
+
+-- lines that would all be kept again are kept, a batch each
+alone-kept : (ls : List (List ℕ)) (e : Evening) → keptAgain ls e ≡ length ls → keptBatches (eachAlone ls) e ≡ eachAlone ls
+unfolding keptAgain keptBatches eachAlone keptOf afterAll
+alone-kept [] e h = refl
+alone-kept (l ∷ ls) e h = go (isKept l e) h (alone-kept ls (after l e))
+  where
+    go : (x : Bool) → pick x (suc (keptAgain ls (after l e))) 0 ≡ suc (length ls)
+        → (keptAgain ls (after l e) ≡ length ls → keptBatches (eachAlone ls) (after l e) ≡ eachAlone ls)
+        → pick x (l ∷ []) [] ∷ keptBatches (eachAlone ls) (after l e) ≡ (l ∷ []) ∷ eachAlone ls
+    go true n rest = ap (λ (bs : List (List (List ℕ))). (l ∷ []) ∷ bs) (rest (omega arith))
+    go false n rest = absurd (omega arith)
+
+pruned-free : (ls : List (List ℕ)) → AllFree isLineFeed ls → AllFree isLineFeed (pruned ls)
+unfolding pruned
+pruned-free [] f = f
+pruned-free (l ∷ ls) (piece g f) = go (matters l ls) (pruned-free ls f)
+  where
+    go : (x : Bool) → AllFree isLineFeed (pruned ls)
+        → AllFree isLineFeed (pick x (l ∷ pruned ls) (pruned ls))
+    go true r = piece g r
+    go false r = r
+
+-- RECOVERY SERVES THE PRUNED JOURNAL, on the desk of the journal that was pruned
+pub pruned-serves : (ls : List (List ℕ)) (t : List Record) → fresh t ≡ true → AllFree isLineFeed ls
+    → keptAgain ls (startEvening t) ≡ length ls → PrunedServes ls (startEvening t)
+unfolding prunedText keptOf
+pruned-serves ls t h f n = record { recovers = recovers; desk = desk }
+  where
+    lead : PrunedLead ls (startEvening t)
+    lead = pruned-lead ls t h n
+
+    torn : TornRecovered (eachAlone (pruned ls)) [] (startEvening t) []
+    torn =
+        torn-recovered (eachAlone (pruned ls)) [] (startEvening t) []
+        (rw (alone-lines (pruned ls)) (pruned-free ls f)) (cut-is-torn _ [] no-line 0)
+
+    lines-are : allLines (eachAlone (pruned ls)) ++ take (torn .count) [] ≡ pruned ls
+    lines-are = rw (take-nil (torn .count), append-nil (allLines (eachAlone (pruned ls)))) (alone-lines (pruned ls))
+
+    bytes-are : journalText (entriesOf (eachAlone (pruned ls)) (startEvening t)) ++ []
+        ≡ journalText (entriesAt 1 (eachAlone (pruned ls)))
+    bytes-are =
+        append-nil (journalText (entriesOf (eachAlone (pruned ls)) (startEvening t)))
+        ∙ ap (λ (bs : List (List (List ℕ))). journalText (entriesAt 1 bs))
+        (alone-kept (pruned ls) (startEvening t) (lead .again))
+
+    recovers : RecoveredTo (pruned ls) (startEvening t) (journalText (entriesAt 1 (eachAlone (pruned ls))))
+    recovers =
+        subst (λ (bytes : List ℕ). RecoveredTo (pruned ls) (startEvening t) bytes) bytes-are
+        (subst
+        (λ (ks : List (List ℕ)). RecoveredTo ks (startEvening t)
+        (journalText (entriesOf (eachAlone (pruned ls)) (startEvening t)) ++ []))
+        lines-are (torn .recovers))
+
+    desk : SameDesk (recovers .evening) (afterAll ls (startEvening t))
+    desk =
+        record {
+          table = recovers .desk .table ∙ lead .desk .table;
+          kept = recovers .desk .kept ∙ lead .desk .kept;
+        }

@@ -266,7 +266,6 @@ line-of-none l ls h t u k =
 
 module _ (l : List ℕ) (ls : List (List ℕ)) (a : Admission) (says : partOf l ≡ other) (t u : List Record)
     (k : Tables (l ∷ ls) t u) where
-
   pub admit-checks : NoneApplies (checksOf (admit a) t) → NoneApplies (checksOf (admit a) u)
   unfolding checksOf admitChecks
   admit-checks n = rw (k .size, same-stands (l ∷ ls) t u k (a .id), same-stands (l ∷ ls) t u k 0) n
