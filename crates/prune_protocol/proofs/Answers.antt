@@ -17,7 +17,7 @@ use Rattle.text_protocol.specs.declared.Kept.{Kept}
 use Rattle.text_protocol.specs.Kept.{unknown, noPair, isOf, foundIn}
 use Rattle.text_protocol.specs.Line.{meaning}
 use Rattle.prune_protocol.specs.Pruning.{Part, evaluates, watches, receives, works, other, partOf, takes, outlives}
-use Rattle.prune_protocol.specs.Pruning.{takenBy, takenIn, keptBy, keptThrough, newest, partMatters, matters}
+use Rattle.prune_protocol.specs.Pruning.{takenBy, takenIn, keptBy, keptThrough, newest, partMatters}
 
 -- ---- answers, the newest first
 
@@ -188,8 +188,8 @@ module _ (l : List ℕ) (ls : List (List ℕ)) (q : Pair) (says : partOf l ≡ w
     unfolding allButLast
     interest-kept = stays (first-of 2 (omega arith) (shifted t))
 
-    pub interest-left : matters l ls ≡ false → Thinned ls [] (q ∷ a ∷ b ∷ []) (d ∷ e ∷ f ∷ [])
-    unfolding matters partMatters hasPair allButLast
+    pub interest-left : partMatters (partOf l) ls ≡ false → Thinned ls [] (q ∷ a ∷ b ∷ []) (d ∷ e ∷ f ∷ [])
+    unfolding partMatters hasPair allButLast
     interest-left m =
         let none : (takenIn (q .ym) (q .yn) newest ls || keptThrough newest ls) ≡ false = rw says at m in
         gone (none-right (takenIn (q .ym) (q .yn) newest ls) (keptThrough newest ls) none)

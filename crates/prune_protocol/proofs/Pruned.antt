@@ -14,7 +14,7 @@ use Rattle.paper.specs.declared.Record.{Record}
 use Rattle.paper.specs.declared.Interest.{Interest}
 use Rattle.paper.specs.Lists.{pick, every}
 use Rattle.paper.specs.Verdicts.{isDone, NoneApplies, also, firstOf}
-use Rattle.paper.proofs.Logic.{not-true-and-false, and-left, and-right, not-true, not-false, pick-true}
+use Rattle.paper.proofs.Logic.{not-true-and-false, and-left, and-right, not-true, not-false, pick-true, pick-false}
 use Rattle.paper_desk.specs.Desk.{Ask, evaluating, quoting, moving, reading, opening, receiving, Call, admit, about}
 use Rattle.paper_desk.specs.Desk.{blank, known, Outcome, checksOf, acceptedOf, step, fresh}
 use Rattle.paper_desk.specs.Kept.{good, everySlot}
@@ -114,7 +114,7 @@ module _ (l : List ℕ) (ls : List (List ℕ)) (t u : List Record) (k m : Kept) 
     changes-too : changes e u ≡ true
     desks : Desks ls (tableAfter e t) (tableAfter e u) (keptBy e k) (keptBy e m)
 
-  ask-stays : (i : ℕ) (x : Ask) → partOf l ≡ askPart i x → matters l ls ≡ true → Accepted i x
+  ask-stays : (i : ℕ) (x : Ask) → partOf l ≡ askPart i x → partMatters (partOf l) ls ≡ true → Accepted i x
       → Stays (call (about i x))
   unfolding changes mayChange tableAfter keptBy
   ask-stays i x says matter a =
@@ -132,7 +132,7 @@ module _ (l : List ℕ) (ls : List (List ℕ)) (t u : List Record) (k m : Kept) 
             };
       }
 
-  line-stays : (e : Deed) → partOf l ≡ deedPart e → matters l ls ≡ true → changes e t ≡ true → Stays e
+  line-stays : (e : Deed) → partOf l ≡ deedPart e → partMatters (partOf l) ls ≡ true → changes e t ≡ true → Stays e
   unfolding changes mayChange tableAfter keptBy deedPart
   line-stays nothing says matter c = absurd (not-true-and-false false c refl)
   line-stays noCall says matter c = absurd (not-true-and-false false c refl)
@@ -166,9 +166,9 @@ module _ (l : List ℕ) (ls : List (List ℕ)) (t u : List Record) (k m : Kept) 
   line-stays (bond b flows) says matter c = absurd (not-true-and-false false c refl)
 
   -- IT DOES NOT MATTER, and is left out on the other desk
-  line-left : (e : Deed) → partOf l ≡ deedPart e → matters l ls ≡ false → changes e t ≡ true
+  line-left : (e : Deed) → partOf l ≡ deedPart e → partMatters (partOf l) ls ≡ false → changes e t ≡ true
       → Desks ls (tableAfter e t) u (keptBy e k) m
-  unfolding changes mayChange tableAfter keptBy deedPart matters partMatters
+  unfolding changes mayChange tableAfter keptBy deedPart partMatters
   line-left nothing says matter c = absurd (not-true-and-false false c refl)
   line-left noCall says matter c = absurd (not-true-and-false false c refl)
   line-left (call (admit a)) says matter c = absurd (not-true-and-false true refl (rw says at matter))
@@ -233,20 +233,34 @@ module _ (l : List ℕ) (ls : List (List ℕ)) (e f : Evening) (d : Evenings (l 
   unfolding isKept
   is-close c = or-other (changes (askedBy l e) (e .table)) (same l closedLine) keeps c
 
-  close-passes : same l closedLine ≡ true → Evenings ls (after l e) (after l f)
-  unfolding after tableAfter keptBy deedPart
-  close-passes c =
+  -- what changes something is no close
+  part-decides : changes (askedBy l e) (e .table) ≡ true → matters l ls ≡ partMatters (partOf l) ls
+  unfolding matters changes
+  part-decides c = pick-false (same l closedLine) _ _ (go (same l closedLine) refl)
+    where
+      go : (b : Bool) → same l closedLine ≡ b → b ≡ false
+      go true w = absurd (not-true-and-false false (rw (closed-asks l (e .kept) w) at c) refl)
+      go false w = refl
+
+  close-desks : same l closedLine ≡ true → Desks ls (e .table) (f .table) (e .kept) (f .kept)
+  unfolding deedPart
+  close-desks c =
       let none : partOf l ≡ other = rw (closed-asks l (e .kept) c) at says in
+      record {
+        tables = line-of-none l ls (λ id. rw none tt) (e .table) (f .table) (d .desks .tables);
+        answers = thinned-passes l ls (rw none tt) (d .desks .answers);
+      }
+
+  close-stays : same l closedLine ≡ true → Evenings ls (after l e) (after l f)
+  unfolding after tableAfter keptBy
+  close-stays c =
       rw (closed-asks l (e .kept) c, closed-asks l (f .kept) c)
-      (record {
-        desks =
-            record {
-              tables = line-of-none l ls (λ id. rw none tt) (e .table) (f .table) (d .desks .tables);
-              answers = thinned-passes l ls (rw none tt) (d .desks .answers);
-            };
-        own = d .own;
-        good-slots = d .good-slots;
-      })
+      (record { desks = close-desks c; own = d .own; good-slots = d .good-slots })
+
+  close-left : same l closedLine ≡ true → Evenings ls (after l e) f
+  unfolding after tableAfter keptBy
+  close-left c =
+      rw (closed-asks l (e .kept) c) (record { desks = close-desks c; own = d .own; good-slots = d .good-slots })
 
   change-stays : changes (askedBy l e) (e .table) ≡ true → matters l ls ≡ true
       → (isKept l f ≡ true) × Evenings ls (after l e) (after l f)
@@ -256,7 +270,7 @@ module _ (l : List ℕ) (ls : List (List ℕ)) (e f : Evening) (d : Evenings (l 
       asked-same l ls (e .kept) (f .kept) (d .desks .answers) (e .table) c in
       let s : Stays l ls (e .table) (f .table) (e .kept) (f .kept) (d .own) (d .good-slots) (d .desks) (askedBy l e) =
       line-stays l ls (e .table) (f .table) (e .kept) (f .kept) (d .own) (d .good-slots) (d .desks) (askedBy l e) says
-      m c in (
+      (sym (part-decides c) ∙ m) c in (
         rw (asked, s .changes-too),
         record {
           desks = rw asked (s .desks);
@@ -273,11 +287,11 @@ module _ (l : List ℕ) (ls : List (List ℕ)) (e f : Evening) (d : Evenings (l 
       go : (b : Bool) → changes (askedBy l e) (e .table) ≡ b
           → (isKept l f ≡ true) × Evenings ls (after l e) (after l f)
       go true c = change-stays c m
-      go false c = (or-later (changes (askedBy l f) (f .table)) (is-close c), close-passes (is-close c))
+      go false c = (or-later (changes (askedBy l f) (f .table)) (is-close c), close-stays (is-close c))
 
   -- ONE THAT DOES NOT is left out on the second
   left-out : matters l ls ≡ false → Evenings ls (after l e) f
-  unfolding after matters partMatters deedPart
+  unfolding after
   left-out m = go (changes (askedBy l e) (e .table)) refl
     where
       go : (b : Bool) → changes (askedBy l e) (e .table) ≡ b → Evenings ls (after l e) f
@@ -285,13 +299,11 @@ module _ (l : List ℕ) (ls : List (List ℕ)) (e f : Evening) (d : Evenings (l 
           record {
             desks =
                 line-left l ls (e .table) (f .table) (e .kept) (f .kept) (d .own) (d .good-slots) (d .desks)
-                (askedBy l e) says m c;
+                (askedBy l e) says (sym (part-decides c) ∙ m) c;
             own = own-after (askedBy l e) (e .table) (d .own);
             good-slots = d .good-slots;
           }
-      go false c =
-          let none : partOf l ≡ other = rw (closed-asks l (e .kept) (is-close c)) at says in
-          absurd (not-true-and-false true refl (rw none at m))
+      go false c = close-left (is-close c)
 
 -- ---- all lines
 

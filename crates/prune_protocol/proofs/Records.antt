@@ -23,7 +23,7 @@ use Rattle.paper_desk.specs.External.{Receipt, together, notice, keptAfter}
 use Rattle.journal_protocol.specs.Lines.{readsOnly}
 use Rattle.prune_protocol.specs.Pruning.{Part, evaluates, watches, receives, works, other, askPart, partOf}
 use Rattle.prune_protocol.specs.Pruning.{isEvaluation, evaluatedIn, writesBid, writesAsk, replacedBy, replacedIn}
-use Rattle.prune_protocol.specs.Pruning.{sideReplaced, partMatters, matters}
+use Rattle.prune_protocol.specs.Pruning.{sideReplaced, partMatters}
 
 -- ---- what may differ
 
@@ -322,9 +322,9 @@ line-passes l ls r s h k = elsewhere-passes (partOf l) _ _ _ r s h (from-part l 
 
 -- a quote, a move or an opening
 watched-kept : (l : List ℕ) (ls : List (List ℕ)) (x : Ask) → Watches x → (r s : Record) → partOf l ≡ watches (r .id)
-    → matters l ls ≡ true → AlikeFor (l ∷ ls) r s
+    → partMatters (partOf l) ls ≡ true → AlikeFor (l ∷ ls) r s
     → KeptAsk x (evaluatedIn (r .id) ls) (replacedIn writesBid (r .id) ls) (replacedIn writesAsk (r .id) ls) r s
-unfolding matters partMatters isEvaluation replacedBy
+unfolding partMatters isEvaluation replacedBy
 watched-kept l ls x h r s e m k =
     go (evaluatedIn (r .id) ls) (rw e at m) (from-part l ls r s (watches (r .id)) e k)
   where
@@ -335,10 +335,10 @@ watched-kept l ls x h r s e m k =
     go false n k = watch-kept x h _ _ r s k
 
 watched-left : (l : List ℕ) (ls : List (List ℕ)) (x : Ask) → Watches x → (r s : Record) → partOf l ≡ watches (r .id)
-    → matters l ls ≡ false → AlikeFor (l ∷ ls) r s
+    → partMatters (partOf l) ls ≡ false → AlikeFor (l ∷ ls) r s
     → Alike (evaluatedIn (r .id) ls) (replacedIn writesBid (r .id) ls) (replacedIn writesAsk (r .id) ls)
     (ruleOf x .made r) s
-unfolding matters partMatters isEvaluation replacedBy
+unfolding partMatters isEvaluation replacedBy
 watched-left l ls x h r s e m k =
     go (evaluatedIn (r .id) ls) (rw e at m) (from-part l ls r s (watches (r .id)) e k)
   where
@@ -350,9 +350,9 @@ watched-left l ls x h r s e m k =
 
 -- A LINE THAT MATTERS is judged alike, and leaves records that are alike
 pub ask-kept : (l : List ℕ) (ls : List (List ℕ)) (x : Ask) (r s : Record) → partOf l ≡ askPart (r .id) x
-    → matters l ls ≡ true → readsOnly x ≡ false → AlikeFor (l ∷ ls) r s
+    → partMatters (partOf l) ls ≡ true → readsOnly x ≡ false → AlikeFor (l ∷ ls) r s
     → KeptAsk x (evaluatedIn (r .id) ls) (replacedIn writesBid (r .id) ls) (replacedIn writesAsk (r .id) ls) r s
-unfolding matters partMatters askPart readsOnly isEvaluation replacedBy
+unfolding partMatters askPart readsOnly isEvaluation replacedBy
 ask-kept l ls (evaluating d rows) r s e m c k =
     evaluation-kept d rows _ _ _ r s (rw (own r) at (from-part l ls r s _ e k))
 ask-kept l ls (quoting q) r s e m c k = watched-kept l ls (quoting q) (quote-watches q) r s e m k
@@ -363,10 +363,10 @@ ask-kept l ls (receiving x) r s e m c k = receipt-kept x _ _ _ r s (rw (own r) a
 
 -- A LINE THAT DOES NOT MATTER leaves the record alike to one that never took it
 pub ask-left : (l : List ℕ) (ls : List (List ℕ)) (x : Ask) (r s : Record) → partOf l ≡ askPart (r .id) x
-    → matters l ls ≡ false → AlikeFor (l ∷ ls) r s
+    → partMatters (partOf l) ls ≡ false → AlikeFor (l ∷ ls) r s
     → Alike (evaluatedIn (r .id) ls) (replacedIn writesBid (r .id) ls) (replacedIn writesAsk (r .id) ls)
     (ruleOf x .made r) s
-unfolding matters partMatters askPart replacedBy isEvaluation
+unfolding partMatters askPart replacedBy isEvaluation
 ask-left l ls (evaluating d rows) r s e m k = absurd (not-true-and-false true refl (rw e at m))
 ask-left l ls (quoting q) r s e m k = watched-left l ls (quoting q) (quote-watches q) r s e m k
 ask-left l ls (moving side) r s e m k = watched-left l ls (moving side) (move-watches side) r s e m k

@@ -27,7 +27,7 @@ use Rattle.demands.proofs.Good.{good-sound}
 use Rattle.demands.proofs.Kept.{slot-passes}
 use Rattle.journal_protocol.specs.Lines.{readsOnly}
 use Rattle.prune_protocol.specs.Pruning.{Part, evaluates, watches, receives, works, other, askPart, partOf}
-use Rattle.prune_protocol.specs.Pruning.{evaluatedIn, writesBid, writesAsk, replacedIn, matters}
+use Rattle.prune_protocol.specs.Pruning.{evaluatedIn, writesBid, writesAsk, replacedIn, partMatters}
 use Rattle.prune_protocol.proofs.Records.{Alike, alike-self, alike-same, AlikeFor, Elsewhere, line-passes, KeptAsk, ask-kept}
 use Rattle.prune_protocol.proofs.Records.{ask-left}
 
@@ -211,18 +211,18 @@ module _ (l : List ℕ) (ls : List (List ℕ)) (i : ℕ) (x : Ask) (says : partO
       (ruleOf x .made r) z) (sym (rule-holds x .id r)) a
 
   -- THE LINE MATTERS: the call is accepted on the other table too, and leaves tables that are alike
-  made-kept : matters l ls ≡ true → readsOnly x ≡ false
+  made-kept : partMatters (partOf l) ls ≡ true → readsOnly x ≡ false
       → KeptAsk x (evaluatedIn (r .id) ls) (replacedIn writesBid (r .id) ls) (replacedIn writesAsk (r .id) ls) r s
   made-kept m c = ask-kept l ls x r s says-of m c (found-alike (l ∷ ls) t u k i)
 
-  pub about-checks : everySlot good u ≡ true → matters l ls ≡ true → readsOnly x ≡ false
+  pub about-checks : everySlot good u ≡ true → partMatters (partOf l) ls ≡ true → readsOnly x ≡ false
       → NoneApplies (checksOf (about i x) t) → NoneApplies (checksOf (about i x) u)
   unfolding checksOf
   about-checks g m c (also q n) =
       also (ap not (same-known (l ∷ ls) t u k i g there))
       (subst (λ (cs : List Check). NoneApplies cs) (sym (made-kept m c .checks)) n)
 
-  pub about-kept : matters l ls ≡ true → readsOnly x ≡ false
+  pub about-kept : partMatters (partOf l) ls ≡ true → readsOnly x ≡ false
       → Tables ls (acceptedOf (about i x) t .table) (acceptedOf (about i x) u .table)
   unfolding acceptedOf
   about-kept m c =
@@ -240,7 +240,7 @@ module _ (l : List ℕ) (ls : List (List ℕ)) (i : ℕ) (x : Ask) (says : partO
       })
 
   -- IT DOES NOT MATTER, and is left out
-  pub about-left : matters l ls ≡ false → Tables ls (acceptedOf (about i x) t .table) u
+  pub about-left : partMatters (partOf l) ls ≡ false → Tables ls (acceptedOf (about i x) t .table) u
   unfolding acceptedOf found
   about-left m =
       record {

@@ -11,11 +11,13 @@ use Rattle.paper.specs.Lists.{pick}
 use Rattle.paper.specs.Ranges.{unsigned}
 use Rattle.paper_desk.specs.Desk.{Ask, evaluating, quoting, moving, reading, opening, receiving, Call, admit, about}
 use Rattle.paper_desk.specs.External.{Receipt, together, notice}
+use Rattle.text_bytes.specs.Bytes.{same}
 use Rattle.text_protocol.specs.declared.Pairs.{Pairs}
 use Rattle.text_protocol.specs.Kept.{noneKept}
 use Rattle.text_protocol.specs.Names.{Name, RRCL0, RRCH0, RRCL1, RRCH1, RRCL2, RRCH2, evaluateNames, the}
 use Rattle.text_protocol.specs.Line.{Said, Nothing, NoCall, Call as saysCall, meaning}
 use Rattle.text_protocol.specs.Calls.{Deed, nothing, noCall, call, interest, bond, deedOf, unsignedOf}
+use Rattle.journal_protocol.specs.Lines.{closedLine}
 
 -- ---- what a line is to pruning
 
@@ -151,9 +153,14 @@ partMatters (receives id x) ls = not (sideReplaced writesBid id x ls && sideRepl
 partMatters (works ym yn) ls = takenIn ym yn newest ls || keptThrough newest ls
 partMatters other ls = true
 
+-- the close of an evening says nothing: it matters where it is the last line, and so tells that the journal was closed
+abbrev pub isLast : (behind : List (List ℕ)) → Bool
+isLast [] = true
+isLast (l ∷ ls) = false
+
 -- WHETHER A LINE MATTERS, in front of lines
 unfoldable pub matters : (line : List ℕ) → (behind : List (List ℕ)) → Bool
-matters l ls = partMatters (partOf l) ls
+matters l ls = pick (same l closedLine) (isLast ls) (partMatters (partOf l) ls)
 
 -- THE LINES THAT MATTER, in their order: all others may be pruned
 unfoldable pub pruned : (lines : List (List ℕ)) → List (List ℕ)

@@ -3,8 +3,9 @@ use mathlib.Core.Path.{_≡_, refl}
 use mathlib.Core.List.{List, [], _∷_, _++_, map}
 use Prim.Native.Nat.{ℕ}
 use Prim.Native.String.{String}
-use Rattle.text_bytes.specs.Bytes.{bytes}
+use Rattle.text_bytes.specs.Bytes.{same, bytes}
 use Rattle.text_protocol.specs.CallCases.{deedBy}
+use Rattle.journal_protocol.specs.Lines.{closedLine}
 use Rattle.prune_protocol.specs.Pruning.{askPart, deedPart, partOf, isEvaluation, evaluatedIn, writesBid}
 use Rattle.prune_protocol.specs.Pruning.{writesAsk, replacedBy, replacedIn, takes, outlives, takenBy, takenIn}
 use Rattle.prune_protocol.specs.Pruning.{keptBy, keptThrough, partMatters, matters, pruned}
@@ -14,21 +15,22 @@ linesOf texts = map (λ (text : String). bytes text) texts
 
 -- what is left of texts. It opens every definition that lines are pruned by, so that a table opens this one alone
 unfoldable pub leftOf : List String → List (List ℕ)
-unfolding deedBy askPart deedPart partOf isEvaluation evaluatedIn writesBid writesAsk replacedBy replacedIn takes
+unfolding same closedLine deedBy askPart deedPart partOf isEvaluation evaluatedIn writesBid writesAsk replacedBy replacedIn takes
     outlives takenBy takenIn keptBy keptThrough partMatters matters pruned
 leftOf texts = pruned (linesOf texts)
 
 -- ---- quotes, moves and openings
 
 -- those of 7 BEFORE ITS LAST EVALUATION ARE LEFT OUT, over an evaluation between them too. Those behind it stay, and so
--- do those of 8, which is evaluated earlier; evaluations and the close stay
+-- do those of 8, which is evaluated earlier. Evaluations stay, and of the two closes the last
 pub watched-are : leftOf
     ("evaluate 8 4 0 0 0 0 0 0 0 0 0 0 0" ∷ "quote 8 36000 0 1062960 0" ∷ "quote 7 36000 0 1062960 0" ∷ "open 7"
     ∷ "evaluate 7 4 0 0 0 0 0 0 0 0 0 0 0" ∷ "move 7 0" ∷ "move 8 1" ∷ "# closed"
     ∷ "evaluate 7 5 0 0 0 0 0 0 0 0 0 0 0" ∷ "quote 7 36001 0 1062960 0" ∷ "open 8" ∷ "# closed" ∷ [])
     ≡ linesOf
     ("evaluate 8 4 0 0 0 0 0 0 0 0 0 0 0" ∷ "quote 8 36000 0 1062960 0"
-    ∷ "evaluate 7 4 0 0 0 0 0 0 0 0 0 0 0" ∷ "move 8 1" ∷ "# closed" ∷ "evaluate 7 5 0 0 0 0 0 0 0 0 0 0 0" ∷ "quote 7 36001 0 1062960 0" ∷ "open 8" ∷ "# closed" ∷ [])
+    ∷ "evaluate 7 4 0 0 0 0 0 0 0 0 0 0 0" ∷ "move 8 1" ∷ "evaluate 7 5 0 0 0 0 0 0 0 0 0 0 0"
+    ∷ "quote 7 36001 0 1062960 0" ∷ "open 8" ∷ "# closed" ∷ [])
 unfolding leftOf
 watched-are = refl
 
