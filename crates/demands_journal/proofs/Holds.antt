@@ -1,23 +1,28 @@
 -- One theorem for every recovered desk: its table is the one behind lines, so that all holds of it that holds of an
 -- evening of those lines.
 use mathlib.Core.Path.{_≡_, refl, sym, ap, subst, _∙_}
+use mathlib.Core.Bool.{Bool, true, false}
 use mathlib.Core.List.{List, [], _∷_, _++_}
 use Prim.Native.Nat.{ℕ, zero, suc}
 use lib.ListN.{length, take}
 use Rattle.paper.specs.declared.Record.{Record}
+use Rattle.paper.specs.Lists.{pick}
 use Rattle.text_bytes.specs.Bytes.{isLineFeed, pieces, ended, lines}
 use Rattle.text_bytes.specs.Split.{AllFree, no-piece, piece}
 use Rattle.text_bytes.proofs.Pieces.{pieces-more, pieces-some}
-use Rattle.text_evening.specs.Evening.{startEvening, afterAll}
+use Rattle.text_evening.specs.Evening.{Evening, startEvening, after, afterAll}
 use Rattle.journal_protocol.specs.Journal.{lineTexts}
-use Rattle.journal_protocol.specs.Lines.{keptOf, allLines}
+use Rattle.journal_protocol.specs.Lines.{isKept, keptOf, allLines}
 use Rattle.journal_protocol.specs.Holds.{Torn, entriesOf, TornRecovered}
 use Rattle.journal_protocol.proofs.JournalLaws.{feed}
-use Rattle.journal_protocol.proofs.KeptLaws.{kept-fit}
+use Rattle.journal_protocol.proofs.KeptLaws.{same-desk-self, kept-lead, kept-again, kept-fit}
 use Rattle.journal_protocol.proofs.RecoveryLaws.{torn-recovered, cut-is-torn}
 use Rattle.demands_evening.specs.Holds.{ownTable, tableBehind, EveningHolds}
 use Rattle.demands_evening.proofs.Holds.{evening-holds}
-use Rattle.demands_journal.specs.Holds.{lastBytes, RecoveryHolds}
+use Rattle.demands_evening.proofs.Tables.{own-table-fresh}
+use Rattle.prune_protocol.specs.Holds.{PrunedServes}
+use Rattle.prune_protocol.proofs.Pruned.{pruned-serves}
+use Rattle.demands_journal.specs.Holds.{lastBytes, RecoveryHolds, PrunedHolds}
 
 -- ---- the lines of an evening's bytes
 
@@ -76,3 +81,32 @@ cut-holds heard last m f g =
     (cut-is-torn (suc (length (entriesOf heard (startEvening ownTable))))
     (keptOf last (afterAll (allLines heard) (startEvening ownTable)))
     (kept-fit last (afterAll (allLines heard) (startEvening ownTable)) g) m)
+
+-- ---- a pruned journal
+
+kept-free : (ls : List (List ℕ)) (e : Evening) → AllFree isLineFeed ls → AllFree isLineFeed (keptOf ls e)
+unfolding keptOf
+kept-free [] e f = f
+kept-free (l ∷ ls) e (piece g f) = go (isKept l e) (kept-free ls (after l e) f)
+  where
+    go : (x : Bool) → AllFree isLineFeed (keptOf ls (after l e))
+        → AllFree isLineFeed (pick x (l ∷ keptOf ls (after l e)) (keptOf ls (after l e)))
+    go true r = piece g r
+    go false r = r
+
+-- FOR EVERY JOURNAL THAT IS PRUNED
+pub pruned-holds : (heard : List (List ℕ)) → AllFree isLineFeed heard → PrunedHolds heard
+pruned-holds heard f =
+    let s : PrunedServes (keptOf heard (startEvening ownTable)) (startEvening ownTable) =
+    pruned-serves (keptOf heard (startEvening ownTable)) ownTable (own-table-fresh .empty)
+    (kept-free heard (startEvening ownTable) f)
+    (kept-again heard (startEvening ownTable) (startEvening ownTable) (same-desk-self (startEvening ownTable))) in
+    record {
+      serves = s;
+      holds =
+          subst (λ (table : List Record). EveningHolds (lineTexts heard) table)
+          (ap tableBehind (lines-back f)
+          ∙ sym (kept-lead heard (startEvening ownTable) (startEvening ownTable)
+          (same-desk-self (startEvening ownTable)) .table)
+          ∙ sym (s .desk .table)) (evening-holds (lineTexts heard));
+    }

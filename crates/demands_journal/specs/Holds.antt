@@ -1,5 +1,5 @@
 -- What holds of a desk that was recovered, over its whole history: the lines of every evening since the journal began.
--- proofs/Holds.antt proves it, whatever bytes stand where the last batch was to be written.
+-- proofs/Holds.antt proves it, whatever bytes stand where the last batch was to be written, and of a pruned journal.
 use mathlib.Core.List.{List, _++_}
 use Prim.Native.Nat.{ℕ, suc}
 use lib.ListN.{length, take}
@@ -7,6 +7,7 @@ use Rattle.text_evening.specs.Evening.{startEvening, afterAll}
 use Rattle.journal_protocol.specs.Journal.{lineTexts, journalText, batchAt}
 use Rattle.journal_protocol.specs.Lines.{keptOf, allLines}
 use Rattle.journal_protocol.specs.Holds.{entriesOf, RecoveredTo}
+use Rattle.prune_protocol.specs.Holds.{PrunedServes}
 use Rattle.demands_evening.specs.Holds.{ownTable, EveningHolds}
 
 -- the bytes that are written for the last batch of a journal
@@ -23,3 +24,9 @@ pub record RecoveryHolds (heard : List (List (List ℕ))) (last : List (List ℕ
   pub recovers : RecoveredTo (allLines heard ++ take count last) (startEvening ownTable)
       (journalText (entriesOf heard (startEvening ownTable)) ++ torn)
   pub holds : EveningHolds (lineTexts (allLines heard ++ take count last)) (recovers .evening .table)
+
+-- A DESK WHOSE JOURNAL WAS PRUNED: recovery serves it, and of its table all holds that holds of an evening of all lines
+-- that were heard, those too that were pruned
+pub record PrunedHolds (heard : List (List ℕ)) : Type 0 where
+  pub serves : PrunedServes (keptOf heard (startEvening ownTable)) (startEvening ownTable)
+  pub holds : EveningHolds (lineTexts heard) (serves .recovers .evening .table)
