@@ -43,10 +43,23 @@ pub pairs-are : leftOf
 unfolding leftOf
 pairs-are = refl
 
--- and one of which two notices replace both sides is left out; so is a notice that a notice of its side replaces
+-- each of these replaces both sides
+pub both-sides-are : (leftOf ("outside 7 1 2" ∷ "withdraw 7" ∷ []) ≡ linesOf ("withdraw 7" ∷ []))
+    × (leftOf ("notice 7 0 1" ∷ "notice 7 1 2" ∷ "outside 7 3 4" ∷ []) ≡ linesOf ("outside 7 3 4" ∷ []))
+    × (leftOf ("withdraw 7" ∷ "notice 7 1 2" ∷ []) ≡ linesOf ("withdraw 7" ∷ "notice 7 1 2" ∷ []))
+unfolding leftOf
+both-sides-are = (refl, refl, refl)
+
+-- and one of which two notices replace both sides is left out; so is a notice that a notice of its side replaces,
+-- whatever stands between them
 pub notices-are : leftOf
-    ("outside 7 5 6" ∷ "notice 7 1 7" ∷ "notice 7 0 8" ∷ "quote 7 36000 0 1062960 0" ∷ "notice 7 1 9" ∷ [])
-    ≡ linesOf ("notice 7 0 8" ∷ "quote 7 36000 0 1062960 0" ∷ "notice 7 1 9" ∷ [])
+    ("outside 7 5 6" ∷ "notice 7 1 7" ∷ "notice 7 0 8" ∷ "quote 7 36000 0 1062960 0"
+    ∷ "interest 0 1 9 1000 500 200 50 2 20 300 100 200 940 710 1 800 650 700 810 40 150 1" ∷ "# evening"
+    ∷ "notice 7 1 9" ∷ [])
+    ≡ linesOf
+    ("notice 7 0 8" ∷ "quote 7 36000 0 1062960 0"
+    ∷ "interest 0 1 9 1000 500 200 50 2 20 300 100 200 940 710 1 800 650 700 810 40 150 1" ∷ "# evening"
+    ∷ "notice 7 1 9" ∷ [])
 unfolding leftOf
 notices-are = refl
 
@@ -75,29 +88,43 @@ pub last-three-are : leftOf
 unfolding leftOf
 last-three-are = refl
 
--- WHAT AN EVALUATION TOOK STAYS: the newest answer of the pair that it names, among the three latest. An older answer
--- of 1/9 is left out, and one of 2/9 that nothing took. The last evaluation names 3/9, of which no answer is kept any
--- more, and so takes none: it would be refused, and no journal has it
+-- WHAT AN EVALUATION TOOK STAYS: the newest answer of the pair that it names, among the three latest, whatever stands
+-- between them. An older answer of 1/9 is left out, and those of 2/9 and 6/9, which nothing took. An evaluation names
+-- 3/9, of which no answer is kept any more, and so takes none: it would be refused, and no journal has it
 pub taken-answers-are : leftOf
-    ("interest 0 1 9 1000 500 200 50 2 20 300 100 200 940 710 1 800 650 700 810 40 150 1"
-    ∷ "interest 0 2 9 1000 500 200 50 2 20 300 100 200 940 710 1 800 650 700 810 40 150 1"
+    ("interest 0 2 9 1000 500 200 50 2 20 300 100 200 940 710 1 800 650 700 810 40 150 1"
     ∷ "interest 0 1 9 1000 500 200 50 2 20 300 100 200 940 710 1 800 650 700 810 40 150 1"
+    ∷ "interest 1 1 9 1000 500 200 50 2 20 300 100 200 940 710 1 800 650 700 810 40 150 1"
     ∷ "interest 0 3 9 1000 500 200 50 2 20 300 100 200 940 710 1 800 650 700 810 40 150 1"
+    ∷ "# closed"
+    ∷ "open 8"
+    ∷ "outside 7 3 4"
+    ∷ "evaluate 7 3 0 0 0 0 0 0 0 0 0 0 0"
     ∷ "evaluate 7 4 0 0 1 1/9 0 0 0 0 0 0"
     ∷ "interest 0 4 9 1000 500 200 50 2 20 300 100 200 940 710 1 800 650 700 810 40 150 1"
     ∷ "evaluate 7 5 0 0 0 0 0 1 4/9 0 0 0"
     ∷ "interest 0 5 9 1000 500 200 50 2 20 300 100 200 940 710 1 800 650 700 810 40 150 1"
     ∷ "interest 0 6 9 1000 500 200 50 2 20 300 100 200 940 710 1 800 650 700 810 40 150 1"
-    ∷ "evaluate 7 6 0 0 0 0 0 0 0 0 1 3/9"
-    ∷ "interest 0 7 9 1000 500 200 50 2 20 300 100 200 940 710 1 800 650 700 810 40 150 1" ∷ [])
+    ∷ "evaluate 7 6 0 0 0 0 0 0 0 0 1 5/9"
+    ∷ "evaluate 7 7 0 0 1 3/9 0 0 0 0 0 0"
+    ∷ "interest 0 7 9 1000 500 200 50 2 20 300 100 200 940 710 1 800 650 700 810 40 150 1"
+    ∷ "interest 0 8 9 1000 500 200 50 2 20 300 100 200 940 710 1 800 650 700 810 40 150 1"
+    ∷ "open 8"
+    ∷ "interest 0 9 9 1000 500 200 50 2 20 300 100 200 940 710 1 800 650 700 810 40 150 1" ∷ [])
     ≡ linesOf
-    ("interest 0 1 9 1000 500 200 50 2 20 300 100 200 940 710 1 800 650 700 810 40 150 1"
+    ("interest 1 1 9 1000 500 200 50 2 20 300 100 200 940 710 1 800 650 700 810 40 150 1"
+    ∷ "open 8"
+    ∷ "outside 7 3 4"
+    ∷ "evaluate 7 3 0 0 0 0 0 0 0 0 0 0 0"
     ∷ "evaluate 7 4 0 0 1 1/9 0 0 0 0 0 0"
     ∷ "interest 0 4 9 1000 500 200 50 2 20 300 100 200 940 710 1 800 650 700 810 40 150 1"
     ∷ "evaluate 7 5 0 0 0 0 0 1 4/9 0 0 0"
     ∷ "interest 0 5 9 1000 500 200 50 2 20 300 100 200 940 710 1 800 650 700 810 40 150 1"
-    ∷ "interest 0 6 9 1000 500 200 50 2 20 300 100 200 940 710 1 800 650 700 810 40 150 1"
-    ∷ "evaluate 7 6 0 0 0 0 0 0 0 0 1 3/9"
-    ∷ "interest 0 7 9 1000 500 200 50 2 20 300 100 200 940 710 1 800 650 700 810 40 150 1" ∷ [])
+    ∷ "evaluate 7 6 0 0 0 0 0 0 0 0 1 5/9"
+    ∷ "evaluate 7 7 0 0 1 3/9 0 0 0 0 0 0"
+    ∷ "interest 0 7 9 1000 500 200 50 2 20 300 100 200 940 710 1 800 650 700 810 40 150 1"
+    ∷ "interest 0 8 9 1000 500 200 50 2 20 300 100 200 940 710 1 800 650 700 810 40 150 1"
+    ∷ "open 8"
+    ∷ "interest 0 9 9 1000 500 200 50 2 20 300 100 200 940 710 1 800 650 700 810 40 150 1" ∷ [])
 unfolding leftOf
 taken-answers-are = refl
