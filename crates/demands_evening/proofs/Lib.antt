@@ -6,3 +6,4 @@ pub mod Tables
 pub mod Lines
 pub mod Holds
 pub mod Served
+pub mod JournalHolds

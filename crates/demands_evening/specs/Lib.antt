@@ -3,3 +3,4 @@ pub mod Whole
 pub mod Calls
 pub mod Holds
 pub mod EveningCases
+pub mod JournalHolds

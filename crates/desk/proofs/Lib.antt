@@ -17,3 +17,7 @@ pub mod Passing
 pub mod Changing
 pub mod ShapeWithRows
 pub mod Determined
+pub mod OfSlot
+pub mod Telling
+pub mod Shape
+pub mod ReasonsDetermined

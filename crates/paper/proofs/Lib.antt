@@ -4,3 +4,7 @@ pub mod Differences
 pub mod Search
 pub mod Roundings
 pub mod StaticsFacts
+pub mod ExactValues
+pub mod BitLaws
+pub mod ByValue
+pub mod EveryPattern

@@ -8,3 +8,6 @@ pub mod Verdicts
 pub mod Terms
 pub mod PinnedValues
 pub mod PinnedRanges
+pub mod Floats
+pub mod FloatValues
+pub mod FloatCases

@@ -10,7 +10,7 @@ use Rattle.paper.specs.declared.Notice.{Notice}
 use Rattle.paper.specs.declared.Notice.the-variants.{Bid, Ask, Withdrawal}
 use Rattle.paper.specs.declared.External.{External}
 use Rattle.paper.specs.Ranges.{noExternal}
-use Rattle.paper_floats.specs.Floats.{priceOf}
+use Rattle.paper.specs.Floats.{priceOf}
 
 -- "our outside source sends a bid and an ask as 64-bit floats, and a notice": both together, or a notice
 pub data Receipt : Type 0 where

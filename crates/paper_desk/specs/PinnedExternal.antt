@@ -1,6 +1,6 @@
 -- Document 02, W-211, "External prices": the pair that each receipt leaves, the floats that are refused with 20, and
 -- BID and ASK with the outside prices and without, on both sides of the book's. The general sentences are laws
--- (proofs/PinnedLaws), and the roundings of floats stand in `paper_floats`. It may use every definition of document 01,
+-- (proofs/PinnedLaws), and the roundings of floats stand in `paper`. It may use every definition of document 01,
 -- and the values of PinnedValues and PinnedSession.
 use mathlib.Core.Path.{_≡_, refl}
 use mathlib.Core.List.{List, [], _∷_, _++_, map}

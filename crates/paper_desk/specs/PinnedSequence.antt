@@ -19,7 +19,7 @@ use Rattle.paper.specs.Ranges.{validGiven, tentativeTop, validTentative, validA
 use Rattle.paper.specs.Ranges.{wholeRows, validRow, validRows, rowOf, validTerm, validDay, validQuote, validSide}
 use Rattle.paper.specs.Ranges.{sideOf, isLive, lastDay, isLimit, validLimits, validNear, validNearSeconds, validSession}
 use Rattle.paper.specs.Ranges.{validExternal, sound, validSlots}
-use Rattle.paper_floats.specs.Floats.{significand, exactValue, isAboveZero, unitsOf, priceOfBits, priceOf}
+use Rattle.paper.specs.Floats.{significand, exactValue, isAboveZero, unitsOf, priceOfBits, priceOf}
 use Rattle.paper_desk.specs.Evaluation.{rowPrice, rowWeight, roublesOf, traded, weights, worth, mean, closeOf}
 use Rattle.paper_desk.specs.Evaluation.{bestBid, lesserAsk, bestAsk, usedPair, bidOf, askOf, median, between}
 use Rattle.paper_desk.specs.Evaluation.{evaluationOf, dayRows, isCrossedRow, hasCrossedRow, rowFits}

@@ -22,8 +22,8 @@ use Rattle.paper_desk.proofs.Slots.{found-id, place-other, place-written, known
 use Rattle.paper_desk.proofs.Rules.{rule-holds}
 use Rattle.paper_desk.proofs.Others.{holds-after-step}
 use Rattle.paper.proofs.Logic.{not-true-and-false, and-left, and-right, and-both, not-true, not-false}
-use Rattle.demands.proofs.Sound.{sound-has-parts, admitted-id-in-range}
-use Rattle.demands.proofs.Good.{good-sound}
+use Rattle.paper_kept.proofs.Sound.{sound-has-parts, admitted-id-in-range}
+use Rattle.paper_kept.proofs.Good.{good-sound}
 use Rattle.demands.proofs.Kept.{slot-passes}
 use Rattle.journal_protocol.specs.Lines.{readsOnly}
 use Rattle.prune_protocol.specs.Pruning.{Part, evaluates, watches, receives, works, other, askPart, partOf}

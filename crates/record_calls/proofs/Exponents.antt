@@ -15,10 +15,10 @@ use Rattle.paper.specs.Numbers.{oneInTenThousandths, priceLeast, priceMost}
 use Rattle.paper.specs.Roundings.{halfUp}
 use Rattle.paper.specs.Ranges.{isPrice, priceMade}
 use Rattle.paper.proofs.Logic.{le-or-lt}
-use Rattle.paper_floats.specs.Floats.{leadingOne, exponents, signBit, scale, exponent, fraction, significand, power}
-use Rattle.paper_floats.specs.Floats.{exactValue, isFinite, unitsOf, priceOfBits}
-use Rattle.paper_floats.proofs.BitLaws.{same-rounded, units-monotone, scale-pos, second-fails, endless-refused}
-use Rattle.paper_floats.proofs.BitLaws.{minus-refused, plus-price}
+use Rattle.paper.specs.Floats.{leadingOne, exponents, signBit, scale, exponent, fraction, significand, power}
+use Rattle.paper.specs.Floats.{exactValue, isFinite, unitsOf, priceOfBits}
+use Rattle.paper.proofs.BitLaws.{same-rounded, units-monotone, scale-pos, second-fails, endless-refused}
+use Rattle.paper.proofs.BitLaws.{minus-refused, plus-price}
 
 -- ---- the numbers of the code: 10,000 is 625·2^4
 

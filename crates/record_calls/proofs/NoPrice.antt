@@ -10,7 +10,7 @@ use Rattle.paper.specs.declared.MadePrice.the-variants.{Made, OutOfRange}
 use Rattle.paper.specs.Lists.{pick}
 use Rattle.paper.specs.Numbers.{priceLeast, priceMost}
 use Rattle.paper.specs.Ranges.{isPrice, priceMade}
-use Rattle.paper_floats.specs.Floats.{exactValue, isFinite, isAboveZero, unitsOf, priceOfBits, priceOf}
+use Rattle.paper.specs.Floats.{exactValue, isFinite, isAboveZero, unitsOf, priceOfBits, priceOf}
 use Rattle.paper_desk.specs.External.{hasNone, unitsMade}
 use Rattle.paper.proofs.Logic.{and-left}
 

@@ -2,12 +2,12 @@
 // numbers of 64 bits. No float is added, multiplied, rounded or converted. One is compared, with itself: what is no
 // number differs from itself, and a float's bits may be read only where it is a number.
 ghost use mathlib.Core.Path.{_≡_};
-ghost use Rattle.paper_floats.specs.Floats.{priceOfBits, priceOf};
+ghost use Rattle.paper.specs.Floats.{priceOfBits, priceOf};
 use paper::MadePrice;
 use paper::ONE_IN_TEN_THOUSANDTHS;
 use paper::Price;
-use paper_floats::LEADING_ONE;
-use paper_floats::SCALE;
+use paper::floats::LEADING_ONE;
+use paper::floats::SCALE;
 
 // 10,000·significand can pass 64 bits. But 10,000 is 625·2^4, and 625·significand is below 2^63.
 const FACTOR: u64 = ONE_IN_TEN_THOUSANDTHS / 16;

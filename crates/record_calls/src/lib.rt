@@ -9,7 +9,7 @@ pub mod good; // a record that every accepted call keeps sound
 
 ghost use mathlib.Core.Path.{_≡_};
 ghost use mathlib.Core.Bool.{true};
-ghost use Rattle.paper_floats.specs.Floats.{priceOf};
+ghost use Rattle.paper.specs.Floats.{priceOf};
 ghost use Rattle.paper_desk.specs.External.{Receipt, unitsMade};
 ghost use Rattle.paper_desk.specs.Desk.{Ask, askOf};
 ghost use Rattle.record_answers.specs.Effects.{isKnown, effectOf};

@@ -2,3 +2,4 @@
 pub mod Verdicts
 mod Cases
 mod Maturities
+mod ReasonWords

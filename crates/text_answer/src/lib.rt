@@ -2,6 +2,7 @@
 // a quote's two alerts or a number alone; and what it answers to a line that is no call.
 pub mod interest_line; // an interest line's answer
 pub mod record; // the parts of a record
+pub mod why; // the answer that says why
 
 ghost use mathlib.Core.List.{[], _∷_};
 ghost use Prim.Native.Nat.{_+_, _≤_};

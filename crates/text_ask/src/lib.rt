@@ -1,8 +1,8 @@
-// What a line asks for goes to the desk. Where it is asked why of an evaluation, `desk_reasons` says it first, on the
+// What a line asks for goes to the desk. Where it is asked why of an evaluation, `desk::reasons` says it first, on the
 // table as it stands; then the call is performed. Nothing here looks into an answer or a reason.
 use desk::about_known;
 use desk::admit;
-use desk_reasons::why_asked;
+use desk::reasons::why_asked;
 use paper::Answer;
 use paper::Record;
 use paper::Verdict;

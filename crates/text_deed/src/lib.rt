@@ -17,6 +17,8 @@ use record_reasons::fields::field_at_fault;
 use text_answer::interest_line::say_interest;
 use text_answer::say_answer;
 use text_answer::say_bad;
+use text_answer::why::say_field;
+use text_answer::why::say_why;
 use text_bond::bond_of;
 use text_bond::say_bond;
 use text_broadcast::say_messages;
@@ -36,8 +38,6 @@ use text_protocol::Kept;
 use text_protocol::Pairs;
 use text_protocol::Performed;
 use text_protocol::Role;
-use text_why::say_field;
-use text_why::say_why;
 
 // What the calls beside the table answer to a line, the interest side's and a bond's: only the one that the line asks
 // for counts.

@@ -94,9 +94,9 @@ use Rattle.desk.proofs.Frame.{value as local′, tag, payload, sets, leaves-wit
 use Rattle.desk.proofs.Lending.{ℓt, Lending, rref, wref, ref, machine, Lent as Shared, lent, lends}
 use Rattle.desk.proofs.Calls.{Owned, lent-out, taken-back}
 use Rattle.desk.proofs.Asks.{Callee, calls, consults, says as learned}
-use Rattle.desk_reasons.proofs.why_asked as why
-use Rattle.desk_reasons.proofs.why_asked.Symbol as why-def
-use Rattle.desk_reasons.proofs.why_asked.Met as why-thm
+use Rattle.desk.proofs.reasons.why_asked as why
+use Rattle.desk.proofs.reasons.why_asked.Symbol as why-def
+use Rattle.desk.proofs.reasons.why_asked.Met as why-thm
 use Rattle.text_ask.proofs.Hands.{handing, hands, tokens-back}
 use Rattle.text_ask.proofs.Typed.{call-ty, typed-performed}
 use Rattle.text_ask.specs.WithReasons.{noReason, because, explained, unasked, explanation, DoneOf, AsksAt}
@@ -802,7 +802,7 @@ ask-spec 𝓤 H 𝓜 𝓖 𝓡 =
     (tables 𝓤 H 𝓜 𝓡 code.env .C) (tables 𝓤 H 𝓜 𝓡 code.env .Λ) key.name code.function (code.unfolded 𝓤 H 𝓜 𝓡)
     (meets 𝓤 H (𝓖 .A) (givenOf 𝓤 H 𝓜 𝓖) (𝓜 .mem) (𝓡 .run) (tablesOf 𝓤 H 𝓜 (tables 𝓤 H 𝓜 𝓡 code.env))
     (cited 𝓤 H (Says 𝓤 H (𝓖 .A) (𝓜 .mem) (𝓡 .run)) 𝓜 𝓡 code.env why-def.name why-def.routine
-    code.calls-desk-reasons·why-asked (why-thm.met 𝓤 H 𝓜 𝓖 𝓡))
+    code.calls-desk·reasons·why-asked (why-thm.met 𝓤 H 𝓜 𝓖 𝓡))
     (cited 𝓤 H (Performs 𝓤 H (𝓖 .A) (𝓜 .mem) (𝓡 .run)) 𝓜 𝓡 code.env perform-def.name perform-def.routine
     code.calls-text-ask·perform (perform-thm.met 𝓤 H 𝓜 𝓖 𝓡))
     (cited 𝓤 H (Roles 𝓤 H (𝓖 .A) (𝓜 .mem) (𝓡 .run)) 𝓜 𝓡 code.env role-def.name role-def.routine

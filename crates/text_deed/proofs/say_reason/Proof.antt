@@ -6,7 +6,7 @@ use Rattle.text_deed.proofs.say_reason.Tie as tie
 use Rattle.text_deed.proofs.say_reason.Reads as reads
 use Rattle.text_deed.proofs.say_reason.Lts as lts
 use Rattle.text_deed.proofs.say_fault.Reads as say-fault-reads
-use Rattle.text_why.proofs.say_why.Reads as say-why-reads
+use Rattle.text_answer.proofs.why.say_why.Reads as say-why-reads
 
 enum-told : tie.Need-enum-told
 enum-told c = search needs

@@ -7,8 +7,8 @@ use lib.Ieee.Compare.{differs-from-itself, nan-differs}
 use borrow.Author.Needs.{needs}
 use Rattle.paper.specs.declared.MadePrice.the-variants.{OutOfRange}
 use Rattle.paper.proofs.Logic.{not-true-and-false}
-use Rattle.paper_floats.specs.Floats.{priceOfBits, priceOf}
-use Rattle.paper_floats.proofs.ByValue.{nan-refused}
+use Rattle.paper.specs.Floats.{priceOfBits, priceOf}
+use Rattle.paper.proofs.ByValue.{nan-refused}
 use Rattle.record_calls.proofs.floats.price_of.Statement.{statement}
 use Rattle.record_calls.proofs.floats.price_of.Tie as tie
 

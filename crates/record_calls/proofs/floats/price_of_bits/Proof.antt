@@ -7,7 +7,7 @@ use native.Mathlib.Omega.{arith}
 use lib.Pow.{pow-pos, pow-lt}
 use borrow.Author.Needs.{needs}
 use Rattle.paper.specs.Ranges.{priceMade}
-use Rattle.paper_floats.specs.Floats.{leadingOne}
+use Rattle.paper.specs.Floats.{leadingOne}
 use Rattle.record_calls.proofs.Exponents.{wholeExponent, leastExponent, low-refused, high-refused, between-price}
 use Rattle.record_calls.proofs.floats.price_of_bits.Statement.{statement}
 use Rattle.record_calls.proofs.floats.price_of_bits.Tie as tie

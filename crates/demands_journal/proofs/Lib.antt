@@ -1,2 +1,0 @@
--- What is proved of a recovered desk; other crates may cite it.
-pub mod Holds

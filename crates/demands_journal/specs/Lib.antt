@@ -1,2 +1,0 @@
--- What holds of a recovered desk.
-pub mod Holds
