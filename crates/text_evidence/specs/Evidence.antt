@@ -35,7 +35,7 @@ counted-on a x b y c p q = omega (arith, p, q)
 
 -- before the first call of `read`
 abbrev pub unread : Delivered
-unread = record { all = 0; room = 0; came = 0; well = true }
+unread = record { all = 0; room = 0; came = 0; failed = 0 }
 
 -- room was offered, and nothing came
 abbrev pub hasEnded : Delivered → Bool
@@ -58,11 +58,11 @@ not-ended-is-some d h e = positive (d .came) (eqb-false (d .came) 0 (rw (lt-ltb 
 
 -- a read failed: nothing came, and C said so
 abbrev pub hasFailed : Delivered → Bool
-hasFailed d = hasEnded d && not (d .well)
+hasFailed d = hasEnded d && not (eqb (d .failed) 0)
 
 -- the input has ended, and no read failed
 abbrev pub isWell : Delivered → Bool
-isWell d = hasEnded d && d .well
+isWell d = hasEnded d && eqb (d .failed) 0
 
 -- ONE CALL OF `read` behind the first `have` bytes of a buffer: they stay, and the room behind them was offered
 pub record Fills (b : List ℕ) (have : ℕ) (before : Delivered) (b' : List ℕ) (r : Delivered) : Type 0 where

@@ -13,12 +13,13 @@ use libc::STDOUT_FILENO;
 // ---- the input
 
 // What `read` did: so many bytes came in `all` its calls so far, as many as 64 bits can count; the last call offered
-// so much `room`, so many bytes `came`, and it went `well` unless C said that it failed.
+// so much `room`, so many bytes `came`, and it `failed` unless that is 0, as C said. Each field fills its eight bytes: the
+// state is copied in every turn, and a yes or no would be copied with a gap beside it, which takes longer than all four.
 pub struct Delivered {
     all: u64,
     room: usize,
     came: usize,
-    well: bool,
+    failed: u64,
 }
 
 // Before the first call: no room was offered, so that nothing is said of the input's end.
@@ -29,7 +30,7 @@ pub fn unread() -> Delivered
         all: 0,
         room: 0,
         came: 0,
-        well: true,
+        failed: 0,
     }
 }
 
@@ -59,14 +60,14 @@ impl Delivered {
     pub fn has_failed(self) -> bool
         ensures { λ r. ⌜ r ≡ hasFailed self ⌝ }
     {
-        (0 < self.room) & (self.came == 0) & !self.well
+        (0 < self.room) & (self.came == 0) & !(self.failed == 0)
     }
 
     // Whether the input has ended, and no read failed.
     pub fn is_well(self) -> bool
         ensures { λ r. ⌜ r ≡ isWell self ⌝ }
     {
-        (0 < self.room) & (self.came == 0) & self.well
+        (0 < self.room) & (self.came == 0) & (self.failed == 0)
     }
 }
 
@@ -106,7 +107,7 @@ pub fn fill(buf: &mut [u8], have: usize, before: Delivered) -> Delivered
         all: counted(before.all, came as u64),
         room: buf.len() - have,
         came,
-        well: got >= 0,
+        failed: (got < 0) as u64,
     }
 }
 

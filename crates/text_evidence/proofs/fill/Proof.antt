@@ -39,6 +39,9 @@ counted-requires c κs = search needs
 sub-t15 : tie.Need-sub-t15
 sub-t15 c = search needs
 
+cast-t17 : tie.Need-cast-t17
+cast-t17 c = search needs
+
 same-length : tie.Need-same-length
 same-length c = search needs
 
@@ -67,5 +70,6 @@ fill-spec =
     count-requires
     counted-requires
     sub-t15
+    cast-t17
     same-length
     returns)
