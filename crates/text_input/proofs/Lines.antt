@@ -21,7 +21,8 @@ use Rattle.text_line.proofs.LineLoop.{long-line}
 use Rattle.text_input.specs.declared.Input.{Input}
 use Rattle.text_input.specs.declared.Passed.{Passed}
 use Rattle.text_input.specs.declared.Heard.{Heard}
-use Rattle.text_input.specs.Input.{lineLength, Unbroken, unread, Stands, Over, Ends, Next, Passes, Readied, LongPassed}
+use Rattle.text_input.specs.Input.{lineLength, Unbroken, unread, Stands, StandsAt, Over, Ends, Next, Passes}
+use Rattle.text_input.specs.Input.{Readied, LongPassed}
 use Rattle.paper.proofs.Logic.{not-true-and-false}
 use Rattle.text_input.proofs.InputLoops.{unbroken-both, line-le}
 use Rattle.text_evidence.proofs.Shifting.{drop-take-of}
@@ -198,6 +199,19 @@ module _ (b : List ℕ) (i : Input) (p : Stands b i) where
 
       pub long-says : (l : Line) (xs : List ℤ) → length xs ≡ keptMost → l ≡ badLine → LineSays (meaning long) l xs
       long-says l xs x e = long-line long l xs x (omega (arith, long-size)) e
+
+      pub long-is-long : longest < length long
+      long-is-long = omega (arith, long-size)
+
+-- where a line stands that is whole, or all that there is
+pub stands-there : {b : List ℕ} {i : Input} → Stands b i → (i .end < i .len) ⊎ (i .len ≤ longest)
+    → StandsAt b (i .at) (i .end) (take (i .end - i .at) (drop (i .at) b))
+stands-there {b} {i} p h =
+    record { low = p .low; high = omega (arith, p .high, p .in-b, p .long); short = fits h; is = inl refl }
+  where
+    fits : (i .end < i .len) ⊎ (i .len ≤ longest) → i .end - i .at ≤ longest
+    fits (inl k) = omega (arith, k, p .in-b)
+    fits (inr k) = omega (arith, k, p .high)
 
 -- ---- the input that was made ready
 

@@ -7,7 +7,7 @@ use Prim.Native.Nat.{ℕ, _+_, _-_, _≤_, _<_}
 use lib.IntN.{ℤ}
 use lib.ListN.{length, take, drop}
 use Rattle.text_bytes.specs.Bytes.{room, lineFeed, isNot, run}
-use Rattle.text_protocol.specs.Line.{meaning}
+use Rattle.text_protocol.specs.Line.{meaning, longest}
 use Rattle.text_line.specs.ReadLine.{LineSays}
 use Rattle.text_evidence.specs.declared.Delivered.{Delivered}
 use Rattle.text_evidence.specs.Evidence.{countMost, hasEnded, Counted}
@@ -104,8 +104,16 @@ pub record LongPassed (was : Delivered) (b' : List ℕ) (left : ℕ) (r : Input)
       ⊎ ((got ≡ rest) × (r .left ≡ 0) × (r .at ≡ r .len) × Over (r .read) rest)
   pub stands : Stands b' r
 
+-- WHERE A LINE STANDS in a buffer: from `from` to `to`, unless it is longer than a line may be
+pub record StandsAt (b : List ℕ) (from to : ℕ) (line : List ℕ) : Type 0 where
+  pub low : from ≤ to
+  pub high : to ≤ length b
+  pub short : to - from ≤ longest
+  pub is : (line ≡ take (to - from) (drop from b)) ⊎ (longest < length line)
+
 -- THE LINE THAT IS HEARD is what the definition says of its bytes
 pub record Hears (b : List ℕ) (s : Input) (b' : List ℕ) (r : Heard) (xs : List ℤ) : Type 0 where
   pub line : List ℕ
   pub next : Next b s b' (r .input) line
   pub says : LineSays (meaning line) (r .line) xs
+  pub there : StandsAt b' (r .from) (r .to) line

@@ -177,10 +177,13 @@ fn ended(len: usize, read: Delivered) -> Input
     }
 }
 
-// What was heard: the line, and the input behind it.
+// What was heard: the line, the input behind it, and where the line's bytes stand in the buffer, unless it is longer than
+// the buffer.
 pub struct Heard {
     pub input: Input,
     pub line: Line,
+    pub from: usize,
+    pub to: usize,
 }
 
 // The input behind a line that is longer than the buffer.
@@ -212,13 +215,28 @@ pub fn hear(buf: &mut [u8], xs: &mut [i64], s: Input) -> Heard
         let line = read_line(&buf[at..end], xs);
         let next = end + 1;
         let input = from_place(buf, next, len, left, read);
-        return Heard { input, line };
+        return Heard {
+            input,
+            line,
+            from: at,
+            to: end,
+        };
     }
     if LONGEST < len {
         let input = behind_long(buf, left, read);
-        return Heard { input, line: bad() };
+        return Heard {
+            input,
+            line: bad(),
+            from: 0,
+            to: 0,
+        };
     }
     let line = read_line(&buf[at..end], xs);
     let input = ended(len, read);
-    Heard { input, line }
+    Heard {
+        input,
+        line,
+        from: at,
+        to: end,
+    }
 }

@@ -84,7 +84,7 @@ state-ty = tyStruct (G.struct .name) (tcons I′.mir (tcons (tyInt w64) (tcons K
 
 abbrev pub heard-ty : Ty
 heard-ty = tyStruct (P.struct .name) (tcons G′.mir (tcons (tyInt w64) (tcons A′.mir (tcons B′.mir (tcons tyBool
-    tnil)))))
+    (tcons (tyInt w64) (tcons (tyInt w64) tnil)))))))
 
 abbrev pub state-val : State → Val
 state-val = LL.val G.the-type G′.the-laws

@@ -26,13 +26,13 @@ use Rattle.text_turn.specs.Tells.{halted, Goes, wait, handed}
 use Rattle.text_serve.specs.Serve.{eveningOf, Turns, handedOf, Run, starts, goes, Each, joined, mostLines, Cut}
 use Rattle.text_serve.specs.Serve.{Serves}
 
-joined-more : (ls : List (List ℕ)) (u g : List ℕ) → joined ls u ++ g ≡ joined ls (u ++ g)
+pub joined-more : (ls : List (List ℕ)) (u g : List ℕ) → joined ls u ++ g ≡ joined ls (u ++ g)
 unfolding joined
 joined-more [] u g = refl
 joined-more (l ∷ ls) u g = append-assoc l (lineFeed ∷ joined ls u) g ∙ ap (λ (z : List ℕ). l ++ lineFeed ∷ z)
     (joined-more ls u g)
 
-joined-one : (ls : List (List ℕ)) (l u : List ℕ) → joined (ls ++ l ∷ []) u ≡ joined ls (l ++ lineFeed ∷ u)
+pub joined-one : (ls : List (List ℕ)) (l u : List ℕ) → joined (ls ++ l ∷ []) u ≡ joined ls (l ++ lineFeed ∷ u)
 unfolding joined
 joined-one [] l u = refl
 joined-one (k ∷ ls) l u = ap (λ (z : List ℕ). k ++ lineFeed ∷ z) (joined-one ls l u)
@@ -43,13 +43,13 @@ unfolding answers
 answers-one telling ls l e =
     told-at telling ls [] l e ∙ append-nil (answers telling ls e ++ answer telling l (afterAll ls e))
 
-each-one : (ls : List (List ℕ)) (l : List ℕ) → Each ls → Unbroken l → Each (ls ++ l ∷ [])
+pub each-one : (ls : List (List ℕ)) (l : List ℕ) → Each ls → Unbroken l → Each (ls ++ l ∷ [])
 unfolding Each
 each-one [] l e h = (h, tt)
 each-one (k ∷ ls) l e h = (e .0, each-one ls l (e .1) h)
 
 -- one line more is one more
-length-one : (ls : List (List ℕ)) (l : List ℕ) → length (ls ++ l ∷ []) ≡ length ls + 1
+pub length-one : (ls : List (List ℕ)) (l : List ℕ) → length (ls ++ l ∷ []) ≡ length ls + 1
 length-one ls l = length-append ls (l ∷ [])
 
 -- HOW FAR THE INPUT IS HEARD: the bytes of the buffer b that are not used stand behind the lines, and the lines and
@@ -107,7 +107,7 @@ none-yet telling t b o long long-out =
     }
 
 -- an input that is halted stands as it stood
-stands-halted : (b : List ℕ) (i : Input) → Stands b i → Stands b (halted i)
+pub stands-halted : (b : List ℕ) (i : Input) → Stands b i → Stands b (halted i)
 unfolding unread
 stands-halted b i s = record { low = s .low; high = s .high; in-b = s .in-b; long = s .long; is = s .is }
 

@@ -1,14 +1,14 @@
 -- The laws of text_serve, a file each; other crates may cite the public ones.
-mod Saying
-mod Turning
-mod Joining
+pub mod Saying
+pub mod Turning
+pub mod Joining
 pub mod Arrays
-mod Hears
-mod Finds
-mod Keeping
-mod Noted
-mod Performs
-mod Tells
-mod Held
-mod Steps
-mod Buffers
+pub mod Hears
+pub mod Finds
+pub mod Keeping
+pub mod Noted
+pub mod Performs
+pub mod Tells
+pub mod Held
+pub mod Steps
+pub mod Buffers

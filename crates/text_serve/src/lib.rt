@@ -31,7 +31,7 @@ use text_turn::rows_of;
 use text_turn::start;
 
 // Hears the next line, with the bytes and the numbers of it in arrays, whose lengths their types say.
-fn hear_in(buf: &mut [u8; ROOM], xs: &mut [i64; KEPT], s: State) -> Prepared
+pub fn hear_in(buf: &mut [u8; ROOM], xs: &mut [i64; KEPT], s: State) -> Prepared
     requires { ⌜ Stands (now buf) (s .input) ⌝ }
     ensures { λ r. ⌜ Prepares (now (buf .entry)) s (now (buf .exit)) r (now (xs .exit)) ⌝ }
 {
@@ -39,14 +39,14 @@ fn hear_in(buf: &mut [u8; ROOM], xs: &mut [i64; KEPT], s: State) -> Prepared
 }
 
 // The row figures of a line of so many numbers.
-fn rows_in(xs: &[i64; KEPT], count: usize) -> &[i64]
+pub fn rows_in(xs: &[i64; KEPT], count: usize) -> &[i64]
     ensures { λ r. ⌜ now r ≡ drop evaluateCount (take count (now (xs .entry))) ⌝ }
 {
     rows_of(xs, count)
 }
 
 // As many places are noted, an entry for the ids with one rest: a power of two above the slots.
-const PLACES: usize = 1024;
+pub const PLACES: usize = 1024;
 
 // The same, for an id to be divided by.
 const RESTS: u64 = 1024;
@@ -59,7 +59,7 @@ fn entry_of(id: u64) -> usize
 }
 
 // What is noted of an id, or of another with its entry: 0, or one more than a place whose slot is good.
-fn guess_in(places: &[usize; PLACES], id: u64) -> usize
+pub fn guess_in(places: &[usize; PLACES], id: u64) -> usize
     ensures { λ r. ⌜ r ≡ getD (now (places .entry)) (entryOf id) 0 ⌝ }
 {
     let k = entry_of(id);
@@ -97,7 +97,7 @@ fn note_of(at: usize, good: bool) -> usize
 }
 
 // Notes it of an id.
-fn note_in(places: &mut [usize; PLACES], id: u64, note: usize)
+pub fn note_in(places: &mut [usize; PLACES], id: u64, note: usize)
     ensures { λ _. ⌜ now (places .exit) ≡ set (now (places .entry)) (entryOf id) note ⌝ }
 {
     let k = entry_of(id);
@@ -133,14 +133,14 @@ pub fn step<'a, 'b>(
 }
 
 // No number.
-fn no_numbers() -> [i64; KEPT]
+pub fn no_numbers() -> [i64; KEPT]
     ensures { λ r. ⌜ keptMost ≡ length r ⌝ }
 {
     [0; KEPT]
 }
 
 // No place is noted.
-fn no_places() -> [usize; PLACES]
+pub fn no_places() -> [usize; PLACES]
     ensures { λ r. ⌜ r ≡ replicate placesMost 0 ⌝ }
 {
     [0; PLACES]
@@ -170,7 +170,7 @@ pub fn fresh() -> [Record; Record::SLOTS_MOST]
 }
 
 // The line that was heard last, by the number of the next one.
-fn last_heard(next: u64) -> u64 {
+pub fn last_heard(next: u64) -> u64 {
     if next < 2 {
         return 1;
     }

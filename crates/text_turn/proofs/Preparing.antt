@@ -41,6 +41,8 @@ pub prepared : (b : List ℕ) (s : State) (b' : List ℕ) (h : Heard) (xs : List
       ask = w .ask;
       beside = w .beside;
       asked = asked;
+      from = h .from;
+      to = h .to;
     }) xs
 prepared b s b' h xs w asked p q e =
     let d : AsksFor (s .kept) (deedOf (s .kept) (meaning (p .line))) (take (h .line .count) xs) w =
@@ -57,4 +59,5 @@ prepared b s b' h xs w asked p q e =
       number = refl;
       waiting = refl;
       told = refl;
+      there = p .there;
     }

@@ -10,7 +10,7 @@ use Rattle.text_protocol.specs.Line.{meaning}
 use Rattle.text_protocol.specs.Calls.{deedOf, deedAsked}
 use Rattle.text_evening.specs.Evening.{keptBy, lastNumber}
 use Rattle.text_evidence.specs.Evidence.{unread, unwritten}
-use Rattle.text_input.specs.Input.{Next}
+use Rattle.text_input.specs.Input.{Next, StandsAt}
 use Rattle.text_deed.specs.Deeds.{BesideIs, asksWhy}
 use Rattle.text_turn.specs.declared.State.{State}
 use Rattle.text_turn.specs.declared.Prepared.{Prepared}
@@ -27,6 +27,7 @@ pub record Prepares (b : List ℕ) (s : State) (b' : List ℕ) (r : Prepared) (x
   pub number : r .state .number ≡ s .number
   pub waiting : r .state .waiting ≡ s .waiting
   pub told : r .state .told ≡ s .told
+  pub there : StandsAt b' (r .from) (r .to) line
 
 -- at the start nothing is read, nothing is kept and nothing waits, and the first line is the next; `telling` is how
 -- lines are told, from the start to the end

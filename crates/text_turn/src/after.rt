@@ -19,7 +19,7 @@ use text_protocol::Performed;
 use text_protocol::WAITING_MOST;
 
 // The number of the line behind the n-th.
-fn number_after(n: u64) -> u64
+pub fn number_after(n: u64) -> u64
     ensures { λ r. ⌜ r ≡ numberAfter n ⌝ }
 {
     if n < u64::MAX {
@@ -29,7 +29,7 @@ fn number_after(n: u64) -> u64
 }
 
 // Where a write failed, no line more is heard.
-fn stopped(i: Input, ok: bool) -> Input
+pub fn stopped(i: Input, ok: bool) -> Input
     ensures { λ r. ⌜ r ≡ pick ok i (halted i) ⌝ }
 {
     if ok {
@@ -47,7 +47,7 @@ fn stopped(i: Input, ok: bool) -> Input
 
 // Whether the answers are written now: no line is left to hear, the next line has to be waited for, or there is no room
 // for one more answer.
-fn is_due(i: Input, n: usize) -> bool
+pub fn is_due(i: Input, n: usize) -> bool
     ensures { λ r. ⌜ (r ≡ false → ((n + answerMost ≤ room) × (i .end < i .len) × (0 < i .left))) ⌝ }
 {
     if i.left == 0 {

@@ -34,13 +34,16 @@ pub struct State {
 }
 
 // A line that was heard: the state behind it, but for the number of the line, which goes on once it is told; how many
-// numbers the line has, what it asks for, what is answered to it beside the table, and whether why is asked.
+// numbers the line has, what it asks for, what is answered to it beside the table, whether why is asked, and where the
+// line's bytes stand in the buffer.
 pub struct Prepared {
     pub state: State,
     pub count: usize,
     pub ask: Ask,
     pub beside: Beside,
     pub asked: bool,
+    pub from: usize,
+    pub to: usize,
 }
 
 // Hears the next line.
@@ -74,6 +77,8 @@ pub fn prepare(buf: &mut [u8], xs: &mut [i64], s: State) -> Prepared
         ask,
         beside,
         asked: asks_why(telling),
+        from: h.from,
+        to: h.to,
     }
 }
 

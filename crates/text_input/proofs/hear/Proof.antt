@@ -1,8 +1,10 @@
 -- `text_input::hear` meets its contract: the next line.
-use Rattle.text_input.proofs.Lines.{next-whole, next-last, next-long, long-says, next-readied, at-front, not-full}
+use Rattle.text_input.proofs.Lines.{next-whole, next-last, next-long, long-says, long-is-long, next-readied, at-front, not-full}
+use Rattle.text_input.proofs.Lines.{stands-there}
 use native.Mathlib.Omega.{arith}
 use Prim.Native.Nat.{_-_, _≤_, _<_}
 use mathlib.Core.Path.{_≡_, refl, sym, ap, _∙_}
+use mathlib.Core.Logic.{inl, inr}
 use borrow.Author.Needs.{needs}
 use Rattle.text_input.proofs.hear.Statement.{statement}
 use Rattle.text_input.proofs.hear.Tie as tie
@@ -52,6 +54,7 @@ returns c =
       line = _;
       next = next-readied p (next-whole _ _ (p .stands) _ (f .0) (f .1) (f .2) (f .3) (f .4) (at-if1 .if1 .taken));
       says = c .before .before .before .read-line .ensures;
+      there = stands-there (p .stands) (inl (at-if1 .if1 .taken));
     }
 
 behind-long-requires : tie.Need-behind-long-requires
@@ -78,6 +81,7 @@ returns-2 c =
       line = _;
       next = next-readied p (next-long _ _ (p .stands) h front over _ _ q);
       says = long-says _ _ (p .stands) h front over _ _ q _ _ (entered .pre .1) (c .bad .ensures);
+      there = record { low = omega arith; high = omega arith; short = omega arith; is = inr (long-is-long _ _ (p .stands) h front over _ _ q) };
     }
 
 sub-read-line-2 : tie.Need-sub-read-line-2
@@ -111,6 +115,7 @@ returns-3 c =
       line = _;
       next = next-readied p (next-last _ _ (p .stands) (at-if1 .if1 .left) _ ended (c .ended .ensures));
       says = c .before .before .read-line2 .ensures;
+      there = stands-there (p .stands) (inr (c .before .before .before .before .before .before .if2 .left));
     }
 
 pub hear-spec : {M : Type 1} → statement M
