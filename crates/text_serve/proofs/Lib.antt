@@ -8,6 +8,7 @@ pub mod Finds
 pub mod Keeping
 pub mod Noted
 pub mod Performs
+pub mod Asked
 pub mod Tells
 pub mod Held
 pub mod Steps

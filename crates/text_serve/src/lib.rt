@@ -7,6 +7,7 @@ ghost use lib.ListN.{length, take, drop, replicate, getD, set};
 ghost use Rattle.paper_desk.specs.Desk.{blank};
 ghost use Rattle.text_input.specs.Input.{Stands};
 ghost use Rattle.text_turn.specs.Turn.{Prepares};
+ghost use Rattle.text_ask.specs.WithReasons.{Asks};
 ghost use Rattle.text_serve.specs.Serve.{Turns, Serves};
 ghost use Rattle.text_serve.specs.Places.{placesMost, entryOf, noteOf, Sound};
 ghost use Rattle.text_bytes.specs.Bytes.{room};
@@ -22,7 +23,9 @@ use text_ask::ask;
 use text_ask::id_asked;
 use text_bytes::ROOM;
 use text_evening::Telling;
+use text_protocol::Ask;
 use text_protocol::KEPT;
+use text_protocol::Performed;
 use text_turn::Prepared;
 use text_turn::State;
 use text_turn::after::tell;
@@ -104,9 +107,33 @@ pub fn note_in(places: &mut [usize; PLACES], id: u64, note: usize)
     places[k] = note;
 }
 
-// One line: heard, asked of the desk, answered. The place of the security that it asks about is guessed, and noted for
-// the next line about it where its slot is good: that line finds it without a search, and its record is not tested once
-// more. The numbers of the line have a lifetime of their own.
+// What a line asks for, asked of the desk: every program that performs lines does it here. The place of the security that
+// the line asks about is guessed, and noted for the next line about it where its slot is good: that line finds it
+// without a search, and its record is not tested once more. The numbers of the line have a lifetime of their own.
+pub fn asked_in<'a, 'b>(
+    t: &'a mut [Record],
+    xs: &'b [i64; KEPT],
+    places: &'a mut [usize; PLACES],
+    a: Ask,
+    count: usize,
+    asked: bool,
+) -> Performed
+    requires { ⌜ Sound (now t) (now places) ⌝ }
+    ensures { λ r. ⌜ (Asks asked a (drop evaluateCount (take count (now (xs .entry)))) (now (t .entry)) r (now (t .exit)))
+        × Sound (now (t .exit)) (now (places .exit)) ⌝ }
+{
+    let id = id_asked(a);
+    let noted = guess_in(places, id);
+    let guess = place_noted(noted);
+    let at = place_near(t, guess, id);
+    let known = is_noted(noted, at);
+    let good = good_at(t, at, known);
+    let note = note_of(at, good);
+    note_in(places, id, note);
+    ask(t, at, good, a, rows_in(xs, count), asked)
+}
+
+// One line: heard, asked of the desk, answered.
 pub fn step<'a, 'b>(
     t: &'a mut [Record],
     buf: &'a mut [u8; ROOM],
@@ -120,15 +147,7 @@ pub fn step<'a, 'b>(
         (now (buf .exit)) r (now (t .exit)) (now (out .exit))) × Sound (now (t .exit)) (now (places .exit)) ⌝ }
 {
     let p = hear_in(buf, xs, s);
-    let id = id_asked(p.ask);
-    let noted = guess_in(places, id);
-    let guess = place_noted(noted);
-    let at = place_near(t, guess, id);
-    let known = is_noted(noted, at);
-    let good = good_at(t, at, known);
-    let note = note_of(at, good);
-    note_in(places, id, note);
-    let a = ask(t, at, good, p.ask, rows_in(xs, p.count), p.asked);
+    let a = asked_in(t, xs, places, p.ask, p.count, p.asked);
     tell(out, p, a)
 }
 
