@@ -1,12 +1,21 @@
 // What eight steps of the division make of each byte, as a table.
 ghost use mathlib.Core.Path.{_≡_};
 ghost use Rattle.sums.specs.Sums.{byteBits};
-ghost use Rattle.sums.specs.Steps.{dividedBy};
+ghost use Rattle.sums.specs.Steps.{dividedBy, HoldSteps};
 
-pub fn eight_steps(low: u8) -> u32
+// The table: whoever divides many bytes makes it once, since a constant is copied where it is used.
+pub fn steps() -> [u32; 256]
+    ensures { λ r. ⌜ HoldSteps r ⌝ }
+{
+    STEPS
+}
+
+// What they make of one byte.
+pub fn eight_steps(table: &[u32; 256], low: u8) -> u32
+    requires { ⌜ HoldSteps (now table) ⌝ }
     ensures { λ r. ⌜ r ≡ dividedBy byteBits low ⌝ }
 {
-    STEPS[low as usize]
+    table[low as usize]
 }
 
 const STEPS: [u32; 256] = [

@@ -16,11 +16,14 @@ use Rattle.sums.proofs.add_bytes.Lts as lts
 use Rattle.sums.proofs.add_byte.Reads as add-byte-reads
 
 abbrev Inv-loop : tie.InvT-loop
-Inv-loop remainder bytes left₀ i₀ left i =
+Inv-loop remainder bytes table left₀ i₀ left i =
     (i ≤ length bytes) × (afterBytes left (drop i bytes) ≡ afterBytes remainder bytes)
 
 abbrev μ-loop : tie.MeasureT-loop
-μ-loop remainder bytes left₀ i₀ left i = length bytes - i
+μ-loop remainder bytes table left₀ i₀ left i = length bytes - i
+
+steps-requires : tie.Need-steps-requires Inv-loop μ-loop
+steps-requires c κs = search needs
 
 loop-holds : tie.Need-loop-holds Inv-loop μ-loop
 loop-holds c = search needs
@@ -29,7 +32,7 @@ shared-slice-read-add-byte : tie.Need-shared-slice-read-add-byte Inv-loop μ-loo
 shared-slice-read-add-byte c = search needs
 
 add-byte-requires : tie.Need-add-byte-requires Inv-loop μ-loop
-add-byte-requires c κs = tt
+add-byte-requires c κs = c .before .before .before .before .steps .ensures
 
 add-i : tie.Need-add-i Inv-loop μ-loop
 add-i c = search needs
@@ -40,19 +43,20 @@ loop-less c = search needs
 loop-again : tie.Need-loop-again Inv-loop μ-loop
 unfolding afterBytes
 loop-again c =
-    let at : ℕ = c .before .before .before .loop .i in
-    let bytes : List ℕ = c .before .before .before .before .before .args .bytes .now in
+    let at-loop = c .before .before .before .before in
+    let at : ℕ = at-loop .loop .i in
+    let bytes : List ℕ = at-loop .before .before .before .args .bytes .now in
     let within : at < length bytes = omega arith in (
       omega arith,
       ap₂ afterBytes (c .add-byte .ensures) (ap (λ (n : ℕ). drop n bytes) (add-one at))
-          ∙ sym (ap (afterBytes (c .before .before .before .loop .left)) (drop-cons bytes at 0 within))
-          ∙ c .before .before .before .loop .inv .1,
+          ∙ sym (ap (afterBytes (at-loop .loop .left)) (drop-cons bytes at 0 within))
+          ∙ at-loop .loop .inv .1,
     )
 
 returns : tie.Need-returns Inv-loop μ-loop
 unfolding afterBytes
 returns c =
-    let bytes : List ℕ = c .before .before .before .args .bytes .now in
+    let bytes : List ℕ = c .before .before .before .before .args .bytes .now in
     let over : length bytes ≤ c .before .loop .i = omega arith in
     sym (ap (afterBytes (c .before .loop .left)) (drop-of-length-le bytes over)) ∙ c .before .loop .inv .1
 
@@ -62,6 +66,7 @@ add-bytes-spec =
     (tie.spec
     Inv-loop
     μ-loop
+    steps-requires
     loop-holds
     shared-slice-read-add-byte
     add-byte-requires
