@@ -1,5 +1,5 @@
-// W-212: the message of each record. Kind 1 is of an admission's id and statics, 2 and 3 of a record after an
-// evaluation, 4 of a record after a move of a side.
+// W-212: the message of each record. Kind 1 is of an admission's id and statics, 2, 3 and 5 of a record after an
+// evaluation, 5 with its reasons, 4 of a record after a move of a side, and 8 of a record after an opening.
 ghost use mathlib.Core.Path.{_≡_};
 ghost use mathlib.Core.List.{map};
 ghost use Prim.Native.Nat.{_+_, _<_};
@@ -8,13 +8,20 @@ ghost use Rattle.paper_desk.specs.Sides.{limitOn};
 ghost use Rattle.paper.specs.Ranges.{flagOf, sideNumber};
 ghost use Rattle.paper_messages.specs.Fields.{places};
 ghost use Rattle.paper_messages.specs.Records.{valueOf, staticsMessage, ratesMessage, bandsMessage};
-ghost use Rattle.paper_messages.specs.Records.{moveMessage};
+ghost use Rattle.paper_messages.specs.Records.{moveMessage, reasonsMessage, sessionMessage, priceNumber};
+ghost use Rattle.paper_messages.specs.Records.{weightNumber, replacementNumber, tentativeNumber, levelNumber};
 use paper::Limits;
 use paper::Record;
 use paper::Side;
 use paper::Statics;
 use paper::Term;
 use paper_messages::Message;
+use paper_reasons::LevelReason;
+use paper_reasons::PriceReason;
+use paper_reasons::Reasons;
+use paper_reasons::ReplacementReason;
+use paper_reasons::TentativeReason;
+use paper_reasons::WeightReason;
 
 // The first number past the signed 64-bit ones.
 const PAST_SIGNED: u64 = 9_223_372_036_854_775_808;
@@ -36,7 +43,8 @@ fn value_of(n: u64) -> i64
     if n < PAST_SIGNED { n as i64 } else { -1 }
 }
 
-fn values_of(numbers: [u64; Message::PLACES]) -> [i64; Message::PLACES]
+// Numbers as the values of a message.
+pub fn values_of(numbers: [u64; Message::PLACES]) -> [i64; Message::PLACES]
     ensures { λ r. ⌜ r ≡ map valueOf numbers ⌝ }
 {
     let mut values: [i64; Message::PLACES] = [0; Message::PLACES];
@@ -253,6 +261,151 @@ pub fn move_message(r: Record, side: Side) -> Message
     ]);
     Message {
         kind: Message::MOVE,
+        fields,
+    }
+}
+
+// ---- the reasons as numbers: 0 for none, then 1, 2, .. in the order of their list
+
+fn price_number(y: PriceReason) -> u64
+    ensures { λ n. ⌜ n ≡ priceNumber y ⌝ }
+{
+    match y {
+        PriceReason::None => 0,
+        PriceReason::Close => 1,
+        PriceReason::Bid => 2,
+        PriceReason::Ask => 3,
+        PriceReason::Yesterday => 4,
+    }
+}
+
+fn weight_number(y: WeightReason) -> u64
+    ensures { λ n. ⌜ n ≡ weightNumber y ⌝ }
+{
+    match y {
+        WeightReason::None => 0,
+        WeightReason::Zero => 1,
+        WeightReason::Up => 2,
+        WeightReason::Down => 3,
+    }
+}
+
+fn replacement_number(y: ReplacementReason) -> u64
+    ensures { λ n. ⌜ n ≡ replacementNumber y ⌝ }
+{
+    match y {
+        ReplacementReason::None => 0,
+        ReplacementReason::Yes => 1,
+        ReplacementReason::No => 2,
+    }
+}
+
+fn tentative_number(y: TentativeReason) -> u64
+    ensures { λ n. ⌜ n ≡ tentativeNumber y ⌝ }
+{
+    match y {
+        TentativeReason::None => 0,
+        TentativeReason::Rose => 1,
+        TentativeReason::Fell => 2,
+        TentativeReason::Waited => 3,
+        TentativeReason::Level => 4,
+    }
+}
+
+fn level_number(y: LevelReason) -> u64
+    ensures { λ n. ⌜ n ≡ levelNumber y ⌝ }
+{
+    match y {
+        LevelReason::None => 0,
+        LevelReason::Requirement => 1,
+        LevelReason::Minimum => 2,
+        LevelReason::Maximum => 3,
+    }
+}
+
+pub fn reasons_message(r: Record, y: Reasons) -> Message
+    ensures { λ o. ⌜ o ≡ reasonsMessage r y ⌝ }
+{
+    let standing = r.standing;
+    let day = record_soundness::last_day(standing);
+    let price = y.price;
+    let weight = y.weight;
+    let replacement = y.replacement;
+    let tentative = y.tentative;
+    let level1 = y.level1;
+    let level2 = y.level2;
+    let level3 = y.level3;
+    let fields = values_of([
+        r.id,
+        day,
+        price_number(price),
+        weight_number(weight),
+        replacement_number(replacement),
+        tentative_number(tentative),
+        level_number(level1),
+        level_number(level2),
+        level_number(level3),
+        0,
+        0,
+        0,
+        0,
+        0,
+        0,
+        0,
+        0,
+        0,
+        0,
+        0,
+        0,
+        0,
+        0,
+        0,
+        0,
+        0,
+        0,
+    ]);
+    Message {
+        kind: Message::REASONS,
+        fields,
+    }
+}
+
+pub fn session_message(r: Record) -> Message
+    ensures { λ o. ⌜ o ≡ sessionMessage r ⌝ }
+{
+    let standing = r.standing;
+    let day = record_soundness::last_day(standing);
+    let fields = values_of([
+        r.id,
+        day,
+        0,
+        0,
+        0,
+        0,
+        0,
+        0,
+        0,
+        0,
+        0,
+        0,
+        0,
+        0,
+        0,
+        0,
+        0,
+        0,
+        0,
+        0,
+        0,
+        0,
+        0,
+        0,
+        0,
+        0,
+        0,
+    ]);
+    Message {
+        kind: Message::SESSION,
         fields,
     }
 }

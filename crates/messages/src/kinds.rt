@@ -97,6 +97,38 @@ const REPO: Field = Field {
     high: Term::REPO_MOST,
 };
 
+// A reason, of two, three or four: one byte, 0 for none.
+const TWO_REASONS: Field = Field {
+    width: YES_NO_WIDTH,
+    low: 0,
+    high: 2,
+};
+
+const THREE_REASONS: Field = Field {
+    width: YES_NO_WIDTH,
+    low: 0,
+    high: 3,
+};
+
+const FOUR_REASONS: Field = Field {
+    width: YES_NO_WIDTH,
+    low: 0,
+    high: 4,
+};
+
+// How many messages; and a sum, every number of four bytes, as two's complement has them.
+const COUNT: Field = Field {
+    width: PRICE_WIDTH,
+    low: 0,
+    high: i64::MAX,
+};
+
+const SUM: Field = Field {
+    width: NUMBER_WIDTH,
+    low: -2_147_483_648,
+    high: 2_147_483_647,
+};
+
 // ---- kinds
 
 // The letters of a word at most.
@@ -349,6 +381,166 @@ const MOVE: MessageKind = MessageKind {
     },
 };
 
+// ID DAY PRICE WEIGHT REPLACEMENT TENTATIVE LEVEL1 LEVEL2 LEVEL3
+const REASONS: MessageKind = MessageKind {
+    length: 17,
+    count: 9,
+    places: [
+        ID,
+        DAY,
+        FOUR_REASONS,
+        THREE_REASONS,
+        TWO_REASONS,
+        FOUR_REASONS,
+        THREE_REASONS,
+        THREE_REASONS,
+        THREE_REASONS,
+        NONE,
+        NONE,
+        NONE,
+        NONE,
+        NONE,
+        NONE,
+        NONE,
+        NONE,
+        NONE,
+        NONE,
+        NONE,
+        NONE,
+        NONE,
+        NONE,
+        NONE,
+        NONE,
+        NONE,
+        NONE,
+    ],
+    word: Word {
+        count: 7,
+        letters: [b'r', b'e', b'a', b's', b'o', b'n', b's', 0, 0, 0, 0],
+    },
+};
+
+// VERSION
+const BEGIN: MessageKind = MessageKind {
+    length: 6,
+    count: 1,
+    places: [
+        Field {
+            width: NUMBER_WIDTH,
+            low: Message::VERSION,
+            high: Message::VERSION,
+        },
+        NONE,
+        NONE,
+        NONE,
+        NONE,
+        NONE,
+        NONE,
+        NONE,
+        NONE,
+        NONE,
+        NONE,
+        NONE,
+        NONE,
+        NONE,
+        NONE,
+        NONE,
+        NONE,
+        NONE,
+        NONE,
+        NONE,
+        NONE,
+        NONE,
+        NONE,
+        NONE,
+        NONE,
+        NONE,
+        NONE,
+    ],
+    word: Word {
+        count: 5,
+        letters: [b'b', b'e', b'g', b'i', b'n', 0, 0, 0, 0, 0, 0],
+    },
+};
+
+// COUNT SUM
+const END: MessageKind = MessageKind {
+    length: 14,
+    count: 2,
+    places: [
+        COUNT,
+        SUM,
+        NONE,
+        NONE,
+        NONE,
+        NONE,
+        NONE,
+        NONE,
+        NONE,
+        NONE,
+        NONE,
+        NONE,
+        NONE,
+        NONE,
+        NONE,
+        NONE,
+        NONE,
+        NONE,
+        NONE,
+        NONE,
+        NONE,
+        NONE,
+        NONE,
+        NONE,
+        NONE,
+        NONE,
+        NONE,
+    ],
+    word: Word {
+        count: 3,
+        letters: [b'e', b'n', b'd', 0, 0, 0, 0, 0, 0, 0, 0],
+    },
+};
+
+// ID DAY
+const SESSION: MessageKind = MessageKind {
+    length: 10,
+    count: 2,
+    places: [
+        ID,
+        DAY,
+        NONE,
+        NONE,
+        NONE,
+        NONE,
+        NONE,
+        NONE,
+        NONE,
+        NONE,
+        NONE,
+        NONE,
+        NONE,
+        NONE,
+        NONE,
+        NONE,
+        NONE,
+        NONE,
+        NONE,
+        NONE,
+        NONE,
+        NONE,
+        NONE,
+        NONE,
+        NONE,
+        NONE,
+        NONE,
+    ],
+    word: Word {
+        count: 7,
+        letters: [b's', b'e', b's', b's', b'i', b'o', b'n', 0, 0, 0, 0],
+    },
+};
+
 // The row of a kind, as `kindsTable` has it.
 fn kind_of(kind: u64) -> MessageKind
     ensures { λ r. ⌜ r ≡ rowIn (kindRow kind) ⌝ }
@@ -364,6 +556,18 @@ fn kind_of(kind: u64) -> MessageKind
     }
     if kind == Message::MOVE {
         return MOVE;
+    }
+    if kind == Message::REASONS {
+        return REASONS;
+    }
+    if kind == Message::BEGIN {
+        return BEGIN;
+    }
+    if kind == Message::END {
+        return END;
+    }
+    if kind == Message::SESSION {
+        return SESSION;
     }
     UNKNOWN
 }

@@ -3,7 +3,7 @@
 -- (0 or 1)".
 use mathlib.Core.List.{List, [], _∷_, _++_, map}
 use Prim.Native.Nat.{ℕ, _+_, _-_}
-use lib.IntN.{ℤ, pos}
+use lib.IntN.{ℤ, pos, negsuc}
 use lib.ListN.{length, getD, replicate}
 use Rattle.paper.specs.Lists.{pick}
 use Rattle.paper.specs.Numbers.{priceLeast, priceMost, rateMost, volatilityMost, tentativeMost, stepMost, idMost}
@@ -24,6 +24,19 @@ bandsMessageKind = 3
 abbrev pub moveMessageKind : ℕ
 moveMessageKind = 4
 
+-- docs/BROADCAST.md: 5 reasons, 6 begin, 7 end, 8 session, which readers of kinds 1 to 4 skip by their length
+abbrev pub reasonsMessageKind : ℕ
+reasonsMessageKind = 5
+
+abbrev pub beginMessageKind : ℕ
+beginMessageKind = 6
+
+abbrev pub endMessageKind : ℕ
+endMessageKind = 7
+
+abbrev pub sessionMessageKind : ℕ
+sessionMessageKind = 8
+
 -- ---- widths
 
 -- "prices, limits and volatility eight bytes"
@@ -37,6 +50,22 @@ fourBytes low high = record { width = 4; low = low; high = high }
 -- "yes/no one (0 or 1)"
 abbrev pub yesNo : Field
 yesNo = record { width = 1; low = pos 0; high = pos 1 }
+
+-- a reason of W-207, in a byte: 0 for none, then 1, 2, .. in the order of its list
+abbrev pub reasonOf : (count : ℕ) → Field
+reasonOf count = record { width = 1; low = pos 0; high = pos count }
+
+-- a sum, in four bytes: every number of them. A field's value is signed, and the sum is the number that stands for it
+-- (`complement`)
+abbrev pub sumWidth : ℕ
+sumWidth = 4
+
+abbrev pub sumField : Field
+sumField = record { width = sumWidth; low = negsuc 2147483647; high = pos 2147483647 }
+
+-- how many messages: as many as eight bytes count
+abbrev pub countField : Field
+countField = eightBytes (pos 0) (pos 9223372036854775807)
 
 -- ---- fields that more than one kind has
 
@@ -114,6 +143,40 @@ moveFields =
     ∷ limitField
     ∷ []
 
+abbrev pub reasonsFields : List Field
+reasonsFields =
+    idField  -- ID
+    ∷ dayField  -- DAY
+    ∷ reasonOf 4  -- PRICE: close, bid, ask, yesterday
+    ∷ reasonOf 3  -- WEIGHT: zero, up, down
+    ∷ reasonOf 2  -- REPLACEMENT: yes, no
+    ∷ reasonOf 4  -- TENTATIVE: rose, fell, waited, level
+    ∷ reasonOf 3  -- LEVEL1: requirement, minimum, maximum
+    ∷ reasonOf 3  -- LEVEL2
+    ∷ reasonOf 3  -- LEVEL3
+    ∷ []
+
+-- the format's version
+abbrev pub streamVersion : ℕ
+streamVersion = 1
+
+abbrev pub beginFields : List Field
+beginFields =
+    fourBytes (pos streamVersion) (pos streamVersion)  -- VERSION
+    ∷ []
+
+abbrev pub endFields : List Field
+endFields =
+    countField  -- COUNT
+    ∷ sumField  -- SUM
+    ∷ []
+
+abbrev pub sessionFields : List Field
+sessionFields =
+    idField  -- ID
+    ∷ dayField  -- DAY
+    ∷ []
+
 -- ---- THE KINDS, one row each
 
 -- a kind of message: its fields, and the word that a member's line of it begins with
@@ -121,13 +184,17 @@ pub record MessageKind : Type 0 where
   pub fields : List Field
   pub word : List ℕ
 
--- from 1 on; the words are "statics", "rates", "bands" and "move"
+-- from 1 on; the words are "statics", "rates", "bands", "move", "reasons", "begin", "end" and "session"
 abbrev pub kindsTable : List MessageKind
 kindsTable =
     record { fields = staticsFields; word = 115 ∷ 116 ∷ 97 ∷ 116 ∷ 105 ∷ 99 ∷ 115 ∷ [] }
     ∷ record { fields = ratesFields; word = 114 ∷ 97 ∷ 116 ∷ 101 ∷ 115 ∷ [] }
     ∷ record { fields = bandsFields; word = 98 ∷ 97 ∷ 110 ∷ 100 ∷ 115 ∷ [] }
     ∷ record { fields = moveFields; word = 109 ∷ 111 ∷ 118 ∷ 101 ∷ [] }
+    ∷ record { fields = reasonsFields; word = 114 ∷ 101 ∷ 97 ∷ 115 ∷ 111 ∷ 110 ∷ 115 ∷ [] }
+    ∷ record { fields = beginFields; word = 98 ∷ 101 ∷ 103 ∷ 105 ∷ 110 ∷ [] }
+    ∷ record { fields = endFields; word = 101 ∷ 110 ∷ 100 ∷ [] }
+    ∷ record { fields = sessionFields; word = 115 ∷ 101 ∷ 115 ∷ 115 ∷ 105 ∷ 111 ∷ 110 ∷ [] }
     ∷ []
 
 abbrev pub kindsCount : ℕ

@@ -11,12 +11,15 @@ use Rattle.paper.specs.declared.Answer.{Answer}
 use Rattle.paper.specs.declared.Record.{Record}
 use Rattle.paper.specs.declared.Notice.the-variants.{Withdrawal}
 use Rattle.paper.specs.declared.Verdict.the-variants.{Done, AlreadyAdmitted, OutOfRange, MovesUsedUp}
+use Rattle.paper.specs.declared.Verdict.the-variants.{OpenedTwice}
 use Rattle.paper.specs.Lists.{three}
 use Rattle.paper.specs.PinnedValues.{idAt, admissionFrom, recordFrom}
 use Rattle.paper.specs.Ranges.{lastDay, noTerm, sideOf, givenOf, staticsOf, unsigned, validGiven, validStatics}
 use Rattle.paper.specs.Verdicts.{isDone}
 use Rattle.paper_desk.specs.Desk.{Call, admit, evaluate, quote, move, read, openEvening, receive, saying, showing}
 use Rattle.paper_desk.specs.External.{notice}
+use Rattle.paper_reasons.specs.declared.LevelReason.the-variants.{Requirement, Minimum, Maximum}
+use Rattle.paper_reasons.specs.declared.Reasons.{Reasons}
 use Rattle.paper_messages.specs.declared.Message.{Message}
 use Rattle.paper_messages.specs.Bytes.{bytesOf, complement}
 use Rattle.paper_messages.specs.Fields.{fieldsOf, filled}
@@ -25,10 +28,10 @@ use Rattle.paper_messages.specs.Fields.{placesOf}
 use Rattle.paper_messages.specs.Messages.{bodyOf, total, lengthOf, encode, isKnownKind, inRanges}
 use Rattle.paper_messages.specs.Messages.{asAdmission, lengthWidth, valid}
 use Rattle.paper_messages.specs.PinnedMessages.{staticsSent, staticsBytes, ratesBytes, bandsBytes}
-use Rattle.paper_messages.specs.PinnedRecords.{sampleNumbers, sample}
+use Rattle.paper_messages.specs.PinnedRecords.{sampleNumbers, sample, someReasons}
 use Rattle.paper_messages.specs.Records.{valueOf, message, staticsMessage, ratesMessage, bandsMessage}
-use Rattle.paper_messages.specs.Records.{moveMessage}
-use Rattle.paper_messages.specs.Broadcast.{messagesOf, sent, messageMost, allSent, broadcastOf}
+use Rattle.paper_messages.specs.Records.{moveMessage, reasonsMessage, sessionMessage}
+use Rattle.paper_messages.specs.Broadcast.{messagesOf, sent, messageMost, allSent, messagesTo, broadcastOf}
 
 -- ---- the calls
 
@@ -59,19 +62,24 @@ calls =
 
 -- ---- which messages a call sends
 
--- the kinds, in their order: an evaluation sends 2 and then 3
+-- the reasons that an evaluation had
+abbrev pub because : Reasons
+because = someReasons Requirement Minimum Maximum
+
+-- the kinds, in their order: an evaluation sends 2, then 3, then 5
 unfoldable pub kindsOf : Call → List ℕ
-kindsOf c = map (λ (m : Message). m .kind) (messagesOf c (showing sample))
+kindsOf c = map (λ (m : Message). m .kind) (messagesOf c (showing sample) because)
 
 pub kinds-sent : map kindsOf calls
-    ≡ (1 ∷ []) ∷ (2 ∷ 3 ∷ []) ∷ (4 ∷ []) ∷ (4 ∷ []) ∷ [] ∷ [] ∷ [] ∷ [] ∷ []
-unfolding calls kindsOf evaluation messagesOf staticsMessage ratesMessage bandsMessage moveMessage message
+    ≡ (1 ∷ []) ∷ (2 ∷ 3 ∷ 5 ∷ []) ∷ (4 ∷ []) ∷ (4 ∷ []) ∷ [] ∷ [] ∷ (8 ∷ []) ∷ [] ∷ []
+unfolding calls kindsOf evaluation messagesOf staticsMessage ratesMessage bandsMessage moveMessage reasonsMessage
+    sessionMessage message
 kinds-sent = refl
 
 -- a move is told of its own side, with that side's count and limits
-pub moves-told : (messagesOf (move 7 0) (showing sample)
+pub moves-told : (messagesOf (move 7 0) (showing sample) because
     ≡ message moveMessageKind (pos 7 ∷ pos 0 ∷ pos 3 ∷ pos 61 ∷ pos 62 ∷ pos 63 ∷ pos 91 ∷ pos 92 ∷ pos 93 ∷ []) ∷ [])
-    × (messagesOf (move 7 1) (showing sample)
+    × (messagesOf (move 7 1) (showing sample) because
     ≡ message moveMessageKind (pos 7 ∷ pos 1 ∷ pos 4 ∷ pos 51 ∷ pos 52 ∷ pos 53 ∷ pos 81 ∷ pos 82 ∷ pos 83 ∷ []) ∷ [])
 unfolding messagesOf showing sample moveMessage message filled valueOf sideOf
 moves-told = (refl, refl)
@@ -79,7 +87,8 @@ moves-told = (refl, refl)
 -- ---- the bytes
 
 -- the bytes of a message of each kind, with those of its length; none is longer than the longest
-pub lengths-are : map (λ (kind : ℕ). lengthWidth + lengthOf kind) (1 ∷ 2 ∷ 3 ∷ 4 ∷ []) ≡ messageMost ∷ 98 ∷ 98 ∷ 66 ∷ []
+pub lengths-are : map (λ (kind : ℕ). lengthWidth + lengthOf kind) (1 ∷ 2 ∷ 3 ∷ 4 ∷ 5 ∷ 6 ∷ 7 ∷ 8 ∷ [])
+    ≡ messageMost ∷ 98 ∷ 98 ∷ 66 ∷ 21 ∷ 10 ∷ 18 ∷ 14 ∷ []
 unfolding lengthOf total placesOf fieldsOf filled
 lengths-are = refl
 
@@ -104,22 +113,30 @@ told =
 -- the bytes of a call's broadcast. It opens every definition that they are made with, so that a table opens this one
 -- alone
 unfoldable pub bytesSent : Call → Answer → List ℕ
-unfolding broadcastOf allSent sent messagesOf staticsMessage ratesMessage bandsMessage moveMessage message valueOf
-    staticsOf sideOf lastDay isDone encode bodyOf bytesOf complement lengthOf total placesOf fieldsOf filled isKnownKind
+unfolding broadcastOf messagesTo allSent sent messagesOf staticsMessage ratesMessage bandsMessage moveMessage
+    reasonsMessage sessionMessage someReasons message valueOf staticsOf sideOf lastDay isDone encode bodyOf bytesOf complement lengthOf total placesOf fieldsOf filled isKnownKind
     valid inRanges asAdmission givenOf validGiven validStatics unsigned admission staticsBytes ratesBytes bandsBytes
-bytesSent c a = broadcastOf c a
+bytesSent c a = broadcastOf c a because
+
+-- the reasons, behind the id 7 and the day 4
+unfoldable pub reasonsBytes : List ℕ
+reasonsBytes =
+    17 ∷ 0 ∷ 0 ∷ 0 ∷ 5 ∷ 0 ∷ 7 ∷ 0 ∷ 0 ∷ 0 ∷ 4 ∷ 0 ∷ 0 ∷ 0 ∷ 4 ∷ 3 ∷ 2 ∷ 1 ∷ 1 ∷ 2 ∷ 3 ∷ []
 
 -- of an accepted call all of its messages one behind the other, of a refused one nothing. A message with a field out of
 -- its range is left out: of the sample a term has 71 days
 pub bytes-sent : (bytesSent (admit admission) (saying Done) ≡ staticsBytes)
     × (bytesSent (admit admission) (saying AlreadyAdmitted) ≡ [])
-    × (bytesSent evaluation (showing told) ≡ ratesBytes ++ sets bandsBytes 6 (7 ∷ 0 ∷ 0 ∷ 0 ∷ 4 ∷ 0 ∷ 0 ∷ 0 ∷ []))
-    × (bytesSent evaluation (showing sample) ≡ encode (ratesMessage sample))
+    × (bytesSent evaluation (showing told)
+    ≡ ratesBytes ++ sets bandsBytes 6 (7 ∷ 0 ∷ 0 ∷ 0 ∷ 4 ∷ 0 ∷ 0 ∷ 0 ∷ []) ++ reasonsBytes)
+    × (bytesSent evaluation (showing sample) ≡ encode (ratesMessage sample) ++ encode (reasonsMessage sample because))
     × (bytesSent evaluation (saying OutOfRange) ≡ [])
     × (bytesSent (move 7 0) (showing sample)
     ≡ encode (message moveMessageKind
     (pos 7 ∷ pos 0 ∷ pos 3 ∷ pos 61 ∷ pos 62 ∷ pos 63 ∷ pos 91 ∷ pos 92 ∷ pos 93 ∷ [])))
     × (bytesSent (move 7 0) (saying MovesUsedUp) ≡ [])
     × (bytesSent (read 7) (showing told) ≡ [])
-unfolding bytesSent evaluation told sample saying showing
-bytes-sent = (refl, refl, refl, refl, refl, refl, refl, refl)
+    × (bytesSent (openEvening 7) (showing told) ≡ 10 ∷ 0 ∷ 0 ∷ 0 ∷ 8 ∷ 0 ∷ 7 ∷ 0 ∷ 0 ∷ 0 ∷ 4 ∷ 0 ∷ 0 ∷ 0 ∷ [])
+    × (bytesSent (openEvening 7) (saying OpenedTwice) ≡ [])
+unfolding bytesSent evaluation told sample reasonsBytes saying showing
+bytes-sent = (refl, refl, refl, refl, refl, refl, refl, refl, refl, refl)

@@ -12,7 +12,7 @@ use Rattle.paper.specs.Verdicts.{isDone, firstOf}
 use Rattle.paper_messages.specs.declared.Field.{Field}
 use Rattle.paper_messages.specs.Bytes.{spelled, widthMost}
 use Rattle.paper_messages.specs.Fields.{eightBytes, staticsFields, ratesFields, bandsFields, moveFields}
-use Rattle.paper_messages.specs.Fields.{fieldsOf}
+use Rattle.paper_messages.specs.Fields.{reasonsFields, beginFields, endFields, sessionFields, fieldsOf}
 use Rattle.paper_messages.specs.Messages.{isKnownKind, inRanges, readChecks, refusedHeard, acceptedHeard}
 use Rattle.paper_messages.specs.Messages.{heardAt}
 
@@ -80,21 +80,39 @@ bandsRanges = ids ∷ days ∷ termRanges ++ termRanges ++ termRanges
 moveRanges : List Ranged
 moveRanges = ids ∷ range 1 0 1 ∷ range 3 0 50 ∷ replicate 6 limits
 
+-- ID DAY, and the seven reasons
+reasonsRanges : List Ranged
+reasonsRanges = ids ∷ days ∷ range 3 0 4 ∷ range 2 0 3 ∷ range 1 0 2 ∷ range 2 0 4 ∷ replicate 3 (range 1 0 3)
+
+beginRanges : List Ranged
+beginRanges = range 1 1 1 ∷ []
+
+-- COUNT and SUM: every number that eight bytes count, and that four bytes have
+endRanges : List Ranged
+endRanges = range 5 0 9223372036854775807 ∷ (pos 0, negsuc 2147483647, pos 2147483647) ∷ []
+
+sessionRanges : List Ranged
+sessionRanges = ids ∷ days ∷ []
+
 -- the fields of a kind, each at its ends and one past them, whatever kind 1 says of its fields together
 fieldEnds : List Field → List Ranged → List (List Bool)
 unfolding straddles valuesOf inRanges
 fieldEnds fields ranges = straddles (inRanges fields) (valuesOf ranges) 0 ranges
 
 pub field-ends : List (List (List Bool))
-unfolding fieldEnds staticsRanges ratesRanges bandsRanges moveRanges
+unfolding fieldEnds staticsRanges ratesRanges bandsRanges moveRanges reasonsRanges beginRanges endRanges sessionRanges
 field-ends =
     fieldEnds staticsFields staticsRanges
     ∷ fieldEnds ratesFields ratesRanges
     ∷ fieldEnds bandsFields bandsRanges
     ∷ fieldEnds moveFields moveRanges
+    ∷ fieldEnds reasonsFields reasonsRanges
+    ∷ fieldEnds beginFields beginRanges
+    ∷ fieldEnds endFields endRanges
+    ∷ fieldEnds sessionFields sessionRanges
     ∷ []
 
-pub field-ends-are : field-ends ≡ map atTheEndsAlone (27 ∷ 15 ∷ 17 ∷ 9 ∷ [])
+pub field-ends-are : field-ends ≡ map atTheEndsAlone (27 ∷ 15 ∷ 17 ∷ 9 ∷ 9 ∷ 1 ∷ 2 ∷ 2 ∷ [])
 unfolding field-ends atTheEndsAlone
 field-ends-are = refl
 
@@ -104,9 +122,9 @@ widest-is = refl
 
 -- ---- places
 
--- how many fields each kind has, and the kinds 0 and 5, which are unknown
-pub counts-are : map (λ (kind : ℕ). length (fieldsOf kind)) (0 ∷ 1 ∷ 2 ∷ 3 ∷ 4 ∷ 5 ∷ [])
-    ≡ 0 ∷ 27 ∷ 15 ∷ 17 ∷ 9 ∷ 0 ∷ []
+-- how many fields each kind has, and the kinds 0 and 9, which are unknown
+pub counts-are : map (λ (kind : ℕ). length (fieldsOf kind)) (0 ∷ 1 ∷ 2 ∷ 3 ∷ 4 ∷ 5 ∷ 6 ∷ 7 ∷ 8 ∷ 9 ∷ [])
+    ≡ 0 ∷ 27 ∷ 15 ∷ 17 ∷ 9 ∷ 9 ∷ 1 ∷ 2 ∷ 2 ∷ 0 ∷ []
 unfolding fieldsOf
 counts-are = refl
 

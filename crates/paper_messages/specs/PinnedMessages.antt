@@ -145,10 +145,10 @@ lengths-are = refl
 unfoldable pub kinds : List (List ℕ)
 kinds =
     heard (zeros 2 0 0) 0
-    ∷ heard (zeros 5 5 3) 0
+    ∷ heard (zeros 5 9 3) 0
     ∷ heard (3 ∷ 0 ∷ 0 ∷ 0 ∷ 255 ∷ 255 ∷ 7 ∷ []) 0
     ∷ heard (3 ∷ 0 ∷ 0 ∷ 0 ∷ 1 ∷ 1 ∷ 7 ∷ []) 0  -- 257
-    ∷ heard (zeros 3 5 1 ++ zeros 2 6 0) 7
+    ∷ heard (zeros 3 9 1 ++ zeros 2 10 0) 7
     ∷ heard moveBytes 0
     ∷ heard (7 ∷ 8 ∷ 9 ∷ moveBytes) 3
     ∷ heard (moveBytes ++ 1 ∷ []) 0
@@ -161,10 +161,10 @@ kinds =
 
 pub kinds-are : kinds
     ≡ (0 ∷ 0 ∷ 0 ∷ 2 ∷ 6 ∷ [])
-    ∷ (0 ∷ 0 ∷ 5 ∷ 5 ∷ 9 ∷ [])
+    ∷ (0 ∷ 0 ∷ 9 ∷ 5 ∷ 9 ∷ [])
     ∷ (0 ∷ 0 ∷ 65535 ∷ 3 ∷ 7 ∷ [])
     ∷ (0 ∷ 0 ∷ 257 ∷ 3 ∷ 7 ∷ [])
-    ∷ (0 ∷ 0 ∷ 6 ∷ 2 ∷ 13 ∷ [])
+    ∷ (0 ∷ 0 ∷ 10 ∷ 2 ∷ 13 ∷ [])
     ∷ (0 ∷ 1 ∷ 4 ∷ 62 ∷ 66 ∷ [])
     ∷ (0 ∷ 1 ∷ 4 ∷ 62 ∷ 69 ∷ [])
     ∷ (0 ∷ 1 ∷ 4 ∷ 62 ∷ 66 ∷ [])
@@ -262,7 +262,7 @@ unfoldable pub writes : List (List ℕ)
 writes =
     answered (replicate 66 9) moveTold  -- just enough
     ∷ answered (replicate 65 9) moveTold  -- one byte too few
-    ∷ answered [] (record { kind = 5; fields = moveTold .fields })  -- 23 comes before 24
+    ∷ answered [] (record { kind = 9; fields = moveTold .fields })  -- 23 comes before 24
     ∷ answered (replicate 66 9) pastLast
     ∷ answered (replicate 66 9) (record { kind = moveMessageKind; fields = set (moveTold .fields) 1 (pos 2) })
     ∷ []

@@ -1,5 +1,5 @@
--- W-212: the message of each record. Kind 1 is of an admission's id and statics, 2 and 3 of a record after an
--- evaluation, 4 of a record after a move of a side.
+-- W-212: the message of each record. Kind 1 is of an admission's id and statics, 2, 3 and 5 of a record after an
+-- evaluation, 5 with its reasons, 4 of a record after a move of a side, and 8 of a record after an opening.
 use mathlib.Core.List.{List, [], _∷_, _++_, map}
 use Prim.Native.Nat.{ℕ}
 use lib.Dec.{ltb}
@@ -12,9 +12,20 @@ use Rattle.paper.specs.Lists.{pick}
 use Rattle.paper.specs.Ranges.{numbersOf, sideNumber, lastDay, rateAt, termAt, rangeAt, bandAt}
 use Rattle.paper_desk.specs.Limits.{countOf}
 use Rattle.paper_desk.specs.Sides.{limitOn}
+use Rattle.paper_reasons.specs.declared.PriceReason.{PriceReason}
+use Rattle.paper_reasons.specs.declared.PriceReason.the-variants as price
+use Rattle.paper_reasons.specs.declared.WeightReason.{WeightReason}
+use Rattle.paper_reasons.specs.declared.WeightReason.the-variants as weight
+use Rattle.paper_reasons.specs.declared.ReplacementReason.{ReplacementReason}
+use Rattle.paper_reasons.specs.declared.ReplacementReason.the-variants as replacement
+use Rattle.paper_reasons.specs.declared.TentativeReason.{TentativeReason}
+use Rattle.paper_reasons.specs.declared.TentativeReason.the-variants as tentative
+use Rattle.paper_reasons.specs.declared.LevelReason.{LevelReason}
+use Rattle.paper_reasons.specs.declared.LevelReason.the-variants as level
+use Rattle.paper_reasons.specs.declared.Reasons.{Reasons}
 use Rattle.paper_messages.specs.declared.Message.{Message}
 use Rattle.paper_messages.specs.Fields.{staticsMessageKind, ratesMessageKind, bandsMessageKind, moveMessageKind}
-use Rattle.paper_messages.specs.Fields.{filled}
+use Rattle.paper_messages.specs.Fields.{reasonsMessageKind, sessionMessageKind, filled}
 
 -- the first number past the signed 64-bit ones
 abbrev pub pastSigned : ℕ
@@ -95,3 +106,57 @@ moveNumbers r side =
 
 unfoldable pub moveMessage : Record → Side → Message
 moveMessage r side = message moveMessageKind (map valueOf (moveNumbers r side))
+
+-- ---- the reasons of W-207 as numbers: 0 for none, then 1, 2, .. in the order of their list
+
+abbrev pub priceNumber : PriceReason → ℕ
+priceNumber price.None = 0
+priceNumber price.Close = 1
+priceNumber price.Bid = 2
+priceNumber price.Ask = 3
+priceNumber price.Yesterday = 4
+
+abbrev pub weightNumber : WeightReason → ℕ
+weightNumber weight.None = 0
+weightNumber weight.Zero = 1
+weightNumber weight.Up = 2
+weightNumber weight.Down = 3
+
+abbrev pub replacementNumber : ReplacementReason → ℕ
+replacementNumber replacement.None = 0
+replacementNumber replacement.Yes = 1
+replacementNumber replacement.No = 2
+
+abbrev pub tentativeNumber : TentativeReason → ℕ
+tentativeNumber tentative.None = 0
+tentativeNumber tentative.Rose = 1
+tentativeNumber tentative.Fell = 2
+tentativeNumber tentative.Waited = 3
+tentativeNumber tentative.Level = 4
+
+abbrev pub levelNumber : LevelReason → ℕ
+levelNumber level.None = 0
+levelNumber level.Requirement = 1
+levelNumber level.Minimum = 2
+levelNumber level.Maximum = 3
+
+-- the seven reasons of an evaluation, behind the id and the day of its record
+abbrev pub reasonsNumbers : Record → Reasons → List ℕ
+reasonsNumbers r y =
+    r .id
+    ∷ lastDay (r .standing)
+    ∷ priceNumber (y .price)
+    ∷ weightNumber (y .weight)
+    ∷ replacementNumber (y .replacement)
+    ∷ tentativeNumber (y .tentative)
+    ∷ levelNumber (y .level1)
+    ∷ levelNumber (y .level2)
+    ∷ levelNumber (y .level3)
+    ∷ []
+
+unfoldable pub reasonsMessage : Record → Reasons → Message
+reasonsMessage r y = message reasonsMessageKind (map valueOf (reasonsNumbers r y))
+
+-- an opening: of which security, and the day of its last evaluation
+unfoldable pub sessionMessage : Record → Message
+sessionMessage r = message sessionMessageKind (map valueOf (r .id ∷ lastDay (r .standing) ∷ []))

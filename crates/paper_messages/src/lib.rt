@@ -18,7 +18,8 @@ pub struct Message {
 }
 
 impl Message {
-    // "Kinds: 1 statics, 2 rates and ranges, 3 bands, 4 move."
+    // "Kinds: 1 statics, 2 rates and ranges, 3 bands, 4 move."; and of docs/BROADCAST.md 5 reasons, 6 begin, 7 end,
+    // 8 session.
     pub const STATICS: u64 = 1;
 
     pub const RATES: u64 = 2;
@@ -27,8 +28,19 @@ impl Message {
 
     pub const MOVE: u64 = 4;
 
+    pub const REASONS: u64 = 5;
+
+    pub const BEGIN: u64 = 6;
+
+    pub const END: u64 = 7;
+
+    pub const SESSION: u64 = 8;
+
+    // The format's version, which `begin` says.
+    pub const VERSION: i64 = 1;
+
     // How many kinds there are: their numbers are 1 to KINDS.
-    pub const KINDS: usize = 4;
+    pub const KINDS: usize = 8;
 
     // The most fields that a kind has: an id and the statics.
     pub const PLACES: usize = Statics::COUNT + 1;
