@@ -5,5 +5,6 @@ pub mod Calls
 pub mod Tables
 pub mod Lines
 pub mod Holds
+pub mod Streams
 pub mod Served
 pub mod JournalHolds

@@ -5,13 +5,15 @@ use mathlib.Core.Path.{_≡_, refl, sym, _∙_, ap, subst}
 use mathlib.Core.Bool.{true, false}
 use mathlib.Core.List.{List, [], _∷_, _++_}
 use mathlib.Core.Option.{Option, none, some}
-use Prim.Native.Nat.{ℕ}
+use Prim.Native.Nat.{ℕ, _≤_, _<_}
+use lib.Dec.{ltb}
 use lib.IntN.{ℤ}
+use borrow.Author.Tests.{lt-ltb, le-ltb}
 use Rattle.paper.specs.declared.Record.{Record}
 use Rattle.paper.specs.declared.Admission.{Admission}
 use Rattle.paper.specs.declared.Day.{Day}
 use Rattle.paper.specs.declared.Verdict.the-variants.{Done}
-use Rattle.paper.specs.Lists.{every}
+use Rattle.paper.specs.Lists.{pick, every}
 use Rattle.paper.specs.Ranges.{isLive}
 use Rattle.paper.specs.Verdicts.{isDone}
 use Rattle.paper_desk.specs.Sides.{shows}
@@ -30,8 +32,9 @@ use Rattle.text_protocol.specs.Answers.{figuresAnswered, callText}
 use Rattle.text_protocol.specs.Reasons.{fieldWords, spelled, wordsText, fieldText}
 use Rattle.text_evening.specs.declared.Telling.{Telling}
 use Rattle.text_evening.specs.declared.Telling.the-variants.{Answers, Reasons, Messages}
-use Rattle.paper_messages.specs.Broadcast.{messagesOf, sent, allSent, broadcastOf}
-use Rattle.text_evening.specs.Evening.{Evening, startEvening, tableAfter, answerTo, reasonOn, reasonTo, callTold}
+use Rattle.paper_messages.specs.Broadcast.{reasonsBefore, messagesOf, messagesTo, sent, allSent}
+use Rattle.text_evening.specs.Evening.{Evening, startEvening, tableAfter, answerTo, reasonOn, reasonTo, messagesTold}
+use Rattle.text_evening.specs.Evening.{callTold}
 use Rattle.text_evening.specs.Evening.{textOf, askedBy, after, answer}
 use Rattle.demands_evening.specs.Holds.{ownTable, eveningBehind, tableBehind, callsBehind, encodings}
 use Rattle.demands_evening.specs.Holds.{HistoryHolds, RecordHolds, LineHolds}
@@ -87,7 +90,10 @@ module _ (before : List (List ℕ)) (l : List ℕ) (c : Call) (asked : askedBy l
   calls-behind : callsBehind upTo ≡ callsBehind before ++ c ∷ []
   calls-behind = calls-one-more before l (startEvening ownTable) c asked
 
-  told : (telling : Telling) → answer telling l (eveningBehind before) ≡ callTold telling c t
+  abbrev number : ℕ
+  number = eveningBehind before .number
+
+  told : (telling : Telling) → answer telling l (eveningBehind before) ≡ callTold telling number c t
   unfolding answer textOf
   told telling = ap (λ (d : Deed). textOf telling (eveningBehind before .number) d t) asked
 
@@ -135,17 +141,33 @@ module _ (before : List (List ℕ)) (l : List ℕ) (c : Call) (asked : askedBy l
   whole : SentWhole c t
   whole = rw (table-made before) (sent-whole (callsBehind before) ownTable own-table-fresh c)
 
-  sent-of-accepted : answered c t ≡ Done
-      → answer Messages l (eveningBehind before) ≡ encodings (messagesOf c (step c t .answer))
-  unfolding callTold broadcastOf isDone
-  sent-of-accepted done =
-      told Messages
-      ∙ pick-true (isDone (answered c t)) _ _ (ap isDone done)
-      ∙ valid-sent _ (whole .all-valid (ap isDone done))
+  -- from the line of a number on
+  told-messages : (from : ℕ)
+      → answer (Messages from) l (eveningBehind before)
+      ≡ allSent (pick (ltb number from) [] (messagesTo c (step c t .answer) (reasonsBefore c t)))
+  unfolding callTold messagesTold
+  told-messages from = told (Messages from)
 
-  sent-of-refused : isDone (answered c t) ≡ false → answer Messages l (eveningBehind before) ≡ []
-  unfolding callTold broadcastOf
-  sent-of-refused refused = told Messages ∙ pick-false (isDone (answered c t)) _ _ refused
+  sent-of-accepted : (from : ℕ) → from ≤ number → answered c t ≡ Done
+      → answer (Messages from) l (eveningBehind before)
+      ≡ encodings (messagesOf c (step c t .answer) (reasonsBefore c t))
+  unfolding messagesTo isDone
+  sent-of-accepted from h done =
+      told-messages from
+      ∙ ap allSent (pick-false (ltb number from) _ _ (le-ltb number from h)
+      ∙ pick-true (isDone (answered c t)) _ _ (ap isDone done))
+      ∙ valid-sent _ (whole .all-valid (ap isDone done) (reasonsBefore c t))
+
+  sent-of-refused : (from : ℕ) → isDone (answered c t) ≡ false → answer (Messages from) l (eveningBehind before) ≡ []
+  unfolding messagesTo allSent
+  sent-of-refused from refused =
+      told-messages from
+      ∙ ap allSent (ap (pick (ltb number from) []) (pick-false (isDone (answered c t)) _ _ refused)
+      ∙ pick-same (ltb number from) [])
+
+  sent-before : (from : ℕ) → number < from → answer (Messages from) l (eveningBehind before) ≡ []
+  unfolding allSent
+  sent-before from h = told-messages from ∙ ap allSent (pick-true (ltb number from) _ _ (lt-ltb number from h))
 
   -- an admission is told with why by its number, and the number at fault
   fault-told : (a : Admission) → c ≡ admit a → reasonTo c t ≡ fieldText (answered c t) (fieldAtFault a)
@@ -167,4 +189,5 @@ module _ (before : List (List ℕ)) (l : List ℕ) (c : Call) (asked : askedBy l
         whole = whole;
         sent = sent-of-accepted;
         unsent = sent-of-refused;
+        untold = sent-before;
       }

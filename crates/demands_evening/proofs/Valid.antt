@@ -38,6 +38,19 @@ use Rattle.paper_messages.specs.Fields.{places, tentativeLast, filled, placesOf
 use Rattle.paper_messages.specs.Messages.{isKnownKind, inRanges, asAdmission, valid}
 use Rattle.paper_messages.specs.Records.{pastSigned, valueOf, message, staticsNumbers, staticsMessage}
 use Rattle.paper_messages.specs.Records.{ratesMessage, bandsMessage, moveMessage, rangeShown, bandShown}
+use Rattle.paper_messages.specs.Records.{priceNumber, weightNumber, replacementNumber, tentativeNumber, levelNumber}
+use Rattle.paper_messages.specs.Records.{reasonsMessage, sessionMessage}
+use Rattle.paper_reasons.specs.declared.PriceReason.{PriceReason}
+use Rattle.paper_reasons.specs.declared.PriceReason.the-variants as price
+use Rattle.paper_reasons.specs.declared.WeightReason.{WeightReason}
+use Rattle.paper_reasons.specs.declared.WeightReason.the-variants as weight
+use Rattle.paper_reasons.specs.declared.ReplacementReason.{ReplacementReason}
+use Rattle.paper_reasons.specs.declared.ReplacementReason.the-variants as replacement
+use Rattle.paper_reasons.specs.declared.TentativeReason.{TentativeReason}
+use Rattle.paper_reasons.specs.declared.TentativeReason.the-variants as tentative
+use Rattle.paper_reasons.specs.declared.LevelReason.{LevelReason}
+use Rattle.paper_reasons.specs.declared.LevelReason.the-variants as level
+use Rattle.paper_reasons.specs.declared.Reasons.{Reasons}
 
 -- ---- values in range
 
@@ -48,6 +61,43 @@ value-in low high n h l m = rw (lt-ltb n pastSigned (omega arith)) (and-both _ _
 repo-in : (x : ℤ) → natAbs x ≤ natAbs repoMost → withinZ repoLeast repoMost x ≡ true
 repo-in (pos n) h = le-leb n 9999 h
 repo-in (negsuc n) h = and-both _ _ (le-leb n 9998 (omega arith)) refl
+
+-- a reason is in the range of its list
+price-in : (x : PriceReason) → withinZ (pos 0) (pos 4) (valueOf (priceNumber x)) ≡ true
+unfolding valueOf
+price-in price.None = refl
+price-in price.Close = refl
+price-in price.Bid = refl
+price-in price.Ask = refl
+price-in price.Yesterday = refl
+
+weight-in : (x : WeightReason) → withinZ (pos 0) (pos 3) (valueOf (weightNumber x)) ≡ true
+unfolding valueOf
+weight-in weight.None = refl
+weight-in weight.Zero = refl
+weight-in weight.Up = refl
+weight-in weight.Down = refl
+
+replacement-in : (x : ReplacementReason) → withinZ (pos 0) (pos 2) (valueOf (replacementNumber x)) ≡ true
+unfolding valueOf
+replacement-in replacement.None = refl
+replacement-in replacement.Yes = refl
+replacement-in replacement.No = refl
+
+did-in : (x : TentativeReason) → withinZ (pos 0) (pos 4) (valueOf (tentativeNumber x)) ≡ true
+unfolding valueOf
+did-in tentative.None = refl
+did-in tentative.Rose = refl
+did-in tentative.Fell = refl
+did-in tentative.Waited = refl
+did-in tentative.Level = refl
+
+level-in : (x : LevelReason) → withinZ (pos 0) (pos 3) (valueOf (levelNumber x)) ≡ true
+unfolding valueOf
+level-in level.None = refl
+level-in level.Requirement = refl
+level-in level.Minimum = refl
+level-in level.Maximum = refl
 
 -- ---- a sound record
 
@@ -146,6 +196,23 @@ module _ (r : Record) (sound-record : sound r ≡ true) where
       & (range-in side 2 (omega arith)
       & (band-in side 0 (omega arith) & (band-in side 1 (omega arith) & (band-in side 2 (omega arith) & refl))))))))
       & refl
+
+  -- whatever the reasons are
+  pub reasons-valid : (y : Reasons) → valid (reasonsMessage r y) ≡ true
+  unfolding valid reasonsMessage message filled placesOf fieldsOf isKnownKind inRanges
+  reasons-valid y =
+      id-in
+      & (day-in
+      & (price-in (y .price)
+      & (weight-in (y .weight)
+      & (replacement-in (y .replacement)
+      & (did-in (y .tentative)
+      & (level-in (y .level1) & (level-in (y .level2) & (level-in (y .level3) & refl))))))))
+      & refl
+
+  pub session-valid : valid (sessionMessage r) ≡ true
+  unfolding valid sessionMessage message filled placesOf fieldsOf isKnownKind inRanges
+  session-valid = (id-in & (day-in & refl)) & refl
 
 -- ---- an admission
 

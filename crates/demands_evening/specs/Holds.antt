@@ -4,7 +4,7 @@
 use mathlib.Core.Path.{_≡_}
 use mathlib.Core.Bool.{true, false}
 use mathlib.Core.List.{List, [], _∷_, _++_}
-use Prim.Native.Nat.{ℕ}
+use Prim.Native.Nat.{ℕ, _≤_, _<_}
 use lib.IntN.{ℤ}
 use lib.ListN.{replicate}
 use Rattle.paper.specs.declared.Record.{Record}
@@ -33,7 +33,7 @@ use Rattle.text_protocol.specs.Answers.{callText}
 use Rattle.text_protocol.specs.Reasons.{fieldText}
 use Rattle.text_evening.specs.declared.Telling.{Telling}
 use Rattle.text_evening.specs.declared.Telling.the-variants.{Answers, Reasons, Messages}
-use Rattle.paper_messages.specs.Broadcast.{messagesOf}
+use Rattle.paper_messages.specs.Broadcast.{reasonsBefore, messagesOf}
 use Rattle.text_evening.specs.Evening.{Evening, startEvening, askedBy, answer, afterAll, answers}
 use Rattle.demands_evening.specs.Calls.{callsOf}
 
@@ -104,11 +104,15 @@ pub record LineHolds (before : List (List ℕ)) (l : List ℕ) (c : Call) : Type
       → RecordHolds (before ++ l ∷ []) (idOf c) (step c (tableBehind before) .answer .rec)
   -- and what it answers, a quote's two alerts too, is what demand 2 says of the history before it
   pub says : isAdmission c ≡ false → answered c (tableBehind before) ≡ Done → HistoryHolds before (idOf c)
-  -- by `broadcast` it is told with every message of an accepted call, each whole, and with nothing of a refused one
+  -- by `broadcast`, from the line of a number on, it is told with every message of an accepted call, each whole, and with
+  -- nothing of a refused one; and before that line with nothing
   pub whole : SentWhole c (tableBehind before)
-  pub sent : answered c (tableBehind before) ≡ Done
-      → answer Messages l (eveningBehind before) ≡ encodings (messagesOf c (step c (tableBehind before) .answer))
-  pub unsent : isDone (answered c (tableBehind before)) ≡ false → answer Messages l (eveningBehind before) ≡ []
+  pub sent : (from : ℕ) → from ≤ eveningBehind before .number → answered c (tableBehind before) ≡ Done
+      → answer (Messages from) l (eveningBehind before)
+      ≡ encodings (messagesOf c (step c (tableBehind before) .answer) (reasonsBefore c (tableBehind before)))
+  pub unsent : (from : ℕ) → isDone (answered c (tableBehind before)) ≡ false
+      → answer (Messages from) l (eveningBehind before) ≡ []
+  pub untold : (from : ℕ) → eveningBehind before .number < from → answer (Messages from) l (eveningBehind before) ≡ []
 
 -- ---- all of it
 

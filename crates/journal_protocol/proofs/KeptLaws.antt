@@ -24,7 +24,8 @@ use Rattle.text_protocol.specs.Line.{longest}
 use Rattle.text_protocol.specs.Calls.{Deed, nothing, noCall, call, interest, bond, deedOf}
 use Rattle.text_protocol.proofs.Silence.{long-line-is-no-call}
 use Rattle.text_evening.specs.declared.Telling.{Telling}
-use Rattle.text_evening.specs.Evening.{Evening, tableAfter, keptBy, textOf, askedBy, after, answer, afterAll}
+use Rattle.text_evening.specs.declared.Telling.the-variants.{Answers, Reasons, Messages}
+use Rattle.text_evening.specs.Evening.{Evening, tableAfter, keptBy, callTold, textOf, askedBy, after, answer, afterAll}
 use Rattle.journal_protocol.specs.Lines.{readsOnly, mayChange, changes, closedLine, isKept, keptOf, keptBatches}
 use Rattle.journal_protocol.specs.Lines.{allLines}
 use Rattle.journal_protocol.specs.Recovery.{keptAgain}
@@ -96,21 +97,33 @@ kept-alike l f e s = rw (s .kept, s .table)
 
 -- ---- so an evening goes on from a recovered desk as from the one that was
 
+-- told in words, with answers or with reasons, and not as messages, which may be told from a line of some number on
+abbrev InWords : Telling → Type 0
+InWords telling = (from : ℕ) → telling ≡ Messages from → ⊥
+
+-- a call is answered alike, whatever the number of its line
+call-alike : (telling : Telling) → InWords telling → (c : Call) (m n : ℕ) (t : List Record)
+    → callTold telling m c t ≡ callTold telling n c t
+unfolding callTold
+call-alike Answers w c m n t = refl
+call-alike Reasons w c m n t = refl
+call-alike (Messages from) w c m n t = absurd (w from refl)
+
 -- an answer has no number but that of a line that is no call
-told-alike : (telling : Telling) (d : Deed) (m n : ℕ) (t : List Record) → (d ≡ noCall → ⊥)
+told-alike : (telling : Telling) → InWords telling → (d : Deed) (m n : ℕ) (t : List Record) → (d ≡ noCall → ⊥)
     → textOf telling m d t ≡ textOf telling n d t
 unfolding textOf
-told-alike telling nothing m n t h = refl
-told-alike telling noCall m n t h = absurd (h refl)
-told-alike telling (call c) m n t h = refl
-told-alike telling (interest i keys) m n t h = refl
-told-alike telling (bond b flows) m n t h = refl
+told-alike telling w nothing m n t h = refl
+told-alike telling w noCall m n t h = absurd (h refl)
+told-alike telling w (call c) m n t h = call-alike telling w c m n t
+told-alike telling w (interest i keys) m n t h = refl
+told-alike telling w (bond b flows) m n t h = refl
 
-pub answered-alike : (telling : Telling) (l : List ℕ) (f e : Evening) → SameDesk f e → (askedBy l e ≡ noCall → ⊥)
-    → answer telling l f ≡ answer telling l e
+pub answered-alike : (telling : Telling) → InWords telling → (l : List ℕ) (f e : Evening) → SameDesk f e
+    → (askedBy l e ≡ noCall → ⊥) → answer telling l f ≡ answer telling l e
 unfolding answer
-answered-alike telling l f e s h =
-    rw (s .kept, s .table) (told-alike telling (askedBy l e) (f .number) (e .number) (e .table) h)
+answered-alike telling w l f e s h =
+    rw (s .kept, s .table) (told-alike telling w (askedBy l e) (f .number) (e .number) (e .table) h)
 
 pub goes-on : (ls : List (List ℕ)) (f e : Evening) → SameDesk f e → SameDesk (afterAll ls f) (afterAll ls e)
 unfolding afterAll

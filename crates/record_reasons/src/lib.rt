@@ -21,7 +21,7 @@ use paper_reasons::Why;
 use record_answers::Slot;
 
 // Of a refused evaluation no figure has a reason.
-fn no_reasons() -> Reasons
+pub fn no_reasons() -> Reasons
     ensures { λ r. ⌜ r ≡ noReasons ⌝ }
 {
     Reasons {

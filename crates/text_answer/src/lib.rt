@@ -107,6 +107,10 @@ pub fn say_answer(out: &mut [u8; ROOM], len: usize, role: Role, a: Answer) -> us
             let r = a.rec;
             say_record(out, len, r)
         }
+        Role::Opening => {
+            let r = a.rec;
+            say_record(out, len, r)
+        }
         Role::Other => {
             let r = a.rec;
             say_record(out, len, r)

@@ -45,6 +45,7 @@ explanation (role.Admission g) rows t = No
 explanation (role.Evaluation id d) rows t = Because (whyOn t id (dayOf d) rows)
 explanation role.Quote rows t = No
 explanation (role.Move side) rows t = No
+explanation role.Opening rows t = No
 explanation role.Other rows t = No
 
 -- the id of the security that is asked about; 0 where none is

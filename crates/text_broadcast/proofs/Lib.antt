@@ -1,2 +1,2 @@
--- The laws of text_broadcast, a file each; its own proofs alone cite them.
-mod Sending
+-- The laws of text_broadcast, a file each; other crates may cite them.
+pub mod Sending

@@ -10,9 +10,11 @@ use lib.Seq.{sets, sets-eq, drop-drop, take-all}
 use borrow.Author.Tests.{le-ltb}
 use Rattle.paper.specs.declared.Verdict.the-variants.{Done, FieldOutOfRange, NoRoom}
 use Rattle.paper.specs.declared.Answer.{Answer}
+use Rattle.paper.specs.declared.Verdict.{Verdict}
 use Rattle.paper.specs.Lists.{pick}
 use Rattle.paper.specs.Verdicts.{isDone, firstOf}
 use Rattle.paper.proofs.Logic.{not-true, not-false}
+use Rattle.paper_reasons.specs.declared.Reasons.{Reasons}
 use Rattle.paper_messages.specs.declared.Message.{Message}
 use Rattle.paper_messages.specs.declared.WriterAnswer.{WriterAnswer}
 use Rattle.paper_messages.specs.Messages.{encode, valid, writeChecks, wroteOf, written}
@@ -22,9 +24,10 @@ use Rattle.messages.specs.Promises.{Writes}
 use Rattle.text_bytes.specs.Bytes.{room}
 use Rattle.text_protocol.specs.Answers.{answerMost}
 use Rattle.text_protocol.specs.declared.Role.{Role}
+use Rattle.text_protocol.specs.declared.Role.the-variants as role
 use Rattle.paper_messages.specs.Broadcast.{messageMost, sent, allSent}
 use Rattle.text_out.specs.Wrote.{Wrote, then, wider, nothing}
-use Rattle.text_broadcast.specs.Sent.{messagesShown, broadcastShown}
+use Rattle.text_broadcast.specs.Sent.{messagesShown, shownTo, broadcastShown, countOf, countShown}
 
 module _ (b : List ℕ) (len : ℕ) (m : Message) (w : WriterAnswer) (after : List ℕ) (fits : len + messageMost ≤ room)
     (long : length b ≡ room) (writes : Writes (drop len b) m w after) where
@@ -78,28 +81,54 @@ appended-to-part b len m w after fits long writes =
 
 -- ---- the messages of a call of a role
 
-module _ (x : Role) (a : Answer) (done : Bool) (is : done ≡ isDone (a .verdict)) where
+module _ (x : Role) (a : Answer) (y : Reasons) (done : Bool) (is : done ≡ isDone (a .verdict)) where
   -- a refused call sends nothing
   pub refusal-sends-nothing : (b : List ℕ) (n : ℕ) → not done ≡ true
-      → Wrote b n b n (broadcastShown x a) answerMost
-  unfolding broadcastShown
+      → Wrote b n b n (broadcastShown x a y) answerMost
+  unfolding broadcastShown shownTo allSent
   refusal-sends-nothing b n refused = rw (← is, not-true done refused) (nothing b n answerMost)
 
   module _ (accepted : not done ≡ false) where
-    pub one-sent : {b b″ : List ℕ} {n e : ℕ} (m : Message) → messagesShown x a ≡ m ∷ []
+    pub one-sent : {b b″ : List ℕ} {n e : ℕ} (m : Message) → messagesShown x a y ≡ m ∷ []
         → Wrote b n b″ e (sent m) messageMost
-        → Wrote b n b″ e (broadcastShown x a) answerMost
-    unfolding broadcastShown allSent
+        → Wrote b n b″ e (broadcastShown x a y) answerMost
+    unfolding broadcastShown shownTo allSent
     one-sent m are p = rw (← is, not-false done accepted, are, append-nil (sent m)) (wider p (omega arith))
 
-    pub two-sent : {b b' b″ : List ℕ} {n n' e : ℕ} (m m' : Message) → messagesShown x a ≡ m ∷ m' ∷ []
-        → Wrote b n b' n' (sent m) messageMost → Wrote b' n' b″ e (sent m') messageMost
-        → Wrote b n b″ e (broadcastShown x a) answerMost
-    unfolding broadcastShown allSent
-    two-sent m m' are p q =
-        rw (← is, not-false done accepted, are, append-nil (sent m')) (wider (then p q) (omega arith))
+    pub three-sent : {b b' b″ b‴ : List ℕ} {n n' n″ e : ℕ} (m m' m″ : Message)
+        → messagesShown x a y ≡ m ∷ m' ∷ m″ ∷ []
+        → Wrote b n b' n' (sent m) messageMost → Wrote b' n' b″ n″ (sent m') messageMost
+        → Wrote b″ n″ b‴ e (sent m″) messageMost
+        → Wrote b n b‴ e (broadcastShown x a y) answerMost
+    unfolding broadcastShown shownTo allSent
+    three-sent m m' m″ are p q r =
+        rw (← is, not-false done accepted, are, append-nil (sent m″)) (wider (then p (then q r)) (omega arith))
 
-    pub none-sent : (b : List ℕ) (n : ℕ) → messagesShown x a ≡ []
-        → Wrote b n b n (broadcastShown x a) answerMost
-    unfolding broadcastShown allSent
+    pub none-sent : (b : List ℕ) (n : ℕ) → messagesShown x a y ≡ []
+        → Wrote b n b n (broadcastShown x a y) answerMost
+    unfolding broadcastShown shownTo allSent
     none-sent b n are = rw (← is, not-false done accepted, are) (nothing b n answerMost)
+
+-- how many messages they are
+pub counted-is : (x : Role) (a : Answer) (y : Reasons) → length (shownTo x a y) ≡ countShown x (a .verdict)
+unfolding shownTo countShown messagesShown
+counted-is x a y = go (isDone (a .verdict)) x
+  where
+    go : (done : Bool) (x : Role) → length (pick done (messagesShown x a y) []) ≡ pick done (countOf x) 0
+    go false x = refl
+    go true (role.Admission g) = refl
+    go true (role.Evaluation id d) = refl
+    go true role.Quote = refl
+    go true (role.Move side) = refl
+    go true role.Opening = refl
+    go true role.Other = refl
+
+-- what the tests of a count lead to
+module _ (x : Role) (v : Verdict) (done : Bool) (is : done ≡ isDone v) where
+  pub refusal-counts-none : not done ≡ true → 0 ≡ countShown x v
+  unfolding countShown
+  refusal-counts-none refused = rw (← is, not-true done refused)
+
+  pub accepted-counts : not done ≡ false → (n : ℕ) → n ≡ countOf x → n ≡ countShown x v
+  unfolding countShown
+  accepted-counts accepted n e = rw (← is, not-false done accepted) e

@@ -13,10 +13,10 @@ pub told-in-words : (telling : Telling) (text : List ℕ) → inWords telling �
 unfolding inWords worded
 told-in-words Answers text e = refl
 told-in-words Reasons text e = refl
-told-in-words Messages text e = impossible cc
+told-in-words (Messages from) text e = impossible cc
 
 pub not-in-words : (telling : Telling) (text : List ℕ) → inWords telling ≡ false → [] ≡ worded telling text
 unfolding inWords worded
 not-in-words Answers text e = impossible cc
 not-in-words Reasons text e = impossible cc
-not-in-words Messages text e = refl
+not-in-words (Messages from) text e = refl

@@ -8,11 +8,13 @@ ghost use Rattle.text_protocol.specs.Calls.{deedOf, deedAsked};
 ghost use Rattle.text_protocol.specs.Answers.{answerMost};
 ghost use Rattle.text_out.specs.Wrote.{Wrote};
 ghost use Rattle.text_line.specs.ReadLine.{saidAs};
-ghost use Rattle.text_deed.specs.Deeds.{asksWhy, inWords, faultShown, reasonSaid, callSaid, lineText, AsksFor};
+ghost use Rattle.text_deed.specs.Deeds.{asksWhy, inWords, faultShown, reasonSaid, reasonsIn, callSaid, lineText};
+ghost use Rattle.text_deed.specs.Deeds.{askCount, lineCount, AsksFor};
 use paper::Answer;
 use paper::InterestAnswer;
 use paper::Verdict;
 use paper_bonds::BondAnswer;
+use paper_reasons::Reasons;
 use record_reasons::fields::field_at_fault;
 use text_answer::interest_line::say_interest;
 use text_answer::say_answer;
@@ -21,6 +23,7 @@ use text_answer::why::say_field;
 use text_answer::why::say_why;
 use text_bond::bond_of;
 use text_bond::say_bond;
+use text_broadcast::count_messages;
 use text_broadcast::say_messages;
 use text_bytes::ROOM;
 use text_call::call_of;
@@ -144,7 +147,7 @@ pub fn asks_why(telling: Telling) -> bool
     match telling {
         Telling::Answers => false,
         Telling::Reasons => true,
-        Telling::Messages => false,
+        Telling::Messages(_) => true,
     }
 }
 
@@ -155,7 +158,7 @@ fn in_words(telling: Telling) -> bool
     match telling {
         Telling::Answers => true,
         Telling::Reasons => true,
-        Telling::Messages => false,
+        Telling::Messages(_) => false,
     }
 }
 
@@ -173,6 +176,7 @@ fn say_fault(out: &mut [u8; ROOM], len: usize, role: Role, answer: Answer) -> us
         Role::Evaluation(_, _) => say_answer(out, len, role, answer),
         Role::Quote => say_answer(out, len, role, answer),
         Role::Move(_) => say_answer(out, len, role, answer),
+        Role::Opening => say_answer(out, len, role, answer),
         Role::Other => say_answer(out, len, role, answer),
     }
 }
@@ -192,10 +196,30 @@ fn say_reason(out: &mut [u8; ROOM], len: usize, role: Role, p: Performed) -> usi
     }
 }
 
-// Appends what a call of a role is told as.
-fn say_call(out: &mut [u8; ROOM], len: usize, telling: Telling, role: Role, p: Performed) -> usize
+// The reasons that were said; none where no reason was asked for.
+fn reasons_in(why: Explained) -> Reasons
+    ensures { λ r. ⌜ r ≡ reasonsIn why ⌝ }
+{
+    match why {
+        Explained::No => record_reasons::no_reasons(),
+        Explained::Because(said) => {
+            let reasons = said.reasons;
+            reasons
+        }
+    }
+}
+
+// Appends what the line of a number, a call of a role, is told as.
+fn say_call(
+    out: &mut [u8; ROOM],
+    len: usize,
+    telling: Telling,
+    number: u64,
+    role: Role,
+    p: Performed,
+) -> usize
     requires { ⌜ len + answerMost ≤ room ⌝ }
-    ensures { λ n. ⌜ Wrote (now (out .entry)) len (now (out .exit)) n (callSaid telling role p) answerMost ⌝ }
+    ensures { λ n. ⌜ Wrote (now (out .entry)) len (now (out .exit)) n (callSaid telling number role p) answerMost ⌝ }
 {
     match telling {
         Telling::Answers => {
@@ -203,9 +227,13 @@ fn say_call(out: &mut [u8; ROOM], len: usize, telling: Telling, role: Role, p: P
             say_answer(out, len, role, answer)
         }
         Telling::Reasons => say_reason(out, len, role, p),
-        Telling::Messages => {
+        Telling::Messages(from) => {
+            if number < from {
+                return len;
+            }
             let answer = p.answer;
-            say_messages(out, len, role, answer)
+            let why = p.why;
+            say_messages(out, len, role, answer, reasons_in(why))
         }
     }
 }
@@ -232,7 +260,7 @@ pub fn say(
             }
             len
         }
-        Ask::Call(c) => say_call(out, len, telling, c.role(), p),
+        Ask::Call(c) => say_call(out, len, telling, number, c.role(), p),
         Ask::Interest(_) => {
             if words {
                 let interest = b.interest;
@@ -246,6 +274,37 @@ pub fn say(
                 return say_bond(out, len, bond);
             }
             len
+        }
+    }
+}
+
+// ---- how many messages a line is told as
+
+// What is asked for, by the number that it was answered with.
+fn count_asked(a: Ask, verdict: Verdict) -> u64
+    ensures { λ n. ⌜ n ≡ askCount a verdict ⌝ }
+{
+    match a {
+        Ask::Nothing => 0,
+        Ask::NoCall => 0,
+        Ask::Call(c) => count_messages(c.role(), verdict),
+        Ask::Interest(_) => 0,
+        Ask::Bond(_) => 0,
+    }
+}
+
+// The line of a number.
+pub fn count(telling: Telling, a: Ask, number: u64, verdict: Verdict) -> u64
+    ensures { λ n. ⌜ n ≡ lineCount telling a number verdict ⌝ }
+{
+    match telling {
+        Telling::Answers => 0,
+        Telling::Reasons => 0,
+        Telling::Messages(from) => {
+            if number < from {
+                return 0;
+            }
+            count_asked(a, verdict)
         }
     }
 }

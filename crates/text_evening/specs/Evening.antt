@@ -21,7 +21,8 @@ use Rattle.text_protocol.specs.Line.{meaning}
 use Rattle.text_protocol.specs.Calls.{Deed, nothing, noCall, call, interest, bond, deedOf}
 use Rattle.text_protocol.specs.Answers.{badText, callText, interestText, bondText}
 use Rattle.text_protocol.specs.Reasons.{whyText, fieldText}
-use Rattle.paper_messages.specs.Broadcast.{broadcastOf}
+use Rattle.paper_messages.specs.declared.Message.{Message}
+use Rattle.paper_messages.specs.Broadcast.{reasonsBefore, messagesTo, allSent}
 
 -- the number of the line that comes next, what is kept of the interest lines, and the table
 pub record Evening : Type 0 where
@@ -61,24 +62,28 @@ unfoldable pub reasonTo : Call → List Record → List ℕ
 reasonTo (admit g) t = fieldText (step (admit g) t .answer .verdict) (fieldAtFault g)
 reasonTo (about id x) t = reasonOn id x (ruleOf x .evaluates) t
 
--- what a call is told as: with its answer, as the program `evening` does, with why, as the program `why` does, or with
--- the messages that members get of it, as the program `broadcast` does
-unfoldable pub callTold : Telling → Call → List Record → List ℕ
-callTold Answers c t = answerTo c t
-callTold Reasons c t = reasonTo c t
-callTold Messages c t = broadcastOf c (step c t .answer)
+-- the messages that members get of the n-th line, where it is a call and messages are told from the line `from` on
+unfoldable pub messagesTold : (from n : ℕ) → Call → List Record → List Message
+messagesTold from n c t = pick (ltb n from) [] (messagesTo c (step c t .answer) (reasonsBefore c t))
+
+-- what the n-th line is told as, where it is a call: with its answer, as the program `evening` does, with why, as the
+-- program `why` does, or with the messages that members get of it, as the program `broadcast` does
+unfoldable pub callTold : Telling → (n : ℕ) → Call → List Record → List ℕ
+callTold Answers n c t = answerTo c t
+callTold Reasons n c t = reasonTo c t
+callTold (Messages from) n c t = allSent (messagesTold from n c t)
 
 -- a text that is no message: nothing is told of it where messages are
 unfoldable pub worded : Telling → (text : List ℕ) → List ℕ
 worded Answers text = text
 worded Reasons text = text
-worded Messages text = []
+worded (Messages from) text = []
 
 -- what the n-th line is told as; a line that says nothing is told nothing
 unfoldable pub textOf : Telling → (n : ℕ) → Deed → List Record → List ℕ
 textOf telling n nothing t = []
 textOf telling n noCall t = worded telling (badText n)
-textOf telling n (call c) t = callTold telling c t
+textOf telling n (call c) t = callTold telling n c t
 textOf telling n (interest i keys) t = worded telling (interestText (interestAnswer i keys))
 textOf telling n (bond b flows) t = worded telling (bondText (bondAnswer b flows))
 
@@ -125,3 +130,27 @@ afterAll (l ∷ ls) e = afterAll ls (after l e)
 unfoldable pub answers : Telling → (lines : List (List ℕ)) → Evening → List ℕ
 answers telling [] e = []
 answers telling (l ∷ ls) e = answer telling l e ++ answers telling ls (after l e)
+
+-- ---- the messages of lines
+
+-- none where lines are told in words
+unfoldable pub callMessages : Telling → (n : ℕ) → Call → List Record → List Message
+callMessages Answers n c t = []
+callMessages Reasons n c t = []
+callMessages (Messages from) n c t = messagesTold from n c t
+
+-- of the n-th line
+unfoldable pub messagesBy : Telling → (n : ℕ) → Deed → List Record → List Message
+messagesBy telling n nothing t = []
+messagesBy telling n noCall t = []
+messagesBy telling n (call c) t = callMessages telling n c t
+messagesBy telling n (interest i keys) t = []
+messagesBy telling n (bond b flows) t = []
+
+unfoldable pub lineMessages : Telling → (line : List ℕ) → Evening → List Message
+lineMessages telling l e = messagesBy telling (e .number) (askedBy l e) (e .table)
+
+-- THE MESSAGES OF LINES
+unfoldable pub allMessages : Telling → (lines : List (List ℕ)) → Evening → List Message
+allMessages telling [] e = []
+allMessages telling (l ∷ ls) e = lineMessages telling l e ++ allMessages telling ls (after l e)

@@ -32,8 +32,12 @@ use Rattle.text_protocol.specs.Reasons.{faultWords, fieldWords, spelled, wordsT
 use Rattle.text_evening.specs.declared.Telling.{Telling}
 use Rattle.text_evening.specs.declared.Telling.the-variants.{Answers, Reasons, Messages}
 use Rattle.paper_messages.specs.PinnedBroadcast.{bytesSent}
-use Rattle.text_evening.specs.Evening.{tableAfter, keptBy, reasonTo, callTold, worded, textOf}
+use Rattle.paper_messages.specs.Broadcast.{reasonsBefore}
+use Rattle.paper_streams.specs.Streams.{wholeStream}
+use Rattle.text_evening.specs.Evening.{tableAfter, keptBy, reasonTo, messagesTold, callTold, worded, textOf}
 use Rattle.text_evening.specs.Evening.{numberAfter, after, answer, startEvening, afterAll, answers}
+use Rattle.text_evening.specs.Evening.{callMessages, messagesBy, lineMessages, allMessages}
+use Rattle.text_evening.specs.Streamed.{streamOf}
 
 -- ---- an evening
 
@@ -58,8 +62,8 @@ lines =
 unfoldable pub told : Telling → List ℕ
 unfolding lines zText zStatics slots deskAnswers evaluateChecks interestAnswered bondAnswered isSame faultsOf faultOf
     fieldsAtFault fieldAtFault fieldWords fieldText whyOf whyOn deedBy callTexts interestText interestNumbers maturitiesNumbers maturityNumbers bondText faultWords spelled
-    wordsText whyText keptAfter bytesSent tableAfter keptBy reasonTo callTold worded textOf numberAfter after answer
-    afterAll answers
+    wordsText whyText keptAfter bytesSent reasonsBefore tableAfter keptBy reasonTo messagesTold callTold worded textOf
+    numberAfter after answer afterAll answers
 told telling = answers telling lines (startEvening (slots 1))
 
 -- EACH LINE IN ITS TURN, AS ITS PROGRAM TELLS IT: a line that is no call by its number, counted from 1, blank ones and
@@ -67,9 +71,24 @@ told telling = answers telling lines (startEvening (slots 1))
 -- calls and nothing else
 pub told-are : (told Answers ≡ bytes "bad 1\n0\n1\n0 710 940 150 61 150 2 300 200 151 76 200 0 300 450\n17\nbad 8\n4\n")
     × (told Reasons ≡ bytes "bad 1\n0\n1 none\n0 710 940 150 61 150 2 300 200 151 76 200 0 300 450\n17\nbad 8\n4 field 3\n")
-    × (told Messages ≡ encode (message staticsMessageKind (pos 7 ∷ zStatics)))
+    × (told (Messages 1) ≡ encode (message staticsMessageKind (pos 7 ∷ zStatics)))
 unfolding told
 told-are = (refl, refl, refl)
+
+-- from the line of a number on: the admission is line 2. Lines before it are performed and not told
+pub told-from : (told (Messages 2) ≡ told (Messages 1)) × (told (Messages 3) ≡ [])
+unfolding told
+told-from = (refl, refl)
+
+-- as one whole stream: of the admission alone, and of no message
+unfoldable pub streamed : (from : ℕ) → List ℕ
+unfolding told streamOf allMessages lineMessages messagesBy callMessages
+streamed from = streamOf from lines (startEvening (slots 1))
+
+pub streamed-are : (streamed 0 ≡ wholeStream (message staticsMessageKind (pos 7 ∷ zStatics) ∷ []))
+    × (streamed 3 ≡ wholeStream [])
+unfolding streamed
+streamed-are = (refl, refl)
 
 -- what the evening leaves: the number of the line that comes next, the pair 0/1, and the admission's record
 pub left-is : afterAll lines (startEvening (slots 1))
@@ -114,7 +133,7 @@ calls =
 -- what each call is told as where Z is admitted
 unfoldable pub eachTold : Telling → List (List ℕ)
 unfolding told calls
-eachTold telling = map (λ (c : Call). callTold telling c (admitted small ∷ [])) calls
+eachTold telling = map (λ (c : Call). callTold telling 1 c (admitted small ∷ [])) calls
 
 unfoldable pub shown : List ℕ
 shown =
@@ -128,14 +147,15 @@ inWords evaluation =
 
 pub each-told : (eachTold Answers ≡ inWords (bytes "1\n"))
     × (eachTold Reasons ≡ inWords (bytes "1 none\n"))
-    × (eachTold Messages ≡ [] ∷ [] ∷ [] ∷ [] ∷ [] ∷ [] ∷ [] ∷ [])
+    × (eachTold (Messages 1) ≡ [] ∷ [] ∷ [] ∷ [] ∷ [] ∷ [] ∷ [] ∷ [])
 unfolding eachTold inWords shown
 each-told = (refl, refl, refl)
 
 -- ---- a member's words
 
--- the word of each kind of message (W-212), and of the kinds 0 and 5, which are unknown
-pub words-are : map kindWord (0 ∷ 1 ∷ 2 ∷ 3 ∷ 4 ∷ 5 ∷ [])
-    ≡ [] ∷ bytes "statics" ∷ bytes "rates" ∷ bytes "bands" ∷ bytes "move" ∷ [] ∷ []
+-- the word of each kind of message (W-212, docs/BROADCAST.md), and of the kinds 0 and 9, which are unknown
+pub words-are : map kindWord (0 ∷ 1 ∷ 2 ∷ 3 ∷ 4 ∷ 5 ∷ 6 ∷ 7 ∷ 8 ∷ 9 ∷ [])
+    ≡ [] ∷ bytes "statics" ∷ bytes "rates" ∷ bytes "bands" ∷ bytes "move" ∷ bytes "reasons" ∷ bytes "begin"
+    ∷ bytes "end" ∷ bytes "session" ∷ [] ∷ []
 unfolding kindWord bytes
 words-are = refl

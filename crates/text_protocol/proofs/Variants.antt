@@ -1,15 +1,15 @@
 -- What the code asks for, said variant by variant: the call and the deed that each variant is; and the role of an ask goes
 -- by the ask's rule. What is told of a call goes by its rule too, so that an ask more has its line in `role-by-rule`.
 use mathlib.Core.Path.{_≡_, refl}
-use mathlib.Core.Logic.{inl, inr}
+use mathlib.Core.Bool.{not}
 use mathlib.Core.List.{List, [], _∷_}
 use mathlib.Core.Option.{Option, none, some}
-use Prim.Native.Nat.{ℕ, zero, suc, _≤_}
-use native.Mathlib.Omega.{arith}
+use Prim.Native.Nat.{ℕ}
+use lib.Dec.{T}
 use lib.IntN.{ℤ}
-use types.Run.{OneOf}
+use mir.Val.{hasKey}
+use types.Run.{OneOf, miss}
 use denote.Enum.Declared.{tagOf}
-use denote.Struct.Field.{Field}
 use Rattle.paper.specs.declared.Admission.{Admission}
 use Rattle.paper.specs.declared.Answer.{Answer}
 use Rattle.paper.specs.declared.AskedAbout.{AskedAbout}
@@ -55,32 +55,36 @@ abbrev pub of-id : (id : ℕ) → Option (Day × List ℤ) → Option (ℕ × (D
 of-id id none = none
 of-id id (some dayAndRows) = some (id, dayAndRows)
 
--- how many asks have a role of their own: `AskedAbout` has them first
-abbrev pub ownRoles : ℕ
-ownRoles = 3
+-- the asks that have no role of their own, by their places in `AskedAbout`: a read, a receipt and a notice
+abbrev pub otherRoles : List ℕ
+otherRoles = 3 ∷ 5 ∷ 6 ∷ []
 
--- the role of an ask shows, admits, evaluates and moves what the ask's rule does; and behind the asks that have a role
--- of their own, it is `Other`
+-- the role of an ask shows, admits, evaluates and moves what the ask's rule does; and of the asks that have no role of
+-- their own it is `Other`
 pub record ByRule (id : ℕ) (x : AskedAbout) (rows : List ℤ) : Type 0 where
   pub shows : (a : Answer) → figuresShown (roleAbout id x) a ≡ replyNumbers (ruleOf (askOf x rows) .reply) a
   pub admits : admittedAs (roleAbout id x) ≡ none
   pub evaluates : evaluatedAs (roleAbout id x) rows ≡ of-id id (ruleOf (askOf x rows) .evaluates)
   pub moves : movedAs (roleAbout id x) ≡ ruleOf (askOf x rows) .moves
-  pub other : ownRoles ≤ tagOf X.the-type x → role.Other ≡ roleAbout id x
+  pub other : OneOf otherRoles (tagOf X.the-type x) → role.Other ≡ roleAbout id x
+
+-- an ask with a role of its own is none of the others
+not-other : (n : ℕ) → T (not (hasKey otherRoles n)) → OneOf otherRoles n → ⊥
+not-other n own h = miss otherRoles n own h
 
 -- THE ROLE OF AN ASK GOES BY ITS RULE
 pub role-by-rule : (id : ℕ) (x : AskedAbout) (rows : List ℤ) → ByRule id x rows
 unfolding roleAbout askOf figuresShown admittedAs evaluatedAs movedAs
 role-by-rule id (about.Evaluate d) rows =
-    record { shows = λ a. refl; admits = refl; evaluates = refl; moves = refl; other = λ h. absurd (omega (arith, h)) }
+    record { shows = λ a. refl; admits = refl; evaluates = refl; moves = refl; other = λ h. absurd (not-other 0 tt h) }
 role-by-rule id (about.Quote q) rows =
-    record { shows = λ a. refl; admits = refl; evaluates = refl; moves = refl; other = λ h. absurd (omega (arith, h)) }
+    record { shows = λ a. refl; admits = refl; evaluates = refl; moves = refl; other = λ h. absurd (not-other 1 tt h) }
 role-by-rule id (about.Move side) rows =
-    record { shows = λ a. refl; admits = refl; evaluates = refl; moves = refl; other = λ h. absurd (omega (arith, h)) }
+    record { shows = λ a. refl; admits = refl; evaluates = refl; moves = refl; other = λ h. absurd (not-other 2 tt h) }
 role-by-rule id about.Read rows =
     record { shows = λ a. refl; admits = refl; evaluates = refl; moves = refl; other = λ h. refl }
 role-by-rule id about.Open rows =
-    record { shows = λ a. refl; admits = refl; evaluates = refl; moves = refl; other = λ h. refl }
+    record { shows = λ a. refl; admits = refl; evaluates = refl; moves = refl; other = λ h. absurd (not-other 4 tt h) }
 role-by-rule id (about.Receive sent) rows =
     record { shows = λ a. refl; admits = refl; evaluates = refl; moves = refl; other = λ h. refl }
 role-by-rule id (about.Notify n) rows =
@@ -88,27 +92,9 @@ role-by-rule id (about.Notify n) rows =
 
 -- ---- what follows for every ask
 
--- the positions of variants, counted from k on; and the variants behind the first k
-abbrev positions : (k : ℕ) → List (List Field) → List ℕ
-positions k [] = []
-positions k (v ∷ vs) = k ∷ positions (suc k) vs
-
-abbrev behind : (k : ℕ) → List (List Field) → List (List Field)
-behind zero vs = vs
-behind (suc k) [] = []
-behind (suc k) (v ∷ vs) = behind k vs
-
-from-on : (k : ℕ) (vs : List (List Field)) (n : ℕ) → OneOf (positions k vs) n → k ≤ n
-from-on k [] n h = absurd h
-from-on k (v ∷ []) n h = omega (arith, h)
-from-on k (v ∷ w ∷ vs) n (inl h) = omega (arith, h)
-from-on k (v ∷ w ∷ vs) n (inr h) = omega (arith, from-on (suc k) (w ∷ vs) n h)
-
 -- the last arm of a match on an ask: it is for all that have no role of their own
-pub last-arm : (id : ℕ) (x : AskedAbout)
-    → OneOf (positions ownRoles (behind ownRoles (X.the-type .parts))) (tagOf X.the-type x)
-    → role.Other ≡ roleAbout id x
-last-arm id x h = role-by-rule id x [] .other (from-on ownRoles (behind ownRoles (X.the-type .parts)) _ h)
+pub last-arm : (id : ℕ) (x : AskedAbout) → OneOf otherRoles (tagOf X.the-type x) → role.Other ≡ roleAbout id x
+last-arm id x h = role-by-rule id x [] .other h
 
 -- A CALL IS ANSWERED BY ITS ROLE
 shown-figures : (c : AskedCall) (rows : List ℤ) (a : Answer)

@@ -237,7 +237,7 @@ roleAbout id (about.Evaluate d) = role.Evaluation id d
 roleAbout id (about.Quote q) = role.Quote
 roleAbout id (about.Move side) = role.Move (sideOf side)
 roleAbout id about.Read = role.Other
-roleAbout id about.Open = role.Other
+roleAbout id about.Open = role.Opening
 roleAbout id (about.Receive x) = role.Other
 roleAbout id (about.Notify x) = role.Other
 

@@ -1,4 +1,5 @@
 -- What is answered to a call, by its role (`roleOf`, Calls.antt): the text goes by the role, and not by the call.
+use mathlib.Core.Bool.{Bool, true, false}
 use mathlib.Core.List.{List, [], _∷_}
 use mathlib.Core.Option.{Option, none, some}
 use Prim.Native.Nat.{ℕ}
@@ -21,6 +22,7 @@ figuresShown (role.Admission a) r = []
 figuresShown (role.Evaluation id d) r = recordNumbers (r .rec)
 figuresShown role.Quote r = flag (r .top) ∷ flag (r .bottom) ∷ []
 figuresShown (role.Move side) r = recordNumbers (r .rec)
+figuresShown role.Opening r = recordNumbers (r .rec)
 figuresShown role.Other r = recordNumbers (r .rec)
 
 -- what is answered to a call of a role: a refusal's number stands alone
@@ -35,6 +37,7 @@ admittedAs (role.Admission a) = some a
 admittedAs (role.Evaluation id d) = none
 admittedAs role.Quote = none
 admittedAs (role.Move side) = none
+admittedAs role.Opening = none
 admittedAs role.Other = none
 
 -- an evaluation: its id, its day and its rows
@@ -43,6 +46,7 @@ evaluatedAs (role.Admission a) rows = none
 evaluatedAs (role.Evaluation id d) rows = some (id, (dayOf d, rows))
 evaluatedAs role.Quote rows = none
 evaluatedAs (role.Move side) rows = none
+evaluatedAs role.Opening rows = none
 evaluatedAs role.Other rows = none
 
 -- a move: its side
@@ -51,4 +55,14 @@ movedAs (role.Admission a) = none
 movedAs (role.Evaluation id d) = none
 movedAs role.Quote = none
 movedAs (role.Move side) = some side
+movedAs role.Opening = none
 movedAs role.Other = none
+
+-- an opening of the evening
+unfoldable pub isOpening : Role → Bool
+isOpening (role.Admission a) = false
+isOpening (role.Evaluation id d) = false
+isOpening role.Quote = false
+isOpening (role.Move side) = false
+isOpening role.Opening = true
+isOpening role.Other = false

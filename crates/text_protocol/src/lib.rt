@@ -374,18 +374,20 @@ pub enum AskedCall {
     About(u64, AskedAbout),
 }
 
-// What an accepted call is to the text. All but four calls are alike to it, and a call more is `Other` where it is too:
-//                   its answer shows      it sends          it has reasons
-//     Admission     its number alone      its statics       no
-//     Evaluation    the record            rates and bands   yes
-//     Quote         two alerts            nothing           no
-//     Move          the record            the move          no
-//     Other         the record            nothing           no
+// What an accepted call is to the text. All but five calls are alike to it, and a call more is `Other` where it is too:
+//                   its answer shows      it sends                    it has reasons
+//     Admission     its number alone      its statics                 no
+//     Evaluation    the record            rates, bands and reasons    yes
+//     Quote         two alerts            nothing                     no
+//     Move          the record            the move                    no
+//     Opening       the record            the session                 no
+//     Other         the record            nothing                     no
 pub enum Role {
     Admission(Admission),
     Evaluation(u64, AskedDay),
     Quote,
     Move(Side),
+    Opening,
     Other,
 }
 
@@ -400,6 +402,7 @@ impl AskedCall {
                 AskedAbout::Evaluate(d) => Role::Evaluation(id, d),
                 AskedAbout::Quote(_) => Role::Quote,
                 AskedAbout::Move(side) => Role::Move(side_of(side)),
+                AskedAbout::Open => Role::Opening,
                 _ => Role::Other,
             },
         }

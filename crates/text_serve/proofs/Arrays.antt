@@ -24,9 +24,9 @@ use denote.Struct.Laws as LL
 use Rattle.text_protocol.specs.Line.{keptMost}
 use Rattle.text_bytes.specs.Bytes.{room as bufferRoom}
 use Rattle.text_evening.specs.declared.Telling.{Telling}
-use Rattle.text_evening.specs.declared.Telling.the-variants.{Answers, Reasons, Messages}
 use Rattle.text_evening.proofs.Telling as E
 use Rattle.text_evening.proofs.Telling.Laws as E′
+use Rattle.paper_streams.proofs.Stream.Laws as Z′
 use Rattle.text_protocol.proofs.Ask.Laws as A′
 use Rattle.text_protocol.proofs.Kept.Laws as K′
 use Rattle.text_evidence.proofs.Written.Laws as V′
@@ -70,17 +70,15 @@ Lent X n κ b o γ x = MutRef (named n) κ X .own (to b o γ x) (vptr b o ∷ []
 abbrev pub telling-val : Telling → Val
 telling-val = EL.val E.the-type E′.the-laws
 
-pub telling-is : (x : Telling) → Is E.the-row x (telling-val x ∷ [])
-telling-is Answers = EL.owes E.the-type E′.the-laws Answers tt
-telling-is Reasons = EL.owes E.the-type E′.the-laws Reasons tt
-telling-is Messages = EL.owes E.the-type E′.the-laws Messages tt
+abbrev pub IsTelling : Telling → Type 0
+IsTelling x = Is E.the-row x (telling-val x ∷ [])
 
 -- ---- a state and a line that was heard
 
 -- their machine types, with the types of their fields by name
 abbrev pub state-ty : Ty
 state-ty = tyStruct (G.struct .name) (tcons I′.mir (tcons (tyInt w64) (tcons K′.mir (tcons (tyInt w64) (tcons V′.mir
-    (tcons E′.mir tnil))))))
+    (tcons E′.mir (tcons Z′.mir tnil)))))))
 
 abbrev pub heard-ty : Ty
 heard-ty = tyStruct (P.struct .name) (tcons G′.mir (tcons (tyInt w64) (tcons A′.mir (tcons B′.mir (tcons tyBool
@@ -111,8 +109,8 @@ pub heard-is : (p : Prepared) (w : Val) → Is P.the-row p (w ∷ []) → IsHear
 heard-is p w is = subst (Is P.the-row p) (LL.tells P.the-type P′.the-laws p (w ∷ []) is) is
 
 module _ {M : Type 1} (𝓤 : URA M) (H : Heap 𝓤) (A : Atoms 𝓤) (W : Given 𝓤 H A) where
-  pub typed-telling : (x : Telling) → T (hasTy E′.mir (telling-val x)) × WT (telling-val x)
-  typed-telling x = EL.lawful E.the-type E′.the-laws 𝓤 H A W tt .typed x (telling-val x ∷ []) (telling-is x) .0
+  pub typed-telling : (x : Telling) → IsTelling x → T (hasTy E′.mir (telling-val x)) × WT (telling-val x)
+  typed-telling x is = EL.lawful E.the-type E′.the-laws 𝓤 H A W tt .typed x (telling-val x ∷ []) is .0
 
   pub typed-state : (s : State) (w : Val) → Is G.the-row s (w ∷ []) → T (hasTy state-ty w) × WT w
   typed-state s w is = LL.lawful G.the-type G′.the-laws 𝓤 H A W .typed s (w ∷ []) is .0

@@ -13,7 +13,10 @@ use Rattle.text_protocol.specs.Answers.{answerMost}
 use Rattle.paper.specs.declared.Record.{Record}
 use Rattle.text_bytes.specs.Bytes.{lineFeed, run, room as bufferRoom}
 use Rattle.text_evening.specs.Evening.{Evening, startEvening, after, afterAll, answer, answers}
+use Rattle.text_evening.specs.Evening.{lineMessages, allMessages}
+use Rattle.text_evening.specs.Streamed.{begunStream, streamOn}
 use Rattle.text_evening.proofs.OneMore.{after-one-more, told-at}
+use Rattle.text_evening.proofs.StreamedLaws.{messages-one-more, stream-none, stream-goes-on}
 use Rattle.text_out.specs.Wrote.{Wrote, appended}
 use Rattle.text_evidence.specs.declared.Written.{Written}
 use Rattle.text_evidence.specs.Evidence.{counted, tookAll, Counted, counted-none, counted-on, Hands}
@@ -75,6 +78,9 @@ pub record Sofar (telling : Telling) (t : List Record) (b : List ℕ) (s : State
   pub delivered : Counted 0 (length got) (s .input .read .all)
   pub handed : Counted 0 (length told) (s .told .all)
   pub one-way : s .telling ≡ telling
+  pub streamed : s .stream
+      ≡ streamOn telling begunStream (length (allMessages telling lines (startEvening t)))
+      (answers telling lines (startEvening t))
   pub stands : Stands b (s .input)
   pub room : s .waiting + answerMost ≤ bufferRoom
   pub long : length o ≡ bufferRoom
@@ -84,7 +90,7 @@ pub record Sofar (telling : Telling) (t : List Record) (b : List ℕ) (s : State
 -- at the start nothing is read
 pub none-yet : (telling : Telling) (t : List Record) (b o : List ℕ) → length b ≡ bufferRoom → length o ≡ bufferRoom
     → Sofar telling t b (startState telling) t o
-unfolding unread lineLength run Each afterAll answers joined
+unfolding unread lineLength run Each afterAll answers allMessages joined
 none-yet telling t b o long long-out =
     record {
       got = [];
@@ -99,6 +105,7 @@ none-yet telling t b o long long-out =
       delivered = counted-none 0;
       handed = counted-none 0;
       one-way = refl;
+      streamed = sym (stream-none telling);
       stands = record { low = omega arith; high = omega arith; in-b = omega arith; long = long; is = refl };
       room = omega arith;
       long = long-out;
@@ -249,6 +256,18 @@ module _ {telling : Telling} {t : List Record} {b : List ℕ} {s : State} {u : L
       text-is : text ≡ answer telling (turn .line) (afterAll (so .lines) start)
       text-is = rw (so .one-way, so .evening)
 
+  -- the stream is carried on over the answer
+  streamed-so : r .stream ≡ streamOn telling begunStream (length (allMessages telling all start)) (answers telling all start)
+  streamed-so =
+      turn .stream
+      ∙ rw (so .one-way, so .streamed, so .evening)
+      (stream-goes-on telling begunStream _ _ (answers telling (so .lines) start) _
+      ∙ rw (
+        messages-one-more telling (so .lines) (turn .line) start,
+        length-append (allMessages telling (so .lines) start) (lineMessages telling (turn .line) (afterAll (so .lines) start)),
+        answers-one telling (so .lines) (turn .line) start,
+      ))
+
   -- what is known of the answers behind the turn: they wait on, or they were handed to `write`
   pub record SaidSofar (told : List ℕ) (q : State) : Type 0 where
     pub said : told ++ take (q .waiting) o' ≡ answers telling all start
@@ -296,6 +315,7 @@ module _ {telling : Telling} {t : List Record} {b : List ℕ} {s : State} {u : L
         delivered = onward .delivered;
         handed = output .handed;
         one-way = turn .telling ∙ so .one-way;
+        streamed = streamed-so;
         stands = onward .stands;
         room = turn .room;
         long = long-still;
@@ -341,6 +361,7 @@ module _ {telling : Telling} {t : List Record} {b : List ℕ} {s : State} {u : L
         delivered = so .delivered;
         handed = so .handed;
         one-way = so .one-way;
+        streamed = so .streamed;
         over = over;
         none-waits = so .last over;
       }

@@ -2,6 +2,7 @@
 pub mod Saying
 pub mod Turning
 pub mod Joining
+pub mod Closing
 pub mod Arrays
 pub mod Hears
 pub mod Finds

@@ -1,6 +1,7 @@
--- The calls `rows_in` and `ask` as steps of a walk whose locals are a frame: the numbers are a `&` for α, of whose token
--- the share p is had, the row figures are a part of them, and the table is given up. After the second call the caller has the table's last list,
--- and knows what the desk said. Assumes `Given`, and that the table's entries meet the contracts.
+-- The calls `rows_in` and `ask` as steps of a walk whose locals are a frame: the numbers are a `&` for α, of whose
+-- token the share p is had, the row figures are a part of them, and the table is given up. After the second call the
+-- caller has the table's last list, and knows what the desk said. Assumes `Given`, and that the table's entries meet
+-- the contracts.
 use mathlib.Core.Path.{_≡_, refl, sym, ap, subst}
 use mathlib.Core.Option.{some}
 use mathlib.Core.Bool.{Bool, true}
@@ -104,8 +105,8 @@ module _ {M : Type 1} (𝓤 : URA M) (H : Heap 𝓤) (A : Atoms 𝓤) (mem′ : 
   Ask = tripleOf 𝓤 H A ask.signature (ask.spec 𝓤 H A mem′ run)
 
   -- ---- `rows_in`
-  module _ (W : Given 𝓤 H A) (α : Lft) (p : Share) (bx ox : ℕ) (δ : GName) (xs : List ℤ) (count : ℕ) (fits : count < 2 ^ 64)
-    where
+  module _ (W : Given 𝓤 H A) (α : Lft) (p : Share) (bx ox : ℕ) (δ : GName) (xs : List ℤ) (count : ℕ)
+      (fits : count < 2 ^ 64) where
     abbrev to-rows : Rows .Ghost
     to-rows = (
       (

@@ -4,7 +4,7 @@ use mathlib.Core.Bool.{Bool}
 use mathlib.Core.List.{List}
 use Prim.Native.Nat.{ℕ}
 use lib.IntN.{ℤ}
-use lib.ListN.{take, drop}
+use lib.ListN.{length, take, drop}
 use Rattle.paper.specs.declared.Record.{Record}
 use Rattle.text_protocol.specs.declared.Ask.{Ask}
 use Rattle.text_protocol.specs.declared.Ask.the-variants as ask
@@ -13,9 +13,10 @@ use Rattle.text_protocol.specs.Answers.{answerMost}
 use Rattle.text_protocol.specs.Calls.{Deed, figuresBehind, deedOf, deedAsked}
 use Rattle.text_protocol.specs.Line.{meaning}
 use Rattle.text_protocol.specs.Names.{evaluateCount, evaluateNames}
-use Rattle.text_evening.specs.Evening.{tableAfter, numberAfter, after, answer}
+use Rattle.text_evening.specs.Evening.{tableAfter, numberAfter, after, answer, lineMessages}
+use Rattle.text_evening.specs.Streamed.{streamOn}
 use Rattle.text_out.specs.Wrote.{Wrote}
-use Rattle.text_deed.specs.Deeds.{lineText}
+use Rattle.text_deed.specs.Deeds.{lineText, lineCount}
 use Rattle.text_evidence.specs.declared.Written.{Written}
 use Rattle.text_turn.specs.declared.State.{State}
 use Rattle.text_turn.specs.declared.Prepared.{Prepared}
@@ -23,7 +24,7 @@ use Rattle.text_turn.specs.Turn.{Prepares}
 use Rattle.text_turn.specs.Tells.{Goes, Tells}
 use Rattle.text_ask.specs.WithReasons.{Asks}
 use Rattle.text_serve.specs.Serve.{eveningOf, Turns}
-use Rattle.text_serve.proofs.Saying.{told-as}
+use Rattle.text_serve.proofs.Saying.{told-as, counted-as}
 
 -- the rows are those behind the named numbers of an evaluation
 rows-behind : (zs : List ℤ) → drop evaluateCount zs ≡ figuresBehind evaluateNames zs
@@ -73,6 +74,19 @@ module _ (t t' : List Record) {b : List ℕ} {s : State} {b' : List ℕ} {p : Pr
       (told-as (s .telling) (s .number) (p .ask) zs (p .beside) a t t' (rw (heard .asks) (heard .beside))
       (rw (heard .asked) at performed))
 
+  -- how many messages they are
+  count-is : lineCount (p .state .telling) (p .ask) (p .state .number) (a .answer .verdict)
+      ≡ length (lineMessages (s .telling) (heard .line) (eveningOf s t))
+  unfolding lineMessages
+  count-is =
+      rw (heard .telling, heard .number, ← heard .asks)
+      (counted-as (s .telling) (s .number) (p .ask) zs a t t' (rw (heard .asked) at performed))
+
+  stream-is : r .stream
+      ≡ streamOn (s .telling) (s .stream) (length (lineMessages (s .telling) (heard .line) (eveningOf s t)))
+      (answer (s .telling) (heard .line) (eveningOf s t))
+  stream-is = told .stream ∙ rw (count-is, text-is, heard .telling, heard .stream)
+
   wrote : Wrote o (s .waiting) o' (told .end) (answer (s .telling) (heard .line) (eveningOf s t)) answerMost
   wrote =
       subst (λ (n : ℕ). Wrote o n o' (told .end) (answer (s .telling) (heard .line) (eveningOf s t)) answerMost)
@@ -91,6 +105,7 @@ module _ (t t' : List Record) {b : List ℕ} {s : State} {b' : List ℕ} {p : Pr
         wrote = wrote;
         goes = subst (λ (w : Written). Goes (p .state .input) w (told .end) r) (heard .told) (told .goes);
         telling = told .telling ∙ heard .telling;
+        stream = stream-is;
         room = told .room;
         prompt = told .prompt;
         last = told .last;

@@ -15,6 +15,16 @@ use Rattle.text_bytes.specs.Bytes.{lineFeed, isLineFeed, isNot, run, grow, piec
 use Rattle.text_protocol.specs.Line.{meaning, called}
 use Rattle.text_protocol.specs.Calls.{deedOf}
 use Rattle.text_evening.specs.Evening.{Evening, startEvening, tableAfter, textOf, after, answer, afterAll, answers}
+use Rattle.text_evening.specs.Evening.{messagesBy, lineMessages, allMessages}
+use Rattle.text_evening.specs.Streamed.{streamOf, begunStream, streamOn}
+use Rattle.text_evening.proofs.StreamedLaws.{told-whole}
+use Rattle.text_evening.specs.declared.Telling.the-variants.{Messages}
+use Rattle.paper_messages.specs.declared.Message.{Message}
+use Rattle.paper_messages.specs.Broadcast.{sent}
+use Rattle.paper_messages.specs.Messages.{encode}
+use Rattle.paper_messages.specs.Records.{pastSigned}
+use Rattle.paper_streams.specs.declared.Stream.{Stream}
+use Rattle.paper_streams.specs.Streams.{beginMessage, endMessage}
 use Rattle.paper.specs.declared.Record.{Record}
 use Rattle.text_evidence.specs.declared.Delivered.{Delivered}
 use Rattle.text_evidence.specs.declared.Written.{Written}
@@ -99,6 +109,22 @@ ended-told telling ([] ∷ q ∷ ps) e =
 ended-told telling ((b ∷ p) ∷ q ∷ ps) e =
     ap (λ (z : List ℕ). answer telling (b ∷ p) e ++ z) (ended-told telling (q ∷ ps) (after (b ∷ p) e))
 
+-- nor messages
+no-messages : (telling : Telling) (e : Evening) → lineMessages telling [] e ≡ []
+unfolding lineMessages messagesBy deedOf meaning called words full pieces
+no-messages telling e = refl
+
+ended-messages : (telling : Telling) (ps : List (List ℕ)) (e : Evening)
+    → allMessages telling ps e ≡ allMessages telling (ended ps) e
+unfolding allMessages ended
+ended-messages telling [] e = refl
+ended-messages telling ([] ∷ []) e = append-nil (lineMessages telling [] e) ∙ no-messages telling e
+ended-messages telling ((b ∷ p) ∷ []) e = refl
+ended-messages telling ([] ∷ q ∷ ps) e =
+    ap (λ (ms : List Message). lineMessages telling [] e ++ ms) (ended-messages telling (q ∷ ps) (after [] e))
+ended-messages telling ((b ∷ p) ∷ q ∷ ps) e =
+    ap (λ (ms : List Message). lineMessages telling (b ∷ p) e ++ ms) (ended-messages telling (q ∷ ps) (after (b ∷ p) e))
+
 -- AND THE TABLE AT THE END IS THE TABLE AFTER THE LINES OF ALL THAT WAS DELIVERED
 pub served-table : {telling : Telling} {t : List Record} {r : State} {t' : List Record} (s : Serves telling t r t')
     → tookAll (r .told) ≡ true → length (s .lines) < mostLines
@@ -118,3 +144,31 @@ served-told {telling} {t} {r} {t'} s well few =
     s .said
     ∙ ap (λ (ls : List (List ℕ)). answers telling ls (startEvening t)) (served-pieces (s .cut) well few)
     ∙ ended-told telling (pieces isLineFeed (s .got)) (startEvening t)
+
+-- AND WHERE MESSAGES ARE TOLD, `begin`, WHAT WAS HANDED TO `write` AND AN `end` OF THE STREAM'S COUNT AND SUM ARE THE WHOLE
+-- STREAM of the messages of these lines
+pub served-stream : {from : ℕ} {t : List Record} {r : State} {t' : List Record} (s : Serves (Messages from) t r t')
+    → tookAll (r .told) ≡ true → length (s .lines) < mostLines
+    → suc (length (allMessages (Messages from) (lines (s .got)) (startEvening t))) < pastSigned
+    → (encode beginMessage ++ s .told) ++ sent (endMessage (r .stream .count) (r .stream .sum))
+    ≡ streamOf from (lines (s .got)) (startEvening t)
+unfolding lines
+served-stream {from} {t} {r} {t'} s well few short =
+    let start : Evening = startEvening t in
+    let all : List (List ℕ) = ended (pieces isLineFeed (s .got)) in
+    let told-is : s .told ≡ answers (Messages from) all start = served-told s well few in
+    let messages-are : allMessages (Messages from) (s .lines) start ≡ allMessages (Messages from) all start =
+    ap (λ (ls : List (List ℕ)). allMessages (Messages from) ls start) (served-pieces (s .cut) well few)
+    ∙ ended-messages (Messages from) (pieces isLineFeed (s .got)) start in
+    let stream-is : r .stream
+    ≡ streamOn (Messages from) begunStream (length (allMessages (Messages from) all start))
+    (answers (Messages from) all start) =
+    s .streamed
+    ∙ ap (λ (l : List ℕ). streamOn (Messages from) begunStream (length (allMessages (Messages from) (s .lines) start)) l)
+    (sym (s .said) ∙ told-is)
+    ∙ ap (λ (ms : List Message). streamOn (Messages from) begunStream (length ms) (answers (Messages from) all start))
+    messages-are in
+    ap (λ (l : List ℕ). (encode beginMessage ++ l) ++ sent (endMessage (r .stream .count) (r .stream .sum))) told-is
+    ∙ ap (λ (x : Stream). (encode beginMessage ++ answers (Messages from) all start)
+    ++ sent (endMessage (x .count) (x .sum))) stream-is
+    ∙ told-whole from all start short

@@ -8,21 +8,28 @@ ghost use Rattle.paper_desk.specs.Desk.{blank};
 ghost use Rattle.text_input.specs.Input.{Stands};
 ghost use Rattle.text_turn.specs.Turn.{Prepares};
 ghost use Rattle.text_ask.specs.WithReasons.{Asks};
-ghost use Rattle.text_serve.specs.Serve.{Turns, Serves};
 ghost use Rattle.text_serve.specs.Places.{placesMost, entryOf, noteOf, Sound};
+ghost use Rattle.text_serve.specs.Serve.{Turns, Serves, Closes};
 ghost use Rattle.text_bytes.specs.Bytes.{room};
 ghost use Rattle.text_protocol.specs.Answers.{answerMost};
 ghost use Rattle.text_protocol.specs.Line.{keptMost};
 ghost use Rattle.text_protocol.specs.Names.{evaluateCount};
 ghost use Rattle.paper.specs.Numbers.{slotsMost};
 use desk::good_at;
+ghost use Rattle.paper_messages.specs.Broadcast.{sent};
+ghost use Rattle.paper_streams.specs.Streams.{beginMessage};
+ghost use Rattle.text_evidence.specs.Evidence.{unwritten, Hands};
 use desk::place_near;
 use libc::STDERR_FILENO;
 use paper::Record;
+use paper_messages::Message;
 use text_ask::ask;
 use text_ask::id_asked;
+use text_broadcast::begin_message;
+use text_broadcast::end_message;
 use text_bytes::ROOM;
 use text_evening::Telling;
+use text_evidence::Written;
 use text_protocol::Ask;
 use text_protocol::KEPT;
 use text_protocol::Performed;
@@ -196,29 +203,74 @@ pub fn last_heard(next: u64) -> u64 {
     next - 1
 }
 
-// Says on standard error which failed, a read or a write, and at which line; or that the input has not ended. What came
-// before a read that failed is the last line that was heard.
-fn report(s: State) {
+// ---- what begins and ends a stream of messages
+
+// One message is handed to standard output, behind what was handed over before.
+fn send(m: Message, before: Written) -> Written
+    ensures { λ r. ⌜ Hands (length (sent m)) before r ⌝ }
+{
+    let mut out = io::large_buffer();
+    let n = text_broadcast::send(&mut out, 0, m);
+    text_evidence::hand(&out, n, before)
+}
+
+// `begin`, before every other message.
+fn begun() -> Written
+    ensures { λ r. ⌜ Hands (length (sent beginMessage)) unwritten r ⌝ }
+{
+    send(begin_message(), text_evidence::unwritten())
+}
+
+// `end`, behind every other message, where messages are told, the input has ended and all of them were taken: it says
+// how many they are, and their sum.
+fn ended(s: State) -> Written
+    ensures { λ r. ⌜ Closes s r ⌝ }
+{
     let told = s.told;
+    let input = s.input;
+    let read = input.read;
+    let telling = s.telling;
+    let stream = s.stream;
+    if !(told.took_all() & read.is_well()) {
+        return told;
+    }
+    match telling {
+        Telling::Answers => told,
+        Telling::Reasons => told,
+        Telling::Messages(_) => send(end_message(stream), told),
+    }
+}
+
+// ---- what is said of a run
+
+// Says on standard error that a read or a write failed, and at which line.
+fn say_failed(telling: Telling, written: bool, line: u64) {
+    match telling {
+        Telling::Answers => io::write_all(STDERR_FILENO, b"evening: "),
+        Telling::Reasons => io::write_all(STDERR_FILENO, b"why: "),
+        Telling::Messages(_) => io::write_all(STDERR_FILENO, b"broadcast: "),
+    }
+    ;
+    if written {
+        io::write_all(STDERR_FILENO, b"could not read, at line ");
+    } else {
+        io::write_all(STDERR_FILENO, b"could not write, at line ");
+    }
+    io::print_decimal(STDERR_FILENO, line);
+    io::write_all(STDERR_FILENO, b"\n");
+}
+
+// Ends the stream, and says which failed, a read or a write; or that the input has not ended. What came before a read
+// that failed is the last line that was heard.
+fn finish(s: State) {
+    let told = ended(s);
     let input = s.input;
     let read = input.read;
     if told.took_all() & read.is_well() {
         return;
     }
     let telling = s.telling;
-    match telling {
-        Telling::Answers => io::write_all(STDERR_FILENO, b"evening: "),
-        Telling::Reasons => io::write_all(STDERR_FILENO, b"why: "),
-        Telling::Messages => io::write_all(STDERR_FILENO, b"broadcast: "),
-    }
-    ;
-    if told.took_all() {
-        io::write_all(STDERR_FILENO, b"could not read, at line ");
-    } else {
-        io::write_all(STDERR_FILENO, b"could not write, at line ");
-    }
-    io::print_decimal(STDERR_FILENO, last_heard(s.number));
-    io::write_all(STDERR_FILENO, b"\n");
+    say_failed(telling, told.took_all(), last_heard(s.number));
 }
 
 // A table by value, lent once to every line of standard input: `evening`, `why` and `broadcast` are this, told in three
@@ -226,5 +278,16 @@ fn report(s: State) {
 pub fn on(t: [Record; Record::SLOTS_MOST], telling: Telling) {
     let mut u = t;
     let s = serve(&mut u, telling);
-    report(s);
+    finish(s);
+}
+
+// The same, told to members as one stream, with the messages of the line `from` and those behind it: `begin` is written
+// before the first line is heard.
+pub fn stream_on(t: [Record; Record::SLOTS_MOST], from: u64) {
+    let told = begun();
+    if told.took_all() {
+        on(t, Telling::Messages(from));
+    } else {
+        say_failed(Telling::Messages(from), false, 1);
+    }
 }

@@ -36,6 +36,7 @@ pub prepared : (b : List ℕ) (s : State) (b' : List ℕ) (h : Heard) (xs : List
             waiting = s .waiting;
             told = s .told;
             telling = s .telling;
+            stream = s .stream;
           };
       count = h .line .count;
       ask = w .ask;
@@ -60,4 +61,5 @@ prepared b s b' h xs w asked p q e =
       waiting = refl;
       told = refl;
       there = p .there;
+      stream = refl;
     }

@@ -4,12 +4,13 @@ use mathlib.Core.List.{List}
 use Prim.Native.Nat.{ℕ, _+_, _≤_}
 use Rattle.text_protocol.specs.declared.Performed.{Performed}
 use Rattle.text_evening.specs.Evening.{numberAfter}
+use Rattle.text_evening.specs.Streamed.{streamOn}
 use Rattle.paper.specs.Lists.{pick}
 use Rattle.text_out.specs.Wrote.{Wrote}
 use Rattle.text_evidence.specs.declared.Written.{Written}
 use Rattle.text_evidence.specs.Evidence.{tookAll, Hands}
 use Rattle.text_input.specs.declared.Input.{Input}
-use Rattle.text_deed.specs.Deeds.{lineText}
+use Rattle.text_deed.specs.Deeds.{lineText, lineCount}
 use Rattle.text_turn.specs.declared.State.{State}
 use Rattle.text_turn.specs.declared.Prepared.{Prepared}
 use Rattle.text_protocol.specs.Answers.{answerMost}
@@ -39,3 +40,7 @@ pub record Tells (b : List ℕ) (p : Prepared) (a : Performed) (b' : List ℕ) (
   pub kept : r .kept ≡ p .state .kept
   pub telling : r .telling ≡ p .state .telling
   pub number : r .number ≡ numberAfter (p .state .number)
+  pub stream : r .stream
+      ≡ streamOn (p .state .telling) (p .state .stream)
+      (lineCount (p .state .telling) (p .ask) (p .state .number) (a .answer .verdict))
+      (lineText (p .state .telling) (p .ask) (p .state .number) (p .beside) a)

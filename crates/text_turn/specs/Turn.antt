@@ -9,6 +9,7 @@ use Rattle.text_protocol.specs.Kept.{noneKept}
 use Rattle.text_protocol.specs.Line.{meaning}
 use Rattle.text_protocol.specs.Calls.{deedOf, deedAsked}
 use Rattle.text_evening.specs.Evening.{keptBy, lastNumber}
+use Rattle.text_evening.specs.Streamed.{begunStream}
 use Rattle.text_evidence.specs.Evidence.{unread, unwritten}
 use Rattle.text_input.specs.Input.{Next, StandsAt}
 use Rattle.text_deed.specs.Deeds.{BesideIs, asksWhy}
@@ -28,9 +29,10 @@ pub record Prepares (b : List ℕ) (s : State) (b' : List ℕ) (r : Prepared) (x
   pub waiting : r .state .waiting ≡ s .waiting
   pub told : r .state .told ≡ s .told
   pub there : StandsAt b' (r .from) (r .to) line
+  pub stream : r .state .stream ≡ s .stream
 
--- at the start nothing is read, nothing is kept and nothing waits, and the first line is the next; `telling` is how
--- lines are told, from the start to the end
+-- at the start nothing is read, nothing is kept and nothing waits, the first line is the next, and of a stream `begin` is
+-- told; `telling` is how lines are told, from the start to the end
 abbrev pub startState : Telling → State
 startState telling =
     record {
@@ -40,4 +42,5 @@ startState telling =
       waiting = 0;
       told = unwritten;
       telling = telling;
+      stream = begunStream;
     }

@@ -2,17 +2,22 @@
 // due, and all that wait are then handed to `write`, with its evidence.
 ghost use mathlib.Core.Path.{_≡_};
 ghost use mathlib.Core.Bool.{false};
-ghost use Prim.Native.Nat.{_+_, _≤_, _<_};
-ghost use lib.ListN.{length};
+ghost use Prim.Native.Nat.{_+_, _-_, _≤_, _<_, min};
+ghost use lib.ListN.{length, take, drop};
 ghost use Rattle.paper.specs.Lists.{pick};
 ghost use Rattle.text_bytes.specs.Bytes.{room};
 ghost use Rattle.text_protocol.specs.Answers.{answerMost};
-ghost use Rattle.text_evening.specs.Evening.{numberAfter};
+ghost use Rattle.text_evening.specs.Evening.{numberAfter, lastNumber};
+ghost use Rattle.text_evening.specs.Streamed.{streamOn};
 ghost use Rattle.text_turn.specs.Tells.{halted, Tells};
 use crate::Prepared;
 use crate::State;
+use paper_streams::Stream;
+use sums::sum_on;
 use text_bytes::ROOM;
+use text_deed::count;
 use text_deed::say;
+use text_evening::Telling;
 use text_evidence::hand;
 use text_input::Input;
 use text_protocol::Performed;
@@ -59,6 +64,43 @@ pub fn is_due(i: Input, n: usize) -> bool
     true
 }
 
+// A count that stops at the greatest number of 64 bits.
+fn count_on(all: u64, more: u64) -> u64
+    ensures { λ r. ⌜ r ≡ min (all + more) lastNumber ⌝ }
+{
+    if more <= u64::MAX - all {
+        return all + more;
+    }
+    u64::MAX
+}
+
+// How far the stream is told behind so many messages, which were appended from `len` to `end`.
+fn carried(
+    out: &[u8],
+    len: usize,
+    end: usize,
+    telling: Telling,
+    more: u64,
+    stream: Stream,
+) -> Stream
+    requires { ⌜ (len ≤ end) × (end ≤ length (now out)) ⌝ }
+    ensures { λ r. ⌜ r ≡ streamOn telling stream more (take (end - len) (drop len (now (out .entry)))) ⌝ }
+{
+    match telling {
+        Telling::Answers => stream,
+        Telling::Reasons => stream,
+        Telling::Messages(_) => {
+            let count = count_on(stream.count, more);
+            let sum = sum_on(stream.sum, &out[len..end]);
+            Stream {
+                began: stream.began,
+                count,
+                sum,
+            }
+        }
+    }
+}
+
 // Tells the answer to a line: it is appended to those that wait, and they are written where they are due.
 pub fn tell(out: &mut [u8; ROOM], p: Prepared, a: Performed) -> State
     requires { ⌜ p .state .waiting + answerMost ≤ room ⌝ }
@@ -71,7 +113,12 @@ pub fn tell(out: &mut [u8; ROOM], p: Prepared, a: Performed) -> State
     let telling = s.telling;
     let ask = p.ask;
     let told = s.told;
+    let before = s.stream;
+    let answer = a.answer;
+    let verdict = answer.verdict;
     let n = say(out, s.waiting, telling, ask, s.number, beside, a);
+    let more = count(telling, ask, s.number, verdict);
+    let stream = carried(out, s.waiting, n, telling, more, before);
     let number = number_after(s.number);
     if is_due(i, n) {
         let told = hand(out, n, told);
@@ -83,6 +130,7 @@ pub fn tell(out: &mut [u8; ROOM], p: Prepared, a: Performed) -> State
             waiting: 0,
             told,
             telling,
+            stream,
         };
     }
     State {
@@ -92,5 +140,6 @@ pub fn tell(out: &mut [u8; ROOM], p: Prepared, a: Performed) -> State
         waiting: n,
         told,
         telling,
+        stream,
     }
 }

@@ -8,6 +8,7 @@ ghost use Rattle.text_input.specs.Input.{Stands};
 ghost use Rattle.text_turn.specs.Turn.{Prepares, startState};
 ghost use Rattle.text_protocol.specs.Line.{keptMost};
 ghost use Rattle.text_protocol.specs.Names.{evaluateCount};
+use paper_streams::Stream;
 use text_call::figures;
 use text_call::least;
 use text_deed::Beside;
@@ -22,8 +23,8 @@ use text_protocol::EvaluatePlace;
 use text_protocol::Kept;
 
 // What goes on from line to line: what is left of the input, the number of the next line, what is kept of the interest
-// lines, how many bytes of answers wait to be written, the evidence of what was handed to `write`, and how lines are
-// told.
+// lines, how many bytes of answers wait to be written, the evidence of what was handed to `write`, how lines are told,
+// and how far the stream of messages is told.
 pub struct State {
     pub input: Input,
     pub number: u64,
@@ -31,6 +32,7 @@ pub struct State {
     pub waiting: usize,
     pub told: Written,
     pub telling: Telling,
+    pub stream: Stream,
 }
 
 // A line that was heard: the state behind it, but for the number of the line, which goes on once it is told; how many
@@ -56,6 +58,7 @@ pub fn prepare(buf: &mut [u8], xs: &mut [i64], s: State) -> Prepared
     let kept = s.kept;
     let telling = s.telling;
     let told = s.told;
+    let stream = s.stream;
     let h = hear(buf, xs, input);
     let line = h.line;
     let count = line.count;
@@ -72,6 +75,7 @@ pub fn prepare(buf: &mut [u8], xs: &mut [i64], s: State) -> Prepared
             waiting: s.waiting,
             told,
             telling,
+            stream,
         },
         count,
         ask,
@@ -90,8 +94,11 @@ pub fn rows_of(xs: &[i64], count: usize) -> &[i64]
     figures(&xs[..end], EvaluatePlace::COUNT)
 }
 
-// At the start nothing is read and nothing waits. Nothing says that the input ends, so the lines are counted down from
-// a number that no run uses up.
+// The sum of `begin`.
+const BEGUN: u32 = 0x8071_9c49;
+
+// At the start nothing is read and nothing waits, and of a stream `begin` is told. Nothing says that the input ends, so
+// the lines are counted down from a number that no run uses up.
 pub fn start(telling: Telling) -> State
     ensures { λ r. ⌜ r ≡ startState telling ⌝ }
 {
@@ -108,5 +115,10 @@ pub fn start(telling: Telling) -> State
         waiting: 0,
         told: text_evidence::unwritten(),
         telling,
+        stream: Stream {
+            began: true,
+            count: 1,
+            sum: BEGUN,
+        },
     }
 }

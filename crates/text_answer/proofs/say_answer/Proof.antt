@@ -69,6 +69,17 @@ returns-6 c =
     (recordNumbers (start .args .a .rec))
     (rw (at-match .enum-told5 .given .1))) at (c .say-record3 .ensures)
 
+returns-7 : tie.Need-returns-7
+unfolding figuresShown
+returns-7 c =
+    let at-match = c .before .before .before in
+    let at-if1 = at-match .before .before in
+    let at-number = at-if1 .before in
+    let start = at-number .before in
+    rw (done-call (start .args .role) (start .args .a) _ (at-number .number .ensures) (at-if1 .if1 .left)
+    (recordNumbers (start .args .a .rec))
+    (rw (at-match .enum-told6 .given .1))) at (c .say-record4 .ensures)
+
 pub say-answer-spec : {M : Type 1} → statement M
 say-answer-spec =
     tie.close
@@ -86,8 +97,11 @@ say-answer-spec =
     (λ c κs. search needs)
     (λ c. search needs)
     (λ c κs. search needs)
+    (λ c. search needs)
+    (λ c κs. search needs)
     returns-2
     returns-3
     returns-4
     returns-5
-    returns-6)
+    returns-6
+    returns-7)

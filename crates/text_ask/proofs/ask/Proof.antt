@@ -228,7 +228,7 @@ code-if-call =
 abbrev code-if-evaluation : Body
 code-if-evaluation =
     switch (copy (place ℓrole (variant 0 ∷ field 0 ∷ [])))
-    (arm (1 ∷ []) code-explained (arm (0 ∷ 2 ∷ 3 ∷ 4 ∷ []) skip noDefault))
+    (arm (1 ∷ []) code-explained (arm (0 ∷ 2 ∷ 3 ∷ 4 ∷ 5 ∷ []) skip noDefault))
 
 -- let role = c.role(); and what follows it
 abbrev code-role : Body
@@ -256,7 +256,7 @@ abbrev role-ty : Ty
 role-ty =
     tyEnum (P.the-type .name)
     (ttcons (tcons X′.mir tnil) (ttcons (tcons (tyInt w64) (tcons D′.mir tnil)) (ttcons tnil
-    (ttcons (tcons S′.mir tnil) (ttcons tnil ttnil)))))
+    (ttcons (tcons S′.mir tnil) (ttcons tnil (ttcons tnil ttnil))))))
 
 -- the machine type of why, with the type of what it holds by name
 abbrev why-ty : Ty
@@ -670,6 +670,9 @@ module _ {M : Type 1} (𝓤 : URA M) (H : Heap 𝓤) (A : Atoms 𝓤) (W : Given
       if-evaluation c w iw (role.Move side) e gr gl gc =
           switches-on ! (tag ! ℓrole refl refl refl) $ exec ! C Λ En skip (Then′ (Call c)) $
           unexplained-it c w iw (role.Move side) (rw e) gl gc
+      if-evaluation c w iw role.Opening e gr gl gc =
+          switches-on ! (tag ! ℓrole refl refl refl) $ exec ! C Λ En skip (Then′ (Call c)) $
+          unexplained-it c w iw role.Opening (rw e) gl gc
       if-evaluation c w iw role.Other e gr gl gc =
           switches-on ! (tag ! ℓrole refl refl refl) $ exec ! C Λ En skip (Then′ (Call c)) $
           unexplained-it c w iw role.Other (rw e) gl gc

@@ -27,6 +27,10 @@ returns-5 : tie.Need-returns-5
 unfolding faultShown
 returns-5 c = let e = c .before .before .enum-told4 .given .1 in rw e (rw e at (c .say-answer4 .ensures))
 
+returns-6 : tie.Need-returns-6
+unfolding faultShown
+returns-6 c = let e = c .before .before .enum-told5 .given .1 in rw e (rw e at (c .say-answer5 .ensures))
+
 pub say-fault-spec : {M : Type 1} → statement M
 say-fault-spec =
     tie.close
@@ -42,8 +46,11 @@ say-fault-spec =
     (λ c κs. search needs)
     (λ c. search needs)
     (λ c κs. search needs)
+    (λ c. search needs)
+    (λ c κs. search needs)
     returns
     returns-2
     returns-3
     returns-4
-    returns-5)
+    returns-5
+    returns-6)

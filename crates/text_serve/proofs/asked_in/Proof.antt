@@ -1,8 +1,8 @@
--- `text_serve::asked_in` meets its contract: a walk of its MIR, by hand. The table is given up to the call that performs
--- what is asked for, once it has been lent as `&` to those that find a place in it and judge its slot. The numbers are a
--- `&`, which is Copy: what they own is had twice, for the call that cuts the row figures out of them and for the end. The
--- places are opened twice, to read what is noted and to note a place (`Finds`). What is noted of the place that was found
--- says that its slot is good (`judged-good`), and that is what `ask` may know.
+-- `text_serve::asked_in` meets its contract: a walk of its MIR, by hand. The table is given up to the call that
+-- performs what is asked for, once it has been lent as `&` to those that find a place in it and judge its slot. The
+-- numbers are a `&`, which is Copy: what they own is had twice, for the call that cuts the row figures out of them and
+-- for the end. The places are opened twice, to read what is noted and to note a place (`Finds`). What is noted of the
+-- place that was found says that its slot is good (`judged-good`), and that is what `ask` may know.
 use mathlib.Core.Path.{_≡_, refl, sym, _∙_, subst}
 use mathlib.Core.Bool.{Bool, true}
 use mathlib.Core.Option.{some}
@@ -88,7 +88,7 @@ use Rattle.text_serve.proofs.Noted.{noted-first, judged-good, good-know
 use Rattle.text_serve.proofs.Finds.{Names, Guess, Turn, Near, Compare, Judge, Pick, Note, names, guesses, turns}
 use Rattle.text_serve.proofs.Finds.{nears, compares, judges, picks, notes}
 use Rattle.text_serve.proofs.Arrays.{Numbers, Places, mref, sref, to}
-use Rattle.text_serve.proofs.Performs.{Rows, Ask, Figures, figures-ty, figures-val, Shared, cuts, asks}
+use Rattle.text_serve.proofs.Performs.{Rows, Ask, figures-ty, Shared, cuts, asks}
 use Rattle.text_serve.proofs.asked_in as f
 use Rattle.text_serve.proofs.asked_in.Key as key
 use Rattle.text_serve.proofs.asked_in.Statement as stated
@@ -236,8 +236,8 @@ abbrev ask-val : Asked → Val
 ask-val = EL.val B.the-type B′.the-laws
 
 module _ {M : Type 1} (𝓤 : URA M) (H : Heap 𝓤) (A : Atoms 𝓤) (W : Given 𝓤 H A) (mem′ : Memory → SProp 𝓤)
-    (run : Routine → Fun 𝓤) (κ κ₂ : Lft) (q q₂ : Share) (b o : ℕ) (γ : GName) (ys : List Record) (bx ox : ℕ) (γx : GName)
-    (xs : List ℤ) (bp op : ℕ) (γp : GName) (ps : List ℕ) (l : Asked) (count : ℕ) (asked : Bool)
+    (run : Routine → Fun 𝓤) (κ κ₂ : Lft) (q q₂ : Share) (b o : ℕ) (γ : GName) (ys : List Record) (bx ox : ℕ)
+    (γx : GName) (xs : List ℤ) (bp op : ℕ) (γp : GName) (ps : List ℕ) (l : Asked) (count : ℕ) (asked : Bool)
     (room : Room R (length ys)) (gl : Is B.the-row l (ask-val l ∷ [])) (gc : count < 2 ^ 64) (sound : Sound ys ps) where
   abbrev x : Parameters
   x = (ref b o γ ys, (to bx ox γx xs, (to bp op γp ps, (l, (count, (asked, tt))))))
@@ -440,7 +440,8 @@ module _ {M : Type 1} (𝓤 : URA M) (H : Heap 𝓤) (A : Atoms 𝓤) (W : Given
           (and-then ! (value ! ℓasked refl) (no-more !)))))))
           (λ zs a v as-long done′ ia.
           -- [the frame; the table's last list; the token; the numbers' token; the numbers; the places; their borrow]
-          move ! (5 ∷ []) $ use1 W (‵ (fres γp (Places .coded .code ps′))) (W .names .obs-res γp (Places .coded .code ps′)) $
+          move ! (5 ∷ []) $
+          use1 W (‵ (fres γp (Places .coded .code ps′))) (W .names .obs-res γp (Places .coded .code ps′)) $
           move ! (6 ∷ []) $ drop ! $ move ! (1 ∷ []) $ leaves ! refl $
           -- [the places' last; the table's last list; the token; the numbers' token; the numbers]
           move ! (2 ∷ 3 ∷ 1 ∷ 4 ∷ []) $
@@ -458,10 +459,12 @@ module _ {M : Type 1} (𝓤 : URA M) (H : Heap 𝓤) (A : Atoms 𝓤) (W : Given
           (λ sure. good-known (slotAt ys i) (sym is-good ∙ sure)) (λ zs a done′.
           let performed : Asks asked l rows ys a zs =
           asked-there asked l rows ys a zs (e - 1) first
-          (subst (λ (j : ℕ). AsksAt j asked l rows ys a zs) is-near done′) in
-          (performed, subst (λ (j : ℕ). Sound zs (set ps (entryOf id) (noteOf j g))) (sym is-near)
-          (noted-sound asked l rows ys a zs ps (entryOf id) (e - 1) g sound first
-          (subst (λ (j : ℕ). g ≡ isGood (slotAt ys j)) is-near is-good) performed)))))))))))
+          (subst (λ (j : ℕ). AsksAt j asked l rows ys a zs) is-near done′) in (
+            performed,
+            subst (λ (j : ℕ). Sound zs (set ps (entryOf id) (noteOf j g))) (sym is-near)
+                (noted-sound asked l rows ys a zs ps (entryOf id) (e - 1) g sound first
+                (subst (λ (j : ℕ). g ≡ isGood (slotAt ys j)) is-near is-good) performed),
+          ))))))))))
 
     -- the parameters are in their locals
     fits : (ls : Addresses (function .locals)) → ParamsFit (env-of (function .locals) ls) args

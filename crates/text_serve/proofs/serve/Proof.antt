@@ -83,7 +83,7 @@ use Rattle.text_serve.specs.Serve.{Turns, Serves}
 use Rattle.text_serve.specs.Places.{placesMost, Sound}
 use Rattle.text_serve.proofs.Joining.{Sofar, none-yet, one-more, fewer, served}
 use Rattle.text_serve.proofs.Noted.{none-sound}
-use Rattle.text_serve.proofs.Arrays.{Bytes, Numbers, Places, mref, Lent, telling-val, telling-is, typed-telling}
+use Rattle.text_serve.proofs.Arrays.{Bytes, Numbers, Places, mref, Lent, telling-val, IsTelling, typed-telling}
 use Rattle.text_serve.proofs.Arrays.{state-ty, state-val, IsState, state-tells, state-is, typed-state}
 use Rattle.text_serve.proofs.Held.{held as locals, place-of, behind-all, entries}
 use Rattle.text_serve.proofs.Buffers.{array-ty, typed-array, apart, back}
@@ -297,7 +297,7 @@ module _ {M : Type 1} (𝓤 : URA M) (H : Heap 𝓤) (A : Atoms 𝓤) (mem′ : 
 
 module _ {M : Type 1} (𝓤 : URA M) (H : Heap 𝓤) (A : Atoms 𝓤) (W : Given 𝓤 H A) (mem′ : Memory → SProp 𝓤) (run′ : Routine
     → Fun 𝓤) (κ : Lft) (q : Share)
-    (b o : ℕ) (γ : GName) (ys : List Record) (telling : Telling) (room : Room R (length ys)) where
+    (b o : ℕ) (γ : GName) (ys : List Record) (telling : Telling) (room : Room R (length ys)) (it : IsTelling telling) where
   abbrev x : RefT (List Record) × (Telling × Unit {0})
   x = (ref b o γ ys, (telling, tt))
 
@@ -326,7 +326,7 @@ module _ {M : Type 1} (𝓤 : URA M) (H : Heap 𝓤) (A : Atoms 𝓤) (W : Given
         subst (Room R) (sym l) room,
       ) $
       fjoin ! $ nothing ! $ owned ! E.the-row (Is E.the-row) (EL.makes E.the-type E′.the-plain 𝓤 H A) telling
-      (telling-val telling ∷ []) (telling-is telling) $ fjoin ! $
+      (telling-val telling ∷ []) it $ fjoin ! $
       move ! (1 ∷ 0 ∷ []) $ fjoin ! $
       owned ! G.the-row (Is G.the-row) (LL.makes G.the-type G′.the-plain 𝓤 H A) r _ is $ move ! (1 ∷ 0 ∷ []) $ done !
 
@@ -630,7 +630,7 @@ module _ {M : Type 1} (𝓤 : URA M) (H : Heap 𝓤) (A : Atoms 𝓤) (W : Given
     goes-start : ent 𝓤 (emp 𝓤) (Start 𝓤 H A mem′ run′ .pre to-start)
     goes-start =
         qed W [] ∵ nothing ! $ owned ! E.the-row (Is E.the-row) (EL.makes E.the-type E′.the-plain 𝓤 H A) telling
-        (telling-val telling ∷ []) (telling-is telling) $ fjoin ! $
+        (telling-val telling ∷ []) it $ fjoin ! $
         nothing ! $ join ! $ frame ! $ done !
 
     -- the code c runs to the end, where the contract is met
@@ -753,7 +753,7 @@ module _ {M : Type 1} (𝓤 : URA M) (H : Heap 𝓤) (A : Atoms 𝓤) (W : Given
         alloc1 ! (λ l₇. alloc1 ! (λ l₈. alloc1 ! (λ l₉. alloc1 ! (λ l₁₀. alloc1 ! (λ l₁₁. alloc1 ! (λ l₁₂.
         alloc1 ! (λ l₁₃. alloc1 ! (λ l₁₄. alloc1 ! (λ l₁₅. alloc1 ! (λ l₁₆. alloc1 ! (λ l₁₇. alloc0 ! $ params1 ! $
         pass1 ! (init ! (slot 0 ℓt) refl (tt, (tt, (record { fits = room .0 }, tt)))) $
-        pass1 ! (init ! (slot 0 ℓtelling) refl (typed-telling 𝓤 H A W telling)) $ pass0 ! $
+        pass1 ! (init ! (slot 0 ℓtelling) refl (typed-telling 𝓤 H A W telling it)) $ pass0 ! $
         -- [_17; …; _0; …; the token; what t and `telling` own]
         move ! (behind-all 1 for-places ∷ []) $ fsplit ! $ fsplit ! $ drop ! $ fsplit ! $ move ! (2 ∷ []) $ drop ! $
         move ! (behind-all 2 for-places ∷ []) $ split ! $ move ! (1 ∷ []) $ drop ! $
@@ -775,7 +775,7 @@ module _ {M : Type 1} (𝓤 : URA M) (H : Heap 𝓤) (A : Atoms 𝓤) (W : Given
       (λ κs. (mut-slice-tells (named 0) (κs .0) R, (EL.tells E.the-type E′.the-laws, tt)))
       (λ κs qs bounds a g are. via 𝓤 _ (fst∗ 𝓤 _ (emp 𝓤))
       (walk 𝓤 H A W mem′ run′ (κs .0) (qs .0) (a .0 .ptr .0) (a .0 .ptr .1) (a .0 .name) (a .0 .now) (a .1 .0)
-      (are .0 .0 .1) 𝓣 known-buffer known-numbers known-places known-start known-one))
+      (are .0 .0 .1) (are .1 .0) 𝓣 known-buffer known-numbers known-places known-start known-one))
 
   meets : Meets 𝓤 H A f.signature (WpFn 𝓤 H (𝓣 .C) (𝓣 .Λ) function) (f.spec 𝓤 H A mem′ run′)
   meets =

@@ -40,7 +40,7 @@ returns : tie.Need-returns
 returns c =
     let at-deed = c .before .before .before .before in
     let heard = at-deed .before .before .before .before .before .before in
-    let entered = heard .before .before .before .before .before .before .before in (
+    let entered = heard .before .before .before .before .before .before .before .before in (
       prepared _ (entered .args .s) _ _ _ _ _ (heard .hear .ensures) (at-deed .deed-of .ensures)
           (c .asks-why .ensures),
       heard .hear .ensures .says .long,

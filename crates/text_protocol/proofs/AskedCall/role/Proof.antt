@@ -25,8 +25,12 @@ returns-4 c =
     rw (at-ask .before .before .before .self2 .given .1, at-ask .x2 .given .1, c .side-of .ensures)
 
 returns-5 : tie.Need-returns-5
+unfolding roleOf roleAbout
+returns-5 c = rw (c .before .before .before .self2 .given .1, c .enum-told2 .given .1)
+
+returns-6 : tie.Need-returns-6
 unfolding roleOf
-returns-5 c = rw (c .before .before .self2 .given .1) (last-arm _ _ (c .match2 .keys4))
+returns-6 c = rw (c .before .before .self2 .given .1) (last-arm _ _ (c .match2 .keys5))
 
 pub role-spec : {M : Type 1} → statement M
 role-spec =
@@ -38,8 +42,10 @@ role-spec =
     (λ c. search needs)
     (λ c. search needs)
     (λ c κs. search needs)
+    (λ c. search needs)
     returns
     returns-2
     returns-3
     returns-4
-    returns-5)
+    returns-5
+    returns-6)

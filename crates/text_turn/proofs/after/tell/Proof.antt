@@ -1,8 +1,8 @@
 -- `text_turn::after::tell` meets its contract: tells the answer to a line.
-use mathlib.Core.Path.{refl}
+use mathlib.Core.Path.{refl, _∙_}
 use native.Mathlib.Omega.{arith}
 use Rattle.text_turn.specs.Tells.{Goes, wait, handed}
-use Rattle.text_turn.proofs.WaysOut.{a-line-is-whole, a-line-is-left}
+use Rattle.text_turn.proofs.WaysOut.{a-line-is-whole, a-line-is-left, between}
 use borrow.Author.Needs.{needs}
 use Rattle.text_turn.proofs.after.tell.Statement.{statement}
 use Rattle.text_turn.proofs.after.tell.Tie as tie
@@ -17,6 +17,16 @@ use Rattle.text_turn.proofs.after.stopped.Reads as stopped-reads
 
 say-requires : tie.Need-say-requires
 say-requires c κs = search needs
+
+count-requires : tie.Need-count-requires
+count-requires c κs = search needs
+
+carried-requires : tie.Need-carried-requires
+carried-requires c κs =
+    let said = c .before .before .before .say .ensures in (
+      omega (arith, said .long),
+      omega (arith, said .most),
+    )
 
 number-after-requires : tie.Need-number-after-requires
 number-after-requires c κs = search needs
@@ -37,7 +47,9 @@ stopped-requires c κs = search needs
 returns : tie.Need-returns
 returns c =
     let counted = c .before .before .before .before .before .before .before in
-    let said = counted .before .say in
+    let at-carried = counted .before in
+    let at-count = at-carried .before .before .before in
+    let said = at-count .before .say in
     record {
       end = said .result;
       wrote = said .ensures;
@@ -48,12 +60,20 @@ returns c =
       kept = refl;
       telling = refl;
       number = counted .number-after .ensures;
+      stream =
+          at-carried .carried .ensures
+          ∙ rw (
+            at-count .count .ensures,
+            between (said .ensures) (carried-requires (at-carried .before) (at-carried .carried .lifetimes) .1),
+          );
     }
 
 -- all of it waits on
 returns-2 : tie.Need-returns-2
 returns-2 c =
-    let said = c .before .before .before .say in
+    let at-carried = c .before .before .before in
+    let at-count = at-carried .before .before .before in
+    let said = at-count .before .say in
     let on = c .before .is-due .ensures (c .if1 .left) in
     record {
       end = said .result;
@@ -65,6 +85,12 @@ returns-2 c =
       kept = refl;
       telling = refl;
       number = c .before .before .number-after .ensures;
+      stream =
+          at-carried .carried .ensures
+          ∙ rw (
+            at-count .count .ensures,
+            between (said .ensures) (carried-requires (at-carried .before) (at-carried .carried .lifetimes) .1),
+          );
     }
 
 pub tell-spec : {M : Type 1} → statement M
@@ -72,6 +98,8 @@ tell-spec =
     tie.close
     (tie.spec
     say-requires
+    count-requires
+    carried-requires
     number-after-requires
     is-due-requires
     hand-requires
