@@ -17,6 +17,10 @@ use Rattle.paper.specs.Verdicts.{numberOf, isDone, firstOf}
 use Rattle.paper.proofs.Logic.{and-right, not-false, not-true-and-false}
 use Rattle.paper_messages.specs.Messages.{lengthWidth, lengthLeast, lengthMost, lengthAt, readChecks, refusedHeard}
 use Rattle.paper_messages.specs.Messages.{acceptedHeard, heardAt, lengthOf, isKnownKind, valid, kindAt, messageAt}
+use Rattle.paper_messages.specs.declared.ReaderAnswer.{ReaderAnswer}
+use Rattle.paper_streams.specs.declared.Stream.{Stream}
+use Rattle.paper_streams.specs.Streams.{numberIn}
+use Rattle.paper_streams.proofs.WholeOnly.{number-none}
 use Rattle.listen_serve.specs.declared.Listening.{Listening}
 use Rattle.text_bytes.specs.Bytes.{room}
 use Rattle.listen_serve.specs.Steps.{unheard, heardIn, isCut, Stands}
@@ -38,6 +42,11 @@ done-is-whole bytes e =
     (done-is-not-short (ltb (length bytes) lengthWidth) (not (within lengthLeast lengthMost (lengthAt bytes)))
     (ltb (length bytes) (lengthWidth + lengthAt bytes)) _ e)
 
+-- what is accepted in its stream is accepted
+pub accepted-is-done : (s : Stream) (h : ReaderAnswer) → eqb (numberIn s h) 0 ≡ true → isDone (h .verdict) ≡ true
+unfolding isDone
+accepted-is-done s h e = rw (number-none s h e .0) refl
+
 -- THE PLACE BEHIND A MESSAGE is behind its own, and not past the buffer
 pub next-within : (b : List ℕ) (at : ℕ) → isDone (heardAt b at .verdict) ≡ true
     → (at < heardAt b at .next) × (heardAt b at .next ≤ length b)
@@ -53,6 +62,11 @@ next-within b at = go (isDone (firstOf (readChecks (drop at b)))) refl
         let w : lengthWidth + lengthAt (drop at b) ≤ length b - at = rw length-drop at (done-is-whole (drop at b) e) in
         (omega arith, omega arith)
     go false e h = absurd (not-true-and-false false (sym e ∙ h) refl)
+
+-- and so is the place behind what is accepted in its stream
+pub accepted-within : (b : List ℕ) (at : ℕ) (s : Stream) → eqb (numberIn s (heardAt b at)) 0 ≡ true
+    → (at < heardAt b at .next) × (heardAt b at .next ≤ length b)
+accepted-within b at s e = next-within b at (accepted-is-done s (heardAt b at) e)
 
 -- of what is cut short there are fewer bytes than the longest message has
 cut-is-few : (few out short wrong bad : Bool)

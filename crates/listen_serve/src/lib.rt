@@ -1,19 +1,29 @@
 // The program `listen` (document 02, W-212): messages on standard input, whatever pieces `read` delivers them in, and a
-// line for each. Two buffers are lent to a step: one of what is read, one of the lines that wait to be written.
+// line for each. Two buffers are lent to a step: one of what is read, one of the lines that wait to be written. An
+// `end` is judged by the stream before it, of which a few numbers are kept (docs/BROADCAST.md, "A whole stream").
 ghost use mathlib.Core.Path.{_≡_};
 ghost use mathlib.Core.Bool.{true, false};
 ghost use Prim.Native.Nat.{_+_, _-_, _≤_, _<_};
 ghost use lib.ListN.{length};
 ghost use Rattle.paper_messages.specs.Fields.{places};
 ghost use Rattle.text_bytes.specs.Bytes.{room};
-ghost use Rattle.text_evidence.specs.Evidence.{countMost};
-ghost use Rattle.listen_serve.specs.Steps.{startListening, placeOf, isCut, Stands, Going, Tells, WritesOut};
-ghost use Rattle.listen_serve.specs.Steps.{Delivers, ReadsOn, Steps, Listens, wentWell};
+ghost use Rattle.text_evidence.specs.Evidence.{countMost, hasEnded, tookAll};
+ghost use Rattle.listen_serve.specs.Steps.{startFeed, feedAfter, notAlone, startListening, placeOf, isCut};
+ghost use Rattle.listen_serve.specs.Steps.{Stands, Going, NextWithin, gathered, MakesRoom, TellsUnended, Tells};
+ghost use Rattle.listen_serve.specs.Steps.{Hears, WritesOut, Delivers, ReadsOn, Finishes, Steps, Listens};
+ghost use Rattle.listen_serve.specs.Steps.{wentWell, wholeIn};
 use libc::STDERR_FILENO;
 use listen_lines::LINE_MOST;
 use listen_lines::say_heard;
+use listen_lines::say_unended;
+use listen_lines::streams::no_stream;
+use listen_lines::streams::number_in;
+use listen_lines::streams::stands_alone;
+use listen_lines::streams::stream_after;
 use paper::Verdict;
+use paper_messages::Message;
 use paper_messages::ReaderAnswer;
+use paper_streams::Stream;
 use text_bytes::ROOM;
 use text_evidence::Delivered;
 use text_evidence::Written;
@@ -23,16 +33,34 @@ use text_evidence::shift;
 use text_evidence::unread;
 use text_evidence::unwritten;
 
+// What is kept of the streams: how far the present one is heard, and whether every message so far may stand in an input
+// that is one stream alone.
+pub struct Feed {
+    pub stream: Stream,
+    pub alone: bool,
+}
+
 // How far the input is listened to: the bytes of the buffer from `at` to `len` are delivered and not heard yet. So many
-// bytes of lines wait to be written as `waiting` says. `over` is whether nothing more is heard. `read` is the evidence
-// of what was delivered, `told` of what was handed over.
+// bytes of lines wait to be written as `waiting` says. `over` is whether nothing more is heard. `feed` is what is kept
+// of the streams, `read` the evidence of what was delivered, `told` of what was handed over.
 pub struct Listening {
     pub at: usize,
     pub len: usize,
     pub waiting: usize,
     pub over: bool,
+    pub feed: Feed,
     pub read: Delivered,
     pub told: Written,
+}
+
+// At the start no stream began, and nothing stands that may not.
+fn no_feed() -> Feed
+    ensures { λ r. ⌜ r ≡ startFeed ⌝ }
+{
+    Feed {
+        stream: no_stream(),
+        alone: true,
+    }
 }
 
 // At the start nothing is delivered, and nothing handed over.
@@ -44,6 +72,7 @@ pub fn start() -> Listening
         len: 0,
         waiting: 0,
         over: false,
+        feed: no_feed(),
         read: unread(),
         told: unwritten(),
     }
@@ -59,6 +88,7 @@ fn more(buf: &mut [u8], s: Listening) -> Listening
 {
     let at = s.at;
     let len = s.len;
+    let feed = s.feed;
     let told = s.told;
     let have = shift(buf, at, len);
     let read = fill(buf, have, s.read);
@@ -68,6 +98,7 @@ fn more(buf: &mut [u8], s: Listening) -> Listening
         len: end,
         waiting: s.waiting,
         over: s.over,
+        feed,
         read,
         told,
     }
@@ -81,6 +112,7 @@ fn write_out(out: &[u8], s: Listening, over: bool) -> Listening
     ensures { λ r. ⌜ WritesOut s over r ⌝ }
 {
     let n = s.waiting;
+    let feed = s.feed;
     let read = s.read;
     let told = hand(out, n, s.told);
     Listening {
@@ -88,6 +120,7 @@ fn write_out(out: &[u8], s: Listening, over: bool) -> Listening
         len: s.len,
         waiting: 0,
         over: over | !told.took_all(),
+        feed,
         read,
         told,
     }
@@ -102,39 +135,103 @@ fn place_of(s: Listening) -> u64
     read.all() - ((s.len - s.at) as u64)
 }
 
-// Gathers the line of what is heard. The lines are written where nothing more is heard, and where the buffer has no
-// room for one more.
-fn tell(out: &mut [u8; ROOM], s: Listening, h: ReaderAnswer) -> Listening
-    requires { ⌜ Going s × (length (h .message .fields) ≡ places) ⌝ }
-    ensures { λ r. ⌜ Tells s h (now (out .entry)) r (now (out .exit)) ⌝ }
+// The state with so many bytes of lines waiting, the place at `at`, and `feed` kept of the streams.
+fn gathered(s: Listening, waiting: usize, at: usize, feed: Feed) -> Listening
+    ensures { λ r. ⌜ r ≡ gathered s waiting at feed ⌝ }
 {
-    let verdict = h.verdict;
     let read = s.read;
     let told = s.told;
-    let n = say_heard(out, s.waiting, place_of(s), h);
-    if !verdict.is_done() {
-        let r = Listening {
-            at: s.at,
-            len: s.len,
-            waiting: n,
-            over: s.over,
-            read,
-            told,
-        };
-        return write_out(out, r, true);
-    }
-    let r = Listening {
-        at: h.next,
+    Listening {
+        at,
         len: s.len,
-        waiting: n,
+        waiting,
         over: s.over,
+        feed,
         read,
         told,
-    };
-    if ROOM - LINE_MOST < n {
-        return write_out(out, r, false);
     }
-    r
+}
+
+// The lines are written where the buffer has no room for one more.
+fn make_room(out: &[u8], s: Listening) -> Listening
+    requires { ⌜ (s .waiting ≤ length (now out)) × (s .over ≡ false) × (tookAll (s .told) ≡ true) ⌝ }
+    ensures { λ r. ⌜ MakesRoom s r ⌝ }
+{
+    if ROOM - LINE_MOST < s.waiting {
+        return write_out(out, s, false);
+    }
+    s
+}
+
+// What is kept of the streams behind a message of these bytes at a place of the input.
+fn feed_after(f: Feed, place: u64, h: ReaderAnswer, bytes: &[u8]) -> Feed
+    requires { ⌜ f .stream .count < countMost ⌝ }
+    ensures { λ r. ⌜ r ≡ feedAfter f place h (now (bytes .entry)) ⌝ }
+{
+    let stream = f.stream;
+    Feed {
+        stream: stream_after(stream, h, bytes),
+        alone: f.alone & stands_alone(place, stream, h),
+    }
+}
+
+// The stream is not whole: the input is not one whole stream.
+fn not_alone(stream: Stream) -> Feed
+    ensures { λ r. ⌜ r ≡ notAlone stream ⌝ }
+{
+    Feed {
+        stream,
+        alone: false,
+    }
+}
+
+// Gathers the line of a stream that has no end; it is left behind, and the place stays.
+fn tell_unended(out: &mut [u8; ROOM], s: Listening) -> Listening
+    requires { ⌜ Going s × (s .feed .stream .began ≡ true) ⌝ }
+    ensures { λ r. ⌜ TellsUnended s (now (out .entry)) r (now (out .exit)) ⌝ }
+{
+    let feed = s.feed;
+    let stream = feed.stream;
+    let n = say_unended(out, s.waiting, stream.count);
+    let none = not_alone(no_stream());
+    let r = gathered(s, n, s.at, none);
+    make_room(out, r)
+}
+
+// Gathers the line of what is heard. The lines are written where nothing more is heard, and where the buffer has no
+// room for one more.
+fn tell(buf: &[u8], out: &mut [u8; ROOM], s: Listening, h: ReaderAnswer) -> Listening
+    requires { ⌜ Going s × (length (h .message .fields) ≡ places) × NextWithin (now buf) s h ⌝ }
+    ensures { λ r. ⌜ Tells (now (buf .entry)) s h (now (out .entry)) r (now (out .exit)) ⌝ }
+{
+    let feed = s.feed;
+    let stream = feed.stream;
+    let place = place_of(s);
+    let no = number_in(stream, h);
+    let n = say_heard(out, s.waiting, place, no, h);
+    let at = s.at;
+    if no != 0 {
+        let none = not_alone(stream);
+        let r = gathered(s, n, at, none);
+        return write_out(out, r, true);
+    }
+    let next = h.next;
+    let after = feed_after(feed, place, h, &buf[at..next]);
+    let r = gathered(s, n, next, after);
+    make_room(out, r)
+}
+
+// What is heard: a `begin` within a stream says first that the stream has no end.
+fn hear(buf: &[u8], out: &mut [u8; ROOM], s: Listening, h: ReaderAnswer) -> Listening
+    requires { ⌜ Going s × (length (h .message .fields) ≡ places) × NextWithin (now buf) s h ⌝ }
+    ensures { λ r. ⌜ Hears (now (buf .entry)) s h (now (out .entry)) r (now (out .exit)) ⌝ }
+{
+    let feed = s.feed;
+    let stream = feed.stream;
+    if stream.began & (h.kind == Message::BEGIN) {
+        return tell_unended(out, s);
+    }
+    tell(buf, out, s, h)
 }
 
 // ---- steps
@@ -155,10 +252,12 @@ fn used_up(s: Listening) -> Listening
       len = s .len;
       waiting = s .waiting;
       over = true;
+      feed = s .feed;
       read = s .read;
       told = s .told;
     } ⌝ }
 {
+    let feed = s.feed;
     let read = s.read;
     let told = s.told;
     Listening {
@@ -166,6 +265,7 @@ fn used_up(s: Listening) -> Listening
         len: s.len,
         waiting: s.waiting,
         over: true,
+        feed,
         read,
         told,
     }
@@ -189,6 +289,19 @@ fn read_on(buf: &mut [u8], out: &[u8], s: Listening) -> Listening
     more(buf, w)
 }
 
+// The input has ended between two messages: a stream that began has no end, and then nothing more is heard.
+fn end_of_input(out: &mut [u8; ROOM], s: Listening) -> Listening
+    requires { ⌜ Going s × (hasEnded (s .read) ≡ true) × (s .at ≡ s .len) ⌝ }
+    ensures { λ r. ⌜ Finishes s (now (out .entry)) r (now (out .exit)) ⌝ }
+{
+    let feed = s.feed;
+    let stream = feed.stream;
+    if stream.began {
+        return tell_unended(out, s);
+    }
+    write_out(out, s, true)
+}
+
 // One step: the message at the place is told, or more is read.
 pub fn step(buf: &mut [u8], out: &mut [u8; ROOM], s: Listening) -> Listening
     requires { ⌜ (Stands (now buf) s) × (s .over ≡ false) ⌝ }
@@ -198,16 +311,16 @@ pub fn step(buf: &mut [u8], out: &mut [u8; ROOM], s: Listening) -> Listening
     let len = s.len;
     let h = messages::read(&buf[..len], at);
     if !is_cut(h) {
-        return tell(out, s, h);
+        return hear(buf, out, s, h);
     }
     let read = s.read;
     if !read.has_ended() {
         return read_on(buf, out, s);
     }
     if at == len {
-        return write_out(out, s, true);
+        return end_of_input(out, s);
     }
-    tell(out, s, h)
+    hear(buf, out, s, h)
 }
 
 // Every message of standard input. The state at the end has the evidence of what was read and written.
@@ -232,6 +345,15 @@ fn went_well(s: Listening) -> bool
     !read.has_failed() & told.took_all() & ((ROOM as u64) < u64::MAX - read.all())
 }
 
+// Whether what was delivered is one whole stream.
+fn is_whole(s: Listening) -> bool
+    ensures { λ r. ⌜ r ≡ wholeIn s ⌝ }
+{
+    let feed = s.feed;
+    let read = s.read;
+    feed.alone & (0 < read.all())
+}
+
 // Says on standard error which failed.
 fn say_failed(wrote: bool) {
     if wrote {
@@ -241,11 +363,16 @@ fn say_failed(wrote: bool) {
     io::write_all(STDERR_FILENO, b"listen: could not write\n");
 }
 
-// The program: says on standard error where a read or a write failed.
-pub fn on() {
+// The program: says on standard error where a read or a write failed and, if it is asked for one whole stream, where
+// the input is none.
+pub fn on(whole: bool) {
     let s = listen();
     if !went_well(s) {
         let told = s.told;
         say_failed(told.took_all());
+        return;
+    }
+    if whole & !is_whole(s) {
+        io::write_all(STDERR_FILENO, b"listen: not one whole stream\n");
     }
 }

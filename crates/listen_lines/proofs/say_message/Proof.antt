@@ -1,67 +1,53 @@
--- `listen_lines::say_message` meets its contract: the word, the fields and the end of the line.
-use mathlib.Core.Path.{sym}
-use native.Mathlib.Omega.{arith}
-use lib.Seq.{length-take-le}
-use Rattle.listen_lines.proofs.LineParts.{word-line-written, fields-line-written}
+-- `say_message` meets its contract: an `end` by its count and its sum, every other message by its fields.
+use Rattle.listen_lines.proofs.LineParts.{end-line-written, other-line-written}
 use borrow.Author.Needs.{needs}
 use Rattle.listen_lines.proofs.say_message.Statement.{statement}
 use Rattle.listen_lines.proofs.say_message.Tie as tie
 use Rattle.listen_lines.proofs.say_message.Reads as reads
 use Rattle.listen_lines.proofs.say_message.Lts as lts
-use Rattle.messages.proofs.kinds.field_count.Reads as field-count-reads
-use Rattle.listen_lines.proofs.put_kind.Reads as put-kind-reads
-use Rattle.text_out.proofs.put_byte.Reads as put-byte-reads
-use Rattle.text_out.proofs.put_numbers.Reads as put-numbers-reads
+use Rattle.listen_lines.proofs.say_fields.Reads as say-fields-reads
+use Rattle.listen_lines.proofs.say_two.Reads as say-two-reads
+use Rattle.listen_lines.proofs.streams.count_said.Reads as count-said-reads
+use Rattle.listen_lines.proofs.streams.sum_said.Reads as sum-said-reads
 
-field-count-requires : tie.Need-field-count-requires
-field-count-requires c κs = search needs
+slice-aggregate-say-two : tie.Need-slice-aggregate-say-two
+slice-aggregate-say-two c = search needs
 
-put-kind-requires : tie.Need-put-kind-requires
-put-kind-requires c κs = search needs
+count-said-requires : tie.Need-count-said-requires
+count-said-requires c κs = search needs
 
-array-share-prefix-fields : tie.Need-array-share-prefix-fields
-array-share-prefix-fields c = search needs
+sum-said-requires : tie.Need-sum-said-requires
+sum-said-requires c κs = search needs
 
-slice-aggregate-put-numbers : tie.Need-slice-aggregate-put-numbers
-slice-aggregate-put-numbers c =
-    let at-count = c .before .before .before .before in
-    let at-start = at-count .before .before in
-    sym (length-take-le _ _ (omega (arith, at-start .pre .1, at-count .field-count .ensures .1)))
-
-put-numbers-requires : tie.Need-put-numbers-requires
-put-numbers-requires c κs =
-    let at-count = c .before .before .before .before in
-    let at-start = at-count .before .before in (
-      search needs,
-      omega (
-        arith,
-        length-take-le (at-count .field-count .result) (at-start .args .m .fields)
-            (omega (arith, at-start .pre .1, at-count .field-count .ensures .1)),
-        at-count .field-count .ensures .1,
-      ),
-    )
-
-put-byte-requires : tie.Need-put-byte-requires
-put-byte-requires c κs = search needs
+say-two-requires : tie.Need-say-two-requires
+say-two-requires c κs = search needs
 
 returns : tie.Need-returns
 returns c =
-    let at-numbers = c .before .before in
-    let at-kind = at-numbers .before .before .before in
-    let at-count = at-kind .before .before in
-    let at-start = at-count .before .before in
-    fields-line-written (at-start .args .m) (at-count .field-count .result) (at-count .field-count .ensures .0)
-    (word-line-written (at-kind .put-kind .ensures) (at-numbers .put-numbers .ensures) (c .put-byte .ensures)
-    (omega arith))
+    let at-sum = c .before in
+    let at-count = at-sum .before in
+    let at-if1 = at-count .before .before .before in
+    let at-start = at-if1 .before .before in
+    end-line-written (at-start .args .m) (at-if1 .if1 .taken)
+    (rw (at-count .count-said .ensures, at-sum .sum-said .ensures) at (c .say-two .ensures))
+
+say-fields-requires : tie.Need-say-fields-requires
+say-fields-requires c κs = search needs
+
+returns-2 : tie.Need-returns-2
+returns-2 c =
+    let at-if1 = c .before .before in
+    let at-start = at-if1 .before .before in
+    other-line-written (at-start .args .m) (at-if1 .if1 .left) (c .say-fields .ensures)
 
 pub say-message-spec : {M : Type 1} → statement M
 say-message-spec =
     tie.close
     (tie.spec
-    field-count-requires
-    put-kind-requires
-    array-share-prefix-fields
-    slice-aggregate-put-numbers
-    put-numbers-requires
-    put-byte-requires
-    returns)
+    slice-aggregate-say-two
+    count-said-requires
+    sum-said-requires
+    say-two-requires
+    returns
+    say-fields-requires
+    returns-2)

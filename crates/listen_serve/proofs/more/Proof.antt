@@ -26,7 +26,7 @@ returns : tie.Need-returns
 returns c =
     let at-fill = c .before .before .before in
     let at-shift = at-fill .before .before .before .before in
-    let at-start = at-shift .before .before .before .before in
+    let at-start = at-shift .before .before .before .before .before in
     let shifted = at-shift .shift .ensures in
     let both = delivered-both _ _ _ (at-start .args .s) _ _ (at-start .pre .0) (at-start .pre .1) (at-start .pre .2)
     (shifted .0) (rw (shifted .0) (shifted .1)) (shifted .2 ∙ at-start .pre .0 .long) (at-fill .fill .ensures) _

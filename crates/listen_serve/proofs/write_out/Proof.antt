@@ -19,8 +19,11 @@ returns c =
       lines = record { none = refl; hands = c .before .hand .ensures };
       at = refl;
       len = refl;
+      feed = refl;
       read = refl;
-      goes-on = ap (λ (took : Bool). c .before .before .before .before .args .over || not took) (c .took-all .ensures);
+      goes-on =
+          ap (λ (took : Bool). c .before .before .before .before .before .args .over || not took)
+          (c .took-all .ensures);
     }
 
 pub write-out-spec : {M : Type 1} → statement M
