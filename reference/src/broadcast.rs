@@ -1,15 +1,20 @@
-//! What members are sent of an evening (W-212): the statics after an accepted
-//! admission, the rates and ranges and the bands after an accepted evaluation,
-//! the moved side after an accepted move, and nothing else.
+//! What members are sent of an evening (W-212), between a `begin` and an `end`:
+//! the statics after an accepted admission, the rates and ranges, the bands and
+//! the reasons after an accepted evaluation, the moved side after an accepted
+//! move, the session after an accepted opening, and nothing else.
 
 use std::io::{self, BufRead, Write};
 
 use crate::message::{Kind, Message, LENGTH, LENGTH_BYTES};
 use crate::record::{Record, Side};
 use crate::replay::{calls, Call};
+use crate::stream::{begin, end};
+use crate::why::{self, Level, Price, Reasons, Tentative, Weight};
 
 /// The number of a call that is accepted.
 const ACCEPTED: i64 = 0;
+/// What stands for a reason where there is none.
+const NO_REASON: i64 = 0;
 
 fn statics(record: &Record) -> Message {
     let mut fields = vec![record.id];
@@ -48,6 +53,37 @@ fn moved(record: &Record, side: Side) -> Message {
     Message::new(Kind::Move, fields)
 }
 
+/// The number of a reason: its place in the list of such reasons, from 1 on.
+fn reason<R: PartialEq>(list: &[R], reason: R) -> i64 {
+    let place = list.iter().position(|listed| *listed == reason);
+    1 + place.expect("a list has its reasons") as i64
+}
+
+fn reasons(record: &Record, given: &Reasons) -> Message {
+    let model = given.model.map_or([NO_REASON; 3], |model| {
+        [
+            reason(&Weight::ALL, model.weight),
+            reason(&[true, false], model.is_replaced),
+            reason(&Tentative::ALL, model.tentative),
+        ]
+    });
+    let mut fields = vec![record.id, record.last_day()];
+    fields.push(reason(&Price::ALL, given.price));
+    fields.extend(model);
+    fields.extend(given.levels.map(|level| reason(&Level::ALL, level)));
+    Message::new(Kind::Reasons, fields)
+}
+
+fn session(record: &Record) -> Message {
+    Message::new(Kind::Session, vec![record.id, record.last_day()])
+}
+
+/// Why an accepted evaluation has its figures.
+fn why(call: &Call) -> Option<Reasons> {
+    let asked = call.asked()?;
+    why::why(call.before.as_ref(), &asked.day()).ok()
+}
+
 /// The messages of a call, in their order.
 pub fn messages(call: &Call) -> Vec<Message> {
     let record = match &call.after {
@@ -57,24 +93,46 @@ pub fn messages(call: &Call) -> Vec<Message> {
     let side = || call.numbers().get(1).copied().and_then(Side::from_number);
     match call.verb {
         b"admit" => vec![statics(record)],
-        b"evaluate" => vec![rates(record), bands(record)],
+        b"evaluate" => {
+            let reasons = why(call).map(|given| reasons(record, &given));
+            let figures = [rates(record), bands(record)].into_iter();
+            figures.chain(reasons).collect()
+        }
         b"move" => side().map(|side| moved(record, side)).into_iter().collect(),
+        b"open" => vec![session(record)],
         _ => Vec::new(),
     }
 }
 
-/// Hears an evening's lines and writes their messages.
-pub fn broadcast(input: impl BufRead, mut output: impl Write) -> io::Result<()> {
-    // The longest message that there may be has room.
-    let mut buffer = [0; LENGTH_BYTES + *LENGTH.end()];
-    let mut sent = Vec::new();
+/// Hears an evening's lines and writes the messages of those from a line on,
+/// counted from 1, between their `begin` and their `end`.
+pub fn broadcast(input: impl BufRead, from: u64, mut output: impl Write) -> io::Result<()> {
+    let mut sent = Sent::default();
+    sent.take(&begin());
     calls(input, |call| {
-        for message in messages(call) {
-            let written = message.write(&mut buffer);
-            let bytes = written.expect("a record's fields are in range, and there is room");
-            sent.extend(&buffer[..bytes]);
+        if call.line >= from {
+            messages(call).iter().for_each(|message| sent.take(message));
         }
     })?;
-    output.write_all(&sent)?;
+    sent.take(&end(sent.messages, &sent.bytes));
+    output.write_all(&sent.bytes)?;
     output.flush()
+}
+
+/// What is sent of an evening.
+#[derive(Default)]
+struct Sent {
+    bytes: Vec<u8>,
+    messages: i64,
+}
+
+impl Sent {
+    fn take(&mut self, message: &Message) {
+        // The longest message that there may be has room.
+        let mut buffer = [0; LENGTH_BYTES + *LENGTH.end()];
+        let written = message.write(&mut buffer);
+        let bytes = written.expect("a record's fields are in range, and there is room");
+        self.bytes.extend(&buffer[..bytes]);
+        self.messages += 1;
+    }
 }

@@ -9,6 +9,7 @@ use std::process::ExitCode;
 use reference::count_admission::count_admission;
 use reference::count_bond::count_bond;
 use reference::count_crossed::count_crossed;
+use reference::count_damage::count_damage;
 use reference::count_exchange::count_exchange;
 use reference::count_headings::count_headings;
 use reference::count_interest::count_interest;
@@ -27,12 +28,14 @@ const USAGE: &str = "usage: reference evening | why | gateway | \
 exchange ID | \
 exchange-index | \
 night DAY B M K0 RRCL0 RRCH0 K1 RRCL1 RRCH1 K2 RRCL2 RRCH2 [ID...] | night-index | \
-broadcast | listen | listen-index | \
+broadcast [--from N] | \
+listen [--whole] | listen-index | \
 script-evening SEED LINES | \
 script-gateway SEED LINES | \
 script-exchange SEED TEXTS FOLDER | \
 script-night SEED TEXTS FOLDER | \
 script-listen SEED STREAMS FOLDER | \
+script-damage SEED STREAMS FOLDER | \
 count [gateway | \
 interest | \
 replacement | \
@@ -47,6 +50,7 @@ inward | \
 session | \
 outside | \
 listen | \
+damage | \
 headings] | \
 compare FILE_A FILE_B SCRIPT [gateway]";
 /// The exit code of a comparison that fails or a count with a gap.
@@ -96,8 +100,20 @@ fn run(words: &[&str]) -> io::Result<ExitCode> {
             output.flush()?;
         }
         ["night-index"] => reference::night::index::answer(input, output)?,
-        ["broadcast"] => broadcast::broadcast(input, output)?,
-        ["listen"] => listen::listen(input, output)?,
+        ["broadcast"] => broadcast::broadcast(input, 1, output)?,
+        ["broadcast", "--from", line] if line.bytes().all(|byte| byte.is_ascii_digit()) => {
+            let line: std::num::NonZeroU64 = parsed(line)?;
+            broadcast::broadcast(input, line.get(), output)?;
+        }
+        ["listen"] => {
+            listen::listen(input, output)?;
+        }
+        ["listen", listen::WHOLE] => {
+            if !listen::listen(input, output)? {
+                eprintln!("{}", listen::NOT_WHOLE);
+                return Ok(ExitCode::from(DIFFERENT));
+            }
+        }
         ["listen-index"] => listen::listen_index(input, output)?,
         ["script-exchange", seed, texts, folder] => {
             script::exchange::write(parsed(seed)?, parsed(texts)?, Path::new(folder), output)?;
@@ -107,6 +123,10 @@ fn run(words: &[&str]) -> io::Result<ExitCode> {
         }
         ["script-listen", seed, streams, folder] => {
             script::listen::write(parsed(seed)?, parsed(streams)?, Path::new(folder), output)?;
+        }
+        ["script-damage", seed, streams, folder] => {
+            let folder = Path::new(folder);
+            script::damage::write(parsed(seed)?, parsed(streams)?, folder, input, output)?;
         }
         ["script-evening", seed, lines] => {
             output.write_all(&script::evening::script(parsed(seed)?, parsed(lines)?))?;
@@ -131,6 +151,7 @@ fn run(words: &[&str]) -> io::Result<ExitCode> {
         ["count", "exchange"] => return told(&count_exchange(input)?),
         ["count", "night"] => return told(&count_night(input)?),
         ["count", "listen"] => return told(&count_listen(input)?),
+        ["count", "damage"] => return told(&count_damage(input)?),
         ["count", "headings"] => return told(&count_headings(input)?),
         ["compare", first, second, script] => {
             return compared(first, second, script, &EVENING);

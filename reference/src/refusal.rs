@@ -1,6 +1,6 @@
 //! The refusals (document 01, "Numbers a member may see"; 14 is W-201's, 15
 //! W-203's, 16 W-205's, 17 W-206's, 18 and 19 W-210's, 20 W-211's, 21 to 24
-//! W-212's).
+//! W-212's, 25 that of a stream that is not whole).
 
 /// Why a call or a message is refused; each carries the paper's number.
 #[derive(Clone, Copy, Debug, PartialEq, Eq)]
@@ -29,6 +29,7 @@ pub enum Refusal {
     LengthWrong = 22,
     FieldOutOfRange = 23,
     NoRoom = 24,
+    NotWhole = 25,
 }
 
 impl Refusal {

@@ -12,6 +12,8 @@ use crate::words::{hear, number_or_pair, Word, EVENING};
 
 /// A call of a script.
 pub struct Call<'a> {
+    /// Its line, counted from 1.
+    pub line: u64,
     pub verb: &'a [u8],
     pub words: &'a [Word],
     pub answer: Answer,
@@ -56,12 +58,13 @@ pub fn calls(input: impl BufRead, mut see: impl FnMut(&Call)) -> io::Result<()> 
     let mut table = fresh_table(SLOTS_MAX);
     let mut kept = Kept::default();
     let mut heard = Vec::new();
-    for line in input.split(b'\n') {
+    for (line, number) in input.split(b'\n').zip(1..) {
         let perform = |verb: &[u8], words: &[Word]| {
             let id = words.first()?.number()?;
             let before = desk::read(&table, id).ok().copied();
             let answer = perform(&mut table, &mut kept, verb, words)?;
             see(&Call {
+                line: number,
                 verb,
                 words,
                 answer,

@@ -27,9 +27,9 @@ fn accepted(kind: Kind, field: &Field, edge: &str) -> String {
 
 fn refused(kind: Kind, field: &Field, edge: &str) -> String {
     let edge = match (edge, field.bytes) {
-        (ONE_BELOW, 1) => "of 255",
-        (ONE_ABOVE, 1) => "of 2",
-        _ => edge,
+        (ONE_BELOW, 1) => "of 255".to_string(),
+        (ONE_ABOVE, 1) => format!("of {}", field.range.end() + 1),
+        _ => edge.to_string(),
     };
     format!("{} 23: {} {edge}", kind.word(), field.name)
 }
@@ -56,9 +56,17 @@ pub fn every_edge() -> Vec<String> {
     let mut every = Vec::new();
     for kind in Kind::ALL {
         for field in kind.fields() {
-            every.extend([AT_LEAST, AT_MOST].map(|edge| accepted(kind, field, edge)));
-            every.extend([ONE_BELOW, ONE_ABOVE].map(|edge| refused(kind, field, edge)));
-            if field.bytes > 1 {
+            // An end has what its stream has.
+            if kind != Kind::End {
+                every.extend([AT_LEAST, AT_MOST].map(|edge| accepted(kind, field, edge)));
+            }
+            if field.has(i128::from(*field.range.start()) - 1) {
+                every.push(refused(kind, field, ONE_BELOW));
+            }
+            if field.has(i128::from(*field.range.end()) + 1) {
+                every.push(refused(kind, field, ONE_ABOVE));
+            }
+            if field.bytes > 1 && field.is_signed {
                 every.push(refused(kind, field, HIGH_BYTES));
             }
         }
@@ -73,7 +81,8 @@ pub fn every_edge() -> Vec<String> {
 /// Meets the edges of an accepted message.
 pub fn look_accepted(tally: &mut Tally, message: &Message) {
     let kind = message.kind();
-    for (field, value) in kind.fields().iter().zip(message.fields()) {
+    let fields = kind.fields().iter().filter(|_| kind != Kind::End);
+    for (field, value) in fields.zip(message.fields()) {
         if value == field.range.start() {
             tally.meet(&accepted(kind, field, AT_LEAST));
         }
@@ -115,9 +124,9 @@ pub fn look_refused(tally: &mut Tally, bad: &Bad) {
 /// How a value is past its field's range.
 fn past(field: &Field, value: i64) -> Option<&'static str> {
     let low = value & ((1 << (4 * field.bytes)) - 1);
-    if value == field.range.start() - 1 {
+    if value.checked_add(1) == Some(*field.range.start()) {
         Some(ONE_BELOW)
-    } else if value == field.range.end() + 1 {
+    } else if value.checked_sub(1) == Some(*field.range.end()) {
         Some(ONE_ABOVE)
     } else if !field.range.contains(&value) && field.range.contains(&low) && field.bytes > 1 {
         Some(HIGH_BYTES)

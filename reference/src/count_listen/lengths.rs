@@ -38,10 +38,14 @@ impl BadKind<'_> {
         self.left() >= self.length
     }
 
-    /// An id of 0 is out of range.
-    fn has_no_id(&self) -> bool {
-        let id = self.bad.rest.get(FIELDS_PLACE..FIELDS_PLACE + 4);
-        id.map_or(false, |id| id == [0; 4])
+    /// Its first field, an id for most kinds, is one below its range, by the bytes
+    /// of it that are there.
+    fn has_first_past(&self) -> bool {
+        let field = &self.kind.fields()[0];
+        let past = (field.range.start() - 1).to_le_bytes();
+        let fields = self.bad.rest.get(FIELDS_PLACE..).unwrap_or_default();
+        let mut bytes = fields.iter().zip(&past[..field.bytes]);
+        !fields.is_empty() && bytes.all(|(given, past)| given == past)
     }
 }
 
@@ -89,13 +93,13 @@ fn edges<'s>() -> Vec<Edge<BadKind<'s>>> {
             b.is(LengthWrong) && b.has_every_byte() && Kind::ALL.iter().any(is_of)
         }),
         ("21, and a field out of range", |b| {
-            b.says(MessageCut, b.own(), b.own() - 1) && b.has_no_id()
+            b.says(MessageCut, b.own(), b.own() - 1) && b.has_first_past()
         }),
         ("21, and a wrong length", |b| {
             b.says(MessageCut, b.own() - 1, b.own() - 2)
         }),
         ("22, and a field out of range", |b| {
-            b.is(LengthWrong) && b.has_every_byte() && b.has_no_id()
+            b.is(LengthWrong) && b.has_every_byte() && b.has_first_past()
         }),
     ]
 }

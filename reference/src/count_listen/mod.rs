@@ -1,14 +1,16 @@
 //! Counts how often streams of messages meet each edge of W-212: unknown kinds
 //! and what stands before a refused message; (`lengths`) cuts and lengths of
-//! every kind; (`fields`) both ends of every field, orders and multiples.
+//! every kind; (`fields`) both ends of every field, orders and multiples;
+//! (`bounds`) where streams begin and end.
 
+mod bounds;
 mod fields;
 mod lengths;
 
 use std::io::{self, BufRead};
 
 use crate::count::Count;
-use crate::listen::{each, turns, Turn};
+use crate::listen::{each, turns, Said, Turn};
 use crate::message::{length_at, numbers, Heard, Kind, Message};
 use crate::message::{KIND_BYTES, LENGTH, LENGTH_BYTES};
 use crate::refusal::Refusal;
@@ -64,12 +66,14 @@ impl SeenStream {
     /// The message at which the reader stops.
     fn bad(&self) -> Option<Bad<'_>> {
         let last = self.turns.last()?;
-        let refusal = last.heard.as_ref().err()?;
-        Some(Bad {
-            refusal: *refusal,
-            place: last.place,
-            rest: &self.bytes[last.place..],
-        })
+        match last.said {
+            Said::Refused(refusal) => Some(Bad {
+                refusal,
+                place: last.place,
+                rest: &self.bytes[last.place..],
+            }),
+            _ => None,
+        }
     }
 
     fn is_bad(&self, is: impl Fn(&Bad) -> bool) -> bool {
@@ -82,17 +86,16 @@ impl SeenStream {
 
     /// The messages that are accepted.
     fn messages(&self) -> impl Iterator<Item = &Message> {
-        self.turns.iter().filter_map(|turn| match &turn.heard {
-            Ok(Heard::Message(message)) => Some(message),
-            _ => None,
-        })
+        self.turns.iter().filter_map(Turn::message)
     }
 
     /// The unknown messages that an accepted one follows: kinds and lengths.
     fn skipped(&self) -> Vec<(u16, usize)> {
         let pairs = self.turns.windows(2);
-        let skipped = pairs.filter_map(|pair| match (&pair[0].heard, &pair[1].heard) {
-            (Ok(Heard::Unknown { kind, length }), Ok(Heard::Message(_))) => Some((*kind, *length)),
+        let skipped = pairs.filter_map(|pair| match (&pair[0].said, &pair[1].said) {
+            (Said::Heard(Heard::Unknown { kind, length }), Said::Heard(Heard::Message(_))) => {
+                Some((*kind, *length))
+            }
             _ => None,
         });
         skipped.collect()
@@ -126,7 +129,7 @@ fn edges() -> Vec<Edge<SeenStream>> {
     use Refusal::{FieldOutOfRange, LengthWrong, MessageCut};
     vec![
         ("an empty stream", |s| s.bytes.is_empty() && s.is_good()),
-        ("the four kinds in one stream", |s| {
+        ("every kind in one stream", |s| {
             let has = |kind: &Kind| s.messages().any(|message| message.kind() == *kind);
             s.is_good() && Kind::ALL.iter().all(has)
         }),
@@ -164,7 +167,7 @@ fn edges() -> Vec<Edge<SeenStream>> {
             s.is_left(&[0xff; 4], LengthWrong)
         }),
         ("unknown kind 0", |s| s.skips_kind(|kind| kind == 0)),
-        ("unknown kind 5", |s| s.skips_kind(|kind| kind == 5)),
+        ("unknown kind 9", |s| s.skips_kind(|kind| kind == 9)),
         ("unknown kind 255", |s| s.skips_kind(|kind| kind == 255)),
         ("unknown kind 65,535", |s| {
             s.skips_kind(|kind| kind == 65_535)
@@ -207,6 +210,7 @@ fn every_edge() -> Vec<String> {
     let mut every: Vec<String> = names(edges()).collect();
     every.extend(lengths::every_edge());
     every.extend(fields::every_edge());
+    every.extend(bounds::every_edge());
     every
 }
 
@@ -216,6 +220,7 @@ pub fn count_listen(index: impl BufRead) -> io::Result<Count> {
     each(index, |_, bytes| {
         let seen = SeenStream::new(bytes);
         tally.look(&edges(), &seen);
+        bounds::look(&mut tally, &seen);
         for message in seen.messages() {
             fields::look_accepted(&mut tally, message);
         }

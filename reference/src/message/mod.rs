@@ -9,7 +9,7 @@ use std::ops::RangeInclusive;
 use crate::refusal::Refusal;
 use crate::statics::Statics;
 
-pub use kinds::{Field, Kind, KIND_BYTES};
+pub use kinds::{Field, Kind, KIND_BYTES, VERSION};
 
 /// Bytes of the length, which it does not count.
 pub const LENGTH_BYTES: usize = 4;
@@ -130,21 +130,9 @@ pub fn numbers(kind: Kind, bytes: &[u8]) -> Vec<i64> {
     let mut number = |field: &Field| {
         let (own, after) = rest.split_at(field.bytes);
         rest = after;
-        signed(own)
+        field.number(own)
     };
     kind.fields().iter().map(&mut number).collect()
-}
-
-/// A number in two's complement, the byte of least weight first.
-fn signed(bytes: &[u8]) -> i64 {
-    let sign = if bytes.last().map_or(false, |last| *last >= 0x80) {
-        0xff
-    } else {
-        0
-    };
-    let mut wide = [sign; 8];
-    wide[..bytes.len()].copy_from_slice(bytes);
-    i64::from_le_bytes(wide)
 }
 
 /// A length as the number of its four bytes.

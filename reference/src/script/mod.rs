@@ -2,6 +2,7 @@
 
 mod bond;
 mod crossed;
+pub mod damage;
 mod day;
 mod edges;
 pub mod evening;

@@ -91,7 +91,7 @@ pub fn unknown(random: &mut Random, kind: u16, length: usize) -> Vec<u8> {
 
 /// A kind that no reader knows.
 pub fn any_unknown_kind(random: &mut Random) -> u16 {
-    random.pick(&[0, 5, 6, 255, 256, 257, 0x0404, 1_024, 32_768, 65_535])
+    random.pick(&[0, 9, 10, 255, 256, 257, 0x0404, 1_024, 32_768, 65_535])
 }
 
 /// An unknown message of any length.

@@ -16,6 +16,9 @@ pub enum Past {
     HighBytes,
 }
 
+/// Every way once.
+pub const PASTS: [Past; 3] = [Past::OneBelow, Past::OneAbove, Past::HighBytes];
+
 /// What a stream ends with.
 #[derive(Clone, Copy)]
 pub enum Last {
@@ -35,6 +38,16 @@ pub enum Last {
 }
 
 impl Past {
+    /// Whether the bytes of a field can be past its range so.
+    pub fn is_of(self, field: &Field) -> bool {
+        let (least, most) = (*field.range.start(), *field.range.end());
+        match self {
+            Past::OneBelow => field.has(i128::from(least) - 1),
+            Past::OneAbove => field.has(i128::from(most) + 1),
+            Past::HighBytes => field.bytes > 1 && field.is_signed,
+        }
+    }
+
     fn value(self, random: &mut Random, field: &Field) -> i64 {
         match self {
             Past::OneBelow => field.range.start() - 1,
@@ -45,8 +58,11 @@ impl Past {
                 let low_most = (top - 1).min(*field.range.end());
                 let low = random.between((*field.range.start()).max(0), low_most);
                 // The greatest number of the upper half, a great one, and the least.
-                let high = random.pick(&[top - 1, top / 2, -top]);
-                (high << half) + low
+                let highs = [top - 1, top / 2, -top].map(|high| (high << half) + low);
+                let past = highs
+                    .into_iter()
+                    .filter(|value| !field.range.contains(value));
+                random.pick(&past.collect::<Vec<i64>>())
             }
         }
     }

@@ -18,8 +18,8 @@ fn value(random: &mut Random, field: &Field) -> i64 {
     match random.below(10) {
         0 => least,
         1 => most,
-        2 => least + 1,
-        3 => most - 1,
+        2 => (least + 1).min(most),
+        3 => (most - 1).max(least),
         4 | 5 => random.any_size(most).max(least),
         _ => random.between(least, most),
     }
@@ -31,9 +31,9 @@ pub fn message(random: &mut Random, kind: Kind) -> Message {
     message_with(random, kind, 0, id)
 }
 
-/// A good message of any kind.
+/// A good message of any kind that a reader takes wherever it stands.
 pub fn any_message(random: &mut Random) -> Message {
-    let kind = random.pick(&Kind::ALL);
+    let kind = random.pick(&Kind::OF_SECURITIES);
     message(random, kind)
 }
 

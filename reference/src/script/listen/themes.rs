@@ -2,10 +2,12 @@
 
 use crate::message::{Kind, LENGTH, LENGTH_BYTES};
 use crate::random::Random;
+use crate::stream::whole;
 
-use super::damage::{any_unknown, any_unknown_kind, damaged, unknown, WrongLength, WRONG_LENGTHS};
-use super::last::{Last, Past};
-use super::messages::{any_message, level, message, message_with, BROKEN};
+use super::bounds::{messages, Bound, BOUNDS};
+use super::damage::{any_unknown_kind, damaged, unknown, WrongLength, WRONG_LENGTHS};
+use super::last::{Last, Past, PASTS};
+use super::messages::{level, message, message_with, BROKEN};
 
 /// Messages of a stream whose end is far from its start.
 const FAR: usize = 1_500;
@@ -26,6 +28,8 @@ pub enum Theme {
     Far(Last),
     /// This end behind no message or a few.
     Ended(Last),
+    /// Streams that begin and end.
+    Bounded(Bound),
     /// A stream of any messages, mostly with any damage.
     Any,
 }
@@ -45,12 +49,12 @@ const BYTES: [&[u8]; 9] = [
 
 /// Unknown kinds: beside the known ones, at the ends, and known ones if one byte
 /// of them alone is read or their bytes are exchanged.
-const UNKNOWN_KINDS: [u16; 14] = [
-    0, 5, 6, 255, 256, 257, 258, 259, 260, 512, 768, 1_024, 32_769, 65_535,
+const UNKNOWN_KINDS: [u16; 15] = [
+    0, 9, 10, 255, 256, 257, 258, 259, 260, 512, 768, 1_024, 1_792, 32_769, 65_535,
 ];
 
 /// Lengths of unknown kinds: the ends, and those of known kinds.
-const UNKNOWN_LENGTHS: [usize; 9] = [2, 3, 4, 62, 94, 98, 102, 4_095, 4_096];
+const UNKNOWN_LENGTHS: [usize; 10] = [2, 3, 4, 14, 62, 94, 98, 102, 4_095, 4_096];
 
 /// Refusals of each number.
 const REFUSED: [Last; 3] = [
@@ -65,8 +69,13 @@ pub fn every() -> Vec<Theme> {
     themes.extend([Theme::EveryLength, Theme::Long]);
     themes.extend(REFUSED.map(Theme::Far));
     for kind in Kind::ALL {
-        themes.extend([Theme::Alone(kind), Theme::Ends(kind)]);
+        themes.push(Theme::Alone(kind));
+        // An end is accepted behind its own stream alone.
+        if kind != Kind::End {
+            themes.push(Theme::Ends(kind));
+        }
     }
+    themes.extend(BOUNDS.map(Theme::Bounded));
     themes.extend(every_last().into_iter().map(Theme::Ended));
     themes
 }
@@ -76,7 +85,7 @@ fn every_last() -> Vec<Last> {
     let mut every: Vec<Last> = Kind::ALL.into_iter().flat_map(of_kind).collect();
     every.extend(BROKEN.map(Last::Broken));
     every.extend(UNKNOWN_KINDS.map(|kind| Last::Unknown(kind, 2 + usize::from(kind % 90))));
-    every.extend(UNKNOWN_LENGTHS.map(|length| Last::Unknown(7, length)));
+    every.extend(UNKNOWN_LENGTHS.map(|length| Last::Unknown(9, length)));
     every.extend(UNKNOWN_LENGTHS.map(Last::UnknownCut));
     every
 }
@@ -88,11 +97,8 @@ fn of_kind(kind: Kind) -> Vec<Last> {
         Last::WrongLengthAndPast(kind),
     ];
     for (place, field) in kind.fields().iter().enumerate() {
-        every.push(Last::Past(kind, place, Past::OneBelow));
-        every.push(Last::Past(kind, place, Past::OneAbove));
-        if field.bytes > 1 {
-            every.push(Last::Past(kind, place, Past::HighBytes));
-        }
+        let past = PASTS.into_iter().filter(|past| past.is_of(field));
+        every.extend(past.map(|past| Last::Past(kind, place, past)));
     }
     every.extend((1..LENGTH_BYTES + kind.length()).map(|bytes| Last::Cut(kind, bytes)));
     every.extend(WRONG_LENGTHS.map(|length| Last::WrongLength(kind, length)));
@@ -106,15 +112,21 @@ impl Theme {
             Theme::Alone(kind) => message(random, kind).bytes(),
             Theme::Ends(kind) => ends(random, kind),
             Theme::EveryLength => every_length(random),
-            Theme::Long => messages(random, FAR),
-            Theme::Far(last) => [messages(random, FAR), last.bytes(random)].concat(),
+            Theme::Long => messages(random, FAR).concat(),
+            Theme::Far(last) => [messages(random, FAR).concat(), last.bytes(random)].concat(),
             Theme::Ended(last) => {
                 let count = random.pick(&[0, 0, 0, 1, 2, 3]);
-                [messages(random, count), last.bytes(random)].concat()
+                [messages(random, count).concat(), last.bytes(random)].concat()
             }
+            Theme::Bounded(bound) => bound.stream(random),
             Theme::Any => {
                 let count = random.below(12);
-                let stream = messages(random, count);
+                let inner = messages(random, count);
+                let stream = if random.chance(50) {
+                    whole(&inner)
+                } else {
+                    inner.concat()
+                };
                 if random.chance(20) {
                     return stream;
                 }
@@ -122,18 +134,6 @@ impl Theme {
             }
         }
     }
-}
-
-/// So many messages that a reader goes on after: good ones, and some unknown.
-fn messages(random: &mut Random, count: usize) -> Vec<u8> {
-    let mut one = || {
-        if random.chance(10) {
-            any_unknown(random)
-        } else {
-            any_message(random).bytes()
-        }
-    };
-    (0..count).flat_map(|_| one()).collect()
 }
 
 fn ends(random: &mut Random, kind: Kind) -> Vec<u8> {
