@@ -1,18 +1,20 @@
 #!/usr/bin/env python3
 """A member's reader of the desk's messages, written from docs/BROADCAST.md alone.
 
-    python3 examples/listen.py <MESSAGES
+    python3 examples/listen.py [--whole] <MESSAGES
 
-prints a line for each message of standard input, as the program `listen` does. Only Python's own library is used.
+prints a line for each message of standard input, as the program `listen` does. With --whole, status 1 says that they
+are not one whole stream. Only Python's own library is used.
 """
 import struct
 import sys
+import zlib
 
 ID, DAY, DAYS = (1, 10**9), (0, 10**6), (0, 30)
 PARTS, REPO, FLAG = (0, 10**4), (-9999, 9999), (0, 1)    # parts are ten-thousandths, and so are basis points
 SECONDS, LIMIT = (1, 3600), (0, 2 * 10**12 + 2 * 10**10)
 
-# A kind: its word; its fields in order as `struct` spells them, i four bytes, q eight, b one; and their ranges.
+# A kind: its word; its fields in order as `struct` spells them, i and I four bytes, q eight, b one; and their ranges.
 KINDS = {
     1: ("statics", "21i2bibib", [
         ID, (1, 100), (1, 1000), (100, 1000), PARTS, PARTS, (1, 250),    # ID LOT H Q A_UP A_DOWN WAIT
@@ -22,57 +24,55 @@ KINDS = {
     2: ("rates", "2i2q5i6q", [ID, DAY, (1, 10**10), (0, 10**6), (0, 100999), (0, 250)] + [PARTS] * 3 + [LIMIT] * 6),
     3: ("bands", "2i3i2q3i2q3i2q", [ID, DAY] + [DAYS, REPO, REPO, LIMIT, LIMIT] * 3),
     4: ("move", "3i6q", [ID, FLAG, (0, 50)] + [LIMIT] * 6),
+    5: ("reasons", "2i7b", [ID, DAY] + [(0, most) for most in (4, 3, 2, 4, 3, 3, 3)]),
+    6: ("begin", "i", [(1, 1)]),
+    7: ("end", "qI", [(0, 2**63 - 1), (0, 2**32 - 1)]),
+    8: ("session", "2i", [ID, DAY]),
 }
-
-
-class Refused(Exception):
-    """A message that is not taken, with its number: 21, 22 or 23."""
 
 
 def fits(kind, fields):
     """Whether every field is in its range; kind 1 has orders and multiples too."""
-    if not all(low <= field <= high for field, (low, high) in zip(fields, KINDS[kind][2])):
-        return False
-    if kind != 1:
-        return True
+    is_in_range = all(low <= field <= high for field, (low, high) in zip(fields, KINDS[kind][2]))
+    if kind != 1 or not is_in_range:
+        return is_in_range
     horizons, rates, step = fields[7:10], fields[11:15], fields[2]
     return sorted(horizons) == horizons and sorted(rates) == rates and all(rate % step == 0 for rate in rates)
 
 
-def message(stream, head):
-    """Reads the rest of a message that begins with the bytes of `head`, and gives its length and its line."""
-    if len(head) < 4:
-        raise Refused(21)
-    length, = struct.unpack("<I", head)
-    if not 2 <= length <= 4096:
-        raise Refused(22)
-    rest = stream.read(length)
-    if len(rest) < length:
-        raise Refused(21)
-    kind, = struct.unpack_from("<H", rest)
-    if kind not in KINDS:
-        return length, "unknown %d %d" % (kind, length)
-    word, widths, _ = KINDS[kind]
-    if length != 2 + struct.calcsize("<" + widths):
-        raise Refused(22)
-    fields = list(struct.unpack_from("<" + widths, rest, 2))
-    if not fits(kind, fields):
-        raise Refused(23)
-    return length, " ".join([word] + [str(field) for field in fields])
+def message(rest, stream):
+    """The message that bytes begin with, as the word and the numbers of its line, in the stream that is open."""
+    length, kind = int.from_bytes(rest[:4], "little"), int.from_bytes(rest[4:6], "little")
+    word, widths, _ = KINDS.get(kind, ("unknown", None, None))
+    if len(rest) < 4 or 2 <= length <= 4096 and len(rest) < 4 + length:
+        return "refused", [21]
+    if not 2 <= length <= 4096 or widths and length != 2 + struct.calcsize("<" + widths):
+        return "refused", [22]
+    fields = list(struct.unpack_from("<" + widths, rest, 6)) if widths else [kind, length]
+    if widths and not fits(kind, fields):
+        return "refused", [23]
+    return (word, fields) if word != "end" or fields == stream else ("refused", [25])
 
 
-def listen(stream, output):
-    """Writes a line for each message of a stream of bytes, until its end or a refused message."""
-    offset = 0
-    while head := stream.read(4):
-        try:
-            length, line = message(stream, head)
-        except Refused as refused:
-            print("refused", refused, offset, file=output)
-            return
-        print(line, file=output)
-        offset += 4 + length
+def listen(data, output):
+    """Writes a line for each message, until the end or a refused one, and gives whether they are one whole stream."""
+    offset, words, stream = 0, [], None    # the stream that is open: how many messages, and the sum of their bytes
+    while offset < len(data):
+        word, numbers = message(data[offset:], stream)
+        if word == "begin" and stream:
+            print("unended", stream[0], file=output)
+        print(word, *numbers, *[offset] * (word == "refused"), file=output)
+        words.append(word)
+        after = offset + 4 + int.from_bytes(data[offset:offset + 4], "little") if word != "refused" else len(data)
+        stream = [0, 0] if word == "begin" else stream if word not in ("end", "refused") else None
+        if stream:
+            stream = [stream[0] + 1, zlib.crc32(data[offset:after], stream[1])]
+        offset = after
+    if stream:
+        print("unended", stream[0], file=output)
+    return words[:1] + words[-1:] == ["begin", "end"] and words.count("begin") == words.count("end") == 1
 
 
 if __name__ == "__main__":
-    listen(sys.stdin.buffer, sys.stdout)
+    whole = listen(memoryview(sys.stdin.buffer.read()), sys.stdout)
+    sys.exit("listen: not one whole stream" if "--whole" in sys.argv[1:] and not whole else 0)
