@@ -426,15 +426,26 @@ prints_of_copy() { # PROGRAM TEST
 }
 
 # Runs a proved program on the lines, or the messages, of a file or of standard input. A message that is refused is
-# status 1; with --strict, a line that is refused or no call is status 3. Since messages do not show that, the program
-# `evening` says it of the same lines.
-serve_lines() { # NAME [--strict] [FILE]
+# status 1, and with --whole an input that is not one whole stream, which `listen` says on standard error; with
+# --strict, a line that is refused or no call is status 3. Since messages do not show that, the program `evening` says
+# it of the same lines. `broadcast` tells the lines from a number on alone.
+serve_lines() { # NAME [--strict] [--from N] [--whole] [FILE]
     served=$1
     shift
     strict=no
+    from=''
+    whole=''
     if [ "${1:-}" = --strict ] && [ "$served" != listen ]; then
         strict=yes
         shift
+    elif [ "${1:-}" = --whole ] && [ "$served" = listen ]; then
+        whole=--whole
+        shift
+    fi
+    if [ "${1:-}" = --from ] && [ "$served" = broadcast ]; then
+        { is_number "${2:-}" && [ "$2" -ge 1 ]; } || cannot "--from takes the number of a line, from 1 on; see ${0##*/} -h"
+        from=$2
+        shift 2
     fi
     take_words 1 "$@"
     need_output
@@ -450,13 +461,14 @@ serve_lines() { # NAME [--strict] [FILE]
     [ "$strict" = no ] || need_program evening
     take_signals
     if [ "$served" = listen ]; then
-        run_and_keep_input target/bin/listen
+        # shellcheck disable=SC2086
+        run_and_keep_input target/bin/listen $whole
         [ "$status" -ne 0 ] || ! prints_of_copy listen '$1 == "refused"' || status=1
     elif [ "$strict" = yes ]; then
-        run_and_keep_input "target/bin/$served"
+        run_and_keep_input "target/bin/$served" ${from:+--from "$from"}
         [ "$status" -ne 0 ] || ! prints_of_copy evening '$1 != "0"' || status=3
     else
-        run_to_end "target/bin/$served"
+        run_to_end "target/bin/$served" ${from:+--from "$from"}
     fi
     exit "$status"
 }

@@ -1,6 +1,7 @@
 // Runs a WebAssembly program of a release on each file of an index, in one process, as outside/pieces.py runs a program
 // for `each`: a line of the index is the words and then the file. It prints the answers, and the line before those of
-// `listen` and `night`. What `night` says of a bad text, on standard error and perhaps with status 1, is its answer.
+// `listen` and `night`. What `night` says of a bad text, and `listen --whole` of what is not one whole stream, on
+// standard error and perhaps with status 1, is the answer, or its end.
 //   node outside/modules.mjs FOLDER NAME <INDEX
 // FOLDER is an unpacked release of WebAssembly. Status 1 says that a program ended with another status than 0.
 import fs from 'node:fs';
@@ -21,13 +22,14 @@ function answers(words, input) {
         return some.length;
     };
     const write = (to, bytes) => {
-        if (to === 1 || name === 'night') answered.push(Buffer.from(bytes));
+        if (to === 1 || ['listen', 'night'].includes(name)) answered.push(Buffer.from(bytes));
         return bytes.length;
     };
     const status = run(module, [name, ...words], read, write);
     const answer = Buffer.concat(answered);
     const isBadText = name === 'night' && status === 1 && /^15 [0-9]+\n$/.test(answer.toString());
-    if (status !== 0 && !isBadText) throw new Error(`${name} fails on ${words.join(' ')}`);
+    const isNotWhole = words[0] === '--whole' && answer.toString().endsWith('listen: not one whole stream\n');
+    if (status !== 0 && !isBadText && !isNotWhole) throw new Error(`${name} fails on ${words.join(' ')}`);
     return answer;
 }
 

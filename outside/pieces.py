@@ -31,6 +31,7 @@ import subprocess
 import sys
 import termios
 import time
+import zlib
 
 PATIENCE = 60  # seconds without a byte of answer after which a program is stuck
 PAGE = os.sysconf("SC_PAGE_SIZE")  # the least that a pipe holds
@@ -55,11 +56,17 @@ class Ended(Exception):
     """A program ends before its input does, as `listen` has to behind a refused message."""
 
 
+NOT_WHOLE = b"listen: not one whole stream\n"  # what `listen --whole` says of any other input, on standard error
+
+
 def answer_of(name, said, error, status):
     """What a program answers, or none where it fails. Of a bad text `night` says nothing but the line, on standard
-    error. It may then end with status 1, and so may `listen` where it printed `refused`."""
+    error. It may then end with status 1, and so may `listen` where it printed `refused`, or where it says that the
+    input is not one whole stream, which is the end of its answer."""
     if name == "night" and status in (0, 1) and not said and re.fullmatch(rb"15 [0-9]+\n", error):
         return error
+    if name == "listen" and error == NOT_WHOLE and status in (0, 1):
+        return said + error
     if name == "listen" and status == 1 and any(line.startswith(b"refused ") for line in said.splitlines()):
         status = 0
     return None if error or status else said
@@ -230,8 +237,10 @@ def whole_in(program, first):
     if program.name in AT_THE_END:
         return b""
     if program.name == "listen":
-        return theirs(program, first).split(b"refused")[0]
-    return theirs(program, first[:first.rfind(b"\n") + 1])
+        # That a message is cut short, or a stream has no end, is known at the end alone.
+        return re.split(rb"^(?:refused|unended) ", theirs(program, first), flags=re.MULTILINE)[0]
+    answers = theirs(program, first[:first.rfind(b"\n") + 1])
+    return answers[:-END_BYTES] if program.name == "broadcast" else answers
 
 
 # ---- what is sent
@@ -239,12 +248,15 @@ def whole_in(program, first):
 LINES = b"admit 7 3 400 600 8 9 1 1 123 4 5 6 1 2 3 4 1 2 3 4 56 7 8 9 5 6 0 1 2 1 3 0\n #read 7\nhello\n#\nread 7\n"
 MOVE = struct.pack("<IH3i6q", 62, 4, 7, 0, 1, 1133000, 1174200, 1205100, 1091800, 1091801, 1091802)
 UNKNOWN = struct.pack("<IH3s", 5, 9, b"abc")
+BEGIN = struct.pack("<IHi", 6, 6, 1)
+END_BYTES = 18  # of an `end`, which `broadcast` writes where its input has ended
+WHOLE = BEGIN + UNKNOWN + MOVE + struct.pack("<IHqI", 14, 7, 3, zlib.crc32(BEGIN + UNKNOWN + MOVE))
 ROW = b"7;0;1;0;103;;;5\n"
 SHORT = {
     "evening": LINES,
     "why": LINES,
     "broadcast": LINES,
-    "listen": UNKNOWN + MOVE,
+    "listen": UNKNOWN + WHOLE + BEGIN + MOVE,
     "exchange": ROW + b"9;1;2.5;0;;1;2;0\r\n007;1;1;-7.3;4;2;3;9\n",
     "night": ROW + b"9;1;2.5;0;;1;2;0\r\n007;1;1;-7.3;4;2;3;9\n",
 }
