@@ -45,6 +45,18 @@ const BANDS = [
 ];
 const MOVE = ['id', 'side', 'count', 'range1', 'range2', 'range3', 'band0', 'band1', 'band2'];
 
+const LEVEL = ['none', 'requirement', 'minimum', 'maximum'];
+/** The reasons of a message in their order, each with the words that its numbers stand for, as `why` says them. */
+const REASONS = {
+    price: ['none', 'close', 'bid', 'ask', 'yesterday'],
+    weight: ['none', 'zero', 'up', 'down'],
+    replacement: ['none', 'yes', 'no'],
+    tentative: ['none', 'rose', 'fell', 'waited', 'level'],
+    level1: LEVEL,
+    level2: LEVEL,
+    level3: LEVEL,
+};
+
 /** The calls that are answered with a record. */
 export const RECORD_CALLS = new Set(['evaluate', 'move', 'open', 'outside', 'notice', 'withdraw', 'read']);
 
@@ -140,6 +152,13 @@ export function reasonsOf(answer) {
     return reasons;
 }
 
+/** The words that the numbers of a message's reasons stand for. */
+function reasonsIn(numbers) {
+    const names = Object.keys(REASONS);
+    const { id, day, ...given } = named(['id', 'day', ...names], numbers);
+    return { id, day, ...Object.fromEntries(names.map((name) => [name, REASONS[name][given[name]]])) };
+}
+
 /**
  * A line of `listen`.
  * @param {string} line
@@ -152,6 +171,11 @@ export function heardOf(line) {
     case 'rates': return { kind, ...named(RATES, numbers) };
     case 'bands': return { kind, ...named(BANDS, numbers) };
     case 'move': return { kind, ...named(MOVE, numbers) };
+    case 'reasons': return { kind, ...reasonsIn(numbers) };
+    case 'begin': return { kind, ...named(['version'], numbers) };
+    case 'end': return { kind, ...named(['count', 'sum'], numbers) };
+    case 'session': return { kind, ...named(['id', 'day'], numbers) };
+    case 'unended': return { kind, ...named(['count'], numbers) };
     case 'unknown': return { kind, ...named(['which', 'length'], numbers) };
     case 'refused': return { kind, ...named(['number', 'offset'], numbers) };
     default: throw new Error(`listen has no line '${kind}'`);

@@ -52,6 +52,7 @@ export function hiddenByRounding({ move, before, reasons, statics }) {
             rate: reasons.replacement === 'yes' && hides(move, BigInt(before.s1) * BP_IN_MILLIONTHS),
         };
     }
-    // Messages carry no reasons: of a share that is modelled, the comparison with the volatility is shown by itself.
+    // A broadcast of the old form carries no reasons: of a share that is modelled, the comparison with the volatility
+    // is shown by itself.
     return statics?.isewma === 1 ? { ...none, volatility: hides(move, before.s) } : none;
 }

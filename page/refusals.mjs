@@ -60,6 +60,10 @@ export const refusals = [
     { text: 'the length is wrong for the message’s kind', todo: GET_AGAIN },
     { text: 'a field of the message is out of its range', todo: GET_AGAIN },
     { text: 'there is no room for the message', todo: 'give the writer a larger buffer' },
+    {
+        text: 'the end of the broadcast does not fit the messages before it: some are missing, changed or exchanged',
+        todo: GET_AGAIN,
+    },
 ];
 
 const NO_CALL = {

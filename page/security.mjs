@@ -33,7 +33,7 @@ export function dayAt(security, at) {
     const record = recordAt(at);
     const isEvening = days[at].line !== undefined;
     const before = at > 0 ? recordAt(at - 1) : isEvening ? admitted(statics) : null;
-    const reasons = isEvening ? reasonsOf(days[at].why) : null;
+    const reasons = isEvening ? reasonsOf(days[at].why) : days[at].reasons ?? null;
     const { b, m } = isEvening ? dayOf(days[at].line.text) : { b: null, m: null };
     const move = before === null ? null : exactMove(record.p1, [before.p1, before.p2]);
     return { record, before, reasons, statics, b, m, move, line: days[at].line?.number ?? null };
@@ -64,7 +64,7 @@ function happenedTo(security) {
     if (days.length > 0) {
         const day = dayAt(security, days.length - 1);
         const { reasons, before } = day;
-        // Messages carry no reasons, but a rate that rose or fell is seen by itself.
+        // A broadcast of the old form carries no reasons, but a rate that rose or fell is seen by itself.
         const by = before === null ? 0 : day.record.tentative - before.tentative;
         when('rose', reasons ? reasons.tentative === 'rose' : by > 0);
         when('fell', reasons ? reasons.tentative === 'fell' : by < 0);
@@ -129,6 +129,14 @@ export class Security {
 }
 
 /**
+ * @typedef {object} Whole  What a broadcast says of itself.
+ * @property {boolean} is  Whether it is one whole stream, from its begin to its end.
+ * @property {number} begins  How many streams begin in it.
+ * @property {number} ends  How many of them end.
+ * @property {number|null} day  The last day of its messages; null where none has a day.
+ */
+
+/**
  * @typedef {object} Sheet
  * @property {'evening'|'broadcast'} source
  * @property {Security[]} securities in the order of their admissions, or of their first messages
@@ -136,9 +144,10 @@ export class Security {
  * @property {object[]} refusals the lines that were refused, with their words and places
  * @property {object[]} unknown messages of other kinds
  * @property {object|null} damage where a broadcast cannot be read on
+ * @property {Whole|null} whole whether a broadcast is whole; null of an evening's text
  * @property {number} lines how many had an answer, or were read
  */
 
 /** @returns {Sheet} */
 export const emptySheet = (/** @type {'evening'|'broadcast'} */ source) => (
-    { source, securities: [], headings: [], refusals: [], unknown: [], damage: null, lines: 0 });
+    { source, securities: [], headings: [], refusals: [], unknown: [], damage: null, whole: null, lines: 0 });

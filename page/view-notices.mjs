@@ -1,8 +1,9 @@
 // What was refused, in words with its place: a damaged broadcast, messages of an unknown kind, lines of an evening; and
-// the headings of an evening.
+// the headings of an evening, and whether a broadcast is whole.
 import { el, table } from './element.mjs';
 import { faultIn, heardOf } from './heard.mjs';
 import { markedLine } from './view-line.mjs';
+import { wholeSentence } from './whole.mjs';
 
 const MOST_SHOWN = 500;
 const LINE_MOST = 60; // characters of a line
@@ -18,6 +19,14 @@ function damageOf(damage, figures) {
     return el('div', { class: 'card alert', role: 'alert' },
         el('h2', {}, 'The broadcast is damaged'),
         el('p', {}, `${place} (the first is byte 0), is refused: ${damage.words} (${damage.number}). ${stays}`));
+}
+
+/** Whether a broadcast is whole. One that is not is an alert; that of the old form says nothing of itself. */
+function wholeOf(sheet, figures) {
+    const { is, begins } = sheet.whole;
+    const isAlert = !is && begins > 0;
+    return el('div', { class: isAlert ? 'card alert' : 'card', role: isAlert ? 'alert' : 'status', id: 'whole' },
+        el('p', {}, wholeSentence(sheet, figures)));
 }
 
 function unknownOf(unknown, figures) {
@@ -66,6 +75,7 @@ export function showNotices(room, sheet, figures, isNew = false) {
     room.replaceChildren(...[
         sheet.securities.length === 0 && el('div', { class: 'card' }, el('p', {}, empty)),
         sheet.damage && damageOf(sheet.damage, figures),
+        sheet.whole && sheet.lines > 0 && wholeOf(sheet, figures),
         sheet.unknown.length > 0 && unknownOf(sheet.unknown, figures),
         sheet.headings.length > 0 && headingsOf(sheet.headings, figures),
         sheet.refusals.length > 0 && refusedOf(sheet.refusals, figures),

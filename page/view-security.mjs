@@ -88,7 +88,7 @@ export function limitsOf(record, figures) {
 }
 
 function todayOf(record, figures) {
-    const isHeard = record.session === undefined;
+    const isHeard = record.lastSecond === undefined;
     const rows = [
         ['Session', sessionOf(record.session)],
         ['Moves since the evaluation, upper', figures.whole(record.movesUpper)],

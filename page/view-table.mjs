@@ -16,7 +16,7 @@ export function badges(security) {
         .map((key) => el('span', { class: `badge ${key}`, title: HAPPENED[key] }, BADGES[key]));
 }
 
-/** A session's name; a broadcast has none. */
+/** A session's name; a broadcast of the old form has none. */
 export function sessionOf(session) {
     return SESSIONS[session] ?? '–';
 }

@@ -33,6 +33,12 @@ export function decidingTable(/** @type {Day} */ day, /** @type {Figures} */ fig
 /** @returns {Node[]} */
 export function whyOf(/** @type {Day} */ day, /** @type {Figures} */ figures) {
     const list = listOf(sentencesOf(day, figures));
-    if (day.reasons !== null) return [list, ...decidingTable(day, figures)];
-    return [list, el('p', { class: 'dim' }, 'A broadcast carries no reasons: open the evening’s text to see why.')];
+    const remark = (/** @type {string} */ text) => el('p', { class: 'dim' }, text);
+    if (day.reasons === null) {
+        return [list, remark('This broadcast carries no reasons: open the evening’s text to see why.')];
+    }
+    if (day.reasons.figures === undefined && day.line === null) {
+        return [list, remark('A broadcast has the reasons; the evening’s text has the figures that decided too.')];
+    }
+    return [list, ...decidingTable(day, figures)];
 }

@@ -1,42 +1,16 @@
 // Why a day's record is what it is, in sentences that can be read out to a member: the words of the program `why` with
-// the figures that decided, which it says too. Only the exact move, where rounding would have hidden it, is the page's.
-import { hiddenByRounding, isAbove, nearestOf } from './move.mjs';
+// the figures that decided, which it says too, or the reasons of a broadcast. Only the exact move, where rounding would
+// have hidden it, is the page's.
+import { hiddenByRounding, nearestOf } from './move.mjs';
+import { heardMoveSentence, heardReasons } from './why-heard.mjs';
+import { PRICE, daysOf, exactOf, levelSentence, wayOf } from './why-words.mjs';
 
 /**
- * @typedef {ReturnType<typeof import('./security.mjs').dayAt>} Day
- * @typedef {ReturnType<typeof import('./figures.mjs').makeFigures>} Figures
+ * @typedef {import('./why-words.mjs').Day} Day
+ * @typedef {import('./why-words.mjs').Figures} Figures
  */
 
-/** A number of days in words: 1 day, 2 days. */
-const daysOf = (/** @type {number} */ count, /** @type {Figures} */ figures, kind = '') => (
-    `${figures.whole(count)} ${kind}${count === 1 ? 'day' : 'days'}`);
-
-const PRICE = {
-    close: (price) =>
-        `The close set the price: ${price} roubles, the mean of the rows that have trades, by their volumes.`,
-    bid: (price) =>
-        `The greatest bid set the price: ${price} roubles. It is the middle one of bid, close and ask, or, with no ` +
-        'ask, the greater of bid and close.',
-    ask: (price) =>
-        `The least ask set the price: ${price} roubles. It is the middle one of bid, close and ask, or, with no bid, ` +
-        'the lesser of ask and close.',
-    yesterday: (price) => `No row has a trade: the price is the last evaluation, ${price} roubles.`,
-};
-
 // ---- the move
-
-/** The exact move in millionths, as a fraction and with its first places. */
-function exactOf(/** @type {import('./move.mjs').Move} */ move, /** @type {Figures} */ figures) {
-    const dots = move.over % move.under === 0n ? '' : ` (${figures.places(move)})`;
-    return `${figures.fraction(move)} millionths${dots}`;
-}
-
-/** From which evaluation to which. The move is the greater of two; mostly it is from the last evaluation. */
-function wayOf(/** @type {Day} */ { move, record, before }, /** @type {Figures} */ figures) {
-    const [from, to] = [figures.roubles(move.from), `${figures.roubles(record.p1)} roubles`];
-    return move.from === before.p1 ? `from ${from} to ${to}`
-        : `from ${from} roubles, the evaluation before the last one, to ${to}`;
-}
 
 function moveSentence(/** @type {Day} */ day, /** @type {Figures} */ figures) {
     const { move, record, reasons, statics, b } = day;
@@ -54,16 +28,6 @@ function moveSentence(/** @type {Day} */ day, /** @type {Figures} */ figures) {
         return `${moved}. That is not above ${before}, so the downward weight of ` +
             `${figures.perCent(statics.aDown)} was taken.`;
     }
-}
-
-/** What two days of a broadcast show of a move: messages carry no reasons. */
-function heardMoveSentence(/** @type {Day} */ day, /** @type {Figures} */ figures) {
-    const { move, record, before } = day;
-    const exact = move.over === 0n
-        ? `The price did not move from ${figures.roubles(record.p1)} roubles: the exact move is 0 millionths`
-        : `The exact move, ${wayOf(day, figures)}, is ${exactOf(move, figures)}`;
-    const how = isAbove(move, before.s) ? 'above' : 'not above';
-    return `${exact}, ${how} the volatility before, ${figures.whole(before.s)}.`;
 }
 
 /** Here the millionths are the point. */
@@ -115,19 +79,6 @@ function tentativeSentence(/** @type {Day} */ { record, before, reasons, statics
     }
 }
 
-function levelSentence(level, /** @type {Day} */ { record, reasons, statics, m }, /** @type {Figures} */ figures) {
-    const rate = figures.perCent(record[`s${level}`]);
-    switch (reasons[`level${level}`]) {
-    case 'maximum': return `Rate ${level} is held at the maximum, ${rate}: the requirement is above it.`;
-    case 'minimum': return `Rate ${level} is its minimum, ${rate}.`;
-    default: {
-        const ahead = m > 0 ? `, with ${daysOf(m, figures)} off ahead` : '';
-        return `Rate ${level} is ${rate}, the least step of ${figures.perCent(statics.h)} that covers the ` +
-            `requirement of ${daysOf(statics[`rh${level}`], figures)}${ahead}.`;
-    }
-    }
-}
-
 /**
  * The sentences of a day, each with whether it is the mark of a move that rounding would have hidden.
  * @param {Day} day
@@ -138,17 +89,23 @@ export function sentencesOf(day, figures) {
     const { record, before, reasons, move } = day;
     const said = [];
     const say = (text, mark = false) => said.push({ text, mark });
-    if (reasons !== null) say(PRICE[reasons.price](figures.roubles(record.p1)));
+    // No evaluation has a price without a reason, but a message may say so.
+    if (reasons !== null && reasons.price in PRICE) say(PRICE[reasons.price](figures.roubles(record.p1)));
     if (reasons?.weight === 'none') {
         say('The share is not modelled (isEWMA no): its rates are the minima, its volatility and tentative rate stay.');
         return said;
     }
+    const hasFigures = reasons?.figures !== undefined;
     if (move !== null && before !== null) {
-        say(reasons === null ? heardMoveSentence(day, figures) : moveSentence(day, figures));
+        say(hasFigures ? moveSentence(day, figures) : heardMoveSentence(day, figures));
         const hidden = hiddenByRounding(day);
         if (hidden.volatility || hidden.rate) say(hiddenSentence(hidden, day, figures), true);
     }
     if (reasons === null) return said;
+    if (!hasFigures) {
+        heardReasons(day, figures).forEach((text) => say(text));
+        return said;
+    }
     say(volatilitySentence(day, figures));
     say(tentativeSentence(day, figures));
     for (const level of [1, 2, 3]) say(levelSentence(level, day, figures));

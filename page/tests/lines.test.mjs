@@ -114,7 +114,7 @@ test('a line that is no call has no form, in words', () => {
 });
 
 test('every number of a refusal is in words', () => {
-    assert.equal(refusals.length, 25);
+    assert.equal(refusals.length, 26);
     refusals.slice(1).forEach(({ text, todo }) => assert.ok(text !== '' && todo !== ''));
     assert.equal(inWords(16), 'a row has its bid above its ask');
     assert.equal(inWords(99), 'refused 99');

@@ -22,7 +22,7 @@ const PLACE = {
 };
 // What the page itself makes of figures: no answer has them.
 const MADE = new Set(['change', 'happened']);
-const IN_A_MESSAGE = Object.keys(PLACE).filter((key) => key !== 'session');
+const IN_A_MESSAGE = Object.keys(PLACE);
 const bytes = (text) => new TextEncoder().encode(text);
 
 async function opened(input) {
@@ -93,6 +93,7 @@ for (const [name, input] of [['the example evening', example('evening.txt')], ['
         const heard = linesOf(await programs.run('listen', await programs.run('broadcast', input)));
         const members = sheetOfMessages(heard);
         assert.equal(members.damage, null);
+        assert.equal(members.whole.is, true);
         for (const security of members.securities.filter((one) => one.record !== null)) {
             const words = last.get(security.id);
             for (const key of IN_A_MESSAGE) {
@@ -101,11 +102,16 @@ for (const [name, input] of [['the example evening', example('evening.txt')], ['
         }
         const ids = (of) => of.securities.map((one) => one.id).sort();
         assert.deepEqual(ids(members), ids(sheet));
-        // Two days tell by themselves whether the tentative rate rose or fell, as the reasons say it.
-        for (const one of members.securities.filter((security) => security.days.length > 1)) {
+        // The reasons are those of `why`, on every day; the figures that decided are not in a message.
+        const shown = ['rose', 'fell', 'waits', 'replaced', 'maximum', 'moved'];
+        for (const one of members.securities.filter((security) => security.days.length > 0)) {
             const said = sheet.securities.find((security) => security.id === one.id);
-            const has = (of) => ['rose', 'fell', 'moved'].filter((key) => of.happened.has(key));
+            const has = (of) => shown.filter((key) => of.happened.has(key));
             assert.deepEqual(has(one), has(said));
+            one.days.forEach((_, at) => {
+                const { figures, ...reasons } = dayAt(said, at).reasons;
+                assert.deepEqual(dayAt(one, at).reasons, reasons);
+            });
         }
     });
 }
@@ -150,14 +156,18 @@ test('a heading has no answer and is shown with its line; behind another word, o
 
 test('a damaged broadcast: what was read before stays', async () => {
     const whole = await programs.run('broadcast', example('evening.txt'));
-    const cut = sheetOfMessages(linesOf(await programs.run('listen', whole.subarray(0, 102 + 102 + 98 + 50))));
+    // Begin, two statics, and the rates of security 7; its bands are cut.
+    const bands = 10 + 102 + 102 + 98;
+    const cut = sheetOfMessages(linesOf(await programs.run('listen', whole.subarray(0, bands + 50))));
     assert.equal(cut.damage.number, 21);
-    assert.equal(cut.damage.offset, 302);
+    assert.equal(cut.damage.offset, bands);
+    assert.equal(cut.whole.is, false);
     assert.equal(cut.damage.words, 'the message is cut short');
     assert.deepEqual(cut.securities.map((one) => one.id), [7, 9]);
     assert.equal(cut.securities[0].record.p1, 1030000);
     assert.equal(cut.securities[0].record.lower_0, undefined);
-    for (const [number, at, value] of [[22, 302, 200], [23, 102 + 6, 0]]) {
+    // A length, an id, and a price: the last is told by the end alone.
+    for (const [number, at, value] of [[22, bands, 200], [23, 10 + 102 + 6, 0], [25, 10 + 102 + 102 + 14, 1]]) {
         const damaged = whole.slice();
         damaged[at] = value;
         assert.equal(sheetOfMessages(linesOf(await programs.run('listen', damaged))).damage.number, number);

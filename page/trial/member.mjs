@@ -134,9 +134,10 @@ export async function broadcast(/** @type {Browser} */ browser, /** @type {House
     await openPage(browser, house);
     await openFile(browser, house.fileOf('messages', whole));
     await browser.value(`(() => { ${showLimits(true)} })()`);
-    const looked = lookAtTable(await browser.value(TABLE), told, false);
+    const looked = lookAtTable(await browser.value(TABLE), told);
     await browser.value(`(() => { ${showLimits(false)} })()`);
     assert.equal(await browser.value("document.querySelector('[role=alert]')"), null);
+    assert.match(await browser.text('#whole'), /^The broadcast is whole: [\d,]+ messages/);
     const cut = whole.subarray(0, whole.length - 30);
     const [refused] = linesOf(house.run('listen', cut)).slice(-1);
     const [, number, offset] = refused.split(' ');
@@ -145,6 +146,7 @@ export async function broadcast(/** @type {Browser} */ browser, /** @type {House
     assert.match(words, new RegExp(`is refused: the message is cut short \\(${number}\\)`));
     const place = /at byte ([\d,]+) of the file/.exec(words);
     assert.equal(wholeOf(String(place?.[1]), 0), offset);
+    assert.match(await browser.text('#whole'), /^The broadcast is not whole/);
     assert.equal((await browser.value(TABLE)).length, told.size);
     await browser.picture(house.pictureOf(browser.name, 'damaged'));
     return `${looked} figures of the table; cut short it is refused ${number} at byte ${offset}, and the rest stays`;

@@ -54,8 +54,7 @@ export const TABLE = `(() => {
 })()`;
 
 /** Compares the whole table, and says how many figures it has. */
-export function lookAtTable(/** @type {Record<string, string>[]} */ rows, /** @type {Map<string, Told[]>} */ told,
-    hasSession = true) {
+export function lookAtTable(/** @type {Record<string, string>[]} */ rows, /** @type {Map<string, Told[]>} */ told) {
     let looked = 0;
     assert.deepEqual(rows.map(({ id }) => id).sort(), [...told.keys()].sort());
     for (const row of rows) {
@@ -69,7 +68,7 @@ export function lookAtTable(/** @type {Record<string, string>[]} */ rows, /** @t
             if (isLive) assert.equal(row[key].endsWith(' %'), key in DECIMALS, `security ${row.id}, ${key}: its unit`);
             looked += 1;
         }
-        if (hasSession && isLive) assert.equal(row.session, SESSIONS[Number(words[42])]);
+        if (isLive) assert.equal(row.session, SESSIONS[Number(words[42])]);
     }
     return looked;
 }
