@@ -2,15 +2,17 @@
  * The program `nedrubal`: its first word names one of the proved programs, which then runs in this process. What stands
  * here opens a file, answers -h and gives a status; no figure comes from it.
  *
- *     nedrubal evening|why|broadcast [--strict] [FILE]
- *     nedrubal listen [FILE]
+ *     nedrubal evening|why [--strict] [FILE]
+ *     nedrubal broadcast [--strict] [--from N] [FILE]
+ *     nedrubal listen [--whole] [FILE]
  *     nedrubal exchange ID <TEXT
  *     nedrubal night DAY B M K0 RRCL0 RRCH0 K1 RRCL1 RRCH1 K2 RRCL2 RRCH2 [ID...] <TEXT
  *
- * A proved program always ends with 0, and says on standard error that it could not read or write, or `night` which line
- * of its text is bad. So its `write` is the one below, which sees that: status 1. Status 2 says that the words are wrong
- * or that FILE cannot be read. It also sees the lines that are answered: with --strict, one that is refused or no call
- * is status 3, and a message that `listen` refuses is status 1.
+ * A proved program always ends with 0, and says on standard error that it could not read or write, `night` which line
+ * of its text is bad, or `listen --whole` that its input is not one whole stream. So its `write` is the one below, which
+ * sees that: status 1. Status 2 says that the words are wrong or that FILE cannot be read. It also sees the lines that
+ * are answered: with --strict, one that is refused or no call is status 3, and a message that `listen` refuses is
+ * status 1.
  */
 #include "arguments.h"
 #include <errno.h>
@@ -36,8 +38,9 @@ int nedrubal_listen(void);
 int nedrubal_exchange(void);
 int nedrubal_night(void);
 
-/* What stands behind a program's name: --strict and a FILE, a FILE, or words that the program itself reads. */
-enum words { STRICT_FILE, A_FILE, OWN_WORDS };
+/* What stands behind a program's name: --strict and a FILE, --from with a number between them, --whole and a FILE, or
+   words that the program itself reads. It also reads --from with its number, and --whole. */
+enum words { STRICT_FILE, STRICT_FROM_FILE, WHOLE_FILE, OWN_WORDS };
 
 struct program {
     const char *name; /* behind a space */
@@ -55,14 +58,15 @@ static const struct program programs[] = {
     { " why", nedrubal_why, STRICT_FILE,
       "usage: nedrubal why [--strict] [FILE]\n"
       "Runs an evening on FILE, or on standard input. An evaluation is answered with what set its figures.\n" STRICT },
-    { " broadcast", nedrubal_broadcast, STRICT_FILE,
-      "usage: nedrubal broadcast [--strict] [FILE]\n"
+    { " broadcast", nedrubal_broadcast, STRICT_FROM_FILE,
+      "usage: nedrubal broadcast [--strict] [--from N] [FILE]\n"
       "Runs an evening on FILE, or on standard input, and writes the messages that members are sent, in bytes.\n"
+      "With --from the lines before the N-th are performed and not told.\n"
       STRICT },
-    { " listen", nedrubal_listen, A_FILE,
-      "usage: nedrubal listen [FILE]\n"
+    { " listen", nedrubal_listen, WHOLE_FILE,
+      "usage: nedrubal listen [--whole] [FILE]\n"
       "Reads messages from FILE, or from standard input, and prints a line for each.\n"
-      "The status is 1 where one is refused.\n" },
+      "The status is 1 where one is refused and, with --whole, where they are not one whole stream.\n" },
     { " exchange", nedrubal_exchange, OWN_WORDS,
       "usage: nedrubal exchange ID <TEXT\n"
       "Reads the exchange's text and prints the rows of security ID, as the end of an evaluate line takes them.\n" },
@@ -85,8 +89,9 @@ static const char about[] =
     "  PROGRAM -h           what one program takes\n"
     "  --version            which release this is\n"
     "Without FILE a program reads standard input. The status is 0; 1 where it could not read or write, listen printed\n"
-    "a refusal, or night's text is bad; 2 where the words are wrong or FILE cannot be read. With --strict behind\n"
-    "evening, why or broadcast it is 3 where a line was refused or was no call.\n";
+    "a refusal, the input of listen --whole is not one whole stream, or night's text is bad; 2 where the words are\n"
+    "wrong or FILE cannot be read. With --strict behind evening, why or broadcast it is 3 where a line was refused or\n"
+    "was no call.\n";
 
 /* Writes a text whole, and says whether it could. */
 static int say(int to, const char *text)
@@ -280,11 +285,29 @@ static int run(const struct program *program, int count, char **words)
     if (is_closed(STDOUT_FILENO))
         return stream_is_closed(program, ": could not write: standard output is closed\n");
     int is_strict = 0;
+    /* What the program itself reads: its name, and the option that is its own. */
+    char *own[] = { words[0], NULL, NULL };
+    int own_count = 1;
     if (program->words != OWN_WORDS) {
-        if (count > 1 && program->words == STRICT_FILE && strcmp(words[1], "--strict") == 0) {
+        int has_strict = program->words == STRICT_FILE || program->words == STRICT_FROM_FILE;
+        if (count > 1 && has_strict && strcmp(words[1], "--strict") == 0) {
             is_strict = 1;
             words++;
             count--;
+        }
+        if (count > 1 && program->words == WHOLE_FILE && strcmp(words[1], "--whole") == 0) {
+            own[own_count++] = words[1];
+            words++;
+            count--;
+        }
+        if (count > 1 && program->words == STRICT_FROM_FILE && strcmp(words[1], "--from") == 0) {
+            if (count < 3)
+                return refuse(program->name, "the number of a line stands behind ", words[1], "");
+            own[1] = words[1];
+            own[2] = words[2];
+            own_count = 3;
+            words += 2;
+            count -= 2;
         }
         if (count > 1 && words[1][0] == '-' && words[1][1] != 0)
             return refuse(program->name, "there is no option ", words[1], "");
@@ -295,11 +318,14 @@ static int run(const struct program *program, int count, char **words)
     }
     if (is_closed(STDIN_FILENO))
         return stream_is_closed(program, ": could not read: standard input is closed\n");
+    if (program->words == OWN_WORDS)
+        give_arguments(count, words);
+    else
+        give_arguments(own_count, own);
     if (is_strict)
         return run_strictly(program);
-    if (program->run == nedrubal_listen)
+    if (program->words == WHOLE_FILE)
         looked_for = REFUSED_MESSAGE;
-    give_arguments(count, words);
     int status = program->run();
     return said ? said : found ? COULD_NOT : status;
 }
