@@ -4,6 +4,7 @@ import { makeBreath } from './breath.mjs';
 import { isAnswered, isHeading, makeEveningSheet } from './evening-sheet.mjs';
 import { nightOf } from './exchange.mjs';
 import { heardOf } from './heard.mjs';
+import { isKept } from './kept-lines.mjs';
 import { perform } from './performing.mjs';
 import { bytesOf, textOf } from './programs.mjs';
 import { makeStations } from './stations.mjs';
@@ -163,6 +164,12 @@ export function makeDesk(programs) {
 
         /** The text: a character a byte, each line ended by a line feed. */
         text,
+
+        /** Of each line of the text, whether a journal keeps it. */
+        keeps: () => lines.map(({ line, answer }) => isKept(line.text, answer)),
+
+        /** The lines that a journal keeps. */
+        keptLines: () => lines.filter(({ line, answer }) => isKept(line.text, answer)).map(({ line }) => line.text),
 
         /** Performs lines in order, and keeps those that are accepted in the text. */
         say: (/** @type {string[]} */ texts) => inTurn(() => {

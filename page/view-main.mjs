@@ -3,11 +3,13 @@
 import { makeDesk } from './desk.mjs';
 import { button, el } from './element.mjs';
 import { makeFigures } from './figures.mjs';
+import { looksLikeJournal, openJournal } from './journal.mjs';
 import { sheetOfMessages } from './message-sheet.mjs';
 import { bytesOf, linesOf, makePrograms } from './programs.mjs';
 import { DOWNLOADS } from './downloads.mjs';
 import { ask } from './view-ask.mjs';
 import { download } from './view-files.mjs';
+import { journalNotices } from './view-journal.mjs';
 import { showFailure, showNotices } from './view-notices.mjs';
 import { print } from './view-save.mjs';
 import { showSecurity } from './view-security.mjs';
@@ -17,6 +19,7 @@ import { makeWork } from './view-work.mjs';
 
 const BROADCAST = 'broadcast';
 const EVENING = 'evening';
+const JOURNAL = 'journal';
 const NEW = 'evening.txt';
 const LOOKED_AT = 4096;
 const NARROW = '(max-width: 1000px)';
@@ -29,25 +32,35 @@ const programs = makePrograms(
 );
 const desk = makeDesk(programs);
 
-/** What is open: its name, what kind it is, and its sheet. */
+/** What is open: its name, what kind it is, its sheet, and what a journal is besides. */
 let shown = null;
 let chosenId = null;
 
-/** A message has a byte 0 among its first ones, in its length; a text has none. */
-function kindOf(bytes) {
+/**
+ * A journal begins with an entry, or has a journal's name, and may then be damaged at its beginning. A message has a
+ * byte 0 among its first ones, in its length; a text has none.
+ */
+function kindOf(name, bytes) {
+    if (looksLikeJournal(bytes) || name.endsWith(`.${JOURNAL}`)) return JOURNAL;
     return bytes.subarray(0, LOOKED_AT).includes(0) ? BROADCAST : EVENING;
 }
 
-async function sheetOf(bytes, kind) {
-    if (kind === BROADCAST) return sheetOfMessages(linesOf(await programs.run('listen', bytes)));
-    await desk.open(bytes);
-    return desk.sheet;
+async function readAs(bytes, kind) {
+    if (kind === BROADCAST) {
+        return { sheet: sheetOfMessages(linesOf(await programs.run('listen', bytes))), journal: null };
+    }
+    const journal = kind === JOURNAL ? await openJournal(desk, bytes) : null;
+    if (kind === EVENING) await desk.open(bytes);
+    return { sheet: desk.sheet, journal };
 }
+
+/** Whether what is open can be worked on: a broadcast cannot, and neither can a damaged journal. */
+const isWorkedOn = () => shown !== null && shown.kind !== BROADCAST && !shown.journal?.damage;
 
 function choose(security, byHand) {
     chosenId = security.id;
     showSecurity(room('one'), security, figures);
-    if (shown?.kind === EVENING) work.chose(security);
+    if (isWorkedOn()) work.chose(security);
     if (byHand && matchMedia(NARROW).matches) room('one').scrollIntoView();
 }
 
@@ -63,6 +76,7 @@ const work = makeWork({
     figures,
     typing: makeTyping(navigator.language),
     name: () => shown.name,
+    journal: () => shown?.journal ?? null,
     // By its id: a line that is taken back may leave another object of the same security.
     chosen: () => shown?.sheet.securities.find(({ id }) => id === chosenId) ?? null,
     choose: (id) => securities.pick(id),
@@ -88,6 +102,7 @@ const noticedOf = ({ headings, refusals, securities: all }) => (
 function notices() {
     shown.noticed = noticedOf(shown.sheet);
     showNotices(room('notices'), shown.sheet, figures, shown.isNew);
+    if (shown.journal) room('notices').prepend(...journalNotices(shown.journal, figures));
 }
 
 function summaryOf() {
@@ -113,24 +128,24 @@ async function mayLeave() {
 }
 
 /**
- * Opens bytes as a broadcast or as an evening's text; without a kind, as what they look like.
+ * Opens bytes as a broadcast, a journal or an evening's text; without a kind, as what they look like.
  * @param {string} name
  * @param {Uint8Array} bytes
  * @param {{ kind?: string, isNew?: boolean }} how
  */
-async function open(name, bytes, { kind = kindOf(bytes), isNew = false } = {}) {
+async function open(name, bytes, { kind = kindOf(name, bytes), isNew = false } = {}) {
     if (!await mayLeave()) return;
     room('summary').textContent = `Reading ${name} …`;
     await new Promise((done) => { setTimeout(done); }); // the words are to be seen before the work begins
     const began = performance.now();
     try {
-        const sheet = await sheetOf(bytes, kind);
-        shown = { name, bytes, kind, sheet, isNew };
+        const { sheet, journal } = await readAs(bytes, kind);
+        shown = { name, bytes, kind, sheet, journal, isNew };
         forgetChosen();
         room('welcome').hidden = true;
         room('columns').hidden = sheet.securities.length === 0;
         notices();
-        if (kind === EVENING) work.opened(isNew);
+        if (isWorkedOn()) work.opened(isNew);
         else work.closed();
         securities.show(sheet);
         const milliseconds = Math.round(performance.now() - began);
@@ -145,7 +160,7 @@ async function open(name, bytes, { kind = kindOf(bytes), isNew = false } = {}) {
 
 /** A file that has nothing for one program may have something for the other. */
 function offerOther(name, bytes, kind) {
-    const other = kind === BROADCAST ? EVENING : BROADCAST;
+    const other = kind === EVENING ? BROADCAST : EVENING;
     room('other-way').hidden = shown.sheet.securities.length > 0 || bytes.length === 0;
     room('other-way').textContent = other === BROADCAST ? 'Read as a broadcast' : 'Read as an evening’s text';
     room('other-way').onclick = () => open(name, bytes, { kind: other });

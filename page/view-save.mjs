@@ -1,5 +1,6 @@
-// Saving: the evening's text, the broadcast's bytes, the sheet as CSV or on paper.
+// Saving: the evening's text, a journal, the broadcast's bytes, the sheet as CSV or on paper.
 import { button, el } from './element.mjs';
+import { journalOf } from './journal.mjs';
 import { bytesOf } from './programs.mjs';
 import { DOWNLOADS } from './downloads.mjs';
 import { download } from './view-files.mjs';
@@ -40,6 +41,15 @@ export function makeSave(room, work, counted) {
         work.status(`Saved: ${name}.`);
     }
 
+    function saveJournal() {
+        const bytes = journalOf(desk.keptLines(), work.journal());
+        const name = `${stem(work.name())}.journal`;
+        download(name, bytes, 'application/octet-stream');
+        desk.saved();
+        counted();
+        work.status(`Saved: ${name}, ${figures.whole(bytes.length)} bytes.`);
+    }
+
     async function saveBroadcast() {
         const bytes = await desk.broadcast();
         const name = `${stem(work.name())}.broadcast`;
@@ -57,6 +67,8 @@ export function makeSave(room, work, counted) {
     room.append(el('div', { class: 'saves' },
         part('The evening’s text', 'All lines, as the program evening takes them. Open the file again to go on.',
             button('Save the evening’s text', saveText, { id: 'save-text', class: 'main' }), state),
+        part('The journal', 'The accepted lines with their sums, closed, as the program keep goes on from them.',
+            button('Save a journal', saveJournal, { id: 'save-journal' })),
         part('The broadcast', 'The messages that members get of this evening, in bytes.',
             button('Save the broadcast', saveBroadcast, { id: 'save-broadcast' })),
         part('The sheet as CSV', 'Files by the names of the exchange’s interface, units in the head.',

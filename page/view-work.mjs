@@ -17,6 +17,7 @@ import { RECORD_CALLS, wordsOf } from './answers.mjs';
  * @property {ReturnType<import('./figures.mjs').makeFigures>} figures
  * @property {ReturnType<import('./view-typing.mjs').makeTyping>} typing
  * @property {() => string} name  The name of the evening's file.
+ * @property {() => import('./journal.mjs').Journal | null} journal  The journal that was opened.
  * @property {() => Security | null} chosen  The security that is chosen in the table.
  * @property {(id: number) => void} choose  Chooses another one there, where there is one with this id.
  * @property {() => Security[]} securities

@@ -1,9 +1,10 @@
 /*
- * The three functions by which a proved program is handed its arguments. The toolchain has its own for x86-64 alone; a
- * program that is linked for a release or a measurement takes these in their place, on every kind of machine.
+ * The functions by which a proved program is handed its arguments and opens a file. The toolchain has its own for x86-64
+ * alone; a program that is linked for a release or a measurement takes these in their place, on every kind of machine.
  */
 #include "arguments.h"
 #include <errno.h>
+#include <fcntl.h>
 #include <stddef.h>
 #include <string.h>
 #include <sys/types.h>
@@ -41,4 +42,20 @@ ssize_t rattle_arg(size_t i, unsigned char *buf, size_t room)
 void rattle_set_errno(int error)
 {
     errno = error;
+}
+
+/* A descriptor, or -1; a path ends in 0. No program that is started later has it. */
+int rattle_open_to_read(const char *path)
+{
+    return open(path, O_RDONLY | O_NOCTTY | O_CLOEXEC);
+}
+
+int rattle_open_to_update(const char *path)
+{
+    return open(path, O_RDWR | O_NOCTTY | O_CLOEXEC);
+}
+
+int rattle_open_new(const char *path, unsigned mode)
+{
+    return open(path, O_WRONLY | O_CREAT | O_EXCL | O_NOCTTY | O_CLOEXEC, mode);
 }

@@ -7,6 +7,7 @@
  *     nedrubal listen [--whole] [FILE]
  *     nedrubal exchange ID <TEXT
  *     nedrubal night DAY B M K0 RRCL0 RRCH0 K1 RRCL1 RRCH1 K2 RRCL2 RRCH2 [ID...] <TEXT
+ *     nedrubal keep JOURNAL <FILE
  *
  * A proved program always ends with 0, and says on standard error that it could not read or write, `night` which line
  * of its text is bad, or `listen --whole` that its input is not one whole stream. So its `write` is the one below, which
@@ -19,6 +20,7 @@
 #include <fcntl.h>
 #include <stddef.h>
 #include <string.h>
+#include <sys/file.h>
 #include <sys/stat.h>
 #include <sys/types.h>
 #include <sys/wait.h>
@@ -37,6 +39,7 @@ int nedrubal_broadcast(void);
 int nedrubal_listen(void);
 int nedrubal_exchange(void);
 int nedrubal_night(void);
+int nedrubal_keep(void);
 
 /* What stands behind a program's name: --strict and a FILE, --from with a number between them, --whole and a FILE, or
    words that the program itself reads. It also reads --from with its number, and --whole. */
@@ -75,6 +78,11 @@ static const struct program programs[] = {
       "Reads the exchange's text and prints an evaluate line for each of its securities, then one without rows for\n"
       "each ID that the text does not have. A pair YM/YN may stand in place of each RRCL RRCH.\n"
       "The status is 1 where the text is bad: standard error says 15 and the line.\n" },
+    { " keep", nedrubal_keep, OWN_WORDS,
+      "usage: nedrubal keep JOURNAL <FILE\n"
+      "Performs the lines of JOURNAL, and then runs an evening on standard input, whose lines are kept there: a line is\n"
+      "answered once it is safe. A missing journal is made. One program at a time has a journal.\n"
+      "The status is 1 where the journal is damaged or could not be written; 2 where it cannot be opened.\n" },
 };
 enum { PROGRAMS = sizeof programs / sizeof *programs };
 
@@ -86,6 +94,7 @@ static const char about[] =
     "  listen [FILE]        reads such messages, and prints a line for each\n"
     "  exchange ID <TEXT    the rows of one security in the exchange's text\n"
     "  night DAY.. <TEXT    an evaluate line for each security of the exchange's text\n"
+    "  keep JOURNAL <FILE   an evening whose lines are kept in a journal from run to run\n"
     "  PROGRAM -h           what one program takes\n"
     "  --version            which release this is\n"
     "Without FILE a program reads standard input. The status is 0; 1 where it could not read or write, listen printed\n"
@@ -176,11 +185,48 @@ static void look_at(const char *text, size_t length)
 static int is_judge;
 static int to_judge = -1;
 
+/* `keep` says of what is new and of what it cut off, and all is well; that a journal cannot be opened or is none is a
+   wrong word. Its words come in pieces: a line is looked at as a whole, as far as it matters. */
+static int is_keeper;
+
+static int ends_in(const char *line, size_t length, const char *end)
+{
+    size_t known = strlen(end);
+    return length >= known && memcmp(line + length - known, end, known) == 0;
+}
+
+static int begins_with(const char *line, size_t length, const char *front)
+{
+    size_t known = strlen(front);
+    return length >= known && memcmp(line, front, known) == 0;
+}
+
+static void hear_keeper(const char *text, size_t length)
+{
+    static char line[8192];
+    static size_t place;
+    for (size_t i = 0; i < length; i++) {
+        if (text[i] != '\n') {
+            if (place < sizeof line)
+                line[place++] = text[i];
+            continue;
+        }
+        if (begins_with(line, place, "usage:") || begins_with(line, place, "keep: cannot open ") ||
+            ends_in(line, place, " is no regular file"))
+            said = USAGE;
+        else if (!ends_in(line, place, " is new") && !begins_with(line, place, "keep: cut off ") && said == 0)
+            said = COULD_NOT;
+        place = 0;
+    }
+}
+
 /* In place of `write` in the proved programs. */
 ssize_t nedrubal_write(int to, const void *from, size_t length)
 {
     static const char usage[] = "usage:";
-    if (to == STDERR_FILENO && said == 0) {
+    if (to == STDERR_FILENO && is_keeper)
+        hear_keeper(from, length);
+    else if (to == STDERR_FILENO && said == 0) {
         size_t known = sizeof usage - 1;
         said = length >= known && memcmp(from, usage, known) == 0 ? USAGE : COULD_NOT;
     }
@@ -275,6 +321,44 @@ static int put_on_input(const char *name)
         return 0;
     close(file);
     return 1;
+}
+
+/* One program at a time has a journal: a lock, which goes with this process. A missing journal is made, for its owner
+   alone, so that there is one to lock, and its folder is synced, so that its name is safe. */
+static int sync_folder(const char *name)
+{
+    char folder[4096] = ".";
+    const char *slash = strrchr(name, '/');
+    if (slash && (size_t)(slash - name) + 2 > sizeof folder)
+        return 0;
+    if (slash) {
+        memcpy(folder, name, (size_t)(slash - name) + 1);
+        folder[slash - name + 1] = 0;
+    }
+    int at = open(folder, O_RDONLY | O_DIRECTORY);
+    int done = at >= 0 && fsync(at) == 0;
+    if (at >= 0)
+        close(at);
+    return done;
+}
+
+static int take_journal(const struct program *program, const char *name)
+{
+    struct stat is;
+    if (stat(name, &is) == 0 && !S_ISREG(is.st_mode))
+        return refuse(program->name, "", name, " is no regular file");
+    int made = open(name, O_RDWR | O_CREAT | O_EXCL, 0600);
+    int journal = made >= 0 ? made : open(name, O_RDWR);
+    if (journal < 0 || (made >= 0 && !sync_folder(name)))
+        return refuse(program->name, "cannot open ", name, "");
+    if (flock(journal, LOCK_EX | LOCK_NB) != 0)
+        return refuse(program->name, "another program has ", name, "");
+    if (made >= 0) {
+        say(STDERR_FILENO, "keep: ");
+        say(STDERR_FILENO, name);
+        say(STDERR_FILENO, " is new\n");
+    }
+    return 0;
 }
 
 /* words[0] is the program's name. */

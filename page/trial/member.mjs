@@ -20,13 +20,13 @@ export async function openPage(/** @type {Browser} */ browser, /** @type {House}
 }
 
 /** Opens a file in the page, and waits until it is read. */
-export async function openFile(/** @type {Browser} */ browser, /** @type {string} */ file) {
+export async function openFile(/** @type {Browser} */ browser, /** @type {string} */ file, hasSecurities = true) {
     await browser.value(`${at('#summary')}.textContent = ''`);
     await browser.give('#file', file);
     const read = JSON.stringify(`${path.basename(file)}: `);
     await browser.until(`${at('#summary')}.textContent.startsWith(${read})`);
     // A random evening may have a byte 0 at its beginning, and is then taken for a broadcast: she has it read again.
-    if (await browser.value(`!${at('#other-way')}.hidden`)) {
+    if (hasSecurities && await browser.value(`!${at('#other-way')}.hidden`)) {
         await browser.click('#other-way');
         await browser.until(`!${at('#columns')}.hidden`);
     }

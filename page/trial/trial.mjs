@@ -11,6 +11,7 @@ import { start } from './browsers.mjs';
 import * as caseworker from './caseworker.mjs';
 import { greatEvening } from './great.mjs';
 import { makeHouse, timed } from './house.mjs';
+import { journal } from './journal.mjs';
 import * as member from './member.mjs';
 import * as night from './night.mjs';
 import { onPaper } from './paper.mjs';
@@ -36,6 +37,7 @@ const TRIALS = [
     ['a refused admission', admitting.refused],
     ['what if', caseworker.whatIf],
     ['saving and undo', caseworker.saveAndUndo],
+    ['a journal', journal],
     ['the exchange', night.exchange],
     ['admissions', admitting.fromFile],
     ['the caseworker by keyboard', caseworker.byKeyboard],

@@ -2,7 +2,7 @@
 
 use std::borrow::Cow;
 use std::ffi::OsString;
-use std::io::{self, Write};
+use std::io::{self, Read, Write};
 use std::path::Path;
 use std::process::ExitCode;
 
@@ -14,6 +14,7 @@ use reference::count_exchange::count_exchange;
 use reference::count_headings::count_headings;
 use reference::count_interest::count_interest;
 use reference::count_inward::count_inward;
+use reference::count_journal::count_journal;
 use reference::count_listen::count_listen;
 use reference::count_night::count_night;
 use reference::count_outside::count_outside;
@@ -22,7 +23,9 @@ use reference::count_session::count_session;
 use reference::count_tentative::count_tentative;
 use reference::count_why::count_why;
 use reference::words::{Manner, EVENING, GATEWAY};
-use reference::{broadcast, compare, count, exchange, gateway, listen, protocol, script, why};
+use reference::{
+    broadcast, compare, count, exchange, gateway, journal, listen, protocol, script, why,
+};
 
 const USAGE: &str = "usage: reference evening | why | gateway | \
 exchange ID | \
@@ -162,6 +165,30 @@ fn run(words: &[&str]) -> io::Result<ExitCode> {
         _ => return Err(unusable(USAGE)),
     }
     Ok(ExitCode::SUCCESS)
+}
+
+fn kept(path: &str, input: impl Read, output: impl Write) -> ExitCode {
+    let say = |word| eprintln!("keep: {word}");
+    match journal::keep::keep(Path::new(path), input, output, say) {
+        Ok(()) => ExitCode::SUCCESS,
+        Err(failure) => {
+            eprintln!("keep: {failure}");
+            ExitCode::from(DIFFERENT)
+        }
+    }
+}
+
+fn pruned(path: &str) -> ExitCode {
+    match journal::prune::prune(Path::new(path)) {
+        Ok(journal::prune::Counts { before, left }) => {
+            println!("{left} of {before} entries are left");
+            ExitCode::SUCCESS
+        }
+        Err(failure) => {
+            eprintln!("prune: {failure}");
+            ExitCode::from(DIFFERENT)
+        }
+    }
 }
 
 /// Why a command cannot be run.

@@ -12,6 +12,7 @@ pub mod gateway;
 mod headings;
 mod interest;
 mod inward;
+pub mod journal;
 pub mod listen;
 pub mod night;
 mod outside;
