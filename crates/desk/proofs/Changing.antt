@@ -4,8 +4,9 @@
 --         let s = take(t, id); let o = rule(s, ..); put(t, o.at, o.rec); answered(o)
 --     }
 -- `about` takes the slot of an id, and the other two the one at a place: #take and `slot-of` say which. What the rule
--- asks of its caller (Q), the call asks of its own, of the slot that it takes. The rule makes an effect of the slot, the effect's record is stored at its place, and that is what is promised (`done`). The walk has a
--- step for each statement: `let-s`, `let-o`, `put-o` and `answer`.
+-- asks of its caller (Q), the call asks of its own, of the slot that it takes. The rule makes an effect of the slot, the
+-- effect's record is stored at its place, and that is what is promised (`done`). The walk has a step for each statement:
+-- `let-s`, `let-o`, `put-o` and `answer`.
 --     function     the MIR of the shape
 --     ended, clauses    its signature, and what it promises
 --     Stands       what is asked of the locals: `search` finds it where the parameters are written out
