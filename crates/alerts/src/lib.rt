@@ -1,6 +1,8 @@
 // Document 01, "Ranges, bands, alerts, moves" (17.5): near sides and alerts, by value. A quote's bid and ask are no
 // prices of document 01's range: 0 is missing, and they go up to 10^11. So they are bare numbers of units here, as the
 // limits are that they are held against.
+#![tactic(auto)]
+
 pub mod session; // what the evening session changes of alerts and of moves
 
 ghost use Rattle.std.specs.Prelude.{◌≡◌};

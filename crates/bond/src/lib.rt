@@ -1,5 +1,7 @@
 // Document 02, W-206: the public call for a bond, by value. Nothing is stored. It judges what is given, asks the rules
 // for the rates (`rates`), for Carry and for the limits, and puts the answer together.
+#![tactic(auto)]
+
 mod flows; // the cash flows, and Carry
 mod limit; // the limits of a term, on the book and off it
 

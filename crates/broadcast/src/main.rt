@@ -2,6 +2,8 @@
 // as its messages, in bytes, between one that begins the stream and one that ends it, and nothing else is written. A
 // fresh table of 512 slots, served with the lines of standard input. With the words `--from N` the lines before the N-th
 // are performed and not told.
+#![tactic(auto)]
+
 use libc::STDERR_FILENO;
 use text_protocol::Item;
 

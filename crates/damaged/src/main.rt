@@ -1,5 +1,7 @@
 // Damaged and duplicate records, which no line of text can make: a table that is lent as it stands, with one damage to
 // a slot, and then the calls on it.
+#![tactic(auto)]
+
 use paper::{
     External, GivenStatics, Limit, Limits, Moves, Near, NearSeconds, Price, Rate, Record, Session,
     Standing, Statics, Tentative, Term,

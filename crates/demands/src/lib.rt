@@ -6,3 +6,5 @@
 // promise to be `step` of the paper, and all this is proved of `step` and `run`. Document 01's own cases stand here too
 // (specs/Cases.antt, specs/CaseCalls.antt), since they search far: case 8 tries some 66,667 numbers, and each day of
 // case 1 some 21,214. The tables of `paper_desk`, where many edits stand, pin the definitions with smaller figures.
+
+#![tactic(auto)]

@@ -3,3 +3,5 @@
 // promises. That an accepted call is broadcast whole, after every sequence of calls (document 02, W-212):
 // specs/Whole.antt and proofs/Whole.antt. This crate has no function: it stands above the demands, which speak of
 // calls, and above the text, which speaks of lines.
+
+#![tactic(auto)]

@@ -1,6 +1,8 @@
 // The evaluation of a day from its rows (6.1), with the roundings (a) to (d). The previous evaluation and the day's are
 // prices. The prices of the rows, and what is made of them before 7 has judged it, are bare numbers of units: 0 is
 // missing there, and a figure may be beyond a price's range.
+#![tactic(auto)]
+
 ghost use Rattle.std.specs.Prelude.{◌≡◌, true, false, ◌*◌, ◌≤◌};
 ghost use Rattle.paper.specs.Lists.{every};
 ghost use Rattle.paper.specs.Numbers.{coarsest_grid, rouble, year_in_day_bp, price_most};

@@ -1,4 +1,6 @@
 // The desk's calculator for an evening: a fresh table of 512 slots, served with the lines of standard input.
+#![tactic(auto)]
+
 use text_evening::Telling;
 
 fn main() {

@@ -1,6 +1,8 @@
 // Whole-number arithmetic that loses nothing: the roundings of document 01, "Places of rounding", the least root of
 // clause 7.1, and signed numbers, given or lent. Every result is a definition of `paper`, for every input that its
 // callers can have.
+#![tactic(auto)]
+
 ghost use Rattle.std.specs.Prelude.{◌≡◌, false, ◌+◌, ◌-◌, ◌*◌, ◌/◌, ◌%◌, ◌^◌, ◌≤◌, ◌<◌, min, max, pos, length, get_or};
 ghost use Rattle.std.specs.Int.Signed.{mag, lt_z};
 ghost use Rattle.paper.specs.Numbers.{one_in_ten_thousandths};

@@ -1,4 +1,6 @@
 // The rows of one security in the exchange's evening text: the id is the argument, the text stands on standard input.
+#![tactic(auto)]
+
 ghost use Rattle.std.specs.Prelude.{◌≡◌, ◌+◌, length};
 ghost use Rattle.exchange_protocol.specs.Exchange.{text_most};
 ghost use Rattle.exchange_serve.specs.Rows.{Asks, Answers};

@@ -1,5 +1,7 @@
 // The exchange's evening text (document 02, W-203): what the definitions (specs/) and the code share. This crate has no
 // function: the definitions say what a text means, and the crates that read one are proved equal to them.
+#![tactic(auto)]
+
 use paper::{Row, Verdict};
 
 // How a column of the exchange's text is written: how many decimals its unit has, whether further ones may stand behind

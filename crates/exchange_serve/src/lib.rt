@@ -1,4 +1,6 @@
 // The program `exchange`: which security its argument asks for, the text that it takes in, and the line of its answer.
+#![tactic(auto)]
+
 ghost use Rattle.std.specs.Prelude.{◌≡◌, ◌+◌, ◌*◌, ◌≤◌, length};
 ghost use Rattle.exchange_protocol.specs.Scan.{reading};
 ghost use Rattle.text_out.specs.Wrote.{Wrote};

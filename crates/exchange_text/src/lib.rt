@@ -1,5 +1,7 @@
 // The exchange's evening text: the rows of one security in a lent text. One pass over the bytes; the rows stay where
 // they are while it goes on.
+#![tactic(auto)]
+
 mod cell; // a field
 pub mod row; // a line
 

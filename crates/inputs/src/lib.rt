@@ -1,6 +1,8 @@
 // Document 01, "Units and ranges", as code: the range tests of what a call gives, each equal to its definition. A test
 // that divides, by the step or the grid, requires that it is not 0; the tests of the statics and of an admission ask
 // nothing of their callers.
+#![tactic(auto)]
+
 mod calls;
 mod prices;
 mod statics;

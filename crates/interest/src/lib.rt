@@ -1,6 +1,8 @@
 // The interest side (document 02, W-201): an evening's key maturities, lent in one slice, to the figures of each and to
 // the repo band of a pair of terms. The rules are those of `interest_maturities`; this crate judges what is given,
 // asks them, and puts the answer together.
+#![tactic(auto)]
+
 ghost use Rattle.std.specs.Prelude.{◌≡◌, true, ◌&&◌, map, ◌+◌, ◌%◌, ◌≤◌, ◌<◌, ltb, length, get_or};
 ghost use Rattle.paper.specs.Lists.{eight};
 ghost use Rattle.paper.specs.Numbers.{key_numbers};

@@ -1,5 +1,7 @@
 // The key maturities of an evening (document 02, W-201): eight signed numbers each, lent in one slice, checked and
 // read.
+#![tactic(auto)]
+
 pub mod repo; // the figures of one key maturity (14.4)
 pub mod forward; // what lies between them, and the repo band of a pair of terms
 

@@ -1,5 +1,7 @@
 // Document 02, W-201: "The security's evaluation may take these limits or given ones." A day as it is asked for becomes
 // a day of document 01.
+#![tactic(auto)]
+
 ghost use Rattle.std.specs.Prelude.{◌≡◌};
 ghost use Rattle.paper.specs.Terms.{worked_repo, repo_of, term_of, day_of};
 

@@ -5,6 +5,8 @@
 // quick way of the bands makes at once, delta, and what a move makes of the pair: a sum that the sequence of calls
 // keeps in range, and not the rule. `narrower` takes bare numbers, since the limits of a bond, which it serves too, are
 // in hundredths of a per cent. A repo rate is a bare number, which may be negative.
+#![tactic(auto)]
+
 ghost use Rattle.std.specs.Prelude.{◌≡◌, true, ◌-◌, ◌≤◌};
 ghost use Rattle.std.specs.Int.Signed.{mag};
 ghost use Rattle.paper.specs.Lists.{three};

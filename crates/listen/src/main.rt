@@ -1,5 +1,7 @@
 // A member's end of the broadcast (document 02, W-212): messages on standard input, and a line for each on standard
 // output. With the argument --whole it says on standard error where the input is not one whole stream.
+#![tactic(auto)]
+
 use libc::STDERR_FILENO;
 use text_word::same_bytes;
 

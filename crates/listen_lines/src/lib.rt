@@ -1,5 +1,7 @@
 // The line of what is heard (document 02, W-212), appended to a lent buffer, and what is answered of a message in its
 // stream. Nothing here depends on how a message is read.
+#![tactic(auto)]
+
 pub mod streams; // an `end` that is judged, and how far a stream is heard
 
 ghost use Rattle.std.specs.Prelude.{◌≡◌, [], ◌∷◌, ◌++◌, ◌+◌, ◌≤◌, pos, length};

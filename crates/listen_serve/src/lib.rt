@@ -1,6 +1,8 @@
 // The program `listen` (document 02, W-212): messages on standard input, whatever pieces `read` delivers them in, and a
 // line for each. Two buffers are lent to a step: one of what is read, one of the lines that wait to be written. An
 // `end` is judged by the stream before it, of which a few numbers are kept (docs/BROADCAST.md, "A whole stream").
+#![tactic(auto)]
+
 ghost use Rattle.std.specs.Prelude.{◌≡◌, true, false, ◌+◌, ◌-◌, ◌≤◌, ◌<◌, length};
 ghost use Rattle.paper_messages.specs.Fields.{places};
 ghost use Rattle.text_bytes.specs.Bytes.{room};

@@ -1,5 +1,7 @@
 // W-212: the message of each record. Kind 1 is of an admission's id and statics, 2, 3 and 5 of a record after an
 // evaluation, 5 with its reasons, 4 of a record after a move of a side, and 8 of a record after an opening.
+#![tactic(auto)]
+
 ghost use Rattle.std.specs.Prelude.{◌≡◌, map, ◌+◌, ◌<◌, set};
 ghost use Rattle.paper_desk.specs.Sides.{limit_on};
 ghost use Rattle.paper.specs.Ranges.{flag_of, side_number};

@@ -1,4 +1,6 @@
 // W-212: the writer and the reader of messages to members, on a lent buffer.
+#![tactic(auto)]
+
 pub mod kinds; // the fields of each kind, and whether a message is valid
 mod widths; // a number, and the fields of a message, as bytes at their widths
 

@@ -2,6 +2,8 @@
 // plain numbers". Each function takes its own numbers and then the statics, in the order of the table of statics, all
 // signed, of any value, and answers one figure, or minus the refusal number. It only makes the numbers unsigned and
 // hands them on; `gateway` has the calls. A number is an argument for C, so each export lists them.
+#![tactic(auto)]
+
 ghost use Rattle.std.specs.Prelude.{◌≡◌, [], ◌∷◌};
 ghost use Rattle.paper.specs.Ranges.{unsigned, given_of};
 ghost use Rattle.paper_desk.specs.Gateway.{level_call, range_call, band_call};

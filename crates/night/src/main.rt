@@ -1,5 +1,7 @@
 // From the exchange's evening text to an evaluation of each of its securities: the words are the numbers of the day and
 // further ids, the text stands on standard input.
+#![tactic(auto)]
+
 ghost use Rattle.std.specs.Prelude.{◌≡◌, ◌≤◌, length};
 ghost use Rattle.night_protocol.specs.Night.{securities_most};
 ghost use Rattle.night_protocol.specs.Sheet.{day_numbers, words_most};

@@ -1,6 +1,8 @@
 // The program `night`: from the exchange's text to an evaluation of each of its securities (docs/EXCHANGE.md). What the
 // definitions (specs/) and the code share. This crate has no function: the crates that read and print are proved equal
 // to the definitions.
+#![tactic(auto)]
+
 use paper::Record;
 use text_protocol::EvaluatePlace;
 

@@ -1,4 +1,6 @@
 // The program `night`: what its words ask for, the lines that it prints, and the text that it takes in.
+#![tactic(auto)]
+
 pub mod reading; // the text, all its securities at once
 
 ghost use Rattle.std.specs.Prelude.{◌≡◌, false, [], ◌∷◌, ◌+◌, ◌-◌, ◌*◌, ◌≤◌, ◌<◌, pos, length, take, drop, get_or, set};

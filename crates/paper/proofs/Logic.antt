@@ -9,7 +9,7 @@ use native.Mathlib.Omega.{arith}
 use lib.IntN.{ℤ, pos, negsuc}
 use lib.Signed.{le_z}
 use borrow.Author.Tests.{leb-true, le-leb}
-pub use borrow.Author.Tests.{not-true, not-false}
+pub use borrow.Author.Tests.{not-true as not_true, not-false as not_false}
 use Rattle.paper.specs.Lists.{pick, all_three}
 
 pub not_true_and_false : (b : Bool) → b ≡ true → b ≡ false → ⊥

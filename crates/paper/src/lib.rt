@@ -1,5 +1,7 @@
 // The values that document 01 speaks of, in the forms that it names. specs/ defines what is right, a file a clause;
 // proofs/ proves it. Every number of the paper has one name here and one in specs/Numbers.antt. It uses no other crate.
+#![tactic(auto)]
+
 pub mod floats; // the format of a 64-bit float (W-211)
 
 ghost use Rattle.std.specs.Prelude.{◌≡◌, ◌≤◌};

@@ -1,6 +1,8 @@
 // The values of document 02, W-206, bonds: what is given, and what is answered. specs/ defines what is right, with
 // worked bonds in BondCases.antt; proofs/ proves it. A net evaluation and a limit are in hundredths of a per cent of
 // the face value; money is in units, as a price is. It may use `paper` and `paper_desk`.
+#![tactic(auto)]
+
 use paper::{AskedTerm, Limits, Rate, Record, Tentative, Verdict};
 
 // The statics that a bond uses, as numbers: ranges and orders are the shares', yes is 1 and no is 0.

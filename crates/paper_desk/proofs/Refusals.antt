@@ -66,6 +66,7 @@ named_is_first_or_otherwise otherwise (c ∷ cs) v e = go c.applies refl e (name
 -- and it is named wherever it is the first that applies
 pub first_is_named : {A : Type 0} (otherwise : A) (cs : List (Naming A)) (v : A) → FirstAt v cs
     → first_named otherwise cs ≡ v
+first_is_named {A = A} otherwise [] v x' = elim x' [ ]
 first_is_named otherwise (c ∷ cs) v (here w q) = rw q w
 first_is_named otherwise (c ∷ cs) v (later q rest) = rw q (first_is_named otherwise cs v rest)
 

@@ -3,3 +3,5 @@
 // parts, proofs/Good.antt what each accepted call writes, and proofs/Made.antt that of whatever is asked. This crate has no
 // function: it is proved of the paper's definitions. The demands stand on it, and the evening's text, which does not
 // judge a good record twice.
+
+#![tactic(auto)]

@@ -1,5 +1,7 @@
 // What W-212 speaks of: a field, a message, what the writer answers and what the reader hears. specs/ defines what is
 // right; proofs/ proves it. It may use `paper` and `paper_desk`.
+#![tactic(auto)]
+
 use paper::{Statics, Verdict};
 
 // A field of a message: how many bytes it has, and its range.

@@ -1,5 +1,7 @@
 // W-207, "Say why": the values that a reason is said with. specs/ defines what is right; proofs/ proves it. `None` is
 // the word `none`: where there is nothing to name. It may use `paper` and `paper_desk`.
+#![tactic(auto)]
+
 use paper::Verdict;
 
 // "which figure set the price (close, bid, ask, or yesterday)"

@@ -1,6 +1,8 @@
 // docs/BROADCAST.md, "A whole stream": what a reader keeps of a stream. specs/ defines what is right; proofs/ proves it.
 // It may use `sums`, `paper` and `paper_messages`.
 
+#![tactic(auto)]
+
 // How far a stream is heard: whether it began, how many messages of it came, and the sum of their bytes.
 #[derive(Drop)]
 pub struct Stream {

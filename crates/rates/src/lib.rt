@@ -1,5 +1,7 @@
 // The rates (7.1): from the move of a day to its volatility, the tentative rate, and the rates that `rates_level` makes
 // of it. The rules take statics and figures, and no security.
+#![tactic(auto)]
+
 pub mod tentative; // the tentative rate
 pub mod volatility; // the move and the volatility
 

@@ -1,5 +1,7 @@
 // The rate of a level (7.1). It and the level's minimum are rates; the tentative rate that it is made of is a bare
 // number, whose range is its own.
+#![tactic(auto)]
+
 mod guess; // a guess of that rate
 
 ghost use Rattle.std.specs.Prelude.{◌≡◌, ◌*◌, ◌≤◌};

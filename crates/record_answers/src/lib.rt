@@ -1,5 +1,7 @@
 // What is found of an id in a table, and what a call makes of it: the slot, the effect, and the answer of an effect.
 // The rules of the calls (`record_evaluation`, `record_monitoring`, `record_calls`) stand on it.
+#![tactic(auto)]
+
 ghost use Rattle.std.specs.Prelude.{◌≡◌};
 ghost use Rattle.paper_desk.specs.Desk.{blank, saying, showing, alerting};
 ghost use Rattle.record_answers.specs.Effects.{holds, is_known, refused_effect, answer_of};

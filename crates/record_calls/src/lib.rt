@@ -3,6 +3,8 @@
 // the other asks stand here. 1 comes first whatever is asked, so `effect_known` judges it; each rule is asked of a slot
 // that is known, and judges the refusals behind 1 in the paper's order. So the test of a sound record stands once on the
 // way of a call, and a caller that knows its outcome goes without it.
+#![tactic(auto)]
+
 pub mod admission; // the rule of an admission
 mod floats; // the price of an outside source's float
 pub mod good; // a record that every accepted call keeps sound

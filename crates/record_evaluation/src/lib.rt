@@ -1,5 +1,7 @@
 // The rule of an evaluation, by value: the slot found, the day and its rows in, an effect out. It judges the refusals
 // behind 1 in the paper's order: `record_calls::effect_of` judges 1. Of a slot that may be unknown `worked` is asked.
+#![tactic(auto)]
+
 ghost use Rattle.std.specs.Prelude.{◌≡◌, true, not, ◌&&◌, get_or};
 ghost use Rattle.paper.specs.Lists.{all_three};
 ghost use Rattle.paper.specs.Ranges.{is_price, no_limits, sound, valid_day_numbers};

@@ -1,5 +1,7 @@
 // The rules of the two calls that only a monitored security takes, a quote and a move, by value: the slot found and the
 // inputs in, an effect out. Each judges the refusals behind 1 in the paper's order: `record_calls::effect_of` judges 1.
+#![tactic(auto)]
+
 ghost use Rattle.std.specs.Prelude.{◌≡◌, true};
 ghost use Rattle.paper.specs.Ranges.{valid_quote};
 ghost use Rattle.paper.specs.Verdicts.{first_of};

@@ -1,5 +1,7 @@
 // W-207, "Say why", by value: the slot found and the inputs in, why an evaluation of them is answered as it is out. The
 // evaluation itself is worked out once, by the rule that `evaluate` has (`record_evaluation::worked`).
+#![tactic(auto)]
+
 mod faults; // which row or term is at fault in a refused evaluation
 pub mod fields; // which number is at fault in an admission that is refused 4
 pub mod reasons; // which figure set each of the record's

@@ -1,5 +1,7 @@
 // Document 01, "What the desk covers": a record with a field outside its range, order, multiple of h or grid "counts as
 // no such id". `sound` is judged whatever a lent table holds.
+#![tactic(auto)]
+
 ghost use Rattle.std.specs.Prelude.{◌≡◌, ◌&&◌, get_or};
 ghost use Rattle.paper.specs.Lists.{all_three};
 ghost use Rattle.paper.specs.Ranges.{is_live, last_day, is_rate, rate_at, grid_of, is_limit, valid_limits, no_limits};

@@ -1,5 +1,7 @@
 // What each call but an evaluation writes (`figures` has that): the record after an admission, the record after a move,
 // and the record that a quote, an opening of the evening or a receipt of outside prices leaves (`watching`).
+#![tactic(auto)]
+
 pub mod figures; // the record that an evaluation writes
 
 ghost use Rattle.std.specs.Prelude.{◌≡◌, true, ◌<◌, get_or};

@@ -1,4 +1,6 @@
 // The day's rows (document 01, "Units and ranges"): seven signed numbers each, lent in one slice, checked and read.
+#![tactic(auto)]
+
 ghost use Rattle.std.specs.Prelude.{◌≡◌, true, ◌&&◌, ◌+◌, ◌%◌, ◌≤◌, ◌<◌, ltb, length, get_or, pos};
 ghost use Rattle.paper.specs.Lists.{every};
 ghost use Rattle.paper.specs.Numbers.{row_numbers};

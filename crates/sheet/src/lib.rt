@@ -2,6 +2,8 @@
 // the rule of `record_evaluation`, and the root. Nothing else stands here, so that the rule has one caller: the compiler
 // then makes one function of it, as it does of the tuned version, and copies no record for a call. The table is not
 // part of it, since its records cannot cross to C; the benchmark runs the whole programs besides.
+#![tactic(auto)]
+
 ghost use Rattle.std.specs.Prelude.{◌≤◌};
 
 use paper::ONE_IN_TEN_THOUSANDTHS;

@@ -1,6 +1,8 @@
 // What the benchmark measures of the answers, for Rust to link: the rule of an evaluation with the answer that it
 // makes, asking why by the rule of `record_reasons`, and a reading. One loop over the days serves all, and its promise
 // is proved once.
+#![tactic(auto)]
+
 use paper::{Day, Record, Verdict};
 use paper_reasons::{
     LevelReason, PriceReason, ReplacementReason, TentativeReason, WeightReason, Why,

@@ -1,6 +1,8 @@
 // What the benchmark hands to the proved rules, and what it adds up of a record: one security, read as the evening
 // reads an `admit` and admitted by its rule (`record_calls::admission`), and its days. `sheet` evaluates them, and
 // `sheet_answers` asks the rest of them.
+#![tactic(auto)]
+
 use exact::unsigned;
 use paper::{Day, Record, Term};
 use record_answers::Slot;

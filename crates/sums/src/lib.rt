@@ -1,5 +1,7 @@
 // CRC-32 (IEEE 802.3), the sum by which a feed and a journal are known to be whole. specs/ defines it, bit by bit;
 // proofs/ proves that a table of what eight steps make of each byte gives the same. It uses nothing.
+#![tactic(auto)]
+
 mod steps; // what eight steps make of each byte
 
 ghost use Rattle.std.specs.Prelude.{◌≡◌};

@@ -1,5 +1,7 @@
 // What the evening's text answers to the calls of the table, appended to a lent buffer: the parts of a record in order,
 // a quote's two alerts or a number alone; and what it answers to a line that is no call.
+#![tactic(auto)]
+
 pub mod interest_line; // an interest line's answer
 pub mod record; // the parts of a record
 pub mod why; // the answer that says why

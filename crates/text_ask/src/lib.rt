@@ -1,5 +1,7 @@
 // What a line asks for goes to the desk. Where it is asked why of an evaluation, `desk::reasons` says it first, on the
 // table as it stands; then the call is performed. Nothing here looks into an answer or a reason.
+#![tactic(auto)]
+
 ghost use Rattle.std.specs.Prelude.{◌≡◌, true};
 ghost use Rattle.record_answers.specs.Effects.{is_known};
 ghost use Rattle.desk.specs.Guesses.{slot_at};

@@ -1,5 +1,7 @@
 // The evening's bond line (document 02, W-206): what the call is given, from the numbers of the line, and its answer,
 // appended to a lent buffer. How a bond is worked out is the crate `bond`'s; nothing here depends on it.
+#![tactic(auto)]
+
 ghost use Rattle.std.specs.Prelude.{◌≡◌, ◌++◌, ◌+◌, ◌*◌, ◌≤◌};
 ghost use Rattle.text_bytes.specs.Bytes.{room};
 ghost use Rattle.text_protocol.specs.Calls.{bond_statics_of, bond_of};

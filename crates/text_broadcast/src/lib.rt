@@ -1,6 +1,8 @@
 // What a line is broadcast as (document 02, W-212): the messages of its call, by the call's role, appended to a lent
 // buffer by the writer of the library; and the messages that begin and end a stream of them. Nothing here depends on how
 // a message is encoded.
+#![tactic(auto)]
+
 ghost use Rattle.std.specs.Prelude.{◌≡◌, ◌+◌, ◌≤◌, length, set};
 ghost use Rattle.text_bytes.specs.Bytes.{room};
 ghost use Rattle.text_protocol.specs.Answers.{answer_most};

@@ -1,6 +1,8 @@
 // What a text is made of, whoever writes it: bytes, the words and lines that they make, and the digits of a number.
 // This crate has no function: it has what the definitions (specs/) and the code share, and knows no call.
 
+#![tactic(auto)]
+
 // The bytes of each buffer: of what is read, and of the answers that wait.
 pub const ROOM: usize = 65_536;
 

@@ -1,5 +1,7 @@
 // What a call is given, from the numbers of its line. Each number is read at the place of its name
 // (text_protocol/specs/Names.antt). A float is made of the 64 bits that a number has.
+#![tactic(auto)]
+
 pub mod kept; // what is kept of the interest lines
 
 ghost use Rattle.std.specs.Prelude.{◌≡◌, List, ◌≤◌, min, ℤ, pos, drop, get_or};

@@ -1,6 +1,8 @@
 // What a line asks for, and what is answered to it at once where that stands beside the table; and the text of its
 // answer, in each way that lines are told. A way of telling more is a case more of `asks_why`, `in_words` and
 // `say_call`.
+#![tactic(auto)]
+
 ghost use Rattle.std.specs.Prelude.{◌≡◌, ◌+◌, ◌≤◌};
 ghost use Rattle.text_bytes.specs.Bytes.{room};
 ghost use Rattle.text_protocol.specs.Calls.{deed_of, deed_asked};

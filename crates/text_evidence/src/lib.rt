@@ -2,6 +2,8 @@
 // values are private: no other crate can build one, so that whoever claims that the input has ended, that all was
 // written or that a write failed must hold the evidence. What these two calls did no contract can say: `fill` and `hand`
 // are what a reader has to see for himself.
+#![tactic(auto)]
+
 ghost use Rattle.std.specs.Prelude.{◌≡◌, ◌-◌, ◌≤◌, length, take, drop};
 ghost use Rattle.text_evidence.specs.Evidence.{Counted, unread, unwritten, has_ended, has_failed, is_well};
 ghost use Rattle.text_evidence.specs.Evidence.{took_all, Fills, Hands};

@@ -1,4 +1,6 @@
 // Standard input over a lent buffer: the next line of it, whatever pieces `read` delivers it in.
+#![tactic(auto)]
+
 ghost use Rattle.std.specs.Prelude.{◌≡◌, List, ℕ, ◌+◌, ◌-◌, ◌≤◌, length, take, drop};
 ghost use Rattle.text_input.specs.Input.{Stands, Waits, Unbroken, Passes, Readied, LongPassed, Hears};
 ghost use Rattle.text_bytes.specs.Bytes.{room};

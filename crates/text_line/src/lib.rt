@@ -1,4 +1,6 @@
 // What a line of the evening's text says: its call, with the numbers in a lent array.
+#![tactic(auto)]
+
 ghost use Rattle.std.specs.Prelude.{◌≡◌, false, [], ◌≤◌, length, take, drop};
 ghost use Rattle.text_bytes.specs.Bytes.{words};
 ghost use Rattle.text_protocol.specs.Names.{kind_of, takes};

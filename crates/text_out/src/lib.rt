@@ -1,5 +1,7 @@
 // Text appended to a lent buffer: a byte, a number, a signed number; the bytes of a word, and numbers with a blank
 // before each. Nothing is copied: each function stores its bytes in place and answers where they end.
+#![tactic(auto)]
+
 ghost use Rattle.std.specs.Prelude.{◌≡◌, [], ◌∷◌, ◌++◌, ◌+◌, ◌-◌, ◌≤◌, ◌<◌, ◌^◌, pos, length};
 ghost use Rattle.paper.specs.Numbers.{all_numbers_most};
 ghost use Rattle.text_bytes.specs.Numbers.{decimal, signed};

@@ -1,6 +1,8 @@
 // The calls of the evening's text, as docs/EVENING.md gives them: what the definitions (specs/) and the code share.
 // The definitions say what a line of text means and what is printed, and every other crate of the evening is proved
 // equal to them. What bytes, words and numbers are stands below, in text_bytes.
+#![tactic(auto)]
+
 ghost use Rattle.std.specs.Prelude.{◌≡◌};
 ghost use Rattle.text_protocol.specs.Calls.{role_of};
 

@@ -1,5 +1,7 @@
 // A turn of the evening on a lent table, and every turn: a line of standard input is heard, performed on the table and
 // answered.
+#![tactic(auto)]
+
 ghost use Rattle.std.specs.Prelude.{◌≡◌, ◌+◌, ◌-◌, ◌≤◌, eqb, length, take, drop, replicate, get_or, set};
 ghost use Rattle.paper_desk.specs.Desk.{blank};
 ghost use Rattle.text_input.specs.Input.{Stands};

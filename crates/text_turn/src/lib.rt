@@ -1,5 +1,7 @@
 // The first half of a turn, before the table is asked: the next line is heard. The state that goes on from turn to turn
 // stands here too, and what the second half (`after`) is handed. Neither half sees the table.
+#![tactic(auto)]
+
 pub mod after; // the second half, after the table is asked
 
 ghost use Rattle.std.specs.Prelude.{◌≡◌, length, take, drop};

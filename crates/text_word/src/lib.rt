@@ -1,4 +1,6 @@
 // The words of a line, lent: where they begin and end, and which number a word spells.
+#![tactic(auto)]
+
 ghost use Rattle.std.specs.Prelude.{◌≡◌, true, ◌+◌, ◌≤◌, ◌<◌, ◌^◌, length, take, drop};
 ghost use Rattle.text_bytes.specs.Bytes.{is_blank, is_not, run, same};
 ghost use Rattle.text_bytes.specs.Numbers.{size_from, up_to, above, below, number_of, greatest, least};

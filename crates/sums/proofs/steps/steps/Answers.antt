@@ -1,11 +1,10 @@
 -- `sums::steps::steps` meets its contract: the table's rule is a test at each of its entries, which antt computes.
 use mathlib.Core.List.{List, [], ◌∷◌}
-use Prim.Native.Nat.{ℕ, ◌<◌}
+use Prim.Native.Nat.{ℕ}
 use Rattle.sums.specs.Sums.{byte_bits, divided}
 use Rattle.sums.specs.Steps.{divided_by}
 use Rattle.sums.proofs.Table.{entry}
-use Rattle.sums.proofs.steps.steps.Statement.{statement}
-use Rattle.sums.proofs.steps.steps.Tie as tie
+use Rattle.sums.proofs.steps.steps.Goals as goal
 
 -- the entries of `STEPS`
 table : List ℕ
@@ -43,9 +42,6 @@ table =
     ∷ 1423857449 ∷ 601450431 ∷ 3009837614 ∷ 3294710456 ∷ 1567103746 ∷ 711928724 ∷ 3020668471 ∷ 3272380065
     ∷ 1510334235 ∷ 755167117 ∷ []
 
-returns : tie.Need-returns
+pub returns : goal.returns
 unfolding divided_by divided table
 returns c = λ byte below. entry (divided_by byte_bits) table tt byte below
-
-pub steps_spec : {M : Type 1} → statement M
-steps_spec = tie.close (tie.spec returns)

@@ -1,0 +1,267 @@
+#!/usr/bin/env python3
+"""Turns proofs that close a function's goals by its module Tie into files of invariants and answers.
+
+usage: tools/answers.py NAMES [--crate NAME] [FOLDER..]   at the top of the repository
+
+NAMES is names.json, as `rt check --generated DIR --old-names` writes it in a crate's folder: the old and the new name of each goal
+and of each step. FOLDER is a function's folder of proofs; with none, all of the crate's. An answer that only searches is
+left out, since the check searches by itself. The old file is kept beside as Proof.antt.old, for the hand to look at.
+"""
+import json
+import os
+import re
+import sys
+
+TOKEN = re.compile(r"[^\s(){}.;,@\"«»\[\]]+")
+TRIVIAL = {"search rules", "search needs", "omega arith"}
+
+
+def norm(name):
+    name = re.sub(r"^overflow[-_]", "", name)
+    return re.sub(r"[-_]", "", name).lower()
+
+
+def blocks_of(text):
+    """The top-level blocks: comments stay with what follows them."""
+    blocks, now = [], []
+    for line in text.split("\n"):
+        if not line.strip():
+            now.append(line)
+            continue
+        starts = not line[0].isspace() and line[0] not in ")}]"
+        if starts and now and any(l.strip() for l in now):
+            last = [l for l in now if l.strip()]
+            only_comments = all(l.startswith("--") for l in last)
+            if line.startswith("--") and (not only_comments or not now[-1].strip()):
+                blocks.append(now)
+                now = [line]
+                continue
+            head = re.match(r"(?:(?:abbrev|unfoldable|pub) )*(\S+)", line).group(1)
+            first = next((l for l in last if not l.startswith("--")), "")
+            declared = re.match(r"(?:(?:abbrev|unfoldable|pub|data|record) )*(\S+)", first).group(1) if first else None
+            same = declared and (head == declared or line.startswith("unfolding") or line.startswith("where"))
+            if not only_comments and not same and not line.startswith(("→", "∙", "×")):
+                blocks.append(now)
+                now = [line]
+                continue
+        now.append(line)
+    if any(l.strip() for l in now):
+        blocks.append(now)
+    return ["\n".join(b).strip("\n") for b in blocks]
+
+
+def code_of(block):
+    return "\n".join(l for l in block.split("\n") if not l.startswith("--"))
+
+
+def chains(text, roots, steps):
+    """Paths of a proof's context, without the way back to where a step was made."""
+    aliases = set(roots)
+    while True:
+        m = re.search(r"let (\S+) = (\S+?)((?:\.before)*) in(?:[ \n]+|$)", text)
+        found = None
+        for m in re.finditer(r"let (\S+) = ([^\s.]+)((?:\.before)*) in(?:[ \n]+|$)", text):
+            if m.group(2) in aliases:
+                found = m
+                break
+        if not found:
+            break
+        alias, root = found.group(1), found.group(2)
+        indent = ""
+        if "\n" in found.group(0):
+            line_start = text.rfind("\n", 0, found.start()) + 1
+            before = text[line_start:found.start()]
+            indent = "\n" + before if not before.strip() and line_start else " "
+            rest = text[found.end():].lstrip()
+            text = text[:found.start()] + rest
+        else:
+            text = text[:found.start()] + text[found.end():]
+        text = re.sub(rf"(?<![^\s(){{}};,\[\]]){re.escape(alias)}(?=[.\s)}};,\]])", root, text)
+
+    def one(m):
+        root, path = m.group(1), m.group(2)
+        parts = path.split(".")[1:]
+        parts = [p for i, p in enumerate(parts) if p != "before"]
+        if not parts:
+            return root
+        new = steps.get(norm(parts[0]))
+        if new and parts[0] not in ("args", "requires", "ranges"):
+            parts[0] = new
+        return root + "." + ".".join(parts)
+
+    names = "|".join(re.escape(a) for a in sorted(aliases, key=len, reverse=True))
+    return re.sub(rf"(?<![^\s(){{}};,\[\]])({names})((?:\.[^\s(){{}}.;,@\"«»\[\]]+)+)", one, text)
+
+
+def substitute(body, by):
+    def one(m):
+        if m.start() and body[m.start() - 1] == ".":
+            return m.group(0)
+        return by.get(m.group(0), m.group(0))
+    return TOKEN.sub(one, body)
+
+
+def used(imports, text):
+    """The imports of which the text uses something."""
+    words = set(TOKEN.findall(text))
+    for w in list(words):
+        words.update(re.findall(r"[^\w\s]+|\w+", w))
+    kept = []
+    for line in imports:
+        m = re.match(r"use (\S+?)\.\{(.*)\}$", line.replace("\n", " "))
+        if m:
+            names = []
+            for n in re.split(r",\s*", m.group(2)):
+                bare = n.split(" as ")[-1].strip()
+                op = bare.replace("◌", "")
+                if bare in words or (op != bare and op and op in text) or (bare == "[]" and "[]" in text):
+                    names.append(n.strip())
+            if names:
+                kept.append(f"use {m.group(1)}.{{{', '.join(names)}}}")
+            continue
+        m = re.match(r"use (\S+?)(?: as (\S+))?$", line)
+        name = m.group(2) or m.group(1).split(".")[-1]
+        if re.search(rf"(?<![^\s(){{}};,\[\]]){re.escape(name)}\.", text):
+            kept.append(line)
+    return kept
+
+
+def convert(path, key, made, crate, function_path):
+    with open(path, encoding="utf-8") as f:
+        text = f.read()
+    if "tie." not in text:
+        print(f"walk: {path}")
+        return
+    needs = {}
+    for old, new in made["needs"]:
+        needs.setdefault(norm(old), []).append(new)
+        needs.setdefault(norm(new), []).append(new)
+    steps = {}
+    for _, _, (old, new), *_ in made["places"]:
+        if old:
+            steps.setdefault(norm(old), new)
+    loops = {}
+    for i, ((old, new), variables) in enumerate(made["loops"]):
+        loops[norm(old)] = (new, variables, made["changed"][i] if i < len(made["changed"]) else [])
+        steps[norm(old)] = new
+    head, imports, invariants, answers, helpers = "", [], [], [], []
+    left = []
+    blocks = blocks_of(text)
+    for b in blocks:
+        code = code_of(b)
+        comment = "\n".join(l for l in b.split("\n") if l.startswith("--"))
+        if not code.strip():
+            head = head or b
+            continue
+        if code.startswith("use "):
+            lines = re.findall(r"(?ms)^use .*?(?=^use |\Z)", code)
+            imports += [l.strip() for l in lines]
+            if comment and not head:
+                head = comment
+            continue
+        m = re.match(r"(?:abbrev (?:pub )?)?(\S+) : tie\.(invariant|decreases)-(\S+)\s*\n(unfolding [^\n]*\n)?(\S+)([^=]*)= ?(.*)\Z", code, re.S)
+        if m:
+            kind, loop, params, body = m.group(2), m.group(3), m.group(6).split(), m.group(7)
+            if norm(loop) not in loops:
+                left.append(f"loop {loop}")
+                continue
+            new, variables, changed = loops[norm(loop)]
+            by = {}
+            changing = [v for v, c in zip(variables, changed) if c]
+            if len(params) == len(variables) + len(changing):
+                for p, v, c in zip(params, variables, changed):
+                    by[p] = f"l.initial.{v}" if c else f"l.{v}"
+                for p, v in zip(params[len(variables):], changing):
+                    by[p] = f"l.{v}"
+            else:
+                left.append(f"loop {loop}: {len(params)} parameters, {len(variables)} variables, {len(changing)} change")
+                for p in params:
+                    v = p.rstrip("₀")
+                    by[p] = f"l.initial.{v}" if p.endswith("₀") else f"l.{v}"
+            name = f"{kind}-{new}"
+            opened = m.group(4) or ""
+            invariants.append(f"{comment + chr(10) if comment else ''}abbrev pub {name} : goal.{name}\n{opened}{name} l =" + (" " if not body.startswith("\n") else "") + substitute(body, by))
+            continue
+        m = re.match(r"(?:pub )?(\S+) : tie\.Need-(\S+)[^\n]*((?:\n    [^\n]*)*?)\n(unfolding [^\n]*(?:\n    [^\n=]*)*\n)?(\S+)((?: [^\s=]+)*) =(.*)\Z", code, re.S)
+        if m:
+            old, opened, params, body = m.group(2), m.group(4) or "", m.group(6).split(), m.group(7)
+            found = needs.get(norm(old))
+            if not found:
+                left.append(f"goal {old}")
+                helpers.append("-- no goal now: " + old + "\n" + "\n".join("-- " + l for l in code.split("\n")))
+                continue
+            new = found[0]
+            if not opened and body.strip() in TRIVIAL:
+                continue
+            root = params[0] if params else "c"
+            body = chains(body, [root], steps)
+            answers.append((new, m.group(1), comment, opened, root, params[1:], body))
+            continue
+        if re.search(r": \{M : Type 1\}", code) and "tie.close" in code:
+            continue
+        helpers.append((comment + "\n" if comment else "") + chains(code, ["c"], steps))
+    # An answer that another one cites keeps its name as a helper would: the goal's own name stands for it.
+    renamed = {old: new for new, old, *_ in answers if old != new}
+    out = []
+    for new, old, comment, opened, root, more, body in answers:
+        extra = [p for p in more if re.search(rf"(?<![^\s(){{}};,.\[\]]){re.escape(p)}(?![^\s(){{}};,.\[\]])", body)]
+        if extra:
+            left.append(f"goal {new}: cites {' '.join(extra)}")
+        body = substitute(body, renamed)
+        out.append(f"{comment + chr(10) if comment else ''}pub {new} : goal.{new}\n{opened}{new} {root} ={body}")
+    folder = os.path.dirname(path)
+    base = f"Rattle.{crate}.proofs.{function_path}"
+    gone = re.compile(rf"{re.escape(base)}\.(Tie|Statement|Lts|Reads)\b")
+    imports = [l for l in imports if not gone.search(l)]
+    if invariants:
+        body = "\n\n".join(invariants)
+        shared = [h for h in helpers if re.match(r"(?:--[^\n]*\n)*(?:abbrev|unfoldable)", h) and any(re.search(rf"(?<![^\s(){{}};,.]){re.escape(w)}(?![^\s(){{}};,.])", body) for w in re.findall(r"(?m)^(?:abbrev |unfoldable |pub )+(\S+) :", h))]
+        helpers = [h for h in helpers if h not in shared]
+        names = []
+        for i, h in enumerate(shared):
+            shared[i] = re.sub(r"(?m)^(abbrev|unfoldable) (?!pub)", r"\1 pub ", h)
+            names += re.findall(r"(?m)^(?:abbrev |unfoldable |pub )+(\S+) :", shared[i])
+        body = "\n\n".join(shared + invariants)
+        kept = used(imports, body) + [f"use {base}.Given as goal"]
+        with open(os.path.join(folder, "Invariants.antt"), "w", encoding="utf-8") as f:
+            f.write((head + "\n" if head else "") + "\n".join(kept) + "\n\n" + body + "\n")
+        if names:
+            imports.append(f"use {base}.Invariants.{{{', '.join(names)}}}")
+        head = ""
+    if out:
+        body = "\n\n".join(helpers + out)
+        kept = used(imports, body) + [f"use {base}.Goals as goal"]
+        with open(os.path.join(folder, "Answers.antt"), "w", encoding="utf-8") as f:
+            f.write((head + "\n" if head else "") + "\n".join(kept) + "\n\n" + body + "\n")
+    os.rename(path, path + ".old")
+    for l in left:
+        print(f"left: {path}: {l}")
+
+
+def main(words):
+    names, folders, crate = None, [], None
+    while words:
+        w = words.pop(0)
+        if w == "--crate":
+            crate = words.pop(0)
+        elif names is None:
+            names = w
+        else:
+            folders.append(w.rstrip("/"))
+    with open(names, encoding="utf-8") as f:
+        made = json.load(f)
+    for key, value in made.items():
+        m = re.match(r"Rattle-(\w+)-proofs\.(.*)\.Lts$", key)
+        if not m or not isinstance(value, dict) or (crate and m.group(1) != crate):
+            continue
+        folder = f"crates/{m.group(1)}/proofs/" + m.group(2).replace(".", "/")
+        path = folder + "/Proof.antt"
+        if folders and folder not in folders:
+            continue
+        if os.path.exists(path):
+            convert(path, key, value, m.group(1), m.group(2))
+    return 0
+
+
+if __name__ == "__main__":
+    raise SystemExit(main(sys.argv[1:]))
