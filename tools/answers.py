@@ -17,7 +17,7 @@ TRIVIAL = {"search rules", "search needs", "omega arith"}
 
 
 def norm(name):
-    name = re.sub(r"^overflow[-_]", "", name)
+    name = re.sub(r"^(overflow|nonzero)[-_]", "", name)
     return re.sub(r"[-_]", "", name).lower()
 
 
@@ -54,10 +54,10 @@ def code_of(block):
     return "\n".join(l for l in block.split("\n") if not l.startswith("--"))
 
 
-def chains(text, roots, steps):
-    """Paths of a proof's context, without the way back to where a step was made."""
+def chains(text, roots, steps, drop=True):
+    """Paths of a proof's context, without the way back to where a step was made, unless they lead through a record of it."""
     aliases = set(roots)
-    while True:
+    while drop:
         m = re.search(r"let (\S+) = (\S+?)((?:\.before)*) in(?:[ \n]+|$)", text)
         found = None
         for m in re.finditer(r"let (\S+) = ([^\s.]+)((?:\.before)*) in(?:[ \n]+|$)", text):
@@ -81,7 +81,12 @@ def chains(text, roots, steps):
     def one(m):
         root, path = m.group(1), m.group(2)
         parts = path.split(".")[1:]
-        parts = [p for i, p in enumerate(parts) if p != "before"]
+        back = len(parts)
+        while parts and parts[0] == "before":
+            parts.pop(0)
+        back -= len(parts)
+        if not drop:
+            root += ".before" * back
         if not parts:
             return root
         new = steps.get(norm(parts[0]))
@@ -126,6 +131,81 @@ def used(imports, text):
     return kept
 
 
+def clauses_of(crate):
+    """The names of the clauses of each function, by its path, where a kind has several: {path: {kind: [name, ..]}}."""
+    found = {}
+    top = f"crates/{crate}/src"
+    for folder, _, files in os.walk(top):
+        for name in files:
+            if not name.endswith(".rt"):
+                continue
+            with open(os.path.join(folder, name), encoding="utf-8") as f:
+                text = re.sub(r"//[^\n]*", "", f.read())
+            module = os.path.relpath(os.path.join(folder, name), top)[:-3].replace("/", "::")
+            module = "" if module in ("lib", "main") else module + "::"
+            owner = ""
+            for m in re.finditer(r"(?m)^impl(?:<[^{]*?>)? (?:\w+ for )?(\w+)[^{\n]*\{|^\}|^ *(?:pub(?:\([^)]*\))? )?(?:const )?(?:extern \"C\" )?fn (\w+)", text):
+                if m.group(1):
+                    owner = m.group(1) + "::"
+                elif m.group(0) == "}":
+                    owner = "" if text[:m.start()].rstrip().endswith("}") or True else owner
+                else:
+                    head = text[m.end():]
+                    stop = re.search(r"\n *\{\n|\n *\{ *\}|;\n", head)
+                    head = head[:stop.start()] if stop else head
+                    kinds = {}
+                    for kind in ("requires", "ensures"):
+                        names = re.findall(rf"\b{kind} (\w+) \{{", head)
+                        if len(names) > 1:
+                            kinds[kind] = names
+                    if kinds:
+                        found[f"{crate}::{module}{owner}{m.group(2)}"] = kinds
+    return found
+
+
+def parts_of_tuple(body):
+    """Where a body ends in a tuple: where that begins, and its parts."""
+    text = body.rstrip()
+    if not text.endswith(")"):
+        return None
+    depth = 0
+    for at in range(len(text) - 1, -1, -1):
+        depth += {")": 1, "]": 1, "}": 1, "(": -1, "[": -1, "{": -1}.get(text[at], 0)
+        if depth == 0:
+            break
+    before = text[:at].rstrip()
+    if before and not before.endswith((" in", "\nin")):
+        return None
+    parts, now, depth = [], "", 0
+    for ch in text[at + 1:-1]:
+        depth += {"(": 1, "[": 1, "{": 1, ")": -1, "]": -1, "}": -1}.get(ch, 0)
+        if ch == "," and depth == 0:
+            parts.append(now)
+            now = ""
+        else:
+            now += ch
+    if now.strip():
+        parts.append(now)
+    return at, [p.strip() for p in parts]
+
+
+def as_record(body, names):
+    found = parts_of_tuple(body)
+    if not found or len(found[1]) != len(names):
+        return body
+    at, parts = found
+    fields = "; ".join(f"{n} = {p}" for n, p in zip(names, parts))
+    return body[:at] + "record { " + fields + " }"
+
+
+def named(text, clauses, kind):
+    """Places of clauses, by their names."""
+    names = clauses.get(kind)
+    if not names:
+        return text
+    return re.sub(rf"\.{kind}\.(\d)(?![\w])", lambda m: f".{kind}.{names[int(m.group(1))]}" if int(m.group(1)) < len(names) else m.group(0), text)
+
+
 def convert(path, key, made, crate, function_path):
     with open(path, encoding="utf-8") as f:
         text = f.read()
@@ -144,7 +224,16 @@ def convert(path, key, made, crate, function_path):
     for i, ((old, new), variables) in enumerate(made["loops"]):
         loops[norm(old)] = (new, variables, made["changed"][i] if i < len(made["changed"]) else [])
         steps[norm(old)] = new
+    known = CLAUSES
+    own = known.get(crate + "::" + function_path.replace(".", "::"), {})
+    of_callee = {}
+    for _, _, (old, new), callee, *_ in made["places"]:
+        if callee:
+            of_callee[new] = known.get(callee, {})
+    by_word = {callee.split("::")[-1]: known.get(callee, {}) for callee in made["params"]}
     head, imports, invariants, answers, helpers = "", [], [], [], []
+    takes = {}
+    places = {norm(entry[0]): new for entry, new in zip(made["places"], made["places_by_name"])}
     left = []
     blocks = blocks_of(text)
     for b in blocks:
@@ -191,15 +280,29 @@ def convert(path, key, made, crate, function_path):
                 helpers.append("-- no goal now: " + old + "\n" + "\n".join("-- " + l for l in code.split("\n")))
                 continue
             new = found[0]
+            body = named(body, own, "requires")
+            m_callee = re.match(r"(.*?)[-_]requires(?:[-_]\d+)?$", old)
+            if m_callee:
+                for word, kinds in by_word.items():
+                    if norm(word) == norm(m_callee.group(1)) and "requires" in kinds:
+                        body = as_record(body, kinds["requires"])
+            if re.match(r"returns", old) and "ensures" in own:
+                body = as_record(body, own["ensures"])
             if not opened and body.strip() in TRIVIAL:
                 continue
             root = params[0] if params else "c"
-            body = chains(body, [root], steps)
+            body = ensured(chains(body, [root], steps), of_callee)
             answers.append((new, m.group(1), comment, opened, root, params[1:], body))
             continue
         if re.search(r": \{M : Type 1\}", code) and "tie.close" in code:
             continue
-        helpers.append((comment + "\n" if comment else "") + chains(code, ["c"], steps))
+        for name, place in re.findall(r"(?m)^(?:abbrev |unfoldable |pub )*(\S+) :[^\n]*?\btie\.((?:After|At|In|Then|Else|Start|Untold)\S*?)(?=[ )]|$)", code):
+            if norm(place) in places:
+                takes[name] = places[norm(place)]
+        code = re.sub(r"\btie\.((?:After|At|In|Then|Else|Start|Untold)[^\s()]*)((?: (?:invariant|decreases)-[^\s()]+)*)",
+                      lambda m: places.get(norm(m.group(1)), "tie." + m.group(1)), code)
+        code = named(code, own, "requires")
+        helpers.append((comment + "\n" if comment else "") + chains(code, ["c", "c'"], steps, drop=False))
     # An answer that another one cites keeps its name as a helper would: the goal's own name stands for it.
     renamed = {old: new for new, old, *_ in answers if old != new}
     out = []
@@ -208,6 +311,8 @@ def convert(path, key, made, crate, function_path):
         if extra:
             left.append(f"goal {new}: cites {' '.join(extra)}")
         body = substitute(body, renamed)
+        for helper, place in takes.items():
+            body = re.sub(rf"(?<![^\s(){{}};,\[\]]){re.escape(helper)} {re.escape(root)}(?![^\s(){{}};,\[\]])", f"{helper} (goal.at.{new} {root}).{place}", body)
         out.append(f"{comment + chr(10) if comment else ''}pub {new} : goal.{new}\n{opened}{new} {root} ={body}")
     folder = os.path.dirname(path)
     base = f"Rattle.{crate}.proofs.{function_path}"
@@ -231,6 +336,9 @@ def convert(path, key, made, crate, function_path):
     if out:
         body = "\n\n".join(helpers + out)
         kept = used(imports, body) + [f"use {base}.Goals as goal"]
+        named = sorted({p for p in places.values() if re.search(rf"(?<![^\s(){{}};,\[\]]){re.escape(p)}(?![^\s(){{}};,\[\]])", body)})
+        if named:
+            kept.append(f"use {base}.Goals.{{{', '.join(named)}}}")
         with open(os.path.join(folder, "Answers.antt"), "w", encoding="utf-8") as f:
             f.write((head + "\n" if head else "") + "\n".join(kept) + "\n\n" + body + "\n")
     os.rename(path, path + ".old")
@@ -238,7 +346,21 @@ def convert(path, key, made, crate, function_path):
         print(f"left: {path}: {l}")
 
 
+CLAUSES = {}
+
+
+def ensured(text, of_callee):
+    """Places of what a call ensures, by the clauses' names."""
+    for step, kinds in of_callee.items():
+        names = kinds.get("ensures")
+        if names:
+            text = re.sub(rf"\.{re.escape(step)}\.ensures\.(\d)(?!\w)", lambda m: f".{step}.ensures.{names[int(m.group(1))]}", text)
+    return text
+
+
 def main(words):
+    for c in os.listdir("crates"):
+        CLAUSES.update(clauses_of(c))
     names, folders, crate = None, [], None
     while words:
         w = words.pop(0)
