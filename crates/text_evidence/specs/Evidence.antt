@@ -1,5 +1,5 @@
--- What is known of the two calls of C: how much was offered and came, how much was handed over and taken. Which bytes
--- came, and where those that were taken went, is C's part.
+-- What is known of the two calls of std: how much was offered and came, how much was handed over and taken. Which bytes
+-- came, and where those that were taken went, is std's part.
 use Rattle.std.specs.Prelude.{◌≡◌, refl, Bool, true, false, not, ◌&&◌, List, ℕ, zero, suc, ◌+◌, ◌-◌, ◌≤◌, ◌<◌, min, eqb, ltb, length, take}
 use Rattle.std.proofs.Common.{arith, eqb-true, lt-ltb}
 use Rattle.std.proofs.lemmas.Bool.{eqb-false}
@@ -51,7 +51,7 @@ not_ended_is_some d h e = positive d.came (eqb-false d.came 0 (rw (lt-ltb 0 d.ro
     positive zero k = absurd (k refl)
     positive (suc n) k = omega arith
 
--- a read failed: nothing came, and C said so
+-- a read failed: nothing came, and std said so
 abbrev pub has_failed : Delivered → Bool
 has_failed d = has_ended d && not (eqb d.failed 0)
 

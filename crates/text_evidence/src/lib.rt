@@ -1,21 +1,22 @@
-// The two calls of C by which the text's programs read and write, and what a call did, as a value. The fields of these
-// values are private: no other crate can build one, so that whoever claims that the input has ended, that all was
+// The two calls of std by which the text's programs read and write, and what a call did, as a value. The fields of
+// these values are private: no other crate can build one, so that whoever claims that the input has ended, that all was
 // written or that a write failed must hold the evidence. What these two calls did no contract can say: `fill` and `hand`
 // are what a reader has to see for himself.
 #![tactic(auto)]
 
-ghost use Rattle.std.specs.Prelude.{◌≡◌, ◌-◌, ◌≤◌, length, take, drop};
+ghost use Rattle.std.specs.Prelude.{◌≡◌, ◌-◌, ◌≤◌, length, take, drop, IfOk, OnErr};
 ghost use Rattle.text_evidence.specs.Evidence.{Counted, unread, unwritten, has_ended, has_failed, is_well};
 ghost use Rattle.text_evidence.specs.Evidence.{took_all, Fills, Hands};
 
-use libc::{STDIN_FILENO, STDOUT_FILENO};
+use std::io;
+use std::io::{Read, Stdin, Stdout, Write};
 
 // ---- the input
 
 // What `read` did: so many bytes came in `all` its calls so far, as many as 64 bits can count; the last call offered
-// so much `room`, so many bytes `came`, and it `failed` unless that is 0, as C said. Each field fills its eight bytes: the
+// so much `room`, so many bytes `came`, and it `failed` unless that is 0, as std said. Each field fills its eight bytes: the
 // state is copied in every turn, and a yes or no would be copied with a gap beside it, which takes longer than all four.
-#[derive(Drop)]
+#[derive(Clone, Copy)]
 pub struct Delivered {
     all: u64,
     room: usize,
@@ -57,7 +58,7 @@ impl Delivered {
         (0 < self.room) & (self.came == 0)
     }
 
-    // Whether a read failed: nothing came, and C said so.
+    // Whether a read failed: nothing came, and std said so.
     pub fn has_failed(self) -> bool
         ensures { result ≡ has_failed self }
     {
@@ -82,6 +83,17 @@ fn counted(all: u64, more: u64) -> u64
     u64::MAX
 }
 
+// How many bytes a read or a write moved: none where it failed.
+fn count_of(got: io::Result<usize>) -> usize
+    ensures ok { IfOk got (λ n. result ≡ n) }
+    ensures err { OnErr got (result ≡ 0) }
+{
+    match got {
+        Ok(n) => n,
+        Err(_) => 0,
+    }
+}
+
 // The bytes from `from` to `to` of a buffer, moved to the front, so that a read finds room behind them.
 pub fn shift(buf: &mut [u8], from: usize, to: usize) -> usize
     requires { (from ≤ to) × (to ≤ length buf.old) }
@@ -96,18 +108,27 @@ pub fn shift(buf: &mut [u8], from: usize, to: usize) -> usize
     n
 }
 
+// 65,536 zeros: room for what is read, or for what waits to be written.
+pub fn large_buffer() -> [u8; 65536]
+    ensures { 65536 ≡ length result }
+{
+    [0; 65536]
+}
+
 // One read from standard input, behind the first `have` bytes of the buffer. A read that fails delivers nothing.
-pub fn fill(buf: &mut [u8], have: usize, before: Delivered) -> Delivered
+pub fn fill(stdin: Stdin, buf: &mut [u8], have: usize, before: Delivered) -> Delivered
     requires { have ≤ length buf.old }
     ensures { Fills buf.old have before buf.new result }
 {
-    let got = libc::read(STDIN_FILENO, &mut buf[have..]);
-    let came = io::count(got, &buf[have..]);
+    let mut input = stdin;
+    let got = input.read(&mut buf[have..]);
+    let failed = got.is_err() as u64;
+    let came = count_of(got);
     Delivered {
         all: counted(before.all, came as u64),
         room: buf.len() - have,
         came,
-        failed: (got < 0) as u64,
+        failed,
     }
 }
 
@@ -115,7 +136,7 @@ pub fn fill(buf: &mut [u8], have: usize, before: Delivered) -> Delivered
 
 // What `write` did: so many bytes were handed to it in `all` its calls so far, as many as 64 bits can count; of the
 // bytes that were `handed` over last so many were `taken`.
-#[derive(Drop)]
+#[derive(Clone, Copy)]
 pub struct Written {
     all: u64,
     handed: usize,
@@ -144,14 +165,14 @@ impl Written {
 
 // Hands the first n bytes to standard output, and says how many of them were taken: all of them, unless a write took
 // nothing or failed. A short write is tried again.
-fn write(out: &[u8], n: usize) -> usize
+fn write(stdout: Stdout, out: &[u8], n: usize) -> usize
     requires { n ≤ length out.now }
     ensures { result ≤ n }
 {
+    let mut output = stdout;
     let mut taken = 0;
     while taken < n {
-        let got = libc::write(STDOUT_FILENO, &out[taken..n]);
-        let took = io::count(got, &out[taken..n]);
+        let took = count_of(output.write(&out[taken..n]));
         if took == 0 {
             return taken;
         }
@@ -161,11 +182,11 @@ fn write(out: &[u8], n: usize) -> usize
 }
 
 // The same, with its evidence.
-pub fn hand(out: &[u8], n: usize, before: Written) -> Written
+pub fn hand(stdout: Stdout, out: &[u8], n: usize, before: Written) -> Written
     requires { n ≤ length out.now }
     ensures { Hands n before result }
 {
-    let taken = write(out, n);
+    let taken = write(stdout, out, n);
     Written {
         all: counted(before.all, n as u64),
         handed: n,
