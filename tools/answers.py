@@ -92,7 +92,11 @@ def chains(text, roots, steps, drop=True):
         new = steps.get(norm(parts[0]))
         if new and parts[0] not in ("args", "requires", "ranges"):
             parts[0] = new
-        return root + "." + ".".join(parts)
+        whole = root + "." + ".".join(parts)
+        # The test of `!x` says what x is, and said what `not x` is.
+        if parts[0].startswith("if-not-") and len(parts) == 2 and parts[1] in ("true", "false"):
+            return f"(ap not {whole})"
+        return whole
 
     names = "|".join(re.escape(a) for a in sorted(aliases, key=len, reverse=True))
     return re.sub(rf"(?<![^\s(){{}};,\[\]])({names})((?:\.[^\s(){{}}.;,@\"«»\[\]]+)+)", one, text)
@@ -108,6 +112,9 @@ def substitute(body, by):
 
 def used(imports, text):
     """The imports of which the text uses something."""
+    if "(ap not " in text:
+        imports = imports + [f"use {m}.{{{w}}}" for m, w in (("mathlib.Core.Path", "ap"), ("mathlib.Core.Bool", "not"))
+                             if not any(re.search(rf"[{{, ]{w}[,}} ]", l) for l in imports)]
     words = set(TOKEN.findall(text))
     for w in list(words):
         words.update(re.findall(r"[^\w\s]+|\w+", w))
@@ -336,9 +343,9 @@ def convert(path, key, made, crate, function_path):
     if out:
         body = "\n\n".join(helpers + out)
         kept = used(imports, body) + [f"use {base}.Goals as goal"]
-        named = sorted({p for p in places.values() if re.search(rf"(?<![^\s(){{}};,\[\]]){re.escape(p)}(?![^\s(){{}};,\[\]])", body)})
-        if named:
-            kept.append(f"use {base}.Goals.{{{', '.join(named)}}}")
+        of_goals = sorted({p for p in places.values() if re.search(rf"(?<![^\s(){{}};,\[\]]){re.escape(p)}(?![^\s(){{}};,\[\]])", body)})
+        if of_goals:
+            kept.append(f"use {base}.Goals.{{{', '.join(of_goals)}}}")
         with open(os.path.join(folder, "Answers.antt"), "w", encoding="utf-8") as f:
             f.write((head + "\n" if head else "") + "\n".join(kept) + "\n\n" + body + "\n")
     os.rename(path, path + ".old")

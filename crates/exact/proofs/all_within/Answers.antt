@@ -1,0 +1,36 @@
+use mathlib.Core.Path.{◌≡◌, refl}
+use Prim.Native.Nat.{◌-◌}
+use native.Mathlib.Numerals.{add-one}
+use native.Mathlib.Omega.{arith}
+use lib.ListN.{length}
+use mir.Syntax.{w64}
+use mir.Facts.{to_z-of_z}
+use borrow.Author.Rules.{sfits_of}
+use Rattle.exact.specs.Within.{within_first}
+use Rattle.exact.proofs.all_within.Goals as goal
+
+pub loop-i-init : goal.loop-i-init
+unfolding within_first
+loop-i-init c = (omega arith, refl)
+
+pub offset_bounds-most-i : goal.offset_bounds-most-i
+offset_bounds-most-i c = record { fits = omega arith }
+
+pub loop-i-preserved : goal.loop-i-preserved
+unfolding within_first
+loop-i-preserved c =
+    (
+      omega arith,
+      rw (
+        add-one,
+        ← c.loop-i.invariant.1,
+        c.within_at-all.ensures,
+        to_z-of_z (sfits_of {w = w64} c.within_at-arg-1.given),
+        to_z-of_z (sfits_of {w = w64} c.within_at-arg-in-loop-i-1.given),
+      ),
+    )
+
+pub returns : goal.returns
+returns c =
+    let all : c.loop-i.i ≡ length c.args.least.now = omega arith in
+    rw all at c.loop-i.invariant.1
