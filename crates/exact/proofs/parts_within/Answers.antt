@@ -16,3 +16,7 @@ every_within-requires c = record { least_nonzero = c.requires; least_len = eqb-t
 pub returns : goal.returns
 unfolding parts_within
 returns c = rw (are_whole (goal.at.returns c).Else-not-count-least) c.every_within.ensures
+
+pub returns-then-not-count-least : goal.returns-then-not-count-least
+unfolding parts_within
+returns-then-not-count-least c = rw c.if-not-count-least.true
