@@ -4,7 +4,6 @@
 // are performed and not told.
 #![tactic(auto)]
 
-use libc::STDERR_FILENO;
 use text_protocol::Item;
 
 // No argument is longer on Linux.
@@ -15,16 +14,16 @@ fn word_buffer() -> [u8; WORD_ROOM] {
 }
 
 // The i-th word as a number.
-fn number_at(i: usize) -> Item {
+fn number_at(rt: HostRuntime, i: usize) -> Item {
     let mut word = word_buffer();
-    let n = os::arg(i, &mut word);
+    let n = text_evidence::arg(rt, i, &mut word);
     text_word::item_of(&word[..n])
 }
 
 // Whether the i-th word is `--from`.
-fn is_from(i: usize) -> bool {
+fn is_from(rt: HostRuntime, i: usize) -> bool {
     let mut word = word_buffer();
-    let n = os::arg(i, &mut word);
+    let n = text_evidence::arg(rt, i, &mut word);
     (n == 6)
         & (word[0] == b'-')
         & (word[1] == b'-')
@@ -35,18 +34,18 @@ fn is_from(i: usize) -> bool {
 }
 
 // The line whose messages are the first that are told, by its number from 1 on; 0 where the words say none.
-fn first_told() -> u64 {
-    let count = os::arg_count();
+fn first_told(rt: HostRuntime) -> u64 {
+    let count = text_evidence::arg_count(rt);
     if count <= 1 {
         return 1;
     }
     if count != 3 {
         return 0;
     }
-    if !is_from(1) {
+    if !is_from(rt, 1) {
         return 0;
     }
-    let item = number_at(2);
+    let item = number_at(rt, 2);
     let Item::One(n) = item else {
         return 0;
     };
@@ -56,14 +55,13 @@ fn first_told() -> u64 {
     exact::unsigned(n)
 }
 
-fn main() {
-    let from = first_told();
+fn main(rt: HostRuntime) {
+    let from = first_told(rt);
     if from == 0 {
-        io::write_all(
-            STDERR_FILENO,
-            b"usage: broadcast [--from N], with the lines of an evening on standard input; N counts from 1\n",
+        let _ = rt.eprintln(
+            "usage: broadcast [--from N], with the lines of an evening on standard input; N counts from 1",
         );
         return;
     }
-    text_serve::stream_on(text_serve::fresh(), from);
+    text_serve::stream_on(rt, text_serve::fresh(), from);
 }

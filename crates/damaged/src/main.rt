@@ -242,6 +242,6 @@ fn table() -> [Record; Record::SLOTS_MOST] {
     t
 }
 
-fn main() {
-    text_serve::on(table(), Telling::Answers);
+fn main(rt: HostRuntime) {
+    text_serve::on(rt, table(), Telling::Answers);
 }

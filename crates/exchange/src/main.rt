@@ -6,7 +6,6 @@ ghost use Rattle.exchange_protocol.specs.Exchange.{text_most};
 ghost use Rattle.exchange_serve.specs.Rows.{Asks, Answers};
 
 use exchange_serve::{AskedId, Served, TEXT_ROOM};
-use libc::STDERR_FILENO;
 
 fn text_buffer() -> [u8; TEXT_ROOM]
     ensures { text_most + 1 ≡ length result }
@@ -23,55 +22,49 @@ fn word_buffer() -> [u8; WORD_ROOM]
     [0; WORD_ROOM]
 }
 
-fn say_usage() {
-    io::write_all(
-        STDERR_FILENO,
-        b"usage: exchange ID, with the exchange's text on standard input\n",
-    );
+fn say_usage(rt: HostRuntime) {
+    let _ = rt.eprintln("usage: exchange ID, with the exchange's text on standard input");
 }
 
-fn say_failed(wrote: bool) {
-    if wrote {
-        io::write_all(STDERR_FILENO, b"exchange: could not read\n");
-        return;
-    }
-    io::write_all(STDERR_FILENO, b"exchange: could not write\n");
+fn say_failed(rt: HostRuntime, wrote: bool) {
+    let failed = if wrote { "read" } else { "write" };
+    let _ = eprintln!(rt; "exchange: could not {failed}");
 }
 
 // Which security the only argument asks for.
-fn asked() -> AskedId
+fn asked(rt: HostRuntime) -> AskedId
     ensures { Asks result }
 {
-    if os::arg_count() != 2 {
+    if text_evidence::arg_count(rt) != 2 {
         return AskedId::Bad;
     }
     let mut word = word_buffer();
-    let n = os::arg(1, &mut word);
+    let n = text_evidence::arg(rt, 1, &mut word);
     exchange_serve::id_of(&word[..n])
 }
 
 // What standard input says of a security is handed to standard output.
-fn serve(id: u64) -> Served
+fn serve(rt: HostRuntime, id: u64) -> Served
     ensures { Answers id result }
 {
     let mut text = text_buffer();
-    let mut out = io::large_buffer();
-    exchange_serve::serve(&mut text, &mut out, id)
+    let mut out = text_evidence::large_buffer();
+    exchange_serve::serve(rt.stdin(), rt.stdout(), &mut text, &mut out, id)
 }
 
 // Says on standard error where a read or a write failed.
-fn report(served: Served) {
+fn report(rt: HostRuntime, served: Served) {
     let read = served.read;
     let told = served.told;
     if read.has_failed() | !told.took_all() {
-        say_failed(told.took_all());
+        say_failed(rt, told.took_all());
     }
 }
 
-fn main() {
-    let asked = asked();
+fn main(rt: HostRuntime) {
+    let asked = asked(rt);
     match asked {
-        AskedId::Id(id) => report(serve(id)),
-        AskedId::Bad => say_usage(),
+        AskedId::Id(id) => report(rt, serve(rt, id)),
+        AskedId::Bad => say_usage(rt),
     }
 }

@@ -12,6 +12,7 @@ ghost use Rattle.exchange_protocol.specs.Exchange.{rows_most};
 use exchange_protocol::Reading;
 use exchange_text::{TEXT_MOST, read_exchange};
 use paper::{Record, Row};
+use std::io::{Stdin, Stdout};
 use text_bytes::{DIGIT_NINE, DIGIT_ZERO, ROOM};
 use text_evidence::{Delivered, Written, fill, hand, unread, unwritten};
 use text_out::{put_byte, put_next, put_number, put_numbers};
@@ -20,7 +21,7 @@ use text_out::{put_byte, put_next, put_number, put_numbers};
 
 // Which security the program's argument asks for. No security has the id 0, so 0 stands for every id that is out of
 // range.
-#[derive(Drop)]
+#[derive(Clone, Copy)]
 pub enum AskedId {
     Id(u64),
     Bad,
@@ -79,20 +80,20 @@ pub fn id_of(p: &[u8]) -> AskedId
 pub const TEXT_ROOM: usize = TEXT_MOST + 1;
 
 // What was taken in: where it ends in the buffer, and what `read` did.
-#[derive(Drop)]
+#[derive(Clone, Copy)]
 pub struct Taken {
     pub end: usize,
     pub read: Delivered,
 }
 
 // Reads standard input until it ends, the buffer is full or a read fails.
-pub fn take_in(buf: &mut [u8]) -> Taken
+pub fn take_in(stdin: Stdin, buf: &mut [u8]) -> Taken
     ensures { TakesIn buf.old buf.new result }
 {
     let mut len = 0;
     let mut read = unread();
     while len < buf.len() {
-        read = fill(buf, len, read);
+        read = fill(stdin, buf, len, read);
         if read.has_ended() {
             return Taken { end: len, read };
         }
@@ -135,17 +136,17 @@ pub fn answer(t: &[u8], id: u64, out: &mut [u8; ROOM]) -> usize
 // ---- the program
 
 // What `read` and `write` did.
-#[derive(Drop)]
+#[derive(Clone, Copy)]
 pub struct Served {
     pub read: Delivered,
     pub told: Written,
 }
 
 // The text is taken in, and what it says of the security is handed over; nothing is where a read failed.
-pub fn serve(text: &mut [u8], out: &mut [u8; ROOM], id: u64) -> Served
+pub fn serve(stdin: Stdin, stdout: Stdout, text: &mut [u8], out: &mut [u8; ROOM], id: u64) -> Served
     ensures { Serves id text.old out.old text.new out.new result }
 {
-    let taken = take_in(text);
+    let taken = take_in(stdin, text);
     let end = taken.end;
     let read = taken.read;
     let told = unwritten();
@@ -153,6 +154,6 @@ pub fn serve(text: &mut [u8], out: &mut [u8; ROOM], id: u64) -> Served
         return Served { read, told };
     }
     let len = answer(&text[..end], id, out);
-    let told = hand(out, len, told);
+    let told = hand(stdout, out, len, told);
     Served { read, told }
 }

@@ -2,7 +2,6 @@
 // output. With the argument --whole it says on standard error where the input is not one whole stream.
 #![tactic(auto)]
 
-use libc::STDERR_FILENO;
 use text_word::same_bytes;
 
 // What the arguments ask for: the lines; the lines, and one whole stream; or nothing that there is.
@@ -16,29 +15,26 @@ enum Listens {
 // A longer word is none that is known.
 const WORD_ROOM: usize = 16;
 
-fn asked() -> Listens {
-    let count = os::arg_count();
+fn asked(rt: HostRuntime) -> Listens {
+    let count = text_evidence::arg_count(rt);
     if count < 2 {
         return Listens::Lines;
     }
     let mut word = [0; WORD_ROOM];
-    let n = os::arg(1, &mut word);
+    let n = text_evidence::arg(rt, 1, &mut word);
     if (count == 2) & same_bytes(&word[..n], b"--whole") {
         return Listens::Whole;
     }
     Listens::Not
 }
 
-fn main() {
-    let asked = asked();
+fn main(rt: HostRuntime) {
+    let asked = asked(rt);
     match asked {
-        Listens::Lines => listen_serve::on(false),
-        Listens::Whole => listen_serve::on(true),
+        Listens::Lines => listen_serve::on(rt, false),
+        Listens::Whole => listen_serve::on(rt, true),
         Listens::Not => {
-            io::write_all(
-                STDERR_FILENO,
-                b"usage: listen [--whole], with messages on standard input\n",
-            );
+            let _ = rt.eprintln("usage: listen [--whole], with messages on standard input");
         }
     }
 }

@@ -12,18 +12,18 @@ ghost use Rattle.listen_serve.specs.Steps.{Stands, Going, NextWithin, gathered, 
 ghost use Rattle.listen_serve.specs.Steps.{Hears, WritesOut, Delivers, ReadsOn, Finishes, Steps, Listens};
 ghost use Rattle.listen_serve.specs.Steps.{went_well, whole_in};
 
-use libc::STDERR_FILENO;
 use listen_lines::streams::{no_stream, number_in, stands_alone, stream_after};
 use listen_lines::{LINE_MOST, say_heard, say_unended};
 use paper::Verdict;
 use paper_messages::{Message, ReaderAnswer};
 use paper_streams::Stream;
+use std::io::{Stdin, Stdout};
 use text_bytes::ROOM;
 use text_evidence::{Delivered, Written, fill, hand, shift, unread, unwritten};
 
 // What is kept of the streams: how far the present one is heard, and whether every message so far may stand in an input
 // that is one stream alone.
-#[derive(Drop)]
+#[derive(Clone, Copy)]
 pub struct Feed {
     pub stream: Stream,
     pub alone: bool,
@@ -32,7 +32,7 @@ pub struct Feed {
 // How far the input is listened to: the bytes of the buffer from `at` to `len` are delivered and not heard yet. So many
 // bytes of lines wait to be written as `waiting` says. `over` is whether nothing more is heard. `feed` is what is kept
 // of the streams, `read` the evidence of what was delivered, `told` of what was handed over.
-#[derive(Drop)]
+#[derive(Clone, Copy)]
 pub struct Listening {
     pub at: usize,
     pub len: usize,
@@ -71,7 +71,7 @@ pub fn start() -> Listening
 // ---- reading on
 
 // Moves the bytes that are not heard yet to the front, and reads once behind them.
-fn more(buf: &mut [u8], s: Listening) -> Listening
+fn more(stdin: Stdin, buf: &mut [u8], s: Listening) -> Listening
     requires { (Stands buf.old s) × (s.len - s.at < room) × (s.read.all + room < count_most) }
     ensures { (Delivers buf.old s buf.new result) × (Stands buf.new result)
         × (result.waiting ≡ s.waiting) × (result.told ≡ s.told) }
@@ -81,7 +81,7 @@ fn more(buf: &mut [u8], s: Listening) -> Listening
     let feed = s.feed;
     let told = s.told;
     let have = shift(buf, at, len);
-    let read = fill(buf, have, s.read);
+    let read = fill(stdin, buf, have, s.read);
     let end = have + read.came();
     Listening {
         at: 0,
@@ -97,14 +97,14 @@ fn more(buf: &mut [u8], s: Listening) -> Listening
 // ---- lines
 
 // Hands the lines that wait to `write`. Where it did not take all of them, nothing more is heard.
-fn write_out(out: &[u8], s: Listening, over: bool) -> Listening
+fn write_out(stdout: Stdout, out: &[u8], s: Listening, over: bool) -> Listening
     requires { s.waiting ≤ length out.now }
     ensures { WritesOut s over result }
 {
     let n = s.waiting;
     let feed = s.feed;
     let read = s.read;
-    let told = hand(out, n, s.told);
+    let told = hand(stdout, out, n, s.told);
     Listening {
         at: s.at,
         len: s.len,
@@ -143,12 +143,12 @@ fn gathered(s: Listening, waiting: usize, at: usize, feed: Feed) -> Listening
 }
 
 // The lines are written where the buffer has no room for one more.
-fn make_room(out: &[u8], s: Listening) -> Listening
+fn make_room(stdout: Stdout, out: &[u8], s: Listening) -> Listening
     requires { (s.waiting ≤ length out.now) × (s.over ≡ false) × (took_all s.told ≡ true) }
     ensures { MakesRoom s result }
 {
     if ROOM - LINE_MOST < s.waiting {
-        return write_out(out, s, false);
+        return write_out(stdout, out, s, false);
     }
     s
 }
@@ -176,7 +176,7 @@ fn not_alone(stream: Stream) -> Feed
 }
 
 // Gathers the line of a stream that has no end; it is left behind, and the place stays.
-fn tell_unended(out: &mut [u8; ROOM], s: Listening) -> Listening
+fn tell_unended(stdout: Stdout, out: &mut [u8; ROOM], s: Listening) -> Listening
     requires { Going s × (s.feed.stream.began ≡ true) }
     ensures { TellsUnended s out.old result out.new }
 {
@@ -185,12 +185,18 @@ fn tell_unended(out: &mut [u8; ROOM], s: Listening) -> Listening
     let n = say_unended(out, s.waiting, stream.count);
     let none = not_alone(no_stream());
     let r = gathered(s, n, s.at, none);
-    make_room(out, r)
+    make_room(stdout, out, r)
 }
 
 // Gathers the line of what is heard. The lines are written where nothing more is heard, and where the buffer has no
 // room for one more.
-fn tell(buf: &[u8], out: &mut [u8; ROOM], s: Listening, h: ReaderAnswer) -> Listening
+fn tell(
+    stdout: Stdout,
+    buf: &[u8],
+    out: &mut [u8; ROOM],
+    s: Listening,
+    h: ReaderAnswer,
+) -> Listening
     requires { Going s × (length h.message.fields ≡ places) × NextWithin buf.now s h }
     ensures { Tells buf.now s h out.old result out.new }
 {
@@ -203,25 +209,31 @@ fn tell(buf: &[u8], out: &mut [u8; ROOM], s: Listening, h: ReaderAnswer) -> List
     if no != 0 {
         let none = not_alone(stream);
         let r = gathered(s, n, at, none);
-        return write_out(out, r, true);
+        return write_out(stdout, out, r, true);
     }
     let next = h.next;
     let after = feed_after(feed, place, h, &buf[at..next]);
     let r = gathered(s, n, next, after);
-    make_room(out, r)
+    make_room(stdout, out, r)
 }
 
 // What is heard: a `begin` within a stream says first that the stream has no end.
-fn hear(buf: &[u8], out: &mut [u8; ROOM], s: Listening, h: ReaderAnswer) -> Listening
+fn hear(
+    stdout: Stdout,
+    buf: &[u8],
+    out: &mut [u8; ROOM],
+    s: Listening,
+    h: ReaderAnswer,
+) -> Listening
     requires { Going s × (length h.message.fields ≡ places) × NextWithin buf.now s h }
     ensures { Hears buf.now s h out.old result out.new }
 {
     let feed = s.feed;
     let stream = feed.stream;
     if stream.began & (h.kind == Message::BEGIN) {
-        return tell_unended(out, s);
+        return tell_unended(stdout, out, s);
     }
-    tell(buf, out, s, h)
+    tell(stdout, buf, out, s, h)
 }
 
 // ---- steps
@@ -264,11 +276,11 @@ fn used_up(s: Listening) -> Listening
 // Reads on, where a message is not whole yet. The lines that wait are written first, so that whoever listens sees them
 // while the program waits. Nothing says that the input ends, so its bytes are counted, up to a number that no run comes
 // near.
-fn read_on(buf: &mut [u8], out: &[u8], s: Listening) -> Listening
+fn read_on(stdin: Stdin, stdout: Stdout, buf: &mut [u8], out: &[u8], s: Listening) -> Listening
     requires { (Stands buf.old s) × (s.over ≡ false) × (s.len - s.at < room) × (length out.now ≡ room) }
     ensures { ReadsOn buf.old s buf.new result }
 {
-    let w = write_out(out, s, false);
+    let w = write_out(stdout, out, s, false);
     if w.over {
         return w;
     }
@@ -276,24 +288,30 @@ fn read_on(buf: &mut [u8], out: &[u8], s: Listening) -> Listening
     if u64::MAX - read.all() <= (ROOM as u64) {
         return used_up(w);
     }
-    more(buf, w)
+    more(stdin, buf, w)
 }
 
 // The input has ended between two messages: a stream that began has no end, and then nothing more is heard.
-fn end_of_input(out: &mut [u8; ROOM], s: Listening) -> Listening
+fn end_of_input(stdout: Stdout, out: &mut [u8; ROOM], s: Listening) -> Listening
     requires { Going s × (has_ended s.read ≡ true) × (s.at ≡ s.len) }
     ensures { Finishes s out.old result out.new }
 {
     let feed = s.feed;
     let stream = feed.stream;
     if stream.began {
-        return tell_unended(out, s);
+        return tell_unended(stdout, out, s);
     }
-    write_out(out, s, true)
+    write_out(stdout, out, s, true)
 }
 
 // One step: the message at the place is told, or more is read.
-pub fn step(buf: &mut [u8], out: &mut [u8; ROOM], s: Listening) -> Listening
+pub fn step(
+    stdin: Stdin,
+    stdout: Stdout,
+    buf: &mut [u8],
+    out: &mut [u8; ROOM],
+    s: Listening,
+) -> Listening
     requires { (Stands buf.old s) × (s.over ≡ false) }
     ensures { Steps buf.old s out.old buf.new result out.new }
 {
@@ -301,27 +319,27 @@ pub fn step(buf: &mut [u8], out: &mut [u8; ROOM], s: Listening) -> Listening
     let len = s.len;
     let h = messages::read(&buf[..len], at);
     if !is_cut(h) {
-        return hear(buf, out, s, h);
+        return hear(stdout, buf, out, s, h);
     }
     let read = s.read;
     if !read.has_ended() {
-        return read_on(buf, out, s);
+        return read_on(stdin, stdout, buf, out, s);
     }
     if at == len {
-        return end_of_input(out, s);
+        return end_of_input(stdout, out, s);
     }
-    hear(buf, out, s, h)
+    hear(stdout, buf, out, s, h)
 }
 
 // Every message of standard input. The state at the end has the evidence of what was read and written.
-pub fn listen() -> Listening
+pub fn listen(stdin: Stdin, stdout: Stdout) -> Listening
     ensures { Listens result }
 {
-    let mut buf = io::large_buffer();
-    let mut out = io::large_buffer();
+    let mut buf = text_evidence::large_buffer();
+    let mut out = text_evidence::large_buffer();
     let mut s = start();
     while !s.over {
-        s = step(&mut buf, &mut out, s);
+        s = step(stdin, stdout, &mut buf, &mut out, s);
     }
     s
 }
@@ -345,24 +363,21 @@ fn is_whole(s: Listening) -> bool
 }
 
 // Says on standard error which failed.
-fn say_failed(wrote: bool) {
-    if wrote {
-        io::write_all(STDERR_FILENO, b"listen: could not read\n");
-        return;
-    }
-    io::write_all(STDERR_FILENO, b"listen: could not write\n");
+fn say_failed(rt: HostRuntime, wrote: bool) {
+    let failed = if wrote { "read" } else { "write" };
+    let _ = eprintln!(rt; "listen: could not {failed}");
 }
 
 // The program: says on standard error where a read or a write failed and, if it is asked for one whole stream, where
 // the input is none.
-pub fn on(whole: bool) {
-    let s = listen();
+pub fn on(rt: HostRuntime, whole: bool) {
+    let s = listen(rt.stdin(), rt.stdout());
     if !went_well(s) {
         let told = s.told;
-        say_failed(told.took_all());
+        say_failed(rt, told.took_all());
         return;
     }
     if whole & !is_whole(s) {
-        io::write_all(STDERR_FILENO, b"listen: not one whole stream\n");
+        let _ = eprintln!(rt; "listen: not one whole stream");
     }
 }

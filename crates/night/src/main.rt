@@ -8,7 +8,6 @@ ghost use Rattle.night_protocol.specs.Sheet.{day_numbers, words_most};
 ghost use Rattle.night_serve.specs.Tables.{ids_room, figures_room};
 ghost use Rattle.night_serve.specs.Serving.{OfWord, Asks, Answered};
 
-use libc::STDERR_FILENO;
 use night_protocol::{SECURITIES_MOST, TEXT_MOST, WORDS_MOST};
 use night_serve::reading::{FIGURES_ROOM, IDS_ROOM};
 use night_serve::{SHEET_ROOM, Served};
@@ -63,32 +62,31 @@ fn word_buffer() -> [u8; WORD_ROOM]
 
 // ---- the words
 
-fn say_usage() {
-    io::write_all(
-        STDERR_FILENO,
-        b"usage: night DAY B M K0 RRCL0 RRCH0 K1 RRCL1 RRCH1 K2 RRCL2 RRCH2 [ID...], with the exchange's text on standard input; a pair YM/YN may stand in place of RRCL RRCH\n",
+fn say_usage(rt: HostRuntime) {
+    let _ = rt.eprintln(
+        "usage: night DAY B M K0 RRCL0 RRCH0 K1 RRCL1 RRCH1 K2 RRCL2 RRCH2 [ID...], with the exchange's text on standard input; a pair YM/YN may stand in place of RRCL RRCH",
     );
 }
 
 // The i-th word.
-fn word_at(i: usize) -> Item
+fn word_at(rt: HostRuntime, i: usize) -> Item
     ensures { OfWord result }
 {
     let mut word = word_buffer();
-    let n = os::arg(i, &mut word);
+    let n = text_evidence::arg(rt, i, &mut word);
     text_word::item_of(&word[..n])
 }
 
 // What the words ask for.
-fn asked(numbers: &mut [i64]) -> Taken
+fn asked(rt: HostRuntime, numbers: &mut [i64]) -> Taken
     requires { length numbers.old ≡ words_most }
     ensures { Asks numbers.new result }
 {
     let mut a = night_serve::no_words();
-    let count = os::arg_count();
+    let count = text_evidence::arg_count(rt);
     let mut i = 1;
     while i < count {
-        a = night_serve::take_word(numbers, a, word_at(i));
+        a = night_serve::take_word(numbers, a, word_at(rt, i));
         i += 1;
     }
     night_serve::asked(a)
@@ -97,7 +95,7 @@ fn asked(numbers: &mut [i64]) -> Taken
 // ---- the sheet
 
 // What standard input says of all its securities is handed to standard output.
-fn serve(numbers: &[i64], pairs: Pairs) -> Served
+fn serve(rt: HostRuntime, numbers: &[i64], pairs: Pairs) -> Served
     requires { (day_numbers ≤ length numbers.now) × (length numbers.now ≤ words_most) }
     ensures { Answered numbers.now pairs result }
 {
@@ -105,9 +103,11 @@ fn serve(numbers: &[i64], pairs: Pairs) -> Served
     let mut ids = ids_buffer();
     let mut counts = counts_buffer();
     let mut figures = figures_buffer();
-    let mut out = io::large_buffer();
+    let mut out = text_evidence::large_buffer();
     let mut sheet = sheet_buffer();
     night_serve::serve(
+        rt.stdin(),
+        rt.stdout(),
         &mut text,
         &mut ids,
         &mut counts,
@@ -119,40 +119,37 @@ fn serve(numbers: &[i64], pairs: Pairs) -> Served
     )
 }
 
-fn say_fault(line: u64) {
-    let mut out = io::large_buffer();
+fn say_fault(rt: HostRuntime, line: u64) {
+    let mut out = text_evidence::large_buffer();
     let n = night_serve::say_fault(&mut out, line);
-    io::write_all(STDERR_FILENO, &out[..n]);
+    let _ = rt.stderr().write_all(&out[..n]);
 }
 
-fn say_failed(wrote: bool) {
-    if wrote {
-        io::write_all(STDERR_FILENO, b"night: could not read\n");
-        return;
-    }
-    io::write_all(STDERR_FILENO, b"night: could not write\n");
+fn say_failed(rt: HostRuntime, wrote: bool) {
+    let failed = if wrote { "read" } else { "write" };
+    let _ = eprintln!(rt; "night: could not {failed}");
 }
 
 // Says on standard error where the text is bad, and where a read or a write failed.
-fn report(served: Served) {
+fn report(rt: HostRuntime, served: Served) {
     let read = served.read;
     let told = served.told;
     if served.bad {
-        say_fault(served.line);
+        say_fault(rt, served.line);
     }
     if read.has_failed() | !told.took_all() {
-        say_failed(told.took_all());
+        say_failed(rt, told.took_all());
     }
 }
 
-fn main() {
+fn main(rt: HostRuntime) {
     let mut numbers = numbers_buffer();
-    let a = asked(&mut numbers);
+    let a = asked(rt, &mut numbers);
     let count = a.count;
     let pairs = a.pairs;
     if a.ok {
-        report(serve(&numbers[..count], pairs));
+        report(rt, serve(rt, &numbers[..count], pairs));
     } else {
-        say_usage();
+        say_usage(rt);
     }
 }

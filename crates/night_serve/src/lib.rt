@@ -22,6 +22,7 @@ use crate::reading::{FIGURES_ROOM, Gathered, IDS_ROOM, find, read_night};
 use exchange_serve::take_in;
 use night_protocol::{ASKED_MOST, DAY_NUMBERS, SECURITIES_MOST, WORDS_MOST};
 use paper::Row;
+use std::io::{Stdin, Stdout};
 use text_bytes::ROOM;
 use text_evidence::{Delivered, Written, hand, unwritten};
 use text_line::{Taken, pair_fits, with_pair};
@@ -348,6 +349,8 @@ pub struct Served {
 
 // The text is taken in, and the sheet is handed over; nothing is where the text is bad or a read failed.
 pub fn serve(
+    stdin: Stdin,
+    stdout: Stdout,
     text: &mut [u8],
     ids: &mut [u64; IDS_ROOM],
     counts: &mut [usize; SECURITIES_MOST],
@@ -363,7 +366,7 @@ pub fn serve(
     ensures { Serves numbers.now pairs text.old sheet.old text.new
         sheet.new result }
 {
-    let taken = take_in(text);
+    let taken = take_in(stdin, text);
     let end = taken.end;
     let read = taken.read;
     let told = unwritten();
@@ -379,7 +382,7 @@ pub fn serve(
     match gathered {
         Gathered::Good(count) => {
             let len = print_all(sheet, out, numbers, pairs, ids, counts, figures, count);
-            let told = hand(sheet, len, told);
+            let told = hand(stdout, sheet, len, told);
             Served {
                 read,
                 told,

@@ -8,14 +8,16 @@ ghost use Rattle.std.specs.Prelude.{◌≡◌, ◌-◌, ◌≤◌, length, take,
 ghost use Rattle.text_evidence.specs.Evidence.{Counted, unread, unwritten, has_ended, has_failed, is_well};
 ghost use Rattle.text_evidence.specs.Evidence.{took_all, Fills, Hands};
 
+use std::env::{Env, FillError};
 use std::io;
 use std::io::{Read, Stdin, Stdout, Write};
 
 // ---- the input
 
 // What `read` did: so many bytes came in `all` its calls so far, as many as 64 bits can count; the last call offered
-// so much `room`, so many bytes `came`, and it `failed` unless that is 0, as std said. Each field fills its eight bytes: the
-// state is copied in every turn, and a yes or no would be copied with a gap beside it, which takes longer than all four.
+// so much `room`, so many bytes `came`, and it `failed` unless that is 0, as std said. Each field fills its eight bytes:
+// the state is copied in every turn, and a yes or no would be copied with a gap beside it, which takes longer than all
+// four.
 #[derive(Clone, Copy)]
 pub struct Delivered {
     all: u64,
@@ -192,4 +194,36 @@ pub fn hand(stdout: Stdout, out: &[u8], n: usize, before: Written) -> Written
         handed: n,
         taken,
     }
+}
+
+// ---- the words that the program was started with
+
+// Puts the i-th word at the start of the buffer, and says how many bytes it has: 0 where there is no such word, or the
+// buffer has no room for it. The word at 0 is the program's name.
+pub fn arg(rt: HostRuntime, i: usize, buf: &mut [u8]) -> usize
+    ensures { (result ≤ length buf.new) × (length buf.new ≡ length buf.old) }
+{
+    match rt.arg(i, buf) {
+        Ok(n) => n,
+        Err(_) => 0,
+    }
+}
+
+// Whether there is an i-th word.
+fn is_there(rt: HostRuntime, i: usize) -> bool {
+    let mut none = [];
+    match rt.arg(i, &mut none) {
+        Err(FillError::NotPresent) => false,
+        _ => true,
+    }
+}
+
+// How many words there are, the program's name among them.
+pub fn arg_count(rt: HostRuntime) -> usize {
+    for i in 0..usize::MAX {
+        if !is_there(rt, i) {
+            return i;
+        }
+    }
+    usize::MAX
 }

@@ -6,6 +6,7 @@ ghost use Rattle.text_input.specs.Input.{Stands, Waits, Unbroken, Passes, Readie
 ghost use Rattle.text_bytes.specs.Bytes.{room};
 ghost use Rattle.text_protocol.specs.Line.{kept_most};
 
+use std::io::Stdin;
 use text_evidence::{Delivered, fill, shift};
 use text_line::{LONGEST, Line, bad, read_line};
 use text_word::find;
@@ -13,7 +14,7 @@ use text_word::find;
 // The bytes of the buffer from `at` to `len` are delivered and not used. The next line ends at `end`, or no line is
 // whole and `end` is `len`. So many lines may be heard as `left` says, none at the end of the input; and `read` is the
 // evidence of what was delivered.
-#[derive(Drop)]
+#[derive(Clone, Copy)]
 pub struct Input {
     pub at: usize,
     pub end: usize,
@@ -23,7 +24,7 @@ pub struct Input {
 }
 
 // What waiting led to: where the bytes end, and where their first line feed stands.
-#[derive(Drop)]
+#[derive(Clone, Copy)]
 pub struct Waited {
     pub len: usize,
     pub end: usize,
@@ -31,7 +32,7 @@ pub struct Waited {
 }
 
 // What passing over the rest of a line led to.
-#[derive(Drop)]
+#[derive(Clone, Copy)]
 pub struct Passed {
     pub at: usize,
     pub len: usize,
@@ -41,7 +42,7 @@ pub struct Passed {
 
 // Reads until a line feed stands behind the first `have` bytes, which have none, or the buffer is full, or the input
 // has ended.
-fn wait(buf: &mut [u8], have: usize, before: Delivered) -> Waited
+fn wait(stdin: Stdin, buf: &mut [u8], have: usize, before: Delivered) -> Waited
     requires { (length buf.old ≡ room) × (have ≤ room) × Unbroken (take have buf.old) }
     ensures { Waits buf.old have before buf.new result }
 {
@@ -55,7 +56,7 @@ fn wait(buf: &mut [u8], have: usize, before: Delivered) -> Waited
                 read,
             };
         }
-        read = fill(buf, len, read);
+        read = fill(stdin, buf, len, read);
         let n = len + read.came();
         if n == len {
             return Waited {
@@ -78,7 +79,7 @@ fn wait(buf: &mut [u8], have: usize, before: Delivered) -> Waited
 
 // Passes over the rest of a line that is longer than the buffer. Nothing says that it ends, so the reads are counted
 // down from a number that no run uses up.
-fn pass_over(buf: &mut [u8], before: Delivered) -> Passed
+fn pass_over(stdin: Stdin, buf: &mut [u8], before: Delivered) -> Passed
     requires { length buf.old ≡ room }
     ensures { Passes before buf.new result }
 {
@@ -86,7 +87,7 @@ fn pass_over(buf: &mut [u8], before: Delivered) -> Passed
     let mut read = before;
     while 0 < turns {
         turns -= 1;
-        read = fill(buf, 0, read);
+        read = fill(stdin, buf, 0, read);
         let n = read.came();
         if n == 0 {
             return Passed {
@@ -115,7 +116,7 @@ fn pass_over(buf: &mut [u8], before: Delivered) -> Passed
 }
 
 // So that a line is whole, or the buffer is full, or the input has ended: reads where no line is whole yet.
-fn ready(buf: &mut [u8], s: Input) -> Input
+fn ready(stdin: Stdin, buf: &mut [u8], s: Input) -> Input
     requires { Stands buf.old s }
     ensures { Readied buf.old s buf.new result }
 {
@@ -126,7 +127,7 @@ fn ready(buf: &mut [u8], s: Input) -> Input
     }
     let n = shift(buf, at, len);
     let before = s.read;
-    let w = wait(buf, n, before);
+    let w = wait(stdin, buf, n, before);
     let read = w.read;
     Input {
         at: 0,
@@ -177,7 +178,7 @@ fn ended(len: usize, read: Delivered) -> Input
 
 // What was heard: the line, the input behind it, and where the line's bytes stand in the buffer, unless it is longer than
 // the buffer.
-#[derive(Drop)]
+#[derive(Clone, Copy)]
 pub struct Heard {
     pub input: Input,
     pub line: Line,
@@ -186,11 +187,11 @@ pub struct Heard {
 }
 
 // The input behind a line that is longer than the buffer.
-fn behind_long(buf: &mut [u8], left: u64, before: Delivered) -> Input
+fn behind_long(stdin: Stdin, buf: &mut [u8], left: u64, before: Delivered) -> Input
     requires { length buf.old ≡ room }
     ensures { LongPassed before buf.new left result }
 {
-    let p = pass_over(buf, before);
+    let p = pass_over(stdin, buf, before);
     let over = p.ended;
     let read = p.read;
     if over {
@@ -200,11 +201,11 @@ fn behind_long(buf: &mut [u8], left: u64, before: Delivered) -> Input
 }
 
 // The next line. Where no line is whole, the input is waited for.
-pub fn hear(buf: &mut [u8], xs: &mut [i64], s: Input) -> Heard
+pub fn hear(stdin: Stdin, buf: &mut [u8], xs: &mut [i64], s: Input) -> Heard
     requires { (Stands buf.old s) × (length xs.old ≡ kept_most) }
     ensures { Hears buf.old s buf.new result xs.new }
 {
-    let i = ready(buf, s);
+    let i = ready(stdin, buf, s);
     let at = i.at;
     let end = i.end;
     let len = i.len;
@@ -222,7 +223,7 @@ pub fn hear(buf: &mut [u8], xs: &mut [i64], s: Input) -> Heard
         };
     }
     if LONGEST < len {
-        let input = behind_long(buf, left, read);
+        let input = behind_long(stdin, buf, left, read);
         return Heard {
             input,
             line: bad(),

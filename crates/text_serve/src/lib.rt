@@ -19,9 +19,9 @@ ghost use Rattle.paper_streams.specs.Streams.{begin_message};
 ghost use Rattle.text_evidence.specs.Evidence.{unwritten, Hands};
 
 use desk::{good_at, place_near};
-use libc::STDERR_FILENO;
 use paper::Record;
 use paper_messages::Message;
+use std::io::{Stdin, Stdout};
 use text_ask::{ask, id_asked};
 use text_broadcast::{begin_message, end_message};
 use text_bytes::ROOM;
@@ -32,11 +32,11 @@ use text_turn::after::tell;
 use text_turn::{Prepared, State, prepare, rows_of, start};
 
 // Hears the next line, with the bytes and the numbers of it in arrays, whose lengths their types say.
-pub fn hear_in(buf: &mut [u8; ROOM], xs: &mut [i64; KEPT], s: State) -> Prepared
+pub fn hear_in(stdin: Stdin, buf: &mut [u8; ROOM], xs: &mut [i64; KEPT], s: State) -> Prepared
     requires { Stands buf.old s.input }
     ensures { Prepares buf.old s buf.new result xs.new }
 {
-    prepare(buf, xs, s)
+    prepare(stdin, buf, xs, s)
 }
 
 // The row figures of a line of so many numbers.
@@ -133,6 +133,8 @@ pub fn asked_in<'a, 'b>(
 
 // One line: heard, asked of the desk, answered.
 pub fn step<'a, 'b>(
+    stdin: Stdin,
+    stdout: Stdout,
     t: &'a mut [Record],
     buf: &'a mut [u8; ROOM],
     xs: &'b mut [i64; KEPT],
@@ -144,9 +146,9 @@ pub fn step<'a, 'b>(
     ensures { (Turns buf.old s t.old out.old
         buf.new result t.new out.new) × Sound t.new places.new }
 {
-    let p = hear_in(buf, xs, s);
+    let p = hear_in(stdin, buf, xs, s);
     let a = asked_in(t, xs, places, p.ask, p.count, p.asked);
-    tell(out, p, a)
+    tell(stdout, out, p, a)
 }
 
 // No number.
@@ -164,16 +166,25 @@ pub fn no_places() -> [usize; PLACES]
 }
 
 // Every line of standard input, told in one way. The state at the end has the evidence of what was read and written.
-pub fn serve(t: &mut [Record], telling: Telling) -> State
+pub fn serve(stdin: Stdin, stdout: Stdout, t: &mut [Record], telling: Telling) -> State
     ensures { Serves telling t.old result t.new }
 {
-    let mut buf = io::large_buffer();
+    let mut buf = text_evidence::large_buffer();
     let mut xs = no_numbers();
-    let mut out = io::large_buffer();
+    let mut out = text_evidence::large_buffer();
     let mut places = no_places();
     let mut s = start(telling);
     while s.input.left > 0 {
-        s = step(t, &mut buf, &mut xs, &mut out, &mut places, s);
+        s = step(
+            stdin,
+            stdout,
+            t,
+            &mut buf,
+            &mut xs,
+            &mut out,
+            &mut places,
+            s,
+        );
     }
     s
 }
@@ -197,24 +208,24 @@ pub fn last_heard(next: u64) -> u64 {
 // ---- what begins and ends a stream of messages
 
 // One message is handed to standard output, behind what was handed over before.
-fn send(m: Message, before: Written) -> Written
+fn send(stdout: Stdout, m: Message, before: Written) -> Written
     ensures { Hands (length (sent m)) before result }
 {
-    let mut out = io::large_buffer();
+    let mut out = text_evidence::large_buffer();
     let n = text_broadcast::send(&mut out, 0, m);
-    text_evidence::hand(&out, n, before)
+    text_evidence::hand(stdout, &out, n, before)
 }
 
 // `begin`, before every other message.
-fn begun() -> Written
+fn begun(stdout: Stdout) -> Written
     ensures { Hands (length (sent begin_message)) unwritten result }
 {
-    send(begin_message(), text_evidence::unwritten())
+    send(stdout, begin_message(), text_evidence::unwritten())
 }
 
 // `end`, behind every other message, where messages are told, the input has ended and all of them were taken: it says
 // how many they are, and their sum.
-fn ended(s: State) -> Written
+fn ended(stdout: Stdout, s: State) -> Written
     ensures { Closes s result }
 {
     let told = s.told;
@@ -228,56 +239,51 @@ fn ended(s: State) -> Written
     match telling {
         Telling::Answers => told,
         Telling::Reasons => told,
-        Telling::Messages(_) => send(end_message(stream), told),
+        Telling::Messages(_) => send(stdout, end_message(stream), told),
     }
 }
 
 // ---- what is said of a run
 
 // Says on standard error that a read or a write failed, and at which line.
-fn say_failed(telling: Telling, written: bool, line: u64) {
-    match telling {
-        Telling::Answers => io::write_all(STDERR_FILENO, b"evening: "),
-        Telling::Reasons => io::write_all(STDERR_FILENO, b"why: "),
-        Telling::Messages(_) => io::write_all(STDERR_FILENO, b"broadcast: "),
+fn say_failed(rt: HostRuntime, telling: Telling, written: bool, line: u64) {
+    let name = match telling {
+        Telling::Answers => "evening",
+        Telling::Reasons => "why",
+        Telling::Messages(_) => "broadcast",
     };
-    if written {
-        io::write_all(STDERR_FILENO, b"could not read, at line ");
-    } else {
-        io::write_all(STDERR_FILENO, b"could not write, at line ");
-    }
-    io::print_decimal(STDERR_FILENO, line);
-    io::write_all(STDERR_FILENO, b"\n");
+    let failed = if written { "read" } else { "write" };
+    let _ = eprintln!(rt; "{name}: could not {failed}, at line {line}");
 }
 
 // Ends the stream, and says which failed, a read or a write; or that the input has not ended. What came before a read
 // that failed is the last line that was heard.
-fn finish(s: State) {
-    let told = ended(s);
+fn finish(rt: HostRuntime, s: State) {
+    let told = ended(rt.stdout(), s);
     let input = s.input;
     let read = input.read;
     if told.took_all() & read.is_well() {
         return;
     }
     let telling = s.telling;
-    say_failed(telling, told.took_all(), last_heard(s.number));
+    say_failed(rt, telling, told.took_all(), last_heard(s.number));
 }
 
 // A table by value, lent once to every line of standard input: `evening`, `why` and `broadcast` are this, told in three
 // ways.
-pub fn on(t: [Record; Record::SLOTS_MOST], telling: Telling) {
+pub fn on(rt: HostRuntime, t: [Record; Record::SLOTS_MOST], telling: Telling) {
     let mut u = t;
-    let s = serve(&mut u, telling);
-    finish(s);
+    let s = serve(rt.stdin(), rt.stdout(), &mut u, telling);
+    finish(rt, s);
 }
 
 // The same, told to members as one stream, with the messages of the line `from` and those behind it: `begin` is written
 // before the first line is heard.
-pub fn stream_on(t: [Record; Record::SLOTS_MOST], from: u64) {
-    let told = begun();
+pub fn stream_on(rt: HostRuntime, t: [Record; Record::SLOTS_MOST], from: u64) {
+    let told = begun(rt.stdout());
     if told.took_all() {
-        on(t, Telling::Messages(from));
+        on(rt, t, Telling::Messages(from));
     } else {
-        say_failed(Telling::Messages(from), false, 1);
+        say_failed(rt, Telling::Messages(from), false, 1);
     }
 }

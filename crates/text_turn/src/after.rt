@@ -10,6 +10,7 @@ ghost use Rattle.text_turn.specs.Tells.{halted, Tells};
 
 use crate::{Prepared, State};
 use paper_streams::Stream;
+use std::io::Stdout;
 use sums::sum_on;
 use text_bytes::ROOM;
 use text_deed::{count, say};
@@ -97,7 +98,7 @@ fn carried(
 }
 
 // Tells the answer to a line: it is appended to those that wait, and they are written where they are due.
-pub fn tell(out: &mut [u8; ROOM], p: Prepared, a: Performed) -> State
+pub fn tell(stdout: Stdout, out: &mut [u8; ROOM], p: Prepared, a: Performed) -> State
     requires { p.state.waiting + answer_most ≤ room }
     ensures { Tells out.old p a out.new result }
 {
@@ -116,7 +117,7 @@ pub fn tell(out: &mut [u8; ROOM], p: Prepared, a: Performed) -> State
     let stream = carried(out, s.waiting, n, telling, more, before);
     let number = number_after(s.number);
     if is_due(i, n) {
-        let told = hand(out, n, told);
+        let told = hand(stdout, out, n, told);
         let all = told.took_all();
         return State {
             input: stopped(i, all),

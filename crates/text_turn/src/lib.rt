@@ -11,6 +11,7 @@ ghost use Rattle.text_protocol.specs.Line.{kept_most};
 ghost use Rattle.text_protocol.specs.Names.{evaluate_count};
 
 use paper_streams::Stream;
+use std::io::Stdin;
 use text_call::{figures, least};
 use text_deed::{Beside, asks_why, deed_of};
 use text_evening::Telling;
@@ -21,7 +22,7 @@ use text_protocol::{Ask, EvaluatePlace, Kept};
 // What goes on from line to line: what is left of the input, the number of the next line, what is kept of the interest
 // lines, how many bytes of answers wait to be written, the evidence of what was handed to `write`, how lines are told,
 // and how far the stream of messages is told.
-#[derive(Drop)]
+#[derive(Clone, Copy)]
 pub struct State {
     pub input: Input,
     pub number: u64,
@@ -35,7 +36,7 @@ pub struct State {
 // A line that was heard: the state behind it, but for the number of the line, which goes on once it is told; how many
 // numbers the line has, what it asks for, what is answered to it beside the table, whether why is asked, and where the
 // line's bytes stand in the buffer.
-#[derive(Drop)]
+#[derive(Clone, Copy)]
 pub struct Prepared {
     pub state: State,
     pub count: usize,
@@ -47,7 +48,7 @@ pub struct Prepared {
 }
 
 // Hears the next line.
-pub fn prepare(buf: &mut [u8], xs: &mut [i64], s: State) -> Prepared
+pub fn prepare(stdin: Stdin, buf: &mut [u8], xs: &mut [i64], s: State) -> Prepared
     requires { (Stands buf.old s.input) × (length xs.old ≡ kept_most) }
     ensures { (Prepares buf.old s buf.new result xs.new) × (length xs.new
         ≡ kept_most) }
@@ -57,7 +58,7 @@ pub fn prepare(buf: &mut [u8], xs: &mut [i64], s: State) -> Prepared
     let telling = s.telling;
     let told = s.told;
     let stream = s.stream;
-    let h = hear(buf, xs, input);
+    let h = hear(stdin, buf, xs, input);
     let line = h.line;
     let count = line.count;
     let deed = deed_of(&xs[..count], line, kept);

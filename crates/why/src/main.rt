@@ -4,6 +4,6 @@
 
 use text_evening::Telling;
 
-fn main() {
-    text_serve::on(text_serve::fresh(), Telling::Reasons);
+fn main(rt: HostRuntime) {
+    text_serve::on(rt, text_serve::fresh(), Telling::Reasons);
 }
