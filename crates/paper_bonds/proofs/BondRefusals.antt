@@ -28,12 +28,12 @@ module _ (b : Bond) (numbers : List ℤ) where
   -- a refusal is answered exactly when it is the first that applies
   pub refused_exactly : (v : Verdict) → is_done v ≡ false
       → Exactly ((bond_answer b numbers).verdict ≡ v) (FirstAt v (bond_checks b numbers))
-  refused_exactly = checks.refused-exactly (bond_answer b numbers).verdict (bond_checks b numbers) verdict_first
+  refused_exactly = checks.refused_exactly (bond_answer b numbers).verdict (bond_checks b numbers) verdict_first
 
   -- 0 exactly when none applies
   pub accepted_exactly : Exactly ((bond_answer b numbers).verdict ≡ Done) (NoneApplies (bond_checks b numbers))
   unfolding bond_checks is_done all_refusals every
-  accepted_exactly = checks.accepted-exactly (bond_answer b numbers).verdict (bond_checks b numbers) verdict_first refl
+  accepted_exactly = checks.accepted_exactly (bond_answer b numbers).verdict (bond_checks b numbers) verdict_first refl
 
   -- a refusal has its number and every figure 0
   pub refused_zero : is_done (bond_answer b numbers).verdict ≡ false

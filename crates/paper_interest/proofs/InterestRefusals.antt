@@ -47,6 +47,7 @@ module _ (i : Interest) (numbers : List ℤ) where
       only : FirstAt OutOfRange (interest_checks i numbers) → in_range i numbers ≡ false
       only (here w q) = not_true (in_range i numbers) q
       only (later p (here w q)) = absurd (six_is_not_fourteen (sym w))
+      only (later p (later _ x9)) = elim x9 [ ]
 
   -- 14, after 6
   pub not_ascending_exactly : Exactly ((interest_answer i numbers).pair.verdict ≡ NotAscending)
@@ -60,6 +61,7 @@ module _ (i : Interest) (numbers : List ℤ) where
       only : FirstAt NotAscending (interest_checks i numbers) → (in_range i numbers ≡ true) × (is_in_order i numbers ≡ false)
       only (here w q) = absurd (six_is_not_fourteen w)
       only (later p (here w q)) = (not_false (in_range i numbers) p, not_true (is_in_order i numbers) q)
+      only (later p (later _ x9)) = elim x9 [ ]
 
   -- 0, otherwise
   pub accepted_exactly : Exactly ((interest_answer i numbers).pair.verdict ≡ Done)

@@ -387,6 +387,7 @@ module _ (a : Admission) where
       numbered (later p (later p2 (later p3 (later p4 (later p5 (later p6 (later p7 (here w q)))))))) = no 19 w
       numbered (later p (later p2 (later p3 (later p4 (later p5 (later p6 (later p7 (later p8 (here w q))))))))) =
           no 20 w
+      numbered (later p (later p2 (later p3 (later p4 (later p5 (later p6 (later p7 (later p8 (later _ x30))))))))) = elim x30 [ ]
 
 -- ---- 4
 

@@ -13,6 +13,7 @@ pub first_holds : {A : Type 0} (holds : A → Bool) (order : List A) (v : A) →
     → holds v ≡ true
 first_holds holds (x ∷ xs) v (here e q) = rw e at q
 first_holds holds (x ∷ xs) v (later q rest) = first_holds holds xs v rest
+first_holds {A = A} holds [] v x' = elim x' [ ]
 
 -- WHAT IS NAMED IS THE TRUE REASON, where the conditions leave out no case
 pub true_reason : {A : Type 0} (none : A) (holds : A → Bool) (order : List A)

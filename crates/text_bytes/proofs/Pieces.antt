@@ -71,6 +71,7 @@ module _ (parts : ℕ → Bool) where
   joined_pieces h (piece f no_piece) last = pieces_none f
   joined_pieces h (piece {p} f g) (before {t = t} j) =
       pieces_more t f h ∙ ap (λ (ps : List (List ℕ)). p ∷ ps) (joined_pieces h g j)
+  joined_pieces {b = b} {t = t} h no_piece x5 = elim x5 [ ]
 
   -- A TEXT IS SPLIT IN ONE WAY
   pub split_once : {b : ℕ} {ps qs : List (List ℕ)} {t : List ℕ} → parts b ≡ true → AllFree parts ps → AllFree parts qs
