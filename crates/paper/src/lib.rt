@@ -42,12 +42,12 @@ pub const GRID_OF_ONE: u64 = 100;
 pub const GRID_TO_TEN: u64 = 10;
 
 // A price, in ten-thousandths of a rouble.
-#[derive(Drop)]
+#[derive(Clone, Copy)]
 pub struct Price {
     pub units: u64,
 }
 
-#[derive(Drop)]
+#[derive(Clone, Copy)]
 pub enum MadePrice {
     Made(Price),
     OutOfRange,
@@ -70,12 +70,12 @@ impl Price {
 }
 
 // A rate, in basis points: 10,000 is 100 per cent.
-#[derive(Drop)]
+#[derive(Clone, Copy)]
 pub struct Rate {
     pub bp: u64,
 }
 
-#[derive(Drop)]
+#[derive(Clone, Copy)]
 pub enum MadeRate {
     Made(Rate),
     OutOfRange,
@@ -105,12 +105,12 @@ impl Rate {
 
 // A limit of a range or a band, in ten-thousandths of a rouble, as a price is. Its range is its own: 0 is a limit, and
 // fifty moves take one past every price.
-#[derive(Drop)]
+#[derive(Clone, Copy)]
 pub struct Limit {
     pub units: u64,
 }
 
-#[derive(Drop)]
+#[derive(Clone, Copy)]
 pub enum MadeLimit {
     Made(Limit),
     OutOfRange,
@@ -140,7 +140,7 @@ impl Limit {
 
 // The tentative rate (7.1), in basis points, and the days since it changed. It is no `Rate`: no maximum holds it,
 // and it runs as far as the multiplier and the volatility take it (W-208).
-#[derive(Drop)]
+#[derive(Clone, Copy)]
 pub struct Tentative {
     pub bp: u64, // bp; of a share 0 to the least multiple of h at or above 100,000
     pub age: u64, // trading days, 0 to 250
@@ -153,7 +153,7 @@ impl Tentative {
 
 // What the volatility's rule takes, for shares and for interest alike: the weight where the move is above the
 // volatility, the weight where it is not, and the multiplier.
-#[derive(Drop)]
+#[derive(Clone, Copy)]
 pub struct Model {
     pub aup: u64, // ten-thousandths, 0 to 10,000
     pub adown: u64, // ten-thousandths, 0 to 10,000
@@ -161,7 +161,7 @@ pub struct Model {
 }
 
 // What a security is admitted with, by the names of document 01's table.
-#[derive(Drop)]
+#[derive(Clone, Copy)]
 pub struct Statics {
     pub lot: u64, // pieces, 1 to 100
     pub h: u64, // bp, 1 to 1,000
@@ -260,7 +260,7 @@ impl Statics {
 
 // The statics as they are given, in the order of the table (specs/Ranges.antt): each has the unit and the range of the
 // field of `Statics` with its name, and yes is 1, no 0.
-#[derive(Drop)]
+#[derive(Clone, Copy)]
 pub struct GivenStatics {
     pub lot: u64,
     pub h: u64,
@@ -353,28 +353,28 @@ impl GivenStatics {
 }
 
 // "A record has a standing: admitted only, or live with its day number." Either holds the last day.
-#[derive(Drop)]
+#[derive(Clone, Copy)]
 pub enum Standing {
     Admitted(u64), // a day number, 0 to 10^6
     Live(u64), // a day number, 0 to 10^6
 }
 
 // "A record carries its session: main, or evening with the evening moves made" (W-210).
-#[derive(Drop)]
+#[derive(Clone, Copy)]
 pub enum Session {
     Main,
     Evening(u64), // evening moves, 0 to 10
 }
 
 // W-211, "our outside source sends a bid and an ask as 64-bit floats": in roubles.
-#[derive(Drop)]
+#[derive(Clone, Copy)]
 pub struct Outside {
     pub bid: f64,
     pub ask: f64,
 }
 
 // W-211, "a notice that is a bid, an ask, or a withdrawal".
-#[derive(Drop)]
+#[derive(Clone, Copy)]
 pub enum Notice {
     Bid(f64),
     Ask(f64),
@@ -382,7 +382,7 @@ pub enum Notice {
 }
 
 // The outside bid and ask that a record keeps; 0 is none.
-#[derive(Drop)]
+#[derive(Clone, Copy)]
 pub struct External {
     pub bid: u64, // units, 0 to 10^10
     pub ask: u64, // units, 0 to 10^10
@@ -390,7 +390,7 @@ pub struct External {
 
 // W-209, "The shared rounding rule now says which way it goes": to the whole number that is not above, to the nearest
 // with a tie up, to the one that is not below.
-#[derive(Drop)]
+#[derive(Clone, Copy)]
 pub enum Way {
     Down,
     HalfUp,
@@ -398,13 +398,13 @@ pub enum Way {
 }
 
 // A lower and an upper limit: a level's range, or a term's band. A bond's are in hundredths of a per cent (W-206).
-#[derive(Drop)]
+#[derive(Clone, Copy)]
 pub struct Limits {
     pub lower: u64, // of a share units, 0 to 2·10^12 + 2·10^10, on the grid
     pub upper: u64, // of a share units, 0 to 2·10^12 + 2·10^10, on the grid
 }
 
-#[derive(Drop)]
+#[derive(Clone, Copy)]
 pub enum Side {
     Upper,
     Lower,
@@ -418,28 +418,28 @@ pub fn side_of(side: u64) -> Side
 }
 
 // A side is near since a second, or not near.
-#[derive(Drop)]
+#[derive(Clone, Copy)]
 pub enum Near {
     Not,
     Since(u64), // seconds of the day, 0 to 86,399
 }
 
 // The near seconds of one term.
-#[derive(Drop)]
+#[derive(Clone, Copy)]
 pub struct NearSeconds {
     pub top: Near,
     pub bottom: Near,
 }
 
 // The moves of each side since the evaluation: the c of document 01.
-#[derive(Drop)]
+#[derive(Clone, Copy)]
 pub struct Moves {
     pub upper: u64, // moves, 0 to 50
     pub lower: u64, // moves, 0 to 50
 }
 
 // A term's days k and its repo band RRcL ≤ RRcH.
-#[derive(Drop)]
+#[derive(Clone, Copy)]
 pub struct Term {
     pub k: u64, // days, 0 to 30
     pub low: i64, // bp, -9,999 to high
@@ -455,7 +455,7 @@ impl Term {
 }
 
 // What the limits of a bond take beside its statics, for one term (11.1).
-#[derive(Drop)]
+#[derive(Clone, Copy)]
 pub struct BondScale {
     pub carry: u64, // units: Carry, of the cash flows up to the term
     pub accrued: u64, // units, 0 to 10^10: the accrued interest
@@ -464,7 +464,7 @@ pub struct BondScale {
 }
 
 // What an evaluation gives beside its price (7.1): the volatility, the tentative rate, and a rate a level.
-#[derive(Drop)]
+#[derive(Clone, Copy)]
 pub struct Figures {
     pub s: u64, // millionths, 0 to 1,000,000
     pub tentative: Tentative,
@@ -472,7 +472,7 @@ pub struct Figures {
 }
 
 // One security. The slot is empty where id is 0. Of the two latest evaluations p1 is the later.
-#[derive(Drop)]
+#[derive(Clone, Copy)]
 pub struct Record {
     pub id: u64, // 1 to 10^9, or 0
     pub statics: Statics,
@@ -514,7 +514,7 @@ impl Record {
 }
 
 // What an admission gives.
-#[derive(Drop)]
+#[derive(Clone, Copy)]
 pub struct Admission {
     pub id: u64, // 1 to 10^9
     pub day: u64, // 0 to 10^6: the last day number
@@ -531,7 +531,7 @@ impl Admission {
 }
 
 // What a day gives beside its rows.
-#[derive(Drop)]
+#[derive(Clone, Copy)]
 pub struct Day {
     pub day: u64, // 0 to 10^6
     pub b: u64, // non-trading days between days i-2 and i, 0 to 30
@@ -547,7 +547,7 @@ impl Day {
 
 // A row of the day, its numbers in range; only the repo rate may be negative. Close, bid or ask 0 is missing, volume 0
 // is no trade.
-#[derive(Drop)]
+#[derive(Clone, Copy)]
 pub struct Row {
     pub t: u64, // days, 0 to 30
     pub central: u64, // ten-thousandths of a rouble, 1 to 10^7
@@ -573,7 +573,7 @@ impl Row {
 }
 
 // A row after places (a) and (b): its prices in roubles today, and its weight.
-#[derive(Drop)]
+#[derive(Clone, Copy)]
 pub struct Roubles {
     pub weight: u64, // thousands of roubles, 0 to 10^8
     pub close: u64, // units, 0 to 10^10
@@ -582,7 +582,7 @@ pub struct Roubles {
 }
 
 // A quote of one term; bid or ask 0 is missing.
-#[derive(Drop)]
+#[derive(Clone, Copy)]
 pub struct Quote {
     pub second: u64, // seconds of the day, 0 to 86,399
     pub term: u64, // 0 to 2
@@ -597,7 +597,7 @@ impl Quote {
 }
 
 // "Numbers a member may see", by name; `number` gives the number: 0 to 13 are document 01's, later ones document 02's.
-#[derive(Drop)]
+#[derive(Clone, Copy)]
 pub enum Verdict {
     Done,
     NoSuchId,
@@ -669,7 +669,7 @@ impl Verdict {
 }
 
 // What a call answers. A refusal has its verdict and every figure 0, flags no, nothing near, admitted only.
-#[derive(Drop)]
+#[derive(Clone, Copy)]
 pub struct Answer {
     pub verdict: Verdict,
     pub rec: Record,
@@ -681,7 +681,7 @@ pub struct Answer {
 
 // A key maturity as an evening gives it: its days, the repo rate of this evening and of the two before, the repo index,
 // and the volatility and the tentative rate of the evening before.
-#[derive(Drop)]
+#[derive(Clone, Copy)]
 pub struct Maturity {
     pub t: u64, // days, 0 to 365
     pub r: i64, // bp, -9,999 to 9,999
@@ -708,7 +708,7 @@ impl Maturity {
 
 // What an evening gives beside its key maturities: the holidays b, the pair of terms Ym/Yn, the statics, and the
 // rollover rates of money and of the security.
-#[derive(Drop)]
+#[derive(Clone, Copy)]
 pub struct Interest {
     pub b: u64, // days, 0 to 30
     pub ym: u64, // days, 0 to 365, less than yn
@@ -730,7 +730,7 @@ impl Interest {
 
 // The figures of a key maturity: the change of its rate, the volatility, the tentative rate, and the upward and the
 // downward estimate.
-#[derive(Drop)]
+#[derive(Clone, Copy)]
 pub struct MaturityFigures {
     pub change: u64, // bp, 0 to 19,998
     pub volatility: u64, // bp, 0 to 19,998
@@ -740,7 +740,7 @@ pub struct MaturityFigures {
 }
 
 // A pair of terms worked out: the limits of its repo band, where the verdict is done.
-#[derive(Drop)]
+#[derive(Clone, Copy)]
 pub struct WorkedBand {
     pub verdict: Verdict,
     pub lower: i64, // bp
@@ -749,7 +749,7 @@ pub struct WorkedBand {
 
 // What the interest side answers: the pair, how many key maturities there are, and the figures of each; zeros past the
 // last. A refusal has its verdict and every figure 0.
-#[derive(Drop)]
+#[derive(Clone, Copy)]
 pub struct InterestAnswer {
     pub pair: WorkedBand,
     pub count: u64,
@@ -757,27 +757,27 @@ pub struct InterestAnswer {
 }
 
 // A repo band as two numbers give it.
-#[derive(Drop)]
+#[derive(Clone, Copy)]
 pub struct RepoLimits {
     pub low: i64, // bp
     pub high: i64, // bp
 }
 
 // Where a term's repo band comes from: it stands as given, or a pair of terms was worked out.
-#[derive(Drop)]
+#[derive(Clone, Copy)]
 pub enum RepoBand {
     AsGiven(RepoLimits),
     WorkedOut(WorkedBand),
 }
 
-#[derive(Drop)]
+#[derive(Clone, Copy)]
 pub struct AskedTerm {
     pub k: u64, // days, 0 to 30
     pub band: RepoBand,
 }
 
 // A day as it is asked for, with either kind of band in each of its terms; its numbers are those of `Day`.
-#[derive(Drop)]
+#[derive(Clone, Copy)]
 pub struct AskedDay {
     pub day: u64,
     pub b: u64,
@@ -788,7 +788,7 @@ pub struct AskedDay {
 }
 
 // What is asked about one security. The row figures of an evaluation are lent beside it.
-#[derive(Drop)]
+#[derive(Clone, Copy)]
 pub enum AskedAbout {
     Evaluate(AskedDay),
     Quote(Quote),
