@@ -1,5 +1,5 @@
 -- A field that is written is read, what is read is written, and THE READING OF A FIELD IS UNIQUE.
-use mathlib.Core.Path.{◌≡◌, refl, sym, ap, ◌∙◌}
+use mathlib.Core.Path.{◌≡◌, refl, ap, ◌∙◌}
 use mathlib.Core.Bool.{Bool, true, false, ◌&&◌, not, and-false}
 use mathlib.Core.List.{List, [], ◌∷◌, ◌++◌, append_assoc}
 use Prim.Native.Nat.{ℕ, zero, suc, ◌≤◌, ◌<◌}
@@ -10,7 +10,7 @@ use lib.ListN.{length, drop}
 use borrow.Author.Tests.{ne_eqb}
 use Rattle.paper.specs.Lists.{pick}
 use Rattle.paper.proofs.Logic.{and_left, and_right}
-use Rattle.text_bytes.specs.Bytes.{minus_sign, digit_zero, digit_nine}
+use Rattle.text_bytes.specs.Bytes.{minus_sign, digit_nine}
 use Rattle.text_bytes.specs.Numbers.{is_digit}
 use Rattle.text_bytes.specs.Spells.{Digits, no_digit, digit, negated}
 use Rattle.text_bytes.proofs.Spelling.{impossible, within_is_digit, digit_is_no_minus}

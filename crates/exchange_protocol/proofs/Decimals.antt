@@ -8,11 +8,10 @@ use native.Mathlib.Nat.{pow-suc, le-mul_of_pos_right, le_of_mul-le-mul_right, mu
 use native.Mathlib.Omega.{arith}
 use lib.Dec.{leb, ltb, eqb}
 use lib.Pow.{pow-add}
-use lib.ListN.{length, take, drop, length-append}
-use lib.Seq.{length-take-le}
-use borrow.Author.Tests.{leb-true, leb-false, le-leb, lt-leb, ltb-true, lt-ltb, eqb-true, eq-eqb}
+use lib.ListN.{length, drop, length-append}
+use borrow.Author.Tests.{leb-true, leb-false, le-leb, ltb-true, lt-ltb, eqb-true, eq-eqb}
 use Rattle.paper.specs.Lists.{pick}
-use Rattle.text_bytes.specs.Bytes.{minus_sign, digit_zero, digit_nine}
+use Rattle.text_bytes.specs.Bytes.{digit_zero, digit_nine}
 use Rattle.text_bytes.specs.Numbers.{is_digit}
 use Rattle.text_bytes.specs.Spells.{Digits, no_digit, digit, value}
 use Rattle.text_bytes.proofs.Spelling.{impossible, within_is_digit, digit_is_within}

@@ -1,17 +1,17 @@
 -- A line that is written is read, what is read is written, and THE READING OF A LINE IS UNIQUE.
 use mathlib.Core.Path.{◌≡◌, refl, sym, ap, ◌∙◌}
 use mathlib.Core.Bool.{Bool, true, false, ◌&&◌}
-use mathlib.Core.List.{List, [], ◌∷◌, ◌++◌, append_assoc, append-nil}
-use Prim.Native.Nat.{ℕ, zero, suc, ◌+◌, ◌≤◌, ◌<◌}
+use mathlib.Core.List.{List, [], ◌∷◌, ◌++◌, append_assoc}
+use Prim.Native.Nat.{ℕ, ◌≤◌}
 use native.Mathlib.Omega.{arith}
 use lib.Dec.{leb, eqb}
 use lib.IntN.{ℤ, pos, negsuc, nat_abs}
-use lib.ListN.{length, drop, get_or}
+use lib.ListN.{length, drop}
 use borrow.Author.Tests.{leb-true, eqb-true, ne_eqb}
 use Rattle.paper.specs.Lists.{pick}
 use Rattle.paper.specs.Numbers.{id_most, row_numbers, repo_least, repo_most, row_term_most, central_most, price_most}
 use Rattle.paper.specs.Numbers.{volume_most}
-use Rattle.paper.specs.Ranges.{within, within_z, LentRow, row_at, close_for_volume, valid_row}
+use Rattle.paper.specs.Ranges.{within, within_z, LentRow, row_at, valid_row}
 use Rattle.paper.proofs.Logic.{not_true_and_false, and_left, and_right, and_both}
 use Rattle.text_bytes.specs.Bytes.{line_feed, carriage_return, minus_sign, digit_nine, is_line_feed, pieces}
 use Rattle.text_bytes.specs.Numbers.{is_digit}
@@ -19,7 +19,7 @@ use Rattle.text_bytes.proofs.Spelling.{impossible}
 use Rattle.text_bytes.specs.Split.{Free, free_none, free}
 use Rattle.text_bytes.proofs.Pieces.{free_append, pieces_none, pieces_more, Parted, all, more, parted, pieces_some}
 use Rattle.exchange_protocol.specs.declared.Column.{Column}
-use Rattle.exchange_protocol.specs.Exchange.{point, semicolon, is_semicolon, Decimal, Field, missing, plain}
+use Rattle.exchange_protocol.specs.Exchange.{point, semicolon, is_semicolon, Field, missing, plain}
 use Rattle.exchange_protocol.specs.Exchange.{negative}
 use Rattle.exchange_protocol.specs.Exchange.{columns, whole_number, Fields, no_field, field, Line, Ended, by_lf}
 use Rattle.exchange_protocol.specs.Exchange.{by_cr_lf}

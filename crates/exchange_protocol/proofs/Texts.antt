@@ -3,15 +3,15 @@ use mathlib.Core.Path.{◌≡◌, refl, sym, ap, ap₂, ◌∙◌}
 use mathlib.Core.Bool.{Bool, true, false}
 use mathlib.Core.Logic.{◌⊎◌, inl, inr}
 use mathlib.Core.List.{List, [], ◌∷◌, ◌++◌}
-use Prim.Native.Nat.{ℕ, suc, ◌+◌, ◌-◌, ◌*◌, ◌≤◌, ◌<◌}
+use Prim.Native.Nat.{ℕ, suc, ◌-◌, ◌*◌, ◌≤◌, ◌<◌}
 use native.Mathlib.Nat.{pos_of_ne-zero}
 use native.Mathlib.Omega.{arith}
 use lib.Dec.{leb, ltb, eqb}
 use lib.IntN.{ℤ, pos}
-use lib.ListN.{length, take, drop, replicate, length-append, length-replicate}
-use borrow.Author.Tests.{leb-true, leb-false, ltb-true, ltb-false, eqb-true, eqb-false, eq-eqb, ne_eqb}
+use lib.ListN.{length, drop, replicate, length-append, length-replicate}
+use borrow.Author.Tests.{leb-true, leb-false, ltb-true, ltb-false, eqb-true, eqb-false}
 use Rattle.paper.specs.Lists.{pick}
-use Rattle.paper.specs.declared.Verdict.TheVariants.{Done, BadLine}
+use Rattle.paper.specs.declared.Verdict.TheVariants.{BadLine}
 use Rattle.paper.specs.Numbers.{id_most, row_numbers, all_numbers_most}
 use Rattle.paper.specs.Ranges.{within, unsigned}
 use Rattle.paper.specs.Verdicts.{Exactly}
@@ -19,7 +19,7 @@ use Rattle.paper.proofs.Logic.{not_true_and_false, le_or_lt}
 use Rattle.text_bytes.specs.Bytes.{line_feed, is_line_feed, pieces}
 use Rattle.text_bytes.proofs.Spelling.{impossible}
 use Rattle.text_bytes.specs.Split.{Free, AllFree, piece}
-use Rattle.text_bytes.proofs.Pieces.{pieces_none, pieces_more, pieces_free, pieces_some}
+use Rattle.text_bytes.proofs.Pieces.{pieces_more, pieces_free, pieces_some}
 use Rattle.exchange_protocol.specs.declared.Reading.{Reading}
 use Rattle.exchange_protocol.specs.Exchange.{Ended, by_lf, by_cr_lf, rows_most, text_most, Bad, unended, no_row}
 use Rattle.exchange_protocol.specs.Exchange.{seventeenth, RowsOf, no_line, its_own, another's, in_one, accepted}

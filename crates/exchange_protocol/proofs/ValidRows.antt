@@ -1,19 +1,17 @@
 -- The rows that a text gives are a day's rows: an evaluation takes them as they stand.
-use mathlib.Core.Path.{◌≡◌, refl, sym, ap, ◌∙◌}
-use mathlib.Core.Bool.{Bool, true, false, ◌&&◌}
-use mathlib.Core.List.{List, [], ◌∷◌, ◌++◌, append_assoc}
-use Prim.Native.Nat.{ℕ, zero, suc, ◌+◌, ◌-◌, ◌*◌, ◌/◌, ◌%◌, ◌≤◌, ◌<◌}
+use mathlib.Core.Path.{◌≡◌, refl, ap, ◌∙◌}
+use mathlib.Core.Bool.{true}
+use mathlib.Core.List.{List, [], ◌++◌, append_assoc}
+use Prim.Native.Nat.{ℕ, ◌+◌, ◌-◌, ◌*◌, ◌/◌, ◌%◌, ◌≤◌, ◌<◌}
 use native.Mathlib.Omega.{arith}
 use lib.Arith.{digits_div, digits_mod}
-use lib.Dec.{leb, eqb}
 use lib.IntN.{ℤ, pos}
 use lib.ListN.{length, take, get_or, replicate, length-append, get_or-append}
 use lib.Seq.{get_or-append-add, take_at}
-use borrow.Author.Tests.{le-leb, eq-eqb}
+use borrow.Author.Tests.{le-leb}
 use Rattle.paper.specs.Lists.{every}
 use Rattle.paper.specs.Numbers.{row_numbers, all_numbers_most}
 use Rattle.paper.specs.Ranges.{parts_from, row_at, rows_of, whole_rows, valid_row, valid_rows}
-use Rattle.paper.proofs.Logic.{and_both}
 use Rattle.exchange_protocol.specs.declared.Reading.{Reading}
 use Rattle.exchange_protocol.specs.Exchange.{Ended, by_lf, by_cr_lf, rows_most, RowsOf, no_line, its_own}
 use Rattle.exchange_protocol.specs.Exchange.{another's}

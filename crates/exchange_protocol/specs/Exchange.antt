@@ -1,10 +1,10 @@
 -- Document 02, W-203, "Take the exchange's evening text": what a field, a line and a text mean, said by how they are
 -- put together and not by how they are read. How we read what the request leaves open stands in docs/READINGS.md.
-use Rattle.std.specs.Prelude.{◌≡◌, Bool, true, false, ◌&&◌, ◌||◌, List, [], ◌∷◌, ◌++◌, ℕ, suc, ◌+◌, ◌-◌, ◌*◌, ◌^◌, ◌≤◌, ◌<◌, leb, eqb, ℤ, pos, length, take, get_or, replicate}
+use Rattle.std.specs.Prelude.{◌≡◌, Bool, true, false, ◌||◌, List, [], ◌∷◌, ◌++◌, ℕ, suc, ◌+◌, ◌-◌, ◌*◌, ◌^◌, ◌≤◌, ◌<◌, leb, eqb, ℤ, pos, length, take, get_or, replicate}
 use Rattle.paper.specs.declared.Verdict.TheVariants.{Done, BadLine}
 use Rattle.paper.specs.Numbers.{id_most, row_numbers, all_numbers_most}
 use Rattle.paper.specs.Ranges.{within, row_at, valid_row}
-use Rattle.text_bytes.specs.Bytes.{line_feed, carriage_return, minus_sign, is_line_feed, pieces}
+use Rattle.text_bytes.specs.Bytes.{carriage_return, minus_sign, is_line_feed, pieces}
 use Rattle.text_bytes.specs.Spells.{Digits, value, negated}
 use Rattle.exchange_protocol.specs.declared.Column.{Column}
 use Rattle.exchange_protocol.specs.declared.Reading.{Reading}

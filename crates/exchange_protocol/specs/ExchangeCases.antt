@@ -1,7 +1,7 @@
 -- W-203 by examples: lines and texts of the exchange, both sides of each sentence, each beside what it says of the
 -- security 7. `rows_are`, `lines_bad` and `texts_are` compute them all; `says_reading` (proofs/Texts.antt) proves that
 -- what is computed is what the definitions of Exchange say, and nothing else.
-use Rattle.std.specs.Prelude.{◌≡◌, refl, true, false, List, [], ◌∷◌, ◌++◌, map, ℕ, zero, suc, ℤ, pos, negsuc, length, replicate}
+use Rattle.std.specs.Prelude.{◌≡◌, refl, List, [], ◌∷◌, ◌++◌, map, ℕ, zero, suc, ℤ, pos, negsuc, length, replicate}
 use Prim.Native.String.{String}
 use Rattle.paper.specs.declared.Verdict.TheVariants.{Done, BadLine}
 use Rattle.paper.specs.Ranges.{unsigned, row_at, valid_row}

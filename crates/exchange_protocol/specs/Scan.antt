@@ -1,6 +1,6 @@
 -- How a text is read in one pass, from its front on: what stands in front of a text, and what is left behind it. The
 -- code reads so; proofs/ proves that it is what the definitions of Exchange say.
-use Rattle.std.specs.Prelude.{◌≡◌, Bool, true, false, ◌&&◌, not, List, [], ◌∷◌, ◌++◌, ℕ, zero, suc, ◌+◌, ◌-◌, ◌*◌, ◌^◌, leb, ltb, eqb, ℤ, pos, length, drop, get_or}
+use Rattle.std.specs.Prelude.{◌≡◌, Bool, false, ◌&&◌, not, List, [], ◌∷◌, ◌++◌, ℕ, zero, suc, ◌+◌, ◌-◌, ◌*◌, ◌^◌, leb, ltb, eqb, ℤ, pos, length, drop, get_or}
 use Rattle.paper.specs.Lists.{pick}
 use Rattle.paper.specs.Numbers.{id_most, price_most}
 use Rattle.paper.specs.Ranges.{within_z, unsigned, row_at, valid_row}
