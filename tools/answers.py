@@ -244,7 +244,7 @@ def convert(path, key, made, crate, function_path):
     left = []
     blocks = blocks_of(text)
     for b in blocks:
-        code = code_of(b)
+        code = code_of(b).strip("\n")
         comment = "\n".join(l for l in b.split("\n") if l.startswith("--"))
         if not code.strip():
             head = head or b
