@@ -89,7 +89,7 @@ def chains(text, roots, steps, drop=True):
             root += ".before" * back
         if not parts:
             return root
-        new = steps.get(norm(parts[0]))
+        new = steps.get(norm(parts[0])) or steps.get(norm(re.sub("_lem$", "", parts[0])))
         if new and parts[0] not in ("args", "requires", "ranges"):
             parts[0] = new
         whole = root + "." + ".".join(parts)
