@@ -6,7 +6,7 @@ use paper::{Row, Verdict};
 
 // How a column of the exchange's text is written: how many decimals its unit has, whether further ones may stand behind
 // those if they are zeros, whether it may be empty, and whether it may have a minus.
-#[derive(Drop)]
+#[derive(Clone, Copy)]
 pub struct Column {
     pub places: usize,
     pub zeros: bool,
@@ -16,7 +16,7 @@ pub struct Column {
 
 // What a text says of one security: done, how many rows it has, their numbers, seven to a row, and zeros past the last;
 // or a bad line (15), its number, and zeros.
-#[derive(Drop)]
+#[derive(Clone, Copy)]
 pub struct Reading {
     pub verdict: Verdict,
     pub line: u64,

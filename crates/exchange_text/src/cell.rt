@@ -15,14 +15,14 @@ use paper::Price;
 use text_bytes::{DIGIT_NINE, DIGIT_ZERO};
 
 // A number in front of a text, and where it ends.
-#[derive(Drop)]
+#[derive(Clone, Copy)]
 pub enum Part {
     Is(u64, usize),
     Bad,
 }
 
 // A field, and where it ends.
-#[derive(Drop)]
+#[derive(Clone, Copy)]
 pub enum Cell {
     Is(i64, usize),
     Bad,

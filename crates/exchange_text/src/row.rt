@@ -10,7 +10,7 @@ use exchange_protocol::Column;
 use paper::{Record, Row};
 
 // Where something ends that is no number.
-#[derive(Drop)]
+#[derive(Clone, Copy)]
 pub enum Place {
     At(usize),
     Bad,

@@ -12,7 +12,7 @@ use paper::{Interest, ONE_IN_HUNDREDTHS, RepoLimits};
 // ---- between the key maturities (14.6)
 
 // The figures so many days ahead: the rate, lifted, and the upward and the downward estimate.
-#[derive(Drop)]
+#[derive(Clone, Copy)]
 pub struct Point {
     pub t: u64,
     pub rate: u64,

@@ -99,7 +99,7 @@ pub fn is_ascending(numbers: &[i64]) -> bool
 }
 
 // Where the key maturities before and after a term begin; one place twice where there is one.
-#[derive(Drop)]
+#[derive(Clone, Copy)]
 pub struct Places {
     pub before: usize,
     pub after: usize,
