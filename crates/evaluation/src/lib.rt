@@ -26,7 +26,7 @@ const NARROW_MOST: u64 = u64::MAX / YEAR_DAYS;
 const ONCE_CENTRAL_MOST: u64 = 5_000_000;
 
 // What the rows come to: their weights, their closes times their weights, the greatest bid and the least ask.
-#[derive(Drop)]
+#[derive(Clone, Copy)]
 pub struct Book {
     weight: u64,
     worth: u64,
@@ -35,7 +35,7 @@ pub struct Book {
 }
 
 // What one walk over the rows gives (W-214): the first of 6, 16 and 7 that refuses them, else their book.
-#[derive(Drop)]
+#[derive(Clone, Copy)]
 pub enum Gathered {
     OutOfRange,
     Crossed,
@@ -45,7 +45,7 @@ pub enum Gathered {
 
 // The figures that a price is chosen from: the weights of the rows together, the close, and BID and ASK with the
 // outside prices that count (W-211), in units.
-#[derive(Drop)]
+#[derive(Clone, Copy)]
 pub struct PriceFigures {
     pub weight: u64,
     pub close: u64,
@@ -54,14 +54,14 @@ pub struct PriceFigures {
 }
 
 // An evaluation, and the figures that it was chosen from.
-#[derive(Drop)]
+#[derive(Clone, Copy)]
 pub struct Priced {
     pub price: Price,
     pub figures: PriceFigures,
 }
 
 // The day's evaluation, or that a figure is beyond its range: refusal 7.
-#[derive(Drop)]
+#[derive(Clone, Copy)]
 pub enum Evaluation {
     Evaluated(Priced),
     Beyond,

@@ -85,7 +85,7 @@ pub fn to_grid(g: u64, n: u64, d: u64) -> u64
 // ---- products that do not fit 64 bits
 
 // A quotient and its remainder.
-#[derive(Drop)]
+#[derive(Clone, Copy)]
 struct Division {
     quot: u64,
     rest: u64,
@@ -157,7 +157,7 @@ fn shl(x: u64, k: u64) -> u64
 // What is found of a root when k of its bits are to come (`Searched`): x is its bits so far. With y = x·2^k, doubled is
 // 2·factor·y·2^20, and rest is what factor·y² leaves of the number, times 2^(20 - k). So doubled is shifted in no turn,
 // and what a turn waits for is short (W-214).
-#[derive(Drop)]
+#[derive(Clone, Copy)]
 struct Found {
     x: u64,
     doubled: u64,

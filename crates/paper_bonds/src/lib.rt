@@ -6,7 +6,7 @@
 use paper::{AskedTerm, Limits, Rate, Record, Tentative, Verdict};
 
 // The statics that a bond uses, as numbers: ranges and orders are the shares', yes is 1 and no is 0.
-#[derive(Drop)]
+#[derive(Clone, Copy)]
 pub struct BondStatics {
     pub h: u64, // bp, 1 to 1,000
     pub q: u64, // hundredths, 100 to 1,000
@@ -27,7 +27,7 @@ pub struct BondStatics {
 }
 
 // A bond as it is given, beside its cash flows.
-#[derive(Drop)]
+#[derive(Clone, Copy)]
 pub struct Bond {
     pub m: u64, // non-trading days ahead, 0 to 10
     pub net: u64, // the net evaluation, in hundredths of a per cent, 1 to 30,000
@@ -52,7 +52,7 @@ impl Bond {
 }
 
 // A cash flow, its numbers in range.
-#[derive(Drop)]
+#[derive(Clone, Copy)]
 pub struct Flow {
     pub day: u64, // days ahead, 1 to 30
     pub amount: u64, // units, 0 to 10^10
@@ -69,7 +69,7 @@ impl Flow {
 }
 
 // The limits of a term, in hundredths of a per cent: on the book, and for trades off it.
-#[derive(Drop)]
+#[derive(Clone, Copy)]
 pub struct BondLimits {
     pub band: Limits,
     pub off: Limits,
@@ -77,7 +77,7 @@ pub struct BondLimits {
 
 // What the call answers: the gross evaluation, the tentative rate, a rate a level, and limits a term. A refusal has its
 // verdict and every figure 0.
-#[derive(Drop)]
+#[derive(Clone, Copy)]
 pub struct BondAnswer {
     pub verdict: Verdict,
     pub gross: u64, // units

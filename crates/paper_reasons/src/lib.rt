@@ -5,7 +5,7 @@
 use paper::Verdict;
 
 // "which figure set the price (close, bid, ask, or yesterday)"
-#[derive(Drop)]
+#[derive(Clone, Copy)]
 pub enum PriceReason {
     None,
     Close,
@@ -15,7 +15,7 @@ pub enum PriceReason {
 }
 
 // "which weight": 0, a_up or a_down
-#[derive(Drop)]
+#[derive(Clone, Copy)]
 pub enum WeightReason {
     None,
     Zero,
@@ -24,7 +24,7 @@ pub enum WeightReason {
 }
 
 // "whether the replacement won"
-#[derive(Drop)]
+#[derive(Clone, Copy)]
 pub enum ReplacementReason {
     None,
     Yes,
@@ -32,7 +32,7 @@ pub enum ReplacementReason {
 }
 
 // "whether the tentative rate rose, fell, waited or was level"
-#[derive(Drop)]
+#[derive(Clone, Copy)]
 pub enum TentativeReason {
     None,
     Rose,
@@ -42,7 +42,7 @@ pub enum TentativeReason {
 }
 
 // "for each level whether the requirement, the minimum or the maximum set it"
-#[derive(Drop)]
+#[derive(Clone, Copy)]
 pub enum LevelReason {
     None,
     Requirement,
@@ -51,7 +51,7 @@ pub enum LevelReason {
 }
 
 // "the first row, else term, at fault, or none": rows count from 1, terms are 0, 1, 2.
-#[derive(Drop)]
+#[derive(Clone, Copy)]
 pub enum Fault {
     None,
     Row(u64),
@@ -59,7 +59,7 @@ pub enum Fault {
 }
 
 // The figures that decided, with isEWMA yes: document 01's letters, and s before the evaluation.
-#[derive(Drop)]
+#[derive(Clone, Copy)]
 pub struct Deciding {
     pub r: u64, // millionths, 0 to 1,000,000: the move
     pub before: u64, // millionths, 0 to 1,000,000: the volatility before
@@ -70,14 +70,14 @@ pub struct Deciding {
 }
 
 // With isEWMA no, no figure decided.
-#[derive(Drop)]
+#[derive(Clone, Copy)]
 pub enum Decided {
     None,
     By(Deciding),
 }
 
 // The reasons of an accepted evaluation; all `None` of a refused one.
-#[derive(Drop)]
+#[derive(Clone, Copy)]
 pub struct Reasons {
     pub price: PriceReason,
     pub weight: WeightReason,
@@ -90,7 +90,7 @@ pub struct Reasons {
 }
 
 // Why an evaluation is answered as it is.
-#[derive(Drop)]
+#[derive(Clone, Copy)]
 pub struct Why {
     pub verdict: Verdict,
     pub fault: Fault,
@@ -98,7 +98,7 @@ pub struct Why {
 }
 
 // The number at fault in an admission that is refused 4, by its place in the line: the id is 1. `None` where none is.
-#[derive(Drop)]
+#[derive(Clone, Copy)]
 pub enum FieldAtFault {
     None,
     Number(u64),

@@ -13,7 +13,7 @@ use paper::{
 
 // What is found of an id in a table: how many slots there are, the place of the first with the id, or their number, and
 // its record, or a blank.
-#[derive(Drop)]
+#[derive(Clone, Copy)]
 pub struct Slot {
     pub count: usize,
     pub at: usize,
@@ -22,7 +22,7 @@ pub struct Slot {
 
 // What a call replies, of the record that its effect has: a number alone, which is a refusal's or an admission's 0; the
 // record; or the two alerts of a quote, the top's and the bottom's.
-#[derive(Drop)]
+#[derive(Clone, Copy)]
 pub enum Replied {
     Number(Verdict),
     TheRecord,
@@ -31,7 +31,7 @@ pub enum Replied {
 
 // Where to store, what, and what to reply. A refusal stores past the end. The record stands here once: `answered` makes
 // the answer of it.
-#[derive(Drop)]
+#[derive(Clone, Copy)]
 pub struct Effect {
     pub at: usize,
     pub rec: Record,

@@ -15,7 +15,7 @@ use paper_reasons::Fault;
 
 // What a row may be at fault in: a number of it is out of range (6), it is crossed (16), or a rounded price or volume
 // of it does not fit (7).
-#[derive(Drop)]
+#[derive(Clone, Copy)]
 enum RowFault {
     OutOfRange,
     Crossed,

@@ -24,7 +24,7 @@ fn ranges_of(st: Statics, p: Price, rates: [Rate; Record::LEVELS]) -> [Limits; R
 
 // What an evaluation works out, under the record's own names: its price, the figures of 7.1 and the limits. All else of
 // a record it keeps, clears or takes from the day, so that a call that only asks need not write a record.
-#[derive(Drop)]
+#[derive(Clone, Copy)]
 pub struct Made {
     pub p1: Price,
     pub s: u64,

@@ -30,7 +30,7 @@ const ROW_MOST: [i64; Row::NUMBERS] = [
 ];
 
 // What every row of a day is asked: that its numbers are in range, else 6, and that it is not crossed, else 16.
-#[derive(Drop)]
+#[derive(Clone, Copy)]
 enum RowTest {
     InRange,
     NotCrossed,

@@ -10,8 +10,7 @@ use lib.Dec.{eqb, ltb}
 use borrow.Author.Tests.{le-leb, lt-leb, le-ltb, lt-ltb, eqb-true, eq-eqb}
 use Rattle.paper.specs.Ranges.{grid_of}
 use Rattle.paper.proofs.Logic.{le_or_lt}
-use Rattle.inputs.proofs.prices.is_on_grid.Statement.{statement}
-use Rattle.inputs.proofs.prices.is_on_grid.Tie as tie
+use Rattle.inputs.proofs.prices.is_on_grid.Goals as goal
 
 or_false_is_first : (a : Bool) → (a || false) ≡ a
 or_false_is_first true = refl
@@ -42,8 +41,5 @@ tests_are_grid lot x = one (le_or_lt lot 1)
         rw (le-ltb 10 lot few, le-ltb 1 lot h, le-leb lot 1 h) (or_false_is_first (eqb (x % 100) 0))
     one (inr l) = ten l (le_or_lt lot 10)
 
-returns : tie.Need-returns
+pub returns : goal.returns
 returns c = tests_are_grid c.args.lot c.args.x
-
-pub is_on_grid_spec : {M : Type 1} → statement M
-is_on_grid_spec = tie.close (tie.spec returns)

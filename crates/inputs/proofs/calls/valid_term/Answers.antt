@@ -5,16 +5,12 @@ use mir.Val.{SFits}
 use mir.Facts.{to_z-of_z}
 use borrow.Author.Rules.{rules}
 use Rattle.paper.specs.Ranges.{valid_term}
-use Rattle.inputs.proofs.calls.valid_term.Statement.{statement}
-use Rattle.inputs.proofs.calls.valid_term.Tie as tie
+use Rattle.inputs.proofs.calls.valid_term.Goals as goal
 
-returns : tie.Need-returns
+pub returns : goal.returns
 unfolding valid_term
 returns c =
-    let x = c.before.before.before.before.before.before.before.args.x in
+    let x = c.args.x in
     let low : SFits w64 x.low = search rules in
     let high : SFits w64 x.high = search rules in
     rw (to_z-of_z low, to_z-of_z high)
-
-pub valid_term_spec : {M : Type 1} → statement M
-valid_term_spec = tie.close (tie.spec returns)

@@ -6,7 +6,6 @@ use Prim.Native.Nat.{ℕ, ◌+◌, ◌-◌, ◌*◌, ◌/◌, ◌%◌, ◌≤◌
 use native.Mathlib.Nat.{lt_of_mul-lt-mul_right, mul-le-mul_right}
 use native.Mathlib.Omega.{arith}
 use lib.Dec.{leb, ltb, eqb}
-use borrow.Author.Rules.{rules}
 use borrow.Author.Tests.{le-leb, lt-leb, le-ltb, lt-ltb, eqb-true}
 use Rattle.paper.specs.Numbers.{tentative_most}
 use Rattle.paper.specs.Ranges.{tentative_top, valid_tentative}
@@ -14,8 +13,7 @@ use Rattle.paper.proofs.Logic.{le_or_lt}
 use Rattle.paper_desk.proofs.Level.{quotient_times_is}
 use Rattle.paper_desk.proofs.TentativeRange.{tentative_top_is, tentative_top_high}
 use Rattle.inputs.proofs.Tests.{same_where_second_passes}
-use Rattle.inputs.proofs.statics.valid_tentative.Statement.{statement}
-use Rattle.inputs.proofs.statics.valid_tentative.Tie as tie
+use Rattle.inputs.proofs.statics.valid_tentative.Goals as goal
 
 -- a step less than a multiple above the top is 100,000 bp or more, since the top is the least that reaches them
 step_less_below_most_is_within_top : (h t : ℕ) → 0 < h → t % h ≡ 0 → ltb (t - h) tentative_most ≡ leb t (tentative_top h)
@@ -38,20 +36,11 @@ step_less_below_most_is_within_top h t p e = go (le_or_lt t (tentative_top h))
         let reached : tentative_most ≤ t - h = omega (arith, whole, top.enough) in
         rw (lt-leb t (tentative_top h) l, le-ltb (t - h) tentative_most reached)
 
-tentative-requires : tie.Need-less-requires
-tentative-requires c κs = search rules
-
-rem-result : tie.Need-nonzero-rem-result
-rem-result c = search rules
-
-returns : tie.Need-returns
+pub returns : goal.returns
 unfolding valid_tentative
 returns c =
-    let a = c.before.args in
+    let a = c.args in
     let rest : ℕ = a.tentative % a.h in
     rw c.less.ensures
     (same_where_second_passes _ _ (eqb rest 0)
-    (λ e. step_less_below_most_is_within_top a.h a.tentative c.before.requires (eqb-true rest 0 e)))
-
-pub valid_tentative_spec : {M : Type 1} → statement M
-valid_tentative_spec = tie.close (tie.spec tentative-requires rem-result returns)
+    (λ e. step_less_below_most_is_within_top a.h a.tentative c.requires (eqb-true rest 0 e)))

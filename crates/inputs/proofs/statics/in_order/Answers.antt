@@ -1,0 +1,6 @@
+-- `inputs::in_order` meets its contract: the code's tests are the definition's.
+use mathlib.Core.Path.{refl}
+use Rattle.inputs.proofs.statics.in_order.Goals as goal
+
+pub returns : goal.returns
+returns c = refl
