@@ -124,7 +124,7 @@ const SUM: Field = Field {
 const WORD_MOST: usize = 11;
 
 // The word of a kind: its letters, of which so many count.
-#[derive(Drop)]
+#[derive(Clone, Copy)]
 pub struct Word {
     pub count: usize,
     pub letters: [u8; WORD_MOST],
@@ -132,7 +132,7 @@ pub struct Word {
 
 // A kind's row: the length that its messages give, of the kind and the fields; how many fields it has, and a field at
 // every place; and its word.
-#[derive(Drop)]
+#[derive(Clone, Copy)]
 struct MessageKind {
     length: u64,
     count: usize,

@@ -5,7 +5,7 @@
 use paper::{Statics, Verdict};
 
 // A field of a message: how many bytes it has, and its range.
-#[derive(Drop)]
+#[derive(Clone, Copy)]
 pub struct Field {
     pub width: usize,
     pub low: i64,
@@ -14,7 +14,7 @@ pub struct Field {
 
 // A message: its kind, 1 to KINDS, and its fields in the order of docs/BROADCAST.md. Past the kind's last field stand
 // zeros.
-#[derive(Drop)]
+#[derive(Clone, Copy)]
 pub struct Message {
     pub kind: u64,
     pub fields: [i64; Message::PLACES],
@@ -72,7 +72,7 @@ impl Message {
 }
 
 // What the writer answers: the number, and how many bytes it wrote, 0 where it refused.
-#[derive(Drop)]
+#[derive(Clone, Copy)]
 pub struct WriterAnswer {
     pub verdict: Verdict,
     pub length: usize,
@@ -80,7 +80,7 @@ pub struct WriterAnswer {
 
 // What the reader hears at a place: a message of a known kind, or one of an unknown kind, which it skips; either with
 // the kind, the length that the message gives, and the place behind it. A refusal has its verdict and zeros.
-#[derive(Drop)]
+#[derive(Clone, Copy)]
 pub struct ReaderAnswer {
     pub verdict: Verdict,
     pub known: bool,

@@ -4,7 +4,7 @@
 #![tactic(auto)]
 
 // How far a stream is heard: whether it began, how many messages of it came, and the sum of their bytes.
-#[derive(Drop)]
+#[derive(Clone, Copy)]
 pub struct Stream {
     pub began: bool,
     pub count: u64,

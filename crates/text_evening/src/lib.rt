@@ -6,7 +6,7 @@
 // How the lines of an evening are told: each with its answer (the program `evening`); an evaluation with why it is what
 // it is, and every other line with its answer (`why`); or a call with the messages that members get of it, from the
 // line of a number on, and nothing else (`broadcast`).
-#[derive(Drop)]
+#[derive(Clone, Copy)]
 pub enum Telling {
     Answers,
     Reasons,

@@ -26,7 +26,7 @@ pub const WAITING_MOST: usize = ROOM - ANSWER_MOST;
 // name, so that a wrong place is refused there. Each of these types is a list of places: no value of it is made.
 
 // An admission: its statics stand behind its other numbers.
-#[derive(Drop)]
+#[derive(Clone, Copy)]
 pub struct AdmitPlace {
     pub place: usize,
 }
@@ -50,7 +50,7 @@ impl AdmitPlace {
 }
 
 // An evaluation. RRCL and RRCH stand behind the days K of their term.
-#[derive(Drop)]
+#[derive(Clone, Copy)]
 pub struct EvaluatePlace {
     pub place: usize,
 }
@@ -76,7 +76,7 @@ impl EvaluatePlace {
 }
 
 // A quote.
-#[derive(Drop)]
+#[derive(Clone, Copy)]
 pub struct QuotePlace {
     pub place: usize,
 }
@@ -96,7 +96,7 @@ impl QuotePlace {
 }
 
 // A move.
-#[derive(Drop)]
+#[derive(Clone, Copy)]
 pub struct MovePlace {
     pub place: usize,
 }
@@ -110,7 +110,7 @@ impl MovePlace {
 }
 
 // A call about an id alone: a read, an opening, a withdrawal.
-#[derive(Drop)]
+#[derive(Clone, Copy)]
 pub struct IdPlace {
     pub place: usize,
 }
@@ -122,7 +122,7 @@ impl IdPlace {
 }
 
 // What the outside source sends: a bid and an ask together, and a notice of one side.
-#[derive(Drop)]
+#[derive(Clone, Copy)]
 pub struct OutsidePlace {
     pub place: usize,
 }
@@ -137,7 +137,7 @@ impl OutsidePlace {
     pub const COUNT: usize = 3;
 }
 
-#[derive(Drop)]
+#[derive(Clone, Copy)]
 pub struct NoticePlace {
     pub place: usize,
 }
@@ -153,7 +153,7 @@ impl NoticePlace {
 }
 
 // An interest line.
-#[derive(Drop)]
+#[derive(Clone, Copy)]
 pub struct InterestPlace {
     pub place: usize,
 }
@@ -191,7 +191,7 @@ impl InterestPlace {
 }
 
 // A bond. RRCL and RRCH stand behind the days K of their term, as in an evaluation.
-#[derive(Drop)]
+#[derive(Clone, Copy)]
 pub struct BondPlace {
     pub place: usize,
 }
@@ -261,7 +261,7 @@ pub const KEPT: usize = EvaluatePlace::COUNT + Row::ALL_NUMBERS_MOST + 1;
 
 // The place of a call in the table of the calls' forms (specs/Names.antt), counted from 1. A line's word is looked up
 // by it; once a line is read, `Ask` says what it asks for.
-#[derive(Drop)]
+#[derive(Clone, Copy)]
 pub struct CallKind {
     pub number: u64,
 }
@@ -338,7 +338,7 @@ pub const WORDS: [u8; WORD_ROOM * CALLS] = *b"\
 pub const LENGTHS: [usize; CALLS] = [5, 8, 5, 4, 4, 4, 7, 6, 8, 8, 4];
 
 // What a word behind the call's is: one number, a pair of terms Ym/Yn, or neither.
-#[derive(Drop)]
+#[derive(Clone, Copy)]
 pub enum Item {
     One(i64),
     Two(i64, i64),
@@ -346,7 +346,7 @@ pub enum Item {
 }
 
 // A pair of terms Ym/Yn, and what an interest line answered for it.
-#[derive(Drop)]
+#[derive(Clone, Copy)]
 pub struct Pair {
     pub ym: u64,
     pub yn: u64,
@@ -354,7 +354,7 @@ pub struct Pair {
 }
 
 // The pairs of the three latest interest lines that were accepted, the newest first.
-#[derive(Drop)]
+#[derive(Clone, Copy)]
 pub struct Kept {
     pub newest: Pair,
     pub middle: Pair,
@@ -362,7 +362,7 @@ pub struct Kept {
 }
 
 // Which of the three terms of an evaluation or of a bond have a pair of terms Ym/Yn in place of their band.
-#[derive(Drop)]
+#[derive(Clone, Copy)]
 pub struct Pairs {
     pub first: bool,
     pub second: bool,
@@ -371,7 +371,7 @@ pub struct Pairs {
 
 // A call of the desk: it admits a security, or asks something about the one with an id. The row figures of an evaluation
 // are lent beside it.
-#[derive(Drop)]
+#[derive(Clone, Copy)]
 pub enum AskedCall {
     Admit(Admission),
     About(u64, AskedAbout),
@@ -385,7 +385,7 @@ pub enum AskedCall {
 //     Move          the record            the move                    no
 //     Opening       the record            the session                 no
 //     Other         the record            nothing                     no
-#[derive(Drop)]
+#[derive(Clone, Copy)]
 pub enum Role {
     Admission(Admission),
     Evaluation(u64, AskedDay),
@@ -416,7 +416,7 @@ impl AskedCall {
 // What a line asks for: nothing, no call, a call of the desk, or what is answered beside the table, the interest side
 // or a bond. The figures behind its named numbers, an evaluation's rows, an interest line's key maturities or a bond's
 // cash flows, are lent beside it.
-#[derive(Drop)]
+#[derive(Clone, Copy)]
 pub enum Ask {
     Nothing,
     NoCall,
@@ -426,14 +426,14 @@ pub enum Ask {
 }
 
 // Why an answer is what it is, where that was asked of a call that has reasons.
-#[derive(Drop)]
+#[derive(Clone, Copy)]
 pub enum Explained {
     No,
     Because(Why),
 }
 
 // What the desk says to a line. The answer counts only where the line is a call of the desk.
-#[derive(Drop)]
+#[derive(Clone, Copy)]
 pub struct Performed {
     pub answer: Answer,
     pub why: Explained,
