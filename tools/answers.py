@@ -98,6 +98,8 @@ def chains(text, roots, steps, drop=True):
             return f"(ap not {whole})"
         return whole
 
+    if not drop:
+        aliases.update(re.findall(r"\blet (\w+) =", text))
     names = "|".join(re.escape(a) for a in sorted(aliases, key=len, reverse=True))
     return re.sub(rf"(?<![^\s(){{}};,\[\]])({names})((?:\.[^\s(){{}}.;,@\"«»\[\]]+)+)", one, text)
 
@@ -181,7 +183,7 @@ def parts_of_tuple(body):
         if depth == 0:
             break
     before = text[:at].rstrip()
-    if before and not before.endswith((" in", "\nin")):
+    if re.search(r"(?:^|[\s(])(?:rw|simp|omega|search|grind|cc)$", before):
         return None
     parts, now, depth = [], "", 0
     for ch in text[at + 1:-1]:
@@ -208,6 +210,8 @@ def as_record(body, names):
 def named(text, clauses, kind):
     """Places of clauses, by their names."""
     names = clauses.get(kind)
+    if kind == "requires":
+        text = re.sub(r"\.pre(?![\w-])", ".requires", text)
     if not names:
         return text
     return re.sub(rf"\.{kind}\.(\d)(?![\w])", lambda m: f".{kind}.{names[int(m.group(1))]}" if int(m.group(1)) < len(names) else m.group(0), text)
