@@ -282,7 +282,7 @@ def convert(path, key, made, crate, function_path):
             opened = m.group(4) or ""
             invariants.append(f"{comment + chr(10) if comment else ''}abbrev pub {name} : goal.{name}\n{opened}{name} l =" + (" " if not body.startswith("\n") else "") + substitute(body, by))
             continue
-        m = re.match(r"(?:pub )?(\S+) : tie\.Need-(\S+)[^\n]*((?:\n    [^\n]*)*?)\n(unfolding [^\n]*(?:\n    [^\n=]*)*\n)?(\S+)((?: [^\s=]+)*) =(.*)\Z", code, re.S)
+        m = re.match(r"(?:pub )?(\S+) :\s+tie\.Need-(\S+)[^\n]*((?:\n    [^\n]*)*?)\n(unfolding [^\n]*(?:\n    [^\n=]*)*\n)?(\S+)((?: [^\s=]+)*) =(.*)\Z", code, re.S)
         if m:
             old, opened, params, body = m.group(2), m.group(4) or "", m.group(6).split(), m.group(7)
             found = needs.get(norm(old))

@@ -1,11 +1,11 @@
 -- The text of a signed number by the test of its sign: below zero a minus and the digits of its size, otherwise the
 -- digits alone. `put_signed` cites the two laws at the end.
-use mathlib.Core.Path.{◌≡◌, refl, ap, ◌∙◌}
-use mathlib.Core.List.{List, [], ◌∷◌, ◌++◌}
+use mathlib.Core.Path.{◌≡◌, ◌∙◌}
+use mathlib.Core.List.{List, [], ◌∷◌}
 use Rattle.text_bytes.specs.Numbers.{decimal, signed}
 use Rattle.text_out.specs.Wrote.{Wrote, then}
 use mathlib.Core.Bool.{true, false}
-use Prim.Native.Nat.{ℕ, suc, ◌+◌, ◌-◌, ◌*◌}
+use Prim.Native.Nat.{ℕ, ◌+◌}
 use native.Mathlib.Numerals.{add-one}
 use native.Mathlib.Omega.{arith}
 use lib.IntN.{ℤ, pos, negsuc}

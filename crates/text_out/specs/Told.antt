@@ -1,7 +1,7 @@
 -- Numbers that are appended, a blank before each. THE LAW is `both`: what two calls told one after the other is one
 -- list of numbers.
 use Rattle.std.specs.Prelude.{◌≡◌, refl, List, [], ◌∷◌, ◌++◌, ℕ, ◌+◌, ◌≤◌, ℤ, length}
-use Rattle.std.proofs.Common.{sym, ap, ◌∙◌, append-nil, append_assoc, arith}
+use Rattle.std.proofs.Common.{sym, ◌∙◌, append-nil, append_assoc, arith}
 use Rattle.std.proofs.lemmas.List.Edits.{sets}
 use Rattle.text_bytes.specs.Numbers.{next, spaced}
 use Rattle.text_out.specs.Wrote.{Wrote, then}

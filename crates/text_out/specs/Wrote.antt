@@ -1,8 +1,7 @@
 -- Text that is appended. THE LAW is `then`: what two calls wrote one after the other is one text.
-use Rattle.std.specs.Prelude.{◌≡◌, refl, List, [], ◌++◌, ℕ, zero, ◌+◌, ◌-◌, ◌≤◌, ◌<◌, length, take, drop}
-use Rattle.std.proofs.Common.{sym, ap, ◌∙◌, append_assoc, arith, length-append, take_at, length-take-le}
+use Rattle.std.specs.Prelude.{◌≡◌, refl, List, [], ◌++◌, ℕ, ◌+◌, ◌≤◌, length, take, drop}
+use Rattle.std.proofs.Common.{sym, ◌∙◌, arith, length-append, take_at, length-take-le}
 use Rattle.std.proofs.lemmas.List.Edits.{sets, sets-eq}
-use Rattle.std.proofs.Math.Seq.{length-sets, append_snoc}
 use Rattle.exact.specs.StoreLaws.{sets_of_both}
 
 -- b' is b with the text t at n, and n' is where t ends, at most m bytes further
