@@ -16,7 +16,7 @@ use guess::{guess_of, guessed_steps};
 use paper::{Rate, Record, Statics};
 
 // A level's own statics: rh_L and S_L_min.
-#[derive(Drop)]
+#[derive(Clone, Copy)]
 pub struct Level {
     pub days: u64,
     pub minimum: Rate,
@@ -46,7 +46,7 @@ pub fn level_of(st: Statics, level: u64) -> Level
 
 // The two numbers under the roots of a requirement, of the tentative rate and of liq, each without its factor rh_L, so
 // that the three levels share them.
-#[derive(Drop)]
+#[derive(Clone, Copy)]
 struct Squares {
     tentative: u64,
     liquidity: u64,
