@@ -11,7 +11,7 @@ use crate::price_and_rate::{PriceAndRate, price_and_rate};
 use paper::{GivenStatics, Price, Rate, Record, Side, Statics, Term, Verdict};
 
 // What a band's limit takes beside P, S_1 and the side: the days, that side's repo rate, and its moves.
-#[derive(Drop)]
+#[derive(Clone, Copy)]
 pub struct Grown {
     pub k: u64,
     pub repo: i64,
@@ -19,7 +19,7 @@ pub struct Grown {
 }
 
 // Which limit is asked for.
-#[derive(Drop)]
+#[derive(Clone, Copy)]
 pub enum AskedLimit {
     Range,
     Band(Grown),

@@ -5,7 +5,7 @@ ghost use Rattle.gateway.specs.PriceAndRate.{price_and_rate};
 use paper::{MadePrice, MadeRate, Price, Rate};
 
 // Both of them, or that a number is out of range: refusal 6.
-#[derive(Drop)]
+#[derive(Clone, Copy)]
 pub enum PriceAndRate {
     At(Price, Rate),
     OutOfRange,

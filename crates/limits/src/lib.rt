@@ -105,7 +105,7 @@ pub fn farthest_rate(st: Statics, side: Side) -> Rate
     }
 }
 
-// x_pr ± typeof.e.S_1 in millionths, with e = 1 + 2·c·shift; below, "max(0, ..)".
+// x_pr ± e·S_1 in millionths, with e = 1 + 2·c·shift; below, "max(0, ..)".
 pub fn spread(st: Statics, side: Side, s1: Rate, c: u64) -> u64
     requires st_value { valid_statics st ≡ true }
     requires bp_le_rate_most { (s1.bp ≤ rate_most) × (c ≤ moves_most) }

@@ -83,7 +83,7 @@ pub fn replaces(m: Model, b: u64, last: u64, r: u64, x: u64) -> bool
 }
 
 // New s, and whether it is the replacement.
-#[derive(Drop)]
+#[derive(Clone, Copy)]
 pub struct Volatility {
     pub s: u64,
     pub replaced: bool,
