@@ -200,9 +200,16 @@ def parts_of_tuple(body):
 
 def as_record(body, names):
     found = parts_of_tuple(body)
-    if not found or len(found[1]) != len(names):
+    if not found:
         return body
     at, parts = found
+    while len(parts) < len(names) and parts[-1].startswith("("):
+        inner = parts_of_tuple(parts[-1])
+        if not inner or inner[0]:
+            break
+        parts = parts[:-1] + inner[1]
+    if len(parts) != len(names):
+        return body
     fields = "; ".join(f"{n} = {p}" for n, p in zip(names, parts))
     return body[:at] + "record { " + fields + " }"
 
@@ -214,7 +221,21 @@ def named(text, clauses, kind):
         text = re.sub(r"\.pre(?![\w-])", ".requires", text)
     if not names:
         return text
-    return re.sub(rf"\.{kind}\.(\d)(?![\w])", lambda m: f".{kind}.{names[int(m.group(1))]}" if int(m.group(1)) < len(names) else m.group(0), text)
+    return re.sub(rf"\.{kind}((?:\.\d)+)(?![\w])", lambda m: f".{kind}" + by_name(m.group(1), names), text)
+
+
+def by_name(path, names):
+    """A path into clauses, which were pairs in pairs, by the clause's name."""
+    rest = path[1:].split(".")
+    at = 0
+    while rest and at < len(names) - 1:
+        step = int(rest.pop(0))
+        if step == 0:
+            return "." + ".".join([names[at]] + rest)
+        if step > 1:
+            return "." + ".".join([names[step]] + rest) if step < len(names) else path
+        at += 1
+    return "." + ".".join([names[at]] + rest) if at == len(names) - 1 else path
 
 
 def convert(path, key, made, crate, function_path):
@@ -365,7 +386,7 @@ def ensured(text, of_callee):
     for step, kinds in of_callee.items():
         names = kinds.get("ensures")
         if names:
-            text = re.sub(rf"\.{re.escape(step)}\.ensures\.(\d)(?!\w)", lambda m: f".{step}.ensures.{names[int(m.group(1))]}", text)
+            text = re.sub(rf"\.{re.escape(step)}\.ensures((?:\.\d)+)(?!\w)", lambda m: f".{step}.ensures" + by_name(m.group(1), names), text)
     return text
 
 
