@@ -10,8 +10,7 @@ use Rattle.paper_desk.proofs.TentativeRange.{valid_tentative_within_top, tentati
 use Rattle.paper.proofs.Logic.{pick_false}
 use Rattle.rates_level.specs.RateStatics.{RateStatics, tentative_bound}
 use Rattle.rates_level.proofs.Statics.{within_tentative_bound}
-use Rattle.rates.proofs.figures_by_volatility.Statement.{statement}
-use Rattle.rates.proofs.figures_by_volatility.Tie as tie
+use Rattle.rates.proofs.figures_by_volatility.Goals as goal
 
 -- t is in the tentative rate's range
 t_high : (st : Statics) (s : ℕ) → RateStatics st → s ≤ volatility_most → tentative_rate st s ≤ tentative_bound
@@ -20,31 +19,26 @@ t_high st s r h =
     let in_range_lem = tentative_rate_in st false 0 s r.step_low r.multiplier_high (omega arith) h in
     within_tentative_bound r (valid_tentative_within_top _ _ in_range_lem)
 
-tentative-rate-requires : tie.Need-tentative-rate-requires
-tentative-rate-requires c κs = (c.before.requires.statics, c.before.requires.volatility)
+pub tentative_rate-requires : goal.tentative_rate-requires
+tentative_rate-requires c = record { rate_statics = c.requires.statics; s_le_volatility_most = c.requires.volatility }
 
-rated-requires : tie.Need-rated-requires
-rated-requires c κs =
-    let s = c.before.before in
+pub rated-requires : goal.rated-requires
+rated-requires c =
     record {
-      statics = s.requires.statics;
-      ahead = s.requires.ahead;
-      t_high = rw c.tentative_rate_lem.ensures (t_high _ _ s.requires.statics s.requires.volatility);
-      tentative = s.requires.tentative;
-      age = s.requires.age;
+      statics = c.requires.statics;
+      ahead = c.requires.ahead;
+      t_high = rw c.tentative_rate.ensures (t_high _ _ c.requires.statics c.requires.volatility);
+      tentative = c.requires.tentative;
+      age = c.requires.age;
     }
 
-unmodelled-requires : tie.Need-unmodelled-requires
-unmodelled-requires c κs = c.before.requires.statics
+pub unmodelled-requires : goal.unmodelled-requires
+unmodelled-requires c = c.requires.statics
 
-returns : tie.Need-returns
+pub returns-then-st : goal.returns-then-st
 unfolding figures_by_volatility
-returns c = rw (c.rated.ensures, c.before.tentative_rate_lem.ensures, c.before.before.if1.true)
+returns-then-st c = rw (c.rated.ensures, c.tentative_rate.ensures, c.if-st.true)
 
-returns-2 : tie.Need-returns-2
+pub returns-else-st : goal.returns-else-st
 unfolding figures_by_volatility
-returns-2 c = c.unmodelled.ensures ∙ (sym (pick_false _ _ _ c.before.if1.false))
-
-pub figures_by_volatility_spec : {M : Type 1} → statement M
-figures_by_volatility_spec =
-    tie.close (tie.spec tentative-rate-requires rated-requires unmodelled-requires returns returns-2)
+returns-else-st c = c.unmodelled.ensures ∙ (sym (pick_false _ _ _ c.if-st.false))
