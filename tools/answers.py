@@ -54,7 +54,7 @@ def code_of(block):
     return "\n".join(l for l in block.split("\n") if not l.startswith("--"))
 
 
-def chains(text, roots, steps, drop=True):
+def chains(text, roots, steps, drop=True, arms={}):
     """Paths of a proof's context, without the way back to where a step was made, unless they lead through a record of it."""
     aliases = set(roots)
     while drop:
@@ -89,6 +89,11 @@ def chains(text, roots, steps, drop=True):
             root += ".before" * back
         if not parts:
             return root
+        # What an arm says: of a variant, its parts, that the value is it, and what the call ensured of it.
+        for n in range(len(parts), 1, -1) if drop else ():
+            arm = arms.get((norm(parts[0]), tuple(parts[1:n])))
+            if arm:
+                return ".".join([root, arm, *parts[n:]])
         new = steps.get(norm(parts[0])) or steps.get(norm(re.sub("_lem$", "", parts[0])))
         if new and parts[0] not in ("args", "requires", "ranges"):
             parts[0] = new
@@ -252,6 +257,11 @@ def convert(path, key, made, crate, function_path):
     for _, _, (old, new), *_ in made["places"]:
         if old:
             steps.setdefault(norm(old), new)
+    arms = {}
+    for arm in made.get("arms", []):
+        for field, old, path_in in arm[2] if arm else ():
+            if path_in:
+                arms.setdefault((norm(old), tuple(path_in)), f"{arm[0]}.{field}")
     loops = {}
     for i, ((old, new), variables) in enumerate(made["loops"]):
         loops[norm(old)] = (new, variables, made["changed"][i] if i < len(made["changed"]) else [])
@@ -323,7 +333,7 @@ def convert(path, key, made, crate, function_path):
             if not opened and body.strip() in TRIVIAL:
                 continue
             root = params[0] if params else "c"
-            body = ensured(chains(body, [root], steps), of_callee)
+            body = ensured(chains(body, [root], steps, arms=arms), of_callee)
             answers.append((new, m.group(1), comment, opened, root, params[1:], body))
             continue
         if re.search(r": \{M : Type 1\}", code) and "tie.close" in code:

@@ -1,0 +1,46 @@
+-- `evaluation::evaluate` meets its contract: each arm is one law of `Answers`, and the book's bounds keep the close
+-- within a price.
+use mathlib.Core.Path.{refl, sym, ◌∙◌}
+use Prim.Native.Nat.{◌≤◌}
+use native.Mathlib.Omega.{arith}
+use Rattle.paper.specs.Numbers.{price_most}
+use Rattle.evaluation.proofs.Sides.{lesser_le}
+use Rattle.evaluation.proofs.Answers.{gathered_fitted, no_book_makes_beyond, book_makes_evaluation, close_le}
+use Rattle.evaluation.proofs.Answers.{between_le}
+use Rattle.evaluation.proofs.evaluate.Goals as goal
+
+pub on_grid-requires : goal.on_grid-requires
+on_grid-requires c =
+    let s = c.requires in
+    let bounds = s.bound.bounded c.in-Whole.book c.in-Whole.is in
+    let close : c.close_of-close.result ≤ price_most =
+    rw c.close_of-close.ensures (close_le _ _ _ s.units_le_price_most.0 bounds.mean) in
+    let bid : c.greater-bid.result ≤ price_most =
+    rw c.greater-bid.ensures (omega (arith, bounds.bid, s.bid_le_price_most.0)) in
+    let ask : c.lesser_ask-ask.result ≤ price_most =
+    rw c.lesser_ask-ask.ensures (lesser_le _ _ _ bounds.ask s.bid_le_price_most.1) in
+    (s.units_le_price_most.1, s.units_le_price_most.2, rw c.between.ensures (between_le _ _ _ _ bid close ask))
+
+pub returns-in-Whole : goal.returns-in-Whole
+returns-in-Whole c = λ numbers e v x.
+    rw (
+      c.on_grid.ensures,
+      c.between.ensures,
+      c.lesser_ask-ask.ensures,
+      c.greater-bid.ensures,
+      c.close_of-close.ensures,
+    )
+    (book_makes_evaluation _ _ _ _ c.in-Whole.book
+    (sym c.in-Whole.is ∙ gathered_fitted numbers _ e v x))
+
+pub returns-in-OutOfRange : goal.returns-in-OutOfRange
+returns-in-OutOfRange c = λ numbers e v x.
+    no_book_makes_beyond _ _ _ _ _ refl (sym c.in-OutOfRange.is ∙ gathered_fitted numbers _ e v x)
+
+pub returns-in-Crossed : goal.returns-in-Crossed
+returns-in-Crossed c = λ numbers e v x.
+    no_book_makes_beyond _ _ _ _ _ refl (sym c.in-Crossed.is ∙ gathered_fitted numbers _ e v x)
+
+pub returns-in-Beyond : goal.returns-in-Beyond
+returns-in-Beyond c = λ numbers e v x.
+    no_book_makes_beyond _ _ _ _ _ refl (sym c.in-Beyond.is ∙ gathered_fitted numbers _ e v x)

@@ -1,0 +1,13 @@
+-- `evaluation::median` meets its contract: the lesser and the greater of two numbers are the definition's.
+use Rattle.paper_desk.specs.Evaluation.{median}
+use Rattle.evaluation.proofs.median.Goals as goal
+
+pub returns : goal.returns
+unfolding median
+returns c =
+    rw (
+      c.greater-2.ensures,
+      c.lesser-2.ensures,
+      c.greater.ensures,
+      c.lesser.ensures,
+    )
