@@ -1,8 +1,7 @@
 # Sourced by the scripts from the top of the repository: what they share. It defines functions and changes nothing.
 #
-# The proved programs and archives are for x86-64 Linux, whatever the machine. The kit that `rt` belongs to has the
-# loader and the C library that they run with and, for a machine of another kind, an emulator: `outside/runner` runs a
-# program by them.
+# The kit is for x86-64 Linux, and so are the proved programs and archives. It has the loader and the C library that they
+# run with: `outside/runner` runs a program by them.
 
 # ---- what a script says
 
@@ -60,31 +59,34 @@ has() {
 # Under a short PATH, as a job of the night has it, the kit is the one that built what is there: `build` has noted it.
 find_kit() {
     has rt && return
-    noted=${RATTLE_HOME:-$(cat "${top:-.}/target/built/kit" 2>/dev/null)}
+    noted=$(cat "${top:-.}/target/built/kit" 2>/dev/null)
     [ ! -x "$noted/bin/rt" ] || PATH=$PATH:$noted/bin
     has rt || cannot "there is no rt: install the Rattle kit, and put its rt on PATH"
 }
 
-# The folder that the kit's toolchain for this machine has; `rt` itself looks in the same place.
-toolchain() {
+# The folder of the kit that `rt` belongs to.
+kit_folder() {
     find_kit
-    kit=${RATTLE_HOME:-$(dirname "$(dirname "$(readlink -f "$(command -v rt)")")")}
-    [ -d "$kit/on/$(uname -m)/toolchain" ] || cannot "the kit at $kit has no toolchain for this machine, $(uname -m)"
-    echo "$kit/on/$(uname -m)/toolchain"
+    dirname "$(dirname "$(readlink -f "$(command -v rt)")")"
 }
 
-# A kit like the one at hand, but that a script stands in for its clang: the toolchain hands its LLVM code to that. The
-# script finds the kit's own clang as $clang.
-stand_in_kit() { # FOLDER SCRIPT
-    tools=$(toolchain) || exit 2
-    like=$1/on/$(uname -m)
-    mkdir -p "$like/toolchain/bin"
-    link_but "${tools%/on/*}" "$1" on
-    link_but "${tools%/toolchain}" "$like" toolchain
-    link_but "$tools" "$like/toolchain" bin
-    link_but "$tools/bin" "$like/toolchain/bin" clang
-    printf '#!/bin/sh\nclang=%s\n%s\n' "$tools/bin/clang" "$2" >"$like/toolchain/bin/clang"
-    chmod +x "$like/toolchain/bin/clang"
+# The folder that the kit's toolchain has: its clang, its linker, and the loader and the C library for x86-64.
+toolchain() {
+    [ "$(uname -m)" = x86_64 ] || cannot "the Rattle kit is for x86-64 Linux, and this machine is $(uname -m)"
+    of_kit=$(kit_folder) || exit 2
+    [ -x "$of_kit/toolchain/bin/clang" ] || cannot "the kit at $of_kit has no toolchain"
+    echo "$of_kit/toolchain"
+}
+
+# A toolchain like the kit's, but that a script stands in for its clang: rattle hands its LLVM code to that. The script
+# finds the kit's own clang as $clang.
+stand_in_toolchain() { # FOLDER SCRIPT
+    like=$(toolchain) || exit 2
+    mkdir -p "$1/bin"
+    link_but "$like" "$1" bin
+    link_but "$like/bin" "$1/bin" clang
+    printf '#!/bin/sh\nclang=%s\n%s\n' "$like/bin/clang" "$2" >"$1/bin/clang"
+    chmod +x "$1/bin/clang"
 }
 
 # Links all that a folder has into another, but for one.
@@ -93,21 +95,26 @@ link_but() { # FOLDER LIKE ONE
 }
 
 # LLVM code as text, before any pass.
-llvm_text() { # BITCODE TEXT
-    "$(toolchain)/bin/clang" --target=x86_64-unknown-linux-gnu -S -emit-llvm -O0 -Xclang -disable-llvm-passes -x ir \
-        "$1" -o "$2"
+llvm_text() { # BITCODE TRIPLE TEXT
+    "$(toolchain)/bin/clang" --target="$2" -Wno-override-module -S -emit-llvm -O0 -Xclang -disable-llvm-passes -x ir \
+        "$1" -o "$3"
 }
 
-# The bitcode that outside/bitcode keeps of a crate is for another machine where its text and the words of the compiler
-# name that one: its layout, its triple, and the processor of each function. All else is as the toolchain has it.
+# The bitcode that outside/bitcode keeps of a crate is for x86-64 and for aarch64, each as rattle makes it. For
+# WebAssembly it is that for aarch64, which asks nothing of its processor, where its text and the words of the compiler
+# name the other machine: its layout, its triple, and the processor of each function. All else is as rattle has it.
+code_for() { # TRIPLE
+    case $1 in x86_64-*) echo target/code/x86_64 ;; *) echo target/code/aarch64 ;; esac
+}
+
 text_for() { # TRIPLE NAME
     sed -e '/^target datalayout/d' -e "s/^target triple.*/target triple = \"$1\"/" \
-        -e 's/"target-cpu"="[^"]*"//g; s/"target-features"="[^"]*"//g' "target/bitcode/$2.ll"
+        -e 's/"target-cpu"="[^"]*"//g; s/"target-features"="[^"]*"//g' "$(code_for "$1")/$2.ll"
 }
 
 words_for() { # TRIPLE NAME
     echo "--target=$1"
-    grep -v -e '^--target=' -e '^-march=' "target/bitcode/$2.words"
+    grep -v -e '^--target=' -e '^-march=' "$(code_for "$1")/$2.words"
 }
 
 # Marks in the code of a program (outside/marks.sh) bring notes of its frames, which on aarch64 keep some instructions
@@ -124,28 +131,25 @@ compile_for() { # TRIPLE NAME OBJECT [WORD...]
     "$(toolchain)/bin/clang" $(words_for "$triple" "$crate") "$@" -c -x ir "$object.ll" -o "$object" && rm "$object.ll"
 }
 
+# What a module has besides its program, where a Linux program has the C library (release/wasm/host.c).
+compile_host() { # OBJECT
+    "$(toolchain)/bin/clang" --target=wasm32-unknown-unknown -std=c11 -O2 -Wall -Wextra -Werror -ffreestanding \
+        -mbulk-memory -msign-ext -c release/wasm/host.c -o "$1"
+}
+
 # A WebAssembly object as a module of a release.
 link_module() { # OBJECT MODULE
-    "$(toolchain)/bin/ld.lld" -flavor wasm --no-entry --export=main --allow-undefined --stack-first \
-        -z stack-size=4194304 --strip-all "$1" -o "$2"
+    compile_host "$2.host.o" || return
+    "$(toolchain)/bin/ld.lld" -flavor wasm --no-entry --export=main --allow-undefined --stack-first --gc-sections \
+        -z stack-size=4194304 --strip-all "$1" "$2.host.o" -o "$2" && rm "$2.host.o"
 }
 
 # ---- what else is needed: a C compiler for x86-64, make, pkg-config, a reader of x86-64 machine code, cargo, python3
 
-case $(uname -m) in
-x86_64)
-    cc=${CC:-cc}
-    c_packages='gcc libc6-dev make'
-    objdump=objdump
-    objdump_package=binutils
-    ;;
-*)
-    cc=x86_64-linux-gnu-gcc
-    c_packages='gcc-x86-64-linux-gnu libc6-dev-amd64-cross make'
-    objdump=x86_64-linux-gnu-objdump
-    objdump_package=binutils-x86-64-linux-gnu
-    ;;
-esac
+cc=${CC:-cc}
+c_packages='gcc libc6-dev make'
+objdump=objdump
+objdump_package=binutils
 
 # Asks Debian once which packages there are.
 refresh_packages() {
@@ -183,7 +187,8 @@ need_c() {
     c_links || cannot "$cc does not link a static program for x86-64"
 }
 
-# A release is linked for both kinds of machine, each by this machine's own tools or by those that cross over.
+# A release is linked for both kinds of machine: for x86_64 by this machine's own tools, for aarch64 by those that cross
+# over.
 tool_for() { # KIND TOOL
     if [ "$1" = "$(uname -m)" ]; then echo "$2"; else echo "$1-linux-gnu-$2"; fi
 }
@@ -195,9 +200,8 @@ c_links_for() { # KIND
 
 need_c_for() { # KIND
     ! c_links_for "$1" || return 0
-    case $1-$(uname -m) in
-    x86_64-x86_64 | aarch64-aarch64) c_packages_for='gcc libc6-dev' ;;
-    x86_64-*) c_packages_for='gcc-x86-64-linux-gnu libc6-dev-amd64-cross' ;;
+    case $1 in
+    x86_64) c_packages_for='gcc libc6-dev' ;;
     *) c_packages_for='gcc-aarch64-linux-gnu libc6-dev-arm64-cross' ;;
     esac
     # shellcheck disable=SC2086
@@ -273,17 +277,63 @@ need_python() {
     has python3 || cannot "there is still no python3"
 }
 
+# ---- what crates.txt says of a crate
+
+# Lines 'NAME LIBRARY..' of the crates that are listed; a library of the kit may be among the libraries.
+listing() {
+    awk '{ sub(/#.*/, "") } split($0, part, ":") == 2 { split(part[1], word, " "); print word[1], part[2] }' crates.txt
+}
+
+is_listed() { # NAME
+    listing | awk -v name="$1" '$1 == name { found = 1 } END { exit !found }'
+}
+
+libraries_of() { # NAME
+    listing | awk -v name="$1" '$1 == name { for (k = 2; k <= NF; k++) print $k }'
+}
+
+# The repository's libraries that a crate stands on, near or far.
+crates_below() { # NAME
+    listing | awk -v name="$1" '
+        { below[$1] = $0 }
+        function visit(crate, list, n, k) {
+            if (!(crate in below) || crate in seen) return
+            seen[crate] = 1
+            if (crate != name) print crate
+            n = split(below[crate], list, " ")
+            for (k = 2; k <= n; k++) visit(list[k])
+        }
+        END { visit(name) }'
+}
+
+# While the crates of PORTING-LEFT.md are out of the tree, what needs one of them is left out, and said; where that page
+# is gone, a crate that is missing is a fault.
+is_left() { # NAME
+    ! is_listed "$1" && grep -qw "$1" PORTING-LEFT.md 2>/dev/null
+}
+
+# The first of some crates that are left, if one is.
+left_of() { # NAME...
+    for left_one in "$@"; do
+        if is_left "$left_one"; then
+            echo "$left_one"
+            return
+        fi
+    done
+}
+
 # ---- what is built: from the present sources or not at all
 
 # One number for all that a program or an archive is built from: the crates' own files, their list and the kit. What an
-# editor leaves beside them is none of it.
+# editor leaves beside them is none of it, and what `rt` makes in out/ neither.
 sources() {
     find_kit
-    { rt version && find crates crates.txt -type f \( -name '[!.]*.rt' -o -name '[!.]*.antt' -o -name crates.txt \) \
-        -exec sha256sum {} + | sort; } | sha256sum | cut -d' ' -f1
+    { rt version && find crates crates.txt -name out -prune -o \
+        -type f \( -name '[!.]*.rt' -o -name '[!.]*.antt' -o -name crates.txt \) -exec sha256sum {} + | sort; } |
+        sha256sum | cut -d' ' -f1
 }
 
-# Whether a file was built from the present sources. The gate and `rt ci` remove target/, and the notes on it with it.
+# Whether a file was built from the present sources.
 is_built() { # FILE
     [ -f "$1" ] && [ "$(cat "target/built/${1##*/}" 2>/dev/null)" = "$(sources)" ]
 }
@@ -297,35 +347,20 @@ build() { # FILE COMMAND...
     rm -f "target/built/${file##*/}"
     before=$(sources)
     "$@" || return
-    dirname "$(dirname "$(readlink -f "$(command -v rt)")")" >target/built/kit
+    kit_folder >target/built/kit
     echo "$before" >"target/built/${file##*/}"
 }
 
-# How many crates a program stands on, with its own.
-crates_below() { # NAME
-    awk -v name="$1" '
-        { sub(/#.*/, "") }
-        split($0, part, ":") == 2 { gsub(/[ \t]/, "", part[1]); below[part[1]] = part[2] }
-        function visit(crate, list, n, k) {
-            if (!(crate in below) || crate in seen) return
-            seen[crate] = 1
-            count++
-            n = split(below[crate], list, " ")
-            for (k = 1; k <= n; k++) visit(list[k])
-        }
-        END { visit(name); print count }' crates.txt
-}
-
 # Keeps the lines of `rt` in a log and counts the crates that are proved, on one line where standard error is a
-# terminal.
+# terminal. What another run on this machine has proved of the same files is not proved again, and not counted.
 count_proved() { # NAME LOG
-    of=$(crates_below "$1")
+    of=$(($(crates_below "$1" | wc -l) + 1))
     proved=0
     : >"$2"
     while IFS= read -r line; do
         printf '%s\n' "$line" >>"$2"
         case $line in
-        'rt: '*' proved ('*) proved=$((proved + 1)) ;;
+        logic=proved*) proved=$((proved + 1)) ;;
         *) continue ;;
         esac
         if [ -t 2 ]; then
@@ -337,20 +372,95 @@ count_proved() { # NAME LOG
     if [ -t 2 ] && [ "$proved" -gt 0 ]; then echo >&2; fi
 }
 
-# `rt` knows which crates have changed, and proves those alone.
-prove_program() { # NAME
+# Whether .ci/run has seen rt ci pass on the present sources: then the programs, and the libraries as they were built,
+# stand in out/ of each crate.
+is_by_ci() {
+    [ "$(cat target/built/ci 2>/dev/null)" = "$(sources)" ]
+}
+
+# What `rt` says in a crate's folder, with the crates that it proves counted. It knows which crates have changed, and
+# proves those alone.
+rt_in() { # NAME VERB
     mkdir -p target/log
-    { rt check "$1" 2>&1 </dev/null || echo "rt: status $?"; } | count_proved "$1" "target/log/$1.check"
-    ! grep -q '^rt: status ' "target/log/$1.check"
+    {
+        case $2 in
+        run) (cd "crates/$1" && rt run </dev/null 2>&1 >/dev/null) ;;
+        *) (cd "crates/$1" && rt "$2" </dev/null 2>&1) ;;
+        esac
+        echo "rt: status $?"
+    } | count_proved "$1" "target/log/$1.$2"
+}
+
+# `rt run` proves a program, builds it, and runs it; here on no input.
+prove_program() { # NAME
+    if is_by_ci && [ -f "crates/$1/out/$1" ]; then
+        mkdir -p target/bin && cp "crates/$1/out/$1" "target/bin/$1"
+        return
+    fi
+    rm -f "crates/$1/out/$1"
+    rt_in "$1" run
+    grep -q "^rt: running out/$1;" "target/log/$1.run" && mkdir -p target/bin && cp "crates/$1/out/$1" "target/bin/$1"
 }
 
 # The proved program, at target/bin/NAME.
 need_program() { # NAME
     is_built "target/bin/$1" && return
-    echo "$1: proving what has changed and building it; all of it takes some minutes" >&2
+    [ -f "crates/$1/src/main.rt" ] || cannot "there is no program $1 in crates/"
+    is_by_ci || echo "$1: proving what has changed and building it; all of it takes some minutes" >&2
     build "target/bin/$1" prove_program "$1" && return
+    cat "target/log/$1.run" >&2
+    cannot "$1 is not proved; see target/log/$1.run"
+}
+
+# The libraries below a crate, each in its own out/ as a proof of the present sources built it.
+has_libraries() { # NAME
+    for library in $(crates_below "$1"); do
+        [ -f "crates/$library/out/rlib/$library.rlib/format" ] || return
+    done
+}
+
+need_libraries() { # NAME
+    { is_by_ci || is_built "target/bin/$1"; } && has_libraries "$1" && return
+    rt_in "$1" check
+    grep -q '^rt: status 0$' "target/log/$1.check" && has_libraries "$1" && return
     cat "target/log/$1.check" >&2
     cannot "$1 is not proved; see target/log/$1.check"
+}
+
+# What rattle, the prover and compiler that `rt` calls, reads of a crate, for a machine of some kind: words from the
+# crate's folder.
+rattle_words() { # NAME KIND
+    words_kit=$(kit_folder) || exit 2
+    root=src/lib.rt
+    [ ! -f "crates/$1/src/main.rt" ] || root=src/main.rt
+    echo "--crate-name $1 $root --extern std=$words_kit/rlibs/std.rlib"
+    for library in $(libraries_of "$1"); do
+        if is_listed "$library"; then
+            echo "--extern $library=../$library/out/rlib/$library.rlib"
+        else
+            echo "--extern $library=$words_kit/rlibs/$library.rlib"
+        fi
+    done
+    for library in $(crates_below "$1"); do echo "-L dependency=../$library/out/rlib"; done
+    echo "-L dependency=$words_kit/rlibs --antt-project $words_kit/rattle/logic/antt-project.json --links $1="
+    [ "$root" = src/main.rt ] || echo '--crate-type staticlib'
+    [ "$2" = x86_64 ] || echo "--target=$2-unknown-linux-gnu"
+}
+
+# Proves a program or a static library over the libraries below it, and keeps the verdict in a folder.
+check_over_libraries() { # NAME KIND FOLDER LOG
+    words=$(rattle_words "$1" "$2") && of_kit=$(kit_folder) || exit 2
+    # shellcheck disable=SC2086
+    (cd "crates/$1" && "$of_kit/bin/rattle" check $words --logic-built "$of_kit/logic_built" --jobs 2 \
+        -o "$3") >"$4" 2>&1 </dev/null && grep -q '^logic=proved ' "$4"
+}
+
+# Builds what was proved, by a toolchain: a program's object, or a static library.
+build_checked() { # NAME KIND FOLDER TOOLCHAIN FILE LOG
+    words=$(rattle_words "$1" "$2") && of_kit=$(kit_folder) || exit 2
+    # shellcheck disable=SC2086
+    (cd "crates/$1" && "$of_kit/bin/rattle" build $words --crate-checked "$3" --toolchain "$4" --backend llvm \
+        -o "$5") >"$6" 2>&1 </dev/null
 }
 
 # ---- a proved program, run to its end
@@ -473,22 +583,23 @@ serve_lines() { # NAME [--strict] [--from N] [--whole] [FILE]
     exit "$status"
 }
 
-# The proved archive, at target/staticlib/libNAME.a.
+# The proved archive of a static library NAME or NAME_c, at target/staticlib/libNAME.a: C knows it by the shorter name.
+archive_of() { # NAME
+    echo "lib${1%_c}.a"
+}
+
 need_archive() { # NAME
-    is_built "target/staticlib/lib$1.a" && return
-    mkdir -p target/log
-    build "target/staticlib/lib$1.a" rt staticlib "$1" >"target/log/$1.archive" 2>&1 </dev/null && return
-    cat "target/log/$1.archive" >&2
-    cannot "there is no archive of $1; see target/log/$1.archive"
+    outside/bitcode "$1" || exit
 }
 
 # What a release is made from, and one number for all of it.
-release_of='VERSION CHANGELOG.md crates crates.txt docs examples gateway outside page release'
+release_of='VERSION CHANGELOG.md HANDLES crates crates.txt docs examples gateway outside page release'
 release_sources() {
     {
         sources
         # shellcheck disable=SC2086
-        find $release_of -type f ! -name '.*' ! -name '*~' ! -name '#*#' -exec sha256sum {} + 2>/dev/null | sort
+        find $release_of -name out -prune -o -type f ! -name '.*' ! -name '*~' ! -name '#*#' -exec sha256sum {} + \
+            2>/dev/null | sort
     } | sha256sum | cut -d' ' -f1
 }
 

@@ -1,6 +1,7 @@
 /*
- * The three functions by which a proved program is handed its arguments. The toolchain has its own for x86-64 alone; a
- * program that is linked for a release or a measurement takes these in their place, on every kind of machine.
+ * The functions by which a proved program is handed its arguments and reads C's errno. The toolchain has its own for
+ * x86-64 alone; a program that is linked for a release or a measurement takes these in their place, on every kind of
+ * machine.
  */
 #include "arguments.h"
 #include <errno.h>
@@ -36,6 +37,11 @@ ssize_t rattle_arg(size_t i, unsigned char *buf, size_t room)
     size_t length = strlen(words[i]);
     memcpy(buf, words[i], length < room ? length : room);
     return length <= room ? (ssize_t)length : -2;
+}
+
+int rattle_errno(void)
+{
+    return errno;
 }
 
 void rattle_set_errno(int error)
