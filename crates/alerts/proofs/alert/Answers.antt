@@ -6,12 +6,10 @@ use mathlib.Core.Logic.{◌⊎◌, inl, inr}
 use Prim.Native.Nat.{ℕ, ◌+◌, ◌-◌, ◌≤◌, ◌<◌}
 use native.Mathlib.Omega.{arith}
 use lib.Dec.{leb}
-use borrow.Author.Rules.{rules}
 use borrow.Author.Tests.{le-leb, lt-leb}
 use Rattle.paper_desk.specs.Alerts.{alert}
 use Rattle.paper.proofs.Logic.{le_or_lt}
-use Rattle.alerts.proofs.alert.Statement.{statement}
-use Rattle.alerts.proofs.alert.Tie as tie
+use Rattle.alerts.proofs.alert.Goals as goal
 
 -- u is at most b - a exactly when a + u is at most b
 between : (a u b : ℕ) → a ≤ b → leb u (b - a) ≡ leb (a + u) b
@@ -24,23 +22,14 @@ between a u b h = go (le_or_lt (a + u) b)
 too_early : (a u b : ℕ) → b < a → leb (a + u) b ≡ false
 too_early a u b h = lt-leb (a + u) b (omega arith)
 
-enum_told : tie.Need-enum-told
-enum_told c = search rules
-
-enum-known-n : tie.Need-enum-known-n
-enum-known-n c = search rules
-
-returns : tie.Need-returns
+pub returns-in-Not : goal.returns-in-Not
 unfolding alert
-returns c = rw c.enum_told.given.1
+returns-in-Not c = rw c.in-Not.is
 
-returns-2 : tie.Need-returns-2
+pub returns-then-second-since : goal.returns-then-second-since
 unfolding alert
-returns-2 c = rw c.before.before.n.given.1 (sym (too_early _ _ _ c.if1.true))
+returns-then-second-since c = rw c.in-Since.is (sym (too_early _ _ _ c.if-second-since.true))
 
-returns-3 : tie.Need-returns-3
+pub returns-else-second-since : goal.returns-else-second-since
 unfolding alert
-returns-3 c = rw c.before.before.n.given.1 (between _ _ _ c.if1.false)
-
-pub alert_spec : {M : Type 1} → statement M
-alert_spec = tie.close (tie.spec enum_told enum-known-n returns returns-2 returns-3)
+returns-else-second-since c = rw c.in-Since.is (between _ _ _ c.if-second-since.false)
