@@ -1,7 +1,7 @@
 -- 21 to 24 exactly when they are said: each number is answered exactly when its condition holds and none before it in
 -- the order does, and 0 exactly when none does; a refusal has zeros, and the writer's leaves the buffer untouched.
 use mathlib.Core.Path.{◌≡◌, refl, sym, ap, ◌∙◌}
-use mathlib.Core.Bool.{true, false}
+use mathlib.Core.Bool.{false}
 use mathlib.Core.List.{List}
 use Prim.Native.Nat.{ℕ}
 use lib.ListN.{drop}

@@ -1,17 +1,17 @@
 -- A reader that goes on from message to message tells one whole stream: `alone_from`, from the start on, is `is_whole`.
-use mathlib.Core.Path.{◌≡◌, refl, sym, ap, ◌∙◌}
+use mathlib.Core.Path.{◌≡◌, refl, sym}
 use mathlib.Core.Bool.{Bool, true, false, not, ◌&&◌}
-use mathlib.Core.List.{List, []}
-use Prim.Native.Nat.{ℕ, zero, suc, ◌+◌, ◌-◌, ◌≤◌, ◌<◌}
+use mathlib.Core.List.{List}
+use Prim.Native.Nat.{ℕ, zero, suc, ◌-◌, ◌≤◌, ◌<◌}
 use native.Mathlib.Omega.{arith}
-use lib.Dec.{eqb, leb, ltb}
-use lib.ListN.{length, drop, drop_of_length-le}
+use lib.Dec.{eqb, leb}
+use lib.ListN.{length, drop_of_length-le}
 use borrow.Author.Tests.{eqb-true, eq-eqb, ne_eqb, lt-leb, leb-false, leb-true, lt-ltb}
 use Rattle.paper.specs.Lists.{pick}
 use Rattle.paper.specs.Verdicts.{is_done, first_of}
 use Rattle.paper.proofs.Logic.{not_true_and_false}
 use Rattle.paper_messages.specs.declared.ReaderAnswer.{ReaderAnswer}
-use Rattle.paper_messages.specs.Fields.{begin_message_kind, end_message_kind}
+use Rattle.paper_messages.specs.Fields.{end_message_kind}
 use Rattle.paper_messages.specs.Messages.{read_checks, refused_heard, heard_at}
 use Rattle.paper_streams.specs.declared.Stream.{Stream}
 use Rattle.paper_streams.specs.Streams.{no_stream, is_begin, is_end, end_fits_of, number_in, stream_after, bytes_at}

@@ -1,7 +1,7 @@
 -- docs/BROADCAST.md, "A whole stream": `begin`, messages, and an `end` that says how many messages stand before it and
 -- the sum of their bytes. What such a stream is as bytes, how far a stream is heard, what the reader answers of an `end`
 -- (25), and when an input is one whole stream.
-use Rattle.std.specs.Prelude.{Bool, true, false, not, ◌&&◌, List, [], ◌∷◌, ◌++◌, ℕ, zero, suc, ◌+◌, ◌-◌, eqb, pos, length, take, drop, get_or}
+use Rattle.std.specs.Prelude.{Bool, true, false, not, ◌&&◌, List, [], ◌∷◌, ◌++◌, ℕ, zero, suc, ◌-◌, eqb, pos, length, take, drop, get_or}
 use Rattle.paper.specs.Lists.{pick}
 use Rattle.paper.specs.Ranges.{unsigned_at}
 use Rattle.paper.specs.Verdicts.{number_of, is_done}

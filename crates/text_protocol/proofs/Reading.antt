@@ -19,12 +19,12 @@ use Rattle.text_protocol.specs.declared.Pairs.{Pairs}
 use Rattle.text_bytes.specs.Bytes.{is_blank, minus_sign, slash, digit_zero, is_not, run, words, same}
 use Rattle.text_bytes.specs.Numbers.{number_of, slash_at}
 use Rattle.text_protocol.specs.Names.{Form, kind_from, kind_of, forms, takes}
-use Rattle.text_protocol.specs.Line.{Said, Nothing, NoCall, Call, one_of, two_of, item_of, no_pairs, pair_fits}
+use Rattle.text_protocol.specs.Line.{Nothing, NoCall, Call, one_of, two_of, item_of, no_pairs, pair_fits}
 use Rattle.text_protocol.specs.Line.{with_pair, more, finished, fill, heading_sign, is_heading, called, longest}
 use Rattle.text_protocol.specs.Line.{meaning}
 use Rattle.text_bytes.specs.Spells.{Blanks, no_blank, blank, Digits, no_digit, digit, Spells, plain, minus}
 use Rattle.text_protocol.specs.Written.{WordFrom, here, behind, CallWord, Numbers, done, one, two, Says, says}
-use Rattle.text_bytes.proofs.Words.{Solid, solid, Ends, end, parted, solid_append, words_blanks, words_solid}
+use Rattle.text_bytes.proofs.Words.{solid, Ends, end, parted, solid_append, words_blanks, words_solid}
 use Rattle.text_bytes.proofs.Words.{words_none, high_solid, all_high, letters_are_solid, Split, last, word}
 use Rattle.text_bytes.proofs.Words.{SplitOf, split_words, split, word_not_here}
 use Rattle.text_bytes.proofs.Spelling.{impossible, spells_reads, spells_solid, spells_some, reads_spells}
@@ -137,6 +137,7 @@ found_word {n} (f ∷ fs) e here =
       at = eqb-true (kind_of f.word) n (and_right (ltb 0 (length f.word)) (eqb (kind_of f.word) n) rest);
     }
 found_word {n} (f ∷ fs) e (behind x) = found_word fs (and_right (is_found n f) (all_found (suc n) fs) e) x
+found_word {n = n} [] {w = w} {k = k} e x'' = elim x'' [ ]
 
 call_found : {w : List ℕ} {k : ℕ} → CallWord w k → Found w k
 call_found x = found_word forms every_word_is_found x
@@ -145,6 +146,7 @@ call_found x = found_word forms every_word_is_found x
 call_some : {n : ℕ} (fs : List Form) {w : List ℕ} {k : ℕ} → WordFrom n fs w k → n ≤ k
 call_some (f ∷ fs) here = omega arith
 call_some (f ∷ fs) (behind x) = omega (arith, call_some fs x)
+call_some {n = n} [] {w = w} {k = k} x' = elim x' [ ]
 
 -- a word of letters is no heading's
 letters_are_no_heading : (w : List ℕ) → all_high w ≡ true → is_heading w ≡ false
