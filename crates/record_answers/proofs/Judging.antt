@@ -2,7 +2,7 @@
 -- accepted. The proofs of the rules cite it, return by return.
 use mathlib.Core.Path.{◌≡◌, refl, sym, ◌∙◌, ap}
 use mathlib.Core.Bool.{true, false, not}
-use mathlib.Core.List.{List, ◌∷◌}
+use mathlib.Core.List.{List, [], ◌∷◌}
 use Rattle.paper.specs.declared.Verdict.{Verdict}
 use Rattle.paper.specs.declared.Verdict.TheVariants.{Done, NoSuchId}
 use Rattle.paper.specs.Lists.{every}
@@ -19,6 +19,7 @@ first_refuses : (cs : List Check) (v : Verdict) → all_refusals cs ≡ true →
 unfolding all_refusals every
 first_refuses (c ∷ cs) v r (here w q) = ap is_done (sym w) ∙ not_true _ (and_left (not (is_done c.verdict)) _ r)
 first_refuses (c ∷ cs) v r (later q f) = first_refuses cs v (and_right (not (is_done c.verdict)) _ r) f
+first_refuses [] v r f = elim f [ ]
 
 module _ (s : Slot) (x : Ask) where
   refused_first : (v : Verdict) → is_done v ≡ false → first_of (checks_on (is_known s) s.rec x) ≡ v
