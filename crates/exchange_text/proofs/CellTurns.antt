@@ -7,7 +7,7 @@ use Prim.Native.Nat.{ℕ, zero, suc, ◌+◌, ◌-◌, ◌*◌, ◌^◌, ◌≤�
 use native.Mathlib.Nat.{mul-le-mul}
 use native.Mathlib.Omega.{arith}
 use lib.Dec.{leb, ltb, eqb}
-use lib.IntN.{ℤ, pos, negsuc, neg_ℤ, ◌-ℤ◌, +ℤ_idl}
+use lib.IntN.{pos, neg_ℤ, ◌-ℤ◌, +ℤ_idl}
 use lib.ListN.{length, drop, get_or, length-drop, drop_of_length-le}
 use lib.Seq.{drop-cons, drop-drop}
 use mir.Syntax.{w64}
@@ -23,7 +23,7 @@ use Rattle.text_bytes.specs.Spells.{negated}
 use Rattle.text_bytes.proofs.Spelling.{impossible, within_is_digit, digit_is_within, low_no_digit, high_no_digit}
 use Rattle.exchange_protocol.specs.declared.Column.{Column}
 use Rattle.exchange_protocol.specs.Exchange.{point}
-use Rattle.exchange_protocol.specs.Scan.{Front, front, none, then, starts, number_most, digits, past_zeros, behind_zeros}
+use Rattle.exchange_protocol.specs.Scan.{Front, front, none, starts, number_most, digits, past_zeros, behind_zeros}
 use Rattle.exchange_protocol.specs.Scan.{decimals, behind_whole, number, positive, turned, cell}
 use Rattle.exchange_text.specs.declared.cell.Part.{Part}
 use Rattle.exchange_text.specs.declared.cell.Part.TheVariants as part

@@ -7,10 +7,11 @@ use borrow.Fn.World.{ArgsD, ResD}
 use borrow.Fn.Kinds.{ended_of}
 use denote.Triple.Clauses.{AtExit}
 use Rattle.exchange_protocol.proofs.Texts.{says_unique}
-use Rattle.exchange_text.proofs.read_exchange as read-exchange
+use Rattle.exchange_text.specs.contracts.read_exchange.{signature}
+use Rattle.exchange_text.proofs.read_exchange
 
-pub read_exchange_determined : (κs : Lfts 1) (a : ArgsD read-exchange.signature κs)
-    → (r r' : ResD read-exchange.signature κs)
-    → (s s' : AtExit (ended_of 1 read-exchange.Kinds.ps read-exchange.Kinds.r) κs)
-    → read-exchange.Reads.Post κs a r s → read-exchange.Reads.Post κs a r' s' → r ≡ r'
+pub read_exchange_determined : (κs : Lfts 1) (a : ArgsD signature κs)
+    → (r r' : ResD signature κs)
+    → (s s' : AtExit (ended_of 1 read_exchange.Kinds.ps read_exchange.Kinds.r) κs)
+    → read_exchange.Reads.Post κs a r s → read_exchange.Reads.Post κs a r' s' → r ≡ r'
 read_exchange_determined κs a r r' s s' p p' = says_unique p p'

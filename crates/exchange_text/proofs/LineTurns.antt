@@ -1,16 +1,15 @@
 -- What each function needs, on plain values: the ways that each ends, and one turn of the loop over the fields.
 use mathlib.Core.Path.{◌≡◌, refl, sym, ap, ◌∙◌}
-use mathlib.Core.Bool.{Bool, true, false, ◌&&◌}
+use mathlib.Core.Bool.{true, false, ◌&&◌}
 use mathlib.Core.Logic.{◌⊎◌, inl, inr}
 use mathlib.Core.List.{List, [], ◌∷◌, ◌++◌}
-use Prim.Native.Nat.{ℕ, zero, suc, ◌+◌, ◌≤◌, ◌<◌}
+use Prim.Native.Nat.{ℕ, suc, ◌+◌, ◌≤◌, ◌<◌}
 use native.Mathlib.Omega.{arith}
 use lib.Dec.{leb, eqb}
 use lib.IntN.{ℤ}
 use lib.ListN.{length, take, drop, get_or, set, length-set, drop_of_length-le}
 use lib.Seq.{drop-cons, drop-drop, take_all, take-suc-set}
 use borrow.Author.Tests.{le-leb, leb-true}
-use Rattle.paper.specs.Lists.{pick}
 use Rattle.paper.proofs.Logic.{not_true_and_false, and_left, and_right, and_both, le_or_lt}
 use Rattle.text_bytes.specs.Bytes.{line_feed, carriage_return}
 use Rattle.exchange_protocol.specs.declared.Column.{Column}

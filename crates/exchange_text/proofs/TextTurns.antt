@@ -2,14 +2,12 @@
 -- and `Reads`, of the loop that goes from line to line. Each says what holds at the start, what a turn adds and what
 -- holds at the end.
 use mathlib.Core.Path.{◌≡◌, refl, sym, ap, ap₂, ◌∙◌}
-use mathlib.Core.Bool.{Bool, true, false}
-use mathlib.Core.Logic.{◌⊎◌, inl, inr}
+use mathlib.Core.Bool.{true}
 use mathlib.Core.List.{List, [], ◌∷◌, ◌++◌, append_assoc, append-nil}
 use Prim.Native.Nat.{ℕ, zero, suc, ◌+◌, ◌-◌, ◌*◌, ◌≤◌, ◌<◌}
 use native.Mathlib.Omega.{arith}
-use lib.Dec.{eqb}
 use lib.IntN.{ℤ, pos}
-use lib.ListN.{length, take, drop, get_or, set, replicate, length-replicate, length-append, length-drop}
+use lib.ListN.{length, drop, get_or, set, replicate, length-replicate, length-append, length-drop}
 use lib.ListN.{drop_of_length-le}
 use lib.Seq.{sets, sets-eq, drop-cons, take_at, drop-append-add}
 use borrow.Author.Tests.{eqb-true}
@@ -18,12 +16,9 @@ use Rattle.paper.specs.Numbers.{row_numbers, all_numbers_most}
 use Rattle.paper.specs.Ranges.{unsigned}
 use Rattle.text_bytes.specs.Bytes.{line_feed, is_line_feed, pieces}
 use Rattle.text_bytes.proofs.Spelling.{impossible}
-use Rattle.text_bytes.specs.Split.{Free}
 use Rattle.text_bytes.proofs.Pieces.{pieces_none, pieces_more, Parted, all, more, parted, pieces_some}
-use Rattle.exchange_protocol.specs.declared.Reading.{Reading}
 use Rattle.exchange_protocol.specs.Exchange.{Ended, line_numbers, rows_most, text_most, in_one, accepted, refused, Says}
-use Rattle.exchange_protocol.specs.Exchange.{too_long}
-use Rattle.exchange_protocol.specs.Scan.{Front, front, none, line, WrittenLine}
+use Rattle.exchange_protocol.specs.Scan.{front, none, line, WrittenLine}
 use Rattle.exchange_protocol.proofs.Lines.{ended_reads, line_back, row_has_seven}
 use Rattle.exchange_protocol.proofs.Walk.{Sofar, none_yet, own_row, other_row, ends_no_row, ends_seventeenth}
 use Rattle.exchange_protocol.proofs.Walk.{ends_unended}

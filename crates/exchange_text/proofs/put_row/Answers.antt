@@ -1,8 +1,9 @@
-use Prim.Native.Nat.{◌+◌, ◌-◌}
+use Prim.Native.Nat.{◌+◌}
 use lib.ListN.{get_or}
 use lib.IntN.{pos}
 use mir.Facts.{to_z-of_z}
 use mir.Syntax.{w64}
+use borrow.Author.Rules.{rules}
 use Rattle.exchange_text.proofs.TextTurns.{storing_none, storing_more, storing_all}
 use Rattle.exchange_text.proofs.put_row.Goals as goal
 

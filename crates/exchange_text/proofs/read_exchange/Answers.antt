@@ -1,5 +1,4 @@
 use mathlib.Core.Path.{sym, ◌∙◌}
-use Prim.Native.Nat.{◌-◌}
 use native.Mathlib.Omega.{arith}
 use Rattle.exchange_protocol.specs.Exchange.{too_long}
 use Rattle.exchange_text.proofs.TextTurns.{reads_none, reads_all, reads_bad, reads_other, reads_own}

@@ -1,4 +1,3 @@
-use Prim.Native.Nat.{◌-◌}
 use Rattle.exchange_text.proofs.CellTurns.{counting_none, counting_all, counting_low, counting_high}
 use Rattle.exchange_text.proofs.CellTurns.{counting_over, counting_more}
 use Rattle.exchange_text.proofs.cell.digits.Goals as goal

@@ -20,14 +20,13 @@ overflow_sub-t c =
     omega (arith, starts_in is_digit c.args.t.now c.args.from c.requires.1)
 
 pub digits-part-requires : goal.digits-part-requires
-digits-part-requires c =
-    (
-      omega (arith, starts_in is_digit c.args.t.now c.args.from c.requires.1),
-      omega (
-        arith,
-        first_digit c.args.t.now c.args.from _ c.wide-first.ensures c.requires.1,
-      ),
-    )
+digits-part-requires c = (
+  omega (arith, starts_in is_digit c.args.t.now c.args.from c.requires.1),
+  omega (
+    arith,
+    first_digit c.args.t.now c.args.from _ c.wide-first.ensures c.requires.1,
+  ),
+)
 
 pub returns-in_default : goal.returns-in_default
 returns-in_default c =
@@ -49,16 +48,15 @@ overflow_add-e c =
     }
 
 pub decimals-requires : goal.decimals-requires
-decimals-requires c =
-    (
-      omega (
-        arith,
-        starts_in (λ x. eqb x 46) c.args.t.now c.in-Is.e (sym
-            c.if-is_at.true ∙ c.is_at.ensures),
-      ),
-      (found _ _ c.in-Is.is c.digits-part.ensures).small,
-      c.requires.2,
-    )
+decimals-requires c = (
+  omega (
+    arith,
+    starts_in (λ x. eqb x 46) c.args.t.now c.in-Is.e (sym
+        c.if-is_at.true ∙ c.is_at.ensures),
+  ),
+  (found _ _ c.in-Is.is c.digits-part.ensures).small,
+  c.requires.2,
+)
 
 pub returns-then-is_at : goal.returns-then-is_at
 returns-then-is_at c =

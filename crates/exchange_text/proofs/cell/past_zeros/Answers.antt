@@ -1,4 +1,3 @@
-use Prim.Native.Nat.{◌-◌}
 use Rattle.exchange_text.proofs.CellTurns.{zeros_none, zeros_more, zeros_stop, zeros_all}
 use Rattle.exchange_text.proofs.cell.past_zeros.Goals as goal
 

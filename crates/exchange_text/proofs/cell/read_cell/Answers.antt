@@ -7,12 +7,11 @@ use Rattle.exchange_text.proofs.CellTurns.{cell_below, cell_above, cell_bad, cel
 use Rattle.exchange_text.proofs.cell.read_cell.Goals as goal
 
 pub number-part-requires : goal.number-part-requires
-number-part-requires c =
-    (
-      c.behind_minus-start.ensures.1,
-      sym c.if-is_digit_at.true ∙ c.is_digit_at.ensures,
-      c.requires.1,
-    )
+number-part-requires c = (
+  c.behind_minus-start.ensures.1,
+  sym c.if-is_digit_at.true ∙ c.is_digit_at.ensures,
+  c.requires.1,
+)
 
 pub returns-in_default : goal.returns-in_default
 returns-in_default c =

@@ -1,4 +1,3 @@
-use Prim.Native.Nat.{◌-◌}
 use mir.Facts.{to_z-of_z}
 use mir.Syntax.{w64}
 use borrow.Author.Rules.{rules}
@@ -16,12 +15,11 @@ returns-in_default c =
     (no_cell _ c.column_of.ensures.0 c.read_cell-cell.ensures c.in_default.is)
 
 pub field_end-place-requires : goal.field_end-place-requires
-field_end-place-requires c =
-    (
-      (celled _ c.column_of.ensures.0 c.read_cell-cell.ensures _ _
-          c.in-Is.is).in_t,
-      search rules,
-    )
+field_end-place-requires c = (
+  (celled _ c.column_of.ensures.0 c.read_cell-cell.ensures _ _
+      c.in-Is.is).in_t,
+  search rules,
+)
 
 pub returns-in_default-place : goal.returns-in_default-place
 returns-in_default-place c =
