@@ -132,12 +132,12 @@ demand_1_beside =
     record {
       interest = λ i numbers.
           judged (interest_answer i numbers).pair.verdict (interest_checks i numbers) (6 ∷ 14 ∷ [])
-          (interest.verdict-first i numbers) refl refl;
-      interest_zero = interest.refused-zero;
+          (interest.verdict_first i numbers) refl refl;
+      interest_zero = interest.refused_zero;
       bond = λ b flows.
-          judged (bond_answer b flows).verdict (bond_checks b flows) (6 ∷ 17 ∷ 7 ∷ 9 ∷ []) (bond.verdict-first b flows)
+          judged (bond_answer b flows).verdict (bond_checks b flows) (6 ∷ 17 ∷ 7 ∷ 9 ∷ []) (bond.verdict_first b flows)
           refl refl;
-      bond_zero = bond.refused-zero;
+      bond_zero = bond.refused_zero;
       exchange = read_exactly;
       heard = λ buffer place.
           judged (heard_at buffer place).verdict (read_checks (drop place buffer)) (21 ∷ 22 ∷ 21 ∷ 22 ∷ 23 ∷ [])

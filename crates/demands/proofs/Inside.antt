@@ -90,6 +90,7 @@ first_at_the_last v (x ∷ cs) c n (here w q) =
 first_at_the_last v (x ∷ cs) c n (later q f) =
     let rest = first_at_the_last v cs c (and_right (is_other v x) _ n) f in
     (also q rest.0, rest.1)
+first_at_the_last v [] c n (later q f) = elim f [ ]
 
 last_is_first : (cs : List Check) (c : Check) → NoneApplies cs → c.applies ≡ true
     → FirstAt c.verdict (cs ++ (c ∷ []))
