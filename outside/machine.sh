@@ -209,6 +209,13 @@ need_c_for() { # KIND
     c_links_for "$1" || cannot "$(tool_for "$1" gcc) does not link a static program for $1"
 }
 
+# What is released for aarch64 is run by it.
+need_emulator() {
+    has qemu-aarch64 && return
+    install_alone "qemu-aarch64 is missing" qemu-user
+    has qemu-aarch64 || cannot "there is still no qemu-aarch64"
+}
+
 # The WebAssembly programs run by it.
 need_node() {
     has node && return
