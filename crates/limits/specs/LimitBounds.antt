@@ -23,7 +23,7 @@ pub shifted_limit_high : (way : Way) (st : Statics) (side : Side) (p : Price) (r
     → limit_of way st (shifted side p.units rate.bp) ≤ fresh_most
 shifted_limit_high way st side p rate r =
     let den : (shifted side p.units rate.bp).den ≡ one_in_bp = shifted_den_is_one side p.units rate.bp in
-    sizes.limit-high way st (shifted side p.units rate.bp) (2 * (price_most / coarsest_grid)) (omega (arith, den))
+    sizes.limit_high way st (shifted side p.units rate.bp) (2 * (price_most / coarsest_grid)) (omega (arith, den))
     (rw den (omega (arith, shifted_high side p rate r)))
 
 -- and so is the farthest limit of a side, whose rate is a maximum of the statics
@@ -36,12 +36,12 @@ farthest_limit_high st side p s h =
 
 pub range_high : (st : Statics) (side : Side) (p : Price) (rate : Rate) → RangeInputs p rate
     → range_limit st p.units rate.bp side ≤ fresh_most
-range_high st side p rate r = sizes.range-high st side p.units rate.bp r.price r.rate_high
+range_high st side p rate r = sizes.range_high st side p.units rate.bp r.price r.rate_high
 
 pub band_high : (st : Statics) (side : Side) (p : Price) (s1 : Rate) (c k : ℕ) (repo : ℤ) → LimitStatics st
     → BandInputs p s1 c k repo → band_limit st p.units s1.bp k repo c side ≤ fresh_most
 band_high st side p s1 c k repo s r =
-    sizes.band-high st side p.units s1.bp c k repo s r.price r.days
+    sizes.band_high st side p.units s1.bp c k repo s r.price r.days
     (within_most_is_at_most repo r.repo_high)
 
 -- ---- delta
@@ -65,4 +65,4 @@ delta_sizes st p s1 s r =
 
 pub delta_high : (st : Statics) (p : Price) (s1 : Rate) → LimitStatics st → RangeInputs p s1
     → delta_of st s1.bp p.units ≤ delta_most
-delta_high st p s1 s r = sizes.delta-high st p.units s1.bp s r.price r.rate_high
+delta_high st p s1 s r = sizes.delta_high st p.units s1.bp s r.price r.rate_high

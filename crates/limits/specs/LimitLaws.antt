@@ -108,12 +108,12 @@ pub band_is_narrower : (st : Statics) (side : Side) (p s1 c k : ℕ) (repo : ℤ
     ≡ narrower_of side (farthest_limit st side p) (limit_of (inward side) st (monitored st p s1 k repo c side))
 unfolding band_limit
 band_is_narrower st side p s1 c k repo s e =
-    kinds.band-monitored share st side p s1 c k repo (omega arith) s.divisor_low e
+    kinds.band_monitored share st side p s1 c k repo (omega arith) s.divisor_low e
 
 pub band_is_farthest : (st : Statics) (side : Side) (p s1 c k : ℕ) (repo : ℤ) → st.monitoring ≡ false
     → band_limit st p s1 k repo c side ≡ farthest_limit st side p
 unfolding band_limit
-band_is_farthest st side p s1 c k repo e = kinds.band-unmonitored share st side p s1 c k repo e
+band_is_farthest st side p s1 c k repo e = kinds.band_unmonitored share st side p s1 c k repo e
 
 -- with monitoring and before the first move, a term's band is that of P·(x_pr ± S_1)
 pub unmoved_is_band : (st : Statics) (p s1 : ℕ) (c : Moves) (x : Term) → LimitStatics st → st.monitoring ≡ true

@@ -102,7 +102,7 @@ term_repo_within_most Lower x v =
 
 -- a repo rate is its own bits read back
 pub term_repo_bits : (side : Side) (x : Term) → valid_term x ≡ true → to_z w64 (of_z w64 (repo_of side x)) ≡ repo_of side x
-term_repo_bits side x v = to_z-of_z (record { sfits = omega (arith, term_repo_within_most side x v) })
+term_repo_bits side x v = to_z-of_z {w = w64} (record { sfits = omega (arith, term_repo_within_most side x v) })
 
 pub term_days_within_most : (x : Term) → valid_term x ≡ true → x.k ≤ term_days_most
 unfolding valid_term
