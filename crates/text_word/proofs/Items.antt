@@ -1,10 +1,10 @@
 -- What a word behind the call's is, on plain values. A word that spells a number has no slash.
-use mathlib.Core.Path.{◌≡◌, refl, sym, ap, ◌∙◌}
+use mathlib.Core.Path.{◌≡◌, refl, ap}
 use mathlib.Core.Bool.{Bool, true, false, not}
 use mathlib.Core.List.{List, [], ◌∷◌}
 use Prim.Native.Nat.{ℕ, zero, suc, ◌+◌, ◌-◌, ◌*◌, ◌≤◌, ◌<◌}
 use native.Mathlib.Omega.{arith}
-use lib.Dec.{leb, ltb, eqb}
+use lib.Dec.{leb, eqb}
 use lib.IntN.{ℤ}
 use lib.ListN.{length, take, drop, length-drop}
 use lib.Seq.{take_all}
@@ -15,7 +15,6 @@ use Rattle.text_bytes.specs.declared.Number.{Number}
 use Rattle.text_bytes.specs.declared.Number.TheVariants as number
 use Rattle.text_bytes.specs.declared.Size.{Size}
 use Rattle.text_bytes.specs.declared.Size.TheVariants as size
-use Rattle.text_protocol.specs.declared.Item.{Item}
 use Rattle.text_protocol.specs.declared.Item.TheVariants as item
 use Rattle.text_bytes.specs.Bytes.{is_not, run, digit_zero, digit_nine, minus_sign, slash}
 use Rattle.text_bytes.specs.Numbers.{is_digit, size_from, size_of, up_to, above, below, number_of, slash_at, greatest, least}

@@ -1,26 +1,23 @@
 -- Digits that lead a word, on plain values: where the word ends behind them, it is the number that they spell.
-use mathlib.Core.Path.{◌≡◌, refl, sym, ap, ◌∙◌}
-use mathlib.Core.Bool.{Bool, true, false, not}
+use mathlib.Core.Path.{◌≡◌, refl, sym}
+use mathlib.Core.Bool.{Bool, true, false}
 use mathlib.Core.List.{List, [], ◌∷◌}
 use Prim.Native.Nat.{ℕ, suc, ◌+◌, ◌-◌, ◌*◌, ◌≤◌, ◌<◌}
 use native.Mathlib.Omega.{arith}
-use lib.Dec.{leb, eqb}
-use lib.IntN.{ℤ, pos}
+use lib.Dec.{leb}
+use lib.IntN.{pos}
 use lib.ListN.{length, take, drop, get_or, drop_of_length-le, length-drop}
 use lib.Seq.{drop-cons, length-take-le}
 use borrow.Author.Tests.{leb-true, le-leb, ne_eqb}
-use Rattle.paper.specs.Lists.{pick}
 use Rattle.paper.proofs.Logic.{and_left}
-use Rattle.text_bytes.specs.declared.Number.{Number}
 use Rattle.text_bytes.specs.declared.Number.TheVariants as number
-use Rattle.text_bytes.specs.declared.Size.{Size}
 use Rattle.text_bytes.specs.declared.Size.TheVariants as size
 use Rattle.text_protocol.specs.declared.Item.TheVariants as item
 use Rattle.text_bytes.specs.Bytes.{is_blank, run, digit_zero, digit_nine, minus_sign, space, tab, carriage_return}
-use Rattle.text_bytes.specs.Numbers.{is_digit, size_from, size_of, up_to, above, below, number_of, greatest, least}
+use Rattle.text_bytes.specs.Numbers.{is_digit, size_from, size_of, up_to, above, number_of, greatest}
 use Rattle.text_bytes.proofs.Spelling.{within_is_digit}
 use Rattle.text_protocol.specs.Line.{item_of}
-use Rattle.text_word.specs.Parts.{is_solid, Onward, Leads, word_from}
+use Rattle.text_word.specs.Parts.{is_solid, Leads, word_from}
 use Rattle.text_word.proofs.WordLoops.{running_none, running_more}
 use Rattle.text_word.proofs.Items.{item_one}
 

@@ -289,7 +289,7 @@ pub fn item_of(p: &[u8]) -> Item
 // ---- a word where it stands
 
 // Digits in front of a word: where they end, and the size that they spell.
-#[derive(Drop)]
+#[derive(Clone, Copy)]
 pub struct Digits {
     pub end: usize,
     pub size: u64,
@@ -321,7 +321,7 @@ fn digits_at(l: &[u8], from: usize) -> Digits
 }
 
 // A word of a line: where it ends, and what it is behind the call's.
-#[derive(Drop)]
+#[derive(Clone, Copy)]
 pub struct Word {
     pub end: usize,
     pub item: Item,
