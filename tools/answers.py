@@ -122,6 +122,8 @@ def used(imports, text):
     if "(ap not " in text:
         imports = imports + [f"use {m}.{{{w}}}" for m, w in (("mathlib.Core.Path", "ap"), ("mathlib.Core.Bool", "not"))
                              if not any(re.search(rf"[{{, ]{w}[,}} ]", l) for l in imports)]
+    if "search rules" in text and not any(re.search(r"[{, ]rules[,}]", l) for l in imports):
+        imports = imports + ["use borrow.Author.Rules.{rules}"]
     words = set(TOKEN.findall(text))
     for w in list(words):
         words.update(re.findall(r"[^\w\s]+|\w+", w))
@@ -334,6 +336,8 @@ def convert(path, key, made, crate, function_path):
                 continue
             root = params[0] if params else "c"
             body = ensured(chains(body, [root], steps, arms=arms), of_callee)
+            # That a number which an arm binds fits its type is no fact of its own now; the search finds it.
+            body = re.sub(r"\(record \{\s*sfits\s*=\s*c\.known_told[^\s;}]*;?\s*\}\)", "(search rules)", body)
             answers.append((new, m.group(1), comment, opened, root, params[1:], body))
             continue
         if re.search(r": \{M : Type 1\}", code) and "tie.close" in code:
