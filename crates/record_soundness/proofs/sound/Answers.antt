@@ -8,7 +8,7 @@ use Rattle.paper.proofs.Logic.{not_true, not_false}
 use Rattle.paper.specs.declared.Limits.{Limits}
 use Rattle.paper.specs.declared.Record.{Record}
 use Rattle.paper.specs.Lists.{all_three}
-use Rattle.paper.specs.Ranges.{grid_of, valid_limits, no_limits, sound, sound_figures}
+use Rattle.paper.specs.Ranges.{grid_of, valid_limits, no_limits, sound}
 use mathlib.Core.Path.{ap}
 use mathlib.Core.Bool.{not}
 use Rattle.record_soundness.proofs.sound.Goals as goal

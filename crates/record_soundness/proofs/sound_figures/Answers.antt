@@ -3,7 +3,7 @@
 use mathlib.Core.Path.{◌≡◌}
 use mathlib.Core.Bool.{true, ◌&&◌}
 use Rattle.paper.specs.Numbers.{id_most}
-use Rattle.paper.specs.Ranges.{within, valid_statics, valid_figures}
+use Rattle.paper.specs.Ranges.{within, valid_statics}
 use Rattle.paper.proofs.Logic.{and_right}
 use Rattle.inputs.proofs.Tests.{two_tests_same}
 use Rattle.inputs.proofs.Facts.{statics_step_positive}

@@ -1,4 +1,3 @@
-use Prim.Native.Nat.{◌-◌}
 use native.Mathlib.Omega.{arith}
 use Rattle.paper.specs.Numbers.{row_numbers}
 use Rattle.paper.specs.Ranges.{row_at, rows_of}
