@@ -22,7 +22,7 @@ pub const LONGEST: usize = ROOM - 1;
 const TERM_NUMBERS: usize = 3;
 
 // What a line says. A call's numbers are the first `count` of the lent array.
-#[derive(Drop)]
+#[derive(Clone, Copy)]
 pub struct Line {
     pub kind: u64,
     pub count: usize,
@@ -165,7 +165,7 @@ fn keep(xs: &mut [i64], n: usize, z: i64) -> usize
 }
 
 // What is read of a call's numbers: how many, and which of them are pairs; or that something is in no call.
-#[derive(Drop)]
+#[derive(Clone, Copy)]
 pub struct Taken {
     pub ok: bool,
     pub count: usize,
