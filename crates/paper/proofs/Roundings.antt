@@ -1,9 +1,8 @@
 -- Laws of the one rounding rule, each said once over the way: what it is, that it is the only such number, that it
 -- keeps order, that it keeps what is a multiple already, and on which side of the quotient it stands. Then what is used
 -- of one way alone. n/d ≤ m/e is said as n·e ≤ m·d.
-use mathlib.Core.Path.{◌≡◌, refl, ap, sym, ◌∙◌}
+use mathlib.Core.Path.{◌≡◌, ap, sym, ◌∙◌}
 use mathlib.Core.Logic.{◌⊎◌, inl, inr}
-use mathlib.Core.Bool.{Bool, true, false}
 use Prim.Native.Nat.{ℕ, ◌+◌, ◌-◌, ◌*◌, ◌/◌, ◌%◌, ◌≤◌, ◌<◌, min, max}
 use native.Mathlib.Nat.{div-add-mod, mul-sub, mul-mod_right, add-mod, zero-mod, le_trans, div-lt_iff_lt-mul}
 use native.Mathlib.Nat.{le-div_iff_mul-le, mul-le-mul_right, le_of_mul-le-mul_left, mul-pos, min-eq_left, min-eq_right}

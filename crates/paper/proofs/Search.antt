@@ -1,13 +1,12 @@
 -- Laws of "the least ..": what is found passes, nothing below it does, and it is the only such number.
-use mathlib.Core.Path.{◌≡◌, refl, sym, ◌∙◌}
-use mathlib.Core.Logic.{◌≢◌, ◌⊎◌, inl, inr, ⊎_elim}
+use mathlib.Core.Path.{◌≡◌, refl}
+use mathlib.Core.Logic.{◌≢◌, ◌⊎◌, inl, inr}
 use mathlib.Core.Bool.{Bool, true, false}
-use Prim.Native.Nat.{ℕ, zero, suc, ◌+◌, ◌-◌, ◌*◌, ◌/◌, ◌≤◌, ◌<◌}
+use Prim.Native.Nat.{ℕ, zero, suc, ◌+◌, ◌*◌, ◌≤◌, ◌<◌}
 use native.Mathlib.Nat.{eq-or-lt_of_le, le_trans, le_antisymm, mul-le-mul, mul-le-mul_left, mul-le-mul_right}
-use native.Mathlib.Nat.{lt_of_mul-lt-mul_right, lt_irrefl, not-le_of_lt}
 use native.Mathlib.Omega.{arith}
 use lib.Dec.{leb}
-use borrow.Author.Tests.{leb-true, le-leb, lt-leb}
+use borrow.Author.Tests.{leb-true, le-leb}
 use Rattle.paper.specs.Least.{first, least, least_root, least_times, least_multiple}
 use Rattle.paper.proofs.Logic.{not_true_and_false, le_or_lt}
 

@@ -2,13 +2,11 @@
 -- and what a sound record is.
 use Rattle.std.specs.Prelude.{Bool, true, false, ◌&&◌, ◌||◌, List, [], ◌∷◌, ℕ, zero, suc, ◌+◌, ◌*◌, ◌/◌, ◌%◌, ◌^◌, leb, eqb, ℤ, pos, negsuc, length, get_or}
 use Rattle.std.specs.Int.Signed.{le_z}
-use Rattle.paper.specs.declared.Price.{Price}
 use Rattle.paper.specs.declared.MadePrice.{MadePrice}
 use Rattle.paper.specs.declared.MadePrice.TheVariants as made-price
 use Rattle.paper.specs.declared.Rate.{Rate}
 use Rattle.paper.specs.declared.MadeRate.{MadeRate}
 use Rattle.paper.specs.declared.MadeRate.TheVariants as made-rate
-use Rattle.paper.specs.declared.Limit.{Limit}
 use Rattle.paper.specs.declared.MadeLimit.{MadeLimit}
 use Rattle.paper.specs.declared.MadeLimit.TheVariants as made-limit
 use Rattle.paper.specs.declared.Statics.{Statics}

@@ -1,7 +1,7 @@
 -- Document 01, "Places of rounding", and W-209, "The shared rounding rule now says which way it goes": one rule over
 -- the ways down, half up and up, of which every rounding to a unit or to a grid is an instance. A quotient n/d is kept
 -- as n and d until one of these places.
-use Rattle.std.specs.Prelude.{◌≡◌, refl, Bool, List, [], ◌∷◌, map, ℕ, suc, ◌+◌, ◌-◌, ◌*◌, ◌/◌, ◌≤◌, ◌<◌, leb, ℤ, pos, negsuc, neg_ℤ}
+use Rattle.std.specs.Prelude.{◌≡◌, refl, [], ◌∷◌, map, ℕ, suc, ◌+◌, ◌-◌, ◌*◌, ◌/◌, ◌≤◌, ◌<◌, leb, ℤ, pos, negsuc, neg_ℤ}
 use Rattle.paper.specs.declared.Way.{Way}
 use Rattle.paper.specs.declared.Way.TheVariants.{Down, HalfUp, Up}
 use Rattle.paper.specs.Lists.{pick}

@@ -1,6 +1,6 @@
 -- Document 02, W-201: "The security's evaluation may take these limits or given ones." A day as it is asked for is a
 -- day of document 01.
-use Rattle.std.specs.Prelude.{Bool, true, false, List, [], ◌∷◌, ℕ, ℤ, pos}
+use Rattle.std.specs.Prelude.{[], ◌∷◌, pos}
 use Rattle.paper.specs.declared.Term.{Term}
 use Rattle.paper.specs.declared.RepoLimits.{RepoLimits}
 use Rattle.paper.specs.declared.WorkedBand.{WorkedBand}

@@ -1,8 +1,8 @@
 -- What the figures of a bond are (W-206): a rate is the least multiple of h that covers the requirement and the
 -- minimum, held at the bond maximum, as a share's is; a limit is the two-decimal figure of what is left of the grown
 -- price, rounded the way it says, and 0 where nothing is.
-use mathlib.Core.Path.{◌≡◌, ap, sym, ◌∙◌}
-use mathlib.Core.Bool.{true, false, ◌&&◌}
+use mathlib.Core.Path.{◌≡◌}
+use mathlib.Core.Bool.{true, false}
 use Prim.Native.Nat.{ℕ, ◌+◌, ◌-◌, ◌*◌, ◌<◌}
 use native.Mathlib.Omega.{arith}
 use Rattle.paper.specs.declared.BondScale.{BondScale}
@@ -13,7 +13,7 @@ use Rattle.paper.specs.Roundings.{Quotient}
 use Rattle.paper.specs.Ranges.{valid_statics, valid_given, statics_of}
 use Rattle.paper_desk.specs.Rates.{minimum_of, level_rate, unmodelled, figures_by_volatility, AtLeastRequired, HeldLeast}
 use Rattle.paper_desk.specs.Limits.{grown_price, bond_limit_of}
-use Rattle.paper.proofs.Logic.{and_left, pick_true, pick_false}
+use Rattle.paper.proofs.Logic.{and_left}
 use Rattle.paper_desk.proofs.Level.{level_rate_is}
 use Rattle.paper.proofs.Roundings.{rounded_is, rounded_le}
 use Rattle.paper_desk.proofs.KindLaws.{bond_limit_is}

@@ -2,11 +2,10 @@
 -- makes a unit a hundredth of a per cent, so that most figures can be read off.
 use Rattle.std.specs.Prelude.{◌≡◌, refl, List, [], ◌∷◌, ◌++◌, map, ℕ, ◌+◌, ◌*◌, ℤ, pos, negsuc, get_or}
 use Rattle.paper.specs.declared.AskedTerm.{AskedTerm}
-use Rattle.paper.specs.declared.Limits.{Limits}
 use Rattle.paper.specs.declared.Rate.{Rate}
 use Rattle.paper.specs.declared.Side.TheVariants.{Upper}
 use Rattle.paper.specs.declared.RepoBand.TheVariants as band
-use Rattle.paper.specs.Lists.{pick, every, some}
+use Rattle.paper.specs.Lists.{every, some}
 use Rattle.paper.specs.Numbers.{one_in_per_cent_hundredths}
 use Rattle.paper.specs.Roundings.{Quotient, down, half_up, up, to_grid, lesser_of, greater_of, grown}
 use Rattle.paper.specs.Least.{first, least, least_multiple}

@@ -1,12 +1,11 @@
 -- Document 02, W-206: clauses 8.10 and 11.1 of source document 001. What bonds share with shares is in `paper`, over
 -- the kind of security (Limits) and over statics (Rates); here stands what is a bond's own.
-use Rattle.std.specs.Prelude.{◌≡◌, Bool, true, false, not, ◌&&◌, ◌||◌, List, [], ◌∷◌, map, ℕ, ◌+◌, ◌-◌, ◌*◌, ◌/◌, ◌%◌, ◌≤◌, ◌<◌, leb, eqb, ℤ, pos, length, get_or}
+use Rattle.std.specs.Prelude.{◌≡◌, Bool, not, ◌&&◌, ◌||◌, List, [], ◌∷◌, map, ℕ, ◌+◌, ◌-◌, ◌*◌, ◌/◌, ◌%◌, ◌≤◌, ◌<◌, leb, eqb, ℤ, pos, length, get_or}
 use Rattle.std.proofs.lemmas.List.Edits.{sets}
 use Rattle.paper.specs.declared.GivenStatics.{GivenStatics}
 use Rattle.paper.specs.declared.Statics.{Statics}
 use Rattle.paper.specs.declared.BondScale.{BondScale}
 use Rattle.paper.specs.declared.Figures.{Figures}
-use Rattle.paper.specs.declared.Limits.{Limits}
 use Rattle.paper.specs.declared.Side.{Side}
 use Rattle.paper.specs.declared.Term.{Term}
 use Rattle.paper.specs.declared.Way.{Way}

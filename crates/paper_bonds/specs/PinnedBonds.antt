@@ -10,7 +10,7 @@ use Rattle.paper.specs.Verdicts.{number_of}
 use Rattle.paper.specs.PinnedRanges.{Ranged, range, values_of, straddles, at_the_ends_alone}
 use Rattle.paper_bonds.specs.declared.Bond.{Bond}
 use Rattle.paper_bonds.specs.Bonds.{valid_bond, valid_flows}
-use Rattle.paper_bonds.specs.BondCases.{m_at, net_at, face_at, accrued_at, repo_at, terms_at, minima_at, pchmax_at}
+use Rattle.paper_bonds.specs.BondCases.{net_at, face_at, accrued_at, terms_at, minima_at, pchmax_at}
 use Rattle.paper_bonds.specs.BondCases.{ewma_at, bond_from, plain_bond, answered, answer_to, first_band}
 
 -- ---- "or the answer is 6": the ranges, in the order of the row; h is 1, and where two are ordered the other is an end

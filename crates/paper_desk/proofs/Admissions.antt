@@ -4,7 +4,7 @@
 use mathlib.Core.Path.{◌≡◌, refl, ap}
 use mathlib.Core.Bool.{Bool, true, false, not, ◌&&◌}
 use mathlib.Core.List.{List, [], ◌∷◌}
-use Prim.Native.Nat.{ℕ, suc, ◌%◌, ◌≤◌}
+use Prim.Native.Nat.{ℕ, suc, ◌%◌}
 use native.Mathlib.Omega.{arith}
 use lib.Dec.{leb, eqb}
 use lib.ListN.{length, length-set}
@@ -14,7 +14,7 @@ use Rattle.paper.specs.declared.Admission.{Admission}
 use Rattle.paper.specs.declared.Record.{Record}
 use Rattle.paper.specs.declared.Verdict.TheVariants.{Done}
 use Rattle.paper.specs.Lists.{pick, every}
-use Rattle.paper.specs.Numbers.{id_most, day_most, volatility_most, rate_most}
+use Rattle.paper.specs.Numbers.{id_most, rate_most}
 use Rattle.paper.specs.Ranges.{within, grid_of, is_rate, is_limit, valid_limits, no_limits, valid_statics, valid_given}
 use Rattle.paper.specs.Ranges.{valid_figures, valid_admission, valid_term, valid_near, valid_near_seconds, valid_session}
 use Rattle.paper.specs.Ranges.{valid_external, statics_of, last_day, sound, valid_slots}

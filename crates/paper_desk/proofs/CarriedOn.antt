@@ -1,7 +1,6 @@
 -- Demand 3, shown once for both sides: a volatility that the rule carries on from a first one stays near the exact one.
 use Prim.Native.Nat.{ℕ}
 use native.Mathlib.Numerals.{add-one}
-use native.Mathlib.Omega.{arith}
 use Rattle.paper.specs.Roundings.{Quotient}
 use Rattle.paper_desk.specs.Exact.{NearExact, CarriedOn, begun, once_more}
 use Rattle.paper_desk.proofs.Drift.{near_start}

@@ -1,8 +1,8 @@
 -- One step of the carried volatility against the exact one, over whole numbers alone and any weights b and a.
-use mathlib.Core.Path.{◌≡◌, refl}
+use mathlib.Core.Path.{◌≡◌}
 use mathlib.Core.Logic.{◌⊎◌, inl, inr}
 use Prim.Native.Nat.{ℕ, zero, suc, ◌+◌, ◌-◌, ◌*◌, ◌≤◌, ◌<◌}
-use native.Mathlib.Nat.{mul-le-mul, mul-le-mul_left, mul-le-mul_right, le_of_mul-le-mul_left, mul-pos, le_trans}
+use native.Mathlib.Nat.{mul-le-mul, mul-le-mul_left, le_of_mul-le-mul_left, mul-pos, le_trans}
 use native.Mathlib.Omega.{arith}
 use Rattle.paper.specs.Roundings.{Quotient, RoundedUp}
 use Rattle.paper_desk.specs.Exact.{NearExact}

@@ -1,14 +1,14 @@
 -- Laws over the kind of security: what either kind makes of a limit keeps order, so that the narrower of two limits can
 -- be taken before they are rounded or after; and so a band limit is the narrower of the farthest limit and the
 -- monitored one.
-use mathlib.Core.Path.{◌≡◌, refl, ap, sym, ◌∙◌}
+use mathlib.Core.Path.{◌≡◌, refl, ap, ◌∙◌}
 use mathlib.Core.Logic.{◌⊎◌, inl, inr}
 use mathlib.Core.Bool.{Bool, true, false}
 use Prim.Native.Nat.{ℕ, zero, suc, ◌+◌, ◌-◌, ◌*◌, ◌≤◌, ◌<◌}
-use native.Mathlib.Nat.{mul-le-mul_left, mul-le-mul_right}
+use native.Mathlib.Nat.{mul-le-mul_right}
 use native.Mathlib.Omega.{arith}
 use lib.Dec.{leb}
-use lib.IntN.{ℤ, pos, negsuc, neg_ℤ, sub_ℕ, ◌*ℤ◌}
+use lib.IntN.{ℤ, pos, neg_ℤ, sub_ℕ}
 use Rattle.paper.specs.declared.Statics.{Statics}
 use Rattle.paper.specs.declared.BondScale.{BondScale}
 use Rattle.paper.specs.declared.Side.{Side}
@@ -20,7 +20,7 @@ use Rattle.paper.specs.Numbers.{coarsest_grid, divisor_least, one_in_per_cent_hu
 use Rattle.paper.specs.Roundings.{Quotient, rounded, KeepsOrder, mirrored, rounded_z, at_least_zero, lesser_of, greater_of}
 use Rattle.paper.specs.Ranges.{grid_of}
 use Rattle.paper_desk.specs.Limits.{inward, Kind, share, bond, limit_of, grown_price, bond_limit_of, limit_for}
-use Rattle.paper_desk.specs.Limits.{shifted, farthest, growing, farthest_for, monitored, narrower, narrower_of}
+use Rattle.paper_desk.specs.Limits.{shifted, farthest, farthest_for, monitored, narrower, narrower_of}
 use Rattle.paper_desk.specs.Limits.{band_before, band_limit_for, HasFace}
 use Rattle.paper.proofs.Logic.{le_or_lt, pick_true, pick_false}
 use Rattle.paper.proofs.Differences.{difference_is_pos, difference_is_negsuc, difference_times}

@@ -3,23 +3,22 @@
 use mathlib.Core.Path.{◌≡◌, refl, sym, ◌∙◌, ap}
 use mathlib.Core.Logic.{◌⊎◌, inl, inr}
 use mathlib.Core.Bool.{Bool, true, false, ◌&&◌}
-use Prim.Native.Nat.{ℕ, zero, suc, ◌+◌, ◌-◌, ◌*◌, ◌/◌, ◌%◌, ◌≤◌, ◌<◌}
+use Prim.Native.Nat.{ℕ, ◌+◌, ◌-◌, ◌*◌, ◌/◌, ◌%◌, ◌≤◌, ◌<◌}
 use native.Mathlib.Nat.{mul-le-mul, mul-le-mul_left, mul-le-mul_right, le_of_mul-le-mul_left, mul-pos, le_trans}
 use native.Mathlib.Nat.{div-add-mod', mul-mod_left}
 use native.Mathlib.Omega.{arith}
 use lib.Dec.{leb, eqb, leb-zero}
-use lib.IntN.{ℤ, pos, sub_ℕ, ◌*ℤ◌}
+use lib.IntN.{pos, sub_ℕ, ◌*ℤ◌}
 use lib.Signed.{le_z}
-use borrow.Author.Tests.{leb-true, leb-false, le-leb, lt-leb, le-ltb, lt-ltb, eqb-true}
+use borrow.Author.Tests.{leb-true, le-leb, lt-leb, le-ltb, lt-ltb}
 use Rattle.paper.specs.declared.Statics.{Statics}
 use Rattle.paper.specs.Lists.{pick}
-use Rattle.paper.specs.Roundings.{Quotient}
 use Rattle.paper.specs.Least.{least_multiple}
 use Rattle.paper.specs.Ranges.{valid_statics}
 use Rattle.paper_desk.specs.Rates.{meets_requirement, days_of, minimum_of, covers, level_rate, AtLeastRoots}
 use Rattle.paper_desk.specs.Rates.{volatile_part, liquid_part, AtLeastRequired, HeldLeast, has, volatile_need}
 use Rattle.paper_desk.specs.Rates.{liquid_need, roots_within, Stepping}
-use Rattle.paper.proofs.Logic.{not_true_and_false, and_left, and_right, and_both, le_or_lt, pick_true, pick_false}
+use Rattle.paper.proofs.Logic.{not_true_and_false, and_left, and_right, and_both, le_or_lt}
 use Rattle.paper.proofs.StaticsFacts.{StaticsFacts, statics_facts}
 use Rattle.paper.proofs.Search.{Mono, multiple_holds, multiple_least, multiple_within_bound, multiple_is_multiple}
 use Rattle.paper_desk.proofs.Roots.{roots_covered, Floor, root_has_floor, no_room_over_sum, no_room_over_cross}

@@ -2,7 +2,7 @@
 use mathlib.Core.Path.{◌≡◌, refl, sym, ap}
 use mathlib.Core.Bool.{Bool, true, false}
 use Prim.Native.Nat.{ℕ, ◌+◌, ◌-◌, ◌*◌, ◌/◌, ◌%◌, ◌≤◌, ◌<◌}
-use native.Mathlib.Nat.{le_trans, mul-le-mul, mul-le-mul_right, mul-pos, mul-mod_left}
+use native.Mathlib.Nat.{mul-le-mul, mul-le-mul_right, mul-pos, mul-mod_left}
 use native.Mathlib.Omega.{arith}
 use lib.Dec.{leb, eqb}
 use lib.IntN.{ℤ, pos, negsuc}
@@ -17,13 +17,13 @@ use Rattle.paper.specs.declared.Term.{Term}
 use Rattle.paper.specs.Lists.{pick}
 use Rattle.paper.specs.Numbers.{one_in_bp, coarsest_grid, year_in_day_bp, price_most, rate_most, limit_most, term_days_most}
 use Rattle.paper.specs.Numbers.{moves_most, repo_most}
-use Rattle.paper.specs.Roundings.{Quotient, rounded, rounded_to, grown}
+use Rattle.paper.specs.Roundings.{Quotient, rounded, grown}
 use Rattle.paper.specs.Ranges.{grid_of, is_limit, valid_limits, valid_statics, valid_term}
 use Rattle.paper_desk.specs.Limits.{limit_of, inward, shifted, range_limit, range_of, farthest, spread, monitored}
 use Rattle.paper_desk.specs.Limits.{narrower, narrower_of, share, band_limit, band_of, delta_of, one_more, count_of}
 use Rattle.paper_desk.specs.Limits.{LimitStatics}
 use Rattle.paper_desk.specs.Kept.{fresh_most, delta_most}
-use Rattle.paper.proofs.Logic.{not_true_and_false, and_left, and_right, and_both, order_trans}
+use Rattle.paper.proofs.Logic.{and_left, and_right, and_both, order_trans}
 use Rattle.paper.proofs.StaticsFacts.{statics_facts}
 use Rattle.paper.proofs.Roundings.{rounded_le, rounded_ge}
 pub use Rattle.paper_desk.proofs.KindLaws.{grid_in_range}

@@ -28,7 +28,7 @@ use Rattle.paper_desk.specs.Limits.{monitored, narrower, band_before, band_limit
 use Rattle.paper_desk.specs.Limits.{Outward}
 use Rattle.paper_desk.specs.Sequences.{range_after}
 use Rattle.paper_desk.specs.Sides.{limit_on, repo_on, PastZero}
-use Rattle.paper.proofs.Logic.{not_true_and_false, and_left, and_right}
+use Rattle.paper.proofs.Logic.{not_true_and_false}
 use Rattle.paper.proofs.StaticsFacts.{statics_facts}
 use Rattle.paper_desk.proofs.KindLaws.{limit_monotone, shifted_positive, band_positive}
 use Rattle.paper_desk.proofs.LimitSizes.{limit_le, limit_ge}

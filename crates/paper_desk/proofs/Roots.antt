@@ -1,8 +1,8 @@
 -- W ≥ √X + √Y on whole numbers: the test with A = W² - X - Y, A ≥ 0 and A² ≥ 4·X·Y, is the inequality of real numbers.
 use mathlib.Core.Path.{◌≡◌, refl}
 use mathlib.Core.Logic.{◌⊎◌, inl, inr}
-use Prim.Native.Nat.{ℕ, zero, suc, ◌+◌, ◌-◌, ◌*◌, ◌≤◌, ◌<◌}
-use native.Mathlib.Nat.{mul-le-mul, mul-le-mul_left, mul-le-mul_right, le_of_mul-le-mul_left, mul-pos, le_trans}
+use Prim.Native.Nat.{ℕ, zero, suc, ◌+◌, ◌*◌, ◌≤◌, ◌<◌}
+use native.Mathlib.Nat.{mul-le-mul, mul-le-mul_right, le_of_mul-le-mul_left, mul-pos}
 use native.Mathlib.Omega.{arith}
 use Rattle.paper.specs.Least.{least_root}
 use Rattle.paper.proofs.Logic.{le_or_lt}

@@ -6,7 +6,7 @@ use native.Mathlib.Nat.{mul-le-mul_left, mul-pos, mul-mod_left}
 use native.Mathlib.Omega.{arith}
 use lib.Dec.{leb}
 use borrow.Author.Tests.{leb-true, le-leb}
-use Rattle.paper.specs.Least.{least, least_multiple}
+use Rattle.paper.specs.Least.{least_multiple}
 use Rattle.paper_desk.specs.Rates.{least_step, IsLeastStep}
 use Rattle.paper.proofs.Search.{multiple_holds, multiple_least, multiple_is_multiple}
 

@@ -1,20 +1,18 @@
 -- Laws of "Units and ranges" and of the gateway's answers.
-use mathlib.Core.Path.{◌≡◌, refl, sym, ◌∙◌}
+use mathlib.Core.Path.{◌≡◌, refl}
 use mathlib.Core.Logic.{◌⊎◌, inl, inr}
-use mathlib.Core.Bool.{Bool, true, false, not, ◌&&◌}
-use Prim.Native.Nat.{ℕ, zero, suc, ◌+◌, ◌-◌, ◌*◌, ◌^◌, ◌≤◌, ◌<◌}
+use mathlib.Core.Bool.{Bool, true, false, ◌&&◌}
+use Prim.Native.Nat.{ℕ, zero, suc, ◌+◌, ◌-◌, ◌^◌, ◌≤◌, ◌<◌}
 use native.Mathlib.Omega.{arith}
 use lib.Dec.{leb}
-use lib.IntN.{ℤ, pos, negsuc, neg_ℤ}
-use lib.Signed.{le_z}
+use lib.IntN.{ℤ, pos, negsuc}
 use borrow.Author.Tests.{le-leb, lt-leb}
 use Rattle.paper.specs.declared.GivenStatics.{GivenStatics}
-use Rattle.paper.specs.declared.Verdict.TheVariants.{Done, AdmissionOutOfRange, OutOfRange}
 use Rattle.paper.specs.Lists.{pick}
 use Rattle.paper.specs.Numbers.{past_every}
 use Rattle.paper.specs.Least.{least}
 use Rattle.paper.specs.Ranges.{within, within_z, unsigned, grid_of, ceiling_log10, valid_given}
-use Rattle.paper.specs.Verdicts.{number_of, is_done, first_of}
+use Rattle.paper.specs.Verdicts.{is_done, first_of}
 use Rattle.paper_desk.specs.Gateway.{gateway_checks, gateway_answer}
 use Rattle.paper.proofs.Logic.{le_or_lt}
 use Rattle.paper.proofs.Search.{least_unique}

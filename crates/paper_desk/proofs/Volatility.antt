@@ -1,9 +1,8 @@
 -- One evaluation with the model on: the new volatility stays near the exact one.
-use mathlib.Core.Path.{◌≡◌, refl, sym, ◌∙◌, ap}
-use mathlib.Core.Logic.{◌⊎◌, inl, inr}
-use mathlib.Core.Bool.{Bool, true, false, ◌&&◌}
-use Prim.Native.Nat.{ℕ, zero, suc, ◌+◌, ◌-◌, ◌*◌, ◌/◌, ◌≤◌, ◌<◌, max}
-use native.Mathlib.Nat.{le_trans, mul-le-mul_right, le_of_mul-le-mul_left, max_comm}
+use mathlib.Core.Path.{◌≡◌, refl}
+use mathlib.Core.Bool.{Bool, true, false}
+use Prim.Native.Nat.{ℕ, ◌+◌, ◌-◌, ◌*◌, ◌≤◌, ◌<◌, max}
+use native.Mathlib.Nat.{max_comm}
 use native.Mathlib.Omega.{arith}
 use lib.Dec.{leb, ltb}
 use borrow.Author.Tests.{leb-true, leb-false}
@@ -15,8 +14,7 @@ use Rattle.paper.specs.Roundings.{Quotient, up, RoundedUp, greater_of, apart}
 use Rattle.paper.specs.Ranges.{valid_statics}
 use Rattle.paper_desk.specs.Rates.{model_of, move_from, move_of, weight_of, weighted, replacement, replaces}
 use Rattle.paper_desk.specs.Rates.{volatility_of, Weighing}
-use Rattle.paper_desk.specs.Exact.{Choice, by_weight, replaced, exact_move, next_square, choice_of, NearExact}
-use Rattle.paper.proofs.Logic.{and_left, and_right, le_or_lt}
+use Rattle.paper_desk.specs.Exact.{by_weight, replaced, exact_move, next_square, choice_of, NearExact}
 use Rattle.paper.proofs.StaticsFacts.{statics_facts}
 use Rattle.paper.proofs.Search.{root_covers, root_least, times_covers, times_least}
 use Rattle.paper.proofs.Roundings.{up_rounded, rounded_max}

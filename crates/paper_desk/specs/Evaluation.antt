@@ -1,5 +1,5 @@
 -- Document 01, "The evaluation (6.1)", with the roundings (a) to (d).
-use Rattle.std.specs.Prelude.{Bool, true, false, ◌&&◌, ◌||◌, List, [], ◌∷◌, map, ℕ, zero, suc, ◌+◌, ◌*◌, min, max, leb, ltb, eqb, ℤ}
+use Rattle.std.specs.Prelude.{Bool, ◌&&◌, ◌||◌, List, [], ◌∷◌, map, ℕ, zero, suc, ◌+◌, ◌*◌, min, max, leb, ltb, eqb, ℤ}
 use Rattle.paper.specs.declared.Statics.{Statics}
 use Rattle.paper.specs.declared.External.{External}
 use Rattle.paper.specs.declared.Row.{Row}

@@ -1,6 +1,5 @@
 -- Document 02, W-211: what is received of the outside source, and the pair that a record keeps after it.
-use Rattle.std.specs.Prelude.{Bool, true, false, ◌||◌, ℕ, Float}
-use Rattle.paper.specs.declared.Price.{Price}
+use Rattle.std.specs.Prelude.{Bool, true, false, ◌||◌, ℕ}
 use Rattle.paper.specs.declared.MadePrice.{MadePrice}
 use Rattle.paper.specs.declared.MadePrice.TheVariants.{Made, OutOfRange}
 use Rattle.paper.specs.declared.Outside.{Outside}

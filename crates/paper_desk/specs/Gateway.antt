@@ -1,7 +1,7 @@
 -- Document 01, "What the desk covers": "The C gateway reaches the rate rules and the limit rules with plain numbers ..
 -- Each such call gives one figure, or minus the refusal number." Its numbers, the statics in the order of the table
 -- among them (`given_of` of `paper`), come from C one by one (`nedrubal`).
-use Rattle.std.specs.Prelude.{Bool, true, false, not, ◌&&◌, List, [], ◌∷◌, ℕ, leb, eqb, ℤ, pos, neg_ℤ}
+use Rattle.std.specs.Prelude.{Bool, not, ◌&&◌, List, [], ◌∷◌, ℕ, leb, ℤ, pos, neg_ℤ}
 use Rattle.paper.specs.declared.Statics.{Statics}
 use Rattle.paper.specs.declared.GivenStatics.{GivenStatics}
 use Rattle.paper.specs.declared.Verdict.{Verdict}

@@ -1,7 +1,7 @@
 -- Document 01, "The evaluation (6.1)", "The rates (7.1)" and the limits made from them, on both sides of their lines
 -- where the starred cases (Cases) have none.
 -- It may use every definition of document 01, and the values of PinnedValues.
-use Rattle.std.specs.Prelude.{◌≡◌, refl, List, [], ◌∷◌, ◌++◌, map, ℕ, ◌+◌, ℤ, pos, negsuc, get_or}
+use Rattle.std.specs.Prelude.{◌≡◌, refl, List, [], ◌∷◌, ◌++◌, map, ℕ, ℤ, pos, negsuc, get_or}
 use Rattle.paper.specs.declared.Rate.{Rate}
 use Rattle.paper.specs.declared.Tentative.{Tentative}
 use Rattle.paper.specs.declared.Statics.{Statics}

@@ -1,8 +1,8 @@
 -- Document 01's C gateway in plain numbers: the answers of its three calls for Z, at both ends of each range and one
 -- past, and "4 (a static out of range)" before "6 (another value out of range or off the grid)".
 -- It may use Gateway, and the values of PinnedValues.
-use Rattle.std.specs.Prelude.{◌≡◌, refl, List, [], ◌∷◌, map, ℕ, ◌+◌, ℤ, pos, negsuc}
-use Rattle.paper.specs.Ranges.{given_of, unsigned}
+use Rattle.std.specs.Prelude.{◌≡◌, refl, List, [], ◌∷◌, map, ℕ, ℤ, pos, negsuc}
+use Rattle.paper.specs.Ranges.{given_of}
 use Rattle.paper_desk.specs.Gateway.{gateway_checks, gateway_answer, level_in_range}
 use Rattle.paper_desk.specs.Gateway.{level_figure, level_call, range_in_range, range_call, band_in_range, band_call}
 use Rattle.paper.specs.PinnedValues.{◌but◌, signed, plain, lot_at, liq_at, minima_at, pchmax_at, pclmax_at, monitoring_at}

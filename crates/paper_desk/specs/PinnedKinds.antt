@@ -1,6 +1,6 @@
 -- The limit of a bond (W-206) on both sides of its roundings, and what the kinds of security do not share: a bond's
 -- farthest limit grows, and a share's does not. It may use Limits.
-use Rattle.std.specs.Prelude.{◌≡◌, refl, List, [], ◌∷◌, ℕ, ℤ, pos}
+use Rattle.std.specs.Prelude.{◌≡◌, refl, List, [], ◌∷◌, ℕ, pos}
 use Rattle.paper.specs.declared.BondScale.{BondScale}
 use Rattle.paper.specs.declared.Statics.{Statics}
 use Rattle.paper.specs.declared.Side.TheVariants.{Upper}

@@ -2,7 +2,7 @@
 -- condition, on tables that a line spells out. Each answer is the first of all the numbers that apply. Before them, which
 -- ask each thing is that the code is asked.
 -- It may use every definition of document 01, and the values of PinnedValues.
-use Rattle.std.specs.Prelude.{◌≡◌, refl, List, [], ◌∷◌, ◌++◌, map, ℕ, zero, suc, ◌+◌, ℤ, pos}
+use Rattle.std.specs.Prelude.{◌≡◌, refl, List, [], ◌∷◌, ◌++◌, map, ℕ, zero, suc, ℤ, pos}
 use Rattle.std.specs.Float.{binary64}
 use Rattle.std.specs.Float.Ieee.{of_bits}
 use Rattle.paper.specs.declared.Notice.{Notice}

@@ -1,7 +1,7 @@
 -- What the calls of a list answer, from a table on; and one list of calls that is answered every number 0 to 13, 16
 -- (W-205), 18 and 19 (W-210), and 20 (W-211). So the definitions are not empty.
 -- It may use every definition of document 01, and the values of PinnedValues.
-use Rattle.std.specs.Prelude.{◌≡◌, refl, true, List, [], ◌∷◌, ◌++◌, map, ℕ, zero, suc, ◌+◌, ℤ, pos, replicate}
+use Rattle.std.specs.Prelude.{◌≡◌, refl, true, List, [], ◌∷◌, ◌++◌, map, ℕ, zero, suc, ℤ, pos, replicate}
 use Rattle.std.specs.Float.{binary64}
 use Rattle.std.specs.Float.Ieee.{is_nan, to_bits, of_bits}
 use Rattle.paper.specs.declared.Notice.TheVariants.{Bid}

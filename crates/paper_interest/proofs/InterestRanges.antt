@@ -12,9 +12,8 @@ use borrow.Author.Tests.{leb-true, le-leb}
 use Rattle.paper_desk.specs.Rates.{Weighing}
 use Rattle.paper.specs.declared.Interest.{Interest}
 use Rattle.paper.specs.declared.Maturity.{Maturity}
-use Rattle.paper.specs.declared.MaturityFigures.{MaturityFigures}
 use Rattle.paper.specs.Lists.{every}
-use Rattle.paper.specs.Numbers.{one_in_hundredths, step_most, multiplier_most, divisor_least, divisor_most, minimum_most}
+use Rattle.paper.specs.Numbers.{one_in_hundredths, step_most, multiplier_most, minimum_most}
 use Rattle.paper.specs.Numbers.{maturity_most, age_most, repo_least, repo_most, repo_volatility_most, repo_tentative_most}
 use Rattle.paper.specs.Ranges.{within_z, unsigned}
 use Rattle.paper.specs.Roundings.{at_least_zero}

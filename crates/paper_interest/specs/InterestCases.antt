@@ -1,11 +1,10 @@
 -- Document 02, W-201: evenings worked out from the definitions, on both sides of each line.
-use Rattle.std.specs.Prelude.{◌≡◌, refl, List, [], ◌∷◌, map, ℕ, ◌<◌, ℤ, pos, negsuc, get_or}
+use Rattle.std.specs.Prelude.{◌≡◌, refl, List, [], ◌∷◌, ℕ, ◌<◌, ℤ, pos, negsuc, get_or}
 use Rattle.std.proofs.Common.{arith}
 use Rattle.paper.specs.declared.Interest.{Interest}
 use Rattle.paper.specs.declared.MaturityFigures.{MaturityFigures}
-use Rattle.paper.specs.declared.WorkedBand.{WorkedBand}
 use Rattle.paper.specs.declared.InterestAnswer.{InterestAnswer}
-use Rattle.paper.specs.Lists.{pick, every}
+use Rattle.paper.specs.Lists.{every}
 use Rattle.paper.specs.Roundings.{half_up, half_down, half_up_z}
 use Rattle.paper.specs.Least.{first, least, least_root, least_times, least_multiple}
 use Rattle.paper.specs.Ranges.{unsigned, parts_from}

@@ -1,7 +1,7 @@
 -- Document 02's W-201 on both sides of its lines, where InterestCases has no figure: the ranges, the lengths, 6 before
 -- 14, b, and the maturities outside the key ones.
 -- It may use Interest, the figures of InterestCases and the tests of PinnedRanges.
-use Rattle.std.specs.Prelude.{◌≡◌, refl, Bool, true, false, not, List, [], ◌∷◌, ◌++◌, map, ℕ, zero, suc, ◌+◌, ◌-◌, eqb, ℤ, pos, negsuc, replicate}
+use Rattle.std.specs.Prelude.{◌≡◌, refl, Bool, not, List, [], ◌∷◌, ◌++◌, map, ℕ, zero, suc, ◌+◌, ◌-◌, eqb, ℤ, pos, negsuc, replicate}
 use Rattle.paper.specs.declared.Interest.{Interest}
 use Rattle.paper.specs.declared.InterestAnswer.{InterestAnswer}
 use Rattle.paper.specs.Numbers.{step_most, minimum_most, repo_tentative_most}

@@ -2,11 +2,11 @@
 -- of a level are what the reason that is named says.
 use mathlib.Core.Path.{◌≡◌, refl, sym, ap, ◌∙◌}
 use mathlib.Core.Bool.{Bool, true, false, not, ◌&&◌}
-use mathlib.Core.List.{List, [], ◌∷◌, map}
-use Prim.Native.Nat.{ℕ, ◌+◌, ◌-◌, ◌≤◌, ◌<◌, min, max}
+use mathlib.Core.List.{List, map}
+use Prim.Native.Nat.{ℕ, ◌+◌, ◌-◌, min, max}
 use native.Mathlib.Nat.{max-zero, max-eq_left, max-eq_right}
 use native.Mathlib.Omega.{arith}
-use lib.Dec.{leb, ltb, eqb}
+use lib.Dec.{leb, ltb}
 use borrow.Author.Tests.{eqb-true, ltb-true, ltb-false, leb-false, le-leb, lt-ltb, le-ltb}
 use Rattle.paper.specs.declared.Row.{Row}
 use Rattle.paper.specs.declared.External.{External}
@@ -18,7 +18,7 @@ use Rattle.paper.specs.Lists.{pick}
 use Rattle.paper.specs.Numbers.{age_most}
 use Rattle.paper.specs.Roundings.{to_grid}
 use Rattle.paper.specs.Ranges.{valid_statics}
-use Rattle.paper_desk.specs.Evaluation.{roubles_of, close_of, bid_of, ask_of, evaluation_of}
+use Rattle.paper_desk.specs.Evaluation.{roubles_of, bid_of, ask_of, evaluation_of}
 use Rattle.paper_desk.specs.Rates.{weight_of, weighted, replacement, replaces, replacement_wins, volatility_of}
 use Rattle.paper_desk.specs.Rates.{tentative_after}
 use Rattle.paper_desk.specs.Rates.{tentative_rate, tentative_rate_by_move, tentative_rate_of, minimum_of, covers, level_rate}
@@ -32,7 +32,7 @@ use Rattle.paper_reasons.specs.declared.LevelReason.{LevelReason}
 use Rattle.paper_reasons.specs.declared.LevelReason.TheVariants as level
 use Rattle.paper_reasons.specs.Reasons.{is_traded, before_grid, price_set_by, price_reason, weight_given, weight_reason}
 use Rattle.paper_reasons.specs.Reasons.{replacement_was, replacement_reason, tentative_did, tentative_reason}
-use Rattle.paper_reasons.specs.Reasons.{requirement_step, level_set_by, level_reason}
+use Rattle.paper_reasons.specs.Reasons.{level_set_by, level_reason}
 use Rattle.paper_reasons.specs.Figures.{price_figure, weight_figure, volatility_figure, step_figure, tentative_figure}
 use Rattle.paper_reasons.specs.Figures.{level_figure, replacement_taken}
 use Rattle.paper_reasons.proofs.Prices.{price_named}

@@ -1,8 +1,8 @@
 -- The first reason that holds: it is named exactly where its condition holds and no earlier one's does, and exactly one
 -- is named. One law for every list of reasons.
-use mathlib.Core.Path.{◌≡◌, refl, sym, ◌∙◌}
-use mathlib.Core.Logic.{◌⊎◌, ⊎_elim}
-use mathlib.Core.Bool.{Bool, true, false}
+use mathlib.Core.Path.{◌≡◌, refl, sym}
+use mathlib.Core.Logic.{⊎_elim}
+use mathlib.Core.Bool.{Bool, true}
 use mathlib.Core.List.{List, [], ◌∷◌}
 use Rattle.paper.specs.Verdicts.{FirstAt, here, later, NoneApplies}
 use Rattle.paper_desk.proofs.Refusals.{named_is_first_or_otherwise, first_is_named}

@@ -1,19 +1,19 @@
 -- The rate of a level: the requirement, the minimum or the maximum sets it; and one comparison a step below a rate that
 -- covers the requirement tells whether it is the least.
-use mathlib.Core.Path.{◌≡◌, refl, sym, ap, subst, ◌∙◌}
+use mathlib.Core.Path.{◌≡◌, refl, sym, subst, ◌∙◌}
 use mathlib.Core.Logic.{◌⊎◌, inl, inr}
 use mathlib.Core.Bool.{Bool, true, false, not, ◌&&◌}
-use Prim.Native.Nat.{ℕ, ◌+◌, ◌-◌, ◌*◌, ◌/◌, ◌%◌, ◌≤◌, ◌<◌}
+use Prim.Native.Nat.{ℕ, ◌+◌, ◌-◌, ◌*◌, ◌/◌, ◌≤◌, ◌<◌}
 use native.Mathlib.Nat.{le_antisymm, mul-le-mul_right, lt_of_mul-lt-mul_right, mod-eq-sub-mod}
 use native.Mathlib.Omega.{arith}
-use lib.Dec.{leb, ltb, eqb}
-use borrow.Author.Tests.{leb-true, eqb-true, eq-eqb, ne_eqb}
+use lib.Dec.{eqb}
+use borrow.Author.Tests.{eq-eqb, ne_eqb}
 use Rattle.paper.specs.declared.Statics.{Statics}
 use Rattle.paper.specs.Lists.{pick}
 use Rattle.paper.specs.Ranges.{valid_statics}
 use Rattle.paper_desk.specs.Rates.{days_of, minimum_of, covers, level_rate, AtLeastRequired, HeldLeast}
 use Rattle.paper.specs.Verdicts.{NoneApplies, none, also}
-use Rattle.paper.proofs.Logic.{not_true_and_false, and_left, and_right, and_both, le_or_lt, pick_true, pick_false}
+use Rattle.paper.proofs.Logic.{not_true_and_false, and_both, le_or_lt, pick_true, pick_false}
 use Rattle.paper.proofs.StaticsFacts.{statics_facts}
 use Rattle.paper.proofs.Search.{multiple_holds, multiple_least, multiple_is_multiple}
 use Rattle.paper_desk.proofs.TentativeRange.{statics_step_positive}

@@ -1,20 +1,19 @@
 -- The price: it equals one of the figures that set it, so one of the four reasons holds, and the figure of the reason
 -- that is named, on the grid, is the evaluation.
-use mathlib.Core.Path.{◌≡◌, refl, sym, ap, ◌∙◌}
+use mathlib.Core.Path.{◌≡◌, refl, ap, ◌∙◌}
 use mathlib.Core.Logic.{◌⊎◌, inl, inr}
-use mathlib.Core.Bool.{Bool, true, false, not, ◌&&◌, ◌||◌}
+use mathlib.Core.Bool.{Bool, true, false, not, ◌||◌}
 use mathlib.Core.List.{List, [], ◌∷◌}
 use Prim.Native.Nat.{ℕ, zero, suc, ◌≤◌, ◌<◌, min, max}
 use native.Mathlib.Omega.{arith}
-use lib.Dec.{ltb, eqb}
-use borrow.Author.Tests.{eqb-true, eq-eqb, lt-ltb}
+use lib.Dec.{ltb}
+use borrow.Author.Tests.{eq-eqb, lt-ltb}
 use Rattle.paper.specs.declared.External.{External}
 use Rattle.paper.specs.declared.Roubles.{Roubles}
 use Rattle.paper.specs.Lists.{pick, some, those}
 use Rattle.paper_desk.specs.Evaluation.{traded, mean, close_of, bid_of, ask_of, median, between}
 use Rattle.paper.specs.Verdicts.{NoneApplies, none, also}
-use Rattle.paper.proofs.Logic.{not_true_and_false, and_left, and_right, and_both, le_or_lt}
-use Rattle.paper_reasons.specs.declared.PriceReason.{PriceReason}
+use Rattle.paper.proofs.Logic.{not_true_and_false, and_both, le_or_lt}
 use Rattle.paper_reasons.specs.declared.PriceReason.TheVariants as price
 use Rattle.paper_reasons.specs.Reasons.{is_in_order, is_traded, before_grid, price_set_by, price_reasons, price_reason}
 use Rattle.paper_reasons.specs.Reasons.{TrueReason}

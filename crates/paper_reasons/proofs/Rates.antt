@@ -1,19 +1,17 @@
 -- The weight, the replacement and the tentative rate: of the reasons of each one holds.
-use mathlib.Core.Path.{◌≡◌, refl, sym, ap, ◌∙◌}
+use mathlib.Core.Path.{◌≡◌, refl}
 use mathlib.Core.Logic.{◌⊎◌, inl, inr}
-use mathlib.Core.Bool.{Bool, true, false, not, ◌&&◌}
+use mathlib.Core.Bool.{Bool, true, false}
 use Prim.Native.Nat.{ℕ, ◌+◌, ◌≤◌, ◌<◌}
-use native.Mathlib.Omega.{arith}
-use lib.Dec.{leb, ltb, eqb}
 use borrow.Author.Tests.{le-leb, lt-ltb}
 use Rattle.paper.specs.declared.Statics.{Statics}
 use Rattle.paper.specs.declared.Tentative.{Tentative}
 use Rattle.paper.specs.Verdicts.{NoneApplies, none, also}
-use Rattle.paper.proofs.Logic.{not_true_and_false, and_both, le_or_lt, pick_true}
+use Rattle.paper.proofs.Logic.{not_true_and_false, and_both, le_or_lt}
 use Rattle.paper_reasons.specs.declared.WeightReason.TheVariants as weight
 use Rattle.paper_reasons.specs.declared.ReplacementReason.TheVariants as replacement
 use Rattle.paper_reasons.specs.declared.TentativeReason.TheVariants as tentative
-use Rattle.paper_reasons.specs.Reasons.{is_in_order, first_that_holds, weight_given, weight_reasons, weight_reason}
+use Rattle.paper_reasons.specs.Reasons.{is_in_order, weight_given, weight_reasons, weight_reason}
 use Rattle.paper_reasons.specs.Reasons.{replacement_was, replacement_reasons, replacement_reason, tentative_did}
 use Rattle.paper_reasons.specs.Reasons.{tentative_reasons, tentative_reason, TrueReason}
 use Rattle.paper_reasons.proofs.First.{true_reason}

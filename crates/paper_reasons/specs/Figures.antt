@@ -1,10 +1,9 @@
 -- W-207: the figure of documents 01 and 02 that each reason names. `None` names no figure, which stands as 0.
-use Rattle.std.specs.Prelude.{Bool, ◌&&◌, List, ℕ, ◌-◌, leb, ltb}
+use Rattle.std.specs.Prelude.{◌&&◌, List, ℕ, ◌-◌, leb, ltb}
 use Rattle.paper.specs.declared.External.{External}
 use Rattle.paper.specs.declared.Roubles.{Roubles}
 use Rattle.paper.specs.declared.Model.{Model}
 use Rattle.paper.specs.declared.Statics.{Statics}
-use Rattle.paper.specs.declared.Tentative.{Tentative}
 use Rattle.paper.specs.Lists.{pick}
 use Rattle.paper_desk.specs.Evaluation.{close_of, bid_of, ask_of}
 use Rattle.paper_desk.specs.Rates.{weighted, replacement, tentative_rate, tentative_rate_by_move, minimum_of}

@@ -1,7 +1,7 @@
 -- W-207 on days that a line spells out: what is named where two reasons hold at once, on both sides of each line, and
 -- what is at fault in a refusal. Cases 7 and 9 of document 01 are among them.
 -- It may use every definition of document 01, and the values of PinnedValues.
-use Rattle.std.specs.Prelude.{◌≡◌, refl, List, [], ◌∷◌, ◌++◌, ℕ, ◌+◌, ℤ, pos, negsuc}
+use Rattle.std.specs.Prelude.{◌≡◌, refl, List, [], ◌∷◌, ◌++◌, ℕ, ◌+◌, ℤ, pos}
 use Rattle.paper.specs.Lists.{every, some, those}
 use Rattle.paper.specs.Roundings.{down, up, half_up, to_grid, lesser_of, greater_of, grown, apart}
 use Rattle.paper.specs.Least.{first, least, least_root, least_times, least_multiple}

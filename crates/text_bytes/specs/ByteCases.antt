@@ -1,5 +1,5 @@
 -- docs/EVENING.md, "Lines and words" and "Numbers", by examples: both sides of each rule.
-use Rattle.std.specs.Prelude.{◌≡◌, refl, true, false, List, [], ◌∷◌, map, ℕ, pos, negsuc}
+use Rattle.std.specs.Prelude.{◌≡◌, refl, true, false, [], ◌∷◌, map, pos, negsuc}
 use Rattle.text_bytes.specs.declared.Number.TheVariants as number
 use Rattle.text_bytes.specs.Bytes.{is_blank, is_line_feed, run, grow, pieces, full, ended, words, lines, same, bytes}
 use Rattle.text_bytes.specs.Bytes.{is_not}
