@@ -354,7 +354,10 @@ def convert(path, key, made, crate, function_path):
     out = []
     for new, old, comment, opened, root, more, body in answers:
         extra = [p for p in more if re.search(rf"(?<![^\s(){{}};,.\[\]]){re.escape(p)}(?![^\s(){{}};,.\[\]])", body)]
-        if extra:
+        # What the goal itself takes, beside its context, it takes by a λ.
+        if extra and not any(p.startswith("κ") for p in extra):
+            body = f" λ {' '.join(p for p in more if not p.startswith('κ'))}." + body
+        elif extra:
             left.append(f"goal {new}: cites {' '.join(extra)}")
         body = substitute(body, renamed)
         for helper, place in takes.items():
