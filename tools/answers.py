@@ -320,6 +320,8 @@ def convert(path, key, made, crate, function_path):
             old, opened, params, body = m.group(2), m.group(4) or "", m.group(6).split(), m.group(7)
             found = needs.get(norm(old))
             if not found:
+                if not opened and body.strip() in TRIVIAL:
+                    continue
                 left.append(f"goal {old}")
                 helpers.append("-- no goal now: " + old + "\n" + "\n".join("-- " + l for l in code.split("\n")))
                 continue
