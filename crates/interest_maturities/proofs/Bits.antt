@@ -15,4 +15,4 @@ mag_within_repo_most (pos n) h = h
 mag_within_repo_most (negsuc n) h = omega arith
 
 pub rate_kept_in_bits : (x : ℤ) → nat_abs x ≤ nat_abs repo_most → to_z w64 (of_z w64 x) ≡ x
-rate_kept_in_bits x h = to_z-of_z (record { sfits = omega (arith, mag_within_repo_most x h) })
+rate_kept_in_bits x h = to_z-of_z {w = w64} (record { sfits = omega (arith, mag_within_repo_most x h) })

@@ -8,12 +8,10 @@ use mir.Syntax.{w64}
 use mir.Val.{SFits}
 use mir.ValLaws.{to_z_pos}
 use mir.Facts.{to_z-of_z}
-use borrow.Author.Rules.{rules}
 use Rattle.paper.proofs.Logic.{le_or_lt}
 use Rattle.paper.proofs.Differences.{difference_is_pos, difference_is_negsuc, whole_is_difference, difference_minus}
 use Rattle.paper.proofs.Differences.{differences_equal}
-use Rattle.interest_maturities.proofs.forward.lowered.Statement.{statement}
-use Rattle.interest_maturities.proofs.forward.lowered.Tie as tie
+use Rattle.interest_maturities.proofs.forward.lowered.Goals as goal
 
 difference_is : (n m : ℕ) → pos n -ℤ pos m ≡ sub_ℕ n m
 difference_is n m =
@@ -29,24 +27,15 @@ less_fits n m h k = rw (difference_is n m) (go (le_or_lt m n))
     go (inl l) = rw (difference_is_pos n m l) (record { sfits = omega arith })
     go (inr l) = rw (difference_is_negsuc n m l) (record { sfits = omega arith })
 
-cast-result : tie.Need-overflow-cast-result
-cast-result c = search rules
-
-cast-result-2 : tie.Need-overflow-cast-result-2
-cast-result-2 c = search rules
-
-sub-result : tie.Need-overflow-sub-result
-sub-result c =
+pub overflow_sub-result : goal.overflow_sub-result
+overflow_sub-result c =
     let n = c.args.n in
     let m = c.args.from in
     rw (to_z_pos w64 n (omega arith), to_z_pos w64 m (omega arith)) (less_fits n m c.requires.0 c.requires.1)
 
-returns : tie.Need-returns
+pub returns : goal.returns
 returns c =
     let n = c.args.n in
     let m = c.args.from in
     rw (to_z_pos w64 n (omega arith), to_z_pos w64 m (omega arith), to_z-of_z (less_fits n m c.requires.0 c.requires.1))
     (difference_is n m)
-
-pub lowered_spec : {M : Type 1} → statement M
-lowered_spec = tie.close (tie.spec cast-result cast-result-2 sub-result returns)

@@ -3,14 +3,8 @@ use mathlib.Core.Path.{◌∙◌}
 use native.Mathlib.Nat.{add-zero}
 use Rattle.paper_interest.specs.Interest.{key_at, keys_of, whole_keys, valid_key, valid_keys}
 use Rattle.exact.specs.Within.{within_first, parts_within_is}
-use borrow.Author.Rules.{rules}
-use Rattle.interest_maturities.proofs.keys_valid.Statement.{statement}
-use Rattle.interest_maturities.proofs.keys_valid.Tie as tie
+use Rattle.interest_maturities.proofs.keys_valid.Goals as goal
 
-returns : tie.Need-returns
+pub returns : goal.returns
 unfolding valid_keys whole_keys valid_key key_at keys_of within_first
 returns c = c.parts_within.ensures ∙ parts_within_is valid_key key_at _ _ _ (λ at. rw add-zero) _ _
-
-pub keys_valid_spec : {M : Type 1} → statement M
-keys_valid_spec =
-    tie.close (tie.spec (λ c. search rules) (λ c. search rules) (λ c κs. search rules) returns)

@@ -1,0 +1,35 @@
+-- `interest_maturities::forward::band_of` meets its contract: held where the pair is 0/1.
+use mir.Syntax.{w64}
+use mir.Val.{SFits}
+use mir.Facts.{to_z-of_z}
+use borrow.Author.Rules.{rules}
+use Rattle.interest_maturities.proofs.Bits.{rate_kept_in_bits}
+use Rattle.interest_maturities.specs.Pair.{band_worked, band_held}
+use Rattle.interest_maturities.proofs.forward.band_of.Goals as goal
+
+pub returns-then-is_held : goal.returns-then-is_held
+unfolding band_held band_worked
+returns-then-is_held c =
+    let low : SFits w64 c.greater.result = search rules in
+    let high : SFits w64 c.lesser.result = search rules in
+    let lower = to_z-of_z {w = w64} {z = c.worked-band.result.low} (search rules) in
+    let upper = to_z-of_z {w = w64} {z = c.worked-band.result.high} (search rules) in
+    let secrate = rate_kept_in_bits c.args.i.secrate c.requires.pair_range.given.secrate in
+    let money = rate_kept_in_bits c.args.i.money c.requires.pair_range.given.money in
+    rw (
+      to_z-of_z low,
+      to_z-of_z high,
+      ← c.is_held.ensures,
+      c.if-is_held.true,
+      c.greater.ensures,
+      c.lesser.ensures,
+      lower,
+      upper,
+      secrate,
+      money,
+      c.worked-band.ensures,
+    )
+
+pub returns-else-is_held : goal.returns-else-is_held
+unfolding band_held band_worked
+returns-else-is_held c = rw (← c.is_held.ensures, c.if-is_held.false, c.worked-band.ensures)
