@@ -104,7 +104,7 @@ def chains(text, roots, steps, drop=True, arms={}):
         return whole
 
     if not drop:
-        aliases.update(re.findall(r"\blet (\w+) =", text))
+        aliases.update(n for n, of in re.findall(r"\blet (\w+) = ([^\n]*)", text) if not re.search(r"\.args\b(?! *\.before)", of))
     names = "|".join(re.escape(a) for a in sorted(aliases, key=len, reverse=True))
     return re.sub(rf"(?<![^\s(){{}};,\[\]])({names})((?:\.[^\s(){{}}.;,@\"«»\[\]]+)+)", one, text)
 
