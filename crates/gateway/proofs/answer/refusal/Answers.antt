@@ -8,9 +8,8 @@ use mir.Syntax.{w64}
 use mir.Val.{SFits}
 use mir.Facts.{to_z-of_z}
 use mir.ValLaws.{to_z_pos}
-use borrow.Author.Rules.{rules}
-use Rattle.gateway.proofs.answer.refusal.Statement.{statement}
-use Rattle.gateway.proofs.answer.refusal.Tie as tie
+use Rattle.gateway.proofs.answer.refusal.Goals as goal
+use Rattle.gateway.proofs.answer.refusal.Goals.{After-number}
 
 -- 0 less a number is its negative
 less : (n : ℕ) → pos 0 -ℤ pos n ≡ neg_ℤ (pos n)
@@ -21,26 +20,20 @@ less_fits : (n : ℕ) → n < 2 ^ 63 → SFits w64 (neg_ℤ (pos n))
 less_fits zero h = record { sfits = lit< tt }
 less_fits (suc n) h = record { sfits = omega arith }
 
-small : (c : tie.After-number) → c.number.result < 2 ^ 63
+small : (c : After-number) → c.number.result < 2 ^ 63
 small c = omega (arith, c.number.ensures)
 
-number-requires : tie.Need-number-requires
-number-requires c κs = search rules
+pub overflow_cast-result : goal.overflow_cast-result
+overflow_cast-result c = record { sfits = omega (arith, small (goal.at.overflow_cast-result c).After-number) }
 
-cast-result : tie.Need-overflow-cast-result
-cast-result c = record { sfits = omega (arith, small c) }
+pub overflow_sub-result : goal.overflow_sub-result
+overflow_sub-result c = rw (to_z_pos w64 c.number.result (small (goal.at.overflow_sub-result c).After-number), less) (less_fits c.number.result (small (goal.at.overflow_sub-result c).After-number))
 
-sub-result : tie.Need-overflow-sub-result
-sub-result c = rw (to_z_pos w64 c.number.result (small c), less) (less_fits c.number.result (small c))
-
-returns : tie.Need-returns
+pub returns : goal.returns
 returns c =
     rw (
-      to_z_pos w64 c.number.result (small c),
+      to_z_pos w64 c.number.result (small (goal.at.returns c).After-number),
       less,
-      to_z-of_z (less_fits c.number.result (small c)),
+      to_z-of_z (less_fits c.number.result (small (goal.at.returns c).After-number)),
       c.number.ensures,
     )
-
-pub refusal_spec : {M : Type 1} → statement M
-refusal_spec = tie.close (tie.spec number-requires cast-result sub-result returns)
