@@ -1,10 +1,10 @@
 -- How the code rounds: by the remainder, which takes the quotient to the next whole number or leaves it, one law each
 -- over the way; and half up by one quotient alone.
-use Rattle.std.specs.Prelude.{◌≡◌, refl, Bool, true, false, ℕ, ◌+◌, ◌-◌, ◌*◌, ◌/◌, ◌%◌, ◌≤◌, ◌<◌, leb, ltb}
+use Rattle.std.specs.Prelude.{◌≡◌, refl, Bool, true, false, ℕ, ◌+◌, ◌-◌, ◌/◌, ◌%◌, ◌<◌, leb, ltb}
 use Rattle.std.proofs.Common.{div-add-mod', mod-lt, arith, leb-true, leb-false, ltb-true, ltb-false}
 use Rattle.paper.specs.declared.Way.{Way}
 use Rattle.paper.specs.declared.Way.TheVariants.{Down, HalfUp, Up}
-use Rattle.paper.specs.Roundings.{Quotient, half_up, rounded, Rounded}
+use Rattle.paper.specs.Roundings.{half_up, rounded, Rounded}
 use Rattle.paper.proofs.Logic.{not_true_and_false}
 use Rattle.paper.proofs.Roundings.{quotient_low, quotient_high, half_unique, rounded_is, rounded_unique}
 

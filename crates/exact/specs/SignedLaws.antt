@@ -1,7 +1,7 @@
 -- Laws of signed numbers for those who read a day: their order, what a range gives, and how far a term's repo rate
 -- moves a base.
 use Rattle.std.specs.Prelude.{◌≡◌, refl, true, false, ℕ, suc, ◌+◌, ◌*◌, ◌^◌, ◌≤◌, ◌<◌, leb, ℤ, pos, negsuc}
-use Rattle.std.proofs.Common.{◌∙◌, mul-le-mul, le_trans, arith, leb-true, ltb-true, le-leb, le-ltb}
+use Rattle.std.proofs.Common.{◌∙◌, mul-le-mul, arith, leb-true, ltb-true, le-leb, le-ltb}
 use Rattle.std.specs.Int.Signed.{mag, le_z, lt_z}
 use Rattle.paper.specs.Numbers.{one_in_bp, term_days_most, repo_least, repo_most, past_every}
 use Rattle.paper.specs.Ranges.{within_z, unsigned}

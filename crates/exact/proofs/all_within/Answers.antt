@@ -1,5 +1,4 @@
 use mathlib.Core.Path.{◌≡◌, refl}
-use Prim.Native.Nat.{◌-◌}
 use native.Mathlib.Numerals.{add-one}
 use native.Mathlib.Omega.{arith}
 use lib.ListN.{length}
@@ -18,17 +17,16 @@ offset_bounds-most-i c = record { fits = omega arith }
 
 pub loop-i-preserved : goal.loop-i-preserved
 unfolding within_first
-loop-i-preserved c =
-    (
-      omega arith,
-      rw (
-        add-one,
-        ← c.loop-i.invariant.1,
-        c.within_at-all.ensures,
-        to_z-of_z (sfits_of {w = w64} c.within_at-arg-1.given),
-        to_z-of_z (sfits_of {w = w64} c.within_at-arg-in-loop-i-1.given),
-      ),
-    )
+loop-i-preserved c = (
+  omega arith,
+  rw (
+    add-one,
+    ← c.loop-i.invariant.1,
+    c.within_at-all.ensures,
+    to_z-of_z (sfits_of {w = w64} c.within_at-arg-1.given),
+    to_z-of_z (sfits_of {w = w64} c.within_at-arg-in-loop-i-1.given),
+  ),
+)
 
 pub returns : goal.returns
 returns c =

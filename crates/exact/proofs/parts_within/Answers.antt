@@ -1,7 +1,7 @@
 -- `parts_within` meets its contract: only whole parts are walked, and without them the definition's first test fails.
 use mathlib.Core.Path.{◌≡◌}
-use mathlib.Core.Bool.{Bool, true}
-use borrow.Author.Tests.{not-false, eqb-true}
+use mathlib.Core.Bool.{true}
+use borrow.Author.Tests.{eqb-true}
 use Rattle.paper.proofs.Logic.{and_left}
 use Rattle.exact.specs.Within.{whole_parts, parts_within}
 use Rattle.exact.proofs.parts_within.Goals.{Else-not-count-least}
