@@ -14,6 +14,7 @@ use Rattle.paper_messages.specs.Bytes.{Bytes, no_byte, byte, in_byte}
 use Rattle.paper_messages.specs.Messages.{encode, valid}
 use Rattle.paper_messages.proofs.MessageLaws.{heard_only}
 use Rattle.messages.proofs.read as read
+use Rattle.messages.specs.contracts.read as stated
 
 -- a list is of bytes where each element is one; past its end stands 0
 pub each_is_byte : (b : List ℕ) → ((i : ℕ) → get_or b i 0 < in_byte) → Bytes b
@@ -23,7 +24,7 @@ each_is_byte (x ∷ b) h = byte (h 0) (each_is_byte b (λ i. h (suc i)))
 -- AN ACCEPTED MESSAGE IS THE ONLY ENCODING OF ITS FIELDS: where the reader takes a message of a known kind, whatever it
 -- was lent, the message is valid, and the bytes from the place on to the next are its encoding. `Post` is the plain
 -- reading of the reader's own `ensures`, at the buffer and the place
-pub read_hears_only : (κs : Lfts 1) (a : ArgsD read.signature κs) (r : ResD read.signature κs)
+pub read_hears_only : (κs : Lfts 1) (a : ArgsD stated.signature κs) (r : ResD stated.signature κs)
     (e : AtExit (ended_of 1 read.Kinds.ps read.Kinds.r) κs)
     → read.Reads.Post κs a r e → r.verdict ≡ Done → r.known ≡ true
     → let m = r.message in

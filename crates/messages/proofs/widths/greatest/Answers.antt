@@ -6,8 +6,7 @@ use native.Mathlib.Omega.{arith}
 use lib.ListN.{get_or}
 use Rattle.messages.specs.FieldRoom.{greatest_of}
 use borrow.Author.Rules.{rules}
-use Rattle.messages.proofs.widths.greatest.Statement.{statement}
-use Rattle.messages.proofs.widths.greatest.Tie as tie
+use Rattle.messages.proofs.widths.greatest.Goals as goal
 
 table : List ℕ
 table = map greatest_of (0 ∷ 1 ∷ 2 ∷ 3 ∷ 4 ∷ 5 ∷ 6 ∷ 7 ∷ 8 ∷ [])
@@ -25,15 +24,10 @@ of_table (suc (suc (suc (suc (suc (suc (suc zero))))))) h = refl
 of_table (suc (suc (suc (suc (suc (suc (suc (suc zero)))))))) h = refl
 of_table (suc (suc (suc (suc (suc (suc (suc (suc (suc width))))))))) h = absurd (omega arith)
 
-mul-result : tie.Need-overflow-mul-result
-mul-result c = search rules
+-- no goal now: array-read-result
+-- array-read-result : tie.Need-array-read-result
+-- array-read-result c = search rules
 
-array-read-result : tie.Need-array-read-result
-array-read-result c = search rules
-
-returns : tie.Need-returns
+pub returns : goal.returns
 unfolding table
 returns c = of_table c.args.width c.requires
-
-pub greatest_spec : {M : Type 1} → statement M
-greatest_spec = tie.close (tie.spec mul-result array-read-result returns)

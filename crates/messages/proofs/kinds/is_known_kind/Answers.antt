@@ -2,12 +2,8 @@
 -- in the definition.
 use borrow.Author.Rules.{rules}
 use Rattle.paper_messages.specs.Messages.{is_known_kind}
-use Rattle.messages.proofs.kinds.is_known_kind.Statement.{statement}
-use Rattle.messages.proofs.kinds.is_known_kind.Tie as tie
+use Rattle.messages.proofs.kinds.is_known_kind.Goals as goal
 
-returns : tie.Need-returns
+pub returns : goal.returns
 unfolding is_known_kind
 returns c = search rules
-
-pub is_known_kind_spec : {M : Type 1} → statement M
-is_known_kind_spec = tie.close (tie.spec returns)
