@@ -1,6 +1,6 @@
 -- One turn of each loop over the input, on plain values.
 use mathlib.Core.Path.{◌≡◌, refl, sym, ap, ◌∙◌}
-use mathlib.Core.Logic.{◌⊎◌, ⊎_elim, inl, inr}
+use mathlib.Core.Logic.{⊎_elim, inl, inr}
 use mathlib.Core.Bool.{Bool, true, false}
 use mathlib.Core.List.{List, [], ◌∷◌, ◌++◌, append-nil, append_assoc}
 use Prim.Native.Nat.{ℕ, zero, suc, ◌+◌, ◌-◌, ◌≤◌, ◌<◌}
@@ -8,8 +8,8 @@ use native.Mathlib.Omega.{arith}
 use native.Mathlib.Nat.{pos_of_ne-zero}
 use native.Mathlib.Numerals.{lt_of_le_of_ne}
 use borrow.Author.Tests.{lt-ltb}
-use lib.ListN.{length, take, drop, length-append, length-take, length-drop}
-use lib.Seq.{take-add, drop-drop, take-take, length-take-le, take-append-le}
+use lib.ListN.{length, take, drop, length-append, length-drop}
+use lib.Seq.{take-add, take-take, length-take-le}
 use Rattle.paper.specs.Lists.{pick}
 use Rattle.text_bytes.specs.Bytes.{line_feed, is_not, run, room}
 use Rattle.text_evidence.specs.declared.Delivered.{Delivered}
@@ -17,8 +17,7 @@ use Rattle.text_evidence.proofs.Shifting.{drop_take_of}
 use Rattle.text_evidence.specs.Evidence.{count_most, counted, has_ended, Counted, counted_none, Fills}
 use Rattle.text_input.specs.declared.Input.{Input}
 use Rattle.text_input.specs.declared.Waited.{Waited}
-use Rattle.text_input.specs.declared.Passed.{Passed}
-use Rattle.text_input.specs.Input.{line_length, Unbroken, unread, Stands, Waits, Passes, Readied, Over}
+use Rattle.text_input.specs.Input.{line_length, Unbroken, unread, Stands, Waits, Passes, Readied}
 
 -- ---- the loop of `wait`
 

@@ -9,22 +9,21 @@ use lib.Dec.{eqb}
 use lib.IntN.{ℤ}
 use lib.ListN.{length, take, drop, get_or, length-append, length-drop}
 use lib.Seq.{split_at, take-take, drop-drop, length-take-le}
-use borrow.Author.Tests.{eqb-true, eqb-false}
+use borrow.Author.Tests.{eqb-true}
 use Rattle.paper.specs.Lists.{pick}
 use Rattle.text_bytes.specs.Bytes.{line_feed, is_not, run, room}
 use Rattle.text_protocol.specs.Line.{meaning, kept_most, longest}
 use Rattle.text_evidence.specs.declared.Delivered.{Delivered}
-use Rattle.text_evidence.specs.Evidence.{count_most, counted, has_ended, Counted, counted_none, counted_on}
+use Rattle.text_evidence.specs.Evidence.{has_ended, counted_none, counted_on}
 use Rattle.text_line.specs.declared.Line.{Line}
 use Rattle.text_line.specs.ReadLine.{bad_line, LineSays}
 use Rattle.text_line.proofs.LineLoop.{long_line}
 use Rattle.text_input.specs.declared.Input.{Input}
 use Rattle.text_input.specs.declared.Passed.{Passed}
-use Rattle.text_input.specs.declared.Heard.{Heard}
 use Rattle.text_input.specs.Input.{line_length, Unbroken, unread, Stands, StandsAt, Over, Ends, Next, Passes}
 use Rattle.text_input.specs.Input.{Readied, LongPassed}
 use Rattle.paper.proofs.Logic.{not_true_and_false}
-use Rattle.text_input.proofs.InputLoops.{unbroken_both, line_le}
+use Rattle.text_input.proofs.InputLoops.{unbroken_both}
 use Rattle.text_evidence.proofs.Shifting.{drop_take_of}
 
 -- ---- the first line feed of a text

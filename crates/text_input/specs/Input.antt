@@ -1,5 +1,5 @@
 -- What is left of the input, and the next line of it.
-use Rattle.std.specs.Prelude.{◌≡◌, ◌⊎◌, true, false, List, [], ◌∷◌, ◌++◌, ℕ, ◌+◌, ◌-◌, ◌≤◌, ◌<◌, ℤ, length, take, drop}
+use Rattle.std.specs.Prelude.{◌≡◌, ◌⊎◌, true, false, List, ◌∷◌, ◌++◌, ℕ, ◌+◌, ◌-◌, ◌≤◌, ◌<◌, ℤ, length, take, drop}
 use Rattle.text_bytes.specs.Bytes.{room, line_feed, is_not, run}
 use Rattle.text_protocol.specs.Line.{meaning, longest}
 use Rattle.text_line.specs.ReadLine.{LineSays}
