@@ -6,9 +6,10 @@ use contract.Lifetimes.{Lfts}
 use borrow.Fn.World.{ArgsD, ResD}
 use borrow.Fn.Kinds.{ended_of}
 use denote.Triple.Clauses.{AtExit}
+use Rattle.bond.specs.contracts.answer.{signature}
 use Rattle.bond.proofs.answer as answer
 
-pub answer_determined : (κs : Lfts 1) (a : ArgsD answer.signature κs) (r r' : ResD answer.signature κs)
+pub answer_determined : (κs : Lfts 1) (a : ArgsD signature κs) (r r' : ResD signature κs)
     (s s' : AtExit (ended_of 1 answer.Kinds.ps answer.Kinds.r) κs)
     → answer.Reads.Post κs a r s → answer.Reads.Post κs a r' s' → r ≡ r'
 answer_determined κs a r r' s s' p p' = p ∙ sym p'

@@ -11,7 +11,6 @@ use lib.ListN.{length}
 use borrow.Author.Tests.{eq-eqb, ne_eqb}
 use Rattle.paper.specs.declared.Interest.{Interest}
 use Rattle.paper.specs.declared.Maturity.{Maturity}
-use Rattle.paper.specs.declared.RepoLimits.{RepoLimits}
 use Rattle.paper.specs.Numbers.{key_numbers}
 use Rattle.paper_interest.specs.Interest.{key_at, valid_keys, maturities_of, upward, downward, maturity_figures, figure_at}
 use Rattle.paper_interest.specs.Interest.{interpolated, upper_limit, lower_limit, InterestRange, KeyRange}
