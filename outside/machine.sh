@@ -102,14 +102,45 @@ llvm_text() { # BITCODE TRIPLE TEXT
 
 # The bitcode that outside/bitcode keeps of a crate is for x86-64 and for aarch64, each as rattle makes it. For
 # WebAssembly it is that for aarch64, which asks nothing of its processor, where its text and the words of the compiler
-# name the other machine: its layout, its triple, and the processor of each function. All else is as rattle has it.
+# name the other machine: its layout, its triple, and the processor of each function; and where a pair of values that a
+# function answers stands as it does on aarch64. All else is as rattle has it.
 code_for() { # TRIPLE
     case $1 in x86_64-*) echo target/code/x86_64 ;; *) echo target/code/aarch64 ;; esac
 }
 
 text_for() { # TRIPLE NAME
+    case $1 in wasm32-*) pairs=wide_pairs ;; *) pairs=cat ;; esac
     sed -e '/^target datalayout/d' -e "s/^target triple.*/target triple = \"$1\"/" \
-        -e 's/"target-cpu"="[^"]*"//g; s/"target-features"="[^"]*"//g' "$(code_for "$1")/$2.ll"
+        -e 's/"target-cpu"="[^"]*"//g; s/"target-features"="[^"]*"//g' "$(code_for "$1")/$2.ll" | $pairs
+}
+
+# Rattle puts a value into memory by its place in bytes, a pointer in eight of them, and reads a pair back as one. With
+# pointers of four bytes the second of some pairs would be looked for elsewhere, so a pointer in one is read as a number
+# of eight bytes, and made a pointer where it is taken out. Such a pair may be read, answered and taken apart, and
+# nothing else, and a pointer may stand in no other compound: else this fails.
+wide_pairs() {
+    awk '
+        function wide(text) { gsub(/ptr/, "i64", text); return text }
+        /^@.*[{[].*[^a-z]ptr / || / x ptr\]/ { exit unknown = 1 }
+        {
+            rest = $0
+            line = ""
+            pointer = ""
+            while (match(rest, /\{ (i1|i8|i16|i32|ptr), ptr \}|\{ ptr, (i1|i8|i16|i32) \}/)) {
+                pair = substr(rest, RSTART, RLENGTH)
+                line = line substr(rest, 1, RSTART - 1) wide(pair)
+                rest = substr(rest, RSTART + RLENGTH)
+                if ($3 == "extractvalue") pointer = (rest ~ /, 0$/ ? pair ~ /\{ ptr,/ : pair ~ /, ptr \}/) ? $1 : ""
+                else if ($1 != "define" && $1 != "ret" && $3 != "load" && $3 != "call") exit unknown = 1
+            }
+            if (pointer == "") print line rest
+            else {
+                sub(/^ *[^ ]+ /, "  " pointer ".wide ", line)
+                print line rest
+                print "  " pointer " = inttoptr i64 " pointer ".wide to ptr"
+            }
+        }
+        END { if (unknown) print "a pair of an unknown form"; exit unknown }'
 }
 
 words_for() { # TRIPLE NAME
@@ -126,7 +157,8 @@ compile_for() { # TRIPLE NAME OBJECT [WORD...]
     crate=$2
     object=$3
     shift 3
-    text_for "$triple" "$crate" >"$object.ll" || return
+    text_for "$triple" "$crate" >"$object.ll" && ! grep -q '^a pair of an unknown form$' "$object.ll" ||
+        cannot "the bitcode of $crate has a pointer in a compound, for which there is no place in WebAssembly"
     # shellcheck disable=SC2046
     "$(toolchain)/bin/clang" $(words_for "$triple" "$crate") "$@" -c -x ir "$object.ll" -o "$object" && rm "$object.ll"
 }
