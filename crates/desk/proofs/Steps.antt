@@ -17,9 +17,11 @@ use Rattle.paper_desk.specs.Desk.{Ask, Call, admit, about, Outcome, blank, sayin
 use Rattle.paper_desk.specs.Desk.{found, known, rule_of, admit_checks, checks_on, checks_of, Reply, the_record, the_alerts}
 use Rattle.paper_desk.specs.Desk.{reply_on, judged, accepted_of, step}
 use Rattle.record_answers.specs.declared.Effect.{Effect}
+use Rattle.record_answers.specs.declared.Slot.{Slot}
 use Rattle.record_answers.specs.Effects.{slot_found, holds, is_known, answer_by, answer_of, refused_effect}
 use Rattle.record_answers.specs.Effects.{judged_effect, admit_checks_of, admit_effect, replied_on, effect_of, done_by}
 use Rattle.desk.specs.Promises.{Promised}
+use Rattle.desk.specs.Guesses.{slot_at, DoneAt}
 
 judged_done : (t : List Record) (v : Verdict) (o : Effect) → done_by t (judged_effect (length t) v o)
     ≡ judged v t (done_by t o)
@@ -58,3 +60,30 @@ pub promised : (c : Call) (t : List Record) (o : Effect) → done_by t o ≡ ste
     → Promised c t (answer_of o) (set t o.at o.rec)
 unfolding done_by
 promised c t o e = record { answer = ap (λ (x : Outcome). x.answer) e; table = ap (λ (x : Outcome). x.table) e }
+
+-- ---- a call: the slot s is taken, the effect o is made of it, what o has is stored, and r is the answer of it
+
+-- of an admission, which also takes the first empty slot e
+pub admit_promised : (t : List Record) (a : Admission) (s e : Slot) (o : Effect) (r : Answer) (u : List Record)
+    → s ≡ slot_found t a.id → e ≡ slot_found t 0 → o ≡ admit_effect s e a → r ≡ answer_of o → u ≡ set t o.at o.rec
+    → Promised (admit a) t r u
+admit_promised t a s e o r u is_s is_e is_o is_r is_u =
+    let same : o ≡ admit_effect (slot_found t a.id) (slot_found t 0) a = cc in
+    rw (is_r, is_u) (promised (admit a) t o (ap (done_by t) same ∙ admit_steps t a))
+
+pub ask_promised : (t : List Record) (id : ℕ) (x : Ask) (s : Slot) (o : Effect) (r : Answer) (u : List Record)
+    → s ≡ slot_found t id → o ≡ effect_of s x → r ≡ answer_of o → u ≡ set t o.at o.rec → Promised (about id x) t r u
+ask_promised t id x s o r u is_s is_o is_r is_u =
+    let same : o ≡ effect_of (slot_found t id) x = cc in
+    rw (is_r, is_u) (promised (about id x) t o (ap (done_by t) same ∙ ask_steps t id x))
+
+-- of the slot at a place
+pub done_at : (t : List Record) (i : ℕ) (x : Ask) (s : Slot) (o : Effect) (r : Answer) (u : List Record)
+    → s ≡ slot_at t i → o ≡ effect_of s x → r ≡ answer_of o → u ≡ set t o.at o.rec → DoneAt i x t r u
+unfolding done_by
+done_at t i x s o r u is_s is_o is_r is_u =
+    let same : o ≡ effect_of (slot_at t i) x = cc in
+    record {
+      answer = is_r ∙ ap answer_of same;
+      table = is_u ∙ ap (λ (z : Effect). set t z.at z.rec) same;
+    }
