@@ -3,21 +3,21 @@
 use mathlib.Core.Path.{◌≡◌, refl, ◌∙◌}
 use mathlib.Core.Bool.{Bool, true, false, ◌&&◌, ◌||◌}
 use mathlib.Core.List.{List, [], ◌∷◌, ◌++◌, append-nil, append_assoc}
-use Prim.Native.Nat.{ℕ, zero, suc, ◌+◌, ◌≤◌, ◌<◌}
+use Prim.Native.Nat.{ℕ, suc, ◌+◌, ◌≤◌, ◌<◌}
 use native.Mathlib.Omega.{arith}
-use lib.Dec.{leb, ltb, eqb}
+use lib.Dec.{ltb, eqb}
 use lib.IntN.{ℤ}
-use lib.ListN.{length, drop}
-use borrow.Author.Tests.{eq-eqb, le-leb, lt-leb, leb-false, ltb-false}
+use lib.ListN.{length}
+use borrow.Author.Tests.{eq-eqb, le-leb, lt-leb, ltb-false}
 use Rattle.paper.specs.Lists.{pick}
 use Rattle.text_bytes.specs.Bytes.{line_feed, is_line_feed, pieces}
 use Rattle.text_bytes.proofs.Spelling.{impossible}
 use Rattle.exchange_protocol.specs.Exchange.{rows_most, text_most, accepted, refused}
-use Rattle.exchange_protocol.specs.Scan.{Front, front, none, line, is_of, collect, reading}
+use Rattle.exchange_protocol.specs.Scan.{Front, front, none, line, collect, reading}
 use Rattle.exchange_protocol.specs.Scan.{or_bad as readOrBad}
-use Rattle.night_protocol.specs.Night.{Night, good, bad, night_most, securities_most, is_among, firsts, id_of, ids_of}
+use Rattle.night_protocol.specs.Night.{good, bad, night_most, securities_most, is_among, firsts, id_of, ids_of}
 use Rattle.night_protocol.specs.Night.{rows_in, has_room, or_bad, gather, night_of}
-use Rattle.night_protocol.proofs.Rows.{on_with, is_of_lem, line_collects}
+use Rattle.night_protocol.proofs.Rows.{is_of_lem, line_collects}
 
 -- the first of some lines are read, and behind them stands p
 pub data Behind : List (List ℕ) → (lines : List (List ℤ)) → (p : List ℕ) → Type 0 where

@@ -1,12 +1,12 @@
 -- WHAT IS PRINTED READS BACK: by the evening's own reading (`meaning` of text_protocol) each line is an evaluation of
 -- the security on that day, with those rows.
-use mathlib.Core.Path.{◌≡◌, refl, sym, ap, ◌∙◌}
+use mathlib.Core.Path.{◌≡◌, refl, ap, ◌∙◌}
 use mathlib.Core.Bool.{Bool, true, false}
 use mathlib.Core.List.{List, [], ◌∷◌, ◌++◌, append_assoc, append-nil}
 use Prim.Native.Nat.{ℕ, zero, suc, ◌+◌, ◌*◌, ◌/◌, ◌%◌, ◌^◌, ◌≤◌, ◌<◌}
 use native.Mathlib.Nat.{pow-suc, div-lt_iff_lt-mul}
 use native.Mathlib.Omega.{arith}
-use lib.Dec.{ltb, eqb, leb}
+use lib.Dec.{ltb}
 use lib.IntN.{ℤ, pos, negsuc}
 use lib.Signed.{mag}
 use lib.ListN.{length, length-append}
@@ -16,14 +16,14 @@ use Rattle.paper.specs.Lists.{pick}
 use Rattle.paper.specs.Numbers.{all_numbers_most}
 use Rattle.text_bytes.specs.Bytes.{space, slash, is_blank}
 use Rattle.text_bytes.specs.Numbers.{Fitting, none_fits, also_fits, least, spelt, decimal, signed, next, spaced}
-use Rattle.text_bytes.specs.Spells.{no_blank, Spells}
+use Rattle.text_bytes.specs.Spells.{no_blank}
 use Rattle.text_bytes.proofs.RoundTrip.{signed_spells}
 use Rattle.text_protocol.specs.declared.Pairs.{Pairs}
 use Rattle.text_protocol.specs.Names.{forms, evaluate_kind, evaluate_word, evaluate_names, bond_names, place_of, code, takes}
 use Rattle.text_protocol.specs.Names.{takes_in, count_fits}
 use Rattle.text_protocol.specs.Line.{Call, no_pairs, has_terms, place_in, pair_fits, with_pair, more, kept_most, longest}
 use Rattle.text_protocol.specs.Line.{meaning}
-use Rattle.text_protocol.specs.Written.{CallWord, here, behind, Numbers, done, one, two, Says, says}
+use Rattle.text_protocol.specs.Written.{CallWord, here, behind, Numbers, done, one, two, says}
 use Rattle.text_protocol.proofs.Reading.{says_reads}
 use Rattle.text_protocol.specs.declared.Kept.{Kept}
 use Rattle.text_protocol.specs.Names.{the}

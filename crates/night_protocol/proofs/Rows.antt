@@ -1,23 +1,22 @@
 -- THE ROWS OF AN ID ARE WHAT THE READING OF `exchange` SAYS OF IT, and each id stands once. What a line more makes of
 -- the ids and of the rows.
-use mathlib.Core.Path.{◌≡◌, refl, sym, ap, ◌∙◌}
+use mathlib.Core.Path.{◌≡◌, refl, ap, ◌∙◌}
 use mathlib.Core.Bool.{Bool, true, false, ◌&&◌, ◌||◌}
 use mathlib.Core.List.{List, [], ◌∷◌, ◌++◌}
 use Prim.Native.Nat.{ℕ, zero, suc, ◌≤◌, ◌<◌}
 use native.Mathlib.Omega.{arith}
 use lib.Dec.{leb, ltb, eqb}
-use lib.IntN.{ℤ, pos}
+use lib.IntN.{ℤ}
 use lib.ListN.{length, drop, get_or}
 use borrow.Author.Tests.{eqb-true, eqb-false, eq-eqb, ne_eqb, le-leb}
 use Rattle.paper.specs.Lists.{pick, some}
-use Rattle.paper.specs.Ranges.{unsigned}
 use Rattle.text_bytes.specs.Bytes.{line_feed, is_line_feed, pieces}
 use Rattle.text_bytes.proofs.Spelling.{impossible}
 use Rattle.exchange_protocol.specs.declared.Reading.{Reading}
 use Rattle.exchange_protocol.specs.Exchange.{rows_most, text_most, accepted, refused}
 use Rattle.exchange_protocol.specs.Scan.{Front, front, none, line, is_of, collect, reading}
 use Rattle.exchange_protocol.specs.Scan.{or_bad as readOrBad}
-use Rattle.night_protocol.specs.Night.{Night, good, bad, night_most, securities_most, is_among, joined, firsts_behind}
+use Rattle.night_protocol.specs.Night.{good, bad, night_most, securities_most, is_among, joined, firsts_behind}
 use Rattle.night_protocol.specs.Night.{firsts, id_of, ids_of, rows_in, has_room, or_bad, gather, night_of}
 
 -- ---- among the ids

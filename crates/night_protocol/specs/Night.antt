@@ -1,7 +1,7 @@
 -- docs/EXCHANGE.md, "The text of a night": what the exchange's text says of all its securities. A line is read as
 -- `exchange` reads it (`line` of exchange_protocol); `good_is_reading` (proofs/Rows.antt) proves that the rows of an id
 -- are those that the reading of `exchange` gives.
-use Rattle.std.specs.Prelude.{Bool, true, false, ◌&&◌, ◌||◌, List, [], ◌∷◌, ◌++◌, map, ℕ, suc, leb, ltb, eqb, ℤ, pos, length, drop, get_or}
+use Rattle.std.specs.Prelude.{Bool, ◌&&◌, ◌||◌, List, [], ◌∷◌, ◌++◌, map, ℕ, suc, leb, ltb, eqb, ℤ, pos, length, drop, get_or}
 use Rattle.paper.specs.Lists.{pick, some}
 use Rattle.paper.specs.Numbers.{slots_most}
 use Rattle.paper.specs.Ranges.{unsigned}

@@ -1,22 +1,22 @@
 -- `night` by examples: texts of several securities and what they say, words and what they ask for, and what is printed,
 -- byte for byte. `good_is_reading` (proofs/Rows.antt) proves the rows of every text to be those that `exchange` reads.
-use Rattle.std.specs.Prelude.{◌≡◌, refl, Bool, true, false, ◌&&◌, ◌||◌, not, List, [], ◌∷◌, ◌++◌, map, ℕ, zero, suc, ℤ, pos, negsuc, length}
+use Rattle.std.specs.Prelude.{◌≡◌, refl, true, false, List, [], ◌∷◌, ◌++◌, map, ℕ, ℤ, pos, negsuc}
 use Prim.Native.String.{String}
 use Rattle.paper.specs.Lists.{some}
 use Rattle.paper.specs.Ranges.{unsigned, row_at, valid_row}
-use Rattle.text_bytes.specs.Bytes.{line_feed, is_line_feed, grow, pieces, bytes, is_not, run}
+use Rattle.text_bytes.specs.Bytes.{is_line_feed, grow, pieces, bytes, is_not, run}
 use Rattle.text_bytes.specs.Numbers.{is_digit, size_from, size_of, up_to, above, below, number_of, slash_at, spelt, decimal}
 use Rattle.text_bytes.specs.Numbers.{signed, next, spaced, answer_text}
 use Rattle.text_bytes.specs.Spells.{negated}
 use Rattle.text_protocol.specs.Names.{evaluate_names, bond_names, place_of, code}
-use Rattle.text_protocol.specs.Line.{Reading, read, spoilt, no_pairs, one_of, two_of, item_of, has_terms, place_in, pair_fits}
+use Rattle.text_protocol.specs.Line.{read, spoilt, no_pairs, one_of, two_of, item_of, has_terms, place_in, pair_fits}
 use Rattle.text_protocol.specs.Line.{with_pair}
 use Rattle.exchange_protocol.specs.Exchange.{columns, in_one}
 use Rattle.exchange_protocol.specs.Scan.{starts, digits, past_zeros, decimals, behind_whole, number, positive, turned}
 use Rattle.exchange_protocol.specs.Scan.{cell}
 use Rattle.exchange_protocol.specs.Scan.{pass, line_end, field_end, cells, in_range, line}
 use Rattle.exchange_protocol.specs.ExchangeCases.{ended, times}
-use Rattle.night_protocol.specs.Night.{Night, good, bad, night_most, is_among, joined, firsts_behind, firsts, id_of}
+use Rattle.night_protocol.specs.Night.{good, bad, night_most, is_among, joined, firsts_behind, firsts, id_of}
 use Rattle.night_protocol.specs.Night.{ids_of, rows_in, has_room, or_bad, gather, night_of}
 use Rattle.night_protocol.specs.Sheet.{may_stand, asking, asked_on, asked_from, asked_by, term_text, day_text, head_text}
 use Rattle.night_protocol.specs.Sheet.{evaluate_text, evaluate_all, sheet_ids, sheet_text, fault_text}

@@ -1,6 +1,6 @@
 -- docs/EXCHANGE.md, "What `night` prints": what the words on the command line ask for, and the lines of an evening that
 -- are printed, an evaluation for each security.
-use Rattle.std.specs.Prelude.{Bool, true, false, ◌&&◌, ◌||◌, not, List, [], ◌∷◌, ◌++◌, map, ℕ, suc, ◌+◌, leb, ltb, ℤ, pos, length, take, drop, get_or}
+use Rattle.std.specs.Prelude.{Bool, ◌&&◌, ◌||◌, not, List, [], ◌∷◌, ◌++◌, map, ℕ, suc, ◌+◌, leb, ltb, ℤ, pos, length, drop, get_or}
 use Rattle.std.specs.Int.Signed.{lt_z}
 use Rattle.paper.specs.Lists.{pick}
 use Rattle.paper.specs.Numbers.{slots_most}
