@@ -1,21 +1,20 @@
 -- Why the functions of this crate meet their contracts, as laws over lists and numbers: the id that an argument asks
 -- for, digit by digit, the text, read by read, and the two answers. No law speaks of memory, so that the proofs of the
 -- functions only cite them.
-use mathlib.Core.Path.{◌≡◌, refl, sym, ap, ◌∙◌}
+use mathlib.Core.Path.{◌≡◌, refl, sym, ◌∙◌}
 use mathlib.Core.Bool.{Bool, true, false}
-use mathlib.Core.List.{List, [], ◌∷◌, ◌++◌}
-use Prim.Native.Nat.{ℕ, zero, suc, ◌+◌, ◌-◌, ◌*◌, ◌≤◌, ◌<◌}
+use mathlib.Core.List.{List, [], ◌∷◌}
+use Prim.Native.Nat.{ℕ, suc, ◌+◌, ◌-◌, ◌*◌, ◌≤◌, ◌<◌}
 use native.Mathlib.Omega.{arith}
 use lib.Dec.{leb}
-use lib.IntN.{ℤ, pos}
+use lib.IntN.{pos}
 use lib.ListN.{length, take, drop, get_or, drop_of_length-le}
 use lib.Seq.{drop-cons}
 use borrow.Author.Tests.{le-leb, lt-leb, leb-false, lt-ltb, le-ltb, eq-eqb, ne_eqb}
 use Rattle.paper.specs.Lists.{pick}
-use Rattle.paper.specs.Numbers.{id_most, all_numbers_most, row_numbers}
+use Rattle.paper.specs.Numbers.{id_most, row_numbers}
 use Rattle.paper.specs.Verdicts.{number_of, is_done}
 use Rattle.text_bytes.specs.Bytes.{line_feed, digit_zero, digit_nine}
-use Rattle.text_bytes.specs.declared.Size.{Size}
 use Rattle.text_bytes.specs.declared.Size.TheVariants as size
 use Rattle.text_bytes.specs.Numbers.{decimal, is_digit, size_from, size_of, answer_text}
 use Rattle.text_bytes.proofs.Spelling.{within_is_digit, low_no_digit, high_no_digit}
@@ -25,12 +24,11 @@ use Rattle.exchange_protocol.specs.declared.Reading.{Reading}
 use Rattle.text_evidence.specs.declared.Delivered.{Delivered}
 use Rattle.text_evidence.specs.Evidence.{Counted, counted_none, counted_on, unread, has_ended, ended_is_none, Fills}
 use Rattle.text_evidence.specs.Evidence.{not_ended_is_some}
-use Rattle.exchange_serve.specs.declared.AskedId.{AskedId}
 use Rattle.exchange_serve.specs.declared.AskedId.TheVariants as asked
 use Rattle.exchange_serve.specs.Rows.{settled, asked_of, past_ids, grown, TakesIn, reading_numbers, reading_text}
 use Rattle.exchange_serve.specs.Rows.{reading_most}
 use Rattle.text_out.specs.Sizes.{rows_bytes}
-use Rattle.text_out.specs.Places.{number_bytes, next_bytes, next_signed_bytes}
+use Rattle.text_out.specs.Places.{number_bytes, next_bytes}
 
 -- ---- the argument
 
