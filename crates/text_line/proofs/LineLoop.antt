@@ -1,10 +1,10 @@
 -- One turn of the loop over a line's words, on plain values: what is left of the words leads to the same meaning.
-use mathlib.Core.Path.{◌≡◌, refl, sym, ap, ◌∙◌}
+use mathlib.Core.Path.{◌≡◌, refl, sym, ◌∙◌}
 use mathlib.Core.Bool.{Bool, true, false}
 use mathlib.Core.List.{List, [], ◌∷◌, ◌++◌}
-use Prim.Native.Nat.{ℕ, zero, suc, ◌+◌, ◌-◌, ◌≤◌, ◌<◌}
+use Prim.Native.Nat.{ℕ, suc, ◌+◌, ◌-◌, ◌≤◌, ◌<◌}
 use native.Mathlib.Omega.{arith}
-use lib.Dec.{leb, eqb}
+use lib.Dec.{eqb}
 use lib.IntN.{ℤ}
 use lib.ListN.{length, take, drop, set, get_or, length-set, length-append}
 use lib.Seq.{take_all, take-take, take-append-le, length-take-le, take-suc-set}
@@ -15,7 +15,7 @@ use Rattle.text_protocol.specs.declared.Item.TheVariants as item
 use Rattle.text_protocol.specs.declared.Pairs.{Pairs}
 use Rattle.text_bytes.specs.Bytes.{is_blank, run, words}
 use Rattle.text_protocol.specs.Names.{kind_of, takes}
-use Rattle.text_protocol.specs.Line.{Said, Nothing, NoCall, Call, no_pairs, pair_fits, with_pair, more, Reading, read}
+use Rattle.text_protocol.specs.Line.{Said, Nothing, NoCall, Call, no_pairs, pair_fits, with_pair, more}
 use Rattle.text_protocol.specs.Line.{spoilt, taking, on_with, finished, item_of, fill, heading_sign, is_heading, called}
 use Rattle.text_protocol.specs.Line.{meaning, kept_most, longest}
 use Rattle.text_word.specs.Parts.{is_solid}

@@ -17,7 +17,6 @@ use Rattle.text_bytes.specs.Bytes.{same, space}
 use Rattle.text_protocol.specs.declared.Pairs.{Pairs}
 use Rattle.text_protocol.specs.Names.{Form, count_fits, takes_in, takes, forms, bond_kind, place_of, code}
 use Rattle.text_protocol.specs.Names.{kind_from, kind_of, evaluate_names, bond_names}
-use Rattle.text_line.specs.declared.Line.{Line}
 use Rattle.text_protocol.specs.Line.{place_in}
 use Rattle.text_line.specs.ReadLine.{blank_kind, bad_line, line_of, LowsAt}
 

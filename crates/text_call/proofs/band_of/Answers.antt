@@ -1,6 +1,5 @@
 -- `text_call::band_of` meets its contract: where a pair stands in a term, the two numbers are Ym and Yn, and the band
 -- is the newest kept answer of that pair.
-use Rattle.paper.specs.Ranges.{unsigned}
 use Rattle.text_protocol.specs.Calls.{band_of}
 use mir.Facts.{to_z-of_z}
 use Rattle.text_call.proofs.band_of.Goals as goal

@@ -2,7 +2,7 @@
 use mathlib.Core.Path.{◌≡◌, ap, ◌∙◌}
 use lib.Ieee.{binary64, of_bits}
 use mir.Facts.{to_z-of_z}
-use Rattle.text_protocol.specs.Calls.{bits_of, float_of}
+use Rattle.text_protocol.specs.Calls.{float_of}
 use Rattle.text_call.proofs.Bits.{nan_above, no_nan_up_to, zero_by_zero}
 use Rattle.text_call.proofs.float_of.Goals as goal
 use Rattle.text_call.proofs.float_of.Goals.{After-bits_of-bits}

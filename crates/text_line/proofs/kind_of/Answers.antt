@@ -1,7 +1,5 @@
 use mathlib.Core.Path.{refl}
-use Prim.Native.Nat.{◌-◌}
 use native.Mathlib.Omega.{arith}
-use borrow.Author.Rules.{rules}
 use Rattle.paper.specs.Lists.{every}
 use Rattle.text_protocol.specs.Names.{forms}
 use Rattle.text_line.proofs.Table.{seeking_none, seeking_found, seeking_more, seeking_all}

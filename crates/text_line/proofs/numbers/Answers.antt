@@ -1,9 +1,8 @@
 use borrow.Author.Tests.{not-true, not-false}
 use Rattle.text_line.proofs.LineLoop.{filling_none, filling_end, filling_bad, filling_more}
 use Rattle.text_word.proofs.Words.{word_some}
-use Rattle.text_protocol.specs.Line.{no_pairs}
 use native.Mathlib.Omega.{arith}
-use Prim.Native.Nat.{◌-◌, ◌<◌}
+use Prim.Native.Nat.{◌<◌}
 use mathlib.Core.Path.{ap}
 use mathlib.Core.Bool.{not}
 use Rattle.text_line.proofs.numbers.Goals as goal
