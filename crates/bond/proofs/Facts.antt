@@ -1,13 +1,12 @@
 -- What a bond that is not refused 6 gives to the rules: its ranges, and that S_1 is a rate.
 use mathlib.Core.Path.{◌≡◌}
-use mathlib.Core.Bool.{Bool, true, false, ◌&&◌}
+use mathlib.Core.Bool.{Bool, true, false}
 use Prim.Native.Nat.{ℕ, ◌≤◌, ◌<◌}
 use native.Mathlib.Omega.{arith}
 use lib.Signed.{mag}
 use borrow.Author.Tests.{leb-true}
 use Rattle.paper.specs.declared.Figures.{Figures}
-use Rattle.paper.specs.declared.Term.{Term}
-use Rattle.paper.specs.Lists.{pick, all_three}
+use Rattle.paper.specs.Lists.{pick}
 use Rattle.paper.specs.Numbers.{rate_most, volatility_most, age_most, ahead_most, repo_most}
 use Rattle.paper.specs.Ranges.{valid_statics, tentative_top, valid_tentative, valid_term, term_at, rate_at}
 use Rattle.paper_desk.specs.Rates.{tentative_rate, rated_by, minimum_of, unmodelled, figures_by_volatility}

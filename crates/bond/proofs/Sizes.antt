@@ -1,7 +1,7 @@
 -- How far a bond's limits reach before they are rounded and after: every product fits 64 bits, or the wide division.
 use mathlib.Core.Path.{◌≡◌, refl}
-use Prim.Native.Nat.{ℕ, ◌+◌, ◌*◌, ◌≤◌, ◌<◌}
-use native.Mathlib.Nat.{mul-le-mul, mul-pos}
+use Prim.Native.Nat.{ℕ, ◌+◌, ◌*◌, ◌≤◌}
+use native.Mathlib.Nat.{mul-le-mul}
 use native.Mathlib.Omega.{arith}
 use lib.IntN.{ℤ}
 use lib.Signed.{mag}
@@ -13,7 +13,7 @@ use Rattle.paper.specs.declared.Rate.{Rate}
 use Rattle.paper.specs.declared.Side.{Side}
 use Rattle.paper.specs.declared.Side.TheVariants.{Upper, Lower}
 use Rattle.paper.specs.declared.Statics.{Statics}
-use Rattle.paper.specs.Numbers.{one_in_bp, year_in_day_bp, price_most, rate_most, divisor_least, divisor_most, term_days_most}
+use Rattle.paper.specs.Numbers.{one_in_bp, year_in_day_bp, price_most, rate_most, divisor_least, term_days_most}
 use Rattle.paper.specs.Numbers.{repo_most}
 use Rattle.paper.specs.Roundings.{grown}
 use Rattle.paper_desk.specs.Limits.{grown_price, growing, shifted, farthest, spread, LimitStatics}
@@ -26,7 +26,7 @@ use Rattle.bond.specs.BondInputs.{GrowthRange, PriceRange, SideRange, grown_most
 
 -- a repo rate is its own bits read back
 pub rate_kept_in_bits : (x : ℤ) → mag x ≤ mag repo_most → to_z w64 (of_z w64 x) ≡ x
-rate_kept_in_bits x h = to_z-of_z (record { sfits = omega arith })
+rate_kept_in_bits x h = to_z-of_z {w = w64} (record { sfits = omega arith })
 
 -- ---- the growth
 

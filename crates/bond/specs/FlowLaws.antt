@@ -1,5 +1,5 @@
 -- Laws of a bond's cash flows: those from a place on, what those in range give, and how large Carry can be.
-use Rattle.std.specs.Prelude.{◌≡◌, refl, Bool, true, false, ◌&&◌, ℕ, zero, suc, ◌+◌, ◌-◌, ◌*◌, ◌/◌, ◌%◌, ◌≤◌, ◌<◌, leb, ℤ, pos, length}
+use Rattle.std.specs.Prelude.{◌≡◌, refl, Bool, true, false, ℕ, zero, suc, ◌+◌, ◌-◌, ◌*◌, ◌/◌, ◌%◌, ◌≤◌, leb, ℤ, pos, length}
 use Rattle.std.proofs.Math.Path.{ap}
 use Rattle.std.proofs.Common.{sym, ◌∙◌, mul-le-mul, leb-true, eqb-true}
 use mathlib.Core.List.{List, [], ◌∷◌, map}
@@ -7,11 +7,11 @@ use native.Mathlib.Omega.{arith}
 use Rattle.std.specs.Int.Signed.{mag}
 use Rattle.paper.specs.Lists.{pick, every}
 use Rattle.paper.specs.Numbers.{term_days_most, repo_most, year_in_day_bp}
-use Rattle.paper.specs.Ranges.{within_z, unsigned, parts_from}
-use Rattle.paper.specs.Roundings.{half_up, grown}
+use Rattle.paper.specs.Ranges.{within_z, parts_from}
+use Rattle.paper.specs.Roundings.{grown}
 use Rattle.paper.proofs.Logic.{and_left, and_right}
 use Rattle.paper.proofs.Roundings.{half_le}
-use Rattle.exact.specs.SignedLaws.{growth_most, grown_near_base, unsigned_le}
+use Rattle.exact.specs.SignedLaws.{grown_near_base, unsigned_le}
 use Rattle.exact.specs.LentLaws.{Place, parts_left, left_first, left_here, left_end}
 use Rattle.paper_bonds.specs.declared.Flow.{Flow}
 use Rattle.paper_bonds.specs.BondNumbers.{money_most, flow_numbers, all_flow_numbers_most, flow_day_least, flow_day_most}

@@ -1,5 +1,5 @@
 -- What is known of a bond that is not refused 6, 17 or 7, and of the figures that its limits are worked out from.
-use Rattle.std.specs.Prelude.{◌≡◌, true, List, ℕ, ◌<◌, ℤ}
+use Rattle.std.specs.Prelude.{◌≡◌, true, List, ◌<◌, ℤ}
 use Rattle.paper.specs.declared.Price.{Price}
 use Rattle.paper.specs.declared.Rate.{Rate}
 use Rattle.paper.specs.declared.Statics.{Statics}
