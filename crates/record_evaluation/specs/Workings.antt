@@ -1,6 +1,6 @@
 -- What an evaluation comes to before it is answered: what `evaluate` stores and answers is made of it, and so is why
 -- (W-207).
-use Rattle.std.specs.Prelude.{◌≡◌, Bool, true, false, ◌||◌, List, ℕ, leb, eqb, ℤ}
+use Rattle.std.specs.Prelude.{◌≡◌, Bool, true, false, ◌||◌, List, leb, eqb, ℤ}
 use Rattle.paper.specs.declared.Day.{Day}
 use Rattle.paper.specs.declared.Record.{Record}
 use Rattle.paper.specs.declared.Verdict.{Verdict}
