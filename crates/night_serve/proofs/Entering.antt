@@ -1,28 +1,26 @@
 -- A line more in the tables, as laws over lists and numbers: where its id stands, what is stored there, and that the
 -- places of the other securities stay as they are.
 use mathlib.Core.Path.{◌≡◌, refl, sym, ap, ◌∙◌}
-use mathlib.Core.Bool.{Bool, true, false, ◌&&◌, ◌||◌}
+use mathlib.Core.Bool.{Bool, true, false}
 use mathlib.Core.Logic.{◌⊎◌, inl, inr}
-use mathlib.Core.List.{List, [], ◌∷◌, ◌++◌, append_assoc, append-nil, map}
+use mathlib.Core.List.{List, [], ◌∷◌, ◌++◌, append_assoc, append-nil}
 use Prim.Native.Nat.{ℕ, zero, suc, ◌+◌, ◌-◌, ◌*◌, ◌≤◌, ◌<◌}
 use native.Mathlib.Omega.{arith}
-use lib.Dec.{ltb, eqb}
+use lib.Dec.{eqb}
 use lib.IntN.{ℤ, pos}
 use lib.ListN.{length, take, drop, get_or, set, length-append, length-drop, length-set, take-append-drop}
 use lib.Seq.{sets, sets-eq, length-sets, take-suc-set, length-take-le, get_or-set_same, get_or-set_other}
 use lib.Seq.{get_or-take, take_at, drop-append-le, take-append-le, drop-append-add, take-append-add, drop-drop}
 use lib.Seq.{take-nil}
-use borrow.Author.Tests.{eqb-true, eqb-false, eq-eqb, ne_eqb, lt-ltb, le-ltb}
-use Rattle.paper.specs.Lists.{pick, some}
+use borrow.Author.Tests.{eqb-true, eqb-false, lt-ltb, le-ltb}
 use Rattle.paper.specs.Numbers.{row_numbers, all_numbers_most}
 use Rattle.paper.specs.Ranges.{unsigned}
 use Rattle.paper.proofs.Logic.{le_or_lt}
 use Rattle.exchange_protocol.specs.Exchange.{rows_most, in_one, line_numbers}
-use Rattle.night_protocol.specs.Night.{securities_most, is_among, joined, firsts, firsts_behind, id_of, ids_of, rows_in}
+use Rattle.night_protocol.specs.Night.{securities_most, is_among, joined, firsts, id_of, ids_of, rows_in}
 use Rattle.night_protocol.specs.Night.{has_room}
 use Rattle.night_protocol.proofs.Rows.{among_at, among_none, line_joins, rows_own, rows_other}
 use Rattle.night_serve.specs.Tables.{id_at, ids_room, figures_room, Finds, Held, EntersAs, Enters}
-use Rattle.night_serve.specs.declared.reading.Entered.{Entered}
 use Rattle.night_serve.specs.declared.reading.Entered.TheVariants as entered
 
 -- ---- the numbers of rows

@@ -1,18 +1,16 @@
 -- The ids that are asked for, behind those of the text: each that is not there, one after the other.
 use mathlib.Core.Path.{◌≡◌, refl, sym, ap, ◌∙◌}
-use mathlib.Core.Bool.{Bool, true, false, ◌||◌}
-use mathlib.Core.List.{List, [], ◌∷◌, ◌++◌, append-nil, append_assoc, map}
-use Prim.Native.Nat.{ℕ, zero, suc, ◌+◌, ◌-◌, ◌*◌, ◌≤◌, ◌<◌}
+use mathlib.Core.Bool.{true, false}
+use mathlib.Core.List.{List, map}
+use Prim.Native.Nat.{ℕ, suc, ◌+◌, ◌-◌, ◌≤◌, ◌<◌}
 use native.Mathlib.Omega.{arith}
-use lib.Dec.{eqb}
 use lib.IntN.{ℤ, pos}
-use lib.ListN.{length, take, drop, get_or, set, length-set, length-append, length-drop, drop_of_length-le}
+use lib.ListN.{length, take, drop, get_or, set, length-set, length-drop, drop_of_length-le}
 use lib.Seq.{take-suc-set, take-set-le, take-take, length-take-le, get_or-take, drop-cons}
-use Rattle.paper.specs.Lists.{pick, some}
 use Rattle.paper.specs.Ranges.{unsigned}
-use Rattle.night_protocol.specs.Night.{is_among, joined, firsts, firsts_behind}
+use Rattle.night_protocol.specs.Night.{is_among, joined, firsts_behind}
 use Rattle.night_protocol.specs.Sheet.{day_numbers}
-use Rattle.night_serve.specs.Tables.{id_at, ids_room, Finds}
+use Rattle.night_serve.specs.Tables.{Finds}
 use Rattle.night_protocol.proofs.Rows.{among_at, among_none}
 use Rattle.night_serve.specs.Serving.{JoinsOne, Joins}
 

@@ -2,22 +2,19 @@
 -- one line after the other.
 use mathlib.Core.Path.{◌≡◌, refl, sym, ap, ◌∙◌}
 use mathlib.Core.List.{List, [], ◌∷◌, ◌++◌, append-nil, append_assoc}
-use Prim.Native.Nat.{ℕ, zero, suc, ◌+◌, ◌-◌, ◌*◌, ◌≤◌, ◌<◌}
+use Prim.Native.Nat.{ℕ, suc, ◌+◌, ◌-◌, ◌*◌, ◌≤◌, ◌<◌}
 use native.Mathlib.Omega.{arith}
-use lib.IntN.{ℤ, pos}
+use lib.IntN.{ℤ}
 use lib.ListN.{length, take, drop, get_or, set, length-set, length-drop, drop_of_length-le}
 use lib.Seq.{sets, drop-cons, get_or-take, get_or-drop, length-take-le, take-suc, length-sets}
 use Rattle.paper.specs.Numbers.{row_numbers, all_numbers_most}
-use Rattle.text_bytes.specs.Bytes.{line_feed}
-use Rattle.text_bytes.specs.Numbers.{spaced}
-use Rattle.text_out.specs.Wrote.{Wrote, then, appended, wider, nothing}
-use Rattle.text_out.specs.Told.{Told, wrote}
+use Rattle.text_out.specs.Wrote.{Wrote, then, appended, nothing}
 use Rattle.text_protocol.specs.declared.Pairs.{Pairs}
 use Rattle.exchange_protocol.specs.Exchange.{in_one}
 use Rattle.night_protocol.specs.Night.{rows_in}
-use Rattle.night_protocol.specs.Sheet.{head_text, evaluate_text, evaluate_all}
-use Rattle.night_serve.specs.Tables.{id_at, Held}
-use Rattle.night_serve.specs.Serving.{head_most, line_most, sheet_room, HeldSome, PrintsText}
+use Rattle.night_protocol.specs.Sheet.{evaluate_text, evaluate_all}
+use Rattle.night_serve.specs.Tables.{Held}
+use Rattle.night_serve.specs.Serving.{head_most, line_most, PrintsText}
 
 -- ---- a line, copied
 

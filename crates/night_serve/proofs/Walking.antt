@@ -1,33 +1,30 @@
 -- One turn of the loop that goes from line to line, as laws over lists and numbers: what is left of the text leads to
 -- the same.
 use mathlib.Core.Path.{◌≡◌, refl, sym, ap, ◌∙◌}
-use mathlib.Core.Bool.{Bool, true, false}
+use mathlib.Core.Bool.{true, false}
 use mathlib.Core.List.{List, [], ◌∷◌, ◌++◌}
-use Prim.Native.Nat.{ℕ, suc, ◌+◌, ◌-◌, ◌≤◌, ◌<◌}
-use native.Mathlib.Nat.{pos_of_ne-zero}
+use Prim.Native.Nat.{ℕ, suc, ◌+◌, ◌≤◌, ◌<◌}
 use native.Mathlib.Omega.{arith}
-use lib.Dec.{leb, eqb}
 use lib.IntN.{ℤ, pos}
-use lib.ListN.{length, take, drop, get_or, replicate, length-append, length-drop, drop_of_length-le}
+use lib.ListN.{length, drop, replicate, length-append, length-drop, drop_of_length-le}
 use borrow.Author.Tests.{le-leb, lt-leb, ne_eqb, eqb-true}
 use Rattle.paper.specs.Lists.{pick}
 use Rattle.text_bytes.specs.Bytes.{line_feed, is_line_feed, pieces}
 use Rattle.text_bytes.specs.Split.{Free}
 use Rattle.text_bytes.proofs.Spelling.{impossible}
 use Rattle.text_bytes.proofs.Pieces.{pieces_none, pieces_more, Parted, all, more, parted, pieces_some}
-use Rattle.exchange_protocol.specs.Exchange.{Ended, line_numbers}
+use Rattle.exchange_protocol.specs.Exchange.{line_numbers}
 use Rattle.exchange_protocol.specs.Scan.{Front, front, none, line, WrittenLine}
 use Rattle.exchange_protocol.proofs.Lines.{ended_reads, line_back}
 use Rattle.exchange_text.specs.declared.row.Place.{Place}
 use Rattle.exchange_text.specs.declared.row.Place.TheVariants as place
 use Rattle.exchange_text.specs.Lines.{place_front, PlaceIn, Lined}
-use Rattle.night_protocol.specs.Night.{Night, good, bad, night_most, securities_most, firsts, firsts_behind, ids_of}
+use Rattle.night_protocol.specs.Night.{bad, night_most, securities_most, firsts, firsts_behind, ids_of}
 use Rattle.night_protocol.specs.Night.{rows_in, has_room, or_bad}
 use Rattle.night_protocol.specs.Night.{gather, night_of}
-use Rattle.night_serve.specs.Tables.{ids_room, figures_room, Held, EntersAs, Enters, HeldNight, Reads}
+use Rattle.night_serve.specs.Tables.{ids_room, figures_room, Held, EntersAs, Enters, HeldNight}
 use Rattle.night_serve.specs.declared.reading.Entered.{Entered}
 use Rattle.night_serve.specs.declared.reading.Entered.TheVariants as entered
-use Rattle.night_serve.specs.declared.reading.Gathered.TheVariants as gathered
 
 feed_only : (b : ℕ) → is_line_feed b ≡ true → b ≡ line_feed
 unfolding is_line_feed

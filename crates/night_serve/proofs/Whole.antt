@@ -2,21 +2,20 @@
 use mathlib.Core.Path.{◌≡◌, refl, sym, ap, ◌∙◌}
 use mathlib.Core.Bool.{Bool, true, false, ◌||◌}
 use mathlib.Core.List.{List, [], ◌∷◌, ◌++◌, append-nil, append_assoc, map}
-use Prim.Native.Nat.{ℕ, zero, suc, ◌+◌, ◌-◌, ◌*◌, ◌≤◌, ◌<◌}
+use Prim.Native.Nat.{ℕ, ◌+◌, ◌-◌, ◌*◌, ◌≤◌}
 use native.Mathlib.Omega.{arith}
 use lib.Dec.{eqb}
 use lib.IntN.{ℤ}
-use lib.ListN.{length, take, drop, get_or, length-drop}
-use lib.Seq.{sets, length-sets, take-add, length-take-le, get_or-take, drop-append_seam}
+use lib.ListN.{length, take, drop, length-drop}
+use lib.Seq.{length-sets, take-add, length-take-le, get_or-take, drop-append_seam}
 use Rattle.paper.specs.Lists.{pick, some}
 use Rattle.paper.specs.Ranges.{unsigned}
 use Rattle.paper.proofs.Logic.{not_true_and_false}
 use Rattle.text_out.specs.Wrote.{Wrote, then, wider}
 use Rattle.text_protocol.specs.declared.Pairs.{Pairs}
-use Rattle.exchange_protocol.specs.Exchange.{in_one}
 use Rattle.night_protocol.specs.Night.{Night, good, bad, night_of, is_among, joined, firsts, firsts_behind, ids_of}
-use Rattle.night_protocol.specs.Night.{rows_in, securities_most}
-use Rattle.night_protocol.specs.Sheet.{day_numbers, words_most, asked_most, evaluate_text, evaluate_all, sheet_ids, sheet_text}
+use Rattle.night_protocol.specs.Night.{rows_in}
+use Rattle.night_protocol.specs.Sheet.{day_numbers, words_most, evaluate_all, sheet_ids, sheet_text}
 use Rattle.night_protocol.proofs.Rows.{among_at, firsts_both}
 use Rattle.night_serve.specs.Tables.{Held, HeldNight, Reads}
 use Rattle.night_serve.specs.declared.reading.Gathered.{Gathered}

@@ -2,12 +2,12 @@
 use mathlib.Core.Path.{◌≡◌, refl, sym, ap, ◌∙◌}
 use mathlib.Core.Bool.{Bool, true, false, ◌||◌, ◌&&◌, not}
 use mathlib.Core.List.{List, [], ◌∷◌, ◌++◌, append_assoc, append-nil}
-use Prim.Native.Nat.{ℕ, zero, suc, ◌+◌, ◌-◌, ◌≤◌, ◌<◌}
+use Prim.Native.Nat.{ℕ, suc, ◌+◌, ◌≤◌, ◌<◌}
 use native.Mathlib.Omega.{arith}
-use lib.Dec.{ltb, leb, eqb}
+use lib.Dec.{ltb, eqb}
 use lib.IntN.{ℤ, pos}
 use lib.Signed.{lt_z}
-use lib.ListN.{length, take, drop, get_or, set, length-set}
+use lib.ListN.{length, take, set, length-set}
 use lib.Seq.{take-suc-set, length-take-le}
 use borrow.Author.Tests.{le-leb, lt-leb, lt-ltb, le-ltb, ltb-true, ltb-false, eqb-true}
 use Rattle.paper.specs.Lists.{pick}
@@ -16,7 +16,7 @@ use Rattle.text_protocol.specs.declared.Item.TheVariants as item
 use Rattle.text_protocol.specs.declared.Pairs.{Pairs}
 use Rattle.text_bytes.proofs.Spelling.{impossible}
 use Rattle.text_protocol.specs.Names.{evaluate_kind, evaluate_names, bond_names, place_of, code}
-use Rattle.text_protocol.specs.Line.{Reading, read, spoilt, no_pairs, item_of, has_terms, place_in, pair_fits, with_pair}
+use Rattle.text_protocol.specs.Line.{Reading, read, spoilt, item_of, has_terms, place_in, pair_fits, with_pair}
 use Rattle.text_line.specs.declared.Taken.{Taken}
 use Rattle.text_line.specs.ReadLine.{reading_of}
 use Rattle.night_protocol.specs.Sheet.{day_numbers, words_most, may_stand, asking, asked_on, asked_from, asked_by}

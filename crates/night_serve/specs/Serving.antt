@@ -1,12 +1,12 @@
 -- What the program `night` is asked for, what it takes in, and what it prints.
-use Rattle.std.specs.Prelude.{◌≡◌, Bool, true, false, List, [], ◌∷◌, map, ℕ, ◌+◌, ◌-◌, ◌*◌, ◌≤◌, ◌<◌, ℤ, pos, ltb, length, take, drop}
+use Rattle.std.specs.Prelude.{◌≡◌, true, false, List, map, ℕ, ◌+◌, ◌*◌, ◌≤◌, ℤ, ltb, length, take}
 use Rattle.paper.specs.Lists.{pick}
 use Rattle.paper.specs.Ranges.{unsigned}
 use Rattle.text_out.specs.Wrote.{Wrote}
 use Rattle.text_out.specs.Places.{number_bytes, next_bytes, next_signed_bytes}
 use Rattle.text_out.specs.Sizes.{word_bytes, rows_bytes}
 use Rattle.text_protocol.specs.declared.Pairs.{Pairs}
-use Rattle.text_protocol.specs.Line.{Reading, read, spoilt, no_pairs, item_of}
+use Rattle.text_protocol.specs.Line.{no_pairs, item_of}
 use Rattle.text_line.specs.declared.Taken.{Taken}
 use Rattle.text_line.specs.ReadLine.{reading_of}
 use Rattle.text_protocol.specs.declared.Item.{Item}
@@ -15,7 +15,7 @@ use Rattle.night_protocol.specs.Sheet.{day_numbers, asked_most, words_most, aski
 use Rattle.night_protocol.specs.Sheet.{sheet_text}
 use Rattle.exchange_serve.specs.Rows.{TakesIn}
 use Rattle.text_evidence.specs.Evidence.{has_failed, unwritten, Hands}
-use Rattle.night_serve.specs.Tables.{ids_room, Held}
+use Rattle.night_serve.specs.Tables.{Held}
 use Rattle.night_serve.specs.declared.Served.{Served}
 
 -- ---- how long a line may be

@@ -1,10 +1,9 @@
 -- How the lent tables hold the lines of a text: the ids in the order in which they first occur, how many rows each
 -- security has, and the rows' numbers, in so many places for each security.
-use Rattle.std.specs.Prelude.{◌≡◌, true, false, List, [], ◌∷◌, ◌++◌, ℕ, suc, ◌+◌, ◌*◌, ◌≤◌, ◌<◌, ℤ, pos, length, take, drop, get_or, set}
-use Rattle.std.proofs.lemmas.List.Edits.{sets}
+use Rattle.std.specs.Prelude.{◌≡◌, true, false, List, [], ◌∷◌, ◌++◌, ℕ, ◌+◌, ◌*◌, ◌≤◌, ◌<◌, ℤ, length, take, drop, get_or}
 use Rattle.paper.specs.Numbers.{row_numbers, all_numbers_most}
 use Rattle.exchange_protocol.specs.Exchange.{rows_most, in_one}
-use Rattle.night_protocol.specs.Night.{Night, good, bad, securities_most, firsts, id_of, ids_of, rows_in, has_room, night_of}
+use Rattle.night_protocol.specs.Night.{good, bad, securities_most, firsts, ids_of, rows_in, has_room, night_of}
 use Rattle.night_protocol.specs.Sheet.{asked_most}
 use Rattle.night_serve.specs.declared.reading.Entered.{Entered}
 use Rattle.night_serve.specs.declared.reading.Entered.TheVariants as entered
