@@ -5,14 +5,11 @@ use mathlib.Core.Bool.{true, false, or-true}
 use mathlib.Core.List.{List}
 use lib.IntN.{ℤ}
 use Rattle.paper.specs.declared.Day.{Day}
-use Rattle.paper.specs.declared.Limits.{Limits}
-use Rattle.paper.specs.declared.Record.{Record}
 use Rattle.paper.specs.declared.Verdict.{Verdict}
 use Rattle.paper.specs.declared.Verdict.TheVariants as verdict
 use Rattle.paper.specs.Verdicts.{is_done, first_of}
-use Rattle.paper_desk.specs.Desk.{price_on, evaluated, evaluate_checks}
+use Rattle.paper_desk.specs.Desk.{evaluated, evaluate_checks}
 use Rattle.paper.proofs.Logic.{pick_true, pick_false}
-use Rattle.evaluation.specs.Evaluation.{priced_of}
 use Rattle.record_answers.specs.declared.Slot.{Slot}
 use Rattle.record_evaluation.specs.declared.Working.{Working}
 use Rattle.record_answers.specs.Effects.{is_known}

@@ -1,6 +1,6 @@
 -- What the code finds at fault is what the paper names.
-use mathlib.Core.Path.{◌≡◌, refl, sym, ap, ◌∙◌}
-use mathlib.Core.Bool.{Bool, true, false, not, ◌&&◌}
+use mathlib.Core.Path.{◌≡◌, refl, sym, ap}
+use mathlib.Core.Bool.{Bool, true, false, not}
 use mathlib.Core.List.{List, [], ◌∷◌, ◌++◌, map}
 use Prim.Native.Nat.{ℕ, suc}
 use lib.IntN.{ℤ}
@@ -12,11 +12,11 @@ use Rattle.paper.specs.declared.Limits.{Limits}
 use Rattle.paper.specs.declared.Verdict.{Verdict}
 use Rattle.paper.specs.declared.Verdict.TheVariants as verdict
 use Rattle.paper.specs.Lists.{pick, every}
-use Rattle.paper.specs.Ranges.{LentRow, rows_of, row_of, whole_rows, valid_row, valid_rows, valid_term, valid_day, term_at}
+use Rattle.paper.specs.Ranges.{LentRow, rows_of, row_of, whole_rows, valid_row, valid_term, valid_day, term_at}
 use Rattle.paper.specs.Ranges.{no_limits}
 use Rattle.paper_desk.specs.Evaluation.{day_rows, is_crossed_row, row_fits}
 use Rattle.paper_desk.specs.Limits.{crossed}
-use Rattle.paper.specs.Verdicts.{number_of, Naming, first_named, first_of}
+use Rattle.paper.specs.Verdicts.{Naming, first_named, first_of}
 use Rattle.paper_desk.specs.Desk.{evaluated, evaluate_checks}
 use Rattle.paper.proofs.Logic.{not_true_and_false}
 use Rattle.record_evaluation.proofs.Evaluations.{day_valid_parts}
@@ -24,7 +24,7 @@ use Rattle.paper_reasons.specs.declared.Fault.{Fault}
 use Rattle.paper_reasons.specs.declared.Fault.TheVariants as fault
 use Rattle.paper_reasons.specs.Faults.{rows_at_fault, first_row, terms_at_fault, out_of_range, is_same, faults_of, fault_of}
 use Rattle.record_reasons.specs.declared.faults.RowFault.TheVariants.{OutOfRange, Crossed, Beyond}
-use Rattle.record_reasons.specs.RowFaults.{at_fault, row_fault, whole_fault, term_fault, or_else, fault_with, Refused}
+use Rattle.record_reasons.specs.RowFaults.{row_fault, whole_fault, term_fault, or_else, fault_with, Refused}
 
 -- every row may be judged in range or crossed
 pub every_true : {A : Type 0} (xs : List A) → every (λ x. true) xs ≡ true

@@ -1,10 +1,10 @@
 -- The reasons by what is in hand are those of the paper, and what an accepted evaluation gives in hand.
-use mathlib.Core.Path.{◌≡◌, refl, sym, ap, subst, ◌∙◌}
-use mathlib.Core.Bool.{Bool, true, false, not, ◌&&◌, ◌||◌}
+use mathlib.Core.Path.{◌≡◌, refl, sym, ap, ◌∙◌}
+use mathlib.Core.Bool.{Bool, true, false, ◌||◌}
 use mathlib.Core.List.{List, [], ◌∷◌, map}
-use Prim.Native.Nat.{ℕ, zero, suc, ◌+◌, ◌*◌, ◌≤◌}
+use Prim.Native.Nat.{ℕ, ◌+◌, ◌*◌, ◌≤◌}
 use native.Mathlib.Omega.{arith}
-use lib.Dec.{leb, ltb, eqb}
+use lib.Dec.{ltb}
 use lib.IntN.{ℤ}
 use lib.ListN.{get_or}
 use borrow.Author.Tests.{ltb-true, ltb-false, lt-ltb}
@@ -17,19 +17,18 @@ use Rattle.paper.specs.declared.Statics.{Statics}
 use Rattle.paper.specs.declared.Tentative.{Tentative}
 use Rattle.paper.specs.declared.Figures.{Figures}
 use Rattle.paper.specs.Lists.{pick, every, some, for_levels}
-use Rattle.paper.specs.Ranges.{is_price, grid_of, valid_statics, valid_tentative, sound, valid_day, rate_at, no_rate}
-use Rattle.paper_desk.specs.Evaluation.{roubles_of, weights, row_fits, evaluation_of, evaluation_fits, day_rows}
+use Rattle.paper.specs.Ranges.{is_price, valid_statics, valid_tentative, sound, rate_at, no_rate}
+use Rattle.paper_desk.specs.Evaluation.{roubles_of, weights, row_fits, evaluation_fits, day_rows}
 use Rattle.paper_desk.specs.Rates.{model_of, weight_of, weighted, tentative_rate_of, move_too_large, level_rate, modelled}
 use Rattle.paper_desk.specs.Rates.{figures_of}
 use Rattle.paper.specs.Numbers.{millionths_in_bp, volatility_most, ahead_most}
 use Rattle.paper.specs.Verdicts.{is_done, first_of, NoneApplies, none, also, all_refusals}
 use Rattle.paper_desk.specs.Desk.{used_by, price_on, move_on, figures_on, evaluated, evaluate_checks}
-use Rattle.paper.proofs.Logic.{not_true_and_false, and_left, and_right, and_right_false, not_false, pick_true}
+use Rattle.paper.proofs.Logic.{and_left, and_right, and_right_false, not_false, pick_true}
 use Rattle.paper.proofs.Logic.{pick_false}
 use Rattle.paper_desk.proofs.Bounds.{volatility_high}
 use Rattle.paper_desk.proofs.TentativeRange.{valid_tentative_within_top, tentative_rate_in, modelled_stays}
 use Rattle.paper_desk.proofs.Refusals.{done_means_none_applies}
-use Rattle.evaluation.specs.declared.PriceFigures.{PriceFigures}
 use Rattle.evaluation.specs.Evaluation.{price_figures, priced_of}
 use Rattle.record_soundness.proofs.Facts.{sound_facts}
 use Rattle.inputs.proofs.Facts.{day_facts}
@@ -59,7 +58,7 @@ use Rattle.paper_reasons.specs.Reasons.{weight_reason, replacement_was, replacem
 use Rattle.paper_reasons.specs.Reasons.{tentative_did, tentative_reasons, tentative_reason, level_reason}
 use Rattle.paper_reasons.specs.Figures.{replacement_taken}
 use Rattle.paper_reasons.proofs.Figures.{won_is}
-use Rattle.paper_reasons.specs.Why.{replaced_on, step_on, deciding_on, decided_by, level_on, reasons_of}
+use Rattle.paper_reasons.specs.Why.{replaced_on, step_on, deciding_on, level_on, reasons_of}
 use Rattle.record_reasons.specs.Reasoned.{set_by, reason_from, replaced_at, step_at, deciding_at, level_at}
 use Rattle.record_reasons.specs.Reasoned.{unmodelled_with, modelled_with, reasons_at, Accepted}
 

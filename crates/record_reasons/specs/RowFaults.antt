@@ -1,5 +1,5 @@
 -- The first row, else term, at fault, as the code looks for it: one walk over the rows as they are lent.
-use Rattle.std.specs.Prelude.{◌≡◌, Bool, true, not, List, [], ℕ, ℤ, get_or}
+use Rattle.std.specs.Prelude.{◌≡◌, Bool, true, not, List, ℤ, get_or}
 use Rattle.paper.specs.declared.Day.{Day}
 use Rattle.paper.specs.declared.Limits.{Limits}
 use Rattle.paper.specs.declared.Verdict.{Verdict}
