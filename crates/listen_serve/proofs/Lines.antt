@@ -1,15 +1,15 @@
 -- WHAT A RUN HANDED OVER, where all of it was taken, are the lines of all that `read` delivered; and what it says at
 -- its end of one whole stream is so of all that `read` delivered.
-use mathlib.Core.Path.{◌≡◌, refl, sym, ap, subst, ◌∙◌}
+use mathlib.Core.Path.{◌≡◌, refl, sym, ap, ◌∙◌}
 use mathlib.Core.Logic.{◌⊎◌, inl, inr}
-use mathlib.Core.Bool.{Bool, true, false, not, ◌&&◌}
-use mathlib.Core.List.{List, [], ◌∷◌, ◌++◌, append-nil, append_assoc}
-use Prim.Native.Nat.{ℕ, zero, suc, ◌+◌, ◌-◌, ◌≤◌, ◌<◌}
+use mathlib.Core.Bool.{Bool, true, false, ◌&&◌}
+use mathlib.Core.List.{List, [], ◌++◌, append-nil, append_assoc}
+use Prim.Native.Nat.{ℕ, ◌+◌, ◌-◌, ◌≤◌, ◌<◌}
 use native.Mathlib.Omega.{arith}
 use lib.Dec.{leb, eqb, ltb}
 use lib.ListN.{length, take, drop, length-append, length-drop, drop_of_length-le}
 use lib.Seq.{drop-append-le, take-append-le, take-take, drop-drop, length-take-le}
-use borrow.Author.Tests.{le-leb, leb-true, leb-false, lt-leb, eqb-true}
+use borrow.Author.Tests.{leb-true, leb-false, eqb-true}
 use Rattle.paper.specs.declared.Verdict.{Verdict}
 use Rattle.paper.specs.Lists.{pick}
 use Rattle.paper.specs.declared.Verdict.TheVariants.{CutShort}
@@ -19,8 +19,8 @@ use Rattle.paper_messages.specs.declared.ReaderAnswer.{ReaderAnswer}
 use Rattle.paper_messages.specs.Fields.{begin_message_kind}
 use Rattle.paper_messages.specs.Messages.{read_checks, accepted_heard, refused_heard, heard_at}
 use Rattle.paper_streams.specs.declared.Stream.{Stream}
-use Rattle.paper_streams.specs.Streams.{no_stream, is_begin, is_end, number_in, stream_after, bytes_at, is_whole}
-use Rattle.paper_streams.specs.Alone.{stands_alone, ends_alone, alone_from}
+use Rattle.paper_streams.specs.Streams.{no_stream, is_begin, number_in, stream_after, bytes_at, is_whole}
+use Rattle.paper_streams.specs.Alone.{stands_alone, ends_alone}
 use Rattle.paper_streams.proofs.WholeAlone.{whole_alone}
 use Rattle.text_bytes.specs.Bytes.{room}
 use Rattle.text_evidence.specs.Evidence.{count_most, has_ended, took_all}
@@ -28,7 +28,7 @@ use Rattle.text_evidence.proofs.Shifting.{drop_take_of}
 use Rattle.listen_lines.specs.Lines.{line_of, unended_line}
 use Rattle.listen_serve.specs.declared.Feed.{Feed}
 use Rattle.listen_serve.specs.declared.Listening.{Listening}
-use Rattle.listen_serve.specs.Listen.{listen_from, listen_text}
+use Rattle.listen_serve.specs.Listen.{listen_text}
 use Rattle.listen_serve.specs.Steps.{start_listening, feed_after, unheard, place_of, heard_in, number_on, accepts}
 use Rattle.listen_serve.specs.Steps.{breaks_off, is_cut, Stands, own_bytes_in, Tells, TellsUnended, Delivers}
 use Rattle.listen_serve.specs.Steps.{heard_all, not_taken, uncounted, Sure, NoEnd, tells, unended, delivers, ends}

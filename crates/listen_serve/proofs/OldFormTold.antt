@@ -1,9 +1,9 @@
 -- Of an input of the old form `listen` prints, byte for byte, what it printed before there were whole streams.
-use mathlib.Core.Path.{◌≡◌, refl, ap}
+use mathlib.Core.Path.{◌≡◌, refl}
 use mathlib.Core.Bool.{Bool, true, false, not, ◌&&◌}
-use mathlib.Core.List.{List, [], ◌++◌}
+use mathlib.Core.List.{List}
 use Prim.Native.Nat.{ℕ, zero, suc}
-use lib.Dec.{leb, eqb}
+use lib.Dec.{eqb}
 use lib.ListN.{length}
 use borrow.Author.Tests.{eqb-true, not-true}
 use Rattle.paper.specs.Lists.{pick}
@@ -12,7 +12,7 @@ use Rattle.paper.proofs.Logic.{and_left, and_right}
 use Rattle.paper_messages.specs.declared.ReaderAnswer.{ReaderAnswer}
 use Rattle.paper_messages.specs.Messages.{heard_at}
 use Rattle.paper_streams.specs.Streams.{no_stream, is_begin, is_end, number_in, stream_after, bytes_at}
-use Rattle.listen_lines.specs.Lines.{line_of, unended_line}
+use Rattle.listen_lines.specs.Lines.{unended_line}
 use Rattle.listen_serve.specs.Listen.{listen_from, listen_text}
 use Rattle.listen_serve.specs.OldForm.{old_form_from, is_old_form, plain_from, plain_text}
 

@@ -1,6 +1,6 @@
 -- docs/BROADCAST.md, "What `listen` prints": the lines of a whole input. An input is streams one behind the other; what
 -- no `begin` stands before, as in a stream of the old form, is told as it stands.
-use Rattle.std.specs.Prelude.{List, [], ◌∷◌, ◌++◌, ℕ, zero, suc, leb, eqb, length}
+use Rattle.std.specs.Prelude.{List, [], ◌++◌, ℕ, zero, suc, leb, eqb, length}
 use Rattle.paper.specs.Lists.{pick}
 use Rattle.paper_messages.specs.declared.ReaderAnswer.{ReaderAnswer}
 use Rattle.paper_messages.specs.Messages.{heard_at}
