@@ -78,7 +78,7 @@ fn lasts(why: Why) -> u64 {
 
 // What is asked of a security on a day: an evaluation of the record as it then stands, one of the record as it was
 // admitted, why that one is answered as it is, or a reading.
-#[derive(Drop)]
+#[derive(Clone, Copy)]
 enum DailyAsk {
     Evaluation,
     EvaluationAnew,
@@ -87,7 +87,7 @@ enum DailyAsk {
 }
 
 // The record that the next day finds, and what is added up of a day's answer.
-#[derive(Drop)]
+#[derive(Clone, Copy)]
 struct Asking {
     rec: Record,
     sum: u64,
