@@ -1,0 +1,2 @@
+-- What is proved of the exported calls beside their contracts: the order of their numbers.
+pub mod InOrder
